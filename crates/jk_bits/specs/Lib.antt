@@ -1,0 +1,3 @@
+pub mod Stuffing
+pub mod Reading
+pub mod Writing

@@ -1,0 +1,4 @@
+pub mod Planes
+pub mod MeaningSteps
+pub mod MeaningLaws
+pub mod WrittenLaws

@@ -1,0 +1,9 @@
+//! Encoding and decoding: what a file means.
+#![tactic(auto)]
+
+mod decoding;
+mod encoding;
+mod samples;
+
+pub use decoding::decode;
+pub use encoding::encode;

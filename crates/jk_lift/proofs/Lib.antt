@@ -1,0 +1,10 @@
+pub mod Neighbours
+pub mod Halving
+pub mod Equations
+pub mod Places
+pub mod Analysis
+pub mod Synthesis
+pub mod Sweeping
+pub mod Columns
+pub mod Undoing
+pub mod Growth

@@ -1,0 +1,6 @@
+pub mod Lifting
+pub mod Magnitude
+pub mod Samples
+pub mod Sweep
+pub mod Planes
+pub mod Laws

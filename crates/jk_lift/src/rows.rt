@@ -1,0 +1,206 @@
+//! Rows of columns: every column of a plane at once, a whole row at a time.
+
+ghost use Rattle.std.specs.Prelude.{◌≡◌, ◌≢◌, ℕ, ℤ, ◌+◌, ◌-◌, ◌*◌, ◌/◌, ◌%◌, ◌^◌, ◌<◌, ◌≤◌, ◌+ℤ◌, length, All};
+ghost use Rattle.jk_math.specs.Division.{floor_of};
+ghost use Rattle.jk_lift.specs.Lifting.{high_pass, low_pass, even_sample, odd_sample};
+ghost use Rattle.jk_lift.specs.Magnitude.{IsBelow};
+ghost use Rattle.jk_lift.specs.Samples.{sample_at, AnalysesRows, SynthesisesRows};
+ghost use Rattle.jk_lift.specs.Sweep.{row_before, row_after, first_step, both_steps};
+
+use crate::steps;
+
+/// A lifting step.
+trait Step {
+    /// What becomes of a number between two others.
+    ghost formula: { ℤ → ℤ → ℤ → ℤ };
+
+    fn lifted(number: i32, before: i32, after: i32) -> i32
+        requires number { IsBelow (2 ^ 29) number }
+        requires before { IsBelow (2 ^ 30 - 1) before }
+        requires after { IsBelow (2 ^ 30 - 1) after }
+        ensures value { result ≡ formula number before after };
+}
+
+/// Samples at odd places become high-pass coefficients.
+struct HighPass;
+
+impl Step for HighPass {
+    ghost formula = { high_pass };
+
+    #[inline(always)]
+    fn lifted(number: i32, before: i32, after: i32) -> i32 {
+        steps::high_pass(number, before, after)
+    }
+}
+
+/// Samples at even places become low-pass coefficients.
+struct LowPass;
+
+impl Step for LowPass {
+    ghost formula = { low_pass };
+
+    #[inline(always)]
+    fn lifted(number: i32, before: i32, after: i32) -> i32 {
+        steps::low_pass(number, before, after)
+    }
+}
+
+/// Low-pass coefficients become samples.
+struct EvenSample;
+
+impl Step for EvenSample {
+    ghost formula = { even_sample };
+
+    #[inline(always)]
+    fn lifted(number: i32, before: i32, after: i32) -> i32 {
+        steps::even_sample(number, before, after)
+    }
+}
+
+/// High-pass coefficients become samples.
+struct OddSample;
+
+impl Step for OddSample {
+    ghost formula = { odd_sample };
+
+    #[inline(always)]
+    fn lifted(number: i32, before: i32, after: i32) -> i32 {
+        steps::odd_sample(number, before, after)
+    }
+}
+
+/// The row before a row, or the one after it at the start.
+fn row_before(row: usize) -> usize
+    ensures { result ≡ row_before row }
+{
+    if row == 0 { 1 } else { row - 1 }
+}
+
+/// The row after a row, or the one before it at the end.
+fn row_after(height: usize, row: usize) -> usize
+    requires { (2 ≤ height) × (row < height) }
+    ensures { result ≡ row_after height row }
+{
+    if row + 1 == height { row - 1 } else { row + 1 }
+}
+
+/// The coefficients of every column of a plane, in place. `rows` holds whole rows of `width` samples, one after another,
+/// and the first is at place `start`, so each row becomes low-pass or high-pass by the parity of its own place (VER_SD,
+/// T.800 F.4.3).
+pub fn analyse_rows(start: u32, width: usize, rows: &mut [i32])
+    requires whole { length rows.old % width ≡ 0 }
+    requires small { All (IsBelow (2 ^ 29)) rows.old }
+    ensures { AnalysesRows start width rows.old rows.new }
+{
+    if !rows.is_empty() {
+        let height = rows.len() / width;
+        if height > 1 {
+            lift_rows::<HighPass, LowPass>((start % 2) as usize, height, width, rows);
+        } else if start % 2 == 1 {
+            double(rows);
+        }
+    }
+}
+
+/// The samples of every column of a plane, in place: `rows` holds whole rows of `width` coefficients, low-pass where the
+/// row's place is even and high-pass where it is odd, and the first is at place `start` (VER_SR, T.800 F.3.5).
+pub fn synthesise_rows(start: u32, width: usize, rows: &mut [i32])
+    requires whole { length rows.old % width ≡ 0 }
+    requires small { All (IsBelow (2 ^ 29)) rows.old }
+    ensures { SynthesisesRows start width rows.old rows.new }
+{
+    if !rows.is_empty() {
+        let height = rows.len() / width;
+        if height > 1 {
+            lift_rows::<EvenSample, OddSample>(1 - (start % 2) as usize, height, width, rows);
+        } else if start % 2 == 1 {
+            halve(rows);
+        }
+    }
+}
+
+/// Doubles each number.
+fn double(row: &mut [i32])
+    requires { All (IsBelow (2 ^ 29)) row.old }
+    ensures { (k : ℕ) → sample_at row.new k ≡ sample_at row.old k +ℤ sample_at row.old k }
+{
+    for number in row.iter_mut() {
+        *number = 2 * *number;
+    }
+}
+
+/// Halves each number, rounding down.
+fn halve(row: &mut [i32])
+    requires { All (IsBelow (2 ^ 29)) row.old }
+    ensures { (k : ℕ) → sample_at row.new k ≡ floor_of (sample_at row.old k) 2 }
+{
+    for number in row.iter_mut() {
+        *number >>= 1;
+    }
+}
+
+/// Lifts one row with the two rows next to it. A call of its own for each row keeps the test that the rows are apart,
+/// which vector code needs, out of the loop over rows, where it would fail.
+#[inline(never)]
+fn lift_row<S: Step>(rows: &mut [i32], width: usize, row: usize, before: usize, after: usize)
+    requires inside { row * width + width ≤ length rows.old }
+    requires before_inside { before * width + width ≤ length rows.old }
+    requires after_inside { after * width + width ≤ length rows.old }
+    requires apart { (row ≢ before) × (row ≢ after) }
+    requires numbers { (x : ℕ) → x < width → IsBelow (2 ^ 29) (sample_at rows.old (row * width + x)) }
+    requires befores { (x : ℕ) → x < width → IsBelow (2 ^ 30 - 1) (sample_at rows.old (before * width + x)) }
+    requires afters { (x : ℕ) → x < width → IsBelow (2 ^ 30 - 1) (sample_at rows.old (after * width + x)) }
+    ensures lifted { (x : ℕ) → x < width → sample_at rows.new (row * width + x) ≡ S.formula
+        (sample_at rows.old (row * width + x))
+        (sample_at rows.old (before * width + x))
+        (sample_at rows.old (after * width + x)) }
+    ensures others { (r x : ℕ) → r ≢ row → x < width →
+        sample_at rows.new (r * width + x) ≡ sample_at rows.old (r * width + x) }
+{
+    let (at, left, right) = (row * width, before * width, after * width);
+    for x in 0..width {
+        rows[at + x] = S::lifted(rows[at + x], rows[left + x], rows[right + x]);
+    }
+}
+
+/// Lifts a row of the plane with the rows next to it, and nothing where there is no such row.
+fn lift_inside<S: Step>(rows: &mut [i32], width: usize, height: usize, row: usize)
+    requires tall { 2 ≤ height }
+    requires whole { length rows.old ≡ height * width }
+    requires numbers { (x : ℕ) → x < width → row < height → IsBelow (2 ^ 29) (sample_at rows.old (row * width + x)) }
+    requires befores { (x : ℕ) → x < width → row < height →
+        IsBelow (2 ^ 30 - 1) (sample_at rows.old (row_before row * width + x)) }
+    requires afters { (x : ℕ) → x < width → row < height →
+        IsBelow (2 ^ 30 - 1) (sample_at rows.old (row_after height row * width + x)) }
+    ensures lifted { (x : ℕ) → x < width → row < height → sample_at rows.new (row * width + x)
+        ≡ first_step S.formula height (λ j. sample_at rows.old (j * width + x)) row }
+    ensures others { (r x : ℕ) → r ≢ row → x < width →
+        sample_at rows.new (r * width + x) ≡ sample_at rows.old (r * width + x) }
+{
+    if row < height {
+        lift_row::<S>(rows, width, row, row_before(row), row_after(height, row));
+    }
+}
+
+/// Lifts the rows from `second` on, every second one, by the step `G`, between rows that were lifted by `F` just before.
+fn lift_rows<F: Step, G: Step>(second: usize, height: usize, width: usize, rows: &mut [i32])
+    requires tall { 2 ≤ height }
+    requires wide { 0 < width }
+    requires whole { length rows.old ≡ height * width }
+    requires second { second < 2 }
+    requires small { All (IsBelow (2 ^ 29)) rows.old }
+    requires within { (x a b : ℤ) → IsBelow (2 ^ 29) x → IsBelow (2 ^ 29) a → IsBelow (2 ^ 29) b →
+        IsBelow (2 ^ 30 - 1) (F.formula x a b) }
+    ensures { (x j : ℕ) → x < width → j < height → sample_at rows.new (j * width + x)
+        ≡ both_steps F.formula G.formula second height (λ j. sample_at rows.old (j * width + x)) j }
+{
+    if second == 1 {
+        lift_inside::<F>(rows, width, height, 0);
+    }
+    let mut row = second;
+    while row < height {
+        lift_inside::<F>(rows, width, height, row + 1);
+        lift_inside::<G>(rows, width, height, row);
+        row += 2;
+    }
+}

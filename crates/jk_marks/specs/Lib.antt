@@ -1,0 +1,10 @@
+pub use Rattle.jk_math.specs.Answer
+pub use Rattle.byteorder.specs.Endian
+pub mod Markers
+pub mod Place
+pub mod Siz
+pub mod OrderCode
+pub mod Precincts
+pub mod Segments
+pub mod Codestream
+pub mod Reading

@@ -1,0 +1,20 @@
+-- A place in the bytes of a codestream.
+use Rattle.std.specs.Prelude.{ℕ, ◌+◌, ◌-◌, List, length, drop}
+
+-- the bytes from the place on, how many stand before it, and how many of them belong to the segment that was entered
+pub record Place : Type 0 where
+  pub rest : List ℕ
+  pub at : ℕ
+  pub room : ℕ
+
+-- n bytes further
+abbrev pub past : ℕ → Place → Place
+past n p = record { rest = drop n p.rest; at = p.at + n; room = p.room - n }
+
+-- the place after so many bytes, where no segment was entered
+abbrev pub closed : List ℕ → ℕ → Place
+closed bytes at = record { rest = drop at bytes; at = at; room = length bytes - at }
+
+-- the same place, with the segment left
+abbrev pub outside : Place → Place
+outside p = record { rest = p.rest; at = p.at; room = length p.rest }

@@ -1,0 +1,141 @@
+//! Reading numbers from the bytes of a codestream.
+
+ghost use Rattle.std.specs.Prelude.{◌≡◌, ◌≤◌, ◌==◌, length};
+ghost use Rattle.jk_math.specs.Answer.{Reads};
+ghost use Rattle.jk_marks.specs.Place.{Place, closed, outside};
+ghost use Rattle.jk_marks.specs.Reading.{number, segment_length, constant};
+
+use byteorder::{BigEndian, ByteOrder};
+use jk_math::Fault;
+use std::marker::Model;
+
+/// A place in the bytes of a codestream or tile-part, and how much room is left in the marker segment
+/// that was entered.
+///
+/// Truncated: the bytes end before the field does. BadLength: the segment does.
+#[derive(Debug, Drop)]
+pub struct Cursor<'a> {
+    bytes: &'a [u8],
+    at: usize,
+    room: usize,
+}
+
+impl<'a> Model for Cursor<'a> {
+    ghost use Rattle.std.specs.Prelude.{drop, length, ◌≤◌};
+    ghost use Rattle.jk_marks.specs.Place.{Place};
+
+    ghost Value = { Place };
+
+    ghost view = { λ c. record { rest = drop c.at c.bytes.now; at = c.at; room = c.room } };
+
+    ghost invariant = { λ c. c.at ≤ length c.bytes.now };
+}
+
+impl<'a> Cursor<'a> {
+    /// The place after the first `at` bytes, outside of any segment.
+    pub fn new(bytes: &'a [u8], at: usize) -> Cursor<'a>
+        requires { at ≤ length bytes.now }
+        ensures { result ≡ closed bytes.now at }
+    {
+        Cursor {
+            bytes,
+            at,
+            room: bytes.len() - at,
+        }
+    }
+
+    /// How many bytes stand before this place.
+    pub fn at(&self) -> usize
+        ensures { result ≡ self.now.at }
+    {
+        self.at
+    }
+
+    /// Whether no byte is left.
+    pub fn is_at_end(&self) -> bool
+        ensures { result ≡ (length self.now.rest == 0) }
+    {
+        self.bytes[self.at..].is_empty()
+    }
+
+    /// A number of one byte.
+    #[tactic(auto, unfolding(crate::specs::Reading::number))]
+    pub fn byte(&mut self) -> Result<u8, Fault>
+        ensures { Reads (number 1) self.old self.new result }
+    {
+        if self.bytes.len() - self.at < 1 {
+            return Err(Fault::Truncated);
+        }
+        if self.room < 1 {
+            return Err(Fault::BadLength);
+        }
+        let value = self.bytes[self.at];
+        self.at += 1;
+        self.room -= 1;
+        Ok(value)
+    }
+
+    /// A number of two bytes.
+    #[tactic(auto, unfolding(crate::specs::Reading::number))]
+    pub fn two_bytes(&mut self) -> Result<u16, Fault>
+        ensures { Reads (number 2) self.old self.new result }
+    {
+        if self.bytes.len() - self.at < 2 {
+            return Err(Fault::Truncated);
+        }
+        if self.room < 2 {
+            return Err(Fault::BadLength);
+        }
+        let value = BigEndian::read_u16(&self.bytes[self.at..]);
+        self.at += 2;
+        self.room -= 2;
+        Ok(value)
+    }
+
+    /// A number of four bytes.
+    #[tactic(auto, unfolding(crate::specs::Reading::number))]
+    pub fn four_bytes(&mut self) -> Result<u32, Fault>
+        ensures { Reads (number 4) self.old self.new result }
+    {
+        if self.bytes.len() - self.at < 4 {
+            return Err(Fault::Truncated);
+        }
+        if self.room < 4 {
+            return Err(Fault::BadLength);
+        }
+        let value = BigEndian::read_u32(&self.bytes[self.at..]);
+        self.at += 4;
+        self.room -= 4;
+        Ok(value)
+    }
+
+    /// The length of a marker segment, which is entered with it.
+    #[tactic(auto, unfolding(crate::specs::Reading::segment_length))]
+    pub fn enter(&mut self) -> Result<u16, Fault>
+        ensures { Reads segment_length self.old self.new result }
+    {
+        let length = self.two_bytes()?;
+        self.room = (length as usize).saturating_sub(2);
+        Ok(length)
+    }
+
+    /// Leaves the marker segment.
+    pub fn leave(&mut self)
+        ensures { self.new ≡ outside self.old }
+    {
+        self.room = self.bytes.len() - self.at;
+    }
+
+    /// Passes these very bytes, and answers NotYet where others stand.
+    #[tactic(auto, unfolding(crate::specs::Reading::constant))]
+    pub fn expect(&mut self, text: &[u8]) -> Result<(), Fault>
+        ensures { Reads (constant text.now) self.old self.new result }
+    {
+        if !self.bytes[self.at..].starts_with(text) {
+            return Err(Fault::NotYet);
+        }
+        self.at += text.len();
+        self.room = self.room.saturating_sub(text.len());
+        Ok(())
+    }
+}

@@ -1,0 +1,201 @@
+//! The coding style and quantization segments.
+
+ghost use Rattle.std.specs.Prelude.{◌≡◌, ◌≤◌, ◌<◌, ◌++◌, [], length, ◌*◌, ◌↔◌, map, All, IsTrue, OnOk, IfErr};
+ghost use Rattle.jk_marks.specs.Precincts.{precinct_byte};
+ghost use Rattle.jk_marks.specs.OrderCode.{order_code};
+
+use jk_math::Fault;
+use std::marker::Model;
+
+/// The order of packets (T.800 A.6.1, table A.16).
+#[derive(Clone, Copy, Debug, PartialEq, Eq)]
+pub enum Order {
+    /// Layer, resolution, component, position.
+    Lrcp,
+    /// Resolution, layer, component, position.
+    Rlcp,
+    /// Resolution, position, component, layer.
+    Rpcl,
+    /// Position, component, resolution, layer.
+    Pcrl,
+    /// Component, position, resolution, layer.
+    Cprl,
+}
+
+impl Order {
+    /// The number of the order in COD.
+    pub(crate) fn code(self) -> u8
+        ensures { result ≡ order_code self }
+    {
+        match self {
+            Order::Lrcp => 0,
+            Order::Rlcp => 1,
+            Order::Rpcl => 2,
+            Order::Pcrl => 3,
+            Order::Cprl => 4,
+        }
+    }
+}
+
+/// The precinct sizes of a coding style, as pairs of exponents PPx and PPy from the lowest resolution
+/// on; none where they aren't given.
+#[derive(Debug, Drop)]
+pub struct Precincts {
+    count: usize,
+    exponents: [(u8, u8); 11],
+}
+
+impl Model for Precincts {
+    ghost use Rattle.std.specs.Prelude.{List, ℕ, take, ◌≤◌};
+
+    ghost Value = { List (ℕ × ℕ) };
+
+    ghost view = { λ p. take p.count p.exponents };
+
+    ghost invariant = { λ p. p.count ≤ 11 };
+}
+
+impl Precincts {
+    /// No precinct sizes: each precinct is as large as can be.
+    pub fn none() -> Precincts
+        ensures { result ≡ [] }
+    {
+        Precincts {
+            count: 0,
+            exponents: [(0, 0); 11],
+        }
+    }
+
+    /// The pairs.
+    pub fn as_slice(&self) -> &[(u8, u8)]
+        ensures { result.now ≡ self.now }
+    {
+        &self.exponents[..self.count]
+    }
+
+    /// Appends a byte for each pair: PPx in the low half, PPy in the high half.
+    pub(crate) fn put(&self, out: &mut Vec<u8>) -> Result<(), Fault>
+        requires { All (λ p. (p.0 < 16) × (p.1 < 16)) self.now }
+        ensures ok { OnOk result (out.new.items ≡ out.old.items ++ map precinct_byte self.now) }
+        ensures err { IfErr result (λ e. e ≡ Fault.Memory) }
+    {
+        put_precincts(out, self.as_slice())
+    }
+}
+
+/// Appends a byte for each pair of exponents.
+fn put_precincts(out: &mut Vec<u8>, precincts: &[(u8, u8)]) -> Result<(), Fault>
+    requires { All (λ p. (p.0 < 16) × (p.1 < 16)) precincts.now }
+    ensures ok { OnOk result (out.new.items ≡ out.old.items ++ map precinct_byte precincts.now) }
+    ensures err { IfErr result (λ e. e ≡ Fault.Memory) }
+{
+    for (width, height) in precincts {
+        out.push(width + 16 * height)?;
+    }
+    Ok(())
+}
+
+/// The exponents of a quantization segment, in the order of the sub-bands: LL, then HL, LH and HH of
+/// each level from the lowest resolution on.
+#[derive(Debug, Drop)]
+pub struct Exponents {
+    count: usize,
+    exponents: [u8; 31],
+}
+
+impl Model for Exponents {
+    ghost use Rattle.std.specs.Prelude.{List, ℕ, take, ◌≤◌};
+
+    ghost Value = { List ℕ };
+
+    ghost view = { λ e. take e.count e.exponents };
+
+    ghost invariant = { λ e. e.count ≤ 31 };
+}
+
+impl Exponents {
+    /// These exponents.
+    pub fn new(exponents: &[u8]) -> Exponents
+        requires { length exponents.now ≤ 31 }
+        ensures { result ≡ exponents.now }
+    {
+        let mut all = [0; 31];
+        all[..exponents.len()].copy_from_slice(exponents);
+        Exponents {
+            count: exponents.len(),
+            exponents: all,
+        }
+    }
+
+    /// How many exponents there are.
+    pub fn len(&self) -> usize
+        ensures { result ≡ length self.now }
+    {
+        self.count
+    }
+
+    /// Whether there is no exponent.
+    pub fn is_empty(&self) -> bool
+        ensures { IsTrue result ↔ (self.now ≡ []) }
+    {
+        self.count == 0
+    }
+
+    /// Appends a byte for each exponent, which stands in its high five bits.
+    pub(crate) fn put(&self, out: &mut Vec<u8>) -> Result<(), Fault>
+        requires { All (λ e. e < 32) self.now }
+        ensures ok { OnOk result (out.new.items ≡ out.old.items ++ map (λ e. 8 * e) self.now) }
+        ensures err { IfErr result (λ e. e ≡ Fault.Memory) }
+    {
+        put_exponents(out, &self.exponents[..self.count])
+    }
+}
+
+/// Appends a byte for each exponent.
+fn put_exponents(out: &mut Vec<u8>, exponents: &[u8]) -> Result<(), Fault>
+    requires { All (λ e. e < 32) exponents.now }
+    ensures ok { OnOk result (out.new.items ≡ out.old.items ++ map (λ e. 8 * e) exponents.now) }
+    ensures err { IfErr result (λ e. e ≡ Fault.Memory) }
+{
+    for exponent in exponents {
+        out.push(8 * exponent)?;
+    }
+    Ok(())
+}
+
+/// The coding style of a tile-component (T.800 A.6.1, table A.15): the reversible 5-3 filter.
+#[derive(Debug, Drop)]
+pub struct CodingStyle {
+    /// How many decomposition levels there are.
+    pub levels: u8,
+    /// The exponent of a code-block's width.
+    pub xcb: u8,
+    /// The exponent of a code-block's height.
+    pub ycb: u8,
+    /// The code-block style (table A.19).
+    pub style: u8,
+    /// The precinct sizes, where they are given.
+    pub precincts: Precincts,
+}
+
+/// The coding style default segment (T.800 A.6.1).
+#[derive(Debug, Drop)]
+pub struct Cod {
+    /// Whether SOP may stand before packets.
+    pub sop: bool,
+    /// Whether EPH stands after packet headers.
+    pub eph: bool,
+    pub order: Order,
+    pub layers: u16,
+    /// Whether components 0 to 2 have gone through the colour transform.
+    pub colour: bool,
+    pub style: CodingStyle,
+}
+
+/// A quantization segment of the reversible path (T.800 A.6.4): no quantization.
+#[derive(Debug, Drop)]
+pub struct Quantisation {
+    /// How many guard bits there are.
+    pub guard: u8,
+    pub exponents: Exponents,
+}

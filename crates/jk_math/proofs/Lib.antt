@@ -1,0 +1,2 @@
+pub mod DivisionLemmas
+pub mod PictureLemmas

@@ -1,0 +1,4 @@
+pub mod Answer
+pub mod Division
+pub mod Picture
+pub mod Steps

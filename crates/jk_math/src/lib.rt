@@ -1,0 +1,14 @@
+//! Rectangles, division, images and faults: what every crate of jk speaks of.
+#![tactic(auto)]
+
+mod division;
+mod fault;
+mod image;
+mod planes;
+mod rect;
+
+pub use division::{ceil_div, floor_div, reflect};
+pub use fault::Fault;
+pub use image::{Image, sample_range};
+pub use planes::Planes;
+pub use rect::Rect;

@@ -1,0 +1,4 @@
+pub mod CodeValue
+pub mod Moves
+pub mod Rows
+pub mod Spelling

@@ -1,0 +1,4 @@
+pub mod Deciding
+pub mod Doubling
+pub mod Feeding
+pub mod Reaching

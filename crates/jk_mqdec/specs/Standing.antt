@@ -1,0 +1,33 @@
+-- What contracts see of a decoder, and where it stands in the definition.
+use Rattle.std.specs.Prelude.{◌≡◌, ℕ, ◌*◌, ◌^◌, ◌<◌, List}
+use Rattle.jk_model.specs.Contexts.{Context}
+use Rattle.jk_model.specs.Decisions.{State, Decision, initial, state_after, Spells}
+use Rattle.jk_mqdec.specs.declared.registers.Registers.{Registers}
+use Rattle.jk_mqdec.specs.Registers.{Holds, IsOutside, HasLeft, IsReady}
+
+-- a decoder: the segment, the registers, and the contexts
+pub record View : Type 0 where
+  pub bytes : List ℕ
+  pub registers : Registers
+  pub contexts : List Context
+
+-- the registers are within their bounds, unless the code value has left the interval
+abbrev pub IsSound : View → Type 0
+IsSound d = d.registers.code < d.registers.width * 2 ^ 16 → IsReady d.bytes d.registers
+
+-- the code value has left the interval
+abbrev pub HasFailed : View → Type 0
+HasFailed d = HasLeft d.registers
+
+-- The decoder stands at s: it holds the interval and the contexts of s, or the code value has left the interval of s.
+pub record Stands (d : View) (s : State) : Type 0 where
+  pub holds : d.registers.code < d.registers.width * 2 ^ 16 → Holds d.bytes d.registers s
+  pub contexts : d.registers.code < d.registers.width * 2 ^ 16 → d.contexts ≡ s.contexts
+  pub outside : HasLeft d.registers → IsOutside d.bytes s
+
+-- The decoder was made on these bytes and has given these decisions so far: the bytes spell them, and the decoder
+-- stands where they lead.
+pub record Reached (d : View) (bytes : List ℕ) (done : List Decision) : Type 0 where
+  pub bytes_are : d.bytes ≡ bytes
+  pub spelled : Spells bytes done
+  pub stands : Stands d (state_after bytes initial done)

@@ -1,0 +1,142 @@
+//! The registers of the decoder (T.800 C.3).
+
+ghost use Rattle.std.specs.Prelude.{◌≡◌, ℕ, suc, ◌+◌, ◌*◌, ◌^◌, ◌<◌, ◌≤◌, length, IfSome, MatchOption};
+ghost use Rattle.jk_model.specs.Code.{byte_at};
+ghost use Rattle.jk_model.specs.Decisions.{State, initial, doubled, renormalised};
+ghost use Rattle.jk_mqdec.specs.Registers.{IsAt, Feeds, Holds, Supplied, IsOutside, CanDouble, IsReady};
+
+/// The registers C, A and CT of T.800 C.3.1, and the place of the byte that was fed last, BP.
+#[derive(Clone, Copy)]
+pub struct Registers {
+    /// C: the code value as far as it was fed, less the low end of the interval.
+    pub code: u32,
+    /// A: the width of the interval.
+    pub width: u32,
+    /// CT: how many doublings need no further byte.
+    pub count: u32,
+    /// BP: the place of the byte that was fed last.
+    pub place: usize,
+}
+
+/// A byte of the segment. Past its end stand bytes FF.
+fn byte(bytes: &[u8], place: usize) -> u32
+    ensures value { result ≡ byte_at bytes.now place }
+    ensures byte { result < 256 }
+{
+    match bytes.get(place) {
+        Some(byte) => *byte as u32,
+        None => 0xFF,
+    }
+}
+
+/// Feeds the next byte (BYTEIN, T.800 C.3.4).
+fn fed(bytes: &[u8], old: Registers) -> Registers
+    requires place { old.place ≤ length bytes.now }
+    requires room { old.code < 2 ^ 31 }
+    ensures feeds { (last : ℕ) → IsAt bytes.now old.place last → Feeds bytes.now old result last }
+    ensures bound { result.code < old.code + 2 ^ 17 }
+    ensures width { result.width ≡ old.width }
+    ensures least_count { 7 ≤ result.count }
+    ensures largest_count { result.count ≤ 8 }
+    ensures place { result.place ≤ length bytes.now }
+{
+    let next = byte(bytes, old.place + 1);
+    if byte(bytes, old.place) != 0xFF {
+        Registers {
+            code: old.code + (next << 8),
+            count: 8,
+            place: old.place + 1,
+            ..old
+        }
+    } else if next <= 0x8F {
+        Registers {
+            code: old.code + (next << 9),
+            count: 7,
+            place: old.place + 1,
+            ..old
+        }
+    } else {
+        Registers {
+            code: old.code + 0xFF00,
+            count: 8,
+            ..old
+        }
+    }
+}
+
+/// Feeds a byte where one is due before the next doubling. `None` where the code value has left the interval.
+fn supplied(bytes: &[u8], old: Registers) -> Option<Registers>
+    requires can { CanDouble bytes.now old }
+    requires small { old.width < 2 ^ 15 }
+    ensures code { IfSome result (λ r. r.code < r.width * 2 ^ 16) }
+    ensures width { IfSome result (λ r. r.width ≡ old.width) }
+    ensures least_count { IfSome result (λ r. 1 ≤ r.count) }
+    ensures largest_count { IfSome result (λ r. r.count ≤ 8) }
+    ensures place { IfSome result (λ r. r.place ≤ length bytes.now) }
+    ensures holds { (s : State) → Holds bytes.now old s
+        → MatchOption result (IsOutside bytes.now (doubled s)) (λ r. Supplied bytes.now r s) }
+{
+    if old.count > 0 {
+        return Some(old);
+    }
+    let new = fed(bytes, old);
+    if new.code >> 16 < new.width {
+        Some(new)
+    } else {
+        None
+    }
+}
+
+/// The registers after one doubling.
+fn twice(old: Registers) -> Registers
+    requires code { old.code < 2 ^ 31 }
+    requires width { old.width < 2 ^ 31 }
+    requires count { 1 ≤ old.count }
+    ensures code { result.code ≡ 2 * old.code }
+    ensures width { result.width ≡ 2 * old.width }
+    ensures count { result.count + 1 ≡ old.count }
+    ensures place { result.place ≡ old.place }
+{
+    Registers {
+        code: old.code << 1,
+        width: old.width << 1,
+        count: old.count - 1,
+        ..old
+    }
+}
+
+/// Doubles until the width is at least 2^15 (RENORMD, T.800 C.3.3). `None` where the code value has left the interval.
+pub fn renormalised(bytes: &[u8], old: Registers) -> Option<Registers>
+    requires { CanDouble bytes.now old }
+    ensures ready { IfSome result (IsReady bytes.now) }
+    ensures holds { (s : State) → Holds bytes.now old s
+        → MatchOption result (IsOutside bytes.now (renormalised 15 s)) (λ r. Holds bytes.now r (renormalised 15 s)) }
+{
+    let mut now = old;
+    while now.width < 0x8000 {
+        let ready = supplied(bytes, now)?;
+        now = twice(ready);
+    }
+    Some(now)
+}
+
+/// The registers at the start of a segment (INITDEC, T.800 C.3.5).
+pub fn loaded(bytes: &[u8]) -> Registers
+    ensures width { result.width ≡ 2 ^ 15 }
+    ensures count { result.count < 8 }
+    ensures place { result.place ≤ length bytes.now }
+    ensures holds { Holds bytes.now result initial }
+{
+    let first = Registers {
+        code: byte(bytes, 0) << 16,
+        width: 0x8000,
+        count: 0,
+        place: 0,
+    };
+    let second = fed(bytes, first);
+    Registers {
+        code: second.code << 7,
+        count: second.count - 7,
+        ..second
+    }
+}

@@ -1,0 +1,80 @@
+-- The images and parameters that are written.
+use Rattle.std.specs.Prelude.{ℕ, ◌+◌, ◌*◌, ◌^◌, Bool, true, not, ◌&&◌, ◌||◌, ◌==◌, nat_lt, nat_le, List, length, drop, Option, Some, None, option_map}
+use Rattle.std.specs.List.{list_all}
+use Rattle.jk_math.specs.Picture.{Picture}
+use Rattle.jk_marks.specs.declared.siz.Siz.{Siz}
+use Rattle.jk_marks.specs.declared.segments.Cod.{Cod}
+use Rattle.jk_params.specs.declared.parameters.Parameters.{Parameters}
+use Rattle.jk_params.specs.declared.parameters.Container.{Container}
+use Rattle.jk_params.specs.declared.parameters.Container.TheVariants.{Raw, Jp2}
+use Rattle.jk_params.specs.Tiling.{first_tile, tile_side, tiles_between}
+
+-- the width and the height of a tile, where they are given
+abbrev pub tile_width : Parameters → Option ℕ
+tile_width q = option_map (λ t. t.0) q.tile
+
+abbrev pub tile_height : Parameters → Option ℕ
+tile_height q = option_map (λ t. t.1) q.tile
+
+-- the image and tile size segment that is written (T.800 A.5.1)
+abbrev pub siz_of : Picture → Parameters → Siz
+siz_of p q = record {
+  rsiz = 0;
+  x1 = p.x0 + p.width;
+  y1 = p.y0 + p.height;
+  x0 = p.x0;
+  y0 = p.y0;
+  tile_width = tile_side (tile_width q) (p.x0 + p.width);
+  tile_height = tile_side (tile_height q) (p.y0 + p.height);
+  tile_x0 = first_tile (tile_width q) p.x0;
+  tile_y0 = first_tile (tile_height q) p.y0;
+  components = length p.planes;
+  depth = p.depth;
+  signed = p.signed;
+}
+
+-- the coding style segment that is written (A.6.1)
+abbrev pub cod_of : Parameters → Cod
+cod_of q = record {
+  sop = q.sop;
+  eph = q.eph;
+  order = q.order;
+  layers = q.layers;
+  colour = q.colour;
+  style = record { levels = q.levels; xcb = q.xcb; ycb = q.ycb; style = 0; precincts = q.precincts.items };
+}
+
+-- 1 to 32 layers, up to 5 levels, code-blocks of at most 4096 coefficients
+abbrev pub are_sizes : Parameters → Bool
+are_sizes q =
+    nat_le q.levels 5 && nat_le 1 q.layers && nat_le q.layers 32
+    && nat_le 2 q.xcb && nat_le q.xcb 10 && nat_le 2 q.ycb && nat_le q.ycb 10 && nat_le (q.xcb + q.ycb) 12
+
+-- no precinct sizes, or one for each resolution, with 0 only at the lowest
+abbrev pub are_precincts : ℕ → List (ℕ × ℕ) → Bool
+are_precincts levels sizes =
+    (length sizes == 0)
+    || ((length sizes == levels + 1) && list_all (λ s. nat_le s.0 15 && nat_le s.1 15) sizes && list_all (λ s. nat_lt 0 s.0 && nat_lt 0 s.1) (drop 1 sizes))
+
+-- sides from 1 to 2^31 - 1
+abbrev pub is_tile : Option (ℕ × ℕ) → Bool
+is_tile None = true
+is_tile (Some t) = nat_le 1 t.0 && nat_lt t.0 (2 ^ 31) && nat_le 1 t.1 && nat_lt t.1 (2 ^ 31)
+
+-- JP2 holds one or three unsigned components
+abbrev pub is_contained : Container → ℕ → Bool → Bool
+is_contained Raw components signed = true
+is_contained Jp2 components signed = not signed && ((components == 1) || (components == 3))
+
+-- how many tiles that makes
+abbrev pub tiles_of : Option (ℕ × ℕ) → Picture → ℕ
+tiles_of t p =
+    tiles_between (option_map (λ s. s.0) t) p.x0 (p.x0 + p.width) * tiles_between (option_map (λ s. s.1) t) p.y0 (p.y0 + p.height)
+
+-- whether the image is written with the parameters, the count of packets left out
+unfoldable pub is_profile : Parameters → Picture → Bool
+is_profile q p =
+    are_sizes q && are_precincts q.levels q.precincts.items && is_tile q.tile
+    && (not q.colour || nat_le 3 (length p.planes))
+    && is_contained q.container (length p.planes) p.signed
+    && nat_le (tiles_of q.tile p) 65535

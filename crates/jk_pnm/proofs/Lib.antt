@@ -1,0 +1,4 @@
+pub mod NumberLaws
+pub mod PageLaws
+pub mod PgmLaws
+pub mod WrittenLaws

@@ -1,0 +1,146 @@
+-- The transform of one pixel.
+use borrow.Author.Count.{below_more}
+use Rattle.std.proofs.lemmas.List.{get_or-set_same, get_or-set_other}
+use Rattle.std.proofs.Common.{◌≡◌, ◌≢◌, ℕ, ℤ, List, ◌+◌, ◌^◌, ◌<◌, ◌≤◌, pos, negsuc, ◌+ℤ◌, ◌-ℤ◌, ◌*ℤ◌, ◌≤ℤ◌, length, set, refl, ◌∙◌, arith, w32, to_z, of_z}
+use Rattle.std.proofs.lemmas.Int.{ints, to_z-of_z}
+use mir.Val.{SFits}
+use Rattle.std.specs.List.{All}
+use Rattle.jk_math.specs.Division.{floor_of}
+use Rattle.jk_rct.specs.Colour.{y0_of, y1_of, y2_of, i1_of, sample_at, IsBelow, UndoesColour, UndoesInverse, KeepsRange}
+
+-- four times the quarter
+abbrev pub fourfold : ℤ → ℤ
+fourfold z = z +ℤ z +ℤ (z +ℤ z)
+
+pub quarter_high : (z : ℤ) → fourfold (floor_of z 4) ≤ℤ z
+quarter_high (pos n) = omega (arith, ints)
+quarter_high (negsuc n) = omega (arith, ints)
+
+pub quarter_low : (z : ℤ) → z ≤ℤ (fourfold (floor_of z 4) +ℤ pos 3)
+quarter_low (pos n) = omega (arith, ints)
+quarter_low (negsuc n) = omega (arith, ints)
+
+-- a quarter less four times g is g less, and so for the quarter of a sum
+quarter_less : (s t g : ℤ) → s ≡ t +ℤ fourfold g → floor_of s 4 ≡ floor_of t 4 +ℤ g
+quarter_less s t g e =
+    let sh = quarter_high s in
+    let sl = quarter_low s in
+    let th = quarter_high t in
+    let tl = quarter_low t in
+    omega (arith, ints)
+
+pub undoes_colour : UndoesColour
+undoes_colour i0 i1 i2 =
+    let q = quarter_less (i0 +ℤ (i1 +ℤ i1) +ℤ i2) ((i2 -ℤ i1) +ℤ (i0 -ℤ i1)) i1 (omega (arith, ints)) in
+    let green : i1_of (y0_of i0 i1 i2) (y1_of i0 i1 i2) (y2_of i0 i1 i2) ≡ i1 = rw q (omega (arith, ints)) in
+    (rw green (omega (arith, ints)), green, rw green (omega (arith, ints)))
+
+pub undoes_inverse : UndoesInverse
+undoes_inverse y0 y1 y2 =
+    let g : ℤ = i1_of y0 y1 y2 in
+    let q = quarter_less ((y2 +ℤ g) +ℤ (g +ℤ g) +ℤ (y1 +ℤ g)) (y1 +ℤ y2) g (omega (arith, ints)) in
+    (rw q (omega (arith, ints)), omega (arith, ints), omega (arith, ints))
+
+pub keeps_range : KeepsRange
+keeps_range low high i0 i1 i2 l0 h0 l1 h1 l2 h2 =
+    let h = quarter_high (i0 +ℤ (i1 +ℤ i1) +ℤ i2) in
+    let l = quarter_low (i0 +ℤ (i1 +ℤ i1) +ℤ i2) in
+    (omega (arith, ints), omega (arith, ints), omega (arith, ints), omega (arith, ints))
+
+-- The first k pixels of three components are transformed, and the others as given.
+pub record IsMapped (f0 f1 f2 : ℤ → ℤ → ℤ → ℤ) (k : ℕ) (a b c a' b' c' : List ℤ) : Type 0 where
+  pub done0 : (j : ℕ) → j < k → sample_at a' j ≡ f0 (sample_at a j) (sample_at b j) (sample_at c j)
+  pub done1 : (j : ℕ) → j < k → sample_at b' j ≡ f1 (sample_at a j) (sample_at b j) (sample_at c j)
+  pub done2 : (j : ℕ) → j < k → sample_at c' j ≡ f2 (sample_at a j) (sample_at b j) (sample_at c j)
+  pub rest0 : (j : ℕ) → k ≤ j → sample_at a' j ≡ sample_at a j
+  pub rest1 : (j : ℕ) → k ≤ j → sample_at b' j ≡ sample_at b j
+  pub rest2 : (j : ℕ) → k ≤ j → sample_at c' j ≡ sample_at c j
+
+one_more : (value : ℕ → ℤ) (xs : List ℤ) (k : ℕ) (v : ℤ) → k < length xs → ((j : ℕ) → j < k → sample_at xs j ≡ value j) → v ≡ value k →
+    (j : ℕ) → j < k + 1 → sample_at (set xs k v) j ≡ value j
+one_more value xs k v room below here =
+    let P : ℕ → Type 0 = λ j. sample_at (set xs k v) j ≡ value j in
+    below_more P k (λ j l. let ne : j ≢ k = omega arith in rw get_or-set_other (below j l)) (rw get_or-set_same here)
+
+pub IsMapped-more : (f0 f1 f2 : ℤ → ℤ → ℤ → ℤ) (k : ℕ) (a b c a' b' c' : List ℤ) (v0 v1 v2 : ℤ) → IsMapped f0 f1 f2 k a b c a' b' c' →
+    k < length a' → k < length b' → k < length c' →
+    v0 ≡ f0 (sample_at a' k) (sample_at b' k) (sample_at c' k) → v1 ≡ f1 (sample_at a' k) (sample_at b' k) (sample_at c' k) → v2 ≡ f2 (sample_at a' k) (sample_at b' k) (sample_at c' k) →
+    IsMapped f0 f1 f2 (k + 1) a b c (set a' k v0) (set b' k v1) (set c' k v2)
+IsMapped-more f0 f1 f2 k a b c a' b' c' v0 v1 v2 so_far ra rb rc e0 e1 e2 =
+    let at : (ℤ → ℤ → ℤ → ℤ) → ℕ → ℤ = λ f j. f (sample_at a j) (sample_at b j) (sample_at c j) in
+    let given : (f : ℤ → ℤ → ℤ → ℤ) → f (sample_at a' k) (sample_at b' k) (sample_at c' k) ≡ at f k =
+    λ f. rw (so_far.rest0 k (omega arith), so_far.rest1 k (omega arith), so_far.rest2 k (omega arith)) refl in
+    record {
+      done0 = one_more (at f0) a' k v0 ra so_far.done0 (e0 ∙ given f0);
+      done1 = one_more (at f1) b' k v1 rb so_far.done1 (e1 ∙ given f1);
+      done2 = one_more (at f2) c' k v2 rc so_far.done2 (e2 ∙ given f2);
+      rest0 = λ j l. let ne : j ≢ k = omega arith in rw get_or-set_other (so_far.rest0 j (omega arith));
+      rest1 = λ j l. let ne : j ≢ k = omega arith in rw get_or-set_other (so_far.rest1 j (omega arith));
+      rest2 = λ j l. let ne : j ≢ k = omega arith in rw get_or-set_other (so_far.rest2 j (omega arith));
+    }
+
+-- a number, as the code passes it on
+abbrev pub passed : ℤ → ℤ
+passed z = to_z w32 (of_z w32 z)
+
+-- what the code's sums give, where a quarter of one has been taken
+pub y0_is : (i0 i1 i2 q : ℤ) → IsBelow (2 ^ 29) i0 → IsBelow (2 ^ 29) i1 → IsBelow (2 ^ 29) i2 →
+    q ≡ floor_of (passed (passed (passed i0 +ℤ passed (pos 2 *ℤ passed i1)) +ℤ passed i2)) 4 → passed q ≡ y0_of i0 i1 i2
+y0_is i0 i1 i2 q l0 l1 l2 e =
+    let e0 = to_z-of_z w32 i0 (omega (arith, ints)) in
+    let e1 = to_z-of_z w32 i1 (omega (arith, ints)) in
+    let e2 = to_z-of_z w32 i2 (omega (arith, ints)) in
+    let twice : pos 2 *ℤ i1 ≡ i1 +ℤ i1 = omega (arith, ints) in
+    let sum : ℤ = i0 +ℤ (i1 +ℤ i1) +ℤ i2 in
+    let e3 = to_z-of_z w32 (i1 +ℤ i1) (omega (arith, ints)) in
+    let e4 = to_z-of_z w32 (i0 +ℤ (i1 +ℤ i1)) (omega (arith, ints)) in
+    let e5 = to_z-of_z w32 sum (omega (arith, ints)) in
+    let h = quarter_high sum in
+    let l = quarter_low sum in
+    let whole : q ≡ floor_of sum 4 = e ∙ rw (e0, e1, e2, twice, e3, e4, e5) refl in
+    rw whole (to_z-of_z w32 _ (omega (arith, ints, h, l)))
+
+pub i1_is : (y0 y1 y2 q : ℤ) → IsBelow (2 ^ 29) y0 → IsBelow (2 ^ 29) y1 → IsBelow (2 ^ 29) y2 →
+    q ≡ floor_of (passed (passed y1 +ℤ passed y2)) 4 → (passed (passed y0 -ℤ passed q) ≡ i1_of y0 y1 y2) × IsBelow (2 ^ 30) (i1_of y0 y1 y2)
+i1_is y0 y1 y2 q l0 l1 l2 e =
+    let e0 = to_z-of_z w32 y0 (omega (arith, ints)) in
+    let e1 = to_z-of_z w32 y1 (omega (arith, ints)) in
+    let e2 = to_z-of_z w32 y2 (omega (arith, ints)) in
+    let sum : ℤ = y1 +ℤ y2 in
+    let e3 = to_z-of_z w32 sum (omega (arith, ints)) in
+    let h = quarter_high sum in
+    let l = quarter_low sum in
+    let whole : q ≡ floor_of sum 4 = e ∙ rw (e1, e2, e3) refl in
+    let e4 = to_z-of_z w32 (floor_of sum 4) (omega (arith, ints, h, l)) in
+    (rw (whole, e0, e4) (to_z-of_z w32 (y0 -ℤ floor_of sum 4) (omega (arith, ints, h, l))), (omega (arith, ints, h, l), omega (arith, ints, h, l)))
+
+-- the sum of a coefficient and I1
+pub with_i1 : (y g i : ℤ) → IsBelow (2 ^ 29) y → g ≡ i → IsBelow (2 ^ 30) i → passed (passed y +ℤ g) ≡ y +ℤ i
+with_i1 y g i l e small =
+    let e0 = to_z-of_z w32 y (omega (arith, ints)) in
+    rw (e, e0) (to_z-of_z w32 (y +ℤ i) (omega (arith, ints)))
+
+pub with_i1_fits : (y g i : ℤ) → IsBelow (2 ^ 29) y → g ≡ i → IsBelow (2 ^ 30) i → SFits w32 (passed y +ℤ g)
+with_i1_fits y g i l e small =
+    let e0 = to_z-of_z w32 y (omega (arith, ints)) in
+    rw (e, e0) (omega (arith, ints))
+
+read_is : (xs xs' : List ℤ) (k : ℕ) → All (IsBelow (2 ^ 29)) xs → k < length xs → sample_at xs' k ≡ sample_at xs k → passed (sample_at xs' k) ≡ sample_at xs' k
+read_is xs xs' k small l e =
+    let below : IsBelow (2 ^ 29) (sample_at xs k) = small k (pos 0) l in
+    rw e (to_z-of_z w32 _ (omega (arith, ints)))
+
+-- what the code writes for pixel k
+pub IsMapped-written : (f0 f1 f2 : ℤ → ℤ → ℤ → ℤ) (k : ℕ) (a b c a' b' c' : List ℤ) (v0 v1 v2 : ℤ) → IsMapped f0 f1 f2 k a b c a' b' c' →
+    All (IsBelow (2 ^ 29)) a → All (IsBelow (2 ^ 29)) b → All (IsBelow (2 ^ 29)) c → k < length a → k < length b → k < length c →
+    k < length a' → k < length b' → k < length c' → SFits w32 v0 → SFits w32 v1 → SFits w32 v2 →
+    v0 ≡ f0 (passed (sample_at a' k)) (passed (sample_at b' k)) (passed (sample_at c' k)) →
+    v1 ≡ f1 (passed (sample_at a' k)) (passed (sample_at b' k)) (passed (sample_at c' k)) →
+    v2 ≡ f2 (passed (sample_at a' k)) (passed (sample_at b' k)) (passed (sample_at c' k)) →
+    IsMapped f0 f1 f2 (k + 1) a b c (set a' k (passed v0)) (set b' k (passed v1)) (set c' k (passed v2))
+IsMapped-written f0 f1 f2 k a b c a' b' c' v0 v1 v2 so_far sa sb sc la lb lc ra rb rc t0 t1 t2 e0 e1 e2 =
+    let ea = read_is a a' k sa la (so_far.rest0 k (omega arith)) in
+    let eb = read_is b b' k sb lb (so_far.rest1 k (omega arith)) in
+    let ec = read_is c c' k sc lc (so_far.rest2 k (omega arith)) in
+    IsMapped-more f0 f1 f2 k a b c a' b' c' (passed v0) (passed v1) (passed v2) so_far ra rb rc
+    (to_z-of_z w32 v0 t0 ∙ e0 ∙ rw (ea, eb, ec) refl) (to_z-of_z w32 v1 t1 ∙ e1 ∙ rw (ea, eb, ec) refl) (to_z-of_z w32 v2 t2 ∙ e2 ∙ rw (ea, eb, ec) refl)

@@ -1,0 +1,12 @@
+pub mod Given
+pub mod Visits
+pub mod Places
+pub mod Walks
+pub mod Finds
+pub mod Least
+pub mod Asks
+pub mod Heights
+pub mod Answering
+pub mod Ways
+pub mod Speeches
+pub mod Written

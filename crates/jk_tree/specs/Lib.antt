@@ -1,0 +1,3 @@
+pub mod TagTree
+pub mod Asking
+pub mod Telling

@@ -1,0 +1,37 @@
+//! What is known of a node of a tag tree.
+
+ghost use Rattle.std.specs.Prelude.{◌≡◌, ◌&&◌, false, nat_lt, replicate, MatchResult};
+ghost use Rattle.jk_math.specs.declared.fault.Fault.TheVariants.{Memory};
+
+use jk_math::Fault;
+use std::alloc::Global;
+
+/// A node's value is `low` where it is known, and at least `low` where it isn't.
+#[derive(Clone, Copy, Drop)]
+pub(crate) struct Node {
+    pub(crate) low: u16,
+    pub(crate) known: bool,
+}
+
+/// Whether the node is known to be below `threshold`.
+pub(crate) fn is_below(node: Node, threshold: u16) -> bool
+    ensures { result ≡ (node.known && nat_lt node.low threshold) }
+{
+    node.known && node.low < threshold
+}
+
+/// Nodes of which nothing is known.
+pub(crate) fn blank_nodes(alloc: Global, count: usize) -> Result<Vec<Node>, Fault>
+    ensures { MatchResult result
+        (λ nodes. nodes.items ≡ replicate count record { low = 0; known = false })
+        (λ e. e ≡ Memory) }
+{
+    let mut nodes = Vec::with_capacity(alloc, count)?;
+    for _ in 0..count {
+        nodes.push(Node {
+            low: 0,
+            known: false,
+        })?;
+    }
+    Ok(nodes)
+}

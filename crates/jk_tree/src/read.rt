@@ -1,0 +1,169 @@
+//! Tag trees that are read (T.800 B.10.2).
+
+ghost use Rattle.std.specs.Prelude.{◌≡◌, ℕ, ◌+◌, ◌-◌, ◌*◌, ◌<◌, ◌≤◌, min, ◌++◌, [], ◌∷◌, List, Bool, length, Ok, Err, None, Some, IfOk, IfErr, IsOkAnd, MatchResult};
+ghost use Rattle.jk_math.specs.Answer.{Reads};
+ghost use Rattle.jk_math.specs.declared.fault.Fault.TheVariants.{Memory};
+ghost use Rattle.jk_bits.specs.Reading.{ahead};
+ghost use Rattle.jk_tree.specs.TagTree.{shape_of, query_of, Values, IsTree, Query, count, top, told};
+ghost use Rattle.jk_tree.specs.Asking.{IsAnswer, Reached, Stands, ask_at, climb, visit, walk};
+
+use crate::levels::{Levels, node_count, node_over, root_level};
+use crate::node::{Node, blank_nodes, is_below};
+use jk_bits::BitReader;
+use jk_math::Fault;
+use std::alloc::Global;
+use std::marker::Model;
+
+/// A tag tree of which nothing is known but what its queries read.
+#[derive(Drop)]
+pub struct ReadTree {
+    levels: Levels,
+    nodes: Vec<Node>,
+    failed: Option<Fault>,
+}
+
+impl Model for ReadTree {
+    ghost use Rattle.std.specs.Prelude.{◌≡◌, ◌≤◌, length};
+    ghost use Rattle.jk_tree.specs.TagTree.{shape_of, count, top};
+    ghost use Rattle.jk_tree.specs.Asking.{Tree};
+
+    ghost Value = { Tree };
+
+    ghost view = { λ t. record {
+      shape = shape_of t.levels.width t.levels.height;
+      nodes = t.nodes.items;
+      failed = t.failed;
+    } };
+
+    ghost invariant = { λ t. (t.levels.root ≡ top (shape_of t.levels.width t.levels.height))
+        × (t.levels.root ≤ 16)
+        × (length t.nodes.items ≡ count (shape_of t.levels.width t.levels.height)) };
+}
+
+/// Zeros from `low` on up to a one, as far as the threshold.
+fn climb(low: u16, threshold: u16, reader: &mut BitReader<'_>) -> Result<Node, Fault>
+    requires { low ≤ threshold }
+    ensures { Reads (climb low (threshold - low)) reader.old reader.new result }
+{
+    let mut low = low;
+    while low < threshold {
+        let one = reader.bit()?;
+        if one {
+            return Ok(Node { low, known: true });
+        }
+        low += 1;
+    }
+    Ok(Node { low, known: false })
+}
+
+/// What a node tells; of the node above it `over` is known, as far as the threshold.
+fn visit(node: Node, over: u16, threshold: u16, reader: &mut BitReader<'_>) -> Result<Node, Fault>
+    requires { over ≤ threshold }
+    ensures { Reads (visit node over threshold) reader.old reader.new result }
+{
+    if node.known || node.low >= threshold {
+        return Ok(node);
+    }
+    climb(node.low.max(over), threshold, reader)
+}
+
+/// The nodes over a leaf, from the root down.
+fn walk(
+    nodes: &mut Vec<Node>,
+    levels: Levels,
+    leaf: u32,
+    threshold: u16,
+    reader: &mut BitReader<'_>,
+) -> Result<(), Fault>
+    requires leaf { leaf < levels.width * levels.height }
+    requires root { levels.root ≡ top (shape_of levels.width levels.height) }
+    requires small { levels.root ≤ 16 }
+    requires long { length nodes.old.items ≡ count (shape_of levels.width levels.height) }
+    ensures exact { MatchResult result
+        (λ _. walk (shape_of levels.width levels.height) (query_of leaf threshold)
+        (levels.root + 1) 0 nodes.old.items reader.old
+        ≡ Ok (nodes.new.items, reader.new))
+        (λ e. walk (shape_of levels.width levels.height) (query_of leaf threshold)
+        (levels.root + 1) 0 nodes.old.items reader.old ≡ Err e) }
+    ensures kept { length nodes.new.items ≡ length nodes.old.items }
+{
+    let column = leaf % levels.width as u32;
+    let row = leaf / levels.width as u32;
+    let mut start = nodes.len();
+    let mut level = levels.root + 1;
+    let mut over = 0;
+    while level > 0 {
+        level -= 1;
+        let (from, place) = node_over(levels, level, start, column, row);
+        start = from;
+        let node = visit(nodes[place], over, threshold, reader)?;
+        nodes[place] = node;
+        over = node.low.min(threshold);
+    }
+    Ok(())
+}
+
+impl ReadTree {
+    /// A tree of `width` by `height` leaves, of which nothing is known.
+    pub fn new(alloc: Global, width: u16, height: u16) -> Result<ReadTree, Fault>
+        ensures { MatchResult result
+            (λ t. (t.shape ≡ (shape_of width height)) × (t.failed ≡ None)
+            × ((v : Values) → IsTree t.shape v → Stands t.shape v [] t.nodes))
+            (λ e. e ≡ Memory) }
+    {
+        let root = root_level(width, height);
+        let nodes = blank_nodes(alloc, node_count(width, height, root))?;
+        Ok(ReadTree {
+            levels: Levels {
+                width,
+                height,
+                root,
+            },
+            nodes,
+            failed: None,
+        })
+    }
+
+    /// Whether the value of a leaf is below `threshold`; the leaves are counted in raster order.
+    ///
+    /// The first fault of the reader fails the tree, which then answers it for ever.
+    pub fn ask(
+        &mut self,
+        leaf: u32,
+        threshold: u16,
+        reader: &mut BitReader<'_>,
+    ) -> Result<bool, Fault>
+        requires { leaf < self.old.shape.width * self.old.shape.height }
+        ensures exact { Reads (ask_at (query_of leaf threshold))
+            (self.old, reader.old) (self.new, reader.new) result }
+        ensures kept { self.new.shape ≡ self.old.shape }
+        ensures failed { IfErr result (λ e. self.new.failed ≡ Some e) }
+
+        // What a tree would tell is read, whatever was asked before.
+        ensures only { (v : Values) (queries : List Query) (rest : List Bool)
+            → self.old.failed ≡ None
+            → Stands self.old.shape v queries self.old.nodes
+            → ahead reader.old ≡ told self.old.shape v queries (query_of leaf threshold) ++ rest
+            → IsOkAnd result
+            (IsAnswer self.old v queries (query_of leaf threshold) reader.old self.new reader.new) }
+
+        // What is read is what each tree tells that stands afterwards, and there is such a tree.
+        ensures found { (queries : List Query) → Reached self.old.shape queries self.old.nodes
+            → IfOk result (λ b.
+            Reached self.new.shape (queries ++ query_of leaf threshold ∷ []) self.new.nodes
+            × ((v : Values)
+            → Stands self.new.shape v (queries ++ query_of leaf threshold ∷ []) self.new.nodes
+            → IsAnswer self.old v queries (query_of leaf threshold) reader.old self.new reader.new b)) }
+    {
+        if let Some(fault) = self.failed {
+            return Err(fault);
+        }
+        match walk(&mut self.nodes, self.levels, leaf, threshold, reader) {
+            Ok(()) => Ok(is_below(self.nodes[leaf as usize], threshold)),
+            Err(fault) => {
+                self.failed = Some(fault);
+                Err(fault)
+            }
+        }
+    }
+}

@@ -1,0 +1,238 @@
+use crate::texts::{MAIN, bytes_of};
+use jk_code::{decode, encode};
+use jk_marks::Order;
+use jk_math::Fault;
+use jk_params::{Container, Parameters, read_codestream};
+use std::alloc::Global;
+use std::test::Fail;
+
+/// No decomposition, a bare codestream.
+fn bare(alloc: Global) -> Parameters {
+    Parameters {
+        levels: 0,
+        layers: 1,
+        order: Order::Lrcp,
+        tile: None,
+        xcb: 6,
+        ycb: 6,
+        precincts: Vec::new(alloc),
+        colour: false,
+        sop: false,
+        eph: false,
+        container: Container::Raw,
+    }
+}
+
+/// A PGM file whose samples are all 128.
+fn grey(alloc: Global, header: &str, area: usize) -> Result<Vec<u8>, Fail> {
+    let mut file = Vec::new(alloc);
+    file.extend_from_slice(header.as_bytes())?;
+    for _ in 0..area {
+        file.push(128)?;
+    }
+    Ok(file)
+}
+
+#[test]
+fn one_pixel(rt: HostRuntime) -> Result<(), Fail> {
+    let alloc = rt.alloc();
+    let pgm = grey(alloc, "P5\n1 1\n255\n", 1)?;
+    let image = jk_pnm::read(alloc, &pgm).ok().ok_or("an image")?;
+    let file = encode(alloc, &image, &bare(alloc)).ok().ok_or("a file")?;
+    let wanted = bytes_of(alloc, &[MAIN, "FF90 000A 0000 0000000F 00 01 FF93 00 FFD9"])?;
+    assert_eq!(rt; wanted.len(), 82);
+    assert_eq!(rt; &file[..], &wanted[..]);
+    let back = decode(alloc, &file, 0).ok().ok_or("an image again")?;
+    let again = jk_pnm::write(alloc, &back).ok().ok_or("a PGM file")?;
+    assert_eq!(rt; &again[..], &pgm[..]);
+    Ok(())
+}
+
+#[test]
+fn whole_page(rt: HostRuntime) -> Result<(), Fail> {
+    let alloc = rt.alloc();
+    let pgm = grey(alloc, "P5\n300 200\n255\n", 60_000)?;
+    let image = jk_pnm::read(alloc, &pgm).ok().ok_or("an image")?;
+    assert_eq!(rt; (image.width(), image.height()), (300, 200));
+    let file = encode(alloc, &image, &bare(alloc)).ok().ok_or("a file")?;
+    assert_eq!(rt; file.len(), 82);
+    let headers = read_codestream(&file).ok().ok_or("headers")?;
+    assert_eq!(rt; (headers.siz.x1, headers.siz.y1), (300, 200));
+    assert_eq!(rt; (headers.start, headers.end), (79, 80));
+    let back = decode(alloc, &file, 0).ok().ok_or("an image again")?;
+    let again = jk_pnm::write(alloc, &back).ok().ok_or("a PGM file")?;
+    assert!(rt; again[..] == pgm[..]);
+    Ok(())
+}
+
+#[test]
+fn other_files(rt: HostRuntime) -> Result<(), Fail> {
+    let alloc = rt.alloc();
+    for part in [
+        "FF90 000A 0000 00000000 00 01 FF93 00 FFD9",
+        "FF90 000A 0000 0000000F 00 01 FF93 7F FFD9",
+        "FF90 000A 0000 0000000F 00 FF FF93 00 FFD9",
+    ] {
+        let file = bytes_of(alloc, &[MAIN, part])?;
+        let image = decode(alloc, &file, 0).ok().ok_or("an image")?;
+        let text = jk_pnm::write(alloc, &image).ok().ok_or("a PGM file")?;
+        let wanted = grey(alloc, "P5\n1 1\n255\n", 1)?;
+        assert_eq!(rt; &text[..], &wanted[..], "{part}");
+        assert_eq!(rt;
+            decode(alloc, &file, 1).err(),
+            Some(Fault::BadWindow),
+            "{part}"
+        );
+    }
+    Ok(())
+}
+
+#[test]
+fn refused_files(rt: HostRuntime) -> Result<(), Fail> {
+    let alloc = rt.alloc();
+    for (part, fault) in [
+        (
+            "FF90 000A 0000 0000000E 00 01 FF93 FFD9",
+            Fault::MissingPackets,
+        ),
+        (
+            "FF90 000A 0000 00000010 00 01 FF93 00 00 FFD9",
+            Fault::SurplusBytes,
+        ),
+        (
+            "FF90 000A 0000 0000000F 00 01 FF93 00 FFD9 00",
+            Fault::SurplusBytes,
+        ),
+        ("FF90 000A 0000 0000000F 00 01 FF93 00", Fault::Truncated),
+        (
+            "FF90 000A 0000 0000000F 00 01 FF93 00 FFD8",
+            Fault::BadMarker,
+        ),
+        (
+            "FF90 000A 0000 00000012 00 01 FF93 00 FFD9",
+            Fault::Truncated,
+        ),
+        (
+            "FF90 000A 0000 0000000D 00 01 FF93 00 FFD9",
+            Fault::BadLength,
+        ),
+        (
+            "FF90 000B 0000 0000000F 00 01 FF93 00 FFD9",
+            Fault::BadLength,
+        ),
+        (
+            "FF90 000A 0001 0000000F 00 01 FF93 00 FFD9",
+            Fault::BadValue,
+        ),
+        (
+            "FF90 000A 0000 0000000F 01 01 FF93 00 FFD9",
+            Fault::BadValue,
+        ),
+        ("FF90 000A 0000 0000000F 00 01 FF93 80 FFD9", Fault::NotYet),
+    ] {
+        let file = bytes_of(alloc, &[MAIN, part])?;
+        assert_eq!(rt; decode(alloc, &file, 0).err(), Some(fault), "{part}");
+    }
+    Ok(())
+}
+
+/// No front of a file but the whole is a file. Where the main header is cut, today's fault may be NotYet.
+#[test]
+fn fronts(rt: HostRuntime) -> Result<(), Fail> {
+    let alloc = rt.alloc();
+    let file = bytes_of(alloc, &[MAIN, "FF90 000A 0000 0000000F 00 01 FF93 00 FFD9"])?;
+    for length in 0..file.len() {
+        let front = &file[..length];
+        let fault = decode(alloc, front, 0).err();
+        let is_main = length < 67 && fault == Some(Fault::NotYet);
+        assert!(rt; is_main || fault == Some(Fault::Truncated), "{length}");
+    }
+    Ok(())
+}
+
+#[test]
+fn parameters(rt: HostRuntime) -> Result<(), Fail> {
+    let alloc = rt.alloc();
+    let pgm = grey(alloc, "P5\n2 1\n255\n", 2)?;
+    let image = jk_pnm::read(alloc, &pgm).ok().ok_or("an image")?;
+    let mut pairs = Vec::new(alloc);
+    pairs.push((0, 15))?;
+    let given = Parameters {
+        precincts: pairs,
+        container: Container::Jp2,
+        ..bare(alloc)
+    };
+    assert_eq!(rt; given.check(&image), Ok(()));
+    let bad = Err(Fault::BadParameters);
+    let six = Parameters {
+        levels: 6,
+        ..bare(alloc)
+    };
+    assert_eq!(rt; six.check(&image), bad);
+    assert_eq!(rt;
+        encode(alloc, &image, &six).err(),
+        Some(Fault::BadParameters)
+    );
+    let colour = Parameters {
+        colour: true,
+        ..bare(alloc)
+    };
+    assert_eq!(rt; colour.check(&image), bad);
+    let wide = Parameters {
+        xcb: 10,
+        ycb: 3,
+        ..bare(alloc)
+    };
+    assert_eq!(rt; wide.check(&image), bad);
+    let none = Parameters {
+        layers: 0,
+        ..bare(alloc)
+    };
+    assert_eq!(rt; none.check(&image), bad);
+    let flat = Parameters {
+        tile: Some((1, 0)),
+        ..bare(alloc)
+    };
+    assert_eq!(rt; flat.check(&image), bad);
+    let tiles = Parameters {
+        tile: Some((1, 1)),
+        ..bare(alloc)
+    };
+    assert_eq!(rt; tiles.check(&image), Ok(()));
+    assert_eq!(rt; encode(alloc, &image, &tiles).err(), Some(Fault::NotYet));
+    Ok(())
+}
+
+#[test]
+fn pgm_files(rt: HostRuntime) -> Result<(), Fail> {
+    let alloc = rt.alloc();
+    for (file, fault) in [
+        ("P6\n1 1\n255\nabc", Fault::NotYet),
+        ("P5\n1 1\n254\na", Fault::NotYet),
+        ("P5 1 1\n255\na", Fault::NotYet),
+        ("P5\n0 1\n255\n", Fault::NotYet),
+        ("P5\n1 01\n255\na", Fault::NotYet),
+        ("P5\n1 1\n255\n", Fault::BadPnm),
+        ("P5\n1 1\n255\nab", Fault::BadPnm),
+    ] {
+        assert_eq!(rt;
+            jk_pnm::read(alloc, file.as_bytes()).err(),
+            Some(fault),
+            "{file}"
+        );
+    }
+    let image = jk_pnm::read(alloc, b"P5\n2 1\n255\nab")
+        .ok()
+        .ok_or("an image")?;
+    assert_eq!(rt; *image.planes().plane(0), *[97, 98].as_slice());
+    assert_eq!(rt;
+        encode(alloc, &image, &bare(alloc)).err(),
+        Some(Fault::NotYet)
+    );
+    let text = jk_pnm::write(alloc, &image).ok().ok_or("a PGM file")?;
+    assert_eq!(rt; &text[..], "P5\n2 1\n255\nab".as_bytes());
+    let moved = image.place(1, 0).ok().ok_or("a place")?;
+    let again = jk_pnm::write(alloc, &moved);
+    assert!(rt; again.is_ok() || again.err() == Some(Fault::NotYet));
+    Ok(())
+}

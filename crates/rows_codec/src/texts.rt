@@ -1,0 +1,28 @@
+use std::alloc::Global;
+use std::test::Fail;
+
+/// The headers of the codestream of one grey pixel.
+pub(crate) const MAIN: &str =
+    "FF4F FF51 0029 0000 00000001 00000001 00000000 00000000 00000001 00000001 00000000 00000000 0001 07 01 01 FF52 000C 00 00 0001 00 00 04 04 00 01 FF5C 0004 40 40";
+
+/// The bytes of hexadecimal texts, one text behind the other.
+pub(crate) fn bytes_of(alloc: Global, texts: &[&str]) -> Result<Vec<u8>, Fail> {
+    let mut bytes = Vec::new(alloc);
+    let mut high = None;
+    for text in texts {
+        for digit in text.chars() {
+            let Some(value) = digit.to_digit(16) else {
+                continue;
+            };
+            let value = (value & 0xF) as u8;
+            match high {
+                None => high = Some(value),
+                Some(first) => {
+                    bytes.push((first & 0xF) << 4 | value)?;
+                    high = None;
+                }
+            }
+        }
+    }
+    Ok(bytes)
+}
