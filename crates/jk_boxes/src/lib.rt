@@ -1,0 +1,9 @@
+//! The boxes of JP2 files (T.800 Annex I), both ways.
+#![tactic(auto)]
+
+mod boxes;
+mod place;
+mod writing;
+
+pub use place::{Boxed, open};
+pub use writing::{replace_codestream, wrap};
