@@ -4,3 +4,4 @@ pub mod Texts
 pub mod Numbers
 pub mod Finishing
 pub mod Stuffed
+pub mod Laws

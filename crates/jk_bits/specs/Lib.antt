@@ -1,3 +1,4 @@
 pub mod Stuffing
 pub mod Reading
 pub mod Writing
+pub mod Giving

@@ -91,7 +91,7 @@ pub record IsFileType (contents : List ℕ) : Type 0 where
   pub narrow : AllByRecursion (λ n. n < 2 ^ 32) (brand ∷ version ∷ compatible)
   pub listed : list_any (λ n. n == jp2_brand) compatible ≡ true
 
--- a box within another, of another kind than these
+-- a box within another that ends before the file does by its own length, and not of this kind
 pub record IsInner (kind : ℕ) (b : Box) : Type 0 where
   pub box : IsBox b
   pub closed : is_open b.form ≡ false

@@ -12,7 +12,7 @@ use Rattle.jk_math.specs.Picture.{Picture, sample_at}
 use Rattle.jk_marks.specs.declared.siz.Siz.{Siz}
 use Rattle.jk_marks.specs.Markers.{soc, marker_text}
 use Rattle.jk_marks.specs.Siz.{tiles_across}
-use Rattle.jk_marks.specs.Codestream.{page_siz, page_cod}
+use Rattle.jk_params.specs.Page.{page_siz, page_cod}
 use Rattle.jk_params.specs.Headers.{TileFields, Headers, IsHeaders}
 use Rattle.jk_params.specs.HeadersReading.{headers_at}
 use Rattle.jk_params.proofs.HeadersLaws.{page_headers, found_headers, only_headers}

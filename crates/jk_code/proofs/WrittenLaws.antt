@@ -11,10 +11,10 @@ use Rattle.jk_math.specs.Picture.{Picture, IsPicture}
 use Rattle.jk_marks.specs.declared.segments.Order.{Order}
 use Rattle.jk_marks.specs.declared.segments.Order.TheVariants.{Lrcp, Rlcp, Rpcl, Pcrl, Cprl}
 use Rattle.jk_marks.specs.Markers.{eoc, marker_text}
-use Rattle.jk_marks.specs.Codestream.{Tree, main_text, main_of, part_text, codestream_text, page_siz, page_segments, segments_of, only_part_of, IsPart, IsWritten}
-use Rattle.jk_marks.proofs.MainLaws.{page_is_main, page_tiles, page_text}
+use Rattle.jk_marks.specs.Codestream.{Tree, main_text, main_of, part_text, codestream_text, segments_of, only_part_of, IsPart, IsWritten}
+use Rattle.jk_params.specs.Page.{page_siz, page_segments}
+use Rattle.jk_params.proofs.PageLaws.{page_front, page_origin, page_coding, page_text, page_tiles, page_cod_fits, page_is_main, page_is_page, none_silent}
 use Rattle.jk_marks.proofs.Numbers.{AreBytes, are_bytes_append, are_bytes_high_first, are_bytes_tested}
-use Rattle.jk_marks.specs.Reading.{page_front, page_origin, page_coding}
 use Rattle.byteorder.specs.Endian.{big_bytes}
 use Rattle.jk_params.specs.declared.parameters.Parameters.{Parameters}
 use Rattle.jk_params.specs.Profile.{siz_of}
@@ -31,7 +31,7 @@ page_tree w h = record { siz = page_siz w h; segments = page_segments; parts = o
 page_part : (w h : ℕ) → 0 < w → 0 < h → IsPart (page_siz w h) (only_part_of 0 empty_packet)
 page_part w h wide high =
     let one = page_tiles w h wide high in
-    record { tile = omega (arith, one); narrow = lit< tt; number = lit≤ tt; total = lit< tt; fits = lit< tt; page = refl }
+    record { tile = omega (arith, one); narrow = lit< tt; number = lit≤ tt; total = lit< tt; fits = lit< tt; well_formed = record { each = tt; one_coding = lit≤ tt; one_quantisation = lit≤ tt; one_style = λ i. lit≤ tt; one_steps = λ i. lit≤ tt } }
 
 -- the data of the only part
 content_is : (front rest : List ℕ) → slice_of (front ++ (part_text (only_part_of 0 empty_packet) ++ rest)) (length front + 14, length front + 15) ≡ empty_packet
@@ -51,7 +51,7 @@ page_decodes w h wide high few_w few_h area =
     let front = main_text (page_siz w h) page_segments in
     let is_main = page_is_main w h wide high few_w few_h area in
     let is_part = page_part w h wide high in
-    let s1 = read_again text (page_siz w h) page_segments p is_main is_part refl refl ∙ ap Ok (tree_headers (page_siz w h) page_segments p (page_tiles w h wide high) refl refl) in
+    let s1 = read_again text (page_siz w h) page_segments p is_main (page_is_page w h few_w few_h) is_part none_silent refl refl ∙ ap Ok (tree_headers (page_siz w h) page_segments p (page_tiles w h wide high) refl refl) in
     let joined : text ≡ front ++ (part_text p ++ marker_text eoc) = ap (λ (x : List ℕ). front ++ (x ++ marker_text eoc)) (append-nil (part_text p)) in
     let content : slice_of text (length front + 14, length front + 15) ≡ empty_packet = ap (λ (x : List ℕ). slice_of x (length front + 14, length front + 15)) joined ∙ content_is front (marker_text eoc) in
     rw (s1, content) refl
@@ -185,22 +185,10 @@ page_is_written w h wide high few_w few_h area =
     let main = page_is_main w h wide high few_w few_h area in
     record {
       siz = main.size;
-      cod = record {
-        some_layers = lit< tt;
-        few_layers = lit< tt;
-        colour = λ e. absurd cc;
-        style = record {
-          levels = lit≤ tt;
-          narrow = lit≤ tt;
-          wide = lit≤ tt;
-          low = lit≤ tt;
-          high = lit≤ tt;
-          area = lit≤ tt;
-          plain = refl;
-          precincts = record { count = inl refl; small = All-nil (λ (p : ℕ × ℕ). (p.0 < 16) × (p.1 < 16)); whole = λ r some less. absurd (omega arith) };
-        };
-      };
+      cod = page_cod_fits;
       qcd = record { guard = lit< tt; exponents = All-cons (λ e. e < 32) 8 [] (lit< tt) (All-nil (λ e. e < 32)); few = lit≤ tt };
+      coc = (tt, (tt, (tt, (tt, tt))));
+      qcc = (tt, (tt, (tt, (tt, tt))));
     }
 
 -- the main header of an image that is written

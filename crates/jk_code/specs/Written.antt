@@ -1,5 +1,5 @@
 -- What encoding writes.
-use Rattle.std.specs.Prelude.{ℕ, Bool, true, false, not, ◌&&◌, ◌==◌, nat_le, List, [], ◌∷◌, length, slice_index_or, is_none, Result, Ok, Err, if◌then◌else◌, pos}
+use Rattle.std.specs.Prelude.{ℕ, Bool, true, false, not, ◌&&◌, ◌==◌, nat_le, List, [], ◌∷◌, length, slice_index_or, is_none, None, Result, Ok, Err, if◌then◌else◌, pos}
 use Rattle.std.specs.Ordering.{int_eq}
 use Rattle.std.specs.List.{list_all}
 use Rattle.jk_math.specs.declared.fault.Fault.{Fault}
@@ -8,7 +8,7 @@ use Rattle.jk_math.specs.Picture.{Picture}
 use Rattle.jk_marks.specs.declared.main_header.Main.{Main}
 use Rattle.jk_marks.specs.declared.segments.Order.{Order}
 use Rattle.jk_marks.specs.declared.segments.Order.TheVariants.{Lrcp, Rlcp, Rpcl, Pcrl, Cprl}
-use Rattle.jk_marks.specs.Codestream.{Tree, codestream_text, segments_of, only_part_of}
+use Rattle.jk_marks.specs.Codestream.{Tree, codestream_text, segments_of, only_part_of, by_component}
 use Rattle.jk_params.specs.declared.parameters.Parameters.{Parameters}
 use Rattle.jk_params.specs.declared.parameters.Container.{Container}
 use Rattle.jk_params.specs.declared.parameters.Container.TheVariants.{Raw, Jp2}
@@ -16,7 +16,7 @@ use Rattle.jk_params.specs.Profile.{siz_of, cod_of, is_profile}
 
 -- The main header. Where all coefficients of a band are zero its exponent is the depth, and there are two guard bits.
 abbrev pub main_for : Picture → Parameters → Main
-main_for p q = record { siz = siz_of p q; cod = cod_of q; qcd = record { guard = 2; exponents = p.depth ∷ [] } }
+main_for p q = record { siz = siz_of p q; cod = cod_of q; qcd = record { guard = 2; exponents = p.depth ∷ [] }; coc = by_component (λ i. None); qcc = by_component (λ i. None) }
 
 -- the packet of a precinct whose code-blocks are all zero: a header of the bit 0, and padding
 abbrev pub empty_packet : List ℕ

@@ -117,6 +117,8 @@ fn main_header(image: &Image, parameters: &Parameters) -> Main
             guard: 2,
             exponents: Exponents::new(&[image.depth()]),
         },
+        coc: [None, None, None, None],
+        qcc: [None, None, None, None],
     }
 }
 

@@ -1,6 +1,16 @@
 pub mod Numbers
+pub mod Fronts
 pub mod Steps
-pub mod PartLaws
+pub mod StyleLaws
+pub mod SegmentLaws
+pub mod ComponentLaws
+pub mod HeadLaws
+pub mod HeadAgain
+pub mod Counts
+pub mod HeadOf
+pub mod SizLaws
 pub mod MainLaws
+pub mod PartLaws
 pub mod Copies
 pub mod WriteLaws
+pub mod Loops

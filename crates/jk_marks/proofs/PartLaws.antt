@@ -1,25 +1,34 @@
 -- A tile-part that is read is spelled so, and one that is spelled so is read.
-use Rattle.std.proofs.Common.{◌≡◌, ℕ, ◌+◌, ◌-◌, ◌^◌, ◌<◌, ◌≤◌, Bool, true, false, not, ◌&&◌, cond, min, eqb, ltb, leb, List, [], ◌++◌, length, get_or, take, drop, Ok, Err, refl, sym, ap, subst, ◌∙◌, arith, inl, inr, ◌⊎◌, lit<, lit≤}
-use Rattle.std.proofs.lemmas.Bool.{ltb-false, le-ltb, eqb-true, eqb-false, leb-true, leb-false, and_parts, not-false, le-leb, lt-leb, ne_eqb, and_left, and_right, eq-eqb}
-use Rattle.std.proofs.lemmas.List.{drop_at, take-append-drop, length-append, length-drop, length-take, drop-drop, take_all}
+use Rattle.std.proofs.Common.{◌≡◌, ℕ, zero, suc, ◌+◌, ◌-◌, ◌*◌, ◌^◌, ◌<◌, ◌≤◌, Bool, true, false, not, ◌&&◌, cond, min, eqb, ltb, leb, List, [], ◌∷◌, ◌++◌, length, get_or, take, drop, Ok, Err, refl, sym, ap, subst, ◌∙◌, append_assoc, arith, inl, inr, ◌⊎◌, lit<, lit≤}
+use Rattle.std.proofs.lemmas.Bool.{ltb-false, le-ltb, eqb-true, eqb-false, leb-true, leb-false, and_parts, not-false, le-leb, lt-leb, ne_eqb, and_left, and_right, eq-eqb, cases_Bool}
+use Rattle.std.proofs.lemmas.List.{drop_at, take_at, take-append-drop, length-append, length-drop, length-take-le, drop-drop, take_all}
+use Rattle.std.specs.List.{flat_map, AllByRecursion}
 use Rattle.byteorder.specs.Endian.{big_number, big_bytes}
 use Rattle.jk_math.specs.Steps.{bind_then, refuse_then, guarded, guard_ended, chosen, ok_is}
-use Rattle.jk_math.specs.declared.fault.Fault.TheVariants.{Truncated, BadMarker, BadLength, BadValue, NotYet}
+use Rattle.jk_math.specs.declared.fault.Fault.TheVariants.{Truncated, BadMarker, BadLength, BadValue}
 use Rattle.jk_marks.specs.declared.siz.Siz.{Siz}
+use Rattle.jk_marks.specs.declared.head.Heading.{Heading}
+use Rattle.jk_marks.specs.declared.head.Heading.TheVariants.{FirstPart, LaterPart}
+use Rattle.jk_marks.specs.declared.head.TileHead.{TileHead}
 use Rattle.jk_marks.specs.declared.tile_part.TilePart.{TilePart}
-use Rattle.jk_marks.specs.Place.{closed, outside}
+use Rattle.jk_marks.specs.declared.tile_part.Sot.{Sot}
+use Rattle.jk_marks.specs.Place.{Place, closed, outside}
 use Rattle.jk_marks.specs.Markers.{sot, sod, eoc, marker_text}
 use Rattle.jk_marks.specs.Siz.{tile_count}
-use Rattle.jk_marks.specs.Segments.{Segment}
-use Rattle.jk_marks.specs.Codestream.{Part, part_text, psot, place_of, BeginsWith, IsPart}
-use Rattle.jk_marks.specs.Reading.{number, segment_length, part_end, part_at}
+use Rattle.jk_marks.specs.Segments.{Segment, IsSegment, segment_text}
+use Rattle.jk_marks.specs.Codestream.{Part, part_text, part_length, psot, place_of, head_of, heading_of, BeginsWith, IsPart}
+use Rattle.jk_marks.specs.Reading.{number, segment_length, header_at}
+use Rattle.jk_marks.specs.HeaderReading.{part_end, sot_at, part_at}
 use Rattle.jk_marks.proofs.Numbers.{AreBytes, are_bytes_after, number_back}
-use Rattle.jk_marks.proofs.Steps.{number_takes, number_again, segment_length_takes, segment_length_again}
+use Rattle.jk_marks.proofs.Steps.{Goes, ahead, entered, goes_then, goes_as, number_goes, number_again, length_goes, length_again}
+use Rattle.jk_marks.proofs.HeadLaws.{with_segments, segments_goes}
+use Rattle.jk_marks.proofs.HeadAgain.{EndsHeader, segments_again}
+use Rattle.jk_marks.proofs.HeadOf.{segments_are, segments_fresh, segments_say}
+use Rattle.jk_marks.proofs.MainLaws.{many_bytes}
 
--- the header of a part without segments, and what follows it
-abbrev head_bytes : ℕ → ℕ → ℕ → ℕ → List ℕ → List ℕ
-head_bytes tile size part total rest =
-    marker_text sot ++ (big_bytes 2 10 ++ (big_bytes 2 tile ++ (big_bytes 4 size ++ (big_bytes 1 part ++ (big_bytes 1 total ++ (marker_text sod ++ rest))))))
+-- SOT and its segment
+abbrev sot_text : (tile size part total : ℕ) → List ℕ
+sot_text tile size part total = marker_text sot ++ (big_bytes 2 10 ++ (big_bytes 2 tile ++ (big_bytes 4 size ++ (big_bytes 1 part ++ big_bytes 1 total))))
 
 abbrev EndsOpen : List ℕ → ℕ → ℕ → Type 0
 EndsOpen bytes size end = (size ≡ 0) × (end + 2 ≡ length bytes) × (drop end bytes ≡ marker_text eoc)
@@ -51,65 +60,35 @@ part_ends bytes size end fits e =
           inr (omega arith, sym size-is, ltb-false n size g.0)
     ]
 
-abbrev pub Found : Siz → List ℕ → List ℕ → TilePart → Type 0
-Found siz seen bytes t = (p : Part) × IsPart siz p × (p.number ≡ get_or seen p.tile 0) × BeginsWith bytes p × (t ≡ place_of p)
+ends_within : (bytes : List ℕ) (size end : ℕ) → EndsOpen bytes size end ⊎ EndsClosed bytes size end → end ≤ length bytes
+ends_within bytes size end (inl w) = omega (arith, w.1)
+ends_within bytes size end (inr w) = omega (arith, w.1, w.2)
 
-assemble : (siz : Siz) (seen bytes rest : List ℕ) (tile size part total end : ℕ) → AreBytes bytes → bytes ≡ head_bytes tile size part total rest → tile < tile_count siz → tile < 2 ^ 16 → size < 2 ^ 32
-    → part_end bytes size ≡ Ok end → part ≡ get_or seen tile 0 → part ≤ 254 → total < 256 → 14 ≤ end → Found siz seen bytes (record { tile = tile; part = part; start = 14; end = end })
-unfolding part_text
-assemble siz seen bytes rest tile size part total end fits parts is_tile narrow small ends next few wide long =
-    let content = take (end - 14) rest in
-    let others = drop (end - 14) rest in
-    let joined : rest ≡ content ++ others = sym (take-append-drop (end - 14) rest) in
-    let len : length bytes ≡ 14 + length rest = ap (λ (x : List ℕ). length x) parts ∙ omega arith in
-    let content-is : length content ≡ min (end - 14) (length rest) = length-take (end - 14) rest in
-    let past_header : drop 14 bytes ≡ rest = ap (drop 14) parts in
-    let after : drop (14 + (end - 14)) bytes ≡ others = sym (drop-drop (end - 14) 14 bytes) ∙ ap (drop (end - 14)) past_header in
-    elim (part_ends bytes size end fits ends) [
-      | inl w ↦
-          let p : Part = record { tile = tile; is_open = true; number = part; total = total; segments = []; content = content } in
-          let whole : end ≡ 14 + length content = omega (arith, w.1, content-is, len) in
-          let same_end : 14 + (end - 14) ≡ end = omega arith in
-          let closing : others ≡ marker_text eoc = sym after ∙ ap (λ k. drop k bytes) same_end ∙ w.2 in
-          let spelled : bytes ≡ part_text p ++ others =
-          parts ∙ ap (λ k. head_bytes tile k part total rest) w.0 ∙ ap (λ (x : List ℕ). head_bytes tile 0 part total x) joined in (
-            p,
-            record { tile = is_tile; narrow = narrow; number = few; total = wide; fits = omega arith; page = refl },
-            next,
-            record { others = others; text = spelled; last = λ _. closing },
-            ap (λ k. record { tile = tile; part = part; start = 14; end = k }) whole,
-          )
-      | inr w ↦
-          let p : Part = record { tile = tile; is_open = false; number = part; total = total; segments = []; content = content } in
-          let whole : end ≡ 14 + length content = omega (arith, w.1, w.2, content-is, len) in
-          let says : size ≡ 14 + length content = sym w.1 ∙ whole in
-          let spelled : bytes ≡ part_text p ++ others =
-          parts ∙ ap (λ k. head_bytes tile k part total rest) says ∙ ap (λ (x : List ℕ). head_bytes tile (14 + length content) part total x) joined in (
-            p,
-            record { tile = is_tile; narrow = narrow; number = few; total = wide; fits = omega (arith, says); page = refl },
-            next,
-            record { others = others; text = spelled; last = λ e. absurd cc },
-            ap (λ k. record { tile = tile; part = part; start = 14; end = k }) whole,
-          )
-    ]
+are_bytes_before : (n : ℕ) (bytes : List ℕ) → AreBytes bytes → AreBytes (take n bytes)
+are_bytes_before zero bytes fits i = omega arith
+are_bytes_before (suc n) [] fits i = omega arith
+are_bytes_before (suc n) (b ∷ bytes) fits zero = fits 0
+are_bytes_before (suc n) (b ∷ bytes) fits (suc i) = are_bytes_before n bytes (λ j. fits (suc j)) i
 
-spelled_header : (bytes rest : List ℕ) (marker size tile psot part total last : ℕ) (r1 r2 r3 r4 r5 r6 : List ℕ) → bytes ≡ big_bytes 2 marker ++ r1 → r1 ≡ big_bytes 2 size ++ r2 → r2 ≡ big_bytes 2 tile ++ r3
-    → r3 ≡ big_bytes 4 psot ++ r4 → r4 ≡ big_bytes 1 part ++ r5 → r5 ≡ big_bytes 1 total ++ r6 → r6 ≡ big_bytes 2 last ++ rest → marker ≡ sot → size ≡ 10 → last ≡ sod
-    → bytes ≡ head_bytes tile psot part total rest
-spelled_header bytes rest marker size tile psot part total last r1 r2 r3 r4 r5 r6 e1 e2 e3 e4 e5 e6 e7 m1 m2 m8 =
-    e1 ∙ ap (λ (m : ℕ). big_bytes 2 m ++ r1) m1 ∙ ap (λ (r : List ℕ). marker_text sot ++ r)
-    (e2 ∙ ap (λ (m : ℕ). big_bytes 2 m ++ r2) m2 ∙ ap (λ (r : List ℕ). big_bytes 2 10 ++ r)
-    (e3 ∙ ap (λ (r : List ℕ). big_bytes 2 tile ++ r)
-    (e4 ∙ ap (λ (r : List ℕ). big_bytes 4 psot ++ r)
-    (e5 ∙ ap (λ (r : List ℕ). big_bytes 1 part ++ r)
-    (e6 ∙ ap (λ (r : List ℕ). big_bytes 1 total ++ r)
-    (e7 ∙ ap (λ (m : ℕ). big_bytes 2 m ++ rest) m8))))))
+-- what SOT said
+record SotSaid (siz : Siz) (seen bytes : List ℕ) (s : Sot) (q : Place) : Type 0 where
+  size : ℕ
+  total : ℕ
+  gone : Goes (closed bytes 0) (sot_text s.tile size s.part total) q
+  tile : s.tile < tile_count siz
+  narrow : s.tile < 2 ^ 16
+  fits : size < 2 ^ 32
+  ends : part_end bytes size ≡ Ok s.end
+  next : s.part ≡ get_or seen s.tile 0
+  few : s.part ≤ 254
+  wide : total < 256
 
-pub found_part : (siz : Siz) (seen bytes : List ℕ) (t : TilePart) → AreBytes bytes → part_at siz seen bytes ≡ Ok t
-    → (p : Part) × IsPart siz p × (p.number ≡ get_or seen p.tile 0) × BeginsWith bytes p × (t ≡ place_of p)
-unfolding part_at
-found_part siz seen bytes t fits e =
-    bind_then (number 2 (closed bytes 0)) _ t e (λ marker s1 e.
+sot_goes : (siz : Siz) (seen bytes : List ℕ) (s : Sot) (q : Place) → AreBytes bytes → sot_at siz seen bytes (closed bytes 0) ≡ Ok (s, q) → SotSaid siz seen bytes s q
+unfolding sot_at
+sot_goes siz seen bytes s q fits e =
+    let t : Sot × Place = (s, q) in
+    let p = closed bytes 0 in
+    bind_then (number 2 p) _ t e (λ marker s1 e.
     refuse_then (not (eqb marker.0 sot)) BadMarker _ t e (λ is_sot e.
     bind_then (segment_length marker.1) _ t e (λ size s2 e.
     refuse_then (not (eqb size.0 10)) BadLength _ t e (λ is_ten e.
@@ -122,39 +101,119 @@ found_part siz seen bytes t fits e =
     refuse_then (not (eqb part.0 (get_or seen tile.0 0))) BadValue _ t e (λ is_next e.
     refuse_then (ltb 254 part.0) BadValue _ t e (λ is_few e.
     bind_then (number 1 part.1) _ t e (λ total s7 e.
-    refuse_then (ltb (end - total.1.at) 2) Truncated _ t e (λ is_long e.
-    bind_then (number 2 (outside total.1)) _ t e (λ last s8 e.
-    refuse_then (not (eqb last.0 sod)) NotYet _ t e (λ is_sod e.
-    let t1 = number_takes 2 marker.0 (closed bytes 0) marker.1 fits s1 in
-    let t2 = segment_length_takes size.0 marker.1 size.1 t1.0.bytes s2 in
-    let t3 = number_takes 2 tile.0 size.1 tile.1 t2.bytes s3 in
-    let t4 = number_takes 4 psot.0 tile.1 psot.1 t3.0.bytes s4 in
-    let t6 = number_takes 1 part.0 psot.1 part.1 t4.0.bytes s6 in
-    let t7 = number_takes 1 total.0 part.1 total.1 t6.0.bytes s7 in
-    let t8 = number_takes 2 last.0 (outside total.1) last.1 t7.0.bytes s8 in
-    let m1 = eqb-true marker.0 sot (not-false _ is_sot) in
-    let m2 = eqb-true size.0 10 (not-false _ is_ten) in
-    let m8 = eqb-true last.0 sod (not-false _ is_sod) in
-    let parts : bytes ≡ head_bytes tile.0 psot.0 part.0 total.0 last.1.rest =
-    spelled_header bytes last.1.rest marker.0 size.0 tile.0 psot.0 part.0 total.0 last.0 marker.1.rest size.1.rest tile.1.rest psot.1.rest part.1.rest total.1.rest
-    t1.0.parts t2.parts t3.0.parts t4.0.parts t6.0.parts t7.0.parts t8.0.parts m1 m2 m8 in
-    let a1 : marker.1.at ≡ 2 = t1.0.at in
-    let a2 : size.1.at ≡ 4 = t2.at ∙ ap (λ k. k + 2) a1 in
-    let a3 : tile.1.at ≡ 6 = t3.0.at ∙ ap (λ k. k + 2) a2 in
-    let a4 : psot.1.at ≡ 10 = t4.0.at ∙ ap (λ k. k + 4) a3 in
-    let a6 : part.1.at ≡ 11 = t6.0.at ∙ ap (λ k. k + 1) a4 in
-    let a7 : total.1.at ≡ 12 = t7.0.at ∙ ap (λ k. k + 1) a6 in
-    let a8 : last.1.at ≡ 14 = t8.0.at ∙ ap (λ k. k + 2) a7 in
-    let long : 2 ≤ end - total.1.at = ltb-false _ _ is_long in
-    let f = assemble siz seen bytes last.1.rest tile.0 psot.0 part.0 total.0 end fits parts (leb-false _ _ is_tile) t3.1 t4.1 s5 (eqb-true _ _ (not-false _ is_next)) (ltb-false _ _ is_few) t7.1 (omega (arith, long, a7)) in
-    let t-is : record { tile = tile.0; part = part.0; start = 14; end = end } ≡ t =
-    ap (λ k. record { tile = tile.0; part = part.0; start = k; end = end }) (sym a8) ∙ ok_is (record { tile = tile.0; part = part.0; start = last.1.at; end = end }) t e in
-    subst (λ (x : TilePart). Found siz seen bytes x) t-is f
-    ))))))))))))))))
+    let g1 = number_goes 2 marker.0 p marker.1 fits s1 in
+    let g2 = length_goes size.0 marker.1 size.1 g1.0.bytes s2 in
+    let g3 = number_goes 2 tile.0 size.1 tile.1 g2.0.bytes s3 in
+    let g4 = number_goes 4 psot.0 tile.1 psot.1 g3.0.bytes s4 in
+    let g6 = number_goes 1 part.0 psot.1 part.1 g4.0.bytes s6 in
+    let g7 = number_goes 1 total.0 part.1 total.1 g6.0.bytes s7 in
+    let r6 = big_bytes 1 total.0 in
+    let r5 = big_bytes 1 part.0 ++ r6 in
+    let r4 = big_bytes 4 psot.0 ++ r5 in
+    let r3 = big_bytes 2 tile.0 ++ r4 in
+    let gone = goes_then p (big_bytes 2 marker.0) marker.1 (big_bytes 2 size.0 ++ r3) total.1 g1.0 (goes_then marker.1 (big_bytes 2 size.0) size.1 r3 total.1 g2.0
+    (goes_then size.1 (big_bytes 2 tile.0) tile.1 r4 total.1 g3.0 (goes_then tile.1 (big_bytes 4 psot.0) psot.1 r5 total.1 g4.0
+    (goes_then psot.1 (big_bytes 1 part.0) part.1 r6 total.1 g6.0 g7.0)))) in
+    let text : big_bytes 2 marker.0 ++ (big_bytes 2 size.0 ++ r3) ≡ sot_text tile.0 psot.0 part.0 total.0 =
+    ap (λ k. big_bytes 2 k ++ (big_bytes 2 size.0 ++ r3)) (eqb-true _ _ (not-false _ is_sot)) ∙ ap (λ k. marker_text sot ++ (big_bytes 2 k ++ r3)) (eqb-true _ _ (not-false _ is_ten)) in
+    let found : Sot = record { tile = tile.0; end = end; part = part.0 } in
+    let here : SotSaid siz seen bytes found total.1 = record {
+      size = psot.0;
+      total = total.0;
+      gone = goes_as p _ _ total.1 gone text;
+      tile = leb-false _ _ is_tile;
+      narrow = omega (arith, g3.1);
+      fits = omega (arith, g4.1);
+      ends = s5;
+      next = eqb-true _ _ (not-false _ is_next);
+      few = ltb-false _ _ is_few;
+      wide = omega (arith, g7.1);
+    } in
+    subst (λ (r : Sot × Place). SotSaid siz seen bytes r.0 r.1) (ok_is (found, total.1) t e) here)))))))))))))
 
-part_end_open : (bytes others : List ℕ) (front : ℕ) → length bytes ≡ front + 2 → drop front bytes ≡ marker_text eoc → part_end bytes 0 ≡ Ok front
+abbrev pub Found : Siz → List ℕ → List ℕ → TilePart → Type 0
+Found siz seen bytes t = (p : Part) × IsPart siz p × (p.number ≡ get_or seen p.tile 0) × BeginsWith bytes p × (t ≡ place_of p)
+
+taken_twice : (n end : ℕ) (xs : List ℕ) → n ≤ end → take n (take end xs) ≡ take n xs
+taken_twice zero end xs le = refl
+taken_twice (suc n) zero xs le = absurd (omega (arith, le))
+taken_twice (suc n) (suc end) [] le = refl
+taken_twice (suc n) (suc end) (x ∷ xs) le = ap (λ (ys : List ℕ). x ∷ ys) (taken_twice n end xs (omega (arith, le)))
+
+take_take : (bytes front : List ℕ) (n end : ℕ) (rest : List ℕ) → bytes ≡ front ++ rest → length front ≡ n → n ≤ end → take n (take end bytes) ≡ front
+take_take bytes front n end rest e len le = taken_twice n end bytes le ∙ ap (take n) e ∙ take_at front rest n len
+
+-- the front of a list, in two parts
+front_parts : (bytes front : List ℕ) (n end : ℕ) (rest : List ℕ) → bytes ≡ front ++ rest → length front ≡ n → n ≤ end → take end bytes ≡ front ++ drop n (take end bytes)
+front_parts bytes front n end rest e len le =
+    sym (take-append-drop n (take end bytes)) ∙ ap (λ (x : List ℕ). x ++ drop n (take end bytes)) (take_take bytes front n end rest e len le)
+
+spelled_part : (tile size part total : ℕ) (front content : List ℕ) → sot_text tile size part total ++ ((front ++ marker_text sod) ++ content)
+    ≡ marker_text sot ++ (big_bytes 2 10 ++ (big_bytes 2 tile ++ (big_bytes 4 size ++ (big_bytes 1 part ++ (big_bytes 1 total ++ (front ++ (marker_text sod ++ content)))))))
+spelled_part tile size part total front content = ap (λ (x : List ℕ). sot_text tile size part total ++ x) (append_assoc front (marker_text sod) content)
+
+pub found_part : (siz : Siz) (seen bytes : List ℕ) (t : TilePart) → siz.components ≤ 4 → AreBytes bytes → part_at siz seen bytes ≡ Ok t → Found siz seen bytes t
+unfolding part_at part_text
+found_part siz seen bytes t few fits e =
+    bind_then (sot_at siz seen bytes (closed bytes 0)) _ t e (λ s s1 e.
+    refuse_then (ltb s.0.end s.1.at) Truncated _ t e (λ long e.
+    bind_then (header_at (heading_of s.0.part) siz.components sod (closed (take s.0.end bytes) s.1.at)) _ t e (λ h s2 e.
+    let g = sot_goes siz seen bytes s.0 s.1 fits s1 in
+    let end = s.0.end in
+    let inner = take end bytes in
+    let at : s.1.at ≡ 12 = omega (arith, g.gone.at) in
+    let le : 12 ≤ end = omega (arith, ltb-false _ _ long, at) in
+    let way = part_ends bytes g.size end fits g.ends in
+    let within = ends_within bytes g.size end way in
+    let inner_fits = are_bytes_after s.1.at inner (are_bytes_before end bytes fits) in
+    let gs = segments_goes (length (drop s.1.at inner)) (heading_of s.0.part) siz.components sod (head_of []) h.0 (outside (closed inner s.1.at)) h.1 inner_fits s2 in
+    let ss = gs.segments in
+    let front = flat_map segment_text ss in
+    let content = h.1.rest in
+    let others = drop end bytes in
+    let are = segments_are (heading_of s.0.part) siz.components ss few gs.each gs.fresh in
+    let say : h.0 ≡ head_of ss = gs.gives ∙ segments_say (heading_of s.0.part) siz.components ss few gs.each gs.fresh in
+    let sot_is = sot_text s.0.tile g.size s.0.part g.total in
+    let whole : inner ≡ sot_is ++ ((front ++ marker_text sod) ++ content) =
+    front_parts bytes sot_is 12 end s.1.rest g.gone.parts refl le ∙ ap (λ (x : List ℕ). sot_is ++ x) (ap (λ k. drop k inner) (sym at) ∙ gs.gone.parts) in
+    let all : bytes ≡ inner ++ others = sym (take-append-drop end bytes) in
+    let size_of : length inner ≡ end = length-take-le end bytes within in
+    let size_is : length inner ≡ length (sot_is ++ ((front ++ marker_text sod) ++ content)) = ap (λ (x : List ℕ). length x) whole in
+    let len : end ≡ 14 + length front + length content = omega (arith, size_of, size_is, length-append (front ++ marker_text sod) content, length-append front (marker_text sod)) in
+    let start : h.1.at ≡ 14 + length front = omega (arith, gs.gone.at, at, length-append front (marker_text sod)) in
+    let spelled : inner ≡ marker_text sot ++ (big_bytes 2 10 ++ (big_bytes 2 s.0.tile ++ (big_bytes 4 g.size ++ (big_bytes 1 s.0.part ++ (big_bytes 1 g.total ++ (front ++ (marker_text sod ++ content))))))) =
+    whole ∙ spelled_part s.0.tile g.size s.0.part g.total front content in
+    let back : record { tile = s.0.tile; part = s.0.part; head = head_of ss; start = 14 + length front; end = 14 + length front + length content } ≡ t =
+    ap (λ k. record { tile = s.0.tile; part = s.0.part; head = head_of ss; start = 14 + length front; end = k }) (sym len)
+    ∙ ap (λ k. record { tile = s.0.tile; part = s.0.part; head = head_of ss; start = k; end = end }) (sym start)
+    ∙ ap (λ (x : TileHead). record { tile = s.0.tile; part = s.0.part; head = x; start = h.1.at; end = end }) (sym say) ∙ ok_is _ t e in
+    elim way [
+      | inl w ↦
+          let p : Part = record { tile = s.0.tile; is_open = true; number = s.0.part; total = g.total; segments = ss; content = content } in
+          let text : bytes ≡ part_text p ++ others = all ∙ ap (λ (x : List ℕ). x ++ others) (spelled
+          ∙ ap (λ k. marker_text sot ++ (big_bytes 2 10 ++ (big_bytes 2 s.0.tile ++ (big_bytes 4 k ++ (big_bytes 1 s.0.part ++ (big_bytes 1 g.total ++ (front ++ (marker_text sod ++ content)))))))) w.0) in (
+            p,
+            record { tile = g.tile; narrow = g.narrow; number = g.few; total = g.wide; fits = lit< tt; well_formed = are },
+            g.next,
+            record { others = others; text = text; last = λ _. w.2 },
+            sym back,
+          )
+      | inr w ↦
+          let p : Part = record { tile = s.0.tile; is_open = false; number = s.0.part; total = g.total; segments = ss; content = content } in
+          let says : g.size ≡ part_length p = sym w.1 ∙ len in
+          let text : bytes ≡ part_text p ++ others = all ∙ ap (λ (x : List ℕ). x ++ others) (spelled
+          ∙ ap (λ k. marker_text sot ++ (big_bytes 2 10 ++ (big_bytes 2 s.0.tile ++ (big_bytes 4 k ++ (big_bytes 1 s.0.part ++ (big_bytes 1 g.total ++ (front ++ (marker_text sod ++ content)))))))) says) in (
+            p,
+            record { tile = g.tile; narrow = g.narrow; number = g.few; total = g.wide; fits = subst (λ k. k < 2 ^ 32) says g.fits; well_formed = are },
+            g.next,
+            record { others = others; text = text; last = λ e. absurd cc },
+            sym back,
+          )
+    ])))
+
+part_end_open : (bytes : List ℕ) (front : ℕ) → length bytes ≡ front + 2 → drop front bytes ≡ marker_text eoc → part_end bytes 0 ≡ Ok front
 unfolding part_end
-part_end_open bytes others front len last =
+part_end_open bytes front len last =
     let n = length bytes in
     let long : leb 2 n ≡ true = le-leb 2 n (omega arith) in
     let at-is : n - 2 ≡ front = omega arith in
@@ -169,76 +228,92 @@ part_end_closed bytes size some long =
     rw (no_zero, fits) refl
 
 -- what a spelled part says of its end
-part_end_again : (bytes content others : List ℕ) (tile number total : ℕ) (b : Bool) → let size = cond b 0 (14 + length content) in
-    bytes ≡ head_bytes tile size number total (content ++ others) → (b ≡ true → others ≡ marker_text eoc) → part_end bytes size ≡ Ok (14 + length content)
-part_end_again bytes content others tile number total true e last =
-    let len : length bytes ≡ 14 + length (content ++ others) = ap (λ (x : List ℕ). length x) e ∙ omega arith in
+part_end_again : (b : Bool) (bytes text others : List ℕ) (n : ℕ) → bytes ≡ text ++ others → length text ≡ n → 0 < n → (b ≡ true → others ≡ marker_text eoc) → part_end bytes (cond b 0 n) ≡ Ok n
+part_end_again true bytes text others n e len some last =
     let two : length others ≡ 2 = ap (λ (x : List ℕ). length x) (last refl) in
-    let past_header : drop 14 bytes ≡ content ++ others = ap (drop 14) e in
-    let closing : drop (14 + length content) bytes ≡ marker_text eoc =
-    sym (drop-drop (length content) 14 bytes) ∙ ap (drop (length content)) past_header ∙ drop_at content others (length content) refl ∙ last refl in
-    part_end_open bytes others (14 + length content) (omega (arith, len, two, length-append content others)) closing
-part_end_again bytes content others tile number total false e last =
-    let len : length bytes ≡ 14 + length (content ++ others) = ap (λ (x : List ℕ). length x) e ∙ omega arith in
-    part_end_closed bytes (14 + length content) (omega arith) (omega (arith, len, length-append content others))
+    let size : length bytes ≡ length (text ++ others) = ap (λ (x : List ℕ). length x) e in
+    let closing : drop n bytes ≡ marker_text eoc = ap (drop n) e ∙ drop_at text others n len ∙ last refl in
+    part_end_open bytes n (omega (arith, size, two, len, length-append text others)) closing
+part_end_again false bytes text others n e len some last =
+    let size : length bytes ≡ length (text ++ others) = ap (λ (x : List ℕ). length x) e in
+    part_end_closed bytes n some (omega (arith, size, len, length-append text others))
 
-again : (siz : Siz) (seen bytes rest : List ℕ) (tile size number total end : ℕ) → bytes ≡ head_bytes tile size number total rest → tile < 65536 → tile < tile_count siz → size < 2 ^ 32
-    → (size ≡ 0) ⊎ (14 ≤ size) → part_end bytes size ≡ Ok end → 14 ≤ end → number ≡ get_or seen tile 0 → number ≤ 254 → total < 256
-    → part_at siz seen bytes ≡ Ok (record { tile = tile; part = number; start = 14; end = end })
-unfolding part_at
-again siz seen bytes rest tile size number total end e narrow is_tile small kind ends long next few wide =
-    let r7 = rest in
-    let r6 = big_bytes 2 sod ++ r7 in
-    let r5 = big_bytes 1 total ++ r6 in
-    let r4 = big_bytes 1 number ++ r5 in
+ends_first : EndsHeader FirstPart sod
+ends_first = record { no_cod = refl; no_coc = refl; no_qcd = refl; no_qcc = refl; no_other = refl; not_alone = refl; narrow = lit< tt }
+
+ends_later : EndsHeader LaterPart sod
+ends_later = record { no_cod = refl; no_coc = refl; no_qcd = refl; no_qcc = refl; no_other = refl; not_alone = refl; narrow = lit< tt }
+
+ends_by : (b : Bool) → EndsHeader (cond b FirstPart LaterPart) sod
+ends_by true = ends_first
+ends_by false = ends_later
+
+ends_part : (n : ℕ) → EndsHeader (heading_of n) sod
+ends_part n = ends_by (eqb n 0)
+
+kind_of : (b : Bool) (n : ℕ) → 14 ≤ n → (cond b 0 n ≡ 0) ⊎ (14 ≤ cond b 0 n)
+kind_of true n le = inl refl
+kind_of false n le = inr le
+
+sot_again : (siz : Siz) (seen bytes rest : List ℕ) (tile size part total end : ℕ) → bytes ≡ sot_text tile size part total ++ rest → tile < 65536 → tile < tile_count siz → size < 2 ^ 32
+    → (size ≡ 0) ⊎ (14 ≤ size) → part_end bytes size ≡ Ok end → part ≡ get_or seen tile 0 → part ≤ 254 → total < 256
+    → sot_at siz seen bytes (closed bytes 0) ≡ Ok (record { tile = tile; end = end; part = part }, record { rest = rest; at = 12; room = 0 })
+unfolding sot_at
+sot_again siz seen bytes rest tile size part total end e narrow is_tile small kind ends next few wide =
+    let r5 = big_bytes 1 total ++ rest in
+    let r4 = big_bytes 1 part ++ r5 in
     let r3 = big_bytes 4 size ++ r4 in
     let r2 = big_bytes 2 tile ++ r3 in
     let r1 = big_bytes 2 10 ++ r2 in
     let room = length bytes - 0 in
-    let len : length bytes ≡ 14 + length rest = ap (λ (x : List ℕ). length x) e ∙ omega arith in
+    let len : length bytes ≡ 12 + length rest = ap (λ (x : List ℕ). length x) e ∙ omega arith in
     let s1 = number_again 2 sot (closed bytes 0) r1 e (lit< tt) (omega (arith, len)) in
-    let s2 = segment_length_again 10 (record { rest = r1; at = 2; room = room - 2 }) r2 refl (lit< tt) (omega (arith, len)) in
+    let s2 = length_again 10 (record { rest = r1; at = 2; room = room - 2 }) r2 refl (lit< tt) (omega (arith, len)) in
     let s3 = number_again 2 tile (record { rest = r2; at = 4; room = 8 }) r3 refl narrow (lit≤ tt) in
     let s4 = number_again 4 size (record { rest = r3; at = 6; room = 6 }) r4 refl small (lit≤ tt) in
-    let s6 = number_again 1 number (record { rest = r4; at = 10; room = 2 }) r5 refl (omega arith) (lit≤ tt) in
-    let s7 = number_again 1 total (record { rest = r5; at = 11; room = 1 }) r6 refl wide (lit≤ tt) in
-    let s8 = number_again 2 sod (record { rest = r6; at = 12; room = length r6 }) r7 refl (lit< tt) (omega arith) in
+    let s6 = number_again 1 part (record { rest = r4; at = 10; room = 2 }) r5 refl (omega (arith, few)) (lit≤ tt) in
+    let s7 = number_again 1 total (record { rest = r5; at = 11; room = 1 }) rest refl wide (lit≤ tt) in
     let c3 : leb (tile_count siz) tile ≡ false = lt-leb _ _ is_tile in
-    let c4 : ltb 0 size && ltb size 14 ≡ false = elim kind [ inl z ↦ and_left _ _ (le-ltb 0 size (omega arith)) | inr l ↦ and_right _ _ (le-ltb size 14 l) ] in
-    let c6 : eqb number (get_or seen tile 0) ≡ true = eq-eqb _ _ next in
-    let c7 : ltb 254 number ≡ false = le-ltb _ _ few in
-    let c8 : ltb (end - 12) 2 ≡ false = le-ltb _ _ (omega arith) in
-    rw (s1, s2, s3, c3, s4, c4, ends, s6, c6, c7, s7, c8, s8) refl
+    let c4 : ltb 0 size && ltb size 14 ≡ false = elim kind [ inl z ↦ and_left _ _ (le-ltb 0 size (omega (arith, z))) | inr l ↦ and_right _ _ (le-ltb size 14 l) ] in
+    let c6 : eqb part (get_or seen tile 0) ≡ true = eq-eqb _ _ next in
+    let c7 : ltb 254 part ≡ false = le-ltb _ _ few in
+    rw (s1, s2, s3, c3, s4, c4, ends, s6, c6, c7, s7) refl
 
-kind_of : (b : Bool) (n : ℕ) → (cond b 0 (14 + n) ≡ 0) ⊎ (14 ≤ cond b 0 (14 + n))
-kind_of true n = inl refl
-kind_of false n = inr (omega arith)
-
-pub only_part : (siz : Siz) (seen bytes : List ℕ) (p : Part) → IsPart siz p → p.number ≡ get_or seen p.tile 0 → BeginsWith bytes p → part_at siz seen bytes ≡ Ok (place_of p)
-unfolding part_text
-only_part siz seen bytes p part next begins =
-    let bare : Part = record p { segments = [] } in
-    let text-is : part_text p ≡ part_text bare = ap (λ (ss : List Segment). part_text (record p { segments = ss })) part.page in
-    let place-is : place_of p ≡ place_of bare = ap (λ (ss : List Segment). place_of (record p { segments = ss })) part.page in
-    let size = cond p.is_open 0 (14 + length p.content) in
-    let size-is : psot p ≡ size = ap (λ (ss : List Segment). psot (record p { segments = ss })) part.page in
-    let small : size < 2 ^ 32 = subst (λ k. k < 2 ^ 32) size-is part.fits in
-    let e : bytes ≡ head_bytes p.tile size p.number p.total (p.content ++ begins.others) = begins.text ∙ ap (λ (t : List ℕ). t ++ begins.others) text-is in
-    let ends = part_end_again bytes p.content begins.others p.tile p.number p.total p.is_open e begins.last in
-    let read = again siz seen bytes (p.content ++ begins.others) p.tile size p.number p.total (14 + length p.content) e part.narrow part.tile small (kind_of p.is_open (length p.content)) ends (omega arith) next part.number part.total in
-    read ∙ ap Ok (sym place-is)
+pub only_part : (siz : Siz) (seen bytes : List ℕ) (p : Part) → siz.components ≤ 4 → IsPart siz p → p.number ≡ get_or seen p.tile 0 → BeginsWith bytes p → part_at siz seen bytes ≡ Ok (place_of p)
+unfolding part_at part_text
+only_part siz seen bytes p few part next begins =
+    let front = flat_map segment_text p.segments in
+    let content = p.content in
+    let others = begins.others in
+    let end = part_length p in
+    let size = psot p in
+    let inner = sot_text p.tile size p.number p.total ++ (front ++ (marker_text sod ++ content)) in
+    let e : bytes ≡ inner ++ others = begins.text in
+    let inner_len : length inner ≡ end = omega (arith, length-append front (marker_text sod ++ content)) in
+    let rest = (front ++ (marker_text sod ++ content)) ++ others in
+    let s1 = sot_again siz seen bytes rest p.tile size p.number p.total end e part.narrow part.tile part.fits (kind_of p.is_open end (omega arith))
+    (part_end_again p.is_open bytes inner others end e inner_len (omega arith) begins.last) next part.number part.total in
+    let c1 : ltb end 12 ≡ false = le-ltb _ _ (omega arith) in
+    let front-is : take end bytes ≡ inner = ap (take end) e ∙ take_at inner others end inner_len in
+    let heading = heading_of p.number in
+    let q = closed (take end bytes) 12 in
+    let q-is : q.rest ≡ front ++ (marker_text sod ++ content) = ap (drop 12) front-is in
+    let room : length (take end bytes) - 12 ≡ length q.rest = sym (length-drop 12 (take end bytes)) in
+    let fresh = segments_fresh heading siz.components p.segments few part.well_formed in
+    let q-len : length q.rest ≡ length (front ++ (marker_text sod ++ content)) = ap (λ (x : List ℕ). length x) q-is in
+    let fuel : length p.segments < length q.rest = omega (arith, q-len, length-append front (marker_text sod ++ content), many_bytes p.segments) in
+    let h = segments_again (length q.rest) heading siz.components sod p.segments (head_of []) (outside q) content q-is refl fuel few (ends_part p.number) part.well_formed.each fresh in
+    let say = segments_say heading siz.components p.segments few part.well_formed.each fresh in
+    let read : header_at heading siz.components sod q ≡ Ok (head_of p.segments, h.to) = h.read ∙ ap (λ (x : TileHead). Ok (x, h.to)) say in
+    let at : h.to.at ≡ 14 + length front = omega (arith, h.at-is) in
+    rw (s1, c1, read, at) refl
 
 pub part_within : (siz : Siz) (seen bytes : List ℕ) (t : TilePart) → Found siz seen bytes t → (t.start ≤ t.end) × (t.end ≤ length bytes)
 unfolding part_text
 part_within siz seen bytes t f =
     let p = f.0 in
-    let others = f.3.others in
-    let bare : Part = record p { segments = [] } in
-    let text-is : part_text p ≡ part_text bare = ap (λ (ss : List Segment). part_text (record p { segments = ss })) f.1.page in
-    let place-is : place_of p ≡ place_of bare = ap (λ (ss : List Segment). place_of (record p { segments = ss })) f.1.page in
-    let start : t.start ≡ 14 = ap (λ (k : TilePart). k.start) (f.4 ∙ place-is) in
-    let end : t.end ≡ 14 + length p.content = ap (λ (k : TilePart). k.end) (f.4 ∙ place-is) in
-    let size = ap (λ (x : List ℕ). length x) text-is in
-    let len = ap (λ (x : List ℕ). length x) f.3.text in
-    let whole = length-append (part_text p) others in
-    (omega (arith, start, end), omega (arith, start, end, size, len, whole))
+    let front = flat_map segment_text p.segments in
+    let start : t.start ≡ 14 + length front = ap (λ (k : TilePart). k.start) f.4 in
+    let end : t.end ≡ 14 + length front + length p.content = ap (λ (k : TilePart). k.end) f.4 in
+    let size = ap (λ (x : List ℕ). length x) f.3.text in
+    (omega (arith, start, end), omega (arith, end, size, length-append (part_text p) f.3.others, length-append front (marker_text sod ++ p.content)))

@@ -5,6 +5,9 @@ pub mod Place
 pub mod Siz
 pub mod OrderCode
 pub mod Precincts
+pub mod Exponents
 pub mod Segments
+pub mod Coding
 pub mod Codestream
 pub mod Reading
+pub mod HeaderReading

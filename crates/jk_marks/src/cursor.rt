@@ -1,9 +1,10 @@
 //! Reading numbers from the bytes of a codestream.
 
-ghost use Rattle.std.specs.Prelude.{◌≡◌, ◌≤◌, ◌==◌, length};
+ghost use Rattle.std.specs.Prelude.{◌≡◌, ◌≤◌, ◌==◌, length, Ok, Err, MatchResult};
 ghost use Rattle.jk_math.specs.Answer.{Reads};
 ghost use Rattle.jk_marks.specs.Place.{Place, closed, outside};
-ghost use Rattle.jk_marks.specs.Reading.{number, segment_length, constant};
+ghost use Rattle.jk_marks.specs.Reading.{number, segment_length, passing, passed_at};
+ghost use Rattle.jk_marks.specs.HeaderReading.{next_byte};
 
 use byteorder::{BigEndian, ByteOrder};
 use jk_math::Fault;
@@ -49,6 +50,13 @@ impl<'a> Cursor<'a> {
         ensures { result ≡ self.now.at }
     {
         self.at
+    }
+
+    /// How many bytes are left.
+    pub fn left(&self) -> usize
+        ensures { result ≡ length self.now.rest }
+    {
+        self.bytes.len() - self.at
     }
 
     /// Whether no byte is left.
@@ -126,16 +134,44 @@ impl<'a> Cursor<'a> {
         self.room = self.bytes.len() - self.at;
     }
 
-    /// Passes these very bytes, and answers NotYet where others stand.
-    #[tactic(auto, unfolding(crate::specs::Reading::constant))]
-    pub fn expect(&mut self, text: &[u8]) -> Result<(), Fault>
-        ensures { Reads (constant text.now) self.old self.new result }
+    /// Passes over a marker segment, from its length on.
+    #[tactic(auto, unfolding(crate::specs::Reading::passed_at))]
+    pub(crate) fn pass_segment(&mut self) -> Result<&'a [u8], Fault>
+        ensures { MatchResult result
+            (λ s. passed_at self.old ≡ Ok (s.now, self.new))
+            (λ e. passed_at self.old ≡ Err e) }
     {
-        if !self.bytes[self.at..].starts_with(text) {
-            return Err(Fault::NotYet);
+        let length = self.enter()?;
+        if length < 2 {
+            return Err(Fault::BadLength);
         }
-        self.at += text.len();
-        self.room = self.room.saturating_sub(text.len());
-        Ok(())
+        self.pass(length as usize - 2)
+    }
+
+    /// The next `count` bytes of the segment, which has them.
+    #[tactic(auto, unfolding(crate::specs::Reading::passing))]
+    pub(crate) fn pass(&mut self, count: usize) -> Result<&'a [u8], Fault>
+        ensures { MatchResult result
+            (λ s. passing count self.old ≡ Ok (s.now, self.new))
+            (λ e. passing count self.old ≡ Err e) }
+    {
+        if self.bytes.len() - self.at < count {
+            return Err(Fault::Truncated);
+        }
+        let passed = &self.bytes[self.at..self.at + count];
+        self.at += count;
+        self.room = self.room.saturating_sub(count);
+        Ok(passed)
+    }
+
+    /// The next byte, which stays; 0 where there is none.
+    pub(crate) fn next_byte(&self) -> u8
+        ensures { result ≡ next_byte self.now }
+    {
+        if self.at < self.bytes.len() {
+            self.bytes[self.at]
+        } else {
+            0
+        }
     }
 }

@@ -1,15 +1,22 @@
 //! The marker segments of a codestream.
 #![tactic(auto)]
 
+mod coding;
+mod coding_segments;
 mod cursor;
+mod head;
 mod main_header;
 pub mod marker;
+mod quantisation_segments;
 mod segments;
 mod siz;
+mod siz_segment;
 mod tile_part;
 mod write;
 
+pub use coding::Coding;
 pub use cursor::Cursor;
+pub use head::{Heading, TileHead};
 pub use main_header::{Main, read_main};
 pub use segments::{Cod, CodingStyle, Exponents, Order, Precincts, Quantisation};
 pub use siz::Siz;

@@ -1,16 +1,18 @@
 //! The main header.
 
 ghost use Rattle.std.specs.Prelude.{◌≡◌, ◌≤◌, List, length, IfOk, Ok};
-ghost use Rattle.jk_marks.specs.Codestream.{main_of, main_text, page_siz, page_segments, IsMain, BeginsMain};
+ghost use Rattle.jk_marks.specs.Codestream.{main_of, main_with, main_text, IsMain, BeginsMain};
 ghost use Rattle.jk_marks.specs.Segments.{Segment};
 ghost use Rattle.jk_marks.specs.declared.siz.Siz.{Siz};
-ghost use Rattle.jk_marks.specs.Siz.{tile_count};
-ghost use Rattle.jk_marks.specs.Reading.{main_at, is_side};
+ghost use Rattle.jk_marks.specs.Siz.{IsSiz};
+ghost use Rattle.jk_marks.specs.HeaderReading.{main_at, main_from};
 
 use crate::cursor::Cursor;
+use crate::head::{Heading, TileHead, read_segments};
 use crate::marker;
-use crate::segments::{Cod, CodingStyle, Exponents, Order, Precincts, Quantisation};
+use crate::segments::{Cod, CodingStyle, Quantisation};
 use crate::siz::Siz;
+use crate::siz_segment::read_siz;
 use jk_math::Fault;
 
 /// The main header of a codestream (T.800 A.3).
@@ -19,70 +21,39 @@ pub struct Main {
     pub siz: Siz,
     pub cod: Cod,
     pub qcd: Quantisation,
+    /// The coding style of the components that have their own.
+    pub coc: [Option<CodingStyle>; 4],
+    /// The quantization of the components that have their own.
+    pub qcc: [Option<Quantisation>; 4],
 }
 
-/// SOC, SIZ, Lsiz and Rsiz of a page.
-static PAGE_FRONT: [u8; 8] = [0xFF, 0x4F, 0xFF, 0x51, 0, 41, 0, 0];
-
-/// XOsiz and YOsiz of a page, and XTOsiz and YTOsiz.
-static PAGE_ORIGIN: [u8; 8] = [0; 8];
-
-/// Csiz and the component, COD and QCD of a page.
-static PAGE_CODING: [u8; 25] = [
-    0, 1, 7, 1, 1, 0xFF, 0x52, 0, 12, 0, 0, 0, 1, 0, 0, 4, 4, 0, 1, 0xFF, 0x5C, 0, 4, 64, 64,
-];
-
-/// The main header of a page of this size.
-fn page(width: u32, height: u32) -> Main
-    ensures { result ≡ main_of (page_siz width height) page_segments }
+/// The main header of what SIZ and the other segments say; COD and QCD must be among them.
+#[tactic(auto, unfolding(crate::specs::HeaderReading::main_from))]
+fn main_from(siz: Siz, head: TileHead) -> Result<Main, Fault>
+    ensures { result ≡ main_from siz head }
 {
-    Main {
-        siz: Siz {
-            rsiz: 0,
-            x1: width,
-            y1: height,
-            x0: 0,
-            y0: 0,
-            tile_width: width,
-            tile_height: height,
-            tile_x0: 0,
-            tile_y0: 0,
-            components: 1,
-            depth: 8,
-            signed: false,
-        },
-        cod: Cod {
-            sop: false,
-            eph: false,
-            order: Order::Lrcp,
-            layers: 1,
-            colour: false,
-            style: CodingStyle {
-                levels: 0,
-                xcb: 6,
-                ycb: 6,
-                style: 0,
-                precincts: Precincts::none(),
-            },
-        },
-        qcd: Quantisation {
-            guard: 2,
-            exponents: Exponents::new(&[8]),
-        },
-    }
-}
-
-/// Whether a page may have a side of this length.
-fn is_page_side(side: u32) -> bool
-    ensures { result ≡ is_side side }
-{
-    0 < side && side <= 32768
+    let TileHead { cod, qcd, coc, qcc } = head;
+    let Some(cod) = cod else {
+        return Err(Fault::BadMarker);
+    };
+    let Some(qcd) = qcd else {
+        return Err(Fault::BadMarker);
+    };
+    Ok(Main {
+        siz,
+        cod,
+        qcd,
+        coc,
+        qcc,
+    })
 }
 
 /// The main header that begins a codestream, and its length (T.800 A.3). SOT follows it.
 ///
-/// NotYet: anything but the main header of a page, one unsigned component of 8 bits with its upper left
-/// corner at (0, 0), sides of at most 32768, one tile, no decomposition level and one layer.
+/// Truncated: the bytes end before SOT. BadMarker: a marker that may not stand here or stands here twice,
+/// or no COD or QCD. BadLength: a segment's length that its fields contradict. BadValue: a field's value that
+/// T.800 doesn't allow. Unsupported: what T.800 allows and is left out here. Limit: more samples, larger
+/// coordinates or more decomposition levels than are read.
 pub fn read_main(bytes: &[u8]) -> Result<(Main, usize), Fault>
     ensures exact { result ≡ main_at bytes.now }
     // What is read is spelled so.
@@ -92,45 +63,29 @@ pub fn read_main(bytes: &[u8]) -> Result<(Main, usize), Fault>
     ensures only { (siz : Siz) (segments : List Segment) → IsMain siz segments → BeginsMain bytes.now siz segments
         → result ≡ Ok (main_of siz segments, length (main_text siz segments)) }
     ensures within { IfOk result (λ m. m.1 ≤ length bytes.now) }
-    ensures one_tile { IfOk result (λ m. tile_count m.0.siz ≡ 1) }
+    ensures siz { IfOk result (λ m. IsSiz m.0.siz) }
 {
     main_header(bytes)
 }
 
-#[tactic(auto, unfolding(crate::specs::Reading::main_at))]
+#[tactic(auto, unfolding(crate::specs::HeaderReading::main_at))]
 fn main_header(bytes: &[u8]) -> Result<(Main, usize), Fault>
     ensures { result ≡ main_at bytes.now }
 {
-    if bytes.len() < 65 {
-        return Err(Fault::NotYet);
-    }
     let mut cursor = Cursor::new(bytes, 0);
-    cursor.expect(&PAGE_FRONT)?;
-    let x1 = cursor.four_bytes()?;
-    let y1 = cursor.four_bytes()?;
-    cursor.expect(&PAGE_ORIGIN)?;
-    let width = cursor.four_bytes()?;
-    let height = cursor.four_bytes()?;
-    cursor.expect(&PAGE_ORIGIN)?;
-    cursor.expect(&PAGE_CODING)?;
-    if width != x1 {
-        return Err(Fault::NotYet);
+    if cursor.two_bytes()? != marker::SOC {
+        return Err(Fault::BadMarker);
     }
-    if height != y1 {
-        return Err(Fault::NotYet);
+    if cursor.two_bytes()? != marker::SIZ {
+        return Err(Fault::BadMarker);
     }
-    if !is_page_side(x1) {
-        return Err(Fault::NotYet);
-    }
-    if !is_page_side(y1) {
-        return Err(Fault::NotYet);
-    }
-    if x1 as u64 * y1 as u64 > 1 << 28 {
-        return Err(Fault::NotYet);
-    }
-    let length = cursor.at();
-    if cursor.two_bytes()? != marker::SOT {
-        return Err(Fault::NotYet);
-    }
-    Ok((page(x1, y1), length))
+    let siz = read_siz(&mut cursor)?;
+    let head = read_segments(
+        &mut cursor,
+        Heading::MainHeader,
+        siz.components,
+        marker::SOT,
+    )?;
+    let main = main_from(siz, head)?;
+    Ok((main, cursor.at() - 2))
 }

@@ -1,8 +1,10 @@
 //! The coding style and quantization segments.
 
-ghost use Rattle.std.specs.Prelude.{◌≡◌, ◌≤◌, ◌<◌, ◌++◌, [], length, ◌*◌, ◌↔◌, map, All, IsTrue, OnOk, IfErr};
+ghost use Rattle.std.specs.Prelude.{◌≡◌, ◌≤◌, ◌<◌, ◌++◌, [], length, ◌+◌, ◌*◌, ◌/◌, ◌↔◌, map, take, replicate, All, IsTrue, OnOk, IfErr, ◌∷◌};
+ghost use Rattle.std.specs.List.{AllByRecursion};
 ghost use Rattle.jk_marks.specs.Precincts.{precinct_byte};
-ghost use Rattle.jk_marks.specs.OrderCode.{order_code};
+ghost use Rattle.jk_marks.specs.Exponents.{exponents_of};
+ghost use Rattle.jk_marks.specs.OrderCode.{order_code, order_with};
 
 use jk_math::Fault;
 use std::marker::Model;
@@ -23,6 +25,19 @@ pub enum Order {
 }
 
 impl Order {
+    /// The order of a number, which is at most 4.
+    pub(crate) fn with_code(code: u8) -> Order
+        ensures { result ≡ order_with code }
+    {
+        match code {
+            0 => Order::Lrcp,
+            1 => Order::Rlcp,
+            2 => Order::Rpcl,
+            3 => Order::Pcrl,
+            _ => Order::Cprl,
+        }
+    }
+
     /// The number of the order in COD.
     pub(crate) fn code(self) -> u8
         ensures { result ≡ order_code self }
@@ -66,6 +81,49 @@ impl Precincts {
         }
     }
 
+    /// These pairs.
+    pub fn new(precincts: &[(u8, u8)]) -> Precincts
+        requires { length precincts.now ≤ 11 }
+        ensures { result ≡ precincts.now }
+    {
+        let mut all = [(0, 0); 11];
+        all[..precincts.len()].copy_from_slice(precincts);
+        Precincts {
+            count: precincts.len(),
+            exponents: all,
+        }
+    }
+
+    /// The greatest precincts for `count` resolutions.
+    pub fn greatest(count: usize) -> Precincts
+        requires { count ≤ 11 }
+        ensures { result ≡ replicate count (15, 15) }
+    {
+        Precincts {
+            count,
+            exponents: [(15, 15); 11],
+        }
+    }
+
+    /// One pair more.
+    pub(crate) fn push(&mut self, width: u8, height: u8)
+        requires { length self.old < 11 }
+        ensures { self.new ≡ self.old ++ (width, height) ∷ [] }
+    {
+        self.exponents[self.count] = (width, height);
+        self.count += 1;
+    }
+
+    /// The same precinct sizes.
+    pub fn copy(&self) -> Precincts
+        ensures { result ≡ self.now }
+    {
+        Precincts {
+            count: self.count,
+            exponents: self.exponents,
+        }
+    }
+
     /// The pairs.
     pub fn as_slice(&self) -> &[(u8, u8)]
         ensures { result.now ≡ self.now }
@@ -75,7 +133,7 @@ impl Precincts {
 
     /// Appends a byte for each pair: PPx in the low half, PPy in the high half.
     pub(crate) fn put(&self, out: &mut Vec<u8>) -> Result<(), Fault>
-        requires { All (λ p. (p.0 < 16) × (p.1 < 16)) self.now }
+        requires { AllByRecursion (λ p. (p.0 < 16) × (p.1 < 16)) self.now }
         ensures ok { OnOk result (out.new.items ≡ out.old.items ++ map precinct_byte self.now) }
         ensures err { IfErr result (λ e. e ≡ Fault.Memory) }
     {
@@ -85,7 +143,7 @@ impl Precincts {
 
 /// Appends a byte for each pair of exponents.
 fn put_precincts(out: &mut Vec<u8>, precincts: &[(u8, u8)]) -> Result<(), Fault>
-    requires { All (λ p. (p.0 < 16) × (p.1 < 16)) precincts.now }
+    requires { AllByRecursion (λ p. (p.0 < 16) × (p.1 < 16)) precincts.now }
     ensures ok { OnOk result (out.new.items ≡ out.old.items ++ map precinct_byte precincts.now) }
     ensures err { IfErr result (λ e. e ≡ Fault.Memory) }
 {
@@ -124,6 +182,51 @@ impl Exponents {
         Exponents {
             count: exponents.len(),
             exponents: all,
+        }
+    }
+
+    /// The exponents of these bytes, 31 of them at most: each stands in the high five bits.
+    pub(crate) fn of_bytes(bytes: &[u8]) -> Exponents
+        ensures { result ≡ exponents_of bytes.now }
+    {
+        let mut exponents = Exponents::new(&[]);
+        exponents.push_bytes(&bytes[..bytes.len().min(31)]);
+        exponents
+    }
+
+    /// The exponents of these bytes more.
+    fn push_bytes(&mut self, bytes: &[u8])
+        requires { length self.old + length bytes.now ≤ 31 }
+        ensures { self.new ≡ self.old ++ map (λ b. b / 8) bytes.now }
+    {
+        for byte in bytes {
+            self.push(byte / 8);
+        }
+    }
+
+    /// One exponent more.
+    pub(crate) fn push(&mut self, exponent: u8)
+        requires { length self.old < 31 }
+        ensures { self.new ≡ self.old ++ exponent ∷ [] }
+    {
+        self.exponents[self.count] = exponent;
+        self.count += 1;
+    }
+
+    /// The exponents.
+    pub fn as_slice(&self) -> &[u8]
+        ensures { result.now ≡ self.now }
+    {
+        &self.exponents[..self.count]
+    }
+
+    /// The first `count` exponents, or all where there are fewer.
+    pub fn front(&self, count: usize) -> Exponents
+        ensures { result ≡ take count self.now }
+    {
+        Exponents {
+            count: self.count.min(count),
+            exponents: self.exponents,
         }
     }
 

@@ -1,12 +1,12 @@
 //! Writing the marker segments.
 
 ghost use Rattle.std.specs.Prelude.{◌≡◌, ◌+◌, ◌*◌, ◌≤◌, ◌<◌, ◌^◌, ◌++◌, ◌∷◌, [], List, length, OnOk, OnErr, IfErr, replicate, Err, ◌⊎◌, ◌↔◌};
-ghost use Rattle.std.specs.List.{concat, flat_map};
+ghost use Rattle.std.specs.List.{concat, flat_map, AllByRecursion};
 ghost use Rattle.byteorder.specs.Endian.{big_bytes};
 ghost use Rattle.jk_marks.specs.Markers.{marker_text, eoc};
 ghost use Rattle.jk_marks.specs.Siz.{siz_text, component_text, IsSiz};
-ghost use Rattle.jk_marks.specs.Segments.{segment_text, scod, bit_of, style_text, CodSegment, QcdSegment, steps_of, IsStyle, IsQuantisation};
-ghost use Rattle.jk_marks.specs.Codestream.{main_text, segments_of, part_text, only_part_of, IsWritten};
+ghost use Rattle.jk_marks.specs.Segments.{segment_text, given_bit, scod, bit_of, style_text, CodSegment, CocSegment, QcdSegment, written_steps, IsStyle, IsQuantisation};
+ghost use Rattle.jk_marks.specs.Codestream.{main_text, own_style, own_steps, own_segments, given_for, segments_of, part_text, only_part_of, ForGiven, IsWritten};
 
 use crate::main_header::Main;
 use crate::marker;
@@ -91,16 +91,22 @@ fn bit(value: bool) -> u8
     if value { 1 } else { 0 }
 }
 
+/// Whether precinct sizes are given, as a bit of Scod and Scoc.
+fn given_bit(style: &CodingStyle) -> u8
+    ensures { result ≡ given_bit style.now.precincts }
+{
+    if style.precincts.as_slice().is_empty() {
+        0
+    } else {
+        1
+    }
+}
+
 /// Scod.
 fn coding_flags(cod: &Cod) -> u8
     ensures { result ≡ scod cod.now }
 {
-    let given = if cod.style.precincts.as_slice().is_empty() {
-        0
-    } else {
-        1
-    };
-    given + 2 * bit(cod.sop) + 4 * bit(cod.eph)
+    given_bit(&cod.style) + 2 * bit(cod.sop) + 4 * bit(cod.eph)
 }
 
 /// The coding style default segment, its marker first (T.800 A.6.1).
@@ -119,10 +125,10 @@ fn put_cod(out: &mut Vec<u8>, cod: &Cod) -> Result<(), Fault>
 }
 
 /// The quantization default segment, its marker first (T.800 A.6.4).
-#[tactic(auto, unfolding(crate::specs::Segments::segment_text, crate::specs::Segments::contents))]
+#[tactic(auto, unfolding(crate::specs::Segments::segment_body, crate::specs::Segments::contents))]
 fn put_qcd(out: &mut Vec<u8>, qcd: &Quantisation) -> Result<(), Fault>
     requires { IsQuantisation qcd.now }
-    ensures ok { OnOk result (out.new.items ≡ out.old.items ++ segment_text (QcdSegment (steps_of qcd.now))) }
+    ensures ok { OnOk result (out.new.items ≡ out.old.items ++ segment_text (QcdSegment (written_steps qcd.now))) }
     ensures err { IfErr result (λ e. e ≡ Fault.Memory) }
 {
     put_two(out, marker::QCD)?;
@@ -131,7 +137,91 @@ fn put_qcd(out: &mut Vec<u8>, qcd: &Quantisation) -> Result<(), Fault>
     qcd.exponents.put(out)
 }
 
-/// Appends a main header: SOC, SIZ, COD and QCD (T.800 A.3). After Memory a part of it may stand.
+/// The coding style segment of a component, its marker first (T.800 A.6.2).
+fn put_coc(out: &mut Vec<u8>, component: u8, style: &CodingStyle) -> Result<(), Fault>
+    requires { IsStyle style.now }
+    ensures ok { OnOk result (out.new.items ≡ out.old.items ++ segment_text (CocSegment component style.now)) }
+    ensures err { IfErr result (λ e. e ≡ Fault.Memory) }
+{
+    put_two(out, marker::COC)?;
+    put_two(out, 9 + style.precincts.as_slice().len() as u16)?;
+    out.extend_from_slice(&[component, given_bit(style)])?;
+    put_style(out, style)?;
+    Ok(())
+}
+
+/// The same of a component that has its own.
+fn put_own_style(out: &mut Vec<u8>, component: u8, style: &Option<CodingStyle>) -> Result<(), Fault>
+    requires { ForGiven IsStyle style.now }
+    ensures ok { OnOk result (out.new.items ≡ out.old.items ++ flat_map segment_text (own_style component style.now)) }
+    ensures err { IfErr result (λ e. e ≡ Fault.Memory) }
+{
+    match style {
+        Some(style) => put_coc(out, component, style),
+        None => Ok(()),
+    }
+}
+
+/// The quantization segment of a component, its marker first (T.800 A.6.5), if it has its own.
+#[tactic(auto, unfolding(crate::specs::Segments::segment_body, crate::specs::Segments::contents))]
+fn put_own_steps(
+    out: &mut Vec<u8>,
+    component: u8,
+    steps: &Option<Quantisation>,
+) -> Result<(), Fault>
+    requires { ForGiven IsQuantisation steps.now }
+    ensures ok { OnOk result (out.new.items ≡ out.old.items ++ flat_map segment_text (own_steps component steps.now)) }
+    ensures err { IfErr result (λ e. e ≡ Fault.Memory) }
+{
+    let Some(steps) = steps else {
+        return Ok(());
+    };
+    put_two(out, marker::QCC)?;
+    put_two(out, 4 + steps.exponents.len() as u16)?;
+    out.extend_from_slice(&[component, 32 * steps.guard])?;
+    steps.exponents.put(out)
+}
+
+/// The coding style of a component in a main header, if it has its own.
+fn put_style_of(out: &mut Vec<u8>, component: u8, main: &Main) -> Result<(), Fault>
+    requires component { component < 4 }
+    requires styles { AllByRecursion (ForGiven IsStyle) main.now.coc }
+    ensures ok { OnOk result (out.new.items ≡ out.old.items ++ flat_map segment_text (own_style component (given_for main.now.coc component))) }
+    ensures err { IfErr result (λ e. e ≡ Fault.Memory) }
+{
+    put_own_style(out, component, &main.coc[component as usize])
+}
+
+/// The quantization of a component in a main header, if it has its own.
+fn put_steps_of(out: &mut Vec<u8>, component: u8, main: &Main) -> Result<(), Fault>
+    requires component { component < 4 }
+    requires steps { AllByRecursion (ForGiven IsQuantisation) main.now.qcc }
+    ensures ok { OnOk result (out.new.items ≡ out.old.items ++ flat_map segment_text (own_steps component (given_for main.now.qcc component))) }
+    ensures err { IfErr result (λ e. e ≡ Fault.Memory) }
+{
+    put_own_steps(out, component, &main.qcc[component as usize])
+}
+
+/// The segments of the components that have their own.
+fn put_own(out: &mut Vec<u8>, main: &Main) -> Result<(), Fault>
+    requires styles { AllByRecursion (ForGiven IsStyle) main.now.coc }
+    requires steps { AllByRecursion (ForGiven IsQuantisation) main.now.qcc }
+    ensures ok { OnOk result (out.new.items ≡ out.old.items ++ flat_map segment_text (own_segments main.now)) }
+    ensures err { IfErr result (λ e. e ≡ Fault.Memory) }
+{
+    put_style_of(out, 0, main)?;
+    put_style_of(out, 1, main)?;
+    put_style_of(out, 2, main)?;
+    put_style_of(out, 3, main)?;
+    put_steps_of(out, 0, main)?;
+    put_steps_of(out, 1, main)?;
+    put_steps_of(out, 2, main)?;
+    put_steps_of(out, 3, main)?;
+    Ok(())
+}
+
+/// Appends a main header: SOC, SIZ, COD, QCD, and the COC and QCC that are given (T.800 A.3). After Memory a
+/// part of it may stand.
 #[tactic(auto, unfolding(crate::specs::Codestream::main_text))]
 pub fn write_main(main: &Main, out: &mut Vec<u8>) -> Result<(), Fault>
     requires { IsWritten main.now }
@@ -141,7 +231,8 @@ pub fn write_main(main: &Main, out: &mut Vec<u8>) -> Result<(), Fault>
     put_two(out, marker::SOC)?;
     put_siz(out, &main.siz)?;
     put_cod(out, &main.cod)?;
-    put_qcd(out, &main.qcd)
+    put_qcd(out, &main.qcd)?;
+    put_own(out, main)
 }
 
 /// Appends a tile's only tile-part with these data (T.800 A.4.2). After Memory a part of it may stand.

@@ -23,6 +23,11 @@ abbrev pub Answers : {X Y : Type 0} → (X → Y) → Result X Fault → Result 
 Answers view (Ok x) due = due ≡ Ok (view x)
 Answers view (Err e) due = Refuses e due
 
+-- A call that takes no memory answers what is due, its value seen by view.
+abbrev pub AnswersExactly : {X Y : Type 0} → (X → Y) → Result X Fault → Result Y Fault → Type 0
+AnswersExactly view (Ok x) due = due ≡ Ok (view x)
+AnswersExactly view (Err e) due = due ≡ Err e
+
 -- A reader moves from old to new with a value, or the fault is due at old. It takes no memory.
 abbrev pub Reads : {S A : Type 0} → (S → Result (A × S) Fault) → S → S → Result A Fault → Type 0
 Reads read old new (Ok x) = read old ≡ Ok (x, new)

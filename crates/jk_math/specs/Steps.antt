@@ -3,7 +3,7 @@ use Rattle.std.specs.Prelude.{◌≡◌, Bool, true, false, cond, Result, Ok, Er
 use Rattle.std.proofs.Common.{◌⊎◌, inl, inr, subst, sym}
 use Rattle.jk_math.specs.declared.fault.Fault.{Fault}
 use Rattle.jk_math.specs.declared.fault.Fault.TheVariants.{Memory}
-use Rattle.jk_math.specs.Answer.{◌>>=◌, refuse, Refuses, Answers}
+use Rattle.jk_math.specs.Answer.{◌>>=◌, refuse, Refuses, Answers, AnswersExactly}
 
 -- goes on with the value of a step that did not fail
 pub bind_then : {A B C : Type 0} (r : Result A Fault) (f : A → Result B Fault) (y : B) → (r >>= f) ≡ Ok y → ((x : A) → r ≡ Ok x → f x ≡ Ok y → C) → C
@@ -50,6 +50,14 @@ if_ok_answers view (Err d) due P a h = tt
 -- an answer to what is due is an answer to what that equals
 pub answers_same : {X Y : Type 0} (view : X → Y) (r : Result X Fault) (due again : Result Y Fault) → Answers view r due → due ≡ again → Answers view r again
 answers_same {X} {Y} view r due again a e = subst (λ (d : Result Y Fault). Answers view r d) e a
+
+-- the same where the answer is exactly that of a function
+pub if_ok_exactly : {X Y : Type 0} (view : X → Y) (r : Result X Fault) (due : Result Y Fault) (P : X → Type 0) → AnswersExactly view r due → ((x : X) → due ≡ Ok (view x) → P x) → IfOk r P
+if_ok_exactly view (Ok x) due P a h = h x a
+if_ok_exactly view (Err d) due P a h = tt
+
+pub exactly_same : {X Y : Type 0} (view : X → Y) (r : Result X Fault) (due again : Result Y Fault) → AnswersExactly view r due → due ≡ again → AnswersExactly view r again
+exactly_same {X} {Y} view r due again a e = subst (λ (d : Result Y Fault). AnswersExactly view r d) e a
 
 -- a fault that is due is refused
 pub refuses_due : {A : Type 0} (e : Fault) (due : Result A Fault) → due ≡ Err e → Refuses e due

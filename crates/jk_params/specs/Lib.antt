@@ -2,6 +2,8 @@ pub use Rattle.jk_math.specs.Answer
 pub use Rattle.jk_math.specs.Picture
 pub use Rattle.jk_marks.specs.Siz
 pub use Rattle.jk_marks.specs.Codestream
+pub mod Coding
+pub mod Page
 pub mod Headers
 pub mod HeadersReading
 pub mod Tiling

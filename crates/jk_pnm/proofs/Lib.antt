@@ -1,4 +1,9 @@
+pub mod HeaderSteps
+pub mod GapLaws
 pub mod NumberLaws
-pub mod PageLaws
-pub mod PgmLaws
+pub mod PlaneLaws
+pub mod PictureLaws
+pub mod FileLaws
+pub mod RasterLaws
 pub mod WrittenLaws
+pub mod Examples

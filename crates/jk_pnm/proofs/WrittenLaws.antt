@@ -1,65 +1,101 @@
--- What is written is a PGM file of the picture.
-use Rattle.std.proofs.Common.{◌≡◌, ℕ, ◌*◌, ◌<◌, Bool, true, false, not, ◌&&◌, eqb, List, [], ◌∷◌, length, map, get_or, All, ℤ, pos, negsuc, ◌≤ℤ◌, refl, sym, ap, subst, ◌∙◌, arith}
-use Rattle.std.proofs.lemmas.Bool.{eqb-true, and_parts, not-true}
-use Rattle.std.proofs.lemmas.Int.{ints}
-use Rattle.std.proofs.lemmas.List.{length-map}
-use Rattle.std.proofs.lemmas.List.Elements.{All-head, All-tail}
-use Rattle.jk_math.specs.Picture.{Picture, IsPicture, IsPlane, lowest, greatest}
-use Rattle.jk_pnm.specs.Pnm.{pgm_text, IsPgm, sample_byte, raster_of, is_pgm}
+-- What is written is a PNM file of the picture.
+use Rattle.std.proofs.Common.{◌≡◌, ℕ, ◌+◌, ◌*◌, ◌^◌, ◌≤◌, Bool, true, false, not, ◌||◌, eqb, List, [], ◌∷◌, length, map, All, ℤ, pos, refl, sym, ap, subst, ◌∙◌, append_assoc, inl, inr, arith, lit<}
+use Rattle.std.specs.List.{range_with_len, AllByRecursion}
+use Rattle.std.specs.Fmt.{decimal}
+use Rattle.std.proofs.Math.Nat.{pow-le-pow_right}
+use Rattle.std.proofs.lemmas.Bool.{eqb-true, and_parts, not-true, or_cases}
+use Rattle.jk_math.specs.Picture.{Picture, IsPicture, IsPlane}
+use Rattle.jk_pnm.specs.Pnm.{Space, number_of, Text, pnm_text, components_of, sample_size, plane_from, planes_from, IsPnm}
+use Rattle.jk_pnm.specs.Written.{is_written, maxval_of, raster_text, file_text}
+use Rattle.jk_pnm.proofs.NumberLaws.{decimal_value, decimal_number}
+use Rattle.jk_pnm.proofs.PictureLaws.{planes_below}
+use Rattle.jk_pnm.proofs.FileLaws.{below_told}
+use Rattle.jk_pnm.proofs.RasterLaws.{raster_length, planes_back}
 
-one_plane : (planes : List (List ℤ)) → eqb (length planes) 1 ≡ true → planes ≡ get_or planes 0 [] ∷ []
-one_plane [] e = absurd (omega (arith, eqb-true 0 1 e))
-one_plane (x ∷ []) e = refl
-one_plane (x ∷ y ∷ zs) e = absurd (omega (arith, eqb-true (length (x ∷ y ∷ zs)) 1 e))
+-- what the test of a picture says
+written_parts : (p : Picture) → is_written p ≡ true → (p.signed ≡ false) × (components_of (eqb (length p.planes) 3) ≡ length p.planes)
+written_parts p e =
+    let both = and_parts (not p.signed) (eqb (length p.planes) 1 || eqb (length p.planes) 3) e in (
+      not-true p.signed both.0,
+      elim (or_cases (eqb (length p.planes) 1) (eqb (length p.planes) 3) both.1) [
+        | inl one ↦ let n = eqb-true (length p.planes) 1 one in ap (λ (k : ℕ). components_of (eqb k 3)) n ∙ sym n
+        | inr three ↦ ap components_of three ∙ sym (eqb-true (length p.planes) 3 three)
+      ],
+    )
 
-abbrev IsByte : ℤ → Type 0
-IsByte s = (lowest 8 false ≤ℤ s) × (s ≤ℤ greatest 8 false)
+-- what the file of a picture says
+told_of : Picture → Text
+told_of p = record {
+  colour = eqb (length p.planes) 3;
+  before_width = Space 10 ∷ [];
+  width = decimal p.width;
+  before_height = Space 32 ∷ [];
+  height = decimal p.height;
+  before_maxval = Space 10 ∷ [];
+  maxval = decimal (maxval_of p.depth);
+  space = 10;
+  raster = raster_text (maxval_of p.depth) p.planes (p.width * p.height);
+}
 
-sample_back : (s : ℤ) → IsByte s → pos (sample_byte s) ≡ s
-sample_back (pos n) h = refl
-sample_back (negsuc n) h = absurd (omega (arith, ints, h.0))
+told_text : (p : Picture) → file_text p ≡ pnm_text (told_of p)
+unfolding file_text pnm_text told_of
+told_text p = simp append_assoc
 
-bytes_back : (plane : List ℤ) → All IsByte plane → map pos (map sample_byte plane) ≡ plane
-bytes_back [] h = refl
-bytes_back (s ∷ plane) h =
-    let first = sample_back s (All-head IsByte s plane h) in
-    let others = bytes_back plane (All-tail IsByte s plane h) in
-    ap (λ (x : ℤ). x ∷ map pos (map sample_byte plane)) first ∙ ap (λ (xs : List ℤ). s ∷ xs) others
+-- the planes of a picture are those of its raster, and no sample is above maxval
+raster_below : (m depth pixels : ℕ) (planes : List (List ℤ)) → 2 ^ depth ≡ m + 1 → All (IsPlane pixels depth false) planes → AllByRecursion (AllByRecursion (λ s. s ≤ m)) (planes_from m (length planes) pixels (raster_text m planes pixels))
+unfolding planes_from
+raster_below m depth pixels planes bits each =
+    let n : ℕ = length planes in
+    let r : List ℕ = raster_text m planes pixels in
+    let back : planes ≡ map (map pos) (map (plane_from m n pixels r) (range_with_len 0 n)) = planes_back m depth planes pixels each in
+    below_told m (map (plane_from m n pixels r) (range_with_len 0 n)) (planes_below m n pixels depth r (range_with_len 0 n) bits (subst (λ (ps : List (List ℤ)). All (IsPlane pixels depth false) ps) back each))
 
--- what the test of a page says
-page_parts : (p : Picture) → is_pgm p ≡ true → (p.planes ≡ get_or p.planes 0 [] ∷ []) × (p.depth ≡ 8) × (p.signed ≡ false)
-page_parts p e =
-    let a = and_parts (eqb (length p.planes) 1 && eqb p.depth 8) (not p.signed) e in
-    let b = and_parts (eqb (length p.planes) 1) (eqb p.depth 8) a.0 in
-    (one_plane p.planes b.0, eqb-true p.depth 8 b.1, not-true p.signed a.1)
-
-placed_is : (p : Picture) (depth : ℕ) (signed : Bool) (planes : List (List ℤ)) → p.depth ≡ depth → p.signed ≡ signed → p.planes ≡ planes
-    → record p { x0 = 0; y0 = 0 } ≡ record p { x0 = 0; y0 = 0; depth = depth; signed = signed; planes = planes }
-placed_is p depth signed planes d s e =
-    ap (λ (k : ℕ). record p { x0 = 0; y0 = 0; depth = k }) d
-    ∙ ap (λ (b : Bool). record p { x0 = 0; y0 = 0; depth = depth; signed = b }) s
-    ∙ ap (λ (q : List (List ℤ)). record p { x0 = 0; y0 = 0; depth = depth; signed = signed; planes = q }) e
-
-pub plane_is : (p : Picture) → IsPicture p → is_pgm p ≡ true → IsPlane (p.width * p.height) 8 false (get_or p.planes 0 [])
-plane_is p is page =
-    let parts = page_parts p page in
-    let one : 0 < length p.planes = omega (arith, is.components.some) in
-    let plane = is.components.each 0 [] one in
-    subst (λ k. IsPlane (p.width * p.height) k false (get_or p.planes 0 [])) parts.1 (subst (λ (b : Bool). IsPlane (p.width * p.height) p.depth b (get_or p.planes 0 [])) parts.2 plane)
-
-pub written_is_pgm : (bytes : List ℕ) (p : Picture) → IsPicture p → is_pgm p ≡ true → bytes ≡ pgm_text p.width p.height (raster_of p) → IsPgm bytes (record p { x0 = 0; y0 = 0 })
-written_is_pgm bytes p is page text =
-    let parts = page_parts p page in
-    let plane = plane_is p is page in
-    let back = bytes_back (get_or p.planes 0 []) plane.range in
-    let planes-is : p.planes ≡ map pos (raster_of p) ∷ [] = parts.0 ∙ ap (λ (x : List ℤ). x ∷ []) (sym back) in
-    let frame = is.frame in
+pub written_means : (p : Picture) (bytes : List ℕ) → IsPicture p → is_written p ≡ true → bytes ≡ file_text p → IsPnm bytes (record p { x0 = 0; y0 = 0 })
+unfolding told_of
+written_means p bytes is written text =
+    let parts = written_parts p written in
+    let m : ℕ = maxval_of p.depth in
+    let pixels : ℕ = p.width * p.height in
+    let n : ℕ = length p.planes in
+    let r : List ℕ = raster_text m p.planes pixels in
+    let low : 2 ^ 1 ≤ 2 ^ p.depth = pow-le-pow_right {n = 2} (lit< tt) is.components.some_bits in
+    let high : 2 ^ p.depth ≤ 2 ^ 16 = pow-le-pow_right {n = 2} (lit< tt) is.components.few_bits in
+    let bits : 2 ^ p.depth ≡ m + 1 = omega (arith, low) in
+    let m-value : number_of (decimal m) ≡ m = decimal_value m (omega (arith, high)) in
+    let w-value : number_of (decimal p.width) ≡ p.width = decimal_value p.width (omega (arith, is.frame.right)) in
+    let h-value : number_of (decimal p.height) ≡ p.height = decimal_value p.height (omega (arith, is.frame.lower)) in
+    let each : All (IsPlane pixels p.depth false) p.planes = subst (λ (b : Bool). All (IsPlane pixels p.depth b) p.planes) parts.0 is.components.each in
+    let back : p.planes ≡ map (map pos) (planes_from m n pixels r) = planes_back m p.depth p.planes pixels each in
+    let named : planes_from m n pixels r ≡ planes_from (number_of (decimal m)) (components_of (eqb n 3)) pixels r =
+    ap (λ (k : ℕ). planes_from k n pixels r) (sym m-value) ∙ ap (λ (k : ℕ). planes_from (number_of (decimal m)) k pixels r) (sym parts.1) in
+    let length-is : length r ≡ pixels * (n * sample_size m) = raster_length m p.planes pixels in
+    let shape : pixels * (n * sample_size m) ≡ pixels * n * sample_size m = omega arith in
+    let size-is : pixels * n * sample_size m ≡ pixels * components_of (eqb n 3) * sample_size (number_of (decimal m)) =
+    ap (λ (k : ℕ). pixels * k * sample_size m) (sym parts.1) ∙ ap (λ (k : ℕ). pixels * components_of (eqb n 3) * sample_size k) (sym m-value) in
+    let below = raster_below m p.depth pixels p.planes bits each in
     record {
-      raster = raster_of p;
-      picture = placed_is p 8 false (map pos (raster_of p) ∷ []) parts.1 parts.2 planes-is;
-      text = text;
-      wide = frame.wide;
-      high = frame.high;
-      area = frame.area;
-      whole = simp length-map plane.count;
+      told = told_of p;
+      text = text ∙ told_text p;
+      rules = record {
+        before_width = record { some = omega arith; each = (refl, tt) };
+        width = decimal_number p.width is.frame.wide (omega (arith, is.frame.right));
+        before_height = record { some = omega arith; each = (refl, tt) };
+        height = decimal_number p.height is.frame.high (omega (arith, is.frame.lower));
+        before_maxval = record { some = omega arith; each = (refl, tt) };
+        maxval = decimal_number m (omega (arith, low)) (omega (arith, high));
+        space = refl;
+      };
+      shows = record {
+        corner = (refl, refl);
+        width = sym w-value;
+        height = sym h-value;
+        area = is.frame.area;
+        depth = omega (arith, bits, m-value);
+        few_bits = (is.components.some_bits, is.components.few_bits);
+        unsigned = parts.0;
+        whole = length-is ∙ shape ∙ size-is;
+        planes = back ∙ ap (λ (ps : List (List ℕ)). map (map pos) ps) named;
+        below = subst (λ (k : ℕ). AllByRecursion (AllByRecursion (λ s. s ≤ k)) (planes_from (number_of (decimal m)) (components_of (eqb n 3)) pixels r)) (sym m-value)
+            (subst (λ (ps : List (List ℕ)). AllByRecursion (AllByRecursion (λ s. s ≤ m)) ps) named below);
+      };
     }

@@ -1,52 +1,119 @@
--- PGM files in the form in which they are written: the magic number, LF, width, space, height, LF, maxval, LF, raster.
-use Rattle.std.specs.Prelude.{◌≡◌, ℕ, ◌*◌, ◌^◌, ◌<◌, ◌≤◌, Bool, false, not, ◌&&◌, ◌==◌, List, [], ◌∷◌, ◌++◌, length, map, slice_index_or, Result, Ok, Err, if◌then◌else◌, ℤ, pos, negsuc}
-use Rattle.std.specs.Fmt.{decimal}
-use Rattle.jk_math.specs.declared.fault.Fault.{Fault}
-use Rattle.jk_math.specs.declared.fault.Fault.TheVariants.{NotYet}
+-- PGM and PPM files in their binary forms, `P5` and `P6`. A file is spelled, not read: what it says is given, and its text is the file.
+use Rattle.std.specs.Prelude.{◌≡◌, ℕ, ◌+◌, ◌-◌, ◌*◌, ◌^◌, ◌<◌, ◌≤◌, nat_lt, ◌==◌, ◌||◌, Bool, true, false, List, [], ◌∷◌, ◌++◌, length, map, slice_index, if◌then◌else◌, pos}
+use Rattle.std.specs.List.{flat_map, range_with_len, AllByRecursion}
+use Rattle.std.specs.Char.{is_ascii_digit}
 use Rattle.jk_math.specs.Picture.{Picture}
 
--- `P5`, LF
-abbrev pub magic : List ℕ
-magic = 80 ∷ 53 ∷ 10 ∷ []
+-- space, TAB, LF, VT, FF, CR
+abbrev pub is_space : ℕ → Bool
+is_space c = (c == 32) || ((c == 9) || ((c == 10) || ((c == 11) || ((c == 12) || (c == 13)))))
 
--- space
-abbrev pub between : List ℕ
-between = 32 ∷ []
+-- LF, CR
+abbrev pub is_line_end : ℕ → Bool
+is_line_end c = (c == 10) || (c == 13)
 
--- LF, `255`, LF
-abbrev pub maxval : List ℕ
-maxval = 10 ∷ 50 ∷ 53 ∷ 53 ∷ 10 ∷ []
+-- What may stand between two fields: a whitespace byte; or a comment, which is `#`, a text, and the LF or CR that ends it.
+pub data Piece : Type 0 where
+  Space : ℕ → Piece
+  Comment : List ℕ → ℕ → Piece
 
-unfoldable pub pgm_text : ℕ → ℕ → List ℕ → List ℕ
-pgm_text width height raster = magic ++ (decimal width ++ (between ++ (decimal height ++ (maxval ++ raster))))
+abbrev pub piece_text : Piece → List ℕ
+piece_text (Space c) = c ∷ []
+piece_text (Comment text end) = 35 ∷ (text ++ (end ∷ []))
 
--- the picture of a raster: unsigned samples of 8 bits, with the upper left one at (0, 0)
-abbrev pub picture_of : ℕ → ℕ → List ℕ → Picture
-picture_of width height raster = record { x0 = 0; y0 = 0; width = width; height = height; depth = 8; signed = false; planes = map pos raster ∷ [] }
+abbrev pub IsPiece : Piece → Type 0
+IsPiece (Space c) = is_space c ≡ true
+IsPiece (Comment text end) = AllByRecursion (λ c. is_line_end c ≡ false) text × (is_line_end end ≡ true)
 
--- these bytes are a PGM file of this picture
-pub record IsPgm (bytes : List ℕ) (p : Picture) : Type 0 where
+abbrev pub gap_text : List Piece → List ℕ
+gap_text pieces = flat_map piece_text pieces
+
+-- one piece or more
+pub record IsGap (pieces : List Piece) : Type 0 where
+  pub some : 0 < length pieces
+  pub each : AllByRecursion IsPiece pieces
+
+-- what decimal digits say
+unfoldable pub number_of : List ℕ → ℕ
+number_of [] = 0
+number_of (d ∷ ds) = (d - 48) * 10 ^ length ds + number_of ds
+
+-- the digits of a number above 0, zeros in front allowed
+pub record IsNumber (digits : List ℕ) : Type 0 where
+  pub plain : AllByRecursion (λ d. is_ascii_digit d ≡ true) digits
+  pub some : 0 < number_of digits
+
+-- what a file says: `P5` or, with colour, `P6`; width, height and maxval, each behind a gap; a byte; the raster
+pub record Text : Type 0 where
+  pub colour : Bool
+  pub before_width : List Piece
+  pub width : List ℕ
+  pub before_height : List Piece
+  pub height : List ℕ
+  pub before_maxval : List Piece
+  pub maxval : List ℕ
+  pub space : ℕ
   pub raster : List ℕ
-  pub picture : p ≡ picture_of p.width p.height raster
-  pub text : bytes ≡ pgm_text p.width p.height raster
-  pub wide : 0 < p.width
-  pub high : 0 < p.height
+
+abbrev pub magic_text : Bool → List ℕ
+magic_text false = 80 ∷ 53 ∷ []
+magic_text true = 80 ∷ 54 ∷ []
+
+unfoldable pub pnm_text : Text → List ℕ
+pnm_text t =
+    magic_text t.colour
+    ++ (gap_text t.before_width ++ (t.width
+    ++ (gap_text t.before_height ++ (t.height
+    ++ (gap_text t.before_maxval ++ (t.maxval
+    ++ (t.space ∷ t.raster)))))))
+
+pub record IsText (t : Text) : Type 0 where
+  pub before_width : IsGap t.before_width
+  pub width : IsNumber t.width
+  pub before_height : IsGap t.before_height
+  pub height : IsNumber t.height
+  pub before_maxval : IsGap t.before_maxval
+  pub maxval : IsNumber t.maxval
+  pub space : is_space t.space ≡ true
+
+-- samples of a pixel
+abbrev pub components_of : Bool → ℕ
+components_of false = 1
+components_of true = 3
+
+-- bytes of a sample
+abbrev pub sample_size : ℕ → ℕ
+sample_size maxval = if nat_lt 255 maxval then 2 else 1
+
+-- the sample of this number in the raster, the byte of more weight first
+abbrev pub sample_from : ℕ → List ℕ → ℕ → ℕ
+sample_from maxval raster k =
+    if nat_lt 255 maxval then 256 * slice_index raster (2 * k) + slice_index raster (2 * k + 1) else slice_index raster k
+
+-- the samples of a component: the raster goes pixel by pixel, and in a pixel component by component
+abbrev pub plane_from : ℕ → ℕ → ℕ → List ℕ → ℕ → List ℕ
+plane_from maxval components pixels raster component =
+    map (λ pixel. sample_from maxval raster (pixel * components + component)) (range_with_len 0 pixels)
+
+unfoldable pub planes_from : ℕ → ℕ → ℕ → List ℕ → List (List ℕ)
+planes_from maxval components pixels raster = map (plane_from maxval components pixels raster) (range_with_len 0 components)
+
+-- The picture of a text: unsigned samples with the upper left one at (0, 0), as many bits as maxval has, all of which are 1.
+pub record Shows (t : Text) (p : Picture) : Type 0 where
+  pub corner : (p.x0 ≡ 0) × (p.y0 ≡ 0)
+  pub width : p.width ≡ number_of t.width
+  pub height : p.height ≡ number_of t.height
   pub area : p.width * p.height ≤ 2 ^ 28
-  pub whole : length raster ≡ p.width * p.height
+  pub depth : 2 ^ p.depth ≡ number_of t.maxval + 1
+  pub few_bits : (1 ≤ p.depth) × (p.depth ≤ 16)
+  pub unsigned : p.signed ≡ false
+  pub whole : length t.raster ≡ p.width * p.height * components_of t.colour * sample_size (number_of t.maxval)
+  pub planes : p.planes ≡ map (map pos) (planes_from (number_of t.maxval) (components_of t.colour) (p.width * p.height) t.raster)
+  pub below : AllByRecursion (AllByRecursion (λ s. s ≤ number_of t.maxval)) (planes_from (number_of t.maxval) (components_of t.colour) (p.width * p.height) t.raster)
 
--- a sample as a byte
-abbrev pub sample_byte : ℤ → ℕ
-sample_byte (pos n) = n
-sample_byte (negsuc n) = 0
-
--- the samples of the first component, in rows
-abbrev pub raster_of : Picture → List ℕ
-raster_of p = map sample_byte (slice_index_or p.planes 0 [])
-
--- whether the picture is one that is written today
-abbrev pub is_pgm : Picture → Bool
-is_pgm p = (length p.planes == 1) && (p.depth == 8) && not p.signed
-
--- what is written for a picture
-unfoldable pub written : Picture → Result (List ℕ) Fault
-written p = if is_pgm p then Ok (pgm_text p.width p.height (raster_of p)) else Err NotYet
+-- these bytes are a PNM file of this picture
+pub record IsPnm (bytes : List ℕ) (p : Picture) : Type 0 where
+  pub told : Text
+  pub text : bytes ≡ pnm_text told
+  pub rules : IsText told
+  pub shows : Shows told p

@@ -1,107 +1,145 @@
 //! Reading.
 
-ghost use Rattle.std.specs.Prelude.{◌≡◌, ◌*◌, ◌+◌, ◌<◌, ◌≤◌, ◌^◌, length, IfOk, IfErr, Ok, map, pos, take};
+ghost use Rattle.std.specs.Prelude.{◌≡◌, ◌*◌, ◌+◌, ◌<◌, ◌≤◌, ◌^◌, length, IfOk, IfErr, Ok, map, pos, slice_index};
+ghost use Rattle.std.specs.List.{range_with_len};
 ghost use Rattle.jk_math.specs.Answer.{Answers};
-ghost use Rattle.jk_math.specs.Picture.{Picture};
-ghost use Rattle.jk_pnm.specs.Pnm.{IsPgm, picture_of};
-ghost use Rattle.jk_pnm.specs.Reading.{constant, number_at, side_at, pgm_at};
+ghost use Rattle.jk_math.specs.Picture.{Picture, lists_of};
+ghost use Rattle.jk_pnm.specs.Pnm.{components_of, plane_from, IsPnm};
+ghost use Rattle.jk_pnm.specs.Reading.{raster_size, samples_of, picture_at, pnm_at};
 
+use crate::header::{Header, read_header};
 use jk_math::{Fault, Image};
 use std::alloc::Global;
 
-/// Passes these very bytes.
-#[tactic(auto, unfolding(crate::specs::Reading::constant))]
-fn expect<'a>(bytes: &'a [u8], text: &[u8]) -> Result<&'a [u8], Fault>
-    ensures { Answers (λ rest. rest.now) result (constant text.now bytes.now) }
-{
-    if !bytes.starts_with(text) {
-        return Err(Fault::NotYet);
-    }
-    Ok(&bytes[text.len()..])
-}
-
-/// The number that the digits at the front write, and what follows. A number past any side is left
-/// unfinished.
-fn number(bytes: &[u8]) -> (u32, &[u8])
-    ensures value { (result.0, result.1.now) ≡ number_at 0 bytes.now }
-{
-    let mut value = 0;
-    let mut at = 0;
-    while at < bytes.len() && bytes[at].is_ascii_digit() && value <= 1 << 28 {
-        value = 10 * value + (bytes[at] - b'0') as u32;
-        at += 1;
-    }
-    (value, &bytes[at..])
-}
-
-/// A side: a number above 0 without a 0 in front.
-#[tactic(auto, unfolding(crate::specs::Reading::side_at))]
-fn side(bytes: &[u8]) -> Result<(u32, &[u8]), Fault>
-    ensures exact { Answers (λ x. (x.0, x.1.now)) result (side_at bytes.now) }
-    ensures some { IfOk result (λ x. 0 < x.0) }
-{
-    if bytes.starts_with(b"0") {
-        return Err(Fault::NotYet);
-    }
-    let (side, rest) = number(bytes);
-    if side == 0 {
-        return Err(Fault::NotYet);
-    }
-    Ok((side, rest))
-}
-
-/// The samples of a raster.
-fn samples(alloc: Global, raster: &[u8]) -> Result<Vec<i32>, Fault>
+/// Samples of one byte, one after another.
+fn bytes_plane(alloc: Global, raster: &[u8]) -> Result<Vec<i32>, Fault>
     ensures value { IfOk result (λ v. v.items ≡ map pos raster.now) }
     ensures err { IfErr result (λ e. e ≡ Fault.Memory) }
 {
     Ok(raster.iter().map(|byte| *byte as i32).collect(alloc)?)
 }
 
-/// The picture of a raster.
-fn page(alloc: Global, width: u32, height: u32, raster: &[u8]) -> Result<Image, Fault>
-    requires wide { 0 < width }
-    requires high { 0 < height }
-    requires area { width * height ≤ 2 ^ 28 }
-    requires whole { length raster.now ≡ width * height }
-    ensures { Answers (λ i. i) result (Ok (picture_of width height raster.now)) }
+/// The samples of a component, each of one byte.
+fn narrow_plane(
+    alloc: Global,
+    raster: &[u8],
+    pixels: usize,
+    components: usize,
+    component: usize,
+) -> Result<Vec<i32>, Fault>
+    requires component { component < components }
+    requires whole { pixels * components ≤ length raster.now }
+    ensures value { IfOk result (λ v. v.items ≡ map (λ pixel. pos (slice_index raster.now (pixel * components + component))) (range_with_len 0 pixels)) }
+    ensures err { IfErr result (λ e. e ≡ Fault.Memory) }
 {
-    let samples = samples(alloc, raster)?;
+    let mut samples = Vec::with_capacity(alloc, pixels)?;
+    for pixel in 0..pixels {
+        samples.push(raster[pixel * components + component] as i32)?;
+    }
+    Ok(samples)
+}
+
+/// The samples of a component, each of two bytes.
+fn wide_plane(
+    alloc: Global,
+    raster: &[u8],
+    pixels: usize,
+    components: usize,
+    component: usize,
+) -> Result<Vec<i32>, Fault>
+    requires component { component < components }
+    requires whole { 2 * (pixels * components) ≤ length raster.now }
+    ensures value { IfOk result (λ v. v.items ≡ map (λ pixel. pos (256 * slice_index raster.now (2 * (pixel * components + component)) + slice_index raster.now (2 * (pixel * components + component) + 1))) (range_with_len 0 pixels)) }
+    ensures err { IfErr result (λ e. e ≡ Fault.Memory) }
+{
+    let mut samples = Vec::with_capacity(alloc, pixels)?;
+    for pixel in 0..pixels {
+        let at = 2 * (pixel * components + component);
+        samples.push((256 * raster[at] as u32 + raster[at + 1] as u32) as i32)?;
+    }
+    Ok(samples)
+}
+
+/// The samples of a component.
+fn plane(alloc: Global, header: &Header, raster: &[u8], component: usize) -> Result<Vec<i32>, Fault>
+    requires component { component < components_of header.now.colour }
+    requires whole { length raster.now ≡ raster_size header.now }
+    ensures value { IfOk result (λ v. v.items ≡ map pos (plane_from header.now.maxval (components_of header.now.colour) (header.now.width * header.now.height) raster.now component)) }
+    ensures err { IfErr result (λ e. e ≡ Fault.Memory) }
+{
+    let pixels = header.pixels();
+    let components = header.components();
+    if header.is_wide() {
+        wide_plane(alloc, raster, pixels, components, component)
+    } else if components == 1 {
+        bytes_plane(alloc, raster)
+    } else {
+        narrow_plane(alloc, raster, pixels, components, component)
+    }
+}
+
+/// The samples of a raster, by components.
+fn planes(alloc: Global, header: &Header, raster: &[u8]) -> Result<Vec<Vec<i32>>, Fault>
+    requires { length raster.now ≡ raster_size header.now }
+    ensures value { IfOk result (λ v. lists_of v.items ≡ map (map pos) (samples_of header.now raster.now)) }
+    ensures err { IfErr result (λ e. e ≡ Fault.Memory) }
+{
+    let components = header.components();
     let mut planes = Vec::new(alloc);
-    planes.push(samples)?;
-    Image::new(0, 0, width, height, 8, false, planes)
+    for component in 0..components {
+        planes.push(plane(alloc, header, raster, component)?)?;
+    }
+    Ok(planes)
+}
+
+/// The picture of a raster. BadPnm: a sample above maxval.
+fn picture(alloc: Global, header: &Header, raster: &[u8]) -> Result<Image, Fault>
+    requires wide { 0 < header.now.width }
+    requires high { 0 < header.now.height }
+    requires area { header.now.width * header.now.height ≤ 2 ^ 28 }
+    requires depth { 2 ^ header.now.depth ≡ header.now.maxval + 1 }
+    requires bits { (1 ≤ header.now.depth) × (header.now.depth ≤ 16) }
+    requires whole { length raster.now ≡ raster_size header.now }
+    ensures { Answers (λ i. i) result (picture_at header.now raster.now) }
+{
+    let planes = planes(alloc, header, raster)?;
+    match Image::new(
+        0,
+        0,
+        header.width,
+        header.height,
+        header.depth,
+        false,
+        planes,
+    ) {
+        Ok(image) => Ok(image),
+        Err(_) => Err(Fault::BadPnm),
+    }
 }
 
 /// The picture that a file has.
-#[tactic(auto, unfolding(crate::specs::Reading::pgm_at))]
-fn pgm(alloc: Global, bytes: &[u8]) -> Result<Image, Fault>
-    ensures { Answers (λ i. i) result (pgm_at bytes.now) }
+#[tactic(auto, unfolding(crate::specs::Reading::pnm_at))]
+fn pnm(alloc: Global, bytes: &[u8]) -> Result<Image, Fault>
+    ensures { Answers (λ i. i) result (pnm_at bytes.now) }
 {
-    let sides = expect(bytes, b"P5\n")?;
-    let (width, second) = side(sides)?;
-    let second = expect(second, b" ")?;
-    let (height, maxval) = side(second)?;
-    let raster = expect(maxval, b"\n255\n")?;
-    let area = width as u64 * height as u64;
-    if area > 1 << 28 {
-        return Err(Fault::NotYet);
-    }
-    if raster.len() as u64 != area {
+    let (header, raster) = read_header(bytes)?;
+    if raster.len() != header.raster_size() {
         return Err(Fault::BadPnm);
     }
-    page(alloc, width, height, raster)
+    picture(alloc, &header, raster)
 }
 
-/// The picture of a PGM file, its upper left sample at (0, 0).
+/// The picture of a PGM file (`P5`, one component) or a PPM file (`P6`, three components), its upper left
+/// sample at (0, 0), its samples unsigned and of 1 to 16 bits.
 ///
-/// NotYet: another header than that of a PGM of 8 bits as `write` writes it. BadPnm: a raster of another
-/// length.
+/// BadPnm: the file isn't in the grammar, its maxval isn't one less than a power of two, its raster has another
+/// length than the header asks for, or a sample is above maxval.
 pub fn read(alloc: Global, bytes: &[u8]) -> Result<Image, Fault>
-    ensures exact { Answers (λ i. i) result (pgm_at bytes.now) }
+    ensures exact { Answers (λ i. i) result (pnm_at bytes.now) }
     // What is read is a file of this picture.
-    ensures found { IfOk result (λ i. IsPgm bytes.now i) }
+    ensures found { IfOk result (λ i. IsPnm bytes.now i) }
     // A file of a picture is read.
-    ensures only { (p : Picture) → IsPgm bytes.now p → Answers (λ i. i) result (Ok p) }
+    ensures only { (p : Picture) → IsPnm bytes.now p → Answers (λ i. i) result (Ok p) }
 {
-    pgm(alloc, bytes)
+    pnm(alloc, bytes)
 }

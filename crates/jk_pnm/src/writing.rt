@@ -1,64 +1,160 @@
 //! Writing.
 
-ghost use Rattle.std.specs.Prelude.{◌≡◌, ◌*◌, ◌+◌, ◌<◌, ◌≤◌, ◌++◌, length, IfOk, OnOk, IfErr, Ok, map, pos, All, ◌≤ℤ◌, []};
-ghost use Rattle.std.specs.Fmt.{decimal};
+ghost use Rattle.std.specs.Prelude.{◌≡◌, ◌*◌, ◌+◌, ◌-◌, ◌<◌, ◌≤◌, ◌^◌, ◌++◌, ◌∷◌, [], true, length, IfOk, OnOk, IfErr, pos, All, ◌≤ℤ◌};
 ghost use Rattle.jk_math.specs.Answer.{Answers};
-ghost use Rattle.jk_math.specs.Picture.{Picture};
-ghost use Rattle.jk_pnm.specs.Pnm.{IsPgm, pgm_text, sample_byte, raster_of, is_pgm, written};
+ghost use Rattle.jk_math.specs.Picture.{IsPicture};
+ghost use Rattle.jk_pnm.specs.Pnm.{IsPnm, magic_text};
+ghost use Rattle.jk_pnm.specs.Written.{is_written, maxval_of, sample_text, raster_text, header_text, file_text, written};
 
 use jk_math::{Fault, Image};
 use std::alloc::Global;
 
-/// Appends a sample of 8 bits for each.
-fn put_raster(out: &mut Vec<u8>, samples: &[i32]) -> Result<(), Fault>
-    requires { All (λ s. (pos 0 ≤ℤ s) × (s ≤ℤ pos 255)) samples.now }
-    ensures ok { OnOk result (out.new.items ≡ out.old.items ++ map sample_byte samples.now) }
+/// Whether the image has one or three unsigned components.
+fn is_written(image: &Image) -> bool
+    ensures { result ≡ is_written image.now }
+{
+    let components = image.planes().len();
+    !image.signed() && (components == 1 || components == 3)
+}
+
+/// Appends a sample: one byte where maxval is at most 255, two otherwise.
+fn put_sample(out: &mut Vec<u8>, maxval: u32, sample: i32) -> Result<(), Fault>
+    requires natural { pos 0 ≤ℤ sample }
+    requires below { sample ≤ℤ pos maxval }
+    requires maxval { maxval < 2 ^ 16 }
+    ensures ok { OnOk result (out.new.items ≡ out.old.items ++ sample_text maxval sample) }
     ensures err { IfErr result (λ e. e ≡ Fault.Memory) }
 {
-    for sample in samples {
-        out.push(*sample as u8)?;
+    let value = sample as u32;
+    if maxval > 255 {
+        out.push((value / 256) as u8)?;
+        out.push((value % 256) as u8)?;
+    } else {
+        out.push(value as u8)?;
     }
     Ok(())
 }
 
-/// Whether the image has one unsigned component of 8 bits.
-fn is_page(image: &Image) -> bool
-    ensures { result ≡ is_pgm image.now }
-{
-    image.planes().len() == 1 && image.depth() == 8 && !image.signed()
-}
-
-/// The text of a PGM file.
-#[tactic(auto, unfolding(crate::specs::Pnm::pgm_text))]
-fn pgm(alloc: Global, width: u32, height: u32, samples: &[i32]) -> Result<Vec<u8>, Fault>
-    requires { All (λ s. (pos 0 ≤ℤ s) × (s ≤ℤ pos 255)) samples.now }
-    ensures value { IfOk result (λ v. v.items ≡ pgm_text width height (map sample_byte samples.now)) }
+/// Appends the raster of one component.
+fn put_grey(out: &mut Vec<u8>, maxval: u32, samples: &[i32]) -> Result<(), Fault>
+    requires samples { All (λ s. (pos 0 ≤ℤ s) × (s ≤ℤ pos maxval)) samples.now }
+    requires maxval { maxval < 2 ^ 16 }
+    ensures ok { OnOk result (out.new.items ≡ out.old.items ++ raster_text maxval (samples.now ∷ []) (length samples.now)) }
     ensures err { IfErr result (λ e. e ≡ Fault.Memory) }
 {
-    let mut out = Vec::with_capacity(alloc, samples.len().saturating_add(32))?;
-    out.extend_from_slice(b"P5\n")?;
+    for sample in samples {
+        put_sample(out, maxval, *sample)?;
+    }
+    Ok(())
+}
+
+/// Appends the raster of three components.
+fn put_colour(
+    out: &mut Vec<u8>,
+    maxval: u32,
+    red: &[i32],
+    green: &[i32],
+    blue: &[i32],
+) -> Result<(), Fault>
+    requires red { All (λ s. (pos 0 ≤ℤ s) × (s ≤ℤ pos maxval)) red.now }
+    requires green { All (λ s. (pos 0 ≤ℤ s) × (s ≤ℤ pos maxval)) green.now }
+    requires blue { All (λ s. (pos 0 ≤ℤ s) × (s ≤ℤ pos maxval)) blue.now }
+    requires greens { length green.now ≡ length red.now }
+    requires blues { length blue.now ≡ length red.now }
+    requires maxval { maxval < 2 ^ 16 }
+    ensures ok { OnOk result (out.new.items ≡ out.old.items ++ raster_text maxval (red.now ∷ green.now ∷ blue.now ∷ []) (length red.now)) }
+    ensures err { IfErr result (λ e. e ≡ Fault.Memory) }
+{
+    for pixel in 0..red.len() {
+        put_sample(out, maxval, red[pixel])?;
+        put_sample(out, maxval, green[pixel])?;
+        put_sample(out, maxval, blue[pixel])?;
+    }
+    Ok(())
+}
+
+/// The magic number and LF.
+fn magic(colour: bool) -> &'static [u8]
+    ensures { result.now ≡ magic_text colour ++ (10 ∷ []) }
+{
+    if colour { b"P6\n" } else { b"P5\n" }
+}
+
+/// What stands before the raster.
+fn header(
+    alloc: Global,
+    size: usize,
+    colour: bool,
+    width: u32,
+    height: u32,
+    maxval: u32,
+) -> Result<Vec<u8>, Fault>
+    ensures value { IfOk result (λ v. v.items ≡ header_text colour width height maxval) }
+    ensures err { IfErr result (λ e. e ≡ Fault.Memory) }
+{
+    let mut out = Vec::with_capacity(alloc, size.saturating_add(32))?;
+    out.extend_from_slice(magic(colour))?;
     out.extend_from_slice(width.to_string(alloc)?.as_bytes())?;
     out.extend_from_slice(b" ")?;
     out.extend_from_slice(height.to_string(alloc)?.as_bytes())?;
-    out.extend_from_slice(b"\n255\n")?;
-    put_raster(&mut out, samples)?;
+    out.extend_from_slice(b"\n")?;
+    out.extend_from_slice(maxval.to_string(alloc)?.as_bytes())?;
+    out.extend_from_slice(b"\n")?;
     Ok(out)
 }
 
-/// The PGM file of an image. Where the image lies on the reference grid isn't written.
-///
-/// NotYet: more than one component, signed samples, or a depth other than 8.
-#[tactic(auto, unfolding(crate::specs::Pnm::written))]
-pub fn write(alloc: Global, image: &Image) -> Result<Vec<u8>, Fault>
-    ensures exact { Answers (λ v. v.items) result (written image.now) }
-    // What is written is a file of the image, placed at (0, 0).
-    ensures means { IfOk result (λ v. IsPgm v.items (record image.now { x0 = 0; y0 = 0 })) }
+/// Appends the raster of one component or of three.
+fn put_raster(out: &mut Vec<u8>, image: &Image, maxval: u32) -> Result<(), Fault>
+    requires written { is_written image.now ≡ true }
+    requires profile { IsPicture image.now }
+    requires maxval { maxval ≡ maxval_of image.now.depth }
+    ensures ok { OnOk result (out.new.items ≡ out.old.items ++ raster_text maxval image.now.planes (image.now.width * image.now.height)) }
+    ensures err { IfErr result (λ e. e ≡ Fault.Memory) }
+{
+    let planes = image.planes();
+    if planes.len() == 1 {
+        put_grey(out, maxval, planes.plane(0))
+    } else {
+        put_colour(
+            out,
+            maxval,
+            planes.plane(0),
+            planes.plane(1),
+            planes.plane(2),
+        )
+    }
+}
+
+/// The file of an image.
+#[tactic(auto, unfolding(crate::specs::Written::file_text))]
+fn file(alloc: Global, image: &Image) -> Result<Vec<u8>, Fault>
+    requires written { is_written image.now ≡ true }
+    ensures value { IfOk result (λ v. v.items ≡ file_text image.now) }
+    ensures means { IfOk result (λ v. IsPnm v.items (record image.now { x0 = 0; y0 = 0 })) }
+    ensures err { IfErr result (λ e. e ≡ Fault.Memory) }
 {
     let width = image.width();
     let height = image.height();
-    if !is_page(image) {
-        return Err(Fault::NotYet);
-    }
-    let out = pgm(alloc, width, height, image.planes().plane(0))?;
+    let maxval = (1u32 << image.depth()) - 1;
+    let components = image.planes().len();
+    let size = width as usize * height as usize * components * (if maxval > 255 { 2 } else { 1 });
+    let mut out = header(alloc, size, components == 3, width, height, maxval)?;
+    put_raster(&mut out, image, maxval)?;
     Ok(out)
+}
+
+/// The PGM file of an image of one component, or the PPM file of an image of three. Where the image lies on
+/// the reference grid isn't written.
+///
+/// Unsupported: another number of components, or signed samples.
+#[tactic(auto, unfolding(crate::specs::Written::written))]
+pub fn write(alloc: Global, image: &Image) -> Result<Vec<u8>, Fault>
+    ensures exact { Answers (λ v. v.items) result (written image.now) }
+    // What is written is a file of the image, placed at (0, 0).
+    ensures means { IfOk result (λ v. IsPnm v.items (record image.now { x0 = 0; y0 = 0 })) }
+{
+    if !is_written(image) {
+        return Err(Fault::Unsupported);
+    }
+    file(alloc, image)
 }

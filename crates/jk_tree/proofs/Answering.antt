@@ -6,7 +6,7 @@ use Rattle.jk_bits.specs.Reading.{Bits, ahead}
 use Rattle.jk_tree.specs.TagTree.{top, count, Values, Query, told}
 use Rattle.jk_tree.specs.declared.node.Node.{Node}
 use Rattle.jk_tree.specs.Asking.{Stands, Reached, walk, is_below, Tree, unless_failed, ask_at, IsAnswer}
-use Rattle.jk_tree.proofs.Given.{advance, gives_on}
+use Rattle.jk_bits.specs.Giving.{advance, gives_on}
 use Rattle.jk_tree.proofs.Asks.{told_by, found_by, reached_on}
 
 -- a query of a tree that hasn't failed

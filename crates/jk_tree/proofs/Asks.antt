@@ -7,8 +7,8 @@ use Rattle.std.proofs.lemmas.List.{get_or-replicate}
 use Rattle.jk_bits.specs.Reading.{Bits, ahead}
 use Rattle.jk_tree.specs.TagTree.{Shape, top, place, count, column, row, IsNode, Values, IsTree, Query, asked, told, told_below}
 use Rattle.jk_tree.specs.declared.node.Node.{Node}
-use Rattle.jk_tree.specs.Asking.{told_node, node_at, Stands, Reached, Gives, walk, is_below}
-use Rattle.jk_tree.proofs.Given.{advance}
+use Rattle.jk_tree.specs.Asking.{told_node, node_at, Stands, Reached, walk, is_below}
+use Rattle.jk_bits.specs.Giving.{Gives, advance}
 use Rattle.jk_tree.proofs.Visits.{IsAsked, asked_told, node_same, visit_knows}
 use Rattle.jk_tree.proofs.Places.{place_counted, path_node, place_leaf, up_node}
 use Rattle.jk_tree.proofs.Walks.{half_less, half_all, half_none, HalfTold, walk_told, over_root, not_top, asked_up, half_at}

@@ -6,8 +6,8 @@ use Rattle.jk_math.specs.declared.fault.Fault.{Fault}
 use Rattle.jk_bits.specs.Reading.{Bits}
 use Rattle.jk_tree.specs.TagTree.{Shape, top, place, count, column, row, Values, above, IsTree, Query, asked, piece, told_below}
 use Rattle.jk_tree.specs.declared.node.Node.{Node}
-use Rattle.jk_tree.specs.Asking.{told_node, node_at, Gives, visit, walk}
-use Rattle.jk_tree.proofs.Given.{gives_none, gives_join}
+use Rattle.jk_tree.specs.Asking.{told_node, node_at, visit, walk}
+use Rattle.jk_bits.specs.Giving.{Gives, gives_none, gives_join}
 use Rattle.jk_tree.proofs.Visits.{IsAsked, visit_found, Visited}
 use Rattle.jk_tree.proofs.Places.{same_place, place_counted, path_node}
 use Rattle.jk_tree.proofs.Walks.{half, half_less, half_other, apart_places, HalfTold, cases_on_way, IsOver, next_over, below-suc, told_none, half_at}

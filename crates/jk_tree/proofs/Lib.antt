@@ -1,4 +1,3 @@
-pub mod Given
 pub mod Visits
 pub mod Places
 pub mod Walks
@@ -10,3 +9,4 @@ pub mod Answering
 pub mod Ways
 pub mod Speeches
 pub mod Written
+pub mod Laws

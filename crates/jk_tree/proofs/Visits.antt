@@ -9,8 +9,8 @@ use Rattle.jk_math.specs.declared.fault.Fault.{Fault}
 use Rattle.jk_bits.specs.Reading.{Bits, ahead, bit_at}
 use Rattle.jk_tree.specs.TagTree.{word, piece}
 use Rattle.jk_tree.specs.declared.node.Node.{Node}
-use Rattle.jk_tree.specs.Asking.{told_node, Gives, climb, visit}
-use Rattle.jk_tree.proofs.Given.{advance, ahead_on, gives_none, gives_join, gives_bit, bit_ahead}
+use Rattle.jk_tree.specs.Asking.{told_node, climb, visit}
+use Rattle.jk_bits.specs.Giving.{Gives, advance, ahead_on, gives_none, gives_join, gives_bit, bit_ahead}
 
 -- the one that ends a word, where there is one
 abbrev pub ending : Bool → List Bool

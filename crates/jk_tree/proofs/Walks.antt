@@ -10,7 +10,7 @@ use Rattle.jk_bits.specs.Reading.{Bits, ahead}
 use Rattle.jk_tree.specs.TagTree.{Shape, top, place, count, column, row, IsNode, Values, above, IsTree, Query, passes, asked, piece, told_below}
 use Rattle.jk_tree.specs.declared.node.Node.{Node}
 use Rattle.jk_tree.specs.Asking.{told_node, node_at, visit, walk}
-use Rattle.jk_tree.proofs.Given.{advance, ahead_on}
+use Rattle.jk_bits.specs.Giving.{advance, ahead_on}
 use Rattle.jk_tree.proofs.Visits.{visit_told}
 use Rattle.jk_tree.proofs.Places.{same_place, place_counted, path_node, column_up, row_up, passes_at, passes_own}
 

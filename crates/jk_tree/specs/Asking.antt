@@ -1,9 +1,10 @@
 -- Queries of a tree that is read: what is known of each node, and the answer or the first fault.
-use Rattle.std.specs.Prelude.{◌≡◌, ℕ, zero, suc, ◌+◌, ◌-◌, min, max, Bool, true, false, ◌&&◌, ◌||◌, nat_lt, nat_le, if◌then◌else◌, List, [], ◌∷◌, ◌++◌, length, slice_index_or, slice_set, Option, Some, None, Result, Ok, Err}
+use Rattle.std.specs.Prelude.{◌≡◌, ℕ, zero, suc, ◌+◌, ◌-◌, min, max, Bool, true, false, ◌&&◌, ◌||◌, nat_lt, nat_le, if◌then◌else◌, List, [], ◌∷◌, ◌++◌, length, slice_index_or, slice_set, replicate, Option, Some, None, Result, Ok, Err}
 use Rattle.jk_math.specs.Answer.{◌>>=◌}
 use Rattle.jk_math.specs.declared.fault.Fault.{Fault}
-use Rattle.jk_bits.specs.Reading.{Bits, ahead, bit_at}
-use Rattle.jk_tree.specs.TagTree.{Shape, top, place, column, row, IsNode, Values, IsTree, Query, asked, told}
+use Rattle.jk_bits.specs.Reading.{Bits, bit_at}
+use Rattle.jk_bits.specs.Giving.{Gives}
+use Rattle.jk_tree.specs.TagTree.{Shape, top, count, place, column, row, IsNode, Values, IsTree, Query, asked, told}
 use Rattle.jk_tree.specs.declared.node.Node.{Node}
 
 -- what a node of that value has told after a threshold
@@ -22,11 +23,6 @@ pub record Stands (s : Shape) (v : Values) (queries : List Query) (nodes : List 
 -- After the queries, some tree would have told the nodes.
 abbrev pub Reached : Shape → List Query → List Node → Type 0
 Reached s queries nodes = (v : Values) × Stands s v queries nodes
-
--- the reader gives these bits, and no more
-pub record Gives (old : Bits) (bits : List Bool) (new : Bits) : Type 0 where
-  pub first : ahead old ≡ bits ++ ahead new
-  pub moved : new ≡ record old { read = old.read + length bits }
 
 -- zeros from low on up to a one, as far as the threshold, which is more ahead
 unfoldable pub climb : ℕ → ℕ → Bits → Result (Node × Bits) Fault
@@ -54,6 +50,16 @@ pub record Tree : Type 0 where
   pub shape : Shape
   pub nodes : List Node
   pub failed : Option Fault
+
+-- a tree of which nothing is known
+unfoldable pub blank_tree : Shape → Tree
+blank_tree s = record { shape = s; nodes = replicate (count s) record { low = 0; known = false }; failed = None }
+
+-- a tree that can be asked
+pub record IsOpen (s : Shape) (tree : Tree) : Type 0 where
+  pub shape : tree.shape ≡ s
+  pub sound : tree.failed ≡ None
+  pub long : length tree.nodes ≡ count s
 
 -- what has failed fails again
 abbrev pub unless_failed : {A : Type 0} → Option Fault → Result A Fault → Result A Fault

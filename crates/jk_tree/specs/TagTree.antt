@@ -56,6 +56,10 @@ Values = ℕ → ℕ → ℕ → ℕ
 abbrev pub above : Shape → Values → ℕ → ℕ → ℕ → ℕ
 above s v i x y = if i == top s then 0 else v (i + 1) (x / 2) (y / 2)
 
+-- the value of a leaf, the leaves counted in raster order
+abbrev pub leaf_of : Shape → Values → ℕ → ℕ
+leaf_of s v i = v 0 (column s i 0) (row s i 0)
+
 -- No node is below the one above it. (In a written tree a node is the least of those below it.)
 abbrev pub IsTree : Shape → Values → Type 0
 IsTree s v = (i x y : ℕ) → IsNode s i x y → above s v i x y ≤ v i x y

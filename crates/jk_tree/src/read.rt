@@ -5,7 +5,7 @@ ghost use Rattle.jk_math.specs.Answer.{Reads};
 ghost use Rattle.jk_math.specs.declared.fault.Fault.TheVariants.{Memory};
 ghost use Rattle.jk_bits.specs.Reading.{ahead};
 ghost use Rattle.jk_tree.specs.TagTree.{shape_of, query_of, Values, IsTree, Query, count, top, told};
-ghost use Rattle.jk_tree.specs.Asking.{IsAnswer, Reached, Stands, ask_at, climb, visit, walk};
+ghost use Rattle.jk_tree.specs.Asking.{IsAnswer, Reached, Stands, ask_at, blank_tree, climb, node_at, visit, walk};
 
 use crate::levels::{Levels, node_count, node_over, root_level};
 use crate::node::{Node, blank_nodes, is_below};
@@ -106,7 +106,8 @@ fn walk(
 impl ReadTree {
     /// A tree of `width` by `height` leaves, of which nothing is known.
     pub fn new(alloc: Global, width: u16, height: u16) -> Result<ReadTree, Fault>
-        ensures { MatchResult result
+        ensures blank { IfOk result (λ t. t ≡ blank_tree (shape_of width height)) }
+        ensures stands { MatchResult result
             (λ t. (t.shape ≡ (shape_of width height)) × (t.failed ≡ None)
             × ((v : Values) → IsTree t.shape v → Stands t.shape v [] t.nodes))
             (λ e. e ≡ Memory) }
@@ -122,6 +123,15 @@ impl ReadTree {
             nodes,
             failed: None,
         })
+    }
+
+    /// What is known of the value of a leaf: the value itself, where an answer was that it is below the
+    /// threshold, and otherwise the greatest threshold asked.
+    pub fn low(&self, leaf: u32) -> u16
+        requires { leaf < self.now.shape.width * self.now.shape.height }
+        ensures { result ≡ (node_at self.now.nodes leaf).low }
+    {
+        self.nodes[leaf as usize].low
     }
 
     /// Whether the value of a leaf is below `threshold`; the leaves are counted in raster order.

@@ -19,6 +19,13 @@ pub static REPLACED: &[u8] =
 pub static COLOUR: &[u8] =
     b"0000000c6a5020200d0a870a00000014667479706a703220000000006a7032200000002d6a7032680000001669686472000000020000000300030b0700000000000f636f6c72010000000000100000000a6a703263ff4f";
 
+/// What is read of the first file as it stands.
+pub const WHOLE: Result<Boxed, Fault> = Ok(Boxed {
+    start: 85,
+    end: 167,
+    jp2: true,
+});
+
 /// A place in the file with another byte, and what is read then.
 pub static CHANGED: [(usize, u8, Result<Boxed, Fault>); 78] = [
     (0, 0x01, Err(Fault::BadBox)),
@@ -45,24 +52,8 @@ pub static CHANGED: [(usize, u8, Result<Boxed, Fault>); 78] = [
     (15, 0x9C, Err(Fault::Truncated)),
     (16, 0x67, Err(Fault::BadBox)),
     (19, 0x71, Err(Fault::BadBox)),
-    (
-        20,
-        0x00,
-        Ok(Boxed {
-            start: 85,
-            end: 167,
-            jp2: true,
-        }),
-    ),
-    (
-        27,
-        0x01,
-        Ok(Boxed {
-            start: 85,
-            end: 167,
-            jp2: true,
-        }),
-    ),
+    (20, 0x00, WHOLE),
+    (27, 0x01, WHOLE),
     (28, 0x6B, Err(Fault::Unsupported)),
     (31, 0x78, Err(Fault::Unsupported)),
     (32, 0x80, Err(Fault::Truncated)),
@@ -72,15 +63,7 @@ pub static CHANGED: [(usize, u8, Result<Boxed, Fault>); 78] = [
     (35, 0x02, Err(Fault::BadBox)),
     (35, 0x08, Err(Fault::BadBox)),
     (35, 0x1D, Err(Fault::Truncated)),
-    (
-        35,
-        0x1E,
-        Ok(Boxed {
-            start: 85,
-            end: 167,
-            jp2: true,
-        }),
-    ),
+    (35, 0x1E, WHOLE),
     (35, 0x2C, Err(Fault::Truncated)),
     (35, 0x2E, Err(Fault::Truncated)),
     (35, 0x35, Err(Fault::Truncated)),
@@ -95,35 +78,11 @@ pub static CHANGED: [(usize, u8, Result<Boxed, Fault>); 78] = [
     (43, 0x25, Err(Fault::BadBox)),
     (43, 0x26, Err(Fault::Truncated)),
     (47, 0x73, Err(Fault::BadBox)),
-    (
-        51,
-        0x09,
-        Ok(Boxed {
-            start: 85,
-            end: 167,
-            jp2: true,
-        }),
-    ),
-    (
-        58,
-        0x09,
-        Ok(Boxed {
-            start: 85,
-            end: 167,
-            jp2: true,
-        }),
-    ),
+    (51, 0x09, WHOLE),
+    (58, 0x09, WHOLE),
     (59, 0x06, Err(Fault::Unsupported)),
     (59, 0x00, Err(Fault::Unsupported)),
-    (
-        60,
-        0x01,
-        Ok(Boxed {
-            start: 85,
-            end: 167,
-            jp2: true,
-        }),
-    ),
+    (60, 0x01, WHOLE),
     (65, 0x00, Err(Fault::Truncated)),
     (65, 0x01, Err(Fault::Truncated)),
     (65, 0x05, Err(Fault::BadBox)),
@@ -131,52 +90,12 @@ pub static CHANGED: [(usize, u8, Result<Boxed, Fault>); 78] = [
     (65, 0x0E, Err(Fault::Truncated)),
     (65, 0x10, Err(Fault::Truncated)),
     (65, 0x1D, Err(Fault::Truncated)),
-    (
-        69,
-        0x62,
-        Ok(Boxed {
-            start: 85,
-            end: 167,
-            jp2: true,
-        }),
-    ),
-    (
-        66,
-        0x70,
-        Ok(Boxed {
-            start: 85,
-            end: 167,
-            jp2: true,
-        }),
-    ),
-    (
-        72,
-        0x09,
-        Ok(Boxed {
-            start: 85,
-            end: 167,
-            jp2: true,
-        }),
-    ),
-    (
-        76,
-        0x12,
-        Ok(Boxed {
-            start: 85,
-            end: 167,
-            jp2: true,
-        }),
-    ),
+    (69, 0x62, WHOLE),
+    (66, 0x70, WHOLE),
+    (72, 0x09, WHOLE),
+    (76, 0x12, WHOLE),
     (77, 0x01, Err(Fault::Truncated)),
-    (
-        80,
-        0x00,
-        Ok(Boxed {
-            start: 85,
-            end: 167,
-            jp2: true,
-        }),
-    ),
+    (80, 0x00, WHOLE),
     (80, 0x01, Err(Fault::Truncated)),
     (80, 0x02, Err(Fault::BadBox)),
     (80, 0x07, Err(Fault::BadBox)),

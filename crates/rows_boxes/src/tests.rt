@@ -1,6 +1,6 @@
 ghost use Rattle.std.specs.Prelude.{◌<◌};
 
-use crate::cases::{CHANGED, CODESTREAM, COLOUR, FILES, LONGER, RECODED, REPLACED, ROW};
+use crate::cases::{CHANGED, CODESTREAM, COLOUR, FILES, LONGER, RECODED, REPLACED, ROW, WHOLE};
 use jk_boxes::{open, replace_codestream, wrap};
 use jk_math::{Fault, Image};
 use std::alloc::Global;
@@ -57,6 +57,14 @@ fn replaces(
     let boxed = open(file)?;
     let replaced = replace_codestream(alloc, file, &boxed, codestream)?;
     assert_eq!(rt; replaced.as_slice(), want);
+    Ok(())
+}
+
+#[test]
+fn an_unchanged_file(rt: HostRuntime) -> Result<(), Fail> {
+    let file = bytes_of(rt.alloc(), ROW)?;
+    assert_eq!(rt; file.len(), 167);
+    assert_eq!(rt; open(&file), WHOLE);
     Ok(())
 }
 

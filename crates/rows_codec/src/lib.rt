@@ -2,6 +2,10 @@
 #![tactic(auto)]
 
 #[cfg(test)]
+mod header_cases;
+#[cfg(test)]
+mod headers;
+#[cfg(test)]
 mod pages;
 #[cfg(test)]
 mod parts;

@@ -1,4 +1,4 @@
-use crate::texts::{MAIN, bytes_of};
+use crate::texts::{MAIN, bytes_of, changed};
 use jk_code::{decode, encode};
 use jk_marks::Order;
 use jk_math::Fault;
@@ -136,16 +136,57 @@ fn refused_files(rt: HostRuntime) -> Result<(), Fail> {
     Ok(())
 }
 
-/// No front of a file but the whole is a file. Where the main header is cut, today's fault may be NotYet.
+/// No front of a file but the whole is a file.
 #[test]
 fn fronts(rt: HostRuntime) -> Result<(), Fail> {
     let alloc = rt.alloc();
     let file = bytes_of(alloc, &[MAIN, "FF90 000A 0000 0000000F 00 01 FF93 00 FFD9"])?;
     for length in 0..file.len() {
-        let front = &file[..length];
-        let fault = decode(alloc, front, 0).err();
-        let is_main = length < 67 && fault == Some(Fault::NotYet);
-        assert!(rt; is_main || fault == Some(Fault::Truncated), "{length}");
+        let fault = decode(alloc, &file[..length], 0).err();
+        assert_eq!(rt; fault, Some(Fault::Truncated), "{length}");
+    }
+    Ok(())
+}
+
+/// A page whose main header has segments that are passed over.
+#[test]
+fn passed_segments(rt: HostRuntime) -> Result<(), Fail> {
+    let alloc = rt.alloc();
+    let part = "FF90 000A 0000 0000000F 00 01 FF93 00 FFD9";
+    let file = bytes_of(alloc, &[MAIN, "FF30 FF6F 0003 00", part])?;
+    assert_eq!(rt; file.len(), 89);
+    let image = decode(alloc, &file, 0).ok().ok_or("an image")?;
+    let text = jk_pnm::write(alloc, &image).ok().ok_or("a PGM file")?;
+    let wanted = grey(alloc, "P5\n1 1\n255\n", 1)?;
+    assert_eq!(rt; &text[..], &wanted[..]);
+    let short = bytes_of(alloc, &[MAIN, "FF30 FF6F 0001 00", part])?;
+    assert_eq!(rt; decode(alloc, &short, 0).err(), Some(Fault::BadLength));
+    let long = "FF90 000A 0000 0000001C 00 01 FF64 0005 0001 41 FF58 0004 00 03 FF93 00 FFD9";
+    let commented = bytes_of(
+        alloc,
+        &[MAIN, "FF64 0006 0001 4142 FF55 0008 00 40 00000017", long],
+    )?;
+    assert!(rt; decode(alloc, &commented, 0).is_ok());
+    Ok(())
+}
+
+/// Main headers of which one number is another.
+#[test]
+fn refused_headers(rt: HostRuntime) -> Result<(), Fail> {
+    let alloc = rt.alloc();
+    let part = "FF90 000A 0000 0000000F 00 01 FF93 00 FFD9";
+    for (place, byte, fault) in [
+        (3, 0x52, Fault::BadMarker),
+        (5, 0x28, Fault::BadLength),
+        (19, 1, Fault::BadValue),
+        (58, 0, Fault::Unsupported),
+        (8, 0x80, Fault::Limit),
+        // Signed samples, and a tile higher than the image: no page.
+        (42, 0x87, Fault::NotYet),
+        (31, 2, Fault::NotYet),
+    ] {
+        let file = changed(alloc, &[MAIN, part], place, byte)?;
+        assert_eq!(rt; decode(alloc, &file, 0).err(), Some(fault), "{place}");
     }
     Ok(())
 }
@@ -203,24 +244,10 @@ fn parameters(rt: HostRuntime) -> Result<(), Fail> {
     Ok(())
 }
 
+/// A page that isn't grey, and where it is placed: its file is refused today, and its PGM file is the same.
 #[test]
-fn pgm_files(rt: HostRuntime) -> Result<(), Fail> {
+fn other_pages(rt: HostRuntime) -> Result<(), Fail> {
     let alloc = rt.alloc();
-    for (file, fault) in [
-        ("P6\n1 1\n255\nabc", Fault::NotYet),
-        ("P5\n1 1\n254\na", Fault::NotYet),
-        ("P5 1 1\n255\na", Fault::NotYet),
-        ("P5\n0 1\n255\n", Fault::NotYet),
-        ("P5\n1 01\n255\na", Fault::NotYet),
-        ("P5\n1 1\n255\n", Fault::BadPnm),
-        ("P5\n1 1\n255\nab", Fault::BadPnm),
-    ] {
-        assert_eq!(rt;
-            jk_pnm::read(alloc, file.as_bytes()).err(),
-            Some(fault),
-            "{file}"
-        );
-    }
     let image = jk_pnm::read(alloc, b"P5\n2 1\n255\nab")
         .ok()
         .ok_or("an image")?;
@@ -229,10 +256,8 @@ fn pgm_files(rt: HostRuntime) -> Result<(), Fail> {
         encode(alloc, &image, &bare(alloc)).err(),
         Some(Fault::NotYet)
     );
-    let text = jk_pnm::write(alloc, &image).ok().ok_or("a PGM file")?;
-    assert_eq!(rt; &text[..], "P5\n2 1\n255\nab".as_bytes());
     let moved = image.place(1, 0).ok().ok_or("a place")?;
-    let again = jk_pnm::write(alloc, &moved);
-    assert!(rt; again.is_ok() || again.err() == Some(Fault::NotYet));
+    let text = jk_pnm::write(alloc, &moved).ok().ok_or("a PGM file")?;
+    assert_eq!(rt; &text[..], "P5\n2 1\n255\nab".as_bytes());
     Ok(())
 }

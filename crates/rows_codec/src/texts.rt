@@ -26,3 +26,18 @@ pub(crate) fn bytes_of(alloc: Global, texts: &[&str]) -> Result<Vec<u8>, Fail> {
     }
     Ok(bytes)
 }
+
+/// These bytes with one of them changed.
+pub(crate) fn changed(
+    alloc: Global,
+    texts: &[&str],
+    place: usize,
+    byte: u8,
+) -> Result<Vec<u8>, Fail> {
+    let mut bytes = bytes_of(alloc, texts)?;
+    if place >= bytes.len() {
+        return Err("a place".into());
+    }
+    bytes[place] = byte;
+    Ok(bytes)
+}

@@ -33,7 +33,7 @@ fn high(line: &[i32], j: i64) -> i64 {
 }
 
 /// The coefficient at index `j` of the line of samples whose first place is `start`.
-pub fn coefficient(start: u32, line: &[i32], j: i64) -> i64 {
+pub(crate) fn coefficient(start: u32, line: &[i32], j: i64) -> i64 {
     let sample = entry(line, j);
     if line.len() == 1 {
         return if is_even(start, j) {
@@ -56,7 +56,7 @@ fn even(line: &[i32], j: i64) -> i64 {
 }
 
 /// The sample at index `j` of the line of coefficients whose first place is `start`.
-pub fn sample(start: u32, line: &[i32], j: i64) -> i64 {
+pub(crate) fn sample(start: u32, line: &[i32], j: i64) -> i64 {
     let coefficient = entry(line, j);
     if line.len() == 1 {
         return if is_even(start, j) {

@@ -1,7 +1,11 @@
-//! Rows of packet headers: stuffed bits and tag trees against values from outside.
+//! Rows of packet headers: stuffed bits, tag trees and headers against values from outside.
 #![tactic(auto)]
 
 #[cfg(test)]
 mod bits;
+#[cfg(test)]
+mod headers;
+#[cfg(test)]
+mod precincts;
 #[cfg(test)]
 mod trees;

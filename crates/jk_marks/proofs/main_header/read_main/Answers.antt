@@ -1,6 +1,6 @@
 use Rattle.std.proofs.Common.{sym, ◌∙◌, arith}
 use Rattle.jk_math.specs.Steps.{if_ok_from}
-use Rattle.jk_marks.proofs.MainLaws.{found_main, only_main, main_within, main_one_tile}
+use Rattle.jk_marks.proofs.MainLaws.{found_main, only_main, main_within, main_siz}
 use Rattle.jk_marks.proofs.main_header.read_main.Goals as goal
 
 pub returns-clause-found : goal.returns-clause-found
@@ -14,6 +14,6 @@ pub returns-clause-within : goal.returns-clause-within
 returns-clause-within c =
     if_ok_from c.main_header.result _ (λ m e. main_within c.args.bytes.now m.0 m.1 (found_main c.args.bytes.now m.0 m.1 (λ i. omega (arith, c.type_inv.bytes i)) (sym c.main_header.ensures ∙ e)))
 
-pub returns-clause-one_tile : goal.returns-clause-one_tile
-returns-clause-one_tile c =
-    if_ok_from c.main_header.result _ (λ m e. main_one_tile c.args.bytes.now m.0 m.1 (found_main c.args.bytes.now m.0 m.1 (λ i. omega (arith, c.type_inv.bytes i)) (sym c.main_header.ensures ∙ e)))
+pub returns-clause-siz : goal.returns-clause-siz
+returns-clause-siz c =
+    if_ok_from c.main_header.result _ (λ m e. main_siz c.args.bytes.now m.0 m.1 (found_main c.args.bytes.now m.0 m.1 (λ i. omega (arith, c.type_inv.bytes i)) (sym c.main_header.ensures ∙ e)))

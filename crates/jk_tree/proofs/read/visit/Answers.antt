@@ -1,6 +1,6 @@
 use Rattle.std.proofs.Common.{◌-◌, sym, ◌∙◌, ap, inl, inr}
 use Rattle.jk_tree.specs.Asking.{climb, visit}
-use Rattle.jk_tree.proofs.Given.{reads_same}
+use Rattle.jk_bits.specs.Giving.{reads_same}
 use Rattle.jk_tree.proofs.Visits.{visit_stays, visit_goes_on}
 use Rattle.jk_tree.proofs.read.visit.Goals as goal
 

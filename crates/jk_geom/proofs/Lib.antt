@@ -1,0 +1,7 @@
+pub mod Ceilings
+pub mod GridLaws
+pub mod Cells
+pub mod Weaving
+pub mod TileLaws
+pub mod BlockLaws
+mod Examples

@@ -1,0 +1,17 @@
+//! Tiles, resolutions, sub-bands, precincts and code-blocks on the reference grid (T.800 Annex B).
+#![tactic(auto)]
+
+mod bands;
+mod grid;
+mod laws;
+mod precincts;
+mod rounding;
+mod shape;
+mod tiling;
+
+pub use bands::{Orientation, band, resolution};
+pub use grid::{BlockGrid, blocks};
+pub use laws::{blocks_share_a_band, resolutions_are_woven, tiles_share_the_image};
+pub use precincts::{precinct, precinct_count};
+pub use shape::{Codings, PacketName, TileShape, tile_shape};
+pub use tiling::{tile, tile_count};

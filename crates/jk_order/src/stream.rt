@@ -1,0 +1,170 @@
+//! The packets of one resolution of one component.
+
+ghost use Rattle.std.specs.Prelude.{◌≡◌, ◌+◌, ◌*◌, ◌<◌, ◌≤◌, ◌^◌, nat_lt, if◌then◌else◌, Some, None};
+ghost use Rattle.jk_order.specs.Streams.{IsFrame, IsPlaced, IsStream, column_x, row_y, packed, rank, next_precinct, next_layer, successor};
+
+use jk_marks::Order;
+
+/// What all packets of a tile share.
+#[derive(Clone, Copy, Debug)]
+pub(crate) struct Frame {
+    pub(crate) order: Order,
+    pub(crate) layers: u16,
+    /// The tile's left edge.
+    pub(crate) x0: u32,
+    /// The tile's upper edge.
+    pub(crate) y0: u32,
+    /// How many streams are looked at: 11 for each component.
+    pub(crate) streams: usize,
+}
+
+/// The packets of one resolution of one component, and which of them is the next.
+#[derive(Clone, Copy, Debug)]
+pub(crate) struct Stream {
+    pub(crate) component: u8,
+    pub(crate) resolution: u8,
+    /// The exponent of a precinct's width on the reference grid.
+    pub(crate) width: u8,
+    /// The exponent of its height.
+    pub(crate) height: u8,
+    /// The column of the first precinct on the grid of the precincts.
+    pub(crate) left: u32,
+    /// Its row.
+    pub(crate) top: u32,
+    /// How many precincts lie side by side.
+    pub(crate) across: u32,
+    /// How many lie one above the other.
+    pub(crate) down: u32,
+    /// How many there are.
+    pub(crate) precincts: u32,
+    /// The layer of the next packet.
+    pub(crate) layer: u16,
+    /// Its precinct.
+    pub(crate) precinct: u32,
+    /// The precinct's column, counted from the first one.
+    pub(crate) column: u32,
+    /// The precinct's row, likewise.
+    pub(crate) row: u32,
+}
+
+/// Five numbers, of 32, 32, 32, 8 and 24 bits, in one, which compares as they do one after another.
+fn packed(a: u32, b: u32, c: u32, d: u8, e: u32) -> u128
+    requires { e < 2 ^ 24 }
+    ensures { result ≡ packed a b c d e }
+{
+    ((a as u128) << 96)
+        + ((b as u128) << 64)
+        + ((c as u128) << 32)
+        + ((d as u128) << 24)
+        + e as u128
+}
+
+impl Stream {
+    /// Where the column of the next packet's precinct begins on the reference grid, or the tile does.
+    fn x(&self, frame: &Frame) -> u32
+        requires stream { IsStream frame.now self.now }
+        requires column { self.now.column < self.now.across }
+        ensures { result ≡ column_x frame.now self.now self.now.column }
+    {
+        frame.x0.max((self.left + self.column) << self.width)
+    }
+
+    /// Where its row begins, or the tile does.
+    fn y(&self, frame: &Frame) -> u32
+        requires stream { IsStream frame.now self.now }
+        requires row { self.now.row < self.now.down }
+        ensures { result ≡ row_y frame.now self.now self.now.row }
+    {
+        frame.y0.max((self.top + self.row) << self.height)
+    }
+
+    /// The number by which the next packet is compared with those of other streams.
+    pub(crate) fn rank(&self, frame: &Frame) -> u128
+        requires stream { IsStream frame.now self.now }
+        requires placed { IsPlaced self.now }
+        ensures { result ≡ rank frame.now self.now self.now.layer self.now.precinct }
+    {
+        let layer = self.layer as u32;
+        let resolution = self.resolution as u32;
+        let component = self.component as u32;
+        match frame.order {
+            Order::Lrcp => packed(layer, resolution, 0, self.component, self.precinct),
+            Order::Rlcp => packed(resolution, layer, 0, self.component, self.precinct),
+            Order::Rpcl => packed(
+                resolution,
+                self.y(frame),
+                self.x(frame),
+                self.component,
+                layer,
+            ),
+            Order::Pcrl => packed(
+                self.y(frame),
+                self.x(frame),
+                component,
+                self.resolution,
+                layer,
+            ),
+            Order::Cprl => packed(
+                component,
+                self.y(frame),
+                self.x(frame),
+                self.resolution,
+                layer,
+            ),
+        }
+    }
+
+    /// The same layer of the next precinct.
+    fn next_precinct(self) -> Option<Stream>
+        requires { IsPlaced self }
+        ensures { result ≡ next_precinct self }
+    {
+        if self.precinct + 1 >= self.precincts {
+            return None;
+        }
+        let whole = self.column + 1 < self.across;
+        Some(Stream {
+            precinct: self.precinct + 1,
+            column: if whole { self.column + 1 } else { 0 },
+            row: if whole { self.row } else { self.row + 1 },
+            ..self
+        })
+    }
+
+    /// The next layer of the same precinct.
+    fn next_layer(self, layers: u16) -> Option<Stream>
+        ensures { result ≡ (if nat_lt (self.layer + 1) layers then Some (record self { layer = self.layer + 1 }) else None) }
+    {
+        if self.layer as u32 + 1 >= layers as u32 {
+            return None;
+        }
+        Some(Stream {
+            layer: self.layer + 1,
+            ..self
+        })
+    }
+
+    /// The stream behind its next packet, unless that is the last.
+    #[tactic(auto, unfolding(crate::specs::Streams::successor))]
+    pub(crate) fn successor(self, frame: &Frame) -> Option<Stream>
+        requires { IsPlaced self }
+        ensures { result ≡ successor frame.now self }
+    {
+        match frame.order {
+            Order::Lrcp | Order::Rlcp => match self.next_precinct() {
+                Some(stream) => Some(stream),
+                None => Stream {
+                    precinct: 0,
+                    column: 0,
+                    row: 0,
+                    ..self
+                }
+                .next_layer(frame.layers),
+            },
+            Order::Rpcl | Order::Pcrl | Order::Cprl => match self.next_layer(frame.layers) {
+                Some(stream) => Some(stream),
+                None => Stream { layer: 0, ..self }.next_precinct(),
+            },
+        }
+    }
+}

@@ -1,0 +1,5 @@
+pub mod Shapes
+pub mod Words
+pub mod Reading
+pub mod PacketText
+pub mod Standing

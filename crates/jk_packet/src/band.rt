@@ -1,0 +1,132 @@
+//! A sub-band of a precinct, as far as packet headers have told of it.
+
+ghost use Rattle.std.specs.Prelude.{◌≡◌, ℕ, ◌+◌, ◌*◌, ◌<◌, ◌≤◌, length, IfOk, MatchResult};
+ghost use Rattle.jk_math.specs.Answer.{Answers};
+ghost use Rattle.jk_math.specs.declared.fault.Fault.TheVariants.{Memory};
+ghost use Rattle.jk_packet.specs.Reading.{BandWalk, blank_band, band_at, block_at};
+
+use crate::block::{Block, blank_blocks, read_inclusion, read_zero_planes};
+use crate::header::Part;
+use crate::shape::BandShape;
+use crate::words::read_piece;
+use jk_bits::BitReader;
+use jk_math::Fault;
+use jk_tree::ReadTree;
+use std::alloc::Global;
+use std::marker::Model;
+
+/// What packet headers have told so far of the code-blocks of a sub-band.
+#[derive(Drop)]
+pub(crate) struct Band {
+    shape: BandShape,
+    blocks: Vec<Block>,
+    inclusion: ReadTree,
+    zeros: ReadTree,
+}
+
+impl Model for Band {
+    ghost use Rattle.std.specs.Prelude.{◌≡◌, ◌*◌, length};
+    ghost use Rattle.jk_tree.specs.TagTree.{shape_of};
+    ghost use Rattle.jk_packet.specs.Reading.{BandState};
+
+    ghost Value = { BandState };
+
+    ghost view = { λ b. record {
+      shape = shape_of b.shape.across b.shape.down;
+      planes = b.shape.planes;
+      blocks = b.blocks.items;
+      inclusion = b.inclusion;
+      zeros = b.zeros;
+    } };
+
+    ghost invariant = { λ b. (length b.blocks.items ≡ b.shape.across * b.shape.down)
+        × (b.inclusion.shape ≡ shape_of b.shape.across b.shape.down)
+        × (b.zeros.shape ≡ shape_of b.shape.across b.shape.down) };
+}
+
+impl Band {
+    /// A sub-band of which nothing was read.
+    pub(crate) fn new(alloc: Global, shape: BandShape) -> Result<Band, Fault>
+        ensures { MatchResult result (λ b. b ≡ blank_band shape) (λ e. e ≡ Memory) }
+    {
+        let blocks = blank_blocks(alloc, shape.across as usize * shape.down as usize)?;
+        let inclusion = ReadTree::new(alloc, shape.across, shape.down)?;
+        let zeros = ReadTree::new(alloc, shape.across, shape.down)?;
+        Ok(Band {
+            shape,
+            blocks,
+            inclusion,
+            zeros,
+        })
+    }
+
+    /// What the packet of a layer has of one block; `number` is that of the sub-band in its precinct.
+    fn read_block(
+        &mut self,
+        number: u8,
+        index: u32,
+        layer: u16,
+        reader: &mut BitReader<'_>,
+        parts: &mut Vec<Part>,
+    ) -> Result<(), Fault>
+        requires index { index < self.old.shape.width * self.old.shape.height }
+        requires layer { layer < 65535 }
+        ensures exact { Answers
+            (λ _. record { band = self.new; bits = reader.new; parts = parts.new.items }) result
+            (block_at number layer index record { band = self.old; bits = reader.old; parts = parts.old.items }) }
+        ensures kept { self.new.shape ≡ self.old.shape }
+    {
+        let block = self.blocks[index as usize];
+        let included = read_inclusion(block, index, layer, &mut self.inclusion, reader)?;
+        if !included {
+            return Ok(());
+        }
+        let zero_planes = read_zero_planes(
+            block,
+            index,
+            self.shape.planes,
+            &mut self.zeros,
+            reader,
+        )?;
+        let piece = read_piece(
+            reader,
+            self.shape.planes,
+            zero_planes,
+            block.passes,
+            block.length_bits,
+        )?;
+        self.blocks[index as usize] = Block {
+            included: true,
+            zero_planes,
+            passes: block.passes + piece.passes as u16,
+            length_bits: block.length_bits + piece.growth,
+        };
+        parts.push(Part {
+            band: number,
+            block: index,
+            zero_planes,
+            passes: piece.passes,
+            length: piece.length,
+        })?;
+        Ok(())
+    }
+
+    /// What the packet of a layer has of the blocks, in raster order.
+    pub(crate) fn read(
+        &mut self,
+        number: u8,
+        layer: u16,
+        reader: &mut BitReader<'_>,
+        parts: &mut Vec<Part>,
+    ) -> Result<(), Fault>
+        requires { layer < 65535 }
+        ensures { Answers
+            (λ _. record { band = self.new; bits = reader.new; parts = parts.new.items }) result
+            (band_at number layer record { band = self.old; bits = reader.old; parts = parts.old.items }) }
+    {
+        for index in 0..self.shape.across as u32 * self.shape.down as u32 {
+            self.read_block(number, index, layer, reader, parts)?;
+        }
+        Ok(())
+    }
+}

@@ -1,0 +1,24 @@
+use Rattle.std.proofs.Common.{◌≡◌, List, ℤ, map, pos, Ok, sym, ap, subst, ◌∙◌}
+use Rattle.jk_math.specs.Picture.{IsPicture, lists_of}
+use Rattle.jk_pnm.specs.Reading.{samples_of, picture_of}
+use Rattle.jk_pnm.proofs.PictureLaws.{picture_is, picture_below, picture_ok, picture_bad, page_of}
+use Rattle.jk_pnm.proofs.reading.picture.Goals as goal
+
+pub returns-in-Ok : goal.returns-in-Ok
+returns-in-Ok c =
+    let h = c.args.header.now in
+    let raster = c.args.raster.now in
+    let planes-are : lists_of c.in_ok-planes.planes.items ≡ map (map pos) (samples_of h raster) = c.in_ok-planes.ensures.value in
+    let image-is : c.in-Ok.image ≡ picture_of h raster = c.in-Ok.ensures.value ∙ ap (λ (ps : List (List ℤ)). page_of h ps) planes-are in
+    let below = picture_below h raster c.requires.depth (subst IsPicture image-is c.in-Ok.ensures.profile) in
+    picture_ok h raster below ∙ ap Ok (sym image-is)
+
+pub returns-in-Err : goal.returns-in-Err
+returns-in-Err c =
+    let h = c.args.header.now in
+    let raster = c.args.raster.now in
+    let planes-are : lists_of c.in_ok-planes.planes.items ≡ map (map pos) (samples_of h raster) = c.in_ok-planes.ensures.value in
+    picture_bad h raster (λ below.
+    let is = picture_is h raster c.requires.wide c.requires.high c.requires.area c.requires.depth c.requires.bits below in
+    let made = c.in-Err.ensures.made (subst (λ (ps : List (List ℤ)). IsPicture (page_of h ps)) (sym planes-are) is) in
+    cc)

@@ -1,0 +1,233 @@
+-- The laws of queries that crates above cite: what is told is read, and what is read is told; a leaf's value, once it is known.
+use Rattle.std.proofs.Common.{◌≡◌, ℕ, zero, suc, ◌+◌, ◌-◌, ◌*◌, ◌<◌, ◌≤◌, min, max, Bool, true, false, cond, List, [], ◌∷◌, ◌++◌, length, set, drop, replicate, Result, Option, Some, None, Ok, Err, refl, sym, ap, ◌∙◌, subst, inl, inr, arith}
+use Rattle.std.specs.Prelude.{◌||◌, nat_lt, nat_le}
+use Rattle.std.proofs.lemmas.Bool.{cases_lt, and_parts}
+use Rattle.std.proofs.lemmas.Bool.Decides.{nat_tests}
+use Rattle.std.proofs.lemmas.List.{length-set, length-replicate}
+use Rattle.jk_math.specs.Answer.{◌>>=◌}
+use Rattle.jk_math.specs.Steps.{bind_then}
+use Rattle.jk_math.specs.declared.fault.Fault.{Fault}
+use Rattle.jk_bits.specs.Reading.{Bits, ahead}
+use Rattle.jk_tree.specs.TagTree.{Shape, top, place, count, column, row, IsNode, Values, above, IsTree, Query, query_of, passes, asked, word, piece, told_below, told, leaf_of}
+use Rattle.jk_tree.specs.declared.node.Node.{Node}
+use Rattle.jk_tree.specs.Asking.{told_node, node_at, Stands, Reached, climb, visit, walk, is_below, Tree, IsOpen, unless_failed, blank_tree, ask_at}
+use Rattle.jk_bits.specs.Giving.{Gives, advance, Moves, stays, moves_on}
+use Rattle.jk_tree.proofs.Visits.{climb_out, piece_asked, piece_known, node_same}
+use Rattle.jk_tree.proofs.Places.{path_node, passes_at, passes_own, place_leaf}
+use Rattle.jk_tree.proofs.Walks.{asked_push, above_way, below-suc, told_none}
+use Rattle.jk_tree.proofs.Finds.{way, steps, walk_end}
+use Rattle.jk_tree.proofs.Speeches.{told_all}
+use Rattle.jk_tree.proofs.Asks.{fresh}
+use Rattle.jk_tree.proofs.Answering.{only_law, found_law}
+
+pub asked_then : (f : Option Fault) (q : Query) (t : Tree) (w : Result (List Node × Bits) Fault) (out : Bool × (Tree × Bits)) → unless_failed f (w >>= λ o. Ok (is_below q o.0, (record t { nodes = o.0 }, o.1))) ≡ Ok out
+    → (f ≡ None) × (o : List Node × Bits) × (w ≡ Ok o) × ((is_below q o.0, (record t { nodes = o.0 }, o.1)) ≡ out)
+asked_then (Some e) q t w out h = absurd (cc)
+asked_then None q t (Err e) out h = absurd (cc)
+asked_then None q t (Ok o) out h = (refl, o, refl, cc)
+
+-- What an answer says of the nodes after it.
+pub asked_below : (q : Query) (t : Tree) (r : Bits) (out : Bool × (Tree × Bits)) → ask_at q (t, r) ≡ Ok out → out.0 ≡ is_below q out.1.0.nodes
+unfolding ask_at
+asked_below q t r out h =
+    let a = asked_then t.failed q t (walk t.shape q (top t.shape + 1) 0 t.nodes r) out h in
+    subst (λ (x : Bool × (Tree × Bits)). x.0 ≡ is_below q x.1.0.nodes) a.3 refl
+
+-- A leaf that is below a threshold has a low below it.
+pub low_below : (q : Query) (t : Tree) (r : Bits) (out : Bool × (Tree × Bits)) → ask_at q (t, r) ≡ Ok out → out.0 ≡ true → (node_at out.1.0.nodes q.leaf).low < q.threshold
+low_below q t r out h known =
+    let node = node_at out.1.0.nodes q.leaf in
+    let both = and_parts node.known (nat_lt node.low q.threshold) (sym (asked_below q t r out h) ∙ known) in
+    grind (arith, nat_tests)
+
+visit_moves : (node : Node) (over threshold : ℕ) (r : Bits) (o : Node × Bits) → visit node over threshold r ≡ Ok o → Moves r o.1
+unfolding visit
+visit_moves node over threshold r o h = by_test (node.known || nat_le threshold node.low) h
+  where
+    by_test : (b : Bool) → cond b (Ok (node, r)) (climb (max node.low over) (threshold - max node.low over) r) ≡ Ok o → Moves r o.1
+    by_test true e = let is : (node, r) ≡ o = cc in subst (λ (p : Node × Bits). Moves r p.1) is (stays r)
+    by_test false e = (_, (climb_out (max node.low over) (threshold - max node.low over) r o e).given)
+
+walk_moves : (s : Shape) (q : Query) (i over : ℕ) (nodes : List Node) (r : Bits) (o : List Node × Bits) → walk s q i over nodes r ≡ Ok o → Moves r o.1
+unfolding walk
+walk_moves s q zero over nodes r o h = let is : (nodes, r) ≡ o = cc in subst (λ (p : List Node × Bits). Moves r p.1) is (stays r)
+walk_moves s q (suc i) over nodes r o h =
+    let p = place s i (column s q.leaf i) (row s q.leaf i) in
+    bind_then (visit (node_at nodes p) over q.threshold r) (λ v. walk s q i (min v.0.low q.threshold) (set nodes p v.0) v.1) o h
+    (λ v e k. moves_on r v.1 o.1 (visit_moves (node_at nodes p) over q.threshold r v e) (walk_moves s q i (min v.0.low q.threshold) (set nodes p v.0) v.1 o k))
+
+pub ask_moves : (q : Query) (t : Tree) (r : Bits) (o : Bool × (Tree × Bits)) → ask_at q (t, r) ≡ Ok o → Moves r o.1.1
+unfolding ask_at
+ask_moves q t r o h =
+    let a = asked_then t.failed q t (walk t.shape q (top t.shape + 1) 0 t.nodes r) o h in
+    subst (λ (x : Bool × (Tree × Bits)). Moves r x.1.1) a.3 (walk_moves t.shape q (top t.shape + 1) 0 t.nodes r a.1 a.2)
+
+walk_long : (s : Shape) (q : Query) (i over : ℕ) (nodes : List Node) (r : Bits) (o : List Node × Bits) → walk s q i over nodes r ≡ Ok o → length o.0 ≡ length nodes
+walk_long s q zero over nodes r o h = ap (λ (p : List Node × Bits). length p.0) (sym (walk_end s q over nodes r o h))
+walk_long s q (suc i) over nodes r o h =
+    let t = steps s q i over nodes r o h in
+    walk_long s q i (min t.node.low q.threshold) (set nodes (way s q i) t.node) t.mid o t.walked ∙ length-set nodes (way s q i) t.node
+
+-- a tree that was asked can be asked again
+asked_open : (s : Shape) (q : Query) (t : Tree) (r : Bits) (o : Bool × (Tree × Bits)) → IsOpen s t → ask_at q (t, r) ≡ Ok o → IsOpen s o.1.0
+unfolding ask_at
+asked_open s q t r o w h =
+    let a = asked_then t.failed q t (walk t.shape q (top t.shape + 1) 0 t.nodes r) o h in
+    subst (λ (x : Bool × (Tree × Bits)). IsOpen s x.1.0) a.3 record {
+      shape = w.shape;
+      sound = w.sound;
+      long = walk_long t.shape q (top t.shape + 1) 0 t.nodes r a.1 a.2 ∙ w.long;
+    }
+
+-- What a tree would tell is read.
+pub record AskOnly (s : Shape) (v : Values) (queries : List Query) (q : Query) (t : Tree) (r : Bits) : Type 0 where
+  pub after : Tree
+  pub is : ask_at q (t, r) ≡ Ok (nat_lt (leaf_of s v q.leaf) q.threshold, (after, advance r (length (told s v queries q))))
+  pub can : IsOpen s after
+  pub stands : Stands s v (queries ++ q ∷ []) after.nodes
+
+ask_here : (v : Values) (queries : List Query) (q : Query) (t : Tree) (r : Bits) (rest : List Bool) → q.leaf < t.shape.width * t.shape.height → IsOpen t.shape t → Stands t.shape v queries t.nodes
+    → ahead r ≡ told t.shape v queries q ++ rest → AskOnly t.shape v queries q t r
+ask_here v queries q t r rest less w st first =
+    let law = only_law q t r v queries rest less w.long w.sound st first in
+    let o = law.0 in
+    let a = law.2 in
+    let moved : o.1.1 ≡ advance r (length (told t.shape v queries q)) = a.given.moved in
+    record {
+      after = o.1.0;
+      is = law.1 ∙ ap (λ (b : Bool). Ok (b, o.1)) a.answer ∙ ap (λ (b : Bits). Ok (nat_lt (leaf_of t.shape v q.leaf) q.threshold, (o.1.0, b))) moved;
+      can = asked_open t.shape q t r o w law.1;
+      stands = a.after;
+    }
+
+pub ask_only : (s : Shape) (v : Values) (queries : List Query) (q : Query) (t : Tree) (r : Bits) (rest : List Bool) → q.leaf < s.width * s.height → IsOpen s t → Stands s v queries t.nodes
+    → ahead r ≡ told s v queries q ++ rest → AskOnly s v queries q t r
+ask_only s v queries q t r rest less w =
+    subst (λ (x : Shape). q.leaf < x.width * x.height → IsOpen x t → Stands x v queries t.nodes → ahead r ≡ told x v queries q ++ rest → AskOnly x v queries q t r) w.shape
+    (λ l o st first. ask_here v queries q t r rest l o st first) less w
+
+-- What is read is what each tree tells that stands afterwards, and there is one.
+pub record AskFound (s : Shape) (queries : List Query) (q : Query) (t : Tree) (r : Bits) (o : Bool × (Tree × Bits)) : Type 0 where
+  pub can : IsOpen s o.1.0
+  pub reached : Reached s (queries ++ q ∷ []) o.1.0.nodes
+  pub each : (v : Values) → Stands s v (queries ++ q ∷ []) o.1.0.nodes → Stands s v queries t.nodes × Gives r (told s v queries q) o.1.1 × (o.0 ≡ nat_lt (leaf_of s v q.leaf) q.threshold)
+
+found_here : (queries : List Query) (q : Query) (t : Tree) (r : Bits) (o : Bool × (Tree × Bits)) → q.leaf < t.shape.width * t.shape.height → IsOpen t.shape t → Reached t.shape queries t.nodes
+    → ask_at q (t, r) ≡ Ok o → AskFound t.shape queries q t r o
+unfolding ask_at
+found_here queries q t r o less w reached h =
+    let a = asked_then t.failed q t (walk t.shape q (top t.shape + 1) 0 t.nodes r) o h in
+    let law = found_law q t r a.1 queries less w.long w.sound a.2 reached in
+    record {
+      can = asked_open t.shape q t r o w h;
+      reached = subst (λ (x : Bool × (Tree × Bits)). Reached t.shape (queries ++ q ∷ []) x.1.0.nodes) a.3 law.0;
+      each = subst (λ (x : Bool × (Tree × Bits)). (v : Values) → Stands t.shape v (queries ++ q ∷ []) x.1.0.nodes → Stands t.shape v queries t.nodes × Gives r (told t.shape v queries q) x.1.1 × (x.0 ≡ nat_lt (leaf_of t.shape v q.leaf) q.threshold)) a.3
+          (λ v st. let f = law.1 v st in (f.before, f.given, f.answer));
+    }
+
+pub ask_found : (s : Shape) (queries : List Query) (q : Query) (t : Tree) (r : Bits) (o : Bool × (Tree × Bits)) → q.leaf < s.width * s.height → IsOpen s t → Reached s queries t.nodes → ask_at q (t, r) ≡ Ok o → AskFound s queries q t r o
+ask_found s queries q t r o less w =
+    subst (λ (x : Shape). q.leaf < x.width * x.height → IsOpen x t → Reached x queries t.nodes → ask_at q (t, r) ≡ Ok o → AskFound x queries q t r o) w.shape
+    (λ l u reached h. found_here queries q t r o l u reached h) less w
+
+-- Over a leaf no node is greater.
+over_leaf : (s : Shape) (v : Values) (leaf i : ℕ) → leaf < s.width * s.height → IsTree s v → i ≤ top s → v i (column s leaf i) (row s leaf i) ≤ leaf_of s v leaf
+over_leaf s v leaf zero less tree level = omega arith
+over_leaf s v leaf (suc i) less tree level =
+    let below = over_leaf s v leaf i less tree (omega (arith, level)) in
+    let here = tree i (column s leaf i) (row s leaf i) (path_node s leaf i less (omega (arith, level))) in
+    let up = above_way s v leaf i (omega (arith, level)) in
+    omega (arith, below, here, up)
+
+-- A node below two thresholds tells the same at either.
+piece_same : (u w a t t' : ℕ) → u ≤ w → w < t → t ≤ t' → piece u w a t ≡ piece u w a t'
+piece_same u w a t t' tree less more =
+    elim (cases_lt a t) [
+      | inl asks ↦
+          let one : nat_lt a t ≡ true = grind (arith, nat_tests) in
+          let two : nat_lt a t' ≡ true = grind (arith, nat_tests) in
+          let below : nat_lt w t ≡ true = grind (arith, nat_tests) in
+          let below' : nat_lt w t' ≡ true = grind (arith, nat_tests) in
+          let zeros : min w t - min u t ≡ min w t' - min u t' = omega arith in
+          let same : word u w t ≡ word u w t' =
+          ap (λ n. replicate n false ++ cond (nat_lt w t) (true ∷ []) []) zeros ∙ ap (λ (b : Bool). replicate (min w t' - min u t') false ++ cond b (true ∷ []) []) (below ∙ sym below') in
+          ap (λ (b : Bool). cond b (drop (length (word u w a)) (word u w t)) []) one
+          ∙ ap (drop (length (word u w a))) same
+          ∙ ap (λ (b : Bool). cond b (drop (length (word u w a)) (word u w t')) []) (sym two)
+      | inr high ↦
+          piece_asked u w a t high ∙ sym (elim (cases_lt a t') [
+            | inl asks ↦ piece_known u w a t' tree (omega (arith, less, high)) asks
+            | inr higher ↦ piece_asked u w a t' higher
+          ])
+    ]
+
+told_below_same : (s : Shape) (v : Values) (queries : List Query) (leaf t t' i : ℕ) → leaf < s.width * s.height → IsTree s v → leaf_of s v leaf < t → t ≤ t' → i ≤ suc (top s)
+    → told_below s v queries (query_of leaf t) i ≡ told_below s v queries (query_of leaf t') i
+told_below_same s v queries leaf t t' zero less tree low more level = told_none s v queries (query_of leaf t) ∙ sym (told_none s v queries (query_of leaf t'))
+told_below_same s v queries leaf t t' (suc i) less tree low more level =
+    let x = column s leaf i in
+    let y = row s leaf i in
+    let here : v i x y < t = (let o = over_leaf s v leaf i less tree (omega (arith, level)) in omega (arith, o, low)) in
+    let up : above s v i x y ≤ v i x y = tree i x y (path_node s leaf i less (omega (arith, level))) in
+    below-suc s v queries (query_of leaf t) i
+    ∙ ap (λ (bits : List Bool). bits ++ told_below s v queries (query_of leaf t) i) (piece_same (above s v i x y) (v i x y) (asked s queries i x y) t t' up here more)
+    ∙ ap (λ (bits : List Bool). piece (above s v i x y) (v i x y) (asked s queries i x y) t' ++ bits) (told_below_same s v queries leaf t t' i less tree low more (omega (arith, level)))
+    ∙ sym (below-suc s v queries (query_of leaf t') i)
+
+-- Asking for more than a leaf's value tells what asking up to it tells, and leaves the same.
+pub told_same : (s : Shape) (v : Values) (queries : List Query) (leaf t t' : ℕ) → leaf < s.width * s.height → IsTree s v → leaf_of s v leaf < t → t ≤ t' → told s v queries (query_of leaf t) ≡ told s v queries (query_of leaf t')
+told_same s v queries leaf t t' less tree low more =
+    told_all s v queries (query_of leaf t) ∙ told_below_same s v queries leaf t t' (suc (top s)) less tree low more (omega arith) ∙ sym (told_all s v queries (query_of leaf t'))
+
+asked_same : (s : Shape) (v : Values) (queries : List Query) (leaf t t' j x y : ℕ) → leaf < s.width * s.height → IsTree s v → leaf_of s v leaf < t → leaf_of s v leaf < t' → IsNode s j x y
+    → told_node (v j x y) (asked s (queries ++ query_of leaf t ∷ []) j x y) ≡ told_node (v j x y) (asked s (queries ++ query_of leaf t' ∷ []) j x y)
+asked_same s v queries leaf t t' j x y less tree low low' n =
+    ap (told_node (v j x y)) (asked_push s queries (query_of leaf t) j x y)
+    ∙ by_way (passes s leaf j x y) (passes_at s leaf j x y)
+    ∙ ap (told_node (v j x y)) (sym (asked_push s queries (query_of leaf t') j x y))
+  where
+    by_way : (b : Bool) → (b ≡ true → (column s leaf j ≡ x) × (row s leaf j ≡ y))
+        → told_node (v j x y) (max (asked s queries j x y) (cond b t 0)) ≡ told_node (v j x y) (max (asked s queries j x y) (cond b t' 0))
+    by_way false on = refl
+    by_way true on =
+        let e = on refl in
+        let a = asked s queries j x y in
+        let here : v j x y ≤ leaf_of s v leaf = subst (λ y'. v j x y' ≤ leaf_of s v leaf) e.1 (subst (λ x'. v j x' (row s leaf j) ≤ leaf_of s v leaf) e.0 (over_leaf s v leaf j less tree n.level)) in
+        let one : nat_lt (v j x y) (max a t) ≡ true = grind (arith, nat_tests) in
+        let two : nat_lt (v j x y) (max a t') ≡ true = grind (arith, nat_tests) in
+        node_same (min (v j x y) (max a t)) (min (v j x y) (max a t')) (nat_lt (v j x y) (max a t)) (nat_lt (v j x y) (max a t')) (omega (arith, here, low, low')) (one ∙ sym two)
+
+pub stands_same : (s : Shape) (v : Values) (queries : List Query) (leaf t t' : ℕ) (nodes : List Node) → leaf < s.width * s.height → leaf_of s v leaf < t → leaf_of s v leaf < t' → Stands s v (queries ++ query_of leaf t ∷ []) nodes
+    → Stands s v (queries ++ query_of leaf t' ∷ []) nodes
+stands_same s v queries leaf t t' nodes less low low' st = record {
+  tree = st.tree;
+  each = λ j x y n. st.each j x y n ∙ asked_same s v queries leaf t t' j x y less st.tree low low' n;
+}
+
+-- What is known of a leaf, where it is less than was asked, is its value.
+leaf_known : (s : Shape) (v : Values) (queries : List Query) (leaf t : ℕ) (nodes : List Node) → leaf < s.width * s.height → Stands s v (queries ++ query_of leaf t ∷ []) nodes
+    → (m : ℕ) × (t ≤ m) × ((node_at nodes leaf).low ≡ min (leaf_of s v leaf) m)
+leaf_known s v queries leaf t nodes less st =
+    let x = column s leaf 0 in
+    let y = row s leaf 0 in
+    let own = st.each 0 x y (path_node s leaf 0 less (omega arith)) in
+    let more : asked s (queries ++ query_of leaf t ∷ []) 0 x y ≡ max (asked s queries 0 x y) t = asked_push s queries (query_of leaf t) 0 x y ∙ ap (λ (b : Bool). max (asked s queries 0 x y) (cond b t 0)) (passes_own s leaf 0) in (
+      asked s (queries ++ query_of leaf t ∷ []) 0 x y,
+      omega (arith, more),
+      ap (λ p. (node_at nodes p).low) (sym (place_leaf s leaf)) ∙ ap (λ (n : Node). n.low) own,
+    )
+
+pub low_is : (s : Shape) (v : Values) (queries : List Query) (leaf t : ℕ) (nodes : List Node) → leaf < s.width * s.height → leaf_of s v leaf < t → Stands s v (queries ++ query_of leaf t ∷ []) nodes → (node_at nodes leaf).low ≡ leaf_of s v leaf
+low_is s v queries leaf t nodes less low st = let k = leaf_known s v queries leaf t nodes less st in let a = k.1 in let e = k.2 in omega (arith, a, e, low)
+
+pub value_is : (s : Shape) (v : Values) (queries : List Query) (leaf t : ℕ) (nodes : List Node) → leaf < s.width * s.height → (node_at nodes leaf).low < t → Stands s v (queries ++ query_of leaf t ∷ []) nodes → leaf_of s v leaf ≡ (node_at nodes leaf).low
+value_is s v queries leaf t nodes less low st = let k = leaf_known s v queries leaf t nodes less st in let a = k.1 in let e = k.2 in omega (arith, a, e, low)
+
+-- A tree of which nothing is known.
+pub blank_open : (s : Shape) → IsOpen s (blank_tree s)
+unfolding blank_tree
+blank_open s = record { shape = refl; sound = refl; long = length-replicate (count s) record { low = 0; known = false } }
+
+pub blank_tree_stands : (s : Shape) (v : Values) → IsTree s v → Stands s v [] (blank_tree s).nodes
+unfolding blank_tree
+blank_tree_stands s v tree = fresh s v (count s) tree (omega arith)

@@ -1,0 +1,14 @@
+//! Tiles whose packets, in each order, and code-blocks are known from outside.
+#![tactic(auto)]
+
+#[cfg(test)]
+mod limits;
+#[cfg(test)]
+mod nine_tiles;
+mod random;
+#[cfg(test)]
+mod random_tiles;
+#[cfg(test)]
+mod sums;
+
+pub use random::{Random, any_tile, coding};

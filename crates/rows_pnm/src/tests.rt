@@ -1,0 +1,115 @@
+use crate::cases::{Case, OTHERS, REFUSED, WRITTEN};
+use jk_math::{Fault, Image};
+use jk_pnm::{read, write};
+use std::alloc::Global;
+use std::process::Abort;
+use std::test::Fail;
+
+/// The samples of all components, one component behind the other.
+fn samples(alloc: Global, image: &Image) -> Result<Vec<i32>, Fail> {
+    let planes = image.planes();
+    let mut all = Vec::new(alloc);
+    for component in 0..planes.len() {
+        all.extend_from_slice(planes.plane(component))?;
+    }
+    Ok(all)
+}
+
+/// Reads a file, which must have this picture.
+fn reads(rt: &impl Abort, alloc: Global, case: &Case<'_>) -> Result<Image, Fail> {
+    let (file, width, height, depth, wanted) = case;
+    let image = read(alloc, file)?;
+    assert_eq!(rt; (image.x0(), image.y0()), (0, 0));
+    assert_eq!(rt;
+        (image.width(), image.height()),
+        (*width, *height),
+        "{file:?}"
+    );
+    assert_eq!(rt;
+        (image.depth(), image.signed()),
+        (*depth, false),
+        "{file:?}"
+    );
+    assert_eq!(rt; samples(alloc, &image)?.as_slice(), *wanted, "{file:?}");
+    Ok(image)
+}
+
+/// An image of black samples.
+fn black(alloc: Global, signed: bool, components: usize) -> Result<Image, Fail> {
+    let mut planes = Vec::new(alloc);
+    for _ in 0..components {
+        planes.push(vec![in alloc; 0; 6]?)?;
+    }
+    Ok(Image::new(0, 0, 3, 2, 8, signed, planes)?)
+}
+
+#[test]
+fn one_sample(rt: HostRuntime) -> Result<(), Fail> {
+    let alloc = rt.alloc();
+    let file = b"P5\n1 1\n255\n\x80";
+    assert_eq!(rt; file.len(), 12);
+    let image = reads(&rt, alloc, &(file, 1, 1, 8, &[128]))?;
+    assert_eq!(rt; write(alloc, &image)?.as_slice(), file.as_slice());
+    Ok(())
+}
+
+#[test]
+fn written_files(rt: HostRuntime) -> Result<(), Fail> {
+    let alloc = rt.alloc();
+    for case in &WRITTEN {
+        let image = reads(&rt, alloc, case)?;
+        assert_eq!(rt; write(alloc, &image)?.as_slice(), case.0);
+    }
+    Ok(())
+}
+
+#[test]
+fn other_files(rt: HostRuntime) -> Result<(), Fail> {
+    let alloc = rt.alloc();
+    for case in &OTHERS {
+        let image = reads(&rt, alloc, case)?;
+        let file = write(alloc, &image)?;
+        assert!(rt; file.as_slice() != case.0);
+        let (_, width, height, depth, wanted) = case;
+        reads(&rt, alloc, &(&file, *width, *height, *depth, *wanted))?;
+    }
+    Ok(())
+}
+
+#[test]
+fn no_files(rt: HostRuntime) -> Result<(), Fail> {
+    let alloc = rt.alloc();
+    for file in &REFUSED {
+        assert_eq!(rt; read(alloc, file).err(), Some(Fault::BadPnm), "{file:?}");
+    }
+    Ok(())
+}
+
+#[test]
+fn fronts(rt: HostRuntime) -> Result<(), Fail> {
+    let file = b"P5\n1 1\n255\n\x80";
+    for length in 0..file.len() {
+        let front = read(rt.alloc(), &file[..length]);
+        assert_eq!(rt; front.err(), Some(Fault::BadPnm), "{length}");
+    }
+    Ok(())
+}
+
+#[test]
+fn unwritten_images(rt: HostRuntime) -> Result<(), Fail> {
+    let alloc = rt.alloc();
+    for (signed, components) in [(false, 2), (false, 4), (true, 1), (true, 3)] {
+        let image = black(alloc, signed, components)?;
+        assert_eq!(rt; write(alloc, &image).err(), Some(Fault::Unsupported));
+    }
+    Ok(())
+}
+
+#[test]
+fn another_place(rt: HostRuntime) -> Result<(), Fail> {
+    let alloc = rt.alloc();
+    let file = write(alloc, &black(alloc, false, 1)?.place(7, 9)?)?;
+    assert_eq!(rt; file.as_slice(), b"P5\n3 2\n255\n\0\0\0\0\0\0".as_slice());
+    reads(&rt, alloc, &(&file, 3, 2, 8, &[0, 0, 0, 0, 0, 0]))?;
+    Ok(())
+}
