@@ -1,5 +1,5 @@
 -- What decoding gives is what the file means, and a file's meaning is given.
-use Rattle.std.proofs.Common.{◌≡◌, ℕ, zero, suc, ◌+◌, ◌-◌, ◌*◌, ◌/◌, ◌%◌, ◌<◌, ◌≤◌, min, max, Bool, true, false, not, eqb, ltb, leb, List, [], ◌∷◌, ◌++◌, length, map, get_or, take, replicate, Ok, ℤ, pos, refl, sym, ap, subst, ◌∙◌, arith, lit<, lit≤}
+use Rattle.std.proofs.Common.{◌≡◌, ℕ, zero, suc, ◌+◌, ◌-◌, ◌*◌, ◌/◌, ◌%◌, ◌<◌, ◌≤◌, min, max, Bool, true, false, not, eqb, ltb, leb, List, [], ◌∷◌, ◌++◌, length, map, get_or, drop, replicate, Ok, ℤ, pos, refl, sym, ap, subst, ◌∙◌, arith, lit<, lit≤}
 use Rattle.std.specs.List.{flat_map, concat, AllZip, AllByRecursion, list_all}
 use Rattle.std.proofs.lemmas.Bool.{ltb-false, leb-true, leb-false, lt-leb, eqb-false, not-false, and_parts}
 use Rattle.std.proofs.lemmas.List.{append-nil, get_or-replicate, length-replicate}
@@ -10,17 +10,20 @@ use Rattle.jk_math.specs.declared.fault.Fault.TheVariants.{NotYet, BadWindow, Mi
 use Rattle.jk_math.specs.declared.rect.Rect.{Rect}
 use Rattle.jk_math.specs.Picture.{Picture, sample_at}
 use Rattle.jk_marks.specs.declared.siz.Siz.{Siz}
-use Rattle.jk_marks.specs.Markers.{soc, marker_text}
 use Rattle.jk_marks.specs.Siz.{tiles_across}
 use Rattle.jk_params.specs.Page.{page_siz, page_cod}
 use Rattle.jk_params.specs.Headers.{TileFields, Headers, IsHeaders}
 use Rattle.jk_params.specs.HeadersReading.{headers_at}
 use Rattle.jk_params.proofs.HeadersLaws.{page_headers, found_headers, only_headers}
-use Rattle.jk_marks.proofs.Numbers.{AreBytes}
+use Rattle.std.specs.Prelude.{slice_range}
+use Rattle.jk_boxes.specs.Reading.{boxes_at}
+use Rattle.jk_boxes.proofs.Numbers.{are_bytes_taken}
+use Rattle.jk_boxes.proofs.FileLaws.{boxes_take, boxes_again}
+use Rattle.jk_marks.proofs.Numbers.{AreBytes, are_bytes_after}
 use Rattle.jk_code.specs.Packets.{Layer, Empty, IsPacket, GivesNothing, IsTile}
 use Rattle.jk_code.specs.Samples.{reduced, reduced_rect, tile_rect, IsIn, sample_of}
-use Rattle.jk_code.specs.Meaning.{slice_of, IsFrameOf, ShowsTile, ShowsTiles, Means}
-use Rattle.jk_code.specs.MeaningReading.{packet_at, tiles_at, blank, meaning_at}
+use Rattle.jk_code.specs.Meaning.{slice_of, IsFrameOf, ShowsTile, ShowsTiles, MeansPicture, Means}
+use Rattle.jk_code.specs.MeaningReading.{packet_at, tiles_at, blank, image_at, meaning_at}
 
 one_byte : (xs : List ℕ) → (length xs ≡ 0 → ⊥) → length xs ≤ 1 → xs ≡ get_or xs 0 0 ∷ []
 one_byte [] some few = absurd (some refl)
@@ -108,13 +111,11 @@ page_shows bytes w h place b lt content =
           blank_sample w h component x y one at.right at.lower;
     }
 
-page_means : (bytes : List ℕ) (w h : ℕ) (place : ℕ × ℕ) (b : ℕ) → 0 < w → 0 < h → take 2 bytes ≡ marker_text soc → b < 128 → slice_of bytes place ≡ b ∷ [] → IsHeaders bytes (page_of w h place)
-    → Means bytes 0 (blank (page_siz w h))
-page_means bytes w h place b wide high begins lt content is =
+page_means : (bytes : List ℕ) (w h : ℕ) (place : ℕ × ℕ) (b : ℕ) → 0 < w → 0 < h → b < 128 → slice_of bytes place ≡ b ∷ [] → IsHeaders bytes (page_of w h place)
+    → MeansPicture bytes 0 (blank (page_siz w h))
+page_means bytes w h place b wide high lt content is =
     let area = (w - 0) * (h - 0) in
     record {
-      codestream = bytes;
-      holds = record { bare = refl; begins = begins };
       headers = page_of w h place;
       says = is;
       reduction = (lit≤ tt, tt);
@@ -141,9 +142,9 @@ unfolding tiles_at
 one_tile_found bytes place u e =
     bind_then {C = packet_at (slice_of bytes place) ≡ Ok tt} (packet_at (slice_of bytes place ++ [])) _ u e (λ v s e. ap packet_at (sym (append-nil (slice_of bytes place))) ∙ s)
 
-pub found_meaning : (bytes : List ℕ) (d : ℕ) (p : Picture) → AreBytes bytes → meaning_at bytes d ≡ Ok p → Means bytes d p
-unfolding meaning_at tiles_at
-found_meaning bytes d p fits e =
+pub found_image : (bytes : List ℕ) (d : ℕ) (p : Picture) → AreBytes bytes → image_at bytes d ≡ Ok p → MeansPicture bytes d p
+unfolding image_at tiles_at
+found_image bytes d p fits e =
     bind_then (headers_at bytes) _ p e (λ h s1 e.
     refuse_then (not (list_all (λ (t : TileFields). leb d t.cod.style.levels) h.tiles)) BadWindow _ p e (λ few e.
     bind_then (tiles_at bytes h.tiles) _ p e (λ u s2 e.
@@ -158,9 +159,9 @@ found_meaning bytes d p fits e =
     let packet : packet_at (slice_of bytes page.place) ≡ Ok tt =
     one_tile_found bytes page.place u (sym (ap (tiles_at bytes) page.tiles) ∙ s2) in
     let b = packet_found (slice_of bytes page.place) tt packet in
-    let means = page_means bytes w height page.place b.0 page.wide page.high page.begins b.1 b.2 (subst (IsHeaders bytes) h-is is) in
+    let means = page_means bytes w height page.place b.0 page.wide page.high b.1 b.2 (subst (IsHeaders bytes) h-is is) in
     let p-is : blank (page_siz w height) ≡ p = ap blank (sym page.siz) ∙ ok_is (blank h.siz) p e in
-    subst (λ k. Means bytes k p) (sym none) (subst (λ (q : Picture). Means bytes 0 q) p-is means)
+    subst (λ k. MeansPicture bytes k p) (sym none) (subst (λ (q : Picture). MeansPicture bytes 0 q) p-is means)
     )))
 
 -- ---- a file's meaning is given
@@ -236,8 +237,8 @@ picture_is p w h place wide high frame same =
     (one ∙ ap (λ (x : List ℤ). x ∷ []) (plane-is ∙ ap (λ k. replicate k v) area))
 
 only_page : (bytes : List ℕ) (w h : ℕ) (place : ℕ × ℕ) (p : Picture) → 0 < w → 0 < h → IsHeaders bytes (page_of w h place) → IsFrameOf (page_of w h place) 0 p
-    → ShowsTile bytes (page_of w h place) 0 p (page_fields place) 0 → meaning_at bytes 0 ≡ Ok p
-unfolding meaning_at tiles_at
+    → ShowsTile bytes (page_of w h place) 0 p (page_fields place) 0 → image_at bytes 0 ≡ Ok p
+unfolding image_at tiles_at
 only_page bytes w h place p wide high is frame show =
     let tile = show.decoded in
     let s1 = only_headers bytes (page_of w h place) is in
@@ -254,10 +255,10 @@ abbrev Shown : Picture → List ℕ → Headers → ℕ → Type 0
 Shown p codestream h d =
     IsHeaders codestream h × AllByRecursion (λ (t : TileFields). d ≤ t.cod.style.levels) h.tiles × IsFrameOf h d p × ShowsTiles codestream h d p h.tiles 0
 
-pub only_meaning : (bytes : List ℕ) (d : ℕ) (p : Picture) → Means bytes d p → meaning_at bytes d ≡ Ok p
-only_meaning bytes d p m =
+pub only_image : (bytes : List ℕ) (d : ℕ) (p : Picture) → MeansPicture bytes d p → image_at bytes d ≡ Ok p
+only_image bytes d p m =
     let h = m.headers in
-    let whole : Shown p bytes h d = subst (λ (c : List ℕ). Shown p c h d) m.holds.bare (m.says, m.reduction, m.frame, m.tiles) in
+    let whole : Shown p bytes h d = (m.says, m.reduction, m.frame, m.tiles) in
     let page = page_headers bytes h whole.0 in
     let w = h.siz.x1 in
     let height = h.siz.y1 in
@@ -265,4 +266,27 @@ only_meaning bytes d p m =
     let paged : Shown p bytes (page_of w height page.place) d = subst (λ (k : Headers). Shown p bytes k d) h-is whole in
     let none : d ≡ 0 = omega (arith, paged.1.0) in
     let plain : Shown p bytes (page_of w height page.place) 0 = subst (λ k. Shown p bytes (page_of w height page.place) k) none paged in
-    ap (meaning_at bytes) none ∙ only_page bytes w height page.place p page.wide page.high plain.0 plain.2 plain.3.0
+    ap (image_at bytes) none ∙ only_page bytes w height page.place p page.wide page.high plain.0 plain.2 plain.3.0
+
+-- ---- files
+
+slice_bytes : (bytes : List ℕ) (from to : ℕ) → AreBytes bytes → AreBytes (slice_range bytes from to)
+slice_bytes bytes from to fits = are_bytes_taken (to - from) (drop from bytes) (are_bytes_after from bytes fits)
+
+pub found_meaning : (bytes : List ℕ) (d : ℕ) (p : Picture) → AreBytes bytes → meaning_at bytes d ≡ Ok p → Means bytes d p
+unfolding meaning_at
+found_meaning bytes d p fits e =
+    bind_then (boxes_at bytes) _ p e (λ place s e.
+    let opened = boxes_take bytes place fits s in
+    record {
+      codestream = slice_range bytes place.start place.end;
+      holds = opened.holds;
+      picture = found_image (slice_range bytes place.start place.end) d p (slice_bytes bytes place.start place.end fits) e;
+    })
+
+pub only_meaning : (bytes : List ℕ) (d : ℕ) (p : Picture) → Means bytes d p → meaning_at bytes d ≡ Ok p
+unfolding meaning_at
+only_meaning bytes d p m =
+    let o = boxes_again bytes m.codestream m.holds in
+    let image = only_image m.codestream d p m.picture in
+    rw o.due (ap (λ (c : List ℕ). image_at c d) (sym o.here) ∙ image)

@@ -10,7 +10,7 @@ use Rattle.jk_params.specs.declared.headers.Codestream.{Codestream}
 use Rattle.jk_params.specs.Headers.{view}
 use Rattle.jk_params.specs.HeadersReading.{headers_at}
 use Rattle.jk_code.specs.Meaning.{slice_of}
-use Rattle.jk_code.specs.MeaningReading.{packet_at, tiles_at, blank, meaning_at, picture_at}
+use Rattle.jk_code.specs.MeaningReading.{packet_at, tiles_at, blank, image_at, picture_at}
 
 -- the test of a reduction, both ways
 past_levels : (levels d : ℕ) → not (leb d levels && true) ≡ ltb levels d
@@ -23,9 +23,9 @@ one_step : {B : Type 0} (r : Result (Unit {0}) Fault) (next : Unit {0} → Resul
 one_step (Ok x) next = refl
 one_step (Err d) next = refl
 
-pub meaning_is : (bytes : List ℕ) (d : ℕ) (c : Codestream) → headers_at bytes ≡ Ok (view c) → meaning_at bytes d ≡ picture_at c bytes d
-unfolding meaning_at picture_at tiles_at
-meaning_is bytes d c e =
+pub image_is : (bytes : List ℕ) (d : ℕ) (c : Codestream) → headers_at bytes ≡ Ok (view c) → image_at bytes d ≡ picture_at c bytes d
+unfolding image_at picture_at tiles_at
+image_is bytes d c e =
     let levels = past_levels c.cod.style.levels d in
     let content : slice_of bytes (c.start, c.end) ++ [] ≡ slice_of bytes (c.start, c.end) = append-nil (slice_of bytes (c.start, c.end)) in
     let packet = packet_at (slice_of bytes (c.start, c.end)) in

@@ -16,13 +16,14 @@ use Rattle.jk_params.specs.Page.{page_siz, page_segments}
 use Rattle.jk_params.proofs.PageLaws.{page_front, page_origin, page_coding, page_text, page_tiles, page_cod_fits, page_is_main, page_is_page, none_silent}
 use Rattle.jk_marks.proofs.Numbers.{AreBytes, are_bytes_append, are_bytes_high_first, are_bytes_tested}
 use Rattle.byteorder.specs.Endian.{big_bytes}
+use Rattle.jk_boxes.specs.Boxes.{soc, Holds}
 use Rattle.jk_params.specs.declared.parameters.Parameters.{Parameters}
 use Rattle.jk_params.specs.Profile.{siz_of}
 use Rattle.jk_params.proofs.HeadersLaws.{tree_headers, read_again}
-use Rattle.jk_code.specs.Meaning.{slice_of, Means}
-use Rattle.jk_code.specs.MeaningReading.{packet_at, tiles_at, blank, meaning_at}
-use Rattle.jk_code.specs.Written.{main_for, tree_for, empty_packet, is_blank_page, is_plain, is_lrcp, is_raw}
-use Rattle.jk_code.proofs.MeaningLaws.{all_same, one_plane, fields_from, found_meaning}
+use Rattle.jk_code.specs.Meaning.{slice_of, MeansPicture, Means}
+use Rattle.jk_code.specs.MeaningReading.{packet_at, tiles_at, blank, image_at}
+use Rattle.jk_code.specs.Written.{main_for, tree_for, empty_packet, is_blank_page, is_plain, is_lrcp}
+use Rattle.jk_code.proofs.MeaningLaws.{all_same, one_plane, fields_from, found_image}
 
 -- the tree of a page
 abbrev pub page_tree : ℕ → ℕ → Tree
@@ -43,8 +44,8 @@ content_is front rest =
     ap (λ k. take k (drop (length front + 14) whole)) size ∙ ap (take 1) after
 
 -- the file of a page is decoded to it
-pub page_decodes : (w h : ℕ) → 0 < w → 0 < h → w ≤ 32768 → h ≤ 32768 → w * h ≤ 2 ^ 28 → meaning_at (codestream_text (page_tree w h)) 0 ≡ Ok (blank (page_siz w h))
-unfolding meaning_at tiles_at codestream_text packet_at
+pub page_decodes : (w h : ℕ) → 0 < w → 0 < h → w ≤ 32768 → h ≤ 32768 → w * h ≤ 2 ^ 28 → image_at (codestream_text (page_tree w h)) 0 ≡ Ok (blank (page_siz w h))
+unfolding image_at tiles_at codestream_text packet_at
 page_decodes w h wide high few_w few_h area =
     let p = only_part_of 0 empty_packet in
     let text = codestream_text (page_tree w h) in
@@ -149,9 +150,7 @@ plain_parts q e =
     let a7 = a6 && eqb (length q.precincts.items) 0 in
     let a8 = a7 && not q.colour in
     let a9 = a8 && not q.sop in
-    let a10 = a9 && not q.eph in
-    let t11 = and_parts a10 (is_raw q.container) e in
-    let t10 = and_parts a9 (not q.eph) t11.0 in
+    let t10 = and_parts a9 (not q.eph) e in
     let t9 = and_parts a8 (not q.sop) t10.0 in
     let t8 = and_parts a7 (not q.colour) t9.0 in
     let t7 = and_parts a6 (eqb (length q.precincts.items) 0) t8.0 in
@@ -227,15 +226,25 @@ page_bytes w h =
     let whole : AreBytes (page_front ++ r1) = are_bytes_append page_front r1 (are_bytes_tested page_front refl) x1 in
     subst AreBytes (sym (page_text w h rest)) whole
 
+page_begins : (w h : ℕ) → codestream_text (page_tree w h) ≡ soc ++ drop 2 (codestream_text (page_tree w h))
+unfolding codestream_text main_text
+page_begins w h = refl
+
 -- the file means the image
-pub written_means : (bytes : List ℕ) (p : Picture) (q : Parameters) → IsPicture p → is_blank_page p ≡ true → is_plain q ≡ true → bytes ≡ codestream_text (tree_for p q) → Means bytes 0 p
+pub written_means : (bytes : List ℕ) (p : Picture) (q : Parameters) → IsPicture p → is_blank_page p ≡ true → is_plain q ≡ true → bytes ≡ codestream_text (tree_for p q) → MeansPicture bytes 0 p × Holds bytes bytes
 written_means bytes p q is e f text =
     let b = blank_parts p e in
     let frame = is.frame in
     let whole : bytes ≡ codestream_text (page_tree p.width p.height) = text ∙ ap codestream_text (tree_is p q e f) in
-    let decodes : meaning_at bytes 0 ≡ Ok p =
-    ap (λ (x : List ℕ). meaning_at x 0) whole ∙ page_decodes p.width p.height frame.wide frame.high b.narrow b.low frame.area ∙ ap Ok (sym (blank_is p is e)) in
-    found_meaning bytes 0 p (subst AreBytes (sym whole) (page_bytes p.width p.height)) decodes
+    let decodes : image_at bytes 0 ≡ Ok p =
+    ap (λ (x : List ℕ). image_at x 0) whole ∙ page_decodes p.width p.height frame.wide frame.high b.narrow b.low frame.area ∙ ap Ok (sym (blank_is p is e)) in
+    let others = drop 2 (codestream_text (page_tree p.width p.height)) in
+    let begins : bytes ≡ soc ++ others = whole ∙ page_begins p.width p.height in
+    (found_image bytes 0 p (subst AreBytes (sym whole) (page_bytes p.width p.height)) decodes, inl (record { others = others; text = begins; whole = refl }))
+
+-- a file that holds a codestream means what the codestream means
+pub holds_means : (bytes codestream : List ℕ) (p : Picture) → Holds bytes codestream → MeansPicture codestream 0 p → Means bytes 0 p
+holds_means bytes codestream p holds means = record { codestream = codestream; holds = holds; picture = means }
 
 -- the parts of the text, as they are written
 pub text_parts : (p : Picture) (q : Parameters) → codestream_text (tree_for p q)

@@ -2,7 +2,7 @@
 use Rattle.std.specs.Prelude.{◌≡◌, ℕ, ◌+◌, ◌-◌, ◌*◌, ◌<◌, ◌≤◌, List, [], ◌∷◌, length, map, take, drop, All, ℤ, pos}
 use Rattle.std.specs.List.{AllByRecursion}
 use Rattle.jk_math.specs.Picture.{Picture, sample_at}
-use Rattle.jk_marks.specs.Markers.{soc, marker_text}
+use Rattle.jk_boxes.specs.Boxes.{Holds}
 use Rattle.jk_params.specs.Headers.{Headers, TileFields, IsHeaders}
 use Rattle.jk_code.specs.Packets.{Layer, GivesNothing, IsTile}
 use Rattle.jk_code.specs.Samples.{reduced, reduced_rect, tile_rect, IsIn, lowest_resolution, sample_of}
@@ -25,11 +25,6 @@ pub record DecodesTile (codestream : List ℕ) (h : Headers) (fields : TileField
   pub blocks : AllByRecursion GivesNothing layers → (component band x y : ℕ) → coefficients component band x y ≡ pos 0
   pub shown : (component x y : ℕ) → component < h.siz.components → IsIn (reduced_rect d (tile_rect h.siz t)) x y
       → samples component x y ≡ sample_of h.siz (lowest_resolution (coefficients component) x y)
-
--- the codestream that a file holds (Annex I): today the file itself
-pub record Holds (bytes codestream : List ℕ) : Type 0 where
-  pub bare : codestream ≡ bytes
-  pub begins : take 2 bytes ≡ marker_text soc
 
 -- the place, size, depth and sign of the reduced image, which isn't empty
 pub record IsFrameOf (h : Headers) (d : ℕ) (p : Picture) : Type 0 where
@@ -56,12 +51,16 @@ abbrev pub ShowsTiles : List ℕ → Headers → ℕ → Picture → List TileFi
 ShowsTiles codestream h d p [] t = Unit {0}
 ShowsTiles codestream h d p (fields ∷ others) t = ShowsTile codestream h d p fields t × ShowsTiles codestream h d p others (t + 1)
 
--- The bytes are a file that means the picture at reduction d.
-pub record Means (bytes : List ℕ) (d : ℕ) (p : Picture) : Type 0 where
-  pub codestream : List ℕ
-  pub holds : Holds bytes codestream
+-- The codestream means the picture at reduction d.
+pub record MeansPicture (codestream : List ℕ) (d : ℕ) (p : Picture) : Type 0 where
   pub headers : Headers
   pub says : IsHeaders codestream headers
   pub reduction : AllByRecursion (λ t. d ≤ t.cod.style.levels) headers.tiles
   pub frame : IsFrameOf headers d p
   pub tiles : ShowsTiles codestream headers d p headers.tiles 0
+
+-- The bytes are a file, bare or JP2, whose codestream means the picture at reduction d.
+pub record Means (bytes : List ℕ) (d : ℕ) (p : Picture) : Type 0 where
+  pub codestream : List ℕ
+  pub holds : Holds bytes codestream
+  pub picture : MeansPicture codestream d p

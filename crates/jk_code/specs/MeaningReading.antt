@@ -1,5 +1,5 @@
 -- Decoding from front to back, with the first fault that is met.
-use Rattle.std.specs.Prelude.{ℕ, ◌-◌, ◌*◌, List, [], ◌∷◌, length, replicate, not, ◌==◌, nat_lt, nat_le, slice_index, Result, Ok, pos}
+use Rattle.std.specs.Prelude.{ℕ, ◌-◌, ◌*◌, List, [], ◌∷◌, length, replicate, not, ◌==◌, nat_lt, nat_le, slice_index, slice_range, Result, Ok, pos}
 use Rattle.std.specs.List.{flat_map, list_all}
 use Rattle.jk_math.specs.Answer.{◌>>=◌, refuse}
 use Rattle.jk_math.specs.declared.fault.Fault.{Fault}
@@ -8,6 +8,7 @@ use Rattle.jk_math.specs.Picture.{Picture}
 use Rattle.jk_marks.specs.declared.siz.Siz.{Siz}
 use Rattle.jk_params.specs.declared.headers.Codestream.{Codestream}
 use Rattle.jk_params.specs.Headers.{TileFields}
+use Rattle.jk_boxes.specs.Reading.{boxes_at}
 use Rattle.jk_params.specs.HeadersReading.{headers_at}
 use Rattle.jk_code.specs.Samples.{sample_of}
 use Rattle.jk_code.specs.Meaning.{slice_of}
@@ -39,12 +40,19 @@ blank s = record {
   planes = replicate s.components (replicate ((s.x1 - s.x0) * (s.y1 - s.y0)) (sample_of s (pos 0)));
 }
 
-unfoldable pub meaning_at : List ℕ → ℕ → Result Picture Fault
-meaning_at bytes d = do
+-- what a codestream means
+unfoldable pub image_at : List ℕ → ℕ → Result Picture Fault
+image_at bytes d = do
   h ← headers_at bytes
   _ ← refuse (not (list_all (λ t. nat_le d t.cod.style.levels) h.tiles)) BadWindow
   _ ← tiles_at bytes h.tiles
   Ok (blank h.siz)
+
+-- what a file means: what its codestream means
+unfoldable pub meaning_at : List ℕ → ℕ → Result Picture Fault
+meaning_at bytes d = do
+  place ← boxes_at bytes
+  image_at (slice_range bytes place.start place.end) d
 
 -- the same of a codestream of one tile in one part, as the program keeps it
 unfoldable pub picture_at : Codestream → List ℕ → ℕ → Result Picture Fault

@@ -8,6 +8,7 @@ use Rattle.jk_math.specs.Picture.{Picture}
 use Rattle.jk_marks.specs.declared.main_header.Main.{Main}
 use Rattle.jk_marks.specs.declared.segments.Order.{Order}
 use Rattle.jk_marks.specs.declared.segments.Order.TheVariants.{Lrcp, Rlcp, Rpcl, Pcrl, Cprl}
+use Rattle.jk_boxes.specs.Written.{wrapped}
 use Rattle.jk_marks.specs.Codestream.{Tree, codestream_text, segments_of, only_part_of, by_component}
 use Rattle.jk_params.specs.declared.parameters.Parameters.{Parameters}
 use Rattle.jk_params.specs.declared.parameters.Container.{Container}
@@ -39,18 +40,19 @@ is_lrcp Rpcl = false
 is_lrcp Pcrl = false
 is_lrcp Cprl = false
 
-abbrev pub is_raw : Container → Bool
-is_raw Raw = true
-is_raw Jp2 = false
-
 -- the parameters that are written today
 abbrev pub is_plain : Parameters → Bool
 is_plain q =
     (q.levels == 0) && (q.layers == 1) && is_lrcp q.order && is_none q.tile && (q.xcb == 6) && (q.ycb == 6) && (length q.precincts.items == 0)
-    && not q.colour && not q.sop && not q.eph && is_raw q.container
+    && not q.colour && not q.sop && not q.eph
+
+-- a codestream in its container
+abbrev pub contained : Container → Picture → List ℕ → Result (List ℕ) Fault
+contained Raw p codestream = Ok codestream
+contained Jp2 p codestream = wrapped p codestream
 
 -- the file of an image, or why there is none
 unfoldable pub written : Picture → Parameters → Result (List ℕ) Fault
 written p q =
     if not (is_profile q p) then Err BadParameters
-    else (if not (is_blank_page p && is_plain q) then Err NotYet else Ok (codestream_text (tree_for p q)))
+    else (if not (is_blank_page p && is_plain q) then Err NotYet else contained q.container p (codestream_text (tree_for p q)))

@@ -4,10 +4,11 @@ ghost use Rattle.std.specs.Prelude.{◌≡◌, ◌≤◌, length, IfOk, Ok};
 ghost use Rattle.jk_math.specs.Answer.{Answers};
 ghost use Rattle.jk_math.specs.Picture.{Picture};
 ghost use Rattle.jk_code.specs.Meaning.{Means};
-ghost use Rattle.jk_code.specs.MeaningReading.{packet_at, picture_at, meaning_at};
+ghost use Rattle.jk_code.specs.MeaningReading.{packet_at, picture_at, image_at, meaning_at};
 ghost use Rattle.jk_marks.specs.Siz.{IsSiz};
 
 use crate::samples::blank_image;
+use jk_boxes::open;
 use jk_math::{Fault, Image};
 use jk_params::{Codestream, read_codestream};
 use std::alloc::Global;
@@ -44,16 +45,26 @@ fn picture(alloc: Global, headers: &Codestream, bytes: &[u8], reduce: u32) -> Re
     blank_image(alloc, &headers.siz)
 }
 
-/// The image that a file means.
-#[tactic(auto, unfolding(crate::specs::MeaningReading::meaning_at))]
-fn meaning(alloc: Global, bytes: &[u8], reduce: u32) -> Result<Image, Fault>
-    ensures { Answers (λ i. i) result (meaning_at bytes.now reduce) }
+/// The image that a codestream means.
+#[tactic(auto, unfolding(crate::specs::MeaningReading::image_at))]
+fn codestream_image(alloc: Global, bytes: &[u8], reduce: u32) -> Result<Image, Fault>
+    ensures { Answers (λ i. i) result (image_at bytes.now reduce) }
 {
     let headers = read_codestream(bytes)?;
     picture(alloc, &headers, bytes, reduce)
 }
 
-/// The image that a file means at a reduction: the image itself at 0, half as large at 1, and so on.
+/// The image that a file means.
+#[tactic(auto, unfolding(crate::specs::MeaningReading::meaning_at))]
+fn meaning(alloc: Global, bytes: &[u8], reduce: u32) -> Result<Image, Fault>
+    ensures { Answers (λ i. i) result (meaning_at bytes.now reduce) }
+{
+    let boxed = open(bytes)?;
+    codestream_image(alloc, &bytes[boxed.start..boxed.end], reduce)
+}
+
+/// The image that a file, a bare codestream or a JP2 file, means at a reduction: the image itself at 0,
+/// half as large at 1, and so on.
 ///
 /// BadWindow: a reduction past the least number of decomposition levels. NotYet: headers outside of what
 /// is read today, or a packet that isn't empty.

@@ -7,9 +7,11 @@ ghost use Rattle.std.specs.Prelude.{pos};
 ghost use Rattle.jk_math.specs.Answer.{Answers};
 ghost use Rattle.jk_math.specs.Picture.{Picture, IsPicture};
 ghost use Rattle.jk_marks.specs.Codestream.{codestream_text};
-ghost use Rattle.jk_code.specs.Meaning.{Means};
-ghost use Rattle.jk_code.specs.Written.{main_for, tree_for, is_blank_page, is_plain, is_lrcp, is_raw, written};
+ghost use Rattle.jk_boxes.specs.Boxes.{Holds};
+ghost use Rattle.jk_code.specs.Meaning.{Means, MeansPicture};
+ghost use Rattle.jk_code.specs.Written.{main_for, tree_for, is_blank_page, is_plain, is_lrcp, contained, written};
 
+use jk_boxes::wrap;
 use jk_marks::{
     Cod, CodingStyle, Exponents, Main, Order, Precincts, Quantisation, Siz, write_end, write_main,
     write_tile_part,
@@ -49,16 +51,6 @@ fn is_first_order(order: Order) -> bool
     }
 }
 
-/// Whether the container is none.
-fn is_bare(container: Container) -> bool
-    ensures { result ≡ is_raw container }
-{
-    match container {
-        Container::Raw => true,
-        Container::Jp2 => false,
-    }
-}
-
 /// Whether these are the parameters that are written today.
 fn are_plain(parameters: &Parameters) -> bool
     ensures { result ≡ is_plain parameters.now }
@@ -73,7 +65,6 @@ fn are_plain(parameters: &Parameters) -> bool
         && !parameters.colour
         && !parameters.sop
         && !parameters.eph
-        && is_bare(parameters.container)
 }
 
 /// The main header of an image in one tile.
@@ -127,7 +118,8 @@ fn codestream(alloc: Global, image: &Image, parameters: &Parameters) -> Result<V
     requires page { is_blank_page image.now ≡ true }
     requires plain { is_plain parameters.now ≡ true }
     ensures value { IfOk result (λ v. v.items ≡ codestream_text (tree_for image.now parameters.now)) }
-    ensures means { IfOk result (λ v. Means v.items 0 image.now) }
+    ensures means { IfOk result (λ v. MeansPicture v.items 0 image.now) }
+    ensures bare { IfOk result (λ v. Holds v.items v.items) }
     ensures err { IfErr result (λ e. e ≡ Fault.Memory) }
 {
     let main = main_header(image, parameters);
@@ -138,12 +130,26 @@ fn codestream(alloc: Global, image: &Image, parameters: &Parameters) -> Result<V
     Ok(out)
 }
 
+/// The codestream of a page in its container.
+fn file(alloc: Global, image: &Image, parameters: &Parameters) -> Result<Vec<u8>, Fault>
+    requires page { is_blank_page image.now ≡ true }
+    requires plain { is_plain parameters.now ≡ true }
+    ensures exact { Answers (λ v. v.items) result
+        (contained parameters.now.container image.now (codestream_text (tree_for image.now parameters.now))) }
+    ensures means { IfOk result (λ v. Means v.items 0 image.now) }
+{
+    let codestream = codestream(alloc, image, parameters)?;
+    match parameters.container {
+        Container::Raw => Ok(codestream),
+        Container::Jp2 => wrap(alloc, image, &codestream),
+    }
+}
+
 /// The file of an image.
 ///
 /// BadParameters: an image and parameters outside the profile, as `Parameters::check` says. NotYet: what
 /// isn't a page of one unsigned component of 8 bits at (0, 0), with sides of at most 32768 and all samples
-/// 128, or parameters other than a bare codestream without decomposition levels, in one layer and one
-/// tile, in the order LRCP, with code-blocks of 64 by 64 and no precinct sizes, colour transform, SOP or
+/// 128, or parameters other than no decomposition levels, in one layer and one tile, in the order LRCP, with code-blocks of 64 by 64 and no precinct sizes, colour transform, SOP or
 /// EPH.
 #[tactic(auto, unfolding(crate::specs::Written::written))]
 pub fn encode(alloc: Global, image: &Image, parameters: &Parameters) -> Result<Vec<u8>, Fault>
@@ -156,5 +162,5 @@ pub fn encode(alloc: Global, image: &Image, parameters: &Parameters) -> Result<V
     if !is_blank(image) || !are_plain(parameters) {
         return Err(Fault::NotYet);
     }
-    codestream(alloc, image, parameters)
+    file(alloc, image, parameters)
 }

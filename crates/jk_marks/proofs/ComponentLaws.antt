@@ -1,19 +1,17 @@
 -- The segments of components, of quantization, and those that are passed over: what is read is spelled so, and what is spelled so is read.
-use Rattle.std.proofs.Common.{◌≡◌, ℕ, zero, suc, ◌+◌, ◌-◌, ◌*◌, ◌/◌, ◌%◌, ◌^◌, ◌<◌, ◌≤◌, Bool, true, false, ◌||◌, eqb, ltb, leb, List, [], ◌∷◌, ◌++◌, length, map, take, Option, None, Some, Ok, refl, sym, ap, subst, ◌∙◌, get_or, lit≤, arith}
-use Rattle.std.proofs.lemmas.Bool.{ltb-false, le-ltb, leb-false, lt-leb, ne_eqb, eqb-false, or_parts, or_from}
+use Rattle.std.proofs.Common.{◌≡◌, ℕ, ◌+◌, ◌-◌, ◌*◌, ◌/◌, ◌%◌, ◌^◌, ◌<◌, ◌≤◌, false, ◌||◌, eqb, ltb, leb, List, [], ◌∷◌, ◌++◌, length, Option, Ok, refl, sym, ap, subst, ◌∙◌, arith}
+use Rattle.std.proofs.lemmas.Bool.{ltb-false, le-ltb, leb-false, lt-leb, eqb-false, or_parts}
 use Rattle.byteorder.specs.Endian.{big_bytes}
-use Rattle.byteorder.specs.Numbers.{length-bytes_high_first}
 use Rattle.jk_math.specs.Steps.{bind_then, refuse_then, ok_is}
 use Rattle.jk_math.specs.declared.fault.Fault.TheVariants.{BadMarker, BadLength, BadValue, Unsupported}
 use Rattle.jk_marks.specs.declared.segments.CodingStyle.{CodingStyle}
 use Rattle.jk_marks.specs.declared.segments.Quantisation.{Quantisation}
 use Rattle.jk_marks.specs.Place.{Place}
 use Rattle.jk_marks.specs.Segments.{CocSegment, QcdSegment, QccSegment, Passed, StepSizes, AreSteps, IsStyle, segment_body, contents, style_text, bit_of, given_bit, quantisation_of}
-use Rattle.jk_marks.specs.Exponents.{exponents_of}
 use Rattle.jk_marks.specs.Reading.{number, segment_length, style_at, component_at, coc_at, steps_at, qcd_at, qcc_at, passed_at, passing, has}
 use Rattle.jk_marks.proofs.Numbers.{AreBytes}
 use Rattle.jk_marks.proofs.Steps.{Goes, ahead, entered, goes_then, goes_as, byte_goes, byte_again, length_goes, length_again, passing_goes, passing_again}
-use Rattle.jk_marks.proofs.StyleLaws.{Style, style_goes, style_again}
+use Rattle.jk_marks.proofs.StyleLaws.{style_goes, style_again}
 use Rattle.jk_marks.proofs.SegmentLaws.{style_length, coc_length, bit_is, bit_small, bit_again, is_given, given_is, precincts_few}
 
 component_goes : {X : Type 0} (others : List (Option X)) (n i : ℕ) (p q : Place) → AreBytes p.rest → component_at others n p ≡ Ok (i, q)

@@ -1,16 +1,14 @@
 -- A header's segments are fresh one after another exactly where there are no two of a kind, and what they say is what the lists by kind say.
-use Rattle.std.proofs.Common.{◌≡◌, ◌≢◌, ℕ, zero, suc, ◌+◌, ◌-◌, ◌<◌, ◌≤◌, Bool, true, false, cond, eqb, List, [], ◌∷◌, ◌++◌, length, map, set, get_or, Option, None, Some, refl, sym, ap, subst, ◌∙◌, ◌⊎◌, inl, inr, lit≤, lit<, arith}
+use Rattle.std.proofs.Common.{◌≡◌, ℕ, ◌<◌, ◌≤◌, Bool, true, false, cond, eqb, List, [], ◌∷◌, ◌++◌, length, map, set, get_or, Option, None, Some, refl, sym, ap, subst, ◌∙◌, inl, inr, lit≤, arith}
 use Rattle.std.specs.Prelude.{is_some}
 use Rattle.std.proofs.lemmas.Bool.{true≢false, eqb-true, eqb-false, eq-eqb, cases_Bool}
 use Rattle.std.proofs.lemmas.List.{get_or-set_same, get_or-set_other, length-set}
-use Rattle.std.specs.List.{flat_map, AllByRecursion}
 use Rattle.jk_marks.specs.declared.segments.CodingStyle.{CodingStyle}
 use Rattle.jk_marks.specs.declared.segments.Quantisation.{Quantisation}
-use Rattle.jk_marks.specs.declared.head.Heading.{Heading}
 use Rattle.jk_marks.specs.declared.head.TileHead.{TileHead}
-use Rattle.jk_marks.specs.Segments.{Segment, CodSegment, CocSegment, QcdSegment, QccSegment, Passed, Alone, StepSizes, IsSegment, AreSegments, codings, quantisations, styles_of, steps_of, quantisation_of}
-use Rattle.jk_marks.specs.Codestream.{first, by_component, head_of}
-use Rattle.jk_marks.proofs.HeadLaws.{with_segment, with_segments, IsFresh, AreFresh}
+use Rattle.jk_marks.specs.Segments.{Segment, CodSegment, CocSegment, QcdSegment, QccSegment, Passed, Alone, StepSizes, codings, quantisations, styles_of, steps_of, quantisation_of}
+use Rattle.jk_marks.specs.Codestream.{first}
+use Rattle.jk_marks.proofs.HeadLaws.{with_segments, AreFresh}
 
 -- what there is of a kind, with others of the kind behind it
 abbrev pub before : {X : Type 0} → Option X → List X → Option X

@@ -1,5 +1,5 @@
 -- The front of a front.
-use Rattle.std.proofs.Common.{◌≡◌, ℕ, zero, suc, ◌≤◌, min, List, [], ◌∷◌, take, replicate, refl, ap, ◌∙◌, arith}
+use Rattle.std.proofs.Common.{◌≡◌, ℕ, zero, suc, ◌≤◌, min, List, [], ◌∷◌, take, replicate, ap, ◌∙◌, arith}
 use Rattle.std.proofs.lemmas.List.{take-replicate}
 
 pub take_take : {X : Type 0} (m n : ℕ) (xs : List X) → take (min n m) xs ≡ take m (take n xs)

@@ -1,18 +1,16 @@
 -- The segments of a header that are spelled are read.
-use Rattle.std.proofs.Common.{◌≡◌, ℕ, zero, suc, ◌+◌, ◌-◌, ◌^◌, ◌<◌, ◌≤◌, Bool, true, false, not, ◌&&◌, ◌||◌, cond, eqb, ltb, leb, List, [], ◌∷◌, ◌++◌, length, map, Option, None, Some, Result, Ok, Err, refl, sym, ap, subst, ◌∙◌, ◌⊎◌, inl, inr, lit≤, lit<, append_assoc, arith}
-use Rattle.std.proofs.lemmas.Bool.{true≢false, le-ltb, leb-false, leb-true, lt-leb, eq-eqb, eqb-true, or_from, or_cases, or_parts, or_left, or_right, and_parts, and_right, false_from_ne_true, cases_Bool, not-true}
+use Rattle.std.proofs.Common.{◌≡◌, ℕ, zero, suc, ◌+◌, ◌^◌, ◌<◌, ◌≤◌, Bool, true, false, not, ◌||◌, eqb, ltb, leb, List, [], ◌∷◌, ◌++◌, length, Result, Ok, refl, sym, ap, ◌∙◌, inl, inr, lit<, append_assoc, arith}
+use Rattle.std.proofs.lemmas.Bool.{true≢false, le-ltb, leb-true, eq-eqb, or_from, and_parts, and_right, false_from_ne_true, cases_Bool, not-true}
 use Rattle.std.proofs.lemmas.List.{length-append}
-use Rattle.std.specs.List.{flat_map, list_any, AllByRecursion}
-use Rattle.byteorder.specs.Endian.{big_bytes}
-use Rattle.byteorder.specs.Numbers.{length-bytes_high_first}
+use Rattle.std.specs.List.{flat_map, AllByRecursion}
 use Rattle.jk_math.specs.declared.fault.Fault.{Fault}
 use Rattle.jk_marks.specs.declared.head.Heading.{Heading}
 use Rattle.jk_marks.specs.declared.head.Heading.TheVariants.{MainHeader, FirstPart, LaterPart}
 use Rattle.jk_marks.specs.declared.head.TileHead.{TileHead}
 use Rattle.jk_marks.specs.Place.{Place, outside}
-use Rattle.jk_marks.specs.Markers.{cod, coc, qcd, qcc, tlm, plt, crg, comment, marker_text, is_left_out, is_listed, is_alone}
-use Rattle.jk_marks.specs.Segments.{Segment, CodSegment, CocSegment, QcdSegment, QccSegment, Passed, Alone, IsSegment, segment_body, segment_text, marker_of, is_coded, is_passed, is_foreign, quantisation_of}
-use Rattle.jk_marks.specs.Reading.{number, cod_at, coc_at, qcd_at, qcc_at, passed_at, other_at, segment_at, segments_at}
+use Rattle.jk_marks.specs.Markers.{cod, coc, qcd, qcc, tlm, plt, crg, comment, marker_text, is_listed, is_alone}
+use Rattle.jk_marks.specs.Segments.{Segment, CodSegment, CocSegment, QcdSegment, QccSegment, Passed, Alone, IsSegment, segment_body, segment_text, marker_of, is_coded, is_passed, is_foreign}
+use Rattle.jk_marks.specs.Reading.{other_at, segment_at, segments_at}
 use Rattle.jk_marks.proofs.Steps.{ahead, number_again}
 use Rattle.jk_marks.proofs.SegmentLaws.{cod_again}
 use Rattle.jk_marks.proofs.ComponentLaws.{coc_again, qcd_again, qcc_again, passed_again}

@@ -1,15 +1,11 @@
 -- The segments of a header one after another: what is read is spelled so, and what is spelled so is read.
-use Rattle.std.proofs.Common.{◌≡◌, ℕ, zero, suc, ◌+◌, ◌-◌, ◌^◌, ◌<◌, ◌≤◌, Bool, true, false, not, ◌&&◌, ◌||◌, cond, eqb, ltb, leb, List, [], ◌∷◌, ◌++◌, length, map, Option, None, Some, Result, Ok, Err, refl, sym, ap, subst, ◌∙◌, ◌⊎◌, inl, inr, get_or, lit≤, lit<, append_assoc, arith}
-use Rattle.std.specs.Prelude.{is_some, slice_set, slice_index_or}
-use Rattle.std.proofs.lemmas.Bool.{true≢false, ltb-false, ltb-true, le-ltb, lt-ltb, leb-false, leb-true, lt-leb, le-leb, eqb-true, eqb-false, eq-eqb, ne_eqb, or_parts, or_from, or_cases, false_from_ne_true, not_from_false, not-false, not-true, or_left, or_right, and_parts, and_from}
-use Rattle.std.proofs.lemmas.List.{length-append}
+use Rattle.std.proofs.Common.{◌≡◌, ℕ, zero, suc, ◌^◌, ◌<◌, ◌≤◌, Bool, true, false, ◌&&◌, ◌||◌, cond, eqb, ltb, leb, List, [], ◌∷◌, ◌++◌, Some, Ok, refl, sym, ap, subst, ◌∙◌, inl, inr, append_assoc, arith}
+use Rattle.std.specs.Prelude.{is_some, slice_set}
+use Rattle.std.proofs.lemmas.Bool.{true≢false, ltb-false, leb-true, eqb-true, eq-eqb, or_parts, or_cases, false_from_ne_true, not_from_false, or_left, or_right, and_parts, and_from}
 use Rattle.std.specs.List.{flat_map, list_any, list_all, AllByRecursion}
 use Rattle.byteorder.specs.Endian.{big_bytes}
-use Rattle.jk_math.specs.Answer.{refuse}
-use Rattle.jk_math.specs.Steps.{bind_then, refuse_then, chosen, ok_is}
-use Rattle.jk_math.specs.declared.fault.Fault.{Fault}
-use Rattle.jk_math.specs.declared.fault.Fault.TheVariants.{Truncated, BadMarker, Unsupported}
-use Rattle.jk_marks.specs.declared.segments.CodingStyle.{CodingStyle}
+use Rattle.jk_math.specs.Steps.{bind_then, refuse_then, ok_is}
+use Rattle.jk_math.specs.declared.fault.Fault.TheVariants.{BadMarker}
 use Rattle.jk_marks.specs.declared.segments.Quantisation.{Quantisation}
 use Rattle.jk_marks.specs.declared.head.Heading.{Heading}
 use Rattle.jk_marks.specs.declared.head.Heading.TheVariants.{MainHeader, FirstPart, LaterPart}
@@ -19,9 +15,9 @@ use Rattle.jk_marks.specs.Markers.{cod, coc, qcd, qcc, tlm, plt, crg, comment, m
 use Rattle.jk_marks.specs.Segments.{Segment, CodSegment, CocSegment, QcdSegment, QccSegment, Passed, Alone, IsSegment, segment_body, segment_text, marker_of, is_coded, is_passed, is_foreign, quantisation_of}
 use Rattle.jk_marks.specs.Reading.{number, has, cod_at, coc_at, qcd_at, qcc_at, passed_at, in_cod, in_qcd, in_coc, in_qcc, other_at, segment_at, segments_at}
 use Rattle.jk_marks.proofs.Numbers.{AreBytes}
-use Rattle.jk_marks.proofs.Steps.{Goes, ahead, goes_none, goes_then, goes_as, number_goes, number_again}
-use Rattle.jk_marks.proofs.SegmentLaws.{cod_goes, cod_again}
-use Rattle.jk_marks.proofs.ComponentLaws.{coc_goes, coc_again, qcd_goes, qcd_again, qcc_goes, qcc_again, passed_goes, passed_again}
+use Rattle.jk_marks.proofs.Steps.{Goes, goes_none, goes_then, goes_as, number_goes}
+use Rattle.jk_marks.proofs.SegmentLaws.{cod_goes}
+use Rattle.jk_marks.proofs.ComponentLaws.{coc_goes, qcd_goes, qcc_goes, passed_goes}
 
 -- what a header has said with one more segment
 abbrev pub with_segment : TileHead → Segment → TileHead

@@ -1,15 +1,14 @@
 -- What the segments of a header say, from what is fresh one after another, and back.
-use Rattle.std.proofs.Common.{◌≡◌, ℕ, zero, suc, ◌+◌, ◌<◌, ◌≤◌, List, [], ◌∷◌, ◌++◌, length, map, get_or, Option, None, Some, refl, sym, ap, subst, ◌∙◌, lit≤, lit<, arith}
+use Rattle.std.proofs.Common.{◌≡◌, ℕ, zero, suc, ◌≤◌, List, [], ◌∷◌, length, map, get_or, Option, None, refl, sym, ap, subst, ◌∙◌, arith}
 use Rattle.std.proofs.lemmas.List.{length-map}
-use Rattle.std.specs.List.{flat_map, AllByRecursion}
+use Rattle.std.specs.List.{AllByRecursion}
 use Rattle.jk_marks.specs.declared.segments.CodingStyle.{CodingStyle}
 use Rattle.jk_marks.specs.declared.segments.Quantisation.{Quantisation}
 use Rattle.jk_marks.specs.declared.head.Heading.{Heading}
-use Rattle.jk_marks.specs.declared.head.TileHead.{TileHead}
 use Rattle.jk_marks.specs.Segments.{Segment, CodSegment, CocSegment, QcdSegment, QccSegment, Passed, Alone, IsSegment, AreSegments, codings, quantisations, styles_of, steps_of, quantisation_of}
 use Rattle.jk_marks.specs.Codestream.{first, by_component, head_of}
 use Rattle.jk_marks.proofs.HeadLaws.{with_segments, AreFresh}
-use Rattle.jk_marks.proofs.Counts.{Once, AreBelow, FreshAll, Parts, entries, put_all, own_styles, own_quantisations, styles_entries, steps_entries, put_entry, length_put, fresh_from, parts_of, fresh_of, with_parts}
+use Rattle.jk_marks.proofs.Counts.{Once, AreBelow, FreshAll, entries, put_all, own_styles, own_quantisations, styles_entries, steps_entries, put_entry, length_put, fresh_from, parts_of, fresh_of, with_parts}
 
 -- nothing said of any component
 abbrev pub nothing : {X : Type 0} → List (Option X)

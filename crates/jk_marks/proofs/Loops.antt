@@ -1,11 +1,10 @@
 -- One step of each loop over a header, and its end.
-use Rattle.std.proofs.Common.{◌≡◌, ℕ, zero, suc, ◌+◌, ◌-◌, ◌<◌, ◌≤◌, Bool, true, false, cond, eqb, List, [], ◌∷◌, ◌++◌, length, Result, Ok, Err, refl, sym, ap, ◌∙◌, arith}
+use Rattle.std.proofs.Common.{◌≡◌, ℕ, suc, ◌+◌, ◌-◌, ◌<◌, ◌≤◌, cond, eqb, List, [], ◌∷◌, ◌++◌, length, Ok, Err, refl, ap, ◌∙◌, arith}
 use Rattle.jk_math.specs.Answer.{◌>>=◌}
-use Rattle.jk_math.specs.declared.fault.Fault.{Fault}
 use Rattle.jk_math.specs.declared.fault.Fault.TheVariants.{Truncated}
 use Rattle.jk_marks.specs.declared.head.Heading.{Heading}
 use Rattle.jk_marks.specs.declared.head.TileHead.{TileHead}
-use Rattle.jk_marks.specs.Place.{Place, past, outside}
+use Rattle.jk_marks.specs.Place.{Place, outside}
 use Rattle.jk_marks.specs.Reading.{number, precinct_at, precincts_at, segment_at, segments_at}
 use Rattle.jk_marks.specs.HeaderReading.{component_depth_at, components_at}
 

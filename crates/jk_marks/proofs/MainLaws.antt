@@ -1,27 +1,26 @@
 -- A main header that is read is spelled so, and one that is spelled so is read.
-use Rattle.std.proofs.Common.{◌≡◌, ℕ, zero, suc, ◌+◌, ◌-◌, ◌*◌, ◌^◌, ◌<◌, ◌≤◌, Bool, true, false, not, eqb, List, [], ◌∷◌, ◌++◌, length, map, Option, None, Some, Ok, refl, sym, ap, subst, ◌∙◌, append_assoc, lit≤, lit<, arith}
+use Rattle.std.proofs.Common.{◌≡◌, ℕ, ◌+◌, ◌-◌, ◌<◌, ◌≤◌, false, not, eqb, List, [], ◌∷◌, ◌++◌, length, map, Ok, refl, sym, ap, subst, ◌∙◌, append_assoc, lit≤, lit<, arith}
 use Rattle.std.specs.Prelude.{is_none}
-use Rattle.std.proofs.lemmas.Bool.{true≢false, eqb-true, eq-eqb, not-false}
+use Rattle.std.proofs.lemmas.Bool.{true≢false, eqb-true, not-false}
 use Rattle.std.proofs.lemmas.List.{length-append, length-map}
-use Rattle.std.specs.List.{flat_map, AllByRecursion}
+use Rattle.std.specs.List.{flat_map}
 use Rattle.byteorder.specs.Endian.{big_bytes}
-use Rattle.byteorder.specs.Numbers.{length-bytes_high_first}
 use Rattle.jk_math.specs.Steps.{bind_then, refuse_then, ok_is}
 use Rattle.jk_math.specs.declared.fault.Fault.TheVariants.{BadMarker}
 use Rattle.jk_marks.specs.declared.siz.Siz.{Siz}
 use Rattle.jk_marks.specs.declared.head.Heading.TheVariants.{MainHeader}
 use Rattle.jk_marks.specs.declared.head.TileHead.{TileHead}
 use Rattle.jk_marks.specs.declared.main_header.Main.{Main}
-use Rattle.jk_marks.specs.Place.{Place, closed, outside}
+use Rattle.jk_marks.specs.Place.{closed, outside}
 use Rattle.jk_marks.specs.Markers.{soc, siz, sot, marker_text}
-use Rattle.jk_marks.specs.Siz.{siz_text, siz_length, IsSiz}
-use Rattle.jk_marks.specs.Segments.{Segment, segment_text, codings, quantisations, quantisation_of, AreSegments}
+use Rattle.jk_marks.specs.Siz.{siz_text, IsSiz}
+use Rattle.jk_marks.specs.Segments.{Segment, segment_text, codings, quantisations, quantisation_of}
 use Rattle.jk_marks.specs.Codestream.{first, head_of, main_text, main_with, main_of, IsMain, BeginsMain}
 use Rattle.jk_marks.specs.Reading.{number, header_at}
 use Rattle.jk_marks.specs.HeaderReading.{siz_at, main_from, main_at}
 use Rattle.jk_marks.proofs.Numbers.{AreBytes}
 use Rattle.jk_marks.proofs.Steps.{Goes, ahead, goes_then, goes_as, number_goes, number_again}
-use Rattle.jk_marks.proofs.HeadLaws.{with_segments, segments_goes}
+use Rattle.jk_marks.proofs.HeadLaws.{segments_goes}
 use Rattle.jk_marks.proofs.HeadAgain.{EndsHeader, segments_again}
 use Rattle.jk_marks.proofs.HeadOf.{segments_are, segments_fresh, segments_say}
 use Rattle.jk_marks.proofs.SizLaws.{siz_body, body_length, siz_parts, siz_goes, siz_again}

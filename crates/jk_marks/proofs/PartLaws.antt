@@ -1,13 +1,12 @@
 -- A tile-part that is read is spelled so, and one that is spelled so is read.
-use Rattle.std.proofs.Common.{◌≡◌, ℕ, zero, suc, ◌+◌, ◌-◌, ◌*◌, ◌^◌, ◌<◌, ◌≤◌, Bool, true, false, not, ◌&&◌, cond, min, eqb, ltb, leb, List, [], ◌∷◌, ◌++◌, length, get_or, take, drop, Ok, Err, refl, sym, ap, subst, ◌∙◌, append_assoc, arith, inl, inr, ◌⊎◌, lit<, lit≤}
-use Rattle.std.proofs.lemmas.Bool.{ltb-false, le-ltb, eqb-true, eqb-false, leb-true, leb-false, and_parts, not-false, le-leb, lt-leb, ne_eqb, and_left, and_right, eq-eqb, cases_Bool}
-use Rattle.std.proofs.lemmas.List.{drop_at, take_at, take-append-drop, length-append, length-drop, length-take-le, drop-drop, take_all}
-use Rattle.std.specs.List.{flat_map, AllByRecursion}
+use Rattle.std.proofs.Common.{◌≡◌, ℕ, zero, suc, ◌+◌, ◌-◌, ◌^◌, ◌<◌, ◌≤◌, Bool, true, false, not, ◌&&◌, cond, eqb, ltb, leb, List, [], ◌∷◌, ◌++◌, length, get_or, take, drop, Ok, Err, refl, sym, ap, subst, ◌∙◌, append_assoc, arith, inl, inr, ◌⊎◌, lit<, lit≤}
+use Rattle.std.proofs.lemmas.Bool.{ltb-false, le-ltb, eqb-true, eqb-false, leb-true, leb-false, and_parts, not-false, le-leb, lt-leb, ne_eqb, and_left, and_right, eq-eqb}
+use Rattle.std.proofs.lemmas.List.{drop_at, take_at, take-append-drop, length-append, length-drop, length-take-le, take_all}
+use Rattle.std.specs.List.{flat_map}
 use Rattle.byteorder.specs.Endian.{big_number, big_bytes}
 use Rattle.jk_math.specs.Steps.{bind_then, refuse_then, guarded, guard_ended, chosen, ok_is}
 use Rattle.jk_math.specs.declared.fault.Fault.TheVariants.{Truncated, BadMarker, BadLength, BadValue}
 use Rattle.jk_marks.specs.declared.siz.Siz.{Siz}
-use Rattle.jk_marks.specs.declared.head.Heading.{Heading}
 use Rattle.jk_marks.specs.declared.head.Heading.TheVariants.{FirstPart, LaterPart}
 use Rattle.jk_marks.specs.declared.head.TileHead.{TileHead}
 use Rattle.jk_marks.specs.declared.tile_part.TilePart.{TilePart}
@@ -15,13 +14,13 @@ use Rattle.jk_marks.specs.declared.tile_part.Sot.{Sot}
 use Rattle.jk_marks.specs.Place.{Place, closed, outside}
 use Rattle.jk_marks.specs.Markers.{sot, sod, eoc, marker_text}
 use Rattle.jk_marks.specs.Siz.{tile_count}
-use Rattle.jk_marks.specs.Segments.{Segment, IsSegment, segment_text}
+use Rattle.jk_marks.specs.Segments.{segment_text}
 use Rattle.jk_marks.specs.Codestream.{Part, part_text, part_length, psot, place_of, head_of, heading_of, BeginsWith, IsPart}
 use Rattle.jk_marks.specs.Reading.{number, segment_length, header_at}
 use Rattle.jk_marks.specs.HeaderReading.{part_end, sot_at, part_at}
 use Rattle.jk_marks.proofs.Numbers.{AreBytes, are_bytes_after, number_back}
-use Rattle.jk_marks.proofs.Steps.{Goes, ahead, entered, goes_then, goes_as, number_goes, number_again, length_goes, length_again}
-use Rattle.jk_marks.proofs.HeadLaws.{with_segments, segments_goes}
+use Rattle.jk_marks.proofs.Steps.{Goes, goes_then, goes_as, number_goes, number_again, length_goes, length_again}
+use Rattle.jk_marks.proofs.HeadLaws.{segments_goes}
 use Rattle.jk_marks.proofs.HeadAgain.{EndsHeader, segments_again}
 use Rattle.jk_marks.proofs.HeadOf.{segments_are, segments_fresh, segments_say}
 use Rattle.jk_marks.proofs.MainLaws.{many_bytes}

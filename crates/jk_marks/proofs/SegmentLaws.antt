@@ -1,26 +1,22 @@
 -- Marker segments: what is read is spelled so, and what is spelled so is read.
-use Rattle.std.proofs.Common.{◌≡◌, ℕ, zero, suc, ◌+◌, ◌-◌, ◌*◌, ◌/◌, ◌%◌, ◌^◌, ◌<◌, ◌≤◌, Bool, true, false, not, ◌&&◌, ◌||◌, cond, eqb, ltb, leb, List, [], ◌∷◌, ◌++◌, length, map, take, Option, None, Some, Ok, refl, sym, ap, subst, ◌∙◌, ◌⊎◌, inl, inr, get_or, append_assoc, lit≤, arith}
-use Rattle.std.specs.Prelude.{is_some, slice_set}
-use Rattle.std.proofs.lemmas.Bool.{true≢false, ltb-false, ltb-true, le-ltb, lt-ltb, leb-false, lt-leb, eqb-true, eqb-false, eq-eqb, ne_eqb, not-false, not_from_true, or_parts, or_from, and_from}
-use Rattle.std.proofs.lemmas.List.{length-append, length-map}
-use Rattle.std.proofs.Math.Nat.{mod-eq_of_lt}
+use Rattle.std.proofs.Common.{◌≡◌, ℕ, zero, suc, ◌+◌, ◌*◌, ◌/◌, ◌%◌, ◌<◌, ◌≤◌, Bool, true, false, ◌&&◌, ◌||◌, eqb, ltb, List, [], ◌∷◌, ◌++◌, length, map, Ok, refl, sym, ap, subst, ◌∙◌, ◌⊎◌, inl, inr, lit≤, arith}
+use Rattle.std.proofs.lemmas.Bool.{true≢false, ltb-false, le-ltb, ne_eqb, or_parts}
+use Rattle.std.proofs.lemmas.List.{length-map}
 use Rattle.byteorder.specs.Endian.{big_bytes}
-use Rattle.byteorder.specs.Numbers.{length-bytes_high_first}
 use Rattle.jk_math.specs.Steps.{bind_then, refuse_then, ok_is}
-use Rattle.jk_math.specs.declared.fault.Fault.TheVariants.{BadMarker, BadLength, BadValue, Unsupported}
+use Rattle.jk_math.specs.declared.fault.Fault.TheVariants.{BadValue}
 use Rattle.jk_marks.specs.declared.segments.CodingStyle.{CodingStyle}
 use Rattle.jk_marks.specs.declared.segments.Cod.{Cod}
-use Rattle.jk_marks.specs.declared.segments.Quantisation.{Quantisation}
 use Rattle.jk_marks.specs.declared.segments.Order.{Order}
 use Rattle.jk_marks.specs.declared.segments.Order.TheVariants.{Lrcp, Rlcp, Rpcl, Pcrl, Cprl}
 use Rattle.jk_marks.specs.Place.{Place}
 use Rattle.jk_marks.specs.Precincts.{precinct_byte}
 use Rattle.jk_marks.specs.OrderCode.{order_code, order_with}
-use Rattle.jk_marks.specs.Segments.{Segment, CodSegment, CocSegment, QcdSegment, QccSegment, Passed, StepSizes, AreSteps, IsCod, IsStyle, segment_body, contents, style_text, scod, bit_of, given_bit, quantisation_of}
-use Rattle.jk_marks.specs.Reading.{number, segment_length, style_at, cod_at, component_at, coc_at, steps_at, qcd_at, qcc_at, passed_at, passing, has}
+use Rattle.jk_marks.specs.Segments.{CodSegment, CocSegment, IsCod, IsStyle, segment_body, contents, style_text, scod, bit_of, given_bit}
+use Rattle.jk_marks.specs.Reading.{number, segment_length, style_at, cod_at}
 use Rattle.jk_marks.proofs.Numbers.{AreBytes}
-use Rattle.jk_marks.proofs.Steps.{Goes, ahead, ahead_twice, entered, goes_then, goes_as, number_goes, number_again, byte_goes, byte_again, length_goes, length_again, passing_goes, passing_again}
-use Rattle.jk_marks.proofs.StyleLaws.{Style, style_goes, style_again}
+use Rattle.jk_marks.proofs.Steps.{Goes, ahead, entered, goes_then, goes_as, number_goes, number_again, byte_goes, byte_again, length_goes, length_again}
+use Rattle.jk_marks.proofs.StyleLaws.{style_goes, style_again}
 
 -- the three bits of Scod
 abbrev pub flags_of : (given sop eph : Bool) → ℕ

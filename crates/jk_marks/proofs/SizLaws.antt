@@ -1,10 +1,8 @@
 -- The image and tile size segment: what is read is spelled so, and what is spelled so is read.
-use Rattle.std.proofs.Common.{◌≡◌, ℕ, zero, suc, ◌+◌, ◌-◌, ◌*◌, ◌/◌, ◌%◌, ◌^◌, ◌<◌, ◌≤◌, Bool, true, false, not, ◌&&◌, ◌||◌, cond, eqb, ltb, leb, List, [], ◌∷◌, ◌++◌, length, replicate, get_or, Ok, refl, sym, ap, subst, ◌∙◌, ◌⊎◌, inl, inr, append_assoc, lit≤, lit<, arith}
-use Rattle.std.proofs.lemmas.Bool.{true≢false, ltb-false, ltb-true, le-ltb, lt-ltb, leb-false, leb-true, lt-leb, le-leb, eqb-true, eqb-false, eq-eqb, ne_eqb, not-false, not_from_true, or_parts, or_from, and_parts, and_from, cases_Bool}
-use Rattle.std.proofs.lemmas.List.{length-append}
+use Rattle.std.proofs.Common.{◌≡◌, ℕ, zero, suc, ◌+◌, ◌-◌, ◌*◌, ◌%◌, ◌^◌, ◌<◌, ◌≤◌, Bool, true, false, not, ◌||◌, cond, eqb, ltb, leb, List, [], ◌∷◌, ◌++◌, length, replicate, get_or, Ok, refl, sym, ap, subst, ◌∙◌, inl, inr, lit<, arith}
+use Rattle.std.proofs.lemmas.Bool.{true≢false, ltb-false, ltb-true, le-ltb, lt-ltb, leb-false, leb-true, lt-leb, le-leb, eqb-true, eq-eqb, ne_eqb, not-false, or_parts, or_from, and_parts, and_from, cases_Bool}
 use Rattle.std.specs.List.{concat}
 use Rattle.byteorder.specs.Endian.{big_bytes}
-use Rattle.byteorder.specs.Numbers.{length-bytes_high_first}
 use Rattle.jk_math.specs.Steps.{bind_then, refuse_then, ok_is}
 use Rattle.jk_math.specs.declared.fault.Fault.TheVariants.{BadLength, BadValue, Limit, Unsupported}
 use Rattle.jk_marks.specs.declared.siz.Siz.{Siz}
@@ -12,7 +10,7 @@ use Rattle.jk_marks.specs.declared.siz_segment.Area.{Area}
 use Rattle.jk_marks.specs.declared.siz_segment.Tiling.{Tiling}
 use Rattle.jk_marks.specs.Place.{Place}
 use Rattle.jk_marks.specs.Markers.{siz, marker_text}
-use Rattle.jk_marks.specs.Siz.{tile_count, ssiz, component_text, siz_length, siz_text, IsSiz}
+use Rattle.jk_marks.specs.Siz.{ssiz, siz_length, siz_text, IsSiz}
 use Rattle.jk_marks.specs.Reading.{number, segment_length}
 use Rattle.jk_marks.specs.HeaderReading.{area_at, covers, tiles_of, tiling_at, sampling_at, component_depth_at, components_at, count_at, next_byte, siz_with, siz_at}
 use Rattle.jk_marks.proofs.Numbers.{AreBytes}

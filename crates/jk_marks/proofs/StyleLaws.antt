@@ -1,8 +1,7 @@
 -- Coding styles: what is read is spelled so, and what is spelled so is read.
-use Rattle.std.proofs.Common.{◌≡◌, ℕ, zero, suc, ◌+◌, ◌-◌, ◌*◌, ◌/◌, ◌%◌, ◌^◌, ◌<◌, ◌≤◌, Bool, true, false, not, ◌&&◌, ◌||◌, cond, eqb, ltb, leb, List, [], ◌∷◌, ◌++◌, length, map, drop, Ok, refl, sym, ap, subst, ◌∙◌, ◌⊎◌, inl, inr, append_assoc, arith}
-use Rattle.std.proofs.lemmas.Bool.{true≢false, ltb-false, ltb-true, le-ltb, lt-ltb, leb-false, lt-leb, eqb-true, eq-eqb, ne_eqb, not-false, not_from_true, or_parts, or_from}
-use Rattle.std.proofs.lemmas.List.{length-append, length-map, append-nil, map-append}
-use Rattle.std.proofs.lemmas.Nat.{div-mul-add}
+use Rattle.std.proofs.Common.{◌≡◌, ℕ, zero, suc, ◌+◌, ◌-◌, ◌/◌, ◌%◌, ◌<◌, ◌≤◌, Bool, true, false, not, ◌&&◌, ◌||◌, cond, eqb, ltb, leb, List, [], ◌∷◌, ◌++◌, length, map, drop, Ok, refl, sym, ap, subst, ◌∙◌, ◌⊎◌, inl, inr, append_assoc, arith}
+use Rattle.std.proofs.lemmas.Bool.{true≢false, ltb-false, le-ltb, eqb-true, eq-eqb, ne_eqb, not-false, or_parts, or_from}
+use Rattle.std.proofs.lemmas.List.{length-append, append-nil}
 use Rattle.std.proofs.Math.Nat.{mod-lt, mod-add-div}
 use Rattle.std.specs.List.{AllByRecursion}
 use Rattle.jk_math.specs.Steps.{bind_then, refuse_then, ok_is}

@@ -14,7 +14,7 @@ use Rattle.jk_marks.specs.declared.main_header.Main.{Main}
 use Rattle.jk_marks.specs.declared.tile_part.TilePart.{TilePart}
 use Rattle.jk_marks.specs.Markers.{soc, sot, sod, eoc, marker_text}
 use Rattle.jk_marks.specs.Siz.{siz_text, tile_count, IsSiz}
-use Rattle.jk_marks.specs.Segments.{Segment, CodSegment, CocSegment, QcdSegment, QccSegment, StepSizes, segment_text, codings, quantisations, styles_of, steps_of, quantisation_of, written_steps, AreSegments, IsCod, IsStyle, IsQuantisation}
+use Rattle.jk_marks.specs.Segments.{Segment, CodSegment, CocSegment, QcdSegment, QccSegment, segment_text, codings, quantisations, styles_of, steps_of, quantisation_of, written_steps, AreSegments, IsCod, IsStyle, IsQuantisation}
 
 -- A tile-part (A.4.2): the tile's number, whether its length is left open, its number within the tile, how many parts
 -- it says that there are, the segments of its header, and its data.

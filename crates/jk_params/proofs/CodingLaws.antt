@@ -1,10 +1,10 @@
 -- The coding by the segments, and the coding by what the program keeps of them.
-use Rattle.std.proofs.Common.{◌≡◌, ℕ, zero, suc, ◌+◌, ◌*◌, ◌<◌, ◌≤◌, Bool, true, false, ◌||◌, ltb, eqb, min, List, [], ◌∷◌, ◌++◌, length, map, take, get_or, Option, None, Some, Result, Ok, Err, refl, sym, ap, subst, ◌∙◌, ◌⊎◌, inl, inr, arith}
-use Rattle.std.specs.Prelude.{IfOk, option_map}
+use Rattle.std.proofs.Common.{◌≡◌, ℕ, zero, suc, ◌+◌, ◌<◌, ◌≤◌, false, ◌||◌, ltb, List, [], ◌∷◌, ◌++◌, length, map, Option, None, Some, Ok, refl, sym, ap, subst, ◌∙◌, arith}
+use Rattle.std.specs.Prelude.{option_map}
 use Rattle.std.specs.List.{list_any, AllByRecursion}
 use Rattle.std.proofs.lemmas.Bool.{ltb-false, le-ltb, or_parts, or_from}
 use Rattle.std.proofs.lemmas.List.{map-append, length-take}
-use Rattle.jk_math.specs.Steps.{bind_then, refuse_then, ok_is}
+use Rattle.jk_math.specs.Steps.{refuse_then, ok_is}
 use Rattle.jk_math.specs.declared.fault.Fault.TheVariants.{BadValue, Limit}
 use Rattle.jk_marks.specs.declared.coding.Coding.{Coding}
 use Rattle.jk_marks.specs.declared.segments.Cod.{Cod}
@@ -13,7 +13,7 @@ use Rattle.jk_marks.specs.declared.segments.Quantisation.{Quantisation}
 use Rattle.jk_marks.specs.declared.siz.Siz.{Siz}
 use Rattle.jk_marks.specs.declared.head.TileHead.{TileHead}
 use Rattle.jk_marks.specs.declared.main_header.Main.{Main}
-use Rattle.jk_marks.specs.Segments.{Segment, StepSizes, codings, quantisations, styles_of, steps_of, quantisation_of}
+use Rattle.jk_marks.specs.Segments.{Segment, codings, quantisations, styles_of, steps_of, quantisation_of}
 use Rattle.jk_marks.specs.Codestream.{first, by_component, given_for, head_of, main_of, or_else, no_coding, no_quantisation}
 use Rattle.jk_params.specs.Coding.{style_for, quantisation_for, band_count, coding_with, coding_of, style_in, quantisation_in, planes_at, HasPlanes}
 

@@ -1,5 +1,5 @@
 -- What the tests of a page say.
-use Rattle.std.proofs.Common.{◌≡◌, ℕ, ◌+◌, ◌-◌, ◌*◌, ◌/◌, ◌<◌, ◌≤◌, Bool, true, false, not, ◌&&◌, eqb, leb, List, [], ◌∷◌, length, Option, None, Some, refl, sym, ap, ◌∙◌, inl, inr, ◌⊎◌, ◌++◌, ◌^◌, lit<, lit≤, arith}
+use Rattle.std.proofs.Common.{◌≡◌, ℕ, ◌+◌, ◌-◌, ◌*◌, ◌/◌, ◌<◌, ◌≤◌, Bool, true, false, eqb, leb, List, [], ◌∷◌, refl, sym, ap, ◌∙◌, inl, ◌++◌, ◌^◌, lit<, lit≤, arith}
 use Rattle.std.specs.Prelude.{is_none}
 use Rattle.std.proofs.lemmas.Bool.{true≢false, eqb-true, eq-eqb, leb-true, le-leb, and_parts, not-true}
 use Rattle.std.proofs.lemmas.List.{nil_from_length}
@@ -12,8 +12,8 @@ use Rattle.jk_marks.specs.declared.head.TileHead.{TileHead}
 use Rattle.jk_marks.specs.declared.main_header.Main.{Main}
 use Rattle.jk_marks.specs.OrderCode.{order_code}
 use Rattle.byteorder.specs.Endian.{big_bytes}
-use Rattle.jk_marks.specs.Siz.{tile_count, siz_text, IsSiz}
-use Rattle.jk_marks.specs.Segments.{Segment, IsStyle, IsCod, style_text, contents, segment_body, segment_text}
+use Rattle.jk_marks.specs.Siz.{tile_count, siz_text}
+use Rattle.jk_marks.specs.Segments.{IsStyle, IsCod, style_text, contents, segment_body}
 use Rattle.jk_marks.specs.Codestream.{main_text, main_of, head_of, IsMain}
 use Rattle.jk_params.specs.Page.{page_siz, page_cod, page_segments, is_page_siz, is_page_style, is_page_cod, is_page_quantisation, is_page, is_silent}
 

@@ -1,5 +1,5 @@
 -- The coding of a tile-component (T.800 A.6, E.1): which segments go before others, and how many magnitude planes a sub-band has.
-use Rattle.std.specs.Prelude.{◌≡◌, ℕ, ◌+◌, ◌*◌, ◌≤◌, ◌==◌, ◌||◌, min, nat_lt, nat_le, List, [], ◌∷◌, ◌++◌, length, map, take, replicate, Option, None, Some, option_map, Bool, Result, Ok, if◌then◌else◌}
+use Rattle.std.specs.Prelude.{◌≡◌, ℕ, ◌+◌, ◌*◌, ◌≤◌, ◌==◌, ◌||◌, min, nat_lt, List, [], ◌++◌, length, map, take, replicate, Option, option_map, Result, Ok, if◌then◌else◌}
 use Rattle.std.specs.List.{list_any, AllByRecursion}
 use Rattle.jk_math.specs.Answer.{◌>>=◌, refuse}
 use Rattle.jk_math.specs.declared.fault.Fault.{Fault}

@@ -1,8 +1,7 @@
 -- The codestreams whose headers are read as a whole today: a page. One unsigned component of 8 bits with its upper left corner at
 -- (0, 0), in one tile and one tile-part, no decomposition level, one layer.
-use Rattle.std.specs.Prelude.{◌≡◌, ℕ, ◌==◌, Bool, true, false, not, ◌&&◌, nat_le, List, [], ◌∷◌, length, slice_index, Option, is_none, is_some}
+use Rattle.std.specs.Prelude.{ℕ, ◌==◌, Bool, false, not, ◌&&◌, nat_le, List, [], ◌∷◌, length, slice_index, Option, is_none}
 use Rattle.std.specs.List.{list_all}
-use Rattle.jk_marks.specs.declared.segments.Order.{Order}
 use Rattle.jk_marks.specs.declared.segments.CodingStyle.{CodingStyle}
 use Rattle.jk_marks.specs.declared.segments.Cod.{Cod}
 use Rattle.jk_marks.specs.declared.segments.Quantisation.{Quantisation}

@@ -244,6 +244,35 @@ fn parameters(rt: HostRuntime) -> Result<(), Fail> {
     Ok(())
 }
 
+/// A page in a JP2 file, there and back, and what isn't the codestream's.
+#[test]
+fn boxed_page(rt: HostRuntime) -> Result<(), Fail> {
+    let alloc = rt.alloc();
+    let pgm = grey(alloc, "P5\n1 1\n255\n", 1)?;
+    let image = jk_pnm::read(alloc, &pgm).ok().ok_or("an image")?;
+    let boxed = Parameters {
+        container: Container::Jp2,
+        ..bare(alloc)
+    };
+    let file = encode(alloc, &image, &boxed).ok().ok_or("a file")?;
+    let front =
+        "0000000C 6A502020 0D0A870A 00000014 66747970 6A703220 00000000 6A703220 0000002D 6A703268 00000016 69686472 00000001 00000001 0001 07 07 00 00 0000000F 636F6C72 01 00 00 00000011 0000005A 6A703263";
+    let part = "FF90 000A 0000 0000000F 00 01 FF93 00 FFD9";
+    let wanted = bytes_of(alloc, &[front, MAIN, part])?;
+    assert_eq!(rt; wanted.len(), 167);
+    assert_eq!(rt; &file[..], &wanted[..]);
+    // A box behind the codestream is passed over.
+    let longer = bytes_of(alloc, &[front, MAIN, part, "00000009 66726565 00"])?;
+    for bytes in [&file, &longer] {
+        let back = decode(alloc, bytes, 0).ok().ok_or("an image again")?;
+        let again = jk_pnm::write(alloc, &back).ok().ok_or("a PGM file")?;
+        assert_eq!(rt; &again[..], &pgm[..]);
+    }
+    let other = bytes_of(alloc, &["0000000C 6A502020 0D0B870A", MAIN, part])?;
+    assert_eq!(rt; decode(alloc, &other, 0).err(), Some(Fault::BadBox));
+    Ok(())
+}
+
 /// A page that isn't grey, and where it is placed: its file is refused today, and its PGM file is the same.
 #[test]
 fn other_pages(rt: HostRuntime) -> Result<(), Fail> {

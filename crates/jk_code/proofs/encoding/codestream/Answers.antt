@@ -14,4 +14,8 @@ returns-clause-value c =
 
 pub returns-clause-means : goal.returns-clause-means
 returns-clause-means c =
-    written_means c.write_end.new.out.items c.args.image.now c.args.parameters.now c.main_header-main.ensures.profile c.requires.page c.requires.plain (returns-clause-value c)
+    (written_means c.write_end.new.out.items c.args.image.now c.args.parameters.now c.main_header-main.ensures.profile c.requires.page c.requires.plain (returns-clause-value c)).0
+
+pub returns-clause-bare : goal.returns-clause-bare
+returns-clause-bare c =
+    (written_means c.write_end.new.out.items c.args.image.now c.args.parameters.now c.main_header-main.ensures.profile c.requires.page c.requires.plain (returns-clause-value c)).1

@@ -1,7 +1,7 @@
-use Rattle.std.proofs.Common.{◌≡◌, ◌+◌, ◌-◌, [], length, Ok, sym, refl, subst, ◌∙◌, ap, arith}
+use Rattle.std.proofs.Common.{◌+◌, ◌-◌, sym, refl, ◌∙◌, ap, arith}
 use Rattle.std.proofs.lemmas.Result.{err_from_is_err_and}
 use Rattle.std.proofs.lemmas.Bool.{eq-eqb, ne_eqb}
-use Rattle.jk_marks.specs.Place.{Place, outside}
+use Rattle.jk_marks.specs.Place.{Place}
 use Rattle.jk_marks.specs.Reading.{segments_at}
 use Rattle.jk_marks.proofs.Loops.{segments_more, segments_end}
 use Rattle.jk_marks.proofs.Steps.{number_moves}

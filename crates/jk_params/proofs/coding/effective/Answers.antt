@@ -1,4 +1,4 @@
-use Rattle.std.proofs.Common.{◌≡◌, Option, sym, ap, ◌∙◌, Bor}
+use Rattle.std.proofs.Common.{Option, sym, ap, ◌∙◌, Bor}
 use Rattle.std.specs.Prelude.{option_map}
 use Rattle.jk_marks.specs.declared.head.TileHead.{TileHead}
 use Rattle.jk_params.specs.Coding.{head_or_none}

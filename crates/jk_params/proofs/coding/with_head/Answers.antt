@@ -1,9 +1,8 @@
-use Rattle.std.proofs.Common.{sym, ap, ◌∙◌, Ok, subst}
+use Rattle.std.proofs.Common.{sym, ap, ◌∙◌}
 use Rattle.jk_math.specs.Steps.{if_ok_from}
 use Rattle.jk_marks.specs.declared.segments.CodingStyle.{CodingStyle}
 use Rattle.jk_marks.specs.declared.segments.Quantisation.{Quantisation}
-use Rattle.jk_marks.specs.declared.coding.Coding.{Coding}
-use Rattle.jk_params.specs.Coding.{coding_with, planes_at, style_in, HasPlanes}
+use Rattle.jk_params.specs.Coding.{coding_with, planes_at, style_in}
 use Rattle.jk_params.proofs.CodingLaws.{planes_again, judged_has, coding_same}
 use Rattle.jk_params.proofs.coding.with_head.Goals as goal
 

@@ -1,4 +1,4 @@
-use Rattle.std.proofs.Common.{◌∙◌, ap, sym, take}
+use Rattle.std.proofs.Common.{◌∙◌, ap, take}
 use Rattle.jk_marks.proofs.Fronts.{take_take}
 use Rattle.jk_marks.proofs.segments.Exponents.front.Goals as goal
 
