@@ -147,10 +147,10 @@ fn file(alloc: Global, image: &Image, parameters: &Parameters) -> Result<Vec<u8>
 
 /// The file of an image.
 ///
-/// BadParameters: an image and parameters outside the profile, as `Parameters::check` says. NotYet: what
-/// isn't a page of one unsigned component of 8 bits at (0, 0), with sides of at most 32768 and all samples
-/// 128, or parameters other than no decomposition levels, in one layer and one tile, in the order LRCP, with code-blocks of 64 by 64 and no precinct sizes, colour transform, SOP or
-/// EPH.
+/// BadParameters: an image and parameters outside the profile, as `Parameters::check` says. NotYet: an image that isn't a
+/// page of one unsigned component of 8 bits at (0, 0), with sides of at most 32768 and all samples 128; or parameters
+/// other than no decomposition levels, one layer, one tile, the order LRCP and code-blocks of 64 by 64, without precinct
+/// sizes, colour transform, SOP and EPH.
 #[tactic(auto, unfolding(crate::specs::Written::written))]
 pub fn encode(alloc: Global, image: &Image, parameters: &Parameters) -> Result<Vec<u8>, Fault>
     // Which bytes, or which fault.

@@ -22,12 +22,12 @@ pub record IsName (s : TileShape) (n : PacketName) : Type 0 where
   pub resolution : n.resolution ≤ (coding_of s.codings n.component).levels
   pub precinct : n.precinct < precinct_number s.rect (coding_of s.codings n.component) n.resolution
 
--- Where precinct k of resolution r lies on the reference grid: where its upper left corner lies, or the tile's own
+-- Where precinct n of resolution r lies on the reference grid: where its upper left corner lies, or the tile's own
 -- where a precinct begins before the tile does.
-abbrev pub precinct_x : Rect → Coding → (r k : ℕ) → ℕ
+abbrev pub precinct_x : Rect → Coding → (r n : ℕ) → ℕ
 precinct_x a k r n = max a.x0 (precinct_column a k r n * 2 ^ ((precinct_size k r).0 + (k.levels - r)))
 
-abbrev pub precinct_y : Rect → Coding → (r k : ℕ) → ℕ
+abbrev pub precinct_y : Rect → Coding → (r n : ℕ) → ℕ
 precinct_y a k r n = max a.y0 (precinct_row a k r n * 2 ^ ((precinct_size k r).1 + (k.levels - r)))
 
 -- the numbers by which the orders compare packets, the first that differ deciding (B.12.1.1 to B.12.1.5)

@@ -5,10 +5,9 @@
 mod limits;
 #[cfg(test)]
 mod nine_tiles;
+#[cfg(test)]
 mod random;
 #[cfg(test)]
 mod random_tiles;
 #[cfg(test)]
 mod sums;
-
-pub use random::{Random, any_tile, coding};
