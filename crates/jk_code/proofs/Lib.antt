@@ -1,4 +1,14 @@
+pub mod PacketSteps
+pub mod PacketLaws
 pub mod Planes
-pub mod MeaningSteps
+pub mod ZeroLaws
+pub mod HeaderFacts
+pub mod TileMeanings
+pub mod FrameLaws
 pub mod MeaningLaws
+pub mod LoopLaws
+pub mod BlankLaws
+pub mod WrittenPackets
+pub mod HeaderLaws
+pub mod PartLaws
 pub mod WrittenLaws

@@ -6,7 +6,8 @@ use Rattle.std.proofs.lemmas.List.Elements.{All-replicate}
 use Rattle.std.proofs.lemmas.Int.{ints, clamps}
 use Rattle.std.proofs.Math.Nat.{one-le-pow}
 use Rattle.std.specs.Int.{int_min, int_max}
-use Rattle.jk_math.specs.Picture.{Picture, IsPlane, IsPicture, lists_of, lowest, greatest}
+use Rattle.jk_math.specs.declared.rect.Rect.{Rect}
+use Rattle.jk_math.specs.Picture.{Picture, IsFrame, IsPlane, IsPicture, lists_of, lowest, greatest}
 use Rattle.jk_marks.specs.declared.siz.Siz.{Siz}
 use Rattle.jk_marks.specs.Siz.{IsSiz}
 use Rattle.jk_code.specs.Samples.{clamped, sample_of}
@@ -25,9 +26,13 @@ within z low high h = (omega (arith, ints, clamps), omega (arith, ints, clamps))
 pub clamped_range : (depth : ℕ) (signed : Bool) (z : ℤ) → 1 ≤ depth → (lowest depth signed ≤ℤ clamped depth signed z) × (clamped depth signed z ≤ℤ greatest depth signed)
 clamped_range depth signed z h = within z (lowest depth signed) (greatest depth signed) (range_is depth signed h)
 
-pub blank_is_picture : (s : Siz) → IsSiz s → IsPicture (blank s)
-blank_is_picture s is =
-    let area = (s.x1 - s.x0) * (s.y1 - s.y0) in
+-- the frame of a rectangle
+abbrev pub HasFrame : Rect → Type 0
+HasFrame a = IsFrame a.x0 a.y0 (a.x1 - a.x0) (a.y1 - a.y0)
+
+pub blank_is_picture : (s : Siz) (a : Rect) → IsSiz s → HasFrame a → IsPicture (blank s a)
+blank_is_picture s a is frame =
+    let area = (a.x1 - a.x0) * (a.y1 - a.y0) in
     let sample = sample_of s (pos 0) in
     let plane : IsPlane area s.depth s.signed (replicate area sample) = record {
       count = length-replicate area sample;
@@ -35,7 +40,7 @@ blank_is_picture s is =
     } in
     let planes-len = length-replicate s.components (replicate area sample) in
     record {
-      frame = record { wide = omega (arith, is.wide); high = omega (arith, is.high); right = omega (arith, is.wide, is.right); lower = omega (arith, is.high, is.lower); area = is.area };
+      frame = frame;
       components = record {
         some_bits = is.some_bits;
         few_bits = is.few_bits;
@@ -46,12 +51,12 @@ blank_is_picture s is =
     }
 
 -- the picture of these planes
-abbrev pub picture_with : Siz → List (List ℤ) → Picture
-picture_with s planes = record {
-  x0 = s.x0;
-  y0 = s.y0;
-  width = s.x1 - s.x0;
-  height = s.y1 - s.y0;
+abbrev pub picture_with : Siz → Rect → List (List ℤ) → Picture
+picture_with s a planes = record {
+  x0 = a.x0;
+  y0 = a.y0;
+  width = a.x1 - a.x0;
+  height = a.y1 - a.y0;
   depth = s.depth;
   signed = s.signed;
   planes = planes;

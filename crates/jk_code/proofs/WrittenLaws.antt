@@ -1,253 +1,186 @@
 -- What is written means the image.
-use Rattle.std.proofs.Common.{◌≡◌, ℕ, zero, suc, ◌+◌, ◌-◌, ◌*◌, ◌^◌, ◌<◌, ◌≤◌, true, false, not, ◌&&◌, eqb, leb, List, [], ◌∷◌, ◌++◌, length, get_or, take, drop, replicate, Option, None, Some, Ok, ℤ, pos, refl, sym, ap, subst, ◌∙◌, zero-add, arith, inl, lit<, lit≤}
-use Rattle.std.specs.Prelude.{is_none}
-use Rattle.std.specs.Ordering.{int_eq}
-use Rattle.std.specs.List.{list_all, flat_map}
-use Rattle.std.proofs.lemmas.Bool.{eqb-true, leb-true, and_parts, not-true}
-use Rattle.std.proofs.lemmas.List.{append-nil, drop_at, drop-drop, nil_from_length}
-use Rattle.std.proofs.lemmas.Bool.Decides.{Decides-int_eq}
-use Rattle.std.proofs.lemmas.List.Elements.{All-nil, All-cons}
+use Rattle.std.proofs.Common.{◌≡◌, ℕ, ◌+◌, ◌-◌, ◌/◌, ◌<◌, ◌≤◌, true, List, [], ◌∷◌, ◌++◌, length, map, drop, replicate, ℤ, pos, refl, ap, sym, ◌∙◌, subst, arith, inl}
+use Rattle.std.specs.List.{flat_map, AllByRecursion}
+use Rattle.jk_math.specs.declared.rect.Rect.{Rect}
 use Rattle.jk_math.specs.Picture.{Picture, IsPicture}
-use Rattle.jk_marks.specs.declared.segments.Order.{Order}
-use Rattle.jk_marks.specs.declared.segments.Order.TheVariants.{Lrcp, Rlcp, Rpcl, Pcrl, Cprl}
-use Rattle.jk_marks.specs.Markers.{eoc, marker_text}
-use Rattle.jk_marks.specs.Codestream.{Tree, main_text, main_of, part_text, codestream_text, segments_of, only_part_of, IsPart, IsWritten}
-use Rattle.jk_params.specs.Page.{page_siz, page_segments}
-use Rattle.jk_params.proofs.PageLaws.{page_front, page_origin, page_coding, page_text, page_tiles, page_cod_fits, page_is_main, page_is_page, none_silent}
-use Rattle.jk_marks.proofs.Numbers.{AreBytes, are_bytes_append, are_bytes_high_first, are_bytes_tested}
-use Rattle.byteorder.specs.Endian.{big_bytes}
-use Rattle.jk_boxes.specs.Boxes.{soc, Holds}
+use Rattle.jk_marks.specs.declared.coding.Coding.{Coding}
+use Rattle.jk_marks.specs.Siz.{tile_count}
+use Rattle.jk_marks.specs.Segments.{Segment}
+use Rattle.jk_marks.specs.Markers.{marker_text, eoc}
+use Rattle.jk_marks.specs.Codestream.{Part, main_text, part_text, codestream_text, of_tile}
+use Rattle.jk_boxes.specs.Boxes.{Holds}
+use Rattle.jk_geom.specs.Rectangles.{IsWithin, tile_area, resolution_area}
+use Rattle.jk_geom.specs.Partitions.{image_area, reduced_area}
+use Rattle.jk_geom.specs.TileShapes.{coding_of}
+use Rattle.jk_geom.specs.Counts.{packet_number}
+use Rattle.jk_geom.proofs.TileLaws.{tile_inside}
+use Rattle.jk_order.specs.PacketOrder.{order, packet_count}
+use Rattle.jk_order.proofs.OrderLaws.{order_is}
+use Rattle.jk_order.proofs.LengthLaws.{length_of}
 use Rattle.jk_params.specs.declared.parameters.Parameters.{Parameters}
-use Rattle.jk_params.specs.Profile.{siz_of}
-use Rattle.jk_params.proofs.HeadersLaws.{tree_headers, read_again}
-use Rattle.jk_code.specs.Meaning.{slice_of, MeansPicture, Means}
-use Rattle.jk_code.specs.MeaningReading.{packet_at, tiles_at, blank, image_at}
-use Rattle.jk_code.specs.Written.{main_for, tree_for, empty_packet, is_blank_page, is_plain, is_lrcp}
-use Rattle.jk_code.proofs.MeaningLaws.{all_same, one_plane, fields_from, found_image}
+use Rattle.jk_params.specs.Coding.{HasPlanes, coding_of as coding_by}
+use Rattle.jk_params.specs.Headers.{Headers, TileFields, places_from, head_segments, tile_in, headers_of, packets_alike, packets_of, most_packets, IsHeaders}
+use Rattle.jk_params.specs.Profile.{siz_of, cod_of, packets_for, IsWrittenBy}
+use Rattle.jk_params.proofs.PlacesLaws.{contents_of}
+use Rattle.jk_params.proofs.PartsLaws.{tiles_said, fields_with, said_at}
+use Rattle.jk_params.proofs.ProfileLaws.{same_packets, tile_same}
+use Rattle.jk_code.specs.Packets.{Empty, IsTile}
+use Rattle.jk_code.specs.Samples.{shift}
+use Rattle.jk_code.specs.Meaning.{slice_of, shape_of, values_of, DecodesTile, IsFrameOf, ShowsTile, MeansPicture, Means}
+use Rattle.jk_code.specs.Written.{packets_text, packets_in, tree_for, is_blank}
+use Rattle.jk_code.proofs.ZeroLaws.{zero_resolution, zero_sample}
+use Rattle.jk_code.proofs.BlankLaws.{grey_sample, planes_full, blank_at}
+use Rattle.jk_code.proofs.WrittenPackets.{packets_are}
+use Rattle.jk_code.proofs.HeaderLaws.{segments_for, quantisation_for, coding_in, main_is, coding_said, codings_said, planes_said}
+use Rattle.jk_code.proofs.PartLaws.{parts_for, part_said, parts_are, total_below}
 
--- the tree of a page
-abbrev pub page_tree : ℕ → ℕ → Tree
-page_tree w h = record { siz = page_siz w h; segments = page_segments; parts = only_part_of 0 empty_packet ∷ [] }
+-- the headers of what is written
+abbrev headers_for : Picture → Parameters → Headers
+headers_for p q = record { siz = siz_of p q; tiles = tiles_said (siz_of p q) (segments_for p q) (parts_for p q) }
 
-page_part : (w h : ℕ) → 0 < w → 0 < h → IsPart (page_siz w h) (only_part_of 0 empty_packet)
-page_part w h wide high =
-    let one = page_tiles w h wide high in
-    record { tile = omega (arith, one); narrow = lit< tt; number = lit≤ tt; total = lit< tt; fits = lit< tt; well_formed = record { each = tt; one_coding = lit≤ tt; one_quantisation = lit≤ tt; one_style = λ i. lit≤ tt; one_steps = λ i. lit≤ tt } }
+-- where the data of a tile stand
+abbrev places_for : Picture → Parameters → ℕ → List (ℕ × ℕ)
+places_for p q t = places_from (length (main_text (siz_of p q) (segments_for p q))) (parts_for p q) t
 
--- the data of the only part
-content_is : (front rest : List ℕ) → slice_of (front ++ (part_text (only_part_of 0 empty_packet) ++ rest)) (length front + 14, length front + 15) ≡ empty_packet
-unfolding part_text
-content_is front rest =
-    let whole = front ++ (part_text (only_part_of 0 empty_packet) ++ rest) in
-    let size : length front + 15 - (length front + 14) ≡ 1 = omega arith in
-    let after : drop (length front + 14) whole ≡ 0 ∷ rest = sym (drop-drop 14 (length front) whole) ∙ ap (drop 14) (drop_at front (part_text (only_part_of 0 empty_packet) ++ rest) (length front) refl) in
-    ap (λ k. take k (drop (length front + 14) whole)) size ∙ ap (take 1) after
+-- the fields of a tile
+abbrev fields_for : Picture → Parameters → ℕ → TileFields
+fields_for p q t = record { cod = cod_of q; codings = replicate (length p.planes) (coding_in p q); data_places = places_for p q t }
 
--- the file of a page is decoded to it
-pub page_decodes : (w h : ℕ) → 0 < w → 0 < h → w ≤ 32768 → h ≤ 32768 → w * h ≤ 2 ^ 28 → image_at (codestream_text (page_tree w h)) 0 ≡ Ok (blank (page_siz w h))
-unfolding image_at tiles_at codestream_text packet_at
-page_decodes w h wide high few_w few_h area =
-    let p = only_part_of 0 empty_packet in
-    let text = codestream_text (page_tree w h) in
-    let front = main_text (page_siz w h) page_segments in
-    let is_main = page_is_main w h wide high few_w few_h area in
-    let is_part = page_part w h wide high in
-    let s1 = read_again text (page_siz w h) page_segments p is_main (page_is_page w h few_w few_h) is_part none_silent refl refl ∙ ap Ok (tree_headers (page_siz w h) page_segments p (page_tiles w h wide high) refl refl) in
-    let joined : text ≡ front ++ (part_text p ++ marker_text eoc) = ap (λ (x : List ℕ). front ++ (x ++ marker_text eoc)) (append-nil (part_text p)) in
-    let content : slice_of text (length front + 14, length front + 15) ≡ empty_packet = ap (λ (x : List ℕ). slice_of x (length front + 14, length front + 15)) joined ∙ content_is front (marker_text eoc) in
-    rw (s1, content) refl
+fields_said : (p : Picture) (q : Parameters) → IsWrittenBy q p → (t : ℕ) → t < tile_count (siz_of p q) → tile_in (headers_for p q).tiles t ≡ fields_for p q t
+fields_said p q by t lt =
+    let siz = siz_of p q in
+    let segments = segments_for p q in
+    let head : head_segments (of_tile t (parts_for p q)) ≡ [] = ap head_segments (part_said p q t lt) in
+    said_at siz segments (parts_for p q) t lt
+    ∙ ap (λ (h : List Segment). fields_with siz segments h (places_for p q t)) head
+    ∙ ap (λ (ks : List Coding). record { cod = cod_of q; codings = ks; data_places = places_for p q t }) (codings_said p q by (length p.planes))
 
--- what the test of a page says
-record IsBlank (p : Picture) : Type 0 where
-  left : p.x0 ≡ 0
-  upper : p.y0 ≡ 0
-  narrow : p.width ≤ 32768
-  low : p.height ≤ 32768
-  depth : p.depth ≡ 8
-  unsigned : p.signed ≡ false
-  one : length p.planes ≡ 1
-  grey : list_all (λ s. int_eq s (pos 128)) (get_or p.planes 0 []) ≡ true
+-- exponents don't change the number of packets
+tile_packets : (p : Picture) (q : Parameters) (t : ℕ) → packet_number (tile_area (siz_of p q) t) q.layers (replicate (length p.planes) (coding_in p q)) ≡ packets_in p q t
+tile_packets p q t = tile_same (tile_area (siz_of p q) t) q.layers (length p.planes) (cod_of q).style (quantisation_for p q) (record { guard = 2; exponents = [] })
 
-blank_parts : (p : Picture) → is_blank_page p ≡ true → IsBlank p
-blank_parts p e =
-    let grey = list_all (λ s. int_eq s (pos 128)) (get_or p.planes 0 []) in
-    let a1 = eqb p.x0 0 in
-    let a2 = a1 && eqb p.y0 0 in
-    let a3 = a2 && leb p.width 32768 in
-    let a4 = a3 && leb p.height 32768 in
-    let a5 = a4 && eqb p.depth 8 in
-    let a6 = a5 && not p.signed in
-    let a7 = a6 && eqb (length p.planes) 1 in
-    let t8 = and_parts a7 grey e in
-    let t7 = and_parts a6 (eqb (length p.planes) 1) t8.0 in
-    let t6 = and_parts a5 (not p.signed) t7.0 in
-    let t5 = and_parts a4 (eqb p.depth 8) t6.0 in
-    let t4 = and_parts a3 (leb p.height 32768) t5.0 in
-    let t3 = and_parts a2 (leb p.width 32768) t4.0 in
-    let t2 = and_parts a1 (eqb p.y0 0) t3.0 in
+main_few : (p : Picture) (q : Parameters) → packets_alike (siz_of p q) q.layers (replicate (length p.planes) (coding_in p q)) ≡ packets_for q p
+main_few p q = same_packets (siz_of p q) q.layers (length p.planes) (cod_of q).style (quantisation_for p q) (record { guard = 2; exponents = [] })
+
+all_few : (p : Picture) (q : Parameters) → IsWrittenBy q p → packets_of (siz_of p q) (headers_for p q).tiles ≡ packets_for q p
+all_few p q by =
+    let siz = siz_of p q in
+    let number : ℕ → TileFields → ℕ = λ t f. packet_number (tile_area siz t) f.cod.layers f.codings in
+    total_below (λ t. number t (tile_in (headers_for p q).tiles t)) (packets_in p q) (tile_count siz)
+    (λ t lt. ap (number t) (fields_said p q by t lt) ∙ tile_packets p q t)
+
+headers_are : (p : Picture) (q : Parameters) → IsPicture p → IsWrittenBy q p → IsHeaders (codestream_text (tree_for p q)) (headers_for p q)
+unfolding headers_of
+headers_are p q is by =
+    let few = by.few in
+    let segments = segments_for p q in
+    let n = length p.planes in
     record {
-      left = eqb-true p.x0 0 t2.0;
-      upper = eqb-true p.y0 0 t2.1;
-      narrow = leb-true p.width 32768 t3.1;
-      low = leb-true p.height 32768 t4.1;
-      depth = eqb-true p.depth 8 t5.1;
-      unsigned = not-true p.signed t6.1;
-      one = eqb-true (length p.planes) 1 t7.1;
-      grey = t8.1;
+      tree = tree_for p q;
+      spelled = record { header = main_is p q by; parts = parts_are p q by; text = refl };
+      says = refl;
+      main_planes = λ c lt. subst HasPlanes (sym (coding_said p q by c)) (planes_said p q is);
+      main_few = subst (λ (ks : List Coding). packets_alike (siz_of p q) q.layers ks ≤ most_packets) (sym (codings_said p q by n)) (subst (λ k. k ≤ most_packets) (sym (main_few p q)) few);
+      planes = λ t c tile lt.
+          subst (λ (h : List Segment). HasPlanes (coding_by segments h c)) (sym (ap head_segments (part_said p q t tile))) (subst HasPlanes (sym (coding_said p q by c)) (planes_said p q is));
+      few = subst (λ k. k ≤ most_packets) (sym (all_few p q by)) few;
     }
 
--- each sample of a grey plane
-grey_at : (plane : List ℤ) → list_all (λ s. int_eq s (pos 128)) plane ≡ true → (i : ℕ) → i < length plane → get_or plane i (pos 0) ≡ pos 128
-grey_at [] e i lt = absurd (omega arith)
-grey_at (s ∷ plane) e zero lt = (Decides-int_eq s (pos 128)).0 (and_parts (int_eq s (pos 128)) (list_all (λ s. int_eq s (pos 128)) plane) e).0
-grey_at (s ∷ plane) e (suc i) lt = grey_at plane (and_parts (int_eq s (pos 128)) (list_all (λ s. int_eq s (pos 128)) plane) e).1 i (omega arith)
+-- an area that is reduced by no level
+ceil_one : (x : ℕ) → (x + 1 - 1) / 1 ≡ x
+ceil_one x = omega arith
 
-pub blank_is : (p : Picture) → IsPicture p → is_blank_page p ≡ true → p ≡ blank (page_siz p.width p.height)
-blank_is p is e =
-    let b = blank_parts p e in
-    let w = p.width in
-    let h = p.height in
-    let plane = get_or p.planes 0 [] in
-    let some : 0 < length p.planes = omega (arith, b.one) in
-    let len : length plane ≡ w * h = (is.components.each 0 [] some).count in
-    let area : w * h ≡ (w - 0) * (h - 0) = ap (λ k. k * h) (omega arith) ∙ ap (λ k. (w - 0) * k) (omega arith) in
-    let same = all_same plane (w * h) (pos 128) len (λ i lt. grey_at plane b.grey i (omega (arith, len))) in
-    fields_from p 0 0 (w - 0) (h - 0) 8 false (replicate ((w - 0) * (h - 0)) (pos 128) ∷ []) b.left b.upper (omega arith) (omega arith) b.depth b.unsigned
-    (one_plane p.planes b.one ∙ ap (λ (x : List ℤ). x ∷ []) (same ∙ ap (λ k. replicate k (pos 128)) area))
+whole_area : (a : Rect) → reduced_area a 0 ≡ a
+unfolding resolution_area
+whole_area a = λ i. record { x0 = ceil_one a.x0 i; y0 = ceil_one a.y0 i; x1 = ceil_one a.x1 i; y1 = ceil_one a.y1 i }
 
--- what the test of the parameters says
-record IsPlain (q : Parameters) : Type 0 where
-  levels : q.levels ≡ 0
-  layers : q.layers ≡ 1
-  order : q.order ≡ Lrcp
-  tile : q.tile ≡ None
-  xcb : q.xcb ≡ 6
-  ycb : q.ycb ≡ 6
-  precincts : q.precincts.items ≡ []
-  colour : q.colour ≡ false
-  sop : q.sop ≡ false
-  eph : q.eph ≡ false
-
-lrcp_is : (o : Order) → is_lrcp o ≡ true → o ≡ Lrcp
-lrcp_is Lrcp e = refl
-lrcp_is Rlcp e = absurd cc
-lrcp_is Rpcl e = absurd cc
-lrcp_is Pcrl e = absurd cc
-lrcp_is Cprl e = absurd cc
-
-none_is : (o : Option (ℕ × ℕ)) → is_none o ≡ true → o ≡ None
-none_is None e = refl
-none_is (Some x) e = absurd cc
-
-plain_parts : (q : Parameters) → is_plain q ≡ true → IsPlain q
-plain_parts q e =
-    let a1 = eqb q.levels 0 in
-    let a2 = a1 && eqb q.layers 1 in
-    let a3 = a2 && is_lrcp q.order in
-    let a4 = a3 && is_none q.tile in
-    let a5 = a4 && eqb q.xcb 6 in
-    let a6 = a5 && eqb q.ycb 6 in
-    let a7 = a6 && eqb (length q.precincts.items) 0 in
-    let a8 = a7 && not q.colour in
-    let a9 = a8 && not q.sop in
-    let t10 = and_parts a9 (not q.eph) e in
-    let t9 = and_parts a8 (not q.sop) t10.0 in
-    let t8 = and_parts a7 (not q.colour) t9.0 in
-    let t7 = and_parts a6 (eqb (length q.precincts.items) 0) t8.0 in
-    let t6 = and_parts a5 (eqb q.ycb 6) t7.0 in
-    let t5 = and_parts a4 (eqb q.xcb 6) t6.0 in
-    let t4 = and_parts a3 (is_none q.tile) t5.0 in
-    let t3 = and_parts a2 (is_lrcp q.order) t4.0 in
-    let t2 = and_parts a1 (eqb q.layers 1) t3.0 in
+frame_is : (p : Picture) (q : Parameters) → IsPicture p → IsFrameOf (headers_for p q) 0 p
+frame_is p q is =
+    let whole = sym (whole_area (image_area (siz_of p q))) in
     record {
-      levels = eqb-true q.levels 0 t2.0;
-      layers = eqb-true q.layers 1 t2.1;
-      order = lrcp_is q.order t3.1;
-      tile = none_is q.tile t4.1;
-      xcb = eqb-true q.xcb 6 t5.1;
-      ycb = eqb-true q.ycb 6 t6.1;
-      precincts = nil_from_length q.precincts.items (eqb-true _ 0 t7.1);
-      colour = not-true q.colour t8.1;
-      sop = not-true q.sop t9.1;
-      eph = not-true q.eph t10.1;
+      left = ap (λ (a : Rect). a.x0) whole;
+      upper = ap (λ (a : Rect). a.y0) whole;
+      right = ap (λ (a : Rect). a.x1) whole;
+      lower = ap (λ (a : Rect). a.y1) whole;
+      wide = is.frame.wide;
+      high = is.frame.high;
+      depth = refl;
+      signed = refl;
+      components = refl;
+      planes = planes_full p is;
     }
 
--- the tree of a page and plain parameters
-pub tree_is : (p : Picture) (q : Parameters) → is_blank_page p ≡ true → is_plain q ≡ true → tree_for p q ≡ page_tree p.width p.height
-tree_is p q e f =
-    let b = blank_parts p e in
-    let k = plain_parts q f in
-    rw (b.left, b.upper, b.depth, b.unsigned, b.one, k.tile, k.levels, k.layers, k.order, k.xcb, k.ycb, k.precincts, k.colour, k.sop, k.eph, zero-add p.width, zero-add p.height) refl
+-- the data of a tile
+content_said : (p : Picture) (q : Parameters) (t : ℕ) → t < tile_count (siz_of p q) → map (slice_of (codestream_text (tree_for p q))) (places_for p q t) ≡ packets_text q (packets_in p q t) ∷ []
+content_said p q t lt = contents_of (codestream_text (tree_for p q)) (tree_for p q) t refl ∙ ap (λ (ps : List Part). map (λ (x : Part). x.content) ps) (part_said p q t lt)
 
-page_is_written : (w h : ℕ) → 0 < w → 0 < h → w ≤ 32768 → h ≤ 32768 → w * h ≤ 2 ^ 28 → IsWritten (main_of (page_siz w h) page_segments)
-page_is_written w h wide high few_w few_h area =
-    let main = page_is_main w h wide high few_w few_h area in
+names_count : (p : Picture) (q : Parameters) (t : ℕ) → packets_in p q t ≡ length (order (shape_of (siz_of p q) (fields_for p q t) t))
+unfolding packet_count
+names_count p q t = let shape = shape_of (siz_of p q) (fields_for p q t) t in sym (length_of shape (order shape) (order_is shape) ∙ tile_packets p q t)
+
+-- the samples of a tile
+abbrev grey : Picture → ℕ → ℕ → ℕ → ℤ
+grey p component x y = shift p.depth p.signed
+
+decodes : (p : Picture) (q : Parameters) → IsPicture p → IsWrittenBy q p → (t : ℕ) → t < tile_count (siz_of p q) → DecodesTile (codestream_text (tree_for p q)) (headers_for p q) (fields_for p q t) t 0 (grey p)
+decodes p q is by t lt =
+    let siz = siz_of p q in
+    let f = fields_for p q t in
+    let n = packets_in p q t in
+    let area = tile_area siz t in
+    let names = order (shape_of siz f t) in
+    let none : ℕ → ℕ → ℕ → ℕ → ℤ = λ component band x y. pos 0 in
     record {
-      siz = main.size;
-      cod = page_cod_fits;
-      qcd = record { guard = lit< tt; exponents = All-cons (λ e. e < 32) 8 [] (lit< tt) (All-nil (λ e. e < 32)); few = lit≤ tt };
-      coc = (tt, (tt, (tt, (tt, tt))));
-      qcc = (tt, (tt, (tt, (tt, tt))));
+      names = names;
+      order = order_is (shape_of siz f t);
+      layers = replicate n Empty;
+      packets = subst (λ (parts : List (List ℕ)). IsTile q.sop q.eph (length names) (replicate n Empty) parts) (sym (content_said p q t lt)) (packets_are q (length names) n (names_count p q t));
+      coefficients = none;
+      blocks = λ nothing component band x y. refl;
+      shown = λ component x y some within.
+          sym (zero_sample (cod_of q) siz (λ c. values_of area (coding_of f.codings c) 0 (none c) x y)
+          (λ c. (let k = coding_of f.codings c in zero_resolution area k.levels (k.levels - 0) (none c) (λ band u v. refl) x y)) component
+          ∙ grey_sample siz is.components.some_bits);
     }
 
--- the main header of an image that is written
-pub main_written : (p : Picture) (q : Parameters) → IsPicture p → is_blank_page p ≡ true → is_plain q ≡ true → IsWritten (main_for p q)
-main_written p q is e f =
-    let b = blank_parts p e in
-    let k = plain_parts q f in
-    let frame = is.frame in
-    let main-is : main_for p q ≡ main_of (page_siz p.width p.height) page_segments =
-    rw (b.left, b.upper, b.depth, b.unsigned, b.one, k.tile, k.levels, k.layers, k.order, k.xcb, k.ycb, k.precincts, k.colour, k.sop, k.eph, zero-add p.width, zero-add p.height) refl in
-    subst IsWritten (sym main-is) (page_is_written p.width p.height frame.wide frame.high b.narrow b.low frame.area)
+shows : (p : Picture) (q : Parameters) → IsPicture p → IsWrittenBy q p → is_blank p ≡ true → (t : ℕ) → t < tile_count (siz_of p q) → ShowsTile (codestream_text (tree_for p q)) (headers_for p q) 0 p t
+shows p q is by blank t lt = record {
+  samples = grey p;
+  decoded = subst (λ (f : TileFields). DecodesTile (codestream_text (tree_for p q)) (headers_for p q) f t 0 (grey p)) (sym (fields_said p q by t lt)) (decodes p q is by t lt);
+  placed = λ component x y some within.
+      (let siz = siz_of p q in
+      let inside = subst (λ (a : Rect). IsWithin a x y) (whole_area (image_area siz)) (tile_inside siz 0 t x y by.siz (record { tile = lt; place = within })) in
+      let left = inside.left in
+      let right = inside.right in
+      let upper = inside.upper in
+      let lower = inside.lower in
+      blank_at p is blank component (x - p.x0) (y - p.y0) some (omega (arith, left, right)) (omega (arith, upper, lower)));
+}
 
-part_bytes : AreBytes (part_text (only_part_of 0 empty_packet))
-unfolding part_text
-part_bytes = are_bytes_tested (part_text (only_part_of 0 empty_packet)) refl
+each_of : {X : Type 0} (P : X → Type 0) → ((x : X) → P x) → (xs : List X) → AllByRecursion P xs
+each_of P h [] = tt
+each_of P h (x ∷ xs) = (h x, each_of P h xs)
 
-page_bytes : (w h : ℕ) → AreBytes (codestream_text (page_tree w h))
-unfolding codestream_text
-page_bytes w h =
-    let rest = flat_map part_text (only_part_of 0 empty_packet ∷ []) ++ marker_text eoc in
-    let tail : AreBytes rest = are_bytes_append (part_text (only_part_of 0 empty_packet) ++ []) (marker_text eoc) (are_bytes_append (part_text (only_part_of 0 empty_packet)) [] part_bytes (are_bytes_tested [] refl)) (are_bytes_tested (marker_text eoc) refl) in
-    let r7 = page_coding ++ rest in
-    let r6 = page_origin ++ r7 in
-    let r5 = big_bytes 4 h ++ r6 in
-    let r4 = big_bytes 4 w ++ r5 in
-    let r3 = page_origin ++ r4 in
-    let r2 = big_bytes 4 h ++ r3 in
-    let r1 = big_bytes 4 w ++ r2 in
-    let coding = are_bytes_append page_coding rest (are_bytes_tested page_coding refl) tail in
-    let tiles = are_bytes_append page_origin r7 (are_bytes_tested page_origin refl) coding in
-    let height = are_bytes_append (big_bytes 4 h) r6 (are_bytes_high_first 4 h) tiles in
-    let width = are_bytes_append (big_bytes 4 w) r5 (are_bytes_high_first 4 w) height in
-    let place = are_bytes_append page_origin r4 (are_bytes_tested page_origin refl) width in
-    let y1 = are_bytes_append (big_bytes 4 h) r3 (are_bytes_high_first 4 h) place in
-    let x1 = are_bytes_append (big_bytes 4 w) r2 (are_bytes_high_first 4 w) y1 in
-    let whole : AreBytes (page_front ++ r1) = are_bytes_append page_front r1 (are_bytes_tested page_front refl) x1 in
-    subst AreBytes (sym (page_text w h rest)) whole
+-- the codestream means the picture
+pub written_means : (p : Picture) (q : Parameters) → IsPicture p → IsWrittenBy q p → is_blank p ≡ true → MeansPicture (codestream_text (tree_for p q)) 0 p
+written_means p q is by blank = record {
+  headers = headers_for p q;
+  says = headers_are p q is by;
+  reduction = each_of _ (λ (f : TileFields). each_of _ (λ (k : Coding). omega arith) f.codings) (headers_for p q).tiles;
+  frame = frame_is p q is;
+  tiles = shows p q is by blank;
+}
 
-page_begins : (w h : ℕ) → codestream_text (page_tree w h) ≡ soc ++ drop 2 (codestream_text (page_tree w h))
+-- and is a bare file
+pub written_bare : (p : Picture) (q : Parameters) → Holds (codestream_text (tree_for p q)) (codestream_text (tree_for p q))
 unfolding codestream_text main_text
-page_begins w h = refl
-
--- the file means the image
-pub written_means : (bytes : List ℕ) (p : Picture) (q : Parameters) → IsPicture p → is_blank_page p ≡ true → is_plain q ≡ true → bytes ≡ codestream_text (tree_for p q) → MeansPicture bytes 0 p × Holds bytes bytes
-written_means bytes p q is e f text =
-    let b = blank_parts p e in
-    let frame = is.frame in
-    let whole : bytes ≡ codestream_text (page_tree p.width p.height) = text ∙ ap codestream_text (tree_is p q e f) in
-    let decodes : image_at bytes 0 ≡ Ok p =
-    ap (λ (x : List ℕ). image_at x 0) whole ∙ page_decodes p.width p.height frame.wide frame.high b.narrow b.low frame.area ∙ ap Ok (sym (blank_is p is e)) in
-    let others = drop 2 (codestream_text (page_tree p.width p.height)) in
-    let begins : bytes ≡ soc ++ others = whole ∙ page_begins p.width p.height in
-    (found_image bytes 0 p (subst AreBytes (sym whole) (page_bytes p.width p.height)) decodes, inl (record { others = others; text = begins; whole = refl }))
+written_bare p q = inl (record { others = drop 2 (codestream_text (tree_for p q)); text = refl; whole = refl })
 
 -- a file that holds a codestream means what the codestream means
 pub holds_means : (bytes codestream : List ℕ) (p : Picture) → Holds bytes codestream → MeansPicture codestream 0 p → Means bytes 0 p
 holds_means bytes codestream p holds means = record { codestream = codestream; holds = holds; picture = means }
 
 -- the parts of the text, as they are written
-pub text_parts : (p : Picture) (q : Parameters) → codestream_text (tree_for p q)
-    ≡ main_text (siz_of p q) (segments_of (main_for p q)) ++ (part_text (only_part_of 0 empty_packet) ++ marker_text eoc)
+pub text_parts : (p : Picture) (q : Parameters) → codestream_text (tree_for p q) ≡ main_text (siz_of p q) (segments_for p q) ++ (flat_map part_text (parts_for p q) ++ marker_text eoc)
 unfolding codestream_text
-text_parts p q = ap (λ (x : List ℕ). main_text (siz_of p q) (segments_of (main_for p q)) ++ (x ++ marker_text eoc)) (append-nil (part_text (only_part_of 0 empty_packet)))
+text_parts p q = refl

@@ -5,6 +5,7 @@ pub use Rattle.jk_params.specs.Headers
 pub use Rattle.jk_params.specs.Profile
 pub mod Packets
 pub mod Samples
+pub mod Resolutions
 pub mod Meaning
 pub mod MeaningReading
 pub mod Written

@@ -1,139 +1,200 @@
 //! Encoding.
 
-ghost use Rattle.std.specs.Prelude.{◌≡◌, ◌≤◌, ◌&&◌, ◌==◌, length, true, IfOk, IfErr, Ok, None, []};
+ghost use Rattle.std.specs.Prelude.{◌≡◌, ◌≤◌, ◌<◌, ◌+◌, ◌*◌, ◌^◌, ◌++◌, length, true, IfOk, IfErr, OnOk};
 ghost use Rattle.std.specs.Ordering.{int_eq};
-ghost use Rattle.std.specs.List.{list_all};
-ghost use Rattle.std.specs.Prelude.{pos};
+ghost use Rattle.std.specs.List.{list_all, flat_map};
 ghost use Rattle.jk_math.specs.Answer.{Answers};
-ghost use Rattle.jk_math.specs.Picture.{Picture, IsPicture};
-ghost use Rattle.jk_marks.specs.Codestream.{codestream_text};
+ghost use Rattle.jk_math.specs.Picture.{IsPicture};
+ghost use Rattle.jk_marks.specs.Siz.{IsSiz, tile_count};
+ghost use Rattle.jk_marks.specs.Codestream.{codestream_text, part_text, only_part_of, IsWritten};
 ghost use Rattle.jk_boxes.specs.Boxes.{Holds};
+ghost use Rattle.jk_geom.specs.Rectangles.{tile_area};
+ghost use Rattle.jk_geom.specs.TileShapes.{AreCodings};
+ghost use Rattle.jk_geom.specs.Counts.{packet_number};
+ghost use Rattle.jk_params.specs.Headers.{most_packets};
+ghost use Rattle.jk_params.specs.Profile.{cod_of, IsWrittenBy};
 ghost use Rattle.jk_code.specs.Meaning.{Means, MeansPicture};
-ghost use Rattle.jk_code.specs.Written.{main_for, tree_for, is_blank_page, is_plain, is_lrcp, contained, written};
+ghost use Rattle.jk_code.specs.Written.{gain, exponents_for, main_for, tree_for, packets_text, is_blank, contained, written};
 
+use crate::samples::level_shift;
 use jk_boxes::wrap;
+use jk_geom::{Codings, packet_count, tile, tile_count};
 use jk_marks::{
-    Cod, CodingStyle, Exponents, Main, Order, Precincts, Quantisation, Siz, write_end, write_main,
+    Cod, CodingStyle, Exponents, Main, Precincts, Quantisation, Siz, write_end, write_main,
     write_tile_part,
 };
 use jk_math::{Fault, Image};
-use jk_params::{Container, Parameters};
+use jk_packet::write_empty_packet;
+use jk_params::{Container, Parameters, codings_for, siz_of};
 use std::alloc::Global;
 
-/// Whether each sample is what the level shift turns to zero.
-fn are_grey(samples: &[i32]) -> bool
-    ensures { result ≡ list_all (λ s. int_eq s (pos 128)) samples.now }
+/// Whether each sample is this one.
+fn are_all(samples: &[i32], grey: i32) -> bool
+    ensures { result ≡ list_all (λ s. int_eq s grey) samples.now }
 {
-    samples.iter().all(|sample| *sample == 128)
+    samples.iter().all(|sample| *sample == grey)
 }
 
-/// Whether the image is a page of zeros after the level shift.
+/// Whether the level shift turns each sample to zero.
 fn is_blank(image: &Image) -> bool
-    ensures { result ≡ is_blank_page image.now }
+    requires some { 1 ≤ image.now.depth }
+    requires few { image.now.depth ≤ 16 }
+    ensures { result ≡ is_blank image.now }
 {
-    image.x0() == 0
-        && image.y0() == 0
-        && image.width() <= 32768
-        && image.height() <= 32768
-        && image.depth() == 8
-        && !image.signed()
-        && image.planes().len() == 1
-        && are_grey(image.planes().plane(0))
+    let planes = image.planes();
+    let grey = level_shift(image.depth(), image.signed());
+    let mut blank = true;
+    for c in 0..planes.len() {
+        blank = blank && are_all(planes.plane(c), grey);
+    }
+    blank
 }
 
-/// Whether the order is LRCP.
-fn is_first_order(order: Order) -> bool
-    ensures { result ≡ is_lrcp order }
+/// The coding style segment.
+fn cod(parameters: &Parameters) -> Cod
+    requires { length parameters.now.precincts.items ≤ 11 }
+    ensures { result ≡ cod_of parameters.now }
 {
-    match order {
-        Order::Lrcp => true,
-        Order::Rlcp | Order::Rpcl | Order::Pcrl | Order::Cprl => false,
+    Cod {
+        sop: parameters.sop,
+        eph: parameters.eph,
+        order: parameters.order,
+        layers: parameters.layers,
+        colour: parameters.colour,
+        style: CodingStyle {
+            levels: parameters.levels,
+            xcb: parameters.xcb,
+            ycb: parameters.ycb,
+            style: 0,
+            precincts: Precincts::new(&parameters.precincts),
+        },
     }
 }
 
-/// Whether these are the parameters that are written today.
-fn are_plain(parameters: &Parameters) -> bool
-    ensures { result ≡ is_plain parameters.now }
+/// By how many bits a sub-band may pass the depth of the samples.
+fn gain(band: usize) -> u8
+    ensures value { result ≡ gain band }
+    ensures few { result ≤ 2 }
 {
-    parameters.levels == 0
-        && parameters.layers == 1
-        && is_first_order(parameters.order)
-        && parameters.tile.is_none()
-        && parameters.xcb == 6
-        && parameters.ycb == 6
-        && parameters.precincts.is_empty()
-        && !parameters.colour
-        && !parameters.sop
-        && !parameters.eph
+    if band == 0 {
+        0
+    } else if band % 3 == 0 {
+        2
+    } else {
+        1
+    }
 }
 
-/// The main header of an image in one tile.
-fn main_header(image: &Image, parameters: &Parameters) -> Main
-    requires page { is_blank_page image.now ≡ true }
-    requires plain { is_plain parameters.now ≡ true }
-    ensures value { result ≡ main_for image.now parameters.now }
-    ensures profile { IsPicture image.now }
+/// The exponents of the sub-bands.
+fn exponents(depth: u8, levels: u8) -> Exponents
+    requires depth { depth ≤ 16 }
+    requires levels { levels ≤ 5 }
+    ensures { result ≡ exponents_for depth levels }
 {
-    let (x1, y1) = (image.x0() + image.width(), image.y0() + image.height());
+    let count = 3 * levels as usize + 1;
+    let mut exponents = [0; 16];
+    for band in 0..count {
+        exponents[band] = depth + gain(band);
+    }
+    Exponents::new(&exponents[..count])
+}
+
+/// The main header of an image.
+#[tactic(auto, using(crate::proofs::HeaderLaws::main_written))]
+fn main_header(image: &Image, parameters: &Parameters) -> Main
+    requires { IsWrittenBy parameters.now image.now }
+    ensures value { result ≡ main_for image.now parameters.now }
+    ensures written { IsWritten result }
+    ensures picture { IsPicture image.now }
+{
     Main {
-        siz: Siz {
-            rsiz: 0,
-            x1,
-            y1,
-            x0: image.x0(),
-            y0: image.y0(),
-            tile_width: x1,
-            tile_height: y1,
-            tile_x0: 0,
-            tile_y0: 0,
-            components: 1,
-            depth: image.depth(),
-            signed: image.signed(),
-        },
-        cod: Cod {
-            sop: parameters.sop,
-            eph: parameters.eph,
-            order: parameters.order,
-            layers: parameters.layers,
-            colour: parameters.colour,
-            style: CodingStyle {
-                levels: parameters.levels,
-                xcb: parameters.xcb,
-                ycb: parameters.ycb,
-                style: 0,
-                precincts: Precincts::none(),
-            },
-        },
+        siz: siz_of(image, parameters),
+        cod: cod(parameters),
         qcd: Quantisation {
             guard: 2,
-            exponents: Exponents::new(&[image.depth()]),
+            exponents: exponents(image.depth(), parameters.levels),
         },
         coc: [None, None, None, None],
         qcc: [None, None, None, None],
     }
 }
 
-/// The codestream of a page.
+/// Appends so many empty packets.
+fn put_packets(out: &mut Vec<u8>, parameters: &Parameters, count: u64) -> Result<(), Fault>
+    ensures ok { OnOk result (out.new.items ≡ out.old.items ++ packets_text parameters.now count) }
+    ensures err { IfErr result (λ e. e ≡ Fault.Memory) }
+{
+    for i in 0..count {
+        write_empty_packet(parameters.sop, parameters.eph, (i % 65536) as u16, out)?;
+    }
+    Ok(())
+}
+
+/// Appends the only part of a tile, whose packets `content` holds for the time.
+fn put_tile(
+    out: &mut Vec<u8>,
+    content: &mut Vec<u8>,
+    siz: &Siz,
+    codings: &Codings,
+    parameters: &Parameters,
+    tile_number: u32,
+) -> Result<(), Fault>
+    requires siz { IsSiz siz.now }
+    requires codings { AreCodings codings.now }
+    requires layers { 1 ≤ parameters.now.layers }
+    requires tile { tile_number < tile_count siz.now }
+    requires few { packet_number (tile_area siz.now tile_number) parameters.now.layers codings.now ≤ most_packets }
+    ensures ok { OnOk result (out.new.items ≡ out.old.items
+        ++ part_text (only_part_of tile_number (packets_text parameters.now (packet_number (tile_area siz.now tile_number) parameters.now.layers codings.now)))) }
+    ensures err { IfErr result (λ e. e ≡ Fault.Memory) }
+{
+    let packets = packet_count(&tile(siz, tile_number), parameters.layers, codings);
+    content.clear();
+    put_packets(content, parameters, packets)?;
+    write_tile_part(tile_number as u16, content, out)
+}
+
+/// Appends the tile-parts, one for each tile.
+fn put_tiles(
+    alloc: Global,
+    out: &mut Vec<u8>,
+    image: &Image,
+    parameters: &Parameters,
+) -> Result<(), Fault>
+    requires { IsWrittenBy parameters.now image.now }
+    ensures ok { OnOk result (out.new.items ≡ out.old.items ++ flat_map part_text (tree_for image.now parameters.now).parts) }
+    ensures err { IfErr result (λ e. e ≡ Fault.Memory) }
+{
+    let siz = siz_of(image, parameters);
+    let codings = codings_for(parameters, siz.components as usize);
+    let mut content = Vec::new(alloc);
+    for t in 0..tile_count(&siz) {
+        put_tile(out, &mut content, &siz, &codings, parameters, t)?;
+    }
+    Ok(())
+}
+
+/// The codestream of an image.
 fn codestream(alloc: Global, image: &Image, parameters: &Parameters) -> Result<Vec<u8>, Fault>
-    requires page { is_blank_page image.now ≡ true }
-    requires plain { is_plain parameters.now ≡ true }
+    requires profile { IsWrittenBy parameters.now image.now }
+    requires blank { is_blank image.now ≡ true }
     ensures value { IfOk result (λ v. v.items ≡ codestream_text (tree_for image.now parameters.now)) }
     ensures means { IfOk result (λ v. MeansPicture v.items 0 image.now) }
     ensures bare { IfOk result (λ v. Holds v.items v.items) }
     ensures err { IfErr result (λ e. e ≡ Fault.Memory) }
 {
-    let main = main_header(image, parameters);
     let mut out = Vec::new(alloc);
-    write_main(&main, &mut out)?;
-    write_tile_part(0, &[0], &mut out)?;
+    write_main(&main_header(image, parameters), &mut out)?;
+    put_tiles(alloc, &mut out, image, parameters)?;
     write_end(&mut out)?;
     Ok(out)
 }
 
-/// The codestream of a page in its container.
+/// The codestream of an image in its container.
+#[tactic(auto, using(crate::proofs::WrittenLaws::holds_means))]
 fn file(alloc: Global, image: &Image, parameters: &Parameters) -> Result<Vec<u8>, Fault>
-    requires page { is_blank_page image.now ≡ true }
-    requires plain { is_plain parameters.now ≡ true }
+    requires profile { IsWrittenBy parameters.now image.now }
+    requires blank { is_blank image.now ≡ true }
     ensures exact { Answers (λ v. v.items) result
         (contained parameters.now.container image.now (codestream_text (tree_for image.now parameters.now))) }
     ensures means { IfOk result (λ v. Means v.items 0 image.now) }
@@ -147,10 +208,8 @@ fn file(alloc: Global, image: &Image, parameters: &Parameters) -> Result<Vec<u8>
 
 /// The file of an image.
 ///
-/// BadParameters: an image and parameters outside the profile, as `Parameters::check` says. NotYet: an image that isn't a
-/// page of one unsigned component of 8 bits at (0, 0), with sides of at most 32768 and all samples 128; or parameters
-/// other than no decomposition levels, one layer, one tile, the order LRCP and code-blocks of 64 by 64, without precinct
-/// sizes, colour transform, SOP and EPH.
+/// BadParameters: an image and parameters outside the profile, as `Parameters::check` says. NotYet: an image of which
+/// some sample isn't turned to zero by the level shift.
 #[tactic(auto, unfolding(crate::specs::Written::written))]
 pub fn encode(alloc: Global, image: &Image, parameters: &Parameters) -> Result<Vec<u8>, Fault>
     // Which bytes, or which fault.
@@ -159,7 +218,7 @@ pub fn encode(alloc: Global, image: &Image, parameters: &Parameters) -> Result<V
     ensures means { IfOk result (λ v. Means v.items 0 image.now) }
 {
     parameters.check(image)?;
-    if !is_blank(image) || !are_plain(parameters) {
+    if !is_blank(image) {
         return Err(Fault::NotYet);
     }
     file(alloc, image, parameters)

@@ -3,6 +3,7 @@
 
 mod decoding;
 mod encoding;
+mod reduction;
 mod samples;
 
 pub use decoding::decode;

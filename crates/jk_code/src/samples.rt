@@ -2,17 +2,17 @@
 
 ghost use Rattle.std.specs.Prelude.{◌≡◌, ◌+◌, ◌-◌, ◌*◌, ◌<◌, ◌≤◌, ◌^◌, IfOk, IfErr, Ok, replicate, pos, ◌≤ℤ◌, ◌<ℤ◌, neg_ℤ};
 ghost use Rattle.jk_math.specs.Answer.{Answers};
-ghost use Rattle.jk_math.specs.Picture.{IsPicture, lists_of};
+ghost use Rattle.jk_math.specs.Picture.{IsFrame, lists_of};
 ghost use Rattle.jk_marks.specs.Siz.{IsSiz};
 ghost use Rattle.jk_code.specs.Samples.{sample_of, shift, clamped};
 ghost use Rattle.jk_code.specs.MeaningReading.{blank};
 
 use jk_marks::Siz;
-use jk_math::{Fault, Image, sample_range};
+use jk_math::{Fault, Image, Rect, sample_range};
 use std::alloc::Global;
 
-/// The level shift of unsigned samples (T.800 G.1).
-fn level_shift(depth: u8, signed: bool) -> i32
+/// The level shift: the sample that stands for zero (T.800 G.1).
+pub(crate) fn level_shift(depth: u8, signed: bool) -> i32
     requires some { 1 ≤ depth }
     requires few { depth ≤ 16 }
     ensures { result ≡ shift depth signed }
@@ -62,14 +62,17 @@ fn planes(alloc: Global, components: u16, area: usize, sample: i32) -> Result<Ve
     Ok(planes)
 }
 
-/// The image whose coefficients are all zero.
-pub(crate) fn blank_image(alloc: Global, siz: &Siz) -> Result<Image, Fault>
-    requires { IsSiz siz.now }
-    ensures { Answers (λ i. i) result (Ok (blank siz.now)) }
+/// The image of a place on a reduced grid whose coefficients are all zero.
+pub(crate) fn blank_image(alloc: Global, siz: &Siz, area: &Rect) -> Result<Image, Fault>
+    requires siz { IsSiz siz.now }
+    requires frame { IsFrame area.now.x0 area.now.y0 (area.now.x1 - area.now.x0) (area.now.y1 - area.now.y0) }
+    ensures { Answers (λ i. i) result (Ok (blank siz.now area.now)) }
 {
-    let width = siz.x1 - siz.x0;
-    let height = siz.y1 - siz.y0;
-    let area = width as usize * height as usize;
-    let planes = planes(alloc, siz.components, area, sample(siz, 0))?;
-    Image::new(siz.x0, siz.y0, width, height, siz.depth, siz.signed, planes)
+    let width = area.x1 - area.x0;
+    let height = area.y1 - area.y0;
+    let count = width as usize * height as usize;
+    let planes = planes(alloc, siz.components, count, sample(siz, 0))?;
+    Image::new(
+        area.x0, area.y0, width, height, siz.depth, siz.signed, planes,
+    )
 }

@@ -4,4 +4,5 @@ pub mod Cells
 pub mod Weaving
 pub mod TileLaws
 pub mod BlockLaws
+pub mod Counts
 mod Examples

@@ -5,3 +5,4 @@ pub mod Precincts
 pub mod Blocks
 pub mod Partitions
 pub mod TileShapes
+pub mod Counts

@@ -2,6 +2,7 @@
 #![tactic(auto)]
 
 mod bands;
+mod count;
 mod grid;
 mod laws;
 mod precincts;
@@ -10,6 +11,7 @@ mod shape;
 mod tiling;
 
 pub use bands::{Orientation, band, resolution};
+pub use count::packet_count;
 pub use grid::{BlockGrid, blocks};
 pub use laws::{blocks_share_a_band, resolutions_are_woven, tiles_share_the_image};
 pub use precincts::{precinct, precinct_count};

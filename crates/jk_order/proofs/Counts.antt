@@ -1,31 +1,17 @@
 -- The number of packets covers the precincts of each resolution.
-use Rattle.std.proofs.Common.{◌≡◌, ℕ, zero, suc, ◌+◌, ◌-◌, ◌*◌, ◌^◌, ◌<◌, ◌≤◌, ◌⊎◌, inl, inr, min, List, [], ◌∷◌, length, get_or, take, refl, ap, sym, ◌∙◌, add-one, arith}
+use Rattle.std.proofs.Common.{◌≡◌, ℕ, zero, suc, ◌+◌, ◌-◌, ◌*◌, ◌^◌, ◌<◌, ◌≤◌, ◌⊎◌, inl, inr, min, List, [], ◌∷◌, length, get_or, refl, ap, arith}
 use Rattle.std.specs.Prelude.{sum_by}
-use Rattle.std.proofs.Math.Nat.{mul-le-mul_right, mul-le-mul_left}
+use Rattle.std.proofs.Math.Nat.{mul-le-mul_right}
 use Rattle.std.proofs.lemmas.Bool.{cases_lt}
 use Rattle.std.proofs.lemmas.List.Sums.{sum_by-cons}
-use Rattle.std.proofs.lemmas.List.{take_all}
 use Rattle.jk_math.specs.declared.rect.Rect.{Rect}
 use Rattle.jk_marks.specs.declared.coding.Coding.{Coding}
 use Rattle.jk_geom.specs.declared.shape.TileShape.{TileShape}
 use Rattle.jk_geom.specs.TileShapes.{IsTileShape, coding_of, no_coding}
 use Rattle.jk_geom.specs.Precincts.{precinct_number}
-use Rattle.jk_order.specs.PacketOrder.{packet_count, precincts_below}
-
--- the precincts of a component
-abbrev pub precincts_of : Rect → Coding → ℕ
-precincts_of a k = precincts_below a k (k.levels + 1)
-
-pub below_more : (a : Rect) (k : Coding) (r : ℕ) → precincts_below a k (suc r) ≡ precincts_below a k r + precinct_number a k r
-unfolding precincts_below
-below_more a k r = refl
-
-pub below_none : (a : Rect) (k : Coding) → precincts_below a k 0 ≡ 0
-unfolding precincts_below
-below_none a k = refl
-
-pub below_step : (a : Rect) (k : Coding) (r : ℕ) → precincts_below a k (r + 1) ≡ precincts_below a k r + precinct_number a k r
-below_step a k r = rw add-one (below_more a k r)
+use Rattle.jk_geom.specs.Counts.{precincts_below}
+use Rattle.jk_geom.proofs.Counts.{precincts_of, below_more, number_is}
+use Rattle.jk_order.specs.PacketOrder.{packet_count}
 
 -- a resolution's precincts are among those of the resolutions below a greater one
 pub number_below : (a : Rect) (k : Coding) (r n : ℕ) → r < n → precinct_number a k r ≤ precincts_below a k n
@@ -57,7 +43,7 @@ share_below {A} f (x ∷ xs) (suc c) d h =
 
 pub count_is : (s : TileShape) → packet_count s ≡ s.layers * sum_by (λ (k : Coding). precincts_of s.rect k) s.codings
 unfolding packet_count
-count_is s = refl
+count_is s = number_is s.rect s.layers s.codings
 
 -- no resolution has more precincts than the tile has packets
 pub number_few : (s : TileShape) (c r : ℕ) → IsTileShape s → c < length s.codings → r ≤ (coding_of s.codings c).levels
@@ -70,32 +56,6 @@ number_few s c r shape hc hr =
     let times : 1 * sum_by (λ (k : Coding). precincts_of s.rect k) s.codings ≤ s.layers * sum_by (λ (k : Coding). precincts_of s.rect k) s.codings = mul-le-mul_right (sum_by (λ (k : Coding). precincts_of s.rect k) s.codings) some in
     let is = count_is s in
     omega arith
-
--- a sum cut at a bound, times a number, cut there again
-pub min_times : (n l m : ℕ) → 1 ≤ l → min (min n m * l) m ≡ min (l * n) m
-min_times n l m some = by (cases_lt m n)
-  where
-    by : (m < n) ⊎ (n ≤ m) → min (min n m * l) m ≡ min (l * n) m
-    by (inl over) =
-        let cut : min n m ≡ m = omega arith in
-        let first : m * 1 ≤ m * l = mul-le-mul_left m some in
-        let second : 1 * n ≤ l * n = mul-le-mul_right n some in
-        let is : min n m * l ≡ m * l = ap (λ k. k * l) cut in
-        omega arith
-    by (inr under) =
-        let cut : min n m ≡ n = omega arith in
-        let is : min n m * l ≡ n * l = ap (λ k. k * l) cut in
-        let turned : n * l ≡ l * n = omega arith in
-        omega arith
-
--- the count as it is taken
-pub count_full : (s : TileShape) (n count m : ℕ) → 1 ≤ s.layers → length s.codings ≤ n → count ≡ min (sum_by (λ (k : Coding). precincts_of s.rect k) (take n s.codings)) m
-    → min (count * s.layers) m ≡ min (packet_count s) m
-count_full s n count m some long e =
-    let all = sum_by (λ (k : Coding). precincts_of s.rect k) s.codings in
-    let whole : take n s.codings ≡ s.codings = take_all n s.codings long in
-    let is : count ≡ min all m = e ∙ ap (λ (ks : List Coding). min (sum_by (λ (k : Coding). precincts_of s.rect k) ks) m) whole in
-    ap (λ c. min (c * s.layers) m) is ∙ (min_times all s.layers m some ∙ ap (λ c. min c m) (sym (count_is s)))
 
 -- a count that was seen to be small is that of the packets
 pub count_fits : (s : TileShape) (n : ℕ) → n ≡ min (packet_count s) (2 ^ 64 - 1) → n ≤ 2 ^ 24 → packet_count s ≤ 2 ^ 24

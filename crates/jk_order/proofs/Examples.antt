@@ -7,7 +7,8 @@ use Rattle.jk_geom.specs.declared.shape.TileShape.{TileShape}
 use Rattle.jk_geom.specs.declared.shape.PacketName.{PacketName}
 use Rattle.jk_geom.specs.Rectangles.{resolution_area}
 use Rattle.jk_geom.specs.Precincts.{precincts_across, precincts_down, precinct_column, precinct_row}
-use Rattle.jk_order.specs.PacketOrder.{key, packet_count, precincts_below, joined, all_names, inserted, sorted, order}
+use Rattle.jk_geom.specs.Counts.{precincts_below, packet_number}
+use Rattle.jk_order.specs.PacketOrder.{key, packet_count, joined, all_names, inserted, sorted, order}
 
 abbrev small : Coding
 small = record { levels = 1; xcb = 6; ycb = 6; precincts = (1, 1) ∷ (2, 2) ∷ []; style = 0; guard = 2; exponents = [] }
@@ -19,7 +20,7 @@ abbrev name : (r k : ℕ) → PacketName
 name r k = record { layer = 0; resolution = r; component = 0; precinct = k }
 
 three : packet_count (tile Lrcp) ≡ 3
-unfolding packet_count precincts_below precincts_across precincts_down resolution_area
+unfolding packet_count packet_number precincts_below precincts_across precincts_down resolution_area
 three = refl
 
 by_layer : order (tile Lrcp) ≡ name 0 0 ∷ name 1 0 ∷ name 1 1 ∷ []

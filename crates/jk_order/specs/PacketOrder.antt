@@ -1,5 +1,5 @@
 -- The packets of a tile and their order (T.800 B.12).
-use Rattle.std.specs.Prelude.{ℕ, zero, suc, ◌+◌, ◌-◌, ◌*◌, ◌^◌, ◌<◌, ◌≤◌, ◌↔◌, max, List, [], ◌∷◌, ◌++◌, length, map, Contains, sum_by, Bool, ◌==◌, ◌&&◌}
+use Rattle.std.specs.Prelude.{ℕ, zero, suc, ◌+◌, ◌-◌, ◌*◌, ◌^◌, ◌<◌, ◌≤◌, ◌↔◌, max, List, [], ◌∷◌, ◌++◌, length, map, Contains, Bool, ◌==◌, ◌&&◌}
 use Rattle.std.specs.Ordering.{nat_cmp}
 use Rattle.std.specs.declared.cmp.Ordering.{Ordering}
 use Rattle.std.specs.declared.cmp.Ordering.TheVariants.{Less, Equal, Greater}
@@ -14,6 +14,7 @@ use Rattle.jk_geom.specs.declared.shape.TileShape.{TileShape}
 use Rattle.jk_geom.specs.declared.shape.PacketName.{PacketName}
 use Rattle.jk_geom.specs.TileShapes.{coding_of}
 use Rattle.jk_geom.specs.Precincts.{precinct_number, precinct_column, precinct_row}
+use Rattle.jk_geom.specs.Counts.{packet_number}
 
 -- A packet of the tile: one for each layer of each precinct of each resolution of each component (B.9).
 pub record IsName (s : TileShape) (n : PacketName) : Type 0 where
@@ -51,14 +52,9 @@ pub record IsPacketOrder (s : TileShape) (names : List PacketName) : Type 0 wher
   pub ascending : IsStrictlySortedBy key_cmp (map (key s) names)
   pub members : (n : PacketName) → Contains names n ↔ IsName s n
 
--- how many precincts the resolutions below r have
-unfoldable pub precincts_below : Rect → Coding → ℕ → ℕ
-precincts_below a k zero = 0
-precincts_below a k (suc r) = precincts_below a k r + precinct_number a k r
-
 -- how many packets a tile has
 unfoldable pub packet_count : TileShape → ℕ
-packet_count s = s.layers * sum_by (λ (k : Coding). precincts_below s.rect k (k.levels + 1)) s.codings
+packet_count s = packet_number s.rect s.layers s.codings
 
 -- the lists of the numbers below n, joined
 unfoldable pub joined : {A : Type 0} → (ℕ → List A) → ℕ → List A

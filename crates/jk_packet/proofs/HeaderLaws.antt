@@ -59,7 +59,7 @@ sop_some high low more =
     ap (λ (t : Bool). refuse t Truncated >>= λ _. refuse (nat_lt n 6) Truncated >>= λ _. Ok 6) four
     ∙ ap (λ (t : Bool). refuse t Truncated >>= λ _. Ok 6) six
 
-sop_only : (allowed : Bool) (sop : List ℕ) (bits : List Bool) (header more : List ℕ) → IsSop allowed sop → 0 < length bits → Packs false bits header → sop_at allowed (sop ++ (header ++ more)) ≡ Ok (length sop)
+pub sop_only : (allowed : Bool) (sop : List ℕ) (bits : List Bool) (header more : List ℕ) → IsSop allowed sop → 0 < length bits → Packs false bits header → sop_at allowed (sop ++ (header ++ more)) ≡ Ok (length sop)
 sop_only allowed sop bits header more (inl none) some p =
     ap (λ (s : List ℕ). sop_at allowed (s ++ (header ++ more))) none ∙ sop_none allowed (header ++ more) (no_sop bits header more some p) ∙ ap (λ (s : List ℕ). Ok (length s)) (sym none)
 sop_only allowed sop bits header more (inr s) some p =
@@ -117,11 +117,11 @@ sop_found_by bytes n true true true e f h =
     let x = sop_front bytes long (e refl) (f refl) (same_byte (get_or bytes 2 0) 0x00 both.0) (same_byte (get_or bytes 3 0) 0x04 both.1) in
     (inr (refl, x.0, x.1, ap (λ k. take k bytes) is ∙ x.2), omega (arith, is, long)))))
 
-sop_found : (allowed : Bool) (bytes : List ℕ) (n : ℕ) → sop_at allowed bytes ≡ Ok n → IsSop allowed (take n bytes) × (n ≤ length bytes)
+pub sop_found : (allowed : Bool) (bytes : List ℕ) (n : ℕ) → sop_at allowed bytes ≡ Ok n → IsSop allowed (take n bytes) × (n ≤ length bytes)
 unfolding sop_at
 sop_found allowed bytes n h = sop_found_by bytes n allowed (get_or bytes 0 0 == 0xFF) (get_or bytes 1 0 == 0x91) (same_byte (get_or bytes 0 0) 0xFF) (same_byte (get_or bytes 1 0) 0x91) h
 
-eph_only : (due : Bool) (rest : List ℕ) → eph_at due (eph_text due ++ rest) ≡ Ok (length (eph_text due))
+pub eph_only : (due : Bool) (rest : List ℕ) → eph_at due (eph_text due ++ rest) ≡ Ok (length (eph_text due))
 unfolding eph_at
 eph_only false rest = refl
 eph_only true rest =
@@ -134,7 +134,7 @@ eph_front : (bytes : List ℕ) → 2 ≤ length bytes → get_or bytes 0 0 ≡ 0
 eph_front (a ∷ (b ∷ rest)) long e f = ap (λ x. x ∷ b ∷ []) e ∙ ap (λ x. 0xFF ∷ x ∷ []) f
 eph_front bytes long e f = absurd (omega (arith, long))
 
-eph_found : (due : Bool) (bytes : List ℕ) (k : ℕ) → eph_at due bytes ≡ Ok k → (take k bytes ≡ eph_text due) × (k ≤ length bytes)
+pub eph_found : (due : Bool) (bytes : List ℕ) (k : ℕ) → eph_at due bytes ≡ Ok k → (take k bytes ≡ eph_text due) × (k ≤ length bytes)
 unfolding eph_at
 eph_found false bytes k h = let z : k ≡ 0 = cc in (ap (λ j. take j bytes) z, omega (arith, z))
 eph_found true bytes k h =

@@ -13,4 +13,5 @@ pub mod BandsLaws
 pub mod LayerLaws
 pub mod HeaderLaws
 pub mod PrecinctLaws
+pub mod EmptyLaws
 mod Examples

@@ -3,3 +3,4 @@ pub mod Words
 pub mod Reading
 pub mod PacketText
 pub mod Standing
+pub mod Empty

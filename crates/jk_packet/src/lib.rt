@@ -3,12 +3,14 @@
 
 mod band;
 mod block;
+mod empty;
 mod header;
 mod markers;
 mod precinct;
 mod shape;
 mod words;
 
+pub use empty::{empty_packet, write_empty_packet};
 pub use header::{Header, Part, Parts};
 pub use precinct::Precinct;
 pub use shape::{BandShape, PrecinctShape};

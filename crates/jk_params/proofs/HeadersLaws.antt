@@ -1,293 +1,278 @@
 -- Headers that are read are those of a codestream, and those of a codestream are read.
-use Rattle.std.proofs.Common.{◌≡◌, ℕ, zero, suc, ◌+◌, ◌<◌, Bool, true, false, not, eqb, List, [], ◌∷◌, ◌++◌, length, map, get_or, take, drop, Ok, refl, sym, ap, subst, ◌∙◌, arith, lit<, ◌≤◌}
-use Rattle.std.specs.Prelude.{is_none}
+use Rattle.std.proofs.Common.{◌≡◌, ℕ, zero, suc, ◌+◌, ◌<◌, ◌≤◌, Bool, true, false, not, ◌&&◌, eqb, ltb, List, [], ◌∷◌, ◌++◌, length, map, drop, Ok, refl, sym, ap, subst, ◌∙◌, append_assoc, arith, lit<, inl, inr}
 use Rattle.std.specs.List.{flat_map, range_with_len, AllByRecursion}
-use Rattle.std.proofs.lemmas.Bool.{true≢false, eqb-true, eq-eqb, not-false}
-use Rattle.std.proofs.lemmas.List.{drop_at, drop-drop, length-append, append-nil, nil_from_length}
+use Rattle.std.proofs.lemmas.Bool.{true≢false, eqb-true, eqb-false, not-false, ltb-false}
+use Rattle.std.proofs.lemmas.List.{drop_at, drop-drop, length-append, length-drop, append-nil, map-append, nil_from_length, ext_get_or, length-replicate, get_or-replicate}
+use Rattle.std.proofs.lemmas.Grind.{flat_map-append}
 use Rattle.byteorder.specs.Endian.{big_bytes}
-use Rattle.jk_math.specs.Steps.{bind_then, refuse_then, ok_is}
-use Rattle.jk_math.specs.declared.fault.Fault.TheVariants.{NotYet, BadMarker, SurplusBytes}
+use Rattle.jk_math.specs.Steps.{bind_then, refuse_then, chosen, ok_is}
+use Rattle.jk_math.specs.declared.fault.Fault.TheVariants.{BadMarker, SurplusBytes, Limit}
 use Rattle.jk_marks.specs.declared.siz.Siz.{Siz}
-use Rattle.jk_marks.specs.declared.segments.Cod.{Cod}
+use Rattle.jk_marks.specs.declared.coding.Coding.{Coding}
 use Rattle.jk_marks.specs.declared.main_header.Main.{Main}
 use Rattle.jk_marks.specs.declared.tile_part.TilePart.{TilePart}
-use Rattle.jk_marks.specs.Markers.{soc, sot, sod, eoc, marker_text}
+use Rattle.jk_marks.specs.Markers.{sot, eoc, marker_text}
 use Rattle.jk_marks.specs.Place.{closed}
-use Rattle.jk_marks.specs.Siz.{tile_count, IsSiz}
-use Rattle.jk_marks.specs.Segments.{Segment, segment_text, codings}
-use Rattle.jk_marks.specs.Codestream.{Part, Tree, main_text, main_of, part_text, place_of, codestream_text, of_tile, first, head_of, IsMain, IsPart, BeginsMain, BeginsWith}
+use Rattle.jk_marks.specs.Siz.{tile_count}
+use Rattle.jk_marks.specs.Segments.{Segment}
+use Rattle.jk_marks.specs.Codestream.{Part, main_text, main_of, part_text, part_length, codestream_text, of_tile, head_of, IsMain, IsPart, AreParts, AreClosedBeforeLast}
 use Rattle.jk_marks.specs.Reading.{number}
 use Rattle.jk_marks.specs.HeaderReading.{main_at, part_at}
 use Rattle.jk_marks.proofs.Numbers.{AreBytes, are_bytes_after}
 use Rattle.jk_marks.proofs.Steps.{number_goes, number_again}
-use Rattle.jk_marks.proofs.MainLaws.{found_main, only_main}
-use Rattle.jk_marks.proofs.PartLaws.{found_part, only_part}
-use Rattle.jk_params.specs.Headers.{TileFields, Headers, places_from, head_segments, headers_of, IsHeaders}
-use Rattle.jk_params.specs.Page.{page_siz, page_cod, is_page, is_silent}
-use Rattle.jk_params.specs.HeadersReading.{page_main_at, silent_part_at, end_at, headers_at}
-use Rattle.jk_params.proofs.PageLaws.{page_main_is, page_tiles, silent_cod}
+use Rattle.jk_marks.proofs.MainLaws.{found_main}
+use Rattle.jk_marks.proofs.PartLaws.{found_part}
+use Rattle.jk_params.specs.Coding.{codings_of, codings_at}
+use Rattle.jk_params.specs.Headers.{Headers, TileFields, places_from, head_segments, cod_for, headers_of, no_fields, packets_alike, packets_of, most_packets, IsHeaders}
+use Rattle.jk_params.specs.HeadersReading.{ends_at, tiles_with, parts_seen, parts_from, blank_tiles, main_fields_at, tiles_at, headers_at}
+use Rattle.jk_params.proofs.GoodLaws.{all_more}
+use Rattle.jk_params.proofs.PlacesLaws.{part_text_length}
+use Rattle.jk_params.proofs.PartsLaws.{tree_of, tiles_said, said_at, said_length, seen_at, own_parts, other_parts, head_first, head_later, head_other, HavePlanes, codings_found, tiles_found}
 
-abbrev pub tree_of : Siz → List Segment → Part → Tree
-tree_of siz segments p = record { siz = siz; segments = segments; parts = p ∷ [] }
+and_second : (x y : Bool) → x ≡ true → (x && y) ≡ false → y ≡ false
+and_second true y e h = h
+and_second false y e h = absurd (true≢false (sym e))
 
-abbrev pub one_tile_headers : Siz → Cod → ℕ → TilePart → Headers
-one_tile_headers siz cod at t = record { siz = siz; tiles = record { cod = cod; data_places = (at + t.start, at + t.end) ∷ [] } ∷ [] }
-
--- the headers of a codestream of one tile and one part
-pub tree_headers : (siz : Siz) (segments : List Segment) (p : Part) → tile_count siz ≡ 1 → p.tile ≡ 0 → codings p.segments ≡ []
-    → headers_of (tree_of siz segments p) ≡ one_tile_headers siz (main_of siz segments).cod (length (main_text siz segments)) (place_of p)
-unfolding headers_of places_from
-tree_headers siz segments p one tile bare =
-    let same : eqb p.tile 0 ≡ true = eq-eqb p.tile 0 tile in
-    let n = length (main_text siz segments) in
-    rw (one, same, bare) refl
-
-pub numbered : (p : Part) → p.number ≡ 0 → (t : ℕ) → map (λ (q : Part). q.number) (of_tile t (p ∷ [])) ≡ range_with_len 0 (length (of_tile t (p ∷ [])))
-numbered p first t = go (eqb p.tile t) refl
-  where
-    go : (b : Bool) → eqb p.tile t ≡ b → map (λ (q : Part). q.number) (of_tile t (p ∷ [])) ≡ range_with_len 0 (length (of_tile t (p ∷ [])))
-    go true e = rw e (ap (λ k. k ∷ []) first)
-    go false e = rw e refl
-
-abbrev nothing_seen : List ℕ
-nothing_seen = 0 ∷ []
-
-none_seen : (k : ℕ) → get_or nothing_seen k 0 ≡ 0
-none_seen zero = refl
-none_seen (suc k) = refl
-
-spelled : (bytes : List ℕ) (siz : Siz) (segments : List Segment) (p : Part) (at : ℕ) (others : List ℕ) → at ≡ length (main_text siz segments) → bytes ≡ main_text siz segments ++ drop at bytes
-    → drop at bytes ≡ part_text p ++ others → others ≡ marker_text eoc → bytes ≡ codestream_text (tree_of siz segments p)
-unfolding codestream_text
-spelled bytes siz segments p at others at-is front rest end =
-    front ∙ ap (λ (x : List ℕ). main_text siz segments ++ x) (rest ∙ ap (λ (x : List ℕ). part_text p ++ x) end ∙ ap (λ (x : List ℕ). x ++ marker_text eoc) (sym (append-nil (part_text p))))
-
-part_text_length : (p : Part) → length (part_text p) ≡ (place_of p).end
-unfolding part_text
-part_text_length p = omega (arith, length-append (flat_map segment_text p.segments) (marker_text sod ++ p.content))
-
-none_first : (xs : List Cod) → is_none (first xs) ≡ true → xs ≡ []
-none_first [] e = refl
-none_first (x ∷ xs) e = absurd (true≢false (sym e))
-
--- a header that says nothing of the coding has no COD
-no_codings : (p : Part) → is_silent (head_of p.segments) ≡ true → codings p.segments ≡ []
-no_codings p e = none_first (codings p.segments) (silent_cod (head_of p.segments) e)
-
--- a page has one tile
-pub one_tile_of : (m : Main) → IsSiz m.siz → is_page m ≡ true → tile_count m.siz ≡ 1
-one_tile_of m size e =
-    let page = (page_main_is m e).0 in
-    let x0 : m.siz.x0 ≡ 0 = ap (λ (s : Siz). s.x0) page.fields in
-    let y0 : m.siz.y0 ≡ 0 = ap (λ (s : Siz). s.y0) page.fields in
-    ap tile_count page.fields ∙ page_tiles m.siz.x1 m.siz.y1 (omega (arith, size.wide, x0)) (omega (arith, size.high, y0))
-
-page_one : (siz : Siz) (segments : List Segment) → IsSiz siz → is_page (main_of siz segments) ≡ true → tile_count siz ≡ 1
-page_one siz segments size e = one_tile_of (main_of siz segments) size e
-
-first_number : (p : Part) → map (λ (q : Part). q.number) (of_tile p.tile (p ∷ [])) ≡ range_with_len 0 (length (of_tile p.tile (p ∷ []))) → p.number ≡ 0
-first_number p e =
-    let same : eqb p.tile p.tile ≡ true = eq-eqb p.tile p.tile refl in
-    let here : p.number ∷ [] ≡ 0 ∷ [] = rw same at e in
-    ap (λ (xs : List ℕ). get_or xs 0 0) here
-
-main_from : (bytes : List ℕ) (m : Main × ℕ) → page_main_at bytes ≡ Ok m → (main_at bytes ≡ Ok m) × (is_page m.0 ≡ true)
-unfolding page_main_at
-main_from bytes m e =
-    bind_then (main_at bytes) _ m e (λ main s1 e.
-    refuse_then (not (is_page main.0)) NotYet _ m e (λ not_other e.
-    let same = ok_is main m e in
-    (s1 ∙ ap Ok same, sym (ap (λ (x : Main × ℕ). is_page x.0) same) ∙ not-false _ not_other)))
-
-main_again : (bytes : List ℕ) (m : Main × ℕ) → main_at bytes ≡ Ok m → is_page m.0 ≡ true → page_main_at bytes ≡ Ok m
-unfolding page_main_at
-main_again bytes m e page = rw (e, page) refl
-
-part_from : (siz : Siz) (bytes : List ℕ) (t : TilePart) → silent_part_at siz bytes ≡ Ok t → (part_at siz (0 ∷ []) bytes ≡ Ok t) × (is_silent t.head ≡ true)
-unfolding silent_part_at
-part_from siz bytes t e =
-    bind_then (part_at siz (0 ∷ []) bytes) _ t e (λ part s1 e.
-    refuse_then (not (is_silent part.head)) NotYet _ t e (λ not_said e.
-    let same = ok_is part t e in
-    (s1 ∙ ap Ok same, sym (ap (λ (x : TilePart). is_silent x.head) same) ∙ not-false _ not_said)))
-
-part_again : (siz : Siz) (bytes : List ℕ) (t : TilePart) → part_at siz (0 ∷ []) bytes ≡ Ok t → is_silent t.head ≡ true → silent_part_at siz bytes ≡ Ok t
-unfolding silent_part_at
-part_again siz bytes t e silent = rw (e, silent) refl
-
-end_from : (bytes : List ℕ) (at : ℕ) (u : Unit {0}) → AreBytes bytes → end_at bytes at ≡ Ok u → drop at bytes ≡ marker_text eoc
-unfolding end_at
-end_from bytes at u fits e =
-    bind_then (number 2 (closed bytes at)) _ u e (λ marker s e.
-    refuse_then (eqb marker.0 sot) NotYet _ u e (λ no_sot e.
-    refuse_then (not (eqb marker.0 eoc)) BadMarker _ u e (λ is_eoc e.
-    refuse_then (not (eqb (length marker.1.rest) 0)) SurplusBytes _ u e (λ is_end e.
+-- the end that is read is EOC
+ends_found : (bytes : List ℕ) (at : ℕ) (b : Bool) → AreBytes bytes → ends_at bytes at ≡ Ok b → b ≡ true → drop at bytes ≡ marker_text eoc
+unfolding ends_at
+ends_found bytes at b fits e is =
+    bind_then (number 2 (closed bytes at)) _ b e (λ marker s e.
+    refuse_then (not (eqb marker.0 sot) && not (eqb marker.0 eoc)) BadMarker _ b e (λ other e.
+    refuse_then (not (eqb marker.0 sot) && not (eqb (length marker.1.rest) 0)) SurplusBytes _ b e (λ surplus e.
+    let no_sot : not (eqb marker.0 sot) ≡ true = ok_is (not (eqb marker.0 sot)) b e ∙ is in
+    let is_eoc = and_second _ _ no_sot other in
+    let is_end = and_second _ _ no_sot surplus in
     let g = number_goes 2 marker.0 (closed bytes at) marker.1 (are_bytes_after at bytes fits) s in
     let no_rest : marker.1.rest ≡ [] = nil_from_length marker.1.rest (eqb-true _ _ (not-false _ is_end)) in
-    g.0.parts ∙ ap (λ (k : ℕ). big_bytes 2 k ++ marker.1.rest) (eqb-true _ _ (not-false _ is_eoc)) ∙ ap (λ (x : List ℕ). marker_text eoc ++ x) no_rest))))
+    g.0.parts ∙ ap (λ (k : ℕ). big_bytes 2 k ++ marker.1.rest) (eqb-true _ _ (not-false _ is_eoc)) ∙ ap (λ (x : List ℕ). marker_text eoc ++ x) no_rest)))
 
-end_again : (bytes : List ℕ) (at : ℕ) → drop at bytes ≡ marker_text eoc → at + 2 ≤ length bytes → end_at bytes at ≡ Ok tt
-unfolding end_at
-end_again bytes at e long =
-    let s = number_again 2 eoc (closed bytes at) [] (e ∙ sym (append-nil (marker_text eoc))) (lit< tt) (omega (arith, long)) in
+pub ends_eoc : (bytes : List ℕ) (at : ℕ) → drop at bytes ≡ marker_text eoc → ends_at bytes at ≡ Ok true
+unfolding ends_at
+ends_eoc bytes at e =
+    let size : length (drop at bytes) ≡ 2 = ap (λ (x : List ℕ). length x) e in
+    let s = number_again 2 eoc (closed bytes at) [] (e ∙ sym (append-nil (marker_text eoc))) (lit< tt) (omega (arith, size, length-drop at bytes)) in
     rw s refl
 
-pub found_headers : (bytes : List ℕ) (h : Headers) → AreBytes bytes → headers_at bytes ≡ Ok h → IsHeaders bytes h
-unfolding headers_at
-found_headers bytes h fits e =
-    bind_then (page_main_at bytes) _ h e (λ main r1 e.
-    bind_then (silent_part_at main.0.siz (drop main.1 bytes)) _ h e (λ part r2 e.
-    bind_then (end_at bytes (main.1 + part.end)) _ h e (λ ended r3 e.
-    let m1 = main_from bytes main r1 in
-    let m2 = part_from main.0.siz (drop main.1 bytes) part r2 in
-    let s1 = m1.0 in
-    let s2 = m2.0 in
+-- What holds of parts that were read from the first on.
+record AreRead (siz : Siz) (segments : List Segment) (parts : List Part) : Type 0 where
+  each : AllByRecursion (IsPart siz) parts
+  numbered : (t : ℕ) → map (λ (p : Part). p.number) (of_tile t parts) ≡ range_with_len 0 (length (of_tile t parts))
+  planes : (t : ℕ) → 0 < length (of_tile t parts) → HavePlanes siz segments (head_segments (of_tile t parts))
+
+none_read : (siz : Siz) (segments : List Segment) → AreRead siz segments []
+none_read siz segments = record { each = tt; numbered = λ t. refl; planes = λ t lt. absurd (omega (arith, lt)) }
+
+range_more : (a n : ℕ) → range_with_len a (suc n) ≡ range_with_len a n ++ (a + n) ∷ []
+range_more a zero =
+    let e : a ≡ a + 0 = omega arith in
+    ap (λ k. k ∷ []) e
+range_more a (suc n) =
+    let e : a + 1 + n ≡ a + suc n = omega arith in
+    ap (λ (x : List ℕ). a ∷ x) (range_more (a + 1) n ∙ ap (λ k. range_with_len (a + 1) n ++ k ∷ []) e)
+
+-- numbers that go on
+numbered_on : (xs : List Part) (p : Part) → map (λ (q : Part). q.number) xs ≡ range_with_len 0 (length xs) → p.number ≡ length xs
+    → map (λ (q : Part). q.number) (xs ++ p ∷ []) ≡ range_with_len 0 (length (xs ++ p ∷ []))
+numbered_on xs p e next =
+    let n = length xs in
+    let more : suc n ≡ length (xs ++ p ∷ []) = omega (arith, length-append xs (p ∷ [])) in
+    let number : p.number ≡ 0 + n = omega (arith, next) in
+    map-append (λ (q : Part). q.number) xs (p ∷ []) ∙ ap (λ (x : List ℕ). x ++ p.number ∷ []) e ∙ ap (λ k. range_with_len 0 n ++ k ∷ []) number ∙ sym (range_more 0 n) ∙ ap (range_with_len 0) more
+
+read_more : (siz : Siz) (segments : List Segment) (parts : List Part) (p : Part) → AreRead siz segments parts → IsPart siz p → p.number ≡ length (of_tile p.tile parts)
+    → (p.number ≡ 0 → HavePlanes siz segments p.segments) → AreRead siz segments (parts ++ p ∷ [])
+read_more siz segments parts p are is number has = record {
+  each = all_more (IsPart siz) parts p are.each is;
+  numbered = λ t. numbers t (eqb p.tile t) refl;
+  planes = λ t lt. planes t (eqb p.tile t) refl lt;
+}
+  where
+    numbers : (t : ℕ) (b : Bool) → eqb p.tile t ≡ b → map (λ (q : Part). q.number) (of_tile t (parts ++ p ∷ [])) ≡ range_with_len 0 (length (of_tile t (parts ++ p ∷ [])))
+    numbers t true e =
+        let next : p.number ≡ length (of_tile t parts) = number ∙ ap (λ k. length (of_tile k parts)) (eqb-true p.tile t e) in
+        subst (λ (x : List Part). map (λ (q : Part). q.number) x ≡ range_with_len 0 (length x)) (sym (own_parts t parts p e)) (numbered_on (of_tile t parts) p (are.numbered t) next)
+    numbers t false e = subst (λ (x : List Part). map (λ (q : Part). q.number) x ≡ range_with_len 0 (length x)) (sym (other_parts t parts p e)) (are.numbered t)
+
+    own : (t : ℕ) (b : Bool) → eqb p.tile t ≡ true → eqb (length (of_tile t parts)) 0 ≡ b → HavePlanes siz segments (head_segments (of_tile t (parts ++ p ∷ [])))
+    own t true e n =
+        let none = eqb-true (length (of_tile t parts)) 0 n in
+        let zero-is : p.number ≡ 0 = number ∙ ap (λ k. length (of_tile k parts)) (eqb-true p.tile t e) ∙ none in
+        subst (HavePlanes siz segments) (sym (head_first t parts p e none)) (has zero-is)
+    own t false e n =
+        let differs = eqb-false (length (of_tile t parts)) 0 n in
+        let some : 0 < length (of_tile t parts) = omega (arith, differs) in
+        subst (HavePlanes siz segments) (sym (head_later t parts p e some)) (are.planes t some)
+
+    planes : (t : ℕ) (b : Bool) → eqb p.tile t ≡ b → 0 < length (of_tile t (parts ++ p ∷ [])) → HavePlanes siz segments (head_segments (of_tile t (parts ++ p ∷ [])))
+    planes t true e lt = own t (eqb (length (of_tile t parts)) 0) e refl
+    planes t false e lt =
+        let some : 0 < length (of_tile t parts) = subst (λ (x : List Part). 0 < length x) (other_parts t parts p e) lt in
+        subst (HavePlanes siz segments) (sym (head_other t parts p e)) (are.planes t some)
+
+abbrev AreClosed : List Part → Type 0
+AreClosed parts = AllByRecursion (λ (p : Part). p.is_open ≡ false) parts
+
+closed_last : (parts : List Part) (p : Part) → AreClosed parts → AreClosedBeforeLast (parts ++ p ∷ [])
+closed_last [] p h = tt
+closed_last (q ∷ []) p h = (h.0, tt)
+closed_last (q ∷ r ∷ parts) p h = (h.0, closed_last (r ∷ parts) p h.1)
+
+flat_more : (parts : List Part) (p : Part) (rest : List ℕ) → flat_map part_text parts ++ (part_text p ++ rest) ≡ flat_map part_text (parts ++ p ∷ []) ++ rest
+flat_more parts p rest =
+    sym (ap (λ (x : List ℕ). x ++ rest) (flat_map-append part_text parts (p ∷ [])) ∙ append_assoc (flat_map part_text parts) (part_text p ++ []) rest
+    ∙ ap (λ (x : List ℕ). flat_map part_text parts ++ (x ++ rest)) (append-nil (part_text p)))
+
+pub flat_length : (parts : List Part) (p : Part) → length (flat_map part_text (parts ++ p ∷ [])) ≡ length (flat_map part_text parts) + part_length p
+flat_length parts p =
+    let e = ap (λ (x : List ℕ). length x) (flat_more parts p []) in
+    omega (arith, e, part_text_length p, length-append (flat_map part_text parts) (part_text p ++ []), length-append (part_text p) [], length-append (flat_map part_text (parts ++ p ∷ [])) [])
+
+-- the parts that were read, and the end behind them
+record FoundParts (siz : Siz) (segments : List Segment) (bytes : List ℕ) (out : List TileFields) : Type 0 where
+  parts : List Part
+  are : AreParts siz parts
+  read : AreRead siz segments parts
+  text : bytes ≡ main_text siz segments ++ (flat_map part_text parts ++ marker_text eoc)
+  says : out ≡ tiles_said siz segments parts
+
+found_parts : (k : ℕ) (siz : Siz) (segments : List Segment) (bytes : List ℕ) (at : ℕ) (done : List Part) (out : List TileFields) → AreBytes bytes → siz.components ≤ 4
+    → AreRead siz segments done → AreClosed done → at ≡ length (main_text siz segments) + length (flat_map part_text done)
+    → bytes ≡ main_text siz segments ++ (flat_map part_text done ++ drop at bytes)
+    → parts_from k (main_of siz segments) bytes at (tiles_said siz segments done) ≡ Ok out → FoundParts siz segments bytes out
+unfolding parts_from
+found_parts zero siz segments bytes at done out fits few are closed at-is text e = absurd cc
+found_parts (suc k) siz segments bytes at done out fits few are closed at-is text e =
+    let main = main_of siz segments in
+    let tiles = tiles_said siz segments done in
+    bind_then (part_at siz (parts_seen tiles) (drop at bytes)) _ out e (λ part s1 e.
+    bind_then (tiles_with main at part tiles) _ out e (λ more s2 e.
+    bind_then (ends_at bytes (at + part.end)) _ out e (λ ends s3 e.
+    let g = found_part siz (parts_seen tiles) (drop at bytes) part few (are_bytes_after at bytes fits) s1 in
+    let p = g.0 in
+    let is = g.1 in
+    let begins = g.3 in
+    let others = begins.others in
+    let number : p.number ≡ length (of_tile p.tile done) = g.2 ∙ seen_at siz segments done p.tile is.tile in
+    let f = tiles_found siz segments done p at more few is.tile number at-is (ap (λ (x : TilePart). tiles_with main at x tiles) (sym g.4) ∙ s2) in
+    let now = done ++ p ∷ [] in
+    let read = read_more siz segments done p are is number f.1 in
+    let end = at + part.end in
+    let end-is : part.end ≡ part_length p = ap (λ (x : TilePart). x.end) g.4 in
+    let after : drop end bytes ≡ others =
+    sym (drop-drop part.end at bytes) ∙ ap (drop part.end) begins.text ∙ drop_at (part_text p) others part.end (part_text_length p ∙ sym end-is) in
+    let at_next : end ≡ length (main_text siz segments) + length (flat_map part_text now) = omega (arith, at-is, end-is, flat_length done p) in
+    let whole : bytes ≡ main_text siz segments ++ (flat_map part_text now ++ others) =
+    text ∙ ap (λ (x : List ℕ). main_text siz segments ++ (flat_map part_text done ++ x)) begins.text ∙ ap (λ (x : List ℕ). main_text siz segments ++ x) (flat_more done p others) in
+    elim (chosen ends (Ok more) (parts_from k main bytes end more) (Ok out) e) [
+      | inl w ↦
+          let closing : others ≡ marker_text eoc = sym after ∙ ends_found bytes end ends fits s3 w.0 in
+          record {
+            parts = now;
+            are = record { some = omega (arith, length-append done (p ∷ [])); each = read.each; closed = closed_last done p closed; numbered = read.numbered };
+            read = read;
+            text = whole ∙ ap (λ (x : List ℕ). main_text siz segments ++ (flat_map part_text now ++ x)) closing;
+            says = sym (ok_is more out w.1) ∙ f.0;
+          }
+      | inr w ↦
+          let shut : p.is_open ≡ false = not_open p.is_open (λ opened. absurd (true≢false (ok_is true false (sym (ends_eoc bytes end (after ∙ begins.last opened)) ∙ s3 ∙ ap Ok w.0)))) in
+          found_parts k siz segments bytes end now out fits few read (all_more (λ (q : Part). q.is_open ≡ false) done p closed shut) at_next
+          (whole ∙ ap (λ (x : List ℕ). main_text siz segments ++ (flat_map part_text now ++ x)) (sym after)) (ap (λ (x : List TileFields). parts_from k main bytes end x) (sym f.0) ∙ w.1)
+    ])))
+  where
+    not_open : (b : Bool) → (b ≡ true → b ≡ false) → b ≡ false
+    not_open true h = h refl
+    not_open false h = refl
+
+-- where no part was read, all tiles are as the main header says
+pub blank_said : (siz : Siz) (segments : List Segment) → blank_tiles (tile_count siz) (main_of siz segments).cod (codings_of siz.components segments []) ≡ tiles_said siz segments []
+unfolding places_from
+blank_said siz segments =
+    let n = tile_count siz in
+    let blank : TileFields = record { cod = cod_for segments []; codings = codings_of siz.components segments []; data_places = [] } in
+    let size : length (blank_tiles n (main_of siz segments).cod (codings_of siz.components segments [])) ≡ n = length-replicate n blank in
+    ext_get_or no_fields _ _ (size ∙ sym (said_length siz segments []))
+    (λ t lt.
+    let inside : t < n = omega (arith, lt, size) in
+    get_or-replicate n t blank no_fields inside ∙ sym (said_at siz segments [] t inside))
+
+planes_all : (siz : Siz) (segments : List Segment) (xs : List Part) → (0 < length xs → HavePlanes siz segments (head_segments xs)) → HavePlanes siz segments []
+    → HavePlanes siz segments (head_segments xs)
+planes_all siz segments [] h blank = blank
+planes_all siz segments (p ∷ xs) h blank = h (omega arith)
+
+-- what the main header says, and that it has not too many packets
+record FoundFields (bytes : List ℕ) (m : (Main × ℕ) × List Coding) : Type 0 where
+  siz : Siz
+  segments : List Segment
+  is : IsMain siz segments
+  main : m.0.0 ≡ main_of siz segments
+  at : m.0.1 ≡ length (main_text siz segments)
+  text : bytes ≡ main_text siz segments ++ drop m.0.1 bytes
+  codings : m.1 ≡ codings_of siz.components segments []
+  planes : HavePlanes siz segments []
+  few : packets_alike siz (cod_for segments []).layers (codings_of siz.components segments []) ≤ most_packets
+
+found_fields : (bytes : List ℕ) (m : (Main × ℕ) × List Coding) → AreBytes bytes → main_fields_at bytes ≡ Ok m → FoundFields bytes m
+unfolding main_fields_at
+found_fields bytes m fits e =
+    bind_then (main_at bytes) _ m e (λ main s1 e.
+    bind_then (codings_at main.0 (head_of [])) _ m e (λ ks s2 e.
+    refuse_then (ltb most_packets (packets_alike main.0.siz main.0.cod.layers ks)) Limit _ m e (λ some e.
     let f = found_main bytes main.0 main.1 fits s1 in
-    let size = f.2.size in
-    let siz_is : main.0.siz ≡ f.0 = ap (λ (m : Main). m.siz) f.4 in
-    let few : main.0.siz.components ≤ 4 = subst (λ (k : Siz). k.components ≤ 4) (sym siz_is) size.few_components in
-    let g = found_part main.0.siz (0 ∷ []) (drop main.1 bytes) part few (are_bytes_after main.1 bytes fits) s2 in
     let siz = f.0 in
     let segments = f.1 in
-    let p = g.0 in
     let main-is = f.4 in
-    let siz-is : main.0.siz ≡ siz = ap (λ (m : Main). m.siz) main-is in
-    let page : is_page (main_of siz segments) ≡ true = sym (ap is_page main-is) ∙ m1.1 in
-    let one : tile_count siz ≡ 1 = page_one siz segments size page in
-    let silent : is_silent (head_of p.segments) ≡ true = sym (ap (λ (k : TilePart). is_silent k.head) g.4) ∙ m2.1 in
-    let bare = no_codings p silent in
-    let is_part : IsPart siz p = subst (λ (k : Siz). IsPart k p) siz-is g.1 in
-    let tile : p.tile ≡ 0 = omega (arith, is_part.tile, one) in
-    let first : p.number ≡ 0 = g.2 ∙ none_seen p.tile in
-    let size : length (part_text p) ≡ part.end = part_text_length p ∙ sym (ap (λ (k : TilePart). k.end) g.4) in
-    let after : drop (main.1 + part.end) bytes ≡ g.3.others =
-    sym (drop-drop part.end main.1 bytes) ∙ ap (drop part.end) g.3.text ∙ drop_at (part_text p) g.3.others part.end size in
-    let closing : g.3.others ≡ marker_text eoc = sym after ∙ end_from bytes (main.1 + part.end) ended fits r3 in
-    let front : bytes ≡ main_text siz segments ++ drop main.1 bytes =
-    f.3.text ∙ ap (λ (x : List ℕ). main_text siz segments ++ x) (sym (ap (drop main.1) f.3.text ∙ drop_at (main_text siz segments) (marker_text sot ++ f.3.others) main.1 (sym f.5))) in
-    let text = spelled bytes siz segments p main.1 g.3.others f.5 front g.3.text closing in
-    let says : h ≡ headers_of (tree_of siz segments p) =
-    sym (ok_is (one_tile_headers main.0.siz main.0.cod main.1 part) h e)
-    ∙ ap (λ (m : Main). one_tile_headers m.siz m.cod main.1 part) main-is
-    ∙ ap (λ (k : ℕ). one_tile_headers siz (main_of siz segments).cod k part) f.5
-    ∙ ap (λ (k : TilePart). one_tile_headers siz (main_of siz segments).cod (length (main_text siz segments)) k) g.4
-    ∙ sym (tree_headers siz segments p one tile bare) in
+    let front = main_text siz segments in
+    let g = codings_found siz segments [] ks f.2.size.few_components (ap (λ (x : Main). codings_at x (head_of [])) (sym main-is) ∙ s2) in
+    let after : drop main.1 bytes ≡ marker_text sot ++ f.3.others = ap (drop main.1) f.3.text ∙ drop_at front (marker_text sot ++ f.3.others) main.1 (sym f.5) in
+    let low : packets_alike main.0.siz main.0.cod.layers ks ≤ most_packets = ltb-false _ _ some in
+    let few1 = subst (λ (x : Main). packets_alike x.siz x.cod.layers ks ≤ most_packets) main-is low in
+    let few2 = subst (λ (x : List Coding). packets_alike siz (cod_for segments []).layers x ≤ most_packets) g.0 few1 in
+    let here : FoundFields bytes (main, ks) = record {
+      siz = siz;
+      segments = segments;
+      is = f.2;
+      main = main-is;
+      at = f.5;
+      text = f.3.text ∙ ap (λ (x : List ℕ). front ++ x) (sym after);
+      codings = g.0;
+      planes = g.1;
+      few = few2;
+    } in
+    subst (FoundFields bytes) (ok_is (main, ks) m e) here)))
+
+abbrev head_record : Siz → List TileFields → Headers
+head_record siz tiles = record { siz = siz; tiles = tiles }
+
+pub found_headers : (bytes : List ℕ) (h : Headers) → AreBytes bytes → headers_at bytes ≡ Ok h → IsHeaders bytes h
+unfolding headers_at tiles_at headers_of codestream_text
+found_headers bytes h fits e =
+    bind_then (main_fields_at bytes) _ h e (λ m s1 e.
+    bind_then (tiles_at m.0.0 bytes m.0.1 (blank_tiles (tile_count m.0.0.siz) m.0.0.cod m.1)) _ h e (λ tiles s2 e.
+    bind_then (parts_from (length bytes) m.0.0 bytes m.0.1 (blank_tiles (tile_count m.0.0.siz) m.0.0.cod m.1)) _ tiles s2 (λ all s3 s2.
+    refuse_then (ltb most_packets (packets_of m.0.0.siz all)) Limit _ tiles s2 (λ some s2.
+    let f = found_fields bytes m fits s1 in
+    let siz = f.siz in
+    let segments = f.segments in
+    let main = main_of siz segments in
+    let from : parts_from (length bytes) main bytes m.0.1 (tiles_said siz segments []) ≡ Ok all =
+    ap (λ (x : List TileFields). parts_from (length bytes) main bytes m.0.1 x) (sym (blank_said siz segments))
+    ∙ ap (λ (x : List Coding). parts_from (length bytes) main bytes m.0.1 (blank_tiles (tile_count siz) main.cod x)) (sym f.codings)
+    ∙ ap (λ (x : Main). parts_from (length bytes) x bytes m.0.1 (blank_tiles (tile_count x.siz) x.cod m.1)) (sym f.main) ∙ s3 in
+    let at : m.0.1 ≡ length (main_text siz segments) + 0 = omega (arith, f.at) in
+    let g = found_parts (length bytes) siz segments bytes m.0.1 [] all fits f.is.size.few_components (none_read siz segments) tt at f.text from in
+    let same : all ≡ tiles = ok_is all tiles s2 in
+    let h-is : head_record m.0.0.siz tiles ≡ h = ok_is (head_record m.0.0.siz tiles) h e in
+    let tree = tree_of siz segments g.parts in
+    let low : packets_of m.0.0.siz all ≤ most_packets = ltb-false _ _ some in
+    let says : h ≡ headers_of tree = sym h-is ∙ ap (λ (x : Main). head_record x.siz tiles) f.main ∙ ap (head_record siz) (sym same ∙ g.says) in
     record {
-      tree = tree_of siz segments p;
-      spelled = record {
-        header = f.2;
-        parts = record { some = lit< tt; each = (is_part, tt); closed = tt; numbered = numbered p first };
-        text = text;
-      };
+      tree = tree;
+      spelled = record { header = f.is; parts = g.are; text = g.text };
       says = says;
-      page = page;
-      one_part = refl;
-      silent = silent;
-    }
-    )))
-
-one_part : (parts : List Part) → length parts ≡ 1 → (p : Part) × (parts ≡ p ∷ [])
-one_part [] e = absurd (omega arith)
-one_part (p ∷ []) e = (p, refl)
-one_part (p ∷ q ∷ parts) e = absurd (omega arith)
-
-part_begins : (p : Part) (rest : List ℕ) → (x : List ℕ) × (part_text p ++ rest ≡ marker_text sot ++ x)
-unfolding part_text
-part_begins p rest = (drop 2 (part_text p ++ rest), refl)
-
-pub read_again : (bytes : List ℕ) (siz : Siz) (segments : List Segment) (p : Part) → IsMain siz segments → is_page (main_of siz segments) ≡ true → IsPart siz p
-    → is_silent (head_of p.segments) ≡ true → p.number ≡ 0 → bytes ≡ codestream_text (tree_of siz segments p) → headers_at bytes ≡ Ok (headers_of (tree_of siz segments p))
-unfolding headers_at codestream_text
-read_again bytes siz segments p is_main page is_part silent first text =
-    let n = length (main_text siz segments) in
-    let closing = marker_text eoc in
-    let body = part_text p ++ closing in
-    let whole : bytes ≡ main_text siz segments ++ body = text ∙ ap (λ (x : List ℕ). main_text siz segments ++ (x ++ closing)) (append-nil (part_text p)) in
-    let starts = part_begins p closing in
-    let begins : BeginsMain bytes siz segments = record { others = starts.0; text = whole ∙ ap (λ (x : List ℕ). main_text siz segments ++ x) starts.1 } in
-    let s1 = only_main bytes siz segments is_main begins in
-    let after : drop n bytes ≡ body = ap (drop n) whole ∙ drop_at (main_text siz segments) body n refl in
-    let begins_part : BeginsWith (drop n bytes) p = record { others = closing; text = after; last = λ _. refl } in
-    let s2 = only_part siz nothing_seen (drop n bytes) p is_main.size.few_components is_part (first ∙ sym (none_seen p.tile)) begins_part in
-    let end = (place_of p).end in
-    let size : length (part_text p) ≡ end = part_text_length p in
-    let last : drop (n + end) bytes ≡ closing = sym (drop-drop end n bytes) ∙ ap (drop end) after ∙ drop_at (part_text p) closing end size in
-    let len : length bytes ≡ n + end + 2 = ap (λ (x : List ℕ). length x) whole ∙ omega (arith, size, length-append (main_text siz segments) body, length-append (part_text p) closing) in
-    let s3 = end_again bytes (n + end) last (omega (arith, len)) in
-    let r1 = main_again bytes (main_of siz segments, n) s1 page in
-    let r2 = part_again siz (drop n bytes) (place_of p) s2 silent in
-    let one : tile_count siz ≡ 1 = page_one siz segments is_main.size page in
-    let tile : p.tile ≡ 0 = omega (arith, is_part.tile, one) in
-    rw (r1, r2, s3) (ap Ok (sym (tree_headers siz segments p one tile (no_codings p silent))))
-
-pub only_headers : (bytes : List ℕ) (h : Headers) → IsHeaders bytes h → headers_at bytes ≡ Ok h
-only_headers bytes h is =
-    let t = is.tree in
-    let parts = is.spelled.parts in
-    let one = one_part t.parts is.one_part in
-    let p = one.0 in
-    let tree = tree_of t.siz t.segments p in
-    let tree-is : t ≡ tree = ap (λ (ps : List Part). record t { parts = ps }) one.1 in
-    let each = subst (λ (ps : List Part). AllByRecursion (IsPart t.siz) ps) one.1 parts.each in
-    let numbers = subst (λ (ps : List Part). map (λ (q : Part). q.number) (of_tile p.tile ps) ≡ range_with_len 0 (length (of_tile p.tile ps))) one.1 (parts.numbered p.tile) in
-    let first : p.number ≡ 0 = first_number p numbers in
-    let silent : is_silent (head_of p.segments) ≡ true = subst (λ (ps : List Part). is_silent (head_of (head_segments ps)) ≡ true) one.1 is.silent in
-    let read = read_again bytes t.siz t.segments p is.spelled.header is.page each.0 silent first (is.spelled.text ∙ ap codestream_text tree-is) in
-    read ∙ ap Ok (sym (is.says ∙ ap headers_of tree-is))
-
-pub siz_of_headers : (bytes : List ℕ) (h : Headers) → IsHeaders bytes h → IsSiz h.siz
-unfolding headers_of
-siz_of_headers bytes h is = subst IsSiz (sym (ap (λ (k : Headers). k.siz) is.says)) is.spelled.header.size
-
-abbrev one_tile : Cod → ℕ × ℕ → List TileFields
-one_tile c place = record { cod = c; data_places = place ∷ [] } ∷ []
-
--- what the headers of a page look like
-pub record ArePageHeaders (bytes : List ℕ) (h : Headers) : Type 0 where
-  pub place : ℕ × ℕ
-  pub tiles : h.tiles ≡ record { cod = page_cod; data_places = place ∷ [] } ∷ []
-  pub siz : h.siz ≡ page_siz h.siz.x1 h.siz.y1
-  pub wide : 0 < h.siz.x1
-  pub high : 0 < h.siz.y1
-  pub begins : take 2 bytes ≡ marker_text soc
-
-main_begins : (siz : Siz) (segments : List Segment) (rest : List ℕ) → take 2 (main_text siz segments ++ rest) ≡ marker_text soc
-unfolding main_text
-main_begins siz segments rest = refl
-
-pub page_headers : (bytes : List ℕ) (h : Headers) → IsHeaders bytes h → ArePageHeaders bytes h
-unfolding codestream_text
-page_headers bytes h is =
-    let t = is.tree in
-    let main = is.spelled.header in
-    let parts = is.spelled.parts in
-    let w = t.siz.x1 in
-    let height = t.siz.y1 in
-    let one = one_part t.parts is.one_part in
-    let p = one.0 in
-    let tree-is : t ≡ tree_of t.siz t.segments p = ap (λ (ps : List Part). record t { parts = ps }) one.1 in
-    let each = subst (λ (ps : List Part). AllByRecursion (IsPart t.siz) ps) one.1 parts.each in
-    let page = page_main_is (main_of t.siz t.segments) is.page in
-    let fields = page.0.fields in
-    let silent : is_silent (head_of p.segments) ≡ true = subst (λ (ps : List Part). is_silent (head_of (head_segments ps)) ≡ true) one.1 is.silent in
-    let x0 : t.siz.x0 ≡ 0 = ap (λ (s : Siz). s.x0) fields in
-    let y0 : t.siz.y0 ≡ 0 = ap (λ (s : Siz). s.y0) fields in
-    let wide : 0 < w = omega (arith, main.size.wide, x0) in
-    let high : 0 < height = omega (arith, main.size.high, y0) in
-    let single : tile_count t.siz ≡ 1 = ap tile_count fields ∙ page_tiles w height wide high in
-    let tile : p.tile ≡ 0 = omega (arith, each.0.tile, single) in
-    let headers-is : h ≡ one_tile_headers t.siz (main_of t.siz t.segments).cod (length (main_text t.siz t.segments)) (place_of p) =
-    is.says ∙ ap headers_of tree-is ∙ tree_headers t.siz t.segments p single tile (no_codings p silent) in
-    let siz-is : h.siz ≡ t.siz = ap (λ (k : Headers). k.siz) headers-is in
-    let cod-is : (main_of t.siz t.segments).cod ≡ page_cod = page.1 in
-    let place : ℕ × ℕ = (length (main_text t.siz t.segments) + (place_of p).start, length (main_text t.siz t.segments) + (place_of p).end) in
-    let tiles-is : h.tiles ≡ record { cod = page_cod; data_places = place ∷ [] } ∷ [] =
-    ap (λ (k : Headers). k.tiles) headers-is ∙ ap (λ (c : Cod). one_tile c place) cod-is in
-    record {
-      place = place;
-      tiles = tiles-is;
-      siz = siz-is ∙ fields ∙ ap (λ (s : Siz). page_siz s.x1 s.y1) (sym siz-is);
-      wide = subst (λ (s : Siz). 0 < s.x1) (sym siz-is) wide;
-      high = subst (λ (s : Siz). 0 < s.y1) (sym siz-is) high;
-      begins = ap (take 2) is.spelled.text ∙ main_begins t.siz t.segments _;
-    }
+      main_planes = f.planes;
+      main_few = f.few;
+      planes = λ t c lt less. planes_all siz segments (of_tile t g.parts) (g.read.planes t) f.planes c less;
+      few = subst (λ (x : Headers). packets_of x.siz x.tiles ≤ most_packets) h-is (subst (λ (x : List TileFields). packets_of m.0.0.siz x ≤ most_packets) same low);
+    }))))

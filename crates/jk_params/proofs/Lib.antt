@@ -1,3 +1,12 @@
 pub mod CodingLaws
-pub mod PageLaws
+pub mod LoopLaws
+pub mod TableLaws
+pub mod StepLaws
+pub mod BlankLaws
+pub mod GoodLaws
+pub mod PlacesLaws
+pub mod PartsLaws
 pub mod HeadersLaws
+pub mod HeadersAgain
+pub mod SoundLaws
+pub mod ProfileLaws

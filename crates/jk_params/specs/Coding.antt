@@ -1,6 +1,6 @@
 -- The coding of a tile-component (T.800 A.6, E.1): which segments go before others, and how many magnitude planes a sub-band has.
-use Rattle.std.specs.Prelude.{◌≡◌, ℕ, ◌+◌, ◌*◌, ◌≤◌, ◌==◌, ◌||◌, min, nat_lt, List, [], ◌++◌, length, map, take, replicate, Option, option_map, Result, Ok, if◌then◌else◌}
-use Rattle.std.specs.List.{list_any, AllByRecursion}
+use Rattle.std.specs.Prelude.{◌≡◌, ℕ, zero, suc, ◌+◌, ◌*◌, ◌≤◌, ◌==◌, ◌||◌, min, nat_lt, List, [], ◌∷◌, ◌++◌, length, map, take, replicate, Option, Some, option_map, Result, Ok, if◌then◌else◌}
+use Rattle.std.specs.List.{list_any, AllByRecursion, range_with_len}
 use Rattle.jk_math.specs.Answer.{◌>>=◌, refuse}
 use Rattle.jk_math.specs.declared.fault.Fault.{Fault}
 use Rattle.jk_math.specs.declared.fault.Fault.TheVariants.{BadValue, Limit}
@@ -9,8 +9,8 @@ use Rattle.jk_marks.specs.declared.segments.CodingStyle.{CodingStyle}
 use Rattle.jk_marks.specs.declared.segments.Quantisation.{Quantisation}
 use Rattle.jk_marks.specs.declared.head.TileHead.{TileHead}
 use Rattle.jk_marks.specs.declared.main_header.Main.{Main}
-use Rattle.jk_marks.specs.Segments.{Segment, codings, quantisations, styles_of, steps_of, quantisation_of}
-use Rattle.jk_marks.specs.Codestream.{first, head_of, given_for, or_else, no_coding, no_quantisation}
+use Rattle.jk_marks.specs.Segments.{Segment, IsStyle, codings, quantisations, styles_of, steps_of, quantisation_of}
+use Rattle.jk_marks.specs.Codestream.{first, head_of, given_for, or_else, no_coding, no_quantisation, ForGiven}
 
 -- The coding style of component i: the tile's COC goes before its COD, the COD before the COC of the main header, and that before its COD.
 abbrev pub style_for : (main head : List Segment) → ℕ → CodingStyle
@@ -70,3 +70,23 @@ head_or_none head = or_else (head_of []) head
 
 abbrev pub coding_at : Main → Option TileHead → ℕ → Result Coding Fault
 coding_at main head i = planes_at (coding_with (style_in main (head_or_none head) i) (quantisation_in main (head_or_none head) i))
+
+-- the codings of all components, by the segments
+abbrev pub codings_of : ℕ → (main head : List Segment) → List Coding
+codings_of components main head = map (coding_of main head) (range_with_len 0 components)
+
+-- the codings of so many components more, the next of which is c, behind those that are done
+unfoldable pub codings_from : Main → TileHead → (more c : ℕ) → List Coding → Result (List Coding) Fault
+codings_from main head zero c done = Ok done
+codings_from main head (suc more) c done = coding_at main (Some head) c >>= λ k. codings_from main head more (c + 1) (done ++ k ∷ [])
+
+-- the codings of all components of a tile whose first header says this
+abbrev pub codings_at : Main → TileHead → Result (List Coding) Fault
+codings_at main head = codings_from main head main.siz.components 0 []
+
+-- The coding styles of a main header and a tile's first header are such.
+pub record HaveStyles (main : Main) (head : TileHead) : Type 0 where
+  pub main_cod : IsStyle main.cod.style
+  pub main_coc : AllByRecursion (ForGiven IsStyle) main.coc
+  pub head_cod : ForGiven (λ c. IsStyle c.style) head.cod
+  pub head_coc : AllByRecursion (ForGiven IsStyle) head.coc

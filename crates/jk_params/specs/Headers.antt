@@ -1,17 +1,22 @@
 -- What the headers of a codestream say (T.800 A.6): the image and tile size, and for each tile its coding and where its data stand.
-use Rattle.std.specs.Prelude.{◌≡◌, ℕ, ◌+◌, List, [], ◌∷◌, ◌++◌, length, map, ◌==◌, true, if◌then◌else◌}
-use Rattle.std.specs.List.{flat_map, range_with_len}
+use Rattle.std.specs.Prelude.{◌≡◌, ℕ, zero, suc, ◌+◌, ◌^◌, ◌<◌, ◌≤◌, List, [], ◌∷◌, ◌++◌, length, map, slice_index_or, ◌==◌, if◌then◌else◌}
+use Rattle.std.specs.List.{flat_map, range_with_len, AllByRecursion}
 use Rattle.jk_marks.specs.declared.siz.Siz.{Siz}
 use Rattle.jk_marks.specs.declared.segments.Cod.{Cod}
-use Rattle.jk_params.specs.declared.headers.Codestream.{Codestream}
-use Rattle.jk_marks.specs.Siz.{tile_count}
+use Rattle.jk_marks.specs.declared.coding.Coding.{Coding}
+use Rattle.jk_marks.specs.declared.main_header.Main.{Main}
+use Rattle.jk_marks.specs.Siz.{IsSiz, tile_count}
 use Rattle.jk_marks.specs.Segments.{Segment, segment_text, codings}
-use Rattle.jk_marks.specs.Codestream.{Part, Tree, main_text, main_of, head_of, part_length, of_tile, no_coding, or_else, first, IsCodestream}
-use Rattle.jk_params.specs.Page.{is_page, is_silent}
+use Rattle.jk_marks.specs.Codestream.{Part, Tree, main_text, part_length, of_tile, no_coding, or_else, first, head_of, IsCodestream}
+use Rattle.jk_geom.specs.Rectangles.{tile_area}
+use Rattle.jk_geom.specs.TileShapes.{AreCodings}
+use Rattle.jk_geom.specs.Counts.{packet_number}
+use Rattle.jk_params.specs.Coding.{coding_of, codings_of, HasPlanes, HaveStyles}
 
--- a tile: its COD, and the places of the data of its parts in the codestream
+-- a tile: its COD, the codings of its components, and the places of the data of its parts in the codestream
 pub record TileFields : Type 0 where
   pub cod : Cod
+  pub codings : List Coding
   pub data_places : List (ℕ × ℕ)
 
 pub record Headers : Type 0 where
@@ -30,25 +35,79 @@ abbrev pub head_segments : List Part → List Segment
 head_segments [] = []
 head_segments (p ∷ parts) = p.segments
 
--- the fields of a tile: its own COD before that of the main header
-abbrev pub fields_of : Tree → ℕ → TileFields
+-- the COD of a tile: its own before that of the main header
+abbrev pub cod_for : (main head : List Segment) → Cod
+cod_for main head = or_else no_coding (first (codings head ++ codings main))
+
+-- the fields of a tile
+unfoldable pub fields_of : Tree → ℕ → TileFields
 fields_of tree t = record {
-  cod = or_else no_coding (first (codings (head_segments (of_tile t tree.parts)) ++ codings tree.segments));
+  cod = cod_for tree.segments (head_segments (of_tile t tree.parts));
+  codings = codings_of tree.siz.components tree.segments (head_segments (of_tile t tree.parts));
   data_places = places_from (length (main_text tree.siz tree.segments)) tree.parts t;
 }
 
 unfoldable pub headers_of : Tree → Headers
 headers_of tree = record { siz = tree.siz; tiles = map (fields_of tree) (range_with_len 0 (tile_count tree.siz)) }
 
--- The headers of a codestream. Today they are those of a page.
+-- stands where a tile isn't
+abbrev pub no_fields : TileFields
+no_fields = record { cod = no_coding; codings = []; data_places = [] }
+
+-- the fields of tile t
+abbrev pub tile_in : List TileFields → ℕ → TileFields
+tile_in tiles t = slice_index_or tiles t no_fields
+
+-- the sum of f over the numbers below n
+unfoldable pub total : (ℕ → ℕ) → ℕ → ℕ
+total f zero = 0
+total f (suc n) = total f n + f n
+
+-- how many packets the tiles of an image have where all have these layers and codings
+abbrev pub packets_alike : Siz → (layers : ℕ) → List Coding → ℕ
+packets_alike siz layers codings = total (λ t. packet_number (tile_area siz t) layers codings) (tile_count siz)
+
+-- how many packets the tiles of these fields have
+abbrev pub packets_of : Siz → List TileFields → ℕ
+packets_of siz tiles = total (λ t. packet_number (tile_area siz t) (tile_in tiles t).cod.layers (tile_in tiles t).codings) (tile_count siz)
+
+-- how many packets a codestream may have
+abbrev pub most_packets : ℕ
+most_packets = 2 ^ 24
+
+-- The headers of a codestream: each coding has magnitude planes, and there aren't too many packets, neither by the main
+-- header alone nor by the tiles' own headers.
 pub record IsHeaders (bytes : List ℕ) (h : Headers) : Type 0 where
   pub tree : Tree
   pub spelled : IsCodestream bytes tree
   pub says : h ≡ headers_of tree
-  pub page : is_page (main_of tree.siz tree.segments) ≡ true
-  pub one_part : length tree.parts ≡ 1
-  pub silent : is_silent (head_of (head_segments tree.parts)) ≡ true
+  pub main_planes : (c : ℕ) → c < tree.siz.components → HasPlanes (coding_of tree.segments [] c)
+  pub main_few : packets_alike tree.siz (cod_for tree.segments []).layers (codings_of tree.siz.components tree.segments []) ≤ most_packets
+  pub planes : (t c : ℕ) → t < tile_count tree.siz → c < tree.siz.components → HasPlanes (coding_of tree.segments (head_segments (of_tile t tree.parts)) c)
+  pub few : packets_of h.siz h.tiles ≤ most_packets
 
--- what the program keeps of them, as headers
-abbrev pub view : Codestream → Headers
-view c = record { siz = c.siz; tiles = record { cod = c.cod; data_places = (c.start, c.end) ∷ [] } ∷ [] }
+-- the packets of each tile can be counted
+abbrev pub AreCounted : List TileFields → Type 0
+AreCounted tiles = (t : ℕ) → t < length tiles → (1 ≤ (tile_in tiles t).cod.layers) × AreCodings (tile_in tiles t).codings
+
+-- A main header of the profile: its size, a layer or more, its coding styles.
+pub record IsGood (main : Main) : Type 0 where
+  pub siz : IsSiz main.siz
+  pub layers : 1 ≤ main.cod.layers
+  pub styles : HaveStyles main (head_of [])
+
+-- the fields of a tile in a codestream of a size
+pub record AreFields (components size : ℕ) (f : TileFields) : Type 0 where
+  pub some_layers : 1 ≤ f.cod.layers
+  pub few_layers : f.cod.layers < 2 ^ 16
+  pub codings : AreCodings f.codings
+  pub all : length f.codings ≡ components
+  pub planes : AllByRecursion HasPlanes f.codings
+  pub places : AllByRecursion (λ p. (p.0 ≤ p.1) × (p.1 ≤ size)) f.data_places
+
+-- What holds of the headers of a codestream of a size.
+pub record AreHeaders (size : ℕ) (h : Headers) : Type 0 where
+  pub siz : IsSiz h.siz
+  pub tiles : length h.tiles ≡ tile_count h.siz
+  pub each : (t : ℕ) → t < tile_count h.siz → AreFields h.siz.components size (tile_in h.tiles t)
+  pub few : packets_of h.siz h.tiles ≤ most_packets

@@ -1,45 +1,83 @@
 -- Reading the headers of a codestream from left to right, with the first fault that is met.
-use Rattle.std.specs.Prelude.{ℕ, ◌+◌, List, [], ◌∷◌, length, drop, not, ◌==◌, Result, Ok}
+use Rattle.std.specs.Prelude.{ℕ, zero, suc, ◌+◌, Bool, List, [], ◌∷◌, ◌++◌, length, map, replicate, drop, not, ◌==◌, nat_lt, ◌&&◌, slice_set, if◌then◌else◌, Result, Ok, Err}
 use Rattle.jk_math.specs.Answer.{◌>>=◌, refuse}
 use Rattle.jk_math.specs.declared.fault.Fault.{Fault}
-use Rattle.jk_math.specs.declared.fault.Fault.TheVariants.{NotYet, BadMarker, SurplusBytes}
-use Rattle.jk_marks.specs.declared.siz.Siz.{Siz}
+use Rattle.jk_math.specs.declared.fault.Fault.TheVariants.{BadMarker, SurplusBytes, Limit, Truncated}
+use Rattle.jk_marks.specs.declared.coding.Coding.{Coding}
+use Rattle.jk_marks.specs.declared.segments.Cod.{Cod}
 use Rattle.jk_marks.specs.declared.main_header.Main.{Main}
 use Rattle.jk_marks.specs.declared.tile_part.TilePart.{TilePart}
 use Rattle.jk_marks.specs.Markers.{sot, eoc}
 use Rattle.jk_marks.specs.Place.{closed}
+use Rattle.jk_marks.specs.Siz.{tile_count}
+use Rattle.jk_marks.specs.Codestream.{head_of, or_else}
 use Rattle.jk_marks.specs.Reading.{number}
 use Rattle.jk_marks.specs.HeaderReading.{main_at, part_at}
-use Rattle.jk_params.specs.Page.{is_page, is_silent}
-use Rattle.jk_params.specs.Headers.{Headers}
+use Rattle.jk_params.specs.Coding.{codings_at}
+use Rattle.jk_params.specs.Headers.{Headers, TileFields, tile_in, packets_alike, packets_of, most_packets}
 
--- the main header of a page
-unfoldable pub page_main_at : List ℕ → Result (Main × ℕ) Fault
-page_main_at bytes = do
-  main ← main_at bytes
-  _ ← refuse (not (is_page main.0)) NotYet
-  Ok main
-
--- the first tile-part, whose header says nothing of the coding
-unfoldable pub silent_part_at : Siz → List ℕ → Result TilePart Fault
-silent_part_at siz bytes = do
-  part ← part_at siz (0 ∷ []) bytes
-  _ ← refuse (not (is_silent part.head)) NotYet
-  Ok part
-
--- EOC, which is the end
-unfoldable pub end_at : List ℕ → ℕ → Result (Unit {0}) Fault
-end_at bytes at = do
+-- Whether the codestream ends at a place: EOC, which is the end, or SOT, which begins a tile-part.
+unfoldable pub ends_at : List ℕ → ℕ → Result Bool Fault
+ends_at bytes at = do
   marker ← number 2 (closed bytes at)
-  _ ← refuse (marker.0 == sot) NotYet
-  _ ← refuse (not (marker.0 == eoc)) BadMarker
-  _ ← refuse (not (length marker.1.rest == 0)) SurplusBytes
-  Ok tt
+  _ ← refuse (not (marker.0 == sot) && not (marker.0 == eoc)) BadMarker
+  _ ← refuse (not (marker.0 == sot) && not (length marker.1.rest == 0)) SurplusBytes
+  Ok (not (marker.0 == sot))
 
--- the main header, one tile-part, and the end
+-- where the data of a part stand that begins at a place
+abbrev pub place_at : ℕ → TilePart → ℕ × ℕ
+place_at at part = (at + part.start, at + part.end)
+
+-- the fields of a tile with one place of data more
+abbrev pub with_place : TileFields → ℕ × ℕ → TileFields
+with_place f place = record f { data_places = f.data_places ++ place ∷ [] }
+
+-- the fields of a tile with another coding
+abbrev pub with_coding : TileFields → Cod → List Coding → TileFields
+with_coding f cod codings = record { cod = cod; codings = codings; data_places = f.data_places }
+
+-- The tiles with one part more that begins at a place; the first part of a tile says its coding.
+unfoldable pub tiles_with : Main → ℕ → TilePart → List TileFields → Result (List TileFields) Fault
+tiles_with main at part tiles =
+    if part.part == 0
+    then (codings_at main part.head >>= λ ks. Ok (slice_set tiles part.tile (with_place (with_coding (tile_in tiles part.tile) (or_else main.cod part.head.cod) ks) (place_at at part))))
+    else Ok (slice_set tiles part.tile (with_place (tile_in tiles part.tile) (place_at at part)))
+
+-- how many parts of each tile came so far
+abbrev pub parts_seen : List TileFields → List ℕ
+parts_seen tiles = map (λ f. length f.data_places) tiles
+
+-- the tile-parts from a place on, at most k of them, and the end behind them
+unfoldable pub parts_from : ℕ → Main → List ℕ → ℕ → List TileFields → Result (List TileFields) Fault
+parts_from zero main bytes at tiles = Err Truncated
+parts_from (suc k) main bytes at tiles =
+    part_at main.siz (parts_seen tiles) (drop at bytes)
+    >>= λ part. tiles_with main at part tiles
+    >>= λ more. ends_at bytes (at + part.end)
+    >>= λ ends. if ends then Ok more else parts_from k main bytes (at + part.end) more
+
+-- tiles of which no part came: what the main header says
+abbrev pub blank_tiles : ℕ → Cod → List Coding → List TileFields
+blank_tiles n cod codings = replicate n record { cod = cod; codings = codings; data_places = [] }
+
+-- the main header and its length, and the codings that it says, which make not too many packets
+unfoldable pub main_fields_at : List ℕ → Result ((Main × ℕ) × List Coding) Fault
+main_fields_at bytes = do
+  main ← main_at bytes
+  codings ← codings_at main.0 (head_of [])
+  _ ← refuse (nat_lt most_packets (packets_alike main.0.siz main.0.cod.layers codings)) Limit
+  Ok (main, codings)
+
+-- the tile-parts and the end, after which there are not too many packets
+unfoldable pub tiles_at : Main → List ℕ → ℕ → List TileFields → Result (List TileFields) Fault
+tiles_at main bytes at blank = do
+  tiles ← parts_from (length bytes) main bytes at blank
+  _ ← refuse (nat_lt most_packets (packets_of main.siz tiles)) Limit
+  Ok tiles
+
+-- the headers of a codestream
 unfoldable pub headers_at : List ℕ → Result Headers Fault
 headers_at bytes = do
-  main ← page_main_at bytes
-  part ← silent_part_at main.0.siz (drop main.1 bytes)
-  _ ← end_at bytes (main.1 + part.end)
-  Ok (record { siz = main.0.siz; tiles = record { cod = main.0.cod; data_places = (main.1 + part.start, main.1 + part.end) ∷ [] } ∷ [] })
+  m ← main_fields_at bytes
+  tiles ← tiles_at m.0.0 bytes m.0.1 (blank_tiles (tile_count m.0.0.siz) m.0.0.cod m.1)
+  Ok (record { siz = m.0.0.siz; tiles = tiles })

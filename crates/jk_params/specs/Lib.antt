@@ -2,9 +2,10 @@ pub use Rattle.jk_math.specs.Answer
 pub use Rattle.jk_math.specs.Picture
 pub use Rattle.jk_marks.specs.Siz
 pub use Rattle.jk_marks.specs.Codestream
+pub use Rattle.jk_geom.specs.TileShapes
 pub mod Coding
-pub mod Page
 pub mod Headers
+pub mod Tables
 pub mod HeadersReading
 pub mod Tiling
 pub mod Profile

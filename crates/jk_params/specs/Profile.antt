@@ -1,13 +1,19 @@
 -- The images and parameters that are written.
-use Rattle.std.specs.Prelude.{ℕ, ◌+◌, ◌*◌, ◌^◌, Bool, true, not, ◌&&◌, ◌||◌, ◌==◌, nat_lt, nat_le, List, length, drop, Option, Some, None, option_map}
+use Rattle.std.specs.Prelude.{◌≡◌, ℕ, ◌+◌, ◌*◌, ◌^◌, ◌≤◌, Bool, true, not, ◌&&◌, ◌||◌, ◌==◌, nat_lt, nat_le, List, [], length, drop, replicate, Option, Some, None, option_map}
 use Rattle.std.specs.List.{list_all}
 use Rattle.jk_math.specs.Picture.{Picture}
 use Rattle.jk_marks.specs.declared.siz.Siz.{Siz}
 use Rattle.jk_marks.specs.declared.segments.Cod.{Cod}
+use Rattle.jk_marks.specs.declared.coding.Coding.{Coding}
+use Rattle.jk_marks.specs.Siz.{IsSiz}
+use Rattle.jk_marks.specs.Coding.{IsCoding}
+use Rattle.jk_marks.specs.Segments.{IsCod}
 use Rattle.jk_params.specs.declared.parameters.Parameters.{Parameters}
 use Rattle.jk_params.specs.declared.parameters.Container.{Container}
 use Rattle.jk_params.specs.declared.parameters.Container.TheVariants.{Raw, Jp2}
 use Rattle.jk_params.specs.Tiling.{first_tile, tile_side, tiles_between}
+use Rattle.jk_params.specs.Coding.{coding_with}
+use Rattle.jk_params.specs.Headers.{packets_alike, most_packets}
 
 -- the width and the height of a tile, where they are given
 abbrev pub tile_width : Parameters → Option ℕ
@@ -71,10 +77,33 @@ abbrev pub tiles_of : Option (ℕ × ℕ) → Picture → ℕ
 tiles_of t p =
     tiles_between (option_map (λ s. s.0) t) p.x0 (p.x0 + p.width) * tiles_between (option_map (λ s. s.1) t) p.y0 (p.y0 + p.height)
 
--- whether the image is written with the parameters, the count of packets left out
+-- how each component is coded; the exponents say nothing of the packets
+abbrev pub coding_for : Parameters → Coding
+coding_for q = coding_with (cod_of q).style record { guard = 2; exponents = [] }
+
+-- how many packets that makes
+abbrev pub packets_for : Parameters → Picture → ℕ
+packets_for q p = packets_alike (siz_of p q) q.layers (replicate (length p.planes) (coding_for q))
+
+-- whether the image is written with the parameters
 unfoldable pub is_profile : Parameters → Picture → Bool
 is_profile q p =
     are_sizes q && are_precincts q.levels q.precincts.items && is_tile q.tile
     && (not q.colour || nat_le 3 (length p.planes))
     && is_contained q.container (length p.planes) p.signed
     && nat_le (tiles_of q.tile p) 65535
+    && nat_le (packets_for q p) most_packets
+
+-- What is written has a size, a coding that can be counted, and not too many packets.
+pub record IsWrittenBy (q : Parameters) (p : Picture) : Type 0 where
+  pub sizes : are_sizes q ≡ true
+  pub precincts : are_precincts q.levels q.precincts.items ≡ true
+  pub siz : IsSiz (siz_of p q)
+  pub cod : IsCod (length p.planes) (cod_of q)
+  pub coding : IsCoding (coding_for q)
+  pub few : packets_for q p ≤ most_packets
+  pub tile : is_tile q.tile ≡ true
+  pub tiles : nat_le (tiles_of q.tile p) 65535 ≡ true
+  pub contained : is_contained q.container (length p.planes) p.signed ≡ true
+  pub levels : q.levels ≤ 5
+  pub layers : (1 ≤ q.layers) × (q.layers ≤ 32)

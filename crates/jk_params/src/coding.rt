@@ -5,8 +5,9 @@ ghost use Rattle.std.specs.List.{list_any};
 ghost use Rattle.jk_marks.specs.Segments.{Segment};
 ghost use Rattle.jk_marks.specs.declared.siz.Siz.{Siz};
 ghost use Rattle.jk_marks.specs.Codestream.{main_of, head_of};
-ghost use Rattle.jk_params.specs.Coding.{every_precinct, style_in, quantisation_in, coding_with, coding_of, planes_at, head_or_none, coding_at, HasPlanes};
+ghost use Rattle.jk_params.specs.Coding.{every_precinct, style_in, quantisation_in, coding_with, coding_of, planes_at, head_or_none, coding_at, codings_at, HasPlanes};
 
+use jk_geom::Codings;
 use jk_marks::{Coding, CodingStyle, Main, Precincts, Quantisation, TileHead};
 use jk_math::Fault;
 
@@ -141,4 +142,16 @@ pub fn effective(main: &Main, head: Option<&TileHead>, component: u16) -> Result
         Some(head) => with_head(main, head, component),
         None => with_head(main, &TileHead::none(), component),
     }
+}
+
+/// The codings of all components of a tile whose first header says this.
+pub(crate) fn codings(main: &Main, head: &TileHead) -> Result<Codings, Fault>
+    requires { main.now.siz.components ≤ 4 }
+    ensures { result ≡ codings_at main.now head.now }
+{
+    let mut codings = Codings::none();
+    for component in 0..main.siz.components {
+        codings.push(with_head(main, head, component)?);
+    }
+    Ok(codings)
 }

@@ -1,14 +1,71 @@
 //! The headers of a codestream as a whole.
 
-use jk_marks::{Cod, Siz};
+ghost use Rattle.std.specs.Prelude.{◌≡◌, ◌<◌, length};
+ghost use Rattle.jk_params.specs.Headers.{tile_in};
 
-/// What the headers of a codestream say, and where its data stand.
+use crate::table::Table;
+use jk_geom::Codings;
+use jk_marks::{Cod, Siz};
+use std::marker::Model;
+
+/// What the headers of a codestream say, and where the data of its tiles stand.
 #[derive(Debug, Drop)]
 pub struct Codestream {
-    pub siz: Siz,
-    pub cod: Cod,
-    /// Where the data of the tile begin in the codestream.
-    pub start: usize,
-    /// Where they end.
-    pub end: usize,
+    siz: Siz,
+    tiles: Table,
+}
+
+impl Model for Codestream {
+    ghost use Rattle.jk_params.specs.Headers.{Headers};
+
+    ghost Value = { Headers };
+
+    ghost view = { λ c. record { siz = c.siz; tiles = c.tiles } };
+}
+
+impl Codestream {
+    /// What these fields say.
+    pub(crate) fn new(siz: Siz, tiles: Table) -> Codestream
+        ensures { result ≡ record { siz = siz; tiles = tiles } }
+    {
+        Codestream { siz, tiles }
+    }
+
+    /// The image and tile size (T.800 A.5.1).
+    pub fn siz(&self) -> &Siz
+        ensures { result.now ≡ self.now.siz }
+    {
+        &self.siz
+    }
+
+    /// How many tiles there are.
+    pub fn tile_count(&self) -> usize
+        ensures { result ≡ length self.now.tiles }
+    {
+        self.tiles.len()
+    }
+
+    /// The coding style of a tile (T.800 A.6.1).
+    pub fn cod(&self, tile: usize) -> &Cod
+        requires { tile < length self.now.tiles }
+        ensures { result.now ≡ (tile_in self.now.tiles tile).cod }
+    {
+        self.tiles.cod(tile)
+    }
+
+    /// The codings of a tile's components.
+    pub fn codings(&self, tile: usize) -> &Codings
+        requires { tile < length self.now.tiles }
+        ensures { result.now ≡ (tile_in self.now.tiles tile).codings }
+    {
+        self.tiles.codings(tile)
+    }
+
+    /// Where the data of a tile's parts begin and end in the codestream, part by part.
+    pub fn data_places(&self, tile: usize) -> &[(usize, usize)]
+        requires { tile < length self.now.tiles }
+        ensures { result.now ≡ (tile_in self.now.tiles tile).data_places }
+    {
+        self.tiles.places(tile)
+    }
 }

@@ -2,13 +2,15 @@
 #![tactic(auto)]
 
 mod coding;
+mod count;
 mod headers;
-mod page;
 mod parameters;
 mod profile;
+mod table;
 mod walk;
 
 pub use coding::effective;
 pub use headers::Codestream;
 pub use parameters::{Container, Parameters};
+pub use profile::{codings_for, siz_of};
 pub use walk::read_codestream;

@@ -1,12 +1,20 @@
 //! Whether an image is written with parameters.
 
-ghost use Rattle.std.specs.Prelude.{◌≡◌, ◌+◌, ◌-◌, ◌*◌, ◌/◌, ◌<◌, ◌≤◌, ◌^◌, ℕ, IsTrue, Ok, Err, if◌then◌else◌, length, option_map, Option, nat_lt, nat_le, ◌&&◌, true};
+ghost use Rattle.std.specs.Prelude.{◌≡◌, ◌+◌, ◌-◌, ◌*◌, ◌/◌, ◌<◌, ◌≤◌, ◌^◌, ℕ, IsTrue, IfOk, Ok, Err, if◌then◌else◌, length, option_map, Option, nat_lt, nat_le, ◌&&◌, true, replicate};
 ghost use Rattle.std.specs.Option.{ForSome};
 ghost use Rattle.std.specs.List.{list_all};
-ghost use Rattle.jk_params.specs.Profile.{are_sizes, are_precincts, is_tile, is_contained, is_profile, tiles_of};
-ghost use Rattle.jk_params.specs.Tiling.{tiles_between};
+ghost use Rattle.jk_math.specs.Picture.{IsPicture};
+ghost use Rattle.jk_marks.specs.Siz.{IsSiz};
+ghost use Rattle.jk_geom.specs.TileShapes.{AreCodings};
+ghost use Rattle.jk_params.specs.Coding.{every_precinct};
+ghost use Rattle.jk_params.specs.Headers.{most_packets};
+ghost use Rattle.jk_params.specs.Profile.{siz_of, cod_of, coding_for, packets_for, are_sizes, are_precincts, is_tile, is_contained, is_profile, tiles_of, IsWrittenBy};
+ghost use Rattle.jk_params.specs.Tiling.{first_tile, tile_side, tiles_between};
 
+use crate::count::count_alike;
 use crate::parameters::{Container, Parameters};
+use jk_geom::Codings;
+use jk_marks::{Coding, Exponents, Precincts, Siz};
 use jk_math::{Fault, Image};
 
 /// Whether levels, layers and code-block sizes are within the profile.
@@ -72,6 +80,28 @@ fn container(container: Container, components: usize, signed: bool) -> bool
     }
 }
 
+/// Where the first tile of a side begins.
+fn first_tile(side: Option<u32>, start: u32) -> u32
+    requires { ForSome side (λ s. 0 < s) }
+    ensures value { result ≡ first_tile side start }
+    ensures below { result ≤ start }
+{
+    match side {
+        None => 0,
+        Some(side) => side * (start / side),
+    }
+}
+
+/// The side of a tile of an image that ends there.
+fn tile_side(side: Option<u32>, end: u32) -> u32
+    ensures { result ≡ tile_side side end }
+{
+    match side {
+        None => end,
+        Some(side) => side,
+    }
+}
+
 /// How many tiles of a side lie between the start of the first one and the end of the image.
 fn tiles(side: Option<u32>, start: u32, end: u32) -> u64
     requires some { ForSome side (λ s. (0 < s) × (s < 2 ^ 31)) }
@@ -83,34 +113,133 @@ fn tiles(side: Option<u32>, start: u32, end: u32) -> u64
     match side {
         None => 1,
         Some(side) => {
-            let first = side * (start / side);
+            let first = first_tile(Some(side), start);
             ((end - first) as u64 + side as u64 - 1) / side as u64
         }
     }
 }
 
+/// The width and the height of a tile, where they are given.
+fn sides(tile: Option<(u32, u32)>) -> (Option<u32>, Option<u32>)
+    requires { is_tile tile ≡ true }
+    ensures width { result.0 ≡ option_map (λ t. t.0) tile }
+    ensures height { result.1 ≡ option_map (λ t. t.1) tile }
+    ensures wide { ForSome result.0 (λ s. (0 < s) × (s < 2 ^ 31)) }
+    ensures high { ForSome result.1 (λ s. (0 < s) × (s < 2 ^ 31)) }
+{
+    match tile {
+        None => (None, None),
+        Some((width, height)) => (Some(width), Some(height)),
+    }
+}
+
 /// Whether the tiling has at most 65,535 tiles.
-fn are_few_tiles(sides: Option<(u32, u32)>, image: &Image) -> bool
-    requires { is_tile sides ≡ true }
-    ensures { result ≡ nat_le (tiles_of sides image.now) 65535 }
+fn are_few_tiles(tile: Option<(u32, u32)>, image: &Image) -> bool
+    requires { is_tile tile ≡ true }
+    ensures { result ≡ nat_le (tiles_of tile image.now) 65535 }
 {
     let (x0, y0) = (image.x0(), image.y0());
     let (x1, y1) = (x0 + image.width(), y0 + image.height());
-    let (width, height) = match sides {
-        None => (None, None),
-        Some((width, height)) => (Some(width), Some(height)),
-    };
+    let (width, height) = sides(tile);
     tiles(width, x0, x1) * tiles(height, y0, y1) <= 65535
+}
+
+/// The image and tile size segment that is written (T.800 A.5.1).
+#[tactic(auto, using(crate::proofs::ProfileLaws::siz_fits))]
+pub fn siz_of(image: &Image, parameters: &Parameters) -> Siz
+    requires tile { is_tile parameters.now.tile ≡ true }
+    requires few { nat_le (tiles_of parameters.now.tile image.now) 65535 ≡ true }
+    ensures value { result ≡ siz_of image.now parameters.now }
+    ensures siz { IsSiz result }
+    ensures picture { IsPicture image.now }
+{
+    let (x0, y0) = (image.x0(), image.y0());
+    let (x1, y1) = (x0 + image.width(), y0 + image.height());
+    let (width, height) = sides(parameters.tile);
+    Siz {
+        rsiz: 0,
+        x1,
+        y1,
+        x0,
+        y0,
+        tile_width: tile_side(width, x1),
+        tile_height: tile_side(height, y1),
+        tile_x0: first_tile(width, x0),
+        tile_y0: first_tile(height, y0),
+        components: image.planes().len() as u16,
+        depth: image.depth(),
+        signed: image.signed(),
+    }
+}
+
+/// The precinct sizes of each resolution.
+fn precinct_sizes(parameters: &Parameters) -> Precincts
+    requires { length parameters.now.precincts.items ≤ 11 }
+    ensures { result ≡ every_precinct (cod_of parameters.now).style }
+{
+    if parameters.precincts.is_empty() {
+        return Precincts::greatest((parameters.levels as usize + 1).min(11));
+    }
+    Precincts::new(&parameters.precincts)
+}
+
+/// How each component is coded. The exponents say nothing of the packets.
+fn coding(parameters: &Parameters) -> Coding
+    requires { length parameters.now.precincts.items ≤ 11 }
+    ensures { result ≡ coding_for parameters.now }
+{
+    Coding {
+        levels: parameters.levels,
+        xcb: parameters.xcb,
+        ycb: parameters.ycb,
+        precincts: precinct_sizes(parameters),
+        style: 0,
+        guard: 2,
+        exponents: Exponents::new(&[]),
+    }
+}
+
+/// How the components of an image are coded, so many of them, but for their exponents.
+#[tactic(auto, using(crate::proofs::ProfileLaws::codings_fit))]
+pub fn codings_for(parameters: &Parameters, components: usize) -> Codings
+    requires sizes { are_sizes parameters.now ≡ true }
+    requires precincts { are_precincts parameters.now.levels parameters.now.precincts.items ≡ true }
+    requires some { 1 ≤ components }
+    requires few { components ≤ 4 }
+    ensures value { result ≡ replicate components (coding_for parameters.now) }
+    ensures codings { AreCodings result }
+{
+    let mut codings = Codings::none();
+    for _ in 0..components {
+        codings.push(coding(parameters));
+    }
+    codings
+}
+
+/// Whether there are at most 2^24 packets.
+fn are_few_packets(image: &Image, parameters: &Parameters) -> bool
+    requires sizes { are_sizes parameters.now ≡ true }
+    requires precincts { are_precincts parameters.now.levels parameters.now.precincts.items ≡ true }
+    requires tile { is_tile parameters.now.tile ≡ true }
+    requires few { nat_le (tiles_of parameters.now.tile image.now) 65535 ≡ true }
+    ensures value { result ≡ nat_le (packets_for parameters.now image.now) most_packets }
+    ensures picture { IsPicture image.now }
+{
+    let siz = siz_of(image, parameters);
+    let codings = codings_for(parameters, siz.components as usize);
+    count_alike(&siz, parameters.layers, &codings) <= 1 << 24
 }
 
 impl Parameters {
     /// Whether the image is written with these parameters.
     ///
     /// BadParameters: a field outside the range that it names, an image that the container doesn't hold,
-    /// or more than 65,535 tiles.
+    /// more than 65,535 tiles, or more than 2^24 packets.
     #[tactic(auto, unfolding(crate::specs::Profile::is_profile))]
     pub fn check(&self, image: &Image) -> Result<(), Fault>
-        ensures { result ≡ (if is_profile self.now image.now then Ok tt else Err Fault.BadParameters) }
+        ensures exact { result ≡ (if is_profile self.now image.now then Ok tt else Err Fault.BadParameters) }
+        // What is within the profile has a size, and a coding that can be counted.
+        ensures sound { IfOk result (λ _. IsWrittenBy self.now image.now) }
     {
         let components = image.planes().len();
         if !sizes(self) || !precincts(self.levels, &self.precincts) {
@@ -123,6 +252,9 @@ impl Parameters {
             return Err(Fault::BadParameters);
         }
         if !tile(self.tile) || !are_few_tiles(self.tile, image) {
+            return Err(Fault::BadParameters);
+        }
+        if !are_few_packets(image, self) {
             return Err(Fault::BadParameters);
         }
         Ok(())

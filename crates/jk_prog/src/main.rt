@@ -3,6 +3,7 @@
 
 mod commands;
 mod files;
+mod options;
 mod run;
 
 use std::alloc::Global;

@@ -1,11 +1,9 @@
 //! What each command does.
 
-use crate::files;
+use crate::{files, options};
 use clap::ArgMatches;
 use jk_code::{decode, encode};
-use jk_marks::Order;
 use jk_math::{Fault, Image};
-use jk_params::{Container, Parameters};
 use std::alloc::Global;
 use std::rt::Files;
 
@@ -22,42 +20,17 @@ pub(crate) fn run<R: Files + Input + Print + AllocGlobal>(
     }
 }
 
-/// The parameters that the options ask for.
-///
-/// BadParameters: a number too large for its field.
-fn parameters(alloc: Global, line: &ArgMatches<'_>) -> Result<Parameters, Fault> {
-    let Ok(levels) = u8::try_from(line.get_one::<u32>("levels").unwrap_or(5)) else {
-        return Err(Fault::BadParameters);
-    };
-    let container = if line.get_flag("raw") {
-        Container::Raw
-    } else {
-        Container::Jp2
-    };
-    Ok(Parameters {
-        levels,
-        layers: 1,
-        order: Order::Lrcp,
-        tile: None,
-        xcb: 6,
-        ycb: 6,
-        precincts: Vec::new(alloc),
-        colour: false,
-        sop: false,
-        eph: false,
-        container,
-    })
-}
-
 /// `jk encode IN OUT`: the options first, then the input, the image, the encoding, the output.
 fn run_encode<R: Files + Input + Print + AllocGlobal>(
     rt: &R,
     alloc: Global,
     line: &ArgMatches<'_>,
 ) -> Result<(), Fault> {
-    let parameters = parameters(alloc, line)?;
+    let mut parameters = options::parameters(alloc, line)?;
+    let (x0, y0) = options::origin(line);
     let bytes = files::read(rt, alloc, line.get_str("IN").unwrap_or("-"))?;
-    let image = jk_pnm::read(alloc, &bytes)?;
+    let image = jk_pnm::read(alloc, &bytes)?.place(x0, y0)?;
+    parameters.colour = image.planes().len() == 3 && !line.get_flag("no-colour");
     let file = encode(alloc, &image, &parameters)?;
     files::write(rt, line.get_str("OUT").unwrap_or("-"), &file)
 }

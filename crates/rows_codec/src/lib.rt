@@ -2,6 +2,8 @@
 #![tactic(auto)]
 
 #[cfg(test)]
+mod geometry;
+#[cfg(test)]
 mod header_cases;
 #[cfg(test)]
 mod headers;

@@ -56,9 +56,12 @@ fn whole_page(rt: HostRuntime) -> Result<(), Fail> {
     assert_eq!(rt; (image.width(), image.height()), (300, 200));
     let file = encode(alloc, &image, &bare(alloc)).ok().ok_or("a file")?;
     assert_eq!(rt; file.len(), 82);
-    let headers = read_codestream(&file).ok().ok_or("headers")?;
-    assert_eq!(rt; (headers.siz.x1, headers.siz.y1), (300, 200));
-    assert_eq!(rt; (headers.start, headers.end), (79, 80));
+    let headers = read_codestream(alloc, &file).ok().ok_or("headers")?;
+    assert_eq!(rt; (headers.siz().x1, headers.siz().y1), (300, 200));
+    assert_eq!(rt; headers.tile_count(), 1);
+    assert_eq!(rt; *headers.data_places(0), *[(79, 80)].as_slice());
+    assert_eq!(rt; headers.cod(0).layers, 1);
+    assert_eq!(rt; headers.codings(0).as_slice().len(), 1);
     let back = decode(alloc, &file, 0).ok().ok_or("an image again")?;
     let again = jk_pnm::write(alloc, &back).ok().ok_or("a PGM file")?;
     assert!(rt; again[..] == pgm[..]);
@@ -181,9 +184,8 @@ fn refused_headers(rt: HostRuntime) -> Result<(), Fail> {
         (19, 1, Fault::BadValue),
         (58, 0, Fault::Unsupported),
         (8, 0x80, Fault::Limit),
-        // Signed samples, and a tile higher than the image: no page.
-        (42, 0x87, Fault::NotYet),
-        (31, 2, Fault::NotYet),
+        // A second component, which SIZ doesn't have room for.
+        (41, 2, Fault::BadLength),
     ] {
         let file = changed(alloc, &[MAIN, part], place, byte)?;
         assert_eq!(rt; decode(alloc, &file, 0).err(), Some(fault), "{place}");
@@ -240,7 +242,6 @@ fn parameters(rt: HostRuntime) -> Result<(), Fail> {
         ..bare(alloc)
     };
     assert_eq!(rt; tiles.check(&image), Ok(()));
-    assert_eq!(rt; encode(alloc, &image, &tiles).err(), Some(Fault::NotYet));
     Ok(())
 }
 

@@ -11,18 +11,18 @@ use jk_math::Rect;
 
 /// Numbers by chance, by a linear congruence modulo 2^64.
 #[derive(Drop)]
-pub struct Random {
+pub(crate) struct Random {
     state: u64,
 }
 
 impl Random {
     /// The numbers from a seed.
-    pub fn new(seed: u64) -> Random {
+    pub(crate) fn new(seed: u64) -> Random {
         Random { state: seed }
     }
 
     /// A number below `count`.
-    pub fn below(&mut self, count: u32) -> u32
+    pub(crate) fn below(&mut self, count: u32) -> u32
         requires { 0 < count }
         ensures { result < count }
     {
@@ -48,7 +48,7 @@ fn exponent(random: &mut Random, least: u8) -> u8
 }
 
 /// A coding with these precincts.
-pub fn coding(levels: u8, xcb: u8, ycb: u8, sizes: &[(u8, u8)]) -> Coding
+pub(crate) fn coding(levels: u8, xcb: u8, ycb: u8, sizes: &[(u8, u8)]) -> Coding
     requires levels { levels ≤ 10 }
     requires narrow { (2 ≤ xcb) × (xcb ≤ 6) }
     requires low { (2 ≤ ycb) × (ycb ≤ 6) }
@@ -97,7 +97,7 @@ fn any_codings(random: &mut Random, components: u32) -> Codings
 }
 
 /// The order of a number below 5.
-pub fn order(number: u32) -> Order {
+pub(crate) fn order(number: u32) -> Order {
     match number {
         0 => Order::Lrcp,
         1 => Order::Rlcp,
@@ -119,7 +119,7 @@ fn place(random: &mut Random) -> u32
 }
 
 /// A tile at an odd or even place, up to 40 wide and high, with 1 to 3 components and 1 to 3 layers.
-pub fn any_tile(random: &mut Random) -> TileShape
+pub(crate) fn any_tile(random: &mut Random) -> TileShape
     ensures { IsTileShape result }
 {
     let x0 = place(random);

@@ -12,7 +12,11 @@ returns-clause-found c =
     (λ p e. found_meaning c.args.bytes.now c.args.reduce p (λ i. omega (arith, c.type_inv.bytes i)) e)
 
 pub returns-clause-only : goal.returns-clause-only
-returns-clause-only c = λ p m. answers_same (λ i. i) c.meaning.result (meaning_at c.args.bytes.now c.args.reduce) (Ok p) c.meaning.ensures (only_meaning c.args.bytes.now c.args.reduce p m)
+returns-clause-only c =
+    λ p m. answers_same (λ i. i) c.meaning.result (meaning_at c.args.bytes.now c.args.reduce) (Ok p) c.meaning.ensures
+    (only_meaning c.args.bytes.now c.args.reduce p (λ i. omega (arith, c.type_inv.bytes i)) m)
 
 pub returns-clause-one : goal.returns-clause-one
-returns-clause-one c = λ p q m n. ok_is p q (sym (only_meaning c.args.bytes.now c.args.reduce p m) ∙ only_meaning c.args.bytes.now c.args.reduce q n)
+returns-clause-one c =
+    λ p q m n. ok_is p q (sym (only_meaning c.args.bytes.now c.args.reduce p (λ i. omega (arith, c.type_inv.bytes i)) m)
+    ∙ only_meaning c.args.bytes.now c.args.reduce q (λ i. omega (arith, c.type_inv.bytes i)) n)

@@ -1,21 +1,18 @@
-use Rattle.std.proofs.Common.{append_assoc, sym, subst}
-use Rattle.jk_marks.specs.Codestream.{IsWritten}
-use Rattle.jk_code.proofs.WrittenLaws.{main_written, written_means, text_parts}
+use Rattle.std.proofs.Common.{ℕ, List, append_assoc, sym, subst}
+use Rattle.jk_boxes.specs.Boxes.{Holds}
+use Rattle.jk_code.specs.Meaning.{MeansPicture}
+use Rattle.jk_code.proofs.WrittenLaws.{text_parts, written_means, written_bare}
 use Rattle.jk_code.proofs.encoding.codestream.Goals as goal
-
-pub write_main-requires : goal.write_main-requires
-write_main-requires c =
-    subst IsWritten (sym c.main_header-main.ensures.value) (main_written c.args.image.now c.args.parameters.now c.main_header-main.ensures.profile c.requires.page c.requires.plain)
 
 pub returns-clause-value : goal.returns-clause-value
 returns-clause-value c =
-    rw (c.in_ok-write_end.ensures.ok, c.in_ok-write_tile_part.ensures.ok, c.in_ok-write_main.ensures.ok, c.new-out.ensures.items, c.main_header-main.ensures.value, text_parts c.args.image.now c.args.parameters.now)
+    rw (c.in_ok-write_end.ensures.ok, c.in_ok-put_tiles.ensures.ok, c.in_ok-write_main.ensures.ok, c.new-out.ensures.items, c.main_header.ensures.value, text_parts c.args.image.now c.args.parameters.now)
     (simp append_assoc)
 
 pub returns-clause-means : goal.returns-clause-means
 returns-clause-means c =
-    (written_means c.write_end.new.out.items c.args.image.now c.args.parameters.now c.main_header-main.ensures.profile c.requires.page c.requires.plain (returns-clause-value c)).0
+    let p = c.args.image.now in
+    subst (λ (bytes : List ℕ). MeansPicture bytes 0 p) (sym (returns-clause-value c)) (written_means p c.args.parameters.now c.main_header.ensures.picture c.requires.profile c.requires.blank)
 
 pub returns-clause-bare : goal.returns-clause-bare
-returns-clause-bare c =
-    (written_means c.write_end.new.out.items c.args.image.now c.args.parameters.now c.main_header-main.ensures.profile c.requires.page c.requires.plain (returns-clause-value c)).1
+returns-clause-bare c = subst (λ (bytes : List ℕ). Holds bytes bytes) (sym (returns-clause-value c)) (written_bare c.args.image.now c.args.parameters.now)

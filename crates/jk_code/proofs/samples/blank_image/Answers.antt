@@ -10,8 +10,9 @@ use Rattle.jk_code.proofs.samples.blank_image.Goals as goal
 pub returns : goal.returns
 returns c =
     let s = c.args.siz.now in
-    let area = (s.x1 - s.x0) * (s.y1 - s.y0) in
+    let a = c.args.area.now in
+    let area = (a.x1 - a.x0) * (a.y1 - a.y0) in
     let fits : SFits w32 c.sample.result = search rules in
     let planes-is = c.in_ok-planes.ensures.value ∙ ap (λ (z : ℤ). replicate s.components (replicate area z)) (to_z-of_z w32 c.sample.result fits ∙ c.sample.ensures) in
-    let made = subst (λ (planes : List (List ℤ)). IsPicture (picture_with s planes) → c.new.result ≡ Ok (picture_with s planes)) planes-is c.new.ensures.made (blank_is_picture s c.requires) in
-    answers_due (λ i. i) c.new.result (blank s) made
+    let made = subst (λ (planes : List (List ℤ)). IsPicture (picture_with s a planes) → c.new.result ≡ Ok (picture_with s a planes)) planes-is c.new.ensures.made (blank_is_picture s a c.requires.siz c.requires.frame) in
+    answers_due (λ i. i) c.new.result (blank s a) made

@@ -1,17 +1,24 @@
-use Rattle.std.proofs.Common.{Ok, arith}
-use Rattle.jk_math.specs.Steps.{if_ok_exactly, exactly_same}
-use Rattle.jk_params.specs.Headers.{view}
+use Rattle.std.proofs.Common.{length, arith}
+use Rattle.jk_math.specs.Steps.{if_ok_answers, answers_same}
+use Rattle.jk_marks.proofs.Numbers.{AreBytes}
+use Rattle.jk_params.specs.Headers.{IsHeaders, AreHeaders}
 use Rattle.jk_params.specs.HeadersReading.{headers_at}
-use Rattle.jk_params.proofs.HeadersLaws.{found_headers, only_headers, siz_of_headers}
+use Rattle.jk_params.proofs.HeadersLaws.{found_headers}
+use Rattle.jk_params.proofs.HeadersAgain.{only_headers}
+use Rattle.jk_params.proofs.SoundLaws.{sound_headers}
 use Rattle.jk_params.proofs.walk.read_codestream.Goals as goal
 
 pub returns-clause-found : goal.returns-clause-found
 returns-clause-found c =
-    if_ok_exactly view c.headers.result (headers_at c.args.bytes.now) _ c.headers.ensures.exact (λ x e. found_headers c.args.bytes.now (view x) (λ i. omega (arith, c.type_inv.bytes i)) e)
+    let bytes = c.args.bytes.now in
+    let fits : AreBytes bytes = λ i. omega (arith, c.type_inv.bytes i) in
+    if_ok_answers (λ x. x) c.headers.result (headers_at bytes) (IsHeaders bytes) c.headers.ensures (λ x e. found_headers bytes x fits e)
 
 pub returns-clause-only : goal.returns-clause-only
-returns-clause-only c = λ h is. exactly_same view c.headers.result (headers_at c.args.bytes.now) (Ok h) c.headers.ensures.exact (only_headers c.args.bytes.now h is)
+returns-clause-only c = λ h is. answers_same (λ x. x) c.headers.result (headers_at c.args.bytes.now) _ c.headers.ensures (only_headers c.args.bytes.now h is)
 
-pub returns-clause-siz : goal.returns-clause-siz
-returns-clause-siz c =
-    if_ok_exactly view c.headers.result (headers_at c.args.bytes.now) _ c.headers.ensures.exact (λ x e. siz_of_headers c.args.bytes.now (view x) (found_headers c.args.bytes.now (view x) (λ i. omega (arith, c.type_inv.bytes i)) e))
+pub returns-clause-sound : goal.returns-clause-sound
+returns-clause-sound c =
+    let bytes = c.args.bytes.now in
+    let fits : AreBytes bytes = λ i. omega (arith, c.type_inv.bytes i) in
+    if_ok_answers (λ x. x) c.headers.result (headers_at bytes) (AreHeaders (length bytes)) c.headers.ensures (λ x e. sound_headers bytes x (found_headers bytes x fits e))

@@ -1,0 +1,135 @@
+-- What headers say of packets, levels and the reduced image.
+use Rattle.std.proofs.Common.{◌≡◌, ℕ, zero, suc, ◌+◌, ◌-◌, ◌*◌, ◌^◌, ◌<◌, ◌≤◌, min, true, false, leb, List, [], ◌∷◌, length, refl, ap, ◌∙◌, arith, inl, inr}
+use Rattle.std.specs.List.{AllByRecursion, list_all}
+use Rattle.std.proofs.lemmas.Bool.{cases_lt, leb-true, leb-false, le-leb, and_parts, and_from, or_parts}
+use Rattle.std.proofs.lemmas.Nat.{pow_pos}
+use Rattle.std.proofs.Math.Nat.{add-mul, le-mul_of_pos_right, mul-le-mul_left, mul-le-mul_right}
+use Rattle.jk_math.specs.declared.rect.Rect.{Rect}
+use Rattle.jk_marks.specs.declared.siz.Siz.{Siz}
+use Rattle.jk_marks.specs.declared.coding.Coding.{Coding}
+use Rattle.jk_marks.specs.Siz.{IsSiz, tile_count}
+use Rattle.jk_geom.specs.Rectangles.{ceil_div, is_empty, tile_area, resolution_area}
+use Rattle.jk_geom.specs.Partitions.{image_area, reduced_area}
+use Rattle.jk_geom.specs.TileShapes.{coding_of}
+use Rattle.jk_geom.specs.Counts.{packet_number}
+use Rattle.jk_geom.proofs.Ceilings.{ceil_covers, ceil_least, ceil_self}
+use Rattle.jk_geom.proofs.TileLaws.{tile_found}
+use Rattle.jk_params.specs.Headers.{Headers, TileFields, tile_in, total, AreHeaders}
+use Rattle.jk_params.proofs.LoopLaws.{total_more}
+use Rattle.jk_code.specs.MeaningReading.{has_levels, holds_below}
+use Rattle.jk_code.proofs.PacketSteps.{below_at, below_from}
+use Rattle.jk_code.proofs.Planes.{HasFrame}
+
+-- ---- packets
+
+part_of_total : (f : ℕ → ℕ) (n t : ℕ) → t < n → f t ≤ total f n
+part_of_total f zero t lt = absurd (omega (arith, lt))
+part_of_total f (suc n) t lt =
+    let next : total f (suc n) ≡ total f n + f n = ap (total f) (omega arith) ∙ total_more f n in
+    elim (cases_lt t n) [
+      | inl less ↦ let before = part_of_total f n t less in omega (arith, next, before)
+      | inr same ↦ let at : f t ≡ f n = ap f (omega (arith, lt, same)) in omega (arith, next, at)
+    ]
+
+-- how many packets tile t has
+abbrev pub packets_in : Headers → ℕ → ℕ
+packets_in h t = packet_number (tile_area h.siz t) (tile_in h.tiles t).cod.layers (tile_in h.tiles t).codings
+
+-- a tile has few packets, so that they are counted
+pub few_packets : (size : ℕ) (h : Headers) (t : ℕ) → AreHeaders size h → t < tile_count h.siz → min (packets_in h t) (2 ^ 64 - 1) ≡ packets_in h t
+few_packets size h t is lt =
+    let all = part_of_total (packets_in h) (tile_count h.siz) t lt in
+    omega (arith, all, is.few)
+
+-- ---- levels
+
+levels_at : (d : ℕ) (ks : List Coding) → list_all (λ (k : Coding). leb d k.levels) ks ≡ true → (c : ℕ) → c < length ks → d ≤ (coding_of ks c).levels
+levels_at d [] e c lt = absurd (omega (arith, lt))
+levels_at d (k ∷ ks) e zero lt = leb-true d k.levels (and_parts (leb d k.levels) (list_all (λ (k : Coding). leb d k.levels) ks) e).0
+levels_at d (k ∷ ks) e (suc c) lt = levels_at d ks (and_parts (leb d k.levels) (list_all (λ (k : Coding). leb d k.levels) ks) e).1 c (omega (arith, lt))
+
+-- there is a tile
+pub some_tile : (s : Siz) → IsSiz s → 0 < tile_count s
+some_tile s is =
+    let found = tile_found s s.x0 s.y0 is (record { left = omega arith; right = is.wide; upper = omega arith; lower = is.high }) in
+    omega (arith, found.0)
+
+-- no more levels are taken than a coding has
+pub few_levels : (size d : ℕ) (h : Headers) → AreHeaders size h → holds_below (λ t. has_levels d (tile_in h.tiles t)) (tile_count h.siz) ≡ true → d ≤ 10
+few_levels size d h is e =
+    let some = some_tile h.siz is.siz in
+    let first = below_at (λ t. has_levels d (tile_in h.tiles t)) (tile_count h.siz) 0 e some in
+    let codings = (is.each 0 some).codings in
+    let one = codings.some in
+    let le = levels_at d (tile_in h.tiles 0).codings first 0 (omega (arith, one)) in
+    let most = (codings.each 0 (omega (arith, one))).levels in
+    omega (arith, le, most)
+
+all_levels : (d : ℕ) (ks : List Coding) → list_all (λ (k : Coding). leb d k.levels) ks ≡ true → AllByRecursion (λ (k : Coding). d ≤ k.levels) ks
+all_levels d [] e = tt
+all_levels d (k ∷ ks) e =
+    let both = and_parts (leb d k.levels) (list_all (λ (k : Coding). leb d k.levels) ks) e in
+    (leb-true d k.levels both.0, all_levels d ks both.1)
+
+levels_all : (d : ℕ) (ks : List Coding) → AllByRecursion (λ (k : Coding). d ≤ k.levels) ks → list_all (λ (k : Coding). leb d k.levels) ks ≡ true
+levels_all d [] h = refl
+levels_all d (k ∷ ks) h = and_from (leb d k.levels) _ (le-leb d k.levels h.0) (levels_all d ks h.1)
+
+tiles_all : (d : ℕ) (tiles : List TileFields) → ((t : ℕ) → t < length tiles → has_levels d (tile_in tiles t) ≡ true) → AllByRecursion (λ (f : TileFields). AllByRecursion (λ (k : Coding). d ≤ k.levels) f.codings) tiles
+tiles_all d [] h = tt
+tiles_all d (f ∷ tiles) h = (all_levels d f.codings (h 0 (omega arith)), tiles_all d tiles (λ t lt. h (suc t) (omega (arith, lt))))
+
+all_tiles : (d : ℕ) (tiles : List TileFields) → AllByRecursion (λ (f : TileFields). AllByRecursion (λ (k : Coding). d ≤ k.levels) f.codings) tiles → (t : ℕ) → t < length tiles → has_levels d (tile_in tiles t) ≡ true
+all_tiles d [] h t lt = absurd (omega (arith, lt))
+all_tiles d (f ∷ tiles) h zero lt = levels_all d f.codings h.0
+all_tiles d (f ∷ tiles) h (suc t) lt = all_tiles d tiles h.1 t (omega (arith, lt))
+
+-- The levels of all tiles, by the test and by what it says.
+pub levels_found : (d n : ℕ) (tiles : List TileFields) → length tiles ≡ n → holds_below (λ t. has_levels d (tile_in tiles t)) n ≡ true → AllByRecursion (λ (f : TileFields). AllByRecursion (λ (k : Coding). d ≤ k.levels) f.codings) tiles
+levels_found d n tiles long e = tiles_all d tiles (λ t lt. below_at (λ t. has_levels d (tile_in tiles t)) n t e (omega (arith, lt, long)))
+
+pub levels_only : (d n : ℕ) (tiles : List TileFields) → length tiles ≡ n → AllByRecursion (λ (f : TileFields). AllByRecursion (λ (k : Coding). d ≤ k.levels) f.codings) tiles → holds_below (λ t. has_levels d (tile_in tiles t)) n ≡ true
+levels_only d n tiles long h = below_from (λ t. has_levels d (tile_in tiles t)) n (λ t lt. all_tiles d tiles h t (omega (arith, lt, long)))
+
+-- ---- the reduced image
+
+-- what is reduced gets no longer
+shrinks : (a b p : ℕ) → 0 < p → a ≤ b → ceil_div b p - ceil_div a p ≤ b - a
+shrinks a b p some order =
+    let c = ceil_div a p in
+    let k = b - a in
+    let covers : a ≤ c * p = ceil_covers a p some in
+    let wide : k ≤ k * p = le-mul_of_pos_right k some in
+    let both : (c + k) * p ≡ c * p + k * p = add-mul c k p in
+    let least : ceil_div b p ≤ c + k = ceil_least b p (c + k) some (omega (arith, covers, wide, both, order)) in
+    omega (arith, least)
+
+smaller : (a b c d : ℕ) → a ≤ c → b ≤ d → a * b ≤ c * d
+smaller a b c d h g =
+    let first : a * b ≤ c * b = mul-le-mul_right b h in
+    let second : c * b ≤ c * d = mul-le-mul_left c g in
+    omega (arith, first, second)
+
+-- A reduced image that isn't empty has a frame.
+pub reduced_frame : (s : Siz) (d : ℕ) → IsSiz s → (reduced_area (image_area s) d).x0 < (reduced_area (image_area s) d).x1 → (reduced_area (image_area s) d).y0 < (reduced_area (image_area s) d).y1
+    → HasFrame (reduced_area (image_area s) d)
+unfolding resolution_area
+reduced_frame s d is wide high =
+    let p = 2 ^ (d - 0) in
+    let some : 0 < p = pow_pos (d - 0) in
+    let right = ceil_self s.x1 p some in
+    let lower = ceil_self s.y1 p some in
+    let across = shrinks s.x0 s.x1 p some (omega (arith, is.wide)) in
+    let down = shrinks s.y0 s.y1 p some (omega (arith, is.high)) in
+    let area = smaller (ceil_div s.x1 p - ceil_div s.x0 p) (ceil_div s.y1 p - ceil_div s.y0 p) (s.x1 - s.x0) (s.y1 - s.y0) across down in
+    record {
+      wide = omega (arith, wide);
+      high = omega (arith, high);
+      right = omega (arith, wide, right, is.right);
+      lower = omega (arith, high, lower, is.lower);
+      area = omega (arith, area, is.area);
+    }
+
+-- and only such a one
+pub sides_of : (a : Rect) → is_empty a ≡ false → (a.x0 < a.x1) × (a.y0 < a.y1)
+sides_of a e = let parts = or_parts (leb a.x1 a.x0) (leb a.y1 a.y0) e in (leb-false a.x1 a.x0 parts.0, leb-false a.y1 a.y0 parts.1)

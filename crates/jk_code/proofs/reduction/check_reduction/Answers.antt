@@ -1,0 +1,22 @@
+use Rattle.std.proofs.Common.{◌≡◌, ◌<◌, sym, ap, subst, ◌∙◌, arith}
+use Rattle.jk_math.specs.declared.rect.Rect.{Rect}
+use Rattle.jk_marks.specs.declared.siz.Siz.{Siz}
+use Rattle.jk_geom.specs.Partitions.{image_area, reduced_area}
+use Rattle.jk_code.proofs.HeaderFacts.{few_levels, reduced_frame}
+use Rattle.jk_code.proofs.Planes.{HasFrame}
+use Rattle.jk_code.proofs.reduction.check_reduction.Goals as goal
+
+pub overflow_cast-reduce : goal.overflow_cast-reduce
+overflow_cast-reduce c = let few = few_levels c.requires.0 c.args.reduce c.args.headers.now c.requires.1 (sym c.if-not-tiles_have_levels.ensures) in omega (arith, few)
+
+pub reduced_image-area-requires-clause-levels : goal.reduced_image-area-requires-clause-levels
+reduced_image-area-requires-clause-levels c = few_levels c.requires.0 c.args.reduce c.args.headers.now c.requires.1 (sym c.if-not-tiles_have_levels.ensures)
+
+pub returns-clause-frame : goal.returns-clause-frame
+returns-clause-frame c =
+    let s = c.args.headers.now.siz in
+    let a = reduced_area (image_area s) c.args.reduce in
+    let is : c.reduced_image-area.result ≡ a = c.reduced_image-area.ensures ∙ ap (λ (z : Siz). reduced_area (image_area z) c.args.reduce) c.siz.ensures in
+    let wide : a.x0 < a.x1 = subst (λ (r : Rect). r.x0 < r.x1) is c.if-area.false in
+    let high : a.y0 < a.y1 = subst (λ (r : Rect). r.y0 < r.y1) is c.if-area-2.false in
+    subst HasFrame (sym is) (reduced_frame s c.args.reduce c.requires.1.siz wide high)

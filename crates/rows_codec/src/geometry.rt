@@ -1,0 +1,313 @@
+//! Files of empty packets of other geometries than a page's; the numbers come from worked examples of T.800's formulas and from
+//! another encoder.
+
+use crate::texts::{MAIN, bytes_of};
+use jk_code::{decode, encode};
+use jk_marks::Order;
+use jk_math::{Fault, Image};
+use jk_params::{Container, Parameters};
+use std::alloc::Global;
+use std::test::Fail;
+
+/// Parameters with these levels and precinct sizes, for a bare codestream.
+fn parameters(alloc: Global, levels: u8, sizes: &[(u8, u8)]) -> Result<Parameters, Fail> {
+    let mut precincts = Vec::new(alloc);
+    precincts.extend_from_slice(sizes)?;
+    Ok(Parameters {
+        levels,
+        layers: 1,
+        order: Order::Lrcp,
+        tile: None,
+        xcb: 6,
+        ycb: 6,
+        precincts,
+        colour: false,
+        sop: false,
+        eph: false,
+        container: Container::Raw,
+    })
+}
+
+/// An image of one sample throughout.
+fn even(
+    alloc: Global,
+    place: (u32, u32),
+    size: (u32, u32),
+    components: usize,
+    (depth, signed): (u8, bool),
+    sample: i32,
+) -> Result<Image, Fail> {
+    let mut planes = Vec::new(alloc);
+    for _ in 0..components {
+        planes.push(vec![in alloc; sample; size.0 as usize * size.1 as usize]?)?;
+    }
+    let image = Image::new(place.0, place.1, size.0, size.1, depth, signed, planes);
+    Ok(image.ok().ok_or("an image")?)
+}
+
+/// Whether each sample is this one.
+fn is_even(image: &Image, sample: i32) -> bool {
+    for c in 0..image.planes().len() {
+        if !image.planes().plane(c).iter().all(|s| *s == sample) {
+            return false;
+        }
+    }
+    true
+}
+
+/// Whether these bytes stand at a place of a file.
+fn holds_at(file: &[u8], place: usize, bytes: &[u8]) -> bool {
+    place <= file.len() && file[place..].starts_with(bytes)
+}
+
+/// Where an image lies, and its size.
+fn frame(image: &Image) -> (u32, u32, u32, u32) {
+    (image.x0(), image.y0(), image.width(), image.height())
+}
+
+#[test]
+fn many_packets(rt: HostRuntime) -> Result<(), Fail> {
+    let alloc = rt.alloc();
+    let image = even(alloc, (0, 0), (64, 64), 1, (8, false), 128)?;
+    let given = Parameters {
+        layers: 3,
+        sop: true,
+        eph: true,
+        ..parameters(alloc, 2, &[(3, 3), (3, 3), (3, 3)])?
+    };
+    let file = encode(alloc, &image, &given).ok().ok_or("a file")?;
+    assert_eq!(rt; file.len(), 2358);
+    let front = bytes_of(
+        alloc,
+        &[
+            "FF52 000F 07 00 0003 00 02 04 04 00 01 33 33 33 FF5C 000A 40 40 48 48 50 48 48 50",
+            "FF90 000A 0000 000008EA 00 01 FF93 FF91 0004 0000 00 FF92 FF91 0004 0001 00 FF92",
+        ],
+    )?;
+    assert!(rt; holds_at(&file, 45, &front));
+    let end = bytes_of(alloc, &["FF91 0004 00FB 00 FF92 FFD9"])?;
+    assert_eq!(rt; &file[2347..], &end[..]);
+    let back = decode(alloc, &file, 0).ok().ok_or("an image again")?;
+    assert_eq!(rt; frame(&back), (0, 0, 64, 64));
+    assert!(rt; is_even(&back, 128));
+    Ok(())
+}
+
+#[test]
+fn precinct_without_blocks(rt: HostRuntime) -> Result<(), Fail> {
+    let alloc = rt.alloc();
+    let image = even(alloc, (0, 0), (5, 5), 1, (8, false), 128)?;
+    let given = parameters(alloc, 1, &[(2, 2), (2, 2)])?;
+    let file = encode(alloc, &image, &given).ok().ok_or("a file")?;
+    assert_eq!(rt; file.len(), 91);
+    let part = bytes_of(
+        alloc,
+        &["FF90 000A 0000 00000013 00 01 FF93 00 00 00 00 00 FFD9"],
+    )?;
+    assert_eq!(rt; &file[70..], &part[..]);
+    let back = decode(alloc, &file, 0).ok().ok_or("an image again")?;
+    assert!(rt; frame(&back) == (0, 0, 5, 5) && is_even(&back, 128));
+    Ok(())
+}
+
+/// One sample at an odd column: resolution 0 has none, and no packet.
+#[test]
+fn empty_resolution(rt: HostRuntime) -> Result<(), Fail> {
+    let alloc = rt.alloc();
+    let image = even(alloc, (1, 0), (1, 1), 1, (8, false), 128)?;
+    let file = encode(alloc, &image, &parameters(alloc, 1, &[])?)
+        .ok()
+        .ok_or("a file")?;
+    assert_eq!(rt; file.len(), 85);
+    let part = bytes_of(alloc, &["FF90 000A 0000 0000000F 00 01 FF93 00 FFD9"])?;
+    assert_eq!(rt; &file[68..], &part[..]);
+    let back = decode(alloc, &file, 0).ok().ok_or("an image again")?;
+    assert!(rt; frame(&back) == (1, 0, 1, 1) && is_even(&back, 128));
+    assert_eq!(rt; decode(alloc, &file, 1).err(), Some(Fault::BadWindow));
+    Ok(())
+}
+
+/// Nine tiles with odd corners, in each order.
+#[test]
+fn nine_tiles(rt: HostRuntime) -> Result<(), Fail> {
+    let alloc = rt.alloc();
+    let image = even(alloc, (3, 5), (17, 13), 1, (8, false), 128)?;
+    for order in [
+        Order::Lrcp,
+        Order::Rlcp,
+        Order::Rpcl,
+        Order::Pcrl,
+        Order::Cprl,
+    ] {
+        let given = Parameters {
+            tile: Some((8, 8)),
+            order,
+            ..parameters(alloc, 1, &[(1, 1), (2, 2)])?
+        };
+        let file = encode(alloc, &image, &given).ok().ok_or("a file")?;
+        assert_eq!(rt; file.len(), 234);
+        let parts = bytes_of(
+            alloc,
+            &[
+                "FF90 000A 0000 00000011 00 01 FF93 00 00 00 FF90 000A 0001 00000012 00 01 FF93 00 00 00 00",
+                "FF90 000A 0002 00000010 00 01 FF93 00 00 FF90 000A 0003 00000014 00 01 FF93 00 00 00 00 00 00",
+            ],
+        )?;
+        assert!(rt; holds_at(&file, 70, &parts));
+        let back = decode(alloc, &file, 0).ok().ok_or("an image again")?;
+        assert!(rt; frame(&back) == (3, 5, 17, 13) && is_even(&back, 128));
+        let half = decode(alloc, &file, 1).ok().ok_or("half an image")?;
+        assert!(rt; frame(&half) == (2, 3, 8, 6) && is_even(&half, 128));
+        assert_eq!(rt; decode(alloc, &file, 2).err(), Some(Fault::BadWindow));
+    }
+    Ok(())
+}
+
+/// Components, depths, signs and levels: how long the file is, and what its reductions are.
+#[test]
+fn components_and_depths(rt: HostRuntime) -> Result<(), Fail> {
+    let alloc = rt.alloc();
+    for (components, depth, signed, levels, layers, colour, length) in [
+        (3usize, 8u8, false, 5u8, 1u16, true, 823usize),
+        (2, 12, true, 3, 2, false, 961),
+        (4, 16, false, 1, 1, true, 625),
+        (3, 1, false, 2, 5, false, 2410),
+    ] {
+        let sample = if signed { 0 } else { 1 << (depth - 1) };
+        let image = even(alloc, (7, 9), (33, 21), components, (depth, signed), sample)?;
+        let given = Parameters {
+            layers,
+            colour,
+            tile: Some((16, 10)),
+            xcb: 3,
+            ycb: 4,
+            sop: true,
+            ..parameters(alloc, levels, &[])?
+        };
+        let file = encode(alloc, &image, &given).ok().ok_or("a file")?;
+        assert_eq!(rt; file.len(), length);
+        let back = decode(alloc, &file, 0).ok().ok_or("an image again")?;
+        assert!(rt; frame(&back) == (7, 9, 33, 21) && is_even(&back, sample));
+        assert_eq!(rt;
+            (back.planes().len(), back.depth(), back.signed()),
+            (components, depth, signed)
+        );
+        let half = decode(alloc, &file, 1).ok().ok_or("half an image")?;
+        assert!(rt; frame(&half) == (4, 5, 16, 10) && is_even(&half, sample));
+    }
+    Ok(())
+}
+
+/// Two layers in two tile-parts, in their order and the other way round; and every segment with a length.
+#[test]
+fn parts_and_segments(rt: HostRuntime) -> Result<(), Fail> {
+    let alloc = rt.alloc();
+    let layered =
+        "FF4F FF51 0029 0000 00000001 00000001 00000000 00000000 00000001 00000001 00000000 00000000 0001 07 01 01 FF52 000C 00 00 0002 00 00 04 04 00 01 FF5C 0004 40 40";
+    let first = "FF90 000A 0000 0000000F 00 02 FF93 00";
+    let second = "FF90 000A 0000 0000000F 01 02 FF93 00";
+    let file = bytes_of(alloc, &[layered, first, second, "FFD9"])?;
+    assert_eq!(rt; file.len(), 97);
+    let image = decode(alloc, &file, 0).ok().ok_or("an image")?;
+    assert!(rt; frame(&image) == (0, 0, 1, 1) && is_even(&image, 128));
+    let turned = bytes_of(alloc, &[layered, second, first, "FFD9"])?;
+    assert_eq!(rt; decode(alloc, &turned, 0).err(), Some(Fault::BadValue));
+    let one = bytes_of(alloc, &[layered, first, "FFD9"])?;
+    assert_eq!(rt; decode(alloc, &one, 0).err(), Some(Fault::MissingPackets));
+    let segments = "FF5D 0005 00 40 40 FF64 0006 0001 4142 FF55 0008 00 40 00000017";
+    let part = "FF90 000A 0000 00000015 00 01 FF58 0004 00 03 FF93 00 FFD9";
+    let full = bytes_of(alloc, &[MAIN, segments, part])?;
+    assert_eq!(rt; full.len(), 113);
+    let image = decode(alloc, &full, 0).ok().ok_or("an image")?;
+    assert!(rt; frame(&image) == (0, 0, 1, 1) && is_even(&image, 128));
+    Ok(())
+}
+
+/// Texts, each so often, as bytes.
+fn repeated(alloc: Global, texts: &[(&str, usize)]) -> Result<Vec<u8>, Fail> {
+    let mut bytes = Vec::new(alloc);
+    for (text, times) in texts {
+        let piece = bytes_of(alloc, &[text])?;
+        for _ in 0..*times {
+            bytes.extend_from_slice(&piece)?;
+        }
+    }
+    Ok(bytes)
+}
+
+/// Every kind of segment in an unusual order, in the main header and in those of two tiles whose parts are mixed.
+#[test]
+fn mixed_parts(rt: HostRuntime) -> Result<(), Fail> {
+    let alloc = rt.alloc();
+    let main =
+        "FF4F FF51 002F 0000 00000013 0000000D 00000003 00000002 00000010 00000010 00000000 00000000 0003 0B 01 01 0B 01 01 0B 01 01 FF64 0006 0001 4142 FF5D 000B 02 40 60 68 68 70 68 68 70 FF30 FF52 000F 07 02 0002 01 02 02 01 00 01 76 87 98 FF55 0008 00 40 00000017 FF53 000B 01 01 01 03 03 00 01 65 54 FF5C 000A 60 60 68 68 70 68 68 70 FF6F 0003 00 FF63 000E 0000 0000 0000 0000 0000 0000";
+    // Tile 1 has 8 packets in one layer without SOP and EPH, by its own COD; tile 0 has 16 in two layers with both.
+    let one_a =
+        "FF90 000A 0001 00000049 00 02 FF53 0009 02 00 01 04 04 00 01 FF5D 000B 01 40 60 68 68 70 68 68 70 FF52 000F 01 00 0001 00 02 04 04 00 01 77 88 99 FF58 0004 00 03 FF64 0005 0000 41 FF31 FF93 00 00 00";
+    let zero_a = "FF90 000A 0000 0000003B 00 02 FF93";
+    let zero_b = "FF90 000A 0000 00000077 01 02 FF58 0004 00 03 FF93";
+    let zero_short = "FF90 000A 0000 0000006E 01 02 FF58 0004 00 03 FF93";
+    let one_b = "FF90 000A 0001 00000013 01 02 FF93 00 00 00 00 00 FFD9";
+    let packet = "FF91 0004 1234 00 FF92";
+    let whole = [
+        (main, 1usize),
+        (one_a, 1),
+        (zero_a, 1),
+        (packet, 5),
+        (zero_b, 1),
+        (packet, 11),
+        (one_b, 1),
+    ];
+    let file = repeated(alloc, whole.as_slice())?;
+    assert_eq!(rt; file.len(), 419);
+    let image = decode(alloc, &file, 0).ok().ok_or("an image")?;
+    assert!(rt; frame(&image) == (3, 2, 16, 11) && is_even(&image, 2048));
+    let half = decode(alloc, &file, 1).ok().ok_or("half an image")?;
+    assert!(rt; frame(&half) == (2, 1, 8, 6) && is_even(&half, 2048));
+    // Component 1 of tile 0 has one decomposition level.
+    assert_eq!(rt; decode(alloc, &file, 2).err(), Some(Fault::BadWindow));
+    let short = [
+        (main, 1usize),
+        (one_a, 1),
+        (zero_a, 1),
+        (packet, 5),
+        (zero_short, 1),
+        (packet, 10),
+        (one_b, 1),
+    ];
+    let fewer = repeated(alloc, short.as_slice())?;
+    assert_eq!(rt; decode(alloc, &fewer, 0).err(), Some(Fault::MissingPackets));
+    let turned = [(main, 1usize), (zero_b, 1), (packet, 11), (one_b, 1)];
+    let file = repeated(alloc, turned.as_slice())?;
+    assert_eq!(rt; decode(alloc, &file, 0).err(), Some(Fault::BadValue));
+    Ok(())
+}
+
+/// One packet too many, by the main header's codings, in a file and in parameters.
+#[test]
+fn count_of_packets(rt: HostRuntime) -> Result<(), Fail> {
+    let alloc = rt.alloc();
+    for (width, fault) in [("1000", Fault::MissingPackets), ("1001", Fault::Limit)] {
+        let file = bytes_of(
+            alloc,
+            &[
+                "FF4F FF51 0029 0000 0000",
+                width,
+                "00001000 00000000 00000000 0000",
+                width,
+                "00001000 00000000 00000000 0001 07 01 01 FF52 000D 01 00 0001 00 00 04 04 00 01 00 FF5C 0004 40 40",
+                "FF90 000A 0000 0000000E 00 01 FF93 FFD9",
+            ],
+        )?;
+        assert_eq!(rt; decode(alloc, &file, 0).err(), Some(fault), "{width}");
+    }
+    let many = Parameters {
+        layers: 32,
+        ..parameters(alloc, 0, &[(0, 0)])?
+    };
+    let image = even(alloc, (0, 0), (724, 724), 1, (8, false), 128)?;
+    assert_eq!(rt; many.check(&image), Ok(()));
+    let image = even(alloc, (0, 0), (725, 725), 1, (8, false), 128)?;
+    assert_eq!(rt; many.check(&image), Err(Fault::BadParameters));
+    Ok(())
+}
