@@ -1,5 +1,5 @@
--- The laws of texts that crates above cite: bits come back from their text, the bits that were read pack it, and it lies within
--- its bytes.
+-- The laws of texts that crates above cite: bits come back from their text, the bits that were read pack it, it lies within
+-- its bytes, and what is written is one.
 use Rattle.std.proofs.Common.{◌≡◌, ℕ, zero, suc, ◌-◌, ◌≤◌, Bool, true, false, cond, List, [], ◌∷◌, length, Result, Ok, Err, refl, sym, ◌∙◌, arith}
 use Rattle.std.specs.Prelude.{◌==◌}
 use Rattle.jk_math.specs.Answer.{◌>>=◌}
@@ -9,6 +9,7 @@ use Rattle.jk_bits.specs.Reading.{Bits, finish_at, fault_ahead}
 pub use Rattle.jk_bits.proofs.Spreading.{length-binary}
 pub use Rattle.jk_bits.proofs.Texts.{ReadsBack, reads_back}
 pub use Rattle.jk_bits.proofs.Finishing.{found_at}
+pub use Rattle.jk_bits.proofs.Stuffed.{stuffed_stuffs, stuffs_packs}
 
 closing_within : (after : Bool) (bytes : List ℕ) (m : ℕ) → size after 0 bytes ≡ Ok m → m ≤ length bytes
 unfolding size first_byte

@@ -1,5 +1,5 @@
 -- Bits that a reader gives, one after another, and their laws.
-use Rattle.std.proofs.Common.{◌≡◌, ℕ, ◌+◌, Bool, false, List, [], ◌∷◌, ◌++◌, length, drop, Result, Ok, Err, refl, sym, ap, ◌∙◌, arith, append_assoc, length-append, add-zero}
+use Rattle.std.proofs.Common.{◌≡◌, ℕ, ◌+◌, Bool, false, true, List, [], ◌∷◌, ◌++◌, length, drop, Result, Ok, Err, refl, sym, ap, ◌∙◌, arith, append_assoc, length-append, add-zero}
 use Rattle.std.proofs.lemmas.List.{drop-drop, drop_at}
 use Rattle.jk_math.specs.Answer.{Reads}
 use Rattle.jk_math.specs.declared.fault.Fault.{Fault}
@@ -76,6 +76,16 @@ moves_on a b c m n = (m.0 ++ n.0, gives_join a b c m.0 n.0 m.1 n.1)
 
 pub bit_moves : (r : Bits) (o : Bool × Bits) → bit_at r ≡ Ok o → Moves r o.1
 bit_moves r o h = (o.0 ∷ [], gives_bit r o h)
+
+-- the reader goes on by some bits, and fails there
+abbrev pub Stops : Bits → Bits → Type 0
+Stops old new = (place : Bits) × Moves old place × (new ≡ record place { failed = true })
+
+pub stops_here : (old new : Bits) → new ≡ record old { failed = true } → Stops old new
+stops_here old new e = (old, stays old, e)
+
+pub stops_on : (a b c : Bits) → Moves a b → Stops b c → Stops a c
+stops_on a b c m s = (s.0, moves_on a b s.0 m s.1, s.2)
 
 -- The bytes stay.
 pub same_bytes : (old new : Bits) → Moves old new → new.bytes ≡ old.bytes

@@ -1,11 +1,11 @@
 //! Bits into stuffed bytes (T.800 B.10.1).
 
 ghost use Rattle.std.specs.Prelude.{◌≡◌, if◌then◌else◌, ◌++◌, [], ◌∷◌, Err, false, true, IfOk, MatchResult, length, take, Ok, List, ℕ};
-ghost use Rattle.jk_math.specs.declared.fault.Fault.TheVariants.{Memory};
+ghost use Rattle.jk_math.specs.Memory.{IsMemory};
 ghost use Rattle.jk_bits.specs.Stuffing.{Packs, spread, size, stuffed};
 
 use crate::room::room_after;
-use jk_math::Fault;
+use jk_math::{Fault, Refused};
 use std::alloc::Global;
 use std::marker::Model;
 
@@ -16,11 +16,11 @@ pub struct BitWriter {
     byte: u8,
     begun: u8,
     room: u8,
-    failed: bool,
+    refused: Option<Refused>,
 }
 
 impl Model for BitWriter {
-    ghost use Rattle.std.specs.Prelude.{◌++◌, false};
+    ghost use Rattle.std.specs.Prelude.{◌++◌, false, is_some};
     ghost use Rattle.jk_bits.specs.Stuffing.{binary, spread};
     ghost use Rattle.jk_bits.specs.Writing.{Written, IsWriting};
 
@@ -28,7 +28,7 @@ impl Model for BitWriter {
 
     ghost view = { λ w. record {
       bits = spread false w.bytes.items ++ binary w.begun w.byte;
-      failed = w.failed;
+      failed = is_some w.refused;
     } };
 
     ghost invariant = { λ w. IsWriting w.bytes.items w.byte w.begun w.room };
@@ -51,7 +51,7 @@ impl BitWriter {
             byte: 0,
             begun: 0,
             room: 8,
-            failed: false,
+            refused: None,
         }
     }
 
@@ -59,10 +59,10 @@ impl BitWriter {
     pub fn push(&mut self, bit: bool) -> Result<(), Fault>
         ensures { MatchResult result
             (λ _. (self.old.failed ≡ false) × (self.new ≡ record self.old { bits = self.old.bits ++ bit ∷ [] }))
-            (λ e. (e ≡ Memory) × (self.new ≡ record self.old { failed = true })) }
+            (λ e. IsMemory e × (self.new ≡ record self.old { failed = true })) }
     {
-        if self.failed {
-            return Err(Fault::Memory);
+        if let Some(refused) = self.refused {
+            return Err(Fault::Memory(refused));
         }
         let byte = self.byte * 2 + digit(bit);
         if self.begun + 1 < self.room {
@@ -77,9 +77,10 @@ impl BitWriter {
                 self.begun = 0;
                 Ok(())
             }
-            Err(_) => {
-                self.failed = true;
-                Err(Fault::Memory)
+            Err(error) => {
+                let refused = Refused::from(error);
+                self.refused = Some(refused);
+                Err(Fault::Memory(refused))
             }
         }
     }
@@ -87,14 +88,14 @@ impl BitWriter {
     /// The bytes of the bits written, the rest of the last one 0. They never end in FF.
     pub fn finish(mut self) -> Result<Vec<u8>, Fault>
         ensures exact { MatchResult result
-            (λ v. (self.failed ≡ false) × (v.items ≡ stuffed self.bits)) (λ e. e ≡ Memory) }
+            (λ v. (self.failed ≡ false) × (v.items ≡ stuffed self.bits)) (λ e. IsMemory e) }
         ensures packs { IfOk result (λ v. Packs false self.bits v.items) }
         ensures back { IfOk result (λ v. (rest : List ℕ)
             → (take (length self.bits) (spread false (v.items ++ rest)) ≡ self.bits)
             × (size false (length self.bits) (v.items ++ rest) ≡ Ok (length v.items))) }
     {
-        if self.failed {
-            return Err(Fault::Memory);
+        if let Some(refused) = self.refused {
+            return Err(Fault::Memory(refused));
         }
         if self.begun == 0 && self.room == 8 {
             return Ok(self.bytes);

@@ -10,9 +10,9 @@ use Rattle.jk_math.specs.Steps.{bind_then, guarded, chosen, ok_is}
 use Rattle.jk_math.specs.declared.fault.Fault.TheVariants.{Truncated}
 use Rattle.jk_boxes.specs.declared.place.CodePlace.{CodePlace}
 use Rattle.jk_boxes.specs.declared.place.Boxed.{Boxed}
-use Rattle.jk_boxes.specs.Boxes.{Box, head_size, head_text, box_size, box_text, boxes_text, is_open, signature, soc, IsJp2, IsBare, Holds}
+use Rattle.jk_boxes.specs.Boxes.{Box, head_size, head_text, box_size, box_text, boxes_text, is_open, signature, soc, IsJp2, IsBare, Holds, HoldsAt, bare_place, jp2_place, text_before}
 use Rattle.jk_boxes.specs.Reading.{signature_at, file_type_at, jp2_at, boxes_at}
-use Rattle.jk_boxes.proofs.Numbers.{AreBytes, are_bytes_after}
+use Rattle.jk_math.proofs.Laws.{AreBytes, are_bytes_after}
 use Rattle.jk_boxes.proofs.Heads.{head_length, box_length}
 use Rattle.jk_boxes.proofs.FileTypeLaws.{file_type_takes, file_type_again}
 use Rattle.jk_boxes.proofs.WalkLaws.{place_at, text_length, no_boxes, start_takes, start_again}
@@ -155,27 +155,43 @@ ends_within bytes codestream j =
     let a = boxes_text j.after in
     omega (arith, front_length bytes codestream j, ap (λ (x : List ℕ). length x) (split_text bytes codestream j), length-append (front j) (box_text j.code ++ a), text_length j.code a)
 
+abbrev pub boxed_of : CodePlace → Boxed
+boxed_of p = record { start = p.start; end = p.end; jp2 = true }
+
+-- the place by what stands before the codestream box is the place by the walk
+before_is : (bytes codestream : List ℕ) (j : IsJp2 bytes codestream) → text_before j ≡ front j
+before_is bytes codestream j = ap (λ (x : List ℕ). signature ++ (box_text j.file_type ++ x)) (flat_map-append box_text j.early (j.header ∷ j.middle))
+
+walked_place : (bytes codestream : List ℕ) (j : IsJp2 bytes codestream) → boxed_of (place_of j) ≡ jp2_place j
+walked_place bytes codestream j =
+    let n = ap (λ (x : List ℕ). length x) (before_is bytes codestream j) ∙ front_length bytes codestream j in
+    ap (λ k. record { start = k + head_size j.code.form; end = k + box_size j.code; jp2 = true }) (sym n)
+
 -- what is opened
 pub record Opened (bytes : List ℕ) (b : Boxed) : Type 0 where
   pub holds : Holds bytes (slice_range bytes b.start b.end)
+  pub at : HoldsAt bytes (slice_range bytes b.start b.end) b
   pub order : b.start ≤ b.end
   pub within : b.end ≤ length bytes
-
-abbrev pub boxed_of : CodePlace → Boxed
-boxed_of p = record { start = p.start; end = p.end; jp2 = true }
 
 opened_jp2 : (bytes : List ℕ) (p : CodePlace) → FoundJp2 bytes p → Opened bytes (boxed_of p)
 opened_jp2 bytes p f =
     let q = place_of f.is in
     let j = subst (λ (c : List ℕ). IsJp2 bytes c) (sym (codestream_is bytes f.codestream f.is)) f.is in
-    let here : Opened bytes (boxed_of q) = record { holds = inr j; order = omega arith; within = ends_within bytes f.codestream f.is } in
+    let at : HoldsAt bytes f.codestream (boxed_of q) = inr (f.is, walked_place bytes f.codestream f.is) in
+    let here : Opened bytes (boxed_of q) = record {
+      holds = inr j;
+      at = subst (λ (c : List ℕ). HoldsAt bytes c (boxed_of q)) (sym (codestream_is bytes f.codestream f.is)) at;
+      order = omega arith;
+      within = ends_within bytes f.codestream f.is;
+    } in
     subst (λ (x : CodePlace). Opened bytes (boxed_of x)) (sym f.place) here
 
-opened_bare : (bytes : List ℕ) → starts_with nat_eq bytes soc ≡ true → Opened bytes (record { start = 0; end = length bytes; jp2 = false })
+opened_bare : (bytes : List ℕ) → starts_with nat_eq bytes soc ≡ true → Opened bytes (bare_place bytes)
 opened_bare bytes e =
     let whole : take (length bytes - 0) bytes ≡ bytes = take_all (length bytes - 0) bytes (omega arith) in
     let bare : IsBare bytes (take (length bytes - 0) bytes) = record { others = drop 2 bytes; text = begins soc bytes e; whole = whole } in
-    record { holds = inl bare; order = omega arith; within = omega arith }
+    record { holds = inl bare; at = inl (bare, refl); order = omega arith; within = omega arith }
 
 pub boxes_take : (bytes : List ℕ) (b : Boxed) → AreBytes bytes → boxes_at bytes ≡ Ok b → Opened bytes b
 unfolding boxes_at
@@ -183,8 +199,7 @@ boxes_take bytes b fits e =
     let g = guarded (ltb (length bytes) 2) Truncated _ b e in
     elim (chosen (starts_with nat_eq bytes soc) _ _ (Ok b) g.1) [
       | inl w ↦
-          let bare : Boxed = record { start = 0; end = length bytes; jp2 = false } in
-          subst (λ (x : Boxed). Opened bytes x) (ok_is bare b w.1) (opened_bare bytes w.0)
+          subst (λ (x : Boxed). Opened bytes x) (ok_is (bare_place bytes) b w.1) (opened_bare bytes w.0)
       | inr w ↦
           bind_then (jp2_at bytes) _ b w.1 (λ p s e.
           subst (λ (x : Boxed). Opened bytes x) (ok_is (boxed_of p) b e) (opened_jp2 bytes p (jp2_takes bytes p fits s)))
@@ -196,16 +211,15 @@ pub record OpensAt (bytes codestream : List ℕ) : Type 0 where
   pub due : boxes_at bytes ≡ Ok boxed
   pub here : codestream ≡ slice_range bytes boxed.start boxed.end
 
-bare_again : (bytes codestream : List ℕ) → IsBare bytes codestream → OpensAt bytes codestream
+bare_boxes : (bytes codestream : List ℕ) → IsBare bytes codestream → boxes_at bytes ≡ Ok (bare_place bytes)
 unfolding boxes_at
-bare_again bytes codestream is =
+bare_boxes bytes codestream is =
     let long : ltb (length bytes) 2 ≡ false = le-ltb _ _ (omega (arith, ap (λ (x : List ℕ). length x) is.text)) in
     let first : starts_with nat_eq bytes soc ≡ true = ap (λ (x : List ℕ). starts_with nat_eq x soc) is.text ∙ begins_again soc is.others in
-    record {
-      boxed = record { start = 0; end = length bytes; jp2 = false };
-      due = rw (long, first) refl;
-      here = is.whole ∙ sym (take_all (length bytes - 0) bytes (omega arith));
-    }
+    rw (long, first) refl
+
+bare_whole : (bytes codestream : List ℕ) → IsBare bytes codestream → codestream ≡ slice_range bytes 0 (length bytes)
+bare_whole bytes codestream is = is.whole ∙ sym (take_all (length bytes - 0) bytes (omega arith))
 
 pub other_start : (rest : List ℕ) → starts_with nat_eq (signature ++ rest) soc ≡ false
 other_start rest = refl
@@ -220,6 +234,15 @@ jp2_boxes bytes codestream j =
 
 pub boxes_again : (bytes codestream : List ℕ) → Holds bytes codestream → OpensAt bytes codestream
 boxes_again bytes codestream h = elim h [
-  | inl bare ↦ bare_again bytes codestream bare
+  | inl bare ↦ record { boxed = bare_place bytes; due = bare_boxes bytes codestream bare; here = bare_whole bytes codestream bare }
   | inr j ↦ record { boxed = boxed_of (place_of j); due = jp2_boxes bytes codestream j; here = sym (codestream_is bytes codestream j) }
 ]
+
+-- what is held at a place is opened there
+pub place_again : (bytes codestream : List ℕ) (b : Boxed) → HoldsAt bytes codestream b → (boxes_at bytes ≡ Ok b) × (codestream ≡ slice_range bytes b.start b.end)
+place_again bytes codestream b (inl h) =
+    subst (λ (x : Boxed). (boxes_at bytes ≡ Ok x) × (codestream ≡ slice_range bytes x.start x.end)) (sym h.1) (bare_boxes bytes codestream h.0, bare_whole bytes codestream h.0)
+place_again bytes codestream b (inr h) =
+    let j = h.0 in
+    subst (λ (x : Boxed). (boxes_at bytes ≡ Ok x) × (codestream ≡ slice_range bytes x.start x.end)) (walked_place bytes codestream j ∙ sym h.1)
+    (jp2_boxes bytes codestream j, sym (codestream_is bytes codestream j))

@@ -9,7 +9,7 @@ use Rattle.jk_math.specs.Steps.{bind_then, refuse_then, ok_is}
 use Rattle.jk_math.specs.declared.fault.Fault.TheVariants.{BadBox, Unsupported}
 use Rattle.jk_boxes.specs.Boxes.{Box, box_size, box_text, is_open, IsBox, IsFileType, file_type_kind, jp2_brand}
 use Rattle.jk_boxes.specs.Reading.{box_of_kind_at, contents_of, names_jp2, file_type_at}
-use Rattle.jk_boxes.proofs.Numbers.{AreBytes, are_bytes_after, are_bytes_taken, number_back}
+use Rattle.jk_math.proofs.Laws.{AreBytes, are_bytes_after, are_bytes_taken, number_back}
 use Rattle.jk_boxes.proofs.Heads.{box_from, head_of, kind_takes, kind_again, contents_again}
 
 -- the numbers of four bytes that stand one after another

@@ -9,7 +9,7 @@ use Rattle.jk_boxes.specs.declared.boxes.Form.{Form}
 use Rattle.jk_boxes.specs.declared.boxes.Form.TheVariants.{Short, Long, Open}
 use Rattle.jk_boxes.specs.Boxes.{Box, head_size, box_size, box_text, boxes_text, is_open, IsBox, IsInner, IsHeaderBox, image_header_kind, palette_kind}
 use Rattle.jk_boxes.specs.Reading.{box_at, box_of_kind_at, contents_of, is_short, no_palette_at, header_at}
-use Rattle.jk_boxes.proofs.Numbers.{AreBytes, are_bytes_after}
+use Rattle.jk_math.proofs.Laws.{AreBytes, are_bytes_after}
 use Rattle.jk_boxes.proofs.Loops.{palette_step, palette_stops, some_left}
 use Rattle.jk_boxes.proofs.Heads.{box_from, box_takes, box_again, after_box, box_length, box_some, kind_takes, kind_again, contents_again}
 

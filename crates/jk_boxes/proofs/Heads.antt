@@ -12,7 +12,7 @@ use Rattle.jk_boxes.specs.declared.boxes.Form.TheVariants.{Short, Long, Open}
 use Rattle.jk_boxes.specs.declared.boxes.BoxHead.{BoxHead}
 use Rattle.jk_boxes.specs.Boxes.{Box, head_size, head_text, box_size, box_text, is_open, FitsForm, IsBox}
 use Rattle.jk_boxes.specs.Reading.{length_at, box_at, contents_of, box_of_kind_at}
-use Rattle.jk_boxes.proofs.Numbers.{AreBytes, are_bytes_after, number_back}
+use Rattle.jk_math.proofs.Laws.{AreBytes, are_bytes_after, number_back}
 
 -- what stands at the front, where the length is told in this way
 pub record TakesLength (ends : Bool) (rest : List ℕ) (form : Form) (size : ℕ) : Type 0 where

@@ -1,8 +1,8 @@
 pub mod Loops
-pub mod Numbers
 pub mod Heads
 pub mod FileTypeLaws
 pub mod HeaderLaws
 pub mod WalkLaws
 pub mod FileLaws
 pub mod WrittenLaws
+pub mod Laws

@@ -11,7 +11,7 @@ use Rattle.jk_boxes.specs.declared.place.Seen.{Seen}
 use Rattle.jk_boxes.specs.declared.place.Seen.TheVariants.{Nothing, Header, Code}
 use Rattle.jk_boxes.specs.Boxes.{Box, head_size, box_size, box_text, boxes_text, is_open, AreBoxes, IsHeaderBox, header_kind, code_kind}
 use Rattle.jk_boxes.specs.Reading.{box_at, contents_of, header_at, passed, walk_at}
-use Rattle.jk_boxes.proofs.Numbers.{AreBytes, are_bytes_after, are_bytes_taken}
+use Rattle.jk_math.proofs.Laws.{AreBytes, are_bytes_after, are_bytes_taken}
 use Rattle.jk_boxes.proofs.Loops.{walk_step, walk_stops, some_left}
 use Rattle.jk_boxes.proofs.Heads.{TakesBox, box_from, head_of, box_takes, box_again, after_box, box_length, box_some, contents_again}
 use Rattle.jk_boxes.proofs.HeaderLaws.{bool_false, header_takes, header_again}

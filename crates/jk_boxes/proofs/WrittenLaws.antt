@@ -12,11 +12,12 @@ use Rattle.jk_boxes.specs.declared.place.CodePlace.{CodePlace}
 use Rattle.jk_boxes.specs.declared.place.Boxed.{Boxed}
 use Rattle.jk_boxes.specs.Boxes.{Box, head_size, head_text, box_size, box_text, boxes_text, signature, soc, FitsForm, IsBox, AreBoxes, IsFileType, IsHeaderBox, IsJp2, image_header_kind, colour_kind, palette_kind, code_kind, jp2_brand}
 use Rattle.jk_boxes.specs.Reading.{jp2_at, boxes_at}
-use Rattle.jk_boxes.specs.Written.{file_type_box, image_header_of, colour_box, header_box, form_for, code_box, is_wrapped, wrapped, fits_form, recoded, replaced_at, replaced}
+use Rattle.jk_boxes.specs.Written.{file_type_box, image_header_of, colour_box, header_box, form_for, code_box, is_wrapped, wrapped, fits_form, recoded}
+use Rattle.jk_boxes.specs.Replacing.{replaced_at, replaced}
 use Rattle.jk_boxes.proofs.Heads.{box_length}
 use Rattle.jk_boxes.proofs.WalkLaws.{text_length}
 use Rattle.jk_boxes.proofs.FileLaws.{front, behind, place_of, jp2_again, split_boxes, split_text, front_length, ends_within, other_start, FoundJp2, jp2_takes}
-use Rattle.jk_boxes.proofs.Numbers.{AreBytes}
+use Rattle.jk_math.proofs.Laws.{AreBytes}
 
 fits_from : (f : Form) (size : ℕ) → fits_form f size ≡ true → FitsForm f size
 fits_from Short size e = ltb-true _ _ e

@@ -4,6 +4,7 @@ use Rattle.std.specs.List.{flat_map, list_any, AllByRecursion}
 use Rattle.byteorder.specs.Endian.{big_bytes}
 use Rattle.jk_boxes.specs.declared.boxes.Form.{Form}
 use Rattle.jk_boxes.specs.declared.boxes.Form.TheVariants.{Short, Long, Open}
+use Rattle.jk_boxes.specs.declared.place.Boxed.{Boxed}
 
 -- TBox of the boxes that are asked for (Table I.2), and the brand
 abbrev pub file_type_kind : ℕ
@@ -131,3 +132,19 @@ pub record IsBare (bytes codestream : List ℕ) : Type 0 where
 -- the bytes hold this codestream
 abbrev pub Holds : List ℕ → List ℕ → Type 0
 Holds bytes codestream = IsBare bytes codestream ⊎ IsJp2 bytes codestream
+
+-- what stands before the codestream box of a JP2 file
+abbrev pub text_before : {bytes codestream : List ℕ} → IsJp2 bytes codestream → List ℕ
+text_before j = signature ++ boxes_text (j.file_type ∷ (j.early ++ (j.header ∷ j.middle)))
+
+-- The place of the codestream: the whole of a bare file; in a JP2 file the contents of the codestream box, behind all that stands
+-- before the box and behind its head.
+abbrev pub bare_place : List ℕ → Boxed
+bare_place bytes = record { start = 0; end = length bytes; jp2 = false }
+
+abbrev pub jp2_place : {bytes codestream : List ℕ} → IsJp2 bytes codestream → Boxed
+jp2_place j = record { start = length (text_before j) + head_size j.code.form; end = length (text_before j) + box_size j.code; jp2 = true }
+
+-- the bytes hold this codestream at this place
+abbrev pub HoldsAt : List ℕ → List ℕ → Boxed → Type 0
+HoldsAt bytes codestream b = (IsBare bytes codestream × (b ≡ bare_place bytes)) ⊎ ((j : IsJp2 bytes codestream) × (b ≡ jp2_place j))

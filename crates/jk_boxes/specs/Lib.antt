@@ -4,3 +4,4 @@ pub use Rattle.jk_math.specs.Picture
 pub mod Boxes
 pub mod Reading
 pub mod Written
+pub mod Replacing

@@ -1,16 +1,12 @@
 -- The boxes that are written, and a codestream box whose contents are replaced.
-use Rattle.std.specs.Prelude.{ℕ, ◌+◌, ◌-◌, ◌^◌, Bool, true, not, ◌&&◌, ◌||◌, ◌==◌, nat_lt, nat_eq, if◌then◌else◌, List, [], ◌∷◌, ◌++◌, length, take, drop, Result, Ok, Err}
-use Rattle.std.specs.List.{starts_with}
+use Rattle.std.specs.Prelude.{ℕ, ◌+◌, ◌-◌, ◌^◌, Bool, true, ◌==◌, nat_lt, if◌then◌else◌, List, [], ◌∷◌, ◌++◌, length, Result, Ok, Err}
 use Rattle.byteorder.specs.Endian.{big_bytes}
-use Rattle.jk_math.specs.Answer.{◌>>=◌}
-use Rattle.jk_math.specs.Picture.{Picture}
+use Rattle.jk_math.specs.Picture.{Picture, is_grey_or_rgb}
 use Rattle.jk_math.specs.declared.fault.Fault.{Fault}
 use Rattle.jk_math.specs.declared.fault.Fault.TheVariants.{Unsupported, Limit}
 use Rattle.jk_boxes.specs.declared.boxes.Form.{Form}
 use Rattle.jk_boxes.specs.declared.boxes.Form.TheVariants.{Short, Long, Open}
-use Rattle.jk_boxes.specs.declared.place.CodePlace.{CodePlace}
-use Rattle.jk_boxes.specs.Boxes.{Box, boxes_text, head_size, head_text, box_size, signature, soc, jp2_brand, file_type_kind, header_kind, image_header_kind, colour_kind, code_kind, IsJp2}
-use Rattle.jk_boxes.specs.Reading.{jp2_at}
+use Rattle.jk_boxes.specs.Boxes.{Box, boxes_text, box_size, signature, jp2_brand, file_type_kind, header_kind, image_header_kind, colour_kind, code_kind, IsJp2}
 
 -- BR `jp2 `, MinV 0, and `jp2 ` alone in the compatibility list (I.5.2)
 abbrev pub file_type_box : Box
@@ -43,9 +39,8 @@ form_for length = if nat_lt (8 + length) (2 ^ 32) then Short else Long
 abbrev pub code_box : List ℕ → Box
 code_box codestream = record { form = form_for (length codestream); kind = code_kind; contents = codestream }
 
--- one or three unsigned components
 abbrev pub is_wrapped : Picture → Bool
-is_wrapped p = not p.signed && ((length p.planes == 1) || (length p.planes == 3))
+is_wrapped p = is_grey_or_rgb (length p.planes) p.signed
 
 -- the JP2 file that is written for an image and its codestream
 unfoldable pub wrapped : Picture → List ℕ → Result (List ℕ) Fault
@@ -65,15 +60,3 @@ recoded j codestream =
     let code : Box = record j.code { contents = codestream } in
     if fits_form code.form (box_size code) then Ok (signature ++ boxes_text (j.file_type ∷ (j.early ++ (j.header ∷ (j.middle ++ (code ∷ j.after))))))
     else Err Limit
-
--- the same by places in the file
-unfoldable pub replaced_at : CodePlace → List ℕ → List ℕ → Result (List ℕ) Fault
-replaced_at p file codestream =
-    let size = head_size p.form + length codestream in
-    if fits_form p.form size then Ok (take (p.start - head_size p.form) file ++ (head_text p.form code_kind size ++ (codestream ++ drop p.end file)))
-    else Err Limit
-
-unfoldable pub replaced : List ℕ → List ℕ → Result (List ℕ) Fault
-replaced file codestream =
-    if starts_with nat_eq file soc then Ok codestream
-    else (jp2_at file >>= λ p. replaced_at p file codestream)

@@ -2,7 +2,7 @@
 
 ghost use Rattle.std.specs.Prelude.{◌≡◌, ◌+◌, ◌≤◌, length, drop, IfOk, Ok, List, ℕ, nat_eq, slice_range};
 ghost use Rattle.std.specs.List.{starts_with};
-ghost use Rattle.jk_boxes.specs.Boxes.{head_size, soc, Holds};
+ghost use Rattle.jk_boxes.specs.Boxes.{head_size, soc, HoldsAt};
 ghost use Rattle.jk_boxes.specs.Reading.{passed, place_in, walk_at, signature_at, jp2_at, boxes_at};
 
 use crate::boxes::{self, BoxHead, Form, read_box, read_file_type, read_header};
@@ -165,10 +165,10 @@ fn place(bytes: &[u8]) -> Result<Boxed, Fault>
 pub fn open(bytes: &[u8]) -> Result<Boxed, Fault>
     ensures exact { result ≡ boxes_at bytes.now }
     // What is opened holds the codestream at this place.
-    ensures found { IfOk result (λ b. Holds bytes.now (slice_range bytes.now b.start b.end)) }
-    // What holds a codestream is opened at its place.
-    ensures only { (codestream : List ℕ) → Holds bytes.now codestream
-        → (b : Boxed) × (result ≡ Ok b) × (codestream ≡ slice_range bytes.now b.start b.end) }
+    ensures found { IfOk result (λ b. HoldsAt bytes.now (slice_range bytes.now b.start b.end) b) }
+    // What holds a codestream at a place is opened there.
+    ensures only { (codestream : List ℕ) (b : Boxed) → HoldsAt bytes.now codestream b
+        → (result ≡ Ok b) × (codestream ≡ slice_range bytes.now b.start b.end) }
     ensures within { IfOk result (λ b. (b.start ≤ b.end) × (b.end ≤ length bytes.now)) }
 {
     place(bytes)

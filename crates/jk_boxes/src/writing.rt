@@ -2,11 +2,13 @@
 
 ghost use Rattle.std.specs.Prelude.{◌≡◌, ◌+◌, ◌-◌, ◌≤◌, ◌<◌, ◌^◌, ◌++◌, ◌∷◌, [], ◌==◌, true, false, not, Bool, length, take, drop, nat_eq, OnOk, IfOk, IfErr, Ok, List, ℕ};
 ghost use Rattle.std.specs.List.{starts_with};
+ghost use Rattle.jk_math.specs.Memory.{IsMemory};
 ghost use Rattle.byteorder.specs.Endian.{big_bytes};
 ghost use Rattle.jk_math.specs.Answer.{Answers};
 ghost use Rattle.jk_boxes.specs.Boxes.{Holds, IsJp2, soc, FitsForm, box_text, boxes_text, head_size, head_text, signature};
 ghost use Rattle.jk_boxes.specs.Reading.{boxes_at};
-ghost use Rattle.jk_boxes.specs.Written.{file_type_box, header_box, image_header_of, colour_box, colour_space, form_for, code_box, is_wrapped, wrapped, fits_form, recoded, replaced, replaced_at};
+ghost use Rattle.jk_boxes.specs.Written.{file_type_box, header_box, image_header_of, colour_box, colour_space, form_for, code_box, is_wrapped, wrapped, fits_form, recoded};
+ghost use Rattle.jk_boxes.specs.Replacing.{replaced, replaced_at};
 
 use crate::boxes::{self, Form};
 use crate::place::{Boxed, CodePlace, code_place};
@@ -22,7 +24,7 @@ static FRONT: [u8; 32] = [
 /// Appends four bytes.
 fn put_four(out: &mut Vec<u8>, value: u32) -> Result<(), Fault>
     ensures ok { OnOk result (out.new.items ≡ out.old.items ++ big_bytes 4 value) }
-    ensures err { IfErr result (λ e. e ≡ Fault.Memory) }
+    ensures err { IfErr result (λ e. IsMemory e) }
 {
     out.extend_from_slice(&value.to_be_bytes())?;
     Ok(())
@@ -32,7 +34,7 @@ fn put_four(out: &mut Vec<u8>, value: u32) -> Result<(), Fault>
 fn put_head(out: &mut Vec<u8>, form: Form, kind: u32, size: usize) -> Result<(), Fault>
     requires { FitsForm form size }
     ensures ok { OnOk result (out.new.items ≡ out.old.items ++ head_text form kind size) }
-    ensures err { IfErr result (λ e. e ≡ Fault.Memory) }
+    ensures err { IfErr result (λ e. IsMemory e) }
 {
     match form {
         Form::Short => {
@@ -62,7 +64,7 @@ fn put_image_header(
 ) -> Result<(), Fault>
     requires { 1 ≤ depth }
     ensures ok { OnOk result (out.new.items ≡ out.old.items ++ image_header_of width height components depth) }
-    ensures err { IfErr result (λ e. e ≡ Fault.Memory) }
+    ensures err { IfErr result (λ e. IsMemory e) }
 {
     put_four(out, height)?;
     put_four(out, width)?;
@@ -75,7 +77,7 @@ fn put_image_header(
 #[tactic(auto, unfolding(crate::specs::Boxes::box_text))]
 fn put_colour(out: &mut Vec<u8>, components: u16) -> Result<(), Fault>
     ensures ok { OnOk result (out.new.items ≡ out.old.items ++ box_text (colour_box components)) }
-    ensures err { IfErr result (λ e. e ≡ Fault.Memory) }
+    ensures err { IfErr result (λ e. IsMemory e) }
 {
     put_head(out, Form::Short, boxes::COLOUR, 15)?;
     out.extend_from_slice(&[1, 0, 0])?;
@@ -93,7 +95,7 @@ fn put_header(
 ) -> Result<(), Fault>
     requires { 1 ≤ depth }
     ensures ok { OnOk result (out.new.items ≡ out.old.items ++ box_text (header_box width height components depth)) }
-    ensures err { IfErr result (λ e. e ≡ Fault.Memory) }
+    ensures err { IfErr result (λ e. IsMemory e) }
 {
     put_head(out, Form::Short, boxes::HEADER, 45)?;
     put_head(out, Form::Short, boxes::IMAGE_HEADER, 22)?;
@@ -105,7 +107,7 @@ fn put_header(
 #[tactic(auto, unfolding(crate::specs::Boxes::box_text))]
 fn put_code(out: &mut Vec<u8>, codestream: &[u8]) -> Result<(), Fault>
     ensures ok { OnOk result (out.new.items ≡ out.old.items ++ box_text (code_box codestream.now)) }
-    ensures err { IfErr result (λ e. e ≡ Fault.Memory) }
+    ensures err { IfErr result (λ e. IsMemory e) }
 {
     if 8 + (codestream.len() as u64) < 1 << 32 {
         put_head(out, Form::Short, boxes::CODE, 8 + codestream.len())?;
@@ -127,7 +129,7 @@ fn jp2(
 ) -> Result<Vec<u8>, Fault>
     requires { 1 ≤ depth }
     ensures ok { IfOk result (λ v. v.items ≡ signature ++ boxes_text (file_type_box ∷ header_box width height components depth ∷ code_box codestream.now ∷ [])) }
-    ensures err { IfErr result (λ e. e ≡ Fault.Memory) }
+    ensures err { IfErr result (λ e. IsMemory e) }
 {
     let mut out = Vec::with_capacity(alloc, codestream.len().saturating_add(93))?;
     out.extend_from_slice(&FRONT)?;
@@ -187,7 +189,7 @@ fn fits(form: Form, size: usize) -> bool
 }
 
 /// A file whose codestream box has other contents.
-#[tactic(auto, unfolding(crate::specs::Written::replaced_at))]
+#[tactic(auto, unfolding(crate::specs::Replacing::replaced_at))]
 fn replace_at(
     alloc: Global,
     file: &[u8],
@@ -219,7 +221,7 @@ fn replace_at(
     Ok(out)
 }
 
-#[tactic(auto, unfolding(crate::specs::Written::replaced))]
+#[tactic(auto, unfolding(crate::specs::Replacing::replaced))]
 fn replacing(alloc: Global, file: &[u8], jp2: bool, codestream: &[u8]) -> Result<Vec<u8>, Fault>
     requires { jp2 ≡ not (starts_with nat_eq file.now soc) }
     ensures { Answers (λ v. v.items) result (replaced file.now codestream.now) }

@@ -1,5 +1,5 @@
 -- The main header that is written, and the codings that it gives.
-use Rattle.std.proofs.Common.{◌≡◌, ℕ, zero, suc, ◌+◌, ◌*◌, ◌/◌, ◌%◌, ◌<◌, ◌≤◌, Bool, true, false, cond, eqb, List, [], ◌∷◌, length, map, take, replicate, refl, ap, sym, ◌∙◌, subst, arith, lit<, lit≤}
+use Rattle.std.proofs.Common.{◌≡◌, ℕ, zero, suc, ◌+◌, ◌*◌, ◌/◌, ◌%◌, ◌<◌, ◌≤◌, Bool, true, false, cond, eqb, Option, None, List, [], ◌∷◌, length, map, take, replicate, refl, ap, sym, ◌∙◌, subst, arith, lit<, lit≤}
 use Rattle.std.specs.Prelude.{All}
 use Rattle.std.specs.List.{range_with_len, AllByRecursion}
 use Rattle.std.proofs.lemmas.List.{take_all, length-map}
@@ -9,7 +9,8 @@ use Rattle.jk_math.specs.Picture.{Picture, IsPicture}
 use Rattle.jk_marks.specs.declared.coding.Coding.{Coding}
 use Rattle.jk_marks.specs.declared.segments.Quantisation.{Quantisation}
 use Rattle.jk_marks.specs.Segments.{Segment, quantisation_of, written_steps}
-use Rattle.jk_marks.specs.Codestream.{segments_of, IsMain, IsWritten}
+use Rattle.jk_marks.specs.Codestream.{segments_of, by_component, given_for, IsMain, IsWritten}
+use Rattle.jk_marks.proofs.Laws.{steps_back, main_written as is_main}
 use Rattle.jk_params.specs.declared.parameters.Parameters.{Parameters}
 use Rattle.jk_params.specs.Coding.{band_count, coding_with, coding_of, codings_of, HasPlanes}
 use Rattle.jk_params.specs.Profile.{siz_of, cod_of, IsWrittenBy}
@@ -57,6 +58,14 @@ exponents_small p q is = small_from p.depth 0 (band_count q.levels) is.component
 exponents_count : (p : Picture) (q : Parameters) → length (exponents_for p.depth q.levels) ≡ band_count q.levels
 exponents_count p q = length-map-range_with_len (λ b. p.depth + gain b) 0 (band_count q.levels)
 
+-- no component has its own
+none_given : {X : Type 0} (i : ℕ) → given_for (by_component {X = Option X} (λ c. None)) i ≡ None
+none_given zero = refl
+none_given (suc zero) = refl
+none_given (suc (suc zero)) = refl
+none_given (suc (suc (suc zero))) = refl
+none_given (suc (suc (suc (suc i)))) = refl
+
 -- the main header can be written
 pub main_written : (p : Picture) (q : Parameters) → IsPicture p → IsWrittenBy q p → IsWritten (main_for p q)
 main_written p q is by =
@@ -65,47 +74,25 @@ main_written p q is by =
     record {
       siz = by.siz;
       cod = by.cod;
-      qcd = record { guard = lit< tt; exponents = all_few (exponents_for p.depth q.levels) (exponents_small p q is); few = omega (arith, five, count) };
+      qcd = record { guard = lit< tt; some = omega (arith, count); exponents = all_few (exponents_for p.depth q.levels) (exponents_small p q is); few = omega (arith, five, count) };
+      coc_places = refl;
       coc = (tt, (tt, (tt, (tt, tt))));
+      coc_components = λ i le. none_given i;
+      qcc_places = refl;
       qcc = (tt, (tt, (tt, (tt, tt))));
+      qcc_components = λ i le. none_given i;
     }
 
 -- and what is written is a main header
-pub main_is : (p : Picture) (q : Parameters) → IsWrittenBy q p → IsMain (siz_of p q) (segments_for p q)
-main_is p q by =
-    let five = by.levels in
-    let es = exponents_for p.depth q.levels in
-    let count : length (map (λ e. 8 * e) es) ≡ band_count q.levels = length-map {B = ℕ} es (λ e. 8 * e) ∙ exponents_count p q in
-    record {
-      size = by.siz;
-      well_formed = record {
-        each = ((refl, by.cod), ((refl, record { guard = lit< tt; some = omega (arith, count) }, omega (arith, five, count)), tt));
-        one_coding = lit≤ tt;
-        one_quantisation = lit≤ tt;
-        one_style = λ i. lit≤ tt;
-        one_steps = λ i. lit≤ tt;
-      };
-      one_coding = refl;
-      one_quantisation = refl;
-    }
-
--- exponents come back from their bytes
-exponents_back : (es : List ℕ) → map (λ b. b / 8) (map (λ e. 8 * e) es) ≡ es
-exponents_back [] = refl
-exponents_back (e ∷ es) = let same : 8 * e / 8 ≡ e = omega arith in ap (λ x. x ∷ map (λ b. b / 8) (map (λ e. 8 * e) es)) same ∙ ap (λ (x : List ℕ). e ∷ x) (exponents_back es)
-
-steps_back : (n : ℕ) (es : List ℕ) → length es ≤ 31 → quantisation_of (written_steps (record { guard = n; exponents = es })) ≡ record { guard = n; exponents = es }
-steps_back n es few =
-    let bytes = map (λ e. 8 * e) es in
-    let short : length bytes ≤ 31 = omega (arith, few, length-map {B = ℕ} es (λ e. 8 * e)) in
-    ap (λ (x : List ℕ). record { guard = n; exponents = x }) (ap (λ (x : List ℕ). map (λ b. b / 8) x) (take_all 31 bytes short) ∙ exponents_back es)
+pub main_is : (p : Picture) (q : Parameters) → IsPicture p → IsWrittenBy q p → IsMain (siz_of p q) (segments_for p q)
+main_is p q is by = is_main (main_for p q) (main_written p q is by)
 
 -- the coding of each component
 pub coding_said : (p : Picture) (q : Parameters) → IsWrittenBy q p → (c : ℕ) → coding_of (segments_for p q) [] c ≡ coding_in p q
 coding_said p q by c =
     let five = by.levels in
     let es = exponents_for p.depth q.levels in
-    ap (λ (k : Quantisation). coding_with (cod_of q).style k) (steps_back 2 es (omega (arith, five, exponents_count p q)))
+    ap (λ (k : Quantisation). coding_with (cod_of q).style k) (steps_back (quantisation_for p q) (omega (arith, five, exponents_count p q)))
 
 same_from : (f : ℕ → Coding) (k : Coding) → ((c : ℕ) → f c ≡ k) → (a n : ℕ) → map f (range_with_len a n) ≡ replicate n k
 same_from f k same a zero = refl

@@ -12,3 +12,4 @@ pub mod WrittenPackets
 pub mod HeaderLaws
 pub mod PartLaws
 pub mod WrittenLaws
+mod Examples

@@ -6,7 +6,8 @@ use Rattle.std.proofs.lemmas.List.{append-nil}
 use Rattle.std.proofs.lemmas.List.FromFn.{map-range_with_len_more}
 use Rattle.std.proofs.lemmas.Grind.{flat_map-append}
 use Rattle.jk_math.specs.declared.fault.Fault.{Fault}
-use Rattle.jk_math.specs.declared.fault.Fault.TheVariants.{Memory, Limit}
+use Rattle.jk_math.specs.declared.fault.Fault.TheVariants.{Limit}
+use Rattle.jk_math.specs.Memory.{IsMemory}
 use Rattle.jk_marks.specs.Codestream.{Part, part_text}
 use Rattle.jk_packet.specs.Empty.{written_empty}
 use Rattle.jk_params.specs.declared.parameters.Parameters.{Parameters}
@@ -39,7 +40,7 @@ parts_more f t =
     ap (flat_map part_text) (map-range_with_len_more f 0 t t same) ∙ flat_map-append part_text before (f t ∷ []) ∙ ap (λ (x : List ℕ). flat_map part_text before ++ x) (append-nil (part_text (f t)))
 
 -- a part that isn't too long
-pub only_memory : {X : Type 0} (r : Result X Fault) → IfErr r (λ e. (e ≡ Memory) ⊎ (e ≡ Limit)) → (r ≡ Err Limit → ⊥) → IfErr r (λ e. e ≡ Memory)
+pub only_memory : {X : Type 0} (r : Result X Fault) → IfErr r (λ e. IsMemory e ⊎ (e ≡ Limit)) → (r ≡ Err Limit → ⊥) → IfErr r (λ e. IsMemory e)
 only_memory (Ok x) h short = tt
 only_memory (Err e) h short = elim h [
   | inl is ↦ is

@@ -9,19 +9,16 @@ use Rattle.jk_math.specs.declared.rect.Rect.{Rect}
 use Rattle.jk_math.specs.Picture.{Picture}
 use Rattle.jk_marks.specs.declared.coding.Coding.{Coding}
 use Rattle.jk_marks.specs.Siz.{IsSiz, tile_count}
-use Rattle.jk_marks.proofs.Numbers.{AreBytes, are_bytes_after}
+use Rattle.jk_math.proofs.Laws.{AreBytes, are_bytes_after, are_bytes_taken}
 use Rattle.jk_boxes.specs.Reading.{boxes_at}
-use Rattle.jk_boxes.proofs.Numbers.{are_bytes_taken}
-use Rattle.jk_boxes.proofs.FileLaws.{boxes_take, boxes_again}
+use Rattle.jk_boxes.proofs.Laws.{boxes_take, boxes_again}
 use Rattle.jk_geom.specs.Rectangles.{is_empty}
 use Rattle.jk_geom.specs.Partitions.{image_area, reduced_area}
-use Rattle.jk_geom.proofs.Cells.{sides_some}
-use Rattle.jk_geom.proofs.TileLaws.{tile_covers}
+use Rattle.jk_geom.proofs.Laws.{sides_some}
+use Rattle.jk_geom.proofs.Laws.{tile_covers}
 use Rattle.jk_params.specs.Headers.{Headers, TileFields, tile_in, IsHeaders, AreHeaders}
 use Rattle.jk_params.specs.HeadersReading.{headers_at}
-use Rattle.jk_params.proofs.HeadersLaws.{found_headers}
-use Rattle.jk_params.proofs.HeadersAgain.{only_headers}
-use Rattle.jk_params.proofs.SoundLaws.{sound_headers}
+use Rattle.jk_params.proofs.Laws.{found_headers, only_headers, sound_headers}
 use Rattle.jk_code.specs.Meaning.{IsFrameOf, ShowsTile, MeansPicture, Means}
 use Rattle.jk_code.specs.MeaningReading.{packets_at, tiles_from, has_levels, holds_below, reduction_at, blank, picture_at, image_at, meaning_at}
 use Rattle.jk_code.proofs.HeaderFacts.{levels_found, levels_only, sides_of}

@@ -6,13 +6,13 @@ use Rattle.std.proofs.lemmas.List.{drop_at, get_or-append-add, length-replicate}
 use Rattle.jk_math.specs.Answer.{◌>>=◌}
 use Rattle.jk_math.specs.Steps.{bind_then, refuse_then, guarded, chosen, done, ok_is}
 use Rattle.jk_math.specs.declared.fault.Fault.TheVariants.{SurplusBytes, MissingPackets, Truncated, NotYet}
-use Rattle.jk_marks.proofs.Numbers.{AreBytes}
+use Rattle.jk_math.proofs.Laws.{AreBytes}
 use Rattle.jk_packet.specs.PacketText.{IsHeaderText}
 use Rattle.jk_packet.specs.Reading.{sop_at, eph_at}
 use Rattle.jk_packet.specs.Empty.{empty_at}
-use Rattle.jk_packet.proofs.EmptyLaws.{EmptyFound, empty_found, empty_only}
+use Rattle.jk_packet.proofs.Laws.{EmptyFound, empty_found, empty_only}
 use Rattle.jk_code.specs.Packets.{Layer, Empty, IsPacket, GivesNothing, IsTile}
-use Rattle.jk_code.specs.MeaningReading.{part_at, tile_at}
+use Rattle.jk_code.specs.MeaningReading.{part_packets_at, tile_packets_at}
 
 -- the texts of empty packets
 abbrev pub Texts : (sop eph : Bool) → List (List ℕ) → Type 0
@@ -58,14 +58,14 @@ one_found sop eph left more n bytes found rest =
       many = omega (arith, many);
     }
 
-pub part_found : (sop eph : Bool) (left more : ℕ) (bytes : List ℕ) → part_at sop eph left bytes ≡ Ok more → PartFound sop eph left more bytes
-unfolding part_at
+pub part_found : (sop eph : Bool) (left more : ℕ) (bytes : List ℕ) → part_packets_at sop eph left bytes ≡ Ok more → PartFound sop eph left more bytes
+unfolding part_packets_at
 part_found sop eph zero more bytes e =
     refuse_then (not (eqb (length bytes) 0)) SurplusBytes _ more e (λ none f.
     none_found sop eph 0 more bytes (eqb-true (length bytes) 0 (not-false (eqb (length bytes) 0) none)) (ok_is 0 more f)
     )
 part_found sop eph (suc left) more bytes e =
-    elim (chosen (eqb (length bytes) 0) (done (suc left)) (empty_at sop eph bytes >>= λ n. part_at sop eph left (drop n bytes)) (done more) e) [
+    elim (chosen (eqb (length bytes) 0) (done (suc left)) (empty_at sop eph bytes >>= λ n. part_packets_at sop eph left (drop n bytes)) (done more) e) [
       | inl h ↦ none_found sop eph (suc left) more bytes (eqb-true (length bytes) 0 h.0) (ok_is (suc left) more h.1)
       | inr h ↦ bind_then (empty_at sop eph bytes) _ more h.1 (λ n s f. one_found sop eph left more n bytes (empty_found sop eph bytes n s) (part_found sop eph left more (drop n bytes) f))
     ]
@@ -88,14 +88,14 @@ run_found sop eph left more p parts part tile =
       many = omega (arith, long, some, others);
     }
 
-pub tile_found : (sop eph : Bool) (left : ℕ) (parts : List (List ℕ)) (u : Unit {0}) → tile_at sop eph left parts ≡ Ok u → TileFound sop eph left parts
-unfolding tile_at
+pub tile_found : (sop eph : Bool) (left : ℕ) (parts : List (List ℕ)) (u : Unit {0}) → tile_packets_at sop eph left parts ≡ Ok u → TileFound sop eph left parts
+unfolding tile_packets_at
 tile_found sop eph left [] u e =
     let test = guarded (not (eqb left 0)) MissingPackets (done tt) u e in
     let none : left ≡ 0 = eqb-true left 0 (not-false (eqb left 0) test.0) in
     record { runs = []; packets = tt; cut = refl; many = sym none }
 tile_found sop eph left (p ∷ parts) u e =
-    bind_then (part_at sop eph left p) _ u e (λ more s f. run_found sop eph left more p parts (part_found sop eph left more p s) (tile_found sop eph more parts u f))
+    bind_then (part_packets_at sop eph left p) _ u e (λ more s f. run_found sop eph left more p parts (part_found sop eph left more p s) (tile_found sop eph more parts u f))
 
 empties : (sop eph : Bool) (n : ℕ) (texts : List (List ℕ)) → length texts ≡ n → Texts sop eph texts → AllZip (IsPacket sop eph) (replicate n Empty) texts
 empties sop eph zero [] e h = tt
@@ -104,7 +104,7 @@ empties sop eph (suc n) [] e h = absurd (omega (arith, e))
 empties sop eph (suc n) (t ∷ texts) e h = (h.0, empties sop eph n texts (omega (arith, e)) h.1)
 
 -- The parts of a tile that is read hold so many empty packets.
-pub packets_found : (sop eph : Bool) (n : ℕ) (parts : List (List ℕ)) (u : Unit {0}) → tile_at sop eph n parts ≡ Ok u → IsTile sop eph n (replicate n Empty) parts
+pub packets_found : (sop eph : Bool) (n : ℕ) (parts : List (List ℕ)) (u : Unit {0}) → tile_packets_at sop eph n parts ≡ Ok u → IsTile sop eph n (replicate n Empty) parts
 packets_found sop eph n parts u e =
     let tile = tile_found sop eph n parts u e in
     record {
@@ -128,18 +128,18 @@ empty_some sop eph bytes n h =
     let total = ok_is (front + 1 + behind) n h4 in omega (arith, total)
     ))))
 
-part_none : (sop eph : Bool) (left : ℕ) → part_at sop eph left [] ≡ Ok left
-unfolding part_at
+part_none : (sop eph : Bool) (left : ℕ) → part_packets_at sop eph left [] ≡ Ok left
+unfolding part_packets_at
 part_none sop eph zero = refl
 part_none sop eph (suc left) = refl
 
-part_next : (sop eph : Bool) (left n : ℕ) (bytes rest : List ℕ) → 0 < length bytes → empty_at sop eph bytes ≡ Ok n → drop n bytes ≡ rest → part_at sop eph (suc left) bytes ≡ part_at sop eph left rest
-unfolding part_at
+part_next : (sop eph : Bool) (left n : ℕ) (bytes rest : List ℕ) → 0 < length bytes → empty_at sop eph bytes ≡ Ok n → drop n bytes ≡ rest → part_packets_at sop eph (suc left) bytes ≡ part_packets_at sop eph left rest
+unfolding part_packets_at
 part_next sop eph left n bytes rest some e from =
     let full : eqb (length bytes) 0 ≡ false = ne_eqb (length bytes) 0 (λ none. omega (arith, none, some)) in
     rw (full, e, from) refl
 
-pub part_only : (sop eph : Bool) (texts : List (List ℕ)) (left : ℕ) → Texts sop eph texts → AreBytes (concat texts) → length texts ≤ left → part_at sop eph left (concat texts) ≡ Ok (left - length texts)
+pub part_only : (sop eph : Bool) (texts : List (List ℕ)) (left : ℕ) → Texts sop eph texts → AreBytes (concat texts) → length texts ≤ left → part_packets_at sop eph left (concat texts) ≡ Ok (left - length texts)
 part_only sop eph [] left h fits le = part_none sop eph left ∙ ap done (omega arith)
 part_only sop eph (t ∷ texts) zero h fits le = absurd (omega (arith, le))
 part_only sop eph (t ∷ texts) (suc left) h fits le =
@@ -152,8 +152,8 @@ part_only sop eph (t ∷ texts) (suc left) h fits le =
     let more = part_only sop eph texts left h.1 others (omega (arith, le)) in
     next ∙ more ∙ ap done (omega arith)
 
-pub tile_only : (sop eph : Bool) (runs : List (List (List ℕ))) (left : ℕ) → Texts sop eph (joined runs) → AllByRecursion AreBytes (map concat runs) → length (joined runs) ≡ left → tile_at sop eph left (map concat runs) ≡ Ok tt
-unfolding tile_at
+pub tile_only : (sop eph : Bool) (runs : List (List (List ℕ))) (left : ℕ) → Texts sop eph (joined runs) → AllByRecursion AreBytes (map concat runs) → length (joined runs) ≡ left → tile_packets_at sop eph left (map concat runs) ≡ Ok tt
+unfolding tile_packets_at
 tile_only sop eph [] left h fits e = let none : eqb left 0 ≡ true = eq-eqb left 0 (sym e) in rw none refl
 tile_only sop eph (run ∷ runs) left h fits e =
     let parts = all_split (IsHeaderText sop eph (false ∷ [])) run (joined runs) h in
@@ -169,13 +169,13 @@ zipped sop eph (l ∷ layers) [] h = absurd h
 zipped sop eph (Empty ∷ layers) (t ∷ texts) h = let more = zipped sop eph layers texts h.1 in ((h.0, more.0), ap suc more.1)
 
 -- The parts of a tile that hold its packets are read.
-pub packets_only : (sop eph : Bool) (n : ℕ) (layers : List Layer) (parts : List (List ℕ)) → AllByRecursion AreBytes parts → IsTile sop eph n layers parts → tile_at sop eph n parts ≡ Ok tt
+pub packets_only : (sop eph : Bool) (n : ℕ) (layers : List Layer) (parts : List (List ℕ)) → AllByRecursion AreBytes parts → IsTile sop eph n layers parts → tile_packets_at sop eph n parts ≡ Ok tt
 packets_only sop eph n layers parts fits is =
     let z = zipped sop eph layers is.texts is.packets in
     let texts : Texts sop eph (joined is.runs) = subst (Texts sop eph) (sym is.whole) z.0 in
     let count : length (joined is.runs) ≡ n = ap (λ (xs : List (List ℕ)). length xs) is.whole ∙ z.1 ∙ is.many in
     let cut : AllByRecursion AreBytes (map concat is.runs) = subst (λ (ps : List (List ℕ)). AllByRecursion AreBytes ps) (sym is.cut) fits in
-    ap (tile_at sop eph n) (sym is.cut) ∙ tile_only sop eph is.runs n texts cut count
+    ap (tile_packets_at sop eph n) (sym is.cut) ∙ tile_only sop eph is.runs n texts cut count
 
 -- no layer gives anything
 pub nothing_given : (layers : List Layer) → AllByRecursion GivesNothing layers

@@ -8,14 +8,13 @@ use Rattle.jk_marks.specs.declared.coding.Coding.{Coding}
 use Rattle.jk_marks.specs.Siz.{IsSiz, tile_count}
 use Rattle.jk_marks.specs.Codestream.{Part, of_tile, only_part_of, IsPart, AreParts, AreClosedBeforeLast}
 use Rattle.jk_geom.specs.Rectangles.{IsWithin, tile_area}
-use Rattle.jk_geom.specs.Partitions.{image_area}
 use Rattle.jk_geom.specs.Counts.{packet_number}
-use Rattle.jk_geom.proofs.TileLaws.{tile_found}
 use Rattle.jk_params.specs.declared.parameters.Parameters.{Parameters}
 use Rattle.jk_params.specs.Headers.{total, most_packets}
 use Rattle.jk_params.specs.Profile.{siz_of, coding_for, IsWrittenBy}
-use Rattle.jk_params.proofs.PlacesLaws.{put}
+use Rattle.jk_params.proofs.Laws.{put, part_of_total}
 use Rattle.jk_code.specs.Written.{packets_text, packets_in, part_for}
+use Rattle.jk_code.proofs.HeaderFacts.{some_tile}
 use Rattle.jk_code.proofs.WrittenPackets.{packets_short}
 
 -- the parts that are written
@@ -23,18 +22,6 @@ abbrev pub parts_for : Picture → Parameters → List Part
 parts_for p q = map (part_for p q) (range_with_len 0 (tile_count (siz_of p q)))
 
 -- sums over the numbers below n
-total_at : (f : ℕ → ℕ) (n t : ℕ) → t < n → f t ≤ total f n
-unfolding total
-total_at f zero t lt = absurd (omega (arith, lt))
-total_at f (suc n) t lt = by (eqb t n) refl (total_at f n t)
-  where
-    by : (b : Bool) → eqb t n ≡ b → (t < n → f t ≤ total f n) → f t ≤ total f n + f n
-    by true e below = let same : f t ≡ f n = ap f (eqb-true t n e) in omega (arith, same)
-    by false e below =
-        let differs = eqb-false t n e in
-        let rest = below (omega (arith, lt, differs)) in
-        omega (arith, rest)
-
 pub total_below : (f g : ℕ → ℕ) (n : ℕ) → ((t : ℕ) → t < n → f t ≡ g t) → total f n ≡ total g n
 unfolding total
 total_below f g zero same = refl
@@ -45,7 +32,7 @@ total_below f g (suc n) same =
 pub packets_few : (p : Picture) (q : Parameters) → IsWrittenBy q p → (t : ℕ) → t < tile_count (siz_of p q) → packets_in p q t ≤ most_packets
 packets_few p q by t lt =
     let all = by.few in
-    let one = total_at (λ i. packet_number (tile_area (siz_of p q) i) q.layers (replicate (length p.planes) (coding_for q))) (tile_count (siz_of p q)) t lt in
+    let one = part_of_total (λ i. packet_number (tile_area (siz_of p q) i) q.layers (replicate (length p.planes) (coding_for q))) (tile_count (siz_of p q)) t lt in
     omega (arith, all, one)
 
 -- the same number, by a size and codings that are the image's
@@ -85,15 +72,6 @@ one_part f a (suc n) t le lt = by (eqb a t) refl (one_part f (a + 1) n t)
 -- the only part of a tile
 pub part_said : (p : Picture) (q : Parameters) (t : ℕ) → t < tile_count (siz_of p q) → of_tile t (parts_for p q) ≡ part_for p q t ∷ []
 part_said p q t lt = one_part (λ i. packets_text q (packets_in p q i)) 0 (tile_count (siz_of p q)) t (omega arith) (omega (arith, lt))
-
--- there is a tile
-pub some_tile : (s : Siz) → IsSiz s → 0 < tile_count s
-some_tile s is =
-    let wide = is.wide in
-    let high = is.high in
-    let corner : IsWithin (image_area s) s.x0 s.y0 = record { left = omega arith; right = wide; upper = omega arith; lower = high } in
-    let found = (tile_found s s.x0 s.y0 is corner).0 in
-    omega (arith, found)
 
 all_run : {X : Type 0} (P : X → Type 0) (g : ℕ → X) (a n : ℕ) → ((t : ℕ) → t < a + n → P (g t)) → AllByRecursion P (map g (range_with_len a n))
 all_run P g a zero h = tt

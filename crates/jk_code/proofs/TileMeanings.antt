@@ -7,25 +7,24 @@ use Rattle.jk_math.specs.declared.rect.Rect.{Rect}
 use Rattle.jk_math.specs.Picture.{Picture, sample_at}
 use Rattle.jk_marks.specs.declared.siz.Siz.{Siz}
 use Rattle.jk_marks.specs.Siz.{IsSiz, tile_count}
-use Rattle.jk_marks.proofs.Numbers.{AreBytes, are_bytes_after}
-use Rattle.jk_boxes.proofs.Numbers.{are_bytes_taken}
+use Rattle.jk_math.proofs.Laws.{AreBytes, are_bytes_after, are_bytes_taken}
 use Rattle.jk_geom.specs.declared.shape.TileShape.{TileShape}
 use Rattle.jk_geom.specs.declared.shape.PacketName.{PacketName}
 use Rattle.jk_geom.specs.Rectangles.{IsWithin, tile_area}
 use Rattle.jk_geom.specs.Partitions.{image_area, reduced_area}
 use Rattle.jk_geom.specs.TileShapes.{coding_of}
-use Rattle.jk_geom.proofs.TileLaws.{tile_inside}
+use Rattle.jk_geom.proofs.Laws.{tile_inside}
 use Rattle.jk_order.specs.PacketOrder.{IsPacketOrder, packet_count, order}
-use Rattle.jk_order.proofs.OrderLaws.{order_is}
-use Rattle.jk_order.proofs.LengthLaws.{length_of}
+use Rattle.jk_order.proofs.Laws.{order_is}
+use Rattle.jk_order.proofs.Laws.{length_of}
 use Rattle.jk_params.specs.Headers.{Headers, tile_in}
 use Rattle.jk_code.specs.Packets.{Empty}
 use Rattle.jk_code.specs.Samples.{sample_of}
 use Rattle.jk_code.specs.Resolutions.{tile_sample}
 use Rattle.jk_code.specs.Meaning.{slice_of, shape_of, shown_area, values_of, ShowsTile}
-use Rattle.jk_code.specs.MeaningReading.{tile_at, packets_at, blank}
+use Rattle.jk_code.specs.MeaningReading.{tile_packets_at, packets_at, blank}
 use Rattle.jk_code.proofs.PacketLaws.{packets_found, packets_only, nothing_given}
-use Rattle.jk_code.proofs.HeaderFacts.{packets_in}
+use Rattle.jk_params.proofs.Laws.{packets_in}
 use Rattle.jk_code.proofs.ZeroLaws.{zero_resolution, zero_sample}
 
 -- the picture at a reduction whose coefficients are all zero
@@ -83,7 +82,7 @@ tile_shows bytes h d t siz lt e =
         names = names;
         order = is;
         layers = replicate (length names) Empty;
-        packets = packets_found f.cod.sop f.cod.eph (length names) parts tt (ap (λ n. tile_at f.cod.sop f.cod.eph n parts) count ∙ e);
+        packets = packets_found f.cod.sop f.cod.eph (length names) parts tt (ap (λ n. tile_packets_at f.cod.sop f.cod.eph n parts) count ∙ e);
         coefficients = λ _ _ _ _. pos 0;
         blocks = λ _ _ _ _ _. refl;
         shown = λ component x y some inside. sym (zero_pixel h t d component x y (λ _ _ _ _. pos 0) (λ _ _ _ _. refl));
@@ -102,7 +101,7 @@ tile_read bytes h d p t fits show =
     let tile = show.decoded in
     let parts = map (slice_of bytes) f.data_places in
     let count = names_count h t tile.names tile.order in
-    ap (λ n. tile_at f.cod.sop f.cod.eph n parts) (sym count) ∙ packets_only f.cod.sop f.cod.eph (length tile.names) tile.layers parts (slices_fit bytes f.data_places fits) tile.packets
+    ap (λ n. tile_packets_at f.cod.sop f.cod.eph n parts) (sym count) ∙ packets_only f.cod.sop f.cod.eph (length tile.names) tile.layers parts (slices_fit bytes f.data_places fits) tile.packets
 
 -- The samples of a tile that is shown are those of zero.
 pub tile_zero : (bytes : List ℕ) (h : Headers) (d : ℕ) (p : Picture) (t component x y : ℕ) → ShowsTile bytes h d p t → component < h.siz.components → IsWithin (shown_area h.siz t d) x y

@@ -13,17 +13,15 @@ use Rattle.jk_geom.specs.Rectangles.{IsWithin, tile_area, resolution_area}
 use Rattle.jk_geom.specs.Partitions.{image_area, reduced_area}
 use Rattle.jk_geom.specs.TileShapes.{coding_of}
 use Rattle.jk_geom.specs.Counts.{packet_number}
-use Rattle.jk_geom.proofs.TileLaws.{tile_inside}
+use Rattle.jk_geom.proofs.Laws.{tile_inside}
 use Rattle.jk_order.specs.PacketOrder.{order, packet_count}
-use Rattle.jk_order.proofs.OrderLaws.{order_is}
-use Rattle.jk_order.proofs.LengthLaws.{length_of}
+use Rattle.jk_order.proofs.Laws.{order_is}
+use Rattle.jk_order.proofs.Laws.{length_of}
 use Rattle.jk_params.specs.declared.parameters.Parameters.{Parameters}
 use Rattle.jk_params.specs.Coding.{HasPlanes, coding_of as coding_by}
-use Rattle.jk_params.specs.Headers.{Headers, TileFields, places_from, head_segments, tile_in, headers_of, packets_alike, packets_of, most_packets, IsHeaders}
+use Rattle.jk_params.specs.Headers.{Headers, TileFields, head_segments, tile_in, headers_of, packets_alike, packets_of, most_packets, IsHeaders}
 use Rattle.jk_params.specs.Profile.{siz_of, cod_of, packets_for, IsWrittenBy}
-use Rattle.jk_params.proofs.PlacesLaws.{contents_of}
-use Rattle.jk_params.proofs.PartsLaws.{tiles_said, fields_with, said_at}
-use Rattle.jk_params.proofs.ProfileLaws.{same_packets, tile_same}
+use Rattle.jk_params.proofs.Laws.{places_from, contents_from, tiles_said, fields_with, said_at, same_packets, tile_same}
 use Rattle.jk_code.specs.Packets.{Empty, IsTile}
 use Rattle.jk_code.specs.Samples.{shift}
 use Rattle.jk_code.specs.Meaning.{slice_of, shape_of, values_of, DecodesTile, IsFrameOf, ShowsTile, MeansPicture, Means}
@@ -77,7 +75,7 @@ headers_are p q is by =
     let n = length p.planes in
     record {
       tree = tree_for p q;
-      spelled = record { header = main_is p q by; parts = parts_are p q by; text = refl };
+      spelled = record { header = main_is p q is by; parts = parts_are p q by; text = refl };
       says = refl;
       main_planes = λ c lt. subst HasPlanes (sym (coding_said p q by c)) (planes_said p q is);
       main_few = subst (λ (ks : List Coding). packets_alike (siz_of p q) q.layers ks ≤ most_packets) (sym (codings_said p q by n)) (subst (λ k. k ≤ most_packets) (sym (main_few p q)) few);
@@ -112,7 +110,7 @@ frame_is p q is =
 
 -- the data of a tile
 content_said : (p : Picture) (q : Parameters) (t : ℕ) → t < tile_count (siz_of p q) → map (slice_of (codestream_text (tree_for p q))) (places_for p q t) ≡ packets_text q (packets_in p q t) ∷ []
-content_said p q t lt = contents_of (codestream_text (tree_for p q)) (tree_for p q) t refl ∙ ap (λ (ps : List Part). map (λ (x : Part). x.content) ps) (part_said p q t lt)
+content_said p q t lt = contents_from (codestream_text (tree_for p q)) (tree_for p q) t refl ∙ ap (λ (ps : List Part). map (λ (x : Part). x.content) ps) (part_said p q t lt)
 
 names_count : (p : Picture) (q : Parameters) (t : ℕ) → packets_in p q t ≡ length (order (shape_of (siz_of p q) (fields_for p q t) t))
 unfolding packet_count

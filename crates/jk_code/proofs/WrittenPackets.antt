@@ -4,7 +4,7 @@ use Rattle.std.specs.List.{flat_map, concat, range_with_len, AllZip}
 use Rattle.std.proofs.lemmas.List.{append-nil, length-replicate}
 use Rattle.jk_packet.specs.PacketText.{eph_text}
 use Rattle.jk_packet.specs.Empty.{sop_text, written_empty}
-use Rattle.jk_packet.proofs.EmptyLaws.{written_is_empty}
+use Rattle.jk_packet.proofs.Laws.{written_is_empty}
 use Rattle.jk_params.specs.declared.parameters.Parameters.{Parameters}
 use Rattle.jk_code.specs.Packets.{Empty, IsPacket, IsTile}
 use Rattle.jk_code.specs.Written.{packets_text}

@@ -7,7 +7,8 @@ use Rattle.jk_math.specs.Division.{floor_of}
 use Rattle.jk_geom.specs.Rectangles.{resolution_area}
 use Rattle.jk_lift.specs.Lifting.{before, after, odd_sample, even_at, unlifted}
 use Rattle.jk_code.specs.Samples.{sample_of}
-use Rattle.jk_code.specs.Resolutions.{woven, resolution_of, uncoloured, tile_sample}
+use Rattle.jk_wave.specs.Resolutions.{woven_plane, resolution_of}
+use Rattle.jk_code.specs.Resolutions.{uncoloured, tile_sample}
 
 -- a test between two that are zero
 zero_either : (b : Bool) (x y : ℤ) → x ≡ pos 0 → y ≡ pos 0 → cond b x y ≡ pos 0
@@ -27,8 +28,8 @@ zero_line i0 i1 y h i =
     let odd : odd_sample (y i) (even_at i0 i1 y (before i0 i1 i)) (even_at i0 i1 y (after i0 i1 i)) ≡ pos 0 = rw (kept, zero_even i0 i1 y h (before i0 i1 i), zero_even i0 i1 y h (after i0 i1 i)) refl in
     zero_either (eqb (i1 - i0) 1) _ _ (zero_either (eqb (i % 2) 0) _ _ kept halved) (zero_either (eqb (i % 2) 0) _ _ (zero_even i0 i1 y h i) odd)
 
-zero_woven : (low : ℕ → ℕ → ℤ) (high : ℕ → ℕ → ℕ → ℤ) → ((x y : ℕ) → low x y ≡ pos 0) → ((o x y : ℕ) → high o x y ≡ pos 0) → (x y : ℕ) → woven low high x y ≡ pos 0
-unfolding woven
+zero_woven : (low : ℕ → ℕ → ℤ) (high : ℕ → ℕ → ℕ → ℤ) → ((x y : ℕ) → low x y ≡ pos 0) → ((o x y : ℕ) → high o x y ≡ pos 0) → (x y : ℕ) → woven_plane low high x y ≡ pos 0
+unfolding woven_plane
 zero_woven low high l h x y = zero_either (eqb (x % 2) 0 && eqb (y % 2) 0) _ _ (l (x / 2) (y / 2)) (h (x % 2 + 2 * (y % 2)) (x / 2) (y / 2))
 
 -- Each resolution of sub-bands that are zero is zero.
@@ -38,7 +39,7 @@ zero_resolution rect levels zero bands h x y = h 0 x y
 zero_resolution rect levels (suc r) bands h x y =
     let area = resolution_area rect levels (suc r) in
     let high : ℕ → ℕ → ℕ → ℤ = λ o. bands (3 * r + o) in
-    let plane = woven (resolution_of rect levels bands r) high in
+    let plane = woven_plane (resolution_of rect levels bands r) high in
     zero_line area.y0 area.y1 _
     (λ j. zero_line area.x0 area.x1 (λ i. plane i j) (λ i. zero_woven (resolution_of rect levels bands r) high (zero_resolution rect levels r bands h) (λ o. h (3 * r + o)) i j) x) y
 

@@ -15,7 +15,8 @@ use Rattle.jk_geom.specs.TileShapes.{coding_of}
 use Rattle.jk_order.specs.PacketOrder.{IsPacketOrder}
 use Rattle.jk_params.specs.Headers.{Headers, TileFields, tile_in, IsHeaders}
 use Rattle.jk_code.specs.Packets.{Layer, GivesNothing, IsTile}
-use Rattle.jk_code.specs.Resolutions.{resolution_of, tile_sample}
+use Rattle.jk_wave.specs.Resolutions.{resolution_of}
+use Rattle.jk_code.specs.Resolutions.{tile_sample}
 
 -- the bytes of a place
 abbrev pub slice_of : List ℕ → ℕ × ℕ → List ℕ

@@ -19,20 +19,20 @@ use Rattle.jk_code.specs.Samples.{sample_of}
 use Rattle.jk_code.specs.Meaning.{slice_of}
 
 -- the packets of one part, where so many are left: how many are left behind it
-unfoldable pub part_at : (sop eph : Bool) → (left : ℕ) → List ℕ → Result ℕ Fault
-part_at sop eph zero bytes = refuse (not (length bytes == 0)) SurplusBytes >>= λ _. Ok 0
-part_at sop eph (suc left) bytes = if length bytes == 0 then Ok (suc left) else (empty_at sop eph bytes >>= λ n. part_at sop eph left (drop n bytes))
+unfoldable pub part_packets_at : (sop eph : Bool) → (left : ℕ) → List ℕ → Result ℕ Fault
+part_packets_at sop eph zero bytes = refuse (not (length bytes == 0)) SurplusBytes >>= λ _. Ok 0
+part_packets_at sop eph (suc left) bytes = if length bytes == 0 then Ok (suc left) else (empty_at sop eph bytes >>= λ n. part_packets_at sop eph left (drop n bytes))
 
 -- the packets of a tile, where so many are left, from the data of its parts
-unfoldable pub tile_at : (sop eph : Bool) → (left : ℕ) → List (List ℕ) → Result (Unit {0}) Fault
-tile_at sop eph left [] = refuse (not (left == 0)) MissingPackets
-tile_at sop eph left (p ∷ parts) = part_at sop eph left p >>= λ more. tile_at sop eph more parts
+unfoldable pub tile_packets_at : (sop eph : Bool) → (left : ℕ) → List (List ℕ) → Result (Unit {0}) Fault
+tile_packets_at sop eph left [] = refuse (not (left == 0)) MissingPackets
+tile_packets_at sop eph left (p ∷ parts) = part_packets_at sop eph left p >>= λ more. tile_packets_at sop eph more parts
 
 -- the packets of tile t
 abbrev pub packets_at : List ℕ → Headers → ℕ → Result (Unit {0}) Fault
 packets_at bytes h t =
     let f = tile_in h.tiles t in
-    tile_at f.cod.sop f.cod.eph (packet_number (tile_area h.siz t) f.cod.layers f.codings) (map (slice_of bytes) f.data_places)
+    tile_packets_at f.cod.sop f.cod.eph (packet_number (tile_area h.siz t) f.cod.layers f.codings) (map (slice_of bytes) f.data_places)
 
 -- the packets of so many tiles, from tile t on
 unfoldable pub tiles_from : List ℕ → Headers → (more t : ℕ) → Result (Unit {0}) Fault

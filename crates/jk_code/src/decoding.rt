@@ -7,7 +7,7 @@ ghost use Rattle.jk_math.specs.Picture.{Picture};
 ghost use Rattle.jk_marks.specs.Siz.{tile_count};
 ghost use Rattle.jk_params.specs.Headers.{AreHeaders};
 ghost use Rattle.jk_code.specs.Meaning.{Means, slice_of};
-ghost use Rattle.jk_code.specs.MeaningReading.{part_at, tile_at, packets_at, tiles_from, picture_at, image_at, meaning_at};
+ghost use Rattle.jk_code.specs.MeaningReading.{part_packets_at, tile_packets_at, packets_at, tiles_from, picture_at, image_at, meaning_at};
 
 use crate::reduction::check_reduction;
 use crate::samples::blank_image;
@@ -29,7 +29,7 @@ struct PacketMarkers {
 
 /// How many packets are left behind those of one part of a tile, where so many were left before it.
 fn part_packets(markers: PacketMarkers, count: u64, content: &[u8]) -> Result<u64, Fault>
-    ensures { result ≡ part_at markers.sop markers.eph count content.now }
+    ensures { result ≡ part_packets_at markers.sop markers.eph count content.now }
 {
     let mut left = count;
     let mut at = 0;
@@ -52,7 +52,7 @@ fn tile_packets(
     places: &[(usize, usize)],
 ) -> Result<(), Fault>
     requires { AllByRecursion (λ p. (p.0 ≤ p.1) × (p.1 ≤ length bytes.now)) places.now }
-    ensures { result ≡ tile_at markers.sop markers.eph count (map (slice_of bytes.now) places.now) }
+    ensures { result ≡ tile_packets_at markers.sop markers.eph count (map (slice_of bytes.now) places.now) }
 {
     let mut left = count;
     for index in 0..places.len() {

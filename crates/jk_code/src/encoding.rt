@@ -3,6 +3,7 @@
 ghost use Rattle.std.specs.Prelude.{◌≡◌, ◌≤◌, ◌<◌, ◌+◌, ◌*◌, ◌^◌, ◌++◌, length, true, IfOk, IfErr, OnOk};
 ghost use Rattle.std.specs.Ordering.{int_eq};
 ghost use Rattle.std.specs.List.{list_all, flat_map};
+ghost use Rattle.jk_math.specs.Memory.{IsMemory};
 ghost use Rattle.jk_math.specs.Answer.{Answers};
 ghost use Rattle.jk_math.specs.Picture.{IsPicture};
 ghost use Rattle.jk_marks.specs.Siz.{IsSiz, tile_count};
@@ -12,20 +13,17 @@ ghost use Rattle.jk_geom.specs.Rectangles.{tile_area};
 ghost use Rattle.jk_geom.specs.TileShapes.{AreCodings};
 ghost use Rattle.jk_geom.specs.Counts.{packet_number};
 ghost use Rattle.jk_params.specs.Headers.{most_packets};
-ghost use Rattle.jk_params.specs.Profile.{cod_of, IsWrittenBy};
+ghost use Rattle.jk_params.specs.Profile.{IsWrittenBy};
 ghost use Rattle.jk_code.specs.Meaning.{Means, MeansPicture};
 ghost use Rattle.jk_code.specs.Written.{gain, exponents_for, main_for, tree_for, packets_text, is_blank, contained, written};
 
 use crate::samples::level_shift;
 use jk_boxes::wrap;
 use jk_geom::{Codings, packet_count, tile, tile_count};
-use jk_marks::{
-    Cod, CodingStyle, Exponents, Main, Precincts, Quantisation, Siz, write_end, write_main,
-    write_tile_part,
-};
+use jk_marks::{Exponents, Main, Quantisation, Siz, write_end, write_main, write_tile_part};
 use jk_math::{Fault, Image};
 use jk_packet::write_empty_packet;
-use jk_params::{Container, Parameters, codings_for, siz_of};
+use jk_params::{Container, Parameters, cod_of, codings_for, siz_of};
 use std::alloc::Global;
 
 /// Whether each sample is this one.
@@ -48,27 +46,6 @@ fn is_blank(image: &Image) -> bool
         blank = blank && are_all(planes.plane(c), grey);
     }
     blank
-}
-
-/// The coding style segment.
-fn cod(parameters: &Parameters) -> Cod
-    requires { length parameters.now.precincts.items ≤ 11 }
-    ensures { result ≡ cod_of parameters.now }
-{
-    Cod {
-        sop: parameters.sop,
-        eph: parameters.eph,
-        order: parameters.order,
-        layers: parameters.layers,
-        colour: parameters.colour,
-        style: CodingStyle {
-            levels: parameters.levels,
-            xcb: parameters.xcb,
-            ycb: parameters.ycb,
-            style: 0,
-            precincts: Precincts::new(&parameters.precincts),
-        },
-    }
 }
 
 /// By how many bits a sub-band may pass the depth of the samples.
@@ -109,7 +86,7 @@ fn main_header(image: &Image, parameters: &Parameters) -> Main
 {
     Main {
         siz: siz_of(image, parameters),
-        cod: cod(parameters),
+        cod: cod_of(parameters),
         qcd: Quantisation {
             guard: 2,
             exponents: exponents(image.depth(), parameters.levels),
@@ -122,7 +99,7 @@ fn main_header(image: &Image, parameters: &Parameters) -> Main
 /// Appends so many empty packets.
 fn put_packets(out: &mut Vec<u8>, parameters: &Parameters, count: u64) -> Result<(), Fault>
     ensures ok { OnOk result (out.new.items ≡ out.old.items ++ packets_text parameters.now count) }
-    ensures err { IfErr result (λ e. e ≡ Fault.Memory) }
+    ensures err { IfErr result (λ e. IsMemory e) }
 {
     for i in 0..count {
         write_empty_packet(parameters.sop, parameters.eph, (i % 65536) as u16, out)?;
@@ -146,7 +123,7 @@ fn put_tile(
     requires few { packet_number (tile_area siz.now tile_number) parameters.now.layers codings.now ≤ most_packets }
     ensures ok { OnOk result (out.new.items ≡ out.old.items
         ++ part_text (only_part_of tile_number (packets_text parameters.now (packet_number (tile_area siz.now tile_number) parameters.now.layers codings.now)))) }
-    ensures err { IfErr result (λ e. e ≡ Fault.Memory) }
+    ensures err { IfErr result (λ e. IsMemory e) }
 {
     let packets = packet_count(&tile(siz, tile_number), parameters.layers, codings);
     content.clear();
@@ -163,7 +140,7 @@ fn put_tiles(
 ) -> Result<(), Fault>
     requires { IsWrittenBy parameters.now image.now }
     ensures ok { OnOk result (out.new.items ≡ out.old.items ++ flat_map part_text (tree_for image.now parameters.now).parts) }
-    ensures err { IfErr result (λ e. e ≡ Fault.Memory) }
+    ensures err { IfErr result (λ e. IsMemory e) }
 {
     let siz = siz_of(image, parameters);
     let codings = codings_for(parameters, siz.components as usize);
@@ -181,7 +158,7 @@ fn codestream(alloc: Global, image: &Image, parameters: &Parameters) -> Result<V
     ensures value { IfOk result (λ v. v.items ≡ codestream_text (tree_for image.now parameters.now)) }
     ensures means { IfOk result (λ v. MeansPicture v.items 0 image.now) }
     ensures bare { IfOk result (λ v. Holds v.items v.items) }
-    ensures err { IfErr result (λ e. e ≡ Fault.Memory) }
+    ensures err { IfErr result (λ e. IsMemory e) }
 {
     let mut out = Vec::new(alloc);
     write_main(&main_header(image, parameters), &mut out)?;

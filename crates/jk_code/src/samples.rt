@@ -1,6 +1,7 @@
 //! From values to samples, and images of one value.
 
 ghost use Rattle.std.specs.Prelude.{◌≡◌, ◌+◌, ◌-◌, ◌*◌, ◌<◌, ◌≤◌, ◌^◌, IfOk, IfErr, Ok, replicate, pos, ◌≤ℤ◌, ◌<ℤ◌, neg_ℤ};
+ghost use Rattle.jk_math.specs.Memory.{IsMemory};
 ghost use Rattle.jk_math.specs.Answer.{Answers};
 ghost use Rattle.jk_math.specs.Picture.{IsFrame, lists_of};
 ghost use Rattle.jk_marks.specs.Siz.{IsSiz};
@@ -53,7 +54,7 @@ fn sample(siz: &Siz, value: i32) -> i32
 #[tactic(auto, using(crate::proofs::Planes::planes_more))]
 fn planes(alloc: Global, components: u16, area: usize, sample: i32) -> Result<Vec<Vec<i32>>, Fault>
     ensures value { IfOk result (λ v. lists_of v.items ≡ replicate components (replicate area sample)) }
-    ensures err { IfErr result (λ e. e ≡ Fault.Memory) }
+    ensures err { IfErr result (λ e. IsMemory e) }
 {
     let mut planes = Vec::new(alloc);
     for _ in 0..components {

@@ -11,17 +11,13 @@ use Rattle.jk_geom.specs.declared.grid.BlockGrid.{BlockGrid}
 use Rattle.jk_geom.specs.Rectangles.{ceil_div, is_empty, IsWithin, meet, cell, across_offset, down_offset, resolution_area, band_area}
 use Rattle.jk_geom.specs.Precincts.{span, precincts_across, precincts_down, precinct_number, precinct_column, precinct_row, band_exponent, part_width, part_height, precinct_area}
 use Rattle.jk_geom.specs.Blocks.{grid_of, block_grid, block_area, no_blocks}
-use Rattle.jk_geom.specs.Partitions.{IsBand, woven_area, woven_x, woven_y, block_number, BlockHolds}
+use Rattle.jk_geom.specs.Partitions.{IsBand, woven_area, woven_x, woven_y, block_number, BlockHolds, block_of, precinct_of}
 use Rattle.jk_geom.proofs.Ceilings.{raster_column, raster_row}
 use Rattle.jk_geom.proofs.GridLaws.{full_grid, grid_empty, grid_full}
 use Rattle.jk_geom.proofs.Cells.{ceil_above, cell_to, cell_after, cell_before, span_some, half_cell, raster_one, within_cell, IsCellOf, cell_within, within_some, sides_some}
 use Rattle.jk_geom.proofs.Weaving.{woven}
 
 -- ---- the code-blocks of a rectangle
-
--- the code-block of a place
-abbrev pub block_of : Rect → (w h x y : ℕ) → ℕ
-block_of a w h x y = (y / 2 ^ h - a.y0 / 2 ^ h) * (ceil_div a.x1 (2 ^ w) - a.x0 / 2 ^ w) + (x / 2 ^ w - a.x0 / 2 ^ w)
 
 block_is : (g : BlockGrid) (i : ℕ) → block_area g i ≡ meet (cell (g.column + i % g.across) (g.row + i / g.across) g.width g.height) g.area
 unfolding block_area
@@ -196,12 +192,6 @@ seen_before lo hi e u part s =
     let left = s.left in
     let right = s.right in
     subst (λ n. u / 2 ^ part - lo / 2 ^ e < n) (sym (span_some lo hi e (omega arith))) (omega arith)
-
--- the precinct of a place
-abbrev pub precinct_of : Rect → Coding → (r x y : ℕ) → ℕ
-precinct_of a k r x y =
-    (y / 2 ^ part_height k r - (resolution_area a k.levels r).y0 / 2 ^ (precinct_size k r).1) * precincts_across a k r
-    + (x / 2 ^ part_width k r - (resolution_area a k.levels r).x0 / 2 ^ (precinct_size k r).0)
 
 part_is_cell : (a : Rect) (k : Coding) (r n : ℕ) (o : Orientation)
     → precinct_area a k r n o ≡ meet (cell (precinct_column a k r n) (precinct_row a k r n) (part_width k r) (part_height k r)) (band_area a k.levels r o)

@@ -5,4 +5,6 @@ pub mod Weaving
 pub mod TileLaws
 pub mod BlockLaws
 pub mod Counts
+pub mod FewBlocks
+pub mod Laws
 mod Examples

@@ -5,7 +5,7 @@ use Rattle.jk_math.specs.declared.rect.Rect.{Rect}
 use Rattle.jk_marks.specs.declared.siz.Siz.{Siz}
 use Rattle.jk_marks.specs.Siz.{IsSiz, tiles_across, tiles_down, tile_count}
 use Rattle.jk_geom.specs.Rectangles.{IsWithin, tile_area}
-use Rattle.jk_geom.specs.Partitions.{image_area, reduced_area, TileHolds}
+use Rattle.jk_geom.specs.Partitions.{image_area, reduced_area, TileHolds, tile_of}
 use Rattle.jk_geom.proofs.Cells.{cell_from, cell_to, cell_one, above_ceil, raster_one}
 use Rattle.jk_geom.proofs.Weaving.{reduced_to, reduced_from}
 
@@ -42,10 +42,6 @@ tile_place s t x y siz h =
       row = cell_one q (y - s.tile_y0) s.tile_height siz.tile_high (omega arith) (omega arith);
       image = record { left = omega arith; right = omega arith; upper = omega arith; lower = omega arith };
     }
-
--- the tile of a place
-abbrev pub tile_of : Siz → (x y : ℕ) → ℕ
-tile_of s x y = (y - s.tile_y0) / s.tile_height * tiles_across s + (x - s.tile_x0) / s.tile_width
 
 pub tile_found : (s : Siz) (x y : ℕ) → IsSiz s → IsWithin (image_area s) x y → (tile_of s x y < tile_count s) × IsWithin (tile_area s (tile_of s x y)) x y
 tile_found s x y siz is =

@@ -74,6 +74,7 @@ pub fn blocks(rect: &Rect, coding: &Coding, r: u8, k: u32, orientation: Orientat
     requires k { k < precinct_number rect.now coding.now r }
     ensures value { result ≡ block_grid rect.now coding.now r k orientation }
     ensures grid { IsGrid result }
+    ensures few { (result.across ≤ 2 ^ 13) × (result.down ≤ 2 ^ 13) }
 {
     let (width, height) = part_size(coding, r);
     let area = precinct(rect, coding, r, k, orientation);

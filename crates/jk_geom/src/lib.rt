@@ -4,16 +4,16 @@
 mod bands;
 mod count;
 mod grid;
-mod laws;
 mod precincts;
 mod rounding;
 mod shape;
+mod theorems;
 mod tiling;
 
 pub use bands::{Orientation, band, resolution};
 pub use count::packet_count;
 pub use grid::{BlockGrid, blocks};
-pub use laws::{blocks_share_a_band, resolutions_are_woven, tiles_share_the_image};
 pub use precincts::{precinct, precinct_count};
 pub use shape::{Codings, PacketName, TileShape, tile_shape};
+pub use theorems::{blocks_share_a_band, resolutions_are_woven, tiles_share_the_image};
 pub use tiling::{tile, tile_count};

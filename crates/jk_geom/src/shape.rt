@@ -61,6 +61,17 @@ impl Codings {
         self.count += 1;
     }
 
+    /// The same codings.
+    pub fn copy(&self) -> Codings
+        ensures { result ≡ self.now }
+    {
+        let [first, second, third, fourth] = &self.codings;
+        Codings {
+            count: self.count,
+            codings: [first.copy(), second.copy(), third.copy(), fourth.copy()],
+        }
+    }
+
     /// The codings.
     pub fn as_slice(&self) -> &[Coding]
         ensures { result.now ≡ self.now }

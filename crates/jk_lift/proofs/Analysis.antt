@@ -5,7 +5,7 @@ use Rattle.std.specs.List.{All}
 use Rattle.std.proofs.lemmas.Bool.{cases_eq}
 use Rattle.std.proofs.lemmas.Int.{ints, to_z-of_z}
 use Rattle.jk_lift.specs.Lifting.{before, after, high_pass, low_pass, high_at, lifted}
-use Rattle.jk_lift.specs.Magnitude.{IsBelow}
+use Rattle.jk_math.specs.Signed.{IsBelow}
 use Rattle.jk_lift.specs.Samples.{line_of, woven, low_length, high_length, AnalysesLine}
 use Rattle.jk_lift.proofs.Neighbours.{before_at, after_at}
 use Rattle.jk_lift.proofs.Equations.{lifted_odd, lifted_one_even, lifted_one_odd, line_of_at}

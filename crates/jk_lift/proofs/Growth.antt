@@ -7,7 +7,7 @@ use Rattle.jk_lift.specs.Lifting.{before, after, lifted, even_at, unlifted}
 use Rattle.jk_lift.specs.Planes.{unlifted_plane}
 use Rattle.jk_lift.specs.Laws.{GrowsLine, GrowsPlane, BoundsPlane, BoundsTenLevels}
 use Rattle.jk_lift.proofs.Neighbours.{before_inside, after_inside}
-use Rattle.jk_lift.proofs.Halving.{half_high, half_low, quarter_high, quarter_low}
+use Rattle.jk_math.proofs.Laws.{half_high, half_low, quarter_high, quarter_low}
 use Rattle.jk_lift.proofs.Equations.{high_at_is, even_at_is, lifted_even, lifted_odd, lifted_one_even, lifted_one_odd, unlifted_even, unlifted_odd, unlifted_one_even, unlifted_one_odd}
 use Rattle.jk_lift.proofs.Undoing.{IsNext, before_next, after_next, next_odd, next_even}
 

@@ -1,37 +1,13 @@
--- What rounding down does to a half and to a quarter.
-use Rattle.std.proofs.Common.{◌≡◌, ℕ, ℤ, ◌+◌, ◌-◌, ◌^◌, pos, negsuc, ◌+ℤ◌, ◌-ℤ◌, ◌≤ℤ◌, refl, ap, ◌∙◌, arith}
+-- What rounding down does to the sums of the lifting steps.
+use Rattle.std.proofs.Common.{◌≡◌, ℕ, ℤ, ◌+◌, ◌-◌, ◌^◌, pos, ◌+ℤ◌, ◌-ℤ◌, ap, ◌∙◌, arith}
 use Rattle.std.proofs.lemmas.Int.{ints, to_z-of_z}
 use lib.Signed.{shr_z}
 use mir.Syntax.{w32}
 use mir.Val.{to_z, of_z}
 use Rattle.jk_math.specs.Division.{floor_of}
+use Rattle.jk_math.specs.Signed.{IsBelow}
+use Rattle.jk_math.proofs.Laws.{shr-floor_of, half_high, half_low, quarter_high, quarter_low}
 use Rattle.jk_lift.specs.Lifting.{even_sample}
-use Rattle.jk_lift.specs.Magnitude.{IsBelow}
-
--- a shift of a signed number rounds down
-pub shr-floor_of : (z : ℤ) (d : ℕ) → shr_z z d ≡ floor_of z d
-shr-floor_of (pos n) d = refl
-shr-floor_of (negsuc n) d = refl
-
--- twice the half, and four times the quarter
-pub half_high : (z : ℤ) → (floor_of z 2 +ℤ floor_of z 2) ≤ℤ z
-half_high (pos n) = omega (arith, ints)
-half_high (negsuc n) = omega (arith, ints)
-
-pub half_low : (z : ℤ) → z ≤ℤ (floor_of z 2 +ℤ floor_of z 2 +ℤ pos 1)
-half_low (pos n) = omega (arith, ints)
-half_low (negsuc n) = omega (arith, ints)
-
-abbrev pub fourfold : ℤ → ℤ
-fourfold z = z +ℤ z +ℤ (z +ℤ z)
-
-pub quarter_high : (z : ℤ) → fourfold (floor_of z 4) ≤ℤ z
-quarter_high (pos n) = omega (arith, ints)
-quarter_high (negsuc n) = omega (arith, ints)
-
-pub quarter_low : (z : ℤ) → z ≤ℤ (fourfold (floor_of z 4) +ℤ pos 3)
-quarter_low (pos n) = omega (arith, ints)
-quarter_low (negsuc n) = omega (arith, ints)
 
 pub half_within : (m : ℕ) (a b : ℤ) → IsBelow m a → IsBelow m b → IsBelow m (floor_of (a +ℤ b) 2)
 half_within m a b la lb =

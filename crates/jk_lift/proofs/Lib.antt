@@ -8,3 +8,5 @@ pub mod Sweeping
 pub mod Columns
 pub mod Undoing
 pub mod Growth
+pub mod Congruence
+pub mod Laws

@@ -7,7 +7,7 @@ use borrow.Author.Count.{below_more}
 use Rattle.std.proofs.lemmas.Int.{ints, to_z-of_z}
 use Rattle.std.proofs.lemmas.List.{get_or_past, get_or-set_same, get_or-set_other}
 use Rattle.jk_lift.specs.Lifting.{before, after, high_pass, low_pass, even_sample, odd_sample, high_at, lifted, even_at, unlifted}
-use Rattle.jk_lift.specs.Magnitude.{IsBelow}
+use Rattle.jk_math.specs.Signed.{IsBelow}
 use Rattle.jk_lift.specs.Samples.{line_of, woven}
 use Rattle.jk_lift.proofs.Neighbours.{before_at, after_at}
 use Rattle.jk_lift.proofs.Equations.{high_at_is, even_at_is, lifted_even, unlifted_odd, line_of_at}

@@ -7,9 +7,9 @@ use Rattle.std.proofs.lemmas.Int.{ints, to_z-of_z}
 use Rattle.std.proofs.lemmas.List.{length-set}
 use Rattle.jk_math.specs.Division.{floor_of}
 use Rattle.jk_lift.specs.Lifting.{before, after, even_sample, odd_sample, even_at, unlifted}
-use Rattle.jk_lift.specs.Magnitude.{IsBelow}
+use Rattle.jk_math.specs.Signed.{IsBelow}
 use Rattle.jk_lift.specs.Samples.{line_of, woven, SynthesisesLine}
-use Rattle.jk_lift.proofs.Halving.{half_high, half_low, shr-floor_of}
+use Rattle.jk_math.proofs.Laws.{half_high, half_low, shr-floor_of}
 use Rattle.jk_lift.proofs.Neighbours.{before_at, after_at}
 use Rattle.jk_lift.proofs.Equations.{unlifted_even, unlifted_one_even, unlifted_one_odd, line_of_at}
 use Rattle.jk_lift.proofs.Places.{read, passed, passed_is, even_read, odd_read, filled_more, at_inside, at_last, woven_low, woven_high}

@@ -12,7 +12,7 @@ use Rattle.jk_lift.proofs.Neighbours.{before_inside, before_first, after_inside,
 use Rattle.std.proofs.Math.Nat.{mod-lt, div-lt_iff_lt-mul}
 use Rattle.std.proofs.lemmas.Nat.{div-add-mod'}
 use Rattle.jk_lift.proofs.Columns.{column_at}
-use Rattle.jk_lift.proofs.Halving.{half_high, half_low}
+use Rattle.jk_math.proofs.Laws.{half_high, half_low}
 use Rattle.jk_lift.proofs.Equations.{high_at_is, even_at_is, lifted_even, lifted_odd, lifted_one_even, lifted_one_odd, unlifted_even, unlifted_odd, unlifted_one_even, unlifted_one_odd, line_of_at}
 
 -- the neighbours are on the line, one place away and of the other parity

@@ -1,5 +1,4 @@
 pub mod Lifting
-pub mod Magnitude
 pub mod Samples
 pub mod Sweep
 pub mod Planes

@@ -1,13 +1,11 @@
 -- How slices stand for the lines of a plane.
-use Rattle.std.specs.Prelude.{ℕ, ℤ, List, ◌+◌, ◌-◌, ◌*◌, ◌/◌, ◌%◌, ◌<◌, ◌≤◌, ◌≡◌, ◌==◌, if◌then◌else◌, length, pos, slice_index_or}
+use Rattle.std.specs.Prelude.{ℕ, ℤ, List, ◌+◌, ◌-◌, ◌*◌, ◌/◌, ◌%◌, ◌<◌, ◌≤◌, ◌≡◌, ◌==◌, if◌then◌else◌, length}
+use Rattle.jk_math.specs.Signed.{signed_at}
 use Rattle.jk_lift.specs.Lifting.{lifted, unlifted}
-
-abbrev pub sample_at : List ℤ → ℕ → ℤ
-sample_at samples k = slice_index_or samples k (pos 0)
 
 -- the line whose first place is start
 abbrev pub line_of : ℕ → List ℤ → ℕ → ℤ
-line_of start samples i = sample_at samples (i - start)
+line_of start samples i = signed_at samples (i - start)
 
 -- How many even and how many odd places the n places from start on have.
 abbrev pub low_length : ℕ → ℕ → ℕ
@@ -19,11 +17,11 @@ high_length start n = (start + n) / 2 - start / 2
 -- The line of coefficients from start on, whose low-pass part stands at the even places and whose high-pass part at
 -- the odd ones (2D_INTERLEAVE in one direction, T.800 F.3.3). The coefficient u of a part is at place 2u or 2u + 1.
 abbrev pub woven : ℕ → List ℤ → List ℤ → ℕ → ℤ
-woven start low high i = if i % 2 == 0 then sample_at low (i / 2 - (start + 1) / 2) else sample_at high (i / 2 - start / 2)
+woven start low high i = if i % 2 == 0 then signed_at low (i / 2 - (start + 1) / 2) else signed_at high (i / 2 - start / 2)
 
 -- column x of rows of this width, the first of which is at place start
 abbrev pub column : ℕ → ℕ → List ℤ → ℕ → ℕ → ℤ
-column start width rows x i = sample_at rows ((i - start) * width + x)
+column start width rows x i = signed_at rows ((i - start) * width + x)
 
 -- low and high are the coefficients of the line
 abbrev pub AnalysesLine : ℕ → List ℤ → List ℤ → List ℤ → Type 0

@@ -5,10 +5,10 @@
 //! All calls ask that what they are given is below 2^29 in magnitude, so that no sum leaves `i32`.
 #![tactic(auto)]
 
-pub mod laws;
 mod line;
 mod rows;
 mod steps;
+pub mod theorems;
 
 pub use line::{analyse_line, synthesise_line};
 pub use rows::{analyse_rows, synthesise_rows};

@@ -2,8 +2,8 @@
 
 ghost use Rattle.std.specs.Prelude.{◌≡◌, ◌+◌, ◌-◌, ◌^◌, ◌%◌, ◌<◌, ◌≤◌, length, All};
 ghost use Rattle.jk_lift.specs.Lifting.{high_at, even_at, before};
-ghost use Rattle.jk_lift.specs.Magnitude.{IsBelow};
-ghost use Rattle.jk_lift.specs.Samples.{sample_at, line_of, woven, low_length, high_length, AnalysesLine, SynthesisesLine};
+ghost use Rattle.jk_math.specs.Signed.{IsBelow, signed_at};
+ghost use Rattle.jk_lift.specs.Samples.{line_of, woven, low_length, high_length, AnalysesLine, SynthesisesLine};
 
 use crate::steps::{even_sample, high_pass, low_pass, odd_sample};
 
@@ -55,7 +55,7 @@ fn first_coefficient(start: u32, line: &[i32], high: &mut [i32]) -> i32
     ensures value { result ≡ (let end = start + length line.now in
         high_at start end (line_of start line.now) (before start end (start + start % 2))) }
     ensures within { IsBelow (2 ^ 30 - 1) result }
-    ensures written { start % 2 ≡ 1 → sample_at high.new 0 ≡ result }
+    ensures written { start % 2 ≡ 1 → signed_at high.new 0 ≡ result }
 {
     if start % 2 == 1 {
         let first = high_pass(line[0], line[1], line[1]);
@@ -107,7 +107,7 @@ fn first_sample(start: u32, low: &[i32], high: &[i32], line: &mut [i32]) -> i32
     ensures value { result ≡ (let end = start + length line.old in
         even_at start end (woven start low.now high.now) (before start end (start + (1 - start % 2)))) }
     ensures within { IsBelow (2 ^ 30 - 1) result }
-    ensures written { start % 2 ≡ 0 → sample_at line.new 0 ≡ result }
+    ensures written { start % 2 ≡ 0 → signed_at line.new 0 ≡ result }
 {
     if start % 2 == 0 {
         let first = even_sample(low[0], high[0], high[0]);

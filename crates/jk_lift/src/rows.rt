@@ -3,8 +3,8 @@
 ghost use Rattle.std.specs.Prelude.{◌≡◌, ◌≢◌, ℕ, ℤ, ◌+◌, ◌-◌, ◌*◌, ◌/◌, ◌%◌, ◌^◌, ◌<◌, ◌≤◌, ◌+ℤ◌, length, All};
 ghost use Rattle.jk_math.specs.Division.{floor_of};
 ghost use Rattle.jk_lift.specs.Lifting.{high_pass, low_pass, even_sample, odd_sample};
-ghost use Rattle.jk_lift.specs.Magnitude.{IsBelow};
-ghost use Rattle.jk_lift.specs.Samples.{sample_at, AnalysesRows, SynthesisesRows};
+ghost use Rattle.jk_math.specs.Signed.{IsBelow, signed_at};
+ghost use Rattle.jk_lift.specs.Samples.{AnalysesRows, SynthesisesRows};
 ghost use Rattle.jk_lift.specs.Sweep.{row_before, row_after, first_step, both_steps};
 
 use crate::steps;
@@ -122,7 +122,7 @@ pub fn synthesise_rows(start: u32, width: usize, rows: &mut [i32])
 /// Doubles each number.
 fn double(row: &mut [i32])
     requires { All (IsBelow (2 ^ 29)) row.old }
-    ensures { (k : ℕ) → sample_at row.new k ≡ sample_at row.old k +ℤ sample_at row.old k }
+    ensures { (k : ℕ) → signed_at row.new k ≡ signed_at row.old k +ℤ signed_at row.old k }
 {
     for number in row.iter_mut() {
         *number = 2 * *number;
@@ -132,7 +132,7 @@ fn double(row: &mut [i32])
 /// Halves each number, rounding down.
 fn halve(row: &mut [i32])
     requires { All (IsBelow (2 ^ 29)) row.old }
-    ensures { (k : ℕ) → sample_at row.new k ≡ floor_of (sample_at row.old k) 2 }
+    ensures { (k : ℕ) → signed_at row.new k ≡ floor_of (signed_at row.old k) 2 }
 {
     for number in row.iter_mut() {
         *number >>= 1;
@@ -147,15 +147,15 @@ fn lift_row<S: Step>(rows: &mut [i32], width: usize, row: usize, before: usize, 
     requires before_inside { before * width + width ≤ length rows.old }
     requires after_inside { after * width + width ≤ length rows.old }
     requires apart { (row ≢ before) × (row ≢ after) }
-    requires numbers { (x : ℕ) → x < width → IsBelow (2 ^ 29) (sample_at rows.old (row * width + x)) }
-    requires befores { (x : ℕ) → x < width → IsBelow (2 ^ 30 - 1) (sample_at rows.old (before * width + x)) }
-    requires afters { (x : ℕ) → x < width → IsBelow (2 ^ 30 - 1) (sample_at rows.old (after * width + x)) }
-    ensures lifted { (x : ℕ) → x < width → sample_at rows.new (row * width + x) ≡ S.formula
-        (sample_at rows.old (row * width + x))
-        (sample_at rows.old (before * width + x))
-        (sample_at rows.old (after * width + x)) }
+    requires numbers { (x : ℕ) → x < width → IsBelow (2 ^ 29) (signed_at rows.old (row * width + x)) }
+    requires befores { (x : ℕ) → x < width → IsBelow (2 ^ 30 - 1) (signed_at rows.old (before * width + x)) }
+    requires afters { (x : ℕ) → x < width → IsBelow (2 ^ 30 - 1) (signed_at rows.old (after * width + x)) }
+    ensures lifted { (x : ℕ) → x < width → signed_at rows.new (row * width + x) ≡ S.formula
+        (signed_at rows.old (row * width + x))
+        (signed_at rows.old (before * width + x))
+        (signed_at rows.old (after * width + x)) }
     ensures others { (r x : ℕ) → r ≢ row → x < width →
-        sample_at rows.new (r * width + x) ≡ sample_at rows.old (r * width + x) }
+        signed_at rows.new (r * width + x) ≡ signed_at rows.old (r * width + x) }
 {
     let (at, left, right) = (row * width, before * width, after * width);
     for x in 0..width {
@@ -167,15 +167,15 @@ fn lift_row<S: Step>(rows: &mut [i32], width: usize, row: usize, before: usize, 
 fn lift_inside<S: Step>(rows: &mut [i32], width: usize, height: usize, row: usize)
     requires tall { 2 ≤ height }
     requires whole { length rows.old ≡ height * width }
-    requires numbers { (x : ℕ) → x < width → row < height → IsBelow (2 ^ 29) (sample_at rows.old (row * width + x)) }
+    requires numbers { (x : ℕ) → x < width → row < height → IsBelow (2 ^ 29) (signed_at rows.old (row * width + x)) }
     requires befores { (x : ℕ) → x < width → row < height →
-        IsBelow (2 ^ 30 - 1) (sample_at rows.old (row_before row * width + x)) }
+        IsBelow (2 ^ 30 - 1) (signed_at rows.old (row_before row * width + x)) }
     requires afters { (x : ℕ) → x < width → row < height →
-        IsBelow (2 ^ 30 - 1) (sample_at rows.old (row_after height row * width + x)) }
-    ensures lifted { (x : ℕ) → x < width → row < height → sample_at rows.new (row * width + x)
-        ≡ first_step S.formula height (λ j. sample_at rows.old (j * width + x)) row }
+        IsBelow (2 ^ 30 - 1) (signed_at rows.old (row_after height row * width + x)) }
+    ensures lifted { (x : ℕ) → x < width → row < height → signed_at rows.new (row * width + x)
+        ≡ first_step S.formula height (λ j. signed_at rows.old (j * width + x)) row }
     ensures others { (r x : ℕ) → r ≢ row → x < width →
-        sample_at rows.new (r * width + x) ≡ sample_at rows.old (r * width + x) }
+        signed_at rows.new (r * width + x) ≡ signed_at rows.old (r * width + x) }
 {
     if row < height {
         lift_row::<S>(rows, width, row, row_before(row), row_after(height, row));
@@ -191,8 +191,8 @@ fn lift_rows<F: Step, G: Step>(second: usize, height: usize, width: usize, rows:
     requires small { All (IsBelow (2 ^ 29)) rows.old }
     requires within { (x a b : ℤ) → IsBelow (2 ^ 29) x → IsBelow (2 ^ 29) a → IsBelow (2 ^ 29) b →
         IsBelow (2 ^ 30 - 1) (F.formula x a b) }
-    ensures { (x j : ℕ) → x < width → j < height → sample_at rows.new (j * width + x)
-        ≡ both_steps F.formula G.formula second height (λ j. sample_at rows.old (j * width + x)) j }
+    ensures { (x j : ℕ) → x < width → j < height → signed_at rows.new (j * width + x)
+        ≡ both_steps F.formula G.formula second height (λ j. signed_at rows.old (j * width + x)) j }
 {
     if second == 1 {
         lift_inside::<F>(rows, width, height, 0);

@@ -3,7 +3,7 @@
 ghost use Rattle.std.specs.Prelude.{◌≡◌, ◌^◌, ◌+◌, ◌-◌, pos, ◌+ℤ◌};
 ghost use Rattle.jk_math.specs.Division.{floor_of};
 ghost use Rattle.jk_lift.specs.Lifting.{high_pass, low_pass, even_sample, odd_sample};
-ghost use Rattle.jk_lift.specs.Magnitude.{IsBelow};
+ghost use Rattle.jk_math.specs.Signed.{IsBelow};
 
 /// Half of `a + b`, rounded down.
 #[inline(always)]

@@ -6,7 +6,7 @@ use Rattle.std.proofs.lemmas.List.{get_or-set_same, get_or-set_other, length-set
 use Rattle.jk_marks.specs.declared.segments.CodingStyle.{CodingStyle}
 use Rattle.jk_marks.specs.declared.segments.Quantisation.{Quantisation}
 use Rattle.jk_marks.specs.declared.head.TileHead.{TileHead}
-use Rattle.jk_marks.specs.Segments.{Segment, CodSegment, CocSegment, QcdSegment, QccSegment, Passed, Alone, StepSizes, codings, quantisations, styles_of, steps_of, quantisation_of}
+use Rattle.jk_marks.specs.Segments.{Segment, CodSegment, CocSegment, QcdSegment, QccSegment, Passed, Alone, StepSizes, cods, qcds, cocs_of, qccs_of, quantisation_of}
 use Rattle.jk_marks.specs.Codestream.{first}
 use Rattle.jk_marks.proofs.HeadLaws.{with_segments, AreFresh}
 
@@ -137,7 +137,7 @@ own_quantisations (QccSegment i q ∷ ss) = (i, quantisation_of q) ∷ own_quant
 own_quantisations (Passed m bytes ∷ ss) = own_quantisations ss
 own_quantisations (Alone m ∷ ss) = own_quantisations ss
 
-pub styles_entries : (i : ℕ) (ss : List Segment) → styles_of i ss ≡ entries i (own_styles ss)
+pub styles_entries : (i : ℕ) (ss : List Segment) → cocs_of i ss ≡ entries i (own_styles ss)
 styles_entries i [] = refl
 styles_entries i (CodSegment c ∷ ss) = styles_entries i ss
 styles_entries i (CocSegment j k ∷ ss) = ap (λ (xs : List CodingStyle). cond (eqb i j) (k ∷ []) [] ++ xs) (styles_entries i ss)
@@ -150,20 +150,20 @@ mapped : (b : Bool) (q : StepSizes) (xs : List StepSizes) → map quantisation_o
 mapped true q xs = refl
 mapped false q xs = refl
 
-pub steps_entries : (i : ℕ) (ss : List Segment) → map quantisation_of (steps_of i ss) ≡ entries i (own_quantisations ss)
+pub steps_entries : (i : ℕ) (ss : List Segment) → map quantisation_of (qccs_of i ss) ≡ entries i (own_quantisations ss)
 steps_entries i [] = refl
 steps_entries i (CodSegment c ∷ ss) = steps_entries i ss
 steps_entries i (CocSegment j k ∷ ss) = steps_entries i ss
 steps_entries i (QcdSegment q ∷ ss) = steps_entries i ss
 steps_entries i (QccSegment j q ∷ ss) =
-    mapped (eqb i j) q (steps_of i ss) ∙ ap (λ (xs : List Quantisation). cond (eqb i j) (quantisation_of q ∷ []) [] ++ xs) (steps_entries i ss)
+    mapped (eqb i j) q (qccs_of i ss) ∙ ap (λ (xs : List Quantisation). cond (eqb i j) (quantisation_of q ∷ []) [] ++ xs) (steps_entries i ss)
 steps_entries i (Passed m bytes ∷ ss) = steps_entries i ss
 steps_entries i (Alone m ∷ ss) = steps_entries i ss
 
 -- what is fresh, kind by kind
 pub record Parts (h : TileHead) (ss : List Segment) : Type 0 where
-  pub cod : Once h.cod (codings ss)
-  pub qcd : Once h.qcd (quantisations ss)
+  pub cod : Once h.cod (cods ss)
+  pub qcd : Once h.qcd (qcds ss)
   pub coc : FreshAll h.coc (own_styles ss)
   pub qcc : FreshAll h.qcc (own_quantisations ss)
 
@@ -171,13 +171,13 @@ pub parts_of : (h : TileHead) (ss : List Segment) → AreFresh h ss → Parts h 
 parts_of h [] fresh = record { cod = once_none _ h.cod; qcd = once_none _ h.qcd; coc = tt; qcc = tt }
 parts_of h (CodSegment c ∷ ss) fresh =
     let r = parts_of (record h { cod = Some c }) ss fresh.1 in
-    record { cod = once_first h.cod c (codings ss) fresh.0 r.cod; qcd = r.qcd; coc = r.coc; qcc = r.qcc }
+    record { cod = once_first h.cod c (cods ss) fresh.0 r.cod; qcd = r.qcd; coc = r.coc; qcc = r.qcc }
 parts_of h (CocSegment i k ∷ ss) fresh =
     let r = parts_of (record h { coc = set h.coc i (Some k) }) ss fresh.1 in
     record { cod = r.cod; qcd = r.qcd; coc = (fresh.0, r.coc); qcc = r.qcc }
 parts_of h (QcdSegment q ∷ ss) fresh =
     let r = parts_of (record h { qcd = Some (quantisation_of q) }) ss fresh.1 in
-    record { cod = r.cod; qcd = once_first h.qcd q (quantisations ss) fresh.0 r.qcd; coc = r.coc; qcc = r.qcc }
+    record { cod = r.cod; qcd = once_first h.qcd q (qcds ss) fresh.0 r.qcd; coc = r.coc; qcc = r.qcc }
 parts_of h (QccSegment i q ∷ ss) fresh =
     let r = parts_of (record h { qcc = set h.qcc i (Some (quantisation_of q)) }) ss fresh.1 in
     record { cod = r.cod; qcd = r.qcd; coc = r.coc; qcc = (fresh.0, r.qcc) }
@@ -187,11 +187,11 @@ parts_of h (Alone m ∷ ss) fresh = let r = parts_of h ss fresh.1 in record { co
 pub fresh_of : (h : TileHead) (ss : List Segment) → Parts h ss → AreFresh h ss
 fresh_of h [] p = tt
 fresh_of h (CodSegment c ∷ ss) p =
-    (is_none_from h.cod c (codings ss) p.cod, fresh_of (record h { cod = Some c }) ss (record { cod = none_left h.cod c (codings ss) p.cod; qcd = p.qcd; coc = p.coc; qcc = p.qcc }))
+    (is_none_from h.cod c (cods ss) p.cod, fresh_of (record h { cod = Some c }) ss (record { cod = none_left h.cod c (cods ss) p.cod; qcd = p.qcd; coc = p.coc; qcc = p.qcc }))
 fresh_of h (CocSegment i k ∷ ss) p = (p.coc.0, fresh_of (record h { coc = set h.coc i (Some k) }) ss (record { cod = p.cod; qcd = p.qcd; coc = p.coc.1; qcc = p.qcc }))
 fresh_of h (QcdSegment q ∷ ss) p = (
-  is_none_from h.qcd q (quantisations ss) p.qcd,
-  fresh_of (record h { qcd = Some (quantisation_of q) }) ss (record { cod = p.cod; qcd = none_left h.qcd q (quantisations ss) p.qcd; coc = p.coc; qcc = p.qcc }),
+  is_none_from h.qcd q (qcds ss) p.qcd,
+  fresh_of (record h { qcd = Some (quantisation_of q) }) ss (record { cod = p.cod; qcd = none_left h.qcd q (qcds ss) p.qcd; coc = p.coc; qcc = p.qcc }),
 )
 fresh_of h (QccSegment i q ∷ ss) p =
     (p.qcc.0, fresh_of (record h { qcc = set h.qcc i (Some (quantisation_of q)) }) ss (record { cod = p.cod; qcd = p.qcd; coc = p.coc; qcc = p.qcc.1 }))
@@ -200,19 +200,19 @@ fresh_of h (Alone m ∷ ss) p = (tt, fresh_of h ss (record { cod = p.cod; qcd = 
 
 -- what a header has said with segments, kind by kind
 pub with_parts : (h : TileHead) (ss : List Segment) → AreFresh h ss → with_segments h ss ≡ record {
-  cod = before h.cod (codings ss);
-  qcd = before h.qcd (map quantisation_of (quantisations ss));
+  cod = before h.cod (cods ss);
+  qcd = before h.qcd (map quantisation_of (qcds ss));
   coc = put_all h.coc (own_styles ss);
   qcc = put_all h.qcc (own_quantisations ss);
 }
 with_parts h [] fresh = rw (sym (before_none h.cod), sym (before_none h.qcd)) refl
 with_parts h (CodSegment c ∷ ss) fresh = with_parts (record h { cod = Some c }) ss fresh.1
-    ∙ ap (λ (o : Option _). record { cod = o; qcd = before h.qcd (map quantisation_of (quantisations ss)); coc = put_all h.coc (own_styles ss); qcc = put_all h.qcc (own_quantisations ss) })
-    (before_first h.cod c (codings ss) fresh.0)
+    ∙ ap (λ (o : Option _). record { cod = o; qcd = before h.qcd (map quantisation_of (qcds ss)); coc = put_all h.coc (own_styles ss); qcc = put_all h.qcc (own_quantisations ss) })
+    (before_first h.cod c (cods ss) fresh.0)
 with_parts h (CocSegment i k ∷ ss) fresh = with_parts (record h { coc = set h.coc i (Some k) }) ss fresh.1
 with_parts h (QcdSegment q ∷ ss) fresh = with_parts (record h { qcd = Some (quantisation_of q) }) ss fresh.1
-    ∙ ap (λ (o : Option _). record { cod = before h.cod (codings ss); qcd = o; coc = put_all h.coc (own_styles ss); qcc = put_all h.qcc (own_quantisations ss) })
-    (before_first h.qcd (quantisation_of q) (map quantisation_of (quantisations ss)) fresh.0)
+    ∙ ap (λ (o : Option _). record { cod = before h.cod (cods ss); qcd = o; coc = put_all h.coc (own_styles ss); qcc = put_all h.qcc (own_quantisations ss) })
+    (before_first h.qcd (quantisation_of q) (map quantisation_of (qcds ss)) fresh.0)
 with_parts h (QccSegment i q ∷ ss) fresh = with_parts (record h { qcc = set h.qcc i (Some (quantisation_of q)) }) ss fresh.1
 with_parts h (Passed m bytes ∷ ss) fresh = with_parts h ss fresh.1
 with_parts h (Alone m ∷ ss) fresh = with_parts h ss fresh.1

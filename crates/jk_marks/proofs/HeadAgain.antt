@@ -27,22 +27,22 @@ pub record SegmentRead (heading : Heading) (n : ℕ) (h : TileHead) (s : Segment
 abbrev pub is_other : Heading → ℕ → Bool
 is_other heading m = is_passed heading m || is_foreign m
 
-other_cod : (heading : Heading) → is_other heading cod ≡ false
+pub other_cod : (heading : Heading) → is_other heading cod ≡ false
 other_cod MainHeader = refl
 other_cod FirstPart = refl
 other_cod LaterPart = refl
 
-other_qcd : (heading : Heading) → is_other heading qcd ≡ false
+pub other_qcd : (heading : Heading) → is_other heading qcd ≡ false
 other_qcd MainHeader = refl
 other_qcd FirstPart = refl
 other_qcd LaterPart = refl
 
-other_coc : (heading : Heading) → is_other heading coc ≡ false
+pub other_coc : (heading : Heading) → is_other heading coc ≡ false
 other_coc MainHeader = refl
 other_coc FirstPart = refl
 other_coc LaterPart = refl
 
-other_qcc : (heading : Heading) → is_other heading qcc ≡ false
+pub other_qcc : (heading : Heading) → is_other heading qcc ≡ false
 other_qcc MainHeader = refl
 other_qcc FirstPart = refl
 other_qcc LaterPart = refl
@@ -59,7 +59,7 @@ to_other heading n m h p P is f1 f2 f3 f4 =
     rw (c1, c2, c3, c4) refl
 
 -- an alone marker isn't passed over
-alone_not_passed : (heading : Heading) (m : ℕ) → is_alone m ≡ true → is_passed heading m ≡ false
+pub alone_not_passed : (heading : Heading) (m : ℕ) → is_alone m ≡ true → is_passed heading m ≡ false
 alone_not_passed MainHeader m e = or_from _ _ (apart is_alone m tlm e refl) (or_from _ _ (apart is_alone m crg e refl) (apart is_alone m comment e refl))
 alone_not_passed FirstPart m e = or_from _ _ (apart is_alone m plt e refl) (apart is_alone m comment e refl)
 alone_not_passed LaterPart m e = or_from _ _ (apart is_alone m plt e refl) (apart is_alone m comment e refl)
@@ -149,7 +149,7 @@ pub record EndsHeader (heading : Heading) (last : ℕ) : Type 0 where
   pub not_alone : is_alone last ≡ false
   pub narrow : last < 2 ^ 16
 
-not_last : (heading : Heading) (n last : ℕ) (s : Segment) → EndsHeader heading last → IsSegment heading n s → eqb (marker_of s) last ≡ false
+pub not_last : (heading : Heading) (n last : ℕ) (s : Segment) → EndsHeader heading last → IsSegment heading n s → eqb (marker_of s) last ≡ false
 not_last heading n last (CodSegment c) ends is = ends.no_cod
 not_last heading n last (CocSegment i k) ends is = ends.no_coc
 not_last heading n last (QcdSegment q) ends is = ends.no_qcd
@@ -157,7 +157,7 @@ not_last heading n last (QccSegment i q) ends is = ends.no_qcc
 not_last heading n last (Passed m bytes) ends is = apart (is_other heading) m last is.2 ends.no_other
 not_last heading n last (Alone m) ends is = apart is_alone m last is ends.not_alone
 
-narrow_marker : (heading : Heading) (n : ℕ) (s : Segment) → IsSegment heading n s → marker_of s < 2 ^ 16
+pub narrow_marker : (heading : Heading) (n : ℕ) (s : Segment) → IsSegment heading n s → marker_of s < 2 ^ 16
 narrow_marker heading n (CodSegment c) is = lit< tt
 narrow_marker heading n (CocSegment i k) is = lit< tt
 narrow_marker heading n (QcdSegment q) is = lit< tt

@@ -14,7 +14,7 @@ use Rattle.jk_marks.specs.Place.{Place, outside}
 use Rattle.jk_marks.specs.Markers.{cod, coc, qcd, qcc, tlm, plt, crg, comment, marker_text, is_left_out, is_listed, is_alone}
 use Rattle.jk_marks.specs.Segments.{Segment, CodSegment, CocSegment, QcdSegment, QccSegment, Passed, Alone, IsSegment, segment_body, segment_text, marker_of, is_coded, is_passed, is_foreign, quantisation_of}
 use Rattle.jk_marks.specs.Reading.{number, has, cod_at, coc_at, qcd_at, qcc_at, passed_at, in_cod, in_qcd, in_coc, in_qcc, other_at, segment_at, segments_at}
-use Rattle.jk_marks.proofs.Numbers.{AreBytes}
+use Rattle.jk_math.proofs.Laws.{AreBytes}
 use Rattle.jk_marks.proofs.Steps.{Goes, goes_none, goes_then, goes_as, number_goes}
 use Rattle.jk_marks.proofs.SegmentLaws.{cod_goes}
 use Rattle.jk_marks.proofs.ComponentLaws.{coc_goes, qcd_goes, qcc_goes, passed_goes}

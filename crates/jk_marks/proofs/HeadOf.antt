@@ -5,7 +5,7 @@ use Rattle.std.specs.List.{AllByRecursion}
 use Rattle.jk_marks.specs.declared.segments.CodingStyle.{CodingStyle}
 use Rattle.jk_marks.specs.declared.segments.Quantisation.{Quantisation}
 use Rattle.jk_marks.specs.declared.head.Heading.{Heading}
-use Rattle.jk_marks.specs.Segments.{Segment, CodSegment, CocSegment, QcdSegment, QccSegment, Passed, Alone, IsSegment, AreSegments, codings, quantisations, styles_of, steps_of, quantisation_of}
+use Rattle.jk_marks.specs.Segments.{Segment, CodSegment, CocSegment, QcdSegment, QccSegment, Passed, Alone, IsSegment, AreSegments, cods, qcds, cocs_of, qccs_of, quantisation_of}
 use Rattle.jk_marks.specs.Codestream.{first, by_component, head_of}
 use Rattle.jk_marks.proofs.HeadLaws.{with_segments, AreFresh}
 use Rattle.jk_marks.proofs.Counts.{Once, AreBelow, FreshAll, entries, put_all, own_styles, own_quantisations, styles_entries, steps_entries, put_entry, length_put, fresh_from, parts_of, fresh_of, with_parts}
@@ -21,7 +21,7 @@ none_at (suc (suc zero)) = refl
 none_at (suc (suc (suc zero))) = refl
 none_at (suc (suc (suc (suc i)))) = refl
 
-four : {X : Type 0} (d : X) (xs : List X) → length xs ≡ 4 → xs ≡ get_or xs 0 d ∷ get_or xs 1 d ∷ get_or xs 2 d ∷ get_or xs 3 d ∷ []
+pub four : {X : Type 0} (d : X) (xs : List X) → length xs ≡ 4 → xs ≡ get_or xs 0 d ∷ get_or xs 1 d ∷ get_or xs 2 d ∷ get_or xs 3 d ∷ []
 four d [] e = absurd (omega (arith, e))
 four d (a ∷ []) e = absurd (omega (arith, e))
 four d (a ∷ b ∷ []) e = absurd (omega (arith, e))
@@ -73,8 +73,8 @@ segments_are heading n ss few each fresh =
       one_coding = p.cod;
       one_quantisation = p.qcd;
       one_style = λ i. subst (λ (xs : List CodingStyle). length xs ≤ 1) (sym (styles_entries i ss)) (one_at (own_styles ss) i p.coc below.0);
-      one_steps = λ i. (let len : length (map quantisation_of (steps_of i ss)) ≡ length (steps_of i ss) = simp length-map in
-          let one : length (map quantisation_of (steps_of i ss)) ≤ 1 = subst (λ (xs : List Quantisation). length xs ≤ 1) (sym (steps_entries i ss)) (one_at (own_quantisations ss) i p.qcc below.1) in
+      one_steps = λ i. (let len : length (map quantisation_of (qccs_of i ss)) ≡ length (qccs_of i ss) = simp length-map in
+          let one : length (map quantisation_of (qccs_of i ss)) ≤ 1 = subst (λ (xs : List Quantisation). length xs ≤ 1) (sym (steps_entries i ss)) (one_at (own_quantisations ss) i p.qcc below.1) in
           omega (arith, len, one));
     }
 
@@ -88,8 +88,8 @@ segments_fresh heading n ss few are =
           let one : length (entries i (own_styles ss)) ≤ 1 = subst (λ (xs : List CodingStyle). length xs ≤ 1) (styles_entries i ss) (are.one_style i) in
           subst (λ (o : Option _). Once o (entries i (own_styles ss))) (sym (none_at i)) one);
       qcc = fresh_from (own_quantisations ss) nothing below.1 (λ i lt.
-          let len : length (map quantisation_of (steps_of i ss)) ≡ length (steps_of i ss) = simp length-map in
-          let few : length (steps_of i ss) ≤ 1 = are.one_steps i in
+          let len : length (map quantisation_of (qccs_of i ss)) ≡ length (qccs_of i ss) = simp length-map in
+          let few : length (qccs_of i ss) ≤ 1 = are.one_steps i in
           let one : length (entries i (own_quantisations ss)) ≤ 1 = subst (λ (xs : List Quantisation). length xs ≤ 1) (steps_entries i ss) (omega (arith, len, few)) in
           subst (λ (o : Option _). Once o (entries i (own_quantisations ss))) (sym (none_at i)) one);
     })
@@ -98,10 +98,10 @@ pub segments_say : (heading : Heading) (n : ℕ) (ss : List Segment) → n ≤ 4
 segments_say heading n ss few each fresh =
     let p = parts_of (head_of []) ss fresh in
     let below = styles_below heading n ss few each in
-    let coc : put_all nothing (own_styles ss) ≡ by_component (λ i. first (styles_of i ss)) =
+    let coc : put_all nothing (own_styles ss) ≡ by_component (λ i. first (cocs_of i ss)) =
     put_four (own_styles ss) p.coc below.0 ∙ four_same _ _ (λ i. ap first (sym (styles_entries i ss))) in
-    let qcc : put_all nothing (own_quantisations ss) ≡ by_component (λ i. first (map quantisation_of (steps_of i ss))) =
+    let qcc : put_all nothing (own_quantisations ss) ≡ by_component (λ i. first (map quantisation_of (qccs_of i ss))) =
     put_four (own_quantisations ss) p.qcc below.1 ∙ four_same _ _ (λ i. ap first (sym (steps_entries i ss))) in
     with_parts (head_of []) ss fresh
-    ∙ ap (λ (xs : List (Option CodingStyle)). record { cod = first (codings ss); qcd = first (map quantisation_of (quantisations ss)); coc = xs; qcc = put_all nothing (own_quantisations ss) }) coc
-    ∙ ap (λ (xs : List (Option Quantisation)). record { cod = first (codings ss); qcd = first (map quantisation_of (quantisations ss)); coc = by_component (λ i. first (styles_of i ss)); qcc = xs }) qcc
+    ∙ ap (λ (xs : List (Option CodingStyle)). record { cod = first (cods ss); qcd = first (map quantisation_of (qcds ss)); coc = xs; qcc = put_all nothing (own_quantisations ss) }) coc
+    ∙ ap (λ (xs : List (Option Quantisation)). record { cod = first (cods ss); qcd = first (map quantisation_of (qcds ss)); coc = by_component (λ i. first (cocs_of i ss)); qcc = xs }) qcc

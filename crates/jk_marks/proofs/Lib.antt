@@ -1,4 +1,3 @@
-pub mod Numbers
 pub mod Fronts
 pub mod Steps
 pub mod StyleLaws
@@ -14,3 +13,7 @@ pub mod PartLaws
 pub mod Copies
 pub mod WriteLaws
 pub mod Loops
+pub mod Appending
+pub mod WrittenMeans
+pub mod OneTree
+pub mod Laws

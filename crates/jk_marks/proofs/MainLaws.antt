@@ -14,11 +14,11 @@ use Rattle.jk_marks.specs.declared.main_header.Main.{Main}
 use Rattle.jk_marks.specs.Place.{closed, outside}
 use Rattle.jk_marks.specs.Markers.{soc, siz, sot, marker_text}
 use Rattle.jk_marks.specs.Siz.{siz_text, IsSiz}
-use Rattle.jk_marks.specs.Segments.{Segment, segment_text, codings, quantisations, quantisation_of}
+use Rattle.jk_marks.specs.Segments.{Segment, segment_text, cods, qcds, quantisation_of}
 use Rattle.jk_marks.specs.Codestream.{first, head_of, main_text, main_with, main_of, IsMain, BeginsMain}
 use Rattle.jk_marks.specs.Reading.{number, header_at}
 use Rattle.jk_marks.specs.HeaderReading.{siz_at, main_from, main_at}
-use Rattle.jk_marks.proofs.Numbers.{AreBytes}
+use Rattle.jk_math.proofs.Laws.{AreBytes}
 use Rattle.jk_marks.proofs.Steps.{Goes, ahead, goes_then, goes_as, number_goes, number_again}
 use Rattle.jk_marks.proofs.HeadLaws.{segments_goes}
 use Rattle.jk_marks.proofs.HeadAgain.{EndsHeader, segments_again}
@@ -71,9 +71,9 @@ found_main bytes m n fits e =
     let few = g3.1.few_components in
     let are = segments_are MainHeader s.components ss few g4.each g4.fresh in
     let say : head.0 ≡ head_of ss = g4.gives ∙ segments_say MainHeader s.components ss few g4.each g4.fresh in
-    let one_coding : length (codings ss) ≡ 1 = some_first (codings ss) (sym (ap (λ (h : TileHead). is_none h.cod) say) ∙ some_cod) are.one_coding in
-    let len : length (map quantisation_of (quantisations ss)) ≡ length (quantisations ss) = simp length-map in
-    let steps : length (map quantisation_of (quantisations ss)) ≡ 1 = some_first (map quantisation_of (quantisations ss)) (sym (ap (λ (h : TileHead). is_none h.qcd) say) ∙ some_qcd)
+    let one_coding : length (cods ss) ≡ 1 = some_first (cods ss) (sym (ap (λ (h : TileHead). is_none h.cod) say) ∙ some_cod) are.one_coding in
+    let len : length (map quantisation_of (qcds ss)) ≡ length (qcds ss) = simp length-map in
+    let steps : length (map quantisation_of (qcds ss)) ≡ 1 = some_first (map quantisation_of (qcds ss)) (sym (ap (λ (h : TileHead). is_none h.qcd) say) ∙ some_qcd)
     (subst (λ k. k ≤ 1) (sym len) are.one_quantisation) in
     let is : IsMain s ss = record { size = g3.1; well_formed = are; one_coding = one_coding; one_quantisation = sym len ∙ steps } in
     let left : Goes size.1 (flat_map segment_text ss ++ marker_text sot) head.1 = record { parts = g4.gone.parts; at = g4.gone.at; bytes = g4.gone.bytes } in
@@ -91,7 +91,7 @@ found_main bytes m n fits e =
     let main-is : m ≡ main_of s ss = sym (ap (λ (r : Main × ℕ). r.0) pair) ∙ sym (ok_is (main_with s head.0) main s7) ∙ ap (λ (h : TileHead). main_with s h) say in
     (s, ss, is, begins, main-is, sym (ap (λ (r : Main × ℕ). r.1) pair) ∙ at))))))))))
 
-ends_main : EndsHeader MainHeader sot
+pub ends_main : EndsHeader MainHeader sot
 ends_main = record { no_cod = refl; no_coc = refl; no_qcd = refl; no_qcc = refl; no_other = refl; not_alone = refl; narrow = lit< tt }
 
 -- a list of segments is not longer than their text
@@ -123,9 +123,9 @@ only_main bytes s ss is begins =
     let h = segments_again (length q.rest) MainHeader s.components sot ss (head_of []) (outside q) begins.others s3.2 refl fuel few ends_main is.well_formed.each fresh in
     let say = segments_say MainHeader s.components ss few is.well_formed.each fresh in
     let read : header_at MainHeader s.components sot q ≡ Ok (head_of ss, h.to) = h.read ∙ ap (λ (x : TileHead). Ok (x, h.to)) say in
-    let steps : length (map quantisation_of (quantisations ss)) ≡ 1 = (simp length-map) ∙ is.one_quantisation in
-    let c1 = first_some (codings ss) is.one_coding in
-    let c2 = first_some (map quantisation_of (quantisations ss)) steps in
+    let steps : length (map quantisation_of (qcds ss)) ≡ 1 = (simp length-map) ∙ is.one_quantisation in
+    let c1 = first_some (cods ss) is.one_coding in
+    let c2 = first_some (map quantisation_of (qcds ss)) steps in
     let at : h.to.at - 2 ≡ length (main_text s ss) = omega (arith, h.at-is, s3.3, main_length s ss, body_length s) in
     rw (s1, s2, s3.1, read, c1, c2, at) refl
 

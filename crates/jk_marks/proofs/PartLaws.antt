@@ -1,5 +1,5 @@
 -- A tile-part that is read is spelled so, and one that is spelled so is read.
-use Rattle.std.proofs.Common.{◌≡◌, ℕ, zero, suc, ◌+◌, ◌-◌, ◌^◌, ◌<◌, ◌≤◌, Bool, true, false, not, ◌&&◌, cond, eqb, ltb, leb, List, [], ◌∷◌, ◌++◌, length, get_or, take, drop, Ok, Err, refl, sym, ap, subst, ◌∙◌, append_assoc, arith, inl, inr, ◌⊎◌, lit<, lit≤}
+use Rattle.std.proofs.Common.{◌≡◌, ℕ, zero, suc, ◌+◌, ◌-◌, ◌^◌, ◌<◌, ◌≤◌, Bool, true, false, not, ◌&&◌, cond, eqb, ltb, leb, List, [], ◌∷◌, ◌++◌, length, get_or, take, drop, slice_range, Ok, Err, refl, sym, ap, subst, ◌∙◌, append_assoc, arith, inl, inr, ◌⊎◌, lit<, lit≤}
 use Rattle.std.proofs.lemmas.Bool.{ltb-false, le-ltb, eqb-true, eqb-false, leb-true, leb-false, and_parts, not-false, le-leb, lt-leb, ne_eqb, and_left, and_right, eq-eqb}
 use Rattle.std.proofs.lemmas.List.{drop_at, take_at, take-append-drop, length-append, length-drop, length-take-le, take_all}
 use Rattle.std.specs.List.{flat_map}
@@ -15,19 +15,15 @@ use Rattle.jk_marks.specs.Place.{Place, closed, outside}
 use Rattle.jk_marks.specs.Markers.{sot, sod, eoc, marker_text}
 use Rattle.jk_marks.specs.Siz.{tile_count}
 use Rattle.jk_marks.specs.Segments.{segment_text}
-use Rattle.jk_marks.specs.Codestream.{Part, part_text, part_length, psot, place_of, head_of, heading_of, BeginsWith, IsPart}
+use Rattle.jk_marks.specs.Codestream.{Part, sot_text, part_text, part_length, data_start, psot, place_of, head_of, heading_of, BeginsWith, IsPart}
 use Rattle.jk_marks.specs.Reading.{number, segment_length, header_at}
 use Rattle.jk_marks.specs.HeaderReading.{part_end, sot_at, part_at}
-use Rattle.jk_marks.proofs.Numbers.{AreBytes, are_bytes_after, number_back}
+use Rattle.jk_math.proofs.Laws.{AreBytes, are_bytes_after, are_bytes_taken, number_back}
 use Rattle.jk_marks.proofs.Steps.{Goes, goes_then, goes_as, number_goes, number_again, length_goes, length_again}
 use Rattle.jk_marks.proofs.HeadLaws.{segments_goes}
 use Rattle.jk_marks.proofs.HeadAgain.{EndsHeader, segments_again}
 use Rattle.jk_marks.proofs.HeadOf.{segments_are, segments_fresh, segments_say}
 use Rattle.jk_marks.proofs.MainLaws.{many_bytes}
-
--- SOT and its segment
-abbrev sot_text : (tile size part total : ℕ) → List ℕ
-sot_text tile size part total = marker_text sot ++ (big_bytes 2 10 ++ (big_bytes 2 tile ++ (big_bytes 4 size ++ (big_bytes 1 part ++ big_bytes 1 total))))
 
 abbrev EndsOpen : List ℕ → ℕ → ℕ → Type 0
 EndsOpen bytes size end = (size ≡ 0) × (end + 2 ≡ length bytes) × (drop end bytes ≡ marker_text eoc)
@@ -62,12 +58,6 @@ part_ends bytes size end fits e =
 ends_within : (bytes : List ℕ) (size end : ℕ) → EndsOpen bytes size end ⊎ EndsClosed bytes size end → end ≤ length bytes
 ends_within bytes size end (inl w) = omega (arith, w.1)
 ends_within bytes size end (inr w) = omega (arith, w.1, w.2)
-
-are_bytes_before : (n : ℕ) (bytes : List ℕ) → AreBytes bytes → AreBytes (take n bytes)
-are_bytes_before zero bytes fits i = omega arith
-are_bytes_before (suc n) [] fits i = omega arith
-are_bytes_before (suc n) (b ∷ bytes) fits zero = fits 0
-are_bytes_before (suc n) (b ∷ bytes) fits (suc i) = are_bytes_before n bytes (λ j. fits (suc j)) i
 
 -- what SOT said
 record SotSaid (siz : Siz) (seen bytes : List ℕ) (s : Sot) (q : Place) : Type 0 where
@@ -131,7 +121,25 @@ sot_goes siz seen bytes s q fits e =
     subst (λ (r : Sot × Place). SotSaid siz seen bytes r.0 r.1) (ok_is (found, total.1) t e) here)))))))))))))
 
 abbrev pub Found : Siz → List ℕ → List ℕ → TilePart → Type 0
-Found siz seen bytes t = (p : Part) × IsPart siz p × (p.number ≡ get_or seen p.tile 0) × BeginsWith bytes p × (t ≡ place_of p)
+Found siz seen bytes t = (p : Part) × IsPart siz p × (p.number ≡ get_or seen p.tile 0) × BeginsWith bytes p × (t ≡ place_of p) × (slice_range bytes t.start t.end ≡ p.content)
+
+-- the data of a part stand at its place
+pub content_there : (bytes : List ℕ) (p : Part) → BeginsWith bytes p → slice_range bytes (data_start p) (part_length p) ≡ p.content
+unfolding part_text
+content_there bytes p begins =
+    let front = flat_map segment_text p.segments in
+    let head = sot_text p.tile (psot p) p.number p.total ++ (front ++ marker_text sod) in
+    let rest = p.content ++ begins.others in
+    let spelled : part_text p ++ begins.others ≡ head ++ rest =
+    ap (λ (x : List ℕ). (sot_text p.tile (psot p) p.number p.total ++ x) ++ begins.others) (sym (append_assoc front (marker_text sod) p.content)) ∙ append_assoc head p.content begins.others in
+    let long : length head ≡ data_start p = omega (arith, length-append front (marker_text sod)) in
+    let wide : part_length p - data_start p ≡ length p.content = omega arith in
+    let after : drop (data_start p) bytes ≡ rest = ap (drop (data_start p)) (begins.text ∙ spelled) ∙ drop_at head rest (data_start p) long in
+    ap (take (part_length p - data_start p)) after ∙ ap (λ k. take k rest) wide ∙ take_at p.content begins.others (length p.content) refl
+
+-- and so at the place that the program keeps
+place_content : (bytes : List ℕ) (p : Part) (t : TilePart) → BeginsWith bytes p → place_of p ≡ t → slice_range bytes t.start t.end ≡ p.content
+place_content bytes p t begins e = subst (λ (x : TilePart). slice_range bytes x.start x.end ≡ p.content) e (content_there bytes p begins)
 
 taken_twice : (n end : ℕ) (xs : List ℕ) → n ≤ end → take n (take end xs) ≡ take n xs
 taken_twice zero end xs le = refl
@@ -164,7 +172,7 @@ found_part siz seen bytes t few fits e =
     let le : 12 ≤ end = omega (arith, ltb-false _ _ long, at) in
     let way = part_ends bytes g.size end fits g.ends in
     let within = ends_within bytes g.size end way in
-    let inner_fits = are_bytes_after s.1.at inner (are_bytes_before end bytes fits) in
+    let inner_fits = are_bytes_after s.1.at inner (are_bytes_taken end bytes fits) in
     let gs = segments_goes (length (drop s.1.at inner)) (heading_of s.0.part) siz.components sod (head_of []) h.0 (outside (closed inner s.1.at)) h.1 inner_fits s2 in
     let ss = gs.segments in
     let front = flat_map segment_text ss in
@@ -196,6 +204,7 @@ found_part siz seen bytes t few fits e =
             g.next,
             record { others = others; text = text; last = λ _. w.2 },
             sym back,
+            place_content bytes p t (record { others = others; text = text; last = λ _. w.2 }) back,
           )
       | inr w ↦
           let p : Part = record { tile = s.0.tile; is_open = false; number = s.0.part; total = g.total; segments = ss; content = content } in
@@ -207,6 +216,7 @@ found_part siz seen bytes t few fits e =
             g.next,
             record { others = others; text = text; last = λ e. absurd cc },
             sym back,
+            place_content bytes p t (record { others = others; text = text; last = λ e. absurd cc }) back,
           )
     ])))
 
@@ -247,7 +257,7 @@ ends_by : (b : Bool) → EndsHeader (cond b FirstPart LaterPart) sod
 ends_by true = ends_first
 ends_by false = ends_later
 
-ends_part : (n : ℕ) → EndsHeader (heading_of n) sod
+pub ends_part : (n : ℕ) → EndsHeader (heading_of n) sod
 ends_part n = ends_by (eqb n 0)
 
 kind_of : (b : Bool) (n : ℕ) → 14 ≤ n → (cond b 0 n ≡ 0) ⊎ (14 ≤ cond b 0 n)

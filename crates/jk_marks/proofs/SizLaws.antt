@@ -13,7 +13,7 @@ use Rattle.jk_marks.specs.Markers.{siz, marker_text}
 use Rattle.jk_marks.specs.Siz.{ssiz, siz_length, siz_text, IsSiz}
 use Rattle.jk_marks.specs.Reading.{number, segment_length}
 use Rattle.jk_marks.specs.HeaderReading.{area_at, covers, tiles_of, tiling_at, sampling_at, component_depth_at, components_at, count_at, next_byte, siz_with, siz_at}
-use Rattle.jk_marks.proofs.Numbers.{AreBytes}
+use Rattle.jk_math.proofs.Laws.{AreBytes}
 use Rattle.jk_marks.proofs.Steps.{Goes, ahead, ahead_twice, entered, goes_none, goes_then, goes_as, number_goes, number_again, byte_goes, byte_again, length_goes, length_again}
 
 -- four numbers of four bytes

@@ -9,7 +9,7 @@ use Rattle.jk_math.specs.Steps.{bind_then, guarded, ok_is}
 use Rattle.jk_math.specs.declared.fault.Fault.TheVariants.{Truncated, BadLength}
 use Rattle.jk_marks.specs.Place.{Place, past}
 use Rattle.jk_marks.specs.Reading.{number, segment_length, passing}
-use Rattle.jk_marks.proofs.Numbers.{AreBytes, are_bytes_after, number_back}
+use Rattle.jk_math.proofs.Laws.{AreBytes, are_bytes_after, number_back}
 
 -- what a step took from the front
 pub record Goes (p : Place) (text : List ℕ) (q : Place) : Type 0 where

@@ -11,7 +11,7 @@ use Rattle.jk_marks.specs.Place.{Place}
 use Rattle.jk_marks.specs.Precincts.{precinct_byte}
 use Rattle.jk_marks.specs.Segments.{IsStyle, ArePrecincts, style_text, bit_of, given_bit}
 use Rattle.jk_marks.specs.Reading.{number, precinct_at, precincts_at, given_precincts_at, levels_at, block_at, transform_at, style_at}
-use Rattle.jk_marks.proofs.Numbers.{AreBytes}
+use Rattle.jk_math.proofs.Laws.{AreBytes}
 use Rattle.jk_marks.proofs.Steps.{Goes, ahead, ahead_twice, goes_none, goes_then, goes_as, byte_goes, byte_again}
 
 -- a precinct size is small, and both exponents are positive

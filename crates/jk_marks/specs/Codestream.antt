@@ -14,7 +14,7 @@ use Rattle.jk_marks.specs.declared.main_header.Main.{Main}
 use Rattle.jk_marks.specs.declared.tile_part.TilePart.{TilePart}
 use Rattle.jk_marks.specs.Markers.{soc, sot, sod, eoc, marker_text}
 use Rattle.jk_marks.specs.Siz.{siz_text, tile_count, IsSiz}
-use Rattle.jk_marks.specs.Segments.{Segment, CodSegment, CocSegment, QcdSegment, QccSegment, segment_text, codings, quantisations, styles_of, steps_of, quantisation_of, written_steps, AreSegments, IsCod, IsStyle, IsQuantisation}
+use Rattle.jk_marks.specs.Segments.{Segment, CodSegment, CocSegment, QcdSegment, QccSegment, segment_text, cods, qcds, cocs_of, qccs_of, quantisation_of, written_steps, AreSegments, IsCod, IsStyle, IsQuantisation}
 
 -- A tile-part (A.4.2): the tile's number, whether its length is left open, its number within the tile, how many parts
 -- it says that there are, the segments of its header, and its data.
@@ -35,18 +35,24 @@ pub record Tree : Type 0 where
 unfoldable pub main_text : Siz → List Segment → List ℕ
 main_text siz segments = marker_text soc ++ (siz_text siz ++ flat_map segment_text segments)
 
--- from the first byte of SOT to the end of the data
+-- where the data of a part begin, counted from the first byte of SOT
+abbrev pub data_start : Part → ℕ
+data_start p = 14 + length (flat_map segment_text p.segments)
+
+-- where they end, and the part with them
 abbrev pub part_length : Part → ℕ
-part_length p = 14 + length (flat_map segment_text p.segments) + length p.content
+part_length p = data_start p + length p.content
 
 -- Psot: the length, or 0 where it goes up to the end of the codestream
 abbrev pub psot : Part → ℕ
 psot p = if p.is_open then 0 else part_length p
 
+-- SOT and its segment (A.4.2): Isot, Psot, TPsot and TNsot
+abbrev pub sot_text : (tile size number total : ℕ) → List ℕ
+sot_text tile size number total = marker_text sot ++ (big_bytes 2 10 ++ (big_bytes 2 tile ++ (big_bytes 4 size ++ (big_bytes 1 number ++ big_bytes 1 total))))
+
 unfoldable pub part_text : Part → List ℕ
-part_text p =
-    marker_text sot ++ (big_bytes 2 10 ++ (big_bytes 2 p.tile ++ (big_bytes 4 (psot p) ++ (big_bytes 1 p.number ++ (big_bytes 1 p.total
-    ++ (flat_map segment_text p.segments ++ (marker_text sod ++ p.content)))))))
+part_text p = sot_text p.tile (psot p) p.number p.total ++ (flat_map segment_text p.segments ++ (marker_text sod ++ p.content))
 
 unfoldable pub codestream_text : Tree → List ℕ
 codestream_text t = main_text t.siz t.segments ++ (flat_map part_text t.parts ++ marker_text eoc)
@@ -63,18 +69,18 @@ by_component f = f 0 ∷ f 1 ∷ f 2 ∷ f 3 ∷ []
 -- what the program keeps of the segments of a header: each if it is given
 abbrev pub head_of : List Segment → TileHead
 head_of segments = record {
-  cod = first (codings segments);
-  qcd = first (map quantisation_of (quantisations segments));
-  coc = by_component (λ i. first (styles_of i segments));
-  qcc = by_component (λ i. first (map quantisation_of (steps_of i segments)));
+  cod = first (cods segments);
+  qcd = first (map quantisation_of (qcds segments));
+  coc = by_component (λ i. first (cocs_of i segments));
+  qcc = by_component (λ i. first (map quantisation_of (qccs_of i segments)));
 }
 
 -- The main header (A.3): SOC, SIZ, and in any order COD, QCD and the others.
 pub record IsMain (siz : Siz) (segments : List Segment) : Type 0 where
   pub size : IsSiz siz
   pub well_formed : AreSegments MainHeader siz.components segments
-  pub one_coding : length (codings segments) ≡ 1
-  pub one_quantisation : length (quantisations segments) ≡ 1
+  pub one_coding : length (cods segments) ≡ 1
+  pub one_quantisation : length (qcds segments) ≡ 1
 
 -- the heading of a part: segments of the coding stand in the first part of a tile alone
 abbrev pub heading_of : ℕ → Heading
@@ -107,6 +113,10 @@ abbrev pub or_else : {X : Type 0} → X → Option X → X
 or_else d None = d
 or_else d (Some x) = x
 
+-- the first of a list, of which the earlier goes before the later
+abbrev pub first_given : {X : Type 0} → X → List X → X
+first_given d xs = or_else d (first xs)
+
 -- what the program keeps of a main header, which has a COD and a QCD
 abbrev pub main_with : Siz → TileHead → Main
 main_with siz head = record { siz = siz; cod = or_else no_coding head.cod; qcd = or_else no_quantisation head.qcd; coc = head.coc; qcc = head.qcc }
@@ -125,7 +135,7 @@ place_of p = record {
   tile = p.tile;
   part = p.number;
   head = head_of p.segments;
-  start = 14 + length (flat_map segment_text p.segments);
+  start = data_start p;
   end = part_length p;
 }
 
@@ -171,27 +181,36 @@ abbrev pub given_for : {X : Type 0} → List (Option X) → ℕ → Option X
 given_for xs i = slice_index_or xs i None
 
 -- the segments that are written for components
-abbrev pub own_segments : Main → List Segment
-own_segments m =
-    own_style 0 (given_for m.coc 0) ++ (own_style 1 (given_for m.coc 1) ++ (own_style 2 (given_for m.coc 2) ++ (own_style 3 (given_for m.coc 3)
-    ++ (own_steps 0 (given_for m.qcc 0) ++ (own_steps 1 (given_for m.qcc 1) ++ (own_steps 2 (given_for m.qcc 2) ++ own_steps 3 (given_for m.qcc 3)))))))
+abbrev pub style_segments : Main → List Segment
+style_segments m = own_style 0 (given_for m.coc 0) ++ (own_style 1 (given_for m.coc 1) ++ (own_style 2 (given_for m.coc 2) ++ own_style 3 (given_for m.coc 3)))
+
+abbrev pub step_segments : Main → List Segment
+step_segments m = own_steps 0 (given_for m.qcc 0) ++ (own_steps 1 (given_for m.qcc 1) ++ (own_steps 2 (given_for m.qcc 2) ++ own_steps 3 (given_for m.qcc 3)))
 
 -- the segments that are written for a main header
 abbrev pub segments_of : Main → List Segment
-segments_of m = CodSegment m.cod ∷ QcdSegment (written_steps m.qcd) ∷ own_segments m
+segments_of m = CodSegment m.cod ∷ QcdSegment (written_steps m.qcd) ∷ (style_segments m ++ step_segments m)
 
 -- what stands for a component, if it has its own
 abbrev pub ForGiven : {X : Type 0} → (X → Type 0) → Option X → Type 0
 ForGiven P None = Unit {0}
 ForGiven P (Some x) = P x
 
--- a main header that can be written
+-- only components below n have their own
+abbrev pub AreOfComponents : {X : Type 0} → ℕ → List (Option X) → Type 0
+AreOfComponents n xs = (i : ℕ) → n ≤ i → given_for xs i ≡ None
+
+-- A main header that can be written. There are four places for components.
 pub record IsWritten (m : Main) : Type 0 where
   pub siz : IsSiz m.siz
   pub cod : IsCod m.siz.components m.cod
   pub qcd : IsQuantisation m.qcd
+  pub coc_places : length m.coc ≡ 4
   pub coc : AllByRecursion (ForGiven IsStyle) m.coc
+  pub coc_components : AreOfComponents m.siz.components m.coc
+  pub qcc_places : length m.qcc ≡ 4
   pub qcc : AllByRecursion (ForGiven IsQuantisation) m.qcc
+  pub qcc_components : AreOfComponents m.siz.components m.qcc
 
 -- the part that is written for a tile: the only one, closed and without segments
 abbrev pub only_part_of : ℕ → List ℕ → Part

@@ -144,31 +144,33 @@ steps_in i (QccSegment j q) = if i == j then q ∷ [] else []
 steps_in i s = []
 
 -- The COD among segments, in order, and the QCD; the COC and QCC of a component.
-abbrev pub codings : List Segment → List Cod
-codings ss = flat_map coding_in ss
+abbrev pub cods : List Segment → List Cod
+cods ss = flat_map coding_in ss
 
-abbrev pub quantisations : List Segment → List StepSizes
-quantisations ss = flat_map quantisation_in ss
+abbrev pub qcds : List Segment → List StepSizes
+qcds ss = flat_map quantisation_in ss
 
-abbrev pub styles_of : ℕ → List Segment → List CodingStyle
-styles_of i ss = flat_map (style_in i) ss
+abbrev pub cocs_of : ℕ → List Segment → List CodingStyle
+cocs_of i ss = flat_map (style_in i) ss
 
-abbrev pub steps_of : ℕ → List Segment → List StepSizes
-steps_of i ss = flat_map (steps_in i) ss
+abbrev pub qccs_of : ℕ → List Segment → List StepSizes
+qccs_of i ss = flat_map (steps_in i) ss
 
 -- The segments of a header, in any order, with at most one COD and QCD, and at most one COC and QCC for a component.
 pub record AreSegments (heading : Heading) (n : ℕ) (ss : List Segment) : Type 0 where
   pub each : AllByRecursion (IsSegment heading n) ss
-  pub one_coding : length (codings ss) ≤ 1
-  pub one_quantisation : length (quantisations ss) ≤ 1
-  pub one_style : (i : ℕ) → length (styles_of i ss) ≤ 1
-  pub one_steps : (i : ℕ) → length (steps_of i ss) ≤ 1
+  pub one_coding : length (cods ss) ≤ 1
+  pub one_quantisation : length (qcds ss) ≤ 1
+  pub one_style : (i : ℕ) → length (cocs_of i ss) ≤ 1
+  pub one_steps : (i : ℕ) → length (qccs_of i ss) ≤ 1
 
 -- a quantization as it is written
 abbrev pub written_steps : Quantisation → StepSizes
 written_steps q = record { guard = q.guard; bytes = map (λ e. 8 * e) q.exponents }
 
+-- what a quantization segment can say: the exponent of one sub-band at least
 pub record IsQuantisation (q : Quantisation) : Type 0 where
   pub guard : q.guard < 8
+  pub some : 1 ≤ length q.exponents
   pub exponents : All (λ e. e < 32) q.exponents
   pub few : length q.exponents ≤ 31

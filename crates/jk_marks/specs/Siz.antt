@@ -27,12 +27,16 @@ component_text s = ssiz s ∷ 1 ∷ 1 ∷ []
 abbrev pub siz_length : Siz → ℕ
 siz_length s = 38 + 3 * s.components
 
+-- Rsiz to YTOsiz
+abbrev pub grid_text : Siz → List ℕ
+grid_text s =
+    big_bytes 2 s.rsiz
+    ++ (big_bytes 4 s.x1 ++ (big_bytes 4 s.y1 ++ (big_bytes 4 s.x0 ++ (big_bytes 4 s.y0
+    ++ (big_bytes 4 s.tile_width ++ (big_bytes 4 s.tile_height ++ (big_bytes 4 s.tile_x0 ++ big_bytes 4 s.tile_y0)))))))
+
 unfoldable pub siz_text : Siz → List ℕ
 siz_text s =
-    marker_text siz ++ (big_bytes 2 (siz_length s) ++ (big_bytes 2 s.rsiz
-    ++ (big_bytes 4 s.x1 ++ (big_bytes 4 s.y1 ++ (big_bytes 4 s.x0 ++ (big_bytes 4 s.y0
-    ++ (big_bytes 4 s.tile_width ++ (big_bytes 4 s.tile_height ++ (big_bytes 4 s.tile_x0 ++ (big_bytes 4 s.tile_y0
-    ++ (big_bytes 2 s.components ++ concat (replicate s.components (component_text s)))))))))))))
+    marker_text siz ++ (big_bytes 2 (siz_length s) ++ (grid_text s ++ (big_bytes 2 s.components ++ concat (replicate s.components (component_text s)))))
 
 -- what T.800 and the profile ask of the fields
 pub record IsSiz (s : Siz) : Type 0 where

@@ -1,5 +1,7 @@
 //! The coding of a tile-component.
 
+ghost use Rattle.std.specs.Prelude.{◌≡◌};
+
 use crate::segments::{Exponents, Precincts};
 
 /// How one component of one tile is coded: what the segments that go before others say of it
@@ -20,4 +22,21 @@ pub struct Coding {
     pub guard: u8,
     /// The exponents: one for each sub-band.
     pub exponents: Exponents,
+}
+
+impl Coding {
+    /// The same coding.
+    pub fn copy(&self) -> Coding
+        ensures { result ≡ self.now }
+    {
+        Coding {
+            levels: self.levels,
+            xcb: self.xcb,
+            ycb: self.ycb,
+            precincts: self.precincts.copy(),
+            style: self.style,
+            guard: self.guard,
+            exponents: self.exponents.copy(),
+        }
+    }
 }

@@ -1,6 +1,6 @@
 //! Reading numbers from the bytes of a codestream.
 
-ghost use Rattle.std.specs.Prelude.{◌≡◌, ◌≤◌, ◌==◌, length, Ok, Err, MatchResult};
+ghost use Rattle.std.specs.Prelude.{◌≡◌, ◌≤◌, ◌==◌, length, Ok, Err, MatchResult, OnErr};
 ghost use Rattle.jk_math.specs.Answer.{Reads};
 ghost use Rattle.jk_marks.specs.Place.{Place, closed, outside};
 ghost use Rattle.jk_marks.specs.Reading.{number, segment_length, passing, passed_at};
@@ -13,7 +13,8 @@ use std::marker::Model;
 /// A place in the bytes of a codestream or tile-part, and how much room is left in the marker segment
 /// that was entered.
 ///
-/// Truncated: the bytes end before the field does. BadLength: the segment does.
+/// Truncated: the bytes end before the field does. BadLength: the segment does. A read that fails leaves the
+/// cursor where it was.
 #[derive(Debug, Drop)]
 pub struct Cursor<'a> {
     bytes: &'a [u8],
@@ -69,7 +70,8 @@ impl<'a> Cursor<'a> {
     /// A number of one byte.
     #[tactic(auto, unfolding(crate::specs::Reading::number))]
     pub fn byte(&mut self) -> Result<u8, Fault>
-        ensures { Reads (number 1) self.old self.new result }
+        ensures exact { Reads (number 1) self.old self.new result }
+        ensures stays { OnErr result (self.new ≡ self.old) }
     {
         if self.bytes.len() - self.at < 1 {
             return Err(Fault::Truncated);
@@ -86,7 +88,8 @@ impl<'a> Cursor<'a> {
     /// A number of two bytes.
     #[tactic(auto, unfolding(crate::specs::Reading::number))]
     pub fn two_bytes(&mut self) -> Result<u16, Fault>
-        ensures { Reads (number 2) self.old self.new result }
+        ensures exact { Reads (number 2) self.old self.new result }
+        ensures stays { OnErr result (self.new ≡ self.old) }
     {
         if self.bytes.len() - self.at < 2 {
             return Err(Fault::Truncated);
@@ -103,7 +106,8 @@ impl<'a> Cursor<'a> {
     /// A number of four bytes.
     #[tactic(auto, unfolding(crate::specs::Reading::number))]
     pub fn four_bytes(&mut self) -> Result<u32, Fault>
-        ensures { Reads (number 4) self.old self.new result }
+        ensures exact { Reads (number 4) self.old self.new result }
+        ensures stays { OnErr result (self.new ≡ self.old) }
     {
         if self.bytes.len() - self.at < 4 {
             return Err(Fault::Truncated);
@@ -120,7 +124,8 @@ impl<'a> Cursor<'a> {
     /// The length of a marker segment, which is entered with it.
     #[tactic(auto, unfolding(crate::specs::Reading::segment_length))]
     pub fn enter(&mut self) -> Result<u16, Fault>
-        ensures { Reads segment_length self.old self.new result }
+        ensures exact { Reads segment_length self.old self.new result }
+        ensures stays { OnErr result (self.new ≡ self.old) }
     {
         let length = self.two_bytes()?;
         self.room = (length as usize).saturating_sub(2);
@@ -137,23 +142,32 @@ impl<'a> Cursor<'a> {
     /// Passes over a marker segment, from its length on.
     #[tactic(auto, unfolding(crate::specs::Reading::passed_at))]
     pub(crate) fn pass_segment(&mut self) -> Result<&'a [u8], Fault>
-        ensures { MatchResult result
+        ensures exact { MatchResult result
             (λ s. passed_at self.old ≡ Ok (s.now, self.new))
             (λ e. passed_at self.old ≡ Err e) }
+        ensures stays { OnErr result (self.new ≡ self.old) }
     {
-        let length = self.enter()?;
+        let mut inside = Cursor {
+            bytes: self.bytes,
+            at: self.at,
+            room: self.room,
+        };
+        let length = inside.enter()?;
         if length < 2 {
             return Err(Fault::BadLength);
         }
-        self.pass(length as usize - 2)
+        let passed = inside.pass(length as usize - 2)?;
+        *self = inside;
+        Ok(passed)
     }
 
     /// The next `count` bytes of the segment, which has them.
     #[tactic(auto, unfolding(crate::specs::Reading::passing))]
     pub(crate) fn pass(&mut self, count: usize) -> Result<&'a [u8], Fault>
-        ensures { MatchResult result
+        ensures exact { MatchResult result
             (λ s. passing count self.old ≡ Ok (s.now, self.new))
             (λ e. passing count self.old ≡ Err e) }
+        ensures stays { OnErr result (self.new ≡ self.old) }
     {
         if self.bytes.len() - self.at < count {
             return Err(Fault::Truncated);

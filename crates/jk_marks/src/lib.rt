@@ -11,6 +11,7 @@ mod quantisation_segments;
 mod segments;
 mod siz;
 mod siz_segment;
+mod spelling;
 mod tile_part;
 mod write;
 
@@ -20,5 +21,6 @@ pub use head::{Heading, TileHead};
 pub use main_header::{Main, read_main};
 pub use segments::{Cod, CodingStyle, Exponents, Order, Precincts, Quantisation};
 pub use siz::Siz;
+pub use spelling::one_tree;
 pub use tile_part::{TilePart, read_tile_part};
 pub use write::{write_end, write_main, write_tile_part};

@@ -2,6 +2,8 @@
 
 ghost use Rattle.std.specs.Prelude.{◌≡◌, ◌≤◌, ◌<◌, ◌++◌, [], length, ◌+◌, ◌*◌, ◌/◌, ◌↔◌, map, take, replicate, All, IsTrue, OnOk, IfErr, ◌∷◌};
 ghost use Rattle.std.specs.List.{AllByRecursion};
+ghost use Rattle.jk_math.specs.Memory.{IsMemory};
+ghost use Rattle.jk_math.specs.Front.{IsFront};
 ghost use Rattle.jk_marks.specs.Precincts.{precinct_byte};
 ghost use Rattle.jk_marks.specs.Exponents.{exponents_of};
 ghost use Rattle.jk_marks.specs.OrderCode.{order_code, order_with};
@@ -135,7 +137,8 @@ impl Precincts {
     pub(crate) fn put(&self, out: &mut Vec<u8>) -> Result<(), Fault>
         requires { AllByRecursion (λ p. (p.0 < 16) × (p.1 < 16)) self.now }
         ensures ok { OnOk result (out.new.items ≡ out.old.items ++ map precinct_byte self.now) }
-        ensures err { IfErr result (λ e. e ≡ Fault.Memory) }
+        ensures err { IfErr result (λ e. IsMemory e) }
+        ensures front { IsFront out.old.items out.new.items }
     {
         put_precincts(out, self.as_slice())
     }
@@ -145,7 +148,8 @@ impl Precincts {
 fn put_precincts(out: &mut Vec<u8>, precincts: &[(u8, u8)]) -> Result<(), Fault>
     requires { AllByRecursion (λ p. (p.0 < 16) × (p.1 < 16)) precincts.now }
     ensures ok { OnOk result (out.new.items ≡ out.old.items ++ map precinct_byte precincts.now) }
-    ensures err { IfErr result (λ e. e ≡ Fault.Memory) }
+    ensures err { IfErr result (λ e. IsMemory e) }
+    ensures front { IsFront out.old.items out.new.items }
 {
     for (width, height) in precincts {
         out.push(width + 16 * height)?;
@@ -230,6 +234,16 @@ impl Exponents {
         }
     }
 
+    /// The same exponents.
+    pub fn copy(&self) -> Exponents
+        ensures { result ≡ self.now }
+    {
+        Exponents {
+            count: self.count,
+            exponents: self.exponents,
+        }
+    }
+
     /// How many exponents there are.
     pub fn len(&self) -> usize
         ensures { result ≡ length self.now }
@@ -248,7 +262,8 @@ impl Exponents {
     pub(crate) fn put(&self, out: &mut Vec<u8>) -> Result<(), Fault>
         requires { All (λ e. e < 32) self.now }
         ensures ok { OnOk result (out.new.items ≡ out.old.items ++ map (λ e. 8 * e) self.now) }
-        ensures err { IfErr result (λ e. e ≡ Fault.Memory) }
+        ensures err { IfErr result (λ e. IsMemory e) }
+        ensures front { IsFront out.old.items out.new.items }
     {
         put_exponents(out, &self.exponents[..self.count])
     }
@@ -258,7 +273,8 @@ impl Exponents {
 fn put_exponents(out: &mut Vec<u8>, exponents: &[u8]) -> Result<(), Fault>
     requires { All (λ e. e < 32) exponents.now }
     ensures ok { OnOk result (out.new.items ≡ out.old.items ++ map (λ e. 8 * e) exponents.now) }
-    ensures err { IfErr result (λ e. e ≡ Fault.Memory) }
+    ensures err { IfErr result (λ e. IsMemory e) }
+    ensures front { IsFront out.old.items out.new.items }
 {
     for exponent in exponents {
         out.push(8 * exponent)?;

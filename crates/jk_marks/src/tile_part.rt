@@ -1,6 +1,6 @@
 //! Tile-parts.
 
-ghost use Rattle.std.specs.Prelude.{◌≡◌, ◌≤◌, length, slice_index, IfOk, Ok};
+ghost use Rattle.std.specs.Prelude.{◌≡◌, ◌≤◌, length, slice_index, slice_range, IfOk, Ok};
 ghost use Rattle.jk_marks.specs.Siz.{tile_count};
 ghost use Rattle.jk_math.specs.Answer.{Reads};
 ghost use Rattle.jk_marks.specs.Place.{closed};
@@ -101,9 +101,9 @@ pub fn read_tile_part(bytes: &[u8], main: &Main, seen: &[u16]) -> Result<TilePar
     requires tiles { length seen.now ≡ tile_count main.now.siz }
     requires few { main.now.siz.components ≤ 4 }
     ensures exact { result ≡ part_at main.now.siz seen.now bytes.now }
-    // What is read is the next part of its tile, spelled so at the front.
+    // What is read is the next part of its tile, spelled so at the front, and its data stand at its place.
     ensures found { IfOk result (λ t. (p : Part) × IsPart main.now.siz p × (p.number ≡ slice_index seen.now p.tile)
-        × BeginsWith bytes.now p × (t ≡ place_of p)) }
+        × BeginsWith bytes.now p × (t ≡ place_of p) × (slice_range bytes.now t.start t.end ≡ p.content)) }
     // Such a part is read.
     ensures only { (p : Part) → IsPart main.now.siz p → p.number ≡ slice_index seen.now p.tile
         → BeginsWith bytes.now p → result ≡ Ok (place_of p) }

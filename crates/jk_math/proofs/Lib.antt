@@ -1,2 +1,6 @@
 pub mod DivisionLemmas
 pub mod PictureLemmas
+pub mod Numbers
+pub mod Rasters
+pub mod Rounding
+pub mod Laws

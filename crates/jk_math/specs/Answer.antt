@@ -15,7 +15,7 @@ refuse test fault = if test then Err fault else Ok tt
 
 -- Due is the fault e, unless e says that memory was refused.
 abbrev pub Refuses : {A : Type 0} → Fault → Result A Fault → Type 0
-Refuses Memory due = Unit {0}
+Refuses (Memory r) due = Unit {0}
 Refuses e due = due ≡ Err e
 
 -- A call that may take memory answers what is due, its value seen by view, or Memory.

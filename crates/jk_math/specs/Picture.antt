@@ -1,5 +1,5 @@
 -- What an image is: its place on the reference grid, its size, and a list of samples for each component.
-use Rattle.std.specs.Prelude.{◌≡◌, ℕ, ◌+◌, ◌-◌, ◌*◌, ◌^◌, ◌<◌, ◌≤◌, Bool, true, false, List, [], length, map, All, slice_index_or, ℤ, pos, neg_ℤ, ◌≤ℤ◌}
+use Rattle.std.specs.Prelude.{◌≡◌, ℕ, ◌+◌, ◌-◌, ◌*◌, ◌^◌, ◌<◌, ◌≤◌, Bool, true, false, not, ◌&&◌, ◌||◌, ◌==◌, List, [], length, map, All, slice_index_or, ℤ, pos, neg_ℤ, ◌≤ℤ◌}
 use Rattle.std.specs.Global.{Vec}
 
 -- Rows of samples from the upper left corner (x0, y0) on, one plane for each component.
@@ -54,3 +54,7 @@ pub record AreComponents (area depth : ℕ) (signed : Bool) (planes : List (List
 pub record IsPicture (p : Picture) : Type 0 where
   pub frame : IsFrame p.x0 p.y0 p.width p.height
   pub components : AreComponents (p.width * p.height) p.depth p.signed p.planes
+
+-- greyscale or RGB: one or three unsigned components
+abbrev pub is_grey_or_rgb : (components : ℕ) → (signed : Bool) → Bool
+is_grey_or_rgb components signed = not signed && ((components == 1) || (components == 3))

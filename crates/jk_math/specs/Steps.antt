@@ -61,7 +61,7 @@ exactly_same {X} {Y} view r due again a e = subst (λ (d : Result Y Fault). Answ
 
 -- a fault that is due is refused
 pub refuses_due : {A : Type 0} (e : Fault) (due : Result A Fault) → due ≡ Err e → Refuses e due
-refuses_due Memory due h = tt
+refuses_due (Memory r) due h = tt
 refuses_due e due h = h
 
 -- what is due is an answer

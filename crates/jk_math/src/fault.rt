@@ -1,17 +1,23 @@
 //! Why a call was refused.
 
-ghost use Rattle.std.specs.Prelude.{◌≡◌};
-ghost use Rattle.jk_math.specs.declared.fault.Fault.TheVariants.{Memory};
+ghost use Rattle.jk_math.specs.Memory.{IsMemory};
 
 use std::alloc::{AllocError, AllocFailed};
 use thiserror::Error;
+
+/// A growth of memory that was refused. Its field is private and no call makes one, so a value of this type comes
+/// from an `AllocError` or an `AllocFailed` alone.
+#[derive(Clone, Copy, Debug, PartialEq, Eq)]
+pub struct Refused {
+    seen: (),
+}
 
 /// Why a call was refused. A file is judged from front to back, and the first fault is the answer.
 #[derive(Clone, Copy, Debug, PartialEq, Eq, Error)]
 pub enum Fault {
     /// A growth of memory was refused.
     #[error("F1 Memory")]
-    Memory,
+    Memory(Refused),
     /// The file, box or tile-part ends inside something that was begun, or EOC is missing at the end.
     #[error("F2 Truncated")]
     Truncated,
@@ -81,18 +87,30 @@ pub enum Fault {
     WorkerFailed,
 }
 
-impl From<AllocError> for Fault {
-    ghost from_gives = { λ _ e. e ≡ Memory };
+impl From<AllocError> for Refused {
+    fn from(_error: AllocError) -> Refused {
+        Refused { seen: () }
+    }
+}
 
-    fn from(_error: AllocError) -> Fault {
-        Fault::Memory
+impl<T: Drop> From<AllocFailed<T>> for Refused {
+    fn from(_error: AllocFailed<T>) -> Refused {
+        Refused { seen: () }
+    }
+}
+
+impl From<AllocError> for Fault {
+    ghost from_gives = { λ _ e. IsMemory e };
+
+    fn from(error: AllocError) -> Fault {
+        Fault::Memory(Refused::from(error))
     }
 }
 
 impl<T: Drop> From<AllocFailed<T>> for Fault {
-    ghost from_gives = { λ _ e. e ≡ Memory };
+    ghost from_gives = { λ _ e. IsMemory e };
 
-    fn from(_error: AllocFailed<T>) -> Fault {
-        Fault::Memory
+    fn from(error: AllocFailed<T>) -> Fault {
+        Fault::Memory(Refused::from(error))
     }
 }

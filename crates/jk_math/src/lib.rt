@@ -8,7 +8,7 @@ mod planes;
 mod rect;
 
 pub use division::{ceil_div, floor_div, reflect};
-pub use fault::Fault;
+pub use fault::{Fault, Refused};
 pub use image::{Image, sample_range};
 pub use planes::Planes;
 pub use rect::Rect;

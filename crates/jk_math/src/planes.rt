@@ -22,7 +22,7 @@ impl Model for Planes {
 
 impl Planes {
     /// These planes.
-    pub(crate) fn new(planes: Vec<Vec<i32>>) -> Planes
+    pub fn new(planes: Vec<Vec<i32>>) -> Planes
         ensures { result ≡ lists_of planes.items }
     {
         Planes { planes }

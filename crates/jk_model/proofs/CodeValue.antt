@@ -1,10 +1,14 @@
 -- The code value as the interval doubles: which bytes it holds, how it grows, and what the next byte adds.
-use Rattle.std.proofs.Common.{◌≡◌, ◌∙◌, ap, sym, ℕ, zero, suc, ◌+◌, ◌-◌, ◌*◌, ◌^◌, ◌<◌, ◌≤◌, inl, inr, Bool, true, false, not, cond, ◌&&◌, ◌||◌, List, eqb, leb, refl, arith}
+use Rattle.std.proofs.Common.{◌≡◌, ◌∙◌, ap, sym, ℕ, zero, suc, ◌+◌, ◌-◌, ◌*◌, ◌^◌, ◌<◌, ◌≤◌, inl, inr, Bool, true, false, not, cond, ◌&&◌, ◌||◌, List, eqb, ltb, leb, refl, arith}
 use Rattle.std.proofs.Math.Nat.{pow-succ'}
 use Rattle.std.proofs.lemmas.Bool.{cases_lt, le-leb, lt-leb}
 use Rattle.jk_model.specs.Code.{byte_at, is_last, is_past, fed, places, start, wanted, share, shares, code_value}
 
 -- ---- one equation for each definition
+
+pub is_last-is : (b : List ℕ) (i : ℕ) → is_last b i ≡ (eqb (byte_at b i) 255 && ltb 143 (byte_at b (i + 1)))
+unfolding is_last
+is_last-is b i = refl
 
 pub is_past-zero : (b : List ℕ) → is_past b 0 ≡ false
 unfolding is_past
@@ -38,19 +42,19 @@ pub wanted-suc : (b : List ℕ) (i : ℕ) → wanted b (suc i) ≡ start b i + 8
 unfolding wanted
 wanted-suc b i = refl
 
-share-is : (b : List ℕ) (n i : ℕ) → share b n i ≡ cond (leb (wanted b i) (n + 14)) (fed b i * 2 ^ (n + 14 - start b i)) 0
+pub share-is : (b : List ℕ) (n i : ℕ) → share b n i ≡ cond (leb (wanted b i) (n + 14)) (fed b i * 2 ^ (n + 14 - start b i)) 0
 unfolding share
 share-is b n i = refl
 
-shares-zero : (b : List ℕ) (n : ℕ) → shares b n 0 ≡ 0
+pub shares-zero : (b : List ℕ) (n : ℕ) → shares b n 0 ≡ 0
 unfolding shares
 shares-zero b n = refl
 
-shares-suc : (b : List ℕ) (n k : ℕ) → shares b n (suc k) ≡ shares b n k + share b n k
+pub shares-suc : (b : List ℕ) (n k : ℕ) → shares b n (suc k) ≡ shares b n k + share b n k
 unfolding shares
 shares-suc b n k = refl
 
-code_value-is : (b : List ℕ) (n : ℕ) → code_value b n ≡ shares b n (n + 15)
+pub code_value-is : (b : List ℕ) (n : ℕ) → code_value b n ≡ shares b n (n + 15)
 unfolding code_value
 code_value-is b n = refl
 
@@ -92,7 +96,7 @@ start-le b (suc i) = omega (arith, start-suc b i, wanted-suc b i, places-le b i)
 
 -- ---- the shares
 
-share-in : (b : List ℕ) (n i : ℕ) → wanted b i ≤ n + 14 → share b n i ≡ fed b i * 2 ^ (n + 14 - start b i)
+pub share-in : (b : List ℕ) (n i : ℕ) → wanted b i ≤ n + 14 → share b n i ≡ fed b i * 2 ^ (n + 14 - start b i)
 share-in b n i h = share-is b n i ∙ ap (λ t. cond t (fed b i * 2 ^ (n + 14 - start b i)) 0) (le-leb (wanted b i) (n + 14) h)
 
 share-out : (b : List ℕ) (n i : ℕ) → n + 14 < wanted b i → share b n i ≡ 0

@@ -2,3 +2,9 @@ pub mod CodeValue
 pub mod Moves
 pub mod Rows
 pub mod Spelling
+pub mod Deciding
+pub mod Alike
+pub mod Placed
+pub mod Join
+pub mod Tail
+pub mod Laws

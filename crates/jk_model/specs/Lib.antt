@@ -1,3 +1,5 @@
 pub mod Code
 pub mod Contexts
 pub mod Decisions
+pub mod Deciding
+pub mod Placed

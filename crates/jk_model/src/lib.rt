@@ -3,9 +3,11 @@
 #![tactic(auto)]
 
 mod context;
-mod laws;
 mod table;
+mod theorems;
 
 pub use context::{Cx, first_contexts, next_state};
-pub use laws::{joined_spelling, one_spelling, standard_states};
 pub use table::{Row, STATES};
+pub use theorems::{
+    alike_spelling, given_decisions, joined_spelling, one_spelling, placed_value, standard_states,
+};

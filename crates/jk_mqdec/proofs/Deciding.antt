@@ -1,7 +1,8 @@
 -- A decision of the registers against a decision of the definition.
-use Rattle.std.proofs.Common.{◌≡◌, ◌∙◌, ap, sym, subst, ℕ, zero, suc, ◌+◌, ◌-◌, ◌*◌, ◌^◌, ◌<◌, ◌≤◌, Bool, true, false, not, cond, ◌&&◌, List, get_or, set, ltb, Result, Ok, Err, MatchResult, IfOk, IfErr, OnOk, OnErr, refl, arith}
+use Rattle.std.proofs.Common.{◌≡◌, ◌∙◌, ap, sym, subst, ℕ, zero, suc, ◌+◌, ◌-◌, ◌*◌, ◌^◌, ◌<◌, ◌≤◌, Bool, true, false, not, cond, ◌&&◌, List, get_or, set, ltb, Result, Ok, Err, MatchResult, IfOk, IfErr, OnOk, OnErr, inl, inr, refl, arith}
 use Rattle.std.specs.Bool.{beq}
-use Rattle.std.proofs.lemmas.Bool.{lt-ltb, le-ltb}
+use Rattle.std.proofs.lemmas.Bool.{cases_lt, lt-ltb, le-ltb}
+use Rattle.std.proofs.lemmas.List.{set-get_or}
 use Rattle.jk_math.specs.declared.fault.Fault.{Fault}
 use Rattle.jk_math.specs.declared.fault.Fault.TheVariants.{CodeOutOfInterval}
 use Rattle.jk_model.specs.Code.{code_value}
@@ -9,13 +10,12 @@ use Rattle.jk_model.specs.Contexts.{Context, row_of, moved, begins}
 use Rattle.jk_model.specs.Decisions.{State, IsWithin, is_within, context_at, qe_at, is_lower, is_exchanged, bit_at, divided, renormalised, contexts_after, after, doubled}
 use Rattle.jk_mqdec.specs.declared.registers.Registers.{Registers}
 use Rattle.jk_mqdec.specs.Registers.{Holds, IsOutside, HasLeft, IsReady}
-use Rattle.jk_mqdec.specs.Standing.{View, HasFailed, Stands}
+use Rattle.jk_mqdec.specs.Standing.{View, HasFailed, StandsWithin, Stands}
 use Rattle.jk_mqdec.specs.Answers.{answer, next}
-use Rattle.jk_mqdec.proofs.Doubling.{renormalised-wide}
 
 -- ---- within and outside
 
-pub within-holds : (b : List ℕ) (r : Registers) (s : State) → r.code < r.width * 2 ^ 16 → Holds b r s → IsWithin b s
+pub within-holds : (b : List ℕ) (r : Registers) (s : State) → r.code < r.width → Holds b r s → IsWithin b s
 within-holds b r s k h = omega (arith, h.code, h.width)
 
 is_within-true : (b : List ℕ) (s : State) → IsWithin b s → is_within b s ≡ true
@@ -53,12 +53,21 @@ pub record Decides (old new : View) (cx : ℕ) (result : Result Bool Fault) : Ty
   pub answers : (s : State) → Stands old s → result ≡ answer old.bytes s cx
   pub goes_on : (s : State) → Stands old s → Stands new (next old.bytes s cx)
 
+-- the registers tell which of the two it is
+is-outside : (d : View) (s : State) → HasFailed d → Stands d s → IsOutside d.bytes s
+is-outside d s failed (inl st) = let k = st.code in absurd (omega (arith, k, failed))
+is-outside d s failed (inr st) = st.outside
+
+is-within : (d : View) (s : State) → d.registers.code < d.registers.width → Stands d s → StandsWithin d s
+is-within d s k (inl st) = st
+is-within d s k (inr st) = let failed = st.failed in absurd (omega (arith, k, failed))
+
 -- ---- the code value has left the interval before
 
 pub decides-failed : (d : View) (cx : ℕ) → HasFailed d → Decides d d cx (Err CodeOutOfInterval)
 decides-failed d cx h = record {
-  answers = λ s st. sym (answer-failed d.bytes s cx (st.outside h));
-  goes_on = λ s st. subst (λ t. Stands d t) (sym (next-failed d.bytes s cx (st.outside h))) st;
+  answers = λ s st. sym (answer-failed d.bytes s cx (is-outside d s h st));
+  goes_on = λ s st. subst (λ t. Stands d t) (sym (next-failed d.bytes s cx (is-outside d s h st))) st;
 }
 
 -- ---- the state after a decision, by its parts
@@ -120,25 +129,25 @@ lower-false : (b : List ℕ) (r : Registers) (s : State) (cx : ℕ) → Holds b 
 unfolding is_lower
 lower-false b r s cx h k = le-ltb (code_value b s.doublings) (128 * (s.low + qe_at s cx)) (omega (arith, h.code))
 
-holds-lower : (b : List ℕ) (now part : Registers) (s : State) (cx : ℕ) → Holds b now s → now.code < qe_at s cx * 2 ^ 16 → part.code ≡ now.code → part.width ≡ qe_at s cx → part.count ≡ now.count → part.place ≡ now.place → Holds b part (divided b s cx)
+holds-lower : (b : List ℕ) (now part : Registers) (s : State) (cx : ℕ) → Holds b now s → now.code < qe_at s cx * 2 ^ 16 → part.code ≡ now.code → part.width ≡ qe_at s cx * 2 ^ 16 → part.count ≡ now.count → part.place ≡ now.place → Holds b part (divided b s cx)
 holds-lower b now part s cx h k code width count place =
     subst (λ t. Holds b part t) (sym (divided-is b s cx true (lower-true b now s cx h k))) (record {
-      code = omega (arith, h.code);
+      code = omega (arith, h.code, code);
       width = width;
       last = h.last;
       fed_last = h.fed_last;
-      due_next = omega (arith, h.due_next);
+      due_next = omega (arith, h.due_next, count);
       place = rw place h.place;
     })
 
-holds-upper : (b : List ℕ) (now part : Registers) (s : State) (cx : ℕ) → Holds b now s → qe_at s cx * 2 ^ 16 ≤ now.code → part.code + qe_at s cx * 2 ^ 16 ≡ now.code → part.width ≡ now.width - qe_at s cx → part.count ≡ now.count → part.place ≡ now.place → Holds b part (divided b s cx)
+holds-upper : (b : List ℕ) (now part : Registers) (s : State) (cx : ℕ) → Holds b now s → qe_at s cx * 2 ^ 16 ≤ now.code → part.code + qe_at s cx * 2 ^ 16 ≡ now.code → part.width ≡ now.width - qe_at s cx * 2 ^ 16 → part.count ≡ now.count → part.place ≡ now.place → Holds b part (divided b s cx)
 holds-upper b now part s cx h k code width count place =
     subst (λ t. Holds b part t) (sym (divided-is b s cx false (lower-false b now s cx h k))) (record {
-      code = omega (arith, h.code);
-      width = width ∙ ap (λ w. w - qe_at s cx) h.width;
+      code = omega (arith, h.code, code);
+      width = omega (arith, h.width, width);
       last = h.last;
       fed_last = h.fed_last;
-      due_next = omega (arith, h.due_next);
+      due_next = omega (arith, h.due_next, count);
       place = rw place h.place;
     })
 
@@ -149,37 +158,42 @@ unfolding bit_at
 bit-is b s cx x h =
     ap (λ (t : Bool). cond (beq t (is_exchanged s cx)) (context_at s cx).mps (not (context_at s cx).mps)) h
 
-as_lower : (e m : Bool) → beq e m ≡ cond (beq true e) m (not m)
-as_lower true true = refl
-as_lower true false = refl
-as_lower false true = refl
-as_lower false false = refl
+-- the less probable symbol, from the part and from which part is the smaller
+bit_from : (lower exchanged mps : Bool) → not (beq mps (not (beq lower exchanged))) ≡ cond (beq lower exchanged) mps (not mps)
+bit_from true true true = refl
+bit_from true true false = refl
+bit_from true false true = refl
+bit_from true false false = refl
+bit_from false true true = refl
+bit_from false true false = refl
+bit_from false false true = refl
+bit_from false false false = refl
 
-as_upper : (e m : Bool) → not (beq e m) ≡ cond (beq false e) m (not m)
-as_upper true true = refl
-as_upper true false = refl
-as_upper false true = refl
-as_upper false false = refl
+symbol : (less mps : Bool) → not (beq mps less) ≡ cond less (not mps) mps
+symbol true true = refl
+symbol true false = refl
+symbol false true = refl
+symbol false false = refl
 
 exchanged-is : (s : State) (cx : ℕ) → is_exchanged s cx ≡ ltb (s.width - qe_at s cx) (qe_at s cx)
 unfolding is_exchanged
 exchanged-is s cx = refl
 
+-- in the units of the registers
+exchanged-scaled : (w q : ℕ) → ltb (w * 2 ^ 16 - q * 2 ^ 16) (q * 2 ^ 16) ≡ ltb (w - q) q
+exchanged-scaled w q =
+    elim (cases_lt (w - q) q) [
+      | inl less ↦ lt-ltb (w * 2 ^ 16 - q * 2 ^ 16) (q * 2 ^ 16) (omega (arith, less)) ∙ sym (lt-ltb (w - q) q less)
+      | inr more ↦ le-ltb (w * 2 ^ 16 - q * 2 ^ 16) (q * 2 ^ 16) (omega (arith, more)) ∙ sym (le-ltb (w - q) q more)
+    ]
+
 -- ---- the decoder after a decision
 
-stands-within : (old new : View) (t : State) → new.bytes ≡ old.bytes → new.registers.code < new.registers.width * 2 ^ 16 → Holds old.bytes new.registers t → new.contexts ≡ t.contexts → Stands new t
-stands-within old new t same k h contexts = record {
-  holds = λ _. rw same h;
-  contexts = λ _. contexts;
-  outside = λ left. absurd (omega arith);
-}
+stands-within : (old new : View) (t : State) → new.bytes ≡ old.bytes → new.registers.code < new.registers.width → Holds old.bytes new.registers t → new.contexts ≡ t.contexts → Stands new t
+stands-within old new t same k h contexts = inl (record { code = k; holds = rw same h; contexts = contexts })
 
 stands-outside : (old new : View) (t : State) → new.bytes ≡ old.bytes → HasFailed new → IsOutside old.bytes t → Stands new t
-stands-outside old new t same k h = record {
-  holds = λ m. absurd (omega arith);
-  contexts = λ m. absurd (omega arith);
-  outside = λ _. rw same h;
-}
+stands-outside old new t same k h = inr (record { failed = k; outside = rw same h })
 
 -- The registers part hold the part of s that the code value lies in, and the decision is still to be settled.
 pub record Divides (old : View) (part : Registers) (s : State) (cx : ℕ) (context : Context) (bit : Bool) : Type 0 where
@@ -189,90 +203,92 @@ pub record Divides (old : View) (part : Registers) (s : State) (cx : ℕ) (conte
   pub contexts_are : old.contexts ≡ s.contexts
   pub bit_is : bit ≡ bit_at old.bytes s cx
 
--- what settling a decision gives
-pub record Settles (old new : View) (part : Registers) (cx : ℕ) (context : Context) (bit : Bool) (result : Result Bool Fault) : Type 0 where
+-- What the call does: the context moves where a renormalisation is due, and the part is renormalised.
+pub record Settles (old new : View) (part : Registers) (cx : ℕ) (context : Context) (less : Bool) (result : Result Bool Fault) : Type 0 where
   pub bytes : new.bytes ≡ old.bytes
-  pub contexts : new.contexts ≡ set old.contexts cx (moved context bit)
-  pub bit_is : IfOk result (λ b. b ≡ bit)
+  pub contexts : new.contexts ≡ set old.contexts cx (cond (ltb part.width (2 ^ 31)) (moved context (cond less (not context.mps) context.mps)) context)
+  pub bit_is : IfOk result (λ b. b ≡ not (beq context.mps less))
   pub fault : IfErr result (λ e. e ≡ CodeOutOfInterval)
   pub ready : OnOk result (IsReady old.bytes new.registers)
   pub left : OnErr result (HasLeft new.registers)
   pub holds : (s : State) → Holds old.bytes part s → MatchResult result (λ _. Holds old.bytes new.registers (renormalised 15 s)) (λ _. IsOutside old.bytes (renormalised 15 s))
 
-settles-contexts : (old new : View) (part : Registers) (s : State) (cx : ℕ) (context : Context) (bit : Bool) (r : Result Bool Fault) → part.width < 2 ^ 15 → Settles old new part cx context bit r → Divides old part s cx context bit → new.contexts ≡ (after old.bytes s cx).contexts
-settles-contexts old new part s cx context bit r narrow h d =
+settles-contexts : (old new : View) (part : Registers) (s : State) (cx : ℕ) (context : Context) (less : Bool) (r : Result Bool Fault) → Settles old new part cx context less r → Divides old part s cx context (not (beq context.mps less)) → new.contexts ≡ (after old.bytes s cx).contexts
+settles-contexts old new part s cx context less r h d =
     let b = old.bytes in
-    h.contexts ∙ ap (λ (cs : List Context). set cs cx (moved context bit)) d.contexts_are ∙ ap (λ (x : Context). set s.contexts cx (moved x bit)) d.context_is ∙ ap (λ (x : Bool). set s.contexts cx (moved (context_at s cx) x)) d.bit_is ∙ sym (contexts-moved b s cx (omega (arith, d.holds.width))) ∙ sym (contexts-after b s cx)
+    let bit = not (beq context.mps less) in
+    let symbol_is : cond less (not context.mps) context.mps ≡ bit_at b s cx = sym (symbol less context.mps) ∙ d.bit_is in
+    h.contexts ∙ elim (cases_lt part.width (2 ^ 31)) [
+      | inl narrow ↦
+          ap (λ (t : Bool). set old.contexts cx (cond t (moved context (cond less (not context.mps) context.mps)) context)) (lt-ltb part.width (2 ^ 31) narrow)
+          ∙ ap (λ (cs : List Context). set cs cx (moved context (cond less (not context.mps) context.mps))) d.contexts_are
+          ∙ ap (λ (x : Bool). set s.contexts cx (moved context x)) symbol_is
+          ∙ ap (λ (x : Context). set s.contexts cx (moved x (bit_at b s cx))) d.context_is
+          ∙ sym (contexts-moved b s cx (let w = d.holds.width in omega (arith, w, narrow)))
+          ∙ sym (contexts-after b s cx)
+      | inr wide ↦
+          ap (λ (t : Bool). set old.contexts cx (cond t (moved context (cond less (not context.mps) context.mps)) context)) (le-ltb part.width (2 ^ 31) wide)
+          ∙ ap (λ (cs : List Context). set cs cx context) d.contexts_are
+          ∙ ap (λ (x : Context). set s.contexts cx x) d.context_is
+          ∙ set-get_or s.contexts cx (begins 0)
+          ∙ sym (contexts-kept b s cx (let w = d.holds.width in omega (arith, w, wide)))
+          ∙ sym (contexts-after b s cx)
+    ]
 
-settles-answers : (old new : View) (part : Registers) (s : State) (cx : ℕ) (context : Context) (bit : Bool) (r : Result Bool Fault) → part.width < 2 ^ 15 → Settles old new part cx context bit r → Divides old part s cx context bit → (r ≡ answer old.bytes s cx) × Stands new (next old.bytes s cx)
-settles-answers old new part s cx context bit (Ok x) narrow h d =
+settles-answers : (old new : View) (part : Registers) (s : State) (cx : ℕ) (context : Context) (less : Bool) (r : Result Bool Fault) → Settles old new part cx context less r → Divides old part s cx context (not (beq context.mps less)) → (r ≡ answer old.bytes s cx) × Stands new (next old.bytes s cx)
+settles-answers old new part s cx context less (Ok x) h d =
     let b = old.bytes in
     let t = settling b s cx in
     let there : Holds b new.registers (after b s cx) = subst (λ u. Holds b new.registers u) (sym (after-is b s cx)) (h.holds t (holds-contexts b part (divided b s cx) (contexts_after b s cx) d.holds)) in
-    (ap (λ (y : Bool). let z : Result Bool Fault = Ok y in z) (h.bit_is ∙ d.bit_is) ∙ sym (answer-ok b s cx d.within (within-holds b new.registers (after b s cx) h.ready.code there)), subst (λ u. Stands new u) (sym (next-within b s cx d.within)) (stands-within old new (after b s cx) h.bytes h.ready.code there (settles-contexts old new part s cx context bit (Ok x) narrow h d)))
-settles-answers old new part s cx context bit (Err e) narrow h d =
+    (ap (λ (y : Bool). let z : Result Bool Fault = Ok y in z) (h.bit_is ∙ d.bit_is) ∙ sym (answer-ok b s cx d.within (within-holds b new.registers (after b s cx) h.ready.code there)), subst (λ u. Stands new u) (sym (next-within b s cx d.within)) (stands-within old new (after b s cx) h.bytes h.ready.code there (settles-contexts old new part s cx context less (Ok x) h d)))
+settles-answers old new part s cx context less (Err e) h d =
     let b = old.bytes in
     let t = settling b s cx in
     let there : IsOutside b (after b s cx) = subst (λ u. IsOutside b u) (sym (after-is b s cx)) (h.holds t (holds-contexts b part (divided b s cx) (contexts_after b s cx) d.holds)) in
     (ap (λ (y : Fault). let z : Result Bool Fault = Err y in z) h.fault ∙ sym (answer-left b s cx d.within there), subst (λ u. Stands new u) (sym (next-within b s cx d.within)) (stands-outside old new (after b s cx) h.bytes h.left there))
 
-pub decides-settled : (old new : View) (part : Registers) (cx : ℕ) (context : Context) (bit : Bool) (r : Result Bool Fault) → part.width < 2 ^ 15 → Settles old new part cx context bit r → ((s : State) → Stands old s → Divides old part s cx context bit) → Decides old new cx r
-decides-settled old new part cx context bit r narrow h divides = record {
-  answers = λ s st. (settles-answers old new part s cx context bit r narrow h (divides s st)).0;
-  goes_on = λ s st. (settles-answers old new part s cx context bit r narrow h (divides s st)).1;
+pub decides-settled : (old new : View) (part : Registers) (cx : ℕ) (context : Context) (less : Bool) (r : Result Bool Fault) → Settles old new part cx context less r → ((s : State) → Stands old s → Divides old part s cx context (not (beq context.mps less))) → Decides old new cx r
+decides-settled old new part cx context less r h divides = record {
+  answers = λ s st. (settles-answers old new part s cx context less r h (divides s st)).0;
+  goes_on = λ s st. (settles-answers old new part s cx context less r h (divides s st)).1;
 }
 
--- no renormalisation is due
-pub decides-kept : (old new : View) (cx : ℕ) (context : Context) (bit : Bool) → 2 ^ 15 ≤ new.registers.width → new.registers.code < new.registers.width * 2 ^ 16 → new.bytes ≡ old.bytes → new.contexts ≡ old.contexts → ((s : State) → Stands old s → Divides old new.registers s cx context bit) → Decides old new cx (Ok bit)
-decides-kept old new cx context bit wide k same contexts divides =
-    let b = old.bytes in
-    let stays : (s : State) → Divides old new.registers s cx context bit → after b s cx ≡ settling b s cx = λ s d. after-is b s cx ∙ renormalised-wide 15 (settling b s cx) (omega (arith, d.holds.width)) in
-    let there : (s : State) → Divides old new.registers s cx context bit → Holds b new.registers (after b s cx) = λ s d. subst (λ u. Holds b new.registers u) (sym (stays s d)) (holds-contexts b new.registers (divided b s cx) (contexts_after b s cx) d.holds) in
-    record {
-      answers = λ s st.
-          let d = divides s st in
-          ap (λ (y : Bool). let z : Result Bool Fault = Ok y in z) d.bit_is ∙ sym (answer-ok b s cx d.within (within-holds b new.registers (after b s cx) k (there s d)));
-      goes_on = λ s st.
-          let d = divides s st in
-          subst (λ u. Stands new u) (sym (next-within b s cx d.within)) (stands-within old new (after b s cx) same k (there s d) (contexts ∙ d.contexts_are ∙ sym (contexts-kept b s cx (omega (arith, d.holds.width))) ∙ sym (contexts-after b s cx)));
-    }
+-- ---- the part that the code value lies in, as the call finds it
 
--- ---- the two parts
-
--- the code value lies in the lower part
-pub divides-lower : (old : View) (part : Registers) (cx : ℕ) (context : Context) (qe : ℕ) (bit : Bool) → old.registers.code < old.registers.width * 2 ^ 16 → context ≡ get_or old.contexts cx (begins 0) → qe ≡ (row_of context.state).qe → old.registers.code < qe * 2 ^ 16 → part.code ≡ old.registers.code → part.width ≡ qe → part.count ≡ old.registers.count → part.place ≡ old.registers.place → bit ≡ beq (ltb (old.registers.width - qe) qe) context.mps → (s : State) → Stands old s → Divides old part s cx context bit
-divides-lower old part cx context qe bit k context_is qe_is below code width count place bit_is s st =
+pub divides : (old : View) (part : Registers) (cx : ℕ) (context : Context) (q : ℕ) (less : Bool) → old.registers.code < old.registers.width → context ≡ get_or old.contexts cx (begins 0) → q ≡ (row_of context.state).qe * 2 ^ 16
+    → (old.registers.code < q → part ≡ record old.registers { width = q }) → (q ≤ old.registers.code → part ≡ record old.registers { code = old.registers.code - q; width = old.registers.width - q })
+    → less ≡ not (beq (ltb old.registers.code q) (ltb (old.registers.width - q) q)) → (s : State) → Stands old s → Divides old part s cx context (not (beq context.mps less))
+divides old part cx context q less k context_is q_is low high less_is s st =
     let b = old.bytes in
-    let h = st.holds k in
-    let same : context ≡ context_at s cx = context_is ∙ ap (λ (cs : List Context). get_or cs cx (begins 0)) (st.contexts k) in
-    let size : qe ≡ qe_at s cx = qe_is ∙ ap (λ (x : Context). (row_of x.state).qe) same in
-    let exchanged : ltb (old.registers.width - qe) qe ≡ is_exchanged s cx = ap (λ q. ltb (old.registers.width - q) q) size ∙ ap (λ w. ltb (w - qe_at s cx) (qe_at s cx)) h.width ∙ sym (exchanged-is s cx) in
-    let lower : old.registers.code < qe_at s cx * 2 ^ 16 = omega arith in
-    record {
-      within = within-holds b old.registers s k h;
-      holds = holds-lower b old.registers part s cx h lower code (width ∙ size) count place;
+    let r = old.registers in
+    let at = is-within old s k st in
+    let h = at.holds in
+    let same : context ≡ context_at s cx = context_is ∙ ap (λ (cs : List Context). get_or cs cx (begins 0)) at.contexts in
+    let size : q ≡ qe_at s cx * 2 ^ 16 = q_is ∙ ap (λ (x : Context). (row_of x.state).qe * 2 ^ 16) same in
+    let exchanged : ltb (r.width - q) q ≡ is_exchanged s cx = ap (λ p. ltb (r.width - p) p) size ∙ ap (λ w. ltb (w - qe_at s cx * 2 ^ 16) (qe_at s cx * 2 ^ 16)) h.width ∙ exchanged-scaled s.width (qe_at s cx) ∙ sym (exchanged-is s cx) in
+    let bit : (lower : Bool) → ltb r.code q ≡ lower → is_lower b s cx ≡ lower → not (beq context.mps less) ≡ bit_at b s cx = λ lower here there.
+    ap (λ (l : Bool). not (beq context.mps l)) less_is
+    ∙ ap (λ (t : Bool). not (beq context.mps (not (beq t (ltb (r.width - q) q))))) here
+    ∙ ap (λ (t : Bool). not (beq context.mps (not (beq lower t)))) exchanged
+    ∙ bit_from lower (is_exchanged s cx) context.mps
+    ∙ ap (λ (x : Context). cond (beq lower (is_exchanged s cx)) x.mps (not x.mps)) same
+    ∙ sym (bit-is b s cx lower there) in
+    let made : (part_held : Holds b part (divided b s cx)) (lower : Bool) → ltb r.code q ≡ lower → is_lower b s cx ≡ lower → Divides old part s cx context (not (beq context.mps less)) = λ held lower here there. record {
+      within = within-holds b r s k h;
+      holds = held;
       context_is = same;
-      contexts_are = st.contexts k;
-      bit_is = bit_is ∙ ap (λ (e : Bool). beq e context.mps) exchanged ∙ ap (λ (x : Context). beq (is_exchanged s cx) x.mps) same ∙ as_lower (is_exchanged s cx) (context_at s cx).mps ∙ sym (bit-is b s cx true (lower-true b old.registers s cx h lower));
-    }
-
--- it lies in the upper part
-pub divides-upper : (old : View) (part : Registers) (cx : ℕ) (context : Context) (qe : ℕ) (bit : Bool) → old.registers.code < old.registers.width * 2 ^ 16 → context ≡ get_or old.contexts cx (begins 0) → qe ≡ (row_of context.state).qe → qe * 2 ^ 16 ≤ old.registers.code → part.code + qe * 2 ^ 16 ≡ old.registers.code → part.width ≡ old.registers.width - qe → part.count ≡ old.registers.count → part.place ≡ old.registers.place → bit ≡ not (beq (ltb (old.registers.width - qe) qe) context.mps) → (s : State) → Stands old s → Divides old part s cx context bit
-divides-upper old part cx context qe bit k context_is qe_is above code width count place bit_is s st =
-    let b = old.bytes in
-    let h = st.holds k in
-    let same : context ≡ context_at s cx = context_is ∙ ap (λ (cs : List Context). get_or cs cx (begins 0)) (st.contexts k) in
-    let size : qe ≡ qe_at s cx = qe_is ∙ ap (λ (x : Context). (row_of x.state).qe) same in
-    let exchanged : ltb (old.registers.width - qe) qe ≡ is_exchanged s cx = ap (λ q. ltb (old.registers.width - q) q) size ∙ ap (λ w. ltb (w - qe_at s cx) (qe_at s cx)) h.width ∙ sym (exchanged-is s cx) in
-    let upper : qe_at s cx * 2 ^ 16 ≤ old.registers.code = omega arith in
-    record {
-      within = within-holds b old.registers s k h;
-      holds = holds-upper b old.registers part s cx h upper (omega arith) (width ∙ ap (λ q. old.registers.width - q) size) count place;
-      context_is = same;
-      contexts_are = st.contexts k;
-      bit_is = bit_is ∙ ap (λ (e : Bool). not (beq e context.mps)) exchanged ∙ ap (λ (x : Context). not (beq (is_exchanged s cx) x.mps)) same ∙ as_upper (is_exchanged s cx) (context_at s cx).mps ∙ sym (bit-is b s cx false (lower-false b old.registers s cx h upper));
-    }
-
--- the upper part is the more probable symbol where it is the larger
-pub not_exchanged : (w q : ℕ) (m : Bool) → q ≤ w - q → m ≡ not (beq (ltb (w - q) q) m)
-not_exchanged w q m h = sym (ap (λ (e : Bool). not (beq e m)) (le-ltb (w - q) q h) ∙ as_upper false m)
+      contexts_are = at.contexts;
+      bit_is = bit lower here there;
+    } in
+    elim (cases_lt r.code q) [
+      | inl below ↦
+          let is = low below in
+          let here : r.code < qe_at s cx * 2 ^ 16 = omega (arith, below, size) in
+          made (holds-lower b r part s cx h here (ap (λ (x : Registers). x.code) is) (ap (λ (x : Registers). x.width) is ∙ size) (ap (λ (x : Registers). x.count) is) (ap (λ (x : Registers). x.place) is)) true (lt-ltb r.code q below) (lower-true b r s cx h here)
+      | inr above ↦
+          let is = high above in
+          let here : qe_at s cx * 2 ^ 16 ≤ r.code = omega (arith, above, size) in
+          let code = ap (λ (x : Registers). x.code) is in
+          let width = ap (λ (x : Registers). x.width) is in
+          made (holds-upper b r part s cx h here (omega (arith, code, above, size)) (omega (arith, width, size)) (ap (λ (x : Registers). x.count) is) (ap (λ (x : Registers). x.place) is)) false (le-ltb r.code q above) (lower-false b r s cx h here)
+    ]

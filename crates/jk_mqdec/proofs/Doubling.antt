@@ -1,12 +1,12 @@
--- A doubling of the registers against a doubling of the interval, and all doublings of a renormalisation.
+-- A doubling of the registers against a doubling of the interval, and many doublings at a time.
 use Rattle.std.proofs.Common.{◌≡◌, ◌∙◌, ap, sym, subst, ℕ, zero, suc, ◌+◌, ◌-◌, ◌*◌, ◌^◌, ◌<◌, ◌≤◌, inl, inr, cond, List, ltb, refl, arith}
-use Rattle.std.proofs.Math.Nat.{pow-succ'}
-use Rattle.std.proofs.lemmas.Bool.{cases_eq, cases_lt, lt-ltb, le-ltb}
+use Rattle.std.proofs.lemmas.Bool.{cases_eq, lt-ltb, le-ltb}
 use Rattle.jk_model.specs.Code.{byte_at, is_past, fed, places}
 use Rattle.jk_model.specs.Decisions.{State, initial, doubled, renormalised}
-use Rattle.jk_model.proofs.CodeValue.{places-ge, places-le, wanted-next, wanted-suc, start-zero, code_value-double, code_value-feed, code_value-grows, code_value-start, fed-is, is_past-zero}
+use Rattle.jk_model.proofs.Laws.{places-ge, places-le, wanted-next, wanted-suc, start-zero, code_value-double, code_value-feed, code_value-grows, code_value-start, fed-is, is_past-zero}
 use Rattle.jk_mqdec.specs.declared.registers.Registers.{Registers}
-use Rattle.jk_mqdec.specs.Registers.{IsAt, Feeds, Holds, Supplied, IsOutside, HasLeft}
+use Rattle.jk_mqdec.specs.Registers.{IsAt, Feeds, Holds, Supplied, IsOutside, HasLeft, doubled_by}
+use Rattle.jk_mqdec.proofs.Shifts.{shift_first, shift_grows}
 
 -- ---- one doubling
 
@@ -76,50 +76,82 @@ renormalised-wide (suc k) s h =
 outside-doubled : (b : List ℕ) (s : State) → IsOutside b s → IsOutside b (doubled s)
 outside-doubled b s h = omega (arith, code_value-grows b s.doublings)
 
--- a code value outside stays outside
-pub outside-renormalised : (b : List ℕ) (k : ℕ) (s : State) → IsOutside b s → IsOutside b (renormalised k s)
-unfolding renormalised
-outside-renormalised b zero s h = h
-outside-renormalised b (suc k) s h =
-    elim (cases_lt s.width (2 ^ 15)) [
-      | inl n ↦ subst (λ t. IsOutside b t) (sym (renormalised-narrow k s n)) (outside-renormalised b k (doubled s) (outside-doubled b s h))
-      | inr w ↦ subst (λ t. IsOutside b t) (sym (renormalised-wide (suc k) s w)) h
-    ]
+-- ---- many doublings
 
--- From the interval of s on, the registers now hold one that comes to the same.
-pub record Comes (b : List ℕ) (now : Registers) (s : State) : Type 0 where
+outside-doubled_by : (b : List ℕ) (n : ℕ) (s : State) → IsOutside b s → IsOutside b (doubled_by n s)
+outside-doubled_by b zero s h = h
+outside-doubled_by b (suc n) s h = outside-doubled_by b n (doubled s) (outside-doubled b s h)
+
+doubled_by-add : (m n : ℕ) (s : State) → doubled_by (m + n) s ≡ doubled_by n (doubled_by m s)
+doubled_by-add zero n s = ap (λ k. doubled_by k s) (let e : 0 + n ≡ n = omega arith in e)
+doubled_by-add (suc m) n s = ap (λ k. doubled_by k s) (let e : suc m + n ≡ suc (m + n) = omega arith in e) ∙ doubled_by-add m n (doubled s)
+
+-- the doublings that bring the width to 2^15 or more
+pub renormalised-times : (k n : ℕ) (s : State) → n ≤ k → 2 ^ 15 ≤ s.width * 2 ^ n → s.width * 2 ^ n < 2 ^ 16 → renormalised k s ≡ doubled_by n s
+renormalised-times k zero s few least most = renormalised-wide k s (omega (arith, least))
+renormalised-times zero (suc n) s few least most = absurd (omega (arith, few))
+renormalised-times (suc k) (suc n) s few least most =
+    let first = shift_first s.width n in
+    let narrow : s.width < 2 ^ 15 = (let g = shift_grows s.width 1 (suc n) (omega arith) in omega (arith, g, most)) in
+    renormalised-narrow k s narrow ∙ renormalised-times k n (doubled s) (omega (arith, few)) (omega (arith, first, least)) (omega (arith, first, most))
+
+-- the same in the units of the registers
+pub renormalised-by : (b : List ℕ) (r : Registers) (s : State) (n : ℕ) → Holds b r s → n ≤ 15 → 2 ^ 31 ≤ r.width * 2 ^ n → r.width * 2 ^ n < 2 ^ 32 → renormalised 15 s ≡ doubled_by n s
+renormalised-by b r s n h few least most =
+    let scaled : r.width * 2 ^ n ≡ 2 ^ 16 * (s.width * 2 ^ n) = ap (λ w. w * 2 ^ n) h.width ∙ (let e : s.width * 2 ^ 16 * 2 ^ n ≡ 2 ^ 16 * (s.width * 2 ^ n) = grind arith in e) in
+    renormalised-times 15 n s few (omega (arith, scaled, least)) (omega (arith, scaled, most))
+
+-- no byte is due between them
+pub holds-shifted : (b : List ℕ) (n : ℕ) (old new : Registers) (s : State) → Holds b old s → n ≤ old.count → new.code ≡ old.code * 2 ^ n → new.width ≡ old.width * 2 ^ n → new.count + n ≡ old.count → new.place ≡ old.place → Holds b new (doubled_by n s)
+holds-shifted b zero old new s h few code width count place = record {
+  code = omega (arith, h.code, code);
+  width = omega (arith, h.width, width);
+  last = h.last;
+  fed_last = h.fed_last;
+  due_next = omega (arith, h.due_next, count);
+  place = subst (λ p. IsAt b p h.last) (sym place) h.place;
+}
+holds-shifted b (suc n) old new s h few code width count place =
+    let mid : Registers = record { code = 2 * old.code; width = 2 * old.width; count = old.count - 1; place = old.place } in
+    let first : Holds b mid (doubled s) = holds-twice b old mid s (supplied-already b old s (omega (arith, few)) h) refl refl (omega (arith, few)) refl in
+    holds-shifted b n mid new (doubled s) first (omega (arith, few)) (code ∙ shift_first old.code n) (width ∙ shift_first old.width n) (omega (arith, count, few)) place
+
+-- the same behind a byte that was just fed
+pub supplied-shifted : (b : List ℕ) (n : ℕ) (old new : Registers) (s : State) → Supplied b old s → 0 < n → n ≤ old.count → new.code ≡ old.code * 2 ^ n → new.width ≡ old.width * 2 ^ n → new.count + n ≡ old.count → new.place ≡ old.place → Holds b new (doubled_by n s)
+supplied-shifted b zero old new s h some few code width count place = absurd (omega (arith, some))
+supplied-shifted b (suc n) old new s h some few code width count place =
+    let mid : Registers = record { code = 2 * old.code; width = 2 * old.width; count = old.count - 1; place = old.place } in
+    let first : Holds b mid (doubled s) = holds-twice b old mid s h refl refl (omega (arith, few)) refl in
+    holds-shifted b n mid new (doubled s) first (omega (arith, few)) (code ∙ shift_first old.code n) (width ∙ shift_first old.width n) (omega (arith, count, few)) place
+
+-- Of so many doublings of s some are left, and the registers hold what the others made.
+pub record Comes (b : List ℕ) (now : Registers) (left times : ℕ) (s : State) : Type 0 where
   pub at : State
-  pub left : ℕ
   pub holds : Holds b now at
-  pub same : renormalised left at ≡ renormalised 15 s
-  pub enough : 2 ^ 15 ≤ at.width * 2 ^ left
+  pub same : doubled_by left at ≡ doubled_by times s
 
-pub comes-first : (b : List ℕ) (r : Registers) (s : State) → 1 ≤ r.width → Holds b r s → Comes b r s
-comes-first b r s w h = record { at = s; left = 15; holds = h; same = refl; enough = omega (arith, h.width) }
+pub comes-first : (b : List ℕ) (old now : Registers) (left times : ℕ) (s : State) → old.count + left ≡ times → now.code ≡ old.code * 2 ^ old.count → now.width ≡ old.width * 2 ^ old.count → now.count + old.count ≡ old.count → now.place ≡ old.place → Holds b old s → Comes b now left times s
+comes-first b old now left times s all code width count place h = record {
+  at = doubled_by old.count s;
+  holds = holds-shifted b old.count old now s h (omega arith) code width count place;
+  same = sym (doubled_by-add old.count left s) ∙ ap (λ n. doubled_by n s) all;
+}
 
-some-left : (w k : ℕ) → w < 2 ^ 15 → 2 ^ 15 ≤ w * 2 ^ k → (j : ℕ) × (k ≡ suc j) × (2 ^ 15 ≤ 2 * w * 2 ^ j)
-some-left w zero h k = absurd (omega arith)
-some-left w (suc j) h k = (j, refl, omega (arith, ap (λ x. w * x) (pow-succ' 2 j)))
+pub comes-next : (b : List ℕ) (now ready new : Registers) (n left rest times : ℕ) (s : State) → n + rest ≡ left → 0 < n → n ≤ ready.count → new.code ≡ ready.code * 2 ^ n → new.width ≡ ready.width * 2 ^ n → new.count + n ≡ ready.count → new.place ≡ ready.place
+    → ((t : State) → Holds b now t → Supplied b ready t) → Comes b now left times s → Comes b new rest times s
+comes-next b now ready new n left rest times s all some few code width count place feeds c = record {
+  at = doubled_by n c.at;
+  holds = supplied-shifted b n ready new c.at (feeds c.at c.holds) some few code width count place;
+  same = sym (doubled_by-add n rest c.at) ∙ ap (λ k. doubled_by k c.at) all ∙ c.same;
+}
 
-narrow-next : (b : List ℕ) (now : Registers) (s : State) → now.width < 2 ^ 15 → (c : Comes b now s) → (j : ℕ) × (renormalised j (doubled c.at) ≡ renormalised 15 s) × (2 ^ 15 ≤ 2 * c.at.width * 2 ^ j)
-narrow-next b now s n c =
-    let narrow : c.at.width < 2 ^ 15 = omega (arith, c.holds.width) in
-    let m = some-left c.at.width c.left narrow c.enough in
-    (m.0, sym (renormalised-narrow m.0 c.at narrow) ∙ ap (λ k. renormalised k c.at) (sym m.1) ∙ c.same, m.2)
+pub comes-last : (b : List ℕ) (now : Registers) (left times : ℕ) (s : State) → left ≡ 0 → Comes b now left times s → Holds b now (doubled_by times s)
+comes-last b now left times s none c = subst (λ t. Holds b now t) (ap (λ k. doubled_by k c.at) (sym none) ∙ c.same) c.holds
 
-pub comes-next : (b : List ℕ) (now next : Registers) (s : State) → now.width < 2 ^ 15 → ((t : State) → Holds b now t → Holds b next (doubled t)) → Comes b now s → Comes b next s
-comes-next b now next s n step c =
-    let m = narrow-next b now s n c in
-    record { at = doubled c.at; left = m.0; holds = step c.at c.holds; same = m.1; enough = m.2 }
-
-pub comes-last : (b : List ℕ) (now : Registers) (s : State) → 2 ^ 15 ≤ now.width → Comes b now s → Holds b now (renormalised 15 s)
-comes-last b now s w c =
-    subst (λ t. Holds b now t) (sym (renormalised-wide c.left c.at (omega (arith, c.holds.width))) ∙ c.same) c.holds
-
-pub comes-outside : (b : List ℕ) (now : Registers) (s : State) → now.width < 2 ^ 15 → ((t : State) → Holds b now t → IsOutside b (doubled t)) → Comes b now s → IsOutside b (renormalised 15 s)
-comes-outside b now s n step c =
-    let m = narrow-next b now s n c in
-    subst (λ t. IsOutside b t) m.1 (outside-renormalised b m.0 (doubled c.at) (step c.at c.holds))
+pub comes-outside : (b : List ℕ) (now : Registers) (left times : ℕ) (s : State) → 0 < left → ((t : State) → Holds b now t → IsOutside b (doubled t)) → Comes b now left times s → IsOutside b (doubled_by times s)
+comes-outside b now left times s some step c =
+    let e : suc (left - 1) ≡ left = omega (arith, some) in
+    subst (λ t. IsOutside b t) (ap (λ k. doubled_by k c.at) e ∙ c.same) (outside-doubled_by b (left - 1) (doubled c.at) (step c.at c.holds))
 
 -- ---- the start
 
@@ -131,14 +163,14 @@ first_places f p h k =
       | inr n ↦ let e : 7 ≡ p = omega arith in subst (λ q. f * 2 ^ (16 - q) * 2 ^ 7 ≡ 2 ^ 9 * (f * 2 ^ (14 - q))) e (omega arith)
     ]
 
-pub holds-initial : (b : List ℕ) (first second r : Registers) → first.code ≡ byte_at b 0 * 2 ^ 16 → first.place ≡ 0 → ((last : ℕ) → IsAt b first.place last → Feeds b first second last) → r.code ≡ second.code * 2 ^ 7 → r.width ≡ 2 ^ 15 → r.count + 7 ≡ second.count → r.place ≡ second.place → Holds b r initial
+pub holds-initial : (b : List ℕ) (first second r : Registers) → first.code ≡ byte_at b 0 * 2 ^ 16 → first.place ≡ 0 → ((last : ℕ) → IsAt b first.place last → Feeds b first second last) → r.code ≡ second.code * 2 ^ 7 → r.width ≡ 2 ^ 31 → r.count + 7 ≡ second.count → r.place ≡ second.place → Holds b r initial
 holds-initial b first second r code place feeds shifted width count same =
     let f = feeds 0 (record { before_end = ap (λ p. is_past b p) place ∙ is_past-zero b; here = inl place }) in
     let byte : fed b 0 ≡ byte_at b 0 = fed-is b 0 ∙ ap (λ t. cond t 255 (byte_at b 0)) (is_past-zero b) in
     let later = first_places (fed b 1) (places b 0) (places-ge b 0) (places-le b 0) in
     record {
       code = omega (arith, code_value-start b, f.code, byte, later);
-      width = width;
+      width = omega (arith, width);
       last = 1;
       fed_last = omega (arith, wanted-suc b 0, start-zero b);
       due_next = omega (arith, wanted-next b 0, wanted-suc b 0, start-zero b, f.count);

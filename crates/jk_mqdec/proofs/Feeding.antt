@@ -2,7 +2,7 @@
 use Rattle.std.proofs.Common.{◌≡◌, ◌∙◌, ap, sym, subst, ℕ, zero, suc, ◌+◌, ◌-◌, ◌*◌, ◌^◌, ◌%◌, ◌<◌, ◌≤◌, inl, inr, Bool, true, false, not, cond, ◌&&◌, ◌||◌, List, eqb, ltb, refl, arith}
 use Rattle.std.proofs.lemmas.Bool.{cases_lt, and_parts, and_from, and_left, and_right, ne_eqb, eqb-true, ltb-true, lt-ltb, le-ltb, false≢true}
 use Rattle.jk_model.specs.Code.{byte_at, is_last, is_past, fed, places}
-use Rattle.jk_model.proofs.CodeValue.{is_past-suc, fed-is, places-is}
+use Rattle.jk_model.proofs.Laws.{is_past-suc, fed-is, places-is}
 use Rattle.jk_mqdec.specs.declared.registers.Registers.{Registers}
 use Rattle.jk_mqdec.specs.Registers.{IsAt, Feeds}
 

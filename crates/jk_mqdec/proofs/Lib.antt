@@ -1,3 +1,5 @@
+pub mod Shifts
+pub mod StepLaws
 pub mod Deciding
 pub mod Doubling
 pub mod Feeding

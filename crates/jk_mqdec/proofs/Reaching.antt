@@ -5,7 +5,7 @@ use Rattle.jk_math.specs.declared.fault.Fault.{Fault}
 use Rattle.jk_math.specs.declared.fault.Fault.TheVariants.{CodeOutOfInterval}
 use Rattle.jk_model.specs.Code.{code_value}
 use Rattle.jk_model.specs.Decisions.{State, Decision, initial, IsWithin, bit_at, after, state_after, SpellsFrom, Spells}
-use Rattle.jk_model.proofs.Spelling.{spells-join, spells-split, state_after-joined}
+use Rattle.jk_model.proofs.Laws.{spells-join, spells-split, state_after-joined}
 use Rattle.jk_mqdec.specs.Standing.{View, Stands, Reached}
 use Rattle.jk_mqdec.specs.Answers.{answer}
 use Rattle.jk_mqdec.proofs.Deciding.{Decides, answer-ok, answer-left, answer-failed, next-within}

@@ -1,5 +1,5 @@
 -- What contracts see of a decoder, and where it stands in the definition.
-use Rattle.std.specs.Prelude.{◌≡◌, ℕ, ◌*◌, ◌^◌, ◌<◌, List}
+use Rattle.std.specs.Prelude.{◌≡◌, ℕ, ◌<◌, ◌⊎◌, List}
 use Rattle.jk_model.specs.Contexts.{Context}
 use Rattle.jk_model.specs.Decisions.{State, Decision, initial, state_after, Spells}
 use Rattle.jk_mqdec.specs.declared.registers.Registers.{Registers}
@@ -13,17 +13,26 @@ pub record View : Type 0 where
 
 -- the registers are within their bounds, unless the code value has left the interval
 abbrev pub IsSound : View → Type 0
-IsSound d = d.registers.code < d.registers.width * 2 ^ 16 → IsReady d.bytes d.registers
+IsSound d = d.registers.code < d.registers.width → IsReady d.bytes d.registers
 
 -- the code value has left the interval
 abbrev pub HasFailed : View → Type 0
 HasFailed d = HasLeft d.registers
 
--- The decoder stands at s: it holds the interval and the contexts of s, or the code value has left the interval of s.
-pub record Stands (d : View) (s : State) : Type 0 where
-  pub holds : d.registers.code < d.registers.width * 2 ^ 16 → Holds d.bytes d.registers s
-  pub contexts : d.registers.code < d.registers.width * 2 ^ 16 → d.contexts ≡ s.contexts
-  pub outside : HasLeft d.registers → IsOutside d.bytes s
+-- The decoder holds the interval and the contexts of s.
+pub record StandsWithin (d : View) (s : State) : Type 0 where
+  pub code : d.registers.code < d.registers.width
+  pub holds : Holds d.bytes d.registers s
+  pub contexts : d.contexts ≡ s.contexts
+
+-- The code value has left the interval of s.
+pub record StandsOutside (d : View) (s : State) : Type 0 where
+  pub failed : HasFailed d
+  pub outside : IsOutside d.bytes s
+
+-- The decoder stands at s.
+abbrev pub Stands : View → State → Type 0
+Stands d s = StandsWithin d s ⊎ StandsOutside d s
 
 -- The decoder was made on these bytes and has given these decisions so far: the bytes spell them, and the decoder
 -- stands where they lead.

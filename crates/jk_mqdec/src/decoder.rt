@@ -2,15 +2,14 @@
 
 ghost use Rattle.std.specs.Prelude.{◌≡◌, ℕ, Bool, suc, ◌+◌, ◌*◌, ◌^◌, ◌<◌, ◌≤◌, [], ◌∷◌, ◌++◌, List, length, set, IfOk, IfErr, OnOk, OnErr, MatchResult, Ok, Err};
 ghost use Rattle.jk_math.specs.declared.fault.Fault.TheVariants.{CodeOutOfInterval};
-ghost use Rattle.jk_model.specs.Contexts.{Context, moved};
-ghost use Rattle.jk_model.specs.Decisions.{State, Decision, initial, renormalised, Spells};
-ghost use Rattle.jk_mqdec.specs.Registers.{Holds, IsOutside, HasLeft, CanDouble, IsReady};
+ghost use Rattle.jk_model.specs.Contexts.{first_contexts};
+ghost use Rattle.jk_model.specs.Decisions.{State, Decision, initial, Spells};
 ghost use Rattle.jk_mqdec.specs.Standing.{View, Stands, HasFailed, Reached};
 ghost use Rattle.jk_mqdec.specs.Answers.{answer, next};
 
-use crate::registers::{Registers, loaded, renormalised};
+use crate::registers::{Registers, divided, is_narrow, loaded, renormalised};
+use crate::steps::Step;
 use jk_math::Fault;
-use jk_model::{Cx, first_contexts, next_state};
 use std::marker::Model;
 
 /// The MQ decoder over the bytes of a segment (T.800 Annex C). It takes no memory.
@@ -18,7 +17,7 @@ use std::marker::Model;
 pub struct Decoder<'a> {
     bytes: &'a [u8],
     registers: Registers,
-    contexts: [Cx; 19],
+    contexts: [Step; 19],
 }
 
 impl<'a> Model for Decoder<'a> {
@@ -29,6 +28,17 @@ impl<'a> Model for Decoder<'a> {
     ghost view = { λ d. record { bytes = d.bytes.now; registers = d.registers; contexts = d.contexts } };
 
     ghost invariant = { λ d. IsSound (record { bytes = d.bytes.now; registers = d.registers; contexts = d.contexts }) };
+}
+
+/// The contexts as they are at the start of a code-block (T.800 Table D.7).
+fn first_steps() -> [Step; 19]
+    ensures { result ≡ first_contexts }
+{
+    let mut contexts = [Step::new(0); 19];
+    contexts[0] = Step::new(4);
+    contexts[17] = Step::new(3);
+    contexts[18] = Step::new(46);
+    contexts
 }
 
 impl<'a> Decoder<'a> {
@@ -42,7 +52,7 @@ impl<'a> Decoder<'a> {
         Decoder {
             bytes,
             registers: loaded(bytes),
-            contexts: first_contexts(),
+            contexts: first_steps(),
         }
     }
 
@@ -68,51 +78,23 @@ impl<'a> Decoder<'a> {
             → Reached self.old bytes done → Spells bytes (done ++ (cx, bit) ∷ []) → result ≡ Ok bit }
     {
         let now = self.registers;
-        if now.code >> 16 >= now.width {
+        if now.code >= now.width {
             return Err(Fault::CodeOutOfInterval);
         }
-        let contexts = &self.contexts;
-        let context = contexts[cx];
-        let qe = context.row().qe;
-        let upper = now.width - qe;
-        if now.code >> 16 < qe {
-            let lower = Registers { width: qe, ..now };
-            return self.settled(cx, context, (upper < qe) == context.mps, lower);
-        }
-        let rest = Registers {
-            code: now.code - (qe << 16),
-            width: upper,
-            ..now
-        };
-        if upper < 0x8000 {
-            return self.settled(cx, context, (upper < qe) != context.mps, rest);
-        }
-        self.registers = rest;
-        Ok(context.mps)
-    }
-
-    /// Moves the context of a decision, and renormalises the part of the interval that was taken.
-    fn settled(&mut self, cx: usize, context: Cx, bit: bool, part: Registers) -> Result<bool, Fault>
-        requires cx { cx < 19 }
-        requires part { CanDouble self.old.bytes part }
-        ensures bytes { self.new.bytes ≡ self.old.bytes }
-        ensures contexts { self.new.contexts ≡ set self.old.contexts cx (moved context bit) }
-        ensures bit { IfOk result (λ b. b ≡ bit) }
-        ensures fault { IfErr result (λ e. e ≡ CodeOutOfInterval) }
-        ensures ready { OnOk result (IsReady self.old.bytes self.new.registers) }
-        ensures left { OnErr result (HasLeft self.new.registers) }
-        ensures holds { (s : State) → Holds self.old.bytes part s
-            → MatchResult result (λ _. Holds self.old.bytes self.new.registers (renormalised 15 s)) (λ _. IsOutside self.old.bytes (renormalised 15 s)) }
-    {
         let contexts = &mut self.contexts;
-        contexts[cx] = next_state(context, bit);
-        match renormalised(self.bytes, part) {
+        let context = contexts[cx];
+        let part = divided(now, context.qe());
+        contexts[cx] = context.after(is_narrow(part.registers), part.less);
+        match renormalised(self.bytes, part.registers) {
             Some(registers) => {
                 self.registers = registers;
-                Ok(bit)
+                Ok(context.mps() != part.less)
             }
             None => {
-                self.registers = Registers { width: 0, ..part };
+                self.registers = Registers {
+                    width: 0,
+                    ..part.registers
+                };
                 Err(Fault::CodeOutOfInterval)
             }
         }

@@ -3,5 +3,6 @@
 
 mod decoder;
 mod registers;
+mod steps;
 
 pub use decoder::Decoder;

@@ -9,7 +9,7 @@ use Rattle.jk_geom.specs.declared.shape.TileShape.{TileShape}
 use Rattle.jk_geom.specs.Rectangles.{ceil_div, resolution_area}
 use Rattle.jk_geom.specs.Precincts.{span, precincts_across, precincts_down}
 use Rattle.jk_geom.specs.TileShapes.{IsTileShape, coding_of}
-use Rattle.jk_geom.proofs.Ceilings.{ceil_covers, ceil_close, ceil_mono}
+use Rattle.jk_geom.proofs.Laws.{ceil_covers, ceil_close, ceil_mono}
 use Rattle.jk_order.specs.declared.stream.Stream.{Stream}
 use Rattle.jk_order.specs.declared.stream.Frame.{Frame}
 use Rattle.jk_order.specs.PacketOrder.{packet_count}

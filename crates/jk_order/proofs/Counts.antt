@@ -10,7 +10,7 @@ use Rattle.jk_geom.specs.declared.shape.TileShape.{TileShape}
 use Rattle.jk_geom.specs.TileShapes.{IsTileShape, coding_of, no_coding}
 use Rattle.jk_geom.specs.Precincts.{precinct_number}
 use Rattle.jk_geom.specs.Counts.{precincts_below}
-use Rattle.jk_geom.proofs.Counts.{precincts_of, below_more, number_is}
+use Rattle.jk_geom.proofs.Laws.{precincts_of, below_more, number_is}
 use Rattle.jk_order.specs.PacketOrder.{packet_count}
 
 -- a resolution's precincts are among those of the resolutions below a greater one

@@ -18,7 +18,7 @@ use Rattle.jk_geom.specs.TileShapes.{coding_of, no_coding}
 use Rattle.jk_geom.specs.Precincts.{precinct_number}
 use Rattle.jk_geom.specs.Counts.{precincts_below}
 use Rattle.jk_order.specs.PacketOrder.{IsPacketOrder, key, key_cmp, inserted, sorted, joined, all_names, order, packet_count, layer_name}
-use Rattle.jk_geom.proofs.Counts.{below_more, below_none}
+use Rattle.jk_geom.proofs.Laws.{below_more, below_none}
 use Rattle.jk_order.proofs.Counts.{count_is}
 use Rattle.jk_order.proofs.Ascending.{none_in, one_in, first_in, later_in, first_below, rest_up}
 use Rattle.jk_order.proofs.Sorting.{below_itself, up_cons, up_none, cases_of, inserted_none, inserted_by, sorted_is, sorted_none, from_sorted, joined_is, joined_none, from_joined}

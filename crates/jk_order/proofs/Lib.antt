@@ -12,3 +12,4 @@ pub mod Starting
 pub mod LayerLaws
 pub mod LengthLaws
 mod Examples
+pub mod Laws

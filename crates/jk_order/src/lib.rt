@@ -2,12 +2,12 @@
 #![tactic(auto)]
 
 mod count;
-mod laws;
 mod opening;
 mod packets;
 mod stream;
+mod theorems;
 
 pub use count::packet_count;
 pub use jk_geom::PacketName;
-pub use laws::{layers_in_turn, one_packet_order, packet_order, packets_are_counted};
 pub use packets::Packets;
+pub use theorems::{layers_in_turn, one_packet_order, packet_order, packets_are_counted};

@@ -60,7 +60,7 @@ blocks_next number layer more i w v h = ap (λ (r : Result BandWalk Fault). r >>
 
 -- what is refused for a fault that is due is refused where that makes it due
 pub refuses_on : {A B : Type 0} (e : Fault) (due : Result A Fault) (again : Result B Fault) → Refuses e due → (due ≡ Err e → again ≡ Err e) → Refuses e again
-refuses_on Memory due again h on = tt
+refuses_on (Memory r) due again h on = tt
 refuses_on e due again h on = on h
 
 pub bands_none : (layer number : ℕ) (w : Walk) → bands_at layer 0 number w ≡ Ok w

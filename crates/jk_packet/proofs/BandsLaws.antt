@@ -9,21 +9,22 @@ use Rattle.jk_bits.specs.Giving.{Gives, advance, ahead_on, gives_none, gives_joi
 use Rattle.jk_packet.specs.declared.shape.BandShape.{BandShape}
 use Rattle.jk_packet.specs.declared.header.Part.{Part}
 use Rattle.jk_packet.specs.Reading.{BandState, BandWalk, Walk, band_in, no_band, blocks_at, band_at, bands_at}
-use Rattle.jk_packet.specs.PacketText.{Contribution, Layer, of_band, band_layers, Trees, band_shape, leaves, band_bits, bands_bits, AreBands, band_parts, bands_parts}
+use Rattle.jk_packet.specs.PacketText.{Contribution, Layer, of_band, band_layers, Trees, band_shape, leaves, bands_bits, AreBands, band_parts, bands_parts}
 use Rattle.jk_packet.specs.Standing.{BandStands}
 use Rattle.jk_packet.proofs.Codes.{advance_twice}
 use Rattle.jk_packet.proofs.BandLaws.{bands_none, bands_next}
 use Rattle.jk_packet.proofs.BlockLaws.{BandReached}
-use Rattle.jk_packet.proofs.BlocksLaws.{advance_none, blocks_only, BlocksFound, blocks_found}
+use Rattle.jk_packet.proofs.BlocksLaws.{band_from, band_begins, advance_none, blocks_only, BlocksFound, blocks_found}
 
 bits_end : (shapes : List BandShape) (t : Trees) (layers : List Layer) (number : ℕ) → bands_bits shapes t layers number [] ≡ []
 unfolding bands_bits
 bits_end shapes t layers number = refl
 
 bits_more : (shapes : List BandShape) (t : Trees) (layers : List Layer) (number : ℕ) (cs : List (Option Contribution)) (ls : List (List (Option Contribution)))
-    → bands_bits shapes t layers number (cs ∷ ls) ≡ band_bits (leaves (band_shape shapes number)) (t number) (band_layers number layers) [] cs ++ bands_bits shapes t layers (number + 1) ls
+    → bands_bits shapes t layers number (cs ∷ ls) ≡ band_from (leaves (band_shape shapes number)) (t number) (band_layers number layers) [] cs ++ bands_bits shapes t layers (number + 1) ls
 unfolding bands_bits
-bits_more shapes t layers number cs ls = refl
+bits_more shapes t layers number cs ls =
+    ap (λ (bits : List Bool). bits ++ bands_bits shapes t layers (number + 1) ls) (band_begins (leaves (band_shape shapes number)) (t number) (band_layers number layers) cs)
 
 parts_end : (number : ℕ) → bands_parts number [] ≡ []
 unfolding bands_parts
@@ -77,7 +78,7 @@ bands_only shapes t layers number [] w rest all long st are h = record {
 }
 bands_only shapes t layers number (cs ∷ ls) w rest all long st are h =
     let b = band_shape shapes number in
-    let first = band_bits (leaves b) (t number) (band_layers number layers) [] cs in
+    let first = band_from (leaves b) (t number) (band_layers number layers) [] cs in
     let later = bands_bits shapes t layers (number + 1) ls in
     let here : number < length shapes = omega (arith, all) in
     let own = st number (omega arith) here in
@@ -176,7 +177,7 @@ bands_step shapes layers number more w u v here long one on =
               | inr apart ↦ subst (λ (s : BandState). BandStands (band_shape shapes n) (t n) (band_layers n layers) [] s) (get_or-set_other w.bands number n u.band no_band apart) (e.0 n (omega (arith, from, apart)) less)
             ],
             subst (λ (xs : List Bool). Gives w.bits xs v.bits) (sym (bits_more shapes t layers number cs on.ls))
-                (gives_join w.bits u.bits v.bits (band_bits (leaves b) (t number) (band_layers number layers) [] cs) (bands_bits shapes t layers (number + 1) on.ls) f.1 e.1),
+                (gives_join w.bits u.bits v.bits (band_from (leaves b) (t number) (band_layers number layers) [] cs) (bands_bits shapes t layers (number + 1) on.ls) f.1 e.1),
             (one.count, f.2, e.2),
           );
     }

@@ -74,7 +74,7 @@ module _ (b : BandShape) (layers : List BandLayer) (front : List (Option Contrib
     pub after : BandWalk
     pub is : block_at number (length layers) (length front) w ≡ Ok after
     pub stands : BandStands b t layers (front ++ c ∷ []) after.band
-    pub bits : after.bits ≡ advance w.bits (length (block_bits (leaves b) t layers front c))
+    pub bits : after.bits ≡ advance w.bits (length (block_bits (leaves b) t layers front (length front) c))
     pub parts : after.parts ≡ w.parts ++ block_parts number (length front) c
 
   -- the words of a contribution are read
@@ -90,9 +90,9 @@ module _ (b : BandShape) (layers : List BandLayer) (front : List (Option Contrib
       subst (λ n. Says (most_passes n c.zero_planes) (block_in w.band.blocks (length front)).passes (block_in w.band.blocks (length front)).length_bits c.piece bits) (sym holds.planes) at_block in
       (coded_piece (most_passes w.band.planes c.zero_planes) (block_in w.band.blocks (length front)).passes (block_in w.band.blocks (length front)).length_bits).only c.piece bits r rest at_planes h
 
-  none_only : (t : BandTrees) (rest : List Bool) → BandStands b t layers front w.band → IsBlock (leaves b) b.planes t layers (length front) None → ahead w.bits ≡ block_bits (leaves b) t layers front None ++ rest → BlockOnly t None
+  none_only : (t : BandTrees) (rest : List Bool) → BandStands b t layers front w.band → IsBlock (leaves b) b.planes t layers (length front) None → ahead w.bits ≡ block_bits (leaves b) t layers front (length front) None ++ rest → BlockOnly t None
   none_only t rest st i h =
-      let first = inclusion_bits (leaves b) t.inclusion layers front false in
+      let first = inclusion_bits (leaves b) t.inclusion layers front (length front) false in
       let a = included_only (leaves b) layers front less (block_in w.band.blocks (length front)) included_is w.band.inclusion holds.inclusion t.inclusion None w.bits rest st.inclusion i.first (h ∙ ap (λ (xs : List Bool). xs ++ rest) (append-nil first)) in
       record {
         after = with_inclusion w (a.after, advance w.bits (length first));
@@ -106,12 +106,12 @@ module _ (b : BandShape) (layers : List BandLayer) (front : List (Option Contrib
         parts = sym (append-nil w.parts);
       }
 
-  some_only : (t : BandTrees) (c : Contribution) (rest : List Bool) → BandStands b t layers front w.band → IsBlock (leaves b) b.planes t layers (length front) (Some c) → ahead w.bits ≡ block_bits (leaves b) t layers front (Some c) ++ rest → BlockOnly t (Some c)
+  some_only : (t : BandTrees) (c : Contribution) (rest : List Bool) → BandStands b t layers front w.band → IsBlock (leaves b) b.planes t layers (length front) (Some c) → ahead w.bits ≡ block_bits (leaves b) t layers front (length front) (Some c) ++ rest → BlockOnly t (Some c)
   some_only t c rest st i h =
       let n = length front in
       let x = block_in w.band.blocks n in
-      let first = inclusion_bits (leaves b) t.inclusion layers front true in
-      let zero = zeros_bits (leaves b) t.zeros layers front c.zero_planes in
+      let first = inclusion_bits (leaves b) t.inclusion layers front (length front) true in
+      let zero = zeros_bits (leaves b) t.zeros layers front (length front) c.zero_planes in
       let words = piece_bits (lblock_of (contributions layers n)) c.piece in
       let contribution : IsContribution (leaves b) b.planes t.zeros layers n c = i.taken in
       let h1 : ahead w.bits ≡ first ++ (zero ++ (words ++ rest)) = h ∙ append_assoc first (zero ++ words) rest ∙ ap (λ (xs : List Bool). first ++ xs) (append_assoc zero words rest) in
@@ -135,7 +135,7 @@ module _ (b : BandShape) (layers : List BandLayer) (front : List (Option Contrib
         parts = refl;
       }
 
-  pub block_only : (t : BandTrees) (c : Option Contribution) (rest : List Bool) → BandStands b t layers front w.band → IsBlock (leaves b) b.planes t layers (length front) c → ahead w.bits ≡ block_bits (leaves b) t layers front c ++ rest → BlockOnly t c
+  pub block_only : (t : BandTrees) (c : Option Contribution) (rest : List Bool) → BandStands b t layers front w.band → IsBlock (leaves b) b.planes t layers (length front) c → ahead w.bits ≡ block_bits (leaves b) t layers front (length front) c ++ rest → BlockOnly t c
   block_only t None rest st i h = none_only t rest st i h
   block_only t (Some c) rest st i h = some_only t c rest st i h
 
@@ -145,7 +145,7 @@ module _ (b : BandShape) (layers : List BandLayer) (front : List (Option Contrib
     pub reached : BandReached b layers (front ++ c ∷ []) v.band
     pub parts : v.parts ≡ w.parts ++ block_parts number (length front) c
     pub each : (t : BandTrees) → BandStands b t layers (front ++ c ∷ []) v.band
-        → BandStands b t layers front w.band × Gives w.bits (block_bits (leaves b) t layers front c) v.bits × IsBlock (leaves b) b.planes t layers (length front) c
+        → BandStands b t layers front w.band × Gives w.bits (block_bits (leaves b) t layers front (length front) c) v.bits × IsBlock (leaves b) b.planes t layers (length front) c
 
   none_found : (o : Tree × Bits) → BandReached b layers front w.band → included_at (length layers) (length front) (block_in w.band.blocks (length front)) (w.band.inclusion, w.bits) ≡ Ok (false, o) → BlockFound (with_inclusion w o)
   none_found o reached e =
@@ -161,7 +161,7 @@ module _ (b : BandShape) (layers : List BandLayer) (front : List (Option Contrib
         each = λ t st.
             let g = f.each t.inclusion st.inclusion in (
               record { holds = holds; inclusion = g.0; zeros = subst (λ (qs : List Query). Stands (leaves b) t.zeros qs w.band.zeros.nodes) (zeros_none layers front) st.zeros },
-              subst (λ (xs : List Bool). Gives w.bits xs o.1) (sym (append-nil (inclusion_bits (leaves b) t.inclusion layers front false))) g.1,
+              subst (λ (xs : List Bool). Gives w.bits xs o.1) (sym (append-nil (inclusion_bits (leaves b) t.inclusion layers front (length front) false))) g.1,
               record { first = g.2; taken = tt },
             );
       }
@@ -191,8 +191,8 @@ module _ (b : BandShape) (layers : List BandLayer) (front : List (Option Contrib
             let fi = f.each t.inclusion st.inclusion in
             let gi = g.each t.zeros st.zeros in (
               record { holds = holds; inclusion = fi.0; zeros = gi.0 },
-              gives_join w.bits o.1 p.1 (inclusion_bits (leaves b) t.inclusion layers front true) (taken_bits (leaves b) t.zeros layers front (Some c)) fi.1
-                  (gives_join o.1 z.1.1 p.1 (zeros_bits (leaves b) t.zeros layers front z.0) (piece_bits (lblock_of cs) p.0) gi.1 words),
+              gives_join w.bits o.1 p.1 (inclusion_bits (leaves b) t.inclusion layers front (length front) true) (taken_bits (leaves b) t.zeros layers front (length front) (Some c)) fi.1
+                  (gives_join o.1 z.1.1 p.1 (zeros_bits (leaves b) t.zeros layers front (length front) z.0) (piece_bits (lblock_of cs) p.0) gi.1 words),
               record {
                 first = fi.2;
                 taken = record {

@@ -1,9 +1,10 @@
 -- The blocks of a sub-band, one after another.
-use Rattle.std.proofs.Common.{◌≡◌, ℕ, zero, suc, ◌+◌, ◌*◌, ◌<◌, Bool, List, [], ◌∷◌, ◌++◌, length, Option, Some, None, Ok, refl, sym, ap, ◌∙◌, subst, arith, append_assoc, add-zero}
-use Rattle.std.proofs.lemmas.List.{append-nil, length_push}
+use Rattle.std.proofs.Common.{◌≡◌, ℕ, zero, suc, ◌+◌, ◌*◌, ◌<◌, Bool, List, [], ◌∷◌, ◌++◌, length, get_or, take, Option, Some, None, Ok, refl, sym, ap, ◌∙◌, subst, arith, append_assoc, add-zero}
+use Rattle.std.proofs.lemmas.List.{append-nil, length_push, take_at, get_or_at}
+use Rattle.std.specs.List.{flat_map, range_with_len}
 use Rattle.jk_math.specs.Steps.{bind_then}
 use Rattle.jk_bits.specs.Reading.{Bits, ahead}
-use Rattle.jk_tree.specs.TagTree.{Query}
+use Rattle.jk_tree.specs.TagTree.{Shape, Query}
 use Rattle.jk_tree.specs.Asking.{Stands}
 use Rattle.jk_bits.specs.Giving.{Gives, advance, ahead_on, gives_none, gives_join}
 use Rattle.jk_packet.specs.declared.shape.BandShape.{BandShape}
@@ -16,13 +17,34 @@ use Rattle.jk_packet.proofs.QueryLaws.{before_layer, before_empty, so_far_layer,
 use Rattle.jk_packet.proofs.BandLaws.{blocks_none, blocks_next}
 use Rattle.jk_packet.proofs.BlockLaws.{BandReached, block_only, BlockFound, block_found}
 
-bits_none : (b : BandShape) (t : BandTrees) (layers : List BandLayer) (front : List (Option Contribution)) → band_bits (leaves b) t layers front [] ≡ []
+-- the bits of a sub-band, block by block, behind those of the blocks in front
+pub band_from : Shape → BandTrees → List BandLayer → (front blocks : List (Option Contribution)) → List Bool
+band_from s t layers front [] = []
+band_from s t layers front (c ∷ cs) = block_bits s t layers front (length front) c ++ band_from s t layers (front ++ c ∷ []) cs
+
+from_place : (s : Shape) (t : BandTrees) (layers : List BandLayer) (all front cs : List (Option Contribution)) → all ≡ front ++ cs
+    → flat_map (λ i. block_bits s t layers (take i all) i (get_or all i None)) (range_with_len (length front) (length cs)) ≡ band_from s t layers front cs
+unfolding band_from
+from_place s t layers all front [] e = refl
+from_place s t layers all front (c ∷ cs) e =
+    let n = length front in
+    let rest = flat_map (λ i. block_bits s t layers (take i all) i (get_or all i None)) (range_with_len (n + 1) (length cs)) in
+    ap (λ (xs : List (Option Contribution)). block_bits s t layers xs n (get_or all n None) ++ rest) (ap (take n) e ∙ take_at front (c ∷ cs) n refl)
+    ∙ ap (λ (x : Option Contribution). block_bits s t layers front n x ++ rest) (ap (λ (xs : List (Option Contribution)). get_or xs n None) e ∙ get_or_at front c cs None n refl)
+    ∙ ap (λ m. block_bits s t layers front n c ++ flat_map (λ i. block_bits s t layers (take i all) i (get_or all i None)) (range_with_len m (length cs))) (sym (length_push front c))
+    ∙ ap (λ (bits : List Bool). block_bits s t layers front n c ++ bits) (from_place s t layers all (front ++ c ∷ []) cs (e ∙ sym (append_assoc front (c ∷ []) cs)))
+
+pub band_begins : (s : Shape) (t : BandTrees) (layers : List BandLayer) (cs : List (Option Contribution)) → band_bits s t layers cs ≡ band_from s t layers [] cs
 unfolding band_bits
+band_begins s t layers cs = from_place s t layers cs [] cs refl
+
+bits_none : (b : BandShape) (t : BandTrees) (layers : List BandLayer) (front : List (Option Contribution)) → band_from (leaves b) t layers front [] ≡ []
+unfolding band_from
 bits_none b t layers front = refl
 
 bits_more : (b : BandShape) (t : BandTrees) (layers : List BandLayer) (front : List (Option Contribution)) (c : Option Contribution) (cs : List (Option Contribution))
-    → band_bits (leaves b) t layers front (c ∷ cs) ≡ block_bits (leaves b) t layers front c ++ band_bits (leaves b) t layers (front ++ c ∷ []) cs
-unfolding band_bits
+    → band_from (leaves b) t layers front (c ∷ cs) ≡ block_bits (leaves b) t layers front (length front) c ++ band_from (leaves b) t layers (front ++ c ∷ []) cs
+unfolding band_from
 bits_more b t layers front c cs = refl
 
 parts_none : (number i : ℕ) → band_parts number i [] ≡ []
@@ -41,11 +63,11 @@ pub record BlocksOnly (b : BandShape) (t : BandTrees) (layers : List BandLayer) 
   pub after : BandWalk
   pub is : blocks_at number (length layers) (length cs) (length front) w ≡ Ok after
   pub stands : BandStands b t layers (front ++ cs) after.band
-  pub bits : after.bits ≡ advance w.bits (length (band_bits (leaves b) t layers front cs))
+  pub bits : after.bits ≡ advance w.bits (length (band_from (leaves b) t layers front cs))
   pub parts : after.parts ≡ w.parts ++ band_parts number (length front) cs
 
 pub blocks_only : (b : BandShape) (t : BandTrees) (layers : List BandLayer) (front cs : List (Option Contribution)) (number : ℕ) (w : BandWalk) (rest : List Bool) → length front + length cs ≡ b.across * b.down
-    → BandStands b t layers front w.band → AreBlocks (leaves b) b.planes t layers (length front) cs → ahead w.bits ≡ band_bits (leaves b) t layers front cs ++ rest → BlocksOnly b t layers front cs number w
+    → BandStands b t layers front w.band → AreBlocks (leaves b) b.planes t layers (length front) cs → ahead w.bits ≡ band_from (leaves b) t layers front cs ++ rest → BlocksOnly b t layers front cs number w
 blocks_only b t layers front [] number w rest count st are h = record {
   after = w;
   is = blocks_none number (length layers) (length front) w;
@@ -55,8 +77,8 @@ blocks_only b t layers front [] number w rest count st are h = record {
 }
 blocks_only b t layers front (c ∷ cs) number w rest count st are h =
     let i = length front in
-    let first = block_bits (leaves b) t layers front c in
-    let later = band_bits (leaves b) t layers (front ++ c ∷ []) cs in
+    let first = block_bits (leaves b) t layers front (length front) c in
+    let later = band_from (leaves b) t layers (front ++ c ∷ []) cs in
     let h1 : ahead w.bits ≡ first ++ (later ++ rest) = h ∙ ap (λ (xs : List Bool). xs ++ rest) (bits_more b t layers front c cs) ∙ append_assoc first later rest in
     let one = block_only b layers front number w st.holds (omega (arith, count)) t c (later ++ rest) st are.0 h1 in
     let v = one.after in
@@ -87,7 +109,7 @@ pub record BlocksFound (b : BandShape) (layers : List BandLayer) (front : List (
   pub reached : BandReached b layers (front ++ cs) v.band
   pub parts : v.parts ≡ w.parts ++ band_parts number (length front) cs
   pub each : (t : BandTrees) → BandStands b t layers (front ++ cs) v.band
-      → BandStands b t layers front w.band × Gives w.bits (band_bits (leaves b) t layers front cs) v.bits × AreBlocks (leaves b) b.planes t layers (length front) cs
+      → BandStands b t layers front w.band × Gives w.bits (band_from (leaves b) t layers front cs) v.bits × AreBlocks (leaves b) b.planes t layers (length front) cs
 
 blocks_end : (b : BandShape) (layers : List BandLayer) (front : List (Option Contribution)) (number : ℕ) (w : BandWalk) → BandReached b layers front w.band → BlocksFound b layers front 0 number w w
 blocks_end b layers front number w reached = record {
@@ -121,7 +143,7 @@ blocks_step b layers front more number w u v holds less one on =
           let f = one.each t e.0 in (
             f.0,
             subst (λ (xs : List Bool). Gives w.bits xs v.bits) (sym (bits_more b t layers front one.c on.cs))
-                (gives_join w.bits u.bits v.bits (block_bits (leaves b) t layers front one.c) (band_bits (leaves b) t layers (front ++ one.c ∷ []) on.cs) f.1 e.1),
+                (gives_join w.bits u.bits v.bits (block_bits (leaves b) t layers front (length front) one.c) (band_from (leaves b) t layers (front ++ one.c ∷ []) on.cs) f.1 e.1),
             (f.2, subst (λ k. AreBlocks (leaves b) b.planes t layers k on.cs) next e.2),
           );
     }

@@ -17,21 +17,21 @@ use Rattle.jk_packet.specs.PacketText.{Contribution, BandLayer, is_included, ask
 use Rattle.jk_packet.proofs.ReadLaws.{included_bit, included_old, included_ask, zeros_known, zeros_asked, zeros_ok}
 use Rattle.jk_packet.proofs.QueryLaws.{inclusion_old, inclusion_new, zeros_old, zeros_new}
 
-pub inclusion_bits_old : (s : Shape) (v : Values) (layers : List BandLayer) (front : List (Option Contribution)) (taken : Bool) → is_included layers (length front) ≡ true → inclusion_bits s v layers front taken ≡ taken ∷ []
+pub inclusion_bits_old : (s : Shape) (v : Values) (layers : List BandLayer) (front : List (Option Contribution)) (taken : Bool) → is_included layers (length front) ≡ true → inclusion_bits s v layers front (length front) taken ≡ taken ∷ []
 unfolding inclusion_bits
 inclusion_bits_old s v layers front taken h = ap (λ (b : Bool). cond b (taken ∷ []) (told s v (queries_before asks_inclusion layers front) (query_of (length front) (length layers + 1)))) h
 
 pub inclusion_bits_new : (s : Shape) (v : Values) (layers : List BandLayer) (front : List (Option Contribution)) (taken : Bool) → is_included layers (length front) ≡ false
-    → inclusion_bits s v layers front taken ≡ told s v (queries_before asks_inclusion layers front) (query_of (length front) (length layers + 1))
+    → inclusion_bits s v layers front (length front) taken ≡ told s v (queries_before asks_inclusion layers front) (query_of (length front) (length layers + 1))
 unfolding inclusion_bits
 inclusion_bits_new s v layers front taken h = ap (λ (b : Bool). cond b (taken ∷ []) (told s v (queries_before asks_inclusion layers front) (query_of (length front) (length layers + 1)))) h
 
-pub zeros_bits_old : (s : Shape) (v : Values) (layers : List BandLayer) (front : List (Option Contribution)) (zeros : ℕ) → is_included layers (length front) ≡ true → zeros_bits s v layers front zeros ≡ []
+pub zeros_bits_old : (s : Shape) (v : Values) (layers : List BandLayer) (front : List (Option Contribution)) (zeros : ℕ) → is_included layers (length front) ≡ true → zeros_bits s v layers front (length front) zeros ≡ []
 unfolding zeros_bits
 zeros_bits_old s v layers front zeros h = ap (λ (b : Bool). cond b [] (told s v (queries_before asks_zeros layers front) (query_of (length front) (zeros + 1)))) h
 
 pub zeros_bits_new : (s : Shape) (v : Values) (layers : List BandLayer) (front : List (Option Contribution)) (zeros : ℕ) → is_included layers (length front) ≡ false
-    → zeros_bits s v layers front zeros ≡ told s v (queries_before asks_zeros layers front) (query_of (length front) (zeros + 1))
+    → zeros_bits s v layers front (length front) zeros ≡ told s v (queries_before asks_zeros layers front) (query_of (length front) (zeros + 1))
 unfolding zeros_bits
 zeros_bits_new s v layers front zeros h = ap (λ (b : Bool). cond b [] (told s v (queries_before asks_zeros layers front) (query_of (length front) (zeros + 1)))) h
 
@@ -39,13 +39,13 @@ module _ (s : Shape) (layers : List BandLayer) (front : List (Option Contributio
   -- the inclusion that is told is read
   pub record IncludedOnly (v : Values) (c : Option Contribution) (r : Bits) : Type 0 where
     pub after : Tree
-    pub is : included_at (length layers) (length front) block (tree, r) ≡ Ok (is_some c, (after, advance r (length (inclusion_bits s v layers front (is_some c)))))
+    pub is : included_at (length layers) (length front) block (tree, r) ≡ Ok (is_some c, (after, advance r (length (inclusion_bits s v layers front (length front) (is_some c)))))
     pub can_go : IsOpen s after
     pub stands : Stands s v (queries_before asks_inclusion layers (front ++ c ∷ [])) after.nodes
 
   pub included_only : (v : Values) (c : Option Contribution) (r : Bits) (rest : List Bool) → Stands s v (queries_before asks_inclusion layers front) tree.nodes
       → (is_included layers (length front) ≡ false → is_some c ≡ nat_lt (leaf_of s v (length front)) (length layers + 1))
-      → ahead r ≡ inclusion_bits s v layers front (is_some c) ++ rest → IncludedOnly v c r
+      → ahead r ≡ inclusion_bits s v layers front (length front) (is_some c) ++ rest → IncludedOnly v c r
   included_only v c r rest st first h = elim (cases_Bool (is_included layers (length front))) [
     | inl old ↦ (let bits = inclusion_bits_old s v layers front (is_some c) old in record {
       after = tree;
@@ -74,7 +74,7 @@ module _ (s : Shape) (layers : List BandLayer) (front : List (Option Contributio
     pub can_go : IsOpen s o.1.0
     pub reached : Reached s (queries_before asks_inclusion layers (front ++ c ∷ [])) o.1.0.nodes
     pub each : (v : Values) → Stands s v (queries_before asks_inclusion layers (front ++ c ∷ [])) o.1.0.nodes
-        → Stands s v (queries_before asks_inclusion layers front) tree.nodes × Gives r (inclusion_bits s v layers front o.0) o.1.1
+        → Stands s v (queries_before asks_inclusion layers front) tree.nodes × Gives r (inclusion_bits s v layers front (length front) o.0) o.1.1
         × (is_included layers (length front) ≡ false → o.0 ≡ nat_lt (leaf_of s v (length front)) (length layers + 1))
 
   old_found : (c : Option Contribution) (r : Bits) (o : Bool × (Tree × Bits)) → is_included layers (length front) ≡ true → Reached s (queries_before asks_inclusion layers front) tree.nodes
@@ -105,13 +105,13 @@ module _ (s : Shape) (layers : List BandLayer) (front : List (Option Contributio
   -- the zero bit-planes that are told are read
   pub record ZerosOnly (planes : ℕ) (v : Values) (c : Contribution) (r : Bits) : Type 0 where
     pub after : Tree
-    pub is : zero_planes_at planes (length front) block (tree, r) ≡ Ok (c.zero_planes, (after, advance r (length (zeros_bits s v layers front c.zero_planes))))
+    pub is : zero_planes_at planes (length front) block (tree, r) ≡ Ok (c.zero_planes, (after, advance r (length (zeros_bits s v layers front (length front) c.zero_planes))))
     pub can_go : IsOpen s after
     pub stands : Stands s v (queries_before asks_zeros layers (front ++ Some c ∷ [])) after.nodes
 
   pub zeros_only : (planes : ℕ) (v : Values) (c : Contribution) (r : Bits) (rest : List Bool) → Stands s v (queries_before asks_zeros layers front) tree.nodes
       → (is_included layers (length front) ≡ false → (c.zero_planes ≡ leaf_of s v (length front)) × (c.zero_planes ≤ planes)) → (is_included layers (length front) ≡ true → c.zero_planes ≡ block.zero_planes)
-      → ahead r ≡ zeros_bits s v layers front c.zero_planes ++ rest → ZerosOnly planes v c r
+      → ahead r ≡ zeros_bits s v layers front (length front) c.zero_planes ++ rest → ZerosOnly planes v c r
   zeros_only planes v c r rest st first later h = elim (cases_Bool (is_included layers (length front))) [
     | inl old ↦ (let bits = zeros_bits_old s v layers front c.zero_planes old in record {
       after = tree;
@@ -150,7 +150,7 @@ module _ (s : Shape) (layers : List BandLayer) (front : List (Option Contributio
     pub later : is_included layers (length front) ≡ true → o.0 ≡ block.zero_planes
     pub within : is_included layers (length front) ≡ false → o.0 ≤ planes
     pub each : (v : Values) → Stands s v (queries_before asks_zeros layers (front ++ Some c ∷ [])) o.1.0.nodes
-        → Stands s v (queries_before asks_zeros layers front) tree.nodes × Gives r (zeros_bits s v layers front o.0) o.1.1
+        → Stands s v (queries_before asks_zeros layers front) tree.nodes × Gives r (zeros_bits s v layers front (length front) o.0) o.1.1
         × (is_included layers (length front) ≡ false → o.0 ≡ leaf_of s v (length front))
 
   known_found : (planes : ℕ) (c : Contribution) (r : Bits) (o : ℕ × (Tree × Bits)) → is_included layers (length front) ≡ true → Reached s (queries_before asks_zeros layers front) tree.nodes → (block.zero_planes, (tree, r)) ≡ o → ZerosFound planes c r o

@@ -24,7 +24,7 @@ Stand shapes t layers bands = (n : ℕ) → n < length shapes → BandStands (ba
 abbrev pub SomeStand : List BandShape → List Layer → List BandState → Type 0
 SomeStand shapes layers bands = (n : ℕ) → n < length shapes → (t : BandTrees) × BandStands (band_shape shapes n) t (band_layers n layers) [] (band_in bands n)
 
-layers_push : (n : ℕ) (layers : List Layer) (layer : Layer) → band_layers n (layers ++ layer ∷ []) ≡ band_layers n layers ++ of_band n layer ∷ []
+pub layers_push : (n : ℕ) (layers : List Layer) (layer : Layer) → band_layers n (layers ++ layer ∷ []) ≡ band_layers n layers ++ of_band n layer ∷ []
 layers_push n layers layer = map_push (of_band n) layers layer
 
 from_first : (ls : List (List (Option Contribution))) (n : ℕ) → get_or ls (n - 0) [] ≡ get_or ls n []

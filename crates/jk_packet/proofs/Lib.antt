@@ -13,5 +13,7 @@ pub mod BandsLaws
 pub mod LayerLaws
 pub mod HeaderLaws
 pub mod PrecinctLaws
+pub mod GatherLaws
 pub mod EmptyLaws
+pub mod Laws
 mod Examples

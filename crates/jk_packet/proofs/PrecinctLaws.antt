@@ -1,21 +1,24 @@
 -- The headers of a precinct, layer by layer.
-use Rattle.std.proofs.Common.{◌≡◌, ℕ, ◌+◌, ◌*◌, ◌<◌, ◌≤◌, Bool, true, false, cond, List, [], ◌∷◌, ◌++◌, length, get_or, take, drop, Result, Some, None, Ok, Err, refl, sym, ap, ◌∙◌, subst, inl, inr, arith}
+use Rattle.std.proofs.Common.{◌≡◌, ℕ, ◌+◌, ◌*◌, ◌<◌, ◌≤◌, Bool, true, false, cond, List, [], ◌∷◌, ◌++◌, length, length-append, get_or, take, drop, Option, Result, Some, None, Ok, Err, refl, sym, ap, ◌∙◌, subst, inl, inr, arith}
 use Rattle.std.specs.Prelude.{IfOk, MatchResult, ◌==◌}
 use Rattle.std.proofs.lemmas.Bool.{cases_lt}
 use Rattle.std.proofs.lemmas.List.{length-map, length-replicate, length_push, get_or-map, get_or-replicate, get_or_append_left, get_or_push, take-append-le, take_at, append_cancel_right}
-use Rattle.jk_math.specs.Answer.{Refuses, ReadsBy}
+use Rattle.jk_math.specs.Answer.{◌>>=◌, Refuses, ReadsBy}
 use Rattle.jk_math.specs.Steps.{bind_then}
 use Rattle.jk_math.specs.declared.fault.Fault.{Fault}
 use Rattle.jk_math.specs.declared.fault.Fault.TheVariants.{Memory}
+use Rattle.jk_math.specs.Memory.{IsMemory}
+use Rattle.jk_bits.specs.Stuffing.{Packs}
 use Rattle.jk_bits.specs.Reading.{Bits, ahead}
 use Rattle.jk_bits.specs.Giving.{Gives}
 use Rattle.jk_tree.specs.TagTree.{Shape, IsTree, top}
+use Rattle.jk_tree.specs.Asking.{unless_failed}
 use Rattle.jk_tree.proofs.Laws.{blank_open, blank_tree_stands}
 use Rattle.jk_packet.specs.declared.shape.BandShape.{BandShape}
 use Rattle.jk_packet.specs.declared.header.Header.{Header}
 use Rattle.jk_packet.specs.declared.header.Part.{Part}
-use Rattle.jk_packet.specs.Reading.{BandState, HeaderText, text_of, PrecinctState, band_in, no_band, blank_block, blank_band, blank_bands, blank_precinct, bits_of, text_at, header_at}
-use Rattle.jk_packet.specs.PacketText.{contributions, queries_in, queries_of, BandTrees, Layer, Trees, band_layers, band_shape, leaves, header_bits, IsLayer, IsHeaderText, parts_of}
+use Rattle.jk_packet.specs.Reading.{BandState, Walk, HeaderText, text_of, PrecinctState, band_in, no_band, blank_block, blank_band, blank_bands, blank_precinct, bits_of, text_at, header_at}
+use Rattle.jk_packet.specs.PacketText.{contributions, queries_in, queries_of, BandTrees, Layer, Trees, band_layers, band_shape, leaves, header_bits, IsLayer, eph_text, IsHeaderText, parts_of}
 use Rattle.jk_packet.specs.Standing.{BandStands, AreTrees, PrecinctStands, Tells, PrecinctReached, ReadsLayer, IsRead}
 use Rattle.jk_packet.proofs.TextLaws.{header_goes, header_ok}
 use Rattle.jk_packet.proofs.LayerLaws.{BitsOnly, bits_only, bits_found, all_trees}
@@ -24,6 +27,53 @@ use Rattle.jk_packet.proofs.HeaderLaws.{header_only, header_found}
 some_bit : (shapes : List BandShape) (t : Trees) (layers : List Layer) (layer : Layer) → 0 < length (header_bits shapes t layers layer)
 some_bit shapes t layers None = omega arith
 some_bit shapes t layers (Some ls) = omega arith
+
+-- Bits are packed in a byte at least.
+some_packed : (bits : List Bool) (header : List ℕ) → 0 < length bits → Packs false bits header → 0 < length header
+unfolding Packs
+some_packed bits [] some p = let none = ap length p.0 in omega (arith, some, none)
+some_packed bits (b ∷ header) some p = omega arith
+
+-- A header takes a byte.
+pub header_some : (sop eph : Bool) (shapes : List BandShape) (t : Trees) (layers : List Layer) (layer : Layer) (text : List ℕ) → IsHeaderText sop eph (header_bits shapes t layers layer) text → 0 < length text
+header_some sop eph shapes t layers layer text is =
+    let byte = some_packed (header_bits shapes t layers layer) is.header (some_bit shapes t layers layer) is.packs in
+    let joins = ap length is.joins in
+    let outer = length-append is.sop_text (is.header ++ eph_text eph) in
+    let inner = length-append is.header (eph_text eph) in
+    omega (arith, byte, joins, outer, inner)
+
+-- A header leaves the markers, and is one layer more.
+pub record Keeps (old new : PrecinctState) : Type 0 where
+  pub sop : new.sop ≡ old.sop
+  pub eph : new.eph ≡ old.eph
+  pub layers : new.layers ≡ old.layers + 1
+  pub sound : new.failed ≡ old.failed
+
+keeps_by : (n : ℕ) (bytes : List ℕ) (s : PrecinctState) (f : Option Fault) (o : HeaderText × PrecinctState)
+    → unless_failed f (text_at s.sop s.eph n bytes s.bands >>= λ p. Ok (p.0, record s { bands = p.1; layers = s.layers + 1 })) ≡ Ok o → Keeps s o.1
+keeps_by n bytes s (Some e) o h = absurd (cc)
+keeps_by n bytes s None o h =
+    bind_then (text_at s.sop s.eph n bytes s.bands) (λ p. Ok (p.0, record s { bands = p.1; layers = s.layers + 1 })) o h (λ p e k.
+    let x : HeaderText × PrecinctState = (p.0, record s { bands = p.1; layers = s.layers + 1 }) in
+    let is : x ≡ o = cc in
+    subst (λ (q : HeaderText × PrecinctState). Keeps s q.1) is record { sop = refl; eph = refl; layers = refl; sound = refl })
+
+pub header_keeps : (n : ℕ) (bytes : List ℕ) (s : PrecinctState) (o : HeaderText × PrecinctState) → header_at n bytes s ≡ Ok o → Keeps s o.1
+unfolding header_at
+header_keeps n bytes s o h = keeps_by n bytes s s.failed o h
+
+-- the trees of a precinct that stands
+pub are_trees : (shapes : List BandShape) (t : Trees) (layers : List Layer) (s : PrecinctState) → PrecinctStands shapes t layers s → AreTrees shapes t
+are_trees shapes t layers s st = λ n less. let b = st.bands n less in (b.inclusion.tree, b.zeros.tree)
+
+-- what a precinct is that has read layers
+pub record Read (layers : List Layer) (s : PrecinctState) : Type 0 where
+  pub count : s.layers ≡ length layers
+  pub sound : s.failed ≡ None
+
+pub reached_read : (shapes : List BandShape) (layers : List Layer) (bits : List (List Bool)) (s : PrecinctState) → PrecinctReached shapes layers bits s → Read layers s
+reached_read shapes layers bits s reached = let st = reached.stand reached.some.0 reached.some.1 reached.some.2 in record { count = st.read; sound = st.sound }
 
 -- A header that is told is read.
 pub record StandsOn (shapes : List BandShape) (t : Trees) (layers : List Layer) (layer : Layer) (text bytes : List ℕ) (s : PrecinctState) : Type 0 where
@@ -55,7 +105,7 @@ precinct_only shapes t layers layer text rest bytes s st is text_is e =
 gives_same : (a c : Bits) (xs ys : List Bool) → Gives a xs c → Gives a ys c → xs ≡ ys
 gives_same a c xs ys g h = append_cancel_right xs ys (ahead c) (sym g.first ∙ h.first)
 
-tells_push : (shapes : List BandShape) (t : Trees) (layers : List Layer) (bits : List (List Bool)) (layer : Layer) (b : List Bool) → Tells shapes t layers bits → b ≡ header_bits shapes t layers layer → IsLayer shapes t layers layer
+pub tells_push : (shapes : List BandShape) (t : Trees) (layers : List Layer) (bits : List (List Bool)) (layer : Layer) (b : List Bool) → Tells shapes t layers bits → b ≡ header_bits shapes t layers layer → IsLayer shapes t layers layer
     → Tells shapes t (layers ++ layer ∷ []) (bits ++ b ∷ [])
 tells_push shapes t layers bits layer b tells same is = (
   length_push bits b ∙ ap (λ n. n + 1) tells.0 ∙ sym (length_push layers layer),
@@ -81,18 +131,51 @@ tells_push shapes t layers bits layer b tells same is = (
   ],
 )
 
+-- What tells one layer more tells those before it.
+pub record TellsLast (shapes : List BandShape) (t : Trees) (layers : List Layer) (bits : List (List Bool)) (layer : Layer) (b : List Bool) : Type 0 where
+  pub before : Tells shapes t layers bits
+  pub own : b ≡ header_bits shapes t layers layer
+  pub last : IsLayer shapes t layers layer
+
+pub tells_last : (shapes : List BandShape) (t : Trees) (layers : List Layer) (bits : List (List Bool)) (layer : Layer) (b : List Bool) → Tells shapes t (layers ++ layer ∷ []) (bits ++ b ∷ []) → TellsLast shapes t layers bits layer b
+tells_last shapes t layers bits layer b tells =
+    let long : length bits ≡ length layers = (let e = tells.0 in let l = length_push layers layer in let m = length_push bits b in omega (arith, e, l, m)) in
+    let n = length layers in
+    let at_end = tells.1 n (let l = length_push layers layer in omega (arith, l)) in
+    let front : take n (layers ++ layer ∷ []) ≡ layers = take_at layers (layer ∷ []) n refl in
+    let here : get_or (layers ++ layer ∷ []) n None ≡ layer = get_or_push layers layer None n refl in
+    let bits_own : get_or (bits ++ b ∷ []) n [] ≡ b = get_or_push bits b [] n long in
+    record {
+      before = (
+        long,
+        λ i less.
+            let at = tells.1 i (let l = length_push layers layer in omega (arith, less, l)) in
+            let first : take i (layers ++ layer ∷ []) ≡ take i layers = take-append-le i layers (layer ∷ []) (omega (arith, less)) in
+            let here : get_or (layers ++ layer ∷ []) i None ≡ get_or layers i None = get_or_append_left layers (layer ∷ []) None i less in (
+              sym (get_or_append_left bits (b ∷ []) [] i (omega (arith, less, long)))
+                  ∙ at.0
+                  ∙ ap (λ (l : List Layer). header_bits shapes t l (get_or (layers ++ layer ∷ []) i None)) first
+                  ∙ ap (λ (x : Layer). header_bits shapes t (take i layers) x) here,
+              subst (λ (x : Layer). IsLayer shapes t (take i layers) x) here (subst (λ (l : List Layer). IsLayer shapes t l (get_or (layers ++ layer ∷ []) i None)) first at.1),
+            ),
+      );
+      own = sym bits_own ∙ at_end.0 ∙ ap (λ (l : List Layer). header_bits shapes t l (get_or (layers ++ layer ∷ []) n None)) front ∙ ap (λ (x : Layer). header_bits shapes t layers x) here;
+      last = subst (λ (x : Layer). IsLayer shapes t layers x) here (subst (λ (l : List Layer). IsLayer shapes t l (get_or (layers ++ layer ∷ []) n None)) front at_end.1);
+    }
+
 -- A header that was read is told.
 text_found : (shapes : List BandShape) (layers : List Layer) (bits : List (List Bool)) (s : PrecinctState) (bytes : List ℕ) (o : HeaderText × List BandState) → PrecinctReached shapes layers bits s
     → text_at s.sop s.eph (length layers) bytes s.bands ≡ Ok o → ReadsLayer shapes layers bits s (record s { bands = o.1; layers = s.layers + 1 }) bytes o.0
 text_found shapes layers bits s bytes o reached h =
     let t0 = reached.some.0 in
-    let st0 = reached.some.1 in
+    let st0 = reached.stand t0 reached.some.1 reached.some.2 in
     let f = header_found s.sop s.eph (length layers) bytes s.bands o h in
     let r = bits_of (drop f.place bytes) in
     let g = bits_found shapes layers s.bands r f.walk st0.count (λ n less. (t0 n, st0.bands n less)) f.read in
     let new : PrecinctState = record s { bands = o.1; layers = s.layers + 1 } in
     let t1 = all_trees (λ n t. BandStands (band_shape shapes n) t (band_layers n (layers ++ g.layer ∷ [])) [] (band_in f.walk.bands n)) (length shapes) g.some in
     let e1 = g.each t1.0 t1.1 in
+    let told1 = reached.told t1.0 record { count = st0.count; read = st0.read; sound = st0.sound; bands = e1.0 } in
     let b = header_bits shapes t1.0 layers g.layer in
     record {
       layer = g.layer;
@@ -101,37 +184,44 @@ text_found shapes layers bits s bytes o reached h =
       text = f.text b e1.1;
       parts = f.parts_are ∙ g.parts;
       reached = record {
-        some = (
-          t1.0,
-          record {
-            count = ap length f.bands_are ∙ g.count ∙ st0.count;
-            read = ap (λ n. n + 1) st0.read ∙ sym (length_push layers g.layer);
-            sound = st0.sound;
-            bands = λ n less. subst (λ (bs : List BandState). BandStands (band_shape shapes n) (t1.0 n) (band_layers n (layers ++ g.layer ∷ [])) [] (band_in bs n)) (sym f.bands_are) (t1.1 n less);
-          },
-        );
-        each = λ t st.
+        some = (t1.0, told1.0, tells_push shapes t1.0 layers bits g.layer b told1.1 refl e1.2);
+        stand = λ t are tells.
+            let l = tells_last shapes t layers bits g.layer b tells in
+            let st = reached.stand t are l.before in
+            let first : ahead r ≡ header_bits shapes t layers g.layer ++ ahead f.walk.bits = e1.1.first ∙ ap (λ (bs : List Bool). bs ++ ahead f.walk.bits) l.own in
+            let again = bits_only shapes t layers g.layer s.bands r (ahead f.walk.bits) st.count st.bands l.last first in
+            let both = sym again.is ∙ f.read in
+            let same : again.after ≡ f.walk = cc in
+            let bands_are : again.after.bands ≡ o.1 = ap (λ (w : Walk). w.bands) same ∙ sym f.bands_are in
+            record {
+              count = ap length (sym bands_are) ∙ again.count ∙ st.count;
+              read = ap (λ n. n + 1) st.read ∙ sym (length_push layers g.layer);
+              sound = st.sound;
+              bands = λ n less. subst (λ (bs : List BandState). BandStands (band_shape shapes n) (t n) (band_layers n (layers ++ g.layer ∷ [])) [] (band_in bs n)) bands_are (again.stands n less);
+            };
+        told = λ t st.
             let e = g.each t (λ n less. subst (λ (bs : List BandState). BandStands (band_shape shapes n) (t n) (band_layers n (layers ++ g.layer ∷ [])) [] (band_in bs n)) f.bands_are (st.bands n less)) in
-            tells_push shapes t layers bits g.layer b (reached.each t record { count = st0.count; read = st0.read; sound = st0.sound; bands = e.0 }) (gives_same r f.walk.bits b (header_bits shapes t layers g.layer) e1.1 e.1) e.2;
+            let old = reached.told t record { count = st0.count; read = st0.read; sound = st0.sound; bands = e.0 } in
+            (old.0, tells_push shapes t layers bits g.layer b old.1 (gives_same r f.walk.bits b (header_bits shapes t layers g.layer) e1.1 e.1) e.2);
       };
     }
 
 pub precinct_found : (shapes : List BandShape) (layers : List Layer) (bits : List (List Bool)) (s : PrecinctState) (bytes : List ℕ) (o : HeaderText × PrecinctState) → PrecinctReached shapes layers bits s
     → header_at (length layers) bytes s ≡ Ok o → ReadsLayer shapes layers bits s o.1 bytes o.0
 precinct_found shapes layers bits s bytes o reached h =
-    bind_then (text_at s.sop s.eph (length layers) bytes s.bands) (λ p. Ok (p.0, record s { bands = p.1; layers = s.layers + 1 })) o (sym (header_goes (length layers) bytes s reached.some.1.sound) ∙ h) (λ p e k.
+    bind_then (text_at s.sop s.eph (length layers) bytes s.bands) (λ p. Ok (p.0, record s { bands = p.1; layers = s.layers + 1 })) o (sym (header_goes (length layers) bytes s (reached_read shapes layers bits s reached).sound) ∙ h) (λ p e k.
     let x : HeaderText × PrecinctState = (p.0, record s { bands = p.1; layers = s.layers + 1 }) in
     let is : x ≡ o = cc in
     subst (λ (q : HeaderText × PrecinctState). ReadsLayer shapes layers bits s q.1 bytes q.0) is (text_found shapes layers bits s bytes p reached e))
 
 -- what a call answers, where a value is due
-refused : {A : Type 0} (e : Fault) (due : Result A Fault) (x : A) → Refuses e due → due ≡ Ok x → e ≡ Memory
-refused Memory due x r h = refl
+refused : {A : Type 0} (e : Fault) (due : Result A Fault) (x : A) → Refuses e due → due ≡ Ok x → IsMemory e
+refused (Memory m) due x r h = tt
 refused e due x r h = absurd (let clash : Err e ≡ Ok x = sym r ∙ h in cc)
 
 pub answers_only : (shapes : List BandShape) (t : Trees) (layers : List Layer) (layer : Layer) (text rest bytes : List ℕ) (n : ℕ) (old new : PrecinctState) (result : Result Header Fault) → n ≡ old.layers
     → ReadsBy text_of (header_at n bytes) old new result → PrecinctStands shapes t layers old → IsLayer shapes t layers layer
-    → IsHeaderText old.sop old.eph (header_bits shapes t layers layer) text → bytes ≡ text ++ rest → MatchResult result (λ h. IsRead shapes t layers layer text new (text_of h)) (λ e. e ≡ Memory)
+    → IsHeaderText old.sop old.eph (header_bits shapes t layers layer) text → bytes ≡ text ++ rest → MatchResult result (λ h. IsRead shapes t layers layer text new (text_of h)) (λ e. IsMemory e)
 answers_only shapes t layers layer text rest bytes n old new (Ok h) next exact st is text_is e =
     let x = precinct_only shapes t layers layer text rest bytes old st is text_is e in
     let both : Ok (record { length = length text; parts = parts_of layer }, x.after) ≡ Ok (text_of h, new) = sym x.is ∙ ap (λ k. header_at k bytes old) (sym (next ∙ st.read)) ∙ exact in
@@ -148,7 +238,7 @@ answers_only shapes t layers layer text rest bytes n old new (Err d) next exact 
 pub answers_found : (shapes : List BandShape) (layers : List Layer) (bits : List (List Bool)) (bytes : List ℕ) (n : ℕ) (old new : PrecinctState) (result : Result Header Fault) → n ≡ old.layers
     → ReadsBy text_of (header_at n bytes) old new result → PrecinctReached shapes layers bits old → IfOk result (λ h. ReadsLayer shapes layers bits old new bytes (text_of h))
 answers_found shapes layers bits bytes n old new (Ok h) next exact reached =
-    precinct_found shapes layers bits old bytes (text_of h, new) reached (ap (λ k. header_at k bytes old) (sym (next ∙ reached.some.1.read)) ∙ exact)
+    precinct_found shapes layers bits old bytes (text_of h, new) reached (ap (λ k. header_at k bytes old) (sym (next ∙ (reached_read shapes layers bits old reached).count)) ∙ exact)
 answers_found shapes layers bits bytes n old new (Err d) next exact reached = tt
 
 -- A precinct of which nothing was read.
@@ -186,7 +276,10 @@ no_values s i x y n = by_level (i == top s)
     by_level false = omega arith
 
 pub fresh_reached : (shapes : List BandShape) (sop eph : Bool) → PrecinctReached shapes [] [] (blank_precinct shapes sop eph)
-fresh_reached shapes sop eph = record {
-  some = (λ n. record { inclusion = λ i x y. 0; zeros = λ i x y. 0 }, fresh_stands shapes sop eph (λ n. record { inclusion = λ i x y. 0; zeros = λ i x y. 0 }) (λ n less. (no_values (leaves (band_shape shapes n)), no_values (leaves (band_shape shapes n)))));
-  each = λ t st. (refl, λ i less. absurd (omega (arith, less)));
-}
+fresh_reached shapes sop eph =
+    let t : Trees = λ n. record { inclusion = λ i x y. 0; zeros = λ i x y. 0 } in
+    record {
+      some = (t, λ n less. (no_values (leaves (band_shape shapes n)), no_values (leaves (band_shape shapes n))), (refl, λ i less. absurd (omega (arith, less))));
+      stand = λ t are tells. fresh_stands shapes sop eph t are;
+      told = λ t st. (are_trees shapes t [] (blank_precinct shapes sop eph) st, (refl, λ i less. absurd (omega (arith, less))));
+    }

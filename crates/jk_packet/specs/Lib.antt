@@ -3,4 +3,5 @@ pub mod Words
 pub mod Reading
 pub mod PacketText
 pub mod Standing
+pub mod Gathering
 pub mod Empty

@@ -1,5 +1,6 @@
 -- What the packet headers of a precinct say, and the bits that say it (T.800 B.9, B.10).
-use Rattle.std.specs.Prelude.{◌≡◌, ℕ, ◌+◌, ◌*◌, ◌≤◌, Bool, true, false, nat_lt, if◌then◌else◌, List, [], ◌∷◌, ◌++◌, length, map, sum_by, slice_index_or, Option, Some, None, is_some, IfSome, ◌⊎◌}
+use Rattle.std.specs.Prelude.{◌≡◌, ℕ, ◌+◌, ◌*◌, ◌≤◌, Bool, true, false, nat_lt, if◌then◌else◌, List, [], ◌∷◌, ◌++◌, length, map, take, sum_by, slice_index_or, Option, Some, None, is_some, IfSome, ◌⊎◌}
+use Rattle.std.specs.List.{flat_map, range_with_len}
 use Rattle.jk_bits.specs.Stuffing.{Packs}
 use Rattle.jk_tree.specs.TagTree.{Shape, shape_of, Values, Query, query_of, leaf_of, told}
 use Rattle.jk_packet.specs.declared.shape.BandShape.{BandShape}
@@ -75,40 +76,37 @@ abbrev pub asks_zeros : List BandLayer → ℕ → Option Contribution → List 
 asks_zeros before i None = []
 asks_zeros before i (Some c) = if is_included before i then [] else query_of i (c.zero_planes + 1) ∷ []
 
--- all queries before block `length front` of the packet behind the layers, whose blocks before it have these contributions
+-- all queries before a block of the packet behind the layers, where the blocks before it have these contributions
 abbrev pub queries_before : (List BandLayer → ℕ → Option Contribution → List Query) → List BandLayer → List (Option Contribution) → List Query
-queries_before ask layers front = queries_of ask [] layers ++ queries_in (ask layers) 0 front
+queries_before ask layers before = queries_of ask [] layers ++ queries_in (ask layers) 0 before
 
 -- The two tag trees of a sub-band in a precinct.
 pub record BandTrees : Type 0 where
   pub inclusion : Values
   pub zeros : Values
 
--- whether a block has a contribution: a bit, or the inclusion tree (B.10.4)
-unfoldable pub inclusion_bits : Shape → Values → List BandLayer → List (Option Contribution) → Bool → List Bool
-inclusion_bits s v layers front taken =
-    if is_included layers (length front) then taken ∷ []
-    else told s v (queries_before asks_inclusion layers front) (query_of (length front) (length layers + 1))
+-- whether block i has a contribution: a bit, or the inclusion tree (B.10.4)
+unfoldable pub inclusion_bits : Shape → Values → List BandLayer → (before : List (Option Contribution)) → ℕ → Bool → List Bool
+inclusion_bits s v layers before i taken =
+    if is_included layers i then taken ∷ [] else told s v (queries_before asks_inclusion layers before) (query_of i (length layers + 1))
 
--- the zero bit-planes, with the first contribution (B.10.5)
-unfoldable pub zeros_bits : Shape → Values → List BandLayer → List (Option Contribution) → ℕ → List Bool
-zeros_bits s v layers front zero_planes =
-    if is_included layers (length front) then []
-    else told s v (queries_before asks_zeros layers front) (query_of (length front) (zero_planes + 1))
+-- the zero bit-planes of block i, with its first contribution (B.10.5)
+unfoldable pub zeros_bits : Shape → Values → List BandLayer → (before : List (Option Contribution)) → ℕ → ℕ → List Bool
+zeros_bits s v layers before i zero_planes =
+    if is_included layers i then [] else told s v (queries_before asks_zeros layers before) (query_of i (zero_planes + 1))
 
 -- what follows for a block that has a contribution
-abbrev pub taken_bits : Shape → Values → List BandLayer → List (Option Contribution) → Option Contribution → List Bool
-taken_bits s v layers front None = []
-taken_bits s v layers front (Some c) = zeros_bits s v layers front c.zero_planes ++ piece_bits (lblock_of (contributions layers (length front))) c.piece
+abbrev pub taken_bits : Shape → Values → List BandLayer → (before : List (Option Contribution)) → ℕ → Option Contribution → List Bool
+taken_bits s v layers before i None = []
+taken_bits s v layers before i (Some c) = zeros_bits s v layers before i c.zero_planes ++ piece_bits (lblock_of (contributions layers i)) c.piece
 
--- the bits of block `length front`
-abbrev pub block_bits : Shape → BandTrees → List BandLayer → List (Option Contribution) → Option Contribution → List Bool
-block_bits s t layers front c = inclusion_bits s t.inclusion layers front (is_some c) ++ taken_bits s t.zeros layers front c
+-- the bits of block i
+abbrev pub block_bits : Shape → BandTrees → List BandLayer → (before : List (Option Contribution)) → ℕ → Option Contribution → List Bool
+block_bits s t layers before i c = inclusion_bits s t.inclusion layers before i (is_some c) ++ taken_bits s t.zeros layers before i c
 
--- the bits of a sub-band, block by block, behind those in front
-unfoldable pub band_bits : Shape → BandTrees → List BandLayer → (front blocks : List (Option Contribution)) → List Bool
-band_bits s t layers front [] = []
-band_bits s t layers front (c ∷ cs) = block_bits s t layers front c ++ band_bits s t layers (front ++ c ∷ []) cs
+-- the bits of a sub-band, block by block
+unfoldable pub band_bits : Shape → BandTrees → List BandLayer → List (Option Contribution) → List Bool
+band_bits s t layers blocks = flat_map (λ i. block_bits s t layers (take i blocks) i (slice_index_or blocks i None)) (range_with_len 0 (length blocks))
 
 -- A contribution to block i behind the layers.
 pub record IsContribution (s : Shape) (planes : ℕ) (zeros : Values) (layers : List BandLayer) (i : ℕ) (c : Contribution) : Type 0 where
@@ -153,7 +151,7 @@ leaves b = shape_of b.across b.down
 unfoldable pub bands_bits : List BandShape → Trees → List Layer → ℕ → List (List (Option Contribution)) → List Bool
 bands_bits shapes trees layers number [] = []
 bands_bits shapes trees layers number (cs ∷ bands) =
-    band_bits (leaves (band_shape shapes number)) (trees number) (band_layers number layers) [] cs ++ bands_bits shapes trees layers (number + 1) bands
+    band_bits (leaves (band_shape shapes number)) (trees number) (band_layers number layers) cs ++ bands_bits shapes trees layers (number + 1) bands
 
 -- The bits of the header of the packet behind the layers: 0 for an empty packet, and 1 before what it has of the sub-bands (B.10.3).
 abbrev pub header_bits : List BandShape → Trees → List Layer → Layer → List Bool

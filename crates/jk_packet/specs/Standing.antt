@@ -49,10 +49,12 @@ Tells shapes trees layers bits = (length bits ≡ length layers)
     → (slice_index_or bits i [] ≡ header_bits shapes trees (take i layers) (slice_index_or layers i None))
     × IsLayer shapes trees (take i layers) (slice_index_or layers i None))
 
--- The precinct has read these layers from headers of these bits: some trees stand, and each that stands has told them.
+-- The precinct has read these layers from headers of these bits: some trees tell them, and the trees that stand are
+-- exactly those that do.
 pub record PrecinctReached (shapes : List BandShape) (layers : List Layer) (bits : List (List Bool)) (s : PrecinctState) : Type 0 where
-  pub some : (trees : Trees) × PrecinctStands shapes trees layers s
-  pub each : (trees : Trees) → PrecinctStands shapes trees layers s → Tells shapes trees layers bits
+  pub some : (trees : Trees) × AreTrees shapes trees × Tells shapes trees layers bits
+  pub stand : (trees : Trees) → AreTrees shapes trees → Tells shapes trees layers bits → PrecinctStands shapes trees layers s
+  pub told : (trees : Trees) → PrecinctStands shapes trees layers s → AreTrees shapes trees × Tells shapes trees layers bits
 
 -- The header that stands at the front of the bytes, of a layer behind others: its bits, its text, its parts, and the precinct after it.
 pub record ReadsLayer (shapes : List BandShape) (layers : List Layer) (bits : List (List Bool)) (old new : PrecinctState) (bytes : List ℕ) (header : HeaderText) : Type 0 where

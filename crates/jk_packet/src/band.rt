@@ -2,7 +2,7 @@
 
 ghost use Rattle.std.specs.Prelude.{◌≡◌, ℕ, ◌+◌, ◌*◌, ◌<◌, ◌≤◌, length, IfOk, MatchResult};
 ghost use Rattle.jk_math.specs.Answer.{Answers};
-ghost use Rattle.jk_math.specs.declared.fault.Fault.TheVariants.{Memory};
+ghost use Rattle.jk_math.specs.Memory.{IsMemory};
 ghost use Rattle.jk_packet.specs.Reading.{BandWalk, blank_band, band_at, block_at};
 
 use crate::block::{Block, blank_blocks, read_inclusion, read_zero_planes};
@@ -47,7 +47,7 @@ impl Model for Band {
 impl Band {
     /// A sub-band of which nothing was read.
     pub(crate) fn new(alloc: Global, shape: BandShape) -> Result<Band, Fault>
-        ensures { MatchResult result (λ b. b ≡ blank_band shape) (λ e. e ≡ Memory) }
+        ensures { MatchResult result (λ b. b ≡ blank_band shape) (λ e. IsMemory e) }
     {
         let blocks = blank_blocks(alloc, shape.across as usize * shape.down as usize)?;
         let inclusion = ReadTree::new(alloc, shape.across, shape.down)?;

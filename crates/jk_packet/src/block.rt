@@ -2,7 +2,7 @@
 
 ghost use Rattle.std.specs.Prelude.{◌≡◌, ℕ, ◌+◌, ◌*◌, ◌<◌, replicate, MatchResult};
 ghost use Rattle.jk_math.specs.Answer.{Reads};
-ghost use Rattle.jk_math.specs.declared.fault.Fault.TheVariants.{Memory};
+ghost use Rattle.jk_math.specs.Memory.{IsMemory};
 ghost use Rattle.jk_packet.specs.Reading.{blank_block, included_at, zero_planes_at};
 
 use jk_bits::BitReader;
@@ -21,7 +21,7 @@ pub(crate) struct Block {
 
 /// Code-blocks of which nothing was read.
 pub(crate) fn blank_blocks(alloc: Global, count: usize) -> Result<Vec<Block>, Fault>
-    ensures { MatchResult result (λ blocks. blocks.items ≡ replicate count blank_block) (λ e. e ≡ Memory) }
+    ensures { MatchResult result (λ blocks. blocks.items ≡ replicate count blank_block) (λ e. IsMemory e) }
 {
     let mut blocks = Vec::with_capacity(alloc, count)?;
     for _ in 0..count {

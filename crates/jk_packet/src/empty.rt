@@ -1,6 +1,8 @@
 //! Packets that are empty (T.800 B.10.3).
 
 ghost use Rattle.std.specs.Prelude.{◌≡◌, ℕ, ◌<◌, ◌≤◌, false, List, [], ◌∷◌, ◌++◌, length, Ok, IfOk, IfErr, OnOk};
+ghost use Rattle.jk_math.specs.Front.{IsFront};
+ghost use Rattle.jk_math.specs.Memory.{IsMemory};
 ghost use Rattle.jk_packet.specs.PacketText.{IsHeaderText};
 ghost use Rattle.jk_packet.specs.Empty.{empty_at, written_empty};
 
@@ -45,8 +47,8 @@ pub fn empty_packet(sop: bool, eph: bool, bytes: &[u8]) -> Result<usize, Fault>
     empty_length(sop, eph, bytes)
 }
 
-/// Appends an empty packet: SOP with the counter where `sop`, the header 00, EPH where `eph`. After Memory a
-/// part of it may stand.
+/// Appends an empty packet: SOP with the counter where `sop`, the header 00, EPH where `eph`. After `Memory` some of
+/// its bytes may stand.
 #[tactic(auto, unfolding(crate::specs::Empty::written_empty), using(crate::proofs::EmptyLaws::written_is_empty))]
 pub fn write_empty_packet(
     sop: bool,
@@ -55,7 +57,8 @@ pub fn write_empty_packet(
     out: &mut Vec<u8>,
 ) -> Result<(), Fault>
     ensures ok { OnOk result (out.new.items ≡ out.old.items ++ written_empty sop eph counter) }
-    ensures err { IfErr result (λ e. e ≡ Fault.Memory) }
+    ensures err { IfErr result (λ e. IsMemory e) }
+    ensures front { IsFront out.old.items out.new.items }
     // What is written is the text of an empty packet's header.
     ensures means { IsHeaderText sop eph (false ∷ []) (written_empty sop eph counter) }
 {

@@ -4,6 +4,7 @@
 mod band;
 mod block;
 mod empty;
+mod facts;
 mod header;
 mod markers;
 mod precinct;
@@ -11,6 +12,7 @@ mod shape;
 mod words;
 
 pub use empty::{empty_packet, write_empty_packet};
+pub use facts::{headers_have_a_byte, parts_are_contributions};
 pub use header::{Header, Part, Parts};
 pub use precinct::Precinct;
 pub use shape::{BandShape, PrecinctShape};

@@ -1,8 +1,8 @@
 //! A precinct, and the headers of its packets (T.800 B.9, B.10).
 
-ghost use Rattle.std.specs.Prelude.{◌≡◌, ℕ, ◌+◌, ◌<◌, ◌≤◌, Bool, List, [], ◌++◌, length, drop, is_ok, if◌then◌else◌, IfOk, Some, IfErr, OnOk, MatchResult};
+ghost use Rattle.std.specs.Prelude.{◌≡◌, ℕ, ◌+◌, ◌<◌, ◌≤◌, Bool, List, [], ◌++◌, length, drop, is_ok, if◌then◌else◌, IfOk, Some, Err, IfErr, IfSome, OnOk, MatchResult};
 ghost use Rattle.jk_math.specs.Answer.{Answers, ReadsBy};
-ghost use Rattle.jk_math.specs.declared.fault.Fault.TheVariants.{Memory};
+ghost use Rattle.jk_math.specs.Memory.{IsMemory};
 ghost use Rattle.jk_packet.specs.Reading.{blank_precinct, bands_seen, packet_at, bits_at, text_of, text_at, header_at};
 ghost use Rattle.jk_packet.specs.Shapes.{bands_of};
 ghost use Rattle.jk_packet.specs.declared.shape.BandShape.{BandShape};
@@ -50,7 +50,7 @@ impl Model for Precinct {
 fn make_bands(alloc: Global, shape: PrecinctShape, bands: &mut Vec<Band>) -> Result<(), Fault>
     requires { length bands.old.items ≤ 3 }
     ensures made { MatchResult result
-        (λ _. bands.new.items ≡ bands_seen (bands_of shape) bands.old.items) (λ e. e ≡ Memory) }
+        (λ _. bands.new.items ≡ bands_seen (bands_of shape) bands.old.items) (λ e. IsMemory e) }
     ensures some { OnOk result (0 < length bands.new.items) }
     ensures few { length bands.new.items ≤ 3 }
 {
@@ -155,7 +155,7 @@ impl Precinct {
     /// What a packet header tells of code-blocks takes memory at the precinct's first packet that isn't empty.
     pub fn new(alloc: Global, shape: &PrecinctShape) -> Result<Precinct, Fault>
         ensures blank { MatchResult result
-            (λ p. p ≡ blank_precinct (bands_of shape.now) shape.now.sop shape.now.eph) (λ e. e ≡ Memory) }
+            (λ p. p ≡ blank_precinct (bands_of shape.now) shape.now.sop shape.now.eph) (λ e. IsMemory e) }
         ensures stands { IfOk result (λ p. (trees : Trees) → AreTrees (bands_of shape.now) trees
             → PrecinctStands (bands_of shape.now) trees [] p) }
         ensures reached { IfOk result (λ p. PrecinctReached (bands_of shape.now) [] [] p) }
@@ -180,6 +180,8 @@ impl Precinct {
         requires layer { layer < 65535 }
         ensures exact { ReadsBy text_of (header_at layer bytes.now) self.old self.new result }
         ensures failed { IfErr result (λ e. self.new.failed ≡ Some e) }
+        ensures stays { IfSome self.old.failed (λ e. (result ≡ Err e) × (self.new ≡ self.old)) }
+        ensures kept { (self.new.sop ≡ self.old.sop) × (self.new.eph ≡ self.old.eph) }
         ensures counted { self.new.layers ≡ (if is_ok result then self.old.layers + 1 else self.old.layers) }
 
         // What trees would tell of one more layer is read, whatever they told before.
@@ -188,7 +190,7 @@ impl Precinct {
             → IsLayer shapes trees layers said
             → IsHeaderText self.old.sop self.old.eph (header_bits shapes trees layers said) text
             → bytes.now ≡ text ++ rest
-            → MatchResult result (λ h. IsRead shapes trees layers said text self.new (text_of h)) (λ e. e ≡ Memory) }
+            → MatchResult result (λ h. IsRead shapes trees layers said text self.new (text_of h)) (λ e. IsMemory e) }
 
         // What is read is a layer behind those read before, and there are trees that tell them all.
         ensures found { (shapes : List BandShape) (layers : List Layer) (bits : List (List Bool))

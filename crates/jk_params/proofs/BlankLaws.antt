@@ -8,8 +8,8 @@ use Rattle.jk_marks.specs.declared.coding.Coding.{Coding}
 use Rattle.jk_marks.specs.declared.segments.Cod.{Cod}
 use Rattle.jk_marks.specs.Siz.{tile_count}
 use Rattle.jk_geom.specs.TileShapes.{AreCodings}
-use Rattle.jk_params.specs.Headers.{TileFields, AreCounted}
-use Rattle.jk_params.specs.HeadersReading.{blank_tiles, parts_seen, main_fields_at, tiles_at, headers_at}
+use Rattle.jk_params.specs.Headers.{TileFields}
+use Rattle.jk_params.specs.HeadersReading.{AreCountable, blank_tiles, parts_seen, main_fields_at, tiles_at, headers_at}
 use Rattle.jk_params.proofs.StepLaws.{refuses_bind}
 
 pub blank_length : (n : ℕ) (cod : Cod) (ks : List Coding) → length (blank_tiles n cod ks) ≡ n
@@ -22,7 +22,7 @@ none_seen (suc n) cod ks = ap (λ (xs : List ℕ). 0 ∷ xs) (none_seen n cod ks
 pub blank_seen : (n : ℕ) (cod : Cod) (ks : List Coding) → parts_seen (blank_tiles n cod ks) ≡ replicate (length (blank_tiles n cod ks)) 0
 blank_seen n cod ks = none_seen n cod ks ∙ ap (λ k. replicate k 0) (sym (blank_length n cod ks))
 
-pub blank_counted : (n : ℕ) (cod : Cod) (ks : List Coding) → 1 ≤ cod.layers → AreCodings ks → AreCounted (blank_tiles n cod ks)
+pub blank_counted : (n : ℕ) (cod : Cod) (ks : List Coding) → 1 ≤ cod.layers → AreCodings ks → AreCountable (blank_tiles n cod ks)
 blank_counted zero cod ks some are t lt = absurd (omega (arith, lt))
 blank_counted (suc n) cod ks some are zero lt = (some, are)
 blank_counted (suc n) cod ks some are (suc t) lt = blank_counted n cod ks some are t (omega (arith, lt))

@@ -13,9 +13,10 @@ use Rattle.jk_marks.specs.declared.segments.Quantisation.{Quantisation}
 use Rattle.jk_marks.specs.declared.siz.Siz.{Siz}
 use Rattle.jk_marks.specs.declared.head.TileHead.{TileHead}
 use Rattle.jk_marks.specs.declared.main_header.Main.{Main}
-use Rattle.jk_marks.specs.Segments.{Segment, codings, quantisations, styles_of, steps_of, quantisation_of}
+use Rattle.jk_marks.specs.Segments.{Segment, cods, qcds, cocs_of, qccs_of, quantisation_of}
 use Rattle.jk_marks.specs.Codestream.{first, by_component, given_for, head_of, main_of, or_else, no_coding, no_quantisation}
-use Rattle.jk_params.specs.Coding.{style_for, quantisation_for, band_count, coding_with, coding_of, style_in, quantisation_in, planes_at, HasPlanes}
+use Rattle.jk_params.specs.Coding.{style_for, quantisation_for, band_count, coding_with, coding_of, HasPlanes}
+use Rattle.jk_params.specs.CodingReading.{style_in, quantisation_in, planes_at}
 
 few_planes : (guard : ℕ) (es : List ℕ) → list_any (λ e. ltb (guard + e) 1) es ≡ false → list_any (λ e. ltb 24 (guard + e)) es ≡ false → AllByRecursion (λ e. (1 ≤ guard + e) × (guard + e ≤ 24)) es
 few_planes guard [] e f = tt
@@ -76,33 +77,33 @@ or_mapped f d (Some x) = refl
 style_same : (s : Siz) (main tile : List Segment) (i : ℕ) → i < 4 → style_in (main_of s main) (head_of tile) i ≡ style_for main tile i
 style_same s main tile i lt =
     let f : Cod → CodingStyle = λ c. c.style in
-    let a = styles_of i tile in
-    let b = map f (codings tile) in
-    let c = styles_of i main in
-    let d = map f (codings main) in
+    let a = cocs_of i tile in
+    let b = map f (cods tile) in
+    let c = cocs_of i main in
+    let d = map f (cods main) in
     let z = no_coding.style in
     let split : or_else z (first (a ++ (b ++ (c ++ d)))) ≡ or_else (or_else (or_else (or_else z (first d)) (first c)) (first b)) (first a) =
     first_joined z a (b ++ (c ++ d)) ∙ ap (λ x. or_else x (first a)) (first_joined z b (c ++ d) ∙ ap (λ x. or_else x (first b)) (first_joined z c d)) in
-    let e1 : (or_else no_coding (first (codings main))).style ≡ or_else z (first d) = or_mapped f no_coding (first (codings main)) ∙ ap (or_else z) (sym (first_mapped f (codings main))) in
-    let e2 : given_for (main_of s main).coc i ≡ first c = given_at (λ j. first (styles_of j main)) i lt in
-    let e3 : option_map f (first (codings tile)) ≡ first b = sym (first_mapped f (codings tile)) in
-    let e4 : given_for (head_of tile).coc i ≡ first a = given_at (λ j. first (styles_of j tile)) i lt in
+    let e1 : (or_else no_coding (first (cods main))).style ≡ or_else z (first d) = or_mapped f no_coding (first (cods main)) ∙ ap (or_else z) (sym (first_mapped f (cods main))) in
+    let e2 : given_for (main_of s main).coc i ≡ first c = given_at (λ j. first (cocs_of j main)) i lt in
+    let e3 : option_map f (first (cods tile)) ≡ first b = sym (first_mapped f (cods tile)) in
+    let e4 : given_for (head_of tile).coc i ≡ first a = given_at (λ j. first (cocs_of j tile)) i lt in
     rw (e1, e2, e3, e4) (sym split)
 
 steps_same : (s : Siz) (main tile : List Segment) (i : ℕ) → i < 4 → quantisation_in (main_of s main) (head_of tile) i ≡ quantisation_for main tile i
 steps_same s main tile i lt =
     let f = quantisation_of in
-    let a = steps_of i tile in
-    let b = quantisations tile in
-    let c = steps_of i main in
-    let d = quantisations main in
+    let a = qccs_of i tile in
+    let b = qcds tile in
+    let c = qccs_of i main in
+    let d = qcds main in
     let z = no_quantisation in
     let m1 : map f (a ++ (b ++ (c ++ d))) ≡ map f a ++ (map f b ++ (map f c ++ map f d)) =
     map-append f a (b ++ (c ++ d)) ∙ ap (λ (x : List Quantisation). map f a ++ x) (map-append f b (c ++ d) ∙ ap (λ (x : List Quantisation). map f b ++ x) (map-append f c d)) in
     let split : or_else z (first (map f a ++ (map f b ++ (map f c ++ map f d)))) ≡ or_else (or_else (or_else (or_else z (first (map f d))) (first (map f c))) (first (map f b))) (first (map f a)) =
     first_joined z (map f a) (map f b ++ (map f c ++ map f d)) ∙ ap (λ x. or_else x (first (map f a))) (first_joined z (map f b) (map f c ++ map f d) ∙ ap (λ x. or_else x (first (map f b))) (first_joined z (map f c) (map f d))) in
-    let e2 : given_for (main_of s main).qcc i ≡ first (map f c) = given_at (λ j. first (map f (steps_of j main))) i lt in
-    let e4 : given_for (head_of tile).qcc i ≡ first (map f a) = given_at (λ j. first (map f (steps_of j tile))) i lt in
+    let e2 : given_for (main_of s main).qcc i ≡ first (map f c) = given_at (λ j. first (map f (qccs_of j main))) i lt in
+    let e4 : given_for (head_of tile).qcc i ≡ first (map f a) = given_at (λ j. first (map f (qccs_of j tile))) i lt in
     rw (e2, e4) (sym (ap (λ (x : List Quantisation). or_else z (first x)) m1 ∙ split))
 
 -- the coding of what is kept is the coding by the segments

@@ -17,15 +17,16 @@ use Rattle.jk_marks.specs.declared.head.TileHead.{TileHead}
 use Rattle.jk_marks.specs.declared.main_header.Main.{Main}
 use Rattle.jk_marks.specs.declared.tile_part.TilePart.{TilePart}
 use Rattle.jk_marks.specs.Coding.{IsCoding}
-use Rattle.jk_marks.specs.Segments.{Segment, CodSegment, CocSegment, QcdSegment, QccSegment, Passed, Alone, IsSegment, IsCod, IsStyle, ArePrecincts, codings, styles_of}
+use Rattle.jk_marks.specs.Segments.{Segment, CodSegment, CocSegment, QcdSegment, QccSegment, Passed, Alone, IsSegment, IsCod, IsStyle, ArePrecincts, cods, cocs_of}
 use Rattle.jk_marks.specs.Codestream.{first, head_of, main_of, or_else, no_coding, given_for, ForGiven, IsMain, heading_of}
 use Rattle.jk_marks.specs.HeaderReading.{part_at}
-use Rattle.jk_marks.proofs.Numbers.{AreBytes, are_bytes_after}
-use Rattle.jk_marks.proofs.PartLaws.{found_part}
+use Rattle.jk_math.proofs.Laws.{AreBytes, are_bytes_after}
+use Rattle.jk_marks.proofs.Laws.{found_part}
 use Rattle.jk_geom.specs.TileShapes.{AreCodings}
-use Rattle.jk_params.specs.Coding.{coding_with, style_in as own_style, quantisation_in, coding_at, codings_from, codings_at, HaveStyles}
-use Rattle.jk_params.specs.Headers.{TileFields, tile_in, no_fields, AreCounted, IsGood}
-use Rattle.jk_params.specs.HeadersReading.{ends_at, parts_seen, tiles_with, parts_from, with_place, with_coding, place_at}
+use Rattle.jk_params.specs.Coding.{coding_with}
+use Rattle.jk_params.specs.CodingReading.{style_in as own_style, quantisation_in, coding_at, codings_from, codings_at, HaveStyles}
+use Rattle.jk_params.specs.Headers.{TileFields, tile_in, no_fields}
+use Rattle.jk_params.specs.HeadersReading.{AreCountable, IsProfileMain, ends_at, parts_seen, tiles_with, parts_from, with_place, with_coding, place_at}
 use Rattle.jk_params.proofs.CodingLaws.{planes_found, few_exponents}
 
 -- a number of layers that COD may say
@@ -64,7 +65,7 @@ cond_all P true k rest h hs = (h, hs)
 cond_all P false k rest h hs = hs
 
 -- the COD among segments are such
-pub cods_are : (heading : Heading) (n : ℕ) (ss : List Segment) → AllByRecursion (IsSegment heading n) ss → AllByRecursion (IsCod n) (codings ss)
+pub cods_are : (heading : Heading) (n : ℕ) (ss : List Segment) → AllByRecursion (IsSegment heading n) ss → AllByRecursion (IsCod n) (cods ss)
 cods_are heading n [] h = tt
 cods_are heading n (CodSegment c ∷ ss) h = (h.0.1, cods_are heading n ss h.1)
 cods_are heading n (CocSegment i k ∷ ss) h = cods_are heading n ss h.1
@@ -74,10 +75,10 @@ cods_are heading n (Passed m bytes ∷ ss) h = cods_are heading n ss h.1
 cods_are heading n (Alone m ∷ ss) h = cods_are heading n ss h.1
 
 -- the COC likewise
-pub styles_are : (heading : Heading) (n i : ℕ) (ss : List Segment) → AllByRecursion (IsSegment heading n) ss → AllByRecursion IsStyle (styles_of i ss)
+pub styles_are : (heading : Heading) (n i : ℕ) (ss : List Segment) → AllByRecursion (IsSegment heading n) ss → AllByRecursion IsStyle (cocs_of i ss)
 styles_are heading n i [] h = tt
 styles_are heading n i (CodSegment c ∷ ss) h = styles_are heading n i ss h.1
-styles_are heading n i (CocSegment j k ∷ ss) h = cond_all IsStyle (eqb i j) k (styles_of i ss) h.0.2 (styles_are heading n i ss h.1)
+styles_are heading n i (CocSegment j k ∷ ss) h = cond_all IsStyle (eqb i j) k (cocs_of i ss) h.0.2 (styles_are heading n i ss h.1)
 styles_are heading n i (QcdSegment q ∷ ss) h = styles_are heading n i ss h.1
 styles_are heading n i (QccSegment j q ∷ ss) h = styles_are heading n i ss h.1
 styles_are heading n i (Passed m bytes ∷ ss) h = styles_are heading n i ss h.1
@@ -95,17 +96,17 @@ no_style = record {
   precincts = record { count = inl refl; small = tt; whole = tt };
 }
 
-pub cod_style : (n : ℕ) (ss : List Segment) → AllByRecursion (IsCod n) (codings ss) → AllByRecursion (λ (c : Cod). IsStyle c.style) (codings ss)
-cod_style n ss h = all_mapped IsStyle (λ (c : Cod). c.style) (IsCod n) (λ c is. is.style) (codings ss) h
+pub cod_style : (n : ℕ) (ss : List Segment) → AllByRecursion (IsCod n) (cods ss) → AllByRecursion (λ (c : Cod). IsStyle c.style) (cods ss)
+cod_style n ss h = all_mapped IsStyle (λ (c : Cod). c.style) (IsCod n) (λ c is. is.style) (cods ss) h
 
-pub cod_layers : (n : ℕ) (ss : List Segment) → AllByRecursion (IsCod n) (codings ss) → AllByRecursion HasLayers (codings ss)
-cod_layers n ss h = all_mapped HasLayers (λ (c : Cod). c) (IsCod n) (λ c is. (is.some_layers, is.few_layers)) (codings ss) h
+pub cod_layers : (n : ℕ) (ss : List Segment) → AllByRecursion (IsCod n) (cods ss) → AllByRecursion HasLayers (cods ss)
+cod_layers n ss h = all_mapped HasLayers (λ (c : Cod). c) (IsCod n) (λ c is. (is.some_layers, is.few_layers)) (cods ss) h
 
 given_four : (f : ℕ → Option CodingStyle) → ((i : ℕ) → ForGiven IsStyle (f i)) → AllByRecursion (ForGiven IsStyle) (f 0 ∷ f 1 ∷ f 2 ∷ f 3 ∷ [])
 given_four f h = (h 0, (h 1, (h 2, (h 3, tt))))
 
 pub head_cods : (heading : Heading) (n : ℕ) (ss : List Segment) → AllByRecursion (IsSegment heading n) ss → ForGiven HasLayers (head_of ss).cod
-head_cods heading n ss h = first_all HasLayers (codings ss) (cod_layers n ss (cods_are heading n ss h))
+head_cods heading n ss h = first_all HasLayers (cods ss) (cod_layers n ss (cods_are heading n ss h))
 
 -- the coding styles of what is kept of well-formed segments
 pub styles_kept : (heading : Heading) (n : ℕ) (main : Main) (ss : List Segment) → IsStyle main.cod.style → AllByRecursion (ForGiven IsStyle) main.coc → AllByRecursion (IsSegment heading n) ss
@@ -113,20 +114,20 @@ pub styles_kept : (heading : Heading) (n : ℕ) (main : Main) (ss : List Segment
 styles_kept heading n main ss cod coc h = record {
   main_cod = cod;
   main_coc = coc;
-  head_cod = first_all (λ (c : Cod). IsStyle c.style) (codings ss) (cod_style n ss (cods_are heading n ss h));
-  head_coc = given_four (λ i. first (styles_of i ss)) (λ i. first_all IsStyle (styles_of i ss) (styles_are heading n i ss h));
+  head_cod = first_all (λ (c : Cod). IsStyle c.style) (cods ss) (cod_style n ss (cods_are heading n ss h));
+  head_coc = given_four (λ i. first (cocs_of i ss)) (λ i. first_all IsStyle (cocs_of i ss) (styles_are heading n i ss h));
 }
 
-pub good_main : (siz : Siz) (segments : List Segment) → IsMain siz segments → IsGood (main_of siz segments)
+pub good_main : (siz : Siz) (segments : List Segment) → IsMain siz segments → IsProfileMain (main_of siz segments)
 good_main siz segments is =
     let n = siz.components in
     let each = is.well_formed.each in
-    let cods = cods_are MainHeader n segments each in
-    let cod = or_holds (λ (c : Cod). IsStyle c.style) no_coding (first (codings segments)) no_style (first_all (λ (c : Cod). IsStyle c.style) (codings segments) (cod_style n segments cods)) in
-    let coc = given_four (λ i. first (styles_of i segments)) (λ i. first_all IsStyle (styles_of i segments) (styles_are MainHeader n i segments each)) in
+    let every_cod = cods_are MainHeader n segments each in
+    let cod = or_holds (λ (c : Cod). IsStyle c.style) no_coding (first (cods segments)) no_style (first_all (λ (c : Cod). IsStyle c.style) (cods segments) (cod_style n segments every_cod)) in
+    let coc = given_four (λ i. first (cocs_of i segments)) (λ i. first_all IsStyle (cocs_of i segments) (styles_are MainHeader n i segments each)) in
     record {
       siz = is.size;
-      layers = (or_holds HasLayers no_coding (first (codings segments)) (lit≤ tt, lit≤ tt) (head_cods MainHeader n segments each)).0;
+      layers = (or_holds HasLayers no_coding (first (cods segments)) (lit≤ tt, lit≤ tt) (head_cods MainHeader n segments each)).0;
       styles = styles_kept MainHeader n (main_of siz segments) [] cod coc tt;
     }
 
@@ -210,7 +211,7 @@ good_codings main head ks some few h e =
     let len : length ks ≡ main.siz.components = omega (arith, g.1) in
     (record { some = omega (arith, len, some); few = omega (arith, len, few); each = λ c lt. all_at IsCoding _ ks g.0 c lt }, len)
 
-set_counted : (tiles : List TileFields) (i : ℕ) (x : TileFields) → AreCounted tiles → (i < length tiles → (1 ≤ x.cod.layers) × AreCodings x.codings) → AreCounted (set tiles i x)
+set_counted : (tiles : List TileFields) (i : ℕ) (x : TileFields) → AreCountable tiles → (i < length tiles → (1 ≤ x.cod.layers) × AreCodings x.codings) → AreCountable (set tiles i x)
 set_counted tiles i x h new t lt = go (eqb t i) refl
   where
     within : t < length tiles
@@ -226,8 +227,8 @@ set_counted tiles i x h new t lt = go (eqb t i) refl
         let here : tile_in (set tiles i x) t ≡ tile_in tiles t = get_or-set_other tiles i t x no_fields (eqb-false t i e) in
         subst (λ (f : TileFields). (1 ≤ f.cod.layers) × AreCodings f.codings) (sym here) (h t within)
 
-pub tiles_counted : (main : Main) (at : ℕ) (part : TilePart) (tiles more : List TileFields) → IsGood main → HaveStyles main part.head → ForGiven HasLayers part.head.cod
-    → AreCounted tiles → tiles_with main at part tiles ≡ Ok more → AreCounted more × (length more ≡ length tiles)
+pub tiles_counted : (main : Main) (at : ℕ) (part : TilePart) (tiles more : List TileFields) → IsProfileMain main → HaveStyles main part.head → ForGiven HasLayers part.head.cod
+    → AreCountable tiles → tiles_with main at part tiles ≡ Ok more → AreCountable more × (length more ≡ length tiles)
 unfolding tiles_with
 tiles_counted main at part tiles more good styles layers h e =
     let t = part.tile in
@@ -241,18 +242,18 @@ tiles_counted main at part tiles more good styles layers h e =
           let same : set tiles t (new ks) ≡ more = ok_is _ more e in
           let are = good_codings main part.head ks good.siz.some_components good.siz.few_components styles s in
           let some : 1 ≤ cod.layers = or_holds (λ (c : Cod). 1 ≤ c.layers) main.cod part.head.cod good.layers (some_layers part.head.cod layers) in
-          (subst AreCounted same (set_counted tiles t (new ks) h (λ _. (some, are.0))), sym (ap (λ (x : List TileFields). length x) same) ∙ length-set tiles t (new ks)))
+          (subst AreCountable same (set_counted tiles t (new ks) h (λ _. (some, are.0))), sym (ap (λ (x : List TileFields). length x) same) ∙ length-set tiles t (new ks)))
       | inr w ↦
           let same : set tiles t (with_place old place) ≡ more = ok_is _ more w.1 in
-          (subst AreCounted same (set_counted tiles t (with_place old place) h (λ lt. h t lt)), sym (ap (λ (x : List TileFields). length x) same) ∙ length-set tiles t (with_place old place))
+          (subst AreCountable same (set_counted tiles t (with_place old place) h (λ lt. h t lt)), sym (ap (λ (x : List TileFields). length x) same) ∙ length-set tiles t (with_place old place))
     ]
   where
     some_layers : (o : Option Cod) → ForGiven HasLayers o → ForGiven (λ (c : Cod). 1 ≤ c.layers) o
     some_layers None h = tt
     some_layers (Some c) h = h.0
 
-pub counted_parts : (k : ℕ) (main : Main) (bytes : List ℕ) (at : ℕ) (tiles out : List TileFields) → AreBytes bytes → IsGood main → AreCounted tiles → parts_from k main bytes at tiles ≡ Ok out
-    → AreCounted out × (length out ≡ length tiles)
+pub counted_parts : (k : ℕ) (main : Main) (bytes : List ℕ) (at : ℕ) (tiles out : List TileFields) → AreBytes bytes → IsProfileMain main → AreCountable tiles → parts_from k main bytes at tiles ≡ Ok out
+    → AreCountable out × (length out ≡ length tiles)
 unfolding parts_from
 counted_parts zero main bytes at tiles out fits good h e = absurd cc
 counted_parts (suc k) main bytes at tiles out fits good h e =
@@ -271,7 +272,7 @@ counted_parts (suc k) main bytes at tiles out fits good h e =
     elim (chosen ends (Ok more) (parts_from k main bytes (at + part.end) more) (Ok out) e) [
       | inl w ↦
           let same : more ≡ out = ok_is more out w.1 in
-          (subst AreCounted same now.0, sym (ap (λ (x : List TileFields). length x) same) ∙ now.1)
+          (subst AreCountable same now.0, sym (ap (λ (x : List TileFields). length x) same) ∙ now.1)
       | inr w ↦
           let rest = counted_parts k main bytes (at + part.end) more out fits good now.0 w.1 in
           (rest.0, rest.1 ∙ now.1)

@@ -12,9 +12,7 @@ use Rattle.jk_marks.specs.Siz.{tile_count}
 use Rattle.jk_marks.specs.Segments.{Segment}
 use Rattle.jk_marks.specs.Codestream.{Part, main_text, main_of, part_text, part_length, place_of, codestream_text, of_tile, IsMain, IsPart, AreClosedBeforeLast, BeginsMain, BeginsWith}
 use Rattle.jk_marks.specs.HeaderReading.{part_at}
-use Rattle.jk_marks.proofs.Steps.{number_again}
-use Rattle.jk_marks.proofs.MainLaws.{only_main}
-use Rattle.jk_marks.proofs.PartLaws.{only_part}
+use Rattle.jk_marks.proofs.Laws.{number_again, only_main, only_part}
 use Rattle.jk_params.specs.Coding.{codings_of}
 use Rattle.jk_params.specs.Headers.{Headers, head_segments, cod_for, headers_of, packets_alike, packets_of, most_packets, IsHeaders}
 use Rattle.jk_params.specs.HeadersReading.{ends_at, tiles_with, parts_seen, parts_from, blank_tiles, main_fields_at, tiles_at, headers_at}

@@ -18,15 +18,14 @@ use Rattle.jk_marks.specs.Segments.{Segment}
 use Rattle.jk_marks.specs.Codestream.{Part, main_text, main_of, part_text, part_length, codestream_text, of_tile, head_of, IsMain, IsPart, AreParts, AreClosedBeforeLast}
 use Rattle.jk_marks.specs.Reading.{number}
 use Rattle.jk_marks.specs.HeaderReading.{main_at, part_at}
-use Rattle.jk_marks.proofs.Numbers.{AreBytes, are_bytes_after}
-use Rattle.jk_marks.proofs.Steps.{number_goes, number_again}
-use Rattle.jk_marks.proofs.MainLaws.{found_main}
-use Rattle.jk_marks.proofs.PartLaws.{found_part}
-use Rattle.jk_params.specs.Coding.{codings_of, codings_at}
-use Rattle.jk_params.specs.Headers.{Headers, TileFields, places_from, head_segments, cod_for, headers_of, no_fields, packets_alike, packets_of, most_packets, IsHeaders}
+use Rattle.jk_math.proofs.Laws.{AreBytes, are_bytes_after}
+use Rattle.jk_marks.proofs.Laws.{number_goes, number_again, found_main, found_part}
+use Rattle.jk_params.specs.Coding.{codings_of}
+use Rattle.jk_params.specs.CodingReading.{codings_at}
+use Rattle.jk_params.specs.Headers.{Headers, TileFields, head_segments, cod_for, headers_of, no_fields, packets_alike, packets_of, most_packets, IsHeaders}
 use Rattle.jk_params.specs.HeadersReading.{ends_at, tiles_with, parts_seen, parts_from, blank_tiles, main_fields_at, tiles_at, headers_at}
 use Rattle.jk_params.proofs.GoodLaws.{all_more}
-use Rattle.jk_params.proofs.PlacesLaws.{part_text_length}
+use Rattle.jk_params.proofs.PlacesLaws.{places_from, part_text_length}
 use Rattle.jk_params.proofs.PartsLaws.{tree_of, tiles_said, said_at, said_length, seen_at, own_parts, other_parts, head_first, head_later, head_other, HavePlanes, codings_found, tiles_found}
 
 and_second : (x y : Bool) → x ≡ true → (x && y) ≡ false → y ≡ false

@@ -10,3 +10,6 @@ pub mod HeadersLaws
 pub mod HeadersAgain
 pub mod SoundLaws
 pub mod ProfileLaws
+pub mod CountLaws
+pub mod ContentLaws
+pub mod Laws

@@ -4,7 +4,7 @@ use Rattle.jk_math.specs.Answer.{◌>>=◌}
 use Rattle.jk_marks.specs.declared.coding.Coding.{Coding}
 use Rattle.jk_marks.specs.declared.head.TileHead.{TileHead}
 use Rattle.jk_marks.specs.declared.main_header.Main.{Main}
-use Rattle.jk_params.specs.Coding.{coding_at, codings_from}
+use Rattle.jk_params.specs.CodingReading.{coding_at, codings_from}
 use Rattle.jk_params.specs.Headers.{total}
 
 pub codings_more : (main : Main) (head : TileHead) (n c : ℕ) (done : List Coding) → c < n → codings_from main head (n - c) c done ≡ (coding_at main (Some head) c >>= λ k. codings_from main head (n - (c + 1)) (c + 1) (done ++ k ∷ []))

@@ -10,13 +10,14 @@ use Rattle.jk_marks.specs.declared.siz.Siz.{Siz}
 use Rattle.jk_marks.specs.declared.coding.Coding.{Coding}
 use Rattle.jk_marks.specs.declared.segments.Cod.{Cod}
 use Rattle.jk_marks.specs.Siz.{tile_count}
-use Rattle.jk_marks.specs.Segments.{Segment, codings}
+use Rattle.jk_marks.specs.Segments.{Segment, cods}
 use Rattle.jk_marks.specs.Codestream.{Part, Tree, main_text, part_text, first, head_of, main_of, or_else, no_coding, of_tile, place_of}
-use Rattle.jk_params.specs.Coding.{coding_of, codings_of, coding_with, style_in, quantisation_in, coding_at, codings_from, codings_at, planes_at, HasPlanes}
-use Rattle.jk_params.specs.Headers.{TileFields, places_from, head_segments, cod_for, fields_of, tile_in, no_fields}
+use Rattle.jk_params.specs.Coding.{coding_of, codings_of, coding_with, HasPlanes}
+use Rattle.jk_params.specs.CodingReading.{style_in, quantisation_in, coding_at, codings_from, codings_at, planes_at}
+use Rattle.jk_params.specs.Headers.{TileFields, head_segments, cod_for, fields_of, tile_in, no_fields}
 use Rattle.jk_params.specs.HeadersReading.{parts_seen, tiles_with, with_place, with_coding, place_at}
 use Rattle.jk_params.proofs.CodingLaws.{planes_found, planes_again, few_exponents, coding_same}
-use Rattle.jk_params.proofs.PlacesLaws.{put, place_in, places_more, places_count, of_tile_more}
+use Rattle.jk_params.proofs.PlacesLaws.{places_from, places_are, put, place_in, places_more, places_count, of_tile_more}
 
 abbrev pub tree_of : Siz → List Segment → List Part → Tree
 tree_of siz segments parts = record { siz = siz; segments = segments; parts = parts }
@@ -31,7 +32,8 @@ fields_with siz segments head places = record { cod = cod_for segments head; cod
 fields_are : (siz : Siz) (segments : List Segment) (parts : List Part) (t : ℕ)
     → fields_of (tree_of siz segments parts) t ≡ fields_with siz segments (head_segments (of_tile t parts)) (places_from (length (main_text siz segments)) parts t)
 unfolding fields_of
-fields_are siz segments parts t = refl
+fields_are siz segments parts t =
+    ap (λ (places : List (ℕ × ℕ)). fields_with siz segments (head_segments (of_tile t parts)) places) (places_are (tree_of siz segments parts) t)
 
 pub said_at : (siz : Siz) (segments : List Segment) (parts : List Part) (t : ℕ) → t < tile_count siz
     → tile_in (tiles_said siz segments parts) t ≡ fields_with siz segments (head_segments (of_tile t parts)) (places_from (length (main_text siz segments)) parts t)
@@ -168,7 +170,7 @@ first_fields siz segments parts p at ks tile none at-is ks-is =
     let start = length (main_text siz segments) in
     let place = place_in at p in
     let make : Cod → List Coding → List (ℕ × ℕ) → TileFields = λ c k ps. record { cod = c; codings = k; data_places = ps } in
-    let cod-is : or_else (main_of siz segments).cod (head_of p.segments).cod ≡ cod_for segments p.segments = sym (first_joined no_coding (codings p.segments) (codings segments)) in
+    let cod-is : or_else (main_of siz segments).cod (head_of p.segments).cod ≡ cod_for segments p.segments = sym (first_joined no_coding (cods p.segments) (cods segments)) in
     let old = ap (λ (f : TileFields). f.data_places) (said_at siz segments parts p.tile tile) in
     ap (λ (ps : List (ℕ × ℕ)). make (or_else (main_of siz segments).cod (head_of p.segments).cod) ks (ps ++ place ∷ [])) old
     ∙ ap (λ (ps : List (ℕ × ℕ)). make (or_else (main_of siz segments).cod (head_of p.segments).cod) ks ps) (sym (own_places start at parts p at-is))

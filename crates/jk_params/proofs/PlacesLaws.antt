@@ -1,13 +1,14 @@
 -- Where the data of tile-parts stand, and the parts of a tile, with one part more.
-use Rattle.std.proofs.Common.{◌≡◌, ℕ, suc, ◌+◌, ◌-◌, Bool, true, false, cond, eqb, List, [], ◌∷◌, ◌++◌, length, map, take, drop, refl, sym, ap, ◌∙◌, append_assoc, arith}
-use Rattle.std.specs.List.{flat_map}
-use Rattle.std.proofs.lemmas.List.{drop_at, take_at, length-append}
+use Rattle.std.proofs.Common.{◌≡◌, ℕ, suc, ◌+◌, ◌-◌, Bool, true, false, cond, eqb, List, [], ◌∷◌, ◌++◌, length, map, take, drop, get_or, sum_by, filter, refl, sym, ap, ◌∙◌, append_assoc, arith}
+use Rattle.std.specs.List.{flat_map, range_with_len}
+use Rattle.std.proofs.lemmas.List.{drop_at, take_at, length-append, map-id}
 use Rattle.std.proofs.lemmas.List.Elements.{filter-append}
+use Rattle.std.proofs.lemmas.List.Sums.{sum_by-cons}
 use Rattle.byteorder.specs.Endian.{big_bytes}
 use Rattle.jk_marks.specs.Markers.{sot, sod, eoc, marker_text}
 use Rattle.jk_marks.specs.Segments.{segment_text}
-use Rattle.jk_marks.specs.Codestream.{Part, Tree, main_text, part_text, part_length, psot, codestream_text, of_tile}
-use Rattle.jk_params.specs.Headers.{places_from}
+use Rattle.jk_marks.specs.Codestream.{Part, Tree, main_text, part_text, data_start, part_length, psot, codestream_text, of_tile}
+use Rattle.jk_params.specs.Headers.{part_in, data_place, places_of, no_part}
 
 -- x before the others, if the test says so
 abbrev pub put : {X : Type 0} → Bool → X → List X → List X
@@ -27,7 +28,39 @@ put_mapped f g false x y xs ys e h = h
 
 -- where the data of a part stand that begins at a place
 abbrev pub place_in : ℕ → Part → ℕ × ℕ
-place_in at p = (at + (14 + length (flat_map segment_text p.segments)), at + part_length p)
+place_in at p = (at + data_start p, at + part_length p)
+
+-- where the data of the parts of tile t stand, among parts that begin at a place, part by part
+unfoldable pub places_from : ℕ → List Part → ℕ → List (ℕ × ℕ)
+places_from at [] t = []
+places_from at (p ∷ parts) t = put (eqb p.tile t) (place_in at p) (places_from (at + part_length p) parts t)
+
+-- the same by the numbers of the parts
+by_number : (parts : List Part) (at t k : ℕ) (place : ℕ → ℕ × ℕ) (own : ℕ → Bool)
+    → ((i : ℕ) → place (k + i) ≡ place_in (at + sum_by part_length (take i parts)) (get_or parts i no_part)) → ((i : ℕ) → own (k + i) ≡ eqb (get_or parts i no_part).tile t)
+    → map place (filter own (range_with_len k (length parts))) ≡ places_from at parts t
+unfolding places_from
+by_number [] at t k place own place-is own-is = refl
+by_number (p ∷ parts) at t k place own place-is own-is =
+    let here : k + 0 ≡ k = omega arith in
+    let begins : at + 0 ≡ at = omega arith in
+    let first : place k ≡ place_in at p = ap place (sym here) ∙ place-is 0 ∙ ap (λ n. place_in n p) begins in
+    let mine : own k ≡ eqb p.tile t = ap own (sym here) ∙ own-is 0 in
+    let rest = by_number parts (at + part_length p) t (k + 1) place own
+    (λ i. (let next : k + 1 + i ≡ k + suc i = omega arith in
+    let sum : sum_by part_length (p ∷ take i parts) ≡ part_length p + sum_by part_length (take i parts) = sum_by-cons part_length p (take i parts) in
+    let far : at + sum_by part_length (p ∷ take i parts) ≡ at + part_length p + sum_by part_length (take i parts) = omega (arith, sum) in
+    ap place next ∙ place-is (suc i) ∙ ap (λ n. place_in n (get_or parts i no_part)) far))
+    (λ i. (let next : k + 1 + i ≡ k + suc i = omega arith in ap own next ∙ own-is (suc i))) in
+    ap (λ b. map place (put b k (filter own (range_with_len (k + 1) (length parts))))) mine
+    ∙ put_mapped place (λ (x : ℕ × ℕ). x) (eqb p.tile t) k (place_in at p) (filter own (range_with_len (k + 1) (length parts))) (places_from (at + part_length p) parts t) first
+    (rest ∙ sym (map-id (places_from (at + part_length p) parts t)))
+    ∙ map-id (put (eqb p.tile t) (place_in at p) (places_from (at + part_length p) parts t))
+
+pub places_are : (tree : Tree) (t : ℕ) → places_of tree t ≡ places_from (length (main_text tree.siz tree.segments)) tree.parts t
+places_are tree t =
+    let zero-is : (i : ℕ) → 0 + i ≡ i = λ i. omega arith in
+    by_number tree.parts (length (main_text tree.siz tree.segments)) t 0 (data_place tree) (λ i. eqb (part_in tree i).tile t) (λ i. ap (data_place tree) (zero-is i)) (λ i. ap (λ k. eqb (part_in tree k).tile t) (zero-is i))
 
 pub part_text_length : (p : Part) → length (part_text p) ≡ part_length p
 unfolding part_text
@@ -66,7 +99,7 @@ part_split p =
     ap (λ (x : List ℕ). marker_text sot ++ (big_bytes 2 10 ++ (big_bytes 2 p.tile ++ (big_bytes 4 (psot p) ++ (big_bytes 1 p.number ++ (big_bytes 1 p.total ++ x))))))
     (sym (append_assoc (flat_map segment_text p.segments) (marker_text sod) p.content))
 
-head_length : (p : Part) → length (head_text p) ≡ 14 + length (flat_map segment_text p.segments)
+head_length : (p : Part) → length (head_text p) ≡ data_start p
 head_length p = omega (arith, length-append (flat_map segment_text p.segments) (marker_text sod))
 
 -- the bytes at a place
@@ -77,7 +110,7 @@ content_at : (p : Part) (front rest bytes : List ℕ) (at : ℕ) → bytes ≡ f
 content_at p front rest bytes at e at-is =
     let head = head_text p in
     let content = p.content in
-    let start = at + (14 + length (flat_map segment_text p.segments)) in
+    let start = at + data_start p in
     let whole : bytes ≡ (front ++ head) ++ (content ++ rest) =
     e ∙ ap (λ (x : List ℕ). front ++ (x ++ rest)) (part_split p) ∙ ap (λ (x : List ℕ). front ++ x) (append_assoc head content rest) ∙ sym (append_assoc front head (content ++ rest)) in
     let before : length (front ++ head) ≡ start = omega (arith, length-append front head, head_length p, at-is) in
@@ -99,8 +132,10 @@ contents_at (p ∷ parts) front rest bytes at t e at-is =
     (content_at p front (others ++ rest) bytes at here at-is) (contents_at parts (front ++ part_text p) rest bytes next t behind size)
 
 -- the bytes at the places of a tile are the data of its parts
-pub contents_of : (bytes : List ℕ) (tree : Tree) (t : ℕ) → bytes ≡ codestream_text tree
-    → map (λ (place : ℕ × ℕ). take (place.1 - place.0) (drop place.0 bytes)) (places_from (length (main_text tree.siz tree.segments)) tree.parts t)
-    ≡ map (λ (p : Part). p.content) (of_tile t tree.parts)
+pub contents_from : (bytes : List ℕ) (tree : Tree) (t : ℕ) → bytes ≡ codestream_text tree
+    → map (bytes_at bytes) (places_from (length (main_text tree.siz tree.segments)) tree.parts t) ≡ map (λ (p : Part). p.content) (of_tile t tree.parts)
 unfolding codestream_text
-contents_of bytes tree t e = contents_at tree.parts (main_text tree.siz tree.segments) (marker_text eoc) bytes (length (main_text tree.siz tree.segments)) t e refl
+contents_from bytes tree t e = contents_at tree.parts (main_text tree.siz tree.segments) (marker_text eoc) bytes (length (main_text tree.siz tree.segments)) t e refl
+
+pub contents_of : (bytes : List ℕ) (tree : Tree) (t : ℕ) → bytes ≡ codestream_text tree → map (bytes_at bytes) (places_of tree t) ≡ map (λ (p : Part). p.content) (of_tile t tree.parts)
+contents_of bytes tree t e = ap (λ (places : List (ℕ × ℕ)). map (bytes_at bytes) places) (places_are tree t) ∙ contents_from bytes tree t e

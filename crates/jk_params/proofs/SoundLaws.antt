@@ -10,13 +10,13 @@ use Rattle.jk_marks.specs.declared.head.Heading.TheVariants.{MainHeader}
 use Rattle.jk_marks.specs.Markers.{eoc, marker_text}
 use Rattle.jk_marks.specs.Coding.{IsCoding}
 use Rattle.jk_marks.specs.Siz.{tile_count, IsSiz}
-use Rattle.jk_marks.specs.Segments.{Segment, IsCod, IsStyle, codings, styles_of}
+use Rattle.jk_marks.specs.Segments.{Segment, IsCod, IsStyle, cods, cocs_of}
 use Rattle.jk_marks.specs.Codestream.{Part, Tree, main_text, part_text, part_length, codestream_text, of_tile, first, no_coding, heading_of, IsPart}
 use Rattle.jk_geom.specs.TileShapes.{AreCodings, no_coding as no_component}
 use Rattle.jk_params.specs.Coding.{style_for, quantisation_for, coding_of, codings_of, HasPlanes}
-use Rattle.jk_params.specs.Headers.{Headers, places_from, head_segments, cod_for, headers_of, tile_in, packets_of, most_packets, IsHeaders, AreFields, AreHeaders}
+use Rattle.jk_params.specs.Headers.{Headers, head_segments, cod_for, headers_of, tile_in, packets_of, most_packets, IsHeaders, AreFields, AreHeaders}
 use Rattle.jk_params.proofs.GoodLaws.{HasLayers, first_all, or_holds, cods_are, styles_are, cod_style, cod_layers, no_style, coding_is}
-use Rattle.jk_params.proofs.PlacesLaws.{put, place_in, part_text_length}
+use Rattle.jk_params.proofs.PlacesLaws.{places_from, put, place_in, part_text_length}
 use Rattle.jk_params.proofs.PartsLaws.{tiles_said, said_at, said_length, fields_with}
 
 all_joined : {X : Type 0} (P : X → Type 0) (xs ys : List X) → AllByRecursion P xs → AllByRecursion P ys → AllByRecursion P (xs ++ ys)
@@ -46,31 +46,31 @@ head_all siz P none some (p ∷ parts) h = some p h.0
 
 -- the COD and COC among segments are such
 record AreSaid (n : ℕ) (ss : List Segment) : Type 0 where
-  cods : AllByRecursion (IsCod n) (codings ss)
-  styles : (i : ℕ) → AllByRecursion IsStyle (styles_of i ss)
+  every_cod : AllByRecursion (IsCod n) (cods ss)
+  styles : (i : ℕ) → AllByRecursion IsStyle (cocs_of i ss)
 
 part_said : (siz : Siz) (p : Part) → IsPart siz p → AreSaid siz.components p.segments
 part_said siz p is =
     let each = is.well_formed.each in
     let heading = heading_of p.number in
-    record { cods = cods_are heading siz.components p.segments each; styles = λ i. styles_are heading siz.components i p.segments each }
+    record { every_cod = cods_are heading siz.components p.segments each; styles = λ i. styles_are heading siz.components i p.segments each }
 
 style_for_is : (n : ℕ) (main head : List Segment) (i : ℕ) → AreSaid n main → AreSaid n head → IsStyle (style_for main head i)
 style_for_is n main head i m h =
     let style : Cod → CodingStyle = λ c. c.style in
-    let a = styles_of i head in
-    let b = map style (codings head) in
-    let c = styles_of i main in
-    let d = map style (codings main) in
-    let last = map_all IsStyle style (codings main) (cod_style n main m.cods) in
+    let a = cocs_of i head in
+    let b = map style (cods head) in
+    let c = cocs_of i main in
+    let d = map style (cods main) in
+    let last = map_all IsStyle style (cods main) (cod_style n main m.every_cod) in
     let third = all_joined IsStyle c d (m.styles i) last in
-    let second = all_joined IsStyle b (c ++ d) (map_all IsStyle style (codings head) (cod_style n head h.cods)) third in
+    let second = all_joined IsStyle b (c ++ d) (map_all IsStyle style (cods head) (cod_style n head h.every_cod)) third in
     or_holds IsStyle no_coding.style (first (a ++ (b ++ (c ++ d)))) no_style (first_all IsStyle (a ++ (b ++ (c ++ d))) (all_joined IsStyle a (b ++ (c ++ d)) (h.styles i) second))
 
 cod_for_has : (n : ℕ) (main head : List Segment) → AreSaid n main → AreSaid n head → HasLayers (cod_for main head)
 cod_for_has n main head m h =
-    or_holds HasLayers no_coding (first (codings head ++ codings main)) (lit≤ tt, lit≤ tt)
-    (first_all HasLayers (codings head ++ codings main) (all_joined HasLayers (codings head) (codings main) (cod_layers n head h.cods) (cod_layers n main m.cods)))
+    or_holds HasLayers no_coding (first (cods head ++ cods main)) (lit≤ tt, lit≤ tt)
+    (first_all HasLayers (cods head ++ cods main) (all_joined HasLayers (cods head) (cods main) (cod_layers n head h.every_cod) (cod_layers n main m.every_cod)))
 
 codings_of_are : (n components : ℕ) (main head : List Segment) → 1 ≤ components → components ≤ 4 → AreSaid n main → AreSaid n head → AreCodings (codings_of components main head)
 codings_of_are n components main head some few m h =
@@ -121,7 +121,7 @@ sound_headers bytes h is = subst (AreHeaders (length bytes)) (sym is.says) sound
     said : AreSaid siz.components segments
     said =
         let each = is.spelled.header.well_formed.each in
-        record { cods = cods_are MainHeader siz.components segments each; styles = λ i. styles_are MainHeader siz.components i segments each }
+        record { every_cod = cods_are MainHeader siz.components segments each; styles = λ i. styles_are MainHeader siz.components i segments each }
 
     within : length front + length (flat_map part_text parts) ≤ length bytes
     within =
@@ -132,7 +132,7 @@ sound_headers bytes h is = subst (AreHeaders (length bytes)) (sym is.says) sound
     fields t lt =
         let head = head_segments (of_tile t parts) in
         let told : AreSaid siz.components head =
-        head_all siz (AreSaid siz.components) (record { cods = tt; styles = λ i. tt }) (part_said siz) (of_tile t parts) (tile_all (IsPart siz) t parts is.spelled.parts.each) in
+        head_all siz (AreSaid siz.components) (record { every_cod = tt; styles = λ i. tt }) (part_said siz) (of_tile t parts) (tile_all (IsPart siz) t parts is.spelled.parts.each) in
         let layers = cod_for_has siz.components segments head said told in
         let places = places_from (length front) parts t in
         let here : AreFields siz.components (length bytes) (fields_with siz segments head places) = record {

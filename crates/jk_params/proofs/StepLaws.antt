@@ -7,13 +7,14 @@ use Rattle.jk_math.specs.Steps.{bind_then, chosen, ok_is}
 use Rattle.jk_math.specs.Answer.{◌>>=◌, Refuses, Answers}
 use Rattle.jk_math.specs.declared.fault.Fault.{Fault}
 use Rattle.jk_math.specs.declared.fault.Fault.TheVariants.{Memory, Truncated}
+use Rattle.jk_math.specs.Memory.{IsMemory}
 use Rattle.jk_marks.specs.declared.coding.Coding.{Coding}
 use Rattle.jk_marks.specs.declared.segments.Cod.{Cod}
 use Rattle.jk_marks.specs.declared.main_header.Main.{Main}
 use Rattle.jk_marks.specs.declared.tile_part.TilePart.{TilePart}
 use Rattle.jk_marks.specs.Codestream.{or_else}
 use Rattle.jk_marks.specs.HeaderReading.{part_at}
-use Rattle.jk_params.specs.Coding.{codings_at}
+use Rattle.jk_params.specs.CodingReading.{codings_at}
 use Rattle.jk_params.specs.Headers.{TileFields, no_fields, tile_in}
 use Rattle.jk_params.specs.HeadersReading.{place_at, with_place, with_coding, tiles_with, parts_seen, ends_at, parts_from}
 
@@ -39,7 +40,7 @@ pub first_part : (main : Main) (at : ℕ) (part : TilePart) (tiles one new : Lis
     → part.part ≡ 0 → codings_at main part.head ≡ Ok ks → cod ≡ or_else main.cod part.head.cod → part.tile < length tiles
     → one ≡ set tiles part.tile (with_coding (tile_in tiles part.tile) cod ks)
     → OnOk r (new ≡ set one part.tile (with_place (tile_in one part.tile) (place_at at part)))
-    → IfErr r (λ e. e ≡ Memory)
+    → IfErr r (λ e. IsMemory e)
     → Answers (λ _. new) r (tiles_with main at part tiles)
 first_part main at part tiles one new cod ks (Ok x) zeroth e cod-is lt one-is new-is no_fault =
     let place = place_at at part in
@@ -48,7 +49,8 @@ first_part main at part tiles one new cod ks (Ok x) zeroth e cod-is lt one-is ne
     let given : new ≡ set tiles t (with_place a place) =
     new-is ∙ ap (λ (fs : List TileFields). set fs t (with_place (tile_in fs t) place)) one-is ∙ place_twice tiles t a place lt in
     first_due main at part tiles ks zeroth e ∙ ap (λ (k : Cod). Ok (set tiles t (with_place (with_coding (tile_in tiles t) k ks) place))) (sym cod-is) ∙ ap Ok (sym given)
-first_part main at part tiles one new cod ks (Err f) zeroth e cod-is lt one-is new-is fault = subst (λ (g : Fault). Refuses g (tiles_with main at part tiles)) (sym fault) tt
+first_part main at part tiles one new cod ks (Err (Memory m)) zeroth e cod-is lt one-is new-is fault = tt
+first_part main at part tiles one new cod ks (Err f) zeroth e cod-is lt one-is new-is fault = absurd fault
 
 -- one step of the walk
 pub parts_more : (n i : ℕ) (main : Main) (bytes : List ℕ) (at : ℕ) (tiles : List TileFields) → i < n → parts_from (n - i) main bytes at tiles
@@ -66,7 +68,7 @@ parts_over n i main bytes at tiles le =
     ap (λ k. parts_from k main bytes at tiles) k ∙ refl
 
 pub refuses_bind : {A B : Type 0} (e : Fault) (r : Result A Fault) (f : A → Result B Fault) → Refuses e r → Refuses e (r >>= f)
-refuses_bind Memory r f h = tt
+refuses_bind (Memory m) r f h = tt
 refuses_bind e r f h = rw h refl
 
 -- what the walk answers where a step of it answers a fault

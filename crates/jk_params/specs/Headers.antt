@@ -1,17 +1,16 @@
 -- What the headers of a codestream say (T.800 A.6): the image and tile size, and for each tile its coding and where its data stand.
-use Rattle.std.specs.Prelude.{◌≡◌, ℕ, zero, suc, ◌+◌, ◌^◌, ◌<◌, ◌≤◌, List, [], ◌∷◌, ◌++◌, length, map, slice_index_or, ◌==◌, if◌then◌else◌}
-use Rattle.std.specs.List.{flat_map, range_with_len, AllByRecursion}
+use Rattle.std.specs.Prelude.{◌≡◌, ℕ, zero, suc, ◌+◌, ◌^◌, ◌<◌, ◌≤◌, false, List, [], ◌∷◌, ◌++◌, length, map, take, filter, sum_by, slice_index_or, ◌==◌}
+use Rattle.std.specs.List.{range_with_len, AllByRecursion}
 use Rattle.jk_marks.specs.declared.siz.Siz.{Siz}
 use Rattle.jk_marks.specs.declared.segments.Cod.{Cod}
 use Rattle.jk_marks.specs.declared.coding.Coding.{Coding}
-use Rattle.jk_marks.specs.declared.main_header.Main.{Main}
 use Rattle.jk_marks.specs.Siz.{IsSiz, tile_count}
-use Rattle.jk_marks.specs.Segments.{Segment, segment_text, codings}
-use Rattle.jk_marks.specs.Codestream.{Part, Tree, main_text, part_length, of_tile, no_coding, or_else, first, head_of, IsCodestream}
+use Rattle.jk_marks.specs.Segments.{Segment, cods}
+use Rattle.jk_marks.specs.Codestream.{Part, Tree, main_text, data_start, part_length, of_tile, no_coding, first_given, IsCodestream}
 use Rattle.jk_geom.specs.Rectangles.{tile_area}
 use Rattle.jk_geom.specs.TileShapes.{AreCodings}
 use Rattle.jk_geom.specs.Counts.{packet_number}
-use Rattle.jk_params.specs.Coding.{coding_of, codings_of, HasPlanes, HaveStyles}
+use Rattle.jk_params.specs.Coding.{coding_of, codings_of, HasPlanes}
 
 -- a tile: its COD, the codings of its components, and the places of the data of its parts in the codestream
 pub record TileFields : Type 0 where
@@ -23,12 +22,25 @@ pub record Headers : Type 0 where
   pub siz : Siz
   pub tiles : List TileFields
 
--- where the data of the parts of tile t stand, among parts that begin at a place
-unfoldable pub places_from : ℕ → List Part → ℕ → List (ℕ × ℕ)
-places_from at [] t = []
-places_from at (p ∷ parts) t =
-    if p.tile == t then (at + (14 + length (flat_map segment_text p.segments)), at + part_length p) ∷ places_from (at + part_length p) parts t
-    else places_from (at + part_length p) parts t
+-- stands where a part isn't
+abbrev pub no_part : Part
+no_part = record { tile = 0; is_open = false; number = 0; total = 0; segments = []; content = [] }
+
+-- part number i, where all parts are counted
+abbrev pub part_in : Tree → ℕ → Part
+part_in tree i = slice_index_or tree.parts i no_part
+
+-- where it begins: behind the main header and the parts before it
+abbrev pub part_start : Tree → ℕ → ℕ
+part_start tree i = length (main_text tree.siz tree.segments) + sum_by part_length (take i tree.parts)
+
+-- where its data stand
+abbrev pub data_place : Tree → ℕ → ℕ × ℕ
+data_place tree i = (part_start tree i + data_start (part_in tree i), part_start tree i + part_length (part_in tree i))
+
+-- where the data of the parts of tile t stand
+abbrev pub places_of : Tree → ℕ → List (ℕ × ℕ)
+places_of tree t = map (data_place tree) (filter (λ i. (part_in tree i).tile == t) (range_with_len 0 (length tree.parts)))
 
 -- the segments of the first part of a tile
 abbrev pub head_segments : List Part → List Segment
@@ -37,14 +49,14 @@ head_segments (p ∷ parts) = p.segments
 
 -- the COD of a tile: its own before that of the main header
 abbrev pub cod_for : (main head : List Segment) → Cod
-cod_for main head = or_else no_coding (first (codings head ++ codings main))
+cod_for main head = first_given no_coding (cods head ++ cods main)
 
 -- the fields of a tile
 unfoldable pub fields_of : Tree → ℕ → TileFields
 fields_of tree t = record {
   cod = cod_for tree.segments (head_segments (of_tile t tree.parts));
   codings = codings_of tree.siz.components tree.segments (head_segments (of_tile t tree.parts));
-  data_places = places_from (length (main_text tree.siz tree.segments)) tree.parts t;
+  data_places = places_of tree t;
 }
 
 unfoldable pub headers_of : Tree → Headers
@@ -85,16 +97,6 @@ pub record IsHeaders (bytes : List ℕ) (h : Headers) : Type 0 where
   pub main_few : packets_alike tree.siz (cod_for tree.segments []).layers (codings_of tree.siz.components tree.segments []) ≤ most_packets
   pub planes : (t c : ℕ) → t < tile_count tree.siz → c < tree.siz.components → HasPlanes (coding_of tree.segments (head_segments (of_tile t tree.parts)) c)
   pub few : packets_of h.siz h.tiles ≤ most_packets
-
--- the packets of each tile can be counted
-abbrev pub AreCounted : List TileFields → Type 0
-AreCounted tiles = (t : ℕ) → t < length tiles → (1 ≤ (tile_in tiles t).cod.layers) × AreCodings (tile_in tiles t).codings
-
--- A main header of the profile: its size, a layer or more, its coding styles.
-pub record IsGood (main : Main) : Type 0 where
-  pub siz : IsSiz main.siz
-  pub layers : 1 ≤ main.cod.layers
-  pub styles : HaveStyles main (head_of [])
 
 -- the fields of a tile in a codestream of a size
 pub record AreFields (components size : ℕ) (f : TileFields) : Type 0 where

@@ -1,5 +1,5 @@
 -- Reading the headers of a codestream from left to right, with the first fault that is met.
-use Rattle.std.specs.Prelude.{ℕ, zero, suc, ◌+◌, Bool, List, [], ◌∷◌, ◌++◌, length, map, replicate, drop, not, ◌==◌, nat_lt, ◌&&◌, slice_set, if◌then◌else◌, Result, Ok, Err}
+use Rattle.std.specs.Prelude.{ℕ, zero, suc, ◌+◌, ◌<◌, ◌≤◌, Bool, List, [], ◌∷◌, ◌++◌, length, map, replicate, drop, not, ◌==◌, nat_lt, ◌&&◌, slice_set, if◌then◌else◌, Result, Ok, Err}
 use Rattle.jk_math.specs.Answer.{◌>>=◌, refuse}
 use Rattle.jk_math.specs.declared.fault.Fault.{Fault}
 use Rattle.jk_math.specs.declared.fault.Fault.TheVariants.{BadMarker, SurplusBytes, Limit, Truncated}
@@ -9,11 +9,12 @@ use Rattle.jk_marks.specs.declared.main_header.Main.{Main}
 use Rattle.jk_marks.specs.declared.tile_part.TilePart.{TilePart}
 use Rattle.jk_marks.specs.Markers.{sot, eoc}
 use Rattle.jk_marks.specs.Place.{closed}
-use Rattle.jk_marks.specs.Siz.{tile_count}
+use Rattle.jk_marks.specs.Siz.{tile_count, IsSiz}
 use Rattle.jk_marks.specs.Codestream.{head_of, or_else}
 use Rattle.jk_marks.specs.Reading.{number}
 use Rattle.jk_marks.specs.HeaderReading.{main_at, part_at}
-use Rattle.jk_params.specs.Coding.{codings_at}
+use Rattle.jk_geom.specs.TileShapes.{AreCodings}
+use Rattle.jk_params.specs.CodingReading.{codings_at, HaveStyles}
 use Rattle.jk_params.specs.Headers.{Headers, TileFields, tile_in, packets_alike, packets_of, most_packets}
 
 -- Whether the codestream ends at a place: EOC, which is the end, or SOT, which begins a tile-part.
@@ -81,3 +82,13 @@ headers_at bytes = do
   m ← main_fields_at bytes
   tiles ← tiles_at m.0.0 bytes m.0.1 (blank_tiles (tile_count m.0.0.siz) m.0.0.cod m.1)
   Ok (record { siz = m.0.0.siz; tiles = tiles })
+
+-- the packets of each tile can be counted
+abbrev pub AreCountable : List TileFields → Type 0
+AreCountable tiles = (t : ℕ) → t < length tiles → (1 ≤ (tile_in tiles t).cod.layers) × AreCodings (tile_in tiles t).codings
+
+-- A main header of the profile: its size, a layer or more, its coding styles.
+pub record IsProfileMain (main : Main) : Type 0 where
+  pub siz : IsSiz main.siz
+  pub layers : 1 ≤ main.cod.layers
+  pub styles : HaveStyles main (head_of [])

@@ -1,7 +1,7 @@
 -- The images and parameters that are written.
 use Rattle.std.specs.Prelude.{◌≡◌, ℕ, ◌+◌, ◌*◌, ◌^◌, ◌≤◌, Bool, true, not, ◌&&◌, ◌||◌, ◌==◌, nat_lt, nat_le, List, [], length, drop, replicate, Option, Some, None, option_map}
 use Rattle.std.specs.List.{list_all}
-use Rattle.jk_math.specs.Picture.{Picture}
+use Rattle.jk_math.specs.Picture.{Picture, is_grey_or_rgb}
 use Rattle.jk_marks.specs.declared.siz.Siz.{Siz}
 use Rattle.jk_marks.specs.declared.segments.Cod.{Cod}
 use Rattle.jk_marks.specs.declared.coding.Coding.{Coding}
@@ -70,7 +70,7 @@ is_tile (Some t) = nat_le 1 t.0 && nat_lt t.0 (2 ^ 31) && nat_le 1 t.1 && nat_lt
 -- JP2 holds one or three unsigned components
 abbrev pub is_contained : Container → ℕ → Bool → Bool
 is_contained Raw components signed = true
-is_contained Jp2 components signed = not signed && ((components == 1) || (components == 3))
+is_contained Jp2 components signed = is_grey_or_rgb components signed
 
 -- how many tiles that makes
 abbrev pub tiles_of : Option (ℕ × ℕ) → Picture → ℕ

@@ -5,7 +5,8 @@ ghost use Rattle.std.specs.List.{list_any};
 ghost use Rattle.jk_marks.specs.Segments.{Segment};
 ghost use Rattle.jk_marks.specs.declared.siz.Siz.{Siz};
 ghost use Rattle.jk_marks.specs.Codestream.{main_of, head_of};
-ghost use Rattle.jk_params.specs.Coding.{every_precinct, style_in, quantisation_in, coding_with, coding_of, planes_at, head_or_none, coding_at, codings_at, HasPlanes};
+ghost use Rattle.jk_params.specs.Coding.{every_precinct, coding_with, coding_of, HasPlanes};
+ghost use Rattle.jk_params.specs.CodingReading.{style_in, quantisation_in, planes_at, head_or_none, coding_at, codings_at};
 
 use jk_geom::Codings;
 use jk_marks::{Coding, CodingStyle, Main, Precincts, Quantisation, TileHead};
@@ -58,7 +59,7 @@ fn precincts(style: &CodingStyle) -> Precincts
 }
 
 /// What a style and a quantization make.
-fn coding(style: &CodingStyle, steps: &Quantisation) -> Coding
+pub(crate) fn coding(style: &CodingStyle, steps: &Quantisation) -> Coding
     ensures { result ≡ coding_with style.now steps.now }
 {
     Coding {
@@ -91,7 +92,7 @@ fn has_many(guard: u8, exponents: &[u8]) -> bool
 }
 
 /// The coding, with its exponents judged.
-#[tactic(auto, unfolding(crate::specs::Coding::planes_at))]
+#[tactic(auto, unfolding(crate::specs::CodingReading::planes_at))]
 fn judged(coding: Coding) -> Result<Coding, Fault>
     ensures { result ≡ planes_at coding }
 {

@@ -6,11 +6,13 @@ mod count;
 mod headers;
 mod parameters;
 mod profile;
+mod spelling;
 mod table;
 mod walk;
 
 pub use coding::effective;
 pub use headers::Codestream;
 pub use parameters::{Container, Parameters};
-pub use profile::{codings_for, siz_of};
+pub use profile::{cod_of, codings_for, siz_of};
+pub use spelling::one_parse;
 pub use walk::read_codestream;

@@ -6,15 +6,15 @@ ghost use Rattle.std.specs.List.{list_all};
 ghost use Rattle.jk_math.specs.Picture.{IsPicture};
 ghost use Rattle.jk_marks.specs.Siz.{IsSiz};
 ghost use Rattle.jk_geom.specs.TileShapes.{AreCodings};
-ghost use Rattle.jk_params.specs.Coding.{every_precinct};
 ghost use Rattle.jk_params.specs.Headers.{most_packets};
 ghost use Rattle.jk_params.specs.Profile.{siz_of, cod_of, coding_for, packets_for, are_sizes, are_precincts, is_tile, is_contained, is_profile, tiles_of, IsWrittenBy};
 ghost use Rattle.jk_params.specs.Tiling.{first_tile, tile_side, tiles_between};
 
+use crate::coding::coding;
 use crate::count::count_alike;
 use crate::parameters::{Container, Parameters};
 use jk_geom::Codings;
-use jk_marks::{Coding, Exponents, Precincts, Siz};
+use jk_marks::{Cod, Coding, CodingStyle, Exponents, Precincts, Quantisation, Siz};
 use jk_math::{Fault, Image};
 
 /// Whether levels, layers and code-block sizes are within the profile.
@@ -172,31 +172,37 @@ pub fn siz_of(image: &Image, parameters: &Parameters) -> Siz
     }
 }
 
-/// The precinct sizes of each resolution.
-fn precinct_sizes(parameters: &Parameters) -> Precincts
+/// The coding style segment that is written (T.800 A.6.1).
+pub fn cod_of(parameters: &Parameters) -> Cod
     requires { length parameters.now.precincts.items ≤ 11 }
-    ensures { result ≡ every_precinct (cod_of parameters.now).style }
+    ensures { result ≡ cod_of parameters.now }
 {
-    if parameters.precincts.is_empty() {
-        return Precincts::greatest((parameters.levels as usize + 1).min(11));
+    Cod {
+        sop: parameters.sop,
+        eph: parameters.eph,
+        order: parameters.order,
+        layers: parameters.layers,
+        colour: parameters.colour,
+        style: CodingStyle {
+            levels: parameters.levels,
+            xcb: parameters.xcb,
+            ycb: parameters.ycb,
+            style: 0,
+            precincts: Precincts::new(&parameters.precincts),
+        },
     }
-    Precincts::new(&parameters.precincts)
 }
 
 /// How each component is coded. The exponents say nothing of the packets.
-fn coding(parameters: &Parameters) -> Coding
+fn coding_for(parameters: &Parameters) -> Coding
     requires { length parameters.now.precincts.items ≤ 11 }
     ensures { result ≡ coding_for parameters.now }
 {
-    Coding {
-        levels: parameters.levels,
-        xcb: parameters.xcb,
-        ycb: parameters.ycb,
-        precincts: precinct_sizes(parameters),
-        style: 0,
+    let steps = Quantisation {
         guard: 2,
         exponents: Exponents::new(&[]),
-    }
+    };
+    coding(&cod_of(parameters).style, &steps)
 }
 
 /// How the components of an image are coded, so many of them, but for their exponents.
@@ -211,7 +217,7 @@ pub fn codings_for(parameters: &Parameters, components: usize) -> Codings
 {
     let mut codings = Codings::none();
     for _ in 0..components {
-        codings.push(coding(parameters));
+        codings.push(coding_for(parameters));
     }
     codings
 }

@@ -1,6 +1,7 @@
 //! The fields of all tiles, as they are kept.
 
 ghost use Rattle.std.specs.Prelude.{◌≡◌, ◌<◌, ◌++◌, [], ◌∷◌, length, slice_set, OnOk, IfErr, MatchResult};
+ghost use Rattle.jk_math.specs.Memory.{IsMemory};
 ghost use Rattle.jk_params.specs.Headers.{tile_in};
 ghost use Rattle.jk_params.specs.HeadersReading.{blank_tiles, with_place, with_coding};
 
@@ -46,7 +47,7 @@ impl Model for Table {
 impl Table {
     /// So many tiles of one coding, and no data.
     pub(crate) fn new(alloc: Global, count: u32, cod: Cod, codings: Codings) -> Result<Table, Fault>
-        ensures { MatchResult result (λ t. t ≡ blank_tiles count cod codings) (λ e. e ≡ Fault.Memory) }
+        ensures { MatchResult result (λ t. t ≡ blank_tiles count cod codings) (λ e. IsMemory e) }
     {
         let mut all = Vec::new(alloc);
         all.push(TileCoding { cod, codings })?;
@@ -103,7 +104,7 @@ impl Table {
     ) -> Result<(), Fault>
         requires { tile < length self.old }
         ensures ok { OnOk result (self.new ≡ slice_set self.old tile (with_coding (tile_in self.old tile) cod codings)) }
-        ensures err { IfErr result (λ e. e ≡ Fault.Memory) }
+        ensures err { IfErr result (λ e. IsMemory e) }
     {
         let coding = self.codings.len();
         self.codings.push(TileCoding { cod, codings })?;
@@ -115,7 +116,7 @@ impl Table {
     pub(crate) fn add_place(&mut self, tile: usize, place: (usize, usize)) -> Result<(), Fault>
         requires { tile < length self.old }
         ensures ok { OnOk result (self.new ≡ slice_set self.old tile (with_place (tile_in self.old tile) place)) }
-        ensures err { IfErr result (λ e. e ≡ Fault.Memory) }
+        ensures err { IfErr result (λ e. IsMemory e) }
     {
         self.tiles[tile].places.push(place)?;
         Ok(())

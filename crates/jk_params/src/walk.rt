@@ -1,12 +1,12 @@
 //! Reading the headers of a codestream from front to back.
 
-ghost use Rattle.std.specs.Prelude.{◌≡◌, ◌≤◌, ◌<◌, ◌+◌, ◌^◌, ℕ, length, replicate, IfOk, Ok};
+ghost use Rattle.std.specs.Prelude.{◌≡◌, ◌≤◌, ◌<◌, ◌+◌, ◌^◌, ℕ, length, map, slice_range, replicate, IfOk, Ok};
 ghost use Rattle.jk_math.specs.Answer.{Answers, AnswersExactly};
 ghost use Rattle.jk_marks.specs.Siz.{tile_count};
-ghost use Rattle.jk_marks.specs.Codestream.{or_else};
+ghost use Rattle.jk_marks.specs.Codestream.{Tree, of_tile, or_else, IsCodestream};
 ghost use Rattle.jk_geom.specs.TileShapes.{AreCodings};
-ghost use Rattle.jk_params.specs.Headers.{Headers, IsHeaders, AreHeaders, IsGood, AreCounted};
-ghost use Rattle.jk_params.specs.HeadersReading.{ends_at, main_fields_at, parts_from, parts_seen, tiles_at, tiles_with, headers_at};
+ghost use Rattle.jk_params.specs.Headers.{Headers, headers_of, tile_in, IsHeaders, AreHeaders};
+ghost use Rattle.jk_params.specs.HeadersReading.{IsProfileMain, AreCountable, ends_at, main_fields_at, parts_from, parts_seen, tiles_at, tiles_with, headers_at};
 
 use crate::coding::codings;
 use crate::count::{count_alike, count_own};
@@ -58,7 +58,7 @@ fn cod_of(main: &Main, head: &TileHead) -> Cod
 fn main_fields(bytes: &[u8]) -> Result<((Main, usize), Codings), Fault>
     ensures exact { result ≡ main_fields_at bytes.now }
     ensures within { IfOk result (λ m. m.0.1 ≤ length bytes.now) }
-    ensures good { IfOk result (λ m. IsGood m.0.0) }
+    ensures good { IfOk result (λ m. IsProfileMain m.0.0) }
     ensures codings { IfOk result (λ m. AreCodings m.1) }
 {
     let (main, at) = read_main(bytes)?;
@@ -145,10 +145,10 @@ fn read_tiles(
     at: usize,
     tiles: &mut Table,
 ) -> Result<(), Fault>
-    requires main { IsGood main.now }
+    requires main { IsProfileMain main.now }
     requires tiles { length tiles.old ≡ tile_count main.now.siz }
     requires blank { parts_seen tiles.old ≡ replicate (length tiles.old) 0 }
-    requires counted { AreCounted tiles.old }
+    requires counted { AreCountable tiles.old }
     requires within { at ≤ length bytes.now }
     ensures { Answers (λ _. tiles.new) result (tiles_at main.now bytes.now at tiles.old) }
 {
@@ -183,6 +183,9 @@ pub fn read_codestream(alloc: Global, bytes: &[u8]) -> Result<Codestream, Fault>
     ensures found { IfOk result (λ c. IsHeaders bytes.now c) }
     // The headers of a codestream are read.
     ensures only { (h : Headers) → IsHeaders bytes.now h → Answers (λ c. c) result (Ok h) }
+    // The data of each tile's parts stand at its places.
+    ensures contents { IfOk result (λ c. (tree : Tree) × IsCodestream bytes.now tree × (c ≡ headers_of tree)
+        × ((t : ℕ) → t < length c.tiles → map (λ p. slice_range bytes.now p.0 p.1) (tile_in c.tiles t).data_places ≡ map (λ p. p.content) (of_tile t tree.parts))) }
     // The places lie in the codestream, and the fields are of the profile.
     ensures sound { IfOk result (λ c. AreHeaders (length bytes.now) c) }
 {

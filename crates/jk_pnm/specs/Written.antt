@@ -1,15 +1,15 @@
 -- The PNM file that is written for a picture: the magic number, LF, width, space, height, LF, maxval, LF, raster.
-use Rattle.std.specs.Prelude.{ℕ, ◌-◌, ◌*◌, ◌/◌, ◌%◌, ◌^◌, Bool, not, ◌&&◌, ◌||◌, ◌==◌, nat_lt, List, [], ◌∷◌, ◌++◌, length, slice_index_or, Result, Ok, Err, if◌then◌else◌, ℤ, pos, negsuc}
+use Rattle.std.specs.Prelude.{ℕ, ◌-◌, ◌*◌, ◌/◌, ◌%◌, ◌^◌, Bool, ◌==◌, nat_lt, List, [], ◌∷◌, ◌++◌, length, slice_index_or, Result, Ok, Err, if◌then◌else◌, ℤ, pos, negsuc}
 use Rattle.std.specs.List.{flat_map, range_with_len}
 use Rattle.std.specs.Fmt.{decimal}
 use Rattle.jk_math.specs.declared.fault.Fault.{Fault}
 use Rattle.jk_math.specs.declared.fault.Fault.TheVariants.{Unsupported}
-use Rattle.jk_math.specs.Picture.{Picture}
+use Rattle.jk_math.specs.Picture.{Picture, is_grey_or_rgb}
 use Rattle.jk_pnm.specs.Pnm.{magic_text}
 
 -- whether a picture has a PNM file: one or three unsigned components
 abbrev pub is_written : Picture → Bool
-is_written p = not p.signed && ((length p.planes == 1) || (length p.planes == 3))
+is_written p = is_grey_or_rgb (length p.planes) p.signed
 
 abbrev pub maxval_of : ℕ → ℕ
 maxval_of depth = 2 ^ depth - 1

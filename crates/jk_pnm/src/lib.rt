@@ -2,10 +2,10 @@
 #![tactic(auto)]
 
 mod header;
-mod laws;
 mod reading;
+mod theorems;
 mod writing;
 
-pub use laws::one_picture;
 pub use reading::read;
+pub use theorems::one_picture;
 pub use writing::write;

@@ -2,6 +2,7 @@
 
 ghost use Rattle.std.specs.Prelude.{◌≡◌, ◌*◌, ◌+◌, ◌<◌, ◌≤◌, ◌^◌, length, IfOk, IfErr, Ok, map, pos, slice_index};
 ghost use Rattle.std.specs.List.{range_with_len};
+ghost use Rattle.jk_math.specs.Memory.{IsMemory};
 ghost use Rattle.jk_math.specs.Answer.{Answers};
 ghost use Rattle.jk_math.specs.Picture.{Picture, lists_of};
 ghost use Rattle.jk_pnm.specs.Pnm.{components_of, plane_from, IsPnm};
@@ -14,7 +15,7 @@ use std::alloc::Global;
 /// Samples of one byte, one after another.
 fn bytes_plane(alloc: Global, raster: &[u8]) -> Result<Vec<i32>, Fault>
     ensures value { IfOk result (λ v. v.items ≡ map pos raster.now) }
-    ensures err { IfErr result (λ e. e ≡ Fault.Memory) }
+    ensures err { IfErr result (λ e. IsMemory e) }
 {
     Ok(raster.iter().map(|byte| *byte as i32).collect(alloc)?)
 }
@@ -30,7 +31,7 @@ fn narrow_plane(
     requires component { component < components }
     requires whole { pixels * components ≤ length raster.now }
     ensures value { IfOk result (λ v. v.items ≡ map (λ pixel. pos (slice_index raster.now (pixel * components + component))) (range_with_len 0 pixels)) }
-    ensures err { IfErr result (λ e. e ≡ Fault.Memory) }
+    ensures err { IfErr result (λ e. IsMemory e) }
 {
     let mut samples = Vec::with_capacity(alloc, pixels)?;
     for pixel in 0..pixels {
@@ -50,7 +51,7 @@ fn wide_plane(
     requires component { component < components }
     requires whole { 2 * (pixels * components) ≤ length raster.now }
     ensures value { IfOk result (λ v. v.items ≡ map (λ pixel. pos (256 * slice_index raster.now (2 * (pixel * components + component)) + slice_index raster.now (2 * (pixel * components + component) + 1))) (range_with_len 0 pixels)) }
-    ensures err { IfErr result (λ e. e ≡ Fault.Memory) }
+    ensures err { IfErr result (λ e. IsMemory e) }
 {
     let mut samples = Vec::with_capacity(alloc, pixels)?;
     for pixel in 0..pixels {
@@ -65,7 +66,7 @@ fn plane(alloc: Global, header: &Header, raster: &[u8], component: usize) -> Res
     requires component { component < components_of header.now.colour }
     requires whole { length raster.now ≡ raster_size header.now }
     ensures value { IfOk result (λ v. v.items ≡ map pos (plane_from header.now.maxval (components_of header.now.colour) (header.now.width * header.now.height) raster.now component)) }
-    ensures err { IfErr result (λ e. e ≡ Fault.Memory) }
+    ensures err { IfErr result (λ e. IsMemory e) }
 {
     let pixels = header.pixels();
     let components = header.components();
@@ -82,7 +83,7 @@ fn plane(alloc: Global, header: &Header, raster: &[u8], component: usize) -> Res
 fn planes(alloc: Global, header: &Header, raster: &[u8]) -> Result<Vec<Vec<i32>>, Fault>
     requires { length raster.now ≡ raster_size header.now }
     ensures value { IfOk result (λ v. lists_of v.items ≡ map (map pos) (samples_of header.now raster.now)) }
-    ensures err { IfErr result (λ e. e ≡ Fault.Memory) }
+    ensures err { IfErr result (λ e. IsMemory e) }
 {
     let components = header.components();
     let mut planes = Vec::new(alloc);

@@ -1,6 +1,7 @@
 //! Writing.
 
 ghost use Rattle.std.specs.Prelude.{◌≡◌, ◌*◌, ◌+◌, ◌-◌, ◌<◌, ◌≤◌, ◌^◌, ◌++◌, ◌∷◌, [], true, length, IfOk, OnOk, IfErr, pos, All, ◌≤ℤ◌};
+ghost use Rattle.jk_math.specs.Memory.{IsMemory};
 ghost use Rattle.jk_math.specs.Answer.{Answers};
 ghost use Rattle.jk_math.specs.Picture.{IsPicture};
 ghost use Rattle.jk_pnm.specs.Pnm.{IsPnm, magic_text};
@@ -23,7 +24,7 @@ fn put_sample(out: &mut Vec<u8>, maxval: u32, sample: i32) -> Result<(), Fault>
     requires below { sample ≤ℤ pos maxval }
     requires maxval { maxval < 2 ^ 16 }
     ensures ok { OnOk result (out.new.items ≡ out.old.items ++ sample_text maxval sample) }
-    ensures err { IfErr result (λ e. e ≡ Fault.Memory) }
+    ensures err { IfErr result (λ e. IsMemory e) }
 {
     let value = sample as u32;
     if maxval > 255 {
@@ -40,7 +41,7 @@ fn put_grey(out: &mut Vec<u8>, maxval: u32, samples: &[i32]) -> Result<(), Fault
     requires samples { All (λ s. (pos 0 ≤ℤ s) × (s ≤ℤ pos maxval)) samples.now }
     requires maxval { maxval < 2 ^ 16 }
     ensures ok { OnOk result (out.new.items ≡ out.old.items ++ raster_text maxval (samples.now ∷ []) (length samples.now)) }
-    ensures err { IfErr result (λ e. e ≡ Fault.Memory) }
+    ensures err { IfErr result (λ e. IsMemory e) }
 {
     for sample in samples {
         put_sample(out, maxval, *sample)?;
@@ -63,7 +64,7 @@ fn put_colour(
     requires blues { length blue.now ≡ length red.now }
     requires maxval { maxval < 2 ^ 16 }
     ensures ok { OnOk result (out.new.items ≡ out.old.items ++ raster_text maxval (red.now ∷ green.now ∷ blue.now ∷ []) (length red.now)) }
-    ensures err { IfErr result (λ e. e ≡ Fault.Memory) }
+    ensures err { IfErr result (λ e. IsMemory e) }
 {
     for pixel in 0..red.len() {
         put_sample(out, maxval, red[pixel])?;
@@ -90,7 +91,7 @@ fn header(
     maxval: u32,
 ) -> Result<Vec<u8>, Fault>
     ensures value { IfOk result (λ v. v.items ≡ header_text colour width height maxval) }
-    ensures err { IfErr result (λ e. e ≡ Fault.Memory) }
+    ensures err { IfErr result (λ e. IsMemory e) }
 {
     let mut out = Vec::with_capacity(alloc, size.saturating_add(32))?;
     out.extend_from_slice(magic(colour))?;
@@ -109,7 +110,7 @@ fn put_raster(out: &mut Vec<u8>, image: &Image, maxval: u32) -> Result<(), Fault
     requires profile { IsPicture image.now }
     requires maxval { maxval ≡ maxval_of image.now.depth }
     ensures ok { OnOk result (out.new.items ≡ out.old.items ++ raster_text maxval image.now.planes (image.now.width * image.now.height)) }
-    ensures err { IfErr result (λ e. e ≡ Fault.Memory) }
+    ensures err { IfErr result (λ e. IsMemory e) }
 {
     let planes = image.planes();
     if planes.len() == 1 {
@@ -131,7 +132,7 @@ fn file(alloc: Global, image: &Image) -> Result<Vec<u8>, Fault>
     requires written { is_written image.now ≡ true }
     ensures value { IfOk result (λ v. v.items ≡ file_text image.now) }
     ensures means { IfOk result (λ v. IsPnm v.items (record image.now { x0 = 0; y0 = 0 })) }
-    ensures err { IfErr result (λ e. e ≡ Fault.Memory) }
+    ensures err { IfErr result (λ e. IsMemory e) }
 {
     let width = image.width();
     let height = image.height();

@@ -6,19 +6,9 @@ use Rattle.std.proofs.lemmas.Int.{ints, to_z-of_z}
 use mir.Val.{SFits}
 use Rattle.std.specs.List.{All}
 use Rattle.jk_math.specs.Division.{floor_of}
-use Rattle.jk_rct.specs.Colour.{y0_of, y1_of, y2_of, i1_of, sample_at, IsBelow, UndoesColour, UndoesInverse, KeepsRange}
-
--- four times the quarter
-abbrev pub fourfold : ℤ → ℤ
-fourfold z = z +ℤ z +ℤ (z +ℤ z)
-
-pub quarter_high : (z : ℤ) → fourfold (floor_of z 4) ≤ℤ z
-quarter_high (pos n) = omega (arith, ints)
-quarter_high (negsuc n) = omega (arith, ints)
-
-pub quarter_low : (z : ℤ) → z ≤ℤ (fourfold (floor_of z 4) +ℤ pos 3)
-quarter_low (pos n) = omega (arith, ints)
-quarter_low (negsuc n) = omega (arith, ints)
+use Rattle.jk_math.specs.Signed.{IsBelow, signed_at}
+use Rattle.jk_math.proofs.Laws.{fourfold, quarter_high, quarter_low}
+use Rattle.jk_rct.specs.Colour.{y0_of, y1_of, y2_of, i0_of, i1_of, i2_of, UndoesColour, UndoesInverse, KeepsRange, InverseBounds}
 
 -- a quarter less four times g is g less, and so for the quarter of a sum
 quarter_less : (s t g : ℤ) → s ≡ t +ℤ fourfold g → floor_of s 4 ≡ floor_of t 4 +ℤ g
@@ -47,28 +37,34 @@ keeps_range low high i0 i1 i2 l0 h0 l1 h1 l2 h2 =
     let l = quarter_low (i0 +ℤ (i1 +ℤ i1) +ℤ i2) in
     (omega (arith, ints), omega (arith, ints), omega (arith, ints), omega (arith, ints))
 
+pub inverse_bounds : InverseBounds
+inverse_bounds m y0 y1 y2 l0 l1 l2 =
+    let h = quarter_high (y1 +ℤ y2) in
+    let l = quarter_low (y1 +ℤ y2) in
+    ((omega (arith, ints), omega (arith, ints)), (omega (arith, ints), omega (arith, ints)), (omega (arith, ints), omega (arith, ints)))
+
 -- The first k pixels of three components are transformed, and the others as given.
 pub record IsMapped (f0 f1 f2 : ℤ → ℤ → ℤ → ℤ) (k : ℕ) (a b c a' b' c' : List ℤ) : Type 0 where
-  pub done0 : (j : ℕ) → j < k → sample_at a' j ≡ f0 (sample_at a j) (sample_at b j) (sample_at c j)
-  pub done1 : (j : ℕ) → j < k → sample_at b' j ≡ f1 (sample_at a j) (sample_at b j) (sample_at c j)
-  pub done2 : (j : ℕ) → j < k → sample_at c' j ≡ f2 (sample_at a j) (sample_at b j) (sample_at c j)
-  pub rest0 : (j : ℕ) → k ≤ j → sample_at a' j ≡ sample_at a j
-  pub rest1 : (j : ℕ) → k ≤ j → sample_at b' j ≡ sample_at b j
-  pub rest2 : (j : ℕ) → k ≤ j → sample_at c' j ≡ sample_at c j
+  pub done0 : (j : ℕ) → j < k → signed_at a' j ≡ f0 (signed_at a j) (signed_at b j) (signed_at c j)
+  pub done1 : (j : ℕ) → j < k → signed_at b' j ≡ f1 (signed_at a j) (signed_at b j) (signed_at c j)
+  pub done2 : (j : ℕ) → j < k → signed_at c' j ≡ f2 (signed_at a j) (signed_at b j) (signed_at c j)
+  pub rest0 : (j : ℕ) → k ≤ j → signed_at a' j ≡ signed_at a j
+  pub rest1 : (j : ℕ) → k ≤ j → signed_at b' j ≡ signed_at b j
+  pub rest2 : (j : ℕ) → k ≤ j → signed_at c' j ≡ signed_at c j
 
-one_more : (value : ℕ → ℤ) (xs : List ℤ) (k : ℕ) (v : ℤ) → k < length xs → ((j : ℕ) → j < k → sample_at xs j ≡ value j) → v ≡ value k →
-    (j : ℕ) → j < k + 1 → sample_at (set xs k v) j ≡ value j
+one_more : (value : ℕ → ℤ) (xs : List ℤ) (k : ℕ) (v : ℤ) → k < length xs → ((j : ℕ) → j < k → signed_at xs j ≡ value j) → v ≡ value k →
+    (j : ℕ) → j < k + 1 → signed_at (set xs k v) j ≡ value j
 one_more value xs k v room below here =
-    let P : ℕ → Type 0 = λ j. sample_at (set xs k v) j ≡ value j in
+    let P : ℕ → Type 0 = λ j. signed_at (set xs k v) j ≡ value j in
     below_more P k (λ j l. let ne : j ≢ k = omega arith in rw get_or-set_other (below j l)) (rw get_or-set_same here)
 
 pub IsMapped-more : (f0 f1 f2 : ℤ → ℤ → ℤ → ℤ) (k : ℕ) (a b c a' b' c' : List ℤ) (v0 v1 v2 : ℤ) → IsMapped f0 f1 f2 k a b c a' b' c' →
     k < length a' → k < length b' → k < length c' →
-    v0 ≡ f0 (sample_at a' k) (sample_at b' k) (sample_at c' k) → v1 ≡ f1 (sample_at a' k) (sample_at b' k) (sample_at c' k) → v2 ≡ f2 (sample_at a' k) (sample_at b' k) (sample_at c' k) →
+    v0 ≡ f0 (signed_at a' k) (signed_at b' k) (signed_at c' k) → v1 ≡ f1 (signed_at a' k) (signed_at b' k) (signed_at c' k) → v2 ≡ f2 (signed_at a' k) (signed_at b' k) (signed_at c' k) →
     IsMapped f0 f1 f2 (k + 1) a b c (set a' k v0) (set b' k v1) (set c' k v2)
 IsMapped-more f0 f1 f2 k a b c a' b' c' v0 v1 v2 so_far ra rb rc e0 e1 e2 =
-    let at : (ℤ → ℤ → ℤ → ℤ) → ℕ → ℤ = λ f j. f (sample_at a j) (sample_at b j) (sample_at c j) in
-    let given : (f : ℤ → ℤ → ℤ → ℤ) → f (sample_at a' k) (sample_at b' k) (sample_at c' k) ≡ at f k =
+    let at : (ℤ → ℤ → ℤ → ℤ) → ℕ → ℤ = λ f j. f (signed_at a j) (signed_at b j) (signed_at c j) in
+    let given : (f : ℤ → ℤ → ℤ → ℤ) → f (signed_at a' k) (signed_at b' k) (signed_at c' k) ≡ at f k =
     λ f. rw (so_far.rest0 k (omega arith), so_far.rest1 k (omega arith), so_far.rest2 k (omega arith)) refl in
     record {
       done0 = one_more (at f0) a' k v0 ra so_far.done0 (e0 ∙ given f0);
@@ -125,18 +121,18 @@ with_i1_fits y g i l e small =
     let e0 = to_z-of_z w32 y (omega (arith, ints)) in
     rw (e, e0) (omega (arith, ints))
 
-read_is : (xs xs' : List ℤ) (k : ℕ) → All (IsBelow (2 ^ 29)) xs → k < length xs → sample_at xs' k ≡ sample_at xs k → passed (sample_at xs' k) ≡ sample_at xs' k
+read_is : (xs xs' : List ℤ) (k : ℕ) → All (IsBelow (2 ^ 29)) xs → k < length xs → signed_at xs' k ≡ signed_at xs k → passed (signed_at xs' k) ≡ signed_at xs' k
 read_is xs xs' k small l e =
-    let below : IsBelow (2 ^ 29) (sample_at xs k) = small k (pos 0) l in
+    let below : IsBelow (2 ^ 29) (signed_at xs k) = small k (pos 0) l in
     rw e (to_z-of_z w32 _ (omega (arith, ints)))
 
 -- what the code writes for pixel k
 pub IsMapped-written : (f0 f1 f2 : ℤ → ℤ → ℤ → ℤ) (k : ℕ) (a b c a' b' c' : List ℤ) (v0 v1 v2 : ℤ) → IsMapped f0 f1 f2 k a b c a' b' c' →
     All (IsBelow (2 ^ 29)) a → All (IsBelow (2 ^ 29)) b → All (IsBelow (2 ^ 29)) c → k < length a → k < length b → k < length c →
     k < length a' → k < length b' → k < length c' → SFits w32 v0 → SFits w32 v1 → SFits w32 v2 →
-    v0 ≡ f0 (passed (sample_at a' k)) (passed (sample_at b' k)) (passed (sample_at c' k)) →
-    v1 ≡ f1 (passed (sample_at a' k)) (passed (sample_at b' k)) (passed (sample_at c' k)) →
-    v2 ≡ f2 (passed (sample_at a' k)) (passed (sample_at b' k)) (passed (sample_at c' k)) →
+    v0 ≡ f0 (passed (signed_at a' k)) (passed (signed_at b' k)) (passed (signed_at c' k)) →
+    v1 ≡ f1 (passed (signed_at a' k)) (passed (signed_at b' k)) (passed (signed_at c' k)) →
+    v2 ≡ f2 (passed (signed_at a' k)) (passed (signed_at b' k)) (passed (signed_at c' k)) →
     IsMapped f0 f1 f2 (k + 1) a b c (set a' k (passed v0)) (set b' k (passed v1)) (set c' k (passed v2))
 IsMapped-written f0 f1 f2 k a b c a' b' c' v0 v1 v2 so_far sa sb sc la lb lc ra rb rc t0 t1 t2 e0 e1 e2 =
     let ea = read_is a a' k sa la (so_far.rest0 k (omega arith)) in

@@ -1,7 +1,8 @@
 -- The reversible component transform (T.800 G.2): I0, I1, I2 are a pixel's samples of components 0, 1 and 2, and
 -- Y0, Y1, Y2 what stands for them.
-use Rattle.std.specs.Prelude.{◌≡◌, ℕ, ℤ, List, ◌≤◌, pos, neg_ℤ, ◌+ℤ◌, ◌-ℤ◌, ◌<ℤ◌, ◌≤ℤ◌, slice_index_or, unsigned_abs}
+use Rattle.std.specs.Prelude.{◌≡◌, ℕ, ℤ, ◌+◌, ◌≤◌, ◌+ℤ◌, ◌-ℤ◌, ◌≤ℤ◌, unsigned_abs}
 use Rattle.jk_math.specs.Division.{floor_of}
+use Rattle.jk_math.specs.Signed.{IsBelow}
 
 -- forward (T.800 G.2.1)
 abbrev pub y0_of : ℤ → ℤ → ℤ → ℤ
@@ -23,14 +24,6 @@ i0_of y0 y1 y2 = y2 +ℤ i1_of y0 y1 y2
 abbrev pub i2_of : ℤ → ℤ → ℤ → ℤ
 i2_of y0 y1 y2 = y1 +ℤ i1_of y0 y1 y2
 
--- sample k of a component
-abbrev pub sample_at : List ℤ → ℕ → ℤ
-sample_at samples k = slice_index_or samples k (pos 0)
-
--- the magnitude of z is below m
-abbrev pub IsBelow : ℕ → ℤ → Type 0
-IsBelow m z = (neg_ℤ (pos m) <ℤ z) × (z <ℤ pos m)
-
 -- The inverse undoes the forward transform, and the forward one the inverse.
 abbrev pub UndoesColour : Type 0
 UndoesColour = (i0 i1 i2 : ℤ) →
@@ -50,3 +43,8 @@ KeepsRange = (low high i0 i1 i2 : ℤ) → low ≤ℤ i0 → i0 ≤ℤ high → 
     (low ≤ℤ y0_of i0 i1 i2) × (y0_of i0 i1 i2 ≤ℤ high)
     × (unsigned_abs (y1_of i0 i1 i2) ≤ unsigned_abs (high -ℤ low))
     × (unsigned_abs (y2_of i0 i1 i2) ≤ unsigned_abs (high -ℤ low))
+
+-- From numbers of magnitudes below m, the inverse transform gives numbers of magnitudes below 2 m.
+abbrev pub InverseBounds : Type 0
+InverseBounds = (m : ℕ) (y0 y1 y2 : ℤ) → IsBelow m y0 → IsBelow m y1 → IsBelow m y2 →
+    IsBelow (m + m) (i0_of y0 y1 y2) × IsBelow (m + m) (i1_of y0 y1 y2) × IsBelow (m + m) (i2_of y0 y1 y2)

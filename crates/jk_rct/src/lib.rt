@@ -3,7 +3,8 @@
 
 ghost use Rattle.std.specs.Prelude.{◌≡◌, ℕ, ◌^◌, ◌<◌, pos, ◌+ℤ◌, length, All};
 ghost use Rattle.jk_math.specs.Division.{floor_of};
-ghost use Rattle.jk_rct.specs.Colour.{y0_of, y1_of, y2_of, i0_of, i1_of, i2_of, sample_at, IsBelow, UndoesColour, UndoesInverse, KeepsRange};
+ghost use Rattle.jk_math.specs.Signed.{IsBelow, signed_at};
+ghost use Rattle.jk_rct.specs.Colour.{y0_of, y1_of, y2_of, i0_of, i1_of, i2_of, UndoesColour, UndoesInverse, KeepsRange, InverseBounds};
 
 /// Puts Y0, Y1 and Y2 in the places of the samples of components 0, 1 and 2.
 pub fn forward(a: &mut [i32], b: &mut [i32], c: &mut [i32])
@@ -13,11 +14,11 @@ pub fn forward(a: &mut [i32], b: &mut [i32], c: &mut [i32])
     requires small_b { All (IsBelow (2 ^ 29)) b.old }
     requires small_c { All (IsBelow (2 ^ 29)) c.old }
     ensures y0 { (k : ℕ) → k < length a.old →
-        sample_at a.new k ≡ y0_of (sample_at a.old k) (sample_at b.old k) (sample_at c.old k) }
+        signed_at a.new k ≡ y0_of (signed_at a.old k) (signed_at b.old k) (signed_at c.old k) }
     ensures y1 { (k : ℕ) → k < length a.old →
-        sample_at b.new k ≡ y1_of (sample_at a.old k) (sample_at b.old k) (sample_at c.old k) }
+        signed_at b.new k ≡ y1_of (signed_at a.old k) (signed_at b.old k) (signed_at c.old k) }
     ensures y2 { (k : ℕ) → k < length a.old →
-        sample_at c.new k ≡ y2_of (sample_at a.old k) (sample_at b.old k) (sample_at c.old k) }
+        signed_at c.new k ≡ y2_of (signed_at a.old k) (signed_at b.old k) (signed_at c.old k) }
 {
     for k in 0..a.len() {
         let (y0, y1, y2) = forward_pixel(a[k], b[k], c[k]);
@@ -35,11 +36,11 @@ pub fn inverse(a: &mut [i32], b: &mut [i32], c: &mut [i32])
     requires small_b { All (IsBelow (2 ^ 29)) b.old }
     requires small_c { All (IsBelow (2 ^ 29)) c.old }
     ensures i0 { (k : ℕ) → k < length a.old →
-        sample_at a.new k ≡ i0_of (sample_at a.old k) (sample_at b.old k) (sample_at c.old k) }
+        signed_at a.new k ≡ i0_of (signed_at a.old k) (signed_at b.old k) (signed_at c.old k) }
     ensures i1 { (k : ℕ) → k < length a.old →
-        sample_at b.new k ≡ i1_of (sample_at a.old k) (sample_at b.old k) (sample_at c.old k) }
+        signed_at b.new k ≡ i1_of (signed_at a.old k) (signed_at b.old k) (signed_at c.old k) }
     ensures i2 { (k : ℕ) → k < length a.old →
-        sample_at c.new k ≡ i2_of (sample_at a.old k) (sample_at b.old k) (sample_at c.old k) }
+        signed_at c.new k ≡ i2_of (signed_at a.old k) (signed_at b.old k) (signed_at c.old k) }
 {
     for k in 0..a.len() {
         let (i0, i1, i2) = inverse_pixel(a[k], b[k], c[k]);
@@ -97,4 +98,9 @@ pub fn inverse_undone()
 /// Where the results of the forward transform lie.
 pub fn colour_range()
     ensures { KeepsRange }
+{}
+
+/// Where the results of the inverse transform lie.
+pub fn inverse_range()
+    ensures { InverseBounds }
 {}

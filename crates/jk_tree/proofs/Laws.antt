@@ -1,24 +1,26 @@
--- The laws of queries that crates above cite: what is told is read, and what is read is told; a leaf's value, once it is known.
+-- The laws of queries that crates above cite: what is told is read, and what is read is told; a leaf's value, once it is
+-- known; the values of a written tree.
 use Rattle.std.proofs.Common.{◌≡◌, ℕ, zero, suc, ◌+◌, ◌-◌, ◌*◌, ◌<◌, ◌≤◌, min, max, Bool, true, false, cond, List, [], ◌∷◌, ◌++◌, length, set, drop, replicate, Result, Option, Some, None, Ok, Err, refl, sym, ap, ◌∙◌, subst, inl, inr, arith}
-use Rattle.std.specs.Prelude.{◌||◌, nat_lt, nat_le}
+use Rattle.std.specs.Prelude.{nat_lt}
 use Rattle.std.proofs.lemmas.Bool.{cases_lt, and_parts}
 use Rattle.std.proofs.lemmas.Bool.Decides.{nat_tests}
 use Rattle.std.proofs.lemmas.List.{length-set, length-replicate}
 use Rattle.jk_math.specs.Answer.{◌>>=◌}
-use Rattle.jk_math.specs.Steps.{bind_then}
 use Rattle.jk_math.specs.declared.fault.Fault.{Fault}
 use Rattle.jk_bits.specs.Reading.{Bits, ahead}
-use Rattle.jk_tree.specs.TagTree.{Shape, top, place, count, column, row, IsNode, Values, above, IsTree, Query, query_of, passes, asked, word, piece, told_below, told, leaf_of}
+use Rattle.jk_tree.specs.TagTree.{Shape, top, count, column, row, IsNode, Values, above, IsTree, Query, query_of, passes, asked, word, piece, told_below, told, leaf_of}
 use Rattle.jk_tree.specs.declared.node.Node.{Node}
-use Rattle.jk_tree.specs.Asking.{told_node, node_at, Stands, Reached, climb, visit, walk, is_below, Tree, IsOpen, unless_failed, blank_tree, ask_at}
-use Rattle.jk_bits.specs.Giving.{Gives, advance, Moves, stays, moves_on}
-use Rattle.jk_tree.proofs.Visits.{climb_out, piece_asked, piece_known, node_same}
+use Rattle.jk_tree.specs.Asking.{told_node, node_at, Stands, Reached, walk, is_below, Tree, IsOpen, unless_failed, blank_tree, ask_at}
+use Rattle.jk_bits.specs.Giving.{Gives, advance, Moves}
+use Rattle.jk_tree.proofs.Moving.{walk_moves}
+use Rattle.jk_tree.proofs.Visits.{piece_asked, piece_known, node_same}
 use Rattle.jk_tree.proofs.Places.{path_node, passes_at, passes_own, place_leaf}
 use Rattle.jk_tree.proofs.Walks.{asked_push, above_way, below-suc, told_none}
 use Rattle.jk_tree.proofs.Finds.{way, steps, walk_end}
 use Rattle.jk_tree.proofs.Speeches.{told_all}
 use Rattle.jk_tree.proofs.Asks.{fresh}
 use Rattle.jk_tree.proofs.Answering.{only_law, found_law}
+pub use Rattle.jk_tree.proofs.Written.{written_tree, written_leaf}
 
 pub asked_then : (f : Option Fault) (q : Query) (t : Tree) (w : Result (List Node × Bits) Fault) (out : Bool × (Tree × Bits)) → unless_failed f (w >>= λ o. Ok (is_below q o.0, (record t { nodes = o.0 }, o.1))) ≡ Ok out
     → (f ≡ None) × (o : List Node × Bits) × (w ≡ Ok o) × ((is_below q o.0, (record t { nodes = o.0 }, o.1)) ≡ out)
@@ -39,22 +41,6 @@ low_below q t r out h known =
     let node = node_at out.1.0.nodes q.leaf in
     let both = and_parts node.known (nat_lt node.low q.threshold) (sym (asked_below q t r out h) ∙ known) in
     grind (arith, nat_tests)
-
-visit_moves : (node : Node) (over threshold : ℕ) (r : Bits) (o : Node × Bits) → visit node over threshold r ≡ Ok o → Moves r o.1
-unfolding visit
-visit_moves node over threshold r o h = by_test (node.known || nat_le threshold node.low) h
-  where
-    by_test : (b : Bool) → cond b (Ok (node, r)) (climb (max node.low over) (threshold - max node.low over) r) ≡ Ok o → Moves r o.1
-    by_test true e = let is : (node, r) ≡ o = cc in subst (λ (p : Node × Bits). Moves r p.1) is (stays r)
-    by_test false e = (_, (climb_out (max node.low over) (threshold - max node.low over) r o e).given)
-
-walk_moves : (s : Shape) (q : Query) (i over : ℕ) (nodes : List Node) (r : Bits) (o : List Node × Bits) → walk s q i over nodes r ≡ Ok o → Moves r o.1
-unfolding walk
-walk_moves s q zero over nodes r o h = let is : (nodes, r) ≡ o = cc in subst (λ (p : List Node × Bits). Moves r p.1) is (stays r)
-walk_moves s q (suc i) over nodes r o h =
-    let p = place s i (column s q.leaf i) (row s q.leaf i) in
-    bind_then (visit (node_at nodes p) over q.threshold r) (λ v. walk s q i (min v.0.low q.threshold) (set nodes p v.0) v.1) o h
-    (λ v e k. moves_on r v.1 o.1 (visit_moves (node_at nodes p) over q.threshold r v e) (walk_moves s q i (min v.0.low q.threshold) (set nodes p v.0) v.1 o k))
 
 pub ask_moves : (q : Query) (t : Tree) (r : Bits) (o : Bool × (Tree × Bits)) → ask_at q (t, r) ≡ Ok o → Moves r o.1.1
 unfolding ask_at

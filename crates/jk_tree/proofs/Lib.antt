@@ -6,6 +6,7 @@ pub mod Least
 pub mod Asks
 pub mod Heights
 pub mod Answering
+pub mod Moving
 pub mod Ways
 pub mod Speeches
 pub mod Written

@@ -1,5 +1,5 @@
 -- Queries of a tree that is written: the values of its nodes, and what it tells.
-use Rattle.std.specs.Prelude.{◌≡◌, ℕ, zero, suc, ◌*◌, min, Bool, if◌then◌else◌, List, [], ◌∷◌, ◌++◌, slice_index, slice_index_or}
+use Rattle.std.specs.Prelude.{◌≡◌, ℕ, zero, suc, ◌*◌, min, Bool, true, if◌then◌else◌, List, [], ◌∷◌, ◌++◌, slice_index, slice_index_or}
 use Rattle.jk_bits.specs.Writing.{Written}
 use Rattle.jk_tree.specs.TagTree.{Shape, place, IsNode, Values, passes, IsTree, Query, asked, told}
 use Rattle.jk_tree.specs.declared.write.WriteNode.{WriteNode}
@@ -36,6 +36,14 @@ Lowers s leaf value old new = (i x y : ℕ) → IsNode s i x y → speaker_at ne
 -- the writer with these bits more
 abbrev pub with_bits : Written → List Bool → Written
 with_bits writer bits = record writer { bits = writer.bits ++ bits }
+
+-- bits were written
+abbrev pub Grows : Written → Written → Type 0
+Grows writer writer_on = (more : List Bool) × (writer_on ≡ with_bits writer more)
+
+-- bits were written, and then memory was refused
+abbrev pub Fails : Written → Written → Type 0
+Fails writer writer_on = (more : List Bool) × (writer_on ≡ record (with_bits writer more) { failed = true })
 
 -- A query tells what it has to tell after those before it, whichever these were and whatever the values are.
 abbrev pub Tells : Shape → Query → (old new : List WriteNode) → (writer writer_on : Written) → Type 0

@@ -1,7 +1,7 @@
 //! What is known of a node of a tag tree.
 
 ghost use Rattle.std.specs.Prelude.{◌≡◌, ◌&&◌, false, nat_lt, replicate, MatchResult};
-ghost use Rattle.jk_math.specs.declared.fault.Fault.TheVariants.{Memory};
+ghost use Rattle.jk_math.specs.Memory.{IsMemory};
 
 use jk_math::Fault;
 use std::alloc::Global;
@@ -24,7 +24,7 @@ pub(crate) fn is_below(node: Node, threshold: u16) -> bool
 pub(crate) fn blank_nodes(alloc: Global, count: usize) -> Result<Vec<Node>, Fault>
     ensures { MatchResult result
         (λ nodes. nodes.items ≡ replicate count record { low = 0; known = false })
-        (λ e. e ≡ Memory) }
+        (λ e. IsMemory e) }
 {
     let mut nodes = Vec::with_capacity(alloc, count)?;
     for _ in 0..count {

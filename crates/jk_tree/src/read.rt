@@ -1,9 +1,10 @@
 //! Tag trees that are read (T.800 B.10.2).
 
-ghost use Rattle.std.specs.Prelude.{◌≡◌, ℕ, ◌+◌, ◌-◌, ◌*◌, ◌<◌, ◌≤◌, min, ◌++◌, [], ◌∷◌, List, Bool, length, Ok, Err, None, Some, IfOk, IfErr, IsOkAnd, MatchResult};
+ghost use Rattle.std.specs.Prelude.{◌≡◌, ℕ, ◌+◌, ◌-◌, ◌*◌, ◌<◌, ◌≤◌, min, ◌++◌, [], ◌∷◌, List, Bool, length, Ok, Err, None, Some, IfOk, IfErr, OnErr, IfSome, IsOkAnd, MatchResult};
 ghost use Rattle.jk_math.specs.Answer.{Reads};
-ghost use Rattle.jk_math.specs.declared.fault.Fault.TheVariants.{Memory};
+ghost use Rattle.jk_math.specs.Memory.{IsMemory};
 ghost use Rattle.jk_bits.specs.Reading.{ahead};
+ghost use Rattle.jk_bits.specs.Giving.{Stops};
 ghost use Rattle.jk_tree.specs.TagTree.{shape_of, query_of, Values, IsTree, Query, count, top, told};
 ghost use Rattle.jk_tree.specs.Asking.{IsAnswer, Reached, Stands, ask_at, blank_tree, climb, node_at, visit, walk};
 
@@ -43,7 +44,8 @@ impl Model for ReadTree {
 /// Zeros from `low` on up to a one, as far as the threshold.
 fn climb(low: u16, threshold: u16, reader: &mut BitReader<'_>) -> Result<Node, Fault>
     requires { low ≤ threshold }
-    ensures { Reads (climb low (threshold - low)) reader.old reader.new result }
+    ensures exact { Reads (climb low (threshold - low)) reader.old reader.new result }
+    ensures stops { OnErr result (Stops reader.old reader.new) }
 {
     let mut low = low;
     while low < threshold {
@@ -59,7 +61,8 @@ fn climb(low: u16, threshold: u16, reader: &mut BitReader<'_>) -> Result<Node, F
 /// What a node tells; of the node above it `over` is known, as far as the threshold.
 fn visit(node: Node, over: u16, threshold: u16, reader: &mut BitReader<'_>) -> Result<Node, Fault>
     requires { over ≤ threshold }
-    ensures { Reads (visit node over threshold) reader.old reader.new result }
+    ensures exact { Reads (visit node over threshold) reader.old reader.new result }
+    ensures stops { OnErr result (Stops reader.old reader.new) }
 {
     if node.known || node.low >= threshold {
         return Ok(node);
@@ -86,6 +89,7 @@ fn walk(
         (λ e. walk (shape_of levels.width levels.height) (query_of leaf threshold)
         (levels.root + 1) 0 nodes.old.items reader.old ≡ Err e) }
     ensures kept { length nodes.new.items ≡ length nodes.old.items }
+    ensures stops { OnErr result (Stops reader.old reader.new) }
 {
     let column = leaf % levels.width as u32;
     let row = leaf / levels.width as u32;
@@ -110,7 +114,7 @@ impl ReadTree {
         ensures stands { MatchResult result
             (λ t. (t.shape ≡ (shape_of width height)) × (t.failed ≡ None)
             × ((v : Values) → IsTree t.shape v → Stands t.shape v [] t.nodes))
-            (λ e. e ≡ Memory) }
+            (λ e. IsMemory e) }
     {
         let root = root_level(width, height);
         let nodes = blank_nodes(alloc, node_count(width, height, root))?;
@@ -148,6 +152,11 @@ impl ReadTree {
             (self.old, reader.old) (self.new, reader.new) result }
         ensures kept { self.new.shape ≡ self.old.shape }
         ensures failed { IfErr result (λ e. self.new.failed ≡ Some e) }
+
+        // With the tree's first fault the reader fails too, some bits on. What has failed stays as it is.
+        ensures stops { self.old.failed ≡ None → OnErr result (Stops reader.old reader.new) }
+        ensures stays { IfSome self.old.failed
+            (λ e. (result ≡ Err e) × (self.new ≡ self.old) × (reader.new ≡ reader.old)) }
 
         // What a tree would tell is read, whatever was asked before.
         ensures only { (v : Values) (queries : List Query) (rest : List Bool)

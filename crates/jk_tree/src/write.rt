@@ -1,9 +1,9 @@
 //! Tag trees that are written (T.800 B.10.2).
 
-ghost use Rattle.std.specs.Prelude.{◌≡◌, ℕ, ◌+◌, ◌*◌, ◌<◌, ◌≤◌, ◌++◌, [], ◌∷◌, false, true, List, length, replicate, slice_index, MatchResult};
-ghost use Rattle.jk_math.specs.declared.fault.Fault.TheVariants.{Memory};
+ghost use Rattle.std.specs.Prelude.{◌≡◌, ℕ, ◌+◌, ◌*◌, ◌<◌, ◌≤◌, ◌++◌, [], ◌∷◌, false, true, List, length, replicate, slice_index, OnErr, MatchResult};
+ghost use Rattle.jk_math.specs.Memory.{IsMemory};
 ghost use Rattle.jk_tree.specs.TagTree.{shape_of, query_of, column, row, Values, Query, count, top, told, piece};
-ghost use Rattle.jk_tree.specs.Telling.{Lowers, Speaks, Tells, with_bits, written};
+ghost use Rattle.jk_tree.specs.Telling.{Fails, Grows, Lowers, Speaks, Tells, with_bits, written};
 
 use crate::levels::{Levels, node_count, node_over, root_level};
 use jk_bits::BitWriter;
@@ -23,11 +23,12 @@ struct WriteNode {
 pub struct WriteTree {
     levels: Levels,
     nodes: Vec<WriteNode>,
-    failed: bool,
+    fault: Option<Fault>,
 }
 
 impl Model for WriteTree {
-    ghost use Rattle.std.specs.Prelude.{◌≡◌, ◌≤◌, length};
+    ghost use Rattle.std.specs.Prelude.{◌≡◌, ◌≤◌, length, is_some, IfSome};
+    ghost use Rattle.jk_math.specs.Memory.{IsMemory};
     ghost use Rattle.jk_tree.specs.TagTree.{shape_of, count, top};
     ghost use Rattle.jk_tree.specs.Telling.{Speaker};
 
@@ -36,19 +37,20 @@ impl Model for WriteTree {
     ghost view = { λ t. record {
       shape = shape_of t.levels.width t.levels.height;
       nodes = t.nodes.items;
-      failed = t.failed;
+      failed = is_some t.fault;
     } };
 
     ghost invariant = { λ t. (t.levels.root ≡ top (shape_of t.levels.width t.levels.height))
         × (t.levels.root ≤ 16)
-        × (length t.nodes.items ≡ count (shape_of t.levels.width t.levels.height)) };
+        × (length t.nodes.items ≡ count (shape_of t.levels.width t.levels.height))
+        × IfSome t.fault IsMemory };
 }
 
 /// Writes so many zeros.
 fn push_zeros(count: u16, writer: &mut BitWriter) -> Result<(), Fault>
     ensures { MatchResult result
         (λ _. writer.new ≡ with_bits writer.old (replicate count false))
-        (λ e. e ≡ Memory) }
+        (λ e. IsMemory e × Fails writer.old writer.new) }
 {
     for _ in 0..count {
         writer.push(false)?;
@@ -58,10 +60,12 @@ fn push_zeros(count: u16, writer: &mut BitWriter) -> Result<(), Fault>
 
 /// Tells what a node hasn't told before; `over` is the value of the node above it.
 fn speak(node: WriteNode, over: u16, threshold: u16, writer: &mut BitWriter) -> Result<(), Fault>
-    ensures { MatchResult result
+    ensures told { MatchResult result
         (λ _. over ≤ node.value
         → writer.new ≡ with_bits writer.old (piece over node.value node.told threshold))
-        (λ e. e ≡ Memory) }
+        (λ e. IsMemory e) }
+    ensures on { MatchResult result
+        (λ _. Grows writer.old writer.new) (λ _. Fails writer.old writer.new) }
 {
     if node.told >= threshold || node.value < node.told {
         return Ok(());
@@ -89,8 +93,9 @@ fn tell_way(
     ensures told { MatchResult result
         (λ _. Tells (shape_of levels.width levels.height) (query_of leaf threshold)
         nodes.old.items nodes.new.items writer.old writer.new)
-        (λ e. e ≡ Memory) }
+        (λ e. IsMemory e) }
     ensures kept { length nodes.new.items ≡ length nodes.old.items }
+    ensures fails { OnErr result (Fails writer.old writer.new) }
 {
     let column = leaf % levels.width as u32;
     let row = leaf / levels.width as u32;
@@ -116,7 +121,7 @@ fn tell_way(
 fn open_nodes(alloc: Global, count: usize) -> Result<Vec<WriteNode>, Fault>
     ensures { MatchResult result
         (λ nodes. nodes.items ≡ replicate count record { value = 65535; told = 0 })
-        (λ e. e ≡ Memory) }
+        (λ e. IsMemory e) }
 {
     let mut nodes = Vec::with_capacity(alloc, count)?;
     for _ in 0..count {
@@ -161,7 +166,7 @@ impl WriteTree {
         ensures made { MatchResult result
             (λ t. (t.shape ≡ shape_of width height) × (t.failed ≡ false)
             × Speaks t.shape (written t.shape values.now) [] t.nodes)
-            (λ e. e ≡ Memory) }
+            (λ e. IsMemory e) }
 
         // The leaves have the values given.
         ensures leaves { (leaf : ℕ) → leaf < width * height
@@ -182,7 +187,7 @@ impl WriteTree {
         Ok(WriteTree {
             levels,
             nodes,
-            failed: false,
+            fault: None,
         })
     }
 
@@ -191,20 +196,24 @@ impl WriteTree {
     /// The leaves are counted in raster order. After `Memory` the tree answers `Memory` for ever.
     pub fn tell(&mut self, leaf: u32, threshold: u16, writer: &mut BitWriter) -> Result<(), Fault>
         requires { leaf < self.old.shape.width * self.old.shape.height }
-        ensures { MatchResult result
+        ensures told { MatchResult result
             (λ _. (self.old.failed ≡ false) × (self.new.failed ≡ false)
             × (self.new.shape ≡ self.old.shape)
             × Tells self.old.shape (query_of leaf threshold)
             self.old.nodes self.new.nodes writer.old writer.new)
-            (λ e. (e ≡ Memory) × (self.new.failed ≡ true) × (self.new.shape ≡ self.old.shape)) }
+            (λ e. IsMemory e × (self.new.failed ≡ true) × (self.new.shape ≡ self.old.shape)) }
+
+        // At the tree's first fault the writer fails too, some bits on. What has failed stays as it is.
+        ensures fails { self.old.failed ≡ false → OnErr result (Fails writer.old writer.new) }
+        ensures stays { self.old.failed ≡ true → (self.new ≡ self.old) × (writer.new ≡ writer.old) }
     {
-        if self.failed {
-            return Err(Fault::Memory);
+        if let Some(fault) = self.fault {
+            return Err(fault);
         }
         match tell_way(&mut self.nodes, self.levels, leaf, threshold, writer) {
             Ok(()) => Ok(()),
             Err(fault) => {
-                self.failed = true;
+                self.fault = Some(fault);
                 Err(fault)
             }
         }

@@ -1,8 +1,9 @@
 //! Files of empty packets of other geometries than a page's; the numbers come from worked examples of T.800's formulas and from
 //! another encoder.
 
-use crate::texts::{MAIN, bytes_of};
-use jk_code::{decode, encode};
+use crate::calls::{decode, encode};
+use crate::pieces::{Piece, joined};
+use crate::texts::bytes_of;
 use jk_marks::Order;
 use jk_math::{Fault, Image};
 use jk_params::{Container, Parameters};
@@ -58,6 +59,20 @@ fn is_even(image: &Image, sample: i32) -> bool {
 /// Whether these bytes stand at a place of a file.
 fn holds_at(file: &[u8], place: usize, bytes: &[u8]) -> bool {
     place <= file.len() && file[place..].starts_with(bytes)
+}
+
+/// Whether a file means an image of one sample throughout, at a reduction, with this place and size.
+fn is_even_page(
+    alloc: Global,
+    file: &[u8],
+    reduce: u32,
+    place: (u32, u32, u32, u32),
+    sample: i32,
+) -> bool {
+    match decode(alloc, file, reduce) {
+        Ok(image) => frame(&image) == place && is_even(&image, sample),
+        Err(_) => false,
+    }
 }
 
 /// Where an image lies, and its size.
@@ -202,84 +217,87 @@ fn components_and_depths(rt: HostRuntime) -> Result<(), Fail> {
 #[test]
 fn parts_and_segments(rt: HostRuntime) -> Result<(), Fail> {
     let alloc = rt.alloc();
-    let layered =
-        "FF4F FF51 0029 0000 00000001 00000001 00000000 00000000 00000001 00000001 00000000 00000000 0001 07 01 01 FF52 000C 00 00 0002 00 00 04 04 00 01 FF5C 0004 40 40";
-    let first = "FF90 000A 0000 0000000F 00 02 FF93 00";
-    let second = "FF90 000A 0000 0000000F 01 02 FF93 00";
-    let file = bytes_of(alloc, &[layered, first, second, "FFD9"])?;
+    let file = joined(
+        alloc,
+        &[
+            (Piece::Layered, 1),
+            (Piece::First, 1),
+            (Piece::Second, 1),
+            (Piece::End, 1),
+        ],
+    )?;
     assert_eq!(rt; file.len(), 97);
-    let image = decode(alloc, &file, 0).ok().ok_or("an image")?;
-    assert!(rt; frame(&image) == (0, 0, 1, 1) && is_even(&image, 128));
-    let turned = bytes_of(alloc, &[layered, second, first, "FFD9"])?;
+    assert!(rt; is_even_page(alloc, &file, 0, (0, 0, 1, 1), 128));
+    let turned = joined(
+        alloc,
+        &[
+            (Piece::Layered, 1),
+            (Piece::Second, 1),
+            (Piece::First, 1),
+            (Piece::End, 1),
+        ],
+    )?;
     assert_eq!(rt; decode(alloc, &turned, 0).err(), Some(Fault::BadValue));
-    let one = bytes_of(alloc, &[layered, first, "FFD9"])?;
+    let one = joined(
+        alloc,
+        &[(Piece::Layered, 1), (Piece::First, 1), (Piece::End, 1)],
+    )?;
     assert_eq!(rt; decode(alloc, &one, 0).err(), Some(Fault::MissingPackets));
-    let segments = "FF5D 0005 00 40 40 FF64 0006 0001 4142 FF55 0008 00 40 00000017";
-    let part = "FF90 000A 0000 00000015 00 01 FF58 0004 00 03 FF93 00 FFD9";
-    let full = bytes_of(alloc, &[MAIN, segments, part])?;
+    let full = joined(
+        alloc,
+        &[(Piece::Page, 1), (Piece::Passed, 1), (Piece::Part, 1)],
+    )?;
     assert_eq!(rt; full.len(), 113);
-    let image = decode(alloc, &full, 0).ok().ok_or("an image")?;
-    assert!(rt; frame(&image) == (0, 0, 1, 1) && is_even(&image, 128));
+    assert!(rt; is_even_page(alloc, &full, 0, (0, 0, 1, 1), 128));
     Ok(())
 }
 
-/// Texts, each so often, as bytes.
-fn repeated(alloc: Global, texts: &[(&str, usize)]) -> Result<Vec<u8>, Fail> {
-    let mut bytes = Vec::new(alloc);
-    for (text, times) in texts {
-        let piece = bytes_of(alloc, &[text])?;
-        for _ in 0..*times {
-            bytes.extend_from_slice(&piece)?;
-        }
-    }
-    Ok(bytes)
-}
-
 /// Every kind of segment in an unusual order, in the main header and in those of two tiles whose parts are mixed.
+///
+/// Tile 1 has 8 packets in one layer without SOP and EPH, by its own COD; tile 0 has 16 in two layers with both.
 #[test]
 fn mixed_parts(rt: HostRuntime) -> Result<(), Fail> {
     let alloc = rt.alloc();
-    let main =
-        "FF4F FF51 002F 0000 00000013 0000000D 00000003 00000002 00000010 00000010 00000000 00000000 0003 0B 01 01 0B 01 01 0B 01 01 FF64 0006 0001 4142 FF5D 000B 02 40 60 68 68 70 68 68 70 FF30 FF52 000F 07 02 0002 01 02 02 01 00 01 76 87 98 FF55 0008 00 40 00000017 FF53 000B 01 01 01 03 03 00 01 65 54 FF5C 000A 60 60 68 68 70 68 68 70 FF6F 0003 00 FF63 000E 0000 0000 0000 0000 0000 0000";
-    // Tile 1 has 8 packets in one layer without SOP and EPH, by its own COD; tile 0 has 16 in two layers with both.
-    let one_a =
-        "FF90 000A 0001 00000049 00 02 FF53 0009 02 00 01 04 04 00 01 FF5D 000B 01 40 60 68 68 70 68 68 70 FF52 000F 01 00 0001 00 02 04 04 00 01 77 88 99 FF58 0004 00 03 FF64 0005 0000 41 FF31 FF93 00 00 00";
-    let zero_a = "FF90 000A 0000 0000003B 00 02 FF93";
-    let zero_b = "FF90 000A 0000 00000077 01 02 FF58 0004 00 03 FF93";
-    let zero_short = "FF90 000A 0000 0000006E 01 02 FF58 0004 00 03 FF93";
-    let one_b = "FF90 000A 0001 00000013 01 02 FF93 00 00 00 00 00 FFD9";
-    let packet = "FF91 0004 1234 00 FF92";
-    let whole = [
-        (main, 1usize),
-        (one_a, 1),
-        (zero_a, 1),
-        (packet, 5),
-        (zero_b, 1),
-        (packet, 11),
-        (one_b, 1),
-    ];
-    let file = repeated(alloc, whole.as_slice())?;
+    let file = joined(
+        alloc,
+        &[
+            (Piece::Mixed, 1),
+            (Piece::OneBegun, 1),
+            (Piece::ZeroBegun, 1),
+            (Piece::Packet, 5),
+            (Piece::ZeroEnded, 1),
+            (Piece::Packet, 11),
+            (Piece::OneEnded, 1),
+        ],
+    )?;
     assert_eq!(rt; file.len(), 419);
-    let image = decode(alloc, &file, 0).ok().ok_or("an image")?;
-    assert!(rt; frame(&image) == (3, 2, 16, 11) && is_even(&image, 2048));
-    let half = decode(alloc, &file, 1).ok().ok_or("half an image")?;
-    assert!(rt; frame(&half) == (2, 1, 8, 6) && is_even(&half, 2048));
+    assert!(rt; is_even_page(alloc, &file, 0, (3, 2, 16, 11), 2048));
+    assert!(rt; is_even_page(alloc, &file, 1, (2, 1, 8, 6), 2048));
     // Component 1 of tile 0 has one decomposition level.
     assert_eq!(rt; decode(alloc, &file, 2).err(), Some(Fault::BadWindow));
-    let short = [
-        (main, 1usize),
-        (one_a, 1),
-        (zero_a, 1),
-        (packet, 5),
-        (zero_short, 1),
-        (packet, 10),
-        (one_b, 1),
-    ];
-    let fewer = repeated(alloc, short.as_slice())?;
+    let fewer = joined(
+        alloc,
+        &[
+            (Piece::Mixed, 1),
+            (Piece::OneBegun, 1),
+            (Piece::ZeroBegun, 1),
+            (Piece::Packet, 5),
+            (Piece::ZeroShort, 1),
+            (Piece::Packet, 10),
+            (Piece::OneEnded, 1),
+        ],
+    )?;
     assert_eq!(rt; decode(alloc, &fewer, 0).err(), Some(Fault::MissingPackets));
-    let turned = [(main, 1usize), (zero_b, 1), (packet, 11), (one_b, 1)];
-    let file = repeated(alloc, turned.as_slice())?;
-    assert_eq!(rt; decode(alloc, &file, 0).err(), Some(Fault::BadValue));
+    let turned = joined(
+        alloc,
+        &[
+            (Piece::Mixed, 1),
+            (Piece::ZeroEnded, 1),
+            (Piece::Packet, 11),
+            (Piece::OneEnded, 1),
+        ],
+    )?;
+    assert_eq!(rt; decode(alloc, &turned, 0).err(), Some(Fault::BadValue));
     Ok(())
 }
 

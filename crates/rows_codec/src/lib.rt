@@ -2,6 +2,8 @@
 #![tactic(auto)]
 
 #[cfg(test)]
+mod calls;
+#[cfg(test)]
 mod geometry;
 #[cfg(test)]
 mod header_cases;
@@ -11,6 +13,10 @@ mod headers;
 mod pages;
 #[cfg(test)]
 mod parts;
+#[cfg(test)]
+mod pieces;
+#[cfg(test)]
+mod sizes;
 #[cfg(test)]
 mod texts;
 #[cfg(test)]

@@ -1,5 +1,5 @@
+use crate::calls::{self, decode, encode};
 use crate::texts::{MAIN, bytes_of, changed};
-use jk_code::{decode, encode};
 use jk_marks::Order;
 use jk_math::Fault;
 use jk_params::{Container, Parameters, read_codestream};
@@ -37,13 +37,13 @@ fn grey(alloc: Global, header: &str, area: usize) -> Result<Vec<u8>, Fail> {
 fn one_pixel(rt: HostRuntime) -> Result<(), Fail> {
     let alloc = rt.alloc();
     let pgm = grey(alloc, "P5\n1 1\n255\n", 1)?;
-    let image = jk_pnm::read(alloc, &pgm).ok().ok_or("an image")?;
+    let image = calls::read(alloc, &pgm).ok().ok_or("an image")?;
     let file = encode(alloc, &image, &bare(alloc)).ok().ok_or("a file")?;
     let wanted = bytes_of(alloc, &[MAIN, "FF90 000A 0000 0000000F 00 01 FF93 00 FFD9"])?;
     assert_eq!(rt; wanted.len(), 82);
     assert_eq!(rt; &file[..], &wanted[..]);
     let back = decode(alloc, &file, 0).ok().ok_or("an image again")?;
-    let again = jk_pnm::write(alloc, &back).ok().ok_or("a PGM file")?;
+    let again = calls::write(alloc, &back).ok().ok_or("a PGM file")?;
     assert_eq!(rt; &again[..], &pgm[..]);
     Ok(())
 }
@@ -52,7 +52,7 @@ fn one_pixel(rt: HostRuntime) -> Result<(), Fail> {
 fn whole_page(rt: HostRuntime) -> Result<(), Fail> {
     let alloc = rt.alloc();
     let pgm = grey(alloc, "P5\n300 200\n255\n", 60_000)?;
-    let image = jk_pnm::read(alloc, &pgm).ok().ok_or("an image")?;
+    let image = calls::read(alloc, &pgm).ok().ok_or("an image")?;
     assert_eq!(rt; (image.width(), image.height()), (300, 200));
     let file = encode(alloc, &image, &bare(alloc)).ok().ok_or("a file")?;
     assert_eq!(rt; file.len(), 82);
@@ -63,7 +63,7 @@ fn whole_page(rt: HostRuntime) -> Result<(), Fail> {
     assert_eq!(rt; headers.cod(0).layers, 1);
     assert_eq!(rt; headers.codings(0).as_slice().len(), 1);
     let back = decode(alloc, &file, 0).ok().ok_or("an image again")?;
-    let again = jk_pnm::write(alloc, &back).ok().ok_or("a PGM file")?;
+    let again = calls::write(alloc, &back).ok().ok_or("a PGM file")?;
     assert!(rt; again[..] == pgm[..]);
     Ok(())
 }
@@ -78,7 +78,7 @@ fn other_files(rt: HostRuntime) -> Result<(), Fail> {
     ] {
         let file = bytes_of(alloc, &[MAIN, part])?;
         let image = decode(alloc, &file, 0).ok().ok_or("an image")?;
-        let text = jk_pnm::write(alloc, &image).ok().ok_or("a PGM file")?;
+        let text = calls::write(alloc, &image).ok().ok_or("a PGM file")?;
         let wanted = grey(alloc, "P5\n1 1\n255\n", 1)?;
         assert_eq!(rt; &text[..], &wanted[..], "{part}");
         assert_eq!(rt;
@@ -159,7 +159,7 @@ fn passed_segments(rt: HostRuntime) -> Result<(), Fail> {
     let file = bytes_of(alloc, &[MAIN, "FF30 FF6F 0003 00", part])?;
     assert_eq!(rt; file.len(), 89);
     let image = decode(alloc, &file, 0).ok().ok_or("an image")?;
-    let text = jk_pnm::write(alloc, &image).ok().ok_or("a PGM file")?;
+    let text = calls::write(alloc, &image).ok().ok_or("a PGM file")?;
     let wanted = grey(alloc, "P5\n1 1\n255\n", 1)?;
     assert_eq!(rt; &text[..], &wanted[..]);
     let short = bytes_of(alloc, &[MAIN, "FF30 FF6F 0001 00", part])?;
@@ -190,6 +190,12 @@ fn refused_headers(rt: HostRuntime) -> Result<(), Fail> {
         let file = changed(alloc, &[MAIN, part], place, byte)?;
         assert_eq!(rt; decode(alloc, &file, 0).err(), Some(fault), "{place}");
     }
+    // Signed samples, and a tile higher than the image.
+    for (place, byte, sample) in [(42, 0x87, 0), (31, 2, 128)] {
+        let file = changed(alloc, &[MAIN, part], place, byte)?;
+        let image = decode(alloc, &file, 0).ok().ok_or("an image")?;
+        assert_eq!(rt; *image.planes().plane(0), *[sample].as_slice(), "{place}");
+    }
     Ok(())
 }
 
@@ -197,7 +203,7 @@ fn refused_headers(rt: HostRuntime) -> Result<(), Fail> {
 fn parameters(rt: HostRuntime) -> Result<(), Fail> {
     let alloc = rt.alloc();
     let pgm = grey(alloc, "P5\n2 1\n255\n", 2)?;
-    let image = jk_pnm::read(alloc, &pgm).ok().ok_or("an image")?;
+    let image = calls::read(alloc, &pgm).ok().ok_or("an image")?;
     let mut pairs = Vec::new(alloc);
     pairs.push((0, 15))?;
     let given = Parameters {
@@ -250,7 +256,7 @@ fn parameters(rt: HostRuntime) -> Result<(), Fail> {
 fn boxed_page(rt: HostRuntime) -> Result<(), Fail> {
     let alloc = rt.alloc();
     let pgm = grey(alloc, "P5\n1 1\n255\n", 1)?;
-    let image = jk_pnm::read(alloc, &pgm).ok().ok_or("an image")?;
+    let image = calls::read(alloc, &pgm).ok().ok_or("an image")?;
     let boxed = Parameters {
         container: Container::Jp2,
         ..bare(alloc)
@@ -266,7 +272,7 @@ fn boxed_page(rt: HostRuntime) -> Result<(), Fail> {
     let longer = bytes_of(alloc, &[front, MAIN, part, "00000009 66726565 00"])?;
     for bytes in [&file, &longer] {
         let back = decode(alloc, bytes, 0).ok().ok_or("an image again")?;
-        let again = jk_pnm::write(alloc, &back).ok().ok_or("a PGM file")?;
+        let again = calls::write(alloc, &back).ok().ok_or("a PGM file")?;
         assert_eq!(rt; &again[..], &pgm[..]);
     }
     let other = bytes_of(alloc, &["0000000C 6A502020 0D0B870A", MAIN, part])?;
@@ -278,7 +284,7 @@ fn boxed_page(rt: HostRuntime) -> Result<(), Fail> {
 #[test]
 fn other_pages(rt: HostRuntime) -> Result<(), Fail> {
     let alloc = rt.alloc();
-    let image = jk_pnm::read(alloc, b"P5\n2 1\n255\nab")
+    let image = calls::read(alloc, b"P5\n2 1\n255\nab")
         .ok()
         .ok_or("an image")?;
     assert_eq!(rt; *image.planes().plane(0), *[97, 98].as_slice());
@@ -287,7 +293,7 @@ fn other_pages(rt: HostRuntime) -> Result<(), Fail> {
         Some(Fault::NotYet)
     );
     let moved = image.place(1, 0).ok().ok_or("a place")?;
-    let text = jk_pnm::write(alloc, &moved).ok().ok_or("a PGM file")?;
+    let text = calls::write(alloc, &moved).ok().ok_or("a PGM file")?;
     assert_eq!(rt; &text[..], "P5\n2 1\n255\nab".as_bytes());
     Ok(())
 }

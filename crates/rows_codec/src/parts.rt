@@ -1,8 +1,12 @@
+ghost use Rattle.std.specs.Prelude.{◌≡◌, length, IfOk};
+ghost use Rattle.jk_marks.specs.Siz.{IsSiz, tile_count};
+
 use crate::texts::{MAIN, bytes_of};
 use jk_geom::tile_count;
 use jk_marks::marker::{COD, EOC, QCD, SIZ, SOC, SOD, SOT};
-use jk_marks::{Cursor, Order, Precincts, read_main, read_tile_part};
+use jk_marks::{Cursor, Main, Order, Precincts, TilePart, read_main, read_tile_part};
 use jk_math::Fault;
+use std::alloc::Global;
 use std::test::Fail;
 
 #[test]
@@ -23,36 +27,93 @@ fn cursor(rt: HostRuntime) -> Result<(), Fail> {
     Ok(())
 }
 
+/// The main header at the front of a file.
+fn main_of(file: &[u8]) -> Result<Main, Fail>
+    ensures { IfOk result (λ m. IsSiz m.siz) }
+{
+    let (main, _) = read_main(file)?;
+    Ok(main)
+}
+
+/// How many parts of each tile were read: so many of the first, and none of the others.
+fn seen_of(alloc: Global, main: &Main, first: u16) -> Result<Vec<u16>, Fail>
+    requires { IsSiz main.now.siz }
+    ensures { IfOk result (λ v. length v.items ≡ tile_count main.now.siz) }
+{
+    let mut seen = vec![in alloc; 0u16; tile_count(&main.siz) as usize]?;
+    if !seen.is_empty() {
+        seen[0] = first;
+    }
+    Ok(seen)
+}
+
+/// Tile, number and place of a tile-part, behind so many parts of the first tile.
+fn part_after(
+    alloc: Global,
+    main: &Main,
+    bytes: &[u8],
+    first: u16,
+) -> Result<Result<(u16, u8, usize, usize), Fault>, Fail>
+    requires { IsSiz main.now.siz }
+{
+    let seen = seen_of(alloc, main, first)?;
+    Ok(numbers(read_tile_part(bytes, main, &seen)))
+}
+
+/// The numbers of a tile-part.
+fn numbers(part: Result<TilePart, Fault>) -> Result<(u16, u8, usize, usize), Fault> {
+    let part = part?;
+    Ok((part.tile, part.part, part.start, part.end))
+}
+
+/// What a test looks at of a main header.
+#[derive(Drop)]
+struct Seen {
+    length: usize,
+    size: (u32, u32),
+    tiles: u32,
+    order: Order,
+    precincts: usize,
+    exponents: usize,
+}
+
+/// The fields of a main header.
+fn main_fields(bytes: &[u8]) -> Result<Seen, Fail> {
+    let (main, length) = read_main(bytes)?;
+    Ok(Seen {
+        length,
+        size: (main.siz.x1, main.siz.y1),
+        tiles: tile_count(&main.siz),
+        order: main.cod.order,
+        precincts: main.cod.style.precincts.as_slice().len(),
+        exponents: main.qcd.exponents.len(),
+    })
+}
+
 #[test]
-fn headers(rt: HostRuntime) -> Result<(), Fail> {
+fn main_headers(rt: HostRuntime) -> Result<(), Fail> {
     let part = "FF90 000A 0000 0000000F 00 01 FF93 00";
     let file = bytes_of(rt.alloc(), &[MAIN, part])?;
     assert_eq!(rt; file.len(), 80);
-    let Ok((main, length)) = read_main(&file) else {
-        return Err("a main header".into());
-    };
-    assert_eq!(rt; length, 65);
-    assert_eq!(rt; (main.siz.x1, main.siz.y1), (1, 1));
-    assert_eq!(rt; main.cod.order, Order::Lrcp);
-    assert_eq!(rt; main.cod.style.precincts.as_slice().len(), 0);
+    let seen = main_fields(&file)?;
+    assert_eq!(rt; seen.length, 65);
+    assert_eq!(rt; seen.size, (1, 1));
+    assert_eq!(rt; seen.tiles, 1);
+    assert_eq!(rt; seen.order, Order::Lrcp);
+    assert_eq!(rt; (seen.precincts, seen.exponents), (0, 1));
     assert_eq!(rt; Precincts::none().as_slice().len(), 0);
-    assert_eq!(rt; main.qcd.exponents.len(), 1);
-    assert_eq!(rt; main.qcd.exponents.is_empty(), false);
-    let bytes = bytes_of(rt.alloc(), &[part])?;
-    let tiles = tile_count(&main.siz);
-    assert_eq!(rt; tiles, 1);
-    let mut seen = vec![in rt.alloc(); 0u16; tiles as usize]?;
-    let first = read_tile_part(&bytes, &main, &seen)
-        .ok()
-        .ok_or("a tile-part")?;
-    assert_eq!(rt;
-        (first.tile, first.part, first.start, first.end),
-        (0, 0, 14, 15)
-    );
-    seen[0] = 1;
-    let second = read_tile_part(&bytes, &main, &seen);
-    assert_eq!(rt; second.err(), Some(Fault::BadValue));
     assert_eq!(rt; (SOC, SIZ, COD, QCD), (0xFF4F, 0xFF51, 0xFF52, 0xFF5C));
     assert_eq!(rt; (SOT, SOD, EOC), (0xFF90, 0xFF93, 0xFFD9));
+    Ok(())
+}
+
+#[test]
+fn tile_parts(rt: HostRuntime) -> Result<(), Fail> {
+    let alloc = rt.alloc();
+    let text = "FF90 000A 0000 0000000F 00 01 FF93 00";
+    let main = main_of(&bytes_of(alloc, &[MAIN, text])?)?;
+    let part = bytes_of(alloc, &[text])?;
+    assert_eq!(rt; part_after(alloc, &main, &part, 0)?, Ok((0, 0, 14, 15)));
+    assert_eq!(rt; part_after(alloc, &main, &part, 1)?, Err(Fault::BadValue));
     Ok(())
 }

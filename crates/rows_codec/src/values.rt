@@ -1,6 +1,12 @@
 use jk_math::{Fault, Image, Rect, ceil_div, floor_div, reflect, sample_range};
 use std::alloc::Global;
+use std::process::Abort;
 use std::test::Fail;
+
+/// Room for so many bytes, or what its refusal makes.
+fn room(alloc: Global, bytes: usize) -> Result<Vec<u8>, Fault> {
+    Ok(Vec::with_capacity(alloc, bytes)?)
+}
 
 /// An image at (7, 5) of one or two planes: `columns` columns by 2 rows, each plane of six samples.
 fn small(
@@ -120,4 +126,45 @@ fn ranges(rt: HostRuntime) {
         y1: 3,
     };
     assert_eq!(rt; whole, Rect { ..whole });
+}
+
+/// What a fault prints, and that it is this fault's name.
+fn prints(rt: &impl Abort, alloc: Global, fault: Fault, text: &str) -> Result<(), Fail> {
+    let printed = format!(in alloc; "{fault}")?;
+    assert_eq!(rt; printed.as_str(), text);
+    Ok(())
+}
+
+#[test]
+fn printed_faults(rt: HostRuntime) -> Result<(), Fail> {
+    let alloc = rt.alloc();
+    let refused: Result<Vec<u8>, Fault> = room(alloc, usize::MAX);
+    prints(&rt, alloc, refused.err().ok_or("a refusal")?, "F1 Memory")?;
+    for (fault, text) in [
+        (Fault::Truncated, "F2 Truncated"),
+        (Fault::BadMarker, "F3 BadMarker"),
+        (Fault::BadLength, "F4 BadLength"),
+        (Fault::BadValue, "F5 BadValue"),
+        (Fault::Unsupported, "F6 Unsupported"),
+        (Fault::Limit, "F7 Limit"),
+        (Fault::PacketHeader, "F8 PacketHeader"),
+        (Fault::TooManyPasses, "F9 TooManyPasses"),
+        (Fault::CodeOutOfInterval, "F10 CodeOutOfInterval"),
+        (Fault::MissingPackets, "F11 MissingPackets"),
+        (Fault::SurplusBytes, "F12 SurplusBytes"),
+        (Fault::BadBox, "F13 BadBox"),
+        (Fault::BadPnm, "F14 BadPnm"),
+        (Fault::BadParameters, "F15 BadParameters"),
+        (Fault::BadWindow, "F16 BadWindow"),
+        (Fault::NoSuchImage, "F17 NoSuchImage"),
+        (Fault::NameTaken, "F18 NameTaken"),
+        (Fault::BadName, "F19 BadName"),
+        (Fault::Shelf, "F20 Shelf"),
+        (Fault::Changed, "F21 Changed"),
+        (Fault::NotYet, "F22 NotYet"),
+        (Fault::WorkerFailed, "F23 WorkerFailed"),
+    ] {
+        prints(&rt, alloc, fault, text)?;
+    }
+    Ok(())
 }

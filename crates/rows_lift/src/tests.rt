@@ -1,5 +1,5 @@
 ghost use Rattle.std.specs.Prelude.{◌≡◌, ◌+◌, ◌-◌, ◌*◌, ◌^◌, ◌<◌, ◌≤◌, IsTrue, length, All};
-ghost use Rattle.jk_lift.specs.Magnitude.{IsBelow};
+ghost use Rattle.jk_math.specs.Signed.{IsBelow};
 ghost use Rattle.jk_lift.specs.Samples.{low_length};
 
 use crate::formula::{coefficient, sample};

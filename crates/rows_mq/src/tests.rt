@@ -9,7 +9,7 @@ use std::process::Abort;
 use std::test::Fail;
 
 /// The bytes of a hexadecimal text; `-` has none.
-fn bytes_of(alloc: Global, text: &str) -> Result<Vec<u8>, Fail> {
+pub(crate) fn bytes_of(alloc: Global, text: &str) -> Result<Vec<u8>, Fail> {
     let mut bytes = Vec::new(alloc);
     let mut high = None;
     for digit in text.chars() {

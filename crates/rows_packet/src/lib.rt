@@ -10,4 +10,6 @@ mod headers;
 #[cfg(test)]
 mod precincts;
 #[cfg(test)]
+mod sizes;
+#[cfg(test)]
 mod trees;

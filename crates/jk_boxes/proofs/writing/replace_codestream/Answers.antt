@@ -4,7 +4,8 @@ use Rattle.std.specs.List.{starts_with}
 use Rattle.std.proofs.lemmas.Bool.{not-false}
 use Rattle.jk_math.specs.Steps.{if_ok_answers, answers_same}
 use Rattle.jk_boxes.specs.Boxes.{soc}
-use Rattle.jk_boxes.specs.Written.{replaced, recoded}
+use Rattle.jk_boxes.specs.Written.{recoded}
+use Rattle.jk_boxes.specs.Replacing.{replaced}
 use Rattle.jk_boxes.proofs.WrittenLaws.{is_jp2, replaced_jp2, replaced_bare, replaced_holds}
 use Rattle.jk_boxes.proofs.writing.replace_codestream.Goals as goal
 

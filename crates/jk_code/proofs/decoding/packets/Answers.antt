@@ -1,5 +1,5 @@
 use Rattle.std.proofs.Common.{length, ◌∙◌, refl}
-use Rattle.jk_code.proofs.HeaderFacts.{few_packets}
+use Rattle.jk_params.proofs.Laws.{few_packets}
 use Rattle.jk_code.proofs.decoding.packets.Goals as goal
 
 pub returns : goal.returns

@@ -1,27 +1,47 @@
-use Rattle.std.proofs.Common.{arith}
-use Rattle.jk_mqdec.proofs.Doubling.{holds-twice, comes-first, comes-next, comes-last, comes-outside}
+use Rattle.std.proofs.Common.{sym, subst, arith}
+use Rattle.std.specs.Prelude.{MatchOption}
+use Rattle.std.specs.Int.Count.{count_leading_zeros}
+use Rattle.jk_mqdec.specs.Registers.{Holds, IsOutside}
+use Rattle.jk_mqdec.proofs.Shifts.{highest, shift_less}
+use Rattle.jk_mqdec.proofs.Doubling.{holds-shifted, renormalised-by}
 use Rattle.jk_mqdec.proofs.registers.renormalised.Goals as goal
 
-pub loop-now-init : goal.loop-now-init
-loop-now-init c = (c.requires, λ s h. comes-first _ _ s c.requires.positive h)
+pub shifted-requires : goal.shifted-requires
+shifted-requires c =
+    let h = highest c.args.old.width c.requires.wide (omega arith) in
+    let few = h.0 in
+    record { code = c.requires.can.code; width = h.2; times = c.if-times-old.true; few = omega (arith, few) }
 
-pub loop-now-preserved : goal.loop-now-preserved
-loop-now-preserved c =
-    let ready = c.in_ok-ready.ensures in
-    let twice = c.twice-now.ensures in (
-      record {
-        code = omega (arith, ready.code);
-        positive = omega (arith, ready.width);
-        width = omega (arith, ready.width);
-        count = omega (arith, ready.largest_count);
-        place = omega (arith, ready.place);
-      },
-      λ s h. comes-next _ c.loop-now.now _ s c.loop-now-test.true (λ t k. holds-twice _ c.in_ok-ready.ready _ t (ready.holds t k) twice.code twice.width twice.count twice.place) (c.loop-now.invariant.1 s h),
-    )
+pub returns-then-times-old-clause-ready : goal.returns-then-times-old-clause-ready
+returns-then-times-old-clause-ready c =
+    let old = c.args.old in
+    let h = highest old.width c.requires.wide (omega arith) in
+    let new = c.shifted.ensures in
+    let code = new.code in
+    let width = new.width in
+    let count = new.count in
+    let place = new.place in
+    let less = shift_less old.code old.width (count_leading_zeros 32 old.width) c.requires.can.code in
+    let least = h.1 in
+    let few = c.requires.can.count in
+    let at = c.requires.can.place in
+    record { code = omega (arith, code, width, less); least = omega (arith, width, least); count = omega (arith, count, few); place = omega (arith, place, at) }
 
-pub returns-in_err-ready-clause-holds : goal.returns-in_err-ready-clause-holds
-returns-in_err-ready-clause-holds c =
-    λ s h. rw c.from_residual.ensures (comes-outside _ c.loop-now.now s c.loop-now-test.true c.in_err-ready.ensures.holds (c.loop-now.invariant.1 s h))
+pub returns-then-times-old-clause-holds : goal.returns-then-times-old-clause-holds
+returns-then-times-old-clause-holds c = λ s k.
+    let old = c.args.old in
+    let h = highest old.width c.requires.wide (omega arith) in
+    let new = c.shifted.ensures in
+    subst (λ t. Holds c.args.bytes.now c.shifted.result t) (sym (renormalised-by c.args.bytes.now old s _ k h.0 h.1 h.2))
+    (holds-shifted c.args.bytes.now _ old c.shifted.result s k c.if-times-old.true new.code new.width new.count new.place)
+
+pub fed_through-requires : goal.fed_through-requires
+fed_through-requires c =
+    let h = highest c.args.old.width c.requires.wide (omega arith) in
+    record { can = c.requires.can; due = c.if-times-old.false; few = h.0; least = h.1; width = h.2 }
 
 pub returns-clause-holds : goal.returns-clause-holds
-returns-clause-holds c = λ s h. comes-last _ c.loop-now.now s c.loop-now-test.false (c.loop-now.invariant.1 s h)
+returns-clause-holds c = λ s k.
+    let old = c.args.old in
+    let h = highest old.width c.requires.wide (omega arith) in
+    subst (λ t. MatchOption c.fed_through.result (IsOutside c.args.bytes.now t) (λ r. Holds c.args.bytes.now r t)) (sym (renormalised-by c.args.bytes.now old s _ k h.0 h.1 h.2)) (c.fed_through.ensures.holds s k)

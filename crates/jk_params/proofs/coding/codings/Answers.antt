@@ -2,7 +2,7 @@ use Rattle.std.proofs.Common.{◌≡◌, ◌-◌, ◌+◌, ◌++◌, [], ◌∷�
 use Rattle.std.proofs.lemmas.Result.{err_from_is_err_and}
 use Rattle.jk_math.specs.Answer.{◌>>=◌}
 use Rattle.jk_marks.specs.declared.coding.Coding.{Coding}
-use Rattle.jk_params.specs.Coding.{codings_at, codings_from}
+use Rattle.jk_params.specs.CodingReading.{codings_at, codings_from}
 use Rattle.jk_params.proofs.LoopLaws.{codings_more, codings_end}
 use Rattle.jk_params.proofs.coding.codings.Goals as goal
 

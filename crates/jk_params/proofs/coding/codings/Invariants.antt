@@ -1,5 +1,5 @@
 use Rattle.std.proofs.Common.{◌≡◌, ◌-◌, length}
-use Rattle.jk_params.specs.Coding.{codings_at, codings_from}
+use Rattle.jk_params.specs.CodingReading.{codings_at, codings_from}
 use Rattle.jk_params.proofs.coding.codings.Given as goal
 
 -- the components that are left follow those that are done

@@ -1,7 +1,7 @@
 use Rattle.std.proofs.Common.{Option, sym, ap, ◌∙◌, Bor}
 use Rattle.std.specs.Prelude.{option_map}
 use Rattle.jk_marks.specs.declared.head.TileHead.{TileHead}
-use Rattle.jk_params.specs.Coding.{head_or_none}
+use Rattle.jk_params.specs.CodingReading.{head_or_none}
 use Rattle.jk_params.proofs.coding.effective.Goals as goal
 
 pub returns-in-Some-clause-only : goal.returns-in-Some-clause-only

@@ -2,7 +2,8 @@ use Rattle.std.proofs.Common.{sym, ap, ◌∙◌}
 use Rattle.jk_math.specs.Steps.{if_ok_from}
 use Rattle.jk_marks.specs.declared.segments.CodingStyle.{CodingStyle}
 use Rattle.jk_marks.specs.declared.segments.Quantisation.{Quantisation}
-use Rattle.jk_params.specs.Coding.{coding_with, planes_at, style_in}
+use Rattle.jk_params.specs.Coding.{coding_with}
+use Rattle.jk_params.specs.CodingReading.{planes_at, style_in}
 use Rattle.jk_params.proofs.CodingLaws.{planes_again, judged_has, coding_same}
 use Rattle.jk_params.proofs.coding.with_head.Goals as goal
 

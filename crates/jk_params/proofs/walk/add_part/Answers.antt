@@ -1,5 +1,5 @@
 use Rattle.std.proofs.Common.{◌≡◌, Ok, sym, arith}
-use Rattle.jk_params.specs.Coding.{codings_at}
+use Rattle.jk_params.specs.CodingReading.{codings_at}
 use Rattle.jk_params.proofs.StepLaws.{first_part}
 use Rattle.jk_params.proofs.walk.add_part.Goals as goal
 

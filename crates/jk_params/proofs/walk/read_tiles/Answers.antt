@@ -1,5 +1,5 @@
 use Rattle.std.proofs.Common.{length, ◌∙◌, arith}
-use Rattle.jk_marks.proofs.Numbers.{AreBytes}
+use Rattle.jk_math.proofs.Laws.{AreBytes}
 use Rattle.jk_params.proofs.GoodLaws.{counted_parts}
 use Rattle.jk_params.proofs.walk.read_tiles.Goals as goal
 

@@ -7,8 +7,8 @@ use Rattle.jk_tree.proofs.Visits.{ending}
 use Rattle.jk_tree.proofs.Speeches.{spoken_piece}
 use Rattle.jk_tree.proofs.write.speak.Goals as goal
 
-pub returns-in_ok-push : goal.returns-in_ok-push
-returns-in_ok-push c = λ tree.
+pub returns-in_ok-push-clause-told : goal.returns-in_ok-push-clause-told
+returns-in_ok-push-clause-told c = λ tree.
     let w = c.args.node.value in
     let t = c.args.threshold in
     let before = c.args.writer.now in
@@ -23,8 +23,8 @@ returns-in_ok-push c = λ tree.
     ∙ ap (λ (b : Bool). record { bits = (before.bits ++ replicate (min w t - max c.args.node.told (min c.args.over t)) false) ++ ending b; failed = before.failed }) (sym one)
     ∙ ap (λ (bs : List Bool). record { bits = bs; failed = before.failed }) (spoken_piece c.args.over w c.args.node.told t tree less open_value before.bits)
 
-pub returns-else-node-threshold-2 : goal.returns-else-node-threshold-2
-returns-else-node-threshold-2 c = λ tree.
+pub returns-else-node-threshold-2-clause-told : goal.returns-else-node-threshold-2-clause-told
+returns-else-node-threshold-2-clause-told c = λ tree.
     let w = c.args.node.value in
     let t = c.args.threshold in
     let before = c.args.writer.now in

@@ -1,8 +1,10 @@
-use Rattle.std.proofs.Common.{◌≡◌, suc, ◌+◌, ◌-◌, ◌<◌, ◌≤◌, max, length, set, sym, ◌∙◌, ap, subst, arith}
-use Rattle.std.proofs.lemmas.List.{get_or_read, length-set}
+use Rattle.std.proofs.Common.{◌≡◌, suc, ◌+◌, ◌-◌, ◌<◌, ◌≤◌, max, Bool, List, [], length, set, sym, ◌∙◌, ap, subst, arith}
+use Rattle.std.proofs.lemmas.List.{append-nil, get_or_read, length-set}
+use Rattle.std.proofs.lemmas.Result.{err_from_is_err_and}
 use Rattle.jk_tree.specs.TagTree.{Shape, Query, top, column, row, place, start, count}
 use Rattle.jk_tree.specs.Telling.{speaker_at}
 use Rattle.jk_tree.proofs.Speeches.{HalfSpoken, begin, done, speak_level}
+use Rattle.jk_tree.proofs.Moving.{grows_on, fails_on}
 use Rattle.jk_tree.proofs.write.tell_way.Goals as goal
 
 pub loop-level-init : goal.loop-level-init
@@ -13,6 +15,7 @@ loop-level-init c =
       from = (let n = c.len-start.ensures in let o = c.args.nodes.now.ok.0 in let l = c.requires.long in let e : count s ≡ start s (c.args.levels.root + 1) = ap (λ k. start s (k + 1)) (sym c.requires.root) in omega (arith, n, o, l, e));
       within = omega arith;
       long = c.requires.long;
+      grown = ([], ap (λ (bits : List Bool). record { bits = bits; failed = c.args.writer.now.failed }) (sym (append-nil c.args.writer.now.bits)));
       spoken = λ v queries sp.
           subst (λ k. HalfSpoken s v queries q k 0 c.args.nodes.now.items c.args.writer.now c.args.writer.now) (let r = c.requires.root in let e : suc (top s) ≡ c.args.levels.root + 1 = omega (arith, r) in e)
           (begin s v queries q c.args.nodes.now.items c.args.writer.now c.requires.leaf c.requires.long sp);
@@ -35,12 +38,18 @@ loop-level-preserved c =
       from = here.start;
       within = (let w = c.loop-level.invariant.within in omega (arith, w));
       long = length-set items c.node_over-from.result.1 _ ∙ c.loop-level.invariant.long;
+      grown = grows_on c.args.writer.now c.loop-level.writer c.speak.new.writer c.loop-level.invariant.grown c.in_ok-speak.ensures.on;
       spoken = λ v queries sp.
           let h = subst (λ k. HalfSpoken s v queries q k c.loop-level.over items c.args.writer.now c.loop-level.writer) last (c.loop-level.invariant.spoken v queries sp) in
-          let t = speak_level s v queries q i c.loop-level.over items c.args.writer.now c.loop-level.writer c.speak.new.writer node c.requires.leaf in_tree h node_is c.in_ok-speak.ensures in
+          let t = speak_level s v queries q i c.loop-level.over items c.args.writer.now c.loop-level.writer c.speak.new.writer node c.requires.leaf in_tree h node_is c.in_ok-speak.ensures.told in
           subst (λ m. HalfSpoken s v queries q i node.value (set items c.node_over-from.result.1 (record { value = node.value; told = m })) c.args.writer.now c.speak.new.writer) (sym c.max.ensures)
           (subst (λ p. HalfSpoken s v queries q i node.value (set items p (record { value = node.value; told = max node.told c.args.threshold })) c.args.writer.now c.speak.new.writer) (sym here.place) t);
     }
+
+pub returns-in_err-speak-clause-fails : goal.returns-in_err-speak-clause-fails
+returns-in_err-speak-clause-fails c =
+    let p = err_from_is_err_and c.from_residual.result c.from_residual.ensures.1 in
+    rw p.1 (fails_on c.args.writer.now c.loop-level.writer c.speak.new.writer c.loop-level.invariant.grown c.in_err-speak.ensures.on)
 
 pub returns-clause-told : goal.returns-clause-told
 returns-clause-told c = λ v queries sp.

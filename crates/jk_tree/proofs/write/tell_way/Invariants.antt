@@ -1,6 +1,6 @@
 use Rattle.std.proofs.Common.{◌≡◌, ◌+◌, ◌≤◌, List, length}
 use Rattle.jk_tree.specs.TagTree.{Shape, Query, Values, start, count}
-use Rattle.jk_tree.specs.Telling.{Speaks}
+use Rattle.jk_tree.specs.Telling.{Grows, Speaks}
 use Rattle.jk_tree.proofs.Speeches.{HalfSpoken}
 use Rattle.jk_tree.proofs.write.tell_way.Given as goal
 
@@ -12,6 +12,7 @@ invariant-loop-level l =
       from : l.start ≡ start s l.level;
       within : l.level ≤ l.levels.root + 1;
       long : length l.nodes.items ≡ count s;
+      grown : Grows l.fn.writer l.writer;
       spoken : (v : Values) (queries : List Query) → Speaks s v queries l.fn.nodes.items → HalfSpoken s v queries q l.level l.over l.nodes.items l.fn.writer l.writer;
     }
 

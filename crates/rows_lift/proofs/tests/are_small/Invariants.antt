@@ -1,5 +1,5 @@
 use Rattle.std.proofs.Common.{◌^◌, ◌<◌, ℕ, ℤ, get_or}
-use Rattle.jk_lift.specs.Magnitude.{IsBelow}
+use Rattle.jk_math.specs.Signed.{IsBelow}
 use Rattle.rows_lift.proofs.tests.are_small.Given as goal
 
 abbrev pub invariant-loop-number : goal.invariant-loop-number

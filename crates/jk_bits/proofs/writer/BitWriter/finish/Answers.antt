@@ -1,4 +1,5 @@
 use Rattle.std.proofs.Common.{◌≡◌, ℕ, ◌<◌, ◌≤◌, false, List, [], ◌∷◌, ◌++◌, ap, sym, ◌∙◌, subst, arith}
+use Rattle.std.specs.Prelude.{is_some}
 use Rattle.jk_bits.specs.Stuffing.{binary, spread}
 use Rattle.jk_bits.specs.Writing.{Written, Stuffs}
 use Rattle.jk_bits.proofs.Stuffed.{finish_none, finish_part, shifted, room_most, IsText, is_text}
@@ -28,7 +29,7 @@ padded c =
     (subst (λ (bs : List ℕ). Stuffs false (spread false s.bytes.items ++ binary s.begun s.byte) bs) (ap (λ b. s.bytes.items ++ b ∷ []) (sym (shifted s.bytes.items s.byte s.begun s.room c.self.invariant)) ∙ sym c.in_ok-push.ensures.items) t))
 
 pub returns-then-self-eq8-clause-exact : goal.returns-then-self-eq8-clause-exact
-returns-then-self-eq8-clause-exact c = (sym (ap (λ (w : Written). w.failed) c.self.view_is) ∙ c.if-self.false, (whole c).exact)
+returns-then-self-eq8-clause-exact c = (sym (ap (λ (w : Written). w.failed) c.self.view_is) ∙ ap is_some c.in_default.is, (whole c).exact)
 
 pub returns-then-self-eq8-clause-packs : goal.returns-then-self-eq8-clause-packs
 returns-then-self-eq8-clause-packs c = (whole c).packs
@@ -37,7 +38,7 @@ pub returns-then-self-eq8-clause-back : goal.returns-then-self-eq8-clause-back
 returns-then-self-eq8-clause-back c = (whole c).back
 
 pub returns-clause-exact : goal.returns-clause-exact
-returns-clause-exact c = (sym (ap (λ (w : Written). w.failed) c.self.view_is) ∙ c.if-self.false, (padded c).exact)
+returns-clause-exact c = (sym (ap (λ (w : Written). w.failed) c.self.view_is) ∙ ap is_some c.in_default.is, (padded c).exact)
 
 pub returns-clause-packs : goal.returns-clause-packs
 returns-clause-packs c = (padded c).packs

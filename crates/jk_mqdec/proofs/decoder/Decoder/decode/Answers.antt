@@ -1,11 +1,17 @@
-use Rattle.std.proofs.Common.{◌∙◌, ap, ◌-◌, ◌<◌, not, get_or, length, ltb, Ok, refl, arith}
+use Rattle.std.proofs.Common.{◌≡◌, ◌∙◌, ap, subst, ◌-◌, ◌^◌, ◌<◌, ◌≤◌, Bool, not, cond, get_or, set, length, ltb, Result, Ok, Err, refl, arith}
 use Rattle.std.specs.Bool.{beq}
 use Rattle.std.proofs.lemmas.List.{get_or_default}
-use Rattle.jk_model.specs.Contexts.{Context, begins}
+use Rattle.jk_math.specs.declared.fault.Fault.{Fault}
+use Rattle.jk_math.specs.declared.fault.Fault.TheVariants.{CodeOutOfInterval}
+use Rattle.jk_model.specs.Contexts.{Context, moved, begins}
+use Rattle.jk_model.specs.Decisions.{renormalised}
+use Rattle.jk_mqdec.specs.declared.registers.Registers.{Registers}
+use Rattle.jk_mqdec.specs.Registers.{Holds, IsOutside, IsReady}
 use Rattle.jk_mqdec.specs.Standing.{View, HasFailed}
-use Rattle.jk_mqdec.proofs.Deciding.{Settles, decides-failed, decides-settled, decides-kept, divides-lower, divides-upper, not_exchanged}
+use Rattle.jk_mqdec.proofs.Deciding.{Decides, Settles, decides-failed, decides-settled, divides}
 use Rattle.jk_mqdec.proofs.Reaching.{reached-more, only-one}
 use Rattle.jk_mqdec.proofs.decoder.Decoder.decode.Goals as goal
+use Rattle.jk_mqdec.proofs.decoder.Decoder.decode.Goals.{In-None, After-mps}
 
 -- the code value has left the interval
 pub returns-then-now : goal.returns-then-now
@@ -26,92 +32,95 @@ returns-then-now c =
       only = only-one old old c.args.cx _ d;
     }
 
--- it lies in the lower part
-pub returns-then-now-qe : goal.returns-then-now-qe
-returns-then-now-qe c =
+-- the decision is settled
+some : (c : After-mps) → Decides c.args.self.now (record { bytes = c.self.inside.bytes.now; registers = c.in-Some.registers; contexts = set c.self.inside.contexts c.args.cx c.after.result }) c.args.cx
+    (Ok (not (beq c.mps.result c.divided-part.result.less)))
+some c =
     let old = c.args.self.now in
-    let new = c.settled.new.self in
-    let code = ap (λ (v : View). v.registers.code) c.self.view_is in
-    let width = ap (λ (v : View). v.registers.width) c.self.view_is in
-    let here : c.args.cx < length c.self.inside.contexts = omega arith in
-    let context_is = get_or_default c.self.inside.contexts c.args.cx c.index-contexts-cx.result (begins 0) here ∙ ap (λ (v : View). get_or v.contexts c.args.cx (begins 0)) c.self.view_is in
-    let mps = ap (λ (x : Context). beq (ltb (c.self.inside.registers.width - c.row-qe.result.qe) c.row-qe.result.qe) x.mps) c.context.view_is in
-    let same_width = ap (λ w. beq (ltb (w - c.row-qe.result.qe) c.row-qe.result.qe) (get_or c.self.inside.contexts c.args.cx c.index-contexts-cx.result).mps) width in
-    let e = c.settled.ensures in
-    let settles : Settles old new _ c.args.cx _ _ c.settled.result = record {
-      bytes = e.bytes;
-      contexts = e.contexts;
-      bit_is = e.bit;
-      fault = e.fault;
-      ready = e.ready;
-      left = e.left;
-      holds = e.holds;
-    } in
-    let d = decides-settled old new _ c.args.cx _ _ c.settled.result (omega (arith, c.row-qe.ensures.largest)) settles (divides-lower old _ c.args.cx _ c.row-qe.result.qe _ (omega arith) context_is (ap (λ r. r.qe) c.row-qe.ensures.row) (omega arith) code refl (ap (λ (v : View). v.registers.count) c.self.view_is) (ap (λ (v : View). v.registers.place) c.self.view_is) (mps ∙ same_width)) in
-    record {
-      bytes = e.bytes;
-      answer = d.answers;
-      next = d.goes_on;
-      fault = e.fault;
-      failed = e.left;
-      stays = λ left. absurd (omega arith);
-      reached = reached-more old new c.args.cx c.settled.result e.bytes d;
-      only = only-one old new c.args.cx c.settled.result d;
-    }
-
--- it lies in the upper part, which is doubled
-pub returns-then-upper-lt32768 : goal.returns-then-upper-lt32768
-returns-then-upper-lt32768 c =
-    let old = c.args.self.now in
-    let settled = c.settled-then-upper-lt32768 in
-    let new = settled.new.self in
-    let code = ap (λ (v : View). v.registers.code) c.self.view_is in
-    let width = ap (λ (v : View). v.registers.width) c.self.view_is in
-    let here : c.args.cx < length c.self.inside.contexts = omega arith in
-    let context_is = get_or_default c.self.inside.contexts c.args.cx c.index-contexts-cx.result (begins 0) here ∙ ap (λ (v : View). get_or v.contexts c.args.cx (begins 0)) c.self.view_is in
-    let mps = ap (λ (x : Context). not (beq (ltb (c.self.inside.registers.width - c.row-qe.result.qe) c.row-qe.result.qe) x.mps)) c.context-then-upper-lt32768.view_is in
-    let same_width = ap (λ w. not (beq (ltb (w - c.row-qe.result.qe) c.row-qe.result.qe) (get_or c.self.inside.contexts c.args.cx c.index-contexts-cx.result).mps)) width in
-    let e = settled.ensures in
-    let settles : Settles old new _ c.args.cx _ _ settled.result = record {
-      bytes = e.bytes;
-      contexts = e.contexts;
-      bit_is = e.bit;
-      fault = e.fault;
-      ready = e.ready;
-      left = e.left;
-      holds = e.holds;
-    } in
-    let d = decides-settled old new _ c.args.cx _ _ settled.result c.if-upper-lt32768.true settles (divides-upper old _ c.args.cx _ c.row-qe.result.qe _ (omega arith) context_is (ap (λ r. r.qe) c.row-qe.ensures.row) (omega arith) (omega (arith, c.row-qe.ensures.largest)) (ap (λ w. w - c.row-qe.result.qe) width) (ap (λ (v : View). v.registers.count) c.self.view_is) (ap (λ (v : View). v.registers.place) c.self.view_is) (mps ∙ same_width)) in
-    record {
-      bytes = e.bytes;
-      answer = d.answers;
-      next = d.goes_on;
-      fault = e.fault;
-      failed = e.left;
-      stays = λ left. absurd (omega arith);
-      reached = reached-more old new c.args.cx settled.result e.bytes d;
-      only = only-one old new c.args.cx settled.result d;
-    }
-
--- it lies in the upper part, which is wide enough
-pub returns : goal.returns
-returns c =
-    let old = c.args.self.now in
-    let code = ap (λ (v : View). v.registers.code) c.self.view_is in
-    let width = ap (λ (v : View). v.registers.width) c.self.view_is in
-    let largest = c.row-qe.ensures.largest in
-    let here : c.args.cx < length c.self.inside.contexts = omega arith in
-    let context_is = get_or_default c.self.inside.contexts c.args.cx c.index-contexts-cx.result (begins 0) here ∙ ap (λ (v : View). get_or v.contexts c.args.cx (begins 0)) c.self.view_is in
-    let bit = ap (λ (x : Context). x.mps) c.context-2.view_is ∙ not_exchanged old.registers.width c.row-qe.result.qe (get_or c.self.inside.contexts c.args.cx c.index-contexts-cx.result).mps (omega arith) in
-    let stands_still : HasFailed old → ⊥ = λ left. omega arith in
-    let d = decides-kept old _ c.args.cx _ _ c.if-upper-lt32768.false (omega arith) (ap (λ (v : View). v.bytes) c.self.view_is) (ap (λ (v : View). v.contexts) c.self.view_is) (divides-upper old _ c.args.cx _ c.row-qe.result.qe _ (omega arith) context_is (ap (λ r. r.qe) c.row-qe.ensures.row) (omega arith) (omega arith) (ap (λ w. w - c.row-qe.result.qe) width) (ap (λ (v : View). v.registers.count) c.self.view_is) (ap (λ (v : View). v.registers.place) c.self.view_is) bit) in
-    record {
-      bytes = ap (λ (v : View). v.bytes) c.self.view_is;
-      answer = d.answers;
-      next = d.goes_on;
+    let s = c.self.inside in
+    let part = c.divided-part.result.registers in
+    let less = c.divided-part.result.less in
+    let q = c.qe.result in
+    let context = get_or s.contexts c.args.cx c.index-contexts-cx.result in
+    let bytes : s.bytes.now ≡ old.bytes = ap (λ (v : View). v.bytes) c.self.view_is in
+    let registers : s.registers ≡ old.registers = ap (λ (v : View). v.registers) c.self.view_is in
+    let here : c.args.cx < length s.contexts = omega arith in
+    let contexts : set s.contexts c.args.cx c.after.result ≡ set old.contexts c.args.cx (cond (ltb part.width (2 ^ 31)) (moved context (cond less (not context.mps) context.mps)) context) =
+    ap (λ (x : Context). set s.contexts c.args.cx x) (c.after.ensures ∙ ap (λ (t : Bool). cond t (moved context (cond less (not context.mps) context.mps)) context) c.is_narrow.ensures)
+    ∙ ap (λ (v : View). set v.contexts c.args.cx (cond (ltb part.width (2 ^ 31)) (moved context (cond less (not context.mps) context.mps)) context)) c.self.view_is in
+    let new : View = record { bytes = s.bytes.now; registers = c.in-Some.registers; contexts = set s.contexts c.args.cx c.after.result } in
+    let result : Result Bool Fault = Ok (not (beq c.mps.result less)) in
+    let settles : Settles old new part c.args.cx context less result = record {
+      bytes = bytes;
+      contexts = contexts;
+      bit_is = ap (λ (m : Bool). not (beq m less)) c.mps.ensures;
       fault = tt;
-      failed = tt;
-      stays = λ left. absurd (stands_still left);
-      reached = reached-more old _ c.args.cx (Ok c.context-2.inside.mps) (ap (λ (v : View). v.bytes) c.self.view_is) d;
-      only = only-one old _ c.args.cx (Ok c.context-2.inside.mps) d;
-    }
+      ready = subst (λ b. IsReady b c.in-Some.registers) bytes c.in-Some.ensures.ready;
+      left = tt;
+      holds = λ t. subst (λ b. Holds b part t → Holds b c.in-Some.registers (renormalised 15 t)) bytes (c.in-Some.ensures.holds t);
+    } in
+    let divide = divides old part c.args.cx context q less
+    (subst (λ (r : Registers). r.code < r.width) registers c.if-now.false)
+    (get_or_default s.contexts c.args.cx c.index-contexts-cx.result (begins 0) here ∙ ap (λ (v : View). get_or v.contexts c.args.cx (begins 0)) c.self.view_is)
+    c.qe.ensures.value
+    (subst (λ (r : Registers). r.code < q → part ≡ record r { width = q }) registers c.divided-part.ensures.lower)
+    (subst (λ (r : Registers). q ≤ r.code → part ≡ record r { code = r.code - q; width = r.width - q }) registers c.divided-part.ensures.upper)
+    (subst (λ (r : Registers). less ≡ not (beq (ltb r.code q) (ltb (r.width - q) q))) registers c.divided-part.ensures.less) in
+    decides-settled old new part c.args.cx context less result settles divide
+
+-- the code value leaves the interval
+none : (c : In-None) → Decides c.args.self.now (record { bytes = c.self.inside.bytes.now; registers = record c.divided-part.result.registers { width = 0 }; contexts = set c.self.inside.contexts c.args.cx c.after.result }) c.args.cx
+    (Err CodeOutOfInterval)
+none c =
+    let old = c.args.self.now in
+    let s = c.self.inside in
+    let part = c.divided-part.result.registers in
+    let less = c.divided-part.result.less in
+    let q = c.qe.result in
+    let context = get_or s.contexts c.args.cx c.index-contexts-cx.result in
+    let bytes : s.bytes.now ≡ old.bytes = ap (λ (v : View). v.bytes) c.self.view_is in
+    let registers : s.registers ≡ old.registers = ap (λ (v : View). v.registers) c.self.view_is in
+    let here : c.args.cx < length s.contexts = omega arith in
+    let contexts : set s.contexts c.args.cx c.after.result ≡ set old.contexts c.args.cx (cond (ltb part.width (2 ^ 31)) (moved context (cond less (not context.mps) context.mps)) context) =
+    ap (λ (x : Context). set s.contexts c.args.cx x) (c.after.ensures ∙ ap (λ (t : Bool). cond t (moved context (cond less (not context.mps) context.mps)) context) c.is_narrow.ensures)
+    ∙ ap (λ (v : View). set v.contexts c.args.cx (cond (ltb part.width (2 ^ 31)) (moved context (cond less (not context.mps) context.mps)) context)) c.self.view_is in
+    let new : View = record { bytes = s.bytes.now; registers = record part { width = 0 }; contexts = set s.contexts c.args.cx c.after.result } in
+    let result : Result Bool Fault = Err CodeOutOfInterval in
+    let settles : Settles old new part c.args.cx context less result = record {
+      bytes = bytes;
+      contexts = contexts;
+      bit_is = tt;
+      fault = refl;
+      ready = tt;
+      left = omega arith;
+      holds = λ t. subst (λ b. Holds b part t → IsOutside b (renormalised 15 t)) bytes (c.in-None.ensures.holds t);
+    } in
+    let divide = divides old part c.args.cx context q less
+    (subst (λ (r : Registers). r.code < r.width) registers c.if-now.false)
+    (get_or_default s.contexts c.args.cx c.index-contexts-cx.result (begins 0) here ∙ ap (λ (v : View). get_or v.contexts c.args.cx (begins 0)) c.self.view_is)
+    c.qe.ensures.value
+    (subst (λ (r : Registers). r.code < q → part ≡ record r { width = q }) registers c.divided-part.ensures.lower)
+    (subst (λ (r : Registers). q ≤ r.code → part ≡ record r { code = r.code - q; width = r.width - q }) registers c.divided-part.ensures.upper)
+    (subst (λ (r : Registers). less ≡ not (beq (ltb r.code q) (ltb (r.width - q) q))) registers c.divided-part.ensures.less) in
+    decides-settled old new part c.args.cx context less result settles divide
+
+pub returns-in-Some-clause-answer : goal.returns-in-Some-clause-answer
+returns-in-Some-clause-answer c = (some c.before).answers
+
+pub returns-in-Some-clause-next : goal.returns-in-Some-clause-next
+returns-in-Some-clause-next c = (some c.before).goes_on
+
+pub returns-in-Some-clause-reached : goal.returns-in-Some-clause-reached
+returns-in-Some-clause-reached c = reached-more c.args.self.now _ c.args.cx _ (ap (λ (v : View). v.bytes) c.self.view_is) (some c.before)
+
+pub returns-in-Some-clause-only : goal.returns-in-Some-clause-only
+returns-in-Some-clause-only c = only-one c.args.self.now _ c.args.cx _ (some c.before)
+
+pub returns-in-None-clause-answer : goal.returns-in-None-clause-answer
+returns-in-None-clause-answer c = (none c.before).answers
+
+pub returns-in-None-clause-next : goal.returns-in-None-clause-next
+returns-in-None-clause-next c = (none c.before).goes_on
+
+pub returns-in-None-clause-only : goal.returns-in-None-clause-only
+returns-in-None-clause-only c = only-one c.args.self.now _ c.args.cx _ (none c.before)

@@ -1,4 +1,4 @@
-use Rattle.std.proofs.Common.{◌≡◌, ◌+◌, ◌*◌, ◌<◌, ◌&&◌, Bool, length, Ok, Err, sym, ap, ◌∙◌, subst, arith}
+use Rattle.std.proofs.Common.{◌≡◌, ◌+◌, ◌*◌, ◌<◌, ◌&&◌, Bool, length, Ok, Err, refl, sym, ap, ◌∙◌, subst, arith}
 use Rattle.std.specs.Prelude.{nat_lt}
 use Rattle.std.proofs.lemmas.List.{get_or_read}
 use Rattle.jk_tree.specs.TagTree.{Query, top, count}
@@ -102,3 +102,12 @@ returns-in-Err-clause-only c = λ v queries rest none st first.
     (ap (λ k. walk t.shape q (k + 1) 0 s.nodes.items c.args.reader.now) (sym c.self.invariant.0) ∙ c.in-Err.ensures.exact) in
     let clash : Ok law.0 ≡ Err c.in-Err.fault = sym law.1 ∙ exact in
     cc
+
+pub returns-in-Err-clause-stays : goal.returns-in-Err-clause-stays
+returns-in-Err-clause-stays c = let none = ap (λ (x : Tree). x.failed) (sym c.self.view_is) ∙ c.in_default.is in rw none tt
+
+pub returns-in-Ok-clause-stays : goal.returns-in-Ok-clause-stays
+returns-in-Ok-clause-stays c = let none = ap (λ (x : Tree). x.failed) (sym c.self.view_is) ∙ c.in_default.is in rw none tt
+
+pub returns-in-Some-clause-stays : goal.returns-in-Some-clause-stays
+returns-in-Some-clause-stays c = let some = ap (λ (x : Tree). x.failed) (sym c.self.view_is) ∙ c.in-Some.is in rw some (refl, refl, refl)

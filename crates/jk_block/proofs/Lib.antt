@@ -1,0 +1,14 @@
+pub mod Spelling
+pub mod Stages
+pub mod Changes
+pub mod Seeing
+pub mod Coding
+pub mod Places
+pub mod Rows
+pub mod Runs
+pub mod Columns
+pub mod Whole
+pub mod Meanings
+pub mod Laws
+pub mod Drawing
+pub mod Taking

@@ -1,0 +1,8 @@
+use Rattle.std.proofs.Common.{sym, ap, ◌∙◌}
+use Rattle.jk_block.specs.declared.visits.Pass.{Pass}
+use Rattle.jk_block.specs.Reading.{begun}
+use Rattle.jk_block.specs.Sketches.{progress, number_of}
+use Rattle.jk_block.proofs.decoding.begin.Goals as goal
+
+pub returns-in-Propagation-clause-begun : goal.returns-in-Propagation-clause-begun
+returns-in-Propagation-clause-begun c = λ coder. c.begin.ensures.begun coder ∙ ap (λ (pass : Pass). begun (number_of pass) (progress c.args.sketch.now coder)) (sym c.in-Propagation.is)

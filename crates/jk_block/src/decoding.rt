@@ -1,0 +1,161 @@
+//! A block read from its segment.
+
+ghost use Rattle.std.specs.Prelude.{◌≡◌, ℕ, ℤ, true, false, get_or, IfErr, ◌+◌, ◌-◌, ◌*◌, ◌^◌, ◌<◌, ◌≤◌, All, IfOk, MatchResult, unsigned_abs};
+ghost use Rattle.jk_math.specs.Answer.{Answers};
+ghost use Rattle.jk_math.specs.Memory.{IsMemory};
+ghost use Rattle.jk_model.specs.Decisions.{State};
+ghost use Rattle.jk_scan.specs.Neighbours.{Field, is_inside};
+ghost use Rattle.jk_block.specs.Meaning.{IsBlockMeaning, kind_of, with_sign, value_in, values_of};
+ghost use Rattle.jk_block.specs.Reading.{times, begun, pass_at, coefficients, block_at};
+ghost use Rattle.jk_block.specs.Sketches.{Takes, progress, number_of, field_of};
+
+use crate::passes::visit_plane;
+use crate::sketch::Sketch;
+use crate::visits::Pass;
+use jk_math::Fault;
+use jk_mqdec::Decoder;
+use jk_scan::{BlockShape, Kind};
+use std::alloc::Global;
+
+/// A code-block: the coefficients of its place in a sub-band.
+#[derive(Drop)]
+pub struct Block {
+    /// How many columns it has.
+    pub width: usize,
+    /// How many rows it has.
+    pub height: usize,
+    /// Its sub-band.
+    pub kind: Kind,
+    /// The coefficients, row by row.
+    pub values: Vec<i32>,
+}
+
+/// Which pass of a bit-plane is the n-th of a block.
+fn pass_of(n: usize) -> Pass
+    requires { n < 100 }
+    ensures { number_of result ≡ kind_of n }
+{
+    match (n + 2) % 3 {
+        0 => Pass::Propagation,
+        1 => Pass::Refinement,
+        _ => Pass::Cleanup,
+    }
+}
+
+/// Begins a pass: with significance propagation a plane begins.
+fn begin(sketch: &mut Sketch, pass: Pass)
+    ensures shape { sketch.new.shape ≡ sketch.old.shape }
+    ensures begun { (c : State) → progress sketch.new c ≡ begun (number_of pass) (progress sketch.old c) }
+{
+    match pass {
+        Pass::Propagation => sketch.begin(),
+        _ => {}
+    }
+}
+
+/// Reads the n-th pass of a block.
+fn read_pass(sketch: &mut Sketch, decoder: &mut Decoder, planes: u32, n: usize) -> Result<(), Fault>
+    requires planes { planes ≤ 23 }
+    requires height { sketch.old.shape.height ≤ 1024 }
+    requires n { n < 3 * planes - 2 }
+    ensures shape { sketch.new.shape ≡ sketch.old.shape }
+    ensures bytes { decoder.new.bytes ≡ decoder.old.bytes }
+    ensures takes { Takes (pass_at decoder.old.bytes sketch.old.shape planes n)
+        sketch.old sketch.new decoder.old decoder.new result }
+{
+    let plane = planes - 1 - (n as u32 + 2) / 3;
+    let pass = pass_of(n);
+    begin(sketch, pass);
+    visit_plane(sketch, decoder, plane, pass)
+}
+
+/// Reads the passes of a block.
+fn read_passes(
+    sketch: &mut Sketch,
+    decoder: &mut Decoder,
+    planes: u32,
+    passes: usize,
+) -> Result<(), Fault>
+    requires planes { planes ≤ 23 }
+    requires height { sketch.old.shape.height ≤ 1024 }
+    requires passes { passes ≤ 3 * planes - 2 }
+    ensures shape { sketch.new.shape ≡ sketch.old.shape }
+    ensures bytes { decoder.new.bytes ≡ decoder.old.bytes }
+    ensures takes { Takes (times passes (pass_at decoder.old.bytes sketch.old.shape planes))
+        sketch.old sketch.new decoder.old decoder.new result }
+{
+    for n in 0..passes {
+        read_pass(sketch, decoder, planes, n)?;
+    }
+    Ok(())
+}
+
+/// The coefficients of a sketch.
+fn values(alloc: Global, sketch: &Sketch) -> Result<Vec<i32>, Fault>
+    requires { (x y : ℕ) → is_inside sketch.now.shape x y ≡ true
+        → field_of sketch.now.shape sketch.now.magnitudes 0 x y < 2 ^ 23 }
+    ensures values { (c : State)
+        → IfOk result (λ v. v.items ≡ values_of sketch.now.shape (coefficients (progress sketch.now c))) }
+    ensures memory { IfErr result IsMemory }
+{
+    let mut values = Vec::new(alloc);
+    for place in 0..sketch.shape.width * sketch.shape.height {
+        values.push(signed(sketch, place))?;
+    }
+    Ok(values)
+}
+
+/// The coefficient at a place, counted row by row.
+fn signed(sketch: &Sketch, place: usize) -> i32
+    requires place { place < 4096 }
+    requires small { get_or sketch.now.magnitudes place 0 < 2 ^ 23 }
+    ensures { result ≡ with_sign (get_or sketch.now.negatives place false) (get_or sketch.now.magnitudes place 0) }
+{
+    let magnitudes = &sketch.magnitudes;
+    let negatives = &sketch.negatives;
+    let magnitude = magnitudes[place] as i32;
+    if negatives[place] {
+        -magnitude
+    } else {
+        magnitude
+    }
+}
+
+/// Reads a code-block of so many bit-planes from the segment of its coding passes (T.800 Annex D), or
+/// [`Fault::Memory`], [`Fault::TooManyPasses`] or [`Fault::CodeOutOfInterval`]. Without a pass all coefficients are 0.
+pub fn decode(
+    alloc: Global,
+    segment: &[u8],
+    shape: BlockShape,
+    planes: u32,
+    passes: usize,
+) -> Result<Block, Fault>
+    requires wide { 1 ≤ shape.width }
+    requires narrow { shape.width ≤ 1024 }
+    requires high { 1 ≤ shape.height }
+    requires low { shape.height ≤ 1024 }
+    requires area { shape.width * shape.height ≤ 4096 }
+    requires planes { planes ≤ 23 }
+    ensures exact { Answers (λ b. b.values.items) result (block_at shape planes passes segment.now) }
+    ensures found { IfOk result
+        (λ b. IsBlockMeaning shape planes passes segment.now (value_in shape b.values.items)) }
+    ensures only { (q : Field ℤ) → IsBlockMeaning shape planes passes segment.now q
+        → MatchResult result (λ b. b.values.items ≡ values_of shape q) IsMemory }
+    ensures small { IfOk result (λ b. All (λ v. unsigned_abs v < 2 ^ planes) b.values.items) }
+    ensures width { IfOk result (λ b. b.width ≡ shape.width) }
+    ensures height { IfOk result (λ b. b.height ≡ shape.height) }
+    ensures kind { IfOk result (λ b. b.kind ≡ shape.kind) }
+{
+    if passes > (3 * planes as usize).saturating_sub(2) {
+        return Err(Fault::TooManyPasses);
+    }
+    let mut sketch = Sketch::new(shape);
+    let mut decoder = Decoder::new(segment);
+    read_passes(&mut sketch, &mut decoder, planes, passes)?;
+    Ok(Block {
+        width: shape.width,
+        height: shape.height,
+        kind: shape.kind,
+        values: values(alloc, &sketch)?,
+    })
+}

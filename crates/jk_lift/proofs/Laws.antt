@@ -1,0 +1,4 @@
+-- What proofs of other crates may cite of this crate's proofs: the laws of the formulas.
+pub use Rattle.jk_lift.proofs.Undoing.{undoes_line, undoes_plane, undoes_line_of_samples, undoes_rows, is_local_line, is_local_plane}
+pub use Rattle.jk_lift.proofs.Growth.{grows_line, grows_plane, bounds_plane, bounds_ten_levels}
+pub use Rattle.jk_lift.proofs.Congruence.{lifted_same}

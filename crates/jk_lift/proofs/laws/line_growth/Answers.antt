@@ -1,5 +1,0 @@
-use Rattle.jk_lift.proofs.Growth.{grows_line}
-use Rattle.jk_lift.proofs.laws.line_growth.Goals as goal
-
-pub returns : goal.returns
-returns c = grows_line

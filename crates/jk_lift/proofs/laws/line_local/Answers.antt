@@ -1,5 +1,0 @@
-use Rattle.jk_lift.proofs.Undoing.{is_local_line}
-use Rattle.jk_lift.proofs.laws.line_local.Goals as goal
-
-pub returns : goal.returns
-returns c = is_local_line

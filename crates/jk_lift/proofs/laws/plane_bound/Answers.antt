@@ -1,5 +1,0 @@
-use Rattle.jk_lift.proofs.Growth.{bounds_plane}
-use Rattle.jk_lift.proofs.laws.plane_bound.Goals as goal
-
-pub returns : goal.returns
-returns c = bounds_plane

@@ -1,5 +1,0 @@
-use Rattle.jk_lift.proofs.Growth.{grows_plane}
-use Rattle.jk_lift.proofs.laws.plane_growth.Goals as goal
-
-pub returns : goal.returns
-returns c = grows_plane

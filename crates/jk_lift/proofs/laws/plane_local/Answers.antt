@@ -1,5 +1,0 @@
-use Rattle.jk_lift.proofs.Undoing.{is_local_plane}
-use Rattle.jk_lift.proofs.laws.plane_local.Goals as goal
-
-pub returns : goal.returns
-returns c = is_local_plane

@@ -1,5 +1,0 @@
-use Rattle.jk_lift.proofs.Undoing.{undoes_line_of_samples}
-use Rattle.jk_lift.proofs.laws.samples_undone.Goals as goal
-
-pub returns : goal.returns
-returns c = undoes_line_of_samples

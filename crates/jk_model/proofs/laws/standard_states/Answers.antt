@@ -1,7 +1,0 @@
-use Rattle.std.proofs.Common.{refl}
-use Rattle.jk_model.specs.Contexts.{rows}
-use Rattle.jk_model.proofs.laws.standard_states.Goals as goal
-
-pub returns : goal.returns
-unfolding rows
-returns c = refl

@@ -1,0 +1,161 @@
+-- Several doublings at once.
+use Rattle.std.proofs.Common.{◌≡◌, ◌∙◌, ap, sym, subst, refl, ℕ, zero, suc, ◌+◌, ◌-◌, ◌*◌, ◌%◌, ◌^◌, ◌<◌, ◌≤◌, inl, inr, Bool, cond, eqb, List, arith}
+use Rattle.std.specs.Int.Count.{count_leading_zeros}
+use Rattle.std.proofs.Math.Nat.{pow-succ', mul-lt-mul_of_pos_right}
+use Rattle.std.proofs.Math.Pow.{pow_mono}
+use Rattle.std.proofs.lemmas.Bool.{cases_eq, cases_lt, eq-eqb, ne_eqb, lt-ltb}
+use Rattle.std.proofs.lemmas.Nat.{pow-add, mul-le, pow_pos, leading_top}
+use Rattle.jk_model.specs.Decisions.{State}
+use Rattle.jk_mqenc.specs.Machine.{Machine, byte_out, Holds}
+use Rattle.jk_mqenc.specs.Coding.{shifted, shifted_by, doubled_by, twice, leapt, renorm}
+use Rattle.jk_mqenc.proofs.Holdings.{IsHeld, twice-more}
+use Rattle.jk_mqenc.proofs.Finishing.{at_of, shifted_by-is, code-small}
+use Rattle.jk_mqenc.proofs.Runs.{Goes, twice-is, renorm-suc, below-half, leads-then, leads-shifts, leads-byte_out, byte_out-count, shifts-count}
+use Rattle.jk_mqenc.proofs.Renorming.{Comes}
+
+-- ---- the code against the pure function
+
+shift-small : (m : Machine) (k : ℕ) → k ≤ m.count → IsHeld m → m.code * 2 ^ k < 4294967296
+shift-small m k h i =
+    let p = mul-le m.code (2 ^ k) m.code (2 ^ m.count) (omega arith) (pow_mono h) in
+    omega (arith, p, code-small m i)
+
+wrapped : (a : ℕ) → a < 4294967296 → a % 4294967296 ≡ a
+wrapped a h = omega arith
+
+leap-is : (m : Machine) (k : ℕ) → k ≤ m.count → m.width * 2 ^ k < 65536 → IsHeld m → at_of (m.code * 2 ^ k % 4294967296) (m.width * 2 ^ k % 4294967296) (m.count - k) m.placed ≡ shifted_by k m
+leap-is m k h w i =
+    ap (λ x. at_of x (m.width * 2 ^ k % 4294967296) (m.count - k) m.placed) (wrapped (m.code * 2 ^ k) (shift-small m k h i)) ∙ ap (λ x. at_of (m.code * 2 ^ k) x (m.count - k) m.placed) (wrapped (m.width * 2 ^ k) (omega (arith, w))) ∙ sym (shifted_by-is k m)
+
+pub leap-view : (code width count : ℕ) (bs : List ℕ) (now : Machine) (k : ℕ) → at_of code width count bs ≡ now → k ≤ now.count → now.width * 2 ^ k < 65536 → IsHeld now → at_of (code * 2 ^ k % 4294967296) (width * 2 ^ k % 4294967296) (count - k) bs ≡ shifted_by k now
+leap-view code width count bs now k v h w i =
+    ap (λ (m : Machine). at_of (m.code * 2 ^ k % 4294967296) (m.width * 2 ^ k % 4294967296) (m.count - k) m.placed) v ∙ leap-is now k h w i
+
+pub held-shifted_by : (m : Machine) (k : ℕ) → k ≤ m.count → m.width * 2 ^ k < 65536 → IsHeld m → IsHeld (shifted_by k m)
+held-shifted_by m k h w i = (doubled_by k i.0, (leads-shifts k m i.0 h w i.1).holds)
+
+leapt-is : (k : ℕ) (m : Machine) → leapt k m ≡ cond (eqb (m.count - k) 0) (byte_out (shifted_by k m)) (shifted_by k m)
+unfolding leapt
+leapt-is k m = refl
+
+pub leapt-last : (k : ℕ) (m : Machine) → m.count - k ≡ 0 → leapt k m ≡ byte_out (shifted_by k m)
+leapt-last k m e = leapt-is k m ∙ ap (λ (t : Bool). cond t (byte_out (shifted_by k m)) (shifted_by k m)) (eq-eqb (m.count - k) 0 e)
+
+pub leapt-more : (k : ℕ) (m : Machine) → (m.count - k ≡ 0 → ⊥) → leapt k m ≡ shifted_by k m
+leapt-more k m n = leapt-is k m ∙ ap (λ (t : Bool). cond t (byte_out (shifted_by k m)) (shifted_by k m)) (ne_eqb (m.count - k) 0 n)
+
+-- ---- a leap is that many doublings
+
+leapt-one : (m : Machine) → 1 ≤ m.count → twice m ≡ leapt 1 m
+leapt-one m h =
+    elim (cases_eq m.count 1) [
+      | inl e ↦ twice-is m ∙ ap (λ (t : Bool). cond t (byte_out (shifted m)) (shifted m)) (eq-eqb m.count 1 e) ∙ sym (leapt-last 1 m (omega arith))
+      | inr n ↦ twice-more m n ∙ sym (leapt-more 1 m (λ z. n (omega arith)))
+    ]
+
+leapt-next : (k : ℕ) (m : Machine) → leapt k (shifted m) ≡ leapt (suc k) m
+leapt-next k m =
+    let e : m.count - 1 - k ≡ m.count - suc k = omega arith in
+    leapt-is k (shifted m) ∙ ap (λ x. cond (eqb x 0) (byte_out (shifted_by k (shifted m))) (shifted_by k (shifted m))) e ∙ sym (leapt-is (suc k) m)
+
+power-more : (w k : ℕ) → w * 2 ^ suc k ≡ 2 * w * 2 ^ k
+power-more w k = ap (λ x. w * x) (pow-succ' 2 k) ∙ grind arith
+
+renorm-leapt : (k l n : ℕ) (m : Machine) → n ≡ suc k + l → suc k ≤ m.count → m.width * 2 ^ suc k < 65536 → renorm n m ≡ renorm l (leapt (suc k) m)
+renorm-leapt k l zero m e h w = absurd (omega arith)
+renorm-leapt zero l (suc n) m e h w =
+    let same : n ≡ l = omega arith in
+    let small : m.width < 32768 = below-half m.width (2 ^ 0) (pow_pos 0) (omega (arith, power-more m.width 0)) in
+    renorm-suc n m ∙ ap (λ (t : Bool). cond t (renorm n (twice m)) m) (lt-ltb m.width 32768 small) ∙ ap (λ i. renorm i (twice m)) same ∙ ap (λ (x : Machine). renorm l x) (leapt-one m h)
+renorm-leapt (suc k) l (suc n) m e h w =
+    let p = power-more m.width (suc k) in
+    let small : m.width < 32768 = below-half m.width (2 ^ suc k) (pow_pos (suc k)) (omega (arith, p)) in
+    let many : m.count ≡ 1 → ⊥ = λ z. omega (arith, z, h) in
+    let rest = renorm-leapt k l n (shifted m) (omega arith) (omega arith) (omega (arith, p)) in
+    renorm-suc n m ∙ ap (λ (t : Bool). cond t (renorm n (twice m)) m) (lt-ltb m.width 32768 small) ∙ ap (λ (x : Machine). renorm n x) (twice-more m many) ∙ rest ∙ ap (λ (x : Machine). renorm l x) (leapt-next (suc k) m)
+
+goes-leapt : (k : ℕ) (m : Machine) (s : State) → k ≤ m.count → m.width * 2 ^ k < 65536 → Holds m s → Goes m s (leapt k m) (doubled_by k s)
+goes-leapt k m s h w i =
+    let first = leads-shifts k m s h w i in
+    let n = shifted_by k m in
+    let u = doubled_by k s in
+    elim (cases_eq (m.count - k) 0) [
+      | inl e ↦
+          let z : n.count ≡ 0 = omega (arith, shifts-count k m) in
+          subst (λ (o : Machine). Goes m s o u) (sym (leapt-last k m e)) (record {
+            leads = leads-then m n (byte_out n) s u u first (leads-byte_out n u z first.holds);
+            count = omega (arith, byte_out-count n u z first.holds);
+          })
+      | inr o ↦
+          let some : 1 ≤ n.count = omega (arith, shifts-count k m, o) in
+          subst (λ (x : Machine). Goes m s x u) (sym (leapt-more k m o)) (record { leads = first; count = some })
+    ]
+
+leapt-width : (k : ℕ) (m : Machine) (s : State) → k ≤ m.count → m.width * 2 ^ k < 65536 → Holds m s → (leapt k m).width ≡ m.width * 2 ^ k
+leapt-width k m s h w i =
+    let g = goes-leapt k m s h w i in
+    let f = leads-shifts k m s h w i in
+    let a : (shifted_by k m).width ≡ m.width * 2 ^ k = ap (λ (x : Machine). x.width) (shifted_by-is k m) in
+    omega (arith, g.leads.holds.width, f.holds.width, a)
+
+-- ---- the loop
+
+-- as many doublings are left
+enough-left : (w k l : ℕ) → w * 2 ^ suc k < 65536 → 32768 ≤ w * 2 ^ l → suc k ≤ l
+enough-left w k l h e =
+    elim (cases_lt k l) [
+      | inl m ↦ omega arith
+      | inr m ↦
+          let p = mul-le w (2 ^ l) w (2 ^ k) (omega arith) (pow_mono m) in
+          let d : w * 2 ^ suc k ≡ 2 * (w * 2 ^ k) = ap (λ x. w * x) (pow-succ' 2 k) ∙ grind arith in
+          absurd (omega (arith, p, d))
+    ]
+
+comes-leap-suc : (now next first : Machine) (k : ℕ) → suc k ≤ now.count → now.width * 2 ^ suc k < 65536 → next ≡ leapt (suc k) now → Comes now first → Comes next first
+comes-leap-suc now next first k h w e c =
+    let g = goes-leapt (suc k) now c.at h w c.holds in
+    let l = c.left - suc k in
+    let all = enough-left now.width k c.left w c.enough in
+    let split : c.left ≡ suc k + l = omega (arith, all) in
+    let width = leapt-width (suc k) now c.at h w c.holds in
+    let power : now.width * 2 ^ suc k * 2 ^ l ≡ now.width * 2 ^ c.left = sym (ap (λ x. now.width * x) (ap (λ i. 2 ^ i) split ∙ pow-add 2 (suc k) l) ∙ grind arith) in
+    subst (λ (n : Machine). Comes n first) (sym e) (record {
+      left = l;
+      same = sym (renorm-leapt k l c.left now split h w) ∙ c.same;
+      enough = subst (λ x. 32768 ≤ x * 2 ^ l) (sym width) (subst (λ x. 32768 ≤ x) (sym power) c.enough);
+      count = g.count;
+      at = doubled_by (suc k) c.at;
+      holds = g.leads.holds;
+    })
+
+pub comes-leap : (now next first : Machine) (k : ℕ) → 1 ≤ k → k ≤ now.count → now.width * 2 ^ k < 65536 → next ≡ leapt k now → Comes now first → Comes next first
+comes-leap now next first zero o h w e c = absurd (omega arith)
+comes-leap now next first (suc k) o h w e c = comes-leap-suc now next first k h w e c
+
+pub leapt-wider : (now next : Machine) (s : State) (k : ℕ) → 1 ≤ k → k ≤ now.count → now.width * 2 ^ k < 65536 → next ≡ leapt k now → Holds now s → now.width < next.width
+leapt-wider now next s k o h w e i =
+    let width = ap (λ (m : Machine). m.width) e ∙ leapt-width k now s h w i in
+    let p = mul-le now.width (2 ^ 1) now.width (2 ^ k) (omega arith) (pow_mono o) in
+    omega (arith, width, p, i.positive)
+
+-- ---- the doublings that bring a width to 2^15
+
+pub zeros-above : (w : ℕ) → 1 ≤ w → w < 32768 → (17 ≤ count_leading_zeros 32 w) × (w * 2 ^ (count_leading_zeros 32 w - 16) < 65536)
+zeros-above w some small =
+    let t = leading_top 32 w some (omega (arith, small)) in
+    let n = count_leading_zeros 32 w in
+    let j = t.0 in
+    let all : n + suc j ≡ 32 = t.1 in
+    let low : j ≤ 14 = elim (cases_lt 14 j) [
+      | inl more ↦ (let p : 2 ^ 15 ≤ 2 ^ j = pow_mono more in
+          let least = t.2 in
+          absurd (omega (arith, p, least, small)))
+      | inr few ↦ few
+    ] in
+    let below : w * 2 ^ (n - 16) < 2 ^ suc j * 2 ^ (n - 16) = mul-lt-mul_of_pos_right t.3 (pow_pos (n - 16)) in
+    let sum : suc j + (n - 16) ≡ 16 = omega (arith, all, low) in
+    let top : 2 ^ suc j * 2 ^ (n - 16) ≡ 2 ^ 16 = sym (pow-add 2 (suc j) (n - 16)) ∙ ap (λ k. 2 ^ k) sum in
+    (omega (arith, all, low), omega (arith, below, top))
+
+pub fewer-shift : (w k n : ℕ) → k ≤ n → w * 2 ^ n < 65536 → w * 2 ^ k < 65536
+fewer-shift w k n h l = let p = mul-le w (2 ^ k) w (2 ^ n) (omega arith) (pow_mono h) in omega (arith, p, l)

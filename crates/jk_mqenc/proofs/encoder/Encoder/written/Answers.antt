@@ -1,0 +1,7 @@
+use Rattle.std.proofs.Common.{◌∙◌, sym, subst}
+use Rattle.jk_mqenc.specs.Encoded.{View, Codes}
+use Rattle.jk_mqenc.proofs.Encoding.{codes-written}
+use Rattle.jk_mqenc.proofs.encoder.Encoder.written.Goals as goal
+
+pub returns : goal.returns
+returns c = λ ds codes. c.written.ensures ∙ codes-written _ ds (subst (λ (v : View). Codes v ds) (sym c.self.view_is) codes)

@@ -1,0 +1,26 @@
+-- Decisions, as the encoder codes them.
+use Rattle.std.specs.Prelude.{ℕ, ◌+◌, ◌*◌, ◌^◌, ◌<◌, ◌≤◌, List, [], ◌∷◌}
+use Rattle.jk_model.specs.Code.{code_value}
+use Rattle.jk_model.specs.Decisions.{State, Decision, context_at, qe_at}
+use Rattle.jk_model.specs.Deciding.{takes_lower, decided}
+use Rattle.jk_mqenc.specs.Machine.{Machine}
+use Rattle.jk_mqenc.specs.Coding.{part, renorm}
+
+-- the registers after a decision
+abbrev pub step : Machine → State → Decision → Machine
+step m s d = renorm 15 (part m (qe_at s d.0) (takes_lower s d.0 d.1))
+
+abbrev pub run : Machine → State → List Decision → Machine
+run m s [] = m
+run m s (d ∷ ds) = run (step m s d) (decided s d) ds
+
+-- the bytes name a code value within the interval
+pub record Closed (bytes : List ℕ) (t : State) : Type 0 where
+  pub least : 128 * t.low ≤ code_value bytes t.doublings
+  pub below : code_value bytes t.doublings < 128 * (t.low + t.width)
+
+-- the registers and the interval between two decisions
+pub record Between (m : Machine) (s : State) : Type 0 where
+  pub count : 1 ≤ m.count
+  pub wide : 2 ^ 15 ≤ s.width
+  pub states : (cx : ℕ) → (context_at s cx).state < 47

@@ -1,0 +1,46 @@
+-- What contracts see of an encoder.
+use Rattle.std.specs.Prelude.{◌≡◌, ℕ, ◌^◌, ◌%◌, Bool, false, List, [], ◌∷◌, ◌==◌, length, nat_le, if◌then◌else◌}
+use Rattle.jk_model.specs.Contexts.{Context}
+use Rattle.jk_model.specs.Decisions.{Decision, initial}
+use Rattle.jk_model.specs.Deciding.{state_by}
+use Rattle.jk_model.specs.Placed.{onto}
+use Rattle.jk_mqenc.specs.Machine.{Machine}
+use Rattle.jk_mqenc.specs.Coding.{flushed}
+use Rattle.jk_mqenc.specs.Deciding.{run}
+
+-- the registers and the contexts, and whether memory was refused
+pub record View : Type 0 where
+  pub machine : Machine
+  pub contexts : List Context
+  pub failed : Bool
+
+-- INITENC
+abbrev pub started : Machine
+started = record { code = 0; width = 2 ^ 15; count = 12; placed = [] }
+
+-- the encoder has coded these decisions, and no memory was refused
+pub record Codes (e : View) (ds : List Decision) : Type 0 where
+  pub machine : e.machine ≡ run started initial ds
+  pub contexts : e.contexts ≡ (state_by initial ds).contexts
+  pub lasting : e.failed ≡ false
+
+-- where no memory was refused, it has coded some
+abbrev pub HasCoded : View → Type 0
+HasCoded e = e.failed ≡ false → (done : List Decision) × Codes e done
+
+-- How many bytes are placed after these decisions. The one that a carry may still reach is counted.
+unfoldable pub written_by : List Decision → ℕ
+written_by ds = length (run started initial ds).placed
+
+-- placed bytes, a last FF left off
+abbrev pub without_ff : List ℕ → List ℕ
+without_ff [] = []
+without_ff (b ∷ o) = if b == 255 then o else b ∷ o
+
+-- the bytes of these decisions: those that FLUSH leaves, a last FF left off
+unfoldable pub finished : List Decision → List ℕ
+finished ds = onto (without_ff (flushed (run started initial ds)).placed) []
+
+-- a decision in one byte: the bit is the highest, the number of the context stands in the others
+abbrev pub decision_of : ℕ → Decision
+decision_of byte = (byte % 128, nat_le 128 byte)

@@ -1,0 +1,7 @@
+pub mod Since
+pub mod Machine
+pub mod Coding
+pub mod Leads
+pub mod Deciding
+pub mod Holding
+pub mod Encoded

@@ -1,0 +1,9 @@
+//! The MQ encoder of T.800 Annex C.
+#![tactic(auto)]
+
+mod coder;
+mod encoder;
+mod theorems;
+
+pub use encoder::Encoder;
+pub use theorems::written_grows;

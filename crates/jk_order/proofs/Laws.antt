@@ -1,0 +1,3 @@
+-- What proofs of other crates may cite of this crate's proofs.
+pub use Rattle.jk_order.proofs.LengthLaws.{length_of}
+pub use Rattle.jk_order.proofs.OrderLaws.{order_is}

@@ -1,5 +1,0 @@
-use Rattle.jk_order.proofs.OrderLaws.{order_is}
-use Rattle.jk_order.proofs.laws.packet_order.Goals as goal
-
-pub returns : goal.returns
-returns c s = order_is s

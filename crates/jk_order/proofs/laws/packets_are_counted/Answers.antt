@@ -1,5 +1,0 @@
-use Rattle.jk_order.proofs.LengthLaws.{length_of}
-use Rattle.jk_order.proofs.laws.packets_are_counted.Goals as goal
-
-pub returns : goal.returns
-returns c = length_of

@@ -1,0 +1,14 @@
+pub mod Numbers
+pub mod Moments
+pub mod Signs
+pub mod Laws
+pub mod ZeroContexts
+pub mod BitLaws
+pub mod Patterns
+pub mod Gathering
+pub mod Neighbours
+pub mod Nines
+pub mod Windows
+pub mod Quietness
+pub mod Adding
+pub mod Behind

@@ -1,0 +1,5 @@
+use Rattle.jk_scan.proofs.Gathering.{gathered}
+use Rattle.jk_scan.proofs.words.gather.Goals as goal
+
+pub returns : goal.returns
+returns c = gathered c.args.own c.args.above c.args.below

@@ -1,0 +1,4 @@
+-- What proofs of other crates may cite of this crate's proofs.
+pub use Rattle.jk_wave.proofs.Local.{is_local_resolution, is_decided}
+pub use Rattle.jk_wave.proofs.Undoing.{is_undone, is_reduced}
+pub use Rattle.jk_wave.proofs.Growth.{grows_levels, has_planes, has_width, bounds_resolutions}

@@ -1,0 +1,11 @@
+pub mod Equations
+pub mod Halves
+pub mod Local
+pub mod Undoing
+pub mod Growth
+pub mod Rows
+pub mod Synthesis
+pub mod Climbing
+pub mod Descending
+pub mod Leaving
+pub mod Laws

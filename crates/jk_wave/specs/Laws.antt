@@ -1,0 +1,61 @@
+-- Laws of the transform of a tile-component, for every rectangle and number of levels.
+use Rattle.std.specs.Prelude.{◌≡◌, ℕ, ℤ, ◌+◌, ◌-◌, ◌*◌, ◌/◌, ◌%◌, ◌^◌, ◌<◌, ◌≤◌, ◌⊎◌, unsigned_abs}
+use Rattle.jk_math.specs.declared.rect.Rect.{Rect}
+use Rattle.jk_geom.specs.Rectangles.{IsWithin, resolution_area}
+use Rattle.jk_wave.specs.Resolutions.{resolution_of}
+use Rattle.jk_wave.specs.Analysis.{reduced, analysed}
+use Rattle.jk_wave.specs.Bands.{numbered_area}
+
+-- a place is in a rectangle or at most two places away from it
+abbrev pub IsNear : Rect → ℕ → ℕ → Type 0
+IsNear u x y = (u.x0 ≤ x + 2) × (x < u.x1 + 2) × (u.y0 ≤ y + 2) × (y < u.y1 + 2)
+
+-- Where resolutions are looked at in the rectangles u alone, each two places around which stands in the one below, they are the same
+-- for sub-bands that agree there.
+abbrev pub IsLocalResolution : Type 0
+IsLocalResolution = (a : Rect) (levels : ℕ) (u : ℕ → Rect) (bands other : ℕ → ℕ → ℕ → ℤ) (r : ℕ) → r ≤ levels →
+    ((x y : ℕ) → IsWithin (resolution_area a levels 0) x y → IsWithin (u 0) x y → bands 0 x y ≡ other 0 x y) →
+    ((q x y : ℕ) → q < r → IsWithin (resolution_area a levels (q + 1)) x y → IsNear (u (q + 1)) x y → x % 2 ≡ 0 → y % 2 ≡ 0 → IsWithin (u q) (x / 2) (y / 2)) →
+    ((q x y : ℕ) → q < r → IsWithin (resolution_area a levels (q + 1)) x y → IsNear (u (q + 1)) x y → (x % 2 ≡ 1) ⊎ (y % 2 ≡ 1) →
+    (let b = 3 * q + (x % 2 + 2 * (y % 2)) in bands b (x / 2) (y / 2) ≡ other b (x / 2) (y / 2))) →
+    (x y : ℕ) → IsWithin (resolution_area a levels r) x y → IsWithin (u r) x y → resolution_of a levels bands r x y ≡ resolution_of a levels other r x y
+
+-- Sub-bands that agree at their places give the same resolutions.
+abbrev pub IsDecided : Type 0
+IsDecided = (a : Rect) (levels : ℕ) (bands other : ℕ → ℕ → ℕ → ℤ) (r : ℕ) → r ≤ levels →
+    ((b x y : ℕ) → b ≤ 3 * r → IsWithin (numbered_area a levels b) x y → bands b x y ≡ other b x y) →
+    (x y : ℕ) → IsWithin (resolution_area a levels r) x y → resolution_of a levels bands r x y ≡ resolution_of a levels other r x y
+
+-- Synthesis of all levels undoes analysis, and of r levels gives what was left above the other levels.
+abbrev pub IsUndone : Type 0
+IsUndone = (a : Rect) (levels : ℕ) (f : ℕ → ℕ → ℤ) (x y : ℕ) → IsWithin a x y → resolution_of a levels (analysed a levels f) levels x y ≡ f x y
+
+abbrev pub IsReduced : Type 0
+IsReduced = (a : Rect) (levels : ℕ) (f : ℕ → ℕ → ℤ) (r x y : ℕ) → r ≤ levels → IsWithin (resolution_area a levels r) x y →
+    resolution_of a levels (analysed a levels f) r x y ≡ reduced a levels f (levels - r) x y
+
+-- Forwards: samples whose magnitude and 2 are at most m, after n levels, and their sub-bands.
+abbrev pub IsBounded : Rect → (ℕ → ℕ → ℤ) → ℕ → Type 0
+IsBounded a f m = (x y : ℕ) → IsWithin a x y → unsigned_abs (f x y) + 2 ≤ m
+
+abbrev pub GrowsLevels : Type 0
+GrowsLevels = (a : Rect) (levels : ℕ) (f : ℕ → ℕ → ℤ) (m : ℕ) → IsBounded a f m →
+    ((n x y : ℕ) → n ≤ levels → IsWithin (resolution_area a levels (levels - n)) x y → 4 ^ n * (unsigned_abs (reduced a levels f n x y) + 2) ≤ 9 ^ n * m)
+    × ((n b x y : ℕ) → n < levels → b < 3 → IsWithin (numbered_area a levels (3 * (levels - (n + 1)) + b + 1)) x y →
+    4 ^ n * (unsigned_abs (analysed a levels f (3 * (levels - (n + 1)) + b + 1) x y) + 2) ≤ 4 * (9 ^ n * m))
+
+-- Samples of magnitude up to 65535 and at most five levels: 23 bit-planes suffice. Samples below 2^17 and at most ten levels:
+-- each coefficient is below 2^30.
+abbrev pub HasPlanes : Type 0
+HasPlanes = (a : Rect) (levels : ℕ) (f : ℕ → ℕ → ℤ) (b x y : ℕ) → levels ≤ 5 → b ≤ 3 * levels →
+    ((u v : ℕ) → IsWithin a u v → unsigned_abs (f u v) ≤ 65535) → IsWithin (numbered_area a levels b) x y → unsigned_abs (analysed a levels f b x y) < 2 ^ 23
+
+abbrev pub HasWidth : Type 0
+HasWidth = (a : Rect) (levels : ℕ) (f : ℕ → ℕ → ℤ) (b x y : ℕ) → levels ≤ 10 → b ≤ 3 * levels →
+    ((u v : ℕ) → IsWithin a u v → unsigned_abs (f u v) < 2 ^ 17) → IsWithin (numbered_area a levels b) x y → unsigned_abs (analysed a levels f b x y) < 2 ^ 30
+
+-- Backwards: coefficients of magnitude up to 2^23 and at most ten levels.
+abbrev pub BoundsResolutions : Type 0
+BoundsResolutions = (a : Rect) (levels : ℕ) (bands : ℕ → ℕ → ℕ → ℤ) (r : ℕ) → levels ≤ 10 → r ≤ levels →
+    ((b x y : ℕ) → b ≤ 3 * r → IsWithin (numbered_area a levels b) x y → unsigned_abs (bands b x y) ≤ 2 ^ 23) →
+    (x y : ℕ) → IsWithin (resolution_area a levels r) x y → unsigned_abs (resolution_of a levels bands r x y) < 2 ^ 29

@@ -1,0 +1,5 @@
+pub mod Resolutions
+pub mod Levels
+pub mod Bands
+pub mod Analysis
+pub mod Laws

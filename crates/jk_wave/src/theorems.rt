@@ -1,0 +1,27 @@
+//! Laws of sub-bands and resolutions. Each is the contract of a function that does nothing.
+
+ghost use Rattle.jk_wave.specs.Laws.{IsLocalResolution, IsDecided, IsUndone, IsReduced, GrowsLevels, HasPlanes, HasWidth, BoundsResolutions};
+
+/// What a resolution shows of a rectangle depends on the sub-bands near it alone.
+pub fn resolutions_are_local()
+    ensures local { IsLocalResolution }
+    ensures decided { IsDecided }
+{}
+
+/// Synthesis undoes analysis, of all levels and of the lower ones.
+pub fn analysis_undone()
+    ensures undone { IsUndone }
+    ensures reduced { IsReduced }
+{}
+
+/// How much all levels add, forwards.
+pub fn levels_growth()
+    ensures grows { GrowsLevels }
+    ensures planes { HasPlanes }
+    ensures width { HasWidth }
+{}
+
+/// How much all levels add, backwards.
+pub fn resolutions_bound()
+    ensures { BoundsResolutions }
+{}

@@ -1,0 +1,7 @@
+//! Segments that blocks are read from, with answers from outside.
+#![tactic(auto)]
+
+#[cfg(test)]
+mod cases;
+#[cfg(test)]
+mod tests;

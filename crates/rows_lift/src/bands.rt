@@ -1,0 +1,340 @@
+//! Tests of sub-bands and resolutions against outside values.
+
+ghost use Rattle.std.specs.Prelude.{◌≡◌, ◌+◌, ◌*◌, ◌^◌, ◌<◌, ◌≤◌, [], IsTrue, length, All, slice_index_or};
+ghost use Rattle.jk_math.specs.Raster.{places_of};
+ghost use Rattle.jk_math.specs.Signed.{IsBelow};
+ghost use Rattle.jk_geom.specs.Rectangles.{IsArea};
+ghost use Rattle.jk_wave.specs.Bands.{AreBands, numbered_area};
+
+use jk_geom::{Orientation, band};
+use jk_math::{Planes, Rect};
+use jk_wave::{Bands, analyse, synthesise};
+use std::alloc::Global;
+use std::process::Abort;
+use std::test::Fail;
+
+/// A tile-component: its samples row by row, and the coefficients of all sub-bands in the order of QCD.
+struct Row {
+    rect: Rect,
+    levels: u8,
+    samples: &'static [i32],
+    coefficients: &'static [i32],
+}
+
+/// Rectangles at even and odd places, of one row or column or none in a part, with up to ten levels.
+static ROWS: [Row; 14] = [
+    // worked rows: one column, and a square that would be another with HL and LH exchanged
+    Row {
+        rect: Rect {
+            x0: 0,
+            y0: 0,
+            x1: 1,
+            y1: 9,
+        },
+        levels: 1,
+        samples: &[-27, -25, -24, -23, -32, -31, -32, -26, -19],
+        coefficients: &[-26, -22, -30, -32, -19, 1, 5, 1, 0],
+    },
+    Row {
+        rect: Rect {
+            x0: 0,
+            y0: 0,
+            x1: 2,
+            y1: 2,
+        },
+        levels: 1,
+        samples: &[0, 1, 0, 0],
+        coefficients: &[1, 1, 0, -1],
+    },
+    Row {
+        rect: Rect {
+            x0: 0,
+            y0: 0,
+            x1: 5,
+            y1: 3,
+        },
+        levels: 1,
+        samples: &[
+            230, -178, -53, 78, -231, -218, 165, 19, -207, -68, 43, -226, 210, 4, -146,
+        ],
+        coefficients: &[
+            64, -57, -130, -166, 123, -169, 21, 80, -65, -168, -67, 15, -18, 574, -279,
+        ],
+    },
+    Row {
+        rect: Rect {
+            x0: 1,
+            y0: 1,
+            x1: 4,
+            y1: 6,
+        },
+        levels: 2,
+        samples: &[-3, 0, 0, -3, -2, -3, 1, 0, -3, 3, 1, -3, -2, 2, 2],
+        coefficients: &[0, -6, -2, -1, 0, -4, 2, 1, 1, -2, 1, 0, -1, -6, 4],
+    },
+    Row {
+        rect: Rect {
+            x0: 3,
+            y0: 2,
+            x1: 10,
+            y1: 7,
+        },
+        levels: 3,
+        samples: &[
+            58683, -57427, 10107, 11213, -13542, -59036, 62424, -36558, -59430, 7428, 46986,
+            -48080, -27576, -10598, -46628, 5333, -50096, 9295, -25102, 7899, 41436, 23856, -41847,
+            -52028, 10696, 9333, 18208, -40911, -16725, -52765, 6258, 27802, -57306, 8437, -57723,
+        ],
+        coefficients: &[
+            -13678, -41068, 34000, 29430, -10199, 7751, -6226, 67658, 36998, 111509, 46089, -12691,
+            91199, -35846, -55252, -32868, 7705, 72872, 10181, -50703, -87563, -29246, 31639,
+            -28667, -3994, 230, 11699, -9202, 25749, -46120, -60521, 73664, -17117, 49443, -42807,
+        ],
+    },
+    Row {
+        rect: Rect {
+            x0: 1,
+            y0: 0,
+            x1: 2,
+            y1: 1,
+        },
+        levels: 1,
+        samples: &[-38540],
+        coefficients: &[-77080],
+    },
+    Row {
+        rect: Rect {
+            x0: 1,
+            y0: 1,
+            x1: 2,
+            y1: 2,
+        },
+        levels: 3,
+        samples: &[93],
+        coefficients: &[372],
+    },
+    Row {
+        rect: Rect {
+            x0: 7,
+            y0: 5,
+            x1: 8,
+            y1: 12,
+        },
+        levels: 2,
+        samples: &[-9490, 36337, -24360, -4508, 11215, 55502, -6136],
+        coefficients: &[29624, -36294, 73044, -91654, -80548, -28564, -123276],
+    },
+    Row {
+        rect: Rect {
+            x0: 5,
+            y0: 7,
+            x1: 13,
+            y1: 8,
+        },
+        levels: 2,
+        samples: &[-102, -128, 151, -163, 102, 144, -131, -214],
+        coefficients: &[-95, -122, 296, -524, 52, 593, 223, -192],
+    },
+    Row {
+        rect: Rect {
+            x0: 6,
+            y0: 6,
+            x1: 6,
+            y1: 9,
+        },
+        levels: 1,
+        samples: &[],
+        coefficients: &[],
+    },
+    Row {
+        rect: Rect {
+            x0: 2,
+            y0: 3,
+            x1: 9,
+            y1: 9,
+        },
+        levels: 0,
+        samples: &[
+            13, -2, 193, -80, 118, -26, -108, 56, 246, -218, -195, 7, -41, -171, 132, -80, -178,
+            222, -5, -40, -235, 237, 87, -216, 136, 30, 38, 149, 193, 163, -95, -81, 100, -76, 49,
+            -1, 41, 153, -22, -220, 175, -208,
+        ],
+        coefficients: &[
+            13, -2, 193, -80, 118, -26, -108, 56, 246, -218, -195, 7, -41, -171, 132, -80, -178,
+            222, -5, -40, -235, 237, 87, -216, 136, 30, 38, 149, 193, 163, -95, -81, 100, -76, 49,
+            -1, 41, 153, -22, -220, 175, -208,
+        ],
+    },
+    Row {
+        rect: Rect {
+            x0: 1023,
+            y0: 2047,
+            x1: 1030,
+            y1: 2052,
+        },
+        levels: 10,
+        samples: &[
+            -13, 101, 85, -222, -224, 119, 104, -97, 76, 40, 253, 93, 165, -27, -110, 111, -58,
+            199, 87, -78, -244, 226, -19, -74, -169, 57, -196, -3, -225, -144, 138, -108, -189,
+            123, -129,
+        ],
+        coefficients: &[
+            10, -32, 22, -70, -200, -106, -222, -97, -139, -189, 99, 41, 122, 40, 107, -421, -16,
+            -21, 108, -112, -145, 13, 99, 59, 270, -56, 177, -257, -161, -35, -167, -326, 244,
+            -436, -445,
+        ],
+    },
+    Row {
+        rect: Rect {
+            x0: 0,
+            y0: 0,
+            x1: 1,
+            y1: 1,
+        },
+        levels: 10,
+        samples: &[-55],
+        coefficients: &[-55],
+    },
+    Row {
+        rect: Rect {
+            x0: 2147483640,
+            y0: 2147483641,
+            x1: 2147483647,
+            y1: 2147483646,
+        },
+        levels: 5,
+        samples: &[
+            -214, -170, -26, -50, 26, -113, 197, -185, 164, -35, 187, 26, -113, 106, -43, 250, -72,
+            94, 197, -61, 235, -137, -178, -213, -165, -178, -137, 82, -136, -249, -7, 170, 46,
+            -162, -121,
+        ],
+        coefficients: &[
+            -69, 154, 6, 31, 115, 145, 102, -93, 237, 112, -226, -3, 41, -133, -191, -132, -71, 69,
+            204, 75, 218, 70, -86, 193, 245, -220, -324, -241, -45, 172, -79, -143, -174, 120, -35,
+        ],
+    },
+];
+
+/// Is this a rectangle below 2^31?
+fn is_area(rect: &Rect) -> bool
+    ensures { IsTrue result → IsArea rect.now }
+{
+    rect.x0 <= rect.x1 && rect.y0 <= rect.y1 && rect.x1 < 1 << 31 && rect.y1 < 1 << 31
+}
+
+/// Are all numbers below 2^17 in magnitude?
+fn are_small(numbers: &[i32]) -> bool
+    ensures { IsTrue result → All (IsBelow (2 ^ 17)) numbers.now }
+{
+    for number in numbers {
+        if *number >= 131072 || *number <= -131072 {
+            return false;
+        }
+    }
+    true
+}
+
+/// Are all numbers below 2^23 in magnitude?
+fn are_coefficients(numbers: &[i32]) -> bool
+    ensures { IsTrue result → All (IsBelow (2 ^ 23)) numbers.now }
+{
+    for number in numbers {
+        if *number >= 8388608 || *number <= -8388608 {
+            return false;
+        }
+    }
+    true
+}
+
+/// The rectangle of a sub-band by its number in QCD.
+fn numbered(rect: &Rect, levels: u8, b: u8) -> Rect
+    requires area { IsArea rect.now }
+    requires levels { levels ≤ 10 }
+    requires b { b ≤ 3 * levels }
+    ensures value { result ≡ numbered_area rect.now levels b }
+    ensures area { IsArea result }
+{
+    if b == 0 {
+        return band(rect, levels, 0, Orientation::LL);
+    }
+    let orientation = match (b - 1) % 3 {
+        0 => Orientation::HL,
+        1 => Orientation::LH,
+        _ => Orientation::HH,
+    };
+    band(rect, levels, (b - 1) / 3 + 1, orientation)
+}
+
+/// Are these the sub-bands of the resolutions up to `r`, each as long as its rectangle and below 2^23 in magnitude?
+fn are_bands(bands: &Bands, r: u8) -> bool
+    requires area { IsArea bands.now.rect }
+    requires levels { bands.now.levels ≤ 10 }
+    requires r { r ≤ bands.now.levels }
+    ensures { IsTrue result → AreBands bands.now.rect bands.now.levels r bands.now.bands }
+{
+    if bands.bands.len() <= 3 * r as usize {
+        return false;
+    }
+    for b in 0..3 * r + 1 {
+        if !is_band(bands, b) {
+            return false;
+        }
+    }
+    true
+}
+
+/// Is sub-band `b` as long as its rectangle and below 2^23 in magnitude?
+fn is_band(bands: &Bands, b: u8) -> bool
+    requires area { IsArea bands.now.rect }
+    requires levels { bands.now.levels ≤ 10 }
+    requires b { b ≤ 3 * bands.now.levels }
+    requires inside { b < length bands.now.bands }
+    ensures length { IsTrue result → length (slice_index_or bands.now.bands b []) ≡ places_of (numbered_area bands.now.rect bands.now.levels b) }
+    ensures small { IsTrue result → All (IsBelow (2 ^ 23)) (slice_index_or bands.now.bands b []) }
+{
+    let area = numbered(&bands.rect, bands.levels, b);
+    let places = (area.y1 - area.y0) as usize * (area.x1 - area.x0) as usize;
+    let values = bands.bands.plane(b as usize);
+    values.len() == places && are_coefficients(values)
+}
+
+/// All coefficients in the order of QCD.
+fn listed(alloc: Global, bands: &Planes) -> Result<Vec<i32>, Fail> {
+    let mut all = Vec::new(alloc);
+    for b in 0..bands.len() {
+        all.extend_from_slice(bands.plane(b))?;
+    }
+    Ok(all)
+}
+
+/// Is a list of samples as long as the rectangle, and below 2^17 in magnitude?
+fn are_samples(rect: &Rect, samples: &[i32]) -> bool
+    requires { IsArea rect.now }
+    ensures length { IsTrue result → length samples.now ≡ places_of rect.now }
+    ensures small { IsTrue result → All (IsBelow (2 ^ 17)) samples.now }
+{
+    let places = (rect.y1 - rect.y0) as usize * (rect.x1 - rect.x0) as usize;
+    samples.len() == places && are_small(samples)
+}
+
+/// Analyses the samples of a row, and synthesises them again.
+fn there_and_back(rt: &impl Abort, alloc: Global, row: &Row) -> Result<(), Fail> {
+    let (rect, levels) = (row.rect, row.levels);
+    assert!(rt; is_area(&rect) && levels <= 10);
+    assert!(rt; are_samples(&rect, row.samples));
+    let samples = Vec::from_slice(alloc, row.samples)?;
+    let bands = analyse(alloc, &rect, levels, samples)?;
+    assert_eq!(rt; listed(alloc, &bands.bands)?.as_slice(), row.coefficients);
+    assert!(rt; are_bands(&bands, levels));
+    let back = synthesise(alloc, &bands, levels)?;
+    assert_eq!(rt; back.as_slice(), row.samples);
+    Ok(())
+}
+
+#[test]
+fn outside_values(rt: HostRuntime) -> Result<(), Fail> {
+    for row in &ROWS {
+        there_and_back(&rt, rt.alloc(), row)?;
+    }
+    Ok(())
+}
