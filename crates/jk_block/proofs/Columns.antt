@@ -68,7 +68,7 @@ row_test s b x i k z narrow l high cut =
     not_yet m q r o e h = grind (arith, nat_tests)
 
 -- the test of a row in run mode
-pub row_left : BlockShape → Field ℕ → (t x y : ℕ) → Bool
+unfoldable pub row_left : BlockShape → Field ℕ → (t x y : ℕ) → Bool
 row_left s a t x y = nat_eq (pass_of s.width a x y) 2 && not (touched (significant s a t) x y)
 
 pub start_number : (s : BlockShape) (x i : ℕ) → 2 * visits s + number s.width x (4 * i) ≡ start s 2 x i
@@ -78,7 +78,7 @@ start_number s x i =
     let f : number s.width x (4 * i) ≡ number s.width x (4 * i + 0) = ap (number s.width x) (omega arith) in
     omega (arith, e, f)
 
-pub rows_left : BlockShape → Field ℕ → (t x i : ℕ) → Bool
+unfoldable pub rows_left : BlockShape → Field ℕ → (t x i : ℕ) → Bool
 rows_left s a t x i = nat_le (4 * i + 4) s.height && ((row_left s a t x (4 * i + 0) && row_left s a t x (4 * i + 1)) && (row_left s a t x (4 * i + 2) && row_left s a t x (4 * i + 3)))
 
 pub runs_is : (s : BlockShape) (a : Field ℕ) (x i : ℕ) → runs s a x i ≡ rows_left s a (start s 2 x i) x i

@@ -87,7 +87,7 @@ inside_or true f g = f refl
 inside_or false f g = g refl
 
 -- a pass up to the last one is one whose places are all coded by then
-coded_by : (s : BlockShape) (a : Field ℕ) (k x y : ℕ) → is_inside s x y ≡ true → is_coded s a (k * visits s + visits s) x y ≡ nat_le (pass_of s.width a x y) k
+pub coded_by : (s : BlockShape) (a : Field ℕ) (k x y : ℕ) → is_inside s x y ≡ true → is_coded s a (k * visits s + visits s) x y ≡ nat_le (pass_of s.width a x y) k
 coded_by s a k x y i =
     let n = number_below s x y i in
     cases_of s a x y (λ w. at 1 w.moment_is w.pass_is n) (λ w. at 0 w.moment_is w.pass_is n) (λ w. at 2 w.moment_is w.pass_is n)
@@ -110,7 +110,7 @@ coded_by s a k x y i =
     at p e g h = by (moment s a x y) p e h ∙ ap (λ p. nat_le p k) (sym g)
 
 -- What is held at the end is what the passes code of a magnitude.
-held_is : (s : BlockShape) (b k : ℕ) (z : Progress) (x y : ℕ) → is_inside s x y ≡ true → Cut s b (k * visits s + visits s) z
+pub held_is : (s : BlockShape) (b k : ℕ) (z : Progress) (x y : ℕ) → is_inside s x y ≡ true → Cut s b (k * visits s + visits s) z
     → z.magnitude x y ≡ cond (nat_le (pass_of s.width (mags s b z) x y) k) (above b (z.magnitude x y)) (above (b + 1) (z.magnitude x y))
 held_is s b k z x y i c =
     by (nat_le (pass_of s.width (mags s b z) x y) k) (coded_by s (mags s b z) k x y i)
@@ -132,9 +132,9 @@ held_is s b k z x y i c =
         ∙ ap (λ p. z.magnitude x y / p * p) (sym (pow_more 2 b))
 
 -- a field that has the values held
-record Holds (s : BlockShape) (z : Progress) (q : Field ℤ) : Type 0 where
-  magnitude : (x y : ℕ) → is_inside s x y ≡ true → unsigned_abs (q x y) ≡ z.magnitude x y
-  negative : (x y : ℕ) → is_inside s x y ≡ true → 0 < z.magnitude x y → z.negative x y ≡ is_negative (q x y)
+pub record Holds (s : BlockShape) (z : Progress) (q : Field ℤ) : Type 0 where
+  pub magnitude : (x y : ℕ) → is_inside s x y ≡ true → unsigned_abs (q x y) ≡ z.magnitude x y
+  pub negative : (x y : ℕ) → is_inside s x y ≡ true → 0 < z.magnitude x y → z.negative x y ≡ is_negative (q x y)
 
 holds_mags : (s : BlockShape) (b : ℕ) (z : Progress) (q : Field ℤ) → Holds s z q → (x y : ℕ) → mags s b z x y ≡ (plane_at s b q).magnitude x y
 holds_mags s b z q h x y = inside_or (is_inside s x y)
@@ -158,7 +158,7 @@ values_hold s z = record {
 }
 
 -- what the passes code of a block that is held is the block
-cut_held : (s : BlockShape) (planes n : ℕ) (z : Progress) (q : Field ℤ) → Done s planes n z → Holds s z q → (x y : ℕ) → is_inside s x y ≡ true → cut s planes n q x y ≡ q x y
+pub cut_held : (s : BlockShape) (planes n : ℕ) (z : Progress) (q : Field ℤ) → Done s planes n z → Holds s z q → (x y : ℕ) → is_inside s x y ≡ true → cut s planes n q x y ≡ q x y
 unfolding Done cut
 cut_held s planes zero z q d h x y i = sym (no_magnitude (q x y) (h.magnitude x y i ∙ ap (λ (z : Progress). z.magnitude x y) d))
   where
@@ -174,7 +174,7 @@ cut_held s planes (suc n) z q d h x y i =
     ∙ ap (with_sign (is_negative (q x y))) (sym (held_is s b (kind_of n) z x y i d) ∙ sym m)
     ∙ with_sign_self (q x y)
 
-done_like : (s : BlockShape) (planes n : ℕ) (z : Progress) (q : Field ℤ) → Done s planes n z → Holds s z q → DoneLike s planes n z q
+pub done_like : (s : BlockShape) (planes n : ℕ) (z : Progress) (q : Field ℤ) → Done s planes n z → Holds s z q → DoneLike s planes n z q
 unfolding Done DoneLike
 done_like s planes zero z q d h = λ x y i. subst (λ m. m < 2 ^ planes) (sym (h.magnitude x y i ∙ ap (λ (z : Progress). z.magnitude x y) d)) (pow_pos planes)
 done_like s planes (suc n) z q d h = holds_like s (plane_of planes n) (kind_of n * visits s + visits s) z q d h
@@ -197,7 +197,7 @@ block_found s planes passes bytes vs e =
         record { few = fits; small = all.small; coded = cut_held s planes passes z q d h; spelled = λ _. all.told.spelled }
 
 -- the two sizes of what is coded
-by_code : (s : BlockShape) (b t : ℕ) (z : Progress) (q : Field ℤ) (x y : ℕ) → is_inside s x y ≡ true → Like s b t z (plane_at s b q) → (c : Bool) → is_coded s (mags s b z) t x y ≡ c
+pub by_code : (s : BlockShape) (b t : ℕ) (z : Progress) (q : Field ℤ) (x y : ℕ) → is_inside s x y ≡ true → Like s b t z (plane_at s b q) → (c : Bool) → is_coded s (mags s b z) t x y ≡ c
     → cond c (above b (z.magnitude x y)) (above (b + 1) (z.magnitude x y)) ≡ cond c (above b (unsigned_abs (q x y))) (above (b + 1) (unsigned_abs (q x y)))
 by_code s b t z q x y i l true e = ap (λ a. a * 2 ^ b) (sym (mags_inside s b z x y i) ∙ l.agree.coded x y e ∙ plane_inside s b q x y i)
 by_code s b t z q x y i l false e =

@@ -16,7 +16,7 @@ use Rattle.jk_scan.specs.Neighbours.{is_inside, touched, zero_at, sign_at}
 use Rattle.jk_scan.specs.Passes.{flipped}
 use Rattle.jk_scan.proofs.Laws.{inside_parts}
 use Rattle.jk_block.specs.declared.sketch.Sketch.{Sketch}
-use Rattle.jk_block.specs.Reading.{Progress, lit, times, decide, with_coder, coded_as, read_sign, read_new, read_next, row_named, read_from, read_run, pass_at, blank}
+use Rattle.jk_block.specs.Reading.{Progress, lit, times, decide, with_coder, coded_as, read_sign, read_new, read_next, rows_at, row_named, read_from, read_run, pass_at, blank}
 use Rattle.jk_block.specs.Sketches.{progress, Advanced, Takes}
 use Rattle.jk_block.proofs.Drawing.{place_fits}
 
@@ -228,3 +228,8 @@ takes_two first second step k k' new v v' v'' u (Ok x) e one two = λ coder st.
 takes_two first second step k k' new v v' v'' u (Err x) e one two = λ coder st.
     let a = one coder st in
     e (progress k coder) ∙ (ap (λ (q : Result Progress Fault). q >>= second) a.is ∙ two a.next a.stands)
+
+-- no rows are left
+pub no_rows : (bytes : List ℕ) (s : BlockShape) (b x i j : ℕ) (z : Progress) → rows_at bytes s b 2 x i j 0 z ≡ Ok z
+unfolding times
+no_rows bytes s b x i j z = refl

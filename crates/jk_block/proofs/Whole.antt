@@ -57,7 +57,7 @@ lower_mags s b z x y = inside_or (is_inside s x y)
     (λ i. mags_inside s (b + 1) z x y i ∙ half_power (z.magnitude x y) b ∙ ap (λ m. m / 2) (sym (mags_inside s b z x y i)))
     (λ i. mags_outside s (b + 1) z x y i ∙ (let e : 0 ≡ 0 / 2 = omega arith in e) ∙ ap (λ m. m / 2) (sym (mags_outside s b z x y i)))
 
-lower_plane : (s : BlockShape) (b : ℕ) (q : Field ℤ) (x y : ℕ) → (plane_at s (b + 1) q).magnitude x y ≡ (plane_at s b q).magnitude x y / 2
+pub lower_plane : (s : BlockShape) (b : ℕ) (q : Field ℤ) (x y : ℕ) → (plane_at s (b + 1) q).magnitude x y ≡ (plane_at s b q).magnitude x y / 2
 unfolding plane_at
 lower_plane s b q x y = by (is_inside s x y)
   where

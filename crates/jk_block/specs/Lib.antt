@@ -1,3 +1,9 @@
 pub mod Meaning
 pub mod Reading
+pub mod Fields
 pub mod Sketches
+pub mod BlockWritten
+pub mod Layers
+pub mod Viewed
+pub mod CodedBlocks
+pub mod Steps

@@ -1,17 +1,21 @@
 //! A block read from its segment.
 
-ghost use Rattle.std.specs.Prelude.{◌≡◌, ℕ, ℤ, true, false, get_or, IfErr, ◌+◌, ◌-◌, ◌*◌, ◌^◌, ◌<◌, ◌≤◌, All, IfOk, MatchResult, unsigned_abs};
+ghost use Rattle.std.specs.Prelude.{◌≡◌, ℕ, ℤ, true, IfErr, OnOk, map, ◌++◌, ◌+◌, ◌-◌, ◌*◌, ◌/◌, ◌%◌, ◌^◌, ◌<◌, ◌≤◌, All, IfOk, MatchResult, unsigned_abs};
+ghost use Rattle.std.specs.List.{range_with_len};
 ghost use Rattle.jk_math.specs.Answer.{Answers};
 ghost use Rattle.jk_math.specs.Memory.{IsMemory};
 ghost use Rattle.jk_model.specs.Decisions.{State};
+ghost use Rattle.jk_mqdec.specs.Standing.{Stands};
 ghost use Rattle.jk_scan.specs.Neighbours.{Field, is_inside};
-ghost use Rattle.jk_block.specs.Meaning.{IsBlockMeaning, kind_of, with_sign, value_in, values_of};
-ghost use Rattle.jk_block.specs.Reading.{times, begun, pass_at, coefficients, block_at};
-ghost use Rattle.jk_block.specs.Sketches.{Takes, progress, number_of, field_of};
+ghost use Rattle.jk_scan.specs.Flags.{IsSized};
+ghost use Rattle.jk_block.specs.Fields.{field_of};
+ghost use Rattle.jk_block.specs.Meaning.{IsBlockMeaning, plane_of, kind_of, with_sign, value_in, values_of};
+ghost use Rattle.jk_block.specs.Reading.{times, blank, begun, pass_at, coefficients, block_at};
+ghost use Rattle.jk_block.specs.Sketches.{Takes, IsFresh, progress, number_of, negative_in};
 
 use crate::passes::visit_plane;
 use crate::sketch::Sketch;
-use crate::visits::Pass;
+use crate::spot::{Pass, pass_of};
 use jk_math::Fault;
 use jk_mqdec::Decoder;
 use jk_scan::{BlockShape, Kind};
@@ -30,22 +34,11 @@ pub struct Block {
     pub values: Vec<i32>,
 }
 
-/// Which pass of a bit-plane is the n-th of a block.
-fn pass_of(n: usize) -> Pass
-    requires { n < 100 }
-    ensures { number_of result ≡ kind_of n }
-{
-    match (n + 2) % 3 {
-        0 => Pass::Propagation,
-        1 => Pass::Refinement,
-        _ => Pass::Cleanup,
-    }
-}
-
 /// Begins a pass: with significance propagation a plane begins.
 fn begin(sketch: &mut Sketch, pass: Pass)
     ensures shape { sketch.new.shape ≡ sketch.old.shape }
     ensures begun { (c : State) → progress sketch.new c ≡ begun (number_of pass) (progress sketch.old c) }
+    ensures fresh { (plane : ℕ) → number_of pass ≡ 1 → IsFresh plane sketch.old → IsFresh plane sketch.new }
 {
     match pass {
         Pass::Propagation => sketch.begin(),
@@ -56,8 +49,8 @@ fn begin(sketch: &mut Sketch, pass: Pass)
 /// Reads the n-th pass of a block.
 fn read_pass(sketch: &mut Sketch, decoder: &mut Decoder, planes: u32, n: usize) -> Result<(), Fault>
     requires planes { planes ≤ 23 }
-    requires height { sketch.old.shape.height ≤ 1024 }
     requires n { n < 3 * planes - 2 }
+    requires fresh { kind_of n ≡ 1 → IsFresh (plane_of planes n) sketch.old }
     ensures shape { sketch.new.shape ≡ sketch.old.shape }
     ensures bytes { decoder.new.bytes ≡ decoder.old.bytes }
     ensures takes { Takes (pass_at decoder.old.bytes sketch.old.shape planes n)
@@ -77,8 +70,9 @@ fn read_passes(
     passes: usize,
 ) -> Result<(), Fault>
     requires planes { planes ≤ 23 }
-    requires height { sketch.old.shape.height ≤ 1024 }
     requires passes { passes ≤ 3 * planes - 2 }
+    requires blank { progress sketch.old blank.coder ≡ blank }
+    requires stands { Stands decoder.old blank.coder }
     ensures shape { sketch.new.shape ≡ sketch.old.shape }
     ensures bytes { decoder.new.bytes ≡ decoder.old.bytes }
     ensures takes { Takes (times passes (pass_at decoder.old.bytes sketch.old.shape planes))
@@ -86,6 +80,36 @@ fn read_passes(
 {
     for n in 0..passes {
         read_pass(sketch, decoder, planes, n)?;
+    }
+    Ok(())
+}
+
+/// The coefficient of a place.
+fn coefficient(sketch: &Sketch, x: usize, y: usize) -> i32
+    requires inside { is_inside sketch.now.shape x y ≡ true }
+    requires small { field_of sketch.now.shape sketch.now.magnitudes 0 x y < 2 ^ 23 }
+    ensures { result ≡ with_sign (negative_in sketch.now x y) (field_of sketch.now.shape sketch.now.magnitudes 0 x y) }
+{
+    let magnitudes = &sketch.magnitudes;
+    let magnitude = magnitudes[y * sketch.shape.width + x] as i32;
+    if sketch.is_negative(x, y) {
+        -magnitude
+    } else {
+        magnitude
+    }
+}
+
+/// Appends the coefficients of a row.
+fn append_row(values: &mut Vec<i32>, sketch: &Sketch, y: usize) -> Result<(), Fault>
+    requires row { y < sketch.now.shape.height }
+    requires small { (x y : ℕ) → is_inside sketch.now.shape x y ≡ true
+        → field_of sketch.now.shape sketch.now.magnitudes 0 x y < 2 ^ 23 }
+    ensures row { OnOk result (values.new.items ≡ values.old.items
+        ++ map (λ x. with_sign (negative_in sketch.now x y) (field_of sketch.now.shape sketch.now.magnitudes 0 x y)) (range_with_len 0 sketch.now.shape.width)) }
+    ensures memory { IfErr result IsMemory }
+{
+    for x in 0..sketch.shape.width {
+        values.push(coefficient(sketch, x, y))?;
     }
     Ok(())
 }
@@ -98,27 +122,11 @@ fn values(alloc: Global, sketch: &Sketch) -> Result<Vec<i32>, Fault>
         → IfOk result (λ v. v.items ≡ values_of sketch.now.shape (coefficients (progress sketch.now c))) }
     ensures memory { IfErr result IsMemory }
 {
-    let mut values = Vec::new(alloc);
-    for place in 0..sketch.shape.width * sketch.shape.height {
-        values.push(signed(sketch, place))?;
+    let mut values = Vec::with_capacity(alloc, sketch.shape.width * sketch.shape.height)?;
+    for y in 0..sketch.shape.height {
+        append_row(&mut values, sketch, y)?;
     }
     Ok(values)
-}
-
-/// The coefficient at a place, counted row by row.
-fn signed(sketch: &Sketch, place: usize) -> i32
-    requires place { place < 4096 }
-    requires small { get_or sketch.now.magnitudes place 0 < 2 ^ 23 }
-    ensures { result ≡ with_sign (get_or sketch.now.negatives place false) (get_or sketch.now.magnitudes place 0) }
-{
-    let magnitudes = &sketch.magnitudes;
-    let negatives = &sketch.negatives;
-    let magnitude = magnitudes[place] as i32;
-    if negatives[place] {
-        -magnitude
-    } else {
-        magnitude
-    }
 }
 
 /// Reads a code-block of so many bit-planes from the segment of its coding passes (T.800 Annex D), or

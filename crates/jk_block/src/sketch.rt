@@ -1,36 +1,34 @@
 //! The working state in which a block is read.
 
-ghost use Rattle.std.specs.Prelude.{◌≡◌, ℕ, true, false, ◌+◌, ◌*◌, ◌^◌, ◌<◌, ◌≤◌, ◌&&◌, not, replicate, if◌then◌else◌};
+ghost use Rattle.std.specs.Prelude.{◌≡◌, ℕ, true, ◌+◌, ◌*◌, ◌^◌, ◌<◌, ◌≤◌, replicate, if◌then◌else◌};
 ghost use Rattle.jk_model.specs.Decisions.{State};
-ghost use Rattle.jk_scan.specs.Contexts.{contribution_of};
-ghost use Rattle.jk_scan.specs.Neighbours.{is_inside, count, horizontal, vertical, diagonal, touched, zero_at, sign_at};
+ghost use Rattle.jk_scan.specs.Neighbours.{is_inside};
+ghost use Rattle.jk_scan.specs.WordPlaces.{column, row, also};
+ghost use Rattle.jk_scan.specs.Flags.{IsSized, IsDrawn};
 ghost use Rattle.jk_block.specs.Meaning.{above};
 ghost use Rattle.jk_block.specs.Reading.{blank, coded_as, visit, begun};
+ghost use Rattle.jk_block.specs.Fields.{field_of, lit_of, flagged};
+ghost use Rattle.jk_block.specs.Steps.{IsSpot, IsPlace};
 
-use jk_scan::{BlockShape, Contribution, SignContext, contributed, sign_context, zero_context};
+use crate::spot::Spot;
+use jk_scan::{BlockShape, WORDS, word_place};
 
-/// A block as far as it is read: magnitudes, signs, and which places the significance propagation pass of this plane has
-/// coded, row by row.
+/// A block as far as it is read: magnitudes row by row, and words of 32 places for which are significant, which are
+/// negative, and which the significance propagation pass of this plane has coded.
 #[derive(Drop)]
 pub struct Sketch {
     pub shape: BlockShape,
     pub magnitudes: [u32; 4096],
-    pub negatives: [bool; 4096],
-    pub visited: [bool; 4096],
-    ghost fits: { shape.width * shape.height ≤ 4096 },
-}
-
-/// How many of two.
-fn count(a: bool, b: bool) -> u8
-    ensures value { result ≡ count a b }
-    ensures few { result ≤ 2 }
-{
-    let first = if a { 1 } else { 0 };
-    let second = if b { 1 } else { 0 };
-    first + second
+    pub significant: [u64; WORDS],
+    pub negative: [u64; WORDS],
+    pub visited: [u64; WORDS],
+    ghost sized: { IsSized shape },
+    ghost lit: { IsDrawn shape (lit_of shape magnitudes) significant },
+    ghost signs: { IsDrawn shape (flagged shape negative) negative },
 }
 
 /// A magnitude with this bit of a plane, and 0 below it.
+#[inline(always)]
 fn with_bit(magnitude: u32, plane: u32, bit: bool) -> u32
     requires { plane < 23 }
     ensures { result ≡ above (plane + 1) magnitude + (if bit then 2 ^ plane else 0) }
@@ -39,11 +37,18 @@ fn with_bit(magnitude: u32, plane: u32, bit: bool) -> u32
     if bit { high + (1 << plane) } else { high }
 }
 
-/// No place is marked.
-fn unmarked() -> [bool; 4096]
-    ensures { result ≡ replicate 4096 false }
+/// A truth value as a number.
+fn digit(bit: bool) -> u64
+    ensures { result ≡ (if bit then 1 else 0) }
 {
-    [false; 4096]
+    bit as u64
+}
+
+/// No place is marked.
+fn unmarked() -> [u64; WORDS]
+    ensures { result ≡ replicate 774 0 }
+{
+    [0; WORDS]
 }
 
 /// No magnitude has a bit.
@@ -54,199 +59,118 @@ fn unset() -> [u32; 4096]
 }
 
 impl Sketch {
-    ghost use Rattle.jk_block.specs.Sketches.{field_of, progress, lit_in, negative_in, plus_in, minus_in};
+    ghost use Rattle.jk_block.specs.Sketches.{progress, lit_in, negative_in, IsFresh};
 
     /// A block of which nothing is read.
     pub fn new(shape: BlockShape) -> Sketch
-        requires { shape.width * shape.height ≤ 4096 }
+        requires { IsSized shape }
         ensures shape { result.shape ≡ shape }
         ensures blank { progress result blank.coder ≡ blank }
     {
         Sketch {
             shape,
             magnitudes: unset(),
-            negatives: unmarked(),
+            significant: unmarked(),
+            negative: unmarked(),
             visited: unmarked(),
         }
     }
 
-    /// Whether a place lies in the block.
-    pub fn is_inside(&self, x: usize, y: usize) -> bool
-        ensures { result ≡ is_inside self.now.shape x y }
-    {
-        x < self.shape.width && y < self.shape.height
-    }
-
-    /// The magnitude so far, 0 outside the block.
-    pub fn magnitude(&self, x: usize, y: usize) -> u32
-        ensures { result ≡ field_of self.now.shape self.now.magnitudes 0 x y }
-    {
-        if self.is_inside(x, y) {
-            let magnitudes = &self.magnitudes;
-            magnitudes[y * self.shape.width + x]
-        } else {
-            0
-        }
-    }
-
-    /// Whether a place is significant so far.
-    pub fn is_lit(&self, x: usize, y: usize) -> bool
-        ensures { result ≡ lit_in self.now x y }
-    {
-        self.is_inside(x, y) && self.magnitude(x, y) > 0
-    }
-
-    /// The sign so far.
-    pub fn is_negative(&self, x: usize, y: usize) -> bool
-        ensures { result ≡ negative_in self.now x y }
-    {
-        if self.is_inside(x, y) {
-            let negatives = &self.negatives;
-            negatives[y * self.shape.width + x]
-        } else {
-            false
-        }
-    }
-
-    /// Whether the significance propagation pass of this plane has coded a place.
-    pub fn is_visited(&self, x: usize, y: usize) -> bool
-        ensures { result ≡ field_of self.now.shape self.now.visited false x y }
-    {
-        if self.is_inside(x, y) {
-            let visited = &self.visited;
-            visited[y * self.shape.width + x]
-        } else {
-            false
-        }
-    }
-
-    fn is_plus(&self, x: usize, y: usize) -> bool
-        ensures { result ≡ plus_in self.now x y }
-    {
-        self.is_lit(x, y) && !self.is_negative(x, y)
-    }
-
-    fn is_minus(&self, x: usize, y: usize) -> bool
-        ensures { result ≡ minus_in self.now x y }
-    {
-        self.is_lit(x, y) && self.is_negative(x, y)
-    }
-
-    /// Whether one of the eight neighbours is significant.
-    #[tactic(auto, unfolding(jk_scan::specs::Neighbours::touched))]
-    pub fn is_touched(&self, x: usize, y: usize) -> bool
-        requires { is_inside self.now.shape x y ≡ true }
-        ensures { result ≡ touched (lit_in self.now) x y }
-    {
-        let beside = x >= 1 && self.is_lit(x - 1, y) || self.is_lit(x + 1, y);
-        let upright = y >= 1 && self.is_lit(x, y - 1) || self.is_lit(x, y + 1);
-        let above = x >= 1 && (y >= 1 && self.is_lit(x - 1, y - 1))
-            || y >= 1 && self.is_lit(x + 1, y - 1);
-        let below = x >= 1 && self.is_lit(x - 1, y + 1) || self.is_lit(x + 1, y + 1);
-        (beside || upright) || (above || below)
-    }
-
-    /// Whether the significance propagation pass codes a place.
-    pub fn spreads(&self, x: usize, y: usize) -> bool
-        ensures { result ≡ (is_inside self.now.shape x y
-            && (not (lit_in self.now x y) && touched (lit_in self.now) x y)) }
-    {
-        self.is_inside(x, y) && (!self.is_lit(x, y) && self.is_touched(x, y))
-    }
-
-    /// Whether the magnitude refinement pass codes a place.
-    pub fn is_refined(&self, x: usize, y: usize) -> bool
-        ensures { result ≡ (lit_in self.now x y && not (field_of self.now.shape self.now.visited false x y)) }
-    {
-        self.is_lit(x, y) && !self.is_visited(x, y)
-    }
-
-    /// Whether a place is left to the cleanup pass.
-    pub fn is_left(&self, x: usize, y: usize) -> bool
-        ensures { result ≡ (is_inside self.now.shape x y
-            && (not (lit_in self.now x y) && not (field_of self.now.shape self.now.visited false x y))) }
-    {
-        self.is_inside(x, y) && (!self.is_lit(x, y) && !self.is_visited(x, y))
-    }
-
-    /// The context of a place that isn't significant.
-    #[tactic(auto, unfolding(jk_scan::specs::Neighbours::zero_at))]
-    pub fn zero_context(&self, x: usize, y: usize) -> u8
-        requires { is_inside self.now.shape x y ≡ true }
-        ensures value { result ≡ zero_at self.now.shape.kind (lit_in self.now) x y }
-        ensures small { result < 9 }
-    {
-        let across = count(x >= 1 && self.is_lit(x - 1, y), self.is_lit(x + 1, y));
-        let upright = count(y >= 1 && self.is_lit(x, y - 1), self.is_lit(x, y + 1));
-        let above = count(
-            x >= 1 && (y >= 1 && self.is_lit(x - 1, y - 1)),
-            y >= 1 && self.is_lit(x + 1, y - 1),
-        );
-        let below = count(
-            x >= 1 && self.is_lit(x - 1, y + 1),
-            self.is_lit(x + 1, y + 1),
-        );
-        zero_context(self.shape.kind, across, upright, above + below)
-    }
-
-    fn across(&self, x: usize, y: usize) -> Contribution
-        requires { is_inside self.now.shape x y ≡ true }
-        ensures { result ≡ contribution_of (horizontal (plus_in self.now) x y) (horizontal (minus_in self.now) x y) }
-    {
-        let positive = count(x >= 1 && self.is_plus(x - 1, y), self.is_plus(x + 1, y));
-        let negative = count(x >= 1 && self.is_minus(x - 1, y), self.is_minus(x + 1, y));
-        contributed(positive, negative)
-    }
-
-    fn upright(&self, x: usize, y: usize) -> Contribution
-        requires { is_inside self.now.shape x y ≡ true }
-        ensures { result ≡ contribution_of (vertical (plus_in self.now) x y) (vertical (minus_in self.now) x y) }
-    {
-        let positive = count(y >= 1 && self.is_plus(x, y - 1), self.is_plus(x, y + 1));
-        let negative = count(y >= 1 && self.is_minus(x, y - 1), self.is_minus(x, y + 1));
-        contributed(positive, negative)
-    }
-
-    /// The context of a sign.
-    #[tactic(auto, unfolding(jk_scan::specs::Neighbours::sign_at))]
-    pub fn sign_context(&self, x: usize, y: usize) -> SignContext
-        requires { is_inside self.now.shape x y ≡ true }
-        ensures value { result ≡ sign_at (lit_in self.now) (negative_in self.now) x y }
-        ensures small { result.context < 14 }
-    {
-        sign_context(self.across(x, y), self.upright(x, y))
-    }
-
-    /// Takes a bit of a plane, and the sign.
-    pub fn code_as(&mut self, plane: u32, x: usize, y: usize, bit: bool, negative: bool)
-        requires inside { is_inside self.old.shape x y ≡ true }
-        requires plane { plane < 23 }
-        ensures shape { self.new.shape ≡ self.old.shape }
-        ensures coded { (c : State) → progress self.new c ≡ coded_as plane x y bit negative (progress self.old c) }
-    {
-        let place = y * self.shape.width + x;
-        let magnitudes = &mut self.magnitudes;
-        magnitudes[place] = with_bit(magnitudes[place], plane, bit);
-        let negatives = &mut self.negatives;
-        negatives[place] = negative;
-    }
-
-    /// Marks a place as coded by the significance propagation pass.
-    pub fn visit(&mut self, x: usize, y: usize)
-        requires { is_inside self.old.shape x y ≡ true }
-        ensures shape { self.new.shape ≡ self.old.shape }
-        ensures visited { (c : State) → progress self.new c ≡ visit x y (progress self.old c) }
-    {
-        let place = y * self.shape.width + x;
-        let visited = &mut self.visited;
-        visited[place] = true;
-    }
-
-    /// Begins a plane: no place is marked.
+    /// Begins a plane: no place is marked as coded.
     pub fn begin(&mut self)
         ensures shape { self.new.shape ≡ self.old.shape }
         ensures begun { (c : State) → progress self.new c ≡ begun 0 (progress self.old c) }
     {
         self.visited = unmarked();
     }
+
+    /// Marks the place at bit k of a word as coded by the significance propagation pass.
+    #[inline(always)]
+    pub fn visit(&mut self, spot: Spot, k: u32)
+        requires spot { IsSpot self.old.shape spot }
+        requires place { IsPlace self.old.shape spot k }
+        ensures shape { self.new.shape ≡ self.old.shape }
+        ensures lit { lit_in self.new ≡ lit_in self.old }
+        ensures visited { (c : State) → progress self.new c ≡ visit (column spot.word k) (row spot.stripe k) (progress self.old c) }
+    {
+        let at = word_place(self.shape, spot.word + 1, spot.stripe + 1);
+        let visited = &mut self.visited;
+        visited[at] |= 1 << k;
+    }
+
+    /// The place at bit k of a word becomes significant in this plane, with this sign.
+    #[inline(always)]
+    pub fn light(&mut self, spot: Spot, k: u32, negative: bool)
+        requires spot { IsSpot self.old.shape spot }
+        requires place { IsPlace self.old.shape spot k }
+        ensures shape { self.new.shape ≡ self.old.shape }
+        ensures visited { self.new.visited ≡ self.old.visited }
+        ensures coded { (c : State) → progress self.new c
+            ≡ coded_as spot.plane (column spot.word k) (row spot.stripe k) true negative (progress self.old c) }
+        ensures lit { (x y : ℕ) → lit_in self.new x y ≡ also (lit_in self.old) (column spot.word k) (row spot.stripe k) x y }
+    {
+        let at = word_place(self.shape, spot.word + 1, spot.stripe + 1);
+        let bit = 1 << k;
+        let significant = &mut self.significant;
+        significant[at] |= bit;
+        let signs = &mut self.negative;
+        signs[at] = signs[at] & !bit | digit(negative) << k;
+        let place = place_of(self.shape, spot, k);
+        let magnitudes = &mut self.magnitudes;
+        magnitudes[place] = with_bit(magnitudes[place], spot.plane, true);
+    }
+
+    /// Takes the next bit of the place at bit k of a word, which was significant before this plane.
+    #[inline(always)]
+    pub fn refine(&mut self, spot: Spot, k: u32, bit: bool)
+        requires spot { IsSpot self.old.shape spot }
+        requires place { IsPlace self.old.shape spot k }
+        requires large { 2 ^ (spot.plane + 1)
+            ≤ field_of self.old.shape self.old.magnitudes 0 (column spot.word k) (row spot.stripe k) }
+        ensures shape { self.new.shape ≡ self.old.shape }
+        ensures visited { self.new.visited ≡ self.old.visited }
+        ensures coded { (c : State) → progress self.new c
+            ≡ coded_as spot.plane (column spot.word k) (row spot.stripe k) bit
+            (negative_in self.old (column spot.word k) (row spot.stripe k)) (progress self.old c) }
+        ensures lit { (x y : ℕ) → lit_in self.new x y ≡ lit_in self.old x y }
+        ensures fresh { IsFresh spot.plane self.old → IsFresh spot.plane self.new }
+    {
+        let place = place_of(self.shape, spot, k);
+        let magnitudes = &mut self.magnitudes;
+        magnitudes[place] = with_bit(magnitudes[place], spot.plane, bit);
+    }
+
+    /// Whether a place is negative.
+    pub fn is_negative(&self, x: usize, y: usize) -> bool
+        requires { is_inside self.now.shape x y ≡ true }
+        ensures { result ≡ negative_in self.now x y }
+    {
+        let at = word_place(self.shape, x / 8 + 1, y / 4 + 1);
+        let words = &self.negative;
+        words[at] >> (8 * (x % 8) + (y % 4 + 1)) & 1 == 1
+    }
+
+    /// The magnitude of the place at bit k of a word.
+    #[inline(always)]
+    pub fn magnitude(&self, spot: Spot, k: u32) -> u32
+        requires spot { IsSpot self.now.shape spot }
+        requires place { IsPlace self.now.shape spot k }
+        ensures { result ≡ field_of self.now.shape self.now.magnitudes 0 (column spot.word k) (row spot.stripe k) }
+    {
+        let magnitudes = &self.magnitudes;
+        magnitudes[place_of(self.shape, spot, k)]
+    }
+}
+
+/// The place at bit k of a word, counted row by row.
+#[inline(always)]
+fn place_of(shape: BlockShape, spot: Spot, k: u32) -> usize
+    requires sized { IsSized shape }
+    requires place { IsPlace shape spot k }
+    ensures value { result ≡ row spot.stripe k * shape.width + column spot.word k }
+    ensures small { result < 4096 }
+{
+    let x = 8 * spot.word + k as usize / 8;
+    let y = 4 * spot.stripe + k as usize % 8 - 1;
+    y * shape.width + x
 }

@@ -1,26 +1,26 @@
 //! One place in a pass.
 
-ghost use Rattle.std.specs.Prelude.{◌≡◌, true, ◌<◌};
-ghost use Rattle.jk_scan.specs.Neighbours.{is_inside};
+ghost use Rattle.std.specs.Prelude.{◌≡◌, ℕ, true, false, not, ◌&&◌, nat_lt, ◌+◌, ◌-◌, ◌*◌, ◌%◌, ◌<◌, ◌≤◌, IfOk, OnOk, if◌then◌else◌};
+ghost use Rattle.jk_scan.specs.Neighbours.{touched};
+ghost use Rattle.jk_scan.specs.Moments.{cleanup};
 ghost use Rattle.jk_scan.specs.Passes.{flipped};
-ghost use Rattle.jk_block.specs.Reading.{read_sign, read_new, read_next, place_at};
-ghost use Rattle.jk_block.specs.Sketches.{Takes, number_of, field_of};
+ghost use Rattle.jk_scan.specs.Words.{bordered};
+ghost use Rattle.jk_scan.specs.WordPlaces.{column, row, also};
+ghost use Rattle.jk_scan.specs.Surroundings.{IsAround};
+ghost use Rattle.jk_block.specs.Reading.{read_sign, read_new, place_at, row_named, rows_at, read_run};
+ghost use Rattle.jk_block.specs.Steps.{IsSpot, IsPlace};
+ghost use Rattle.jk_block.specs.Sketches.{Takes, TakesUpTo, IsFresh, lit_in, visited_in};
 
 use crate::sketch::Sketch;
+use crate::spot::Spot;
 use jk_math::Fault;
 use jk_mqdec::Decoder;
-use jk_scan::refine_context;
+use jk_scan::{Around, refine_context, seen_around, sign_context_at, zero_context_at};
 
-/// The three passes of a bit-plane.
-#[derive(Clone, Copy, Debug, PartialEq, Eq)]
-pub enum Pass {
-    /// Significance propagation (T.800 D.3.1).
-    Propagation,
-    /// Magnitude refinement (T.800 D.3.3).
-    Refinement,
-    /// Cleanup (T.800 D.3.4).
-    Cleanup,
-}
+/// The contexts of run mode (T.800 Table D.5).
+const RUN_LENGTH: usize = 17;
+
+const UNIFORM: usize = 18;
 
 /// The other bit, if it is to be flipped.
 #[tactic(auto, unfolding(jk_scan::specs::Passes::flipped))]
@@ -31,109 +31,181 @@ fn flipped(flip: bool, bit: bool) -> bool
 }
 
 /// Reads the sign of a place that becomes significant (T.800 D.3.2).
-pub fn read_sign(
+#[inline(always)]
+fn read_sign(
     sketch: &mut Sketch,
     decoder: &mut Decoder,
-    plane: u32,
-    x: usize,
-    y: usize,
+    spot: Spot,
+    k: u32,
+    significant: Around,
 ) -> Result<(), Fault>
-    requires inside { is_inside sketch.old.shape x y ≡ true }
-    requires plane { plane < 23 }
+    requires spot { IsSpot sketch.old.shape spot }
+    requires place { IsPlace sketch.old.shape spot k }
+    requires around { IsAround (bordered (lit_in sketch.old)) spot.word spot.stripe significant }
     ensures shape { sketch.new.shape ≡ sketch.old.shape }
     ensures bytes { decoder.new.bytes ≡ decoder.old.bytes }
-    ensures takes { Takes (read_sign decoder.old.bytes sketch.old.shape plane x y)
+    ensures visited { sketch.new.visited ≡ sketch.old.visited }
+    ensures lit { OnOk result ((x y : ℕ) → lit_in sketch.new x y
+        ≡ also (lit_in sketch.old) (column spot.word k) (row spot.stripe k) x y) }
+    ensures takes { Takes (read_sign decoder.old.bytes sketch.old.shape spot.plane (column spot.word k) (row spot.stripe k))
         sketch.old sketch.new decoder.old decoder.new result }
 {
-    let sign = sketch.sign_context(x, y);
+    let negative = seen_around(&sketch.negative, sketch.shape, spot.word, spot.stripe);
+    let sign = sign_context_at(significant, negative, k);
     let bit = decoder.decode(sign.context as usize)?;
-    sketch.code_as(plane, x, y, true, flipped(sign.flip, bit));
+    sketch.light(spot, k, flipped(sign.flip, bit));
     Ok(())
 }
 
 /// Reads a place that isn't significant: its bit, and its sign where that is 1.
+#[inline(always)]
 fn read_new(
     sketch: &mut Sketch,
     decoder: &mut Decoder,
-    plane: u32,
-    x: usize,
-    y: usize,
-) -> Result<(), Fault>
-    requires inside { is_inside sketch.old.shape x y ≡ true }
-    requires plane { plane < 23 }
+    spot: Spot,
+    k: u32,
+    significant: Around,
+) -> Result<bool, Fault>
+    requires spot { IsSpot sketch.old.shape spot }
+    requires place { IsPlace sketch.old.shape spot k }
+    requires around { IsAround (bordered (lit_in sketch.old)) spot.word spot.stripe significant }
     ensures shape { sketch.new.shape ≡ sketch.old.shape }
     ensures bytes { decoder.new.bytes ≡ decoder.old.bytes }
-    ensures takes { Takes (read_new decoder.old.bytes sketch.old.shape plane x y)
+    ensures visited { sketch.new.visited ≡ sketch.old.visited }
+    ensures lit { IfOk result (λ bit. (x y : ℕ) → lit_in sketch.new x y
+        ≡ (if bit then also (lit_in sketch.old) (column spot.word k) (row spot.stripe k) x y else lit_in sketch.old x y)) }
+    ensures takes { Takes (read_new decoder.old.bytes sketch.old.shape spot.plane (column spot.word k) (row spot.stripe k))
         sketch.old sketch.new decoder.old decoder.new result }
 {
-    let context = sketch.zero_context(x, y);
+    let context = zero_context_at(sketch.shape.kind, significant, k);
     let bit = decoder.decode(context as usize)?;
     if bit {
-        read_sign(sketch, decoder, plane, x, y)?;
+        read_sign(sketch, decoder, spot, k, significant)?;
     }
-    Ok(())
+    Ok(bit)
+}
+
+/// Reads a place in the significance propagation pass: its bit, and its sign where that is 1.
+#[inline(always)]
+pub fn read_member(
+    sketch: &mut Sketch,
+    decoder: &mut Decoder,
+    spot: Spot,
+    k: u32,
+    significant: Around,
+) -> Result<bool, Fault>
+    requires spot { IsSpot sketch.old.shape spot }
+    requires place { IsPlace sketch.old.shape spot k }
+    requires around { IsAround (bordered (lit_in sketch.old)) spot.word spot.stripe significant }
+    requires due { (not (lit_in sketch.old (column spot.word k) (row spot.stripe k))
+        && touched (lit_in sketch.old) (column spot.word k) (row spot.stripe k)) ≡ true }
+    ensures shape { sketch.new.shape ≡ sketch.old.shape }
+    ensures bytes { decoder.new.bytes ≡ decoder.old.bytes }
+    ensures lit { IfOk result (λ bit. (x y : ℕ) → lit_in sketch.new x y
+        ≡ (if bit then also (lit_in sketch.old) (column spot.word k) (row spot.stripe k) x y else lit_in sketch.old x y)) }
+    ensures takes { Takes (place_at decoder.old.bytes sketch.old.shape spot.plane 0 (column spot.word k) (row spot.stripe k))
+        sketch.old sketch.new decoder.old decoder.new result }
+{
+    sketch.visit(spot, k);
+    read_new(sketch, decoder, spot, k, significant)
 }
 
 /// Reads the next bit of a place that was significant before this plane.
-fn read_next(
+#[inline(always)]
+pub fn read_next(
     sketch: &mut Sketch,
     decoder: &mut Decoder,
-    plane: u32,
-    x: usize,
-    y: usize,
+    spot: Spot,
+    k: u32,
+    is_touched: bool,
 ) -> Result<(), Fault>
-    requires inside { is_inside sketch.old.shape x y ≡ true }
-    requires plane { plane < 23 }
+    requires spot { IsSpot sketch.old.shape spot }
+    requires place { IsPlace sketch.old.shape spot k }
+    requires near { is_touched ≡ touched (lit_in sketch.old) (column spot.word k) (row spot.stripe k) }
+    requires lit { lit_in sketch.old (column spot.word k) (row spot.stripe k) ≡ true }
+    requires uncoded { visited_in sketch.old (column spot.word k) (row spot.stripe k) ≡ false }
+    requires fresh { IsFresh spot.plane sketch.old }
     ensures shape { sketch.new.shape ≡ sketch.old.shape }
     ensures bytes { decoder.new.bytes ≡ decoder.old.bytes }
-    ensures takes { Takes (read_next decoder.old.bytes sketch.old.shape plane x y)
+    ensures visited { sketch.new.visited ≡ sketch.old.visited }
+    ensures lit { (x y : ℕ) → lit_in sketch.new x y ≡ lit_in sketch.old x y }
+    ensures fresh { IsFresh spot.plane sketch.new }
+    ensures takes { Takes (place_at decoder.old.bytes sketch.old.shape spot.plane 1 (column spot.word k) (row spot.stripe k))
         sketch.old sketch.new decoder.old decoder.new result }
 {
-    let refined = sketch.magnitude(x, y) >> plane >= 4;
-    let context = refine_context(refined, sketch.is_touched(x, y));
+    let refined = sketch.magnitude(spot, k) >> spot.plane >= 4;
+    let context = refine_context(refined, is_touched);
     let bit = decoder.decode(context as usize)?;
-    let negative = sketch.is_negative(x, y);
-    sketch.code_as(plane, x, y, bit, negative);
+    sketch.refine(spot, k, bit);
     Ok(())
 }
 
-/// Reads a place if this pass codes it.
-pub fn visit(
+/// Reads a place in the cleanup pass: its bit, and its sign where that is 1.
+#[inline(always)]
+pub fn read_left(
     sketch: &mut Sketch,
     decoder: &mut Decoder,
-    plane: u32,
-    pass: Pass,
-    x: usize,
-    y: usize,
-) -> Result<(), Fault>
-    requires plane { plane < 23 }
+    spot: Spot,
+    k: u32,
+    significant: Around,
+) -> Result<bool, Fault>
+    requires spot { IsSpot sketch.old.shape spot }
+    requires place { IsPlace sketch.old.shape spot k }
+    requires around { IsAround (bordered (lit_in sketch.old)) spot.word spot.stripe significant }
+    requires due { (not (lit_in sketch.old (column spot.word k) (row spot.stripe k))
+        && not (visited_in sketch.old (column spot.word k) (row spot.stripe k))) ≡ true }
     ensures shape { sketch.new.shape ≡ sketch.old.shape }
     ensures bytes { decoder.new.bytes ≡ decoder.old.bytes }
-    ensures takes { Takes (place_at decoder.old.bytes sketch.old.shape plane (number_of pass) x y)
+    ensures visited { sketch.new.visited ≡ sketch.old.visited }
+    ensures lit { IfOk result (λ bit. (x y : ℕ) → lit_in sketch.new x y
+        ≡ (if bit then also (lit_in sketch.old) (column spot.word k) (row spot.stripe k) x y else lit_in sketch.old x y)) }
+    ensures takes { Takes (place_at decoder.old.bytes sketch.old.shape spot.plane 2 (column spot.word k) (row spot.stripe k))
         sketch.old sketch.new decoder.old decoder.new result }
 {
-    match pass {
-        Pass::Propagation => {
-            if sketch.spreads(x, y) {
-                sketch.visit(x, y);
-                read_new(sketch, decoder, plane, x, y)
-            } else {
-                Ok(())
-            }
-        }
-        Pass::Refinement => {
-            if sketch.is_refined(x, y) {
-                read_next(sketch, decoder, plane, x, y)
-            } else {
-                Ok(())
-            }
-        }
-        Pass::Cleanup => {
-            if sketch.is_left(x, y) {
-                read_new(sketch, decoder, plane, x, y)
-            } else {
-                Ok(())
-            }
-        }
+    read_new(sketch, decoder, spot, k, significant)
+}
+
+/// The row that two bits name, high bit first.
+fn row_named(high: bool, low: bool) -> u32
+    ensures row { result ≡ row_named high low }
+    ensures few { result < 4 }
+{
+    let upper = if high { 2 } else { 0 };
+    let lower = if low { 1 } else { 0 };
+    upper + lower
+}
+
+/// Reads a column in run mode (T.800 D.3.4), from the bit k of its first row, up to the first row that becomes significant:
+/// gives that row, or 4.
+pub fn read_run(
+    sketch: &mut Sketch,
+    decoder: &mut Decoder,
+    spot: Spot,
+    k: u32,
+    significant: Around,
+) -> Result<u32, Fault>
+    requires spot { IsSpot sketch.old.shape spot }
+    requires place { IsPlace sketch.old.shape spot k }
+    requires first { k % 8 ≡ 1 }
+    requires rows { 4 * spot.stripe + 4 ≤ sketch.old.shape.height }
+    requires around { IsAround (bordered (lit_in sketch.old)) spot.word spot.stripe significant }
+    ensures shape { sketch.new.shape ≡ sketch.old.shape }
+    ensures bytes { decoder.new.bytes ≡ decoder.old.bytes }
+    ensures visited { sketch.new.visited ≡ sketch.old.visited }
+    ensures few { IfOk result (λ f. f ≤ 4) }
+    ensures lit { IfOk result (λ f. (x y : ℕ) → lit_in sketch.new x y
+        ≡ (if nat_lt f 4 then also (lit_in sketch.old) (column spot.word (k + f)) (row spot.stripe (k + f)) x y else lit_in sketch.old x y)) }
+    ensures takes { TakesUpTo (read_run decoder.old.bytes sketch.old.shape spot.plane (column spot.word k) spot.stripe)
+        (λ f. rows_at decoder.old.bytes sketch.old.shape spot.plane cleanup (column spot.word k) spot.stripe (f + 1) (3 - f))
+        sketch.old sketch.new decoder.old decoder.new result }
+{
+    let some = decoder.decode(RUN_LENGTH)?;
+    if !some {
+        return Ok(4);
     }
+    let high = decoder.decode(UNIFORM)?;
+    let low = decoder.decode(UNIFORM)?;
+    let row = row_named(high, low);
+    read_sign(sketch, decoder, spot, k + row, significant)?;
+    Ok(row)
 }

@@ -9,7 +9,7 @@ use Rattle.jk_marks.specs.declared.segments.Cod.{Cod}
 use Rattle.jk_geom.specs.Rectangles.{resolution_area}
 use Rattle.jk_lift.specs.Lifting.{unlifted, even_at}
 use Rattle.jk_wave.specs.Resolutions.{woven_plane, resolution_of}
-use Rattle.jk_code.specs.Resolutions.{uncoloured, tile_sample}
+use Rattle.jk_tile.specs.Pixels.{uncoloured, tile_sample}
 
 -- sub-bands of one row each, by number
 abbrev rows_of : List (List ℤ) → ℕ → ℕ → ℕ → ℤ

@@ -1,24 +1,27 @@
--- The blank picture has its frame, and a picture of that frame whose samples are all those of zero is blank.
-use Rattle.std.proofs.Common.{◌≡◌, ℕ, zero, suc, ◌+◌, ◌-◌, ◌*◌, ◌/◌, ◌%◌, ◌<◌, Bool, List, [], ◌∷◌, length, get_or, replicate, ℤ, pos, refl, sym, ap, ◌∙◌, arith}
-use Rattle.std.proofs.lemmas.List.{length-replicate}
-use Rattle.std.proofs.lemmas.List.Elements.{All-replicate, All-get_or}
-use Rattle.std.proofs.lemmas.Nat.{div-add-mod', row-Below}
-use Rattle.std.proofs.Math.Nat.{mod-lt}
+-- The picture of all tiles has its frame, and a picture of that frame with its samples is that picture.
+use Rattle.std.proofs.Common.{◌≡◌, ℕ, ◌+◌, ◌-◌, ◌*◌, ◌<◌, Bool, List, [], length, get_or, ℤ, pos, refl, sym, ap, subst, ◌∙◌, arith}
+use Rattle.std.proofs.lemmas.List.{ext_get_or}
+use Rattle.std.proofs.lemmas.List.Elements.{All-get_or}
+use Rattle.std.proofs.lemmas.List.FromFn.{length-map-range_with_len, get_or-map-range_with_len}
 use Rattle.jk_math.specs.Picture.{Picture, sample_at}
+use Rattle.jk_math.specs.Raster.{raster, plane_at, places_of}
+use Rattle.jk_math.proofs.Laws.{raster_length, raster_at, raster_is}
 use Rattle.jk_geom.specs.Rectangles.{IsWithin}
-use Rattle.jk_geom.specs.Partitions.{image_area, reduced_area}
 use Rattle.jk_params.specs.Headers.{Headers}
-use Rattle.jk_code.specs.Samples.{sample_of}
 use Rattle.jk_code.specs.Meaning.{IsFrameOf}
-use Rattle.jk_code.proofs.TileMeanings.{blank_at}
+use Rattle.jk_code.specs.MeaningReading.{sample_of_tiles, picture_with, planes_of_tiles}
+use Rattle.jk_code.specs.Tiles.{frame_of}
 
--- The blank picture has the frame of its reduction.
-pub blank_frame : (h : Headers) (d : ℕ) → (reduced_area (image_area h.siz) d).x0 < (reduced_area (image_area h.siz) d).x1 → (reduced_area (image_area h.siz) d).y0 < (reduced_area (image_area h.siz) d).y1
-    → IsFrameOf h d (blank_at h.siz d)
-blank_frame h d wide high =
-    let a = reduced_area (image_area h.siz) d in
-    let count = (a.x1 - a.x0) * (a.y1 - a.y0) in
-    let v = sample_of h.siz (pos 0) in
+-- the picture of all tiles
+abbrev pub tiles_picture : List ℕ → Headers → ℕ → Picture
+tiles_picture bytes h d = picture_with h.siz (frame_of h d) (planes_of_tiles bytes h d (frame_of h d))
+
+pub tiles_frame : (bytes : List ℕ) (h : Headers) (d : ℕ) → (frame_of h d).x0 < (frame_of h d).x1 → (frame_of h d).y0 < (frame_of h d).y1 → IsFrameOf h d (tiles_picture bytes h d)
+tiles_frame bytes h d wide high =
+    let a = frame_of h d in
+    let f : ℕ → List ℤ = λ c. raster a (sample_of_tiles bytes h d c) in
+    let count = length-map-range_with_len f 0 h.siz.components in
+    let turned : places_of a ≡ (a.x1 - a.x0) * (a.y1 - a.y0) = omega arith in
     record {
       left = refl;
       upper = refl;
@@ -28,29 +31,19 @@ blank_frame h d wide high =
       high = omega (arith, high);
       depth = refl;
       signed = refl;
-      components = length-replicate h.siz.components (replicate count v);
-      planes = All-replicate (λ (plane : List ℤ). length plane ≡ count) h.siz.components (replicate count v) (length-replicate count v);
+      components = count;
+      planes = λ c e lt.
+          subst (λ (plane : List ℤ). length plane ≡ (a.x1 - a.x0) * (a.y1 - a.y0)) (sym (get_or-map-range_with_len f 0 h.siz.components c c e (omega (arith, lt, count)) (omega arith))) (raster_length a (sample_of_tiles bytes h d c) ∙ turned);
     }
 
--- a list of one value
-all_same : {X : Type 0} (d : X) (xs : List X) (n : ℕ) (v : X) → length xs ≡ n → ((i : ℕ) → i < n → get_or xs i d ≡ v) → xs ≡ replicate n v
-all_same d [] zero v e h = refl
-all_same d [] (suc n) v e h = absurd (omega (arith, e))
-all_same d (x ∷ xs) zero v e h = absurd (omega (arith, e))
-all_same {X} d (x ∷ xs) (suc n) v e h =
-    let first : x ≡ v = h 0 (omega arith) in
-    let others = all_same d xs n v (omega (arith, e)) (λ i lt. h (suc i) (omega (arith, lt))) in
-    ap (λ (z : X). z ∷ xs) first ∙ ap (λ (ys : List X). v ∷ ys) others
-
--- a plane of one value
-plane_is : (plane : List ℤ) (w h : ℕ) (v : ℤ) → 0 < w → length plane ≡ w * h → ((x y : ℕ) → x < w → y < h → get_or plane (y * w + x) (pos 0) ≡ v) → plane ≡ replicate (w * h) v
-plane_is plane w h v wide len same =
-    all_same (pos 0) plane (w * h) v len (λ i lt.
-    let x = i % w in
-    let y = i / w in
-    let place : y * w + x ≡ i = div-add-mod' i w in
-    let row : y < h = (row-Below i w w h lt (omega arith)).1 in
-    ap (λ k. get_or plane k (pos 0)) (sym place) ∙ same x y (mod-lt i wide) row)
+-- its samples
+pub tiles_sample : (bytes : List ℕ) (h : Headers) (d c x y : ℕ) → c < h.siz.components → IsWithin (frame_of h d) x y
+    → sample_at (tiles_picture bytes h d) c (x - (frame_of h d).x0) (y - (frame_of h d).y0) ≡ sample_of_tiles bytes h d c x y
+tiles_sample bytes h d c x y lt is =
+    let a = frame_of h d in
+    let f : ℕ → List ℤ = λ c. raster a (sample_of_tiles bytes h d c) in
+    ap (λ (plane : List ℤ). plane_at a plane x y) (get_or-map-range_with_len f 0 h.siz.components c c [] lt (omega arith))
+    ∙ raster_at a (sample_of_tiles bytes h d c) x y (record { left = is.left; right = is.right; upper = is.upper; lower = is.lower })
 
 fields_from : (p : Picture) (x0 y0 width height depth : ℕ) (signed : Bool) (planes : List (List ℤ)) → p.x0 ≡ x0 → p.y0 ≡ y0 → p.width ≡ width → p.height ≡ height → p.depth ≡ depth → p.signed ≡ signed → p.planes ≡ planes
     → p ≡ record { x0 = x0; y0 = y0; width = width; height = height; depth = depth; signed = signed; planes = planes }
@@ -60,31 +53,27 @@ fields_from p x0 y0 width height depth signed planes a b c d e f g =
     ∙ ap (λ (k : Bool). record p { x0 = x0; y0 = y0; width = width; height = height; depth = depth; signed = k }) f
     ∙ ap (λ (k : List (List ℤ)). record p { x0 = x0; y0 = y0; width = width; height = height; depth = depth; signed = signed; planes = k }) g
 
--- A picture of the frame whose samples are all those of zero is the blank one.
-pub picture_is : (h : Headers) (d : ℕ) (p : Picture) → IsFrameOf h d p
-    → ((component x y : ℕ) → component < h.siz.components → IsWithin (reduced_area (image_area h.siz) d) x y → sample_at p component (x - p.x0) (y - p.y0) ≡ sample_of h.siz (pos 0))
-    → p ≡ blank_at h.siz d
-picture_is h d p frame same =
-    let a = reduced_area (image_area h.siz) d in
+-- A picture of the frame with these samples is that of the tiles.
+pub picture_is : (bytes : List ℕ) (h : Headers) (d : ℕ) (p : Picture) → IsFrameOf h d p
+    → ((c x y : ℕ) → c < h.siz.components → IsWithin (frame_of h d) x y → sample_at p c (x - p.x0) (y - p.y0) ≡ sample_of_tiles bytes h d c x y) → p ≡ tiles_picture bytes h d
+picture_is bytes h d p frame same =
+    let a = frame_of h d in
     let n = h.siz.components in
-    let v = sample_of h.siz (pos 0) in
-    let w = p.width in
-    let k = p.height in
+    let f : ℕ → List ℤ = λ c. raster a (sample_of_tiles bytes h d c) in
     let x0 = frame.left in
     let y0 = frame.upper in
     let right = frame.right in
     let lower = frame.lower in
-    let width : w ≡ a.x1 - a.x0 = omega (arith, x0, right) in
-    let height : k ≡ a.y1 - a.y0 = omega (arith, y0, lower) in
-    let count : w * k ≡ (a.x1 - a.x0) * (a.y1 - a.y0) = ap (λ z. z * k) width ∙ ap (λ z. (a.x1 - a.x0) * z) height in
-    let at = λ (c x y : ℕ) (some : c < n) (lx : x < w) (ly : y < k).
-    let across : p.x0 + x - p.x0 ≡ x = omega arith in
-    let down : p.y0 + y - p.y0 ≡ y = omega arith in
-    let inside : IsWithin a (p.x0 + x) (p.y0 + y) = record { left = omega (arith, x0); right = omega (arith, lx, right); upper = omega (arith, y0); lower = omega (arith, ly, lower) } in
-    let plane = get_or p.planes c [] in
-    ap (λ z. get_or plane (y * w + z) (pos 0)) (sym across) ∙ ap (λ z. get_or plane (z * w + (p.x0 + x - p.x0)) (pos 0)) (sym down) ∙ same c (p.x0 + x) (p.y0 + y) some inside in
-    let each = λ (c : ℕ) (some : c < n).
-    let long : length (get_or p.planes c []) ≡ w * k = All-get_or (λ (plane : List ℤ). length plane ≡ w * k) p.planes c [] (omega (arith, some, frame.components)) frame.planes in
-    plane_is (get_or p.planes c []) w k v frame.wide long (λ x y lx ly. at c x y some lx ly) ∙ ap (λ z. replicate z v) count in
-    let planes = all_same [] p.planes n (replicate ((a.x1 - a.x0) * (a.y1 - a.y0)) v) frame.components each in
-    fields_from p a.x0 a.y0 (a.x1 - a.x0) (a.y1 - a.y0) h.siz.depth h.siz.signed (replicate n (replicate ((a.x1 - a.x0) * (a.y1 - a.y0)) v)) x0 y0 width height frame.depth frame.signed planes
+    let width : p.width ≡ a.x1 - a.x0 = omega (arith, x0, right) in
+    let height : p.height ≡ a.y1 - a.y0 = omega (arith, y0, lower) in
+    let count : p.width * p.height ≡ places_of a = ap (λ z. z * p.height) width ∙ ap (λ z. (a.x1 - a.x0) * z) height ∙ (let e : (a.x1 - a.x0) * (a.y1 - a.y0) ≡ places_of a = omega arith in e) in
+    let plane : (c : ℕ) → c < n → get_or p.planes c [] ≡ raster a (sample_of_tiles bytes h d c) = λ c lt.
+    let long : length (get_or p.planes c []) ≡ p.width * p.height = All-get_or (λ (plane : List ℤ). length plane ≡ p.width * p.height) p.planes c [] (omega (arith, lt, frame.components)) frame.planes in
+    raster_is a (get_or p.planes c []) (sample_of_tiles bytes h d c) (long ∙ count) (λ x y is.
+    ap (λ z. get_or (get_or p.planes c []) ((y - a.y0) * z + (x - a.x0)) (pos 0)) (sym width)
+    ∙ ap (λ z. get_or (get_or p.planes c []) ((y - z) * p.width + (x - a.x0)) (pos 0)) (sym y0) ∙ ap (λ z. get_or (get_or p.planes c []) ((y - p.y0) * p.width + (x - z)) (pos 0)) (sym x0)
+    ∙ same c x y lt (record { left = is.left; right = is.right; upper = is.upper; lower = is.lower })) in
+    let planes : p.planes ≡ planes_of_tiles bytes h d a = ext_get_or [] p.planes (planes_of_tiles bytes h d a) (frame.components ∙ sym (length-map-range_with_len f 0 n)) (λ c lt.
+    let less : c < n = omega (arith, lt, frame.components) in
+    plane c less ∙ sym (get_or-map-range_with_len f 0 n c c [] less (omega arith))) in
+    fields_from p a.x0 a.y0 (a.x1 - a.x0) (a.y1 - a.y0) h.siz.depth h.siz.signed (planes_of_tiles bytes h d a) x0 y0 width height frame.depth frame.signed planes

@@ -1,20 +1,20 @@
 -- What headers say of levels and the reduced image.
-use Rattle.std.proofs.Common.{◌≡◌, ℕ, zero, suc, ◌+◌, ◌-◌, ◌*◌, ◌^◌, ◌<◌, ◌≤◌, min, true, false, leb, List, [], ◌∷◌, length, refl, ap, ◌∙◌, arith, inl, inr}
+use Rattle.std.proofs.Common.{◌≡◌, ℕ, zero, suc, ◌+◌, ◌-◌, ◌*◌, ◌^◌, ◌<◌, ◌≤◌, true, false, leb, List, [], ◌∷◌, length, refl, arith}
 use Rattle.std.specs.List.{AllByRecursion, list_all}
-use Rattle.std.proofs.lemmas.Bool.{cases_lt, leb-true, leb-false, le-leb, and_parts, and_from, or_parts}
+use Rattle.std.proofs.lemmas.Bool.{leb-true, leb-false, le-leb, and_parts, and_from, or_parts}
 use Rattle.std.proofs.lemmas.Nat.{pow_pos}
 use Rattle.std.proofs.Math.Nat.{add-mul, le-mul_of_pos_right, mul-le-mul_left, mul-le-mul_right}
 use Rattle.jk_math.specs.declared.rect.Rect.{Rect}
 use Rattle.jk_marks.specs.declared.siz.Siz.{Siz}
 use Rattle.jk_marks.specs.declared.coding.Coding.{Coding}
 use Rattle.jk_marks.specs.Siz.{IsSiz, tile_count}
-use Rattle.jk_geom.specs.Rectangles.{ceil_div, is_empty, tile_area, resolution_area}
+use Rattle.jk_geom.specs.Rectangles.{ceil_div, is_empty, resolution_area}
 use Rattle.jk_geom.specs.Partitions.{image_area, reduced_area}
 use Rattle.jk_geom.specs.TileShapes.{coding_of}
 use Rattle.jk_geom.proofs.Laws.{ceil_covers, ceil_least, ceil_self, tile_found}
 use Rattle.jk_params.specs.Headers.{Headers, TileFields, tile_in, AreHeaders}
 use Rattle.jk_code.specs.MeaningReading.{has_levels, holds_below}
-use Rattle.jk_code.proofs.PacketSteps.{below_at, below_from}
+use Rattle.jk_code.proofs.Below.{below_at, below_from}
 use Rattle.jk_code.proofs.Planes.{HasFrame}
 
 -- ---- levels

@@ -1,15 +1,15 @@
-pub mod PacketSteps
-pub mod PacketLaws
+pub mod Below
 pub mod Planes
-pub mod ZeroLaws
 pub mod HeaderFacts
-pub mod TileMeanings
+pub mod Tiling
 pub mod FrameLaws
 pub mod MeaningLaws
+pub mod Placing
 pub mod LoopLaws
-pub mod BlankLaws
-pub mod WrittenPackets
 pub mod HeaderLaws
 pub mod PartLaws
 pub mod WrittenLaws
+pub mod WindowBands
+pub mod WindowTile
+pub mod WindowLaws
 mod Examples

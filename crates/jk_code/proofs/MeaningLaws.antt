@@ -1,14 +1,14 @@
 -- What decoding gives is what the file means, and a file's meaning is given.
-use Rattle.std.proofs.Common.{◌≡◌, ℕ, zero, suc, ◌+◌, ◌-◌, ◌<◌, ◌≤◌, not, List, length, drop, Ok, refl, sym, ap, subst, ◌∙◌, inl, inr, arith}
+use Rattle.std.proofs.Common.{◌≡◌, ℕ, ◌-◌, ◌<◌, ◌≤◌, not, List, length, drop, Ok, refl, sym, ap, subst, ◌∙◌, arith}
 use Rattle.std.specs.Prelude.{slice_range}
 use Rattle.std.specs.List.{AllByRecursion}
-use Rattle.std.proofs.lemmas.Bool.{cases_lt, not-false}
+use Rattle.std.proofs.lemmas.Bool.{not-false}
 use Rattle.jk_math.specs.Steps.{bind_then, refuse_then, done, ok_is}
 use Rattle.jk_math.specs.declared.fault.Fault.TheVariants.{BadWindow}
 use Rattle.jk_math.specs.declared.rect.Rect.{Rect}
 use Rattle.jk_math.specs.Picture.{Picture}
 use Rattle.jk_marks.specs.declared.coding.Coding.{Coding}
-use Rattle.jk_marks.specs.Siz.{IsSiz, tile_count}
+use Rattle.jk_marks.specs.Siz.{tile_count}
 use Rattle.jk_math.proofs.Laws.{AreBytes, are_bytes_after, are_bytes_taken}
 use Rattle.jk_boxes.specs.Reading.{boxes_at}
 use Rattle.jk_boxes.proofs.Laws.{boxes_take, boxes_again}
@@ -20,29 +20,15 @@ use Rattle.jk_params.specs.Headers.{Headers, TileFields, tile_in, IsHeaders, Are
 use Rattle.jk_params.specs.HeadersReading.{headers_at}
 use Rattle.jk_params.proofs.Laws.{found_headers, only_headers, sound_headers}
 use Rattle.jk_code.specs.Meaning.{IsFrameOf, ShowsTile, MeansPicture, Means}
-use Rattle.jk_code.specs.MeaningReading.{packets_at, tiles_from, has_levels, holds_below, reduction_at, blank, picture_at, image_at, meaning_at}
+use Rattle.jk_walk.specs.WalkReading.{packets_at}
+use Rattle.jk_tile.specs.TileReading.{tested, tile_planes_at}
+use Rattle.jk_code.specs.MeaningReading.{places_at, packets_tested, tiles_tested, has_levels, holds_below, reduction_at, picture_with, planes_of_tiles, picture_at, image_at, meaning_at}
+use Rattle.jk_code.specs.Tiles.{frame_of}
 use Rattle.jk_code.proofs.HeaderFacts.{levels_found, levels_only, sides_of}
-use Rattle.jk_code.proofs.TileMeanings.{blank_at, tile_shows, tile_read, tile_zero}
-use Rattle.jk_code.proofs.FrameLaws.{blank_frame, picture_is}
-
--- ---- tiles
-
-tiles_found : (bytes : List ℕ) (h : Headers) (more t : ℕ) (u : Unit {0}) → tiles_from bytes h more t ≡ Ok u → (i : ℕ) → t ≤ i → i < t + more → packets_at bytes h i ≡ Ok tt
-unfolding tiles_from
-tiles_found bytes h zero t u e i from to = absurd (omega (arith, from, to))
-tiles_found bytes h (suc more) t u e i from to =
-    bind_then (packets_at bytes h t) _ u e (λ v s f. elim (cases_lt t i) [
-      | inl later ↦ tiles_found bytes h more (t + 1) u f i (omega (arith, later)) (omega (arith, to))
-      | inr here ↦ let same : i ≡ t = omega (arith, from, here) in ap (packets_at bytes h) same ∙ s
-    ])
-
-tiles_only : (bytes : List ℕ) (h : Headers) (more t : ℕ) → ((i : ℕ) → t ≤ i → i < t + more → packets_at bytes h i ≡ Ok tt) → tiles_from bytes h more t ≡ Ok tt
-unfolding tiles_from
-tiles_only bytes h zero t each = refl
-tiles_only bytes h (suc more) t each =
-    let first = each t (omega arith) (omega arith) in
-    let others = tiles_only bytes h more (t + 1) (λ i from to. each i (omega (arith, from)) (omega (arith, to))) in
-    rw first others
+use Rattle.jk_tile.proofs.Laws.{each_found, each_only, bind_ok}
+use Rattle.jk_code.proofs.Tiling.{tile_shows, TileRead, tile_read, tile_value, tile_levels}
+use Rattle.jk_code.proofs.FrameLaws.{tiles_picture, tiles_frame, picture_is}
+use Rattle.jk_math.specs.Answer.{◌>>=◌}
 
 -- ---- the reduction
 
@@ -76,57 +62,62 @@ reduction_only h d long levels wide high =
 
 -- ---- a codestream
 
+pub picture_by : (bytes : List ℕ) (h : Headers) (d : ℕ) → picture_at h bytes d
+    ≡ (reduction_at h d >>= λ area. packets_tested bytes h (tile_count h.siz) >>= λ _. tiles_tested bytes h d (tile_count h.siz) >>= λ _. Ok (picture_with h.siz area (planes_of_tiles bytes h d area)))
+unfolding picture_at
+picture_by bytes h d = refl
+
 -- What a codestream that is read gives is what it means.
 pub found_picture : (bytes : List ℕ) (h : Headers) (d : ℕ) (p : Picture) → IsHeaders bytes h → picture_at h bytes d ≡ Ok p → MeansPicture bytes d p
-unfolding picture_at
 found_picture bytes h d p says e =
     let sound = sound_headers bytes h says in
-    bind_then (reduction_at h d) _ p e (λ a s f.
-    bind_then (tiles_from bytes h (tile_count h.siz) 0) _ p f (λ u r g.
+    bind_then (reduction_at h d) _ p (sym (picture_by bytes h d) ∙ e) (λ a s f.
+    bind_then (packets_tested bytes h (tile_count h.siz)) _ p f (λ u packets g.
+    bind_then (tiles_tested bytes h d (tile_count h.siz)) _ p g (λ v tiles k.
     let is = reduction_found h d a sound.tiles s in
-    let blank-is : blank_at h.siz d ≡ p = ap (blank h.siz) is.area ∙ ok_is (blank h.siz a) p g in
-    let means : MeansPicture bytes d (blank_at h.siz d) = record {
+    let made : tiles_picture bytes h d ≡ p = ap (λ (x : Rect). picture_with h.siz x (planes_of_tiles bytes h d x)) is.area ∙ ok_is (picture_with h.siz a (planes_of_tiles bytes h d a)) p k in
+    let means : MeansPicture bytes d (tiles_picture bytes h d) = record {
       headers = h;
       says = says;
       reduction = is.levels;
-      frame = blank_frame h d is.wide is.high;
-      tiles = λ t lt. tile_shows bytes h d t sound.siz lt (tiles_found bytes h (tile_count h.siz) 0 u r t (omega arith) (omega (arith, lt)));
+      frame = tiles_frame bytes h d is.wide is.high;
+      tiles = λ t lt. tile_shows bytes h d t sound lt (each_found (tile_count h.siz) (λ t. tested (packets_at bytes h t)) u packets t lt)
+          (each_found (tile_count h.siz) (λ t. tested (tile_planes_at bytes h t d (places_at bytes h t))) v tiles t lt);
     } in
-    subst (MeansPicture bytes d) blank-is means
-    ))
+    subst (MeansPicture bytes d) made means
+    )))
 
 pub found_image : (bytes : List ℕ) (d : ℕ) (p : Picture) → AreBytes bytes → image_at bytes d ≡ Ok p → MeansPicture bytes d p
 unfolding image_at
 found_image bytes d p fits e =
     bind_then (headers_at bytes) _ p e (λ h s f. found_picture bytes h d p (found_headers bytes h fits s) f)
 
--- a picture that is meant is blank
-meant_blank : (bytes : List ℕ) (h : Headers) (d : ℕ) (p : Picture) → IsSiz h.siz → IsFrameOf h d p → ((t : ℕ) → t < tile_count h.siz → ShowsTile bytes h d p t) → p ≡ blank_at h.siz d
-meant_blank bytes h d p siz frame tiles =
-    picture_is h d p frame (λ component x y some inside.
-    let tile = tile_covers h.siz d x y siz inside in
-    tile_zero bytes h d p tile.0 component x y (tiles tile.0 tile.1.tile) some tile.1.place)
-
-only_picture : (bytes : List ℕ) (h : Headers) (d : ℕ) (p : Picture) → AreBytes bytes → AreHeaders (length bytes) h → HaveLevels d h.tiles → IsFrameOf h d p
+only_picture : (bytes : List ℕ) (h : Headers) (d : ℕ) (p : Picture) → AreHeaders (length bytes) h → HaveLevels d h.tiles → IsFrameOf h d p
     → ((t : ℕ) → t < tile_count h.siz → ShowsTile bytes h d p t) → picture_at h bytes d ≡ Ok p
-unfolding picture_at
-only_picture bytes h d p fits sound levels frame tiles =
+only_picture bytes h d p sound levels frame tiles =
     let left = frame.left in
     let upper = frame.upper in
     let right = frame.right in
     let lower = frame.lower in
     let wide = frame.wide in
     let high = frame.high in
+    let n = tile_count h.siz in
     let reduction = reduction_only h d sound.tiles levels (omega (arith, left, right, wide)) (omega (arith, upper, lower, high)) in
-    let packets = tiles_only bytes h (tile_count h.siz) 0 (λ t from to. tile_read bytes h d p t fits (tiles t (omega (arith, to)))) in
-    rw (reduction, packets) (ap done (sym (meant_blank bytes h d p sound.siz frame tiles)))
+    let read : (t : ℕ) → t < n → TileRead bytes h d p t = λ t lt. tile_read bytes h d p t sound lt (tile_levels d h.tiles t levels (omega (arith, lt, sound.tiles))) (tiles t lt) in
+    let packets = each_only n (λ t. tested (packets_at bytes h t)) (λ t lt. (read t lt).packets) in
+    let decoded = each_only n (λ t. tested (tile_planes_at bytes h t d (places_at bytes h t))) (λ t lt. (read t lt).planes) in
+    let same : p ≡ tiles_picture bytes h d = picture_is bytes h d p frame (λ c x y some inside.
+    let tile = tile_covers h.siz d x y sound.siz inside in
+    let t = tile.0 in
+    (read t tile.1.tile).samples c x y some tile.1.place ∙ sym (tile_value bytes h d t c x y sound.siz tile.1)) in
+    picture_by bytes h d ∙ bind_ok (reduction_at h d) _ (frame_of h d) reduction ∙ bind_ok (packets_tested bytes h n) _ tt packets ∙ bind_ok (tiles_tested bytes h d n) _ tt decoded ∙ ap done (sym same)
 
 -- What a codestream means is given.
 pub only_image : (bytes : List ℕ) (d : ℕ) (p : Picture) → AreBytes bytes → MeansPicture bytes d p → image_at bytes d ≡ Ok p
 unfolding image_at
 only_image bytes d p fits m =
     let headers = only_headers bytes m.headers m.says in
-    let picture = only_picture bytes m.headers d p fits (sound_headers bytes m.headers m.says) m.reduction m.frame m.tiles in
+    let picture = only_picture bytes m.headers d p (sound_headers bytes m.headers m.says) m.reduction m.frame m.tiles in
     rw headers picture
 
 -- ---- files

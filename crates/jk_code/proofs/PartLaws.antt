@@ -1,21 +1,19 @@
 -- The tile-parts that are written: one for each tile.
-use Rattle.std.proofs.Common.{◌≡◌, ◌≢◌, ℕ, zero, suc, ◌+◌, ◌<◌, ◌≤◌, ◌⊎◌, inl, inr, Bool, true, false, eqb, List, [], ◌∷◌, length, map, replicate, refl, ap, sym, ◌∙◌, subst, arith, lit<, lit≤}
+use Rattle.std.proofs.Common.{◌≡◌, ◌≢◌, ℕ, zero, suc, ◌+◌, ◌^◌, ◌<◌, ◌≤◌, ◌⊎◌, inl, inr, Bool, true, false, eqb, List, [], ◌∷◌, length, map, refl, ap, sym, ◌∙◌, subst, arith, lit<, lit≤}
 use Rattle.std.specs.List.{range_with_len, AllByRecursion}
-use Rattle.std.proofs.lemmas.Bool.{cases_lt, eqb-true, eqb-false, ne_eqb}
+use Rattle.std.proofs.lemmas.Bool.{cases_lt, ltb-true, eqb-true, eqb-false, ne_eqb}
 use Rattle.jk_math.specs.Picture.{Picture}
 use Rattle.jk_marks.specs.declared.siz.Siz.{Siz}
-use Rattle.jk_marks.specs.declared.coding.Coding.{Coding}
 use Rattle.jk_marks.specs.Siz.{IsSiz, tile_count}
 use Rattle.jk_marks.specs.Codestream.{Part, of_tile, only_part_of, IsPart, AreParts, AreClosedBeforeLast}
-use Rattle.jk_geom.specs.Rectangles.{IsWithin, tile_area}
-use Rattle.jk_geom.specs.Counts.{packet_number}
+use Rattle.jk_geom.proofs.Laws.{tile_found}
 use Rattle.jk_params.specs.declared.parameters.Parameters.{Parameters}
-use Rattle.jk_params.specs.Headers.{total, most_packets}
-use Rattle.jk_params.specs.Profile.{siz_of, coding_for, IsWrittenBy}
-use Rattle.jk_params.proofs.Laws.{put, part_of_total}
-use Rattle.jk_code.specs.Written.{packets_text, packets_in, part_for}
-use Rattle.jk_code.proofs.HeaderFacts.{some_tile}
-use Rattle.jk_code.proofs.WrittenPackets.{packets_short}
+use Rattle.jk_params.specs.Headers.{total}
+use Rattle.jk_params.specs.Profile.{siz_of, IsWrittenBy}
+use Rattle.jk_params.proofs.Laws.{put}
+use Rattle.jk_tile.specs.PacketsWritten.{tile_text}
+use Rattle.jk_code.specs.Written.{part_for, part_fits, parts_fit}
+use Rattle.jk_code.proofs.Below.{below_at}
 
 -- the parts that are written
 abbrev pub parts_for : Picture → Parameters → List Part
@@ -27,19 +25,6 @@ unfolding total
 total_below f g zero same = refl
 total_below f g (suc n) same =
     ap (λ x. x + f n) (total_below f g n (λ t lt. same t (omega (arith, lt)))) ∙ ap (λ x. total g n + x) (same n (omega arith))
-
--- no tile has more packets than all tiles
-pub packets_few : (p : Picture) (q : Parameters) → IsWrittenBy q p → (t : ℕ) → t < tile_count (siz_of p q) → packets_in p q t ≤ most_packets
-packets_few p q by t lt =
-    let all = by.few in
-    let one = part_of_total (λ i. packet_number (tile_area (siz_of p q) i) q.layers (replicate (length p.planes) (coding_for q))) (tile_count (siz_of p q)) t lt in
-    omega (arith, all, one)
-
--- the same number, by a size and codings that are the image's
-pub packets_same : (p : Picture) (q : Parameters) (s : Siz) (ks : List Coding) (t : ℕ) → s ≡ siz_of p q → ks ≡ replicate s.components (coding_for q) → packet_number (tile_area s t) q.layers ks ≡ packets_in p q t
-packets_same p q s ks t same are =
-    ap (λ (z : Siz). packet_number (tile_area z t) q.layers ks) same
-    ∙ ap (λ (x : List Coding). packet_number (tile_area (siz_of p q) t) q.layers x) (are ∙ ap (λ (z : Siz). replicate z.components (coding_for q)) same)
 
 -- the parts of a tile among those of the tiles from a on
 abbrev run : (ℕ → List ℕ) → ℕ → ℕ → List Part
@@ -71,7 +56,7 @@ one_part f a (suc n) t le lt = by (eqb a t) refl (one_part f (a + 1) n t)
 
 -- the only part of a tile
 pub part_said : (p : Picture) (q : Parameters) (t : ℕ) → t < tile_count (siz_of p q) → of_tile t (parts_for p q) ≡ part_for p q t ∷ []
-part_said p q t lt = one_part (λ i. packets_text q (packets_in p q i)) 0 (tile_count (siz_of p q)) t (omega arith) (omega (arith, lt))
+part_said p q t lt = one_part (tile_text p q) 0 (tile_count (siz_of p q)) t (omega arith) (omega (arith, lt))
 
 all_run : {X : Type 0} (P : X → Type 0) (g : ℕ → X) (a n : ℕ) → ((t : ℕ) → t < a + n → P (g t)) → AllByRecursion P (map g (range_with_len a n))
 all_run P g a zero h = tt
@@ -82,26 +67,31 @@ closed_run f a zero = tt
 closed_run f a (suc zero) = tt
 closed_run f a (suc (suc n)) = (refl, closed_run f (a + 1) (suc n))
 
-part_fits : (p : Picture) (q : Parameters) → IsWrittenBy q p → (t : ℕ) → t < tile_count (siz_of p q) → IsPart (siz_of p q) (part_for p q t)
-part_fits p q by t lt =
+part_is : (p : Picture) (q : Parameters) → IsWrittenBy q p → parts_fit p q ≡ true → (t : ℕ) → t < tile_count (siz_of p q) → IsPart (siz_of p q) (part_for p q t)
+part_is p q by fit t lt =
     let tiles = by.siz.tiles in
-    let few = packets_few p q by t lt in
-    let short = packets_short q (packets_in p q t) in
+    let short : 14 + length (tile_text p q t) < 2 ^ 32 = ltb-true (14 + length (tile_text p q t)) (2 ^ 32) (below_at (part_fits p q) (tile_count (siz_of p q)) t fit lt) in
     record {
       tile = lt;
       narrow = omega (arith, lt, tiles);
       number = lit≤ tt;
       total = lit< tt;
-      fits = omega (arith, few, short);
+      fits = omega (arith, short);
       well_formed = record { each = tt; one_coding = lit≤ tt; one_quantisation = lit≤ tt; one_style = λ i. lit≤ tt; one_steps = λ i. lit≤ tt };
     }
 
+-- there is a tile
+some_tile : (s : Siz) → IsSiz s → 0 < tile_count s
+some_tile s is =
+    let found = tile_found s s.x0 s.y0 is (record { left = omega arith; right = is.wide; upper = omega arith; lower = is.high }) in
+    omega (arith, found.0)
+
 -- one part or more, as T.800 asks of them
-pub parts_are : (p : Picture) (q : Parameters) → IsWrittenBy q p → AreParts (siz_of p q) (parts_for p q)
-parts_are p q by = record {
+pub parts_are : (p : Picture) (q : Parameters) → IsWrittenBy q p → parts_fit p q ≡ true → AreParts (siz_of p q) (parts_for p q)
+parts_are p q by fit = record {
   some = some (tile_count (siz_of p q)) (some_tile (siz_of p q) by.siz);
-  each = all_run (IsPart (siz_of p q)) (part_for p q) 0 (tile_count (siz_of p q)) (λ t lt. part_fits p q by t (omega (arith, lt)));
-  closed = closed_run (λ i. packets_text q (packets_in p q i)) 0 (tile_count (siz_of p q));
+  each = all_run (IsPart (siz_of p q)) (part_for p q) 0 (tile_count (siz_of p q)) (λ t lt. part_is p q by fit t (omega (arith, lt)));
+  closed = closed_run (tile_text p q) 0 (tile_count (siz_of p q));
   numbered = λ t. numbered t (cases_lt t (tile_count (siz_of p q)));
 }
   where
@@ -115,5 +105,5 @@ parts_are p q by = record {
     numbered : (t : ℕ) → (t < tile_count (siz_of p q)) ⊎ (tile_count (siz_of p q) ≤ t) → IsNumbered (of_tile t (parts_for p q))
     numbered t (inl lt) = subst IsNumbered (sym (part_said p q t lt)) refl
     numbered t (inr ge) =
-        let none : of_tile t (parts_for p q) ≡ [] = no_part (λ i. packets_text q (packets_in p q i)) 0 (tile_count (siz_of p q)) t (λ i le lt is. omega (arith, lt, ge, is)) in
+        let none : of_tile t (parts_for p q) ≡ [] = no_part (tile_text p q) 0 (tile_count (siz_of p q)) t (λ i le lt is. omega (arith, lt, ge, is)) in
         subst IsNumbered (sym none) refl

@@ -1,20 +1,21 @@
--- Planes of one sample.
-use Rattle.std.proofs.Common.{◌≡◌, ℕ, ◌+◌, ◌*◌, ◌-◌, ◌≤◌, Bool, true, false, List, [], ◌∷◌, ◌++◌, replicate, ℤ, pos, ◌≤ℤ◌, ap, ◌∙◌, arith, lit≤}
-use Rattle.std.specs.Global.{Vec}
-use Rattle.std.proofs.lemmas.List.{map-append, replicate_more, length-replicate}
-use Rattle.std.proofs.lemmas.List.Elements.{All-replicate}
+-- Pictures made of planes of samples.
+use Rattle.std.proofs.Common.{◌≡◌, ℕ, ◌+◌, ◌*◌, ◌-◌, ◌/◌, ◌%◌, ◌<◌, ◌≤◌, Bool, true, false, List, All, ℤ, pos, ◌≤ℤ◌, sym, subst, ◌∙◌, arith, lit≤}
+use Rattle.std.proofs.lemmas.List.{get_or_default}
+use Rattle.std.proofs.lemmas.List.FromFn.{length-map-range_with_len, get_or-map-range_with_len}
 use Rattle.std.proofs.lemmas.Int.{ints, clamps}
 use Rattle.std.proofs.Math.Nat.{one-le-pow}
 use Rattle.std.specs.Int.{int_min, int_max}
 use Rattle.jk_math.specs.declared.rect.Rect.{Rect}
-use Rattle.jk_math.specs.Picture.{Picture, IsFrame, IsPlane, IsPicture, lists_of, lowest, greatest}
+use Rattle.jk_math.specs.Picture.{IsFrame, IsPlane, IsPicture, lowest, greatest}
+use Rattle.jk_math.specs.Raster.{raster, places_of, columns_of}
+use Rattle.jk_math.proofs.Laws.{raster_length, raster_entry}
 use Rattle.jk_marks.specs.declared.siz.Siz.{Siz}
+use Rattle.jk_marks.specs.declared.segments.Cod.{Cod}
 use Rattle.jk_marks.specs.Siz.{IsSiz}
-use Rattle.jk_code.specs.Samples.{clamped, sample_of}
-use Rattle.jk_code.specs.MeaningReading.{blank}
-
-pub planes_more : (planes : List (Vec ℤ)) (plane : Vec ℤ) (n : ℕ) (x : List ℤ) → lists_of planes ≡ replicate n x → plane.items ≡ x → lists_of (planes ++ plane ∷ []) ≡ replicate (n + 1) x
-planes_more planes plane n x e f = map-append (λ (v : Vec ℤ). v.items) planes (plane ∷ []) ∙ ap (λ (xs : List (List ℤ)). xs ++ plane.items ∷ []) e ∙ ap (λ (y : List ℤ). replicate n x ++ y ∷ []) f ∙ replicate_more n x
+use Rattle.jk_params.specs.Headers.{Headers}
+use Rattle.jk_tile.specs.Samples.{clamped}
+use Rattle.jk_tile.specs.Pixels.{tile_sample}
+use Rattle.jk_code.specs.MeaningReading.{sample_of_tiles, picture_with, planes_of_tiles}
 
 range_is : (depth : ℕ) (signed : Bool) → 1 ≤ depth → lowest depth signed ≤ℤ greatest depth signed
 range_is depth true h = let p = one-le-pow (depth - 1) 2 (lit≤ tt) in omega (arith, ints, p)
@@ -30,34 +31,36 @@ clamped_range depth signed z h = within z (lowest depth signed) (greatest depth 
 abbrev pub HasFrame : Rect → Type 0
 HasFrame a = IsFrame a.x0 a.y0 (a.x1 - a.x0) (a.y1 - a.y0)
 
-pub blank_is_picture : (s : Siz) (a : Rect) → IsSiz s → HasFrame a → IsPicture (blank s a)
-blank_is_picture s a is frame =
-    let area = (a.x1 - a.x0) * (a.y1 - a.y0) in
-    let sample = sample_of s (pos 0) in
-    let plane : IsPlane area s.depth s.signed (replicate area sample) = record {
-      count = length-replicate area sample;
-      range = All-replicate (λ z. (lowest s.depth s.signed ≤ℤ z) × (z ≤ℤ greatest s.depth s.signed)) area sample (clamped_range s.depth s.signed _ is.some_bits);
-    } in
-    let planes-len = length-replicate s.components (replicate area sample) in
+-- a sample is within its range
+abbrev InRange : Siz → ℤ → Type 0
+InRange s z = (lowest s.depth s.signed ≤ℤ z) × (z ≤ℤ greatest s.depth s.signed)
+
+pixel_range : (cod : Cod) (s : Siz) (v : ℕ → ℤ) (c : ℕ) → 1 ≤ s.depth → InRange s (tile_sample cod s v c)
+unfolding tile_sample
+pixel_range cod s v c some = clamped_range s.depth s.signed _ some
+
+-- a list of such values
+raster_range : (a : Rect) (f : ℕ → ℕ → ℤ) (s : Siz) → ((x y : ℕ) → InRange s (f x y)) → All (InRange s) (raster a f)
+raster_range a f s each k d lt =
+    let less : k < places_of a = omega (arith, lt, raster_length a f) in
+    subst (InRange s) (get_or_default (raster a f) k (pos 0) d lt) (subst (InRange s) (sym (raster_entry a f k less)) (each (a.x0 + k % columns_of a) (a.y0 + k / columns_of a)))
+
+-- The picture of all tiles is one of the profile.
+pub tiles_are_picture : (bytes : List ℕ) (h : Headers) (d : ℕ) (a : Rect) → IsSiz h.siz → HasFrame a → IsPicture (picture_with h.siz a (planes_of_tiles bytes h d a))
+tiles_are_picture bytes h d a is frame =
+    let f : ℕ → List ℤ = λ c. raster a (sample_of_tiles bytes h d c) in
+    let count = length-map-range_with_len f 0 h.siz.components in
+    let turned : places_of a ≡ (a.x1 - a.x0) * (a.y1 - a.y0) = omega arith in
     record {
       frame = frame;
       components = record {
         some_bits = is.some_bits;
         few_bits = is.few_bits;
-        some = omega (arith, planes-len, is.some_components);
-        few = omega (arith, planes-len, is.few_components);
-        each = All-replicate (IsPlane area s.depth s.signed) s.components (replicate area sample) plane;
+        some = omega (arith, count, is.some_components);
+        few = omega (arith, count, is.few_components);
+        each = λ c e lt.
+            let less : c < h.siz.components = omega (arith, lt, count) in
+            subst (IsPlane ((a.x1 - a.x0) * (a.y1 - a.y0)) h.siz.depth h.siz.signed) (sym (get_or-map-range_with_len f 0 h.siz.components c c e less (omega arith)))
+            (record { count = raster_length a (sample_of_tiles bytes h d c) ∙ turned; range = raster_range a (sample_of_tiles bytes h d c) h.siz (λ x y. pixel_range _ h.siz _ c is.some_bits) });
       };
     }
-
--- the picture of these planes
-abbrev pub picture_with : Siz → Rect → List (List ℤ) → Picture
-picture_with s a planes = record {
-  x0 = a.x0;
-  y0 = a.y0;
-  width = a.x1 - a.x0;
-  height = a.y1 - a.y0;
-  depth = s.depth;
-  signed = s.signed;
-  planes = planes;
-}

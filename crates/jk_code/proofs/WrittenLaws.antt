@@ -1,35 +1,31 @@
 -- What is written means the image.
-use Rattle.std.proofs.Common.{◌≡◌, ℕ, ◌+◌, ◌-◌, ◌/◌, ◌<◌, ◌≤◌, true, List, [], ◌∷◌, ◌++◌, length, map, drop, replicate, ℤ, pos, refl, ap, sym, ◌∙◌, subst, arith, inl}
+use Rattle.std.proofs.Common.{◌≡◌, ℕ, ◌+◌, ◌-◌, ◌*◌, ◌/◌, ◌<◌, ◌≤◌, true, List, [], ◌∷◌, ◌++◌, length, map, drop, replicate, ℤ, refl, ap, sym, ◌∙◌, subst, arith, inl}
 use Rattle.std.specs.List.{flat_map, AllByRecursion}
 use Rattle.jk_math.specs.declared.rect.Rect.{Rect}
-use Rattle.jk_math.specs.Picture.{Picture, IsPicture}
+use Rattle.std.specs.Prelude.{All}
+use Rattle.std.proofs.lemmas.List.Elements.{All-get_or, All-from_get_or}
+use Rattle.jk_math.specs.Picture.{Picture, IsPicture, IsPlane, sample_at}
 use Rattle.jk_marks.specs.declared.coding.Coding.{Coding}
 use Rattle.jk_marks.specs.Siz.{tile_count}
 use Rattle.jk_marks.specs.Segments.{Segment}
 use Rattle.jk_marks.specs.Markers.{marker_text, eoc}
 use Rattle.jk_marks.specs.Codestream.{Part, main_text, part_text, codestream_text, of_tile}
 use Rattle.jk_boxes.specs.Boxes.{Holds}
-use Rattle.jk_geom.specs.Rectangles.{IsWithin, tile_area, resolution_area}
+use Rattle.jk_geom.specs.Rectangles.{tile_area, resolution_area}
 use Rattle.jk_geom.specs.Partitions.{image_area, reduced_area}
-use Rattle.jk_geom.specs.TileShapes.{coding_of}
 use Rattle.jk_geom.specs.Counts.{packet_number}
-use Rattle.jk_geom.proofs.Laws.{tile_inside}
-use Rattle.jk_order.specs.PacketOrder.{order, packet_count}
-use Rattle.jk_order.proofs.Laws.{order_is}
-use Rattle.jk_order.proofs.Laws.{length_of}
 use Rattle.jk_params.specs.declared.parameters.Parameters.{Parameters}
 use Rattle.jk_params.specs.Coding.{HasPlanes, coding_of as coding_by}
 use Rattle.jk_params.specs.Headers.{Headers, TileFields, head_segments, tile_in, headers_of, packets_alike, packets_of, most_packets, IsHeaders}
-use Rattle.jk_params.specs.Profile.{siz_of, cod_of, packets_for, IsWrittenBy}
+use Rattle.jk_params.specs.Profile.{siz_of, cod_of, coding_for, packets_for, IsWrittenBy}
 use Rattle.jk_params.proofs.Laws.{places_from, contents_from, tiles_said, fields_with, said_at, same_packets, tile_same}
-use Rattle.jk_code.specs.Packets.{Empty, IsTile}
-use Rattle.jk_code.specs.Samples.{shift}
-use Rattle.jk_code.specs.Meaning.{slice_of, shape_of, values_of, DecodesTile, IsFrameOf, ShowsTile, MeansPicture, Means}
-use Rattle.jk_code.specs.Written.{packets_text, packets_in, tree_for, is_blank}
-use Rattle.jk_code.proofs.ZeroLaws.{zero_resolution, zero_sample}
-use Rattle.jk_code.proofs.BlankLaws.{grey_sample, planes_full, blank_at}
-use Rattle.jk_code.proofs.WrittenPackets.{packets_are}
-use Rattle.jk_code.proofs.HeaderLaws.{segments_for, quantisation_for, coding_in, main_is, coding_said, codings_said, planes_said}
+use Rattle.jk_walk.specs.TilePackets.{slice_of}
+use Rattle.jk_tile.specs.PacketsWritten.{tile_text}
+use Rattle.jk_tile.specs.TileMeaning.{DecodesTile}
+use Rattle.jk_tile.proofs.Laws.{planes_have, written_decodes}
+use Rattle.jk_code.specs.Meaning.{IsFrameOf, ShowsTile, MeansPicture, Means}
+use Rattle.jk_code.specs.Written.{tree_for, parts_fit}
+use Rattle.jk_code.proofs.HeaderLaws.{segments_for, quantisation_for, coding_in, main_is, coding_said, codings_said}
 use Rattle.jk_code.proofs.PartLaws.{parts_for, part_said, parts_are, total_below}
 
 -- the headers of what is written
@@ -53,7 +49,11 @@ fields_said p q by t lt =
     ∙ ap (λ (h : List Segment). fields_with siz segments h (places_for p q t)) head
     ∙ ap (λ (ks : List Coding). record { cod = cod_of q; codings = ks; data_places = places_for p q t }) (codings_said p q by (length p.planes))
 
--- exponents don't change the number of packets
+-- the packets of tile t
+abbrev packets_in : Picture → Parameters → ℕ → ℕ
+packets_in p q t = packet_number (tile_area (siz_of p q) t) q.layers (replicate (length p.planes) (coding_for q))
+
+-- exponents don't change their number
 tile_packets : (p : Picture) (q : Parameters) (t : ℕ) → packet_number (tile_area (siz_of p q) t) q.layers (replicate (length p.planes) (coding_in p q)) ≡ packets_in p q t
 tile_packets p q t = tile_same (tile_area (siz_of p q) t) q.layers (length p.planes) (cod_of q).style (quantisation_for p q) (record { guard = 2; exponents = [] })
 
@@ -67,20 +67,20 @@ all_few p q by =
     total_below (λ t. number t (tile_in (headers_for p q).tiles t)) (packets_in p q) (tile_count siz)
     (λ t lt. ap (number t) (fields_said p q by t lt) ∙ tile_packets p q t)
 
-headers_are : (p : Picture) (q : Parameters) → IsPicture p → IsWrittenBy q p → IsHeaders (codestream_text (tree_for p q)) (headers_for p q)
+headers_are : (p : Picture) (q : Parameters) → IsPicture p → IsWrittenBy q p → parts_fit p q ≡ true → IsHeaders (codestream_text (tree_for p q)) (headers_for p q)
 unfolding headers_of
-headers_are p q is by =
+headers_are p q is by fit =
     let few = by.few in
     let segments = segments_for p q in
     let n = length p.planes in
     record {
       tree = tree_for p q;
-      spelled = record { header = main_is p q is by; parts = parts_are p q by; text = refl };
+      spelled = record { header = main_is p q is by; parts = parts_are p q by fit; text = refl };
       says = refl;
-      main_planes = λ c lt. subst HasPlanes (sym (coding_said p q by c)) (planes_said p q is);
+      main_planes = λ c lt. subst HasPlanes (sym (coding_said p q by c)) (planes_have p q is by);
       main_few = subst (λ (ks : List Coding). packets_alike (siz_of p q) q.layers ks ≤ most_packets) (sym (codings_said p q by n)) (subst (λ k. k ≤ most_packets) (sym (main_few p q)) few);
       planes = λ t c tile lt.
-          subst (λ (h : List Segment). HasPlanes (coding_by segments h c)) (sym (ap head_segments (part_said p q t tile))) (subst HasPlanes (sym (coding_said p q by c)) (planes_said p q is));
+          subst (λ (h : List Segment). HasPlanes (coding_by segments h c)) (sym (ap head_segments (part_said p q t tile))) (subst HasPlanes (sym (coding_said p q by c)) (planes_have p q is by));
       few = subst (λ k. k ≤ most_packets) (sym (all_few p q by)) few;
     }
 
@@ -91,6 +91,11 @@ ceil_one x = omega arith
 whole_area : (a : Rect) → reduced_area a 0 ≡ a
 unfolding resolution_area
 whole_area a = λ i. record { x0 = ceil_one a.x0 i; y0 = ceil_one a.y0 i; x1 = ceil_one a.x1 i; y1 = ceil_one a.y1 i }
+
+-- each plane of a picture has all its samples
+planes_full : (p : Picture) → IsPicture p → All (λ (plane : List ℤ). length plane ≡ p.width * p.height) p.planes
+planes_full p is =
+    All-from_get_or (λ (plane : List ℤ). length plane ≡ p.width * p.height) p.planes [] (λ c lt. (All-get_or (IsPlane (p.width * p.height) p.depth p.signed) p.planes c [] lt is.components.each).count)
 
 frame_is : (p : Picture) (q : Parameters) → IsPicture p → IsFrameOf (headers_for p q) 0 p
 frame_is p q is =
@@ -109,50 +114,19 @@ frame_is p q is =
     }
 
 -- the data of a tile
-content_said : (p : Picture) (q : Parameters) (t : ℕ) → t < tile_count (siz_of p q) → map (slice_of (codestream_text (tree_for p q))) (places_for p q t) ≡ packets_text q (packets_in p q t) ∷ []
+content_said : (p : Picture) (q : Parameters) (t : ℕ) → t < tile_count (siz_of p q) → map (slice_of (codestream_text (tree_for p q))) (places_for p q t) ≡ tile_text p q t ∷ []
 content_said p q t lt = contents_from (codestream_text (tree_for p q)) (tree_for p q) t refl ∙ ap (λ (ps : List Part). map (λ (x : Part). x.content) ps) (part_said p q t lt)
 
-names_count : (p : Picture) (q : Parameters) (t : ℕ) → packets_in p q t ≡ length (order (shape_of (siz_of p q) (fields_for p q t) t))
-unfolding packet_count
-names_count p q t = let shape = shape_of (siz_of p q) (fields_for p q t) t in sym (length_of shape (order shape) (order_is shape) ∙ tile_packets p q t)
-
 -- the samples of a tile
-abbrev grey : Picture → ℕ → ℕ → ℕ → ℤ
-grey p component x y = shift p.depth p.signed
+abbrev samples_of : Picture → ℕ → ℕ → ℕ → ℤ
+samples_of p c x y = sample_at p c (x - p.x0) (y - p.y0)
 
-decodes : (p : Picture) (q : Parameters) → IsPicture p → IsWrittenBy q p → (t : ℕ) → t < tile_count (siz_of p q) → DecodesTile (codestream_text (tree_for p q)) (headers_for p q) (fields_for p q t) t 0 (grey p)
-decodes p q is by t lt =
-    let siz = siz_of p q in
-    let f = fields_for p q t in
-    let n = packets_in p q t in
-    let area = tile_area siz t in
-    let names = order (shape_of siz f t) in
-    let none : ℕ → ℕ → ℕ → ℕ → ℤ = λ component band x y. pos 0 in
-    record {
-      names = names;
-      order = order_is (shape_of siz f t);
-      layers = replicate n Empty;
-      packets = subst (λ (parts : List (List ℕ)). IsTile q.sop q.eph (length names) (replicate n Empty) parts) (sym (content_said p q t lt)) (packets_are q (length names) n (names_count p q t));
-      coefficients = none;
-      blocks = λ nothing component band x y. refl;
-      shown = λ component x y some within.
-          sym (zero_sample (cod_of q) siz (λ c. values_of area (coding_of f.codings c) 0 (none c) x y)
-          (λ c. (let k = coding_of f.codings c in zero_resolution area k.levels (k.levels - 0) (none c) (λ band u v. refl) x y)) component
-          ∙ grey_sample siz is.components.some_bits);
-    }
-
-shows : (p : Picture) (q : Parameters) → IsPicture p → IsWrittenBy q p → is_blank p ≡ true → (t : ℕ) → t < tile_count (siz_of p q) → ShowsTile (codestream_text (tree_for p q)) (headers_for p q) 0 p t
-shows p q is by blank t lt = record {
-  samples = grey p;
-  decoded = subst (λ (f : TileFields). DecodesTile (codestream_text (tree_for p q)) (headers_for p q) f t 0 (grey p)) (sym (fields_said p q by t lt)) (decodes p q is by t lt);
-  placed = λ component x y some within.
-      (let siz = siz_of p q in
-      let inside = subst (λ (a : Rect). IsWithin a x y) (whole_area (image_area siz)) (tile_inside siz 0 t x y by.siz (record { tile = lt; place = within })) in
-      let left = inside.left in
-      let right = inside.right in
-      let upper = inside.upper in
-      let lower = inside.lower in
-      blank_at p is blank component (x - p.x0) (y - p.y0) some (omega (arith, left, right)) (omega (arith, upper, lower)));
+shows : (p : Picture) (q : Parameters) → IsPicture p → IsWrittenBy q p → (t : ℕ) → t < tile_count (siz_of p q) → ShowsTile (codestream_text (tree_for p q)) (headers_for p q) 0 p t
+shows p q is by t lt = record {
+  samples = samples_of p;
+  decoded = subst (λ (f : TileFields). DecodesTile (codestream_text (tree_for p q)) (headers_for p q) f t 0 (samples_of p)) (sym (fields_said p q by t lt))
+      (written_decodes p q t (codestream_text (tree_for p q)) (headers_for p q) (places_for p q t) is by lt refl (content_said p q t lt));
+  placed = λ component x y some within. refl;
 }
 
 each_of : {X : Type 0} (P : X → Type 0) → ((x : X) → P x) → (xs : List X) → AllByRecursion P xs
@@ -160,13 +134,13 @@ each_of P h [] = tt
 each_of P h (x ∷ xs) = (h x, each_of P h xs)
 
 -- the codestream means the picture
-pub written_means : (p : Picture) (q : Parameters) → IsPicture p → IsWrittenBy q p → is_blank p ≡ true → MeansPicture (codestream_text (tree_for p q)) 0 p
-written_means p q is by blank = record {
+pub written_means : (p : Picture) (q : Parameters) → IsPicture p → IsWrittenBy q p → parts_fit p q ≡ true → MeansPicture (codestream_text (tree_for p q)) 0 p
+written_means p q is by fit = record {
   headers = headers_for p q;
-  says = headers_are p q is by;
+  says = headers_are p q is by fit;
   reduction = each_of _ (λ (f : TileFields). each_of _ (λ (k : Coding). omega arith) f.codings) (headers_for p q).tiles;
   frame = frame_is p q is;
-  tiles = shows p q is by blank;
+  tiles = shows p q is by;
 }
 
 -- and is a bare file

@@ -3,9 +3,8 @@ pub use Rattle.jk_math.specs.Picture
 pub use Rattle.jk_marks.specs.Codestream
 pub use Rattle.jk_params.specs.Headers
 pub use Rattle.jk_params.specs.Profile
-pub mod Packets
-pub mod Samples
-pub mod Resolutions
 pub mod Meaning
 pub mod MeaningReading
+pub mod Tiles
 pub mod Written
+pub mod Windows

@@ -1,43 +1,38 @@
 -- Decoding from front to back, with the first fault that is met.
-use Rattle.std.specs.Prelude.{ℕ, zero, suc, ◌+◌, ◌-◌, ◌*◌, Bool, true, List, [], ◌∷◌, length, map, drop, replicate, not, ◌&&◌, ◌==◌, nat_le, slice_range, if◌then◌else◌, Result, Ok, pos}
-use Rattle.std.specs.List.{list_all}
+use Rattle.std.specs.Prelude.{ℕ, zero, suc, ◌-◌, ◌*◌, ◌^◌, Bool, true, List, [], map, not, ◌&&◌, nat_le, slice_range, Result, Ok, Err, ℤ}
+use Rattle.std.specs.List.{list_all, range_with_len}
 use Rattle.jk_math.specs.Answer.{◌>>=◌, refuse}
 use Rattle.jk_math.specs.declared.fault.Fault.{Fault}
-use Rattle.jk_math.specs.declared.fault.Fault.TheVariants.{BadWindow, MissingPackets, SurplusBytes}
+use Rattle.jk_math.specs.declared.fault.Fault.TheVariants.{BadWindow}
 use Rattle.jk_math.specs.Picture.{Picture}
+use Rattle.jk_math.specs.Raster.{raster}
 use Rattle.jk_math.specs.declared.rect.Rect.{Rect}
 use Rattle.jk_marks.specs.declared.siz.Siz.{Siz}
 use Rattle.jk_marks.specs.Siz.{tile_count}
 use Rattle.jk_boxes.specs.Reading.{boxes_at}
-use Rattle.jk_geom.specs.Rectangles.{is_empty, tile_area}
-use Rattle.jk_geom.specs.Partitions.{image_area, reduced_area}
-use Rattle.jk_geom.specs.Counts.{packet_number}
-use Rattle.jk_packet.specs.Empty.{empty_at}
+use Rattle.jk_geom.specs.Rectangles.{is_empty}
+use Rattle.jk_geom.specs.Partitions.{image_area, reduced_area, tile_of}
 use Rattle.jk_params.specs.Headers.{Headers, TileFields, tile_in}
 use Rattle.jk_params.specs.HeadersReading.{headers_at}
-use Rattle.jk_code.specs.Samples.{sample_of}
-use Rattle.jk_code.specs.Meaning.{slice_of}
+use Rattle.jk_walk.specs.declared.places.PacketPlace.{PacketPlace}
+use Rattle.jk_walk.specs.WalkReading.{packets_at}
+use Rattle.jk_tile.specs.TileReading.{each, tested, tile_planes_at, component_samples}
 
--- the packets of one part, where so many are left: how many are left behind it
-unfoldable pub part_packets_at : (sop eph : Bool) → (left : ℕ) → List ℕ → Result ℕ Fault
-part_packets_at sop eph zero bytes = refuse (not (length bytes == 0)) SurplusBytes >>= λ _. Ok 0
-part_packets_at sop eph (suc left) bytes = if length bytes == 0 then Ok (suc left) else (empty_at sop eph bytes >>= λ n. part_packets_at sop eph left (drop n bytes))
+-- the packets of tile t, where they are read
+abbrev pub places_or : Result (List PacketPlace) Fault → List PacketPlace
+places_or (Ok places) = places
+places_or (Err e) = []
 
--- the packets of a tile, where so many are left, from the data of its parts
-unfoldable pub tile_packets_at : (sop eph : Bool) → (left : ℕ) → List (List ℕ) → Result (Unit {0}) Fault
-tile_packets_at sop eph left [] = refuse (not (left == 0)) MissingPackets
-tile_packets_at sop eph left (p ∷ parts) = part_packets_at sop eph left p >>= λ more. tile_packets_at sop eph more parts
+abbrev pub places_at : List ℕ → Headers → ℕ → List PacketPlace
+places_at bytes h t = places_or (packets_at bytes h t)
 
--- the packets of tile t
-abbrev pub packets_at : List ℕ → Headers → ℕ → Result (Unit {0}) Fault
-packets_at bytes h t =
-    let f = tile_in h.tiles t in
-    tile_packets_at f.cod.sop f.cod.eph (packet_number (tile_area h.siz t) f.cod.layers f.codings) (map (slice_of bytes) f.data_places)
+-- the packets of all tiles, tile by tile
+abbrev pub packets_tested : List ℕ → Headers → ℕ → Result (Unit {0}) Fault
+packets_tested bytes h n = each n (λ t. tested (packets_at bytes h t))
 
--- the packets of so many tiles, from tile t on
-unfoldable pub tiles_from : List ℕ → Headers → (more t : ℕ) → Result (Unit {0}) Fault
-tiles_from bytes h zero t = Ok tt
-tiles_from bytes h (suc more) t = packets_at bytes h t >>= λ _. tiles_from bytes h more (t + 1)
+-- the code-blocks of all tiles at reduction d, tile by tile
+abbrev pub tiles_tested : List ℕ → Headers → (d n : ℕ) → Result (Unit {0}) Fault
+tiles_tested bytes h d n = each n (λ t. tested (tile_planes_at bytes h t d (places_at bytes h t)))
 
 -- whether a test holds of the numbers below n
 unfoldable pub holds_below : (ℕ → Bool) → ℕ → Bool
@@ -55,24 +50,35 @@ reduction_at h d = do
   _ ← refuse (is_empty (reduced_area (image_area h.siz) d)) BadWindow
   Ok (reduced_area (image_area h.siz) d)
 
--- the picture at a place on a reduced grid whose coefficients are all zero
-abbrev pub blank : Siz → Rect → Picture
-blank s a = record {
+-- the sample of a component at a place of the reduced grid: that of the tile that has the place
+abbrev pub sample_of_tiles : List ℕ → Headers → (d c x y : ℕ) → ℤ
+sample_of_tiles bytes h d c x y =
+    let t = tile_of h.siz (x * 2 ^ d) (y * 2 ^ d) in
+    component_samples bytes h t d (places_at bytes h t) c x y
+
+-- a picture of an image's depth and sign at a place, with these planes
+abbrev pub picture_with : Siz → Rect → List (List ℤ) → Picture
+picture_with s a planes = record {
   x0 = a.x0;
   y0 = a.y0;
   width = a.x1 - a.x0;
   height = a.y1 - a.y0;
   depth = s.depth;
   signed = s.signed;
-  planes = replicate s.components (replicate ((a.x1 - a.x0) * (a.y1 - a.y0)) (sample_of s (pos 0)));
+  planes = planes;
 }
 
--- the same of a codestream with these headers
+-- its planes
+abbrev pub planes_of_tiles : List ℕ → Headers → ℕ → Rect → List (List ℤ)
+planes_of_tiles bytes h d a = map (λ c. raster a (sample_of_tiles bytes h d c)) (range_with_len 0 h.siz.components)
+
+-- The same of a codestream with these headers. The packets of all tiles are judged before the code-blocks of any.
 unfoldable pub picture_at : Headers → List ℕ → ℕ → Result Picture Fault
 picture_at h bytes d = do
   area ← reduction_at h d
-  _ ← tiles_from bytes h (tile_count h.siz) 0
-  Ok (blank h.siz area)
+  _ ← packets_tested bytes h (tile_count h.siz)
+  _ ← tiles_tested bytes h d (tile_count h.siz)
+  Ok (picture_with h.siz area (planes_of_tiles bytes h d area))
 
 -- what a codestream means
 unfoldable pub image_at : List ℕ → ℕ → Result Picture Fault

@@ -1,96 +1,124 @@
 //! Decoding.
 
-ghost use Rattle.std.specs.Prelude.{◌≡◌, ◌≤◌, ◌<◌, ◌+◌, ◌-◌, length, map, IfOk, Ok};
+ghost use Rattle.std.specs.Prelude.{◌≡◌, ℕ, ◌≤◌, ◌<◌, ◌-◌, List, length, map, IfOk, IfErr, OnOk, Ok, slice_index_or};
 ghost use Rattle.std.specs.List.{AllByRecursion};
 ghost use Rattle.jk_math.specs.Answer.{Answers};
-ghost use Rattle.jk_math.specs.Picture.{Picture};
+ghost use Rattle.jk_math.specs.Memory.{IsMemory};
+ghost use Rattle.jk_math.specs.Picture.{Picture, IsFrame, lists_of};
+ghost use Rattle.jk_math.specs.declared.rect.Rect.{Rect as Place};
 ghost use Rattle.jk_marks.specs.Siz.{tile_count};
-ghost use Rattle.jk_params.specs.Headers.{AreHeaders};
-ghost use Rattle.jk_code.specs.Meaning.{Means, slice_of};
-ghost use Rattle.jk_code.specs.MeaningReading.{part_packets_at, tile_packets_at, packets_at, tiles_from, picture_at, image_at, meaning_at};
+ghost use Rattle.jk_geom.specs.Partitions.{image_area, reduced_area};
+ghost use Rattle.jk_params.specs.Headers.{AreHeaders, tile_in};
+ghost use Rattle.jk_walk.specs.declared.places.PacketPlace.{PacketPlace};
+ghost use Rattle.jk_walk.specs.WalkReading.{packets_at};
+ghost use Rattle.jk_tile.specs.TileReading.{tested, tile_planes_at};
+ghost use Rattle.jk_code.specs.Meaning.{Means};
+ghost use Rattle.jk_code.specs.MeaningReading.{places_at, packets_tested, tiles_tested, planes_of_tiles, picture_with, picture_at, image_at, meaning_at};
+ghost use Rattle.jk_geom.specs.Rectangles.{IsArea};
+ghost use Rattle.jk_math.specs.Raster.{places_of};
+ghost use Rattle.jk_code.specs.Tiles.{AreRead, HaveLevels, ArePlanes, Keeps, ShowsTileAt, frame_of, plane_in};
 
-use crate::reduction::check_reduction;
-use crate::samples::blank_image;
+use crate::reduction::{check_reduction, reduced};
 use jk_boxes::open;
-use jk_geom::{packet_count, tile};
-use jk_math::{Fault, Image};
-use jk_packet::empty_packet;
+use jk_geom::tile;
+use jk_math::{Fault, Image, Planes, Rect};
 use jk_params::{Codestream, read_codestream};
+use jk_tile::{decode_tile, put};
+use jk_walk::{TilePackets, read_packets};
 use std::alloc::Global;
 
-/// Which markers stand at the packets of a tile (T.800 A.8).
-#[derive(Clone, Copy)]
-struct PacketMarkers {
-    /// An SOP marker segment may stand before a packet.
-    sop: bool,
-    /// An EPH marker must stand behind a packet's header.
-    eph: bool,
-}
-
-/// How many packets are left behind those of one part of a tile, where so many were left before it.
-fn part_packets(markers: PacketMarkers, count: u64, content: &[u8]) -> Result<u64, Fault>
-    ensures { result ≡ part_packets_at markers.sop markers.eph count content.now }
+/// The packets of all tiles.
+fn all_packets(alloc: Global, headers: &Codestream, bytes: &[u8]) -> Result<Vec<TilePackets>, Fault>
+    requires sound { AreHeaders (length bytes.now) headers.now }
+    ensures exact { Answers (λ _. tt) result (packets_tested bytes.now headers.now (tile_count headers.now.siz)) }
+    ensures read { IfOk result (λ v. AreRead bytes.now headers.now (tile_count headers.now.siz) v.items) }
 {
-    let mut left = count;
-    let mut at = 0;
-    while at < content.len() {
-        if left == 0 {
-            return Err(Fault::SurplusBytes);
-        }
-        at += empty_packet(markers.sop, markers.eph, &content[at..])?;
-        left -= 1;
+    let mut all = Vec::new(alloc);
+    for number in 0..headers.tile_count() {
+        all.push(read_packets(alloc, headers, bytes, number)?)?;
     }
-    Ok(left)
+    Ok(all)
 }
 
-/// The packets of a tile, so many of them, in the data of its parts.
-#[tactic(auto, using(crate::proofs::PacketSteps::tile_end, crate::proofs::PacketSteps::tile_missing))]
-fn tile_packets(
-    markers: PacketMarkers,
-    count: u64,
+/// Puts the planes of a tile into those of the image.
+fn put_tile(
+    headers: &Codestream,
     bytes: &[u8],
-    places: &[(usize, usize)],
-) -> Result<(), Fault>
-    requires { AllByRecursion (λ p. (p.0 ≤ p.1) × (p.1 ≤ length bytes.now)) places.now }
-    ensures { result ≡ tile_packets_at markers.sop markers.eph count (map (slice_of bytes.now) places.now) }
-{
-    let mut left = count;
-    for index in 0..places.len() {
-        let (start, end) = places[index];
-        left = part_packets(markers, left, &bytes[start..end])?;
-    }
-    if left > 0 {
-        return Err(Fault::MissingPackets);
-    }
-    Ok(())
-}
-
-/// The packets of one tile.
-fn packets(headers: &Codestream, bytes: &[u8], number: usize) -> Result<(), Fault>
+    packets: &TilePackets,
+    number: usize,
+    reduce: u8,
+    area: &Rect,
+    shown: &Planes,
+    planes: &mut Vec<Vec<i32>>,
+)
     requires sound { AreHeaders (length bytes.now) headers.now }
     requires number { number < tile_count headers.now.siz }
-    ensures { result ≡ packets_at bytes.now headers.now number }
+    requires packets { packets_at bytes.now headers.now number ≡ Ok packets.now }
+    requires area { area.now ≡ frame_of headers.now reduce }
+    requires frame { IsArea area.now }
+    requires few { reduce ≤ 10 }
+    requires shown { tile_planes_at bytes.now headers.now number reduce packets.now ≡ Ok shown.now }
+    requires planes { ArePlanes headers.now reduce planes.old.items }
+    ensures planes { ArePlanes headers.now reduce planes.new.items }
+    ensures keeps { Keeps bytes.now headers.now reduce planes.old.items planes.new.items }
+    ensures shows { ShowsTileAt bytes.now headers.now reduce number headers.now.siz.components planes.new.items }
 {
-    let cod = headers.cod(number);
-    let markers = PacketMarkers {
-        sop: cod.sop,
-        eph: cod.eph,
-    };
-    let rect = tile(headers.siz(), number as u32);
-    let count = packet_count(&rect, cod.layers, headers.codings(number));
-    tile_packets(markers, count, bytes, headers.data_places(number))
+    let part = reduced(&tile(headers.siz(), number as u32), reduce);
+    for c in 0..planes.len() {
+        put(area, &mut planes[c], &part, shown.plane(c));
+    }
 }
 
-/// The packets of all tiles.
-#[tactic(auto, using(crate::proofs::PacketSteps::tiles_more, crate::proofs::PacketSteps::tiles_end))]
-fn all_packets(headers: &Codestream, bytes: &[u8]) -> Result<(), Fault>
-    requires { AreHeaders (length bytes.now) headers.now }
-    ensures { result ≡ tiles_from bytes.now headers.now (tile_count headers.now.siz) 0 }
+/// The planes of the image, tile by tile.
+fn all_planes(
+    alloc: Global,
+    headers: &Codestream,
+    bytes: &[u8],
+    packets: &[TilePackets],
+    reduce: u8,
+    area: &Rect,
+) -> Result<Vec<Vec<i32>>, Fault>
+    requires sound { AreHeaders (length bytes.now) headers.now }
+    requires packets { AreRead bytes.now headers.now (tile_count headers.now.siz) packets.now }
+    requires levels { HaveLevels headers.now reduce }
+    requires area { area.now ≡ frame_of headers.now reduce }
+    requires frame { IsArea area.now }
+    requires few { reduce ≤ 10 }
+    ensures exact { Answers (λ _. tt) result (tiles_tested bytes.now headers.now reduce (tile_count headers.now.siz)) }
+    ensures planes { IfOk result (λ v. lists_of v.items ≡ planes_of_tiles bytes.now headers.now reduce area.now) }
 {
+    let mut planes = blank_planes(alloc, headers.siz().components, area)?;
     for number in 0..headers.tile_count() {
-        packets(headers, bytes, number)?;
+        let packets = &packets[number];
+        let shown = decode_tile(alloc, headers, bytes, number, packets, reduce)?;
+        put_tile(
+            headers,
+            bytes,
+            packets,
+            number,
+            reduce,
+            area,
+            &shown,
+            &mut planes,
+        );
     }
-    Ok(())
+    Ok(planes)
+}
+
+/// A list of zeros for each component.
+fn blank_planes(alloc: Global, components: u16, area: &Rect) -> Result<Vec<Vec<i32>>, Fault>
+    requires { IsArea area.now }
+    ensures count { IfOk result (λ v. length v.items ≡ components) }
+    ensures each { IfOk result (λ v. (c : ℕ) → c < components → length (plane_in v.items c) ≡ places_of area.now) }
+    ensures memory { IfErr result IsMemory }
+{
+    let width = (area.x1 - area.x0) as usize;
+    let height = (area.y1 - area.y0) as usize;
+    let mut planes = Vec::new(alloc);
+    for _ in 0..components {
+        planes.push(vec![in alloc; 0; height * width]?)?;
+    }
+    Ok(planes)
 }
 
 /// The image of a codestream with these headers at a reduction.
@@ -100,8 +128,13 @@ fn picture(alloc: Global, headers: &Codestream, bytes: &[u8], reduce: u32) -> Re
     ensures { Answers (λ i. i) result (picture_at headers.now bytes.now reduce) }
 {
     let area = check_reduction(headers, reduce)?;
-    all_packets(headers, bytes)?;
-    blank_image(alloc, headers.siz(), &area)
+    let packets = all_packets(alloc, headers, bytes)?;
+    let planes = all_planes(alloc, headers, bytes, &packets, reduce as u8, &area)?;
+    let siz = headers.siz();
+    let (width, height) = (area.x1 - area.x0, area.y1 - area.y0);
+    Image::new(
+        area.x0, area.y0, width, height, siz.depth, siz.signed, planes,
+    )
 }
 
 /// The image that a codestream means.
@@ -127,8 +160,8 @@ fn meaning(alloc: Global, bytes: &[u8], reduce: u32) -> Result<Image, Fault>
 ///
 /// The first of these faults: those of the boxes; those of `read_codestream`; BadWindow for a reduction past
 /// the least number of decomposition levels, or one that leaves no sample; then, tile by tile, those of its
-/// packets' headers, NotYet for a packet whose first bit is 1, MissingPackets where the tile has no parts or
-/// its parts end with packets left, and SurplusBytes behind its last packet.
+/// packets, as `read_packets` names them; then, tile by tile, TooManyPasses and CodeOutOfInterval of its code-blocks
+/// up to the resolution that is asked for.
 pub fn decode(alloc: Global, bytes: &[u8], reduce: u32) -> Result<Image, Fault>
     // Which image, or which fault is the first.
     ensures exact { Answers (λ i. i) result (meaning_at bytes.now reduce) }

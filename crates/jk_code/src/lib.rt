@@ -4,7 +4,8 @@
 mod decoding;
 mod encoding;
 mod reduction;
-mod samples;
+mod windows;
 
 pub use decoding::decode;
 pub use encoding::encode;
+pub use windows::{window, windows_show_the_picture};

@@ -6,7 +6,9 @@ ghost use Rattle.jk_math.specs.Picture.{IsFrame};
 ghost use Rattle.jk_marks.specs.Siz.{IsSiz, tile_count};
 ghost use Rattle.jk_geom.specs.Partitions.{image_area, reduced_area};
 ghost use Rattle.jk_params.specs.Headers.{AreHeaders, tile_in};
+ghost use Rattle.jk_geom.specs.Rectangles.{IsArea};
 ghost use Rattle.jk_code.specs.MeaningReading.{has_levels, holds_below, reduction_at};
+ghost use Rattle.jk_code.specs.Tiles.{frame_of, HaveLevels};
 
 use jk_geom::{Codings, resolution};
 use jk_marks::Siz;
@@ -24,7 +26,7 @@ fn codings_have_levels(codings: &Codings, levels: u32) -> bool
 }
 
 /// Whether each component of each tile has so many decomposition levels.
-#[tactic(auto, using(crate::proofs::PacketSteps::below_none, crate::proofs::PacketSteps::below_more, crate::proofs::PacketSteps::below_fails))]
+#[tactic(auto, using(crate::proofs::Below::below_none, crate::proofs::Below::below_more, crate::proofs::Below::below_fails))]
 fn tiles_have_levels(headers: &Codestream, levels: u32) -> bool
     requires { length headers.now.tiles ≡ tile_count headers.now.siz }
     ensures { result ≡ holds_below (λ t. has_levels levels (tile_in headers.now.tiles t)) (tile_count headers.now.siz) }
@@ -37,11 +39,22 @@ fn tiles_have_levels(headers: &Codestream, levels: u32) -> bool
     true
 }
 
+/// A rectangle on the grid that is reduced by so many levels.
+pub(crate) fn reduced(area: &Rect, levels: u8) -> Rect
+    requires area { IsArea area.now }
+    requires levels { levels ≤ 10 }
+    ensures value { result ≡ reduced_area area.now levels }
+    ensures area { IsArea result }
+{
+    resolution(area, levels, 0)
+}
+
 /// The place of the image on the grid that is reduced by so many levels.
 fn reduced_image(siz: &Siz, levels: u8) -> Rect
     requires siz { IsSiz siz.now }
     requires levels { levels ≤ 10 }
-    ensures { result ≡ reduced_area (image_area siz.now) levels }
+    ensures value { result ≡ reduced_area (image_area siz.now) levels }
+    ensures area { IsArea result }
 {
     let image = Rect {
         x0: siz.x0,
@@ -49,7 +62,7 @@ fn reduced_image(siz: &Siz, levels: u8) -> Rect
         x1: siz.x1,
         y1: siz.y1,
     };
-    resolution(&image, levels, 0)
+    reduced(&image, levels)
 }
 
 /// The place of the reduced image. BadWindow: a tile-component has fewer decomposition levels, or no sample is
@@ -59,6 +72,10 @@ pub(crate) fn check_reduction(headers: &Codestream, reduce: u32) -> Result<Rect,
     requires { (size : ℕ) × AreHeaders size headers.now }
     ensures exact { result ≡ reduction_at headers.now reduce }
     ensures frame { IfOk result (λ a. IsFrame a.x0 a.y0 (a.x1 - a.x0) (a.y1 - a.y0)) }
+    ensures area { IfOk result (λ a. IsArea a) }
+    ensures place { IfOk result (λ a. a ≡ frame_of headers.now reduce) }
+    ensures levels { IfOk result (λ a. HaveLevels headers.now reduce) }
+    ensures few { IfOk result (λ a. reduce ≤ 10) }
 {
     if !tiles_have_levels(headers, reduce) {
         return Err(Fault::BadWindow);

@@ -16,4 +16,6 @@ pub mod Loops
 pub mod Appending
 pub mod WrittenMeans
 pub mod OneTree
+pub mod CopyingLoops
+pub mod CopyingLaws
 pub mod Laws

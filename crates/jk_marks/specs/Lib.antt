@@ -11,3 +11,4 @@ pub mod Coding
 pub mod Codestream
 pub mod Reading
 pub mod HeaderReading
+pub mod Copying

@@ -3,6 +3,7 @@
 
 mod coding;
 mod coding_segments;
+mod copying;
 mod cursor;
 mod head;
 mod main_header;
@@ -16,6 +17,7 @@ mod tile_part;
 mod write;
 
 pub use coding::Coding;
+pub use copying::{copy_main, copy_part_head, part_name};
 pub use cursor::Cursor;
 pub use head::{Heading, TileHead};
 pub use main_header::{Main, read_main};

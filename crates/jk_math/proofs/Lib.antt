@@ -3,4 +3,5 @@ pub mod PictureLemmas
 pub mod Numbers
 pub mod Rasters
 pub mod Rounding
+pub mod BitLengths
 pub mod Laws

@@ -1,4 +1,5 @@
 pub mod Answer
+pub mod BitLength
 pub mod Division
 pub mod Front
 pub mod Memory

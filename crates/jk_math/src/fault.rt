@@ -79,9 +79,6 @@ pub enum Fault {
     /// The file isn't the one that was indexed.
     #[error("F21 Changed")]
     Changed,
-    /// A part of the profile that isn't built.
-    #[error("F22 NotYet")]
-    NotYet,
     /// A thread couldn't be started, or the catalogue refused a reader.
     #[error("F23 WorkerFailed")]
     WorkerFailed,

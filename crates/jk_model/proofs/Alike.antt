@@ -1,8 +1,8 @@
 -- Bytes that read alike have one code value, and spell the same decisions.
-use Rattle.std.proofs.Common.{◌≡◌, ◌∙◌, ap, sym, subst, refl, ℕ, zero, suc, ◌+◌, ◌-◌, ◌*◌, ◌^◌, ◌<◌, ◌≤◌, Bool, not, ◌&&◌, ◌||◌, cond, List, [], ◌∷◌, ◌++◌, eqb, ltb, leb, arith}
+use Rattle.std.proofs.Common.{◌≡◌, ◌∙◌, ap, sym, subst, refl, ℕ, zero, suc, ◌+◌, ◌-◌, ◌*◌, ◌^◌, ◌<◌, Bool, not, ◌&&◌, ◌||◌, cond, List, [], ◌∷◌, ◌++◌, eqb, ltb, leb, arith}
 use Rattle.jk_model.specs.Code.{byte_at, is_last, is_past, fed, places, start, wanted, share, shares, code_value}
-use Rattle.jk_model.specs.Decisions.{State, Decision, qe_at, is_lower, after, IsWithin, SpellsFrom}
-use Rattle.jk_model.specs.Deciding.{Alike, takes_lower, decided, Follows}
+use Rattle.jk_model.specs.Decisions.{State, Decision, qe_at, is_lower, IsWithin, SpellsFrom}
+use Rattle.jk_model.specs.Deciding.{Alike, decided, Follows}
 use Rattle.jk_model.proofs.CodeValue.{is_last-is, is_past-zero, is_past-suc, fed-is, places-is, start-zero, start-suc, wanted-zero, wanted-suc, share-is, shares-zero, shares-suc, code_value-is}
 use Rattle.jk_model.proofs.Deciding.{spells-follows, follows-spells}
 

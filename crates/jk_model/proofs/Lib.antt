@@ -1,6 +1,7 @@
 pub mod CodeValue
 pub mod Moves
 pub mod Rows
+pub mod StepLaws
 pub mod Spelling
 pub mod Deciding
 pub mod Alike

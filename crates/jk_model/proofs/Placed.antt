@@ -1,5 +1,5 @@
 -- The bytes that were placed.
-use Rattle.std.proofs.Common.{◌≡◌, ◌∙◌, ap, ℕ, ◌≤◌, inl, inr, cond, List, [], ◌∷◌, eqb, refl, arith}
+use Rattle.std.proofs.Common.{◌≡◌, ◌∙◌, ap, ℕ, inl, inr, cond, List, [], ◌∷◌, eqb, refl}
 use Rattle.std.proofs.lemmas.Bool.{cases_eq, eq-eqb, ne_eqb}
 use Rattle.jk_model.specs.Placed.{gap, top}
 

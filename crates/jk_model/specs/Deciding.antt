@@ -1,5 +1,5 @@
 -- The states that decisions lead to, with no bytes: each takes the part of the interval that stands for its bit.
-use Rattle.std.specs.Prelude.{◌≡◌, ℕ, ◌+◌, ◌-◌, ◌*◌, ◌^◌, Bool, List, [], ◌∷◌, set, nat_lt, if◌then◌else◌}
+use Rattle.std.specs.Prelude.{◌≡◌, ℕ, ◌+◌, ◌-◌, ◌^◌, Bool, List, [], ◌∷◌, set, nat_lt, if◌then◌else◌}
 use Rattle.std.specs.Bool.{beq}
 use Rattle.jk_model.specs.Code.{byte_at}
 use Rattle.jk_model.specs.Contexts.{moved}

@@ -1,5 +1,6 @@
 pub mod Code
 pub mod Contexts
+pub mod Steps
 pub mod Decisions
 pub mod Deciding
 pub mod Placed

@@ -3,10 +3,12 @@
 #![tactic(auto)]
 
 mod context;
+mod steps;
 mod table;
 mod theorems;
 
 pub use context::{Cx, first_contexts, next_state};
+pub use steps::{Step, first_steps};
 pub use table::{Row, STATES};
 pub use theorems::{
     alike_spelling, given_decisions, joined_spelling, one_spelling, placed_value, standard_states,

@@ -1,5 +1,4 @@
 pub mod Shifts
-pub mod StepLaws
 pub mod Deciding
 pub mod Doubling
 pub mod Feeding

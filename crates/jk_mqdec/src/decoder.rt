@@ -2,14 +2,13 @@
 
 ghost use Rattle.std.specs.Prelude.{◌≡◌, ℕ, Bool, suc, ◌+◌, ◌*◌, ◌^◌, ◌<◌, ◌≤◌, [], ◌∷◌, ◌++◌, List, length, set, IfOk, IfErr, OnOk, OnErr, MatchResult, Ok, Err};
 ghost use Rattle.jk_math.specs.declared.fault.Fault.TheVariants.{CodeOutOfInterval};
-ghost use Rattle.jk_model.specs.Contexts.{first_contexts};
 ghost use Rattle.jk_model.specs.Decisions.{State, Decision, initial, Spells};
 ghost use Rattle.jk_mqdec.specs.Standing.{View, Stands, HasFailed, Reached};
 ghost use Rattle.jk_mqdec.specs.Answers.{answer, next};
 
 use crate::registers::{Registers, divided, is_narrow, loaded, renormalised};
-use crate::steps::Step;
 use jk_math::Fault;
+use jk_model::{Step, first_steps};
 use std::marker::Model;
 
 /// The MQ decoder over the bytes of a segment (T.800 Annex C). It takes no memory.
@@ -30,17 +29,6 @@ impl<'a> Model for Decoder<'a> {
     ghost invariant = { λ d. IsSound (record { bytes = d.bytes.now; registers = d.registers; contexts = d.contexts }) };
 }
 
-/// The contexts as they are at the start of a code-block (T.800 Table D.7).
-fn first_steps() -> [Step; 19]
-    ensures { result ≡ first_contexts }
-{
-    let mut contexts = [Step::new(0); 19];
-    contexts[0] = Step::new(4);
-    contexts[17] = Step::new(3);
-    contexts[18] = Step::new(46);
-    contexts
-}
-
 impl<'a> Decoder<'a> {
     /// A decoder at the start of a segment (INITDEC, T.800 C.3.5), its contexts as they are at the start of a
     /// code-block.
@@ -58,6 +46,7 @@ impl<'a> Decoder<'a> {
 
     /// The bit of the next decision, in the context of this number (DECODE, T.800 C.3.2), or
     /// [`Fault::CodeOutOfInterval`].
+    #[inline(always)]
     pub fn decode(&mut self, cx: usize) -> Result<bool, Fault>
         requires { cx < 19 }
         ensures bytes { self.new.bytes ≡ self.old.bytes }

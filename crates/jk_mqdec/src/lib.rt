@@ -3,6 +3,5 @@
 
 mod decoder;
 mod registers;
-mod steps;
 
 pub use decoder::Decoder;

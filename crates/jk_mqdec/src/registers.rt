@@ -99,6 +99,7 @@ fn supplied(bytes: &[u8], old: Registers) -> Option<Registers>
 }
 
 /// The registers after so many doublings, for which no byte is due.
+#[inline(always)]
 fn shifted(old: Registers, times: u32) -> Registers
     requires code { old.code < old.width }
     requires width { old.width * 2 ^ times < 2 ^ 32 }
@@ -141,6 +142,7 @@ fn fed_through(bytes: &[u8], old: Registers, times: u32) -> Option<Registers>
 
 /// Doubles until the width is at least half its range (RENORMD, T.800 C.3.3). `None` where the code value has left the
 /// interval.
+#[inline(always)]
 pub fn renormalised(bytes: &[u8], old: Registers) -> Option<Registers>
     requires can { CanDouble bytes.now old }
     requires wide { 2 ^ 16 ≤ old.width }
@@ -158,6 +160,7 @@ pub fn renormalised(bytes: &[u8], old: Registers) -> Option<Registers>
 /// The part of the interval that the code value lies in, where the lower part is so large (T.800 C.3.2).
 ///
 /// The choice is made without a branch, since half of all decisions can't be foreseen.
+#[inline(always)]
 pub fn divided(now: Registers, lower_width: u32) -> Part
     requires { lower_width ≤ now.width }
     ensures lower { now.code < lower_width
@@ -184,6 +187,7 @@ pub fn divided(now: Registers, lower_width: u32) -> Part
 }
 
 /// Whether a renormalisation is due.
+#[inline(always)]
 pub fn is_narrow(registers: Registers) -> bool
     ensures { result ≡ nat_lt registers.width (2 ^ 31) }
 {

@@ -1,8 +1,9 @@
 -- The encoder over a list of decisions.
-use Rattle.std.proofs.Common.{◌≡◌, ◌∙◌, ap, sym, subst, refl, ℕ, zero, suc, ◌-◌, ◌<◌, ◌≤◌, Bool, true, false, cond, List, [], ◌∷◌, ◌++◌, length, get_or, set, ltb, arith}
+use Rattle.std.proofs.Common.{◌≡◌, ◌∙◌, ap, sym, subst, refl, ℕ, zero, suc, ◌-◌, ◌<◌, ◌≤◌, Bool, true, false, not, cond, List, [], ◌∷◌, ◌++◌, length, get_or, set, ltb, arith}
 use Rattle.std.specs.Bool.{beq}
 use Rattle.std.specs.List.{list_all}
 use Rattle.std.proofs.lemmas.Bool.{and_parts, ltb-true}
+use Rattle.std.proofs.lemmas.List.{set-get_or}
 use Rattle.jk_model.specs.Contexts.{Context, begins, moved, row_of, first_contexts}
 use Rattle.jk_model.specs.Decisions.{State, Decision, initial, context_at, qe_at, is_exchanged, Spells}
 use Rattle.jk_mqenc.specs.Machine.{Machine, Holds}
@@ -86,6 +87,41 @@ codes-more old new cx q bit lower ds qe low m k lasting c =
       contexts = contexts ∙ ap (λ (x : State). x.contexts) (sym (state_by-joined initial ds ((cx, bit) ∷ [])));
       lasting = lasting;
     }
+
+side-of : (same upper : Bool) → not (beq (not same) upper) ≡ beq same upper
+side-of true true = refl
+side-of true false = refl
+side-of false true = refl
+side-of false false = refl
+
+symbol-of : (bit mps : Bool) → cond (not (beq bit mps)) (not mps) mps ≡ bit
+symbol-of true true = refl
+symbol-of true false = refl
+symbol-of false true = refl
+symbol-of false false = refl
+
+-- a context that may have moved
+moved-if : (xs : List Context) (cx : ℕ) (t : Bool) (x : Context) → set xs cx (cond t x (get_or xs cx (begins 0))) ≡ cond t (set xs cx x) xs
+moved-if xs cx true x = refl
+moved-if xs cx false x = set-get_or xs cx (begins 0)
+
+-- one decision more, as the code makes it
+pub codes-step : (old new : View) (cx q size : ℕ) (bit mps : Bool) (context next : Context) (ds : List Decision) → context ≡ get_or old.contexts cx (begins 0) → mps ≡ context.mps → q ≡ (row_of context.state).qe
+    → size ≡ cond (not (beq (not (beq bit mps)) (ltb (old.machine.width - q) q))) q (old.machine.width - q)
+    → next ≡ cond (ltb size 32768) (moved context (cond (not (beq bit mps)) (not context.mps) context.mps)) context
+    → new.machine ≡ renorm 15 (part old.machine q (not (beq (not (beq bit mps)) (ltb (old.machine.width - q) q)))) → new.contexts ≡ set old.contexts cx next → new.failed ≡ false → Codes old ds → Codes new (ds ++ (cx, bit) ∷ [])
+codes-step old new cx q size bit mps context next ds here symbol qe part_is next_is machine contexts lasting codes =
+    let at = get_or old.contexts cx (begins 0) in
+    let lower = beq (beq bit at.mps) (ltb (old.machine.width - q) q) in
+    let side : not (beq (not (beq bit mps)) (ltb (old.machine.width - q) q)) ≡ lower =
+    side-of (beq bit mps) (ltb (old.machine.width - q) q) ∙ ap (λ m. beq (beq bit m) (ltb (old.machine.width - q) q)) (symbol ∙ ap (λ (x : Context). x.mps) here) in
+    let size_is : size ≡ cond lower q (old.machine.width - q) = part_is ∙ ap (λ (t : Bool). cond t q (old.machine.width - q)) side in
+    let bit_is : cond (not (beq bit mps)) (not context.mps) context.mps ≡ bit = ap (λ m. cond (not (beq bit m)) (not context.mps) context.mps) symbol ∙ symbol-of bit context.mps in
+    codes-more old new cx q bit lower ds (qe ∙ ap (λ (x : Context). (row_of x.state).qe) here) refl
+    (machine ∙ ap (λ (t : Bool). renorm 15 (part old.machine q t)) side)
+    (contexts ∙ ap (λ (x : Context). set old.contexts cx x) (next_is ∙ ap (λ (b : Bool). cond (ltb size 32768) (moved context b) context) bit_is ∙ ap (λ (x : Context). cond (ltb size 32768) (moved x bit) x) here)
+    ∙ moved-if old.contexts cx (ltb size 32768) (moved at bit) ∙ ap (λ n. cond (ltb n 32768) (set old.contexts cx (moved at bit)) old.contexts) size_is)
+    lasting codes
 
 -- the bytes of the registers
 pub codes-finished : (e : View) (ds : List Decision) (b : List ℕ) → b ≡ onto (without_ff (flushed e.machine).placed) [] → Codes e ds → b ≡ finished ds

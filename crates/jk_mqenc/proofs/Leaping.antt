@@ -11,7 +11,7 @@ use Rattle.jk_mqenc.specs.Coding.{shifted, shifted_by, doubled_by, twice, leapt,
 use Rattle.jk_mqenc.proofs.Holdings.{IsHeld, twice-more}
 use Rattle.jk_mqenc.proofs.Finishing.{at_of, shifted_by-is, code-small}
 use Rattle.jk_mqenc.proofs.Runs.{Goes, twice-is, renorm-suc, below-half, leads-then, leads-shifts, leads-byte_out, byte_out-count, shifts-count}
-use Rattle.jk_mqenc.proofs.Renorming.{Comes}
+use Rattle.jk_mqenc.proofs.Renorming.{Comes, comes-first, comes-last}
 
 -- ---- the code against the pure function
 
@@ -159,3 +159,31 @@ zeros-above w some small =
 
 pub fewer-shift : (w k n : ℕ) → k ≤ n → w * 2 ^ n < 65536 → w * 2 ^ k < 65536
 fewer-shift w k n h l = let p = mul-le w (2 ^ k) w (2 ^ n) (omega arith) (pow_mono h) in omega (arith, p, l)
+
+-- the same of any width
+pub zeros-all : (w : ℕ) → 1 ≤ w → w < 65536 → (16 ≤ count_leading_zeros 32 w) × (w * 2 ^ (count_leading_zeros 32 w - 16) < 65536) × (32768 ≤ w * 2 ^ (count_leading_zeros 32 w - 16))
+zeros-all w some small =
+    let t = leading_top 32 w some (omega (arith, small)) in
+    let n = count_leading_zeros 32 w in
+    let j = t.0 in
+    let all : n + suc j ≡ 32 = t.1 in
+    let low : j ≤ 15 = elim (cases_lt 15 j) [
+      | inl more ↦ (let p : 2 ^ 16 ≤ 2 ^ j = pow_mono more in
+          let least = t.2 in
+          absurd (omega (arith, p, least, small)))
+      | inr few ↦ few
+    ] in
+    let below : w * 2 ^ (n - 16) < 2 ^ suc j * 2 ^ (n - 16) = mul-lt-mul_of_pos_right t.3 (pow_pos (n - 16)) in
+    let sum : suc j + (n - 16) ≡ 16 = omega (arith, all, low) in
+    let top : 2 ^ suc j * 2 ^ (n - 16) ≡ 2 ^ 16 = sym (pow-add 2 (suc j) (n - 16)) ∙ ap (λ k. 2 ^ k) sum in
+    let least : 2 ^ j * 2 ^ (n - 16) ≤ w * 2 ^ (n - 16) = mul-le (2 ^ j) (2 ^ (n - 16)) w (2 ^ (n - 16)) t.2 (omega arith) in
+    let half : 2 ^ j * 2 ^ (n - 16) ≡ 2 ^ 15 = sym (pow-add 2 j (n - 16)) ∙ ap (λ k. 2 ^ k) (let e : j + (n - 16) ≡ 15 = omega (arith, all, low) in e) in
+    (omega (arith, all, low), omega (arith, below, top), omega (arith, least, half))
+
+-- All doublings at once, where no byte goes out.
+pub leap-all : (now next : Machine) (k : ℕ) → k < now.count → now.width * 2 ^ k < 65536 → 32768 ≤ now.width * 2 ^ k → IsHeld now → next ≡ shifted_by k now → next ≡ renorm 15 now
+leap-all now next zero h w l i e = e ∙ comes-last now now (omega (arith, l)) (comes-first now (omega (arith, h)) i)
+leap-all now next (suc k) h w l i e =
+    let same : next ≡ leapt (suc k) now = e ∙ sym (leapt-more (suc k) now (λ z. omega (arith, h, z))) in
+    let width : next.width ≡ now.width * 2 ^ suc k = ap (λ (m : Machine). m.width) (e ∙ shifted_by-is (suc k) now) in
+    comes-last next now (omega (arith, width, l)) (comes-leap now next now (suc k) (omega arith) (omega (arith, h)) w same (comes-first now (omega (arith, h)) i))

@@ -4,6 +4,7 @@ use Rattle.jk_model.specs.Contexts.{Context}
 use Rattle.jk_model.specs.Decisions.{Decision, initial}
 use Rattle.jk_model.specs.Deciding.{state_by}
 use Rattle.jk_model.specs.Placed.{onto}
+use Rattle.jk_mqenc.specs.declared.coder.Registers.{Registers}
 use Rattle.jk_mqenc.specs.Machine.{Machine}
 use Rattle.jk_mqenc.specs.Coding.{flushed}
 use Rattle.jk_mqenc.specs.Deciding.{run}
@@ -13,6 +14,14 @@ pub record View : Type 0 where
   pub machine : Machine
   pub contexts : List Context
   pub failed : Bool
+
+-- other registers over the same bytes
+abbrev pub with_registers : Machine → Registers → Machine
+with_registers m r = record m { code = r.code; width = r.width; count = r.count }
+
+-- registers and contexts where no memory was refused
+abbrev pub lasting : Machine → List Context → View
+lasting m contexts = record { machine = m; contexts = contexts; failed = false }
 
 -- INITENC
 abbrev pub started : Machine

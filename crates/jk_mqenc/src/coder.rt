@@ -5,7 +5,7 @@ ghost use Rattle.jk_model.specs.Decisions.{State};
 ghost use Rattle.jk_mqenc.specs.Machine.{Machine, Holds, byte_out, placed_after};
 ghost use Rattle.jk_mqenc.specs.Holding.{before};
 ghost use Rattle.jk_model.specs.Placed.{onto};
-ghost use Rattle.jk_mqenc.specs.Encoded.{started, without_ff};
+ghost use Rattle.jk_mqenc.specs.Encoded.{started, without_ff, with_registers};
 ghost use Rattle.jk_mqenc.specs.Coding.{leapt, renorm, part, set_bits, pushed_out, flushed};
 
 use jk_math::Refused;
@@ -31,6 +31,17 @@ impl Model for Coder {
     ghost view = { λ c. record { code = c.code; width = c.width; count = c.count; placed = placed_of c.out.items c.held } };
 
     ghost invariant = { λ c. IsBegun c.out.items c.held };
+}
+
+/// The registers C, A and CT of T.800 C.2.
+#[derive(Clone, Copy)]
+pub struct Registers {
+    /// C, the low end of the interval.
+    pub code: u32,
+    /// A, the width of the interval.
+    pub width: u32,
+    /// CT, how many doublings there are before the next byte.
+    pub count: u32,
 }
 
 /// What BYTEOUT makes of C and of the held byte.
@@ -131,13 +142,6 @@ impl Coder {
         }
     }
 
-    /// A, the width of the interval.
-    pub fn width(&self) -> u32
-        ensures { result ≡ self.now.width }
-    {
-        self.width
-    }
-
     /// How many bytes are placed. The held one is counted.
     pub fn written(&self) -> usize
         ensures { result ≡ length self.now.placed }
@@ -180,8 +184,8 @@ impl Coder {
         Ok(())
     }
 
-    /// RENORME (T.800 C.2.6).
-    fn renormalise(&mut self) -> Result<(), Refused>
+    /// RENORME where a byte goes out.
+    fn renormalise_through(&mut self) -> Result<(), Refused>
         requires count { 1 ≤ self.old.count }
         requires holds { (s : State) × Holds self.old s }
         ensures done { IfOk result (λ _. self.new ≡ renorm 15 self.old) }
@@ -193,21 +197,65 @@ impl Coder {
         Ok(())
     }
 
-    /// The part of the interval that a decision takes, renormalised.
-    pub fn code(&mut self, qe: u32, lower: bool) -> Result<(), Refused>
-        requires least { 1 ≤ qe }
-        requires below { qe < self.old.width }
-        requires count { 1 ≤ self.old.count }
-        requires holds { (s : State) × Holds self.old s }
-        ensures done { IfOk result (λ _. self.new ≡ renorm 15 (part self.old qe lower)) }
+    /// The registers.
+    #[inline(always)]
+    pub fn registers(&self) -> Registers
+        ensures { with_registers self.now result ≡ self.now }
     {
-        if lower {
-            self.width = qe;
-        } else {
-            self.code += qe;
-            self.width -= qe;
+        Registers {
+            code: self.code,
+            width: self.width,
+            count: self.count,
         }
-        self.renormalise()
+    }
+
+    /// Other registers over the same bytes.
+    #[inline(always)]
+    pub fn restore(&mut self, registers: Registers)
+        ensures { self.new ≡ with_registers self.old registers }
+    {
+        self.code = registers.code;
+        self.width = registers.width;
+        self.count = registers.count;
+    }
+
+    /// RENORME of these registers where a byte goes out.
+    #[inline(never)]
+    fn through(&mut self, registers: Registers) -> Result<Registers, Refused>
+        requires count { 1 ≤ registers.count }
+        requires holds { (s : State) × Holds (with_registers self.old registers) s }
+        ensures done { IfOk result (λ r. with_registers self.new r ≡ renorm 15 (with_registers self.old registers)) }
+    {
+        self.restore(registers);
+        self.renormalise_through()?;
+        Ok(self.registers())
+    }
+
+    /// The part of the interval that a decision takes, renormalised (T.800 C.2.6). These are the registers over the bytes,
+    /// and not those that are kept here.
+    #[inline(always)]
+    pub fn code(&mut self, registers: Registers, qe: u32, lower: bool) -> Result<Registers, Refused>
+        requires least { 1 ≤ qe }
+        requires below { qe < registers.width }
+        requires count { 1 ≤ registers.count }
+        requires holds { (s : State) × Holds (with_registers self.old registers) s }
+        ensures done { IfOk result (λ r. with_registers self.new r ≡ renorm 15 (part (with_registers self.old registers) qe lower)) }
+    {
+        let code = registers.code + if lower { 0 } else { qe };
+        let width = if lower { qe } else { registers.width - qe };
+        let times = width.leading_zeros() - 16;
+        if times < registers.count {
+            return Ok(Registers {
+                code: code << times,
+                width: width << times,
+                count: registers.count - times,
+            });
+        }
+        self.through(Registers {
+            code,
+            width,
+            count: registers.count,
+        })
     }
 
     /// `C <<= CT`, and BYTEOUT.

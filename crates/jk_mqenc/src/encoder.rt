@@ -4,11 +4,11 @@ ghost use Rattle.std.specs.Prelude.{◌≡◌, ℕ, ◌+◌, ◌-◌, ◌%◌, �
 ghost use Rattle.jk_math.specs.Memory.{IsMemory};
 ghost use Rattle.jk_model.specs.Code.{is_last};
 ghost use Rattle.jk_model.specs.Decisions.{Decision, Spells};
-ghost use Rattle.jk_mqenc.specs.Encoded.{Codes, decision_of, written_by, finished};
+ghost use Rattle.jk_mqenc.specs.Encoded.{Codes, decision_of, written_by, finished, with_registers, lasting};
 
-use crate::coder::Coder;
+use crate::coder::{Coder, Registers};
 use jk_math::{Fault, Refused};
-use jk_model::{Cx, first_contexts, next_state};
+use jk_model::{Step, first_steps};
 use std::alloc::Global;
 use std::marker::Model;
 
@@ -17,7 +17,7 @@ use std::marker::Model;
 #[derive(Drop)]
 pub struct Encoder {
     coder: Coder,
-    contexts: [Cx; 19],
+    contexts: [Step; 19],
     refused: Option<Refused>,
 }
 
@@ -32,6 +32,51 @@ impl Model for Encoder {
     ghost invariant = { λ e. HasCoded (record { machine = e.coder; contexts = e.contexts; failed = is_some e.refused }) };
 }
 
+/// Codes a decision in the context of this number (ENCODE, T.800 C.2.3), with these registers over the coder's bytes.
+#[inline(always)]
+fn step(
+    coder: &mut Coder,
+    contexts: &mut [Step; 19],
+    registers: Registers,
+    cx: usize,
+    bit: bool,
+) -> Result<Registers, Refused>
+    requires cx { cx < 19 }
+    requires coded { (ds : List Decision) × Codes (lasting (with_registers coder.old registers) contexts.old) ds }
+    ensures codes { IfOk result (λ r. (ds : List Decision) → Codes (lasting (with_registers coder.old registers) contexts.old) ds
+        → Codes (lasting (with_registers coder.new r) contexts.new) (ds ++ (cx, bit) ∷ [])) }
+{
+    let context = contexts[cx];
+    let qe = context.size();
+    let upper = registers.width - qe;
+    let less = bit != context.mps();
+    let lower = less != (upper < qe);
+    let part = if lower { qe } else { upper };
+    contexts[cx] = context.after(part < 0x8000, less);
+    coder.code(registers, qe, lower)
+}
+
+/// Codes these decisions. The registers leave the coder until the last of them is coded.
+fn steps(coder: &mut Coder, contexts: &mut [Step; 19], decisions: &[u8]) -> Result<(), Refused>
+    requires decisions { All (λ byte. byte % 128 < 19) decisions.now }
+    requires coded { (ds : List Decision) × Codes (lasting coder.old contexts.old) ds }
+    ensures codes { IfOk result (λ _. (ds : List Decision) → Codes (lasting coder.old contexts.old) ds
+        → Codes (lasting coder.new contexts.new) (ds ++ map decision_of decisions.now)) }
+{
+    let mut registers = coder.registers();
+    for byte in decisions {
+        registers = step(
+            coder,
+            contexts,
+            registers,
+            (byte & 0x7F) as usize,
+            *byte >= 0x80,
+        )?;
+    }
+    coder.restore(registers);
+    Ok(())
+}
+
 impl Encoder {
     /// An encoder of no decisions yet.
     pub fn new(alloc: Global) -> Encoder
@@ -39,7 +84,7 @@ impl Encoder {
     {
         Encoder {
             coder: Coder::new(alloc),
-            contexts: first_contexts(),
+            contexts: first_steps(),
             refused: None,
         }
     }
@@ -63,18 +108,12 @@ impl Encoder {
         if let Some(refused) = self.refused {
             return Err(Fault::Memory(refused));
         }
-        let contexts = &mut self.contexts;
-        let context = contexts[cx];
-        let qe = context.row().qe;
-        let upper = self.coder.width() - qe;
-        let lower = (bit == context.mps) == (upper < qe);
-        let part = if lower { qe } else { upper };
-        let is_narrow = part < 0x8000;
-        if is_narrow {
-            contexts[cx] = next_state(context, bit);
-        }
-        match self.coder.code(qe, lower) {
-            Ok(()) => Ok(()),
+        let registers = self.coder.registers();
+        match step(&mut self.coder, &mut self.contexts, registers, cx, bit) {
+            Ok(registers) => {
+                self.coder.restore(registers);
+                Ok(())
+            }
             Err(refused) => {
                 self.refused = Some(refused);
                 Err(Fault::Memory(refused))
@@ -95,10 +134,13 @@ impl Encoder {
         if let Some(refused) = self.refused {
             return Err(Fault::Memory(refused));
         }
-        for byte in decisions {
-            self.encode((byte & 0x7F) as usize, *byte >= 0x80)?;
+        match steps(&mut self.coder, &mut self.contexts, decisions) {
+            Ok(()) => Ok(()),
+            Err(memory) => {
+                self.refused = Some(memory);
+                Err(Fault::Memory(memory))
+            }
         }
-        Ok(())
     }
 
     /// The bytes of the decisions (FLUSH, T.800 C.2.9). They spell the decisions, and what is four bytes longer than

@@ -14,6 +14,14 @@ pub mod LayerLaws
 pub mod HeaderLaws
 pub mod PrecinctLaws
 pub mod GatherLaws
-pub mod EmptyLaws
+pub mod MarkerLaws
+pub mod TableLaws
+pub mod Wordings
+pub mod HistoryLaws
+pub mod WrittenLaws
+pub mod SpokenLaws
+pub mod BandWriting
+pub mod PrecinctWriting
+pub mod BodyLaws
 pub mod Laws
 mod Examples

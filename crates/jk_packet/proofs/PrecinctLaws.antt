@@ -24,12 +24,12 @@ use Rattle.jk_packet.proofs.TextLaws.{header_goes, header_ok}
 use Rattle.jk_packet.proofs.LayerLaws.{BitsOnly, bits_only, bits_found, all_trees}
 use Rattle.jk_packet.proofs.HeaderLaws.{header_only, header_found}
 
-some_bit : (shapes : List BandShape) (t : Trees) (layers : List Layer) (layer : Layer) → 0 < length (header_bits shapes t layers layer)
+pub some_bit : (shapes : List BandShape) (t : Trees) (layers : List Layer) (layer : Layer) → 0 < length (header_bits shapes t layers layer)
 some_bit shapes t layers None = omega arith
 some_bit shapes t layers (Some ls) = omega arith
 
 -- Bits are packed in a byte at least.
-some_packed : (bits : List Bool) (header : List ℕ) → 0 < length bits → Packs false bits header → 0 < length header
+pub some_packed : (bits : List Bool) (header : List ℕ) → 0 < length bits → Packs false bits header → 0 < length header
 unfolding Packs
 some_packed bits [] some p = let none = ap length p.0 in omega (arith, some, none)
 some_packed bits (b ∷ header) some p = omega arith
@@ -62,6 +62,20 @@ keeps_by n bytes s None o h =
 pub header_keeps : (n : ℕ) (bytes : List ℕ) (s : PrecinctState) (o : HeaderText × PrecinctState) → header_at n bytes s ≡ Ok o → Keeps s o.1
 unfolding header_at
 header_keeps n bytes s o h = keeps_by n bytes s s.failed o h
+
+-- A header is in the bytes.
+within_by : (n : ℕ) (bytes : List ℕ) (s : PrecinctState) (f : Option Fault) (o : HeaderText × PrecinctState)
+    → unless_failed f (text_at s.sop s.eph n bytes s.bands >>= λ p. Ok (p.0, record s { bands = p.1; layers = s.layers + 1 })) ≡ Ok o → o.0.length ≤ length bytes
+within_by n bytes s (Some e) o h = absurd (cc)
+within_by n bytes s None o h =
+    bind_then (text_at s.sop s.eph n bytes s.bands) (λ p. Ok (p.0, record s { bands = p.1; layers = s.layers + 1 })) o h (λ p e k.
+    let x : HeaderText × PrecinctState = (p.0, record s { bands = p.1; layers = s.layers + 1 }) in
+    let is : x ≡ o = cc in
+    subst (λ (q : HeaderText × PrecinctState). q.0.length ≤ length bytes) is (header_found s.sop s.eph n bytes s.bands p e).within)
+
+pub header_within : (n : ℕ) (bytes : List ℕ) (s : PrecinctState) (o : HeaderText × PrecinctState) → header_at n bytes s ≡ Ok o → o.0.length ≤ length bytes
+unfolding header_at
+header_within n bytes s o h = within_by n bytes s s.failed o h
 
 -- the trees of a precinct that stands
 pub are_trees : (shapes : List BandShape) (t : Trees) (layers : List Layer) (s : PrecinctState) → PrecinctStands shapes t layers s → AreTrees shapes t

@@ -4,4 +4,5 @@ pub mod Reading
 pub mod PacketText
 pub mod Standing
 pub mod Gathering
-pub mod Empty
+pub mod Written
+pub mod Writing

@@ -87,7 +87,7 @@ fn read_growth(reader: &mut BitReader<'_>, room: u32) -> Result<u8, Fault>
 }
 
 /// The logarithm of a number of passes, rounded down.
-fn floor_log2(passes: u8) -> u32
+pub(crate) fn floor_log2(passes: u8) -> u32
     requires { 1 ≤ passes }
     ensures exact { result ≡ floor_log2 passes }
     ensures small { result < 32 }

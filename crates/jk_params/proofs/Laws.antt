@@ -1,6 +1,6 @@
 -- The laws that crates above cite: headers are read exactly, the data of a tile stand at its places, how many packets there are, and
 -- that exponents don't change that.
-pub use Rattle.jk_params.proofs.PlacesLaws.{put, places_from, places_are, contents_from, contents_of}
+pub use Rattle.jk_params.proofs.PlacesLaws.{part_text_length, place_in, content_at, put, places_from, places_are, contents_from, contents_of}
 pub use Rattle.jk_params.proofs.PartsLaws.{tiles_said, fields_with, said_at}
 pub use Rattle.jk_params.proofs.ProfileLaws.{same_packets, tile_same}
 pub use Rattle.jk_params.proofs.HeadersLaws.{found_headers}
@@ -8,3 +8,4 @@ pub use Rattle.jk_params.proofs.HeadersAgain.{only_headers}
 pub use Rattle.jk_params.proofs.SoundLaws.{sound_headers}
 pub use Rattle.jk_params.proofs.LoopLaws.{total_more}
 pub use Rattle.jk_params.proofs.CountLaws.{part_of_total, packets_in, few_packets}
+pub use Rattle.jk_params.proofs.PlaceLaws.{part_placed}

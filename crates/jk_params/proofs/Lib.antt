@@ -12,4 +12,5 @@ pub mod SoundLaws
 pub mod ProfileLaws
 pub mod CountLaws
 pub mod ContentLaws
+pub mod PlaceLaws
 pub mod Laws

@@ -106,7 +106,7 @@ head_length p = omega (arith, length-append (flat_map segment_text p.segments) (
 abbrev pub bytes_at : List ℕ → ℕ × ℕ → List ℕ
 bytes_at bytes place = take (place.1 - place.0) (drop place.0 bytes)
 
-content_at : (p : Part) (front rest bytes : List ℕ) (at : ℕ) → bytes ≡ front ++ (part_text p ++ rest) → at ≡ length front → bytes_at bytes (place_in at p) ≡ p.content
+pub content_at : (p : Part) (front rest bytes : List ℕ) (at : ℕ) → bytes ≡ front ++ (part_text p ++ rest) → at ≡ length front → bytes_at bytes (place_in at p) ≡ p.content
 content_at p front rest bytes at e at-is =
     let head = head_text p in
     let content = p.content in

@@ -1,6 +1,7 @@
 -- What holds of the headers of a codestream: each tile has layers, codings with magnitude planes, and its data within the bytes.
 use Rattle.std.proofs.Common.{◌≡◌, ℕ, zero, suc, ◌+◌, ◌<◌, ◌≤◌, Bool, true, false, eqb, List, [], ◌∷◌, ◌++◌, length, map, sym, ap, subst, arith, lit≤}
 use Rattle.std.specs.List.{flat_map, range_with_len, AllByRecursion}
+use Rattle.std.proofs.lemmas.Bool.{false≢true}
 use Rattle.std.proofs.lemmas.List.{length-append}
 use Rattle.std.proofs.lemmas.List.FromFn.{get_or-map-range_with_len, length-map-range_with_len}
 use Rattle.jk_marks.specs.declared.siz.Siz.{Siz}
@@ -15,7 +16,7 @@ use Rattle.jk_marks.specs.Codestream.{Part, Tree, main_text, part_text, part_len
 use Rattle.jk_geom.specs.TileShapes.{AreCodings, no_coding as no_component}
 use Rattle.jk_params.specs.Coding.{style_for, quantisation_for, coding_of, codings_of, HasPlanes}
 use Rattle.jk_params.specs.Headers.{Headers, head_segments, cod_for, headers_of, tile_in, packets_of, most_packets, IsHeaders, AreFields, AreHeaders}
-use Rattle.jk_params.proofs.GoodLaws.{HasLayers, first_all, or_holds, cods_are, styles_are, cod_style, cod_layers, no_style, coding_is}
+use Rattle.jk_params.proofs.GoodLaws.{HasLayers, first_all, or_holds, cods_are, styles_are, cod_style, cod_layers, all_mapped, no_style, coding_is}
 use Rattle.jk_params.proofs.PlacesLaws.{places_from, put, place_in, part_text_length}
 use Rattle.jk_params.proofs.PartsLaws.{tiles_said, said_at, said_length, fields_with}
 
@@ -71,6 +72,17 @@ cod_for_has : (n : ℕ) (main head : List Segment) → AreSaid n main → AreSai
 cod_for_has n main head m h =
     or_holds HasLayers no_coding (first (cods head ++ cods main)) (lit≤ tt, lit≤ tt)
     (first_all HasLayers (cods head ++ cods main) (all_joined HasLayers (cods head) (cods main) (cod_layers n head h.every_cod) (cod_layers n main m.every_cod)))
+
+-- the colour transform is asked for where there are three components
+abbrev HasColours : ℕ → Cod → Type 0
+HasColours n c = c.colour ≡ true → 3 ≤ n
+
+cod_for_colours : (n : ℕ) (main head : List Segment) → AreSaid n main → AreSaid n head → HasColours n (cod_for main head)
+cod_for_colours n main head m h =
+    let all : (ss : List Segment) → AllByRecursion (IsCod n) (cods ss) → AllByRecursion (HasColours n) (cods ss) =
+    λ ss. all_mapped (HasColours n) (λ (c : Cod). c) (IsCod n) (λ c is. is.colour) (cods ss) in
+    or_holds (HasColours n) no_coding (first (cods head ++ cods main)) (λ e. absurd (false≢true e))
+    (first_all (HasColours n) (cods head ++ cods main) (all_joined (HasColours n) (cods head) (cods main) (all head h.every_cod) (all main m.every_cod)))
 
 codings_of_are : (n components : ℕ) (main head : List Segment) → 1 ≤ components → components ≤ 4 → AreSaid n main → AreSaid n head → AreCodings (codings_of components main head)
 codings_of_are n components main head some few m h =
@@ -138,6 +150,7 @@ sound_headers bytes h is = subst (AreHeaders (length bytes)) (sym is.says) sound
         let here : AreFields siz.components (length bytes) (fields_with siz segments head places) = record {
           some_layers = layers.0;
           few_layers = layers.1;
+          colour = cod_for_colours siz.components segments head said told;
           codings = codings_of_are siz.components siz.components segments head size.some_components size.few_components said told;
           all = length-map-range_with_len (coding_of segments head) 0 siz.components;
           planes = range_all HasPlanes (coding_of segments head) 0 siz.components (λ c le less. is.planes t c lt (omega (arith, less)));

@@ -1,5 +1,5 @@
 -- What the headers of a codestream say (T.800 A.6): the image and tile size, and for each tile its coding and where its data stand.
-use Rattle.std.specs.Prelude.{◌≡◌, ℕ, zero, suc, ◌+◌, ◌^◌, ◌<◌, ◌≤◌, false, List, [], ◌∷◌, ◌++◌, length, map, take, filter, sum_by, slice_index_or, ◌==◌}
+use Rattle.std.specs.Prelude.{◌≡◌, ℕ, zero, suc, ◌+◌, ◌^◌, ◌<◌, ◌≤◌, true, false, List, [], ◌∷◌, ◌++◌, length, map, take, filter, sum_by, slice_index_or, ◌==◌}
 use Rattle.std.specs.List.{range_with_len, AllByRecursion}
 use Rattle.jk_marks.specs.declared.siz.Siz.{Siz}
 use Rattle.jk_marks.specs.declared.segments.Cod.{Cod}
@@ -102,6 +102,7 @@ pub record IsHeaders (bytes : List ℕ) (h : Headers) : Type 0 where
 pub record AreFields (components size : ℕ) (f : TileFields) : Type 0 where
   pub some_layers : 1 ≤ f.cod.layers
   pub few_layers : f.cod.layers < 2 ^ 16
+  pub colour : f.cod.colour ≡ true → 3 ≤ components
   pub codings : AreCodings f.codings
   pub all : length f.codings ≡ components
   pub planes : AllByRecursion HasPlanes f.codings

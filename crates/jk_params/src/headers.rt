@@ -1,8 +1,9 @@
 //! The headers of a codestream as a whole.
 
-ghost use Rattle.std.specs.Prelude.{◌≡◌, ◌<◌, length};
-ghost use Rattle.jk_params.specs.Headers.{tile_in};
+ghost use Rattle.std.specs.Prelude.{◌≡◌, ◌<◌, ℕ, length};
+ghost use Rattle.jk_params.specs.Headers.{tile_in, packets_of, AreHeaders};
 
+use crate::count::count_own;
 use crate::table::Table;
 use jk_geom::Codings;
 use jk_marks::{Cod, Siz};
@@ -67,5 +68,13 @@ impl Codestream {
         ensures { result.now ≡ (tile_in self.now.tiles tile).data_places }
     {
         self.tiles.places(tile)
+    }
+
+    /// How many packets the tiles have.
+    pub fn packet_count(&self) -> u64
+        requires { (size : ℕ) × AreHeaders size self.now }
+        ensures { result ≡ packets_of self.now.siz self.now.tiles }
+    {
+        count_own(&self.siz, &self.tiles)
     }
 }

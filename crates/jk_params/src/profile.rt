@@ -6,6 +6,7 @@ ghost use Rattle.std.specs.List.{list_all};
 ghost use Rattle.jk_math.specs.Picture.{IsPicture};
 ghost use Rattle.jk_marks.specs.Siz.{IsSiz};
 ghost use Rattle.jk_geom.specs.TileShapes.{AreCodings};
+ghost use Rattle.jk_params.specs.Coding.{coding_with};
 ghost use Rattle.jk_params.specs.Headers.{most_packets};
 ghost use Rattle.jk_params.specs.Profile.{siz_of, cod_of, coding_for, packets_for, are_sizes, are_precincts, is_tile, is_contained, is_profile, tiles_of, IsWrittenBy};
 ghost use Rattle.jk_params.specs.Tiling.{first_tile, tile_side, tiles_between};
@@ -193,6 +194,14 @@ pub fn cod_of(parameters: &Parameters) -> Cod
     }
 }
 
+/// How each component is coded, with these guard bits and exponents.
+pub fn coding_with(parameters: &Parameters, steps: &Quantisation) -> Coding
+    requires { length parameters.now.precincts.items ≤ 11 }
+    ensures { result ≡ coding_with (cod_of parameters.now).style steps.now }
+{
+    coding(&cod_of(parameters).style, steps)
+}
+
 /// How each component is coded. The exponents say nothing of the packets.
 fn coding_for(parameters: &Parameters) -> Coding
     requires { length parameters.now.precincts.items ≤ 11 }
@@ -202,7 +211,7 @@ fn coding_for(parameters: &Parameters) -> Coding
         guard: 2,
         exponents: Exponents::new(&[]),
     };
-    coding(&cod_of(parameters).style, &steps)
+    coding_with(parameters, &steps)
 }
 
 /// How the components of an image are coded, so many of them, but for their exponents.

@@ -3,14 +3,42 @@
 use clap::{Arg, ArgAction, Command, value_parser};
 use std::alloc::{AllocError, Global};
 
+/// The version, and the line by which the kit names itself (`rt version`) that proves and builds the program.
+const VERSION: &str = "0.1.0\nrattle-kit-13b logic dac8208d650f15bf";
+
+/// What is told under the list of commands.
+const STATUSES: &str = "\
+A file is judged from front to back. Its first fault is a line such as `jk: F2 Truncated` on
+standard error, with the status 1; `jk faults` lists all of them. A wrong command line has the
+status 2. `jk COMMAND --help` tells the options of a command.";
+
+/// What the words of the line of `jk info` are.
+const INFO_WORDS: &str = "\
+The line is WIDTH HEIGHT COMPONENTS DEPTH LEVELS LAYERS ORDER TILES PACKETS. LEVELS is the least
+number of decomposition levels of a component of a tile: the image can't be halved more often.
+LAYERS and ORDER are those of the main header. The boxes, all headers and all packets are read, and
+what is wrong with them is a fault; code-blocks aren't decoded.";
+
+/// What `jk cut` gives.
+const CUT_WORDS: &str = "\
+Columns and rows are counted on the reduced image, from its upper left sample; what passes its edge
+is left out. The new file is the old one, in which the packets that the window doesn't need are
+empty: a decoder gives the whole image at any reduction up to the asked one, and on the window it is
+that of the old file.";
+
 /// The command line of `jk`.
 pub(crate) fn command<'a>(alloc: Global) -> Result<Command<'a>, AllocError> {
     Command::new(alloc, "jk")
+        .version(VERSION)
         .about("A lossless image archive for JPEG 2000, on its reversible path")
+        .after_help(STATUSES)
         .subcommand_required(true)
         .arg_required_else_help(true)
         .subcommand(encode(alloc)?)?
-        .subcommand(decode(alloc)?)
+        .subcommand(decode(alloc)?)?
+        .subcommand(info(alloc)?)?
+        .subcommand(cut(alloc)?)?
+        .subcommand(faults(alloc))
 }
 
 /// `jk encode IN OUT`.
@@ -81,9 +109,9 @@ fn tiling<'a>(alloc: Global, command: Command<'a>) -> Result<Command<'a>, AllocE
 
 /// `jk decode IN OUT`.
 fn decode<'a>(alloc: Global) -> Result<Command<'a>, AllocError> {
-    let reduce = number(alloc, "reduce", "D")
-        .default_value("0")
-        .help("How often to halve the image");
+    let reduce = number(alloc, "reduce", "D").default_value("0").help(
+        "How often to halve the image, at most the LEVELS of `jk info`",
+    );
     Command::new(alloc, "decode")
         .about("Decodes a JPEG 2000 file to PGM or PPM")
         .arg(input(alloc, "The JPEG 2000 file, or - for standard input"))?
@@ -92,6 +120,44 @@ fn decode<'a>(alloc: Global) -> Result<Command<'a>, AllocError> {
             "The PGM or PPM file to write, or - for standard output",
         ))?
         .arg(reduce)
+}
+
+/// `jk info IN`.
+fn info<'a>(alloc: Global) -> Result<Command<'a>, AllocError> {
+    Command::new(alloc, "info")
+        .about("Tells in one line what a JPEG 2000 file holds")
+        .after_help(INFO_WORDS)
+        .arg(input(alloc, "The JPEG 2000 file, or - for standard input"))
+}
+
+/// `jk cut IN OUT`.
+fn cut<'a>(alloc: Global) -> Result<Command<'a>, AllocError> {
+    let reduce = number(alloc, "reduce", "D").default_value("0").help(
+        "How often to halve the image before, at most the LEVELS of `jk info`",
+    );
+    Command::new(alloc, "cut")
+        .about("Cuts a window out of a JPEG 2000 file, without decoding it")
+        .after_help(CUT_WORDS)
+        .arg(input(alloc, "The JPEG 2000 file, or - for standard input"))?
+        .arg(output(
+            alloc,
+            "The JPEG 2000 file to write, or - for standard output",
+        ))?
+        .arg(side(alloc, "x", "The left column of the window"))?
+        .arg(side(alloc, "y", "The upper row of the window"))?
+        .arg(side(alloc, "w", "How many columns it has"))?
+        .arg(side(alloc, "h", "How many rows it has"))?
+        .arg(reduce)
+}
+
+/// A number that places a window.
+fn side<'a>(alloc: Global, name: &'a str, help: &'a str) -> Arg<'a> {
+    number(alloc, name, "N").required(true).help(help)
+}
+
+/// `jk faults`.
+fn faults<'a>(alloc: Global) -> Command<'a> {
+    Command::new(alloc, "faults").about("Lists all faults, each with its number, name and cause")
 }
 
 /// The file to read.

@@ -2,7 +2,9 @@
 #![tactic(auto)]
 
 mod commands;
+mod faults;
 mod files;
+mod info;
 mod options;
 mod run;
 

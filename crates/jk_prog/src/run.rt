@@ -1,9 +1,10 @@
 //! What each command does.
 
-use crate::{files, options};
+use crate::{faults, files, info, options};
 use clap::ArgMatches;
-use jk_code::{decode, encode};
+use jk_code::{decode, encode, window};
 use jk_math::{Fault, Image};
+use jk_window::{View, index};
 use std::alloc::Global;
 use std::rt::Files;
 
@@ -16,6 +17,9 @@ pub(crate) fn run<R: Files + Input + Print + AllocGlobal>(
     match matches.subcommand() {
         Some(("encode", line)) => run_encode(rt, alloc, line),
         Some(("decode", line)) => run_decode(rt, alloc, line),
+        Some(("info", line)) => run_info(rt, alloc, line),
+        Some(("cut", line)) => run_cut(rt, alloc, line),
+        Some(("faults", _)) => run_faults(rt, alloc),
         _ => Ok(()),
     }
 }
@@ -46,4 +50,45 @@ fn run_decode<R: Files + Input + Print + AllocGlobal>(
     let image: Image = decode(alloc, &bytes, reduce)?;
     let text = jk_pnm::write(alloc, &image)?;
     files::write(rt, line.get_str("OUT").unwrap_or("-"), &text)
+}
+
+/// `jk info IN`.
+fn run_info<R: Files + Input + Print + AllocGlobal>(
+    rt: &R,
+    alloc: Global,
+    line: &ArgMatches<'_>,
+) -> Result<(), Fault> {
+    let bytes = files::read(rt, alloc, line.get_str("IN").unwrap_or("-"))?;
+    let text = info::info(alloc, &bytes)?;
+    files::write(rt, "-", text.as_bytes())
+}
+
+/// The view that the options ask for.
+fn view(line: &ArgMatches<'_>) -> View {
+    View {
+        reduce: line.get_one::<u32>("reduce").unwrap_or(0),
+        x: line.get_one::<u32>("x").unwrap_or(0),
+        y: line.get_one::<u32>("y").unwrap_or(0),
+        width: line.get_one::<u32>("w").unwrap_or(0),
+        height: line.get_one::<u32>("h").unwrap_or(0),
+    }
+}
+
+/// `jk cut IN OUT`: the headers, the window, then the packets.
+fn run_cut<R: Files + Input + Print + AllocGlobal>(
+    rt: &R,
+    alloc: Global,
+    line: &ArgMatches<'_>,
+) -> Result<(), Fault> {
+    let view = view(line);
+    let bytes = files::read(rt, alloc, line.get_str("IN").unwrap_or("-"))?;
+    let index = index(alloc, &bytes)?;
+    let file = window(alloc, &bytes, &index, view)?;
+    files::write(rt, line.get_str("OUT").unwrap_or("-"), &file)
+}
+
+/// `jk faults`.
+fn run_faults<R: Files + Print>(rt: &R, alloc: Global) -> Result<(), Fault> {
+    let text = faults::list(alloc)?;
+    files::write(rt, "-", text.as_bytes())
 }

@@ -66,19 +66,22 @@ on_200 d h = by_test (on 0x200 d) (nat_eq d 9) (all_at 64 (λ d. (on 0x200 d && 
     by_test true b e = grind (arith, nat_tests)
     by_test false b e = grind (arith, nat_tests)
 
-pub behind : (f : Truths) (j s quiet k : ℕ) → k < 64 → of_rows (k % 8) ≡ true → IsQuietFrom f (j + 1) (s + 1) (k / 8) quiet
-    → IsQuietFrom (also f (column (j + 1) k) (row (s + 1) k)) (j + 1) (s + 1) (k / 8 + 1) (bit_and quiet (bit_not w64 (0x200 * 2 ^ bit_and k 0x38 % 2 ^ 64)))
-behind f j s quiet k lim on_row h c from l =
+pub behind : (limits : ℕ → Bool) (f : Truths) (j s quiet k : ℕ) → k < 64 → of_rows (k % 8) ≡ true → IsQuietFrom limits f (j + 1) (s + 1) (k / 8 + 1) quiet
+    → IsQuietFrom limits (also f (column (j + 1) k) (row (s + 1) k)) (j + 1) (s + 1) (k / 8 + 1) (bit_and quiet (bit_not w64 (0x200 * 2 ^ bit_and k 0x38 % 2 ^ 64)))
+behind limits f j s quiet k lim on_row h c from l =
     let between = rows_between (k % 8) on_row in
     let m = 0x200 * 2 ^ bit_and k 0x38 % 2 ^ 64 in
     let cleared : on m (8 * c + 1) ≡ nat_eq (8 * c + 1) (8 * (k / 8) + 9) =
     on_shl_any 0x200 (bit_and k 0x38) 64 (8 * c + 1) (omega arith) ∙ ap (λ z. nat_le z (8 * c + 1) && on 0x200 (8 * c + 1 - z)) (first_bit k lim)
     ∙ ap (λ b. nat_le (8 * (k / 8)) (8 * c + 1) && b) (on_200 (8 * c + 1 - 8 * (k / 8)) (omega arith)) ∙ (let e : (nat_le (8 * (k / 8)) (8 * c + 1) && nat_eq (8 * c + 1 - 8 * (k / 8)) 9) ≡ nat_eq (8 * c + 1) (8 * (k / 8) + 9) = grind (arith, nat_tests) in e) in
     on_and quiet (bit_not w64 m) (8 * c + 1)
-    ∙ gate (on quiet (8 * c + 1)) (on m (8 * c + 1)) (on (bit_not w64 m) (8 * c + 1)) (nat_eq (8 * c + 1) (8 * (k / 8) + 9)) (nat_eq (8 * (j + 1) + c) (column (j + 1) k + 1))
+    ∙ gate (on quiet (8 * c + 1)) (on m (8 * c + 1)) (on (bit_not w64 m) (8 * c + 1)) (nat_eq (8 * c + 1) (8 * (k / 8) + 9)) (nat_eq (8 * (j + 1) + c) (column (j + 1) k + 1)) (limits c)
     (in_six (aside f) (8 * (j + 1) + c) (s + 1)) (in_six (aside (also f (column (j + 1) k) (row (s + 1) k))) (8 * (j + 1) + c) (s + 1))
-    (h c (omega (arith, from)) l) (on_not w64 m (8 * c + 1) (mod-lt (0x200 * 2 ^ bit_and k 0x38) (pow_pos 64)) (omega arith)) cleared (grind (arith, nat_tests))
+    (h c from l) (on_not w64 m (8 * c + 1) (mod-lt (0x200 * 2 ^ bit_and k 0x38) (pow_pos 64)) (omega arith)) cleared (grind (arith, nat_tests))
     (six_after f (column (j + 1) k) (k % 8) s (8 * (j + 1) + c) between.0 between.1 (omega (arith, from)))
   where
-    gate : (q m n e e' a a' : Bool) → q ≡ not a → n ≡ not m → m ≡ e → e ≡ e' → a' ≡ (a || e') → (q && n) ≡ not a'
-    gate q m n e e' a a' h k l o p = grind (arith, nat_tests)
+    gate : (q m n e e' g a a' : Bool) → q ≡ (g && not a) → n ≡ not m → m ≡ e → e ≡ e' → a' ≡ (a || e') → (q && n) ≡ (g && not a')
+    gate q m n e e' g a a' h k l o p = grind (arith, nat_tests)
+
+pub behind_fewer : (quiet m i : ℕ) → on quiet i ≡ false → on (bit_and quiet m) i ≡ false
+behind_fewer quiet m i h = on_and quiet m i ∙ ap (λ b. b && on m i) h

@@ -12,3 +12,9 @@ pub mod Windows
 pub mod Quietness
 pub mod Adding
 pub mod Behind
+pub mod Entries
+pub mod Stillness
+pub mod Seen
+pub mod Candidates
+pub mod Geometry
+pub mod Marking

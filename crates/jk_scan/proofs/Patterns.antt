@@ -27,7 +27,7 @@ same_is false true h = h
 same_is false false h = refl
 
 -- the word has these bits in each byte
-pub patterned : ℕ → (ℕ → Bool) → Bool
+unfoldable pub patterned : ℕ → (ℕ → Bool) → Bool
 patterned word rows = all_below 8 (λ c. all_below 8 (λ i. same (on word (8 * c + i)) (rows i)))
 
 pub pattern_at : (word : ℕ) (rows : ℕ → Bool) → patterned word rows ≡ true → (c i : ℕ) → c < 8 → i < 8 → on word (8 * c + i) ≡ rows i

@@ -5,3 +5,6 @@ pub mod Passes
 pub mod Bits
 pub mod Words
 pub mod WordPlaces
+pub mod Tables
+pub mod Surroundings
+pub mod Flags

@@ -24,6 +24,10 @@ Shows rows f j s word = (c i : ℕ) → c < 8 → i < 8 → on word (8 * c + i) 
 abbrev pub ShowsAt : (ℕ → Bool) → Truths → (j s : ℕ) → ℕ → Type 0
 ShowsAt rows f j s word = (c i : ℕ) → c < 8 → i < 8 → rows i ≡ true → on word (8 * c + i) ≡ f (8 * j + c) (4 * s + i - 1)
 
+-- Bit i of each byte of a word j is what h has in its column.
+abbrev pub IsLine : (ℕ → Bool) → (i j : ℕ) → ℕ → Type 0
+IsLine h i j word = (c : ℕ) → c < 8 → on word (8 * c + i) ≡ h (8 * j + c)
+
 -- Fields begin with eight columns and four rows of border, so that each place that is asked for has neighbours on all sides.
 
 -- at a place, or above or below it
@@ -33,6 +37,14 @@ up_down f c r = (f c r || f c (r - 1)) || f c (r + 1)
 -- at a place, or next to it in its row
 abbrev pub aside : Truths → Truths
 aside f c r = (f c r || f (c - 1) r) || f (c + 1) r
+
+-- above or below a place
+abbrev pub upright : Truths → Truths
+upright f c r = f c (r - 1) || f c (r + 1)
+
+-- at one of the eight neighbours
+abbrev pub near : Truths → Truths
+near f c r = upright f c r || (up_down f (c - 1) r || up_down f (c + 1) r)
 
 -- inside, not significant, and next to a significant place
 abbrev pub is_member : (inside significant : Truths) → Truths
@@ -60,6 +72,7 @@ abbrev pub in_six : Truths → (c s : ℕ) → Bool
 in_six f c s =
     f c (4 * s + 0 - 1) || (f c (4 * s + 1 - 1) || (f c (4 * s + 2 - 1) || (f c (4 * s + 3 - 1) || (f c (4 * s + 4 - 1) || f c (4 * s + 5 - 1)))))
 
--- Bit 1 of each byte from a column on says that nothing is significant in the three by six places around.
-abbrev pub IsQuietFrom : Truths → (j s from quiet : ℕ) → Type 0
-IsQuietFrom f j s from quiet = (c : ℕ) → from ≤ c → c < 8 → on quiet (8 * c + 1) ≡ not (in_six (aside f) (8 * j + c) s)
+-- Bit 1 of each byte from a column on says that the column is within limits, and that nothing is significant in the three by six
+-- places around.
+abbrev pub IsQuietFrom : (limits : ℕ → Bool) → Truths → (j s from quiet : ℕ) → Type 0
+IsQuietFrom limits f j s from quiet = (c : ℕ) → from ≤ c → c < 8 → on quiet (8 * c + 1) ≡ (limits c && not (in_six (aside f) (8 * j + c) s))

@@ -1,9 +1,26 @@
 //! What is seen around a place.
 
-ghost use Rattle.std.specs.Prelude.{◌≡◌, ℕ, not, ◌&&◌, ◌+◌, ◌-◌, ◌*◌, ◌<◌, ◌≤◌, ◌/◌, ◌%◌, true, nat_eq};
+ghost use Rattle.std.specs.Prelude.{◌≡◌, ℕ, Bool, not, ◌&&◌, ◌+◌, ◌-◌, ◌*◌, ◌<◌, ◌≤◌, ◌/◌, ◌%◌, true, false, nat_eq};
 ghost use Rattle.jk_scan.specs.Bits.{on};
-ghost use Rattle.jk_scan.specs.Words.{Truths, of_rows, of_gathered, Shows, any_of_six, IsNarrow, IsWindow, IsQuietFrom};
+ghost use Rattle.jk_scan.specs.Neighbours.{zero_at, sign_at};
+ghost use Rattle.jk_scan.specs.Words.{Truths, of_rows, of_gathered, Shows, bordered, any_of_six, IsNarrow, IsWindow, IsQuietFrom};
 ghost use Rattle.jk_scan.specs.WordPlaces.{column, row, also};
+ghost use Rattle.jk_scan.specs.Surroundings.{IsAround};
+
+use crate::contexts::SignContext;
+use crate::shape::Kind;
+use crate::tables::{sign_context_of_eight, zero_context_of_nine};
+
+/// A gathered word, and those left and right of it.
+#[derive(Clone, Copy)]
+pub struct Around {
+    /// The word.
+    pub own: u64,
+    /// The word of the eight columns to the left.
+    pub left: u64,
+    /// The word of the eight columns to the right.
+    pub right: u64,
+}
 
 /// Bit 1 of each byte that is 0.
 pub fn quiet(d: u64) -> u64
@@ -26,8 +43,9 @@ pub fn window(x: u64, left: u64, right: u64, k: u32) -> u128
 /// The quiet columns behind a place that becomes significant.
 pub fn quiet_behind(quiet: u64, k: u32) -> u64
     requires { k < 64 }
-    ensures { (f : Truths) (j s : ℕ) → of_rows (k % 8) ≡ true → IsQuietFrom f (j + 1) (s + 1) (k / 8) quiet
-        → IsQuietFrom (also f (column (j + 1) k) (row (s + 1) k)) (j + 1) (s + 1) (k / 8 + 1) result }
+    ensures behind { (limits : ℕ → Bool) (f : Truths) (j s : ℕ) → of_rows (k % 8) ≡ true → IsQuietFrom limits f (j + 1) (s + 1) (k / 8 + 1) quiet
+        → IsQuietFrom limits (also f (column (j + 1) k) (row (s + 1) k)) (j + 1) (s + 1) (k / 8 + 1) result }
+    ensures fewer { (i : ℕ) → on quiet i ≡ false → on result i ≡ false }
 {
     quiet & !(0x200 << (k & 0x38))
 }
@@ -38,4 +56,40 @@ pub fn nine(window: u128) -> usize
     ensures bits { (a t : ℕ) → a < 3 → t < 3 → on result (3 * a + t) ≡ on window (8 * a + t) }
 {
     (window & 7 | window >> 5 & 0x38 | window >> 10 & 0x1c0) as usize
+}
+
+/// The places left, above, below and right of the middle of a window.
+fn four(window: u128) -> usize
+    ensures small { result < 16 }
+    ensures left { on result 0 ≡ on window 1 }
+    ensures above { on result 1 ≡ on window 8 }
+    ensures below { on result 2 ≡ on window 10 }
+    ensures right { on result 3 ≡ on window 17 }
+{
+    (window >> 1 & 1 | window >> 7 & 2 | window >> 8 & 4 | window >> 14 & 8) as usize
+}
+
+/// The context of the place at bit k, which isn't significant, by the significant places.
+pub fn zero_context_at(kind: Kind, significant: Around, k: u32) -> u8
+    requires within { k < 64 }
+    requires on_row { of_rows (k % 8) ≡ true }
+    ensures value { (f : Truths) (j s : ℕ) → IsAround (bordered f) j s significant
+        → result ≡ zero_at kind f (column j k) (row s k) }
+    ensures small { result < 9 }
+{
+    let places = window(significant.own, significant.left, significant.right, k);
+    zero_context_of_nine(kind, nine(places))
+}
+
+/// The context of the sign of the place at bit k, by the significant places and the negative ones.
+pub fn sign_context_at(significant: Around, negative: Around, k: u32) -> SignContext
+    requires within { k < 64 }
+    requires on_row { of_rows (k % 8) ≡ true }
+    ensures value { (f n : Truths) (j s : ℕ) → IsAround (bordered f) j s significant → IsAround (bordered n) j s negative
+        → result ≡ sign_at f n (column j k) (row s k) }
+    ensures small { result.context < 14 }
+{
+    let places = window(significant.own, significant.left, significant.right, k);
+    let signs = window(negative.own, negative.left, negative.right, k);
+    sign_context_of_eight(four(places) + 16 * four(signs))
 }

@@ -4,14 +4,18 @@
 
 mod around;
 mod contexts;
+mod flags;
 mod shape;
+mod tables;
 mod theorems;
 mod words;
 
-pub use around::{nine, quiet, quiet_behind, window};
+pub use around::{Around, nine, quiet, quiet_behind, sign_context_at, window, zero_context_at};
 pub use contexts::{
     Contribution, SignContext, contributed, refine_context, sign_context, zero_context,
 };
+pub use flags::{WORDS, inside, seen_around, word_place, words_across};
 pub use shape::{BlockShape, Kind};
+pub use tables::{sign_context_of_eight, zero_context_of_nine};
 pub use theorems::untouched_context;
-pub use words::{gather, members};
+pub use words::{gather, members, quiet_columns, touched_places};

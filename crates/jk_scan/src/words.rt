@@ -1,8 +1,11 @@
 //! Words of 32 places: eight columns of a stripe of four rows, its bit `8c + 1 + r` the place in column c and row r. The other bits
 //! of a byte are for what stands above and below, and are not set in a word that is kept.
 
-ghost use Rattle.std.specs.Prelude.{◌≡◌, ℕ, ◌+◌, ◌<◌};
-ghost use Rattle.jk_scan.specs.Words.{Truths, of_rows, of_gathered, Shows, ShowsAt, up_down, aside, is_member};
+ghost use Rattle.std.specs.Prelude.{◌≡◌, ℕ, Bool, ◌+◌, ◌-◌, ◌*◌, ◌<◌, not, nat_eq, ◌&&◌, ◌||◌};
+ghost use Rattle.jk_scan.specs.Bits.{on};
+ghost use Rattle.jk_scan.specs.Words.{Truths, of_rows, of_gathered, Shows, ShowsAt, IsLine, up_down, upright, aside, near, is_member, in_six};
+
+use crate::around::quiet;
 
 /// A word with the rows above and below its stripe.
 pub fn gather(own: u64, above: u64, below: u64) -> u64
@@ -19,12 +22,28 @@ fn with_rows(x: u64) -> u64
     x | x << 1 | x >> 1
 }
 
-/// Each place of a word, with the places left and right of it.
-fn with_columns(v: u64, left: u64, right: u64) -> u64
-    ensures { (f : Truths) (j s : ℕ) → ShowsAt of_rows f (j + 1) s v → ShowsAt of_rows f j s left → ShowsAt of_rows f (j + 2) s right
-        → ShowsAt of_rows (aside f) (j + 1) s result }
+/// The places above and below each place of a gathered word.
+fn rows_beside(x: u64) -> u64
+    ensures { (f : Truths) (j s : ℕ) → ShowsAt of_gathered f j (s + 1) x → ShowsAt of_rows (upright f) j (s + 1) result }
 {
-    v | v << 8 | v >> 8 | left >> 56 | right << 56
+    x << 1 | x >> 1
+}
+
+/// The places left and right of each place of a word, line by line.
+fn columns_beside(v: u64, left: u64, right: u64) -> u64
+    ensures { (h : ℕ → Bool) (j i : ℕ) → i < 8 → IsLine h i (j + 1) v → IsLine h i j left → IsLine h i (j + 2) right
+        → (c : ℕ) → c < 8 → on result (8 * c + i) ≡ (h (8 * (j + 1) + c - 1) || h (8 * (j + 1) + c + 1)) }
+{
+    v << 8 | v >> 8 | left >> 56 | right << 56
+}
+
+/// Each place of a word, with the places left and right of it, line by line.
+fn with_columns(v: u64, left: u64, right: u64) -> u64
+    ensures { (h : ℕ → Bool) (j i : ℕ) → i < 8 → IsLine h i (j + 1) v → IsLine h i j left → IsLine h i (j + 2) right
+        → (c : ℕ) → c < 8 → on result (8 * c + i)
+        ≡ ((h (8 * (j + 1) + c) || h (8 * (j + 1) + c - 1)) || h (8 * (j + 1) + c + 1)) }
+{
+    v | columns_beside(v, left, right)
 }
 
 /// The places of a word that are members of the significance pass.
@@ -34,4 +53,22 @@ pub fn members(x: u64, left: u64, right: u64, inside: u64) -> u64
         → Shows of_rows (is_member m f) (j + 1) (s + 1) result }
 {
     with_columns(with_rows(x), with_rows(left), with_rows(right)) & inside & !x
+}
+
+/// The places of a word that have a significant neighbour.
+pub fn touched_places(x: u64, left: u64, right: u64) -> u64
+    ensures { (f : Truths) (j s : ℕ) → Shows of_gathered f (j + 1) (s + 1) x → Shows of_gathered f j (s + 1) left → Shows of_gathered f (j + 2) (s + 1) right
+        → ShowsAt of_rows (near f) (j + 1) (s + 1) result }
+{
+    rows_beside(x) | columns_beside(with_rows(x), with_rows(left), with_rows(right))
+}
+
+/// The columns inside in which nothing is significant, nor around them, by the bits of their first rows.
+pub fn quiet_columns(x: u64, left: u64, right: u64, inside: u64) -> u64
+    ensures { (f m : Truths) (j s : ℕ) → Shows of_gathered f (j + 1) (s + 1) x → Shows of_gathered f j (s + 1) left → Shows of_gathered f (j + 2) (s + 1) right
+        → Shows of_rows m (j + 1) (s + 1) inside
+        → (c i : ℕ) → c < 8 → i < 8 → on result (8 * c + i)
+        ≡ (nat_eq i 1 && (m (8 * (j + 1) + c) (4 * (s + 1)) && not (in_six (aside f) (8 * (j + 1) + c) (s + 1)))) }
+{
+    quiet(with_columns(x, left, right) & 0x3F3F_3F3F_3F3F_3F3F) & inside
 }

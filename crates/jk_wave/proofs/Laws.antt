@@ -1,4 +1,5 @@
 -- What proofs of other crates may cite of this crate's proofs.
-pub use Rattle.jk_wave.proofs.Local.{is_local_resolution, is_decided}
+pub use Rattle.jk_wave.proofs.Local.{is_local_resolution, is_decided, parities, in_band}
 pub use Rattle.jk_wave.proofs.Undoing.{is_undone, is_reduced}
 pub use Rattle.jk_wave.proofs.Growth.{grows_levels, has_planes, has_width, bounds_resolutions}
+pub use Rattle.jk_wave.proofs.Agreeing.{Agree, analysed_agree, bands_agree}

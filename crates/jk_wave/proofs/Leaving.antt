@@ -25,7 +25,7 @@ use Rattle.jk_wave.proofs.Synthesis.{entry_size, size_below}
 use Rattle.jk_wave.proofs.Climbing.{place_within, within_place}
 
 -- a level of functions that agree on the rectangle
-lifted_agree : (area : Rect) (f g : ℕ → ℕ → ℤ) → ((x y : ℕ) → IsWithin area x y → f x y ≡ g x y) → (x y : ℕ) → IsWithin area x y → lifted_over area f x y ≡ lifted_over area g x y
+pub lifted_agree : (area : Rect) (f g : ℕ → ℕ → ℤ) → ((x y : ℕ) → IsWithin area x y → f x y ≡ g x y) → (x y : ℕ) → IsWithin area x y → lifted_over area f x y ≡ lifted_over area g x y
 lifted_agree area f g same x y h =
     lifted_same area.x0 area.x1 (λ i. lifted area.y0 area.y1 (f i) y) (λ i. lifted area.y0 area.y1 (g i) y) x h.left h.right
     (λ i if it. lifted_same area.y0 area.y1 (f i) (g i) y h.upper h.lower (λ j jf jt. same i j (record { left = if; right = it; upper = jf; lower = jt })))

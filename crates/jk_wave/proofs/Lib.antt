@@ -8,4 +8,5 @@ pub mod Synthesis
 pub mod Climbing
 pub mod Descending
 pub mod Leaving
+pub mod Agreeing
 pub mod Laws

@@ -5,3 +5,7 @@
 mod cases;
 #[cfg(test)]
 mod tests;
+#[cfg(test)]
+mod written;
+#[cfg(test)]
+mod written_cases;

@@ -84,12 +84,10 @@ fn frame(image: &Image) -> (u32, u32, u32, u32) {
 fn many_packets(rt: HostRuntime) -> Result<(), Fail> {
     let alloc = rt.alloc();
     let image = even(alloc, (0, 0), (64, 64), 1, (8, false), 128)?;
-    let given = Parameters {
-        layers: 3,
-        sop: true,
-        eph: true,
-        ..parameters(alloc, 2, &[(3, 3), (3, 3), (3, 3)])?
-    };
+    let mut given = parameters(alloc, 2, &[(3, 3), (3, 3), (3, 3)])?;
+    given.layers = 3;
+    given.sop = true;
+    given.eph = true;
     let file = encode(alloc, &image, &given).ok().ok_or("a file")?;
     assert_eq!(rt; file.len(), 2358);
     let front = bytes_of(
@@ -154,11 +152,9 @@ fn nine_tiles(rt: HostRuntime) -> Result<(), Fail> {
         Order::Pcrl,
         Order::Cprl,
     ] {
-        let given = Parameters {
-            tile: Some((8, 8)),
-            order,
-            ..parameters(alloc, 1, &[(1, 1), (2, 2)])?
-        };
+        let mut given = parameters(alloc, 1, &[(1, 1), (2, 2)])?;
+        given.tile = Some((8, 8));
+        given.order = order;
         let file = encode(alloc, &image, &given).ok().ok_or("a file")?;
         assert_eq!(rt; file.len(), 234);
         let parts = bytes_of(
@@ -190,15 +186,13 @@ fn components_and_depths(rt: HostRuntime) -> Result<(), Fail> {
     ] {
         let sample = if signed { 0 } else { 1 << (depth - 1) };
         let image = even(alloc, (7, 9), (33, 21), components, (depth, signed), sample)?;
-        let given = Parameters {
-            layers,
-            colour,
-            tile: Some((16, 10)),
-            xcb: 3,
-            ycb: 4,
-            sop: true,
-            ..parameters(alloc, levels, &[])?
-        };
+        let mut given = parameters(alloc, levels, &[])?;
+        given.layers = layers;
+        given.colour = colour;
+        given.tile = Some((16, 10));
+        given.xcb = 3;
+        given.ycb = 4;
+        given.sop = true;
         let file = encode(alloc, &image, &given).ok().ok_or("a file")?;
         assert_eq!(rt; file.len(), length);
         let back = decode(alloc, &file, 0).ok().ok_or("an image again")?;
@@ -319,10 +313,8 @@ fn count_of_packets(rt: HostRuntime) -> Result<(), Fail> {
         )?;
         assert_eq!(rt; decode(alloc, &file, 0).err(), Some(fault), "{width}");
     }
-    let many = Parameters {
-        layers: 32,
-        ..parameters(alloc, 0, &[(0, 0)])?
-    };
+    let mut many = parameters(alloc, 0, &[(0, 0)])?;
+    many.layers = 32;
     let image = even(alloc, (0, 0), (724, 724), 1, (8, false), 128)?;
     assert_eq!(rt; many.check(&image), Ok(()));
     let image = even(alloc, (0, 0), (725, 725), 1, (8, false), 128)?;

@@ -10,6 +10,10 @@ mod header_cases;
 #[cfg(test)]
 mod headers;
 #[cfg(test)]
+mod layers;
+#[cfg(test)]
+mod meanings;
+#[cfg(test)]
 mod pages;
 #[cfg(test)]
 mod parts;
@@ -18,6 +22,10 @@ mod pieces;
 #[cfg(test)]
 mod sizes;
 #[cfg(test)]
+mod small;
+#[cfg(test)]
 mod texts;
 #[cfg(test)]
 mod values;
+#[cfg(test)]
+mod written;

@@ -75,6 +75,8 @@ fn other_files(rt: HostRuntime) -> Result<(), Fail> {
         "FF90 000A 0000 00000000 00 01 FF93 00 FFD9",
         "FF90 000A 0000 0000000F 00 01 FF93 7F FFD9",
         "FF90 000A 0000 0000000F 00 FF FF93 00 FFD9",
+        // A packet that isn't empty and includes no code-block.
+        "FF90 000A 0000 0000000F 00 01 FF93 80 FFD9",
     ] {
         let file = bytes_of(alloc, &[MAIN, part])?;
         let image = decode(alloc, &file, 0).ok().ok_or("an image")?;
@@ -131,7 +133,6 @@ fn refused_files(rt: HostRuntime) -> Result<(), Fail> {
             "FF90 000A 0000 0000000F 01 01 FF93 00 FFD9",
             Fault::BadValue,
         ),
-        ("FF90 000A 0000 0000000F 00 01 FF93 80 FFD9", Fault::NotYet),
     ] {
         let file = bytes_of(alloc, &[MAIN, part])?;
         assert_eq!(rt; decode(alloc, &file, 0).err(), Some(fault), "{part}");
@@ -206,92 +207,86 @@ fn parameters(rt: HostRuntime) -> Result<(), Fail> {
     let image = calls::read(alloc, &pgm).ok().ok_or("an image")?;
     let mut pairs = Vec::new(alloc);
     pairs.push((0, 15))?;
-    let given = Parameters {
-        precincts: pairs,
-        container: Container::Jp2,
-        ..bare(alloc)
-    };
+    let mut given = bare(alloc);
+    given.precincts = pairs;
+    given.container = Container::Jp2;
     assert_eq!(rt; given.check(&image), Ok(()));
     let bad = Err(Fault::BadParameters);
-    let six = Parameters {
-        levels: 6,
-        ..bare(alloc)
-    };
+    let mut six = bare(alloc);
+    six.levels = 6;
     assert_eq!(rt; six.check(&image), bad);
     assert_eq!(rt;
         encode(alloc, &image, &six).err(),
         Some(Fault::BadParameters)
     );
-    let colour = Parameters {
-        colour: true,
-        ..bare(alloc)
-    };
+    let mut colour = bare(alloc);
+    colour.colour = true;
     assert_eq!(rt; colour.check(&image), bad);
-    let wide = Parameters {
-        xcb: 10,
-        ycb: 3,
-        ..bare(alloc)
-    };
+    let mut wide = bare(alloc);
+    wide.xcb = 10;
+    wide.ycb = 3;
     assert_eq!(rt; wide.check(&image), bad);
-    let none = Parameters {
-        layers: 0,
-        ..bare(alloc)
-    };
+    let mut none = bare(alloc);
+    none.layers = 0;
     assert_eq!(rt; none.check(&image), bad);
-    let flat = Parameters {
-        tile: Some((1, 0)),
-        ..bare(alloc)
-    };
+    let mut flat = bare(alloc);
+    flat.tile = Some((1, 0));
     assert_eq!(rt; flat.check(&image), bad);
-    let tiles = Parameters {
-        tile: Some((1, 1)),
-        ..bare(alloc)
-    };
+    let mut tiles = bare(alloc);
+    tiles.tile = Some((1, 1));
     assert_eq!(rt; tiles.check(&image), Ok(()));
     Ok(())
 }
 
-/// A page in a JP2 file, there and back, and what isn't the codestream's.
+/// The boxes in front of the codestream of one grey pixel.
+static BOXES: &str =
+    "0000000C 6A502020 0D0A870A 00000014 66747970 6A703220 00000000 6A703220 0000002D 6A703268 00000016 69686472 00000001 00000001 0001 07 07 00 00 0000000F 636F6C72 01 00 00 00000011 0000005A 6A703263";
+
+/// Its tile-part, and EOC.
+static PART: &str = "FF90 000A 0000 0000000F 00 01 FF93 00 FFD9";
+
 #[test]
 fn boxed_page(rt: HostRuntime) -> Result<(), Fail> {
     let alloc = rt.alloc();
     let pgm = grey(alloc, "P5\n1 1\n255\n", 1)?;
-    let image = calls::read(alloc, &pgm).ok().ok_or("an image")?;
-    let boxed = Parameters {
-        container: Container::Jp2,
-        ..bare(alloc)
-    };
-    let file = encode(alloc, &image, &boxed).ok().ok_or("a file")?;
-    let front =
-        "0000000C 6A502020 0D0A870A 00000014 66747970 6A703220 00000000 6A703220 0000002D 6A703268 00000016 69686472 00000001 00000001 0001 07 07 00 00 0000000F 636F6C72 01 00 00 00000011 0000005A 6A703263";
-    let part = "FF90 000A 0000 0000000F 00 01 FF93 00 FFD9";
-    let wanted = bytes_of(alloc, &[front, MAIN, part])?;
+    let image = calls::read(alloc, &pgm)?;
+    let mut boxed = bare(alloc);
+    boxed.container = Container::Jp2;
+    let file = encode(alloc, &image, &boxed)?;
+    let wanted = bytes_of(alloc, &[BOXES, MAIN, PART])?;
     assert_eq!(rt; wanted.len(), 167);
     assert_eq!(rt; &file[..], &wanted[..]);
-    // A box behind the codestream is passed over.
-    let longer = bytes_of(alloc, &[front, MAIN, part, "00000009 66726565 00"])?;
-    for bytes in [&file, &longer] {
-        let back = decode(alloc, bytes, 0).ok().ok_or("an image again")?;
-        let again = calls::write(alloc, &back).ok().ok_or("a PGM file")?;
-        assert_eq!(rt; &again[..], &pgm[..]);
-    }
-    let other = bytes_of(alloc, &["0000000C 6A502020 0D0B870A", MAIN, part])?;
-    assert_eq!(rt; decode(alloc, &other, 0).err(), Some(Fault::BadBox));
     Ok(())
 }
 
-/// A page that isn't grey, and where it is placed: its file is refused today, and its PGM file is the same.
+/// The boxes are passed over, and so is one behind the codestream.
 #[test]
-fn other_pages(rt: HostRuntime) -> Result<(), Fail> {
+fn boxes_passed_over(rt: HostRuntime) -> Result<(), Fail> {
+    let alloc = rt.alloc();
+    for last in ["", "00000009 66726565 00"] {
+        let file = bytes_of(alloc, &[BOXES, MAIN, PART, last])?;
+        let image = decode(alloc, &file, 0)?;
+        assert_eq!(rt; *image.planes().plane(0), *[128].as_slice(), "{last}");
+    }
+    Ok(())
+}
+
+#[test]
+fn another_signature(rt: HostRuntime) -> Result<(), Fail> {
+    let alloc = rt.alloc();
+    let file = bytes_of(alloc, &["0000000C 6A502020 0D0B870A", MAIN, PART])?;
+    assert_eq!(rt; decode(alloc, &file, 0).err(), Some(Fault::BadBox));
+    Ok(())
+}
+
+/// A page that is placed elsewhere has the same PGM file.
+#[test]
+fn placed_page(rt: HostRuntime) -> Result<(), Fail> {
     let alloc = rt.alloc();
     let image = calls::read(alloc, b"P5\n2 1\n255\nab")
         .ok()
         .ok_or("an image")?;
     assert_eq!(rt; *image.planes().plane(0), *[97, 98].as_slice());
-    assert_eq!(rt;
-        encode(alloc, &image, &bare(alloc)).err(),
-        Some(Fault::NotYet)
-    );
     let moved = image.place(1, 0).ok().ok_or("a place")?;
     let text = calls::write(alloc, &moved).ok().ok_or("a PGM file")?;
     assert_eq!(rt; &text[..], "P5\n2 1\n255\nab".as_bytes());

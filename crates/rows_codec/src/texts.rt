@@ -2,7 +2,7 @@ use std::alloc::Global;
 use std::test::Fail;
 
 /// The headers of the codestream of one grey pixel.
-pub(crate) const MAIN: &str =
+pub(crate) static MAIN: &str =
     "FF4F FF51 0029 0000 00000001 00000001 00000000 00000000 00000001 00000001 00000000 00000000 0001 07 01 01 FF52 000C 00 00 0001 00 00 04 04 00 01 FF5C 0004 40 40";
 
 /// The bytes of hexadecimal texts, one text behind the other.

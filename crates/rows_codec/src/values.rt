@@ -161,7 +161,6 @@ fn printed_faults(rt: HostRuntime) -> Result<(), Fail> {
         (Fault::BadName, "F19 BadName"),
         (Fault::Shelf, "F20 Shelf"),
         (Fault::Changed, "F21 Changed"),
-        (Fault::NotYet, "F22 NotYet"),
         (Fault::WorkerFailed, "F23 WorkerFailed"),
     ] {
         prints(&rt, alloc, fault, text)?;

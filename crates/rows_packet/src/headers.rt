@@ -11,7 +11,7 @@ use std::process::Abort;
 use std::test::Fail;
 
 /// The bytes of a hexadecimal text.
-fn bytes_of(alloc: Global, text: &str) -> Result<Vec<u8>, Fail> {
+pub(crate) fn bytes_of(alloc: Global, text: &str) -> Result<Vec<u8>, Fail> {
     let mut bytes = Vec::new(alloc);
     let mut high = None;
     for digit in text.chars() {
@@ -42,7 +42,7 @@ fn band_of(text: &str) -> Result<BandShape, Fail> {
 }
 
 /// The precinct of one sub-band, or of three that commas part.
-fn shape_of(marks: &str, bands: &str) -> Result<PrecinctShape, Fail> {
+pub(crate) fn shape_of(marks: &str, bands: &str) -> Result<PrecinctShape, Fail> {
     let sop = marks.starts_with('1');
     let eph = marks.ends_with('1');
     match bands.split_once(',') {

@@ -1,10 +1,8 @@
-//! Rows of packet headers: stuffed bits, tag trees and headers against values from outside.
+//! Rows of packets: stuffed bits, tag trees, headers, and packets that are written, against values from outside.
 #![tactic(auto)]
 
 #[cfg(test)]
 mod bits;
-#[cfg(test)]
-mod empty;
 #[cfg(test)]
 mod headers;
 #[cfg(test)]
@@ -13,3 +11,11 @@ mod precincts;
 mod sizes;
 #[cfg(test)]
 mod trees;
+#[cfg(test)]
+mod walk_cases;
+#[cfg(test)]
+mod walks;
+#[cfg(test)]
+mod writing;
+#[cfg(test)]
+mod writing_cases;

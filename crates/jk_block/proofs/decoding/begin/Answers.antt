@@ -1,5 +1,5 @@
 use Rattle.std.proofs.Common.{sym, ap, ◌∙◌}
-use Rattle.jk_block.specs.declared.visits.Pass.{Pass}
+use Rattle.jk_block.specs.declared.spot.Pass.{Pass}
 use Rattle.jk_block.specs.Reading.{begun}
 use Rattle.jk_block.specs.Sketches.{progress, number_of}
 use Rattle.jk_block.proofs.decoding.begin.Goals as goal

@@ -1,29 +1,19 @@
-use Rattle.std.proofs.Common.{◌≡◌, ◌*◌, ◌^◌, [], ◌∷◌, ◌++◌, ℕ, map, get_or, false, List, ℤ, sym, ap, ◌∙◌, ◌<◌, subst, unsigned_abs, arith}
-use Rattle.std.specs.List.{range_with_len}
-use Rattle.std.specs.Int.{w32}
-use Rattle.std.proofs.lemmas.Int.{to_z-of_z, fits_signed_from_abs}
-use Rattle.jk_block.proofs.Meanings.{abs_with_sign}
-use Rattle.std.proofs.lemmas.List.FromFn.{map-range_with_len_more}
+use Rattle.std.proofs.Common.{◌≡◌, ◌++◌, ℤ, List, sym, ap, ◌∙◌, arith}
+use Rattle.jk_scan.specs.Neighbours.{Field}
+use Rattle.jk_block.specs.Fields.{field_of}
 use Rattle.jk_block.specs.Meaning.{with_sign}
-use Rattle.jk_block.proofs.Drawing.{listed_small, listed_is}
+use Rattle.jk_block.specs.Sketches.{negative_in}
+use Rattle.jk_block.proofs.Listing.{rows_of, row_of, rows_more, rows_all}
 use Rattle.jk_block.proofs.decoding.values.Goals as goal
 
-pub signed-requires-clause-small : goal.signed-requires-clause-small
-signed-requires-clause-small c = let k = c.args.sketch.now in listed_small k.shape k.magnitudes (2 ^ 23) c.loop-place.place (omega arith) c.requires
+pub loop-y-preserved : goal.loop-y-preserved
+loop-y-preserved c =
+    let k = c.args.sketch.now in
+    let q : Field ℤ = λ x y. with_sign (negative_in k x y) (field_of k.shape k.magnitudes 0 x y) in
+    c.in_ok-append_row.ensures.row ∙ ap (λ (vs : List ℤ). vs ++ row_of q k.shape.width c.loop-y.y) c.loop-y.invariant ∙ sym (rows_more q k.shape.width c.loop-y.y)
 
 pub returns-clause-values : goal.returns-clause-values
 returns-clause-values c = λ coder.
     let k = c.args.sketch.now in
-    c.loop-place.invariant ∙ ap (λ n. map (λ i. with_sign (get_or k.negatives i false) (get_or k.magnitudes i 0)) (range_with_len 0 n)) (let e : c.loop-place.place ≡ k.shape.width * k.shape.height = omega arith in e)
-    ∙ listed_is k.shape k.magnitudes k.negatives k.visited coder
-
-pub loop-place-preserved : goal.loop-place-preserved
-loop-place-preserved c =
-    let k = c.args.sketch.now in
-    let f : ℕ → ℤ = λ i. with_sign (get_or k.negatives i false) (get_or k.magnitudes i 0) in
-    let small : get_or k.magnitudes c.loop-place.place 0 < 2 ^ 23 = listed_small k.shape k.magnitudes (2 ^ 23) c.loop-place.place (omega arith) c.requires in
-    let abs : unsigned_abs c.signed.result < 2 ^ 31 =
-    subst (λ m. m < 2 ^ 31) (sym (ap unsigned_abs c.signed.ensures ∙ abs_with_sign (get_or k.negatives c.loop-place.place false) (get_or k.magnitudes c.loop-place.place 0))) (omega (arith, small)) in
-    c.in_ok-push.ensures.items ∙ ap (λ (v : ℤ). c.loop-place.values.items ++ v ∷ []) (to_z-of_z w32 c.signed.result (fits_signed_from_abs w32 c.signed.result abs) ∙ c.signed.ensures)
-    ∙ ap (λ (vs : List ℤ). vs ++ f c.loop-place.place ∷ []) c.loop-place.invariant
-    ∙ sym (map-range_with_len_more f 0 c.loop-place.place c.loop-place.place (omega arith))
+    let q : Field ℤ = λ x y. with_sign (negative_in k x y) (field_of k.shape k.magnitudes 0 x y) in
+    c.loop-y.invariant ∙ ap (λ n. rows_of q k.shape.width n) (let e : c.loop-y.y ≡ k.shape.height = omega arith in e) ∙ rows_all k.shape q

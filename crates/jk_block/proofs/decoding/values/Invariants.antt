@@ -1,7 +1,9 @@
-use Rattle.std.proofs.Common.{◌≡◌, map, get_or, false}
-use Rattle.std.specs.List.{range_with_len}
+use Rattle.std.proofs.Common.{◌≡◌}
+use Rattle.jk_block.specs.Fields.{field_of}
 use Rattle.jk_block.specs.Meaning.{with_sign}
+use Rattle.jk_block.specs.Sketches.{negative_in}
+use Rattle.jk_block.proofs.Listing.{rows_of}
 use Rattle.jk_block.proofs.decoding.values.Given as goal
 
-abbrev pub invariant-loop-place : goal.invariant-loop-place
-invariant-loop-place l = l.values.items ≡ map (λ i. with_sign (get_or l.sketch.negatives i false) (get_or l.sketch.magnitudes i 0)) (range_with_len 0 l.place)
+abbrev pub invariant-loop-y : goal.invariant-loop-y
+invariant-loop-y l = l.values.items ≡ rows_of (λ x y. with_sign (negative_in l.sketch x y) (field_of l.sketch.shape l.sketch.magnitudes 0 x y)) l.sketch.shape.width l.y

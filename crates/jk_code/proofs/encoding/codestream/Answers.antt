@@ -12,7 +12,7 @@ returns-clause-value c =
 pub returns-clause-means : goal.returns-clause-means
 returns-clause-means c =
     let p = c.args.image.now in
-    subst (λ (bytes : List ℕ). MeansPicture bytes 0 p) (sym (returns-clause-value c)) (written_means p c.args.parameters.now c.main_header.ensures.picture c.requires.profile c.requires.blank)
+    subst (λ (bytes : List ℕ). MeansPicture bytes 0 p) (sym (returns-clause-value c)) (written_means p c.args.parameters.now c.main_header.ensures.picture c.requires.profile c.in_ok-put_tiles.ensures.fits)
 
 pub returns-clause-bare : goal.returns-clause-bare
 returns-clause-bare c = subst (λ (bytes : List ℕ). Holds bytes bytes) (sym (returns-clause-value c)) (written_bare c.args.image.now c.args.parameters.now)

@@ -1,15 +1,28 @@
-use Rattle.std.proofs.Common.{◌+◌, ◌*◌, set, true, false, refl, arith}
+use Rattle.std.proofs.Common.{true, refl, arith}
+use Rattle.jk_scan.specs.WordPlaces.{column, row}
 use Rattle.jk_block.specs.Reading.{put}
-use Rattle.jk_block.specs.Sketches.{field_of}
-use Rattle.jk_block.proofs.Drawing.{drawn_same, field_put, place_fits}
+use Rattle.jk_block.specs.Fields.{field_of, flagged}
+use Rattle.jk_block.proofs.Drawing.{Written, with_one, progress_same, marked_at}
 use Rattle.jk_block.proofs.sketch.Sketch.visit.Goals as goal
 
 pub returns-clause-visited : goal.returns-clause-visited
 returns-clause-visited c = λ coder.
     let k = c.args.self.now in
     let s = k.shape in
-    let x = c.args.x in
-    let y = c.args.y in
-    let fits = place_fits s x y c.requires k.fits in
-    drawn_same (field_of s k.magnitudes 0) (field_of s k.magnitudes 0) (field_of s k.negatives false) (field_of s k.negatives false) (field_of s (set k.visited (y * s.width + x) true) false) (put (field_of s k.visited false) x y true) coder
-    refl refl (field_put s k.visited x y true false c.requires (omega (arith, fits)))
+    let at = c.args.spot in
+    let n = c.args.k in
+    let p = c.word_place-at.result in
+    let a : Written s k.visited at.word at.stripe n p = record {
+      spotted = record {
+        sized = k.sized;
+        room = omega arith;
+        word = c.requires.spot.word;
+        stripe = c.requires.spot.stripe;
+        within = c.requires.place.within;
+        on_row = c.requires.place.on_row;
+        inside = c.requires.place.inside;
+      };
+      place = c.word_place-at.ensures.place;
+    } in
+    progress_same (field_of s k.magnitudes 0) (field_of s k.magnitudes 0) (flagged s k.negative) (flagged s k.negative) (flagged s (with_one k.visited p n)) (put (flagged s k.visited) (column at.word n) (row at.stripe n) true) coder
+    refl refl (marked_at s k.visited at.word at.stripe n p a)

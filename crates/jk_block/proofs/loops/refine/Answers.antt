@@ -1,0 +1,60 @@
+use Rattle.std.proofs.Common.{◌∙◌, refl, arith}
+use Rattle.std.specs.Int.{trailing_zeros, w64}
+use Rattle.std.proofs.lemmas.Result.{err_from_is_err_and}
+use Rattle.jk_scan.specs.Words.{bordered}
+use Rattle.jk_scan.proofs.Laws.{sooner_zero, bit_is}
+use Rattle.jk_block.specs.Sketches.{lit_in}
+use Rattle.jk_block.proofs.Going.{going_fault, going_all}
+use Rattle.jk_block.proofs.Refining.{refining_none, refining_next, refining_one, refining_all}
+use Rattle.jk_block.proofs.loops.refine.Goals as goal
+
+pub loop-candidates-init : goal.loop-candidates-init
+loop-candidates-init c =
+    let k = c.args.sketch.now in
+    let at = c.args.spot in
+    let around = c.seen_around-seen.ensures (lit_in k) k.lit in
+    refining_none at k _ c.args.decoder.now c.touched_places-touched.result c.older-candidates.result refl (λ coder. refl) c.requires.fresh
+    (c.touched_places-touched.ensures (bordered (lit_in k)) at.word at.stripe around.own around.left around.right) c.older-candidates.ensures
+
+pub read_next-requires-clause-place : goal.read_next-requires-clause-place
+read_next-requires-clause-place c =
+    let l = c.loop-candidates in
+    (refining_next c.args.spot c.args.sketch.now l.sketch c.args.decoder.now l.decoder c.touched_places-touched.result l.candidates l.invariant (omega arith) (omega arith)).place
+
+pub read_next-requires-clause-lit : goal.read_next-requires-clause-lit
+read_next-requires-clause-lit c =
+    let l = c.loop-candidates in
+    (refining_next c.args.spot c.args.sketch.now l.sketch c.args.decoder.now l.decoder c.touched_places-touched.result l.candidates l.invariant (omega arith) (omega arith)).lit
+
+pub read_next-requires-clause-uncoded : goal.read_next-requires-clause-uncoded
+read_next-requires-clause-uncoded c =
+    let l = c.loop-candidates in
+    (refining_next c.args.spot c.args.sketch.now l.sketch c.args.decoder.now l.decoder c.touched_places-touched.result l.candidates l.invariant (omega arith) (omega arith)).uncoded
+
+pub read_next-requires-clause-near : goal.read_next-requires-clause-near
+read_next-requires-clause-near c =
+    let l = c.loop-candidates in
+    let z = trailing_zeros w64 l.candidates in
+    let next = refining_next c.args.spot c.args.sketch.now l.sketch c.args.decoder.now l.decoder c.touched_places-touched.result l.candidates l.invariant (omega arith) (omega arith) in
+    bit_is c.touched_places-touched.result z ∙ l.invariant.near z next.place.within next.place.on_row
+
+pub returns-in_err-read_next-clause-takes : goal.returns-in_err-read_next-clause-takes
+returns-in_err-read_next-clause-takes c =
+    let p = err_from_is_err_and c.from_residual.result c.from_residual.ensures.1 in
+    let l = c.loop-candidates in
+    let next = refining_next c.args.spot c.args.sketch.now l.sketch c.args.decoder.now l.decoder c.touched_places-touched.result l.candidates l.invariant (omega arith) (omega arith) in
+    rw (p.1, p.2) (going_fault 1 c.args.spot (trailing_zeros w64 l.candidates) c.args.sketch.now l.sketch c.args.decoder.now l.decoder c.in_err-read_next.field-0.0 next.going next.place c.in_err-read_next.ensures.takes)
+
+pub loop-candidates-smaller : goal.loop-candidates-smaller
+loop-candidates-smaller c = sooner_zero c.loop-candidates.candidates (omega arith) (omega arith)
+
+pub loop-candidates-preserved : goal.loop-candidates-preserved
+loop-candidates-preserved c =
+    let l = c.loop-candidates in
+    refining_one c.args.spot c.args.sketch.now l.sketch c.read_next.new.sketch c.args.decoder.now l.decoder c.read_next.new.decoder c.touched_places-touched.result l.candidates c.in_ok-read_next.field-0 l.invariant (omega arith) (omega arith)
+    c.in_ok-read_next.ensures.takes c.in_ok-read_next.ensures.shape c.in_ok-read_next.ensures.bytes c.in_ok-read_next.ensures.lit c.in_ok-read_next.ensures.visited c.in_ok-read_next.ensures.fresh
+
+pub returns-clause-takes : goal.returns-clause-takes
+returns-clause-takes c =
+    let l = c.loop-candidates in
+    going_all 1 c.args.spot c.args.sketch.now l.sketch c.args.decoder.now l.decoder (refining_all c.args.spot c.args.sketch.now l.sketch c.args.decoder.now l.decoder c.touched_places-touched.result l.candidates l.invariant (omega arith))

@@ -1,0 +1,70 @@
+-- What words show of a block at a bit-plane while its decisions are listed.
+use Rattle.std.specs.Prelude.{ℕ, ◌+◌, ◌-◌, ◌*◌, ◌/◌, ◌%◌, Bool, true, false, ◌&&◌, nat_eq, nat_lt, nat_le, [], ◌∷◌, ℤ, if◌then◌else◌}
+use Rattle.jk_scan.specs.declared.shape.BlockShape.{BlockShape}
+use Rattle.jk_scan.specs.Contexts.{run_length, uniform}
+use Rattle.jk_scan.specs.Neighbours.{Field, is_inside}
+use Rattle.jk_scan.specs.Moments.{number, visits, spread, significant}
+use Rattle.jk_scan.specs.Passes.{Plane, Decided, is_one, joined, sign_decision, column_decisions}
+use Rattle.jk_scan.specs.Flags.{IsDrawn}
+use Rattle.jk_block.specs.Meaning.{plane_at, value_in}
+use Rattle.jk_block.specs.Reading.{put}
+use Rattle.jk_block.specs.declared.plane.BlockPlane.{BlockPlane}
+use Rattle.jk_block.specs.declared.flags.Flags.{Flags}
+
+-- the block at the bit-plane
+abbrev pub seen : BlockPlane → Plane
+seen v = plane_at v.shape v.plane (value_in v.shape v.values.now)
+
+-- significant at a moment
+abbrev pub lit_at : BlockPlane → ℕ → Field Bool
+lit_at v t = significant v.shape (seen v).magnitude t
+
+-- significant at a moment, and negative
+abbrev pub negative_at : BlockPlane → ℕ → Field Bool
+negative_at v t x y = lit_at v t x y && (seen v).negative x y
+
+-- coded by the significance propagation pass before a moment
+abbrev pub spread_at : BlockPlane → ℕ → Field Bool
+spread_at v t x y = is_inside v.shape x y && (spread v.shape.width (seen v).magnitude x y && nat_lt (number v.shape.width x y) t)
+
+-- The words show what is so at a moment.
+pub record IsFlagged (v : BlockPlane) (t : ℕ) (flags : Flags) : Type 0 where
+  pub lit : IsDrawn v.shape (lit_at v t) flags.significant
+  pub signs : IsDrawn v.shape (negative_at v t) flags.negative
+  pub coded : IsDrawn v.shape (spread_at v t) flags.visited
+
+-- Between planes the words show what has a bit in plane b or above it, and which of it is negative.
+pub record IsLitUpto (s : BlockShape) (b : ℕ) (q : Field ℤ) (flags : Flags) : Type 0 where
+  pub lit : IsDrawn s (λ x y. nat_lt 0 ((plane_at s b q).magnitude x y)) flags.significant
+  pub signs : IsDrawn s (λ x y. nat_lt 0 ((plane_at s b q).magnitude x y) && (plane_at s b q).negative x y) flags.negative
+
+-- a field with another value at one place, or the same field
+abbrev pub put_if : Bool → Field Bool → (x y : ℕ) → Bool → Field Bool
+put_if bit f x y value = if bit then put f x y value else f
+
+-- Where the bit is 1, the place becomes significant, with its sign.
+pub record Lights (s : BlockShape) (x y : ℕ) (bit sign : Bool) (old new : Flags) : Type 0 where
+  pub lit : (f : Field Bool) → IsDrawn s f old.significant → IsDrawn s (put_if bit f x y true) new.significant
+  pub signs : (f : Field Bool) → IsDrawn s f old.negative → IsDrawn s (put_if bit f x y sign) new.negative
+
+-- How many places of a pass come before row r of column c, where r counts from 1 and some places come before the stripe.
+unfoldable pub number_by : (w before c r : ℕ) → ℕ
+number_by w before c r = if nat_lt c w then 4 * (before + c) + (if nat_lt r 5 then r - 1 else 4) else 4 * (before + w)
+
+-- The moment at which a pass comes to bit k of the word j of the stripe i. Only bits of places take time.
+unfoldable pub moment_at : BlockShape → (pass j i k : ℕ) → ℕ
+moment_at s pass j i k = pass * visits s + number_by s.width (s.width * i) (8 * j + k / 8) (k % 8)
+
+-- column c of a word in a pass, if the block has it
+unfoldable pub column_if : BlockShape → Plane → (pass j i c : ℕ) → Decided
+column_if s p pass j i c = if nat_lt (8 * j + c) s.width then column_decisions s p pass (8 * j + c) i else []
+
+-- a word in a pass
+unfoldable pub word_decisions : BlockShape → Plane → (pass j i : ℕ) → Decided
+word_decisions s p pass j i = joined 8 (column_if s p pass j i)
+
+-- What a column in run mode decides up to its first row f with the bit 1, at the moment of that row.
+unfoldable pub run_head : BlockShape → Plane → (t x i f : ℕ) → Decided
+run_head s p t x i f =
+    if nat_eq f 4 then (run_length, false) ∷ []
+    else (run_length, true) ∷ (uniform, nat_le 2 f) ∷ (uniform, is_one f) ∷ sign_decision s p t x (4 * i + f) ∷ []

@@ -1,0 +1,94 @@
+//! What is known of the places of a block while it is written.
+
+ghost use Rattle.std.specs.Prelude.{◌≡◌, true, replicate, if◌then◌else◌};
+ghost use Rattle.jk_scan.specs.Neighbours.{Field};
+ghost use Rattle.jk_scan.specs.WordPlaces.{column, row};
+ghost use Rattle.jk_scan.specs.Flags.{IsSized, IsDrawn};
+ghost use Rattle.jk_block.specs.Reading.{put};
+ghost use Rattle.jk_block.specs.Steps.{IsSpot, IsPlace};
+
+use crate::spot::Spot;
+use jk_scan::{BlockShape, WORDS, word_place};
+
+/// Words of 32 places: which are significant, which of those are negative, and which the significance propagation pass of
+/// this plane has coded.
+#[derive(Drop)]
+pub struct Flags {
+    pub significant: [u64; WORDS],
+    pub negative: [u64; WORDS],
+    pub visited: [u64; WORDS],
+}
+
+/// A truth value as a number.
+#[inline(always)]
+fn digit(bit: bool) -> u64
+    ensures { result ≡ (if bit then 1 else 0) }
+{
+    bit as u64
+}
+
+/// No place is marked.
+fn unmarked() -> [u64; WORDS]
+    ensures { result ≡ replicate 774 0 }
+{
+    [0; WORDS]
+}
+
+impl Flags {
+    ghost use Rattle.std.specs.Prelude.{Bool};
+    ghost use Rattle.jk_block.specs.Viewed.{Lights};
+
+    /// No place is significant.
+    pub fn new() -> Flags
+        ensures significant { result.significant ≡ replicate 774 0 }
+        ensures negative { result.negative ≡ replicate 774 0 }
+    {
+        Flags {
+            significant: unmarked(),
+            negative: unmarked(),
+            visited: unmarked(),
+        }
+    }
+
+    /// Begins a plane: no place is coded.
+    pub fn begin(&mut self)
+        ensures significant { self.new.significant ≡ self.old.significant }
+        ensures negative { self.new.negative ≡ self.old.negative }
+        ensures visited { self.new.visited ≡ replicate 774 0 }
+    {
+        self.visited = unmarked();
+    }
+
+    /// Flags the place at bit k of a word as coded by the significance propagation pass.
+    #[inline(always)]
+    pub fn visit(&mut self, shape: BlockShape, spot: Spot, k: u32)
+        requires sized { IsSized shape }
+        requires spot { IsSpot shape spot }
+        requires place { IsPlace shape spot k }
+        ensures significant { self.new.significant ≡ self.old.significant }
+        ensures negative { self.new.negative ≡ self.old.negative }
+        ensures visited { (f : Field Bool) → IsDrawn shape f self.old.visited
+            → IsDrawn shape (put f (column spot.word k) (row spot.stripe k) true) self.new.visited }
+    {
+        let at = word_place(shape, spot.word + 1, spot.stripe + 1);
+        let visited = &mut self.visited;
+        visited[at] |= 1 << k;
+    }
+
+    /// The place at bit k of a word becomes significant, with this sign.
+    #[inline(always)]
+    pub fn light(&mut self, shape: BlockShape, spot: Spot, k: u32, negative: bool)
+        requires sized { IsSized shape }
+        requires spot { IsSpot shape spot }
+        requires place { IsPlace shape spot k }
+        ensures lights { Lights shape (column spot.word k) (row spot.stripe k) true negative self.old self.new }
+        ensures visited { self.new.visited ≡ self.old.visited }
+    {
+        let at = word_place(shape, spot.word + 1, spot.stripe + 1);
+        let bit = 1 << k;
+        let significant = &mut self.significant;
+        significant[at] |= bit;
+        let signs = &mut self.negative;
+        signs[at] = signs[at] & !bit | digit(negative) << k;
+    }
+}

@@ -1,0 +1,146 @@
+//! The decisions of a word of 32 places in each pass: loops over the places that the pass codes, from the lowest bit on.
+//! Between two of them nothing is decided.
+
+ghost use Rattle.std.specs.Prelude.{◌≡◌, ℕ, not, ◌&&◌, ◌+◌, ◌%◌, ◌<◌, ◌++◌, IfOk, IfErr};
+ghost use Rattle.jk_math.specs.Memory.{IsMemory};
+ghost use Rattle.jk_scan.specs.Bits.{on};
+ghost use Rattle.jk_scan.specs.Neighbours.{is_inside};
+ghost use Rattle.jk_scan.specs.Words.{of_rows, bordered, Shows};
+ghost use Rattle.jk_scan.specs.WordPlaces.{column, row};
+ghost use Rattle.jk_block.specs.Steps.{IsSpot};
+ghost use Rattle.jk_block.specs.Viewed.{seen, lit_at, spread_at, IsFlagged, moment_at, word_decisions};
+
+use crate::decisions::DecisionList;
+use crate::flags::Flags;
+use crate::loops::still_columns;
+use crate::place_lists::{list_member, list_new, list_next, list_run};
+use crate::plane::BlockPlane;
+use crate::spot::Spot;
+use jk_math::Fault;
+use jk_scan::{inside, members, quiet_behind, seen_around, touched_places, word_place};
+
+/// A word in the significance propagation pass (T.800 D.3.1). A place that becomes significant takes in the later ones of its
+/// word that it touches.
+#[inline(never)]
+pub fn list_propagation(
+    block: &BlockPlane<'_>,
+    flags: &mut Flags,
+    spot: Spot,
+    list: &mut DecisionList,
+) -> Result<(), Fault>
+    requires spot { IsSpot block.now.shape spot }
+    requires flagged { IsFlagged block.now (moment_at block.now.shape 0 spot.word spot.stripe 0) flags.old }
+    ensures flagged { IfOk result (λ _. IsFlagged block.now (moment_at block.now.shape 0 spot.word spot.stripe 64) flags.new) }
+    ensures listed { IfOk result (λ _. list.new ≡ list.old ++ word_decisions block.now.shape (seen block.now) 0 spot.word spot.stripe) }
+    ensures memory { IfErr result IsMemory }
+{
+    let own = *block;
+    let limits = inside(own.shape, spot.word, spot.stripe);
+    let mut around = seen_around(&flags.significant, own.shape, spot.word, spot.stripe);
+    let mut candidates = members(around.own, around.left, around.right, limits);
+    while candidates != 0 {
+        let k = candidates.trailing_zeros();
+        candidates &= candidates - 1;
+        let bit = list_member(&own, flags, spot, k, around, list)?;
+        if bit {
+            around.own |= 1 << k;
+            candidates |= 0x382 << k & limits & !around.own;
+        }
+    }
+    Ok(())
+}
+
+/// The places of a word that were significant before this plane.
+#[inline(always)]
+fn older(block: &BlockPlane<'_>, flags: &Flags, spot: Spot) -> u64
+    requires { IsSpot block.now.shape spot }
+    ensures { (t : ℕ) → IsFlagged block.now t flags.now → (m : ℕ) → m < 64 → on result m ≡ (of_rows (m % 8)
+        && (lit_at block.now t (column spot.word m) (row spot.stripe m) && not (spread_at block.now t (column spot.word m) (row spot.stripe m)))) }
+{
+    let place = word_place(block.shape, spot.word + 1, spot.stripe + 1);
+    let significant = &flags.significant;
+    let visited = &flags.visited;
+    significant[place] & !visited[place]
+}
+
+/// A word in the magnitude refinement pass (T.800 D.3.3).
+#[inline(never)]
+pub fn list_refinement(
+    block: &BlockPlane<'_>,
+    flags: &Flags,
+    spot: Spot,
+    list: &mut DecisionList,
+) -> Result<(), Fault>
+    requires spot { IsSpot block.now.shape spot }
+    requires flagged { IsFlagged block.now (moment_at block.now.shape 1 spot.word spot.stripe 0) flags.now }
+    ensures flagged { IfOk result (λ _. IsFlagged block.now (moment_at block.now.shape 1 spot.word spot.stripe 64) flags.now) }
+    ensures listed { IfOk result (λ _. list.new ≡ list.old ++ word_decisions block.now.shape (seen block.now) 1 spot.word spot.stripe) }
+    ensures memory { IfErr result IsMemory }
+{
+    let own = *block;
+    let around = seen_around(&flags.significant, own.shape, spot.word, spot.stripe);
+    let touched = touched_places(around.own, around.left, around.right);
+    let mut candidates = older(&own, flags, spot);
+    while candidates != 0 {
+        let k = candidates.trailing_zeros();
+        candidates &= candidates - 1;
+        list_next(&own, spot, k, touched >> k & 1 == 1, list)?;
+    }
+    Ok(())
+}
+
+/// The places of a word that no pass has coded yet.
+#[inline(always)]
+fn uncoded(block: &BlockPlane<'_>, flags: &Flags, spot: Spot, limits: u64) -> u64
+    requires spot { IsSpot block.now.shape spot }
+    requires limits { Shows of_rows (bordered (is_inside block.now.shape)) (spot.word + 1) (spot.stripe + 1) limits }
+    ensures { (t : ℕ) → IsFlagged block.now t flags.now → (m : ℕ) → m < 64 → on result m ≡ (of_rows (m % 8)
+        && (is_inside block.now.shape (column spot.word m) (row spot.stripe m)
+        && (not (lit_at block.now t (column spot.word m) (row spot.stripe m)) && not (spread_at block.now t (column spot.word m) (row spot.stripe m))))) }
+{
+    let place = word_place(block.shape, spot.word + 1, spot.stripe + 1);
+    let significant = &flags.significant;
+    let visited = &flags.visited;
+    limits & !(significant[place] | visited[place])
+}
+
+/// A word in the cleanup pass (T.800 D.3.4): the places that are left, and columns in run mode.
+#[inline(never)]
+pub fn list_cleanup(
+    block: &BlockPlane<'_>,
+    flags: &mut Flags,
+    spot: Spot,
+    list: &mut DecisionList,
+) -> Result<(), Fault>
+    requires spot { IsSpot block.now.shape spot }
+    requires flagged { IsFlagged block.now (moment_at block.now.shape 2 spot.word spot.stripe 0) flags.old }
+    ensures flagged { IfOk result (λ _. IsFlagged block.now (moment_at block.now.shape 2 spot.word spot.stripe 64) flags.new) }
+    ensures listed { IfOk result (λ _. list.new ≡ list.old ++ word_decisions block.now.shape (seen block.now) 2 spot.word spot.stripe) }
+    ensures memory { IfErr result IsMemory }
+{
+    let own = *block;
+    let limits = inside(own.shape, spot.word, spot.stripe);
+    let mut around = seen_around(&flags.significant, own.shape, spot.word, spot.stripe);
+    let mut left = uncoded(&own, flags, spot, limits);
+    let mut still = still_columns(own.shape, spot, around, limits);
+    'places: while left | still != 0 {
+        let k = (left | still).trailing_zeros();
+        if still >> k & 1 == 1 {
+            let row = list_run(&own, flags, spot, k, around, list)?;
+            left &= 0xFFFF_FFFF_FFFF_FFFE << (k + row);
+            still &= still - 1;
+            if row < 4 {
+                around.own |= 1 << (k + row);
+                still = quiet_behind(still, k + row);
+            }
+        } else {
+            let bit = list_new(&own, flags, spot, k, around, list)?;
+            left &= left - 1;
+            if bit {
+                around.own |= 1 << k;
+                still = quiet_behind(still, k);
+            }
+        }
+    }
+    Ok(())
+}

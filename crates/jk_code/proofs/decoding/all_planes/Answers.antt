@@ -1,0 +1,90 @@
+use Rattle.std.proofs.Common.{◌≡◌, ◌<◌, length, ◌∙◌, ap, sym, subst, inl, inr, arith}
+use Rattle.std.proofs.lemmas.Bool.{cases_eq}
+use Rattle.std.proofs.lemmas.Result.{err_from_is_err_and}
+use Rattle.jk_math.specs.Raster.{places_of}
+use Rattle.jk_marks.specs.declared.siz.Siz.{Siz}
+use Rattle.jk_marks.specs.Siz.{tile_count}
+use Rattle.jk_walk.proofs.Laws.{packets_within}
+use Rattle.jk_tile.specs.TileReading.{each, tested, tile_planes_at}
+use Rattle.jk_tile.proofs.Laws.{each_none, each_more, each_fails, refuses_on, tested_ok, tested_err}
+use Rattle.jk_code.specs.MeaningReading.{places_at, planes_of_tiles}
+use Rattle.jk_code.specs.Tiles.{ShowsTileAt}
+use Rattle.jk_code.proofs.Placing.{tile_kept, planes_are, ends_of, tile_places, tile_due}
+use Rattle.jk_code.proofs.decoding.all_planes.Goals as goal
+
+pub loop-number-init : goal.loop-number-init
+loop-number-init c =
+    let h = c.args.headers.now in
+    let siz = ap (λ (s : Siz). s.components) c.siz.ensures in
+    record {
+      end_is = c.tile_count-number-end.ensures ∙ c.requires.sound.tiles;
+      tested = each_none _;
+      planes = record {
+        count = c.in_ok-planes.ensures.count ∙ siz;
+        each = λ i lt. c.in_ok-planes.ensures.each i (omega (arith, lt, siz)) ∙ ap places_of c.requires.area;
+      };
+      shows = λ t lt. absurd (omega (arith, lt));
+    }
+
+pub decode_tile-requires-clause-packets : goal.decode_tile-requires-clause-packets
+decode_tile-requires-clause-packets c =
+    let bytes = c.args.bytes.now in
+    let h = c.args.headers.now in
+    let t = c.loop-number.number in
+    let lt : t < tile_count h.siz = omega (arith, c.loop-number-test.true, c.loop-number.invariant.end_is) in
+    let places = c.index-packets-number.result in
+    let read = tile_places bytes h (tile_count h.siz) t c.args.packets.now places c.requires.packets lt c.index-packets-number.is in
+    ends_of (length bytes) _ places (packets_within bytes h t places c.requires.sound lt read)
+
+pub returns-in_err-shown-clause-exact : goal.returns-in_err-shown-clause-exact
+returns-in_err-shown-clause-exact c =
+    let bytes = c.args.bytes.now in
+    let h = c.args.headers.now in
+    let t = c.loop-number.number in
+    let e = c.in_err-shown.field-0.0 in
+    let lt : t < tile_count h.siz = omega (arith, c.loop-number-test.true, c.loop-number.invariant.end_is) in
+    let places = c.index-packets-number.result in
+    let read = tile_places bytes h (tile_count h.siz) t c.args.packets.now places c.requires.packets lt c.index-packets-number.is in
+    let q = err_from_is_err_and c.from_residual-in_err-shown.result c.from_residual-in_err-shown.ensures.1 in
+    rw (q.1, q.2) (refuses_on e (tile_planes_at bytes h t c.args.reduce places) _ c.in_err-shown.ensures.exact
+    (λ is. each_fails (tile_count h.siz) t (λ n. tested (tile_planes_at bytes h n c.args.reduce (places_at bytes h n))) e lt c.loop-number.invariant.tested
+    (tested_err (tile_planes_at bytes h t c.args.reduce (places_at bytes h t)) e (tile_due bytes h c.args.reduce t places read ∙ is))))
+
+pub put_tile-requires-clause-packets : goal.put_tile-requires-clause-packets
+put_tile-requires-clause-packets c =
+    let h = c.args.headers.now in
+    let lt : c.loop-number.number < tile_count h.siz = omega (arith, c.loop-number-test.true, c.loop-number.invariant.end_is) in
+    tile_places c.args.bytes.now h (tile_count h.siz) c.loop-number.number c.args.packets.now c.index-packets-number.result c.requires.packets lt c.index-packets-number.is
+
+pub loop-number-preserved : goal.loop-number-preserved
+loop-number-preserved c =
+    let bytes = c.args.bytes.now in
+    let h = c.args.headers.now in
+    let d = c.args.reduce in
+    let t = c.loop-number.number in
+    let lt : t < tile_count h.siz = omega (arith, c.loop-number-test.true, c.loop-number.invariant.end_is) in
+    let places = c.index-packets-number.result in
+    let read = tile_places bytes h (tile_count h.siz) t c.args.packets.now places c.requires.packets lt c.index-packets-number.is in
+    record {
+      end_is = c.loop-number.invariant.end_is;
+      tested = each_more t (λ n. tested (tile_planes_at bytes h n d (places_at bytes h n))) c.loop-number.invariant.tested (tested_ok (tile_planes_at bytes h t d (places_at bytes h t)) _ (tile_due bytes h d t places read ∙ c.in_ok-shown.ensures.exact));
+      planes = c.put_tile.ensures.planes;
+      shows = λ n less. elim (cases_eq n t) [
+        | inl same ↦ subst (λ k. ShowsTileAt bytes h d k h.siz.components c.put_tile.new.planes.items) (sym same) c.put_tile.ensures.shows
+        | inr other ↦
+            let few : n < tile_count h.siz = omega (arith, less, lt) in
+            tile_kept bytes h d n c.loop-number.planes.items c.put_tile.new.planes.items c.requires.sound.siz few c.put_tile.ensures.keeps (c.loop-number.invariant.shows n (omega (arith, less, other)))
+      ];
+    }
+
+pub returns-clause-planes : goal.returns-clause-planes
+returns-clause-planes c =
+    let h = c.args.headers.now in
+    planes_are c.args.bytes.now h c.args.reduce c.loop-number.planes.items c.requires.sound.siz c.loop-number.invariant.planes (λ t lt. c.loop-number.invariant.shows t (omega (arith, lt, c.loop-number-test.false, c.loop-number.invariant.end_is)))
+    ∙ ap (planes_of_tiles c.args.bytes.now h c.args.reduce) (sym c.requires.area)
+
+pub returns-clause-exact : goal.returns-clause-exact
+returns-clause-exact c =
+    let h = c.args.headers.now in
+    let all : c.loop-number.number ≡ tile_count h.siz = omega (arith, c.loop-number-test.false, c.loop-number.auto.number-end, c.loop-number.invariant.end_is) in
+    ap (λ n. each n (λ t. tested (tile_planes_at c.args.bytes.now h t c.args.reduce (places_at c.args.bytes.now h t)))) (sym all) ∙ c.loop-number.invariant.tested

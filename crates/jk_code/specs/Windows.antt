@@ -1,0 +1,27 @@
+-- Windows of pictures: what the file of a window means.
+use Rattle.std.specs.Prelude.{◌≡◌, ℕ, ◌+◌, ◌<◌, ◌≤◌, List, length, Ok}
+use Rattle.jk_math.specs.Picture.{Picture, sample_at}
+use Rattle.jk_window.specs.declared.view.View.{View}
+use Rattle.jk_window.specs.Indexing.{IndexFields, IsIndexOf}
+use Rattle.jk_window.specs.Cutting.{cut_file}
+use Rattle.jk_code.specs.Meaning.{Means}
+
+-- A picture q has the place, the size, the depth, the sign and the components of p, and its samples in the rectangle of a view.
+pub record IsSameOnWindow (v : View) (p q : Picture) : Type 0 where
+  pub left : q.x0 ≡ p.x0
+  pub upper : q.y0 ≡ p.y0
+  pub width : q.width ≡ p.width
+  pub height : q.height ≡ p.height
+  pub depth : q.depth ≡ p.depth
+  pub signed : q.signed ≡ p.signed
+  pub components : length q.planes ≡ length p.planes
+  -- by component, column and row, counted from the upper left sample
+  pub samples : (c x y : ℕ) → c < length p.planes → x < p.width → y < p.height → v.x ≤ x → x < v.x + v.width → v.y ≤ y → y < v.y + v.height → sample_at q c x y ≡ sample_at p c x y
+
+-- The reply means, at the view's reduction, a picture that is p on the window.
+abbrev pub IsWindowOf : View → Picture → List ℕ → Type 0
+IsWindowOf v p reply = (q : Picture) × Means reply v.reduce q × IsSameOnWindow v p q
+
+-- What the file of a window means, where the stored file means a picture at the reduction.
+abbrev pub IsWindowMeant : Type 0
+IsWindowMeant = (bytes : List ℕ) (i : IndexFields) (is : IsIndexOf bytes i) (v : View) (reply : List ℕ) → cut_file is v ≡ Ok reply → (p : Picture) → Means bytes v.reduce p → IsWindowOf v p reply

@@ -1,0 +1,39 @@
+//! Windows.
+
+ghost use Rattle.std.specs.Prelude.{◌≡◌, ◌⊎◌, IfOk, IfErr, Err};
+ghost use Rattle.jk_math.specs.Answer.{Answers};
+ghost use Rattle.jk_math.specs.Memory.{IsMemory};
+ghost use Rattle.jk_math.specs.Picture.{Picture};
+ghost use Rattle.jk_math.specs.declared.fault.Fault.TheVariants.{BadWindow, Changed};
+ghost use Rattle.jk_window.specs.Indexing.{IsIndexOf};
+ghost use Rattle.jk_window.specs.Cutting.{cut_file};
+ghost use Rattle.jk_code.specs.Meaning.{Means};
+ghost use Rattle.jk_code.specs.Windows.{IsWindowOf, IsWindowMeant};
+
+use jk_math::Fault;
+use jk_window::{Index, View, cut};
+use std::alloc::Global;
+
+/// Where a file means a picture at a reduction, the file of a window of it means one of the same place, size, depth, sign and
+/// number of components, with the same samples in the window.
+pub fn windows_show_the_picture()
+    ensures { IsWindowMeant }
+{}
+
+/// The file of the window of a view, as `jk_window::cut` makes it: the stored file, in which the packets that the window
+/// doesn't need are empty.
+///
+/// BadWindow: a tile-component has fewer decomposition levels than the reduction, or the reduced image or the window has
+/// no sample. Changed: the index isn't that of these bytes. If the index isn't and another answer is given, nothing is known
+/// of it.
+pub fn window(alloc: Global, bytes: &[u8], index: &Index, view: View) -> Result<Vec<u8>, Fault>
+    // With the index of these bytes it is the file of the window, or BadWindow.
+    ensures exact { (is : IsIndexOf bytes.now index.now) → Answers (λ v. v.items) result (cut_file is view) }
+    ensures faults { IfErr result (λ e. IsMemory e ⊎ (e ≡ BadWindow) ⊎ (e ≡ Changed)) }
+    // Changed is answered only where it isn't.
+    ensures changed { result ≡ Err Fault.Changed → IsIndexOf bytes.now index.now → ⊥ }
+    // What the bytes mean, the reply means on the window.
+    ensures means { IsIndexOf bytes.now index.now → (p : Picture) → Means bytes.now view.reduce p → IfOk result (λ v. IsWindowOf view p v.items) }
+{
+    cut(alloc, index, bytes, view)
+}

@@ -1,0 +1,46 @@
+use Rattle.std.proofs.Common.{◌≡◌, ◌∙◌, ap, sym, ◌-◌, List, ◌∷◌, [], ◌++◌, get_or, set, Bool, not, cond, ltb, Result, Ok, Err, IfOk, refl, arith}
+use Rattle.std.specs.Bool.{beq}
+use Rattle.std.proofs.lemmas.List.{get_or_default}
+use Rattle.jk_math.specs.declared.fault.Refused.{Refused}
+use Rattle.jk_model.specs.Contexts.{begins}
+use Rattle.jk_model.specs.Decisions.{Decision}
+use Rattle.jk_mqenc.specs.Coding.{part, renorm}
+use Rattle.jk_mqenc.specs.Encoded.{Codes, with_registers, lasting}
+use Rattle.jk_mqenc.proofs.Encoding.{held-of, wide-of, count-of, codes-step}
+use Rattle.jk_mqenc.proofs.encoder.step.Goals as goal
+use Rattle.jk_mqenc.proofs.encoder.step.Goals.{then-lower, else-lower}
+
+pub overflow_sub-upper : goal.overflow_sub-upper
+overflow_sub-upper c = let w = wide-of (lasting (with_registers c.args.coder.now c.args.registers) c.args.contexts.now) (λ _. c.requires.coded) refl in omega (arith, w, c.size-qe.ensures.largest)
+
+pub code-requires-clause-below : goal.code-requires-clause-below
+code-requires-clause-below c = let w = wide-of (lasting (with_registers c.args.coder.now c.args.registers) c.args.contexts.now) (λ _. c.requires.coded) refl in omega (arith, w, c.size-qe.ensures.largest)
+
+pub code-requires-clause-count : goal.code-requires-clause-count
+code-requires-clause-count c = count-of (lasting (with_registers c.args.coder.now c.args.registers) c.args.contexts.now) (λ _. c.requires.coded) refl
+
+pub code-requires-clause-holds : goal.code-requires-clause-holds
+code-requires-clause-holds c = held-of (lasting (with_registers c.args.coder.now c.args.registers) c.args.contexts.now) (λ _. c.requires.coded) refl
+
+if_ok_map : {X : Type 0} (r : Result X Refused) (P Q : X → Type 0) → ((x : X) → P x → Q x) → IfOk r P → IfOk r Q
+if_ok_map (Ok x) P Q f h = f x h
+if_ok_map (Err e) P Q f h = tt
+
+pub returns : goal.returns
+returns c = record {
+  codes =
+      let m = with_registers c.args.coder.now c.args.registers in
+      let cs = c.args.contexts.now in
+      let q = c.size-qe.result in
+      let lower = not (beq (not (beq c.args.bit c.mps.result)) (ltb (c.args.registers.width - q) q)) in
+      if_ok_map c.code.result (λ r. with_registers c.code.new.self r ≡ renorm 15 (part m q lower))
+      (λ r. (ds : List Decision) → Codes (lasting m cs) ds → Codes (lasting (with_registers c.code.new.self r) (set cs c.args.cx c.after.result)) (ds ++ (c.args.cx, c.args.bit) ∷ []))
+      (λ r done ds codes. codes-step (lasting m cs) (lasting (with_registers c.code.new.self r) (set cs c.args.cx c.after.result)) c.args.cx q c.if-lower.part c.args.bit c.mps.result (get_or cs c.args.cx c.index-contexts-cx.result) c.after.result ds
+      (get_or_default cs c.args.cx c.index-contexts-cx.result (begins 0) (omega arith)) c.mps.ensures c.size-qe.ensures.value
+      (elim c.if-lower.branch [
+        | then-lower w ↦ w.part-is ∙ sym (ap (λ (t : Bool). cond t q (c.args.registers.width - q)) w.if-lower.true)
+        | else-lower w ↦ w.part-is ∙ sym (ap (λ (t : Bool). cond t q (c.args.registers.width - q)) w.if-lower.false)
+      ])
+      c.after.ensures done refl refl codes)
+      c.code.ensures.done;
+}

@@ -1,0 +1,181 @@
+-- The contexts of what is seen around a place.
+use Rattle.std.proofs.Common.{◌≡◌, ℕ, ◌+◌, ◌-◌, ◌*◌, ◌/◌, ◌%◌, ◌^◌, ◌<◌, Bool, true, false, not, refl, sym, ap, ◌∙◌, arith}
+use Rattle.std.specs.Prelude.{◌&&◌, ◌||◌, nat_le}
+use Rattle.std.specs.Int.RustNames.{bit_or, bit_and}
+use Rattle.std.proofs.lemmas.Bool.Decides.{nat_tests}
+use Rattle.std.proofs.lemmas.Nat.{or_lt, and_le_r}
+use Rattle.jk_scan.specs.declared.shape.Kind.{Kind}
+use Rattle.jk_scan.specs.Bits.{on}
+use Rattle.jk_scan.specs.Contexts.{zero_context_of, contribution_of, sign_context_of}
+use Rattle.jk_scan.specs.Neighbours.{west, east, north, south, count, zero_at, sign_at}
+use Rattle.jk_scan.specs.Tables.{zero_context_by, sign_context_by}
+use Rattle.jk_scan.specs.Words.{Truths, bordered, IsWindow}
+use Rattle.jk_scan.proofs.BitLaws.{on_or, on_and, on_shr, on_mod, on_shr_at}
+
+-- what a window shows of the neighbours of the place (x, y)
+pub record AreSeen (f : Truths) (x y window : ℕ) : Type 0 where
+  pub left : on window 1 ≡ west f x y
+  pub right : on window 17 ≡ east f x y
+  pub above : on window 8 ≡ north f x y
+  pub below : on window 10 ≡ south f x y
+  pub left_above : on window 0 ≡ west (north f) x y
+  pub right_above : on window 16 ≡ east (north f) x y
+  pub left_below : on window 2 ≡ west (south f) x y
+  pub right_below : on window 18 ≡ east (south f) x y
+
+pub seen : (f : Truths) (x y X Y window : ℕ) → X ≡ x + 8 → Y ≡ y + 4 → IsWindow (bordered f) X Y window → AreSeen f x y window
+seen f x y X Y window ex ey h = record {
+  left = h 0 1 (omega arith) (omega arith) ∙ place c1 r0 d1 e0;
+  right = h 2 1 (omega arith) (omega arith) ∙ place c2 r0 d2 e0;
+  above = h 1 0 (omega arith) (omega arith) ∙ place c0 r1 d0 e1;
+  below = h 1 2 (omega arith) (omega arith) ∙ place c0 r2 d0 e2;
+  left_above = h 0 0 (omega arith) (omega arith) ∙ place c1 r1 d1 e1;
+  right_above = h 2 0 (omega arith) (omega arith) ∙ place c2 r1 d2 e1;
+  left_below = h 0 2 (omega arith) (omega arith) ∙ place c1 r2 d1 e2;
+  right_below = h 2 2 (omega arith) (omega arith) ∙ place c2 r2 d2 e2;
+}
+  where
+    place : {a a' b b' : Bool} {x x' y y' : ℕ} → a ≡ a' → b ≡ b' → x ≡ x' → y ≡ y' → (a && (b && f x y)) ≡ (a' && (b' && f x' y'))
+    place p q e g = cc
+
+    c0 : nat_le 8 (X + 1 - 1) ≡ true
+    c0 = grind (arith, nat_tests)
+
+    c1 : nat_le 8 (X + 0 - 1) ≡ nat_le 1 x
+    c1 = grind (arith, nat_tests)
+
+    c2 : nat_le 8 (X + 2 - 1) ≡ true
+    c2 = grind (arith, nat_tests)
+
+    r0 : nat_le 4 (Y + 1 - 1) ≡ true
+    r0 = grind (arith, nat_tests)
+
+    r1 : nat_le 4 (Y + 0 - 1) ≡ nat_le 1 y
+    r1 = grind (arith, nat_tests)
+
+    r2 : nat_le 4 (Y + 2 - 1) ≡ true
+    r2 = grind (arith, nat_tests)
+
+    d0 : X + 1 - 1 - 8 ≡ x
+    d0 = omega arith
+
+    d1 : X + 0 - 1 - 8 ≡ x - 1
+    d1 = omega arith
+
+    d2 : X + 2 - 1 - 8 ≡ x + 1
+    d2 = omega arith
+
+    e0 : Y + 1 - 1 - 4 ≡ y
+    e0 = omega arith
+
+    e1 : Y + 0 - 1 - 4 ≡ y - 1
+    e1 = omega arith
+
+    e2 : Y + 2 - 1 - 4 ≡ y + 1
+    e2 = omega arith
+
+pub zero_seen : (kind : Kind) (f : Truths) (x y window nine : ℕ) → AreSeen f x y window → ((a t : ℕ) → a < 3 → t < 3 → on nine (3 * a + t) ≡ on window (8 * a + t)) → zero_context_by kind nine ≡ zero_at kind f x y
+unfolding zero_context_by zero_at
+zero_seen kind f x y window nine w h =
+    same (h 0 1 (omega arith) (omega arith) ∙ w.left) (h 2 1 (omega arith) (omega arith) ∙ w.right) (h 1 0 (omega arith) (omega arith) ∙ w.above) (h 1 2 (omega arith) (omega arith) ∙ w.below)
+    (h 0 0 (omega arith) (omega arith) ∙ w.left_above) (h 2 0 (omega arith) (omega arith) ∙ w.right_above) (h 0 2 (omega arith) (omega arith) ∙ w.left_below) (h 2 2 (omega arith) (omega arith) ∙ w.right_below)
+  where
+    same : {a b d e g i j k a' b' d' e' g' i' j' k' : Bool} → a ≡ a' → b ≡ b' → d ≡ d' → e ≡ e' → g ≡ g' → i ≡ i' → j ≡ j' → k ≡ k'
+        → zero_context_of kind (count a b) (count d e) (count g i + count j k) ≡ zero_context_of kind (count a' b') (count d' e') (count g' i' + count j' k')
+    same p q r s t u v z = cc
+
+-- the four places beside a place, out of a window
+abbrev pub four_of : ℕ → ℕ
+four_of w = bit_or (bit_or (bit_or (bit_and (w / 2 ^ 1) 1) (bit_and (w / 2 ^ 7) 2)) (bit_and (w / 2 ^ 8) 4)) (bit_and (w / 2 ^ 14) 8)
+
+four_at : (w k : ℕ) → on (four_of w) k ≡ ((((on w (1 + k) && on 1 k) || (on w (7 + k) && on 2 k)) || (on w (8 + k) && on 4 k)) || (on w (14 + k) && on 8 k))
+four_at w k =
+    on_or (bit_or (bit_or (bit_and (w / 2 ^ 1) 1) (bit_and (w / 2 ^ 7) 2)) (bit_and (w / 2 ^ 8) 4)) (bit_and (w / 2 ^ 14) 8) k
+    ∙ same (on_or (bit_or (bit_and (w / 2 ^ 1) 1) (bit_and (w / 2 ^ 7) 2)) (bit_and (w / 2 ^ 8) 4) k
+    ∙ same (on_or (bit_and (w / 2 ^ 1) 1) (bit_and (w / 2 ^ 7) 2) k ∙ same (part 1 1) (part 7 2)) (part 8 4)) (part 14 8)
+  where
+    same : {a b a' b' : Bool} → a ≡ a' → b ≡ b' → (a || b) ≡ (a' || b')
+    same e g = cc
+
+    part : (s m : ℕ) → on (bit_and (w / 2 ^ s) m) k ≡ (on w (s + k) && on m k)
+    part s m = on_and (w / 2 ^ s) m k ∙ ap (λ b. b && on m k) (on_shr w s k)
+
+pub four_left : (w : ℕ) → on (four_of w) 0 ≡ on w 1
+unfolding on
+four_left w = four_at w 0 ∙ pick (on w 1) (on w 7) (on w 8) (on w 14)
+  where
+    pick : (a b d e : Bool) → ((((a && true) || (b && false)) || (d && false)) || (e && false)) ≡ a
+    pick a b d e = grind (arith, nat_tests)
+
+pub four_above : (w : ℕ) → on (four_of w) 1 ≡ on w 8
+unfolding on
+four_above w = four_at w 1 ∙ pick (on w 2) (on w 8) (on w 9) (on w 15)
+  where
+    pick : (a b d e : Bool) → ((((a && false) || (b && true)) || (d && false)) || (e && false)) ≡ b
+    pick a b d e = grind (arith, nat_tests)
+
+pub four_below : (w : ℕ) → on (four_of w) 2 ≡ on w 10
+unfolding on
+four_below w = four_at w 2 ∙ pick (on w 3) (on w 9) (on w 10) (on w 16)
+  where
+    pick : (a b d e : Bool) → ((((a && false) || (b && false)) || (d && true)) || (e && false)) ≡ d
+    pick a b d e = grind (arith, nat_tests)
+
+pub four_right : (w : ℕ) → on (four_of w) 3 ≡ on w 17
+unfolding on
+four_right w = four_at w 3 ∙ pick (on w 4) (on w 10) (on w 11) (on w 17)
+  where
+    pick : (a b d e : Bool) → ((((a && false) || (b && false)) || (d && false)) || (e && true)) ≡ e
+    pick a b d e = grind (arith, nat_tests)
+
+pub four_small : (w : ℕ) → four_of w < 16
+four_small w =
+    or_lt 4 (bit_or (bit_or (bit_and (w / 2 ^ 1) 1) (bit_and (w / 2 ^ 7) 2)) (bit_and (w / 2 ^ 8) 4)) (bit_and (w / 2 ^ 14) 8)
+    (or_lt 4 (bit_or (bit_and (w / 2 ^ 1) 1) (bit_and (w / 2 ^ 7) 2)) (bit_and (w / 2 ^ 8) 4)
+    (or_lt 4 (bit_and (w / 2 ^ 1) 1) (bit_and (w / 2 ^ 7) 2) (let e = and_le_r (w / 2 ^ 1) 1 in omega (arith, e)) (let e = and_le_r (w / 2 ^ 7) 2 in omega (arith, e)))
+    (let e = and_le_r (w / 2 ^ 8) 4 in omega (arith, e)))
+    (let e = and_le_r (w / 2 ^ 14) 8 in omega (arith, e))
+
+-- two such fours in one number
+low_part : (a b k : ℕ) → a < 16 → k < 4 → on (a + 16 * b) k ≡ on a k
+low_part a b k h l =
+    sym (on_mod (a + 16 * b) 4 k l) ∙ ap (λ n. on n k) (let e : (a + 16 * b) % 16 ≡ a = omega (arith, h) in e)
+
+high_part : (a b k j : ℕ) → a < 16 → j ≡ 4 + k → on (a + 16 * b) j ≡ on b k
+high_part a b k j h e = sym (on_shr_at (a + 16 * b) 4 j k e) ∙ ap (λ n. on n k) (let e : (a + 16 * b) / 16 ≡ b = omega (arith, h) in e)
+
+pub record AreFour (f : Truths) (x y four : ℕ) : Type 0 where
+  pub small : four < 16
+  pub left : on four 0 ≡ west f x y
+  pub above : on four 1 ≡ north f x y
+  pub below : on four 2 ≡ south f x y
+  pub right : on four 3 ≡ east f x y
+
+pub sign_seen : (f n : Truths) (x y a b : ℕ) → AreFour f x y a → AreFour n x y b → sign_context_by (a + 16 * b) ≡ sign_at f n x y
+unfolding sign_context_by sign_at
+sign_seen f n x y a b p m =
+    same (plus (nat_le 1 x) (f (x - 1) y) (n (x - 1) y) (low 0 (omega arith) ∙ p.left) (high 0 4 refl ∙ m.left))
+    (plus true (f (x + 1) y) (n (x + 1) y) (low 3 (omega arith) ∙ p.right) (high 3 7 refl ∙ m.right))
+    (minus (nat_le 1 x) (f (x - 1) y) (n (x - 1) y) (low 0 (omega arith) ∙ p.left) (high 0 4 refl ∙ m.left))
+    (minus true (f (x + 1) y) (n (x + 1) y) (low 3 (omega arith) ∙ p.right) (high 3 7 refl ∙ m.right))
+    (plus (nat_le 1 y) (f x (y - 1)) (n x (y - 1)) (low 1 (omega arith) ∙ p.above) (high 1 5 refl ∙ m.above))
+    (plus true (f x (y + 1)) (n x (y + 1)) (low 2 (omega arith) ∙ p.below) (high 2 6 refl ∙ m.below))
+    (minus (nat_le 1 y) (f x (y - 1)) (n x (y - 1)) (low 1 (omega arith) ∙ p.above) (high 1 5 refl ∙ m.above))
+    (minus true (f x (y + 1)) (n x (y + 1)) (low 2 (omega arith) ∙ p.below) (high 2 6 refl ∙ m.below))
+  where
+    low : (k : ℕ) → k < 4 → on (a + 16 * b) k ≡ on a k
+    low k l = low_part a b k p.small l
+
+    high : (k j : ℕ) → j ≡ 4 + k → on (a + 16 * b) j ≡ on b k
+    high k j e = high_part a b k j p.small e
+
+    plus : {s t : Bool} (g u v : Bool) → s ≡ (g && u) → t ≡ (g && v) → (s && not t) ≡ (g && (u && not v))
+    plus g u v e h = grind (arith, nat_tests)
+
+    minus : {s t : Bool} (g u v : Bool) → s ≡ (g && u) → t ≡ (g && v) → (s && t) ≡ (g && (u && v))
+    minus g u v e h = grind (arith, nat_tests)
+
+    same : {a b d e g i j k a' b' d' e' g' i' j' k' : Bool} → a ≡ a' → b ≡ b' → d ≡ d' → e ≡ e' → g ≡ g' → i ≡ i' → j ≡ j' → k ≡ k'
+        → sign_context_of (contribution_of (count a b) (count d e)) (contribution_of (count g i) (count j k))
+        ≡ sign_context_of (contribution_of (count a' b') (count d' e')) (contribution_of (count g' i') (count j' k'))
+    same p q r s t u v z = cc

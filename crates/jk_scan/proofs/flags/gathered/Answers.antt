@@ -1,0 +1,12 @@
+use Rattle.std.proofs.Common.{◌+◌, subst, sym, get_or, arith}
+use Rattle.jk_scan.specs.Words.{of_rows, bordered, Shows}
+use Rattle.jk_scan.proofs.flags.gathered.Goals as goal
+
+pub returns : goal.returns
+returns c f h =
+    let j = c.args.word in
+    let i = c.args.stripe in
+    c.gather.ensures (bordered f) j i
+    (subst (λ n. Shows of_rows (bordered f) j (i + 1) (get_or c.args.words.now n 0)) (sym c.word_place.ensures.place) (h j (i + 1) c.requires.word (omega arith)))
+    (subst (λ n. Shows of_rows (bordered f) j i (get_or c.args.words.now n 0)) (sym c.word_place-2.ensures.place) (h j i c.requires.word (omega arith)))
+    (subst (λ n. Shows of_rows (bordered f) j (i + 2) (get_or c.args.words.now n 0)) (sym c.word_place-3.ensures.place) (h j (i + 2) c.requires.word (omega arith)))

@@ -1,0 +1,10 @@
+-- What is seen around a word.
+use Rattle.std.specs.Prelude.{ℕ, ◌+◌}
+use Rattle.jk_scan.specs.declared.around.Around.{Around}
+use Rattle.jk_scan.specs.Words.{Truths, of_gathered, Shows}
+
+-- Three gathered words show a field in the word j of the stripe s and beside it. The field has its border.
+pub record IsAround (f : Truths) (j s : ℕ) (around : Around) : Type 0 where
+  pub own : Shows of_gathered f (j + 1) (s + 1) around.own
+  pub left : Shows of_gathered f j (s + 1) around.left
+  pub right : Shows of_gathered f (j + 2) (s + 1) around.right

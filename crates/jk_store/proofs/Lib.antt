@@ -1,0 +1,5 @@
+pub mod MemoryLaws
+pub mod EntryLaws
+pub mod Indexed
+pub mod AddLaws
+pub mod NameLaws

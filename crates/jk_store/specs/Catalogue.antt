@@ -1,0 +1,80 @@
+-- What the entries of an archive stand for.
+use Rattle.std.specs.Prelude.{◌≡◌, ℕ, ◌+◌, ◌≤◌, Bool, true, false, not, ◌&&◌, ◌||◌, cond, min, ◌⊎◌, List, [], ◌∷◌, length, Option, Some, None, Result, Ok, Err}
+use Rattle.std.specs.Str.{bytes_eq}
+use Rattle.std.specs.String.{string_bytes}
+use Rattle.jk_math.specs.declared.fault.Fault.{Fault}
+use Rattle.jk_math.specs.declared.fault.Fault.TheVariants.{Shelf, BadWindow}
+use Rattle.jk_math.specs.Picture.{Picture}
+use Rattle.sha2.specs.Sha256.{sha256}
+use Rattle.jk_window.specs.declared.view.View.{View}
+use Rattle.jk_window.specs.Indexing.{IndexFields, IsIndexOf, index_at}
+use Rattle.jk_window.specs.Cutting.{cut_file}
+use Rattle.jk_code.specs.Meaning.{Means}
+use Rattle.jk_code.specs.Windows.{IsWindowOf}
+use Rattle.jk_store.specs.Names.{is_good_name, file_name}
+use Rattle.jk_store.specs.Counting.{last_count}
+use Rattle.jk_store.specs.declared.entry.Entry.{Entry}
+
+-- whether an entry has that name
+abbrev pub is_listed : List Entry → List ℕ → Bool
+is_listed [] n = false
+is_listed (e ∷ entries) n = bytes_eq (string_bytes e.name) n || is_listed entries n
+
+-- Names are good, and none stands twice.
+abbrev pub are_named : List Entry → Bool
+are_named [] = true
+are_named (e ∷ entries) = is_good_name (string_bytes e.name) && not (is_listed entries (string_bytes e.name)) && are_named entries
+
+-- how many images an archive has at most
+abbrev pub most_entries : ℕ
+most_entries = 4096
+
+-- Entries of an archive.
+pub record AreEntries (entries : List Entry) : Type 0 where
+  pub named : are_named entries ≡ true
+  pub few : length entries ≤ most_entries
+
+-- an image's name and its file
+pub record Stored : Type 0 where
+  pub name : List ℕ
+  pub file : List ℕ
+
+abbrev pub stored : List ℕ → List ℕ → Stored
+stored name file = record { name = name; file = file }
+
+-- An entry was made of this file.
+pub record StandsFor (e : Entry) (s : Stored) : Type 0 where
+  pub name : string_bytes e.name ≡ s.name
+  pub digest : e.digest ≡ sha256 s.file
+  pub index : index_at s.file ≡ Ok e.index
+
+-- the entry of a name, if there is one
+abbrev pub entry_of : List Entry → List ℕ → Option Entry
+entry_of [] n = None
+entry_of (e ∷ entries) n = cond (bytes_eq (string_bytes e.name) n) (Some e) (entry_of entries n)
+
+-- The shelf gave a file under the name of the entry, and the file has its digest.
+abbrev pub IsFileOf : {S : Type 0} → (S → List ℕ → List ℕ → S → Type 0) → Entry → S → List ℕ → S → Type 0
+IsFileOf gave e old file new = gave old (file_name (string_bytes e.name)) file new × (sha256 file ≡ e.digest)
+
+-- The shelf gave a file under the name of the entry that has another digest.
+abbrev pub IsOtherFile : {S : Type 0} → (S → List ℕ → List ℕ → S → Type 0) → Entry → S → S → Type 0
+IsOtherFile gave e old new = (file : List ℕ) × gave old (file_name (string_bytes e.name)) file new × (sha256 file ≡ e.digest → ⊥)
+
+-- Bytes are the file of a window of a file, where the index is that of the file; and they mean what it means there.
+pub record IsCutFrom (i : IndexFields) (v : View) (file reply : List ℕ) : Type 0 where
+  pub cut : (is : IsIndexOf file i) → cut_file is v ≡ Ok reply
+  pub means : IsIndexOf file i → (p : Picture) → Means file v.reduce p → IsWindowOf v p reply
+
+-- The faults that a call may answer beside Shelf, and the count of failures before and after it.
+abbrev pub Passes : {A : Type 0} → (Fault → Type 0) → Result A Fault → ℕ → ℕ → Type 0
+Passes May (Ok _) before after = after ≡ before
+Passes May (Err e) before after = (May e × (after ≡ before)) ⊎ ((e ≡ Shelf) × (after ≡ min (before + 1) last_count))
+
+-- The shelf gave the file of the entry, and its window can't be made because of the view, if the index is that of the file.
+abbrev pub WasUncut : {S : Type 0} → (S → List ℕ → List ℕ → S → Type 0) → Entry → View → S → S → Type 0
+WasUncut gave e v old new = (file : List ℕ) × IsFileOf gave e old file new × ((is : IsIndexOf file e.index) → cut_file is v ≡ Err BadWindow)
+
+-- The shelf gave a file that has the digest of the entry, and of which the index isn't.
+abbrev pub WasForeign : {S : Type 0} → (S → List ℕ → List ℕ → S → Type 0) → Entry → S → S → Type 0
+WasForeign gave e old new = (file : List ℕ) × IsFileOf gave e old file new × (IsIndexOf file e.index → ⊥)

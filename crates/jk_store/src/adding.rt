@@ -1,0 +1,172 @@
+//! Adding an image to an archive.
+
+ghost use Rattle.std.specs.Prelude.{◌≡◌, ◌≤◌, ◌<◌, ◌⊎◌, ◌++◌, ◌∷◌, [], ℕ, List, true, false, map, length, Ok, Err, IfOk, IfErr, OnOk, OnErr};
+ghost use Rattle.std.specs.String.{string_bytes};
+ghost use Rattle.std.specs.Arc.{arc_value};
+ghost use Rattle.jk_math.specs.Answer.{Answers};
+ghost use Rattle.jk_math.specs.Memory.{IsMemory};
+ghost use Rattle.jk_math.specs.declared.fault.Fault.{Fault};
+ghost use Rattle.jk_math.specs.Picture.{Picture};
+ghost use Rattle.jk_window.specs.Indexing.{IndexFields, index_at};
+ghost use Rattle.jk_code.specs.Written.{written};
+ghost use Rattle.jk_store.specs.Files.{Files, with_file, without};
+ghost use Rattle.jk_store.specs.Names.{is_good_name, file_name, temporary_name};
+ghost use Rattle.jk_store.specs.Counting.{Counts};
+ghost use Rattle.jk_store.specs.Catalogue.{is_listed, most_entries, StandsFor, stored, Passes};
+ghost use Rattle.jk_store.specs.Adding.{judged};
+
+use crate::archive::Archive;
+use crate::entry::Entry;
+use crate::names;
+use crate::shelf::Shelf;
+use jk_code::encode;
+use jk_math::{Fault, Image};
+use jk_params::{Container, Parameters};
+use jk_window::index;
+use sha2::{Digest, Sha256};
+use std::alloc::Global;
+use std::sync::Arc;
+
+/// How many images an archive has at most.
+pub(crate) const MOST_ENTRIES: usize = 4096;
+
+/// What is at hand before a file is written.
+#[derive(Drop)]
+struct Prepared {
+    entry: Arc<Entry>,
+    bytes: Vec<u8>,
+    temporary: String,
+    file: String,
+}
+
+/// Whether an entry has a name.
+fn is_listed(entries: &[Arc<Entry>], name: &str) -> bool
+    ensures { result ≡ is_listed (map arc_value entries.now) name.now }
+{
+    for entry in entries {
+        if entry.name.as_str() == name {
+            return true;
+        }
+    }
+    false
+}
+
+/// Whether an image may be added.
+///
+/// The first of these: BadName; NameTaken; Limit where there are 4,096 images; BadParameters, also for a bare codestream.
+#[tactic(auto, unfolding(crate::specs::Adding::judged))]
+fn judge(
+    entries: &[Arc<Entry>],
+    name: &str,
+    image: &Image,
+    parameters: &Parameters,
+) -> Result<(), Fault>
+    ensures exact { result ≡ judged (map arc_value entries.now) name.now image.now parameters.now }
+    ensures named { OnOk result (is_good_name name.now ≡ true) }
+    ensures fresh { OnOk result (is_listed (map arc_value entries.now) name.now ≡ false) }
+    ensures room { OnOk result (length entries.now < most_entries) }
+{
+    if !names::is_good_name(name) {
+        return Err(Fault::BadName);
+    }
+    if is_listed(entries, name) {
+        return Err(Fault::NameTaken);
+    }
+    if MOST_ENTRIES <= entries.len() {
+        return Err(Fault::Limit);
+    }
+    parameters.check(image)?;
+    match parameters.container {
+        Container::Raw => Err(Fault::BadParameters),
+        Container::Jp2 => Ok(()),
+    }
+}
+
+/// The entry of a file.
+#[tactic(auto, using(crate::proofs::Indexed::only_memory))]
+fn entry_of(alloc: Global, name: &str, bytes: &[u8]) -> Result<Entry, Fault>
+    requires { (i : IndexFields) × (index_at bytes.now ≡ Ok i) }
+    ensures ok { IfOk result (λ e. StandsFor e (stored name.now bytes.now)) }
+    ensures err { IfErr result IsMemory }
+{
+    let index = index(alloc, bytes)?;
+    Ok(Entry {
+        name: String::from_str(alloc, name)?,
+        digest: Sha256::digest(bytes),
+        index,
+    })
+}
+
+/// The file of an image, its names and its entry.
+///
+/// Limit: a tile-part would be too long.
+fn prepare(
+    alloc: Global,
+    name: &str,
+    image: &Image,
+    parameters: &Parameters,
+) -> Result<Prepared, Fault>
+    ensures written { IfOk result (λ p. written image.now parameters.now ≡ Ok p.bytes.items) }
+    ensures stands { IfOk result (λ p. StandsFor (arc_value p.entry) (stored name.now p.bytes.items)) }
+    ensures temporary { IfOk result (λ p. string_bytes p.temporary ≡ temporary_name name.now) }
+    ensures file { IfOk result (λ p. string_bytes p.file ≡ file_name name.now) }
+    ensures err { IfErr result (λ e. IsMemory e ⊎ (written image.now parameters.now ≡ Err e)) }
+{
+    let bytes = encode(alloc, image, parameters)?;
+    let entry = Arc::new(alloc, entry_of(alloc, name, &bytes)?)?;
+    let temporary = names::temporary_name(alloc, name)?;
+    let file = names::file_name(alloc, name)?;
+    Ok(Prepared {
+        entry,
+        bytes,
+        temporary,
+        file,
+    })
+}
+
+/// Writes a file under its temporary name, and then gives it its own.
+fn store<S: Shelf>(alloc: Global, shelf: &mut S, made: &Prepared) -> Result<(), Fault>
+    ensures ok { (files : Files) → S.keeps shelf.old files
+        → OnOk result (S.keeps shelf.new (with_file (string_bytes made.now.file) made.now.bytes.items (without (string_bytes made.now.temporary) files))) }
+    ensures counts { Counts result (S.failed shelf.old) (S.failed shelf.new) }
+{
+    shelf.write(alloc, made.temporary.as_str(), &made.bytes)?;
+    shelf.rename(alloc, made.temporary.as_str(), made.file.as_str())
+}
+
+impl<S: Shelf> Archive<S> {
+    /// Adds an image: its JP2 file is written to the shelf, and then it is listed.
+    ///
+    /// The first of these: BadName; NameTaken; Limit where 4,096 images are listed; BadParameters, also for a bare codestream;
+    /// Limit for a tile-part that is too long; Shelf. After a refusal the list is as before, and the temporary file may stand.
+    pub fn add(
+        &mut self,
+        alloc: Global,
+        name: &str,
+        image: &Image,
+        parameters: &Parameters,
+    ) -> Result<Arc<Entry>, Fault>
+        ensures judged { (e : Fault) → judged (map arc_value self.old.entries.items) name.now image.now parameters.now ≡ Err e
+            → (result ≡ Err e) × (self.new.shelf ≡ self.old.shelf) }
+        ensures allowed { OnOk result (judged (map arc_value self.old.entries.items) name.now image.now parameters.now ≡ Ok tt) }
+        // The list grows by one entry, which stands for the file of the image.
+        ensures listed { IfOk result (λ e. map arc_value self.new.entries.items ≡ map arc_value self.old.entries.items ++ arc_value e ∷ []) }
+        ensures stands { IfOk result (λ e. (file : List ℕ) × (written image.now parameters.now ≡ Ok file)
+            × StandsFor (arc_value e) (stored name.now file)) }
+        // The shelf keeps the file, and what it kept.
+        ensures holds { (files : Files) (file : List ℕ) → S.keeps self.old.shelf files → written image.now parameters.now ≡ Ok file
+            → OnOk result (S.keeps self.new.shelf (with_file (file_name name.now) file (without (temporary_name name.now) files))) }
+        ensures err { OnErr result (self.new.entries.items ≡ self.old.entries.items) }
+        ensures skipped { self.new.skipped ≡ self.old.skipped }
+        ensures counts { Passes (λ e. IsMemory e ⊎ (judged (map arc_value self.old.entries.items) name.now image.now parameters.now ≡ Err e) ⊎ (written image.now parameters.now ≡ Err e))
+            result (S.failed self.old.shelf) (S.failed self.new.shelf) }
+    {
+        judge(&self.entries, name, image, parameters)?;
+        let made = prepare(alloc, name, image, parameters)?;
+        let listed = Arc::try_clone(&made.entry)?;
+        self.entries.reserve(1)?;
+        store(alloc, &mut self.shelf, &made)?;
+        self.entries.push_reserved(listed);
+        Ok(made.entry)
+    }
+}

@@ -1,0 +1,83 @@
+//! Entries of an archive.
+
+ghost use Rattle.std.specs.Prelude.{◌≡◌, ◌⊎◌, ℕ, List, Some, Ok, Err, IfOk, IfErr, OnOk, true, false};
+ghost use Rattle.std.specs.String.{string_bytes};
+ghost use Rattle.sha2.specs.Sha256.{sha256};
+ghost use Rattle.jk_math.specs.Memory.{IsMemory};
+ghost use Rattle.jk_math.specs.declared.fault.Fault.TheVariants.{BadWindow, Changed};
+ghost use Rattle.jk_window.specs.Views.{HasWindow};
+ghost use Rattle.jk_store.specs.Files.{Files};
+ghost use Rattle.jk_store.specs.Names.{file_name};
+ghost use Rattle.jk_store.specs.Catalogue.{IsFileOf, IsOtherFile, IsCutFrom, WasUncut, WasForeign, Passes};
+
+use crate::names;
+use crate::shelf::Shelf;
+use jk_math::Fault;
+use jk_window::{Index, View};
+use sha2::{Digest, Sha256};
+use std::alloc::Global;
+
+/// An image of an archive: its name, and the SHA-256 and the index of its file.
+#[derive(Drop)]
+pub struct Entry {
+    pub name: String,
+    pub digest: [u8; 32],
+    pub index: Index,
+}
+
+/// Whether bytes have a digest.
+fn has_digest(bytes: &[u8], digest: &[u8; 32]) -> bool
+    ensures yes { result ≡ true → sha256 bytes.now ≡ digest.now }
+    ensures no { result ≡ false → sha256 bytes.now ≡ digest.now → ⊥ }
+{
+    Sha256::digest(bytes).as_slice() == digest.as_slice()
+}
+
+impl Entry {
+    /// The file of the image.
+    ///
+    /// Changed: the shelf gave a file with another digest.
+    pub fn whole<S: Shelf>(&self, alloc: Global, shelf: &mut S) -> Result<Vec<u8>, Fault>
+        ensures given { IfOk result (λ f. IsFileOf S.gave self.now shelf.old f.items shelf.new) }
+        // A file that the shelf keeps under the name is what is given.
+        ensures same { (files : Files) (b : List ℕ) → S.keeps shelf.old files → files (file_name (string_bytes self.now.name)) ≡ Some b
+            → IfOk result (λ f. f.items ≡ b) }
+        ensures changed { result ≡ Err Fault.Changed → IsOtherFile S.gave self.now shelf.old shelf.new }
+        ensures kept { (files : Files) → S.keeps shelf.old files → S.keeps shelf.new files }
+        ensures counts { Passes (λ e. IsMemory e ⊎ (e ≡ Changed)) result (S.failed shelf.old) (S.failed shelf.new) }
+    {
+        let name = names::file_name(alloc, self.name.as_str())?;
+        let file = shelf.read(alloc, name.as_str())?;
+        if !has_digest(&file, &self.digest) {
+            return Err(Fault::Changed);
+        }
+        Ok(file)
+    }
+
+    /// The file of a window of the image, as `jk_code::window` makes it.
+    ///
+    /// BadWindow: the view has no window, which is judged before the shelf is read. Changed: as `whole`, and where the index
+    /// isn't that of the file.
+    pub fn window<S: Shelf>(
+        &self,
+        alloc: Global,
+        shelf: &mut S,
+        view: View,
+    ) -> Result<Vec<u8>, Fault>
+        ensures given { IfOk result (λ w. (f : List ℕ) × IsFileOf S.gave self.now shelf.old f shelf.new × IsCutFrom self.now.index view f w.items) }
+        ensures seen { OnOk result (HasWindow self.now.index.headers view) }
+        // Where the view has no window, that is the answer, and the shelf isn't read.
+        ensures unseen { (HasWindow self.now.index.headers view → ⊥) → (result ≡ Err Fault.BadWindow) × (shelf.new ≡ shelf.old) }
+        // No other BadWindow is answered for a file of which the index is.
+        ensures bad { result ≡ Err Fault.BadWindow → HasWindow self.now.index.headers view
+            → WasUncut S.gave self.now view shelf.old shelf.new }
+        ensures changed { result ≡ Err Fault.Changed → IsOtherFile S.gave self.now shelf.old shelf.new
+            ⊎ WasForeign S.gave self.now shelf.old shelf.new }
+        ensures kept { (files : Files) → S.keeps shelf.old files → S.keeps shelf.new files }
+        ensures counts { Passes (λ e. IsMemory e ⊎ (e ≡ BadWindow) ⊎ (e ≡ Changed)) result (S.failed shelf.old) (S.failed shelf.new) }
+    {
+        self.index.sees(view)?;
+        let file = self.whole(alloc, shelf)?;
+        jk_code::window(alloc, &file, &self.index, view)
+    }
+}

@@ -1,0 +1,60 @@
+//! What an archive stands on.
+
+ghost use Rattle.std.specs.Prelude.{◌≡◌, ℕ, List, map, Some, IfOk, IfErr, OnOk};
+ghost use Rattle.std.specs.String.{string_bytes};
+ghost use Rattle.jk_math.specs.Memory.{IsMemory};
+ghost use Rattle.jk_store.specs.Files.{Files, with_file, without};
+ghost use Rattle.jk_store.specs.Counting.{Counts};
+
+use jk_math::Fault;
+use std::alloc::Global;
+
+/// Files under names. Each call may answer Memory, or Shelf where it failed.
+///
+/// Each answer Shelf counts one failure. At 2^64 - 1 the count stays, and every later call is Shelf.
+pub trait Shelf {
+    /// It holds these files under these names, and will give them.
+    ghost keeps: { Self → Files → Type 0 };
+
+    /// From the first state a read of that name may give these bytes and leave the second.
+    ghost gave: { Self → List ℕ → List ℕ → Self → Type 0 };
+
+    /// From the first state a listing may give these names and leave the second.
+    ghost lists: { Self → List (List ℕ) → Self → Type 0 };
+
+    /// How many failures were counted.
+    ghost failed: { Self → ℕ };
+
+    /// The names of all files.
+    fn list(&mut self, alloc: Global) -> Result<Vec<String>, Fault>
+        ensures given { IfOk result (λ v. lists self.old (map string_bytes v.items) self.new) }
+        ensures kept { (files : Files) → keeps self.old files → keeps self.new files }
+        ensures counts { Counts result (failed self.old) (failed self.new) };
+
+    /// The bytes of a file.
+    fn read(&mut self, alloc: Global, name: &str) -> Result<Vec<u8>, Fault>
+        ensures given { IfOk result (λ v. gave self.old name.now v.items self.new) }
+        ensures kept { (files : Files) → keeps self.old files → keeps self.new files }
+        // A file that it keeps is what it gives.
+        ensures same { (files : Files) (b : List ℕ) → keeps self.old files → files name.now ≡ Some b
+            → IfOk result (λ v. v.items ≡ b) }
+        ensures counts { Counts result (failed self.old) (failed self.new) };
+
+    /// Creates a file, or replaces it. After a refusal the file may be there in part.
+    fn write(&mut self, alloc: Global, name: &str, bytes: &[u8]) -> Result<(), Fault>
+        ensures ok { (files : Files) → keeps self.old files → OnOk result (keeps self.new (with_file name.now bytes.now files)) }
+        ensures others { (files : Files) → keeps self.old files → keeps self.new (without name.now files) }
+        ensures counts { Counts result (failed self.old) (failed self.new) };
+
+    /// Gives a file another name, and replaces what had it. After Memory nothing was renamed.
+    fn rename(&mut self, alloc: Global, from: &str, to: &str) -> Result<(), Fault>
+        ensures ok { (files : Files) (b : List ℕ) → keeps self.old files → files from.now ≡ Some b
+            → OnOk result (keeps self.new (with_file to.now b (without from.now files))) }
+        ensures others { (files : Files) → keeps self.old files → keeps self.new (without from.now (without to.now files)) }
+        ensures memory { (files : Files) → keeps self.old files → IfErr result (λ e. IsMemory e → keeps self.new files) }
+        ensures counts { Counts result (failed self.old) (failed self.new) };
+
+    /// How many failures were counted.
+    fn failures(&self) -> u64
+        ensures { result ≡ failed self.now };
+}

@@ -1,0 +1,18 @@
+-- What proofs of other crates may cite of this crate's proofs.
+pub use Rattle.jk_tile.proofs.TileLaws.{tile_found, tile_only}
+pub use Rattle.jk_tile.proofs.TileLaws.{IsDecoded, tile_tested}
+pub use Rattle.jk_tile.proofs.Steps.{fine, each_none, each_more, each_fails, each_found, each_only, refuses_on, tested_then, tested_ok, tested_err, bind_ok, bind_err}
+pub use Rattle.jk_tile.proofs.Showing.{IsPut, Agrees, put_keeps, put_shows, has_within, within_has, put_here, put_there, vector_items, with_same}
+pub use Rattle.jk_tile.proofs.Colours.{rasters}
+pub use Rattle.jk_tile.proofs.PacketsTold.{HaveTables, names_of, of_layers, bodies_same, tile_is}
+pub use Rattle.jk_tile.proofs.LayerTables.{table_fits, table_has_bytes, table_has_passes}
+pub use Rattle.jk_tile.proofs.BlocksMeant.{precinct_bodies, block_meant}
+pub use Rattle.jk_tile.proofs.TileAreas.{tile_is_area}
+pub use Rattle.jk_tile.proofs.WrittenTile.{IsSmall, exponents_long, exponents_small, planes_have, are_written}
+pub use Rattle.jk_tile.proofs.WrittenTile.{coding_is, tables_same, block_room, table_for, precinct_fits, tables_have}
+pub use Rattle.jk_tile.proofs.SamplesMeant.{written_decodes}
+pub use Rattle.jk_tile.proofs.TileIndex.{tile_at, index_below, index_apart}
+pub use Rattle.jk_tile.proofs.TileLaws.{bodies_are, pixel_same}
+pub use Rattle.jk_tile.proofs.Components.{levels_read, shown_is}
+pub use Rattle.jk_tile.proofs.AllBands.{numbered_low, numbered_high}
+pub use Rattle.jk_tile.proofs.LocalTiles.{IsMeant, meant_at, none_meant, gathered, place_agrees}

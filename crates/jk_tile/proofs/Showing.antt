@@ -1,0 +1,236 @@
+-- A code-block put into the list of its sub-band.
+use Rattle.std.proofs.Common.{◌≡◌, ℕ, ◌*◌, ◌<◌, ◌≤◌, Bool, true, false, ◌&&◌, leb, ltb, if◌then◌else◌, List, [], ◌∷◌, ◌++◌, take, drop, length, map, get_or, set, All, Ok, Err, ℤ, refl, sym, ap, subst, ◌∙◌, inl, inr, arith}
+use Rattle.std.specs.List.{AllByRecursion}
+use Rattle.std.specs.Global.{Vec}
+use Rattle.std.specs.Vec.{with_items}
+use Rattle.std.proofs.lemmas.List.{get_or-map, map-set, get_or-set_same, get_or-set_other, length-set, length-map, ext_get_or}
+use Rattle.std.proofs.lemmas.List.FromFn.{length-map-range_with_len, get_or-map-range_with_len}
+use Rattle.std.proofs.lemmas.Bool.{cases_eq, and_parts, leb-true, ltb-true, le-leb, lt-ltb}
+use Rattle.jk_math.specs.declared.rect.Rect.{Rect}
+use Rattle.jk_math.specs.Raster.{plane_at, raster}
+use Rattle.jk_math.specs.Picture.{lists_of}
+use Rattle.jk_math.proofs.Laws.{raster_is}
+use Rattle.jk_geom.specs.Precincts.{precinct_number, precincts_across, precincts_down}
+use Rattle.jk_marks.specs.declared.coding.Coding.{Coding}
+use Rattle.jk_geom.specs.declared.bands.Orientation.{Orientation}
+use Rattle.jk_geom.specs.declared.grid.BlockGrid.{BlockGrid}
+use Rattle.jk_geom.specs.Rectangles.{IsWithin, band_area}
+use Rattle.jk_geom.specs.Blocks.{block_area, block_grid}
+use Rattle.jk_geom.specs.Partitions.{block_number, precinct_of}
+use Rattle.jk_scan.specs.declared.shape.Kind.{Kind}
+use Rattle.jk_scan.specs.declared.shape.BlockShape.{BlockShape}
+use Rattle.jk_walk.specs.declared.places.PacketPlace.{PacketPlace}
+use Rattle.jk_walk.specs.TilePackets.{Body, orientations, band_number, planes_of}
+use Rattle.jk_walk.specs.WalkReading.{place_end}
+use Rattle.jk_tile.specs.TileBlocks.{orientation_at, grid_at, block_at_place, kind_of, shape_of_area, block_bodies}
+use Rattle.jk_tile.specs.TileReading.{each, precinct_tested, resolution_tested, bodies_of, bodies_values, block_values, values_or, block_with}
+use Rattle.jk_tile.specs.declared.bodies.BodyPlace.{BodyPlace}
+use Rattle.jk_tile.specs.Gathered.{place_in, list_at, AreNumbers, AreByPrecinct, AreByBlock, bodies_in, body_of, IsInside}
+use Rattle.jk_tile.specs.Filling.{has, IsPartOf}
+use Rattle.jk_tile.specs.Source.{Source, IsSource, IsBandPart, IsBlockShape, source_bodies, source_coefficient, source_area, IsPlane, ArePlanes, Keeps, ShowsBlocks, ShowsPrecinct, block_count, band_lists, resolution_at}
+use Rattle.jk_math.specs.declared.fault.Fault.{Fault}
+use Rattle.jk_tile.proofs.Steps.{fine, bind_ok, bind_err, resolution_by}
+use Rattle.jk_tile.proofs.Places.{block_is_shape, block_is_part, block_found, coefficient_is}
+
+-- a place that a rectangle has
+pub has_within : (a : Rect) (x y : ℕ) → has a x y ≡ true → IsWithin a x y
+has_within a x y e =
+    let both = and_parts (leb a.x0 x && ltb x a.x1) (leb a.y0 y && ltb y a.y1) e in
+    let across = and_parts (leb a.x0 x) (ltb x a.x1) both.0 in
+    let down = and_parts (leb a.y0 y) (ltb y a.y1) both.1 in
+    record { left = leb-true _ _ across.0; right = ltb-true _ _ across.1; upper = leb-true _ _ down.0; lower = ltb-true _ _ down.1 }
+
+pub within_has : (a : Rect) (x y : ℕ) → IsWithin a x y → has a x y ≡ true
+within_has a x y h =
+    ap (λ b. (b && ltb x a.x1) && (leb a.y0 y && ltb y a.y1)) (le-leb _ _ h.left) ∙ ap (λ b. b && (leb a.y0 y && ltb y a.y1)) (lt-ltb _ _ h.right)
+    ∙ ap (λ b. b && ltb y a.y1) (le-leb _ _ h.upper) ∙ lt-ltb _ _ h.lower
+
+-- What a part is put into shows what it did, and what the part has.
+abbrev pub IsPut : Rect → Rect → (old new values : List ℤ) → Type 0
+IsPut area place old new values = (x y : ℕ) → IsWithin area x y → plane_at area new x y ≡ (if has place x y then plane_at place values x y else plane_at area old x y)
+
+abbrev pub Agrees : Rect → List ℤ → (ℕ → ℕ → ℤ) → Type 0
+Agrees place values f = (x y : ℕ) → IsWithin place x y → plane_at place values x y ≡ f x y
+
+pub put_keeps : (area place : Rect) (old new values : List ℤ) (f : ℕ → ℕ → ℤ) → IsPut area place old new values → Agrees place values f
+    → (x y : ℕ) → IsWithin area x y → plane_at area old x y ≡ f x y → plane_at area new x y ≡ f x y
+put_keeps area place old new values f put agrees x y h before = go (has place x y) refl
+  where
+    go : (b : Bool) → has place x y ≡ b → plane_at area new x y ≡ f x y
+    go true e = put x y h ∙ ap (λ (b : Bool). if b then plane_at place values x y else plane_at area old x y) e ∙ agrees x y (has_within place x y e)
+    go false e = put x y h ∙ ap (λ (b : Bool). if b then plane_at place values x y else plane_at area old x y) e ∙ before
+
+pub put_shows : (area place : Rect) (old new values : List ℤ) (f : ℕ → ℕ → ℤ) → IsPut area place old new values → Agrees place values f → IsPartOf place area
+    → (x y : ℕ) → IsWithin place x y → plane_at area new x y ≡ f x y
+put_shows area place old new values f put agrees part x y h =
+    let hl = h.left in let hr = h.right in let hu = h.upper in let hd = h.lower in
+    let inside : IsWithin area x y = record { left = omega (arith, hl, part.left); right = omega (arith, hr, part.right); upper = omega (arith, hu, part.upper); lower = omega (arith, hd, part.lower) } in
+    put x y inside ∙ ap (λ (b : Bool). if b then plane_at place values x y else plane_at area old x y) (within_has place x y h) ∙ agrees x y h
+
+-- the rectangle of the sub-band
+pub area_is : (s : Source) (r i : ℕ) (rect area : Rect) (coding : Coding) (o : Orientation) → rect ≡ s.rect → coding ≡ s.coding → o ≡ orientation_at r i → area ≡ band_area rect coding.levels r o → area ≡ source_area s r i
+area_is s r i rect area coding o er ec eo e =
+    e ∙ ap (λ (x : Rect). band_area x coding.levels r o) er ∙ ap (λ (k : Coding). band_area s.rect k.levels r o) ec ∙ ap (band_area s.rect s.coding.levels r) eo
+
+-- the place of the code-block
+pub place_is : (s : Source) (r n i j : ℕ) (grid : BlockGrid) (place : Rect) → grid ≡ grid_at s.rect s.coding r n i → place ≡ block_area grid j → place ≡ block_at_place s.rect s.coding r n i j
+place_is s r n i j grid place eg e = e ∙ ap (λ (g : BlockGrid). block_area g j) eg
+
+pub few_is : (s : Source) (r n i j : ℕ) (grid : BlockGrid) → grid ≡ grid_at s.rect s.coding r n i → j < block_number grid → j < block_number (grid_at s.rect s.coding r n i)
+few_is s r n i j grid e lt = subst (λ (g : BlockGrid). j < block_number g) e lt
+
+-- its shape
+pub shape_is : (s : Source) (r n i j : ℕ) (place : Rect) (o : Orientation) (kind : Kind) (shape : BlockShape) → IsSource s → place ≡ block_at_place s.rect s.coding r n i j → o ≡ orientation_at r i
+    → kind ≡ kind_of o → shape ≡ shape_of_area place kind → j < block_number (grid_at s.rect s.coding r n i) → IsBlockShape shape
+shape_is s r n i j place o kind shape is ep eo ek e lt =
+    let same : shape ≡ shape_of_area (block_at_place s.rect s.coding r n i j) (kind_of (orientation_at r i)) =
+    e ∙ ap (λ (p : Rect). shape_of_area p kind) ep ∙ ap (λ (k : Kind). shape_of_area (block_at_place s.rect s.coding r n i j) k) (ek ∙ ap kind_of eo) in
+    subst IsBlockShape (sym same) (block_is_shape s.rect s.coding r n i j is.coding lt)
+
+-- what is due
+pub due_is : (s : Source) (r n i j planes : ℕ) (place : Rect) (o : Orientation) (kind : Kind) (shape : BlockShape) (bodies : List Body) → place ≡ block_at_place s.rect s.coding r n i j → o ≡ orientation_at r i
+    → kind ≡ kind_of o → shape ≡ shape_of_area place kind → planes ≡ planes_of s.coding (band_number r i) → bodies ≡ block_bodies i j (source_bodies s r n)
+    → bodies_values shape planes bodies ≡ block_values s.rect s.coding r n i j (source_bodies s r n)
+due_is s r n i j planes place o kind shape bodies ep eo ek e en eb =
+    let same : shape ≡ shape_of_area (block_at_place s.rect s.coding r n i j) (kind_of (orientation_at r i)) =
+    e ∙ ap (λ (p : Rect). shape_of_area p kind) ep ∙ ap (λ (k : Kind). shape_of_area (block_at_place s.rect s.coding r n i j) k) (ek ∙ ap kind_of eo) in
+    ap (λ (x : BlockShape). bodies_values x planes bodies) same ∙ ap (λ m. bodies_values (shape_of_area (block_at_place s.rect s.coding r n i j) (kind_of (orientation_at r i))) m bodies) en
+    ∙ ap (bodies_values (shape_of_area (block_at_place s.rect s.coding r n i j) (kind_of (orientation_at r i))) (planes_of s.coding (band_number r i))) eb
+
+-- values that are due are the coefficients
+pub values_agree : (s : Source) (r n i j : ℕ) (place : Rect) (values : List ℤ) → IsSource s → IsBandPart s (record { resolution = r; precinct = n; band = i }) → j < block_number (grid_at s.rect s.coding r n i)
+    → place ≡ block_at_place s.rect s.coding r n i j → block_values s.rect s.coding r n i j (source_bodies s r n) ≡ Ok values → Agrees place values (source_coefficient s (band_number r i))
+values_agree s r n i j place values is part lt ep due x y h =
+    let at = block_at_place s.rect s.coding r n i j in
+    let there : IsWithin at x y = subst (λ (p : Rect). IsWithin p x y) ep h in
+    ap (λ (p : Rect). plane_at p values x y) ep ∙ sym (ap (λ d. plane_at at (values_or d) x y) due)
+    ∙ sym (coefficient_is s.rect s.coding (source_bodies s) r n i j x y is.coding part.resolution part.band part.precinct lt there)
+
+-- the packets end where the codestream does
+pub ends_fit : (size bound : ℕ) (places : List PacketPlace) → size < bound → AllByRecursion (λ w. place_end w ≤ size) places → AllByRecursion (λ w. place_end w < bound) places
+ends_fit size bound [] lt h = tt
+ends_fit size bound (w ∷ places) lt h = (omega (arith, h.0, lt), ends_fit size bound places lt h.1)
+
+-- the bodies of a precinct, by the numbers of its packets
+pub numbered_bodies : (s : Source) (r n : ℕ) (numbers : List ℕ) → AreNumbers s.packets s.packets s.component r n numbers → bodies_in s.bytes (map (place_in s.packets) numbers) ≡ source_bodies s r n
+unfolding bodies_of
+numbered_bodies s r n numbers is = ap (bodies_in s.bytes) is.whose
+
+-- what a code-block has of them
+pub listed_bodies : (s : Source) (r n i j count : ℕ) (numbers : List ℕ) (places : List PacketPlace) (lists : List (Vec BodyPlace)) (v : Vec BodyPlace) (lent : List BodyPlace)
+    → AreNumbers s.packets s.packets s.component r n numbers → places ≡ s.packets → AreByBlock (length s.bytes) i count (λ bytes. bodies_in bytes (map (place_in places) numbers)) lists → j < count
+    → v ≡ get_or lists j v → lent ≡ v.items → (All (IsInside (length s.bytes)) lent) × (map (body_of s.bytes) lent ≡ block_bodies i j (source_bodies s r n))
+listed_bodies s r n i j count numbers places lists v lent of ep h lt ev el =
+    let inside : j < length lists = omega (arith, lt, h.long) in
+    let same : lent ≡ list_at lists j = el ∙ ap (λ (w : Vec BodyPlace). w.items) ev ∙ sym (get_or-map (λ w. w.items) lists j v [] inside) in (
+      subst (All (IsInside (length s.bytes))) (sym same) (h.inside j lt),
+      ap (map (body_of s.bytes)) same ∙ h.each s.bytes j lt ∙ ap (λ (ws : List PacketPlace). block_bodies i j (bodies_in s.bytes (map (place_in ws) numbers))) ep
+          ∙ ap (block_bodies i j) (numbered_bodies s r n numbers of),
+    )
+
+-- the grid of code-blocks
+pub grid_is : (s : Source) (r n i : ℕ) (rect : Rect) (coding : Coding) (o : Orientation) (grid : BlockGrid) → rect ≡ s.rect → coding ≡ s.coding → o ≡ orientation_at r i → grid ≡ block_grid rect coding r n o
+    → grid ≡ grid_at s.rect s.coding r n i
+grid_is s r n i rect coding o grid er ec eo e =
+    e ∙ ap (λ (x : Rect). block_grid x coding r n o) er ∙ ap (λ (k : Coding). block_grid s.rect k r n o) ec ∙ ap (block_grid s.rect s.coding r n) eo
+
+-- a place of a code-block is one of its sub-band
+pub block_within : (s : Source) (r n i j x y : ℕ) → j < block_number (grid_at s.rect s.coding r n i) → IsWithin (block_at_place s.rect s.coding r n i j) x y → IsWithin (source_area s r i) x y
+block_within s r n i j x y lt h =
+    let part = block_is_part s.rect s.coding r n i j lt in
+    let hl = h.left in let hr = h.right in let hu = h.upper in let hd = h.lower in
+    record { left = omega (arith, hl, part.left); right = omega (arith, hr, part.right); upper = omega (arith, hu, part.upper); lower = omega (arith, hd, part.lower) }
+
+-- ---- the sub-bands of a resolution
+
+-- the vector at its place
+pub vector_items : {X : Type 0} (lists : List (Vec X)) (i : ℕ) (v : Vec X) → i < length lists → v ≡ get_or lists i v → v.items ≡ list_at lists i
+vector_items lists i v lt e = ap (λ (w : Vec _). w.items) e ∙ sym (get_or-map (λ w. w.items) lists i v [] lt)
+
+-- another list in the place of one
+pub put_here : {X : Type 0} (lists : List (Vec X)) (i : ℕ) (v : Vec X) → i < length lists → list_at (set lists i v) i ≡ v.items
+put_here {X} lists i v lt = get_or-map (λ w. w.items) (set lists i v) i v [] (omega (arith, lt, length-set lists i v)) ∙ ap (λ (w : Vec X). w.items) (get_or-set_same lists i v v lt)
+
+pub put_there : {X : Type 0} (lists : List (Vec X)) (i k : ℕ) (v : Vec X) → (k ≡ i → ⊥) → list_at (set lists i v) k ≡ list_at lists k
+put_there {X} lists i k v other =
+    ap (λ (ls : List (List X)). get_or ls k []) (map-set (λ w. w.items) lists i v) ∙ get_or-set_other (map (λ (w : Vec X). w.items) lists) i k v.items [] other
+
+-- the list of a sub-band that is lent
+pub lent_plane : (s : Source) (r i : ℕ) (planes : List (Vec ℤ)) (v : Vec ℤ) (lent : List ℤ) → ArePlanes s r planes → i < length (orientations r) → v ≡ get_or planes i v → lent ≡ v.items → (lent ≡ list_at planes i) × IsPlane s r i lent
+lent_plane s r i planes v lent is lt e el =
+    let same : lent ≡ list_at planes i = el ∙ vector_items planes i v (omega (arith, lt, is.count)) e in
+    (same, subst (IsPlane s r i) (sym same) (is.each i lt))
+
+-- after code-blocks of one sub-band are put
+pub planes_put : (s : Source) (r i : ℕ) (planes : List (Vec ℤ)) (v : Vec ℤ) → ArePlanes s r planes → i < length (orientations r) → IsPlane s r i v.items → ArePlanes s r (set planes i v)
+planes_put s r i planes v is lt new = record {
+  count = length-set planes i v ∙ is.count;
+  each = λ k less. elim (cases_eq k i) [
+    | inl same ↦ subst (λ n. IsPlane s r n (list_at (set planes i v) n)) (sym same) (subst (IsPlane s r i) (sym (put_here planes i v (omega (arith, lt, is.count)))) new)
+    | inr other ↦ subst (IsPlane s r k) (sym (put_there planes i k v other)) (is.each k less)
+  ];
+}
+
+pub planes_keep : (s : Source) (r i : ℕ) (planes : List (Vec ℤ)) (v : Vec ℤ) → ArePlanes s r planes → i < length (orientations r) → Keeps s r i (list_at planes i) v.items → (k : ℕ) → Keeps s r k (list_at planes k) (list_at (set planes i v) k)
+planes_keep s r i planes v is lt keeps k = elim (cases_eq k i) [
+  | inl same ↦ subst (λ n. Keeps s r n (list_at planes n) (list_at (set planes i v) n)) (sym same) (subst (Keeps s r i (list_at planes i)) (sym (put_here planes i v (omega (arith, lt, is.count)))) keeps)
+  | inr other ↦ subst (Keeps s r k (list_at planes k)) (sym (put_there planes i k v other)) (λ x y h before. before)
+]
+
+pub planes_show : (s : Source) (r n i count : ℕ) (planes : List (Vec ℤ)) (v : Vec ℤ) → i < length planes → ShowsBlocks s r n i count v.items → ShowsBlocks s r n i count (list_at (set planes i v) i)
+planes_show s r n i count planes v lt shows = subst (ShowsBlocks s r n i count) (sym (put_here planes i v lt)) shows
+
+-- what was shown in one list is shown in the next
+pub shown_on : (s : Source) (r n i : ℕ) (old new : List ℤ) → Keeps s r i old new → ShowsBlocks s r n i (block_count s r n i) old → ShowsBlocks s r n i (block_count s r n i) new
+shown_on s r n i old new keeps shows j lt x y h = keeps x y (block_within s r n i j x y lt h) (shows j lt x y h)
+
+-- a vector whose elements are all written again
+take_front : {X : Type 0} (xs ys : List X) → take (length xs) (xs ++ ys) ≡ xs
+take_front [] ys = refl
+take_front {X} (x ∷ xs) ys = ap (λ (zs : List X). x ∷ zs) (take_front xs ys)
+
+pub with_same : {X : Type 0} (v : Vec X) (xs : List X) → length xs ≡ length v.items → (with_items v xs).items ≡ xs
+with_same v xs e =
+    let len : v.len ≡ length xs = omega (arith, e, v.ok.0) in
+    ap (λ n. take n (xs ++ drop (length xs) v.items)) len ∙ take_front xs (drop (length xs) v.items)
+
+-- the list of a sub-band that was lent comes back
+pub plane_back : (s : Source) (r i : ℕ) (v : Vec ℤ) (lent new : List ℤ) → lent ≡ v.items → IsPlane s r i lent → IsPlane s r i new → (with_items v new).items ≡ new
+plane_back s r i v lent new e old is = with_same v new (is.long ∙ sym old.long ∙ ap (λ (xs : List ℤ). length xs) e)
+
+-- the numbers of a precinct's packets
+pub listed_numbers : (s : Source) (r n count : ℕ) (places : List PacketPlace) (c : ℕ) (lists : List (Vec ℕ)) (v : Vec ℕ) (lent : List ℕ) → places ≡ s.packets → c ≡ s.component
+    → AreByPrecinct places places c r count lists → n < count → v ≡ get_or lists n v → lent ≡ v.items → AreNumbers s.packets s.packets s.component r n lent
+listed_numbers s r n count places c lists v lent ep ec h lt ev el =
+    let same : lent ≡ list_at lists n = el ∙ vector_items lists n v (omega (arith, lt, h.long)) ev in
+    subst (λ (xs : List ℕ). AreNumbers s.packets s.packets s.component r n xs) (sym same)
+    (subst (λ m. AreNumbers s.packets s.packets m r n (list_at lists n)) ec (subst (λ (ws : List PacketPlace). AreNumbers ws ws c r n (list_at lists n)) ep (h.each n lt)))
+
+-- all precincts are shown: so are all places
+pub plane_is : (s : Source) (r i : ℕ) (plane : List ℤ) → IsSource s → r ≤ s.coding.levels → i < length (orientations r) → IsPlane s r i plane
+    → ((n : ℕ) → n < precinct_number s.rect s.coding r → ShowsBlocks s r n i (block_count s r n i) plane) → plane ≡ raster (source_area s r i) (source_coefficient s (band_number r i))
+plane_is s r i plane is few lt whole shows = raster_is (source_area s r i) plane (source_coefficient s (band_number r i)) whole.long (λ x y h.
+    let within : IsWithin (source_area s r i) x y = record { left = h.left; right = h.right; upper = h.upper; lower = h.lower } in
+    let holds = block_found s.rect s.coding r i x y is.coding few lt within in
+    shows (precinct_of s.rect s.coding r x y) holds.precinct (block_with s.rect s.coding r (precinct_of s.rect s.coding r x y) i x y) holds.block x y holds.place)
+
+pub planes_are : (s : Source) (r : ℕ) (planes : List (Vec ℤ)) → IsSource s → r ≤ s.coding.levels → ArePlanes s r planes → ((n : ℕ) → n < precinct_number s.rect s.coding r → ShowsPrecinct s r n planes) → lists_of planes ≡ band_lists s r
+planes_are s r planes is few whole shows =
+    let f : ℕ → List ℤ = λ i. raster (source_area s r i) (source_coefficient s (band_number r i)) in
+    ext_get_or [] (lists_of planes) (band_lists s r) (length-map planes (λ v. v.items) ∙ whole.count ∙ sym (length-map-range_with_len f 0 (length (orientations r)))) (λ i less.
+    let lt : i < length (orientations r) = omega (arith, less, length-map planes (λ (v : Vec ℤ). v.items), whole.count) in
+    plane_is s r i (list_at planes i) is few lt (whole.each i lt) (λ n under. shows n under i lt) ∙ sym (get_or-map-range_with_len f 0 (length (orientations r)) i i [] lt (omega arith)))
+
+-- how many precincts there are
+pub count_is : (s : Source) (r across down : ℕ) (rect : Rect) (coding : Coding) → rect ≡ s.rect → coding ≡ s.coding → across ≡ precincts_across rect coding r → down ≡ precincts_down rect coding r → across * down ≡ precinct_number s.rect s.coding r
+count_is s r across down rect coding er ec ea ed =
+    ap (λ n. n * down) ea ∙ ap (λ n. precincts_across rect coding r * n) ed ∙ ap (λ (x : Rect). precinct_number x coding r) er ∙ ap (λ (k : Coding). precinct_number s.rect k r) ec
+
+-- a resolution whose code-blocks are fine, and one whose aren't
+pub resolution_fine : (s : Source) (r : ℕ) → each (precinct_number s.rect s.coding r) (λ n. precinct_tested s.rect s.coding r n (source_bodies s r n)) ≡ fine → resolution_at s r ≡ Ok (band_lists s r)
+unfolding resolution_at
+resolution_fine s r e = bind_ok (resolution_tested s.rect s.coding r (source_bodies s r)) (λ _. Ok (band_lists s r)) tt (resolution_by s.rect s.coding r (source_bodies s r) ∙ e)
+
+pub resolution_err : (s : Source) (r : ℕ) (e : Fault) → each (precinct_number s.rect s.coding r) (λ n. precinct_tested s.rect s.coding r n (source_bodies s r n)) ≡ Err e → resolution_at s r ≡ Err e
+unfolding resolution_at
+resolution_err s r e h = bind_err (resolution_tested s.rect s.coding r (source_bodies s r)) (λ _. Ok (band_lists s r)) e (resolution_by s.rect s.coding r (source_bodies s r) ∙ h)

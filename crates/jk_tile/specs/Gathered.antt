@@ -1,0 +1,50 @@
+-- Packets gathered by their precincts, and bodies by their code-blocks.
+use Rattle.std.specs.Prelude.{◌≡◌, ℕ, ◌+◌, ◌<◌, ◌≤◌, List, [], length, map, filter, All, slice_index_or}
+use Rattle.std.specs.List.{flat_map}
+use Rattle.std.specs.Global.{Vec}
+use Rattle.jk_order.specs.PacketOrder.{is_of}
+use Rattle.jk_walk.specs.declared.places.PacketPlace.{PacketPlace}
+use Rattle.jk_walk.specs.TilePackets.{slice_of, Body}
+use Rattle.jk_walk.specs.WalkReading.{bodies_at}
+use Rattle.jk_tile.specs.declared.bodies.BodyPlace.{BodyPlace}
+use Rattle.jk_tile.specs.TileBlocks.{block_bodies}
+
+-- stands where a packet isn't
+abbrev pub no_place : PacketPlace
+no_place = record { name = record { layer = 0; resolution = 0; component = 0; precinct = 0 }; start = 0; body = 0; parts = [] }
+
+-- packet number i
+abbrev pub place_in : List PacketPlace → ℕ → PacketPlace
+place_in places i = slice_index_or places i no_place
+
+-- list number n of vectors as they lie in memory
+abbrev pub list_at : {X : Type 0} → List (Vec X) → ℕ → List X
+list_at lists n = slice_index_or (map (λ v. v.items) lists) n []
+
+-- The numbers are those of the packets of a precinct among these packets.
+pub record AreNumbers (places : List PacketPlace) (of : List PacketPlace) (c r n : ℕ) (numbers : List ℕ) : Type 0 where
+  pub small : All (λ i. i < length places) numbers
+  pub whose : map (place_in places) numbers ≡ filter (λ w. is_of c r n w.name) of
+
+-- The lists are the packets of so many precincts, by their numbers.
+pub record AreByPrecinct (places of : List PacketPlace) (c r count : ℕ) (lists : List (Vec ℕ)) : Type 0 where
+  pub long : length lists ≡ count
+  pub each : (n : ℕ) → n < count → AreNumbers places of c r n (list_at lists n)
+
+-- what stands at the place of a body
+abbrev pub body_of : List ℕ → BodyPlace → Body
+body_of bytes b = record { part = b.part; bytes = slice_of bytes (b.start, b.start + b.part.length) }
+
+-- the bodies of packets
+abbrev pub bodies_in : List ℕ → List PacketPlace → List Body
+bodies_in bytes places = flat_map (λ w. bodies_at bytes w.body w.parts) places
+
+-- the body's bytes lie within so many
+abbrev pub IsInside : ℕ → BodyPlace → Type 0
+IsInside size b = b.start + b.part.length ≤ size
+
+-- The lists are what these bodies have of so many code-blocks of sub-band i.
+pub record AreByBlock (size i count : ℕ) (bodies : List ℕ → List Body) (lists : List (Vec BodyPlace)) : Type 0 where
+  pub long : length lists ≡ count
+  pub inside : (j : ℕ) → j < count → All (IsInside size) (list_at lists j)
+  pub each : (bytes : List ℕ) (j : ℕ) → j < count → map (body_of bytes) (list_at lists j) ≡ block_bodies i j (bodies bytes)

@@ -1,0 +1,192 @@
+//! What packets have of each code-block.
+
+ghost use Rattle.std.specs.Prelude.{◌≡◌, ℕ, ◌+◌, ◌<◌, ◌≤◌, ◌&&◌, ◌==◌, nat_eq, nat_lt, if◌then◌else◌, ◌++◌, List, [], ◌∷◌, length, map, min, ◌-◌, ◌^◌, IfOk, IfErr, OnOk, All};
+ghost use Rattle.std.specs.List.{AllByRecursion};
+ghost use Rattle.jk_math.specs.Memory.{IsMemory};
+ghost use Rattle.jk_walk.specs.WalkReading.{place_end, bodies_at};
+ghost use Rattle.jk_walk.specs.TilePackets.{Body};
+ghost use Rattle.jk_tile.specs.TileBlocks.{passes_in, zeros_in, segment_of};
+ghost use Rattle.jk_tile.specs.Gathered.{list_at, place_in, AreByPrecinct, body_of, bodies_in, IsInside, AreByBlock};
+
+use jk_geom::PacketName;
+use jk_math::Fault;
+use jk_packet::Part;
+use jk_walk::PacketPlace;
+use std::alloc::Global;
+
+/// What a packet has of a code-block, and where its bytes begin in the codestream.
+#[derive(Clone, Copy, Debug, Drop)]
+pub(crate) struct BodyPlace {
+    pub(crate) part: Part,
+    pub(crate) start: usize,
+}
+
+/// So many empty lists.
+fn empty_numbers(alloc: Global, count: usize) -> Result<Vec<Vec<usize>>, Fault>
+    ensures long { IfOk result (λ v. length v.items ≡ count) }
+    ensures empty { IfOk result (λ v. (n : ℕ) → list_at v.items n ≡ []) }
+    ensures memory { IfErr result IsMemory }
+{
+    let mut lists = Vec::new(alloc);
+    for _ in 0..count {
+        lists.push(Vec::new(alloc))?;
+    }
+    Ok(lists)
+}
+
+/// Puts a number behind one of the lists.
+fn add_number(lists: &mut Vec<Vec<usize>>, index: usize, number: usize) -> Result<(), Fault>
+    requires { index < length lists.old.items }
+    ensures long { OnOk result (length lists.new.items ≡ length lists.old.items) }
+    ensures lists { OnOk result ((n : ℕ) → list_at lists.new.items n
+        ≡ (if nat_eq index n then list_at lists.old.items n ++ number ∷ [] else list_at lists.old.items n)) }
+    ensures memory { IfErr result IsMemory }
+{
+    lists[index].push(number)?;
+    Ok(())
+}
+
+/// Whether a packet is of a resolution of a component, in one of so many precincts.
+fn is_of_resolution(name: PacketName, component: u8, resolution: u8, precincts: usize) -> bool
+    ensures { result ≡ ((name.component == component) && ((name.resolution == resolution) && nat_lt name.precinct precincts)) }
+{
+    name.component == component
+        && (name.resolution == resolution && (name.precinct as usize) < precincts)
+}
+
+/// The packets of each precinct of a resolution of a component, by their numbers among these packets.
+pub(crate) fn packets_by_precinct(
+    alloc: Global,
+    packets: &[PacketPlace],
+    component: u8,
+    resolution: u8,
+    precincts: usize,
+) -> Result<Vec<Vec<usize>>, Fault>
+    ensures lists { IfOk result (λ v. AreByPrecinct packets.now packets.now component resolution precincts v.items) }
+    ensures memory { IfErr result IsMemory }
+{
+    let mut lists = empty_numbers(alloc, precincts)?;
+    for number in 0..packets.len() {
+        let name = packets[number].name;
+        let taken = is_of_resolution(name, component, resolution, precincts);
+        if taken {
+            add_number(&mut lists, name.precinct as usize, number)?;
+        }
+    }
+    Ok(lists)
+}
+
+/// So many empty lists.
+fn empty_bodies(alloc: Global, count: usize) -> Result<Vec<Vec<BodyPlace>>, Fault>
+    ensures long { IfOk result (λ v. length v.items ≡ count) }
+    ensures empty { IfOk result (λ v. (n : ℕ) → list_at v.items n ≡ []) }
+    ensures memory { IfErr result IsMemory }
+{
+    let mut lists = Vec::new(alloc);
+    for _ in 0..count {
+        lists.push(Vec::new(alloc))?;
+    }
+    Ok(lists)
+}
+
+/// Puts a body behind one of the lists.
+fn add_body(lists: &mut Vec<Vec<BodyPlace>>, index: usize, body: BodyPlace) -> Result<(), Fault>
+    requires { index < length lists.old.items }
+    ensures long { OnOk result (length lists.new.items ≡ length lists.old.items) }
+    ensures lists { OnOk result ((n : ℕ) → list_at lists.new.items n
+        ≡ (if nat_eq index n then list_at lists.old.items n ++ body ∷ [] else list_at lists.old.items n)) }
+    ensures memory { IfErr result IsMemory }
+{
+    lists[index].push(body)?;
+    Ok(())
+}
+
+/// Whether a part is of one of so many code-blocks of a sub-band.
+fn is_of_band(part: Part, band: u8, blocks: usize) -> bool
+    ensures { result ≡ ((part.band == band) && nat_lt part.block blocks) }
+{
+    part.band == band && (part.block as usize) < blocks
+}
+
+/// Puts what a packet has of the code-blocks of a sub-band behind their lists.
+fn add_bodies(
+    packet: &PacketPlace,
+    band: u8,
+    blocks: usize,
+    lists: &mut Vec<Vec<BodyPlace>>,
+) -> Result<(), Fault>
+    requires end { place_end packet.now < 2 ^ 64 }
+    requires long { length lists.old.items ≡ blocks }
+    ensures lists { OnOk result ((size : ℕ) (before : List ℕ → List Body) → place_end packet.now ≤ size → AreByBlock size band blocks before lists.old.items
+        → AreByBlock size band blocks (λ bytes. before bytes ++ bodies_at bytes packet.now.body packet.now.parts) lists.new.items) }
+    ensures long { OnOk result (length lists.new.items ≡ blocks) }
+    ensures memory { IfErr result IsMemory }
+{
+    let parts = packet.parts.as_slice();
+    let mut start = packet.body;
+    for index in 0..parts.len() {
+        let part = parts[index];
+        let taken = is_of_band(part, band, blocks);
+        if taken {
+            add_body(lists, part.block as usize, BodyPlace { part, start })?;
+        }
+        start += part.length as usize;
+    }
+    Ok(())
+}
+
+/// What these packets have of each of so many code-blocks of a sub-band, in the order of the packets.
+pub(crate) fn bodies_by_block(
+    alloc: Global,
+    packets: &[PacketPlace],
+    numbers: &[usize],
+    band: u8,
+    blocks: usize,
+) -> Result<Vec<Vec<BodyPlace>>, Fault>
+    requires ends { AllByRecursion (λ w. place_end w < 2 ^ 64) packets.now }
+    requires numbers { All (λ i. i < length packets.now) numbers.now }
+    ensures lists { IfOk result (λ v. (size : ℕ) → AllByRecursion (λ w. place_end w ≤ size) packets.now → AreByBlock size band blocks (λ bytes. bodies_in bytes (map (place_in packets.now) numbers.now)) v.items) }
+    ensures memory { IfErr result IsMemory }
+{
+    let mut lists = empty_bodies(alloc, blocks)?;
+    for index in 0..numbers.len() {
+        add_bodies(&packets[numbers[index]], band, blocks, &mut lists)?;
+    }
+    Ok(lists)
+}
+
+/// How many coding passes bodies have, and 2^64 - 1 where they have more.
+pub(crate) fn passes(bodies: &[BodyPlace]) -> usize
+    ensures { (bytes : List ℕ) → result ≡ min (passes_in (map (body_of bytes) bodies.now)) (2 ^ 64 - 1) }
+{
+    let mut passes: usize = 0;
+    for index in 0..bodies.len() {
+        passes = passes.saturating_add(bodies[index].part.passes as usize);
+    }
+    passes
+}
+
+/// How many bit-planes are zero by the first of the bodies, or 0 where there is none.
+pub(crate) fn zero_planes(bodies: &[BodyPlace]) -> u8
+    ensures { (bytes : List ℕ) → result ≡ zeros_in (map (body_of bytes) bodies.now) }
+{
+    if bodies.is_empty() {
+        0
+    } else {
+        bodies[0].part.zero_planes
+    }
+}
+
+/// Puts the bytes of bodies one behind another.
+pub(crate) fn join(bytes: &[u8], bodies: &[BodyPlace], segment: &mut Vec<u8>) -> Result<(), Fault>
+    requires { All (IsInside (length bytes.now)) bodies.now }
+    ensures segment { OnOk result (segment.new.items ≡ segment_of (map (body_of bytes.now) bodies.now)) }
+    ensures memory { IfErr result IsMemory }
+{
+    segment.clear();
+    for index in 0..bodies.len() {
+        let body = bodies[index];
+        segment.extend_from_slice(&bytes[body.start..body.start + body.part.length as usize])?;
+    }
+    Ok(())
+}

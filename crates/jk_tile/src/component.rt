@@ -1,0 +1,133 @@
+//! A tile-component whose code-blocks are decoded.
+
+ghost use Rattle.std.specs.Prelude.{◌≡◌, ◌<◌, ◌≤◌, ◌+◌, ◌-◌, ◌*◌, ◌^◌, ◌∷◌, [], length, Ok, IfOk, All};
+ghost use Rattle.jk_math.specs.Answer.{Answers};
+ghost use Rattle.jk_math.specs.Raster.{raster};
+ghost use Rattle.jk_math.specs.Signed.{IsBelow};
+ghost use Rattle.jk_geom.specs.Rectangles.{resolution_area};
+ghost use Rattle.jk_walk.specs.TilePackets.{orientations, band_number, planes_of};
+ghost use Rattle.jk_tile.specs.TileBlocks.{kind_of, orientation_at};
+ghost use Rattle.jk_tile.specs.TileMeaning.{values_of};
+ghost use Rattle.jk_tile.specs.TileReading.{component_tested};
+ghost use Rattle.jk_tile.specs.Source.{IsSource, source_bodies, source_coefficient};
+
+use jk_block::Kind;
+use jk_geom::Orientation;
+use jk_marks::Coding;
+use jk_math::Rect;
+use jk_walk::PacketPlace;
+use std::marker::Model;
+
+/// A component of a tile: the codestream, the tile's rectangle, the component's coding, the packets of the tile, and the
+/// number of the component.
+#[derive(Drop)]
+pub(crate) struct CodedComponent<'a> {
+    bytes: &'a [u8],
+    rect: Rect,
+    coding: &'a Coding,
+    packets: &'a [PacketPlace],
+    number: u8,
+}
+
+impl<'a> Model for CodedComponent<'a> {
+    ghost use Rattle.jk_tile.specs.Source.{Source, IsSource};
+
+    ghost Value = { Source };
+
+    ghost view = { λ c. record { bytes = c.bytes.now; rect = c.rect; coding = c.coding.now; packets = c.packets.now; component = c.number } };
+
+    ghost invariant = { λ c. IsSource (record { bytes = c.bytes.now; rect = c.rect; coding = c.coding.now; packets = c.packets.now; component = c.number }) };
+}
+
+impl<'a> CodedComponent<'a> {
+    /// A component of a tile.
+    pub(crate) fn new(
+        bytes: &'a [u8],
+        rect: Rect,
+        coding: &'a Coding,
+        packets: &'a [PacketPlace],
+        number: u8,
+    ) -> CodedComponent<'a>
+        requires { IsSource (record { bytes = bytes.now; rect = rect; coding = coding.now; packets = packets.now; component = number }) }
+        ensures { result ≡ record { bytes = bytes.now; rect = rect; coding = coding.now; packets = packets.now; component = number } }
+    {
+        CodedComponent {
+            bytes,
+            rect,
+            coding,
+            packets,
+            number,
+        }
+    }
+
+    /// The codestream.
+    pub(crate) fn bytes(&self) -> &'a [u8]
+        ensures { result.now ≡ self.now.bytes }
+    {
+        self.bytes
+    }
+
+    /// The tile's rectangle.
+    pub(crate) fn rect(&self) -> Rect
+        ensures value { result ≡ self.now.rect }
+        ensures source { IsSource self.now }
+    {
+        self.rect
+    }
+
+    /// How the component is coded.
+    pub(crate) fn coding(&self) -> &'a Coding
+        ensures { result.now ≡ self.now.coding }
+    {
+        self.coding
+    }
+
+    /// The packets of the tile.
+    pub(crate) fn packets(&self) -> &'a [PacketPlace]
+        ensures { result.now ≡ self.now.packets }
+    {
+        self.packets
+    }
+
+    /// The number of the component.
+    pub(crate) fn number(&self) -> u8
+        ensures { result ≡ self.now.component }
+    {
+        self.number
+    }
+}
+
+/// Sub-band `i` of a resolution, in the order of its packets.
+pub(crate) fn orientation(r: u8, i: u8) -> Orientation
+    requires { i < length (orientations r) }
+    ensures { result ≡ orientation_at r i }
+{
+    if r == 0 {
+        Orientation::LL
+    } else {
+        match i {
+            0 => Orientation::HL,
+            1 => Orientation::LH,
+            _ => Orientation::HH,
+        }
+    }
+}
+
+/// How many sub-bands a resolution has.
+pub(crate) fn band_count(r: u8) -> u8
+    ensures { result ≡ length (orientations r) }
+{
+    if r == 0 { 1 } else { 3 }
+}
+
+/// The sub-band by which contexts are chosen.
+pub(crate) fn kind(orientation: Orientation) -> Kind
+    ensures { result ≡ kind_of orientation }
+{
+    match orientation {
+        Orientation::LL => Kind::LL,
+        Orientation::HL => Kind::HL,
+        Orientation::LH => Kind::LH,
+        Orientation::HH => Kind::HH,
+    }
+}

@@ -1,0 +1,11 @@
+pub mod ShapeLaws
+pub mod Slices
+pub mod KeptLaws
+pub mod Turns
+pub mod Runs
+pub mod FoundLaws
+pub mod OnlyLaws
+pub mod WalkSteps
+pub mod Walking
+pub mod TileFacts
+pub mod Laws

@@ -1,0 +1,43 @@
+-- How the program keeps what headers have told of the precincts of a tile: those of a resolution that aren't made yet are blank.
+use Rattle.std.specs.Prelude.{◌≡◌, ℕ, ◌+◌, ◌*◌, Bool, List, [], length, map, slice_index_or}
+use Rattle.std.specs.Global.{Vec}
+use Rattle.jk_geom.specs.declared.shape.TileShape.{TileShape}
+use Rattle.jk_order.specs.PacketOrder.{IsPrecinct}
+use Rattle.jk_packet.specs.Reading.{PrecinctState}
+use Rattle.jk_walk.specs.WalkReading.{States, blank_states}
+
+-- the precincts of each resolution of each component, and the markers of their packets
+pub record Kept : Type 0 where
+  pub sop : Bool
+  pub eph : Bool
+  pub precincts : List (List PrecinctState)
+
+-- the lists as they lie in memory
+abbrev pub lists_of : List (Vec PrecinctState) → List (List PrecinctState)
+lists_of resolutions = map (λ resolution. resolution.items) resolutions
+
+-- how many resolutions a component may have
+abbrev pub most_resolutions : ℕ
+most_resolutions = 11
+
+-- where the precincts of resolution r of component c are kept
+abbrev pub row_of : (c r : ℕ) → ℕ
+row_of c r = c * most_resolutions + r
+
+-- precinct k of a resolution, of which these were made
+abbrev pub seen : (ℕ → PrecinctState) → List PrecinctState → ℕ → PrecinctState
+seen blank precincts k = slice_index_or precincts k (blank k)
+
+-- what was read of each precinct
+abbrev pub states_in : TileShape → Kept → States
+states_in s p = λ c r k. seen (blank_states s p.sop p.eph c r) (slice_index_or p.precincts (row_of c r) []) k
+
+-- the precincts of the tile are kept as these states say
+abbrev pub Shows : TileShape → Kept → States → Type 0
+Shows s p states = (c r k : ℕ) → IsPrecinct s c r k → states c r k ≡ states_in s p c r k
+
+-- the same markers, and as many resolutions
+pub record IsKept (old new : Kept) : Type 0 where
+  pub sop : new.sop ≡ old.sop
+  pub eph : new.eph ≡ old.eph
+  pub rows : length new.precincts ≡ length old.precincts

@@ -1,0 +1,3 @@
+pub mod TilePackets
+pub mod WalkReading
+pub mod Keeping

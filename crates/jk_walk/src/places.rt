@@ -1,0 +1,91 @@
+//! Where the packets of a tile stand.
+
+ghost use Rattle.std.specs.Prelude.{◌≡◌, ◌+◌, ◌<◌, ◌≤◌, ◌↔◌, ◌^◌, [], length, sum_by, IsTrue};
+ghost use Rattle.jk_walk.specs.WalkReading.{bodies_length, place_end};
+
+use jk_geom::PacketName;
+use jk_packet::{Part, Parts};
+use std::marker::Model;
+
+/// Where a packet stands in the codestream.
+#[derive(Debug, Drop)]
+pub struct PacketPlace {
+    /// Whose packet it is.
+    pub name: PacketName,
+    /// The packet's first byte, which is its header's, or that of an SOP marker segment.
+    pub start: usize,
+    /// The first byte behind the header and its EPH marker, where the bodies begin.
+    pub body: usize,
+    /// What the packet has of each code-block that it has something of. The bodies stand in this order.
+    pub parts: Parts,
+}
+
+/// The first byte behind the bodies of parts, which begin at a place.
+fn behind(body: usize, parts: &[Part]) -> usize
+    requires { body + bodies_length parts.now < 2 ^ 64 }
+    ensures { result ≡ body + bodies_length parts.now }
+{
+    let mut end = body;
+    for part in parts {
+        end += part.length as usize;
+    }
+    end
+}
+
+impl PacketPlace {
+    ghost use Rattle.std.specs.Prelude.{◌≡◌, ◌<◌, ◌^◌};
+    ghost use Rattle.jk_walk.specs.WalkReading.{place_end};
+
+    /// The first byte behind the packet.
+    pub fn end(&self) -> usize
+        requires { place_end self.now < 2 ^ 64 }
+        ensures { result ≡ place_end self.now }
+    {
+        behind(self.body, self.parts.as_slice())
+    }
+}
+
+/// The packets of a tile in their order, each by its place.
+#[derive(Debug, Drop)]
+pub struct TilePackets {
+    places: Vec<PacketPlace>,
+}
+
+impl Model for TilePackets {
+    ghost use Rattle.std.specs.Prelude.{List};
+    ghost use Rattle.jk_walk.specs.declared.places.PacketPlace.{PacketPlace};
+
+    ghost Value = { List PacketPlace };
+
+    ghost view = { λ p. p.places.items };
+}
+
+impl TilePackets {
+    /// Packets at these places.
+    pub(crate) fn new(places: Vec<PacketPlace>) -> TilePackets
+        ensures { result ≡ places.items }
+    {
+        TilePackets { places }
+    }
+
+    /// How many packets there are.
+    pub fn len(&self) -> usize
+        ensures { result ≡ length self.now }
+    {
+        self.places.len()
+    }
+
+    /// Whether there is no packet.
+    pub fn is_empty(&self) -> bool
+        ensures { IsTrue result ↔ (self.now ≡ []) }
+    {
+        self.places.is_empty()
+    }
+
+    /// The places, one after another.
+    pub fn as_slice(&self) -> &[PacketPlace]
+        ensures { result.now ≡ self.now }
+    {
+        &self.places
+    }
+}

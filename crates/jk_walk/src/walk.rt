@@ -1,0 +1,111 @@
+//! Reading the packets of a tile from front to back.
+
+ghost use Rattle.std.specs.Prelude.{◌≡◌, ◌≤◌, ◌<◌, ◌*◌, ◌^◌, ℕ, false, length, IfOk, OnOk, MatchResult};
+ghost use Rattle.std.specs.List.{AllByRecursion};
+ghost use Rattle.jk_math.specs.Answer.{ReadsBy, Answers};
+ghost use Rattle.jk_math.specs.declared.fault.Fault.TheVariants.{Truncated};
+ghost use Rattle.jk_geom.specs.TileShapes.{IsTileShape};
+ghost use Rattle.jk_order.specs.PacketOrder.{IsName, IsPrecinct, is_of, order, packet_count};
+ghost use Rattle.jk_params.specs.Coding.{HasPlanes};
+ghost use Rattle.jk_walk.specs.WalkReading.{bodies_length, place_end, blank_states, packet_at, names_at};
+ghost use Rattle.jk_walk.specs.Keeping.{most_resolutions, states_in, IsKept};
+
+use crate::parts::PartsLeft;
+use crate::places::PacketPlace;
+use crate::precincts::{Markers, Precincts};
+use jk_geom::{PacketName, TileShape};
+use jk_math::Fault;
+use jk_order::{Packets, packet_count};
+use jk_packet::Part;
+use std::alloc::Global;
+
+/// How many bytes the bodies of parts take.
+///
+/// Truncated: they take more than `room`.
+fn bodies_size(parts: &[Part], room: usize) -> Result<usize, Fault>
+    ensures { MatchResult result
+        (λ n. (n ≡ bodies_length parts.now) × (n ≤ room)) (λ e. (e ≡ Truncated) × (room < bodies_length parts.now)) }
+{
+    let mut size = 0;
+    for part in parts {
+        let length = part.length as usize;
+        if length > room - size {
+            return Err(Fault::Truncated);
+        }
+        size += length;
+    }
+    Ok(size)
+}
+
+/// The packet of a name at the front of what is left of a part, and the place behind it.
+///
+/// The faults are those of the header, and Truncated where the bodies pass the end of the part.
+fn read_packet(
+    shape: &TileShape,
+    bytes: &[u8],
+    part: (usize, usize),
+    name: PacketName,
+    precincts: &mut Precincts,
+) -> Result<(PacketPlace, usize), Fault>
+    requires shape { IsTileShape shape.now }
+    requires planes { AllByRecursion HasPlanes shape.now.codings }
+    requires name { IsName shape.now name }
+    requires kept { length precincts.old.precincts ≡ length shape.now.codings * most_resolutions }
+    requires next { name.layer ≡ (states_in shape.now precincts.old name.component name.resolution name.precinct).layers }
+    requires part { (part.0 ≤ part.1) × (part.1 ≤ length bytes.now) }
+    ensures exact { ReadsBy (λ o. o.0) (packet_at bytes.now part name)
+        (states_in shape.now precincts.old name.component name.resolution name.precinct)
+        (states_in shape.now precincts.new name.component name.resolution name.precinct) result }
+    ensures end { IfOk result (λ o. (o.1 ≡ place_end o.0) × (o.1 ≤ part.1)) }
+    ensures others { OnOk result ((c r k : ℕ) → IsPrecinct shape.now c r k → is_of c r k name ≡ false
+        → states_in shape.now precincts.new c r k ≡ states_in shape.now precincts.old c r k) }
+    ensures kept { IsKept precincts.old precincts.new }
+{
+    let (start, end) = part;
+    let header = precincts.read_header(shape, name, &bytes[start..end])?;
+    let body = start + header.length;
+    let size = bodies_size(header.parts.as_slice(), end - body)?;
+    let place = PacketPlace {
+        name,
+        start,
+        body,
+        parts: header.parts,
+    };
+    Ok((place, body + size))
+}
+
+/// The packets of a tile of this shape, whose data stand at these places.
+pub(crate) fn read_places(
+    alloc: Global,
+    shape: &TileShape,
+    markers: Markers,
+    bytes: &[u8],
+    parts: &[(usize, usize)],
+) -> Result<Vec<PacketPlace>, Fault>
+    requires shape { IsTileShape shape.now }
+    requires planes { AllByRecursion HasPlanes shape.now.codings }
+    requires few { packet_count shape.now ≤ 2 ^ 24 }
+    requires parts { AllByRecursion (λ p. (p.0 ≤ p.1) × (p.1 ≤ length bytes.now)) parts.now }
+    ensures { Answers (λ v. v.items) result
+        (names_at bytes.now (order shape.now) (blank_states shape.now markers.sop markers.eph) parts.now) }
+{
+    let mut packets = Packets::new(shape)?;
+    let mut precincts = Precincts::new(alloc, shape.codings.as_slice().len(), markers)?;
+    let mut left = PartsLeft::new(parts);
+    let mut places = Vec::new(alloc);
+    for _ in 0..packet_count(shape) {
+        let Some(name) = packets.next() else {
+            break;
+        };
+        let Some(part) = left.in_hand() else {
+            return Err(Fault::MissingPackets);
+        };
+        let (place, end) = read_packet(shape, bytes, part, name, &mut precincts)?;
+        places.push(place)?;
+        left.advance(end);
+    }
+    if left.in_hand().is_some() {
+        return Err(Fault::SurplusBytes);
+    }
+    Ok(places)
+}

@@ -1,0 +1,10 @@
+pub mod HeadLaws
+pub mod TooManyLaws
+pub mod NumberLaws
+pub mod ReadingLaws
+pub mod Texts
+pub mod PlaceLaws
+pub mod KnownLaws
+pub mod ServingLaws
+pub mod ImageLaws
+pub mod RunLaws

@@ -1,0 +1,115 @@
+-- What a server answers from its images.
+use Rattle.std.specs.Prelude.{◌≡◌, ℕ, ◌⊎◌, Bool, true, false, List, map, find, Option, Some, None, if◌then◌else◌, codes}
+use Rattle.std.specs.List.{flat_map}
+use Rattle.std.specs.Str.{bytes_eq}
+use Rattle.jk_math.specs.declared.fault.Fault.{Fault}
+use Rattle.jk_math.specs.declared.fault.Fault.TheVariants.{Memory, NoSuchImage, BadWindow, Shelf, Changed}
+use Rattle.jk_math.specs.Memory.{IsMemory}
+use Rattle.jk_web.specs.declared.query.Asked.{Asked}
+use Rattle.jk_web.specs.declared.reply.Media.TheVariants.{Plain, Jp2}
+use Rattle.jk_web.specs.declared.reply.Reply.{Reply}
+use Rattle.jk_web.specs.declared.request.Request.{Request}
+use Rattle.jk_web.specs.Places.{path_of, query_of, Resource, listing, whole, window, nowhere, resource_at}
+use Rattle.jk_web.specs.Pairs.{are_none}
+use Rattle.jk_web.specs.Queries.{pairs_of, asked_by}
+use Rattle.jk_web.specs.Replies.{Content, printed, error}
+
+-- An image: its name, its line in the list of images, its file, and the file of a window of it, where it has that window.
+pub record Image : Type 0 where
+  pub name : List ℕ
+  pub line : List ℕ
+  pub file : List ℕ
+  pub cut : Asked → Option (List ℕ)
+
+-- the names of images
+abbrev pub names_of : List Image → List (List ℕ)
+names_of images = map (λ (i : Image). i.name) images
+
+-- the image of a name
+abbrev pub image_of : List ℕ → List Image → Option Image
+image_of name images = find (λ (i : Image). bytes_eq name i.name) images
+
+-- a file that is sent
+abbrev pub sent : List ℕ → Content
+sent file = record { status = 200; media = Jp2; body = file }
+
+-- what an image gives to a query that has no pair
+abbrev pub whole_content : Option Image → Bool → Content
+whole_content None bare = error 404
+whole_content (Some image) true = sent image.file
+whole_content (Some image) false = error 400
+
+-- a cut that is sent, where there is one
+abbrev pub cut_content : Option (List ℕ) → Content
+cut_content None = error 400
+cut_content (Some file) = sent file
+
+-- what an image gives to a query that asks for a window
+abbrev pub window_content : Option Image → Option Asked → Content
+window_content None asked = error 404
+window_content (Some image) None = error 400
+window_content (Some image) (Some asked) = cut_content (image.cut asked)
+
+-- what is said of a resource to a query
+abbrev pub content_of : List Image → List ℕ → Resource → Content
+content_of images query listing =
+    if are_none (pairs_of query) then record { status = 200; media = Plain; body = flat_map (λ (i : Image). i.line) images } else error 400
+content_of images query (whole name) = whole_content (image_of name images) (are_none (pairs_of query))
+content_of images query (window name) = window_content (image_of name images) (asked_by (pairs_of query))
+content_of images query nowhere = error 404
+
+-- what is said to a request: the method is judged first, then the path, then the query
+unfoldable pub content : Request → List Image → Content
+content q images =
+    if bytes_eq q.method (codes "GET") then content_of images (query_of q.target) (resource_at (path_of q.target) (names_of images))
+    else error 405
+
+-- The reply to a request.
+abbrev pub answer : Request → List Image → Reply
+answer q images = printed (content q images) q.closes
+
+-- the reply where a file couldn't be read, or had changed
+abbrev pub failed : Bool → Reply
+failed close = printed (error 500) close
+
+-- What a call that reads the file of an image gives.
+abbrev pub IsFileOf : Option Image → List ℕ → Type 0
+IsFileOf None file = ⊥
+IsFileOf (Some image) file = file ≡ image.file
+
+-- What a call that cuts a window out of it gives.
+abbrev pub IsCutOf : Option Image → Asked → List ℕ → Type 0
+IsCutOf None asked file = ⊥
+IsCutOf (Some image) asked file = image.cut asked ≡ Some file
+
+-- that the image has no such window
+abbrev pub HasNoCut : Option Image → Asked → Type 0
+HasNoCut None asked = ⊥
+HasNoCut (Some image) asked = image.cut asked ≡ None
+
+-- Why such a call may refuse; broke: a file couldn't be read, or had changed.
+abbrev pub MayRefuse : Option Image → Type 0 → Type 0 → Fault → Type 0
+MayRefuse image broke uncut (Memory r) = Unit {0}
+MayRefuse image broke uncut NoSuchImage = image ≡ None
+MayRefuse image broke uncut BadWindow = uncut
+MayRefuse image broke uncut Shelf = broke
+MayRefuse image broke uncut Changed = broke
+MayRefuse image broke uncut e = ⊥
+
+-- the status that says so
+abbrev pub status_of : Fault → ℕ
+status_of NoSuchImage = 404
+status_of BadWindow = 400
+status_of e = 500
+
+-- A reply is that of the images, or a file couldn't be read, or had changed, and it says so.
+abbrev pub IsReply : Content → Type 0 → Bool → Reply → Type 0
+IsReply content broke close r = (r ≡ printed content close) ⊎ (broke × (r ≡ failed close))
+
+-- What is written for a request to images, where broke says that a file couldn't be read, or had changed.
+abbrev pub gives_reply : {S : Type 0} → (S → S → Type 0) → List Image → S → Request → Reply → S → Type 0
+gives_reply broke images s q r t = IsReply (content q images) (broke s t) q.closes r
+
+-- Only memory is refused.
+abbrev pub refuses_memory : {S : Type 0} → S → Request → Fault → S → Type 0
+refuses_memory s q e t = IsMemory e

@@ -1,0 +1,14 @@
+pub mod Fields
+pub mod Heads
+pub mod Judging
+pub mod Unread
+pub mod Registers
+pub mod Sessions
+pub mod Replies
+pub mod Queries
+pub mod Readings
+pub mod Places
+pub mod Prefixes
+pub mod Serving
+pub mod Pairs
+pub mod Images

@@ -1,0 +1,38 @@
+//! Readers that may be read so many times.
+
+ghost use Rattle.std.specs.Prelude.{◌≡◌, ◌+◌, ◌<◌};
+ghost use Rattle.std.specs.Io.{ReadsAtMost};
+ghost use Rattle.std.specs.Io.KnownBytes.{ReadConsumes};
+
+use std::io;
+use std::io::Read;
+
+/// A reader that may be read so many times more.
+#[derive(Drop)]
+pub(crate) struct Budget<'a, I> {
+    reader: &'a mut I,
+    left: u64,
+}
+
+impl<'a, I: Read> Budget<'a, I> {
+    /// The reader, with so many reads.
+    pub(crate) fn new(reader: &'a mut I, left: u64) -> Budget<'a, I>
+        ensures same_reference { result.reader.ghost_name ≡ reader.entry.ghost_name }
+        ensures unread { result.reader.now ≡ reader.old }
+        ensures left { result.left ≡ left }
+    {
+        Budget { reader, left }
+    }
+
+    /// Reads once.
+    pub(crate) fn read(&mut self, piece: &mut [u8]) -> io::Result<usize>
+        requires { 0 < self.old.left }
+        ensures same_reference { self.new.reader.ghost_name ≡ self.old.reader.ghost_name }
+        ensures left { self.new.left + 1 ≡ self.old.left }
+        ensures bound { ReadsAtMost result piece.new }
+        ensures bytes { ReadConsumes (I.remaining self.old.reader.now) (I.remaining self.new.reader.now) result piece.new }
+    {
+        self.left -= 1;
+        self.reader.read(piece)
+    }
+}

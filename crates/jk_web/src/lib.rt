@@ -1,0 +1,29 @@
+//! HTTP/1.1 for images: requests out of the bytes of a connection in any pieces, and the bytes of the replies.
+#![tactic(auto)]
+
+mod answering;
+mod budget;
+mod catalogue;
+mod fields;
+mod head;
+mod octets;
+mod place;
+mod query;
+mod reply;
+mod request;
+mod running;
+mod service;
+mod serving;
+mod session;
+
+pub use answering::answer;
+pub use catalogue::Catalogue;
+pub use octets::Octets;
+pub use place::{Place, place_of};
+pub use query::{Asked, window_asked};
+pub use reply::{Media, Reply, bad};
+pub use request::Request;
+pub use running::run;
+pub use service::Service;
+pub use serving::{End, serve};
+pub use session::{Next, Session};

@@ -1,0 +1,174 @@
+-- A codestream in which packets are empty is a codestream again.
+use Rattle.std.proofs.Common.{◌≡◌, ℕ, zero, suc, ◌+◌, ◌<◌, ◌≤◌, Bool, List, [], length, map, get_or, refl, sym, ap, ◌∙◌, subst, arith}
+use Rattle.std.specs.List.{AllByRecursion}
+use Rattle.jk_math.specs.declared.rect.Rect.{Rect}
+use Rattle.jk_marks.specs.declared.siz.Siz.{Siz}
+use Rattle.jk_marks.specs.declared.segments.Cod.{Cod}
+use Rattle.jk_marks.specs.Markers.{tlm, plt}
+use Rattle.jk_marks.specs.Siz.{tile_count}
+use Rattle.jk_marks.specs.Segments.{Segment}
+use Rattle.jk_marks.specs.Codestream.{Part, Tree, of_tile, codestream_text}
+use Rattle.jk_marks.specs.Copying.{kept_segments}
+use Rattle.jk_geom.specs.declared.shape.TileShape.{TileShape}
+use Rattle.jk_geom.specs.Rectangles.{tile_area}
+use Rattle.jk_geom.specs.Counts.{packet_number}
+use Rattle.jk_params.specs.Coding.{coding_of, codings_of, HasPlanes}
+use Rattle.jk_params.specs.Headers.{Headers, TileFields, tile_in, headers_of, places_of, head_segments, cod_for, packets_alike, packets_of, most_packets, total, IsHeaders}
+use Rattle.jk_params.proofs.Laws.{contents_of, places_are, said_at}
+use Rattle.jk_walk.specs.TilePackets.{slice_of, shape_in, Packet, IsTile}
+use Rattle.jk_window.specs.Emptied.{kept_packet, emptied_run, run_text, of_name, emptied_part, emptied_tree}
+use Rattle.jk_window.specs.Indexing.{IndexFields, joined_runs, HasRuns, IsIndexOf}
+use Rattle.jk_window.specs.Cutting.{HaveRuns, cut_tree}
+use Rattle.jk_window.specs.Again.{needed_by, kept_runs, kept_content, AreAlike, IsAgain}
+use Rattle.jk_window.proofs.EmptiedLaws.{HasBit, tile_bits, run_short, run_of}
+use Rattle.jk_window.proofs.KeptSegments.{main_kept, cod_same, coding_same, codings_same}
+use Rattle.jk_window.proofs.PartsAgain.{own_emptied, head_emptied, runs_are, contents_made, IsShort, parts_short, parts_again}
+use Rattle.jk_window.proofs.TileAgain.{runs_kept, texts_of, tile_again}
+use Rattle.jk_walk.specs.TilePackets.{IsPacket}
+
+-- ---- what the headers say
+
+-- the first header of a tile
+head_again : (content : ℕ → ℕ → List ℕ) (t : ℕ) (parts : List Part) → head_segments (of_tile t (map (emptied_part content) parts)) ≡ kept_segments plt (head_segments (of_tile t parts))
+head_again content t parts = ap head_segments (own_emptied content t parts) ∙ head_emptied content (of_tile t parts)
+
+fields_cod : (tree : Tree) (t : ℕ) → t < tile_count tree.siz → (tile_in (headers_of tree).tiles t).cod ≡ cod_for tree.segments (head_segments (of_tile t tree.parts))
+unfolding headers_of
+fields_cod tree t lt = ap (λ (f : TileFields). f.cod) (said_at tree.siz tree.segments tree.parts t lt)
+
+fields_codings : (tree : Tree) (t : ℕ) → t < tile_count tree.siz → (tile_in (headers_of tree).tiles t).codings ≡ codings_of tree.siz.components tree.segments (head_segments (of_tile t tree.parts))
+unfolding headers_of
+fields_codings tree t lt = ap (λ (f : TileFields). f.codings) (said_at tree.siz tree.segments tree.parts t lt)
+
+fields_places : (tree : Tree) (t : ℕ) → t < tile_count tree.siz → (tile_in (headers_of tree).tiles t).data_places ≡ places_of tree t
+unfolding headers_of
+fields_places tree t lt = ap (λ (f : TileFields). f.data_places) (said_at tree.siz tree.segments tree.parts t lt) ∙ sym (places_are tree t)
+
+headers_siz : (tree : Tree) → (headers_of tree).siz ≡ tree.siz
+unfolding headers_of
+headers_siz tree = refl
+
+tree_alike : (content : ℕ → ℕ → List ℕ) (tree : Tree) → AreAlike (headers_of (emptied_tree content tree)) (headers_of tree)
+tree_alike content tree =
+    let new = emptied_tree content tree in
+    let own : (t : ℕ) → t < tile_count (headers_of tree).siz → t < tile_count tree.siz = λ t lt. subst (λ (s : Siz). t < tile_count s) (headers_siz tree) lt in
+    record {
+      siz = headers_siz new ∙ sym (headers_siz tree);
+      cod = λ t lt.
+          fields_cod new t (own t lt)
+          ∙ ap (λ (head : List Segment). cod_for (kept_segments tlm tree.segments) head) (head_again content t tree.parts)
+          ∙ cod_same tlm plt tree.segments (head_segments (of_tile t tree.parts))
+          ∙ sym (fields_cod tree t (own t lt));
+      codings = λ t lt.
+          fields_codings new t (own t lt)
+          ∙ ap (λ (head : List Segment). codings_of tree.siz.components (kept_segments tlm tree.segments) head) (head_again content t tree.parts)
+          ∙ codings_same tlm plt tree.siz.components tree.segments (head_segments (of_tile t tree.parts))
+          ∙ sym (fields_codings tree t (own t lt));
+    }
+
+-- sums that agree
+total_alike : (f g : ℕ → ℕ) (n : ℕ) → ((t : ℕ) → t < n → f t ≡ g t) → total f n ≡ total g n
+unfolding total
+total_alike f g zero same = refl
+total_alike f g (suc n) same = λ i. total_alike f g n (λ t lt. same t (omega (arith, lt))) i + same n (omega arith) i
+
+packets_alike_again : (g h : Headers) → AreAlike g h → packets_of g.siz g.tiles ≡ packets_of h.siz h.tiles
+packets_alike_again g h alike =
+    let number : Siz → List TileFields → ℕ → ℕ = λ s tiles t. packet_number (tile_area s t) (tile_in tiles t).cod.layers (tile_in tiles t).codings in
+    ap (λ (s : Siz). packets_of s g.tiles) alike.siz
+    ∙ total_alike (number h.siz g.tiles) (number h.siz h.tiles) (tile_count h.siz) (λ t lt. (λ i. packet_number (tile_area h.siz t) (alike.cod t lt i).layers (alike.codings t lt i)))
+
+headers_again : (bytes : List ℕ) (h : Headers) (is : IsHeaders bytes h) (content : ℕ → ℕ → List ℕ) → AllByRecursion (IsShort content) is.tree.parts
+    → IsHeaders (codestream_text (emptied_tree content is.tree)) (headers_of (emptied_tree content is.tree))
+headers_again bytes h is content short =
+    let tree = is.tree in
+    let new = emptied_tree content tree in
+    record {
+      tree = new;
+      spelled = record {
+        header = main_kept tree.siz tlm tree.segments is.spelled.header;
+        parts = parts_again tree.siz content tree.parts is.spelled.parts short;
+        text = refl;
+      };
+      says = refl;
+      main_planes = λ c lt. subst HasPlanes (sym (coding_same tlm tlm tree.segments [] c)) (is.main_planes c lt);
+      main_few =
+          (let same : packets_alike tree.siz (cod_for new.segments []).layers (codings_of tree.siz.components new.segments []) ≡ packets_alike tree.siz (cod_for tree.segments []).layers (codings_of tree.siz.components tree.segments []) =
+          (λ i. packets_alike tree.siz (cod_same tlm tlm tree.segments [] i).layers (codings_same tlm tlm tree.siz.components tree.segments [] i)) in
+          subst (λ n. n ≤ most_packets) (sym same) is.main_few);
+      planes = λ t c few lt.
+          (let same : coding_of new.segments (head_segments (of_tile t new.parts)) c ≡ coding_of tree.segments (head_segments (of_tile t tree.parts)) c =
+          ap (λ (head : List Segment). coding_of new.segments head c) (head_again content t tree.parts) ∙ coding_same tlm plt tree.segments (head_segments (of_tile t tree.parts)) c in
+          subst HasPlanes (sym same) (is.planes t c few lt));
+      few =
+          (let same : packets_of (headers_of new).siz (headers_of new).tiles ≡ packets_of h.siz h.tiles =
+          packets_alike_again (headers_of new) (headers_of tree) (tree_alike content tree) ∙ sym (ap (λ (x : Headers). packets_of x.siz x.tiles) is.says) in
+          subst (λ n. n ≤ most_packets) (sym same) is.few);
+    }
+
+-- ---- packets
+
+-- the runs of a tile, in which packets are empty
+runs_again : (bytes new : List ℕ) (g h : Headers) (t : ℕ) (runs : List (List Packet)) (keep : ℕ → ℕ → ℕ → Bool) → AreAlike g h → t < tile_count h.siz → HasRuns bytes h t runs
+    → map (slice_of new) (tile_in g.tiles t).data_places ≡ map (λ run. run_text (emptied_run (of_name keep) (tile_in h.tiles t).cod.sop (tile_in h.tiles t).cod.eph run)) runs
+    → HasRuns new g t (map (emptied_run (of_name keep) (tile_in h.tiles t).cod.sop (tile_in h.tiles t).cod.eph) runs)
+runs_again bytes new g h t runs keep alike lt has there =
+    let f = tile_in h.tiles t in
+    let make = emptied_run (of_name keep) f.cod.sop f.cod.eph in
+    let old = has.packets in
+    let own : IsTile (shape_in h.siz f t) f.cod.sop f.cod.eph (joined_runs runs) (map (slice_of bytes) f.data_places) =
+    record { order = old.order; texts = old.texts; told = old.told; runs = runs; whole = refl; cut = has.cut } in
+    let again = tile_again (shape_in h.siz f t) f.cod.sop f.cod.eph (joined_runs runs) (map (slice_of bytes) f.data_places) keep own in
+    let joined : make (joined_runs runs) ≡ joined_runs (map make runs) = sym (runs_kept (kept_packet (of_name keep) f.cod.sop f.cod.eph) runs) in
+    let texts : map run_text (map make runs) ≡ map (slice_of new) (tile_in g.tiles t).data_places = texts_of (kept_packet (of_name keep) f.cod.sop f.cod.eph) runs ∙ sym there in
+    let shape : shape_in h.siz f t ≡ shape_in g.siz (tile_in g.tiles t) t =
+    (λ i. record { rect = tile_area (sym alike.siz i) t; layers = (sym (alike.cod t lt) i).layers; order = (sym (alike.cod t lt) i).order; codings = sym (alike.codings t lt) i }) in
+    let cod = sym (alike.cod t lt) in
+    record {
+      packets = subst (λ (parts : List (List ℕ)). IsTile (shape_in g.siz (tile_in g.tiles t) t) (tile_in g.tiles t).cod.sop (tile_in g.tiles t).cod.eph (joined_runs (map make runs)) parts) (sym there)
+          (subst (λ (ps : List Packet). IsTile (shape_in g.siz (tile_in g.tiles t) t) (tile_in g.tiles t).cod.sop (tile_in g.tiles t).cod.eph ps (map (λ run. run_text (make run)) runs)) joined
+          (subst (λ (c : Cod). IsTile (shape_in g.siz (tile_in g.tiles t) t) c.sop c.eph (make (joined_runs runs)) (map (λ run. run_text (make run)) runs)) cod
+          (subst (λ (s : TileShape). IsTile s f.cod.sop f.cod.eph (make (joined_runs runs)) (map (λ run. run_text (make run)) runs)) shape again)));
+      cut = texts;
+    }
+
+-- ---- the codestream
+
+content_short : (bytes : List ℕ) (h : Headers) (runs : ℕ → List (List Packet)) (keep : ℕ → ℕ → ℕ → ℕ → Bool) → HaveRuns bytes h runs → (t n : ℕ) → t < tile_count h.siz
+    → length (kept_content h keep runs t n) ≤ length (run_text (get_or (runs t) n []))
+content_short bytes h runs keep have t n lt =
+    let f = tile_in h.tiles t in
+    let has = have t lt in
+    let texts = run_of (IsPacket f.cod.sop f.cod.eph) (runs t) n has.packets.texts in
+    let bits = run_of HasBit (runs t) n (tile_bits (shape_in h.siz f t) f.cod.sop f.cod.eph (joined_runs (runs t)) (map (slice_of bytes) f.data_places) (record { layer = 0; resolution = 0; component = 0; precinct = 0 }) has.packets) in
+    run_short (of_name (keep t)) f.cod.sop f.cod.eph (get_or (runs t) n []) texts bits
+
+pub codestream_again : (bytes : List ℕ) (h : Headers) (is : IsHeaders bytes h) (runs : ℕ → List (List Packet)) → HaveRuns bytes h runs → (keep : ℕ → ℕ → ℕ → ℕ → Bool)
+    → IsAgain (codestream_text (emptied_tree (kept_content h keep runs) is.tree)) h (kept_runs h keep runs)
+codestream_again bytes h is runs have keep =
+    let content = kept_content h keep runs in
+    let tree = is.tree in
+    let new = emptied_tree content tree in
+    let text = codestream_text new in
+    let short = parts_short bytes h is runs content have (content_short bytes h runs keep have) in
+    let alike : AreAlike (headers_of new) h = subst (AreAlike (headers_of new)) (sym is.says) (tree_alike content tree) in
+    let siz : h.siz ≡ tree.siz = ap (λ (x : Headers). x.siz) is.says ∙ headers_siz tree in
+    record {
+      headers = headers_of new;
+      says = headers_again bytes h is content short;
+      alike = alike;
+      tiles = λ t lt.
+          (let few : t < tile_count h.siz = subst (λ (s : Siz). t < tile_count s) alike.siz lt in
+          let small : t < tile_count tree.siz = subst (λ (s : Siz). t < tile_count s) siz few in
+          let f = tile_in h.tiles t in
+          let make : List Packet → List ℕ = λ run. run_text (emptied_run (of_name (keep t)) f.cod.sop f.cod.eph run) in
+          let there : map (slice_of text) (tile_in (headers_of new).tiles t).data_places ≡ map make (runs t) =
+          ap (λ (places : List (ℕ × ℕ)). map (slice_of text) places) (fields_places new t small)
+          ∙ contents_of text new t refl
+          ∙ ap (λ (ps : List Part). map (λ (p : Part). p.content) ps) (own_emptied content t tree.parts)
+          ∙ contents_made content make t (runs t) tree.parts (is.spelled.parts.numbered t) (runs_are bytes h is t (runs t) few (have t few)) (λ n. refl) in
+          runs_again bytes text (headers_of new) h t (runs t) (keep t) alike few (have t few) there);
+    }
+
+pub cut_again : (bytes : List ℕ) (i : IndexFields) (is : IsIndexOf bytes i) (w : Rect) (d : ℕ) → IsAgain (codestream_text (cut_tree is w d)) i.headers (kept_runs i.headers (needed_by i.headers w d) is.runs)
+cut_again bytes i is w d = codestream_again is.codestream i.headers is.says is.runs is.tiles (needed_by i.headers w d)

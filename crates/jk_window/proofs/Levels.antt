@@ -1,0 +1,63 @@
+-- The least number of levels, and the window of a view, by the test and by what it says.
+use Rattle.std.proofs.Common.{◌≡◌, ℕ, ◌+◌, min, Bool, true, false, not, List, length, Result, Ok, Err, add-one, refl, sym, ap, ◌∙◌}
+use Rattle.std.proofs.lemmas.Bool.{not-false}
+use Rattle.jk_math.specs.Answer.{◌>>=◌, refuse}
+use Rattle.jk_math.specs.Steps.{refuse_then, ok_is}
+use Rattle.jk_math.specs.declared.fault.Fault.{Fault}
+use Rattle.jk_math.specs.declared.fault.Fault.TheVariants.{BadWindow}
+use Rattle.jk_math.specs.declared.rect.Rect.{Rect}
+use Rattle.jk_marks.specs.declared.coding.Coding.{Coding}
+use Rattle.jk_marks.specs.Siz.{tile_count}
+use Rattle.jk_geom.specs.Rectangles.{is_empty}
+use Rattle.jk_geom.specs.TileShapes.{coding_of}
+use Rattle.jk_params.specs.Headers.{Headers, TileFields, tile_in}
+use Rattle.jk_window.specs.declared.view.View.{View}
+use Rattle.jk_window.specs.Views.{frame_of, window_of, HasWindow, have_levels, window_at}
+use Rattle.jk_window.specs.Indexing.{least_in, least_levels}
+use Rattle.jk_window.proofs.HeaderFacts.{levels_found, levels_only}
+
+pub least_none : (ks : List Coding) → 10 ≡ least_in ks 0
+unfolding least_in
+least_none ks = refl
+
+pub least_more : (ks : List Coding) (n : ℕ) → least_in ks (n + 1) ≡ min (least_in ks n) (coding_of ks n).levels
+unfolding least_in
+least_more ks n = ap (least_in ks) (add-one n) ∙ refl
+
+pub levels_none : (tiles : List TileFields) → 10 ≡ least_levels tiles 0
+unfolding least_levels
+levels_none tiles = refl
+
+pub levels_more : (tiles : List TileFields) (n : ℕ) → least_levels tiles (n + 1) ≡ min (least_levels tiles n) (least_in (tile_in tiles n).codings (length (tile_in tiles n).codings))
+unfolding least_levels
+levels_more tiles n = ap (least_levels tiles) (add-one n) ∙ refl
+
+-- ---- windows
+
+-- what is found is the window
+pub window_found : (h : Headers) (v : View) (w : Rect) → length h.tiles ≡ tile_count h.siz → window_at h v ≡ Ok w → HasWindow h v × (w ≡ window_of h v)
+unfolding window_at
+window_found h v w long e =
+    refuse_then (not (have_levels h v.reduce)) BadWindow _ w e (λ levels e.
+    refuse_then (is_empty (frame_of h v.reduce)) BadWindow _ w e (λ image e.
+    refuse_then (is_empty (window_of h v)) BadWindow _ w e (λ some e.
+    (record { levels = levels_found v.reduce (tile_count h.siz) h.tiles long (not-false (have_levels h v.reduce) levels); image = image; window = some }, sym (ok_is (window_of h v) w e)))))
+
+-- and a window is found
+pub window_only : (h : Headers) (v : View) → length h.tiles ≡ tile_count h.siz → HasWindow h v → window_at h v ≡ Ok (window_of h v)
+unfolding window_at
+window_only h v long has =
+    let levels : have_levels h v.reduce ≡ true = levels_only v.reduce (tile_count h.siz) h.tiles long has.levels in
+    rw (levels, has.image, has.window) refl
+
+refused : {A : Type 0} (b : Bool) (r : Result A Fault) (e : Fault) → (refuse b BadWindow >>= λ _. r) ≡ Err e → (r ≡ Err e → e ≡ BadWindow) → e ≡ BadWindow
+refused true r e is more = cc
+refused false r e is more = more is
+
+-- no other fault is
+pub window_refused : (h : Headers) (v : View) (e : Fault) → window_at h v ≡ Err e → e ≡ BadWindow
+unfolding window_at
+window_refused h v e is =
+    refused (not (have_levels h v.reduce)) _ e is (λ is.
+    refused (is_empty (frame_of h v.reduce)) _ e is (λ is.
+    refused (is_empty (window_of h v)) _ e is (λ is. absurd cc)))

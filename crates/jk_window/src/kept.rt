@@ -1,0 +1,170 @@
+//! What is kept of a file.
+
+ghost use Rattle.std.specs.Prelude.{◌≡◌, ◌+◌, ◌-◌, ◌≤◌, ◌<◌, ◌^◌, ℕ, List, length, min, IfOk, IfErr, MatchResult, Ok};
+ghost use Rattle.jk_math.specs.Answer.{Answers};
+ghost use Rattle.jk_math.specs.Memory.{IsMemory};
+ghost use Rattle.jk_math.specs.declared.fault.Fault.TheVariants.{BadWindow};
+ghost use Rattle.jk_marks.specs.Siz.{tile_count};
+ghost use Rattle.jk_geom.specs.TileShapes.{AreCodings};
+ghost use Rattle.jk_params.specs.Headers.{AreHeaders, packets_of};
+ghost use Rattle.jk_window.specs.Views.{HasWindow};
+ghost use Rattle.jk_window.specs.Indexing.{IndexFields, least_in, least_levels};
+
+use crate::view::View;
+use crate::window::sees;
+use jk_boxes::Boxed;
+use jk_geom::Codings;
+use jk_marks::Order;
+use jk_math::Fault;
+use jk_params::Codestream;
+use std::marker::Model;
+
+/// The most decomposition levels that a tile-component may have.
+const MOST_LEVELS: u8 = 10;
+
+/// What is kept of a file: where its codestream stands, and what its headers say. All its packets can be read.
+#[derive(Debug, Drop)]
+pub struct Index {
+    place: Boxed,
+    layers: u16,
+    order: Order,
+    headers: Codestream,
+}
+
+impl Model for Index {
+    ghost use Rattle.std.specs.Prelude.{◌-◌, ◌≤◌};
+    ghost use Rattle.jk_params.specs.Headers.{AreHeaders};
+    ghost use Rattle.jk_window.specs.Indexing.{IndexFields};
+
+    ghost Value = { IndexFields };
+
+    ghost view = { λ i. record { place = i.place; layers = i.layers; order = i.order; headers = i.headers } };
+
+    ghost invariant = { λ i. AreHeaders (i.place.end - i.place.start) i.headers };
+}
+
+/// The least number of decomposition levels of components, and 10 where there are none.
+#[tactic(auto, using(crate::proofs::Levels::least_none, crate::proofs::Levels::least_more))]
+fn least_in(codings: &Codings) -> u8
+    ensures { result ≡ least_in codings.now (length codings.now) }
+{
+    let codings = codings.as_slice();
+    let mut least = MOST_LEVELS;
+    for i in 0..codings.len() {
+        least = least.min(codings[i].levels);
+    }
+    least
+}
+
+impl Index {
+    ghost use Rattle.std.specs.Prelude.{◌≡◌, ◌-◌, MatchResult};
+
+    /// An index of these fields.
+    pub(crate) fn new(place: Boxed, layers: u16, order: Order, headers: Codestream) -> Index
+        requires { AreHeaders (place.end - place.start) headers }
+        ensures { result ≡ record { place = place; layers = layers; order = order; headers = headers } }
+    {
+        Index {
+            place,
+            layers,
+            order,
+            headers,
+        }
+    }
+
+    /// Where the codestream stands in the file.
+    pub(crate) fn place(&self) -> Boxed
+        ensures { result ≡ self.now.place }
+    {
+        self.place
+    }
+
+    /// What the headers say.
+    pub(crate) fn headers(&self) -> &Codestream
+        ensures value { result.now ≡ self.now.headers }
+        ensures sound { AreHeaders (self.now.place.end - self.now.place.start) result.now }
+    {
+        &self.headers
+    }
+
+    /// How many samples the image has side by side.
+    pub fn width(&self) -> u32
+        ensures { result ≡ self.now.headers.siz.x1 - self.now.headers.siz.x0 }
+    {
+        let siz = self.headers.siz();
+        siz.x1 - siz.x0
+    }
+
+    /// How many samples it has one above the other.
+    pub fn height(&self) -> u32
+        ensures { result ≡ self.now.headers.siz.y1 - self.now.headers.siz.y0 }
+    {
+        let siz = self.headers.siz();
+        siz.y1 - siz.y0
+    }
+
+    /// How many components the image has.
+    pub fn components(&self) -> u16
+        ensures { result ≡ self.now.headers.siz.components }
+    {
+        self.headers.siz().components
+    }
+
+    /// How many bits a sample has.
+    pub fn depth(&self) -> u8
+        ensures { result ≡ self.now.headers.siz.depth }
+    {
+        self.headers.siz().depth
+    }
+
+    /// The least number of decomposition levels of a component of a tile: so often the image can be halved.
+    #[tactic(auto, using(crate::proofs::Levels::levels_none, crate::proofs::Levels::levels_more))]
+    pub fn levels(&self) -> u8
+        ensures { result ≡ least_levels self.now.headers.tiles (tile_count self.now.headers.siz) }
+    {
+        let mut least = MOST_LEVELS;
+        for number in 0..self.headers.tile_count() {
+            least = least.min(least_in(self.headers.codings(number)));
+        }
+        least
+    }
+
+    /// How many layers there are, by the main header.
+    pub fn layers(&self) -> u16
+        ensures { result ≡ self.now.layers }
+    {
+        self.layers
+    }
+
+    /// The order of the packets, by the main header.
+    pub fn order(&self) -> Order
+        ensures { result ≡ self.now.order }
+    {
+        self.order
+    }
+
+    /// How many tiles there are.
+    pub fn tiles(&self) -> usize
+        ensures { result ≡ tile_count self.now.headers.siz }
+    {
+        self.headers.tile_count()
+    }
+
+    /// How many packets there are.
+    pub fn packets(&self) -> u64
+        ensures { result ≡ packets_of self.now.headers.siz self.now.headers.tiles }
+    {
+        self.headers.packet_count()
+    }
+
+    /// Whether a view has a window.
+    ///
+    /// BadWindow: a tile-component has fewer decomposition levels than the reduction, or the reduced image or the window
+    /// has no sample.
+    pub fn sees(&self, view: View) -> Result<(), Fault>
+        ensures { MatchResult result
+            (λ _. HasWindow self.now.headers view) (λ e. (e ≡ BadWindow) × (HasWindow self.now.headers view → ⊥)) }
+    {
+        sees(&self.headers, view)
+    }
+}

@@ -1,0 +1,23 @@
+//! Windows of a stored file, cut out without decoding: which packets a window needs, and the file in which all others are
+//! empty.
+#![tactic(auto)]
+
+mod cutting;
+mod kept;
+mod need;
+mod parts;
+mod pieces;
+mod reading;
+mod theorems;
+mod tiles;
+mod view;
+mod window;
+
+pub use cutting::cut;
+pub use kept::Index;
+pub use need::needs;
+pub use reading::index;
+pub use theorems::{
+    emptied_codestreams_are_codestreams, emptied_tiles_are_tiles, stretches_hold_what_is_near,
+};
+pub use view::View;

@@ -1,0 +1,62 @@
+//! Indexing a file.
+
+ghost use Rattle.std.specs.Prelude.{◌≡◌, ◌-◌, length, IfOk, Ok};
+ghost use Rattle.jk_math.specs.Answer.{Answers};
+ghost use Rattle.jk_marks.specs.Siz.{tile_count};
+ghost use Rattle.jk_params.specs.Headers.{AreHeaders};
+ghost use Rattle.jk_window.specs.Indexing.{IndexFields, IsIndexOf, packets_tested, fields_at, index_at};
+
+use crate::kept::Index;
+use jk_boxes::{Boxed, open};
+use jk_marks::read_main;
+use jk_math::Fault;
+use jk_params::{Codestream, read_codestream};
+use jk_walk::read_packets;
+use std::alloc::Global;
+
+/// Reads the packets of all tiles, and keeps none.
+fn test_packets(alloc: Global, headers: &Codestream, bytes: &[u8]) -> Result<(), Fault>
+    requires { AreHeaders (length bytes.now) headers.now }
+    ensures { Answers (λ _. tt) result (packets_tested bytes.now headers.now (tile_count headers.now.siz)) }
+{
+    for number in 0..headers.tile_count() {
+        read_packets(alloc, headers, bytes, number)?;
+    }
+    Ok(())
+}
+
+/// The index of a codestream at a place.
+#[tactic(auto, unfolding(crate::specs::Indexing::fields_at))]
+fn read_index(alloc: Global, place: Boxed, bytes: &[u8]) -> Result<Index, Fault>
+    requires { place.end - place.start ≡ length bytes.now }
+    ensures { Answers (λ i. i) result (fields_at place bytes.now) }
+{
+    let (main, _) = read_main(bytes)?;
+    let headers = read_codestream(alloc, bytes)?;
+    test_packets(alloc, &headers, bytes)?;
+    Ok(Index::new(place, main.cod.layers, main.cod.order, headers))
+}
+
+/// The index of a file.
+#[tactic(auto, unfolding(crate::specs::Indexing::index_at))]
+fn indexing(alloc: Global, bytes: &[u8]) -> Result<Index, Fault>
+    ensures { Answers (λ i. i) result (index_at bytes.now) }
+{
+    let place = open(bytes)?;
+    read_index(alloc, place, &bytes[place.start..place.end])
+}
+
+/// The index of a file, bare or JP2: its boxes, all headers and all packets are read.
+///
+/// The first of these faults: those of the boxes, as `open` names them; those of `read_codestream`; then, tile by tile, those
+/// of its packets, as `read_packets` names them. Code-blocks aren't decoded.
+pub fn index(alloc: Global, bytes: &[u8]) -> Result<Index, Fault>
+    // Which index, or which fault is the first.
+    ensures exact { Answers (λ i. i) result (index_at bytes.now) }
+    // What is given is the index of the file.
+    ensures found { IfOk result (λ i. IsIndexOf bytes.now i) }
+    // A file that has an index gives it.
+    ensures only { (i : IndexFields) → IsIndexOf bytes.now i → Answers (λ x. x) result (Ok i) }
+{
+    indexing(alloc, bytes)
+}

@@ -1,0 +1,32 @@
+//! Laws of windows: the contract of an empty function is the law.
+
+ghost use Rattle.std.specs.Prelude.{◌≡◌, ◌+◌, ◌/◌, ◌%◌, ℕ, Bool, List, map};
+ghost use Rattle.jk_math.specs.declared.rect.Rect.{Rect};
+ghost use Rattle.jk_geom.specs.declared.bands.Orientation.{Orientation};
+ghost use Rattle.jk_geom.specs.declared.shape.TileShape.{TileShape};
+ghost use Rattle.jk_geom.specs.Rectangles.{IsWithin, across_offset, down_offset};
+ghost use Rattle.jk_walk.specs.TilePackets.{Packet, IsTile};
+ghost use Rattle.jk_window.specs.Needs.{IsNear, stretch, part_of_band};
+ghost use Rattle.jk_window.specs.Emptied.{emptied_run, run_text, of_name};
+ghost use Rattle.jk_window.specs.Again.{IsCodestreamAgain, IsCutAgain};
+
+/// Within two places of a stretch, a place that is even both ways goes to a place of the stretch below, and any other to a
+/// place of the part of its sub-band: so a stretch depends on nothing else.
+pub fn stretches_hold_what_is_near()
+    ensures even { (u : Rect) (n x y : ℕ) → IsNear (stretch u n) x y → x % 2 ≡ 0 → y % 2 ≡ 0 → IsWithin (stretch u (n + 1)) (x / 2) (y / 2) }
+    ensures part { (u : Rect) (o : Orientation) (x y : ℕ) → IsNear u x y → x % 2 ≡ across_offset o → y % 2 ≡ down_offset o
+        → IsWithin (part_of_band u o) (x / 2) (y / 2) }
+{}
+
+/// The packets of a tile, those of some precincts emptied, are packets of the tile again, in the same runs.
+pub fn emptied_tiles_are_tiles()
+    ensures { (s : TileShape) (sop eph : Bool) (packets : List Packet) (parts : List (List ℕ)) (keep : ℕ → ℕ → ℕ → Bool) (tile : IsTile s sop eph packets parts)
+        → IsTile s sop eph (emptied_run (of_name keep) sop eph packets) (map (λ run. run_text (emptied_run (of_name keep) sop eph run)) tile.runs) }
+{}
+
+/// A codestream in which the packets of some precincts are empty is a codestream again: its headers say what they said, but
+/// for the places of the data, and its tiles have their packets, of which those are empty. So it is with that of a window.
+pub fn emptied_codestreams_are_codestreams()
+    ensures kept { IsCodestreamAgain }
+    ensures window { IsCutAgain }
+{}

@@ -1,0 +1,111 @@
+//! What is copied of the tiles of a codestream.
+
+ghost use Rattle.std.specs.Prelude.{◌≡◌, ◌≤◌, ◌<◌, ◌^◌, ◌⊎◌, ℕ, List, length, map, IfOk, IfErr, MatchResult, MatchOption, OnOk};
+ghost use Rattle.std.specs.List.{AllByRecursion};
+ghost use Rattle.jk_math.specs.Memory.{IsMemory};
+ghost use Rattle.jk_math.specs.declared.fault.Fault.TheVariants.{Changed};
+ghost use Rattle.jk_marks.specs.Siz.{tile_count};
+ghost use Rattle.jk_walk.specs.TilePackets.{Packet};
+ghost use Rattle.jk_params.specs.Headers.{AreHeaders, tile_in};
+ghost use Rattle.jk_window.specs.Indexing.{HasRuns};
+ghost use Rattle.jk_window.specs.Cutting.{IsCutOf, AreCutOf, AreWithin};
+
+use crate::need::meet;
+use crate::pieces::{Piece, TileCut, read_runs};
+use crate::window::reduced;
+use jk_geom::tile_shape;
+use jk_math::{Fault, Rect};
+use jk_params::Codestream;
+use jk_walk::read_packets;
+use std::alloc::Global;
+use std::marker::Model;
+
+/// What is copied of the packets of a tile, part by part.
+#[derive(Drop)]
+pub(crate) struct Pieces {
+    eph: bool,
+    runs: Vec<Vec<Piece>>,
+}
+
+impl Model for Pieces {
+    ghost use Rattle.jk_window.specs.Cutting.{TilePieces, lists_of};
+
+    ghost Value = { TilePieces };
+
+    ghost view = { λ p. record { eph = p.eph; runs = lists_of p.runs.items } };
+}
+
+impl Pieces {
+    ghost use Rattle.std.specs.Prelude.{◌≡◌, ◌≤◌, length, MatchOption};
+    ghost use Rattle.jk_window.specs.Cutting.{pieces_in};
+
+    /// Whether EPH stands at the packets.
+    pub(crate) fn eph(&self) -> bool
+        ensures { result ≡ self.now.eph }
+    {
+        self.eph
+    }
+
+    /// The pieces of a part.
+    pub(crate) fn run(&self, part: usize) -> Option<&[Piece]>
+        ensures { MatchOption result (length self.now.runs ≤ part) (λ r. r.now ≡ pieces_in self.now part) }
+    {
+        if part < self.runs.len() {
+            Some(&self.runs[part])
+        } else {
+            None
+        }
+    }
+}
+
+/// A fault of a codestream that was read before without one.
+pub(crate) fn changed(fault: Fault) -> Fault
+    ensures { (IsMemory fault → IsMemory result) × ((IsMemory fault → ⊥) → result ≡ Changed) × (IsMemory result ⊎ (result ≡ Changed)) }
+{
+    match fault {
+        Fault::Memory(refused) => Fault::Memory(refused),
+        _ => Fault::Changed,
+    }
+}
+
+/// What is copied of a tile where a window is cut.
+pub(crate) fn read_tile(
+    alloc: Global,
+    headers: &Codestream,
+    bytes: &[u8],
+    window: &Rect,
+    reduce: u8,
+    tile: usize,
+) -> Result<Pieces, Fault>
+    requires sound { AreHeaders (length bytes.now) headers.now }
+    requires tile { tile < tile_count headers.now.siz }
+    requires right { window.now.x1 < 2 ^ 31 }
+    requires lower { window.now.y1 < 2 ^ 31 }
+    requires few { reduce ≤ 10 }
+    ensures pieces { (runs : List (List Packet)) → HasRuns bytes.now headers.now tile runs
+        → MatchResult result (IsCutOf bytes.now headers.now window.now reduce tile runs) (λ e. IsMemory e) }
+    ensures within { IfOk result (AreWithin (length bytes.now)) }
+    ensures err { IfErr result (λ e. IsMemory e ⊎ (e ≡ Changed)) }
+{
+    let packets = match read_packets(alloc, headers, bytes, tile) {
+        Ok(packets) => packets,
+        Err(fault) => return Err(changed(fault)),
+    };
+    let cod = headers.cod(tile);
+    let shape = tile_shape(
+        headers.siz(),
+        tile as u32,
+        cod.layers,
+        cod.order,
+        headers.codings(tile).copy(),
+    );
+    let cut = TileCut {
+        bytes,
+        shape: &shape,
+        sop: cod.sop,
+        top: meet(window, &reduced(&shape.rect, reduce)),
+        reduce,
+    };
+    let runs = read_runs(alloc, &cut, packets.as_slice(), headers.data_places(tile))?;
+    Ok(Pieces { eph: cod.eph, runs })
+}

@@ -1,0 +1,13 @@
+//! Views.
+
+/// A rectangle of an image at a reduction, counted from the upper left sample of the reduced image. What passes the edge
+/// of the image is left out.
+#[derive(Clone, Copy, Debug, PartialEq, Eq)]
+pub struct View {
+    /// How often the image is halved.
+    pub reduce: u32,
+    pub x: u32,
+    pub y: u32,
+    pub width: u32,
+    pub height: u32,
+}

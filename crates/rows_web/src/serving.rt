@@ -1,0 +1,188 @@
+use crate::cases::SERVED;
+use jk_math::Fault;
+use jk_web::{End, Octets, Reply, Request, Service, serve};
+use std::alloc::Global;
+use std::io;
+use std::io::{ErrorKind, Read, Write};
+use std::process::Abort;
+use std::test::Fail;
+
+/// Answers with the method and the target.
+#[derive(Drop)]
+struct Echo {}
+
+impl Service for Echo {
+    ghost gives = { λ _ _ _ _. Unit {0} };
+
+    ghost refuses = { λ _ _ _ _. Unit {0} };
+
+    fn answer(&mut self, alloc: Global, request: &Request) -> Result<Reply, Fault> {
+        let mut bytes = Vec::new(alloc);
+        bytes.extend_from_slice(request.method.as_slice())?;
+        bytes.push(b' ')?;
+        bytes.extend_from_slice(request.target.as_slice())?;
+        bytes.push(b'\n')?;
+        Ok(Reply {
+            status: 200,
+            close: request.closes,
+            bytes: Octets::new(bytes),
+        })
+    }
+}
+
+/// Gives at most so many bytes a read, and fails behind the last one or is at its end.
+#[derive(Drop)]
+struct Source {
+    bytes: Vec<u8>,
+    at: usize,
+    most: usize,
+    fails: bool,
+}
+
+impl Read for Source {
+    fn read(&mut self, buf: &mut [u8]) -> io::Result<usize> {
+        let left = self.bytes.len().saturating_sub(self.at);
+        if left == 0 && self.fails {
+            return Err(io::Error::from(ErrorKind::ConnectionReset));
+        }
+        let count = left.min(self.most).min(buf.len());
+        for i in 0..count {
+            if self.at < self.bytes.len() && i < buf.len() {
+                buf[i] = self.bytes[self.at];
+                self.at = self.at.saturating_add(1);
+            }
+        }
+        Ok(count)
+    }
+}
+
+/// Takes at most so many bytes a write, and so many in all.
+#[derive(Drop)]
+struct Sink {
+    bytes: Vec<u8>,
+    most: usize,
+    room: usize,
+    fails: bool,
+}
+
+impl Write for Sink {
+    fn write(&mut self, buf: &[u8]) -> io::Result<usize> {
+        let left = self.room.saturating_sub(self.bytes.len());
+        if left == 0 && self.fails {
+            return Err(io::Error::from(ErrorKind::BrokenPipe));
+        }
+        let count = left.min(self.most).min(buf.len());
+        match self.bytes.extend_from_slice(&buf[..count]) {
+            Ok(()) => Ok(count),
+            Err(_) => Err(io::Error::from(ErrorKind::OutOfMemory)),
+        }
+    }
+
+    fn flush(&mut self) -> io::Result<()> {
+        Ok(())
+    }
+}
+
+fn read_from(alloc: Global, bytes: &[u8], most: usize, fails: bool) -> Result<Source, Fail> {
+    Ok(Source {
+        bytes: Vec::from_slice(alloc, bytes)?,
+        at: 0,
+        most,
+        fails,
+    })
+}
+
+fn write_to(alloc: Global, most: usize, room: usize, fails: bool) -> Sink {
+    Sink {
+        bytes: Vec::new(alloc),
+        most,
+        room,
+        fails,
+    }
+}
+
+/// Serves a stream, and looks at what was written and why it has ended.
+fn serves(
+    rt: &impl Abort,
+    alloc: Global,
+    mut reader: Source,
+    mut writer: Sink,
+    turns: u64,
+    want: (&[u8], End),
+) -> Result<(), Fail> {
+    let mut echo = Echo {};
+    let end = serve(alloc, &mut reader, &mut writer, &mut echo, turns)?;
+    assert_eq!(rt; writer.bytes.as_slice(), want.0);
+    assert_eq!(rt; end, want.1);
+    Ok(())
+}
+
+#[test]
+fn in_any_pieces(rt: HostRuntime) -> Result<(), Fail> {
+    let alloc = rt.alloc();
+    for (stream, text, end) in &SERVED {
+        for size in [1, 2, 3, 7, 5000] {
+            let reader = read_from(alloc, stream, size, false)?;
+            let writer = write_to(alloc, 5000, 100000, false);
+            serves(&rt, alloc, reader, writer, 100000, (text, *end))?;
+            let reader = read_from(alloc, stream, size, false)?;
+            let writer = write_to(alloc, 1, 100000, false);
+            serves(&rt, alloc, reader, writer, 100000, (text, *end))?;
+        }
+    }
+    Ok(())
+}
+
+#[test]
+fn reads_that_fail(rt: HostRuntime) -> Result<(), Fail> {
+    let alloc = rt.alloc();
+    let stream = b"GET /a HTTP/1.1\r\n\r\nGET /b HTTP/1.1\r\n";
+    let reader = read_from(alloc, stream, 10, true)?;
+    let writer = write_to(alloc, 100, 1000, false);
+    serves(
+        &rt,
+        alloc,
+        reader,
+        writer,
+        1000,
+        (b"GET /a\n", End::ReadFailed),
+    )
+}
+
+#[test]
+fn writes_that_fail(rt: HostRuntime) -> Result<(), Fail> {
+    let alloc = rt.alloc();
+    let stream = b"GET /a HTTP/1.1\r\n\r\nGET /b HTTP/1.1\r\n\r\n";
+    for fails in [false, true] {
+        let reader = read_from(alloc, stream, 1000, false)?;
+        let writer = write_to(alloc, 3, 10, fails);
+        serves(
+            &rt,
+            alloc,
+            reader,
+            writer,
+            1000,
+            (b"GET /a\nGET", End::WriteFailed),
+        )?;
+    }
+    Ok(())
+}
+
+#[test]
+fn turns_are_spent(rt: HostRuntime) -> Result<(), Fail> {
+    let alloc = rt.alloc();
+    let stream = b"GET /a HTTP/1.1\r\n\r\nGET /b HTTP/1.1\r\n\r\n";
+    let reader = read_from(alloc, stream, 10, false)?;
+    let writer = write_to(alloc, 100, 1000, false);
+    serves(
+        &rt,
+        alloc,
+        reader,
+        writer,
+        3,
+        (b"GET /a\n", End::TurnsSpent),
+    )?;
+    let reader = read_from(alloc, stream, 10, false)?;
+    let writer = write_to(alloc, 100, 1000, false);
+    serves(&rt, alloc, reader, writer, 0, (b"", End::TurnsSpent))
+}

@@ -1,0 +1,11 @@
+//! Windows of files, cut out, with answers from outside.
+#![tactic(auto)]
+
+#[cfg(test)]
+mod cuts;
+#[cfg(test)]
+mod many;
+#[cfg(test)]
+mod meanings;
+#[cfg(test)]
+mod texts;
