@@ -1,5 +1,5 @@
 -- Examples: samples of small tiles, by the definitions alone.
-use Rattle.std.proofs.Common.{◌≡◌, ℕ, ◌+◌, true, List, [], ◌∷◌, false, ℤ, pos, negsuc, refl}
+use Rattle.std.proofs.Common.{◌≡◌, ℕ, ◌+◌, ◌-◌, true, List, [], ◌∷◌, false, ℤ, pos, negsuc, ◌+ℤ◌, refl}
 use Rattle.std.specs.Prelude.{map, slice_index_or}
 use Rattle.jk_math.specs.declared.rect.Rect.{Rect}
 use Rattle.jk_math.specs.Division.{reflected}
@@ -10,6 +10,7 @@ use Rattle.jk_geom.specs.Rectangles.{resolution_area}
 use Rattle.jk_lift.specs.Lifting.{unlifted, even_at}
 use Rattle.jk_wave.specs.Resolutions.{woven_plane, resolution_of}
 use Rattle.jk_tile.specs.Pixels.{uncoloured, tile_sample}
+use Rattle.jk_tile.specs.Fronts.{without_planes}
 
 -- sub-bands of one row each, by number
 abbrev rows_of : List (List ℤ) → ℕ → ℕ → ℕ → ℤ
@@ -74,3 +75,12 @@ row_sample : (cod : Cod) (siz : Siz) → cod.colour ≡ true → siz.depth ≡ 1
     → map (tile_sample cod siz (λ c. signed_at (negsuc 0 ∷ (pos 65535 ∷ (pos 65535 ∷ []))) c)) (0 ∷ (1 ∷ (2 ∷ []))) ≡ pos 65535 ∷ (pos 0 ∷ (pos 65535 ∷ []))
 unfolding uncoloured tile_sample
 row_sample cod siz colour depth signed = rw (colour, depth, signed) refl
+
+-- Of eight layers the first four leave out the four lowest bit-planes: of one sample of 8 bits, 255 becomes 240, 1 becomes 16, and 0
+-- stays.
+row_front : map (λ v. without_planes (8 - 4) v +ℤ pos 128) (pos 127 ∷ (negsuc 126 ∷ (negsuc 127 ∷ []))) ≡ pos 240 ∷ (pos 16 ∷ (pos 0 ∷ []))
+row_front = refl
+
+-- Of one bit-plane more than there are nothing is left.
+row_front_none : map (without_planes 7) (pos 127 ∷ (negsuc 126 ∷ [])) ≡ pos 0 ∷ (pos 0 ∷ [])
+row_front_none = refl

@@ -10,7 +10,7 @@ use Rattle.jk_geom.specs.Rectangles.{IsWithin}
 use Rattle.jk_params.specs.Headers.{Headers}
 use Rattle.jk_code.specs.Meaning.{IsFrameOf}
 use Rattle.jk_code.specs.MeaningReading.{sample_of_tiles, picture_with, planes_of_tiles}
-use Rattle.jk_code.specs.Tiles.{frame_of}
+use Rattle.jk_window.specs.Views.{frame_of}
 
 -- the picture of all tiles
 abbrev pub tiles_picture : List ℕ → Headers → ℕ → Picture

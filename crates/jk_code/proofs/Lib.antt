@@ -1,4 +1,3 @@
-pub mod Below
 pub mod Planes
 pub mod HeaderFacts
 pub mod Tiling
@@ -12,4 +11,5 @@ pub mod WrittenLaws
 pub mod WindowBands
 pub mod WindowTile
 pub mod WindowLaws
+pub mod FrontLaws
 mod Examples

@@ -22,9 +22,10 @@ use Rattle.jk_params.proofs.Laws.{found_headers, only_headers, sound_headers}
 use Rattle.jk_code.specs.Meaning.{IsFrameOf, ShowsTile, MeansPicture, Means}
 use Rattle.jk_walk.specs.WalkReading.{packets_at}
 use Rattle.jk_tile.specs.TileReading.{tested, tile_planes_at}
-use Rattle.jk_code.specs.MeaningReading.{places_at, packets_tested, tiles_tested, has_levels, holds_below, reduction_at, picture_with, planes_of_tiles, picture_at, image_at, meaning_at}
-use Rattle.jk_code.specs.Tiles.{frame_of}
-use Rattle.jk_code.proofs.HeaderFacts.{levels_found, levels_only, sides_of}
+use Rattle.jk_code.specs.MeaningReading.{places_at, packets_tested, tiles_tested, reduction_at, picture_with, planes_of_tiles, picture_at, image_at, meaning_at}
+use Rattle.jk_window.specs.Views.{frame_of, has_levels, holds_below}
+use Rattle.jk_code.proofs.HeaderFacts.{sides_of}
+use Rattle.jk_window.proofs.Laws.{levels_found, levels_only}
 use Rattle.jk_tile.proofs.Laws.{each_found, each_only, bind_ok}
 use Rattle.jk_code.proofs.Tiling.{tile_shows, TileRead, tile_read, tile_value, tile_levels}
 use Rattle.jk_code.proofs.FrameLaws.{tiles_picture, tiles_frame, picture_is}

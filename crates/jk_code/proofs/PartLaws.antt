@@ -13,7 +13,7 @@ use Rattle.jk_params.specs.Profile.{siz_of, IsWrittenBy}
 use Rattle.jk_params.proofs.Laws.{put}
 use Rattle.jk_tile.specs.PacketsWritten.{tile_text}
 use Rattle.jk_code.specs.Written.{part_for, part_fits, parts_fit}
-use Rattle.jk_code.proofs.Below.{below_at}
+use Rattle.jk_window.proofs.Laws.{below_at}
 
 -- the parts that are written
 abbrev pub parts_for : Picture → Parameters → List Part

@@ -25,7 +25,8 @@ use Rattle.jk_tile.specs.TileMeaning.{shown_area}
 use Rattle.jk_tile.specs.TileReading.{tile_planes_at, component_samples}
 use Rattle.jk_tile.proofs.Laws.{tile_tested, IsPut, Agrees, put_keeps, put_shows, put_here, put_there}
 use Rattle.jk_code.specs.MeaningReading.{places_or, places_at, sample_of_tiles, planes_of_tiles}
-use Rattle.jk_code.specs.Tiles.{frame_of, plane_in, ArePlanes, Shows, Keeps, ShowsTileAt, AreRead}
+use Rattle.jk_code.specs.Tiles.{plane_in, ArePlanes, Shows, Keeps, ShowsTileAt, AreRead}
+use Rattle.jk_window.specs.Views.{frame_of}
 use Rattle.jk_code.proofs.Tiling.{tile_value}
 
 -- ---- the part of a tile

@@ -28,13 +28,12 @@ use Rattle.jk_tile.specs.TileMeaning.{shown_area, DecodesTile}
 use Rattle.jk_tile.specs.TileReading.{tested, tile_planes_at, component_samples}
 use Rattle.jk_tile.proofs.Laws.{tile_only, tested_ok}
 use Rattle.jk_window.specs.declared.view.View.{View}
-use Rattle.jk_window.specs.Views.{have_levels, window_of, window_at}
+use Rattle.jk_window.specs.Views.{have_levels, window_of, window_at, HaveLevels, frame_of}
 use Rattle.jk_window.specs.Indexing.{IndexFields, IsIndexOf}
 use Rattle.jk_window.specs.Cutting.{with_codestream, cut_tree}
 use Rattle.jk_window.proofs.Laws.{cut_again}
 use Rattle.jk_code.specs.Meaning.{IsFrameOf, ShowsTile, MeansPicture, Means}
 use Rattle.jk_code.specs.MeaningReading.{places_or, places_at}
-use Rattle.jk_code.specs.Tiles.{HaveLevels, frame_of}
 use Rattle.jk_code.specs.Windows.{IsSameOnWindow, IsWindowMeant}
 use Rattle.jk_code.proofs.FrameLaws.{tiles_picture, tiles_frame, tiles_sample}
 use Rattle.jk_code.proofs.Tiling.{tile_value, tile_shows, tile_levels}
@@ -97,7 +96,7 @@ text_bare tree = record {
   whole = refl;
 }
 
-reply_holds : (bytes codestream : List ℕ) (b : Boxed) (holds : HoldsAt bytes codestream b) (tree : Tree) (reply : List ℕ) → with_codestream holds (codestream_text tree) ≡ Ok reply → Holds reply (codestream_text tree)
+pub reply_holds : (bytes codestream : List ℕ) (b : Boxed) (holds : HoldsAt bytes codestream b) (tree : Tree) (reply : List ℕ) → with_codestream holds (codestream_text tree) ≡ Ok reply → Holds reply (codestream_text tree)
 reply_holds bytes codestream b (inl bare) tree reply e =
     subst (λ (r : List ℕ). Holds r (codestream_text tree)) (ok_is (codestream_text tree) reply e) (inl (text_bare tree))
 reply_holds bytes codestream b (inr jp2) tree reply e = inr (recoded_holds bytes codestream (codestream_text tree) reply jp2.0 e)

@@ -29,18 +29,18 @@ use Rattle.jk_code.proofs.HeaderLaws.{segments_for, quantisation_for, coding_in,
 use Rattle.jk_code.proofs.PartLaws.{parts_for, part_said, parts_are, total_below}
 
 -- the headers of what is written
-abbrev headers_for : Picture → Parameters → Headers
+abbrev pub headers_for : Picture → Parameters → Headers
 headers_for p q = record { siz = siz_of p q; tiles = tiles_said (siz_of p q) (segments_for p q) (parts_for p q) }
 
 -- where the data of a tile stand
-abbrev places_for : Picture → Parameters → ℕ → List (ℕ × ℕ)
+abbrev pub places_for : Picture → Parameters → ℕ → List (ℕ × ℕ)
 places_for p q t = places_from (length (main_text (siz_of p q) (segments_for p q))) (parts_for p q) t
 
 -- the fields of a tile
 abbrev fields_for : Picture → Parameters → ℕ → TileFields
 fields_for p q t = record { cod = cod_of q; codings = replicate (length p.planes) (coding_in p q); data_places = places_for p q t }
 
-fields_said : (p : Picture) (q : Parameters) → IsWrittenBy q p → (t : ℕ) → t < tile_count (siz_of p q) → tile_in (headers_for p q).tiles t ≡ fields_for p q t
+pub fields_said : (p : Picture) (q : Parameters) → IsWrittenBy q p → (t : ℕ) → t < tile_count (siz_of p q) → tile_in (headers_for p q).tiles t ≡ fields_for p q t
 fields_said p q by t lt =
     let siz = siz_of p q in
     let segments = segments_for p q in
@@ -67,7 +67,7 @@ all_few p q by =
     total_below (λ t. number t (tile_in (headers_for p q).tiles t)) (packets_in p q) (tile_count siz)
     (λ t lt. ap (number t) (fields_said p q by t lt) ∙ tile_packets p q t)
 
-headers_are : (p : Picture) (q : Parameters) → IsPicture p → IsWrittenBy q p → parts_fit p q ≡ true → IsHeaders (codestream_text (tree_for p q)) (headers_for p q)
+pub headers_are : (p : Picture) (q : Parameters) → IsPicture p → IsWrittenBy q p → parts_fit p q ≡ true → IsHeaders (codestream_text (tree_for p q)) (headers_for p q)
 unfolding headers_of
 headers_are p q is by fit =
     let few = by.few in
@@ -88,7 +88,7 @@ headers_are p q is by fit =
 ceil_one : (x : ℕ) → (x + 1 - 1) / 1 ≡ x
 ceil_one x = omega arith
 
-whole_area : (a : Rect) → reduced_area a 0 ≡ a
+pub whole_area : (a : Rect) → reduced_area a 0 ≡ a
 unfolding resolution_area
 whole_area a = λ i. record { x0 = ceil_one a.x0 i; y0 = ceil_one a.y0 i; x1 = ceil_one a.x1 i; y1 = ceil_one a.y1 i }
 
@@ -97,7 +97,7 @@ planes_full : (p : Picture) → IsPicture p → All (λ (plane : List ℤ). leng
 planes_full p is =
     All-from_get_or (λ (plane : List ℤ). length plane ≡ p.width * p.height) p.planes [] (λ c lt. (All-get_or (IsPlane (p.width * p.height) p.depth p.signed) p.planes c [] lt is.components.each).count)
 
-frame_is : (p : Picture) (q : Parameters) → IsPicture p → IsFrameOf (headers_for p q) 0 p
+pub frame_is : (p : Picture) (q : Parameters) → IsPicture p → IsFrameOf (headers_for p q) 0 p
 frame_is p q is =
     let whole = sym (whole_area (image_area (siz_of p q))) in
     record {
@@ -114,7 +114,7 @@ frame_is p q is =
     }
 
 -- the data of a tile
-content_said : (p : Picture) (q : Parameters) (t : ℕ) → t < tile_count (siz_of p q) → map (slice_of (codestream_text (tree_for p q))) (places_for p q t) ≡ tile_text p q t ∷ []
+pub content_said : (p : Picture) (q : Parameters) (t : ℕ) → t < tile_count (siz_of p q) → map (slice_of (codestream_text (tree_for p q))) (places_for p q t) ≡ tile_text p q t ∷ []
 content_said p q t lt = contents_from (codestream_text (tree_for p q)) (tree_for p q) t refl ∙ ap (λ (ps : List Part). map (λ (x : Part). x.content) ps) (part_said p q t lt)
 
 -- the samples of a tile

@@ -8,3 +8,4 @@ pub mod MeaningReading
 pub mod Tiles
 pub mod Written
 pub mod Windows
+pub mod Fronts

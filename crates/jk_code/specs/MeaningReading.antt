@@ -1,6 +1,6 @@
 -- Decoding from front to back, with the first fault that is met.
-use Rattle.std.specs.Prelude.{ℕ, zero, suc, ◌-◌, ◌*◌, ◌^◌, Bool, true, List, [], map, not, ◌&&◌, nat_le, slice_range, Result, Ok, Err, ℤ}
-use Rattle.std.specs.List.{list_all, range_with_len}
+use Rattle.std.specs.Prelude.{ℕ, ◌-◌, ◌*◌, ◌^◌, List, [], map, not, slice_range, Result, Ok, Err, ℤ}
+use Rattle.std.specs.List.{range_with_len}
 use Rattle.jk_math.specs.Answer.{◌>>=◌, refuse}
 use Rattle.jk_math.specs.declared.fault.Fault.{Fault}
 use Rattle.jk_math.specs.declared.fault.Fault.TheVariants.{BadWindow}
@@ -11,11 +11,12 @@ use Rattle.jk_marks.specs.declared.siz.Siz.{Siz}
 use Rattle.jk_marks.specs.Siz.{tile_count}
 use Rattle.jk_boxes.specs.Reading.{boxes_at}
 use Rattle.jk_geom.specs.Rectangles.{is_empty}
-use Rattle.jk_geom.specs.Partitions.{image_area, reduced_area, tile_of}
-use Rattle.jk_params.specs.Headers.{Headers, TileFields, tile_in}
+use Rattle.jk_geom.specs.Partitions.{tile_of}
+use Rattle.jk_params.specs.Headers.{Headers}
 use Rattle.jk_params.specs.HeadersReading.{headers_at}
 use Rattle.jk_walk.specs.declared.places.PacketPlace.{PacketPlace}
 use Rattle.jk_walk.specs.WalkReading.{packets_at}
+use Rattle.jk_window.specs.Views.{have_levels, frame_of}
 use Rattle.jk_tile.specs.TileReading.{each, tested, tile_planes_at, component_samples}
 
 -- the packets of tile t, where they are read
@@ -34,21 +35,12 @@ packets_tested bytes h n = each n (λ t. tested (packets_at bytes h t))
 abbrev pub tiles_tested : List ℕ → Headers → (d n : ℕ) → Result (Unit {0}) Fault
 tiles_tested bytes h d n = each n (λ t. tested (tile_planes_at bytes h t d (places_at bytes h t)))
 
--- whether a test holds of the numbers below n
-unfoldable pub holds_below : (ℕ → Bool) → ℕ → Bool
-holds_below f zero = true
-holds_below f (suc n) = holds_below f n && f n
-
--- whether each component of a tile has d decomposition levels
-abbrev pub has_levels : ℕ → TileFields → Bool
-has_levels d f = list_all (λ k. nat_le d k.levels) f.codings
-
 -- The place of the reduced image: no tile-component has fewer levels, and the reduced image isn't empty.
 unfoldable pub reduction_at : Headers → ℕ → Result Rect Fault
 reduction_at h d = do
-  _ ← refuse (not (holds_below (λ t. has_levels d (tile_in h.tiles t)) (tile_count h.siz))) BadWindow
-  _ ← refuse (is_empty (reduced_area (image_area h.siz) d)) BadWindow
-  Ok (reduced_area (image_area h.siz) d)
+  _ ← refuse (not (have_levels h d)) BadWindow
+  _ ← refuse (is_empty (frame_of h d)) BadWindow
+  Ok (frame_of h d)
 
 -- the sample of a component at a place of the reduced grid: that of the tile that has the place
 abbrev pub sample_of_tiles : List ℕ → Headers → (d c x y : ℕ) → ℤ

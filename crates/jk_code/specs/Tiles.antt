@@ -1,16 +1,13 @@
 -- Tiles that are put into the planes of an image one after another.
-use Rattle.std.specs.Prelude.{◌≡◌, ℕ, ◌<◌, ◌≤◌, List, [], length, Ok, ℤ, slice_index_or}
+use Rattle.std.specs.Prelude.{◌≡◌, ℕ, ◌<◌, List, [], length, Ok, ℤ, slice_index_or}
 use Rattle.std.specs.Global.{Vec}
-use Rattle.jk_math.specs.declared.rect.Rect.{Rect}
 use Rattle.jk_math.specs.Picture.{lists_of}
 use Rattle.jk_math.specs.Raster.{plane_at, places_of}
 use Rattle.jk_geom.specs.Rectangles.{IsWithin}
-use Rattle.jk_geom.specs.Partitions.{image_area, reduced_area}
-use Rattle.std.specs.List.{AllByRecursion}
-use Rattle.jk_marks.specs.declared.coding.Coding.{Coding}
-use Rattle.jk_params.specs.Headers.{Headers, TileFields}
+use Rattle.jk_params.specs.Headers.{Headers}
 use Rattle.jk_walk.specs.declared.places.PacketPlace.{PacketPlace}
 use Rattle.jk_walk.specs.WalkReading.{packets_at}
+use Rattle.jk_window.specs.Views.{frame_of}
 use Rattle.jk_tile.specs.TileMeaning.{shown_area}
 use Rattle.jk_code.specs.MeaningReading.{sample_of_tiles}
 
@@ -18,10 +15,6 @@ use Rattle.jk_code.specs.MeaningReading.{sample_of_tiles}
 pub record AreRead (bytes : List ℕ) (h : Headers) (n : ℕ) (all : List (List PacketPlace)) : Type 0 where
   pub count : length all ≡ n
   pub each : (t : ℕ) → t < n → packets_at bytes h t ≡ Ok (slice_index_or all t [])
-
--- the place of the reduced image
-abbrev pub frame_of : Headers → ℕ → Rect
-frame_of h d = reduced_area (image_area h.siz) d
 
 -- plane c
 abbrev pub plane_in : List (Vec ℤ) → ℕ → List ℤ
@@ -43,7 +36,3 @@ Keeps bytes h d old new = (c x y : ℕ) → c < h.siz.components → IsWithin (f
 -- tile t is shown, of the first n components
 abbrev pub ShowsTileAt : List ℕ → Headers → (d t n : ℕ) → List (Vec ℤ) → Type 0
 ShowsTileAt bytes h d t n planes = (c x y : ℕ) → c < n → IsWithin (shown_area h.siz t d) x y → Shows bytes h d c (plane_in planes c) x y
-
--- each tile-component has d levels
-abbrev pub HaveLevels : Headers → ℕ → Type 0
-HaveLevels h d = AllByRecursion (λ (f : TileFields). AllByRecursion (λ (k : Coding). d ≤ k.levels) f.codings) h.tiles

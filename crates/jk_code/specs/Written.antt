@@ -14,7 +14,7 @@ use Rattle.jk_params.specs.declared.parameters.Container.TheVariants.{Raw, Jp2}
 use Rattle.jk_params.specs.Profile.{siz_of, cod_of, is_profile}
 use Rattle.jk_tile.specs.Needs.{exponents_for}
 use Rattle.jk_tile.specs.PacketsWritten.{tile_text}
-use Rattle.jk_code.specs.MeaningReading.{holds_below}
+use Rattle.jk_window.specs.Views.{holds_below}
 
 -- the main header; there are two guard bits, and the exponents leave room for each coefficient
 abbrev pub main_for : Picture → Parameters → Main

@@ -16,7 +16,8 @@ ghost use Rattle.jk_code.specs.Meaning.{Means};
 ghost use Rattle.jk_code.specs.MeaningReading.{places_at, packets_tested, tiles_tested, planes_of_tiles, picture_with, picture_at, image_at, meaning_at};
 ghost use Rattle.jk_geom.specs.Rectangles.{IsArea};
 ghost use Rattle.jk_math.specs.Raster.{places_of};
-ghost use Rattle.jk_code.specs.Tiles.{AreRead, HaveLevels, ArePlanes, Keeps, ShowsTileAt, frame_of, plane_in};
+ghost use Rattle.jk_code.specs.Tiles.{AreRead, ArePlanes, Keeps, ShowsTileAt, plane_in};
+ghost use Rattle.jk_window.specs.Views.{HaveLevels, frame_of};
 
 use crate::reduction::{check_reduction, reduced};
 use jk_boxes::open;

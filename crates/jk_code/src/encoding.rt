@@ -1,6 +1,6 @@
 //! Encoding.
 
-ghost use Rattle.std.specs.Prelude.{◌≡◌, ℕ, ◌≤◌, ◌<◌, ◌+◌, ◌^◌, ◌++◌, ◌⊎◌, length, true, false, IfOk, IfErr, OnOk};
+ghost use Rattle.std.specs.Prelude.{◌≡◌, ℕ, List, ◌≤◌, ◌<◌, ◌+◌, ◌^◌, ◌++◌, ◌⊎◌, length, true, false, IfOk, IfErr, OnOk};
 ghost use Rattle.std.specs.List.{flat_map};
 ghost use Rattle.jk_math.specs.Memory.{IsMemory};
 ghost use Rattle.jk_math.specs.Answer.{Answers};
@@ -13,6 +13,7 @@ ghost use Rattle.jk_params.specs.Profile.{siz_of, IsWrittenBy};
 ghost use Rattle.jk_tile.specs.Needs.{exponents_for};
 ghost use Rattle.jk_code.specs.Meaning.{Means, MeansPicture};
 ghost use Rattle.jk_code.specs.Written.{main_for, part_for, part_fits, parts_fit, tree_for, file_for, written};
+ghost use Rattle.jk_code.specs.Fronts.{HasFronts};
 
 use jk_boxes::wrap;
 use jk_geom::tile_count;
@@ -66,7 +67,7 @@ fn put_tile(
 }
 
 /// Appends the tile-parts, one for each tile.
-#[tactic(auto, using(crate::proofs::Below::below_none))]
+#[tactic(auto, using(jk_window::proofs::Laws::below_none))]
 fn put_tiles(
     alloc: Global,
     out: &mut Vec<u8>,
@@ -96,6 +97,7 @@ fn codestream(alloc: Global, image: &Image, parameters: &Parameters) -> Result<V
     ensures fits { IfOk result (λ v. parts_fit image.now parameters.now ≡ true) }
     ensures means { IfOk result (λ v. MeansPicture v.items 0 image.now) }
     ensures bare { IfOk result (λ v. Holds v.items v.items) }
+    ensures fronts { IfOk result (λ v. (bytes : List ℕ) → Holds bytes v.items → HasFronts image.now parameters.now bytes) }
     ensures err { IfErr result (λ e. IsMemory e ⊎ ((e ≡ Limit) × (parts_fit image.now parameters.now ≡ false))) }
 {
     let exponents = exponents(alloc, image, parameters)?;
@@ -112,6 +114,7 @@ fn file(alloc: Global, image: &Image, parameters: &Parameters) -> Result<Vec<u8>
     requires profile { IsWrittenBy parameters.now image.now }
     ensures exact { Answers (λ v. v.items) result (file_for image.now parameters.now) }
     ensures means { IfOk result (λ v. Means v.items 0 image.now) }
+    ensures fronts { IfOk result (λ v. HasFronts image.now parameters.now v.items) }
 {
     let codestream = codestream(alloc, image, parameters)?;
     match parameters.container {
@@ -130,6 +133,8 @@ pub fn encode(alloc: Global, image: &Image, parameters: &Parameters) -> Result<V
     ensures exact { Answers (λ v. v.items) result (written image.now parameters.now) }
     // The file means exactly the image.
     ensures means { IfOk result (λ v. Means v.items 0 image.now) }
+    // With all layers but the first k empty it means the image without its L - k lowest bit-planes, of L layers.
+    ensures fronts { IfOk result (λ v. HasFronts image.now parameters.now v.items) }
 {
     parameters.check(image)?;
     file(alloc, image, parameters)

@@ -7,8 +7,8 @@ ghost use Rattle.jk_marks.specs.Siz.{IsSiz, tile_count};
 ghost use Rattle.jk_geom.specs.Partitions.{image_area, reduced_area};
 ghost use Rattle.jk_params.specs.Headers.{AreHeaders, tile_in};
 ghost use Rattle.jk_geom.specs.Rectangles.{IsArea};
-ghost use Rattle.jk_code.specs.MeaningReading.{has_levels, holds_below, reduction_at};
-ghost use Rattle.jk_code.specs.Tiles.{frame_of, HaveLevels};
+ghost use Rattle.jk_code.specs.MeaningReading.{reduction_at};
+ghost use Rattle.jk_window.specs.Views.{HaveLevels, frame_of, has_levels, holds_below};
 
 use jk_geom::{Codings, resolution};
 use jk_marks::Siz;
@@ -26,7 +26,7 @@ fn codings_have_levels(codings: &Codings, levels: u32) -> bool
 }
 
 /// Whether each component of each tile has so many decomposition levels.
-#[tactic(auto, using(crate::proofs::Below::below_none, crate::proofs::Below::below_more, crate::proofs::Below::below_fails))]
+#[tactic(auto, using(jk_window::proofs::Laws::below_none, jk_window::proofs::Laws::below_more, jk_window::proofs::Laws::below_fails))]
 fn tiles_have_levels(headers: &Codestream, levels: u32) -> bool
     requires { length headers.now.tiles ≡ tile_count headers.now.siz }
     ensures { result ≡ holds_below (λ t. has_levels levels (tile_in headers.now.tiles t)) (tile_count headers.now.siz) }

@@ -299,3 +299,13 @@ block_written shapes layers tables i j are in_bands in_blocks =
     let t = table_at (band_tables tables i) j in
     subst (λ (bs : List Body). HasBlock t bs) (sym (gathered i j tables (range_with_len 0 layers) (let e = are.long in omega (arith, e, in_bands)) (let e = band.long in omega (arith, e, in_blocks))))
     (has_block i j layers (band_shape shapes i).planes t (band.each j in_blocks))
+
+-- What the packets of the first n layers have of a block is the front of its table.
+pub front_written : (shapes : List BandShape) (layers n : ℕ) (tables : List (List Table)) (i j : ℕ) → n ≤ layers → AreTables shapes layers tables → i < length shapes → j < (band_shape shapes i).across * (band_shape shapes i).down
+    → HasFront (table_at (band_tables tables i) j) n (bodies_of i j (flat_map (bodies_in tables) (range_with_len 0 n)))
+front_written shapes layers n tables i j few are in_bands in_blocks =
+    let band = are.each i in_bands in
+    let t = table_at (band_tables tables i) j in
+    let is = band.each j in_blocks in
+    subst (λ (bs : List Body). HasFront t n bs) (sym (gathered i j tables (range_with_len 0 n) (let e = are.long in omega (arith, e, in_bands)) (let e = band.long in omega (arith, e, in_blocks))))
+    (front_has i j t n (let e = is.long in omega (arith, e, few)) (λ l less. is.bare l (omega (arith, less, few))))

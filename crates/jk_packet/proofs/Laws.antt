@@ -17,7 +17,7 @@ pub use Rattle.jk_packet.proofs.TableLaws.{part_skipped, part_behind, part_past,
 pub use Rattle.jk_packet.proofs.HistoryLaws.{own_contribution, contribution_none, contribution_some, lblock_first, lblock_kept, lblock_grown, history_none, history_more, first_within}
 pub use Rattle.jk_packet.proofs.WrittenLaws.{layers_more, layer_full, layer_empty, contributions_in, layer_is, bits_are, written_told, header_written}
 pub use Rattle.jk_packet.proofs.PrecinctWriting.{blocks_in, length-banded, banded_at, count_more, count_within, banded_joined, joined_count, flat_banded, bits_full, bits_empty}
-pub use Rattle.jk_packet.proofs.BodyLaws.{bodies_parts, bodies_lengths, bodies_joined, block_written, table_bodies, has_block}
+pub use Rattle.jk_packet.proofs.BodyLaws.{bodies_parts, bodies_lengths, bodies_joined, block_written, table_bodies, has_block, HasFront, front_written}
 
 -- The equations of definitions that don't unfold by themselves.
 pub contributions-nil : (i : ℕ) → contributions [] i ≡ []

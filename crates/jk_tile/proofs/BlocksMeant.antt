@@ -29,11 +29,11 @@ use Rattle.jk_tile.proofs.LayerTables.{table_has_bytes, table_has_passes, zero_p
 
 -- ---- the bodies of a precinct
 
-flat_by : (ps : List Packet) → flat_map (λ p. p.bodies) ps ≡ flat_map (λ bs. bs) (map (λ p. p.bodies) ps)
+pub flat_by : (ps : List Packet) → flat_map (λ p. p.bodies) ps ≡ flat_map (λ bs. bs) (map (λ p. p.bodies) ps)
 flat_by [] = refl
 flat_by (p ∷ ps) = ap (λ (bs : List Body). p.bodies ++ bs) (flat_by ps)
 
-flat_from : (h : ℕ → List (Part × List ℕ)) (ls : List ℕ) → flat_map (λ bs. bs) (map (λ l. map body_from (h l)) ls) ≡ map body_from (flat_map h ls)
+pub flat_from : (h : ℕ → List (Part × List ℕ)) (ls : List ℕ) → flat_map (λ bs. bs) (map (λ l. map body_from (h l)) ls) ≡ map body_from (flat_map h ls)
 flat_from h [] = refl
 flat_from h (l ∷ ls) = ap (λ (bs : List Body). map body_from (h l) ++ bs) (flat_from h ls) ∙ sym (map-append body_from (h l) (flat_map h ls))
 
@@ -46,7 +46,7 @@ precinct_bodies s sop eph tables c r n precinct =
 
 -- ---- those of a block
 
-block_from : (i j : ℕ) (bs : List (Part × List ℕ)) → block_bodies i j (map body_from bs) ≡ map body_from (bodies_of i j bs)
+pub block_from : (i j : ℕ) (bs : List (Part × List ℕ)) → block_bodies i j (map body_from bs) ≡ map body_from (bodies_of i j bs)
 block_from i j [] = refl
 block_from i j (b ∷ bs) = elim (cases_Bool ((b.0.band == i) && (b.0.block == j))) [
   | inl own ↦
@@ -59,11 +59,11 @@ block_from i j (b ∷ bs) = elim (cases_Bool ((b.0.band == i) && (b.0.block == j
       ∙ sym (ap (map body_from) (cond-false ((b.0.band == i) && (b.0.block == j)) (b ∷ bodies_of i j bs) (bodies_of i j bs) other))
 ]
 
-segment_from : (bs : List (Part × List ℕ)) → segment_of (map body_from bs) ≡ flat_map (λ b. b.1) bs
+pub segment_from : (bs : List (Part × List ℕ)) → segment_of (map body_from bs) ≡ flat_map (λ b. b.1) bs
 segment_from [] = refl
 segment_from (b ∷ bs) = ap (λ (x : List ℕ). b.1 ++ x) (segment_from bs)
 
-passes_from : (bs : List (Part × List ℕ)) → passes_in (map body_from bs) ≡ sum_by (λ b. b.0.passes) bs
+pub passes_from : (bs : List (Part × List ℕ)) → passes_in (map body_from bs) ≡ sum_by (λ b. b.0.passes) bs
 passes_from [] = refl
 passes_from (b ∷ bs) =
     sum_by-cons (λ (x : Body). x.part.passes) (body_from b) (map body_from bs) ∙ ap (λ n. b.0.passes + n) (passes_from bs) ∙ sym (sum_by-cons (λ (x : Part × List ℕ). x.0.passes) b bs)
@@ -75,7 +75,7 @@ unfolding cut
 no_pass_is_zero s planes q x y = refl
 
 -- a block without a coding pass is zero, of however many bit-planes
-without_passes : (s : BlockShape) (p planes passes : ℕ) (bytes : List ℕ) (q : Field ℤ) → passes ≡ 0 → IsBlockMeaning s p passes bytes q → IsBlockMeaning s planes passes [] q
+pub without_passes : (s : BlockShape) (p planes passes : ℕ) (bytes : List ℕ) (q : Field ℤ) → passes ≡ 0 → IsBlockMeaning s p passes bytes q → IsBlockMeaning s planes passes [] q
 without_passes s p planes passes bytes q none is =
     let at : (x y : ℕ) → is_inside s x y ≡ true → q x y ≡ pos 0 = λ x y h. sym (is.coded x y h) ∙ ap (λ n. cut s p n q x y) none ∙ no_pass_is_zero s p q x y in
     record {
@@ -103,7 +103,7 @@ table_means s values layers planes (b ∷ bs) some room has =
     (subst (λ (x : List ℕ). IsBlockMeaning s k.planes k.passes x (value_in s values)) (sym bytes) (coded_means s values)))
 
 -- where the values of a block stand
-placed_at : (place : Rect) (kind_shape : BlockShape) (f : ℕ → ℕ → ℤ) (x y : ℕ) → kind_shape.width ≡ columns_of place → kind_shape.height ≡ rows_of place → is_inside kind_shape x y ≡ true
+pub placed_at : (place : Rect) (kind_shape : BlockShape) (f : ℕ → ℕ → ℤ) (x y : ℕ) → kind_shape.width ≡ columns_of place → kind_shape.height ≡ rows_of place → is_inside kind_shape x y ≡ true
     → f (place.x0 + x) (place.y0 + y) ≡ value_in kind_shape (raster place f) x y
 placed_at place s f x y wide high inside =
     let both = and_parts (nat_lt x s.width) (nat_lt y s.height) inside in

@@ -11,6 +11,8 @@ pub use Rattle.jk_tile.proofs.TileAreas.{tile_is_area}
 pub use Rattle.jk_tile.proofs.WrittenTile.{IsSmall, exponents_long, exponents_small, planes_have, are_written}
 pub use Rattle.jk_tile.proofs.WrittenTile.{coding_is, tables_same, block_room, table_for, precinct_fits, tables_have}
 pub use Rattle.jk_tile.proofs.SamplesMeant.{written_decodes}
+pub use Rattle.jk_tile.proofs.FrontsMeant.{front_decodes}
+pub use Rattle.jk_tile.proofs.FrontBodies.{one_front}
 pub use Rattle.jk_tile.proofs.TileIndex.{tile_at, index_below, index_apart}
 pub use Rattle.jk_tile.proofs.TileLaws.{bodies_are, pixel_same}
 pub use Rattle.jk_tile.proofs.Components.{levels_read, shown_is}

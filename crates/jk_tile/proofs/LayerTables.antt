@@ -29,7 +29,7 @@ next_bytes : (layers : ℕ) (k : Coded) (l : ℕ) → bytes_before layers k (l +
 next_bytes layers k l = let one : l + 1 ≡ suc l = omega arith in ap (bytes_before layers k) one
 
 -- the parts by their ends are the parts
-cut_from : (layers : ℕ) (k : Coded) (a n : ℕ) → cut_parts (bytes_before layers k a) (map (part_of layers k) (range_with_len a n)) k.bytes ≡ map (layer_part layers k) (range_with_len a n)
+pub cut_from : (layers : ℕ) (k : Coded) (a n : ℕ) → cut_parts (bytes_before layers k a) (map (part_of layers k) (range_with_len a n)) k.bytes ≡ map (layer_part layers k) (range_with_len a n)
 cut_from layers k a zero = refl
 cut_from layers k a (suc n) =
     let next = next_bytes layers k a in
@@ -44,7 +44,7 @@ before_rise : (s : BlockShape) (values : List ℤ) (layers l : ℕ) → l < laye
 before_rise s values layers zero lt = omega arith
 before_rise s values layers (suc l) lt = upto_rise s values layers l (suc l) (omega arith) lt
 
-ends_from : (s : BlockShape) (values : List ℤ) (layers a n : ℕ) → a + n ≤ layers → AreEnds (bytes_before layers (coded s values) a) (map (part_of layers (coded s values)) (range_with_len a n)) (length (coded s values).bytes)
+pub ends_from : (s : BlockShape) (values : List ℤ) (layers a n : ℕ) → a + n ≤ layers → AreEnds (bytes_before layers (coded s values) a) (map (part_of layers (coded s values)) (range_with_len a n)) (length (coded s values).bytes)
 ends_from s values layers a zero le = tt
 ends_from s values layers a (suc n) le =
     let k = coded s values in (
@@ -57,7 +57,7 @@ pub parts_end : (s : BlockShape) (values : List ℤ) (layers : ℕ) → AreEnds 
 parts_end s values layers = ends_from s values layers 0 layers (omega arith)
 
 -- the end of the last
-last_from : (layers : ℕ) (k : Coded) (a n : ℕ) → last_end (bytes_before layers k a) (map (part_of layers k) (range_with_len a n)) ≡ bytes_before layers k (a + n)
+pub last_from : (layers : ℕ) (k : Coded) (a n : ℕ) → last_end (bytes_before layers k a) (map (part_of layers k) (range_with_len a n)) ≡ bytes_before layers k (a + n)
 last_from layers k a zero = ap (bytes_before layers k) (let e : a ≡ a + 0 = omega arith in e)
 last_from layers k a (suc n) = ap (λ from. last_end from (map (part_of layers k) (range_with_len (a + 1) n))) (sym (next_bytes layers k a)) ∙ last_from layers k (a + 1) n ∙ ap (bytes_before layers k) (let e : a + 1 + n ≡ a + suc n = omega arith in e)
 
@@ -83,7 +83,7 @@ pub before_passes : (layers planes l : ℕ) → passes_before layers planes l �
 before_passes layers planes zero = omega arith
 before_passes layers planes (suc l) = passes_rise layers planes l (suc l) (omega arith)
 
-sum_from : (layers : ℕ) (k : Coded) (a n : ℕ) → passes_before layers k.planes a + sum_by (λ p. p.passes) (map (part_of layers k) (range_with_len a n)) ≡ passes_before layers k.planes (a + n)
+pub sum_from : (layers : ℕ) (k : Coded) (a n : ℕ) → passes_before layers k.planes a + sum_by (λ p. p.passes) (map (part_of layers k) (range_with_len a n)) ≡ passes_before layers k.planes (a + n)
 sum_from layers k a zero = let e : a ≡ a + 0 = omega arith in let z : passes_before layers k.planes a + 0 ≡ passes_before layers k.planes a = omega arith in z ∙ ap (passes_before layers k.planes) e
 sum_from layers k a (suc n) =
     let rise = before_passes layers k.planes a in

@@ -26,5 +26,7 @@ pub mod WritingTile
 pub mod PacketsFew
 pub mod EncodingTile
 pub mod TileLaws
+pub mod FrontsMeant
+pub mod FrontBodies
 pub mod LocalTiles
 pub mod Laws

@@ -108,7 +108,7 @@ values_back p q v c x y is three lt h same = pixel (cod_of q) (siz_of p q) v c �
 
 -- ---- a tile
 
-coding_at : (p : Picture) (q : Parameters) (c : ℕ) → c < length p.planes → coding_of (replicate (length p.planes) (written_coding p q)) c ≡ written_coding p q
+pub coding_at : (p : Picture) (q : Parameters) (c : ℕ) → c < length p.planes → coding_of (replicate (length p.planes) (written_coding p q)) c ≡ written_coding p q
 coding_at p q c lt = get_or-replicate (length p.planes) c (written_coding p q) _ lt
 
 -- the sub-bands of a component give its values back

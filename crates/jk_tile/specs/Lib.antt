@@ -11,3 +11,4 @@ pub mod Needs
 pub mod TileWritten
 pub mod PacketsWritten
 pub mod TileWriters
+pub mod Fronts

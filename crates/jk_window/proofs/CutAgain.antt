@@ -10,20 +10,22 @@ use Rattle.jk_marks.specs.Segments.{Segment}
 use Rattle.jk_marks.specs.Codestream.{Part, Tree, of_tile, codestream_text}
 use Rattle.jk_marks.specs.Copying.{kept_segments}
 use Rattle.jk_geom.specs.declared.shape.TileShape.{TileShape}
+use Rattle.jk_geom.specs.declared.shape.PacketName.{PacketName}
 use Rattle.jk_geom.specs.Rectangles.{tile_area}
 use Rattle.jk_geom.specs.Counts.{packet_number}
 use Rattle.jk_params.specs.Coding.{coding_of, codings_of, HasPlanes}
 use Rattle.jk_params.specs.Headers.{Headers, TileFields, tile_in, headers_of, places_of, head_segments, cod_for, packets_alike, packets_of, most_packets, total, IsHeaders}
 use Rattle.jk_params.proofs.Laws.{contents_of, places_are, said_at}
 use Rattle.jk_walk.specs.TilePackets.{slice_of, shape_in, Packet, IsTile}
-use Rattle.jk_window.specs.Emptied.{kept_packet, emptied_run, run_text, of_name, emptied_part, emptied_tree}
+use Rattle.jk_window.specs.Emptied.{kept_packet, emptied_run, run_text, of_name, of_layers, emptied_part, emptied_tree}
 use Rattle.jk_window.specs.Indexing.{IndexFields, joined_runs, HasRuns, IsIndexOf}
 use Rattle.jk_window.specs.Cutting.{HaveRuns, cut_tree}
-use Rattle.jk_window.specs.Again.{needed_by, kept_runs, kept_content, AreAlike, IsAgain}
+use Rattle.jk_window.specs.Again.{needed_by, left_runs, left_content, kept_runs, kept_content, front_runs, front_content, AreAlike, IsAgain}
 use Rattle.jk_window.proofs.EmptiedLaws.{HasBit, tile_bits, run_short, run_of}
 use Rattle.jk_window.proofs.KeptSegments.{main_kept, cod_same, coding_same, codings_same}
 use Rattle.jk_window.proofs.PartsAgain.{own_emptied, head_emptied, runs_are, contents_made, IsShort, parts_short, parts_again}
 use Rattle.jk_window.proofs.TileAgain.{runs_kept, texts_of, tile_again}
+use Rattle.jk_window.proofs.FrontAgain.{front_tile}
 use Rattle.jk_walk.specs.TilePackets.{IsPacket}
 
 -- ---- what the headers say
@@ -108,19 +110,26 @@ headers_again bytes h is content short =
 
 -- ---- packets
 
--- the runs of a tile, in which packets are empty
-runs_again : (bytes new : List ℕ) (g h : Headers) (t : ℕ) (runs : List (List Packet)) (keep : ℕ → ℕ → ℕ → Bool) → AreAlike g h → t < tile_count h.siz → HasRuns bytes h t runs
-    → map (slice_of new) (tile_in g.tiles t).data_places ≡ map (λ run. run_text (emptied_run (of_name keep) (tile_in h.tiles t).cod.sop (tile_in h.tiles t).cod.eph run)) runs
-    → HasRuns new g t (map (emptied_run (of_name keep) (tile_in h.tiles t).cod.sop (tile_in h.tiles t).cod.eph) runs)
-runs_again bytes new g h t runs keep alike lt has there =
+-- The packets of a tile are packets of the tile again, where those that aren't kept are empty.
+abbrev AreRunsAgain : List ℕ → Headers → ℕ → List (List Packet) → (PacketName → Bool) → Type 0
+AreRunsAgain bytes h t runs keep =
     let f = tile_in h.tiles t in
-    let make = emptied_run (of_name keep) f.cod.sop f.cod.eph in
+    (tile : IsTile (shape_in h.siz f t) f.cod.sop f.cod.eph (joined_runs runs) (map (slice_of bytes) f.data_places))
+    → IsTile (shape_in h.siz f t) f.cod.sop f.cod.eph (emptied_run keep f.cod.sop f.cod.eph (joined_runs runs)) (map (λ run. run_text (emptied_run keep f.cod.sop f.cod.eph run)) tile.runs)
+
+-- the runs of a tile, in which packets are empty
+runs_again : (bytes new : List ℕ) (g h : Headers) (t : ℕ) (runs : List (List Packet)) (keep : PacketName → Bool) → AreAlike g h → t < tile_count h.siz → AreRunsAgain bytes h t runs keep → HasRuns bytes h t runs
+    → map (slice_of new) (tile_in g.tiles t).data_places ≡ map (λ run. run_text (emptied_run keep (tile_in h.tiles t).cod.sop (tile_in h.tiles t).cod.eph run)) runs
+    → HasRuns new g t (map (emptied_run keep (tile_in h.tiles t).cod.sop (tile_in h.tiles t).cod.eph) runs)
+runs_again bytes new g h t runs keep alike lt retiled has there =
+    let f = tile_in h.tiles t in
+    let make = emptied_run keep f.cod.sop f.cod.eph in
     let old = has.packets in
     let own : IsTile (shape_in h.siz f t) f.cod.sop f.cod.eph (joined_runs runs) (map (slice_of bytes) f.data_places) =
     record { order = old.order; texts = old.texts; told = old.told; runs = runs; whole = refl; cut = has.cut } in
-    let again = tile_again (shape_in h.siz f t) f.cod.sop f.cod.eph (joined_runs runs) (map (slice_of bytes) f.data_places) keep own in
-    let joined : make (joined_runs runs) ≡ joined_runs (map make runs) = sym (runs_kept (kept_packet (of_name keep) f.cod.sop f.cod.eph) runs) in
-    let texts : map run_text (map make runs) ≡ map (slice_of new) (tile_in g.tiles t).data_places = texts_of (kept_packet (of_name keep) f.cod.sop f.cod.eph) runs ∙ sym there in
+    let again = retiled own in
+    let joined : make (joined_runs runs) ≡ joined_runs (map make runs) = sym (runs_kept (kept_packet keep f.cod.sop f.cod.eph) runs) in
+    let texts : map run_text (map make runs) ≡ map (slice_of new) (tile_in g.tiles t).data_places = texts_of (kept_packet keep f.cod.sop f.cod.eph) runs ∙ sym there in
     let shape : shape_in h.siz f t ≡ shape_in g.siz (tile_in g.tiles t) t =
     (λ i. record { rect = tile_area (sym alike.siz i) t; layers = (sym (alike.cod t lt) i).layers; order = (sym (alike.cod t lt) i).order; codings = sym (alike.codings t lt) i }) in
     let cod = sym (alike.cod t lt) in
@@ -134,19 +143,19 @@ runs_again bytes new g h t runs keep alike lt has there =
 
 -- ---- the codestream
 
-content_short : (bytes : List ℕ) (h : Headers) (runs : ℕ → List (List Packet)) (keep : ℕ → ℕ → ℕ → ℕ → Bool) → HaveRuns bytes h runs → (t n : ℕ) → t < tile_count h.siz
-    → length (kept_content h keep runs t n) ≤ length (run_text (get_or (runs t) n []))
+pub content_short : (bytes : List ℕ) (h : Headers) (runs : ℕ → List (List Packet)) (keep : ℕ → PacketName → Bool) → HaveRuns bytes h runs → (t n : ℕ) → t < tile_count h.siz
+    → length (left_content h keep runs t n) ≤ length (run_text (get_or (runs t) n []))
 content_short bytes h runs keep have t n lt =
     let f = tile_in h.tiles t in
     let has = have t lt in
     let texts = run_of (IsPacket f.cod.sop f.cod.eph) (runs t) n has.packets.texts in
     let bits = run_of HasBit (runs t) n (tile_bits (shape_in h.siz f t) f.cod.sop f.cod.eph (joined_runs (runs t)) (map (slice_of bytes) f.data_places) (record { layer = 0; resolution = 0; component = 0; precinct = 0 }) has.packets) in
-    run_short (of_name (keep t)) f.cod.sop f.cod.eph (get_or (runs t) n []) texts bits
+    run_short (keep t) f.cod.sop f.cod.eph (get_or (runs t) n []) texts bits
 
-pub codestream_again : (bytes : List ℕ) (h : Headers) (is : IsHeaders bytes h) (runs : ℕ → List (List Packet)) → HaveRuns bytes h runs → (keep : ℕ → ℕ → ℕ → ℕ → Bool)
-    → IsAgain (codestream_text (emptied_tree (kept_content h keep runs) is.tree)) h (kept_runs h keep runs)
-codestream_again bytes h is runs have keep =
-    let content = kept_content h keep runs in
+left_again : (bytes : List ℕ) (h : Headers) (is : IsHeaders bytes h) (runs : ℕ → List (List Packet)) → HaveRuns bytes h runs → (keep : ℕ → PacketName → Bool) → ((t : ℕ) → AreRunsAgain bytes h t (runs t) (keep t))
+    → IsAgain (codestream_text (emptied_tree (left_content h keep runs) is.tree)) h (left_runs h keep runs)
+left_again bytes h is runs have keep retiled =
+    let content = left_content h keep runs in
     let tree = is.tree in
     let new = emptied_tree content tree in
     let text = codestream_text new in
@@ -161,14 +170,28 @@ codestream_again bytes h is runs have keep =
           (let few : t < tile_count h.siz = subst (λ (s : Siz). t < tile_count s) alike.siz lt in
           let small : t < tile_count tree.siz = subst (λ (s : Siz). t < tile_count s) siz few in
           let f = tile_in h.tiles t in
-          let make : List Packet → List ℕ = λ run. run_text (emptied_run (of_name (keep t)) f.cod.sop f.cod.eph run) in
+          let make : List Packet → List ℕ = λ run. run_text (emptied_run (keep t) f.cod.sop f.cod.eph run) in
           let there : map (slice_of text) (tile_in (headers_of new).tiles t).data_places ≡ map make (runs t) =
           ap (λ (places : List (ℕ × ℕ)). map (slice_of text) places) (fields_places new t small)
           ∙ contents_of text new t refl
           ∙ ap (λ (ps : List Part). map (λ (p : Part). p.content) ps) (own_emptied content t tree.parts)
           ∙ contents_made content make t (runs t) tree.parts (is.spelled.parts.numbered t) (runs_are bytes h is t (runs t) few (have t few)) (λ n. refl) in
-          runs_again bytes text (headers_of new) h t (runs t) (keep t) alike few (have t few) there);
+          runs_again bytes text (headers_of new) h t (runs t) (keep t) alike few (retiled t) (have t few) there);
     }
+
+-- the packets of some precincts are empty
+pub codestream_again : (bytes : List ℕ) (h : Headers) (is : IsHeaders bytes h) (runs : ℕ → List (List Packet)) → HaveRuns bytes h runs → (keep : ℕ → ℕ → ℕ → ℕ → Bool)
+    → IsAgain (codestream_text (emptied_tree (kept_content h keep runs) is.tree)) h (kept_runs h keep runs)
+codestream_again bytes h is runs have keep = left_again bytes h is runs have (λ t. of_name (keep t)) (λ t tile.
+    (let f = tile_in h.tiles t in
+    tile_again (shape_in h.siz f t) f.cod.sop f.cod.eph (joined_runs (runs t)) (map (slice_of bytes) f.data_places) (keep t) tile))
+
+-- those of all layers but the first are
+pub front_again : (bytes : List ℕ) (h : Headers) (is : IsHeaders bytes h) (runs : ℕ → List (List Packet)) → HaveRuns bytes h runs → (k : ℕ)
+    → IsAgain (codestream_text (emptied_tree (front_content h k runs) is.tree)) h (front_runs h k runs)
+front_again bytes h is runs have k = left_again bytes h is runs have (λ t. of_layers k) (λ t tile.
+    (let f = tile_in h.tiles t in
+    front_tile (shape_in h.siz f t) f.cod.sop f.cod.eph (joined_runs (runs t)) (map (slice_of bytes) f.data_places) k tile))
 
 pub cut_again : (bytes : List ℕ) (i : IndexFields) (is : IsIndexOf bytes i) (w : Rect) (d : ℕ) → IsAgain (codestream_text (cut_tree is w d)) i.headers (kept_runs i.headers (needed_by i.headers w d) is.runs)
 cut_again bytes i is w d = codestream_again is.codestream i.headers is.says is.runs is.tiles (needed_by i.headers w d)

@@ -144,17 +144,20 @@ main_shorter siz segments =
       length-append (siz_text siz) (flat_map segment_text (kept_segments tlm segments)),
     )
 
-pub cut_shorter : (bytes : List ℕ) (h : Headers) (all : List TilePieces) (content : ℕ → ℕ → List ℕ) (start : ℕ) (is : IsHeaders bytes h) → PartsAhead bytes is.tree.siz h all content start is.tree.parts
+pub text_shorter : (bytes : List ℕ) (h : Headers) (is : IsHeaders bytes h) (content : ℕ → ℕ → List ℕ) → length (parts_text content is.tree.parts) ≤ length (flat_map part_text is.tree.parts)
     → length (codestream_text (emptied_tree content is.tree)) ≤ length bytes
 unfolding codestream_text
-cut_shorter bytes h all content start is ahead =
+text_shorter bytes h is content parts =
     let tree = is.tree in
-    let parts = parts_shorter bytes tree.siz h all content start tree.parts ahead in
     let main = main_shorter tree.siz tree.segments in
     let whole = ap (λ (xs : List ℕ). length xs) is.spelled.text in
     let old = length-append (main_text tree.siz tree.segments) (flat_map part_text tree.parts ++ marker_text eoc) in
     let new = length-append (main_text tree.siz (kept_segments tlm tree.segments)) (parts_text content tree.parts ++ marker_text eoc) in
     omega (arith, parts, main, whole, old, new, length-append (flat_map part_text tree.parts) (marker_text eoc), length-append (parts_text content tree.parts) (marker_text eoc))
+
+pub cut_shorter : (bytes : List ℕ) (h : Headers) (all : List TilePieces) (content : ℕ → ℕ → List ℕ) (start : ℕ) (is : IsHeaders bytes h) → PartsAhead bytes is.tree.siz h all content start is.tree.parts
+    → length (codestream_text (emptied_tree content is.tree)) ≤ length bytes
+cut_shorter bytes h all content start is ahead = text_shorter bytes h is content (parts_shorter bytes is.tree.siz h all content start is.tree.parts ahead)
 
 -- ---- the file
 

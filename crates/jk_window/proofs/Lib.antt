@@ -11,8 +11,10 @@ pub mod EmptiedLaws
 pub mod FileLaws
 pub mod BoxLaws
 pub mod TileAgain
+pub mod FrontAgain
 pub mod KeptSegments
 pub mod PartsAgain
 pub mod CutAgain
+pub mod FrontFile
 pub mod NeededPlaces
 pub mod Laws

@@ -30,12 +30,12 @@ name_kept keep sop eph p = by (keep p.name)
     by true = refl
     by false = refl
 
-names_kept : (keep : PacketName → Bool) (sop eph : Bool) (packets : List Packet) → map name_of (map (kept_packet keep sop eph) packets) ≡ map name_of packets
+pub names_kept : (keep : PacketName → Bool) (sop eph : Bool) (packets : List Packet) → map name_of (map (kept_packet keep sop eph) packets) ≡ map name_of packets
 names_kept keep sop eph [] = refl
 names_kept keep sop eph (p ∷ packets) =
     ap (λ (n : PacketName). n ∷ map name_of (map (kept_packet keep sop eph) packets)) (name_kept keep sop eph p) ∙ ap (λ (ns : List PacketName). p.name ∷ ns) (names_kept keep sop eph packets)
 
-texts_kept : (keep : PacketName → Bool) (sop eph : Bool) (packets : List Packet) → AllByRecursion (IsPacket sop eph) packets → AllByRecursion HasBit packets → AllByRecursion (IsPacket sop eph) (map (kept_packet keep sop eph) packets)
+pub texts_kept : (keep : PacketName → Bool) (sop eph : Bool) (packets : List Packet) → AllByRecursion (IsPacket sop eph) packets → AllByRecursion HasBit packets → AllByRecursion (IsPacket sop eph) (map (kept_packet keep sop eph) packets)
 texts_kept keep sop eph [] all bits = tt
 texts_kept keep sop eph (p ∷ packets) all bits = (by (keep p.name), texts_kept keep sop eph packets all.1 bits.1)
   where
@@ -45,7 +45,7 @@ texts_kept keep sop eph (p ∷ packets) all bits = (by (keep p.name), texts_kept
 
 -- ---- a precinct
 
-of_kept : (keep : PacketName → Bool) (sop eph : Bool) (c r k : ℕ) (packets : List Packet) → of_precinct c r k (map (kept_packet keep sop eph) packets) ≡ map (kept_packet keep sop eph) (of_precinct c r k packets)
+pub of_kept : (keep : PacketName → Bool) (sop eph : Bool) (c r k : ℕ) (packets : List Packet) → of_precinct c r k (map (kept_packet keep sop eph) packets) ≡ map (kept_packet keep sop eph) (of_precinct c r k packets)
 of_kept keep sop eph c r k [] = refl
 of_kept keep sop eph c r k (p ∷ packets) =
     let q = kept_packet keep sop eph p in

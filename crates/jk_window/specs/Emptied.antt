@@ -1,5 +1,5 @@
 -- A codestream in which packets are empty (T.800 B.10.3).
-use Rattle.std.specs.Prelude.{ℕ, Bool, false, ◌==◌, ◌&&◌, if◌then◌else◌, List, [], ◌∷◌, ◌++◌, map, take, slice_index, None}
+use Rattle.std.specs.Prelude.{ℕ, Bool, false, ◌==◌, ◌&&◌, nat_lt, if◌then◌else◌, List, [], ◌∷◌, ◌++◌, map, take, slice_index, None}
 use Rattle.std.specs.List.{flat_map}
 use Rattle.jk_marks.specs.Markers.{tlm}
 use Rattle.jk_marks.specs.Codestream.{Part, Tree}
@@ -33,6 +33,10 @@ emptied_run keep sop eph run = map (kept_packet keep sop eph) run
 -- packets that are kept as their precinct is, by component, resolution and number
 abbrev pub of_name : (ℕ → ℕ → ℕ → Bool) → PacketName → Bool
 of_name keep n = keep n.component n.resolution n.precinct
+
+-- packets of the first k layers are kept
+abbrev pub of_layers : ℕ → PacketName → Bool
+of_layers k n = nat_lt n.layer k
 
 abbrev pub run_text : List Packet → List ℕ
 run_text run = flat_map (λ p. p.text) run

@@ -4,3 +4,4 @@ pub mod Emptied
 pub mod Indexing
 pub mod Cutting
 pub mod Again
+pub mod Fronts

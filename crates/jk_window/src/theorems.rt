@@ -8,7 +8,7 @@ ghost use Rattle.jk_geom.specs.Rectangles.{IsWithin, across_offset, down_offset}
 ghost use Rattle.jk_walk.specs.TilePackets.{Packet, IsTile};
 ghost use Rattle.jk_window.specs.Needs.{IsNear, stretch, part_of_band};
 ghost use Rattle.jk_window.specs.Emptied.{emptied_run, run_text, of_name};
-ghost use Rattle.jk_window.specs.Again.{IsCodestreamAgain, IsCutAgain};
+ghost use Rattle.jk_window.specs.Again.{IsCodestreamAgain, IsFrontAgain, IsCutAgain};
 
 /// Within two places of a stretch, a place that is even both ways goes to a place of the stretch below, and any other to a
 /// place of the part of its sub-band: so a stretch depends on nothing else.
@@ -25,8 +25,10 @@ pub fn emptied_tiles_are_tiles()
 {}
 
 /// A codestream in which the packets of some precincts are empty is a codestream again: its headers say what they said, but
-/// for the places of the data, and its tiles have their packets, of which those are empty. So it is with that of a window.
+/// for the places of the data, and its tiles have their packets, of which those are empty. So it is where the packets of all layers
+/// but the first are empty, and with that of a window.
 pub fn emptied_codestreams_are_codestreams()
     ensures kept { IsCodestreamAgain }
+    ensures fronts { IsFrontAgain }
     ensures window { IsCutAgain }
 {}

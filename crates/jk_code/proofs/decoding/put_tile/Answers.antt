@@ -9,7 +9,8 @@ use Rattle.jk_tile.specs.Filling.{IsPartOf}
 use Rattle.jk_tile.specs.TileMeaning.{shown_area}
 use Rattle.jk_tile.specs.TileReading.{component_samples}
 use Rattle.jk_tile.proofs.Laws.{IsPut, vector_items, with_same}
-use Rattle.jk_code.specs.Tiles.{frame_of, plane_in}
+use Rattle.jk_code.specs.Tiles.{plane_in}
+use Rattle.jk_window.specs.Views.{frame_of}
 use Rattle.jk_code.proofs.Placing.{tile_part, tile_agrees, shown_plane, shown_count, planes_put, planes_keep, planes_show, part_is}
 use Rattle.jk_code.proofs.decoding.put_tile.Goals as goal
 

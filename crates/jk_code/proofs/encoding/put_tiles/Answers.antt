@@ -8,7 +8,7 @@ use Rattle.jk_marks.specs.Siz.{tile_count}
 use Rattle.jk_marks.specs.Codestream.{part_text}
 use Rattle.jk_params.specs.Profile.{siz_of}
 use Rattle.jk_code.specs.Written.{part_for, part_fits, parts_fit}
-use Rattle.jk_code.proofs.Below.{below_none, below_more, below_fails}
+use Rattle.jk_window.proofs.Laws.{below_none, below_more, below_fails}
 use Rattle.jk_code.proofs.LoopLaws.{parts_more}
 use Rattle.jk_code.proofs.encoding.put_tiles.Goals as goal
 

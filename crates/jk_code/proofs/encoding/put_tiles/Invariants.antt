@@ -1,7 +1,7 @@
 use Rattle.std.proofs.Common.{◌≡◌, ◌++◌, map, true}
 use Rattle.std.specs.List.{flat_map, range_with_len}
 use Rattle.jk_marks.specs.Codestream.{part_text}
-use Rattle.jk_code.specs.MeaningReading.{holds_below}
+use Rattle.jk_window.specs.Views.{holds_below}
 use Rattle.jk_code.specs.Written.{part_for, part_fits}
 use Rattle.jk_code.proofs.encoding.put_tiles.Given as goal
 

@@ -3,7 +3,8 @@ use Rattle.jk_math.specs.declared.rect.Rect.{Rect}
 use Rattle.jk_marks.specs.declared.siz.Siz.{Siz}
 use Rattle.jk_marks.specs.Siz.{tile_count}
 use Rattle.jk_geom.specs.Partitions.{image_area, reduced_area}
-use Rattle.jk_code.proofs.HeaderFacts.{few_levels, levels_found, reduced_frame}
+use Rattle.jk_code.proofs.HeaderFacts.{reduced_frame}
+use Rattle.jk_window.proofs.Laws.{few_levels, levels_found}
 use Rattle.jk_code.proofs.Planes.{HasFrame}
 use Rattle.jk_code.proofs.reduction.check_reduction.Goals as goal
 

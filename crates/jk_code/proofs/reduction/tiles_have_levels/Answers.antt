@@ -3,8 +3,8 @@ use Rattle.std.specs.List.{list_all}
 use Rattle.jk_marks.specs.Siz.{tile_count}
 use Rattle.jk_marks.specs.declared.coding.Coding.{Coding}
 use Rattle.jk_params.specs.Headers.{tile_in}
-use Rattle.jk_code.specs.MeaningReading.{has_levels}
-use Rattle.jk_code.proofs.Below.{below_fails}
+use Rattle.jk_window.specs.Views.{has_levels}
+use Rattle.jk_window.proofs.Laws.{below_fails}
 use Rattle.jk_code.proofs.reduction.tiles_have_levels.Goals as goal
 
 pub returns-then-not-codings_have_levels : goal.returns-then-not-codings_have_levels

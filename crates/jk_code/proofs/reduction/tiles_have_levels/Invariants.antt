@@ -1,7 +1,7 @@
 use Rattle.std.proofs.Common.{◌≡◌, true}
 use Rattle.jk_marks.specs.Siz.{tile_count}
 use Rattle.jk_params.specs.Headers.{tile_in}
-use Rattle.jk_code.specs.MeaningReading.{has_levels, holds_below}
+use Rattle.jk_window.specs.Views.{has_levels, holds_below}
 use Rattle.jk_code.proofs.reduction.tiles_have_levels.Given as goal
 
 -- the tiles before have the levels

@@ -1,8 +1,11 @@
-use Rattle.jk_window.proofs.CutAgain.{codestream_again, cut_again}
+use Rattle.jk_window.proofs.CutAgain.{codestream_again, front_again, cut_again}
 use Rattle.jk_window.proofs.theorems.emptied_codestreams_are_codestreams.Goals as goal
 
 pub returns-clause-kept : goal.returns-clause-kept
 returns-clause-kept c = codestream_again
+
+pub returns-clause-fronts : goal.returns-clause-fronts
+returns-clause-fronts c = front_again
 
 pub returns-clause-window : goal.returns-clause-window
 returns-clause-window c = cut_again
