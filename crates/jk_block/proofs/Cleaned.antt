@@ -21,7 +21,7 @@ use Rattle.jk_block.specs.Steps.{IsPlace}
 use Rattle.jk_block.specs.declared.flags.Flags.{Flags}
 use Rattle.jk_block.specs.declared.plane.BlockPlane.{BlockPlane}
 use Rattle.jk_block.specs.declared.spot.Spot.{Spot}
-use Rattle.jk_block.specs.Viewed.{seen, lit_at, negative_at, spread_at, IsFlagged, Lights, moment_at, run_head, word_decisions}
+use Rattle.jk_block.specs.Viewed.{seen, lit_at, spread_at, IsFlagged, Lights, moment_at, run_head, word_decisions}
 use Rattle.jk_block.proofs.Cleaning.{none_before, neither, one_of, clear_below, high_enough, both_true, lt_true, is_one_number}
 use Rattle.jk_block.proofs.Columns.{rows_left, row_left, runs_is}
 use Rattle.jk_block.proofs.Rows.{start}
@@ -187,9 +187,9 @@ left_rest e m n w w' due h a b = grind (arith, nat_tests)
 cleaned_place : (v : BlockPlane) (at : Spot) (flags flags' : Flags) (old list list' : Decided) (around : Around) (left still : ℕ) (bit : Bool) (st : Cleaned v at flags old list around left still) → 0 < bit_or left still → bit_or left still < 2 ^ 64
     → on still (trailing_zeros w64 (bit_or left still)) ≡ false
     → bit ≡ is_one (mag v (column at.word (trailing_zeros w64 (bit_or left still))) (row at.stripe (trailing_zeros w64 (bit_or left still))))
-    → Lights v.shape (column at.word (trailing_zeros w64 (bit_or left still))) (row at.stripe (trailing_zeros w64 (bit_or left still))) bit ((seen v).negative (column at.word (trailing_zeros w64 (bit_or left still))) (row at.stripe (trailing_zeros w64 (bit_or left still)))) flags flags'
+    → Lights v.shape (column at.word (trailing_zeros w64 (bit_or left still))) (row at.stripe (trailing_zeros w64 (bit_or left still))) bit flags flags'
     → flags'.visited ≡ flags.visited
-    → ((t : ℕ) → IsDrawn v.shape (negative_at v t) flags.negative → IsAround (bordered (lit_at v t)) at.word at.stripe around → list' ≡ list ++ new_decisions v.shape (seen v) t (column at.word (trailing_zeros w64 (bit_or left still))) (row at.stripe (trailing_zeros w64 (bit_or left still))))
+    → ((t : ℕ) → IsAround (bordered (lit_at v t)) at.word at.stripe around → list' ≡ list ++ new_decisions v.shape (seen v) t (column at.word (trailing_zeros w64 (bit_or left still))) (row at.stripe (trailing_zeros w64 (bit_or left still))))
     → Coming v 2 at (trailing_zeros w64 (bit_or left still) + 1) flags' old list'
 cleaned_place v at flags flags' old list list' around left still bit st p q off bit_is lights visited listed =
     let z = trailing_zeros w64 (bit_or left still) in
@@ -199,14 +199,14 @@ cleaned_place v at flags flags' old list list' around left still bit st p q off 
     let t = moment_at v.shape 2 j i z in
     coming_place v 2 at z flags flags' old list list' next.coming next.place
     (flagged_place v 2 j i z bit flags flags' next.coming.stripe next.due (bit_is ∙ one_is v 2 j i z next.due refl) lights next.coming.flagged (subst (λ ws. IsDrawn v.shape (spread_at v t) ws) (sym visited) next.coming.flagged.coded))
-    (new_place v 2 j i z list list' next.due (λ e. absurd (omega (arith, e))) (listed t next.coming.flagged.signs next.shown))
+    (new_place v 2 j i z list list' next.due (λ e. absurd (omega (arith, e))) (listed t next.shown))
 
 pub cleaned_zero : (v : BlockPlane) (at : Spot) (flags flags' : Flags) (old list list' : Decided) (around : Around) (left still : ℕ) (bit : Bool) (st : Cleaned v at flags old list around left still) → 0 < bit_or left still → bit_or left still < 2 ^ 64
     → on still (trailing_zeros w64 (bit_or left still)) ≡ false
     → bit ≡ is_one (mag v (column at.word (trailing_zeros w64 (bit_or left still))) (row at.stripe (trailing_zeros w64 (bit_or left still))))
-    → Lights v.shape (column at.word (trailing_zeros w64 (bit_or left still))) (row at.stripe (trailing_zeros w64 (bit_or left still))) bit ((seen v).negative (column at.word (trailing_zeros w64 (bit_or left still))) (row at.stripe (trailing_zeros w64 (bit_or left still)))) flags flags'
+    → Lights v.shape (column at.word (trailing_zeros w64 (bit_or left still))) (row at.stripe (trailing_zeros w64 (bit_or left still))) bit flags flags'
     → flags'.visited ≡ flags.visited
-    → ((t : ℕ) → IsDrawn v.shape (negative_at v t) flags.negative → IsAround (bordered (lit_at v t)) at.word at.stripe around → list' ≡ list ++ new_decisions v.shape (seen v) t (column at.word (trailing_zeros w64 (bit_or left still))) (row at.stripe (trailing_zeros w64 (bit_or left still))))
+    → ((t : ℕ) → IsAround (bordered (lit_at v t)) at.word at.stripe around → list' ≡ list ++ new_decisions v.shape (seen v) t (column at.word (trailing_zeros w64 (bit_or left still))) (row at.stripe (trailing_zeros w64 (bit_or left still))))
     → bit ≡ false → Cleaned v at flags' old list' around (bit_and left (left - 1)) still
 cleaned_zero v at flags flags' old list list' around left still bit st p q off bit_is lights visited listed dark =
     let z = trailing_zeros w64 (bit_or left still) in
@@ -232,9 +232,9 @@ cleaned_zero v at flags flags' old list list' around left still bit st p q off b
 pub cleaned_one : (v : BlockPlane) (at : Spot) (flags flags' : Flags) (old list list' : Decided) (around : Around) (left still still' : ℕ) (bit : Bool) (st : Cleaned v at flags old list around left still) → 0 < bit_or left still → bit_or left still < 2 ^ 64
     → on still (trailing_zeros w64 (bit_or left still)) ≡ false
     → bit ≡ is_one (mag v (column at.word (trailing_zeros w64 (bit_or left still))) (row at.stripe (trailing_zeros w64 (bit_or left still))))
-    → Lights v.shape (column at.word (trailing_zeros w64 (bit_or left still))) (row at.stripe (trailing_zeros w64 (bit_or left still))) bit ((seen v).negative (column at.word (trailing_zeros w64 (bit_or left still))) (row at.stripe (trailing_zeros w64 (bit_or left still)))) flags flags'
+    → Lights v.shape (column at.word (trailing_zeros w64 (bit_or left still))) (row at.stripe (trailing_zeros w64 (bit_or left still))) bit flags flags'
     → flags'.visited ≡ flags.visited
-    → ((t : ℕ) → IsDrawn v.shape (negative_at v t) flags.negative → IsAround (bordered (lit_at v t)) at.word at.stripe around → list' ≡ list ++ new_decisions v.shape (seen v) t (column at.word (trailing_zeros w64 (bit_or left still))) (row at.stripe (trailing_zeros w64 (bit_or left still))))
+    → ((t : ℕ) → IsAround (bordered (lit_at v t)) at.word at.stripe around → list' ≡ list ++ new_decisions v.shape (seen v) t (column at.word (trailing_zeros w64 (bit_or left still))) (row at.stripe (trailing_zeros w64 (bit_or left still))))
     → bit ≡ true → Behind still still' (trailing_zeros w64 (bit_or left still)) → ((m : ℕ) → on still m ≡ false → on still' m ≡ false)
     → Cleaned v at flags' old list' record { own = bit_or around.own (1 * 2 ^ trailing_zeros w64 (bit_or left still) % 2 ^ 64); left = around.left; right = around.right } (bit_and left (left - 1)) still'
 cleaned_one v at flags flags' old list list' around left still still' bit st p q off bit_is lights visited listed lit_bit behind fewer =
@@ -377,9 +377,9 @@ run_idle v j i z f m first run le less or_behind = record {
 pub record RunListed (v : BlockPlane) (at : Spot) (z f : ℕ) (flags flags' : Flags) (list list' : Decided) (around : Around) : Type 0 where
   pub row_is : f ≡ first_one (mag v) (column at.word z) at.stripe
   pub few : f ≤ 4
-  pub lights : Lights v.shape (column at.word (z + f)) (row at.stripe (z + f)) (nat_lt f 4) ((seen v).negative (column at.word (z + f)) (row at.stripe (z + f))) flags flags'
+  pub lights : Lights v.shape (column at.word (z + f)) (row at.stripe (z + f)) (nat_lt f 4) flags flags'
   pub visited : flags'.visited ≡ flags.visited
-  pub listed : (t : ℕ) → IsDrawn v.shape (negative_at v t) flags.negative → IsAround (bordered (lit_at v t)) at.word at.stripe around → list' ≡ list ++ run_head v.shape (seen v) t (column at.word z) at.stripe f
+  pub listed : (t : ℕ) → IsAround (bordered (lit_at v t)) at.word at.stripe around → list' ≡ list ++ run_head v.shape (seen v) t (column at.word z) at.stripe f
 
 -- the column was listed up to its first 1
 record RunDone (v : BlockPlane) (at : Spot) (z f n : ℕ) (flags' : Flags) (old list' : Decided) : Type 0 where
@@ -428,7 +428,7 @@ run_done v at flags flags' old list list' around left still f st p q set call =
     ∙ ap (λ n. run_head s (seen v) t (column j z) i f ++ remaining_at s (seen v) 2 j i n) (let e : z - 1 + f + 2 ≡ z + f + 1 = omega (arith, first) in e) in
     let listed : old ++ word_decisions s (seen v) 2 j i ≡ list' ++ remaining_at s (seen v) 2 j i (z + f + 1) =
     append_both (old ++ word_decisions s (seen v) 2 j i) list (run_head s (seen v) t (column j z) i f) (remaining_at s (seen v) 2 j i (z - 1)) (remaining_at s (seen v) 2 j i (z + f + 1)) next.coming.listed behind
-    ∙ ap (λ (ds : Decided). ds ++ remaining_at s (seen v) 2 j i (z + f + 1)) (sym (call.listed t at_row.signs shown)) in
+    ∙ ap (λ (ds : Decided). ds ++ remaining_at s (seen v) 2 j i (z + f + 1)) (sym (call.listed t shown)) in
     let rows = next.rows in
     let due : f < 4 → codes s (mag v) 2 j i (z + f) ≡ true = λ l.
     (let place = bit_place j i z (z + f) first (omega arith) (omega (arith, l)) in
@@ -447,14 +447,13 @@ run_done v at flags flags' old list list' around left still f st p q set call =
         flagged = elim (cases_lt f 4) [
           | inl l ↦
               flagged_place v 2 j i (z + f) true flags flags' stripe (due l) (one l)
-              (subst (λ b. Lights s (column j (z + f)) (row i (z + f)) b ((seen v).negative (column j (z + f)) (row i (z + f))) flags flags') (lt_true f 4 l) call.lights) at_row
+              (subst (λ b. Lights s (column j (z + f)) (row i (z + f)) b flags flags') (lt_true f 4 l) call.lights) at_row
               (subst (λ ws. IsDrawn s (spread_at v t) ws) (sym call.visited) at_row.coded)
           | inr full ↦
               same_flags v t (moment_at s 2 j i (z + f + 1)) flags' (behind_run v j i z f first few full stripe run)
-              (let lights = subst (λ b. Lights s (column j (z + f)) (row i (z + f)) b ((seen v).negative (column j (z + f)) (row i (z + f))) flags flags') (not_lt f 4 full) call.lights in
+              (let lights = subst (λ b. Lights s (column j (z + f)) (row i (z + f)) b flags flags') (not_lt f 4 full) call.lights in
               record {
                 lit = lights.lit (lit_at v t) at_row.lit;
-                signs = lights.signs (negative_at v t) at_row.signs;
                 coded = subst (λ ws. IsDrawn s (spread_at v t) ws) (sym call.visited) at_row.coded;
               })
         ];

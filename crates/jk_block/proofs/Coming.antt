@@ -15,8 +15,7 @@ use Rattle.jk_block.specs.Steps.{IsPlace}
 use Rattle.jk_block.specs.declared.flags.Flags.{Flags}
 use Rattle.jk_block.specs.declared.plane.BlockPlane.{BlockPlane}
 use Rattle.jk_block.specs.declared.spot.Spot.{Spot}
-use Rattle.jk_block.specs.Viewed.{seen, lit_at, negative_at, spread_at, IsFlagged, Lights, put_if, moment_at, word_decisions}
-use Rattle.jk_block.proofs.Changes.{at_place}
+use Rattle.jk_block.specs.Viewed.{seen, lit_at, spread_at, IsFlagged, Lights, put_if, moment_at, word_decisions}
 use Rattle.jk_block.proofs.Remaining.{remaining_at, remaining_all, remaining_none, remaining_place, Rests, rest, is_run}
 use Rattle.jk_block.proofs.Seeing.{is_due}
 use Rattle.jk_block.proofs.Timing.{here, codes, lit_bit, spread_bit}
@@ -33,7 +32,6 @@ mag_outside v x y = plane_outside v.shape v.plane (value_in v.shape v.values.now
 flagged_at : (v : BlockPlane) (t u : ℕ) (flags : Flags) → ((x y : ℕ) → lit_at v u x y ≡ lit_at v t x y) → ((x y : ℕ) → spread_at v u x y ≡ spread_at v t x y) → IsFlagged v t flags → IsFlagged v u flags
 flagged_at v t u flags e g h = record {
   lit = drawn_same v.shape (lit_at v t) (lit_at v u) flags.significant (λ x y. sym (e x y)) h.lit;
-  signs = drawn_same v.shape (negative_at v t) (negative_at v u) flags.negative (λ x y. ap (λ b. b && (seen v).negative x y) (sym (e x y))) h.signs;
   coded = drawn_same v.shape (spread_at v t) (spread_at v u) flags.visited (λ x y. sym (g x y)) h.coded;
 }
 
@@ -121,16 +119,13 @@ coming_skip v pass at n m flags old list c le most p = record {
 
 -- The words after a place was coded.
 pub flagged_place : (v : BlockPlane) (pass j i k : ℕ) (bit : Bool) (old new : Flags) → i < stripes v.shape → codes v.shape (mag v) pass j i k ≡ true → bit ≡ nat_eq (mag v (column j k) (row i k)) 1
-    → Lights v.shape (column j k) (row i k) bit ((seen v).negative (column j k) (row i k)) old new → IsFlagged v (moment_at v.shape pass j i k) old
+    → Lights v.shape (column j k) (row i k) bit old new → IsFlagged v (moment_at v.shape pass j i k) old
     → IsDrawn v.shape (put_if (nat_eq pass 0) (spread_at v (moment_at v.shape pass j i k)) (column j k) (row i k) true) new.visited → IsFlagged v (moment_at v.shape pass j i (k + 1)) new
 unfolding here
 flagged_place v pass j i k bit old new stripe due e lights h drawn = record {
   lit = drawn_same v.shape (put_if bit (lit_at v t) x y true) (lit_at v u) new.significant
       (λ x' y'. puts bit (lit_at v t) x' y' ∙ sym (lit_bit v.shape (mag v) pass j i k (mag_outside v) stripe x' y' ∙ ap (λ d. lit_at v t x' y' || (d && here x y x' y')) (both (codes v.shape (mag v) pass j i k) (nat_eq (mag v x y) 1) bit due e)))
       (lights.lit (lit_at v t) h.lit);
-  signs = drawn_same v.shape (put_if bit (negative_at v t) x y ((seen v).negative x y)) (negative_at v u) new.negative
-      (λ x' y'. sign_puts x' y')
-      (lights.signs (negative_at v t) h.signs);
   coded = drawn_same v.shape (put_if (nat_eq pass 0) (spread_at v t) x y true) (spread_at v u) new.visited
       (λ x' y'. puts (nat_eq pass 0) (spread_at v t) x' y' ∙ sym (spread_bit v.shape (mag v) pass j i k stripe x' y' ∙ ap (λ d. spread_at v t x' y' || (d && here x y x' y')) (first (codes v.shape (mag v) pass j i k) (nat_eq pass 0) due)))
       drawn;
@@ -163,26 +158,6 @@ flagged_place v pass j i k bit old new stripe due e lights h drawn = record {
       where
         by : (h g : Bool) → g ≡ (g || (false && h))
         by h g = grind (arith, nat_tests)
-
-    sign_if : (b : Bool) (f n : Field Bool) (m : Bool) (x' y' : ℕ) → ((nat_eq x' x && nat_eq y' y) ≡ true → n x' y' ≡ m) → put_if b (λ x y. f x y && n x y) x y m x' y' ≡ ((f x' y' || (b && here x y x' y')) && n x' y')
-    sign_if true f n m x' y' e = by (nat_eq x' x && nat_eq y' y) (f x' y') (n x' y') e
-      where
-        by : (h g n : Bool) → (h ≡ true → n ≡ m) → cond h m (g && n) ≡ ((g || (true && h)) && n)
-        by true g n e = let e0 = e refl in grind (arith, nat_tests)
-        by false g n e = grind (arith, nat_tests)
-    sign_if false f n m x' y' e = by (f x' y') (nat_eq x' x && nat_eq y' y) (n x' y')
-      where
-        by : (g h n : Bool) → (g && n) ≡ ((g || (false && h)) && n)
-        by g h n = grind (arith, nat_tests)
-
-    own_sign : (x' y' : ℕ) → (nat_eq x' x && nat_eq y' y) ≡ true → (seen v).negative x' y' ≡ (seen v).negative x y
-    own_sign x' y' = at_place (λ u w. (nat_eq u x && nat_eq w y) ≡ true → (seen v).negative u w ≡ (seen v).negative x y) x y x' y' (λ _. refl) (λ a e. let c : true ≡ false = sym e ∙ a in absurd cc)
-
-    sign_puts : (x' y' : ℕ) → put_if bit (negative_at v t) x y ((seen v).negative x y) x' y' ≡ negative_at v u x' y'
-    sign_puts x' y' =
-        sign_if bit (lit_at v t) (seen v).negative ((seen v).negative x y) x' y' (own_sign x' y')
-        ∙ ap (λ l. l && (seen v).negative x' y')
-        (sym (lit_bit v.shape (mag v) pass j i k (mag_outside v) stripe x' y' ∙ ap (λ d. lit_at v t x' y' || (d && here x y x' y')) (both (codes v.shape (mag v) pass j i k) (nat_eq (mag v x y) 1) bit due e)))
 
 pub append_both : (a b c d e : Decided) → a ≡ b ++ d → d ≡ c ++ e → a ≡ (b ++ c) ++ e
 append_both a b c d e f g = f ∙ ap (λ (ds : Decided). b ++ ds) g ∙ sym (append_assoc b c e)

@@ -38,3 +38,5 @@ pub mod Cleaning
 pub mod Stripes
 pub mod Freshness
 pub mod Listing
+pub mod Slicing
+pub mod Negatives

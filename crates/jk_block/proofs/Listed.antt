@@ -1,6 +1,6 @@
 -- Decisions that are listed, as the definitions say them.
 use Rattle.std.proofs.Common.{◌≡◌, ℕ, zero, suc, ◌+◌, ◌-◌, ◌*◌, ◌/◌, Bool, true, false, cond, [], ◌∷◌, ◌++◌, refl, sym, ap, ◌∙◌, append_assoc, Result, Ok, Err, IfOk, arith}
-use Rattle.std.specs.Prelude.{◌&&◌, nat_eq, nat_le}
+use Rattle.std.specs.Prelude.{◌&&◌, ◌||◌, nat_eq, nat_le}
 use Rattle.std.proofs.lemmas.Bool.Decides.{nat_tests}
 use Rattle.std.proofs.lemmas.List.{append-nil}
 use Rattle.jk_math.specs.declared.fault.Fault.{Fault}
@@ -8,18 +8,31 @@ use Rattle.jk_scan.specs.declared.shape.BlockShape.{BlockShape}
 use Rattle.jk_scan.specs.declared.contexts.SignContext.{SignContext}
 use Rattle.jk_scan.specs.Contexts.{refine_context_of, run_length, uniform}
 use Rattle.jk_scan.specs.Neighbours.{is_inside, touched, zero_at, sign_at}
-use Rattle.jk_scan.specs.Moments.{number, visits, pass_of, significant}
+use Rattle.jk_scan.specs.Moments.{number, visits, pass_of, is_coded, significant}
 use Rattle.jk_scan.specs.Passes.{Plane, Decided, is_one, flipped, joined, sign_decision, new_decisions, refining_decision, own_decisions, place_decisions, rows_decisions, run_decisions, column_decisions, plane_decisions}
-use Rattle.jk_scan.proofs.Laws.{sign_same}
-use Rattle.jk_block.specs.Viewed.{seen, lit_at, negative_at, run_head}
+use Rattle.std.specs.Int.{is_negative}
+use Rattle.jk_scan.proofs.Laws.{sign_same, significant_is}
+use Rattle.jk_block.specs.Meaning.{plane_at, value_in}
+use Rattle.jk_block.proofs.Whole.{plane_outside}
+use Rattle.jk_block.specs.Viewed.{seen, lit_at, negative_in, run_head}
 use Rattle.jk_block.specs.declared.plane.BlockPlane.{BlockPlane}
 
-pub sign_is : (v : BlockPlane) (t x y : ℕ) (c : SignContext) (n f : Bool) → c ≡ sign_at (lit_at v t) (negative_at v t) x y → n ≡ (seen v).negative x y → f ≡ flipped c.flip n
+pub sign_is : (v : BlockPlane) (t x y : ℕ) (c : SignContext) (n f : Bool) → c ≡ sign_at (lit_at v t) (negative_in v) x y → n ≡ (seen v).negative x y → f ≡ flipped c.flip n
     → (c.context, f) ≡ sign_decision v.shape (seen v) t x y
+unfolding plane_at
 sign_is v t x y c n f e g h =
     let p = seen v in
     ap (λ (f : Bool). (c.context, f)) (h ∙ ap (flipped c.flip) g)
-    ∙ ap (λ (c : SignContext). (c.context, flipped c.flip (p.negative x y))) (e ∙ sign_same (lit_at v t) (lit_at v t) (negative_at v t) p.negative x y (λ u w. refl) (λ u w l. ap (λ b. b && p.negative u w) l))
+    ∙ ap (λ (c : SignContext). (c.context, flipped c.flip (p.negative x y))) (e ∙ sign_same (lit_at v t) (lit_at v t) (negative_in v) p.negative x y (λ u w. refl) (λ u w l. ap (λ b. b && is_negative (value_in v.shape v.values.now u w)) (inside u w l (is_inside v.shape u w) refl)))
+  where
+    none : (a : ℕ) (c : Bool) → a ≡ 0 → (nat_le 2 a || (nat_eq a 1 && c)) ≡ false
+    none a c e = grind (arith, nat_tests)
+
+    inside : (u w : ℕ) → lit_at v t u w ≡ true → (b : Bool) → is_inside v.shape u w ≡ b → is_inside v.shape u w ≡ true
+    inside u w l true e = e
+    inside u w l false e =
+        let c : true ≡ false = sym l ∙ significant_is v.shape (seen v).magnitude t u w ∙ none ((seen v).magnitude u w) (is_coded v.shape (seen v).magnitude t u w) (plane_outside v.shape v.plane (value_in v.shape v.values.now) u w e) in
+        absurd cc
 
 -- the list of a place that isn't significant, with its sign or without
 pub new_with_sign : (s : BlockShape) (p : Plane) (t x y cx : ℕ) (bit : Bool) (old first last : Decided) → cx ≡ zero_at s.kind (significant s p.magnitude t) x y → bit ≡ is_one (p.magnitude x y) → bit ≡ true

@@ -1,8 +1,10 @@
 -- The words of a block from one plane to the next.
-use Rattle.std.proofs.Common.{◌≡◌, ℕ, zero, suc, ◌+◌, ◌*◌, ◌/◌, ◌^◌, ◌<◌, ◌≤◌, Bool, true, false, not, ℤ, List, [], ◌∷◌, length, unsigned_abs, replicate, refl, sym, ap, ◌∙◌, subst, arith}
+use Rattle.std.proofs.Common.{◌≡◌, ℕ, zero, suc, ◌+◌, ◌-◌, ◌*◌, ◌/◌, ◌^◌, ◌<◌, ◌≤◌, Bool, true, false, not, ℤ, List, [], ◌∷◌, length, unsigned_abs, replicate, refl, sym, ap, ◌∙◌, subst, arith}
 use Rattle.std.specs.Prelude.{◌&&◌, ◌||◌, nat_eq, nat_lt, nat_le}
 use Rattle.std.proofs.lemmas.Bool.Decides.{nat_tests}
-use Rattle.std.proofs.lemmas.Nat.{div-mul-add}
+use Rattle.std.proofs.lemmas.Nat.{div-mul-add, pow-add, pow_pos}
+use Rattle.std.proofs.Math.Nat.{mul-le-mul_right}
+use Rattle.std.proofs.lemmas.Grind.{pow_more}
 use Rattle.jk_scan.specs.declared.shape.BlockShape.{BlockShape}
 use Rattle.jk_scan.specs.Neighbours.{Field, is_inside, touched}
 use Rattle.jk_scan.specs.Moments.{number, visits, old, found, spread, moment, is_coded}
@@ -14,7 +16,7 @@ use Rattle.jk_block.specs.BlockWritten.{greatest}
 use Rattle.jk_block.specs.Meaning.{plane_at, value_in}
 use Rattle.jk_block.specs.declared.flags.Flags.{Flags}
 use Rattle.jk_block.specs.declared.plane.BlockPlane.{BlockPlane}
-use Rattle.jk_block.specs.Viewed.{seen, lit_at, negative_at, spread_at, IsFlagged, IsLitUpto}
+use Rattle.jk_block.specs.Viewed.{lit_at, spread_at, IsFlagged, IsLitUpto}
 use Rattle.jk_block.proofs.Coming.{mag, mag_outside}
 use Rattle.jk_block.proofs.Timing.{by_test}
 use Rattle.jk_block.proofs.Whole.{plane_inside, plane_outside, lower_plane}
@@ -33,9 +35,18 @@ old_plane s b q x y = by_half ((plane_at s b q).magnitude x y) ((plane_at s (b +
 old_above : (v : BlockPlane) (x y : ℕ) → old (mag v) x y ≡ nat_lt 0 ((plane_at v.shape (v.plane + 1) (value_of v)).magnitude x y)
 old_above v x y = old_plane v.shape v.plane (value_of v) x y
 
-same_signs : (s : BlockShape) (b c : ℕ) (q : Field ℤ) (x y : ℕ) → (plane_at s b q).negative x y ≡ (plane_at s c q).negative x y
-unfolding plane_at
-same_signs s b c q x y = refl
+-- What was refined before a plane has a bit more than one plane above it.
+refined_plane : (s : BlockShape) (b : ℕ) (q : Field ℤ) (x y : ℕ) → nat_le 4 ((plane_at s b q).magnitude x y) ≡ nat_lt 0 ((plane_at s (b + 2) q).magnitude x y)
+refined_plane s b q x y = by_quarter ((plane_at s b q).magnitude x y) ((plane_at s (b + 1) q).magnitude x y) ((plane_at s (b + 2) q).magnitude x y) (lower_plane s b q x y)
+    (subst (λ c. (plane_at s c q).magnitude x y ≡ (plane_at s (b + 1) q).magnitude x y / 2) (let e : b + 1 + 1 ≡ b + 2 = omega arith in e) (lower_plane s (b + 1) q x y))
+  where
+    by_quarter : (m n o : ℕ) → n ≡ m / 2 → o ≡ n / 2 → nat_le 4 m ≡ nat_lt 0 o
+    by_quarter m n o e g = grind (arith, nat_tests)
+
+pub refined_drawn : (s : BlockShape) (b c : ℕ) (q : Field ℤ) (words : List ℕ) → c ≡ b + 2 → IsDrawn s (λ x y. nat_lt 0 ((plane_at s c q).magnitude x y)) words → IsDrawn s (λ x y. nat_le 4 ((plane_at s b q).magnitude x y)) words
+refined_drawn s b c q words e h =
+    drawn_same s (λ x y. nat_lt 0 ((plane_at s c q).magnitude x y)) (λ x y. nat_le 4 ((plane_at s b q).magnitude x y)) words
+    (λ x y. ap (λ c. nat_lt 0 ((plane_at s c q).magnitude x y)) e ∙ sym (refined_plane s b q x y)) h
 
 -- Nothing is found where nothing was significant.
 unfound : (w : ℕ) (a : Field ℕ) (k : ℕ) → ((x y : ℕ) → old a x y ≡ false) → (x y : ℕ) → found w a k x y ≡ false
@@ -64,14 +75,11 @@ unspread w a h x y =
     none false = refl
 
 -- a plane begins, where what is significant is what was before, and nothing is coded
-begun_at : (v : BlockPlane) (t : ℕ) (flags flags' : Flags) → IsLitUpto v.shape (v.plane + 1) (value_of v) flags → flags'.significant ≡ flags.significant → flags'.negative ≡ flags.negative → flags'.visited ≡ replicate 774 0
+begun_at : (v : BlockPlane) (t : ℕ) (flags flags' : Flags) → IsLitUpto v.shape (v.plane + 1) (value_of v) flags → flags'.significant ≡ flags.significant → flags'.visited ≡ replicate 774 0
     → ((x y : ℕ) → lit_at v t x y ≡ old (mag v) x y) → ((x y : ℕ) → spread_at v t x y ≡ false) → IsFlagged v t flags'
-begun_at v t flags flags' h e g k lit none = record {
+begun_at v t flags flags' h e k lit none = record {
   lit = subst (λ ws. IsDrawn v.shape (lit_at v t) ws) (sym e)
       (drawn_same v.shape (λ x y. nat_lt 0 ((plane_at v.shape (v.plane + 1) (value_of v)).magnitude x y)) (lit_at v t) flags.significant (λ x y. sym (lit x y ∙ old_above v x y)) h.lit);
-  signs = subst (λ ws. IsDrawn v.shape (negative_at v t) ws) (sym g)
-      (drawn_same v.shape (λ x y. nat_lt 0 ((plane_at v.shape (v.plane + 1) (value_of v)).magnitude x y) && (plane_at v.shape (v.plane + 1) (value_of v)).negative x y) (negative_at v t) flags.negative
-      (λ x y. ap (λ b. b && (plane_at v.shape (v.plane + 1) (value_of v)).negative x y) (sym (lit x y ∙ old_above v x y)) ∙ ap (λ n. lit_at v t x y && n) (same_signs v.shape (v.plane + 1) v.plane (value_of v) x y)) h.signs);
   coded = subst (λ ws. IsDrawn v.shape (spread_at v t) ws) (sym k) (drawn_none v.shape (spread_at v t) 774 none);
 }
 
@@ -80,9 +88,9 @@ and_none true true = refl
 and_none true false = refl
 and_none false b = refl
 
-pub begun_plane : (v : BlockPlane) (flags flags' : Flags) → IsLitUpto v.shape (v.plane + 1) (value_of v) flags → flags'.significant ≡ flags.significant → flags'.negative ≡ flags.negative → flags'.visited ≡ replicate 774 0 → IsFlagged v (0 * visits v.shape) flags'
-begun_plane v flags flags' h e g k =
-    begun_at v (0 * visits v.shape) flags flags' h e g k
+pub begun_plane : (v : BlockPlane) (flags flags' : Flags) → IsLitUpto v.shape (v.plane + 1) (value_of v) flags → flags'.significant ≡ flags.significant → flags'.visited ≡ replicate 774 0 → IsFlagged v (0 * visits v.shape) flags'
+begun_plane v flags flags' h e k =
+    begun_at v (0 * visits v.shape) flags flags' h e k
     (λ x y. significant_is v.shape (mag v) (0 * visits v.shape) x y ∙ early (old (mag v) x y) (nat_eq (mag v x y) 1) (moment v.shape (mag v) x y) (0 * visits v.shape) (omega arith))
     (λ x y. ap (λ b. is_inside v.shape x y && (spread v.shape.width (mag v) x y && b)) (let z : nat_lt (number v.shape.width x y) (0 * visits v.shape) ≡ false = never (number v.shape.width x y) (0 * visits v.shape) (omega arith) in z) ∙ and_none (is_inside v.shape x y) (spread v.shape.width (mag v) x y))
   where
@@ -93,10 +101,10 @@ begun_plane v flags flags' h e g k =
     early o e m t z = grind (arith, nat_tests)
 
 -- the highest plane has a cleanup pass alone
-pub begun_top : (v : BlockPlane) (flags flags' : Flags) → IsLitUpto v.shape (v.plane + 1) (value_of v) flags → flags'.significant ≡ flags.significant → flags'.negative ≡ flags.negative → flags'.visited ≡ replicate 774 0
+pub begun_top : (v : BlockPlane) (flags flags' : Flags) → IsLitUpto v.shape (v.plane + 1) (value_of v) flags → flags'.significant ≡ flags.significant → flags'.visited ≡ replicate 774 0
     → ((x y : ℕ) → old (mag v) x y ≡ false) → IsFlagged v (2 * visits v.shape) flags'
-begun_top v flags flags' h e g k top =
-    begun_at v (2 * visits v.shape) flags flags' h e g k
+begun_top v flags flags' h e k top =
+    begun_at v (2 * visits v.shape) flags flags' h e k
     (λ x y. significant_is v.shape (mag v) (2 * visits v.shape) x y
     ∙ cases_of v.shape (mag v) x y
     (λ w. absurd (let o = w.old_is in let c : true ≡ false = sym o ∙ top x y in cc))
@@ -115,7 +123,6 @@ begun_top v flags flags' h e g k top =
 pub ended_plane : (v : BlockPlane) (flags : Flags) → IsFlagged v (3 * visits v.shape) flags → IsLitUpto v.shape v.plane (value_of v) flags
 ended_plane v flags h = record {
   lit = drawn_same v.shape (lit_at v (3 * visits v.shape)) (λ x y. nat_lt 0 (mag v x y)) flags.significant all h.lit;
-  signs = drawn_same v.shape (negative_at v (3 * visits v.shape)) (λ x y. nat_lt 0 (mag v x y) && (seen v).negative x y) flags.negative (λ x y. ap (λ b. b && (seen v).negative x y) (all x y)) h.signs;
 }
   where
     at_coded : (m q t : ℕ) → q < t → (nat_le 2 m || (nat_eq m 1 && nat_lt q t)) ≡ nat_lt 0 m
@@ -134,12 +141,36 @@ ended_plane v flags h = record {
 no_bits : (n b : ℕ) → n < 2 ^ b → n / 2 ^ b ≡ 0
 no_bits n b h = ap (λ m. m / 2 ^ b) (let e : n ≡ 0 * 2 ^ b + n = omega arith in e) ∙ div-mul-add 0 (2 ^ b) n h
 
+pub short_of : (m planes : ℕ) → m < 2 ^ planes → planes ≤ 23 → m < 2 ^ 31
+short_of m planes h few =
+    let whole : 2 ^ 31 ≡ 2 ^ (31 - planes) * 2 ^ planes = ap (λ k. 2 ^ k) (let e : 31 ≡ 31 - planes + planes = omega (arith, few) in e) ∙ pow-add 2 (31 - planes) planes in
+    let some = pow_pos (31 - planes) in
+    subst (λ n. m < n) (sym whole) (more m (2 ^ planes) (2 ^ (31 - planes)) h some)
+  where
+    more : (m a b : ℕ) → m < a → 0 < b → m < b * a
+    more m a b h l = let e = mul-le-mul_right a l in omega (arith, e, h)
+
+-- no place has a bit above the planes
+pub none_refined : (s : BlockShape) (planes : ℕ) (q : Field ℤ) (words : List ℕ) → ((x y : ℕ) → is_inside s x y ≡ true → unsigned_abs (q x y) < 2 ^ planes) → words ≡ replicate 774 0
+    → IsDrawn s (λ x y. nat_lt 0 ((plane_at s (planes + 1) q).magnitude x y)) words
+none_refined s planes q words h e =
+    subst (λ ws. IsDrawn s (λ x y. nat_lt 0 ((plane_at s (planes + 1) q).magnitude x y)) ws) (sym e) (drawn_none s (λ x y. nat_lt 0 ((plane_at s (planes + 1) q).magnitude x y)) 774 dark)
+  where
+    zero_not : (m : ℕ) → m ≡ 0 → nat_lt 0 m ≡ false
+    zero_not m e = grind (arith, nat_tests)
+
+    more : (x y : ℕ) → is_inside s x y ≡ true → unsigned_abs (q x y) < 2 ^ (planes + 1)
+    more x y i = let l = h x y i in let e = pow_more 2 planes in omega (arith, l, e)
+
+    dark : (x y : ℕ) → nat_lt 0 ((plane_at s (planes + 1) q).magnitude x y) ≡ false
+    dark x y = by_test (is_inside s x y)
+        (λ i. zero_not ((plane_at s (planes + 1) q).magnitude x y) (plane_inside s (planes + 1) q x y i ∙ no_bits (unsigned_abs (q x y)) (planes + 1) (more x y i)))
+        (λ i. zero_not ((plane_at s (planes + 1) q).magnitude x y) (plane_outside s (planes + 1) q x y i))
+
 -- nothing is significant at first
-pub lit_none : (s : BlockShape) (planes : ℕ) (q : Field ℤ) (flags : Flags) → ((x y : ℕ) → is_inside s x y ≡ true → unsigned_abs (q x y) < 2 ^ planes) → flags.significant ≡ replicate 774 0 → flags.negative ≡ replicate 774 0 → IsLitUpto s planes q flags
-lit_none s planes q flags h e g = record {
+pub lit_none : (s : BlockShape) (planes : ℕ) (q : Field ℤ) (flags : Flags) → ((x y : ℕ) → is_inside s x y ≡ true → unsigned_abs (q x y) < 2 ^ planes) → flags.significant ≡ replicate 774 0 → IsLitUpto s planes q flags
+lit_none s planes q flags h e = record {
   lit = subst (λ ws. IsDrawn s (λ x y. nat_lt 0 ((plane_at s planes q).magnitude x y)) ws) (sym e) (drawn_none s (λ x y. nat_lt 0 ((plane_at s planes q).magnitude x y)) 774 dark);
-  signs = subst (λ ws. IsDrawn s (λ x y. nat_lt 0 ((plane_at s planes q).magnitude x y) && (plane_at s planes q).negative x y) ws) (sym g)
-      (drawn_none s (λ x y. nat_lt 0 ((plane_at s planes q).magnitude x y) && (plane_at s planes q).negative x y) 774 (λ x y. ap (λ b. b && (plane_at s planes q).negative x y) (dark x y)));
 }
   where
     zero_not : (m : ℕ) → m ≡ 0 → nat_lt 0 m ≡ false

@@ -21,7 +21,7 @@ use Rattle.jk_block.specs.Steps.{IsPlace}
 use Rattle.jk_block.specs.declared.flags.Flags.{Flags}
 use Rattle.jk_block.specs.declared.plane.BlockPlane.{BlockPlane}
 use Rattle.jk_block.specs.declared.spot.Spot.{Spot}
-use Rattle.jk_block.specs.Viewed.{seen, lit_at, negative_at, spread_at, IsFlagged, Lights, moment_at}
+use Rattle.jk_block.specs.Viewed.{seen, lit_at, spread_at, IsFlagged, Lights, moment_at}
 use Rattle.jk_block.proofs.Coming.{mag, mag_outside, Same, same_lit, idle_none, idle_until, Coming, coming_none, coming_skip, coming_place, flagged_place}
 use Rattle.jk_block.proofs.Listed.{place_new}
 use Rattle.jk_block.proofs.Remaining.{is_run}
@@ -209,9 +209,9 @@ new_place v pass j i z list list' due other h =
 -- a place was listed
 propagated_place : (v : BlockPlane) (at : Spot) (flags flags' : Flags) (old list list' : Decided) (around : Around) (w : ℕ) (bit : Bool) (st : Propagated v at flags old list around w) → 0 < w → w < 2 ^ 64
     → bit ≡ is_one (mag v (column at.word (trailing_zeros w64 w)) (row at.stripe (trailing_zeros w64 w)))
-    → Lights v.shape (column at.word (trailing_zeros w64 w)) (row at.stripe (trailing_zeros w64 w)) bit ((seen v).negative (column at.word (trailing_zeros w64 w)) (row at.stripe (trailing_zeros w64 w))) flags flags'
+    → Lights v.shape (column at.word (trailing_zeros w64 w)) (row at.stripe (trailing_zeros w64 w)) bit flags flags'
     → ((f : Field Bool) → IsDrawn v.shape f flags.visited → IsDrawn v.shape (put f (column at.word (trailing_zeros w64 w)) (row at.stripe (trailing_zeros w64 w)) true) flags'.visited)
-    → ((t : ℕ) → IsDrawn v.shape (negative_at v t) flags.negative → IsAround (bordered (lit_at v t)) at.word at.stripe around → list' ≡ list ++ new_decisions v.shape (seen v) t (column at.word (trailing_zeros w64 w)) (row at.stripe (trailing_zeros w64 w)))
+    → ((t : ℕ) → IsAround (bordered (lit_at v t)) at.word at.stripe around → list' ≡ list ++ new_decisions v.shape (seen v) t (column at.word (trailing_zeros w64 w)) (row at.stripe (trailing_zeros w64 w)))
     → Coming v 0 at (trailing_zeros w64 w + 1) flags' old list'
 propagated_place v at flags flags' old list list' around w bit st p q bit_is lights visited listed =
     let z = trailing_zeros w64 w in
@@ -221,13 +221,13 @@ propagated_place v at flags flags' old list list' around w bit st p q bit_is lig
     let t = moment_at v.shape 0 j i z in
     coming_place v 0 at z flags flags' old list list' next.coming next.place
     (flagged_place v 0 j i z bit flags flags' next.coming.stripe next.due (bit_is ∙ one_is v 0 j i z next.due refl) lights next.coming.flagged (visited (spread_at v t) next.coming.flagged.coded))
-    (new_place v 0 j i z list list' next.due (λ e. absurd (omega (arith, e))) (listed t next.coming.flagged.signs next.shown))
+    (new_place v 0 j i z list list' next.due (λ e. absurd (omega (arith, e))) (listed t next.shown))
 
 pub propagated_zero : (v : BlockPlane) (at : Spot) (flags flags' : Flags) (old list list' : Decided) (around : Around) (w : ℕ) (bit : Bool) (st : Propagated v at flags old list around w) → 0 < w → w < 2 ^ 64
     → bit ≡ is_one (mag v (column at.word (trailing_zeros w64 w)) (row at.stripe (trailing_zeros w64 w)))
-    → Lights v.shape (column at.word (trailing_zeros w64 w)) (row at.stripe (trailing_zeros w64 w)) bit ((seen v).negative (column at.word (trailing_zeros w64 w)) (row at.stripe (trailing_zeros w64 w))) flags flags'
+    → Lights v.shape (column at.word (trailing_zeros w64 w)) (row at.stripe (trailing_zeros w64 w)) bit flags flags'
     → ((f : Field Bool) → IsDrawn v.shape f flags.visited → IsDrawn v.shape (put f (column at.word (trailing_zeros w64 w)) (row at.stripe (trailing_zeros w64 w)) true) flags'.visited)
-    → ((t : ℕ) → IsDrawn v.shape (negative_at v t) flags.negative → IsAround (bordered (lit_at v t)) at.word at.stripe around → list' ≡ list ++ new_decisions v.shape (seen v) t (column at.word (trailing_zeros w64 w)) (row at.stripe (trailing_zeros w64 w)))
+    → ((t : ℕ) → IsAround (bordered (lit_at v t)) at.word at.stripe around → list' ≡ list ++ new_decisions v.shape (seen v) t (column at.word (trailing_zeros w64 w)) (row at.stripe (trailing_zeros w64 w)))
     → bit ≡ false → Propagated v at flags' old list' around (bit_and w (w - 1))
 propagated_zero v at flags flags' old list list' around w bit st p q bit_is lights visited listed off =
     let z = trailing_zeros w64 w in
@@ -244,9 +244,9 @@ propagated_zero v at flags flags' old list list' around w bit st p q bit_is ligh
 
 pub propagated_one : (v : BlockPlane) (at : Spot) (flags flags' : Flags) (old list list' : Decided) (around : Around) (inside w : ℕ) (bit : Bool) (st : Propagated v at flags old list around w) → 0 < w → w < 2 ^ 64
     → bit ≡ is_one (mag v (column at.word (trailing_zeros w64 w)) (row at.stripe (trailing_zeros w64 w)))
-    → Lights v.shape (column at.word (trailing_zeros w64 w)) (row at.stripe (trailing_zeros w64 w)) bit ((seen v).negative (column at.word (trailing_zeros w64 w)) (row at.stripe (trailing_zeros w64 w))) flags flags'
+    → Lights v.shape (column at.word (trailing_zeros w64 w)) (row at.stripe (trailing_zeros w64 w)) bit flags flags'
     → ((f : Field Bool) → IsDrawn v.shape f flags.visited → IsDrawn v.shape (put f (column at.word (trailing_zeros w64 w)) (row at.stripe (trailing_zeros w64 w)) true) flags'.visited)
-    → ((t : ℕ) → IsDrawn v.shape (negative_at v t) flags.negative → IsAround (bordered (lit_at v t)) at.word at.stripe around → list' ≡ list ++ new_decisions v.shape (seen v) t (column at.word (trailing_zeros w64 w)) (row at.stripe (trailing_zeros w64 w)))
+    → ((t : ℕ) → IsAround (bordered (lit_at v t)) at.word at.stripe around → list' ≡ list ++ new_decisions v.shape (seen v) t (column at.word (trailing_zeros w64 w)) (row at.stripe (trailing_zeros w64 w)))
     → bit ≡ true → around.own < 2 ^ 64 → Shows of_rows (bordered (is_inside v.shape)) (at.word + 1) (at.stripe + 1) inside
     → Propagated v at flags' old list' record { own = bit_or around.own (1 * 2 ^ trailing_zeros w64 w % 2 ^ 64); left = around.left; right = around.right }
     (bit_or (bit_and w (w - 1)) (taken inside (bit_or around.own (1 * 2 ^ trailing_zeros w64 w % 2 ^ 64)) (trailing_zeros w64 w)))

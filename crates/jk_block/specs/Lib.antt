@@ -7,3 +7,4 @@ pub mod Layers
 pub mod Viewed
 pub mod CodedBlocks
 pub mod Steps
+pub mod Slices

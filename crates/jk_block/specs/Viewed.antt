@@ -1,12 +1,16 @@
 -- What words show of a block at a bit-plane while its decisions are listed.
-use Rattle.std.specs.Prelude.{ℕ, ◌+◌, ◌-◌, ◌*◌, ◌/◌, ◌%◌, Bool, true, false, ◌&&◌, nat_eq, nat_lt, nat_le, [], ◌∷◌, ℤ, if◌then◌else◌}
+use Rattle.std.specs.Prelude.{◌≡◌, ◌<◌, ℕ, ◌+◌, ◌-◌, ◌*◌, ◌/◌, ◌%◌, Bool, true, false, ◌&&◌, nat_eq, nat_lt, nat_le, [], ◌∷◌, ℤ, if◌then◌else◌}
 use Rattle.jk_scan.specs.declared.shape.BlockShape.{BlockShape}
 use Rattle.jk_scan.specs.Contexts.{run_length, uniform}
 use Rattle.jk_scan.specs.Neighbours.{Field, is_inside}
 use Rattle.jk_scan.specs.Moments.{number, visits, spread, significant}
 use Rattle.jk_scan.specs.Passes.{Plane, Decided, is_one, joined, sign_decision, column_decisions}
+use Rattle.jk_scan.specs.Bits.{on}
+use Rattle.jk_scan.specs.Words.{of_rows}
+use Rattle.jk_scan.specs.WordPlaces.{column, row}
 use Rattle.jk_scan.specs.Flags.{IsDrawn}
 use Rattle.jk_block.specs.Meaning.{plane_at, value_in}
+use Rattle.jk_block.specs.Slices.{negative_of}
 use Rattle.jk_block.specs.Reading.{put}
 use Rattle.jk_block.specs.declared.plane.BlockPlane.{BlockPlane}
 use Rattle.jk_block.specs.declared.flags.Flags.{Flags}
@@ -15,13 +19,17 @@ use Rattle.jk_block.specs.declared.flags.Flags.{Flags}
 abbrev pub seen : BlockPlane → Plane
 seen v = plane_at v.shape v.plane (value_in v.shape v.values.now)
 
+-- The word shows which of its places have the bit 1.
+abbrev pub ShowsOnes : BlockPlane → (j i word : ℕ) → Type 0
+ShowsOnes v j i word = (m : ℕ) → m < 64 → on word m ≡ (of_rows (m % 8) && is_one ((seen v).magnitude (column j m) (row i m)))
+
 -- significant at a moment
 abbrev pub lit_at : BlockPlane → ℕ → Field Bool
 lit_at v t = significant v.shape (seen v).magnitude t
 
--- significant at a moment, and negative
-abbrev pub negative_at : BlockPlane → ℕ → Field Bool
-negative_at v t x y = lit_at v t x y && (seen v).negative x y
+-- the negative places
+abbrev pub negative_in : BlockPlane → Field Bool
+negative_in v = negative_of v.shape (value_in v.shape v.values.now)
 
 -- coded by the significance propagation pass before a moment
 abbrev pub spread_at : BlockPlane → ℕ → Field Bool
@@ -30,22 +38,19 @@ spread_at v t x y = is_inside v.shape x y && (spread v.shape.width (seen v).magn
 -- The words show what is so at a moment.
 pub record IsFlagged (v : BlockPlane) (t : ℕ) (flags : Flags) : Type 0 where
   pub lit : IsDrawn v.shape (lit_at v t) flags.significant
-  pub signs : IsDrawn v.shape (negative_at v t) flags.negative
   pub coded : IsDrawn v.shape (spread_at v t) flags.visited
 
--- Between planes the words show what has a bit in plane b or above it, and which of it is negative.
+-- Between planes the words show what has a bit in plane b or above it.
 pub record IsLitUpto (s : BlockShape) (b : ℕ) (q : Field ℤ) (flags : Flags) : Type 0 where
   pub lit : IsDrawn s (λ x y. nat_lt 0 ((plane_at s b q).magnitude x y)) flags.significant
-  pub signs : IsDrawn s (λ x y. nat_lt 0 ((plane_at s b q).magnitude x y) && (plane_at s b q).negative x y) flags.negative
 
 -- a field with another value at one place, or the same field
 abbrev pub put_if : Bool → Field Bool → (x y : ℕ) → Bool → Field Bool
 put_if bit f x y value = if bit then put f x y value else f
 
--- Where the bit is 1, the place becomes significant, with its sign.
-pub record Lights (s : BlockShape) (x y : ℕ) (bit sign : Bool) (old new : Flags) : Type 0 where
+-- Where the bit is 1, the place becomes significant.
+pub record Lights (s : BlockShape) (x y : ℕ) (bit : Bool) (old new : Flags) : Type 0 where
   pub lit : (f : Field Bool) → IsDrawn s f old.significant → IsDrawn s (put_if bit f x y true) new.significant
-  pub signs : (f : Field Bool) → IsDrawn s f old.negative → IsDrawn s (put_if bit f x y sign) new.negative
 
 -- How many places of a pass come before row r of column c, where r counts from 1 and some places come before the stripe.
 unfoldable pub number_by : (w before c r : ℕ) → ℕ

@@ -17,7 +17,8 @@ use crate::passes::visit_plane;
 use crate::sketch::Sketch;
 use crate::spot::{Pass, pass_of};
 use jk_math::Fault;
-use jk_mqdec::Decoder;
+use jk_model::first_steps;
+use jk_mqdec::Run;
 use jk_scan::{BlockShape, Kind};
 use std::alloc::Global;
 
@@ -47,7 +48,7 @@ fn begin(sketch: &mut Sketch, pass: Pass)
 }
 
 /// Reads the n-th pass of a block.
-fn read_pass(sketch: &mut Sketch, decoder: &mut Decoder, planes: u32, n: usize) -> Result<(), Fault>
+fn read_pass(sketch: &mut Sketch, decoder: &mut Run, planes: u32, n: usize) -> Result<(), Fault>
     requires planes { planes ≤ 23 }
     requires n { n < 3 * planes - 2 }
     requires fresh { kind_of n ≡ 1 → IsFresh (plane_of planes n) sketch.old }
@@ -65,7 +66,7 @@ fn read_pass(sketch: &mut Sketch, decoder: &mut Decoder, planes: u32, n: usize) 
 /// Reads the passes of a block.
 fn read_passes(
     sketch: &mut Sketch,
-    decoder: &mut Decoder,
+    decoder: &mut Run,
     planes: u32,
     passes: usize,
 ) -> Result<(), Fault>
@@ -85,14 +86,16 @@ fn read_passes(
 }
 
 /// The coefficient of a place.
-fn coefficient(sketch: &Sketch, x: usize, y: usize) -> i32
+#[inline(always)]
+fn coefficient(sketch: &Sketch, shape: BlockShape, x: usize, y: usize) -> i32
+    requires same { shape ≡ sketch.now.shape }
     requires inside { is_inside sketch.now.shape x y ≡ true }
     requires small { field_of sketch.now.shape sketch.now.magnitudes 0 x y < 2 ^ 23 }
     ensures { result ≡ with_sign (negative_in sketch.now x y) (field_of sketch.now.shape sketch.now.magnitudes 0 x y) }
 {
     let magnitudes = &sketch.magnitudes;
-    let magnitude = magnitudes[y * sketch.shape.width + x] as i32;
-    if sketch.is_negative(x, y) {
+    let magnitude = magnitudes[y * shape.width + x] as i32;
+    if sketch.is_negative(shape, x, y) {
         -magnitude
     } else {
         magnitude
@@ -108,8 +111,9 @@ fn append_row(values: &mut Vec<i32>, sketch: &Sketch, y: usize) -> Result<(), Fa
         ++ map (λ x. with_sign (negative_in sketch.now x y) (field_of sketch.now.shape sketch.now.magnitudes 0 x y)) (range_with_len 0 sketch.now.shape.width)) }
     ensures memory { IfErr result IsMemory }
 {
-    for x in 0..sketch.shape.width {
-        values.push(coefficient(sketch, x, y))?;
+    let shape = sketch.shape;
+    for x in 0..shape.width {
+        values.push(coefficient(sketch, shape, x, y))?;
     }
     Ok(())
 }
@@ -158,7 +162,8 @@ pub fn decode(
         return Err(Fault::TooManyPasses);
     }
     let mut sketch = Sketch::new(shape);
-    let mut decoder = Decoder::new(segment);
+    let mut contexts = first_steps();
+    let mut decoder = Run::new(segment, &mut contexts);
     read_passes(&mut sketch, &mut decoder, planes, passes)?;
     Ok(Block {
         width: shape.width,

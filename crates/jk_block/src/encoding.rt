@@ -18,9 +18,10 @@ ghost use Rattle.jk_block.specs.Viewed.{seen, IsFlagged, IsLitUpto};
 
 use crate::decisions::DecisionList;
 use crate::decoding::Block;
-use crate::flags::Flags;
+use crate::flags::{Flags, unmarked};
 use crate::lists::list_pass;
 use crate::plane::BlockPlane;
+use crate::slices::{negative_places, sliced};
 use crate::spot::{Pass, pass_of};
 use jk_math::Fault;
 use jk_mqenc::Encoder;
@@ -128,13 +129,25 @@ fn code_planes(
     ensures memory { IfErr result IsMemory }
 {
     let mut flags = Flags::new();
+    let mut slices = sliced(shape, values, planes / 8 * 8);
+    let mut refined = unmarked();
+    let negative = negative_places(shape, values);
     for above in 0..planes {
+        let plane = planes - 1 - above;
+        if plane % 8 == 7 {
+            slices = sliced(shape, values, plane - 7);
+        }
+        let significant = flags.significant;
         let block = BlockPlane {
             shape,
             values,
-            plane: planes - 1 - above,
+            plane,
+            slices: &slices,
+            refined: &refined,
+            negative: &negative,
         };
         code_plane(&block, planes, above, &mut flags, list, encoder, marks)?;
+        refined = significant;
     }
     Ok(())
 }

@@ -10,25 +10,15 @@ ghost use Rattle.jk_block.specs.Steps.{IsSpot, IsPlace};
 use crate::spot::Spot;
 use jk_scan::{BlockShape, WORDS, word_place};
 
-/// Words of 32 places: which are significant, which of those are negative, and which the significance propagation pass of
-/// this plane has coded.
+/// Words of 32 places: which are significant, and which the significance propagation pass of this plane has coded.
 #[derive(Drop)]
 pub struct Flags {
     pub significant: [u64; WORDS],
-    pub negative: [u64; WORDS],
     pub visited: [u64; WORDS],
 }
 
-/// A truth value as a number.
-#[inline(always)]
-fn digit(bit: bool) -> u64
-    ensures { result ≡ (if bit then 1 else 0) }
-{
-    bit as u64
-}
-
 /// No place is marked.
-fn unmarked() -> [u64; WORDS]
+pub fn unmarked() -> [u64; WORDS]
     ensures { result ≡ replicate 774 0 }
 {
     [0; WORDS]
@@ -41,11 +31,9 @@ impl Flags {
     /// No place is significant.
     pub fn new() -> Flags
         ensures significant { result.significant ≡ replicate 774 0 }
-        ensures negative { result.negative ≡ replicate 774 0 }
     {
         Flags {
             significant: unmarked(),
-            negative: unmarked(),
             visited: unmarked(),
         }
     }
@@ -53,7 +41,6 @@ impl Flags {
     /// Begins a plane: no place is coded.
     pub fn begin(&mut self)
         ensures significant { self.new.significant ≡ self.old.significant }
-        ensures negative { self.new.negative ≡ self.old.negative }
         ensures visited { self.new.visited ≡ replicate 774 0 }
     {
         self.visited = unmarked();
@@ -66,7 +53,6 @@ impl Flags {
         requires spot { IsSpot shape spot }
         requires place { IsPlace shape spot k }
         ensures significant { self.new.significant ≡ self.old.significant }
-        ensures negative { self.new.negative ≡ self.old.negative }
         ensures visited { (f : Field Bool) → IsDrawn shape f self.old.visited
             → IsDrawn shape (put f (column spot.word k) (row spot.stripe k) true) self.new.visited }
     {
@@ -75,20 +61,17 @@ impl Flags {
         visited[at] |= 1 << k;
     }
 
-    /// The place at bit k of a word becomes significant, with this sign.
+    /// The place at bit k of a word becomes significant.
     #[inline(always)]
-    pub fn light(&mut self, shape: BlockShape, spot: Spot, k: u32, negative: bool)
+    pub fn light(&mut self, shape: BlockShape, spot: Spot, k: u32)
         requires sized { IsSized shape }
         requires spot { IsSpot shape spot }
         requires place { IsPlace shape spot k }
-        ensures lights { Lights shape (column spot.word k) (row spot.stripe k) true negative self.old self.new }
+        ensures lights { Lights shape (column spot.word k) (row spot.stripe k) true self.old self.new }
         ensures visited { self.new.visited ≡ self.old.visited }
     {
         let at = word_place(shape, spot.word + 1, spot.stripe + 1);
-        let bit = 1 << k;
         let significant = &mut self.significant;
-        significant[at] |= bit;
-        let signs = &mut self.negative;
-        signs[at] = signs[at] & !bit | digit(negative) << k;
+        significant[at] |= 1 << k;
     }
 }

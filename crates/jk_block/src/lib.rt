@@ -12,6 +12,7 @@ mod place_lists;
 mod plane;
 mod promises;
 mod sketch;
+mod slices;
 mod spot;
 mod theorems;
 mod visits;

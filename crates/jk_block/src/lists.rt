@@ -17,6 +17,7 @@ use jk_math::Fault;
 use jk_scan::words_across;
 
 /// A word in a pass.
+#[inline(always)]
 fn list_word(
     block: &BlockPlane<'_>,
     flags: &mut Flags,
@@ -38,6 +39,7 @@ fn list_word(
 }
 
 /// A stripe.
+#[inline(never)]
 fn list_stripe(
     block: &BlockPlane<'_>,
     flags: &mut Flags,

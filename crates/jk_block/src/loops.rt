@@ -16,7 +16,7 @@ use crate::sketch::Sketch;
 use crate::spot::Spot;
 use crate::visits::{read_left, read_member, read_next, read_run};
 use jk_math::Fault;
-use jk_mqdec::Decoder;
+use jk_mqdec::Run;
 use jk_scan::{
     Around, BlockShape, inside, members, quiet_behind, quiet_columns, seen_around, touched_places,
     word_place,
@@ -24,20 +24,21 @@ use jk_scan::{
 
 /// Reads a word in the significance propagation pass (T.800 D.3.1). A place that becomes significant takes in the later ones
 /// of its word that it touches.
-pub fn propagate(sketch: &mut Sketch, decoder: &mut Decoder, spot: Spot) -> Result<(), Fault>
+pub fn propagate(sketch: &mut Sketch, decoder: &mut Run, spot: Spot) -> Result<(), Fault>
     requires { IsSpot sketch.old.shape spot }
     ensures shape { sketch.new.shape ≡ sketch.old.shape }
     ensures bytes { decoder.new.bytes ≡ decoder.old.bytes }
     ensures takes { Takes (word_pass decoder.old.bytes sketch.old.shape spot.plane 0 spot.word spot.stripe)
         sketch.old sketch.new decoder.old decoder.new result }
 {
-    let limits = inside(sketch.shape, spot.word, spot.stripe);
-    let mut seen = seen_around(&sketch.significant, sketch.shape, spot.word, spot.stripe);
+    let shape = sketch.shape;
+    let limits = inside(shape, spot.word, spot.stripe);
+    let mut seen = seen_around(&sketch.significant, shape, spot.word, spot.stripe);
     let mut candidates = members(seen.own, seen.left, seen.right, limits);
     while candidates != 0 {
         let k = candidates.trailing_zeros();
         candidates &= candidates - 1;
-        let bit = read_member(sketch, decoder, spot, k, seen)?;
+        let bit = read_member(sketch, decoder, shape, spot, k, seen)?;
         if bit {
             seen.own |= 1 << k;
             candidates |= 0x382 << k & limits & !seen.own;
@@ -59,7 +60,7 @@ fn older(sketch: &Sketch, spot: Spot) -> u64
 }
 
 /// Reads a word in the magnitude refinement pass (T.800 D.3.3).
-pub fn refine(sketch: &mut Sketch, decoder: &mut Decoder, spot: Spot) -> Result<(), Fault>
+pub fn refine(sketch: &mut Sketch, decoder: &mut Run, spot: Spot) -> Result<(), Fault>
     requires spot { IsSpot sketch.old.shape spot }
     requires fresh { IsFresh spot.plane sketch.old }
     ensures shape { sketch.new.shape ≡ sketch.old.shape }
@@ -68,13 +69,14 @@ pub fn refine(sketch: &mut Sketch, decoder: &mut Decoder, spot: Spot) -> Result<
     ensures takes { Takes (word_pass decoder.old.bytes sketch.old.shape spot.plane 1 spot.word spot.stripe)
         sketch.old sketch.new decoder.old decoder.new result }
 {
-    let seen = seen_around(&sketch.significant, sketch.shape, spot.word, spot.stripe);
+    let shape = sketch.shape;
+    let seen = seen_around(&sketch.significant, shape, spot.word, spot.stripe);
     let touched = touched_places(seen.own, seen.left, seen.right);
     let mut candidates = older(sketch, spot);
     while candidates != 0 {
         let k = candidates.trailing_zeros();
         candidates &= candidates - 1;
-        read_next(sketch, decoder, spot, k, touched >> k & 1 == 1)?;
+        read_next(sketch, decoder, shape, spot, k, touched >> k & 1 == 1)?;
     }
     Ok(())
 }
@@ -111,21 +113,22 @@ pub fn still_columns(shape: BlockShape, spot: Spot, seen: Around, limits: u64) -
 }
 
 /// Reads a word in the cleanup pass (T.800 D.3.4): the places that are left, and columns in run mode.
-pub fn clean(sketch: &mut Sketch, decoder: &mut Decoder, spot: Spot) -> Result<(), Fault>
+pub fn clean(sketch: &mut Sketch, decoder: &mut Run, spot: Spot) -> Result<(), Fault>
     requires { IsSpot sketch.old.shape spot }
     ensures shape { sketch.new.shape ≡ sketch.old.shape }
     ensures bytes { decoder.new.bytes ≡ decoder.old.bytes }
     ensures takes { Takes (word_pass decoder.old.bytes sketch.old.shape spot.plane 2 spot.word spot.stripe)
         sketch.old sketch.new decoder.old decoder.new result }
 {
-    let limits = inside(sketch.shape, spot.word, spot.stripe);
-    let mut seen = seen_around(&sketch.significant, sketch.shape, spot.word, spot.stripe);
+    let shape = sketch.shape;
+    let limits = inside(shape, spot.word, spot.stripe);
+    let mut seen = seen_around(&sketch.significant, shape, spot.word, spot.stripe);
     let mut left = uncoded(sketch, spot, limits);
-    let mut still = still_columns(sketch.shape, spot, seen, limits);
+    let mut still = still_columns(shape, spot, seen, limits);
     'places: while left | still != 0 {
         let k = (left | still).trailing_zeros();
         if still >> k & 1 == 1 {
-            let row = read_run(sketch, decoder, spot, k, seen)?;
+            let row = read_run(sketch, decoder, shape, spot, k, seen)?;
             left &= 0xFFFF_FFFF_FFFF_FFFE << (k + row);
             still &= still - 1;
             if row < 4 {
@@ -133,7 +136,7 @@ pub fn clean(sketch: &mut Sketch, decoder: &mut Decoder, spot: Spot) -> Result<(
                 still = quiet_behind(still, k + row);
             }
         } else {
-            let bit = read_left(sketch, decoder, spot, k, seen)?;
+            let bit = read_left(sketch, decoder, shape, spot, k, seen)?;
             left &= left - 1;
             if bit {
                 seen.own |= 1 << k;

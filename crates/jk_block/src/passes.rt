@@ -10,16 +10,11 @@ use crate::loops::{clean, propagate, refine};
 use crate::sketch::Sketch;
 use crate::spot::{Pass, Spot};
 use jk_math::Fault;
-use jk_mqdec::Decoder;
+use jk_mqdec::Run;
 use jk_scan::words_across;
 
 /// Reads a word in a pass.
-fn visit_word(
-    sketch: &mut Sketch,
-    decoder: &mut Decoder,
-    spot: Spot,
-    pass: Pass,
-) -> Result<(), Fault>
+fn visit_word(sketch: &mut Sketch, decoder: &mut Run, spot: Spot, pass: Pass) -> Result<(), Fault>
     requires spot { IsSpot sketch.old.shape spot }
     requires fresh { number_of pass ≡ 1 → IsFresh spot.plane sketch.old }
     ensures shape { sketch.new.shape ≡ sketch.old.shape }
@@ -38,7 +33,7 @@ fn visit_word(
 /// Reads a stripe in a pass.
 fn visit_stripe(
     sketch: &mut Sketch,
-    decoder: &mut Decoder,
+    decoder: &mut Run,
     plane: u32,
     pass: Pass,
     stripe: usize,
@@ -66,7 +61,7 @@ fn visit_stripe(
 /// Reads all places in a pass of a bit-plane.
 pub fn visit_plane(
     sketch: &mut Sketch,
-    decoder: &mut Decoder,
+    decoder: &mut Run,
     plane: u32,
     pass: Pass,
 ) -> Result<(), Fault>

@@ -1,11 +1,17 @@
 //! A block as it is seen at a bit-plane.
 
-ghost use Rattle.std.specs.Prelude.{◌≡◌, true, ◌*◌, ◌<◌, length};
-ghost use Rattle.jk_scan.specs.Flags.{IsSized};
-ghost use Rattle.jk_scan.specs.Neighbours.{is_inside};
-ghost use Rattle.jk_scan.specs.Passes.{is_one};
+ghost use Rattle.std.specs.Prelude.{◌≡◌, ℕ, nat_le, ◌&&◌, ◌+◌, ◌*◌, ◌/◌, ◌%◌, ◌<◌, length};
+ghost use Rattle.jk_scan.specs.Bits.{on};
+ghost use Rattle.jk_scan.specs.Flags.{IsSized, IsDrawn};
+ghost use Rattle.jk_scan.specs.Words.{of_rows};
+ghost use Rattle.jk_scan.specs.WordPlaces.{column, row};
+ghost use Rattle.jk_block.specs.Meaning.{value_in, plane_at};
+ghost use Rattle.jk_block.specs.Slices.{IsSliced, negative_of};
+ghost use Rattle.jk_block.specs.Steps.{IsSpot};
 
-use jk_scan::BlockShape;
+use crate::slices::{SLICES, ones};
+use crate::spot::Spot;
+use jk_scan::{BlockShape, WORDS, word_place};
 
 /// A block at a bit-plane, with its coefficients row by row.
 #[derive(Clone, Copy)]
@@ -13,42 +19,39 @@ pub struct BlockPlane<'a> {
     pub shape: BlockShape,
     pub values: &'a [i32],
     pub plane: u32,
+    /// The slices with the bits of this plane.
+    pub slices: &'a [u64; SLICES],
+    /// Words of the places that have a bit more than one plane above this one.
+    pub refined: &'a [u64; WORDS],
+    /// Words of the negative places.
+    pub negative: &'a [u64; WORDS],
     ghost sized: { IsSized shape },
     ghost whole: { length values.now ≡ shape.width * shape.height },
     ghost shallow: { plane < 23 },
+    ghost sliced: { IsSliced shape (plane / 8 * 8) (value_in shape values.now) slices.now },
+    ghost older: { IsDrawn shape (λ x y. nat_le 4 ((plane_at shape plane (value_in shape values.now)).magnitude x y)) refined.now },
+    ghost signs: { IsDrawn shape (negative_of shape (value_in shape values.now)) negative.now },
 }
 
 impl<'a> BlockPlane<'a> {
-    ghost use Rattle.jk_block.specs.Viewed.{seen};
+    ghost use Rattle.jk_block.specs.Viewed.{seen, ShowsOnes};
 
-    /// The magnitude with the bits of this plane and of those above it.
+    /// The places of a word that have the bit 1.
     #[inline(always)]
-    #[tactic(auto, unfolding(crate::specs::Meaning::plane_at))]
-    pub fn magnitude(&self, x: usize, y: usize) -> u32
-        requires { is_inside self.now.shape x y ≡ true }
-        ensures { result ≡ (seen self.now).magnitude x y }
+    pub fn ones(&self, spot: Spot) -> u64
+        requires { IsSpot self.now.shape spot }
+        ensures { ShowsOnes self.now spot.word spot.stripe result }
     {
-        let values = self.values;
-        values[y * self.shape.width + x].unsigned_abs() >> self.plane
+        ones(self.slices, self.shape, spot, self.plane % 8)
     }
 
-    /// The bit of this plane.
+    /// The places of a word that were refined in a higher plane, if they were significant before this one.
     #[inline(always)]
-    pub fn bit(&self, x: usize, y: usize) -> bool
-        requires { is_inside self.now.shape x y ≡ true }
-        ensures { result ≡ is_one ((seen self.now).magnitude x y) }
+    pub fn refined_places(&self, spot: Spot) -> u64
+        requires { IsSpot self.now.shape spot }
+        ensures { (m : ℕ) → m < 64 → on result m ≡ (of_rows (m % 8) && nat_le 4 ((seen self.now).magnitude (column spot.word m) (row spot.stripe m))) }
     {
-        self.magnitude(x, y) % 2 == 1
-    }
-
-    /// The sign.
-    #[inline(always)]
-    #[tactic(auto, unfolding(crate::specs::Meaning::plane_at))]
-    pub fn is_negative(&self, x: usize, y: usize) -> bool
-        requires { is_inside self.now.shape x y ≡ true }
-        ensures { result ≡ (seen self.now).negative x y }
-    {
-        let values = self.values;
-        values[y * self.shape.width + x] < 0
+        let refined = self.refined;
+        refined[word_place(self.shape, spot.word + 1, spot.stripe + 1)]
     }
 }

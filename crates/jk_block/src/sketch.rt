@@ -86,21 +86,23 @@ impl Sketch {
 
     /// Marks the place at bit k of a word as coded by the significance propagation pass.
     #[inline(always)]
-    pub fn visit(&mut self, spot: Spot, k: u32)
+    pub fn visit(&mut self, shape: BlockShape, spot: Spot, k: u32)
+        requires same { shape ≡ self.old.shape }
         requires spot { IsSpot self.old.shape spot }
         requires place { IsPlace self.old.shape spot k }
         ensures shape { self.new.shape ≡ self.old.shape }
         ensures lit { lit_in self.new ≡ lit_in self.old }
         ensures visited { (c : State) → progress self.new c ≡ visit (column spot.word k) (row spot.stripe k) (progress self.old c) }
     {
-        let at = word_place(self.shape, spot.word + 1, spot.stripe + 1);
+        let at = word_place(shape, spot.word + 1, spot.stripe + 1);
         let visited = &mut self.visited;
         visited[at] |= 1 << k;
     }
 
     /// The place at bit k of a word becomes significant in this plane, with this sign.
     #[inline(always)]
-    pub fn light(&mut self, spot: Spot, k: u32, negative: bool)
+    pub fn light(&mut self, shape: BlockShape, spot: Spot, k: u32, negative: bool)
+        requires same { shape ≡ self.old.shape }
         requires spot { IsSpot self.old.shape spot }
         requires place { IsPlace self.old.shape spot k }
         ensures shape { self.new.shape ≡ self.old.shape }
@@ -109,20 +111,21 @@ impl Sketch {
             ≡ coded_as spot.plane (column spot.word k) (row spot.stripe k) true negative (progress self.old c) }
         ensures lit { (x y : ℕ) → lit_in self.new x y ≡ also (lit_in self.old) (column spot.word k) (row spot.stripe k) x y }
     {
-        let at = word_place(self.shape, spot.word + 1, spot.stripe + 1);
+        let at = word_place(shape, spot.word + 1, spot.stripe + 1);
         let bit = 1 << k;
         let significant = &mut self.significant;
         significant[at] |= bit;
         let signs = &mut self.negative;
         signs[at] = signs[at] & !bit | digit(negative) << k;
-        let place = place_of(self.shape, spot, k);
+        let place = place_of(shape, spot, k);
         let magnitudes = &mut self.magnitudes;
         magnitudes[place] = with_bit(magnitudes[place], spot.plane, true);
     }
 
     /// Takes the next bit of the place at bit k of a word, which was significant before this plane.
     #[inline(always)]
-    pub fn refine(&mut self, spot: Spot, k: u32, bit: bool)
+    pub fn refine(&mut self, shape: BlockShape, spot: Spot, k: u32, bit: bool)
+        requires same { shape ≡ self.old.shape }
         requires spot { IsSpot self.old.shape spot }
         requires place { IsPlace self.old.shape spot k }
         requires large { 2 ^ (spot.plane + 1)
@@ -135,30 +138,33 @@ impl Sketch {
         ensures lit { (x y : ℕ) → lit_in self.new x y ≡ lit_in self.old x y }
         ensures fresh { IsFresh spot.plane self.old → IsFresh spot.plane self.new }
     {
-        let place = place_of(self.shape, spot, k);
+        let place = place_of(shape, spot, k);
         let magnitudes = &mut self.magnitudes;
         magnitudes[place] = with_bit(magnitudes[place], spot.plane, bit);
     }
 
     /// Whether a place is negative.
-    pub fn is_negative(&self, x: usize, y: usize) -> bool
-        requires { is_inside self.now.shape x y ≡ true }
+    #[inline(always)]
+    pub fn is_negative(&self, shape: BlockShape, x: usize, y: usize) -> bool
+        requires same { shape ≡ self.now.shape }
+        requires inside { is_inside self.now.shape x y ≡ true }
         ensures { result ≡ negative_in self.now x y }
     {
-        let at = word_place(self.shape, x / 8 + 1, y / 4 + 1);
+        let at = word_place(shape, x / 8 + 1, y / 4 + 1);
         let words = &self.negative;
         words[at] >> (8 * (x % 8) + (y % 4 + 1)) & 1 == 1
     }
 
     /// The magnitude of the place at bit k of a word.
     #[inline(always)]
-    pub fn magnitude(&self, spot: Spot, k: u32) -> u32
+    pub fn magnitude(&self, shape: BlockShape, spot: Spot, k: u32) -> u32
+        requires same { shape ≡ self.now.shape }
         requires spot { IsSpot self.now.shape spot }
         requires place { IsPlace self.now.shape spot k }
         ensures { result ≡ field_of self.now.shape self.now.magnitudes 0 (column spot.word k) (row spot.stripe k) }
     {
         let magnitudes = &self.magnitudes;
-        magnitudes[place_of(self.shape, spot, k)]
+        magnitudes[place_of(shape, spot, k)]
     }
 }
 

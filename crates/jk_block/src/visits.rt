@@ -14,8 +14,8 @@ ghost use Rattle.jk_block.specs.Sketches.{Takes, TakesUpTo, IsFresh, lit_in, vis
 use crate::sketch::Sketch;
 use crate::spot::Spot;
 use jk_math::Fault;
-use jk_mqdec::Decoder;
-use jk_scan::{Around, refine_context, seen_around, sign_context_at, zero_context_at};
+use jk_mqdec::Run;
+use jk_scan::{Around, BlockShape, refine_context, seen_around, sign_context_at, zero_context_at};
 
 /// The contexts of run mode (T.800 Table D.5).
 const RUN_LENGTH: usize = 17;
@@ -34,11 +34,13 @@ fn flipped(flip: bool, bit: bool) -> bool
 #[inline(always)]
 fn read_sign(
     sketch: &mut Sketch,
-    decoder: &mut Decoder,
+    decoder: &mut Run,
+    shape: BlockShape,
     spot: Spot,
     k: u32,
     significant: Around,
 ) -> Result<(), Fault>
+    requires same { shape ≡ sketch.old.shape }
     requires spot { IsSpot sketch.old.shape spot }
     requires place { IsPlace sketch.old.shape spot k }
     requires around { IsAround (bordered (lit_in sketch.old)) spot.word spot.stripe significant }
@@ -50,10 +52,10 @@ fn read_sign(
     ensures takes { Takes (read_sign decoder.old.bytes sketch.old.shape spot.plane (column spot.word k) (row spot.stripe k))
         sketch.old sketch.new decoder.old decoder.new result }
 {
-    let negative = seen_around(&sketch.negative, sketch.shape, spot.word, spot.stripe);
+    let negative = seen_around(&sketch.negative, shape, spot.word, spot.stripe);
     let sign = sign_context_at(significant, negative, k);
     let bit = decoder.decode(sign.context as usize)?;
-    sketch.light(spot, k, flipped(sign.flip, bit));
+    sketch.light(shape, spot, k, flipped(sign.flip, bit));
     Ok(())
 }
 
@@ -61,11 +63,13 @@ fn read_sign(
 #[inline(always)]
 fn read_new(
     sketch: &mut Sketch,
-    decoder: &mut Decoder,
+    decoder: &mut Run,
+    shape: BlockShape,
     spot: Spot,
     k: u32,
     significant: Around,
 ) -> Result<bool, Fault>
+    requires same { shape ≡ sketch.old.shape }
     requires spot { IsSpot sketch.old.shape spot }
     requires place { IsPlace sketch.old.shape spot k }
     requires around { IsAround (bordered (lit_in sketch.old)) spot.word spot.stripe significant }
@@ -77,10 +81,10 @@ fn read_new(
     ensures takes { Takes (read_new decoder.old.bytes sketch.old.shape spot.plane (column spot.word k) (row spot.stripe k))
         sketch.old sketch.new decoder.old decoder.new result }
 {
-    let context = zero_context_at(sketch.shape.kind, significant, k);
+    let context = zero_context_at(shape.kind, significant, k);
     let bit = decoder.decode(context as usize)?;
     if bit {
-        read_sign(sketch, decoder, spot, k, significant)?;
+        read_sign(sketch, decoder, shape, spot, k, significant)?;
     }
     Ok(bit)
 }
@@ -89,11 +93,13 @@ fn read_new(
 #[inline(always)]
 pub fn read_member(
     sketch: &mut Sketch,
-    decoder: &mut Decoder,
+    decoder: &mut Run,
+    shape: BlockShape,
     spot: Spot,
     k: u32,
     significant: Around,
 ) -> Result<bool, Fault>
+    requires same { shape ≡ sketch.old.shape }
     requires spot { IsSpot sketch.old.shape spot }
     requires place { IsPlace sketch.old.shape spot k }
     requires around { IsAround (bordered (lit_in sketch.old)) spot.word spot.stripe significant }
@@ -106,19 +112,21 @@ pub fn read_member(
     ensures takes { Takes (place_at decoder.old.bytes sketch.old.shape spot.plane 0 (column spot.word k) (row spot.stripe k))
         sketch.old sketch.new decoder.old decoder.new result }
 {
-    sketch.visit(spot, k);
-    read_new(sketch, decoder, spot, k, significant)
+    sketch.visit(shape, spot, k);
+    read_new(sketch, decoder, shape, spot, k, significant)
 }
 
 /// Reads the next bit of a place that was significant before this plane.
 #[inline(always)]
 pub fn read_next(
     sketch: &mut Sketch,
-    decoder: &mut Decoder,
+    decoder: &mut Run,
+    shape: BlockShape,
     spot: Spot,
     k: u32,
     is_touched: bool,
 ) -> Result<(), Fault>
+    requires same { shape ≡ sketch.old.shape }
     requires spot { IsSpot sketch.old.shape spot }
     requires place { IsPlace sketch.old.shape spot k }
     requires near { is_touched ≡ touched (lit_in sketch.old) (column spot.word k) (row spot.stripe k) }
@@ -133,10 +141,10 @@ pub fn read_next(
     ensures takes { Takes (place_at decoder.old.bytes sketch.old.shape spot.plane 1 (column spot.word k) (row spot.stripe k))
         sketch.old sketch.new decoder.old decoder.new result }
 {
-    let refined = sketch.magnitude(spot, k) >> spot.plane >= 4;
+    let refined = sketch.magnitude(shape, spot, k) >> spot.plane >= 4;
     let context = refine_context(refined, is_touched);
     let bit = decoder.decode(context as usize)?;
-    sketch.refine(spot, k, bit);
+    sketch.refine(shape, spot, k, bit);
     Ok(())
 }
 
@@ -144,11 +152,13 @@ pub fn read_next(
 #[inline(always)]
 pub fn read_left(
     sketch: &mut Sketch,
-    decoder: &mut Decoder,
+    decoder: &mut Run,
+    shape: BlockShape,
     spot: Spot,
     k: u32,
     significant: Around,
 ) -> Result<bool, Fault>
+    requires same { shape ≡ sketch.old.shape }
     requires spot { IsSpot sketch.old.shape spot }
     requires place { IsPlace sketch.old.shape spot k }
     requires around { IsAround (bordered (lit_in sketch.old)) spot.word spot.stripe significant }
@@ -162,7 +172,7 @@ pub fn read_left(
     ensures takes { Takes (place_at decoder.old.bytes sketch.old.shape spot.plane 2 (column spot.word k) (row spot.stripe k))
         sketch.old sketch.new decoder.old decoder.new result }
 {
-    read_new(sketch, decoder, spot, k, significant)
+    read_new(sketch, decoder, shape, spot, k, significant)
 }
 
 /// The row that two bits name, high bit first.
@@ -179,11 +189,13 @@ fn row_named(high: bool, low: bool) -> u32
 /// gives that row, or 4.
 pub fn read_run(
     sketch: &mut Sketch,
-    decoder: &mut Decoder,
+    decoder: &mut Run,
+    shape: BlockShape,
     spot: Spot,
     k: u32,
     significant: Around,
 ) -> Result<u32, Fault>
+    requires same { shape ≡ sketch.old.shape }
     requires spot { IsSpot sketch.old.shape spot }
     requires place { IsPlace sketch.old.shape spot k }
     requires first { k % 8 ≡ 1 }
@@ -206,6 +218,6 @@ pub fn read_run(
     let high = decoder.decode(UNIFORM)?;
     let low = decoder.decode(UNIFORM)?;
     let row = row_named(high, low);
-    read_sign(sketch, decoder, spot, k + row, significant)?;
+    read_sign(sketch, decoder, shape, spot, k + row, significant)?;
     Ok(row)
 }

@@ -13,7 +13,7 @@ ghost use Rattle.jk_block.specs.Viewed.{seen, lit_at, spread_at, IsFlagged, mome
 use crate::decisions::DecisionList;
 use crate::flags::Flags;
 use crate::loops::still_columns;
-use crate::place_lists::{list_member, list_new, list_next, list_run};
+use crate::place_lists::{bit_of, list_member, list_new, list_next, list_run};
 use crate::plane::BlockPlane;
 use crate::spot::Spot;
 use jk_math::Fault;
@@ -21,7 +21,7 @@ use jk_scan::{inside, members, quiet_behind, seen_around, touched_places, word_p
 
 /// A word in the significance propagation pass (T.800 D.3.1). A place that becomes significant takes in the later ones of its
 /// word that it touches.
-#[inline(never)]
+#[inline(always)]
 pub fn list_propagation(
     block: &BlockPlane<'_>,
     flags: &mut Flags,
@@ -38,10 +38,12 @@ pub fn list_propagation(
     let limits = inside(own.shape, spot.word, spot.stripe);
     let mut around = seen_around(&flags.significant, own.shape, spot.word, spot.stripe);
     let mut candidates = members(around.own, around.left, around.right, limits);
+    let signs = seen_around(own.negative, own.shape, spot.word, spot.stripe);
+    let ones = own.ones(spot);
     while candidates != 0 {
         let k = candidates.trailing_zeros();
         candidates &= candidates - 1;
-        let bit = list_member(&own, flags, spot, k, around, list)?;
+        let bit = list_member(&own, flags, spot, k, around, signs, ones, list)?;
         if bit {
             around.own |= 1 << k;
             candidates |= 0x382 << k & limits & !around.own;
@@ -64,7 +66,7 @@ fn older(block: &BlockPlane<'_>, flags: &Flags, spot: Spot) -> u64
 }
 
 /// A word in the magnitude refinement pass (T.800 D.3.3).
-#[inline(never)]
+#[inline(always)]
 pub fn list_refinement(
     block: &BlockPlane<'_>,
     flags: &Flags,
@@ -81,10 +83,17 @@ pub fn list_refinement(
     let around = seen_around(&flags.significant, own.shape, spot.word, spot.stripe);
     let touched = touched_places(around.own, around.left, around.right);
     let mut candidates = older(&own, flags, spot);
+    let refined = own.refined_places(spot);
+    let ones = own.ones(spot);
     while candidates != 0 {
         let k = candidates.trailing_zeros();
         candidates &= candidates - 1;
-        list_next(&own, spot, k, touched >> k & 1 == 1, list)?;
+        list_next(
+            bit_of(refined, k),
+            bit_of(touched, k),
+            bit_of(ones, k),
+            list,
+        )?;
     }
     Ok(())
 }
@@ -105,7 +114,7 @@ fn uncoded(block: &BlockPlane<'_>, flags: &Flags, spot: Spot, limits: u64) -> u6
 }
 
 /// A word in the cleanup pass (T.800 D.3.4): the places that are left, and columns in run mode.
-#[inline(never)]
+#[inline(always)]
 pub fn list_cleanup(
     block: &BlockPlane<'_>,
     flags: &mut Flags,
@@ -123,10 +132,12 @@ pub fn list_cleanup(
     let mut around = seen_around(&flags.significant, own.shape, spot.word, spot.stripe);
     let mut left = uncoded(&own, flags, spot, limits);
     let mut still = still_columns(own.shape, spot, around, limits);
+    let signs = seen_around(own.negative, own.shape, spot.word, spot.stripe);
+    let ones = own.ones(spot);
     'places: while left | still != 0 {
         let k = (left | still).trailing_zeros();
         if still >> k & 1 == 1 {
-            let row = list_run(&own, flags, spot, k, around, list)?;
+            let row = list_run(&own, flags, spot, k, around, signs, ones, list)?;
             left &= 0xFFFF_FFFF_FFFF_FFFE << (k + row);
             still &= still - 1;
             if row < 4 {
@@ -134,7 +145,7 @@ pub fn list_cleanup(
                 still = quiet_behind(still, k + row);
             }
         } else {
-            let bit = list_new(&own, flags, spot, k, around, list)?;
+            let bit = list_new(&own, flags, spot, k, around, signs, ones, list)?;
             left &= left - 1;
             if bit {
                 around.own |= 1 << k;

@@ -54,7 +54,7 @@ pub record Decides (old new : View) (cx : ℕ) (result : Result Bool Fault) : Ty
   pub goes_on : (s : State) → Stands old s → Stands new (next old.bytes s cx)
 
 -- the registers tell which of the two it is
-is-outside : (d : View) (s : State) → HasFailed d → Stands d s → IsOutside d.bytes s
+pub is-outside : (d : View) (s : State) → HasFailed d → Stands d s → IsOutside d.bytes s
 is-outside d s failed (inl st) = let k = st.code in absurd (omega (arith, k, failed))
 is-outside d s failed (inr st) = st.outside
 

@@ -3,3 +3,4 @@ pub mod Deciding
 pub mod Doubling
 pub mod Feeding
 pub mod Reaching
+pub mod Staying

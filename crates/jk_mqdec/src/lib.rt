@@ -3,5 +3,7 @@
 
 mod decoder;
 mod registers;
+mod run;
 
 pub use decoder::Decoder;
+pub use run::Run;

@@ -4,7 +4,7 @@ ghost use Rattle.std.specs.Prelude.{◌≡◌, ℕ, suc, ◌+◌, ◌-◌, ◌*�
 ghost use Rattle.std.specs.Bool.{beq};
 ghost use Rattle.jk_model.specs.Code.{byte_at};
 ghost use Rattle.jk_model.specs.Decisions.{State, initial, doubled, renormalised};
-ghost use Rattle.jk_mqdec.specs.Registers.{IsAt, Feeds, Holds, Supplied, IsOutside, CanDouble, IsReady, doubled_by};
+ghost use Rattle.jk_mqdec.specs.Registers.{IsAt, Feeds, Holds, Supplied, IsOutside, CanDouble, IsReady, HasLeft, IsSteady, doubled_by};
 
 /// The registers C, A and CT of T.800 C.3.1, and the place of the byte that was fed last, BP.
 #[derive(Clone, Copy)]
@@ -157,6 +157,28 @@ pub fn renormalised(bytes: &[u8], old: Registers) -> Option<Registers>
     fed_through(bytes, old, times)
 }
 
+/// The same of registers whose code value may have left the interval before. A doubling that waits for a byte tells.
+#[inline(always)]
+pub fn renormalised_within(bytes: &[u8], old: Registers) -> Option<Registers>
+    requires count { old.count < 8 }
+    requires place { old.place ≤ length bytes.now }
+    requires wide { 2 ^ 16 ≤ old.width }
+    requires waits { HasLeft old → (old.count ≡ 0) × (old.width < 2 ^ 31) }
+    ensures ready { IfSome result (IsReady bytes.now) }
+    ensures inside { IfSome result (λ _. old.code < old.width) }
+    ensures holds { (s : State) → old.code < old.width → Holds bytes.now old s
+        → MatchOption result (IsOutside bytes.now (renormalised 15 s)) (λ r. Holds bytes.now r (renormalised 15 s)) }
+{
+    let doublings = old.width.leading_zeros();
+    if doublings <= old.count {
+        return Some(shifted(old, doublings));
+    }
+    if old.code >= old.width {
+        return None;
+    }
+    fed_through(bytes, old, doublings)
+}
+
 /// The part of the interval that the code value lies in, where the lower part is so large (T.800 C.3.2).
 ///
 /// The choice is made without a branch, since half of all decisions can't be foreseen.
@@ -213,4 +235,18 @@ pub fn loaded(bytes: &[u8]) -> Registers
         count: second.count - 7,
         ..second
     }
+}
+
+/// The registers at the start of a segment, with no doubling before the next byte where the code value has left the
+/// interval already.
+pub fn begun(bytes: &[u8]) -> Registers
+    ensures steady { IsSteady bytes.now result }
+    ensures holds { result.code < result.width → Holds bytes.now result initial }
+    ensures left { HasLeft result → IsOutside bytes.now initial }
+{
+    let loaded = loaded(bytes);
+    if loaded.code < loaded.width {
+        return loaded;
+    }
+    Registers { count: 0, ..loaded }
 }

@@ -153,6 +153,7 @@ impl Coder {
     }
 
     /// BYTEOUT (T.800 C.2.7).
+    #[inline(always)]
     fn place(&mut self) -> Result<(), Refused>
         requires room { self.old.code < 150994944 }
         requires first { self.old.placed ≡ [] → self.old.code < 2 ^ 27 }
@@ -169,6 +170,7 @@ impl Coder {
     }
 
     /// So many doublings at once, at most CT, and BYTEOUT where they are CT.
+    #[inline(always)]
     fn double(&mut self, times: u32) -> Result<(), Refused>
         requires count { times ≤ self.old.count }
         requires width { self.old.width * 2 ^ times < 2 ^ 16 }
@@ -185,6 +187,7 @@ impl Coder {
     }
 
     /// RENORME where a byte goes out.
+    #[inline(never)]
     fn renormalise_through(&mut self) -> Result<(), Refused>
         requires count { 1 ≤ self.old.count }
         requires holds { (s : State) × Holds self.old s }
@@ -220,7 +223,7 @@ impl Coder {
     }
 
     /// RENORME of these registers where a byte goes out.
-    #[inline(never)]
+    #[inline(always)]
     fn through(&mut self, registers: Registers) -> Result<Registers, Refused>
         requires count { 1 ≤ registers.count }
         requires holds { (s : State) × Holds (with_registers self.old registers) s }

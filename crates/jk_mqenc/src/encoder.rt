@@ -57,6 +57,7 @@ fn step(
 }
 
 /// Codes these decisions. The registers leave the coder until the last of them is coded.
+#[inline(never)]
 fn steps(coder: &mut Coder, contexts: &mut [Step; 19], decisions: &[u8]) -> Result<(), Refused>
     requires decisions { All (λ byte. byte % 128 < 19) decisions.now }
     requires coded { (ds : List Decision) × Codes (lasting coder.old contexts.old) ds }

@@ -8,6 +8,7 @@ pub mod Patterns
 pub mod Gathering
 pub mod Neighbours
 pub mod Nines
+pub mod Beside
 pub mod Windows
 pub mod Quietness
 pub mod Adding

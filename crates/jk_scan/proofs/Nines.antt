@@ -9,23 +9,23 @@ use Rattle.jk_scan.proofs.BitLaws.{on_or, on_and, on_shr_at}
 use Rattle.jk_scan.proofs.Patterns.{all_below, all_at, same, same_is}
 
 -- the masks, column by column
-in_column : (mask b : ℕ) → Bool
+pub in_column : (mask b : ℕ) → Bool
 in_column mask b = all_below 3 (λ a. all_below 3 (λ t. same (on mask (3 * a + t)) (nat_eq a b)))
 
-column_at : (mask b : ℕ) → in_column mask b ≡ true → (a t : ℕ) → a < 3 → t < 3 → on mask (3 * a + t) ≡ nat_eq a b
+pub column_at : (mask b : ℕ) → in_column mask b ≡ true → (a t : ℕ) → a < 3 → t < 3 → on mask (3 * a + t) ≡ nat_eq a b
 unfolding in_column
 column_at mask b h a t p q =
     same_is (on mask (3 * a + t)) (nat_eq a b) (all_at 3 (λ t. same (on mask (3 * a + t)) (nat_eq a b)) (all_at 3 (λ a. all_below 3 (λ t. same (on mask (3 * a + t)) (nat_eq a b))) h a p) t q)
 
-first : in_column 7 0 ≡ true
+pub first : in_column 7 0 ≡ true
 unfolding in_column all_below same on
 first = refl
 
-second : in_column 0x38 1 ≡ true
+pub second : in_column 0x38 1 ≡ true
 unfolding in_column all_below same on
 second = refl
 
-third : in_column 0x1c0 2 ≡ true
+pub third : in_column 0x1c0 2 ≡ true
 unfolding in_column all_below same on
 third = refl
 

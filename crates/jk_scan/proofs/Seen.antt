@@ -84,58 +84,6 @@ zero_seen kind f x y window nine w h =
         → zero_context_of kind (count a b) (count d e) (count g i + count j k) ≡ zero_context_of kind (count a' b') (count d' e') (count g' i' + count j' k')
     same p q r s t u v z = cc
 
--- the four places beside a place, out of a window
-abbrev pub four_of : ℕ → ℕ
-four_of w = bit_or (bit_or (bit_or (bit_and (w / 2 ^ 1) 1) (bit_and (w / 2 ^ 7) 2)) (bit_and (w / 2 ^ 8) 4)) (bit_and (w / 2 ^ 14) 8)
-
-four_at : (w k : ℕ) → on (four_of w) k ≡ ((((on w (1 + k) && on 1 k) || (on w (7 + k) && on 2 k)) || (on w (8 + k) && on 4 k)) || (on w (14 + k) && on 8 k))
-four_at w k =
-    on_or (bit_or (bit_or (bit_and (w / 2 ^ 1) 1) (bit_and (w / 2 ^ 7) 2)) (bit_and (w / 2 ^ 8) 4)) (bit_and (w / 2 ^ 14) 8) k
-    ∙ same (on_or (bit_or (bit_and (w / 2 ^ 1) 1) (bit_and (w / 2 ^ 7) 2)) (bit_and (w / 2 ^ 8) 4) k
-    ∙ same (on_or (bit_and (w / 2 ^ 1) 1) (bit_and (w / 2 ^ 7) 2) k ∙ same (part 1 1) (part 7 2)) (part 8 4)) (part 14 8)
-  where
-    same : {a b a' b' : Bool} → a ≡ a' → b ≡ b' → (a || b) ≡ (a' || b')
-    same e g = cc
-
-    part : (s m : ℕ) → on (bit_and (w / 2 ^ s) m) k ≡ (on w (s + k) && on m k)
-    part s m = on_and (w / 2 ^ s) m k ∙ ap (λ b. b && on m k) (on_shr w s k)
-
-pub four_left : (w : ℕ) → on (four_of w) 0 ≡ on w 1
-unfolding on
-four_left w = four_at w 0 ∙ pick (on w 1) (on w 7) (on w 8) (on w 14)
-  where
-    pick : (a b d e : Bool) → ((((a && true) || (b && false)) || (d && false)) || (e && false)) ≡ a
-    pick a b d e = grind (arith, nat_tests)
-
-pub four_above : (w : ℕ) → on (four_of w) 1 ≡ on w 8
-unfolding on
-four_above w = four_at w 1 ∙ pick (on w 2) (on w 8) (on w 9) (on w 15)
-  where
-    pick : (a b d e : Bool) → ((((a && false) || (b && true)) || (d && false)) || (e && false)) ≡ b
-    pick a b d e = grind (arith, nat_tests)
-
-pub four_below : (w : ℕ) → on (four_of w) 2 ≡ on w 10
-unfolding on
-four_below w = four_at w 2 ∙ pick (on w 3) (on w 9) (on w 10) (on w 16)
-  where
-    pick : (a b d e : Bool) → ((((a && false) || (b && false)) || (d && true)) || (e && false)) ≡ d
-    pick a b d e = grind (arith, nat_tests)
-
-pub four_right : (w : ℕ) → on (four_of w) 3 ≡ on w 17
-unfolding on
-four_right w = four_at w 3 ∙ pick (on w 4) (on w 10) (on w 11) (on w 17)
-  where
-    pick : (a b d e : Bool) → ((((a && false) || (b && false)) || (d && false)) || (e && true)) ≡ e
-    pick a b d e = grind (arith, nat_tests)
-
-pub four_small : (w : ℕ) → four_of w < 16
-four_small w =
-    or_lt 4 (bit_or (bit_or (bit_and (w / 2 ^ 1) 1) (bit_and (w / 2 ^ 7) 2)) (bit_and (w / 2 ^ 8) 4)) (bit_and (w / 2 ^ 14) 8)
-    (or_lt 4 (bit_or (bit_and (w / 2 ^ 1) 1) (bit_and (w / 2 ^ 7) 2)) (bit_and (w / 2 ^ 8) 4)
-    (or_lt 4 (bit_and (w / 2 ^ 1) 1) (bit_and (w / 2 ^ 7) 2) (let e = and_le_r (w / 2 ^ 1) 1 in omega (arith, e)) (let e = and_le_r (w / 2 ^ 7) 2 in omega (arith, e)))
-    (let e = and_le_r (w / 2 ^ 8) 4 in omega (arith, e)))
-    (let e = and_le_r (w / 2 ^ 14) 8 in omega (arith, e))
-
 -- two such fours in one number
 low_part : (a b k : ℕ) → a < 16 → k < 4 → on (a + 16 * b) k ≡ on a k
 low_part a b k h l =

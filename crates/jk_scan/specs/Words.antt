@@ -67,6 +67,10 @@ IsNarrow word = (c i : ℕ) → c < 8 → 6 ≤ i → i < 8 → on word (8 * c +
 abbrev pub IsWindow : Truths → (c r : ℕ) → ℕ → Type 0
 IsWindow f c r window = (a t : ℕ) → a < 3 → t < 3 → on window (8 * a + t) ≡ f (c + a - 1) (r + t - 1)
 
+-- Three places of column c, from the row above row r on, stand in the bits from 0 on.
+abbrev pub IsColumn : Truths → (c r : ℕ) → ℕ → Type 0
+IsColumn f c r word = (t : ℕ) → t < 3 → on word t ≡ f c (r + t - 1)
+
 -- one of the six rows of a column, from the row above a stripe to the row below it
 abbrev pub in_six : Truths → (c s : ℕ) → Bool
 in_six f c s =

@@ -7,6 +7,7 @@ ghost use Rattle.jk_scan.specs.Words.{Truths, of_rows, of_gathered, Shows, borde
 ghost use Rattle.jk_scan.specs.WordPlaces.{column, row, also};
 ghost use Rattle.jk_scan.specs.Surroundings.{IsAround};
 
+use crate::columns::{columns_at, four_beside, nine_beside};
 use crate::contexts::SignContext;
 use crate::shape::Kind;
 use crate::tables::{sign_context_of_eight, zero_context_of_nine};
@@ -58,18 +59,8 @@ pub fn nine(window: u128) -> usize
     (window & 7 | window >> 5 & 0x38 | window >> 10 & 0x1c0) as usize
 }
 
-/// The places left, above, below and right of the middle of a window.
-fn four(window: u128) -> usize
-    ensures small { result < 16 }
-    ensures left { on result 0 ≡ on window 1 }
-    ensures above { on result 1 ≡ on window 8 }
-    ensures below { on result 2 ≡ on window 10 }
-    ensures right { on result 3 ≡ on window 17 }
-{
-    (window >> 1 & 1 | window >> 7 & 2 | window >> 8 & 4 | window >> 14 & 8) as usize
-}
-
 /// The context of the place at bit k, which isn't significant, by the significant places.
+#[inline(always)]
 pub fn zero_context_at(kind: Kind, significant: Around, k: u32) -> u8
     requires within { k < 64 }
     requires on_row { of_rows (k % 8) ≡ true }
@@ -77,11 +68,11 @@ pub fn zero_context_at(kind: Kind, significant: Around, k: u32) -> u8
         → result ≡ zero_at kind f (column j k) (row s k) }
     ensures small { result < 9 }
 {
-    let places = window(significant.own, significant.left, significant.right, k);
-    zero_context_of_nine(kind, nine(places))
+    zero_context_of_nine(kind, nine_beside(columns_at(significant, k)))
 }
 
 /// The context of the sign of the place at bit k, by the significant places and the negative ones.
+#[inline(always)]
 pub fn sign_context_at(significant: Around, negative: Around, k: u32) -> SignContext
     requires within { k < 64 }
     requires on_row { of_rows (k % 8) ≡ true }
@@ -89,7 +80,7 @@ pub fn sign_context_at(significant: Around, negative: Around, k: u32) -> SignCon
         → result ≡ sign_at f n (column j k) (row s k) }
     ensures small { result.context < 14 }
 {
-    let places = window(significant.own, significant.left, significant.right, k);
-    let signs = window(negative.own, negative.left, negative.right, k);
-    sign_context_of_eight(four(places) + 16 * four(signs))
+    let places = four_beside(columns_at(significant, k));
+    let signs = four_beside(columns_at(negative, k));
+    sign_context_of_eight(places + 16 * signs)
 }

@@ -3,6 +3,7 @@
 #![tactic(auto)]
 
 mod around;
+mod columns;
 mod contexts;
 mod flags;
 mod shape;

@@ -18,8 +18,8 @@ loop-n-init c =
     let first : c.saturating_sub-n.result ≡ 3 * c.args.above - 2 = omega arith in (
       subst (λ n. HasCodedPasses v.shape c.args.planes n (value_in v.shape v.values.now) c.args.encoder.now c.args.marks.now.items) (sym first) c.requires.before,
       elim (cases_lt 0 c.args.above) [
-        | inl some ↦ subst (λ k. IsFlagged v (k * visits v.shape) new) (omega (arith, some, first)) (begun_plane v flags new c.requires.lit e.significant e.negative e.visited)
-        | inr none ↦ subst (λ k. IsFlagged v (k * visits v.shape) new) (omega (arith, none, first)) (begun_top v flags new c.requires.lit e.significant e.negative e.visited (c.requires.top (omega (arith, none))))
+        | inl some ↦ subst (λ k. IsFlagged v (k * visits v.shape) new) (omega (arith, some, first)) (begun_plane v flags new c.requires.lit e.significant e.visited)
+        | inr none ↦ subst (λ k. IsFlagged v (k * visits v.shape) new) (omega (arith, none, first)) (begun_top v flags new c.requires.lit e.significant e.visited (c.requires.top (omega (arith, none))))
       ],
     )
 

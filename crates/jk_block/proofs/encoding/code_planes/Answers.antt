@@ -1,16 +1,49 @@
-use Rattle.std.proofs.Common.{◌≡◌, ◌+◌, ◌-◌, ◌*◌, subst, arith}
-use Rattle.jk_block.specs.Meaning.{value_in}
+use Rattle.std.proofs.Common.{◌≡◌, ◌+◌, ◌-◌, ◌*◌, ◌/◌, unsigned_abs, subst, sym, arith}
+use Rattle.std.specs.Prelude.{nat_lt}
+use Rattle.jk_scan.specs.Flags.{IsDrawn}
+use Rattle.jk_block.specs.Meaning.{plane_at, value_in}
 use Rattle.jk_block.specs.CodedBlocks.{HasCodedPasses}
+use Rattle.jk_block.specs.Slices.{IsSliced}
 use Rattle.jk_block.specs.Viewed.{IsLitUpto}
-use Rattle.jk_block.proofs.Planes.{lit_none, top_plane}
+use Rattle.jk_block.proofs.Planes.{short_of, lit_none, top_plane, none_refined, refined_drawn}
 use Rattle.jk_block.proofs.encoding.code_planes.Goals as goal
+use Rattle.jk_block.proofs.encoding.code_planes.Goals.{then-plane-eq7, else-plane-eq7}
 
 pub loop-above-init : goal.loop-above-init
-loop-above-init c = (
-  c.requires.before,
-  subst (λ b. IsLitUpto c.args.shape b (value_in c.args.shape c.args.values.now) c.new-flags.result) (omega arith)
-      (lit_none c.args.shape c.args.planes (value_in c.args.shape c.args.values.now) c.new-flags.result c.requires.small c.new-flags.ensures.significant c.new-flags.ensures.negative),
-)
+loop-above-init c =
+    let s = c.args.shape in
+    let q = value_in s c.args.values.now in
+    let planes = c.args.planes in
+    record {
+      coded = c.requires.before;
+      lit = subst (λ b. IsLitUpto s b q c.new-flags.result) (omega arith) (lit_none s planes q c.new-flags.result c.requires.small c.new-flags.ensures.significant);
+      sliced = subst (λ b. IsSliced s (b / 8 * 8) q c.sliced-slices.result) (let e : planes ≡ planes - 0 = omega arith in e) c.sliced-slices.ensures;
+      older = subst (λ b. IsDrawn s (λ x y. nat_lt 0 ((plane_at s (b + 1) q).magnitude x y)) c.unmarked-refined.result) (let e : planes ≡ planes - 0 = omega arith in e)
+          (none_refined s planes q c.unmarked-refined.result c.requires.small c.unmarked-refined.ensures);
+    }
+
+pub invariant_of-block-clause-sliced : goal.invariant_of-block-clause-sliced
+invariant_of-block-clause-sliced c =
+    let s = c.args.shape in
+    let q = value_in s c.args.values.now in
+    let l = c.loop-above in
+    let plane = c.args.planes - 1 - l.above in
+    elim c.if-plane-eq7.branch [
+      | then-plane-eq7 w ↦
+          (let e : plane - 7 ≡ plane / 8 * 8 = let r = w.if-plane-eq7.true in omega (arith, r) in
+          subst (λ ws. IsSliced s (plane / 8 * 8) q ws) (sym w.slices-is) (subst (λ b. IsSliced s b q w.sliced-slices-then-plane-eq7.result) e w.sliced-slices-then-plane-eq7.ensures))
+      | else-plane-eq7 w ↦
+          (let e : (c.args.planes - l.above) / 8 * 8 ≡ plane / 8 * 8 = let r = w.if-plane-eq7.false in omega (arith, r) in
+          subst (λ ws. IsSliced s (plane / 8 * 8) q ws) (sym w.slices-is) (subst (λ b. IsSliced s b q l.slices) e l.invariant.sliced))
+    ]
+
+pub negative_places-negative-requires-clause-short : goal.negative_places-negative-requires-clause-short
+negative_places-negative-requires-clause-short c = λ x y i. short_of (unsigned_abs (value_in c.args.shape c.args.values.now x y)) c.args.planes (c.requires.small x y i) c.requires.planes
+
+pub invariant_of-block-clause-older : goal.invariant_of-block-clause-older
+invariant_of-block-clause-older c =
+    let l = c.loop-above in
+    refined_drawn c.args.shape (c.args.planes - 1 - l.above) (c.args.planes - l.above + 1) (value_in c.args.shape c.args.values.now) l.refined (omega arith) l.invariant.older
 
 pub code_plane-requires-clause-top : goal.code_plane-requires-clause-top
 code_plane-requires-clause-top c = λ e. top_plane c.args.shape (c.args.planes - 1 - c.loop-above.above) c.args.planes (value_in c.args.shape c.args.values.now) (omega (arith, e)) c.requires.small
@@ -18,12 +51,26 @@ code_plane-requires-clause-top c = λ e. top_plane c.args.shape (c.args.planes -
 pub code_plane-requires-clause-lit : goal.code_plane-requires-clause-lit
 code_plane-requires-clause-lit c =
     let l = c.loop-above in
-    subst (λ b. IsLitUpto c.args.shape b (value_in c.args.shape c.args.values.now) l.flags) (let e : c.args.planes - l.above ≡ c.args.planes - 1 - l.above + 1 = omega arith in e) l.invariant.1
+    subst (λ b. IsLitUpto c.args.shape b (value_in c.args.shape c.args.values.now) l.flags) (let e : c.args.planes - l.above ≡ c.args.planes - 1 - l.above + 1 = omega arith in e) l.invariant.lit
 
 pub loop-above-preserved : goal.loop-above-preserved
 loop-above-preserved c =
     let l = c.loop-above in
-    let q = value_in c.args.shape c.args.values.now in (
-      subst (λ n. HasCodedPasses c.args.shape c.args.planes n q c.code_plane.new.encoder c.code_plane.new.marks.items) (let e : 3 * l.above + 1 ≡ 3 * (l.above + 1) - 2 = omega arith in e) c.in_ok-code_plane.ensures.after,
-      subst (λ b. IsLitUpto c.args.shape b q c.code_plane.new.flags) (let e : c.args.planes - 1 - l.above ≡ c.args.planes - (l.above + 1) = omega arith in e) c.in_ok-code_plane.ensures.lit,
-    )
+    let s = c.args.shape in
+    let planes = c.args.planes in
+    let q = value_in s c.args.values.now in
+    let plane = planes - 1 - l.above in
+    let sliced : IsSliced s (plane / 8 * 8) q c.if-plane-eq7.slices = elim c.if-plane-eq7.branch [
+      | then-plane-eq7 w ↦
+          (let e : plane - 7 ≡ plane / 8 * 8 = let r = w.if-plane-eq7.true in omega (arith, r) in
+          subst (λ ws. IsSliced s (plane / 8 * 8) q ws) (sym w.slices-is) (subst (λ b. IsSliced s b q w.sliced-slices-then-plane-eq7.result) e w.sliced-slices-then-plane-eq7.ensures))
+      | else-plane-eq7 w ↦
+          (let e : (c.args.planes - l.above) / 8 * 8 ≡ plane / 8 * 8 = let r = w.if-plane-eq7.false in omega (arith, r) in
+          subst (λ ws. IsSliced s (plane / 8 * 8) q ws) (sym w.slices-is) (subst (λ b. IsSliced s b q l.slices) e l.invariant.sliced))
+    ] in
+    record {
+      coded = subst (λ n. HasCodedPasses s planes n q c.code_plane.new.encoder c.code_plane.new.marks.items) (let e : 3 * l.above + 1 ≡ 3 * (l.above + 1) - 2 = omega arith in e) c.in_ok-code_plane.ensures.after;
+      lit = subst (λ b. IsLitUpto s b q c.code_plane.new.flags) (let e : planes - 1 - l.above ≡ planes - (l.above + 1) = omega arith in e) c.in_ok-code_plane.ensures.lit;
+      sliced = subst (λ b. IsSliced s (b / 8 * 8) q c.if-plane-eq7.slices) (let e : plane ≡ planes - (l.above + 1) = omega arith in e) sliced;
+      older = subst (λ b. IsDrawn s (λ x y. nat_lt 0 ((plane_at s b q).magnitude x y)) l.flags.significant) (let e : planes - l.above ≡ planes - (l.above + 1) + 1 = omega arith in e) l.invariant.lit.lit;
+    }

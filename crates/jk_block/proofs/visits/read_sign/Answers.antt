@@ -1,3 +1,4 @@
+use Rattle.std.proofs.Common.{subst}
 use Rattle.std.proofs.Common.{true, sym, ap, ◌∙◌, Bool}
 use Rattle.std.proofs.lemmas.Result.{err_from_is_err_and}
 use Rattle.jk_math.specs.Steps.{done}
@@ -6,6 +7,8 @@ use Rattle.jk_scan.specs.WordPlaces.{column, row}
 use Rattle.jk_block.specs.Reading.{Progress, coded_as}
 use Rattle.jk_block.specs.Sketches.{progress, lit_in, negative_in}
 use Rattle.jk_block.proofs.Taking.{decide_ok, decide_err, sign_takes, sign_faults}
+use Rattle.jk_scan.specs.declared.shape.BlockShape.{BlockShape}
+use Rattle.jk_scan.specs.Flags.{IsDrawn}
 use Rattle.jk_block.proofs.visits.read_sign.Goals as goal
 
 pub returns-clause-takes : goal.returns-clause-takes
@@ -18,7 +21,7 @@ returns-clause-takes c = λ coder st.
     let cx = c.sign_context_at-sign.result.context in
     let bit = c.in_ok-bit.bit in
     let n = next bytes coder cx in
-    let seen = c.sign_context_at-sign.ensures.value (lit_in k) (negative_in k) at.word at.stripe c.requires.around (c.seen_around-negative.ensures (negative_in k) k.signs) in
+    let seen = c.sign_context_at-sign.ensures.value (lit_in k) (negative_in k) at.word at.stripe c.requires.around (c.seen_around-negative.ensures (negative_in k) (subst (λ (s : BlockShape). IsDrawn s (negative_in k) k.negative) (sym c.requires.same) k.signs)) in
     record {
       next = n;
       stands = c.in_ok-bit.ensures.next coder st;
@@ -34,6 +37,6 @@ returns-in_err-bit-clause-takes c =
     let at = c.args.spot in
     let bytes = c.args.decoder.now.bytes in
     let cx = c.sign_context_at-sign.result.context in
-    let seen = c.sign_context_at-sign.ensures.value (lit_in k) (negative_in k) at.word at.stripe c.requires.around (c.seen_around-negative.ensures (negative_in k) k.signs) in
+    let seen = c.sign_context_at-sign.ensures.value (lit_in k) (negative_in k) at.word at.stripe c.requires.around (c.seen_around-negative.ensures (negative_in k) (subst (λ (s : BlockShape). IsDrawn s (negative_in k) k.negative) (sym c.requires.same) k.signs)) in
     rw (p.1, p.2) (λ coder st. sign_faults bytes k.shape at.plane (column at.word c.args.k) (row at.stripe c.args.k) (progress k coder) c.sign_context_at-sign.result c.in_err-bit.field-0.0 seen
     (decide_err bytes cx coder c.in_err-bit.field-0.0 (c.in_err-bit.ensures.answer coder st)))

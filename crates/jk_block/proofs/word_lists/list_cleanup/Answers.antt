@@ -4,7 +4,7 @@ use Rattle.std.specs.Int.RustNames.{bit_or, bit_and}
 use Rattle.std.proofs.lemmas.Nat.{or_lt, and_le_l}
 use Rattle.jk_scan.specs.Bits.{on}
 use Rattle.jk_scan.proofs.Laws.{lowest, bit_true, bit_false, on_zero}
-use Rattle.jk_block.specs.Viewed.{lit_at, moment_at}
+use Rattle.jk_block.specs.Viewed.{lit_at, negative_in, moment_at}
 use Rattle.jk_block.proofs.Coming.{coming_all}
 use Rattle.jk_block.proofs.Cleaning.{sooner_place, sooner_run}
 use Rattle.jk_block.proofs.Cleaned.{cleaned_none, next_left, next_run, RunListed, cleaned_zero, cleaned_one, cleaned_run, cleaned_run_one, cleaned_all}
@@ -192,3 +192,9 @@ pub returns-clause-listed : goal.returns-clause-listed
 returns-clause-listed c =
     let l = c.places in
     coming_all c.args.block.now 2 c.args.spot l.flags c.args.list.now l.list (cleaned_all c.args.block.now c.args.spot l.flags c.args.list.now l.list l.around l.left l.still l.invariant (omega arith))
+
+pub list_run-requires-clause-signs : goal.list_run-requires-clause-signs
+list_run-requires-clause-signs c = c.seen_around-signs.ensures (negative_in c.args.block.now) c.args.block.now.signs
+
+pub list_new-requires-clause-signs : goal.list_new-requires-clause-signs
+list_new-requires-clause-signs c = c.seen_around-signs.ensures (negative_in c.args.block.now) c.args.block.now.signs

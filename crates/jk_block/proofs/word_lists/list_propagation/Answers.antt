@@ -4,7 +4,7 @@ use Rattle.std.specs.Int.RustNames.{bit_or}
 use Rattle.jk_scan.specs.Neighbours.{is_inside}
 use Rattle.jk_scan.specs.Words.{bordered}
 use Rattle.jk_scan.proofs.Laws.{sooner_zero, sooner_one}
-use Rattle.jk_block.specs.Viewed.{lit_at, moment_at}
+use Rattle.jk_block.specs.Viewed.{lit_at, negative_in, moment_at}
 use Rattle.jk_block.proofs.Coming.{coming_all}
 use Rattle.jk_block.proofs.Propagated.{propagated_none, propagated_next, propagated_zero, propagated_one, propagated_all}
 use Rattle.jk_block.proofs.word_lists.list_propagation.Goals as goal
@@ -51,3 +51,6 @@ pub returns-clause-listed : goal.returns-clause-listed
 returns-clause-listed c =
     let l = c.loop-candidates in
     coming_all c.args.block.now 0 c.args.spot l.flags c.args.list.now l.list (propagated_all c.args.block.now c.args.spot l.flags c.args.list.now l.list l.around l.candidates l.invariant (omega arith))
+
+pub list_member-requires-clause-signs : goal.list_member-requires-clause-signs
+list_member-requires-clause-signs c = c.seen_around-signs.ensures (negative_in c.args.block.now) c.args.block.now.signs

@@ -1,8 +1,11 @@
-use Rattle.std.proofs.Common.{◌∙◌, arith}
+use Rattle.std.proofs.Common.{◌∙◌, ap, arith}
 use Rattle.std.specs.Int.{trailing_zeros, w64}
 use Rattle.jk_scan.specs.Words.{bordered}
-use Rattle.jk_scan.proofs.Laws.{sooner_zero, bit_is}
-use Rattle.jk_block.specs.Viewed.{lit_at, moment_at}
+use Rattle.jk_scan.proofs.Laws.{sooner_zero}
+use Rattle.jk_scan.specs.WordPlaces.{column, row}
+use Rattle.std.specs.Prelude.{◌&&◌, nat_le}
+use Rattle.jk_block.proofs.Slicing.{one_at}
+use Rattle.jk_block.specs.Viewed.{seen, lit_at, moment_at}
 use Rattle.jk_block.proofs.Coming.{coming_all}
 use Rattle.jk_block.proofs.Refined.{refined_none, refined_next, refined_one, refined_all}
 use Rattle.jk_block.proofs.word_lists.list_refinement.Goals as goal
@@ -18,19 +21,20 @@ loop-candidates-init c =
     refined_none v at c.args.flags.now c.args.list.now c.touched_places-touched.result c.older-candidates.result v.sized.wide (omega (arith, word)) c.requires.spot.stripe c.requires.flagged
     (c.touched_places-touched.ensures (bordered f) at.word at.stripe around.own around.left around.right) (c.older-candidates.ensures t c.requires.flagged)
 
-pub list_next-requires-clause-place : goal.list_next-requires-clause-place
-list_next-requires-clause-place c =
-    let l = c.loop-candidates in
-    (refined_next c.args.block.now c.args.spot c.args.flags.now c.args.list.now l.list c.touched_places-touched.result l.candidates l.invariant (omega arith) (omega arith)).place
-
 pub loop-candidates-smaller : goal.loop-candidates-smaller
 loop-candidates-smaller c = sooner_zero c.loop-candidates.candidates (omega arith) (omega arith)
 
 pub loop-candidates-preserved : goal.loop-candidates-preserved
 loop-candidates-preserved c =
     let l = c.loop-candidates in
-    refined_one c.args.block.now c.args.spot c.args.flags.now c.args.list.now l.list c.list_next.new.list c.touched_places-touched.result l.candidates l.invariant (omega arith) (omega arith)
-    (λ t near. c.in_ok-list_next.ensures.listed t (bit_is c.touched_places-touched.result (trailing_zeros w64 l.candidates) ∙ near))
+    let v = c.args.block.now in
+    let at = c.args.spot in
+    let k = trailing_zeros w64 l.candidates in
+    let place = (refined_next v at c.args.flags.now c.args.list.now l.list c.touched_places-touched.result l.candidates l.invariant (omega arith) (omega arith)).place in
+    refined_one v at c.args.flags.now c.args.list.now l.list c.list_next.new.list c.touched_places-touched.result l.candidates l.invariant (omega arith) (omega arith)
+    (λ t near. c.in_ok-list_next.ensures.listed v.shape (seen v) t (column at.word k) (row at.stripe k)
+    (c.bit_of.ensures ∙ c.refined_places-refined.ensures k place.within ∙ ap (λ b. b && nat_le 4 ((seen v).magnitude (column at.word k) (row at.stripe k))) place.on_row)
+    (c.bit_of-in-loop-candidates.ensures ∙ near) (c.bit_of-in-loop-candidates-2.ensures ∙ one_at v at k c.ones-ones.result place c.ones-ones.ensures))
 
 pub returns-clause-flagged : goal.returns-clause-flagged
 returns-clause-flagged c =

@@ -4,7 +4,7 @@ use Rattle.jk_block.proofs.Refined.{Refined}
 use Rattle.jk_block.proofs.word_lists.list_refinement.Given as goal
 
 abbrev pub invariant-loop-candidates : goal.invariant-loop-candidates
-invariant-loop-candidates l = Refined l.block l.spot l.flags l.fn.list l.list l.touched l.candidates
+invariant-loop-candidates l = Refined l.block l.fn.spot l.flags l.fn.list l.list l.touched l.candidates
 
 abbrev pub decreases-loop-candidates : goal.decreases-loop-candidates
 decreases-loop-candidates l = 64 - trailing_zeros w64 l.candidates

@@ -1,5 +1,5 @@
 use Rattle.std.proofs.Common.{arith}
-use Rattle.jk_block.proofs.Drawing.{Written, one_put, sign_put}
+use Rattle.jk_block.proofs.Drawing.{Written, one_put}
 use Rattle.jk_block.proofs.flags.Flags.light.Goals as goal
 
 pub returns-clause-lights : goal.returns-clause-lights
@@ -19,19 +19,6 @@ returns-clause-lights c =
       };
       place = c.word_place-at.ensures.place;
     } in
-    let b : Written s k.negative at.word at.stripe c.args.k c.word_place-at.result = record {
-      spotted = record {
-        sized = c.requires.sized;
-        room = omega arith;
-        word = c.requires.spot.word;
-        stripe = c.requires.spot.stripe;
-        within = c.requires.place.within;
-        on_row = c.requires.place.on_row;
-        inside = c.requires.place.inside;
-      };
-      place = c.word_place-at.ensures.place;
-    } in
     record {
       lit = λ f drawn. one_put s f k.significant at.word at.stripe c.args.k c.word_place-at.result a drawn;
-      signs = λ f drawn. sign_put s f k.negative at.word at.stripe c.args.k c.word_place-at.result c.digit.result c.args.negative b c.digit.ensures drawn;
     }

@@ -1,3 +1,4 @@
+use Rattle.std.proofs.Common.{ap, ◌*◌}
 use Rattle.std.proofs.Common.{◌<◌, ◌+◌, ◌^◌, set, cond, get_or, refl, sym, ◌∙◌, arith}
 use Rattle.std.proofs.lemmas.Nat.{pow_pos}
 use Rattle.jk_scan.specs.WordPlaces.{column, row}
@@ -6,6 +7,7 @@ use Rattle.jk_block.specs.Meaning.{above}
 use Rattle.jk_block.specs.Reading.{put}
 use Rattle.jk_block.specs.Fields.{field_of, lit_of, flagged}
 use Rattle.jk_block.proofs.Drawing.{progress_same, magnitude_at, held_at, stays_large, stays_lit_at, put_self, put_large, ap_large}
+use Rattle.jk_scan.specs.declared.shape.BlockShape.{BlockShape}
 use Rattle.jk_block.proofs.sketch.Sketch.refine.Goals as goal
 
 pub invariant_of-self : goal.invariant_of-self
@@ -19,13 +21,13 @@ invariant_of-self c =
     let q = c.place_of-place.result in
     let large = c.requires.large in
     let pow = pow_pos (at.plane + 1) in
-    let held = held_at s k.magnitudes x y q c.requires.place.inside c.place_of-place.ensures.value in
+    let held = held_at s k.magnitudes x y q c.requires.place.inside (c.place_of-place.ensures.value ∙ ap (λ (s : BlockShape). row c.args.spot.stripe c.args.k * s.width + column c.args.spot.word c.args.k) c.requires.same) in
     let stays = stays_large (get_or k.magnitudes q 0) at.plane c.args.bit (omega (arith, large, held)) in
     let pos : 0 < c.with_bit.result = let e = c.with_bit.ensures in omega (arith, e, stays, pow) in
     record {
       sized = k.sized;
       lit = drawn_same s (lit_of s k.magnitudes) (lit_of s (set k.magnitudes q c.with_bit.result)) k.significant
-          (λ u v. sym (stays_lit_at s k.magnitudes x y c.with_bit.result q c.requires.place.inside c.place_of-place.ensures.value (omega arith) pos (omega (arith, large, pow)) u v)) k.lit;
+          (λ u v. sym (stays_lit_at s k.magnitudes x y c.with_bit.result q c.requires.place.inside (c.place_of-place.ensures.value ∙ ap (λ (s : BlockShape). row c.args.spot.stripe c.args.k * s.width + column c.args.spot.word c.args.k) c.requires.same) (omega arith) pos (omega (arith, large, pow)) u v)) k.lit;
       signs = k.signs;
     }
 
@@ -40,7 +42,7 @@ returns-clause-coded c = λ coder.
     let q = c.place_of-place.result in
     progress_same (field_of s (set k.magnitudes q c.with_bit.result) 0) (put (field_of s k.magnitudes 0) x y (above (at.plane + 1) (field_of s k.magnitudes 0 x y) + cond c.args.bit (2 ^ at.plane) 0))
     (flagged s k.negative) (put (flagged s k.negative) x y (flagged s k.negative x y)) (flagged s k.visited) (flagged s k.visited) coder
-    (magnitude_at s k.magnitudes x y at.plane q c.with_bit.result c.args.bit c.requires.place.inside c.place_of-place.ensures.value (omega arith) c.with_bit.ensures)
+    (magnitude_at s k.magnitudes x y at.plane q c.with_bit.result c.args.bit c.requires.place.inside (c.place_of-place.ensures.value ∙ ap (λ (s : BlockShape). row c.args.spot.stripe c.args.k * s.width + column c.args.spot.word c.args.k) c.requires.same) (omega arith) c.with_bit.ensures)
     (put_self (flagged s k.negative) x y) refl
 
 pub returns-clause-lit : goal.returns-clause-lit
@@ -54,10 +56,10 @@ returns-clause-lit c = λ u v.
     let q = c.place_of-place.result in
     let large = c.requires.large in
     let pow = pow_pos (at.plane + 1) in
-    let held = held_at s k.magnitudes x y q c.requires.place.inside c.place_of-place.ensures.value in
+    let held = held_at s k.magnitudes x y q c.requires.place.inside (c.place_of-place.ensures.value ∙ ap (λ (s : BlockShape). row c.args.spot.stripe c.args.k * s.width + column c.args.spot.word c.args.k) c.requires.same) in
     let stays = stays_large (get_or k.magnitudes q 0) at.plane c.args.bit (omega (arith, large, held)) in
     let pos : 0 < c.with_bit.result = let e = c.with_bit.ensures in omega (arith, e, stays, pow) in
-    stays_lit_at s k.magnitudes x y c.with_bit.result q c.requires.place.inside c.place_of-place.ensures.value (omega arith) pos (omega (arith, large, pow)) u v
+    stays_lit_at s k.magnitudes x y c.with_bit.result q c.requires.place.inside (c.place_of-place.ensures.value ∙ ap (λ (s : BlockShape). row c.args.spot.stripe c.args.k * s.width + column c.args.spot.word c.args.k) c.requires.same) (omega arith) pos (omega (arith, large, pow)) u v
 
 pub returns-clause-fresh : goal.returns-clause-fresh
 returns-clause-fresh c = λ fresh u v lit unseen.
@@ -70,6 +72,6 @@ returns-clause-fresh c = λ fresh u v lit unseen.
     let q = c.place_of-place.result in
     let large = c.requires.large in
     let stays = stays_large (field_of s k.magnitudes 0 x y) at.plane c.args.bit large in
-    ap_large (magnitude_at s k.magnitudes x y at.plane q c.with_bit.result c.args.bit c.requires.place.inside c.place_of-place.ensures.value (omega arith) c.with_bit.ensures) u v
+    ap_large (magnitude_at s k.magnitudes x y at.plane q c.with_bit.result c.args.bit c.requires.place.inside (c.place_of-place.ensures.value ∙ ap (λ (s : BlockShape). row c.args.spot.stripe c.args.k * s.width + column c.args.spot.word c.args.k) c.requires.same) (omega arith) c.with_bit.ensures) u v
     (put_large (field_of s k.magnitudes 0) x y (above (at.plane + 1) (field_of s k.magnitudes 0 x y) + cond c.args.bit (2 ^ at.plane) 0) (2 ^ (at.plane + 1)) u v stays
     (fresh u v (sym (returns-clause-lit c u v) ∙ lit) unseen))

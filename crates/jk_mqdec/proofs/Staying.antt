@@ -1,0 +1,52 @@
+-- Registers whose code value may have left the interval.
+use Rattle.std.proofs.Common.{◌≡◌, ap, ℕ, ◌-◌, ◌*◌, ◌^◌, ◌<◌, ◌≤◌, Option, None, Some, inl, inr, arith}
+use Rattle.std.specs.Prelude.{IfSome}
+use Rattle.std.specs.Int.Count.{count_leading_zeros}
+use Rattle.std.proofs.lemmas.Bool.{cases_lt}
+use Rattle.jk_mqdec.specs.declared.registers.Registers.{Registers}
+use Rattle.jk_mqdec.specs.Registers.{HasLeft}
+use Rattle.jk_mqdec.proofs.Shifts.{highest}
+
+-- where no byte is due, it hasn't left
+pub inside-unless-due : (r : Registers) → 2 ^ 16 ≤ r.width → r.width < 2 ^ 32 → (HasLeft r → (r.count ≡ 0) × (r.width < 2 ^ 31)) → count_leading_zeros 32 r.width ≤ r.count → r.code < r.width
+inside-unless-due r wide fits waits few = elim (cases_lt r.code r.width) [
+  | inl less ↦ less
+  | inr left ↦
+      let w = waits left in
+      let none = w.0 in
+      let narrow = w.1 in
+      let h = highest r.width wide fits in
+      let least = h.1 in
+      let zero : count_leading_zeros 32 r.width ≡ 0 = omega (arith, none, few) in
+      let same = ap (λ t. r.width * 2 ^ t) zero in
+      absurd (omega (arith, least, same, narrow))
+]
+
+pub some-of : {A : Type 0} (o : Option A) (P : Type 0) → P → IfSome o (λ _. P)
+some-of None P p = tt
+some-of (Some x) P p = p
+
+-- a part is left where the whole is
+pub whole-inside : (r part : Registers) (q : ℕ) → q ≤ r.width → (r.code < q → part ≡ record r { width = q }) → (q ≤ r.code → part ≡ record r { code = r.code - q; width = r.width - q }) → part.code < part.width → r.code < r.width
+whole-inside r part q fits low high k = elim (cases_lt r.code q) [
+  | inl below ↦ omega (arith, below, fits)
+  | inr above ↦
+      let is = high above in
+      let code = ap (λ (x : Registers). x.code) is in
+      let width = ap (λ (x : Registers). x.width) is in
+      omega (arith, code, width, above, k)
+]
+
+pub part-inside : (r part : Registers) (q : ℕ) → (r.code < q → part ≡ record r { width = q }) → (q ≤ r.code → part ≡ record r { code = r.code - q; width = r.width - q }) → r.code < r.width → part.code < part.width
+part-inside r part q low high k = elim (cases_lt r.code q) [
+  | inl below ↦
+      let is = low below in
+      let code = ap (λ (x : Registers). x.code) is in
+      let width = ap (λ (x : Registers). x.width) is in
+      omega (arith, code, width, below)
+  | inr above ↦
+      let is = high above in
+      let code = ap (λ (x : Registers). x.code) is in
+      let width = ap (λ (x : Registers). x.width) is in
+      omega (arith, code, width, above, k)
+]
