@@ -26,6 +26,19 @@ is left out. The new file is the old one, in which the packets that the window d
 empty: a decoder gives the whole image at any reduction up to the asked one, and on the window it is
 that of the old file.";
 
+/// What `jk add` does.
+const ADD_WORDS: &str = "\
+The archive is a folder that exists. The image is written there as NAME.tmp, which then becomes
+NAME.jp2; a name that is taken is refused. Nothing is printed.";
+
+/// What `jk serve` answers.
+const SERVE_WORDS: &str = "\
+GET /images lists the images, a line each: NAME WIDTH HEIGHT COMPONENTS DEPTH LEVELS.
+GET /images/NAME is the stored file. GET /images/NAME/window?x=N&y=N&w=N&h=N&r=D is a window of it,
+as `jk cut` makes it; without r it isn't reduced. Connections are answered one after another. What
+the folder holds when the server starts is listed; files that aren't JP2 files are named on
+standard error.";
+
 /// The command line of `jk`.
 pub(crate) fn command<'a>(alloc: Global) -> Result<Command<'a>, AllocError> {
     Command::new(alloc, "jk")
@@ -38,6 +51,8 @@ pub(crate) fn command<'a>(alloc: Global) -> Result<Command<'a>, AllocError> {
         .subcommand(decode(alloc)?)?
         .subcommand(info(alloc)?)?
         .subcommand(cut(alloc)?)?
+        .subcommand(add(alloc)?)?
+        .subcommand(serve(alloc)?)?
         .subcommand(faults(alloc))
 }
 
@@ -153,6 +168,47 @@ fn cut<'a>(alloc: Global) -> Result<Command<'a>, AllocError> {
 /// A number that places a window.
 fn side<'a>(alloc: Global, name: &'a str, help: &'a str) -> Arg<'a> {
     number(alloc, name, "N").required(true).help(help)
+}
+
+/// `jk add DIR NAME IN`.
+fn add<'a>(alloc: Global) -> Result<Command<'a>, AllocError> {
+    let command = Command::new(alloc, "add")
+        .about("Adds a PGM or PPM file to an archive")
+        .after_help(ADD_WORDS)
+        .arg(folder(alloc))?
+        .arg(
+            Arg::new(alloc, "NAME").required(true).help(
+                "The name of the image: 1 to 64 of a to z, 0 to 9, - and _",
+            ),
+        )?
+        .arg(input(alloc, "The PGM or PPM file, or - for standard input"))?;
+    tiling(alloc, coding(alloc, command)?)
+}
+
+/// `jk serve DIR`.
+fn serve<'a>(alloc: Global) -> Result<Command<'a>, AllocError> {
+    let port = Arg::new(alloc, "port")
+        .long("port")
+        .value_name("P")
+        .value_parser(value_parser!(u16))
+        .required(true)
+        .help("The port on 127.0.0.1, or 0 for one that is free");
+    let connections = number(alloc, "connections", "K")
+        .required(true)
+        .help("How many connections to take before the end");
+    Command::new(alloc, "serve")
+        .about("Serves the images of an archive and windows of them over HTTP/1.1")
+        .after_help(SERVE_WORDS)
+        .arg(folder(alloc))?
+        .arg(port)?
+        .arg(connections)
+}
+
+/// The folder of an archive.
+fn folder<'a>(alloc: Global) -> Arg<'a> {
+    Arg::new(alloc, "DIR")
+        .required(true)
+        .help("The folder of the archive")
 }
 
 /// `jk faults`.

@@ -1,6 +1,7 @@
 //! The program `jk`.
 #![tactic(auto)]
 
+mod archive;
 mod commands;
 mod faults;
 mod files;

@@ -1,24 +1,32 @@
 //! What each command does.
 
-use crate::{faults, files, info, options};
+use crate::{archive, faults, files, info, options};
 use clap::ArgMatches;
 use jk_code::{decode, encode, window};
 use jk_math::{Fault, Image};
 use jk_window::{View, index};
 use std::alloc::Global;
+use std::net::{Net, TcpListener, TcpStream};
 use std::rt::Files;
 
 /// Runs the command that the line names.
-pub(crate) fn run<R: Files + Input + Print + AllocGlobal>(
-    rt: &R,
-    alloc: Global,
-    matches: &ArgMatches<'_>,
-) -> Result<(), Fault> {
+pub(crate) fn run<
+    R: Files
+        + Input
+        + Print
+        + Eprint
+        + AllocGlobal
+        + Clone
+        + Drop
+        + Net<Listener = TcpListener, Stream = TcpStream>,
+>(rt: &R, alloc: Global, matches: &ArgMatches<'_>) -> Result<(), Fault> {
     match matches.subcommand() {
         Some(("encode", line)) => run_encode(rt, alloc, line),
         Some(("decode", line)) => run_decode(rt, alloc, line),
         Some(("info", line)) => run_info(rt, alloc, line),
         Some(("cut", line)) => run_cut(rt, alloc, line),
+        Some(("add", line)) => archive::add(rt, alloc, line),
+        Some(("serve", line)) => archive::serve(rt, alloc, line),
         Some(("faults", _)) => run_faults(rt, alloc),
         _ => Ok(()),
     }

@@ -18,7 +18,7 @@ twice false u v w = refl
 without_front : (t b : List ℕ) (files : Files) → without t (with_file t b files) ≡ without t files
 without_front t b files = λ i m. twice (bytes_eq t m) None (Some b) (files m) i
 
-at_front : (t b : List ℕ) (files : Files) → with_file t b files t ≡ Some b
+pub at_front : (t b : List ℕ) (files : Files) → with_file t b files t ≡ Some b
 at_front t b files = ap (λ x. cond x (Some b) (files t)) ((bytes_eq-Decides t t).1 refl)
 
 pub stored : {S : Type 0} (keeps : S → Files → Type 0) (mid new : S) (r : Result (Unit {0}) Fault) (temp1 temp2 file1 bytes1 temp file bytes : List ℕ)
@@ -34,19 +34,19 @@ stored keeps mid new r temp1 temp2 file1 bytes1 temp file bytes e1 e2 e3 e4 file
 
 -- ---- one entry more
 
-both : (a b : Bool) → (a && b) ≡ true → (a ≡ true) × (b ≡ true)
+pub both : (a b : Bool) → (a && b) ≡ true → (a ≡ true) × (b ≡ true)
 both true b h = (refl, h)
 both false b h = absurd (let clash : false ≡ true = h in cc)
 
-neither : (a b : Bool) → (a || b) ≡ false → (a ≡ false) × (b ≡ false)
+pub neither : (a b : Bool) → (a || b) ≡ false → (a ≡ false) × (b ≡ false)
 neither true b h = absurd (let clash : true ≡ false = h in cc)
 neither false b h = (refl, h)
 
-not_false : (b : Bool) → not b ≡ true → b ≡ false
+pub not_false : (b : Bool) → not b ≡ true → b ≡ false
 not_false true h = absurd (let clash : false ≡ true = h in cc)
 not_false false h = refl
 
-differs : (m n : List ℕ) → bytes_eq m n ≡ false → bytes_eq n m ≡ false
+pub differs : (m n : List ℕ) → bytes_eq m n ≡ false → bytes_eq n m ≡ false
 differs m n h = elim (cases_Bool (bytes_eq n m)) [
   | inl same ↦ absurd (let clash : true ≡ false = sym ((bytes_eq-Decides m n).1 (sym ((bytes_eq-Decides n m).0 same))) ∙ h in cc)
   | inr other ↦ other
@@ -69,7 +69,7 @@ named_more (x ∷ entries) e named good fresh =
     let other : bytes_eq (string_bytes e.name) (string_bytes x.name) ≡ false = differs (string_bytes x.name) (string_bytes e.name) parts.0 in
     rw (front.0, not_more entries e (string_bytes x.name) unlisted other, named_more entries e first.1 good parts.1) refl
 
-map_more : {X Y : Type 0} (f : X → Y) (xs : List X) (x : X) → map f (xs ++ x ∷ []) ≡ map f xs ++ f x ∷ []
+pub map_more : {X Y : Type 0} (f : X → Y) (xs : List X) (x : X) → map f (xs ++ x ∷ []) ≡ map f xs ++ f x ∷ []
 map_more f [] x = refl
 map_more f (a ∷ xs) x = ap (λ l. f a ∷ l) (map_more f xs x)
 

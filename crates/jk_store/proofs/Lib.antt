@@ -3,3 +3,5 @@ pub mod EntryLaws
 pub mod Indexed
 pub mod AddLaws
 pub mod NameLaws
+pub mod OpenLaws
+pub mod ShowingLaws

@@ -1,16 +1,21 @@
 -- What the entries of an archive stand for.
 use Rattle.std.specs.Prelude.{◌≡◌, ℕ, ◌+◌, ◌≤◌, Bool, true, false, not, ◌&&◌, ◌||◌, cond, min, ◌⊎◌, List, [], ◌∷◌, length, Option, Some, None, Result, Ok, Err}
+use Rattle.std.specs.Global.{Vec}
+use Rattle.std.specs.List.{AllByRecursion}
 use Rattle.std.specs.Str.{bytes_eq}
 use Rattle.std.specs.String.{string_bytes}
+use Rattle.jk_math.specs.Answer.{◌>>=◌, refuse}
 use Rattle.jk_math.specs.declared.fault.Fault.{Fault}
-use Rattle.jk_math.specs.declared.fault.Fault.TheVariants.{Shelf, BadWindow}
+use Rattle.jk_math.specs.declared.fault.Fault.TheVariants.{BadWindow, Shelf, BadBox}
 use Rattle.jk_math.specs.Picture.{Picture}
 use Rattle.sha2.specs.Sha256.{sha256}
+use Rattle.jk_boxes.specs.Reading.{boxes_at}
 use Rattle.jk_window.specs.declared.view.View.{View}
 use Rattle.jk_window.specs.Indexing.{IndexFields, IsIndexOf, index_at}
 use Rattle.jk_window.specs.Cutting.{cut_file}
 use Rattle.jk_code.specs.Meaning.{Means}
 use Rattle.jk_code.specs.Windows.{IsWindowOf}
+use Rattle.jk_store.specs.Files.{Files}
 use Rattle.jk_store.specs.Names.{is_good_name, file_name}
 use Rattle.jk_store.specs.Counting.{last_count}
 use Rattle.jk_store.specs.declared.entry.Entry.{Entry}
@@ -42,11 +47,23 @@ pub record Stored : Type 0 where
 abbrev pub stored : List ℕ → List ℕ → Stored
 stored name file = record { name = name; file = file }
 
--- An entry was made of this file.
+-- the index of a JP2 file, or the first fault; of a bare codestream it is BadBox
+unfoldable pub image_at : List ℕ → Result IndexFields Fault
+image_at bytes = do
+  i ← index_at bytes
+  place ← boxes_at bytes
+  _ ← refuse (not place.jp2) BadBox
+  Ok i
+
+-- An entry was made of this JP2 file.
 pub record StandsFor (e : Entry) (s : Stored) : Type 0 where
   pub name : string_bytes e.name ≡ s.name
   pub digest : e.digest ≡ sha256 s.file
-  pub index : index_at s.file ≡ Ok e.index
+  pub index : image_at s.file ≡ Ok e.index
+
+-- Each entry stands for the file that has its name among these.
+abbrev pub StandIn : Files → List Entry → Type 0
+StandIn files entries = AllByRecursion (λ e. (file : List ℕ) × (files (file_name (string_bytes e.name)) ≡ Some file) × StandsFor e (stored (string_bytes e.name) file)) entries
 
 -- the entry of a name, if there is one
 abbrev pub entry_of : List Entry → List ℕ → Option Entry
@@ -66,14 +83,15 @@ pub record IsCutFrom (i : IndexFields) (v : View) (file reply : List ℕ) : Type
   pub cut : (is : IsIndexOf file i) → cut_file is v ≡ Ok reply
   pub means : IsIndexOf file i → (p : Picture) → Means file v.reduce p → IsWindowOf v p reply
 
+-- What is given is the window that is due, and BadWindow is answered only where that is due.
+abbrev pub IsWindowGiven : Result (List ℕ) Fault → Result (Vec ℕ) Fault → Type 0
+IsWindowGiven due (Ok w) = due ≡ Ok w.items
+IsWindowGiven due (Err e) = e ≡ BadWindow → due ≡ Err BadWindow
+
 -- The faults that a call may answer beside Shelf, and the count of failures before and after it.
 abbrev pub Passes : {A : Type 0} → (Fault → Type 0) → Result A Fault → ℕ → ℕ → Type 0
 Passes May (Ok _) before after = after ≡ before
 Passes May (Err e) before after = (May e × (after ≡ before)) ⊎ ((e ≡ Shelf) × (after ≡ min (before + 1) last_count))
-
--- The shelf gave the file of the entry, and its window can't be made because of the view, if the index is that of the file.
-abbrev pub WasUncut : {S : Type 0} → (S → List ℕ → List ℕ → S → Type 0) → Entry → View → S → S → Type 0
-WasUncut gave e v old new = (file : List ℕ) × IsFileOf gave e old file new × ((is : IsIndexOf file e.index) → cut_file is v ≡ Err BadWindow)
 
 -- The shelf gave a file that has the digest of the entry, and of which the index isn't.
 abbrev pub WasForeign : {S : Type 0} → (S → List ℕ → List ℕ → S → Type 0) → Entry → S → S → Type 0

@@ -1,5 +1,6 @@
 -- Files under names.
-use Rattle.std.specs.Prelude.{ℕ, List, Option, Some, None, cond}
+use Rattle.std.specs.Prelude.{◌≡◌, ℕ, Bool, List, Option, Some, None, cond}
+use Rattle.std.specs.List.{list_any}
 use Rattle.std.specs.Str.{bytes_eq}
 
 -- which file a name has, if any
@@ -13,3 +14,11 @@ with_file n file files m = cond (bytes_eq n m) (Some file) (files m)
 -- no file under a name
 abbrev pub without : List ℕ → Files → Files
 without n files m = cond (bytes_eq n m) None (files m)
+
+-- whether a name is one of these
+abbrev pub is_among : List ℕ → List (List ℕ) → Bool
+is_among n names = list_any (bytes_eq n) names
+
+-- All of the first files are among the second.
+abbrev pub AreIn : Files → Files → Type 0
+AreIn files all = (n b : List ℕ) → files n ≡ Some b → all n ≡ Some b

@@ -6,3 +6,5 @@ pub mod Memories
 pub mod Names
 pub mod Catalogue
 pub mod Adding
+pub mod Opening
+pub mod Showing

@@ -1,10 +1,11 @@
 -- What a shelf in memory holds.
-use Rattle.std.specs.Prelude.{◌≡◌, ℕ, List, map, Option, Some, cond}
+use Rattle.std.specs.Prelude.{◌≡◌, ℕ, List, map, Option, Some, None, cond, ◌⊎◌}
 use Rattle.std.specs.Option.{option_map}
 use Rattle.std.specs.Str.{bytes_eq}
 use Rattle.std.specs.String.{string_bytes}
 use Rattle.std.specs.BTreeMap.{get_by_text, keys}
 use Rattle.jk_store.specs.Files.{Files}
+use Rattle.jk_store.specs.Counting.{last_count}
 use Rattle.jk_store.specs.declared.memory.MemoryShelf.{MemoryShelf}
 
 -- the file of a name
@@ -26,6 +27,14 @@ Gave s n b t = (t ≡ s) × (held s n ≡ Some b)
 -- These are its names, and it stays as it is.
 abbrev pub Lists : MemoryShelf → List (List ℕ) → MemoryShelf → Type 0
 Lists s names t = (t ≡ s) × (names ≡ names_of s)
+
+-- It counts no more.
+abbrev pub Unlisted : MemoryShelf → MemoryShelf → Type 0
+Unlisted s t = s.failures.count ≡ last_count
+
+-- It has no file of a name, or counts no more.
+abbrev pub Unread : MemoryShelf → List ℕ → MemoryShelf → Type 0
+Unread s n t = (held s n ≡ None) ⊎ (s.failures.count ≡ last_count)
 
 -- Two shelves hold the same files.
 abbrev pub HoldSame : MemoryShelf → MemoryShelf → Type 0

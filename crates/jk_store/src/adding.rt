@@ -7,22 +7,23 @@ ghost use Rattle.jk_math.specs.Answer.{Answers};
 ghost use Rattle.jk_math.specs.Memory.{IsMemory};
 ghost use Rattle.jk_math.specs.declared.fault.Fault.{Fault};
 ghost use Rattle.jk_math.specs.Picture.{Picture};
-ghost use Rattle.jk_window.specs.Indexing.{IndexFields, index_at};
+ghost use Rattle.jk_params.specs.declared.parameters.Container.TheVariants.{Jp2};
+ghost use Rattle.jk_window.specs.Indexing.{IndexFields};
 ghost use Rattle.jk_code.specs.Written.{written};
 ghost use Rattle.jk_store.specs.Files.{Files, with_file, without};
 ghost use Rattle.jk_store.specs.Names.{is_good_name, file_name, temporary_name};
 ghost use Rattle.jk_store.specs.Counting.{Counts};
-ghost use Rattle.jk_store.specs.Catalogue.{is_listed, most_entries, StandsFor, stored, Passes};
+ghost use Rattle.jk_store.specs.Catalogue.{is_listed, image_at, most_entries, StandsFor, stored, Passes};
 ghost use Rattle.jk_store.specs.Adding.{judged};
 
 use crate::archive::Archive;
 use crate::entry::Entry;
 use crate::names;
+use crate::opening::image_index;
 use crate::shelf::Shelf;
 use jk_code::encode;
 use jk_math::{Fault, Image};
 use jk_params::{Container, Parameters};
-use jk_window::index;
 use sha2::{Digest, Sha256};
 use std::alloc::Global;
 use std::sync::Arc;
@@ -62,6 +63,7 @@ fn judge(
     parameters: &Parameters,
 ) -> Result<(), Fault>
     ensures exact { result ≡ judged (map arc_value entries.now) name.now image.now parameters.now }
+    ensures jp2 { OnOk result (parameters.now.container ≡ Jp2) }
     ensures named { OnOk result (is_good_name name.now ≡ true) }
     ensures fresh { OnOk result (is_listed (map arc_value entries.now) name.now ≡ false) }
     ensures room { OnOk result (length entries.now < most_entries) }
@@ -82,14 +84,14 @@ fn judge(
     }
 }
 
-/// The entry of a file.
+/// The entry of a JP2 file.
 #[tactic(auto, using(crate::proofs::Indexed::only_memory))]
 fn entry_of(alloc: Global, name: &str, bytes: &[u8]) -> Result<Entry, Fault>
-    requires { (i : IndexFields) × (index_at bytes.now ≡ Ok i) }
+    requires { (i : IndexFields) × (image_at bytes.now ≡ Ok i) }
     ensures ok { IfOk result (λ e. StandsFor e (stored name.now bytes.now)) }
     ensures err { IfErr result IsMemory }
 {
-    let index = index(alloc, bytes)?;
+    let index = image_index(alloc, bytes)?;
     Ok(Entry {
         name: String::from_str(alloc, name)?,
         digest: Sha256::digest(bytes),
@@ -106,6 +108,7 @@ fn prepare(
     image: &Image,
     parameters: &Parameters,
 ) -> Result<Prepared, Fault>
+    requires { parameters.now.container ≡ Jp2 }
     ensures written { IfOk result (λ p. written image.now parameters.now ≡ Ok p.bytes.items) }
     ensures stands { IfOk result (λ p. StandsFor (arc_value p.entry) (stored name.now p.bytes.items)) }
     ensures temporary { IfOk result (λ p. string_bytes p.temporary ≡ temporary_name name.now) }

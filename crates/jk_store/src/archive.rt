@@ -7,24 +7,20 @@ ghost use Rattle.std.specs.Arc.{arc_value};
 ghost use Rattle.jk_math.specs.Memory.{IsMemory};
 ghost use Rattle.jk_math.specs.declared.fault.Fault.TheVariants.{BadWindow, Changed, NoSuchImage};
 ghost use Rattle.jk_window.specs.Views.{HasWindow};
+ghost use Rattle.jk_window.specs.Indexing.{IsIndexOf};
+ghost use Rattle.jk_window.specs.Cutting.{cut_file};
 ghost use Rattle.jk_store.specs.Files.{Files};
 ghost use Rattle.jk_store.specs.Names.{file_name};
-ghost use Rattle.jk_store.specs.Catalogue.{entry_of, are_named, most_entries, IsFileOf, IsOtherFile, IsCutFrom, WasUncut, WasForeign, Passes};
+ghost use Rattle.jk_store.specs.Catalogue.{entry_of, are_named, most_entries, IsFileOf, IsOtherFile, IsCutFrom, IsWindowGiven, WasForeign, Passes};
 ghost use Rattle.jk_store.specs.declared.entry.Entry.{Entry as EntryFields};
 
 use crate::entry::Entry;
 use crate::shelf::Shelf;
+use crate::skipped::Skipped;
 use jk_math::Fault;
 use jk_window::View;
 use std::alloc::Global;
 use std::sync::Arc;
-
-/// A file that isn't listed, and why.
-#[derive(Drop)]
-pub struct Skipped {
-    pub name: String,
-    pub fault: Fault,
-}
 
 /// The images of a shelf.
 #[derive(Drop)]
@@ -38,15 +34,22 @@ pub struct Archive<S> {
 }
 
 /// The entry of a name.
-fn find<'a>(entries: &'a [Arc<Entry>], name: &str) -> Option<&'a Arc<Entry>>
+pub(crate) fn find<'a>(entries: &'a [Arc<Entry>], name: &[u8]) -> Option<&'a Arc<Entry>>
     ensures { option_map (λ e. arc_value e.now) result ≡ entry_of (map arc_value entries.now) name.now }
 {
     for entry in entries {
-        if entry.name.as_str() == name {
+        if entry.name.as_bytes() == name {
             return Some(entry);
         }
     }
     None
+}
+
+/// The same by the text of a name.
+fn find_named<'a>(entries: &'a [Arc<Entry>], name: &str) -> Option<&'a Arc<Entry>>
+    ensures { option_map (λ e. arc_value e.now) result ≡ entry_of (map arc_value entries.now) name.now }
+{
+    find(entries, name.as_bytes())
 }
 
 impl<S: Shelf> Archive<S> {
@@ -62,6 +65,18 @@ impl<S: Shelf> Archive<S> {
         ensures { result.now ≡ self.now.skipped.items }
     {
         &self.skipped
+    }
+
+    /// The shelf, given back.
+    pub fn into_shelf(self) -> S
+        ensures { result ≡ self.shelf }
+    {
+        let Archive {
+            shelf,
+            entries: _,
+            skipped: _,
+        } = self;
+        shelf
     }
 
     /// The file of an image.
@@ -83,7 +98,7 @@ impl<S: Shelf> Archive<S> {
         ensures kept { (files : Files) → S.keeps self.old.shelf files → S.keeps self.new.shelf files }
         ensures counts { Passes (λ e. IsMemory e ⊎ (e ≡ NoSuchImage) ⊎ (e ≡ Changed)) result (S.failed self.old.shelf) (S.failed self.new.shelf) }
     {
-        match find(&self.entries, name) {
+        match find_named(&self.entries, name) {
             Some(entry) => entry.whole(alloc, &mut self.shelf),
             None => Err(Fault::NoSuchImage),
         }
@@ -98,13 +113,16 @@ impl<S: Shelf> Archive<S> {
         ensures present { OnOk result (IsSome (entry_of (map arc_value self.old.entries.items) name.now)) }
         ensures given { (e : EntryFields) → entry_of (map arc_value self.old.entries.items) name.now ≡ Some e
             → IfOk result (λ w. (f : List ℕ) × IsFileOf S.gave e self.old.shelf f self.new.shelf × IsCutFrom e.index view f w.items) }
+        ensures same { (e : EntryFields) → entry_of (map arc_value self.old.entries.items) name.now ≡ Some e
+            → (files : Files) (b : List ℕ) → S.keeps self.old.shelf files → files (file_name (string_bytes e.name)) ≡ Some b
+            → (is : IsIndexOf b e.index) → IsWindowGiven (cut_file is view) result }
         ensures seen { (e : EntryFields) → entry_of (map arc_value self.old.entries.items) name.now ≡ Some e
             → OnOk result (HasWindow e.index.headers view) }
         ensures unseen { (e : EntryFields) → entry_of (map arc_value self.old.entries.items) name.now ≡ Some e
             → (HasWindow e.index.headers view → ⊥) → (result ≡ Err Fault.BadWindow) × (self.new.shelf ≡ self.old.shelf) }
         ensures bad { (e : EntryFields) → entry_of (map arc_value self.old.entries.items) name.now ≡ Some e
             → result ≡ Err Fault.BadWindow → HasWindow e.index.headers view
-            → WasUncut S.gave e view self.old.shelf self.new.shelf }
+            → WasForeign S.gave e self.old.shelf self.new.shelf }
         ensures changed { (e : EntryFields) → entry_of (map arc_value self.old.entries.items) name.now ≡ Some e
             → result ≡ Err Fault.Changed → IsOtherFile S.gave e self.old.shelf self.new.shelf
             ⊎ WasForeign S.gave e self.old.shelf self.new.shelf }
@@ -113,7 +131,7 @@ impl<S: Shelf> Archive<S> {
         ensures kept { (files : Files) → S.keeps self.old.shelf files → S.keeps self.new.shelf files }
         ensures counts { Passes (λ e. IsMemory e ⊎ (e ≡ NoSuchImage) ⊎ (e ≡ BadWindow) ⊎ (e ≡ Changed)) result (S.failed self.old.shelf) (S.failed self.new.shelf) }
     {
-        match find(&self.entries, name) {
+        match find_named(&self.entries, name) {
             Some(entry) => entry.window(alloc, &mut self.shelf, view),
             None => Err(Fault::NoSuchImage),
         }

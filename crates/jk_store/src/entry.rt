@@ -6,9 +6,11 @@ ghost use Rattle.sha2.specs.Sha256.{sha256};
 ghost use Rattle.jk_math.specs.Memory.{IsMemory};
 ghost use Rattle.jk_math.specs.declared.fault.Fault.TheVariants.{BadWindow, Changed};
 ghost use Rattle.jk_window.specs.Views.{HasWindow};
+ghost use Rattle.jk_window.specs.Indexing.{IsIndexOf};
+ghost use Rattle.jk_window.specs.Cutting.{cut_file};
 ghost use Rattle.jk_store.specs.Files.{Files};
 ghost use Rattle.jk_store.specs.Names.{file_name};
-ghost use Rattle.jk_store.specs.Catalogue.{IsFileOf, IsOtherFile, IsCutFrom, WasUncut, WasForeign, Passes};
+ghost use Rattle.jk_store.specs.Catalogue.{IsFileOf, IsOtherFile, IsCutFrom, IsWindowGiven, WasForeign, Passes};
 
 use crate::names;
 use crate::shelf::Shelf;
@@ -66,11 +68,14 @@ impl Entry {
     ) -> Result<Vec<u8>, Fault>
         ensures given { IfOk result (λ w. (f : List ℕ) × IsFileOf S.gave self.now shelf.old f shelf.new × IsCutFrom self.now.index view f w.items) }
         ensures seen { OnOk result (HasWindow self.now.index.headers view) }
+        // Of a file that the shelf keeps under the name it is the window.
+        ensures same { (files : Files) (b : List ℕ) → S.keeps shelf.old files → files (file_name (string_bytes self.now.name)) ≡ Some b
+            → (is : IsIndexOf b self.now.index) → IsWindowGiven (cut_file is view) result }
         // Where the view has no window, that is the answer, and the shelf isn't read.
         ensures unseen { (HasWindow self.now.index.headers view → ⊥) → (result ≡ Err Fault.BadWindow) × (shelf.new ≡ shelf.old) }
-        // No other BadWindow is answered for a file of which the index is.
+        // No other BadWindow is answered, unless for a file of which the index isn't.
         ensures bad { result ≡ Err Fault.BadWindow → HasWindow self.now.index.headers view
-            → WasUncut S.gave self.now view shelf.old shelf.new }
+            → WasForeign S.gave self.now shelf.old shelf.new }
         ensures changed { result ≡ Err Fault.Changed → IsOtherFile S.gave self.now shelf.old shelf.new
             ⊎ WasForeign S.gave self.now shelf.old shelf.new }
         ensures kept { (files : Files) → S.keeps shelf.old files → S.keeps shelf.new files }

@@ -4,12 +4,21 @@
 mod adding;
 mod archive;
 mod entry;
+mod failures;
+mod folder;
 mod memory;
 mod names;
+mod opening;
+mod reading;
 mod shelf;
+mod showing;
+mod skipped;
 
-pub use archive::{Archive, Skipped};
+pub use archive::Archive;
 pub use entry::Entry;
+pub use failures::Failures;
+pub use folder::Folder;
 pub use memory::MemoryShelf;
 pub use names::is_good_name;
 pub use shelf::Shelf;
+pub use skipped::Skipped;

@@ -1,12 +1,11 @@
 //! A shelf in memory.
 
-ghost use Rattle.std.specs.Prelude.{◌≡◌, ◌<◌, min, ◌+◌, Some, None, IfOk, OnOk, OnErr, IfErr};
+ghost use Rattle.std.specs.Prelude.{◌≡◌, ℕ, List, [], Some, None, IfOk, OnOk, OnErr, IfErr};
 ghost use Rattle.std.specs.Option.{option_map};
 ghost use Rattle.jk_math.specs.Memory.{IsMemory};
-ghost use Rattle.jk_math.specs.declared.fault.Fault.TheVariants.{Shelf as ShelfFault};
-ghost use Rattle.jk_store.specs.Counting.{last_count};
-ghost use Rattle.jk_store.specs.Memories.{Keeps, Gave, Lists, HoldSame, HoldsInstead, held, names_of};
+ghost use Rattle.jk_store.specs.Memories.{Keeps, Gave, Lists, Unlisted, Unread, HoldSame, HoldsInstead, held, names_of};
 
+use crate::failures::Failures;
 use crate::shelf::Shelf;
 use jk_math::Fault;
 use std::alloc::Global;
@@ -16,41 +15,19 @@ use std::collections::BTreeMap;
 #[derive(Drop)]
 pub struct MemoryShelf {
     files: BTreeMap<String, Vec<u8>>,
-    failures: u64,
+    failures: Failures,
 }
 
 impl MemoryShelf {
     /// A shelf without files.
     pub fn new(alloc: Global) -> MemoryShelf
-        ensures { result.failures ≡ 0 }
+        ensures files { (n : List ℕ) → held result n ≡ None }
+        ensures names { names_of result ≡ [] }
+        ensures failures { result.failures.count ≡ 0 }
     {
         MemoryShelf {
             files: BTreeMap::new(alloc),
-            failures: 0,
-        }
-    }
-
-    /// Counts a failure.
-    fn fail(&mut self) -> Fault
-        ensures fault { result ≡ Fault.Shelf }
-        ensures after { self.new ≡ record self.old { failures = min (self.old.failures + 1) last_count } }
-    {
-        if self.failures < u64::MAX {
-            self.failures += 1;
-        }
-        Fault::Shelf
-    }
-
-    /// Whether a call may be made: at the greatest count each one fails.
-    fn ready(&mut self) -> Result<(), Fault>
-        ensures ok { OnOk result (self.old.failures < last_count) }
-        ensures err { IfErr result (λ e. (e ≡ ShelfFault) × (self.old.failures ≡ last_count)) }
-        ensures same { self.new ≡ self.old }
-    {
-        if self.failures < u64::MAX {
-            Ok(())
-        } else {
-            Err(Fault::Shelf)
+            failures: Failures::none(),
         }
     }
 
@@ -92,10 +69,14 @@ impl Shelf for MemoryShelf {
 
     ghost lists = { Lists };
 
-    ghost failed = { λ s. s.failures };
+    ghost unlisted = { Unlisted };
+
+    ghost unread = { Unread };
+
+    ghost failed = { λ s. s.failures.count };
 
     fn list(&mut self, alloc: Global) -> Result<Vec<String>, Fault> {
-        self.ready()?;
+        self.failures.ready()?;
         let mut names = Vec::new(alloc);
         for name in self.files.keys() {
             names.push(name.clone()?)?;
@@ -104,23 +85,23 @@ impl Shelf for MemoryShelf {
     }
 
     fn read(&mut self, alloc: Global, name: &str) -> Result<Vec<u8>, Fault> {
-        self.ready()?;
+        self.failures.ready()?;
         match self.copy(alloc, name)? {
             Some(bytes) => Ok(bytes),
-            None => Err(self.fail()),
+            None => Err(self.failures.fail()),
         }
     }
 
     fn write(&mut self, alloc: Global, name: &str, bytes: &[u8]) -> Result<(), Fault> {
-        self.ready()?;
+        self.failures.ready()?;
         self.put(alloc, name, Vec::from_slice(alloc, bytes)?)
     }
 
     fn rename(&mut self, alloc: Global, from: &str, to: &str) -> Result<(), Fault> {
-        self.ready()?;
+        self.failures.ready()?;
         let bytes = match self.copy(alloc, from)? {
             Some(bytes) => bytes,
-            None => return Err(self.fail()),
+            None => return Err(self.failures.fail()),
         };
         self.put(alloc, to, bytes)?;
         if from != to {
@@ -130,6 +111,6 @@ impl Shelf for MemoryShelf {
     }
 
     fn failures(&self) -> u64 {
-        self.failures
+        self.failures.count()
     }
 }

@@ -1,9 +1,10 @@
 //! What an archive stands on.
 
-ghost use Rattle.std.specs.Prelude.{◌≡◌, ℕ, List, map, Some, IfOk, IfErr, OnOk};
+ghost use Rattle.std.specs.Prelude.{◌≡◌, ℕ, List, map, true, Some, IfOk, IfErr, OnOk};
 ghost use Rattle.std.specs.String.{string_bytes};
 ghost use Rattle.jk_math.specs.Memory.{IsMemory};
-ghost use Rattle.jk_store.specs.Files.{Files, with_file, without};
+ghost use Rattle.jk_math.specs.declared.fault.Fault.TheVariants.{Shelf as ShelfFault};
+ghost use Rattle.jk_store.specs.Files.{Files, with_file, without, is_among};
 ghost use Rattle.jk_store.specs.Counting.{Counts};
 
 use jk_math::Fault;
@@ -22,6 +23,12 @@ pub trait Shelf {
     /// From the first state a listing may give these names and leave the second.
     ghost lists: { Self → List (List ℕ) → Self → Type 0 };
 
+    /// From the first state a listing may fail and leave the second.
+    ghost unlisted: { Self → Self → Type 0 } = { λ _ _. Unit {0} };
+
+    /// From the first state a read of that name may fail and leave the second.
+    ghost unread: { Self → List ℕ → Self → Type 0 } = { λ _ _ _. Unit {0} };
+
     /// How many failures were counted.
     ghost failed: { Self → ℕ };
 
@@ -29,6 +36,12 @@ pub trait Shelf {
     fn list(&mut self, alloc: Global) -> Result<Vec<String>, Fault>
         ensures given { IfOk result (λ v. lists self.old (map string_bytes v.items) self.new) }
         ensures kept { (files : Files) → keeps self.old files → keeps self.new files }
+        // Each file that it keeps is listed, and of each name that is listed it keeps a file.
+        ensures found { (files : Files) (n b : List ℕ) → keeps self.old files → files n ≡ Some b
+            → IfOk result (λ v. is_among n (map string_bytes v.items) ≡ true) }
+        ensures only { (files : Files) (n : List ℕ) → keeps self.old files
+            → IfOk result (λ v. is_among n (map string_bytes v.items) ≡ true → (b : List ℕ) × keeps self.new (with_file n b files)) }
+        ensures cause { IfErr result (λ e. e ≡ ShelfFault → unlisted self.old self.new) }
         ensures counts { Counts result (failed self.old) (failed self.new) };
 
     /// The bytes of a file.
@@ -38,6 +51,9 @@ pub trait Shelf {
         // A file that it keeps is what it gives.
         ensures same { (files : Files) (b : List ℕ) → keeps self.old files → files name.now ≡ Some b
             → IfOk result (λ v. v.items ≡ b) }
+        // And what it gives it keeps.
+        ensures held { (files : Files) → keeps self.old files → IfOk result (λ v. keeps self.new (with_file name.now v.items files)) }
+        ensures cause { IfErr result (λ e. e ≡ ShelfFault → unread self.old name.now self.new) }
         ensures counts { Counts result (failed self.old) (failed self.new) };
 
     /// Creates a file, or replaces it. After a refusal the file may be there in part.

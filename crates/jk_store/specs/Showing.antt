@@ -1,0 +1,64 @@
+-- Images as a server shows them: those of an archive.
+use Rattle.std.specs.Prelude.{◌≡◌, ℕ, ◌+◌, ◌-◌, ◌⊎◌, min, List, [], ◌∷◌, ◌++◌, Option, Some, None, Result, Ok, Err}
+use Rattle.std.specs.List.{AllByRecursion, AllZip}
+use Rattle.std.specs.Fmt.{decimal}
+use Rattle.std.specs.String.{string_bytes}
+use Rattle.jk_math.specs.declared.fault.Fault.{Fault}
+use Rattle.jk_marks.specs.Siz.{tile_count}
+use Rattle.sha2.specs.Sha256.{sha256}
+use Rattle.jk_window.specs.declared.view.View.{View}
+use Rattle.jk_window.specs.Indexing.{IsIndexOf, least_levels}
+use Rattle.jk_window.specs.Cutting.{cut_file}
+use Rattle.jk_web.specs.declared.query.Asked.{Asked}
+use Rattle.jk_web.specs.Images.{Image}
+use Rattle.jk_store.specs.Files.{Files}
+use Rattle.jk_store.specs.Names.{file_name}
+use Rattle.jk_store.specs.Counting.{last_count}
+use Rattle.jk_store.specs.Catalogue.{entry_of, IsOtherFile, WasForeign}
+use Rattle.jk_store.specs.declared.entry.Entry.{Entry}
+
+-- a space and a number
+abbrev pub number_text : ℕ → List ℕ
+number_text n = 32 ∷ decimal n
+
+-- the line of an image: its name, its width and height, its components, its depth, and how often it can be halved
+abbrev pub line_of : Entry → List ℕ
+line_of e =
+    let h = e.index.headers in
+    string_bytes e.name
+    ++ (number_text (h.siz.x1 - h.siz.x0)
+    ++ (number_text (h.siz.y1 - h.siz.y0)
+    ++ (number_text h.siz.components ++ (number_text h.siz.depth ++ (number_text (least_levels h.tiles (tile_count h.siz)) ++ (10 ∷ []))))))
+
+-- the view that is asked for
+abbrev pub view_of : Asked → View
+view_of a = record { reduce = a.reduce; x = a.x; y = a.y; width = a.width; height = a.height }
+
+-- what is given, if it isn't refused
+abbrev pub given_of : {A : Type 0} → Result A Fault → Option A
+given_of (Ok v) = Some v
+given_of (Err e) = None
+
+-- An entry shows the image of which it was made.
+pub record ShowsImage (e : Entry) (i : Image) : Type 0 where
+  pub name : i.name ≡ string_bytes e.name
+  pub line : i.line ≡ line_of e
+  pub digest : e.digest ≡ sha256 i.file
+  pub index : IsIndexOf i.file e.index
+  pub cut : (asked : Asked) → i.cut asked ≡ given_of (cut_file index (view_of asked))
+
+-- The shelf keeps the files of images.
+pub record AreKept {S : Type 0} (keeps : S → Files → Type 0) (shelf : S) (images : List Image) : Type 0 where
+  pub files : Files
+  pub keeps_files : keeps shelf files
+  pub each : AllByRecursion (λ i. files (file_name i.name) ≡ Some i.file) images
+
+-- Entries over a shelf stand for images: each shows its image, and the shelf keeps their files.
+pub record Stands {S : Type 0} (keeps : S → Files → Type 0) (entries : List Entry) (shelf : S) (images : List Image) : Type 0 where
+  pub shows : AllZip ShowsImage entries images
+  pub kept : AreKept keeps shelf images
+
+-- Between two states a failure of the shelf was counted, or the shelf gave a file under the name of an entry that isn't the entry's.
+abbrev pub Broke : {S : Type 0} → (S → ℕ) → (S → List ℕ → List ℕ → S → Type 0) → List Entry → S → S → Type 0
+Broke failed gave entries old new =
+    (failed new ≡ min (failed old + 1) last_count) ⊎ ((e : Entry) × (n : List ℕ) × (entry_of entries n ≡ Some e) × (IsOtherFile gave e old new ⊎ WasForeign gave e old new))

@@ -1,0 +1,178 @@
+//! Opening an archive.
+
+ghost use Rattle.std.specs.Prelude.{◌≡◌, ◌≤◌, ◌⊎◌, ℕ, List, map, length, true, false, Some, Ok, Err, IfOk, IfErr, OnOk};
+ghost use Rattle.std.specs.Arc.{arc_value};
+ghost use Rattle.std.specs.String.{string_bytes};
+ghost use Rattle.std.specs.BTreeSet.{keys};
+ghost use Rattle.std.specs.Ordering.{nat_cmp};
+ghost use Rattle.std.specs.Cmp.Lexicographic.{slice_cmp};
+ghost use Rattle.std.specs.List.Sorted.{IsStrictlySortedBy};
+ghost use Rattle.jk_math.specs.Answer.{Answers};
+ghost use Rattle.jk_math.specs.Memory.{IsMemory};
+ghost use Rattle.jk_math.specs.declared.fault.Fault.TheVariants.{Limit, Shelf as ShelfFault};
+ghost use Rattle.jk_window.specs.Indexing.{IndexFields};
+ghost use Rattle.jk_store.specs.Files.{Files, AreIn};
+ghost use Rattle.jk_store.specs.Names.{file_name, is_good_name};
+ghost use Rattle.jk_store.specs.Catalogue.{entry_of, image_at, most_entries, StandsFor, StandIn, stored, Passes};
+ghost use Rattle.jk_store.specs.Opening.{IsLookedOf, Gives, Enters, Opened, ReadsPast, ReadsUpTo, OpensAs, OpensPast, OpensUpTo};
+ghost use Rattle.jk_store.specs.declared.entry.Entry.{Entry as EntryFields};
+
+use crate::adding::MOST_ENTRIES;
+use crate::archive::Archive;
+use crate::entry::Entry;
+use crate::names;
+use crate::shelf::Shelf;
+use crate::skipped::Skipped;
+use jk_boxes::open;
+use jk_math::Fault;
+use jk_window::{Index, index};
+use sha2::{Digest, Sha256};
+use std::alloc::Global;
+use std::collections::BTreeSet;
+use std::sync::Arc;
+
+/// What becomes of a file.
+#[derive(Drop)]
+enum Looked {
+    Listed(Entry),
+    Passed(Skipped),
+}
+
+/// Whether memory was refused.
+fn is_memory(fault: &Fault) -> bool
+    ensures yes { result ≡ true → IsMemory fault.now }
+    ensures no { result ≡ false → IsMemory fault.now → ⊥ }
+{
+    matches!(fault, Fault::Memory(_))
+}
+
+/// The index of a JP2 file.
+///
+/// BadBox: it is a bare codestream. Otherwise as `jk_window::index`.
+#[tactic(auto, unfolding(crate::specs::Catalogue::image_at))]
+pub(crate) fn image_index(alloc: Global, bytes: &[u8]) -> Result<Index, Fault>
+    ensures { Answers (λ i. i) result (image_at bytes.now) }
+{
+    let index = index(alloc, bytes)?;
+    let place = open(bytes)?;
+    if !place.jp2 {
+        return Err(Fault::BadBox);
+    }
+    Ok(index)
+}
+
+/// Reads the file of a name, and says what becomes of it.
+#[tactic(auto, using(crate::proofs::Indexed::due_fault))]
+fn look<S: Shelf>(alloc: Global, shelf: &mut S, name: &str) -> Result<Looked, Fault>
+    ensures given { IfOk result (λ r. (bytes : List ℕ) × Gives S.keeps S.gave shelf.old (file_name name.now) bytes shelf.new × IsLookedOf name.now bytes r) }
+    ensures cause { IfErr result (λ e. e ≡ ShelfFault → S.unread shelf.old (file_name name.now) shelf.new) }
+    ensures counts { Passes IsMemory result (S.failed shelf.old) (S.failed shelf.new) }
+{
+    let file = names::file_name(alloc, name)?;
+    let bytes = shelf.read(alloc, file.as_str())?;
+    let name = String::from_str(alloc, name)?;
+    match image_index(alloc, &bytes) {
+        Ok(index) => Ok(Looked::Listed(Entry {
+            name,
+            digest: Sha256::digest(&bytes),
+            index,
+        })),
+        Err(fault) => {
+            if is_memory(&fault) {
+                return Err(fault);
+            }
+            Ok(Looked::Passed(Skipped { name, fault }))
+        }
+    }
+}
+
+/// Reads the file of a name, and lists or skips it.
+///
+/// Limit: 4,096 images are listed, and this would be one more.
+fn enter<S: Shelf>(
+    alloc: Global,
+    shelf: &mut S,
+    name: &str,
+    entries: &mut Vec<Arc<Entry>>,
+    skipped: &mut Vec<Skipped>,
+) -> Result<(), Fault>
+    ensures given { OnOk result ((bytes : List ℕ) × Gives S.keeps S.gave shelf.old (file_name name.now) bytes shelf.new
+        × Enters name.now bytes (map arc_value entries.old.items) (map arc_value entries.new.items) skipped.old.items skipped.new.items) }
+    ensures few { length entries.old.items ≤ most_entries → OnOk result (length entries.new.items ≤ most_entries) }
+    ensures full { result ≡ Err Limit → (most_entries ≤ length entries.old.items)
+        × ((bytes : List ℕ) × (e : EntryFields) × Gives S.keeps S.gave shelf.old (file_name name.now) bytes shelf.new × StandsFor e (stored name.now bytes)) }
+    ensures cause { IfErr result (λ e. e ≡ ShelfFault → S.unread shelf.old (file_name name.now) shelf.new) }
+    ensures counts { Passes (λ e. IsMemory e ⊎ (e ≡ Limit)) result (S.failed shelf.old) (S.failed shelf.new) }
+{
+    match look(alloc, shelf, name)? {
+        Looked::Listed(entry) => {
+            if MOST_ENTRIES <= entries.len() {
+                return Err(Fault::Limit);
+            }
+            entries.push(Arc::new(alloc, entry)?)?;
+        }
+        Looked::Passed(file) => skipped.push(file)?,
+    }
+    Ok(())
+}
+
+/// What is made of the files of a shelf.
+#[derive(Drop)]
+struct Images {
+    entries: Vec<Arc<Entry>>,
+    skipped: Vec<Skipped>,
+}
+
+/// Reads the files of some names, in their order.
+///
+/// Limit: more than 4,096 of them would be listed.
+fn read_images<S: Shelf>(
+    alloc: Global,
+    shelf: &mut S,
+    names: &BTreeSet<String>,
+) -> Result<Images, Fault>
+    ensures opened { IfOk result (λ r. Opened (Gives S.keeps S.gave) (map string_bytes (keys names.now)) shelf.old
+        (map arc_value r.entries.items) r.skipped.items shelf.new) }
+    ensures ordered { IsStrictlySortedBy (slice_cmp nat_cmp) (map string_bytes (keys names.now)) }
+    ensures few { IfOk result (λ r. length r.entries.items ≤ most_entries) }
+    ensures full { result ≡ Err Limit → ReadsPast (Gives S.keeps S.gave) (map string_bytes (keys names.now)) shelf.old }
+    ensures cause { IfErr result (λ e. e ≡ ShelfFault → ReadsUpTo (Gives S.keeps S.gave) S.unread (map string_bytes (keys names.now)) shelf.old) }
+    ensures counts { Passes (λ e. IsMemory e ⊎ (e ≡ Limit)) result (S.failed shelf.old) (S.failed shelf.new) }
+{
+    let mut entries = Vec::new(alloc);
+    let mut skipped = Vec::new(alloc);
+    for name in names.iter() {
+        enter(alloc, shelf, name.as_str(), &mut entries, &mut skipped)?;
+    }
+    Ok(Images { entries, skipped })
+}
+
+impl<S: Shelf + Drop> Archive<S> {
+    /// The archive of the images on a shelf.
+    ///
+    /// Files `NAME.jp2` with a good name are read in the order of their names. One that isn't a JP2 file with an index is skipped.
+    /// Limit: more than 4,096 images would be listed. Shelf: the shelf failed.
+    pub fn open(alloc: Global, shelf: S) -> Result<Archive<S>, Fault>
+        ensures opened { IfOk result (λ a. OpensAs S.lists S.gave shelf (map arc_value a.entries.items) a.skipped.items a.shelf) }
+        // An image whose file the shelf keeps is listed.
+        ensures found { (files : Files) (n b : List ℕ) (i : IndexFields) → S.keeps shelf files → is_good_name n ≡ true
+            → files (file_name n) ≡ Some b → image_at b ≡ Ok i
+            → IfOk result (λ a. (e : EntryFields) × (entry_of (map arc_value a.entries.items) n ≡ Some e) × StandsFor e (stored n b)) }
+        // The shelf keeps what it kept, and a file for each entry, for which the entry stands.
+        ensures kept { (files : Files) → S.keeps shelf files → IfOk result (λ a. S.keeps a.shelf files) }
+        ensures stands { (files : Files) → S.keeps shelf files
+            → IfOk result (λ a. (all : Files) × S.keeps a.shelf all × AreIn files all × StandIn all (map arc_value a.entries.items)) }
+        ensures err { IfErr result (λ e. IsMemory e ⊎ ((e ≡ ShelfFault) × OpensUpTo S.lists S.unlisted S.gave S.unread shelf) ⊎ ((e ≡ Limit) × OpensPast S.lists S.gave shelf)) }
+        ensures counts { IfOk result (λ a. S.failed a.shelf ≡ S.failed shelf) }
+    {
+        let mut shelf = shelf;
+        let files = shelf.list(alloc)?;
+        let names = names::names_in(alloc, &files)?;
+        let images = read_images(alloc, &mut shelf, &names)?;
+        Ok(Archive {
+            shelf,
+            entries: images.entries,
+            skipped: images.skipped,
+        })
+    }
+}

@@ -1,0 +1,133 @@
+//! The images of an archive as a server shows them.
+
+ghost use Rattle.std.specs.Prelude.{◌≡◌, ◌++◌, List, map, is_some, OnOk, IfOk, IfErr, MatchResult};
+ghost use Rattle.std.specs.List.{flat_map};
+ghost use Rattle.std.specs.Arc.{arc_value};
+ghost use Rattle.jk_math.specs.Memory.{IsMemory};
+ghost use Rattle.jk_web.specs.Images.{Image, image_of, IsFileOf, IsCutOf, HasNoCut, MayRefuse};
+ghost use Rattle.jk_store.specs.Showing.{line_of, number_text, view_of, Stands, Broke};
+
+use crate::archive::{Archive, find};
+use crate::entry::Entry;
+use crate::shelf::Shelf;
+use jk_math::Fault;
+use jk_web::{Asked, Catalogue};
+use jk_window::View;
+use std::alloc::{AllocError, Global};
+use std::sync::Arc;
+
+/// Appends a space and a number.
+fn put_number(alloc: Global, out: &mut Vec<u8>, number: u32) -> Result<(), AllocError>
+    ensures { OnOk result (out.new.items ≡ out.old.items ++ number_text number) }
+{
+    out.push(b' ')?;
+    out.extend_from_slice(number.to_string(alloc)?.as_bytes())?;
+    Ok(())
+}
+
+/// Appends the line of an image: its name, its width, height, components, depth and levels.
+fn put_line(alloc: Global, out: &mut Vec<u8>, entry: &Entry) -> Result<(), AllocError>
+    ensures { OnOk result (out.new.items ≡ out.old.items ++ line_of entry.now) }
+{
+    let index = &entry.index;
+    out.extend_from_slice(entry.name.as_bytes())?;
+    put_number(alloc, out, index.width())?;
+    put_number(alloc, out, index.height())?;
+    put_number(alloc, out, index.components() as u32)?;
+    put_number(alloc, out, index.depth() as u32)?;
+    put_number(alloc, out, index.levels() as u32)?;
+    out.push(b'\n')?;
+    Ok(())
+}
+
+/// The lines of images.
+fn lines_of(alloc: Global, entries: &[Arc<Entry>]) -> Result<Vec<u8>, Fault>
+    ensures lines { IfOk result (λ v. v.items ≡ flat_map line_of (map arc_value entries.now)) }
+    ensures memory { IfErr result (λ e. IsMemory e) }
+{
+    let mut out = Vec::new(alloc);
+    for entry in entries {
+        put_line(alloc, &mut out, entry)?;
+    }
+    Ok(out)
+}
+
+/// The view that is asked for.
+fn view(asked: Asked) -> View
+    ensures { result ≡ view_of asked }
+{
+    View {
+        reduce: asked.reduce,
+        x: asked.x,
+        y: asked.y,
+        width: asked.width,
+        height: asked.height,
+    }
+}
+
+/// The file of the image of a name.
+fn whole_of<S: Shelf>(
+    alloc: Global,
+    entries: &[Arc<Entry>],
+    shelf: &mut S,
+    name: &[u8],
+) -> Result<Vec<u8>, Fault>
+    ensures gives { (images : List Image) → Stands S.keeps (map arc_value entries.now) shelf.old images → MatchResult result
+        (λ v. IsFileOf (image_of name.now images) v.items)
+        (λ e. MayRefuse (image_of name.now images) (Broke S.failed S.gave (map arc_value entries.now) shelf.old shelf.new) ⊥ e) }
+    ensures stands { (images : List Image) → Stands S.keeps (map arc_value entries.now) shelf.old images
+        → Stands S.keeps (map arc_value entries.now) shelf.new images }
+{
+    match find(entries, name) {
+        Some(entry) => entry.whole(alloc, shelf),
+        None => Err(Fault::NoSuchImage),
+    }
+}
+
+/// The file of a window of the image of a name.
+fn window_of<S: Shelf>(
+    alloc: Global,
+    entries: &[Arc<Entry>],
+    shelf: &mut S,
+    name: &[u8],
+    asked: Asked,
+) -> Result<Vec<u8>, Fault>
+    ensures gives { (images : List Image) → Stands S.keeps (map arc_value entries.now) shelf.old images → MatchResult result
+        (λ v. IsCutOf (image_of name.now images) asked v.items)
+        (λ e. MayRefuse (image_of name.now images) (Broke S.failed S.gave (map arc_value entries.now) shelf.old shelf.new)
+        (HasNoCut (image_of name.now images) asked) e) }
+    ensures stands { (images : List Image) → Stands S.keeps (map arc_value entries.now) shelf.old images
+        → Stands S.keeps (map arc_value entries.now) shelf.new images }
+{
+    match find(entries, name) {
+        Some(entry) => entry.window(alloc, shelf, view(asked)),
+        None => Err(Fault::NoSuchImage),
+    }
+}
+
+// Each entry is shown as the file of which it was made.
+impl<S: Shelf> Catalogue for Archive<S> {
+    ghost use Rattle.std.specs.Prelude.{map};
+    ghost use Rattle.std.specs.Arc.{arc_value};
+    ghost use Rattle.jk_store.specs.Showing.{Stands, Broke};
+
+    ghost stands = { λ a images. Stands S.keeps (map arc_value a.entries.items) a.shelf images };
+
+    ghost broke = { λ a b. Broke S.failed S.gave (map arc_value a.entries.items) a.shelf b.shelf };
+
+    fn lines(&self, alloc: Global) -> Result<Vec<u8>, Fault> {
+        lines_of(alloc, &self.entries)
+    }
+
+    fn has(&self, name: &[u8]) -> bool {
+        find(&self.entries, name).is_some()
+    }
+
+    fn whole(&mut self, alloc: Global, name: &[u8]) -> Result<Vec<u8>, Fault> {
+        whole_of(alloc, &self.entries, &mut self.shelf, name)
+    }
+
+    fn window(&mut self, alloc: Global, name: &[u8], asked: Asked) -> Result<Vec<u8>, Fault> {
+        window_of(alloc, &self.entries, &mut self.shelf, name, asked)
+    }
+}

@@ -1,0 +1,124 @@
+//! Images added to an archive.
+
+use crate::calls::{
+    add, add_with, joined, listed, open, pixel, plain, shelf_of, skipped, with_levels,
+};
+use crate::contents::Content;
+use crate::shelves::{Act, act_at};
+use jk_math::Fault;
+use jk_params::Container;
+use std::alloc::Global;
+use std::test::Fail;
+
+/// Of an image that is added: whether it has the digest of its file, its width and levels, and how many are listed.
+fn added(alloc: Global) -> Result<(bool, u32, u8, usize), Fail> {
+    let mut archive = open(alloc, shelf_of(alloc, &[])?)?;
+    let entry = add(&mut archive, alloc, "a", &pixel(alloc, 128)?)?;
+    let same = entry.digest.as_slice() == Content::Digest.bytes(alloc)?.as_slice();
+    let index = &entry.index;
+    Ok((same, index.width(), index.levels(), archive.list().len()))
+}
+
+#[test]
+fn an_image_added(rt: HostRuntime) -> Result<(), Fail> {
+    let answer = added(rt.alloc())?;
+    assert_eq!(rt; answer, (true, 1, 0, 1));
+    Ok(())
+}
+
+/// Why a bare codestream isn't added under a name beside an image `a`, and how many images are listed then.
+fn refused(alloc: Global, name: &str) -> Result<(Option<Fault>, usize), Fail> {
+    let mut archive = open(alloc, shelf_of(alloc, &[("a.jp2", Content::Page)])?)?;
+    let raw = plain(alloc, Container::Raw);
+    let answer = add_with(&mut archive, alloc, name, &pixel(alloc, 128)?, &raw);
+    Ok((answer.err(), archive.list().len()))
+}
+
+/// Names, and why they are refused.
+static REFUSED: [(&str, Fault); 10] = [
+    ("A", Fault::BadName),
+    ("", Fault::BadName),
+    ("a.b", Fault::BadName),
+    ("a/b", Fault::BadName),
+    ("ä", Fault::BadName),
+    ("a b", Fault::BadName),
+    (
+        "01234567890123456789012345678901234567890123456789012345678901234",
+        Fault::BadName,
+    ),
+    ("a", Fault::NameTaken),
+    (
+        "0123456789012345678901234567890123456789012345678901234567890123",
+        Fault::BadParameters,
+    ),
+    ("a-b_9", Fault::BadParameters),
+];
+
+#[test]
+fn refused_names(rt: HostRuntime) -> Result<(), Fail> {
+    for (name, fault) in REFUSED {
+        let answer = refused(rt.alloc(), name)?;
+        assert_eq!(rt; answer, (Some(fault), 1), "{name}");
+    }
+    Ok(())
+}
+
+/// Why so many levels are refused, and how many images are listed then.
+fn refused_levels(alloc: Global, levels: u8) -> Result<(Option<Fault>, usize), Fail> {
+    let mut archive = open(alloc, shelf_of(alloc, &[])?)?;
+    let parameters = with_levels(alloc, levels);
+    let answer = add_with(&mut archive, alloc, "a", &pixel(alloc, 128)?, &parameters);
+    Ok((answer.err(), archive.list().len()))
+}
+
+#[test]
+fn refused_parameters(rt: HostRuntime) -> Result<(), Fail> {
+    let answer = refused_levels(rt.alloc(), 6)?;
+    assert_eq!(rt; answer, (Some(Fault::BadParameters), 0));
+    Ok(())
+}
+
+/// What is skipped, what is listed after the name was added, and both after it was opened again.
+fn replaced(alloc: Global) -> Result<String, Fail> {
+    let mut archive = open(alloc, shelf_of(alloc, &[("c.jp2", Content::Bare)])?)?;
+    let before = skipped(&archive, alloc)?;
+    add(&mut archive, alloc, "c", &pixel(alloc, 128)?)?;
+    let after = listed(&archive, alloc)?;
+    let again = open(alloc, archive.into_shelf())?;
+    let names = listed(&again, alloc)?;
+    let none = skipped(&again, alloc)?;
+    joined(
+        alloc,
+        &[
+            before.as_str(),
+            after.as_str(),
+            names.as_str(),
+            none.as_str(),
+        ],
+    )
+}
+
+#[test]
+fn a_skipped_name_added(rt: HostRuntime) -> Result<(), Fail> {
+    let answer = replaced(rt.alloc())?;
+    assert_eq!(rt; answer.as_str(), "c F13 BadBox;|c |c ||");
+    Ok(())
+}
+
+/// Why an image isn't added where the rename fails, and how many images are listed before and after the next try.
+fn renamed(alloc: Global) -> Result<(Option<Fault>, usize, usize), Fail> {
+    // The calls are: list, write, rename.
+    let shelf = act_at(shelf_of(alloc, &[])?, 3, Act::Fail);
+    let mut archive = open(alloc, shelf)?;
+    let answer = add(&mut archive, alloc, "a", &pixel(alloc, 128)?);
+    let before = archive.list().len();
+    add(&mut archive, alloc, "a", &pixel(alloc, 128)?)?;
+    Ok((answer.err(), before, archive.list().len()))
+}
+
+#[test]
+fn a_rename_that_fails(rt: HostRuntime) -> Result<(), Fail> {
+    let answer = renamed(rt.alloc())?;
+    assert_eq!(rt; answer, (Some(Fault::Shelf), 0, 1));
+    Ok(())
+}

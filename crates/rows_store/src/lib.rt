@@ -1,0 +1,23 @@
+//! Archives on shelves, against answers from outside.
+#![tactic(auto)]
+
+#[cfg(test)]
+mod adding;
+#[cfg(test)]
+mod calls;
+#[cfg(test)]
+mod contents;
+#[cfg(test)]
+mod directories;
+#[cfg(test)]
+mod failing;
+#[cfg(test)]
+mod limits;
+#[cfg(test)]
+mod opening;
+#[cfg(test)]
+mod reading;
+#[cfg(test)]
+mod shelves;
+#[cfg(test)]
+mod texts;
