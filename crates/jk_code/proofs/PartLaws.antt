@@ -6,7 +6,7 @@ use Rattle.jk_math.specs.Picture.{Picture}
 use Rattle.jk_marks.specs.declared.siz.Siz.{Siz}
 use Rattle.jk_marks.specs.Siz.{IsSiz, tile_count}
 use Rattle.jk_marks.specs.Codestream.{Part, of_tile, only_part_of, IsPart, AreParts, AreClosedBeforeLast}
-use Rattle.jk_geom.proofs.Laws.{tile_found}
+use Rattle.jk_tile.proofs.Laws.{some_tile}
 use Rattle.jk_params.specs.declared.parameters.Parameters.{Parameters}
 use Rattle.jk_params.specs.Headers.{total}
 use Rattle.jk_params.specs.Profile.{siz_of, IsWrittenBy}
@@ -79,12 +79,6 @@ part_is p q by fit t lt =
       fits = omega (arith, short);
       well_formed = record { each = tt; one_coding = lit≤ tt; one_quantisation = lit≤ tt; one_style = λ i. lit≤ tt; one_steps = λ i. lit≤ tt };
     }
-
--- there is a tile
-some_tile : (s : Siz) → IsSiz s → 0 < tile_count s
-some_tile s is =
-    let found = tile_found s s.x0 s.y0 is (record { left = omega arith; right = is.wide; upper = omega arith; lower = is.high }) in
-    omega (arith, found.0)
 
 -- one part or more, as T.800 asks of them
 pub parts_are : (p : Picture) (q : Parameters) → IsWrittenBy q p → parts_fit p q ≡ true → AreParts (siz_of p q) (parts_for p q)

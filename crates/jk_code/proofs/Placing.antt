@@ -1,18 +1,20 @@
 -- Tiles put into the planes of the image.
-use Rattle.std.proofs.Common.{◌≡◌, ℕ, ◌+◌, ◌-◌, ◌^◌, ◌<◌, ◌≤◌, List, [], ◌∷◌, ◌++◌, length, get_or, set, Result, Ok, ℤ, sym, ap, subst, ◌∙◌, inl, inr, arith}
+use Rattle.std.proofs.Common.{◌≡◌, ℕ, ◌+◌, ◌-◌, ◌*◌, ◌/◌, ◌%◌, ◌^◌, ◌<◌, ◌≤◌, min, max, List, [], ◌∷◌, ◌++◌, length, get_or, set, Result, Ok, Err, IfOk, ℤ, sym, ap, subst, ◌∙◌, inl, inr, arith, lit<}
 use Rattle.std.specs.Global.{Vec}
 use Rattle.std.specs.List.{AllByRecursion}
 use Rattle.std.proofs.lemmas.Bool.{cases_eq}
-use Rattle.std.proofs.lemmas.Nat.{pow_pos}
+use Rattle.std.proofs.lemmas.Nat.{pow_pos, mod_below, div_below}
+use Rattle.std.proofs.Math.Nat.{mul-le-mul_right, div-add-mod'}
 use Rattle.std.proofs.lemmas.List.{length-set, length-map, length-append, ext_get_or, get_or_default, get_or_append_left, get_or-append_right}
 use Rattle.jk_math.specs.declared.fault.Fault.{Fault}
 use Rattle.std.proofs.lemmas.List.FromFn.{length-map-range_with_len, get_or-map-range_with_len}
+use Rattle.jk_math.specs.Answer.{Answers}
 use Rattle.jk_math.specs.declared.rect.Rect.{Rect}
 use Rattle.jk_math.specs.Picture.{lists_of}
 use Rattle.jk_math.specs.Raster.{raster, plane_at, places_of}
-use Rattle.jk_math.proofs.Laws.{raster_at, raster_is}
+use Rattle.jk_math.proofs.Laws.{raster_length, raster_at, raster_is}
 use Rattle.jk_marks.specs.declared.siz.Siz.{Siz}
-use Rattle.jk_marks.specs.Siz.{IsSiz, tile_count}
+use Rattle.jk_marks.specs.Siz.{IsSiz, tiles_across, tiles_down, tile_count}
 use Rattle.jk_geom.specs.Rectangles.{IsWithin, IsArea, tile_area, resolution_area}
 use Rattle.jk_geom.specs.Partitions.{image_area, reduced_area, TileHolds}
 use Rattle.jk_geom.proofs.Laws.{ceil_mono, tile_covers, tile_inside}
@@ -22,9 +24,9 @@ use Rattle.jk_geom.specs.declared.shape.TileShape.{TileShape}
 use Rattle.jk_walk.specs.WalkReading.{place_end, IsPlace, packets_at}
 use Rattle.jk_tile.specs.Filling.{IsPartOf}
 use Rattle.jk_tile.specs.TileMeaning.{shown_area}
-use Rattle.jk_tile.specs.TileReading.{tile_planes_at, component_samples}
-use Rattle.jk_tile.proofs.Laws.{tile_tested, IsPut, Agrees, put_keeps, put_shows, put_here, put_there}
-use Rattle.jk_code.specs.MeaningReading.{places_or, places_at, sample_of_tiles, planes_of_tiles}
+use Rattle.jk_tile.specs.TileReading.{tested, tile_planes_at, component_samples}
+use Rattle.jk_tile.proofs.Laws.{each_none, each_more, each_fails, refuses_on, tested_ok, tested_err, tile_tested, IsPut, Agrees, put_keeps, put_shows, put_here, put_there, vector_items}
+use Rattle.jk_code.specs.MeaningReading.{places_or, places_at, sample_of_tiles, tiles_tested, planes_of_tiles}
 use Rattle.jk_code.specs.Tiles.{plane_in, ArePlanes, Shows, Keeps, ShowsTileAt, AreRead}
 use Rattle.jk_window.specs.Views.{frame_of}
 use Rattle.jk_code.proofs.Tiling.{tile_value}
@@ -61,15 +63,94 @@ tile_agrees bytes h d t c places values is lt read e x y within =
     ∙ sym (ap (λ (r : Result (List PacketPlace) Fault). component_samples bytes h t d (places_or r) c x y) read) ∙ sym (tile_value bytes h d t c x y is holds)
 
 -- plane c of a tile
-pub shown_plane : (bytes : List ℕ) (h : Headers) (d t c : ℕ) (places : List PacketPlace) (planes : List (List ℤ)) → tile_planes_at bytes h t d places ≡ Ok planes → c < h.siz.components
+shown_plane : (bytes : List ℕ) (h : Headers) (d t c : ℕ) (places : List PacketPlace) (planes : List (List ℤ)) → tile_planes_at bytes h t d places ≡ Ok planes → c < h.siz.components
     → get_or planes c [] ≡ raster (shown_area h.siz t d) (component_samples bytes h t d places c)
 shown_plane bytes h d t c places planes e lt =
     ap (λ (ls : List (List ℤ)). get_or ls c []) (tile_tested bytes h t d places planes e).1
     ∙ get_or-map-range_with_len (λ i. raster (shown_area h.siz t d) (component_samples bytes h t d places i)) 0 h.siz.components c c [] lt (omega arith)
 
-pub shown_count : (bytes : List ℕ) (h : Headers) (d t : ℕ) (places : List PacketPlace) (planes : List (List ℤ)) → tile_planes_at bytes h t d places ≡ Ok planes → length planes ≡ h.siz.components
+shown_count : (bytes : List ℕ) (h : Headers) (d t : ℕ) (places : List PacketPlace) (planes : List (List ℤ)) → tile_planes_at bytes h t d places ≡ Ok planes → length planes ≡ h.siz.components
 shown_count bytes h d t places planes e =
     ap (λ (ls : List (List ℤ)). length ls) (tile_tested bytes h t d places planes e).1 ∙ length-map-range_with_len (λ i. raster (shown_area h.siz t d) (component_samples bytes h t d places i)) 0 h.siz.components
+
+-- the same of vectors
+pub shown_vectors : (bytes : List ℕ) (h : Headers) (d t : ℕ) (places : List PacketPlace) (planes : List (Vec ℤ)) → tile_planes_at bytes h t d places ≡ Ok (lists_of planes) → length planes ≡ h.siz.components
+shown_vectors bytes h d t places planes e = sym (length-map planes (λ v. v.items)) ∙ shown_count bytes h d t places (lists_of planes) e
+
+pub shown_vector : (bytes : List ℕ) (h : Headers) (d t c : ℕ) (places : List PacketPlace) (planes : List (Vec ℤ)) (plane : Vec ℤ) → tile_planes_at bytes h t d places ≡ Ok (lists_of planes) → c < h.siz.components → plane ≡ get_or planes c plane
+    → plane.items ≡ raster (shown_area h.siz t d) (component_samples bytes h t d places c)
+shown_vector bytes h d t c places planes plane e lt is =
+    vector_items planes c plane (let n = shown_vectors bytes h d t places planes e in omega (arith, lt, n)) is ∙ shown_plane bytes h d t c places (lists_of planes) e lt
+
+-- what is tested of a tile
+pub tile_due : (bytes : List ℕ) (h : Headers) (d t : ℕ) (places : List PacketPlace) → packets_at bytes h t ≡ Ok places → tile_planes_at bytes h t d (places_at bytes h t) ≡ tile_planes_at bytes h t d places
+tile_due bytes h d t places read = ap (λ (r : Result (List PacketPlace) Fault). tile_planes_at bytes h t d (places_or r)) read
+
+-- ---- a tile that is alone
+
+-- it has the whole image
+one_part : (x side : ℕ) → 0 < side → (x + side - 1) / side ≤ 1 → x ≤ side
+one_part x side some le =
+    let n = x + side - 1 in
+    let whole : n / side * side + n % side ≡ n = div-add-mod' n side in
+    let rest = mod_below n side some in
+    let few : n / side * side ≤ 1 * side = mul-le-mul_right side le in
+    omega (arith, whole, rest, few)
+
+only : (a b : ℕ) → a * b ≡ 1 → (a ≡ 1) × (b ≡ 1)
+only a b e = grind arith
+
+-- in one direction
+one_side : (first side start end p : ℕ) → first ≤ start → p ≡ 0 → end - first ≤ side → (max (first + p * side) start ≡ start) × (min (first + (p + 1) * side) end ≡ end)
+one_side first side start end p le none few =
+    (ap (λ k. max (first + k * side) start) none ∙ omega (arith, le), ap (λ k. min (first + (k + 1) * side) end) none ∙ omega (arith, few))
+
+same_rect : (a b : Rect) → a.x0 ≡ b.x0 → a.y0 ≡ b.y0 → a.x1 ≡ b.x1 → a.y1 ≡ b.y1 → a ≡ b
+same_rect a b left upper right lower =
+    ap (λ k. record { x0 = k; y0 = a.y0; x1 = a.x1; y1 = a.y1 }) left ∙ ap (λ k. record { x0 = b.x0; y0 = k; x1 = a.x1; y1 = a.y1 }) upper
+    ∙ ap (λ k. record { x0 = b.x0; y0 = b.y0; x1 = k; y1 = a.y1 }) right ∙ ap (λ k. record { x0 = b.x0; y0 = b.y0; x1 = b.x1; y1 = k }) lower
+
+one_tile : (s : Siz) → IsSiz s → tile_count s ≡ 1 → tile_area s 0 ≡ image_area s
+unfolding tile_area
+one_tile s is one =
+    let sides = only (tiles_across s) (tiles_down s) one in
+    let column = mod_below 0 (tiles_across s) (omega (arith, sides.0)) in
+    let row = div_below 0 (tiles_across s) (tiles_down s) (omega (arith, sides.0)) (omega (arith, one)) in
+    let across = one_side s.tile_x0 s.tile_width s.x0 s.x1 (0 % tiles_across s) is.tile_left (omega (arith, column, sides.0)) (one_part (s.x1 - s.tile_x0) s.tile_width is.tile_wide (omega (arith, sides.0))) in
+    let down = one_side s.tile_y0 s.tile_height s.y0 s.y1 (0 / tiles_across s) is.tile_upper (omega (arith, row, sides.1)) (one_part (s.y1 - s.tile_y0) s.tile_height is.tile_high (omega (arith, sides.1))) in
+    same_rect (tile_area s 0) (image_area s) across.0 down.0 across.1 down.1
+
+pub one_shown : (bytes : List ℕ) (h : Headers) (d : ℕ) (places : List PacketPlace) (planes : List (List ℤ)) → IsSiz h.siz → tile_count h.siz ≡ 1 → packets_at bytes h 0 ≡ Ok places → tile_planes_at bytes h 0 d places ≡ Ok planes
+    → planes ≡ planes_of_tiles bytes h d (frame_of h d)
+one_shown bytes h d places planes is one read e =
+    let f : ℕ → List ℤ = λ c. raster (frame_of h d) (sample_of_tiles bytes h d c) in
+    let lt : 0 < tile_count h.siz = omega (arith, one) in
+    let area : shown_area h.siz 0 d ≡ frame_of h d = ap (λ (a : Rect). resolution_area a d 0) (one_tile h.siz is one) in
+    let count = shown_count bytes h d 0 places planes e in
+    ext_get_or [] planes (planes_of_tiles bytes h d (frame_of h d)) (count ∙ sym (length-map-range_with_len f 0 h.siz.components)) (λ c less.
+    let few : c < h.siz.components = omega (arith, less, count) in
+    let plane = shown_plane bytes h d 0 c places planes e few in
+    let agrees = tile_agrees bytes h d 0 c places (get_or planes c []) is lt read plane in
+    let long = ap (λ (l : List ℤ). length l) plane ∙ raster_length (shown_area h.siz 0 d) (component_samples bytes h 0 d places c) in
+    subst (λ (a : Rect). get_or planes c [] ≡ raster a (sample_of_tiles bytes h d c)) area
+    (raster_is (shown_area h.siz 0 d) (get_or planes c []) (sample_of_tiles bytes h d c) long (λ x y place.
+    agrees x y (record { left = place.left; right = place.right; upper = place.upper; lower = place.lower })))
+    ∙ sym (get_or-map-range_with_len f 0 h.siz.components c c [] few (omega arith)))
+
+-- what is tested of it
+pub one_answers : (bytes : List ℕ) (h : Headers) (d : ℕ) (places : List PacketPlace) (r : Result (Vec (Vec ℤ)) Fault) → packets_at bytes h 0 ≡ Ok places → Answers (λ v. lists_of v.items) r (tile_planes_at bytes h 0 d places)
+    → Answers (λ _. tt) r (tiles_tested bytes h d 1)
+one_answers bytes h d places (Ok v) read a =
+    each_more 0 (λ t. tested (tile_planes_at bytes h t d (places_at bytes h t))) (each_none _) (tested_ok (tile_planes_at bytes h 0 d (places_at bytes h 0)) (lists_of v.items) (tile_due bytes h d 0 places read ∙ a))
+one_answers bytes h d places (Err e) read a =
+    refuses_on e (tile_planes_at bytes h 0 d places) (tiles_tested bytes h d 1) a
+    (λ is. each_fails 1 0 (λ t. tested (tile_planes_at bytes h t d (places_at bytes h t))) e (lit< tt) (each_none _) (tested_err (tile_planes_at bytes h 0 d (places_at bytes h 0)) e (tile_due bytes h d 0 places read ∙ is)))
+
+-- what is given
+pub one_given : (bytes : List ℕ) (h : Headers) (d : ℕ) (places : List PacketPlace) (r : Result (Vec (Vec ℤ)) Fault) → IsSiz h.siz → tile_count h.siz ≡ 1 → packets_at bytes h 0 ≡ Ok places
+    → Answers (λ v. lists_of v.items) r (tile_planes_at bytes h 0 d places) → IfOk r (λ v. lists_of v.items ≡ planes_of_tiles bytes h d (frame_of h d))
+one_given bytes h d places (Ok v) is one read a = one_shown bytes h d places (lists_of v.items) is one read a
+one_given bytes h d places (Err e) is one read a = tt
 
 -- ---- one plane more
 
@@ -144,7 +225,3 @@ ends_of size s (w ∷ places) h = (h.0.within, ends_of size s places h.1)
 -- the packets that are kept of a tile
 pub tile_places : (bytes : List ℕ) (h : Headers) (n t : ℕ) (all : List (List PacketPlace)) (places : List PacketPlace) → AreRead bytes h n all → t < n → places ≡ get_or all t places → packets_at bytes h t ≡ Ok places
 tile_places bytes h n t all places is lt e = is.each t lt ∙ ap (λ (ws : List PacketPlace). Ok ws) (get_or_default all t [] places (omega (arith, lt, is.count)) ∙ sym e)
-
--- what is tested of it
-pub tile_due : (bytes : List ℕ) (h : Headers) (d t : ℕ) (places : List PacketPlace) → packets_at bytes h t ≡ Ok places → tile_planes_at bytes h t d (places_at bytes h t) ≡ tile_planes_at bytes h t d places
-tile_due bytes h d t places read = ap (λ (r : Result (List PacketPlace) Fault). tile_planes_at bytes h t d (places_or r)) read

@@ -22,7 +22,7 @@ ghost use Rattle.jk_window.specs.Views.{HaveLevels, frame_of};
 use crate::reduction::{check_reduction, reduced};
 use jk_boxes::open;
 use jk_geom::tile;
-use jk_math::{Fault, Image, Planes, Rect};
+use jk_math::{Fault, Image, Rect};
 use jk_params::{Codestream, read_codestream};
 use jk_tile::{decode_tile, put};
 use jk_walk::{TilePackets, read_packets};
@@ -49,7 +49,7 @@ fn put_tile(
     number: usize,
     reduce: u8,
     area: &Rect,
-    shown: &Planes,
+    shown: &[Vec<i32>],
     planes: &mut Vec<Vec<i32>>,
 )
     requires sound { AreHeaders (length bytes.now) headers.now }
@@ -58,7 +58,7 @@ fn put_tile(
     requires area { area.now ≡ frame_of headers.now reduce }
     requires frame { IsArea area.now }
     requires few { reduce ≤ 10 }
-    requires shown { tile_planes_at bytes.now headers.now number reduce packets.now ≡ Ok shown.now }
+    requires shown { tile_planes_at bytes.now headers.now number reduce packets.now ≡ Ok (lists_of shown.now) }
     requires planes { ArePlanes headers.now reduce planes.old.items }
     ensures planes { ArePlanes headers.now reduce planes.new.items }
     ensures keeps { Keeps bytes.now headers.now reduce planes.old.items planes.new.items }
@@ -66,12 +66,31 @@ fn put_tile(
 {
     let part = reduced(&tile(headers.siz(), number as u32), reduce);
     for c in 0..planes.len() {
-        put(area, &mut planes[c], &part, shown.plane(c));
+        put(area, &mut planes[c], &part, &shown[c]);
     }
 }
 
-/// The planes of the image, tile by tile.
-fn all_planes(
+/// The planes of an image that is one tile.
+fn planes_of_one(
+    alloc: Global,
+    headers: &Codestream,
+    bytes: &[u8],
+    packets: &[TilePackets],
+    reduce: u8,
+) -> Result<Vec<Vec<i32>>, Fault>
+    requires sound { AreHeaders (length bytes.now) headers.now }
+    requires one { tile_count headers.now.siz ≡ 1 }
+    requires packets { AreRead bytes.now headers.now 1 packets.now }
+    requires levels { HaveLevels headers.now reduce }
+    requires few { reduce ≤ 10 }
+    ensures exact { Answers (λ _. tt) result (tiles_tested bytes.now headers.now reduce 1) }
+    ensures planes { IfOk result (λ v. lists_of v.items ≡ planes_of_tiles bytes.now headers.now reduce (frame_of headers.now reduce)) }
+{
+    decode_tile(alloc, headers, bytes, 0, &packets[0], reduce)
+}
+
+/// The planes of an image, tile by tile.
+fn planes_of_all(
     alloc: Global,
     headers: &Codestream,
     bytes: &[u8],
@@ -104,6 +123,31 @@ fn all_planes(
         );
     }
     Ok(planes)
+}
+
+/// The planes of the image. Those of a tile that is alone are the image's, and aren't put anywhere.
+fn all_planes(
+    alloc: Global,
+    headers: &Codestream,
+    bytes: &[u8],
+    packets: &[TilePackets],
+    reduce: u8,
+    area: &Rect,
+) -> Result<Vec<Vec<i32>>, Fault>
+    requires sound { AreHeaders (length bytes.now) headers.now }
+    requires packets { AreRead bytes.now headers.now (tile_count headers.now.siz) packets.now }
+    requires levels { HaveLevels headers.now reduce }
+    requires area { area.now ≡ frame_of headers.now reduce }
+    requires frame { IsArea area.now }
+    requires few { reduce ≤ 10 }
+    ensures exact { Answers (λ _. tt) result (tiles_tested bytes.now headers.now reduce (tile_count headers.now.siz)) }
+    ensures planes { IfOk result (λ v. lists_of v.items ≡ planes_of_tiles bytes.now headers.now reduce area.now) }
+{
+    if headers.tile_count() == 1 {
+        planes_of_one(alloc, headers, bytes, packets, reduce)
+    } else {
+        planes_of_all(alloc, headers, bytes, packets, reduce, area)
+    }
 }
 
 /// A list of zeros for each component.

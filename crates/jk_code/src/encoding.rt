@@ -10,7 +10,7 @@ ghost use Rattle.jk_marks.specs.Siz.{tile_count};
 ghost use Rattle.jk_marks.specs.Codestream.{codestream_text, part_text, IsWritten};
 ghost use Rattle.jk_boxes.specs.Boxes.{Holds};
 ghost use Rattle.jk_params.specs.Profile.{siz_of, IsWrittenBy};
-ghost use Rattle.jk_tile.specs.Needs.{exponents_for};
+ghost use Rattle.jk_tile.specs.Needs.{exponents_for, written_bands};
 ghost use Rattle.jk_code.specs.Meaning.{Means, MeansPicture};
 ghost use Rattle.jk_code.specs.Written.{main_for, part_for, part_fits, parts_fit, tree_for, file_for, written};
 ghost use Rattle.jk_code.specs.Fronts.{HasFronts};
@@ -18,9 +18,9 @@ ghost use Rattle.jk_code.specs.Fronts.{HasFronts};
 use jk_boxes::wrap;
 use jk_geom::tile_count;
 use jk_marks::{Exponents, Main, Quantisation, write_end, write_main, write_tile_part};
-use jk_math::{Fault, Image};
+use jk_math::{Fault, Image, Planes};
 use jk_params::{Container, Parameters, cod_of, siz_of};
-use jk_tile::{encode_tile, exponents};
+use jk_tile::{encode_tile, exponents, tile_bands};
 use std::alloc::Global;
 
 /// The main header of an image.
@@ -44,7 +44,7 @@ fn main_header(image: &Image, parameters: &Parameters, exponents: &Exponents) ->
     }
 }
 
-/// Appends the only part of a tile.
+/// Appends the only part of a tile, which has these sub-bands.
 ///
 /// Limit: it would be longer than 2^32 - 1 bytes.
 fn put_tile(
@@ -54,36 +54,41 @@ fn put_tile(
     parameters: &Parameters,
     exponents: &Exponents,
     number: u32,
+    bands: Vec<Planes>,
 ) -> Result<(), Fault>
     requires written { IsWrittenBy parameters.now image.now }
     requires exponents { exponents.now ≡ exponents_for image.now parameters.now }
     requires number { number < tile_count (siz_of image.now parameters.now) }
+    requires bands { bands.items ≡ written_bands image.now parameters.now number }
     ensures ok { OnOk result (out.new.items ≡ out.old.items ++ part_text (part_for image.now parameters.now number)) }
     ensures fits { OnOk result (part_fits image.now parameters.now number ≡ true) }
     ensures err { IfErr result (λ e. IsMemory e ⊎ ((e ≡ Limit) × (part_fits image.now parameters.now number ≡ false))) }
 {
-    let content = encode_tile(alloc, image, parameters, exponents, number)?;
+    let content = encode_tile(alloc, image, parameters, exponents, number, bands)?;
     write_tile_part(number as u16, &content, out)
 }
 
-/// Appends the tile-parts, one for each tile.
-#[tactic(auto, using(jk_window::proofs::Laws::below_none))]
+/// Appends the tile-parts, one for each tile, of which the first one has these sub-bands.
 fn put_tiles(
     alloc: Global,
     out: &mut Vec<u8>,
     image: &Image,
     parameters: &Parameters,
     exponents: &Exponents,
+    first: Vec<Planes>,
 ) -> Result<(), Fault>
     requires written { IsWrittenBy parameters.now image.now }
     requires exponents { exponents.now ≡ exponents_for image.now parameters.now }
+    requires first { first.items ≡ written_bands image.now parameters.now 0 }
     ensures ok { OnOk result (out.new.items ≡ out.old.items ++ flat_map part_text (tree_for image.now parameters.now).parts) }
     ensures fits { OnOk result (parts_fit image.now parameters.now ≡ true) }
     ensures err { IfErr result (λ e. IsMemory e ⊎ ((e ≡ Limit) × (parts_fit image.now parameters.now ≡ false))) }
 {
     let siz = siz_of(image, parameters);
-    for number in 0..tile_count(&siz) {
-        put_tile(alloc, out, image, parameters, exponents, number)?;
+    put_tile(alloc, out, image, parameters, exponents, 0, first)?;
+    for number in 1..tile_count(&siz) {
+        let bands = tile_bands(alloc, image, parameters, number)?;
+        put_tile(alloc, out, image, parameters, exponents, number, bands)?;
     }
     Ok(())
 }
@@ -100,10 +105,10 @@ fn codestream(alloc: Global, image: &Image, parameters: &Parameters) -> Result<V
     ensures fronts { IfOk result (λ v. (bytes : List ℕ) → Holds bytes v.items → HasFronts image.now parameters.now bytes) }
     ensures err { IfErr result (λ e. IsMemory e ⊎ ((e ≡ Limit) × (parts_fit image.now parameters.now ≡ false))) }
 {
-    let exponents = exponents(alloc, image, parameters)?;
+    let (exponents, first) = exponents(alloc, image, parameters)?;
     let mut out = Vec::new(alloc);
     write_main(&main_header(image, parameters, &exponents), &mut out)?;
-    put_tiles(alloc, &mut out, image, parameters, &exponents)?;
+    put_tiles(alloc, &mut out, image, parameters, &exponents, first)?;
     write_end(&mut out)?;
     Ok(out)
 }

@@ -50,6 +50,16 @@ need_more p q t c b old now new bands e lt was is =
     most_more : (g : ℕ → ℕ) (n : ℕ) → max (most g n) (g n) ≡ most g (n + 1)
     most_more g n = let one : n + 1 ≡ suc n = omega arith in ap (most g) (sym one)
 
+-- one tile more, beside the first one
+pub tile_more : (p : Picture) (q : Parameters) (b n now new : ℕ) → max now (tile_need p q 0 b) ≡ most (λ t. tile_need p q t b) n → new ≡ max now (tile_need p q n b)
+    → max new (tile_need p q 0 b) ≡ most (λ t. tile_need p q t b) (n + 1)
+tile_more p q b n now new was is =
+    let first = tile_need p q 0 b in
+    let here = tile_need p q n b in
+    let turned : max (max now here) first ≡ max (max now first) here = omega arith in
+    let one : n + 1 ≡ suc n = omega arith in
+    ap (λ k. max k first) is ∙ turned ∙ ap (λ k. max k here) was ∙ ap (most (λ t. tile_need p q t b)) (sym one)
+
 pub need_is : (p : Picture) (q : Parameters) (b n : ℕ) → n ≡ tile_count (siz_of p q) → most (λ t. tile_need p q t b) n ≡ need p q b
 unfolding need
 need_is p q b n e = ap (most (λ t. tile_need p q t b)) e

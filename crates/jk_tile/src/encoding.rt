@@ -9,17 +9,16 @@ ghost use Rattle.jk_order.specs.PacketOrder.{IsPrecinct};
 ghost use Rattle.jk_params.specs.Headers.{Headers};
 ghost use Rattle.jk_params.specs.Profile.{siz_of, cod_of, IsWrittenBy};
 ghost use Rattle.jk_walk.specs.TilePackets.{slice_of};
-ghost use Rattle.jk_tile.specs.Needs.{exponents_for};
+ghost use Rattle.jk_tile.specs.Needs.{exponents_for, written_bands};
 ghost use Rattle.jk_tile.specs.PacketsWritten.{written_coding, written_shape, tile_tables, tile_text};
 ghost use Rattle.jk_tile.specs.TileMeaning.{DecodesTile};
 ghost use Rattle.jk_tile.specs.TileWriters.{table_lists, tables_in, AreLists};
 
 use crate::packets::write_packets;
 use crate::precincts::{PacketMarkers, tile_tables};
-use crate::subbands::tile_bands;
 use jk_geom::{Codings, TileShape, tile};
 use jk_marks::{Coding, Exponents, Quantisation};
-use jk_math::{Fault, Image, Rect};
+use jk_math::{Fault, Image, Planes, Rect};
 use jk_packet::BlockTable;
 use jk_params::{Parameters, coding_with, siz_of};
 use std::alloc::Global;
@@ -49,8 +48,7 @@ fn codings_alike(coding: &Coding, components: usize) -> Codings
     codings
 }
 
-/// The tables of all precincts of a tile on this rectangle: its samples through the component and wavelet transforms,
-/// and each code-block coded and cut into layers.
+/// The tables of all precincts of a tile on this rectangle: each code-block of its sub-bands, coded and cut into layers.
 fn code_tile(
     alloc: Global,
     image: &Image,
@@ -58,35 +56,38 @@ fn code_tile(
     coding: &Coding,
     number: u32,
     rect: &Rect,
+    bands: Vec<Planes>,
 ) -> Result<Vec<Vec<BlockTable>>, Fault>
     requires picture { IsPicture image.now }
     requires written { IsWrittenBy parameters.now image.now }
     requires coding { coding.now ≡ written_coding image.now parameters.now }
     requires number { number < tile_count (siz_of image.now parameters.now) }
     requires rect { rect.now ≡ tile_area (siz_of image.now parameters.now) number }
+    requires bands { bands.items ≡ written_bands image.now parameters.now number }
     ensures lists { IfOk result (λ v. AreLists rect.now coding.now parameters.now.layers (length image.now.planes) (table_lists v.items)) }
     ensures tables { IfOk result (λ v. (c r n : ℕ) → IsPrecinct (written_shape image.now parameters.now number) c r n
         → tables_in rect.now coding.now (table_lists v.items) c r n ≡ tile_tables image.now parameters.now number c r n) }
     ensures memory { IfErr result IsMemory }
 {
-    let bands = tile_bands(alloc, image, parameters.levels, parameters.colour, rect)?;
     tile_tables(alloc, rect, coding, parameters.layers, &bands)
 }
 
 /// The data of the only part of tile `number`: its packets in their order, each layer of each precinct (T.800 B.9 to
 /// B.12).
 ///
-/// `exponents` are those of [`crate::exponents`].
+/// `exponents` are those of [`crate::exponents`], and `bands` the sub-bands of the tile, which [`crate::tile_bands`] gives.
 pub fn encode_tile(
     alloc: Global,
     image: &Image,
     parameters: &Parameters,
     exponents: &Exponents,
     number: u32,
+    bands: Vec<Planes>,
 ) -> Result<Vec<u8>, Fault>
     requires written { IsWrittenBy parameters.now image.now }
     requires exponents { exponents.now ≡ exponents_for image.now parameters.now }
     requires number { number < tile_count (siz_of image.now parameters.now) }
+    requires bands { bands.items ≡ written_bands image.now parameters.now number }
     // Which bytes.
     ensures exact { IfOk result (λ v. v.items ≡ tile_text image.now parameters.now number) }
     // They decode to the samples of the image.
@@ -98,7 +99,7 @@ pub fn encode_tile(
 {
     let coding = coding_of(image, parameters, exponents);
     let rect = tile(&siz_of(image, parameters), number);
-    let tables = code_tile(alloc, image, parameters, &coding, number, &rect)?;
+    let tables = code_tile(alloc, image, parameters, &coding, number, &rect, bands)?;
     let shape = TileShape {
         rect,
         layers: parameters.layers,

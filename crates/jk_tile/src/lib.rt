@@ -24,4 +24,5 @@ pub use encoding::encode_tile;
 pub use filling::put;
 pub use needs::exponents;
 pub use samples::level_shift;
+pub use subbands::tile_bands;
 pub use tile::decode_tile;

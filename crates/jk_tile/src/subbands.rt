@@ -1,22 +1,27 @@
 //! The sub-bands of a tile that is written (T.800 F.4).
 
-ghost use Rattle.std.specs.Prelude.{◌≡◌, ℕ, ◌≤◌, true, length, map, IfOk, IfErr};
+ghost use Rattle.std.specs.Prelude.{◌≡◌, ℕ, ◌<◌, ◌≤◌, true, length, map, IfOk, IfErr};
 ghost use Rattle.std.specs.List.{range_with_len};
 ghost use Rattle.jk_math.specs.Memory.{IsMemory};
 ghost use Rattle.jk_math.specs.Picture.{IsPicture};
+ghost use Rattle.jk_marks.specs.Siz.{tile_count};
+ghost use Rattle.jk_params.specs.Profile.{siz_of, IsWrittenBy};
 ghost use Rattle.jk_wave.specs.Analysis.{analysed_bands};
 ghost use Rattle.jk_geom.specs.Rectangles.{IsArea};
 ghost use Rattle.jk_tile.specs.Filling.{IsPartOf};
 ghost use Rattle.jk_tile.specs.Forward.{picture_area, tile_value};
+ghost use Rattle.jk_tile.specs.Needs.{written_bands};
 
 use crate::values::tile_values;
+use jk_geom::tile;
 use jk_math::{Fault, Image, Planes, Rect};
+use jk_params::{Parameters, siz_of};
 use jk_wave::analyse;
 use std::alloc::Global;
 use std::mem;
 
 /// The sub-bands of each component of a tile on this rectangle, in the order of QCD, each row by row.
-pub(crate) fn tile_bands(
+fn bands_on(
     alloc: Global,
     image: &Image,
     levels: u8,
@@ -40,4 +45,21 @@ pub(crate) fn tile_bands(
         all.push(bands.bands)?;
     }
     Ok(all)
+}
+
+/// The sub-bands of each component of tile `number`, in the order of QCD, each row by row: its samples through the component
+/// and wavelet transforms (T.800 G.1, G.2, F.4).
+pub fn tile_bands(
+    alloc: Global,
+    image: &Image,
+    parameters: &Parameters,
+    number: u32,
+) -> Result<Vec<Planes>, Fault>
+    requires written { IsWrittenBy parameters.now image.now }
+    requires number { number < tile_count (siz_of image.now parameters.now) }
+    ensures bands { IfOk result (λ v. v.items ≡ written_bands image.now parameters.now number) }
+    ensures memory { IfErr result IsMemory }
+{
+    let rect = tile(&siz_of(image, parameters), number);
+    bands_on(alloc, image, parameters.levels, parameters.colour, &rect)
 }

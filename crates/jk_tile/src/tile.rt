@@ -112,12 +112,12 @@ pub fn decode_tile(
     number: usize,
     packets: &TilePackets,
     reduce: u8,
-) -> Result<Planes, Fault>
+) -> Result<Vec<Vec<i32>>, Fault>
     requires sound { AreHeaders (length bytes.now) headers.now }
     requires number { number < tile_count headers.now.siz }
     requires packets { AllByRecursion (λ w. place_end w ≤ length bytes.now) packets.now }
     requires levels { AllByRecursion (λ k. reduce ≤ k.levels) (tile_in headers.now.tiles number).codings }
-    ensures exact { Answers (λ p. p) result (tile_planes_at bytes.now headers.now number reduce packets.now) }
+    ensures exact { Answers (λ v. lists_of v.items) result (tile_planes_at bytes.now headers.now number reduce packets.now) }
 {
     let packets = packets.as_slice();
     let mut values = read_components(alloc, headers, bytes, number, packets, reduce)?;
@@ -125,5 +125,5 @@ pub fn decode_tile(
         uncolour(alloc, &mut values);
     }
     all_to_samples(headers.siz(), &mut values);
-    Ok(Planes::new(values))
+    Ok(values)
 }

@@ -90,4 +90,4 @@ returns c =
           samples_coloured bytes h t c.args.reduce h.siz.components places (lists_of c.if-cod.values.items) (colour ∙ w.if-cod.true) (ap (λ vs. lists_of vs.items) w.values-is ∙ is)
       | else-cod w ↦ samples_plain bytes h t c.args.reduce h.siz.components places (lists_of c.if-cod.values.items) (colour ∙ w.if-cod.false) (ap (λ vs. lists_of vs.items) w.values-is ∙ fine.0)
     ] in
-    record { exact = there ∙ ap Ok (sym (c.new.ensures ∙ c.all_to_samples.ensures ∙ siz ∙ made)) }
+    record { exact = there ∙ ap Ok (sym (c.all_to_samples.ensures ∙ siz ∙ made)) }

@@ -3,7 +3,7 @@ use Rattle.std.specs.List.{range_with_len}
 use Rattle.jk_wave.specs.Analysis.{analysed_bands}
 use Rattle.jk_tile.specs.Forward.{tile_value, value_lists}
 use Rattle.jk_tile.specs.Gathered.{list_at}
-use Rattle.jk_tile.proofs.subbands.tile_bands.Given as goal
+use Rattle.jk_tile.proofs.subbands.bands_on.Given as goal
 
 abbrev pub invariant-loop-c : goal.invariant-loop-c
 invariant-loop-c l = record {

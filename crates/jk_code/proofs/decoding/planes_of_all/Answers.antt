@@ -10,7 +10,7 @@ use Rattle.jk_tile.proofs.Laws.{each_none, each_more, each_fails, refuses_on, te
 use Rattle.jk_code.specs.MeaningReading.{places_at, planes_of_tiles}
 use Rattle.jk_code.specs.Tiles.{ShowsTileAt}
 use Rattle.jk_code.proofs.Placing.{tile_kept, planes_are, ends_of, tile_places, tile_due}
-use Rattle.jk_code.proofs.decoding.all_planes.Goals as goal
+use Rattle.jk_code.proofs.decoding.planes_of_all.Goals as goal
 
 pub loop-number-init : goal.loop-number-init
 loop-number-init c =

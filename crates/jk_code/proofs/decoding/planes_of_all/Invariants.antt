@@ -3,7 +3,7 @@ use Rattle.jk_marks.specs.Siz.{tile_count}
 use Rattle.jk_tile.proofs.Laws.{fine}
 use Rattle.jk_code.specs.MeaningReading.{tiles_tested}
 use Rattle.jk_code.specs.Tiles.{ArePlanes, ShowsTileAt}
-use Rattle.jk_code.proofs.decoding.all_planes.Given as goal
+use Rattle.jk_code.proofs.decoding.planes_of_all.Given as goal
 
 abbrev pub invariant-loop-number : goal.invariant-loop-number
 invariant-loop-number l = record {
