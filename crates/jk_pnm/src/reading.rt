@@ -21,6 +21,7 @@ fn bytes_plane(alloc: Global, raster: &[u8]) -> Result<Vec<i32>, Fault>
 }
 
 /// The samples of a component, each of one byte.
+#[inline(never)]
 fn narrow_plane(
     alloc: Global,
     raster: &[u8],
@@ -41,6 +42,7 @@ fn narrow_plane(
 }
 
 /// The samples of a component, each of two bytes.
+#[inline(never)]
 fn wide_plane(
     alloc: Global,
     raster: &[u8],

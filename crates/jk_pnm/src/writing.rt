@@ -37,6 +37,7 @@ fn put_sample(out: &mut Vec<u8>, maxval: u32, sample: i32) -> Result<(), Fault>
 }
 
 /// Appends the raster of one component.
+#[inline(never)]
 fn put_grey(out: &mut Vec<u8>, maxval: u32, samples: &[i32]) -> Result<(), Fault>
     requires samples { All (λ s. (pos 0 ≤ℤ s) × (s ≤ℤ pos maxval)) samples.now }
     requires maxval { maxval < 2 ^ 16 }
@@ -50,6 +51,7 @@ fn put_grey(out: &mut Vec<u8>, maxval: u32, samples: &[i32]) -> Result<(), Fault
 }
 
 /// Appends the raster of three components.
+#[inline(never)]
 fn put_colour(
     out: &mut Vec<u8>,
     maxval: u32,
