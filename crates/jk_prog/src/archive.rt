@@ -4,11 +4,13 @@ use crate::{files, options};
 use clap::ArgMatches;
 use jk_math::Fault;
 use jk_store::{Archive, Folder};
-use jk_web::run;
+use jk_web::{End, run};
 use std::alloc::Global;
 use std::io;
-use std::net::{Net, OpenListener, TcpListener, TcpStream};
+use std::io::Read;
+use std::net::{Net, OpenListener, Shutdown, TcpListener, TcpStream};
 use std::rt::Files;
+use std::time::Duration;
 
 /// The most reads of a connection.
 const TURNS: u64 = 65_536;
@@ -60,9 +62,34 @@ fn tell<R: Files + Eprint + Drop>(
     )
 }
 
+/// How many reads are made of what follows the last reply.
+const LAST_READS: u32 = 64;
+
+/// For how many seconds each of them waits.
+const LAST_WAIT: u64 = 1;
+
+/// Reads what follows the last reply, up to the client's end. A connection that is closed with bytes unread is reset, and the
+/// client might lose the reply.
+fn read_out(stream: &TcpStream) -> io::Result<()> {
+    let mut rest = [0u8; 4096];
+    stream.shutdown(Shutdown::Write)?;
+    stream.set_read_timeout(Some(Duration::from_secs(LAST_WAIT)))?;
+    for _ in 0..LAST_READS {
+        if (&*stream).read(&mut rest)? == 0 {
+            break;
+        }
+    }
+    Ok(())
+}
+
 /// Answers the requests of a connection. However it ends, the next one is taken.
 fn attend<R: Files + Drop>(alloc: Global, stream: &TcpStream, archive: &mut Archive<Folder<R>>) {
-    let _ = run(alloc, &mut &*stream, &mut &*stream, archive, TURNS);
+    match run(alloc, &mut &*stream, &mut &*stream, archive, TURNS) {
+        Ok(End::Bad) | Ok(End::Closed) => {
+            let _ = read_out(stream);
+        }
+        _ => {}
+    }
 }
 
 /// `jk serve DIR`: the folder, the socket, and so many connections, one after another.

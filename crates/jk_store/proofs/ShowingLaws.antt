@@ -1,9 +1,11 @@
 -- The images that entries over a shelf show.
-use Rattle.std.proofs.Common.{◌≡◌, ℕ, ◌⊎◌, inl, inr, Bool, true, false, cond, List, [], ◌∷◌, ◌++◌, Option, Some, None, Result, Ok, Err, IfOk, refl, sym, ap, subst, ◌∙◌}
+use Rattle.std.proofs.Common.{◌≡◌, ℕ, zero, suc, ◌<◌, ◌≤◌, ◌⊎◌, inl, inr, Bool, true, false, not, ◌&&◌, nat_le, cond, All, length, List, [], ◌∷◌, ◌++◌, Option, Some, None, Result, Ok, Err, IfOk, refl, sym, ap, subst, ◌∙◌, arith}
 use Rattle.std.specs.Prelude.{MatchResult, is_some}
 use Rattle.std.specs.Global.{Vec}
 use Rattle.std.specs.Option.{option_map}
-use Rattle.std.specs.List.{AllByRecursion, AllZip, flat_map}
+use Rattle.std.specs.List.{AllByRecursion, AllZip, flat_map, list_all}
+use Rattle.std.proofs.lemmas.Bool.{cases_eq, ne_eqb, and_parts}
+use Rattle.std.proofs.lemmas.List.Sums.{AllPass-from_list_all}
 use Rattle.std.specs.Str.{bytes_eq}
 use Rattle.std.specs.String.{string_bytes}
 use Rattle.std.proofs.lemmas.Slice.Eq.{bytes_eq-Decides}
@@ -13,11 +15,12 @@ use Rattle.jk_math.specs.Memory.{IsMemory}
 use Rattle.jk_window.specs.Cutting.{cut_file}
 use Rattle.jk_window.specs.Indexing.{IsIndexOf}
 use Rattle.jk_web.specs.declared.query.Asked.{Asked}
-use Rattle.jk_web.specs.Images.{Image, image_of, IsFileOf, IsCutOf, HasNoCut, MayRefuse}
+use Rattle.jk_web.specs.Places.{is_segment_byte, IsSegment}
+use Rattle.jk_web.specs.Images.{Image, names_of, image_of, IsFileOf, IsCutOf, HasNoCut, MayRefuse}
 use Rattle.jk_store.specs.declared.entry.Entry.{Entry}
 use Rattle.jk_store.specs.Files.{Files}
-use Rattle.jk_store.specs.Names.{file_name}
-use Rattle.jk_store.specs.Catalogue.{entry_of, IsOtherFile, WasForeign, IsWindowGiven, Passes}
+use Rattle.jk_store.specs.Names.{file_name, is_name_byte, is_good_name}
+use Rattle.jk_store.specs.Catalogue.{StandIn, is_listed, are_named, entry_of, IsOtherFile, WasForeign, IsWindowGiven, Passes}
 use Rattle.jk_store.specs.Showing.{line_of, view_of, given_of, ShowsImage, Stands, Broke}
 use Rattle.jk_store.proofs.AddLaws.{differs}
 
@@ -206,3 +209,60 @@ module _ {S : Type 0} (keeps : S → Files → Type 0) (gave : S → List ℕ �
       other (inl memory) s = subst IsMemory s memory
       other (inr (inl bad)) s = let clash = sym bad ∙ s in cc
       other (inr (inr changed)) s = let clash = sym changed ∙ s in cc
+
+-- ---- the images of entries
+
+-- a byte of a good name is one of a segment
+name_byte : (b : ℕ) → is_name_byte b ≡ true → is_segment_byte b ≡ true
+name_byte b good = elim (cases_eq b 47) [
+  | inl same ↦ absurd (let slash = ap is_name_byte (sym same) ∙ good in cc)
+  | inr other ↦ ap not (ne_eqb b 47 other)
+]
+
+segment_bytes : (name : List ℕ) → list_all is_name_byte name ≡ true → list_all is_segment_byte name ≡ true
+segment_bytes [] good = refl
+segment_bytes (b ∷ name) good =
+    let parts = and_parts (is_name_byte b) (list_all is_name_byte name) good in
+    ap (λ t. t && list_all is_segment_byte name) (name_byte b parts.0) ∙ segment_bytes name parts.1
+
+-- Images of which the files are those of entries, in their order.
+record AreShown (files : Files) (entries : List Entry) (images : List Image) : Type 0 where
+  shows : AllZip ShowsImage entries images
+  each : AllByRecursion (λ (i : Image). files (file_name i.name) ≡ Some i.file) images
+  segments : AllByRecursion (λ (i : Image). IsSegment i.name) images
+
+abbrev image_for : (e : Entry) (file : List ℕ) → IsIndexOf file e.index → Image
+image_for e file is = record { name = string_bytes e.name; line = line_of e; file = file; cut = λ asked. given_of (cut_file is (view_of asked)) }
+
+shown_of : (files : Files) (entries : List Entry) → StandIn files entries → are_named entries ≡ true → (images : List Image) × AreShown files entries images
+shown_of files [] stand named = ([], record { shows = tt; each = tt; segments = tt })
+shown_of files (e ∷ entries) stand named =
+    let own = string_bytes e.name in
+    let last = and_parts (is_good_name own && not (is_listed entries own)) (are_named entries) named in
+    let good = and_parts (is_good_name own) (not (is_listed entries own)) last.0 in
+    let bytes = and_parts (nat_le 1 (length own) && nat_le (length own) 64) (list_all is_name_byte own) good.0 in
+    let more = shown_of files entries stand.1 last.1 in
+    let file = stand.0.0 in
+    let is = stand.0.2 in (
+      image_for e file is.indexes ∷ more.0,
+      record {
+        shows = (record { name = refl; line = refl; digest = is.digest; index = is.indexes; cut = λ asked. refl }, more.1.shows);
+        each = (stand.0.1, more.1.each);
+        segments = (AllPass-from_list_all is_segment_byte own (segment_bytes own bytes.1), more.1.segments);
+      },
+    )
+
+segments_of : (images : List Image) → AllByRecursion (λ (i : Image). IsSegment i.name) images → All IsSegment (names_of images)
+segments_of [] each k d lt = absurd (omega (arith, lt))
+segments_of (i ∷ images) each zero d lt = each.0
+segments_of (i ∷ images) each (suc k) d lt = segments_of images each.1 k d (omega (arith, lt))
+
+-- What stands in files is shown.
+pub stands_shown : {S : Type 0} (keeps : S → Files → Type 0) (shelf : S) (files : Files) (entries : List Entry) → keeps shelf files → StandIn files entries → are_named entries ≡ true
+    → (images : List Image) × Stands keeps entries shelf images × All IsSegment (names_of images)
+stands_shown keeps shelf files entries kept stand named =
+    let all = shown_of files entries stand named in (
+      all.0,
+      record { shows = all.1.shows; kept = record { files = files; keeps_files = kept; each = all.1.each } },
+      segments_of all.0 all.1.segments,
+    )

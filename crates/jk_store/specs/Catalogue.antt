@@ -60,6 +60,7 @@ pub record StandsFor (e : Entry) (s : Stored) : Type 0 where
   pub name : string_bytes e.name ≡ s.name
   pub digest : e.digest ≡ sha256 s.file
   pub index : image_at s.file ≡ Ok e.index
+  pub indexes : IsIndexOf s.file e.index
 
 -- Each entry stands for the file that has its name among these.
 abbrev pub StandIn : Files → List Entry → Type 0

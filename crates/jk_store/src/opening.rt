@@ -1,6 +1,6 @@
 //! Opening an archive.
 
-ghost use Rattle.std.specs.Prelude.{◌≡◌, ◌≤◌, ◌⊎◌, ℕ, List, map, length, true, false, Some, Ok, Err, IfOk, IfErr, OnOk};
+ghost use Rattle.std.specs.Prelude.{◌≡◌, ◌≤◌, ◌⊎◌, ℕ, List, map, length, true, false, Some, Ok, Err, All, IfOk, IfErr, OnOk};
 ghost use Rattle.std.specs.Arc.{arc_value};
 ghost use Rattle.std.specs.String.{string_bytes};
 ghost use Rattle.std.specs.BTreeSet.{keys};
@@ -10,10 +10,13 @@ ghost use Rattle.std.specs.List.Sorted.{IsStrictlySortedBy};
 ghost use Rattle.jk_math.specs.Answer.{Answers};
 ghost use Rattle.jk_math.specs.Memory.{IsMemory};
 ghost use Rattle.jk_math.specs.declared.fault.Fault.TheVariants.{Limit, Shelf as ShelfFault};
-ghost use Rattle.jk_window.specs.Indexing.{IndexFields};
+ghost use Rattle.jk_window.specs.Indexing.{IndexFields, IsIndexOf};
+ghost use Rattle.jk_web.specs.Images.{Image, names_of};
+ghost use Rattle.jk_web.specs.Places.{IsSegment};
 ghost use Rattle.jk_store.specs.Files.{Files, AreIn};
 ghost use Rattle.jk_store.specs.Names.{file_name, is_good_name};
 ghost use Rattle.jk_store.specs.Catalogue.{entry_of, image_at, most_entries, StandsFor, StandIn, stored, Passes};
+ghost use Rattle.jk_store.specs.Showing.{Stands};
 ghost use Rattle.jk_store.specs.Opening.{IsLookedOf, Gives, Enters, Opened, ReadsPast, ReadsUpTo, OpensAs, OpensPast, OpensUpTo};
 ghost use Rattle.jk_store.specs.declared.entry.Entry.{Entry as EntryFields};
 
@@ -51,7 +54,8 @@ fn is_memory(fault: &Fault) -> bool
 /// BadBox: it is a bare codestream. Otherwise as `jk_window::index`.
 #[tactic(auto, unfolding(crate::specs::Catalogue::image_at))]
 pub(crate) fn image_index(alloc: Global, bytes: &[u8]) -> Result<Index, Fault>
-    ensures { Answers (λ i. i) result (image_at bytes.now) }
+    ensures exact { Answers (λ i. i) result (image_at bytes.now) }
+    ensures found { IfOk result (λ i. IsIndexOf bytes.now i) }
 {
     let index = index(alloc, bytes)?;
     let place = open(bytes)?;
@@ -162,6 +166,9 @@ impl<S: Shelf + Drop> Archive<S> {
         ensures kept { (files : Files) → S.keeps shelf files → IfOk result (λ a. S.keeps a.shelf files) }
         ensures stands { (files : Files) → S.keeps shelf files
             → IfOk result (λ a. (all : Files) × S.keeps a.shelf all × AreIn files all × StandIn all (map arc_value a.entries.items)) }
+        // A server shows its entries: they stand for images, whose names are segments of a path.
+        ensures shown { (files : Files) → S.keeps shelf files
+            → IfOk result (λ a. (images : List Image) × Stands S.keeps (map arc_value a.entries.items) a.shelf images × All IsSegment (names_of images)) }
         ensures err { IfErr result (λ e. IsMemory e ⊎ ((e ≡ ShelfFault) × OpensUpTo S.lists S.unlisted S.gave S.unread shelf) ⊎ ((e ≡ Limit) × OpensPast S.lists S.gave shelf)) }
         ensures counts { IfOk result (λ a. S.failed a.shelf ≡ S.failed shelf) }
     {

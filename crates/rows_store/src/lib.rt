@@ -14,6 +14,8 @@ mod failing;
 #[cfg(test)]
 mod limits;
 #[cfg(test)]
+mod loopback;
+#[cfg(test)]
 mod opening;
 #[cfg(test)]
 mod reading;

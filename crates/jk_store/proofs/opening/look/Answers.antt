@@ -9,5 +9,15 @@ returns-clause-given g c =
     let read = c.in_ok-bytes.ensures in
     let name = c.as_str.ensures.value ∙ c.in_ok-file.ensures.ok in
     let given = gives g.S.Shelf.keeps g.S.Shelf.gave c.args.shelf.now c.read.new.self c.as_str.result.now _ c.in_ok-bytes.bytes.items name read.given read.same read.kept read.held in
-    let fault = due_fault c.in-Err.fault (image_at c.deref.result.now) c.in-Err.ensures (c.is_memory.ensures.no c.if-is_memory.false) in
+    let fault = due_fault c.in-Err.fault (image_at c.deref.result.now) c.in-Err.ensures.exact (c.is_memory.ensures.no c.if-is_memory.false) in
     (c.in_ok-bytes.bytes.items, given, record { name = c.in_ok-name.ensures.ok; fault = rw c.deref.ensures.value at fault })
+
+pub returns-in-Ok-clause-given : goal.returns-in-Ok-clause-given
+returns-in-Ok-clause-given g c =
+    let read = c.in_ok-bytes.ensures in
+    let name = c.as_str.ensures.value ∙ c.in_ok-file.ensures.ok in
+    let given = gives g.S.Shelf.keeps g.S.Shelf.gave c.args.shelf.now c.read.new.self c.as_str.result.now _ c.in_ok-bytes.bytes.items name read.given read.same read.kept read.held in
+    let digest = c.digest.ensures in
+    let index = rw c.deref.ensures.value at c.in-Ok.ensures.exact in
+    let indexes = rw c.deref.ensures.value at c.in-Ok.ensures.found in
+    (c.in_ok-bytes.bytes.items, given, record { name = c.in_ok-name.ensures.ok; digest = digest; index = index; indexes = indexes })

@@ -5,6 +5,7 @@ use Rattle.std.specs.String.{string_bytes}
 use Rattle.jk_store.specs.Names.{file_name}
 use Rattle.jk_store.specs.Opening.{Gives}
 use Rattle.jk_store.proofs.OpenLaws.{names_are, opened_as, past_as, named, good_image, image_listed, found, opened_keeps, opened_stands, up_to_as, fault_is}
+use Rattle.jk_store.proofs.ShowingLaws.{stands_shown}
 use Rattle.jk_store.proofs.archive.Archive.open.Goals as goal
 
 pub returns-in_err-images-clause-err : goal.returns-in_err-images-clause-err
@@ -91,3 +92,15 @@ returns-clause-stands g c = λ files kept.
     let images = c.in_ok-images.images in
     opened_stands g.S.Shelf.keeps g.S.Shelf.gave (map string_bytes (keys c.in_ok-names.names)) files c.list.new.self (map arc_value images.entries.items) images.skipped.items
     c.read_images.new.shelf c.in_ok-images.ensures.opened (c.in_ok-files.ensures.kept files kept)
+
+pub returns-clause-shown : goal.returns-clause-shown
+returns-clause-shown g c = λ files kept.
+    let images = c.in_ok-images.images in
+    let listed = c.in_ok-files.files.items in
+    let names = c.in_ok-names.names in
+    let ordered = c.in_ok-images.ensures.ordered in
+    let are = names_are listed names ordered (rw c.deref.ensures.value at c.in_ok-names.ensures.ok) in
+    let all = named (Gives g.S.Shelf.keeps g.S.Shelf.gave) (map string_bytes (keys names)) c.list.new.self (map arc_value images.entries.items) images.skipped.items c.read_images.new.shelf
+    c.in_ok-images.ensures.opened ordered (λ m among. good_image m (map string_bytes listed) (sym (are.all m) ∙ among)) in
+    let stands = returns-clause-stands g c files kept in
+    stands_shown g.S.Shelf.keeps c.read_images.new.shelf stands.0 (map arc_value images.entries.items) stands.1 stands.3 all
