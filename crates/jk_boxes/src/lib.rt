@@ -2,8 +2,10 @@
 #![tactic(auto)]
 
 mod boxes;
+mod closing;
 mod place;
 mod writing;
 
+pub use closing::close_codestream;
 pub use place::{Boxed, open};
 pub use writing::{replace_codestream, wrap};

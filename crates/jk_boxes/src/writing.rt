@@ -31,7 +31,7 @@ fn put_four(out: &mut Vec<u8>, value: u32) -> Result<(), Fault>
 }
 
 /// Appends the head of a box of `size` bytes.
-fn put_head(out: &mut Vec<u8>, form: Form, kind: u32, size: usize) -> Result<(), Fault>
+pub(crate) fn put_head(out: &mut Vec<u8>, form: Form, kind: u32, size: usize) -> Result<(), Fault>
     requires { FitsForm form size }
     ensures ok { OnOk result (out.new.items ≡ out.old.items ++ head_text form kind size) }
     ensures err { IfErr result (λ e. IsMemory e) }
@@ -178,7 +178,7 @@ pub fn wrap(alloc: Global, image: &Image, codestream: &[u8]) -> Result<Vec<u8>, 
 }
 
 /// Whether a box of this length may have this form.
-fn fits(form: Form, size: usize) -> bool
+pub(crate) fn fits(form: Form, size: usize) -> bool
     ensures value { result ≡ fits_form form size }
     ensures form { result ≡ true → FitsForm form size }
 {

@@ -5,6 +5,7 @@ pub mod Turns
 pub mod Runs
 pub mod FoundLaws
 pub mod OnlyLaws
+pub mod SpanLaws
 pub mod WalkSteps
 pub mod Walking
 pub mod TileFacts

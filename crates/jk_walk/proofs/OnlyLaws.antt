@@ -20,7 +20,7 @@ use Rattle.jk_packet.proofs.Laws.{header_some, header_keeps, precinct_only, fres
 use Rattle.jk_params.specs.Headers.{Headers, tile_in, AreHeaders}
 use Rattle.jk_walk.specs.declared.places.PacketPlace.{PacketPlace}
 use Rattle.jk_walk.specs.TilePackets.{slice_of, shape_in, Packet, IsPacket, of_precinct, IsToldPrecinct}
-use Rattle.jk_walk.specs.WalkReading.{bodies_length, place_end, States, blank_states, with_state, place_of, packet_at, names_at, packets_at, bodies_at, IsPlaced, AreLaid, AreTilePackets}
+use Rattle.jk_walk.specs.WalkReading.{bodies_length, place_end, States, blank_states, with_state, place_of, packet_at, names_at, packets_at, bodies_at, IsPlaced, span_of, AreLaid, AreTilePackets}
 use Rattle.jk_walk.proofs.Slices.{slice_join, slice_front, slice_length, body_bytes, body_part, bodies_size, bodies_are}
 use Rattle.jk_walk.proofs.Turns.{AreTurns, counts_of, next_counts, order_turns, its_precinct, is_own}
 use Rattle.jk_walk.proofs.Runs.{IsCut, AreParts, begun_parts, none_begun, some_begun}
@@ -149,7 +149,7 @@ pub record Again (bytes : List ℕ) (packets : List Packet) (states : States) (p
   pub places : List PacketPlace
   pub is : names_at bytes (map packet_name packets) states parts ≡ Ok places
   pub placed : AllZip (IsPlaced bytes) packets places
-  pub laid : AreLaid places parts
+  pub laid : AreLaid (map span_of places) parts
 
 -- what is ahead of each precinct
 abbrev AllAhead : TileShape → (sop eph : Bool) → List Packet → States → Type 0
@@ -215,7 +215,7 @@ told_ahead shapes sop eph packets x told stands a b = record { trees = told.tree
 
 -- The packets of a tile are read, each at its place, one after another in its parts.
 pub packets_laid : (bytes : List ℕ) (h : Headers) (t : ℕ) (packets : List Packet) → AreHeaders (length bytes) h → t < tile_count h.siz → AreTilePackets bytes h t packets
-    → (places : List PacketPlace) × (packets_at bytes h t ≡ Ok places) × AllZip (IsPlaced bytes) packets places × AreLaid places (tile_in h.tiles t).data_places
+    → (places : List PacketPlace) × (packets_at bytes h t ≡ Ok places) × AllZip (IsPlaced bytes) packets places × AreLaid (map span_of places) (tile_in h.tiles t).data_places
 unfolding packets_at
 packets_laid bytes h t packets are less tile =
     let f = tile_in h.tiles t in

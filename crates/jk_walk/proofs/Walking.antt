@@ -1,5 +1,5 @@
 -- The walk over the packets of a tile, after some of them.
-use Rattle.std.proofs.Common.{◌≡◌, ℕ, ◌+◌, ◌-◌, ◌*◌, ◌≤◌, inl, inr, Bool, true, false, not, eqb, nat_lt, List, [], ◌∷◌, ◌++◌, length, drop, Some, None, Result, Ok, Err, slice_get, get_or, replicate, cond, refl, sym, ap, ◌∙◌, subst, arith, append_assoc, append-nil}
+use Rattle.std.proofs.Common.{◌≡◌, ℕ, ◌+◌, ◌-◌, ◌*◌, ◌<◌, ◌≤◌, inl, inr, Bool, true, false, not, eqb, nat_lt, List, [], ◌∷◌, ◌++◌, length, drop, Some, None, Result, Ok, Err, slice_get, get_or, replicate, cond, refl, sym, ap, ◌∙◌, subst, arith, append_assoc, append-nil}
 use Rattle.std.specs.Prelude.{slice_index_or}
 use Rattle.std.proofs.lemmas.Bool.{cases_lt, ne_eqb}
 use Rattle.std.proofs.lemmas.List.{nil_from_length, length-replicate, get_or-replicate, get_or_past}
@@ -17,7 +17,7 @@ use Rattle.jk_packet.proofs.Laws.{header_keeps}
 use Rattle.jk_walk.specs.declared.places.PacketPlace.{PacketPlace}
 use Rattle.jk_walk.specs.WalkReading.{States, blank_states, with_state, begun, place_end, place_of, packet_at, names_at}
 use Rattle.jk_walk.specs.TilePackets.{slice_of}
-use Rattle.jk_walk.specs.Keeping.{Kept, most_resolutions, row_of, states_in, Shows, IsKept}
+use Rattle.jk_walk.specs.Keeping.{Kept, Slot, most_resolutions, row_of, seen, states_in, Shows, IsKept}
 use Rattle.jk_walk.proofs.Turns.{AreTurns, counts_of, next_counts, order_turns, its_precinct, at_own}
 use Rattle.jk_walk.proofs.Runs.{AreParts, begun_later, begun_parts}
 use Rattle.jk_walk.proofs.FoundLaws.{names_from, names-nil, names-cons}
@@ -79,7 +79,7 @@ none_is (y ∷ xs) e = absurd cc
 -- ---- the walk
 
 -- no precincts
-abbrev pub no_row : List PrecinctState
+abbrev pub no_row : List Slot
 no_row = []
 
 row_blank : (n i : ℕ) → get_or (replicate n (no_row)) i no_row ≡ no_row
@@ -97,7 +97,7 @@ walk_starts bytes s sop eph parts packets kept all follow blank = record {
   follow = follow;
   count = length_of s (order s) (order_is s);
   turns = order_turns s;
-  shows = λ c r k is. sym (ap (λ (p : Kept). states_in s p c r k) blank ∙ ap (λ (ps : List PrecinctState). slice_index_or ps k (blank_states s sop eph c r k)) (row_blank (length s.codings * most_resolutions) (row_of c r)));
+  shows = λ c r k is early. sym (ap (λ (p : Kept). states_in s p c r k) blank ∙ ap (λ (ps : List Slot). seen (blank_states s sop eph c r) ps k) (row_blank (length s.codings * most_resolutions) (row_of c r)));
   same_sop = ap (λ (p : Kept). p.sop) blank;
   same_eph = ap (λ (p : Kept). p.eph) blank;
   rows = ap (λ (p : Kept). length p.precincts) blank ∙ length-replicate (length s.codings * most_resolutions) no_row;
@@ -112,11 +112,21 @@ pub record IsNext (s : TileShape) (kept : Kept) (n : PacketName) : Type 0 where
   pub name : IsName s n
   pub turn : n.layer ≡ (states_in s kept n.component n.resolution n.precinct).layers
 
+-- the state of its precinct is kept, since a layer is left of it
+next_shown : (bytes : List ℕ) (s : TileShape) (sop eph : Bool) (all : List (ℕ × ℕ)) (packets : Walk) (kept : Kept) (left : List (ℕ × ℕ)) (places : List PacketPlace) (more : ℕ) (n : PacketName)
+    → (w : IsWalking bytes s sop eph all packets kept left places more) → Some n ≡ slice_get w.names 0
+    → IsName s n × (n.layer ≡ (w.states n.component n.resolution n.precinct).layers) × (w.states n.component n.resolution n.precinct ≡ states_in s kept n.component n.resolution n.precinct)
+next_shown bytes s sop eph all packets kept left places more n w first =
+    let turns = subst (AreTurns s (counts_of w.states)) (first_is w.names n first) w.turns in
+    let turn = turns.1 in
+    let layer = turns.0.layer in
+    (turns.0, turns.1, w.shows n.component n.resolution n.precinct (its_precinct s n turns.0) (omega (arith, turn, layer)))
+
 pub walk_next : (bytes : List ℕ) (s : TileShape) (sop eph : Bool) (all : List (ℕ × ℕ)) (packets : Walk) (kept : Kept) (left : List (ℕ × ℕ)) (places : List PacketPlace) (more : ℕ) (n : PacketName)
     → (w : IsWalking bytes s sop eph all packets kept left places more) → Some n ≡ slice_get w.names 0 → IsNext s kept n
 walk_next bytes s sop eph all packets kept left places more n w first =
-    let turns = subst (AreTurns s (counts_of w.states)) (first_is w.names n first) w.turns in
-    record { name = turns.0; turn = turns.1 ∙ ap (λ (x : PrecinctState). x.layers) (w.shows n.component n.resolution n.precinct (its_precinct s n turns.0)) }
+    let shown = next_shown bytes s sop eph all packets kept left places more n w first in
+    record { name = shown.0; turn = shown.1 ∙ ap (λ (x : PrecinctState). x.layers) shown.2 }
 
 -- No part has bytes left.
 pub walk_missing : (bytes : List ℕ) (s : TileShape) (sop eph : Bool) (all : List (ℕ × ℕ)) (packets : Walk) (kept : Kept) (left : List (ℕ × ℕ)) (places : List PacketPlace) (more : ℕ) (n : PacketName)
@@ -140,7 +150,7 @@ walk_from : (bytes : List ℕ) (s : TileShape) (sop eph : Bool) (all : List (ℕ
 walk_from bytes s sop eph all packets kept left places more n part w first hand =
     let names = drop 1 w.names in
     let later = drop 1 (begun left) in
-    let own = w.shows n.component n.resolution n.precinct (its_precinct s n (subst (AreTurns s (counts_of w.states)) (first_is w.names n first) w.turns).0) in
+    let own = (next_shown bytes s sop eph all packets kept left places more n w first).2 in
     w.goes
     ∙ ap (λ (ns : List PacketName). names_at bytes ns w.states left >>= λ ws. Ok (places ++ ws)) (first_is w.names n first)
     ∙ ap (λ (r : Result (List PacketPlace) Fault). r >>= λ ws. Ok (places ++ ws)) (names-cons bytes n names w.states left ∙ ap (names_from bytes n names w.states) (first_is (begun left) part hand))
@@ -160,29 +170,44 @@ walk_refused bytes s sop eph all packets kept left places more n part e w first 
     subst (λ (r : Result (List PacketPlace) Fault). Refuses e r) (sym (walk_from bytes s sop eph all packets kept left places more n part w first hand))
     (refused_step e (packet_at bytes part n (states_in s kept n.component n.resolution n.precinct)) _ h)
 
+-- A packet was read, whose precinct is kept up to its last layer.
+pub record IsRead (s : TileShape) (n : PacketName) (old new : Kept) (x : PrecinctState) : Type 0 where
+  pub early : n.layer + 1 < s.layers → states_in s new n.component n.resolution n.precinct ≡ x
+  pub others : (c r k : ℕ) → IsPrecinct s c r k → is_of c r k n ≡ false → states_in s new c r k ≡ states_in s old c r k
+  pub same : IsKept old new
+
+-- the precinct of a packet that was read is left
+pub read_left : (s : TileShape) (n : PacketName) (old mid new : Kept) → IsKept old mid → IsKept mid new
+    → ((c r k : ℕ) → IsPrecinct s c r k → is_of c r k n ≡ false → states_in s mid c r k ≡ states_in s old c r k)
+    → (n.layer + 1 < s.layers → states_in s new n.component n.resolution n.precinct ≡ states_in s mid n.component n.resolution n.precinct)
+    → ((c r k : ℕ) → IsPrecinct s c r k → is_of c r k n ≡ false → states_in s new c r k ≡ states_in s mid c r k)
+    → IsRead s n old new (states_in s mid n.component n.resolution n.precinct)
+read_left s n old mid new one two others early later = record {
+  early = early;
+  others = λ c r k is e. later c r k is e ∙ others c r k is e;
+  same = record { sop = two.sop ∙ one.sop; eph = two.eph ∙ one.eph; rows = two.rows ∙ one.rows };
+}
+
 -- what the states show once a packet was read
-shows_more : (s : TileShape) (kept kept' : Kept) (states : States) (n : PacketName) → Shows s kept states
-    → ((c r k : ℕ) → IsPrecinct s c r k → is_of c r k n ≡ false → states_in s kept' c r k ≡ states_in s kept c r k)
-    → Shows s kept' (with_state states n (states_in s kept' n.component n.resolution n.precinct))
-shows_more s kept kept' states n shows others c r k is = by (is_of c r k n) refl
+shows_more : (s : TileShape) (kept kept' : Kept) (states : States) (n : PacketName) (x : PrecinctState) → Shows s kept states → x.layers ≡ n.layer + 1 → IsRead s n kept kept' x → Shows s kept' (with_state states n x)
+shows_more s kept kept' states n x shows count read c r k is = by (is_of c r k n) refl
   where
-    by : (t : Bool) → is_of c r k n ≡ t → cond t (states_in s kept' n.component n.resolution n.precinct) (states c r k) ≡ states_in s kept' c r k
-    by true e = at_own (states_in s kept') c r k n e
-    by false e = shows c r k is ∙ sym (others c r k is e)
+    by : (t : Bool) → is_of c r k n ≡ t → (cond t x (states c r k)).layers < s.layers → cond t x (states c r k) ≡ states_in s kept' c r k
+    by true e less = sym (read.early (omega (arith, less, count))) ∙ at_own (states_in s kept') c r k n e
+    by false e less = shows c r k is less ∙ sym (read.others c r k is e)
 
 -- The packet is read.
-pub walk_more : (bytes : List ℕ) (s : TileShape) (sop eph : Bool) (all : List (ℕ × ℕ)) (packets packets' : Walk) (kept kept' : Kept) (left : List (ℕ × ℕ)) (places : List PacketPlace) (more : ℕ) (n : PacketName) (part : ℕ × ℕ) (place : PacketPlace)
+pub walk_more : (bytes : List ℕ) (s : TileShape) (sop eph : Bool) (all : List (ℕ × ℕ)) (packets packets' : Walk) (kept kept' : Kept) (left : List (ℕ × ℕ)) (places : List PacketPlace) (more : ℕ) (n : PacketName) (part : ℕ × ℕ) (place : PacketPlace) (x : PrecinctState)
     → (w : IsWalking bytes s sop eph all packets kept left places more) → Some n ≡ slice_get w.names 0 → Left packets' (drop 1 w.names) → Some part ≡ slice_get (begun left) 0
-    → packet_at bytes part n (states_in s kept n.component n.resolution n.precinct) ≡ Ok (place, states_in s kept' n.component n.resolution n.precinct)
-    → ((c r k : ℕ) → IsPrecinct s c r k → is_of c r k n ≡ false → states_in s kept' c r k ≡ states_in s kept c r k)
-    → IsKept kept kept' → place_end place ≤ part.1
+    → packet_at bytes part n (states_in s kept n.component n.resolution n.precinct) ≡ Ok (place, x) → IsRead s n kept kept' x → place_end place ≤ part.1
     → IsWalking bytes s sop eph all packets' kept' ((place_end place, part.1) ∷ drop 1 (begun left)) (places ++ place ∷ []) (more - 1)
-walk_more bytes s sop eph all packets packets' kept kept' left places more n part place w first follow hand read others same fits =
+walk_more bytes s sop eph all packets packets' kept kept' left places more n part place x w first follow hand read after fits =
     let split = first_is w.names n first in
-    let x = states_in s kept' n.component n.resolution n.precinct in
     let turns = subst (AreTurns s (counts_of w.states)) split w.turns in
-    let own = w.shows n.component n.resolution n.precinct (its_precinct s n turns.0) in
-    let counted = packet_keeps bytes part n (states_in s kept n.component n.resolution n.precinct) (place, x) read ∙ ap (λ (y : PrecinctState). y.layers + 1) (sym own) in
+    let shown = next_shown bytes s sop eph all packets kept left places more n w first in
+    let keeps = packet_keeps bytes part n (states_in s kept n.component n.resolution n.precinct) (place, x) read in
+    let counted = keeps ∙ ap (λ (y : PrecinctState). y.layers + 1) (sym shown.2) in
+    let turn = shown.1 in
     let all_parts = walk_part bytes s sop eph all packets kept left places more part w hand in
     record {
       names = drop 1 w.names;
@@ -190,10 +215,10 @@ walk_more bytes s sop eph all packets packets' kept kept' left places more n par
       follow = follow;
       count = (let e = ap length split in let long = w.count in omega (arith, e, long));
       turns = next_counts s w.states n (drop 1 w.names) x counted turns.2;
-      shows = shows_more s kept kept' w.states n w.shows others;
-      same_sop = same.sop ∙ w.same_sop;
-      same_eph = same.eph ∙ w.same_eph;
-      rows = same.rows ∙ w.rows;
+      shows = shows_more s kept kept' w.states n x w.shows (omega (arith, counted, turn)) after;
+      same_sop = after.same.sop ∙ w.same_sop;
+      same_eph = after.same.eph ∙ w.same_eph;
+      rows = after.same.rows ∙ w.rows;
       parts = ((fits, all_parts.0.1), all_parts.1);
       goes =
           walk_from bytes s sop eph all packets kept left places more n part w first hand

@@ -13,6 +13,7 @@ use Rattle.jk_packet.specs.Gathering.{IsPartOf}
 use Rattle.jk_packet.specs.Reading.{PrecinctState, blank_precinct, header_at}
 use Rattle.jk_params.specs.Headers.{Headers, tile_in}
 use Rattle.jk_walk.specs.declared.places.PacketPlace.{PacketPlace}
+use Rattle.jk_walk.specs.declared.spans.PacketSpan.{PacketSpan}
 use Rattle.jk_walk.specs.TilePackets.{slice_of, shape_in, Body, Packet, bands_at, IsTile}
 
 -- how many bytes the bodies of parts take
@@ -84,12 +85,30 @@ pub record IsPlaced (bytes : List ℕ) (p : Packet) (w : PacketPlace) : Type 0 w
   pub text : slice_of bytes (w.start, place_end w) ≡ p.text
   pub bodies : p.bodies ≡ bodies_at bytes w.body w.parts
 
--- The places stand one after another in what is left of parts, and leave nothing: each begins where the part in hand goes on, has
--- a byte, and ends within the part.
-abbrev pub AreLaid : List PacketPlace → List (ℕ × ℕ) → Type 0
+-- a packet without its parts: whose it is, where it begins, and where it ends
+abbrev pub span_of : PacketPlace → PacketSpan
+span_of w = record { name = w.name; start = w.start; end = place_end w }
+
+-- what is made of each place that is read
+abbrev pub each_of : {X : Type 0} → (PacketPlace → X) → Result (List PacketPlace) Fault → Result (List X) Fault
+each_of f read = read >>= λ places. Ok (map f places)
+
+-- the packets of tile t without their parts
+abbrev pub spans_at : List ℕ → Headers → ℕ → Result (List PacketSpan) Fault
+spans_at bytes h t = each_of span_of (packets_at bytes h t)
+
+-- A packet has these bytes.
+pub record IsSpanned (bytes : List ℕ) (p : Packet) (v : PacketSpan) : Type 0 where
+  pub name : v.name ≡ p.name
+  pub size : v.end ≡ v.start + length p.text
+  pub text : slice_of bytes (v.start, v.end) ≡ p.text
+
+-- Bytes of packets stand one after another in what is left of parts, and leave nothing: each begin where the part in hand goes on,
+-- have a byte, and end within the part.
+abbrev pub AreLaid : List PacketSpan → List (ℕ × ℕ) → Type 0
 AreLaid [] parts = begun parts ≡ []
-AreLaid (w ∷ places) parts =
-    (part : ℕ × ℕ) × (later : List (ℕ × ℕ)) × (begun parts ≡ part ∷ later) × (w.start ≡ part.0) × (w.start < place_end w) × (place_end w ≤ part.1) × AreLaid places ((place_end w, part.1) ∷ later)
+AreLaid (v ∷ spans) parts =
+    (part : ℕ × ℕ) × (later : List (ℕ × ℕ)) × (begun parts ≡ part ∷ later) × (v.start ≡ part.0) × (v.start < v.end) × (v.end ≤ part.1) × AreLaid spans ((v.end, part.1) ∷ later)
 
 -- the packets of tile t, in the places of its data
 abbrev pub AreTilePackets : List ℕ → Headers → ℕ → List Packet → Type 0
@@ -101,6 +120,10 @@ AreTilePackets bytes h t packets =
 abbrev pub StandAt : List ℕ → Headers → ℕ → List PacketPlace → Type 0
 StandAt bytes h t places = (packets : List Packet) × AreTilePackets bytes h t packets × AllZip (IsPlaced bytes) packets places
 
+-- The packets of tile t have these bytes.
+abbrev pub SpanAt : List ℕ → Headers → ℕ → List PacketSpan → Type 0
+SpanAt bytes h t spans = (packets : List Packet) × AreTilePackets bytes h t packets × AllZip (IsSpanned bytes) packets spans
+
 -- The place of a packet of the tile, within so many bytes: its parts are of code-blocks of its precinct.
 pub record IsPlace (size : ℕ) (s : TileShape) (w : PacketPlace) : Type 0 where
   pub name : IsName s w.name
@@ -110,3 +133,12 @@ pub record IsPlace (size : ℕ) (s : TileShape) (w : PacketPlace) : Type 0 where
 
 abbrev pub ArePlaces : (size : ℕ) → TileShape → List PacketPlace → Type 0
 ArePlaces size s places = AllByRecursion (IsPlace size s) places
+
+-- The bytes of a packet of the tile, within so many.
+pub record IsSpan (size : ℕ) (s : TileShape) (v : PacketSpan) : Type 0 where
+  pub name : IsName s v.name
+  pub order : v.start ≤ v.end
+  pub within : v.end ≤ size
+
+abbrev pub AreSpans : (size : ℕ) → TileShape → List PacketSpan → Type 0
+AreSpans size s spans = AllByRecursion (IsSpan size s) spans

@@ -6,10 +6,10 @@ ghost use Rattle.jk_math.specs.Answer.{ReadsBy};
 ghost use Rattle.jk_math.specs.Memory.{IsMemory};
 ghost use Rattle.jk_geom.specs.TileShapes.{IsTileShape};
 ghost use Rattle.jk_order.specs.PacketOrder.{IsName, IsPrecinct, is_of};
-ghost use Rattle.jk_packet.specs.Reading.{text_of, header_at};
+ghost use Rattle.jk_packet.specs.Reading.{PrecinctState, text_of, header_at};
 ghost use Rattle.jk_params.specs.Coding.{HasPlanes};
 ghost use Rattle.jk_walk.specs.WalkReading.{blank_states};
-ghost use Rattle.jk_walk.specs.Keeping.{seen, states_in};
+ghost use Rattle.jk_walk.specs.Keeping.{row_of, seen, state_of, states_in};
 
 use crate::shape::precinct_shape;
 use jk_geom::{PacketName, TileShape};
@@ -30,52 +30,76 @@ pub(crate) struct Markers {
     pub(crate) eph: bool,
 }
 
-/// A precinct of which nothing was read, by the resolution and component of a packet.
+/// What is kept of a precinct: nothing before its first packet, and nothing behind its last.
+type Slot = Option<Box<Precinct>>;
+
+/// The precinct of a packet, of which nothing was read.
 fn blank(
     alloc: Global,
     shape: &TileShape,
     markers: Markers,
     name: PacketName,
-    k: u32,
 ) -> Result<Precinct, Fault>
     requires shape { IsTileShape shape.now }
     requires planes { AllByRecursion HasPlanes shape.now.codings }
-    requires precinct { IsPrecinct shape.now name.component name.resolution k }
+    requires name { IsName shape.now name }
     ensures { MatchResult result
-        (λ p. p ≡ blank_states shape.now markers.sop markers.eph name.component name.resolution k) (λ e. IsMemory e) }
+        (λ p. p ≡ blank_states shape.now markers.sop markers.eph name.component name.resolution name.precinct) (λ e. IsMemory e) }
 {
     let coding = &shape.codings.as_slice()[name.component as usize];
     let precinct = precinct_shape(
         &shape.rect,
         coding,
         name.resolution,
-        k,
+        name.precinct,
         markers.sop,
         markers.eph,
     );
     Precinct::new(alloc, &precinct)
 }
 
-/// Makes the precincts of a resolution that aren't made yet, up to that of a packet.
-fn make_upto(
+/// Makes room for a precinct and those before it in its resolution.
+fn make_upto(slots: &mut Vec<Slot>, number: u32) -> Result<(), Fault>
+    ensures err { IfErr result (λ e. IsMemory e) }
+    ensures there { OnOk result (number < length slots.new.items) }
+    ensures same { OnOk result ((blank : ℕ → PrecinctState) (k : ℕ) → seen blank slots.new.items k ≡ seen blank slots.old.items k) }
+{
+    for _ in slots.len()..number as usize + 1 {
+        slots.push(None)?;
+    }
+    Ok(())
+}
+
+/// The precinct of a packet, which is taken out of those that are kept; a blank one where none is kept.
+fn take(
     alloc: Global,
     shape: &TileShape,
     markers: Markers,
     name: PacketName,
-    precincts: &mut Vec<Precinct>,
-) -> Result<(), Fault>
+    slots: &mut Vec<Slot>,
+) -> Result<Box<Precinct>, Fault>
     requires shape { IsTileShape shape.now }
     requires planes { AllByRecursion HasPlanes shape.now.codings }
     requires name { IsName shape.now name }
-    ensures err { IfErr result (λ e. IsMemory e) }
-    ensures there { OnOk result (name.precinct < length precincts.new.items) }
-    ensures same { OnOk result ((k : ℕ) → seen (blank_states shape.now markers.sop markers.eph name.component name.resolution) precincts.new.items k
-        ≡ seen (blank_states shape.now markers.sop markers.eph name.component name.resolution) precincts.old.items k) }
+    requires there { name.precinct < length slots.old.items }
+    ensures value { MatchResult result
+        (λ p. p.value ≡ seen (blank_states shape.now markers.sop markers.eph name.component name.resolution) slots.old.items name.precinct) (λ e. IsMemory e) }
+    ensures others { (blank : ℕ → PrecinctState) (k : ℕ) → k ≢ name.precinct → seen blank slots.new.items k ≡ seen blank slots.old.items k }
+    ensures kept { length slots.new.items ≡ length slots.old.items }
 {
-    for k in precincts.len()..name.precinct as usize + 1 {
-        precincts.push(blank(alloc, shape, markers, name, k as u32)?)?;
+    match slots[name.precinct as usize].take() {
+        Some(precinct) => Ok(precinct),
+        None => Ok(Box::new(alloc, blank(alloc, shape, markers, name)?)?),
     }
-    Ok(())
+}
+
+/// Keeps a precinct, or nothing of it.
+fn put(slots: &mut Vec<Slot>, number: u32, slot: Slot)
+    requires { number < length slots.old.items }
+    ensures own { (blank : ℕ → PrecinctState) → seen blank slots.new.items number ≡ state_of slot (blank number) }
+    ensures others { (blank : ℕ → PrecinctState) (k : ℕ) → k ≢ number → seen blank slots.new.items k ≡ seen blank slots.old.items k }
+{
+    slots[number as usize] = slot;
 }
 
 /// The header of a packet of a resolution whose precincts are these.
@@ -85,32 +109,51 @@ fn read_in(
     markers: Markers,
     name: PacketName,
     bytes: &[u8],
-    precincts: &mut Vec<Precinct>,
+    slots: &mut Vec<Slot>,
 ) -> Result<Header, Fault>
     requires shape { IsTileShape shape.now }
     requires planes { AllByRecursion HasPlanes shape.now.codings }
     requires name { IsName shape.now name }
-    requires next { name.layer ≡ (seen (blank_states shape.now markers.sop markers.eph name.component name.resolution) precincts.old.items name.precinct).layers }
+    requires next { name.layer ≡ (seen (blank_states shape.now markers.sop markers.eph name.component name.resolution) slots.old.items name.precinct).layers }
     ensures exact { ReadsBy text_of (header_at name.layer bytes.now)
-        (seen (blank_states shape.now markers.sop markers.eph name.component name.resolution) precincts.old.items name.precinct)
-        (seen (blank_states shape.now markers.sop markers.eph name.component name.resolution) precincts.new.items name.precinct) result }
+        (seen (blank_states shape.now markers.sop markers.eph name.component name.resolution) slots.old.items name.precinct)
+        (seen (blank_states shape.now markers.sop markers.eph name.component name.resolution) slots.new.items name.precinct) result }
     ensures others { OnOk result ((k : ℕ) → k ≢ name.precinct
-        → seen (blank_states shape.now markers.sop markers.eph name.component name.resolution) precincts.new.items k
-        ≡ seen (blank_states shape.now markers.sop markers.eph name.component name.resolution) precincts.old.items k) }
+        → seen (blank_states shape.now markers.sop markers.eph name.component name.resolution) slots.new.items k
+        ≡ seen (blank_states shape.now markers.sop markers.eph name.component name.resolution) slots.old.items k) }
 {
-    make_upto(alloc, shape, markers, name, precincts)?;
-    precincts[name.precinct as usize].read_header(bytes, name.layer)
+    make_upto(slots, name.precinct)?;
+    let mut precinct = take(alloc, shape, markers, name, slots)?;
+    let header = precinct.read_header(bytes, name.layer)?;
+    put(slots, name.precinct, Some(precinct));
+    Ok(header)
+}
+
+/// Keeps nothing more of a precinct.
+fn drop_in(slots: &mut Vec<Slot>, number: u32)
+    ensures { (blank : ℕ → PrecinctState) (k : ℕ) → k ≢ number → seen blank slots.new.items k ≡ seen blank slots.old.items k }
+{
+    if (number as usize) < slots.len() {
+        put(slots, number, None);
+    }
+}
+
+/// Which list has the precincts of the resolution of a packet.
+fn row_of(name: PacketName) -> usize
+    ensures { result ≡ row_of name.component name.resolution }
+{
+    name.component as usize * MOST_RESOLUTIONS + name.resolution as usize
 }
 
 /// What headers have told of the precincts of a tile.
 ///
-/// A precinct is made with the first of its packets, and with it those before it in its resolution: a tile of
-/// which few packets are read takes little memory.
+/// A precinct is made with the first of its packets and let go of behind its last one: few are alive where the layers of a
+/// precinct stand together, and a tile of which few packets are read takes little memory.
 #[derive(Drop)]
 pub(crate) struct Precincts {
     alloc: Global,
     markers: Markers,
-    resolutions: Vec<Vec<Precinct>>,
+    resolutions: Vec<Vec<Slot>>,
 }
 
 impl Model for Precincts {
@@ -122,7 +165,7 @@ impl Model for Precincts {
 }
 
 impl Precincts {
-    ghost use Rattle.std.specs.Prelude.{◌≡◌, ◌*◌, ◌<◌, ◌≤◌, ℕ, false, [], length, replicate, OnOk, MatchResult};
+    ghost use Rattle.std.specs.Prelude.{◌≡◌, ◌*◌, ◌<◌, ◌≤◌, ◌+◌, ℕ, false, [], length, replicate, OnOk, MatchResult};
     ghost use Rattle.jk_walk.specs.Keeping.{states_in, most_resolutions, IsKept};
 
     /// The precincts of a tile of so many components, of which nothing was read.
@@ -167,7 +210,7 @@ impl Precincts {
             → states_in shape.now self.new c r k ≡ states_in shape.now self.old c r k) }
         ensures kept { IsKept self.old self.new }
     {
-        let row = name.component as usize * MOST_RESOLUTIONS + name.resolution as usize;
+        let row = row_of(name);
         read_in(
             self.alloc,
             shape,
@@ -176,5 +219,23 @@ impl Precincts {
             bytes,
             &mut self.resolutions[row],
         )
+    }
+
+    /// Keeps nothing more of the precinct of a packet, if that was its last one.
+    pub(crate) fn leave(&mut self, shape: &TileShape, name: PacketName)
+        requires shape { IsTileShape shape.now }
+        requires name { IsName shape.now name }
+        requires kept { length self.old.precincts ≡ length shape.now.codings * most_resolutions }
+        ensures early { name.layer + 1 < shape.now.layers → states_in shape.now self.new name.component name.resolution name.precinct
+            ≡ states_in shape.now self.old name.component name.resolution name.precinct }
+        ensures others { (c r k : ℕ) → IsPrecinct shape.now c r k → is_of c r k name ≡ false
+            → states_in shape.now self.new c r k ≡ states_in shape.now self.old c r k }
+        ensures kept { IsKept self.old self.new }
+    {
+        if name.layer + 1 < shape.layers {
+            return;
+        }
+        let row = row_of(name);
+        drop_in(&mut self.resolutions[row], name.precinct);
     }
 }

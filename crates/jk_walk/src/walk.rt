@@ -7,12 +7,13 @@ ghost use Rattle.jk_math.specs.declared.fault.Fault.TheVariants.{Truncated};
 ghost use Rattle.jk_geom.specs.TileShapes.{IsTileShape};
 ghost use Rattle.jk_order.specs.PacketOrder.{IsName, IsPrecinct, is_of, order, packet_count};
 ghost use Rattle.jk_params.specs.Coding.{HasPlanes};
-ghost use Rattle.jk_walk.specs.WalkReading.{bodies_length, place_end, blank_states, packet_at, names_at};
+ghost use Rattle.jk_walk.specs.WalkReading.{bodies_length, place_end, blank_states, packet_at, names_at, each_of};
 ghost use Rattle.jk_walk.specs.Keeping.{most_resolutions, states_in, IsKept};
 
 use crate::parts::PartsLeft;
 use crate::places::PacketPlace;
 use crate::precincts::{Markers, Precincts};
+use crate::spans::OfPacket;
 use jk_geom::{PacketName, TileShape};
 use jk_math::Fault;
 use jk_order::{Packets, packet_count};
@@ -74,26 +75,29 @@ fn read_packet(
     Ok((place, body + size))
 }
 
-/// The packets of a tile of this shape, whose data stand at these places.
-pub(crate) fn read_places(
+/// What is kept of the packets of a tile of this shape, whose data stand at these places.
+///
+/// No tile has more packets than its file has bytes, so room for as many is taken at once.
+pub(crate) fn read_kept<K: OfPacket>(
     alloc: Global,
     shape: &TileShape,
     markers: Markers,
     bytes: &[u8],
     parts: &[(usize, usize)],
-) -> Result<Vec<PacketPlace>, Fault>
+) -> Result<Vec<K>, Fault>
     requires shape { IsTileShape shape.now }
     requires planes { AllByRecursion HasPlanes shape.now.codings }
     requires few { packet_count shape.now ≤ 2 ^ 24 }
     requires parts { AllByRecursion (λ p. (p.0 ≤ p.1) × (p.1 ≤ length bytes.now)) parts.now }
     ensures { Answers (λ v. v.items) result
-        (names_at bytes.now (order shape.now) (blank_states shape.now markers.sop markers.eph) parts.now) }
+        (each_of K.kept_of (names_at bytes.now (order shape.now) (blank_states shape.now markers.sop markers.eph) parts.now)) }
 {
+    let count = packet_count(shape);
     let mut packets = Packets::new(shape)?;
     let mut precincts = Precincts::new(alloc, shape.codings.as_slice().len(), markers)?;
     let mut left = PartsLeft::new(parts);
-    let mut places = Vec::new(alloc);
-    for _ in 0..packet_count(shape) {
+    let mut all = Vec::with_capacity(alloc, bytes.len().min(count as usize))?;
+    for _ in 0..count {
         let Some(name) = packets.next() else {
             break;
         };
@@ -101,11 +105,12 @@ pub(crate) fn read_places(
             return Err(Fault::MissingPackets);
         };
         let (place, end) = read_packet(shape, bytes, part, name, &mut precincts)?;
-        places.push(place)?;
+        precincts.leave(shape, name);
+        all.push(K::of_packet(place, end))?;
         left.advance(end);
     }
     if left.in_hand().is_some() {
         return Err(Fault::SurplusBytes);
     }
-    Ok(places)
+    Ok(all)
 }

@@ -10,7 +10,7 @@ use Rattle.jk_boxes.specs.Reading.{boxes_at}
 use Rattle.jk_params.specs.Headers.{Headers}
 use Rattle.jk_window.specs.declared.view.View.{View}
 use Rattle.jk_window.specs.Views.{window_at}
-use Rattle.std.proofs.lemmas.Bool.{lt-ltb, true≢false}
+use Rattle.std.proofs.lemmas.Bool.{lt-ltb, true≢false, cases_Bool}
 use Rattle.jk_math.specs.Answer.{◌>>=◌, Refuses, Answers}
 use Rattle.jk_math.specs.Memory.{IsMemory}
 use Rattle.jk_math.specs.declared.fault.Fault.{Fault}
@@ -54,6 +54,14 @@ pub jp2_case : {bytes codestream : List ℕ} {place : Boxed} (holds : HoldsAt by
     → ((j : IsJp2 bytes codestream) (out : List ℕ) → with_codestream holds new ≡ recoded j new → recoded j new ≡ Ok out → C) → C
 jp2_case (inl bare) new C is short go = absurd (true≢false (sym is ∙ ap (λ (b : Boxed). b.jp2) bare.1))
 jp2_case {bytes} {codestream} (inr jp2) new C is short go = let fits = recoded_fits bytes codestream new jp2.0 short in go jp2.0 fits.0 refl fits.1
+
+-- The file of a window, where the answer to each form of file is known.
+pub either_case : {bytes codestream : List ℕ} {place own : Boxed} (holds : HoldsAt bytes codestream place) (new : List ℕ) (C : Type 0) → own ≡ place → length new ≤ length codestream
+    → (own.jp2 ≡ false → with_codestream holds new ≡ Ok new → C) → ((j : IsJp2 bytes codestream) (out : List ℕ) → with_codestream holds new ≡ recoded j new → recoded j new ≡ Ok out → C) → C
+either_case {place = place} {own = own} holds new C same short bare jp2 = elim (cases_Bool own.jp2) [
+  | inl is ↦ jp2_case holds new C (sym (ap (λ (b : Boxed). b.jp2) same) ∙ is) short jp2
+  | inr other ↦ bare other (bare_case holds new (sym (ap (λ (b : Boxed). b.jp2) same) ∙ other))
+]
 
 pub refuses_ok : {A : Type 0} (e : Fault) (due : Result A Fault) (out : A) → due ≡ Ok out → Refuses e due → IsMemory e
 refuses_ok (Memory r) due out is h = tt

@@ -2,6 +2,7 @@
 use Rattle.std.proofs.Common.{◌≡◌, ℕ, ◌+◌, List, [], ◌∷◌, ◌++◌, drop, Option, Some, None, append_assoc, refl, sym, ap, ◌∙◌, subst}
 use Rattle.std.specs.Prelude.{slice_get}
 use Rattle.std.proofs.lemmas.List.{append-nil}
+use Rattle.jk_math.specs.Front.{IsFront}
 use Rattle.jk_marks.specs.declared.siz.Siz.{Siz}
 use Rattle.jk_marks.specs.Markers.{eoc, marker_text}
 use Rattle.jk_marks.specs.Codestream.{Part, IsPart, BeginsWith, data_start, part_length, part_text}
@@ -9,6 +10,10 @@ use Rattle.jk_marks.specs.Copying.{part_with}
 use Rattle.jk_params.specs.Headers.{Headers, tile_in}
 use Rattle.jk_window.specs.Emptied.{emptied_part}
 use Rattle.jk_window.specs.Cutting.{TilePieces, IsHeld, PartsAhead, parts_text}
+
+-- what stands in front of what stands in front
+pub front_then : {a b c : List ℕ} → IsFront a b → IsFront b c → IsFront a c
+front_then {a = a} x y = record { more = x.more ++ y.more; text = y.text ∙ ap (λ (t : List ℕ). t ++ y.more) x.text ∙ append_assoc a x.more y.more }
 
 -- What is left of tile-parts, where others were written.
 pub record Ahead (bytes : List ℕ) (siz : Siz) (h : Headers) (all : List TilePieces) (content : ℕ → ℕ → List ℕ) (at : ℕ) (old out : List ℕ) (parts : List Part) : Type 0 where

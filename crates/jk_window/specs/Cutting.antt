@@ -20,8 +20,7 @@ use Rattle.jk_geom.specs.TileShapes.{coding_of, IsTileShape}
 use Rattle.jk_params.specs.Headers.{Headers, tile_in}
 use Rattle.jk_packet.specs.PacketText.{eph_text}
 use Rattle.jk_walk.specs.TilePackets.{slice_of, Packet}
-use Rattle.jk_walk.specs.WalkReading.{place_end}
-use Rattle.jk_walk.specs.declared.places.PacketPlace.{PacketPlace}
+use Rattle.jk_walk.specs.declared.spans.PacketSpan.{PacketSpan}
 use Rattle.jk_window.specs.declared.view.View.{View}
 use Rattle.jk_window.specs.declared.pieces.Piece.{Piece}
 use Rattle.jk_window.specs.declared.pieces.TileCut.{TileCut}
@@ -88,24 +87,24 @@ piece_length eph p = p.end - p.start + length (piece_rest eph p)
 abbrev pub pieces_length : Bool → List Piece → ℕ
 pieces_length eph pieces = sum_by (piece_length eph) pieces
 
--- where the SOP of a packet at a place ends, where one may stand and does
-abbrev pub sop_end : List ℕ → Bool → PacketPlace → ℕ
-sop_end bytes sop w = if sop && begins_sop (slice_of bytes (w.start, place_end w)) then min (w.start + 6) (place_end w) else w.start
+-- where the SOP of a packet of these bytes ends, where one may stand and does
+abbrev pub sop_end : List ℕ → Bool → PacketSpan → ℕ
+sop_end bytes sop v = if sop && begins_sop (slice_of bytes (v.start, v.end)) then min (v.start + 6) v.end else v.start
 
--- the piece of a packet at a place
-abbrev pub piece_of : List ℕ → (PacketName → Bool) → Bool → PacketPlace → Piece
-piece_of bytes keep sop w =
-    if keep w.name then record { start = w.start; end = place_end w; kept = true }
-    else record { start = w.start; end = sop_end bytes sop w; kept = false }
+-- the piece of a packet of these bytes
+abbrev pub piece_of : List ℕ → (PacketName → Bool) → Bool → PacketSpan → Piece
+piece_of bytes keep sop v =
+    if keep v.name then record { start = v.start; end = v.end; kept = true }
+    else record { start = v.start; end = sop_end bytes sop v; kept = false }
 
--- Of places that stand one after another from a place on, those up to another place; and so for each part.
-unfoldable pub run_at : List PacketPlace → (at stop : ℕ) → List PacketPlace
+-- Of packets that stand one after another from a place on, those up to another place; and so for each part.
+unfoldable pub run_at : List PacketSpan → (at stop : ℕ) → List PacketSpan
 run_at [] at stop = []
-run_at (w ∷ places) at stop = if nat_lt at stop then w ∷ run_at places (place_end w) stop else []
+run_at (v ∷ spans) at stop = if nat_lt at stop then v ∷ run_at spans v.end stop else []
 
-unfoldable pub runs_at : List PacketPlace → List (ℕ × ℕ) → List (List PacketPlace)
-runs_at places [] = []
-runs_at places (p ∷ parts) = run_at places p.0 p.1 ∷ runs_at (drop (length (run_at places p.0 p.1)) places) parts
+unfoldable pub runs_at : List PacketSpan → List (ℕ × ℕ) → List (List PacketSpan)
+runs_at spans [] = []
+runs_at spans (p ∷ parts) = run_at spans p.0 p.1 ∷ runs_at (drop (length (run_at spans p.0 p.1)) spans) parts
 
 -- the lists as they lie in memory
 abbrev pub lists_of : List (Vec Piece) → List (List Piece)

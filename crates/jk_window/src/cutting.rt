@@ -1,9 +1,10 @@
 //! Cutting a window out of a file.
 
-ghost use Rattle.std.specs.Prelude.{◌≡◌, ◌≤◌, ◌<◌, ◌^◌, ◌⊎◌, ◌-◌, ℕ, List, length, IfOk, IfErr, MatchResult, Err, Ok};
+ghost use Rattle.std.specs.Prelude.{◌≡◌, ◌≤◌, ◌<◌, ◌^◌, ◌⊎◌, ◌-◌, ◌++◌, ℕ, List, length, IfOk, IfErr, OnOk, MatchResult, Err, Ok};
 ghost use Rattle.jk_boxes.specs.Reading.{boxes_at};
 ghost use Rattle.std.specs.List.{AllByRecursion};
 ghost use Rattle.jk_math.specs.Memory.{IsMemory};
+ghost use Rattle.jk_math.specs.Front.{IsFront};
 ghost use Rattle.jk_math.specs.Answer.{Answers};
 ghost use Rattle.jk_math.specs.declared.fault.Fault.TheVariants.{BadWindow, Changed};
 ghost use Rattle.jk_marks.specs.Siz.{tile_count};
@@ -15,11 +16,11 @@ ghost use Rattle.jk_window.specs.Indexing.{HasRuns, IsIndexOf};
 ghost use Rattle.jk_window.specs.Cutting.{AreCutOf, AreWithin, content_of, with_codestream, cut_tree, cut_file, HaveRuns};
 
 use crate::kept::Index;
-use crate::parts::put_parts;
+use crate::parts::{put_parts, room};
 use crate::tiles::{Pieces, changed, read_tile};
 use crate::view::View;
 use crate::window::window;
-use jk_boxes::{Boxed, open, replace_codestream};
+use jk_boxes::{Boxed, close_codestream, open};
 use jk_marks::copy_main;
 use jk_math::{Fault, Rect};
 use jk_params::Codestream;
@@ -43,42 +44,45 @@ fn read_tiles(
     ensures within { IfOk result (λ v. AllByRecursion (AreWithin (length bytes.now)) v.items) }
     ensures err { IfErr result (λ e. IsMemory e ⊎ (e ≡ Changed)) }
 {
-    let mut all = Vec::new(alloc);
+    let mut all = Vec::with_capacity(alloc, headers.tile_count())?;
     for number in 0..headers.tile_count() {
         all.push(read_tile(alloc, headers, bytes, window, reduce, number)?)?;
     }
     Ok(all)
 }
 
-/// The codestream in which the packets that a window doesn't need are empty.
+/// Appends the codestream in which the packets that a window doesn't need are empty.
 ///
 /// Changed: the headers aren't those of the codestream, or its packets can't be read.
-fn cut_codestream(
+fn put_codestream(
     alloc: Global,
     headers: &Codestream,
     bytes: &[u8],
     window: &Rect,
     reduce: u8,
-) -> Result<Vec<u8>, Fault>
+    out: &mut Vec<u8>,
+) -> Result<(), Fault>
     requires sound { AreHeaders (length bytes.now) headers.now }
     requires right { window.now.x1 < 2 ^ 31 }
     requires lower { window.now.y1 < 2 ^ 31 }
     requires few { reduce ≤ 10 }
     ensures exact { (is : IsHeaders bytes.now headers.now) (runs : ℕ → List (List Packet)) → HaveRuns bytes.now headers.now runs
-        → MatchResult result (λ v. v.items ≡ codestream_text (emptied_tree (content_of headers.now runs window.now reduce) is.tree)) (λ e. IsMemory e) }
-    ensures short { IsHeaders bytes.now headers.now → (runs : ℕ → List (List Packet)) → HaveRuns bytes.now headers.now runs → IfOk result (λ v. length v.items ≤ length bytes.now) }
+        → MatchResult result (λ _. out.new.items ≡ out.old.items ++ codestream_text (emptied_tree (content_of headers.now runs window.now reduce) is.tree)) (λ e. IsMemory e) }
+    ensures short { (is : IsHeaders bytes.now headers.now) (runs : ℕ → List (List Packet)) → HaveRuns bytes.now headers.now runs
+        → OnOk result (length (codestream_text (emptied_tree (content_of headers.now runs window.now reduce) is.tree)) ≤ length bytes.now) }
+    ensures front { IsFront out.old.items out.new.items }
     ensures err { IfErr result (λ e. IsMemory e ⊎ (e ≡ Changed)) }
 {
     let tiles = read_tiles(alloc, headers, bytes, window, reduce)?;
-    let mut out = Vec::new(alloc);
-    let start = copy_main(bytes, &mut out)?;
-    put_parts(bytes, headers, &tiles, start, &mut out)?;
-    Ok(out)
+    out.reserve_exact(room(headers, &tiles, bytes.len()))?;
+    let start = copy_main(bytes, out)?;
+    put_parts(bytes, headers, &tiles, start, out)?;
+    Ok(())
 }
 
 /// The file of a window, where the codestream stands at its place in the file.
 ///
-/// Changed: as `cut_codestream`, and where the new codestream doesn't fit its box.
+/// Changed: as `put_codestream`, and where the new codestream doesn't fit its box.
 fn cut_at_place(
     alloc: Global,
     index: &Index,
@@ -99,12 +103,18 @@ fn cut_at_place(
     ensures err { IfErr result (λ e. IsMemory e ⊎ (e ≡ Changed)) }
 {
     let codestream = &bytes[place.start..place.end];
-    let new = cut_codestream(alloc, index.headers(), codestream, window, reduce)?;
-    if !place.jp2 {
-        return Ok(new);
-    }
-    match replace_codestream(alloc, bytes, place, &new) {
-        Ok(file) => Ok(file),
+    let mut file = Vec::new(alloc);
+    file.extend_from_slice(&bytes[..place.start])?;
+    put_codestream(
+        alloc,
+        index.headers(),
+        codestream,
+        window,
+        reduce,
+        &mut file,
+    )?;
+    match close_codestream(alloc, bytes, place, &mut file) {
+        Ok(()) => Ok(file),
         Err(fault) => Err(changed(fault)),
     }
 }

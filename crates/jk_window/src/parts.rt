@@ -3,6 +3,7 @@
 ghost use Rattle.std.specs.Prelude.{◌≡◌, ◌+◌, ◌≤◌, ◌<◌, ◌^◌, ◌⊎◌, ◌++◌, ℕ, List, length, drop, IfOk, IfErr, OnOk, MatchResult, MatchOption, Some, None, Err, slice_get, slice_index_or};
 ghost use Rattle.std.specs.List.{AllByRecursion};
 ghost use Rattle.jk_math.specs.Memory.{IsMemory};
+ghost use Rattle.jk_math.specs.Front.{IsFront};
 ghost use Rattle.jk_math.specs.declared.fault.Fault.TheVariants.{Changed};
 ghost use Rattle.jk_marks.specs.declared.siz.Siz.{Siz};
 ghost use Rattle.jk_marks.specs.Markers.{marker_text, eoc};
@@ -35,6 +36,7 @@ fn put_head(bytes: &[u8], at: usize, size: usize, out: &mut Vec<u8>) -> Result<(
         → length content ≤ length p.content
         → MatchResult result (λ _. out.new.items ++ content ≡ out.old.items ++ part_text (part_with p content)) (λ e. IsMemory e) }
     ensures err { IfErr result (λ e. IsMemory e ⊎ (e ≡ Changed)) }
+    ensures front { IsFront out.old.items out.new.items }
 {
     match copy_part_head(&bytes[at..], size, out) {
         Ok(()) => Ok(()),
@@ -59,6 +61,7 @@ fn put_data(
         → pieces_text bytes.now eph run.now ≡ content → length content ≤ length p.content
         → MatchResult result (λ _. out.new.items ≡ out.old.items ++ part_text (part_with p content)) (λ e. IsMemory e) }
     ensures err { IfErr result (λ e. IsMemory e ⊎ (e ≡ Changed)) }
+    ensures front { IsFront out.old.items out.new.items }
 {
     let size = run_size(run, eph, bytes.len());
     put_head(bytes, at, size as usize, out)?;
@@ -85,6 +88,7 @@ fn put_part(
         → MatchResult result (λ n. (n ≡ at + part_length p) × (out.new.items ≡ out.old.items ++ part_text (part_with p content))) (λ e. IsMemory e) }
     ensures forward { IfOk result (λ n. (at < n) × (n ≤ length bytes.now)) }
     ensures err { IfErr result (λ e. IsMemory e ⊎ (e ≡ Changed)) }
+    ensures front { IsFront out.old.items out.new.items }
 {
     let (tile, number) = (name.0 as usize, name.1 as usize);
     if tile >= tiles.len() {
@@ -106,6 +110,21 @@ fn put_part(
     Ok(end)
 }
 
+/// The room for a codestream of so many bytes, whose tile-parts get the data of their pieces: so much as its headers and
+/// these data take, and a little more. No answer depends on it.
+pub(crate) fn room(headers: &Codestream, tiles: &[Pieces], size: usize) -> usize
+    requires { length tiles.now ≡ length headers.now.tiles }
+{
+    let mut room = size;
+    for number in 0..tiles.len() {
+        for part in headers.data_places(number) {
+            room = room.saturating_sub(part.1.saturating_sub(part.0));
+        }
+        room = room.saturating_add(tiles[number].room());
+    }
+    room
+}
+
 /// Appends the tile-parts from a place on, with the data of their pieces, and EOC.
 ///
 /// Changed: they aren't those that the headers tell.
@@ -122,6 +141,7 @@ pub(crate) fn put_parts(
     ensures parts { (siz : Siz) (content : ℕ → ℕ → List ℕ) (parts : List Part) → PartsAhead bytes.now siz headers.now tiles.now content start parts
         → MatchResult result (λ _. out.new.items ≡ out.old.items ++ (parts_text content parts ++ marker_text eoc)) (λ e. IsMemory e) }
     ensures err { IfErr result (λ e. IsMemory e ⊎ (e ≡ Changed)) }
+    ensures front { IsFront out.old.items out.new.items }
 {
     let mut at = start;
     while let Some(name) = name_at(bytes, at) {

@@ -12,7 +12,7 @@ ghost use Rattle.jk_geom.specs.TileShapes.{AreCodings, IsTileShape};
 ghost use Rattle.jk_order.specs.PacketOrder.{IsName};
 ghost use Rattle.jk_packet.specs.PacketText.{eph_text};
 ghost use Rattle.jk_walk.specs.TilePackets.{slice_of, shape_in};
-ghost use Rattle.jk_walk.specs.WalkReading.{place_end, IsPlace, ArePlaces};
+ghost use Rattle.jk_walk.specs.WalkReading.{IsSpan, AreSpans};
 ghost use Rattle.jk_params.specs.Headers.{AreHeaders, tile_in};
 ghost use Rattle.jk_window.specs.Needs.{is_needed};
 ghost use Rattle.jk_window.specs.Emptied.{begins_sop};
@@ -22,7 +22,7 @@ use crate::need::needs;
 use crate::window::is_empty;
 use jk_geom::{PacketName, TileShape};
 use jk_math::{Fault, Rect};
-use jk_walk::PacketPlace;
+use jk_walk::PacketSpan;
 use std::alloc::Global;
 
 /// What is copied of a packet: all of it, where it is kept, and else its SOP marker segment, if it has one.
@@ -87,52 +87,65 @@ fn sop_end(bytes: &[u8], sop: bool, start: usize, end: usize) -> usize
 }
 
 /// What is copied of a packet.
-fn cut_packet(tile: &TileCut<'_>, place: &PacketPlace) -> Piece
+fn cut_packet(tile: &TileCut<'_>, span: PacketSpan) -> Piece
     requires cut { IsTileCut tile.now }
-    requires place { IsPlace (length tile.now.bytes.now) tile.now.shape.now place.now }
-    ensures value { result ≡ piece_of tile.now.bytes.now (wanted tile.now.shape.now tile.now.top tile.now.reduce) tile.now.sop place.now }
+    requires span { IsSpan (length tile.now.bytes.now) tile.now.shape.now span }
+    ensures value { result ≡ piece_of tile.now.bytes.now (wanted tile.now.shape.now tile.now.top tile.now.reduce) tile.now.sop span }
     ensures within { IsPiece (length tile.now.bytes.now) result }
 {
-    let end = place.end();
-    if is_wanted(tile, place.name) {
+    if is_wanted(tile, span.name) {
         return Piece {
-            start: place.start,
-            end,
+            start: span.start,
+            end: span.end,
             kept: true,
         };
     }
     Piece {
-        start: place.start,
-        end: sop_end(tile.bytes, tile.sop, place.start, end),
+        start: span.start,
+        end: sop_end(tile.bytes, tile.sop, span.start, span.end),
         kept: false,
     }
 }
 
-/// What is copied of the packets of a part: those from the `next`-th place on, which stand one after another from the
-/// start of the part on, up to its end.
+/// How many of the packets from the `next`-th on stand in a part, one after another from its start on, up to its end.
+fn run_length(spans: &[PacketSpan], next: usize, part: (usize, usize)) -> usize
+    ensures { result ≡ length (run_at (drop next spans.now) part.0 part.1) }
+{
+    let (start, end) = part;
+    let mut at = start;
+    let mut i = next;
+    while at < end && i < spans.len() {
+        at = spans[i].end;
+        i += 1;
+    }
+    i - next
+}
+
+/// What is copied of the packets of a part: those from the `next`-th on, which stand one after another from the start of
+/// the part on, up to its end.
 fn read_run(
     alloc: Global,
     tile: &TileCut<'_>,
-    places: &[PacketPlace],
+    spans: &[PacketSpan],
     next: usize,
     part: (usize, usize),
 ) -> Result<Vec<Piece>, Fault>
     requires cut { IsTileCut tile.now }
-    requires places { ArePlaces (length tile.now.bytes.now) tile.now.shape.now places.now }
+    requires spans { AreSpans (length tile.now.bytes.now) tile.now.shape.now spans.now }
     ensures pieces { IfOk result (λ v. v.items ≡ map (piece_of tile.now.bytes.now (wanted tile.now.shape.now tile.now.top tile.now.reduce) tile.now.sop)
-        (run_at (drop next places.now) part.0 part.1)) }
+        (run_at (drop next spans.now) part.0 part.1)) }
     ensures within { IfOk result (λ v. AllByRecursion (IsPiece (length tile.now.bytes.now)) v.items) }
-    ensures few { IfOk result (λ v. next + length v.items ≤ max next (length places.now)) }
+    ensures few { IfOk result (λ v. next + length v.items ≤ max next (length spans.now)) }
     ensures err { IfErr result (λ e. IsMemory e) }
 {
     let (start, end) = part;
     let mut at = start;
     let mut i = next;
-    let mut pieces = Vec::new(alloc);
-    while at < end && i < places.len() {
-        let place = &places[i];
-        pieces.push(cut_packet(tile, place))?;
-        at = place.end();
+    let mut pieces = Vec::with_capacity(alloc, run_length(spans, next, part))?;
+    while at < end && i < spans.len() {
+        let span = spans[i];
+        pieces.push(cut_packet(tile, span))?;
+        at = span.end;
         i += 1;
     }
     Ok(pieces)
@@ -142,20 +155,20 @@ fn read_run(
 pub(crate) fn read_runs(
     alloc: Global,
     tile: &TileCut<'_>,
-    places: &[PacketPlace],
+    spans: &[PacketSpan],
     parts: &[(usize, usize)],
 ) -> Result<Vec<Vec<Piece>>, Fault>
     requires cut { IsTileCut tile.now }
-    requires places { ArePlaces (length tile.now.bytes.now) tile.now.shape.now places.now }
+    requires spans { AreSpans (length tile.now.bytes.now) tile.now.shape.now spans.now }
     ensures pieces { IfOk result (λ v. lists_of v.items ≡ map (map (piece_of tile.now.bytes.now (wanted tile.now.shape.now tile.now.top tile.now.reduce) tile.now.sop))
-        (runs_at places.now parts.now)) }
+        (runs_at spans.now parts.now)) }
     ensures within { IfOk result (λ v. AllByRecursion (AllByRecursion (IsPiece (length tile.now.bytes.now))) (lists_of v.items)) }
     ensures err { IfErr result (λ e. IsMemory e) }
 {
-    let mut runs = Vec::new(alloc);
+    let mut runs = Vec::with_capacity(alloc, parts.len())?;
     let mut next = 0;
     for part in parts {
-        let run = read_run(alloc, tile, places, next, *part)?;
+        let run = read_run(alloc, tile, spans, next, *part)?;
         next += run.len();
         runs.push(run)?;
     }

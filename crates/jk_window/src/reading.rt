@@ -11,7 +11,7 @@ use jk_boxes::{Boxed, open};
 use jk_marks::read_main;
 use jk_math::Fault;
 use jk_params::{Codestream, read_codestream};
-use jk_walk::read_packets;
+use jk_walk::read_spans;
 use std::alloc::Global;
 
 /// Reads the packets of all tiles, and keeps none.
@@ -20,7 +20,7 @@ fn test_packets(alloc: Global, headers: &Codestream, bytes: &[u8]) -> Result<(),
     ensures { Answers (λ _. tt) result (packets_tested bytes.now headers.now (tile_count headers.now.siz)) }
 {
     for number in 0..headers.tile_count() {
-        read_packets(alloc, headers, bytes, number)?;
+        read_spans(alloc, headers, bytes, number)?;
     }
     Ok(())
 }

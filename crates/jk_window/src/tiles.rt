@@ -16,7 +16,7 @@ use crate::window::reduced;
 use jk_geom::tile_shape;
 use jk_math::{Fault, Rect};
 use jk_params::Codestream;
-use jk_walk::read_packets;
+use jk_walk::read_spans;
 use std::alloc::Global;
 use std::marker::Model;
 
@@ -44,6 +44,19 @@ impl Pieces {
         ensures { result ≡ self.now.eph }
     {
         self.eph
+    }
+
+    /// How many bytes the packets take at most, by their pieces. No answer depends on it: it is the room that is taken for
+    /// them.
+    pub(crate) fn room(&self) -> usize {
+        let mut room: usize = 0;
+        for run in &self.runs {
+            for piece in run {
+                let size = piece.end.saturating_sub(piece.start);
+                room = room.saturating_add(size).saturating_add(3);
+            }
+        }
+        room
     }
 
     /// The pieces of a part.
@@ -87,7 +100,7 @@ pub(crate) fn read_tile(
     ensures within { IfOk result (AreWithin (length bytes.now)) }
     ensures err { IfErr result (λ e. IsMemory e ⊎ (e ≡ Changed)) }
 {
-    let packets = match read_packets(alloc, headers, bytes, tile) {
+    let packets = match read_spans(alloc, headers, bytes, tile) {
         Ok(packets) => packets,
         Err(fault) => return Err(changed(fault)),
     };

@@ -11,22 +11,14 @@ use Rattle.jk_params.specs.Headers.{tile_in}
 use Rattle.jk_walk.specs.WalkReading.{packets_at, IsPlaced, StandAt, ArePlaces}
 use Rattle.jk_walk.proofs.FoundLaws.{packets_found, packets_within}
 use Rattle.jk_walk.proofs.OnlyLaws.{packets_only}
+use Rattle.jk_walk.proofs.SpanLaws.{due_value}
 use Rattle.jk_walk.proofs.read.read_packets.Goals as goal
-
--- an answer where a value is due
-due : {A : Type 0} (r : Result A Fault) (d : Result A Fault) (x : A) (P : A → Type 0) → Answers (λ y. y) r d → d ≡ Ok x → P x → MatchResult r P (λ e. IsMemory e)
-due (Ok y) d x P a is h = let both : Ok x ≡ Ok y = sym is ∙ a in let same : x ≡ y = cc in subst P same h
-due (Err e) d x P a is h = refused e d x a is
-  where
-    refused : {A : Type 0} (e : Fault) (d : Result A Fault) (x : A) → Refuses e d → d ≡ Ok x → IsMemory e
-    refused (Memory m) d x r h = tt
-    refused e d x r h = absurd (let clash : Err e ≡ Ok x = sym r ∙ h in cc)
 
 pub returns-clause-found : goal.returns-clause-found
 returns-clause-found c =
     let bytes = c.args.bytes.now in
     let h = c.args.headers.now in
-    if_ok_answers (λ p. p) c.read_tile.result (packets_at bytes h c.args.tile) (StandAt bytes h c.args.tile) c.read_tile.ensures
+    if_ok_answers (λ p. p) c.tile_packets.result (packets_at bytes h c.args.tile) (StandAt bytes h c.args.tile) c.tile_packets.ensures
     (λ places e. packets_found bytes h c.args.tile places c.requires.sound c.requires.tile e)
 
 pub returns-clause-only : goal.returns-clause-only
@@ -34,11 +26,11 @@ returns-clause-only c = λ packets are.
     let bytes = c.args.bytes.now in
     let h = c.args.headers.now in
     let only = packets_only bytes h c.args.tile packets c.requires.sound c.requires.tile are in
-    due c.read_tile.result (packets_at bytes h c.args.tile) only.0 (AllZip (IsPlaced bytes) packets) c.read_tile.ensures only.1 only.2
+    due_value c.tile_packets.result (packets_at bytes h c.args.tile) only.0 (AllZip (IsPlaced bytes) packets) c.tile_packets.ensures only.1 only.2
 
 pub returns-clause-within : goal.returns-clause-within
 returns-clause-within c =
     let bytes = c.args.bytes.now in
     let h = c.args.headers.now in
-    if_ok_answers (λ p. p) c.read_tile.result (packets_at bytes h c.args.tile) (ArePlaces (length bytes) (shape_in h.siz (tile_in h.tiles c.args.tile) c.args.tile)) c.read_tile.ensures
+    if_ok_answers (λ p. p) c.tile_packets.result (packets_at bytes h c.args.tile) (ArePlaces (length bytes) (shape_in h.siz (tile_in h.tiles c.args.tile) c.args.tile)) c.tile_packets.ensures
     (λ places e. packets_within bytes h c.args.tile places c.requires.sound c.requires.tile e)

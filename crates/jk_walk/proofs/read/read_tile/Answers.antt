@@ -9,8 +9,8 @@ use Rattle.jk_walk.proofs.FoundLaws.{tile_parts}
 use Rattle.jk_walk.proofs.TileFacts.{tile_few}
 use Rattle.jk_walk.proofs.read.read_tile.Goals as goal
 
-pub read_places-requires-clause-few : goal.read_places-requires-clause-few
-read_places-requires-clause-few c =
+pub read_kept-requires-clause-few : goal.read_kept-requires-clause-few
+read_kept-requires-clause-few g c =
     let shape : c.tile_shape-shape.result ≡ record {
       rect = tile_area c.siz.result.now c.args.tile;
       layers = c.cod-cod.result.now.layers;
@@ -30,6 +30,6 @@ read_places-requires-clause-few c =
     } in
     subst (λ (s : TileShape). packet_count s ≤ 2 ^ 24) (sym (shape ∙ same)) (tile_few (length c.args.bytes.now) c.args.headers.now c.args.tile c.requires.sound c.requires.tile)
 
-pub read_places-requires-clause-parts : goal.read_places-requires-clause-parts
-read_places-requires-clause-parts c =
+pub read_kept-requires-clause-parts : goal.read_kept-requires-clause-parts
+read_kept-requires-clause-parts g c =
     subst (AreParts (length c.args.bytes.now)) (sym c.data_places.ensures) (tile_parts c.args.bytes.now c.args.headers.now c.args.tile c.requires.sound c.requires.tile)

@@ -4,7 +4,7 @@ use Rattle.jk_math.specs.Memory.{IsMemory}
 use Rattle.jk_marks.specs.Markers.{eoc, marker_text}
 use Rattle.jk_window.specs.Cutting.{parts_text}
 use Rattle.jk_window.proofs.Lengths.{head_and_data}
-use Rattle.jk_window.proofs.PartsLaws.{Ahead, at_front, ahead_more, ahead_over}
+use Rattle.jk_window.proofs.PartsLaws.{front_then, Ahead, at_front, ahead_more, ahead_over}
 use Rattle.jk_window.proofs.parts.put_parts.Goals as goal
 
 pub loop-name-preserved : goal.loop-name-preserved
@@ -14,6 +14,7 @@ loop-name-preserved c =
     let all = c.args.tiles.now in
     record {
       within = c.in_ok-at.ensures.forward.1;
+      front = front_then c.loop-name.invariant.front c.in_ok-at.ensures.front;
       left = λ siz content parts ahead.
           let a = c.loop-name.invariant.left siz content parts ahead in
           at_front bytes siz h all content c.loop-name.at c.in-Some.name c.name_at.result a.left
