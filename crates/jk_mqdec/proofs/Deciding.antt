@@ -8,15 +8,17 @@ use Rattle.jk_math.specs.declared.fault.Fault.TheVariants.{CodeOutOfInterval}
 use Rattle.jk_model.specs.Code.{code_value}
 use Rattle.jk_model.specs.Contexts.{Context, row_of, moved, begins}
 use Rattle.jk_model.specs.Decisions.{State, IsWithin, is_within, context_at, qe_at, is_lower, is_exchanged, bit_at, divided, renormalised, contexts_after, after, doubled}
-use Rattle.jk_mqdec.specs.declared.registers.Registers.{Registers}
-use Rattle.jk_mqdec.specs.Registers.{Holds, IsOutside, HasLeft, IsReady}
+use Rattle.jk_mqdec.specs.declared.wide.WideRegisters.{WideRegisters}
+use Rattle.jk_mqdec.specs.Registers.{IsOutside}
+use Rattle.jk_mqdec.specs.Wide.{IsHeld, HoldsWide, HasLeftWide, IsReadyWide}
 use Rattle.jk_mqdec.specs.Standing.{View, HasFailed, StandsWithin, Stands}
 use Rattle.jk_mqdec.specs.Answers.{answer, next}
+use Rattle.jk_mqdec.proofs.Widening.{held-below, held-above}
 
 -- ---- within and outside
 
-pub within-holds : (b : List ℕ) (r : Registers) (s : State) → r.code < r.width → Holds b r s → IsWithin b s
-within-holds b r s k h = omega (arith, h.code, h.width)
+pub within-holds : (b : List ℕ) (r : WideRegisters) (s : State) → r.code < r.width → HoldsWide b r s → IsWithin b s
+within-holds b r s k h = let w = h.width_is in held-below b r.code r.width r.count r.place s.width s h (omega (arith, k, w))
 
 is_within-true : (b : List ℕ) (s : State) → IsWithin b s → is_within b s ≡ true
 is_within-true b s h = lt-ltb (code_value b s.doublings) (128 * (s.low + s.width)) h
@@ -80,14 +82,15 @@ after-is : (b : List ℕ) (s : State) (cx : ℕ) → after b s cx ≡ renormalis
 unfolding after
 after-is b s cx = refl
 
-holds-contexts : (b : List ℕ) (r : Registers) (s : State) (cs : List Context) → Holds b r s → Holds b r (record s { contexts = cs })
+holds-contexts : (b : List ℕ) (r : WideRegisters) (s : State) (cs : List Context) → HoldsWide b r s → HoldsWide b r (record s { contexts = cs })
 holds-contexts b r s cs h = record {
-  code = h.code;
-  width = h.width;
+  code_is = h.code_is;
+  width_is = h.width_is;
+  near = h.near;
   last = h.last;
   fed_last = h.fed_last;
   due_next = h.due_next;
-  place = h.place;
+  place_is = h.place_is;
 }
 
 either : (t : Bool) (x s : State) → x.contexts ≡ s.contexts → (cond t x s).contexts ≡ s.contexts
@@ -121,35 +124,44 @@ unfolding divided
 divided-is b s cx t h =
     ap (λ (x : Bool). cond x (record s { width = qe_at s cx }) (record s { low = s.low + qe_at s cx; width = s.width - qe_at s cx })) h
 
-lower-true : (b : List ℕ) (r : Registers) (s : State) (cx : ℕ) → Holds b r s → r.code < qe_at s cx * 2 ^ 16 → is_lower b s cx ≡ true
+lower-true : (b : List ℕ) (r : WideRegisters) (s : State) (cx : ℕ) → HoldsWide b r s → r.code < qe_at s cx * 2 ^ 48 → is_lower b s cx ≡ true
 unfolding is_lower
-lower-true b r s cx h k = lt-ltb (code_value b s.doublings) (128 * (s.low + qe_at s cx)) (omega (arith, h.code))
+lower-true b r s cx h k = lt-ltb (code_value b s.doublings) (128 * (s.low + qe_at s cx)) (held-below b r.code r.width r.count r.place (qe_at s cx) s h k)
 
-lower-false : (b : List ℕ) (r : Registers) (s : State) (cx : ℕ) → Holds b r s → qe_at s cx * 2 ^ 16 ≤ r.code → is_lower b s cx ≡ false
+lower-false : (b : List ℕ) (r : WideRegisters) (s : State) (cx : ℕ) → HoldsWide b r s → qe_at s cx * 2 ^ 48 ≤ r.code → is_lower b s cx ≡ false
 unfolding is_lower
-lower-false b r s cx h k = le-ltb (code_value b s.doublings) (128 * (s.low + qe_at s cx)) (omega (arith, h.code))
+lower-false b r s cx h k = le-ltb (code_value b s.doublings) (128 * (s.low + qe_at s cx)) (held-above b r.code r.width r.count r.place (qe_at s cx) s h k)
 
-holds-lower : (b : List ℕ) (now part : Registers) (s : State) (cx : ℕ) → Holds b now s → now.code < qe_at s cx * 2 ^ 16 → part.code ≡ now.code → part.width ≡ qe_at s cx * 2 ^ 16 → part.count ≡ now.count → part.place ≡ now.place → Holds b part (divided b s cx)
+holds-lower : (b : List ℕ) (now part : WideRegisters) (s : State) (cx : ℕ) → HoldsWide b now s → now.code < qe_at s cx * 2 ^ 48 → part.code ≡ now.code → part.width ≡ qe_at s cx * 2 ^ 48 → part.count ≡ now.count → part.place ≡ now.place → HoldsWide b part (divided b s cx)
 holds-lower b now part s cx h k code width count place =
-    subst (λ t. Holds b part t) (sym (divided-is b s cx true (lower-true b now s cx h k))) (record {
-      code = omega (arith, h.code, code);
-      width = width;
+    subst (λ t. HoldsWide b part t) (sym (divided-is b s cx true (lower-true b now s cx h k)))
+    (subst (λ x. IsHeld b x part.width part.count part.place (record s { width = qe_at s cx })) (sym code)
+    (subst (λ x. IsHeld b now.code part.width x part.place (record s { width = qe_at s cx })) (sym count)
+    (subst (λ x. IsHeld b now.code part.width now.count x (record s { width = qe_at s cx })) (sym place) (record {
+      code_is = h.code_is;
+      width_is = width;
+      near = h.near;
       last = h.last;
       fed_last = h.fed_last;
-      due_next = omega (arith, h.due_next, count);
-      place = rw place h.place;
-    })
+      due_next = h.due_next;
+      place_is = h.place_is;
+    }))))
 
-holds-upper : (b : List ℕ) (now part : Registers) (s : State) (cx : ℕ) → Holds b now s → qe_at s cx * 2 ^ 16 ≤ now.code → part.code + qe_at s cx * 2 ^ 16 ≡ now.code → part.width ≡ now.width - qe_at s cx * 2 ^ 16 → part.count ≡ now.count → part.place ≡ now.place → Holds b part (divided b s cx)
+holds-upper : (b : List ℕ) (now part : WideRegisters) (s : State) (cx : ℕ) → HoldsWide b now s → qe_at s cx * 2 ^ 48 ≤ now.code → part.code + qe_at s cx * 2 ^ 48 ≡ now.code → part.width ≡ now.width - qe_at s cx * 2 ^ 48 → part.count ≡ now.count → part.place ≡ now.place → HoldsWide b part (divided b s cx)
 holds-upper b now part s cx h k code width count place =
-    subst (λ t. Holds b part t) (sym (divided-is b s cx false (lower-false b now s cx h k))) (record {
-      code = omega (arith, h.code, code);
-      width = omega (arith, h.width, width);
+    let e : now.code + 2 ^ 48 * s.low ≡ part.code + 2 ^ 48 * (s.low + qe_at s cx) = omega (arith, code) in
+    let width_was = h.width_is in
+    subst (λ t. HoldsWide b part t) (sym (divided-is b s cx false (lower-false b now s cx h k)))
+    (subst (λ x. IsHeld b part.code part.width x part.place (record s { low = s.low + qe_at s cx; width = s.width - qe_at s cx })) (sym count)
+    (subst (λ x. IsHeld b part.code part.width now.count x (record s { low = s.low + qe_at s cx; width = s.width - qe_at s cx })) (sym place) (record {
+      code_is = ap (λ x. x * 2 ^ now.count) (sym e) ∙ h.code_is;
+      width_is = omega (arith, width, width_was);
+      near = h.near;
       last = h.last;
       fed_last = h.fed_last;
-      due_next = omega (arith, h.due_next, count);
-      place = rw place h.place;
-    })
+      due_next = h.due_next;
+      place_is = h.place_is;
+    })))
 
 -- ---- the bit
 
@@ -180,66 +192,66 @@ unfolding is_exchanged
 exchanged-is s cx = refl
 
 -- in the units of the registers
-exchanged-scaled : (w q : ℕ) → ltb (w * 2 ^ 16 - q * 2 ^ 16) (q * 2 ^ 16) ≡ ltb (w - q) q
+exchanged-scaled : (w q : ℕ) → ltb (w * 2 ^ 48 - q * 2 ^ 48) (q * 2 ^ 48) ≡ ltb (w - q) q
 exchanged-scaled w q =
     elim (cases_lt (w - q) q) [
-      | inl less ↦ lt-ltb (w * 2 ^ 16 - q * 2 ^ 16) (q * 2 ^ 16) (omega (arith, less)) ∙ sym (lt-ltb (w - q) q less)
-      | inr more ↦ le-ltb (w * 2 ^ 16 - q * 2 ^ 16) (q * 2 ^ 16) (omega (arith, more)) ∙ sym (le-ltb (w - q) q more)
+      | inl less ↦ lt-ltb (w * 2 ^ 48 - q * 2 ^ 48) (q * 2 ^ 48) (omega (arith, less)) ∙ sym (lt-ltb (w - q) q less)
+      | inr more ↦ le-ltb (w * 2 ^ 48 - q * 2 ^ 48) (q * 2 ^ 48) (omega (arith, more)) ∙ sym (le-ltb (w - q) q more)
     ]
 
 -- ---- the decoder after a decision
 
-stands-within : (old new : View) (t : State) → new.bytes ≡ old.bytes → new.registers.code < new.registers.width → Holds old.bytes new.registers t → new.contexts ≡ t.contexts → Stands new t
+stands-within : (old new : View) (t : State) → new.bytes ≡ old.bytes → new.registers.code < new.registers.width → HoldsWide old.bytes new.registers t → new.contexts ≡ t.contexts → Stands new t
 stands-within old new t same k h contexts = inl (record { code = k; holds = rw same h; contexts = contexts })
 
 stands-outside : (old new : View) (t : State) → new.bytes ≡ old.bytes → HasFailed new → IsOutside old.bytes t → Stands new t
 stands-outside old new t same k h = inr (record { failed = k; outside = rw same h })
 
 -- The registers part hold the part of s that the code value lies in, and the decision is still to be settled.
-pub record Divides (old : View) (part : Registers) (s : State) (cx : ℕ) (context : Context) (bit : Bool) : Type 0 where
+pub record Divides (old : View) (part : WideRegisters) (s : State) (cx : ℕ) (context : Context) (bit : Bool) : Type 0 where
   pub within : IsWithin old.bytes s
-  pub holds : Holds old.bytes part (divided old.bytes s cx)
+  pub holds : HoldsWide old.bytes part (divided old.bytes s cx)
   pub context_is : context ≡ context_at s cx
   pub contexts_are : old.contexts ≡ s.contexts
   pub bit_is : bit ≡ bit_at old.bytes s cx
 
 -- What the call does: the context moves where a renormalisation is due, and the part is renormalised.
-pub record Settles (old new : View) (part : Registers) (cx : ℕ) (context : Context) (less : Bool) (result : Result Bool Fault) : Type 0 where
+pub record Settles (old new : View) (part : WideRegisters) (cx : ℕ) (context : Context) (less : Bool) (result : Result Bool Fault) : Type 0 where
   pub bytes : new.bytes ≡ old.bytes
-  pub contexts : new.contexts ≡ set old.contexts cx (cond (ltb part.width (2 ^ 31)) (moved context (cond less (not context.mps) context.mps)) context)
+  pub contexts : new.contexts ≡ set old.contexts cx (cond (ltb part.width (2 ^ 63)) (moved context (cond less (not context.mps) context.mps)) context)
   pub bit_is : IfOk result (λ b. b ≡ not (beq context.mps less))
   pub fault : IfErr result (λ e. e ≡ CodeOutOfInterval)
-  pub ready : OnOk result (IsReady old.bytes new.registers)
-  pub left : OnErr result (HasLeft new.registers)
-  pub holds : (s : State) → Holds old.bytes part s → MatchResult result (λ _. Holds old.bytes new.registers (renormalised 15 s)) (λ _. IsOutside old.bytes (renormalised 15 s))
+  pub ready : OnOk result (IsReadyWide old.bytes new.registers)
+  pub left : OnErr result (HasLeftWide new.registers)
+  pub holds : (s : State) → HoldsWide old.bytes part s → MatchResult result (λ _. HoldsWide old.bytes new.registers (renormalised 15 s)) (λ _. IsOutside old.bytes (renormalised 15 s))
 
-settles-contexts : (old new : View) (part : Registers) (s : State) (cx : ℕ) (context : Context) (less : Bool) (r : Result Bool Fault) → Settles old new part cx context less r → Divides old part s cx context (not (beq context.mps less)) → new.contexts ≡ (after old.bytes s cx).contexts
+settles-contexts : (old new : View) (part : WideRegisters) (s : State) (cx : ℕ) (context : Context) (less : Bool) (r : Result Bool Fault) → Settles old new part cx context less r → Divides old part s cx context (not (beq context.mps less)) → new.contexts ≡ (after old.bytes s cx).contexts
 settles-contexts old new part s cx context less r h d =
     let b = old.bytes in
     let bit = not (beq context.mps less) in
     let symbol_is : cond less (not context.mps) context.mps ≡ bit_at b s cx = sym (symbol less context.mps) ∙ d.bit_is in
-    h.contexts ∙ elim (cases_lt part.width (2 ^ 31)) [
+    h.contexts ∙ elim (cases_lt part.width (2 ^ 63)) [
       | inl narrow ↦
-          ap (λ (t : Bool). set old.contexts cx (cond t (moved context (cond less (not context.mps) context.mps)) context)) (lt-ltb part.width (2 ^ 31) narrow)
+          ap (λ (t : Bool). set old.contexts cx (cond t (moved context (cond less (not context.mps) context.mps)) context)) (lt-ltb part.width (2 ^ 63) narrow)
           ∙ ap (λ (cs : List Context). set cs cx (moved context (cond less (not context.mps) context.mps))) d.contexts_are
           ∙ ap (λ (x : Bool). set s.contexts cx (moved context x)) symbol_is
           ∙ ap (λ (x : Context). set s.contexts cx (moved x (bit_at b s cx))) d.context_is
-          ∙ sym (contexts-moved b s cx (let w = d.holds.width in omega (arith, w, narrow)))
+          ∙ sym (contexts-moved b s cx (let w = d.holds.width_is in omega (arith, w, narrow)))
           ∙ sym (contexts-after b s cx)
       | inr wide ↦
-          ap (λ (t : Bool). set old.contexts cx (cond t (moved context (cond less (not context.mps) context.mps)) context)) (le-ltb part.width (2 ^ 31) wide)
+          ap (λ (t : Bool). set old.contexts cx (cond t (moved context (cond less (not context.mps) context.mps)) context)) (le-ltb part.width (2 ^ 63) wide)
           ∙ ap (λ (cs : List Context). set cs cx context) d.contexts_are
           ∙ ap (λ (x : Context). set s.contexts cx x) d.context_is
           ∙ set-get_or s.contexts cx (begins 0)
-          ∙ sym (contexts-kept b s cx (let w = d.holds.width in omega (arith, w, wide)))
+          ∙ sym (contexts-kept b s cx (let w = d.holds.width_is in omega (arith, w, wide)))
           ∙ sym (contexts-after b s cx)
     ]
 
-settles-answers : (old new : View) (part : Registers) (s : State) (cx : ℕ) (context : Context) (less : Bool) (r : Result Bool Fault) → Settles old new part cx context less r → Divides old part s cx context (not (beq context.mps less)) → (r ≡ answer old.bytes s cx) × Stands new (next old.bytes s cx)
+settles-answers : (old new : View) (part : WideRegisters) (s : State) (cx : ℕ) (context : Context) (less : Bool) (r : Result Bool Fault) → Settles old new part cx context less r → Divides old part s cx context (not (beq context.mps less)) → (r ≡ answer old.bytes s cx) × Stands new (next old.bytes s cx)
 settles-answers old new part s cx context less (Ok x) h d =
     let b = old.bytes in
     let t = settling b s cx in
-    let there : Holds b new.registers (after b s cx) = subst (λ u. Holds b new.registers u) (sym (after-is b s cx)) (h.holds t (holds-contexts b part (divided b s cx) (contexts_after b s cx) d.holds)) in
+    let there : HoldsWide b new.registers (after b s cx) = subst (λ u. HoldsWide b new.registers u) (sym (after-is b s cx)) (h.holds t (holds-contexts b part (divided b s cx) (contexts_after b s cx) d.holds)) in
     (ap (λ (y : Bool). let z : Result Bool Fault = Ok y in z) (h.bit_is ∙ d.bit_is) ∙ sym (answer-ok b s cx d.within (within-holds b new.registers (after b s cx) h.ready.code there)), subst (λ u. Stands new u) (sym (next-within b s cx d.within)) (stands-within old new (after b s cx) h.bytes h.ready.code there (settles-contexts old new part s cx context less (Ok x) h d)))
 settles-answers old new part s cx context less (Err e) h d =
     let b = old.bytes in
@@ -247,7 +259,7 @@ settles-answers old new part s cx context less (Err e) h d =
     let there : IsOutside b (after b s cx) = subst (λ u. IsOutside b u) (sym (after-is b s cx)) (h.holds t (holds-contexts b part (divided b s cx) (contexts_after b s cx) d.holds)) in
     (ap (λ (y : Fault). let z : Result Bool Fault = Err y in z) h.fault ∙ sym (answer-left b s cx d.within there), subst (λ u. Stands new u) (sym (next-within b s cx d.within)) (stands-outside old new (after b s cx) h.bytes h.left there))
 
-pub decides-settled : (old new : View) (part : Registers) (cx : ℕ) (context : Context) (less : Bool) (r : Result Bool Fault) → Settles old new part cx context less r → ((s : State) → Stands old s → Divides old part s cx context (not (beq context.mps less))) → Decides old new cx r
+pub decides-settled : (old new : View) (part : WideRegisters) (cx : ℕ) (context : Context) (less : Bool) (r : Result Bool Fault) → Settles old new part cx context less r → ((s : State) → Stands old s → Divides old part s cx context (not (beq context.mps less))) → Decides old new cx r
 decides-settled old new part cx context less r h divides = record {
   answers = λ s st. (settles-answers old new part s cx context less r h (divides s st)).0;
   goes_on = λ s st. (settles-answers old new part s cx context less r h (divides s st)).1;
@@ -255,7 +267,7 @@ decides-settled old new part cx context less r h divides = record {
 
 -- ---- the part that the code value lies in, as the call finds it
 
-pub divides : (old : View) (part : Registers) (cx : ℕ) (context : Context) (q : ℕ) (less : Bool) → old.registers.code < old.registers.width → context ≡ get_or old.contexts cx (begins 0) → q ≡ (row_of context.state).qe * 2 ^ 16
+pub divides : (old : View) (part : WideRegisters) (cx : ℕ) (context : Context) (q : ℕ) (less : Bool) → old.registers.code < old.registers.width → context ≡ get_or old.contexts cx (begins 0) → q ≡ (row_of context.state).qe * 2 ^ 48
     → (old.registers.code < q → part ≡ record old.registers { width = q }) → (q ≤ old.registers.code → part ≡ record old.registers { code = old.registers.code - q; width = old.registers.width - q })
     → less ≡ not (beq (ltb old.registers.code q) (ltb (old.registers.width - q) q)) → (s : State) → Stands old s → Divides old part s cx context (not (beq context.mps less))
 divides old part cx context q less k context_is q_is low high less_is s st =
@@ -264,8 +276,8 @@ divides old part cx context q less k context_is q_is low high less_is s st =
     let at = is-within old s k st in
     let h = at.holds in
     let same : context ≡ context_at s cx = context_is ∙ ap (λ (cs : List Context). get_or cs cx (begins 0)) at.contexts in
-    let size : q ≡ qe_at s cx * 2 ^ 16 = q_is ∙ ap (λ (x : Context). (row_of x.state).qe * 2 ^ 16) same in
-    let exchanged : ltb (r.width - q) q ≡ is_exchanged s cx = ap (λ p. ltb (r.width - p) p) size ∙ ap (λ w. ltb (w - qe_at s cx * 2 ^ 16) (qe_at s cx * 2 ^ 16)) h.width ∙ exchanged-scaled s.width (qe_at s cx) ∙ sym (exchanged-is s cx) in
+    let size : q ≡ qe_at s cx * 2 ^ 48 = q_is ∙ ap (λ (x : Context). (row_of x.state).qe * 2 ^ 48) same in
+    let exchanged : ltb (r.width - q) q ≡ is_exchanged s cx = ap (λ p. ltb (r.width - p) p) size ∙ ap (λ w. ltb (w - qe_at s cx * 2 ^ 48) (qe_at s cx * 2 ^ 48)) h.width_is ∙ exchanged-scaled s.width (qe_at s cx) ∙ sym (exchanged-is s cx) in
     let bit : (lower : Bool) → ltb r.code q ≡ lower → is_lower b s cx ≡ lower → not (beq context.mps less) ≡ bit_at b s cx = λ lower here there.
     ap (λ (l : Bool). not (beq context.mps l)) less_is
     ∙ ap (λ (t : Bool). not (beq context.mps (not (beq t (ltb (r.width - q) q))))) here
@@ -273,7 +285,7 @@ divides old part cx context q less k context_is q_is low high less_is s st =
     ∙ bit_from lower (is_exchanged s cx) context.mps
     ∙ ap (λ (x : Context). cond (beq lower (is_exchanged s cx)) x.mps (not x.mps)) same
     ∙ sym (bit-is b s cx lower there) in
-    let made : (part_held : Holds b part (divided b s cx)) (lower : Bool) → ltb r.code q ≡ lower → is_lower b s cx ≡ lower → Divides old part s cx context (not (beq context.mps less)) = λ held lower here there. record {
+    let made : (part_held : HoldsWide b part (divided b s cx)) (lower : Bool) → ltb r.code q ≡ lower → is_lower b s cx ≡ lower → Divides old part s cx context (not (beq context.mps less)) = λ held lower here there. record {
       within = within-holds b r s k h;
       holds = held;
       context_is = same;
@@ -283,12 +295,12 @@ divides old part cx context q less k context_is q_is low high less_is s st =
     elim (cases_lt r.code q) [
       | inl below ↦
           let is = low below in
-          let here : r.code < qe_at s cx * 2 ^ 16 = omega (arith, below, size) in
-          made (holds-lower b r part s cx h here (ap (λ (x : Registers). x.code) is) (ap (λ (x : Registers). x.width) is ∙ size) (ap (λ (x : Registers). x.count) is) (ap (λ (x : Registers). x.place) is)) true (lt-ltb r.code q below) (lower-true b r s cx h here)
+          let here : r.code < qe_at s cx * 2 ^ 48 = omega (arith, below, size) in
+          made (holds-lower b r part s cx h here (ap (λ (x : WideRegisters). x.code) is) (ap (λ (x : WideRegisters). x.width) is ∙ size) (ap (λ (x : WideRegisters). x.count) is) (ap (λ (x : WideRegisters). x.place) is)) true (lt-ltb r.code q below) (lower-true b r s cx h here)
       | inr above ↦
           let is = high above in
-          let here : qe_at s cx * 2 ^ 16 ≤ r.code = omega (arith, above, size) in
-          let code = ap (λ (x : Registers). x.code) is in
-          let width = ap (λ (x : Registers). x.width) is in
-          made (holds-upper b r part s cx h here (omega (arith, code, above, size)) (omega (arith, width, size)) (ap (λ (x : Registers). x.count) is) (ap (λ (x : Registers). x.place) is)) false (le-ltb r.code q above) (lower-false b r s cx h here)
+          let here : qe_at s cx * 2 ^ 48 ≤ r.code = omega (arith, above, size) in
+          let code = ap (λ (x : WideRegisters). x.code) is in
+          let width = ap (λ (x : WideRegisters). x.width) is in
+          made (holds-upper b r part s cx h here (omega (arith, code, above, size)) (omega (arith, width, size)) (ap (λ (x : WideRegisters). x.count) is) (ap (λ (x : WideRegisters). x.place) is)) false (le-ltb r.code q above) (lower-false b r s cx h here)
     ]

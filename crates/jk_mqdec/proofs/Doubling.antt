@@ -82,7 +82,7 @@ outside-doubled_by : (b : List ℕ) (n : ℕ) (s : State) → IsOutside b s → 
 outside-doubled_by b zero s h = h
 outside-doubled_by b (suc n) s h = outside-doubled_by b n (doubled s) (outside-doubled b s h)
 
-doubled_by-add : (m n : ℕ) (s : State) → doubled_by (m + n) s ≡ doubled_by n (doubled_by m s)
+pub doubled_by-add : (m n : ℕ) (s : State) → doubled_by (m + n) s ≡ doubled_by n (doubled_by m s)
 doubled_by-add zero n s = ap (λ k. doubled_by k s) (let e : 0 + n ≡ n = omega arith in e)
 doubled_by-add (suc m) n s = ap (λ k. doubled_by k s) (let e : suc m + n ≡ suc (m + n) = omega arith in e) ∙ doubled_by-add m n (doubled s)
 
@@ -94,12 +94,6 @@ renormalised-times (suc k) (suc n) s few least most =
     let first = shift_first s.width n in
     let narrow : s.width < 2 ^ 15 = (let g = shift_grows s.width 1 (suc n) (omega arith) in omega (arith, g, most)) in
     renormalised-narrow k s narrow ∙ renormalised-times k n (doubled s) (omega (arith, few)) (omega (arith, first, least)) (omega (arith, first, most))
-
--- the same in the units of the registers
-pub renormalised-by : (b : List ℕ) (r : Registers) (s : State) (n : ℕ) → Holds b r s → n ≤ 15 → 2 ^ 31 ≤ r.width * 2 ^ n → r.width * 2 ^ n < 2 ^ 32 → renormalised 15 s ≡ doubled_by n s
-renormalised-by b r s n h few least most =
-    let scaled : r.width * 2 ^ n ≡ 2 ^ 16 * (s.width * 2 ^ n) = ap (λ w. w * 2 ^ n) h.width ∙ (let e : s.width * 2 ^ 16 * 2 ^ n ≡ 2 ^ 16 * (s.width * 2 ^ n) = grind arith in e) in
-    renormalised-times 15 n s few (omega (arith, scaled, least)) (omega (arith, scaled, most))
 
 -- no byte is due between them
 pub holds-shifted : (b : List ℕ) (n : ℕ) (old new : Registers) (s : State) → Holds b old s → n ≤ old.count → new.code ≡ old.code * 2 ^ n → new.width ≡ old.width * 2 ^ n → new.count + n ≡ old.count → new.place ≡ old.place → Holds b new (doubled_by n s)

@@ -135,3 +135,7 @@ pub feeds-end : (b : List ℕ) (old new : Registers) (byte next : ℕ) → byte 
 feeds-end b old new byte next e n h above code width count place last at =
     let there = subst (λ p. Next b last 255 8 p) (sym place) (at-end b old.place last at (sym e ∙ h) (omega arith)) in
     feeds b old new last 255 8 there (omega arith) width count
+
+-- the byte behind one that isn't FF
+pub plain-next : (b : List ℕ) (p l : ℕ) → IsAt b p l → byte_at b p < 255 → (fed b (suc l) ≡ byte_at b (p + 1)) × (places b l ≡ 8) × IsAt b (p + 1) (suc l)
+plain-next b p l at k = let n = plain b p l at (λ e. omega (arith, e, k)) in (n.byte_is, n.count_is, n.place_is)

@@ -4,3 +4,4 @@ pub mod Doubling
 pub mod Feeding
 pub mod Reaching
 pub mod Staying
+pub mod Widening

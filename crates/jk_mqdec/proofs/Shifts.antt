@@ -22,19 +22,19 @@ pub half_less : (w n : ℕ) → 0 < n → w * 2 ^ n < 2 ^ 32 → w < 2 ^ 31
 half_less w n some h = let g = shift_grows w 1 n some in omega (arith, g, h)
 
 -- the doublings that bring the highest bit of a width to the top
-pub highest : (w : ℕ) → 2 ^ 16 ≤ w → w < 2 ^ 32 → (count_leading_zeros 32 w ≤ 15) × (2 ^ 31 ≤ w * 2 ^ count_leading_zeros 32 w) × (w * 2 ^ count_leading_zeros 32 w < 2 ^ 32)
+pub highest : (w : ℕ) → 2 ^ 48 ≤ w → w < 2 ^ 64 → (count_leading_zeros 64 w ≤ 15) × (2 ^ 63 ≤ w * 2 ^ count_leading_zeros 64 w) × (w * 2 ^ count_leading_zeros 64 w < 2 ^ 64)
 highest w wide fits =
-    let t = leading_top 32 w (omega (arith, wide)) fits in
-    let n = count_leading_zeros 32 w in
+    let t = leading_top 64 w (omega (arith, wide)) fits in
+    let n = count_leading_zeros 64 w in
     let j = t.0 in
-    let all : n + suc j ≡ 32 = t.1 in
+    let all : n + suc j ≡ 64 = t.1 in
     let below : w * 2 ^ n < 2 ^ suc j * 2 ^ n = shift_less w (2 ^ suc j) n t.3 in
     let least : 2 ^ j * 2 ^ n ≤ w * 2 ^ n = mul-le-mul_right (2 ^ n) t.2 in
-    let top : 2 ^ suc j * 2 ^ n ≡ 2 ^ 32 = sym (pow-add 2 (suc j) n) ∙ ap (λ k. 2 ^ k) (let e : suc j + n ≡ 32 = omega (arith, all) in e) in
-    let bottom : 2 ^ j * 2 ^ n ≡ 2 ^ 31 = sym (pow-add 2 j n) ∙ ap (λ k. 2 ^ k) (let e : j + n ≡ 31 = omega (arith, all) in e) in
+    let top : 2 ^ suc j * 2 ^ n ≡ 2 ^ 64 = sym (pow-add 2 (suc j) n) ∙ ap (λ k. 2 ^ k) (let e : suc j + n ≡ 64 = omega (arith, all) in e) in
+    let bottom : 2 ^ j * 2 ^ n ≡ 2 ^ 63 = sym (pow-add 2 j n) ∙ ap (λ k. 2 ^ k) (let e : j + n ≡ 63 = omega (arith, all) in e) in
     let near : n ≤ 15 = elim (cases_lt 15 n) [
-      | inl more ↦ (let low : suc j ≤ 16 = omega (arith, all, more) in
-          let p : 2 ^ suc j ≤ 2 ^ 16 = pow_mono low in
+      | inl more ↦ (let low : suc j ≤ 48 = omega (arith, all, more) in
+          let p : 2 ^ suc j ≤ 2 ^ 48 = pow_mono low in
           let less = t.3 in
           absurd (omega (arith, p, less, wide)))
       | inr few ↦ few

@@ -3,12 +3,12 @@ use Rattle.std.proofs.Common.{◌≡◌, ap, ℕ, ◌-◌, ◌*◌, ◌^◌, ◌
 use Rattle.std.specs.Prelude.{IfSome}
 use Rattle.std.specs.Int.Count.{count_leading_zeros}
 use Rattle.std.proofs.lemmas.Bool.{cases_lt}
-use Rattle.jk_mqdec.specs.declared.registers.Registers.{Registers}
-use Rattle.jk_mqdec.specs.Registers.{HasLeft}
+use Rattle.jk_mqdec.specs.declared.wide.WideRegisters.{WideRegisters}
+use Rattle.jk_mqdec.specs.Wide.{HasLeftWide}
 use Rattle.jk_mqdec.proofs.Shifts.{highest}
 
 -- where no byte is due, it hasn't left
-pub inside-unless-due : (r : Registers) → 2 ^ 16 ≤ r.width → r.width < 2 ^ 32 → (HasLeft r → (r.count ≡ 0) × (r.width < 2 ^ 31)) → count_leading_zeros 32 r.width ≤ r.count → r.code < r.width
+pub inside-unless-due : (r : WideRegisters) → 2 ^ 48 ≤ r.width → r.width < 2 ^ 64 → (HasLeftWide r → (r.count ≡ 0) × (r.width < 2 ^ 63)) → count_leading_zeros 64 r.width ≤ r.count → r.code < r.width
 inside-unless-due r wide fits waits few = elim (cases_lt r.code r.width) [
   | inl less ↦ less
   | inr left ↦
@@ -17,7 +17,7 @@ inside-unless-due r wide fits waits few = elim (cases_lt r.code r.width) [
       let narrow = w.1 in
       let h = highest r.width wide fits in
       let least = h.1 in
-      let zero : count_leading_zeros 32 r.width ≡ 0 = omega (arith, none, few) in
+      let zero : count_leading_zeros 64 r.width ≡ 0 = omega (arith, none, few) in
       let same = ap (λ t. r.width * 2 ^ t) zero in
       absurd (omega (arith, least, same, narrow))
 ]
@@ -27,26 +27,26 @@ some-of None P p = tt
 some-of (Some x) P p = p
 
 -- a part is left where the whole is
-pub whole-inside : (r part : Registers) (q : ℕ) → q ≤ r.width → (r.code < q → part ≡ record r { width = q }) → (q ≤ r.code → part ≡ record r { code = r.code - q; width = r.width - q }) → part.code < part.width → r.code < r.width
+pub whole-inside : (r part : WideRegisters) (q : ℕ) → q ≤ r.width → (r.code < q → part ≡ record r { width = q }) → (q ≤ r.code → part ≡ record r { code = r.code - q; width = r.width - q }) → part.code < part.width → r.code < r.width
 whole-inside r part q fits low high k = elim (cases_lt r.code q) [
   | inl below ↦ omega (arith, below, fits)
   | inr above ↦
       let is = high above in
-      let code = ap (λ (x : Registers). x.code) is in
-      let width = ap (λ (x : Registers). x.width) is in
+      let code = ap (λ (x : WideRegisters). x.code) is in
+      let width = ap (λ (x : WideRegisters). x.width) is in
       omega (arith, code, width, above, k)
 ]
 
-pub part-inside : (r part : Registers) (q : ℕ) → (r.code < q → part ≡ record r { width = q }) → (q ≤ r.code → part ≡ record r { code = r.code - q; width = r.width - q }) → r.code < r.width → part.code < part.width
+pub part-inside : (r part : WideRegisters) (q : ℕ) → (r.code < q → part ≡ record r { width = q }) → (q ≤ r.code → part ≡ record r { code = r.code - q; width = r.width - q }) → r.code < r.width → part.code < part.width
 part-inside r part q low high k = elim (cases_lt r.code q) [
   | inl below ↦
       let is = low below in
-      let code = ap (λ (x : Registers). x.code) is in
-      let width = ap (λ (x : Registers). x.width) is in
+      let code = ap (λ (x : WideRegisters). x.code) is in
+      let width = ap (λ (x : WideRegisters). x.width) is in
       omega (arith, code, width, below)
   | inr above ↦
       let is = high above in
-      let code = ap (λ (x : Registers). x.code) is in
-      let width = ap (λ (x : Registers). x.width) is in
+      let code = ap (λ (x : WideRegisters). x.code) is in
+      let width = ap (λ (x : WideRegisters). x.width) is in
       omega (arith, code, width, above, k)
 ]

@@ -59,11 +59,3 @@ pub record IsReady (bytes : List ℕ) (r : Registers) : Type 0 where
   pub least : 2 ^ 31 ≤ r.width
   pub count : r.count < 8
   pub place : r.place ≤ length bytes
-
--- The bounds of registers between two decisions, where the code value may have left the interval: then the next decision is
--- sure to wait for a byte.
-pub record IsSteady (bytes : List ℕ) (r : Registers) : Type 0 where
-  pub least : 2 ^ 31 ≤ r.width
-  pub count : r.count < 8
-  pub place : r.place ≤ length bytes
-  pub waits : HasLeft r → (r.count ≡ 0) × (r.width ≡ 2 ^ 31)

@@ -2,27 +2,28 @@
 use Rattle.std.specs.Prelude.{◌≡◌, ℕ, ◌<◌, ◌⊎◌, List}
 use Rattle.jk_model.specs.Contexts.{Context}
 use Rattle.jk_model.specs.Decisions.{State, Decision, initial, state_after, Spells}
-use Rattle.jk_mqdec.specs.declared.registers.Registers.{Registers}
-use Rattle.jk_mqdec.specs.Registers.{Holds, IsOutside, HasLeft, IsReady}
+use Rattle.jk_mqdec.specs.declared.wide.WideRegisters.{WideRegisters}
+use Rattle.jk_mqdec.specs.Registers.{IsOutside}
+use Rattle.jk_mqdec.specs.Wide.{HoldsWide, HasLeftWide, IsReadyWide}
 
 -- a decoder: the segment, the registers, and the contexts
 pub record View : Type 0 where
   pub bytes : List ℕ
-  pub registers : Registers
+  pub registers : WideRegisters
   pub contexts : List Context
 
 -- the registers are within their bounds, unless the code value has left the interval
 abbrev pub IsSound : View → Type 0
-IsSound d = d.registers.code < d.registers.width → IsReady d.bytes d.registers
+IsSound d = d.registers.code < d.registers.width → IsReadyWide d.bytes d.registers
 
 -- the code value has left the interval
 abbrev pub HasFailed : View → Type 0
-HasFailed d = HasLeft d.registers
+HasFailed d = HasLeftWide d.registers
 
 -- The decoder holds the interval and the contexts of s.
 pub record StandsWithin (d : View) (s : State) : Type 0 where
   pub code : d.registers.code < d.registers.width
-  pub holds : Holds d.bytes d.registers s
+  pub holds : HoldsWide d.bytes d.registers s
   pub contexts : d.contexts ≡ s.contexts
 
 -- The code value has left the interval of s.

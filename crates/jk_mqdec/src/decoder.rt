@@ -6,7 +6,8 @@ ghost use Rattle.jk_model.specs.Decisions.{State, Decision, initial, Spells};
 ghost use Rattle.jk_mqdec.specs.Standing.{View, Stands, HasFailed, Reached};
 ghost use Rattle.jk_mqdec.specs.Answers.{answer, next};
 
-use crate::registers::{Registers, divided, is_narrow, loaded, renormalised};
+use crate::registers::loaded;
+use crate::wide::{WideRegisters, divided, is_narrow, renormalised, scaled, widened};
 use jk_math::Fault;
 use jk_model::{Step, first_steps};
 use std::marker::Model;
@@ -15,7 +16,7 @@ use std::marker::Model;
 #[derive(Drop)]
 pub struct Decoder<'a> {
     bytes: &'a [u8],
-    registers: Registers,
+    registers: WideRegisters,
     contexts: [Step; 19],
 }
 
@@ -39,7 +40,7 @@ impl<'a> Decoder<'a> {
     {
         Decoder {
             bytes,
-            registers: loaded(bytes),
+            registers: widened(loaded(bytes)),
             contexts: first_steps(),
         }
     }
@@ -72,7 +73,7 @@ impl<'a> Decoder<'a> {
         }
         let contexts = &mut self.contexts;
         let context = contexts[cx];
-        let part = divided(now, context.qe());
+        let part = divided(now, scaled(context.size()));
         contexts[cx] = context.after(is_narrow(part.registers), part.less);
         match renormalised(self.bytes, part.registers) {
             Some(registers) => {
@@ -80,7 +81,7 @@ impl<'a> Decoder<'a> {
                 Ok(context.mps() != part.less)
             }
             None => {
-                self.registers = Registers {
+                self.registers = WideRegisters {
                     width: 0,
                     ..part.registers
                 };

@@ -4,6 +4,7 @@
 mod decoder;
 mod registers;
 mod run;
+mod wide;
 
 pub use decoder::Decoder;
 pub use run::Run;

@@ -1,10 +1,9 @@
 //! The registers of the decoder (T.800 C.3).
 
-ghost use Rattle.std.specs.Prelude.{◌≡◌, ℕ, suc, ◌+◌, ◌-◌, ◌*◌, ◌^◌, ◌<◌, ◌≤◌, ◌==◌, not, nat_lt, length, IfSome, MatchOption};
-ghost use Rattle.std.specs.Bool.{beq};
+ghost use Rattle.std.specs.Prelude.{◌≡◌, ℕ, suc, ◌+◌, ◌*◌, ◌^◌, ◌<◌, ◌≤◌, length, IfSome, MatchOption};
 ghost use Rattle.jk_model.specs.Code.{byte_at};
-ghost use Rattle.jk_model.specs.Decisions.{State, initial, doubled, renormalised};
-ghost use Rattle.jk_mqdec.specs.Registers.{IsAt, Feeds, Holds, Supplied, IsOutside, CanDouble, IsReady, HasLeft, IsSteady, doubled_by};
+ghost use Rattle.jk_model.specs.Decisions.{State, initial, doubled};
+ghost use Rattle.jk_mqdec.specs.Registers.{IsAt, Feeds, Holds, Supplied, IsOutside, CanDouble, IsReady, doubled_by};
 
 /// The registers C, A and CT of T.800 C.3.1, and the place of the byte that was fed last, BP.
 #[derive(Clone, Copy)]
@@ -19,20 +18,11 @@ pub struct Registers {
     pub place: usize,
 }
 
-/// A part of a divided interval, and whether it stands for the less probable symbol.
-#[derive(Drop)]
-pub struct Part {
-    /// The registers that hold the part.
-    pub registers: Registers,
-    /// Whether it stands for the less probable symbol.
-    pub less: bool,
-}
-
 /// Half the range of the width: it is at least this large between two decisions.
 const HALF: u32 = 0x8000_0000;
 
 /// A byte of the segment. Past its end stand bytes FF.
-fn byte(bytes: &[u8], place: usize) -> u32
+pub fn byte(bytes: &[u8], place: usize) -> u32
     ensures value { result ≡ byte_at bytes.now place }
     ensures byte { result < 256 }
 {
@@ -43,6 +33,7 @@ fn byte(bytes: &[u8], place: usize) -> u32
 }
 
 /// Feeds the next byte (BYTEIN, T.800 C.3.4).
+#[inline(always)]
 fn fed(bytes: &[u8], old: Registers) -> Registers
     requires place { old.place ≤ length bytes.now }
     requires room { old.code < 2 ^ 31 }
@@ -78,6 +69,7 @@ fn fed(bytes: &[u8], old: Registers) -> Registers
 }
 
 /// Feeds the byte that is due before the next doubling. `None` where the code value has left the interval.
+#[inline(always)]
 fn supplied(bytes: &[u8], old: Registers) -> Option<Registers>
     requires can { CanDouble bytes.now old }
     requires small { old.width < 2 ^ 31 }
@@ -119,7 +111,8 @@ fn shifted(old: Registers, times: u32) -> Registers
 }
 
 /// Doubles so many times, with bytes fed between. `None` where the code value has left the interval.
-fn fed_through(bytes: &[u8], old: Registers, times: u32) -> Option<Registers>
+#[inline(always)]
+pub fn fed_through(bytes: &[u8], old: Registers, times: u32) -> Option<Registers>
     requires can { CanDouble bytes.now old }
     requires due { old.count < times }
     requires few { times ≤ 15 }
@@ -138,82 +131,6 @@ fn fed_through(bytes: &[u8], old: Registers, times: u32) -> Option<Registers>
         left -= next;
     }
     Some(now)
-}
-
-/// Doubles until the width is at least half its range (RENORMD, T.800 C.3.3). `None` where the code value has left the
-/// interval.
-#[inline(always)]
-pub fn renormalised(bytes: &[u8], old: Registers) -> Option<Registers>
-    requires can { CanDouble bytes.now old }
-    requires wide { 2 ^ 16 ≤ old.width }
-    ensures ready { IfSome result (IsReady bytes.now) }
-    ensures holds { (s : State) → Holds bytes.now old s
-        → MatchOption result (IsOutside bytes.now (renormalised 15 s)) (λ r. Holds bytes.now r (renormalised 15 s)) }
-{
-    let times = old.width.leading_zeros();
-    if times <= old.count {
-        return Some(shifted(old, times));
-    }
-    fed_through(bytes, old, times)
-}
-
-/// The same of registers whose code value may have left the interval before. A doubling that waits for a byte tells.
-#[inline(always)]
-pub fn renormalised_within(bytes: &[u8], old: Registers) -> Option<Registers>
-    requires count { old.count < 8 }
-    requires place { old.place ≤ length bytes.now }
-    requires wide { 2 ^ 16 ≤ old.width }
-    requires waits { HasLeft old → (old.count ≡ 0) × (old.width < 2 ^ 31) }
-    ensures ready { IfSome result (IsReady bytes.now) }
-    ensures inside { IfSome result (λ _. old.code < old.width) }
-    ensures holds { (s : State) → old.code < old.width → Holds bytes.now old s
-        → MatchOption result (IsOutside bytes.now (renormalised 15 s)) (λ r. Holds bytes.now r (renormalised 15 s)) }
-{
-    let doublings = old.width.leading_zeros();
-    if doublings <= old.count {
-        return Some(shifted(old, doublings));
-    }
-    if old.code >= old.width {
-        return None;
-    }
-    fed_through(bytes, old, doublings)
-}
-
-/// The part of the interval that the code value lies in, where the lower part is so large (T.800 C.3.2).
-///
-/// The choice is made without a branch, since half of all decisions can't be foreseen.
-#[inline(always)]
-pub fn divided(now: Registers, lower_width: u32) -> Part
-    requires { lower_width ≤ now.width }
-    ensures lower { now.code < lower_width
-        → result.registers ≡ record now { width = lower_width } }
-    ensures upper { lower_width ≤ now.code
-        → result.registers ≡ record now { code = now.code - lower_width; width = now.width - lower_width } }
-    ensures less { result.less
-        ≡ not (beq (nat_lt now.code lower_width) (nat_lt (now.width - lower_width) lower_width)) }
-{
-    let upper_width = now.width - lower_width;
-    let is_lower = now.code < lower_width;
-    Part {
-        registers: Registers {
-            code: if is_lower {
-                now.code
-            } else {
-                now.code - lower_width
-            },
-            width: if is_lower { lower_width } else { upper_width },
-            ..now
-        },
-        less: is_lower != (upper_width < lower_width),
-    }
-}
-
-/// Whether a renormalisation is due.
-#[inline(always)]
-pub fn is_narrow(registers: Registers) -> bool
-    ensures { result ≡ nat_lt registers.width (2 ^ 31) }
-{
-    registers.width < HALF
 }
 
 /// The registers at the start of a segment (INITDEC, T.800 C.3.5).
@@ -235,18 +152,4 @@ pub fn loaded(bytes: &[u8]) -> Registers
         count: second.count - 7,
         ..second
     }
-}
-
-/// The registers at the start of a segment, with no doubling before the next byte where the code value has left the
-/// interval already.
-pub fn begun(bytes: &[u8]) -> Registers
-    ensures steady { IsSteady bytes.now result }
-    ensures holds { result.code < result.width → Holds bytes.now result initial }
-    ensures left { HasLeft result → IsOutside bytes.now initial }
-{
-    let loaded = loaded(bytes);
-    if loaded.code < loaded.width {
-        return loaded;
-    }
-    Registers { count: 0, ..loaded }
 }

@@ -7,7 +7,7 @@ ghost use Rattle.jk_model.specs.Decisions.{State, initial};
 ghost use Rattle.jk_mqdec.specs.Standing.{View, Stands};
 ghost use Rattle.jk_mqdec.specs.Answers.{answer, next};
 
-use crate::registers::{Registers, begun, divided, is_narrow, renormalised_within};
+use crate::wide::{WideRegisters, begun, divided, is_narrow, renormalised_within, scaled};
 use jk_math::Fault;
 use jk_model::Step;
 use std::marker::Model;
@@ -16,19 +16,19 @@ use std::marker::Model;
 #[derive(Drop)]
 pub struct Run<'a> {
     bytes: &'a [u8],
-    registers: Registers,
+    registers: WideRegisters,
     contexts: &'a mut [Step; 19],
 }
 
 impl<'a> Model for Run<'a> {
     ghost use Rattle.jk_mqdec.specs.Standing.{View};
-    ghost use Rattle.jk_mqdec.specs.Registers.{IsSteady};
+    ghost use Rattle.jk_mqdec.specs.Wide.{IsSteadyWide};
 
     ghost Value = { View };
 
     ghost view = { λ d. record { bytes = d.bytes.now; registers = d.registers; contexts = d.contexts.now } };
 
-    ghost invariant = { λ d. IsSteady d.bytes.now d.registers };
+    ghost invariant = { λ d. IsSteadyWide d.bytes.now d.registers };
 }
 
 impl<'a> Run<'a> {
@@ -56,7 +56,7 @@ impl<'a> Run<'a> {
     {
         let contexts = &mut *self.contexts;
         let context = contexts[cx];
-        let part = divided(self.registers, context.qe());
+        let part = divided(self.registers, scaled(context.size()));
         contexts[cx] = context.after(is_narrow(part.registers), part.less);
         match renormalised_within(self.bytes, part.registers) {
             Some(registers) => {

@@ -1,12 +1,13 @@
-use Rattle.std.proofs.Common.{◌≡◌, ◌∙◌, ap, subst, ◌-◌, ◌^◌, ◌<◌, ◌≤◌, Bool, not, cond, get_or, set, length, ltb, Result, Ok, Err, refl, arith}
+use Rattle.std.proofs.Common.{◌≡◌, ◌∙◌, ap, subst, ◌-◌, ◌*◌, ◌^◌, ◌<◌, ◌≤◌, Bool, not, cond, get_or, set, length, ltb, Result, Ok, Err, refl, arith}
 use Rattle.std.specs.Bool.{beq}
 use Rattle.std.proofs.lemmas.List.{get_or_default}
 use Rattle.jk_math.specs.declared.fault.Fault.{Fault}
 use Rattle.jk_math.specs.declared.fault.Fault.TheVariants.{CodeOutOfInterval}
 use Rattle.jk_model.specs.Contexts.{Context, moved, begins}
 use Rattle.jk_model.specs.Decisions.{renormalised}
-use Rattle.jk_mqdec.specs.declared.registers.Registers.{Registers}
-use Rattle.jk_mqdec.specs.Registers.{Holds, IsOutside, IsReady}
+use Rattle.jk_mqdec.specs.declared.wide.WideRegisters.{WideRegisters}
+use Rattle.jk_mqdec.specs.Registers.{IsOutside}
+use Rattle.jk_mqdec.specs.Wide.{HoldsWide, IsReadyWide}
 use Rattle.jk_mqdec.specs.Standing.{View, HasFailed}
 use Rattle.jk_mqdec.proofs.Deciding.{Decides, Settles, decides-failed, decides-settled, divides}
 use Rattle.jk_mqdec.proofs.Reaching.{reached-more, only-one}
@@ -40,14 +41,14 @@ some c =
     let s = c.self.inside in
     let part = c.divided-part.result.registers in
     let less = c.divided-part.result.less in
-    let q = c.qe.result in
+    let q = c.scaled.result in
     let context = get_or s.contexts c.args.cx c.index-contexts-cx.result in
     let bytes : s.bytes.now ≡ old.bytes = ap (λ (v : View). v.bytes) c.self.view_is in
     let registers : s.registers ≡ old.registers = ap (λ (v : View). v.registers) c.self.view_is in
     let here : c.args.cx < length s.contexts = omega arith in
-    let contexts : set s.contexts c.args.cx c.after.result ≡ set old.contexts c.args.cx (cond (ltb part.width (2 ^ 31)) (moved context (cond less (not context.mps) context.mps)) context) =
+    let contexts : set s.contexts c.args.cx c.after.result ≡ set old.contexts c.args.cx (cond (ltb part.width (2 ^ 63)) (moved context (cond less (not context.mps) context.mps)) context) =
     ap (λ (x : Context). set s.contexts c.args.cx x) (c.after.ensures ∙ ap (λ (t : Bool). cond t (moved context (cond less (not context.mps) context.mps)) context) c.is_narrow.ensures)
-    ∙ ap (λ (v : View). set v.contexts c.args.cx (cond (ltb part.width (2 ^ 31)) (moved context (cond less (not context.mps) context.mps)) context)) c.self.view_is in
+    ∙ ap (λ (v : View). set v.contexts c.args.cx (cond (ltb part.width (2 ^ 63)) (moved context (cond less (not context.mps) context.mps)) context)) c.self.view_is in
     let new : View = record { bytes = s.bytes.now; registers = c.in-Some.registers; contexts = set s.contexts c.args.cx c.after.result } in
     let result : Result Bool Fault = Ok (not (beq c.mps.result less)) in
     let settles : Settles old new part c.args.cx context less result = record {
@@ -55,17 +56,17 @@ some c =
       contexts = contexts;
       bit_is = ap (λ (m : Bool). not (beq m less)) c.mps.ensures;
       fault = tt;
-      ready = subst (λ b. IsReady b c.in-Some.registers) bytes c.in-Some.ensures.ready;
+      ready = subst (λ b. IsReadyWide b c.in-Some.registers) bytes c.in-Some.ensures.ready;
       left = tt;
-      holds = λ t. subst (λ b. Holds b part t → Holds b c.in-Some.registers (renormalised 15 t)) bytes (c.in-Some.ensures.holds t);
+      holds = λ t. subst (λ b. HoldsWide b part t → HoldsWide b c.in-Some.registers (renormalised 15 t)) bytes (c.in-Some.ensures.holds t);
     } in
     let divide = divides old part c.args.cx context q less
-    (subst (λ (r : Registers). r.code < r.width) registers c.if-now.false)
+    (subst (λ (r : WideRegisters). r.code < r.width) registers c.if-now.false)
     (get_or_default s.contexts c.args.cx c.index-contexts-cx.result (begins 0) here ∙ ap (λ (v : View). get_or v.contexts c.args.cx (begins 0)) c.self.view_is)
-    c.qe.ensures.value
-    (subst (λ (r : Registers). r.code < q → part ≡ record r { width = q }) registers c.divided-part.ensures.lower)
-    (subst (λ (r : Registers). q ≤ r.code → part ≡ record r { code = r.code - q; width = r.width - q }) registers c.divided-part.ensures.upper)
-    (subst (λ (r : Registers). less ≡ not (beq (ltb r.code q) (ltb (r.width - q) q))) registers c.divided-part.ensures.less) in
+    (c.scaled.ensures ∙ ap (λ k. k * 2 ^ 48) c.size.ensures.value)
+    (subst (λ (r : WideRegisters). r.code < q → part ≡ record r { width = q }) registers c.divided-part.ensures.lower)
+    (subst (λ (r : WideRegisters). q ≤ r.code → part ≡ record r { code = r.code - q; width = r.width - q }) registers c.divided-part.ensures.upper)
+    (subst (λ (r : WideRegisters). less ≡ not (beq (ltb r.code q) (ltb (r.width - q) q))) registers c.divided-part.ensures.less) in
     decides-settled old new part c.args.cx context less result settles divide
 
 -- the code value leaves the interval
@@ -76,14 +77,14 @@ none c =
     let s = c.self.inside in
     let part = c.divided-part.result.registers in
     let less = c.divided-part.result.less in
-    let q = c.qe.result in
+    let q = c.scaled.result in
     let context = get_or s.contexts c.args.cx c.index-contexts-cx.result in
     let bytes : s.bytes.now ≡ old.bytes = ap (λ (v : View). v.bytes) c.self.view_is in
     let registers : s.registers ≡ old.registers = ap (λ (v : View). v.registers) c.self.view_is in
     let here : c.args.cx < length s.contexts = omega arith in
-    let contexts : set s.contexts c.args.cx c.after.result ≡ set old.contexts c.args.cx (cond (ltb part.width (2 ^ 31)) (moved context (cond less (not context.mps) context.mps)) context) =
+    let contexts : set s.contexts c.args.cx c.after.result ≡ set old.contexts c.args.cx (cond (ltb part.width (2 ^ 63)) (moved context (cond less (not context.mps) context.mps)) context) =
     ap (λ (x : Context). set s.contexts c.args.cx x) (c.after.ensures ∙ ap (λ (t : Bool). cond t (moved context (cond less (not context.mps) context.mps)) context) c.is_narrow.ensures)
-    ∙ ap (λ (v : View). set v.contexts c.args.cx (cond (ltb part.width (2 ^ 31)) (moved context (cond less (not context.mps) context.mps)) context)) c.self.view_is in
+    ∙ ap (λ (v : View). set v.contexts c.args.cx (cond (ltb part.width (2 ^ 63)) (moved context (cond less (not context.mps) context.mps)) context)) c.self.view_is in
     let new : View = record { bytes = s.bytes.now; registers = record part { width = 0 }; contexts = set s.contexts c.args.cx c.after.result } in
     let result : Result Bool Fault = Err CodeOutOfInterval in
     let settles : Settles old new part c.args.cx context less result = record {
@@ -93,15 +94,15 @@ none c =
       fault = refl;
       ready = tt;
       left = omega arith;
-      holds = λ t. subst (λ b. Holds b part t → IsOutside b (renormalised 15 t)) bytes (c.in-None.ensures.holds t);
+      holds = λ t. subst (λ b. HoldsWide b part t → IsOutside b (renormalised 15 t)) bytes (c.in-None.ensures.holds t);
     } in
     let divide = divides old part c.args.cx context q less
-    (subst (λ (r : Registers). r.code < r.width) registers c.if-now.false)
+    (subst (λ (r : WideRegisters). r.code < r.width) registers c.if-now.false)
     (get_or_default s.contexts c.args.cx c.index-contexts-cx.result (begins 0) here ∙ ap (λ (v : View). get_or v.contexts c.args.cx (begins 0)) c.self.view_is)
-    c.qe.ensures.value
-    (subst (λ (r : Registers). r.code < q → part ≡ record r { width = q }) registers c.divided-part.ensures.lower)
-    (subst (λ (r : Registers). q ≤ r.code → part ≡ record r { code = r.code - q; width = r.width - q }) registers c.divided-part.ensures.upper)
-    (subst (λ (r : Registers). less ≡ not (beq (ltb r.code q) (ltb (r.width - q) q))) registers c.divided-part.ensures.less) in
+    (c.scaled.ensures ∙ ap (λ k. k * 2 ^ 48) c.size.ensures.value)
+    (subst (λ (r : WideRegisters). r.code < q → part ≡ record r { width = q }) registers c.divided-part.ensures.lower)
+    (subst (λ (r : WideRegisters). q ≤ r.code → part ≡ record r { code = r.code - q; width = r.width - q }) registers c.divided-part.ensures.upper)
+    (subst (λ (r : WideRegisters). less ≡ not (beq (ltb r.code q) (ltb (r.width - q) q))) registers c.divided-part.ensures.less) in
     decides-settled old new part c.args.cx context less result settles divide
 
 pub returns-in-Some-clause-answer : goal.returns-in-Some-clause-answer

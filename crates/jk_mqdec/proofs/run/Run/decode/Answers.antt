@@ -1,4 +1,4 @@
-use Rattle.std.proofs.Common.{◌≡◌, ◌∙◌, ap, subst, ◌-◌, ◌^◌, ◌<◌, ◌≤◌, Bool, not, cond, get_or, set, length, ltb, Result, Ok, Err, refl, sym, inl, inr, arith}
+use Rattle.std.proofs.Common.{◌≡◌, ◌∙◌, ap, subst, ◌-◌, ◌*◌, ◌^◌, ◌<◌, ◌≤◌, Bool, not, cond, get_or, set, length, ltb, Result, Ok, Err, refl, sym, inl, inr, arith}
 use Rattle.std.specs.Bool.{beq}
 use Rattle.std.proofs.lemmas.Bool.{cases_lt}
 use Rattle.std.proofs.lemmas.List.{get_or_default}
@@ -6,8 +6,9 @@ use Rattle.jk_math.specs.declared.fault.Fault.{Fault}
 use Rattle.jk_math.specs.declared.fault.Fault.TheVariants.{CodeOutOfInterval}
 use Rattle.jk_model.specs.Contexts.{Context, moved, begins}
 use Rattle.jk_model.specs.Decisions.{renormalised}
-use Rattle.jk_mqdec.specs.declared.registers.Registers.{Registers}
-use Rattle.jk_mqdec.specs.Registers.{Holds, IsOutside, IsReady}
+use Rattle.jk_mqdec.specs.declared.wide.WideRegisters.{WideRegisters}
+use Rattle.jk_mqdec.specs.Registers.{IsOutside}
+use Rattle.jk_mqdec.specs.Wide.{HoldsWide, IsReadyWide}
 use Rattle.jk_mqdec.specs.Standing.{View}
 use Rattle.jk_mqdec.proofs.Deciding.{Decides, Settles, decides-settled, divides, is-outside, answer-failed}
 use Rattle.jk_mqdec.proofs.Staying.{whole-inside, part-inside}
@@ -22,37 +23,37 @@ some c =
     let s = c.self.inside in
     let part = c.divided-part.result.registers in
     let less = c.divided-part.result.less in
-    let q = c.qe.result in
+    let q = c.scaled.result in
     let context = get_or s.contexts.now c.args.cx c.index-contexts-cx.result in
     let bytes : s.bytes.now ≡ old.bytes = ap (λ (v : View). v.bytes) c.self.view_is in
     let registers : s.registers ≡ old.registers = ap (λ (v : View). v.registers) c.self.view_is in
     let here : c.args.cx < length s.contexts.now = omega arith in
-    let contexts : set s.contexts.now c.args.cx c.after.result ≡ set old.contexts c.args.cx (cond (ltb part.width (2 ^ 31)) (moved context (cond less (not context.mps) context.mps)) context) =
+    let contexts : set s.contexts.now c.args.cx c.after.result ≡ set old.contexts c.args.cx (cond (ltb part.width (2 ^ 63)) (moved context (cond less (not context.mps) context.mps)) context) =
     ap (λ (x : Context). set s.contexts.now c.args.cx x) (c.after.ensures ∙ ap (λ (t : Bool). cond t (moved context (cond less (not context.mps) context.mps)) context) c.is_narrow.ensures)
-    ∙ ap (λ (v : View). set v.contexts c.args.cx (cond (ltb part.width (2 ^ 31)) (moved context (cond less (not context.mps) context.mps)) context)) c.self.view_is in
+    ∙ ap (λ (v : View). set v.contexts c.args.cx (cond (ltb part.width (2 ^ 63)) (moved context (cond less (not context.mps) context.mps)) context)) c.self.view_is in
     let new : View = record { bytes = s.bytes.now; registers = c.in-Some.registers; contexts = set s.contexts.now c.args.cx c.after.result } in
     let result : Result Bool Fault = Ok (not (beq c.mps.result less)) in
-    let inside : old.registers.code < old.registers.width = (whole-inside old.registers part q (let e = ap (λ (r : Registers). r.width) registers in let most = c.qe.ensures.largest in let least = c.self.invariant.least in omega (arith, e, most, least))
-    (subst (λ (r : Registers). r.code < q → part ≡ record r { width = q }) registers c.divided-part.ensures.lower)
-    (subst (λ (r : Registers). q ≤ r.code → part ≡ record r { code = r.code - q; width = r.width - q }) registers c.divided-part.ensures.upper)
+    let inside : old.registers.code < old.registers.width = (whole-inside old.registers part q (let e = ap (λ (r : WideRegisters). r.width) registers in let most = c.size.ensures.largest in let q_is = c.scaled.ensures in let least = c.self.invariant.least in omega (arith, e, most, least, q_is))
+    (subst (λ (r : WideRegisters). r.code < q → part ≡ record r { width = q }) registers c.divided-part.ensures.lower)
+    (subst (λ (r : WideRegisters). q ≤ r.code → part ≡ record r { code = r.code - q; width = r.width - q }) registers c.divided-part.ensures.upper)
     c.in-Some.ensures.inside) in
     let settles : Settles old new part c.args.cx context less result = record {
       bytes = bytes;
       contexts = contexts;
       bit_is = ap (λ (m : Bool). not (beq m less)) c.mps.ensures;
       fault = tt;
-      ready = subst (λ b. IsReady b c.in-Some.registers) bytes c.in-Some.ensures.ready;
+      ready = subst (λ b. IsReadyWide b c.in-Some.registers) bytes c.in-Some.ensures.ready;
       left = tt;
-      holds = λ t. subst (λ b. Holds b part t → Holds b c.in-Some.registers (renormalised 15 t)) bytes
-          (c.in-Some.ensures.holds t (part-inside old.registers part q (subst (λ (r : Registers). r.code < q → part ≡ record r { width = q }) registers c.divided-part.ensures.lower) (subst (λ (r : Registers). q ≤ r.code → part ≡ record r { code = r.code - q; width = r.width - q }) registers c.divided-part.ensures.upper) inside));
+      holds = λ t. subst (λ b. HoldsWide b part t → HoldsWide b c.in-Some.registers (renormalised 15 t)) bytes
+          (c.in-Some.ensures.holds t (part-inside old.registers part q (subst (λ (r : WideRegisters). r.code < q → part ≡ record r { width = q }) registers c.divided-part.ensures.lower) (subst (λ (r : WideRegisters). q ≤ r.code → part ≡ record r { code = r.code - q; width = r.width - q }) registers c.divided-part.ensures.upper) inside));
     } in
     let divide = divides old part c.args.cx context q less
     inside
     (get_or_default s.contexts.now c.args.cx c.index-contexts-cx.result (begins 0) here ∙ ap (λ (v : View). get_or v.contexts c.args.cx (begins 0)) c.self.view_is)
-    c.qe.ensures.value
-    (subst (λ (r : Registers). r.code < q → part ≡ record r { width = q }) registers c.divided-part.ensures.lower)
-    (subst (λ (r : Registers). q ≤ r.code → part ≡ record r { code = r.code - q; width = r.width - q }) registers c.divided-part.ensures.upper)
-    (subst (λ (r : Registers). less ≡ not (beq (ltb r.code q) (ltb (r.width - q) q))) registers c.divided-part.ensures.less) in
+    (c.scaled.ensures ∙ ap (λ k. k * 2 ^ 48) c.size.ensures.value)
+    (subst (λ (r : WideRegisters). r.code < q → part ≡ record r { width = q }) registers c.divided-part.ensures.lower)
+    (subst (λ (r : WideRegisters). q ≤ r.code → part ≡ record r { code = r.code - q; width = r.width - q }) registers c.divided-part.ensures.upper)
+    (subst (λ (r : WideRegisters). less ≡ not (beq (ltb r.code q) (ltb (r.width - q) q))) registers c.divided-part.ensures.less) in
     decides-settled old new part c.args.cx context less result settles divide
 
 -- the code value leaves the interval, or has left it before
@@ -63,14 +64,14 @@ none c inside =
     let s = c.self.inside in
     let part = c.divided-part.result.registers in
     let less = c.divided-part.result.less in
-    let q = c.qe.result in
+    let q = c.scaled.result in
     let context = get_or s.contexts.now c.args.cx c.index-contexts-cx.result in
     let bytes : s.bytes.now ≡ old.bytes = ap (λ (v : View). v.bytes) c.self.view_is in
     let registers : s.registers ≡ old.registers = ap (λ (v : View). v.registers) c.self.view_is in
     let here : c.args.cx < length s.contexts.now = omega arith in
-    let contexts : set s.contexts.now c.args.cx c.after.result ≡ set old.contexts c.args.cx (cond (ltb part.width (2 ^ 31)) (moved context (cond less (not context.mps) context.mps)) context) =
+    let contexts : set s.contexts.now c.args.cx c.after.result ≡ set old.contexts c.args.cx (cond (ltb part.width (2 ^ 63)) (moved context (cond less (not context.mps) context.mps)) context) =
     ap (λ (x : Context). set s.contexts.now c.args.cx x) (c.after.ensures ∙ ap (λ (t : Bool). cond t (moved context (cond less (not context.mps) context.mps)) context) c.is_narrow.ensures)
-    ∙ ap (λ (v : View). set v.contexts c.args.cx (cond (ltb part.width (2 ^ 31)) (moved context (cond less (not context.mps) context.mps)) context)) c.self.view_is in
+    ∙ ap (λ (v : View). set v.contexts c.args.cx (cond (ltb part.width (2 ^ 63)) (moved context (cond less (not context.mps) context.mps)) context)) c.self.view_is in
     let new : View = record { bytes = s.bytes.now; registers = record part { width = 0 }; contexts = set s.contexts.now c.args.cx c.after.result } in
     let result : Result Bool Fault = Err CodeOutOfInterval in
     let settles : Settles old new part c.args.cx context less result = record {
@@ -80,16 +81,16 @@ none c inside =
       fault = refl;
       ready = tt;
       left = omega arith;
-      holds = λ t. subst (λ b. Holds b part t → IsOutside b (renormalised 15 t)) bytes
-          (c.in-None.ensures.holds t (part-inside old.registers part q (subst (λ (r : Registers). r.code < q → part ≡ record r { width = q }) registers c.divided-part.ensures.lower) (subst (λ (r : Registers). q ≤ r.code → part ≡ record r { code = r.code - q; width = r.width - q }) registers c.divided-part.ensures.upper) inside));
+      holds = λ t. subst (λ b. HoldsWide b part t → IsOutside b (renormalised 15 t)) bytes
+          (c.in-None.ensures.holds t (part-inside old.registers part q (subst (λ (r : WideRegisters). r.code < q → part ≡ record r { width = q }) registers c.divided-part.ensures.lower) (subst (λ (r : WideRegisters). q ≤ r.code → part ≡ record r { code = r.code - q; width = r.width - q }) registers c.divided-part.ensures.upper) inside));
     } in
     let divide = divides old part c.args.cx context q less
     inside
     (get_or_default s.contexts.now c.args.cx c.index-contexts-cx.result (begins 0) here ∙ ap (λ (v : View). get_or v.contexts c.args.cx (begins 0)) c.self.view_is)
-    c.qe.ensures.value
-    (subst (λ (r : Registers). r.code < q → part ≡ record r { width = q }) registers c.divided-part.ensures.lower)
-    (subst (λ (r : Registers). q ≤ r.code → part ≡ record r { code = r.code - q; width = r.width - q }) registers c.divided-part.ensures.upper)
-    (subst (λ (r : Registers). less ≡ not (beq (ltb r.code q) (ltb (r.width - q) q))) registers c.divided-part.ensures.less) in
+    (c.scaled.ensures ∙ ap (λ k. k * 2 ^ 48) c.size.ensures.value)
+    (subst (λ (r : WideRegisters). r.code < q → part ≡ record r { width = q }) registers c.divided-part.ensures.lower)
+    (subst (λ (r : WideRegisters). q ≤ r.code → part ≡ record r { code = r.code - q; width = r.width - q }) registers c.divided-part.ensures.upper)
+    (subst (λ (r : WideRegisters). less ≡ not (beq (ltb r.code q) (ltb (r.width - q) q))) registers c.divided-part.ensures.less) in
     decides-settled old new part c.args.cx context less result settles divide
 
 pub returns-in-Some-clause-answer : goal.returns-in-Some-clause-answer
