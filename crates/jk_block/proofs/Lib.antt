@@ -40,3 +40,4 @@ pub mod Freshness
 pub mod Listing
 pub mod Slicing
 pub mod Negatives
+pub mod Aging

@@ -67,16 +67,16 @@ older_at s ms sig vis j i m p drawn hj hi place lim l =
     gate true false n v f e = refl
     gate false ins n v f e = refl
 
-pub record Refining (at : Spot) (k0 k : Sketch) (v0 v : View) (seen candidates : ℕ) : Type 0 where
+pub record Refining (at : Spot) (refined : List ℕ) (k0 k : Sketch) (v0 v : View) (seen candidates : ℕ) : Type 0 where
   pub n : ℕ
   pub going : Going 1 at n k0 k v0 v
-  pub fresh : IsFresh at.plane k
+  pub fresh : IsFresh at.plane refined k
   pub near : (m : ℕ) → m < 64 → of_rows (m % 8) ≡ true → on seen m ≡ touched (lit_in k) (column at.word m) (row at.stripe m)
   pub awaits : (m : ℕ) → m < 64 → on candidates m ≡ (nat_le n m && is_older k at.word at.stripe m)
 
-pub refining_none : (at : Spot) (k0 k : Sketch) (v : View) (seen candidates : ℕ) → k.shape ≡ k0.shape → ((coder : State) → progress k0 coder ≡ progress k coder) → IsFresh at.plane k
-    → ShowsAt of_rows (near (bordered (lit_in k))) (at.word + 1) (at.stripe + 1) seen → ((m : ℕ) → m < 64 → on candidates m ≡ is_older k at.word at.stripe m) → Refining at k0 k v v seen candidates
-refining_none at k0 k v seen candidates shape same fresh shown older = record {
+pub refining_none : (at : Spot) (refined : List ℕ) (k0 k : Sketch) (v : View) (seen candidates : ℕ) → k.shape ≡ k0.shape → ((coder : State) → progress k0 coder ≡ progress k coder) → IsFresh at.plane refined k
+    → ShowsAt of_rows (near (bordered (lit_in k))) (at.word + 1) (at.stripe + 1) seen → ((m : ℕ) → m < 64 → on candidates m ≡ is_older k at.word at.stripe m) → Refining at refined k0 k v v seen candidates
+refining_none at refined k0 k v seen candidates shape same fresh shown older = record {
   n = 0;
   going = going_none 1 at k0 k v shape same;
   fresh = fresh;
@@ -118,8 +118,8 @@ none : (b : Bool) → (b && false) ≡ false
 none true = refl
 none false = refl
 
-pub refining_next : (at : Spot) (k0 k : Sketch) (v0 v : View) (seen n : ℕ) (st : Refining at k0 k v0 v seen n) → 0 < n → n < 2 ^ 64 → NextOlder at k0 k v0 v (trailing_zeros w64 n)
-refining_next at k0 k v0 v seen n st p q =
+pub refining_next : (at : Spot) (refined : List ℕ) (k0 k : Sketch) (v0 v : View) (seen n : ℕ) (st : Refining at refined k0 k v0 v seen n) → 0 < n → n < 2 ^ 64 → NextOlder at k0 k v0 v (trailing_zeros w64 n)
+refining_next at refined k0 k v0 v seen n st p q =
     let z = trailing_zeros w64 n in
     let x = column at.word z in
     let y = row at.stripe z in
@@ -151,12 +151,12 @@ step_on z m rest n from due due' k h a b d = grind (arith, nat_tests)
 visited_same : (k k' : Sketch) → k'.shape ≡ k.shape → k'.visited ≡ k.visited → (x y : ℕ) → visited_in k' x y ≡ visited_in k x y
 visited_same k k' e g x y = ap (λ (s : BlockShape). flagged s k'.visited x y) e ∙ ap (λ (ws : List ℕ). flagged k.shape ws x y) g
 
-pub refining_one : {A : Type 0} (at : Spot) (k0 k k' : Sketch) (v0 v v' : View) (seen n : ℕ) (u : A) (st : Refining at k0 k v0 v seen n) → 0 < n → n < 2 ^ 64
+pub refining_one : {A : Type 0} (at : Spot) (refined : List ℕ) (k0 k k' : Sketch) (v0 v v' : View) (seen n : ℕ) (u : A) (st : Refining at refined k0 k v0 v seen n) → 0 < n → n < 2 ^ 64
     → Takes (place_at v.bytes k.shape at.plane 1 (column at.word (trailing_zeros w64 n)) (row at.stripe (trailing_zeros w64 n))) k k' v v' (Ok u) → k'.shape ≡ k.shape → v'.bytes ≡ v.bytes
-    → ((x y : ℕ) → lit_in k' x y ≡ lit_in k x y) → k'.visited ≡ k.visited → IsFresh at.plane k' → Refining at k0 k' v0 v' seen (bit_and n (n - 1))
-refining_one at k0 k k' v0 v v' seen n u st p q takes shape bytes lit visited fresh =
+    → ((x y : ℕ) → lit_in k' x y ≡ lit_in k x y) → k'.visited ≡ k.visited → IsFresh at.plane refined k' → Refining at refined k0 k' v0 v' seen (bit_and n (n - 1))
+refining_one at refined k0 k k' v0 v v' seen n u st p q takes shape bytes lit visited fresh =
     let z = trailing_zeros w64 n in
-    let next = refining_next at k0 k v0 v seen n st p q in
+    let next = refining_next at refined k0 k v0 v seen n st p q in
     let l = lowest n p q in
     let both = and_parts (nat_le st.n z) (is_older k at.word at.stripe z) (sym (st.awaits z l.0) ∙ l.1) in
     let onward : st.n ≤ z = true_le st.n z both.0 in
@@ -171,8 +171,8 @@ refining_one at k0 k k' v0 v v' seen n u st p q takes shape bytes lit visited fr
           ∙ ap (λ b. of_rows (m % 8) && (lit_in k (column at.word m) (row at.stripe m) && not b)) (visited_same k k' shape visited (column at.word m) (row at.stripe m)));
     }
 
-pub refining_all : (at : Spot) (k0 k : Sketch) (v0 v : View) (seen n : ℕ) → Refining at k0 k v0 v seen n → n ≡ 0 → Going 1 at 64 k0 k v0 v
-refining_all at k0 k v0 v seen n st empty =
+pub refining_all : (at : Spot) (refined : List ℕ) (k0 k : Sketch) (v0 v : View) (seen n : ℕ) → Refining at refined k0 k v0 v seen n → n ≡ 0 → Going 1 at 64 k0 k v0 v
+refining_all at refined k0 k v0 v seen n st empty =
     going_skip 1 at st.n 64 k0 k v0 v st.going st.going.most (omega arith) (λ coder m a b. record { plain = λ _. none (nat_lt (8 * at.word + m / 8) k.shape.width); idle = λ c d. idle m a b c d })
   where
     idle : (m : ℕ) → st.n ≤ m → m < 64 → 1 ≤ m % 8 → m % 8 < 5 → (lit_in k (8 * at.word + m / 8) (4 * at.stripe + m % 8 - 1) && not (visited_in k (8 * at.word + m / 8) (4 * at.stripe + m % 8 - 1))) ≡ false

@@ -2,6 +2,7 @@ pub mod Meaning
 pub mod Reading
 pub mod Fields
 pub mod Sketches
+pub mod Ages
 pub mod BlockWritten
 pub mod Layers
 pub mod Viewed

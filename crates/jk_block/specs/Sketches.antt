@@ -1,9 +1,10 @@
 -- What a sketch shows, the working state in which a block is read, and how a call on it and a decoder goes on.
-use Rattle.std.specs.Prelude.{◌≡◌, ℕ, ◌+◌, ◌^◌, ◌≤◌, Bool, true, false, Result, Ok, Err}
+use Rattle.std.specs.Prelude.{◌≡◌, ℕ, ◌+◌, ◌^◌, ◌≤◌, Bool, true, false, nat_le, List, Result, Ok, Err}
 use Rattle.jk_math.specs.declared.fault.Fault.{Fault}
 use Rattle.jk_model.specs.Decisions.{State}
 use Rattle.jk_mqdec.specs.Standing.{View, Stands}
-use Rattle.jk_scan.specs.Neighbours.{Field}
+use Rattle.jk_scan.specs.Neighbours.{Field, is_inside}
+use Rattle.jk_scan.specs.Flags.{flag_at}
 use Rattle.jk_scan.specs.Moments.{propagation, refinement, cleanup}
 use Rattle.jk_block.specs.declared.spot.Pass.{Pass}
 use Rattle.jk_block.specs.declared.spot.Pass.TheVariants.{Propagation, Refinement, Cleanup}
@@ -30,9 +31,11 @@ negative_in k = flagged k.shape k.negative
 abbrev pub visited_in : Sketch → Field Bool
 visited_in k = flagged k.shape k.visited
 
--- What is significant and isn't coded in this plane yet was so in a higher plane.
-abbrev pub IsFresh : (plane : ℕ) → Sketch → Type 0
-IsFresh plane k = (x y : ℕ) → lit_in k x y ≡ true → visited_in k x y ≡ false → 2 ^ (plane + 1) ≤ field_of k.shape k.magnitudes 0 x y
+-- What is significant and isn't coded in this plane yet was so in a higher plane, and words show what was so already before
+-- the plane above began.
+pub record IsFresh (plane : ℕ) (refined : List ℕ) (k : Sketch) : Type 0 where
+  pub higher : (x y : ℕ) → lit_in k x y ≡ true → visited_in k x y ≡ false → 2 ^ (plane + 1) ≤ field_of k.shape k.magnitudes 0 x y
+  pub older : (x y : ℕ) → is_inside k.shape x y ≡ true → flag_at k.shape refined x y ≡ nat_le (2 ^ (plane + 2)) (field_of k.shape k.magnitudes 0 x y)
 
 -- the number of a pass
 abbrev pub number_of : Pass → ℕ

@@ -1,6 +1,6 @@
 //! A block read from its segment.
 
-ghost use Rattle.std.specs.Prelude.{◌≡◌, ℕ, ℤ, true, IfErr, OnOk, map, ◌++◌, ◌+◌, ◌-◌, ◌*◌, ◌/◌, ◌%◌, ◌^◌, ◌<◌, ◌≤◌, All, IfOk, MatchResult, unsigned_abs};
+ghost use Rattle.std.specs.Prelude.{◌≡◌, ℕ, ℤ, List, true, IfErr, OnOk, map, replicate, ◌++◌, ◌+◌, ◌-◌, ◌*◌, ◌/◌, ◌%◌, ◌^◌, ◌<◌, ◌≤◌, All, IfOk, MatchResult, unsigned_abs};
 ghost use Rattle.std.specs.List.{range_with_len};
 ghost use Rattle.jk_math.specs.Answer.{Answers};
 ghost use Rattle.jk_math.specs.Memory.{IsMemory};
@@ -14,13 +14,14 @@ ghost use Rattle.jk_block.specs.Reading.{times, blank, begun, pass_at, coefficie
 ghost use Rattle.jk_block.specs.Sketches.{Takes, IsFresh, progress, number_of, negative_in};
 
 use crate::passes::visit_plane;
-use crate::sketch::Sketch;
+use crate::sketch::{Sketch, unmarked};
 use crate::spot::{Pass, pass_of};
 use jk_math::Fault;
 use jk_model::first_steps;
 use jk_mqdec::Run;
-use jk_scan::{BlockShape, Kind};
+use jk_scan::{BlockShape, Kind, WORDS};
 use std::alloc::Global;
+use std::marker::Model;
 
 /// A code-block: the coefficients of its place in a sub-band.
 #[derive(Drop)]
@@ -39,7 +40,7 @@ pub struct Block {
 fn begin(sketch: &mut Sketch, pass: Pass)
     ensures shape { sketch.new.shape ≡ sketch.old.shape }
     ensures begun { (c : State) → progress sketch.new c ≡ begun (number_of pass) (progress sketch.old c) }
-    ensures fresh { (plane : ℕ) → number_of pass ≡ 1 → IsFresh plane sketch.old → IsFresh plane sketch.new }
+    ensures fresh { (plane : ℕ) (refined : List ℕ) → number_of pass ≡ 1 → IsFresh plane refined sketch.old → IsFresh plane refined sketch.new }
 {
     match pass {
         Pass::Propagation => sketch.begin(),
@@ -47,11 +48,77 @@ fn begin(sketch: &mut Sketch, pass: Pass)
     }
 }
 
+/// What was significant before a plane, and what was so before the plane above. The two change places with each plane.
+#[derive(Drop)]
+struct Ages {
+    even: [u64; WORDS],
+    odd: [u64; WORDS],
+    is_odd: bool,
+}
+
+impl Model for Ages {
+    ghost use Rattle.std.specs.Prelude.{if◌then◌else◌};
+    ghost use Rattle.jk_block.specs.Ages.{AgesView};
+
+    ghost Value = { AgesView };
+
+    ghost view = { λ a. record { refined = if a.is_odd then a.odd else a.even; older = if a.is_odd then a.even else a.odd } };
+}
+
+impl Ages {
+    /// Nothing was significant.
+    #[inline(always)]
+    fn none() -> Ages
+        ensures refined { result.refined ≡ replicate 774 0 }
+        ensures older { result.older ≡ replicate 774 0 }
+    {
+        Ages {
+            even: unmarked(),
+            odd: unmarked(),
+            is_odd: false,
+        }
+    }
+
+    /// What was significant before the plane above.
+    #[inline(always)]
+    fn refined(&self) -> &[u64; WORDS]
+        ensures { result.now ≡ self.now.refined }
+    {
+        if self.is_odd { &self.odd } else { &self.even }
+    }
+
+    /// Notes what is significant as the n-th pass begins, if with it a plane begins.
+    fn note(&mut self, significant: &[u64; WORDS], n: usize)
+        requires { n < 100 }
+        ensures refined { kind_of n ≡ 0 → self.new.refined ≡ self.old.older }
+        ensures older { kind_of n ≡ 0 → self.new.older ≡ significant.now }
+        ensures kept { (kind_of n ≡ 0 → ⊥) → self.new ≡ self.old }
+    {
+        match pass_of(n) {
+            Pass::Propagation => {
+                if self.is_odd {
+                    self.odd = *significant;
+                } else {
+                    self.even = *significant;
+                }
+                self.is_odd = !self.is_odd;
+            }
+            _ => {}
+        }
+    }
+}
+
 /// Reads the n-th pass of a block.
-fn read_pass(sketch: &mut Sketch, decoder: &mut Run, planes: u32, n: usize) -> Result<(), Fault>
+fn read_pass(
+    sketch: &mut Sketch,
+    decoder: &mut Run,
+    refined: &[u64; WORDS],
+    planes: u32,
+    n: usize,
+) -> Result<(), Fault>
     requires planes { planes ≤ 23 }
     requires n { n < 3 * planes - 2 }
-    requires fresh { kind_of n ≡ 1 → IsFresh (plane_of planes n) sketch.old }
+    requires fresh { kind_of n ≡ 1 → IsFresh (plane_of planes n) refined.now sketch.old }
     ensures shape { sketch.new.shape ≡ sketch.old.shape }
     ensures bytes { decoder.new.bytes ≡ decoder.old.bytes }
     ensures takes { Takes (pass_at decoder.old.bytes sketch.old.shape planes n)
@@ -60,7 +127,7 @@ fn read_pass(sketch: &mut Sketch, decoder: &mut Run, planes: u32, n: usize) -> R
     let plane = planes - 1 - (n as u32 + 2) / 3;
     let pass = pass_of(n);
     begin(sketch, pass);
-    visit_plane(sketch, decoder, plane, pass)
+    visit_plane(sketch, decoder, refined, plane, pass)
 }
 
 /// Reads the passes of a block.
@@ -79,8 +146,10 @@ fn read_passes(
     ensures takes { Takes (times passes (pass_at decoder.old.bytes sketch.old.shape planes))
         sketch.old sketch.new decoder.old decoder.new result }
 {
+    let mut ages = Ages::none();
     for n in 0..passes {
-        read_pass(sketch, decoder, planes, n)?;
+        ages.note(&sketch.significant, n);
+        read_pass(sketch, decoder, ages.refined(), planes, n)?;
     }
     Ok(())
 }

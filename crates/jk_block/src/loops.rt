@@ -1,13 +1,13 @@
 //! A word of 32 places in each pass: loops over the places that the pass codes, from the lowest bit on. Between two of them
 //! nothing happens.
 
-ghost use Rattle.std.specs.Prelude.{◌≡◌, ℕ, Bool, not, nat_eq, nat_lt, ◌&&◌, ◌+◌, ◌*◌, ◌/◌, ◌%◌, ◌<◌};
+ghost use Rattle.std.specs.Prelude.{◌≡◌, ℕ, Bool, true, not, nat_eq, nat_lt, ◌&&◌, ◌+◌, ◌*◌, ◌/◌, ◌%◌, ◌<◌};
 ghost use Rattle.jk_scan.specs.Bits.{on};
 ghost use Rattle.jk_scan.specs.Neighbours.{Field, is_inside};
 ghost use Rattle.jk_scan.specs.Words.{of_rows, bordered, Shows};
 ghost use Rattle.jk_scan.specs.WordPlaces.{column, row};
 ghost use Rattle.jk_scan.specs.Surroundings.{IsAround};
-ghost use Rattle.jk_scan.specs.Flags.{IsSized};
+ghost use Rattle.jk_scan.specs.Flags.{IsSized, flag_at};
 ghost use Rattle.jk_block.specs.Reading.{is_quiet};
 ghost use Rattle.jk_block.specs.Steps.{IsSpot, word_pass};
 ghost use Rattle.jk_block.specs.Sketches.{Takes, IsFresh, lit_in, visited_in};
@@ -18,8 +18,8 @@ use crate::visits::{read_left, read_member, read_next, read_run};
 use jk_math::Fault;
 use jk_mqdec::Run;
 use jk_scan::{
-    Around, BlockShape, inside, members, quiet_behind, quiet_columns, seen_around, touched_places,
-    word_place,
+    Around, BlockShape, WORDS, inside, members, quiet_behind, quiet_columns, refine_context,
+    seen_around, touched_places, word_place,
 };
 
 /// Reads a word in the significance propagation pass (T.800 D.3.1). A place that becomes significant takes in the later ones
@@ -59,24 +59,42 @@ fn older(sketch: &Sketch, spot: Spot) -> u64
     significant[place] & !visited[place]
 }
 
+/// The places of a word that the words show.
+#[inline(always)]
+fn refined_places(refined: &[u64; WORDS], shape: BlockShape, spot: Spot) -> u64
+    requires sized { IsSized shape }
+    requires spot { IsSpot shape spot }
+    ensures { (m : ℕ) → m < 64 → of_rows (m % 8) ≡ true
+        → on result m ≡ flag_at shape refined.now (column spot.word m) (row spot.stripe m) }
+{
+    refined[word_place(shape, spot.word + 1, spot.stripe + 1)]
+}
+
 /// Reads a word in the magnitude refinement pass (T.800 D.3.3).
-pub fn refine(sketch: &mut Sketch, decoder: &mut Run, spot: Spot) -> Result<(), Fault>
+pub fn refine(
+    sketch: &mut Sketch,
+    decoder: &mut Run,
+    refined: &[u64; WORDS],
+    spot: Spot,
+) -> Result<(), Fault>
     requires spot { IsSpot sketch.old.shape spot }
-    requires fresh { IsFresh spot.plane sketch.old }
+    requires fresh { IsFresh spot.plane refined.now sketch.old }
     ensures shape { sketch.new.shape ≡ sketch.old.shape }
     ensures bytes { decoder.new.bytes ≡ decoder.old.bytes }
-    ensures fresh { IsFresh spot.plane sketch.new }
+    ensures fresh { IsFresh spot.plane refined.now sketch.new }
     ensures takes { Takes (word_pass decoder.old.bytes sketch.old.shape spot.plane 1 spot.word spot.stripe)
         sketch.old sketch.new decoder.old decoder.new result }
 {
     let shape = sketch.shape;
     let seen = seen_around(&sketch.significant, shape, spot.word, spot.stripe);
     let touched = touched_places(seen.own, seen.left, seen.right);
+    let again = refined_places(refined, shape, spot);
     let mut candidates = older(sketch, spot);
     while candidates != 0 {
         let k = candidates.trailing_zeros();
         candidates &= candidates - 1;
-        read_next(sketch, decoder, shape, spot, k, touched >> k & 1 == 1)?;
+        let context = refine_context(again >> k & 1 == 1, touched >> k & 1 == 1);
+        read_next(sketch, decoder, shape, spot, k, context)?;
     }
     Ok(())
 }

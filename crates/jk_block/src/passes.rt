@@ -11,21 +11,27 @@ use crate::sketch::Sketch;
 use crate::spot::{Pass, Spot};
 use jk_math::Fault;
 use jk_mqdec::Run;
-use jk_scan::words_across;
+use jk_scan::{WORDS, words_across};
 
 /// Reads a word in a pass.
-fn visit_word(sketch: &mut Sketch, decoder: &mut Run, spot: Spot, pass: Pass) -> Result<(), Fault>
+fn visit_word(
+    sketch: &mut Sketch,
+    decoder: &mut Run,
+    refined: &[u64; WORDS],
+    spot: Spot,
+    pass: Pass,
+) -> Result<(), Fault>
     requires spot { IsSpot sketch.old.shape spot }
-    requires fresh { number_of pass ≡ 1 → IsFresh spot.plane sketch.old }
+    requires fresh { number_of pass ≡ 1 → IsFresh spot.plane refined.now sketch.old }
     ensures shape { sketch.new.shape ≡ sketch.old.shape }
     ensures bytes { decoder.new.bytes ≡ decoder.old.bytes }
-    ensures fresh { number_of pass ≡ 1 → IsFresh spot.plane sketch.new }
+    ensures fresh { number_of pass ≡ 1 → IsFresh spot.plane refined.now sketch.new }
     ensures takes { Takes (word_pass decoder.old.bytes sketch.old.shape spot.plane (number_of pass) spot.word spot.stripe)
         sketch.old sketch.new decoder.old decoder.new result }
 {
     match pass {
         Pass::Propagation => propagate(sketch, decoder, spot),
-        Pass::Refinement => refine(sketch, decoder, spot),
+        Pass::Refinement => refine(sketch, decoder, refined, spot),
         Pass::Cleanup => clean(sketch, decoder, spot),
     }
 }
@@ -34,16 +40,17 @@ fn visit_word(sketch: &mut Sketch, decoder: &mut Run, spot: Spot, pass: Pass) ->
 fn visit_stripe(
     sketch: &mut Sketch,
     decoder: &mut Run,
+    refined: &[u64; WORDS],
     plane: u32,
     pass: Pass,
     stripe: usize,
 ) -> Result<(), Fault>
     requires plane { plane < 23 }
     requires stripe { stripe < stripes sketch.old.shape }
-    requires fresh { number_of pass ≡ 1 → IsFresh plane sketch.old }
+    requires fresh { number_of pass ≡ 1 → IsFresh plane refined.now sketch.old }
     ensures shape { sketch.new.shape ≡ sketch.old.shape }
     ensures bytes { decoder.new.bytes ≡ decoder.old.bytes }
-    ensures fresh { number_of pass ≡ 1 → IsFresh plane sketch.new }
+    ensures fresh { number_of pass ≡ 1 → IsFresh plane refined.now sketch.new }
     ensures takes { Takes (stripe_at decoder.old.bytes sketch.old.shape plane (number_of pass) stripe)
         sketch.old sketch.new decoder.old decoder.new result }
 {
@@ -53,7 +60,7 @@ fn visit_stripe(
             word,
             stripe,
         };
-        visit_word(sketch, decoder, spot, pass)?;
+        visit_word(sketch, decoder, refined, spot, pass)?;
     }
     Ok(())
 }
@@ -62,18 +69,19 @@ fn visit_stripe(
 pub fn visit_plane(
     sketch: &mut Sketch,
     decoder: &mut Run,
+    refined: &[u64; WORDS],
     plane: u32,
     pass: Pass,
 ) -> Result<(), Fault>
     requires plane { plane < 23 }
-    requires fresh { number_of pass ≡ 1 → IsFresh plane sketch.old }
+    requires fresh { number_of pass ≡ 1 → IsFresh plane refined.now sketch.old }
     ensures shape { sketch.new.shape ≡ sketch.old.shape }
     ensures bytes { decoder.new.bytes ≡ decoder.old.bytes }
     ensures takes { Takes (plane_pass_at decoder.old.bytes sketch.old.shape plane (number_of pass))
         sketch.old sketch.new decoder.old decoder.new result }
 {
     for stripe in 0..(sketch.shape.height + 3) / 4 {
-        visit_stripe(sketch, decoder, plane, pass, stripe)?;
+        visit_stripe(sketch, decoder, refined, plane, pass, stripe)?;
     }
     Ok(())
 }

@@ -1,6 +1,6 @@
 //! The working state in which a block is read.
 
-ghost use Rattle.std.specs.Prelude.{◌≡◌, ℕ, true, ◌+◌, ◌*◌, ◌^◌, ◌<◌, ◌≤◌, replicate, if◌then◌else◌};
+ghost use Rattle.std.specs.Prelude.{◌≡◌, ℕ, List, true, ◌+◌, ◌*◌, ◌^◌, ◌<◌, ◌≤◌, replicate, if◌then◌else◌};
 ghost use Rattle.jk_model.specs.Decisions.{State};
 ghost use Rattle.jk_scan.specs.Neighbours.{is_inside};
 ghost use Rattle.jk_scan.specs.WordPlaces.{column, row, also};
@@ -45,7 +45,7 @@ fn digit(bit: bool) -> u64
 }
 
 /// No place is marked.
-fn unmarked() -> [u64; WORDS]
+pub fn unmarked() -> [u64; WORDS]
     ensures { result ≡ replicate 774 0 }
 {
     [0; WORDS]
@@ -136,7 +136,7 @@ impl Sketch {
             ≡ coded_as spot.plane (column spot.word k) (row spot.stripe k) bit
             (negative_in self.old (column spot.word k) (row spot.stripe k)) (progress self.old c) }
         ensures lit { (x y : ℕ) → lit_in self.new x y ≡ lit_in self.old x y }
-        ensures fresh { IsFresh spot.plane self.old → IsFresh spot.plane self.new }
+        ensures fresh { (refined : List ℕ) → IsFresh spot.plane refined self.old → IsFresh spot.plane refined self.new }
     {
         let place = place_of(shape, spot, k);
         let magnitudes = &mut self.magnitudes;
@@ -153,18 +153,6 @@ impl Sketch {
         let at = word_place(shape, x / 8 + 1, y / 4 + 1);
         let words = &self.negative;
         words[at] >> (8 * (x % 8) + (y % 4 + 1)) & 1 == 1
-    }
-
-    /// The magnitude of the place at bit k of a word.
-    #[inline(always)]
-    pub fn magnitude(&self, shape: BlockShape, spot: Spot, k: u32) -> u32
-        requires same { shape ≡ self.now.shape }
-        requires spot { IsSpot self.now.shape spot }
-        requires place { IsPlace self.now.shape spot k }
-        ensures { result ≡ field_of self.now.shape self.now.magnitudes 0 (column spot.word k) (row spot.stripe k) }
-    {
-        let magnitudes = &self.magnitudes;
-        magnitudes[place_of(shape, spot, k)]
     }
 }
 

@@ -1,6 +1,7 @@
 //! One place in a pass.
 
-ghost use Rattle.std.specs.Prelude.{◌≡◌, ℕ, true, false, not, ◌&&◌, nat_lt, ◌+◌, ◌-◌, ◌*◌, ◌%◌, ◌<◌, ◌≤◌, IfOk, OnOk, if◌then◌else◌};
+ghost use Rattle.std.specs.Prelude.{◌≡◌, ℕ, List, true, false, not, ◌&&◌, nat_lt, nat_le, ◌+◌, ◌-◌, ◌*◌, ◌/◌, ◌%◌, ◌^◌, ◌<◌, ◌≤◌, IfOk, OnOk, if◌then◌else◌};
+ghost use Rattle.jk_scan.specs.Contexts.{refine_context_of};
 ghost use Rattle.jk_scan.specs.Neighbours.{touched};
 ghost use Rattle.jk_scan.specs.Moments.{cleanup};
 ghost use Rattle.jk_scan.specs.Passes.{flipped};
@@ -8,6 +9,7 @@ ghost use Rattle.jk_scan.specs.Words.{bordered};
 ghost use Rattle.jk_scan.specs.WordPlaces.{column, row, also};
 ghost use Rattle.jk_scan.specs.Surroundings.{IsAround};
 ghost use Rattle.jk_block.specs.Reading.{read_sign, read_new, place_at, row_named, rows_at, read_run};
+ghost use Rattle.jk_block.specs.Fields.{field_of};
 ghost use Rattle.jk_block.specs.Steps.{IsSpot, IsPlace};
 ghost use Rattle.jk_block.specs.Sketches.{Takes, TakesUpTo, IsFresh, lit_in, visited_in};
 
@@ -15,7 +17,7 @@ use crate::sketch::Sketch;
 use crate::spot::Spot;
 use jk_math::Fault;
 use jk_mqdec::Run;
-use jk_scan::{Around, BlockShape, refine_context, seen_around, sign_context_at, zero_context_at};
+use jk_scan::{Around, BlockShape, seen_around, sign_context_at, zero_context_at};
 
 /// The contexts of run mode (T.800 Table D.5).
 const RUN_LENGTH: usize = 17;
@@ -124,25 +126,27 @@ pub fn read_next(
     shape: BlockShape,
     spot: Spot,
     k: u32,
-    is_touched: bool,
+    context: u8,
 ) -> Result<(), Fault>
     requires same { shape ≡ sketch.old.shape }
     requires spot { IsSpot sketch.old.shape spot }
     requires place { IsPlace sketch.old.shape spot k }
-    requires near { is_touched ≡ touched (lit_in sketch.old) (column spot.word k) (row spot.stripe k) }
+    requires few { context < 19 }
+    requires context { context ≡ refine_context_of
+        (nat_le 4 (field_of sketch.old.shape sketch.old.magnitudes 0 (column spot.word k) (row spot.stripe k) / 2 ^ spot.plane))
+        (touched (lit_in sketch.old) (column spot.word k) (row spot.stripe k)) }
     requires lit { lit_in sketch.old (column spot.word k) (row spot.stripe k) ≡ true }
     requires uncoded { visited_in sketch.old (column spot.word k) (row spot.stripe k) ≡ false }
-    requires fresh { IsFresh spot.plane sketch.old }
+    requires large { 2 ^ (spot.plane + 1)
+        ≤ field_of sketch.old.shape sketch.old.magnitudes 0 (column spot.word k) (row spot.stripe k) }
     ensures shape { sketch.new.shape ≡ sketch.old.shape }
     ensures bytes { decoder.new.bytes ≡ decoder.old.bytes }
     ensures visited { sketch.new.visited ≡ sketch.old.visited }
     ensures lit { (x y : ℕ) → lit_in sketch.new x y ≡ lit_in sketch.old x y }
-    ensures fresh { IsFresh spot.plane sketch.new }
+    ensures fresh { (refined : List ℕ) → IsFresh spot.plane refined sketch.old → IsFresh spot.plane refined sketch.new }
     ensures takes { Takes (place_at decoder.old.bytes sketch.old.shape spot.plane 1 (column spot.word k) (row spot.stripe k))
         sketch.old sketch.new decoder.old decoder.new result }
 {
-    let refined = sketch.magnitude(shape, spot, k) >> spot.plane >= 4;
-    let context = refine_context(refined, is_touched);
     let bit = decoder.decode(context as usize)?;
     sketch.refine(shape, spot, k, bit);
     Ok(())

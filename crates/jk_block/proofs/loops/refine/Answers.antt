@@ -1,9 +1,13 @@
-use Rattle.std.proofs.Common.{◌∙◌, refl, arith}
+use Rattle.std.proofs.Common.{◌∙◌, refl, sym, ap, arith}
 use Rattle.std.specs.Int.{trailing_zeros, w64}
 use Rattle.std.proofs.lemmas.Result.{err_from_is_err_and}
+use Rattle.jk_scan.specs.declared.shape.BlockShape.{BlockShape}
 use Rattle.jk_scan.specs.Words.{bordered}
+use Rattle.jk_scan.specs.WordPlaces.{column, row}
+use Rattle.jk_scan.specs.Flags.{flag_at}
 use Rattle.jk_scan.proofs.Laws.{sooner_zero, bit_is}
 use Rattle.jk_block.specs.Sketches.{lit_in}
+use Rattle.jk_block.proofs.Aging.{next_context}
 use Rattle.jk_block.proofs.Going.{going_fault, going_all}
 use Rattle.jk_block.proofs.Refining.{refining_none, refining_next, refining_one, refining_all}
 use Rattle.jk_block.proofs.loops.refine.Goals as goal
@@ -13,36 +17,46 @@ loop-candidates-init c =
     let k = c.args.sketch.now in
     let at = c.args.spot in
     let around = c.seen_around-seen.ensures (lit_in k) k.lit in
-    refining_none at k _ c.args.decoder.now c.touched_places-touched.result c.older-candidates.result refl (λ coder. refl) c.requires.fresh
+    refining_none at c.args.refined.now k _ c.args.decoder.now c.touched_places-touched.result c.older-candidates.result refl (λ coder. refl) c.requires.fresh
     (c.touched_places-touched.ensures (bordered (lit_in k)) at.word at.stripe around.own around.left around.right) c.older-candidates.ensures
 
 pub read_next-requires-clause-place : goal.read_next-requires-clause-place
 read_next-requires-clause-place c =
     let l = c.loop-candidates in
-    (refining_next c.args.spot c.args.sketch.now l.sketch c.args.decoder.now l.decoder c.touched_places-touched.result l.candidates l.invariant (omega arith) (omega arith)).place
+    (refining_next c.args.spot c.args.refined.now c.args.sketch.now l.sketch c.args.decoder.now l.decoder c.touched_places-touched.result l.candidates l.invariant (omega arith) (omega arith)).place
 
 pub read_next-requires-clause-lit : goal.read_next-requires-clause-lit
 read_next-requires-clause-lit c =
     let l = c.loop-candidates in
-    (refining_next c.args.spot c.args.sketch.now l.sketch c.args.decoder.now l.decoder c.touched_places-touched.result l.candidates l.invariant (omega arith) (omega arith)).lit
+    (refining_next c.args.spot c.args.refined.now c.args.sketch.now l.sketch c.args.decoder.now l.decoder c.touched_places-touched.result l.candidates l.invariant (omega arith) (omega arith)).lit
 
 pub read_next-requires-clause-uncoded : goal.read_next-requires-clause-uncoded
 read_next-requires-clause-uncoded c =
     let l = c.loop-candidates in
-    (refining_next c.args.spot c.args.sketch.now l.sketch c.args.decoder.now l.decoder c.touched_places-touched.result l.candidates l.invariant (omega arith) (omega arith)).uncoded
+    (refining_next c.args.spot c.args.refined.now c.args.sketch.now l.sketch c.args.decoder.now l.decoder c.touched_places-touched.result l.candidates l.invariant (omega arith) (omega arith)).uncoded
 
-pub read_next-requires-clause-near : goal.read_next-requires-clause-near
-read_next-requires-clause-near c =
+pub read_next-requires-clause-context : goal.read_next-requires-clause-context
+read_next-requires-clause-context c =
     let l = c.loop-candidates in
     let z = trailing_zeros w64 l.candidates in
-    let next = refining_next c.args.spot c.args.sketch.now l.sketch c.args.decoder.now l.decoder c.touched_places-touched.result l.candidates l.invariant (omega arith) (omega arith) in
-    bit_is c.touched_places-touched.result z ∙ l.invariant.near z next.place.within next.place.on_row
+    let next = refining_next c.args.spot c.args.refined.now c.args.sketch.now l.sketch c.args.decoder.now l.decoder c.touched_places-touched.result l.candidates l.invariant (omega arith) (omega arith) in
+    next_context c.args.spot c.args.refined.now l.sketch c.refined_places-again.result c.touched_places-touched.result z c.refine_context-context.result _ _ l.invariant.fresh next.place
+    (c.refined_places-again.ensures z next.place.within next.place.on_row ∙ ap (λ (s : BlockShape). flag_at s c.args.refined.now (column c.args.spot.word z) (row c.args.spot.stripe z)) (sym l.invariant.going.shape))
+    (l.invariant.near z next.place.within next.place.on_row)
+    (bit_is c.refined_places-again.result z) (bit_is c.touched_places-touched.result z) c.refine_context-context.ensures.value
+
+pub read_next-requires-clause-large : goal.read_next-requires-clause-large
+read_next-requires-clause-large c =
+    let l = c.loop-candidates in
+    let z = trailing_zeros w64 l.candidates in
+    let next = refining_next c.args.spot c.args.refined.now c.args.sketch.now l.sketch c.args.decoder.now l.decoder c.touched_places-touched.result l.candidates l.invariant (omega arith) (omega arith) in
+    l.invariant.fresh.higher (column c.args.spot.word z) (row c.args.spot.stripe z) next.lit next.uncoded
 
 pub returns-in_err-read_next-clause-takes : goal.returns-in_err-read_next-clause-takes
 returns-in_err-read_next-clause-takes c =
     let p = err_from_is_err_and c.from_residual.result c.from_residual.ensures.1 in
     let l = c.loop-candidates in
-    let next = refining_next c.args.spot c.args.sketch.now l.sketch c.args.decoder.now l.decoder c.touched_places-touched.result l.candidates l.invariant (omega arith) (omega arith) in
+    let next = refining_next c.args.spot c.args.refined.now c.args.sketch.now l.sketch c.args.decoder.now l.decoder c.touched_places-touched.result l.candidates l.invariant (omega arith) (omega arith) in
     rw (p.1, p.2) (going_fault 1 c.args.spot (trailing_zeros w64 l.candidates) c.args.sketch.now l.sketch c.args.decoder.now l.decoder c.in_err-read_next.field-0.0 next.going next.place c.in_err-read_next.ensures.takes)
 
 pub loop-candidates-smaller : goal.loop-candidates-smaller
@@ -51,10 +65,10 @@ loop-candidates-smaller c = sooner_zero c.loop-candidates.candidates (omega arit
 pub loop-candidates-preserved : goal.loop-candidates-preserved
 loop-candidates-preserved c =
     let l = c.loop-candidates in
-    refining_one c.args.spot c.args.sketch.now l.sketch c.read_next.new.sketch c.args.decoder.now l.decoder c.read_next.new.decoder c.touched_places-touched.result l.candidates c.in_ok-read_next.field-0 l.invariant (omega arith) (omega arith)
-    c.in_ok-read_next.ensures.takes c.in_ok-read_next.ensures.shape c.in_ok-read_next.ensures.bytes c.in_ok-read_next.ensures.lit c.in_ok-read_next.ensures.visited c.in_ok-read_next.ensures.fresh
+    refining_one c.args.spot c.args.refined.now c.args.sketch.now l.sketch c.read_next.new.sketch c.args.decoder.now l.decoder c.read_next.new.decoder c.touched_places-touched.result l.candidates c.in_ok-read_next.field-0 l.invariant (omega arith) (omega arith)
+    c.in_ok-read_next.ensures.takes c.in_ok-read_next.ensures.shape c.in_ok-read_next.ensures.bytes c.in_ok-read_next.ensures.lit c.in_ok-read_next.ensures.visited (c.in_ok-read_next.ensures.fresh c.args.refined.now l.invariant.fresh)
 
 pub returns-clause-takes : goal.returns-clause-takes
 returns-clause-takes c =
     let l = c.loop-candidates in
-    going_all 1 c.args.spot c.args.sketch.now l.sketch c.args.decoder.now l.decoder (refining_all c.args.spot c.args.sketch.now l.sketch c.args.decoder.now l.decoder c.touched_places-touched.result l.candidates l.invariant (omega arith))
+    going_all 1 c.args.spot c.args.sketch.now l.sketch c.args.decoder.now l.decoder (refining_all c.args.spot c.args.refined.now c.args.sketch.now l.sketch c.args.decoder.now l.decoder c.touched_places-touched.result l.candidates l.invariant (omega arith))

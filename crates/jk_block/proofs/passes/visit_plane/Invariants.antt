@@ -6,4 +6,4 @@ use Rattle.jk_block.proofs.passes.visit_plane.Given as goal
 
 abbrev pub invariant-loop-stripe : goal.invariant-loop-stripe
 invariant-loop-stripe l =
-    Taken (λ bytes s i z. stripe_at bytes s l.plane (number_of l.pass) i z) l.stripe l.fn.sketch l.sketch l.fn.decoder l.decoder × (number_of l.pass ≡ 1 → IsFresh l.plane l.sketch)
+    Taken (λ bytes s i z. stripe_at bytes s l.plane (number_of l.pass) i z) l.stripe l.fn.sketch l.sketch l.fn.decoder l.decoder × (number_of l.pass ≡ 1 → IsFresh l.plane l.refined l.sketch)

@@ -1,11 +1,8 @@
-use Rattle.std.proofs.Common.{sym, ap, ◌∙◌, ◌/◌, ◌^◌, Bool, ℕ}
-use Rattle.std.specs.Prelude.{nat_le}
+use Rattle.std.proofs.Common.{sym, ap, ◌∙◌}
 use Rattle.std.proofs.lemmas.Result.{err_from_is_err_and}
 use Rattle.jk_math.specs.Steps.{done}
 use Rattle.jk_mqdec.specs.Answers.{next}
-use Rattle.jk_scan.specs.Contexts.{refine_context_of}
 use Rattle.jk_scan.specs.WordPlaces.{column, row}
-use Rattle.jk_block.specs.Fields.{field_of}
 use Rattle.jk_block.specs.Reading.{Progress}
 use Rattle.jk_block.specs.Sketches.{progress}
 use Rattle.jk_block.proofs.Taking.{decide_ok, decide_err, next_takes, next_faults}
@@ -19,14 +16,14 @@ returns-clause-takes c = λ coder st.
     let x = column at.word c.args.k in
     let y = row at.stripe c.args.k in
     let bytes = c.args.decoder.now.bytes in
-    let cx = c.refine_context-context.result in
+    let cx = c.args.context in
     let bit = c.in_ok-bit.bit in
     let n = next bytes coder cx in
     record {
       next = n;
       stands = c.in_ok-bit.ensures.next coder st;
       is = next_due bytes k.shape at.plane x y (progress k coder) c.requires.lit c.requires.uncoded
-          ∙ next_takes bytes k.shape at.plane x y (progress k coder) cx bit n (c.refine_context-context.ensures.value ∙ ap (λ (m : ℕ). refine_context_of (nat_le 4 (m / 2 ^ at.plane)) c.args.is_touched) c.magnitude.ensures ∙ ap (λ (u : Bool). refine_context_of (nat_le 4 (field_of k.shape k.magnitudes 0 x y / 2 ^ at.plane)) u) c.requires.near) (decide_ok bytes cx coder bit (c.in_ok-bit.ensures.answer coder st))
+          ∙ next_takes bytes k.shape at.plane x y (progress k coder) cx bit n c.requires.context (decide_ok bytes cx coder bit (c.in_ok-bit.ensures.answer coder st))
           ∙ ap (λ (w : Progress). done w) (sym (c.refine.ensures.coded n));
     }
 
@@ -38,6 +35,6 @@ returns-in_err-bit-clause-takes c =
     let x = column at.word c.args.k in
     let y = row at.stripe c.args.k in
     let bytes = c.args.decoder.now.bytes in
-    let cx = c.refine_context-context.result in
-    rw (p.1, p.2) (λ coder st. next_due bytes k.shape at.plane x y (progress k coder) c.requires.lit c.requires.uncoded ∙ next_faults bytes k.shape at.plane x y (progress k coder) cx c.in_err-bit.field-0.0 (c.refine_context-context.ensures.value ∙ ap (λ (m : ℕ). refine_context_of (nat_le 4 (m / 2 ^ at.plane)) c.args.is_touched) c.magnitude.ensures ∙ ap (λ (u : Bool). refine_context_of (nat_le 4 (field_of k.shape k.magnitudes 0 x y / 2 ^ at.plane)) u) c.requires.near)
+    let cx = c.args.context in
+    rw (p.1, p.2) (λ coder st. next_due bytes k.shape at.plane x y (progress k coder) c.requires.lit c.requires.uncoded ∙ next_faults bytes k.shape at.plane x y (progress k coder) cx c.in_err-bit.field-0.0 c.requires.context
     (decide_err bytes cx coder c.in_err-bit.field-0.0 (c.in_err-bit.ensures.answer coder st)))

@@ -1,4 +1,7 @@
-use Rattle.std.proofs.Common.{ap, ◌*◌}
+use Rattle.std.proofs.Common.{ap, ◌*◌, ℕ}
+use Rattle.std.specs.Prelude.{nat_le}
+use Rattle.jk_scan.specs.Neighbours.{Field}
+use Rattle.jk_block.proofs.Aging.{bit_stays, put_stays}
 use Rattle.std.proofs.Common.{◌<◌, ◌+◌, ◌^◌, set, cond, get_or, refl, sym, ◌∙◌, arith}
 use Rattle.std.proofs.lemmas.Nat.{pow_pos}
 use Rattle.jk_scan.specs.WordPlaces.{column, row}
@@ -62,7 +65,7 @@ returns-clause-lit c = λ u v.
     stays_lit_at s k.magnitudes x y c.with_bit.result q c.requires.place.inside (c.place_of-place.ensures.value ∙ ap (λ (s : BlockShape). row c.args.spot.stripe c.args.k * s.width + column c.args.spot.word c.args.k) c.requires.same) (omega arith) pos (omega (arith, large, pow)) u v
 
 pub returns-clause-fresh : goal.returns-clause-fresh
-returns-clause-fresh c = λ fresh u v lit unseen.
+returns-clause-fresh c = λ words fresh.
     let k = c.args.self.now in
     let s = k.shape in
     let at = c.args.spot in
@@ -72,6 +75,13 @@ returns-clause-fresh c = λ fresh u v lit unseen.
     let q = c.place_of-place.result in
     let large = c.requires.large in
     let stays = stays_large (field_of s k.magnitudes 0 x y) at.plane c.args.bit large in
-    ap_large (magnitude_at s k.magnitudes x y at.plane q c.with_bit.result c.args.bit c.requires.place.inside (c.place_of-place.ensures.value ∙ ap (λ (s : BlockShape). row c.args.spot.stripe c.args.k * s.width + column c.args.spot.word c.args.k) c.requires.same) (omega arith) c.with_bit.ensures) u v
-    (put_large (field_of s k.magnitudes 0) x y (above (at.plane + 1) (field_of s k.magnitudes 0 x y) + cond c.args.bit (2 ^ at.plane) 0) (2 ^ (at.plane + 1)) u v stays
-    (fresh u v (sym (returns-clause-lit c u v) ∙ lit) unseen))
+    let put_is = magnitude_at s k.magnitudes x y at.plane q c.with_bit.result c.args.bit c.requires.place.inside (c.place_of-place.ensures.value ∙ ap (λ (s : BlockShape). row c.args.spot.stripe c.args.k * s.width + column c.args.spot.word c.args.k) c.requires.same) (omega arith) c.with_bit.ensures in
+    record {
+      higher = λ u v lit unseen. ap_large put_is u v
+          (put_large (field_of s k.magnitudes 0) x y (above (at.plane + 1) (field_of s k.magnitudes 0 x y) + cond c.args.bit (2 ^ at.plane) 0) (2 ^ (at.plane + 1)) u v stays
+          (fresh.higher u v (sym (returns-clause-lit c u v) ∙ lit) unseen));
+      older = λ u v inside. fresh.older u v inside
+          ∙ sym (ap (λ (f : Field ℕ). nat_le (2 ^ (at.plane + 2)) (f u v)) put_is
+          ∙ put_stays (field_of s k.magnitudes 0) x y (above (at.plane + 1) (field_of s k.magnitudes 0 x y) + cond c.args.bit (2 ^ at.plane) 0) (2 ^ (at.plane + 2)) u v
+          (bit_stays (field_of s k.magnitudes 0 x y) at.plane c.args.bit));
+    }

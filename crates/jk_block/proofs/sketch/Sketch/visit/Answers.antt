@@ -1,4 +1,4 @@
-use Rattle.std.proofs.Common.{◌∙◌, ◌+◌, ◌*◌, ap}
+use Rattle.std.proofs.Common.{◌∙◌, ◌+◌, ap}
 use Rattle.std.proofs.Common.{true, refl, arith}
 use Rattle.jk_scan.specs.WordPlaces.{column, row}
 use Rattle.jk_block.specs.Reading.{put}
