@@ -41,3 +41,8 @@ pub mod Listing
 pub mod Slicing
 pub mod Negatives
 pub mod Aging
+pub mod Reaching
+pub mod Foreseen
+pub mod Lighting
+pub mod Emptied
+pub mod Sheeted

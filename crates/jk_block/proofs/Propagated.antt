@@ -15,18 +15,18 @@ use Rattle.jk_scan.specs.Words.{Truths, of_rows, of_gathered, Shows, bordered, i
 use Rattle.jk_scan.specs.WordPlaces.{column, row, also}
 use Rattle.jk_scan.specs.Surroundings.{IsAround}
 use Rattle.jk_scan.specs.Flags.{IsDrawn}
-use Rattle.jk_scan.proofs.Laws.{same_field, set_shows, added_at, lowest, rest_at, taken, taken_low, set_below, on_or, on_zero, inside_parts, cases_of}
+use Rattle.jk_scan.proofs.Laws.{same_field, set_shows, added_at, lowest, rest_at, taken, taken_low, set_below, on_or, inside_parts, cases_of}
 use Rattle.jk_block.specs.Reading.{put}
 use Rattle.jk_block.specs.Steps.{IsPlace}
 use Rattle.jk_block.specs.declared.flags.Flags.{Flags}
 use Rattle.jk_block.specs.declared.plane.BlockPlane.{BlockPlane}
 use Rattle.jk_block.specs.declared.spot.Spot.{Spot}
-use Rattle.jk_block.specs.Viewed.{seen, lit_at, spread_at, IsFlagged, Lights, moment_at}
-use Rattle.jk_block.proofs.Coming.{mag, mag_outside, Same, same_lit, idle_none, idle_until, Coming, coming_none, coming_skip, coming_place, flagged_place}
+use Rattle.jk_block.specs.Viewed.{seen, lit_at, spread_at, Lights, moment_at}
+use Rattle.jk_block.proofs.Coming.{mag, mag_outside, Same, same_lit, idle_none, idle_until, Coming, coming_skip, coming_place, flagged_place}
 use Rattle.jk_block.proofs.Listed.{place_new}
 use Rattle.jk_block.proofs.Remaining.{is_run}
 use Rattle.jk_block.proofs.Seeing.{is_due}
-use Rattle.jk_block.proofs.Spreading.{is_spread, spread_is_member, bordered_also, around_also}
+use Rattle.jk_block.proofs.Spreading.{is_spread, spread_is_member, bordered_also}
 use Rattle.jk_block.proofs.Testing.{spread_codes, due_inside}
 use Rattle.jk_block.proofs.Timing.{here, codes, lit_bit, moment_place}
 
@@ -78,16 +78,6 @@ pub record Propagated (v : BlockPlane) (at : Spot) (flags : Flags) (old list : D
   pub coming : Coming v 0 at n flags old list
   pub shown : IsAround (bordered (lit_at v (moment_at v.shape 0 at.word at.stripe n))) at.word at.stripe around
   pub awaits : Awaits v.shape (lit_at v (moment_at v.shape 0 at.word at.stripe n)) at.word at.stripe n candidates
-
-pub propagated_none : (v : BlockPlane) (at : Spot) (flags : Flags) (list : Decided) (around : Around) (w : ℕ) → at.stripe < stripes v.shape → IsFlagged v (moment_at v.shape 0 at.word at.stripe 0) flags
-    → IsAround (bordered (lit_at v (moment_at v.shape 0 at.word at.stripe 0))) at.word at.stripe around
-    → Shows of_rows (is_member (bordered (is_inside v.shape)) (bordered (lit_at v (moment_at v.shape 0 at.word at.stripe 0)))) (at.word + 1) (at.stripe + 1) w → Propagated v at flags list list around w
-propagated_none v at flags list around w stripe flagged shown members = record {
-  n = 0;
-  coming = coming_none v 0 at flags list stripe flagged;
-  shown = shown;
-  awaits = awaits_all v.shape (lit_at v (moment_at v.shape 0 at.word at.stripe 0)) at.word at.stripe w members;
-}
 
 -- nothing is coded where there is no member
 quiet_until : (v : BlockPlane) (j i n z : ℕ) → i < stripes v.shape → ((m : ℕ) → n ≤ m → m < z → is_spread v.shape (lit_at v (moment_at v.shape 0 j i n)) j i m ≡ false) → (d : ℕ) → n + d ≤ z
@@ -207,7 +197,7 @@ new_place v pass j i z list list' due other h =
     h ∙ ap (λ (ds : Decided). list ++ ds) (sym (place_new v.shape (seen v) pass (column j z) (row i z) (moment_at v.shape pass j i z) parts.1 (moment_place v.shape pass j i z parts.0 (inside_parts v.shape (column j z) (row i z) inside).0) other))
 
 -- a place was listed
-propagated_place : (v : BlockPlane) (at : Spot) (flags flags' : Flags) (old list list' : Decided) (around : Around) (w : ℕ) (bit : Bool) (st : Propagated v at flags old list around w) → 0 < w → w < 2 ^ 64
+pub propagated_place : (v : BlockPlane) (at : Spot) (flags flags' : Flags) (old list list' : Decided) (around : Around) (w : ℕ) (bit : Bool) (st : Propagated v at flags old list around w) → 0 < w → w < 2 ^ 64
     → bit ≡ is_one (mag v (column at.word (trailing_zeros w64 w)) (row at.stripe (trailing_zeros w64 w)))
     → Lights v.shape (column at.word (trailing_zeros w64 w)) (row at.stripe (trailing_zeros w64 w)) bit flags flags'
     → ((f : Field Bool) → IsDrawn v.shape f flags.visited → IsDrawn v.shape (put f (column at.word (trailing_zeros w64 w)) (row at.stripe (trailing_zeros w64 w)) true) flags'.visited)
@@ -222,47 +212,3 @@ propagated_place v at flags flags' old list list' around w bit st p q bit_is lig
     coming_place v 0 at z flags flags' old list list' next.coming next.place
     (flagged_place v 0 j i z bit flags flags' next.coming.stripe next.due (bit_is ∙ one_is v 0 j i z next.due refl) lights next.coming.flagged (visited (spread_at v t) next.coming.flagged.coded))
     (new_place v 0 j i z list list' next.due (λ e. absurd (omega (arith, e))) (listed t next.shown))
-
-pub propagated_zero : (v : BlockPlane) (at : Spot) (flags flags' : Flags) (old list list' : Decided) (around : Around) (w : ℕ) (bit : Bool) (st : Propagated v at flags old list around w) → 0 < w → w < 2 ^ 64
-    → bit ≡ is_one (mag v (column at.word (trailing_zeros w64 w)) (row at.stripe (trailing_zeros w64 w)))
-    → Lights v.shape (column at.word (trailing_zeros w64 w)) (row at.stripe (trailing_zeros w64 w)) bit flags flags'
-    → ((f : Field Bool) → IsDrawn v.shape f flags.visited → IsDrawn v.shape (put f (column at.word (trailing_zeros w64 w)) (row at.stripe (trailing_zeros w64 w)) true) flags'.visited)
-    → ((t : ℕ) → IsAround (bordered (lit_at v t)) at.word at.stripe around → list' ≡ list ++ new_decisions v.shape (seen v) t (column at.word (trailing_zeros w64 w)) (row at.stripe (trailing_zeros w64 w)))
-    → bit ≡ false → Propagated v at flags' old list' around (bit_and w (w - 1))
-propagated_zero v at flags flags' old list list' around w bit st p q bit_is lights visited listed off =
-    let z = trailing_zeros w64 w in
-    let j = at.word in
-    let i = at.stripe in
-    let next = propagated_next v at flags old list around w st p q in
-    let same = (lit_place v 0 j i z bit next.coming.stripe next.due (bit_is ∙ one_is v 0 j i z next.due refl)).0 off ∙ next.lit in
-    record {
-      n = z + 1;
-      coming = propagated_place v at flags flags' old list list' around w bit st p q bit_is lights visited listed;
-      shown = subst (λ (f : Field Bool). IsAround (bordered f) j i around) (sym same) st.shown;
-      awaits = awaits_rest v.shape (lit_at v (moment_at v.shape 0 j i st.n)) (lit_at v (moment_at v.shape 0 j i (z + 1))) j i st.n w p q next.onward same st.awaits;
-    }
-
-pub propagated_one : (v : BlockPlane) (at : Spot) (flags flags' : Flags) (old list list' : Decided) (around : Around) (inside w : ℕ) (bit : Bool) (st : Propagated v at flags old list around w) → 0 < w → w < 2 ^ 64
-    → bit ≡ is_one (mag v (column at.word (trailing_zeros w64 w)) (row at.stripe (trailing_zeros w64 w)))
-    → Lights v.shape (column at.word (trailing_zeros w64 w)) (row at.stripe (trailing_zeros w64 w)) bit flags flags'
-    → ((f : Field Bool) → IsDrawn v.shape f flags.visited → IsDrawn v.shape (put f (column at.word (trailing_zeros w64 w)) (row at.stripe (trailing_zeros w64 w)) true) flags'.visited)
-    → ((t : ℕ) → IsAround (bordered (lit_at v t)) at.word at.stripe around → list' ≡ list ++ new_decisions v.shape (seen v) t (column at.word (trailing_zeros w64 w)) (row at.stripe (trailing_zeros w64 w)))
-    → bit ≡ true → around.own < 2 ^ 64 → Shows of_rows (bordered (is_inside v.shape)) (at.word + 1) (at.stripe + 1) inside
-    → Propagated v at flags' old list' record { own = bit_or around.own (1 * 2 ^ trailing_zeros w64 w % 2 ^ 64); left = around.left; right = around.right }
-    (bit_or (bit_and w (w - 1)) (taken inside (bit_or around.own (1 * 2 ^ trailing_zeros w64 w % 2 ^ 64)) (trailing_zeros w64 w)))
-propagated_one v at flags flags' old list list' around inside w bit st p q bit_is lights visited listed set xb limits =
-    let z = trailing_zeros w64 w in
-    let j = at.word in
-    let i = at.stripe in
-    let next = propagated_next v at flags old list around w st p q in
-    let lit = (lit_place v 0 j i z bit next.coming.stripe next.due (bit_is ∙ one_is v 0 j i z next.due refl)).1 set in
-    let lit_n : (x y : ℕ) → lit_at v (moment_at v.shape 0 j i (z + 1)) x y ≡ also (lit_at v (moment_at v.shape 0 j i st.n)) (column j z) (row i z) x y = λ x y. lit x y ∙ ap (λ (f : Field Bool). also f (column j z) (row i z) x y) next.lit in
-    record {
-      n = z + 1;
-      coming = propagated_place v at flags flags' old list list' around w bit st p q bit_is lights visited listed;
-      shown = around_also (lit_at v (moment_at v.shape 0 j i z)) (lit_at v (moment_at v.shape 0 j i (z + 1))) j i z around next.place.within next.place.on_row lit next.shown;
-      awaits = awaits_more v.shape (lit_at v (moment_at v.shape 0 j i st.n)) (lit_at v (moment_at v.shape 0 j i (z + 1))) j i st.n w inside around.own p q xb next.place.within next.place.on_row next.onward lit_n limits st.shown.own st.awaits;
-    }
-
-pub propagated_all : (v : BlockPlane) (at : Spot) (flags : Flags) (old list : Decided) (around : Around) (w : ℕ) → Propagated v at flags old list around w → w ≡ 0 → Coming v 0 at 64 flags old list
-propagated_all v at flags old list around w st empty = (propagated_to v at flags old list around w st 64 st.coming.most (omega arith) (λ m l. ap (λ w. on w m) empty ∙ on_zero m)).0

@@ -9,3 +9,5 @@ pub mod Viewed
 pub mod CodedBlocks
 pub mod Steps
 pub mod Slices
+pub mod Sheets
+pub mod Reached

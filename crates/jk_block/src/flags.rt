@@ -74,4 +74,18 @@ impl Flags {
         let significant = &mut self.significant;
         significant[at] |= 1 << k;
     }
+
+    /// The place at bit k of a word becomes significant, if its bit is 1.
+    #[inline(always)]
+    pub fn light_if(&mut self, shape: BlockShape, spot: Spot, k: u32, bit: bool)
+        requires sized { IsSized shape }
+        requires spot { IsSpot shape spot }
+        requires place { IsPlace shape spot k }
+        ensures lights { Lights shape (column spot.word k) (row spot.stripe k) bit self.old self.new }
+        ensures visited { self.new.visited ≡ self.old.visited }
+    {
+        let at = word_place(shape, spot.word + 1, spot.stripe + 1);
+        let significant = &mut self.significant;
+        significant[at] |= (bit as u64) << k;
+    }
 }

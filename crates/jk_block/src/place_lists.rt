@@ -1,6 +1,6 @@
 //! The decisions of one place in a pass, listed (T.800 D.3).
 
-ghost use Rattle.std.specs.Prelude.{◌≡◌, ℕ, Bool, true, nat_le, nat_lt, ◌+◌, ◌*◌, ◌%◌, ◌<◌, ◌≤◌, ◌++◌, ◌∷◌, [], IfOk, IfErr};
+ghost use Rattle.std.specs.Prelude.{◌≡◌, ℕ, Bool, true, nat_le, nat_lt, ◌+◌, ◌-◌, ◌*◌, ◌/◌, ◌%◌, ◌<◌, ◌≤◌, ◌++◌, ◌∷◌, [], IfOk, IfErr, get_or};
 ghost use Rattle.jk_math.specs.Memory.{IsMemory};
 ghost use Rattle.jk_scan.specs.Bits.{on};
 ghost use Rattle.jk_scan.specs.Moments.{significant};
@@ -8,6 +8,7 @@ ghost use Rattle.jk_scan.specs.Neighbours.{Field, touched};
 ghost use Rattle.jk_scan.specs.Words.{bordered};
 ghost use Rattle.jk_scan.specs.WordPlaces.{column, row};
 ghost use Rattle.jk_scan.specs.Surroundings.{IsAround};
+ghost use Rattle.jk_scan.specs.RingPlaces.{IsRing, IsCross};
 ghost use Rattle.jk_scan.specs.Flags.{IsDrawn};
 ghost use Rattle.jk_scan.specs.Passes.{Plane, is_one, flipped, sign_decision, new_decisions, refining_decision, first_one};
 ghost use Rattle.jk_block.specs.Reading.{put};
@@ -19,7 +20,10 @@ use crate::flags::Flags;
 use crate::plane::BlockPlane;
 use crate::spot::Spot;
 use jk_math::Fault;
-use jk_scan::{Around, BlockShape, refine_context, sign_context_at, zero_context_at};
+use jk_scan::{
+    Around, BlockShape, refine_context, sign_context_at, sign_context_in, zero_context_at,
+    zero_context_in,
+};
 
 /// The contexts of run mode (T.800 Table D.5).
 const RUN_LENGTH: u8 = 17;
@@ -101,32 +105,43 @@ pub fn list_new(
     Ok(bit)
 }
 
-/// The same of a place that the significance propagation pass codes.
+/// The same of a place that the significance propagation pass codes, by what each place of its word has around it.
 #[inline(always)]
 pub fn list_member(
     block: &BlockPlane<'_>,
     flags: &mut Flags,
     spot: Spot,
     k: u32,
-    around: Around,
+    rings: &[u64; 4],
+    crosses: &[u64; 4],
     signs: Around,
     ones: u64,
     list: &mut DecisionList,
-) -> Result<bool, Fault>
+) -> Result<(), Fault>
     requires spot { IsSpot block.now.shape spot }
     requires place { IsPlace block.now.shape spot k }
     requires signs { IsAround (bordered (negative_in block.now)) spot.word spot.stripe signs }
+    requires crosses { IsCross (bordered (negative_in block.now)) (column spot.word k + 8) (row spot.stripe k + 4) (get_or crosses.now (k % 8 - 1) 0) (k / 8) 4 }
     requires ones { ShowsOnes block.now spot.word spot.stripe ones }
-    ensures bit { IfOk result (λ bit. bit ≡ is_one ((seen block.now).magnitude (column spot.word k) (row spot.stripe k))) }
-    ensures lights { IfOk result (λ bit. Lights block.now.shape (column spot.word k) (row spot.stripe k) bit flags.old flags.new) }
+    ensures lights { Lights block.now.shape (column spot.word k) (row spot.stripe k) (on ones k) flags.old flags.new }
     ensures visited { (f : Field Bool) → IsDrawn block.now.shape f flags.old.visited
         → IsDrawn block.now.shape (put f (column spot.word k) (row spot.stripe k) true) flags.new.visited }
-    ensures listed { IfOk result (λ _. (t : ℕ) → IsAround (bordered (lit_at block.now t)) spot.word spot.stripe around
+    ensures listed { IfOk result (λ _. (t : ℕ) → IsRing (bordered (lit_at block.now t)) (column spot.word k + 8) (row spot.stripe k + 4) (get_or rings.now (k % 8 - 1) 0) (k / 8)
+        → IsCross (bordered (lit_at block.now t)) (column spot.word k + 8) (row spot.stripe k + 4) (get_or crosses.now (k % 8 - 1) 0) (k / 8) 0
         → list.new ≡ list.old ++ new_decisions block.now.shape (seen block.now) t (column spot.word k) (row spot.stripe k)) }
     ensures memory { IfErr result IsMemory }
 {
+    let bit = bit_of(ones, k);
     flags.visit(block.shape, spot, k);
-    list_new(block, flags, spot, k, around, signs, ones, list)
+    flags.light_if(block.shape, spot, k, bit);
+    let context = zero_context_in(block.shape.kind, rings, k);
+    let sign = sign_context_in(crosses, k);
+    list.push_new(
+        context,
+        bit,
+        sign.context,
+        flip(sign.flip, bit_of(signs.own, k)),
+    )
 }
 
 /// The bit of a place that was significant before this plane (T.800 D.3.3).

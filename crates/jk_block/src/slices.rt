@@ -28,8 +28,9 @@ fn byte_at(values: &[i32], at: usize, shift: u32) -> u64
     ((values[at].unsigned_abs() | sign << 31) >> shift & 0xFF) as u64
 }
 
-/// The slice of so many values.
-fn slice(values: &[i32], start: usize, count: usize, shift: u32) -> u64
+/// The slice of so many values, by a loop over them.
+#[inline(always)]
+fn slice_by(values: &[i32], start: usize, count: usize, shift: u32) -> u64
     requires within { start + count ≤ length values.now }
     requires few { count ≤ 8 }
     requires shift { shift < 32 }
@@ -41,6 +42,21 @@ fn slice(values: &[i32], start: usize, count: usize, shift: u32) -> u64
         word |= byte_at(values, start + c, shift) << (8 * c);
     }
     word
+}
+
+/// The slice of so many values. Most have eight, for which the loop is laid out in full.
+fn slice(values: &[i32], start: usize, count: usize, shift: u32) -> u64
+    requires within { start + count ≤ length values.now }
+    requires few { count ≤ 8 }
+    requires shift { shift < 32 }
+    ensures { (c i : ℕ) → c < 8 → i < 8
+        → on result (8 * c + i) ≡ (nat_lt c count && on (signed (slice_index_or values.now (start + c) (pos 0))) (shift + i)) }
+{
+    if count == 8 {
+        slice_by(values, start, 8, shift)
+    } else {
+        slice_by(values, start, count, shift)
+    }
 }
 
 /// The slices of a row.

@@ -10,6 +10,7 @@ ghost use Rattle.jk_scan.specs.WordPlaces.{column, row};
 ghost use Rattle.jk_block.specs.Steps.{IsSpot};
 ghost use Rattle.jk_block.specs.Viewed.{seen, lit_at, spread_at, IsFlagged, moment_at, word_decisions};
 
+use crate::ahead::with_reached;
 use crate::decisions::DecisionList;
 use crate::flags::Flags;
 use crate::loops::still_columns;
@@ -17,10 +18,13 @@ use crate::place_lists::{bit_of, list_member, list_new, list_next, list_run};
 use crate::plane::BlockPlane;
 use crate::spot::Spot;
 use jk_math::Fault;
-use jk_scan::{inside, members, quiet_behind, seen_around, touched_places, word_place};
+use jk_scan::{
+    Around, cross_words, inside, members, quiet_behind, ring_words, seen_around, touched_places,
+    word_place,
+};
 
-/// A word in the significance propagation pass (T.800 D.3.1). A place that becomes significant takes in the later ones of its
-/// word that it touches.
+/// A word in the significance propagation pass (T.800 D.3.1). Its places are known at once, and so is what each of them has
+/// around it: of the places before it those that are significant behind this pass, of the others those that are so before it.
 #[inline(always)]
 pub fn list_propagation(
     block: &BlockPlane<'_>,
@@ -36,18 +40,23 @@ pub fn list_propagation(
 {
     let own = *block;
     let limits = inside(own.shape, spot.word, spot.stripe);
-    let mut around = seen_around(&flags.significant, own.shape, spot.word, spot.stripe);
-    let mut candidates = members(around.own, around.left, around.right, limits);
-    let signs = seen_around(own.negative, own.shape, spot.word, spot.stripe);
+    let around = seen_around(&flags.significant, own.shape, spot.word, spot.stripe);
+    let candidates = members(around.own, around.left, around.right, limits);
     let ones = own.ones(spot);
-    while candidates != 0 {
-        let k = candidates.trailing_zeros();
-        candidates &= candidates - 1;
-        let bit = list_member(&own, flags, spot, k, around, signs, ones, list)?;
-        if bit {
-            around.own |= 1 << k;
-            candidates |= 0x382 << k & limits & !around.own;
-        }
+    let all = with_reached(candidates, ones, limits & !around.own);
+    let seen = Around {
+        own: around.own | all & ones,
+        left: around.left,
+        right: around.right,
+    };
+    let signs = seen_around(own.negative, own.shape, spot.word, spot.stripe);
+    let rings = ring_words(seen, around.own);
+    let crosses = cross_words(seen, around.own, signs);
+    let mut left = all;
+    while left != 0 {
+        let k = left.trailing_zeros();
+        left &= left - 1;
+        list_member(&own, flags, spot, k, &rings, &crosses, signs, ones, list)?;
     }
     Ok(())
 }
@@ -129,8 +138,11 @@ pub fn list_cleanup(
 {
     let own = *block;
     let limits = inside(own.shape, spot.word, spot.stripe);
-    let mut around = seen_around(&flags.significant, own.shape, spot.word, spot.stripe);
     let mut left = uncoded(&own, flags, spot, limits);
+    if left == 0 {
+        return Ok(());
+    }
+    let mut around = seen_around(&flags.significant, own.shape, spot.word, spot.stripe);
     let mut still = still_columns(own.shape, spot, around, limits);
     let signs = seen_around(own.negative, own.shape, spot.word, spot.stripe);
     let ones = own.ones(spot);

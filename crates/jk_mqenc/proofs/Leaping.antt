@@ -187,3 +187,25 @@ leap-all now next (suc k) h w l i e =
     let same : next ≡ leapt (suc k) now = e ∙ sym (leapt-more (suc k) now (λ z. omega (arith, h, z))) in
     let width : next.width ≡ now.width * 2 ^ suc k = ap (λ (m : Machine). m.width) (e ∙ shifted_by-is (suc k) now) in
     comes-last next now (omega (arith, width, l)) (comes-leap now next now (suc k) (omega arith) (omega (arith, h)) w same (comes-first now (omega (arith, h)) i))
+
+-- The last doublings, where no byte goes out.
+pub leap-rest : (now next first : Machine) (k : ℕ) → k < now.count → now.width * 2 ^ k < 65536 → 32768 ≤ now.width * 2 ^ k → next ≡ shifted_by k now → Comes now first → next ≡ renorm 15 first
+leap-rest now next first zero h w l e c = e ∙ comes-last now first (omega (arith, l)) c
+leap-rest now next first (suc k) h w l e c =
+    let same : next ≡ leapt (suc k) now = e ∙ sym (leapt-more (suc k) now (λ z. omega (arith, h, z))) in
+    let width : next.width ≡ now.width * 2 ^ suc k = ap (λ (m : Machine). m.width) (e ∙ shifted_by-is (suc k) now) in
+    comes-last next first (omega (arith, width, l)) (comes-leap now next first (suc k) (omega arith) (omega (arith, h)) w same c)
+
+-- A byte goes out, and CT doublings are due.
+pub record Through (now first : Machine) : Type 0 where
+  pub comes : Comes now first
+  pub narrow : now.width * 2 ^ now.count < 65536
+
+pub through-next : (now next first : Machine) (k : ℕ) → k ≡ now.count → next ≡ leapt k now → Through now first → (Comes next first) × (now.width < next.width) × (now.width < 32768)
+through-next now next first k e l t =
+    let count = t.comes.count in
+    let some : 1 ≤ k = omega (arith, e, count) in
+    let most : k ≤ now.count = omega (arith, e) in
+    let fits : now.width * 2 ^ k < 65536 = subst (λ n. now.width * 2 ^ n < 65536) (sym e) t.narrow in
+    let p = mul-le now.width (2 ^ 1) now.width (2 ^ k) (omega arith) (pow_mono some) in
+    (comes-leap now next first k some most fits l t.comes, leapt-wider now next t.comes.at k some most fits l t.comes.holds, omega (arith, p, fits))

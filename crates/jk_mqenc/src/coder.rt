@@ -6,7 +6,7 @@ ghost use Rattle.jk_mqenc.specs.Machine.{Machine, Holds, byte_out, placed_after}
 ghost use Rattle.jk_mqenc.specs.Holding.{before};
 ghost use Rattle.jk_model.specs.Placed.{onto};
 ghost use Rattle.jk_mqenc.specs.Encoded.{started, without_ff, with_registers};
-ghost use Rattle.jk_mqenc.specs.Coding.{leapt, renorm, part, set_bits, pushed_out, flushed};
+ghost use Rattle.jk_mqenc.specs.Coding.{shifted_by, leapt, renorm, part, set_bits, pushed_out, flushed};
 
 use jk_math::Refused;
 use std::alloc::Global;
@@ -115,17 +115,15 @@ fn placing(held: Option<u8>, code: u32) -> Placement
     }
 }
 
-/// How many doublings can be made at once: as many as bring the width to 2^15, at most CT.
-fn times(width: u32, count: u32) -> u32
+/// How many doublings bring a width to 2^15.
+#[inline(always)]
+fn doublings(width: u32) -> u32
     requires some { 1 ≤ width }
-    requires narrow { width < 2 ^ 15 }
-    requires count { 1 ≤ count }
-    ensures some { 1 ≤ result }
-    ensures count { result ≤ count }
+    requires small { width < 2 ^ 16 }
     ensures fits { width * 2 ^ result < 2 ^ 16 }
+    ensures wide { 2 ^ 15 ≤ width * 2 ^ result }
 {
-    let zeros = width.leading_zeros() - 16;
-    if zeros < count { zeros } else { count }
+    width.leading_zeros() - 16
 }
 
 impl Coder {
@@ -186,18 +184,36 @@ impl Coder {
         Ok(())
     }
 
-    /// RENORME where a byte goes out.
-    #[inline(never)]
+    /// So many doublings at once, fewer than CT.
+    #[inline(always)]
+    fn shift(&mut self, times: u32)
+        requires count { times < self.old.count }
+        requires width { self.old.width * 2 ^ times < 2 ^ 16 }
+        requires holds { (s : State) × Holds self.old s }
+        ensures done { self.new ≡ shifted_by times self.old }
+    {
+        self.code <<= times;
+        self.width <<= times;
+        self.count -= times;
+    }
+
+    /// RENORME where a byte goes out: CT doublings are due at least.
+    #[inline(always)]
     fn renormalise_through(&mut self) -> Result<(), Refused>
         requires count { 1 ≤ self.old.count }
+        requires narrow { self.old.width * 2 ^ self.old.count < 2 ^ 16 }
         requires holds { (s : State) × Holds self.old s }
         ensures done { IfOk result (λ _. self.new ≡ renorm 15 self.old) }
     {
-        while self.width < 0x8000 {
-            let shift = times(self.width, self.count);
-            self.double(shift)?;
+        loop {
+            let count = self.count;
+            self.double(count)?;
+            let due = doublings(self.width);
+            if due < self.count {
+                self.shift(due);
+                return Ok(());
+            }
         }
-        Ok(())
     }
 
     /// The registers.
@@ -226,6 +242,7 @@ impl Coder {
     #[inline(always)]
     fn through(&mut self, registers: Registers) -> Result<Registers, Refused>
         requires count { 1 ≤ registers.count }
+        requires narrow { registers.width * 2 ^ registers.count < 2 ^ 16 }
         requires holds { (s : State) × Holds (with_registers self.old registers) s }
         ensures done { IfOk result (λ r. with_registers self.new r ≡ renorm 15 (with_registers self.old registers)) }
     {

@@ -54,6 +54,10 @@ steps_are : (d : ℕ) → d < 64 → on 0x382 d ≡ steps d
 unfolding on all_below same steps
 steps_are d h = same_is (on 0x382 d) (steps d) (all_at 64 (λ d. same (on 0x382 d) (steps d)) refl d h)
 
+pub step_is : (d : ℕ) → d < 64 → on 0x382 d ≡ (nat_eq d 1 || (nat_eq d 7 || (nat_eq d 8 || nat_eq d 9)))
+unfolding steps
+step_is d h = steps_are d h
+
 -- A later place of the word is next to a place where it is one of these steps from it.
 later : (j s a p b q : ℕ) → 1 ≤ p → p < 5 → 1 ≤ q → q < 5 → 8 * b + q < 8 * a + p
     → (((nat_eq (8 * (j + 1) + a) (8 * (j + 1) + b) || nat_eq (8 * (j + 1) + a - 1) (8 * (j + 1) + b)) || nat_eq (8 * (j + 1) + a + 1) (8 * (j + 1) + b))

@@ -9,7 +9,7 @@ use Rattle.jk_scan.specs.Bits.{on}
 use Rattle.jk_scan.specs.Words.{Truths, of_gathered, Shows, bordered, IsColumn, IsWindow}
 use Rattle.jk_scan.proofs.BitLaws.{on_or, on_and, on_above, on_shl, on_shl_low, on_shr, on_shr_at}
 use Rattle.jk_scan.proofs.Seen.{AreSeen, AreFour, seen}
-use Rattle.jk_scan.proofs.Nines.{in_column, column_at, first, second, third}
+use Rattle.jk_scan.proofs.Nines.{column_at, first, second, third}
 
 gathered_up : (i : ℕ) → i < 6 → of_gathered i ≡ true
 gathered_up i h = grind (arith, nat_tests)

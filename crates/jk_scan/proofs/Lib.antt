@@ -19,3 +19,5 @@ pub mod Seen
 pub mod Candidates
 pub mod Geometry
 pub mod Marking
+pub mod RingBits
+pub mod RingContexts

@@ -1,16 +1,14 @@
 -- The contexts of what is seen around a place.
-use Rattle.std.proofs.Common.{◌≡◌, ℕ, ◌+◌, ◌-◌, ◌*◌, ◌/◌, ◌%◌, ◌^◌, ◌<◌, Bool, true, false, not, refl, sym, ap, ◌∙◌, arith}
-use Rattle.std.specs.Prelude.{◌&&◌, ◌||◌, nat_le}
-use Rattle.std.specs.Int.RustNames.{bit_or, bit_and}
+use Rattle.std.proofs.Common.{◌≡◌, ℕ, ◌+◌, ◌-◌, ◌*◌, ◌/◌, ◌%◌, ◌<◌, Bool, true, not, refl, sym, ap, ◌∙◌, arith}
+use Rattle.std.specs.Prelude.{◌&&◌, nat_le}
 use Rattle.std.proofs.lemmas.Bool.Decides.{nat_tests}
-use Rattle.std.proofs.lemmas.Nat.{or_lt, and_le_r}
 use Rattle.jk_scan.specs.declared.shape.Kind.{Kind}
 use Rattle.jk_scan.specs.Bits.{on}
 use Rattle.jk_scan.specs.Contexts.{zero_context_of, contribution_of, sign_context_of}
 use Rattle.jk_scan.specs.Neighbours.{west, east, north, south, count, zero_at, sign_at}
 use Rattle.jk_scan.specs.Tables.{zero_context_by, sign_context_by}
 use Rattle.jk_scan.specs.Words.{Truths, bordered, IsWindow}
-use Rattle.jk_scan.proofs.BitLaws.{on_or, on_and, on_shr, on_mod, on_shr_at}
+use Rattle.jk_scan.proofs.BitLaws.{on_mod, on_shr_at}
 
 -- what a window shows of the neighbours of the place (x, y)
 pub record AreSeen (f : Truths) (x y window : ℕ) : Type 0 where

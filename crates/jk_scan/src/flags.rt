@@ -48,6 +48,7 @@ fn gathered(words: &[u64; WORDS], shape: BlockShape, word: usize, stripe: usize)
 }
 
 /// A word of a stripe and those beside it, each with the rows above and below.
+#[inline(always)]
 pub fn seen_around(words: &[u64; WORDS], shape: BlockShape, word: usize, stripe: usize) -> Around
     requires sized { IsSized shape }
     requires word { word < across shape }

@@ -8,6 +8,7 @@ use Rattle.jk_block.specs.Viewed.{lit_at, negative_in, moment_at}
 use Rattle.jk_block.proofs.Coming.{coming_all}
 use Rattle.jk_block.proofs.Cleaning.{sooner_place, sooner_run}
 use Rattle.jk_block.proofs.Cleaned.{cleaned_none, next_left, next_run, RunListed, cleaned_zero, cleaned_one, cleaned_run, cleaned_run_one, cleaned_all}
+use Rattle.jk_block.proofs.Emptied.{emptied}
 use Rattle.jk_block.proofs.word_lists.list_cleanup.Goals as goal
 
 pub places-init : goal.places-init
@@ -198,3 +199,16 @@ list_run-requires-clause-signs c = c.seen_around-signs.ensures (negative_in c.ar
 
 pub list_new-requires-clause-signs : goal.list_new-requires-clause-signs
 list_new-requires-clause-signs c = c.seen_around-signs.ensures (negative_in c.args.block.now) c.args.block.now.signs
+
+pub returns-then-left-eq0-clause-flagged : goal.returns-then-left-eq0-clause-flagged
+returns-then-left-eq0-clause-flagged c =
+    let v = c.args.block.now in
+    let at = c.args.spot in
+    (emptied v at c.args.flags.now c.args.list.now c.uncoded-left.result c.requires.spot.stripe c.requires.flagged (c.uncoded-left.ensures (moment_at v.shape 2 at.word at.stripe 0) c.requires.flagged) (omega arith)).flagged
+
+pub returns-then-left-eq0-clause-listed : goal.returns-then-left-eq0-clause-listed
+returns-then-left-eq0-clause-listed c =
+    let v = c.args.block.now in
+    let at = c.args.spot in
+    coming_all v 2 at c.args.flags.now c.args.list.now c.args.list.now
+    (emptied v at c.args.flags.now c.args.list.now c.uncoded-left.result c.requires.spot.stripe c.requires.flagged (c.uncoded-left.ensures (moment_at v.shape 2 at.word at.stripe 0) c.requires.flagged) (omega arith))

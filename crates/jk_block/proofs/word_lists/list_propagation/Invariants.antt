@@ -1,10 +1,10 @@
 use Rattle.std.proofs.Common.{◌-◌}
 use Rattle.std.specs.Int.{trailing_zeros, w64}
-use Rattle.jk_block.proofs.Propagated.{Propagated}
+use Rattle.jk_block.proofs.Foreseen.{Listing}
 use Rattle.jk_block.proofs.word_lists.list_propagation.Given as goal
 
-abbrev pub invariant-loop-candidates : goal.invariant-loop-candidates
-invariant-loop-candidates l = Propagated l.block l.spot l.flags l.fn.list l.list l.around l.candidates
+abbrev pub invariant-loop-left : goal.invariant-loop-left
+invariant-loop-left l = Listing l.block l.spot l.flags l.fn.list l.list l.limits l.ones l.all l.rings l.crosses l.left
 
-abbrev pub decreases-loop-candidates : goal.decreases-loop-candidates
-decreases-loop-candidates l = 64 - trailing_zeros w64 l.candidates
+abbrev pub decreases-loop-left : goal.decreases-loop-left
+decreases-loop-left l = 64 - trailing_zeros w64 l.left

@@ -1,34 +1,58 @@
 use Rattle.std.proofs.Common.{ap, subst, ◌*◌, ◌^◌, ◌<◌, ◌≤◌, arith}
 use Rattle.jk_mqenc.specs.Machine.{Machine}
-use Rattle.jk_mqenc.proofs.Renorming.{comes-first, comes-last}
-use Rattle.jk_mqenc.proofs.Leaping.{comes-leap, leapt-wider}
+use Rattle.jk_mqenc.proofs.Renorming.{comes-first}
+use Rattle.jk_mqenc.proofs.Leaping.{through-next, leap-rest, fewer-shift}
 use Rattle.jk_mqenc.proofs.coder.Coder.renormalise_through.Goals as goal
 
-pub loop-self-init : goal.loop-self-init
-loop-self-init c = comes-first c.args.self.now c.requires.count c.requires.holds
+pub loop-due-init : goal.loop-due-init
+loop-due-init c = record { comes = comes-first c.args.self.now c.requires.count c.requires.holds; narrow = c.requires.narrow }
 
-pub loop-self-smaller : goal.loop-self-smaller
-loop-self-smaller c =
-    let i = c.loop-self.invariant in
-    let k = c.times-shift.result in
-    let e = c.times-shift.ensures in
-    let width = ap (λ (m : Machine). m.width) c.self.view_is in
-    let count = ap (λ (m : Machine). m.count) c.self.view_is in
-    let wider = leapt-wider c.loop-self.self c.double.new.self i.at k e.some (omega (arith, count, e.count)) (subst (λ x. x * 2 ^ k < 65536) width e.fits) c.in_ok-double.ensures.done i.holds in
-    omega (arith, wider, width, c.loop-self-test.true)
+pub doublings-due-requires-clause-some : goal.doublings-due-requires-clause-some
+doublings-due-requires-clause-some c =
+    let next = through-next c.loop-due.self c.double.new.self c.args.self.now _ (ap (λ (m : Machine). m.count) c.self.view_is) c.in_ok-double.ensures.done c.loop-due.invariant in
+    let width = ap (λ (m : Machine). m.width) c.self-in-loop-due.view_is in
+    let some = next.0.holds.positive in
+    omega (arith, width, some)
 
-pub loop-self-preserved : goal.loop-self-preserved
-loop-self-preserved c =
-    let k = c.times-shift.result in
-    let e = c.times-shift.ensures in
-    let width = ap (λ (m : Machine). m.width) c.self.view_is in
-    let count = ap (λ (m : Machine). m.count) c.self.view_is in
-    comes-leap c.loop-self.self c.double.new.self _ k e.some (omega (arith, count, e.count)) (subst (λ x. x * 2 ^ k < 65536) width e.fits) c.in_ok-double.ensures.done c.loop-self.invariant
+pub doublings-due-requires-clause-small : goal.doublings-due-requires-clause-small
+doublings-due-requires-clause-small c =
+    let next = through-next c.loop-due.self c.double.new.self c.args.self.now _ (ap (λ (m : Machine). m.count) c.self.view_is) c.in_ok-double.ensures.done c.loop-due.invariant in
+    let width = ap (λ (m : Machine). m.width) c.self-in-loop-due.view_is in
+    let most = next.0.holds.largest in
+    omega (arith, width, most)
 
-pub returns : goal.returns
-returns c = record {
+pub shift-requires-clause-holds : goal.shift-requires-clause-holds
+shift-requires-clause-holds c =
+    let next = through-next c.loop-due.self c.double.new.self c.args.self.now _ (ap (λ (m : Machine). m.count) c.self.view_is) c.in_ok-double.ensures.done c.loop-due.invariant in
+    (next.0.at, next.0.holds)
+
+pub returns-then-due-self : goal.returns-then-due-self
+returns-then-due-self c = record {
   done =
-      let width = ap (λ (m : Machine). m.width) c.self.view_is in
-      let wide : 32768 ≤ c.loop-self.self.width = omega (arith, width, c.loop-self-test.false) in
-      comes-last c.loop-self.self c.args.self.now wide c.loop-self.invariant;
+      let next = through-next c.loop-due.self c.double.new.self c.args.self.now _ (ap (λ (m : Machine). m.count) c.self.view_is) c.in_ok-double.ensures.done c.loop-due.invariant in
+      let width = ap (λ (m : Machine). m.width) c.self-in-loop-due.view_is in
+      let count = ap (λ (m : Machine). m.count) c.self-in-loop-due.view_is in
+      let k = c.doublings-due.result in
+      let few = c.if-due-self.true in
+      leap-rest c.double.new.self c.shift.new.self c.args.self.now k (omega (arith, count, few)) (subst (λ w. w * 2 ^ k < 65536) width c.doublings-due.ensures.fits) (subst (λ w. 32768 ≤ w * 2 ^ k) width c.doublings-due.ensures.wide)
+      c.shift.ensures.done next.0;
 }
+
+pub loop-due-smaller : goal.loop-due-smaller
+loop-due-smaller c =
+    let next = through-next c.loop-due.self c.double.new.self c.args.self.now _ (ap (λ (m : Machine). m.count) c.self.view_is) c.in_ok-double.ensures.done c.loop-due.invariant in
+    let wider = next.1 in
+    let small = next.2 in
+    omega (arith, wider, small)
+
+pub loop-due-preserved : goal.loop-due-preserved
+loop-due-preserved c =
+    let next = through-next c.loop-due.self c.double.new.self c.args.self.now _ (ap (λ (m : Machine). m.count) c.self.view_is) c.in_ok-double.ensures.done c.loop-due.invariant in
+    let width = ap (λ (m : Machine). m.width) c.self-in-loop-due.view_is in
+    let count = ap (λ (m : Machine). m.count) c.self-in-loop-due.view_is in
+    let k = c.doublings-due.result in
+    let many = c.if-due-self.false in
+    record {
+      comes = next.0;
+      narrow = fewer-shift c.double.new.self.width c.double.new.self.count k (omega (arith, count, many)) (subst (λ w. w * 2 ^ k < 65536) width c.doublings-due.ensures.fits);
+    }

@@ -1,9 +1,9 @@
 use Rattle.std.proofs.Common.{◌-◌}
 use Rattle.jk_mqenc.proofs.coder.Coder.renormalise_through.Given as goal
-use Rattle.jk_mqenc.proofs.Renorming.{Comes}
+use Rattle.jk_mqenc.proofs.Leaping.{Through}
 
-abbrev pub invariant-loop-self : goal.invariant-loop-self
-invariant-loop-self l = Comes l.self l.fn.self
+abbrev pub invariant-loop-due : goal.invariant-loop-due
+invariant-loop-due l = Through l.self l.fn.self
 
-abbrev pub decreases-loop-self : goal.decreases-loop-self
-decreases-loop-self l = 32768 - l.self.width
+abbrev pub decreases-loop-due : goal.decreases-loop-due
+decreases-loop-due l = 32768 - l.self.width
