@@ -23,8 +23,18 @@ fn words(rt: &HostRuntime, alloc: Global) -> io::Result<Vec<String>> {
     Ok(words)
 }
 
+/// How large a piece of memory may be that is kept for the next one once it is given back: the most that the C library allows.
+const KEPT: usize = 31 << 20;
+
+/// Takes a large piece of memory and gives it back. The C library maps each large piece anew, and the system clears it, until
+/// one of its size was given back; then it keeps what is freed (mallopt(3), M_MMAP_THRESHOLD).
+fn keep_freed_memory(alloc: Global) {
+    let _ = Vec::<u8>::with_capacity(alloc, KEPT);
+}
+
 fn main(rt: HostRuntime) -> io::Result<ExitCode> {
     let alloc = rt.alloc();
+    keep_freed_memory(alloc);
     let words = words(&rt, alloc)?;
     let command = commands::command(alloc)?;
     let matches = match command.try_get_matches_from(words.as_slice()) {
