@@ -13,8 +13,9 @@ ghost use Rattle.jk_block.specs.Meaning.{IsBlockMeaning, plane_of, kind_of, with
 ghost use Rattle.jk_block.specs.Reading.{times, blank, begun, pass_at, coefficients, block_at};
 ghost use Rattle.jk_block.specs.Sketches.{Takes, IsFresh, progress, number_of, negative_in};
 
+use crate::flags::unmarked;
 use crate::passes::visit_plane;
-use crate::sketch::{Sketch, unmarked};
+use crate::sketch::Sketch;
 use crate::spot::{Pass, pass_of};
 use jk_math::Fault;
 use jk_model::first_steps;

@@ -10,6 +10,7 @@ ghost use Rattle.jk_block.specs.Reading.{blank, coded_as, visit, begun};
 ghost use Rattle.jk_block.specs.Fields.{field_of, lit_of, flagged};
 ghost use Rattle.jk_block.specs.Steps.{IsSpot, IsPlace};
 
+use crate::flags::unmarked;
 use crate::spot::Spot;
 use jk_scan::{BlockShape, WORDS, word_place};
 
@@ -42,13 +43,6 @@ fn digit(bit: bool) -> u64
     ensures { result ≡ (if bit then 1 else 0) }
 {
     bit as u64
-}
-
-/// No place is marked.
-pub fn unmarked() -> [u64; WORDS]
-    ensures { result ≡ replicate 774 0 }
-{
-    [0; WORDS]
 }
 
 /// No magnitude has a bit.

@@ -39,19 +39,17 @@ refused_at p file codestream size e other =
     let text = take (p.start - head_size p.form) file ++ (head_text p.form code_kind (head_size p.form + length codestream) ++ (codestream ++ drop p.end file)) in
     ap (λ b. cond b (Ok text) (Err Limit)) (sym (ap (fits_form p.form) e) ∙ other)
 
-pub closed_at : (p : CodePlace) (file codestream out head over : List ℕ) (size : ℕ) → out ≡ take p.start file ++ codestream → size ≡ head_size p.form + length codestream → fits_form p.form size ≡ true
+pub closed_at : (p : CodePlace) (file codestream out head over : List ℕ) (size : ℕ) → out ≡ take p.start file ++ (codestream ++ drop p.end file) → size ≡ head_size p.form + length codestream → fits_form p.form size ≡ true
     → head_size p.form ≤ p.start → p.start ≤ length file → head ≡ head_text p.form code_kind size
-    → over ≡ take (p.start - head_size p.form) out ++ (head ++ drop (p.start - head_size p.form + length head) out) → replaced_at p file codestream ≡ Ok (over ++ drop p.end file)
+    → over ≡ take (p.start - head_size p.form) out ++ (head ++ drop (p.start - head_size p.form + length head) out) → replaced_at p file codestream ≡ Ok over
 unfolding replaced_at
 closed_at p file codestream out head over size begun e fits before within own is =
     let n = head_size p.form in
     let front = take (p.start - n) file in
     let tail = drop p.end file in
     let long : length head ≡ n = ap (λ (xs : List ℕ). length xs) own ∙ head_length p.form code_kind size in
-    let laid : over ≡ front ++ (head ++ codestream) = is ∙ ap (λ (xs : List ℕ). take (p.start - n) xs ++ (head ++ drop (p.start - n + length head) xs)) begun ∙ head_over file codestream head p.start n before within long in
-    let spelled : over ++ tail ≡ front ++ (head ++ (codestream ++ tail)) =
-    ap (λ (xs : List ℕ). xs ++ tail) laid ∙ append_assoc front (head ++ codestream) tail ∙ ap (λ (xs : List ℕ). front ++ xs) (append_assoc head codestream tail) in
-    let text : front ++ (head_text p.form code_kind (n + length codestream) ++ (codestream ++ tail)) ≡ over ++ tail =
-    ap (λ m. front ++ (head_text p.form code_kind m ++ (codestream ++ tail))) (sym e) ∙ ap (λ (xs : List ℕ). front ++ (xs ++ (codestream ++ tail))) (sym own) ∙ sym spelled in
+    let laid : over ≡ front ++ (head ++ (codestream ++ tail)) = is ∙ ap (λ (xs : List ℕ). take (p.start - n) xs ++ (head ++ drop (p.start - n + length head) xs)) begun ∙ head_over file (codestream ++ tail) head p.start n before within long in
+    let text : front ++ (head_text p.form code_kind (n + length codestream) ++ (codestream ++ tail)) ≡ over =
+    ap (λ m. front ++ (head_text p.form code_kind m ++ (codestream ++ tail))) (sym e) ∙ ap (λ (xs : List ℕ). front ++ (xs ++ (codestream ++ tail))) (sym own) ∙ sym laid in
     ap (λ b. cond b (Ok (front ++ (head_text p.form code_kind (n + length codestream) ++ (codestream ++ tail)))) (Err Limit)) (sym (ap (fits_form p.form) e) ∙ fits)
     ∙ ap (λ (xs : List ℕ). Ok xs) text

@@ -1,6 +1,6 @@
 //! A file with another codestream, made in one piece.
 
-ghost use Rattle.std.specs.Prelude.{◌≡◌, ◌+◌, ◌≤◌, ◌++◌, true, false, not, length, take, drop, nat_eq, MatchResult, Ok, List, ℕ};
+ghost use Rattle.std.specs.Prelude.{◌≡◌, ◌+◌, ◌≤◌, ◌++◌, true, false, not, length, take, drop, nat_eq, IfErr, MatchResult, Ok, List, ℕ};
 ghost use Rattle.std.specs.List.{starts_with};
 ghost use Rattle.jk_math.specs.Memory.{IsMemory};
 ghost use Rattle.jk_math.specs.Answer.{Answers};
@@ -39,8 +39,9 @@ fn close_at(alloc: Global, file: &[u8], place: &CodePlace, out: &mut Vec<u8>) ->
     requires start { place.now.start ≤ length file.now }
     requires end { place.now.end ≤ length file.now }
     requires begun { place.now.start ≤ length out.old.items }
-    ensures { (codestream : List ℕ) → out.old.items ≡ take place.now.start file.now ++ codestream
+    ensures exact { (codestream : List ℕ) → out.old.items ≡ take place.now.start file.now ++ codestream
         → Answers (λ _. out.new.items) result (replaced_at place.now file.now codestream) }
+    ensures refused { IfErr result (λ _. out.new.items ≡ out.old.items) }
 {
     let head_size = place.form.head_size();
     let size = head_size + (out.len() - place.start);
@@ -48,8 +49,8 @@ fn close_at(alloc: Global, file: &[u8], place: &CodePlace, out: &mut Vec<u8>) ->
         return Err(Fault::Limit);
     }
     let head = code_head(alloc, place.form, size)?;
-    put_over(out, place.start - head_size, &head);
     out.extend_from_slice(&file[place.end..])?;
+    put_over(out, place.start - head_size, &head);
     Ok(())
 }
 
@@ -57,8 +58,9 @@ fn close_at(alloc: Global, file: &[u8], place: &CodePlace, out: &mut Vec<u8>) ->
 fn closing(alloc: Global, file: &[u8], boxed: &Boxed, out: &mut Vec<u8>) -> Result<(), Fault>
     requires opened { boxes_at file.now ≡ Ok boxed.now }
     requires begun { boxed.now.start ≤ length out.old.items }
-    ensures { (codestream : List ℕ) → out.old.items ≡ take boxed.now.start file.now ++ codestream
+    ensures exact { (codestream : List ℕ) → out.old.items ≡ take boxed.now.start file.now ++ codestream
         → Answers (λ _. out.new.items) result (replaced file.now codestream) }
+    ensures refused { IfErr result (λ _. out.new.items ≡ out.old.items) }
 {
     if !boxed.jp2 {
         return Ok(());
@@ -87,6 +89,8 @@ pub fn close_codestream(
         → Answers (λ _. out.new.items) result (recoded j codestream) }
     ensures bare { (codestream : List ℕ) → boxed.now.jp2 ≡ false → out.old.items ≡ take boxed.now.start file.now ++ codestream
         → Answers (λ _. out.new.items) result (Ok codestream) }
+    // Where it is refused the file stays as it was begun.
+    ensures refused { IfErr result (λ _. out.new.items ≡ out.old.items) }
 {
     closing(alloc, file, boxed, out)
 }

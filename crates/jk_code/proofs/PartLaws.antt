@@ -6,7 +6,7 @@ use Rattle.jk_math.specs.Picture.{Picture}
 use Rattle.jk_marks.specs.declared.siz.Siz.{Siz}
 use Rattle.jk_marks.specs.Siz.{IsSiz, tile_count}
 use Rattle.jk_marks.specs.Codestream.{Part, of_tile, only_part_of, IsPart, AreParts, AreClosedBeforeLast}
-use Rattle.jk_tile.proofs.Laws.{some_tile}
+use Rattle.jk_geom.proofs.Laws.{some_tile}
 use Rattle.jk_params.specs.declared.parameters.Parameters.{Parameters}
 use Rattle.jk_params.specs.Headers.{total}
 use Rattle.jk_params.specs.Profile.{siz_of, IsWrittenBy}

@@ -66,6 +66,12 @@ tile_found s x y siz is =
     let place : tile_area s (tile_of s x y) ≡ tile_at s p q = tile_is s (tile_of s x y) ∙ (ap (λ c. tile_at s c (tile_of s x y / n)) column ∙ ap (λ r. tile_at s p r) row) in
     (mul-add-lt q n p (tiles_down s) few_y few_x, subst (λ (a : Rect). IsWithin a x y) (sym place) within)
 
+-- there is a tile
+pub some_tile : (s : Siz) → IsSiz s → 0 < tile_count s
+some_tile s is =
+    let found = tile_found s s.x0 s.y0 is (record { left = omega arith; right = is.wide; upper = omega arith; lower = is.high }) in
+    omega (arith, found.0)
+
 -- the laws
 pub tile_covers : (s : Siz) (d x y : ℕ) → IsSiz s → IsWithin (reduced_area (image_area s) d) x y → (t : ℕ) × TileHolds s d t x y
 tile_covers s d x y siz is =

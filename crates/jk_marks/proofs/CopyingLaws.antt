@@ -2,7 +2,7 @@
 use Rattle.std.proofs.Common.{◌≡◌, ℕ, zero, suc, ◌+◌, ◌-◌, ◌^◌, ◌<◌, ◌≤◌, Bool, true, false, not, ◌||◌, cond, eqb, ltb, List, [], ◌∷◌, ◌++◌, length, take, drop, get_or, replicate, Some, None, refl, sym, ap, ◌∙◌, inl, inr, append_assoc, length-append, lit<, arith}
 use Rattle.std.specs.List.{flat_map, concat, AllByRecursion}
 use Rattle.std.proofs.lemmas.Bool.{true≢false, false_from_ne_true, or_from, and_right, eq-eqb, ne_eqb, le-ltb, cases_Bool}
-use Rattle.std.specs.Prelude.{Result, Ok, Err, OnOk, IfOk}
+use Rattle.std.specs.Prelude.{Result, Ok, Err, OnOk}
 use Rattle.std.proofs.Math.Nat.{mod-eq_of_lt}
 use Rattle.jk_math.specs.declared.fault.Fault.{Fault}
 use Rattle.std.proofs.lemmas.List.{drop_at, take_at}
@@ -405,10 +405,6 @@ none_at_end bytes others e =
 pub on_ok_map : {A : Type 0} {P Q : Type 0} (r : Result A Fault) → (P → Q) → OnOk r P → OnOk r Q
 on_ok_map (Ok x) f h = f h
 on_ok_map (Err e) f h = tt
-
-pub if_ok_map : {A : Type 0} {P Q : A → Type 0} (r : Result A Fault) → ((x : A) → P x → Q x) → IfOk r P → IfOk r Q
-if_ok_map (Ok x) f h = f x h
-if_ok_map (Err e) f h = tt
 
 -- a header that was appended, and data of that size behind it
 pub head_appended : (siz : Siz) (bytes : List ℕ) (p : Part) (content : List ℕ) (size n : ℕ) (old new : List ℕ) → IsPart siz p → BeginsWith bytes p → length content ≡ size → n ≡ psot_at bytes size

@@ -5,6 +5,11 @@ use Rattle.jk_math.specs.declared.fault.Fault.{Fault}
 use Rattle.jk_math.specs.declared.fault.Fault.TheVariants.{Memory}
 use Rattle.jk_math.specs.Answer.{◌>>=◌, refuse, Refuses, Answers, AnswersExactly}
 
+-- what a value answers to answers to what follows from it
+pub if_ok : {E A : Type 0} {P Q : A → Type 0} (r : Result A E) → ((x : A) → P x → Q x) → IfOk r P → IfOk r Q
+if_ok (Ok x) h p = h x p
+if_ok (Err e) h p = tt
+
 -- goes on with the value of a step that did not fail
 pub bind_then : {A B C : Type 0} (r : Result A Fault) (f : A → Result B Fault) (y : B) → (r >>= f) ≡ Ok y → ((x : A) → r ≡ Ok x → f x ≡ Ok y → C) → C
 bind_then (Ok x) f y e go = go x refl e

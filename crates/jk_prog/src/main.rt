@@ -23,7 +23,7 @@ fn words(rt: &HostRuntime, alloc: Global) -> io::Result<Vec<String>> {
     Ok(words)
 }
 
-/// How large a piece of memory may be that is kept for the next one once it is given back: the most that the C library allows.
+/// How large a piece of memory may be that is kept for the next one once it is given back: just below the 32 MiB up to which glibc keeps such pieces.
 const KEPT: usize = 31 << 20;
 
 /// Takes a large piece of memory and gives it back. The C library maps each large piece anew, and the system clears it, until

@@ -73,10 +73,6 @@ named P n (e ∷ entries) (i ∷ images) shows all = by (bytes_eq (string_bytes 
 
 -- ---- what is read
 
-pub if_ok : {X : Type 0} {P Q : X → Type 0} (r : Result X Fault) → ((v : X) → P v → Q v) → IfOk r P → IfOk r Q
-if_ok (Ok v) h p = h v p
-if_ok (Err e) h p = tt
-
 pub mapped_some : {X Y : Type 0} (f : X → Y) (o : Option X) → is_some (option_map f o) ≡ is_some o
 mapped_some f (Some x) = refl
 mapped_some f None = refl

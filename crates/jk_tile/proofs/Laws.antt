@@ -7,7 +7,7 @@ pub use Rattle.jk_tile.proofs.Colours.{rasters}
 pub use Rattle.jk_tile.proofs.PacketsTold.{HaveTables, names_of, of_layers, bodies_same, tile_is}
 pub use Rattle.jk_tile.proofs.LayerTables.{table_fits, table_has_bytes, table_has_passes}
 pub use Rattle.jk_tile.proofs.BlocksMeant.{precinct_bodies, block_meant}
-pub use Rattle.jk_tile.proofs.TileAreas.{tile_is_area, some_tile}
+pub use Rattle.jk_tile.proofs.TileAreas.{tile_is_area}
 pub use Rattle.jk_tile.proofs.WrittenTile.{IsSmall, exponents_long, exponents_small, planes_have, are_written}
 pub use Rattle.jk_tile.proofs.WrittenTile.{coding_is, tables_same, block_room, table_for, precinct_fits, tables_have}
 pub use Rattle.jk_tile.proofs.SamplesMeant.{written_decodes}

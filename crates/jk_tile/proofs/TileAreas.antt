@@ -5,7 +5,6 @@ use Rattle.std.proofs.lemmas.Nat.{div_below, mod_below}
 use Rattle.jk_marks.specs.declared.siz.Siz.{Siz}
 use Rattle.jk_marks.specs.Siz.{IsSiz, tiles_across, tile_count}
 use Rattle.jk_geom.specs.Rectangles.{IsArea, tile_area}
-use Rattle.jk_geom.proofs.Laws.{tile_found}
 
 -- one of so many parts of a line begins in the line
 begins : (x side n : ℕ) → 0 < side → n < (x + side - 1) / side → n * side < x
@@ -40,9 +39,3 @@ tile_is_area s t is lt =
       right = omega (arith, right);
       lower = omega (arith, lower);
     }
-
--- there is a tile
-pub some_tile : (s : Siz) → IsSiz s → 0 < tile_count s
-some_tile s is =
-    let found = tile_found s s.x0 s.y0 is (record { left = omega arith; right = is.wide; upper = omega arith; lower = is.high }) in
-    omega (arith, found.0)

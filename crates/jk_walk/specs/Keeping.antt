@@ -1,4 +1,4 @@
--- How the program keeps what headers have told of the precincts of a tile: of which nothing is kept are blank.
+-- How the program keeps what headers have told of the precincts of a tile: those of which nothing is kept are blank.
 use Rattle.std.specs.Prelude.{◌≡◌, ℕ, ◌+◌, ◌*◌, ◌<◌, Bool, List, [], length, map, slice_index_or, Option, Some, None}
 use Rattle.std.specs.Global.{Vec, Box}
 use Rattle.jk_geom.specs.declared.shape.TileShape.{TileShape}

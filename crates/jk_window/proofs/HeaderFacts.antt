@@ -8,7 +8,7 @@ use Rattle.jk_marks.specs.declared.coding.Coding.{Coding}
 use Rattle.jk_marks.specs.Siz.{IsSiz, tile_count}
 use Rattle.jk_geom.specs.Rectangles.{is_empty}
 use Rattle.jk_geom.specs.TileShapes.{coding_of}
-use Rattle.jk_geom.proofs.Laws.{tile_found}
+use Rattle.jk_geom.proofs.Laws.{some_tile}
 use Rattle.jk_params.specs.Headers.{Headers, TileFields, tile_in, AreHeaders}
 use Rattle.jk_window.specs.Views.{has_levels, holds_below}
 use Rattle.jk_window.proofs.Below.{below_at, below_from}
@@ -19,12 +19,6 @@ levels_at : (d : ℕ) (ks : List Coding) → list_all (λ (k : Coding). leb d k.
 levels_at d [] e c lt = absurd (omega (arith, lt))
 levels_at d (k ∷ ks) e zero lt = leb-true d k.levels (and_parts (leb d k.levels) (list_all (λ (k : Coding). leb d k.levels) ks) e).0
 levels_at d (k ∷ ks) e (suc c) lt = levels_at d ks (and_parts (leb d k.levels) (list_all (λ (k : Coding). leb d k.levels) ks) e).1 c (omega (arith, lt))
-
--- there is a tile
-pub some_tile : (s : Siz) → IsSiz s → 0 < tile_count s
-some_tile s is =
-    let found = tile_found s s.x0 s.y0 is (record { left = omega arith; right = is.wide; upper = omega arith; lower = is.high }) in
-    omega (arith, found.0)
 
 -- no more levels are taken than a coding has
 pub few_levels : (size d : ℕ) (h : Headers) → AreHeaders size h → holds_below (λ t. has_levels d (tile_in h.tiles t)) (tile_count h.siz) ≡ true → d ≤ 10

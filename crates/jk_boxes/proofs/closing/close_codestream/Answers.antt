@@ -10,9 +10,9 @@ use Rattle.jk_boxes.proofs.closing.close_codestream.Goals as goal
 
 pub returns-clause-changed : goal.returns-clause-changed
 returns-clause-changed c = λ codestream old j begun.
-    answers_same (λ _. c.closing.new.out.items) c.closing.result (replaced c.args.file.now codestream) (recoded j codestream) (c.closing.ensures codestream begun) (replaced_jp2 c.args.file.now old codestream j)
+    answers_same (λ _. c.closing.new.out.items) c.closing.result (replaced c.args.file.now codestream) (recoded j codestream) (c.closing.ensures.exact codestream begun) (replaced_jp2 c.args.file.now old codestream j)
 
 pub returns-clause-bare : goal.returns-clause-bare
 returns-clause-bare c = λ codestream is begun.
     let bare : starts_with nat_eq c.args.file.now soc ≡ true = not-false _ (sym (is_jp2 c.args.file.now c.args.boxed.now c.requires.opened) ∙ is) in
-    answers_same (λ _. c.closing.new.out.items) c.closing.result (replaced c.args.file.now codestream) (Ok codestream) (c.closing.ensures codestream begun) (replaced_bare c.args.file.now codestream bare)
+    answers_same (λ _. c.closing.new.out.items) c.closing.result (replaced c.args.file.now codestream) (Ok codestream) (c.closing.ensures.exact codestream begun) (replaced_bare c.args.file.now codestream bare)

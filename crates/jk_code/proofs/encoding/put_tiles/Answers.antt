@@ -10,7 +10,7 @@ use Rattle.jk_marks.specs.Siz.{tile_count}
 use Rattle.jk_marks.specs.Codestream.{part_text}
 use Rattle.jk_params.specs.declared.parameters.Parameters.{Parameters}
 use Rattle.jk_params.specs.Profile.{siz_of}
-use Rattle.jk_tile.proofs.Laws.{some_tile}
+use Rattle.jk_geom.proofs.Laws.{some_tile}
 use Rattle.jk_code.specs.Written.{part_for, part_fits, parts_fit}
 use Rattle.jk_window.specs.Views.{holds_below}
 use Rattle.jk_window.proofs.Laws.{below_none, below_more, below_fails}

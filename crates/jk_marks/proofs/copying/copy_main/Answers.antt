@@ -1,5 +1,6 @@
 use Rattle.std.proofs.Common.{List, ℕ, ◌++◌, ap, ◌∙◌, arith}
-use Rattle.jk_marks.proofs.CopyingLaws.{main_long, main_kept, main_sized, on_ok_map, if_ok_map}
+use Rattle.jk_math.specs.Steps.{if_ok}
+use Rattle.jk_marks.proofs.CopyingLaws.{main_long, main_kept, main_sized, on_ok_map}
 use Rattle.jk_marks.proofs.copying.copy_main.Goals as goal
 
 pub returns-then-bytes-lt2-clause-ok : goal.returns-then-bytes-lt2-clause-ok
@@ -10,4 +11,4 @@ returns-clause-ok c = λ siz segments is begins.
     on_ok_map c.copy_main_segments.result (λ e. e ∙ ap (λ (x : List ℕ). c.args.out.now.items ++ x) (main_kept c.args.bytes.now siz segments is begins)) c.copy_main_segments.ensures.ok
 
 pub returns-clause-size : goal.returns-clause-size
-returns-clause-size c = λ siz segments is begins. if_ok_map c.copy_main_segments.result (λ n e. e ∙ main_sized c.args.bytes.now siz segments is begins) c.copy_main_segments.ensures.size
+returns-clause-size c = λ siz segments is begins. if_ok c.copy_main_segments.result (λ n e. e ∙ main_sized c.args.bytes.now siz segments is begins) c.copy_main_segments.ensures.size

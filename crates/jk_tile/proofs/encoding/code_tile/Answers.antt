@@ -1,6 +1,6 @@
-use Rattle.std.proofs.Common.{length, map, Result, Ok, Err, IfOk, sym, ap, ◌∙◌}
+use Rattle.std.proofs.Common.{length, map, sym, ap, ◌∙◌}
 use Rattle.std.specs.List.{range_with_len}
-use Rattle.jk_math.specs.declared.fault.Fault.{Fault}
+use Rattle.jk_math.specs.Steps.{if_ok}
 use Rattle.jk_math.specs.declared.rect.Rect.{Rect}
 use Rattle.jk_wave.specs.Analysis.{analysed_bands}
 use Rattle.jk_tile.specs.Forward.{tile_value}
@@ -18,10 +18,6 @@ tile_tables-requires-clause-bands c =
 pub tile_tables-requires-clause-few : goal.tile_tables-requires-clause-few
 tile_tables-requires-clause-few c =
     precincts_few c.args.image.now c.args.parameters.now c.args.number c.args.rect.now c.args.coding.now c.requires.picture c.requires.written c.requires.number c.requires.rect c.requires.coding
-
-if_ok : {X : Type 0} {P Q : X → Type 0} (r : Result X Fault) → ((v : X) → P v → Q v) → IfOk r P → IfOk r Q
-if_ok (Ok v) h p = h v p
-if_ok (Err e) h p = tt
 
 pub returns-clause-lists : goal.returns-clause-lists
 returns-clause-lists c =

@@ -1,5 +1,5 @@
-use Rattle.std.proofs.Common.{◌≡◌, ℕ, ◌<◌, ◌≤◌, ◌^◌, ℤ, List, [], ◌∷◌, Result, Ok, Err, IfOk, length, replicate, sym, ap, subst, ◌∙◌}
-use Rattle.jk_math.specs.declared.fault.Fault.{Fault}
+use Rattle.std.proofs.Common.{◌≡◌, ℕ, ◌<◌, ◌≤◌, ◌^◌, ℤ, List, [], ◌∷◌, length, replicate, sym, ap, subst, ◌∙◌}
+use Rattle.jk_math.specs.Steps.{if_ok}
 use Rattle.jk_math.specs.declared.rect.Rect.{Rect}
 use Rattle.jk_marks.specs.declared.siz.Siz.{Siz}
 use Rattle.jk_marks.specs.declared.coding.Coding.{Coding}
@@ -17,10 +17,6 @@ use Rattle.jk_tile.proofs.WrittenTile.{planes_have}
 use Rattle.jk_tile.proofs.EncodingTile.{AreTileLists, written_few, shape_made, text_made}
 use Rattle.jk_tile.proofs.SamplesMeant.{written_decodes}
 use Rattle.jk_tile.proofs.encoding.encode_tile.Goals as goal
-
-if_ok : {X : Type 0} {P Q : X → Type 0} (r : Result X Fault) → ((v : X) → P v → Q v) → IfOk r P → IfOk r Q
-if_ok (Ok v) h p = h v p
-if_ok (Err e) h p = tt
 
 shape_from : (p : Picture) (q : Parameters) (t : ℕ) (rect : Rect) (siz : Siz) (planes : List (List ℤ)) (n : ℕ) (coding : Coding) (codings : List Coding) → IsWrittenBy q p → t < tile_count (siz_of p q)
     → rect ≡ tile_area siz t → siz ≡ siz_of p q → codings ≡ replicate n coding → n ≡ length planes → planes ≡ p.planes → coding ≡ written_coding p q

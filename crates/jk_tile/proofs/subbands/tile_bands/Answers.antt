@@ -1,6 +1,6 @@
-use Rattle.std.proofs.Common.{ap, sym, subst, map, length, ◌∙◌, Result, Ok, Err, IfOk}
+use Rattle.std.proofs.Common.{ap, sym, subst, map, length, ◌∙◌}
 use Rattle.std.specs.List.{range_with_len}
-use Rattle.jk_math.specs.declared.fault.Fault.{Fault}
+use Rattle.jk_math.specs.Steps.{if_ok}
 use Rattle.jk_math.specs.declared.rect.Rect.{Rect}
 use Rattle.jk_marks.specs.declared.siz.Siz.{Siz}
 use Rattle.jk_geom.specs.Rectangles.{IsArea, tile_area}
@@ -16,10 +16,6 @@ bands_on-requires-clause-rect c =
     let q = c.args.parameters.now in
     let at = c.tile-rect.ensures.value ∙ ap (λ (s : Siz). tile_area s c.args.number) c.siz_of.ensures.value in
     subst (λ (a : Rect). IsPartOf a (picture_area p)) (sym at) (tile_is_part p q c.args.number (subst IsArea at c.tile-rect.ensures.area))
-
-if_ok : {X : Type 0} {P Q : X → Type 0} (r : Result X Fault) → ((v : X) → P v → Q v) → IfOk r P → IfOk r Q
-if_ok (Ok v) h p = h v p
-if_ok (Err e) h p = tt
 
 pub returns-clause-bands : goal.returns-clause-bands
 returns-clause-bands c =

@@ -1,8 +1,9 @@
 use Rattle.std.proofs.Common.{map, ap, ◌∙◌}
 use Rattle.std.specs.List.{flat_map}
 use Rattle.std.specs.Arc.{arc_value}
+use Rattle.jk_math.specs.Steps.{if_ok}
 use Rattle.jk_store.specs.Showing.{line_of}
-use Rattle.jk_store.proofs.ShowingLaws.{if_ok, lines_shown}
+use Rattle.jk_store.proofs.ShowingLaws.{lines_shown}
 use Rattle.jk_store.proofs.showing.ArchiveCatalogue.lines.Goals as goal
 
 pub returns-clause-lines : goal.returns-clause-lines
