@@ -132,31 +132,6 @@ pub comes-leap : (now next first : Machine) (k : ℕ) → 1 ≤ k → k ≤ now.
 comes-leap now next first zero o h w e c = absurd (omega arith)
 comes-leap now next first (suc k) o h w e c = comes-leap-suc now next first k h w e c
 
-pub leapt-wider : (now next : Machine) (s : State) (k : ℕ) → 1 ≤ k → k ≤ now.count → now.width * 2 ^ k < 65536 → next ≡ leapt k now → Holds now s → now.width < next.width
-leapt-wider now next s k o h w e i =
-    let width = ap (λ (m : Machine). m.width) e ∙ leapt-width k now s h w i in
-    let p = mul-le now.width (2 ^ 1) now.width (2 ^ k) (omega arith) (pow_mono o) in
-    omega (arith, width, p, i.positive)
-
--- ---- the doublings that bring a width to 2^15
-
-pub zeros-above : (w : ℕ) → 1 ≤ w → w < 32768 → (17 ≤ count_leading_zeros 32 w) × (w * 2 ^ (count_leading_zeros 32 w - 16) < 65536)
-zeros-above w some small =
-    let t = leading_top 32 w some (omega (arith, small)) in
-    let n = count_leading_zeros 32 w in
-    let j = t.0 in
-    let all : n + suc j ≡ 32 = t.1 in
-    let low : j ≤ 14 = elim (cases_lt 14 j) [
-      | inl more ↦ (let p : 2 ^ 15 ≤ 2 ^ j = pow_mono more in
-          let least = t.2 in
-          absurd (omega (arith, p, least, small)))
-      | inr few ↦ few
-    ] in
-    let below : w * 2 ^ (n - 16) < 2 ^ suc j * 2 ^ (n - 16) = mul-lt-mul_of_pos_right t.3 (pow_pos (n - 16)) in
-    let sum : suc j + (n - 16) ≡ 16 = omega (arith, all, low) in
-    let top : 2 ^ suc j * 2 ^ (n - 16) ≡ 2 ^ 16 = sym (pow-add 2 (suc j) (n - 16)) ∙ ap (λ k. 2 ^ k) sum in
-    (omega (arith, all, low), omega (arith, below, top))
-
 pub fewer-shift : (w k n : ℕ) → k ≤ n → w * 2 ^ n < 65536 → w * 2 ^ k < 65536
 fewer-shift w k n h l = let p = mul-le w (2 ^ k) w (2 ^ n) (omega arith) (pow_mono h) in omega (arith, p, l)
 
@@ -196,16 +171,33 @@ leap-rest now next first (suc k) h w l e c =
     let width : next.width ≡ now.width * 2 ^ suc k = ap (λ (m : Machine). m.width) (e ∙ shifted_by-is (suc k) now) in
     comes-last next first (omega (arith, width, l)) (comes-leap now next first (suc k) (omega arith) (omega (arith, h)) w same c)
 
--- A byte goes out, and CT doublings are due.
-pub record Through (now first : Machine) : Type 0 where
+-- So many doublings are due, CT of them at least: a byte goes out.
+pub record Through (now first : Machine) (due : ℕ) : Type 0 where
   pub comes : Comes now first
-  pub narrow : now.width * 2 ^ now.count < 65536
+  pub many : now.count ≤ due
+  pub fits : now.width * 2 ^ due < 65536
+  pub wide : 32768 ≤ now.width * 2 ^ due
 
-pub through-next : (now next first : Machine) (k : ℕ) → k ≡ now.count → next ≡ leapt k now → Through now first → (Comes next first) × (now.width < next.width) × (now.width < 32768)
-through-next now next first k e l t =
+-- behind it fewer are due
+pub record Passed (now next first : Machine) (due : ℕ) : Type 0 where
+  pub comes : Comes next first
+  pub fits : next.width * 2 ^ (due - now.count) < 65536
+  pub wide : 32768 ≤ next.width * 2 ^ (due - now.count)
+
+pub through-next : (now next first : Machine) (k due : ℕ) → k ≡ now.count → next ≡ leapt k now → Through now first due → Passed now next first due
+through-next now next first k due e l t =
     let count = t.comes.count in
+    let many = t.many in
     let some : 1 ≤ k = omega (arith, e, count) in
     let most : k ≤ now.count = omega (arith, e) in
-    let fits : now.width * 2 ^ k < 65536 = subst (λ n. now.width * 2 ^ n < 65536) (sym e) t.narrow in
-    let p = mul-le now.width (2 ^ 1) now.width (2 ^ k) (omega arith) (pow_mono some) in
-    (comes-leap now next first k some most fits l t.comes, leapt-wider now next t.comes.at k some most fits l t.comes.holds, omega (arith, p, fits))
+    let fits : now.width * 2 ^ k < 65536 = fewer-shift now.width k due (omega (arith, e, many)) t.fits in
+    let width = ap (λ (m : Machine). m.width) l ∙ leapt-width k now t.comes.at most fits t.comes.holds in
+    let left = due - now.count in
+    let split : due ≡ k + left = omega (arith, e, many) in
+    let same : next.width * 2 ^ left ≡ now.width * 2 ^ due =
+    ap (λ w. w * 2 ^ left) width ∙ sym (ap (λ x. now.width * x) (ap (λ i. 2 ^ i) split ∙ pow-add 2 k left) ∙ grind arith) in
+    record {
+      comes = comes-leap now next first k some most fits l t.comes;
+      fits = subst (λ x. x < 65536) (sym same) t.fits;
+      wide = subst (λ x. 32768 ≤ x) (sym same) t.wide;
+    }

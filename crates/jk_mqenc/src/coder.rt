@@ -1,6 +1,6 @@
 //! The registers of the encoder, and the bytes that it has placed.
 
-ghost use Rattle.std.specs.Prelude.{◌≡◌, ℕ, List, ◌+◌, ◌*◌, ◌^◌, ◌<◌, ◌≤◌, [], ◌∷◌, IfOk, None, IsNone, length};
+ghost use Rattle.std.specs.Prelude.{◌≡◌, ℕ, List, ◌+◌, ◌-◌, ◌*◌, ◌^◌, ◌<◌, ◌≤◌, [], ◌∷◌, IfOk, None, IsNone, length, if◌then◌else◌};
 ghost use Rattle.jk_model.specs.Decisions.{State};
 ghost use Rattle.jk_mqenc.specs.Machine.{Machine, Holds, byte_out, placed_after};
 ghost use Rattle.jk_mqenc.specs.Holding.{before};
@@ -8,6 +8,7 @@ ghost use Rattle.jk_model.specs.Placed.{onto};
 ghost use Rattle.jk_mqenc.specs.Encoded.{started, without_ff, with_registers};
 ghost use Rattle.jk_mqenc.specs.Coding.{shifted_by, leapt, renorm, part, set_bits, pushed_out, flushed};
 
+use crate::taken::Part;
 use jk_math::Refused;
 use std::alloc::Global;
 use std::marker::Model;
@@ -101,11 +102,8 @@ fn placing(held: Option<u8>, code: u32) -> Placement
             if byte == 0xFF {
                 return after_ff(held, code);
             }
-            if code < 1 << 27 {
-                return plain(held, code);
-            }
-            let carried = byte + 1;
-            let rest = code - (1 << 27);
+            let carried = byte + (code >> 27) as u8;
+            let rest = code % (1 << 27);
             if carried == 0xFF {
                 after_ff(Some(carried), rest)
             } else {
@@ -113,17 +111,6 @@ fn placing(held: Option<u8>, code: u32) -> Placement
             }
         }
     }
-}
-
-/// How many doublings bring a width to 2^15.
-#[inline(always)]
-fn doublings(width: u32) -> u32
-    requires some { 1 ≤ width }
-    requires small { width < 2 ^ 16 }
-    ensures fits { width * 2 ^ result < 2 ^ 16 }
-    ensures wide { 2 ^ 15 ≤ width * 2 ^ result }
-{
-    width.leading_zeros() - 16
 }
 
 impl Coder {
@@ -197,18 +184,21 @@ impl Coder {
         self.count -= times;
     }
 
-    /// RENORME where a byte goes out: CT doublings are due at least.
+    /// RENORME by so many doublings, CT of them at least: bytes go out.
     #[inline(always)]
-    fn renormalise_through(&mut self) -> Result<(), Refused>
+    fn renormalise_through(&mut self, times: u32) -> Result<(), Refused>
         requires count { 1 ≤ self.old.count }
-        requires narrow { self.old.width * 2 ^ self.old.count < 2 ^ 16 }
+        requires many { self.old.count ≤ times }
+        requires fits { self.old.width * 2 ^ times < 2 ^ 16 }
+        requires wide { 2 ^ 15 ≤ self.old.width * 2 ^ times }
         requires holds { (s : State) × Holds self.old s }
         ensures done { IfOk result (λ _. self.new ≡ renorm 15 self.old) }
     {
+        let mut due = times;
         loop {
             let count = self.count;
             self.double(count)?;
-            let due = doublings(self.width);
+            due -= count;
             if due < self.count {
                 self.shift(due);
                 return Ok(());
@@ -238,44 +228,48 @@ impl Coder {
         self.count = registers.count;
     }
 
-    /// RENORME of these registers where a byte goes out.
+    /// RENORME of these registers by so many doublings, CT of them at least.
     #[inline(always)]
-    fn through(&mut self, registers: Registers) -> Result<Registers, Refused>
+    fn through(&mut self, registers: Registers, times: u32) -> Result<Registers, Refused>
         requires count { 1 ≤ registers.count }
-        requires narrow { registers.width * 2 ^ registers.count < 2 ^ 16 }
+        requires many { registers.count ≤ times }
+        requires fits { registers.width * 2 ^ times < 2 ^ 16 }
+        requires wide { 2 ^ 15 ≤ registers.width * 2 ^ times }
         requires holds { (s : State) × Holds (with_registers self.old registers) s }
         ensures done { IfOk result (λ r. with_registers self.new r ≡ renorm 15 (with_registers self.old registers)) }
     {
         self.restore(registers);
-        self.renormalise_through()?;
+        self.renormalise_through(times)?;
         Ok(self.registers())
     }
 
     /// The part of the interval that a decision takes, renormalised (T.800 C.2.6). These are the registers over the bytes,
     /// and not those that are kept here.
     #[inline(always)]
-    pub fn code(&mut self, registers: Registers, qe: u32, lower: bool) -> Result<Registers, Refused>
+    pub fn code(&mut self, registers: Registers, qe: u32, taken: Part) -> Result<Registers, Refused>
         requires least { 1 ≤ qe }
         requires below { qe < registers.width }
+        requires width { taken.width ≡ (if taken.lower then qe else registers.width - qe) }
+        requires fits { taken.width * 2 ^ taken.times < 2 ^ 16 }
+        requires wide { 2 ^ 15 ≤ taken.width * 2 ^ taken.times }
         requires count { 1 ≤ registers.count }
         requires holds { (s : State) × Holds (with_registers self.old registers) s }
-        ensures done { IfOk result (λ r. with_registers self.new r ≡ renorm 15 (part (with_registers self.old registers) qe lower)) }
+        ensures done { IfOk result (λ r. with_registers self.new r ≡ renorm 15 (part (with_registers self.old registers) qe taken.lower)) }
     {
-        let code = registers.code + if lower { 0 } else { qe };
-        let width = if lower { qe } else { registers.width - qe };
-        let times = width.leading_zeros() - 16;
-        if times < registers.count {
+        let code = registers.code + if taken.lower { 0 } else { qe };
+        if taken.times < registers.count {
             return Ok(Registers {
-                code: code << times,
-                width: width << times,
-                count: registers.count - times,
+                code: code << taken.times,
+                width: taken.width << taken.times,
+                count: registers.count - taken.times,
             });
         }
-        self.through(Registers {
+        let narrow = Registers {
             code,
-            width,
+            width: taken.width,
             count: registers.count,
-        })
+        };
+        self.through(narrow, taken.times)
     }
 
     /// `C <<= CT`, and BYTEOUT.

@@ -7,6 +7,7 @@ ghost use Rattle.jk_model.specs.Decisions.{Decision, Spells};
 ghost use Rattle.jk_mqenc.specs.Encoded.{Codes, decision_of, written_by, finished, with_registers, lasting};
 
 use crate::coder::{Coder, Registers};
+use crate::taken::part_of;
 use jk_math::{Fault, Refused};
 use jk_model::{Step, first_steps};
 use std::alloc::Global;
@@ -48,12 +49,10 @@ fn step(
 {
     let context = contexts[cx];
     let qe = context.size();
-    let upper = registers.width - qe;
     let less = bit != context.mps();
-    let lower = less != (upper < qe);
-    let part = if lower { qe } else { upper };
-    contexts[cx] = context.after(part < 0x8000, less);
-    coder.code(registers, qe, lower)
+    let taken = part_of(registers.width, qe, less);
+    contexts[cx] = context.after(taken.moves, less);
+    coder.code(registers, qe, taken)
 }
 
 /// Codes these decisions. The registers leave the coder until the last of them is coded.

@@ -3,6 +3,7 @@
 
 mod coder;
 mod encoder;
+mod taken;
 mod theorems;
 
 pub use encoder::Encoder;

@@ -1,17 +1,19 @@
-use Rattle.std.proofs.Common.{◌≡◌, ◌∙◌, ap, sym, ◌-◌, List, ◌∷◌, [], ◌++◌, get_or, set, Bool, not, cond, ltb, Result, Ok, Err, IfOk, refl, arith}
+use Rattle.std.proofs.Common.{◌≡◌, ◌∙◌, ap, subst, ◌-◌, List, ◌∷◌, [], ◌++◌, get_or, set, Bool, not, cond, ltb, Result, Ok, Err, IfOk, refl, arith}
 use Rattle.std.specs.Bool.{beq}
 use Rattle.std.proofs.lemmas.List.{get_or_default}
 use Rattle.jk_math.specs.declared.fault.Refused.{Refused}
-use Rattle.jk_model.specs.Contexts.{begins}
+use Rattle.jk_model.specs.Contexts.{begins, moved}
 use Rattle.jk_model.specs.Decisions.{Decision}
 use Rattle.jk_mqenc.specs.Coding.{part, renorm}
 use Rattle.jk_mqenc.specs.Encoded.{Codes, with_registers, lasting}
 use Rattle.jk_mqenc.proofs.Encoding.{held-of, wide-of, count-of, codes-step}
 use Rattle.jk_mqenc.proofs.encoder.step.Goals as goal
-use Rattle.jk_mqenc.proofs.encoder.step.Goals.{then-lower, else-lower}
 
-pub overflow_sub-upper : goal.overflow_sub-upper
-overflow_sub-upper c = let w = wide-of (lasting (with_registers c.args.coder.now c.args.registers) c.args.contexts.now) (λ _. c.requires.coded) refl in omega (arith, w, c.size-qe.ensures.largest)
+pub part_of-taken-requires-clause-wide : goal.part_of-taken-requires-clause-wide
+part_of-taken-requires-clause-wide c = wide-of (lasting (with_registers c.args.coder.now c.args.registers) c.args.contexts.now) (λ _. c.requires.coded) refl
+
+pub part_of-taken-requires-clause-fits : goal.part_of-taken-requires-clause-fits
+part_of-taken-requires-clause-fits c = (held-of (lasting (with_registers c.args.coder.now c.args.registers) c.args.contexts.now) (λ _. c.requires.coded) refl).1.largest
 
 pub code-requires-clause-below : goal.code-requires-clause-below
 code-requires-clause-below c = let w = wide-of (lasting (with_registers c.args.coder.now c.args.registers) c.args.contexts.now) (λ _. c.requires.coded) refl in omega (arith, w, c.size-qe.ensures.largest)
@@ -32,15 +34,14 @@ returns c = record {
       let m = with_registers c.args.coder.now c.args.registers in
       let cs = c.args.contexts.now in
       let q = c.size-qe.result in
+      let at = get_or cs c.args.cx c.index-contexts-cx.result in
+      let less = not (beq c.args.bit c.mps.result) in
       let lower = not (beq (not (beq c.args.bit c.mps.result)) (ltb (c.args.registers.width - q) q)) in
       if_ok_map c.code.result (λ r. with_registers c.code.new.self r ≡ renorm 15 (part m q lower))
       (λ r. (ds : List Decision) → Codes (lasting m cs) ds → Codes (lasting (with_registers c.code.new.self r) (set cs c.args.cx c.after.result)) (ds ++ (c.args.cx, c.args.bit) ∷ []))
-      (λ r done ds codes. codes-step (lasting m cs) (lasting (with_registers c.code.new.self r) (set cs c.args.cx c.after.result)) c.args.cx q c.if-lower.part c.args.bit c.mps.result (get_or cs c.args.cx c.index-contexts-cx.result) c.after.result ds
+      (λ r done ds codes. codes-step (lasting m cs) (lasting (with_registers c.code.new.self r) (set cs c.args.cx c.after.result)) c.args.cx q c.part_of-taken.result.width c.args.bit c.mps.result (get_or cs c.args.cx c.index-contexts-cx.result) c.after.result ds
       (get_or_default cs c.args.cx c.index-contexts-cx.result (begins 0) (omega arith)) c.mps.ensures c.size-qe.ensures.value
-      (elim c.if-lower.branch [
-        | then-lower w ↦ w.part-is ∙ sym (ap (λ (t : Bool). cond t q (c.args.registers.width - q)) w.if-lower.true)
-        | else-lower w ↦ w.part-is ∙ sym (ap (λ (t : Bool). cond t q (c.args.registers.width - q)) w.if-lower.false)
-      ])
-      c.after.ensures done refl refl codes)
-      c.code.ensures.done;
+      (c.part_of-taken.ensures.width ∙ ap (λ (t : Bool). cond t q (c.args.registers.width - q)) c.part_of-taken.ensures.lower)
+      (c.after.ensures ∙ ap (λ (t : Bool). cond t (moved at (cond less (not at.mps) at.mps)) at) c.part_of-taken.ensures.moves) done refl refl codes)
+      (subst (λ (t : Bool). IfOk c.code.result (λ r. with_registers c.code.new.self r ≡ renorm 15 (part m q t))) c.part_of-taken.ensures.lower c.code.ensures.done);
 }

@@ -1,58 +1,58 @@
-use Rattle.std.proofs.Common.{ap, subst, ◌*◌, ◌^◌, ◌<◌, ◌≤◌, arith}
+use Rattle.std.proofs.Common.{◌≡◌, ap, subst, ◌-◌, ◌*◌, ◌^◌, ◌<◌, ◌≤◌, arith}
 use Rattle.jk_mqenc.specs.Machine.{Machine}
 use Rattle.jk_mqenc.proofs.Renorming.{comes-first}
 use Rattle.jk_mqenc.proofs.Leaping.{through-next, leap-rest, fewer-shift}
 use Rattle.jk_mqenc.proofs.coder.Coder.renormalise_through.Goals as goal
 
 pub loop-due-init : goal.loop-due-init
-loop-due-init c = record { comes = comes-first c.args.self.now c.requires.count c.requires.holds; narrow = c.requires.narrow }
+loop-due-init c = record { comes = comes-first c.args.self.now c.requires.count c.requires.holds; many = c.requires.many; fits = c.requires.fits; wide = c.requires.wide }
 
-pub doublings-due-requires-clause-some : goal.doublings-due-requires-clause-some
-doublings-due-requires-clause-some c =
-    let next = through-next c.loop-due.self c.double.new.self c.args.self.now _ (ap (λ (m : Machine). m.count) c.self.view_is) c.in_ok-double.ensures.done c.loop-due.invariant in
-    let width = ap (λ (m : Machine). m.width) c.self-in-loop-due.view_is in
-    let some = next.0.holds.positive in
-    omega (arith, width, some)
+pub double-requires-clause-width : goal.double-requires-clause-width
+double-requires-clause-width c =
+    let l = c.loop-due in
+    let count = ap (λ (m : Machine). m.count) c.self.view_is in
+    let many = l.invariant.many in
+    fewer-shift l.self.width c.self.inside.count l.due (omega (arith, count, many)) l.invariant.fits
 
-pub doublings-due-requires-clause-small : goal.doublings-due-requires-clause-small
-doublings-due-requires-clause-small c =
-    let next = through-next c.loop-due.self c.double.new.self c.args.self.now _ (ap (λ (m : Machine). m.count) c.self.view_is) c.in_ok-double.ensures.done c.loop-due.invariant in
-    let width = ap (λ (m : Machine). m.width) c.self-in-loop-due.view_is in
-    let most = next.0.holds.largest in
-    omega (arith, width, most)
+pub shift-requires-clause-width : goal.shift-requires-clause-width
+shift-requires-clause-width c =
+    let l = c.loop-due in
+    let count = ap (λ (m : Machine). m.count) c.self.view_is in
+    let next = through-next l.self c.double.new.self c.args.self.now c.self.inside.count l.due count c.in_ok-double.ensures.done l.invariant in
+    subst (λ n. c.double.new.self.width * 2 ^ (l.due - n) < 65536) (omega (arith, count)) next.fits
 
 pub shift-requires-clause-holds : goal.shift-requires-clause-holds
 shift-requires-clause-holds c =
-    let next = through-next c.loop-due.self c.double.new.self c.args.self.now _ (ap (λ (m : Machine). m.count) c.self.view_is) c.in_ok-double.ensures.done c.loop-due.invariant in
-    (next.0.at, next.0.holds)
+    let l = c.loop-due in
+    let count = ap (λ (m : Machine). m.count) c.self.view_is in
+    let next = through-next l.self c.double.new.self c.args.self.now c.self.inside.count l.due count c.in_ok-double.ensures.done l.invariant in
+    (next.comes.at, next.comes.holds)
 
 pub returns-then-due-self : goal.returns-then-due-self
 returns-then-due-self c = record {
   done =
-      let next = through-next c.loop-due.self c.double.new.self c.args.self.now _ (ap (λ (m : Machine). m.count) c.self.view_is) c.in_ok-double.ensures.done c.loop-due.invariant in
-      let width = ap (λ (m : Machine). m.width) c.self-in-loop-due.view_is in
-      let count = ap (λ (m : Machine). m.count) c.self-in-loop-due.view_is in
-      let k = c.doublings-due.result in
+      let l = c.loop-due in
+      let count = ap (λ (m : Machine). m.count) c.self.view_is in
+      let next = through-next l.self c.double.new.self c.args.self.now c.self.inside.count l.due count c.in_ok-double.ensures.done l.invariant in
+      let left = ap (λ (m : Machine). m.count) c.self-in-loop-due.view_is in
       let few = c.if-due-self.true in
-      leap-rest c.double.new.self c.shift.new.self c.args.self.now k (omega (arith, count, few)) (subst (λ w. w * 2 ^ k < 65536) width c.doublings-due.ensures.fits) (subst (λ w. 32768 ≤ w * 2 ^ k) width c.doublings-due.ensures.wide)
-      c.shift.ensures.done next.0;
+      let same : l.self.count ≡ c.self.inside.count = omega (arith, count) in
+      leap-rest c.double.new.self c.shift.new.self c.args.self.now (l.due - c.self.inside.count) (omega (arith, left, few))
+      (subst (λ n. c.double.new.self.width * 2 ^ (l.due - n) < 65536) same next.fits) (subst (λ n. 32768 ≤ c.double.new.self.width * 2 ^ (l.due - n)) same next.wide)
+      c.shift.ensures.done next.comes;
 }
-
-pub loop-due-smaller : goal.loop-due-smaller
-loop-due-smaller c =
-    let next = through-next c.loop-due.self c.double.new.self c.args.self.now _ (ap (λ (m : Machine). m.count) c.self.view_is) c.in_ok-double.ensures.done c.loop-due.invariant in
-    let wider = next.1 in
-    let small = next.2 in
-    omega (arith, wider, small)
 
 pub loop-due-preserved : goal.loop-due-preserved
 loop-due-preserved c =
-    let next = through-next c.loop-due.self c.double.new.self c.args.self.now _ (ap (λ (m : Machine). m.count) c.self.view_is) c.in_ok-double.ensures.done c.loop-due.invariant in
-    let width = ap (λ (m : Machine). m.width) c.self-in-loop-due.view_is in
-    let count = ap (λ (m : Machine). m.count) c.self-in-loop-due.view_is in
-    let k = c.doublings-due.result in
+    let l = c.loop-due in
+    let count = ap (λ (m : Machine). m.count) c.self.view_is in
+    let next = through-next l.self c.double.new.self c.args.self.now c.self.inside.count l.due count c.in_ok-double.ensures.done l.invariant in
+    let left = ap (λ (m : Machine). m.count) c.self-in-loop-due.view_is in
     let many = c.if-due-self.false in
+    let same : l.self.count ≡ c.self.inside.count = omega (arith, count) in
     record {
-      comes = next.0;
-      narrow = fewer-shift c.double.new.self.width c.double.new.self.count k (omega (arith, count, many)) (subst (λ w. w * 2 ^ k < 65536) width c.doublings-due.ensures.fits);
+      comes = next.comes;
+      many = omega (arith, left, many);
+      fits = subst (λ n. c.double.new.self.width * 2 ^ (l.due - n) < 65536) same next.fits;
+      wide = subst (λ n. 32768 ≤ c.double.new.self.width * 2 ^ (l.due - n)) same next.wide;
     }

@@ -1,6 +1,6 @@
 use Rattle.std.proofs.Common.{arith}
 use Rattle.jk_mqenc.proofs.Leaping.{zeros-all}
-use Rattle.jk_mqenc.proofs.coder.doublings.Goals as goal
+use Rattle.jk_mqenc.proofs.taken.doublings.Goals as goal
 
 pub overflow_sub-result : goal.overflow_sub-result
 overflow_sub-result c = (zeros-all c.args.width c.requires.some (let e = c.requires.small in omega (arith, e))).0
