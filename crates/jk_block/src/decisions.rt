@@ -1,9 +1,10 @@
 //! The decisions of a pass.
 
-ghost use Rattle.std.specs.Prelude.{◌≡◌, [], ◌∷◌, ◌++◌, List, ◌%◌, ◌<◌, ◌≤◌, IfOk, OnErr, IfErr, MatchResult, if◌then◌else◌, replicate};
+ghost use Rattle.std.specs.Prelude.{◌≡◌, ℕ, [], ◌∷◌, ◌+◌, ◌++◌, List, ◌%◌, ◌<◌, ◌≤◌, IfOk, IfErr, if◌then◌else◌, replicate};
 ghost use Rattle.jk_math.specs.Memory.{IsMemory};
 ghost use Rattle.jk_model.specs.Decisions.{Decision};
 ghost use Rattle.jk_mqenc.specs.Encoded.{Codes, decision_of};
+ghost use Rattle.jk_block.specs.Sheets.{IsSheet, told};
 
 use jk_math::Fault;
 use jk_mqenc::Encoder;
@@ -13,24 +14,26 @@ use std::marker::Model;
 /// How much room is made at a time.
 const ROOM: usize = 2048;
 
+/// How much room is made for a word: more than the decisions of its places and columns.
+const WORD_ROOM: usize = 136;
+
 /// Decisions, each in one byte: the highest bit is the decision's, the others are the number of its context.
 #[derive(Drop)]
 pub struct DecisionList {
     /// The decisions, and room behind them.
-    bytes: Vec<u8>,
+    pub bytes: Vec<u8>,
     /// How many of the bytes are decisions.
-    count: usize,
+    pub count: usize,
 }
 
 impl Model for DecisionList {
-    ghost use Rattle.std.specs.Prelude.{◌%◌, ◌<◌, List, All, map, take};
+    ghost use Rattle.std.specs.Prelude.{List};
     ghost use Rattle.jk_model.specs.Decisions.{Decision};
-    ghost use Rattle.jk_mqenc.specs.Encoded.{decision_of};
-    ghost use Rattle.jk_block.specs.Sheets.{IsSheet};
+    ghost use Rattle.jk_block.specs.Sheets.{IsSheet, told};
 
     ghost Value = { List Decision };
 
-    ghost view = { λ l. map decision_of (take l.count l.bytes.items) };
+    ghost view = { λ l. told l.bytes.items l.count };
 
     ghost invariant = { λ l. IsSheet l.bytes.items l.count };
 }
@@ -45,7 +48,7 @@ fn spelled(context: u8, bit: bool) -> u8
     if bit { context + 128 } else { context }
 }
 
-/// Room for more decisions.
+/// More bytes.
 #[inline(never)]
 fn widen(bytes: &mut Vec<u8>) -> Result<(), Fault>
     ensures wider { IfOk result (λ _. bytes.new.items ≡ bytes.old.items ++ replicate 2048 0) }
@@ -54,6 +57,56 @@ fn widen(bytes: &mut Vec<u8>) -> Result<(), Fault>
 {
     bytes.extend_from_slice(&[0; ROOM])?;
     Ok(())
+}
+
+/// Room for the decisions of a word behind those that are there.
+#[inline(always)]
+pub fn make_room(bytes: &mut Vec<u8>, count: usize) -> Result<(), Fault>
+    requires { IsSheet bytes.old.items count }
+    ensures room { IfOk result (λ _. IsSheet bytes.new.items (count + 136)) }
+    ensures sheet { IsSheet bytes.new.items count }
+    ensures told { told bytes.new.items count ≡ told bytes.old.items count }
+    ensures memory { IfErr result IsMemory }
+{
+    if bytes.len() - count < WORD_ROOM {
+        widen(bytes)?;
+    }
+    Ok(())
+}
+
+/// Puts a decision behind those that are there, and gives how many they are then.
+#[inline(always)]
+pub fn put_one(bytes: &mut [u8], count: usize, context: u8, bit: bool) -> usize
+    requires room { IsSheet bytes.old (count + 1) }
+    requires context { context < 19 }
+    ensures told { told bytes.new result ≡ told bytes.old count ++ (context, bit) ∷ [] }
+    ensures one { result ≡ count + 1 }
+    ensures sheet { (n : ℕ) → IsSheet bytes.old n → IsSheet bytes.new n }
+{
+    bytes[count] = spelled(context, bit);
+    count + 1
+}
+
+/// The same, and another decision behind it where its bit is 1.
+#[inline(always)]
+pub fn put_new(
+    bytes: &mut [u8],
+    count: usize,
+    context: u8,
+    bit: bool,
+    next: u8,
+    next_bit: bool,
+) -> usize
+    requires room { IsSheet bytes.old (count + 2) }
+    requires context { context < 19 }
+    requires next { next < 19 }
+    ensures told { told bytes.new result ≡ told bytes.old count ++ (context, bit) ∷ (if bit then (next, next_bit) ∷ [] else []) }
+    ensures few { result ≤ count + 2 }
+    ensures sheet { (n : ℕ) → IsSheet bytes.old n → IsSheet bytes.new n }
+{
+    bytes[count] = spelled(context, bit);
+    bytes[count + 1] = spelled(next, next_bit);
+    count + 1 + bit as usize
 }
 
 impl DecisionList {
@@ -81,12 +134,8 @@ impl DecisionList {
         ensures pushed { IfOk result (λ _. self.new ≡ self.old ++ (context, bit) ∷ []) }
         ensures memory { IfErr result IsMemory }
     {
-        let at = self.count;
-        if self.bytes.len() - at < 2 {
-            widen(&mut self.bytes)?;
-        }
-        self.bytes[at] = spelled(context, bit);
-        self.count = at + 1;
+        make_room(&mut self.bytes, self.count)?;
+        self.count = put_one(&mut self.bytes, self.count, context, bit);
         Ok(())
     }
 
@@ -104,13 +153,8 @@ impl DecisionList {
         ensures pushed { IfOk result (λ _. self.new ≡ self.old ++ (context, bit) ∷ (if bit then (next, next_bit) ∷ [] else [])) }
         ensures memory { IfErr result IsMemory }
     {
-        let at = self.count;
-        if self.bytes.len() - at < 2 {
-            widen(&mut self.bytes)?;
-        }
-        self.bytes[at] = spelled(context, bit);
-        self.bytes[at + 1] = spelled(next, next_bit);
-        self.count = at + 1 + bit as usize;
+        make_room(&mut self.bytes, self.count)?;
+        self.count = put_new(&mut self.bytes, self.count, context, bit, next, next_bit);
         Ok(())
     }
 
