@@ -32,11 +32,20 @@ pub record Refined (v : BlockPlane) (at : Spot) (flags : Flags) (old list : Deci
   pub near : (m : ℕ) → m < 64 → of_rows (m % 8) ≡ true → on seen_near m ≡ touched (lit_at v (moment_at v.shape 1 at.word at.stripe n)) (column at.word m) (row at.stripe m)
   pub awaits : (m : ℕ) → m < 64 → on candidates m ≡ (nat_le n m && codes v.shape (mag v) 1 at.word at.stripe m)
 
-pub refined_none : (v : BlockPlane) (at : Spot) (flags : Flags) (list : Decided) (w candidates : ℕ) → 1 ≤ v.shape.width → 8 * at.word < v.shape.width → at.stripe < stripes v.shape → IsFlagged v (moment_at v.shape 1 at.word at.stripe 0) flags
+-- The word shows the places that were significant before this plane and are not coded in it yet.
+abbrev pub ShowsOlder : BlockPlane → (j i t : ℕ) → (word : ℕ) → Type 0
+ShowsOlder v j i t word = (m : ℕ) → m < 64 → on word m ≡ (of_rows (m % 8) && (lit_at v t (column j m) (row i m) && not (spread_at v t (column j m) (row i m))))
+
+-- these are coded in this pass
+older_is : (v : BlockPlane) (j i word : ℕ) → 8 * j < v.shape.width → i < stripes v.shape → ShowsOlder v j i (moment_at v.shape 1 j i 0) word → (m : ℕ) → m < 64 → on word m ≡ codes v.shape (mag v) 1 j i m
+older_is v j i word narrow stripe older m l =
+    let b = moment_range v.shape 1 j i narrow stripe in
+    older m l ∙ older_codes v.shape (mag v) (moment_at v.shape 1 j i 0) j i m (mag_outside v) (let b0 = b.0 in omega (arith, b0)) (let b1 = b.1 in omega (arith, b1))
+
+pub refined_none : (v : BlockPlane) (at : Spot) (flags : Flags) (list : Decided) (w candidates : ℕ) → 8 * at.word < v.shape.width → at.stripe < stripes v.shape → IsFlagged v (moment_at v.shape 1 at.word at.stripe 0) flags
     → ShowsAt of_rows (near (bordered (lit_at v (moment_at v.shape 1 at.word at.stripe 0)))) (at.word + 1) (at.stripe + 1) w
-    → ((m : ℕ) → m < 64 → on candidates m ≡ (of_rows (m % 8) && (lit_at v (moment_at v.shape 1 at.word at.stripe 0) (column at.word m) (row at.stripe m) && not (spread_at v (moment_at v.shape 1 at.word at.stripe 0) (column at.word m) (row at.stripe m)))))
-    → Refined v at flags list list w candidates
-refined_none v at flags list w candidates some narrow stripe flagged shown older = record {
+    → ShowsOlder v at.word at.stripe (moment_at v.shape 1 at.word at.stripe 0) candidates → Refined v at flags list list w candidates
+refined_none v at flags list w candidates narrow stripe flagged shown older = record {
   n = 0;
   coming = coming_none v 1 at flags list stripe flagged;
   near = λ m l e.
@@ -45,11 +54,7 @@ refined_none v at flags list w candidates some narrow stripe flagged shown older
       ap (on w) (let g : m ≡ 8 * (m / 8) + m % 8 = omega arith in g) ∙ shown (m / 8) (m % 8) (omega arith) (omega arith) e
       ∙ ap (λ c. near (bordered f) c (row (at.stripe + 1) m)) shifted.0 ∙ ap (λ r. near (bordered f) (column at.word m + 8) r) shifted.1
       ∙ near_is f (column at.word m) (row at.stripe m);
-  awaits = λ m l.
-      let t = moment_at v.shape 1 at.word at.stripe 0 in
-      let b = moment_range v.shape 1 at.word at.stripe narrow stripe in
-      older m l ∙ older_codes v.shape (mag v) t at.word at.stripe m (mag_outside v) (let b0 = b.0 in omega (arith, b0)) (let b1 = b.1 in omega (arith, b1))
-      ∙ ap (λ b. b && codes v.shape (mag v) 1 at.word at.stripe m) (let e : true ≡ nat_le 0 m = grind (arith, nat_tests) in e);
+  awaits = λ m l. older_is v at.word at.stripe candidates narrow stripe older m l ∙ ap (λ b. b && codes v.shape (mag v) 1 at.word at.stripe m) (let e : true ≡ nat_le 0 m = grind (arith, nat_tests) in e);
 }
 
 -- In this pass nothing becomes significant.
@@ -90,6 +95,15 @@ no_run s a j i c = none (nat_lt (8 * j + c) s.width)
 
 none_before : (a p q : Bool) → a ≡ false → a ≡ (p && q) → p ≡ true → q ≡ false
 none_before a p q e g h = grind (arith, nat_tests)
+
+-- a word with no such place
+pub refined_empty : (v : BlockPlane) (at : Spot) (flags : Flags) (list : Decided) (candidates : ℕ) → 8 * at.word < v.shape.width → at.stripe < stripes v.shape → IsFlagged v (moment_at v.shape 1 at.word at.stripe 0) flags
+    → ShowsOlder v at.word at.stripe (moment_at v.shape 1 at.word at.stripe 0) candidates → candidates ≡ 0 → Coming v 1 at 64 flags list list
+refined_empty v at flags list candidates narrow stripe flagged older empty =
+    coming_skip v 1 at 0 64 flags list list (coming_none v 1 at flags list stripe flagged) (omega arith) (omega arith) (λ m a b. record {
+      plain = λ _. no_run v.shape (mag v) at.word at.stripe (m / 8);
+      idle = sym (older_is v at.word at.stripe candidates narrow stripe older m b) ∙ ap (λ w. on w m) empty ∙ on_zero m;
+    })
 
 refined_to : (v : BlockPlane) (at : Spot) (flags : Flags) (old list : Decided) (s w : ℕ) (st : Refined v at flags old list s w) (z : ℕ) → st.n ≤ z → z ≤ 64 → ((m : ℕ) → m < z → on w m ≡ false) → Coming v 1 at z flags old list
 refined_to v at flags old list s w st z le most clear =

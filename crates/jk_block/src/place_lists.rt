@@ -12,10 +12,11 @@ ghost use Rattle.jk_scan.specs.RingPlaces.{IsRing, IsCross};
 ghost use Rattle.jk_scan.specs.Flags.{IsDrawn};
 ghost use Rattle.jk_scan.specs.Passes.{Plane, is_one, flipped, sign_decision, new_decisions, refining_decision, first_one};
 ghost use Rattle.jk_block.specs.Reading.{put};
+ghost use Rattle.jk_block.specs.Sheets.{IsSheet, told};
 ghost use Rattle.jk_block.specs.Steps.{IsSpot, IsPlace};
 ghost use Rattle.jk_block.specs.Viewed.{seen, lit_at, negative_in, ShowsOnes, Lights, run_head};
 
-use crate::decisions::DecisionList;
+use crate::decisions::{DecisionList, put_one};
 use crate::flags::Flags;
 use crate::plane::BlockPlane;
 use crate::spot::Spot;
@@ -144,20 +145,23 @@ pub fn list_member(
     )
 }
 
-/// The bit of a place that was significant before this plane (T.800 D.3.3).
+/// The bit of a place that was significant before this plane (T.800 D.3.3), put behind so many decisions.
 #[inline(always)]
 pub fn list_next(
     refined: bool,
     is_touched: bool,
     bit: bool,
-    list: &mut DecisionList,
-) -> Result<(), Fault>
-    ensures listed { IfOk result (λ _. (s : BlockShape) (p : Plane) (t x y : ℕ) → refined ≡ nat_le 4 (p.magnitude x y)
+    bytes: &mut [u8],
+    count: usize,
+) -> usize
+    requires { IsSheet bytes.old (count + 1) }
+    ensures listed { (s : BlockShape) (p : Plane) (t x y : ℕ) → refined ≡ nat_le 4 (p.magnitude x y)
         → is_touched ≡ touched (significant s p.magnitude t) x y → bit ≡ is_one (p.magnitude x y)
-        → list.new ≡ list.old ++ refining_decision s p t x y ∷ []) }
-    ensures memory { IfErr result IsMemory }
+        → told bytes.new result ≡ told bytes.old count ++ refining_decision s p t x y ∷ [] }
+    ensures one { result ≡ count + 1 }
+    ensures sheet { (n : ℕ) → IsSheet bytes.old n → IsSheet bytes.new n }
 {
-    list.push(refine_context(refined, is_touched), bit)
+    put_one(bytes, count, refine_context(refined, is_touched), bit)
 }
 
 /// The first row of a column that has the bit 1, or 4. The bits of the column begin at bit k.

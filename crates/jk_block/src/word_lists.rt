@@ -11,7 +11,7 @@ ghost use Rattle.jk_block.specs.Steps.{IsSpot};
 ghost use Rattle.jk_block.specs.Viewed.{seen, lit_at, spread_at, IsFlagged, moment_at, word_decisions};
 
 use crate::ahead::with_reached;
-use crate::decisions::DecisionList;
+use crate::decisions::{DecisionList, make_room};
 use crate::flags::Flags;
 use crate::loops::still_columns;
 use crate::place_lists::{bit_of, list_member, list_new, list_next, list_run};
@@ -89,21 +89,29 @@ pub fn list_refinement(
     ensures memory { IfErr result IsMemory }
 {
     let own = *block;
+    let mut candidates = older(&own, flags, spot);
+    if candidates == 0 {
+        return Ok(());
+    }
     let around = seen_around(&flags.significant, own.shape, spot.word, spot.stripe);
     let touched = touched_places(around.own, around.left, around.right);
-    let mut candidates = older(&own, flags, spot);
     let refined = own.refined_places(spot);
     let ones = own.ones(spot);
+    make_room(&mut list.bytes, list.count)?;
+    let bytes = &mut list.bytes[..];
+    let mut count = list.count;
     while candidates != 0 {
         let k = candidates.trailing_zeros();
         candidates &= candidates - 1;
-        list_next(
+        count = list_next(
             bit_of(refined, k),
             bit_of(touched, k),
             bit_of(ones, k),
-            list,
-        )?;
+            bytes,
+            count,
+        );
     }
+    list.count = count;
     Ok(())
 }
 
