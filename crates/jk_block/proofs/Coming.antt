@@ -77,15 +77,30 @@ idle_to v pass j i n m stripe le h = subst (λ k. Same v (moment_at v.shape pass
 pub idle_none : (v : BlockPlane) (pass j i k : ℕ) → codes v.shape (mag v) pass j i k ≡ false → Idle v pass j i k
 idle_none v pass j i k e = record { lit = ap (λ q. q && nat_eq (mag v (column j k) (row i k)) 1) e; coded = ap (λ q. q && nat_eq pass 0) e }
 
--- The pass has come to bit n of a word.
+-- The list has come to bit n of a word.
+pub record Told (v : BlockPlane) (pass : ℕ) (at : Spot) (n : ℕ) (old list : Decided) : Type 0 where
+  pub most : n ≤ 64
+  pub stripe : at.stripe < stripes v.shape
+  pub listed : old ++ word_decisions v.shape (seen v) pass at.word at.stripe ≡ list ++ remaining_at v.shape (seen v) pass at.word at.stripe n
+
+pub told_none : (v : BlockPlane) (pass : ℕ) (at : Spot) (list : Decided) → at.stripe < stripes v.shape → Told v pass at 0 list list
+told_none v pass at list stripe = record { most = omega arith; stripe = stripe; listed = ap (λ (ds : Decided). list ++ ds) (remaining_all v.shape (seen v) pass at.word at.stripe) }
+
+-- The same, and the flags have come there too.
 pub record Coming (v : BlockPlane) (pass : ℕ) (at : Spot) (n : ℕ) (flags : Flags) (old list : Decided) : Type 0 where
   pub most : n ≤ 64
   pub stripe : at.stripe < stripes v.shape
   pub flagged : IsFlagged v (moment_at v.shape pass at.word at.stripe n) flags
   pub listed : old ++ word_decisions v.shape (seen v) pass at.word at.stripe ≡ list ++ remaining_at v.shape (seen v) pass at.word at.stripe n
 
+told_of : (v : BlockPlane) (pass : ℕ) (at : Spot) (n : ℕ) (flags : Flags) (old list : Decided) → Coming v pass at n flags old list → Told v pass at n old list
+told_of v pass at n flags old list c = record { most = c.most; stripe = c.stripe; listed = c.listed }
+
+coming_of : (v : BlockPlane) (pass : ℕ) (at : Spot) (n : ℕ) (flags : Flags) (old list : Decided) → Told v pass at n old list → IsFlagged v (moment_at v.shape pass at.word at.stripe n) flags → Coming v pass at n flags old list
+coming_of v pass at n flags old list t h = record { most = t.most; stripe = t.stripe; flagged = h; listed = t.listed }
+
 pub coming_none : (v : BlockPlane) (pass : ℕ) (at : Spot) (flags : Flags) (list : Decided) → at.stripe < stripes v.shape → IsFlagged v (moment_at v.shape pass at.word at.stripe 0) flags → Coming v pass at 0 flags list list
-coming_none v pass at flags list stripe h = record { most = omega arith; stripe = stripe; flagged = h; listed = ap (λ (ds : Decided). list ++ ds) (remaining_all v.shape (seen v) pass at.word at.stripe) }
+coming_none v pass at flags list stripe h = coming_of v pass at 0 flags list list (told_none v pass at list stripe) h
 
 -- nothing happens at a bit
 pub record Passes (v : BlockPlane) (pass j i k : ℕ) : Type 0 where
@@ -105,17 +120,22 @@ rests_of v pass j i k p = record {
     on_rows : (r : ℕ) → 1 ≤ r → r < 5 → of_rows r ≡ true
     on_rows r h l = grind (arith, nat_tests)
 
-pub coming_skip : (v : BlockPlane) (pass : ℕ) (at : Spot) (n m : ℕ) (flags : Flags) (old list : Decided) → Coming v pass at n flags old list → n ≤ m → m ≤ 64
-    → ((l : ℕ) → n ≤ l → l < m → Passes v pass at.word at.stripe l) → Coming v pass at m flags old list
-coming_skip v pass at n m flags old list c le most p = record {
+pub told_skip : (v : BlockPlane) (pass : ℕ) (at : Spot) (n m : ℕ) (old list : Decided) → Told v pass at n old list → n ≤ m → m ≤ 64
+    → ((l : ℕ) → n ≤ l → l < m → Passes v pass at.word at.stripe l) → Told v pass at m old list
+told_skip v pass at n m old list c le most p = record {
   most = most;
   stripe = c.stripe;
-  flagged = same_flags v (moment_at v.shape pass at.word at.stripe n) (moment_at v.shape pass at.word at.stripe m) flags
-      (idle_to v pass at.word at.stripe n m c.stripe le (λ l a b. idle_none v pass at.word at.stripe l (p l a b).idle)) c.flagged;
   listed = c.listed ∙ ap (λ (ds : Decided). list ++ ds)
       (rest v.shape (seen v) pass at.word at.stripe n (m - n) (omega (arith, le, most)) (λ l a b. rests_of v pass at.word at.stripe l (p l a (omega (arith, b, le))))
       ∙ ap (remaining_at v.shape (seen v) pass at.word at.stripe) (let e : n + (m - n) ≡ m = omega (arith, le) in e));
 }
+
+pub coming_skip : (v : BlockPlane) (pass : ℕ) (at : Spot) (n m : ℕ) (flags : Flags) (old list : Decided) → Coming v pass at n flags old list → n ≤ m → m ≤ 64
+    → ((l : ℕ) → n ≤ l → l < m → Passes v pass at.word at.stripe l) → Coming v pass at m flags old list
+coming_skip v pass at n m flags old list c le most p =
+    coming_of v pass at m flags old list (told_skip v pass at n m old list (told_of v pass at n flags old list c) le most p)
+    (same_flags v (moment_at v.shape pass at.word at.stripe n) (moment_at v.shape pass at.word at.stripe m) flags
+    (idle_to v pass at.word at.stripe n m c.stripe le (λ l a b. idle_none v pass at.word at.stripe l (p l a b).idle)) c.flagged)
 
 -- The words after a place was coded.
 pub flagged_place : (v : BlockPlane) (pass j i k : ℕ) (bit : Bool) (old new : Flags) → i < stripes v.shape → codes v.shape (mag v) pass j i k ≡ true → bit ≡ nat_eq (mag v (column j k) (row i k)) 1
@@ -163,19 +183,25 @@ pub append_both : (a b c d e : Decided) → a ≡ b ++ d → d ≡ c ++ e → a 
 append_both a b c d e f g = f ∙ ap (λ (ds : Decided). b ++ ds) g ∙ sym (append_assoc b c e)
 
 -- a place was listed
-pub coming_place : (v : BlockPlane) (pass : ℕ) (at : Spot) (n : ℕ) (flags flags' : Flags) (old list list' : Decided) → Coming v pass at n flags old list → IsPlace v.shape at n
-    → IsFlagged v (moment_at v.shape pass at.word at.stripe (n + 1)) flags' → list' ≡ list ++ place_decisions v.shape (seen v) pass (column at.word n) (row at.stripe n) → Coming v pass at (n + 1) flags' old list'
-coming_place v pass at n flags flags' old list list' c place h e = record {
+pub told_place : (v : BlockPlane) (pass : ℕ) (at : Spot) (n : ℕ) (old list list' : Decided) → Told v pass at n old list → IsPlace v.shape at n
+    → list' ≡ list ++ place_decisions v.shape (seen v) pass (column at.word n) (row at.stripe n) → Told v pass at (n + 1) old list'
+told_place v pass at n old list list' c place e = record {
   most = (let w = place.within in omega (arith, w));
   stripe = c.stripe;
-  flagged = h;
   listed = append_both (old ++ word_decisions v.shape (seen v) pass at.word at.stripe) list (place_decisions v.shape (seen v) pass (column at.word n) (row at.stripe n)) (remaining_at v.shape (seen v) pass at.word at.stripe n) (remaining_at v.shape (seen v) pass at.word at.stripe (n + 1))
       c.listed (remaining_place v.shape (seen v) pass at.word at.stripe n place.within place.on_row place.inside)
       ∙ ap (λ (ds : Decided). ds ++ remaining_at v.shape (seen v) pass at.word at.stripe (n + 1)) (sym e);
 }
 
+pub coming_place : (v : BlockPlane) (pass : ℕ) (at : Spot) (n : ℕ) (flags flags' : Flags) (old list list' : Decided) → Coming v pass at n flags old list → IsPlace v.shape at n
+    → IsFlagged v (moment_at v.shape pass at.word at.stripe (n + 1)) flags' → list' ≡ list ++ place_decisions v.shape (seen v) pass (column at.word n) (row at.stripe n) → Coming v pass at (n + 1) flags' old list'
+coming_place v pass at n flags flags' old list list' c place h e = coming_of v pass at (n + 1) flags' old list' (told_place v pass at n old list list' (told_of v pass at n flags old list c) place e) h
+
+pub told_all : (v : BlockPlane) (pass : ℕ) (at : Spot) (old list : Decided) → Told v pass at 64 old list → list ≡ old ++ word_decisions v.shape (seen v) pass at.word at.stripe
+told_all v pass at old list c = sym (c.listed ∙ ap (λ (ds : Decided). list ++ ds) (remaining_none v.shape (seen v) pass at.word at.stripe) ∙ append-nil list)
+
 pub coming_all : (v : BlockPlane) (pass : ℕ) (at : Spot) (flags : Flags) (old list : Decided) → Coming v pass at 64 flags old list → list ≡ old ++ word_decisions v.shape (seen v) pass at.word at.stripe
-coming_all v pass at flags old list c = sym (c.listed ∙ ap (λ (ds : Decided). list ++ ds) (remaining_none v.shape (seen v) pass at.word at.stripe) ∙ append-nil list)
+coming_all v pass at flags old list c = told_all v pass at old list (told_of v pass at 64 flags old list c)
 
 pub place_codes : (v : BlockPlane) (pass j i k : ℕ) → codes v.shape (mag v) pass j i k ≡ true → (of_rows (k % 8) ≡ true) × (is_due v.shape (mag v) pass (column j k) (row i k) ≡ true)
 place_codes v pass j i k e = and_parts (of_rows (k % 8)) (is_due v.shape (mag v) pass (column j k) (row i k)) e

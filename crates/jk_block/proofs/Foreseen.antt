@@ -16,18 +16,16 @@ use Rattle.jk_scan.specs.Words.{Truths, of_rows, Shows, bordered, is_member}
 use Rattle.jk_scan.specs.WordPlaces.{column, row, also}
 use Rattle.jk_scan.specs.Surroundings.{IsAround}
 use Rattle.jk_scan.specs.RingPlaces.{IsRing, IsCross, Turns}
-use Rattle.jk_scan.specs.Flags.{IsDrawn}
 use Rattle.jk_scan.proofs.Laws.{lowest, rest_at, taken, on_or, on_and, on_not, on_set, on_zero, on_shl_any, step_is}
-use Rattle.jk_block.specs.Reading.{put}
 use Rattle.jk_block.specs.Reached.{is_reached}
 use Rattle.jk_block.specs.Steps.{IsPlace}
-use Rattle.jk_block.specs.declared.flags.Flags.{Flags}
 use Rattle.jk_block.specs.declared.plane.BlockPlane.{BlockPlane}
 use Rattle.jk_block.specs.declared.spot.Spot.{Spot}
-use Rattle.jk_block.specs.Viewed.{seen, lit_at, IsFlagged, Lights, moment_at}
-use Rattle.jk_block.proofs.Coming.{mag, Coming, coming_none}
+use Rattle.jk_block.specs.Viewed.{seen, lit_at, moment_at}
+use Rattle.jk_block.proofs.Coming.{mag, Told, told_none}
 use Rattle.jk_block.proofs.Propagated.{Awaits, awaits_all, awaits_rest, awaits_more, Propagated, propagated_to, NextSpread, propagated_next, propagated_place, lit_place, one_is}
 use Rattle.jk_block.proofs.Refining.{true_le}
+use Rattle.jk_block.proofs.Timing.{codes}
 use Rattle.jk_block.proofs.Reaching.{reach_same, reach_none, reach_both}
 use Rattle.jk_block.proofs.Spreading.{is_spread, around_also, place_shifted}
 
@@ -97,35 +95,36 @@ with_own own around = record { own = own; left = around.left; right = around.rig
 
 -- The pass has come to bit n of a word. So far the places in `own` are significant, and the candidates are the members of the pass
 -- from there on. All members to come are the candidates, and what will be reached from members to come with the bit 1.
-pub record Foreseen (v : BlockPlane) (at : Spot) (flags : Flags) (old list : Decided) (around : Around) (inside ones all rest : ℕ) : Type 0 where
+pub record Foreseen (v : BlockPlane) (at : Spot) (old list : Decided) (around : Around) (inside ones all rest : ℕ) : Type 0 where
   pub n : ℕ
   pub own : ℕ
   pub candidates : ℕ
   pub own_fits : own < 2 ^ 64
   pub fits : candidates < 2 ^ 64
-  pub coming : Coming v 0 at n flags old list
+  pub coming : Told v 0 at n old list
   pub shown : IsAround (bordered (lit_at v (moment_at v.shape 0 at.word at.stripe n))) at.word at.stripe (with_own own around)
   pub awaits : Awaits v.shape (lit_at v (moment_at v.shape 0 at.word at.stripe n)) at.word at.stripe n candidates
+  pub known : (m : ℕ) → m < n → on all m ≡ codes v.shape (mag v) 0 at.word at.stripe m
   pub turns : Turns own (bit_or around.own (bit_and all ones)) around.own n
   pub rest_is : (m : ℕ) → m < 64 → on rest m ≡ (nat_le n m && on all m)
   pub ahead : (m : ℕ) → n ≤ m → m < 64 → on all m ≡ (on candidates m || (on (bit_and inside (bit_not w64 around.own)) m && is_reached (λ k. nat_le n k && (on all k && on ones k)) m))
 
-abbrev propagated_of : (v : BlockPlane) (at : Spot) (flags : Flags) (old list : Decided) (around : Around) (inside ones all rest : ℕ) (h : Foreseen v at flags old list around inside ones all rest) → Propagated v at flags old list (with_own h.own around) h.candidates
-propagated_of v at flags old list around inside ones all rest h = record { n = h.n; coming = h.coming; shown = h.shown; awaits = h.awaits }
+abbrev propagated_of : (v : BlockPlane) (at : Spot) (old list : Decided) (around : Around) (inside ones all rest : ℕ) (h : Foreseen v at old list around inside ones all rest) → Propagated v at old list (with_own h.own around) h.candidates
+propagated_of v at old list around inside ones all rest h = record { n = h.n; coming = h.coming; shown = h.shown; awaits = h.awaits }
 
-pub foreseen_none : (v : BlockPlane) (at : Spot) (flags : Flags) (list : Decided) (around : Around) (inside ones all candidates : ℕ) → at.stripe < stripes v.shape → IsFlagged v (moment_at v.shape 0 at.word at.stripe 0) flags
-    → around.own < 2 ^ 64 → candidates < 2 ^ 64
+pub foreseen_none : (v : BlockPlane) (at : Spot) (list : Decided) (around : Around) (inside ones all candidates : ℕ) → at.stripe < stripes v.shape → around.own < 2 ^ 64 → candidates < 2 ^ 64
     → IsAround (bordered (lit_at v (moment_at v.shape 0 at.word at.stripe 0))) at.word at.stripe around
     → Shows of_rows (is_member (bordered (is_inside v.shape)) (bordered (lit_at v (moment_at v.shape 0 at.word at.stripe 0)))) (at.word + 1) (at.stripe + 1) candidates
     → ((m : ℕ) → m < 64 → on all m ≡ (on candidates m || (on (bit_and inside (bit_not w64 around.own)) m && is_reached (λ k. on all k && on ones k) m)))
-    → Foreseen v at flags list list around inside ones all all
-foreseen_none v at flags list around inside ones all candidates stripe flagged own_fits fits shown members all_is = record {
+    → Foreseen v at list list around inside ones all all
+foreseen_none v at list around inside ones all candidates stripe own_fits fits shown members all_is = record {
   n = 0;
   own = around.own;
   candidates = candidates;
   own_fits = own_fits;
   fits = fits;
-  coming = coming_none v 0 at flags list stripe flagged;
+  coming = told_none v 0 at list stripe;
+  known = λ m l. absurd (omega (arith, l));
   shown = record { own = shown.own; left = shown.left; right = shown.right };
   awaits = awaits_all v.shape (lit_at v (moment_at v.shape 0 at.word at.stripe 0)) at.word at.stripe candidates members;
   turns = record { before = λ m l. absurd (omega (arith, l)); behind = λ m l h. refl };
@@ -135,6 +134,24 @@ foreseen_none v at flags list around inside ones all candidates stripe flagged o
       ∙ ap (λ b. on candidates m || (on (bit_and inside (bit_not w64 around.own)) m && b))
       (reach_same (λ k. on all k && on ones k) (λ k. nat_le 0 k && (on all k && on ones k)) m (λ k. ap (λ b. b && (on all k && on ones k)) (let e : true ≡ nat_le 0 k = grind (arith, nat_tests) in e)));
 }
+
+-- the bit of a place in a word that shows a field on its rows
+shown_rows : (f : Truths) (j i w m : ℕ) → Shows of_rows f j i w → m < 64 → on w m ≡ (of_rows (m % 8) && f (8 * j + m / 8) (4 * i + m % 8 - 1))
+shown_rows f j i w m shown l = ap (on w) (let e : m ≡ 8 * (m / 8) + m % 8 = omega arith in e) ∙ shown (m / 8) (m % 8) (omega (arith, l)) (omega arith)
+
+-- All that are reached stand on rows, and so do some of them.
+pub all_rows : (f g : Truths) (j i inside free candidates all : ℕ) (r : ℕ → Bool) → Shows of_rows f j i candidates → Shows of_rows g j i inside
+    → ((m : ℕ) → m < 64 → on all m ≡ (on candidates m || (on (bit_and inside free) m && r m))) → (m : ℕ) → m < 64 → on all m ≡ true → of_rows (m % 8) ≡ true
+all_rows f g j i inside free candidates all r members limits all_is m l set =
+    by (on all m) (on candidates m) (on inside m) (on free m) (r m) (of_rows (m % 8)) (f (8 * j + m / 8) (4 * i + m % 8 - 1)) (g (8 * j + m / 8) (4 * i + m % 8 - 1))
+    (all_is m l ∙ ap (λ b. on candidates m || (b && r m)) (on_and inside free m)) (shown_rows f j i candidates m members l) (shown_rows g j i inside m limits l) set
+  where
+    by : (a c n e t o p q : Bool) → a ≡ (c || ((n && e) && t)) → c ≡ (o && p) → n ≡ (o && q) → a ≡ true → o ≡ true
+    by a c n e t true p q h g k x = refl
+    by a c n e t false p q h g k x = grind (arith, nat_tests)
+
+pub some_rows : (all ones : ℕ) → ((m : ℕ) → m < 64 → on all m ≡ true → of_rows (m % 8) ≡ true) → (m : ℕ) → m < 64 → on (bit_and all ones) m ≡ true → of_rows (m % 8) ≡ true
+some_rows all ones rows m l set = rows m l (and_parts (on all m) (on ones m) (sym (on_and all ones m) ∙ set)).0
 
 -- the lowest bit is the only one with none below it
 lowest_is : (w z : ℕ) → w < 2 ^ 64 → z < 64 → on w z ≡ true → ((m : ℕ) → m < z → on w m ≡ false) → (0 < w) × (trailing_zeros w64 w ≡ z)
@@ -172,9 +189,9 @@ pub record NextForeseen (v : BlockPlane) (at : Spot) (around : Around) (ones all
   pub quiet : (m : ℕ) → n ≤ m → m < trailing_zeros w64 rest → on all m ≡ false
   pub member : on all (trailing_zeros w64 rest) ≡ true
 
-pub foreseen_lowest : (v : BlockPlane) (at : Spot) (flags : Flags) (old list : Decided) (around : Around) (inside ones all rest : ℕ) (h : Foreseen v at flags old list around inside ones all rest) → 0 < rest → rest < 2 ^ 64
+pub foreseen_lowest : (v : BlockPlane) (at : Spot) (old list : Decided) (around : Around) (inside ones all rest : ℕ) (h : Foreseen v at old list around inside ones all rest) → 0 < rest → rest < 2 ^ 64
     → NextForeseen v at around ones all rest h.n h.candidates
-foreseen_lowest v at flags old list around inside ones all rest h p q =
+foreseen_lowest v at old list around inside ones all rest h p q =
     let l = lowest rest p q in
     let z = trailing_zeros w64 rest in
     let within = l.0 in
@@ -203,17 +220,17 @@ foreseen_lowest v at flags old list around inside ones all rest h p q =
     early c l d e g = grind (arith, nat_tests)
 
 -- the next place, as it is coded
-pub foreseen_next : (v : BlockPlane) (at : Spot) (flags : Flags) (old list : Decided) (around : Around) (inside ones all rest : ℕ) (h : Foreseen v at flags old list around inside ones all rest) → 0 < rest → rest < 2 ^ 64
-    → NextSpread v at flags old list (with_own h.own around) h.n (trailing_zeros w64 rest)
-foreseen_next v at flags old list around inside ones all rest h p q =
-    let low = foreseen_lowest v at flags old list around inside ones all rest h p q in
-    subst (λ z. NextSpread v at flags old list (with_own h.own around) h.n z) low.is
-    (propagated_next v at flags old list (with_own h.own around) h.candidates (propagated_of v at flags old list around inside ones all rest h) low.some h.fits)
+pub foreseen_next : (v : BlockPlane) (at : Spot) (old list : Decided) (around : Around) (inside ones all rest : ℕ) (h : Foreseen v at old list around inside ones all rest) → 0 < rest → rest < 2 ^ 64
+    → NextSpread v at old list (with_own h.own around) h.n (trailing_zeros w64 rest)
+foreseen_next v at old list around inside ones all rest h p q =
+    let low = foreseen_lowest v at old list around inside ones all rest h p q in
+    subst (λ z. NextSpread v at old list (with_own h.own around) h.n z) low.is
+    (propagated_next v at old list (with_own h.own around) h.candidates (propagated_of v at old list around inside ones all rest h) low.some h.fits)
 
-pub foreseen_turns : (v : BlockPlane) (at : Spot) (flags : Flags) (old list : Decided) (around : Around) (inside ones all rest : ℕ) (h : Foreseen v at flags old list around inside ones all rest) → 0 < rest → rest < 2 ^ 64
+pub foreseen_turns : (v : BlockPlane) (at : Spot) (old list : Decided) (around : Around) (inside ones all rest : ℕ) (h : Foreseen v at old list around inside ones all rest) → 0 < rest → rest < 2 ^ 64
     → Turns h.own (bit_or around.own (bit_and all ones)) around.own (trailing_zeros w64 rest)
-foreseen_turns v at flags old list around inside ones all rest h p q =
-    let low = foreseen_lowest v at flags old list around inside ones all rest h p q in
+foreseen_turns v at old list around inside ones all rest h p q =
+    let low = foreseen_lowest v at old list around inside ones all rest h p q in
     let onward = low.onward in
     let within = low.within in
     record {
@@ -228,14 +245,12 @@ step_on : (z m : ℕ) (rest n due : Bool) (k : ℕ) → k ≤ z → rest ≡ (na
 step_on z m rest n due k h a b = grind (arith, nat_tests)
 
 -- a place was listed
-pub foreseen_place : (v : BlockPlane) (at : Spot) (flags flags' : Flags) (old list list' : Decided) (around : Around) (inside ones all rest : ℕ) (h : Foreseen v at flags old list around inside ones all rest) → 0 < rest → rest < 2 ^ 64
+pub foreseen_place : (v : BlockPlane) (at : Spot) (old list list' : Decided) (around : Around) (inside ones all rest : ℕ) (h : Foreseen v at old list around inside ones all rest) → 0 < rest → rest < 2 ^ 64
     → inside < 2 ^ 64 → around.own < 2 ^ 64 → Shows of_rows (bordered (is_inside v.shape)) (at.word + 1) (at.stripe + 1) inside
     → on ones (trailing_zeros w64 rest) ≡ is_one (mag v (column at.word (trailing_zeros w64 rest)) (row at.stripe (trailing_zeros w64 rest)))
-    → Lights v.shape (column at.word (trailing_zeros w64 rest)) (row at.stripe (trailing_zeros w64 rest)) (on ones (trailing_zeros w64 rest)) flags flags'
-    → ((f : Field Bool) → IsDrawn v.shape f flags.visited → IsDrawn v.shape (put f (column at.word (trailing_zeros w64 rest)) (row at.stripe (trailing_zeros w64 rest)) true) flags'.visited)
     → ((t : ℕ) → IsAround (bordered (lit_at v t)) at.word at.stripe (with_own h.own around) → list' ≡ list ++ new_decisions v.shape (seen v) t (column at.word (trailing_zeros w64 rest)) (row at.stripe (trailing_zeros w64 rest)))
-    → Foreseen v at flags' old list' around inside ones all (bit_and rest (rest - 1))
-foreseen_place v at flags flags' old list list' around inside ones all rest h p q inside_fits own_fits limits one lights visited listed =
+    → Foreseen v at old list' around inside ones all (bit_and rest (rest - 1))
+foreseen_place v at old list list' around inside ones all rest h p q inside_fits own_fits limits one listed =
     by (on ones z) refl
   where
     j : ℕ
@@ -245,7 +260,7 @@ foreseen_place v at flags flags' old list list' around inside ones all rest h p 
     i = at.stripe
 
     low : NextForeseen v at around ones all rest h.n h.candidates
-    low = foreseen_lowest v at flags old list around inside ones all rest h p q
+    low = foreseen_lowest v at old list around inside ones all rest h p q
 
     z : ℕ
     z = trailing_zeros w64 h.candidates
@@ -277,18 +292,25 @@ foreseen_place v at flags flags' old list list' around inside ones all rest h p 
     u : ℕ
     u = moment_at v.shape 0 j i (z + 1)
 
-    next : NextSpread v at flags old list (with_own h.own around) h.n z
-    next = propagated_next v at flags old list (with_own h.own around) w (propagated_of v at flags old list around inside ones all rest h) low.some h.fits
+    next : NextSpread v at old list (with_own h.own around) h.n z
+    next = propagated_next v at old list (with_own h.own around) w (propagated_of v at old list around inside ones all rest h) low.some h.fits
 
     one' : on ones z ≡ is_one (mag v (column j z) (row i z))
     one' = subst (λ z. on ones z ≡ is_one (mag v (column j z) (row i z))) (sym same) one
 
-    coming' : Coming v 0 at (z + 1) flags' old list'
+    coming' : Told v 0 at (z + 1) old list'
     coming' =
-        propagated_place v at flags flags' old list list' (with_own h.own around) w (on ones z) (propagated_of v at flags old list around inside ones all rest h) low.some h.fits one'
-        (subst (λ z. Lights v.shape (column j z) (row i z) (on ones z) flags flags') (sym same) lights)
-        (subst (λ z. (f : Field Bool) → IsDrawn v.shape f flags.visited → IsDrawn v.shape (put f (column j z) (row i z) true) flags'.visited) (sym same) visited)
+        propagated_place v at old list list' (with_own h.own around) h.n z next
         (subst (λ z. (t : ℕ) → IsAround (bordered (lit_at v t)) at.word at.stripe (with_own h.own around) → list' ≡ list ++ new_decisions v.shape (seen v) t (column j z) (row i z)) (sym same) listed)
+
+    known' : (m : ℕ) → m < z + 1 → on all m ≡ codes v.shape (mag v) 0 j i m
+    known' m less = elim (cases_lt m h.n) [
+      | inl before ↦ h.known m before
+      | inr from ↦ elim (cases_lt m z) [
+        | inl under ↦ quiet m from under ∙ sym (next.idle m from under)
+        | inr last ↦ (let e : m ≡ z = omega (arith, less, last) in ap (on all) e ∙ member ∙ sym next.due ∙ sym (ap (codes v.shape (mag v) 0 j i) e))
+      ]
+    ]
 
     rest' : (m : ℕ) → m < 64 → on (bit_and rest (rest - 1)) m ≡ (nat_le (z + 1) m && on all m)
     rest' m l =
@@ -329,7 +351,7 @@ foreseen_place v at flags flags' old list list' around inside ones all rest h p 
       | inr from ↦ h.turns.behind m from (let w = within in omega (arith, less, w)) ∙ sym (new_at m ∙ no_both (on around.own m) (on all m) (on ones m) (quiet m from less))
     ]
 
-    by : (b : Bool) → on ones z ≡ b → Foreseen v at flags' old list' around inside ones all (bit_and rest (rest - 1))
+    by : (b : Bool) → on ones z ≡ b → Foreseen v at old list' around inside ones all (bit_and rest (rest - 1))
     by false bit = record {
       n = z + 1;
       own = h.own;
@@ -337,6 +359,7 @@ foreseen_place v at flags flags' old list list' around inside ones all rest h p 
       own_fits = h.own_fits;
       fits = (let e = and_le_l w (w - 1) in let f = h.fits in omega (arith, e, f));
       coming = coming';
+      known = known';
       shown = subst (λ (f : Field Bool). IsAround (bordered f) j i (with_own h.own around)) (sym unlit) h.shown;
       awaits = awaits_rest v.shape (lit_at v (moment_at v.shape 0 j i h.n)) (lit_at v u) j i h.n w low.some h.fits onward unlit h.awaits;
       turns = record {
@@ -365,6 +388,7 @@ foreseen_place v at flags flags' old list list' around inside ones all rest h p 
           or_lt 64 (bit_and w (w - 1)) (taken inside own' z) (let e = and_le_l w (w - 1) in let f = h.fits in omega (arith, e, f))
           (let e = and_le_l (bit_and (0x382 * 2 ^ z % 2 ^ 64) inside) (bit_not w64 own') in let g = and_le_r (0x382 * 2 ^ z % 2 ^ 64) inside in omega (arith, e, g, inside_fits));
       coming = coming';
+      known = known';
       shown = around_also (lit_at v t) (lit_at v u) j i z (with_own h.own around) within next.place.on_row lit next.shown;
       awaits = awaits_more v.shape (lit_at v (moment_at v.shape 0 j i h.n)) (lit_at v u) j i h.n w inside h.own low.some h.fits h.own_fits within next.place.on_row onward lit_n limits h.shown.own h.awaits;
       turns = record {
@@ -401,9 +425,13 @@ foreseen_place v at flags flags' old list list' around inside ones all rest h p 
             ∙ and_same (on_and (0x382 * 2 ^ z % 2 ^ 64) inside m ∙ ap (λ b. b && on inside m) (on_shl_any 0x382 z 64 m l ∙ and_true (nat_le z m) (on 0x382 (m - z)) (is_le z m (omega (arith, le))) ∙ step_is (m - z) (omega (arith, l))))
             (on_not w64 own' m own'_fits l ∙ ap not (late m le l))
 
-pub foreseen_all : (v : BlockPlane) (at : Spot) (flags : Flags) (old list : Decided) (around : Around) (inside ones all rest : ℕ) → Foreseen v at flags old list around inside ones all rest → rest ≡ 0 → Coming v 0 at 64 flags old list
-foreseen_all v at flags old list around inside ones all rest h empty =
-    (propagated_to v at flags old list (with_own h.own around) h.candidates (propagated_of v at flags old list around inside ones all rest h) 64 h.coming.most (omega arith) clear).0
+pub foreseen_all : (v : BlockPlane) (at : Spot) (old list : Decided) (around : Around) (inside ones all rest : ℕ) → Foreseen v at old list around inside ones all rest → rest ≡ 0
+    → Told v 0 at 64 old list × ((m : ℕ) → m < 64 → on all m ≡ codes v.shape (mag v) 0 at.word at.stripe m)
+foreseen_all v at old list around inside ones all rest h empty =
+    let end = propagated_to v at old list (with_own h.own around) h.candidates (propagated_of v at old list around inside ones all rest h) 64 h.coming.most (omega arith) clear in (
+      end.0,
+      λ m l. elim (cases_lt m h.n) [ inl before ↦ h.known m before | inr from ↦ none m from l ∙ sym (end.2 m from l) ],
+    )
   where
     none : (m : ℕ) → h.n ≤ m → m < 64 → on all m ≡ false
     none m le l = none_before (on rest m) (nat_le h.n m) (on all m) (ap (λ w. on w m) empty ∙ on_zero m) (h.rest_is m l) (is_le h.n m le)
@@ -439,35 +467,33 @@ HasCrosses around new crosses =
     (f : Truths) (j s own k : ℕ) → k < 64 → of_rows (k % 8) ≡ true → own < 2 ^ 64 → Turns own new around.own k → IsAround f j s (with_own own around)
     → IsCross f (column (j + 1) k) (row (s + 1) k) (get_or crosses (k % 8 - 1) 0) (k / 8) 0
 
-pub record Listing (v : BlockPlane) (at : Spot) (flags : Flags) (old list : Decided) (inside ones all : ℕ) (rings crosses : List ℕ) (rest : ℕ) : Type 0 where
+pub record Listing (v : BlockPlane) (at : Spot) (old list : Decided) (inside ones all : ℕ) (rings crosses : List ℕ) (rest : ℕ) : Type 0 where
   pub around : Around
   pub fits : around.own < 2 ^ 64
-  pub foreseen : Foreseen v at flags old list around inside ones all rest
+  pub foreseen : Foreseen v at old list around inside ones all rest
   pub rings_are : HasRings around (bit_or around.own (bit_and all ones)) rings
   pub crosses_are : HasCrosses around (bit_or around.own (bit_and all ones)) crosses
 
-pub listing_next : (v : BlockPlane) (at : Spot) (flags : Flags) (old list : Decided) (inside ones all : ℕ) (rings crosses : List ℕ) (rest : ℕ) → Listing v at flags old list inside ones all rings crosses rest → 0 < rest → rest < 2 ^ 64
+pub listing_next : (v : BlockPlane) (at : Spot) (old list : Decided) (inside ones all : ℕ) (rings crosses : List ℕ) (rest : ℕ) → Listing v at old list inside ones all rings crosses rest → 0 < rest → rest < 2 ^ 64
     → IsPlace v.shape at (trailing_zeros w64 rest)
-listing_next v at flags old list inside ones all rings crosses rest h p q = (foreseen_next v at flags old list h.around inside ones all rest h.foreseen p q).place
+listing_next v at old list inside ones all rings crosses rest h p q = (foreseen_next v at old list h.around inside ones all rest h.foreseen p q).place
 
-pub listing_place : (v : BlockPlane) (at : Spot) (flags flags' : Flags) (old list list' : Decided) (inside ones all : ℕ) (rings crosses : List ℕ) (rest : ℕ) → Listing v at flags old list inside ones all rings crosses rest → 0 < rest → rest < 2 ^ 64
+pub listing_place : (v : BlockPlane) (at : Spot) (old list list' : Decided) (inside ones all : ℕ) (rings crosses : List ℕ) (rest : ℕ) → Listing v at old list inside ones all rings crosses rest → 0 < rest → rest < 2 ^ 64
     → inside < 2 ^ 64 → Shows of_rows (bordered (is_inside v.shape)) (at.word + 1) (at.stripe + 1) inside
     → on ones (trailing_zeros w64 rest) ≡ is_one (mag v (column at.word (trailing_zeros w64 rest)) (row at.stripe (trailing_zeros w64 rest)))
-    → Lights v.shape (column at.word (trailing_zeros w64 rest)) (row at.stripe (trailing_zeros w64 rest)) (on ones (trailing_zeros w64 rest)) flags flags'
-    → ((f : Field Bool) → IsDrawn v.shape f flags.visited → IsDrawn v.shape (put f (column at.word (trailing_zeros w64 rest)) (row at.stripe (trailing_zeros w64 rest)) true) flags'.visited)
     → ((t : ℕ) → IsRing (bordered (lit_at v t)) (column at.word (trailing_zeros w64 rest) + 8) (row at.stripe (trailing_zeros w64 rest) + 4) (get_or rings (trailing_zeros w64 rest % 8 - 1) 0) (trailing_zeros w64 rest / 8)
     → IsCross (bordered (lit_at v t)) (column at.word (trailing_zeros w64 rest) + 8) (row at.stripe (trailing_zeros w64 rest) + 4) (get_or crosses (trailing_zeros w64 rest % 8 - 1) 0) (trailing_zeros w64 rest / 8) 0
     → list' ≡ list ++ new_decisions v.shape (seen v) t (column at.word (trailing_zeros w64 rest)) (row at.stripe (trailing_zeros w64 rest)))
-    → Listing v at flags' old list' inside ones all rings crosses (bit_and rest (rest - 1))
-listing_place v at flags flags' old list list' inside ones all rings crosses rest h p q inside_fits limits one lights visited listed =
+    → Listing v at old list' inside ones all rings crosses (bit_and rest (rest - 1))
+listing_place v at old list list' inside ones all rings crosses rest h p q inside_fits limits one listed =
     let z = trailing_zeros w64 rest in
     let f = h.foreseen in
-    let place = listing_next v at flags old list inside ones all rings crosses rest h p q in
-    let turns = foreseen_turns v at flags old list h.around inside ones all rest f p q in
+    let place = listing_next v at old list inside ones all rings crosses rest h p q in
+    let turns = foreseen_turns v at old list h.around inside ones all rest f p q in
     record {
       around = h.around;
       fits = h.fits;
-      foreseen = foreseen_place v at flags flags' old list list' h.around inside ones all rest f p q inside_fits h.fits limits one lights visited
+      foreseen = foreseen_place v at old list list' h.around inside ones all rest f p q inside_fits h.fits limits one
           (λ t shown. listed t
           (ring_here (bordered (lit_at v t)) at.word at.stripe z (get_or rings (z % 8 - 1) 0) (z / 8) place.on_row (h.rings_are (bordered (lit_at v t)) at.word at.stripe f.own z place.within place.on_row f.own_fits turns shown))
           (cross_here (bordered (lit_at v t)) at.word at.stripe z (get_or crosses (z % 8 - 1) 0) (z / 8) 0 place.on_row (h.crosses_are (bordered (lit_at v t)) at.word at.stripe f.own z place.within place.on_row f.own_fits turns shown)));
@@ -475,5 +501,6 @@ listing_place v at flags flags' old list list' inside ones all rings crosses res
       crosses_are = h.crosses_are;
     }
 
-pub listing_all : (v : BlockPlane) (at : Spot) (flags : Flags) (old list : Decided) (inside ones all : ℕ) (rings crosses : List ℕ) (rest : ℕ) → Listing v at flags old list inside ones all rings crosses rest → rest ≡ 0 → Coming v 0 at 64 flags old list
-listing_all v at flags old list inside ones all rings crosses rest h empty = foreseen_all v at flags old list h.around inside ones all rest h.foreseen empty
+pub listing_all : (v : BlockPlane) (at : Spot) (old list : Decided) (inside ones all : ℕ) (rings crosses : List ℕ) (rest : ℕ) → Listing v at old list inside ones all rings crosses rest → rest ≡ 0
+    → Told v 0 at 64 old list × ((m : ℕ) → m < 64 → on all m ≡ codes v.shape (mag v) 0 at.word at.stripe m)
+listing_all v at old list inside ones all rings crosses rest h empty = foreseen_all v at old list h.around inside ones all rest h.foreseen empty

@@ -46,3 +46,4 @@ pub mod Foreseen
 pub mod Lighting
 pub mod Emptied
 pub mod Sheeted
+pub mod Behind

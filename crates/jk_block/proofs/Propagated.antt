@@ -14,15 +14,12 @@ use Rattle.jk_scan.specs.Passes.{Decided, is_one, new_decisions, place_decisions
 use Rattle.jk_scan.specs.Words.{Truths, of_rows, of_gathered, Shows, bordered, is_member}
 use Rattle.jk_scan.specs.WordPlaces.{column, row, also}
 use Rattle.jk_scan.specs.Surroundings.{IsAround}
-use Rattle.jk_scan.specs.Flags.{IsDrawn}
 use Rattle.jk_scan.proofs.Laws.{same_field, set_shows, added_at, lowest, rest_at, taken, taken_low, set_below, on_or, inside_parts, cases_of}
-use Rattle.jk_block.specs.Reading.{put}
 use Rattle.jk_block.specs.Steps.{IsPlace}
-use Rattle.jk_block.specs.declared.flags.Flags.{Flags}
 use Rattle.jk_block.specs.declared.plane.BlockPlane.{BlockPlane}
 use Rattle.jk_block.specs.declared.spot.Spot.{Spot}
-use Rattle.jk_block.specs.Viewed.{seen, lit_at, spread_at, Lights, moment_at}
-use Rattle.jk_block.proofs.Coming.{mag, mag_outside, Same, same_lit, idle_none, idle_until, Coming, coming_skip, coming_place, flagged_place}
+use Rattle.jk_block.specs.Viewed.{seen, lit_at, moment_at}
+use Rattle.jk_block.proofs.Coming.{mag, mag_outside, Same, same_lit, idle_none, idle_until, Told, told_skip, told_place}
 use Rattle.jk_block.proofs.Listed.{place_new}
 use Rattle.jk_block.proofs.Remaining.{is_run}
 use Rattle.jk_block.proofs.Seeing.{is_due}
@@ -73,9 +70,9 @@ awaits_all s f j i w members m l =
     ap (on w) (let e : m ≡ 8 * (m / 8) + m % 8 = omega arith in e) ∙ members (m / 8) (m % 8) (omega arith) (omega arith)
     ∙ spread_is_member s f j i m ∙ ap (λ b. b && is_spread s f j i m) (let e : true ≡ nat_le 0 m = grind (arith, nat_tests) in e)
 
-pub record Propagated (v : BlockPlane) (at : Spot) (flags : Flags) (old list : Decided) (around : Around) (candidates : ℕ) : Type 0 where
+pub record Propagated (v : BlockPlane) (at : Spot) (old list : Decided) (around : Around) (candidates : ℕ) : Type 0 where
   pub n : ℕ
-  pub coming : Coming v 0 at n flags old list
+  pub coming : Told v 0 at n old list
   pub shown : IsAround (bordered (lit_at v (moment_at v.shape 0 at.word at.stripe n))) at.word at.stripe around
   pub awaits : Awaits v.shape (lit_at v (moment_at v.shape 0 at.word at.stripe n)) at.word at.stripe n candidates
 
@@ -110,31 +107,34 @@ none_before : (a p q : Bool) → a ≡ false → a ≡ (p && q) → p ≡ true �
 none_before a p q e g h = grind (arith, nat_tests)
 
 -- up to a bit before which there is no candidate
-pub propagated_to : (v : BlockPlane) (at : Spot) (flags : Flags) (old list : Decided) (around : Around) (w : ℕ) (st : Propagated v at flags old list around w) (z : ℕ) → st.n ≤ z → z ≤ 64 → ((m : ℕ) → m < z → on w m ≡ false)
-    → Coming v 0 at z flags old list × (lit_at v (moment_at v.shape 0 at.word at.stripe z) ≡ lit_at v (moment_at v.shape 0 at.word at.stripe st.n))
-propagated_to v at flags old list around w st z le most clear =
+pub propagated_to : (v : BlockPlane) (at : Spot) (old list : Decided) (around : Around) (w : ℕ) (st : Propagated v at old list around w) (z : ℕ) → st.n ≤ z → z ≤ 64 → ((m : ℕ) → m < z → on w m ≡ false)
+    → Told v 0 at z old list × (lit_at v (moment_at v.shape 0 at.word at.stripe z) ≡ lit_at v (moment_at v.shape 0 at.word at.stripe st.n))
+    × ((m : ℕ) → st.n ≤ m → m < z → codes v.shape (mag v) 0 at.word at.stripe m ≡ false)
+propagated_to v at old list around w st z le most clear =
     let j = at.word in
     let i = at.stripe in
     let f = lit_at v (moment_at v.shape 0 j i st.n) in
     let u = quiet_until v j i st.n z st.coming.stripe
     (λ m a b. none_before (on w m) (nat_le st.n m) (is_spread v.shape f j i m) (clear m b) (st.awaits m (omega (arith, b, most))) (let g : nat_le st.n m ≡ true = grind (arith, nat_tests) in g)) (z - st.n) (omega (arith, le)) in
     let e : st.n + (z - st.n) ≡ z = omega (arith, le) in (
-      coming_skip v 0 at st.n z flags old list st.coming le most (λ l a b. record { plain = λ _. no_run v.shape (mag v) j i (l / 8); idle = u.1 l a (omega (arith, b, e)) }),
+      told_skip v 0 at st.n z old list st.coming le most (λ l a b. record { plain = λ _. no_run v.shape (mag v) j i (l / 8); idle = u.1 l a (omega (arith, b, e)) }),
       subst (λ k. lit_at v (moment_at v.shape 0 j i k) ≡ f) e (same_lit v (moment_at v.shape 0 j i st.n) (moment_at v.shape 0 j i (st.n + (z - st.n))) u.0),
+      λ m a b. u.1 m a (omega (arith, b, e)),
     )
 
 -- the next place that is coded
-pub record NextSpread (v : BlockPlane) (at : Spot) (flags : Flags) (old list : Decided) (around : Around) (n z : ℕ) : Type 0 where
+pub record NextSpread (v : BlockPlane) (at : Spot) (old list : Decided) (around : Around) (n z : ℕ) : Type 0 where
   pub onward : n ≤ z
   pub place : IsPlace v.shape at z
   pub due : codes v.shape (mag v) 0 at.word at.stripe z ≡ true
-  pub coming : Coming v 0 at z flags old list
+  pub coming : Told v 0 at z old list
+  pub idle : (m : ℕ) → n ≤ m → m < z → codes v.shape (mag v) 0 at.word at.stripe m ≡ false
   pub lit : lit_at v (moment_at v.shape 0 at.word at.stripe z) ≡ lit_at v (moment_at v.shape 0 at.word at.stripe n)
   pub shown : IsAround (bordered (lit_at v (moment_at v.shape 0 at.word at.stripe z))) at.word at.stripe around
 
-pub propagated_next : (v : BlockPlane) (at : Spot) (flags : Flags) (old list : Decided) (around : Around) (w : ℕ) (st : Propagated v at flags old list around w) → 0 < w → w < 2 ^ 64
-    → NextSpread v at flags old list around st.n (trailing_zeros w64 w)
-propagated_next v at flags old list around w st p q =
+pub propagated_next : (v : BlockPlane) (at : Spot) (old list : Decided) (around : Around) (w : ℕ) (st : Propagated v at old list around w) → 0 < w → w < 2 ^ 64
+    → NextSpread v at old list around st.n (trailing_zeros w64 w)
+propagated_next v at old list around w st p q =
     let z = trailing_zeros w64 w in
     let j = at.word in
     let i = at.stripe in
@@ -143,7 +143,7 @@ propagated_next v at flags old list around w st p q =
     let f = lit_at v (moment_at v.shape 0 j i st.n) in
     let both = and_parts (nat_le st.n z) (is_spread v.shape f j i z) (sym (st.awaits z l.0) ∙ l.1) in
     let onward : st.n ≤ z = let b = both.0 in grind (arith, nat_tests) in
-    let on = propagated_to v at flags old list around w st z onward (omega (arith, within)) l.2 in
+    let on = propagated_to v at old list around w st z onward (omega (arith, within)) l.2 in
     let due : codes v.shape (mag v) 0 j i z ≡ true = sym (spread_codes v.shape (mag v) j i z) ∙ ap (λ (f : Field Bool). is_spread v.shape f j i z) on.1 ∙ both.1 in
     let parts = and_parts (of_rows (z % 8)) (is_due v.shape (mag v) 0 (column j z) (row i z)) due in
     record {
@@ -151,6 +151,7 @@ propagated_next v at flags old list around w st p q =
       place = record { within = l.0; on_row = parts.0; inside = (due_inside v.shape (mag v) 0 (column j z) (row i z) parts.1).0 };
       due = due;
       coming = on.0;
+      idle = on.2;
       lit = on.1;
       shown = subst (λ (f : Field Bool). IsAround (bordered f) j i around) (sym on.1) st.shown;
     }
@@ -197,18 +198,8 @@ new_place v pass j i z list list' due other h =
     h ∙ ap (λ (ds : Decided). list ++ ds) (sym (place_new v.shape (seen v) pass (column j z) (row i z) (moment_at v.shape pass j i z) parts.1 (moment_place v.shape pass j i z parts.0 (inside_parts v.shape (column j z) (row i z) inside).0) other))
 
 -- a place was listed
-pub propagated_place : (v : BlockPlane) (at : Spot) (flags flags' : Flags) (old list list' : Decided) (around : Around) (w : ℕ) (bit : Bool) (st : Propagated v at flags old list around w) → 0 < w → w < 2 ^ 64
-    → bit ≡ is_one (mag v (column at.word (trailing_zeros w64 w)) (row at.stripe (trailing_zeros w64 w)))
-    → Lights v.shape (column at.word (trailing_zeros w64 w)) (row at.stripe (trailing_zeros w64 w)) bit flags flags'
-    → ((f : Field Bool) → IsDrawn v.shape f flags.visited → IsDrawn v.shape (put f (column at.word (trailing_zeros w64 w)) (row at.stripe (trailing_zeros w64 w)) true) flags'.visited)
-    → ((t : ℕ) → IsAround (bordered (lit_at v t)) at.word at.stripe around → list' ≡ list ++ new_decisions v.shape (seen v) t (column at.word (trailing_zeros w64 w)) (row at.stripe (trailing_zeros w64 w)))
-    → Coming v 0 at (trailing_zeros w64 w + 1) flags' old list'
-propagated_place v at flags flags' old list list' around w bit st p q bit_is lights visited listed =
-    let z = trailing_zeros w64 w in
-    let j = at.word in
-    let i = at.stripe in
-    let next = propagated_next v at flags old list around w st p q in
-    let t = moment_at v.shape 0 j i z in
-    coming_place v 0 at z flags flags' old list list' next.coming next.place
-    (flagged_place v 0 j i z bit flags flags' next.coming.stripe next.due (bit_is ∙ one_is v 0 j i z next.due refl) lights next.coming.flagged (visited (spread_at v t) next.coming.flagged.coded))
-    (new_place v 0 j i z list list' next.due (λ e. absurd (omega (arith, e))) (listed t next.shown))
+pub propagated_place : (v : BlockPlane) (at : Spot) (old list list' : Decided) (around : Around) (n z : ℕ) → NextSpread v at old list around n z
+    → ((t : ℕ) → IsAround (bordered (lit_at v t)) at.word at.stripe around → list' ≡ list ++ new_decisions v.shape (seen v) t (column at.word z) (row at.stripe z)) → Told v 0 at (z + 1) old list'
+propagated_place v at old list list' around n z next listed =
+    told_place v 0 at z old list list' next.coming next.place
+    (new_place v 0 at.word at.stripe z list list' next.due (λ e. absurd (omega (arith, e))) (listed (moment_at v.shape 0 at.word at.stripe z) next.shown))

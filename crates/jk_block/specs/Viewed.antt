@@ -1,5 +1,5 @@
 -- What words show of a block at a bit-plane while its decisions are listed.
-use Rattle.std.specs.Prelude.{◌≡◌, ◌<◌, ℕ, ◌+◌, ◌-◌, ◌*◌, ◌/◌, ◌%◌, Bool, true, false, ◌&&◌, nat_eq, nat_lt, nat_le, [], ◌∷◌, ℤ, if◌then◌else◌}
+use Rattle.std.specs.Prelude.{◌≡◌, ◌<◌, ℕ, ◌+◌, ◌-◌, ◌*◌, ◌/◌, ◌%◌, Bool, true, false, ◌&&◌, ◌||◌, nat_eq, nat_lt, nat_le, [], ◌∷◌, ℤ, if◌then◌else◌}
 use Rattle.jk_scan.specs.declared.shape.BlockShape.{BlockShape}
 use Rattle.jk_scan.specs.Contexts.{run_length, uniform}
 use Rattle.jk_scan.specs.Neighbours.{Field, is_inside}
@@ -47,6 +47,10 @@ pub record IsLitUpto (s : BlockShape) (b : ℕ) (q : Field ℤ) (flags : Flags) 
 -- a field with another value at one place, or the same field
 abbrev pub put_if : Bool → Field Bool → (x y : ℕ) → Bool → Field Bool
 put_if bit f x y value = if bit then put f x y value else f
+
+-- a field with the places of the word j of the stripe i
+abbrev pub with_word : Field Bool → (j i word : ℕ) → Field Bool
+with_word f j i word x y = f x y || ((nat_eq (x / 8) j && nat_eq (y / 4) i) && on word (8 * (x % 8) + (y % 4 + 1)))
 
 -- Where the bit is 1, the place becomes significant.
 pub record Lights (s : BlockShape) (x y : ℕ) (bit : Bool) (old new : Flags) : Type 0 where

@@ -139,25 +139,6 @@ impl DecisionList {
         Ok(())
     }
 
-    /// One decision more, and another where its bit is 1.
-    #[inline(always)]
-    pub fn push_new(
-        &mut self,
-        context: u8,
-        bit: bool,
-        next: u8,
-        next_bit: bool,
-    ) -> Result<(), Fault>
-        requires context { context < 19 }
-        requires next { next < 19 }
-        ensures pushed { IfOk result (λ _. self.new ≡ self.old ++ (context, bit) ∷ (if bit then (next, next_bit) ∷ [] else [])) }
-        ensures memory { IfErr result IsMemory }
-    {
-        make_room(&mut self.bytes, self.count)?;
-        self.count = put_new(&mut self.bytes, self.count, context, bit, next, next_bit);
-        Ok(())
-    }
-
     /// Codes all decisions.
     pub fn encode(&self, encoder: &mut Encoder) -> Result<(), Fault>
         ensures codes { IfOk result (λ _. (ds : List Decision)

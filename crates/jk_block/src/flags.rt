@@ -1,7 +1,9 @@
 //! What is known of the places of a block while it is written.
 
-ghost use Rattle.std.specs.Prelude.{◌≡◌, true, replicate, if◌then◌else◌};
+ghost use Rattle.std.specs.Prelude.{◌≡◌, ℕ, ◌%◌, ◌<◌, true, replicate, if◌then◌else◌};
+ghost use Rattle.jk_scan.specs.Bits.{on};
 ghost use Rattle.jk_scan.specs.Neighbours.{Field};
+ghost use Rattle.jk_scan.specs.Words.{of_rows};
 ghost use Rattle.jk_scan.specs.WordPlaces.{column, row};
 ghost use Rattle.jk_scan.specs.Flags.{IsSized, IsDrawn};
 ghost use Rattle.jk_block.specs.Reading.{put};
@@ -26,7 +28,7 @@ pub fn unmarked() -> [u64; WORDS]
 
 impl Flags {
     ghost use Rattle.std.specs.Prelude.{Bool};
-    ghost use Rattle.jk_block.specs.Viewed.{Lights};
+    ghost use Rattle.jk_block.specs.Viewed.{Lights, with_word};
 
     /// No place is significant.
     pub fn new() -> Flags
@@ -46,19 +48,19 @@ impl Flags {
         self.visited = unmarked();
     }
 
-    /// Flags the place at bit k of a word as coded by the significance propagation pass.
+    /// Flags these places of a word as coded by the significance propagation pass.
     #[inline(always)]
-    pub fn visit(&mut self, shape: BlockShape, spot: Spot, k: u32)
+    pub fn visit_all(&mut self, shape: BlockShape, spot: Spot, places: u64)
         requires sized { IsSized shape }
         requires spot { IsSpot shape spot }
-        requires place { IsPlace shape spot k }
+        requires rows { (m : ℕ) → m < 64 → on places m ≡ true → of_rows (m % 8) ≡ true }
         ensures significant { self.new.significant ≡ self.old.significant }
         ensures visited { (f : Field Bool) → IsDrawn shape f self.old.visited
-            → IsDrawn shape (put f (column spot.word k) (row spot.stripe k) true) self.new.visited }
+            → IsDrawn shape (with_word f spot.word spot.stripe places) self.new.visited }
     {
         let at = word_place(shape, spot.word + 1, spot.stripe + 1);
         let visited = &mut self.visited;
-        visited[at] |= 1 << k;
+        visited[at] |= places;
     }
 
     /// The place at bit k of a word becomes significant.
@@ -75,17 +77,18 @@ impl Flags {
         significant[at] |= 1 << k;
     }
 
-    /// The place at bit k of a word becomes significant, if its bit is 1.
+    /// These places of a word become significant.
     #[inline(always)]
-    pub fn light_if(&mut self, shape: BlockShape, spot: Spot, k: u32, bit: bool)
+    pub fn light_all(&mut self, shape: BlockShape, spot: Spot, places: u64)
         requires sized { IsSized shape }
         requires spot { IsSpot shape spot }
-        requires place { IsPlace shape spot k }
-        ensures lights { Lights shape (column spot.word k) (row spot.stripe k) bit self.old self.new }
+        requires rows { (m : ℕ) → m < 64 → on places m ≡ true → of_rows (m % 8) ≡ true }
+        ensures lit { (f : Field Bool) → IsDrawn shape f self.old.significant
+            → IsDrawn shape (with_word f spot.word spot.stripe places) self.new.significant }
         ensures visited { self.new.visited ≡ self.old.visited }
     {
         let at = word_place(shape, spot.word + 1, spot.stripe + 1);
         let significant = &mut self.significant;
-        significant[at] |= (bit as u64) << k;
+        significant[at] |= places;
     }
 }

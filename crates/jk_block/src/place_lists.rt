@@ -16,7 +16,7 @@ ghost use Rattle.jk_block.specs.Sheets.{IsSheet, told};
 ghost use Rattle.jk_block.specs.Steps.{IsSpot, IsPlace};
 ghost use Rattle.jk_block.specs.Viewed.{seen, lit_at, negative_in, ShowsOnes, Lights, run_head};
 
-use crate::decisions::{DecisionList, put_one};
+use crate::decisions::{DecisionList, put_new, put_one};
 use crate::flags::Flags;
 use crate::plane::BlockPlane;
 use crate::spot::Spot;
@@ -106,38 +106,38 @@ pub fn list_new(
     Ok(bit)
 }
 
-/// The same of a place that the significance propagation pass codes, by what each place of its word has around it.
+/// The same of a place that the significance propagation pass codes, by what each place of its word has around it, put
+/// behind so many decisions.
 #[inline(always)]
 pub fn list_member(
     block: &BlockPlane<'_>,
-    flags: &mut Flags,
     spot: Spot,
     k: u32,
     rings: &[u64; 4],
     crosses: &[u64; 4],
     signs: Around,
     ones: u64,
-    list: &mut DecisionList,
-) -> Result<(), Fault>
+    bytes: &mut [u8],
+    count: usize,
+) -> usize
     requires spot { IsSpot block.now.shape spot }
     requires place { IsPlace block.now.shape spot k }
     requires signs { IsAround (bordered (negative_in block.now)) spot.word spot.stripe signs }
     requires crosses { IsCross (bordered (negative_in block.now)) (column spot.word k + 8) (row spot.stripe k + 4) (get_or crosses.now (k % 8 - 1) 0) (k / 8) 4 }
     requires ones { ShowsOnes block.now spot.word spot.stripe ones }
-    ensures lights { Lights block.now.shape (column spot.word k) (row spot.stripe k) (on ones k) flags.old flags.new }
-    ensures visited { (f : Field Bool) → IsDrawn block.now.shape f flags.old.visited
-        → IsDrawn block.now.shape (put f (column spot.word k) (row spot.stripe k) true) flags.new.visited }
-    ensures listed { IfOk result (λ _. (t : ℕ) → IsRing (bordered (lit_at block.now t)) (column spot.word k + 8) (row spot.stripe k + 4) (get_or rings.now (k % 8 - 1) 0) (k / 8)
+    requires room { IsSheet bytes.old (count + 2) }
+    ensures listed { (t : ℕ) → IsRing (bordered (lit_at block.now t)) (column spot.word k + 8) (row spot.stripe k + 4) (get_or rings.now (k % 8 - 1) 0) (k / 8)
         → IsCross (bordered (lit_at block.now t)) (column spot.word k + 8) (row spot.stripe k + 4) (get_or crosses.now (k % 8 - 1) 0) (k / 8) 0
-        → list.new ≡ list.old ++ new_decisions block.now.shape (seen block.now) t (column spot.word k) (row spot.stripe k)) }
-    ensures memory { IfErr result IsMemory }
+        → told bytes.new result ≡ told bytes.old count ++ new_decisions block.now.shape (seen block.now) t (column spot.word k) (row spot.stripe k) }
+    ensures few { result ≤ count + 2 }
+    ensures sheet { (n : ℕ) → IsSheet bytes.old n → IsSheet bytes.new n }
 {
     let bit = bit_of(ones, k);
-    flags.visit(block.shape, spot, k);
-    flags.light_if(block.shape, spot, k, bit);
     let context = zero_context_in(block.shape.kind, rings, k);
     let sign = sign_context_in(crosses, k);
-    list.push_new(
+    put_new(
+        bytes,
+        count,
         context,
         bit,
         sign.context,

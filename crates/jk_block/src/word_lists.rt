@@ -52,12 +52,18 @@ pub fn list_propagation(
     let signs = seen_around(own.negative, own.shape, spot.word, spot.stripe);
     let rings = ring_words(seen, around.own);
     let crosses = cross_words(seen, around.own, signs);
+    flags.visit_all(own.shape, spot, all);
+    flags.light_all(own.shape, spot, all & ones);
+    make_room(&mut list.bytes, list.count)?;
+    let bytes = &mut list.bytes[..];
+    let mut count = list.count;
     let mut left = all;
     while left != 0 {
         let k = left.trailing_zeros();
         left &= left - 1;
-        list_member(&own, flags, spot, k, &rings, &crosses, signs, ones, list)?;
+        count = list_member(&own, spot, k, &rings, &crosses, signs, ones, bytes, count);
     }
+    list.count = count;
     Ok(())
 }
 
