@@ -18,7 +18,7 @@ use Rattle.jk_block.specs.declared.flags.Flags.{Flags}
 use Rattle.jk_block.specs.declared.plane.BlockPlane.{BlockPlane}
 use Rattle.jk_block.specs.declared.spot.Spot.{Spot}
 use Rattle.jk_block.specs.Viewed.{seen, lit_at, spread_at, IsFlagged, moment_at}
-use Rattle.jk_block.proofs.Coming.{mag, mag_outside, Idle, Same, same_flags, same_lit, idle_to, Coming, coming_none, coming_skip, coming_place}
+use Rattle.jk_block.proofs.Coming.{mag, mag_outside, Idle, Same, same_flags, same_lit, idle_to, Told, told_none, told_skip, told_place}
 use Rattle.jk_block.proofs.Listed.{place_next}
 use Rattle.jk_block.proofs.Remaining.{is_run}
 use Rattle.jk_block.proofs.Seeing.{is_due}
@@ -26,9 +26,9 @@ use Rattle.jk_block.proofs.Spreading.{place_shifted}
 use Rattle.jk_block.proofs.Testing.{older_codes, due_inside}
 use Rattle.jk_block.proofs.Timing.{codes, moment_place, moment_range}
 
-pub record Refined (v : BlockPlane) (at : Spot) (flags : Flags) (old list : Decided) (seen_near candidates : ℕ) : Type 0 where
+pub record Refined (v : BlockPlane) (at : Spot) (old list : Decided) (seen_near candidates : ℕ) : Type 0 where
   pub n : ℕ
-  pub coming : Coming v 1 at n flags old list
+  pub coming : Told v 1 at n old list
   pub near : (m : ℕ) → m < 64 → of_rows (m % 8) ≡ true → on seen_near m ≡ touched (lit_at v (moment_at v.shape 1 at.word at.stripe n)) (column at.word m) (row at.stripe m)
   pub awaits : (m : ℕ) → m < 64 → on candidates m ≡ (nat_le n m && codes v.shape (mag v) 1 at.word at.stripe m)
 
@@ -42,12 +42,11 @@ older_is v j i word narrow stripe older m l =
     let b = moment_range v.shape 1 j i narrow stripe in
     older m l ∙ older_codes v.shape (mag v) (moment_at v.shape 1 j i 0) j i m (mag_outside v) (let b0 = b.0 in omega (arith, b0)) (let b1 = b.1 in omega (arith, b1))
 
-pub refined_none : (v : BlockPlane) (at : Spot) (flags : Flags) (list : Decided) (w candidates : ℕ) → 8 * at.word < v.shape.width → at.stripe < stripes v.shape → IsFlagged v (moment_at v.shape 1 at.word at.stripe 0) flags
-    → ShowsAt of_rows (near (bordered (lit_at v (moment_at v.shape 1 at.word at.stripe 0)))) (at.word + 1) (at.stripe + 1) w
-    → ShowsOlder v at.word at.stripe (moment_at v.shape 1 at.word at.stripe 0) candidates → Refined v at flags list list w candidates
-refined_none v at flags list w candidates narrow stripe flagged shown older = record {
+pub refined_none : (v : BlockPlane) (at : Spot) (list : Decided) (w candidates : ℕ) → 8 * at.word < v.shape.width → at.stripe < stripes v.shape → ShowsAt of_rows (near (bordered (lit_at v (moment_at v.shape 1 at.word at.stripe 0)))) (at.word + 1) (at.stripe + 1) w
+    → ShowsOlder v at.word at.stripe (moment_at v.shape 1 at.word at.stripe 0) candidates → Refined v at list list w candidates
+refined_none v at list w candidates narrow stripe shown older = record {
   n = 0;
-  coming = coming_none v 1 at flags list stripe flagged;
+  coming = told_none v 1 at list stripe;
   near = λ m l e.
       let f = lit_at v (moment_at v.shape 1 at.word at.stripe 0) in
       let shifted = place_shifted at.word at.stripe m e in
@@ -86,6 +85,9 @@ idle v j i m = record {
 pub still_lit : (v : BlockPlane) (j i n m : ℕ) → i < stripes v.shape → n ≤ m → Same v (moment_at v.shape 1 j i n) (moment_at v.shape 1 j i m)
 still_lit v j i n m stripe le = idle_to v 1 j i n m stripe le (λ l a b. idle v j i l)
 
+pub still_flagged : (v : BlockPlane) (at : Spot) (flags : Flags) → at.stripe < stripes v.shape → IsFlagged v (moment_at v.shape 1 at.word at.stripe 0) flags → IsFlagged v (moment_at v.shape 1 at.word at.stripe 64) flags
+still_flagged v at flags stripe h = same_flags v (moment_at v.shape 1 at.word at.stripe 0) (moment_at v.shape 1 at.word at.stripe 64) flags (still_lit v at.word at.stripe 0 64 stripe (omega arith)) h
+
 no_run : (s : BlockShape) (a : Field ℕ) (j i c : ℕ) → is_run s a 1 j i c ≡ false
 no_run s a j i c = none (nat_lt (8 * j + c) s.width)
   where
@@ -97,30 +99,30 @@ none_before : (a p q : Bool) → a ≡ false → a ≡ (p && q) → p ≡ true �
 none_before a p q e g h = grind (arith, nat_tests)
 
 -- a word with no such place
-pub refined_empty : (v : BlockPlane) (at : Spot) (flags : Flags) (list : Decided) (candidates : ℕ) → 8 * at.word < v.shape.width → at.stripe < stripes v.shape → IsFlagged v (moment_at v.shape 1 at.word at.stripe 0) flags
-    → ShowsOlder v at.word at.stripe (moment_at v.shape 1 at.word at.stripe 0) candidates → candidates ≡ 0 → Coming v 1 at 64 flags list list
-refined_empty v at flags list candidates narrow stripe flagged older empty =
-    coming_skip v 1 at 0 64 flags list list (coming_none v 1 at flags list stripe flagged) (omega arith) (omega arith) (λ m a b. record {
+pub refined_empty : (v : BlockPlane) (at : Spot) (list : Decided) (candidates : ℕ) → 8 * at.word < v.shape.width → at.stripe < stripes v.shape → ShowsOlder v at.word at.stripe (moment_at v.shape 1 at.word at.stripe 0) candidates
+    → candidates ≡ 0 → Told v 1 at 64 list list
+refined_empty v at list candidates narrow stripe older empty =
+    told_skip v 1 at 0 64 list list (told_none v 1 at list stripe) (omega arith) (omega arith) (λ m a b. record {
       plain = λ _. no_run v.shape (mag v) at.word at.stripe (m / 8);
       idle = sym (older_is v at.word at.stripe candidates narrow stripe older m b) ∙ ap (λ w. on w m) empty ∙ on_zero m;
     })
 
-refined_to : (v : BlockPlane) (at : Spot) (flags : Flags) (old list : Decided) (s w : ℕ) (st : Refined v at flags old list s w) (z : ℕ) → st.n ≤ z → z ≤ 64 → ((m : ℕ) → m < z → on w m ≡ false) → Coming v 1 at z flags old list
-refined_to v at flags old list s w st z le most clear =
-    coming_skip v 1 at st.n z flags old list st.coming le most (λ m a b. record {
+refined_to : (v : BlockPlane) (at : Spot) (old list : Decided) (s w : ℕ) (st : Refined v at old list s w) (z : ℕ) → st.n ≤ z → z ≤ 64 → ((m : ℕ) → m < z → on w m ≡ false) → Told v 1 at z old list
+refined_to v at old list s w st z le most clear =
+    told_skip v 1 at st.n z old list st.coming le most (λ m a b. record {
       plain = λ _. no_run v.shape (mag v) at.word at.stripe (m / 8);
       idle = none_before (on w m) (nat_le st.n m) (codes v.shape (mag v) 1 at.word at.stripe m) (clear m b) (st.awaits m (omega (arith, b, most))) (let g : nat_le st.n m ≡ true = grind (arith, nat_tests) in g);
     })
 
 -- the next place that is coded
-pub record NextOlder (v : BlockPlane) (at : Spot) (flags : Flags) (old list : Decided) (n z : ℕ) : Type 0 where
+pub record NextOlder (v : BlockPlane) (at : Spot) (old list : Decided) (n z : ℕ) : Type 0 where
   pub onward : n ≤ z
   pub place : IsPlace v.shape at z
   pub due : codes v.shape (mag v) 1 at.word at.stripe z ≡ true
-  pub coming : Coming v 1 at z flags old list
+  pub coming : Told v 1 at z old list
 
-pub refined_next : (v : BlockPlane) (at : Spot) (flags : Flags) (old list : Decided) (s w : ℕ) (st : Refined v at flags old list s w) → 0 < w → w < 2 ^ 64 → NextOlder v at flags old list st.n (trailing_zeros w64 w)
-refined_next v at flags old list s w st p q =
+pub refined_next : (v : BlockPlane) (at : Spot) (old list : Decided) (s w : ℕ) (st : Refined v at old list s w) → 0 < w → w < 2 ^ 64 → NextOlder v at old list st.n (trailing_zeros w64 w)
+refined_next v at old list s w st p q =
     let z = trailing_zeros w64 w in
     let j = at.word in
     let i = at.stripe in
@@ -133,7 +135,7 @@ refined_next v at flags old list s w st p q =
       onward = onward;
       place = record { within = l.0; on_row = parts.0; inside = (due_inside v.shape (mag v) 1 (column j z) (row i z) parts.1).0 };
       due = both.1;
-      coming = refined_to v at flags old list s w st z onward (omega (arith, within)) l.2;
+      coming = refined_to v at old list s w st z onward (omega (arith, within)) l.2;
     }
 
 next_place : (v : BlockPlane) (j i z : ℕ) (list list' : Decided) → codes v.shape (mag v) 1 j i z ≡ true → list' ≡ list ++ refining_decision v.shape (seen v) (moment_at v.shape 1 j i z) (column j z) (row i z) ∷ []
@@ -147,26 +149,25 @@ next_place v j i z list list' due h =
 step_on : (z m : ℕ) (rest n due : Bool) (k : ℕ) → k ≤ z → rest ≡ (nat_le (z + 1) m && n) → n ≡ (nat_le k m && due) → rest ≡ (nat_le (z + 1) m && due)
 step_on z m rest n due k h a b = grind (arith, nat_tests)
 
-pub refined_one : (v : BlockPlane) (at : Spot) (flags : Flags) (old list list' : Decided) (s w : ℕ) (st : Refined v at flags old list s w) → 0 < w → w < 2 ^ 64
+pub refined_one : (v : BlockPlane) (at : Spot) (old list list' : Decided) (s w : ℕ) (st : Refined v at old list s w) → 0 < w → w < 2 ^ 64
     → ((t : ℕ) → on s (trailing_zeros w64 w) ≡ touched (lit_at v t) (column at.word (trailing_zeros w64 w)) (row at.stripe (trailing_zeros w64 w))
-    → list' ≡ list ++ refining_decision v.shape (seen v) t (column at.word (trailing_zeros w64 w)) (row at.stripe (trailing_zeros w64 w)) ∷ []) → Refined v at flags old list' s (bit_and w (w - 1))
-refined_one v at flags old list list' s w st p q listed =
+    → list' ≡ list ++ refining_decision v.shape (seen v) t (column at.word (trailing_zeros w64 w)) (row at.stripe (trailing_zeros w64 w)) ∷ []) → Refined v at old list' s (bit_and w (w - 1))
+refined_one v at old list list' s w st p q listed =
     let z = trailing_zeros w64 w in
     let j = at.word in
     let i = at.stripe in
-    let next = refined_next v at flags old list s w st p q in
+    let next = refined_next v at old list s w st p q in
     let stripe = next.coming.stripe in
     let near : (n : ℕ) → st.n ≤ n → (m : ℕ) → m < 64 → of_rows (m % 8) ≡ true → on s m ≡ touched (lit_at v (moment_at v.shape 1 j i n)) (column j m) (row i m) = λ n le m l e.
     st.near m l e ∙ sym (ap (λ (f : Field Bool). touched f (column j m) (row i m)) (same_lit v (moment_at v.shape 1 j i st.n) (moment_at v.shape 1 j i n) (still_lit v j i st.n n stripe le))) in
     let onward = next.onward in
     record {
       n = z + 1;
-      coming = coming_place v 1 at z flags flags old list list' next.coming next.place
-          (same_flags v (moment_at v.shape 1 j i z) (moment_at v.shape 1 j i (z + 1)) flags (still_lit v j i z (z + 1) stripe (omega arith)) next.coming.flagged)
+      coming = told_place v 1 at z old list list' next.coming next.place
           (next_place v j i z list list' next.due (listed (moment_at v.shape 1 j i z) (near z onward z next.place.within next.place.on_row)));
       near = near (z + 1) (omega (arith, onward));
       awaits = λ m h. step_on z m (on (bit_and w (w - 1)) m) (on w m) (codes v.shape (mag v) 1 j i m) st.n onward (rest_at w p q m) (st.awaits m h);
     }
 
-pub refined_all : (v : BlockPlane) (at : Spot) (flags : Flags) (old list : Decided) (s w : ℕ) → Refined v at flags old list s w → w ≡ 0 → Coming v 1 at 64 flags old list
-refined_all v at flags old list s w st empty = refined_to v at flags old list s w st 64 st.coming.most (omega arith) (λ m l. ap (λ w. on w m) empty ∙ on_zero m)
+pub refined_all : (v : BlockPlane) (at : Spot) (old list : Decided) (s w : ℕ) → Refined v at old list s w → w ≡ 0 → Told v 1 at 64 old list
+refined_all v at old list s w st empty = refined_to v at old list s w st 64 st.coming.most (omega arith) (λ m l. ap (λ w. on w m) empty ∙ on_zero m)

@@ -7,27 +7,22 @@ use Rattle.jk_scan.specs.WordPlaces.{column, row}
 use Rattle.jk_scan.proofs.Laws.{sooner_zero}
 use Rattle.jk_block.specs.Sheets.{told}
 use Rattle.jk_block.specs.Viewed.{seen, lit_at, moment_at}
-use Rattle.jk_block.proofs.Coming.{coming_all}
-use Rattle.jk_block.proofs.Refined.{Refined, refined_none, refined_empty, refined_next, refined_one, refined_all}
+use Rattle.jk_block.proofs.Coming.{told_all}
+use Rattle.jk_block.proofs.Refined.{Refined, still_flagged, refined_none, refined_empty, refined_next, refined_one, refined_all}
 use Rattle.jk_block.proofs.Sheeted.{sheet_at, sheet_less, told_at, told_whole}
 use Rattle.jk_block.proofs.Slicing.{one_at}
 use Rattle.jk_block.proofs.word_lists.list_refinement.Goals as goal
 
 pub returns-then-candidates-eq0-clause-flagged : goal.returns-then-candidates-eq0-clause-flagged
-returns-then-candidates-eq0-clause-flagged c =
-    let v = c.args.block.now in
-    let at = c.args.spot in
-    let word = c.requires.spot.word in
-    (refined_empty v at c.args.flags.now c.args.list.now c.older-candidates.result (omega (arith, word)) c.requires.spot.stripe c.requires.flagged
-    (c.older-candidates.ensures (moment_at v.shape 1 at.word at.stripe 0) c.requires.flagged) c.if-candidates-eq0.true).flagged
+returns-then-candidates-eq0-clause-flagged c = still_flagged c.args.block.now c.args.spot c.args.flags.now c.requires.spot.stripe c.requires.flagged
 
 pub returns-then-candidates-eq0-clause-listed : goal.returns-then-candidates-eq0-clause-listed
 returns-then-candidates-eq0-clause-listed c =
     let v = c.args.block.now in
     let at = c.args.spot in
     let word = c.requires.spot.word in
-    coming_all v 1 at c.args.flags.now c.args.list.now c.args.list.now
-    (refined_empty v at c.args.flags.now c.args.list.now c.older-candidates.result (omega (arith, word)) c.requires.spot.stripe c.requires.flagged
+    told_all v 1 at c.args.list.now c.args.list.now
+    (refined_empty v at c.args.list.now c.older-candidates.result (omega (arith, word)) c.requires.spot.stripe
     (c.older-candidates.ensures (moment_at v.shape 1 at.word at.stripe 0) c.requires.flagged) c.if-candidates-eq0.true)
 
 pub loop-candidates-init : goal.loop-candidates-init
@@ -44,9 +39,9 @@ loop-candidates-init c =
     let bytes = c.make_room.new.bytes.items in
     let slice = c.deref_mut.result.now in
     record {
-      refined = subst (λ ds. Refined v at c.args.flags.now c.args.list.now ds c.touched_places-touched.result c.older-candidates.result)
+      refined = subst (λ ds. Refined v at c.args.list.now ds c.touched_places-touched.result c.older-candidates.result)
           (sym (told_at old bytes slice n c.args.list.now c.list.view_is made.told c.deref_mut.ensures.value))
-          (refined_none v at c.args.flags.now c.args.list.now c.touched_places-touched.result c.older-candidates.result (omega (arith, word)) c.requires.spot.stripe c.requires.flagged
+          (refined_none v at c.args.list.now c.touched_places-touched.result c.older-candidates.result (omega (arith, word)) c.requires.spot.stripe
           (c.touched_places-touched.ensures (bordered f) at.word at.stripe around.own around.left around.right) (c.older-candidates.ensures t c.requires.flagged));
       room = sheet_at bytes slice (n + 136) (n + (64 - trailing_zeros w64 c.older-candidates.result)) c.deref_mut.ensures.value made.room (omega arith);
     }
@@ -62,10 +57,10 @@ loop-candidates-preserved c =
     let k = trailing_zeros w64 l.candidates in
     let next = c.list_next-count in
     let list = told l.bytes l.count in
-    let place = (refined_next v at c.args.flags.now c.args.list.now list c.touched_places-touched.result l.candidates l.invariant.refined (omega arith) (omega arith)).place in
+    let place = (refined_next v at c.args.list.now list c.touched_places-touched.result l.candidates l.invariant.refined (omega arith) (omega arith)).place in
     let less = sooner_zero l.candidates (omega arith) (omega arith) in
     record {
-      refined = refined_one v at c.args.flags.now c.args.list.now list (told next.new.bytes next.result) c.touched_places-touched.result l.candidates l.invariant.refined (omega arith) (omega arith)
+      refined = refined_one v at c.args.list.now list (told next.new.bytes next.result) c.touched_places-touched.result l.candidates l.invariant.refined (omega arith) (omega arith)
           (λ t near. next.ensures.listed v.shape (seen v) t (column at.word k) (row at.stripe k)
           (c.bit_of.ensures ∙ c.refined_places-refined.ensures k place.within ∙ ap (λ b. b && nat_le 4 ((seen v).magnitude (column at.word k) (row at.stripe k))) place.on_row)
           (c.bit_of-in-loop-candidates.ensures ∙ near) (c.bit_of-in-loop-candidates-2.ensures ∙ one_at v at k c.ones-ones.result place c.ones-ones.ensures));
@@ -74,14 +69,12 @@ loop-candidates-preserved c =
     }
 
 pub returns-clause-flagged : goal.returns-clause-flagged
-returns-clause-flagged c =
-    let l = c.loop-candidates in
-    (refined_all c.args.block.now c.args.spot c.args.flags.now c.args.list.now (told l.bytes l.count) c.touched_places-touched.result l.candidates l.invariant.refined (omega arith)).flagged
+returns-clause-flagged c = still_flagged c.args.block.now c.args.spot c.args.flags.now c.requires.spot.stripe c.requires.flagged
 
 pub returns-clause-listed : goal.returns-clause-listed
 returns-clause-listed c =
     let l = c.loop-candidates in
     let vector = c.make_room.new.bytes in
     told_whole vector.items l.bytes vector.len l.count (omega arith)
-    ∙ coming_all c.args.block.now 1 c.args.spot c.args.flags.now c.args.list.now (told l.bytes l.count)
-    (refined_all c.args.block.now c.args.spot c.args.flags.now c.args.list.now (told l.bytes l.count) c.touched_places-touched.result l.candidates l.invariant.refined (omega arith))
+    ∙ told_all c.args.block.now 1 c.args.spot c.args.list.now (told l.bytes l.count)
+    (refined_all c.args.block.now c.args.spot c.args.list.now (told l.bytes l.count) c.touched_places-touched.result l.candidates l.invariant.refined (omega arith))

@@ -6,7 +6,7 @@ use Rattle.jk_block.proofs.word_lists.list_refinement.Given as goal
 
 abbrev pub invariant-loop-candidates : goal.invariant-loop-candidates
 invariant-loop-candidates l = record {
-  refined : Refined l.block l.fn.spot l.flags l.fn.list (told l.bytes l.count) l.touched l.candidates;
+  refined : Refined l.block l.fn.spot l.fn.list (told l.bytes l.count) l.touched l.candidates;
   room : IsSheet l.bytes (l.count + (64 - trailing_zeros w64 l.candidates));
 }
 
