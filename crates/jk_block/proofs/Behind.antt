@@ -1,5 +1,5 @@
 -- What words show behind a pass of a word.
-use Rattle.std.proofs.Common.{◌≡◌, ℕ, zero, suc, ◌+◌, ◌-◌, ◌*◌, ◌/◌, ◌%◌, ◌<◌, ◌≤◌, Bool, true, false, refl, sym, ap, ◌∙◌, arith}
+use Rattle.std.proofs.Common.{◌≡◌, ℕ, zero, suc, ◌+◌, ◌-◌, ◌*◌, ◌/◌, ◌%◌, ◌<◌, ◌≤◌, Bool, true, false, refl, sym, ap, ◌∙◌, subst, arith}
 use Rattle.std.specs.Prelude.{◌&&◌, ◌||◌, nat_eq, nat_lt}
 use Rattle.std.specs.Int.RustNames.{bit_and}
 use Rattle.std.proofs.lemmas.Bool.Decides.{nat_tests}
@@ -104,6 +104,9 @@ first_two : (a b c : Bool) → ((a && b) && c) ≡ true → a ≡ true
 first_two true b c e = refl
 first_two false b c e = absurd cc
 
+pub becoming_row : (v : BlockPlane) (pass j i k : ℕ) → becomes v pass j i k ≡ true → of_rows (k % 8) ≡ true
+becoming_row v pass j i k e = first_two (of_rows (k % 8)) (is_due v.shape (mag v) pass (column j k) (row i k)) (nat_eq (mag v (column j k) (row i k)) 1) e
+
 -- the flags behind the significance propagation pass
 pub flagged_spread : (v : BlockPlane) (at : Spot) (places ones : ℕ) (old new : Flags) → at.stripe < stripes v.shape → ((m : ℕ) → m < 64 → on places m ≡ codes v.shape (mag v) 0 at.word at.stripe m) → ShowsOnes v at.word at.stripe ones
     → IsFlagged v (moment_at v.shape 0 at.word at.stripe 0) old
@@ -113,7 +116,7 @@ pub flagged_spread : (v : BlockPlane) (at : Spot) (places ones : ℕ) (old new :
 flagged_spread v at places ones old new stripe places_are ones_are flagged lit coded = record {
   lit = drawn_same v.shape (with_word (lit_at v (t 0)) j i (bit_and places ones)) (lit_at v (t 64)) new.significant
       (λ x y. sym (taken_all (λ n. lit_at v (t n)) (becomes v 0 j i) j i (bit_and places ones) (λ n x y. lit_bit v.shape (mag v) 0 j i n (mag_outside v) stripe x y)
-      (λ m e. first_two (of_rows (m % 8)) (is_due v.shape (mag v) 0 (column j m) (row i m)) (nat_eq (mag v (column j m) (row i m)) 1) e) (becoming v 0 j i places ones refl places_are ones_are) x y))
+      (becoming_row v 0 j i) (becoming v 0 j i places ones refl places_are ones_are) x y))
       (lit (lit_at v (t 0)) flagged.lit);
   coded = drawn_same v.shape (with_word (spread_at v (t 0)) j i places) (spread_at v (t 64)) new.visited
       (λ x y. sym (taken_all (λ n. spread_at v (t n)) (λ m. codes v.shape (mag v) 0 j i m && true) j i places (λ n x y. spread_bit v.shape (mag v) 0 j i n stripe x y)
@@ -132,3 +135,37 @@ flagged_spread v at places ones old new stripe places_are ones_are flagged lit c
 
     same : (b : Bool) → b ≡ (b && true)
     same b = grind (arith, nat_tests)
+
+-- The cleanup pass doesn't touch what the significance propagation pass has coded.
+spread_kept : (v : BlockPlane) (at : Spot) → at.stripe < stripes v.shape → (x y n : ℕ) → spread_at v (moment_at v.shape 2 at.word at.stripe n) x y ≡ spread_at v (moment_at v.shape 2 at.word at.stripe 0) x y
+spread_kept v at stripe x y zero = refl
+spread_kept v at stripe x y (suc n) =
+    ap (λ k. spread_at v (moment_at v.shape 2 at.word at.stripe k) x y) (let e : suc n ≡ n + 1 = omega arith in e)
+    ∙ spread_bit v.shape (mag v) 2 at.word at.stripe n stripe x y
+    ∙ kept (spread_at v (moment_at v.shape 2 at.word at.stripe n) x y) (codes v.shape (mag v) 2 at.word at.stripe n) (here (column at.word n) (row at.stripe n) x y)
+    ∙ spread_kept v at stripe x y n
+  where
+    kept : (f c h : Bool) → (f || ((c && false) && h)) ≡ f
+    kept f c h = grind (arith, nat_tests)
+
+-- the flags behind the cleanup pass
+pub flagged_left : (v : BlockPlane) (at : Spot) (places ones : ℕ) (old new : Flags) → at.stripe < stripes v.shape → ((m : ℕ) → m < 64 → on places m ≡ codes v.shape (mag v) 2 at.word at.stripe m) → ShowsOnes v at.word at.stripe ones
+    → IsFlagged v (moment_at v.shape 2 at.word at.stripe 0) old
+    → ((f : Field Bool) → IsDrawn v.shape f old.significant → IsDrawn v.shape (with_word f at.word at.stripe (bit_and places ones)) new.significant) → new.visited ≡ old.visited
+    → IsFlagged v (moment_at v.shape 2 at.word at.stripe 64) new
+flagged_left v at places ones old new stripe places_are ones_are flagged lit visited = record {
+  lit = drawn_same v.shape (with_word (lit_at v (t 0)) j i (bit_and places ones)) (lit_at v (t 64)) new.significant
+      (λ x y. sym (taken_all (λ n. lit_at v (t n)) (becomes v 2 j i) j i (bit_and places ones) (λ n x y. lit_bit v.shape (mag v) 2 j i n (mag_outside v) stripe x y)
+      (becoming_row v 2 j i) (becoming v 2 j i places ones refl places_are ones_are) x y))
+      (lit (lit_at v (t 0)) flagged.lit);
+  coded = drawn_same v.shape (spread_at v (t 0)) (spread_at v (t 64)) new.visited (λ x y. sym (spread_kept v at stripe x y 64)) (subst (λ ws. IsDrawn v.shape (spread_at v (t 0)) ws) (sym visited) flagged.coded);
+}
+  where
+    j : ℕ
+    j = at.word
+
+    i : ℕ
+    i = at.stripe
+
+    t : ℕ → ℕ
+    t n = moment_at v.shape 2 j i n

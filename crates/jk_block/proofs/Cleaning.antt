@@ -60,11 +60,11 @@ pub second : (r d : Bool) → (r && d) ≡ false → r ≡ true → d ≡ false
 second true d e h = e
 second false d e h = absurd cc
 
-pub neither : (a b : Bool) → (a || b) ≡ false → (a ≡ false) × (b ≡ false)
+neither : (a b : Bool) → (a || b) ≡ false → (a ≡ false) × (b ≡ false)
 neither true b e = absurd cc
 neither false b e = (refl, e)
 
-pub one_of : (a b : Bool) → (a || b) ≡ true → b ≡ false → a ≡ true
+one_of : (a b : Bool) → (a || b) ≡ true → b ≡ false → a ≡ true
 one_of true b e h = refl
 one_of false b e h = let c : true ≡ false = sym e ∙ h in absurd cc
 
@@ -99,7 +99,7 @@ pub record NextLeft (at : Spot) (k0 k : Sketch) (v0 v : View) (left z : ℕ) : T
   pub going : Going 2 at z k0 k v0 v
   pub set : on left z ≡ true
 
-pub clear_below : (left still : ℕ) → 0 < bit_or left still → bit_or left still < 2 ^ 64 → (m : ℕ) → m < trailing_zeros w64 (bit_or left still) → (on left m ≡ false) × (on still m ≡ false)
+clear_below : (left still : ℕ) → 0 < bit_or left still → bit_or left still < 2 ^ 64 → (m : ℕ) → m < trailing_zeros w64 (bit_or left still) → (on left m ≡ false) × (on still m ≡ false)
 clear_below left still p q m h = let l = lowest (bit_or left still) p q in neither (on left m) (on still m) (sym (on_or left still m) ∙ l.2 m h)
 
 pub next_left : (at : Spot) (k0 k : Sketch) (v0 v : View) (seen : Around) (left still : ℕ) (st : Cleaning at k0 k v0 v seen left still) → 0 < bit_or left still → bit_or left still < 2 ^ 64
@@ -129,16 +129,16 @@ pub record NextRun (at : Spot) (k0 k : Sketch) (v0 v : View) (z : ℕ) : Type 0 
   pub run : is_still k.shape (lit_in k) at.word at.stripe (z / 8) ≡ true
   pub going : Going 2 at (z - 1) k0 k v0 v
 
-pub high_enough : (s : BlockShape) (f : Field Bool) (x i : ℕ) → is_quiet s f x i ≡ true → 4 * i + 4 ≤ s.height
+high_enough : (s : BlockShape) (f : Field Bool) (x i : ℕ) → is_quiet s f x i ≡ true → 4 * i + 4 ≤ s.height
 unfolding is_quiet
 high_enough s f x i h =
     let q : ℕ → Bool = λ j. not (f x (4 * i + j)) && not (touched f x (4 * i + j)) in
     true_le (4 * i + 4) s.height (and_parts (nat_le (4 * i + 4) s.height) ((q 0 && q 1) && (q 2 && q 3)) h).0
 
-pub both_true : (a b : Bool) → a ≡ true → b ≡ true → (a && b) ≡ true
+both_true : (a b : Bool) → a ≡ true → b ≡ true → (a && b) ≡ true
 both_true a b e g = cc
 
-pub lt_true : (a b : ℕ) → a < b → nat_lt a b ≡ true
+lt_true : (a b : ℕ) → a < b → nat_lt a b ≡ true
 lt_true a b h = grind (arith, nat_tests)
 
 pub is_one_number : (a : ℕ) → nat_eq a 1 ≡ true → a ≡ 1
@@ -324,7 +324,7 @@ not_lt : (a b : ℕ) → b ≤ a → nat_lt a b ≡ false
 not_lt a b h = grind (arith, nat_tests)
 
 -- the loop comes to an end: the lowest bit goes up
-pub sooner_place : (left still still' : ℕ) → 0 < bit_or left still → bit_or left still < 2 ^ 64 → left < 2 ^ 64 → still' < 2 ^ 64
+sooner_place : (left still still' : ℕ) → 0 < bit_or left still → bit_or left still < 2 ^ 64 → left < 2 ^ 64 → still' < 2 ^ 64
     → on left (trailing_zeros w64 (bit_or left still)) ≡ true → on still (trailing_zeros w64 (bit_or left still)) ≡ false → ((m : ℕ) → on still m ≡ false → on still' m ≡ false)
     → 64 - trailing_zeros w64 (bit_or (bit_and left (left - 1)) still') < 64 - trailing_zeros w64 (bit_or left still)
 sooner_place left still still' p q lim lim' set off fewer =

@@ -1,5 +1,5 @@
 -- How far a word is listed in a pass.
-use Rattle.std.proofs.Common.{◌≡◌, ℕ, zero, suc, ◌+◌, ◌-◌, ◌/◌, ◌%◌, ◌<◌, ◌≤◌, Bool, true, false, cond, ◌++◌, refl, sym, ap, ◌∙◌, subst, append_assoc, append-nil, arith}
+use Rattle.std.proofs.Common.{◌≡◌, ℕ, zero, suc, ◌+◌, ◌-◌, ◌/◌, ◌%◌, ◌<◌, ◌≤◌, Bool, true, false, ◌++◌, refl, sym, ap, ◌∙◌, subst, append_assoc, append-nil, arith}
 use Rattle.std.specs.Prelude.{◌&&◌, ◌||◌, nat_eq}
 use Rattle.std.proofs.lemmas.Bool.{and_parts}
 use Rattle.std.proofs.lemmas.Bool.Decides.{nat_tests}
@@ -8,14 +8,13 @@ use Rattle.jk_scan.specs.Moments.{stripes}
 use Rattle.jk_scan.specs.Passes.{Decided, place_decisions}
 use Rattle.jk_scan.specs.Words.{of_rows}
 use Rattle.jk_scan.specs.WordPlaces.{column, row}
-use Rattle.jk_scan.specs.Flags.{IsDrawn}
 use Rattle.jk_scan.proofs.Laws.{same_field, drawn_same}
 use Rattle.jk_block.specs.Meaning.{value_in}
 use Rattle.jk_block.specs.Steps.{IsPlace}
 use Rattle.jk_block.specs.declared.flags.Flags.{Flags}
 use Rattle.jk_block.specs.declared.plane.BlockPlane.{BlockPlane}
 use Rattle.jk_block.specs.declared.spot.Spot.{Spot}
-use Rattle.jk_block.specs.Viewed.{seen, lit_at, spread_at, IsFlagged, Lights, put_if, moment_at, word_decisions}
+use Rattle.jk_block.specs.Viewed.{seen, lit_at, spread_at, IsFlagged, moment_at, word_decisions}
 use Rattle.jk_block.proofs.Remaining.{remaining_at, remaining_all, remaining_none, remaining_place, Rests, rest, is_run}
 use Rattle.jk_block.proofs.Seeing.{is_due}
 use Rattle.jk_block.proofs.Timing.{here, codes, lit_bit, spread_bit}
@@ -107,7 +106,7 @@ pub record Passes (v : BlockPlane) (pass j i k : ℕ) : Type 0 where
   pub plain : k % 8 ≡ 0 → is_run v.shape (mag v) pass j i (k / 8) ≡ false
   pub idle : codes v.shape (mag v) pass j i k ≡ false
 
-rests_of : (v : BlockPlane) (pass j i k : ℕ) → Passes v pass j i k → Rests v.shape (mag v) pass j i (k / 8) (k % 8)
+pub rests_of : (v : BlockPlane) (pass j i k : ℕ) → Passes v pass j i k → Rests v.shape (mag v) pass j i (k / 8) (k % 8)
 rests_of v pass j i k p = record {
   plain = p.plain;
   idle = λ a b. second (of_rows (k % 8)) (is_due v.shape (mag v) pass (column j k) (row i k)) p.idle (on_rows (k % 8) a b);
@@ -137,48 +136,6 @@ coming_skip v pass at n m flags old list c le most p =
     (same_flags v (moment_at v.shape pass at.word at.stripe n) (moment_at v.shape pass at.word at.stripe m) flags
     (idle_to v pass at.word at.stripe n m c.stripe le (λ l a b. idle_none v pass at.word at.stripe l (p l a b).idle)) c.flagged)
 
--- The words after a place was coded.
-pub flagged_place : (v : BlockPlane) (pass j i k : ℕ) (bit : Bool) (old new : Flags) → i < stripes v.shape → codes v.shape (mag v) pass j i k ≡ true → bit ≡ nat_eq (mag v (column j k) (row i k)) 1
-    → Lights v.shape (column j k) (row i k) bit old new → IsFlagged v (moment_at v.shape pass j i k) old
-    → IsDrawn v.shape (put_if (nat_eq pass 0) (spread_at v (moment_at v.shape pass j i k)) (column j k) (row i k) true) new.visited → IsFlagged v (moment_at v.shape pass j i (k + 1)) new
-unfolding here
-flagged_place v pass j i k bit old new stripe due e lights h drawn = record {
-  lit = drawn_same v.shape (put_if bit (lit_at v t) x y true) (lit_at v u) new.significant
-      (λ x' y'. puts bit (lit_at v t) x' y' ∙ sym (lit_bit v.shape (mag v) pass j i k (mag_outside v) stripe x' y' ∙ ap (λ d. lit_at v t x' y' || (d && here x y x' y')) (both (codes v.shape (mag v) pass j i k) (nat_eq (mag v x y) 1) bit due e)))
-      (lights.lit (lit_at v t) h.lit);
-  coded = drawn_same v.shape (put_if (nat_eq pass 0) (spread_at v t) x y true) (spread_at v u) new.visited
-      (λ x' y'. puts (nat_eq pass 0) (spread_at v t) x' y' ∙ sym (spread_bit v.shape (mag v) pass j i k stripe x' y' ∙ ap (λ d. spread_at v t x' y' || (d && here x y x' y')) (first (codes v.shape (mag v) pass j i k) (nat_eq pass 0) due)))
-      drawn;
-}
-  where
-    x : ℕ
-    x = column j k
-
-    y : ℕ
-    y = row i k
-
-    t : ℕ
-    t = moment_at v.shape pass j i k
-
-    u : ℕ
-    u = moment_at v.shape pass j i (k + 1)
-
-    both : (c d b : Bool) → c ≡ true → b ≡ d → (c && d) ≡ b
-    both c d b e f = ap (λ c. c && d) e ∙ sym f
-
-    first : (c d : Bool) → c ≡ true → (c && d) ≡ d
-    first c d e = ap (λ c. c && d) e
-
-    puts : (b : Bool) (f : Field Bool) (x' y' : ℕ) → put_if b f x y true x' y' ≡ (f x' y' || (b && here x y x' y'))
-    puts true f x' y' = by (nat_eq x' x && nat_eq y' y) (f x' y')
-      where
-        by : (h g : Bool) → cond h true g ≡ (g || (true && h))
-        by h g = grind (arith, nat_tests)
-    puts false f x' y' = by (nat_eq x' x && nat_eq y' y) (f x' y')
-      where
-        by : (h g : Bool) → g ≡ (g || (false && h))
-        by h g = grind (arith, nat_tests)
-
 pub append_both : (a b c d e : Decided) → a ≡ b ++ d → d ≡ c ++ e → a ≡ (b ++ c) ++ e
 append_both a b c d e f g = f ∙ ap (λ (ds : Decided). b ++ ds) g ∙ sym (append_assoc b c e)
 
@@ -192,10 +149,6 @@ told_place v pass at n old list list' c place e = record {
       c.listed (remaining_place v.shape (seen v) pass at.word at.stripe n place.within place.on_row place.inside)
       ∙ ap (λ (ds : Decided). ds ++ remaining_at v.shape (seen v) pass at.word at.stripe (n + 1)) (sym e);
 }
-
-pub coming_place : (v : BlockPlane) (pass : ℕ) (at : Spot) (n : ℕ) (flags flags' : Flags) (old list list' : Decided) → Coming v pass at n flags old list → IsPlace v.shape at n
-    → IsFlagged v (moment_at v.shape pass at.word at.stripe (n + 1)) flags' → list' ≡ list ++ place_decisions v.shape (seen v) pass (column at.word n) (row at.stripe n) → Coming v pass at (n + 1) flags' old list'
-coming_place v pass at n flags flags' old list list' c place h e = coming_of v pass at (n + 1) flags' old list' (told_place v pass at n old list list' (told_of v pass at n flags old list c) place e) h
 
 pub told_all : (v : BlockPlane) (pass : ℕ) (at : Spot) (old list : Decided) → Told v pass at 64 old list → list ≡ old ++ word_decisions v.shape (seen v) pass at.word at.stripe
 told_all v pass at old list c = sym (c.listed ∙ ap (λ (ds : Decided). list ++ ds) (remaining_none v.shape (seen v) pass at.word at.stripe) ∙ append-nil list)

@@ -229,13 +229,7 @@ with_one words p k = set words p (bit_or (get_or words p 0) (1 * 2 ^ k % 2 ^ 64)
 abbrev pub with_sign_bit : (words : List ℕ) (p k d : ℕ) → List ℕ
 with_sign_bit words p k d = set words p (bit_or (bit_and (get_or words p 0) (bit_not w64 (1 * 2 ^ k % 2 ^ 64))) (d * 2 ^ k % 2 ^ 64))
 
--- words of any field with one more place, or with another sign of a place
-pub one_put : (s : BlockShape) (f : Field Bool) (words : List ℕ) (j i k p : ℕ) → Written s words j i k p → IsDrawn s f words → IsDrawn s (put f (column j k) (row i k) true) (with_one words p k)
-one_put s f words j i k p a h =
-    subst (λ p. IsDrawn s (put f (column j k) (row i k) true) (with_one words p k)) (sym a.place)
-    (drawn_put s f words j i k (bit_or (get_or words (word_at s (j + 1) (i + 1)) 0) (1 * 2 ^ k % 2 ^ 64)) true a.spotted.sized a.spotted.room a.spotted.word a.spotted.stripe a.spotted.within a.spotted.on_row h
-    (put_one (get_or words (word_at s (j + 1) (i + 1)) 0) k))
-
+-- words of any field with another sign of a place
 pub sign_put : (s : BlockShape) (f : Field Bool) (words : List ℕ) (j i k p d : ℕ) (negative : Bool) → Written s words j i k p → d ≡ cond negative 1 0 → IsDrawn s f words → IsDrawn s (put f (column j k) (row i k) negative) (with_sign_bit words p k d)
 sign_put s f words j i k p d negative a ed h =
     subst (λ d. IsDrawn s (put f (column j k) (row i k) negative) (with_sign_bit words p k d)) (sym ed)

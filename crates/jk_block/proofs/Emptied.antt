@@ -47,7 +47,7 @@ run_codes v j i c e =
         → (of_rows (k % 8) && ((nat_lt x v.shape.width && nat_lt y v.shape.height) && nat_eq (pass_of v.shape.width (mag v) x y) 2)) ≡ true
     at k x x' y y' r ex ey w h p = cc
 
-no_run : (v : BlockPlane) (j i c : ℕ) → codes v.shape (mag v) 2 j i (8 * c + 1) ≡ false → is_run v.shape (mag v) 2 j i c ≡ false
+pub no_run : (v : BlockPlane) (j i c : ℕ) → codes v.shape (mag v) 2 j i (8 * c + 1) ≡ false → is_run v.shape (mag v) 2 j i c ≡ false
 no_run v j i c off = by (is_run v.shape (mag v) 2 j i c) refl
   where
     by : (b : Bool) → is_run v.shape (mag v) 2 j i c ≡ b → b ≡ false

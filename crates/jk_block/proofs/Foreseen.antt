@@ -21,7 +21,7 @@ use Rattle.jk_block.specs.Reached.{is_reached}
 use Rattle.jk_block.specs.Steps.{IsPlace}
 use Rattle.jk_block.specs.declared.plane.BlockPlane.{BlockPlane}
 use Rattle.jk_block.specs.declared.spot.Spot.{Spot}
-use Rattle.jk_block.specs.Viewed.{seen, lit_at, moment_at}
+use Rattle.jk_block.specs.Viewed.{seen, lit_at, negative_in, ShowsSigns, moment_at}
 use Rattle.jk_block.proofs.Coming.{mag, Told, told_none}
 use Rattle.jk_block.proofs.Propagated.{Awaits, awaits_all, awaits_rest, awaits_more, Propagated, propagated_to, NextSpread, propagated_next, propagated_place, lit_place, one_is}
 use Rattle.jk_block.proofs.Refining.{true_le}
@@ -455,6 +455,12 @@ pub cross_here : (f : Truths) (j i z word c o : ℕ) → of_rows (z % 8) ≡ tru
 cross_here f j i z word c o on_row h =
     let shifted = place_shifted j i z on_row in
     subst (λ r. IsCross f (column j z + 8) r word c o) shifted.1 (subst (λ x. IsCross f x (row (i + 1) z) word c o) shifted.0 h)
+
+-- which of the places beside each place are negative
+pub signs_here : (v : BlockPlane) (at : Spot) (signs : Around) (crosses : List ℕ) → IsAround (bordered (negative_in v)) at.word at.stripe signs
+    → ((f : Truths) (j s k : ℕ) → k < 64 → of_rows (k % 8) ≡ true → IsAround f j s signs → IsCross f (column (j + 1) k) (row (s + 1) k) (get_or crosses (k % 8 - 1) 0) (k / 8) 4) → ShowsSigns v at.word at.stripe crosses
+signs_here v at signs crosses around h k l on_row =
+    cross_here (bordered (negative_in v)) at.word at.stripe k (get_or crosses (k % 8 - 1) 0) (k / 8) 4 on_row (h (bordered (negative_in v)) at.word at.stripe k l on_row around)
 
 -- The words of the places around each place, as a word's places are listed.
 abbrev pub HasRings : Around → (new : ℕ) → List ℕ → Type 0

@@ -16,6 +16,7 @@ pub mod Timing
 pub mod Listed
 pub mod Planes
 pub mod Refined
+pub mod Turned
 pub mod Cleaned
 pub mod Propagated
 pub mod Coming

@@ -1,13 +1,12 @@
 -- Decisions that are listed, as the definitions say them.
-use Rattle.std.proofs.Common.{◌≡◌, ℕ, zero, suc, ◌+◌, ◌-◌, ◌*◌, ◌/◌, Bool, true, false, cond, [], ◌∷◌, ◌++◌, refl, sym, ap, ◌∙◌, append_assoc, Result, Ok, Err, IfOk, arith}
+use Rattle.std.proofs.Common.{◌≡◌, ℕ, zero, suc, ◌+◌, ◌-◌, ◌*◌, ◌/◌, Bool, true, false, cond, [], ◌∷◌, ◌++◌, refl, sym, ap, ◌∙◌, append_assoc, arith}
 use Rattle.std.specs.Prelude.{◌&&◌, ◌||◌, nat_eq, nat_le}
 use Rattle.std.proofs.lemmas.Bool.Decides.{nat_tests}
 use Rattle.std.proofs.lemmas.List.{append-nil}
-use Rattle.jk_math.specs.declared.fault.Fault.{Fault}
 use Rattle.jk_scan.specs.declared.shape.BlockShape.{BlockShape}
 use Rattle.jk_scan.specs.declared.contexts.SignContext.{SignContext}
 use Rattle.jk_scan.specs.Contexts.{refine_context_of, run_length, uniform}
-use Rattle.jk_scan.specs.Neighbours.{is_inside, touched, zero_at, sign_at}
+use Rattle.jk_scan.specs.Neighbours.{is_inside, touched, sign_at}
 use Rattle.jk_scan.specs.Moments.{number, visits, pass_of, is_coded, significant}
 use Rattle.jk_scan.specs.Passes.{Plane, Decided, is_one, flipped, joined, sign_decision, new_decisions, refining_decision, own_decisions, place_decisions, rows_decisions, run_decisions, column_decisions, plane_decisions}
 use Rattle.std.specs.Int.{is_negative}
@@ -33,27 +32,6 @@ sign_is v t x y c n f e g h =
     inside u w l false e =
         let c : true ≡ false = sym l ∙ significant_is v.shape (seen v).magnitude t u w ∙ none ((seen v).magnitude u w) (is_coded v.shape (seen v).magnitude t u w) (plane_outside v.shape v.plane (value_in v.shape v.values.now) u w e) in
         absurd cc
-
--- the list of a place that isn't significant, with its sign or without
-pub new_with_sign : (s : BlockShape) (p : Plane) (t x y cx : ℕ) (bit : Bool) (old first last : Decided) → cx ≡ zero_at s.kind (significant s p.magnitude t) x y → bit ≡ is_one (p.magnitude x y) → bit ≡ true
-    → first ≡ old ++ (cx, bit) ∷ [] → last ≡ first ++ sign_decision s p t x y ∷ [] → last ≡ old ++ new_decisions s p t x y
-unfolding new_decisions
-new_with_sign s p t x y cx bit old first last e h b f l =
-    l ∙ ap (λ (ds : Decided). ds ++ sign_decision s p t x y ∷ []) f ∙ append_assoc old ((cx, bit) ∷ []) (sign_decision s p t x y ∷ [])
-    ∙ ap (λ (ds : Decided). old ++ ds)
-    (ap (λ (c : ℕ). (c, bit) ∷ sign_decision s p t x y ∷ []) e
-    ∙ ap (λ (b : Bool). (zero_at s.kind (significant s p.magnitude t) x y, bit) ∷ cond b (sign_decision s p t x y ∷ []) []) (sym b)
-    ∙ ap (λ (b : Bool). (zero_at s.kind (significant s p.magnitude t) x y, b) ∷ cond b (sign_decision s p t x y ∷ []) []) h)
-
-pub new_alone : (s : BlockShape) (p : Plane) (t x y cx : ℕ) (bit : Bool) (old last : Decided) → cx ≡ zero_at s.kind (significant s p.magnitude t) x y → bit ≡ is_one (p.magnitude x y) → bit ≡ false
-    → last ≡ old ++ (cx, bit) ∷ [] → last ≡ old ++ new_decisions s p t x y
-unfolding new_decisions
-new_alone s p t x y cx bit old last e h b l =
-    l
-    ∙ ap (λ (ds : Decided). old ++ ds)
-    (ap (λ (c : ℕ). (c, bit) ∷ []) e
-    ∙ ap (λ (b : Bool). (zero_at s.kind (significant s p.magnitude t) x y, bit) ∷ cond b (sign_decision s p t x y ∷ []) []) (sym b)
-    ∙ ap (λ (b : Bool). (zero_at s.kind (significant s p.magnitude t) x y, b) ∷ cond b (sign_decision s p t x y ∷ []) []) h)
 
 pub next_is : (s : BlockShape) (p : Plane) (t x y cx : ℕ) (refined u bit : Bool) → refined ≡ nat_le 4 (p.magnitude x y) → u ≡ touched (significant s p.magnitude t) x y → cx ≡ refine_context_of refined u → bit ≡ is_one (p.magnitude x y)
     → (cx, bit) ≡ refining_decision s p t x y
@@ -124,8 +102,3 @@ run_is s p t x i f e = by (nat_eq f 4) refl
 pub pass_joined : (s : BlockShape) (p : Plane) (pass n : ℕ) (old new : Decided) → n ≡ (s.height + 3) / 4 → new ≡ old ++ joined n (λ i. joined s.width (λ x. column_decisions s p pass x i)) → new ≡ old ++ plane_decisions s p pass
 unfolding plane_decisions
 pass_joined s p pass n old new e h = h ∙ ap (λ n. old ++ joined n (λ i. joined s.width (λ x. column_decisions s p pass x i))) e
-
--- what follows of an Ok
-pub if_ok_then : {X : Type 0} (r : Result X Fault) (P Q : Type 0) → (P → Q) → IfOk r (λ _. P) → IfOk r (λ _. Q)
-if_ok_then (Ok x) P Q f h = f h
-if_ok_then (Err e) P Q f h = tt

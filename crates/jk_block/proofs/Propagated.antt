@@ -14,12 +14,13 @@ use Rattle.jk_scan.specs.Passes.{Decided, is_one, new_decisions, place_decisions
 use Rattle.jk_scan.specs.Words.{Truths, of_rows, of_gathered, Shows, bordered, is_member}
 use Rattle.jk_scan.specs.WordPlaces.{column, row, also}
 use Rattle.jk_scan.specs.Surroundings.{IsAround}
-use Rattle.jk_scan.proofs.Laws.{same_field, set_shows, added_at, lowest, rest_at, taken, taken_low, set_below, on_or, inside_parts, cases_of}
+use Rattle.jk_scan.proofs.Laws.{same_field, set_shows, added_at, lowest, rest_at, taken, taken_low, set_below, on_or, on_zero, inside_parts, cases_of}
 use Rattle.jk_block.specs.Steps.{IsPlace}
+use Rattle.jk_block.specs.declared.flags.Flags.{Flags}
 use Rattle.jk_block.specs.declared.plane.BlockPlane.{BlockPlane}
 use Rattle.jk_block.specs.declared.spot.Spot.{Spot}
-use Rattle.jk_block.specs.Viewed.{seen, lit_at, moment_at}
-use Rattle.jk_block.proofs.Coming.{mag, mag_outside, Same, same_lit, idle_none, idle_until, Told, told_skip, told_place}
+use Rattle.jk_block.specs.Viewed.{seen, lit_at, IsFlagged, moment_at}
+use Rattle.jk_block.proofs.Coming.{mag, mag_outside, Same, same_flags, same_lit, idle_none, idle_until, idle_to, Told, told_none, told_skip, told_place}
 use Rattle.jk_block.proofs.Listed.{place_new}
 use Rattle.jk_block.proofs.Remaining.{is_run}
 use Rattle.jk_block.proofs.Seeing.{is_due}
@@ -155,6 +156,18 @@ propagated_next v at old list around w st p q =
       lit = on.1;
       shown = subst (λ (f : Field Bool). IsAround (bordered f) j i around) (sym on.1) st.shown;
     }
+
+-- a word in which the pass has no member as it comes to it
+pub propagated_empty : (v : BlockPlane) (at : Spot) (list : Decided) (around : Around) (w : ℕ) → at.stripe < stripes v.shape → IsAround (bordered (lit_at v (moment_at v.shape 0 at.word at.stripe 0))) at.word at.stripe around
+    → Shows of_rows (is_member (bordered (is_inside v.shape)) (bordered (lit_at v (moment_at v.shape 0 at.word at.stripe 0)))) (at.word + 1) (at.stripe + 1) w → w ≡ 0
+    → Told v 0 at 64 list list × ((flags : Flags) → IsFlagged v (moment_at v.shape 0 at.word at.stripe 0) flags → IsFlagged v (moment_at v.shape 0 at.word at.stripe 64) flags)
+propagated_empty v at list around w stripe shown members empty =
+    let st : Propagated v at list list around w = record { n = 0; coming = told_none v 0 at list stripe; shown = shown; awaits = awaits_all v.shape (lit_at v (moment_at v.shape 0 at.word at.stripe 0)) at.word at.stripe w members } in
+    let end = propagated_to v at list list around w st 64 (omega arith) (omega arith) (λ m l. ap (λ w. on w m) empty ∙ on_zero m) in (
+      end.0,
+      λ flags h. same_flags v (moment_at v.shape 0 at.word at.stripe 0) (moment_at v.shape 0 at.word at.stripe 64) flags
+          (idle_to v 0 at.word at.stripe 0 64 stripe (omega arith) (λ m a b. idle_none v 0 at.word at.stripe m (end.2 m a b))) h,
+    )
 
 -- what becomes significant at a place that is coded
 pub lit_place : (v : BlockPlane) (pass j i z : ℕ) (bit : Bool) → i < stripes v.shape → codes v.shape (mag v) pass j i z ≡ true → bit ≡ nat_eq (mag v (column j z) (row i z)) 1

@@ -1,12 +1,12 @@
 -- Slices filled and read.
 use Rattle.std.proofs.Common.{◌≡◌, ℕ, zero, suc, ◌+◌, ◌-◌, ◌*◌, ◌/◌, ◌%◌, ◌^◌, ◌<◌, ◌≤◌, Bool, true, false, cond, min, ◌⊎◌, List, length, get_or, set, replicate, refl, sym, ap, ◌∙◌, subst, inl, inr, pos, ℤ, unsigned_abs, arith}
 use Rattle.std.specs.Prelude.{◌&&◌, ◌||◌, nat_eq, nat_lt, nat_le, slice_index_or, ◌≢◌}
-use Rattle.std.specs.Int.{is_negative}
+use Rattle.std.specs.Int.{is_negative, trailing_zeros, w64}
 use Rattle.std.specs.Int.RustNames.{bit_or, bit_and}
-use Rattle.std.proofs.lemmas.Bool.{cases_lt}
+use Rattle.std.proofs.lemmas.Bool.{cases_lt, and_parts}
 use Rattle.std.proofs.lemmas.Bool.Decides.{nat_tests}
 use Rattle.std.proofs.lemmas.List.{get_or-replicate, get_or_past, get_or-set_same, get_or-set_other, length-replicate}
-use Rattle.std.proofs.lemmas.Nat.{same_from_place, mul-add-lt}
+use Rattle.std.proofs.lemmas.Nat.{same_from_place, mul-add-lt, or_lt, and_le_r}
 use Rattle.std.proofs.Math.Nat.{mul-le-mul_left, mul-le-mul_right}
 use Rattle.jk_scan.specs.declared.shape.BlockShape.{BlockShape}
 use Rattle.jk_scan.specs.Bits.{on}
@@ -15,7 +15,7 @@ use Rattle.jk_scan.specs.Moments.{stripes}
 use Rattle.jk_scan.specs.Words.{of_rows}
 use Rattle.jk_scan.specs.WordPlaces.{column, row}
 use Rattle.jk_scan.specs.Flags.{IsSized, across}
-use Rattle.jk_scan.proofs.Laws.{on_mod, on_above, on_shl_low, firsts}
+use Rattle.jk_scan.proofs.Laws.{on_mod, on_above, on_shl_low, firsts, lowest}
 use Rattle.jk_scan.proofs.Laws.{on_or, on_and, on_zero, on_shl_any, on_shr_at, rows_between}
 use Rattle.jk_block.specs.Meaning.{value_in}
 use Rattle.jk_block.specs.Meaning.{plane_at}
@@ -24,6 +24,7 @@ use Rattle.jk_block.specs.declared.plane.BlockPlane.{BlockPlane}
 use Rattle.jk_block.specs.declared.spot.Spot.{Spot}
 use Rattle.jk_block.specs.Viewed.{seen, ShowsOnes}
 use Rattle.jk_block.specs.Steps.{IsPlace}
+use Rattle.jk_block.proofs.Rows.{first_is}
 use Rattle.jk_block.specs.Slices.{signed, bit_in, IsSliced, IsSlicedTo, IsPlaneWord}
 
 -- a byte of a magnitude
@@ -303,7 +304,30 @@ ones_seen v at word shallow h m l = h m l ∙ ap (λ b. of_rows (m % 8) && b) (b
 pub one_at : (v : BlockPlane) (at : Spot) (k word : ℕ) → IsPlace v.shape at k → ShowsOnes v at.word at.stripe word → on word k ≡ is_one ((seen v).magnitude (column at.word k) (row at.stripe k))
 one_at v at k word place h = h k place.within ∙ ap (λ b. b && is_one ((seen v).magnitude (column at.word k) (row at.stripe k))) place.on_row
 
--- a row of a column that begins at bit k
+-- the place of a row of a column that begins at bit k
+pub row_place : (s : BlockShape) (at : Spot) (k f : ℕ) → IsPlace s at k → k % 8 ≡ 1 → f < 4 → 4 * at.stripe + 4 ≤ s.height → IsPlace s at (k + f)
+row_place s at k f place first few rows =
+    let within = place.within in
+    let narrow = (and_parts (nat_lt (column at.word k) s.width) (nat_lt (row at.stripe k) s.height) place.inside).0 in
+    let same : column at.word (k + f) ≡ column at.word k = omega (arith, first, few) in
+    let r : (k + f) % 8 ≡ 1 + f = omega (arith, first, few) in
+    let y : row at.stripe (k + f) < s.height = omega (arith, first, few, rows) in
+    record {
+      within = omega (arith, within, first, few);
+      on_row = ap of_rows r ∙ on_rows f few;
+      inside = both (nat_lt (column at.word (k + f)) s.width) (nat_lt (row at.stripe (k + f)) s.height) (ap (λ x. nat_lt x s.width) same ∙ narrow) (lt_true (row at.stripe (k + f)) s.height y);
+    }
+  where
+    both : (a b : Bool) → a ≡ true → b ≡ true → (a && b) ≡ true
+    both a b e g = cc
+
+    lt_true : (a b : ℕ) → a < b → nat_lt a b ≡ true
+    lt_true a b h = grind (arith, nat_tests)
+
+    on_rows : (r : ℕ) → r < 4 → of_rows (1 + r) ≡ true
+    on_rows r h = grind (arith, nat_tests)
+
+-- its bit
 pub run_bit : (v : BlockPlane) (at : Spot) (k r word : ℕ) → k < 64 → k % 8 ≡ 1 → r < 4 → ShowsOnes v at.word at.stripe word → on word (k + r) ≡ is_one ((seen v).magnitude (column at.word k) (4 * at.stripe + r))
 run_bit v at k r word within first few h =
     h (k + r) (omega (arith, within, first, few))
@@ -319,3 +343,80 @@ pub run_row : (v : BlockPlane) (at : Spot) (k word f : ℕ) → k < 64 → k % 8
     → f ≡ first_one (seen v).magnitude (column at.word k) at.stripe
 run_row v at k word f within first h value =
     value (seen v).magnitude (column at.word k) at.stripe (run_bit v at k 0 word within first (omega arith) h) (run_bit v at k 1 word within first (omega arith) h) (run_bit v at k 2 word within first (omega arith) h) (run_bit v at k 3 word within first (omega arith) h)
+
+-- the lowest of four bits, or the one behind them
+low_four : (r : ℕ) → r < 4 → (on 0xF r ≡ true) × (on 0x10 r ≡ false)
+unfolding on
+low_four zero h = (refl, refl)
+low_four (suc zero) h = (refl, refl)
+low_four (suc (suc zero)) h = (refl, refl)
+low_four (suc (suc (suc zero))) h = (refl, refl)
+low_four (suc (suc (suc (suc r)))) h = absurd (omega (arith, h))
+
+fifth : on 0x10 4 ≡ true
+unfolding on
+fifth = refl
+
+pub record LowestRow (ones k : ℕ) (z : ℕ) : Type 0 where
+  pub few : z ≤ 4
+  pub below : (r : ℕ) → r < 4 → r < z → on ones (k + r) ≡ false
+  pub here : z < 4 → on ones (k + z) ≡ true
+
+pub lowest_row : (ones k : ℕ) → LowestRow ones k (trailing_zeros w64 (bit_or (bit_and (ones / 2 ^ k) 0xF) 0x10))
+lowest_row ones k = record {
+  few = few;
+  below = λ r h l. sym (at r h) ∙ low.2 r l;
+  here = λ l. sym (at z l) ∙ low.1;
+}
+  where
+    w : ℕ
+    w = bit_or (bit_and (ones / 2 ^ k) 0xF) 0x10
+
+    z : ℕ
+    z = trailing_zeros w64 w
+
+    at_four : on w 4 ≡ true
+    at_four = on_or (bit_and (ones / 2 ^ k) 0xF) 0x10 4 ∙ ap (λ b. on (bit_and (ones / 2 ^ k) 0xF) 4 || b) fifth ∙ right (on (bit_and (ones / 2 ^ k) 0xF) 4)
+      where
+        right : (a : Bool) → (a || true) ≡ true
+        right true = refl
+        right false = refl
+
+    small : w < 2 ^ 64
+    small = or_lt 64 (bit_and (ones / 2 ^ k) 0xF) 0x10 (let e = and_le_r (ones / 2 ^ k) 0xF in omega (arith, e)) (omega arith)
+
+    some : 0 < w
+    some = elim (cases_lt 0 w) [
+      | inl more ↦ more
+      | inr none ↦ (let c : true ≡ false = sym at_four ∙ ap (λ w. on w 4) (let e : w ≡ 0 = omega (arith, none) in e) ∙ on_zero 4 in absurd cc)
+    ]
+
+    low : (z < 64) × (on w z ≡ true) × ((r : ℕ) → r < z → on w r ≡ false)
+    low = lowest w some small
+
+    few : z ≤ 4
+    few = elim (cases_lt 4 z) [
+      | inl more ↦ (let c : true ≡ false = sym at_four ∙ low.2 4 more in absurd cc)
+      | inr most ↦ most
+    ]
+
+    at : (r : ℕ) → r < 4 → on w r ≡ on ones (k + r)
+    at r h =
+        let f = low_four r h in
+        on_or (bit_and (ones / 2 ^ k) 0xF) 0x10 r ∙ gate (on ones (k + r)) (on 0xF r) (on 0x10 r) (on_and (ones / 2 ^ k) 0xF r ∙ ap (λ b. b && on 0xF r) (on_shr_at ones k (k + r) r refl)) f.0 f.1
+      where
+        gate : (a b d : Bool) {e : Bool} → e ≡ (a && b) → b ≡ true → d ≡ false → (e || d) ≡ a
+        gate a b d {e} g h i = grind (arith, nat_tests)
+
+pub row_is_first : (ones k : ℕ) (a : Field ℕ) (x i : ℕ) → on ones (k + 0) ≡ is_one (a x (4 * i + 0)) → on ones (k + 1) ≡ is_one (a x (4 * i + 1)) → on ones (k + 2) ≡ is_one (a x (4 * i + 2)) → on ones (k + 3) ≡ is_one (a x (4 * i + 3))
+    → trailing_zeros w64 (bit_or (bit_and (ones / 2 ^ k) 0xF) 0x10) ≡ first_one a x i
+row_is_first ones k a x i e0 e1 e2 e3 =
+    let l = lowest_row ones k in
+    sym (first_is a x i (trailing_zeros w64 (bit_or (bit_and (ones / 2 ^ k) 0xF) 0x10)) l.few (λ r h. sym (row r (let f = l.few in omega (arith, h, f))) ∙ l.below r (let f = l.few in omega (arith, h, f)) h) (λ h. sym (row (trailing_zeros w64 (bit_or (bit_and (ones / 2 ^ k) 0xF) 0x10)) h) ∙ l.here h))
+  where
+    row : (r : ℕ) → r < 4 → on ones (k + r) ≡ is_one (a x (4 * i + r))
+    row zero h = e0
+    row (suc zero) h = e1
+    row (suc (suc zero)) h = e2
+    row (suc (suc (suc zero))) h = e3
+    row (suc (suc (suc (suc r)))) h = absurd (omega (arith, h))

@@ -72,11 +72,11 @@ still_behind s f g j i z from w w' on_row e behind h c a l =
     ∙ sym (still_is s g j i c)
 
 -- the still columns of a word
-pub stills_are : (s : BlockShape) (f : Field Bool) (j i w : ℕ) → 4 * i + 4 ≤ s.height
-    → ((c b : ℕ) → c < 8 → b < 8 → on w (8 * c + b) ≡ (nat_eq b 1 && (bordered (is_inside s) (8 * (j + 1) + c) (4 * (i + 1)) && not (in_six (aside (bordered f)) (8 * (j + 1) + c) (i + 1)))))
-    → (m : ℕ) → m < 64 → on w m ≡ (nat_eq (m % 8) 1 && is_still s f j i (m / 8))
-stills_are s f j i w high h m l =
-    ap (on w) (let e : m ≡ 8 * (m / 8) + m % 8 = omega arith in e) ∙ h (m / 8) (m % 8) (omega arith) (omega arith)
+pub still_bit : (s : BlockShape) (f : Field Bool) (j i w m : ℕ) → 4 * i + 4 ≤ s.height
+    → on w (8 * (m / 8) + m % 8) ≡ (nat_eq (m % 8) 1 && (bordered (is_inside s) (8 * (j + 1) + m / 8) (4 * (i + 1)) && not (in_six (aside (bordered f)) (8 * (j + 1) + m / 8) (i + 1))))
+    → on w m ≡ (nat_eq (m % 8) 1 && is_still s f j i (m / 8))
+still_bit s f j i w m high h =
+    ap (on w) (let e : m ≡ 8 * (m / 8) + m % 8 = omega arith in e) ∙ h
     ∙ ap (λ b. nat_eq (m % 8) 1 && (b && not (in_six (aside (bordered f)) (8 * (j + 1) + m / 8) (i + 1)))) (whole (m / 8))
     ∙ ap (λ b. nat_eq (m % 8) 1 && b) (sym (still_is s f j i (m / 8)))
   where
@@ -87,6 +87,11 @@ stills_are s f j i w high h m l =
         ap (λ n. bordered (is_inside s) n (4 * (i + 1))) (let e : 8 * (j + 1) + c ≡ 8 * j + c + 8 = omega arith in e)
         ∙ ap (λ n. bordered (is_inside s) (8 * j + c + 8) n) (let e : 4 * (i + 1) ≡ 4 * i + 4 = omega arith in e)
         ∙ bordered_at (is_inside s) (8 * j + c) (4 * i) ∙ ap (λ b. nat_lt (8 * j + c) s.width && b) (a ∙ sym b)
+
+pub stills_are : (s : BlockShape) (f : Field Bool) (j i w : ℕ) → 4 * i + 4 ≤ s.height
+    → ((c b : ℕ) → c < 8 → b < 8 → on w (8 * c + b) ≡ (nat_eq b 1 && (bordered (is_inside s) (8 * (j + 1) + c) (4 * (i + 1)) && not (in_six (aside (bordered f)) (8 * (j + 1) + c) (i + 1)))))
+    → (m : ℕ) → m < 64 → on w m ≡ (nat_eq (m % 8) 1 && is_still s f j i (m / 8))
+stills_are s f j i w high h m l = still_bit s f j i w m high (h (m / 8) (m % 8) (omega arith) (omega arith))
 
 pub stills_none : (s : BlockShape) (f : Field Bool) (j i c : ℕ) → s.height < 4 * i + 4 → is_still s f j i c ≡ false
 stills_none s f j i c h =

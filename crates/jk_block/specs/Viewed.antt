@@ -1,17 +1,17 @@
 -- What words show of a block at a bit-plane while its decisions are listed.
-use Rattle.std.specs.Prelude.{◌≡◌, ◌<◌, ℕ, ◌+◌, ◌-◌, ◌*◌, ◌/◌, ◌%◌, Bool, true, false, ◌&&◌, ◌||◌, nat_eq, nat_lt, nat_le, [], ◌∷◌, ℤ, if◌then◌else◌}
+use Rattle.std.specs.Prelude.{◌≡◌, ◌<◌, ℕ, ◌+◌, ◌-◌, ◌*◌, ◌/◌, ◌%◌, Bool, true, false, ◌&&◌, ◌||◌, nat_eq, nat_lt, nat_le, [], ◌∷◌, List, get_or, ℤ, if◌then◌else◌}
 use Rattle.jk_scan.specs.declared.shape.BlockShape.{BlockShape}
 use Rattle.jk_scan.specs.Contexts.{run_length, uniform}
 use Rattle.jk_scan.specs.Neighbours.{Field, is_inside}
 use Rattle.jk_scan.specs.Moments.{number, visits, spread, significant}
 use Rattle.jk_scan.specs.Passes.{Plane, Decided, is_one, joined, sign_decision, column_decisions}
 use Rattle.jk_scan.specs.Bits.{on}
-use Rattle.jk_scan.specs.Words.{of_rows}
+use Rattle.jk_scan.specs.Words.{of_rows, bordered}
 use Rattle.jk_scan.specs.WordPlaces.{column, row}
 use Rattle.jk_scan.specs.Flags.{IsDrawn}
+use Rattle.jk_scan.specs.RingPlaces.{IsCross}
 use Rattle.jk_block.specs.Meaning.{plane_at, value_in}
 use Rattle.jk_block.specs.Slices.{negative_of}
-use Rattle.jk_block.specs.Reading.{put}
 use Rattle.jk_block.specs.declared.plane.BlockPlane.{BlockPlane}
 use Rattle.jk_block.specs.declared.flags.Flags.{Flags}
 
@@ -44,17 +44,14 @@ pub record IsFlagged (v : BlockPlane) (t : ℕ) (flags : Flags) : Type 0 where
 pub record IsLitUpto (s : BlockShape) (b : ℕ) (q : Field ℤ) (flags : Flags) : Type 0 where
   pub lit : IsDrawn s (λ x y. nat_lt 0 ((plane_at s b q).magnitude x y)) flags.significant
 
--- a field with another value at one place, or the same field
-abbrev pub put_if : Bool → Field Bool → (x y : ℕ) → Bool → Field Bool
-put_if bit f x y value = if bit then put f x y value else f
-
 -- a field with the places of the word j of the stripe i
 abbrev pub with_word : Field Bool → (j i word : ℕ) → Field Bool
 with_word f j i word x y = f x y || ((nat_eq (x / 8) j && nat_eq (y / 4) i) && on word (8 * (x % 8) + (y % 4 + 1)))
 
--- Where the bit is 1, the place becomes significant.
-pub record Lights (s : BlockShape) (x y : ℕ) (bit : Bool) (old new : Flags) : Type 0 where
-  pub lit : (f : Field Bool) → IsDrawn s f old.significant → IsDrawn s (put_if bit f x y true) new.significant
+-- The words show which of the places beside each place of the word j of the stripe i are negative.
+abbrev pub ShowsSigns : BlockPlane → (j i : ℕ) → List ℕ → Type 0
+ShowsSigns v j i crosses =
+    (k : ℕ) → k < 64 → of_rows (k % 8) ≡ true → IsCross (bordered (negative_in v)) (column j k + 8) (row i k + 4) (get_or crosses (k % 8 - 1) 0) (k / 8) 4
 
 -- How many places of a pass come before row r of column c, where r counts from 1 and some places come before the stripe.
 unfoldable pub number_by : (w before c r : ℕ) → ℕ

@@ -127,18 +127,6 @@ impl DecisionList {
         self.count = 0;
     }
 
-    /// One decision more.
-    #[inline(always)]
-    pub fn push(&mut self, context: u8, bit: bool) -> Result<(), Fault>
-        requires { context < 19 }
-        ensures pushed { IfOk result (λ _. self.new ≡ self.old ++ (context, bit) ∷ []) }
-        ensures memory { IfErr result IsMemory }
-    {
-        make_room(&mut self.bytes, self.count)?;
-        self.count = put_one(&mut self.bytes, self.count, context, bit);
-        Ok(())
-    }
-
     /// Codes all decisions.
     pub fn encode(&self, encoder: &mut Encoder) -> Result<(), Fault>
         ensures codes { IfOk result (λ _. (ds : List Decision)

@@ -1,13 +1,11 @@
 //! What is known of the places of a block while it is written.
 
-ghost use Rattle.std.specs.Prelude.{◌≡◌, ℕ, ◌%◌, ◌<◌, true, replicate, if◌then◌else◌};
+ghost use Rattle.std.specs.Prelude.{◌≡◌, ℕ, ◌%◌, ◌<◌, true, replicate};
 ghost use Rattle.jk_scan.specs.Bits.{on};
 ghost use Rattle.jk_scan.specs.Neighbours.{Field};
 ghost use Rattle.jk_scan.specs.Words.{of_rows};
-ghost use Rattle.jk_scan.specs.WordPlaces.{column, row};
 ghost use Rattle.jk_scan.specs.Flags.{IsSized, IsDrawn};
-ghost use Rattle.jk_block.specs.Reading.{put};
-ghost use Rattle.jk_block.specs.Steps.{IsSpot, IsPlace};
+ghost use Rattle.jk_block.specs.Steps.{IsSpot};
 
 use crate::spot::Spot;
 use jk_scan::{BlockShape, WORDS, word_place};
@@ -28,7 +26,7 @@ pub fn unmarked() -> [u64; WORDS]
 
 impl Flags {
     ghost use Rattle.std.specs.Prelude.{Bool};
-    ghost use Rattle.jk_block.specs.Viewed.{Lights, with_word};
+    ghost use Rattle.jk_block.specs.Viewed.{with_word};
 
     /// No place is significant.
     pub fn new() -> Flags
@@ -61,20 +59,6 @@ impl Flags {
         let at = word_place(shape, spot.word + 1, spot.stripe + 1);
         let visited = &mut self.visited;
         visited[at] |= places;
-    }
-
-    /// The place at bit k of a word becomes significant.
-    #[inline(always)]
-    pub fn light(&mut self, shape: BlockShape, spot: Spot, k: u32)
-        requires sized { IsSized shape }
-        requires spot { IsSpot shape spot }
-        requires place { IsPlace shape spot k }
-        ensures lights { Lights shape (column spot.word k) (row spot.stripe k) true self.old self.new }
-        ensures visited { self.new.visited ≡ self.old.visited }
-    {
-        let at = word_place(shape, spot.word + 1, spot.stripe + 1);
-        let significant = &mut self.significant;
-        significant[at] |= 1 << k;
     }
 
     /// These places of a word become significant.

@@ -115,7 +115,7 @@ fn uncoded(sketch: &Sketch, spot: Spot, limits: u64) -> u64
 /// The columns of a word that are coded in run mode, by their first rows: they have four rows, with nothing significant in
 /// them or around them.
 #[inline(always)]
-pub fn still_columns(shape: BlockShape, spot: Spot, seen: Around, limits: u64) -> u64
+fn still_columns(shape: BlockShape, spot: Spot, seen: Around, limits: u64) -> u64
     requires sized { IsSized shape }
     requires spot { IsSpot shape spot }
     requires limits { Shows of_rows (bordered (is_inside shape)) (spot.word + 1) (spot.stripe + 1) limits }

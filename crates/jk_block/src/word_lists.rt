@@ -1,26 +1,29 @@
 //! The decisions of a word of 32 places in each pass: loops over the places that the pass codes, from the lowest bit on.
 //! Between two of them nothing is decided.
 
-ghost use Rattle.std.specs.Prelude.{◌≡◌, ℕ, not, ◌&&◌, ◌+◌, ◌%◌, ◌<◌, ◌++◌, IfOk, IfErr};
+ghost use Rattle.std.specs.Prelude.{◌≡◌, ℕ, Bool, not, nat_eq, nat_lt, ◌&&◌, ◌+◌, ◌*◌, ◌/◌, ◌%◌, ◌^◌, ◌<◌, ◌++◌, IfOk, IfErr};
 ghost use Rattle.jk_math.specs.Memory.{IsMemory};
 ghost use Rattle.jk_scan.specs.Bits.{on};
-ghost use Rattle.jk_scan.specs.Neighbours.{is_inside};
+ghost use Rattle.jk_scan.specs.Neighbours.{Field, is_inside};
 ghost use Rattle.jk_scan.specs.Words.{of_rows, bordered, Shows};
 ghost use Rattle.jk_scan.specs.WordPlaces.{column, row};
+ghost use Rattle.jk_scan.specs.Surroundings.{IsAround};
+ghost use Rattle.jk_scan.specs.RingPlaces.{Turns};
+ghost use Rattle.jk_scan.specs.Flags.{IsSized};
+ghost use Rattle.jk_block.specs.Reading.{is_quiet};
 ghost use Rattle.jk_block.specs.Steps.{IsSpot};
 ghost use Rattle.jk_block.specs.Viewed.{seen, lit_at, spread_at, IsFlagged, moment_at, word_decisions};
 
 use crate::ahead::with_reached;
 use crate::decisions::{DecisionList, make_room};
 use crate::flags::Flags;
-use crate::loops::still_columns;
-use crate::place_lists::{bit_of, list_member, list_new, list_next, list_run};
+use crate::place_lists::{bit_of, first_row, list_new, list_next, list_run};
 use crate::plane::BlockPlane;
 use crate::spot::Spot;
 use jk_math::Fault;
 use jk_scan::{
-    Around, cross_words, inside, members, quiet_behind, ring_words, seen_around, touched_places,
-    word_place,
+    Around, BlockShape, cross_words, inside, members, quiet_in_turn, ring_words, seen_around,
+    touched_places, word_place,
 };
 
 /// A word in the significance propagation pass (T.800 D.3.1). Its places are known at once, and so is what each of them has
@@ -42,6 +45,9 @@ pub fn list_propagation(
     let limits = inside(own.shape, spot.word, spot.stripe);
     let around = seen_around(&flags.significant, own.shape, spot.word, spot.stripe);
     let candidates = members(around.own, around.left, around.right, limits);
+    if candidates == 0 {
+        return Ok(());
+    }
     let ones = own.ones(spot);
     let all = with_reached(candidates, ones, limits & !around.own);
     let seen = Around {
@@ -61,7 +67,7 @@ pub fn list_propagation(
     while left != 0 {
         let k = left.trailing_zeros();
         left &= left - 1;
-        count = list_member(&own, spot, k, &rings, &crosses, signs, ones, bytes, count);
+        count = list_new(&own, spot, k, &rings, &crosses, signs, ones, bytes, count);
     }
     list.count = count;
     Ok(())
@@ -136,7 +142,26 @@ fn uncoded(block: &BlockPlane<'_>, flags: &Flags, spot: Spot, limits: u64) -> u6
     limits & !(significant[place] | visited[place])
 }
 
-/// A word in the cleanup pass (T.800 D.3.4): the places that are left, and columns in run mode.
+/// The columns of a word that are coded in run mode, by their first rows, each as it is in its turn: it sees the columns
+/// before it in `seen`, itself and those behind it in `old`.
+#[inline(always)]
+fn run_columns(shape: BlockShape, spot: Spot, seen: Around, old: u64, limits: u64) -> u64
+    requires sized { IsSized shape }
+    requires spot { IsSpot shape spot }
+    requires limits { Shows of_rows (bordered (is_inside shape)) (spot.word + 1) (spot.stripe + 1) limits }
+    ensures { (f : Field Bool) (own m : ℕ) → m < 64 → own < 2 ^ 64 → Turns own seen.own old (8 * (m / 8))
+        → IsAround (bordered f) spot.word spot.stripe (record { own = own; left = seen.left; right = seen.right })
+        → on result m ≡ (nat_eq (m % 8) 1 && (nat_lt (8 * spot.word + m / 8) shape.width && is_quiet shape f (8 * spot.word + m / 8) spot.stripe)) }
+{
+    if 4 * spot.stripe + 4 <= shape.height {
+        quiet_in_turn(seen, old, limits)
+    } else {
+        0
+    }
+}
+
+/// A word in the cleanup pass (T.800 D.3.4): all places that are left, and columns in run mode. What each place has around it
+/// is known at once, as in the significance propagation pass.
 #[inline(always)]
 pub fn list_cleanup(
     block: &BlockPlane<'_>,
@@ -156,28 +181,33 @@ pub fn list_cleanup(
     if left == 0 {
         return Ok(());
     }
-    let mut around = seen_around(&flags.significant, own.shape, spot.word, spot.stripe);
-    let mut still = still_columns(own.shape, spot, around, limits);
-    let signs = seen_around(own.negative, own.shape, spot.word, spot.stripe);
+    let around = seen_around(&flags.significant, own.shape, spot.word, spot.stripe);
     let ones = own.ones(spot);
-    'places: while left | still != 0 {
-        let k = (left | still).trailing_zeros();
-        if still >> k & 1 == 1 {
-            let row = list_run(&own, flags, spot, k, around, signs, ones, list)?;
-            left &= 0xFFFF_FFFF_FFFF_FFFE << (k + row);
-            still &= still - 1;
-            if row < 4 {
-                around.own |= 1 << (k + row);
-                still = quiet_behind(still, k + row);
-            }
+    let new = left & ones;
+    let seen = Around {
+        own: around.own | new,
+        left: around.left,
+        right: around.right,
+    };
+    let signs = seen_around(own.negative, own.shape, spot.word, spot.stripe);
+    let rings = ring_words(seen, around.own);
+    let crosses = cross_words(seen, around.own, signs);
+    let still = run_columns(own.shape, spot, seen, around.own, limits);
+    flags.light_all(own.shape, spot, new);
+    make_room(&mut list.bytes, list.count)?;
+    let bytes = &mut list.bytes[..];
+    let mut count = list.count;
+    while left != 0 {
+        let k = left.trailing_zeros();
+        if bit_of(still, k) {
+            let found = first_row(ones, k);
+            left &= 0xFFFF_FFFF_FFFF_FFFE << (k + found);
+            count = list_run(&own, spot, k, found, &crosses, signs, bytes, count);
         } else {
-            let bit = list_new(&own, flags, spot, k, around, signs, ones, list)?;
             left &= left - 1;
-            if bit {
-                around.own |= 1 << k;
-                still = quiet_behind(still, k);
-            }
+            count = list_new(&own, spot, k, &rings, &crosses, signs, ones, bytes, count);
         }
     }
+    list.count = count;
     Ok(())
 }

@@ -183,7 +183,7 @@ crosses_high p s c i clear none h l =
     up b d e = grind (arith, nat_tests)
 
 -- the columns left and right of a place, where it sees other words before and behind it
-left_of_place : (own early left k c i : ℕ) → ((m : ℕ) → m < k → on own m ≡ on early m) → 8 * c ≤ k → c < 8 → i < 8
+pub left_of_place : (own early left k c i : ℕ) → ((m : ℕ) → m < k → on own m ≡ on early m) → 8 * c ≤ k → c < 8 → i < 8
     → on (bit_or (early * 2 ^ 8 % 2 ^ 64) (left / 2 ^ 56)) (8 * c + i) ≡ on (bit_or (own * 2 ^ 8 % 2 ^ 64) (left / 2 ^ 56)) (8 * c + i)
 left_of_place own early left k c i h le p q =
     on_or (early * 2 ^ 8 % 2 ^ 64) (left / 2 ^ 56) (8 * c + i) ∙ ap (λ b. b || on (left / 2 ^ 56) (8 * c + i)) (on_shl_any early 8 64 (8 * c + i) (omega arith) ∙ by c p le ∙ sym (on_shl_any own 8 64 (8 * c + i) (omega arith)))
@@ -193,7 +193,7 @@ left_of_place own early left k c i h le p q =
     by zero p le = let e : nat_le 8 (8 * zero + i) ≡ false = grind (arith, nat_tests) in ap (λ b. b && on early (8 * zero + i - 8)) e ∙ sym (ap (λ b. b && on own (8 * zero + i - 8)) e)
     by (suc c) p le = ap (λ b. nat_le 8 (8 * suc c + i) && b) (sym (h (8 * suc c + i - 8) (omega arith)))
 
-right_of_place : (own late right k c i : ℕ) → own < 2 ^ 64 → late < 2 ^ 64 → ((m : ℕ) → k ≤ m → m < 64 → on own m ≡ on late m) → k < 8 * c + 8 → i < 8
+pub right_of_place : (own late right k c i : ℕ) → own < 2 ^ 64 → late < 2 ^ 64 → ((m : ℕ) → k ≤ m → m < 64 → on own m ≡ on late m) → k < 8 * c + 8 → i < 8
     → on (bit_or (late / 2 ^ 8) (right * 2 ^ 56 % 2 ^ 64)) (8 * c + i) ≡ on (bit_or (own / 2 ^ 8) (right * 2 ^ 56 % 2 ^ 64)) (8 * c + i)
 right_of_place own late right k c i ob lb h le q =
     on_or (late / 2 ^ 8) (right * 2 ^ 56 % 2 ^ 64) (8 * c + i) ∙ ap (λ b. b || on (right * 2 ^ 56 % 2 ^ 64) (8 * c + i)) (on_shr late 8 (8 * c + i) ∙ alike ∙ sym (on_shr own 8 (8 * c + i)))

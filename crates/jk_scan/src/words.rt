@@ -1,11 +1,13 @@
 //! Words of 32 places: eight columns of a stripe of four rows, its bit `8c + 1 + r` the place in column c and row r. The other bits
 //! of a byte are for what stands above and below, and are not set in a word that is kept.
 
-ghost use Rattle.std.specs.Prelude.{◌≡◌, ℕ, Bool, ◌+◌, ◌-◌, ◌*◌, ◌<◌, not, nat_eq, ◌&&◌, ◌||◌};
+ghost use Rattle.std.specs.Prelude.{◌≡◌, ℕ, Bool, ◌+◌, ◌-◌, ◌*◌, ◌^◌, ◌<◌, not, nat_eq, ◌&&◌, ◌||◌};
 ghost use Rattle.jk_scan.specs.Bits.{on};
 ghost use Rattle.jk_scan.specs.Words.{Truths, of_rows, of_gathered, Shows, ShowsAt, IsLine, up_down, upright, aside, near, is_member, in_six};
+ghost use Rattle.jk_scan.specs.Surroundings.{IsAround};
+ghost use Rattle.jk_scan.specs.RingPlaces.{Turns};
 
-use crate::around::quiet;
+use crate::around::{Around, quiet};
 
 /// A word with the rows above and below its stripe.
 pub fn gather(own: u64, above: u64, below: u64) -> u64
@@ -71,4 +73,16 @@ pub fn quiet_columns(x: u64, left: u64, right: u64, inside: u64) -> u64
         ≡ (nat_eq i 1 && (m (8 * (j + 1) + c) (4 * (s + 1)) && not (in_six (aside f) (8 * (j + 1) + c) (s + 1)))) }
 {
     quiet(with_columns(x, left, right) & 0x3F3F_3F3F_3F3F_3F3F) & inside
+}
+
+/// The same, each column as it is in its turn: it sees the columns before it in `seen`, itself and those behind it in `old`.
+#[inline(always)]
+pub fn quiet_in_turn(seen: Around, old: u64, inside: u64) -> u64
+    ensures { (f m : Truths) (j s own c i : ℕ) → c < 8 → i < 8 → own < 2 ^ 64 → Turns own seen.own old (8 * c)
+        → IsAround f j s (record { own = own; left = seen.left; right = seen.right }) → Shows of_rows m (j + 1) (s + 1) inside
+        → on result (8 * c + i) ≡ (nat_eq i 1 && (m (8 * (j + 1) + c) (4 * (s + 1)) && not (in_six (aside f) (8 * (j + 1) + c) (s + 1)))) }
+{
+    let left = seen.own << 8 | seen.left >> 56;
+    let right = old >> 8 | seen.right << 56;
+    quiet((left | old | right) & 0x3F3F_3F3F_3F3F_3F3F) & inside
 }

@@ -1,204 +1,20 @@
-use Rattle.std.proofs.Common.{◌≡◌, zero, suc, sym, ◌≤◌, ◌<◌, ◌+◌, ◌-◌, ◌%◌, ℕ, true, false, ◌∙◌, arith}
+use Rattle.std.proofs.Common.{◌≡◌, ℕ, ◌+◌, ◌-◌, ◌*◌, ◌<◌, ◌%◌, refl, sym, ◌∙◌, arith}
 use Rattle.std.specs.Int.{trailing_zeros, w64}
-use Rattle.std.specs.Int.RustNames.{bit_or, bit_and}
-use Rattle.std.proofs.lemmas.Nat.{or_lt, and_le_l}
+use Rattle.std.specs.Int.RustNames.{bit_and}
 use Rattle.jk_scan.specs.Bits.{on}
-use Rattle.jk_scan.proofs.Laws.{lowest, bit_true, bit_false, on_zero}
+use Rattle.jk_scan.proofs.Laws.{sooner_zero}
 use Rattle.jk_block.specs.Viewed.{lit_at, negative_in, moment_at}
-use Rattle.jk_block.proofs.Coming.{coming_all}
-use Rattle.jk_block.proofs.Cleaning.{sooner_place, sooner_run}
-use Rattle.jk_block.proofs.Cleaned.{cleaned_none, next_left, next_run, RunListed, cleaned_zero, cleaned_one, cleaned_run, cleaned_run_one, cleaned_all}
+use Rattle.jk_block.proofs.Behind.{becoming, becoming_row, flagged_left}
+use Rattle.jk_block.proofs.Cleaned.{RunListed, cleaned_none, next_left, cleaned_place, next_run, cleaned_run, cleaned_all, sooner_run}
+use Rattle.jk_block.proofs.Coming.{mag, coming_all}
 use Rattle.jk_block.proofs.Emptied.{emptied}
+use Rattle.jk_block.proofs.Foreseen.{signs_here}
+use Rattle.jk_block.proofs.Sheeted.{sheet_at, sheet_less, sheet_whole, told_at, told_whole}
+use Rattle.jk_block.proofs.Slicing.{run_row}
+use Rattle.jk_block.proofs.Testing.{left_codes}
+use Rattle.jk_block.proofs.Timing.{codes}
+use Rattle.jk_block.proofs.Turned.{turned, prepared}
 use Rattle.jk_block.proofs.word_lists.list_cleanup.Goals as goal
-
-pub places-init : goal.places-init
-places-init c =
-    let v = c.args.block.now in
-    let at = c.args.spot in
-    let t = moment_at v.shape 2 at.word at.stripe 0 in
-    let f = lit_at v t in
-    let shown = c.seen_around-around.ensures f c.requires.flagged.lit in
-    cleaned_none v at c.args.flags.now c.args.list.now c.seen_around-around.result c.uncoded-left.result c.still_columns-still.result c.requires.spot.stripe c.requires.flagged shown
-    (c.uncoded-left.ensures t c.requires.flagged) (c.still_columns-still.ensures f shown)
-
-pub overflow_shr-still : goal.overflow_shr-still
-overflow_shr-still c =
-    let l = c.places in
-    (lowest (bit_or l.left l.still) (omega arith) (or_lt 64 l.left l.still (omega arith) (omega arith))).0
-
-pub list_run-requires-clause-place : goal.list_run-requires-clause-place
-list_run-requires-clause-place c =
-    let l = c.places in
-    let z = trailing_zeros w64 (bit_or l.left l.still) in
-    let low = or_lt 64 l.left l.still (omega arith) (omega arith) in
-    (next_run c.args.block.now c.args.spot l.flags c.args.list.now l.list l.around l.left l.still l.invariant (omega arith) low (bit_true l.still z c.if-still-k-eq1.true)).place
-
-pub list_run-requires-clause-first : goal.list_run-requires-clause-first
-list_run-requires-clause-first c =
-    let l = c.places in
-    let z = trailing_zeros w64 (bit_or l.left l.still) in
-    let low = or_lt 64 l.left l.still (omega arith) (omega arith) in
-    (next_run c.args.block.now c.args.spot l.flags c.args.list.now l.list l.around l.left l.still l.invariant (omega arith) low (bit_true l.still z c.if-still-k-eq1.true)).first
-
-pub list_run-requires-clause-rows : goal.list_run-requires-clause-rows
-list_run-requires-clause-rows c =
-    let l = c.places in
-    let z = trailing_zeros w64 (bit_or l.left l.still) in
-    let low = or_lt 64 l.left l.still (omega arith) (omega arith) in
-    (next_run c.args.block.now c.args.spot l.flags c.args.list.now l.list l.around l.left l.still l.invariant (omega arith) low (bit_true l.still z c.if-still-k-eq1.true)).rows
-
-some_bit : (w z : ℕ) → on w z ≡ true → 1 ≤ w
-some_bit zero z h = let e = on_zero z in let c : true ≡ false = sym h ∙ e in absurd cc
-some_bit (suc w) z h = omega arith
-
-room : (z f : ℕ) → z < 64 → z % 8 ≡ 1 → f < 5 → z + f < 64
-room z f h e l = omega (arith, h, e, l)
-
-pub overflow_shl-left : goal.overflow_shl-left
-overflow_shl-left c =
-    let l = c.places in
-    let z = trailing_zeros w64 (bit_or l.left l.still) in
-    let low = or_lt 64 l.left l.still (omega arith) (omega arith) in
-    let next = (next_run c.args.block.now c.args.spot l.flags c.args.list.now l.list l.around l.left l.still l.invariant (omega arith) low (bit_true l.still z c.if-still-k-eq1.true)) in
-    let few = c.in_ok-row.ensures.few in
-    room z c.in_ok-row.row next.place.within next.first (omega (arith, few))
-
-pub overflow_shl-around : goal.overflow_shl-around
-overflow_shl-around c =
-    let l = c.places in
-    let z = trailing_zeros w64 (bit_or l.left l.still) in
-    let low = or_lt 64 l.left l.still (omega arith) (omega arith) in
-    let next = (next_run c.args.block.now c.args.spot l.flags c.args.list.now l.list l.around l.left l.still l.invariant (omega arith) low (bit_true l.still z c.if-still-k-eq1.true)) in
-    let few = c.in_ok-row.ensures.few in
-    room z c.in_ok-row.row next.place.within next.first (omega (arith, few))
-
-pub quiet_behind-still-requires : goal.quiet_behind-still-requires
-quiet_behind-still-requires c =
-    let l = c.places in
-    let z = trailing_zeros w64 (bit_or l.left l.still) in
-    let low = or_lt 64 l.left l.still (omega arith) (omega arith) in
-    let next = (next_run c.args.block.now c.args.spot l.flags c.args.list.now l.list l.around l.left l.still l.invariant (omega arith) low (bit_true l.still z c.if-still-k-eq1.true)) in
-    let few = c.in_ok-row.ensures.few in
-    room z c.in_ok-row.row next.place.within next.first (omega (arith, few))
-
-pub places-smaller-then-row-lt4 : goal.places-smaller-then-row-lt4
-places-smaller-then-row-lt4 c =
-    let l = c.places in
-    let z = trailing_zeros w64 (bit_or l.left l.still) in
-    let low = or_lt 64 l.left l.still (omega arith) (omega arith) in
-    sooner_run l.left l.still c.quiet_behind-still.result c.in_ok-row.row (omega arith) low (omega arith) (omega arith) (bit_true l.still z c.if-still-k-eq1.true) c.quiet_behind-still.ensures.fewer
-
-pub places-smaller-else-row-lt4 : goal.places-smaller-else-row-lt4
-places-smaller-else-row-lt4 c =
-    let l = c.places in
-    let z = trailing_zeros w64 (bit_or l.left l.still) in
-    let low = or_lt 64 l.left l.still (omega arith) (omega arith) in
-    sooner_run l.left l.still (bit_and l.still (l.still - 1)) c.in_ok-row.row (omega arith) low (omega arith) (let e = and_le_l l.still (l.still - 1) in omega (arith, e)) (bit_true l.still z c.if-still-k-eq1.true) (λ m h. h)
-
-pub places-smaller-then-bit : goal.places-smaller-then-bit
-places-smaller-then-bit c =
-    let l = c.places in
-    let z = trailing_zeros w64 (bit_or l.left l.still) in
-    let low = or_lt 64 l.left l.still (omega arith) (omega arith) in
-    sooner_place l.left l.still c.quiet_behind-still-then-bit.result (omega arith) low (omega arith) (omega arith) (next_left c.args.block.now c.args.spot l.flags c.args.list.now l.list l.around l.left l.still l.invariant (omega arith) low (bit_false l.still z c.if-still-k-eq1.false)).set (bit_false l.still z c.if-still-k-eq1.false) c.quiet_behind-still-then-bit.ensures.fewer
-
-pub places-smaller : goal.places-smaller
-places-smaller c =
-    let l = c.places in
-    let z = trailing_zeros w64 (bit_or l.left l.still) in
-    let low = or_lt 64 l.left l.still (omega arith) (omega arith) in
-    sooner_place l.left l.still l.still (omega arith) low (omega arith) (omega arith) (next_left c.args.block.now c.args.spot l.flags c.args.list.now l.list l.around l.left l.still l.invariant (omega arith) low (bit_false l.still z c.if-still-k-eq1.false)).set (bit_false l.still z c.if-still-k-eq1.false) (λ m h. h)
-
-pub places-preserved-then-row-lt4 : goal.places-preserved-then-row-lt4
-places-preserved-then-row-lt4 c =
-    let l = c.places in
-    let z = trailing_zeros w64 (bit_or l.left l.still) in
-    let low = or_lt 64 l.left l.still (omega arith) (omega arith) in
-    let call : RunListed c.args.block.now c.args.spot z c.in_ok-row.row l.flags c.list_run.new.flags l.list c.list_run.new.list l.around = record {
-      row_is = c.in_ok-row.ensures.row;
-      few = c.in_ok-row.ensures.few;
-      lights = c.in_ok-row.ensures.lights;
-      visited = c.in_ok-row.ensures.visited;
-      listed = c.in_ok-row.ensures.listed;
-    } in
-    cleaned_run_one c.args.block.now c.args.spot l.flags c.list_run.new.flags c.args.list.now l.list c.list_run.new.list l.around l.left l.still c.quiet_behind-still.result c.in_ok-row.row l.invariant (omega arith) low
-    (bit_true l.still z c.if-still-k-eq1.true) call (omega arith) c.quiet_behind-still.ensures.behind c.quiet_behind-still.ensures.fewer
-
-pub places-preserved-else-row-lt4 : goal.places-preserved-else-row-lt4
-places-preserved-else-row-lt4 c =
-    let l = c.places in
-    let z = trailing_zeros w64 (bit_or l.left l.still) in
-    let low = or_lt 64 l.left l.still (omega arith) (omega arith) in
-    let call : RunListed c.args.block.now c.args.spot z c.in_ok-row.row l.flags c.list_run.new.flags l.list c.list_run.new.list l.around = record {
-      row_is = c.in_ok-row.ensures.row;
-      few = c.in_ok-row.ensures.few;
-      lights = c.in_ok-row.ensures.lights;
-      visited = c.in_ok-row.ensures.visited;
-      listed = c.in_ok-row.ensures.listed;
-    } in
-    cleaned_run c.args.block.now c.args.spot l.flags c.list_run.new.flags c.args.list.now l.list c.list_run.new.list l.around l.left l.still c.in_ok-row.row l.invariant (omega arith) low
-    (bit_true l.still z c.if-still-k-eq1.true) call (omega arith)
-
-pub list_new-requires-clause-place : goal.list_new-requires-clause-place
-list_new-requires-clause-place c =
-    let l = c.places in
-    let z = trailing_zeros w64 (bit_or l.left l.still) in
-    let low = or_lt 64 l.left l.still (omega arith) (omega arith) in
-    (next_left c.args.block.now c.args.spot l.flags c.args.list.now l.list l.around l.left l.still l.invariant (omega arith) low (bit_false l.still z c.if-still-k-eq1.false)).place
-
-pub overflow_shl-around-then-bit : goal.overflow_shl-around-then-bit
-overflow_shl-around-then-bit c =
-    let l = c.places in
-    let z = trailing_zeros w64 (bit_or l.left l.still) in
-    let low = or_lt 64 l.left l.still (omega arith) (omega arith) in
-    (lowest (bit_or l.left l.still) (omega arith) low).0
-
-pub quiet_behind-still-requires-then-bit : goal.quiet_behind-still-requires-then-bit
-quiet_behind-still-requires-then-bit c =
-    let l = c.places in
-    let z = trailing_zeros w64 (bit_or l.left l.still) in
-    let low = or_lt 64 l.left l.still (omega arith) (omega arith) in
-    (lowest (bit_or l.left l.still) (omega arith) low).0
-
-pub places-preserved-then-bit : goal.places-preserved-then-bit
-places-preserved-then-bit c =
-    let l = c.places in
-    let z = trailing_zeros w64 (bit_or l.left l.still) in
-    let low = or_lt 64 l.left l.still (omega arith) (omega arith) in
-    cleaned_one c.args.block.now c.args.spot l.flags c.list_new.new.flags c.args.list.now l.list c.list_new.new.list l.around l.left l.still c.quiet_behind-still-then-bit.result c.in_ok-bit.bit l.invariant (omega arith) low
-    (bit_false l.still z c.if-still-k-eq1.false) c.in_ok-bit.ensures.bit c.in_ok-bit.ensures.lights c.in_ok-bit.ensures.visited c.in_ok-bit.ensures.listed c.if-bit.true
-    c.quiet_behind-still-then-bit.ensures.behind c.quiet_behind-still-then-bit.ensures.fewer
-
-pub places-preserved : goal.places-preserved
-places-preserved c =
-    let l = c.places in
-    let z = trailing_zeros w64 (bit_or l.left l.still) in
-    let low = or_lt 64 l.left l.still (omega arith) (omega arith) in
-    cleaned_zero c.args.block.now c.args.spot l.flags c.list_new.new.flags c.args.list.now l.list c.list_new.new.list l.around l.left l.still c.in_ok-bit.bit l.invariant (omega arith) low
-    (bit_false l.still z c.if-still-k-eq1.false) c.in_ok-bit.ensures.bit c.in_ok-bit.ensures.lights c.in_ok-bit.ensures.visited c.in_ok-bit.ensures.listed c.if-bit.false
-
-pub overflow_sub-left : goal.overflow_sub-left
-overflow_sub-left c =
-    let l = c.places in
-    let z = trailing_zeros w64 (bit_or l.left l.still) in
-    let low = or_lt 64 l.left l.still (omega arith) (omega arith) in
-    some_bit l.left z (next_left c.args.block.now c.args.spot l.flags c.args.list.now l.list l.around l.left l.still l.invariant (omega arith) low (bit_false l.still z c.if-still-k-eq1.false)).set
-
-pub returns-clause-flagged : goal.returns-clause-flagged
-returns-clause-flagged c =
-    let l = c.places in
-    (cleaned_all c.args.block.now c.args.spot l.flags c.args.list.now l.list l.around l.left l.still l.invariant (omega arith)).flagged
-
-pub returns-clause-listed : goal.returns-clause-listed
-returns-clause-listed c =
-    let l = c.places in
-    coming_all c.args.block.now 2 c.args.spot l.flags c.args.list.now l.list (cleaned_all c.args.block.now c.args.spot l.flags c.args.list.now l.list l.around l.left l.still l.invariant (omega arith))
-
-pub list_run-requires-clause-signs : goal.list_run-requires-clause-signs
-list_run-requires-clause-signs c = c.seen_around-signs.ensures (negative_in c.args.block.now) c.args.block.now.signs
-
-pub list_new-requires-clause-signs : goal.list_new-requires-clause-signs
-list_new-requires-clause-signs c = c.seen_around-signs.ensures (negative_in c.args.block.now) c.args.block.now.signs
 
 pub returns-then-left-eq0-clause-flagged : goal.returns-then-left-eq0-clause-flagged
 returns-then-left-eq0-clause-flagged c =
@@ -212,3 +28,159 @@ returns-then-left-eq0-clause-listed c =
     let at = c.args.spot in
     coming_all v 2 at c.args.flags.now c.args.list.now c.args.list.now
     (emptied v at c.args.flags.now c.args.list.now c.uncoded-left.result c.requires.spot.stripe c.requires.flagged (c.uncoded-left.ensures (moment_at v.shape 2 at.word at.stripe 0) c.requires.flagged) (omega arith))
+
+pub light_all-requires-clause-rows : goal.light_all-requires-clause-rows
+light_all-requires-clause-rows c m l set =
+    let v = c.args.block.now in
+    let at = c.args.spot in
+    becoming_row v 2 at.word at.stripe m
+    (sym (becoming v 2 at.word at.stripe c.uncoded-left.result c.ones-ones.result refl (λ m l. c.uncoded-left.ensures (moment_at v.shape 2 at.word at.stripe 0) c.requires.flagged m l ∙ left_codes v.shape (mag v) at.word at.stripe m l) c.ones-ones.ensures m l) ∙ set)
+
+pub loop-left-init : goal.loop-left-init
+loop-left-init c =
+    let v = c.args.block.now in
+    let at = c.args.spot in
+    let left = c.uncoded-left.result in
+    let ones = c.ones-ones.result in
+    let rings = c.ring_words-rings.result in
+    let crosses = c.cross_words-crosses.result in
+    let still = c.run_columns-still.result in
+    let t = moment_at v.shape 2 at.word at.stripe 0 in
+    let around = c.seen_around-around.result in
+    let n = c.list.inside.count in
+    let made = c.in_ok-make_room.ensures in
+    let bytes = c.make_room.new.bytes.items in
+    let slice = c.deref_mut.result.now in
+    let left_is : (m : ℕ) → m < 64 → on left m ≡ codes v.shape (mag v) 2 at.word at.stripe m =
+    λ m l. c.uncoded-left.ensures t c.requires.flagged m l ∙ left_codes v.shape (mag v) at.word at.stripe m l in
+    cleaned_none v at c.args.list.now slice n rings crosses still left
+    (prepared v at around (bit_and left ones) rings crosses still
+    (turned v at around (bit_and left ones) c.requires.spot.stripe (omega arith) (c.seen_around-around.ensures (lit_at v t) c.requires.flagged.lit) (becoming v 2 at.word at.stripe left ones refl left_is c.ones-ones.ensures))
+    c.ring_words-rings.ensures c.cross_words-crosses.ensures.places c.run_columns-still.ensures)
+    left_is (told_at c.list.inside.bytes.items bytes slice n c.args.list.now c.list.view_is made.told c.deref_mut.ensures.value) (sheet_at bytes slice (n + 136) (n + 128) c.deref_mut.ensures.value made.room (omega arith))
+
+early : (z : ℕ) → z < 64 → z % 8 ≡ 1 → z < 60
+early z h e = omega (arith, h, e)
+
+pub first_row-found-requires : goal.first_row-found-requires
+first_row-found-requires c =
+    let l = c.loop-left in
+    let v = c.args.block.now in
+    early (trailing_zeros w64 l.left)
+    (next_left v c.args.spot c.args.list.now l.bytes l.count c.ring_words-rings.result c.cross_words-crosses.result c.run_columns-still.result l.left l.invariant (omega arith) (omega arith)).place.within
+    (next_run v c.args.spot c.args.list.now l.bytes l.count c.ring_words-rings.result c.cross_words-crosses.result c.run_columns-still.result l.left l.invariant (omega arith) (omega arith) (sym c.bit_of.ensures ∙ c.if-bit_of.true)).first
+
+pub list_run-count-requires-clause-place : goal.list_run-count-requires-clause-place
+list_run-count-requires-clause-place c =
+    let l = c.loop-left in
+    (next_left c.args.block.now c.args.spot c.args.list.now l.bytes l.count c.ring_words-rings.result c.cross_words-crosses.result c.run_columns-still.result l.left l.invariant (omega arith) (omega arith)).place
+
+pub list_run-count-requires-clause-signs : goal.list_run-count-requires-clause-signs
+list_run-count-requires-clause-signs c = c.seen_around-signs.ensures (negative_in c.args.block.now) c.args.block.now.signs
+
+pub list_run-count-requires-clause-crosses : goal.list_run-count-requires-clause-crosses
+list_run-count-requires-clause-crosses c =
+    let v = c.args.block.now in
+    signs_here v c.args.spot c.seen_around-signs.result c.cross_words-crosses.result (c.seen_around-signs.ensures (negative_in v) v.signs) c.cross_words-crosses.ensures.signs
+
+pub list_run-count-requires-clause-first : goal.list_run-count-requires-clause-first
+list_run-count-requires-clause-first c =
+    let l = c.loop-left in
+    (next_run c.args.block.now c.args.spot c.args.list.now l.bytes l.count c.ring_words-rings.result c.cross_words-crosses.result c.run_columns-still.result l.left l.invariant (omega arith) (omega arith) (sym c.bit_of.ensures ∙ c.if-bit_of.true)).first
+
+pub list_run-count-requires-clause-rows : goal.list_run-count-requires-clause-rows
+list_run-count-requires-clause-rows c =
+    let l = c.loop-left in
+    (next_run c.args.block.now c.args.spot c.args.list.now l.bytes l.count c.ring_words-rings.result c.cross_words-crosses.result c.run_columns-still.result l.left l.invariant (omega arith) (omega arith) (sym c.bit_of.ensures ∙ c.if-bit_of.true)).rows
+
+pub list_run-count-requires-clause-room : goal.list_run-count-requires-clause-room
+list_run-count-requires-clause-room c =
+    let l = c.loop-left in
+    let v = c.args.block.now in
+    let rings = c.ring_words-rings.result in
+    let crosses = c.cross_words-crosses.result in
+    let still = c.run_columns-still.result in
+    let within = (next_left v c.args.spot c.args.list.now l.bytes l.count rings crosses still l.left l.invariant (omega arith) (omega arith)).place.within in
+    let run = next_run v c.args.spot c.args.list.now l.bytes l.count rings crosses still l.left l.invariant (omega arith) (omega arith) (sym c.bit_of.ensures ∙ c.if-bit_of.true) in
+    let onward = run.onward in
+    let first = run.first in
+    sheet_less l.bytes (l.count + 2 * (64 - l.invariant.n)) (l.count + 4) l.invariant.room (omega (arith, within, onward, first))
+
+pub loop-left-smaller-then-bit_of : goal.loop-left-smaller-then-bit_of
+loop-left-smaller-then-bit_of c = sooner_run c.loop-left.left c.first_row-found.result (omega arith) (omega arith)
+
+pub loop-left-preserved-then-bit_of : goal.loop-left-preserved-then-bit_of
+loop-left-preserved-then-bit_of c =
+    let l = c.loop-left in
+    let v = c.args.block.now in
+    let at = c.args.spot in
+    let rings = c.ring_words-rings.result in
+    let crosses = c.cross_words-crosses.result in
+    let still = c.run_columns-still.result in
+    let ones = c.ones-ones.result in
+    let z = trailing_zeros w64 l.left in
+    let found = c.first_row-found.result in
+    let next = c.list_run-count in
+    let set = sym c.bit_of.ensures ∙ c.if-bit_of.true in
+    let within = (next_left v at c.args.list.now l.bytes l.count rings crosses still l.left l.invariant (omega arith) (omega arith)).place.within in
+    let first = (next_run v at c.args.list.now l.bytes l.count rings crosses still l.left l.invariant (omega arith) (omega arith) set).first in
+    let call : RunListed v at crosses z found l.bytes next.new.bytes l.count next.result = record {
+      row_is = run_row v at z ones found within first c.ones-ones.ensures c.first_row-found.ensures.value;
+      few = c.first_row-found.ensures.few;
+      more = next.ensures.few;
+      sheet = next.ensures.sheet;
+      listed = next.ensures.listed;
+    } in
+    cleaned_run v at c.args.list.now l.bytes next.new.bytes l.count next.result rings crosses still l.left found l.invariant (omega arith) (omega arith) set call
+
+pub list_new-count-requires-clause-place : goal.list_new-count-requires-clause-place
+list_new-count-requires-clause-place c =
+    let l = c.loop-left in
+    (next_left c.args.block.now c.args.spot c.args.list.now l.bytes l.count c.ring_words-rings.result c.cross_words-crosses.result c.run_columns-still.result l.left l.invariant (omega arith) (omega arith)).place
+
+pub list_new-count-requires-clause-signs : goal.list_new-count-requires-clause-signs
+list_new-count-requires-clause-signs c = c.seen_around-signs.ensures (negative_in c.args.block.now) c.args.block.now.signs
+
+pub list_new-count-requires-clause-crosses : goal.list_new-count-requires-clause-crosses
+list_new-count-requires-clause-crosses c =
+    let v = c.args.block.now in
+    signs_here v c.args.spot c.seen_around-signs.result c.cross_words-crosses.result (c.seen_around-signs.ensures (negative_in v) v.signs) c.cross_words-crosses.ensures.signs
+
+pub list_new-count-requires-clause-room : goal.list_new-count-requires-clause-room
+list_new-count-requires-clause-room c =
+    let l = c.loop-left in
+    let next = next_left c.args.block.now c.args.spot c.args.list.now l.bytes l.count c.ring_words-rings.result c.cross_words-crosses.result c.run_columns-still.result l.left l.invariant (omega arith) (omega arith) in
+    let within = next.place.within in
+    let onward = next.onward in
+    sheet_less l.bytes (l.count + 2 * (64 - l.invariant.n)) (l.count + 2) l.invariant.room (omega (arith, within, onward))
+
+pub loop-left-smaller : goal.loop-left-smaller
+loop-left-smaller c = sooner_zero c.loop-left.left (omega arith) (omega arith)
+
+pub loop-left-preserved : goal.loop-left-preserved
+loop-left-preserved c =
+    let l = c.loop-left in
+    let next = c.list_new-count in
+    cleaned_place c.args.block.now c.args.spot c.args.list.now l.bytes next.new.bytes l.count next.result c.ring_words-rings.result c.cross_words-crosses.result c.run_columns-still.result l.left l.invariant (omega arith) (omega arith)
+    (sym c.bit_of.ensures ∙ c.if-bit_of.false) next.ensures.listed next.ensures.few next.ensures.sheet
+
+pub invariant_of-list-2 : goal.invariant_of-list-2
+invariant_of-list-2 c =
+    let l = c.loop-left in
+    let vector = c.make_room.new.bytes in
+    sheet_whole vector.items l.bytes vector.len l.count (sheet_less l.bytes (l.count + 2 * (64 - l.invariant.n)) l.count l.invariant.room (omega arith)) (omega arith)
+
+pub returns-clause-flagged : goal.returns-clause-flagged
+returns-clause-flagged c =
+    let v = c.args.block.now in
+    let at = c.args.spot in
+    flagged_left v at c.uncoded-left.result c.ones-ones.result c.args.flags.now c.light_all.new.self c.requires.spot.stripe
+    (λ m l. c.uncoded-left.ensures (moment_at v.shape 2 at.word at.stripe 0) c.requires.flagged m l ∙ left_codes v.shape (mag v) at.word at.stripe m l) c.ones-ones.ensures
+    c.requires.flagged c.light_all.ensures.lit c.light_all.ensures.visited
+
+pub returns-clause-listed : goal.returns-clause-listed
+returns-clause-listed c =
+    let l = c.loop-left in
+    let vector = c.make_room.new.bytes in
+    told_whole vector.items l.bytes vector.len l.count (omega arith)
+    ∙ cleaned_all c.args.block.now c.args.spot c.args.list.now l.bytes l.count c.ring_words-rings.result c.cross_words-crosses.result c.run_columns-still.result l.left l.invariant (omega arith)

@@ -1,4 +1,4 @@
-use Rattle.std.proofs.Common.{◌+◌, ◌-◌, ◌*◌, ◌/◌, ◌%◌, get_or, sym, ◌∙◌, subst, arith}
+use Rattle.std.proofs.Common.{◌+◌, ◌-◌, ◌*◌, sym, ◌∙◌, subst, arith}
 use Rattle.std.specs.Int.{bit_not, trailing_zeros, w64}
 use Rattle.std.specs.Prelude.{◌&&◌}
 use Rattle.std.specs.Int.RustNames.{bit_and}
@@ -12,10 +12,31 @@ use Rattle.jk_block.specs.Sheets.{told}
 use Rattle.jk_block.specs.Viewed.{lit_at, negative_in, with_word, moment_at}
 use Rattle.jk_block.proofs.Behind.{flagged_spread}
 use Rattle.jk_block.proofs.Coming.{told_all}
-use Rattle.jk_block.proofs.Foreseen.{Listing, foreseen_none, all_rows, some_rows, listing_next, listing_place, listing_all, cross_here}
+use Rattle.jk_block.proofs.Foreseen.{Listing, foreseen_none, all_rows, some_rows, listing_next, listing_place, listing_all, signs_here}
+use Rattle.jk_block.proofs.Propagated.{propagated_empty}
 use Rattle.jk_block.proofs.Sheeted.{sheet_at, sheet_less, sheet_whole, told_at, told_whole}
 use Rattle.jk_block.proofs.Slicing.{one_at}
 use Rattle.jk_block.proofs.word_lists.list_propagation.Goals as goal
+
+pub returns-then-candidates-eq0-clause-flagged : goal.returns-then-candidates-eq0-clause-flagged
+returns-then-candidates-eq0-clause-flagged c =
+    let v = c.args.block.now in
+    let at = c.args.spot in
+    let f = lit_at v (moment_at v.shape 0 at.word at.stripe 0) in
+    let around = c.seen_around-around.ensures f c.requires.flagged.lit in
+    (propagated_empty v at c.args.list.now c.seen_around-around.result c.members-candidates.result c.requires.spot.stripe around
+    (c.members-candidates.ensures (bordered f) (bordered (is_inside v.shape)) at.word at.stripe around.own around.left around.right c.inside-limits.ensures) c.if-candidates-eq0.true).1
+    c.args.flags.now c.requires.flagged
+
+pub returns-then-candidates-eq0-clause-listed : goal.returns-then-candidates-eq0-clause-listed
+returns-then-candidates-eq0-clause-listed c =
+    let v = c.args.block.now in
+    let at = c.args.spot in
+    let f = lit_at v (moment_at v.shape 0 at.word at.stripe 0) in
+    let around = c.seen_around-around.ensures f c.requires.flagged.lit in
+    told_all v 0 at c.args.list.now c.args.list.now
+    (propagated_empty v at c.args.list.now c.seen_around-around.result c.members-candidates.result c.requires.spot.stripe around
+    (c.members-candidates.ensures (bordered f) (bordered (is_inside v.shape)) at.word at.stripe around.own around.left around.right c.inside-limits.ensures) c.if-candidates-eq0.true).0
 
 pub visit_all-requires-clause-rows : goal.visit_all-requires-clause-rows
 visit_all-requires-clause-rows c =
@@ -72,26 +93,21 @@ loop-left-init c =
 pub loop-left-smaller : goal.loop-left-smaller
 loop-left-smaller c = sooner_zero c.loop-left.left (omega arith) (omega arith)
 
-pub list_member-count-requires-clause-place : goal.list_member-count-requires-clause-place
-list_member-count-requires-clause-place c =
+pub list_new-count-requires-clause-place : goal.list_new-count-requires-clause-place
+list_new-count-requires-clause-place c =
     let l = c.loop-left in
     listing_next c.args.block.now c.args.spot c.args.list.now (told l.bytes l.count) c.inside-limits.result c.ones-ones.result c.with_reached-all.result c.ring_words-rings.result c.cross_words-crosses.result l.left l.invariant.listing (omega arith) (omega arith)
 
-pub list_member-count-requires-clause-signs : goal.list_member-count-requires-clause-signs
-list_member-count-requires-clause-signs c = c.seen_around-signs.ensures (negative_in c.args.block.now) c.args.block.now.signs
+pub list_new-count-requires-clause-signs : goal.list_new-count-requires-clause-signs
+list_new-count-requires-clause-signs c = c.seen_around-signs.ensures (negative_in c.args.block.now) c.args.block.now.signs
 
-pub list_member-count-requires-clause-crosses : goal.list_member-count-requires-clause-crosses
-list_member-count-requires-clause-crosses c =
-    let l = c.loop-left in
+pub list_new-count-requires-clause-crosses : goal.list_new-count-requires-clause-crosses
+list_new-count-requires-clause-crosses c =
     let v = c.args.block.now in
-    let at = c.args.spot in
-    let z = trailing_zeros w64 l.left in
-    let place = listing_next v at c.args.list.now (told l.bytes l.count) c.inside-limits.result c.ones-ones.result c.with_reached-all.result c.ring_words-rings.result c.cross_words-crosses.result l.left l.invariant.listing (omega arith) (omega arith) in
-    cross_here (bordered (negative_in v)) at.word at.stripe z (get_or c.cross_words-crosses.result (z % 8 - 1) 0) (z / 8) 4 place.on_row
-    (c.cross_words-crosses.ensures.signs (bordered (negative_in v)) at.word at.stripe z place.within place.on_row (c.seen_around-signs.ensures (negative_in v) v.signs))
+    signs_here v c.args.spot c.seen_around-signs.result c.cross_words-crosses.result (c.seen_around-signs.ensures (negative_in v) v.signs) c.cross_words-crosses.ensures.signs
 
-pub list_member-count-requires-clause-room : goal.list_member-count-requires-clause-room
-list_member-count-requires-clause-room c =
+pub list_new-count-requires-clause-room : goal.list_new-count-requires-clause-room
+list_new-count-requires-clause-room c =
     let l = c.loop-left in
     let less = sooner_zero l.left (omega arith) (omega arith) in
     sheet_less l.bytes (l.count + 2 * (64 - trailing_zeros w64 l.left)) (l.count + 2) l.invariant.room (omega (arith, less))
@@ -103,7 +119,7 @@ loop-left-preserved c =
     let at = c.args.spot in
     let ones = c.ones-ones.result in
     let z = trailing_zeros w64 l.left in
-    let next = c.list_member-count in
+    let next = c.list_new-count in
     let less = sooner_zero l.left (omega arith) (omega arith) in
     let place = listing_next v at c.args.list.now (told l.bytes l.count) c.inside-limits.result ones c.with_reached-all.result c.ring_words-rings.result c.cross_words-crosses.result l.left l.invariant.listing (omega arith) (omega arith) in
     record {
