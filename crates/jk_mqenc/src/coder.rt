@@ -295,7 +295,7 @@ impl Coder {
         self.width = 1;
         self.push_out()?;
         self.width = 1;
-        self.push_out()?;
+        self.push_out()?; // the second of two bytes
         if let Some(byte) = self.held {
             if byte != 0xFF {
                 self.out.push(byte)?;
