@@ -1,5 +1,5 @@
 -- A word listed in the cleanup pass.
-use Rattle.std.proofs.Common.{◌≡◌, ℕ, ◌+◌, ◌-◌, ◌*◌, ◌/◌, ◌%◌, ◌^◌, ◌<◌, ◌≤◌, Bool, true, false, List, get_or, ◌++◌, sym, ap, ◌∙◌, inl, inr, append-nil, arith}
+use Rattle.std.proofs.Common.{◌≡◌, ℕ, ◌+◌, ◌-◌, ◌*◌, ◌/◌, ◌%◌, ◌^◌, ◌<◌, ◌≤◌, Bool, true, false, List, get_or, ◌++◌, sym, ap, ◌∙◌, subst, inl, inr, arith}
 use Rattle.std.specs.Prelude.{◌&&◌, nat_eq, nat_le, nat_lt}
 use Rattle.std.specs.Int.{trailing_zeros, w64}
 use Rattle.std.specs.Int.RustNames.{bit_and}
@@ -7,7 +7,7 @@ use Rattle.std.proofs.lemmas.Bool.{cases_lt, and_parts}
 use Rattle.std.proofs.lemmas.Bool.Decides.{nat_tests}
 use Rattle.std.proofs.lemmas.Nat.{and_le_l}
 use Rattle.jk_scan.specs.Bits.{on}
-use Rattle.jk_scan.specs.Moments.{number, visits}
+use Rattle.jk_scan.specs.Moments.{number, stripes, visits}
 use Rattle.jk_scan.specs.Passes.{Decided, new_decisions, rows_decisions, runs, first_one, run_decisions, place_decisions}
 use Rattle.jk_scan.specs.Words.{of_rows, bordered}
 use Rattle.jk_scan.specs.WordPlaces.{column, row}
@@ -21,12 +21,12 @@ use Rattle.jk_block.specs.Viewed.{seen, lit_at, moment_at, run_head, word_decisi
 use Rattle.jk_block.proofs.Cleaning.{none_before, is_one_number}
 use Rattle.jk_block.proofs.Columns.{rows_left, row_left, runs_is}
 use Rattle.jk_block.proofs.Rows.{start}
-use Rattle.jk_block.proofs.Coming.{mag, Passes, rests_of, append_both}
+use Rattle.jk_block.proofs.Coming.{mag, Told, told_none, told_skip, told_place, told_all, append_both}
 use Rattle.jk_block.proofs.Emptied.{no_run}
 use Rattle.jk_block.proofs.Listed.{run_is}
 use Rattle.jk_block.proofs.Propagated.{new_place}
 use Rattle.jk_block.proofs.Refining.{le_true, true_le, on_rows}
-use Rattle.jk_block.proofs.Remaining.{is_run, remaining_at, remaining_all, remaining_none, remaining_place, remaining_run, rest}
+use Rattle.jk_block.proofs.Remaining.{is_run, remaining_at, remaining_run}
 use Rattle.jk_block.proofs.Seeing.{is_due}
 use Rattle.jk_block.proofs.Sheeted.{sheet_less}
 use Rattle.jk_block.proofs.StillBits.{above_bits}
@@ -39,30 +39,27 @@ use Rattle.jk_block.proofs.Turned.{Prepared}
 pub record Cleaned (v : BlockPlane) (at : Spot) (old : Decided) (bytes : List ℕ) (count : ℕ) (rings crosses : List ℕ) (still left : ℕ) : Type 0 where
   pub prepared : Prepared v at rings crosses still
   pub n : ℕ
-  pub most : n ≤ 64
   pub begun : n % 8 ≡ 1 → ⊥
-  pub listed : old ++ word_decisions v.shape (seen v) 2 at.word at.stripe ≡ told bytes count ++ remaining_at v.shape (seen v) 2 at.word at.stripe n
+  pub coming : Told v 2 at n old (told bytes count)
   pub room : IsSheet bytes (count + 2 * (64 - n))
   pub left_is : (m : ℕ) → m < 64 → on left m ≡ (nat_le n m && codes v.shape (mag v) 2 at.word at.stripe m)
 
-pub cleaned_none : (v : BlockPlane) (at : Spot) (old : Decided) (bytes : List ℕ) (count : ℕ) (rings crosses : List ℕ) (still left : ℕ) → Prepared v at rings crosses still
+pub cleaned_none : (v : BlockPlane) (at : Spot) (old : Decided) (bytes : List ℕ) (count : ℕ) (rings crosses : List ℕ) (still left : ℕ) → at.stripe < stripes v.shape → Prepared v at rings crosses still
     → ((m : ℕ) → m < 64 → on left m ≡ codes v.shape (mag v) 2 at.word at.stripe m) → told bytes count ≡ old → IsSheet bytes (count + 128) → Cleaned v at old bytes count rings crosses still left
-cleaned_none v at old bytes count rings crosses still left prepared left_is same room = record {
+cleaned_none v at old bytes count rings crosses still left stripe prepared left_is same room = record {
   prepared = prepared;
   n = 0;
-  most = omega arith;
   begun = λ e. absurd (omega (arith, e));
-  listed = ap (λ (ds : Decided). ds ++ word_decisions v.shape (seen v) 2 at.word at.stripe) (sym same) ∙ ap (λ (ds : Decided). told bytes count ++ ds) (remaining_all v.shape (seen v) 2 at.word at.stripe);
+  coming = subst (λ ds. Told v 2 at 0 old ds) (sym same) (told_none v 2 at old stripe);
   room = room;
   left_is = λ m l. left_is m l ∙ ap (λ b. b && codes v.shape (mag v) 2 at.word at.stripe m) (let e : true ≡ nat_le 0 m = grind (arith, nat_tests) in e);
 }
 
 -- Nothing is listed up to d where no bit before z is left, and no column in run mode begins at z.
 passed : (v : BlockPlane) (at : Spot) (old : Decided) (bytes : List ℕ) (count : ℕ) (rings crosses : List ℕ) (still left : ℕ) (st : Cleaned v at old bytes count rings crosses still left) (z : ℕ) → z ≤ 64 → ((m : ℕ) → m < z → on left m ≡ false)
-    → (d : ℕ) → st.n ≤ d → d ≤ z → (d ≡ z → z < 64 → on still z ≡ false) → remaining_at v.shape (seen v) 2 at.word at.stripe st.n ≡ remaining_at v.shape (seen v) 2 at.word at.stripe d
+    → (d : ℕ) → st.n ≤ d → d ≤ z → (d ≡ z → z < 64 → on still z ≡ false) → Told v 2 at d old (told bytes count)
 passed v at old bytes count rings crosses still left st z most clear d from to end =
-    rest v.shape (seen v) 2 j i st.n (d - st.n) (omega (arith, from, to, most)) (λ m a b. rests_of v 2 j i m (passes m a (omega (arith, b, from))))
-    ∙ ap (remaining_at v.shape (seen v) 2 j i) (let e : st.n + (d - st.n) ≡ d = omega (arith, from) in e)
+    told_skip v 2 at st.n d old (told bytes count) st.coming from (omega (arith, to, most)) (λ m a b. record { plain = plain m a b; idle = idle m a (omega (arith, b, to)) })
   where
     j : ℕ
     j = at.word
@@ -88,9 +85,6 @@ passed v at old bytes count rings crosses still left st z most clear d from to e
           ap (is_run v.shape (mag v) 2 j i) (let h : m / 8 ≡ z / 8 = omega (arith, g, e) in h)
           ∙ second (nat_eq (z % 8) 1) (is_run v.shape (mag v) 2 j i (z / 8)) (sym (st.prepared.runs_are z within) ∙ end (omega (arith, b, to, g)) within) (ones z (omega (arith, g, e)))
     ]
-
-    passes : (m : ℕ) → st.n ≤ m → m < d → Passes v 2 j i m
-    passes m a b = record { plain = plain m a b; idle = idle m a (omega (arith, b, to)) }
 
 -- the next place that is left
 pub record NextLeft (v : BlockPlane) (at : Spot) (n z : ℕ) : Type 0 where
@@ -141,12 +135,8 @@ cleaned_place v at old bytes bytes' count count' rings crosses still left st p q
     record {
       prepared = st.prepared;
       n = z + 1;
-      most = omega (arith, within);
       begun = λ e. absurd (omega (arith, e, row_z));
-      listed = append_both (old ++ word_decisions s (seen v) 2 j i) list (place_decisions s (seen v) 2 (column j z) (row i z)) (remaining_at s (seen v) 2 j i z) (remaining_at s (seen v) 2 j i (z + 1))
-          (st.listed ∙ ap (λ (ds : Decided). list ++ ds) (passed v at old bytes count rings crosses still left st z (omega (arith, within)) l.2 z next.onward (omega arith) (λ _ _. off)))
-          (remaining_place s (seen v) 2 j i z within next.place.on_row next.place.inside)
-          ∙ ap (λ (ds : Decided). ds ++ remaining_at s (seen v) 2 j i (z + 1)) (sym is);
+      coming = told_place v 2 at z old list (told bytes' count') (passed v at old bytes count rings crosses still left st z (omega (arith, within)) l.2 z onward (omega arith) (λ _ _. off)) next.place is;
       room = sheet_less bytes' (count + 2 * (64 - st.n)) (count' + 2 * (64 - (z + 1))) (sheet (count + 2 * (64 - st.n)) st.room) (omega (arith, few, onward, within));
       left_is = λ m h. left_rest z m st.n (on left m) (on (bit_and left (left - 1)) m) (codes s (mag v) 2 j i m) next.onward (st.left_is m h) (rest_at left p q m ∙ ap (λ b. b && on left m) (later z m));
     }
@@ -215,6 +205,7 @@ cleaned_run v at old bytes bytes' count count' rings crosses still left f st p q
     let more = call.more in
     let list = told bytes count in
     let t = moment_at s 2 j i (z + f) in
+    let before = passed v at old bytes count rings crosses still left st z (omega (arith, within)) l.2 (z - 1) onward (omega arith) (λ e. absurd (omega (arith, e, first))) in
     let same : (z - 1) / 8 ≡ z / 8 = omega (arith, first) in
     let behind : remaining_at s (seen v) 2 j i (z - 1) ≡ run_head s (seen v) t (column j z) i f ++ remaining_at s (seen v) 2 j i (z + f + 1) =
     remaining_run s (seen v) 2 j i (z - 1) f (run_head s (seen v) t (column j z) i f) (omega (arith, within)) (omega (arith, first)) few (ap (is_run s (mag v) 2 j i) same ∙ next.run)
@@ -225,12 +216,14 @@ cleaned_run v at old bytes bytes' count count' rings crosses still left f st p q
     record {
       prepared = st.prepared;
       n = z + f + 1;
-      most = omega (arith, within, first, few);
       begun = λ e. absurd (omega (arith, e, first, few));
-      listed = append_both (old ++ word_decisions s (seen v) 2 j i) list (run_head s (seen v) t (column j z) i f) (remaining_at s (seen v) 2 j i (z - 1)) (remaining_at s (seen v) 2 j i (z + f + 1))
-          (st.listed ∙ ap (λ (ds : Decided). list ++ ds) (passed v at old bytes count rings crosses still left st z (omega (arith, within)) l.2 (z - 1) onward (omega arith) (λ e. absurd (omega (arith, e, first))))) behind
-          ∙ ap (λ (ds : Decided). ds ++ remaining_at s (seen v) 2 j i (z + f + 1))
-          (sym (call.listed t (λ less. st.prepared.crosses_are (z + f) (omega (arith, within, first, less)) (on_rows ((z + f) % 8) (omega (arith, first, less)) (omega (arith, first, less))))));
+      coming = record {
+        most = omega (arith, within, first, few);
+        stripe = before.stripe;
+        listed = append_both (old ++ word_decisions s (seen v) 2 j i) list (run_head s (seen v) t (column j z) i f) (remaining_at s (seen v) 2 j i (z - 1)) (remaining_at s (seen v) 2 j i (z + f + 1)) before.listed behind
+            ∙ ap (λ (ds : Decided). ds ++ remaining_at s (seen v) 2 j i (z + f + 1))
+            (sym (call.listed t (λ less. st.prepared.crosses_are (z + f) (omega (arith, within, first, less)) (on_rows ((z + f) % 8) (omega (arith, first, less)) (omega (arith, first, less))))));
+      };
       room = sheet_less bytes' (count + 2 * (64 - st.n)) (count' + 2 * (64 - (z + f + 1))) (call.sheet (count + 2 * (64 - st.n)) st.room) (omega (arith, more, onward, within, first, few));
       left_is = λ m h. left_rest (z + f) m st.n (on left m) (on (bit_and left (0xFFFF_FFFF_FFFF_FFFE * 2 ^ (z + f) % 2 ^ 64)) m) (codes s (mag v) 2 j i m) (omega (arith, onward)) (st.left_is m h) (above_bits left (z + f) m h);
     }
@@ -249,8 +242,8 @@ cleaned_run v at old bytes bytes' count count' rings crosses still left f st p q
 -- nothing is left
 pub cleaned_all : (v : BlockPlane) (at : Spot) (old : Decided) (bytes : List ℕ) (count : ℕ) (rings crosses : List ℕ) (still left : ℕ) → Cleaned v at old bytes count rings crosses still left → left ≡ 0 → told bytes count ≡ old ++ word_decisions v.shape (seen v) 2 at.word at.stripe
 cleaned_all v at old bytes count rings crosses still left st empty =
-    sym (st.listed ∙ ap (λ (ds : Decided). told bytes count ++ ds)
-    (passed v at old bytes count rings crosses still left st 64 (omega arith) (λ m h. ap (λ w. on w m) empty ∙ on_zero m) 64 st.most (omega arith) (λ _ l. absurd (omega (arith, l))) ∙ remaining_none v.shape (seen v) 2 at.word at.stripe) ∙ append-nil (told bytes count))
+    told_all v 2 at old (told bytes count)
+    (passed v at old bytes count rings crosses still left st 64 (omega arith) (λ m h. ap (λ w. on w m) empty ∙ on_zero m) 64 st.coming.most (omega arith) (λ _ l. absurd (omega (arith, l))))
 
 -- the loop comes to an end: the lowest bit goes up
 pub sooner_run : (left f : ℕ) → 0 < left → left < 2 ^ 64 → 64 - trailing_zeros w64 (bit_and left (0xFFFF_FFFF_FFFF_FFFE * 2 ^ (trailing_zeros w64 left + f) % 2 ^ 64)) < 64 - trailing_zeros w64 left

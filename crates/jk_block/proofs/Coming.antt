@@ -1,7 +1,6 @@
 -- How far a word is listed in a pass.
 use Rattle.std.proofs.Common.{◌≡◌, ℕ, zero, suc, ◌+◌, ◌-◌, ◌/◌, ◌%◌, ◌<◌, ◌≤◌, Bool, true, false, ◌++◌, refl, sym, ap, ◌∙◌, subst, append_assoc, append-nil, arith}
 use Rattle.std.specs.Prelude.{◌&&◌, ◌||◌, nat_eq}
-use Rattle.std.proofs.lemmas.Bool.{and_parts}
 use Rattle.std.proofs.lemmas.Bool.Decides.{nat_tests}
 use Rattle.jk_scan.specs.Neighbours.{Field, is_inside}
 use Rattle.jk_scan.specs.Moments.{stripes}
@@ -85,28 +84,12 @@ pub record Told (v : BlockPlane) (pass : ℕ) (at : Spot) (n : ℕ) (old list : 
 pub told_none : (v : BlockPlane) (pass : ℕ) (at : Spot) (list : Decided) → at.stripe < stripes v.shape → Told v pass at 0 list list
 told_none v pass at list stripe = record { most = omega arith; stripe = stripe; listed = ap (λ (ds : Decided). list ++ ds) (remaining_all v.shape (seen v) pass at.word at.stripe) }
 
--- The same, and the flags have come there too.
-pub record Coming (v : BlockPlane) (pass : ℕ) (at : Spot) (n : ℕ) (flags : Flags) (old list : Decided) : Type 0 where
-  pub most : n ≤ 64
-  pub stripe : at.stripe < stripes v.shape
-  pub flagged : IsFlagged v (moment_at v.shape pass at.word at.stripe n) flags
-  pub listed : old ++ word_decisions v.shape (seen v) pass at.word at.stripe ≡ list ++ remaining_at v.shape (seen v) pass at.word at.stripe n
-
-told_of : (v : BlockPlane) (pass : ℕ) (at : Spot) (n : ℕ) (flags : Flags) (old list : Decided) → Coming v pass at n flags old list → Told v pass at n old list
-told_of v pass at n flags old list c = record { most = c.most; stripe = c.stripe; listed = c.listed }
-
-coming_of : (v : BlockPlane) (pass : ℕ) (at : Spot) (n : ℕ) (flags : Flags) (old list : Decided) → Told v pass at n old list → IsFlagged v (moment_at v.shape pass at.word at.stripe n) flags → Coming v pass at n flags old list
-coming_of v pass at n flags old list t h = record { most = t.most; stripe = t.stripe; flagged = h; listed = t.listed }
-
-pub coming_none : (v : BlockPlane) (pass : ℕ) (at : Spot) (flags : Flags) (list : Decided) → at.stripe < stripes v.shape → IsFlagged v (moment_at v.shape pass at.word at.stripe 0) flags → Coming v pass at 0 flags list list
-coming_none v pass at flags list stripe h = coming_of v pass at 0 flags list list (told_none v pass at list stripe) h
-
 -- nothing happens at a bit
 pub record Passes (v : BlockPlane) (pass j i k : ℕ) : Type 0 where
   pub plain : k % 8 ≡ 0 → is_run v.shape (mag v) pass j i (k / 8) ≡ false
   pub idle : codes v.shape (mag v) pass j i k ≡ false
 
-pub rests_of : (v : BlockPlane) (pass j i k : ℕ) → Passes v pass j i k → Rests v.shape (mag v) pass j i (k / 8) (k % 8)
+rests_of : (v : BlockPlane) (pass j i k : ℕ) → Passes v pass j i k → Rests v.shape (mag v) pass j i (k / 8) (k % 8)
 rests_of v pass j i k p = record {
   plain = p.plain;
   idle = λ a b. second (of_rows (k % 8)) (is_due v.shape (mag v) pass (column j k) (row i k)) p.idle (on_rows (k % 8) a b);
@@ -129,13 +112,6 @@ told_skip v pass at n m old list c le most p = record {
       ∙ ap (remaining_at v.shape (seen v) pass at.word at.stripe) (let e : n + (m - n) ≡ m = omega (arith, le) in e));
 }
 
-pub coming_skip : (v : BlockPlane) (pass : ℕ) (at : Spot) (n m : ℕ) (flags : Flags) (old list : Decided) → Coming v pass at n flags old list → n ≤ m → m ≤ 64
-    → ((l : ℕ) → n ≤ l → l < m → Passes v pass at.word at.stripe l) → Coming v pass at m flags old list
-coming_skip v pass at n m flags old list c le most p =
-    coming_of v pass at m flags old list (told_skip v pass at n m old list (told_of v pass at n flags old list c) le most p)
-    (same_flags v (moment_at v.shape pass at.word at.stripe n) (moment_at v.shape pass at.word at.stripe m) flags
-    (idle_to v pass at.word at.stripe n m c.stripe le (λ l a b. idle_none v pass at.word at.stripe l (p l a b).idle)) c.flagged)
-
 pub append_both : (a b c d e : Decided) → a ≡ b ++ d → d ≡ c ++ e → a ≡ (b ++ c) ++ e
 append_both a b c d e f g = f ∙ ap (λ (ds : Decided). b ++ ds) g ∙ sym (append_assoc b c e)
 
@@ -152,9 +128,3 @@ told_place v pass at n old list list' c place e = record {
 
 pub told_all : (v : BlockPlane) (pass : ℕ) (at : Spot) (old list : Decided) → Told v pass at 64 old list → list ≡ old ++ word_decisions v.shape (seen v) pass at.word at.stripe
 told_all v pass at old list c = sym (c.listed ∙ ap (λ (ds : Decided). list ++ ds) (remaining_none v.shape (seen v) pass at.word at.stripe) ∙ append-nil list)
-
-pub coming_all : (v : BlockPlane) (pass : ℕ) (at : Spot) (flags : Flags) (old list : Decided) → Coming v pass at 64 flags old list → list ≡ old ++ word_decisions v.shape (seen v) pass at.word at.stripe
-coming_all v pass at flags old list c = told_all v pass at old list (told_of v pass at 64 flags old list c)
-
-pub place_codes : (v : BlockPlane) (pass j i k : ℕ) → codes v.shape (mag v) pass j i k ≡ true → (of_rows (k % 8) ≡ true) × (is_due v.shape (mag v) pass (column j k) (row i k) ≡ true)
-place_codes v pass j i k e = and_parts (of_rows (k % 8)) (is_due v.shape (mag v) pass (column j k) (row i k)) e

@@ -1,9 +1,9 @@
 -- Lists row by row, as fields.
-use Rattle.std.proofs.Common.{◌≡◌, ℕ, zero, suc, ◌+◌, ◌-◌, ◌*◌, ◌/◌, ◌%◌, ◌^◌, ◌<◌, ◌≤◌, Bool, true, false, cond, List, length, get_or, set, refl, sym, ap, ◌∙◌, subst, inl, inr, replicate, map, arith}
+use Rattle.std.proofs.Common.{◌≡◌, ℕ, zero, suc, ◌+◌, ◌-◌, ◌*◌, ◌/◌, ◌%◌, ◌^◌, ◌<◌, ◌≤◌, Bool, true, false, cond, List, length, get_or, set, refl, sym, ap, ◌∙◌, subst, inl, inr, replicate, arith}
 use Rattle.std.specs.Prelude.{◌&&◌, ◌||◌, nat_eq, nat_lt, ◌≢◌}
 use Rattle.std.proofs.lemmas.Bool.{and_parts, cases_lt}
 use Rattle.std.proofs.lemmas.Bool.Decides.{nat_tests}
-use Rattle.std.proofs.lemmas.Nat.{same_from_place, mul-add-lt, pow_pos, div_below, pow-add, div-add-mod'}
+use Rattle.std.proofs.lemmas.Nat.{same_from_place, pow_pos, div_below, pow-add, div-add-mod'}
 use Rattle.std.proofs.lemmas.List.{get_or-replicate, get_or_past, get_or-set_same, get_or-set_other, length-replicate}
 use Rattle.std.proofs.Math.Nat.{mul_comm, mul-le-mul_right, div-mul-le_self, mod-lt, lt-div-mul-add}
 use Rattle.std.proofs.lemmas.Grind.{pow_more}
@@ -11,9 +11,8 @@ use Rattle.jk_model.specs.Decisions.{State}
 use Rattle.jk_scan.specs.declared.shape.BlockShape.{BlockShape}
 use Rattle.jk_scan.specs.Neighbours.{Field, is_inside}
 use Rattle.jk_scan.proofs.Laws.{same_field, inside_parts}
-use Rattle.jk_block.specs.Meaning.{above, with_sign, values_of}
-use Rattle.jk_block.specs.Reading.{Progress, put, coefficients}
-use Rattle.std.specs.List.{range_with_len}
+use Rattle.jk_block.specs.Meaning.{above}
+use Rattle.jk_block.specs.Reading.{Progress, put}
 use Rattle.jk_scan.specs.Moments.{stripes}
 use Rattle.jk_scan.specs.Words.{of_rows}
 use Rattle.jk_scan.specs.WordPlaces.{column, row, also}
@@ -30,13 +29,6 @@ pub progress_same : (m m' : Field ℕ) (n n' v v' : Field Bool) (c : State) → 
     → (let a : Progress = record { magnitude = m; negative = n; visited = v; coder = c } in a) ≡ (let b : Progress = record { magnitude = m'; negative = n'; visited = v'; coder = c } in b)
 unfolding drawn
 progress_same m m' n n' v v' c e f g = ap (λ (m : Field ℕ). drawn m n v c) e ∙ ap (λ (n : Field Bool). drawn m' n v c) f ∙ ap (λ (v : Field Bool). drawn m' n' v c) g
-
-pub place_fits : (s : BlockShape) (x y : ℕ) → is_inside s x y ≡ true → s.width * s.height ≤ 4096 → y * s.width + x < 4096
-place_fits s x y i h =
-    let p = inside_parts s x y i in
-    let m = mul-add-lt y s.width x s.height p.1 p.0 in
-    let c = mul_comm s.width s.height in
-    omega (arith, m, c)
 
 pub field_put : {X : Type 0} (s : BlockShape) (xs : List X) (x y : ℕ) (v d : X) → is_inside s x y ≡ true → y * s.width + x < length xs → field_of s (set xs (y * s.width + x) v) d ≡ put (field_of s xs d) x y v
 field_put {X} s xs x y v d i l = same_field (field_of s (set xs (y * s.width + x) v) d) (put (field_of s xs d) x y v) (λ x' y'. by_inside x' y' (is_inside s x' y') refl (nat_eq x' x && nat_eq y' y) refl)
@@ -108,23 +100,6 @@ listed_at s xs d i l =
     some : (i w k : ℕ) → i < w * k → 0 < w
     some i zero k l = absurd (omega arith)
     some i (suc w) k l = omega arith
-
-pub listed_small : (s : BlockShape) (xs : List ℕ) (most i : ℕ) → i < s.width * s.height → ((x y : ℕ) → is_inside s x y ≡ true → field_of s xs 0 x y < most) → get_or xs i 0 < most
-listed_small s xs most i l h = let a = listed_at s xs 0 i l in subst (λ m. m < most) a.1 (h (i % s.width) (i / s.width) a.0)
-
-range_same : {X : Type 0} (f g : ℕ → X) (a n : ℕ) → ((i : ℕ) → i < a + n → f i ≡ g i) → map f (range_with_len a n) ≡ map g (range_with_len a n)
-range_same f g a zero h = refl
-range_same f g a (suc n) h = let e = h a (omega arith) in let r = range_same f g (a + 1) n (λ i l. h i (omega arith)) in cc
-
-pub listed_is : (s : BlockShape) (ms ns vs : List ℕ) (c : State) → map (λ i. with_sign (flagged s ns (i % s.width) (i / s.width)) (get_or ms i 0)) (range_with_len 0 (s.width * s.height))
-    ≡ values_of s (coefficients (let z : Progress = record { magnitude = field_of s ms 0; negative = flagged s ns; visited = flagged s vs; coder = c } in z))
-unfolding values_of
-listed_is s ms ns vs c =
-    range_same (λ i. with_sign (flagged s ns (i % s.width) (i / s.width)) (get_or ms i 0)) (λ i. with_sign (flagged s ns (i % s.width) (i / s.width)) (field_of s ms 0 (i % s.width) (i / s.width))) 0 (s.width * s.height)
-    (λ i l.
-    let h : i < s.width * s.height = omega arith in
-    let a = listed_at s ms 0 i h in
-    ap (λ (m : ℕ). with_sign (flagged s ns (i % s.width) (i / s.width)) m) (sym a.1))
 
 -- a place of words
 pub record Spotted (s : BlockShape) (words : List ℕ) (j i k : ℕ) : Type 0 where
@@ -228,14 +203,6 @@ with_one words p k = set words p (bit_or (get_or words p 0) (1 * 2 ^ k % 2 ^ 64)
 
 abbrev pub with_sign_bit : (words : List ℕ) (p k d : ℕ) → List ℕ
 with_sign_bit words p k d = set words p (bit_or (bit_and (get_or words p 0) (bit_not w64 (1 * 2 ^ k % 2 ^ 64))) (d * 2 ^ k % 2 ^ 64))
-
--- words of any field with another sign of a place
-pub sign_put : (s : BlockShape) (f : Field Bool) (words : List ℕ) (j i k p d : ℕ) (negative : Bool) → Written s words j i k p → d ≡ cond negative 1 0 → IsDrawn s f words → IsDrawn s (put f (column j k) (row i k) negative) (with_sign_bit words p k d)
-sign_put s f words j i k p d negative a ed h =
-    subst (λ d. IsDrawn s (put f (column j k) (row i k) negative) (with_sign_bit words p k d)) (sym ed)
-    (subst (λ p. IsDrawn s (put f (column j k) (row i k) negative) (with_sign_bit words p k (cond negative 1 0))) (sym a.place)
-    (drawn_put s f words j i k (bit_or (bit_and (get_or words (word_at s (j + 1) (i + 1)) 0) (bit_not w64 (1 * 2 ^ k % 2 ^ 64))) (cond negative 1 0 * 2 ^ k % 2 ^ 64)) negative a.spotted.sized a.spotted.room a.spotted.word a.spotted.stripe a.spotted.within a.spotted.on_row h
-    (put_bit (get_or words (word_at s (j + 1) (i + 1)) 0) k negative a.spotted.within)))
 
 pub lights_at : (s : BlockShape) (ms words : List ℕ) (j i k p q m : ℕ) → Written s words j i k p → q ≡ row i k * s.width + column j k → q < length ms → 0 < m
     → IsDrawn s (lit_of s ms) words → IsDrawn s (lit_of s (set ms q m)) (with_one words p k)

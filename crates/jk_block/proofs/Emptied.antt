@@ -15,7 +15,7 @@ use Rattle.jk_block.specs.declared.plane.BlockPlane.{BlockPlane}
 use Rattle.jk_block.specs.declared.spot.Spot.{Spot}
 use Rattle.jk_block.specs.Viewed.{lit_at, spread_at, IsFlagged, moment_at}
 use Rattle.jk_block.proofs.Columns.{rows_left, row_left, runs_is}
-use Rattle.jk_block.proofs.Coming.{mag, Coming, coming_none, coming_skip}
+use Rattle.jk_block.proofs.Coming.{mag, same_flags, idle_to, idle_none, Told, told_none, told_skip}
 use Rattle.jk_block.proofs.Remaining.{is_run}
 use Rattle.jk_block.proofs.Rows.{start}
 use Rattle.jk_block.proofs.Seeing.{is_due}
@@ -56,9 +56,11 @@ no_run v j i c off = by (is_run v.shape (mag v) 2 j i c) refl
 
 pub emptied : (v : BlockPlane) (at : Spot) (flags : Flags) (list : Decided) (left : ℕ) → at.stripe < stripes v.shape → IsFlagged v (moment_at v.shape 2 at.word at.stripe 0) flags
     → ((m : ℕ) → m < 64 → on left m ≡ (of_rows (m % 8) && (is_inside v.shape (column at.word m) (row at.stripe m) && (not (lit_at v (moment_at v.shape 2 at.word at.stripe 0) (column at.word m) (row at.stripe m)) && not (spread_at v (moment_at v.shape 2 at.word at.stripe 0) (column at.word m) (row at.stripe m))))))
-    → left ≡ 0 → Coming v 2 at 64 flags list list
-emptied v at flags list left stripe flagged left_is empty =
-    coming_skip v 2 at 0 64 flags list list (coming_none v 2 at flags list stripe flagged) (omega arith) (omega arith) (λ m a b. record { plain = plain m b; idle = idle m b })
+    → left ≡ 0 → Told v 2 at 64 list list × IsFlagged v (moment_at v.shape 2 at.word at.stripe 64) flags
+emptied v at flags list left stripe flagged left_is empty = (
+  told_skip v 2 at 0 64 list list (told_none v 2 at list stripe) (omega arith) (omega arith) (λ m a b. record { plain = plain m b; idle = idle m b }),
+  same_flags v (moment_at v.shape 2 at.word at.stripe 0) (moment_at v.shape 2 at.word at.stripe 64) flags (idle_to v 2 at.word at.stripe 0 64 stripe (omega arith) (λ m a b. idle_none v 2 at.word at.stripe m (idle m b))) flagged,
+)
   where
     idle : (m : ℕ) → m < 64 → codes v.shape (mag v) 2 at.word at.stripe m ≡ false
     idle m l = sym (left_codes v.shape (mag v) at.word at.stripe m l) ∙ sym (left_is m l) ∙ ap (λ w. on w m) empty ∙ on_zero m

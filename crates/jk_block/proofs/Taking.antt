@@ -1,8 +1,7 @@
 -- Steps that code takes.
-use Rattle.std.proofs.Common.{◌≡◌, ℕ, zero, suc, ◌+◌, ◌*◌, ◌/◌, ◌^◌, ◌<◌, ◌≤◌, Bool, true, false, cond, List, Result, Ok, Err, refl, sym, ap, ◌∙◌, subst, inl, inr, arith}
+use Rattle.std.proofs.Common.{◌≡◌, ℕ, zero, suc, ◌+◌, ◌/◌, ◌^◌, ◌<◌, Bool, true, false, cond, List, Result, Ok, Err, refl, sym, ap, ◌∙◌, subst, inl, inr, arith}
 use Rattle.std.specs.Prelude.{nat_le}
 use Rattle.std.proofs.lemmas.Bool.{cases_lt}
-use Rattle.std.proofs.Math.Nat.{mul_comm, mul-le-mul_left}
 use Rattle.jk_math.specs.declared.fault.Fault.{Fault}
 use Rattle.jk_math.specs.Answer.{◌>>=◌}
 use Rattle.jk_math.specs.Steps.{done}
@@ -12,13 +11,11 @@ use Rattle.jk_mqdec.specs.Standing.{View, Stands}
 use Rattle.jk_scan.specs.declared.shape.BlockShape.{BlockShape}
 use Rattle.jk_scan.specs.declared.contexts.SignContext.{SignContext}
 use Rattle.jk_scan.specs.Contexts.{refine_context_of, run_length, uniform}
-use Rattle.jk_scan.specs.Neighbours.{is_inside, touched, zero_at, sign_at}
+use Rattle.jk_scan.specs.Neighbours.{touched, zero_at, sign_at}
 use Rattle.jk_scan.specs.Passes.{flipped}
-use Rattle.jk_scan.proofs.Laws.{inside_parts}
 use Rattle.jk_block.specs.declared.sketch.Sketch.{Sketch}
 use Rattle.jk_block.specs.Reading.{Progress, lit, times, decide, with_coder, coded_as, read_sign, read_new, read_next, rows_at, row_named, read_from, read_run, pass_at, blank}
 use Rattle.jk_block.specs.Sketches.{progress, Advanced, Takes}
-use Rattle.jk_block.proofs.Drawing.{place_fits}
 
 fault : Fault → Result (Bool × State) Fault
 fault e = Err e
@@ -39,15 +36,6 @@ decide_ok bytes cx s bit e = ap (λ (r : Result Bool Fault). r >>= λ bit. done 
 pub decide_err : (bytes : List ℕ) (cx : ℕ) (s : State) (e : Fault) → (let r : Result Bool Fault = Err e in r) ≡ answer bytes s cx → decide bytes cx s ≡ Err e
 unfolding decide bit_err
 decide_err bytes cx s e h = ap (λ (r : Result Bool Fault). r >>= λ bit. done (bit, next bytes s cx)) (sym h)
-
-pub inside_small : (s : BlockShape) (x y : ℕ) → is_inside s x y ≡ true → s.width * s.height ≤ 4096 → (x < 4096) × (y < 4096)
-inside_small s x y i h =
-    let fits = place_fits s x y i h in
-    let p = inside_parts s x y i in
-    let c = mul_comm s.width s.height in
-    let wide : 1 ≤ s.width = let p0 = p.0 in omega arith in
-    let m : s.height * 1 ≤ s.height * s.width = mul-le-mul_left s.height wide in
-    (omega (arith, fits), let p1 = p.1 in omega (arith, m, c))
 
 -- the steps of a place, where the decoder gave a bit or a fault
 pub sign_takes : (bytes : List ℕ) (s : BlockShape) (b x y : ℕ) (z : Progress) (c : SignContext) (bit : Bool) (n : State) → c ≡ sign_at (lit s z) z.negative x y → decide bytes c.context z.coder ≡ Ok (bit, n)
@@ -127,9 +115,6 @@ pub record Taken (steps : List ℕ → BlockShape → ℕ → Progress → Resul
 pub taken_none : (steps : List ℕ → BlockShape → ℕ → Progress → Result Progress Fault) (k : Sketch) (v : View) → Taken steps 0 k k v v
 taken_none steps k v = record { shape = refl; bytes = refl; advanced = λ coder st. advanced_none (steps v.bytes k.shape) k v coder st }
 
-unit_ok : Unit {0} → Result (Unit {0}) Fault
-unit_ok u = Ok u
-
 pub taken_more : (steps : List ℕ → BlockShape → ℕ → Progress → Result Progress Fault) (n : ℕ) (k k' k'' : Sketch) (v v' v'' : View) → Taken steps n k k' v v' → k''.shape ≡ k'.shape → v''.bytes ≡ v'.bytes
     → ((coder : State) → Stands v' coder → Advanced (steps v'.bytes k'.shape n) k' k'' v'' coder) → Taken steps (n + 1) k k'' v v''
 taken_more steps n k k' k'' v v' v'' t shape bytes step = record {
@@ -202,32 +187,11 @@ run_goes bytes s b x i z bit high low n m o e h g k = run_third bytes s b x i z 
 pub advanced_at : (f : ℕ → Progress → Result Progress Fault) (n m : ℕ) (k k' : Sketch) (v' : View) (coder : State) → n ≡ m → Advanced (times n f) k k' v' coder → Advanced (times m f) k k' v' coder
 advanced_at f n m k k' v' coder e a = subst (λ (n : ℕ). Advanced (times n f) k k' v' coder) e a
 
--- a step behind another one's value
-pub takes_behind : {A : Type 0} (step other : Progress → Result Progress Fault) (k k' new : Sketch) (v v' v'' : View) (next : State → State) (r : Result A Fault) → ((coder : State) → Stands v coder → Stands v' (next coder))
-    → ((coder : State) → Stands v coder → step (progress k coder) ≡ other (progress k' (next coder))) → Takes other k' new v' v'' r → Takes step k new v v'' r
-takes_behind step other k k' new v v' v'' next (Ok u) stands same t = λ coder st. let a = t (next coder) (stands coder st) in record { next = a.next; stands = a.stands; is = same coder st ∙ a.is }
-takes_behind step other k k' new v v' v'' next (Err e) stands same t = λ coder st. same coder st ∙ t (next coder) (stands coder st)
-
 -- passes over the block from its start
 pub from_blank : (bytes bytes' : List ℕ) (s : BlockShape) (planes passes : ℕ) (k : Sketch) (r : Result Progress Fault) → bytes' ≡ bytes → k.shape ≡ s → progress k blank.coder ≡ blank
     → times passes (pass_at bytes' k.shape planes) (progress k blank.coder) ≡ r → times passes (pass_at bytes s planes) blank ≡ r
 from_blank bytes bytes' s planes passes k r b h e t =
     sym (ap (λ (bs : List ℕ). times passes (pass_at bs k.shape planes) (progress k blank.coder)) b ∙ ap (λ (s : BlockShape). times passes (pass_at bytes s planes) (progress k blank.coder)) h ∙ ap (λ (z : Progress). times passes (pass_at bytes s planes) z) e) ∙ t
-
--- one step and then another
-pub takes_two : {A B : Type 0} (first second step : Progress → Result Progress Fault) (k k' new : Sketch) (v v' v'' : View) (u : A) (r : Result B Fault)
-    → ((z : Progress) → step z ≡ (first z >>= second)) → Takes first k k' v v' (Ok u) → Takes second k' new v' v'' r → Takes step k new v v'' r
-takes_two first second step k k' new v v' v'' u (Ok x) e one two = λ coder st.
-    let a = one coder st in
-    let b = two a.next a.stands in
-    record {
-      next = b.next;
-      stands = b.stands;
-      is = e (progress k coder) ∙ (ap (λ (q : Result Progress Fault). q >>= second) a.is ∙ b.is);
-    }
-takes_two first second step k k' new v v' v'' u (Err x) e one two = λ coder st.
-    let a = one coder st in
-    e (progress k coder) ∙ (ap (λ (q : Result Progress Fault). q >>= second) a.is ∙ two a.next a.stands)
 
 -- no rows are left
 pub no_rows : (bytes : List ℕ) (s : BlockShape) (b x i j : ℕ) (z : Progress) → rows_at bytes s b 2 x i j 0 z ≡ Ok z

@@ -182,17 +182,18 @@ pub fn list_cleanup(
         return Ok(());
     }
     let around = seen_around(&flags.significant, own.shape, spot.word, spot.stripe);
+    let before = around.own;
     let ones = own.ones(spot);
     let new = left & ones;
     let seen = Around {
-        own: around.own | new,
+        own: before | new,
         left: around.left,
         right: around.right,
     };
     let signs = seen_around(own.negative, own.shape, spot.word, spot.stripe);
-    let rings = ring_words(seen, around.own);
-    let crosses = cross_words(seen, around.own, signs);
-    let still = run_columns(own.shape, spot, seen, around.own, limits);
+    let rings = ring_words(seen, before);
+    let crosses = cross_words(seen, before, signs);
+    let still = run_columns(own.shape, spot, seen, before, limits);
     flags.light_all(own.shape, spot, new);
     make_room(&mut list.bytes, list.count)?;
     let bytes = &mut list.bytes[..];

@@ -6,7 +6,7 @@ use Rattle.jk_scan.proofs.Laws.{sooner_zero}
 use Rattle.jk_block.specs.Viewed.{lit_at, negative_in, moment_at}
 use Rattle.jk_block.proofs.Behind.{becoming, becoming_row, flagged_left}
 use Rattle.jk_block.proofs.Cleaned.{RunListed, cleaned_none, next_left, cleaned_place, next_run, cleaned_run, cleaned_all, sooner_run}
-use Rattle.jk_block.proofs.Coming.{mag, coming_all}
+use Rattle.jk_block.proofs.Coming.{mag, told_all}
 use Rattle.jk_block.proofs.Emptied.{emptied}
 use Rattle.jk_block.proofs.Foreseen.{signs_here}
 use Rattle.jk_block.proofs.Sheeted.{sheet_at, sheet_less, sheet_whole, told_at, told_whole}
@@ -20,14 +20,14 @@ pub returns-then-left-eq0-clause-flagged : goal.returns-then-left-eq0-clause-fla
 returns-then-left-eq0-clause-flagged c =
     let v = c.args.block.now in
     let at = c.args.spot in
-    (emptied v at c.args.flags.now c.args.list.now c.uncoded-left.result c.requires.spot.stripe c.requires.flagged (c.uncoded-left.ensures (moment_at v.shape 2 at.word at.stripe 0) c.requires.flagged) (omega arith)).flagged
+    (emptied v at c.args.flags.now c.args.list.now c.uncoded-left.result c.requires.spot.stripe c.requires.flagged (c.uncoded-left.ensures (moment_at v.shape 2 at.word at.stripe 0) c.requires.flagged) (omega arith)).1
 
 pub returns-then-left-eq0-clause-listed : goal.returns-then-left-eq0-clause-listed
 returns-then-left-eq0-clause-listed c =
     let v = c.args.block.now in
     let at = c.args.spot in
-    coming_all v 2 at c.args.flags.now c.args.list.now c.args.list.now
-    (emptied v at c.args.flags.now c.args.list.now c.uncoded-left.result c.requires.spot.stripe c.requires.flagged (c.uncoded-left.ensures (moment_at v.shape 2 at.word at.stripe 0) c.requires.flagged) (omega arith))
+    told_all v 2 at c.args.list.now c.args.list.now
+    (emptied v at c.args.flags.now c.args.list.now c.uncoded-left.result c.requires.spot.stripe c.requires.flagged (c.uncoded-left.ensures (moment_at v.shape 2 at.word at.stripe 0) c.requires.flagged) (omega arith)).0
 
 pub light_all-requires-clause-rows : goal.light_all-requires-clause-rows
 light_all-requires-clause-rows c m l set =
@@ -53,7 +53,7 @@ loop-left-init c =
     let slice = c.deref_mut.result.now in
     let left_is : (m : ℕ) → m < 64 → on left m ≡ codes v.shape (mag v) 2 at.word at.stripe m =
     λ m l. c.uncoded-left.ensures t c.requires.flagged m l ∙ left_codes v.shape (mag v) at.word at.stripe m l in
-    cleaned_none v at c.args.list.now slice n rings crosses still left
+    cleaned_none v at c.args.list.now slice n rings crosses still left c.requires.spot.stripe
     (prepared v at around (bit_and left ones) rings crosses still
     (turned v at around (bit_and left ones) c.requires.spot.stripe (omega arith) (c.seen_around-around.ensures (lit_at v t) c.requires.flagged.lit) (becoming v 2 at.word at.stripe left ones refl left_is c.ones-ones.ensures))
     c.ring_words-rings.ensures c.cross_words-crosses.ensures.places c.run_columns-still.ensures)
