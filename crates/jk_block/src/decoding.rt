@@ -1,6 +1,6 @@
 //! A block read from its segment.
 
-ghost use Rattle.std.specs.Prelude.{◌≡◌, ℕ, ℤ, List, true, IfErr, OnOk, map, replicate, ◌++◌, ◌+◌, ◌-◌, ◌*◌, ◌/◌, ◌%◌, ◌^◌, ◌<◌, ◌≤◌, All, IfOk, MatchResult, unsigned_abs};
+ghost use Rattle.std.specs.Prelude.{◌≡◌, ℕ, ℤ, List, true, IfErr, OnOk, map, ◌++◌, ◌+◌, ◌-◌, ◌*◌, ◌/◌, ◌%◌, ◌^◌, ◌<◌, ◌≤◌, All, IfOk, MatchResult, unsigned_abs};
 ghost use Rattle.std.specs.List.{range_with_len};
 ghost use Rattle.jk_math.specs.Answer.{Answers};
 ghost use Rattle.jk_math.specs.Memory.{IsMemory};
@@ -13,7 +13,7 @@ ghost use Rattle.jk_block.specs.Meaning.{IsBlockMeaning, plane_of, kind_of, with
 ghost use Rattle.jk_block.specs.Reading.{times, blank, begun, pass_at, coefficients, block_at};
 ghost use Rattle.jk_block.specs.Sketches.{Takes, IsFresh, progress, number_of, negative_in};
 
-use crate::flags::unmarked;
+use crate::ages::Ages;
 use crate::passes::visit_plane;
 use crate::sketch::Sketch;
 use crate::spot::{Pass, pass_of};
@@ -22,7 +22,6 @@ use jk_model::first_steps;
 use jk_mqdec::Run;
 use jk_scan::{BlockShape, Kind, WORDS};
 use std::alloc::Global;
-use std::marker::Model;
 
 /// A code-block: the coefficients of its place in a sub-band.
 #[derive(Drop)]
@@ -49,63 +48,16 @@ fn begin(sketch: &mut Sketch, pass: Pass)
     }
 }
 
-/// What was significant before a plane, and what was so before the plane above. The two change places with each plane.
-#[derive(Drop)]
-struct Ages {
-    even: [u64; WORDS],
-    odd: [u64; WORDS],
-    is_odd: bool,
-}
-
-impl Model for Ages {
-    ghost use Rattle.std.specs.Prelude.{if◌then◌else◌};
-    ghost use Rattle.jk_block.specs.Ages.{AgesView};
-
-    ghost Value = { AgesView };
-
-    ghost view = { λ a. record { refined = if a.is_odd then a.odd else a.even; older = if a.is_odd then a.even else a.odd } };
-}
-
-impl Ages {
-    /// Nothing was significant.
-    #[inline(always)]
-    fn none() -> Ages
-        ensures refined { result.refined ≡ replicate 774 0 }
-        ensures older { result.older ≡ replicate 774 0 }
-    {
-        Ages {
-            even: unmarked(),
-            odd: unmarked(),
-            is_odd: false,
-        }
-    }
-
-    /// What was significant before the plane above.
-    #[inline(always)]
-    fn refined(&self) -> &[u64; WORDS]
-        ensures { result.now ≡ self.now.refined }
-    {
-        if self.is_odd { &self.odd } else { &self.even }
-    }
-
-    /// Notes what is significant as the n-th pass begins, if with it a plane begins.
-    fn note(&mut self, significant: &[u64; WORDS], n: usize)
-        requires { n < 100 }
-        ensures refined { kind_of n ≡ 0 → self.new.refined ≡ self.old.older }
-        ensures older { kind_of n ≡ 0 → self.new.older ≡ significant.now }
-        ensures kept { (kind_of n ≡ 0 → ⊥) → self.new ≡ self.old }
-    {
-        match pass_of(n) {
-            Pass::Propagation => {
-                if self.is_odd {
-                    self.odd = *significant;
-                } else {
-                    self.even = *significant;
-                }
-                self.is_odd = !self.is_odd;
-            }
-            _ => {}
-        }
+/// Notes what is significant as the n-th pass begins, if with it a plane begins.
+fn note(ages: &mut Ages, significant: &[u64; WORDS], n: usize)
+    requires { n < 100 }
+    ensures refined { kind_of n ≡ 0 → ages.new.refined ≡ ages.old.older }
+    ensures older { kind_of n ≡ 0 → ages.new.older ≡ significant.now }
+    ensures kept { (kind_of n ≡ 0 → ⊥) → ages.new ≡ ages.old }
+{
+    match pass_of(n) {
+        Pass::Propagation => ages.note(significant),
+        _ => {}
     }
 }
 
@@ -149,7 +101,7 @@ fn read_passes(
 {
     let mut ages = Ages::none();
     for n in 0..passes {
-        ages.note(&sketch.significant, n);
+        note(&mut ages, &sketch.significant, n);
         read_pass(sketch, decoder, ages.refined(), planes, n)?;
     }
     Ok(())

@@ -16,9 +16,10 @@ ghost use Rattle.jk_scan.specs.Neighbours.{is_inside};
 ghost use Rattle.jk_block.specs.Sketches.{number_of};
 ghost use Rattle.jk_block.specs.Viewed.{seen, IsFlagged, IsLitUpto};
 
+use crate::ages::Ages;
 use crate::decisions::DecisionList;
 use crate::decoding::Block;
-use crate::flags::{Flags, unmarked};
+use crate::flags::Flags;
 use crate::lists::list_pass;
 use crate::plane::BlockPlane;
 use crate::slices::{negative_places, sliced};
@@ -130,24 +131,23 @@ fn code_planes(
 {
     let mut flags = Flags::new();
     let mut slices = sliced(shape, values, planes / 8 * 8);
-    let mut refined = unmarked();
+    let mut ages = Ages::none();
     let negative = negative_places(shape, values);
     for above in 0..planes {
         let plane = planes - 1 - above;
         if plane % 8 == 7 {
             slices = sliced(shape, values, plane - 7);
         }
-        let significant = flags.significant;
+        ages.note(&flags.significant);
         let block = BlockPlane {
             shape,
             values,
             plane,
             slices: &slices,
-            refined: &refined,
+            refined: ages.refined(),
             negative: &negative,
         };
         code_plane(&block, planes, above, &mut flags, list, encoder, marks)?;
-        refined = significant;
     }
     Ok(())
 }

@@ -1,6 +1,7 @@
 //! Code-blocks: what the bytes of a segment mean by the coding passes of T.800 Annex D, reading them and writing them.
 #![tactic(auto)]
 
+mod ages;
 mod ahead;
 mod decisions;
 mod decoding;

@@ -23,13 +23,13 @@ loop-n-preserved c =
     let a = c.loop-n.invariant.0.advanced blank.coder c.requires.stands in
     let is = ap (λ (s : BlockShape). times c.loop-n.n (pass_at bytes s c.args.planes) blank) c.loop-n.invariant.0.shape
     ∙ ap (λ (z : Progress). times c.loop-n.n (pass_at bytes c.args.sketch.now.shape c.args.planes) z) (sym c.requires.blank) ∙ a.is in
-    let aged = aged_noted bytes k c.args.planes c.loop-n.n a.next c.loop-n.ages.refined c.loop-n.ages.older c.note.new.self.refined c.note.new.self.older (omega arith) is k.lit c.loop-n.invariant.1
+    let aged = aged_noted bytes k c.args.planes c.loop-n.n a.next c.loop-n.ages.refined c.loop-n.ages.older c.note.new.ages.refined c.note.new.ages.older (omega arith) is k.lit c.loop-n.invariant.1
     c.note.ensures.refined c.note.ensures.older (λ e. ap (λ (g : AgesView). g.refined) (c.note.ensures.kept e)) (λ e. ap (λ (g : AgesView). g.older) (c.note.ensures.kept e)) in
     let step = c.in_ok-read_pass.ensures.takes a.next a.stands in
     let more = ap (λ (bs : List ℕ). pass_at bs k.shape c.args.planes c.loop-n.n (progress k a.next)) (sym c.loop-n.invariant.0.bytes) ∙ step.is in (
       taken_more (λ bytes s n z. pass_at bytes s c.args.planes n z) c.loop-n.n c.args.sketch.now c.loop-n.sketch c.read_pass.new.sketch c.args.decoder.now c.loop-n.decoder c.read_pass.new.decoder c.loop-n.invariant.0
           c.in_ok-read_pass.ensures.shape c.in_ok-read_pass.ensures.bytes c.in_ok-read_pass.ensures.takes,
-      aged_passed bytes k c.read_pass.new.sketch c.args.planes c.loop-n.n a.next step.next c.note.new.self.refined c.note.new.self.older (omega arith) is more c.in_ok-read_pass.ensures.shape aged,
+      aged_passed bytes k c.read_pass.new.sketch c.args.planes c.loop-n.n a.next step.next c.note.new.ages.refined c.note.new.ages.older (omega arith) is more c.in_ok-read_pass.ensures.shape aged,
     )
 
 pub returns-in_err-read_pass-clause-takes : goal.returns-in_err-read_pass-clause-takes
@@ -51,7 +51,7 @@ read_pass-requires-clause-fresh c = λ kind.
     let first = c.args.sketch.now in
     let begun_is = ap (λ (z : Progress). times c.loop-n.n (pass_at bytes first.shape c.args.planes) z) (sym c.requires.blank) ∙ a.is in
     let is = ap (λ (s : BlockShape). times c.loop-n.n (pass_at bytes s c.args.planes) blank) c.loop-n.invariant.0.shape ∙ begun_is in
-    let aged = aged_noted bytes k c.args.planes c.loop-n.n a.next c.loop-n.ages.refined c.loop-n.ages.older c.note.new.self.refined c.note.new.self.older (omega arith) is k.lit c.loop-n.invariant.1
+    let aged = aged_noted bytes k c.args.planes c.loop-n.n a.next c.loop-n.ages.refined c.loop-n.ages.older c.note.new.ages.refined c.note.new.ages.older (omega arith) is k.lit c.loop-n.invariant.1
     c.note.ensures.refined c.note.ensures.older (λ e. ap (λ (g : AgesView). g.refined) (c.note.ensures.kept e)) (λ e. ap (λ (g : AgesView). g.older) (c.note.ensures.kept e)) in
     record {
       higher = λ x y is_lit unseen. fresh_after bytes first.shape c.args.planes c.loop-n.n (progress k a.next) (omega arith) kind begun_is x y

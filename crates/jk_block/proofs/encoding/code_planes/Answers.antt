@@ -1,4 +1,4 @@
-use Rattle.std.proofs.Common.{◌≡◌, ◌+◌, ◌-◌, ◌*◌, ◌/◌, unsigned_abs, subst, sym, arith}
+use Rattle.std.proofs.Common.{◌≡◌, ◌∙◌, ◌+◌, ◌-◌, ◌*◌, ◌/◌, unsigned_abs, subst, sym, arith}
 use Rattle.std.specs.Prelude.{nat_lt}
 use Rattle.jk_scan.specs.Flags.{IsDrawn}
 use Rattle.jk_block.specs.Meaning.{plane_at, value_in}
@@ -18,8 +18,8 @@ loop-above-init c =
       coded = c.requires.before;
       lit = subst (λ b. IsLitUpto s b q c.new-flags.result) (omega arith) (lit_none s planes q c.new-flags.result c.requires.small c.new-flags.ensures.significant);
       sliced = subst (λ b. IsSliced s (b / 8 * 8) q c.sliced-slices.result) (let e : planes ≡ planes - 0 = omega arith in e) c.sliced-slices.ensures;
-      older = subst (λ b. IsDrawn s (λ x y. nat_lt 0 ((plane_at s (b + 1) q).magnitude x y)) c.unmarked-refined.result) (let e : planes ≡ planes - 0 = omega arith in e)
-          (none_refined s planes q c.unmarked-refined.result c.requires.small c.unmarked-refined.ensures);
+      older = subst (λ b. IsDrawn s (λ x y. nat_lt 0 ((plane_at s (b + 1) q).magnitude x y)) c.none-ages.result.older) (let e : planes ≡ planes - 0 = omega arith in e)
+          (none_refined s planes q c.none-ages.result.older c.requires.small c.none-ages.ensures.older);
     }
 
 pub invariant_of-block-clause-sliced : goal.invariant_of-block-clause-sliced
@@ -43,7 +43,7 @@ negative_places-negative-requires-clause-short c = λ x y i. short_of (unsigned_
 pub invariant_of-block-clause-older : goal.invariant_of-block-clause-older
 invariant_of-block-clause-older c =
     let l = c.loop-above in
-    refined_drawn c.args.shape (c.args.planes - 1 - l.above) (c.args.planes - l.above + 1) (value_in c.args.shape c.args.values.now) l.refined (omega arith) l.invariant.older
+    refined_drawn c.args.shape (c.args.planes - 1 - l.above) (c.args.planes - l.above + 1) (value_in c.args.shape c.args.values.now) c.refined.result.now (omega arith) (subst (λ ws. IsDrawn c.args.shape (λ x y. nat_lt 0 ((plane_at c.args.shape (c.args.planes - l.above + 1) (value_in c.args.shape c.args.values.now)).magnitude x y)) ws) (sym (c.refined.ensures ∙ c.note.ensures.refined)) l.invariant.older)
 
 pub code_plane-requires-clause-top : goal.code_plane-requires-clause-top
 code_plane-requires-clause-top c = λ e. top_plane c.args.shape (c.args.planes - 1 - c.loop-above.above) c.args.planes (value_in c.args.shape c.args.values.now) (omega (arith, e)) c.requires.small
@@ -72,5 +72,6 @@ loop-above-preserved c =
       coded = subst (λ n. HasCodedPasses s planes n q c.code_plane.new.encoder c.code_plane.new.marks.items) (let e : 3 * l.above + 1 ≡ 3 * (l.above + 1) - 2 = omega arith in e) c.in_ok-code_plane.ensures.after;
       lit = subst (λ b. IsLitUpto s b q c.code_plane.new.flags) (let e : planes - 1 - l.above ≡ planes - (l.above + 1) = omega arith in e) c.in_ok-code_plane.ensures.lit;
       sliced = subst (λ b. IsSliced s (b / 8 * 8) q c.if-plane-eq7.slices) (let e : plane ≡ planes - (l.above + 1) = omega arith in e) sliced;
-      older = subst (λ b. IsDrawn s (λ x y. nat_lt 0 ((plane_at s b q).magnitude x y)) l.flags.significant) (let e : planes - l.above ≡ planes - (l.above + 1) + 1 = omega arith in e) l.invariant.lit.lit;
+      older = subst (λ ws. IsDrawn s (λ x y. nat_lt 0 ((plane_at s (planes - (l.above + 1) + 1) q).magnitude x y)) ws) (sym c.note.ensures.older)
+          (subst (λ b. IsDrawn s (λ x y. nat_lt 0 ((plane_at s b q).magnitude x y)) l.flags.significant) (let e : planes - l.above ≡ planes - (l.above + 1) + 1 = omega arith in e) l.invariant.lit.lit);
     }

@@ -12,5 +12,5 @@ invariant-loop-above l = record {
   coded : HasCodedPasses l.fn.shape l.fn.planes (3 * l.above - 2) (value_in l.fn.shape l.values) l.encoder l.marks.items;
   lit : IsLitUpto l.fn.shape (l.fn.planes - l.above) (value_in l.fn.shape l.values) l.flags;
   sliced : IsSliced l.fn.shape ((l.fn.planes - l.above) / 8 * 8) (value_in l.fn.shape l.values) l.slices;
-  older : IsDrawn l.fn.shape (λ x y. nat_lt 0 ((plane_at l.fn.shape (l.fn.planes - l.above + 1) (value_in l.fn.shape l.values)).magnitude x y)) l.refined;
+  older : IsDrawn l.fn.shape (λ x y. nat_lt 0 ((plane_at l.fn.shape (l.fn.planes - l.above + 1) (value_in l.fn.shape l.values)).magnitude x y)) l.ages.older;
 }
