@@ -24,6 +24,7 @@ pub struct Around {
 }
 
 /// Bit 1 of each byte that is 0.
+#[inline(always)]
 pub fn quiet(d: u64) -> u64
     requires { IsNarrow d }
     ensures { (c i : ℕ) → c < 8 → i < 8 → on result (8 * c + i) ≡ (nat_eq i 1 && not (any_of_six d c)) }
