@@ -1,4 +1,4 @@
--- The first layers of a file that was written mean the image without its lowest bit-planes.
+-- The first layers of a file that was written mean the image that is rebuilt from the coefficients without their lowest bit-planes.
 use Rattle.std.proofs.Common.{◌≡◌, ℕ, ◌+◌, ◌-◌, ◌*◌, ◌<◌, ◌≤◌, true, List, [], ◌∷◌, length, map, get_or, Some, ℤ, pos, refl, sym, ap, ◌∙◌, subst, arith}
 use Rattle.std.specs.Prelude.{slice_range}
 use Rattle.std.specs.List.{AllByRecursion}

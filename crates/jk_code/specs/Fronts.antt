@@ -1,4 +1,4 @@
--- What the first layers of a file that was written mean: the image without its lowest bit-planes.
+-- What the first layers of a file that was written mean: the image that is rebuilt from the coefficients without their lowest bit-planes.
 use Rattle.std.specs.Prelude.{◌≡◌, ℕ, ◌≤◌, List, length, map, Ok}
 use Rattle.std.specs.List.{range_with_len}
 use Rattle.jk_math.specs.Picture.{Picture}

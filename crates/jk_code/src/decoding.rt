@@ -205,8 +205,8 @@ fn meaning(alloc: Global, bytes: &[u8], reduce: u32) -> Result<Image, Fault>
 ///
 /// The first of these faults: those of the boxes; those of `read_codestream`; BadWindow for a reduction past
 /// the least number of decomposition levels, or one that leaves no sample; then, tile by tile, those of its
-/// packets, as `read_packets` names them; then, tile by tile, TooManyPasses and CodeOutOfInterval of its code-blocks
-/// up to the resolution that is asked for.
+/// packets, as `read_packets` names them, with TooManyPasses among them, as the headers of packets tell the passes; then,
+/// tile by tile, CodeOutOfInterval of its code-blocks up to the resolution that is asked for.
 pub fn decode(alloc: Global, bytes: &[u8], reduce: u32) -> Result<Image, Fault>
     // Which image, or which fault is the first.
     ensures exact { Answers (λ i. i) result (meaning_at bytes.now reduce) }

@@ -130,15 +130,16 @@ fn file(alloc: Global, image: &Image, parameters: &Parameters) -> Result<Vec<u8>
 
 /// The file of an image: a bare codestream or a JP2 file, as the parameters say.
 ///
-/// BadParameters: an image and parameters outside the profile, as `Parameters::check` says. Limit: a tile-part, or
-/// the box of the codestream, would be longer than 2^32 - 1 bytes.
+/// BadParameters: an image and parameters outside the profile, as `Parameters::check` says. Limit: a tile-part would be
+/// longer than 2^32 - 1 bytes. The box of the codestream has no such limit, as its length may take eight bytes.
 #[tactic(auto, unfolding(crate::specs::Written::written))]
 pub fn encode(alloc: Global, image: &Image, parameters: &Parameters) -> Result<Vec<u8>, Fault>
     // Which bytes, or which fault.
     ensures exact { Answers (λ v. v.items) result (written image.now parameters.now) }
     // The file means exactly the image.
     ensures means { IfOk result (λ v. Means v.items 0 image.now) }
-    // With all layers but the first k empty it means the image without its L - k lowest bit-planes, of L layers.
+    // With all layers but the first k empty, of L layers, it means the image that is rebuilt from the coefficients, each
+    // without its L - k lowest bit-planes.
     ensures fronts { IfOk result (λ v. HasFronts image.now parameters.now v.items) }
 {
     parameters.check(image)?;

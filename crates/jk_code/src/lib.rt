@@ -8,4 +8,4 @@ mod windows;
 
 pub use decoding::decode;
 pub use encoding::encode;
-pub use windows::{window, windows_show_the_picture};
+pub use windows::{pictures_have_indexes, window, windows_show_the_picture};

@@ -1,11 +1,12 @@
 //! Windows.
 
-ghost use Rattle.std.specs.Prelude.{◌≡◌, ◌⊎◌, IfOk, IfErr, Err};
+ghost use Rattle.std.specs.Prelude.{◌≡◌, ◌⊎◌, ℕ, List, IfOk, IfErr, Err};
 ghost use Rattle.jk_math.specs.Answer.{Answers};
 ghost use Rattle.jk_math.specs.Memory.{IsMemory};
 ghost use Rattle.jk_math.specs.Picture.{Picture};
 ghost use Rattle.jk_math.specs.declared.fault.Fault.TheVariants.{BadWindow, Changed};
-ghost use Rattle.jk_window.specs.Indexing.{IsIndexOf};
+ghost use Rattle.jk_window.specs.Views.{HasWindow};
+ghost use Rattle.jk_window.specs.Indexing.{IndexFields, IsIndexOf};
 ghost use Rattle.jk_window.specs.Cutting.{cut_file};
 ghost use Rattle.jk_code.specs.Meaning.{Means};
 ghost use Rattle.jk_code.specs.Windows.{IsWindowOf, IsWindowMeant};
@@ -20,6 +21,11 @@ pub fn windows_show_the_picture()
     ensures { IsWindowMeant }
 {}
 
+/// A file that means a picture has an index, so no clause that asks for one says nothing of it.
+pub fn pictures_have_indexes()
+    ensures { (bytes : List ℕ) (d : ℕ) (p : Picture) → Means bytes d p → (i : IndexFields) × IsIndexOf bytes i }
+{}
+
 /// The file of the window of a view, as `jk_window::cut` makes it: the stored file, in which the packets that the window
 /// doesn't need are empty.
 ///
@@ -32,6 +38,8 @@ pub fn window(alloc: Global, bytes: &[u8], index: &Index, view: View) -> Result<
     ensures faults { IfErr result (λ e. IsMemory e ⊎ (e ≡ BadWindow) ⊎ (e ≡ Changed)) }
     // Changed is answered only where it isn't.
     ensures changed { result ≡ Err Fault.Changed → IsIndexOf bytes.now index.now → ⊥ }
+    // BadWindow is answered only where the view has no window, whichever index it is.
+    ensures unseen { result ≡ Err Fault.BadWindow → HasWindow index.now.headers view → ⊥ }
     // What the bytes mean, the reply means on the window.
     ensures means { IsIndexOf bytes.now index.now → (p : Picture) → Means bytes.now view.reduce p → IfOk result (λ v. IsWindowOf view p v.items) }
 {

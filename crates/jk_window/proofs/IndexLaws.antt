@@ -13,7 +13,7 @@ use Rattle.jk_marks.specs.Codestream.{main_text, main_of}
 use Rattle.jk_marks.specs.HeaderReading.{main_at}
 use Rattle.jk_marks.proofs.Laws.{only_main, begins_main}
 use Rattle.jk_boxes.specs.declared.place.Boxed.{Boxed}
-use Rattle.jk_boxes.specs.Boxes.{HoldsAt}
+use Rattle.jk_boxes.specs.Boxes.{Holds, HoldsAt, bare_place, jp2_place}
 use Rattle.jk_boxes.specs.Reading.{boxes_at}
 use Rattle.jk_boxes.proofs.Laws.{boxes_take, place_again}
 use Rattle.jk_params.specs.Headers.{Headers, cod_for, AreHeaders}
@@ -23,7 +23,7 @@ use Rattle.jk_walk.specs.declared.places.PacketPlace.{PacketPlace}
 use Rattle.jk_walk.specs.TilePackets.{Packet}
 use Rattle.jk_walk.specs.WalkReading.{packets_at, AreTilePackets}
 use Rattle.jk_walk.proofs.Laws.{packets_found, packets_only}
-use Rattle.jk_window.specs.Indexing.{IndexFields, joined_runs, HasRuns, IsIndexOf, packets_tested, fields_at, index_at}
+use Rattle.jk_window.specs.Indexing.{IndexFields, joined_runs, HasRuns, IsIndexOf, HaveIndexes, packets_tested, fields_at, index_at}
 
 -- ---- the packets of all tiles
 
@@ -123,6 +123,29 @@ pub index_found : (bytes : List ℕ) (i : IndexFields) → AreBytes bytes → in
 unfolding index_at
 index_found bytes i fits e =
     bind_then (boxes_at bytes) _ i e (λ place opened e. found_fields bytes (slice_range bytes place.start place.end) place i fits opened refl e)
+
+placed : (bytes codestream : List ℕ) → Holds bytes codestream → (place : Boxed) × HoldsAt bytes codestream place
+placed bytes codestream (inl bare) = (bare_place bytes, inl (bare, refl))
+placed bytes codestream (inr jp2) = (jp2_place jp2, inr (jp2, refl))
+
+-- What can be read has an index.
+pub has_index : HaveIndexes
+has_index bytes codestream h holds says all =
+    let place = placed bytes codestream holds in
+    let runs = picked [] (HasRuns codestream h) (tile_count h.siz) (λ t lt. let p = all t lt in
+    (p.1.runs, record { packets = subst (AreTilePackets codestream h t) (sym p.1.whole) p.1; cut = p.1.cut })) in
+    let cod = cod_for says.tree.segments [] in (
+      record { place = place.0; layers = cod.layers; order = cod.order; headers = h },
+      record {
+        codestream = codestream;
+        holds = place.1;
+        says = says;
+        layers = refl;
+        order = refl;
+        runs = runs.0;
+        tiles = runs.1;
+      },
+    )
 
 only_fields : (bytes : List ℕ) (i : IndexFields) → (is : IsIndexOf bytes i) → fields_at i.place is.codestream ≡ Ok i
 unfolding fields_at

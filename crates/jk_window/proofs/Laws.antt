@@ -1,5 +1,5 @@
 -- What proofs of other crates may cite of this crate's proofs: a codestream in which packets are empty, what is left of a precinct,
--- what a window needs, and when there is one.
+-- what a window needs, and when there is one; what has an index.
 pub use Rattle.jk_window.proofs.CutAgain.{codestream_again, front_again, cut_again}
 pub use Rattle.jk_window.proofs.TileAgain.{runs_kept, precinct_same, precinct_without}
 pub use Rattle.jk_window.proofs.FrontAgain.{front_bodies}
@@ -9,3 +9,4 @@ pub use Rattle.jk_window.proofs.NeededPlaces.{place_needs}
 pub use Rattle.jk_window.proofs.Below.{below_none, below_more, below_fails, below_at, below_from}
 pub use Rattle.jk_window.proofs.HeaderFacts.{few_levels, levels_found, levels_only}
 pub use Rattle.jk_window.proofs.Levels.{window_found, window_only, window_refused}
+pub use Rattle.jk_window.proofs.IndexLaws.{has_index, index_only}

@@ -9,7 +9,7 @@ use Rattle.jk_marks.specs.Siz.{tile_count}
 use Rattle.jk_marks.specs.HeaderReading.{main_at}
 use Rattle.jk_geom.specs.TileShapes.{coding_of}
 use Rattle.jk_boxes.specs.declared.place.Boxed.{Boxed}
-use Rattle.jk_boxes.specs.Boxes.{HoldsAt}
+use Rattle.jk_boxes.specs.Boxes.{Holds, HoldsAt}
 use Rattle.jk_boxes.specs.Reading.{boxes_at}
 use Rattle.jk_params.specs.Headers.{Headers, TileFields, tile_in, cod_for, IsHeaders}
 use Rattle.jk_params.specs.HeadersReading.{headers_at}
@@ -41,6 +41,11 @@ pub record IsIndexOf (bytes : List ℕ) (i : IndexFields) : Type 0 where
   pub order : i.order ≡ (cod_for says.tree.segments []).order
   pub runs : ℕ → List (List Packet)
   pub tiles : (t : ℕ) → t < tile_count i.headers.siz → HasRuns codestream i.headers t (runs t)
+
+-- A file whose codestream has headers, and packets for each tile, has an index.
+abbrev pub HaveIndexes : Type 0
+HaveIndexes = (bytes codestream : List ℕ) (h : Headers) → Holds bytes codestream → IsHeaders codestream h
+    → ((t : ℕ) → t < tile_count h.siz → (packets : List Packet) × AreTilePackets codestream h t packets) → (i : IndexFields) × IsIndexOf bytes i
 
 -- the first fault of the packets of the first n tiles, tile by tile
 unfoldable pub packets_tested : List ℕ → Headers → ℕ → Result (Unit {0}) Fault

@@ -12,6 +12,7 @@ ghost use Rattle.jk_marks.specs.Codestream.{codestream_text};
 ghost use Rattle.jk_walk.specs.TilePackets.{Packet};
 ghost use Rattle.jk_params.specs.Headers.{AreHeaders, IsHeaders, tile_in};
 ghost use Rattle.jk_window.specs.Emptied.{emptied_tree};
+ghost use Rattle.jk_window.specs.Views.{HasWindow};
 ghost use Rattle.jk_window.specs.Indexing.{HasRuns, IsIndexOf};
 ghost use Rattle.jk_window.specs.Cutting.{AreCutOf, AreWithin, content_of, with_codestream, cut_tree, cut_file, HaveRuns};
 
@@ -132,6 +133,8 @@ pub fn cut(alloc: Global, index: &Index, bytes: &[u8], view: View) -> Result<Vec
     ensures faults { IfErr result (λ e. IsMemory e ⊎ (e ≡ BadWindow) ⊎ (e ≡ Changed)) }
     // Changed is answered only where it isn't.
     ensures changed { result ≡ Err Fault.Changed → IsIndexOf bytes.now index.now → ⊥ }
+    // BadWindow is answered only where the view has no window, whichever index it is.
+    ensures unseen { result ≡ Err Fault.BadWindow → HasWindow index.now.headers view → ⊥ }
 {
     let window = window(index.headers(), view)?;
     let place = match open(bytes) {

@@ -19,5 +19,6 @@ pub use need::needs;
 pub use reading::index;
 pub use theorems::{
     emptied_codestreams_are_codestreams, emptied_tiles_are_tiles, stretches_hold_what_is_near,
+    what_can_be_read_has_an_index,
 };
 pub use view::View;

@@ -8,6 +8,7 @@ ghost use Rattle.jk_geom.specs.Rectangles.{IsWithin, across_offset, down_offset}
 ghost use Rattle.jk_walk.specs.TilePackets.{Packet, IsTile};
 ghost use Rattle.jk_window.specs.Needs.{IsNear, stretch, part_of_band};
 ghost use Rattle.jk_window.specs.Emptied.{emptied_run, run_text, of_name};
+ghost use Rattle.jk_window.specs.Indexing.{HaveIndexes};
 ghost use Rattle.jk_window.specs.Again.{IsCodestreamAgain, IsFrontAgain, IsCutAgain};
 
 /// Within two places of a stretch, a place that is even both ways goes to a place of the stretch below, and any other to a
@@ -31,4 +32,10 @@ pub fn emptied_codestreams_are_codestreams()
     ensures kept { IsCodestreamAgain }
     ensures fronts { IsFrontAgain }
     ensures window { IsCutAgain }
+{}
+
+/// A file whose codestream has headers, and packets for each tile, has an index: so what is said of a file with its index is
+/// said of every such file.
+pub fn what_can_be_read_has_an_index()
+    ensures { HaveIndexes }
 {}

@@ -2,7 +2,7 @@ use Rattle.std.proofs.Common.{◌≡◌, sym, ap, ◌∙◌, inl, inr}
 use Rattle.std.proofs.lemmas.Result.{err_from_is_err_and}
 use Rattle.jk_boxes.specs.declared.place.Boxed.{Boxed}
 use Rattle.jk_math.specs.declared.fault.Fault.TheVariants.{BadWindow}
-use Rattle.jk_window.proofs.Levels.{window_refused}
+use Rattle.jk_window.proofs.Levels.{window_only, window_refused}
 use Rattle.jk_window.proofs.BoxLaws.{opened_there, not_refused, due_is, match_answers, never_changed, same_flag}
 use Rattle.jk_window.proofs.cutting.cut.Goals as goal
 use Rattle.jk_window.proofs.cutting.cut.Goals.{then-place-kept-via-then-place-kept, then-place-kept-via-else-place-kept+then-place-kept-2, then-place-kept-via-else-place-kept+else-place-kept-2+then-place-kept-3}
@@ -51,3 +51,9 @@ returns-clause-exact c = λ is.
 
 pub returns-clause-changed : goal.returns-clause-changed
 returns-clause-changed c = λ e is. never_changed c.cut_at_place.result _ e (c.cut_at_place.ensures.exact is)
+
+pub returns-in_err-window-clause-unseen : goal.returns-in_err-window-clause-unseen
+returns-in_err-window-clause-unseen c = λ e has.
+    let due = sym c.in_err-window.ensures.exact in
+    let found = sym due ∙ window_only c.headers.result.now c.args.view c.headers.ensures.sound.tiles (rw c.headers.ensures.value has) in
+    absurd cc
