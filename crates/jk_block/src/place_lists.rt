@@ -18,7 +18,7 @@ use crate::plane::BlockPlane;
 use crate::spot::Spot;
 use jk_scan::{Around, BlockShape, refine_context, sign_context_in, zero_context_in};
 
-/// The contexts of run mode (T.800 Table D.5).
+/// The contexts of run mode (T.800 D.3.4, Table D.5).
 const RUN_LENGTH: u8 = 17;
 
 const UNIFORM: u8 = 18;
@@ -111,7 +111,7 @@ pub fn first_row(ones: u64, k: u32) -> u32
 }
 
 /// A column in run mode, from the bit k of its first row, up to the first row with the bit 1: whether there is one, which, and
-/// its sign, put behind so many decisions. That row is given, or 4.
+/// its sign, put behind so many decisions. `found` is that row, or 4.
 #[inline(always)]
 pub fn list_run(
     block: &BlockPlane<'_>,

@@ -19,7 +19,7 @@ use jk_math::Fault;
 use jk_mqdec::Run;
 use jk_scan::{Around, BlockShape, seen_around, sign_context_at, zero_context_at};
 
-/// The contexts of run mode (T.800 Table D.5).
+/// The contexts of run mode (T.800 D.3.4, Table D.5).
 const RUN_LENGTH: usize = 17;
 
 const UNIFORM: usize = 18;

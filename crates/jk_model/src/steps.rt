@@ -108,7 +108,7 @@ static STEPS: [u32; 376] = [
     0x5601_0174, 0x5601_0174, 0x5601_0174, 0x5601_0174,
 ];
 
-/// A context (I(CX) and MPS(CX) of T.800 C.2.2), as an entry of the table.
+/// A context (I(CX) and MPS(CX) of T.800 C.2.3), as an entry of the table.
 #[derive(Clone, Copy)]
 pub struct Step {
     entry: u32,

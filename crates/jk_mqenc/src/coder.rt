@@ -243,8 +243,8 @@ impl Coder {
         Ok(self.registers())
     }
 
-    /// The part of the interval that a decision takes, renormalised (T.800 C.2.6). These are the registers over the bytes,
-    /// and not those that are kept here.
+    /// The part of the interval that a decision takes, renormalised (T.800 C.2.4, C.2.6). These are the registers over
+    /// the bytes, and not those that are kept here.
     #[inline(always)]
     pub fn code(&mut self, registers: Registers, qe: u32, taken: Part) -> Result<Registers, Refused>
         requires least { 1 ≤ qe }

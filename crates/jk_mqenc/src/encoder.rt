@@ -33,7 +33,7 @@ impl Model for Encoder {
     ghost invariant = { λ e. HasCoded (record { machine = e.coder; contexts = e.contexts; failed = is_some e.refused }) };
 }
 
-/// Codes a decision in the context of this number (ENCODE, T.800 C.2.3), with these registers over the coder's bytes.
+/// Codes a decision in the context of this number (ENCODE, T.800 C.2.2), with these registers over the coder's bytes.
 #[inline(always)]
 fn step(
     coder: &mut Coder,
@@ -96,7 +96,7 @@ impl Encoder {
         self.coder.written()
     }
 
-    /// Codes a decision in the context of this number (ENCODE, T.800 C.2.3).
+    /// Codes a decision in the context of this number (ENCODE, T.800 C.2.2).
     pub fn encode(&mut self, cx: usize, bit: bool) -> Result<(), Fault>
         requires { cx < 19 }
         ensures codes { IfOk result (λ _. (ds : List Decision)

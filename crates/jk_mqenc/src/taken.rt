@@ -4,7 +4,7 @@
 ghost use Rattle.std.specs.Prelude.{◌≡◌, ◌-◌, ◌*◌, ◌^◌, ◌<◌, ◌≤◌, not, nat_lt, if◌then◌else◌};
 ghost use Rattle.std.specs.Bool.{beq};
 
-/// The part of the interval that a decision takes (T.800 C.2.6).
+/// The part of the interval that a decision takes (CODEMPS and CODELPS, T.800 C.2.4).
 #[derive(Clone, Copy)]
 pub struct Part {
     /// Whether it is the lower one, of the size Qe.

@@ -52,7 +52,7 @@ sign_context_of Negative Negative = sign 13 true
 unfoldable pub refine_context_of : (refined touched : Bool) → ℕ
 refine_context_of refined touched = if refined then 16 else (if touched then 15 else 14)
 
--- Table D.5 and D.4.1: the contexts of run mode
+-- D.3.4 and Table D.5: the contexts of run mode
 abbrev pub run_length : ℕ
 run_length = 17
 

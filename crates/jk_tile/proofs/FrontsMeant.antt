@@ -1,4 +1,4 @@
--- What the first layers of a tile that is written mean: the image without its lowest bit-planes.
+-- What the first layers of a tile that is written mean: the coefficients without their lowest bit-planes.
 use Rattle.std.proofs.Common.{◌≡◌, ℕ, zero, suc, ◌+◌, ◌-◌, ◌*◌, ◌<◌, ◌≤◌, Bool, List, [], ◌∷◌, length, map, take, replicate, sum_by, Some, ℤ, refl, sym, ap, subst, ◌∙◌, arith}
 use Rattle.std.specs.List.{flat_map, range_with_len}
 use Rattle.std.proofs.lemmas.List.{length-replicate, take-map}
@@ -141,7 +141,7 @@ front_is p q l t c r n i j is by few tile some le lt less =
 
 -- ---- a tile
 
--- The first layers of a tile that is written decode to the samples of the image without its lowest bit-planes.
+-- The first layers of a tile that is written decode to the samples of the coefficients without their lowest bit-planes.
 pub front_decodes : (p : Picture) (q : Parameters) (k t : ℕ) (codestream : List ℕ) (h : Headers) (places : List (ℕ × ℕ)) → IsPicture p → IsWrittenBy q p → 1 ≤ k → k ≤ q.layers → t < tile_count (siz_of p q) → h.siz ≡ siz_of p q
     → map (slice_of codestream) places ≡ tile_text p q t ∷ []
     → DecodesLayers codestream h (record { cod = cod_of q; codings = replicate (length p.planes) (written_coding p q); data_places = places }) t 0 (Some k) (front_sample p q k t)

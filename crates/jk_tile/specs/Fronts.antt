@@ -1,4 +1,4 @@
--- An image without its lowest bit-planes, as the first of its layers give it.
+-- An image that is rebuilt from its coefficients without their lowest bit-planes, as the first of its layers give it.
 use Rattle.std.specs.Prelude.{ℕ, ◌-◌, ℤ, unsigned_abs}
 use Rattle.std.specs.Int.{is_negative}
 use Rattle.jk_math.specs.Picture.{Picture}

@@ -1,9 +1,10 @@
-use Rattle.std.proofs.Common.{◌≡◌, ◌∙◌, ap, subst, ◌-◌, List, ◌∷◌, [], ◌++◌, get_or, set, Bool, not, cond, ltb, Result, Ok, Err, IfOk, refl, arith}
+use Rattle.std.proofs.Common.{◌≡◌, ◌∙◌, ap, subst, ◌-◌, List, ◌∷◌, [], ◌++◌, get_or, set, Bool, not, cond, ltb, IfOk, refl, arith}
 use Rattle.std.specs.Bool.{beq}
 use Rattle.std.proofs.lemmas.List.{get_or_default}
-use Rattle.jk_math.specs.declared.fault.Refused.{Refused}
+use Rattle.jk_math.specs.Steps.{if_ok}
 use Rattle.jk_model.specs.Contexts.{begins, moved}
 use Rattle.jk_model.specs.Decisions.{Decision}
+use Rattle.jk_mqenc.specs.declared.coder.Registers.{Registers}
 use Rattle.jk_mqenc.specs.Coding.{part, renorm}
 use Rattle.jk_mqenc.specs.Encoded.{Codes, with_registers, lasting}
 use Rattle.jk_mqenc.proofs.Encoding.{held-of, wide-of, count-of, codes-step}
@@ -24,10 +25,6 @@ code-requires-clause-count c = count-of (lasting (with_registers c.args.coder.no
 pub code-requires-clause-holds : goal.code-requires-clause-holds
 code-requires-clause-holds c = held-of (lasting (with_registers c.args.coder.now c.args.registers) c.args.contexts.now) (λ _. c.requires.coded) refl
 
-if_ok_map : {X : Type 0} (r : Result X Refused) (P Q : X → Type 0) → ((x : X) → P x → Q x) → IfOk r P → IfOk r Q
-if_ok_map (Ok x) P Q f h = f x h
-if_ok_map (Err e) P Q f h = tt
-
 pub returns : goal.returns
 returns c = record {
   codes =
@@ -37,11 +34,12 @@ returns c = record {
       let at = get_or cs c.args.cx c.index-contexts-cx.result in
       let less = not (beq c.args.bit c.mps.result) in
       let lower = not (beq (not (beq c.args.bit c.mps.result)) (ltb (c.args.registers.width - q) q)) in
-      if_ok_map c.code.result (λ r. with_registers c.code.new.self r ≡ renorm 15 (part m q lower))
-      (λ r. (ds : List Decision) → Codes (lasting m cs) ds → Codes (lasting (with_registers c.code.new.self r) (set cs c.args.cx c.after.result)) (ds ++ (c.args.cx, c.args.bit) ∷ []))
-      (λ r done ds codes. codes-step (lasting m cs) (lasting (with_registers c.code.new.self r) (set cs c.args.cx c.after.result)) c.args.cx q c.part_of-taken.result.width c.args.bit c.mps.result (get_or cs c.args.cx c.index-contexts-cx.result) c.after.result ds
+      let coded : (r : Registers) → with_registers c.code.new.self r ≡ renorm 15 (part m q lower)
+      → (ds : List Decision) → Codes (lasting m cs) ds → Codes (lasting (with_registers c.code.new.self r) (set cs c.args.cx c.after.result)) (ds ++ (c.args.cx, c.args.bit) ∷ []) =
+      λ r done ds codes. codes-step (lasting m cs) (lasting (with_registers c.code.new.self r) (set cs c.args.cx c.after.result)) c.args.cx q c.part_of-taken.result.width c.args.bit c.mps.result (get_or cs c.args.cx c.index-contexts-cx.result) c.after.result ds
       (get_or_default cs c.args.cx c.index-contexts-cx.result (begins 0) (omega arith)) c.mps.ensures c.size-qe.ensures.value
       (c.part_of-taken.ensures.width ∙ ap (λ (t : Bool). cond t q (c.args.registers.width - q)) c.part_of-taken.ensures.lower)
-      (c.after.ensures ∙ ap (λ (t : Bool). cond t (moved at (cond less (not at.mps) at.mps)) at) c.part_of-taken.ensures.moves) done refl refl codes)
+      (c.after.ensures ∙ ap (λ (t : Bool). cond t (moved at (cond less (not at.mps) at.mps)) at) c.part_of-taken.ensures.moves) done refl refl codes in
+      if_ok c.code.result coded
       (subst (λ (t : Bool). IfOk c.code.result (λ r. with_registers c.code.new.self r ≡ renorm 15 (part m q t))) c.part_of-taken.ensures.lower c.code.ensures.done);
 }
