@@ -1,0 +1,22 @@
+//! Files and folders of the system: read to their end, written so that nothing is lost, listed,
+//! locked.
+#![tactic(auto)]
+
+mod listing;
+mod locking;
+mod opening;
+mod place;
+mod reading;
+mod refusal;
+mod replacing;
+mod writing;
+
+pub use listing::{Listing, Other, list, names};
+pub use locking::{
+    Lock, Lockable, SharedLock, try_exclusive, try_shared, wait_exclusive, wait_shared,
+};
+pub use place::is_file_name;
+pub use reading::{read_all, read_file, read_inside};
+pub use refusal::Refusal;
+pub use replacing::replace_file;
+pub use writing::{rename, write_new};
