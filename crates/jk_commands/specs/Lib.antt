@@ -1,0 +1,7 @@
+pub use Rattle.jk_math.specs.Answer
+pub use Rattle.jk_math.specs.Picture
+pub mod Sizes
+pub mod Options
+pub mod Plans
+pub mod Commands
+pub mod Lines

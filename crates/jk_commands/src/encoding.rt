@@ -1,0 +1,47 @@
+//! Encoding a PGM or PPM file.
+
+ghost use Rattle.std.specs.Prelude.{Ok, IfOk};
+ghost use Rattle.jk_math.specs.Answer.{Answers};
+ghost use Rattle.jk_math.specs.Picture.{Picture};
+ghost use Rattle.jk_pnm.specs.Pnm.{IsPnm};
+ghost use Rattle.jk_pnm.specs.Reading.{pnm_at};
+ghost use Rattle.jk_code.specs.Meaning.{Means};
+ghost use Rattle.jk_commands.specs.Plans.{at_place};
+ghost use Rattle.jk_commands.specs.Commands.{encoded};
+
+use crate::plan::Plan;
+use jk_code::encode;
+use jk_math::{Fault, Image};
+use std::alloc::Global;
+
+/// The image of a PGM or PPM file, as `jk_pnm::read` gives it. The file is let go of.
+pub fn read_image(alloc: Global, bytes: Vec<u8>) -> Result<Image, Fault>
+    ensures exact { Answers (λ i. i) result (pnm_at bytes.items) }
+    // What is read is a file of this image.
+    ensures found { IfOk result (λ i. IsPnm bytes.items i) }
+    // A file of an image is read.
+    ensures only { (p : Picture) → IsPnm bytes.items p → Answers (λ i. i) result (Ok p) }
+{
+    jk_pnm::read(alloc, &bytes)
+}
+
+/// What `jk encode` writes of a PGM or PPM file.
+///
+/// The first of these faults: BadPnm, as `jk_pnm::read` names it; BadParameters where the image may
+/// not stand at its place, and where image and parameters aren't in the profile; Limit. Before the
+/// image is encoded, the file is let go of.
+#[tactic(auto, unfolding(crate::specs::Commands::encoded, crate::specs::Plans::placing))]
+pub fn encode_file(alloc: Global, bytes: Vec<u8>, plan: Plan) -> Result<Vec<u8>, Fault>
+    // Which bytes, or which fault is the first.
+    ensures exact { Answers (λ v. v.items) result (encoded bytes.items plan) }
+    // Of a file of a picture, what is written means exactly that picture, placed as it is asked for.
+    ensures means { (p : Picture) → IsPnm bytes.items p
+        → IfOk result (λ v. Means v.items 0 (at_place p plan.x0 plan.y0)) }
+    // Nothing is written of other bytes.
+    ensures found { IfOk result (λ v. (p : Picture) × IsPnm bytes.items p
+        × Means v.items 0 (at_place p plan.x0 plan.y0)) }
+{
+    let image = read_image(alloc, bytes)?;
+    let placed = plan.place(image)?;
+    encode(alloc, &placed.image, &placed.parameters)
+}

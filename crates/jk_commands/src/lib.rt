@@ -1,0 +1,21 @@
+//! What each command of jk makes of byte strings: no file is opened here, and nothing is printed.
+#![tactic(auto)]
+
+mod cutting;
+mod decoding;
+mod encoding;
+mod options;
+mod orders;
+mod plan;
+mod sizes;
+mod telling;
+mod theorems;
+
+pub use cutting::cut_file;
+pub use decoding::decode_file;
+pub use encoding::{encode_file, read_image};
+pub use options::EncodeOptions;
+pub use orders::{order_name, order_named};
+pub use plan::{Placed, Plan, judge};
+pub use telling::info_file;
+pub use theorems::encode_and_decode;

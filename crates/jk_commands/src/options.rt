@@ -1,0 +1,73 @@
+//! The options of an encoding.
+
+ghost use Rattle.std.specs.Prelude.{◌≡◌, [], None, false};
+ghost use Rattle.std.specs.String.{string_bytes};
+
+use jk_marks::Order;
+use std::alloc::Global;
+
+/// The options of an encoding, as they are given: no number of them is judged yet.
+#[derive(Debug, Drop)]
+pub struct EncodeOptions {
+    /// Decomposition levels.
+    pub levels: u32,
+    /// Layers.
+    pub layers: u32,
+    /// The progression order.
+    pub order: Order,
+    /// The width of a tile.
+    pub tile_width: Option<u32>,
+    /// The height of a tile.
+    pub tile_height: Option<u32>,
+    /// The exponent of a code-block's width.
+    pub block_x: u32,
+    /// The exponent of a code-block's height.
+    pub block_y: u32,
+    /// Precinct sizes, two hexadecimal digits for each resolution from the lowest on: the exponent
+    /// of the height, and that of the width.
+    pub precincts: String,
+    /// The column of the upper left sample on the reference grid.
+    pub x0: u32,
+    /// The row of the upper left sample on the reference grid.
+    pub y0: u32,
+    /// Whether the components of a colour image stay as they are.
+    pub no_colour: bool,
+    /// Whether SOP stands before each packet.
+    pub sop: bool,
+    /// Whether EPH stands after each packet header.
+    pub eph: bool,
+    /// Whether a bare codestream is written, and no JP2 file.
+    pub raw: bool,
+}
+
+impl EncodeOptions {
+    /// The options that stand where none is given.
+    pub fn new(alloc: Global) -> EncodeOptions
+        ensures levels { result.levels ≡ 5 }
+        ensures layers { result.layers ≡ 1 }
+        ensures order { result.order ≡ Order.Lrcp }
+        ensures tile { (result.tile_width ≡ None) × (result.tile_height ≡ None) }
+        ensures blocks { (result.block_x ≡ 6) × (result.block_y ≡ 6) }
+        ensures precincts { string_bytes result.precincts ≡ [] }
+        ensures place { (result.x0 ≡ 0) × (result.y0 ≡ 0) }
+        ensures flags { (result.no_colour ≡ false) × (result.sop ≡ false) × (result.eph ≡ false)
+            × (result.raw ≡ false) }
+    {
+        EncodeOptions {
+            levels: 5,
+            layers: 1,
+            order: Order::Lrcp,
+            tile_width: None,
+            tile_height: None,
+            block_x: 6,
+            block_y: 6,
+            precincts: String::new(alloc),
+            x0: 0,
+            y0: 0,
+            no_colour: false,
+            sop: false,
+            eph: false,
+            raw: false,
+        }
+    }
+}
