@@ -19,25 +19,7 @@ use Rattle.jk_window.proofs.Laws.{window_found, window_only, window_refused}
 use Rattle.jk_code.specs.Meaning.{Means}
 use Rattle.jk_code.specs.Windows.{IsWindowOf}
 use Rattle.jk_store.specs.declared.entry.Entry.{Entry}
-use Rattle.jk_store.specs.Catalogue.{IsFileOf, IsCutFrom, IsWindowGiven, WasForeign}
-
-fits_or_limit : (b : Bool) (text : List ℕ) → (if b then Ok text else Err Limit) ≡ Err BadWindow → ⊥
-fits_or_limit true text is = cc
-fits_or_limit false text is = cc
-
-recoded_fault : {bytes old : List ℕ} (j : IsJp2 bytes old) (codestream : List ℕ) → recoded j codestream ≡ Err BadWindow → ⊥
-unfolding recoded
-recoded_fault j codestream is = fits_or_limit _ _ is
-
-contained_fault : {bytes codestream : List ℕ} {place : Boxed} (held : HoldsAt bytes codestream place) (new : List ℕ) → with_codestream held new ≡ Err BadWindow → ⊥
-contained_fault (inl bare) new is = cc
-contained_fault (inr jp2) new is = recoded_fault jp2.0 new is
-
--- where the view has a window, it can be cut
-window_cut : {bytes : List ℕ} {i : IndexFields} (is : IsIndexOf bytes i) (v : View) → HasWindow i.headers v → cut_file is v ≡ Err BadWindow → ⊥
-window_cut {bytes} {i} is v has bad =
-    let sound = sound_headers is.codestream i.headers is.says in
-    contained_fault is.holds _ (rw (window_only i.headers v sound.tiles has) at bad)
+use Rattle.jk_store.specs.Catalogue.{IsFileOf, IsCutFrom, IsWindowGiven}
 
 module _ {S X : Type 0} (items : X → List ℕ) (gave : S → List ℕ → List ℕ → S → Type 0) (e : Entry) (v : View) (old new : S) (file : List ℕ) (is_file : IsFileOf gave e old file new) where
   pub cut_given : (r : Result X Fault) → ((is : IsIndexOf file e.index) → Answers items r (cut_file is v))
@@ -45,9 +27,6 @@ module _ {S X : Type 0} (items : X → List ℕ) (gave : S → List ℕ → List
       → IfOk r (λ w. (f : List ℕ) × IsFileOf gave e old f new × IsCutFrom e.index v f (items w))
   cut_given (Ok w) exact means = (file, is_file, record { cut = exact; means = means })
   cut_given (Err x) exact means = tt
-
-  pub cut_refused : (r : Result X Fault) → ((is : IsIndexOf file e.index) → Answers items r (cut_file is v)) → HasWindow e.index.headers v → r ≡ Err BadWindow → WasForeign gave e old new
-  cut_refused r exact has bad = (file, is_file, λ is. window_cut is v has (subst (λ q. Answers items q (cut_file is v)) bad (exact is)))
 
 -- ---- a file that the shelf keeps
 

@@ -5,3 +5,4 @@ pub mod AddLaws
 pub mod NameLaws
 pub mod OpenLaws
 pub mod ShowingLaws
+pub mod AddedLaws

@@ -217,6 +217,16 @@ opened_stands keeps gave (n ∷ names) files old entries skipped new h kept =
           (next.0, next.1, λ m c is. next.2 m c (within m c is), next.3))
     ]
 
+-- each entry stands for a file that was read
+pub opened_each : {S : Type 0} (gave : S → List ℕ → List ℕ → S → Type 0) (names : List (List ℕ)) (old : S) (entries : List Entry) (skipped : List Skipped) (new : S)
+    → Opened gave names old entries skipped new → AllByRecursion (λ e. (file : List ℕ) × StandsFor e (stored (string_bytes e.name) file)) entries
+opened_each gave [] old entries skipped new h = subst (AllByRecursion (λ e. (file : List ℕ) × StandsFor e (stored (string_bytes e.name) file))) (sym h.0) tt
+opened_each gave (n ∷ names) old entries skipped new h = elim h.3 [
+  | inl l ↦ subst (AllByRecursion (λ e. (file : List ℕ) × StandsFor e (stored (string_bytes e.name) file))) (sym l.3)
+      ((h.0, subst (λ x. StandsFor l.0 (stored x h.0)) (sym l.2.name) l.2), opened_each gave names h.1 l.1 skipped new l.4)
+  | inr l ↦ opened_each gave names h.1 entries l.1 new l.4
+]
+
 -- ---- the names of a set
 
 all_bytes : {Y : Type 0} (P : List ℕ → Type 0) (ks : List (String Y)) → AllByRecursion (λ k. P (string_bytes k)) ks → AllByRecursion P (map string_bytes ks)

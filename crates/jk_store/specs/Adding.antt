@@ -1,13 +1,15 @@
 -- What is judged before an image is added.
-use Rattle.std.specs.Prelude.{ℕ, Bool, true, false, not, nat_le, List, length, Result}
+use Rattle.std.specs.Prelude.{◌≡◌, ℕ, Bool, true, false, not, nat_le, ◌⊎◌, List, length, Some, Result, Ok}
+use Rattle.std.specs.Str.{bytes_eq}
 use Rattle.jk_math.specs.Answer.{◌>>=◌, refuse}
 use Rattle.jk_math.specs.declared.fault.Fault.{Fault}
-use Rattle.jk_math.specs.declared.fault.Fault.TheVariants.{BadName, NameTaken, Limit, BadParameters}
+use Rattle.jk_math.specs.declared.fault.Fault.TheVariants.{BadName, NameTaken, Limit, BadParameters, Shelf}
 use Rattle.jk_math.specs.Picture.{Picture}
 use Rattle.jk_params.specs.declared.parameters.Parameters.{Parameters}
 use Rattle.jk_params.specs.declared.parameters.Container.{Container}
 use Rattle.jk_params.specs.declared.parameters.Container.TheVariants.{Raw, Jp2}
 use Rattle.jk_params.specs.Profile.{is_profile}
+use Rattle.jk_store.specs.Files.{Files}
 use Rattle.jk_store.specs.Names.{is_good_name}
 use Rattle.jk_store.specs.Catalogue.{is_listed, most_entries}
 use Rattle.jk_store.specs.declared.entry.Entry.{Entry}
@@ -24,3 +26,13 @@ judged entries name p q = do
   _ ← refuse (nat_le most_entries (length entries)) Limit
   _ ← refuse (not (is_profile q p)) BadParameters
   refuse (is_raw q.container) BadParameters
+
+-- What is left of files after a refusal, where a file that was made is written under a temporary name and gets its own: all others,
+-- and under its own name what was there before; or, after Shelf, the file that was made.
+pub record IsLeft (temporary own : List ℕ) (made : Result (List ℕ) Fault) (e : Fault) (files left : Files) : Type 0 where
+  pub others : (n : List ℕ) → bytes_eq temporary n ≡ false → bytes_eq own n ≡ false → left n ≡ files n
+  pub here : (left own ≡ files own) ⊎ ((file : List ℕ) × (e ≡ Shelf) × (made ≡ Ok file) × (left own ≡ Some file))
+
+-- The file couldn't be written under its temporary name, or that couldn't become its own.
+abbrev pub IsUnstored : {S : Type 0} → (unwritten : S → List ℕ → S → Type 0) → (unrenamed : S → List ℕ → List ℕ → S → Type 0) → (temporary own : List ℕ) → S → S → Type 0
+IsUnstored {S} unwritten unrenamed temporary own old new = unwritten old temporary new ⊎ ((mid : S) × unrenamed mid temporary own new)

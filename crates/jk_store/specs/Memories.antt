@@ -36,6 +36,14 @@ Unlisted s t = s.failures.count ≡ last_count
 abbrev pub Unread : MemoryShelf → List ℕ → MemoryShelf → Type 0
 Unread s n t = (held s n ≡ None) ⊎ (s.failures.count ≡ last_count)
 
+-- It counts no more.
+abbrev pub Unwritten : MemoryShelf → List ℕ → MemoryShelf → Type 0
+Unwritten s n t = s.failures.count ≡ last_count
+
+-- It has no file of the old name, or counts no more.
+abbrev pub Unrenamed : MemoryShelf → List ℕ → List ℕ → MemoryShelf → Type 0
+Unrenamed s from to t = (held s from ≡ None) ⊎ (s.failures.count ≡ last_count)
+
 -- Two shelves hold the same files.
 abbrev pub HoldSame : MemoryShelf → MemoryShelf → Type 0
 HoldSame s t = (m : List ℕ) → held t m ≡ held s m

@@ -14,7 +14,7 @@ use Rattle.jk_web.specs.Images.{Image}
 use Rattle.jk_store.specs.Files.{Files}
 use Rattle.jk_store.specs.Names.{file_name}
 use Rattle.jk_store.specs.Counting.{last_count}
-use Rattle.jk_store.specs.Catalogue.{entry_of, IsOtherFile, WasForeign}
+use Rattle.jk_store.specs.Catalogue.{entry_of, IsFileOf, IsOtherFile, IsCutFrom, WasForeign}
 use Rattle.jk_store.specs.declared.entry.Entry.{Entry}
 
 -- a space and a number
@@ -47,6 +47,10 @@ pub record ShowsImage (e : Entry) (i : Image) : Type 0 where
   pub index : IsIndexOf i.file e.index
   pub cut : (asked : Asked) → i.cut asked ≡ given_of (cut_file index (view_of asked))
 
+-- Entries show images, each its own, in order.
+abbrev pub ShowImages : List Entry → List Image → Type 0
+ShowImages entries images = AllZip ShowsImage entries images
+
 -- The shelf keeps the files of images.
 pub record AreKept {S : Type 0} (keeps : S → Files → Type 0) (shelf : S) (images : List Image) : Type 0 where
   pub files : Files
@@ -55,10 +59,19 @@ pub record AreKept {S : Type 0} (keeps : S → Files → Type 0) (shelf : S) (im
 
 -- Entries over a shelf stand for images: each shows its image, and the shelf keeps their files.
 pub record Stands {S : Type 0} (keeps : S → Files → Type 0) (entries : List Entry) (shelf : S) (images : List Image) : Type 0 where
-  pub shows : AllZip ShowsImage entries images
+  pub shows : ShowImages entries images
   pub kept : AreKept keeps shelf images
 
--- Between two states a failure of the shelf was counted, or the shelf gave a file under the name of an entry that isn't the entry's.
-abbrev pub Broke : {S : Type 0} → (S → ℕ) → (S → List ℕ → List ℕ → S → Type 0) → List Entry → S → S → Type 0
-Broke failed gave entries old new =
-    (failed new ≡ min (failed old + 1) last_count) ⊎ ((e : Entry) × (n : List ℕ) × (entry_of entries n ≡ Some e) × (IsOtherFile gave e old new ⊎ WasForeign gave e old new))
+-- Between two states a failure of the shelf was counted; or the shelf gave a file under the name of the entry that isn't the entry's:
+-- it has another digest, or the index isn't its own.
+abbrev pub Broke : {S : Type 0} → (S → ℕ) → (S → List ℕ → List ℕ → S → Type 0) → List Entry → S → List ℕ → S → Type 0
+Broke failed gave entries old n new =
+    (failed new ≡ min (failed old + 1) last_count) ⊎ ((e : Entry) × (entry_of entries n ≡ Some e) × (IsOtherFile gave e old new ⊎ WasForeign gave e old new))
+
+-- Between two states the shelf gave this file under the name of the entry, and it has the entry's digest.
+abbrev pub Reads : {S : Type 0} → (S → List ℕ → List ℕ → S → Type 0) → List Entry → S → List ℕ → List ℕ → S → Type 0
+Reads gave entries old n file new = (e : Entry) × (entry_of entries n ≡ Some e) × IsFileOf gave e old file new
+
+-- The second file is the window of the first, cut with the index of the entry of a name.
+abbrev pub Cuts : List Entry → List ℕ → Asked → List ℕ → List ℕ → Type 0
+Cuts entries n asked file cut = (e : Entry) × (entry_of entries n ≡ Some e) × IsCutFrom e.index (view_of asked) file cut

@@ -14,7 +14,11 @@ ghost use Rattle.jk_store.specs.Files.{Files, with_file, without};
 ghost use Rattle.jk_store.specs.Names.{is_good_name, file_name, temporary_name};
 ghost use Rattle.jk_store.specs.Counting.{Counts};
 ghost use Rattle.jk_store.specs.Catalogue.{is_listed, image_at, most_entries, StandsFor, stored, Passes};
-ghost use Rattle.jk_store.specs.Adding.{judged};
+ghost use Rattle.jk_store.specs.Adding.{judged, IsLeft, IsUnstored};
+ghost use Rattle.jk_store.specs.Showing.{ShowImages, Stands};
+ghost use Rattle.jk_web.specs.Images.{Image as Shown};
+ghost use Rattle.std.specs.Str.{bytes_eq};
+ghost use Rattle.jk_math.specs.declared.fault.Fault.TheVariants.{Shelf as ShelfFault};
 
 use crate::archive::Archive;
 use crate::entry::Entry;
@@ -131,6 +135,11 @@ fn prepare(
 fn store<S: Shelf>(alloc: Global, shelf: &mut S, made: &Prepared) -> Result<(), Fault>
     ensures ok { (files : Files) → S.keeps shelf.old files
         → OnOk result (S.keeps shelf.new (with_file (string_bytes made.now.file) made.now.bytes.items (without (string_bytes made.now.temporary) files))) }
+    // Of other files nothing is lost, whatever it answers.
+    ensures left { bytes_eq (string_bytes made.now.temporary) (string_bytes made.now.file) ≡ false → (files : Files) → S.keeps shelf.old files
+        → IfErr result (λ e. (left : Files) × S.keeps shelf.new left
+        × IsLeft (string_bytes made.now.temporary) (string_bytes made.now.file) (Ok made.now.bytes.items) e files left) }
+    ensures cause { IfErr result (λ e. e ≡ ShelfFault → IsUnstored S.unwritten S.unrenamed (string_bytes made.now.temporary) (string_bytes made.now.file) shelf.old shelf.new) }
     ensures counts { Counts result (S.failed shelf.old) (S.failed shelf.new) }
 {
     shelf.write(alloc, made.temporary.as_str(), &made.bytes)?;
@@ -159,7 +168,17 @@ impl<S: Shelf> Archive<S> {
         // The shelf keeps the file, and what it kept.
         ensures holds { (files : Files) (file : List ℕ) → S.keeps self.old.shelf files → written image.now parameters.now ≡ Ok file
             → OnOk result (S.keeps self.new.shelf (with_file (file_name name.now) file (without (temporary_name name.now) files))) }
+        // What the archive stood for it stands for, with one image more.
+        ensures shows { (images : List Shown) → ShowImages (map arc_value self.old.entries.items) images
+            → IfOk result (λ e. (i : Shown) × ShowImages (map arc_value self.new.entries.items) (images ++ i ∷ [])
+            × (i.name ≡ name.now) × (written image.now parameters.now ≡ Ok i.file)) }
+        ensures keeps { (images : List Shown) → Stands S.keeps (map arc_value self.old.entries.items) self.old.shelf images
+            → IfOk result (λ e. (i : Shown) × Stands S.keeps (map arc_value self.new.entries.items) self.new.shelf (images ++ i ∷ [])
+            × (i.name ≡ name.now) × (written image.now parameters.now ≡ Ok i.file)) }
+        // After a refusal the list is as before, and of files all but the temporary one of this name are.
         ensures err { OnErr result (self.new.entries.items ≡ self.old.entries.items) }
+        ensures left { (files : Files) → S.keeps self.old.shelf files → IfErr result (λ e. (left : Files) × S.keeps self.new.shelf left
+            × IsLeft (temporary_name name.now) (file_name name.now) (written image.now parameters.now) e files left) }
         ensures skipped { self.new.skipped ≡ self.old.skipped }
         ensures counts { Passes (λ e. IsMemory e ⊎ (judged (map arc_value self.old.entries.items) name.now image.now parameters.now ≡ Err e) ⊎ (written image.now parameters.now ≡ Err e))
             result (S.failed self.old.shelf) (S.failed self.new.shelf) }

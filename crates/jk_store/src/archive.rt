@@ -67,6 +67,13 @@ impl<S: Shelf> Archive<S> {
         &self.skipped
     }
 
+    /// The shelf.
+    pub fn shelf(&self) -> &S
+        ensures { result.now ≡ self.now.shelf }
+    {
+        &self.shelf
+    }
+
     /// The shelf, given back.
     pub fn into_shelf(self) -> S
         ensures { result ≡ self.shelf }
@@ -121,8 +128,7 @@ impl<S: Shelf> Archive<S> {
         ensures unseen { (e : EntryFields) → entry_of (map arc_value self.old.entries.items) name.now ≡ Some e
             → (HasWindow e.index.headers view → ⊥) → (result ≡ Err Fault.BadWindow) × (self.new.shelf ≡ self.old.shelf) }
         ensures bad { (e : EntryFields) → entry_of (map arc_value self.old.entries.items) name.now ≡ Some e
-            → result ≡ Err Fault.BadWindow → HasWindow e.index.headers view
-            → WasForeign S.gave e self.old.shelf self.new.shelf }
+            → result ≡ Err Fault.BadWindow → HasWindow e.index.headers view → ⊥ }
         ensures changed { (e : EntryFields) → entry_of (map arc_value self.old.entries.items) name.now ≡ Some e
             → result ≡ Err Fault.Changed → IsOtherFile S.gave e self.old.shelf self.new.shelf
             ⊎ WasForeign S.gave e self.old.shelf self.new.shelf }

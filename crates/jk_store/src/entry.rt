@@ -73,9 +73,8 @@ impl Entry {
             → (is : IsIndexOf b self.now.index) → IsWindowGiven (cut_file is view) result }
         // Where the view has no window, that is the answer, and the shelf isn't read.
         ensures unseen { (HasWindow self.now.index.headers view → ⊥) → (result ≡ Err Fault.BadWindow) × (shelf.new ≡ shelf.old) }
-        // No other BadWindow is answered, unless for a file of which the index isn't.
-        ensures bad { result ≡ Err Fault.BadWindow → HasWindow self.now.index.headers view
-            → WasForeign S.gave self.now shelf.old shelf.new }
+        // No other BadWindow is answered.
+        ensures bad { result ≡ Err Fault.BadWindow → HasWindow self.now.index.headers view → ⊥ }
         ensures changed { result ≡ Err Fault.Changed → IsOtherFile S.gave self.now shelf.old shelf.new
             ⊎ WasForeign S.gave self.now shelf.old shelf.new }
         ensures kept { (files : Files) → S.keeps shelf.old files → S.keeps shelf.new files }

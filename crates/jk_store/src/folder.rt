@@ -1,145 +1,51 @@
 //! A shelf of the files of a directory.
 
-ghost use Rattle.std.specs.Prelude.{◌≡◌, ◌⊎◌, IfOk, IfErr};
+ghost use Rattle.std.specs.Prelude.{◌≡◌, ◌<◌, IfOk, IfErr};
 ghost use Rattle.std.specs.String.{string_bytes};
 ghost use Rattle.jk_math.specs.Memory.{IsMemory};
-ghost use Rattle.jk_math.specs.declared.fault.Fault.TheVariants.{Shelf as ShelfFault};
+ghost use Rattle.jk_store.specs.Counting.{last_count, Counts};
 
 use crate::failures::Failures;
-use crate::reading::read_all;
+use crate::names::{is_image_file, is_left_file};
 use crate::shelf::Shelf;
+use jk_files::{Other, Refusal};
 use jk_math::Fault;
 use std::alloc::Global;
-use std::fs::{self, File};
-use std::io::ErrorKind;
+use std::io;
 use std::rt::Files;
-use std::str;
 
 /// The files of a directory. A call fails where the system refuses it, and at a name that no file can have.
+///
+/// Its list has the files of images alone: regular files that can be opened, whose name is `NAME.jp2` with a good NAME. What else stands under
+/// such a name, and what was left while a file was written, it keeps to be told. What `write` and `rename` return behind is
+/// stored, as far as the system keeps its word: a file before its name.
 #[derive(Drop)]
 pub struct Folder<R> {
     rt: R,
     path: String,
     failures: Failures,
+    others: Vec<Other>,
+    left: Vec<String>,
+    trouble: Option<Other>,
 }
 
-/// Whether a file of a directory may have this name.
-fn is_file_name(name: &str) -> bool {
-    !name.is_empty() && name != "." && name != ".." && !name.contains('/')
+/// What a listing finds in a directory.
+#[derive(Drop)]
+struct Found {
+    files: Vec<String>,
+    others: Vec<Other>,
+    left: Vec<String>,
 }
 
-/// The path of a file of a directory.
-///
-/// Shelf: no file can have the name.
-fn place(alloc: Global, folder: &str, name: &str) -> Result<String, Fault>
-    ensures err { IfErr result (λ e. IsMemory e ⊎ (e ≡ ShelfFault)) }
-{
-    if !is_file_name(name) {
-        return Err(Fault::Shelf);
-    }
-    let mut path = String::from_str(alloc, folder)?;
-    if !folder.is_empty() && !folder.ends_with('/') {
-        path.push('/')?;
-    }
-    path.push_str(name)?;
-    Ok(path)
-}
-
-/// Whether a file stands at a path, and not a directory, or nothing any more.
-///
-/// Shelf: the system can't say.
-fn is_file<R: Files>(rt: &R, path: &str) -> Result<bool, Fault>
-    ensures err { IfErr result (λ e. e ≡ ShelfFault) }
-{
-    match rt.metadata(path) {
-        Ok(metadata) => Ok(metadata.is_file()),
-        Err(error) => {
-            if error.kind() == ErrorKind::NotFound {
-                Ok(false)
-            } else {
-                Err(Fault::Shelf)
-            }
-        }
-    }
-}
-
-/// The names of files among those of a directory, each of which ends with a NUL.
-///
-/// Shelf: the system can't say of one what it is.
-fn files_among<R: Files>(
-    rt: &R,
-    alloc: Global,
-    folder: &str,
-    names: &[u8],
-) -> Result<Vec<String>, Fault>
-    ensures err { IfErr result (λ e. IsMemory e ⊎ (e ≡ ShelfFault)) }
-{
-    let mut files = Vec::new(alloc);
-    for name in names.split(|byte| *byte == 0) {
-        let Ok(name) = str::from_utf8(name) else {
-            continue;
-        };
-        if is_file_name(name) && is_file(rt, place(alloc, folder, name)?.as_str())? {
-            files.push(String::from_str(alloc, name)?)?;
-        }
-    }
-    Ok(files)
-}
-
-/// The names of the files of a directory.
-///
-/// Shelf: it can't be read.
-fn list<R: Files>(rt: &R, alloc: Global, folder: &str) -> Result<Vec<String>, Fault>
-    ensures err { IfErr result (λ e. IsMemory e ⊎ (e ≡ ShelfFault)) }
-{
-    match rt.open_dir(folder) {
-        Ok(names) => files_among(rt, alloc, folder, &read_all(alloc, names)?),
-        Err(_) => Err(Fault::Shelf),
-    }
-}
-
-/// The bytes of a file of a directory.
-///
-/// Shelf: it can't be read.
-fn read<R: Files>(rt: &R, alloc: Global, folder: &str, name: &str) -> Result<Vec<u8>, Fault>
-    ensures err { IfErr result (λ e. IsMemory e ⊎ (e ≡ ShelfFault)) }
-{
-    match File::open(rt, place(alloc, folder, name)?.as_str()) {
-        Ok(file) => read_all(alloc, file),
-        Err(_) => Err(Fault::Shelf),
-    }
-}
-
-/// Creates a file of a directory, or replaces it.
-///
-/// Shelf: it can't be written.
-fn write<R: Files>(
-    rt: &R,
-    alloc: Global,
-    folder: &str,
-    name: &str,
-    bytes: &[u8],
-) -> Result<(), Fault>
-    ensures err { IfErr result (λ e. IsMemory e ⊎ (e ≡ ShelfFault)) }
-{
-    match fs::write(rt, place(alloc, folder, name)?.as_str(), bytes) {
-        Ok(()) => Ok(()),
-        Err(_) => Err(Fault::Shelf),
-    }
-}
-
-/// Gives a file of a directory another name there.
-///
-/// Shelf: it can't be renamed.
-fn rename<R: Files>(rt: &R, alloc: Global, folder: &str, from: &str, to: &str) -> Result<(), Fault>
-    ensures err { IfErr result (λ e. IsMemory e ⊎ (e ≡ ShelfFault)) }
-{
-    let from = place(alloc, folder, from)?;
-    let to = place(alloc, folder, to)?;
-    match fs::rename(rt, from.as_str(), to.as_str()) {
-        Ok(()) => Ok(()),
-        Err(_) => Err(Fault::Shelf),
-    }
+/// The files of images in a directory, what else has such a name, and the temporary files.
+fn look<R: Files>(rt: &R, alloc: Global, folder: &str) -> Result<Found, Refusal> {
+    let listing = jk_files::list(rt, alloc, folder, is_image_file)?;
+    let left = jk_files::names(rt, alloc, folder, is_left_file)?;
+    Ok(Found {
+        files: listing.files,
+        others: listing.others,
+        left,
+    })
 }
 
 impl<R: Files + Drop> Folder<R> {
@@ -153,7 +59,57 @@ impl<R: Files + Drop> Folder<R> {
             rt,
             path: String::from_str(alloc, path)?,
             failures: Failures::none(),
+            others: Vec::new(alloc),
+            left: Vec::new(alloc),
+            trouble: None,
         })
+    }
+
+    /// What the last listing left out: what stands under the name of an image's file and can't be opened as a file, each with
+    /// what the system said.
+    pub fn others(&self) -> &[Other] {
+        &self.others
+    }
+
+    /// The temporary files that the last listing saw.
+    pub fn left(&self) -> &[String] {
+        &self.left
+    }
+
+    /// The name at which the last call failed, empty for the directory itself, and what the system said.
+    pub fn trouble(&self) -> Option<&Other> {
+        self.trouble.as_ref()
+    }
+
+    /// The answer of a call on a name, which is counted, and kept to be told, where it failed.
+    fn answered<T>(
+        &mut self,
+        alloc: Global,
+        name: &str,
+        answer: Result<T, Refusal>,
+    ) -> Result<T, Fault>
+        requires { self.old.failures.count < last_count }
+        ensures { Counts result self.old.failures.count self.new.failures.count }
+    {
+        match answer {
+            Ok(value) => Ok(value),
+            Err(Refusal::Memory(refused)) => Err(Fault::Memory(refused)),
+            Err(Refusal::System(said)) => {
+                self.note(alloc, name, said);
+                Err(self.failures.fail())
+            }
+        }
+    }
+
+    /// Keeps what the system said of a name. Where there is no memory for the name, it is kept without.
+    fn note(&mut self, alloc: Global, name: &str, said: io::Error)
+        ensures { self.new.failures ≡ self.old.failures }
+    {
+        let name = match String::from_str(alloc, name) {
+            Ok(name) => name,
+            Err(_) => String::new(alloc),
+        };
+        self.trouble = Some(Other { name, said });
     }
 }
 
@@ -169,26 +125,29 @@ impl<R: Files + Drop> Shelf for Folder<R> {
 
     fn list(&mut self, alloc: Global) -> Result<Vec<String>, Fault> {
         self.failures.ready()?;
-        let answer = list(&self.rt, alloc, self.path.as_str());
-        self.failures.counted(answer)
+        let answer = look(&self.rt, alloc, self.path.as_str());
+        let found = self.answered(alloc, "", answer)?;
+        self.others = found.others;
+        self.left = found.left;
+        Ok(found.files)
     }
 
     fn read(&mut self, alloc: Global, name: &str) -> Result<Vec<u8>, Fault> {
         self.failures.ready()?;
-        let answer = read(&self.rt, alloc, self.path.as_str(), name);
-        self.failures.counted(answer)
+        let answer = jk_files::read_inside(&self.rt, alloc, self.path.as_str(), name);
+        self.answered(alloc, name, answer)
     }
 
     fn write(&mut self, alloc: Global, name: &str, bytes: &[u8]) -> Result<(), Fault> {
         self.failures.ready()?;
-        let answer = write(&self.rt, alloc, self.path.as_str(), name, bytes);
-        self.failures.counted(answer)
+        let answer = jk_files::write_new(&self.rt, alloc, self.path.as_str(), name, bytes);
+        self.answered(alloc, name, answer)
     }
 
     fn rename(&mut self, alloc: Global, from: &str, to: &str) -> Result<(), Fault> {
         self.failures.ready()?;
-        let answer = rename(&self.rt, alloc, self.path.as_str(), from, to);
-        self.failures.counted(answer)
+        let answer = jk_files::rename(&self.rt, alloc, self.path.as_str(), from, to);
+        self.answered(alloc, from, answer)
     }
 
     fn failures(&self) -> u64 {

@@ -3,7 +3,7 @@
 ghost use Rattle.std.specs.Prelude.{◌≡◌, ℕ, List, [], Some, None, IfOk, OnOk, OnErr, IfErr};
 ghost use Rattle.std.specs.Option.{option_map};
 ghost use Rattle.jk_math.specs.Memory.{IsMemory};
-ghost use Rattle.jk_store.specs.Memories.{Keeps, Gave, Lists, Unlisted, Unread, HoldSame, HoldsInstead, held, names_of};
+ghost use Rattle.jk_store.specs.Memories.{Keeps, Gave, Lists, Unlisted, Unread, Unwritten, Unrenamed, HoldSame, HoldsInstead, held, names_of};
 
 use crate::failures::Failures;
 use crate::shelf::Shelf;
@@ -72,6 +72,10 @@ impl Shelf for MemoryShelf {
     ghost unlisted = { Unlisted };
 
     ghost unread = { Unread };
+
+    ghost unwritten = { Unwritten };
+
+    ghost unrenamed = { Unrenamed };
 
     ghost failed = { λ s. s.failures.count };
 

@@ -69,6 +69,19 @@ fn name_of(file: &str) -> Option<&str>
     if is_good_name(name) { Some(name) } else { None }
 }
 
+/// Whether a file is that of an image with a good name.
+pub(crate) fn is_image_file(file: &str) -> bool {
+    name_of(file).is_some()
+}
+
+/// Whether a file is one that was left while an image was written.
+pub(crate) fn is_left_file(file: &str) -> bool {
+    match file.strip_suffix(".tmp") {
+        Some(name) => is_good_name(name),
+        None => false,
+    }
+}
+
 /// Puts the name of the image of which a file is among others.
 fn add_name(alloc: Global, names: &mut BTreeSet<String>, file: &str) -> Result<(), Fault>
     ensures ok { OnOk result ((n : List ℕ) → contains_text names.new n ≡ (is_file_of n file.now || contains_text names.old n)) }

@@ -1,6 +1,6 @@
 //! What an archive stands on.
 
-ghost use Rattle.std.specs.Prelude.{◌≡◌, ℕ, List, map, true, Some, IfOk, IfErr, OnOk};
+ghost use Rattle.std.specs.Prelude.{◌≡◌, ◌⊎◌, ℕ, List, map, true, Some, IfOk, IfErr, OnOk};
 ghost use Rattle.std.specs.String.{string_bytes};
 ghost use Rattle.jk_math.specs.Memory.{IsMemory};
 ghost use Rattle.jk_math.specs.declared.fault.Fault.TheVariants.{Shelf as ShelfFault};
@@ -28,6 +28,12 @@ pub trait Shelf {
 
     /// From the first state a read of that name may fail and leave the second.
     ghost unread: { Self → List ℕ → Self → Type 0 } = { λ _ _ _. Unit {0} };
+
+    /// From the first state a write under that name may fail and leave the second.
+    ghost unwritten: { Self → List ℕ → Self → Type 0 } = { λ _ _ _. Unit {0} };
+
+    /// From the first state the first name may fail to become the second, which leaves the second state.
+    ghost unrenamed: { Self → List ℕ → List ℕ → Self → Type 0 } = { λ _ _ _ _. Unit {0} };
 
     /// How many failures were counted.
     ghost failed: { Self → ℕ };
@@ -60,14 +66,19 @@ pub trait Shelf {
     fn write(&mut self, alloc: Global, name: &str, bytes: &[u8]) -> Result<(), Fault>
         ensures ok { (files : Files) → keeps self.old files → OnOk result (keeps self.new (with_file name.now bytes.now files)) }
         ensures others { (files : Files) → keeps self.old files → keeps self.new (without name.now files) }
+        ensures cause { IfErr result (λ e. e ≡ ShelfFault → unwritten self.old name.now self.new) }
         ensures counts { Counts result (failed self.old) (failed self.new) };
 
-    /// Gives a file another name, and replaces what had it. After Memory nothing was renamed.
+    /// Gives a file another name, and replaces what had it, in one step: after a refusal all is as before, or, after Shelf, the
+    /// file has its new name.
     fn rename(&mut self, alloc: Global, from: &str, to: &str) -> Result<(), Fault>
         ensures ok { (files : Files) (b : List ℕ) → keeps self.old files → files from.now ≡ Some b
             → OnOk result (keeps self.new (with_file to.now b (without from.now files))) }
         ensures others { (files : Files) → keeps self.old files → keeps self.new (without from.now (without to.now files)) }
+        ensures whole { (files : Files) (b : List ℕ) → keeps self.old files → files from.now ≡ Some b
+            → IfErr result (λ e. keeps self.new files ⊎ ((e ≡ ShelfFault) × keeps self.new (with_file to.now b (without from.now files)))) }
         ensures memory { (files : Files) → keeps self.old files → IfErr result (λ e. IsMemory e → keeps self.new files) }
+        ensures cause { IfErr result (λ e. e ≡ ShelfFault → unrenamed self.old from.now to.now self.new) }
         ensures counts { Counts result (failed self.old) (failed self.new) };
 
     /// How many failures were counted.

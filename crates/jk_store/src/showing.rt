@@ -4,8 +4,8 @@ ghost use Rattle.std.specs.Prelude.{◌≡◌, ◌++◌, List, map, is_some, OnO
 ghost use Rattle.std.specs.List.{flat_map};
 ghost use Rattle.std.specs.Arc.{arc_value};
 ghost use Rattle.jk_math.specs.Memory.{IsMemory};
-ghost use Rattle.jk_web.specs.Images.{Image, image_of, IsFileOf, IsCutOf, HasNoCut, MayRefuse};
-ghost use Rattle.jk_store.specs.Showing.{line_of, number_text, view_of, Stands, Broke};
+ghost use Rattle.jk_web.specs.Images.{Image, image_of, IsFileOf, IsCutOf, IsFileGiven, IsCutGiven, HasNoCut, MayRefuse};
+ghost use Rattle.jk_store.specs.Showing.{line_of, number_text, view_of, ShowImages, AreKept, Broke, Reads, Cuts};
 
 use crate::archive::{Archive, find};
 use crate::entry::Entry;
@@ -72,11 +72,12 @@ fn whole_of<S: Shelf>(
     shelf: &mut S,
     name: &[u8],
 ) -> Result<Vec<u8>, Fault>
-    ensures gives { (images : List Image) → Stands S.keeps (map arc_value entries.now) shelf.old images → MatchResult result
-        (λ v. IsFileOf (image_of name.now images) v.items)
-        (λ e. MayRefuse (image_of name.now images) (Broke S.failed S.gave (map arc_value entries.now) shelf.old shelf.new) ⊥ e) }
-    ensures stands { (images : List Image) → Stands S.keeps (map arc_value entries.now) shelf.old images
-        → Stands S.keeps (map arc_value entries.now) shelf.new images }
+    ensures gives { (images : List Image) → ShowImages (map arc_value entries.now) images → MatchResult result
+        (λ v. IsFileGiven (image_of name.now images) (Reads S.gave (map arc_value entries.now)) shelf.old name.now shelf.new v.items)
+        (λ e. MayRefuse (image_of name.now images) (Broke S.failed S.gave (map arc_value entries.now) shelf.old name.now shelf.new) ⊥ e) }
+    ensures same { (images : List Image) → ShowImages (map arc_value entries.now) images → AreKept S.keeps shelf.old images
+        → IfOk result (λ v. IsFileOf (image_of name.now images) v.items) }
+    ensures keeps { (images : List Image) → AreKept S.keeps shelf.old images → AreKept S.keeps shelf.new images }
 {
     match find(entries, name) {
         Some(entry) => entry.whole(alloc, shelf),
@@ -92,12 +93,13 @@ fn window_of<S: Shelf>(
     name: &[u8],
     asked: Asked,
 ) -> Result<Vec<u8>, Fault>
-    ensures gives { (images : List Image) → Stands S.keeps (map arc_value entries.now) shelf.old images → MatchResult result
-        (λ v. IsCutOf (image_of name.now images) asked v.items)
-        (λ e. MayRefuse (image_of name.now images) (Broke S.failed S.gave (map arc_value entries.now) shelf.old shelf.new)
+    ensures gives { (images : List Image) → ShowImages (map arc_value entries.now) images → MatchResult result
+        (λ v. IsCutGiven (image_of name.now images) asked (Reads S.gave (map arc_value entries.now)) (λ _. Cuts (map arc_value entries.now)) shelf.old name.now shelf.new v.items)
+        (λ e. MayRefuse (image_of name.now images) (Broke S.failed S.gave (map arc_value entries.now) shelf.old name.now shelf.new)
         (HasNoCut (image_of name.now images) asked) e) }
-    ensures stands { (images : List Image) → Stands S.keeps (map arc_value entries.now) shelf.old images
-        → Stands S.keeps (map arc_value entries.now) shelf.new images }
+    ensures same { (images : List Image) → ShowImages (map arc_value entries.now) images → AreKept S.keeps shelf.old images
+        → IfOk result (λ v. IsCutOf (image_of name.now images) asked v.items) }
+    ensures keeps { (images : List Image) → AreKept S.keeps shelf.old images → AreKept S.keeps shelf.new images }
 {
     match find(entries, name) {
         Some(entry) => entry.window(alloc, shelf, view(asked)),
@@ -109,11 +111,17 @@ fn window_of<S: Shelf>(
 impl<S: Shelf> Catalogue for Archive<S> {
     ghost use Rattle.std.specs.Prelude.{map};
     ghost use Rattle.std.specs.Arc.{arc_value};
-    ghost use Rattle.jk_store.specs.Showing.{Stands, Broke};
+    ghost use Rattle.jk_store.specs.Showing.{ShowImages, AreKept, Broke, Reads, Cuts};
 
-    ghost stands = { λ a images. Stands S.keeps (map arc_value a.entries.items) a.shelf images };
+    ghost stands = { λ a images. ShowImages (map arc_value a.entries.items) images };
 
-    ghost broke = { λ a b. Broke S.failed S.gave (map arc_value a.entries.items) a.shelf b.shelf };
+    ghost keeps = { λ a images. AreKept S.keeps a.shelf images };
+
+    ghost broke = { λ a n b. Broke S.failed S.gave (map arc_value a.entries.items) a.shelf n b.shelf };
+
+    ghost reads = { λ a n file b. Reads S.gave (map arc_value a.entries.items) a.shelf n file b.shelf };
+
+    ghost cuts = { λ a n asked file cut. Cuts (map arc_value a.entries.items) n asked file cut };
 
     fn lines(&self, alloc: Global) -> Result<Vec<u8>, Fault> {
         lines_of(alloc, &self.entries)

@@ -1,12 +1,10 @@
 -- What is said to a request for an image.
-use Rattle.std.proofs.Common.{◌≡◌, ℕ, Bool, true, false, cond, ◌||◌, List, [], ◌∷◌, codes, Option, Some, None, is_some, refl, sym, ap, ◌∙◌}
+use Rattle.std.proofs.Common.{◌≡◌, ℕ, Bool, true, false, cond, ◌||◌, List, [], ◌∷◌, codes, Option, Some, None, is_some, refl, sym, ap, subst, ◌∙◌}
 use Rattle.std.specs.Str.{bytes_eq}
 use Rattle.jk_web.specs.declared.request.Request.{Request}
-use Rattle.jk_web.specs.Places.{path_of, query_of, whole, window, nowhere, resource_at, is_among, among}
-use Rattle.jk_web.specs.Pairs.{are_none}
-use Rattle.jk_web.specs.Queries.{pairs_of, asked_by}
-use Rattle.jk_web.specs.Replies.{error}
-use Rattle.jk_web.specs.Images.{Image, names_of, image_of, whole_content, window_content, content_of, content}
+use Rattle.jk_web.specs.Places.{path_of, query_of, Resource, nowhere, resource_at, is_among}
+use Rattle.jk_web.specs.Replies.{Content, error}
+use Rattle.jk_web.specs.Images.{Image, names_of, image_of, content_of, content, asked_for}
 
 -- A name is among the names where there is an image of it.
 among_is : (name : List ℕ) (images : List Image) → is_among (names_of images) name ≡ is_some (image_of name images)
@@ -18,22 +16,6 @@ among_is name (i ∷ images) = at_first (bytes_eq name i.name) i (among_is name 
     at_first true j e = refl
     at_first false j e = e
 
-none_from : (o : Option Image) → is_some o ≡ false → o ≡ None
-none_from None e = refl
-none_from (Some i) e = absurd (cc)
-
-whole_among : (images : List Image) (query name : List ℕ) (b : Bool) → is_among (names_of images) name ≡ b
-    → content_of images query (cond b (whole name) nowhere) ≡ content_of images query (whole name)
-whole_among images query name true e = refl
-whole_among images query name false e =
-    sym (ap (λ (o : Option Image). whole_content o (are_none (pairs_of query))) (none_from (image_of name images) (sym (among_is name images) ∙ e)))
-
-window_among : (images : List Image) (query name : List ℕ) (b : Bool) → is_among (names_of images) name ≡ b
-    → content_of images query (cond b (window name) nowhere) ≡ content_of images query (window name)
-window_among images query name true e = refl
-window_among images query name false e =
-    sym (ap (λ (o : Option Image). window_content o (asked_by (pairs_of query))) (none_from (image_of name images) (sym (among_is name images) ∙ e)))
-
 -- what is said to a GET
 content_get : (q : Request) (images : List Image) → bytes_eq q.method (codes "GET") ≡ true
     → content q images ≡ content_of images (query_of q.target) (resource_at (path_of q.target) (names_of images))
@@ -41,20 +23,24 @@ unfolding content
 content_get q images e =
     ap (λ b. cond b (content_of images (query_of q.target) (resource_at (path_of q.target) (names_of images))) (error 405)) e
 
-pub content_whole : (q : Request) (images : List Image) (path query name : List ℕ) → bytes_eq q.method (codes "GET") ≡ true
-    → path ≡ path_of q.target → query ≡ query_of q.target → resource_at path (names_of images) ≡ among (names_of images) (whole name)
-    → content_of images query (whole name) ≡ content q images
-content_whole q images path query name get is_path is_query e =
-    sym (content_get q images get
-    ∙ (λ i. content_of images (sym is_query i) (resource_at (sym is_path i) (names_of images)))
-    ∙ ap (content_of images query) e
-    ∙ whole_among images query name (is_among (names_of images) name) refl)
+asked_get : (q : Request) (names : List (List ℕ)) → bytes_eq q.method (codes "GET") ≡ true → asked_for q names ≡ resource_at (path_of q.target) names
+asked_get q names e = ap (λ b. cond b (resource_at (path_of q.target) names) nowhere) e
 
-pub content_window : (q : Request) (images : List Image) (path query name : List ℕ) → bytes_eq q.method (codes "GET") ≡ true
-    → path ≡ path_of q.target → query ≡ query_of q.target → resource_at path (names_of images) ≡ among (names_of images) (window name)
-    → content_of images query (window name) ≡ content q images
-content_window q images path query name get is_path is_query e =
-    sym (content_get q images get
-    ∙ (λ i. content_of images (sym is_query i) (resource_at (sym is_path i) (names_of images)))
-    ∙ ap (content_of images query) e
-    ∙ window_among images query name (is_among (names_of images) name) refl)
+-- What holds of what a resource is said to a query holds of what is said to the request that asks for it.
+pub answered : (q : Request) (images : List Image) (path query : List ℕ) (resource : Resource) → bytes_eq q.method (codes "GET") ≡ true
+    → path ≡ path_of q.target → query ≡ query_of q.target → resource_at path (names_of images) ≡ resource
+    → (F : Content → Resource → List ℕ → Type 0) → F (content_of images query resource) resource query → F (content q images) (asked_for q (names_of images)) (query_of q.target)
+answered q images path query resource get is_path is_query is F given =
+    let found : resource ≡ asked_for q (names_of images) = sym (asked_get q (names_of images) get ∙ ap (λ p. resource_at p (names_of images)) (sym is_path) ∙ is) in
+    let asked : resource ≡ resource_at (path_of q.target) (names_of images) = found ∙ asked_get q (names_of images) get in
+    let said : content_of images query resource ≡ content q images =
+    ap (λ r. content_of images query r) asked ∙ ap (λ x. content_of images x (resource_at (path_of q.target) (names_of images))) is_query ∙ sym (content_get q images get) in
+    subst (λ c. F c (asked_for q (names_of images)) (query_of q.target)) said
+    (subst (λ r. F (content_of images query resource) r (query_of q.target)) found
+    (subst (λ x. F (content_of images query resource) resource x) is_query given))
+
+-- What holds of a resource that a name makes holds of what the name makes among the names, where there is an image of it.
+pub at_name : (images : List Image) (name : List ℕ) (make : List ℕ → Resource) → is_some (image_of name images) ≡ true
+    → (F : Resource → Type 0) → F (make name) → F (cond (is_among (names_of images) name) (make name) nowhere)
+at_name images name make has F given =
+    subst F (sym (ap (λ b. cond b (make name) nowhere) (among_is name images ∙ has))) given

@@ -8,3 +8,4 @@ pub mod KnownLaws
 pub mod ServingLaws
 pub mod ImageLaws
 pub mod RunLaws
+pub mod ReplyLaws

@@ -1,5 +1,6 @@
 -- The texts of a connection, where more is known of what answers.
-use Rattle.std.proofs.Common.{◌≡◌, ℕ, ◌⊎◌, inl, inr, List, Result, Ok, Err, IfErr, sym, subst}
+use Rattle.std.proofs.Common.{◌≡◌, ℕ, ◌≤◌, ◌<◌, ◌⊎◌, inl, inr, List, length, Option, Some, None, IfSome, Result, Ok, Err, IfErr, sym, ap, subst, arith, length-append}
+use Rattle.std.specs.Io.KnownBytes.{Consumes}
 use Rattle.jk_math.specs.declared.fault.Fault.{Fault}
 use Rattle.jk_math.specs.Memory.{IsMemory}
 use Rattle.jk_web.specs.declared.reply.Reply.{Reply}
@@ -116,3 +117,13 @@ module _ {S : Type 0} (gives : S → Request → Reply → S → Type 0) (refuse
       → IfErr r (λ e. IsMemory e)
   ends_memory s stream text over spent t (Ok e) only k = tt
   ends_memory s stream text over spent t (Err e) only k = cause_memory k.state k.rest e t only k.cause
+
+  -- More turns than bytes are enough.
+  pub ends_enough : (s : S) (stream text : List ℕ) (over : Type 0) (t : S) (r : Result End Fault) (turns : ℕ) (known left : Option (List ℕ))
+      → Consumes known left stream → Ends gives refuses s stream text over (turns ≤ length stream) t r
+      → IfSome known (λ all. length all < turns → r ≡ Ok TurnsSpent → ⊥)
+  ends_enough s stream text over t r turns None left consumed k = tt
+  ends_enough s stream text over t r turns (Some all) None consumed k = absurd consumed
+  ends_enough s stream text over t r turns (Some all) (Some rest) consumed k = λ few is.
+      let spent = (subst (λ x. Ends gives refuses s stream text over (turns ≤ length stream) t x) is k).1 in
+      absurd (omega (arith, spent, few, ap length consumed, length-append stream rest))

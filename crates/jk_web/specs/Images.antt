@@ -87,7 +87,7 @@ abbrev pub HasNoCut : Option Image → Asked → Type 0
 HasNoCut None asked = ⊥
 HasNoCut (Some image) asked = image.cut asked ≡ None
 
--- Why such a call may refuse; broke: a file couldn't be read, or had changed.
+-- Why such a call may refuse; broke: a file couldn't be read, or another was read in its place.
 abbrev pub MayRefuse : Option Image → Type 0 → Type 0 → Fault → Type 0
 MayRefuse image broke uncut (Memory r) = Unit {0}
 MayRefuse image broke uncut NoSuchImage = image ≡ None
@@ -96,19 +96,79 @@ MayRefuse image broke uncut Shelf = broke
 MayRefuse image broke uncut Changed = broke
 MayRefuse image broke uncut e = ⊥
 
+-- A file that was read in the place of the image's, and isn't the image's.
+abbrev pub IsOtherFile : Option Image → (reads : List ℕ → Type 0) → List ℕ → Type 0
+IsOtherFile None reads file = ⊥
+IsOtherFile (Some image) reads file = reads file × (file ≡ image.file → ⊥)
+
+-- The window of such a file.
+abbrev pub IsOtherCut : Option Image → (reads : List ℕ → Type 0) → (cuts : List ℕ → List ℕ → Type 0) → List ℕ → Type 0
+IsOtherCut image reads cuts cut = (file : List ℕ) × IsOtherFile image reads file × cuts file cut
+
+-- What a call gives, where nothing is known of files: what is due of the image's, or the same of another that was read in its place.
+abbrev pub IsFileGiven : {S : Type 0} → Option Image → (reads : S → List ℕ → List ℕ → S → Type 0) → S → List ℕ → S → List ℕ → Type 0
+IsFileGiven image reads s name t file = IsFileOf image file ⊎ IsOtherFile image (λ f. reads s name f t) file
+
+abbrev pub IsCutGiven : {S : Type 0} → Option Image → Asked → (reads : S → List ℕ → List ℕ → S → Type 0) → (cuts : S → List ℕ → Asked → List ℕ → List ℕ → Type 0)
+    → S → List ℕ → S → List ℕ → Type 0
+IsCutGiven image asked reads cuts s name t cut = IsCutOf image asked cut ⊎ IsOtherCut image (λ f. reads s name f t) (cuts s name asked) cut
+
 -- the status that says so
 abbrev pub status_of : Fault → ℕ
 status_of NoSuchImage = 404
 status_of BadWindow = 400
 status_of e = 500
 
--- A reply is that of the images, or a file couldn't be read, or had changed, and it says so.
-abbrev pub IsReply : Content → Type 0 → Bool → Reply → Type 0
-IsReply content broke close r = (r ≡ printed content close) ⊎ (broke × (r ≡ failed close))
+-- what a request asks for, where images have these names; nothing, where its method isn't allowed
+abbrev pub asked_for : Request → List (List ℕ) → Resource
+asked_for q names = if bytes_eq q.method (codes "GET") then resource_at (path_of q.target) names else nowhere
 
--- What is written for a request to images, where broke says that a file couldn't be read, or had changed.
-abbrev pub gives_reply : {S : Type 0} → (S → S → Type 0) → List Image → S → Request → Reply → S → Type 0
-gives_reply broke images s q r t = IsReply (content q images) (broke s t) q.closes r
+-- The file of the image that a resource names couldn't be read, or another was read in its place.
+abbrev pub IsBroken : (broke : List ℕ → Type 0) → Resource → Type 0
+IsBroken broke listing = ⊥
+IsBroken broke (whole name) = broke name
+IsBroken broke (window name) = broke name
+IsBroken broke nowhere = ⊥
+
+-- A file that is sent to a query for a resource, and isn't the image's: another that was read in its place, or a window of it.
+abbrev pub IsOtherSent : List Image → (reads : List ℕ → List ℕ → Type 0) → (cuts : List ℕ → Asked → List ℕ → List ℕ → Type 0) → List ℕ → Resource → List ℕ → Type 0
+IsOtherSent images reads cuts query listing file = ⊥
+IsOtherSent images reads cuts query (whole name) file = (are_none (pairs_of query) ≡ true) × IsOtherFile (image_of name images) (reads name) file
+IsOtherSent images reads cuts query (window name) file =
+    (asked : Asked) × (asked_by (pairs_of query) ≡ Some asked) × IsOtherCut (image_of name images) (reads name) (cuts name asked) file
+IsOtherSent images reads cuts query nowhere file = ⊥
+
+-- A reply says what is due; or that a file couldn't be read, or that another was read in its place; or it has such another file.
+abbrev pub IsReplyOf : (due : Content) → (broken : Type 0) → (other : List ℕ → Type 0) → Bool → Reply → Type 0
+IsReplyOf due broken other close r =
+    (r ≡ printed due close) ⊎ (broken × (r ≡ failed close)) ⊎ ((file : List ℕ) × other file × (r ≡ printed (sent file) close))
+
+module _ {S : Type 0} (broke : S → List ℕ → S → Type 0) (reads : S → List ℕ → List ℕ → S → Type 0) (cuts : S → List ℕ → Asked → List ℕ → List ℕ → Type 0) where
+  -- The reply of a resource to a query, from one state to another.
+  abbrev pub IsReplyAt : List Image → S → S → List ℕ → Bool → Resource → Reply → Type 0
+  IsReplyAt images s t query close resource r =
+      IsReplyOf (content_of images query resource) (IsBroken (λ n. broke s n t) resource) (IsOtherSent images (λ n file. reads s n file t) (cuts s) query resource) close r
+
+  -- The reply to a request for images.
+  abbrev pub IsReply : List Image → Request → S → S → Reply → Type 0
+  IsReply images q s t r =
+      let resource = asked_for q (names_of images) in
+      IsReplyOf (content q images) (IsBroken (λ n. broke s n t) resource) (IsOtherSent images (λ n file. reads s n file t) (cuts s) (query_of q.target) resource) q.closes r
+
+  -- What is written for a request.
+  abbrev pub gives_reply : List Image → S → Request → Reply → S → Type 0
+  gives_reply images s q r t = IsReply images q s t r
+
+-- The same where the images' files are kept: no other is read in their place.
+module _ {S : Type 0} (broke : S → List ℕ → S → Type 0) where
+  abbrev pub IsKeptReplyAt : List Image → S → S → List ℕ → Bool → Resource → Reply → Type 0
+  IsKeptReplyAt images s t query close resource r = IsReplyOf (content_of images query resource) (IsBroken (λ n. broke s n t) resource) (λ _. ⊥) close r
+
+  abbrev pub IsKeptReply : List Image → Request → S → S → Reply → Type 0
+  IsKeptReply images q s t r = IsReplyOf (content q images) (IsBroken (λ n. broke s n t) (asked_for q (names_of images))) (λ _. ⊥) q.closes r
+
+  abbrev pub gives_kept : List Image → S → Request → Reply → S → Type 0
+  gives_kept images s q r t = IsKeptReply images q s t r
 
 -- Only memory is refused.
 abbrev pub refuses_memory : {S : Type 0} → S → Request → Fault → S → Type 0

@@ -12,3 +12,4 @@ pub mod Prefixes
 pub mod Serving
 pub mod Pairs
 pub mod Images
+pub mod Running

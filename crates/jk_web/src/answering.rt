@@ -2,9 +2,9 @@
 
 ghost use Rattle.std.specs.Prelude.{◌≡◌, List, All, IfOk, IfErr, IsErr};
 ghost use Rattle.jk_math.specs.Memory.{IsMemory};
-ghost use Rattle.jk_web.specs.Places.{IsSegment, whole, window, listing};
+ghost use Rattle.jk_web.specs.Places.{IsSegment, among, whole, window, listing};
 ghost use Rattle.jk_web.specs.Replies.{printed, error};
-ghost use Rattle.jk_web.specs.Images.{Image, names_of, content_of, content, status_of, IsReply};
+ghost use Rattle.jk_web.specs.Images.{Image, names_of, content_of, status_of, IsReplyAt, IsKeptReplyAt, IsReply, IsKeptReply};
 
 use crate::catalogue::Catalogue;
 use crate::place::{Place, place_of, split_target};
@@ -56,8 +56,11 @@ fn answer_whole<C: Catalogue>(
     catalogue: &mut C,
 ) -> Result<Reply, Fault>
     ensures exact { (images : List Image) → C.stands catalogue.old images
-        → IfOk result (IsReply (content_of images query.now (whole name.now)) (C.broke catalogue.old catalogue.new) close) }
+        → IfOk result (IsReplyAt C.broke C.reads C.cuts images catalogue.old catalogue.new query.now close (among (names_of images) (whole name.now))) }
+    ensures same { (images : List Image) → C.stands catalogue.old images → C.keeps catalogue.old images
+        → IfOk result (IsKeptReplyAt C.broke images catalogue.old catalogue.new query.now close (among (names_of images) (whole name.now))) }
     ensures stands { (images : List Image) → C.stands catalogue.old images → C.stands catalogue.new images }
+    ensures keeps { (images : List Image) → C.keeps catalogue.old images → C.keeps catalogue.new images }
     ensures memory { IfErr result (λ e. IsMemory e) }
 {
     if !catalogue.has(name) {
@@ -81,8 +84,11 @@ fn answer_window<C: Catalogue>(
     catalogue: &mut C,
 ) -> Result<Reply, Fault>
     ensures exact { (images : List Image) → C.stands catalogue.old images
-        → IfOk result (IsReply (content_of images query.now (window name.now)) (C.broke catalogue.old catalogue.new) close) }
+        → IfOk result (IsReplyAt C.broke C.reads C.cuts images catalogue.old catalogue.new query.now close (among (names_of images) (window name.now))) }
+    ensures same { (images : List Image) → C.stands catalogue.old images → C.keeps catalogue.old images
+        → IfOk result (IsKeptReplyAt C.broke images catalogue.old catalogue.new query.now close (among (names_of images) (window name.now))) }
     ensures stands { (images : List Image) → C.stands catalogue.old images → C.stands catalogue.new images }
+    ensures keeps { (images : List Image) → C.keeps catalogue.old images → C.keeps catalogue.new images }
     ensures memory { IfErr result (λ e. IsMemory e) }
 {
     if !catalogue.has(name) {
@@ -104,9 +110,14 @@ pub fn answer<C: Catalogue>(
     request: &Request,
     catalogue: &mut C,
 ) -> Result<Reply, Fault>
+    // Whatever the files of the images hold by now.
     ensures exact { (images : List Image) → C.stands catalogue.old images → All IsSegment (names_of images)
-        → IfOk result (IsReply (content request.now images) (C.broke catalogue.old catalogue.new) request.now.closes) }
+        → IfOk result (IsReply C.broke C.reads C.cuts images request.now catalogue.old catalogue.new) }
+    // Where they are kept, no other file is sent.
+    ensures same { (images : List Image) → C.stands catalogue.old images → C.keeps catalogue.old images → All IsSegment (names_of images)
+        → IfOk result (IsKeptReply C.broke images request.now catalogue.old catalogue.new) }
     ensures stands { (images : List Image) → C.stands catalogue.old images → C.stands catalogue.new images }
+    ensures keeps { (images : List Image) → C.keeps catalogue.old images → C.keeps catalogue.new images }
     ensures memory { IfErr result (λ e. IsMemory e) }
 {
     let close = request.closes;

@@ -1,17 +1,40 @@
 //! Readers that may be read so many times.
 
-ghost use Rattle.std.specs.Prelude.{◌≡◌, ◌+◌, ◌<◌};
+ghost use Rattle.std.specs.Prelude.{◌≡◌, ◌+◌, ◌<◌, Ok, IsErr};
 ghost use Rattle.std.specs.Io.{ReadsAtMost};
 ghost use Rattle.std.specs.Io.KnownBytes.{ReadConsumes};
 
 use std::io;
 use std::io::Read;
 
+/// What became of the last read.
+#[derive(Clone, Copy, Debug, PartialEq, Eq)]
+pub(crate) enum Last {
+    /// It gave bytes, or none was made so far.
+    Gave,
+    /// The input has ended.
+    Ended,
+    /// It failed.
+    Failed,
+}
+
 /// A reader that may be read so many times more.
 #[derive(Drop)]
 pub(crate) struct Budget<'a, I> {
     reader: &'a mut I,
     left: u64,
+    last: Last,
+}
+
+/// What became of a read.
+fn last_of(read: &io::Result<usize>) -> Last
+    ensures { IsErr read.now → result ≡ Last.Failed }
+{
+    match read {
+        Ok(0) => Last::Ended,
+        Ok(_) => Last::Gave,
+        Err(_) => Last::Failed,
+    }
 }
 
 impl<'a, I: Read> Budget<'a, I> {
@@ -21,7 +44,11 @@ impl<'a, I: Read> Budget<'a, I> {
         ensures unread { result.reader.now ≡ reader.old }
         ensures left { result.left ≡ left }
     {
-        Budget { reader, left }
+        Budget {
+            reader,
+            left,
+            last: Last::Gave,
+        }
     }
 
     /// Reads once.
@@ -29,10 +56,13 @@ impl<'a, I: Read> Budget<'a, I> {
         requires { 0 < self.old.left }
         ensures same_reference { self.new.reader.ghost_name ≡ self.old.reader.ghost_name }
         ensures left { self.new.left + 1 ≡ self.old.left }
+        ensures failed { IsErr result → self.new.last ≡ Last.Failed }
         ensures bound { ReadsAtMost result piece.new }
         ensures bytes { ReadConsumes (I.remaining self.old.reader.now) (I.remaining self.new.reader.now) result piece.new }
     {
         self.left -= 1;
-        self.reader.read(piece)
+        let read = self.reader.read(piece);
+        self.last = last_of(&read);
+        read
     }
 }

@@ -1,9 +1,9 @@
 //! Images that are listed.
 
-ghost use Rattle.std.specs.Prelude.{◌≡◌, List, is_some, MatchResult, IfOk, IfErr};
+ghost use Rattle.std.specs.Prelude.{◌≡◌, ◌⊎◌, List, ℕ, is_some, MatchResult, IfOk, IfErr};
 ghost use Rattle.std.specs.List.{flat_map};
 ghost use Rattle.jk_math.specs.Memory.{IsMemory};
-ghost use Rattle.jk_web.specs.Images.{Image, image_of, IsFileOf, IsCutOf, HasNoCut, MayRefuse};
+ghost use Rattle.jk_web.specs.Images.{Image, image_of, IsFileOf, IsCutOf, IsFileGiven, IsCutGiven, HasNoCut, MayRefuse};
 
 use crate::query::Asked;
 use jk_math::Fault;
@@ -11,11 +11,22 @@ use std::alloc::Global;
 
 /// Images that are listed, and whose files can be read.
 pub trait Catalogue {
+    ghost use Rattle.jk_web.specs.declared.query.Asked.{Asked};
+
     // It stands for these images, in order.
     ghost stands: { Self → List Image → Type 0 };
 
-    // Between the two a file couldn't be read, or had changed.
-    ghost broke: { Self → Self → Type 0 };
+    // It will give the files of these images.
+    ghost keeps: { Self → List Image → Type 0 };
+
+    // Between the two the file of the image of this name couldn't be read, or another was read in its place.
+    ghost broke: { Self → List ℕ → Self → Type 0 };
+
+    // Between the two this file was read for the image of this name, and taken for the image's.
+    ghost reads: { Self → List ℕ → List ℕ → Self → Type 0 };
+
+    // Of the image of this name such a window of the first file is cut to the second.
+    ghost cuts: { Self → List ℕ → Asked → List ℕ → List ℕ → Type 0 };
 
     /// The lines of all images, in order.
     fn lines(&self, alloc: Global) -> Result<Vec<u8>, Fault>
@@ -29,14 +40,22 @@ pub trait Catalogue {
     /// The file of an image.
     fn whole(&mut self, alloc: Global, name: &[u8]) -> Result<Vec<u8>, Fault>
         ensures gives { (images : List Image) → stands self.old images → MatchResult result
-            (λ v. IsFileOf (image_of name.now images) v.items)
-            (λ e. MayRefuse (image_of name.now images) (broke self.old self.new) ⊥ e) }
-        ensures stands { (images : List Image) → stands self.old images → stands self.new images };
+            (λ v. IsFileGiven (image_of name.now images) reads self.old name.now self.new v.items)
+            (λ e. MayRefuse (image_of name.now images) (broke self.old name.now self.new) ⊥ e) }
+        // A file that is kept is what is given.
+        ensures same { (images : List Image) → stands self.old images → keeps self.old images
+            → IfOk result (λ v. IsFileOf (image_of name.now images) v.items) }
+        ensures stands { (images : List Image) → stands self.old images → stands self.new images }
+        ensures keeps { (images : List Image) → keeps self.old images → keeps self.new images };
 
     /// The file of a window of an image.
     fn window(&mut self, alloc: Global, name: &[u8], asked: Asked) -> Result<Vec<u8>, Fault>
         ensures gives { (images : List Image) → stands self.old images → MatchResult result
-            (λ v. IsCutOf (image_of name.now images) asked v.items)
-            (λ e. MayRefuse (image_of name.now images) (broke self.old self.new) (HasNoCut (image_of name.now images) asked) e) }
-        ensures stands { (images : List Image) → stands self.old images → stands self.new images };
+            (λ v. IsCutGiven (image_of name.now images) asked reads cuts self.old name.now self.new v.items)
+            (λ e. MayRefuse (image_of name.now images) (broke self.old name.now self.new) (HasNoCut (image_of name.now images) asked) e) }
+        // Of a file that is kept it is the window.
+        ensures same { (images : List Image) → stands self.old images → keeps self.old images
+            → IfOk result (λ v. IsCutOf (image_of name.now images) asked v.items) }
+        ensures stands { (images : List Image) → stands self.old images → stands self.new images }
+        ensures keeps { (images : List Image) → keeps self.old images → keeps self.new images };
 }

@@ -1,10 +1,10 @@
 //! Connections to a catalogue of images.
 
-ghost use Rattle.std.specs.Prelude.{◌≤◌, List, ℕ, All, length, IfErr};
+ghost use Rattle.std.specs.Prelude.{◌≡◌, ◌<◌, ◌≤◌, List, ℕ, All, length, Ok, IfErr, IfSome};
 ghost use Rattle.std.specs.Io.KnownBytes.{Appends, Consumes, IsAtEnd};
 ghost use Rattle.jk_math.specs.Memory.{IsMemory};
 ghost use Rattle.jk_web.specs.Places.{IsSegment};
-ghost use Rattle.jk_web.specs.Images.{Image, names_of, gives_reply, refuses_memory};
+ghost use Rattle.jk_web.specs.Images.{Image, names_of, gives_reply, gives_kept, refuses_memory};
 ghost use Rattle.jk_web.specs.Serving.{Ends};
 
 use crate::answering::answer;
@@ -21,12 +21,12 @@ impl<C: Catalogue> Service for C {
     ghost use Rattle.std.specs.Prelude.{List, All};
     ghost use Rattle.jk_math.specs.Memory.{IsMemory};
     ghost use Rattle.jk_web.specs.Places.{IsSegment};
-    ghost use Rattle.jk_web.specs.Images.{Image, names_of, content, IsReply};
+    ghost use Rattle.jk_web.specs.Images.{Image, names_of};
+    ghost use Rattle.jk_web.specs.Running.{Gives, Refuses};
 
-    ghost gives = { λ s q r t. (images : List Image) → C.stands s images → All IsSegment (names_of images)
-        → IsReply (content q images) (C.broke s t) q.closes r × C.stands t images };
+    ghost gives = { Gives C.stands C.keeps C.broke C.reads C.cuts };
 
-    ghost refuses = { λ s q e t. IsMemory e × ((images : List Image) → C.stands s images → C.stands t images) };
+    ghost refuses = { Refuses C.stands C.keeps };
 
     fn answer(&mut self, alloc: Global, request: &Request) -> Result<Reply, Fault> {
         answer(alloc, request, self)
@@ -36,7 +36,8 @@ impl<C: Catalogue> Service for C {
 /// Answers the requests of a connection from a catalogue of images, in at most so many reads.
 ///
 /// What is written is the replies to the requests in order, whatever pieces they come in, up to the first that closes or to
-/// the first bad one. Where memory is refused, whole replies are written alone.
+/// the first bad one. Where memory is refused, whole replies are written alone. TurnsSpent: so many reads were made, and each
+/// gave a byte.
 pub fn run<I: Read, O: Write, C: Catalogue>(
     alloc: Global,
     reader: &mut I,
@@ -44,12 +45,22 @@ pub fn run<I: Read, O: Write, C: Catalogue>(
     catalogue: &mut C,
     turns: u64,
 ) -> Result<End, Fault>
+    // Whatever the files of the images hold by now.
     ensures text { (images : List Image) → C.stands catalogue.old images → All IsSegment (names_of images)
         → (stream : List ℕ) × (text : List ℕ)
         × Consumes (I.remaining reader.old) (I.remaining reader.new) stream
         × Appends (O.contents writer.old) (O.contents writer.new) text
-        × Ends (gives_reply C.broke images) refuses_memory catalogue.old stream text (IsAtEnd (I.remaining reader.new)) (turns ≤ length stream) catalogue.new result }
-    ensures stands { (images : List Image) → C.stands catalogue.old images → All IsSegment (names_of images) → C.stands catalogue.new images }
+        × Ends (gives_reply C.broke C.reads C.cuts images) refuses_memory catalogue.old stream text (IsAtEnd (I.remaining reader.new)) (turns ≤ length stream) catalogue.new result }
+    // Where they are kept, no other file is sent.
+    ensures same { (images : List Image) → C.stands catalogue.old images → C.keeps catalogue.old images → All IsSegment (names_of images)
+        → (stream : List ℕ) × (text : List ℕ)
+        × Consumes (I.remaining reader.old) (I.remaining reader.new) stream
+        × Appends (O.contents writer.old) (O.contents writer.new) text
+        × Ends (gives_kept C.broke images) refuses_memory catalogue.old stream text (IsAtEnd (I.remaining reader.new)) (turns ≤ length stream) catalogue.new result }
+    ensures stands { (images : List Image) → C.stands catalogue.old images → C.stands catalogue.new images }
+    ensures keeps { (images : List Image) → C.keeps catalogue.old images → C.keeps catalogue.new images }
+    // A read takes a byte at least: more turns than bytes are enough.
+    ensures enough { IfSome (I.remaining reader.old) (λ all. length all < turns → result ≡ Ok End.TurnsSpent → ⊥) }
     ensures memory { IfErr result (λ e. IsMemory e) }
 {
     serve(alloc, reader, writer, catalogue, turns)

@@ -1,11 +1,11 @@
 //! Connections whose requests are answered one after another.
 
-ghost use Rattle.std.specs.Prelude.{◌≡◌, ◌≤◌, List, ℕ, None, MatchBool, length};
+ghost use Rattle.std.specs.Prelude.{◌≡◌, ◌≤◌, List, ℕ, None, Ok, MatchBool, length};
 ghost use Rattle.std.specs.Io.KnownBytes.{Appends, Consumes, IsAtEnd};
 ghost use Rattle.jk_web.specs.Prefixes.{IsPrefix};
 ghost use Rattle.jk_web.specs.Serving.{Tells, Ends};
 
-use crate::budget::Budget;
+use crate::budget::{Budget, Last};
 use crate::reply::bad;
 use crate::service::Service;
 use crate::session::{Next, Session};
@@ -85,7 +85,8 @@ fn answer_all<O: Write, S: Service>(
     }
 }
 
-/// Answers the requests of a connection one after another, in at most so many reads.
+/// Answers the requests of a connection one after another, in at most so many reads. TurnsSpent: none is left. ReadFailed: the last
+/// one failed.
 fn serve_turns<'a, I: Read, O: Write, S: Service>(
     alloc: Global,
     budget: &mut Budget<'a, I>,
@@ -95,6 +96,8 @@ fn serve_turns<'a, I: Read, O: Write, S: Service>(
 ) -> Result<End, Fault>
     requires { budget.old.left ≡ turns }
     ensures same_reference { budget.new.reader.ghost_name ≡ budget.old.reader.ghost_name }
+    ensures spent { result ≡ Ok End.TurnsSpent → budget.new.left ≡ 0 }
+    ensures failed { result ≡ Ok End.ReadFailed → budget.new.last ≡ Last.Failed }
     ensures text { (stream : List ℕ) × (text : List ℕ)
         × Consumes (I.remaining budget.old.reader.now) (I.remaining budget.new.reader.now) stream
         × Appends (O.contents writer.old) (O.contents writer.new) text

@@ -1,7 +1,8 @@
 //! Images added to an archive.
 
 use crate::calls::{
-    add, add_with, joined, listed, open, pixel, plain, shelf_of, skipped, with_levels,
+    add, add_with, is_page, joined, listed, open, pixel, plain, read, shelf_of, skipped,
+    with_levels,
 };
 use crate::contents::Content;
 use crate::shelves::{Act, act_at};
@@ -60,6 +61,36 @@ fn refused_names(rt: HostRuntime) -> Result<(), Fail> {
         let answer = refused(rt.alloc(), name)?;
         assert_eq!(rt; answer, (Some(fault), 1), "{name}");
     }
+    Ok(())
+}
+
+/// Why an image isn't added a second time to an archive, the same one or another, and what is listed then.
+fn added_twice(alloc: Global, sample: i32) -> Result<(Option<Fault>, String), Fail> {
+    let mut archive = open(alloc, shelf_of(alloc, &[("b.jp2", Content::Page)])?)?;
+    add(&mut archive, alloc, "a", &pixel(alloc, 128)?)?;
+    let answer = add(&mut archive, alloc, "a", &pixel(alloc, sample)?);
+    Ok((answer.err(), listed(&archive, alloc)?))
+}
+
+/// Why an image isn't added under the name of one whose file lay on the shelf before, and what is listed then; and whether
+/// that file is as it was.
+fn added_over(alloc: Global) -> Result<(Option<Fault>, String, Result<bool, Fault>), Fail> {
+    let mut archive = open(alloc, shelf_of(alloc, &[("a.jp2", Content::Page)])?)?;
+    let answer = add(&mut archive, alloc, "a", &pixel(alloc, 129)?);
+    let names = listed(&archive, alloc)?;
+    let same = is_page(alloc, read(&mut archive.into_shelf(), alloc, "a.jp2"))?;
+    Ok((answer.err(), names, same))
+}
+
+#[test]
+fn taken_names(rt: HostRuntime) -> Result<(), Fail> {
+    for sample in [128, 129] {
+        let (fault, names) = added_twice(rt.alloc(), sample)?;
+        assert_eq!(rt; (fault, names.as_str()), (Some(Fault::NameTaken), "b a "));
+    }
+    let (fault, names, same) = added_over(rt.alloc())?;
+    assert_eq!(rt; (fault, names.as_str()), (Some(Fault::NameTaken), "a "));
+    assert_eq!(rt; same, Ok(true));
     Ok(())
 }
 

@@ -42,16 +42,34 @@ fn add_two(rt: HostRuntime, path: &str) -> Result<String, Fail> {
     listed(&archive, alloc)
 }
 
-/// Puts other files and a directory beside the images, and says what is listed and what is skipped then.
+/// The names of what isn't a file that can be opened, and those of files that were left while they were written.
+fn told(folder: &Folder<HostRuntime>, alloc: Global) -> Result<String, Fail> {
+    let mut text = String::new(alloc);
+    for other in folder.others() {
+        text.push_str(other.name.as_str())?;
+        text.push(';')?;
+    }
+    for name in folder.left() {
+        text.push_str(name.as_str())?;
+        text.push(';')?;
+    }
+    Ok(text)
+}
+
+/// Puts other files and a directory beside the images, and says what is listed, what is skipped and
+/// what is told then.
 fn put_others(rt: HostRuntime, path: &str) -> Result<String, Fail> {
     let alloc = rt.alloc();
     put(&rt, path, "c.jp2", Content::Bare)?;
     put(&rt, path, "x.txt", Content::Page)?;
+    put(&rt, path, "y.tmp", Content::Page)?;
+    put(&rt, path, "B.jp2", Content::Page)?;
     fs::create_dir(&rt, format!(in alloc; "{path}/d.jp2")?.as_str())?;
     let archive = archive_in(rt, path)?;
     let names = listed(&archive, alloc)?;
     let others = skipped(&archive, alloc)?;
-    joined(alloc, &[names.as_str(), others.as_str()])
+    let told = told(archive.shelf(), alloc)?;
+    joined(alloc, &[names.as_str(), others.as_str(), told.as_str()])
 }
 
 /// Whether the JP2 file of one sample is given: as a file, as a window, after the file was changed, and after all files were
@@ -81,7 +99,7 @@ fn an_archive_of_files(rt: HostRuntime) -> Result<(), Fail> {
     let second = put_others(rt, path.as_str())?;
     let third = read_four(rt, path.as_str())?;
     assert_eq!(rt; first.as_str(), "b a ");
-    assert_eq!(rt; second.as_str(), "a b |c F13 BadBox;|");
+    assert_eq!(rt; second.as_str(), "a b |c F13 BadBox;|d.jp2;y.tmp;|");
     let faults = [Ok(true), Ok(true), Err(Fault::Changed), Err(Fault::Shelf)];
     assert_eq!(rt; third, (faults, 1));
     Ok(())
@@ -92,12 +110,20 @@ fn write_and_rename(
     folder: &mut Folder<HostRuntime>,
     alloc: Global,
 ) -> Result<(bool, usize), Fault> {
-    folder.write(alloc, "a", b"longer than the next")?;
-    folder.write(alloc, "a", b"next")?;
-    folder.write(alloc, "b", b"")?;
-    folder.rename(alloc, "a", "b")?;
-    let same = folder.read(alloc, "b")?.as_slice() == b"next".as_slice();
+    folder.write(alloc, "a.jp2", b"longer than the next")?;
+    folder.write(alloc, "a.jp2", b"next")?;
+    folder.write(alloc, "b.jp2", b"")?;
+    folder.rename(alloc, "a.jp2", "b.jp2")?;
+    let same = folder.read(alloc, "b.jp2")?.as_slice() == b"next".as_slice();
     Ok((same, folder.list(alloc)?.len()))
+}
+
+/// The name at which the last call failed.
+fn trouble(folder: &Folder<HostRuntime>) -> &str {
+    match folder.trouble() {
+        Some(trouble) => trouble.name.as_str(),
+        None => "none",
+    }
 }
 
 /// The faults of calls that can't be made, the last after the directory was removed; and how many failed.
@@ -107,8 +133,8 @@ fn fail_four(
     path: &str,
 ) -> Result<([Option<Fault>; 4], u64), Fail> {
     let alloc = rt.alloc();
-    let read = folder.read(alloc, "a").err();
-    let renamed = folder.rename(alloc, "a", "b").err();
+    let read = folder.read(alloc, "a.jp2").err();
+    let renamed = folder.rename(alloc, "a.jp2", "b.jp2").err();
     let written = folder.write(alloc, "../b", b"").err();
     fs::remove_dir_all(&rt, path)?;
     let listed = folder.list(alloc).err();
@@ -120,16 +146,20 @@ fn files_of_a_directory(rt: HostRuntime) -> Result<(), Fail> {
     let path = directory(&rt, "files")?;
     let mut folder = Folder::new(rt, rt.alloc(), path.as_str())?;
     let first = write_and_rename(&mut folder, rt.alloc())?;
+    assert_eq!(rt; trouble(&folder), "none");
+    assert_eq!(rt; folder.read(rt.alloc(), "c.jp2").err(), Some(Fault::Shelf));
+    assert_eq!(rt; trouble(&folder), "c.jp2");
     let second = fail_four(rt, &mut folder, path.as_str())?;
     let failed = Some(Fault::Shelf);
     assert_eq!(rt; first, (true, 1));
-    assert_eq!(rt; second, ([failed, failed, failed, failed], 4));
+    assert_eq!(rt; trouble(&folder), "");
+    assert_eq!(rt; second, ([failed, failed, failed, failed], 5));
     Ok(())
 }
 
 #[test]
 fn no_directory(rt: HostRuntime) -> Result<(), Fail> {
-    for path in ["", "/nowhere/at/all", "/etc/hostname"] {
+    for path in ["/nowhere/at/all", "/etc/hostname"] {
         assert_eq!(rt; archive_in(rt, path).err(), Some(Fault::Shelf), "{path}");
     }
     Ok(())

@@ -20,6 +20,8 @@ mod opening;
 #[cfg(test)]
 mod reading;
 #[cfg(test)]
+mod serving;
+#[cfg(test)]
 mod shelves;
 #[cfg(test)]
 mod texts;

@@ -18,7 +18,13 @@ impl Catalogue for Gallery {
 
     ghost stands = { λ _ images. IsGallery images };
 
-    ghost broke = { λ s _. s.broken ≡ true };
+    ghost keeps = { λ _ images. IsGallery images };
+
+    ghost broke = { λ s _ _. s.broken ≡ true };
+
+    ghost reads = { λ _ _ _ _. ⊥ };
+
+    ghost cuts = { λ _ _ _ _ _. ⊥ };
 
     fn lines(&self, alloc: Global) -> Result<Vec<u8>, Fault> {
         Ok(Vec::from_slice(alloc, b"a 1 1 1 8 0\n")?)

@@ -20,7 +20,7 @@ loop-name-preserved g c =
     ∙ (ap (λ m. front.0 ++ m ∷ rest) (sym c.as_str.ensures.value) ∙ sym (append_assoc front.0 (n ∷ []) rest))) in
     let more = opened_more (Gives g.S.Shelf.keeps g.S.Shelf.gave) n given.0 c.loop-name.shelf c.enter.new.shelf given.1 front.0 c.args.shelf.now
     (map arc_value c.loop-name.entries.items) (map arc_value c.enter.new.entries.items) c.loop-name.skipped.items c.enter.new.skipped.items front.2 given.2 in
-    (tt, tt, (front.0 ++ n ∷ [], split, more), c.in_ok-enter.ensures.few before.3, c.in_ok-enter.ensures.counts ∙ before.4)
+    (tt, tt, (front.0 ++ n ∷ [], split, more), c.in_ok-enter.ensures.few before.3, c.in_ok-enter.ensures.counts ∙ before.4, λ files kept. c.in_ok-enter.ensures.kept files (before.5 files kept))
 
 pub returns-in_err-enter-clause-ordered : goal.returns-in_err-enter-clause-ordered
 returns-in_err-enter-clause-ordered g c = sorted_bytes (keys c.args.names.now) c.iter-name-items.ensures.ordered

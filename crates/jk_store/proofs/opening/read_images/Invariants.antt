@@ -2,6 +2,7 @@ use Rattle.std.proofs.Common.{◌≡◌, ◌≤◌, ◌++◌, List, ℕ, map, le
 use Rattle.std.specs.Arc.{arc_value}
 use Rattle.std.specs.BTreeSet.{keys}
 use Rattle.std.specs.String.{string_bytes}
+use Rattle.jk_store.specs.Files.{Files}
 use Rattle.jk_store.specs.Catalogue.{most_entries}
 use Rattle.jk_store.specs.Opening.{Gives, Opened}
 use Rattle.jk_store.proofs.opening.read_images.Given as goal
@@ -15,3 +16,4 @@ invariant-loop-name g l =
     × Opened (Gives g.S.Shelf.keeps g.S.Shelf.gave) front l.initial.shelf (map arc_value l.entries.items) l.skipped.items l.shelf)
     × (length l.entries.items ≤ most_entries)
     × (g.S.Shelf.failed l.shelf ≡ g.S.Shelf.failed l.initial.shelf)
+    × ((files : Files) → g.S.Shelf.keeps l.initial.shelf files → g.S.Shelf.keeps l.shelf files)

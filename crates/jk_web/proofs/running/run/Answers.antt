@@ -1,51 +1,65 @@
-use Rattle.std.proofs.Common.{List}
-use Rattle.std.specs.Prelude.{All}
-use Rattle.jk_math.specs.Memory.{IsMemory}
-use Rattle.jk_web.specs.Places.{IsSegment}
-use Rattle.jk_web.specs.Images.{Image, names_of, content, IsReply, gives_reply}
-use Rattle.jk_web.proofs.RunLaws.{ends_as, ends_memory}
+use Rattle.std.proofs.Common.{ℕ, List}
+use Rattle.jk_web.specs.Images.{gives_reply, gives_kept}
+use Rattle.jk_web.specs.Running.{Gives, Refuses}
+use Rattle.jk_web.proofs.RunLaws.{ends_as, ends_memory, ends_enough}
 use Rattle.jk_web.proofs.running.run.Goals as goal
 
 pub returns-clause-text : goal.returns-clause-text
 returns-clause-text g c =
-    let stands = g.C.Catalogue.stands in
-    let broke = g.C.Catalogue.broke in
     let e = c.serve.ensures in
-    λ images p segments. (
+    λ images held segments. (
       e.0,
       e.1,
       e.2,
       e.3,
-      (ends_as
-          (λ s q r t. (is : List Image) → stands s is → All IsSegment (names_of is) → IsReply (content q is) (broke s t) q.closes r × stands t is)
-          (gives_reply broke images)
-          (λ s q f t. IsMemory f × ((is : List Image) → stands s is → stands t is))
-          (λ s. stands s images)
-          (λ s q r t held given. given images held segments)
-          (λ s q f t held refused. (refused.0, refused.1 images held))
-          c.args.catalogue.now e.0 e.1 _ _ c.serve.new.service c.serve.result p e.4).0,
+      (ends_as (Gives g.C.Catalogue.stands g.C.Catalogue.keeps g.C.Catalogue.broke g.C.Catalogue.reads g.C.Catalogue.cuts) (gives_reply g.C.Catalogue.broke g.C.Catalogue.reads g.C.Catalogue.cuts images) (Refuses g.C.Catalogue.stands g.C.Catalogue.keeps)
+          (λ s. g.C.Catalogue.stands s images)
+          (λ s q r t p given. (given.reply images p segments, given.lasts.stands_on images p))
+          (λ s q f t p refused. (refused.memory, refused.lasts.stands_on images p))
+          c.args.catalogue.now e.0 e.1 _ _ c.serve.new.service c.serve.result held e.4).0,
+    )
+
+pub returns-clause-same : goal.returns-clause-same
+returns-clause-same g c =
+    let e = c.serve.ensures in
+    λ images held kept segments. (
+      e.0,
+      e.1,
+      e.2,
+      e.3,
+      (ends_as (Gives g.C.Catalogue.stands g.C.Catalogue.keeps g.C.Catalogue.broke g.C.Catalogue.reads g.C.Catalogue.cuts) (gives_kept g.C.Catalogue.broke images) (Refuses g.C.Catalogue.stands g.C.Catalogue.keeps)
+          (λ s. g.C.Catalogue.stands s images × g.C.Catalogue.keeps s images)
+          (λ s q r t p given. (given.kept images p.0 p.1 segments, (given.lasts.stands_on images p.0, given.lasts.keeps_on images p.1)))
+          (λ s q f t p refused. (refused.memory, (refused.lasts.stands_on images p.0, refused.lasts.keeps_on images p.1)))
+          c.args.catalogue.now e.0 e.1 _ _ c.serve.new.service c.serve.result (held, kept) e.4).0,
     )
 
 pub returns-clause-stands : goal.returns-clause-stands
 returns-clause-stands g c =
-    let stands = g.C.Catalogue.stands in
-    let broke = g.C.Catalogue.broke in
     let e = c.serve.ensures in
-    λ images p segments. (ends_as
-    (λ s q r t. (is : List Image) → stands s is → All IsSegment (names_of is) → IsReply (content q is) (broke s t) q.closes r × stands t is)
-    (gives_reply broke images)
-    (λ s q f t. IsMemory f × ((is : List Image) → stands s is → stands t is))
-    (λ s. stands s images)
-    (λ s q r t held given. given images held segments)
-    (λ s q f t held refused. (refused.0, refused.1 images held))
-    c.args.catalogue.now e.0 e.1 _ _ c.serve.new.service c.serve.result p e.4).1
+    λ images held. (ends_as (Gives g.C.Catalogue.stands g.C.Catalogue.keeps g.C.Catalogue.broke g.C.Catalogue.reads g.C.Catalogue.cuts) (λ s q r t. Unit {0}) (Refuses g.C.Catalogue.stands g.C.Catalogue.keeps)
+    (λ s. g.C.Catalogue.stands s images)
+    (λ s q r t p given. (tt, given.lasts.stands_on images p))
+    (λ s q f t p refused. (refused.memory, refused.lasts.stands_on images p))
+    c.args.catalogue.now e.0 e.1 _ _ c.serve.new.service c.serve.result held e.4).1
+
+pub returns-clause-keeps : goal.returns-clause-keeps
+returns-clause-keeps g c =
+    let e = c.serve.ensures in
+    λ images kept. (ends_as (Gives g.C.Catalogue.stands g.C.Catalogue.keeps g.C.Catalogue.broke g.C.Catalogue.reads g.C.Catalogue.cuts) (λ s q r t. Unit {0}) (Refuses g.C.Catalogue.stands g.C.Catalogue.keeps)
+    (λ s. g.C.Catalogue.keeps s images)
+    (λ s q r t p given. (tt, given.lasts.keeps_on images p))
+    (λ s q f t p refused. (refused.memory, refused.lasts.keeps_on images p))
+    c.args.catalogue.now e.0 e.1 _ _ c.serve.new.service c.serve.result kept e.4).1
 
 pub returns-clause-memory : goal.returns-clause-memory
 returns-clause-memory g c =
-    let stands = g.C.Catalogue.stands in
-    let broke = g.C.Catalogue.broke in
     let e = c.serve.ensures in
-    ends_memory
-    (λ s q r t. (is : List Image) → stands s is → All IsSegment (names_of is) → IsReply (content q is) (broke s t) q.closes r × stands t is)
-    (λ s q f t. IsMemory f × ((is : List Image) → stands s is → stands t is))
-    c.args.catalogue.now e.0 e.1 _ _ c.serve.new.service c.serve.result (λ s q f u refused. refused.0) e.4
+    ends_memory (Gives g.C.Catalogue.stands g.C.Catalogue.keeps g.C.Catalogue.broke g.C.Catalogue.reads g.C.Catalogue.cuts) (Refuses g.C.Catalogue.stands g.C.Catalogue.keeps)
+    c.args.catalogue.now e.0 e.1 _ _ c.serve.new.service c.serve.result (λ s q f u refused. refused.memory) e.4
+
+pub returns-clause-enough : goal.returns-clause-enough
+returns-clause-enough g c =
+    let e = c.serve.ensures in
+    ends_enough (Gives g.C.Catalogue.stands g.C.Catalogue.keeps g.C.Catalogue.broke g.C.Catalogue.reads g.C.Catalogue.cuts) (Refuses g.C.Catalogue.stands g.C.Catalogue.keeps)
+    c.args.catalogue.now e.0 e.1 _ c.serve.new.service c.serve.result c.args.turns (g.I.Read.remaining c.args.reader.now) (g.I.Read.remaining c.serve.new.reader) e.2 e.4

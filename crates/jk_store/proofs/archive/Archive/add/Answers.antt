@@ -1,5 +1,15 @@
+use Rattle.std.proofs.Common.{◌≡◌, List, map, false, Ok, refl, sym, ap, ◌∙◌, subst}
 use Rattle.std.specs.Arc.{arc_value}
-use Rattle.jk_store.proofs.AddLaws.{archive_named, archive_few}
+use Rattle.std.specs.Str.{bytes_eq}
+use Rattle.std.specs.String.{string_bytes}
+use Rattle.jk_code.specs.Written.{written}
+use Rattle.jk_store.specs.Files.{Files}
+use Rattle.jk_store.specs.Names.{temporary_name, file_name}
+use Rattle.jk_store.specs.Catalogue.{is_listed}
+use Rattle.jk_store.specs.Adding.{IsLeft}
+use Rattle.jk_store.proofs.OpenLaws.{fault_is}
+use Rattle.jk_store.proofs.AddedLaws.{archive_shows, archive_keeps, added}
+use Rattle.jk_store.proofs.AddLaws.{archive_named, archive_few, names_apart}
 use Rattle.jk_store.proofs.archive.Archive.add.Goals as goal
 
 pub invariant_of-self-2 : goal.invariant_of-self-2
@@ -11,3 +21,42 @@ invariant_of-self-2 g c =
           c.push_reserved.ensures.items c.reserve.ensures.items c.in_ok-listed.ensures c.in_ok-made.ensures.stands.name c.args.self.now.named c.in_ok-judge.ensures.named fresh;
       few = archive_few c.args.self.now.entries.items c.reserve.new.self.items c.push_reserved.new.self.items c.in_ok-listed.listed c.push_reserved.ensures.items c.reserve.ensures.items room;
     }
+
+pub returns-in_err-store-clause-left : goal.returns-in_err-store-clause-left
+returns-in_err-store-clause-left g c = λ files kept.
+    let made = c.in_ok-made.ensures in
+    let name = c.args.name.now in
+    let left = (rw (made.temporary, made.file, ← made.written) at c.in_err-store.ensures.left) (names_apart name name) files kept in
+    fault_is c.from_residual-in_err-store.result c.in_err-store.field-0.0 c.from_residual-in_err-store.ensures.1
+    (λ e. (left : Files) × g.S.Shelf.keeps c.store.new.shelf left × IsLeft (temporary_name name) (file_name name) (written c.args.image.now c.args.parameters.now) e files left) left
+
+pub returns-clause-shows : goal.returns-clause-shows
+returns-clause-shows g c = λ images shows.
+    let made = c.in_ok-made.ensures in
+    let bytes = c.in_ok-made.made.bytes.items in
+    let e = arc_value c.in_ok-made.made.entry in (
+      added e c.args.name.now bytes made.stands,
+      archive_shows arc_value c.args.self.now.entries.items c.reserve.new.self.items c.push_reserved.new.self.items c.in_ok-listed.listed e c.args.name.now bytes images
+          c.push_reserved.ensures.items c.reserve.ensures.items c.in_ok-listed.ensures made.stands shows,
+      made.stands.name,
+      made.written,
+    )
+
+pub returns-clause-keeps : goal.returns-clause-keeps
+returns-clause-keeps g c = λ images stands.
+    let made = c.in_ok-made.ensures in
+    let name = c.args.name.now in
+    let bytes = c.in_ok-made.made.bytes.items in
+    let e = arc_value c.in_ok-made.made.entry in
+    let fresh = rw c.deref.ensures.value at c.in_ok-judge.ensures.fresh in
+    let kept = (rw (made.temporary, made.file) at c.in_ok-store.ensures.ok) stands.kept.files stands.kept.keeps_files in (
+      added e name bytes made.stands,
+      record {
+        shows = archive_shows arc_value c.args.self.now.entries.items c.reserve.new.self.items c.push_reserved.new.self.items c.in_ok-listed.listed e name bytes images
+            c.push_reserved.ensures.items c.reserve.ensures.items c.in_ok-listed.ensures made.stands stands.shows;
+        kept = archive_keeps g.S.Shelf.keeps c.args.self.now.shelf c.store.new.shelf (map arc_value c.args.self.now.entries.items) images name bytes stands.shows fresh stands.kept kept
+            (added e name bytes made.stands) made.stands.name refl;
+      },
+      made.stands.name,
+      made.written,
+    )

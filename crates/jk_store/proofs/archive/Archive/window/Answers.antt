@@ -15,7 +15,7 @@ pub returns-in-Some-clause-bad : goal.returns-in-Some-clause-bad
 returns-in-Some-clause-bad g c = λ e is.
     let found = rw c.deref.ensures.value at c.in-Some.ensures in
     let same = c.deref-in-Some.ensures ∙ ap (λ o. unwrap_or o e) (found ∙ is) in
-    subst (λ (q : Entry). c.window.result ≡ Err BadWindow → HasWindow q.index.headers c.args.view → WasForeign g.S.Shelf.gave q c.args.self.now.shelf c.window.new.shelf) same c.window.ensures.bad
+    subst (λ (q : Entry). c.window.result ≡ Err BadWindow → HasWindow q.index.headers c.args.view → ⊥) same c.window.ensures.bad
 
 pub returns-in-Some-clause-changed : goal.returns-in-Some-clause-changed
 returns-in-Some-clause-changed g c = λ e is.

@@ -9,4 +9,4 @@ pub returns : goal.returns
 returns g c = λ images stands.
     let entries = map arc_value c.args.self.now.entries.items in
     c.is_some.ensures ∙ sym (mapped_some (λ e. arc_value e.now) c.find.result) ∙ ap is_some c.find.ensures ∙ ap (λ es. is_some (entry_of (map arc_value es) c.args.name.now)) c.deref.ensures.value
-    ∙ known c.args.name.now entries images stands.shows
+    ∙ known c.args.name.now entries images stands

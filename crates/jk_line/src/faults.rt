@@ -1,9 +1,11 @@
-//! The list of all faults.
+//! All faults, in words.
 
 use jk_math::Fault;
-use std::alloc::Global;
+use std::alloc::{AllocError, Global};
+use std::fmt;
 
-/// The line of the fault that only a refused growth of memory makes, so that none can be named here.
+/// The line of the fault that only a refused growth of memory makes, so that none can be named
+/// here.
 static MEMORY: &str = "F1 Memory: a growth of memory was refused\n";
 
 /// The causes of the other faults.
@@ -82,8 +84,30 @@ static CAUSES: [(Fault, &str); 21] = [
     ),
 ];
 
+/// The line of a fault on standard error.
+#[derive(Drop)]
+pub struct FaultLine {
+    pub fault: Fault,
+}
+
+impl fmt::Display for FaultLine {
+    fn fmt<W: fmt::Write>(&self, f: &mut fmt::Formatter<W>) -> fmt::Result {
+        write!(f, "jk: {}\n", self.fault)
+    }
+}
+
+/// The cause of a fault, as its name has it.
+pub(crate) fn cause_of(fault: &Fault) -> &'static str {
+    for (listed, cause) in &CAUSES {
+        if listed == fault {
+            return cause;
+        }
+    }
+    "a growth of memory was refused"
+}
+
 /// All faults in their order, each a line of its number, name and cause.
-pub(crate) fn list(alloc: Global) -> Result<String, Fault> {
+pub(crate) fn list(alloc: Global) -> Result<String, AllocError> {
     let mut text = String::from_str(alloc, MEMORY)?;
     for (fault, cause) in &CAUSES {
         let line = format!(in alloc; "{fault}: {cause}\n")?;

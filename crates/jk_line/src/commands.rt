@@ -1,16 +1,19 @@
 //! What the command line may say.
 
+use crate::defaults::Defaults;
 use clap::{Arg, ArgAction, Command, value_parser};
 use std::alloc::{AllocError, Global};
 
-/// The version, and the line by which the kit names itself (`rt version`) that proves and builds the program.
+/// The version, and the line by which the kit names itself (`rt version`) that proves and builds
+/// the program.
 const VERSION: &str = "0.1.0\nrattle-kit-13b logic dac8208d650f15bf";
 
 /// What is told under the list of commands.
 const STATUSES: &str = "\
 A file is judged from front to back. Its first fault is a line such as `jk: F2 Truncated` on
-standard error, with the status 1; `jk faults` lists all of them. A wrong command line has the
-status 2. `jk COMMAND --help` tells the options of a command.";
+standard error, with the status 1; `jk faults` lists all of them, and with `--explain` a second line
+has its cause in words. A wrong command line has the status 2. `jk COMMAND --help` tells the options
+of a command.";
 
 /// What the words of the line of `jk info` are.
 const INFO_WORDS: &str = "\
@@ -36,57 +39,65 @@ const SERVE_WORDS: &str = "\
 GET /images lists the images, a line each: NAME WIDTH HEIGHT COMPONENTS DEPTH LEVELS.
 GET /images/NAME is the stored file. GET /images/NAME/window?x=N&y=N&w=N&h=N&r=D is a window of it,
 as `jk cut` makes it; without r it isn't reduced. Connections are answered one after another. What
-the folder holds when the server starts is listed; files that aren't JP2 files are named on
-standard error.";
+the folder holds when the server starts is listed; files that aren't JP2 files, files NAME.tmp of an
+adding that was broken off, and files that can't be opened are named on standard error.";
 
 /// The command line of `jk`.
-pub(crate) fn command<'a>(alloc: Global) -> Result<Command<'a>, AllocError> {
+pub(crate) fn command<'a>(
+    alloc: Global,
+    defaults: &'a Defaults,
+) -> Result<Command<'a>, AllocError> {
     Command::new(alloc, "jk")
         .version(VERSION)
         .about("A lossless image archive for JPEG 2000, on its reversible path")
         .after_help(STATUSES)
         .subcommand_required(true)
         .arg_required_else_help(true)
-        .subcommand(encode(alloc)?)?
+        .subcommand(encode(alloc, defaults)?)?
         .subcommand(decode(alloc)?)?
         .subcommand(info(alloc)?)?
         .subcommand(cut(alloc)?)?
-        .subcommand(add(alloc)?)?
+        .subcommand(add(alloc, defaults)?)?
         .subcommand(serve(alloc)?)?
-        .subcommand(faults(alloc))
+        .subcommand(faults(alloc)?)
 }
 
 /// `jk encode IN OUT`.
-fn encode<'a>(alloc: Global) -> Result<Command<'a>, AllocError> {
+fn encode<'a>(alloc: Global, defaults: &'a Defaults) -> Result<Command<'a>, AllocError> {
     let raw = flag(alloc, "raw", "Write a bare codestream, and no JP2 file");
     let command = Command::new(alloc, "encode")
         .about("Encodes a PGM or PPM file")
         .arg(input(alloc, "The PGM or PPM file, or - for standard input"))?
         .arg(output(alloc, "The file to write, or - for standard output"))?
         .arg(raw)?;
-    tiling(alloc, coding(alloc, command)?)
+    let command = coding(alloc, command, defaults)?;
+    tiling(alloc, command, defaults)?.arg(explain(alloc))
 }
 
 /// The options of how each tile is coded.
-fn coding<'a>(alloc: Global, command: Command<'a>) -> Result<Command<'a>, AllocError> {
+fn coding<'a>(
+    alloc: Global,
+    command: Command<'a>,
+    defaults: &'a Defaults,
+) -> Result<Command<'a>, AllocError> {
     let levels = number(alloc, "levels", "N")
-        .default_value("5")
+        .default_value(defaults.levels.as_str())
         .help("Decomposition levels, 0 to 5");
     let layers = number(alloc, "layers", "N")
-        .default_value("1")
+        .default_value(defaults.layers.as_str())
         .help("Layers, 1 to 32");
     let order = Arg::new(alloc, "order")
         .long("order")
         .value_name("ORDER")
         .value_parser(["LRCP", "RLCP", "RPCL", "PCRL", "CPRL"].as_slice())
-        .default_value("LRCP")
+        .default_value(defaults.order)
         .help("The order of the packets");
     let block_x = number(alloc, "block-x", "N")
-        .default_value("6")
+        .default_value(defaults.block_x.as_str())
         .help("The width of a code-block is 2^N, N from 2 to 10");
-    let block_y = number(alloc, "block-y", "N").default_value("6").help(
-        "The height of a code-block is 2^N; both N are 12 at most in all",
-    );
+    let block_y = number(alloc, "block-y", "N")
+        .default_value(defaults.block_y.as_str())
+        .help("The height of a code-block is 2^N; both N are 12 at most in all");
     let precincts = Arg::new(alloc, "precincts")
         .long("precincts")
         .value_name("HEX")
@@ -110,14 +121,18 @@ fn coding<'a>(alloc: Global, command: Command<'a>) -> Result<Command<'a>, AllocE
 }
 
 /// The options of where the image and its tiles lie.
-fn tiling<'a>(alloc: Global, command: Command<'a>) -> Result<Command<'a>, AllocError> {
+fn tiling<'a>(
+    alloc: Global,
+    command: Command<'a>,
+    defaults: &'a Defaults,
+) -> Result<Command<'a>, AllocError> {
     let width = number(alloc, "tile-width", "N").help("The width of a tile; with --tile-height");
     let height = number(alloc, "tile-height", "N").help("The height of a tile");
-    let x0 = number(alloc, "x0", "N").default_value("0").help(
-        "The column of the upper left sample on the reference grid",
-    );
+    let x0 = number(alloc, "x0", "N")
+        .default_value(defaults.x0.as_str())
+        .help("The column of the upper left sample on the reference grid");
     let y0 = number(alloc, "y0", "N")
-        .default_value("0")
+        .default_value(defaults.y0.as_str())
         .help("The row of the upper left sample");
     command.arg(width)?.arg(height)?.arg(x0)?.arg(y0)
 }
@@ -134,7 +149,8 @@ fn decode<'a>(alloc: Global) -> Result<Command<'a>, AllocError> {
             alloc,
             "The PGM or PPM file to write, or - for standard output",
         ))?
-        .arg(reduce)
+        .arg(reduce)?
+        .arg(explain(alloc))
 }
 
 /// `jk info IN`.
@@ -142,7 +158,8 @@ fn info<'a>(alloc: Global) -> Result<Command<'a>, AllocError> {
     Command::new(alloc, "info")
         .about("Tells in one line what a JPEG 2000 file holds")
         .after_help(INFO_WORDS)
-        .arg(input(alloc, "The JPEG 2000 file, or - for standard input"))
+        .arg(input(alloc, "The JPEG 2000 file, or - for standard input"))?
+        .arg(explain(alloc))
 }
 
 /// `jk cut IN OUT`.
@@ -162,7 +179,8 @@ fn cut<'a>(alloc: Global) -> Result<Command<'a>, AllocError> {
         .arg(side(alloc, "y", "The upper row of the window"))?
         .arg(side(alloc, "w", "How many columns it has"))?
         .arg(side(alloc, "h", "How many rows it has"))?
-        .arg(reduce)
+        .arg(reduce)?
+        .arg(explain(alloc))
 }
 
 /// A number that places a window.
@@ -171,7 +189,7 @@ fn side<'a>(alloc: Global, name: &'a str, help: &'a str) -> Arg<'a> {
 }
 
 /// `jk add DIR NAME IN`.
-fn add<'a>(alloc: Global) -> Result<Command<'a>, AllocError> {
+fn add<'a>(alloc: Global, defaults: &'a Defaults) -> Result<Command<'a>, AllocError> {
     let command = Command::new(alloc, "add")
         .about("Adds a PGM or PPM file to an archive")
         .after_help(ADD_WORDS)
@@ -182,7 +200,8 @@ fn add<'a>(alloc: Global) -> Result<Command<'a>, AllocError> {
             ),
         )?
         .arg(input(alloc, "The PGM or PPM file, or - for standard input"))?;
-    tiling(alloc, coding(alloc, command)?)
+    let command = coding(alloc, command, defaults)?;
+    tiling(alloc, command, defaults)?.arg(explain(alloc))
 }
 
 /// `jk serve DIR`.
@@ -193,15 +212,16 @@ fn serve<'a>(alloc: Global) -> Result<Command<'a>, AllocError> {
         .value_parser(value_parser!(u16))
         .required(true)
         .help("The port on 127.0.0.1, or 0 for one that is free");
-    let connections = number(alloc, "connections", "K")
-        .required(true)
-        .help("How many connections to take before the end");
+    let connections = number(alloc, "connections", "K").help(
+        "How many connections to take before the end; without it there is none",
+    );
     Command::new(alloc, "serve")
         .about("Serves the images of an archive and windows of them over HTTP/1.1")
         .after_help(SERVE_WORDS)
         .arg(folder(alloc))?
         .arg(port)?
-        .arg(connections)
+        .arg(connections)?
+        .arg(explain(alloc))
 }
 
 /// The folder of an archive.
@@ -212,8 +232,19 @@ fn folder<'a>(alloc: Global) -> Arg<'a> {
 }
 
 /// `jk faults`.
-fn faults<'a>(alloc: Global) -> Command<'a> {
-    Command::new(alloc, "faults").about("Lists all faults, each with its number, name and cause")
+fn faults<'a>(alloc: Global) -> Result<Command<'a>, AllocError> {
+    Command::new(alloc, "faults")
+        .about("Lists all faults, each with its number, name and cause")
+        .arg(explain(alloc))
+}
+
+/// That a fault is explained.
+fn explain<'a>(alloc: Global) -> Arg<'a> {
+    flag(
+        alloc,
+        "explain",
+        "Say the cause of a fault in words, behind its line; on a terminal they are there anyway",
+    )
 }
 
 /// The file to read.

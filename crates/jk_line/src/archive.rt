@@ -1,0 +1,181 @@
+//! The commands that work on an archive.
+
+use crate::failure::{Failure, of_options, of_world, with_words};
+use crate::options;
+use crate::streams::read;
+use crate::world::World;
+use clap::ArgMatches;
+use jk_commands::{EncodeOptions, Plan, judge, read_image};
+use jk_math::{Fault, Image};
+use jk_store::{Archive, Images, Shelf, is_good_name};
+use std::alloc::Global;
+
+/// How many images an archive has at most.
+const MOST_IMAGES: usize = 4096;
+
+/// Why the folder of an archive can't be read: with the file that can't be, where it is one.
+fn of_folder<W: World>(
+    alloc: Global,
+    world: &mut W,
+    fault: Fault,
+    name: &str,
+    folder: &W::Folder,
+) -> Failure {
+    let Some(file) = world.trouble(alloc, folder) else {
+        return of_world(alloc, world, fault, name, "read");
+    };
+    match format!(in alloc; "{name}/{file}") {
+        Ok(subject) => of_world(alloc, world, fault, subject.as_str(), "read"),
+        Err(_) => Failure::from(fault),
+    }
+}
+
+/// The archive of a folder.
+fn open<W: World>(alloc: Global, world: &mut W, name: &str) -> Result<Archive<W::Folder>, Failure> {
+    let mut folder = match world.folder(alloc, name) {
+        Ok(folder) => folder,
+        Err(fault) => return Err(of_world(alloc, world, fault, name, "opened")),
+    };
+    match Images::read(alloc, &mut folder) {
+        Ok(images) => {
+            world.tell_others(&folder);
+            Ok(Archive::with(folder, images))
+        }
+        Err(fault) => Err(of_folder(alloc, world, fault, name, &folder)),
+    }
+}
+
+/// Whether an archive has a file of a name, listed or not.
+fn has<S: Shelf>(archive: &Archive<S>, name: &str) -> bool {
+    for entry in archive.list() {
+        if entry.name.as_str() == name {
+            return true;
+        }
+    }
+    for file in archive.skipped() {
+        if file.name.as_str() == name {
+            return true;
+        }
+    }
+    false
+}
+
+/// Whether an archive takes an image of a name.
+///
+/// The first of these: BadName; NameTaken, also by a file that isn't listed; Limit where the
+/// archive is full.
+fn check_name<S: Shelf>(archive: &Archive<S>, name: &str) -> Result<(), Fault> {
+    if !is_good_name(name) {
+        return Err(Fault::BadName);
+    }
+    if has(archive, name) {
+        return Err(Fault::NameTaken);
+    }
+    if MOST_IMAGES <= archive.list().len() {
+        return Err(Fault::Limit);
+    }
+    Ok(())
+}
+
+/// Adds an image to an archive under a name: the name is judged, then the place of the image, and
+/// then the image.
+fn add_to<S: Shelf>(
+    alloc: Global,
+    archive: &mut Archive<S>,
+    name: &str,
+    image: Image,
+    plan: Plan,
+) -> Result<(), Fault> {
+    check_name(archive, name)?;
+    let placed = plan.place(image)?;
+    archive.add(alloc, name, &placed.image, &placed.parameters)?;
+    Ok(())
+}
+
+/// Why adding was refused.
+fn of_adding(
+    alloc: Global,
+    fault: Fault,
+    options: &EncodeOptions,
+    line: &ArgMatches<'_>,
+) -> Failure {
+    let (folder, name) = (options::folder(line), options::name(line));
+    match fault {
+        Fault::BadParameters => of_options(alloc, fault, options),
+        Fault::BadName => with_words(
+            fault,
+            format!(in alloc; "{name} isn't 1 to 64 of the characters a to z, 0 to 9, - and _"),
+        ),
+        Fault::NameTaken => with_words(fault, format!(in alloc; "{folder} has a file {name}.jp2")),
+        _ => Failure::from(fault),
+    }
+}
+
+/// `jk add DIR NAME IN`: the options first, then the input and its image, the folder, the name, and the adding.
+pub(crate) fn add<W: World>(
+    alloc: Global,
+    line: &ArgMatches<'_>,
+    world: &mut W,
+) -> Result<(), Failure> {
+    let options = options::encoding(alloc, line)?;
+    let plan = match judge(alloc, &options) {
+        Ok(plan) => plan,
+        Err(fault) => return Err(of_options(alloc, fault, &options)),
+    };
+    let image = read_image(alloc, read(alloc, world, options::input(line))?)?;
+    let folder = options::folder(line);
+    if let Err(fault) = world.lock(alloc, folder) {
+        return Err(of_world(alloc, world, fault, folder, "locked"));
+    }
+    let mut archive = open(alloc, world, folder)?;
+    let added = add_to(alloc, &mut archive, options::name(line), image, plan);
+    let kept = world.give_back(alloc, folder, archive.into_shelf());
+    match added {
+        Ok(()) => Ok(kept?),
+        Err(fault) => Err(of_adding(alloc, fault, &options, line)),
+    }
+}
+
+/// Writes to standard error which files of an archive aren't listed.
+fn tell_skipped<W: World>(
+    alloc: Global,
+    world: &mut W,
+    archive: &Archive<W::Folder>,
+) -> Result<(), Failure> {
+    for file in archive.skipped() {
+        let line = format!(in alloc; "jk: {}.jp2 isn't listed: {}\n", file.name, file.fault)?;
+        world.tell(&line);
+    }
+    Ok(())
+}
+
+/// `jk serve DIR`: the folder, what of it isn't listed, and the connections.
+pub(crate) fn serve<W: World>(
+    alloc: Global,
+    line: &ArgMatches<'_>,
+    world: &mut W,
+) -> Result<(), Failure> {
+    let folder = options::folder(line);
+    if let Err(fault) = world.share(alloc, folder) {
+        return Err(of_world(alloc, world, fault, folder, "locked"));
+    }
+    let opened = open(alloc, world, folder);
+    world.release();
+    let mut archive = opened?;
+    tell_skipped(alloc, world, &archive)?;
+    world.tell_left(archive.shelf());
+    let serving = options::serving(line);
+    match world.serve(alloc, &mut archive, serving) {
+        Ok(()) => Ok(()),
+        Err(fault) => {
+            let subject = format!(in alloc; "port {}", serving.port)?;
+            Err(of_world(alloc, world, fault, subject.as_str(), "served"))
+        }
+    }
+}
+
+/// The line that says where an archive is served.
+pub fn listening(alloc: Global, images: usize, port: u16) -> Result<String, Fault> {
+    let line = format!(in alloc; "jk: {images} images on http://127.0.0.1:{port}/images\n")?;
+    Ok(line)
+}

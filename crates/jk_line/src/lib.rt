@@ -1,0 +1,21 @@
+//! The command line of `jk`, over a world of files and streams that its caller gives.
+#![tactic(auto)]
+
+mod archive;
+mod commands;
+mod defaults;
+mod failure;
+mod faults;
+mod features;
+mod limits;
+mod options;
+mod running;
+mod status;
+mod streams;
+mod world;
+
+pub use archive::listening;
+pub use faults::FaultLine;
+pub use running::run;
+pub use status::Status;
+pub use world::{Serving, World};

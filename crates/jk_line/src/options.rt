@@ -1,0 +1,82 @@
+//! What the words of a command line ask for.
+
+use crate::world::Serving;
+use clap::ArgMatches;
+use jk_commands::{EncodeOptions, order_named};
+use jk_math::Fault;
+use jk_window::View;
+use std::alloc::Global;
+
+/// A number, or what stands for it where it isn't given.
+fn number(line: &ArgMatches<'_>, name: &str, default: u32) -> u32 {
+    line.get_one::<u32>(name).unwrap_or(default)
+}
+
+/// The options of an encoding.
+pub(crate) fn encoding(alloc: Global, line: &ArgMatches<'_>) -> Result<EncodeOptions, Fault> {
+    let given = EncodeOptions::new(alloc);
+    let order = match line.get_str("order") {
+        Some(name) => order_named(name),
+        None => None,
+    };
+    Ok(EncodeOptions {
+        levels: number(line, "levels", given.levels),
+        layers: number(line, "layers", given.layers),
+        order: order.unwrap_or(given.order),
+        tile_width: line.get_one::<u32>("tile-width"),
+        tile_height: line.get_one::<u32>("tile-height"),
+        block_x: number(line, "block-x", given.block_x),
+        block_y: number(line, "block-y", given.block_y),
+        precincts: String::from_str(alloc, line.get_str("precincts").unwrap_or(""))?,
+        x0: number(line, "x0", given.x0),
+        y0: number(line, "y0", given.y0),
+        no_colour: line.get_flag("no-colour"),
+        sop: line.get_flag("sop"),
+        eph: line.get_flag("eph"),
+        raw: line.get_flag("raw"),
+    })
+}
+
+/// How often the image is halved.
+pub(crate) fn reduction(line: &ArgMatches<'_>) -> u32 {
+    number(line, "reduce", 0)
+}
+
+/// A window.
+pub(crate) fn view(line: &ArgMatches<'_>) -> View {
+    View {
+        reduce: reduction(line),
+        x: number(line, "x", 0),
+        y: number(line, "y", 0),
+        width: number(line, "w", 0),
+        height: number(line, "h", 0),
+    }
+}
+
+/// How an archive is served.
+pub(crate) fn serving(line: &ArgMatches<'_>) -> Serving {
+    Serving {
+        port: line.get_one::<u16>("port").unwrap_or(0),
+        connections: line.get_one::<u32>("connections"),
+    }
+}
+
+/// The file to read.
+pub(crate) fn input<'a>(line: &ArgMatches<'a>) -> &'a str {
+    line.get_str("IN").unwrap_or("-")
+}
+
+/// The file to write.
+pub(crate) fn output<'a>(line: &ArgMatches<'a>) -> &'a str {
+    line.get_str("OUT").unwrap_or("-")
+}
+
+/// The folder of an archive.
+pub(crate) fn folder<'a>(line: &ArgMatches<'a>) -> &'a str {
+    line.get_str("DIR").unwrap_or(".")
+}
+
+/// The name of an image.
+pub(crate) fn name<'a>(line: &ArgMatches<'a>) -> &'a str {
+    line.get_str("NAME").unwrap_or("")
+}

@@ -1,0 +1,144 @@
+//! Running a command line.
+
+use crate::commands::command;
+use crate::defaults::Defaults;
+use crate::failure::{Failure, of_file, of_options, of_world};
+use crate::faults::{self, FaultLine, cause_of};
+use crate::features::left_out;
+use crate::status::Status;
+use crate::streams::{read, write};
+use crate::world::World;
+use crate::{archive, options};
+use clap::ArgMatches;
+use clap::error::ErrorKind;
+use jk_commands::{cut_file, decode_file, encode_file, info_file, judge};
+use std::alloc::Global;
+
+/// `jk encode IN OUT`: the options first, then the input, the image and its encoding, the output.
+fn encode<W: World>(alloc: Global, line: &ArgMatches<'_>, world: &mut W) -> Result<(), Failure> {
+    let options = options::encoding(alloc, line)?;
+    let plan = match judge(alloc, &options) {
+        Ok(plan) => plan,
+        Err(fault) => return Err(of_options(alloc, fault, &options)),
+    };
+    let bytes = read(alloc, world, options::input(line))?;
+    match encode_file(alloc, bytes, plan) {
+        Ok(file) => write(alloc, world, options::output(line), &file),
+        Err(fault) => Err(of_options(alloc, fault, &options)),
+    }
+}
+
+/// `jk decode IN OUT`.
+fn decode<W: World>(alloc: Global, line: &ArgMatches<'_>, world: &mut W) -> Result<(), Failure> {
+    let bytes = read(alloc, world, options::input(line))?;
+    let left_out = left_out(&bytes);
+    match decode_file(alloc, bytes, options::reduction(line)) {
+        Ok(text) => write(alloc, world, options::output(line), &text),
+        Err(fault) => Err(of_file(alloc, fault, left_out)),
+    }
+}
+
+/// `jk info IN`.
+fn info<W: World>(alloc: Global, line: &ArgMatches<'_>, world: &mut W) -> Result<(), Failure> {
+    let bytes = read(alloc, world, options::input(line))?;
+    match info_file(alloc, &bytes) {
+        Ok(text) => write(alloc, world, "-", text.as_bytes()),
+        Err(fault) => Err(of_file(alloc, fault, left_out(&bytes))),
+    }
+}
+
+/// `jk cut IN OUT`.
+fn cut<W: World>(alloc: Global, line: &ArgMatches<'_>, world: &mut W) -> Result<(), Failure> {
+    let bytes = read(alloc, world, options::input(line))?;
+    match cut_file(alloc, &bytes, options::view(line)) {
+        Ok(file) => write(alloc, world, options::output(line), &file),
+        Err(fault) => Err(of_file(alloc, fault, left_out(&bytes))),
+    }
+}
+
+/// `jk faults`.
+fn list_faults<W: World>(alloc: Global, world: &mut W) -> Result<(), Failure> {
+    let text = faults::list(alloc)?;
+    write(alloc, world, "-", text.as_bytes())
+}
+
+/// Does what a command asks for.
+fn perform<W: World>(
+    alloc: Global,
+    name: &str,
+    line: &ArgMatches<'_>,
+    world: &mut W,
+) -> Result<(), Failure> {
+    match name {
+        "encode" => encode(alloc, line, world),
+        "decode" => decode(alloc, line, world),
+        "info" => info(alloc, line, world),
+        "cut" => cut(alloc, line, world),
+        "add" => archive::add(alloc, line, world),
+        "serve" => archive::serve(alloc, line, world),
+        _ => list_faults(alloc, world),
+    }
+}
+
+/// Writes a fault to standard error, and its cause in words where they are asked for or somebody
+/// reads along.
+fn tell<W: World>(world: &mut W, failure: Failure, in_words: bool) -> Status {
+    let Failure { fault, words } = failure;
+    world.tell(&FaultLine { fault });
+    if in_words || world.is_terminal() {
+        match words {
+            Some(text) => world.tell(&text),
+            None => world.tell(&cause_of(&fault)),
+        }
+        world.tell(&"\n");
+    }
+    Status::Refused
+}
+
+/// Does what the words ask for that were understood.
+fn follow<W: World>(alloc: Global, matches: &ArgMatches<'_>, world: &mut W) -> Status {
+    let Some((name, line)) = matches.subcommand() else {
+        return Status::WrongLine;
+    };
+    match perform(alloc, name, line, world) {
+        Ok(()) => Status::Done,
+        Err(failure) => tell(world, failure, line.get_flag("explain")),
+    }
+}
+
+/// Writes what was asked for, as `--help` does, or what is wrong with the words.
+fn show<W: World>(alloc: Global, error: &clap::Error, world: &mut W) -> Result<Status, Failure> {
+    if error.kind() == ErrorKind::OutOfMemory {
+        world.tell(&"jk: F1 Memory\n");
+        return Ok(Status::Refused);
+    }
+    if error.use_stderr() {
+        world.tell(error);
+        return Ok(Status::WrongLine);
+    }
+    match world.print(error) {
+        Ok(()) => Ok(Status::Done),
+        Err(fault) => Err(of_world(alloc, world, fault, "standard output", "written")),
+    }
+}
+
+/// Reads the words, and does what they ask for.
+fn answer<W: World>(alloc: Global, words: &[String], world: &mut W) -> Result<Status, Failure> {
+    let defaults = Defaults::new(alloc)?;
+    let command = command(alloc, &defaults)?;
+    match command.try_get_matches_from(words) {
+        Ok(matches) => Ok(follow(alloc, &matches, world)),
+        Err(error) => show(alloc, &error, world),
+    }
+}
+
+/// Runs a command line, of which the first word is the program's name.
+///
+/// A fault is a line such as `jk: F2 Truncated` on standard error. Where standard error is a
+/// terminal, or with `--explain`, a second line has its cause in words.
+pub fn run<W: World>(alloc: Global, words: &[String], world: &mut W) -> Status {
+    match answer(alloc, words, world) {
+        Ok(status) => status,
+        Err(failure) => tell(world, failure, false),
+    }
+}

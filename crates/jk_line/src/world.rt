@@ -1,0 +1,78 @@
+//! What a command line works on.
+
+use jk_math::Fault;
+use jk_store::{Archive, Shelf};
+use std::alloc::Global;
+use std::fmt::Display;
+use std::io;
+
+/// How an archive is served.
+#[derive(Clone, Copy, Debug, PartialEq, Eq)]
+pub struct Serving {
+    /// The port on 127.0.0.1, or 0 for one that is free.
+    pub port: u16,
+    /// How many connections are taken before the end; without a number there is none.
+    pub connections: Option<u32>,
+}
+
+/// The files, the streams and the archives that a command line works on.
+///
+/// A call that is refused by the system answers Shelf, and `said` tells what the system said of it.
+pub trait World {
+    /// The folder of an archive.
+    type Folder: Shelf + Drop;
+
+    /// All bytes of a file, or of standard input for `-`.
+    fn read(&mut self, alloc: Global, name: &str) -> Result<Vec<u8>, Fault>;
+
+    /// Writes all bytes to a file, or to standard output for `-`.
+    fn write(&mut self, alloc: Global, name: &str, bytes: &[u8]) -> Result<(), Fault>;
+
+    /// Writes a text to standard output.
+    fn print<D: Display>(&mut self, text: &D) -> Result<(), Fault>;
+
+    /// Writes a text to standard error. Where that fails, nothing can be said of it.
+    fn tell<D: Display>(&mut self, text: &D);
+
+    /// Whether standard error is a terminal.
+    fn is_terminal(&self) -> bool;
+
+    /// What the system said where it refused the last call.
+    fn said(&self) -> Option<io::Error>;
+
+    /// Takes the lock of an archive's folder alone, to add to it. Shelf: another holds it.
+    fn lock(&mut self, alloc: Global, folder: &str) -> Result<(), Fault>;
+
+    /// Takes the lock of an archive's folder together with others, to read it. Shelf: another holds
+    /// it alone.
+    fn share(&mut self, alloc: Global, folder: &str) -> Result<(), Fault>;
+
+    /// Lets the lock go.
+    fn release(&mut self);
+
+    /// The folder of an archive.
+    fn folder(&mut self, alloc: Global, folder: &str) -> Result<Self::Folder, Fault>;
+
+    /// Takes the folder of an archive back.
+    fn give_back(&mut self, alloc: Global, name: &str, folder: Self::Folder) -> Result<(), Fault>;
+
+    /// The file of an archive's folder at which the folder's last call was refused, if it was one.
+    /// What the system said of it is what `said` tells then.
+    fn trouble(&mut self, alloc: Global, folder: &Self::Folder) -> Option<String>;
+
+    /// Writes to standard error what stands in an archive's folder under the name of an image and
+    /// can't be opened as a file.
+    fn tell_others(&mut self, folder: &Self::Folder);
+
+    /// Writes to standard error which files of an archive's folder are left from an adding that was
+    /// broken off.
+    fn tell_left(&mut self, folder: &Self::Folder);
+
+    /// Answers the requests of connections, one after another.
+    fn serve(
+        &mut self,
+        alloc: Global,
+        archive: &mut Archive<Self::Folder>,
+        serving: Serving,
+    ) -> Result<(), Fault>;
+}

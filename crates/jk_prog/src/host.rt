@@ -1,0 +1,172 @@
+//! The world of the program: the system's files, streams and sockets.
+
+use crate::{files, serving};
+use jk_files::{Lock, Lockable, Refusal, SharedLock, wait_exclusive, wait_shared};
+use jk_line::{Serving, World};
+use jk_math::Fault;
+use jk_store::{Archive, Folder};
+use std::alloc::Global;
+use std::fmt::Display;
+use std::io;
+use std::net::{Net, TcpListener, TcpStream};
+use std::rt::Files;
+use std::time::Clock;
+
+/// The world of the program: a runtime, the lock that is held, and what the system said where it
+/// refused the last call.
+#[derive(Drop)]
+pub(crate) struct Host<R: Files> {
+    rt: R,
+    is_terminal: bool,
+    lock: Option<Lock<R::File>>,
+    said: Option<io::Error>,
+}
+
+impl<R: Files + Drop> Host<R> {
+    /// The world of a runtime, and whether its standard error is a terminal.
+    pub(crate) fn new(rt: R, is_terminal: bool) -> Host<R> {
+        Host {
+            rt,
+            is_terminal,
+            lock: None,
+            said: None,
+        }
+    }
+
+    /// An answer of the system, of which a refusal is kept.
+    fn kept<T: Drop>(&mut self, answer: Result<T, Refusal>) -> Result<T, Fault> {
+        match answer {
+            Ok(value) => Ok(value),
+            Err(refusal) => {
+                self.said = refusal.said();
+                Err(refusal.fault())
+            }
+        }
+    }
+
+    /// The same of an answer that takes no memory.
+    fn kept_of_system<T: Drop>(&mut self, answer: io::Result<T>) -> Result<T, Fault> {
+        match answer {
+            Ok(value) => Ok(value),
+            Err(said) => self.kept(Err(Refusal::System(said))),
+        }
+    }
+}
+
+/// Says that a folder's lock is waited for, where somebody reads along.
+fn tell_waiting<R: Eprint>(rt: &R, is_terminal: bool, folder: &str) {
+    if is_terminal {
+        let _ = eprintln!(rt;
+            "jk: another jk works on {folder}; waiting for it, up to ten seconds"
+        );
+    }
+}
+
+impl<
+    R: Files
+        + Input
+        + Print
+        + Eprint
+        + AllocGlobal
+        + Clock
+        + Clone
+        + Drop
+        + Net<Listener = TcpListener, Stream = TcpStream>,
+> World for Host<R>
+where
+    R::File: Lockable,
+{
+    type Folder = Folder<R>;
+
+    fn read(&mut self, alloc: Global, name: &str) -> Result<Vec<u8>, Fault> {
+        let answer = files::read(&self.rt, alloc, name);
+        self.kept(answer)
+    }
+
+    fn write(&mut self, alloc: Global, name: &str, bytes: &[u8]) -> Result<(), Fault> {
+        let answer = files::write(&self.rt, alloc, name, bytes);
+        self.kept(answer)
+    }
+
+    fn print<D: Display>(&mut self, text: &D) -> Result<(), Fault> {
+        let answer = self.rt.print(text);
+        self.kept_of_system(answer)
+    }
+
+    fn tell<D: Display>(&mut self, text: &D) {
+        let _ = self.rt.eprint(text);
+    }
+
+    fn is_terminal(&self) -> bool {
+        self.is_terminal
+    }
+
+    fn said(&self) -> Option<io::Error> {
+        self.said
+    }
+
+    fn lock(&mut self, alloc: Global, folder: &str) -> Result<(), Fault> {
+        let (rt, is_terminal) = (&self.rt, self.is_terminal);
+        let answer = wait_exclusive(rt, alloc, folder, || tell_waiting(rt, is_terminal, folder));
+        let lock = self.kept(answer)?;
+        self.lock = Some(lock);
+        Ok(())
+    }
+
+    fn share(&mut self, alloc: Global, folder: &str) -> Result<(), Fault> {
+        let (rt, is_terminal) = (&self.rt, self.is_terminal);
+        let answer = wait_shared(rt, alloc, folder, || tell_waiting(rt, is_terminal, folder));
+        if let SharedLock::Held(lock) = self.kept(answer)? {
+            self.lock = Some(lock);
+        }
+        Ok(())
+    }
+
+    fn release(&mut self) {
+        self.lock = None;
+    }
+
+    fn folder(&mut self, alloc: Global, folder: &str) -> Result<Folder<R>, Fault> {
+        Folder::new(self.rt.clone()?, alloc, folder)
+    }
+
+    fn give_back(&mut self, _alloc: Global, _name: &str, _folder: Folder<R>) -> Result<(), Fault> {
+        Ok(())
+    }
+
+    fn trouble(&mut self, alloc: Global, folder: &Folder<R>) -> Option<String> {
+        let trouble = folder.trouble()?;
+        self.said = Some(trouble.said);
+        if trouble.name.is_empty() {
+            return None;
+        }
+        String::from_str(alloc, trouble.name.as_str()).ok()
+    }
+
+    fn tell_others(&mut self, folder: &Folder<R>) {
+        let rt = &self.rt;
+        for other in folder.others() {
+            let _ = eprintln!(rt; "jk: {} isn't listed: {}", other.name, other.said);
+        }
+    }
+
+    fn tell_left(&mut self, folder: &Folder<R>) {
+        let rt = &self.rt;
+        for name in folder.left() {
+            let _ = eprintln!(rt; "jk: {} was left when adding was broken off", name);
+        }
+    }
+
+    fn serve(
+        &mut self,
+        alloc: Global,
+        archive: &mut Archive<Folder<R>>,
+        serving: Serving,
+    ) -> Result<(), Fault> {
+        let port = match serving::bind(&self.rt, serving.port) {
+            Ok(listener) => listener,
+            Err(said) => return self.kept(Err(Refusal::System(said))),
+        };
+        serving::serve(&self.rt, alloc, &port, archive, serving)
+    }
+}

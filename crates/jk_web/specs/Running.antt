@@ -1,0 +1,27 @@
+-- How a catalogue answers the requests of a connection.
+use Rattle.std.specs.Prelude.{ℕ, List, All}
+use Rattle.jk_math.specs.declared.fault.Fault.{Fault}
+use Rattle.jk_math.specs.Memory.{IsMemory}
+use Rattle.jk_web.specs.declared.query.Asked.{Asked}
+use Rattle.jk_web.specs.declared.reply.Reply.{Reply}
+use Rattle.jk_web.specs.declared.request.Request.{Request}
+use Rattle.jk_web.specs.Places.{IsSegment}
+use Rattle.jk_web.specs.Images.{Image, names_of, gives_reply, gives_kept}
+
+module _ {S : Type 0} (stands keeps : S → List Image → Type 0) where
+  -- What it stands for and what it keeps stays.
+  pub record Lasts (s t : S) : Type 0 where
+    pub stands_on : (images : List Image) → stands s images → stands t images
+    pub keeps_on : (images : List Image) → keeps s images → keeps t images
+
+  -- Only memory is refused.
+  pub record Refuses (s : S) (q : Request) (e : Fault) (t : S) : Type 0 where
+    pub memory : IsMemory e
+    pub lasts : Lasts s t
+
+  -- The reply is that to its images; where it keeps their files, no other file is sent.
+  pub record Gives (broke : S → List ℕ → S → Type 0) (reads : S → List ℕ → List ℕ → S → Type 0) (cuts : S → List ℕ → Asked → List ℕ → List ℕ → Type 0)
+      (s : S) (q : Request) (r : Reply) (t : S) : Type 0 where
+    pub reply : (images : List Image) → stands s images → All IsSegment (names_of images) → gives_reply broke reads cuts images s q r t
+    pub kept : (images : List Image) → stands s images → keeps s images → All IsSegment (names_of images) → gives_kept broke images s q r t
+    pub lasts : Lasts s t

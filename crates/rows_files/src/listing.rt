@@ -1,0 +1,91 @@
+//! What is listed of a folder.
+
+use crate::disk::{Desk, Disk, Kind};
+use crate::scratch::{folder, remove, within};
+use jk_files::{Listing, list};
+use std::alloc::Global;
+use std::fs;
+use std::rt::Files;
+use std::test::Fail;
+
+/// The names of files, and of others with what was said, in one text.
+fn told(alloc: Global, listing: &Listing) -> Result<String, Fail> {
+    let mut text = String::new(alloc);
+    for name in listing.files.iter() {
+        text.push_str(name.as_str())?;
+        text.push(' ')?;
+    }
+    for other in listing.others.iter() {
+        let said = other.said.kind();
+        text.push_str(format!(in alloc; "|{} {said:?}", other.name)?.as_str())?;
+    }
+    Ok(text)
+}
+
+/// A folder with one thing of each kind.
+fn folder_of_all(alloc: Global) -> Result<Disk, Fail> {
+    let disk = Disk::new(alloc);
+    for (path, kind) in [
+        ("d/file.jp2", Kind::File),
+        ("d/folder.jp2", Kind::Folder),
+        ("d/pipe.jp2", Kind::Pipe),
+        ("d/refused.jp2", Kind::Refused),
+        ("d/gone.jp2", Kind::Gone),
+        ("d/adrift.jp2", Kind::Adrift),
+        ("d/loop.jp2", Kind::Loop),
+        ("d/pipe.txt", Kind::Pipe),
+        ("d/last.jp2", Kind::File),
+    ] {
+        disk.put(path, kind, b"")?;
+    }
+    Ok(disk)
+}
+
+/// What is told of it.
+const ONE_OF_EACH: &str = "file.jp2 last.jp2 |folder.jp2 IsADirectory|pipe.jp2 InvalidInput\
+    |refused.jp2 PermissionDenied|adrift.jp2 NotFound|loop.jp2 FilesystemLoop";
+
+#[test]
+fn one_of_each(rt: HostRuntime) -> Result<(), Fail> {
+    let disk = folder_of_all(rt.alloc())?;
+    let listing = list(&Desk(&disk), rt.alloc(), "d", |name| name.ends_with(".jp2"))?;
+    let text = told(rt.alloc(), &listing)?;
+    let calls = disk.calls()?;
+    assert_eq!(rt; text.as_str(), ONE_OF_EACH);
+    assert!(rt; !calls.as_str().contains("open d/pipe"), "{calls}");
+    assert!(rt; !calls.as_str().contains(".txt"), "{calls}");
+    Ok(())
+}
+
+#[test]
+fn unreadable(rt: HostRuntime) -> Result<(), Fail> {
+    let disk = folder_of_all(rt.alloc())?;
+    disk.fails_at.set(1);
+    assert!(rt; list(&Desk(&disk), rt.alloc(), "d", |_| true).is_err());
+    assert!(rt; list(&rt, rt.alloc(), "/nowhere/at/all", |_| true).is_err());
+    assert!(rt; list(&rt, rt.alloc(), "/etc/hostname", |_| true).is_err());
+    Ok(())
+}
+
+#[test]
+fn of_the_system(rt: HostRuntime) -> Result<(), Fail> {
+    let path = folder(&rt, "listing")?;
+    let inner = within(&rt, path.as_str(), "inner")?;
+    let link = within(&rt, path.as_str(), "link")?;
+    fs::create_dir(&rt, inner.as_str())?;
+    rt.symlink("inner", link.as_str())?;
+    fs::write(&rt, within(&rt, inner.as_str(), "a")?.as_str(), b"")?;
+    rt.symlink("a", within(&rt, inner.as_str(), "b")?.as_str())?;
+    rt.symlink("c", within(&rt, inner.as_str(), "c")?.as_str())?;
+    for name in [
+        inner.as_str(),
+        link.as_str(),
+        within(&rt, link.as_str(), "")?.as_str(),
+    ] {
+        let mut listing = list(&rt, rt.alloc(), name, |_| true)?;
+        listing.files.sort()?;
+        let text = told(rt.alloc(), &listing)?;
+        assert_eq!(rt; text.as_str(), "a b |c FilesystemLoop", "{name}");
+    }
+    remove(&rt, path.as_str())
+}

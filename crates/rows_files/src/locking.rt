@@ -1,0 +1,104 @@
+//! The lock of a folder.
+
+use crate::disk::{Desk, Disk, Kind};
+use crate::scratch::{folder, remove};
+use jk_files::{Lock, Refusal, SharedLock, try_exclusive, try_shared, wait_exclusive};
+use std::cell::Cell;
+use std::fs::File;
+use std::io::ErrorKind;
+use std::test::Fail;
+
+/// What a try to share a lock gave.
+fn word<F: Drop>(answer: Result<SharedLock<F>, Refusal>) -> &'static str {
+    match answer {
+        Ok(SharedLock::Held(_)) => "held",
+        Ok(SharedLock::Taken) => "taken",
+        Ok(SharedLock::Unwritable) => "unwritable",
+        Err(_) => "refused",
+    }
+}
+
+/// Whether a lock is taken.
+fn is_held(answer: Result<Option<Lock<File>>, Refusal>) -> Result<bool, Fail> {
+    Ok(answer?.is_some())
+}
+
+#[test]
+fn of_the_system(rt: HostRuntime) -> Result<(), Fail> {
+    let alloc = rt.alloc();
+    let path = folder(&rt, "locking")?;
+    let path = path.as_str();
+    let alone = try_exclusive(&rt, alloc, path)?;
+    let second = is_held(try_exclusive(&rt, alloc, path))?;
+    let while_alone = word(try_shared(&rt, alloc, path));
+    drop(alone);
+    let shared = try_shared(&rt, alloc, path)?;
+    let more = word(try_shared(&rt, alloc, path));
+    let while_shared = is_held(try_exclusive(&rt, alloc, path))?;
+    drop(shared);
+    let at_last = is_held(try_exclusive(&rt, alloc, path))?;
+    let waited = wait_exclusive(&rt, alloc, path, || ())?;
+    let while_waited = is_held(try_exclusive(&rt, alloc, path))?;
+    drop(waited);
+    remove(&rt, path)?;
+    assert_eq!(rt;
+        (second, while_shared, at_last, while_waited),
+        (false, false, true, false)
+    );
+    assert_eq!(rt; [while_alone, more], ["taken", "held"]);
+    Ok(())
+}
+
+#[test]
+fn waiting(rt: HostRuntime) -> Result<(), Fail> {
+    // Free at once; free after three pauses; free after the last; never free in time.
+    for (taken, held, told, sleeps) in [
+        (0, true, 0, 0),
+        (3, true, 1, 3),
+        (200, true, 1, 200),
+        (201, false, 1, 200),
+    ] {
+        let disk = Disk::new(rt.alloc());
+        disk.taken.set(taken);
+        let calls = Cell::new(0);
+        let answer = wait_exclusive(&Desk(&disk), rt.alloc(), "d", || calls.set(1));
+        assert_eq!(rt; answer.is_ok(), held, "{taken}");
+        assert_eq!(rt; (calls.get(), disk.sleeps.get()), (told, sleeps), "{taken}");
+    }
+    Ok(())
+}
+
+#[test]
+fn where_no_file_can_be_made(rt: HostRuntime) -> Result<(), Fail> {
+    for (closed, shared) in [
+        (ErrorKind::PermissionDenied, "unwritable"),
+        (ErrorKind::ReadOnlyFilesystem, "unwritable"),
+        (ErrorKind::StorageFull, "refused"),
+    ] {
+        let disk = Disk::new(rt.alloc());
+        disk.closed.set(Some(closed));
+        assert_eq!(rt; word(try_shared(&Desk(&disk), rt.alloc(), "d")), shared);
+        assert!(rt; try_exclusive(&Desk(&disk), rt.alloc(), "d").is_err());
+        disk.put("d/.lock", Kind::File, b"")?;
+        assert_eq!(rt; word(try_shared(&Desk(&disk), rt.alloc(), "d")), "held");
+    }
+    Ok(())
+}
+
+#[test]
+fn no_regular_lock(rt: HostRuntime) -> Result<(), Fail> {
+    for kind in [Kind::Pipe, Kind::Folder, Kind::Refused] {
+        let disk = Disk::new(rt.alloc());
+        disk.put("d/.lock", kind, b"")?;
+        assert_eq!(rt;
+            word(try_shared(&Desk(&disk), rt.alloc(), "d")),
+            "refused",
+            "{kind:?}"
+        );
+        assert!(rt;
+            try_exclusive(&Desk(&disk), rt.alloc(), "d").is_err(),
+            "{kind:?}"
+        );
+    }
+    Ok(())
+}

@@ -1,0 +1,156 @@
+//! What is read of a file, and when a read fails.
+
+use crate::disk::{Desk, Disk, Kind};
+use crate::scratch::{folder, remove, within};
+use jk_files::{Refusal, read_all, read_file};
+use jk_math::Fault;
+use std::alloc::Global;
+use std::fs::{self, File};
+use std::io::ErrorKind;
+use std::rt::Files;
+use std::test::Fail;
+
+/// A megabyte and one byte, of which none is like its neighbours.
+fn megabyte(alloc: Global) -> Result<Vec<u8>, Fail> {
+    let mut row = Vec::new(alloc);
+    for byte in 0..=255u8 {
+        row.push(byte)?;
+    }
+    let mut bytes = Vec::new(alloc);
+    for _row in 0..1u64 << 12 {
+        bytes.extend_from_slice(&row)?;
+    }
+    bytes.push(7)?;
+    Ok(bytes)
+}
+
+/// A disk with a megabyte in one file, that gives at most so many bytes at once.
+fn disk_of(alloc: Global, piece: usize) -> Result<Disk, Fail> {
+    let disk = Disk::new(alloc);
+    disk.put("d/a", Kind::File, megabyte(alloc)?.as_slice())?;
+    disk.piece.set(piece);
+    Ok(disk)
+}
+
+/// Whether all of the megabyte was read, or what the fault was.
+fn is_whole(alloc: Global, answer: Result<Vec<u8>, Refusal>) -> Result<Result<bool, Fault>, Fail> {
+    Ok(match answer {
+        Ok(bytes) => Ok(bytes.as_slice() == megabyte(alloc)?.as_slice()),
+        Err(refusal) => Err(refusal.fault()),
+    })
+}
+
+/// What a source of a disk gives.
+fn source(alloc: Global, disk: &Disk) -> Result<Result<bool, Fault>, Fail> {
+    let file = File::open(&Desk(disk), "d/a")?;
+    is_whole(alloc, read_all(alloc, file))
+}
+
+/// What a file of a disk gives.
+fn file(alloc: Global, disk: &Disk) -> Result<Result<bool, Fault>, Fail> {
+    is_whole(alloc, read_file(&Desk(disk), alloc, "d/a"))
+}
+
+#[test]
+fn in_pieces(rt: HostRuntime) -> Result<(), Fail> {
+    for piece in [usize::MAX, 100_000, 4096] {
+        let disk = disk_of(rt.alloc(), piece)?;
+        assert_eq!(rt; source(rt.alloc(), &disk)?, Ok(true), "{piece}");
+        assert_eq!(rt; file(rt.alloc(), &disk)?, Ok(true), "{piece}");
+    }
+    Ok(())
+}
+
+#[test]
+fn failing_at_each_read(rt: HostRuntime) -> Result<(), Fail> {
+    // The first call opens; eleven reads give bytes, and the last sees the end.
+    for call in 2..14 {
+        let disk = disk_of(rt.alloc(), 100_000)?;
+        disk.fails_at.set(call);
+        assert_eq!(rt; source(rt.alloc(), &disk)?, Err(Fault::Shelf), "{call}");
+    }
+    // A question and an opening, and eleven reads, of which the last gives the last byte that the
+    // file had.
+    for call in 1..14 {
+        let disk = disk_of(rt.alloc(), 100_000)?;
+        disk.fails_at.set(call);
+        assert_eq!(rt; file(rt.alloc(), &disk)?, Err(Fault::Shelf), "{call}");
+    }
+    let disk = disk_of(rt.alloc(), 100_000)?;
+    disk.fails_at.set(14);
+    assert_eq!(rt; file(rt.alloc(), &disk)?, Ok(true));
+    Ok(())
+}
+
+#[test]
+fn interrupted(rt: HostRuntime) -> Result<(), Fail> {
+    let disk = disk_of(rt.alloc(), 100_000)?;
+    disk.interrupts.set(5);
+    assert_eq!(rt; source(rt.alloc(), &disk)?, Ok(true));
+    disk.interrupts.set(5);
+    assert_eq!(rt; file(rt.alloc(), &disk)?, Ok(true));
+    Ok(())
+}
+
+/// What is read of a file that has so many bytes and said it has ten.
+fn of_ten(alloc: Global, bytes: &[u8]) -> Result<Vec<u8>, Fail> {
+    let disk = Disk::new(alloc);
+    disk.put("a", Kind::Ten, bytes)?;
+    Ok(read_file(&Desk(&disk), alloc, "a")?)
+}
+
+#[test]
+fn changed_meanwhile(rt: HostRuntime) -> Result<(), Fail> {
+    let grown = of_ten(rt.alloc(), b"0123456789abc")?;
+    let shrunk = of_ten(rt.alloc(), b"0123456")?;
+    assert_eq!(rt; grown.as_slice(), b"0123456789".as_slice());
+    assert_eq!(rt; shrunk.as_slice(), b"0123456".as_slice());
+    Ok(())
+}
+
+/// What the system says of something that isn't read, and the calls that were made.
+fn refused(alloc: Global, kind: Kind) -> Result<(Option<ErrorKind>, String), Fail> {
+    let disk = Disk::new(alloc);
+    disk.put("a", kind, b"")?;
+    let answer = read_file(&Desk(&disk), alloc, "a").err();
+    let said = answer
+        .and_then(|refusal| refusal.said())
+        .map(|said| said.kind());
+    Ok((said, disk.calls()?))
+}
+
+#[test]
+fn no_regular_file(rt: HostRuntime) -> Result<(), Fail> {
+    for (kind, said, calls) in [
+        (Kind::Pipe, ErrorKind::InvalidInput, "ask a;"),
+        (Kind::Folder, ErrorKind::IsADirectory, "ask a;"),
+        (Kind::Gone, ErrorKind::NotFound, "ask a;"),
+        (Kind::Turned, ErrorKind::IsADirectory, "ask a;open a;"),
+        (Kind::Refused, ErrorKind::PermissionDenied, "ask a;open a;"),
+    ] {
+        let (answer, made) = refused(rt.alloc(), kind)?;
+        assert_eq!(rt; answer, Some(said), "{kind:?}");
+        assert_eq!(rt; made.as_str(), calls, "{kind:?}");
+    }
+    Ok(())
+}
+
+#[test]
+fn of_the_system(rt: HostRuntime) -> Result<(), Fail> {
+    let alloc = rt.alloc();
+    let path = folder(&rt, "reading")?;
+    let file = within(&rt, path.as_str(), "a")?;
+    let link = within(&rt, path.as_str(), "b")?;
+    fs::write(&rt, file.as_str(), megabyte(alloc)?.as_slice())?;
+    rt.symlink("a", link.as_str())?;
+    let whole = is_whole(alloc, read_file(&rt, alloc, file.as_str()))?;
+    let linked = is_whole(alloc, read_file(&rt, alloc, link.as_str()))?;
+    let inner = is_whole(alloc, read_file(&rt, alloc, path.as_str()))?;
+    let device = is_whole(alloc, read_file(&rt, alloc, "/dev/zero"))?;
+    remove(&rt, path.as_str())?;
+    assert_eq!(rt;
+        [whole, linked, inner, device],
+        [Ok(true), Ok(true), Err(Fault::Shelf), Err(Fault::Shelf)]
+    );
+    Ok(())
+}

@@ -1,0 +1,129 @@
+//! In which order files are written and renamed, and what is left alone.
+
+use crate::disk::{Desk, Disk, Kind};
+use crate::scratch::{folder, remove, within};
+use jk_files::{is_file_name, rename, write_new};
+use std::fs;
+use std::rt::Files;
+use std::test::Fail;
+
+#[test]
+fn in_order(rt: HostRuntime) -> Result<(), Fail> {
+    let disk = Disk::new(rt.alloc());
+    write_new(&Desk(&disk), rt.alloc(), "d", "a", b"one")?;
+    rename(&Desk(&disk), rt.alloc(), "d", "a", "b")?;
+    let calls = disk.calls()?;
+    assert_eq!(rt;
+        calls.as_str(),
+        "make d/a;write d/a;sync d/a;open d/;rename d/a;sync d/;"
+    );
+    assert_eq!(rt; disk.bytes("d/b")?.as_slice(), b"one".as_slice());
+    Ok(())
+}
+
+#[test]
+fn over_what_is_left(rt: HostRuntime) -> Result<(), Fail> {
+    let disk = Disk::new(rt.alloc());
+    disk.put("d/a", Kind::Pipe, b"left")?;
+    disk.piece.set(2);
+    write_new(&Desk(&disk), rt.alloc(), "d/", "a", b"one")?;
+    let calls = disk.calls()?;
+    assert_eq!(rt;
+        calls.as_str(),
+        "make d/a;remove d/a;make d/a;write d/a;write d/a;sync d/a;"
+    );
+    assert_eq!(rt; disk.bytes("d/a")?.as_slice(), b"one".as_slice());
+    Ok(())
+}
+
+#[test]
+fn failing(rt: HostRuntime) -> Result<(), Fail> {
+    // To make the file, to write it twice, to have it stored.
+    for call in 1..5 {
+        let disk = Disk::new(rt.alloc());
+        disk.piece.set(2);
+        disk.fails_at.set(call);
+        assert!(rt;
+            write_new(&Desk(&disk), rt.alloc(), "d", "a", b"one").is_err(),
+            "{call}"
+        );
+    }
+    // To open the folder, to rename, to have the folder stored.
+    for call in 1..4 {
+        let disk = Disk::new(rt.alloc());
+        disk.put("d/a", Kind::File, b"")?;
+        disk.fails_at.set(call);
+        assert!(rt;
+            rename(&Desk(&disk), rt.alloc(), "d", "a", "b").is_err(),
+            "{call}"
+        );
+    }
+    Ok(())
+}
+
+#[test]
+fn where_no_folder_is_stored(rt: HostRuntime) -> Result<(), Fail> {
+    let disk = Disk::new(rt.alloc());
+    disk.unstored.set(true);
+    write_new(&Desk(&disk), rt.alloc(), "d", "a", b"one")?;
+    rename(&Desk(&disk), rt.alloc(), "d", "a", "b")?;
+    assert_eq!(rt; disk.bytes("d/b")?.as_slice(), b"one".as_slice());
+    Ok(())
+}
+
+/// Names, and whether a file inside a folder may have them.
+const NAMES: [(&str, bool); 9] = [
+    ("a", true),
+    (".lock", true),
+    ("...", true),
+    ("", false),
+    (".", false),
+    ("..", false),
+    ("../a", false),
+    ("/", false),
+    ("a/", false),
+];
+
+#[test]
+fn names(rt: HostRuntime) -> Result<(), Fail> {
+    let disk = Disk::new(rt.alloc());
+    for (name, good) in NAMES {
+        assert_eq!(rt; is_file_name(name), good, "{name}");
+        assert_eq!(rt;
+            write_new(&Desk(&disk), rt.alloc(), "d", name, b"").is_ok(),
+            good,
+            "{name}"
+        );
+        assert_eq!(rt;
+            rename(&Desk(&disk), rt.alloc(), "d", name, "z").is_ok(),
+            good,
+            "{name}"
+        );
+        assert_eq!(rt;
+            rename(&Desk(&disk), rt.alloc(), "d", "z", name).is_ok(),
+            good,
+            "{name}"
+        );
+    }
+    Ok(())
+}
+
+#[test]
+fn of_the_system(rt: HostRuntime) -> Result<(), Fail> {
+    let path = folder(&rt, "writing")?;
+    let victim = within(&rt, path.as_str(), "victim")?;
+    let link = within(&rt, path.as_str(), "a.tmp")?;
+    fs::write(&rt, victim.as_str(), b"kept")?;
+    rt.symlink("victim", link.as_str())?;
+    write_new(&rt, rt.alloc(), path.as_str(), "a.tmp", b"new")?;
+    let is_link = rt.symlink_metadata(link.as_str())?.is_symlink();
+    let kept = fs::read(&rt, victim.as_str())?;
+    rename(&rt, rt.alloc(), path.as_str(), "a.tmp", "victim")?;
+    let renamed = fs::read(&rt, victim.as_str())?;
+    let gone = !fs::exists(&rt, link.as_str())?;
+    remove(&rt, path.as_str())?;
+    assert!(rt; !is_link && gone);
+    assert_eq!(rt; kept.as_slice(), b"kept".as_slice());
+    assert_eq!(rt; renamed.as_slice(), b"new".as_slice());
+    Ok(())
+}

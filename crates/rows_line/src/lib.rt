@@ -1,0 +1,9 @@
+//! The command line, run in memory, with answers from outside.
+#![tactic(auto)]
+
+#[cfg(test)]
+mod lines;
+#[cfg(test)]
+mod memory;
+#[cfg(test)]
+mod texts;

@@ -1,0 +1,489 @@
+//! Command lines, and what they do.
+
+use crate::memory::Memory;
+use crate::texts::bytes_of;
+use jk_line::{Status, run};
+use jk_store::{MemoryShelf, Shelf};
+use std::alloc::Global;
+use std::process::Abort;
+use std::test::Fail;
+
+/// A PGM file of one pixel, 128.
+static GREY: &str = "50350A 312031 0A 323535 0A 80";
+
+/// A PPM file of one pixel whose components are 128.
+static COLOURS: &str = "50360A 312031 0A 323535 0A 808080";
+
+/// The segments of the grey pixel without levels: SIZ, COD and QCD.
+static SIZE: &str =
+    "FF51 0029 0000 00000001 00000001 00000000 00000000 00000001 00000001 00000000 00000000 0001 07 01 01";
+
+static CODING: &str = "FF52 000C 00 00 0001 00 00 04 04 00 01";
+
+static STEPS: &str = "FF5C 0004 40 40";
+
+/// The boxes around its codestream in a JP2 file.
+static BOXES: &str =
+    "0000000C 6A502020 0D0A870A 00000014 66747970 6A703220 00000000 6A703220 0000002D 6A703268 00000016 69686472 00000001 00000001 0001 07 07 00 00 0000000F 636F6C72 01 00 00 00000011 0000005A 6A703263";
+
+/// A column of nine samples with one level: its codestream, its PGM file, and that of the halved
+/// image.
+static COLUMN: &str =
+    "FF4F FF51 0029 0000 00000001 00000009 00000000 00000000 00000001 00000009 00000000 00000000 0001 07 01 01 FF52 000C 00 00 0001 00 01 04 04 00 01 FF5C 0007 40 40 48 48 50 FF90 000A 0000 0000001E 00 01 FF93 C7 D4 0C 01 8F 0D C8 75 7F C0 7C 21 80 0F B1 7F FFD9";
+
+static COLUMN_TEXT: &str = "50350A 312039 0A 323535 0A 65 67 68 69 60 61 60 66 6D";
+
+static HALVED_TEXT: &str = "50350A 312035 0A 323535 0A 66 6A 62 60 6D";
+
+/// The headers of four pixels with one level; its codestream has these packets, and that of the
+/// window of its halved image those.
+static FOUR: &str =
+    "FF4F FF51 0029 0000 00000002 00000002 00000000 00000000 00000002 00000002 00000000 00000000 0001 07 01 01 FF52 000C 00 00 0001 00 01 04 04 00 01 FF5C 0007 40 40 48 48 50";
+
+static FOUR_PART: &str = "FF90 000A 0000 00000018 00 01 FF93 C0 21 03 C0 10 A0 04 20 03 07 FFD9";
+
+static WINDOW_PART: &str = "FF90 000A 0000 00000012 00 01 FF93 C0 21 03 00 FFD9";
+
+/// The words of a command line.
+fn words(alloc: Global, line: &str) -> Result<Vec<String>, Fail> {
+    let mut words = Vec::new(alloc);
+    words.push(String::from_str(alloc, "jk")?)?;
+    for word in line.split(' ') {
+        if !word.is_empty() {
+            words.push(String::from_str(alloc, word)?)?;
+        }
+    }
+    Ok(words)
+}
+
+/// Runs a command line.
+fn run_line(alloc: Global, world: &mut Memory, line: &str) -> Result<Status, Fail> {
+    let words = words(alloc, line)?;
+    Ok(run(alloc, &words, world))
+}
+
+/// Runs a command line over an input, which must write an output and nothing else.
+fn check_output(
+    rt: &impl Abort,
+    alloc: Global,
+    line: &str,
+    input: &[&str],
+    output: &[&str],
+) -> Result<(), Fail> {
+    let mut world = Memory::new(alloc, bytes_of(alloc, input)?);
+    let status = run_line(alloc, &mut world, line)?;
+    assert_eq!(rt; status, Status::Done, "{line}");
+    let wanted = bytes_of(alloc, output)?;
+    assert!(rt; world.output.as_slice() == wanted.as_slice(), "{line}");
+    assert_eq!(rt; world.error.len(), 0, "{line}");
+    Ok(())
+}
+
+/// Runs a command line over an input and a folder `d` with a file `c.jp2` that isn't listed, which
+/// must answer a fault and write nothing.
+fn check_fault(
+    rt: &impl Abort,
+    alloc: Global,
+    line: &str,
+    input: &str,
+    error: &str,
+) -> Result<(), Fail> {
+    let mut world = Memory::new(alloc, bytes_of(alloc, &[input])?);
+    let mut shelf = MemoryShelf::new(alloc);
+    shelf.write(alloc, "c.jp2", &[0xFF])?;
+    world.folders.insert(String::from_str(alloc, "d")?, shelf)?;
+    let status = run_line(alloc, &mut world, line)?;
+    assert_eq!(rt; status, Status::Refused, "{line}");
+    assert!(rt; world.error.as_str() == error, "{line}: {}", world.error);
+    assert_eq!(rt; world.output.len(), 0, "{line}");
+    Ok(())
+}
+
+/// What each option of an encoding changes: the segments, Psot and the packets, as T.800 A.4 to A.6
+/// have them.
+#[test]
+fn options_change_their_fields(rt: HostRuntime) -> Result<(), Fail> {
+    let alloc = rt.alloc();
+    for (options, siz, cod, qcd, part) in [
+        ("--levels 0", SIZE, CODING, STEPS, "0000000F 00 01 FF93 00"),
+        (
+            "--levels 1",
+            SIZE,
+            "FF52 000C 00 00 0001 00 01 04 04 00 01",
+            "FF5C 0007 40 40 48 48 50",
+            "00000010 00 01 FF93 00 00",
+        ),
+        (
+            "--levels 0 --layers 2",
+            SIZE,
+            "FF52 000C 00 00 0002 00 00 04 04 00 01",
+            STEPS,
+            "00000010 00 01 FF93 00 00",
+        ),
+        (
+            "--levels 0 --order LRCP",
+            SIZE,
+            CODING,
+            STEPS,
+            "0000000F 00 01 FF93 00",
+        ),
+        (
+            "--levels 0 --order RLCP",
+            SIZE,
+            "FF52 000C 00 01 0001 00 00 04 04 00 01",
+            STEPS,
+            "0000000F 00 01 FF93 00",
+        ),
+        (
+            "--levels 0 --order RPCL",
+            SIZE,
+            "FF52 000C 00 02 0001 00 00 04 04 00 01",
+            STEPS,
+            "0000000F 00 01 FF93 00",
+        ),
+        (
+            "--levels 0 --order PCRL",
+            SIZE,
+            "FF52 000C 00 03 0001 00 00 04 04 00 01",
+            STEPS,
+            "0000000F 00 01 FF93 00",
+        ),
+        (
+            "--levels 0 --order CPRL",
+            SIZE,
+            "FF52 000C 00 04 0001 00 00 04 04 00 01",
+            STEPS,
+            "0000000F 00 01 FF93 00",
+        ),
+        (
+            "--levels 0 --sop",
+            SIZE,
+            "FF52 000C 02 00 0001 00 00 04 04 00 01",
+            STEPS,
+            "00000015 00 01 FF93 FF91 0004 0000 00",
+        ),
+        (
+            "--levels 0 --eph",
+            SIZE,
+            "FF52 000C 04 00 0001 00 00 04 04 00 01",
+            STEPS,
+            "00000011 00 01 FF93 00 FF92",
+        ),
+        (
+            "--levels 0 --block-x 3",
+            SIZE,
+            "FF52 000C 00 00 0001 00 00 01 04 00 01",
+            STEPS,
+            "0000000F 00 01 FF93 00",
+        ),
+        (
+            "--levels 0 --block-y 4",
+            SIZE,
+            "FF52 000C 00 00 0001 00 00 04 02 00 01",
+            STEPS,
+            "0000000F 00 01 FF93 00",
+        ),
+        (
+            "--levels 0 --precincts 1f",
+            SIZE,
+            "FF52 000D 01 00 0001 00 00 04 04 00 01 1F",
+            STEPS,
+            "0000000F 00 01 FF93 00",
+        ),
+        (
+            "--levels 0 --x0 5",
+            "FF51 0029 0000 00000006 00000001 00000005 00000000 00000006 00000001 00000000 00000000 0001 07 01 01",
+            CODING,
+            STEPS,
+            "0000000F 00 01 FF93 00",
+        ),
+        (
+            "--levels 0 --y0 7",
+            "FF51 0029 0000 00000001 00000008 00000000 00000007 00000001 00000008 00000000 00000000 0001 07 01 01",
+            CODING,
+            STEPS,
+            "0000000F 00 01 FF93 00",
+        ),
+        (
+            "--levels 0 --tile-width 3 --tile-height 4",
+            "FF51 0029 0000 00000001 00000001 00000000 00000000 00000003 00000004 00000000 00000000 0001 07 01 01",
+            CODING,
+            STEPS,
+            "0000000F 00 01 FF93 00",
+        ),
+    ] {
+        let line = format!(in alloc; "encode - - --raw {options}")?;
+        let file = ["FF4F", siz, cod, qcd, "FF90 000A 0000", part, "FFD9"];
+        check_output(&rt, alloc, line.as_str(), &[GREY], &file)?;
+    }
+    Ok(())
+}
+
+/// The colour transform is for three components, unless it is refused.
+#[test]
+fn colour_is_for_three_components(rt: HostRuntime) -> Result<(), Fail> {
+    let alloc = rt.alloc();
+    for (options, colour) in [("", "01"), ("--no-colour", "00")] {
+        let line = format!(in alloc; "encode - - --raw --levels 0 {options}")?;
+        let file = [
+            "FF4F FF51 002F 0000 00000001 00000001 00000000 00000000 00000001 00000001 00000000 00000000 0003 070101 070101 070101 FF52 000C 00 00 0001",
+            colour,
+            "00 04 04 00 01 FF5C 0004 40 40 FF90 000A 0000 00000011 00 01 FF93 000000 FFD9",
+        ];
+        check_output(&rt, alloc, line.as_str(), &[COLOURS], &file)?;
+    }
+    Ok(())
+}
+
+/// What the commands write that work on one file.
+#[test]
+fn commands_write_their_output(rt: HostRuntime) -> Result<(), Fail> {
+    let alloc = rt.alloc();
+    let pixel = [
+        BOXES,
+        "FF4F",
+        SIZE,
+        CODING,
+        STEPS,
+        "FF90 000A 0000 0000000F 00 01 FF93 00 FFD9",
+    ];
+    check_output(&rt, alloc, "encode - - --levels 0", &[GREY], &pixel)?;
+    check_output(&rt, alloc, "decode - -", &pixel, &[GREY])?;
+    check_output(&rt, alloc, "decode - -", &[COLUMN], &[COLUMN_TEXT])?;
+    check_output(
+        &rt,
+        alloc,
+        "decode - - --reduce 1",
+        &[COLUMN],
+        &[HALVED_TEXT],
+    )?;
+    // 1 9 1 8 1 1 LRCP 1 2
+    check_output(
+        &rt,
+        alloc,
+        "info -",
+        &[COLUMN],
+        &["31 20 39 20 31 20 38 20 31 20 31 20 4C524350 20 31 20 32 0A"],
+    )?;
+    check_output(
+        &rt,
+        alloc,
+        "cut - - --x 0 --y 0 --w 1 --h 1 --reduce 1",
+        &[FOUR, FOUR_PART],
+        &[FOUR, WINDOW_PART],
+    )
+}
+
+/// Of two faults the one that is found first is answered.
+#[test]
+fn faults_come_in_order(rt: HostRuntime) -> Result<(), Fail> {
+    let alloc = rt.alloc();
+    for (line, input, error) in [
+        // options, the input, its grammar, its place, the output
+        (
+            "encode no - --layers 65536",
+            GREY,
+            "jk: F15 BadParameters\n",
+        ),
+        (
+            "encode no - --tile-width 1",
+            GREY,
+            "jk: F15 BadParameters\n",
+        ),
+        (
+            "encode no - --precincts 1g",
+            GREY,
+            "jk: F15 BadParameters\n",
+        ),
+        ("encode no - --precincts 1", GREY, "jk: F15 BadParameters\n"),
+        ("encode no - --levels 6", GREY, "jk: F20 Shelf\n"),
+        ("encode - a/b --x0 4294967295", "5035", "jk: F14 BadPnm\n"),
+        (
+            "encode - a/b --x0 2147483647",
+            GREY,
+            "jk: F15 BadParameters\n",
+        ),
+        ("encode - a/b --levels 6", GREY, "jk: F15 BadParameters\n"),
+        ("encode - a/b", GREY, "jk: F20 Shelf\n"),
+        ("decode no a/b --reduce 9", COLUMN, "jk: F20 Shelf\n"),
+        ("decode - a/b --reduce 2", COLUMN, "jk: F16 BadWindow\n"),
+        ("decode - a/b", COLUMN, "jk: F20 Shelf\n"),
+        ("info -", "FF4F", "jk: F2 Truncated\n"),
+        (
+            "cut - a/b --x 1 --y 0 --w 1 --h 1",
+            "FF4F",
+            "jk: F2 Truncated\n",
+        ),
+        (
+            "cut - a/b --x 1 --y 0 --w 1 --h 1",
+            COLUMN,
+            "jk: F16 BadWindow\n",
+        ),
+        // options, the input, its grammar, the folder, the name, the place
+        (
+            "add no A no --layers 65536",
+            GREY,
+            "jk: F15 BadParameters\n",
+        ),
+        ("add no A no", GREY, "jk: F20 Shelf\n"),
+        ("add no A -", "5035", "jk: F14 BadPnm\n"),
+        ("add no A -", GREY, "jk: F20 Shelf\n"),
+        ("add d A - --x0 2147483647", GREY, "jk: F19 BadName\n"),
+        ("add d c - --x0 2147483647", GREY, "jk: F18 NameTaken\n"),
+        ("add d b - --x0 2147483647", GREY, "jk: F15 BadParameters\n"),
+        ("add d b - --levels 6", GREY, "jk: F15 BadParameters\n"),
+        ("serve no --port 0", GREY, "jk: F20 Shelf\n"),
+    ] {
+        check_fault(&rt, alloc, line, input, error)?;
+    }
+    Ok(())
+}
+
+/// A second line says the cause of a fault, where it is asked for.
+#[test]
+fn causes_are_told(rt: HostRuntime) -> Result<(), Fail> {
+    let alloc = rt.alloc();
+    for (line, input, error) in [
+        (
+            "encode - - --explain --levels 6",
+            GREY,
+            "jk: F15 BadParameters\n--levels is 6, and may be 0 to 5\n",
+        ),
+        (
+            "encode - - --explain --tile-width 3",
+            GREY,
+            "jk: F15 BadParameters\n--tile-width is given without --tile-height\n",
+        ),
+        (
+            "encode - - --explain --block-x 7",
+            GREY,
+            "jk: F15 BadParameters\n--block-x and --block-y are 7 and 6, and may be 12 at most in all\n",
+        ),
+        (
+            "encode - - --explain --precincts 1x",
+            GREY,
+            "jk: F15 BadParameters\n--precincts is 1x, and may have pairs of hexadecimal digits\n",
+        ),
+        (
+            "add d A - --explain",
+            GREY,
+            "jk: F19 BadName\nA isn't 1 to 64 of the characters a to z, 0 to 9, - and _\n",
+        ),
+        (
+            "add d c - --explain",
+            GREY,
+            "jk: F18 NameTaken\nd has a file c.jp2\n",
+        ),
+        (
+            "info no --explain",
+            GREY,
+            "jk: F20 Shelf\nno can't be read: entity not found\n",
+        ),
+        (
+            "decode - - --explain --reduce 2",
+            COLUMN,
+            "jk: F16 BadWindow\na reduction past the least number of levels, or a window or reduced image without a sample\n",
+        ),
+        (
+            "decode - - --explain",
+            "FF4F FF51 0029 0000 00000001 00000001 00000000 00000000 00000001 00000001 00000000 00000000 0001 07 01 01 FF52 000C 00 00 0001 00 00 04 04 00 00",
+            "jk: F6 Unsupported\nthe file has the irreversible transform 9/7\n",
+        ),
+    ] {
+        check_fault(&rt, alloc, line, input, error)?;
+    }
+    Ok(())
+}
+
+/// An archive: adding, a name that is taken, and what is told where it is served.
+#[test]
+fn archives_grow(rt: HostRuntime) -> Result<(), Fail> {
+    let alloc = rt.alloc();
+    let mut world = Memory::new(alloc, bytes_of(alloc, &[GREY])?);
+    let mut shelf = MemoryShelf::new(alloc);
+    let bare = bytes_of(alloc, &[COLUMN])?;
+    shelf.write(alloc, "c.jp2", &bare)?;
+    world.folders.insert(String::from_str(alloc, "d")?, shelf)?;
+    assert_eq!(rt;
+        run_line(alloc, &mut world, "add d a - --levels 0")?,
+        Status::Done
+    );
+    assert_eq!(rt; run_line(alloc, &mut world, "add d a -")?, Status::Refused);
+    assert_eq!(rt; run_line(alloc, &mut world, "add d c -")?, Status::Refused);
+    assert!(rt; world.error.as_str() == "jk: F18 NameTaken\njk: F18 NameTaken\n");
+    assert_eq!(rt; world.output.len(), 0);
+    let mut shelf = world.folders.remove("d").ok_or("the folder is given back")?;
+    let wanted = bytes_of(
+        alloc,
+        &[
+            BOXES,
+            "FF4F",
+            SIZE,
+            CODING,
+            STEPS,
+            "FF90 000A 0000 0000000F 00 01 FF93 00 FFD9",
+        ],
+    )?;
+    assert!(rt; shelf.read(alloc, "a.jp2")?.as_slice() == wanted.as_slice());
+    assert_eq!(rt; shelf.read(alloc, "c.jp2")?.len(), bare.len());
+    assert_eq!(rt; shelf.list(alloc)?.len(), 2);
+    world.folders.insert(String::from_str(alloc, "d")?, shelf)?;
+    world.error.clear();
+    assert_eq!(rt;
+        run_line(alloc, &mut world, "serve d --port 8080")?,
+        Status::Done
+    );
+    assert!(rt;
+        world.error.as_str()
+            == "jk: c.jp2 isn't listed: F13 BadBox\njk: 1 images on http://127.0.0.1:8080/images\nNone",
+        "{}",
+        world.error
+    );
+    Ok(())
+}
+
+/// Wrong command lines, and what is asked of the program itself.
+#[test]
+fn lines_are_judged(rt: HostRuntime) -> Result<(), Fail> {
+    let alloc = rt.alloc();
+    for line in [
+        "",
+        "copy a b",
+        "encode -",
+        "encode - - -",
+        "encode - - --levels x",
+        "encode - - --levels 4294967296",
+        "encode - - --order LCRP",
+        "encode - - --reduce 1",
+        "decode - - --levels 1",
+        "cut - - --x 0 --y 0 --w 1",
+        "serve d",
+        "serve d --port 65536",
+        "faults x",
+        "info",
+        "--explain",
+    ] {
+        let mut world = Memory::new(alloc, bytes_of(alloc, &[GREY])?);
+        let status = run_line(alloc, &mut world, line)?;
+        assert_eq!(rt; status, Status::WrongLine, "{line}");
+        assert_eq!(rt; world.output.len(), 0, "{line}");
+        assert!(rt; !world.error.is_empty(), "{line}");
+    }
+    for line in ["--help", "--version", "encode --help", "faults"] {
+        let mut world = Memory::new(alloc, bytes_of(alloc, &[GREY])?);
+        assert_eq!(rt; run_line(alloc, &mut world, line)?, Status::Done, "{line}");
+        assert!(rt; !world.output.is_empty(), "{line}");
+        assert_eq!(rt; world.error.len(), 0, "{line}");
+        world.is_full = true;
+        assert_eq!(rt;
+            run_line(alloc, &mut world, line)?,
+            Status::Refused,
+            "{line}"
+        );
+        assert!(rt; world.error.as_str() == "jk: F20 Shelf\n", "{line}");
+    }
+    assert_eq!(rt; Status::Done.code(), 0);
+    assert_eq!(rt; Status::Refused.code(), 1);
+    assert_eq!(rt; Status::WrongLine.code(), 2);
+    Ok(())
+}

@@ -1,0 +1,150 @@
+//! A world in memory.
+
+use jk_line::{Serving, World, listening};
+use jk_math::Fault;
+use jk_store::{Archive, MemoryShelf};
+use std::alloc::Global;
+use std::collections::BTreeMap;
+use std::fmt::Display;
+use std::io::{self, ErrorKind};
+
+/// Files, folders and streams in memory.
+#[derive(Drop)]
+pub(crate) struct Memory {
+    pub(crate) alloc: Global,
+    pub(crate) files: BTreeMap<String, Vec<u8>>,
+    pub(crate) folders: BTreeMap<String, MemoryShelf>,
+    pub(crate) input: Vec<u8>,
+    pub(crate) output: Vec<u8>,
+    pub(crate) error: String,
+    pub(crate) is_terminal: bool,
+    pub(crate) is_full: bool,
+    said: Option<io::Error>,
+}
+
+impl Memory {
+    /// A world of this standard input.
+    pub(crate) fn new(alloc: Global, input: Vec<u8>) -> Memory {
+        Memory {
+            alloc,
+            files: BTreeMap::new(alloc),
+            folders: BTreeMap::new(alloc),
+            input,
+            output: Vec::new(alloc),
+            error: String::new(alloc),
+            is_terminal: false,
+            is_full: false,
+            said: None,
+        }
+    }
+
+    /// The fault of a refused call, of which this is said.
+    fn refused(&mut self, kind: ErrorKind) -> Fault {
+        self.said = Some(io::Error::from(kind));
+        Fault::Shelf
+    }
+
+    /// Appends a text to standard error.
+    fn append<D: Display>(&mut self, text: &D) -> Result<(), Fault> {
+        let text = format!(in self.alloc; "{text}")?;
+        self.error.push_str(text.as_str())?;
+        Ok(())
+    }
+
+    /// Appends bytes to standard output, unless it is full.
+    fn put(&mut self, bytes: &[u8]) -> Result<(), Fault> {
+        if self.is_full {
+            return Err(self.refused(ErrorKind::StorageFull));
+        }
+        self.output.extend_from_slice(bytes)?;
+        Ok(())
+    }
+}
+
+impl World for Memory {
+    type Folder = MemoryShelf;
+
+    fn read(&mut self, alloc: Global, name: &str) -> Result<Vec<u8>, Fault> {
+        if name == "-" {
+            return Ok(Vec::from_slice(alloc, &self.input)?);
+        }
+        if let Some(bytes) = self.files.get(name) {
+            return Ok(Vec::from_slice(alloc, bytes)?);
+        }
+        Err(self.refused(ErrorKind::NotFound))
+    }
+
+    fn write(&mut self, alloc: Global, name: &str, bytes: &[u8]) -> Result<(), Fault> {
+        if name == "-" {
+            return self.put(bytes);
+        }
+        if name.contains('/') {
+            return Err(self.refused(ErrorKind::NotFound));
+        }
+        let copy = Vec::from_slice(alloc, bytes)?;
+        self.files.insert(String::from_str(alloc, name)?, copy)?;
+        Ok(())
+    }
+
+    fn print<D: Display>(&mut self, text: &D) -> Result<(), Fault> {
+        let text = format!(in self.alloc; "{text}")?;
+        self.put(text.as_bytes())
+    }
+
+    fn tell<D: Display>(&mut self, text: &D) {
+        let _ = self.append(text);
+    }
+
+    fn is_terminal(&self) -> bool {
+        self.is_terminal
+    }
+
+    fn said(&self) -> Option<io::Error> {
+        self.said
+    }
+
+    fn lock(&mut self, _alloc: Global, _folder: &str) -> Result<(), Fault> {
+        Ok(())
+    }
+
+    fn share(&mut self, _alloc: Global, _folder: &str) -> Result<(), Fault> {
+        Ok(())
+    }
+
+    fn release(&mut self) {}
+
+    fn folder(&mut self, _alloc: Global, folder: &str) -> Result<MemoryShelf, Fault> {
+        match self.folders.remove(folder) {
+            Some(shelf) => Ok(shelf),
+            None => Err(self.refused(ErrorKind::NotFound)),
+        }
+    }
+
+    fn give_back(&mut self, alloc: Global, name: &str, folder: MemoryShelf) -> Result<(), Fault> {
+        self.folders.insert(String::from_str(alloc, name)?, folder)?;
+        Ok(())
+    }
+
+    fn trouble(&mut self, _alloc: Global, _folder: &MemoryShelf) -> Option<String> {
+        None
+    }
+
+    fn tell_others(&mut self, _folder: &MemoryShelf) {}
+
+    fn tell_left(&mut self, _folder: &MemoryShelf) {}
+
+    fn serve(
+        &mut self,
+        alloc: Global,
+        archive: &mut Archive<MemoryShelf>,
+        serving: Serving,
+    ) -> Result<(), Fault> {
+        if serving.port == 1 {
+            return Err(self.refused(ErrorKind::AddrInUse));
+        }
+        let line = listening(alloc, archive.list().len(), serving.port)?;
+        self.append(&line)?;
+        let connections = format!(in alloc; "{:?}", serving.connections)?;
+        self.append(&connections)
+    }
+}
