@@ -6,6 +6,7 @@ use jk_line::{Status, run};
 use jk_store::{MemoryShelf, Shelf};
 use std::alloc::Global;
 use std::process::Abort;
+use std::str::Split;
 use std::test::Fail;
 
 /// A PGM file of one pixel, 128.
@@ -43,6 +44,11 @@ static FOUR: &str =
 static FOUR_PART: &str = "FF90 000A 0000 00000018 00 01 FF93 C0 21 03 C0 10 A0 04 20 03 07 FFD9";
 
 static WINDOW_PART: &str = "FF90 000A 0000 00000012 00 01 FF93 C0 21 03 00 FFD9";
+
+/// The beginning of a codestream with the irreversible transform.
+static NINE_SEVEN: &str =
+    "FF4F FF51 0029 0000 00000001 00000001 00000000 00000000 00000001 00000001 \
+00000000 00000000 0001 07 01 01 FF52 000C 00 00 0001 00 00 04 04 00 00";
 
 /// The words of a command line.
 fn words(alloc: Global, line: &str) -> Result<Vec<String>, Fail> {
@@ -99,121 +105,53 @@ fn check_fault(
     Ok(())
 }
 
-/// What each option of an encoding changes: the segments, Psot and the packets, as T.800 A.4 to A.6
-/// have them.
+/// What each option of an encoding changes, a line for each: the options; what they change of SIZ, of COD and of QCD, and
+/// nothing where it is as without them; Psot and the packets (T.800 A.4 to A.6).
+static OPTIONS: &str = "\
+--levels 0||||0000000F 00 01 FF93 00
+--levels 1||FF52 000C 00 00 0001 00 01 04 04 00 01|FF5C 0007 40 40 48 48 50|00000010 00 01 FF93 00 00
+--levels 0 --layers 2||FF52 000C 00 00 0002 00 00 04 04 00 01||00000010 00 01 FF93 00 00
+--levels 0 --order LRCP||||0000000F 00 01 FF93 00
+--levels 0 --order RLCP||FF52 000C 00 01 0001 00 00 04 04 00 01||0000000F 00 01 FF93 00
+--levels 0 --order RPCL||FF52 000C 00 02 0001 00 00 04 04 00 01||0000000F 00 01 FF93 00
+--levels 0 --order PCRL||FF52 000C 00 03 0001 00 00 04 04 00 01||0000000F 00 01 FF93 00
+--levels 0 --order CPRL||FF52 000C 00 04 0001 00 00 04 04 00 01||0000000F 00 01 FF93 00
+--levels 0 --sop||FF52 000C 02 00 0001 00 00 04 04 00 01||00000015 00 01 FF93 FF91 0004 0000 00
+--levels 0 --eph||FF52 000C 04 00 0001 00 00 04 04 00 01||00000011 00 01 FF93 00 FF92
+--levels 0 --block-x 3||FF52 000C 00 00 0001 00 00 01 04 00 01||0000000F 00 01 FF93 00
+--levels 0 --block-y 4||FF52 000C 00 00 0001 00 00 04 02 00 01||0000000F 00 01 FF93 00
+--levels 0 --precincts 1f||FF52 000D 01 00 0001 00 00 04 04 00 01 1F||0000000F 00 01 FF93 00
+--levels 0 --x0 5|FF51 0029 0000 00000006 00000001 00000005 00000000 \
+00000006 00000001 00000000 00000000 0001 07 01 01|||0000000F 00 01 FF93 00
+--levels 0 --y0 7|FF51 0029 0000 00000001 00000008 00000000 00000007 \
+00000001 00000008 00000000 00000000 0001 07 01 01|||0000000F 00 01 FF93 00
+--levels 0 --tile-width 3 --tile-height 4|FF51 0029 0000 00000001 00000001 00000000 00000000 \
+00000003 00000004 00000000 00000000 0001 07 01 01|||0000000F 00 01 FF93 00";
+
+/// The next field of a line, or what stands where it is empty.
+fn field<'a>(fields: &mut Split<'a, char>, other: &'a str) -> &'a str {
+    match fields.next() {
+        Some("") | None => other,
+        Some(field) => field,
+    }
+}
+
 #[test]
 fn options_change_their_fields(rt: HostRuntime) -> Result<(), Fail> {
     let alloc = rt.alloc();
-    for (options, siz, cod, qcd, part) in [
-        ("--levels 0", SIZE, CODING, STEPS, "0000000F 00 01 FF93 00"),
-        (
-            "--levels 1",
-            SIZE,
-            "FF52 000C 00 00 0001 00 01 04 04 00 01",
-            "FF5C 0007 40 40 48 48 50",
-            "00000010 00 01 FF93 00 00",
-        ),
-        (
-            "--levels 0 --layers 2",
-            SIZE,
-            "FF52 000C 00 00 0002 00 00 04 04 00 01",
-            STEPS,
-            "00000010 00 01 FF93 00 00",
-        ),
-        (
-            "--levels 0 --order LRCP",
-            SIZE,
-            CODING,
-            STEPS,
-            "0000000F 00 01 FF93 00",
-        ),
-        (
-            "--levels 0 --order RLCP",
-            SIZE,
-            "FF52 000C 00 01 0001 00 00 04 04 00 01",
-            STEPS,
-            "0000000F 00 01 FF93 00",
-        ),
-        (
-            "--levels 0 --order RPCL",
-            SIZE,
-            "FF52 000C 00 02 0001 00 00 04 04 00 01",
-            STEPS,
-            "0000000F 00 01 FF93 00",
-        ),
-        (
-            "--levels 0 --order PCRL",
-            SIZE,
-            "FF52 000C 00 03 0001 00 00 04 04 00 01",
-            STEPS,
-            "0000000F 00 01 FF93 00",
-        ),
-        (
-            "--levels 0 --order CPRL",
-            SIZE,
-            "FF52 000C 00 04 0001 00 00 04 04 00 01",
-            STEPS,
-            "0000000F 00 01 FF93 00",
-        ),
-        (
-            "--levels 0 --sop",
-            SIZE,
-            "FF52 000C 02 00 0001 00 00 04 04 00 01",
-            STEPS,
-            "00000015 00 01 FF93 FF91 0004 0000 00",
-        ),
-        (
-            "--levels 0 --eph",
-            SIZE,
-            "FF52 000C 04 00 0001 00 00 04 04 00 01",
-            STEPS,
-            "00000011 00 01 FF93 00 FF92",
-        ),
-        (
-            "--levels 0 --block-x 3",
-            SIZE,
-            "FF52 000C 00 00 0001 00 00 01 04 00 01",
-            STEPS,
-            "0000000F 00 01 FF93 00",
-        ),
-        (
-            "--levels 0 --block-y 4",
-            SIZE,
-            "FF52 000C 00 00 0001 00 00 04 02 00 01",
-            STEPS,
-            "0000000F 00 01 FF93 00",
-        ),
-        (
-            "--levels 0 --precincts 1f",
-            SIZE,
-            "FF52 000D 01 00 0001 00 00 04 04 00 01 1F",
-            STEPS,
-            "0000000F 00 01 FF93 00",
-        ),
-        (
-            "--levels 0 --x0 5",
-            "FF51 0029 0000 00000006 00000001 00000005 00000000 00000006 00000001 00000000 00000000 0001 07 01 01",
-            CODING,
-            STEPS,
-            "0000000F 00 01 FF93 00",
-        ),
-        (
-            "--levels 0 --y0 7",
-            "FF51 0029 0000 00000001 00000008 00000000 00000007 00000001 00000008 00000000 00000000 0001 07 01 01",
-            CODING,
-            STEPS,
-            "0000000F 00 01 FF93 00",
-        ),
-        (
-            "--levels 0 --tile-width 3 --tile-height 4",
-            "FF51 0029 0000 00000001 00000001 00000000 00000000 00000003 00000004 00000000 00000000 0001 07 01 01",
-            CODING,
-            STEPS,
-            "0000000F 00 01 FF93 00",
-        ),
-    ] {
+    for row in OPTIONS.split('\n') {
+        let mut fields = row.split('|');
+        let options = field(&mut fields, "");
+        let file = [
+            "FF4F",
+            field(&mut fields, SIZE),
+            field(&mut fields, CODING),
+            field(&mut fields, STEPS),
+            "FF90 000A 0000",
+            field(&mut fields, ""),
+            "FFD9",
+        ];
         let line = format!(in alloc; "encode - - --raw {options}")?;
-        let file = ["FF4F", siz, cod, qcd, "FF90 000A 0000", part, "FFD9"];
         check_output(&rt, alloc, line.as_str(), &[GREY], &file)?;
     }
     Ok(())
@@ -274,123 +212,82 @@ fn commands_write_their_output(rt: HostRuntime) -> Result<(), Fail> {
     )
 }
 
-/// Of two faults the one that is found first is answered.
+/// Command lines that answer a fault, a line for each: the command, its input, if that isn't the grey pixel, and the fault.
+/// Of two faults the one that is found first is answered: of options, the input, its grammar, its place, the output; where
+/// an image is added, of options, the input, its grammar, the folder, the name, the place.
+static FAULTS: &str = "\
+encode no - --layers 65536||F15 BadParameters
+encode no - --tile-width 1||F15 BadParameters
+encode no - --precincts 1g||F15 BadParameters
+encode no - --precincts 1||F15 BadParameters
+encode no - --levels 6||F20 Shelf
+encode - a/b --x0 4294967295|5035|F14 BadPnm
+encode - a/b --x0 2147483647||F15 BadParameters
+encode - a/b --levels 6||F15 BadParameters
+encode - a/b||F20 Shelf
+decode no a/b --reduce 9||F20 Shelf
+decode - a/b --reduce 2|column|F16 BadWindow
+decode - a/b|column|F20 Shelf
+info -|FF4F|F2 Truncated
+cut - a/b --x 1 --y 0 --w 1 --h 1|FF4F|F2 Truncated
+cut - a/b --x 1 --y 0 --w 1 --h 1|column|F16 BadWindow
+add no A no --layers 65536||F15 BadParameters
+add no A no||F20 Shelf
+add no A -|5035|F14 BadPnm
+add no A -||F20 Shelf
+add d A - --x0 2147483647||F19 BadName
+add d c - --x0 2147483647||F18 NameTaken
+add d b - --x0 2147483647||F15 BadParameters
+add d b - --levels 6||F15 BadParameters
+serve no --port 0||F20 Shelf";
+
+/// The same of lines that ask for the cause, which stands behind the fault.
+static CAUSES: &str = "\
+encode - - --explain --levels 6||F15 BadParameters|--levels is 6, and may be 0 to 5
+encode - - --explain --tile-width 3||F15 BadParameters|--tile-width is given without --tile-height
+encode - - --explain --block-x 7||F15 BadParameters|\
+--block-x and --block-y are 7 and 6, and may be 12 at most in all
+encode - - --explain --precincts 1x||F15 BadParameters|\
+--precincts is 1x, and may have pairs of hexadecimal digits
+add d A - --explain||F19 BadName|A isn't 1 to 64 of the characters a to z, 0 to 9, - and _
+add d c - --explain||F18 NameTaken|d has a file c.jp2
+info no --explain||F20 Shelf|no can't be read: entity not found
+decode - - --explain --reduce 2|column|F16 BadWindow|\
+a reduction past the least number of levels, or a window or reduced image without a sample
+decode - - --explain|nine|F6 Unsupported|the file has the irreversible transform 9/7";
+
+/// The bytes of an input, by its name or as they are.
+fn input_of<'a>(name: &'a str) -> &'a str {
+    match name {
+        "column" => COLUMN,
+        "nine" => NINE_SEVEN,
+        _ => name,
+    }
+}
+
 #[test]
 fn faults_come_in_order(rt: HostRuntime) -> Result<(), Fail> {
     let alloc = rt.alloc();
-    for (line, input, error) in [
-        // options, the input, its grammar, its place, the output
-        (
-            "encode no - --layers 65536",
-            GREY,
-            "jk: F15 BadParameters\n",
-        ),
-        (
-            "encode no - --tile-width 1",
-            GREY,
-            "jk: F15 BadParameters\n",
-        ),
-        (
-            "encode no - --precincts 1g",
-            GREY,
-            "jk: F15 BadParameters\n",
-        ),
-        ("encode no - --precincts 1", GREY, "jk: F15 BadParameters\n"),
-        ("encode no - --levels 6", GREY, "jk: F20 Shelf\n"),
-        ("encode - a/b --x0 4294967295", "5035", "jk: F14 BadPnm\n"),
-        (
-            "encode - a/b --x0 2147483647",
-            GREY,
-            "jk: F15 BadParameters\n",
-        ),
-        ("encode - a/b --levels 6", GREY, "jk: F15 BadParameters\n"),
-        ("encode - a/b", GREY, "jk: F20 Shelf\n"),
-        ("decode no a/b --reduce 9", COLUMN, "jk: F20 Shelf\n"),
-        ("decode - a/b --reduce 2", COLUMN, "jk: F16 BadWindow\n"),
-        ("decode - a/b", COLUMN, "jk: F20 Shelf\n"),
-        ("info -", "FF4F", "jk: F2 Truncated\n"),
-        (
-            "cut - a/b --x 1 --y 0 --w 1 --h 1",
-            "FF4F",
-            "jk: F2 Truncated\n",
-        ),
-        (
-            "cut - a/b --x 1 --y 0 --w 1 --h 1",
-            COLUMN,
-            "jk: F16 BadWindow\n",
-        ),
-        // options, the input, its grammar, the folder, the name, the place
-        (
-            "add no A no --layers 65536",
-            GREY,
-            "jk: F15 BadParameters\n",
-        ),
-        ("add no A no", GREY, "jk: F20 Shelf\n"),
-        ("add no A -", "5035", "jk: F14 BadPnm\n"),
-        ("add no A -", GREY, "jk: F20 Shelf\n"),
-        ("add d A - --x0 2147483647", GREY, "jk: F19 BadName\n"),
-        ("add d c - --x0 2147483647", GREY, "jk: F18 NameTaken\n"),
-        ("add d b - --x0 2147483647", GREY, "jk: F15 BadParameters\n"),
-        ("add d b - --levels 6", GREY, "jk: F15 BadParameters\n"),
-        ("serve no --port 0", GREY, "jk: F20 Shelf\n"),
-    ] {
-        check_fault(&rt, alloc, line, input, error)?;
+    for row in FAULTS.split('\n') {
+        let mut fields = row.split('|');
+        let line = field(&mut fields, "");
+        let input = input_of(field(&mut fields, GREY));
+        let error = format!(in alloc; "jk: {}\n", field(&mut fields, ""))?;
+        check_fault(&rt, alloc, line, input, error.as_str())?;
     }
     Ok(())
 }
 
-/// A second line says the cause of a fault, where it is asked for.
 #[test]
 fn causes_are_told(rt: HostRuntime) -> Result<(), Fail> {
     let alloc = rt.alloc();
-    for (line, input, error) in [
-        (
-            "encode - - --explain --levels 6",
-            GREY,
-            "jk: F15 BadParameters\n--levels is 6, and may be 0 to 5\n",
-        ),
-        (
-            "encode - - --explain --tile-width 3",
-            GREY,
-            "jk: F15 BadParameters\n--tile-width is given without --tile-height\n",
-        ),
-        (
-            "encode - - --explain --block-x 7",
-            GREY,
-            "jk: F15 BadParameters\n--block-x and --block-y are 7 and 6, and may be 12 at most in all\n",
-        ),
-        (
-            "encode - - --explain --precincts 1x",
-            GREY,
-            "jk: F15 BadParameters\n--precincts is 1x, and may have pairs of hexadecimal digits\n",
-        ),
-        (
-            "add d A - --explain",
-            GREY,
-            "jk: F19 BadName\nA isn't 1 to 64 of the characters a to z, 0 to 9, - and _\n",
-        ),
-        (
-            "add d c - --explain",
-            GREY,
-            "jk: F18 NameTaken\nd has a file c.jp2\n",
-        ),
-        (
-            "info no --explain",
-            GREY,
-            "jk: F20 Shelf\nno can't be read: entity not found\n",
-        ),
-        (
-            "decode - - --explain --reduce 2",
-            COLUMN,
-            "jk: F16 BadWindow\na reduction past the least number of levels, or a window or reduced image without a sample\n",
-        ),
-        (
-            "decode - - --explain",
-            "FF4F FF51 0029 0000 00000001 00000001 00000000 00000000 00000001 00000001 00000000 00000000 0001 07 01 01 FF52 000C 00 00 0001 00 00 04 04 00 00",
-            "jk: F6 Unsupported\nthe file has the irreversible transform 9/7\n",
-        ),
-    ] {
-        check_fault(&rt, alloc, line, input, error)?;
+    for row in CAUSES.split('\n') {
+        let mut fields = row.split('|');
+        let line = field(&mut fields, "");
+        let input = input_of(field(&mut fields, GREY));
+        let fault = field(&mut fields, "");
+        let error = format!(in alloc; "jk: {fault}\n{}\n", field(&mut fields, ""))?;
+        check_fault(&rt, alloc, line, input, error.as_str())?;
     }
     Ok(())
 }
@@ -442,27 +339,28 @@ fn archives_grow(rt: HostRuntime) -> Result<(), Fail> {
     Ok(())
 }
 
+/// Wrong command lines, the first of them empty.
+static WRONG: &str = "
+copy a b
+encode -
+encode - - -
+encode - - --levels x
+encode - - --levels 4294967296
+encode - - --order LCRP
+encode - - --reduce 1
+decode - - --levels 1
+cut - - --x 0 --y 0 --w 1
+serve d
+serve d --port 65536
+faults x
+info
+--explain";
+
 /// Wrong command lines, and what is asked of the program itself.
 #[test]
 fn lines_are_judged(rt: HostRuntime) -> Result<(), Fail> {
     let alloc = rt.alloc();
-    for line in [
-        "",
-        "copy a b",
-        "encode -",
-        "encode - - -",
-        "encode - - --levels x",
-        "encode - - --levels 4294967296",
-        "encode - - --order LCRP",
-        "encode - - --reduce 1",
-        "decode - - --levels 1",
-        "cut - - --x 0 --y 0 --w 1",
-        "serve d",
-        "serve d --port 65536",
-        "faults x",
-        "info",
-        "--explain",
-    ] {
+    for line in WRONG.split('\n') {
         let mut world = Memory::new(alloc, bytes_of(alloc, &[GREY])?);
         let status = run_line(alloc, &mut world, line)?;
         assert_eq!(rt; status, Status::WrongLine, "{line}");
