@@ -114,6 +114,81 @@ fn images(rt: HostRuntime) -> Result<(), Fail> {
     Ok(())
 }
 
+/// What an image of 3 by 2 is refused for whose planes have these samples.
+fn refusal(
+    alloc: Global,
+    (depth, signed): (u8, bool),
+    planes: &[&[i32]],
+) -> Result<Option<Fault>, Fail> {
+    let mut given = Vec::new(alloc);
+    for plane in planes {
+        given.push(Vec::from_slice(alloc, plane)?)?;
+    }
+    Ok(Image::new(0, 0, 3, 2, depth, signed, given).err())
+}
+
+/// A depth, whether samples have a sign, and planes of which the last one alone is wrong, where any is.
+static PLANES: [(u8, bool, &[&[i32]], Option<Fault>); 16] = [
+    (4, false, &[&[0, 0, 0, 0, 0, 15]], None),
+    (4, true, &[&[0, 0, 0, 0, 0, 7], &[0, 0, 0, 0, 0, -8]], None),
+    (4, false, &[&[0; 6], &[0; 6], &[0; 6], &[15; 6]], None),
+    (4, false, &[], Some(Fault::BadParameters)),
+    (
+        4,
+        false,
+        &[&[0; 6], &[0; 6], &[0; 6], &[0; 6], &[0; 6]],
+        Some(Fault::BadParameters),
+    ),
+    (4, false, &[&[0; 5]], Some(Fault::BadParameters)),
+    (4, false, &[&[0; 7]], Some(Fault::BadParameters)),
+    (4, false, &[&[]], Some(Fault::BadParameters)),
+    (4, false, &[&[0; 6], &[0; 5]], Some(Fault::BadParameters)),
+    (
+        4,
+        false,
+        &[&[0; 6], &[0; 6], &[0; 7]],
+        Some(Fault::BadParameters),
+    ),
+    (
+        4,
+        false,
+        &[&[0, 0, 0, 0, 0, 16]],
+        Some(Fault::BadParameters),
+    ),
+    (
+        4,
+        false,
+        &[&[0, 0, 0, 0, 0, -1]],
+        Some(Fault::BadParameters),
+    ),
+    (4, true, &[&[0, 0, 0, 0, 0, 8]], Some(Fault::BadParameters)),
+    (4, true, &[&[0, 0, 0, 0, 0, -9]], Some(Fault::BadParameters)),
+    (
+        4,
+        false,
+        &[&[0; 6], &[0; 6], &[0; 6], &[0, 0, 0, 0, 0, 16]],
+        Some(Fault::BadParameters),
+    ),
+    (
+        16,
+        false,
+        &[
+            &[65_535; 6],
+            &[65_535, 65_535, 65_535, 65_535, 65_535, 65_536],
+        ],
+        Some(Fault::BadParameters),
+    ),
+];
+
+#[test]
+fn planes_of_images(rt: HostRuntime) -> Result<(), Fail> {
+    for (depth, signed, planes, due) in PLANES {
+        let answer = refusal(rt.alloc(), (depth, signed), planes)?;
+        assert_eq!(rt; answer, due, "{depth} {signed} {}", planes.len());
+    }
+    Ok(())
+}
+
 #[test]
 fn ranges(rt: HostRuntime) {
     assert_eq!(rt; sample_range(1, false), (0, 1));

@@ -52,10 +52,10 @@ fn nearly_too_many(rt: HostRuntime) -> Result<(), Fail> {
 fn no_precincts(rt: HostRuntime) -> Result<(), Fail> {
     let none = wide_tile(0);
     assert_eq!(rt; packet_count(&none), 0);
-    if let Ok(packets) = Packets::new(&none) {
-        let mut packets = packets;
-        assert_eq!(rt; packets.next(), None);
-        assert_eq!(rt; packets.next(), None);
-    }
+    let Ok(mut packets) = Packets::new(&none) else {
+        return Err("an order without packets".into());
+    };
+    assert_eq!(rt; packets.next(), None);
+    assert_eq!(rt; packets.next(), None);
     Ok(())
 }

@@ -153,25 +153,94 @@ fn another_file(rt: HostRuntime) -> Result<(), Fail> {
     Ok(())
 }
 
-/// How many packets are an SOP, a header of the bit 0, and an EPH.
-fn empty_packets(bytes: &[u8]) -> usize {
-    let mut count: usize = 0;
-    for piece in bytes.windows(9) {
-        if piece.starts_with(&[0xFF, 0x91, 0, 4]) && piece.ends_with(&[0, 0xFF, 0x92]) {
-            count = count.saturating_add(1);
+/// Where the packets of a file begin, each at its SOP, and behind the last one where they end, at EOC.
+fn packet_places(alloc: Global, bytes: &[u8]) -> Result<Vec<usize>, Fail> {
+    let mut places = Vec::new(alloc);
+    for (place, piece) in bytes.windows(4).enumerate() {
+        if piece.starts_with(&[0xFF, 0x91, 0, 4]) {
+            places.push(place)?;
         }
     }
-    count
+    places.push(bytes.len().saturating_sub(2))?;
+    Ok(places)
 }
+
+/// The bytes between two places, or none where there are no such places.
+fn between(bytes: &[u8], first: usize, end: usize) -> &[u8] {
+    if first <= end && end <= bytes.len() {
+        &bytes[first..end]
+    } else {
+        &[]
+    }
+}
+
+/// The nth of the places, or 0.
+fn nth(places: &[usize], number: usize) -> usize {
+    places.get(number).copied().unwrap_or(0)
+}
+
+/// The place of the box length of the codestream, and that of Psot, in the file of many packets.
+const BOX_LENGTH: usize = 77;
+
+const PSOT: usize = 165;
+
+/// The cut that is due of a file of 84 precincts and 3 layers in LRCP, where of each layer the packets with these numbers
+/// stay: all others are their SOP with its counter, a byte 00 and EPH. And how many these are.
+fn due_cut(alloc: Global, file: &[u8], kept: &[usize]) -> Result<(Vec<u8>, usize), Fail> {
+    let places = packet_places(alloc, file)?;
+    let mut packets = Vec::new(alloc);
+    let mut emptied: usize = 0;
+    for number in 0..252 {
+        if kept.iter().any(|k| *k == number % 84) {
+            packets.extend_from_slice(between(
+                file,
+                nth(&places, number),
+                nth(&places, number + 1),
+            ))?;
+        } else {
+            packets.extend_from_slice(&[0xFF, 0x91, 0, 4, 0, number as u8, 0, 0xFF, 0x92])?;
+            emptied = emptied.saturating_add(1);
+        }
+    }
+    let front = nth(&places, 0);
+    let file_length = front.saturating_add(packets.len()).saturating_add(2);
+    let box_length = file_length.saturating_sub(BOX_LENGTH);
+    // From SOT, which stands 6 bytes before Psot, to the end of the packets.
+    let part_length = file_length.saturating_sub(PSOT).saturating_add(4);
+    let mut due = Vec::new(alloc);
+    due.extend_from_slice(between(file, 0, BOX_LENGTH))?;
+    due.extend_from_slice(&(box_length.min(65_535) as u32).to_be_bytes())?;
+    due.extend_from_slice(between(file, BOX_LENGTH + 4, PSOT))?;
+    due.extend_from_slice(&(part_length.min(65_535) as u32).to_be_bytes())?;
+    due.extend_from_slice(between(file, PSOT + 4, front))?;
+    due.extend_from_slice(&packets)?;
+    due.extend_from_slice(&[0xFF, 0xD9])?;
+    Ok((due, emptied))
+}
+
+/// What stays of each layer in a view of 3 by 3 samples at the upper left corner: the first precinct of each of the three
+/// resolutions, which have 4, 16 and 64 precincts.
+static OF_CORNER: [usize; 3] = [0, 4, 20];
+
+/// What stays in a view of 3 by 3 samples at (8, 8). It depends on the places 3 to 6 of the lower, 3 to 5 of the higher parts
+/// of resolution 2, and so on the precincts 0 and 1 across and down of eight; of these places on 1 to 4 and 0 to 3 of
+/// resolution 1, where no precinct but the first has higher parts that are needed both ways, so 0, 1 and 4 of four across;
+/// and so on the first precinct of resolution 0.
+static OF_INNER: [usize; 8] = [0, 4, 5, 8, 20, 21, 28, 29];
 
 #[test]
 fn many_packets(rt: HostRuntime) -> Result<(), Fail> {
     let alloc = rt.alloc();
     let file = bytes_of(alloc, &[MANY])?;
+    assert_eq!(rt; packet_places(alloc, &file)?.len(), 253);
+    let (due, emptied) = due_cut(alloc, &file, &OF_CORNER)?;
+    assert_eq!(rt; emptied, 243);
     let corner = cut_of(alloc, &file, view(0, 0, 0, 3, 3))??;
-    assert_eq!(rt; (corner.len(), empty_packets(&corner)), (2505, 244));
+    assert_eq!(rt; corner.as_slice(), due.as_slice());
+    let (due, emptied) = due_cut(alloc, &file, &OF_INNER)?;
+    assert_eq!(rt; emptied, 228);
     let inner = cut_of(alloc, &file, view(0, 8, 8, 3, 3))??;
-    assert_eq!(rt; (inner.len(), empty_packets(&inner)), (2628, 230));
+    assert_eq!(rt; inner.as_slice(), due.as_slice());
     let again = cut_of(alloc, &inner, view(0, 8, 8, 3, 3))??;
     assert_eq!(rt; again.as_slice(), inner.as_slice());
     Ok(())
