@@ -1,4 +1,4 @@
--- The laws that crates above cite: where a file is opened, that a file that holds a codestream is opened there, and that a JP2 file with
--- other contents in its codestream box holds these.
+-- The laws that crates above cite: where a file is opened, that a file that holds a codestream is opened there, and that a JP2 file that
+-- is written for a codestream, or gets other contents in its codestream box, holds these.
 pub use Rattle.jk_boxes.proofs.FileLaws.{Opened, OpensAt, boxes_take, boxes_again, place_again}
-pub use Rattle.jk_boxes.proofs.WrittenLaws.{recoded_holds}
+pub use Rattle.jk_boxes.proofs.WrittenLaws.{recoded_holds, wrapped_holds}

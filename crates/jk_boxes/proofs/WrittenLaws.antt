@@ -12,7 +12,7 @@ use Rattle.jk_boxes.specs.declared.place.CodePlace.{CodePlace}
 use Rattle.jk_boxes.specs.declared.place.Boxed.{Boxed}
 use Rattle.jk_boxes.specs.Boxes.{Box, head_size, head_text, box_size, box_text, boxes_text, signature, soc, FitsForm, IsBox, AreBoxes, IsFileType, IsHeaderBox, IsJp2, image_header_kind, colour_kind, palette_kind, code_kind, jp2_brand}
 use Rattle.jk_boxes.specs.Reading.{jp2_at, boxes_at}
-use Rattle.jk_boxes.specs.Written.{file_type_box, image_header_of, colour_box, header_box, form_for, code_box, is_wrapped, wrapped, fits_form, recoded}
+use Rattle.jk_boxes.specs.Written.{file_type_box, image_header_of, colour_box, header_box, form_for, code_box, code_head, is_wrapped, wrapped, fits_form, recoded}
 use Rattle.jk_boxes.specs.Replacing.{replaced_at, replaced}
 use Rattle.jk_boxes.proofs.Heads.{box_length}
 use Rattle.jk_boxes.proofs.WalkLaws.{text_length}
@@ -117,10 +117,10 @@ is_jp2 file b e =
       | inr w ↦ bind_then (jp2_at file) _ b w.1 (λ p s e. ap (λ (x : Boxed). x.jp2) (sym (ok_is (record { start = p.start; end = p.end; jp2 = true }) b e)) ∙ ap not (sym w.0))
     ]
 
-code_fits : (n : ℕ) → n < 2 ^ 63 → FitsForm (form_for n) (head_size (form_for n) + n)
+code_fits : (n : ℕ) → 16 + n < 2 ^ 64 → FitsForm (form_for n) (head_size (form_for n) + n)
 code_fits n small = elim (cases_lt (8 + n) (2 ^ 32)) [
   | inl h ↦ let e : ltb (8 + n) (2 ^ 32) ≡ true = lt-ltb _ _ h in rw e h
-  | inr h ↦ let e : ltb (8 + n) (2 ^ 32) ≡ false = le-ltb _ _ h in let wide : 16 + n < 2 ^ 64 = omega arith in rw e wide
+  | inr h ↦ let e : ltb (8 + n) (2 ^ 32) ≡ false = le-ltb _ _ h in rw e small
 ]
 
 is_header : (width height components depth : ℕ) → IsHeaderBox (header_box width height components depth).contents
@@ -138,7 +138,7 @@ is_header width height components depth =
 is_file_type : IsFileType file_type_box.contents
 is_file_type = record { brand = jp2_brand; version = 0; compatible = jp2_brand ∷ []; text = refl; narrow = (lit< tt, (lit< tt, (lit< tt, tt))); listed = refl }
 
-pub wrapped_holds : (p : Picture) (codestream text : List ℕ) → length codestream < 2 ^ 63 → wrapped p codestream ≡ Ok text → IsJp2 text codestream
+pub wrapped_holds : (p : Picture) (codestream text : List ℕ) → 16 + length codestream < 2 ^ 64 → wrapped p codestream ≡ Ok text → IsJp2 text codestream
 unfolding wrapped
 wrapped_holds p codestream text small e =
     let g = guard_ended (is_wrapped p) Unsupported _ text e in
@@ -180,7 +180,12 @@ replaced_holds file new text b fits e is due =
     let f = (opened_found file b fits e is).1 in
     recoded_holds file f.codestream new text f.is (sym (replaced_jp2 file f.codestream new f.is) ∙ due)
 
--- the two boxes at the front of what is written
-pub front_joined : (h c : List ℕ) → (signature ++ (box_text file_type_box ++ h)) ++ c ≡ signature ++ (box_text file_type_box ++ (h ++ (c ++ [])))
+-- what stands before the codestream, and the codestream behind it
+pub front_joined : (h codestream : List ℕ) (size : ℕ) → length codestream ≡ size
+    → ((signature ++ (box_text file_type_box ++ h)) ++ code_head size) ++ codestream ≡ signature ++ (box_text file_type_box ++ (h ++ (box_text (code_box codestream) ++ [])))
 unfolding box_text
-front_joined h c = ap (λ (x : List ℕ). signature ++ (box_text file_type_box ++ (h ++ x))) (sym (append-nil c))
+front_joined h codestream size long =
+    let before = signature ++ (box_text file_type_box ++ h) in
+    append_assoc before (code_head size) codestream
+    ∙ ap (λ n. before ++ (code_head n ++ codestream)) (sym long)
+    ∙ ap (λ (x : List ℕ). signature ++ (box_text file_type_box ++ (h ++ x))) (sym (append-nil (box_text (code_box codestream))))

@@ -6,7 +6,7 @@ use Rattle.jk_math.specs.declared.fault.Fault.{Fault}
 use Rattle.jk_math.specs.declared.fault.Fault.TheVariants.{Unsupported, Limit}
 use Rattle.jk_boxes.specs.declared.boxes.Form.{Form}
 use Rattle.jk_boxes.specs.declared.boxes.Form.TheVariants.{Short, Long, Open}
-use Rattle.jk_boxes.specs.Boxes.{Box, boxes_text, box_size, signature, jp2_brand, file_type_kind, header_kind, image_header_kind, colour_kind, code_kind, IsJp2}
+use Rattle.jk_boxes.specs.Boxes.{Box, boxes_text, box_size, head_size, head_text, signature, jp2_brand, file_type_kind, header_kind, image_header_kind, colour_kind, code_kind, IsJp2}
 
 -- BR `jp2 `, MinV 0, and `jp2 ` alone in the compatibility list (I.5.2)
 abbrev pub file_type_box : Box
@@ -38,6 +38,10 @@ form_for length = if nat_lt (8 + length) (2 ^ 32) then Short else Long
 
 abbrev pub code_box : List ℕ → Box
 code_box codestream = record { form = form_for (length codestream); kind = code_kind; contents = codestream }
+
+-- the head of its box, by the length of the codestream
+abbrev pub code_head : ℕ → List ℕ
+code_head size = let form = form_for size in head_text form code_kind (head_size form + size)
 
 abbrev pub is_wrapped : Picture → Bool
 is_wrapped p = is_grey_or_rgb (length p.planes) p.signed

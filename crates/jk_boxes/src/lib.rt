@@ -8,4 +8,4 @@ mod writing;
 
 pub use closing::close_codestream;
 pub use place::{Boxed, open};
-pub use writing::{replace_codestream, wrap};
+pub use writing::{box_front, replace_codestream, wrap};

@@ -7,7 +7,7 @@ ghost use Rattle.byteorder.specs.Endian.{big_bytes};
 ghost use Rattle.jk_math.specs.Answer.{Answers};
 ghost use Rattle.jk_boxes.specs.Boxes.{Holds, IsJp2, soc, FitsForm, box_text, boxes_text, head_size, head_text, signature};
 ghost use Rattle.jk_boxes.specs.Reading.{boxes_at};
-ghost use Rattle.jk_boxes.specs.Written.{file_type_box, header_box, image_header_of, colour_box, colour_space, form_for, code_box, is_wrapped, wrapped, fits_form, recoded};
+ghost use Rattle.jk_boxes.specs.Written.{file_type_box, header_box, image_header_of, colour_box, colour_space, code_box, code_head, is_wrapped, wrapped, fits_form, recoded};
 ghost use Rattle.jk_boxes.specs.Replacing.{replaced, replaced_at};
 
 use crate::boxes::{self, Form};
@@ -103,38 +103,39 @@ fn put_header(
     put_colour(out, components)
 }
 
-/// Appends the codestream box.
-#[tactic(auto, unfolding(crate::specs::Boxes::box_text))]
-fn put_code(out: &mut Vec<u8>, codestream: &[u8]) -> Result<(), Fault>
-    ensures ok { OnOk result (out.new.items ≡ out.old.items ++ box_text (code_box codestream.now)) }
+/// Appends the head of the codestream box, of a codestream of `size` bytes.
+fn put_code_head(out: &mut Vec<u8>, size: u64) -> Result<(), Fault>
+    requires { size + 16 < 2 ^ 64 }
+    ensures ok { OnOk result (out.new.items ≡ out.old.items ++ code_head size) }
     ensures err { IfErr result (λ e. IsMemory e) }
 {
-    if 8 + (codestream.len() as u64) < 1 << 32 {
-        put_head(out, Form::Short, boxes::CODE, 8 + codestream.len())?;
+    if 8 + size < 1 << 32 {
+        put_head(out, Form::Short, boxes::CODE, (8 + size) as usize)?;
     } else {
-        put_head(out, Form::Long, boxes::CODE, 16 + codestream.len())?;
+        put_head(out, Form::Long, boxes::CODE, (16 + size) as usize)?;
     }
-    out.extend_from_slice(codestream)?;
     Ok(())
 }
 
-/// The text of a JP2 file.
-fn jp2(
+/// The text of a JP2 file up to its codestream of `size` bytes.
+fn front(
     alloc: Global,
     width: u32,
     height: u32,
     components: u16,
     depth: u8,
-    codestream: &[u8],
+    size: u64,
 ) -> Result<Vec<u8>, Fault>
-    requires { 1 ≤ depth }
-    ensures ok { IfOk result (λ v. v.items ≡ signature ++ boxes_text (file_type_box ∷ header_box width height components depth ∷ code_box codestream.now ∷ [])) }
+    requires depth { 1 ≤ depth }
+    requires size { size + 16 < 2 ^ 64 }
+    ensures ok { IfOk result (λ v. (codestream : List ℕ) → length codestream ≡ size
+        → v.items ++ codestream ≡ signature ++ boxes_text (file_type_box ∷ header_box width height components depth ∷ code_box codestream ∷ [])) }
     ensures err { IfErr result (λ e. IsMemory e) }
 {
-    let mut out = Vec::with_capacity(alloc, codestream.len().saturating_add(93))?;
+    let mut out = Vec::with_capacity(alloc, 93)?;
     out.extend_from_slice(&FRONT)?;
     put_header(&mut out, width, height, components, depth)?;
-    put_code(&mut out, codestream)?;
+    put_code_head(&mut out, size)?;
     Ok(out)
 }
 
@@ -146,23 +147,38 @@ fn is_wrapped(image: &Image) -> bool
     !image.signed() && (components == 1 || components == 3)
 }
 
+/// What stands before the codestream in the JP2 file of an image (T.800 Annex I): the boxes before it,
+/// and the head of its own. The codestream has `size` bytes.
+///
+/// Unsupported: the image hasn't 1 or 3 unsigned components.
 #[tactic(auto, unfolding(crate::specs::Written::wrapped))]
-fn wrapping(alloc: Global, image: &Image, codestream: &[u8]) -> Result<Vec<u8>, Fault>
-    ensures { Answers (λ v. v.items) result (wrapped image.now codestream.now) }
+pub fn box_front(alloc: Global, image: &Image, size: u64) -> Result<Vec<u8>, Fault>
+    requires { size + 16 < 2 ^ 64 }
+    // With the codestream behind it, it is the file.
+    ensures { (codestream : List ℕ) → length codestream ≡ size
+        → Answers (λ v. v.items ++ codestream) result (wrapped image.now codestream) }
 {
     let width = image.width();
     if !is_wrapped(image) {
         return Err(Fault::Unsupported);
     }
     let components = image.planes().len() as u16;
-    let file = jp2(
+    let front = front(
         alloc,
         width,
         image.height(),
         components,
         image.depth(),
-        codestream,
+        size,
     )?;
+    Ok(front)
+}
+
+fn wrapping(alloc: Global, image: &Image, codestream: &[u8]) -> Result<Vec<u8>, Fault>
+    ensures { Answers (λ v. v.items) result (wrapped image.now codestream.now) }
+{
+    let mut file = box_front(alloc, image, codestream.len() as u64)?;
+    file.extend_from_slice(codestream)?;
     Ok(file)
 }
 

@@ -1,5 +1,5 @@
 -- The first layers of a file that was written mean the image that is rebuilt from the coefficients without their lowest bit-planes.
-use Rattle.std.proofs.Common.{◌≡◌, ℕ, ◌+◌, ◌-◌, ◌*◌, ◌<◌, ◌≤◌, true, List, [], ◌∷◌, length, map, get_or, Some, ℤ, pos, refl, sym, ap, ◌∙◌, subst, arith}
+use Rattle.std.proofs.Common.{◌≡◌, ℕ, ◌+◌, ◌-◌, ◌*◌, ◌<◌, ◌≤◌, true, List, [], ◌∷◌, length, get_or, Some, ℤ, pos, refl, sym, ap, ◌∙◌, subst, arith}
 use Rattle.std.specs.Prelude.{slice_range}
 use Rattle.std.specs.List.{AllByRecursion}
 use Rattle.std.proofs.lemmas.List.Elements.{All-from_get_or}
@@ -10,7 +10,6 @@ use Rattle.jk_math.specs.Raster.{raster}
 use Rattle.jk_math.proofs.Laws.{raster_length, raster_at}
 use Rattle.jk_math.specs.declared.rect.Rect.{Rect}
 use Rattle.jk_marks.specs.declared.siz.Siz.{Siz}
-use Rattle.jk_marks.specs.declared.segments.Cod.{Cod}
 use Rattle.jk_marks.specs.declared.coding.Coding.{Coding}
 use Rattle.jk_marks.specs.Siz.{tile_count}
 use Rattle.jk_marks.specs.Codestream.{codestream_text}
@@ -25,62 +24,40 @@ use Rattle.jk_params.specs.declared.parameters.Parameters.{Parameters}
 use Rattle.jk_params.specs.Headers.{Headers, TileFields, tile_in, IsHeaders, AreHeaders}
 use Rattle.jk_params.specs.Profile.{siz_of, IsWrittenBy}
 use Rattle.jk_params.proofs.Laws.{only_headers, sound_headers}
-use Rattle.jk_walk.specs.TilePackets.{Body, Packet, slice_of, shape_in, IsTile}
+use Rattle.jk_walk.specs.TilePackets.{Body, Packet, shape_in}
 use Rattle.jk_tile.specs.Fronts.{front_sample}
 use Rattle.jk_tile.specs.TileMeaning.{shown_area, IsBlockAt, DecodesLayers, DecodesTile}
 use Rattle.jk_tile.proofs.Laws.{front_decodes, one_front}
-use Rattle.jk_window.specs.Emptied.{emptied_run, kept_packet, of_layers}
 use Rattle.jk_window.specs.Indexing.{IndexFields, joined_runs, HasRuns, IsIndexOf}
 use Rattle.jk_window.specs.Again.{front_runs, AreAlike}
 use Rattle.jk_window.specs.Fronts.{front_tree}
-use Rattle.jk_window.proofs.Laws.{runs_kept, front_bodies, front_again, front_fits}
+use Rattle.jk_window.proofs.Laws.{front_bodies, front_again, front_fits}
 use Rattle.jk_code.specs.Meaning.{IsFrameOf, MeansPicture}
 use Rattle.jk_code.specs.Written.{tree_for, parts_fit}
 use Rattle.jk_code.specs.Fronts.{front_picture, HasFronts}
+use Rattle.jk_code.proofs.EmptiedTiles.{left_of, left_tile, decodes_alike}
 use Rattle.jk_code.proofs.Tiling.{tile_number}
 use Rattle.jk_code.proofs.WindowLaws.{reply_holds}
 use Rattle.jk_code.proofs.WrittenLaws.{headers_for, places_for, fields_said, headers_are, content_said, frame_is, whole_area}
 
 -- ---- a tile
 
--- what a tile's decoding depends on of its headers
-abbrev Said : Type 0
-Said = Siz × Cod × List Coding
-
-abbrev headers_with : Said → List TileFields → Headers
-headers_with s tiles = record { siz = s.0; tiles = tiles }
-
-abbrev fields_with : Said → List (ℕ × ℕ) → TileFields
-fields_with s places = record { cod = s.1; codings = s.2; data_places = places }
-
 -- A tile whose first layers decode to samples decodes to them where the others are empty.
 front_tile : (bytes new : List ℕ) (h g : Headers) (t d k : ℕ) (runs : ℕ → List (List Packet)) (samples : ℕ → ℕ → ℕ → ℤ) → AreHeaders (length bytes) h → AreAlike g h → t < tile_count h.siz
-    → HasRuns bytes h t (runs t) → HasRuns new g t (front_runs h k runs t) → DecodesLayers bytes h (tile_in h.tiles t) t d (Some k) samples → DecodesTile new g (tile_in g.tiles t) t d samples
+    → HasRuns bytes h t (runs t) → HasRuns new g t (front_runs h (λ _ _ _ _. k) runs t) → DecodesLayers bytes h (tile_in h.tiles t) t d (Some k) samples → DecodesTile new g (tile_in g.tiles t) t d samples
 front_tile bytes new h g t d k runs samples are alike lt has again is =
     let f = tile_in h.tiles t in
     let packets = joined_runs (runs t) in
-    let make = kept_packet (of_layers k) f.cod.sop f.cod.eph in
-    let left = emptied_run (of_layers k) f.cod.sop f.cod.eph packets in
-    let places = (tile_in g.tiles t).data_places in
-    let old : Said = (h.siz, f.cod, f.codings) in
-    let own : Said = (g.siz, (tile_in g.tiles t).cod, (tile_in g.tiles t).codings) in
-    let said : own ≡ old = λ i. (alike.siz i, alike.cod t lt i, alike.codings t lt i) in
-    let whole : joined_runs (front_runs h k runs t) ≡ left = runs_kept make (runs t) in
-    let tile : IsTile (shape_in h.siz f t) f.cod.sop f.cod.eph left (map (slice_of new) places) =
-    subst (λ (ps : List Packet). IsTile (shape_in h.siz (fields_with old places) t) f.cod.sop f.cod.eph ps (map (slice_of new) places)) whole
-    (subst (λ (s : Said). IsTile (shape_in s.0 (fields_with s places) t) s.1.sop s.1.eph (joined_runs (front_runs h k runs t)) (map (slice_of new) places)) said again.packets) in
     let read = one_front bytes h t k is.packets packets are lt is.tile has.packets in
-    let decoded : DecodesTile new (headers_with old g.tiles) (fields_with old places) t d samples =
-    record {
-      packets = left;
-      tile = tile;
+    decodes_alike new g h t d samples alike lt (record {
+      packets = left_of h (λ _ _ _ _. k) runs t;
+      tile = left_tile new g h t (λ _ _ _ _. k) runs alike lt again;
       coefficients = is.coefficients;
       blocks = λ c r n i j precinct low band block.
-          subst (λ (bs : List Body). IsBlockAt (tile_area h.siz t) (coding_of f.codings c) bs (is.coefficients c) r n i j) (read c r n ∙ sym (front_bodies (shape_in h.siz f t) f.cod.sop f.cod.eph packets k c r n has.packets.order precinct))
+          subst (λ (bs : List Body). IsBlockAt (tile_area h.siz t) (coding_of f.codings c) bs (is.coefficients c) r n i j) (read c r n ∙ sym (front_bodies (shape_in h.siz f t) f.cod.sop f.cod.eph packets (λ _ _ _. k) c r n has.packets.order precinct))
           (is.blocks c r n i j precinct low band block);
       shown = λ c x y some within. is.shown c x y some within;
-    } in
-    subst (λ (s : Said). DecodesTile new (headers_with s g.tiles) (fields_with s places) t d samples) (sym said) decoded
+    })
 
 -- ---- the image
 
@@ -144,7 +121,7 @@ front_shown : (p : Picture) (q : Parameters) (k : ℕ) (bytes : List ℕ) (i : I
 front_shown p q k bytes i is picture by some few text said =
     let h = i.headers in
     let new = codestream_text (front_tree is k) in
-    let again = front_again is.codestream h is.says is.runs is.tiles k in
+    let again = front_again is.codestream h is.says is.runs is.tiles (λ _ _ _ _. k) in
     let g = again.headers in
     let alike = again.alike in
     let siz : h.siz ≡ siz_of p q = ap (λ (x : Headers). x.siz) (sym said) in

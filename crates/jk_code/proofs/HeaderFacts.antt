@@ -24,7 +24,7 @@ shrinks a b p some order =
     let least : ceil_div b p ≤ c + k = ceil_least b p (c + k) some (omega (arith, covers, wide, both, order)) in
     omega (arith, least)
 
-smaller : (a b c d : ℕ) → a ≤ c → b ≤ d → a * b ≤ c * d
+pub smaller : (a b c d : ℕ) → a ≤ c → b ≤ d → a * b ≤ c * d
 smaller a b c d h g =
     let first : a * b ≤ c * b = mul-le-mul_right b h in
     let second : c * b ≤ c * d = mul-le-mul_left c g in

@@ -8,8 +8,13 @@ pub mod LoopLaws
 pub mod HeaderLaws
 pub mod PartLaws
 pub mod WrittenLaws
+pub mod EmptiedTiles
 pub mod WindowBands
 pub mod WindowTile
 pub mod WindowLaws
 pub mod FrontLaws
 mod Examples
+pub mod ViewLaws
+pub mod BeginningLaws
+pub mod SendingLaws
+pub mod ViewSteps

@@ -25,9 +25,9 @@ use Rattle.jk_walk.specs.WalkReading.{place_end, IsPlace, packets_at}
 use Rattle.jk_tile.specs.Filling.{IsPartOf}
 use Rattle.jk_tile.specs.TileMeaning.{shown_area}
 use Rattle.jk_tile.specs.TileReading.{tested, tile_planes_at, component_samples}
-use Rattle.jk_tile.proofs.Laws.{each_none, each_more, each_fails, refuses_on, tested_ok, tested_err, tile_tested, IsPut, Agrees, put_keeps, put_shows, put_here, put_there, vector_items}
+use Rattle.jk_tile.proofs.Laws.{each_none, each_more, each_fails, refuses_on, tested_ok, tested_err, tile_tested, IsPut, Agrees, put_keeps, put_at, put_here, put_there, vector_items}
 use Rattle.jk_code.specs.MeaningReading.{places_or, places_at, sample_of_tiles, tiles_tested, planes_of_tiles}
-use Rattle.jk_code.specs.Tiles.{plane_in, ArePlanes, Shows, Keeps, ShowsTileAt, AreRead}
+use Rattle.jk_code.specs.Tiles.{plane_in, ArePlanes, Shows, Keeps, ShowsTileAt, IsPartSeen, part_lists, AreRead}
 use Rattle.jk_window.specs.Views.{frame_of}
 use Rattle.jk_code.proofs.Tiling.{tile_value}
 
@@ -53,34 +53,51 @@ tile_part h t d is =
     let b = tile_bounds h.siz t in
     reduced_part (image_area h.siz) (tile_area h.siz t) d is b.0 b.1 b.2 b.3
 
+-- a place of a part
+pub within_part : (part area : Rect) (x y : ℕ) → IsPartOf part area → IsWithin part x y → IsWithin area x y
+within_part part area x y is h =
+    let hl = h.left in let hr = h.right in let hu = h.upper in let hd = h.lower in
+    record { left = omega (arith, hl, is.left); right = omega (arith, hr, is.right); upper = omega (arith, hu, is.upper); lower = omega (arith, hd, is.lower) }
+
+pub own_part : (part area : Rect) → IsPartOf part area → IsPartOf part part
+own_part part area is = record { left = omega arith; across = is.across; right = omega arith; upper = omega arith; down = is.down; lower = omega arith }
+
 -- what is put is the samples
-pub tile_agrees : (bytes : List ℕ) (h : Headers) (d t c : ℕ) (places : List PacketPlace) (values : List ℤ) → IsSiz h.siz → t < tile_count h.siz → packets_at bytes h t ≡ Ok places → values ≡ raster (shown_area h.siz t d) (component_samples bytes h t d places c)
-    → Agrees (shown_area h.siz t d) values (sample_of_tiles bytes h d c)
-tile_agrees bytes h d t c places values is lt read e x y within =
+pub tile_agrees : (bytes : List ℕ) (h : Headers) (d t c : ℕ) (part : Rect) (places : List PacketPlace) (values : List ℤ) → IsSiz h.siz → t < tile_count h.siz → packets_at bytes h t ≡ Ok places → IsPartOf part (shown_area h.siz t d)
+    → values ≡ raster part (component_samples bytes h t d places c) → Agrees part values (sample_of_tiles bytes h d c)
+tile_agrees bytes h d t c part places values is lt read inside e x y within =
+    let holds : TileHolds h.siz d t x y = record { tile = lt; place = within_part part (shown_area h.siz t d) x y inside within } in
+    ap (λ (l : List ℤ). plane_at part l x y) e
+    ∙ raster_at part (component_samples bytes h t d places c) x y (record { left = within.left; right = within.right; upper = within.upper; lower = within.lower })
+    ∙ sym (ap (λ (r : Result (List PacketPlace) Fault). component_samples bytes h t d (places_or r) c x y) read) ∙ sym (tile_value bytes h d t c x y is holds)
+
+-- of the whole tile
+own_agrees : (bytes : List ℕ) (h : Headers) (d t c : ℕ) (places : List PacketPlace) (values : List ℤ) → IsSiz h.siz → t < tile_count h.siz → packets_at bytes h t ≡ Ok places
+    → values ≡ raster (shown_area h.siz t d) (component_samples bytes h t d places c) → Agrees (shown_area h.siz t d) values (sample_of_tiles bytes h d c)
+own_agrees bytes h d t c places values is lt read e x y within =
     let holds : TileHolds h.siz d t x y = record { tile = lt; place = within } in
     ap (λ (l : List ℤ). plane_at (shown_area h.siz t d) l x y) e
     ∙ raster_at (shown_area h.siz t d) (component_samples bytes h t d places c) x y (record { left = within.left; right = within.right; upper = within.upper; lower = within.lower })
     ∙ sym (ap (λ (r : Result (List PacketPlace) Fault). component_samples bytes h t d (places_or r) c x y) read) ∙ sym (tile_value bytes h d t c x y is holds)
 
--- plane c of a tile
-shown_plane : (bytes : List ℕ) (h : Headers) (d t c : ℕ) (places : List PacketPlace) (planes : List (List ℤ)) → tile_planes_at bytes h t d places ≡ Ok planes → c < h.siz.components
-    → get_or planes c [] ≡ raster (shown_area h.siz t d) (component_samples bytes h t d places c)
-shown_plane bytes h d t c places planes e lt =
-    ap (λ (ls : List (List ℤ)). get_or ls c []) (tile_tested bytes h t d places planes e).1
-    ∙ get_or-map-range_with_len (λ i. raster (shown_area h.siz t d) (component_samples bytes h t d places i)) 0 h.siz.components c c [] lt (omega arith)
+-- plane c of a part
+shown_plane : (bytes : List ℕ) (h : Headers) (d t c : ℕ) (part : Rect) (places : List PacketPlace) (planes : List (List ℤ)) → planes ≡ part_lists bytes h t d part places → c < h.siz.components
+    → get_or planes c [] ≡ raster part (component_samples bytes h t d places c)
+shown_plane bytes h d t c part places planes e lt =
+    ap (λ (ls : List (List ℤ)). get_or ls c []) e ∙ get_or-map-range_with_len (λ i. raster part (component_samples bytes h t d places i)) 0 h.siz.components c c [] lt (omega arith)
 
-shown_count : (bytes : List ℕ) (h : Headers) (d t : ℕ) (places : List PacketPlace) (planes : List (List ℤ)) → tile_planes_at bytes h t d places ≡ Ok planes → length planes ≡ h.siz.components
-shown_count bytes h d t places planes e =
-    ap (λ (ls : List (List ℤ)). length ls) (tile_tested bytes h t d places planes e).1 ∙ length-map-range_with_len (λ i. raster (shown_area h.siz t d) (component_samples bytes h t d places i)) 0 h.siz.components
+shown_count : (bytes : List ℕ) (h : Headers) (d t : ℕ) (part : Rect) (places : List PacketPlace) (planes : List (List ℤ)) → planes ≡ part_lists bytes h t d part places → length planes ≡ h.siz.components
+shown_count bytes h d t part places planes e =
+    ap (λ (ls : List (List ℤ)). length ls) e ∙ length-map-range_with_len (λ i. raster part (component_samples bytes h t d places i)) 0 h.siz.components
 
 -- the same of vectors
-pub shown_vectors : (bytes : List ℕ) (h : Headers) (d t : ℕ) (places : List PacketPlace) (planes : List (Vec ℤ)) → tile_planes_at bytes h t d places ≡ Ok (lists_of planes) → length planes ≡ h.siz.components
-shown_vectors bytes h d t places planes e = sym (length-map planes (λ v. v.items)) ∙ shown_count bytes h d t places (lists_of planes) e
+pub shown_vectors : (bytes : List ℕ) (h : Headers) (d t : ℕ) (part : Rect) (places : List PacketPlace) (planes : List (Vec ℤ)) → lists_of planes ≡ part_lists bytes h t d part places → length planes ≡ h.siz.components
+shown_vectors bytes h d t part places planes e = sym (length-map planes (λ v. v.items)) ∙ shown_count bytes h d t part places (lists_of planes) e
 
-pub shown_vector : (bytes : List ℕ) (h : Headers) (d t c : ℕ) (places : List PacketPlace) (planes : List (Vec ℤ)) (plane : Vec ℤ) → tile_planes_at bytes h t d places ≡ Ok (lists_of planes) → c < h.siz.components → plane ≡ get_or planes c plane
-    → plane.items ≡ raster (shown_area h.siz t d) (component_samples bytes h t d places c)
-shown_vector bytes h d t c places planes plane e lt is =
-    vector_items planes c plane (let n = shown_vectors bytes h d t places planes e in omega (arith, lt, n)) is ∙ shown_plane bytes h d t c places (lists_of planes) e lt
+pub shown_vector : (bytes : List ℕ) (h : Headers) (d t c : ℕ) (part : Rect) (places : List PacketPlace) (planes : List (Vec ℤ)) (plane : Vec ℤ) → lists_of planes ≡ part_lists bytes h t d part places → c < h.siz.components → plane ≡ get_or planes c plane
+    → plane.items ≡ raster part (component_samples bytes h t d places c)
+shown_vector bytes h d t c part places planes plane e lt is =
+    vector_items planes c plane (let n = shown_vectors bytes h d t part places planes e in omega (arith, lt, n)) is ∙ shown_plane bytes h d t c part places (lists_of planes) e lt
 
 -- what is tested of a tile
 pub tile_due : (bytes : List ℕ) (h : Headers) (d t : ℕ) (places : List PacketPlace) → packets_at bytes h t ≡ Ok places → tile_planes_at bytes h t d (places_at bytes h t) ≡ tile_planes_at bytes h t d places
@@ -126,11 +143,12 @@ one_shown bytes h d places planes is one read e =
     let f : ℕ → List ℤ = λ c. raster (frame_of h d) (sample_of_tiles bytes h d c) in
     let lt : 0 < tile_count h.siz = omega (arith, one) in
     let area : shown_area h.siz 0 d ≡ frame_of h d = ap (λ (a : Rect). resolution_area a d 0) (one_tile h.siz is one) in
-    let count = shown_count bytes h d 0 places planes e in
+    let lists = (tile_tested bytes h 0 d places planes e).1 in
+    let count = shown_count bytes h d 0 (shown_area h.siz 0 d) places planes lists in
     ext_get_or [] planes (planes_of_tiles bytes h d (frame_of h d)) (count ∙ sym (length-map-range_with_len f 0 h.siz.components)) (λ c less.
     let few : c < h.siz.components = omega (arith, less, count) in
-    let plane = shown_plane bytes h d 0 c places planes e few in
-    let agrees = tile_agrees bytes h d 0 c places (get_or planes c []) is lt read plane in
+    let plane = shown_plane bytes h d 0 c (shown_area h.siz 0 d) places planes lists few in
+    let agrees = own_agrees bytes h d 0 c places (get_or planes c []) is lt read plane in
     let long = ap (λ (l : List ℤ). length l) plane ∙ raster_length (shown_area h.siz 0 d) (component_samples bytes h 0 d places c) in
     subst (λ (a : Rect). get_or planes c [] ≡ raster a (sample_of_tiles bytes h d c)) area
     (raster_is (shown_area h.siz 0 d) (get_or planes c []) (sample_of_tiles bytes h d c) long (λ x y place.
@@ -154,8 +172,8 @@ one_given bytes h d places (Err e) is one read a = tt
 
 -- ---- one plane more
 
-pub planes_put : (h : Headers) (d c : ℕ) (planes : List (Vec ℤ)) (w : Vec ℤ) → ArePlanes h d planes → c < h.siz.components → length w.items ≡ places_of (frame_of h d) → ArePlanes h d (set planes c w)
-planes_put h d c planes w is lt long = record {
+pub planes_put : (h : Headers) (a : Rect) (c : ℕ) (planes : List (Vec ℤ)) (w : Vec ℤ) → ArePlanes h a planes → c < h.siz.components → length w.items ≡ places_of a → ArePlanes h a (set planes c w)
+planes_put h a c planes w is lt long = record {
   count = length-set planes c w ∙ is.count;
   each = λ i few. elim (cases_eq i c) [
     | inl same ↦ ap (λ n. length (plane_in (set planes c w) n)) same ∙ ap (λ (l : List ℤ). length l) (put_here planes c w (omega (arith, lt, is.count))) ∙ long
@@ -163,42 +181,38 @@ planes_put h d c planes w is lt long = record {
   ];
 }
 
-pub planes_keep : (bytes : List ℕ) (h : Headers) (d c : ℕ) (planes : List (Vec ℤ)) (w : Vec ℤ) (part : Rect) (values : List ℤ) → ArePlanes h d planes → c < h.siz.components
-    → IsPut (frame_of h d) part (plane_in planes c) w.items values → Agrees part values (sample_of_tiles bytes h d c) → Keeps bytes h d planes (set planes c w)
-planes_keep bytes h d c planes w part values is lt put agrees i x y few within before = elim (cases_eq i c) [
+pub planes_keep : (bytes : List ℕ) (h : Headers) (d : ℕ) (a : Rect) (c : ℕ) (planes : List (Vec ℤ)) (w : Vec ℤ) (part : Rect) (values : List ℤ) → ArePlanes h a planes → c < h.siz.components
+    → IsPut a part (plane_in planes c) w.items values → Agrees part values (sample_of_tiles bytes h d c) → Keeps bytes h d a planes (set planes c w)
+planes_keep bytes h d a c planes w part values is lt put agrees i x y few within before = elim (cases_eq i c) [
   | inl same ↦
-      let was : Shows bytes h d c (plane_in planes c) x y = subst (λ n. Shows bytes h d n (plane_in planes n) x y) same before in
-      subst (λ n. Shows bytes h d n (plane_in (set planes c w) n) x y) (sym same)
-      (ap (λ (l : List ℤ). plane_at (frame_of h d) l x y) (put_here planes c w (omega (arith, lt, is.count))) ∙ put_keeps (frame_of h d) part (plane_in planes c) w.items values (sample_of_tiles bytes h d c) put agrees x y within was)
-  | inr other ↦ ap (λ (l : List ℤ). plane_at (frame_of h d) l x y) (put_there planes c i w other) ∙ before
+      let was : Shows bytes h d a c (plane_in planes c) x y = subst (λ n. Shows bytes h d a n (plane_in planes n) x y) same before in
+      subst (λ n. Shows bytes h d a n (plane_in (set planes c w) n) x y) (sym same)
+      (ap (λ (l : List ℤ). plane_at a l x y) (put_here planes c w (omega (arith, lt, is.count))) ∙ put_keeps a part (plane_in planes c) w.items values (sample_of_tiles bytes h d c) put agrees x y within was)
+  | inr other ↦ ap (λ (l : List ℤ). plane_at a l x y) (put_there planes c i w other) ∙ before
 ]
 
-pub planes_show : (bytes : List ℕ) (h : Headers) (d t c : ℕ) (planes : List (Vec ℤ)) (w : Vec ℤ) (values : List ℤ) → ArePlanes h d planes → c < h.siz.components → IsPartOf (shown_area h.siz t d) (frame_of h d)
-    → IsPut (frame_of h d) (shown_area h.siz t d) (plane_in planes c) w.items values → Agrees (shown_area h.siz t d) values (sample_of_tiles bytes h d c) → ShowsTileAt bytes h d t c planes → ShowsTileAt bytes h d t (c + 1) (set planes c w)
-planes_show bytes h d t c planes w values is lt part put agrees before i x y few within = elim (cases_eq i c) [
+pub planes_show : (bytes : List ℕ) (h : Headers) (d : ℕ) (a : Rect) (t c : ℕ) (planes : List (Vec ℤ)) (w : Vec ℤ) (part : Rect) (values : List ℤ) → ArePlanes h a planes → c < h.siz.components → IsPartSeen h d t a part
+    → IsPut a part (plane_in planes c) w.items values → Agrees part values (sample_of_tiles bytes h d c) → ShowsTileAt bytes h d a t c planes → ShowsTileAt bytes h d a t (c + 1) (set planes c w)
+planes_show bytes h d a t c planes w part values is lt seen put agrees before i x y few within inside = elim (cases_eq i c) [
   | inl same ↦
-      subst (λ n. Shows bytes h d n (plane_in (set planes c w) n) x y) (sym same)
-      (ap (λ (l : List ℤ). plane_at (frame_of h d) l x y) (put_here planes c w (omega (arith, lt, is.count))) ∙ put_shows (frame_of h d) (shown_area h.siz t d) (plane_in planes c) w.items values (sample_of_tiles bytes h d c) put agrees part x y within)
-  | inr other ↦ ap (λ (l : List ℤ). plane_at (frame_of h d) l x y) (put_there planes c i w other) ∙ before i x y (omega (arith, few, other)) within
+      subst (λ n. Shows bytes h d a n (plane_in (set planes c w) n) x y) (sym same)
+      (ap (λ (l : List ℤ). plane_at a l x y) (put_here planes c w (omega (arith, lt, is.count))) ∙ put_at a part (plane_in planes c) w.items values (sample_of_tiles bytes h d c) put agrees x y (seen.all x y within inside) inside)
+  | inr other ↦ ap (λ (l : List ℤ). plane_at a l x y) (put_there planes c i w other) ∙ before i x y (omega (arith, few, other)) within inside
 ]
 
 -- ---- all tiles
 
--- what one tile shows, the next keeps
-pub tile_kept : (bytes : List ℕ) (h : Headers) (d t : ℕ) (old new : List (Vec ℤ)) → IsSiz h.siz → t < tile_count h.siz → Keeps bytes h d old new → ShowsTileAt bytes h d t h.siz.components old → ShowsTileAt bytes h d t h.siz.components new
-tile_kept bytes h d t old new siz lt keeps shows c x y some within =
-    keeps c x y some (tile_inside h.siz d t x y siz (record { tile = lt; place = within })) (shows c x y some within)
-
--- all tiles are shown: so are all places
-pub planes_are : (bytes : List ℕ) (h : Headers) (d : ℕ) (planes : List (Vec ℤ)) → IsSiz h.siz → ArePlanes h d planes → ((t : ℕ) → t < tile_count h.siz → ShowsTileAt bytes h d t h.siz.components planes) → lists_of planes ≡ planes_of_tiles bytes h d (frame_of h d)
-planes_are bytes h d planes siz is shows =
-    let f : ℕ → List ℤ = λ c. raster (frame_of h d) (sample_of_tiles bytes h d c) in
-    ext_get_or [] (lists_of planes) (planes_of_tiles bytes h d (frame_of h d)) (length-map planes (λ v. v.items) ∙ is.count ∙ sym (length-map-range_with_len f 0 h.siz.components)) (λ c less.
+-- all tiles are shown: so are all places of a part of the reduced image
+pub planes_are : (bytes : List ℕ) (h : Headers) (d : ℕ) (a : Rect) (planes : List (Vec ℤ)) → IsSiz h.siz → ((x y : ℕ) → IsWithin a x y → IsWithin (frame_of h d) x y) → ArePlanes h a planes
+    → ((t : ℕ) → t < tile_count h.siz → ShowsTileAt bytes h d a t h.siz.components planes) → lists_of planes ≡ planes_of_tiles bytes h d a
+planes_are bytes h d a planes siz part is shows =
+    let f : ℕ → List ℤ = λ c. raster a (sample_of_tiles bytes h d c) in
+    ext_get_or [] (lists_of planes) (planes_of_tiles bytes h d a) (length-map planes (λ v. v.items) ∙ is.count ∙ sym (length-map-range_with_len f 0 h.siz.components)) (λ c less.
     let lt : c < h.siz.components = omega (arith, less, length-map planes (λ (v : Vec ℤ). v.items), is.count) in
-    raster_is (frame_of h d) (plane_in planes c) (sample_of_tiles bytes h d c) (is.each c lt) (λ x y place.
-    let within : IsWithin (frame_of h d) x y = record { left = place.left; right = place.right; upper = place.upper; lower = place.lower } in
-    let tile = tile_covers h.siz d x y siz within in
-    shows tile.0 tile.1.tile c x y lt tile.1.place)
+    raster_is a (plane_in planes c) (sample_of_tiles bytes h d c) (is.each c lt) (λ x y place.
+    let within : IsWithin a x y = record { left = place.left; right = place.right; upper = place.upper; lower = place.lower } in
+    let tile = tile_covers h.siz d x y siz (part x y within) in
+    shows tile.0 tile.1.tile c x y lt tile.1.place within)
     ∙ sym (get_or-map-range_with_len f 0 h.siz.components c c [] lt (omega arith)))
 
 -- ---- the packets of all tiles

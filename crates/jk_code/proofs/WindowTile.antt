@@ -1,19 +1,17 @@
 -- A tile of the file of a window: it is decoded where the stored tile is, to the same samples in the window.
-use Rattle.std.proofs.Common.{◌≡◌, ℕ, ◌+◌, ◌<◌, ◌≤◌, Bool, true, false, List, length, map, ℤ, refl, sym, ap, ◌∙◌, subst, arith}
+use Rattle.std.proofs.Common.{◌≡◌, ℕ, ◌+◌, ◌<◌, ◌≤◌, Bool, true, false, cond, List, [], length, ℤ, refl, sym, ap, ◌∙◌, subst, arith}
 use Rattle.std.specs.List.{flat_map, AllByRecursion}
 use Rattle.jk_math.specs.Steps.{ok_is}
 use Rattle.jk_math.specs.declared.rect.Rect.{Rect}
-use Rattle.jk_marks.specs.declared.siz.Siz.{Siz}
-use Rattle.jk_marks.specs.declared.segments.Cod.{Cod}
 use Rattle.jk_marks.specs.declared.coding.Coding.{Coding}
 use Rattle.jk_marks.specs.Siz.{tile_count}
 use Rattle.jk_geom.specs.Rectangles.{IsWithin, tile_area}
 use Rattle.jk_geom.specs.Precincts.{precinct_number}
 use Rattle.jk_geom.specs.Partitions.{block_number}
 use Rattle.jk_geom.specs.TileShapes.{coding_of}
-use Rattle.jk_params.specs.Headers.{Headers, TileFields, tile_in, AreHeaders}
+use Rattle.jk_params.specs.Headers.{Headers, tile_in, AreHeaders}
 use Rattle.jk_walk.specs.declared.places.PacketPlace.{PacketPlace}
-use Rattle.jk_walk.specs.TilePackets.{slice_of, shape_in, Body, Packet, orientations, of_precinct, IsTile}
+use Rattle.jk_walk.specs.TilePackets.{shape_in, Body, Packet, orientations, of_precinct}
 use Rattle.jk_walk.specs.WalkReading.{AreTilePackets}
 use Rattle.jk_walk.proofs.Laws.{packets_only}
 use Rattle.jk_tile.specs.TileBlocks.{grid_at}
@@ -21,10 +19,10 @@ use Rattle.jk_tile.specs.TileMeaning.{shown_area, values_of, IsBlockAt, DecodesT
 use Rattle.jk_tile.specs.TileReading.{bodies_of, coefficient_at}
 use Rattle.jk_tile.specs.Pixels.{tile_sample}
 use Rattle.jk_tile.proofs.Laws.{bodies_are, pixel_same, levels_read, IsMeant, meant_at, none_meant, gathered}
-use Rattle.jk_window.specs.Emptied.{kept_packet, emptied_run, of_name}
 use Rattle.jk_window.specs.Indexing.{joined_runs, HasRuns}
-use Rattle.jk_window.specs.Again.{needed_by, kept_runs, AreAlike}
-use Rattle.jk_window.proofs.Laws.{runs_kept, precinct_same, precinct_without}
+use Rattle.jk_window.specs.Again.{needed_by, kept_layers, kept_runs, AreAlike}
+use Rattle.jk_window.proofs.Laws.{kept_bodies}
+use Rattle.jk_code.proofs.EmptiedTiles.{left_of, left_tile, decodes_alike}
 use Rattle.jk_code.proofs.WindowBands.{seen, values_agree}
 
 -- ---- bodies
@@ -42,18 +40,10 @@ one_reading bytes h t packets others are lt first second c r n =
     let same : a.0 ≡ b.0 = ok_is a.0 b.0 (sym a.1 ∙ b.1) in
     bodies_are bytes packets a.0 c r n a.2 ∙ ap (λ (ws : List PacketPlace). bodies_of bytes ws c r n) same ∙ sym (bodies_are bytes others b.0 c r n b.2)
 
--- What is kept of packets, of which a precinct's bodies are these: those of a precinct that is kept, and else none.
-kept_bodies : (keep : ℕ → ℕ → ℕ → Bool) (sop eph : Bool) (packets : List Packet) (c r n : ℕ) → keep c r n ≡ true → bodies_in (emptied_run (of_name keep) sop eph packets) c r n ≡ bodies_in packets c r n
-kept_bodies keep sop eph packets c r n e = ap (λ (ps : List Packet). flat_map (λ (p : Packet). p.bodies) ps) (precinct_same keep sop eph c r n packets e)
-
 -- each code-block still means something
-kept_meant : (a : Rect) (k : Coding) (keep : ℕ → ℕ → ℕ → Bool) (sop eph : Bool) (packets : List Packet) (c r n i j : ℕ) → IsMeant a k (bodies_in packets c r n) r n i j
-    → IsMeant a k (bodies_in (emptied_run (of_name keep) sop eph packets) c r n) r n i j
-kept_meant a k keep sop eph packets c r n i j meant = by (keep c r n) refl
-  where
-    by : (b : Bool) → keep c r n ≡ b → IsMeant a k (bodies_in (emptied_run (of_name keep) sop eph packets) c r n) r n i j
-    by true e = subst (λ (bs : List Body). IsMeant a k bs r n i j) (sym (kept_bodies keep sop eph packets c r n e)) meant
-    by false e = subst (λ (bs : List Body). IsMeant a k bs r n i j) (sym (precinct_without keep sop eph c r n packets e)) (none_meant a k r n i j)
+kept_meant : (a : Rect) (k : Coding) (b : Bool) (bodies : List Body) (r n i j : ℕ) → IsMeant a k bodies r n i j → IsMeant a k (cond b bodies []) r n i j
+kept_meant a k true bodies r n i j meant = meant
+kept_meant a k false bodies r n i j meant = none_meant a k r n i j
 
 -- ---- the tile
 
@@ -62,16 +52,6 @@ pub record IsTileSeen (new : List ℕ) (g : Headers) (area : Rect) (t d : ℕ) (
   pub shown : ℕ → ℕ → ℕ → ℤ
   pub decoded : DecodesTile new g (tile_in g.tiles t) t d shown
   pub same : (c x y : ℕ) → c < components → IsWithin (seen area w d) x y → shown c x y ≡ samples c x y
-
--- what a tile's decoding depends on of its headers
-abbrev Said : Type 0
-Said = Siz × Cod × List Coding
-
-abbrev headers_with : Said → List TileFields → Headers
-headers_with s tiles = record { siz = s.0; tiles = tiles }
-
-abbrev fields_with : Said → List (ℕ × ℕ) → TileFields
-fields_with s places = record { cod = s.1; codings = s.2; data_places = places }
 
 pub tile_seen : (bytes new : List ℕ) (h g : Headers) (t d : ℕ) (w : Rect) (runs : ℕ → List (List Packet)) (samples : ℕ → ℕ → ℕ → ℤ) → AreHeaders (length bytes) h → AreAlike g h → t < tile_count h.siz
     → AllByRecursion (λ (k : Coding). d ≤ k.levels) (tile_in h.tiles t).codings → HasRuns bytes h t (runs t) → HasRuns new g t (kept_runs h (needed_by h w d) runs t) → DecodesTile bytes h (tile_in h.tiles t) t d samples
@@ -82,20 +62,13 @@ tile_seen bytes new h g t d w runs samples are alike lt levels has again is =
     let keep = needed_by h w d t in
     let fields = are.each t lt in
     let packets = joined_runs (runs t) in
-    let make = kept_packet (of_name keep) f.cod.sop f.cod.eph in
-    let left = emptied_run (of_name keep) f.cod.sop f.cod.eph packets in
-    let places = (tile_in g.tiles t).data_places in
-    let old : Said = (h.siz, f.cod, f.codings) in
-    let own : Said = (g.siz, (tile_in g.tiles t).cod, (tile_in g.tiles t).codings) in
-    let said : own ≡ old = λ i. (alike.siz i, alike.cod t lt i, alike.codings t lt i) in
-    let whole : joined_runs (kept_runs h (needed_by h w d) runs t) ≡ left = runs_kept make (runs t) in
-    let tile : IsTile (shape_in h.siz f t) f.cod.sop f.cod.eph left (map (slice_of new) places) =
-    subst (λ (ps : List Packet). IsTile (shape_in h.siz (fields_with old places) t) f.cod.sop f.cod.eph ps (map (slice_of new) places)) whole
-    (subst (λ (s : Said). IsTile (shape_in s.0 (fields_with s places) t) s.1.sop s.1.eph (joined_runs (kept_runs h (needed_by h w d) runs t)) (map (slice_of new) places)) said again.packets) in
+    let left = left_of h (kept_layers h (needed_by h w d)) runs t in
     let mine : ℕ → ℕ → ℕ → List Body = λ c r n. bodies_in is.packets c r n in
     let read : (c r n : ℕ) → mine c r n ≡ bodies_in packets c r n = one_reading bytes h t is.packets packets are lt is.tile has.packets in
     let theirs : ℕ → ℕ → ℕ → List Body = λ c r n. bodies_in left c r n in
     let coding : ℕ → Coding = λ c. coding_of f.codings c in
+    let kept : (c r n : ℕ) → c < length f.codings → r + d ≤ (coding c).levels → n < precinct_number a (coding c) r → theirs c r n ≡ cond (keep c r n) (bodies_in packets c r n) [] =
+    λ c r n some low precinct. kept_bodies (shape_in h.siz f t) keep f.cod.sop f.cod.eph packets c r n has.packets.order (record { component = some; resolution = omega (arith, low); precinct = precinct }) in
     let few : (c : ℕ) → c < h.siz.components → c < length f.codings = λ c less. omega (arith, less, fields.all) in
     let first : (c : ℕ) → c < length f.codings → (r n i j : ℕ) → r + d ≤ (coding c).levels → n < precinct_number a (coding c) r → i < length (orientations r) → j < block_number (grid_at a (coding c) r n i)
     → IsBlockAt a (coding c) (mine c r n) (is.coefficients c) r n i j =
@@ -103,21 +76,21 @@ tile_seen bytes new h g t d w runs samples are alike lt levels has again is =
     let second : (c : ℕ) → c < length f.codings → (r n i j : ℕ) → r + d ≤ (coding c).levels → n < precinct_number a (coding c) r → i < length (orientations r) → j < block_number (grid_at a (coding c) r n i)
     → IsBlockAt a (coding c) (theirs c r n) (coefficient_at a (coding c) (theirs c)) r n i j =
     λ c some. gathered a (coding c) d (theirs c) (fields.codings.each c some)
-    (λ r n i j low precinct band block. kept_meant a (coding c) keep f.cod.sop f.cod.eph packets c r n i j
-    (subst (λ (bs : List Body). IsMeant a (coding c) bs r n i j) (read c r n) (meant_at a (coding c) (mine c r n) (is.coefficients c) r n i j (first c some r n i j low precinct band block)))) in
+    (λ r n i j low precinct band block.
+    subst (λ (bs : List Body). IsMeant a (coding c) bs r n i j) (sym (kept c r n some low precinct))
+    (kept_meant a (coding c) (keep c r n) (bodies_in packets c r n) r n i j
+    (subst (λ (bs : List Body). IsMeant a (coding c) bs r n i j) (read c r n) (meant_at a (coding c) (mine c r n) (is.coefficients c) r n i j (first c some r n i j low precinct band block))))) in
     let values : (c x y : ℕ) → ℤ = λ c x y. values_of a (coding c) d (coefficient_at a (coding c) (theirs c)) x y in
     let shown : ℕ → ℕ → ℕ → ℤ = λ c x y. tile_sample f.cod h.siz (λ i. values i x y) c in
-    let decoded : DecodesTile new (headers_with old g.tiles) (fields_with old places) t d shown =
-    record {
-      packets = left;
-      tile = tile;
-      coefficients = λ c. coefficient_at a (coding c) (theirs c);
-      blocks = λ c r n i j precinct low band block. second c precinct.component r n i j low precinct.precinct band block;
-      shown = λ c x y some within. refl;
-    } in
     record {
       shown = shown;
-      decoded = subst (λ (s : Said). DecodesTile new (headers_with s g.tiles) (fields_with s places) t d shown) (sym said) decoded;
+      decoded = decodes_alike new g h t d shown alike lt (record {
+        packets = left;
+        tile = left_tile new g h t (kept_layers h (needed_by h w d)) runs alike lt again;
+        coefficients = λ c. coefficient_at a (coding c) (theirs c);
+        blocks = λ c r n i j precinct low band block. second c precinct.component r n i j low precinct.precinct band block;
+        shown = λ c x y some within. refl;
+      });
       same = λ c x y less within.
           (let l = within.left in let m = within.right in let e = within.upper in let b = within.lower in
           let inside : IsWithin (shown_area h.siz t d) x y = record { left = omega (arith, l); right = omega (arith, m); upper = omega (arith, e); lower = omega (arith, b) } in
@@ -130,7 +103,7 @@ tile_seen bytes new h g t d w runs samples are alike lt levels has again is =
             levels = levels_read f.codings i d (coding i) levels there refl;
             first = first i there;
             second = second i there;
-            same = λ r n low precinct needed. read i r n ∙ sym (kept_bodies keep f.cod.sop f.cod.eph packets i r n needed);
+            same = λ r n low precinct needed. read i r n ∙ sym (kept i r n there low precinct ∙ ap (λ b. cond b (bodies_in packets i r n) []) needed);
           })
           within))
           ∙ sym (is.shown c x y less inside));

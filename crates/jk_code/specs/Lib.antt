@@ -9,3 +9,7 @@ pub mod Tiles
 pub mod Written
 pub mod Windows
 pub mod Fronts
+pub mod Viewing
+pub mod ViewReading
+pub mod Beginnings
+pub mod Sending

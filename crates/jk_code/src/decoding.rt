@@ -16,7 +16,7 @@ ghost use Rattle.jk_code.specs.Meaning.{Means};
 ghost use Rattle.jk_code.specs.MeaningReading.{places_at, packets_tested, tiles_tested, planes_of_tiles, picture_with, picture_at, image_at, meaning_at};
 ghost use Rattle.jk_geom.specs.Rectangles.{IsArea};
 ghost use Rattle.jk_math.specs.Raster.{places_of};
-ghost use Rattle.jk_code.specs.Tiles.{AreRead, ArePlanes, Keeps, ShowsTileAt, plane_in};
+ghost use Rattle.jk_code.specs.Tiles.{AreRead, ArePlanes, Keeps, ShowsTileAt, IsPartSeen, part_lists, plane_in};
 ghost use Rattle.jk_window.specs.Views.{HaveLevels, frame_of};
 
 use crate::reduction::{check_reduction, reduced};
@@ -41,32 +41,32 @@ fn all_packets(alloc: Global, headers: &Codestream, bytes: &[u8]) -> Result<Vec<
     Ok(all)
 }
 
-/// Puts the planes of a tile into those of the image.
-fn put_tile(
+/// Puts the planes of a part of a tile into those of a rectangle of the reduced image. The part has all that the rectangle
+/// has of the tile.
+pub(crate) fn put_tile(
     headers: &Codestream,
     bytes: &[u8],
     packets: &TilePackets,
     number: usize,
     reduce: u8,
     area: &Rect,
+    part: &Rect,
     shown: &[Vec<i32>],
     planes: &mut Vec<Vec<i32>>,
 )
     requires sound { AreHeaders (length bytes.now) headers.now }
     requires number { number < tile_count headers.now.siz }
     requires packets { packets_at bytes.now headers.now number ≡ Ok packets.now }
-    requires area { area.now ≡ frame_of headers.now reduce }
-    requires frame { IsArea area.now }
-    requires few { reduce ≤ 10 }
-    requires shown { tile_planes_at bytes.now headers.now number reduce packets.now ≡ Ok (lists_of shown.now) }
-    requires planes { ArePlanes headers.now reduce planes.old.items }
-    ensures planes { ArePlanes headers.now reduce planes.new.items }
-    ensures keeps { Keeps bytes.now headers.now reduce planes.old.items planes.new.items }
-    ensures shows { ShowsTileAt bytes.now headers.now reduce number headers.now.siz.components planes.new.items }
+    requires area { IsArea area.now }
+    requires part { IsPartSeen headers.now reduce number area.now part.now }
+    requires shown { lists_of shown.now ≡ part_lists bytes.now headers.now number reduce part.now packets.now }
+    requires planes { ArePlanes headers.now area.now planes.old.items }
+    ensures planes { ArePlanes headers.now area.now planes.new.items }
+    ensures keeps { Keeps bytes.now headers.now reduce area.now planes.old.items planes.new.items }
+    ensures shows { ShowsTileAt bytes.now headers.now reduce area.now number headers.now.siz.components planes.new.items }
 {
-    let part = reduced(&tile(headers.siz(), number as u32), reduce);
     for c in 0..planes.len() {
-        put(area, &mut planes[c], &part, &shown[c]);
+        put(area, &mut planes[c], part, &shown[c]);
     }
 }
 
@@ -110,6 +110,7 @@ fn planes_of_all(
     let mut planes = blank_planes(alloc, headers.siz().components, area)?;
     for number in 0..headers.tile_count() {
         let packets = &packets[number];
+        let part = reduced(&tile(headers.siz(), number as u32), reduce);
         let shown = decode_tile(alloc, headers, bytes, number, packets, reduce)?;
         put_tile(
             headers,
@@ -118,6 +119,7 @@ fn planes_of_all(
             number,
             reduce,
             area,
+            &part,
             &shown,
             &mut planes,
         );
@@ -151,7 +153,11 @@ fn all_planes(
 }
 
 /// A list of zeros for each component.
-fn blank_planes(alloc: Global, components: u16, area: &Rect) -> Result<Vec<Vec<i32>>, Fault>
+pub(crate) fn blank_planes(
+    alloc: Global,
+    components: u16,
+    area: &Rect,
+) -> Result<Vec<Vec<i32>>, Fault>
     requires { IsArea area.now }
     ensures count { IfOk result (λ v. length v.items ≡ components) }
     ensures each { IfOk result (λ v. (c : ℕ) → c < components → length (plane_in v.items c) ≡ places_of area.now) }

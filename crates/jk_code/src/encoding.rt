@@ -25,7 +25,7 @@ use std::alloc::Global;
 
 /// The main header of an image.
 #[tactic(auto, using(crate::proofs::HeaderLaws::main_written))]
-fn main_header(image: &Image, parameters: &Parameters, exponents: &Exponents) -> Main
+pub(crate) fn main_header(image: &Image, parameters: &Parameters, exponents: &Exponents) -> Main
     requires written { IsWrittenBy parameters.now image.now }
     requires exponents { exponents.now ≡ exponents_for image.now parameters.now }
     ensures value { result ≡ main_for image.now parameters.now }

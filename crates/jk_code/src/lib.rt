@@ -4,8 +4,12 @@
 mod decoding;
 mod encoding;
 mod reduction;
+mod viewing;
 mod windows;
+mod writing;
 
 pub use decoding::decode;
 pub use encoding::encode;
+pub use viewing::decode_window;
 pub use windows::{pictures_have_indexes, window, windows_show_the_picture};
+pub use writing::encode_into;

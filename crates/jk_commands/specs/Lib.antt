@@ -4,4 +4,5 @@ pub mod Sizes
 pub mod Options
 pub mod Plans
 pub mod Commands
+pub mod Written
 pub mod Lines

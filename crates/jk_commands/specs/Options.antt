@@ -1,10 +1,11 @@
 -- What the options of an encoding ask for.
-use Rattle.std.specs.Prelude.{ℕ, ◌^◌, Bool, not, nat_lt, List, Option, Some, None, Result, Ok, Err, if◌then◌else◌}
+use Rattle.std.specs.Prelude.{ℕ, ◌+◌, ◌^◌, ◌==◌, ◌&&◌, Bool, true, false, not, nat_lt, List, length, replicate, Option, Some, None, Result, Ok, Err, if◌then◌else◌}
 use Rattle.std.specs.String.{string_bytes}
 use Rattle.jk_math.specs.Answer.{◌>>=◌}
 use Rattle.jk_math.specs.declared.fault.Fault.{Fault}
 use Rattle.jk_math.specs.declared.fault.Fault.TheVariants.{BadParameters}
 use Rattle.jk_marks.specs.declared.segments.Order.{Order}
+use Rattle.jk_marks.specs.declared.segments.Order.TheVariants.{Lrcp, Rpcl}
 use Rattle.jk_params.specs.declared.parameters.Container.{Container}
 use Rattle.jk_params.specs.declared.parameters.Container.TheVariants.{Raw, Jp2}
 use Rattle.jk_commands.specs.declared.options.EncodeOptions.{EncodeOptions}
@@ -38,6 +39,18 @@ tile_at (Some width) (Some height) = Ok (Some (width, height))
 tile_at (Some width) None = Err BadParameters
 tile_at None (Some height) = Err BadParameters
 
+-- The order of the packets: the given one; else RPCL in a file for windows, and LRCP in another.
+abbrev pub order_for : Option Order → (windows : Bool) → Order
+order_for (Some order) windows = order
+order_for None true = Rpcl
+order_for None false = Lrcp
+
+-- The precinct sizes: the given ones; else 128 by 128 (2^7) at each resolution of a file for windows,
+-- and none in another.
+abbrev pub precincts_for : (text : List ℕ) (windows : Bool) (levels : ℕ) → Result (List (ℕ × ℕ)) Fault
+precincts_for text windows levels =
+    if windows && (length text == 0) then Ok (replicate (levels + 1) (7, 7)) else sizes_at text
+
 abbrev pub container_for : (raw : Bool) → Container
 container_for raw = if raw then Raw else Jp2
 
@@ -49,11 +62,11 @@ wishes_at o = do
   tile ← tile_at o.tile_width o.tile_height
   xcb ← field_at o.block_x (2 ^ 8)
   ycb ← field_at o.block_y (2 ^ 8)
-  precincts ← sizes_at (string_bytes o.precincts)
+  precincts ← precincts_for (string_bytes o.precincts) o.windows levels
   Ok (record {
     levels = levels;
     layers = layers;
-    order = o.order;
+    order = order_for o.order o.windows;
     tile = tile;
     xcb = xcb;
     ycb = ycb;

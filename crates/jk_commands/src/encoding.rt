@@ -1,6 +1,7 @@
 //! Encoding a PGM or PPM file.
 
-ghost use Rattle.std.specs.Prelude.{Ok, IfOk};
+ghost use Rattle.std.specs.Prelude.{◌≡◌, ℕ, List, Ok, IfOk, OnOk};
+ghost use Rattle.std.specs.Io.KnownBytes.{Appends};
 ghost use Rattle.jk_math.specs.Answer.{Answers};
 ghost use Rattle.jk_math.specs.Picture.{Picture};
 ghost use Rattle.jk_pnm.specs.Pnm.{IsPnm};
@@ -8,11 +9,13 @@ ghost use Rattle.jk_pnm.specs.Reading.{pnm_at};
 ghost use Rattle.jk_code.specs.Meaning.{Means};
 ghost use Rattle.jk_commands.specs.Plans.{at_place};
 ghost use Rattle.jk_commands.specs.Commands.{encoded};
+ghost use Rattle.jk_commands.specs.Written.{LeftOf};
 
 use crate::plan::Plan;
-use jk_code::encode;
+use jk_code::{encode, encode_into};
 use jk_math::{Fault, Image};
 use std::alloc::Global;
+use std::io::Write;
 
 /// The image of a PGM or PPM file, as `jk_pnm::read` gives it. The file is let go of.
 pub fn read_image(alloc: Global, bytes: Vec<u8>) -> Result<Image, Fault>
@@ -44,4 +47,33 @@ pub fn encode_file(alloc: Global, bytes: Vec<u8>, plan: Plan) -> Result<Vec<u8>,
     let image = read_image(alloc, bytes)?;
     let placed = plan.place(image)?;
     encode(alloc, &placed.image, &placed.parameters)
+}
+
+/// Writes what `jk encode` makes of a PGM or PPM file, tile by tile: the bytes that [`encode_file`] gives.
+///
+/// The faults are those of [`encode_file`] in their order, and Shelf: a write failed or took nothing.
+/// Nothing is written after BadPnm and BadParameters; after Limit, Memory and Shelf what
+/// `jk_code::encode_into` leaves. Before the image is encoded, the file is let go of.
+pub fn encode_file_into<W: Write>(
+    alloc: Global,
+    bytes: Vec<u8>,
+    plan: Plan,
+    writer: &mut W,
+) -> Result<(), Fault>
+    // The whole file is written, byte for byte.
+    ensures ok { OnOk result ((file : List ℕ) × (encoded bytes.items plan ≡ Ok file)
+        × Appends (W.contents writer.old) (W.contents writer.new) file) }
+    // Of a file of a picture, it means exactly that picture, placed as it is asked for.
+    ensures means { (p : Picture) → IsPnm bytes.items p
+        → OnOk result ((file : List ℕ) → encoded bytes.items plan ≡ Ok file
+        → Means file 0 (at_place p plan.x0 plan.y0)) }
+    // Nothing is written of other bytes.
+    ensures found { OnOk result ((p : Picture) × IsPnm bytes.items p) }
+    // What was written, however it ended.
+    ensures part { (text : List ℕ) × Appends (W.contents writer.old) (W.contents writer.new) text
+        × LeftOf bytes.items plan text result }
+{
+    let image = read_image(alloc, bytes)?;
+    let placed = plan.place(image)?;
+    encode_into(alloc, &placed.image, &placed.parameters, writer)
 }

@@ -13,7 +13,7 @@ mod theorems;
 
 pub use cutting::cut_file;
 pub use decoding::decode_file;
-pub use encoding::{encode_file, read_image};
+pub use encoding::{encode_file, encode_file_into, read_image};
 pub use options::EncodeOptions;
 pub use orders::{order_name, order_named};
 pub use plan::{Placed, Plan, judge};

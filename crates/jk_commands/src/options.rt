@@ -2,6 +2,7 @@
 
 ghost use Rattle.std.specs.Prelude.{◌≡◌, [], None, false};
 ghost use Rattle.std.specs.String.{string_bytes};
+ghost use Rattle.jk_commands.specs.Options.{order_for};
 
 use jk_marks::Order;
 use std::alloc::Global;
@@ -13,8 +14,8 @@ pub struct EncodeOptions {
     pub levels: u32,
     /// Layers.
     pub layers: u32,
-    /// The progression order.
-    pub order: Order,
+    /// The progression order, where one is given.
+    pub order: Option<Order>,
     /// The width of a tile.
     pub tile_width: Option<u32>,
     /// The height of a tile.
@@ -24,8 +25,11 @@ pub struct EncodeOptions {
     /// The exponent of a code-block's height.
     pub block_y: u32,
     /// Precinct sizes, two hexadecimal digits for each resolution from the lowest on: the exponent
-    /// of the height, and that of the width.
+    /// of the height, and that of the width. Without a digit none are given.
     pub precincts: String,
+    /// Whether the file is one out of which windows are cut: where they aren't given, the order is
+    /// RPCL, and precincts are 128 by 128 at each resolution.
+    pub windows: bool,
     /// The column of the upper left sample on the reference grid.
     pub x0: u32,
     /// The row of the upper left sample on the reference grid.
@@ -45,29 +49,41 @@ impl EncodeOptions {
     pub fn new(alloc: Global) -> EncodeOptions
         ensures levels { result.levels ≡ 5 }
         ensures layers { result.layers ≡ 1 }
-        ensures order { result.order ≡ Order.Lrcp }
+        ensures order { result.order ≡ None }
         ensures tile { (result.tile_width ≡ None) × (result.tile_height ≡ None) }
         ensures blocks { (result.block_x ≡ 6) × (result.block_y ≡ 6) }
         ensures precincts { string_bytes result.precincts ≡ [] }
         ensures place { (result.x0 ≡ 0) × (result.y0 ≡ 0) }
-        ensures flags { (result.no_colour ≡ false) × (result.sop ≡ false) × (result.eph ≡ false)
-            × (result.raw ≡ false) }
+        ensures flags { (result.windows ≡ false) × (result.no_colour ≡ false) × (result.sop ≡ false)
+            × (result.eph ≡ false) × (result.raw ≡ false) }
     {
         EncodeOptions {
             levels: 5,
             layers: 1,
-            order: Order::Lrcp,
+            order: None,
             tile_width: None,
             tile_height: None,
             block_x: 6,
             block_y: 6,
             precincts: String::new(alloc),
+            windows: false,
             x0: 0,
             y0: 0,
             no_colour: false,
             sop: false,
             eph: false,
             raw: false,
+        }
+    }
+
+    /// The order of the packets: the given one, or the one that stands where none is given.
+    pub fn order(&self) -> Order
+        ensures { result ≡ order_for self.now.order self.now.windows }
+    {
+        match self.order {
+            Some(order) => order,
+            None if self.windows => Order::Rpcl,
+            None => Order::Lrcp,
         }
     }
 }

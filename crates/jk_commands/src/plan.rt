@@ -2,7 +2,7 @@
 
 ghost use Rattle.std.specs.Prelude.{◌≡◌, ◌^◌};
 ghost use Rattle.jk_math.specs.Answer.{Answers, AnswersExactly};
-ghost use Rattle.jk_commands.specs.Options.{field_at, tile_at, wishes_at};
+ghost use Rattle.jk_commands.specs.Options.{field_at, tile_at, precincts_for, wishes_at};
 ghost use Rattle.jk_commands.specs.Plans.{wishes_of, placing};
 
 use crate::options::EncodeOptions;
@@ -70,6 +70,24 @@ fn tile(width: Option<u32>, height: Option<u32>) -> Result<Option<(u32, u32)>, F
     }
 }
 
+/// The precinct sizes of a text; without a digit, those of a file out of which windows are cut, or
+/// none.
+///
+/// BadParameters: the text isn't pairs of hexadecimal digits.
+fn precincts(
+    alloc: Global,
+    digits: &[u8],
+    windows: bool,
+    levels: u8,
+) -> Result<Vec<(u8, u8)>, Fault>
+    ensures { Answers (λ v. v.items) result (precincts_for digits.now windows levels) }
+{
+    if windows && digits.is_empty() {
+        return Ok(vec![in alloc; (7, 7); levels as usize + 1]?);
+    }
+    sizes(alloc, digits)
+}
+
 /// What the options ask for.
 ///
 /// BadParameters: a number is too large for its field, one side of a tile is given without the
@@ -84,7 +102,7 @@ pub fn judge(alloc: Global, options: &EncodeOptions) -> Result<Plan, Fault>
     let tile = tile(options.tile_width, options.tile_height)?;
     let xcb = byte(options.block_x)?;
     let ycb = byte(options.block_y)?;
-    let precincts = sizes(alloc, options.precincts.as_bytes())?;
+    let precincts = precincts(alloc, options.precincts.as_bytes(), options.windows, levels)?;
     let container = if options.raw {
         Container::Raw
     } else {
@@ -94,7 +112,7 @@ pub fn judge(alloc: Global, options: &EncodeOptions) -> Result<Plan, Fault>
         parameters: Parameters {
             levels,
             layers,
-            order: options.order,
+            order: options.order(),
             tile,
             xcb,
             ycb,

@@ -5,6 +5,7 @@
 mod listing;
 mod locking;
 mod opening;
+mod output;
 mod place;
 mod reading;
 mod refusal;
@@ -15,6 +16,7 @@ pub use listing::{Listing, Other, list, names};
 pub use locking::{
     Lock, Lockable, SharedLock, try_exclusive, try_shared, wait_exclusive, wait_shared,
 };
+pub use output::{Output, abandon_output, create_output, finish_output};
 pub use place::is_file_name;
 pub use reading::{read_all, read_file, read_inside};
 pub use refusal::Refusal;

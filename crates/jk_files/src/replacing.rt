@@ -16,7 +16,7 @@ const NAMES: u32 = 1000;
 
 /// Where what is written goes.
 #[derive(Drop)]
-enum Target {
+pub(crate) enum Target {
     /// A name that nothing has.
     New,
     /// A regular file with these permissions.
@@ -38,7 +38,7 @@ fn new_target(path: &str) -> Target {
 
 /// What stands under a path. A link below `/dev` is one of the system's to an open file, so it is
 /// written as it is.
-fn target_of<R: Files>(rt: &R, path: &str) -> io::Result<Target> {
+pub(crate) fn target_of<R: Files>(rt: &R, path: &str) -> io::Result<Target> {
     let metadata = match rt.symlink_metadata(path) {
         Ok(metadata) => metadata,
         Err(said) if said.kind() == ErrorKind::NotFound => return Ok(new_target(path)),
@@ -57,7 +57,7 @@ fn target_of<R: Files>(rt: &R, path: &str) -> io::Result<Target> {
 }
 
 /// A path's folder and the name inside it.
-fn split(path: &str) -> (&str, &str) {
+pub(crate) fn split(path: &str) -> (&str, &str) {
     match path.rsplit_once('/') {
         Some(("", name)) => ("/", name),
         Some((folder, name)) => (folder, name),
@@ -72,15 +72,19 @@ fn first_name(alloc: Global, number: u32) -> Result<String, Refused> {
 
 /// A file that is written first, and its path.
 #[derive(Drop)]
-struct First<F> {
-    file: F,
-    path: String,
+pub(crate) struct First<F> {
+    pub(crate) file: F,
+    pub(crate) path: String,
 }
 
 /// Makes a file in a folder under a name that nothing has.
 ///
 /// System: it can't be made, or a thousand such names are taken.
-fn create_first<R: Files>(rt: &R, alloc: Global, folder: &str) -> Result<First<R::File>, Refusal> {
+pub(crate) fn create_first<R: Files>(
+    rt: &R,
+    alloc: Global,
+    folder: &str,
+) -> Result<First<R::File>, Refusal> {
     for number in 0..NAMES {
         let path = place(alloc, folder, first_name(alloc, number)?.as_str())?;
         match File::create_new(rt, path.as_str()) {
@@ -146,7 +150,7 @@ fn replace_whole<R: Files>(
 }
 
 /// Refuses a file that may not be written.
-fn check_writable<R: Files>(rt: &R, path: &str) -> io::Result<()> {
+pub(crate) fn check_writable<R: Files>(rt: &R, path: &str) -> io::Result<()> {
     let mut options = OpenOptions::new();
     options.write(true);
     let _ = rt.open_file(&options, path)?;
@@ -154,7 +158,7 @@ fn check_writable<R: Files>(rt: &R, path: &str) -> io::Result<()> {
 }
 
 /// Whether a folder doesn't allow that a file beside another is made or takes its place.
-fn is_forbidden(said: &io::Error) -> bool {
+pub(crate) fn is_forbidden(said: &io::Error) -> bool {
     matches!(
         said.kind(),
         ErrorKind::PermissionDenied | ErrorKind::ReadOnlyFilesystem | ErrorKind::ResourceBusy

@@ -5,4 +5,5 @@ pub use Rattle.jk_geom.proofs.Weaving.{reduced_to, reduced_from, woven, woven_so
 pub use Rattle.jk_geom.proofs.TileLaws.{tile_found, some_tile, tile_covers, tile_one, tile_inside}
 pub use Rattle.jk_geom.proofs.BlockLaws.{precinct_found, grid_found, blocks_cover, blocks_one, blocks_inside, blocks_some}
 pub use Rattle.jk_geom.proofs.FewBlocks.{few_blocks}
-pub use Rattle.jk_geom.proofs.Counts.{precincts_of, below_more, below_none, number_is}
+pub use Rattle.jk_geom.proofs.Counts.{precincts_of, below_more, below_none, number_is, before_none, before_more, number_before, before_alike}
+pub use Rattle.jk_geom.proofs.Sums.{Sums, sums_rise, sums_once, times_more}

@@ -4,6 +4,7 @@ pub mod Cells
 pub mod Weaving
 pub mod TileLaws
 pub mod BlockLaws
+pub mod Sums
 pub mod Counts
 pub mod FewBlocks
 pub mod Laws

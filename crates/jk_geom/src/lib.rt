@@ -15,5 +15,7 @@ pub use count::packet_count;
 pub use grid::{BlockGrid, blocks};
 pub use precincts::{precinct, precinct_count};
 pub use shape::{Codings, PacketName, TileShape, tile_shape};
-pub use theorems::{blocks_share_a_band, resolutions_are_woven, tiles_share_the_image};
+pub use theorems::{
+    blocks_share_a_band, precincts_are_counted, resolutions_are_woven, tiles_share_the_image,
+};
 pub use tiling::{tile, tile_count};

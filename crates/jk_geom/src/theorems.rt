@@ -1,6 +1,6 @@
 //! Laws of tiles, resolutions and code-blocks: the contract of an empty function is the law.
 
-ghost use Rattle.std.specs.Prelude.{◌≡◌, ◌+◌, ◌<◌, ◌≤◌, ◌↔◌, ℕ, false};
+ghost use Rattle.std.specs.Prelude.{◌≡◌, ◌+◌, ◌*◌, ◌<◌, ◌≤◌, ◌↔◌, ℕ, List, length, false};
 ghost use Rattle.jk_math.specs.declared.rect.Rect.{Rect};
 ghost use Rattle.jk_marks.specs.declared.siz.Siz.{Siz};
 ghost use Rattle.jk_marks.specs.declared.coding.Coding.{Coding};
@@ -9,6 +9,8 @@ ghost use Rattle.jk_marks.specs.Coding.{IsCoding};
 ghost use Rattle.jk_geom.specs.declared.bands.Orientation.{Orientation};
 ghost use Rattle.jk_geom.specs.Rectangles.{IsWithin, is_empty, resolution_area, band_area};
 ghost use Rattle.jk_geom.specs.Blocks.{block_grid, block_area};
+ghost use Rattle.jk_geom.specs.TileShapes.{coding_of};
+ghost use Rattle.jk_geom.specs.Counts.{precincts_below, precincts_before, packet_number};
 ghost use Rattle.jk_geom.specs.Partitions.{image_area, reduced_area, TileHolds, IsBand, woven_area, woven_x, woven_y, IsWoven, block_number, BlockHolds};
 
 /// Each place of an image that is reduced by `d` levels is in exactly one tile, reduced likewise.
@@ -37,4 +39,14 @@ pub fn blocks_share_a_band()
         → BlockHolds a k r o n i x y → IsWithin (band_area a k.levels r o) x y }
     ensures some { (a : Rect) (k : Coding) (r n i : ℕ) (o : Orientation)
         → i < block_number (block_grid a k r n o) → is_empty (block_area (block_grid a k r n o) i) ≡ false }
+{}
+
+/// The precincts of all components, layer by layer, are the packets of a tile (T.800 B.9), and
+/// components that are coded alike have as many precincts each.
+pub fn precincts_are_counted()
+    ensures all { (a : Rect) (layers : ℕ) (codings : List Coding)
+        → packet_number a layers codings ≡ precincts_before a codings (length codings) * layers }
+    ensures alike { (a : Rect) (codings : List Coding) (k : Coding) (c : ℕ)
+        → ((i : ℕ) → i < c → coding_of codings i ≡ k)
+        → precincts_before a codings c ≡ c * precincts_below a k (k.levels + 1) }
 {}

@@ -2,3 +2,4 @@
 pub use Rattle.jk_lift.proofs.Undoing.{undoes_line, undoes_plane, undoes_line_of_samples, undoes_rows, is_local_line, is_local_plane}
 pub use Rattle.jk_lift.proofs.Growth.{grows_line, grows_plane, bounds_plane, bounds_ten_levels}
 pub use Rattle.jk_lift.proofs.Congruence.{lifted_same}
+pub use Rattle.jk_lift.proofs.Pieces.{is_piece_of_line, is_piece_of_plane}

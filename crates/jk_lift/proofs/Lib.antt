@@ -9,4 +9,5 @@ pub mod Columns
 pub mod Undoing
 pub mod Growth
 pub mod Congruence
+pub mod Pieces
 pub mod Laws

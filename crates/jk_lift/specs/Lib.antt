@@ -3,3 +3,4 @@ pub mod Samples
 pub mod Sweep
 pub mod Planes
 pub mod Laws
+pub mod Pieces

@@ -1,6 +1,7 @@
 //! Laws of the transform's formulas. Each is the contract of a function that does nothing.
 
 ghost use Rattle.jk_lift.specs.Laws.{UndoesLine, UndoesPlane, UndoesLineOfSamples, UndoesRows, IsLocalLine, IsLocalPlane, GrowsLine, GrowsPlane, BoundsPlane, BoundsTenLevels};
+ghost use Rattle.jk_lift.specs.Pieces.{IsPieceOfLine, IsPieceOfPlane};
 
 /// Inverse lifting undoes forward lifting at each place of a line.
 pub fn line_undone()
@@ -51,4 +52,14 @@ pub fn plane_bound()
 /// Ten levels backwards stay within the condition of the calls on lines and rows.
 pub fn ten_levels_bound()
     ensures { BoundsTenLevels }
+{}
+
+/// A piece of a line that is lifted by itself has the line's samples but at its ends.
+pub fn line_piece()
+    ensures { IsPieceOfLine }
+{}
+
+/// What is near a rectangle of a plane, lifted by itself, has the plane's samples in the rectangle.
+pub fn plane_piece()
+    ensures { IsPieceOfPlane }
 {}

@@ -42,36 +42,125 @@ as `jk cut` makes it; without r it isn't reduced. Connections are answered one a
 the folder holds when the server starts is listed; files that aren't JP2 files, files NAME.tmp of an
 adding that was broken off, and files that can't be opened are named on standard error.";
 
+/// What a word of a command line is.
+#[derive(Clone, Copy)]
+enum Form<'a> {
+    /// A word that is required, by its place.
+    Place,
+    /// An option without a value.
+    Flag,
+    /// An option with a number, and the letter for it.
+    Number(&'a str),
+    /// An option with a number that is required.
+    Required,
+    /// An option with a number, the letter for it, and what stands where it isn't given.
+    Default(&'a str, &'a str),
+    /// An order of packets, and what stands where it isn't given.
+    Order(&'a str),
+    /// Bytes of hexadecimal digits.
+    Bytes,
+    /// A port, which is required.
+    Port,
+}
+
+/// A word of a command line: its name, what it is, and what it is for.
+#[derive(Clone, Copy)]
+struct Word<'a>(&'a str, Form<'a>, &'a str);
+
+/// That a fault is explained.
+const EXPLAIN: Word<'static> = Word(
+    "explain",
+    Form::Flag,
+    "Say the cause of a fault in words, behind its line; on a terminal they are there anyway",
+);
+
+/// The folder of an archive.
+const FOLDER: Word<'static> = Word("DIR", Form::Place, "The folder of the archive");
+
+/// The image to encode.
+const PIXELS: Word<'static> = Word(
+    "IN",
+    Form::Place,
+    "The PGM or PPM file, or - for standard input",
+);
+
+/// The file to read.
+const CODED: Word<'static> = Word(
+    "IN",
+    Form::Place,
+    "The JPEG 2000 file, or - for standard input",
+);
+
 /// The command line of `jk`.
 pub(crate) fn command<'a>(
     alloc: Global,
     defaults: &'a Defaults,
 ) -> Result<Command<'a>, AllocError> {
-    Command::new(alloc, "jk")
+    let command = Command::new(alloc, "jk")
         .version(VERSION)
         .about("A lossless image archive for JPEG 2000, on its reversible path")
         .after_help(STATUSES)
         .subcommand_required(true)
-        .arg_required_else_help(true)
-        .subcommand(encode(alloc, defaults)?)?
-        .subcommand(decode(alloc)?)?
-        .subcommand(info(alloc)?)?
-        .subcommand(cut(alloc)?)?
-        .subcommand(add(alloc, defaults)?)?
-        .subcommand(serve(alloc)?)?
-        .subcommand(faults(alloc)?)
+        .arg_required_else_help(true);
+    let command = with_command(command, encode(alloc, defaults))?;
+    let command = with_command(command, decode(alloc))?;
+    let command = with_command(command, info(alloc))?;
+    let command = with_command(command, cut(alloc))?;
+    let command = with_command(command, add(alloc, defaults))?;
+    let command = with_command(command, serve(alloc))?;
+    with_command(command, faults(alloc))
+}
+
+/// A command line with one more command, if that was made.
+fn with_command<'a>(
+    command: Command<'a>,
+    made: Result<Command<'a>, AllocError>,
+) -> Result<Command<'a>, AllocError> {
+    command.subcommand(made?)
+}
+
+/// A command with more words.
+fn with_words<'a>(
+    alloc: Global,
+    command: Command<'a>,
+    words: &[Word<'a>],
+) -> Result<Command<'a>, AllocError> {
+    let mut command = command;
+    for word in words {
+        command = command.arg(arg(alloc, *word))?;
+    }
+    Ok(command)
 }
 
 /// `jk encode IN OUT`.
 fn encode<'a>(alloc: Global, defaults: &'a Defaults) -> Result<Command<'a>, AllocError> {
-    let raw = flag(alloc, "raw", "Write a bare codestream, and no JP2 file");
-    let command = Command::new(alloc, "encode")
-        .about("Encodes a PGM or PPM file")
-        .arg(input(alloc, "The PGM or PPM file, or - for standard input"))?
-        .arg(output(alloc, "The file to write, or - for standard output"))?
-        .arg(raw)?;
+    let command = Command::new(alloc, "encode").about("Encodes a PGM or PPM file");
+    let words = [
+        PIXELS,
+        Word(
+            "OUT",
+            Form::Place,
+            "The file to write, or - for standard output",
+        ),
+        Word(
+            "raw",
+            Form::Flag,
+            "Write a bare codestream, and no JP2 file",
+        ),
+    ];
+    let command = with_words(alloc, command, &words)?;
+    with_encoding(alloc, command, defaults)
+}
+
+/// The options of how and where an image is encoded.
+fn with_encoding<'a>(
+    alloc: Global,
+    command: Command<'a>,
+    defaults: &'a Defaults,
+) -> Result<Command<'a>, AllocError> {
     let command = coding(alloc, command, defaults)?;
-    tiling(alloc, command, defaults)?.arg(explain(alloc))
+    let command = tiling(alloc, command, defaults)?;
+    with_words(alloc, command, &[EXPLAIN])
 }
 
 /// The options of how each tile is coded.
@@ -80,44 +169,51 @@ fn coding<'a>(
     command: Command<'a>,
     defaults: &'a Defaults,
 ) -> Result<Command<'a>, AllocError> {
-    let levels = number(alloc, "levels", "N")
-        .default_value(defaults.levels.as_str())
-        .help("Decomposition levels, 0 to 5");
-    let layers = number(alloc, "layers", "N")
-        .default_value(defaults.layers.as_str())
-        .help("Layers, 1 to 32");
-    let order = Arg::new(alloc, "order")
-        .long("order")
-        .value_name("ORDER")
-        .value_parser(["LRCP", "RLCP", "RPCL", "PCRL", "CPRL"].as_slice())
-        .default_value(defaults.order)
-        .help("The order of the packets");
-    let block_x = number(alloc, "block-x", "N")
-        .default_value(defaults.block_x.as_str())
-        .help("The width of a code-block is 2^N, N from 2 to 10");
-    let block_y = number(alloc, "block-y", "N")
-        .default_value(defaults.block_y.as_str())
-        .help("The height of a code-block is 2^N; both N are 12 at most in all");
-    let precincts = Arg::new(alloc, "precincts")
-        .long("precincts")
-        .value_name("HEX")
-        .help(
+    let words = [
+        Word(
+            "levels",
+            Form::Default("N", defaults.levels.as_str()),
+            "Decomposition levels, 0 to 5",
+        ),
+        Word(
+            "layers",
+            Form::Default("N", defaults.layers.as_str()),
+            "Layers, 1 to 32",
+        ),
+        Word(
+            "order",
+            Form::Order(defaults.order),
+            "The order of the packets",
+        ),
+        Word(
+            "block-x",
+            Form::Default("N", defaults.block_x.as_str()),
+            "The width of a code-block is 2^N, N from 2 to 10",
+        ),
+        Word(
+            "block-y",
+            Form::Default("N", defaults.block_y.as_str()),
+            "The height of a code-block is 2^N; both N are 12 at most in all",
+        ),
+        Word(
+            "precincts",
+            Form::Bytes,
             "Precinct sizes, a byte for each resolution from the lowest on, as in COD: two digits, the exponent of the height and that of the width",
-        );
-    command
-        .arg(levels)?
-        .arg(layers)?
-        .arg(order)?
-        .arg(block_x)?
-        .arg(block_y)?
-        .arg(precincts)?
-        .arg(flag(
-            alloc,
+        ),
+        Word(
+            "windows",
+            Form::Flag,
+            "Make windows of the file small: --order RPCL, and precincts of 128 by 128 at each resolution, unless these are given",
+        ),
+        Word(
             "no-colour",
+            Form::Flag,
             "Leave the components of a colour image as they are",
-        ))?
-        .arg(flag(alloc, "sop", "Write SOP before each packet"))?
-        .arg(flag(alloc, "eph", "Write EPH after each packet header"))
+        ),
+        Word("sop", Form::Flag, "Write SOP before each packet"),
+        Word("eph", Form::Flag, "Write EPH after each packet header"),
+    ];
+    with_words(alloc, command, &words)
 }
 
 /// The options of where the image and its tiles lie.
@@ -126,149 +222,167 @@ fn tiling<'a>(
     command: Command<'a>,
     defaults: &'a Defaults,
 ) -> Result<Command<'a>, AllocError> {
-    let width = number(alloc, "tile-width", "N").help("The width of a tile; with --tile-height");
-    let height = number(alloc, "tile-height", "N").help("The height of a tile");
-    let x0 = number(alloc, "x0", "N")
-        .default_value(defaults.x0.as_str())
-        .help("The column of the upper left sample on the reference grid");
-    let y0 = number(alloc, "y0", "N")
-        .default_value(defaults.y0.as_str())
-        .help("The row of the upper left sample");
-    command.arg(width)?.arg(height)?.arg(x0)?.arg(y0)
+    let words = [
+        Word(
+            "tile-width",
+            Form::Number("N"),
+            "The width of a tile; with --tile-height",
+        ),
+        Word("tile-height", Form::Number("N"), "The height of a tile"),
+        Word(
+            "x0",
+            Form::Default("N", defaults.x0.as_str()),
+            "The column of the upper left sample on the reference grid",
+        ),
+        Word(
+            "y0",
+            Form::Default("N", defaults.y0.as_str()),
+            "The row of the upper left sample",
+        ),
+    ];
+    with_words(alloc, command, &words)
 }
 
 /// `jk decode IN OUT`.
 fn decode<'a>(alloc: Global) -> Result<Command<'a>, AllocError> {
-    let reduce = number(alloc, "reduce", "D").default_value("0").help(
-        "How often to halve the image, at most the LEVELS of `jk info`",
-    );
-    Command::new(alloc, "decode")
-        .about("Decodes a JPEG 2000 file to PGM or PPM")
-        .arg(input(alloc, "The JPEG 2000 file, or - for standard input"))?
-        .arg(output(
-            alloc,
+    let command = Command::new(alloc, "decode").about("Decodes a JPEG 2000 file to PGM or PPM");
+    let words = [
+        CODED,
+        Word(
+            "OUT",
+            Form::Place,
             "The PGM or PPM file to write, or - for standard output",
-        ))?
-        .arg(reduce)?
-        .arg(explain(alloc))
+        ),
+        Word(
+            "reduce",
+            Form::Default("D", "0"),
+            "How often to halve the image, at most the LEVELS of `jk info`",
+        ),
+        EXPLAIN,
+    ];
+    with_words(alloc, command, &words)
 }
 
 /// `jk info IN`.
 fn info<'a>(alloc: Global) -> Result<Command<'a>, AllocError> {
-    Command::new(alloc, "info")
+    let command = Command::new(alloc, "info")
         .about("Tells in one line what a JPEG 2000 file holds")
-        .after_help(INFO_WORDS)
-        .arg(input(alloc, "The JPEG 2000 file, or - for standard input"))?
-        .arg(explain(alloc))
+        .after_help(INFO_WORDS);
+    with_words(alloc, command, &[CODED, EXPLAIN])
 }
 
 /// `jk cut IN OUT`.
 fn cut<'a>(alloc: Global) -> Result<Command<'a>, AllocError> {
-    let reduce = number(alloc, "reduce", "D").default_value("0").help(
-        "How often to halve the image before, at most the LEVELS of `jk info`",
-    );
-    Command::new(alloc, "cut")
+    let command = Command::new(alloc, "cut")
         .about("Cuts a window out of a JPEG 2000 file, without decoding it")
-        .after_help(CUT_WORDS)
-        .arg(input(alloc, "The JPEG 2000 file, or - for standard input"))?
-        .arg(output(
-            alloc,
+        .after_help(CUT_WORDS);
+    let words = [
+        CODED,
+        Word(
+            "OUT",
+            Form::Place,
             "The JPEG 2000 file to write, or - for standard output",
-        ))?
-        .arg(side(alloc, "x", "The left column of the window"))?
-        .arg(side(alloc, "y", "The upper row of the window"))?
-        .arg(side(alloc, "w", "How many columns it has"))?
-        .arg(side(alloc, "h", "How many rows it has"))?
-        .arg(reduce)?
-        .arg(explain(alloc))
-}
-
-/// A number that places a window.
-fn side<'a>(alloc: Global, name: &'a str, help: &'a str) -> Arg<'a> {
-    number(alloc, name, "N").required(true).help(help)
+        ),
+        Word("x", Form::Required, "The left column of the window"),
+        Word("y", Form::Required, "The upper row of the window"),
+        Word("w", Form::Required, "How many columns it has"),
+        Word("h", Form::Required, "How many rows it has"),
+        Word(
+            "reduce",
+            Form::Default("D", "0"),
+            "How often to halve the image before, at most the LEVELS of `jk info`",
+        ),
+        EXPLAIN,
+    ];
+    with_words(alloc, command, &words)
 }
 
 /// `jk add DIR NAME IN`.
 fn add<'a>(alloc: Global, defaults: &'a Defaults) -> Result<Command<'a>, AllocError> {
     let command = Command::new(alloc, "add")
         .about("Adds a PGM or PPM file to an archive")
-        .after_help(ADD_WORDS)
-        .arg(folder(alloc))?
-        .arg(
-            Arg::new(alloc, "NAME").required(true).help(
-                "The name of the image: 1 to 64 of a to z, 0 to 9, - and _",
-            ),
-        )?
-        .arg(input(alloc, "The PGM or PPM file, or - for standard input"))?;
-    let command = coding(alloc, command, defaults)?;
-    tiling(alloc, command, defaults)?.arg(explain(alloc))
+        .after_help(ADD_WORDS);
+    let words = [
+        FOLDER,
+        Word(
+            "NAME",
+            Form::Place,
+            "The name of the image: 1 to 64 of a to z, 0 to 9, - and _",
+        ),
+        PIXELS,
+    ];
+    let command = with_words(alloc, command, &words)?;
+    with_encoding(alloc, command, defaults)
 }
 
 /// `jk serve DIR`.
 fn serve<'a>(alloc: Global) -> Result<Command<'a>, AllocError> {
-    let port = Arg::new(alloc, "port")
-        .long("port")
-        .value_name("P")
-        .value_parser(value_parser!(u16))
-        .required(true)
-        .help("The port on 127.0.0.1, or 0 for one that is free");
-    let connections = number(alloc, "connections", "K").help(
-        "How many connections to take before the end; without it there is none",
-    );
-    Command::new(alloc, "serve")
+    let command = Command::new(alloc, "serve")
         .about("Serves the images of an archive and windows of them over HTTP/1.1")
-        .after_help(SERVE_WORDS)
-        .arg(folder(alloc))?
-        .arg(port)?
-        .arg(connections)?
-        .arg(explain(alloc))
-}
-
-/// The folder of an archive.
-fn folder<'a>(alloc: Global) -> Arg<'a> {
-    Arg::new(alloc, "DIR")
-        .required(true)
-        .help("The folder of the archive")
+        .after_help(SERVE_WORDS);
+    let words = [
+        FOLDER,
+        Word(
+            "port",
+            Form::Port,
+            "The port on 127.0.0.1, or 0 for one that is free",
+        ),
+        Word(
+            "connections",
+            Form::Number("K"),
+            "How many connections to take before the end; without it there is none",
+        ),
+        EXPLAIN,
+    ];
+    with_words(alloc, command, &words)
 }
 
 /// `jk faults`.
 fn faults<'a>(alloc: Global) -> Result<Command<'a>, AllocError> {
-    Command::new(alloc, "faults")
-        .about("Lists all faults, each with its number, name and cause")
-        .arg(explain(alloc))
+    let command = Command::new(alloc, "faults").about(
+        "Lists all faults, each with its number, name and cause",
+    );
+    with_words(alloc, command, &[EXPLAIN])
 }
 
-/// That a fault is explained.
-fn explain<'a>(alloc: Global) -> Arg<'a> {
-    flag(
-        alloc,
-        "explain",
-        "Say the cause of a fault in words, behind its line; on a terminal they are there anyway",
-    )
-}
-
-/// The file to read.
-fn input<'a>(alloc: Global, help: &'a str) -> Arg<'a> {
-    Arg::new(alloc, "IN").required(true).help(help)
-}
-
-/// The file to write.
-fn output<'a>(alloc: Global, help: &'a str) -> Arg<'a> {
-    Arg::new(alloc, "OUT").required(true).help(help)
-}
-
-/// An option without a value.
-fn flag<'a>(alloc: Global, name: &'a str, help: &'a str) -> Arg<'a> {
-    Arg::new(alloc, name)
-        .long(name)
-        .action(ArgAction::SetTrue)
-        .help(help)
+/// What clap is told of a word.
+fn arg<'a>(alloc: Global, word: Word<'a>) -> Arg<'a> {
+    let Word(name, form, help) = word;
+    let arg = match form {
+        Form::Place => Arg::new(alloc, name).required(true),
+        Form::Flag => Arg::new(alloc, name).long(name).action(ArgAction::SetTrue),
+        Form::Number(letter) => number(alloc, name, letter),
+        Form::Required => number(alloc, name, "N").required(true),
+        Form::Default(letter, value) => number(alloc, name, letter).default_value(value),
+        Form::Order(value) => order(alloc, name, value),
+        Form::Bytes => Arg::new(alloc, name).long(name).value_name("HEX"),
+        Form::Port => port(alloc, name),
+    };
+    arg.help(help)
 }
 
 /// An option with a number.
-fn number<'a>(alloc: Global, name: &'a str, value: &'a str) -> Arg<'a> {
+fn number<'a>(alloc: Global, name: &'a str, letter: &'a str) -> Arg<'a> {
     Arg::new(alloc, name)
         .long(name)
-        .value_name(value)
+        .value_name(letter)
         .value_parser(value_parser!(u32))
+}
+
+/// The order of packets.
+fn order<'a>(alloc: Global, name: &'a str, value: &'a str) -> Arg<'a> {
+    Arg::new(alloc, name)
+        .long(name)
+        .value_name("ORDER")
+        .value_parser(["LRCP", "RLCP", "RPCL", "PCRL", "CPRL"].as_slice())
+        .default_value(value)
+}
+
+/// A port, which is required.
+fn port<'a>(alloc: Global, name: &'a str) -> Arg<'a> {
+    Arg::new(alloc, name)
+        .long(name)
+        .value_name("P")
+        .value_parser(value_parser!(u16))
+        .required(true)
 }

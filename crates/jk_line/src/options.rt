@@ -2,7 +2,9 @@
 
 use crate::world::Serving;
 use clap::ArgMatches;
+use clap::parser::ValueSource;
 use jk_commands::{EncodeOptions, order_named};
+use jk_marks::Order;
 use jk_math::Fault;
 use jk_window::View;
 use std::alloc::Global;
@@ -12,22 +14,27 @@ fn number(line: &ArgMatches<'_>, name: &str, default: u32) -> u32 {
     line.get_one::<u32>(name).unwrap_or(default)
 }
 
+/// The order of the packets, where it is given.
+fn order(line: &ArgMatches<'_>) -> Option<Order> {
+    match line.value_source("order") {
+        Some(ValueSource::CommandLine) => order_named(line.get_str("order")?),
+        _ => None,
+    }
+}
+
 /// The options of an encoding.
 pub(crate) fn encoding(alloc: Global, line: &ArgMatches<'_>) -> Result<EncodeOptions, Fault> {
     let given = EncodeOptions::new(alloc);
-    let order = match line.get_str("order") {
-        Some(name) => order_named(name),
-        None => None,
-    };
     Ok(EncodeOptions {
         levels: number(line, "levels", given.levels),
         layers: number(line, "layers", given.layers),
-        order: order.unwrap_or(given.order),
+        order: order(line),
         tile_width: line.get_one::<u32>("tile-width"),
         tile_height: line.get_one::<u32>("tile-height"),
         block_x: number(line, "block-x", given.block_x),
         block_y: number(line, "block-y", given.block_y),
         precincts: String::from_str(alloc, line.get_str("precincts").unwrap_or(""))?,
+        windows: line.get_flag("windows"),
         x0: number(line, "x0", given.x0),
         y0: number(line, "y0", given.y0),
         no_colour: line.get_flag("no-colour"),

@@ -6,15 +6,17 @@ use crate::failure::{Failure, of_file, of_options, of_world};
 use crate::faults::{self, FaultLine, cause_of};
 use crate::features::left_out;
 use crate::status::Status;
-use crate::streams::{read, write};
+use crate::streams::{create, finish, read, write};
 use crate::world::World;
 use crate::{archive, options};
 use clap::ArgMatches;
 use clap::error::ErrorKind;
-use jk_commands::{cut_file, decode_file, encode_file, info_file, judge};
+use jk_commands::{cut_file, decode_file, encode_file_into, info_file, judge};
+use jk_math::Fault;
 use std::alloc::Global;
 
-/// `jk encode IN OUT`: the options first, then the input, the image and its encoding, the output.
+/// `jk encode IN OUT`: the options first, then the input, the image and its encoding, which goes to
+/// the output tile by tile.
 fn encode<W: World>(alloc: Global, line: &ArgMatches<'_>, world: &mut W) -> Result<(), Failure> {
     let options = options::encoding(alloc, line)?;
     let plan = match judge(alloc, &options) {
@@ -22,8 +24,13 @@ fn encode<W: World>(alloc: Global, line: &ArgMatches<'_>, world: &mut W) -> Resu
         Err(fault) => return Err(of_options(alloc, fault, &options)),
     };
     let bytes = read(alloc, world, options::input(line))?;
-    match encode_file(alloc, bytes, plan) {
-        Ok(file) => write(alloc, world, options::output(line), &file),
+    let name = options::output(line);
+    let mut output = create(alloc, world, name)?;
+    let encoded = encode_file_into(alloc, bytes, plan, &mut output);
+    let finished = finish(alloc, world, name, output, encoded.is_ok());
+    match encoded {
+        Ok(()) => finished,
+        Err(Fault::Shelf) => finished.and(Err(Failure::from(Fault::Shelf))),
         Err(fault) => Err(of_options(alloc, fault, &options)),
     }
 }

@@ -2,6 +2,7 @@
 
 use crate::failure::{Failure, of_world};
 use crate::world::World;
+use jk_math::Fault;
 use std::alloc::Global;
 
 /// What a file is called: its name, or the stream that `-` stands for.
@@ -17,6 +18,17 @@ pub(crate) fn read<W: World>(alloc: Global, world: &mut W, name: &str) -> Result
     }
 }
 
+/// A refused output, in words.
+fn unwritten<W: World>(alloc: Global, world: &W, fault: Fault, name: &str) -> Failure {
+    of_world(
+        alloc,
+        world,
+        fault,
+        called(name, "standard output"),
+        "written",
+    )
+}
+
 /// Writes all bytes to a file, or to standard output.
 pub(crate) fn write<W: World>(
     alloc: Global,
@@ -26,12 +38,32 @@ pub(crate) fn write<W: World>(
 ) -> Result<(), Failure> {
     match world.write(alloc, name, bytes) {
         Ok(()) => Ok(()),
-        Err(fault) => Err(of_world(
-            alloc,
-            world,
-            fault,
-            called(name, "standard output"),
-            "written",
-        )),
+        Err(fault) => Err(unwritten(alloc, world, fault, name)),
+    }
+}
+
+/// A file that is to be written in parts, or standard output.
+pub(crate) fn create<W: World>(
+    alloc: Global,
+    world: &mut W,
+    name: &str,
+) -> Result<W::Output, Failure> {
+    match world.create(alloc, name) {
+        Ok(output) => Ok(output),
+        Err(fault) => Err(unwritten(alloc, world, fault, name)),
+    }
+}
+
+/// Ends what was written in parts.
+pub(crate) fn finish<W: World>(
+    alloc: Global,
+    world: &mut W,
+    name: &str,
+    output: W::Output,
+    is_whole: bool,
+) -> Result<(), Failure> {
+    match world.finish(output, is_whole) {
+        Ok(()) => Ok(()),
+        Err(fault) => Err(unwritten(alloc, world, fault, name)),
     }
 }

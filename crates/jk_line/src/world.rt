@@ -4,7 +4,7 @@ use jk_math::Fault;
 use jk_store::{Archive, Shelf};
 use std::alloc::Global;
 use std::fmt::Display;
-use std::io;
+use std::io::{self, Write};
 
 /// How an archive is served.
 #[derive(Clone, Copy, Debug, PartialEq, Eq)]
@@ -22,11 +22,23 @@ pub trait World {
     /// The folder of an archive.
     type Folder: Shelf + Drop;
 
+    /// A file that is written in parts, or standard output.
+    type Output: Write + Drop;
+
     /// All bytes of a file, or of standard input for `-`.
     fn read(&mut self, alloc: Global, name: &str) -> Result<Vec<u8>, Fault>;
 
     /// Writes all bytes to a file, or to standard output for `-`.
     fn write(&mut self, alloc: Global, name: &str, bytes: &[u8]) -> Result<(), Fault>;
+
+    /// A file that is to be written in parts, or standard output for `-`. Nothing is opened before
+    /// the first byte is written.
+    fn create(&mut self, alloc: Global, name: &str) -> Result<Self::Output, Fault>;
+
+    /// Ends what was written in parts. Where that is whole, a file takes its place now; else what
+    /// has its place stays, if it is a file. It is refused where a part couldn't be written, or the
+    /// file can't take its place.
+    fn finish(&mut self, output: Self::Output, is_whole: bool) -> Result<(), Fault>;
 
     /// Writes a text to standard output.
     fn print<D: Display>(&mut self, text: &D) -> Result<(), Fault>;

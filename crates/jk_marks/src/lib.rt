@@ -25,4 +25,4 @@ pub use segments::{Cod, CodingStyle, Exponents, Order, Precincts, Quantisation};
 pub use siz::Siz;
 pub use spelling::one_tree;
 pub use tile_part::{TilePart, read_tile_part};
-pub use write::{write_end, write_main, write_tile_part};
+pub use write::{write_end, write_main, write_part_head, write_tile_part};

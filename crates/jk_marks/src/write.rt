@@ -1,6 +1,6 @@
 //! Writing the marker segments.
 
-ghost use Rattle.std.specs.Prelude.{◌≡◌, ◌+◌, ◌*◌, ◌≤◌, ◌<◌, ◌^◌, ◌++◌, ◌∷◌, [], List, length, OnOk, OnErr, IfErr, replicate, Err, ◌⊎◌, ◌↔◌};
+ghost use Rattle.std.specs.Prelude.{◌≡◌, ◌+◌, ◌*◌, ◌≤◌, ◌<◌, ◌^◌, ◌++◌, ◌∷◌, [], List, ℕ, length, OnOk, OnErr, IfErr, replicate, Err, ◌⊎◌, ◌↔◌};
 ghost use Rattle.std.specs.List.{concat, flat_map, AllByRecursion};
 ghost use Rattle.jk_math.specs.Memory.{IsMemory};
 ghost use Rattle.byteorder.specs.Endian.{big_bytes};
@@ -307,11 +307,34 @@ fn put_sot(out: &mut Vec<u8>, tile: u16, psot: u32) -> Result<(), Fault>
     Ok(())
 }
 
+/// Appends the head of a tile's only tile-part, which has `size` bytes of data: SOT with its segment, and SOD (T.800
+/// A.4.2, A.4.3). After Memory a part of it may stand behind what was there.
+///
+/// Limit: the tile-part would be longer than 2^32 - 1 bytes; then nothing is appended.
+#[tactic(auto, unfolding(crate::specs::Codestream::part_text))]
+pub fn write_part_head(tile: u16, size: u64, out: &mut Vec<u8>) -> Result<(), Fault>
+    requires { size + 14 < 2 ^ 64 }
+    // With the data behind it, it is the tile-part.
+    ensures ok { (content : List ℕ) → length content ≡ size
+        → OnOk result (out.new.items ++ content ≡ out.old.items ++ part_text (only_part_of tile content)) }
+    ensures fits { OnOk result (14 + size < 2 ^ 32) }
+    ensures limit { result ≡ Err Fault.Limit ↔ (2 ^ 32 ≤ 14 + size) }
+    ensures err { IfErr result (λ e. IsMemory e ⊎ (e ≡ Fault.Limit)) }
+    ensures front { IsFront out.old.items out.new.items }
+    ensures unmoved { result ≡ Err Fault.Limit → out.new.items ≡ out.old.items }
+{
+    let Ok(psot) = u32::try_from(14 + size) else {
+        return Err(Fault::Limit);
+    };
+    put_sot(out, tile, psot)?;
+    put_two(out, marker::SOD)?;
+    Ok(())
+}
+
 /// Appends a tile's only tile-part with these data (T.800 A.4.2). After Memory a part of it may stand behind
 /// what was there.
 ///
 /// Limit: the tile-part would be longer than 2^32 - 1 bytes; then nothing is appended.
-#[tactic(auto, unfolding(crate::specs::Codestream::part_text))]
 pub fn write_tile_part(tile: u16, content: &[u8], out: &mut Vec<u8>) -> Result<(), Fault>
     ensures ok { OnOk result (out.new.items ≡ out.old.items ++ part_text (only_part_of tile content.now)) }
     // That is a tile-part of every image that has the tile.
@@ -322,11 +345,7 @@ pub fn write_tile_part(tile: u16, content: &[u8], out: &mut Vec<u8>) -> Result<(
     ensures front { IsFront out.old.items out.new.items }
     ensures unmoved { result ≡ Err Fault.Limit → out.new.items ≡ out.old.items }
 {
-    let Ok(psot) = u32::try_from(14 + content.len() as u64) else {
-        return Err(Fault::Limit);
-    };
-    put_sot(out, tile, psot)?;
-    put_two(out, marker::SOD)?;
+    write_part_head(tile, content.len() as u64, out)?;
     out.extend_from_slice(content)?;
     Ok(())
 }

@@ -4,4 +4,5 @@ pub mod Numbers
 pub mod Rasters
 pub mod Rounding
 pub mod BitLengths
+pub mod WritingLaws
 pub mod Laws

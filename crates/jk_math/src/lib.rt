@@ -1,4 +1,4 @@
-//! Rectangles, division, images and faults: what every crate of jk speaks of.
+//! Rectangles, division, images, faults and texts that are written: what every crate of jk speaks of.
 #![tactic(auto)]
 
 mod division;
@@ -6,9 +6,11 @@ mod fault;
 mod image;
 mod planes;
 mod rect;
+mod writing;
 
 pub use division::{ceil_div, floor_div, reflect};
 pub use fault::{Fault, Refused};
 pub use image::{Image, sample_range};
 pub use planes::Planes;
 pub use rect::Rect;
+pub use writing::write_out;

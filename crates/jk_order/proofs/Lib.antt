@@ -11,5 +11,7 @@ pub mod OrderLaws
 pub mod Starting
 pub mod LayerLaws
 pub mod LengthLaws
+pub mod SlotLaws
+pub mod FirstLaws
 mod Examples
 pub mod Laws

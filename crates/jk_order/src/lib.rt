@@ -4,10 +4,14 @@
 mod count;
 mod opening;
 mod packets;
+mod slots;
 mod stream;
 mod theorems;
 
 pub use count::packet_count;
 pub use jk_geom::PacketName;
 pub use packets::Packets;
-pub use theorems::{layers_in_turn, one_packet_order, packet_order, packets_are_counted};
+pub use slots::Slots;
+pub use theorems::{
+    layers_in_turn, one_packet_order, packet_order, packets_are_counted, packets_have_slots,
+};

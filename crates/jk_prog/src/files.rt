@@ -1,4 +1,4 @@
-//! The program's files and standard streams.
+//! The program's files and standard streams, read and written as a whole.
 
 use jk_files::{Refusal, read_all, replace_file};
 use std::alloc::Global;

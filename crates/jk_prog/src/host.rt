@@ -1,5 +1,6 @@
 //! The world of the program: the system's files, streams and sockets.
 
+use crate::output::Late;
 use crate::{files, serving};
 use jk_files::{Lock, Lockable, Refusal, SharedLock, wait_exclusive, wait_shared};
 use jk_line::{Serving, World};
@@ -7,7 +8,7 @@ use jk_math::Fault;
 use jk_store::{Archive, Folder};
 use std::alloc::Global;
 use std::fmt::Display;
-use std::io;
+use std::io::{self, BufWriter};
 use std::net::{Net, TcpListener, TcpStream};
 use std::rt::Files;
 use std::time::Clock;
@@ -78,6 +79,8 @@ where
 {
     type Folder = Folder<R>;
 
+    type Output = BufWriter<Late<R>, Global>;
+
     fn read(&mut self, alloc: Global, name: &str) -> Result<Vec<u8>, Fault> {
         let answer = files::read(&self.rt, alloc, name);
         self.kept(answer)
@@ -85,6 +88,19 @@ where
 
     fn write(&mut self, alloc: Global, name: &str, bytes: &[u8]) -> Result<(), Fault> {
         let answer = files::write(&self.rt, alloc, name, bytes);
+        self.kept(answer)
+    }
+
+    fn create(&mut self, alloc: Global, name: &str) -> Result<BufWriter<Late<R>, Global>, Fault> {
+        let name = String::from_str(alloc, name)?;
+        let late = Late::new(self.rt.clone()?, alloc, name);
+        let answer = BufWriter::new(alloc, late);
+        self.kept_of_system(answer)
+    }
+
+    fn finish(&mut self, output: BufWriter<Late<R>, Global>, is_whole: bool) -> Result<(), Fault> {
+        let (late, last) = output.into_parts();
+        let answer = late.finish(&last, is_whole);
         self.kept(answer)
     }
 

@@ -3,6 +3,7 @@
 
 mod files;
 mod host;
+mod output;
 mod serving;
 
 use crate::host::Host;

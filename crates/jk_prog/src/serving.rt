@@ -3,7 +3,7 @@
 use jk_line::{Serving, listening};
 use jk_math::Fault;
 use jk_store::{Archive, Folder};
-use jk_web::{End, run};
+use jk_web::{Cache, End, run_with};
 use std::alloc::Global;
 use std::io::{self, Read};
 use std::net::{Net, OpenListener, Shutdown, TcpListener, TcpStream};
@@ -13,6 +13,9 @@ use std::time::{Clock, Duration, Instant};
 
 /// The most reads of a connection.
 const TURNS: u64 = 65_536;
+
+/// How many windows are kept.
+const WINDOWS: usize = 16;
 
 /// How long is waited after the first failure to take a connection, in milliseconds.
 const FIRST_PAUSE: u64 = 10;
@@ -69,8 +72,9 @@ fn attend<R: Files + Clock + Drop>(
     alloc: Global,
     stream: &TcpStream,
     archive: &mut Archive<Folder<R>>,
+    cache: &mut Cache,
 ) {
-    match run(alloc, &mut &*stream, &mut &*stream, archive, TURNS) {
+    match run_with(alloc, &mut &*stream, &mut &*stream, archive, cache, TURNS) {
         Ok(End::Bad) | Ok(End::Closed) => {
             let _ = read_out(rt, stream);
         }
@@ -137,6 +141,7 @@ pub(crate) fn serve<R: Files + Eprint + Clock + Drop>(
     archive: &mut Archive<Folder<R>>,
     serving: Serving,
 ) -> Result<(), Fault> {
+    let mut cache = Cache::new(alloc, WINDOWS)?;
     let line = listening(alloc, archive.list().len(), port.number)?;
     let _ = rt.eprint(line.as_str());
     let mut row = Row::none();
@@ -144,7 +149,7 @@ pub(crate) fn serve<R: Files + Eprint + Clock + Drop>(
         match port.listener.accept() {
             Ok((stream, _)) => {
                 row.end(rt);
-                attend(rt, alloc, &stream, archive);
+                attend(rt, alloc, &stream, archive, &mut cache);
             }
             Err(said) => row.add(rt, said),
         }

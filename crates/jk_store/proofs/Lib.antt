@@ -6,3 +6,4 @@ pub mod NameLaws
 pub mod OpenLaws
 pub mod ShowingLaws
 pub mod AddedLaws
+pub mod MadeLaws

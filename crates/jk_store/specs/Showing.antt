@@ -75,3 +75,7 @@ Reads gave entries old n file new = (e : Entry) × (entry_of entries n ≡ Some 
 -- The second file is the window of the first, cut with the index of the entry of a name.
 abbrev pub Cuts : List Entry → List ℕ → Asked → List ℕ → List ℕ → Type 0
 Cuts entries n asked file cut = (e : Entry) × (entry_of entries n ≡ Some e) × IsCutFrom e.index (view_of asked) file cut
+
+-- Such a cut may have been made for the entry of a name: of some file that has the entry's digest, cut with its index.
+abbrev pub MayBeMade : List Entry → List ℕ → Asked → List ℕ → Type 0
+MayBeMade entries n asked cut = (e : Entry) × (file : List ℕ) × (entry_of entries n ≡ Some e) × (sha256 file ≡ e.digest) × IsCutFrom e.index (view_of asked) file cut

@@ -15,8 +15,9 @@ ghost use Rattle.jk_store.specs.Names.{is_good_name, file_name, temporary_name};
 ghost use Rattle.jk_store.specs.Counting.{Counts};
 ghost use Rattle.jk_store.specs.Catalogue.{is_listed, image_at, most_entries, StandsFor, stored, Passes};
 ghost use Rattle.jk_store.specs.Adding.{judged, IsLeft, IsUnstored};
-ghost use Rattle.jk_store.specs.Showing.{ShowImages, Stands};
+ghost use Rattle.jk_store.specs.Showing.{ShowImages, Stands, MayBeMade};
 ghost use Rattle.jk_web.specs.Images.{Image as Shown};
+ghost use Rattle.jk_web.specs.Cuts.{Within};
 ghost use Rattle.std.specs.Str.{bytes_eq};
 ghost use Rattle.jk_math.specs.declared.fault.Fault.TheVariants.{Shelf as ShelfFault};
 
@@ -175,6 +176,8 @@ impl<S: Shelf> Archive<S> {
         ensures keeps { (images : List Shown) → Stands S.keeps (map arc_value self.old.entries.items) self.old.shelf images
             → IfOk result (λ e. (i : Shown) × Stands S.keeps (map arc_value self.new.entries.items) self.new.shelf (images ++ i ∷ [])
             × (i.name ≡ name.now) × (written image.now parameters.now ≡ Ok i.file)) }
+        // What may have been made of its images still may.
+        ensures made { Within (MayBeMade (map arc_value self.old.entries.items)) (MayBeMade (map arc_value self.new.entries.items)) }
         // After a refusal the list is as before, and of files all but the temporary one of this name are.
         ensures err { OnErr result (self.new.entries.items ≡ self.old.entries.items) }
         ensures left { (files : Files) → S.keeps self.old.shelf files → IfErr result (λ e. (left : Files) × S.keeps self.new.shelf left

@@ -5,7 +5,7 @@ ghost use Rattle.std.specs.List.{flat_map};
 ghost use Rattle.std.specs.Arc.{arc_value};
 ghost use Rattle.jk_math.specs.Memory.{IsMemory};
 ghost use Rattle.jk_web.specs.Images.{Image, image_of, IsFileOf, IsCutOf, IsFileGiven, IsCutGiven, HasNoCut, MayRefuse};
-ghost use Rattle.jk_store.specs.Showing.{line_of, number_text, view_of, ShowImages, AreKept, Broke, Reads, Cuts};
+ghost use Rattle.jk_store.specs.Showing.{line_of, number_text, view_of, ShowImages, AreKept, Broke, Reads, Cuts, MayBeMade};
 
 use crate::archive::{Archive, find};
 use crate::entry::Entry;
@@ -99,6 +99,7 @@ fn window_of<S: Shelf>(
         (HasNoCut (image_of name.now images) asked) e) }
     ensures same { (images : List Image) → ShowImages (map arc_value entries.now) images → AreKept S.keeps shelf.old images
         → IfOk result (λ v. IsCutOf (image_of name.now images) asked v.items) }
+    ensures made { IfOk result (λ v. MayBeMade (map arc_value entries.now) name.now asked v.items) }
     ensures keeps { (images : List Image) → AreKept S.keeps shelf.old images → AreKept S.keeps shelf.new images }
 {
     match find(entries, name) {
@@ -111,7 +112,7 @@ fn window_of<S: Shelf>(
 impl<S: Shelf> Catalogue for Archive<S> {
     ghost use Rattle.std.specs.Prelude.{map};
     ghost use Rattle.std.specs.Arc.{arc_value};
-    ghost use Rattle.jk_store.specs.Showing.{ShowImages, AreKept, Broke, Reads, Cuts};
+    ghost use Rattle.jk_store.specs.Showing.{ShowImages, AreKept, Broke, Reads, Cuts, MayBeMade};
 
     ghost stands = { λ a images. ShowImages (map arc_value a.entries.items) images };
 
@@ -122,6 +123,8 @@ impl<S: Shelf> Catalogue for Archive<S> {
     ghost reads = { λ a n file b. Reads S.gave (map arc_value a.entries.items) a.shelf n file b.shelf };
 
     ghost cuts = { λ a n asked file cut. Cuts (map arc_value a.entries.items) n asked file cut };
+
+    ghost made = { λ a. MayBeMade (map arc_value a.entries.items) };
 
     fn lines(&self, alloc: Global) -> Result<Vec<u8>, Fault> {
         lines_of(alloc, &self.entries)

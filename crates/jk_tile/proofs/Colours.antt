@@ -26,8 +26,8 @@ use Rattle.jk_walk.specs.declared.places.PacketPlace.{PacketPlace}
 use Rattle.jk_tile.specs.Samples.{sample_of}
 use Rattle.jk_tile.specs.Pixels.{uncoloured, tile_sample}
 use Rattle.jk_tile.specs.TileMeaning.{shown_area}
-use Rattle.jk_tile.specs.TileReading.{each, component_tested, bodies_of, component_values, component_samples, tile_values_at, tile_planes_at}
-use Rattle.jk_tile.proofs.Components.{values_by}
+use Rattle.jk_tile.specs.TileReading.{each, component_tested, bodies_of, component_values, component_samples, part_values_at, part_planes_at, tile_planes_at}
+use Rattle.jk_tile.proofs.Components.{parts_tested, values_by}
 
 -- lists over one rectangle
 abbrev pub rasters : Rect → (ℕ → ℕ → ℕ → ℤ) → ℕ → List (List ℤ)
@@ -155,6 +155,11 @@ pub planes_by : (bytes : List ℕ) (h : Headers) (t d : ℕ) (places : List Pack
 unfolding tile_planes_at
 planes_by bytes h t d places = refl
 
+pub part_by : (bytes : List ℕ) (h : Headers) (t d : ℕ) (u : Rect) (places : List PacketPlace) → part_planes_at bytes h t d u places
+    ≡ (parts_tested bytes h t d u places h.siz.components >>= λ _. Ok (rasters u (component_samples bytes h t d places) h.siz.components))
+unfolding part_planes_at
+part_by bytes h t d u places = refl
+
 pub first_then : {X Y : Type 0} (t : Result (Unit {0}) Fault) (due values : X) (other : Y) → (t >>= λ _. Ok due) ≡ Ok values → (values ≡ due) × ((t >>= λ _. Ok other) ≡ Ok other)
 first_then (Ok u) due values other e = (sym (ok_is due values e), refl)
 first_then (Err x) due values other e = absurd cc
@@ -163,32 +168,32 @@ first_fails : {X Y : Type 0} (t : Result (Unit {0}) Fault) (due : X) (other : Y)
 first_fails (Ok u) due other e h = absurd cc
 first_fails (Err x) due other e h = cc
 
-pub planes_fine : (bytes : List ℕ) (h : Headers) (t d : ℕ) (places : List PacketPlace) (lists : List (List ℤ)) → tile_values_at bytes h t d places ≡ Ok lists
-    → (lists ≡ rasters (shown_area h.siz t d) (component_values bytes h t d places) h.siz.components) × (tile_planes_at bytes h t d places ≡ Ok (rasters (shown_area h.siz t d) (component_samples bytes h t d places) h.siz.components))
-planes_fine bytes h t d places lists e =
-    let both = first_then (each h.siz.components (λ c. component_tested (tile_area h.siz t) (coding_of (tile_in h.tiles t).codings c) d (bodies_of bytes places c))) (rasters (shown_area h.siz t d) (component_values bytes h t d places) h.siz.components) lists
-    (rasters (shown_area h.siz t d) (component_samples bytes h t d places) h.siz.components) (sym (values_by bytes h t d places) ∙ e) in
-    (both.0, planes_by bytes h t d places ∙ both.1)
+pub planes_fine : (bytes : List ℕ) (h : Headers) (t d : ℕ) (u : Rect) (places : List PacketPlace) (lists : List (List ℤ)) → part_values_at bytes h t d u places ≡ Ok lists
+    → (lists ≡ rasters u (component_values bytes h t d places) h.siz.components) × (part_planes_at bytes h t d u places ≡ Ok (rasters u (component_samples bytes h t d places) h.siz.components))
+planes_fine bytes h t d u places lists e =
+    let both = first_then (parts_tested bytes h t d u places h.siz.components) (rasters u (component_values bytes h t d places) h.siz.components) lists
+    (rasters u (component_samples bytes h t d places) h.siz.components) (sym (values_by bytes h t d u places) ∙ e) in
+    (both.0, part_by bytes h t d u places ∙ both.1)
 
-pub planes_err : (bytes : List ℕ) (h : Headers) (t d : ℕ) (places : List PacketPlace) (e : Fault) → tile_values_at bytes h t d places ≡ Err e → tile_planes_at bytes h t d places ≡ Err e
-planes_err bytes h t d places e is =
-    planes_by bytes h t d places ∙ first_fails (each h.siz.components (λ c. component_tested (tile_area h.siz t) (coding_of (tile_in h.tiles t).codings c) d (bodies_of bytes places c))) (rasters (shown_area h.siz t d) (component_values bytes h t d places) h.siz.components)
-    (rasters (shown_area h.siz t d) (component_samples bytes h t d places) h.siz.components) e (sym (values_by bytes h t d places) ∙ is)
+pub planes_err : (bytes : List ℕ) (h : Headers) (t d : ℕ) (u : Rect) (places : List PacketPlace) (e : Fault) → part_values_at bytes h t d u places ≡ Err e → part_planes_at bytes h t d u places ≡ Err e
+planes_err bytes h t d u places e is =
+    part_by bytes h t d u places ∙ first_fails (parts_tested bytes h t d u places h.siz.components) (rasters u (component_values bytes h t d places) h.siz.components)
+    (rasters u (component_samples bytes h t d places) h.siz.components) e (sym (values_by bytes h t d u places) ∙ is)
 
 -- the samples, where there is a colour transform, and where there isn't
-pub samples_coloured : (bytes : List ℕ) (h : Headers) (t d n : ℕ) (places : List PacketPlace) (lists : List (List ℤ)) → (tile_in h.tiles t).cod.colour ≡ true
-    → lists ≡ rasters (shown_area h.siz t d) (λ c x y. uncoloured (λ i. component_values bytes h t d places i x y) c) n → map (map (sample_of h.siz)) lists ≡ rasters (shown_area h.siz t d) (component_samples bytes h t d places) n
-samples_coloured bytes h t d n places lists colour e =
-    let a = shown_area h.siz t d in
+pub samples_coloured : (bytes : List ℕ) (h : Headers) (t d n : ℕ) (u : Rect) (places : List PacketPlace) (lists : List (List ℤ)) → (tile_in h.tiles t).cod.colour ≡ true
+    → lists ≡ rasters u (λ c x y. uncoloured (λ i. component_values bytes h t d places i x y) c) n → map (map (sample_of h.siz)) lists ≡ rasters u (component_samples bytes h t d places) n
+samples_coloured bytes h t d n u places lists colour e =
+    let a = u in
     let v = component_values bytes h t d places in
     ap (map (map (sample_of h.siz))) e ∙ rasters_map a (sample_of h.siz) (λ c x y. uncoloured (λ i. v i x y) c) n
     ∙ rasters_same a (λ c x y. sample_of h.siz (uncoloured (λ i. v i x y) c)) (component_samples bytes h t d places) n (λ c x y.
     ap (λ (b : Bool). sample_of h.siz (if b then uncoloured (λ i. v i x y) c else v c x y)) (sym colour) ∙ sym (pixel (tile_in h.tiles t).cod h.siz (λ i. v i x y) c))
 
-pub samples_plain : (bytes : List ℕ) (h : Headers) (t d n : ℕ) (places : List PacketPlace) (lists : List (List ℤ)) → (tile_in h.tiles t).cod.colour ≡ false
-    → lists ≡ rasters (shown_area h.siz t d) (component_values bytes h t d places) n → map (map (sample_of h.siz)) lists ≡ rasters (shown_area h.siz t d) (component_samples bytes h t d places) n
-samples_plain bytes h t d n places lists colour e =
-    let a = shown_area h.siz t d in
+pub samples_plain : (bytes : List ℕ) (h : Headers) (t d n : ℕ) (u : Rect) (places : List PacketPlace) (lists : List (List ℤ)) → (tile_in h.tiles t).cod.colour ≡ false
+    → lists ≡ rasters u (component_values bytes h t d places) n → map (map (sample_of h.siz)) lists ≡ rasters u (component_samples bytes h t d places) n
+samples_plain bytes h t d n u places lists colour e =
+    let a = u in
     let v = component_values bytes h t d places in
     ap (map (map (sample_of h.siz))) e ∙ rasters_map a (sample_of h.siz) v n
     ∙ rasters_same a (λ c x y. sample_of h.siz (v c x y)) (component_samples bytes h t d places) n (λ c x y.

@@ -24,16 +24,15 @@ use Rattle.std.specs.Global.{Vec}
 use Rattle.std.proofs.lemmas.List.{map-append, get_or_default}
 use Rattle.std.proofs.lemmas.List.Elements.{All-nil}
 use Rattle.jk_math.specs.Answer.{◌>>=◌}
-use Rattle.jk_math.specs.Steps.{ok_is}
 use Rattle.jk_math.specs.Picture.{lists_of}
 use Rattle.jk_math.specs.Signed.{IsBelow}
 use Rattle.jk_math.specs.declared.fault.Fault.{Fault}
-use Rattle.jk_walk.specs.TilePackets.{Body}
 use Rattle.jk_tile.specs.Gathered.{list_at}
-use Rattle.jk_tile.specs.TileReading.{each, bodies_of, component_tested, component_at, coefficient_at, component_values, tile_values_at}
-use Rattle.jk_tile.specs.Source.{Source, IsSource, source_bodies}
+use Rattle.jk_tile.specs.Filling.{IsPartOf}
+use Rattle.jk_tile.specs.TileReading.{each, bodies_of, region_of, component_part_tested, coefficient_at, component_values, part_values_at}
+use Rattle.jk_tile.specs.Source.{Source, IsSource, source_values}
 use Rattle.jk_tile.proofs.Steps.{fine, bind_ok, bind_err}
-use Rattle.jk_tile.proofs.AllBands.{range_join}
+use Rattle.jk_tile.proofs.AllBands.{range_join, value_then, fault_then}
 
 -- ---- a component is sound
 
@@ -69,22 +68,6 @@ few_precincts size h t c r is lt few le =
     let layered : 1 * sum_by (λ (j : Coding). precincts_of a j) f.codings ≤ f.cod.layers * sum_by (λ (j : Coding). precincts_of a j) f.codings = mul-le-mul_right _ some in
     omega (arith, one, all, layered, number_is a f.cod.layers f.codings, total, is.few)
 
-pub source_is : (bytes : List ℕ) (h : Headers) (t c : ℕ) (rect : Rect) (coding : Coding) (places : List PacketPlace) → AreHeaders (length bytes) h → t < tile_count h.siz → c < length (tile_in h.tiles t).codings
-    → IsArea rect → rect ≡ tile_area h.siz t → coding ≡ coding_of (tile_in h.tiles t).codings c → length bytes < 2 ^ 64 → AllByRecursion (λ w. place_end w ≤ length bytes) places
-    → IsSource (record { bytes = bytes; rect = rect; coding = coding; packets = places; component = c })
-source_is bytes h t c rect coding places is lt few area er ec fits ends =
-    let f = is.each t lt in
-    record {
-      area = area;
-      coding = subst IsCoding (sym ec) (f.codings.each c few);
-      planes = subst HasPlanes (sym ec) (all_read HasPlanes no_coding (tile_in h.tiles t).codings c f.planes few);
-      precincts = λ r le.
-          let due = few_precincts (length bytes) h t c r is lt few (subst (λ (k : Coding). r ≤ k.levels) ec le) in
-          subst (λ (a : Rect). precinct_number a coding r ≤ 2 ^ 24) (sym er) (subst (λ (k : Coding). precinct_number (tile_area h.siz t) k r ≤ 2 ^ 24) (sym ec) due);
-      fits = fits;
-      ends = ends;
-    }
-
 -- the levels of a component
 pub levels_read : (codings : List Coding) (c d : ℕ) (coding : Coding) → AllByRecursion (λ k. d ≤ k.levels) codings → c < length codings → coding ≡ coding_of codings c → d ≤ coding.levels
 levels_read codings c d coding all lt e = subst (λ (k : Coding). d ≤ k.levels) (sym e) (all_read (λ k. d ≤ k.levels) no_coding codings c all lt)
@@ -96,45 +79,63 @@ shown_is a levels d le =
     let e : levels - (levels - d) ≡ d - 0 = omega (arith, le) in
     ap (λ n. record { x0 = ceil_div a.x0 (2 ^ n); y0 = ceil_div a.y0 (2 ^ n); x1 = ceil_div a.x1 (2 ^ n); y1 = ceil_div a.y1 (2 ^ n) }) e
 
+-- the part u of component c, d resolutions below its highest
+abbrev pub source_of : List ℕ → Rect → Coding → (d : ℕ) → Rect → List PacketPlace → ℕ → Source
+source_of bytes a k d u places c = record { bytes = bytes; region = region_of a k d u; coding = k; packets = places; component = c }
+
+pub source_is : (bytes : List ℕ) (h : Headers) (t c d : ℕ) (rect u : Rect) (coding : Coding) (places : List PacketPlace) → AreHeaders (length bytes) h → t < tile_count h.siz → c < length (tile_in h.tiles t).codings
+    → IsArea rect → rect ≡ tile_area h.siz t → coding ≡ coding_of (tile_in h.tiles t).codings c → d ≤ coding.levels → IsPartOf u (shown_area h.siz t d) → length bytes < 2 ^ 64 → AllByRecursion (λ w. place_end w ≤ length bytes) places
+    → IsSource (source_of bytes rect coding d u places c)
+source_is bytes h t c d rect u coding places is lt few area er ec le inside fits ends =
+    let f = is.each t lt in
+    let coded = subst IsCoding (sym ec) (f.codings.each c few) in
+    record {
+      region = record {
+        rect = area;
+        levels = coded.levels;
+        top = omega arith;
+        inside = subst (λ (a : Rect). IsPartOf u (resolution_area a coding.levels (coding.levels - d))) (sym er) (subst (IsPartOf u) (sym (shown_is (tile_area h.siz t) coding.levels d le)) inside);
+      };
+      levels = refl;
+      coding = coded;
+      planes = subst HasPlanes (sym ec) (all_read HasPlanes no_coding (tile_in h.tiles t).codings c f.planes few);
+      precincts = λ r le.
+          let due = few_precincts (length bytes) h t c r is lt few (subst (λ (k : Coding). r ≤ k.levels) ec le) in
+          subst (λ (a : Rect). precinct_number a coding r ≤ 2 ^ 24) (sym er) (subst (λ (k : Coding). precinct_number (tile_area h.siz t) k r ≤ 2 ^ 24) (sym ec) due);
+      fits = fits;
+      ends = ends;
+    }
+
 -- ---- its values
 
-component_by_parts : (a : Rect) (k : Coding) (d : ℕ) (bodies : ℕ → ℕ → List Body) → component_at a k d bodies
-    ≡ (component_tested a k d bodies >>= λ _. Ok (raster (resolution_area a k.levels (k.levels - d)) (values_of a k d (coefficient_at a k bodies))))
-unfolding component_at
-component_by_parts a k d bodies = refl
+source_by : (bytes : List ℕ) (a : Rect) (k : Coding) (d : ℕ) (u : Rect) (places : List PacketPlace) (c : ℕ) → source_values (source_of bytes a k d u places c)
+    ≡ (component_part_tested a k d u (bodies_of bytes places c) >>= λ _. Ok (raster u (values_of a k d (coefficient_at a k (bodies_of bytes places c)))))
+unfolding source_values component_part_tested
+source_by bytes a k d u places c = refl
 
-tested_first : (t : Result (Unit {0}) Fault) (due values : List ℤ) → (t >>= λ _. Ok due) ≡ Ok values → (t ≡ fine) × (values ≡ due)
-tested_first (Ok u) due values e = (refl, sym (ok_is due values e))
-tested_first (Err x) due values e = absurd cc
+-- the source of a component that was read
+source_here : (bytes : List ℕ) (h : Headers) (t d c : ℕ) (rect u : Rect) (coding : Coding) (places : List PacketPlace) → rect ≡ tile_area h.siz t → coding ≡ coding_of (tile_in h.tiles t).codings c
+    → source_of bytes rect coding d u places c ≡ source_of bytes (tile_area h.siz t) (coding_of (tile_in h.tiles t).codings c) d u places c
+source_here bytes h t d c rect u coding places er ec =
+    ap (λ (a : Rect). source_of bytes a coding d u places c) er ∙ ap (λ (k : Coding). source_of bytes (tile_area h.siz t) k d u places c) ec
 
-tested_fault : (t : Result (Unit {0}) Fault) (due : List ℤ) (e : Fault) → (t >>= λ _. Ok due) ≡ Err e → t ≡ Err e
-tested_fault (Ok u) due e h = absurd cc
-tested_fault (Err x) due e h = cc
-
--- what the component of this source is
-abbrev source_component : Source → ℕ → Result (List ℤ) Fault
-source_component s d = component_at s.rect s.coding d (source_bodies s)
-
-pub component_then : (bytes : List ℕ) (h : Headers) (t d c : ℕ) (rect : Rect) (coding : Coding) (places : List PacketPlace) (s : Source) (values : List ℤ) → s ≡ record { bytes = bytes; rect = rect; coding = coding; packets = places; component = c }
-    → rect ≡ tile_area h.siz t → coding ≡ coding_of (tile_in h.tiles t).codings c → d ≤ coding.levels → source_component s d ≡ Ok values
-    → (component_tested (tile_area h.siz t) (coding_of (tile_in h.tiles t).codings c) d (bodies_of bytes places c) ≡ fine) × (values ≡ raster (shown_area h.siz t d) (component_values bytes h t d places c))
-component_then bytes h t d c rect coding places s values es er ec le e =
+pub component_then : (bytes : List ℕ) (h : Headers) (t d c : ℕ) (rect u : Rect) (coding : Coding) (places : List PacketPlace) (s : Source) (values : List ℤ) → s ≡ source_of bytes rect coding d u places c
+    → rect ≡ tile_area h.siz t → coding ≡ coding_of (tile_in h.tiles t).codings c → source_values s ≡ Ok values
+    → (component_part_tested (tile_area h.siz t) (coding_of (tile_in h.tiles t).codings c) d u (bodies_of bytes places c) ≡ fine) × (values ≡ raster u (component_values bytes h t d places c))
+component_then bytes h t d c rect u coding places s values es er ec e =
     let a = tile_area h.siz t in
     let k = coding_of (tile_in h.tiles t).codings c in
-    let there : component_at a k d (bodies_of bytes places c) ≡ Ok values =
-    ap (λ (x : Rect). component_at x k d (bodies_of bytes places c)) (sym er) ∙ ap (λ (x : Coding). component_at rect x d (bodies_of bytes places c)) (sym ec) ∙ ap (λ (x : Source). source_component x d) (sym es) ∙ e in
-    let both = tested_first (component_tested a k d (bodies_of bytes places c)) _ values (sym (component_by_parts a k d (bodies_of bytes places c)) ∙ there) in
-    (both.0, both.1 ∙ ap (λ (x : Rect). raster x (component_values bytes h t d places c)) (shown_is a k.levels d (subst (λ (x : Coding). d ≤ x.levels) ec le)))
+    value_then (component_part_tested a k d u (bodies_of bytes places c)) (raster u (component_values bytes h t d places c)) values
+    (sym (source_by bytes a k d u places c) ∙ ap source_values (sym (es ∙ source_here bytes h t d c rect u coding places er ec)) ∙ e)
 
-pub component_not : (bytes : List ℕ) (h : Headers) (t d c : ℕ) (rect : Rect) (coding : Coding) (places : List PacketPlace) (s : Source) (e : Fault) → s ≡ record { bytes = bytes; rect = rect; coding = coding; packets = places; component = c }
-    → rect ≡ tile_area h.siz t → coding ≡ coding_of (tile_in h.tiles t).codings c → source_component s d ≡ Err e
-    → component_tested (tile_area h.siz t) (coding_of (tile_in h.tiles t).codings c) d (bodies_of bytes places c) ≡ Err e
-component_not bytes h t d c rect coding places s e es er ec is =
+pub component_not : (bytes : List ℕ) (h : Headers) (t d c : ℕ) (rect u : Rect) (coding : Coding) (places : List PacketPlace) (s : Source) (e : Fault) → s ≡ source_of bytes rect coding d u places c
+    → rect ≡ tile_area h.siz t → coding ≡ coding_of (tile_in h.tiles t).codings c → source_values s ≡ Err e
+    → component_part_tested (tile_area h.siz t) (coding_of (tile_in h.tiles t).codings c) d u (bodies_of bytes places c) ≡ Err e
+component_not bytes h t d c rect u coding places s e es er ec is =
     let a = tile_area h.siz t in
     let k = coding_of (tile_in h.tiles t).codings c in
-    let there : component_at a k d (bodies_of bytes places c) ≡ Err e =
-    ap (λ (x : Rect). component_at x k d (bodies_of bytes places c)) (sym er) ∙ ap (λ (x : Coding). component_at rect x d (bodies_of bytes places c)) (sym ec) ∙ ap (λ (x : Source). source_component x d) (sym es) ∙ is in
-    tested_fault (component_tested a k d (bodies_of bytes places c)) _ e (sym (component_by_parts a k d (bodies_of bytes places c)) ∙ there)
+    fault_then (component_part_tested a k d u (bodies_of bytes places c)) (raster u (component_values bytes h t d places c)) e
+    (sym (source_by bytes a k d u places c) ∙ ap source_values (sym (es ∙ source_here bytes h t d c rect u coding places er ec)) ∙ is)
 
 -- ---- one component more
 
@@ -152,18 +153,22 @@ small_push m [] v hx hv (suc c) = All-nil (IsBelow m)
 small_push m (x ∷ xs) v hx hv zero = hx 0
 small_push m (x ∷ xs) v hx hv (suc c) = small_push m xs v (λ k. hx (suc k)) hv c
 
-pub values_by : (bytes : List ℕ) (h : Headers) (t d : ℕ) (places : List PacketPlace) → tile_values_at bytes h t d places
-    ≡ (each h.siz.components (λ c. component_tested (tile_area h.siz t) (coding_of (tile_in h.tiles t).codings c) d (bodies_of bytes places c)) >>= λ _. Ok (map (λ c. raster (shown_area h.siz t d) (component_values bytes h t d places c)) (range_with_len 0 h.siz.components)))
-unfolding tile_values_at
-values_by bytes h t d places = refl
+-- all components of a part
+abbrev pub parts_tested : List ℕ → Headers → (t d : ℕ) → Rect → List PacketPlace → ℕ → Result (Unit {0}) Fault
+parts_tested bytes h t d u places n = each n (λ c. component_part_tested (tile_area h.siz t) (coding_of (tile_in h.tiles t).codings c) d u (bodies_of bytes places c))
 
-pub values_fine : (bytes : List ℕ) (h : Headers) (t d : ℕ) (places : List PacketPlace) → each h.siz.components (λ c. component_tested (tile_area h.siz t) (coding_of (tile_in h.tiles t).codings c) d (bodies_of bytes places c)) ≡ fine
-    → tile_values_at bytes h t d places ≡ Ok (map (λ c. raster (shown_area h.siz t d) (component_values bytes h t d places c)) (range_with_len 0 h.siz.components))
-values_fine bytes h t d places e = values_by bytes h t d places ∙ bind_ok _ _ tt e
+pub values_by : (bytes : List ℕ) (h : Headers) (t d : ℕ) (u : Rect) (places : List PacketPlace) → part_values_at bytes h t d u places
+    ≡ (parts_tested bytes h t d u places h.siz.components >>= λ _. Ok (map (λ c. raster u (component_values bytes h t d places c)) (range_with_len 0 h.siz.components)))
+unfolding part_values_at
+values_by bytes h t d u places = refl
 
-pub values_err : (bytes : List ℕ) (h : Headers) (t d : ℕ) (places : List PacketPlace) (e : Fault) → each h.siz.components (λ c. component_tested (tile_area h.siz t) (coding_of (tile_in h.tiles t).codings c) d (bodies_of bytes places c)) ≡ Err e
-    → tile_values_at bytes h t d places ≡ Err e
-values_err bytes h t d places e is = values_by bytes h t d places ∙ bind_err _ _ e is
+pub values_fine : (bytes : List ℕ) (h : Headers) (t d : ℕ) (u : Rect) (places : List PacketPlace) → parts_tested bytes h t d u places h.siz.components ≡ fine
+    → part_values_at bytes h t d u places ≡ Ok (map (λ c. raster u (component_values bytes h t d places c)) (range_with_len 0 h.siz.components))
+values_fine bytes h t d u places e = values_by bytes h t d u places ∙ bind_ok _ _ tt e
+
+pub values_err : (bytes : List ℕ) (h : Headers) (t d : ℕ) (u : Rect) (places : List PacketPlace) (e : Fault) → parts_tested bytes h t d u places h.siz.components ≡ Err e
+    → part_values_at bytes h t d u places ≡ Err e
+values_err bytes h t d u places e is = values_by bytes h t d u places ∙ bind_err _ _ e is
 
 -- the coding that is read
 pub coding_read : (codings lent : List Coding) (c : ℕ) (k : Coding) → lent ≡ codings → c < length codings → k ≡ get_or lent c k → k ≡ coding_of codings c

@@ -2,7 +2,7 @@
 pub use Rattle.jk_tile.proofs.TileLaws.{tile_found, tile_only}
 pub use Rattle.jk_tile.proofs.TileLaws.{IsDecoded, tile_tested}
 pub use Rattle.jk_tile.proofs.Steps.{fine, each_none, each_more, each_fails, each_found, each_only, refuses_on, tested_then, tested_ok, tested_err, bind_ok, bind_err}
-pub use Rattle.jk_tile.proofs.Showing.{IsPut, Agrees, put_keeps, put_shows, has_within, within_has, put_here, put_there, vector_items, with_same}
+pub use Rattle.jk_tile.proofs.Showing.{IsPut, Agrees, put_keeps, put_shows, put_at, has_within, within_has, put_here, put_there, vector_items, with_same}
 pub use Rattle.jk_tile.proofs.Colours.{rasters}
 pub use Rattle.jk_tile.proofs.PacketsTold.{HaveTables, names_of, of_layers, bodies_same, tile_is}
 pub use Rattle.jk_tile.proofs.LayerTables.{table_fits, table_has_bytes, table_has_passes}
@@ -18,3 +18,4 @@ pub use Rattle.jk_tile.proofs.TileLaws.{bodies_are, pixel_same}
 pub use Rattle.jk_tile.proofs.Components.{levels_read, shown_is}
 pub use Rattle.jk_tile.proofs.AllBands.{numbered_low, numbered_high}
 pub use Rattle.jk_tile.proofs.LocalTiles.{IsMeant, meant_at, none_meant, gathered, place_agrees}
+pub use Rattle.jk_tile.proofs.PartLaws.{each_fewer, part_decoded, part_fine}

@@ -8,6 +8,7 @@ pub mod AllBands
 pub mod Sampling
 pub mod Components
 pub mod Colours
+pub mod WholeTile
 pub mod Copying
 pub mod Forwards
 pub mod Needing
@@ -29,4 +30,5 @@ pub mod TileLaws
 pub mod FrontsMeant
 pub mod FrontBodies
 pub mod LocalTiles
+pub mod PartLaws
 pub mod Laws

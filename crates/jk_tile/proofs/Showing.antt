@@ -1,5 +1,5 @@
 -- A code-block put into the list of its sub-band.
-use Rattle.std.proofs.Common.{◌≡◌, ℕ, ◌*◌, ◌<◌, ◌≤◌, Bool, true, false, ◌&&◌, leb, ltb, if◌then◌else◌, List, [], ◌∷◌, ◌++◌, take, drop, length, map, get_or, set, All, Ok, Err, ℤ, refl, sym, ap, subst, ◌∙◌, inl, inr, arith}
+use Rattle.std.proofs.Common.{◌≡◌, ℕ, zero, suc, ◌+◌, ◌*◌, ◌/◌, ◌%◌, ◌<◌, ◌≤◌, Bool, true, false, ◌&&◌, leb, ltb, if◌then◌else◌, List, [], ◌∷◌, ◌++◌, take, drop, length, map, get_or, set, All, Result, Ok, Err, ℤ, refl, sym, ap, subst, ◌∙◌, inl, inr, arith}
 use Rattle.std.specs.List.{AllByRecursion}
 use Rattle.std.specs.Global.{Vec}
 use Rattle.std.specs.Vec.{with_items}
@@ -14,7 +14,7 @@ use Rattle.jk_geom.specs.Precincts.{precinct_number, precincts_across, precincts
 use Rattle.jk_marks.specs.declared.coding.Coding.{Coding}
 use Rattle.jk_geom.specs.declared.bands.Orientation.{Orientation}
 use Rattle.jk_geom.specs.declared.grid.BlockGrid.{BlockGrid}
-use Rattle.jk_geom.specs.Rectangles.{IsWithin, band_area}
+use Rattle.jk_geom.specs.Rectangles.{IsWithin, band_area, meet, cell}
 use Rattle.jk_geom.specs.Blocks.{block_area, block_grid}
 use Rattle.jk_geom.specs.Partitions.{block_number, precinct_of}
 use Rattle.jk_scan.specs.declared.shape.Kind.{Kind}
@@ -23,14 +23,18 @@ use Rattle.jk_walk.specs.declared.places.PacketPlace.{PacketPlace}
 use Rattle.jk_walk.specs.TilePackets.{Body, orientations, band_number, planes_of}
 use Rattle.jk_walk.specs.WalkReading.{place_end}
 use Rattle.jk_tile.specs.TileBlocks.{orientation_at, grid_at, block_at_place, kind_of, shape_of_area, block_bodies}
-use Rattle.jk_tile.specs.TileReading.{each, precinct_tested, resolution_tested, bodies_of, bodies_values, block_values, values_or, block_with}
+use Rattle.jk_tile.specs.TileReading.{each, tested, is_met, met_tested, precinct_part_tested, resolution_part_tested, bodies_of, bodies_values, block_values, values_or, block_with}
 use Rattle.jk_tile.specs.declared.bodies.BodyPlace.{BodyPlace}
 use Rattle.jk_tile.specs.Gathered.{place_in, list_at, AreNumbers, AreByPrecinct, AreByBlock, bodies_in, body_of, IsInside}
-use Rattle.jk_tile.specs.Filling.{has, IsPartOf}
-use Rattle.jk_tile.specs.Source.{Source, IsSource, IsBandPart, IsBlockShape, source_bodies, source_coefficient, source_area, IsPlane, ArePlanes, Keeps, ShowsBlocks, ShowsPrecinct, block_count, band_lists, resolution_at}
+use Rattle.jk_tile.specs.Filling.{has, IsPartOf, touches}
+use Rattle.jk_tile.specs.Source.{Source, IsSource, IsBlockShape, source_bodies, source_coefficient, source_part, IsPlane, ArePlanes, Keeps, ShowsBlocks, ShowsPrecinct, block_count, band_lists, resolution_at}
 use Rattle.jk_math.specs.declared.fault.Fault.{Fault}
-use Rattle.jk_tile.proofs.Steps.{fine, bind_ok, bind_err, resolution_by}
-use Rattle.jk_tile.proofs.Places.{block_is_shape, block_is_part, block_found, coefficient_is}
+use Rattle.jk_wave.specs.Bands.{numbered_area}
+use Rattle.jk_wave.proofs.Laws.{part_inside, part_within}
+use Rattle.jk_tile.proofs.Fillings.{touches_at, none_touched}
+use Rattle.jk_tile.proofs.Steps.{fine, each_only, bind_ok, bind_err, met_by, resolution_part_by}
+use Rattle.jk_tile.proofs.AllBands.{numbered_low, numbered_high}
+use Rattle.jk_tile.proofs.Places.{block_is_shape, block_found, coefficient_is}
 
 -- a place that a rectangle has
 pub has_within : (a : Rect) (x y : ℕ) → has a x y ≡ true → IsWithin a x y
@@ -67,49 +71,54 @@ put_shows area place old new values f put agrees part x y h =
     let inside : IsWithin area x y = record { left = omega (arith, hl, part.left); right = omega (arith, hr, part.right); upper = omega (arith, hu, part.upper); lower = omega (arith, hd, part.lower) } in
     put x y inside ∙ ap (λ (b : Bool). if b then plane_at place values x y else plane_at area old x y) (within_has place x y h) ∙ agrees x y h
 
--- the rectangle of the sub-band
-pub area_is : (s : Source) (r i : ℕ) (rect area : Rect) (coding : Coding) (o : Orientation) → rect ≡ s.rect → coding ≡ s.coding → o ≡ orientation_at r i → area ≡ band_area rect coding.levels r o → area ≡ source_area s r i
-area_is s r i rect area coding o er ec eo e =
-    e ∙ ap (λ (x : Rect). band_area x coding.levels r o) er ∙ ap (λ (k : Coding). band_area s.rect k.levels r o) ec ∙ ap (band_area s.rect s.coding.levels r) eo
+-- what the rectangle has of it
+pub put_at : (area place : Rect) (old new values : List ℤ) (f : ℕ → ℕ → ℤ) → IsPut area place old new values → Agrees place values f
+    → (x y : ℕ) → IsWithin place x y → IsWithin area x y → plane_at area new x y ≡ f x y
+put_at area place old new values f put agrees x y h inside =
+    put x y inside ∙ ap (λ (b : Bool). if b then plane_at place values x y else plane_at area old x y) (within_has place x y h) ∙ agrees x y h
 
 -- the place of the code-block
-pub place_is : (s : Source) (r n i j : ℕ) (grid : BlockGrid) (place : Rect) → grid ≡ grid_at s.rect s.coding r n i → place ≡ block_area grid j → place ≡ block_at_place s.rect s.coding r n i j
+pub place_is : (s : Source) (r n i j : ℕ) (grid : BlockGrid) (place : Rect) → grid ≡ grid_at s.region.rect s.coding r n i → place ≡ block_area grid j → place ≡ block_at_place s.region.rect s.coding r n i j
 place_is s r n i j grid place eg e = e ∙ ap (λ (g : BlockGrid). block_area g j) eg
 
-pub few_is : (s : Source) (r n i j : ℕ) (grid : BlockGrid) → grid ≡ grid_at s.rect s.coding r n i → j < block_number grid → j < block_number (grid_at s.rect s.coding r n i)
+pub few_is : (s : Source) (r n i j : ℕ) (grid : BlockGrid) → grid ≡ grid_at s.region.rect s.coding r n i → j < block_number grid → j < block_number (grid_at s.region.rect s.coding r n i)
 few_is s r n i j grid e lt = subst (λ (g : BlockGrid). j < block_number g) e lt
 
 -- its shape
-pub shape_is : (s : Source) (r n i j : ℕ) (place : Rect) (o : Orientation) (kind : Kind) (shape : BlockShape) → IsSource s → place ≡ block_at_place s.rect s.coding r n i j → o ≡ orientation_at r i
-    → kind ≡ kind_of o → shape ≡ shape_of_area place kind → j < block_number (grid_at s.rect s.coding r n i) → IsBlockShape shape
+pub shape_is : (s : Source) (r n i j : ℕ) (place : Rect) (o : Orientation) (kind : Kind) (shape : BlockShape) → IsSource s → place ≡ block_at_place s.region.rect s.coding r n i j → o ≡ orientation_at r i
+    → kind ≡ kind_of o → shape ≡ shape_of_area place kind → j < block_number (grid_at s.region.rect s.coding r n i) → IsBlockShape shape
 shape_is s r n i j place o kind shape is ep eo ek e lt =
-    let same : shape ≡ shape_of_area (block_at_place s.rect s.coding r n i j) (kind_of (orientation_at r i)) =
-    e ∙ ap (λ (p : Rect). shape_of_area p kind) ep ∙ ap (λ (k : Kind). shape_of_area (block_at_place s.rect s.coding r n i j) k) (ek ∙ ap kind_of eo) in
-    subst IsBlockShape (sym same) (block_is_shape s.rect s.coding r n i j is.coding lt)
+    let same : shape ≡ shape_of_area (block_at_place s.region.rect s.coding r n i j) (kind_of (orientation_at r i)) =
+    e ∙ ap (λ (p : Rect). shape_of_area p kind) ep ∙ ap (λ (k : Kind). shape_of_area (block_at_place s.region.rect s.coding r n i j) k) (ek ∙ ap kind_of eo) in
+    subst IsBlockShape (sym same) (block_is_shape s.region.rect s.coding r n i j is.coding lt)
 
 -- what is due
-pub due_is : (s : Source) (r n i j planes : ℕ) (place : Rect) (o : Orientation) (kind : Kind) (shape : BlockShape) (bodies : List Body) → place ≡ block_at_place s.rect s.coding r n i j → o ≡ orientation_at r i
+pub due_is : (s : Source) (r n i j planes : ℕ) (place : Rect) (o : Orientation) (kind : Kind) (shape : BlockShape) (bodies : List Body) → place ≡ block_at_place s.region.rect s.coding r n i j → o ≡ orientation_at r i
     → kind ≡ kind_of o → shape ≡ shape_of_area place kind → planes ≡ planes_of s.coding (band_number r i) → bodies ≡ block_bodies i j (source_bodies s r n)
-    → bodies_values shape planes bodies ≡ block_values s.rect s.coding r n i j (source_bodies s r n)
+    → bodies_values shape planes bodies ≡ block_values s.region.rect s.coding r n i j (source_bodies s r n)
 due_is s r n i j planes place o kind shape bodies ep eo ek e en eb =
-    let same : shape ≡ shape_of_area (block_at_place s.rect s.coding r n i j) (kind_of (orientation_at r i)) =
-    e ∙ ap (λ (p : Rect). shape_of_area p kind) ep ∙ ap (λ (k : Kind). shape_of_area (block_at_place s.rect s.coding r n i j) k) (ek ∙ ap kind_of eo) in
-    ap (λ (x : BlockShape). bodies_values x planes bodies) same ∙ ap (λ m. bodies_values (shape_of_area (block_at_place s.rect s.coding r n i j) (kind_of (orientation_at r i))) m bodies) en
-    ∙ ap (bodies_values (shape_of_area (block_at_place s.rect s.coding r n i j) (kind_of (orientation_at r i))) (planes_of s.coding (band_number r i))) eb
+    let same : shape ≡ shape_of_area (block_at_place s.region.rect s.coding r n i j) (kind_of (orientation_at r i)) =
+    e ∙ ap (λ (p : Rect). shape_of_area p kind) ep ∙ ap (λ (k : Kind). shape_of_area (block_at_place s.region.rect s.coding r n i j) k) (ek ∙ ap kind_of eo) in
+    ap (λ (x : BlockShape). bodies_values x planes bodies) same ∙ ap (λ m. bodies_values (shape_of_area (block_at_place s.region.rect s.coding r n i j) (kind_of (orientation_at r i))) m bodies) en
+    ∙ ap (bodies_values (shape_of_area (block_at_place s.region.rect s.coding r n i j) (kind_of (orientation_at r i))) (planes_of s.coding (band_number r i))) eb
 
 -- values that are due are the coefficients
-pub values_agree : (s : Source) (r n i j : ℕ) (place : Rect) (values : List ℤ) → IsSource s → IsBandPart s (record { resolution = r; precinct = n; band = i }) → j < block_number (grid_at s.rect s.coding r n i)
-    → place ≡ block_at_place s.rect s.coding r n i j → block_values s.rect s.coding r n i j (source_bodies s r n) ≡ Ok values → Agrees place values (source_coefficient s (band_number r i))
-values_agree s r n i j place values is part lt ep due x y h =
-    let at = block_at_place s.rect s.coding r n i j in
+pub values_agree : (s : Source) (r n i j : ℕ) (place : Rect) (values : List ℤ) → IsSource s → r ≤ s.coding.levels → n < precinct_number s.region.rect s.coding r → i < length (orientations r) → j < block_number (grid_at s.region.rect s.coding r n i)
+    → place ≡ block_at_place s.region.rect s.coding r n i j → block_values s.region.rect s.coding r n i j (source_bodies s r n) ≡ Ok values → Agrees place values (source_coefficient s (band_number r i))
+values_agree s r n i j place values is few precinct band lt ep due x y h =
+    let at = block_at_place s.region.rect s.coding r n i j in
     let there : IsWithin at x y = subst (λ (p : Rect). IsWithin p x y) ep h in
     ap (λ (p : Rect). plane_at p values x y) ep ∙ sym (ap (λ d. plane_at at (values_or d) x y) due)
-    ∙ sym (coefficient_is s.rect s.coding (source_bodies s) r n i j x y is.coding part.resolution part.band part.precinct lt there)
+    ∙ sym (coefficient_is s.region.rect s.coding (source_bodies s) r n i j x y is.coding few band precinct lt there)
 
 -- the packets end where the codestream does
 pub ends_fit : (size bound : ℕ) (places : List PacketPlace) → size < bound → AllByRecursion (λ w. place_end w ≤ size) places → AllByRecursion (λ w. place_end w < bound) places
 ends_fit size bound [] lt h = tt
 ends_fit size bound (w ∷ places) lt h = (omega (arith, h.0, lt), ends_fit size bound places lt h.1)
+
+-- the test of a code-block, if it is met
+abbrev pub block_tested : Source → (r n i j : ℕ) → Result (Unit {0}) Fault
+block_tested s r n i j = if is_met s.region s.coding r n i j then tested (block_values s.region.rect s.coding r n i j (source_bodies s r n)) else Ok tt
 
 -- the bodies of a precinct, by the numbers of its packets
 pub numbered_bodies : (s : Source) (r n : ℕ) (numbers : List ℕ) → AreNumbers s.packets s.packets s.component r n numbers → bodies_in s.bytes (map (place_in s.packets) numbers) ≡ source_bodies s r n
@@ -129,17 +138,30 @@ listed_bodies s r n i j count numbers places lists v lent of ep h lt ev el =
     )
 
 -- the grid of code-blocks
-pub grid_is : (s : Source) (r n i : ℕ) (rect : Rect) (coding : Coding) (o : Orientation) (grid : BlockGrid) → rect ≡ s.rect → coding ≡ s.coding → o ≡ orientation_at r i → grid ≡ block_grid rect coding r n o
-    → grid ≡ grid_at s.rect s.coding r n i
+pub grid_is : (s : Source) (r n i : ℕ) (rect : Rect) (coding : Coding) (o : Orientation) (grid : BlockGrid) → rect ≡ s.region.rect → coding ≡ s.coding → o ≡ orientation_at r i → grid ≡ block_grid rect coding r n o
+    → grid ≡ grid_at s.region.rect s.coding r n i
 grid_is s r n i rect coding o grid er ec eo e =
-    e ∙ ap (λ (x : Rect). block_grid x coding r n o) er ∙ ap (λ (k : Coding). block_grid s.rect k r n o) ec ∙ ap (block_grid s.rect s.coding r n) eo
+    e ∙ ap (λ (x : Rect). block_grid x coding r n o) er ∙ ap (λ (k : Coding). block_grid s.region.rect k r n o) ec ∙ ap (block_grid s.region.rect s.coding r n) eo
 
--- a place of a code-block is one of its sub-band
-pub block_within : (s : Source) (r n i j x y : ℕ) → j < block_number (grid_at s.rect s.coding r n i) → IsWithin (block_at_place s.rect s.coding r n i j) x y → IsWithin (source_area s r i) x y
-block_within s r n i j x y lt h =
-    let part = block_is_part s.rect s.coding r n i j lt in
-    let hl = h.left in let hr = h.right in let hu = h.upper in let hd = h.lower in
-    record { left = omega (arith, hl, part.left); right = omega (arith, hr, part.right); upper = omega (arith, hu, part.upper); lower = omega (arith, hd, part.lower) }
+-- a precinct of which nothing is asked for has no code-block that is met
+pub grid_touched : (g : BlockGrid) (area : Rect) (j : ℕ) → touches g.area area ≡ false → touches (block_area g j) area ≡ false
+unfolding block_area
+grid_touched g area j none =
+    none_touched g.area (meet (cell (g.column + j % g.across) (g.row + j / g.across) g.width g.height) g.area) area (omega arith) (omega arith) (omega arith) (omega arith) none
+
+pub none_met : (s : Source) (r n i : ℕ) (grid : BlockGrid) (area : Rect) → grid ≡ grid_at s.region.rect s.coding r n i → area ≡ source_part s r i → touches grid.area area ≡ false
+    → (j : ℕ) → is_met s.region s.coding r n i j ≡ false
+none_met s r n i grid area eg ea none j =
+    ap (touches (block_at_place s.region.rect s.coding r n i j)) (sym ea) ∙ ap (λ (g : BlockGrid). touches (block_area g j) area) (sym eg) ∙ grid_touched grid area j none
+
+pub none_tested : (s : Source) (r n i : ℕ) → ((j : ℕ) → is_met s.region s.coding r n i j ≡ false) → met_tested s.region s.coding r n i (source_bodies s r n) ≡ fine
+none_tested s r n i none =
+    met_by s.region s.coding r n i (source_bodies s r n)
+    ∙ each_only (block_count s r n i) (block_tested s r n i) (λ j lt. ap (λ (b : Bool). if b then tested (block_values s.region.rect s.coding r n i j (source_bodies s r n)) else Ok tt) (none j))
+
+pub none_shown : (s : Source) (r n i count : ℕ) (plane : List ℤ) → ((j : ℕ) → is_met s.region s.coding r n i j ≡ false) → ShowsBlocks s r n i count plane
+none_shown s r n i count plane none j lt x y h inside =
+    absurd (let f : true ≡ false = sym (touches_at (block_at_place s.region.rect s.coding r n i j) (source_part s r i) x y h inside) ∙ none j in cc)
 
 -- ---- the sub-bands of a resolution
 
@@ -182,7 +204,7 @@ planes_show s r n i count planes v lt shows = subst (ShowsBlocks s r n i count) 
 
 -- what was shown in one list is shown in the next
 pub shown_on : (s : Source) (r n i : ℕ) (old new : List ℤ) → Keeps s r i old new → ShowsBlocks s r n i (block_count s r n i) old → ShowsBlocks s r n i (block_count s r n i) new
-shown_on s r n i old new keeps shows j lt x y h = keeps x y (block_within s r n i j x y lt h) (shows j lt x y h)
+shown_on s r n i old new keeps shows j lt x y h inside = keeps x y inside (shows j lt x y h inside)
 
 -- a vector whose elements are all written again
 take_front : {X : Type 0} (xs ys : List X) → take (length xs) (xs ++ ys) ≡ xs
@@ -206,31 +228,54 @@ listed_numbers s r n count places c lists v lent ep ec h lt ev el =
     subst (λ (xs : List ℕ). AreNumbers s.packets s.packets s.component r n xs) (sym same)
     (subst (λ m. AreNumbers s.packets s.packets m r n (list_at lists n)) ec (subst (λ (ws : List PacketPlace). AreNumbers ws ws c r n (list_at lists n)) ep (h.each n lt)))
 
--- all precincts are shown: so are all places
-pub plane_is : (s : Source) (r i : ℕ) (plane : List ℤ) → IsSource s → r ≤ s.coding.levels → i < length (orientations r) → IsPlane s r i plane
-    → ((n : ℕ) → n < precinct_number s.rect s.coding r → ShowsBlocks s r n i (block_count s r n i) plane) → plane ≡ raster (source_area s r i) (source_coefficient s (band_number r i))
-plane_is s r i plane is few lt whole shows = raster_is (source_area s r i) plane (source_coefficient s (band_number r i)) whole.long (λ x y h.
-    let within : IsWithin (source_area s r i) x y = record { left = h.left; right = h.right; upper = h.upper; lower = h.lower } in
-    let holds = block_found s.rect s.coding r i x y is.coding few lt within in
-    shows (precinct_of s.rect s.coding r x y) holds.precinct (block_with s.rect s.coding r (precinct_of s.rect s.coding r x y) i x y) holds.block x y holds.place)
+-- a sub-band of the part
+pub number_under : (r i top : ℕ) → r ≤ top → i < length (orientations r) → band_number r i ≤ 3 * top
+number_under zero i top few lt = omega arith
+number_under (suc r) i top few lt = omega (arith, few, lt)
 
-pub planes_are : (s : Source) (r : ℕ) (planes : List (Vec ℤ)) → IsSource s → r ≤ s.coding.levels → ArePlanes s r planes → ((n : ℕ) → n < precinct_number s.rect s.coding r → ShowsPrecinct s r n planes) → lists_of planes ≡ band_lists s r
+pub numbered_band : (a : Rect) (levels r i : ℕ) → i < length (orientations r) → numbered_area a levels (band_number r i) ≡ band_area a levels r (orientation_at r i)
+numbered_band a levels zero zero lt = numbered_low a levels
+numbered_band a levels zero (suc i) lt = absurd (omega (arith, lt))
+numbered_band a levels (suc r) zero lt = numbered_high a levels r 0 (omega arith)
+numbered_band a levels (suc r) (suc zero) lt = numbered_high a levels r 1 (omega arith)
+numbered_band a levels (suc r) (suc (suc zero)) lt = numbered_high a levels r 2 (omega arith)
+numbered_band a levels (suc r) (suc (suc (suc i))) lt = absurd (omega (arith, lt))
+
+pub few_levels : (s : Source) (r : ℕ) → IsSource s → r ≤ s.region.top → r ≤ s.coding.levels
+few_levels s r is few = omega (arith, few, is.region.top, is.levels)
+
+pub part_in_band : (s : Source) (r i x y : ℕ) → IsSource s → r ≤ s.region.top → i < length (orientations r) → IsWithin (source_part s r i) x y
+    → IsWithin (band_area s.region.rect s.coding.levels r (orientation_at r i)) x y
+part_in_band s r i x y is few lt h =
+    subst (λ (a : Rect). IsWithin a x y) (numbered_band s.region.rect s.region.levels r i lt ∙ ap (λ n. band_area s.region.rect n r (orientation_at r i)) is.levels)
+    (part_within (source_part s r i) (numbered_area s.region.rect s.region.levels (band_number r i)) x y
+    (part_inside s.region is.region (band_number r i) (number_under r i s.region.top few lt)) h)
+
+-- all precincts are shown: so are all places
+pub plane_is : (s : Source) (r i : ℕ) (plane : List ℤ) → IsSource s → r ≤ s.region.top → i < length (orientations r) → IsPlane s r i plane
+    → ((n : ℕ) → n < precinct_number s.region.rect s.coding r → ShowsBlocks s r n i (block_count s r n i) plane) → plane ≡ raster (source_part s r i) (source_coefficient s (band_number r i))
+plane_is s r i plane is few lt whole shows = raster_is (source_part s r i) plane (source_coefficient s (band_number r i)) whole.long (λ x y h.
+    let here : IsWithin (source_part s r i) x y = record { left = h.left; right = h.right; upper = h.upper; lower = h.lower } in
+    let holds = block_found s.region.rect s.coding r i x y is.coding (few_levels s r is few) lt (part_in_band s r i x y is few lt here) in
+    shows (precinct_of s.region.rect s.coding r x y) holds.precinct (block_with s.region.rect s.coding r (precinct_of s.region.rect s.coding r x y) i x y) holds.block x y holds.place here)
+
+pub planes_are : (s : Source) (r : ℕ) (planes : List (Vec ℤ)) → IsSource s → r ≤ s.region.top → ArePlanes s r planes → ((n : ℕ) → n < precinct_number s.region.rect s.coding r → ShowsPrecinct s r n planes) → lists_of planes ≡ band_lists s r
 planes_are s r planes is few whole shows =
-    let f : ℕ → List ℤ = λ i. raster (source_area s r i) (source_coefficient s (band_number r i)) in
+    let f : ℕ → List ℤ = λ i. raster (source_part s r i) (source_coefficient s (band_number r i)) in
     ext_get_or [] (lists_of planes) (band_lists s r) (length-map planes (λ v. v.items) ∙ whole.count ∙ sym (length-map-range_with_len f 0 (length (orientations r)))) (λ i less.
     let lt : i < length (orientations r) = omega (arith, less, length-map planes (λ (v : Vec ℤ). v.items), whole.count) in
     plane_is s r i (list_at planes i) is few lt (whole.each i lt) (λ n under. shows n under i lt) ∙ sym (get_or-map-range_with_len f 0 (length (orientations r)) i i [] lt (omega arith)))
 
 -- how many precincts there are
-pub count_is : (s : Source) (r across down : ℕ) (rect : Rect) (coding : Coding) → rect ≡ s.rect → coding ≡ s.coding → across ≡ precincts_across rect coding r → down ≡ precincts_down rect coding r → across * down ≡ precinct_number s.rect s.coding r
+pub count_is : (s : Source) (r across down : ℕ) (rect : Rect) (coding : Coding) → rect ≡ s.region.rect → coding ≡ s.coding → across ≡ precincts_across rect coding r → down ≡ precincts_down rect coding r → across * down ≡ precinct_number s.region.rect s.coding r
 count_is s r across down rect coding er ec ea ed =
-    ap (λ n. n * down) ea ∙ ap (λ n. precincts_across rect coding r * n) ed ∙ ap (λ (x : Rect). precinct_number x coding r) er ∙ ap (λ (k : Coding). precinct_number s.rect k r) ec
+    ap (λ n. n * down) ea ∙ ap (λ n. precincts_across rect coding r * n) ed ∙ ap (λ (x : Rect). precinct_number x coding r) er ∙ ap (λ (k : Coding). precinct_number s.region.rect k r) ec
 
 -- a resolution whose code-blocks are fine, and one whose aren't
-pub resolution_fine : (s : Source) (r : ℕ) → each (precinct_number s.rect s.coding r) (λ n. precinct_tested s.rect s.coding r n (source_bodies s r n)) ≡ fine → resolution_at s r ≡ Ok (band_lists s r)
+pub resolution_fine : (s : Source) (r : ℕ) → each (precinct_number s.region.rect s.coding r) (λ n. precinct_part_tested s.region s.coding r n (source_bodies s r n)) ≡ fine → resolution_at s r ≡ Ok (band_lists s r)
 unfolding resolution_at
-resolution_fine s r e = bind_ok (resolution_tested s.rect s.coding r (source_bodies s r)) (λ _. Ok (band_lists s r)) tt (resolution_by s.rect s.coding r (source_bodies s r) ∙ e)
+resolution_fine s r e = bind_ok (resolution_part_tested s.region s.coding r (source_bodies s r)) (λ _. Ok (band_lists s r)) tt (resolution_part_by s.region s.coding r (source_bodies s r) ∙ e)
 
-pub resolution_err : (s : Source) (r : ℕ) (e : Fault) → each (precinct_number s.rect s.coding r) (λ n. precinct_tested s.rect s.coding r n (source_bodies s r n)) ≡ Err e → resolution_at s r ≡ Err e
+pub resolution_err : (s : Source) (r : ℕ) (e : Fault) → each (precinct_number s.region.rect s.coding r) (λ n. precinct_part_tested s.region s.coding r n (source_bodies s r n)) ≡ Err e → resolution_at s r ≡ Err e
 unfolding resolution_at
-resolution_err s r e h = bind_err (resolution_tested s.rect s.coding r (source_bodies s r)) (λ _. Ok (band_lists s r)) e (resolution_by s.rect s.coding r (source_bodies s r) ∙ h)
+resolution_err s r e h = bind_err (resolution_part_tested s.region s.coding r (source_bodies s r)) (λ _. Ok (band_lists s r)) e (resolution_part_by s.region s.coding r (source_bodies s r) ∙ h)

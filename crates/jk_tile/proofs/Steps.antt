@@ -1,5 +1,5 @@
 -- Steps one after another.
-use Rattle.std.proofs.Common.{◌≡◌, ℕ, zero, suc, ◌+◌, ◌-◌, List, length, ◌<◌, Result, Ok, Err, refl, sym, ap, ◌∙◌, inl, inr, arith}
+use Rattle.std.proofs.Common.{◌≡◌, if◌then◌else◌, ℕ, zero, suc, ◌+◌, ◌-◌, List, length, ◌<◌, Result, Ok, Err, refl, sym, ap, ◌∙◌, inl, inr, arith}
 use Rattle.std.proofs.lemmas.Bool.{cases_eq}
 use Rattle.jk_math.specs.Answer.{◌>>=◌, Refuses}
 use Rattle.jk_math.specs.Steps.{bind_then}
@@ -10,8 +10,9 @@ use Rattle.jk_marks.specs.declared.coding.Coding.{Coding}
 use Rattle.jk_geom.specs.Precincts.{precinct_number}
 use Rattle.jk_geom.specs.Partitions.{block_number}
 use Rattle.jk_walk.specs.TilePackets.{Body, orientations}
+use Rattle.jk_wave.specs.declared.region.Region.{Region}
 use Rattle.jk_tile.specs.TileBlocks.{grid_at}
-use Rattle.jk_tile.specs.TileReading.{each, tested, block_values, band_tested, precinct_tested, resolution_tested, component_tested}
+use Rattle.jk_tile.specs.TileReading.{each, tested, block_values, band_tested, precinct_tested, resolution_tested, component_tested, is_met, met_tested, precinct_part_tested, resolution_part_tested, region_of, component_part_tested}
 
 abbrev pub Step : Type 0
 Step = ℕ → Result (Unit {0}) Fault
@@ -23,7 +24,7 @@ pub each_none : (f : Step) → each 0 f ≡ fine
 unfolding each
 each_none f = refl
 
-each_suc : (n : ℕ) (f : Step) → each (suc n) f ≡ (each n f >>= λ _. f n)
+pub each_suc : (n : ℕ) (f : Step) → each (suc n) f ≡ (each n f >>= λ _. f n)
 unfolding each
 each_suc n f = refl
 
@@ -95,3 +96,21 @@ resolution_by a k r bodies = refl
 pub component_by : (a : Rect) (k : Coding) (d : ℕ) (bodies : ℕ → ℕ → List Body) → component_tested a k d bodies ≡ each (k.levels - d + 1) (λ r. resolution_tested a k r (bodies r))
 unfolding component_tested
 component_by a k d bodies = refl
+
+-- those of a part
+pub met_by : (s : Region) (k : Coding) (r n i : ℕ) (bodies : List Body) → met_tested s k r n i bodies
+    ≡ each (block_number (grid_at s.rect k r n i)) (λ j. if is_met s k r n i j then tested (block_values s.rect k r n i j bodies) else Ok tt)
+unfolding met_tested
+met_by s k r n i bodies = refl
+
+pub precinct_part_by : (s : Region) (k : Coding) (r n : ℕ) (bodies : List Body) → precinct_part_tested s k r n bodies ≡ each (length (orientations r)) (λ i. met_tested s k r n i bodies)
+unfolding precinct_part_tested
+precinct_part_by s k r n bodies = refl
+
+pub resolution_part_by : (s : Region) (k : Coding) (r : ℕ) (bodies : ℕ → List Body) → resolution_part_tested s k r bodies ≡ each (precinct_number s.rect k r) (λ n. precinct_part_tested s k r n (bodies n))
+unfolding resolution_part_tested
+resolution_part_by s k r bodies = refl
+
+pub component_part_by : (a : Rect) (k : Coding) (d : ℕ) (u : Rect) (bodies : ℕ → ℕ → List Body) → component_part_tested a k d u bodies ≡ each (k.levels - d + 1) (λ r. resolution_part_tested (region_of a k d u) k r (bodies r))
+unfolding component_part_tested
+component_part_by a k d u bodies = refl

@@ -1,12 +1,12 @@
 -- Decoding the code-blocks of a tile one after another, with the first fault that is met, and its samples.
-use Rattle.std.specs.Prelude.{ℕ, zero, suc, ◌+◌, ◌-◌, min, List, [], length, map, filter, Result, Ok, Err, ℤ}
+use Rattle.std.specs.Prelude.{ℕ, zero, suc, ◌+◌, ◌-◌, min, Bool, if◌then◌else◌, List, [], length, map, filter, Result, Ok, Err, ℤ}
 use Rattle.std.specs.List.{flat_map, range_with_len}
 use Rattle.jk_math.specs.Answer.{◌>>=◌}
 use Rattle.jk_math.specs.declared.fault.Fault.{Fault}
 use Rattle.jk_math.specs.declared.rect.Rect.{Rect}
 use Rattle.jk_math.specs.Raster.{raster, plane_at}
 use Rattle.jk_marks.specs.declared.coding.Coding.{Coding}
-use Rattle.jk_geom.specs.Rectangles.{tile_area, resolution_area}
+use Rattle.jk_geom.specs.Rectangles.{tile_area}
 use Rattle.jk_geom.specs.Precincts.{precinct_number, precinct_area, part_width, part_height}
 use Rattle.jk_geom.specs.Partitions.{block_number, precinct_of, block_of}
 use Rattle.jk_geom.specs.TileShapes.{coding_of}
@@ -18,6 +18,9 @@ use Rattle.jk_walk.specs.declared.places.PacketPlace.{PacketPlace}
 use Rattle.jk_walk.specs.TilePackets.{Body, orientations, band_number, planes_of}
 use Rattle.jk_walk.specs.WalkReading.{bodies_at}
 use Rattle.jk_tile.specs.TileBlocks.{orientation_at, grid_at, block_at_place, block_shape, block_bodies, segment_of, passes_in, zeros_in, band_resolution, band_index}
+use Rattle.jk_wave.specs.declared.region.Region.{Region}
+use Rattle.jk_wave.specs.Regions.{part_area}
+use Rattle.jk_tile.specs.Filling.{touches}
 use Rattle.jk_tile.specs.TileMeaning.{shown_area, values_of}
 use Rattle.jk_tile.specs.Pixels.{tile_sample}
 
@@ -57,6 +60,31 @@ resolution_tested a k r bodies = each (precinct_number a k r) (λ n. precinct_te
 unfoldable pub component_tested : Rect → Coding → (d : ℕ) → (ℕ → ℕ → List Body) → Result (Unit {0}) Fault
 component_tested a k d bodies = each (k.levels - d + 1) (λ r. resolution_tested a k r (bodies r))
 
+-- the part u of a tile-component d resolutions below its highest
+abbrev pub region_of : Rect → Coding → (d : ℕ) → Rect → Region
+region_of a k d u = record { rect = a; levels = k.levels; top = k.levels - d; area = u }
+
+-- Code-block j of sub-band i in precinct n of resolution r has a place of the part of its sub-band
+-- that the region depends on.
+abbrev pub is_met : Region → Coding → (r n i j : ℕ) → Bool
+is_met s k r n i j = touches (block_at_place s.rect k r n i j) (part_area s (band_number r i))
+
+-- Those of the code-blocks that are met, of a sub-band in a precinct, of a precinct, of a
+-- resolution whose precincts have these bodies, and of a part of a tile-component d resolutions
+-- below its highest.
+unfoldable pub met_tested : Region → Coding → (r n i : ℕ) → List Body → Result (Unit {0}) Fault
+met_tested s k r n i bodies =
+    each (block_number (grid_at s.rect k r n i)) (λ j. if is_met s k r n i j then tested (block_values s.rect k r n i j bodies) else Ok tt)
+
+unfoldable pub precinct_part_tested : Region → Coding → (r n : ℕ) → List Body → Result (Unit {0}) Fault
+precinct_part_tested s k r n bodies = each (length (orientations r)) (λ i. met_tested s k r n i bodies)
+
+unfoldable pub resolution_part_tested : Region → Coding → (r : ℕ) → (ℕ → List Body) → Result (Unit {0}) Fault
+resolution_part_tested s k r bodies = each (precinct_number s.rect k r) (λ n. precinct_part_tested s k r n (bodies n))
+
+unfoldable pub component_part_tested : Rect → Coding → (d : ℕ) → Rect → (ℕ → ℕ → List Body) → Result (Unit {0}) Fault
+component_part_tested a k d u bodies = each (k.levels - d + 1) (λ r. resolution_part_tested (region_of a k d u) k r (bodies r))
+
 -- the values, or none
 abbrev pub values_or : Result (List ℤ) Fault → List ℤ
 values_or (Ok values) = values
@@ -94,13 +122,14 @@ tile_planes_at bytes h t d places =
     each h.siz.components (λ c. component_tested (tile_area h.siz t) (coding_of (tile_in h.tiles t).codings c) d (bodies_of bytes places c))
     >>= λ _. Ok (map (λ c. raster (shown_area h.siz t d) (component_samples bytes h t d places c)) (range_with_len 0 h.siz.components))
 
--- a component d resolutions below its highest, row by row, whose precincts have these bodies
-unfoldable pub component_at : Rect → Coding → (d : ℕ) → (ℕ → ℕ → List Body) → Result (List ℤ) Fault
-component_at a k d bodies =
-    component_tested a k d bodies >>= λ _. Ok (raster (resolution_area a k.levels (k.levels - d)) (values_of a k d (coefficient_at a k bodies)))
+-- the samples of a part u of tile t at reduction d, component by component, each row by row
+unfoldable pub part_planes_at : List ℕ → Headers → (t d : ℕ) → Rect → List PacketPlace → Result (List (List ℤ)) Fault
+part_planes_at bytes h t d u places =
+    each h.siz.components (λ c. component_part_tested (tile_area h.siz t) (coding_of (tile_in h.tiles t).codings c) d u (bodies_of bytes places c))
+    >>= λ _. Ok (map (λ c. raster u (component_samples bytes h t d places c)) (range_with_len 0 h.siz.components))
 
--- the values of all components of tile t at reduction d
-unfoldable pub tile_values_at : List ℕ → Headers → (t d : ℕ) → List PacketPlace → Result (List (List ℤ)) Fault
-tile_values_at bytes h t d places =
-    each h.siz.components (λ c. component_tested (tile_area h.siz t) (coding_of (tile_in h.tiles t).codings c) d (bodies_of bytes places c))
-    >>= λ _. Ok (map (λ c. raster (shown_area h.siz t d) (component_values bytes h t d places c)) (range_with_len 0 h.siz.components))
+-- the values of all components of such a part
+unfoldable pub part_values_at : List ℕ → Headers → (t d : ℕ) → Rect → List PacketPlace → Result (List (List ℤ)) Fault
+part_values_at bytes h t d u places =
+    each h.siz.components (λ c. component_part_tested (tile_area h.siz t) (coding_of (tile_in h.tiles t).codings c) d u (bodies_of bytes places c))
+    >>= λ _. Ok (map (λ c. raster u (component_values bytes h t d places c)) (range_with_len 0 h.siz.components))

@@ -10,6 +10,7 @@ ghost use Rattle.jk_tile.specs.Gathered.{body_of, IsInside};
 ghost use Rattle.jk_tile.specs.Source.{IsBlockShape};
 
 use crate::bodies::{BodyPlace, join, passes, zero_planes};
+use crate::component::band_number;
 use jk_block::{Block, BlockShape, decode};
 use jk_marks::Coding;
 use jk_math::Fault;
@@ -23,11 +24,7 @@ pub(crate) fn band_planes(coding: &Coding, r: u8, i: u8) -> u32
     ensures value { result ≡ planes_of coding.now (band_number r i) }
     ensures few { result ≤ 23 }
 {
-    let number = if r == 0 {
-        0
-    } else {
-        3 * (r as usize - 1) + 1 + i as usize
-    };
+    let number = band_number(r, i);
     coding.guard as u32 + coding.exponents.as_slice()[number] as u32 - 1
 }
 

@@ -1,4 +1,4 @@
-//! A tile-component whose code-blocks are decoded.
+//! A part of a tile-component whose code-blocks are decoded.
 
 ghost use Rattle.std.specs.Prelude.{◌≡◌, ◌<◌, ◌≤◌, ◌+◌, ◌-◌, ◌*◌, ◌^◌, ◌∷◌, [], length, Ok, IfOk, All};
 ghost use Rattle.jk_math.specs.Answer.{Answers};
@@ -16,14 +16,15 @@ use jk_geom::Orientation;
 use jk_marks::Coding;
 use jk_math::Rect;
 use jk_walk::PacketPlace;
+use jk_wave::Region;
 use std::marker::Model;
 
-/// A component of a tile: the codestream, the tile's rectangle, the component's coding, the packets of the tile, and the
-/// number of the component.
+/// A part of a component of a tile: the codestream, the part, the component's coding, the packets
+/// of the tile, and the number of the component.
 #[derive(Drop)]
 pub(crate) struct CodedComponent<'a> {
     bytes: &'a [u8],
-    rect: Rect,
+    region: Region,
     coding: &'a Coding,
     packets: &'a [PacketPlace],
     number: u8,
@@ -34,26 +35,26 @@ impl<'a> Model for CodedComponent<'a> {
 
     ghost Value = { Source };
 
-    ghost view = { λ c. record { bytes = c.bytes.now; rect = c.rect; coding = c.coding.now; packets = c.packets.now; component = c.number } };
+    ghost view = { λ c. record { bytes = c.bytes.now; region = c.region; coding = c.coding.now; packets = c.packets.now; component = c.number } };
 
-    ghost invariant = { λ c. IsSource (record { bytes = c.bytes.now; rect = c.rect; coding = c.coding.now; packets = c.packets.now; component = c.number }) };
+    ghost invariant = { λ c. IsSource (record { bytes = c.bytes.now; region = c.region; coding = c.coding.now; packets = c.packets.now; component = c.number }) };
 }
 
 impl<'a> CodedComponent<'a> {
-    /// A component of a tile.
+    /// A part of a component of a tile.
     pub(crate) fn new(
         bytes: &'a [u8],
-        rect: Rect,
+        region: Region,
         coding: &'a Coding,
         packets: &'a [PacketPlace],
         number: u8,
     ) -> CodedComponent<'a>
-        requires { IsSource (record { bytes = bytes.now; rect = rect; coding = coding.now; packets = packets.now; component = number }) }
-        ensures { result ≡ record { bytes = bytes.now; rect = rect; coding = coding.now; packets = packets.now; component = number } }
+        requires { IsSource (record { bytes = bytes.now; region = region; coding = coding.now; packets = packets.now; component = number }) }
+        ensures { result ≡ record { bytes = bytes.now; region = region; coding = coding.now; packets = packets.now; component = number } }
     {
         CodedComponent {
             bytes,
-            rect,
+            region,
             coding,
             packets,
             number,
@@ -67,17 +68,26 @@ impl<'a> CodedComponent<'a> {
         self.bytes
     }
 
-    /// The tile's rectangle.
-    pub(crate) fn rect(&self) -> Rect
-        ensures value { result ≡ self.now.rect }
+    /// The part.
+    pub(crate) fn region(&self) -> Region
+        ensures value { result ≡ self.now.region }
         ensures source { IsSource self.now }
     {
-        self.rect
+        self.region
+    }
+
+    /// The tile's rectangle.
+    pub(crate) fn rect(&self) -> Rect
+        ensures value { result ≡ self.now.region.rect }
+        ensures source { IsSource self.now }
+    {
+        self.region.rect
     }
 
     /// How the component is coded.
     pub(crate) fn coding(&self) -> &'a Coding
-        ensures { result.now ≡ self.now.coding }
+        ensures value { result.now ≡ self.now.coding }
+        ensures source { IsSource self.now }
     {
         self.coding
     }
@@ -118,6 +128,17 @@ pub(crate) fn band_count(r: u8) -> u8
     ensures { result ≡ length (orientations r) }
 {
     if r == 0 { 1 } else { 3 }
+}
+
+/// The number of sub-band `i` of a resolution in the order of QCD.
+pub(crate) fn band_number(r: u8, i: u8) -> usize
+    ensures { result ≡ band_number r i }
+{
+    if r == 0 {
+        0
+    } else {
+        3 * (r as usize - 1) + 1 + i as usize
+    }
 }
 
 /// The sub-band by which contexts are chosen.

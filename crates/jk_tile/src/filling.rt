@@ -1,10 +1,10 @@
 //! Parts of rectangles, written row by row.
 
-ghost use Rattle.std.specs.Prelude.{◌≡◌, ℕ, ◌+◌, ◌-◌, ◌*◌, ◌<◌, ◌≤◌, ◌&&◌, nat_le, nat_lt, length, All, if◌then◌else◌};
+ghost use Rattle.std.specs.Prelude.{◌≡◌, true, ℕ, ◌+◌, ◌-◌, ◌*◌, ◌<◌, ◌≤◌, ◌&&◌, nat_le, nat_lt, length, All, if◌then◌else◌};
 ghost use Rattle.jk_math.specs.Raster.{places_of, plane_at};
 ghost use Rattle.jk_math.specs.Signed.{IsBelow, signed_at};
-ghost use Rattle.jk_geom.specs.Rectangles.{IsArea, IsWithin};
-ghost use Rattle.jk_tile.specs.Filling.{has, IsPartOf};
+ghost use Rattle.jk_geom.specs.Rectangles.{IsArea, IsWithin, meet};
+ghost use Rattle.jk_tile.specs.Filling.{has, IsPartOf, touches};
 
 use jk_math::Rect;
 
@@ -40,6 +40,60 @@ pub fn put(area: &Rect, plane: &mut [i32], part: &Rect, values: &[i32])
             plane,
             (top + row) * width + left,
             &values[from..from + part_width],
+        );
+    }
+}
+
+/// What two rectangles have in common.
+pub fn meet(a: &Rect, b: &Rect) -> Rect
+    ensures { result ≡ meet a.now b.now }
+{
+    Rect {
+        x0: a.x0.max(b.x0),
+        y0: a.y0.max(b.y0),
+        x1: a.x1.min(b.x1),
+        y1: a.y1.min(b.y1),
+    }
+}
+
+/// Whether two rectangles have a place in common.
+pub fn touches(a: &Rect, b: &Rect) -> bool
+    ensures { result ≡ touches a.now b.now }
+{
+    let common = meet(a, b);
+    common.x0 < common.x1 && common.y0 < common.y1
+}
+
+/// Writes what the values of a rectangle have of another one, row by row, at their places in the
+/// list of that.
+pub(crate) fn put_common(area: &Rect, plane: &mut [i32], place: &Rect, values: &[i32])
+    requires area { IsArea area.now }
+    requires touches { touches place.now area.now ≡ true }
+    requires whole { length plane.old ≡ places_of area.now }
+    requires values { length values.now ≡ places_of place.now }
+    ensures long { length plane.new ≡ length plane.old }
+    ensures value { (x y : ℕ) → IsWithin area.now x y → plane_at area.now plane.new x y
+        ≡ (if has place.now x y then plane_at place.now values.now x y else plane_at area.now plane.old x y) }
+    ensures small { (m : ℕ) → All (IsBelow m) plane.old → All (IsBelow m) values.now → All (IsBelow m) plane.new }
+{
+    let common = meet(place, area);
+    let width = (area.x1 - area.x0) as usize;
+    let place_width = (place.x1 - place.x0) as usize;
+    let common_width = (common.x1 - common.x0) as usize;
+    let (left, top) = (
+        (common.x0 - area.x0) as usize,
+        (common.y0 - area.y0) as usize,
+    );
+    let (skipped, above) = (
+        (common.x0 - place.x0) as usize,
+        (common.y0 - place.y0) as usize,
+    );
+    for row in 0..(common.y1 - common.y0) as usize {
+        let from = (above + row) * place_width + skipped;
+        put_row(
+            plane,
+            (top + row) * width + left,
+            &values[from..from + common_width],
         );
     }
 }

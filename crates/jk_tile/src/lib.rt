@@ -21,8 +21,8 @@ mod values;
 mod writing;
 
 pub use encoding::encode_tile;
-pub use filling::put;
+pub use filling::{meet, put, touches};
 pub use needs::exponents;
 pub use samples::level_shift;
 pub use subbands::tile_bands;
-pub use tile::decode_tile;
+pub use tile::{decode_part, decode_tile};

@@ -1,6 +1,7 @@
-//! The sub-bands of a tile-component from its code-blocks.
+//! The parts of the sub-bands of a tile-component that a part of it depends on, from its
+//! code-blocks.
 
-ghost use Rattle.std.specs.Prelude.{◌≡◌, ℕ, ◌<◌, ◌≤◌, ◌*◌, ◌++◌, length, map, All, IfOk, IfErr, OnOk};
+ghost use Rattle.std.specs.Prelude.{◌≡◌, ℕ, ◌<◌, ◌≤◌, ◌*◌, ◌++◌, length, map, All, Ok, IfOk, IfErr, OnOk, if◌then◌else◌};
 ghost use Rattle.jk_math.specs.Answer.{Answers};
 ghost use Rattle.jk_math.specs.Memory.{IsMemory};
 ghost use Rattle.jk_math.specs.Picture.{lists_of};
@@ -10,17 +11,18 @@ ghost use Rattle.jk_walk.specs.TilePackets.{orientations};
 ghost use Rattle.jk_scan.specs.declared.shape.Kind.{Kind as Contexts};
 ghost use Rattle.jk_geom.specs.Blocks.{IsGrid};
 ghost use Rattle.jk_tile.specs.TileBlocks.{shape_of_area, grid_at, block_bodies};
-ghost use Rattle.jk_tile.specs.TileReading.{tested, block_values, band_tested, precinct_tested};
+ghost use Rattle.jk_tile.specs.TileReading.{tested, block_values, is_met, met_tested, precinct_part_tested};
 ghost use Rattle.jk_tile.specs.Gathered.{AreNumbers, list_at, body_of, IsInside};
-ghost use Rattle.jk_tile.specs.Source.{source_bodies, IsBandPart, ShowsBlock, IsPlane, ArePlanes, Keeps, ShowsBlocks, ShowsPrecinct, block_count, resolution_at};
+ghost use Rattle.jk_tile.specs.Source.{source_bodies, IsBandPart, ShowsBlock, IsPlane, ArePlanes, Keeps, ShowsBlocks, ShowsPrecinct, block_count, source_part, resolution_at};
 
 use crate::block::{band_planes, read_block};
 use crate::bodies::{BodyPlace, bodies_by_block, packets_by_precinct};
-use crate::component::{CodedComponent, band_count, kind, orientation};
-use crate::filling::put;
+use crate::component::{CodedComponent, band_count, band_number, kind, orientation};
+use crate::filling::{put_common, touches};
 use jk_block::{BlockShape, Kind};
-use jk_geom::{BlockGrid, band, blocks, precinct_count};
+use jk_geom::{BlockGrid, blocks, precinct_count};
 use jk_math::{Fault, Rect};
+use jk_wave::part_area;
 use std::alloc::Global;
 
 /// The shape of the code-block at a place of a sub-band.
@@ -44,7 +46,8 @@ pub(crate) struct BandPart {
     pub(crate) band: u8,
 }
 
-/// Reads a code-block, number `j` of a part of a sub-band, and puts it into the list of the sub-band.
+/// Reads a code-block, number `j` of a part of a sub-band, and puts what is asked for of it into
+/// the list of that. A code-block of which nothing is asked for is passed over.
 fn read_at(
     alloc: Global,
     source: &CodedComponent<'_>,
@@ -56,32 +59,35 @@ fn read_at(
     segment: &mut Vec<u8>,
 ) -> Result<(), Fault>
     requires part { IsBandPart source.now part }
-    requires grid { grid.now ≡ grid_at source.now.rect source.now.coding part.resolution part.precinct part.band }
+    requires grid { grid.now ≡ grid_at source.now.region.rect source.now.coding part.resolution part.precinct part.band }
     requires sound { IsGrid grid.now }
     requires j { j < grid.now.across * grid.now.down }
     requires inside { All (IsInside (length source.now.bytes)) bodies.now }
     requires bodies { map (body_of source.now.bytes) bodies.now ≡ block_bodies part.band j (source_bodies source.now part.resolution part.precinct) }
     requires plane { IsPlane source.now part.resolution part.band plane.old }
-    ensures exact { Answers (λ u. u) result (tested (block_values source.now.rect source.now.coding part.resolution part.precinct part.band j
-        (source_bodies source.now part.resolution part.precinct))) }
+    ensures exact { Answers (λ u. u) result (if is_met source.now.region source.now.coding part.resolution part.precinct part.band j
+        then tested (block_values source.now.region.rect source.now.coding part.resolution part.precinct part.band j
+        (source_bodies source.now part.resolution part.precinct)) else Ok tt) }
     ensures plane { IsPlane source.now part.resolution part.band plane.new }
     ensures keeps { Keeps source.now part.resolution part.band plane.old plane.new }
     ensures shows { OnOk result (ShowsBlock source.now part.resolution part.precinct part.band j plane.new) }
 {
-    let rect = source.rect();
     let coding = source.coding();
-    let orientation = orientation(part.resolution, part.band);
-    let area = band(&rect, coding.levels, part.resolution, orientation);
-    let planes = band_planes(coding, part.resolution, part.band);
     let place = grid.block(j);
+    let area = part_area(&source.region(), band_number(part.resolution, part.band));
+    if !touches(&place, &area) {
+        return Ok(());
+    }
+    let orientation = orientation(part.resolution, part.band);
+    let planes = band_planes(coding, part.resolution, part.band);
     let shape = shape_at(&place, kind(orientation));
     let block = read_block(alloc, source.bytes(), bodies, shape, planes, segment)?;
-    put(&area, plane, &place, &block.values);
+    put_common(&area, plane, &place, &block.values);
     Ok(())
 }
 
-/// Reads the code-blocks of a part of a sub-band, of which the packets of these numbers tell, and puts them into the list of
-/// the sub-band.
+/// Reads the code-blocks of a part of a sub-band, of which the packets of these numbers tell, and
+/// puts what is asked for of them into the list of that.
 fn read_band(
     alloc: Global,
     source: &CodedComponent<'_>,
@@ -93,7 +99,7 @@ fn read_band(
     requires part { IsBandPart source.now part }
     requires numbers { AreNumbers source.now.packets source.now.packets source.now.component part.resolution part.precinct numbers.now }
     requires plane { IsPlane source.now part.resolution part.band plane.old }
-    ensures exact { Answers (λ u. u) result (band_tested source.now.rect source.now.coding part.resolution part.precinct part.band
+    ensures exact { Answers (λ u. u) result (met_tested source.now.region source.now.coding part.resolution part.precinct part.band
         (source_bodies source.now part.resolution part.precinct)) }
     ensures plane { IsPlane source.now part.resolution part.band plane.new }
     ensures keeps { Keeps source.now part.resolution part.band plane.old plane.new }
@@ -109,6 +115,10 @@ fn read_band(
         part.precinct,
         orientation,
     );
+    let area = part_area(&source.region(), band_number(part.resolution, part.band));
+    if !touches(&grid.area, &area) {
+        return Ok(());
+    }
     let count = grid.across * grid.down;
     let lists = bodies_by_block(alloc, source.packets(), numbers, part.band, count as usize)?;
     for j in 0..count {
@@ -136,11 +146,11 @@ fn read_precinct(
     planes: &mut Vec<Vec<i32>>,
     segment: &mut Vec<u8>,
 ) -> Result<(), Fault>
-    requires r { r ≤ source.now.coding.levels }
-    requires n { n < precinct_number source.now.rect source.now.coding r }
+    requires r { r ≤ source.now.region.top }
+    requires n { n < precinct_number source.now.region.rect source.now.coding r }
     requires numbers { AreNumbers source.now.packets source.now.packets source.now.component r n numbers.now }
     requires planes { ArePlanes source.now r planes.old.items }
-    ensures exact { Answers (λ u. u) result (precinct_tested source.now.rect source.now.coding r n (source_bodies source.now r n)) }
+    ensures exact { Answers (λ u. u) result (precinct_part_tested source.now.region source.now.coding r n (source_bodies source.now r n)) }
     ensures planes { ArePlanes source.now r planes.new.items }
     ensures keeps { (i : ℕ) → i < length (orientations r) → Keeps source.now r i (list_at planes.old.items i) (list_at planes.new.items i) }
     ensures shows { OnOk result (ShowsPrecinct source.now r n planes.new.items) }
@@ -163,17 +173,16 @@ fn read_precinct(
     Ok(())
 }
 
-/// A list of zeros for each sub-band of resolution `r`.
+/// A list of zeros for the part of each sub-band of resolution `r`.
 fn blank_planes(alloc: Global, source: &CodedComponent<'_>, r: u8) -> Result<Vec<Vec<i32>>, Fault>
-    requires { r ≤ source.now.coding.levels }
+    requires { r ≤ source.now.region.top }
     ensures planes { IfOk result (λ v. ArePlanes source.now r v.items) }
     ensures memory { IfErr result IsMemory }
 {
-    let rect = source.rect();
-    let levels = source.coding().levels;
+    let region = source.region();
     let mut planes = Vec::new(alloc);
     for i in 0..band_count(r) {
-        let area = band(&rect, levels, r, orientation(r, i));
+        let area = part_area(&region, band_number(r, i));
         let width = (area.x1 - area.x0) as usize;
         let height = (area.y1 - area.y0) as usize;
         planes.push(vec![in alloc; 0; height * width]?)?;
@@ -181,7 +190,7 @@ fn blank_planes(alloc: Global, source: &CodedComponent<'_>, r: u8) -> Result<Vec
     Ok(planes)
 }
 
-/// The sub-bands of resolution `r`, each a list of coefficients row by row.
+/// The parts of the sub-bands of resolution `r`, each a list of coefficients row by row.
 #[tactic(auto, unfolding(crate::specs::Source::resolution_at))]
 pub(crate) fn read_resolution(
     alloc: Global,
@@ -189,7 +198,7 @@ pub(crate) fn read_resolution(
     r: u8,
     segment: &mut Vec<u8>,
 ) -> Result<Vec<Vec<i32>>, Fault>
-    requires r { r ≤ source.now.coding.levels }
+    requires r { r ≤ source.now.region.top }
     ensures exact { Answers (λ v. lists_of v.items) result (resolution_at source.now r) }
     ensures planes { IfOk result (λ v. ArePlanes source.now r v.items) }
 {

@@ -9,4 +9,10 @@ pub mod SpanLaws
 pub mod WalkSteps
 pub mod Walking
 pub mod TileFacts
+pub mod BitLaws
+pub mod SopLaws
+pub mod PlacingLaws
+pub mod EntryLaws
+pub mod EntriesRead
+pub mod Filling
 pub mod Laws

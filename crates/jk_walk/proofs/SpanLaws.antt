@@ -1,20 +1,17 @@
 -- Packets of a tile by their bytes alone.
-use Rattle.std.proofs.Common.{◌≡◌, ℕ, ◌+◌, ◌<◌, ◌≤◌, List, [], ◌∷◌, length, map, Result, Ok, Err, refl, sym, ap, ◌∙◌, subst, arith}
+use Rattle.std.proofs.Common.{◌≡◌, ℕ, ◌<◌, List, [], ◌∷◌, length, map, Result, Ok, Err, refl, sym, ap, ◌∙◌, subst}
 use Rattle.std.specs.Prelude.{MatchResult}
-use Rattle.std.specs.List.{AllByRecursion, AllZip}
+use Rattle.std.specs.List.{AllZip}
 use Rattle.jk_math.specs.Memory.{IsMemory}
 use Rattle.jk_math.specs.Answer.{◌>>=◌, Refuses, Answers}
-use Rattle.jk_math.specs.Steps.{bind_then, ok_is}
 use Rattle.jk_math.specs.declared.fault.Fault.{Fault}
 use Rattle.jk_math.specs.declared.fault.Fault.TheVariants.{Memory}
 use Rattle.jk_marks.specs.Siz.{tile_count}
-use Rattle.jk_geom.specs.declared.shape.TileShape.{TileShape}
 use Rattle.jk_params.specs.Headers.{Headers, tile_in, AreHeaders}
 use Rattle.jk_walk.specs.declared.places.PacketPlace.{PacketPlace}
 use Rattle.jk_walk.specs.declared.spans.PacketSpan.{PacketSpan}
 use Rattle.jk_walk.specs.TilePackets.{shape_in, Packet}
-use Rattle.jk_walk.specs.WalkReading.{place_end, packets_at, spans_at, span_of, IsPlaced, IsSpanned, AreLaid, AreTilePackets, StandAt, SpanAt, IsPlace, ArePlaces, IsSpan, AreSpans}
-use Rattle.jk_walk.proofs.FoundLaws.{packets_found, packets_within}
+use Rattle.jk_walk.specs.WalkReading.{packets_at, spans_at, span_of, IsPlaced, IsSpanned, AreLaid, AreTilePackets}
 use Rattle.jk_walk.proofs.OnlyLaws.{packets_laid}
 
 -- ---- what is made of each of the values that are read
@@ -55,34 +52,7 @@ all_spanned bytes [] (w ∷ places) all = absurd all
 all_spanned bytes (p ∷ packets) [] all = absurd all
 all_spanned bytes (p ∷ packets) (w ∷ places) all = (span_placed bytes p w all.0, all_spanned bytes packets places all.1)
 
-pub all_within : (size : ℕ) (s : TileShape) (places : List PacketPlace) → ArePlaces size s places → AreSpans size s (map span_of places)
-all_within size s [] all = tt
-all_within size s (w ∷ places) all =
-    let order = all.0.order in
-    (record { name = all.0.name; order = omega (arith, order); within = all.0.within }, all_within size s places all.1)
-
 -- ---- a tile
-
--- the places of which only the bytes are given
-pub spans_read : (bytes : List ℕ) (h : Headers) (t : ℕ) (spans : List PacketSpan) → spans_at bytes h t ≡ Ok spans → (places : List PacketPlace) × (packets_at bytes h t ≡ Ok places) × (map span_of places ≡ spans)
-spans_read bytes h t spans e =
-    bind_then (packets_at bytes h t) _ spans e (λ places read k. (places, read, ok_is (map span_of places) spans k))
-
-pub spans_refused : (bytes : List ℕ) (h : Headers) (t : ℕ) (e : Fault) → Refuses e (spans_at bytes h t) → Refuses e (packets_at bytes h t)
-spans_refused bytes h t e r = refuses_read e (packets_at bytes h t) (map span_of) r
-
-pub spans_found : (bytes : List ℕ) (h : Headers) (t : ℕ) (spans : List PacketSpan) → AreHeaders (length bytes) h → t < tile_count h.siz → spans_at bytes h t ≡ Ok spans → SpanAt bytes h t spans
-spans_found bytes h t spans are less e =
-    let read = spans_read bytes h t spans e in
-    let found = packets_found bytes h t read.0 are less read.1 in
-    (found.0, found.1, subst (AllZip (IsSpanned bytes) found.0) read.2 (all_spanned bytes found.0 read.0 found.2))
-
-pub spans_within : (bytes : List ℕ) (h : Headers) (t : ℕ) (spans : List PacketSpan) → AreHeaders (length bytes) h → t < tile_count h.siz → spans_at bytes h t ≡ Ok spans
-    → AreSpans (length bytes) (shape_in h.siz (tile_in h.tiles t) t) spans
-spans_within bytes h t spans are less e =
-    let read = spans_read bytes h t spans e in
-    let s = shape_in h.siz (tile_in h.tiles t) t in
-    subst (AreSpans (length bytes) s) read.2 (all_within (length bytes) s read.0 (packets_within bytes h t read.0 are less read.1))
 
 -- The packets of a tile are read, each with its bytes, one after another in its parts.
 pub spans_laid : (bytes : List ℕ) (h : Headers) (t : ℕ) (packets : List Packet) → AreHeaders (length bytes) h → t < tile_count h.siz → AreTilePackets bytes h t packets

@@ -1,3 +1,6 @@
 pub mod TilePackets
 pub mod WalkReading
 pub mod Keeping
+pub mod Sop
+pub mod Placing
+pub mod Entries

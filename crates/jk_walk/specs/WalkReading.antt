@@ -120,10 +120,6 @@ AreTilePackets bytes h t packets =
 abbrev pub StandAt : List ℕ → Headers → ℕ → List PacketPlace → Type 0
 StandAt bytes h t places = (packets : List Packet) × AreTilePackets bytes h t packets × AllZip (IsPlaced bytes) packets places
 
--- The packets of tile t have these bytes.
-abbrev pub SpanAt : List ℕ → Headers → ℕ → List PacketSpan → Type 0
-SpanAt bytes h t spans = (packets : List Packet) × AreTilePackets bytes h t packets × AllZip (IsSpanned bytes) packets spans
-
 -- The place of a packet of the tile, within so many bytes: its parts are of code-blocks of its precinct.
 pub record IsPlace (size : ℕ) (s : TileShape) (w : PacketPlace) : Type 0 where
   pub name : IsName s w.name

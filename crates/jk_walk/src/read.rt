@@ -1,22 +1,45 @@
 //! The packets of a tile of a codestream.
 
-ghost use Rattle.std.specs.Prelude.{◌≡◌, ◌≤◌, ◌<◌, List, length, IfOk, MatchResult};
+ghost use Rattle.std.specs.Prelude.{◌≡◌, ◌≤◌, ◌<◌, ◌^◌, ℕ, List, length, IfOk, MatchResult};
 ghost use Rattle.std.specs.List.{AllZip};
 ghost use Rattle.jk_math.specs.Answer.{Answers};
 ghost use Rattle.jk_math.specs.Memory.{IsMemory};
 ghost use Rattle.jk_marks.specs.Siz.{tile_count};
+ghost use Rattle.jk_geom.specs.TileShapes.{IsTileShape};
+ghost use Rattle.jk_order.specs.PacketOrder.{packet_count};
 ghost use Rattle.jk_params.specs.Headers.{tile_in, AreHeaders};
 ghost use Rattle.jk_walk.specs.TilePackets.{shape_in, Packet};
-ghost use Rattle.jk_walk.specs.WalkReading.{packets_at, each_of, spans_at, IsPlaced, IsSpanned, AreTilePackets, StandAt, SpanAt, ArePlaces, AreSpans};
+ghost use Rattle.jk_walk.specs.WalkReading.{packets_at, each_of, IsPlaced, AreTilePackets, StandAt, ArePlaces};
+ghost use Rattle.jk_walk.specs.Entries.{entries_at, EnterAt, AreEnteredAt, AreEntries};
 
+use crate::entries::{NamedEntry, TileEntries, place_entries};
 use crate::places::{PacketPlace, TilePackets};
 use crate::precincts::Markers;
-use crate::spans::{OfPacket, PacketSpan, TileSpans};
+use crate::spans::OfPacket;
 use crate::walk::read_kept;
-use jk_geom::tile_shape;
+use jk_geom::{TileShape, tile_shape};
 use jk_math::Fault;
 use jk_params::Codestream;
 use std::alloc::Global;
+
+/// What the packets of a tile depend on: its rectangle and codings, layers and their order (T.800
+/// B.3, A.6.1). No tile of a codestream that is read has more than 2^24 packets.
+pub fn shape_of(headers: &Codestream, tile: usize) -> TileShape
+    requires sound { (size : ℕ) × AreHeaders size headers.now }
+    requires tile { tile < tile_count headers.now.siz }
+    ensures value { result ≡ shape_in headers.now.siz (tile_in headers.now.tiles tile) tile }
+    ensures shape { IsTileShape result }
+    ensures few { packet_count result ≤ 2 ^ 24 }
+{
+    let cod = headers.cod(tile);
+    tile_shape(
+        headers.siz(),
+        tile as u32,
+        cod.layers,
+        cod.order,
+        headers.codings(tile).copy(),
+    )
+}
 
 /// What is kept of the packets of a tile.
 #[tactic(auto, unfolding(crate::specs::WalkReading::packets_at))]
@@ -28,16 +51,11 @@ fn read_tile<K: OfPacket>(
 ) -> Result<Vec<K>, Fault>
     requires sound { AreHeaders (length bytes.now) headers.now }
     requires tile { tile < tile_count headers.now.siz }
-    ensures { Answers (λ v. v.items) result (each_of K.kept_of (packets_at bytes.now headers.now tile)) }
+    ensures { Answers (λ v. v.items) result
+        (each_of (K.kept_of bytes.now (tile_in headers.now.tiles tile).cod.sop) (packets_at bytes.now headers.now tile)) }
 {
     let cod = headers.cod(tile);
-    let shape = tile_shape(
-        headers.siz(),
-        tile as u32,
-        cod.layers,
-        cod.order,
-        headers.codings(tile).copy(),
-    );
+    let shape = shape_of(headers, tile);
     let markers = Markers {
         sop: cod.sop,
         eph: cod.eph,
@@ -60,19 +78,20 @@ fn tile_packets(
     Ok(TilePackets::new(places))
 }
 
-/// The bytes of the packets of a tile.
-fn tile_spans(
+/// The entries of the packets of a tile.
+fn tile_entries(
     alloc: Global,
     headers: &Codestream,
     bytes: &[u8],
     tile: usize,
-) -> Result<TileSpans, Fault>
+) -> Result<TileEntries, Fault>
     requires sound { AreHeaders (length bytes.now) headers.now }
     requires tile { tile < tile_count headers.now.siz }
-    ensures { Answers (λ p. p) result (spans_at bytes.now headers.now tile) }
+    ensures { Answers (λ p. p) result (entries_at bytes.now headers.now tile) }
 {
-    let spans = read_tile::<PacketSpan>(alloc, headers, bytes, tile)?;
-    Ok(TileSpans::new(spans))
+    let named = read_tile::<NamedEntry>(alloc, headers, bytes, tile)?;
+    let shape = shape_of(headers, tile);
+    Ok(TileEntries::new(place_entries(alloc, &shape, &named)?))
 }
 
 /// The packets of a tile in the data of its parts, each by its place (T.800 B.9 to B.12).
@@ -101,27 +120,29 @@ pub fn read_packets(
     tile_packets(alloc, headers, bytes, tile)
 }
 
-/// The packets of a tile, each by its bytes alone: what headers tell of code-blocks isn't kept, and what was told of a
-/// precinct is let go of behind its last packet.
+/// The packets of a tile, each by its place in the codestream and found by its name: what
+/// `read_packets` finds, without the parts.
 ///
-/// The faults are those of `read_packets`, in the same order.
-pub fn read_spans(
+/// The faults are those of `read_packets`, in the same order. Room is taken for no more packets than
+/// the codestream has bytes, whatever the headers promise.
+pub fn read_entries(
     alloc: Global,
     headers: &Codestream,
     bytes: &[u8],
     tile: usize,
-) -> Result<TileSpans, Fault>
+) -> Result<TileEntries, Fault>
     requires sound { AreHeaders (length bytes.now) headers.now }
     requires tile { tile < tile_count headers.now.siz }
-    // The places that `read_packets` gives without their parts, or the same fault.
-    ensures exact { Answers (λ p. p) result (spans_at bytes.now headers.now tile) }
-    // The packets of the tile have these bytes.
-    ensures found { IfOk result (SpanAt bytes.now headers.now tile) }
+    // The places that `read_packets` gives, each in its packet's slot, or the same fault.
+    ensures exact { Answers (λ p. p) result (entries_at bytes.now headers.now tile) }
+    // The packets of the tile stand where their entries say.
+    ensures found { IfOk result (AreEnteredAt bytes.now headers.now tile) }
     // The packets of a tile are read.
     ensures only { (packets : List Packet) → AreTilePackets bytes.now headers.now tile packets
-        → MatchResult result (AllZip (IsSpanned bytes.now) packets) (λ e. IsMemory e) }
-    // The bytes are of packets that there are, and lie in the codestream.
-    ensures within { IfOk result (AreSpans (length bytes.now) (shape_in headers.now.siz (tile_in headers.now.tiles tile) tile)) }
+        → MatchResult result (EnterAt bytes.now headers.now tile packets) (λ e. IsMemory e) }
+    // There is an entry for each packet, and they lie in the codestream.
+    ensures within { IfOk result
+        (AreEntries (length bytes.now) (shape_in headers.now.siz (tile_in headers.now.tiles tile) tile)) }
 {
-    tile_spans(alloc, headers, bytes, tile)
+    tile_entries(alloc, headers, bytes, tile)
 }

@@ -1,12 +1,11 @@
 //! Where the packets of a tile begin and end.
 
-ghost use Rattle.std.specs.Prelude.{◌≡◌};
-ghost use Rattle.jk_walk.specs.WalkReading.{place_end, span_of};
+ghost use Rattle.std.specs.Prelude.{◌≡◌, ◌≤◌, ℕ, Bool, List, length};
+ghost use Rattle.jk_walk.specs.WalkReading.{place_end};
 ghost use Rattle.jk_walk.specs.declared.places.PacketPlace.{PacketPlace as Place};
 
 use crate::places::PacketPlace;
 use jk_geom::PacketName;
-use std::marker::Model;
 
 /// The bytes of a packet in the codestream.
 #[derive(Clone, Copy, Debug, PartialEq, Eq, Drop)]
@@ -19,63 +18,22 @@ pub struct PacketSpan {
     pub end: usize,
 }
 
-/// The packets of a tile in their order, each by its bytes.
-#[derive(Debug, Drop)]
-pub struct TileSpans {
-    spans: Vec<PacketSpan>,
-}
-
-impl Model for TileSpans {
-    ghost use Rattle.std.specs.Prelude.{List};
-    ghost use Rattle.jk_walk.specs.declared.spans.PacketSpan.{PacketSpan};
-
-    ghost Value = { List PacketSpan };
-
-    ghost view = { λ p. p.spans.items };
-}
-
-impl TileSpans {
-    /// Packets of these bytes.
-    pub(crate) fn new(spans: Vec<PacketSpan>) -> TileSpans
-        ensures { result ≡ spans.items }
-    {
-        TileSpans { spans }
-    }
-
-    /// The packets, one after another.
-    pub fn as_slice(&self) -> &[PacketSpan]
-        ensures { result.now ≡ self.now }
-    {
-        &self.spans
-    }
-}
-
 /// What a walk over the packets of a tile keeps of each.
 pub(crate) trait OfPacket: Drop {
-    ghost kept_of: { Place → Self };
+    ghost kept_of: { List ℕ → Bool → Place → Self };
 
-    /// What is kept of the packet of a place, which ends here.
-    fn of_packet(place: PacketPlace, end: usize) -> Self
-        requires { end ≡ place_end place }
-        ensures { result ≡ kept_of place };
+    /// What is kept of the packet of a place in the codestream, which ends here. SOP may stand
+    /// before it where `sop` says so.
+    fn of_packet(bytes: &[u8], sop: bool, place: PacketPlace, end: usize) -> Self
+        requires end { end ≡ place_end place }
+        requires within { (place.start ≤ end) × (end ≤ length bytes.now) }
+        ensures { result ≡ kept_of bytes.now sop place };
 }
 
 impl OfPacket for PacketPlace {
-    ghost kept_of = { λ w. w };
+    ghost kept_of = { λ bytes sop w. w };
 
-    fn of_packet(place: PacketPlace, _end: usize) -> PacketPlace {
+    fn of_packet(_bytes: &[u8], _sop: bool, place: PacketPlace, _end: usize) -> PacketPlace {
         place
-    }
-}
-
-impl OfPacket for PacketSpan {
-    ghost kept_of = { span_of };
-
-    fn of_packet(place: PacketPlace, end: usize) -> PacketSpan {
-        PacketSpan {
-            name: place.name,
-            start: place.start,
-            end,
-        }
     }
 }

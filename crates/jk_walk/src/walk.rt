@@ -57,7 +57,7 @@ fn read_packet(
     ensures exact { ReadsBy (λ o. o.0) (packet_at bytes.now part name)
         (states_in shape.now precincts.old name.component name.resolution name.precinct)
         (states_in shape.now precincts.new name.component name.resolution name.precinct) result }
-    ensures end { IfOk result (λ o. (o.1 ≡ place_end o.0) × (o.1 ≤ part.1)) }
+    ensures end { IfOk result (λ o. (o.1 ≡ place_end o.0) × (o.1 ≤ part.1) × (o.0.start ≤ o.1)) }
     ensures others { OnOk result ((c r k : ℕ) → IsPrecinct shape.now c r k → is_of c r k name ≡ false
         → states_in shape.now precincts.new c r k ≡ states_in shape.now precincts.old c r k) }
     ensures kept { IsKept precincts.old precincts.new }
@@ -90,7 +90,8 @@ pub(crate) fn read_kept<K: OfPacket>(
     requires few { packet_count shape.now ≤ 2 ^ 24 }
     requires parts { AllByRecursion (λ p. (p.0 ≤ p.1) × (p.1 ≤ length bytes.now)) parts.now }
     ensures { Answers (λ v. v.items) result
-        (each_of K.kept_of (names_at bytes.now (order shape.now) (blank_states shape.now markers.sop markers.eph) parts.now)) }
+        (each_of (K.kept_of bytes.now markers.sop)
+        (names_at bytes.now (order shape.now) (blank_states shape.now markers.sop markers.eph) parts.now)) }
 {
     let count = packet_count(shape);
     let mut packets = Packets::new(shape)?;
@@ -106,7 +107,7 @@ pub(crate) fn read_kept<K: OfPacket>(
         };
         let (place, end) = read_packet(shape, bytes, part, name, &mut precincts)?;
         precincts.leave(shape, name);
-        all.push(K::of_packet(place, end))?;
+        all.push(K::of_packet(bytes, markers.sop, place, end))?;
         left.advance(end);
     }
     if left.in_hand().is_some() {

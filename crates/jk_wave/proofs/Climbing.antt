@@ -27,7 +27,7 @@ within_place a x y h = record { left = h.left; right = h.right; upper = h.upper;
 abbrev pub list_of : List (List ℤ) → ℕ → List ℤ
 list_of lists b = get_or lists b []
 
-picked : (lists : List (List ℤ)) (r o : ℕ) → 0 < o → o < 4 → pick o (list_of lists (3 * r + 1)) (list_of lists (3 * r + 1 + 1)) (list_of lists (3 * r + 1 + 2)) ≡ list_of lists (3 * r + o)
+pub picked : (lists : List (List ℤ)) (r o : ℕ) → 0 < o → o < 4 → pick o (list_of lists (3 * r + 1)) (list_of lists (3 * r + 1 + 1)) (list_of lists (3 * r + 1 + 2)) ≡ list_of lists (3 * r + o)
 picked lists r zero some few = absurd (omega arith)
 picked lists r (suc zero) some few = refl
 picked lists r (suc (suc zero)) some few = ap (list_of lists) (omega arith)

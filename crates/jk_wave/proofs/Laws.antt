@@ -3,3 +3,5 @@ pub use Rattle.jk_wave.proofs.Local.{is_local_resolution, is_decided, parities, 
 pub use Rattle.jk_wave.proofs.Undoing.{is_undone, is_reduced}
 pub use Rattle.jk_wave.proofs.Growth.{grows_levels, has_planes, has_width, bounds_resolutions}
 pub use Rattle.jk_wave.proofs.Agreeing.{Agree, analysed_agree, bands_agree}
+pub use Rattle.jk_wave.proofs.Pieces.{is_climbing}
+pub use Rattle.jk_wave.proofs.RegionAreas.{whole_region, held_part, part_lowest, part_number, part_inside, part_whole, part_is_area, part_within, resolution_is_area}

@@ -9,4 +9,9 @@ pub mod Climbing
 pub mod Descending
 pub mod Leaving
 pub mod Agreeing
+pub mod RegionAreas
+pub mod MovedRows
+pub mod PartSamples
+pub mod Pieces
+mod Examples
 pub mod Laws

@@ -2,7 +2,9 @@
 use Rattle.std.specs.Prelude.{◌≡◌, ℕ, ℤ, ◌+◌, ◌-◌, ◌*◌, ◌/◌, ◌%◌, ◌^◌, ◌<◌, ◌≤◌, ◌⊎◌, unsigned_abs}
 use Rattle.jk_math.specs.declared.rect.Rect.{Rect}
 use Rattle.jk_geom.specs.Rectangles.{IsWithin, resolution_area}
-use Rattle.jk_wave.specs.Resolutions.{resolution_of}
+use Rattle.jk_lift.specs.Pieces.{near_area}
+use Rattle.jk_wave.specs.Levels.{half_area, unlifted_over}
+use Rattle.jk_wave.specs.Resolutions.{woven_plane, resolution_of}
 use Rattle.jk_wave.specs.Analysis.{reduced, analysed}
 use Rattle.jk_wave.specs.Bands.{numbered_area}
 
@@ -59,3 +61,15 @@ abbrev pub BoundsResolutions : Type 0
 BoundsResolutions = (a : Rect) (levels : ℕ) (bands : ℕ → ℕ → ℕ → ℤ) (r : ℕ) → levels ≤ 10 → r ≤ levels →
     ((b x y : ℕ) → b ≤ 3 * r → IsWithin (numbered_area a levels b) x y → unsigned_abs (bands b x y) ≤ 2 ^ 23) →
     (x y : ℕ) → IsWithin (resolution_area a levels r) x y → unsigned_abs (resolution_of a levels bands r x y) < 2 ^ 29
+
+-- In each resolution up to `top` a rectangle u is looked at: that of a lower one is the low half of
+-- what is near that of the next. p is made level by level of what is near alone. Then p is the
+-- resolution there.
+abbrev pub IsClimbing : Type 0
+IsClimbing = (a : Rect) (levels top : ℕ) (u : ℕ → Rect) (bands : ℕ → ℕ → ℕ → ℤ) (p : ℕ → ℕ → ℕ → ℤ) → top ≤ levels →
+    ((r : ℕ) → r < top → u r ≡ half_area (near_area (resolution_area a levels (r + 1)) (u (r + 1))) 0) →
+    ((r x y : ℕ) → r ≤ top → IsWithin (u r) x y → IsWithin (resolution_area a levels r) x y) →
+    ((x y : ℕ) → IsWithin (u 0) x y → p 0 x y ≡ bands 0 x y) →
+    ((r x y : ℕ) → r < top → IsWithin (u (r + 1)) x y →
+    p (r + 1) x y ≡ unlifted_over (near_area (resolution_area a levels (r + 1)) (u (r + 1))) (woven_plane (p r) (λ o. bands (3 * r + o))) x y) →
+    (r x y : ℕ) → r ≤ top → IsWithin (u r) x y → p r x y ≡ resolution_of a levels bands r x y

@@ -3,3 +3,4 @@ pub mod Levels
 pub mod Bands
 pub mod Analysis
 pub mod Laws
+pub mod Regions

@@ -1,6 +1,6 @@
 //! From sub-bands to a resolution.
 
-ghost use Rattle.std.specs.Prelude.{◌≡◌, ◌≢◌, ℕ, ℤ, Ok, IfOk, IfErr, ◌+◌, ◌-◌, ◌*◌, ◌/◌, ◌%◌, ◌^◌, ◌<◌, ◌≤◌, length, All, slice_index_or};
+ghost use Rattle.std.specs.Prelude.{◌≡◌, ◌≢◌, ℕ, ℤ, Ok, IfOk, IfErr, MatchResult, ◌+◌, ◌-◌, ◌*◌, ◌/◌, ◌%◌, ◌^◌, ◌<◌, ◌≤◌, length, All, slice_index_or};
 ghost use Rattle.jk_math.specs.Answer.{Answers};
 ghost use Rattle.jk_math.specs.Memory.{IsMemory};
 ghost use Rattle.jk_math.specs.Raster.{columns_of, rows_of, places_of, raster};
@@ -10,12 +10,15 @@ ghost use Rattle.jk_lift.specs.Lifting.{unlifted};
 ghost use Rattle.jk_lift.specs.Samples.{low_length, high_length, SynthesisesLine};
 ghost use Rattle.jk_wave.specs.Bands.{AreBands, coefficients_of};
 ghost use Rattle.jk_wave.specs.Levels.{row_of, ArePartsOf, woven_parts, unlifted_over};
+ghost use Rattle.jk_wave.specs.Regions.{IsRegion, held, AreBandParts, ShowsParts, IsHeld};
 ghost use Rattle.jk_wave.specs.Resolutions.{resolution_of};
 
-use crate::bands::Bands;
+use crate::bands::{BandParts, Bands};
+use crate::cropping::crop;
+use crate::region::{Region, around, held};
 use jk_geom::resolution;
 use jk_lift::{synthesise_line, synthesise_rows};
-use jk_math::{Fault, Rect};
+use jk_math::{Fault, Planes, Rect};
 use std::alloc::Global;
 
 /// The samples of row `row` of both parts, which starts at place `start`.
@@ -118,26 +121,63 @@ fn synthesise_level(
     Ok(plane)
 }
 
-/// Resolution `r + 1` from resolution `r`.
-fn next_resolution(alloc: Global, bands: &Bands, r: u8, below: &[i32]) -> Result<Vec<i32>, Fault>
-    requires area { IsArea bands.now.rect }
-    requires levels { bands.now.levels ≤ 10 }
-    requires r { r < bands.now.levels }
-    requires bands { AreBands bands.now.rect bands.now.levels (r + 1) bands.now.bands }
-    requires below { below.now ≡ raster (resolution_area bands.now.rect bands.now.levels r)
-        (resolution_of bands.now.rect bands.now.levels (coefficients_of bands.now.rect bands.now.levels bands.now.bands) r) }
-    ensures value { IfOk result (λ v. v.items ≡ raster (resolution_area bands.now.rect bands.now.levels (r + 1))
-        (resolution_of bands.now.rect bands.now.levels (coefficients_of bands.now.rect bands.now.levels bands.now.bands) (r + 1))) }
+/// What is looked at of resolution `r + 1`, from what is looked at of resolution `r`.
+fn next_held(
+    alloc: Global,
+    region: &Region,
+    bands: &Planes,
+    r: u8,
+    below: &[i32],
+) -> Result<Vec<i32>, Fault>
+    requires region { IsRegion region.now }
+    requires r { r < region.now.top }
+    requires parts { AreBandParts region.now bands.now }
+    requires below { IsHeld region.now bands.now r below.now }
+    ensures value { IfOk result (λ v. IsHeld region.now bands.now (r + 1) v.items) }
     ensures err { IfErr result (λ e. IsMemory e) }
 {
-    let area = resolution(&bands.rect, bands.levels, r + 1);
+    let n = region.top - (r + 1);
+    let (near, shown) = (around(region, n), held(region, n));
     let first = 3 * r as usize + 1;
     let (hl, lh, hh) = (
-        bands.bands.plane(first),
-        bands.bands.plane(first + 1),
-        bands.bands.plane(first + 2),
+        bands.plane(first),
+        bands.plane(first + 1),
+        bands.plane(first + 2),
     );
-    synthesise_level(alloc, &area, below, hl, lh, hh)
+    let plane = synthesise_level(alloc, &near, below, hl, lh, hh)?;
+    Ok(crop(plane, &near, &shown))
+}
+
+/// A region of a resolution, row by row, from the parts of the sub-bands that it depends on.
+fn synthesise_region(alloc: Global, region: &Region, bands: &Planes) -> Result<Vec<i32>, Fault>
+    requires region { IsRegion region.now }
+    requires parts { AreBandParts region.now bands.now }
+    ensures part { (c : ℕ → ℕ → ℕ → ℤ) → ShowsParts region.now bands.now c
+        → MatchResult result (λ v. v.items ≡ raster region.now.area (resolution_of region.now.rect region.now.levels c region.now.top)) IsMemory }
+    ensures small { IfOk result (λ v. All (IsBelow (2 ^ 29)) v.items) }
+    ensures err { IfErr result (λ e. IsMemory e) }
+{
+    if region.top == 0 {
+        return Ok(Vec::from_slice(alloc, bands.plane(0))?);
+    }
+    let mut plane = next_held(alloc, region, bands, 0, bands.plane(0))?;
+    for r in 1..region.top {
+        plane = next_held(alloc, region, bands, r, &plane)?;
+    }
+    Ok(plane)
+}
+
+/// A region of a resolution of a tile-component, row by row on its rectangle, from the parts of the
+/// sub-bands alone.
+pub fn synthesise_part(alloc: Global, parts: &BandParts) -> Result<Vec<i32>, Fault>
+    requires region { IsRegion parts.now.region }
+    requires parts { AreBandParts parts.now.region parts.now.bands }
+    ensures part { (c : ℕ → ℕ → ℕ → ℤ) → ShowsParts parts.now.region parts.now.bands c
+        → MatchResult result (λ v. v.items ≡ raster parts.now.region.area
+        (resolution_of parts.now.region.rect parts.now.region.levels c parts.now.region.top)) IsMemory }
+    ensures small { IfOk result (λ v. All (IsBelow (2 ^ 29)) v.items) }
+{
+    synthesise_region(alloc, &parts.region, &parts.bands)
 }
 
 /// Resolution `r` of a tile-component, row by row on its rectangle (IDWT, T.800 F.3.1).
@@ -150,12 +190,11 @@ pub fn synthesise(alloc: Global, bands: &Bands, r: u8) -> Result<Vec<i32>, Fault
         (resolution_of bands.now.rect bands.now.levels (coefficients_of bands.now.rect bands.now.levels bands.now.bands) r))) }
     ensures small { IfOk result (λ v. All (IsBelow (2 ^ 29)) v.items) }
 {
-    if r == 0 {
-        return Ok(Vec::from_slice(alloc, bands.bands.plane(0))?);
-    }
-    let mut plane = next_resolution(alloc, bands, 0, bands.bands.plane(0))?;
-    for q in 1..r {
-        plane = next_resolution(alloc, bands, q, &plane)?;
-    }
-    Ok(plane)
+    let region = Region {
+        rect: bands.rect,
+        levels: bands.levels,
+        top: r,
+        area: resolution(&bands.rect, bands.levels, r),
+    };
+    Ok(synthesise_region(alloc, &region, &bands.bands)?)
 }

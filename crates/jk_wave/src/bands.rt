@@ -1,5 +1,6 @@
-//! The sub-bands of a tile-component.
+//! The sub-bands of a tile-component, and parts of them.
 
+use crate::region::Region;
 use jk_math::{Planes, Rect};
 
 /// The sub-bands of a tile-component on the rectangle `rect` with so many decomposition levels, in the order of QCD: LL, then
@@ -8,5 +9,13 @@ use jk_math::{Planes, Rect};
 pub struct Bands {
     pub rect: Rect,
     pub levels: u8,
+    pub bands: Planes,
+}
+
+/// The parts of the sub-bands that a region of a resolution depends on, in the order of QCD, each a
+/// list of coefficients row by row on its [`part_area`](crate::part_area).
+#[derive(Debug, Drop)]
+pub struct BandParts {
+    pub region: Region,
     pub bands: Planes,
 }

@@ -4,9 +4,12 @@
 
 mod backward;
 mod bands;
+mod cropping;
 mod forward;
+mod region;
 pub mod theorems;
 
-pub use backward::synthesise;
-pub use bands::Bands;
+pub use backward::{synthesise, synthesise_part};
+pub use bands::{BandParts, Bands};
 pub use forward::analyse;
+pub use region::{Region, part_area};

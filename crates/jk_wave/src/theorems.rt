@@ -1,6 +1,6 @@
 //! Laws of sub-bands and resolutions. Each is the contract of a function that does nothing.
 
-ghost use Rattle.jk_wave.specs.Laws.{IsLocalResolution, IsDecided, IsUndone, IsReduced, GrowsLevels, HasPlanes, HasWidth, BoundsResolutions};
+ghost use Rattle.jk_wave.specs.Laws.{IsLocalResolution, IsDecided, IsUndone, IsReduced, GrowsLevels, HasPlanes, HasWidth, BoundsResolutions, IsClimbing};
 
 /// What a resolution shows of a rectangle depends on the sub-bands near it alone.
 pub fn resolutions_are_local()
@@ -24,4 +24,10 @@ pub fn levels_growth()
 /// How much all levels add, backwards.
 pub fn resolutions_bound()
     ensures { BoundsResolutions }
+{}
+
+/// Resolutions that are made level by level of what is near a rectangle alone are the resolutions
+/// there.
+pub fn pieces_climb()
+    ensures { IsClimbing }
 {}

@@ -1,10 +1,11 @@
 -- What is said to a request for an image.
-use Rattle.std.proofs.Common.{◌≡◌, ℕ, Bool, true, false, cond, ◌||◌, List, [], ◌∷◌, codes, Option, Some, None, is_some, refl, sym, ap, subst, ◌∙◌}
+use Rattle.std.proofs.Common.{◌≡◌, ℕ, Bool, true, false, cond, ◌||◌, List, [], ◌∷◌, codes, Option, Some, is_some, refl, sym, ap, subst, ◌∙◌}
 use Rattle.std.specs.Str.{bytes_eq}
 use Rattle.jk_web.specs.declared.request.Request.{Request}
-use Rattle.jk_web.specs.Places.{path_of, query_of, Resource, nowhere, resource_at, is_among}
+use Rattle.jk_web.specs.declared.query.Asked.{Asked}
+use Rattle.jk_web.specs.Places.{path_of, query_of, Resource, whole, window, nowhere, resource_at, is_among, among}
 use Rattle.jk_web.specs.Replies.{Content, error}
-use Rattle.jk_web.specs.Images.{Image, names_of, image_of, content_of, content, asked_for}
+use Rattle.jk_web.specs.Images.{Image, names_of, image_of, content_of, content, asked_for, IsOtherSent}
 
 -- A name is among the names where there is an image of it.
 among_is : (name : List ℕ) (images : List Image) → is_among (names_of images) name ≡ is_some (image_of name images)
@@ -44,3 +45,32 @@ pub at_name : (images : List Image) (name : List ℕ) (make : List ℕ → Resou
     → (F : Resource → Type 0) → F (make name) → F (cond (is_among (names_of images) name) (make name) nowhere)
 at_name images name make has F given =
     subst F (sym (ap (λ b. cond b (make name) nowhere) (among_is name images ∙ has))) given
+
+-- What is sent of a whole file is no window.
+pub whole_alone : (images : List Image) (reads : List ℕ → List ℕ → Type 0) (windows others : Option Image → List ℕ → Asked → List ℕ → Type 0) (name query file : List ℕ)
+    → IsOtherSent images reads windows query (among (names_of images) (whole name)) file → IsOtherSent images reads others query (among (names_of images) (whole name)) file
+whole_alone images reads windows others name query file = at_test (is_among (names_of images) name)
+  where
+    at_test : (b : Bool) → IsOtherSent images reads windows query (cond b (whole name) nowhere) file → IsOtherSent images reads others query (cond b (whole name) nowhere) file
+    at_test true h = h
+    at_test false h = h
+
+-- A request for a window, by what its path names.
+pub window_for : (q : Request) (names : List (List ℕ)) (path : List ℕ) (resource : Resource) (name : List ℕ) → bytes_eq q.method (codes "GET") ≡ true
+    → path ≡ path_of q.target → resource_at path names ≡ resource → asked_for q names ≡ window name → resource ≡ window name
+window_for q names path resource name get is_path is wanted =
+    sym is ∙ ap (λ p. resource_at p names) is_path ∙ sym (asked_get q names get) ∙ wanted
+
+pub whole_not : (names : List (List ℕ)) (file name : List ℕ) → among names (whole file) ≡ window name → ⊥
+whole_not names file name = at_test (is_among names file)
+  where
+    at_test : (b : Bool) → cond b (whole file) nowhere ≡ window name → ⊥
+    at_test true e = cc
+    at_test false e = cc
+
+pub window_named : (names : List (List ℕ)) (file name : List ℕ) → among names (window file) ≡ window name → name ≡ file
+window_named names file name = at_test (is_among names file)
+  where
+    at_test : (b : Bool) → cond b (window file) nowhere ≡ window name → name ≡ file
+    at_test true e = cc
+    at_test false e = cc

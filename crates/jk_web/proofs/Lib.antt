@@ -9,3 +9,5 @@ pub mod ServingLaws
 pub mod ImageLaws
 pub mod RunLaws
 pub mod ReplyLaws
+pub mod CacheLaws
+pub mod BehindLaws

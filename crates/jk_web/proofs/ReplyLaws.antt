@@ -1,5 +1,5 @@
 -- Replies to requests for the file of an image, or for a window of it.
-use Rattle.std.proofs.Common.{◌≡◌, ℕ, ◌⊎◌, inl, inr, Bool, true, false, List, Option, Some, None, is_some, Result, Ok, Err, IfOk, IsErr, refl, sym, ap, ◌∙◌}
+use Rattle.std.proofs.Common.{◌≡◌, ℕ, ◌⊎◌, inl, inr, Bool, true, false, List, Option, Some, None, is_some, Result, Ok, Err, IfOk, IsErr, sym, ap, ◌∙◌}
 use Rattle.jk_math.specs.declared.fault.Fault.{Fault}
 use Rattle.jk_math.specs.declared.fault.Fault.TheVariants.{Memory, NoSuchImage, BadWindow, Shelf, Changed}
 use Rattle.jk_math.specs.Memory.{IsMemory}
@@ -38,6 +38,13 @@ cut_sent (Some i) all asked file is cut = sym (ap (λ x. window_content (Some i)
 pub either : {A B C D : Type 0} → A ⊎ B → (A → C) → (B → D) → C ⊎ D
 either (inl a) f g = inl (f a)
 either (inr b) f g = inr (g b)
+
+-- a reply with another file is one where more files are others
+pub reply_as : (due : Content) (broken : Type 0) (other more : List ℕ → Type 0) (close : Bool) (r : Reply) → ((file : List ℕ) → other file → more file)
+    → IsReplyOf due broken other close r → IsReplyOf due broken more close r
+reply_as due broken other more close r on (inl is) = inl is
+reply_as due broken other more close r on (inr (inl why)) = inr (inl why)
+reply_as due broken other more close r on (inr (inr sent)) = inr (inr (sent.0, on sent.0 sent.1, sent.2))
 
 nothing : {A : Type 0} (r : Result A Fault) (P : A → Type 0) → IsErr r → IfOk r P
 nothing (Ok x) P e = absurd (cc)

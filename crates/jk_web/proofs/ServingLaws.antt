@@ -13,12 +13,13 @@ use Rattle.jk_math.specs.declared.fault.Fault.{Fault}
 use Rattle.jk_web.specs.declared.reply.Reply.{Reply}
 use Rattle.jk_web.specs.declared.request.Request.{Request}
 use Rattle.jk_web.specs.Heads.{IsWhole, IsBad, IsQuiet, request_of}
-use Rattle.jk_web.specs.Prefixes.{IsPrefix}
+use Rattle.jk_math.specs.Front.{IsFront}
 use Rattle.jk_web.specs.Replies.{bad_reply}
 use Rattle.jk_web.specs.Sessions.{Takes}
 use Rattle.jk_web.specs.Unread.{Unread, bad}
 use Rattle.jk_web.specs.Serving.{Answered, nothing, one_more, IsClosedText, IsBadText, IsCutText, IsRefusedText, Tells, Ends}
-use Rattle.jk_web.proofs.KnownLaws.{appends_join, consumes_join}
+use Rattle.jk_math.proofs.Laws.{appends_join}
+use Rattle.jk_web.proofs.KnownLaws.{consumes_join}
 
 -- A head has a byte.
 head_some : (h : RequestHead) → IsRequestHead h → 0 < length (print_request h)
@@ -88,7 +89,7 @@ module _ {S : Type 0} (gives : S → Request → Reply → S → Type 0) (refuse
   )
 
   pub cut_here : (a b c : Option (List ℕ)) (s t u : S) (stream text sent : List ℕ) (old new : Unread) (q : Request) (reply : Reply)
-      → Appends a b text → ((part : List ℕ) × Appends b c part × IsPrefix part sent) → sent ≡ reply.bytes
+      → Appends a b text → ((part : List ℕ) × Appends b c part × IsFront part sent) → sent ≡ reply.bytes
       → Answered gives s stream text old.rest t → Takes old new q → gives t q reply u
       → (x : List ℕ) × Appends a c x × IsCutText gives s stream x u
   cut_here a b c s t u stream text sent old new q reply before some same answered k g = (
@@ -102,7 +103,7 @@ module _ {S : Type 0} (gives : S → Request → Reply → S → Type 0) (refuse
       reply = reply;
       due = inl (k.head, new.rest, k.whole, k.good, given_head old new t u q reply k g);
       part = some.0;
-      cut = subst (IsPrefix some.0) same some.2;
+      cut = subst (IsFront some.0) same some.2;
       ends = refl;
     },
   )
@@ -124,7 +125,7 @@ module _ {S : Type 0} (gives : S → Request → Reply → S → Type 0) (refuse
   )
 
   pub cut_bad : (a b c : Option (List ℕ)) (s t : S) (stream text sent rest : List ℕ) (status : ℕ) (reply : Reply)
-      → Appends a b text → ((part : List ℕ) × Appends b c part × IsPrefix part sent) → sent ≡ reply.bytes
+      → Appends a b text → ((part : List ℕ) × Appends b c part × IsFront part sent) → sent ≡ reply.bytes
       → Answered gives s stream text rest t → IsBad rest status → reply ≡ bad_reply status
       → (x : List ℕ) × Appends a c x × IsCutText gives s stream x t
   cut_bad a b c s t stream text sent rest status reply before some same answered wrong due = (
@@ -138,7 +139,7 @@ module _ {S : Type 0} (gives : S → Request → Reply → S → Type 0) (refuse
       reply = reply;
       due = inr (status, wrong, due, refl);
       part = some.0;
-      cut = subst (IsPrefix some.0) same some.2;
+      cut = subst (IsFront some.0) same some.2;
       ends = refl;
     },
   )

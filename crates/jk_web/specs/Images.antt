@@ -105,6 +105,15 @@ IsOtherFile (Some image) reads file = reads file × (file ≡ image.file → ⊥
 abbrev pub IsOtherCut : Option Image → (reads : List ℕ → Type 0) → (cuts : List ℕ → List ℕ → Type 0) → List ℕ → Type 0
 IsOtherCut image reads cuts cut = (file : List ℕ) × IsOtherFile image reads file × cuts file cut
 
+-- The window of another file that was read between two states.
+abbrev pub IsOtherRead : {S : Type 0} → (reads : S → List ℕ → List ℕ → S → Type 0) → (cuts : S → List ℕ → Asked → List ℕ → List ℕ → Type 0)
+    → Option Image → S → List ℕ → Asked → S → List ℕ → Type 0
+IsOtherRead reads cuts image s name asked t cut = IsOtherCut image (λ f. reads s name f t) (cuts s name asked) cut
+
+-- A cut that was made for the name and the window, and isn't the image's.
+abbrev pub IsOtherMade : {S : Type 0} → (made : S → List ℕ → Asked → List ℕ → Type 0) → Option Image → S → List ℕ → Asked → S → List ℕ → Type 0
+IsOtherMade made image s name asked t cut = made t name asked cut × (IsCutOf image asked cut → ⊥)
+
 -- What a call gives, where nothing is known of files: what is due of the image's, or the same of another that was read in its place.
 abbrev pub IsFileGiven : {S : Type 0} → Option Image → (reads : S → List ℕ → List ℕ → S → Type 0) → S → List ℕ → S → List ℕ → Type 0
 IsFileGiven image reads s name t file = IsFileOf image file ⊎ IsOtherFile image (λ f. reads s name f t) file
@@ -130,34 +139,55 @@ IsBroken broke (whole name) = broke name
 IsBroken broke (window name) = broke name
 IsBroken broke nowhere = ⊥
 
--- A file that is sent to a query for a resource, and isn't the image's: another that was read in its place, or a window of it.
-abbrev pub IsOtherSent : List Image → (reads : List ℕ → List ℕ → Type 0) → (cuts : List ℕ → Asked → List ℕ → List ℕ → Type 0) → List ℕ → Resource → List ℕ → Type 0
-IsOtherSent images reads cuts query listing file = ⊥
-IsOtherSent images reads cuts query (whole name) file = (are_none (pairs_of query) ≡ true) × IsOtherFile (image_of name images) (reads name) file
-IsOtherSent images reads cuts query (window name) file =
-    (asked : Asked) × (asked_by (pairs_of query) ≡ Some asked) × IsOtherCut (image_of name images) (reads name) (cuts name asked) file
-IsOtherSent images reads cuts query nowhere file = ⊥
+-- A file that is sent to a query for a resource, and isn't the image's: another that was read in its place, or such a window.
+abbrev pub IsOtherSent : List Image → (reads : List ℕ → List ℕ → Type 0) → (windows : Option Image → List ℕ → Asked → List ℕ → Type 0) → List ℕ → Resource → List ℕ → Type 0
+IsOtherSent images reads windows query listing file = ⊥
+IsOtherSent images reads windows query (whole name) file = (are_none (pairs_of query) ≡ true) × IsOtherFile (image_of name images) (reads name) file
+IsOtherSent images reads windows query (window name) file = (asked : Asked) × (asked_by (pairs_of query) ≡ Some asked) × windows (image_of name images) name asked file
+IsOtherSent images reads windows query nowhere file = ⊥
 
 -- A reply says what is due; or that a file couldn't be read, or that another was read in its place; or it has such another file.
 abbrev pub IsReplyOf : (due : Content) → (broken : Type 0) → (other : List ℕ → Type 0) → Bool → Reply → Type 0
 IsReplyOf due broken other close r =
     (r ≡ printed due close) ⊎ (broken × (r ≡ failed close)) ⊎ ((file : List ℕ) × other file × (r ≡ printed (sent file) close))
 
-module _ {S : Type 0} (broke : S → List ℕ → S → Type 0) (reads : S → List ℕ → List ℕ → S → Type 0) (cuts : S → List ℕ → Asked → List ℕ → List ℕ → Type 0) where
+-- Others: the windows that may be sent in the place of an image's.
+module _ {S : Type 0} (broke : S → List ℕ → S → Type 0) (reads : S → List ℕ → List ℕ → S → Type 0) (others : Option Image → S → List ℕ → Asked → S → List ℕ → Type 0) where
   -- The reply of a resource to a query, from one state to another.
-  abbrev pub IsReplyAt : List Image → S → S → List ℕ → Bool → Resource → Reply → Type 0
-  IsReplyAt images s t query close resource r =
-      IsReplyOf (content_of images query resource) (IsBroken (λ n. broke s n t) resource) (IsOtherSent images (λ n file. reads s n file t) (cuts s) query resource) close r
+  abbrev pub IsReplyAtWith : List Image → S → S → List ℕ → Bool → Resource → Reply → Type 0
+  IsReplyAtWith images s t query close resource r =
+      IsReplyOf (content_of images query resource) (IsBroken (λ n. broke s n t) resource)
+      (IsOtherSent images (λ n file. reads s n file t) (λ image n asked cut. others image s n asked t cut) query resource) close r
 
   -- The reply to a request for images.
-  abbrev pub IsReply : List Image → Request → S → S → Reply → Type 0
-  IsReply images q s t r =
+  abbrev pub IsReplyWith : List Image → Request → S → S → Reply → Type 0
+  IsReplyWith images q s t r =
       let resource = asked_for q (names_of images) in
-      IsReplyOf (content q images) (IsBroken (λ n. broke s n t) resource) (IsOtherSent images (λ n file. reads s n file t) (cuts s) (query_of q.target) resource) q.closes r
+      IsReplyOf (content q images) (IsBroken (λ n. broke s n t) resource)
+      (IsOtherSent images (λ n file. reads s n file t) (λ image n asked cut. others image s n asked t cut) (query_of q.target) resource) q.closes r
 
   -- What is written for a request.
+  abbrev pub gives_with : List Image → S → Request → Reply → S → Type 0
+  gives_with images s q r t = IsReplyWith images q s t r
+
+-- Windows are made at each request: another is that of a file that was read for it.
+module _ {S : Type 0} (broke : S → List ℕ → S → Type 0) (reads : S → List ℕ → List ℕ → S → Type 0) (cuts : S → List ℕ → Asked → List ℕ → List ℕ → Type 0) where
+  abbrev pub IsReplyAt : List Image → S → S → List ℕ → Bool → Resource → Reply → Type 0
+  IsReplyAt = IsReplyAtWith broke reads (IsOtherRead reads cuts)
+
+  abbrev pub IsReply : List Image → Request → S → S → Reply → Type 0
+  IsReply = IsReplyWith broke reads (IsOtherRead reads cuts)
+
   abbrev pub gives_reply : List Image → S → Request → Reply → S → Type 0
-  gives_reply images s q r t = IsReply images q s t r
+  gives_reply = gives_with broke reads (IsOtherRead reads cuts)
+
+-- Windows may be kept: another was made for the same name and window, by this request or by an earlier one.
+module _ {S : Type 0} (broke : S → List ℕ → S → Type 0) (reads : S → List ℕ → List ℕ → S → Type 0) (made : S → List ℕ → Asked → List ℕ → Type 0) where
+  abbrev pub IsCachedReply : List Image → Request → S → S → Reply → Type 0
+  IsCachedReply = IsReplyWith broke reads (IsOtherMade made)
+
+  abbrev pub gives_cached : List Image → S → Request → Reply → S → Type 0
+  gives_cached = gives_with broke reads (IsOtherMade made)
 
 -- The same where the images' files are kept: no other is read in their place.
 module _ {S : Type 0} (broke : S → List ℕ → S → Type 0) where

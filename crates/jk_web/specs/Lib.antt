@@ -8,8 +8,10 @@ pub mod Replies
 pub mod Queries
 pub mod Readings
 pub mod Places
-pub mod Prefixes
 pub mod Serving
 pub mod Pairs
 pub mod Images
 pub mod Running
+pub mod Cuts
+pub mod Keys
+pub mod Behind

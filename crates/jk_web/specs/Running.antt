@@ -7,12 +7,14 @@ use Rattle.jk_web.specs.declared.reply.Reply.{Reply}
 use Rattle.jk_web.specs.declared.request.Request.{Request}
 use Rattle.jk_web.specs.Places.{IsSegment}
 use Rattle.jk_web.specs.Images.{Image, names_of, gives_reply, gives_kept}
+use Rattle.jk_web.specs.Cuts.{Within}
 
-module _ {S : Type 0} (stands keeps : S → List Image → Type 0) where
-  -- What it stands for and what it keeps stays.
+module _ {S : Type 0} (stands keeps : S → List Image → Type 0) (made : S → List ℕ → Asked → List ℕ → Type 0) where
+  -- What it stands for and what it keeps stays, and so does what may have been made.
   pub record Lasts (s t : S) : Type 0 where
     pub stands_on : (images : List Image) → stands s images → stands t images
     pub keeps_on : (images : List Image) → keeps s images → keeps t images
+    pub made_on : Within (made s) (made t)
 
   -- Only memory is refused.
   pub record Refuses (s : S) (q : Request) (e : Fault) (t : S) : Type 0 where

@@ -9,7 +9,7 @@ use Rattle.jk_web.specs.declared.serving.End.{End}
 use Rattle.jk_web.specs.declared.serving.End.TheVariants.{Closed, Bad, ReadFailed, WriteFailed, TurnsSpent}
 use Rattle.jk_web.specs.Fields.{closes}
 use Rattle.jk_web.specs.Heads.{IsWhole, IsGood, IsQuiet, IsBad, request_of}
-use Rattle.jk_web.specs.Prefixes.{IsPrefix}
+use Rattle.jk_math.specs.Front.{IsFront}
 use Rattle.jk_web.specs.Unread.{Unread}
 use Rattle.jk_web.specs.Replies.{bad_reply}
 
@@ -68,7 +68,7 @@ module _ {S : Type 0} (gives : S → Request → Reply → S → Type 0) where
     pub reply : Reply
     pub due : IsDue state rest reply t
     pub part : List ℕ
-    pub cut : IsPrefix part reply.bytes
+    pub cut : IsFront part reply.bytes
     pub ends : text ≡ before ++ part
 
 module _ {S : Type 0} (gives : S → Request → Reply → S → Type 0) (refuses : S → Request → Fault → S → Type 0) where

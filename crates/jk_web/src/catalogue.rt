@@ -4,6 +4,7 @@ ghost use Rattle.std.specs.Prelude.{◌≡◌, ◌⊎◌, List, ℕ, is_some, Ma
 ghost use Rattle.std.specs.List.{flat_map};
 ghost use Rattle.jk_math.specs.Memory.{IsMemory};
 ghost use Rattle.jk_web.specs.Images.{Image, image_of, IsFileOf, IsCutOf, IsFileGiven, IsCutGiven, HasNoCut, MayRefuse};
+ghost use Rattle.jk_web.specs.Cuts.{Within};
 
 use crate::query::Asked;
 use jk_math::Fault;
@@ -28,6 +29,9 @@ pub trait Catalogue {
     // Of the image of this name such a window of the first file is cut to the second.
     ghost cuts: { Self → List ℕ → Asked → List ℕ → List ℕ → Type 0 };
 
+    // For the image of this name such a cut may have been made, of a file taken for the image's.
+    ghost made: { Self → List ℕ → Asked → List ℕ → Type 0 };
+
     /// The lines of all images, in order.
     fn lines(&self, alloc: Global) -> Result<Vec<u8>, Fault>
         ensures lines { (images : List Image) → stands self.now images → IfOk result (λ v. v.items ≡ flat_map (λ i. i.line) images) }
@@ -46,7 +50,8 @@ pub trait Catalogue {
         ensures same { (images : List Image) → stands self.old images → keeps self.old images
             → IfOk result (λ v. IsFileOf (image_of name.now images) v.items) }
         ensures stands { (images : List Image) → stands self.old images → stands self.new images }
-        ensures keeps { (images : List Image) → keeps self.old images → keeps self.new images };
+        ensures keeps { (images : List Image) → keeps self.old images → keeps self.new images }
+        ensures lasts { Within (made self.old) (made self.new) };
 
     /// The file of a window of an image.
     fn window(&mut self, alloc: Global, name: &[u8], asked: Asked) -> Result<Vec<u8>, Fault>
@@ -56,6 +61,8 @@ pub trait Catalogue {
         // Of a file that is kept it is the window.
         ensures same { (images : List Image) → stands self.old images → keeps self.old images
             → IfOk result (λ v. IsCutOf (image_of name.now images) asked v.items) }
+        ensures made { IfOk result (λ v. made self.new name.now asked v.items) }
         ensures stands { (images : List Image) → stands self.old images → stands self.new images }
-        ensures keeps { (images : List Image) → keeps self.old images → keeps self.new images };
+        ensures keeps { (images : List Image) → keeps self.old images → keeps self.new images }
+        ensures lasts { Within (made self.old) (made self.new) };
 }

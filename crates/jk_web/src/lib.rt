@@ -3,6 +3,7 @@
 
 mod answering;
 mod budget;
+mod cache;
 mod catalogue;
 mod fields;
 mod head;
@@ -15,15 +16,17 @@ mod running;
 mod service;
 mod serving;
 mod session;
+mod windows;
 
-pub use answering::answer;
+pub use answering::{answer, answer_with};
+pub use cache::Cache;
 pub use catalogue::Catalogue;
 pub use octets::Octets;
 pub use place::{Place, place_of};
 pub use query::{Asked, window_asked};
 pub use reply::{Media, Reply, bad};
 pub use request::Request;
-pub use running::run;
+pub use running::{run, run_with};
 pub use service::Service;
 pub use serving::{End, serve};
 pub use session::{Next, Session};

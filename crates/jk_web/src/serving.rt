@@ -2,14 +2,13 @@
 
 ghost use Rattle.std.specs.Prelude.{◌≡◌, ◌≤◌, List, ℕ, None, Ok, MatchBool, length};
 ghost use Rattle.std.specs.Io.KnownBytes.{Appends, Consumes, IsAtEnd};
-ghost use Rattle.jk_web.specs.Prefixes.{IsPrefix};
 ghost use Rattle.jk_web.specs.Serving.{Tells, Ends};
 
 use crate::budget::{Budget, Last};
 use crate::reply::bad;
 use crate::service::Service;
 use crate::session::{Next, Session};
-use jk_math::Fault;
+use jk_math::{Fault, write_out};
 use std::alloc::Global;
 use std::io::{Read, Write};
 
@@ -31,23 +30,6 @@ pub enum End {
     TurnsSpent,
 }
 
-/// Writes a text. False where a write failed or took nothing: then a part of the text was written.
-fn send<O: Write>(writer: &mut O, text: &[u8]) -> bool
-    ensures { MatchBool result
-        (Appends (O.contents writer.old) (O.contents writer.new) text.now)
-        ((part : List ℕ) × Appends (O.contents writer.old) (O.contents writer.new) part × IsPrefix part text.now) }
-{
-    let mut sent = 0;
-    while sent < text.len() {
-        match writer.write(&text[sent..]) {
-            Ok(0) => return false,
-            Ok(count) => sent += count,
-            Err(_) => return false,
-        }
-    }
-    true
-}
-
 /// Answers the requests that have come whole, and tells why the connection ends, if it does.
 fn answer_all<O: Write, S: Service>(
     alloc: Global,
@@ -67,7 +49,7 @@ fn answer_all<O: Write, S: Service>(
                     Ok(reply) => reply,
                     Err(fault) => return Err(fault),
                 };
-                if !send(writer, reply.bytes.as_slice()) {
+                if !write_out(writer, reply.bytes.as_slice()) {
                     return Ok(Some(End::WriteFailed));
                 }
                 if request.closes {
@@ -76,7 +58,7 @@ fn answer_all<O: Write, S: Service>(
             }
             Next::Bad(status) => {
                 let reply = bad(alloc, status)?;
-                if !send(writer, reply.bytes.as_slice()) {
+                if !write_out(writer, reply.bytes.as_slice()) {
                     return Ok(Some(End::WriteFailed));
                 }
                 return Ok(Some(End::Bad));

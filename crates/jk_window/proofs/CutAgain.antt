@@ -1,32 +1,30 @@
 -- A codestream in which packets are empty is a codestream again.
-use Rattle.std.proofs.Common.{◌≡◌, ℕ, zero, suc, ◌+◌, ◌<◌, ◌≤◌, Bool, List, [], length, map, get_or, refl, sym, ap, ◌∙◌, subst, arith}
+use Rattle.std.proofs.Common.{◌≡◌, ℕ, zero, suc, ◌+◌, ◌<◌, ◌≤◌, List, [], length, map, get_or, refl, sym, ap, ◌∙◌, subst, arith}
 use Rattle.std.specs.List.{AllByRecursion}
 use Rattle.jk_math.specs.declared.rect.Rect.{Rect}
 use Rattle.jk_marks.specs.declared.siz.Siz.{Siz}
 use Rattle.jk_marks.specs.declared.segments.Cod.{Cod}
+use Rattle.jk_marks.specs.declared.coding.Coding.{Coding}
 use Rattle.jk_marks.specs.Markers.{tlm, plt}
 use Rattle.jk_marks.specs.Siz.{tile_count}
 use Rattle.jk_marks.specs.Segments.{Segment}
 use Rattle.jk_marks.specs.Codestream.{Part, Tree, of_tile, codestream_text}
 use Rattle.jk_marks.specs.Copying.{kept_segments}
-use Rattle.jk_geom.specs.declared.shape.TileShape.{TileShape}
-use Rattle.jk_geom.specs.declared.shape.PacketName.{PacketName}
 use Rattle.jk_geom.specs.Rectangles.{tile_area}
 use Rattle.jk_geom.specs.Counts.{packet_number}
 use Rattle.jk_params.specs.Coding.{coding_of, codings_of, HasPlanes}
 use Rattle.jk_params.specs.Headers.{Headers, TileFields, tile_in, headers_of, places_of, head_segments, cod_for, packets_alike, packets_of, most_packets, total, IsHeaders}
 use Rattle.jk_params.proofs.Laws.{contents_of, places_are, said_at}
 use Rattle.jk_walk.specs.TilePackets.{slice_of, shape_in, Packet, IsTile}
-use Rattle.jk_window.specs.Emptied.{kept_packet, emptied_run, run_text, of_name, of_layers, emptied_part, emptied_tree}
+use Rattle.jk_window.specs.Emptied.{kept_packet, emptied_run, run_text, of_fronts, emptied_part, emptied_tree}
 use Rattle.jk_window.specs.Indexing.{IndexFields, joined_runs, HasRuns, IsIndexOf}
-use Rattle.jk_window.specs.Cutting.{HaveRuns, cut_tree}
-use Rattle.jk_window.specs.Again.{needed_by, left_runs, left_content, kept_runs, kept_content, front_runs, front_content, AreAlike, IsAgain}
-use Rattle.jk_window.proofs.EmptiedLaws.{HasBit, tile_bits, run_short, run_of}
+use Rattle.jk_window.specs.Cutting.{HaveRuns, content_of, cut_tree}
+use Rattle.jk_window.specs.Again.{needed_by, front_runs, front_content, kept_layers, kept_runs, AreAlike, IsAgain}
+use Rattle.jk_window.proofs.EmptiedLaws.{tile_layers, tile_short, run_of}
+use Rattle.jk_window.proofs.KeptPackets.{runs_kept, texts_of, run_kept}
 use Rattle.jk_window.proofs.KeptSegments.{main_kept, cod_same, coding_same, codings_same}
 use Rattle.jk_window.proofs.PartsAgain.{own_emptied, head_emptied, runs_are, contents_made, IsShort, parts_short, parts_again}
-use Rattle.jk_window.proofs.TileAgain.{runs_kept, texts_of, tile_again}
-use Rattle.jk_window.proofs.FrontAgain.{front_tile}
-use Rattle.jk_walk.specs.TilePackets.{IsPacket}
+use Rattle.jk_window.proofs.TileAgain.{tile_again}
 
 -- ---- what the headers say
 
@@ -110,56 +108,43 @@ headers_again bytes h is content short =
 
 -- ---- packets
 
--- The packets of a tile are packets of the tile again, where those that aren't kept are empty.
-abbrev AreRunsAgain : List ℕ → Headers → ℕ → List (List Packet) → (PacketName → Bool) → Type 0
-AreRunsAgain bytes h t runs keep =
+-- the runs of a tile, each precinct with its first layers alone
+runs_again : (bytes new : List ℕ) (g h : Headers) (t : ℕ) (runs : ℕ → List (List Packet)) (fronts : ℕ → ℕ → ℕ → ℕ → ℕ) → AreAlike g h → t < tile_count h.siz → HasRuns bytes h t (runs t)
+    → map (slice_of new) (tile_in g.tiles t).data_places ≡ map (λ run. run_text (emptied_run (of_fronts (fronts t)) (tile_in h.tiles t).cod.sop (tile_in h.tiles t).cod.eph run)) (runs t)
+    → HasRuns new g t (front_runs h fronts runs t)
+runs_again bytes new g h t runs fronts alike lt has there =
     let f = tile_in h.tiles t in
-    (tile : IsTile (shape_in h.siz f t) f.cod.sop f.cod.eph (joined_runs runs) (map (slice_of bytes) f.data_places))
-    → IsTile (shape_in h.siz f t) f.cod.sop f.cod.eph (emptied_run keep f.cod.sop f.cod.eph (joined_runs runs)) (map (λ run. run_text (emptied_run keep f.cod.sop f.cod.eph run)) tile.runs)
-
--- the runs of a tile, in which packets are empty
-runs_again : (bytes new : List ℕ) (g h : Headers) (t : ℕ) (runs : List (List Packet)) (keep : PacketName → Bool) → AreAlike g h → t < tile_count h.siz → AreRunsAgain bytes h t runs keep → HasRuns bytes h t runs
-    → map (slice_of new) (tile_in g.tiles t).data_places ≡ map (λ run. run_text (emptied_run keep (tile_in h.tiles t).cod.sop (tile_in h.tiles t).cod.eph run)) runs
-    → HasRuns new g t (map (emptied_run keep (tile_in h.tiles t).cod.sop (tile_in h.tiles t).cod.eph) runs)
-runs_again bytes new g h t runs keep alike lt retiled has there =
-    let f = tile_in h.tiles t in
-    let make = emptied_run keep f.cod.sop f.cod.eph in
+    let make = emptied_run (of_fronts (fronts t)) f.cod.sop f.cod.eph in
+    let one = kept_packet (of_fronts (fronts t)) f.cod.sop f.cod.eph in
     let old = has.packets in
-    let own : IsTile (shape_in h.siz f t) f.cod.sop f.cod.eph (joined_runs runs) (map (slice_of bytes) f.data_places) =
-    record { order = old.order; texts = old.texts; told = old.told; runs = runs; whole = refl; cut = has.cut } in
-    let again = retiled own in
-    let joined : make (joined_runs runs) ≡ joined_runs (map make runs) = sym (runs_kept (kept_packet keep f.cod.sop f.cod.eph) runs) in
-    let texts : map run_text (map make runs) ≡ map (slice_of new) (tile_in g.tiles t).data_places = texts_of (kept_packet keep f.cod.sop f.cod.eph) runs ∙ sym there in
-    let shape : shape_in h.siz f t ≡ shape_in g.siz (tile_in g.tiles t) t =
-    (λ i. record { rect = tile_area (sym alike.siz i) t; layers = (sym (alike.cod t lt) i).layers; order = (sym (alike.cod t lt) i).order; codings = sym (alike.codings t lt) i }) in
-    let cod = sym (alike.cod t lt) in
+    let own : IsTile (shape_in h.siz f t) f.cod.sop f.cod.eph (joined_runs (runs t)) (map (slice_of bytes) f.data_places) =
+    record { order = old.order; texts = old.texts; told = old.told; runs = runs t; whole = refl; cut = has.cut } in
+    let again = tile_again (shape_in h.siz f t) f.cod.sop f.cod.eph (joined_runs (runs t)) (map (slice_of bytes) f.data_places) (fronts t) own in
+    let texts : List (List ℕ) = map (λ run. run_text (make run)) (runs t) in
+    let said : (h.siz, f.cod, f.codings) ≡ (g.siz, (tile_in g.tiles t).cod, (tile_in g.tiles t).codings) = sym (λ i. (alike.siz i, alike.cod t lt i, alike.codings t lt i)) in
     record {
-      packets = subst (λ (parts : List (List ℕ)). IsTile (shape_in g.siz (tile_in g.tiles t) t) (tile_in g.tiles t).cod.sop (tile_in g.tiles t).cod.eph (joined_runs (map make runs)) parts) (sym there)
-          (subst (λ (ps : List Packet). IsTile (shape_in g.siz (tile_in g.tiles t) t) (tile_in g.tiles t).cod.sop (tile_in g.tiles t).cod.eph ps (map (λ run. run_text (make run)) runs)) joined
-          (subst (λ (c : Cod). IsTile (shape_in g.siz (tile_in g.tiles t) t) c.sop c.eph (make (joined_runs runs)) (map (λ run. run_text (make run)) runs)) cod
-          (subst (λ (s : TileShape). IsTile s f.cod.sop f.cod.eph (make (joined_runs runs)) (map (λ run. run_text (make run)) runs)) shape again)));
-      cut = texts;
+      packets = subst (λ (parts : List (List ℕ)). IsTile (shape_in g.siz (tile_in g.tiles t) t) (tile_in g.tiles t).cod.sop (tile_in g.tiles t).cod.eph (joined_runs (map make (runs t))) parts) (sym there)
+          (subst (λ (s : Siz × Cod × List Coding). IsTile (shape_in s.0 (record f { cod = s.1; codings = s.2 }) t) s.1.sop s.1.eph (joined_runs (map make (runs t))) texts) said
+          (subst (λ (ps : List Packet). IsTile (shape_in h.siz f t) f.cod.sop f.cod.eph ps texts) (sym (runs_kept one (runs t))) again));
+      cut = texts_of one (runs t) ∙ sym there;
     }
 
 -- ---- the codestream
 
-pub content_short : (bytes : List ℕ) (h : Headers) (runs : ℕ → List (List Packet)) (keep : ℕ → PacketName → Bool) → HaveRuns bytes h runs → (t n : ℕ) → t < tile_count h.siz
-    → length (left_content h keep runs t n) ≤ length (run_text (get_or (runs t) n []))
-content_short bytes h runs keep have t n lt =
+pub front_short : (bytes : List ℕ) (h : Headers) (runs : ℕ → List (List Packet)) (fronts : ℕ → ℕ → ℕ → ℕ → ℕ) → HaveRuns bytes h runs → (t n : ℕ) → t < tile_count h.siz
+    → length (front_content h fronts runs t n) ≤ length (run_text (get_or (runs t) n []))
+front_short bytes h runs fronts have t n lt =
     let f = tile_in h.tiles t in
-    let has = have t lt in
-    let texts = run_of (IsPacket f.cod.sop f.cod.eph) (runs t) n has.packets.texts in
-    let bits = run_of HasBit (runs t) n (tile_bits (shape_in h.siz f t) f.cod.sop f.cod.eph (joined_runs (runs t)) (map (slice_of bytes) f.data_places) (record { layer = 0; resolution = 0; component = 0; precinct = 0 }) has.packets) in
-    run_short (keep t) f.cod.sop f.cod.eph (get_or (runs t) n []) texts bits
+    tile_short (of_fronts (fronts t)) (shape_in h.siz f t) f.cod.sop f.cod.eph (runs t) (map (slice_of bytes) f.data_places) n (have t lt).packets
 
-left_again : (bytes : List ℕ) (h : Headers) (is : IsHeaders bytes h) (runs : ℕ → List (List Packet)) → HaveRuns bytes h runs → (keep : ℕ → PacketName → Bool) → ((t : ℕ) → AreRunsAgain bytes h t (runs t) (keep t))
-    → IsAgain (codestream_text (emptied_tree (left_content h keep runs) is.tree)) h (left_runs h keep runs)
-left_again bytes h is runs have keep retiled =
-    let content = left_content h keep runs in
+-- where the data of each part are those of the first layers
+content_again : (bytes : List ℕ) (h : Headers) (is : IsHeaders bytes h) (runs : ℕ → List (List Packet)) → HaveRuns bytes h runs → (fronts : ℕ → ℕ → ℕ → ℕ → ℕ) (content : ℕ → ℕ → List ℕ)
+    → ((t n : ℕ) → t < tile_count h.siz → content t n ≡ front_content h fronts runs t n) → IsAgain (codestream_text (emptied_tree content is.tree)) h (front_runs h fronts runs)
+content_again bytes h is runs have fronts content same =
     let tree = is.tree in
     let new = emptied_tree content tree in
     let text = codestream_text new in
-    let short = parts_short bytes h is runs content have (content_short bytes h runs keep have) in
+    let short = parts_short bytes h is runs content have (λ t n lt. subst (λ (xs : List ℕ). length xs ≤ length (run_text (get_or (runs t) n []))) (sym (same t n lt)) (front_short bytes h runs fronts have t n lt)) in
     let alike : AreAlike (headers_of new) h = subst (AreAlike (headers_of new)) (sym is.says) (tree_alike content tree) in
     let siz : h.siz ≡ tree.siz = ap (λ (x : Headers). x.siz) is.says ∙ headers_siz tree in
     record {
@@ -170,28 +155,24 @@ left_again bytes h is runs have keep retiled =
           (let few : t < tile_count h.siz = subst (λ (s : Siz). t < tile_count s) alike.siz lt in
           let small : t < tile_count tree.siz = subst (λ (s : Siz). t < tile_count s) siz few in
           let f = tile_in h.tiles t in
-          let make : List Packet → List ℕ = λ run. run_text (emptied_run (keep t) f.cod.sop f.cod.eph run) in
+          let make : List Packet → List ℕ = λ run. run_text (emptied_run (of_fronts (fronts t)) f.cod.sop f.cod.eph run) in
           let there : map (slice_of text) (tile_in (headers_of new).tiles t).data_places ≡ map make (runs t) =
           ap (λ (places : List (ℕ × ℕ)). map (slice_of text) places) (fields_places new t small)
           ∙ contents_of text new t refl
           ∙ ap (λ (ps : List Part). map (λ (p : Part). p.content) ps) (own_emptied content t tree.parts)
-          ∙ contents_made content make t (runs t) tree.parts (is.spelled.parts.numbered t) (runs_are bytes h is t (runs t) few (have t few)) (λ n. refl) in
-          runs_again bytes text (headers_of new) h t (runs t) (keep t) alike few (retiled t) (have t few) there);
+          ∙ contents_made content make t (runs t) tree.parts (is.spelled.parts.numbered t) (runs_are bytes h is t (runs t) few (have t few)) (λ n. same t n few) in
+          runs_again bytes text (headers_of new) h t runs fronts alike few (have t few) there);
     }
 
--- the packets of some precincts are empty
-pub codestream_again : (bytes : List ℕ) (h : Headers) (is : IsHeaders bytes h) (runs : ℕ → List (List Packet)) → HaveRuns bytes h runs → (keep : ℕ → ℕ → ℕ → ℕ → Bool)
-    → IsAgain (codestream_text (emptied_tree (kept_content h keep runs) is.tree)) h (kept_runs h keep runs)
-codestream_again bytes h is runs have keep = left_again bytes h is runs have (λ t. of_name (keep t)) (λ t tile.
-    (let f = tile_in h.tiles t in
-    tile_again (shape_in h.siz f t) f.cod.sop f.cod.eph (joined_runs (runs t)) (map (slice_of bytes) f.data_places) (keep t) tile))
+pub front_again : (bytes : List ℕ) (h : Headers) (is : IsHeaders bytes h) (runs : ℕ → List (List Packet)) → HaveRuns bytes h runs → (fronts : ℕ → ℕ → ℕ → ℕ → ℕ)
+    → IsAgain (codestream_text (emptied_tree (front_content h fronts runs) is.tree)) h (front_runs h fronts runs)
+front_again bytes h is runs have fronts = content_again bytes h is runs have fronts (front_content h fronts runs) (λ t n lt. refl)
 
--- those of all layers but the first are
-pub front_again : (bytes : List ℕ) (h : Headers) (is : IsHeaders bytes h) (runs : ℕ → List (List Packet)) → HaveRuns bytes h runs → (k : ℕ)
-    → IsAgain (codestream_text (emptied_tree (front_content h k runs) is.tree)) h (front_runs h k runs)
-front_again bytes h is runs have k = left_again bytes h is runs have (λ t. of_layers k) (λ t tile.
-    (let f = tile_in h.tiles t in
-    front_tile (shape_in h.siz f t) f.cod.sop f.cod.eph (joined_runs (runs t)) (map (slice_of bytes) f.data_places) k tile))
-
+-- that of a window
 pub cut_again : (bytes : List ℕ) (i : IndexFields) (is : IsIndexOf bytes i) (w : Rect) (d : ℕ) → IsAgain (codestream_text (cut_tree is w d)) i.headers (kept_runs i.headers (needed_by i.headers w d) is.runs)
-cut_again bytes i is w d = codestream_again is.codestream i.headers is.says is.runs is.tiles (needed_by i.headers w d)
+cut_again bytes i is w d =
+    let h = i.headers in
+    content_again is.codestream h is.says is.runs is.tiles (kept_layers h (needed_by h w d)) (content_of h is.runs w d) (λ t n lt.
+    (let f = tile_in h.tiles t in
+    let below = tile_layers (shape_in h.siz f t) f.cod.sop f.cod.eph (joined_runs (is.runs t)) (map (slice_of is.codestream) f.data_places) (is.tiles t lt).packets in
+    ap run_text (run_kept (needed_by h w d t) f.cod.layers f.cod.sop f.cod.eph (get_or (is.runs t) n []) (run_of (λ (p : Packet). p.name.layer < f.cod.layers) (is.runs t) n below))))

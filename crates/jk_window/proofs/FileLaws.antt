@@ -17,12 +17,11 @@ use Rattle.jk_marks.specs.Codestream.{Part, Tree, IsPart, AreParts, AreClosedBef
 use Rattle.jk_marks.specs.Copying.{kept_segments}
 use Rattle.jk_params.specs.Headers.{Headers, tile_in, headers_of, IsHeaders, packets_of, most_packets}
 use Rattle.jk_params.proofs.Laws.{part_text_length, place_in, content_at, part_placed}
-use Rattle.jk_walk.specs.TilePackets.{slice_of, shape_in, IsPacket, Packet}
+use Rattle.jk_walk.specs.TilePackets.{slice_of, shape_in, Packet}
 use Rattle.jk_window.specs.Emptied.{run_text, emptied_part, emptied_tree}
-use Rattle.jk_window.specs.Indexing.{joined_runs}
 use Rattle.jk_window.specs.Cutting.{keeps, content_of, TilePieces, AreCutOf, IsHeld, PartsAhead, parts_text, HaveRuns}
 use Rattle.jk_window.proofs.Lengths.{kept_shorter, part_shorter}
-use Rattle.jk_window.proofs.EmptiedLaws.{HasBit, tile_bits, run_short, run_of}
+use Rattle.jk_window.proofs.EmptiedLaws.{tile_short}
 
 headers_siz : (tree : Tree) → (headers_of tree).siz ≡ tree.siz
 unfolding headers_of
@@ -59,9 +58,7 @@ part_held bytes h w d runs all p at rest have cut tile here place =
     let whole : bytes ≡ take at bytes ++ (part_text p ++ rest) = sym (take-append-drop at bytes) ∙ ap (λ (xs : List ℕ). take at bytes ++ xs) here in
     let content : slice_of bytes (place_in at p) ≡ p.content = content_at p (take at bytes) rest bytes at whole (sym (length-take-le at bytes inside)) in
     let text : run_text (get_or (runs t) n []) ≡ p.content = run_there bytes (runs t) f.data_places n (at + data_start p, at + part_length p) has.cut place ∙ content in
-    let texts = run_of (IsPacket f.cod.sop f.cod.eph) (runs t) n has.packets.texts in
-    let bits = run_of HasBit (runs t) n (tile_bits (shape_in h.siz f t) f.cod.sop f.cod.eph (joined_runs (runs t)) (map (slice_of bytes) f.data_places) (record { layer = 0; resolution = 0; component = 0; precinct = 0 }) has.packets) in
-    let short = run_short (keeps h w d t) f.cod.sop f.cod.eph (get_or (runs t) n []) texts bits in
+    let short = tile_short (keeps h w d t) (shape_in h.siz f t) f.cod.sop f.cod.eph (runs t) (map (slice_of bytes) f.data_places) n has.packets in
     record {
       tile = omega (arith, count, tile);
       part = omega (arith, runs_count, within);

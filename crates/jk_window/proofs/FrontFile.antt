@@ -5,7 +5,7 @@ use Rattle.jk_marks.specs.Codestream.{Part, part_text}
 use Rattle.jk_boxes.specs.declared.place.Boxed.{Boxed}
 use Rattle.jk_boxes.specs.Boxes.{HoldsAt}
 use Rattle.jk_params.proofs.Laws.{part_text_length}
-use Rattle.jk_window.specs.Emptied.{of_layers, emptied_part}
+use Rattle.jk_window.specs.Emptied.{emptied_part}
 use Rattle.jk_window.specs.Indexing.{IndexFields, IsIndexOf}
 use Rattle.jk_window.specs.Cutting.{with_codestream, parts_text}
 use Rattle.jk_window.specs.Again.{front_content}
@@ -14,7 +14,7 @@ use Rattle.jk_window.proofs.BoxLaws.{recoded_fits}
 use Rattle.jk_window.proofs.Lengths.{part_shorter}
 use Rattle.jk_window.proofs.FileLaws.{text_shorter}
 use Rattle.jk_window.proofs.PartsAgain.{IsShort, parts_short}
-use Rattle.jk_window.proofs.CutAgain.{content_short}
+use Rattle.jk_window.proofs.CutAgain.{front_short}
 
 short_parts : (content : ℕ → ℕ → List ℕ) (parts : List Part) → AllByRecursion (IsShort content) parts → length (parts_text content parts) ≤ length (flat_map part_text parts)
 short_parts content [] all = omega arith
@@ -30,6 +30,7 @@ fits_again {bytes} {codestream} (inr jp2) new short = recoded_fits bytes codestr
 
 pub front_fits : (bytes : List ℕ) (i : IndexFields) (is : IsIndexOf bytes i) (k : ℕ) → (out : List ℕ) × (front_file is k ≡ Ok out)
 front_fits bytes i is k =
-    let content = front_content i.headers k is.runs in
-    let short = parts_short is.codestream i.headers is.says is.runs content is.tiles (content_short is.codestream i.headers is.runs (λ _. of_layers k) is.tiles) in
+    let fronts : ℕ → ℕ → ℕ → ℕ → ℕ = λ _ _ _ _. k in
+    let content = front_content i.headers fronts is.runs in
+    let short = parts_short is.codestream i.headers is.says is.runs content is.tiles (front_short is.codestream i.headers is.runs fronts is.tiles) in
     fits_again is.holds _ (text_shorter is.codestream i.headers is.says content (short_parts content is.says.tree.parts short))

@@ -1,7 +1,9 @@
 -- What is read of a file is its index, and an index is read.
-use Rattle.std.proofs.Common.{◌≡◌, ℕ, zero, suc, ◌+◌, ◌-◌, ◌<◌, eqb, cond, true, false, inl, inr, List, [], length, drop, Result, Ok, Err, add-one, refl, sym, ap, ◌∙◌, subst, arith}
+use Rattle.std.proofs.Common.{◌≡◌, ℕ, zero, suc, ◌+◌, ◌-◌, ◌<◌, ◌≤◌, eqb, cond, true, false, inl, inr, List, [], ◌∷◌, ◌++◌, length, length-append, take, drop, Result, Ok, Err, add-one, refl, sym, ap, ◌∙◌, subst, arith}
 use Rattle.std.specs.Prelude.{slice_range}
+use Rattle.std.proofs.Math.Seq.{take-suc}
 use Rattle.std.proofs.lemmas.Bool.{cases_lt, cases_Bool, eqb-true, eq-eqb}
+use Rattle.std.proofs.lemmas.List.{take_all, get_or_append_left, get_or_push}
 use Rattle.jk_math.specs.Answer.{◌>>=◌, Refuses}
 use Rattle.jk_math.specs.Steps.{bind_then, ok_is}
 use Rattle.jk_math.specs.declared.fault.Fault.{Fault}
@@ -19,53 +21,89 @@ use Rattle.jk_boxes.proofs.Laws.{boxes_take, place_again}
 use Rattle.jk_params.specs.Headers.{Headers, cod_for, AreHeaders}
 use Rattle.jk_params.specs.HeadersReading.{headers_at}
 use Rattle.jk_params.proofs.Laws.{found_headers, only_headers, sound_headers}
-use Rattle.jk_walk.specs.declared.places.PacketPlace.{PacketPlace}
+use Rattle.jk_walk.specs.declared.entries.PacketEntry.{PacketEntry}
 use Rattle.jk_walk.specs.TilePackets.{Packet}
-use Rattle.jk_walk.specs.WalkReading.{packets_at, AreTilePackets}
-use Rattle.jk_walk.proofs.Laws.{packets_found, packets_only}
-use Rattle.jk_window.specs.Indexing.{IndexFields, joined_runs, HasRuns, IsIndexOf, HaveIndexes, packets_tested, fields_at, index_at}
+use Rattle.jk_walk.specs.WalkReading.{AreTilePackets}
+use Rattle.jk_walk.specs.Entries.{entries_at}
+use Rattle.jk_walk.proofs.Laws.{entries_found, entries_only, entries_within}
+use Rattle.jk_window.specs.Indexing.{IndexFields, entries_of, AreIndexed, HasRuns, IsIndexOf, HaveIndexes, entries_upto, fields_at, index_at}
 
--- ---- the packets of all tiles
+-- ---- the entries of all tiles
 
-abbrev pub fine : Result (Unit {0}) Fault
-fine = Ok tt
+-- those of one tile more
+abbrev pub one_more : List ℕ → Headers → ℕ → Result (List (List PacketEntry)) Fault → Result (List (List PacketEntry)) Fault
+one_more bytes h n read = read >>= λ before. entries_at bytes h n >>= λ last. Ok (before ++ last ∷ [])
 
-tested-next : (bytes : List ℕ) (h : Headers) (n : ℕ) → packets_tested bytes h (suc n) ≡ (packets_tested bytes h n >>= λ _. packets_at bytes h n >>= λ _. Ok tt)
-unfolding packets_tested
-tested-next bytes h n = refl
+upto-next : (bytes : List ℕ) (h : Headers) (n : ℕ) → entries_upto bytes h (suc n) ≡ one_more bytes h n (entries_upto bytes h n)
+unfolding entries_upto
+upto-next bytes h n = refl
 
-pub tested_none : (bytes : List ℕ) (h : Headers) → packets_tested bytes h 0 ≡ fine
-unfolding packets_tested
-tested_none bytes h = refl
+pub upto_none : (bytes : List ℕ) (h : Headers) → entries_upto bytes h 0 ≡ Ok []
+unfolding entries_upto
+upto_none bytes h = refl
 
-pub tested_more : (bytes : List ℕ) (h : Headers) (n : ℕ) (places : List PacketPlace) → packets_tested bytes h n ≡ fine → packets_at bytes h n ≡ Ok places → packets_tested bytes h (n + 1) ≡ fine
-tested_more bytes h n places e f = ap (packets_tested bytes h) (add-one n) ∙ tested-next bytes h n ∙ rw (e, f) refl
+pub upto_more : (bytes : List ℕ) (h : Headers) (n : ℕ) (all : List (List PacketEntry)) (last : List PacketEntry) → entries_upto bytes h n ≡ Ok all → entries_at bytes h n ≡ Ok last → entries_upto bytes h (n + 1) ≡ Ok (all ++ last ∷ [])
+upto_more bytes h n all last e f = ap (entries_upto bytes h) (add-one n) ∙ upto-next bytes h n ∙ rw (e, f) refl
 
 -- a fault is the first
-pub tested_fails : (bytes : List ℕ) (h : Headers) (n t : ℕ) (e : Fault) → t < n → packets_tested bytes h t ≡ fine → packets_at bytes h t ≡ Err e → packets_tested bytes h n ≡ Err e
-tested_fails bytes h zero t e lt before here = absurd (omega (arith, lt))
-tested_fails bytes h (suc n) t e lt before here = elim (cases_lt t n) [
-  | inl less ↦ tested-next bytes h n ∙ ap (λ (r : Result (Unit {0}) Fault). r >>= λ _. packets_at bytes h n >>= λ _. Ok tt) (tested_fails bytes h n t e less before here)
+pub upto_fails : (bytes : List ℕ) (h : Headers) (n t : ℕ) (e : Fault) (all : List (List PacketEntry)) → t < n → entries_upto bytes h t ≡ Ok all → entries_at bytes h t ≡ Err e → entries_upto bytes h n ≡ Err e
+upto_fails bytes h zero t e all lt before here = absurd (omega (arith, lt))
+upto_fails bytes h (suc n) t e all lt before here = elim (cases_lt t n) [
+  | inl less ↦ upto-next bytes h n ∙ ap (one_more bytes h n) (upto_fails bytes h n t e all less before here)
   | inr none ↦ (let same : t ≡ n = omega (arith, lt, none) in
-      let first : packets_tested bytes h n ≡ fine = ap (packets_tested bytes h) (sym same) ∙ before in
-      let fault : packets_at bytes h n ≡ Err e = ap (packets_at bytes h) (sym same) ∙ here in
-      tested-next bytes h n ∙ rw (first, fault) refl)
+      let first : entries_upto bytes h n ≡ Ok all = ap (entries_upto bytes h) (sym same) ∙ before in
+      let fault : entries_at bytes h n ≡ Err e = ap (entries_at bytes h) (sym same) ∙ here in
+      upto-next bytes h n ∙ rw (first, fault) refl)
 ]
 
-tested_tile : (bytes : List ℕ) (h : Headers) (n : ℕ) → packets_tested bytes h n ≡ fine → (t : ℕ) → t < n → (places : List PacketPlace) × (packets_at bytes h t ≡ Ok places)
-tested_tile bytes h zero e t lt = absurd (omega (arith, lt))
-tested_tile bytes h (suc n) e t lt =
-    bind_then (packets_tested bytes h n) _ tt (sym (tested-next bytes h n) ∙ e) (λ _ before f.
-    bind_then (packets_at bytes h n) _ tt f (λ places here g. elim (cases_lt t n) [
-      | inl less ↦ tested_tile bytes h n before t less
-      | inr none ↦ (let same : t ≡ n = omega (arith, lt, none) in (places, ap (packets_at bytes h) same ∙ here))
-    ]))
+-- The lists of the first n tiles.
+pub record AreUpto (bytes : List ℕ) (h : Headers) (n : ℕ) (all : List (List PacketEntry)) : Type 0 where
+  pub count : length all ≡ n
+  pub each : (t : ℕ) → t < n → entries_at bytes h t ≡ Ok (entries_of all t)
 
-tiles_tested : (bytes : List ℕ) (h : Headers) (n : ℕ) → ((t : ℕ) → t < n → (places : List PacketPlace) × (packets_at bytes h t ≡ Ok places)) → packets_tested bytes h n ≡ fine
-tiles_tested bytes h zero all = tested_none bytes h
-tiles_tested bytes h (suc n) all =
-    let last = all n (omega arith) in
-    tested-next bytes h n ∙ rw (tiles_tested bytes h n (λ t lt. all t (omega (arith, lt))), last.1) refl
+upto_push : (bytes : List ℕ) (h : Headers) (n : ℕ) (all : List (List PacketEntry)) (last : List PacketEntry) → AreUpto bytes h n all → entries_at bytes h n ≡ Ok last → AreUpto bytes h (suc n) (all ++ last ∷ [])
+upto_push bytes h n all last before here = record {
+  count = omega (arith, before.count, length-append all (last ∷ []));
+  each = λ t lt. elim (cases_lt t n) [
+    | inl less ↦ before.each t less ∙ ap (λ (es : List PacketEntry). Ok es) (sym (get_or_append_left all (last ∷ []) [] t (omega (arith, less, before.count))))
+    | inr none ↦ (let same : n ≡ t = omega (arith, lt, none) in
+        ap (entries_at bytes h) (sym same) ∙ here ∙ ap (λ (es : List PacketEntry). Ok es) (sym (get_or_push all last [] t (before.count ∙ same))))
+  ];
+}
+
+-- what is read are the lists of the tiles
+pub upto_found : (bytes : List ℕ) (h : Headers) (n : ℕ) (all : List (List PacketEntry)) → entries_upto bytes h n ≡ Ok all → AreUpto bytes h n all
+upto_found bytes h zero all e = subst (AreUpto bytes h 0) (ok_is [] all (sym (upto_none bytes h) ∙ e)) record { count = refl; each = λ t lt. absurd (omega (arith, lt)) }
+upto_found bytes h (suc n) all e =
+    bind_then (entries_upto bytes h n) _ all (sym (upto-next bytes h n) ∙ e) (λ before read f.
+    bind_then (entries_at bytes h n) _ all f (λ last here g.
+    subst (AreUpto bytes h (suc n)) (ok_is (before ++ last ∷ []) all g) (upto_push bytes h n before last (upto_found bytes h n before read) here)))
+
+-- the lists of the tiles are read
+upto_front : (bytes : List ℕ) (h : Headers) (n : ℕ) (all : List (List PacketEntry)) → n ≤ length all → ((t : ℕ) → t < n → entries_at bytes h t ≡ Ok (entries_of all t)) → entries_upto bytes h n ≡ Ok (take n all)
+upto_front bytes h zero all le each = upto_none bytes h
+upto_front bytes h (suc n) all le each =
+    upto-next bytes h n
+    ∙ rw (upto_front bytes h n all (omega (arith, le)) (λ t lt. each t (omega (arith, lt))), each n (omega arith)) refl
+    ∙ ap (λ (es : List (List PacketEntry)). Ok es) (sym (take-suc all n [] (omega (arith, le))))
+
+pub upto_only : (bytes : List ℕ) (h : Headers) (n : ℕ) (all : List (List PacketEntry)) → length all ≡ n → ((t : ℕ) → t < n → entries_at bytes h t ≡ Ok (entries_of all t)) → entries_upto bytes h n ≡ Ok all
+upto_only bytes h n all count each =
+    upto_front bytes h n all (omega (arith, count)) each ∙ ap (λ (es : List (List PacketEntry)). Ok es) (take_all n all (omega (arith, count)))
+
+-- lists of tiles that are known one by one
+upto_each : (bytes : List ℕ) (h : Headers) (n : ℕ) → ((t : ℕ) → t < n → (entries : List PacketEntry) × (entries_at bytes h t ≡ Ok entries)) → (all : List (List PacketEntry)) × AreUpto bytes h n all
+upto_each bytes h zero known = ([], record { count = refl; each = λ t lt. absurd (omega (arith, lt)) })
+upto_each bytes h (suc n) known =
+    let before = upto_each bytes h n (λ t lt. known t (omega (arith, lt))) in
+    let last = known n (omega arith) in
+    (before.0 ++ last.0 ∷ [], upto_push bytes h n before.0 last.0 before.1 last.1)
+
+-- the entries that are read lie in the codestream
+pub entries_indexed : (bytes : List ℕ) (h : Headers) (all : List (List PacketEntry)) → AreHeaders (length bytes) h → entries_upto bytes h (tile_count h.siz) ≡ Ok all → AreIndexed (length bytes) h all
+entries_indexed bytes h all are e =
+    let found = upto_found bytes h (tile_count h.siz) all e in
+    record { headers = are; count = found.count; each = λ t lt. entries_within bytes h t (entries_of all t) are lt (found.each t lt) }
 
 -- ---- a function of the numbers below n
 
@@ -86,9 +124,9 @@ picked {X} d P (suc n) all =
 -- ---- an index
 
 -- the runs of a tile whose packets are read
-runs_found : (bytes : List ℕ) (h : Headers) (t : ℕ) (places : List PacketPlace) → AreHeaders (length bytes) h → t < tile_count h.siz → packets_at bytes h t ≡ Ok places → (runs : List (List Packet)) × HasRuns bytes h t runs
-runs_found bytes h t places are lt e =
-    let found = packets_found bytes h t places are lt e in
+runs_found : (bytes : List ℕ) (h : Headers) (t : ℕ) (entries : List PacketEntry) → AreHeaders (length bytes) h → t < tile_count h.siz → entries_at bytes h t ≡ Ok entries → (runs : List (List Packet)) × HasRuns bytes h t runs
+runs_found bytes h t entries are lt e =
+    let found = entries_found bytes h t entries are lt e in
     let tile = found.1 in
     (tile.runs, record { packets = subst (AreTilePackets bytes h t) (sym tile.whole) tile; cut = tile.cut })
 
@@ -99,14 +137,15 @@ found_fields bytes codestream place i fits opened here e =
     let own : AreBytes codestream = subst AreBytes (sym here) (are_bytes_taken (place.end - place.start) (drop place.start bytes) (are_bytes_after place.start bytes fits)) in
     bind_then (main_at codestream) _ i e (λ m read e.
     bind_then (headers_at codestream) _ i e (λ h s e.
-    bind_then (packets_tested codestream h (tile_count h.siz)) _ i e (λ _ tested e.
+    bind_then (entries_upto codestream h (tile_count h.siz)) _ i e (λ all kept e.
     let is = found_headers codestream h own s in
     let sound = sound_headers codestream h is in
     let tree = is.tree in
     let again = only_main codestream tree.siz tree.segments is.spelled.header (begins_main codestream tree is.spelled) in
     let same : m ≡ (main_of tree.siz tree.segments, length (main_text tree.siz tree.segments)) = ok_is m (main_of tree.siz tree.segments, length (main_text tree.siz tree.segments)) (sym read ∙ again) in
-    let runs = picked [] (HasRuns codestream h) (tile_count h.siz) (λ t lt. let p = tested_tile codestream h (tile_count h.siz) tested t lt in runs_found codestream h t p.0 sound lt p.1) in
-    let made : IndexFields = record { place = place; layers = m.0.cod.layers; order = m.0.cod.order; headers = h } in
+    let are = upto_found codestream h (tile_count h.siz) all kept in
+    let runs = picked [] (HasRuns codestream h) (tile_count h.siz) (λ t lt. runs_found codestream h t (entries_of all t) sound lt (are.each t lt)) in
+    let made : IndexFields = record { place = place; layers = m.0.cod.layers; order = m.0.cod.order; headers = h; packets = all } in
     let index : IsIndexOf bytes made = record {
       codestream = codestream;
       holds = subst (λ (c : List ℕ). HoldsAt bytes c place) (sym here) o.at;
@@ -115,6 +154,8 @@ found_fields bytes codestream place i fits opened here e =
       order = ap (λ (x : Main × ℕ). x.0.cod.order) same;
       runs = runs.0;
       tiles = runs.1;
+      count = are.count;
+      kept = are.each;
     } in
     subst (IsIndexOf bytes) (ok_is made i e) index)))
 
@@ -134,8 +175,10 @@ has_index bytes codestream h holds says all =
     let place = placed bytes codestream holds in
     let runs = picked [] (HasRuns codestream h) (tile_count h.siz) (λ t lt. let p = all t lt in
     (p.1.runs, record { packets = subst (AreTilePackets codestream h t) (sym p.1.whole) p.1; cut = p.1.cut })) in
+    let sound = sound_headers codestream h says in
+    let entries = upto_each codestream h (tile_count h.siz) (λ t lt. let p = all t lt in let only = entries_only codestream h t p.0 sound lt p.1 in (only.0, only.1)) in
     let cod = cod_for says.tree.segments [] in (
-      record { place = place.0; layers = cod.layers; order = cod.order; headers = h },
+      record { place = place.0; layers = cod.layers; order = cod.order; headers = h; packets = entries.0 },
       record {
         codestream = codestream;
         holds = place.1;
@@ -144,6 +187,8 @@ has_index bytes codestream h holds says all =
         order = refl;
         runs = runs.0;
         tiles = runs.1;
+        count = entries.1.count;
+        kept = entries.1.each;
       },
     )
 
@@ -152,12 +197,11 @@ unfolding fields_at
 only_fields bytes i is =
     let h = i.headers in
     let tree = is.says.tree in
-    let sound = sound_headers is.codestream h is.says in
     let main = only_main is.codestream tree.siz tree.segments is.says.spelled.header (begins_main is.codestream tree is.says.spelled) in
     let headers = only_headers is.codestream h is.says in
-    let tested = tiles_tested is.codestream h (tile_count h.siz) (λ t lt. let p = packets_only is.codestream h t (joined_runs (is.runs t)) sound lt (is.tiles t lt).packets in (p.0, p.1)) in
+    let kept = upto_only is.codestream h (tile_count h.siz) i.packets is.count is.kept in
     let cod = cod_for tree.segments [] in
-    rw (main, headers, tested) (λ j. Ok record { place = i.place; layers = sym is.layers j; order = sym is.order j; headers = h })
+    rw (main, headers, kept) (λ j. Ok record { place = i.place; layers = sym is.layers j; order = sym is.order j; headers = h; packets = i.packets })
 
 -- An index of a file is read.
 pub index_only : (bytes : List ℕ) (i : IndexFields) → IsIndexOf bytes i → index_at bytes ≡ Ok i
@@ -175,7 +219,7 @@ pub refuses_on : {A B : Type 0} (e : Fault) (due : Result A Fault) (again : Resu
 refuses_on (Memory r) due again h on = tt
 refuses_on e due again h on = on h
 
-pub fields_fail : (place : Boxed) (codestream : List ℕ) (m : Main × ℕ) (h : Headers) (e : Fault) → Ok m ≡ main_at codestream → headers_at codestream ≡ Ok h → packets_tested codestream h (tile_count h.siz) ≡ Err e
+pub fields_fail : (place : Boxed) (codestream : List ℕ) (m : Main × ℕ) (h : Headers) (e : Fault) → Ok m ≡ main_at codestream → headers_at codestream ≡ Ok h → entries_upto codestream h (tile_count h.siz) ≡ Err e
     → fields_at place codestream ≡ Err e
 unfolding fields_at
-fields_fail place codestream m h e main headers tested = rw (sym main, headers, tested) refl
+fields_fail place codestream m h e main headers kept = rw (sym main, headers, kept) refl

@@ -10,11 +10,13 @@ pub mod PartsLaws
 pub mod EmptiedLaws
 pub mod FileLaws
 pub mod BoxLaws
+pub mod KeptPackets
+pub mod PrecinctAgain
 pub mod TileAgain
-pub mod FrontAgain
 pub mod KeptSegments
 pub mod PartsAgain
 pub mod CutAgain
 pub mod FrontFile
 pub mod NeededPlaces
 pub mod Laws
+mod Examples

@@ -15,6 +15,7 @@ use Rattle.jk_walk.specs.TilePackets.{slice_of, Packet}
 use Rattle.jk_window.specs.Emptied.{run_text, emptied_part}
 use Rattle.jk_window.specs.Indexing.{HasRuns}
 use Rattle.jk_window.specs.Cutting.{HaveRuns}
+use Rattle.jk_window.proofs.KeptPackets.{filter_mapped}
 use Rattle.jk_window.proofs.KeptSegments.{segments_kept}
 use Rattle.jk_window.proofs.Lengths.{psot_shorter}
 
@@ -22,12 +23,7 @@ use Rattle.jk_window.proofs.Lengths.{psot_shorter}
 
 -- other data don't change which parts a tile has
 pub own_emptied : (content : ℕ → ℕ → List ℕ) (t : ℕ) (parts : List Part) → of_tile t (map (emptied_part content) parts) ≡ map (emptied_part content) (of_tile t parts)
-own_emptied content t [] = refl
-own_emptied content t (p ∷ parts) = ap (λ (ps : List Part). cond (eqb p.tile t) (emptied_part content p ∷ ps) ps) (own_emptied content t parts) ∙ by (eqb p.tile t)
-  where
-    by : (b : Bool) → cond b (emptied_part content p ∷ map (emptied_part content) (of_tile t parts)) (map (emptied_part content) (of_tile t parts)) ≡ map (emptied_part content) (cond b (p ∷ of_tile t parts) (of_tile t parts))
-    by true = refl
-    by false = refl
+own_emptied content t parts = filter_mapped (emptied_part content) (λ (p : Part). eqb p.tile t) (λ (p : Part). eqb p.tile t) parts (λ p. refl)
 
 pub numbers_emptied : (content : ℕ → ℕ → List ℕ) (parts : List Part) → map (λ (p : Part). p.number) (map (emptied_part content) parts) ≡ map (λ (p : Part). p.number) parts
 numbers_emptied content [] = refl

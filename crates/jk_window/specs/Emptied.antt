@@ -1,5 +1,5 @@
 -- A codestream in which packets are empty (T.800 B.10.3).
-use Rattle.std.specs.Prelude.{ℕ, Bool, false, ◌==◌, ◌&&◌, nat_lt, if◌then◌else◌, List, [], ◌∷◌, ◌++◌, map, take, slice_index, None}
+use Rattle.std.specs.Prelude.{ℕ, Bool, false, nat_lt, if◌then◌else◌, List, [], ◌∷◌, ◌++◌, map, None}
 use Rattle.std.specs.List.{flat_map}
 use Rattle.jk_marks.specs.Markers.{tlm}
 use Rattle.jk_marks.specs.Codestream.{Part, Tree}
@@ -7,14 +7,7 @@ use Rattle.jk_marks.specs.Copying.{kept_segments, part_with}
 use Rattle.jk_geom.specs.declared.shape.PacketName.{PacketName}
 use Rattle.jk_packet.specs.PacketText.{eph_text}
 use Rattle.jk_walk.specs.TilePackets.{Packet}
-
--- whether a text begins with the marker SOP (A.8.1)
-abbrev pub begins_sop : List ℕ → Bool
-begins_sop text = (slice_index text 0 == 0xFF) && (slice_index text 1 == 0x91)
-
--- the SOP marker segment of a packet, where one may stand and does
-abbrev pub sop_of : Bool → List ℕ → List ℕ
-sop_of sop text = if sop && begins_sop text then take 6 text else []
+pub use Rattle.jk_walk.specs.Sop.{begins_sop, sop_of}
 
 -- The text of the empty packet in the place of a packet: its SOP, a header of the bit 0, and EPH where it must stand.
 abbrev pub emptied_text : (sop eph : Bool) → List ℕ → List ℕ
@@ -30,13 +23,10 @@ kept_packet keep sop eph p = if keep p.name then p else emptied_packet sop eph p
 abbrev pub emptied_run : (PacketName → Bool) → (sop eph : Bool) → List Packet → List Packet
 emptied_run keep sop eph run = map (kept_packet keep sop eph) run
 
--- packets that are kept as their precinct is, by component, resolution and number
-abbrev pub of_name : (ℕ → ℕ → ℕ → Bool) → PacketName → Bool
-of_name keep n = keep n.component n.resolution n.precinct
-
--- packets of the first k layers are kept
-abbrev pub of_layers : ℕ → PacketName → Bool
-of_layers k n = nat_lt n.layer k
+-- Packets of the first layers of each precinct of a tile are kept. The fronts say how many layers, by
+-- component, resolution and number.
+abbrev pub of_fronts : (fronts : ℕ → ℕ → ℕ → ℕ) → PacketName → Bool
+of_fronts fronts n = nat_lt n.layer (fronts n.component n.resolution n.precinct)
 
 abbrev pub run_text : List Packet → List ℕ
 run_text run = flat_map (λ p. p.text) run

@@ -7,9 +7,9 @@ use Rattle.jk_window.specs.Indexing.{IndexFields, IsIndexOf}
 use Rattle.jk_window.specs.Cutting.{with_codestream}
 use Rattle.jk_window.specs.Again.{front_content}
 
--- what its codestream spells, where k layers are kept
+-- what its codestream spells, where k layers of each precinct are kept
 abbrev pub front_tree : {bytes : List ℕ} {i : IndexFields} → IsIndexOf bytes i → (k : ℕ) → Tree
-front_tree {i = i} is k = emptied_tree (front_content i.headers k is.runs) is.says.tree
+front_tree {i = i} is k = emptied_tree (front_content i.headers (λ _ _ _ _. k) is.runs) is.says.tree
 
 abbrev pub front_file : {bytes : List ℕ} {i : IndexFields} → IsIndexOf bytes i → (k : ℕ) → Result (List ℕ) Fault
 front_file is k = with_codestream is.holds (codestream_text (front_tree is k))

@@ -1,5 +1,5 @@
--- What is kept of a file: where its codestream stands, and what its headers say. All its packets can be read.
-use Rattle.std.specs.Prelude.{◌≡◌, ℕ, zero, suc, ◌<◌, min, List, [], length, map, slice_range, Result, Ok}
+-- What is kept of a file: where its codestream stands, what its headers say, and where each of its packets stands.
+use Rattle.std.specs.Prelude.{◌≡◌, ℕ, zero, suc, ◌<◌, min, List, [], ◌∷◌, ◌++◌, length, map, slice_range, slice_index_or, Result, Ok}
 use Rattle.std.specs.List.{flat_map}
 use Rattle.jk_math.specs.Answer.{◌>>=◌}
 use Rattle.jk_math.specs.declared.fault.Fault.{Fault}
@@ -11,18 +11,36 @@ use Rattle.jk_geom.specs.TileShapes.{coding_of}
 use Rattle.jk_boxes.specs.declared.place.Boxed.{Boxed}
 use Rattle.jk_boxes.specs.Boxes.{Holds, HoldsAt}
 use Rattle.jk_boxes.specs.Reading.{boxes_at}
-use Rattle.jk_params.specs.Headers.{Headers, TileFields, tile_in, cod_for, IsHeaders}
+use Rattle.jk_params.specs.Headers.{Headers, TileFields, tile_in, cod_for, IsHeaders, AreHeaders}
 use Rattle.jk_params.specs.HeadersReading.{headers_at}
-use Rattle.jk_walk.specs.TilePackets.{slice_of, Packet}
-use Rattle.jk_walk.specs.WalkReading.{packets_at, AreTilePackets}
+use Rattle.jk_walk.specs.declared.entries.PacketEntry.{PacketEntry}
+use Rattle.jk_walk.specs.TilePackets.{slice_of, shape_in, Packet}
+use Rattle.jk_walk.specs.WalkReading.{AreTilePackets}
+use Rattle.jk_walk.specs.Entries.{entries_at, AreEntries}
 use Rattle.jk_window.specs.Emptied.{run_text}
 
--- where the codestream stands in the file, the layers and the order of the main header, and what all headers say
+-- where the codestream stands in the file, the layers and the order of the main header, what all headers say, and for each
+-- tile the entries of its packets
 pub record IndexFields : Type 0 where
   pub place : Boxed
   pub layers : ℕ
   pub order : Order
   pub headers : Headers
+  pub packets : List (List PacketEntry)
+
+-- the entries of tile t
+abbrev pub entries_of : List (List PacketEntry) → ℕ → List PacketEntry
+entries_of packets t = slice_index_or packets t []
+
+-- Headers of so many bytes, and an entry within them for each packet of each tile.
+pub record AreIndexed (size : ℕ) (h : Headers) (packets : List (List PacketEntry)) : Type 0 where
+  pub headers : AreHeaders size h
+  pub count : length packets ≡ tile_count h.siz
+  pub each : (t : ℕ) → t < tile_count h.siz → AreEntries size (shape_in h.siz (tile_in h.tiles t) t) (entries_of packets t)
+
+-- The entries of each tile are those of its packets in the codestream.
+abbrev pub AreEntriesOf : List ℕ → Headers → List (List PacketEntry) → Type 0
+AreEntriesOf codestream h packets = (t : ℕ) → t < tile_count h.siz → entries_at codestream h t ≡ Ok (entries_of packets t)
 
 abbrev pub joined_runs : List (List Packet) → List Packet
 joined_runs runs = flat_map (λ run. run) runs
@@ -32,7 +50,7 @@ pub record HasRuns (bytes : List ℕ) (h : Headers) (t : ℕ) (runs : List (List
   pub packets : AreTilePackets bytes h t (joined_runs runs)
   pub cut : map run_text runs ≡ map (slice_of bytes) (tile_in h.tiles t).data_places
 
--- The file holds a codestream at this place, whose headers say this, and which has packets for each tile.
+-- The file holds a codestream at this place, whose headers say this, and which has packets for each tile, with these entries.
 pub record IsIndexOf (bytes : List ℕ) (i : IndexFields) : Type 0 where
   pub codestream : List ℕ
   pub holds : HoldsAt bytes codestream i.place
@@ -41,24 +59,26 @@ pub record IsIndexOf (bytes : List ℕ) (i : IndexFields) : Type 0 where
   pub order : i.order ≡ (cod_for says.tree.segments []).order
   pub runs : ℕ → List (List Packet)
   pub tiles : (t : ℕ) → t < tile_count i.headers.siz → HasRuns codestream i.headers t (runs t)
+  pub count : length i.packets ≡ tile_count i.headers.siz
+  pub kept : AreEntriesOf codestream i.headers i.packets
 
 -- A file whose codestream has headers, and packets for each tile, has an index.
 abbrev pub HaveIndexes : Type 0
 HaveIndexes = (bytes codestream : List ℕ) (h : Headers) → Holds bytes codestream → IsHeaders codestream h
     → ((t : ℕ) → t < tile_count h.siz → (packets : List Packet) × AreTilePackets codestream h t packets) → (i : IndexFields) × IsIndexOf bytes i
 
--- the first fault of the packets of the first n tiles, tile by tile
-unfoldable pub packets_tested : List ℕ → Headers → ℕ → Result (Unit {0}) Fault
-packets_tested bytes h zero = Ok tt
-packets_tested bytes h (suc n) = packets_tested bytes h n >>= λ _. packets_at bytes h n >>= λ _. Ok tt
+-- the entries of the first n tiles, or the first fault of their packets, tile by tile
+unfoldable pub entries_upto : List ℕ → Headers → ℕ → Result (List (List PacketEntry)) Fault
+entries_upto bytes h zero = Ok []
+entries_upto bytes h (suc n) = entries_upto bytes h n >>= λ before. entries_at bytes h n >>= λ last. Ok (before ++ last ∷ [])
 
 -- the index of a codestream at a place
 unfoldable pub fields_at : Boxed → List ℕ → Result IndexFields Fault
 fields_at place codestream = do
   main ← main_at codestream
   headers ← headers_at codestream
-  _ ← packets_tested codestream headers (tile_count headers.siz)
-  Ok (record { place = place; layers = main.0.cod.layers; order = main.0.cod.order; headers = headers })
+  packets ← entries_upto codestream headers (tile_count headers.siz)
+  Ok (record { place = place; layers = main.0.cod.layers; order = main.0.cod.order; headers = headers; packets = packets })
 
 -- the index of a file, or the first fault
 unfoldable pub index_at : List ℕ → Result IndexFields Fault

@@ -10,10 +10,10 @@ ghost use Rattle.jk_math.specs.declared.fault.Fault.TheVariants.{BadWindow, Chan
 ghost use Rattle.jk_marks.specs.Siz.{tile_count};
 ghost use Rattle.jk_marks.specs.Codestream.{codestream_text};
 ghost use Rattle.jk_walk.specs.TilePackets.{Packet};
-ghost use Rattle.jk_params.specs.Headers.{AreHeaders, IsHeaders, tile_in};
+ghost use Rattle.jk_params.specs.Headers.{IsHeaders};
 ghost use Rattle.jk_window.specs.Emptied.{emptied_tree};
 ghost use Rattle.jk_window.specs.Views.{HasWindow};
-ghost use Rattle.jk_window.specs.Indexing.{HasRuns, IsIndexOf};
+ghost use Rattle.jk_window.specs.Indexing.{AreEntriesOf, IsIndexOf};
 ghost use Rattle.jk_window.specs.Cutting.{AreCutOf, AreWithin, content_of, with_codestream, cut_tree, cut_file, HaveRuns};
 
 use crate::kept::Index;
@@ -24,57 +24,68 @@ use crate::window::window;
 use jk_boxes::{Boxed, close_codestream, open};
 use jk_marks::copy_main;
 use jk_math::{Fault, Rect};
-use jk_params::Codestream;
 use std::alloc::Global;
 
 /// What is copied of all tiles where a window is cut.
 fn read_tiles(
     alloc: Global,
-    headers: &Codestream,
+    index: &Index,
     bytes: &[u8],
     window: &Rect,
     reduce: u8,
 ) -> Result<Vec<Pieces>, Fault>
-    requires sound { AreHeaders (length bytes.now) headers.now }
+    requires long { index.now.place.end - index.now.place.start ≡ length bytes.now }
     requires right { window.now.x1 < 2 ^ 31 }
     requires lower { window.now.y1 < 2 ^ 31 }
     requires few { reduce ≤ 10 }
-    ensures pieces { (runs : ℕ → List (List Packet)) → HaveRuns bytes.now headers.now runs
-        → MatchResult result (λ v. AreCutOf bytes.now headers.now window.now reduce (tile_count headers.now.siz) runs v.items) (λ e. IsMemory e) }
-    ensures count { IfOk result (λ v. length v.items ≡ length headers.now.tiles) }
+    ensures pieces { (runs : ℕ → List (List Packet)) → HaveRuns bytes.now index.now.headers runs
+        → AreEntriesOf bytes.now index.now.headers index.now.packets
+        → MatchResult result
+        (λ v. AreCutOf bytes.now index.now.headers window.now reduce (tile_count index.now.headers.siz) runs v.items)
+        (λ e. IsMemory e) }
+    ensures count { IfOk result (λ v. length v.items ≡ length index.now.headers.tiles) }
     ensures within { IfOk result (λ v. AllByRecursion (AreWithin (length bytes.now)) v.items) }
-    ensures err { IfErr result (λ e. IsMemory e ⊎ (e ≡ Changed)) }
+    ensures err { IfErr result (λ e. IsMemory e) }
 {
+    let headers = index.headers();
     let mut all = Vec::with_capacity(alloc, headers.tile_count())?;
     for number in 0..headers.tile_count() {
-        all.push(read_tile(alloc, headers, bytes, window, reduce, number)?)?;
+        all.push(read_tile(alloc, index, bytes, window, reduce, number)?)?;
     }
     Ok(all)
 }
 
 /// Appends the codestream in which the packets that a window doesn't need are empty.
 ///
-/// Changed: the headers aren't those of the codestream, or its packets can't be read.
+/// Changed: the headers aren't those of the codestream.
 fn put_codestream(
     alloc: Global,
-    headers: &Codestream,
+    index: &Index,
     bytes: &[u8],
     window: &Rect,
     reduce: u8,
     out: &mut Vec<u8>,
 ) -> Result<(), Fault>
-    requires sound { AreHeaders (length bytes.now) headers.now }
+    requires long { index.now.place.end - index.now.place.start ≡ length bytes.now }
     requires right { window.now.x1 < 2 ^ 31 }
     requires lower { window.now.y1 < 2 ^ 31 }
     requires few { reduce ≤ 10 }
-    ensures exact { (is : IsHeaders bytes.now headers.now) (runs : ℕ → List (List Packet)) → HaveRuns bytes.now headers.now runs
-        → MatchResult result (λ _. out.new.items ≡ out.old.items ++ codestream_text (emptied_tree (content_of headers.now runs window.now reduce) is.tree)) (λ e. IsMemory e) }
-    ensures short { (is : IsHeaders bytes.now headers.now) (runs : ℕ → List (List Packet)) → HaveRuns bytes.now headers.now runs
-        → OnOk result (length (codestream_text (emptied_tree (content_of headers.now runs window.now reduce) is.tree)) ≤ length bytes.now) }
+    ensures exact { (is : IsHeaders bytes.now index.now.headers) (runs : ℕ → List (List Packet))
+        → HaveRuns bytes.now index.now.headers runs → AreEntriesOf bytes.now index.now.headers index.now.packets
+        → MatchResult result
+        (λ _. out.new.items ≡ out.old.items
+        ++ codestream_text (emptied_tree (content_of index.now.headers runs window.now reduce) is.tree))
+        (λ e. IsMemory e) }
+    ensures short { (is : IsHeaders bytes.now index.now.headers) (runs : ℕ → List (List Packet))
+        → HaveRuns bytes.now index.now.headers runs → AreEntriesOf bytes.now index.now.headers index.now.packets
+        → OnOk result
+        (length (codestream_text (emptied_tree (content_of index.now.headers runs window.now reduce) is.tree))
+        ≤ length bytes.now) }
     ensures front { IsFront out.old.items out.new.items }
     ensures err { IfErr result (λ e. IsMemory e ⊎ (e ≡ Changed)) }
 {
-    let tiles = read_tiles(alloc, headers, bytes, window, reduce)?;
+    let tiles = read_tiles(alloc, index, bytes, window, reduce)?;
+    let headers = index.headers();
     out.reserve_exact(room(headers, &tiles, bytes.len()))?;
     let start = copy_main(bytes, out)?;
     put_parts(bytes, headers, &tiles, start, out)?;
@@ -106,14 +117,7 @@ fn cut_at_place(
     let codestream = &bytes[place.start..place.end];
     let mut file = Vec::new(alloc);
     file.extend_from_slice(&bytes[..place.start])?;
-    put_codestream(
-        alloc,
-        index.headers(),
-        codestream,
-        window,
-        reduce,
-        &mut file,
-    )?;
+    put_codestream(alloc, index, codestream, window, reduce, &mut file)?;
     match close_codestream(alloc, bytes, place, &mut file) {
         Ok(()) => Ok(file),
         Err(fault) => Err(changed(fault)),

@@ -6,9 +6,11 @@ ghost use Rattle.jk_math.specs.Memory.{IsMemory};
 ghost use Rattle.jk_math.specs.declared.fault.Fault.TheVariants.{BadWindow};
 ghost use Rattle.jk_marks.specs.Siz.{tile_count};
 ghost use Rattle.jk_geom.specs.TileShapes.{AreCodings};
-ghost use Rattle.jk_params.specs.Headers.{AreHeaders, packets_of};
+ghost use Rattle.jk_params.specs.Headers.{AreHeaders, tile_in, packets_of};
+ghost use Rattle.jk_walk.specs.TilePackets.{shape_in};
+ghost use Rattle.jk_walk.specs.Entries.{AreEntries};
 ghost use Rattle.jk_window.specs.Views.{HasWindow};
-ghost use Rattle.jk_window.specs.Indexing.{IndexFields, least_in, least_levels};
+ghost use Rattle.jk_window.specs.Indexing.{IndexFields, AreIndexed, entries_of, least_in, least_levels};
 
 use crate::view::View;
 use crate::window::sees;
@@ -17,30 +19,38 @@ use jk_geom::Codings;
 use jk_marks::Order;
 use jk_math::Fault;
 use jk_params::Codestream;
+use jk_walk::TileEntries;
 use std::marker::Model;
 
 /// The most decomposition levels that a tile-component may have.
 const MOST_LEVELS: u8 = 10;
 
-/// What is kept of a file: where its codestream stands, and what its headers say. All its packets can be read.
+/// What is kept of a file: where its codestream stands, what its headers say, and where each of its
+/// packets stands, in 32 bytes a packet.
 #[derive(Debug, Drop)]
 pub struct Index {
     place: Boxed,
     layers: u16,
     order: Order,
     headers: Codestream,
+    packets: Vec<TileEntries>,
 }
 
 impl Model for Index {
-    ghost use Rattle.std.specs.Prelude.{◌-◌, ◌≤◌};
-    ghost use Rattle.jk_params.specs.Headers.{AreHeaders};
-    ghost use Rattle.jk_window.specs.Indexing.{IndexFields};
+    ghost use Rattle.std.specs.Prelude.{◌-◌};
+    ghost use Rattle.jk_window.specs.Indexing.{IndexFields, AreIndexed};
 
     ghost Value = { IndexFields };
 
-    ghost view = { λ i. record { place = i.place; layers = i.layers; order = i.order; headers = i.headers } };
+    ghost view = { λ i. record {
+      place = i.place;
+      layers = i.layers;
+      order = i.order;
+      headers = i.headers;
+      packets = i.packets.items;
+    } };
 
-    ghost invariant = { λ i. AreHeaders (i.place.end - i.place.start) i.headers };
+    ghost invariant = { λ i. AreIndexed (i.place.end - i.place.start) i.headers i.packets.items };
 }
 
 /// The least number of decomposition levels of components, and 10 where there are none.
@@ -60,15 +70,23 @@ impl Index {
     ghost use Rattle.std.specs.Prelude.{◌≡◌, ◌-◌, MatchResult};
 
     /// An index of these fields.
-    pub(crate) fn new(place: Boxed, layers: u16, order: Order, headers: Codestream) -> Index
-        requires { AreHeaders (place.end - place.start) headers }
-        ensures { result ≡ record { place = place; layers = layers; order = order; headers = headers } }
+    pub(crate) fn new(
+        place: Boxed,
+        layers: u16,
+        order: Order,
+        headers: Codestream,
+        packets: Vec<TileEntries>,
+    ) -> Index
+        requires { AreIndexed (place.end - place.start) headers packets.items }
+        ensures { result
+            ≡ record { place = place; layers = layers; order = order; headers = headers; packets = packets.items } }
     {
         Index {
             place,
             layers,
             order,
             headers,
+            packets,
         }
     }
 
@@ -85,6 +103,16 @@ impl Index {
         ensures sound { AreHeaders (self.now.place.end - self.now.place.start) result.now }
     {
         &self.headers
+    }
+
+    /// Where the packets of a tile stand in the codestream.
+    pub(crate) fn entries(&self, tile: usize) -> &TileEntries
+        requires { tile < tile_count self.now.headers.siz }
+        ensures value { result.now ≡ entries_of self.now.packets tile }
+        ensures within { AreEntries (self.now.place.end - self.now.place.start)
+            (shape_in self.now.headers.siz (tile_in self.now.headers.tiles tile) tile) result.now }
+    {
+        &self.packets[tile]
     }
 
     /// How many samples the image has side by side.

@@ -4,25 +4,27 @@ ghost use Rattle.std.specs.Prelude.{◌≡◌, ◌-◌, length, IfOk, Ok};
 ghost use Rattle.jk_math.specs.Answer.{Answers};
 ghost use Rattle.jk_marks.specs.Siz.{tile_count};
 ghost use Rattle.jk_params.specs.Headers.{AreHeaders};
-ghost use Rattle.jk_window.specs.Indexing.{IndexFields, IsIndexOf, packets_tested, fields_at, index_at};
+ghost use Rattle.jk_window.specs.Indexing.{IndexFields, IsIndexOf, AreIndexed, entries_upto, fields_at, index_at};
 
 use crate::kept::Index;
 use jk_boxes::{Boxed, open};
 use jk_marks::read_main;
 use jk_math::Fault;
 use jk_params::{Codestream, read_codestream};
-use jk_walk::read_spans;
+use jk_walk::{TileEntries, read_entries};
 use std::alloc::Global;
 
-/// Reads the packets of all tiles, and keeps none.
-fn test_packets(alloc: Global, headers: &Codestream, bytes: &[u8]) -> Result<(), Fault>
+/// The entries of the packets of all tiles.
+fn all_entries(alloc: Global, headers: &Codestream, bytes: &[u8]) -> Result<Vec<TileEntries>, Fault>
     requires { AreHeaders (length bytes.now) headers.now }
-    ensures { Answers (λ _. tt) result (packets_tested bytes.now headers.now (tile_count headers.now.siz)) }
+    ensures exact { Answers (λ v. v.items) result (entries_upto bytes.now headers.now (tile_count headers.now.siz)) }
+    ensures within { IfOk result (λ v. AreIndexed (length bytes.now) headers.now v.items) }
 {
+    let mut all = Vec::with_capacity(alloc, headers.tile_count())?;
     for number in 0..headers.tile_count() {
-        read_spans(alloc, headers, bytes, number)?;
+        all.push(read_entries(alloc, headers, bytes, number)?)?;
     }
-    Ok(())
+    Ok(all)
 }
 
 /// The index of a codestream at a place.
@@ -33,8 +35,8 @@ fn read_index(alloc: Global, place: Boxed, bytes: &[u8]) -> Result<Index, Fault>
 {
     let (main, _) = read_main(bytes)?;
     let headers = read_codestream(alloc, bytes)?;
-    test_packets(alloc, &headers, bytes)?;
-    Ok(Index::new(place, main.cod.layers, main.cod.order, headers))
+    let packets = all_entries(alloc, &headers, bytes)?;
+    Ok(Index::new(place, main.cod.layers, main.cod.order, headers, packets))
 }
 
 /// The index of a file.

@@ -1,22 +1,22 @@
 //! What is copied of the tiles of a codestream.
 
-ghost use Rattle.std.specs.Prelude.{◌≡◌, ◌≤◌, ◌<◌, ◌^◌, ◌⊎◌, ℕ, List, length, map, IfOk, IfErr, MatchResult, MatchOption, OnOk};
+ghost use Rattle.std.specs.Prelude.{◌≡◌, ◌-◌, ◌≤◌, ◌<◌, ◌^◌, ◌⊎◌, ℕ, List, length, map, Ok, IfOk, IfErr};
+ghost use Rattle.std.specs.Prelude.{MatchResult, MatchOption, OnOk};
 ghost use Rattle.std.specs.List.{AllByRecursion};
 ghost use Rattle.jk_math.specs.Memory.{IsMemory};
 ghost use Rattle.jk_math.specs.declared.fault.Fault.TheVariants.{Changed};
 ghost use Rattle.jk_marks.specs.Siz.{tile_count};
 ghost use Rattle.jk_walk.specs.TilePackets.{Packet};
-ghost use Rattle.jk_params.specs.Headers.{AreHeaders, tile_in};
-ghost use Rattle.jk_window.specs.Indexing.{HasRuns};
+ghost use Rattle.jk_walk.specs.Entries.{entries_at};
+ghost use Rattle.jk_window.specs.Indexing.{entries_of, HasRuns};
 ghost use Rattle.jk_window.specs.Cutting.{IsCutOf, AreCutOf, AreWithin};
 
+use crate::kept::Index;
 use crate::need::meet;
 use crate::pieces::{Piece, TileCut, read_runs};
 use crate::window::reduced;
-use jk_geom::tile_shape;
 use jk_math::{Fault, Rect};
-use jk_params::Codestream;
-use jk_walk::read_spans;
+use jk_walk::shape_of;
 use std::alloc::Global;
 use std::marker::Model;
 
@@ -81,37 +81,30 @@ pub(crate) fn changed(fault: Fault) -> Fault
     }
 }
 
-/// What is copied of a tile where a window is cut.
+/// What is copied of a tile where a window is cut, by the entries that are kept of its packets.
 pub(crate) fn read_tile(
     alloc: Global,
-    headers: &Codestream,
+    index: &Index,
     bytes: &[u8],
     window: &Rect,
     reduce: u8,
     tile: usize,
 ) -> Result<Pieces, Fault>
-    requires sound { AreHeaders (length bytes.now) headers.now }
-    requires tile { tile < tile_count headers.now.siz }
+    requires long { index.now.place.end - index.now.place.start ≡ length bytes.now }
+    requires tile { tile < tile_count index.now.headers.siz }
     requires right { window.now.x1 < 2 ^ 31 }
     requires lower { window.now.y1 < 2 ^ 31 }
     requires few { reduce ≤ 10 }
-    ensures pieces { (runs : List (List Packet)) → HasRuns bytes.now headers.now tile runs
-        → MatchResult result (IsCutOf bytes.now headers.now window.now reduce tile runs) (λ e. IsMemory e) }
+    ensures pieces { (runs : List (List Packet)) → HasRuns bytes.now index.now.headers tile runs
+        → entries_at bytes.now index.now.headers tile ≡ Ok (entries_of index.now.packets tile)
+        → MatchResult result (IsCutOf bytes.now index.now.headers window.now reduce tile runs) (λ e. IsMemory e) }
     ensures within { IfOk result (AreWithin (length bytes.now)) }
-    ensures err { IfErr result (λ e. IsMemory e ⊎ (e ≡ Changed)) }
+    ensures err { IfErr result (λ e. IsMemory e) }
 {
-    let packets = match read_spans(alloc, headers, bytes, tile) {
-        Ok(packets) => packets,
-        Err(fault) => return Err(changed(fault)),
-    };
+    let headers = index.headers();
     let cod = headers.cod(tile);
-    let shape = tile_shape(
-        headers.siz(),
-        tile as u32,
-        cod.layers,
-        cod.order,
-        headers.codings(tile).copy(),
-    );
+    let shape = shape_of(headers, tile);
+    let spans = index.entries(tile).spans(alloc, &shape)?;
     let cut = TileCut {
         bytes,
         shape: &shape,
@@ -119,6 +112,6 @@ pub(crate) fn read_tile(
         top: meet(window, &reduced(&shape.rect, reduce)),
         reduce,
     };
-    let runs = read_runs(alloc, &cut, packets.as_slice(), headers.data_places(tile))?;
+    let runs = read_runs(alloc, &cut, &spans, headers.data_places(tile))?;
     Ok(Pieces { eph: cod.eph, runs })
 }

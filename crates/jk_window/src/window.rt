@@ -101,12 +101,12 @@ fn clipped(area: &Rect, view: View) -> Rect
     }
 }
 
-/// The window of a view.
+/// The window of a view: its rectangle, cut with the reduced image.
 ///
 /// BadWindow: a tile-component has fewer decomposition levels than the reduction, or the reduced image or the window has
 /// no sample.
 #[tactic(auto, unfolding(crate::specs::Views::window_at))]
-pub(crate) fn window(headers: &Codestream, view: View) -> Result<Rect, Fault>
+pub fn window(headers: &Codestream, view: View) -> Result<Rect, Fault>
     requires { (size : ℕ) × AreHeaders size headers.now }
     ensures exact { result ≡ window_at headers.now view }
     ensures right { IfOk result (λ w. w.x1 < 2 ^ 31) }

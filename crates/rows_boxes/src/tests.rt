@@ -1,5 +1,6 @@
 ghost use Rattle.std.specs.Prelude.{◌<◌};
 
+use crate::asserts::{equal, equal_at};
 use crate::cases::{CHANGED, CODESTREAM, COLOUR, FILES, LONGER, RECODED, REPLACED, ROW, WHOLE};
 use jk_boxes::{open, replace_codestream, wrap};
 use jk_math::{Fault, Image};
@@ -56,15 +57,15 @@ fn replaces(
 ) -> Result<(), Fail> {
     let boxed = open(file)?;
     let replaced = replace_codestream(alloc, file, &boxed, codestream)?;
-    assert_eq!(rt; replaced.as_slice(), want);
+    equal(rt, replaced.as_slice(), want);
     Ok(())
 }
 
 #[test]
 fn an_unchanged_file(rt: HostRuntime) -> Result<(), Fail> {
     let file = bytes_of(rt.alloc(), ROW)?;
-    assert_eq!(rt; file.len(), 167);
-    assert_eq!(rt; open(&file), WHOLE);
+    equal(&rt, file.len(), 167);
+    equal(&rt, open(&file), WHOLE);
     Ok(())
 }
 
@@ -75,7 +76,7 @@ fn a_changed_byte(rt: HostRuntime) -> Result<(), Fail> {
         if *at < file.len() {
             file[*at] = *byte;
         }
-        assert_eq!(rt; open(&file), *want, "{byte} at {at}");
+        equal_at(&rt, (byte, at), open(&file), *want);
     }
     Ok(())
 }
@@ -84,7 +85,7 @@ fn a_changed_byte(rt: HostRuntime) -> Result<(), Fail> {
 fn files(rt: HostRuntime) -> Result<(), Fail> {
     for (text, want) in &FILES {
         let file = bytes_of(rt.alloc(), text)?;
-        assert_eq!(rt; open(&file), *want);
+        equal(&rt, open(&file), *want);
     }
     Ok(())
 }
@@ -94,15 +95,17 @@ fn wrapped(rt: HostRuntime) -> Result<(), Fail> {
     let codestream = bytes_of(rt.alloc(), CODESTREAM)?;
     let grey = image(rt.alloc(), 1, 1, 8, false, 1)?;
     let want = bytes_of(rt.alloc(), ROW)?;
-    assert_eq!(rt;
+    equal(
+        &rt,
         wrap(rt.alloc(), &grey, &codestream)?.as_slice(),
-        want.as_slice()
+        want.as_slice(),
     );
     let colour = image(rt.alloc(), 3, 2, 12, false, 3)?;
     let want = bytes_of(rt.alloc(), COLOUR)?;
-    assert_eq!(rt;
+    equal(
+        &rt,
         wrap(rt.alloc(), &colour, &[0xFF, 0x4F])?.as_slice(),
-        want.as_slice()
+        want.as_slice(),
     );
     Ok(())
 }
@@ -125,7 +128,7 @@ fn replaced(rt: HostRuntime) -> Result<(), Fail> {
     let file = bytes_of(rt.alloc(), ROW)?;
     let longer = bytes_of(rt.alloc(), LONGER)?;
     let want = bytes_of(rt.alloc(), REPLACED)?;
-    assert_eq!(rt; want.len(), 169);
+    equal(&rt, want.len(), 169);
     replaces(&rt, rt.alloc(), &file, &longer, &want)?;
     for (before, after) in &RECODED {
         let before = bytes_of(rt.alloc(), before)?;

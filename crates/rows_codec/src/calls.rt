@@ -3,6 +3,7 @@
 use jk_math::{Fault, Image};
 use jk_params::Parameters;
 use std::alloc::Global;
+use std::io::Write;
 
 pub(crate) fn encode(
     alloc: Global,
@@ -10,6 +11,15 @@ pub(crate) fn encode(
     parameters: &Parameters,
 ) -> Result<Vec<u8>, Fault> {
     jk_code::encode(alloc, image, parameters)
+}
+
+pub(crate) fn encode_into<W: Write>(
+    alloc: Global,
+    image: &Image,
+    parameters: &Parameters,
+    writer: &mut W,
+) -> Result<(), Fault> {
+    jk_code::encode_into(alloc, image, parameters, writer)
 }
 
 pub(crate) fn decode(alloc: Global, bytes: &[u8], reduce: u32) -> Result<Image, Fault> {

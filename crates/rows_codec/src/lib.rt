@@ -28,4 +28,6 @@ mod texts;
 #[cfg(test)]
 mod values;
 #[cfg(test)]
+mod writers;
+#[cfg(test)]
 mod written;

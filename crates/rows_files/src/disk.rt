@@ -56,6 +56,8 @@ pub(crate) struct Disk {
     pub(crate) taken: Cell<u64>,
     /// Why no file can be made, if so.
     pub(crate) closed: Cell<Option<ErrorKind>>,
+    /// Why no file can take another's place, if so.
+    pub(crate) fixed: Cell<Option<ErrorKind>>,
     /// Whether no folder can be asked to be stored.
     pub(crate) unstored: Cell<bool>,
     /// How often was slept.
@@ -74,6 +76,7 @@ impl Disk {
             interrupts: Cell::new(0),
             taken: Cell::new(0),
             closed: Cell::new(None),
+            fixed: Cell::new(None),
             unstored: Cell::new(false),
             sleeps: Cell::new(0),
         }
@@ -247,12 +250,19 @@ impl<'a> Files for Desk<'a> {
         }
     }
 
-    fn copy(&self, _from: &str, _to: &str) -> io::Result<u64> {
-        Err(io::Error::from(ErrorKind::Unsupported))
+    fn copy(&self, from: &str, to: &str) -> io::Result<u64> {
+        self.0.call("copy", from)?;
+        let bytes = self.0.bytes(from)?;
+        self.0.empty(to)?;
+        self.0.append(to, bytes.as_slice())?;
+        Ok(bytes.len() as u64)
     }
 
     fn rename(&self, from: &str, to: &str) -> io::Result<()> {
         self.0.call("rename", from)?;
+        if let Some(kind) = self.0.fixed.get() {
+            return Err(io::Error::from(kind));
+        }
         let bytes = self.0.bytes(from)?;
         self.0.take(from)?;
         self.0.take(to)?;

@@ -2,6 +2,8 @@
 #![tactic(auto)]
 
 #[cfg(test)]
+mod asserts;
+#[cfg(test)]
 mod disk;
 #[cfg(test)]
 mod handle;
@@ -9,6 +11,8 @@ mod handle;
 mod listing;
 #[cfg(test)]
 mod locking;
+#[cfg(test)]
+mod output;
 #[cfg(test)]
 mod reading;
 #[cfg(test)]

@@ -1,5 +1,6 @@
 //! What is listed of a folder.
 
+use crate::asserts::{equal, equal_at, holds_at};
 use crate::disk::{Desk, Disk, Kind};
 use crate::scratch::{folder, remove, within};
 use jk_files::{Listing, list};
@@ -51,9 +52,9 @@ fn one_of_each(rt: HostRuntime) -> Result<(), Fail> {
     let listing = list(&Desk(&disk), rt.alloc(), "d", |name| name.ends_with(".jp2"))?;
     let text = told(rt.alloc(), &listing)?;
     let calls = disk.calls()?;
-    assert_eq!(rt; text.as_str(), ONE_OF_EACH);
-    assert!(rt; !calls.as_str().contains("open d/pipe"), "{calls}");
-    assert!(rt; !calls.as_str().contains(".txt"), "{calls}");
+    equal(&rt, text.as_str(), ONE_OF_EACH);
+    holds_at(&rt, calls.as_str(), !calls.as_str().contains("open d/pipe"));
+    holds_at(&rt, calls.as_str(), !calls.as_str().contains(".txt"));
     Ok(())
 }
 
@@ -85,7 +86,7 @@ fn of_the_system(rt: HostRuntime) -> Result<(), Fail> {
         let mut listing = list(&rt, rt.alloc(), name, |_| true)?;
         listing.files.sort()?;
         let text = told(rt.alloc(), &listing)?;
-        assert_eq!(rt; text.as_str(), "a b |c FilesystemLoop", "{name}");
+        equal_at(&rt, name, text.as_str(), "a b |c FilesystemLoop");
     }
     remove(&rt, path.as_str())
 }

@@ -1,5 +1,6 @@
 //! The lock of a folder.
 
+use crate::asserts::{equal, equal_at, holds_at};
 use crate::disk::{Desk, Disk, Kind};
 use crate::scratch::{folder, remove};
 use jk_files::{Lock, Refusal, SharedLock, try_exclusive, try_shared, wait_exclusive};
@@ -41,11 +42,12 @@ fn of_the_system(rt: HostRuntime) -> Result<(), Fail> {
     let while_waited = is_held(try_exclusive(&rt, alloc, path))?;
     drop(waited);
     remove(&rt, path)?;
-    assert_eq!(rt;
+    equal(
+        &rt,
         (second, while_shared, at_last, while_waited),
-        (false, false, true, false)
+        (false, false, true, false),
     );
-    assert_eq!(rt; [while_alone, more], ["taken", "held"]);
+    equal(&rt, [while_alone, more], ["taken", "held"]);
     Ok(())
 }
 
@@ -62,8 +64,8 @@ fn waiting(rt: HostRuntime) -> Result<(), Fail> {
         disk.taken.set(taken);
         let calls = Cell::new(0);
         let answer = wait_exclusive(&Desk(&disk), rt.alloc(), "d", || calls.set(1));
-        assert_eq!(rt; answer.is_ok(), held, "{taken}");
-        assert_eq!(rt; (calls.get(), disk.sleeps.get()), (told, sleeps), "{taken}");
+        equal_at(&rt, taken, answer.is_ok(), held);
+        equal_at(&rt, taken, (calls.get(), disk.sleeps.get()), (told, sleeps));
     }
     Ok(())
 }
@@ -77,10 +79,10 @@ fn where_no_file_can_be_made(rt: HostRuntime) -> Result<(), Fail> {
     ] {
         let disk = Disk::new(rt.alloc());
         disk.closed.set(Some(closed));
-        assert_eq!(rt; word(try_shared(&Desk(&disk), rt.alloc(), "d")), shared);
+        equal(&rt, word(try_shared(&Desk(&disk), rt.alloc(), "d")), shared);
         assert!(rt; try_exclusive(&Desk(&disk), rt.alloc(), "d").is_err());
         disk.put("d/.lock", Kind::File, b"")?;
-        assert_eq!(rt; word(try_shared(&Desk(&disk), rt.alloc(), "d")), "held");
+        equal(&rt, word(try_shared(&Desk(&disk), rt.alloc(), "d")), "held");
     }
     Ok(())
 }
@@ -90,14 +92,16 @@ fn no_regular_lock(rt: HostRuntime) -> Result<(), Fail> {
     for kind in [Kind::Pipe, Kind::Folder, Kind::Refused] {
         let disk = Disk::new(rt.alloc());
         disk.put("d/.lock", kind, b"")?;
-        assert_eq!(rt;
+        equal_at(
+            &rt,
+            kind,
             word(try_shared(&Desk(&disk), rt.alloc(), "d")),
             "refused",
-            "{kind:?}"
         );
-        assert!(rt;
+        holds_at(
+            &rt,
+            kind,
             try_exclusive(&Desk(&disk), rt.alloc(), "d").is_err(),
-            "{kind:?}"
         );
     }
     Ok(())

@@ -1,5 +1,6 @@
 //! What is read of a file, and when a read fails.
 
+use crate::asserts::{equal, equal_at};
 use crate::disk::{Desk, Disk, Kind};
 use crate::scratch::{folder, remove, within};
 use jk_files::{Refusal, read_all, read_file};
@@ -55,8 +56,8 @@ fn file(alloc: Global, disk: &Disk) -> Result<Result<bool, Fault>, Fail> {
 fn in_pieces(rt: HostRuntime) -> Result<(), Fail> {
     for piece in [usize::MAX, 100_000, 4096] {
         let disk = disk_of(rt.alloc(), piece)?;
-        assert_eq!(rt; source(rt.alloc(), &disk)?, Ok(true), "{piece}");
-        assert_eq!(rt; file(rt.alloc(), &disk)?, Ok(true), "{piece}");
+        equal_at(&rt, piece, source(rt.alloc(), &disk)?, Ok(true));
+        equal_at(&rt, piece, file(rt.alloc(), &disk)?, Ok(true));
     }
     Ok(())
 }
@@ -67,18 +68,18 @@ fn failing_at_each_read(rt: HostRuntime) -> Result<(), Fail> {
     for call in 2..14 {
         let disk = disk_of(rt.alloc(), 100_000)?;
         disk.fails_at.set(call);
-        assert_eq!(rt; source(rt.alloc(), &disk)?, Err(Fault::Shelf), "{call}");
+        equal_at(&rt, call, source(rt.alloc(), &disk)?, Err(Fault::Shelf));
     }
     // A question and an opening, and eleven reads, of which the last gives the last byte that the
     // file had.
     for call in 1..14 {
         let disk = disk_of(rt.alloc(), 100_000)?;
         disk.fails_at.set(call);
-        assert_eq!(rt; file(rt.alloc(), &disk)?, Err(Fault::Shelf), "{call}");
+        equal_at(&rt, call, file(rt.alloc(), &disk)?, Err(Fault::Shelf));
     }
     let disk = disk_of(rt.alloc(), 100_000)?;
     disk.fails_at.set(14);
-    assert_eq!(rt; file(rt.alloc(), &disk)?, Ok(true));
+    equal(&rt, file(rt.alloc(), &disk)?, Ok(true));
     Ok(())
 }
 
@@ -86,9 +87,9 @@ fn failing_at_each_read(rt: HostRuntime) -> Result<(), Fail> {
 fn interrupted(rt: HostRuntime) -> Result<(), Fail> {
     let disk = disk_of(rt.alloc(), 100_000)?;
     disk.interrupts.set(5);
-    assert_eq!(rt; source(rt.alloc(), &disk)?, Ok(true));
+    equal(&rt, source(rt.alloc(), &disk)?, Ok(true));
     disk.interrupts.set(5);
-    assert_eq!(rt; file(rt.alloc(), &disk)?, Ok(true));
+    equal(&rt, file(rt.alloc(), &disk)?, Ok(true));
     Ok(())
 }
 
@@ -103,8 +104,8 @@ fn of_ten(alloc: Global, bytes: &[u8]) -> Result<Vec<u8>, Fail> {
 fn changed_meanwhile(rt: HostRuntime) -> Result<(), Fail> {
     let grown = of_ten(rt.alloc(), b"0123456789abc")?;
     let shrunk = of_ten(rt.alloc(), b"0123456")?;
-    assert_eq!(rt; grown.as_slice(), b"0123456789".as_slice());
-    assert_eq!(rt; shrunk.as_slice(), b"0123456".as_slice());
+    equal(&rt, grown.as_slice(), b"0123456789".as_slice());
+    equal(&rt, shrunk.as_slice(), b"0123456".as_slice());
     Ok(())
 }
 
@@ -129,8 +130,8 @@ fn no_regular_file(rt: HostRuntime) -> Result<(), Fail> {
         (Kind::Refused, ErrorKind::PermissionDenied, "ask a;open a;"),
     ] {
         let (answer, made) = refused(rt.alloc(), kind)?;
-        assert_eq!(rt; answer, Some(said), "{kind:?}");
-        assert_eq!(rt; made.as_str(), calls, "{kind:?}");
+        equal_at(&rt, kind, answer, Some(said));
+        equal_at(&rt, kind, made.as_str(), calls);
     }
     Ok(())
 }
@@ -148,9 +149,10 @@ fn of_the_system(rt: HostRuntime) -> Result<(), Fail> {
     let inner = is_whole(alloc, read_file(&rt, alloc, path.as_str()))?;
     let device = is_whole(alloc, read_file(&rt, alloc, "/dev/zero"))?;
     remove(&rt, path.as_str())?;
-    assert_eq!(rt;
+    equal(
+        &rt,
         [whole, linked, inner, device],
-        [Ok(true), Ok(true), Err(Fault::Shelf), Err(Fault::Shelf)]
+        [Ok(true), Ok(true), Err(Fault::Shelf), Err(Fault::Shelf)],
     );
     Ok(())
 }

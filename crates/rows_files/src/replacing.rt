@@ -1,5 +1,6 @@
 //! Files that are replaced as a whole.
 
+use crate::asserts::{equal, equal_at, holds_at};
 use crate::disk::{Desk, Disk, Kind};
 use crate::scratch::{folder, remove, within};
 use jk_files::{read_file, replace_file};
@@ -27,11 +28,12 @@ fn in_order(rt: HostRuntime) -> Result<(), Fail> {
     disk.put("d/.jk-tmp-0", Kind::File, b"another's")?;
     replace_file(&Desk(&disk), rt.alloc(), "d/out", b"new")?;
     let calls = disk.calls()?;
-    assert_eq!(rt; calls.as_str(), IN_ORDER);
-    assert_eq!(rt; disk.bytes("d/out")?.as_slice(), b"new".as_slice());
-    assert_eq!(rt;
+    equal(&rt, calls.as_str(), IN_ORDER);
+    equal(&rt, disk.bytes("d/out")?.as_slice(), b"new".as_slice());
+    equal(
+        &rt,
         disk.bytes("d/.jk-tmp-0")?.as_slice(),
-        b"another's".as_slice()
+        b"another's".as_slice(),
     );
     Ok(())
 }
@@ -43,16 +45,18 @@ fn failing_at_each_call(rt: HostRuntime) -> Result<(), Fail> {
         let disk = old(rt.alloc())?;
         disk.piece.set(2);
         disk.fails_at.set(call);
-        assert!(rt;
+        holds_at(
+            &rt,
+            call,
             replace_file(&Desk(&disk), rt.alloc(), "d/out", b"new").is_err(),
-            "{call}"
         );
-        assert_eq!(rt;
+        equal_at(
+            &rt,
+            call,
             disk.bytes("d/out")?.as_slice(),
             b"old".as_slice(),
-            "{call}"
         );
-        assert_eq!(rt; disk.count()?, 1, "{call}");
+        equal_at(&rt, call, disk.count()?, 1);
     }
     Ok(())
 }
@@ -72,8 +76,8 @@ fn where_nothing_is(rt: HostRuntime) -> Result<(), Fail> {
         let disk = Disk::new(rt.alloc());
         replace_file(&Desk(&disk), rt.alloc(), path, b"new")?;
         let made = disk.calls()?;
-        assert_eq!(rt; made.as_str(), calls);
-        assert_eq!(rt; disk.bytes(path)?.as_slice(), b"new".as_slice());
+        equal(&rt, made.as_str(), calls);
+        equal(&rt, disk.bytes(path)?.as_slice(), b"new".as_slice());
     }
     Ok(())
 }
@@ -85,16 +89,17 @@ fn as_it_is(rt: HostRuntime) -> Result<(), Fail> {
     disk.put("d/pipe", Kind::Pipe, b"")?;
     replace_file(&Desk(&disk), rt.alloc(), "d/pipe", b"new")?;
     let pipe = disk.calls()?;
-    assert_eq!(rt;
+    equal(
+        &rt,
         pipe.as_str(),
-        "look d/pipe;ask d/pipe;empty d/pipe;write d/pipe;"
+        "look d/pipe;ask d/pipe;empty d/pipe;write d/pipe;",
     );
-    assert_eq!(rt; disk.bytes("d/pipe")?.as_slice(), b"new".as_slice());
+    equal(&rt, disk.bytes("d/pipe")?.as_slice(), b"new".as_slice());
     for kind in [ErrorKind::PermissionDenied, ErrorKind::ReadOnlyFilesystem] {
         let disk = old(rt.alloc())?;
         disk.closed.set(Some(kind));
         replace_file(&Desk(&disk), rt.alloc(), "d/out", b"new")?;
-        assert_eq!(rt; disk.bytes("d/out")?.as_slice(), b"new".as_slice());
+        equal(&rt, disk.bytes("d/out")?.as_slice(), b"new".as_slice());
     }
     Ok(())
 }
@@ -105,7 +110,7 @@ fn may_not_be_written(rt: HostRuntime) -> Result<(), Fail> {
     disk.put("d/out", Kind::Refused, b"old")?;
     let answer = replace_file(&Desk(&disk), rt.alloc(), "d/out", b"new");
     assert!(rt; answer.is_err());
-    assert_eq!(rt; disk.bytes("d/out")?.as_slice(), b"old".as_slice());
+    equal(&rt, disk.bytes("d/out")?.as_slice(), b"old".as_slice());
     Ok(())
 }
 
@@ -128,10 +133,10 @@ fn of_the_system(rt: HostRuntime) -> Result<(), Fail> {
     let listing = jk_files::list(&rt, alloc, path.as_str(), |_| true)?;
     replace_file(&rt, alloc, "/dev/null", b"nothing")?;
     remove(&rt, path.as_str())?;
-    assert_eq!(rt; same.as_slice(), b"one".as_slice());
-    assert_eq!(rt; twice.as_slice(), b"two".as_slice());
+    equal(&rt, same.as_slice(), b"one".as_slice());
+    equal(&rt, twice.as_slice(), b"two".as_slice());
     assert!(rt; is_link);
-    assert_eq!(rt; mode, 0o600);
-    assert_eq!(rt; (listing.files.len(), listing.others.len()), (2, 0));
+    equal(&rt, mode, 0o600);
+    equal(&rt, (listing.files.len(), listing.others.len()), (2, 0));
     Ok(())
 }

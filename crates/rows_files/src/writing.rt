@@ -1,5 +1,6 @@
 //! In which order files are written and renamed, and what is left alone.
 
+use crate::asserts::{equal, equal_at, holds_at};
 use crate::disk::{Desk, Disk, Kind};
 use crate::scratch::{folder, remove, within};
 use jk_files::{is_file_name, rename, write_new};
@@ -13,11 +14,12 @@ fn in_order(rt: HostRuntime) -> Result<(), Fail> {
     write_new(&Desk(&disk), rt.alloc(), "d", "a", b"one")?;
     rename(&Desk(&disk), rt.alloc(), "d", "a", "b")?;
     let calls = disk.calls()?;
-    assert_eq!(rt;
+    equal(
+        &rt,
         calls.as_str(),
-        "make d/a;write d/a;sync d/a;open d/;rename d/a;sync d/;"
+        "make d/a;write d/a;sync d/a;open d/;rename d/a;sync d/;",
     );
-    assert_eq!(rt; disk.bytes("d/b")?.as_slice(), b"one".as_slice());
+    equal(&rt, disk.bytes("d/b")?.as_slice(), b"one".as_slice());
     Ok(())
 }
 
@@ -28,11 +30,12 @@ fn over_what_is_left(rt: HostRuntime) -> Result<(), Fail> {
     disk.piece.set(2);
     write_new(&Desk(&disk), rt.alloc(), "d/", "a", b"one")?;
     let calls = disk.calls()?;
-    assert_eq!(rt;
+    equal(
+        &rt,
         calls.as_str(),
-        "make d/a;remove d/a;make d/a;write d/a;write d/a;sync d/a;"
+        "make d/a;remove d/a;make d/a;write d/a;write d/a;sync d/a;",
     );
-    assert_eq!(rt; disk.bytes("d/a")?.as_slice(), b"one".as_slice());
+    equal(&rt, disk.bytes("d/a")?.as_slice(), b"one".as_slice());
     Ok(())
 }
 
@@ -43,9 +46,10 @@ fn failing(rt: HostRuntime) -> Result<(), Fail> {
         let disk = Disk::new(rt.alloc());
         disk.piece.set(2);
         disk.fails_at.set(call);
-        assert!(rt;
+        holds_at(
+            &rt,
+            call,
             write_new(&Desk(&disk), rt.alloc(), "d", "a", b"one").is_err(),
-            "{call}"
         );
     }
     // To open the folder, to rename, to have the folder stored.
@@ -53,9 +57,10 @@ fn failing(rt: HostRuntime) -> Result<(), Fail> {
         let disk = Disk::new(rt.alloc());
         disk.put("d/a", Kind::File, b"")?;
         disk.fails_at.set(call);
-        assert!(rt;
+        holds_at(
+            &rt,
+            call,
             rename(&Desk(&disk), rt.alloc(), "d", "a", "b").is_err(),
-            "{call}"
         );
     }
     Ok(())
@@ -67,7 +72,7 @@ fn where_no_folder_is_stored(rt: HostRuntime) -> Result<(), Fail> {
     disk.unstored.set(true);
     write_new(&Desk(&disk), rt.alloc(), "d", "a", b"one")?;
     rename(&Desk(&disk), rt.alloc(), "d", "a", "b")?;
-    assert_eq!(rt; disk.bytes("d/b")?.as_slice(), b"one".as_slice());
+    equal(&rt, disk.bytes("d/b")?.as_slice(), b"one".as_slice());
     Ok(())
 }
 
@@ -88,21 +93,24 @@ const NAMES: [(&str, bool); 9] = [
 fn names(rt: HostRuntime) -> Result<(), Fail> {
     let disk = Disk::new(rt.alloc());
     for (name, good) in NAMES {
-        assert_eq!(rt; is_file_name(name), good, "{name}");
-        assert_eq!(rt;
+        equal_at(&rt, name, is_file_name(name), good);
+        equal_at(
+            &rt,
+            name,
             write_new(&Desk(&disk), rt.alloc(), "d", name, b"").is_ok(),
             good,
-            "{name}"
         );
-        assert_eq!(rt;
+        equal_at(
+            &rt,
+            name,
             rename(&Desk(&disk), rt.alloc(), "d", name, "z").is_ok(),
             good,
-            "{name}"
         );
-        assert_eq!(rt;
+        equal_at(
+            &rt,
+            name,
             rename(&Desk(&disk), rt.alloc(), "d", "z", name).is_ok(),
             good,
-            "{name}"
         );
     }
     Ok(())
@@ -123,7 +131,7 @@ fn of_the_system(rt: HostRuntime) -> Result<(), Fail> {
     let gone = !fs::exists(&rt, link.as_str())?;
     remove(&rt, path.as_str())?;
     assert!(rt; !is_link && gone);
-    assert_eq!(rt; kept.as_slice(), b"kept".as_slice());
-    assert_eq!(rt; renamed.as_slice(), b"new".as_slice());
+    equal(&rt, kept.as_slice(), b"kept".as_slice());
+    equal(&rt, renamed.as_slice(), b"new".as_slice());
     Ok(())
 }

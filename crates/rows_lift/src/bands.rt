@@ -216,7 +216,7 @@ static ROWS: [Row; 14] = [
 ];
 
 /// Is this a rectangle below 2^31?
-fn is_area(rect: &Rect) -> bool
+pub(crate) fn is_area(rect: &Rect) -> bool
     ensures { IsTrue result → IsArea rect.now }
 {
     rect.x0 <= rect.x1 && rect.y0 <= rect.y1 && rect.x1 < 1 << 31 && rect.y1 < 1 << 31
@@ -235,7 +235,7 @@ fn are_small(numbers: &[i32]) -> bool
 }
 
 /// Are all numbers below 2^23 in magnitude?
-fn are_coefficients(numbers: &[i32]) -> bool
+pub(crate) fn are_coefficients(numbers: &[i32]) -> bool
     ensures { IsTrue result → All (IsBelow (2 ^ 23)) numbers.now }
 {
     for number in numbers {
@@ -247,7 +247,7 @@ fn are_coefficients(numbers: &[i32]) -> bool
 }
 
 /// The rectangle of a sub-band by its number in QCD.
-fn numbered(rect: &Rect, levels: u8, b: u8) -> Rect
+pub(crate) fn numbered(rect: &Rect, levels: u8, b: u8) -> Rect
     requires area { IsArea rect.now }
     requires levels { levels ≤ 10 }
     requires b { b ≤ 3 * levels }

@@ -1,9 +1,12 @@
-//! Tests of the colour transform and of the wavelet transform on lines, rows and sub-bands.
+//! Tests of the colour transform and of the wavelet transform on lines, rows, sub-bands and
+//! regions of resolutions.
 #![tactic(auto)]
 
 #[cfg(test)]
 mod bands;
 #[cfg(test)]
 mod formula;
+#[cfg(test)]
+mod regions;
 #[cfg(test)]
 mod tests;

@@ -6,7 +6,7 @@ use jk_store::{Archive, MemoryShelf};
 use std::alloc::Global;
 use std::collections::BTreeMap;
 use std::fmt::Display;
-use std::io::{self, ErrorKind};
+use std::io::{self, ErrorKind, Write};
 
 /// Files, folders and streams in memory.
 #[derive(Drop)]
@@ -61,8 +61,27 @@ impl Memory {
     }
 }
 
+/// What is written in parts under a name.
+#[derive(Drop)]
+pub(crate) struct Written {
+    name: String,
+    bytes: Vec<u8>,
+}
+
+impl Write for Written {
+    fn write(&mut self, bytes: &[u8]) -> io::Result<usize> {
+        self.bytes.write(bytes)
+    }
+
+    fn flush(&mut self) -> io::Result<()> {
+        Ok(())
+    }
+}
+
 impl World for Memory {
     type Folder = MemoryShelf;
+
+    type Output = Written;
 
     fn read(&mut self, alloc: Global, name: &str) -> Result<Vec<u8>, Fault> {
         if name == "-" {
@@ -84,6 +103,20 @@ impl World for Memory {
         let copy = Vec::from_slice(alloc, bytes)?;
         self.files.insert(String::from_str(alloc, name)?, copy)?;
         Ok(())
+    }
+
+    fn create(&mut self, alloc: Global, name: &str) -> Result<Written, Fault> {
+        Ok(Written {
+            name: String::from_str(alloc, name)?,
+            bytes: Vec::new(alloc),
+        })
+    }
+
+    fn finish(&mut self, output: Written, is_whole: bool) -> Result<(), Fault> {
+        if !is_whole {
+            return Ok(());
+        }
+        self.write(self.alloc, output.name.as_str(), &output.bytes)
     }
 
     fn print<D: Display>(&mut self, text: &D) -> Result<(), Fault> {

@@ -10,4 +10,6 @@ mod random;
 #[cfg(test)]
 mod random_tiles;
 #[cfg(test)]
+mod slots;
+#[cfg(test)]
 mod sums;

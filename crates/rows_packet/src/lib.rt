@@ -4,6 +4,8 @@
 #[cfg(test)]
 mod bits;
 #[cfg(test)]
+mod entries;
+#[cfg(test)]
 mod headers;
 #[cfg(test)]
 mod precincts;

@@ -13,8 +13,9 @@ struct Gallery {
 }
 
 impl Catalogue for Gallery {
-    ghost use Rattle.std.specs.Prelude.{◌≡◌, true};
-    ghost use Rattle.rows_web.specs.Gallery.{IsGallery};
+    ghost use Rattle.std.specs.Prelude.{◌≡◌, true, ◌∷◌, []};
+    ghost use Rattle.jk_web.specs.Images.{image_of, IsCutOf};
+    ghost use Rattle.rows_web.specs.Gallery.{only, IsGallery};
 
     ghost stands = { λ _ images. IsGallery images };
 
@@ -25,6 +26,8 @@ impl Catalogue for Gallery {
     ghost reads = { λ _ _ _ _. ⊥ };
 
     ghost cuts = { λ _ _ _ _ _. ⊥ };
+
+    ghost made = { λ _ n asked cut. IsCutOf (image_of n (only ∷ [])) asked cut };
 
     fn lines(&self, alloc: Global) -> Result<Vec<u8>, Fault> {
         Ok(Vec::from_slice(alloc, b"a 1 1 1 8 0\n")?)

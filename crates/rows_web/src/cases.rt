@@ -275,3 +275,102 @@ pub static ANSWERS: [(&[u8], bool, &[u8]); 21] = [
         b"HTTP/1.1 405 Method Not Allowed\r\nAllow: GET\r\nContent-Type: text/plain\r\nContent-Length: 23\r\nConnection: close\r\n\r\n405 Method Not Allowed\n",
     ),
 ];
+
+/// How many windows have room in a cache, requests that are answered through it in turn, and how
+/// many windows are made for them.
+pub static CACHED: [(usize, &[u8], u64); 10] = [
+    // A window that is asked for twice, and behind others, is made once.
+    (
+        16,
+        b"GET /images/a/window?x=0&y=0&w=1&h=1 HTTP/1.1\r\n\r\n\
+          GET /images/a/window?x=0&y=0&w=1&h=1 HTTP/1.1\r\n\r\n\
+          GET /images/b/window?x=0&y=0&w=1&h=1 HTTP/1.1\r\n\r\n\
+          GET /images/a/window?x=0&y=0&w=1&h=1 HTTP/1.1\r\n\r\n",
+        2,
+    ),
+    // Each of name, reduction, left edge, upper edge, width and height makes it another one.
+    (
+        16,
+        b"GET /images/a/window?x=0&y=0&w=1&h=1 HTTP/1.1\r\n\r\n\
+          GET /images/b/window?x=0&y=0&w=1&h=1 HTTP/1.1\r\n\r\n\
+          GET /images/a/window?x=0&y=0&w=1&h=1&r=1 HTTP/1.1\r\n\r\n\
+          GET /images/a/window?x=1&y=0&w=1&h=1 HTTP/1.1\r\n\r\n\
+          GET /images/a/window?x=0&y=1&w=1&h=1 HTTP/1.1\r\n\r\n\
+          GET /images/a/window?x=0&y=0&w=2&h=1 HTTP/1.1\r\n\r\n\
+          GET /images/a/window?x=0&y=0&w=1&h=2 HTTP/1.1\r\n\r\n\
+          GET /images/a/window?x=0&y=0&w=1&h=1 HTTP/1.1\r\n\r\n\
+          GET /images/b/window?x=0&y=0&w=1&h=1 HTTP/1.1\r\n\r\n\
+          GET /images/a/window?x=0&y=0&w=1&h=1&r=1 HTTP/1.1\r\n\r\n\
+          GET /images/a/window?x=1&y=0&w=1&h=1 HTTP/1.1\r\n\r\n\
+          GET /images/a/window?x=0&y=1&w=1&h=1 HTTP/1.1\r\n\r\n\
+          GET /images/a/window?x=0&y=0&w=2&h=1 HTTP/1.1\r\n\r\n\
+          GET /images/a/window?x=0&y=0&w=1&h=2 HTTP/1.1\r\n\r\n",
+        7,
+    ),
+    // However it is spelled.
+    (
+        16,
+        b"GET /images/a/window?x=0&y=0&w=1&h=1 HTTP/1.1\r\n\r\n\
+          GET /images/a/window?r=0&h=1&w=1&y=00&x=%30 HTTP/1.1\r\n\r\n",
+        1,
+    ),
+    // One has room, so the second takes the place of the first.
+    (
+        1,
+        b"GET /images/a/window?x=0&y=0&w=1&h=1 HTTP/1.1\r\n\r\n\
+          GET /images/b/window?x=0&y=0&w=1&h=1 HTTP/1.1\r\n\r\n\
+          GET /images/a/window?x=0&y=0&w=1&h=1 HTTP/1.1\r\n\r\n",
+        3,
+    ),
+    // Two have room: the one that was asked for last stays.
+    (
+        2,
+        b"GET /images/a/window?x=0&y=0&w=1&h=1 HTTP/1.1\r\n\r\n\
+          GET /images/b/window?x=0&y=0&w=1&h=1 HTTP/1.1\r\n\r\n\
+          GET /images/a/window?x=0&y=0&w=1&h=1 HTTP/1.1\r\n\r\n\
+          GET /images/a/window?x=0&y=0&w=1&h=1&r=1 HTTP/1.1\r\n\r\n\
+          GET /images/a/window?x=0&y=0&w=1&h=1 HTTP/1.1\r\n\r\n\
+          GET /images/b/window?x=0&y=0&w=1&h=1 HTTP/1.1\r\n\r\n",
+        4,
+    ),
+    // One of 2^20 bytes is kept.
+    (
+        16,
+        b"GET /images/a/window?x=0&y=0&w=1&h=1048576 HTTP/1.1\r\n\r\n\
+          GET /images/a/window?x=0&y=0&w=1&h=1048576 HTTP/1.1\r\n\r\n",
+        1,
+    ),
+    // A longer one isn't.
+    (
+        16,
+        b"GET /images/a/window?x=0&y=0&w=1&h=1048577 HTTP/1.1\r\n\r\n\
+          GET /images/a/window?x=0&y=0&w=1&h=1048577 HTTP/1.1\r\n\r\n",
+        2,
+    ),
+    // A refusal isn't kept.
+    (
+        16,
+        b"GET /images/a/window?x=0&y=0&w=0&h=1 HTTP/1.1\r\n\r\n\
+          GET /images/a/window?x=0&y=0&w=0&h=1 HTTP/1.1\r\n\r\n",
+        2,
+    ),
+    // The reply that closes is another one of the same window.
+    (
+        16,
+        b"GET /images/a/window?x=0&y=0&w=1&h=1 HTTP/1.1\r\n\r\n\
+          GET /images/a/window?x=0&y=0&w=1&h=1 HTTP/1.1\r\nConnection: close\r\n\r\n",
+        1,
+    ),
+    // Lists and files go by the cache.
+    (
+        16,
+        b"GET /images HTTP/1.1\r\n\r\n\
+          GET /images/a HTTP/1.1\r\n\r\n\
+          GET /images/a/window?x=0&y=0&w=1&h=1 HTTP/1.1\r\n\r\n\
+          GET /images/a HTTP/1.1\r\n\r\n\
+          GET /images/c/window HTTP/1.1\r\n\r\n\
+          GET /images/a/window?x=0&y=0&w=1&h=1 HTTP/1.1\r\n\r\n\
+          GET /images HTTP/1.1\r\n\r\n",
+        1,
+    ),
+];

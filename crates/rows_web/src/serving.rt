@@ -32,7 +32,7 @@ impl Service for Echo {
 
 /// Gives at most so many bytes a read, and fails behind the last one or is at its end.
 #[derive(Drop)]
-struct Source {
+pub(crate) struct Source {
     bytes: Vec<u8>,
     at: usize,
     most: usize,
@@ -58,8 +58,8 @@ impl Read for Source {
 
 /// Takes at most so many bytes a write, and so many in all.
 #[derive(Drop)]
-struct Sink {
-    bytes: Vec<u8>,
+pub(crate) struct Sink {
+    pub(crate) bytes: Vec<u8>,
     most: usize,
     room: usize,
     fails: bool,
@@ -83,7 +83,12 @@ impl Write for Sink {
     }
 }
 
-fn read_from(alloc: Global, bytes: &[u8], most: usize, fails: bool) -> Result<Source, Fail> {
+pub(crate) fn read_from(
+    alloc: Global,
+    bytes: &[u8],
+    most: usize,
+    fails: bool,
+) -> Result<Source, Fail> {
     Ok(Source {
         bytes: Vec::from_slice(alloc, bytes)?,
         at: 0,
@@ -92,7 +97,7 @@ fn read_from(alloc: Global, bytes: &[u8], most: usize, fails: bool) -> Result<So
     })
 }
 
-fn write_to(alloc: Global, most: usize, room: usize, fails: bool) -> Sink {
+pub(crate) fn write_to(alloc: Global, most: usize, room: usize, fails: bool) -> Sink {
     Sink {
         bytes: Vec::new(alloc),
         most,

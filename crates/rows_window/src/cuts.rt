@@ -1,5 +1,6 @@
 //! Indexes and cuts.
 
+use crate::asserts::equal;
 use crate::many::MANY;
 use crate::texts::bytes_of;
 use jk_marks::Order;
@@ -59,16 +60,18 @@ fn numbers(index: &Index) -> (u32, u32, u16, u8, u8) {
 fn readers(rt: HostRuntime) -> Result<(), Fail> {
     let alloc = rt.alloc();
     let page = index(alloc, &bytes_of(alloc, &[PAGE])?)?;
-    assert_eq!(rt; numbers(&page), (1, 1, 1, 8, 0));
-    assert_eq!(rt;
+    equal(&rt, numbers(&page), (1, 1, 1, 8, 0));
+    equal(
+        &rt,
         (page.layers(), page.order(), page.tiles(), page.packets()),
-        (1, Order::Lrcp, 1, 1)
+        (1, Order::Lrcp, 1, 1),
     );
     let many = index(alloc, &bytes_of(alloc, &[MANY])?)?;
-    assert_eq!(rt; numbers(&many), (64, 64, 1, 8, 2));
-    assert_eq!(rt;
+    equal(&rt, numbers(&many), (64, 64, 1, 8, 2));
+    equal(
+        &rt,
         (many.layers(), many.order(), many.tiles(), many.packets()),
-        (3, Order::Lrcp, 1, 252)
+        (3, Order::Lrcp, 1, 252),
     );
     Ok(())
 }
@@ -80,11 +83,12 @@ fn a_packet_emptied(rt: HostRuntime) -> Result<(), Fail> {
     let new = "FF90 000A 0000 00000012 00 01 FF93 C0 21 03 00 FFD9";
     let file = bytes_of(alloc, &[SMALL, old])?;
     let reply = cut_of(alloc, &file, view(1, 0, 0, 1, 1))??;
-    assert_eq!(rt;
+    equal(
+        &rt,
         reply.as_slice(),
-        bytes_of(alloc, &[SMALL, new])?.as_slice()
+        bytes_of(alloc, &[SMALL, new])?.as_slice(),
     );
-    assert_eq!(rt; reply.len(), 88);
+    equal(&rt, reply.len(), 88);
     Ok(())
 }
 
@@ -96,8 +100,8 @@ fn a_box_that_shrinks(rt: HostRuntime) -> Result<(), Fail> {
     let file = bytes_of(alloc, &[BOXES, "00000066 6A703263", SMALL, old])?;
     let reply = cut_of(alloc, &file, view(1, 0, 0, 1, 1))??;
     let due = bytes_of(alloc, &[BOXES, "00000060 6A703263", SMALL, new])?;
-    assert_eq!(rt; (file.len(), reply.len()), (179, 173));
-    assert_eq!(rt; reply.as_slice(), due.as_slice());
+    equal(&rt, (file.len(), reply.len()), (179, 173));
+    equal(&rt, reply.as_slice(), due.as_slice());
     Ok(())
 }
 
@@ -107,16 +111,18 @@ fn views_without_a_window(rt: HostRuntime) -> Result<(), Fail> {
     let file = bytes_of(alloc, &[COLUMN])?;
     let kept = index(alloc, &file)?;
     let whole = cut(alloc, &kept, &file, view(0, 0, 8, 5, 5))?;
-    assert_eq!(rt; whole.as_slice(), file.as_slice());
-    assert_eq!(rt; kept.sees(view(0, 0, 8, 5, 5)), Ok(()));
-    assert_eq!(rt; kept.sees(view(2, 0, 0, 1, 1)), Err(Fault::BadWindow));
-    assert_eq!(rt;
+    equal(&rt, whole.as_slice(), file.as_slice());
+    equal(&rt, kept.sees(view(0, 0, 8, 5, 5)), Ok(()));
+    equal(&rt, kept.sees(view(2, 0, 0, 1, 1)), Err(Fault::BadWindow));
+    equal(
+        &rt,
         cut(alloc, &kept, &file, view(0, 0, 9, 1, 1)).err(),
-        Some(Fault::BadWindow)
+        Some(Fault::BadWindow),
     );
-    assert_eq!(rt;
+    equal(
+        &rt,
         cut(alloc, &kept, &file, view(0, 0, 0, 0, 1)).err(),
-        Some(Fault::BadWindow)
+        Some(Fault::BadWindow),
     );
     Ok(())
 }
@@ -129,10 +135,11 @@ fn lengths_left_out(rt: HostRuntime) -> Result<(), Fail> {
     let new = "FF90 000A 0000 00000011 00 01 FF93 C0 21 03 FFD9";
     let file = bytes_of(alloc, &[PASSED, old])?;
     let reply = cut_of(alloc, &file, view(0, 0, 0, 1, 1))??;
-    assert_eq!(rt; (file.len(), reply.len()), (115, 99));
-    assert_eq!(rt;
+    equal(&rt, (file.len(), reply.len()), (115, 99));
+    equal(
+        &rt,
         reply.as_slice(),
-        bytes_of(alloc, &[PASSED, new])?.as_slice()
+        bytes_of(alloc, &[PASSED, new])?.as_slice(),
     );
     Ok(())
 }
@@ -142,13 +149,15 @@ fn another_file(rt: HostRuntime) -> Result<(), Fail> {
     let alloc = rt.alloc();
     let page = index(alloc, &bytes_of(alloc, &[PAGE])?)?;
     let other = bytes_of(alloc, &[COLUMN])?;
-    assert_eq!(rt;
+    equal(
+        &rt,
         cut(alloc, &page, &other, view(0, 0, 0, 1, 1)).err(),
-        Some(Fault::Changed)
+        Some(Fault::Changed),
     );
-    assert_eq!(rt;
+    equal(
+        &rt,
         cut(alloc, &page, &[0xFF], view(0, 0, 0, 1, 1)).err(),
-        Some(Fault::Changed)
+        Some(Fault::Changed),
     );
     Ok(())
 }
@@ -232,16 +241,16 @@ static OF_INNER: [usize; 8] = [0, 4, 5, 8, 20, 21, 28, 29];
 fn many_packets(rt: HostRuntime) -> Result<(), Fail> {
     let alloc = rt.alloc();
     let file = bytes_of(alloc, &[MANY])?;
-    assert_eq!(rt; packet_places(alloc, &file)?.len(), 253);
+    equal(&rt, packet_places(alloc, &file)?.len(), 253);
     let (due, emptied) = due_cut(alloc, &file, &OF_CORNER)?;
-    assert_eq!(rt; emptied, 243);
+    equal(&rt, emptied, 243);
     let corner = cut_of(alloc, &file, view(0, 0, 0, 3, 3))??;
-    assert_eq!(rt; corner.as_slice(), due.as_slice());
+    equal(&rt, corner.as_slice(), due.as_slice());
     let (due, emptied) = due_cut(alloc, &file, &OF_INNER)?;
-    assert_eq!(rt; emptied, 228);
+    equal(&rt, emptied, 228);
     let inner = cut_of(alloc, &file, view(0, 8, 8, 3, 3))??;
-    assert_eq!(rt; inner.as_slice(), due.as_slice());
+    equal(&rt, inner.as_slice(), due.as_slice());
     let again = cut_of(alloc, &inner, view(0, 8, 8, 3, 3))??;
-    assert_eq!(rt; again.as_slice(), inner.as_slice());
+    equal(&rt, again.as_slice(), inner.as_slice());
     Ok(())
 }

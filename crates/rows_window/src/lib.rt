@@ -2,7 +2,11 @@
 #![tactic(auto)]
 
 #[cfg(test)]
+mod asserts;
+#[cfg(test)]
 mod cuts;
+#[cfg(test)]
+mod decoded;
 #[cfg(test)]
 mod many;
 #[cfg(test)]

@@ -1,5 +1,6 @@
 //! What the files of windows mean, beside the whole image.
 
+use crate::asserts::equal;
 use crate::many::MANY;
 use crate::texts::bytes_of;
 use jk_code::{decode, window};
@@ -67,15 +68,15 @@ fn view(reduce: u32, x: u32, y: u32, width: u32, height: u32) -> View {
 fn windows_are_those_of_the_image(rt: HostRuntime) -> Result<(), Fail> {
     let alloc = rt.alloc();
     let corner = shown(alloc, view(0, 0, 0, 3, 3))?;
-    assert_eq!(rt; corner.0, 9);
+    equal(&rt, corner.0, 9);
     let inner = shown(alloc, view(0, 8, 8, 3, 3))?;
-    assert_eq!(rt; inner.0, 9);
+    equal(&rt, inner.0, 9);
     let strip = shown(alloc, view(0, 17, 41, 40, 2))?;
-    assert_eq!(rt; strip.0, 80);
+    equal(&rt, strip.0, 80);
     let reduced = shown(alloc, view(1, 5, 7, 10, 4))?;
-    assert_eq!(rt; reduced.0, 40);
+    equal(&rt, reduced.0, 40);
     let smallest = shown(alloc, view(2, 1, 0, 3, 16))?;
-    assert_eq!(rt; smallest.0, 48);
+    equal(&rt, smallest.0, 48);
     // The rest isn't that of the image.
     assert!(rt; corner.1 < 4096 && inner.1 < 4096 && strip.1 < 4096);
     Ok(())

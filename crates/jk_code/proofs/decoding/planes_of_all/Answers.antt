@@ -1,15 +1,21 @@
-use Rattle.std.proofs.Common.{◌≡◌, ◌<◌, length, ◌∙◌, ap, sym, subst, inl, inr, arith}
+use Rattle.std.proofs.Common.{◌≡◌, ◌<◌, List, ℤ, length, ◌∙◌, ap, sym, subst, inl, inr, arith}
 use Rattle.std.proofs.lemmas.Bool.{cases_eq}
 use Rattle.std.proofs.lemmas.Result.{err_from_is_err_and}
-use Rattle.jk_math.specs.Raster.{places_of}
+use Rattle.std.specs.Global.{Vec}
+use Rattle.jk_math.specs.Picture.{lists_of}
 use Rattle.jk_marks.specs.declared.siz.Siz.{Siz}
 use Rattle.jk_marks.specs.Siz.{tile_count}
 use Rattle.jk_walk.proofs.Laws.{packets_within}
 use Rattle.jk_tile.specs.TileReading.{each, tested, tile_planes_at}
-use Rattle.jk_tile.proofs.Laws.{each_none, each_more, each_fails, refuses_on, tested_ok, tested_err}
-use Rattle.jk_code.specs.MeaningReading.{places_at, planes_of_tiles}
-use Rattle.jk_code.specs.Tiles.{ShowsTileAt}
-use Rattle.jk_code.proofs.Placing.{tile_kept, planes_are, ends_of, tile_places, tile_due}
+use Rattle.jk_tile.proofs.Laws.{each_none, each_more, each_fails, refuses_on, tested_ok, tested_err, tile_tested}
+use Rattle.jk_math.specs.declared.rect.Rect.{Rect}
+use Rattle.jk_geom.specs.Rectangles.{IsArea, IsWithin, tile_area}
+use Rattle.jk_tile.specs.Filling.{IsPartOf}
+use Rattle.jk_tile.specs.TileMeaning.{shown_area}
+use Rattle.jk_window.specs.Views.{frame_of}
+use Rattle.jk_code.specs.MeaningReading.{places_at}
+use Rattle.jk_code.specs.Tiles.{IsPartSeen, part_lists, ShowsTileAt}
+use Rattle.jk_code.proofs.Placing.{planes_are, part_is, tile_part, own_part, ends_of, tile_places, tile_due}
 use Rattle.jk_code.proofs.decoding.planes_of_all.Goals as goal
 
 pub loop-number-init : goal.loop-number-init
@@ -21,7 +27,7 @@ loop-number-init c =
       tested = each_none _;
       planes = record {
         count = c.in_ok-planes.ensures.count ∙ siz;
-        each = λ i lt. c.in_ok-planes.ensures.each i (omega (arith, lt, siz)) ∙ ap places_of c.requires.area;
+        each = λ i lt. c.in_ok-planes.ensures.each i (omega (arith, lt, siz));
       };
       shows = λ t lt. absurd (omega (arith, lt));
     }
@@ -56,6 +62,27 @@ put_tile-requires-clause-packets c =
     let lt : c.loop-number.number < tile_count h.siz = omega (arith, c.loop-number-test.true, c.loop-number.invariant.end_is) in
     tile_places c.args.bytes.now h (tile_count h.siz) c.loop-number.number c.args.packets.now c.index-packets-number.result c.requires.packets lt c.index-packets-number.is
 
+pub put_tile-requires-clause-part : goal.put_tile-requires-clause-part
+put_tile-requires-clause-part c =
+    let h = c.args.headers.now in
+    let t = c.loop-number.number in
+    let d = c.args.reduce in
+    let part = part_is h t d c.siz-in-loop-number.result.now c.tile.result c.reduced-part.result c.siz-in-loop-number.ensures c.tile.ensures.value c.reduced-part.ensures.value in
+    let is : IsArea (tile_area h.siz t) = subst IsArea (c.tile.ensures.value ∙ ap (λ (s : Siz). tile_area s t) c.siz-in-loop-number.ensures) c.tile.ensures.area in
+    let own : IsPartOf (shown_area h.siz t d) (shown_area h.siz t d) = own_part (shown_area h.siz t d) (frame_of h d) (tile_part h t d is) in
+    subst (IsPartSeen h d t c.args.area.now) (sym part)
+    (subst (λ (a : Rect). IsPartSeen h d t a (shown_area h.siz t d)) (sym c.requires.area) (record { inside = tile_part h t d is; tile = own; all = λ x y within inside. within }))
+
+pub put_tile-requires-clause-shown : goal.put_tile-requires-clause-shown
+put_tile-requires-clause-shown c =
+    let bytes = c.args.bytes.now in
+    let h = c.args.headers.now in
+    let t = c.loop-number.number in
+    let d = c.args.reduce in
+    let part = part_is h t d c.siz-in-loop-number.result.now c.tile.result c.reduced-part.result c.siz-in-loop-number.ensures c.tile.ensures.value c.reduced-part.ensures.value in
+    ap (λ (vs : List (Vec ℤ)). lists_of vs) c.deref.ensures.value ∙ (tile_tested bytes h t d c.index-packets-number.result _ c.in_ok-shown.ensures.exact).1
+    ∙ ap (λ (u : Rect). part_lists bytes h t d u c.index-packets-number.result) (sym part)
+
 pub loop-number-preserved : goal.loop-number-preserved
 loop-number-preserved c =
     let bytes = c.args.bytes.now in
@@ -70,18 +97,15 @@ loop-number-preserved c =
       tested = each_more t (λ n. tested (tile_planes_at bytes h n d (places_at bytes h n))) c.loop-number.invariant.tested (tested_ok (tile_planes_at bytes h t d (places_at bytes h t)) _ (tile_due bytes h d t places read ∙ c.in_ok-shown.ensures.exact));
       planes = c.put_tile.ensures.planes;
       shows = λ n less. elim (cases_eq n t) [
-        | inl same ↦ subst (λ k. ShowsTileAt bytes h d k h.siz.components c.put_tile.new.planes.items) (sym same) c.put_tile.ensures.shows
-        | inr other ↦
-            let few : n < tile_count h.siz = omega (arith, less, lt) in
-            tile_kept bytes h d n c.loop-number.planes.items c.put_tile.new.planes.items c.requires.sound.siz few c.put_tile.ensures.keeps (c.loop-number.invariant.shows n (omega (arith, less, other)))
+        | inl same ↦ subst (λ k. ShowsTileAt bytes h d c.args.area.now k h.siz.components c.put_tile.new.planes.items) (sym same) c.put_tile.ensures.shows
+        | inr other ↦ λ i x y some within inside. c.put_tile.ensures.keeps i x y some inside (c.loop-number.invariant.shows n (omega (arith, less, other)) i x y some within inside)
       ];
     }
 
 pub returns-clause-planes : goal.returns-clause-planes
 returns-clause-planes c =
     let h = c.args.headers.now in
-    planes_are c.args.bytes.now h c.args.reduce c.loop-number.planes.items c.requires.sound.siz c.loop-number.invariant.planes (λ t lt. c.loop-number.invariant.shows t (omega (arith, lt, c.loop-number-test.false, c.loop-number.invariant.end_is)))
-    ∙ ap (planes_of_tiles c.args.bytes.now h c.args.reduce) (sym c.requires.area)
+    planes_are c.args.bytes.now h c.args.reduce c.args.area.now c.loop-number.planes.items c.requires.sound.siz (λ x y. subst (λ (a : Rect). IsWithin a x y → IsWithin (frame_of h c.args.reduce) x y) (sym c.requires.area) (λ within. within)) c.loop-number.invariant.planes (λ t lt. c.loop-number.invariant.shows t (omega (arith, lt, c.loop-number-test.false, c.loop-number.invariant.end_is)))
 
 pub returns-clause-exact : goal.returns-clause-exact
 returns-clause-exact c =

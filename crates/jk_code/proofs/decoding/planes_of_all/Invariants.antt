@@ -9,6 +9,6 @@ abbrev pub invariant-loop-number : goal.invariant-loop-number
 invariant-loop-number l = record {
   end_is : l.number-end ≡ tile_count l.headers.siz;
   tested : tiles_tested l.bytes l.headers l.reduce l.number ≡ fine;
-  planes : ArePlanes l.headers l.reduce l.planes.items;
-  shows : (t : ℕ) → t < l.number → ShowsTileAt l.bytes l.headers l.reduce t l.headers.siz.components l.planes.items;
+  planes : ArePlanes l.headers l.area l.planes.items;
+  shows : (t : ℕ) → t < l.number → ShowsTileAt l.bytes l.headers l.reduce l.area t l.headers.siz.components l.planes.items;
 }

@@ -3,7 +3,7 @@ use Rattle.jk_code.proofs.decoding.put_tile.Given as goal
 
 abbrev pub invariant-loop-c : goal.invariant-loop-c
 invariant-loop-c l = record {
-  planes : ArePlanes l.headers l.reduce l.planes.items;
-  keeps : Keeps l.bytes l.headers l.reduce l.fn.planes.items l.planes.items;
-  shows : ShowsTileAt l.bytes l.headers l.reduce l.number l.c l.planes.items;
+  planes : ArePlanes l.headers l.area l.planes.items;
+  keeps : Keeps l.bytes l.headers l.reduce l.area l.fn.planes.items l.planes.items;
+  shows : ShowsTileAt l.bytes l.headers l.reduce l.area l.number l.c l.planes.items;
 }

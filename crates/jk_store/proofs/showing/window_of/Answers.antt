@@ -42,3 +42,11 @@ returns-in-Some-clause-keeps g c = λ images. keeps_on g.S.Shelf.keeps c.args.sh
 
 pub returns-in-None-clause-gives : goal.returns-in-None-clause-gives
 returns-in-None-clause-gives g c = λ images shows. absent_image c.args.name.now (map arc_value c.args.entries.now) images shows (sym c.in-None.ensures)
+
+pub returns-in-Some-clause-made : goal.returns-in-Some-clause-made
+returns-in-Some-clause-made g c =
+    let e = c.deref.result.now in
+    let is : entry_of (map arc_value c.args.entries.now) c.args.name.now ≡ Some e = sym c.in-Some.ensures ∙ ap Some (sym c.deref.ensures) in
+    if_ok c.window.result
+    (λ w given. (e, given.0, is, given.1.1, subst (λ v. IsCutFrom e.index v given.0 w.items) c.view.ensures given.2))
+    c.window.ensures.given

@@ -4,9 +4,9 @@ use Rattle.std.proofs.lemmas.Bool.{cases_eq}
 use Rattle.std.proofs.lemmas.Result.{err_from_is_err_and}
 use Rattle.jk_walk.specs.TilePackets.{orientations}
 use Rattle.jk_tile.specs.Gathered.{list_at}
-use Rattle.jk_tile.specs.TileReading.{each, band_tested}
+use Rattle.jk_tile.specs.TileReading.{each, met_tested}
 use Rattle.jk_tile.specs.Source.{source_bodies, block_count, Keeps, ShowsBlocks, IsPlane}
-use Rattle.jk_tile.proofs.Steps.{each_none, each_more, each_fails, refuses_on, precinct_by}
+use Rattle.jk_tile.proofs.Steps.{each_none, each_more, each_fails, refuses_on, precinct_part_by}
 use Rattle.jk_tile.proofs.Showing.{lent_plane, planes_put, planes_keep, planes_show, shown_on, plane_back}
 use Rattle.jk_tile.proofs.reading.read_precinct.Goals as goal
 
@@ -29,9 +29,9 @@ returns-in_err-read_band-clause-exact c =
     let e = c.in_err-read_band.field-0.0 in
     let q = err_from_is_err_and c.from_residual.result c.from_residual.ensures.1 in
     let lt : c.loop-i.i < length (orientations c.args.r) = omega (arith, c.loop-i-test.true, c.band_count-i-end.ensures) in
-    rw (q.1, q.2) (refuses_on e (band_tested s.rect s.coding c.args.r c.args.n c.loop-i.i bodies) _ c.in_err-read_band.ensures.exact
-    (λ h. precinct_by s.rect s.coding c.args.r c.args.n bodies
-    ∙ each_fails (length (orientations c.args.r)) c.loop-i.i (λ i. band_tested s.rect s.coding c.args.r c.args.n i bodies) e lt c.loop-i.invariant.tested h))
+    rw (q.1, q.2) (refuses_on e (met_tested s.region s.coding c.args.r c.args.n c.loop-i.i bodies) _ c.in_err-read_band.ensures.exact
+    (λ h. precinct_part_by s.region s.coding c.args.r c.args.n bodies
+    ∙ each_fails (length (orientations c.args.r)) c.loop-i.i (λ i. met_tested s.region s.coding c.args.r c.args.n i bodies) e lt c.loop-i.invariant.tested h))
 
 pub returns-in_err-read_band-clause-planes : goal.returns-in_err-read_band-clause-planes
 returns-in_err-read_band-clause-planes c =
@@ -59,7 +59,7 @@ loop-i-preserved c =
     let keeps = subst (λ p. Keeps s c.args.r c.loop-i.i p c.read_band.new.plane) lent.0 c.in_ok-read_band.ensures.keeps in
     let later = planes_keep s c.args.r c.loop-i.i c.loop-i.planes.items (with_items c.index_mut.result.now c.read_band.new.plane) c.loop-i.invariant.planes lt (subst (Keeps s c.args.r c.loop-i.i (list_at c.loop-i.planes.items c.loop-i.i)) (sym back) keeps) in
     record {
-      tested = each_more c.loop-i.i (λ i. band_tested s.rect s.coding c.args.r c.args.n i bodies) c.loop-i.invariant.tested c.in_ok-read_band.ensures.exact;
+      tested = each_more c.loop-i.i (λ i. met_tested s.region s.coding c.args.r c.args.n i bodies) c.loop-i.invariant.tested c.in_ok-read_band.ensures.exact;
       planes = planes_put s c.args.r c.loop-i.i c.loop-i.planes.items (with_items c.index_mut.result.now c.read_band.new.plane) c.loop-i.invariant.planes lt (subst (IsPlane s c.args.r c.loop-i.i) (sym back) c.in_ok-read_band.ensures.plane);
       keeps = λ i few x y h before. later i x y h (c.loop-i.invariant.keeps i few x y h before);
       shows = λ i less few. elim (cases_eq i c.loop-i.i) [
@@ -74,4 +74,4 @@ returns-clause-exact c =
     let s = c.args.source.now in
     let bodies = source_bodies s c.args.r c.args.n in
     let count : c.loop-i.i ≡ length (orientations c.args.r) = omega (arith, c.loop-i-test.false, c.loop-i.auto.i-end, c.band_count-i-end.ensures) in
-    precinct_by s.rect s.coding c.args.r c.args.n bodies ∙ ap (λ k. each k (λ i. band_tested s.rect s.coding c.args.r c.args.n i bodies)) (sym count) ∙ c.loop-i.invariant.tested
+    precinct_part_by s.region s.coding c.args.r c.args.n bodies ∙ ap (λ k. each k (λ i. met_tested s.region s.coding c.args.r c.args.n i bodies)) (sym count) ∙ c.loop-i.invariant.tested

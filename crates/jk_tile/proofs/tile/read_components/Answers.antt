@@ -11,9 +11,8 @@ use Rattle.jk_geom.specs.Rectangles.{tile_area}
 use Rattle.jk_geom.specs.TileShapes.{coding_of}
 use Rattle.jk_params.specs.Headers.{tile_in}
 use Rattle.jk_tile.specs.Gathered.{list_at}
-use Rattle.jk_tile.specs.TileMeaning.{shown_area}
-use Rattle.jk_tile.specs.TileReading.{each, component_tested, component_at, bodies_of, component_values}
-use Rattle.jk_tile.specs.Source.{source_bodies}
+use Rattle.jk_tile.specs.TileReading.{each, component_part_tested, bodies_of, component_values}
+use Rattle.jk_tile.specs.Source.{source_values}
 use Rattle.jk_tile.proofs.Steps.{each_none, each_more, each_fails, refuses_on}
 use Rattle.jk_tile.proofs.Components.{source_is, component_then, component_not, lists_push, small_push, values_fine, values_err, coding_read, levels_read}
 use Rattle.jk_tile.proofs.tile.read_components.Goals as goal
@@ -33,7 +32,8 @@ new-source-requires c =
     let rect = c.tile-rect.ensures.value ∙ ap (λ s. tile_area s c.args.number) c.siz.ensures in
     let coding = coding_read (tile_in h.tiles c.args.number).codings c.as_slice-codings.result.now c.loop-c.c c.index-codings-c.result slice lt c.index-codings-c.is in
     let fits : length c.args.bytes.now < 2 ^ 64 = search rules in
-    source_is c.args.bytes.now h c.args.number c.loop-c.c c.tile-rect.result c.index-codings-c.result c.args.packets.now c.requires.sound c.requires.number lt c.tile-rect.ensures.area rect coding fits c.requires.packets
+    let levels = levels_read (tile_in h.tiles c.args.number).codings c.loop-c.c c.args.reduce c.index-codings-c.result c.requires.levels lt coding in
+    source_is c.args.bytes.now h c.args.number c.loop-c.c c.args.reduce c.tile-rect.result c.args.area.now c.index-codings-c.result c.args.packets.now c.requires.sound c.requires.number lt c.tile-rect.ensures.area rect coding levels c.requires.inside fits c.requires.packets
 
 pub returns-in_err-read_component-clause-exact : goal.returns-in_err-read_component-clause-exact
 returns-in_err-read_component-clause-exact c =
@@ -47,10 +47,10 @@ returns-in_err-read_component-clause-exact c =
     let s = c.new-source.result in
     let q = err_from_is_err_and c.from_residual.result c.from_residual.ensures.1 in
     let lt : c.loop-c.c < h.siz.components = omega (arith, few, (c.requires.sound.each t c.requires.number).all) in
-    rw (q.1, q.2) (refuses_on e (component_at s.rect s.coding c.args.reduce (source_bodies s)) _ c.in_err-read_component.ensures.exact
-    (λ is. values_err c.args.bytes.now h t c.args.reduce c.args.packets.now e
-    (each_fails h.siz.components c.loop-c.c (λ i. component_tested (tile_area h.siz t) (coding_of (tile_in h.tiles t).codings i) c.args.reduce (bodies_of c.args.bytes.now c.args.packets.now i)) e lt c.loop-c.invariant.tested
-    (component_not c.args.bytes.now h t c.args.reduce c.loop-c.c c.tile-rect.result c.index-codings-c.result c.args.packets.now s e c.new-source.ensures rect coding is))))
+    rw (q.1, q.2) (refuses_on e (source_values s) _ c.in_err-read_component.ensures.exact
+    (λ is. values_err c.args.bytes.now h t c.args.reduce c.args.area.now c.args.packets.now e
+    (each_fails h.siz.components c.loop-c.c (λ i. component_part_tested (tile_area h.siz t) (coding_of (tile_in h.tiles t).codings i) c.args.reduce c.args.area.now (bodies_of c.args.bytes.now c.args.packets.now i)) e lt c.loop-c.invariant.tested
+    (component_not c.args.bytes.now h t c.args.reduce c.loop-c.c c.tile-rect.result c.args.area.now c.index-codings-c.result c.args.packets.now s e c.new-source.ensures rect coding is))))
 
 pub loop-c-preserved : goal.loop-c-preserved
 loop-c-preserved c =
@@ -60,12 +60,11 @@ loop-c-preserved c =
     let few : c.loop-c.c < length (tile_in h.tiles t).codings = omega (arith, c.loop-c-test.true, ap (λ (ks : List Coding). length ks) slice) in
     let rect = c.tile-rect.ensures.value ∙ ap (λ s. tile_area s t) c.siz.ensures in
     let coding = coding_read (tile_in h.tiles t).codings c.as_slice-codings.result.now c.loop-c.c c.index-codings-c.result slice few c.index-codings-c.is in
-    let levels = levels_read (tile_in h.tiles t).codings c.loop-c.c c.args.reduce c.index-codings-c.result c.requires.levels few coding in
     let v = c.in_ok-read_component.field-0 in
-    let is = component_then c.args.bytes.now h t c.args.reduce c.loop-c.c c.tile-rect.result c.index-codings-c.result c.args.packets.now c.new-source.result v.items c.new-source.ensures rect coding levels c.in_ok-read_component.ensures.exact in
+    let is = component_then c.args.bytes.now h t c.args.reduce c.loop-c.c c.tile-rect.result c.args.area.now c.index-codings-c.result c.args.packets.now c.new-source.result v.items c.new-source.ensures rect coding c.in_ok-read_component.ensures.exact in
     record {
-      tested = each_more c.loop-c.c (λ i. component_tested (tile_area h.siz t) (coding_of (tile_in h.tiles t).codings i) c.args.reduce (bodies_of c.args.bytes.now c.args.packets.now i)) c.loop-c.invariant.tested is.0;
-      lists = lists_push (λ i. raster (shown_area h.siz t c.args.reduce) (component_values c.args.bytes.now h t c.args.reduce c.args.packets.now i)) c.loop-c.c c.loop-c.values.items c.push.new.self.items v c.loop-c.invariant.lists c.in_ok-push.ensures.items is.1;
+      tested = each_more c.loop-c.c (λ i. component_part_tested (tile_area h.siz t) (coding_of (tile_in h.tiles t).codings i) c.args.reduce c.args.area.now (bodies_of c.args.bytes.now c.args.packets.now i)) c.loop-c.invariant.tested is.0;
+      lists = lists_push (λ i. raster c.args.area.now (component_values c.args.bytes.now h t c.args.reduce c.args.packets.now i)) c.loop-c.c c.loop-c.values.items c.push.new.self.items v c.loop-c.invariant.lists c.in_ok-push.ensures.items is.1;
       small = λ i. subst (λ (vs : List (Vec ℤ)). All (IsBelow (2 ^ 29)) (list_at vs i)) (sym c.in_ok-push.ensures.items) (small_push (2 ^ 29) c.loop-c.values.items v c.loop-c.invariant.small c.in_ok-read_component.ensures.small i);
     }
 
@@ -75,6 +74,6 @@ returns-clause-exact c =
     let t = c.args.number in
     let slice = c.as_slice-codings.ensures ∙ c.codings.ensures in
     let all : c.loop-c.c ≡ h.siz.components = omega (arith, c.loop-c-test.false, c.loop-c.auto.c-end, ap (λ (ks : List Coding). length ks) slice, (c.requires.sound.each t c.requires.number).all) in
-    values_fine c.args.bytes.now h t c.args.reduce c.args.packets.now
-    (ap (λ n. each n (λ i. component_tested (tile_area h.siz t) (coding_of (tile_in h.tiles t).codings i) c.args.reduce (bodies_of c.args.bytes.now c.args.packets.now i))) (sym all) ∙ c.loop-c.invariant.tested)
-    ∙ ap Ok (ap (λ n. map (λ i. raster (shown_area h.siz t c.args.reduce) (component_values c.args.bytes.now h t c.args.reduce c.args.packets.now i)) (range_with_len 0 n)) (sym all) ∙ sym c.loop-c.invariant.lists)
+    values_fine c.args.bytes.now h t c.args.reduce c.args.area.now c.args.packets.now
+    (ap (λ n. each n (λ i. component_part_tested (tile_area h.siz t) (coding_of (tile_in h.tiles t).codings i) c.args.reduce c.args.area.now (bodies_of c.args.bytes.now c.args.packets.now i))) (sym all) ∙ c.loop-c.invariant.tested)
+    ∙ ap Ok (ap (λ n. map (λ i. raster c.args.area.now (component_values c.args.bytes.now h t c.args.reduce c.args.packets.now i)) (range_with_len 0 n)) (sym all) ∙ sym c.loop-c.invariant.lists)

@@ -1,27 +1,22 @@
-use Rattle.std.proofs.Common.{◌≡◌, Ok, ◌∙◌, ap, sym, arith}
+use Rattle.std.proofs.Common.{ℕ, ℤ, Ok, sym, ◌∙◌, ap, subst}
+use Rattle.jk_math.specs.declared.rect.Rect.{Rect}
 use Rattle.jk_math.specs.Raster.{raster}
-use Rattle.jk_geom.specs.Rectangles.{resolution_area}
-use Rattle.jk_wave.specs.Resolutions.{resolution_of}
 use Rattle.jk_wave.specs.Bands.{coefficients_of}
-use Rattle.jk_wave.proofs.Climbing.{lowest_raster, resolution_small}
+use Rattle.jk_wave.specs.Regions.{AreBandParts, ShowsParts}
+use Rattle.jk_wave.specs.Resolutions.{resolution_of}
+use Rattle.jk_wave.proofs.PartSamples.{whole_parts, whole_shown}
 use Rattle.jk_wave.proofs.backward.synthesise.Goals as goal
 
-pub returns-then-r-eq0-clause-exact : goal.returns-then-r-eq0-clause-exact
-returns-then-r-eq0-clause-exact c =
-    let bands = c.args.bands.now in
-    let none : 0 ≡ c.args.r = omega arith in
-    let made = c.in_ok-from_slice.ensures.items ∙ c.plane.ensures ∙ lowest_raster bands.rect bands.levels c.args.r bands.bands c.requires.bands
-    ∙ ap (λ n. raster (resolution_area bands.rect bands.levels n) (resolution_of bands.rect bands.levels (coefficients_of bands.rect bands.levels bands.bands) n)) none in
-    ap Ok (sym made)
+pub synthesise_region-requires-clause-parts : goal.synthesise_region-requires-clause-parts
+synthesise_region-requires-clause-parts c =
+    let b = c.args.bands.now in
+    subst (λ (q : Rect). AreBandParts (record { rect = b.rect; levels = b.levels; top = c.args.r; area = q }) b.bands) (sym c.resolution.ensures.value)
+    (whole_parts b.rect b.levels c.args.r b.bands c.requires.r c.requires.bands)
 
-pub next_resolution-requires-clause-below : goal.next_resolution-requires-clause-below
-next_resolution-requires-clause-below c =
-    let bands = c.args.bands.now in
-    c.plane-2.ensures ∙ lowest_raster bands.rect bands.levels c.args.r bands.bands c.requires.bands
-
-pub returns-clause-small : goal.returns-clause-small
-returns-clause-small c =
-    let bands = c.args.bands.now in
-    let top : c.loop-q.q ≡ c.args.r = omega arith in
-    resolution_small bands.rect bands.levels c.args.r bands.bands c.loop-q.plane.items c.requires.r c.requires.levels c.requires.bands
-    (c.loop-q.invariant ∙ ap (λ n. raster (resolution_area bands.rect bands.levels n) (resolution_of bands.rect bands.levels (coefficients_of bands.rect bands.levels bands.bands) n)) top)
+pub returns-clause-exact : goal.returns-clause-exact
+returns-clause-exact c =
+    let b = c.args.bands.now in
+    let f : ℕ → ℕ → ℕ → ℤ = coefficients_of b.rect b.levels b.bands in
+    let shown = subst (λ (q : Rect). ShowsParts (record { rect = b.rect; levels = b.levels; top = c.args.r; area = q }) b.bands f) (sym c.resolution.ensures.value)
+    (whole_shown b.rect b.levels c.args.r b.bands c.requires.r) in
+    ap Ok (sym (c.in_ok-synthesise_region.ensures.part f shown ∙ ap (λ q. raster q (resolution_of b.rect b.levels f c.args.r)) c.resolution.ensures.value))

@@ -2,7 +2,8 @@ use Rattle.std.proofs.Common.{ℕ, List, [], ◌++◌, take, inl, refl, sym, ap,
 use Rattle.jk_web.specs.Unread.{Unread}
 use Rattle.jk_web.specs.Heads.{IsQuiet}
 use Rattle.jk_web.specs.Serving.{Answered, nothing}
-use Rattle.jk_web.proofs.KnownLaws.{appends_none, consumes_none, appends_join, consumes_join, longer}
+use Rattle.jk_math.proofs.Laws.{appends_none, appends_join}
+use Rattle.jk_web.proofs.KnownLaws.{consumes_none, consumes_join, longer}
 use Rattle.jk_web.proofs.ServingLaws.{advance, answered_append, answered_join, ends_behind, refused_behind, quiet_nothing}
 use Rattle.jk_web.proofs.serving.serve_turns.Goals as goal
 

@@ -1,8 +1,5 @@
-use Rattle.jk_window.proofs.CutAgain.{codestream_again, front_again, cut_again}
+use Rattle.jk_window.proofs.CutAgain.{front_again, cut_again}
 use Rattle.jk_window.proofs.theorems.emptied_codestreams_are_codestreams.Goals as goal
-
-pub returns-clause-kept : goal.returns-clause-kept
-returns-clause-kept c = codestream_again
 
 pub returns-clause-fronts : goal.returns-clause-fronts
 returns-clause-fronts c = front_again

@@ -1,15 +1,13 @@
-use Rattle.std.proofs.Common.{◌≡◌, List, map, false, Ok, refl, sym, ap, ◌∙◌, subst}
+use Rattle.std.proofs.Common.{map, refl}
 use Rattle.std.specs.Arc.{arc_value}
-use Rattle.std.specs.Str.{bytes_eq}
-use Rattle.std.specs.String.{string_bytes}
 use Rattle.jk_code.specs.Written.{written}
 use Rattle.jk_store.specs.Files.{Files}
 use Rattle.jk_store.specs.Names.{temporary_name, file_name}
-use Rattle.jk_store.specs.Catalogue.{is_listed}
 use Rattle.jk_store.specs.Adding.{IsLeft}
 use Rattle.jk_store.proofs.OpenLaws.{fault_is}
 use Rattle.jk_store.proofs.AddedLaws.{archive_shows, archive_keeps, added}
 use Rattle.jk_store.proofs.AddLaws.{archive_named, archive_few, names_apart}
+use Rattle.jk_store.proofs.MadeLaws.{same_made, archive_made}
 use Rattle.jk_store.proofs.archive.Archive.add.Goals as goal
 
 pub invariant_of-self-2 : goal.invariant_of-self-2
@@ -60,3 +58,14 @@ returns-clause-keeps g c = λ images stands.
       made.stands.name,
       made.written,
     )
+
+pub returns-clause-made : goal.returns-clause-made
+returns-clause-made g c =
+    archive_made arc_value c.args.self.now.entries.items c.reserve.new.self.items c.push_reserved.new.self.items c.in_ok-listed.listed
+    c.push_reserved.ensures.items c.reserve.ensures.items
+
+pub returns-in_err-reserve-clause-made : goal.returns-in_err-reserve-clause-made
+returns-in_err-reserve-clause-made g c = same_made arc_value c.args.self.now.entries.items c.reserve.new.self.items c.reserve.ensures.items
+
+pub returns-in_err-store-clause-made : goal.returns-in_err-store-clause-made
+returns-in_err-store-clause-made g c = same_made arc_value c.args.self.now.entries.items c.reserve.new.self.items c.reserve.ensures.items

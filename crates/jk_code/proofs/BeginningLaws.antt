@@ -1,0 +1,226 @@
+-- Laws of what stands before a tile-part, and of the file as a whole.
+use Rattle.std.proofs.Common.{◌≡◌, ℕ, zero, suc, ◌+◌, ◌^◌, ◌<◌, ◌≤◌, ◌⊎◌, inl, inr, Bool, true, false, not, List, [], ◌∷◌, ◌++◌, length, map, replicate, Result, Ok, Err, IfOk, IfErr, refl, ap, sym, ◌∙◌, subst, arith, append_assoc}
+use Rattle.std.specs.List.{flat_map}
+use Rattle.std.proofs.lemmas.Bool.{cases_lt, lt-ltb, le-ltb, not-false}
+use Rattle.std.proofs.lemmas.List.{append-nil, length-append, length-replicate, append_cancel_right}
+use Rattle.jk_math.specs.Answer.{Refuses, Answers}
+use Rattle.jk_math.specs.Memory.{IsMemory}
+use Rattle.jk_math.specs.Picture.{Picture, IsPicture}
+use Rattle.jk_math.specs.Steps.{guarded, ok_is}
+use Rattle.jk_math.specs.declared.fault.Fault.{Fault}
+use Rattle.jk_math.specs.declared.fault.Fault.TheVariants.{Memory, BadParameters, Limit}
+use Rattle.jk_marks.specs.Markers.{marker_text, eoc}
+use Rattle.jk_marks.specs.Siz.{tile_count}
+use Rattle.jk_marks.specs.Codestream.{main_text, part_text, codestream_text, segments_of, only_part_of}
+use Rattle.jk_boxes.specs.Boxes.{Holds, box_text, signature}
+use Rattle.jk_boxes.specs.Written.{file_type_box, header_box, code_box, code_head, is_wrapped, wrapped}
+use Rattle.jk_boxes.proofs.Laws.{wrapped_holds}
+use Rattle.jk_params.specs.declared.parameters.Parameters.{Parameters}
+use Rattle.jk_params.specs.declared.parameters.Container.{Container}
+use Rattle.jk_params.specs.declared.parameters.Container.TheVariants.{Raw, Jp2}
+use Rattle.jk_params.specs.Profile.{siz_of, is_profile, is_contained, IsWrittenBy}
+use Rattle.jk_params.proofs.Laws.{part_text_length}
+use Rattle.jk_tile.specs.PacketsWritten.{tile_text}
+use Rattle.jk_window.specs.Views.{holds_below}
+use Rattle.jk_window.proofs.Laws.{below_none, below_more, below_fails, below_at, below_from}
+use Rattle.jk_code.specs.Meaning.{Means}
+use Rattle.jk_code.specs.Fronts.{HasFronts}
+use Rattle.jk_code.specs.Written.{main_for, part_for, part_fits, parts_fit, tree_for, contained, file_for, written}
+use Rattle.jk_code.specs.Beginnings.{front_of, parts_upto, text_upto, text_before, IsFirstTooLong}
+use Rattle.jk_code.specs.Sending.{IsTooLong, IsTooLongAhead}
+use Rattle.jk_code.proofs.LoopLaws.{parts_more}
+use Rattle.jk_code.proofs.WrittenLaws.{text_parts, holds_means, written_means, written_bare}
+use Rattle.jk_code.proofs.FrontLaws.{fronts_mean}
+
+-- ---- tile-parts
+
+pub only_length : (t : ℕ) (content : List ℕ) → length (part_text (only_part_of t content)) ≡ 14 + length content
+only_length t content = part_text_length (only_part_of t content)
+
+-- a head that makes a tile-part with its data has 14 bytes
+pub head_length : (t : ℕ) (head content : List ℕ) → head ++ content ≡ part_text (only_part_of t content) → length head ≡ 14
+head_length t head content e = let all = sym (length-append head content) ∙ ap length e ∙ only_length t content in omega (arith, all)
+
+pub parts_longer : (p : Picture) (q : Parameters) (n : ℕ) → length (parts_upto p q (n + 1)) ≡ length (parts_upto p q n) + (14 + length (tile_text p q n))
+parts_longer p q n =
+    ap length (parts_more (part_for p q) n) ∙ length-append (parts_upto p q n) (part_text (part_for p q n))
+    ∙ ap (λ k. length (parts_upto p q n) + k) (only_length n (tile_text p q n))
+
+-- the first tile-part
+pub parts_first : (p : Picture) (q : Parameters) → parts_upto p q 1 ≡ part_text (part_for p q 0)
+parts_first p q = append-nil (part_text (part_for p q 0))
+
+pub fits_said : (p : Picture) (q : Parameters) (t : ℕ) → 14 + length (tile_text p q t) < 2 ^ 32 → part_fits p q t ≡ true
+fits_said p q t short = lt-ltb (14 + length (tile_text p q t)) (2 ^ 32) short
+
+pub long_said : (p : Picture) (q : Parameters) (t : ℕ) → 2 ^ 32 ≤ 14 + length (tile_text p q t) → part_fits p q t ≡ false
+long_said p q t long = le-ltb (14 + length (tile_text p q t)) (2 ^ 32) long
+
+-- all fit where the first and those behind it do
+pub fits_from : (p : Picture) (q : Parameters) (n : ℕ) → ((t : ℕ) → 1 ≤ t → t < n → part_fits p q t ≡ true) → part_fits p q 0 ≡ true → holds_below (part_fits p q) n ≡ true
+fits_from p q n rest first = below_from (part_fits p q) n each
+  where
+    each : (t : ℕ) → t < n → part_fits p q t ≡ true
+    each zero lt = first
+    each (suc t) lt = rest (suc t) (omega arith) lt
+
+-- one more fits
+pub fits_more : (p : Picture) (q : Parameters) (n : ℕ) → ((t : ℕ) → 1 ≤ t → t < n → part_fits p q t ≡ true) → part_fits p q n ≡ true → (t : ℕ) → 1 ≤ t → t < n + 1 → part_fits p q t ≡ true
+fits_more p q n before last t some lt = elim (cases_lt t n) [
+  | inl less ↦ before t some less
+  | inr same ↦ let e : n ≡ t = omega (arith, lt, same) in ap (part_fits p q) (sym e) ∙ last
+]
+
+-- ---- the first that is too long
+
+-- all numbers below n pass a test, or one is the first that doesn't
+pub first_false : (f : ℕ → Bool) (n : ℕ) → (holds_below f n ≡ true) ⊎ ((m : ℕ) × (m < n) × (holds_below f m ≡ true) × (f m ≡ false))
+first_false f zero = inl (below_none f)
+first_false f (suc n) = elim (first_false f n) [
+  | inl all ↦ by (f n) refl all
+  | inr m ↦ inr (m.0, omega (arith, m.1), m.2, m.3)
+]
+  where
+    by : (b : Bool) → f n ≡ b → holds_below f n ≡ true → (holds_below f (suc n) ≡ true) ⊎ ((m : ℕ) × (m < suc n) × (holds_below f m ≡ true) × (f m ≡ false))
+    by true e all = let same : n + 1 ≡ suc n = omega arith in inl (ap (holds_below f) (sym same) ∙ below_more f n all e)
+    by false e all = inr (n, omega arith, all, e)
+
+pub first_too_long : (p : Picture) (q : Parameters) → IsTooLong p q → (n : ℕ) × IsFirstTooLong p q n
+first_too_long p q long = elim (first_false (part_fits p q) (tile_count (siz_of p q))) [
+  | inl all ↦ absurd (let both : true ≡ false = sym (below_at (part_fits p q) (tile_count (siz_of p q)) long.0 all long.1) ∙ long.2 in cc)
+  | inr m ↦ (m.0, record { tile = m.1; before = m.2; long = m.3 })
+]
+
+pub limit_due : (p : Picture) (q : Parameters) (n : ℕ) → is_profile q p ≡ true → IsFirstTooLong p q n → written p q ≡ Err Limit
+unfolding written
+limit_due p q n profile first = rw (profile, below_fails (part_fits p q) (tile_count (siz_of p q)) n first.tile first.long) refl
+
+-- ---- the front
+
+pub wrapped_front : (p : Picture) (codestream : List ℕ) → is_wrapped p ≡ true → wrapped p codestream ≡ Ok (front_of Jp2 p (length codestream) ++ codestream)
+unfolding wrapped box_text
+wrapped_front p codestream is = rw is (simp (append_assoc, append-nil))
+
+pub contained_front : (k : Container) (p : Picture) (codestream : List ℕ) → is_contained k (length p.planes) p.signed ≡ true
+    → contained k p codestream ≡ Ok (front_of k p (length codestream) ++ codestream)
+contained_front Raw p codestream is = refl
+contained_front Jp2 p codestream is = wrapped_front p codestream is
+
+-- what becomes the file with each codestream of its size behind it is the front
+front_is : (p : Picture) (front : List ℕ) (size : ℕ) → is_wrapped p ≡ true → wrapped p (replicate size 0) ≡ Ok (front ++ replicate size 0) → front ≡ front_of Jp2 p size
+front_is p front size is e =
+    let zeros : List ℕ = replicate size 0 in
+    append_cancel_right front (front_of Jp2 p size) zeros
+    (ok_is _ _ (sym e ∙ wrapped_front p zeros is ∙ ap (λ n. Ok (front_of Jp2 p n ++ zeros)) (length-replicate size 0)))
+
+pub front_value : {X : Type 0} (view : X → List ℕ) (p : Picture) (size : ℕ) (r : Result X Fault) → is_wrapped p ≡ true
+    → ((codestream : List ℕ) → length codestream ≡ size → Answers (λ v. view v ++ codestream) r (wrapped p codestream))
+    → IfOk r (λ v. view v ≡ front_of Jp2 p size)
+front_value view p size (Ok v) is each = front_is p (view v) size is (each (replicate size 0) (length-replicate size 0))
+front_value view p size (Err e) is each = tt
+
+-- a fault where a value is due is Memory
+memory_alone : {X : Type 0} (e : Fault) (due : Result X Fault) (x : X) → due ≡ Ok x → Refuses e due → IsMemory e
+memory_alone (Memory r) due x ok h = tt
+memory_alone e due x ok h = absurd (let both = sym ok ∙ h in cc)
+
+pub front_memory : {X : Type 0} (view : X → List ℕ) (p : Picture) (size : ℕ) (r : Result X Fault) → is_wrapped p ≡ true
+    → ((codestream : List ℕ) → length codestream ≡ size → Answers (λ v. view v ++ codestream) r (wrapped p codestream))
+    → IfErr r IsMemory
+front_memory view p size (Ok v) is each = tt
+front_memory view p size (Err e) is each = memory_alone e _ _ (wrapped_front p (replicate size 0) is) (each (replicate size 0) (length-replicate size 0))
+
+-- the same front for the same size, which a bare codestream hasn't
+pub front_same : (k : Container) (p : Picture) (m n : ℕ) → (k ≡ Jp2 → m ≡ n) → front_of k p m ≡ front_of k p n
+front_same Raw p m n same = refl
+front_same Jp2 p m n same = ap (front_of Jp2 p) (same refl)
+
+-- ---- the file
+
+pub codestream_length : (p : Picture) (q : Parameters)
+    → length (codestream_text (tree_for p q)) ≡ length (main_text (siz_of p q) (segments_of (main_for p q))) + (length (parts_upto p q (tile_count (siz_of p q))) + 2)
+codestream_length p q =
+    let main = main_text (siz_of p q) (segments_of (main_for p q)) in
+    let parts = parts_upto p q (tile_count (siz_of p q)) in
+    ap length (text_parts p q) ∙ length-append main (parts ++ marker_text eoc) ∙ ap (λ n. length main + n) (length-append parts (marker_text eoc))
+
+-- the file is what stands before EOC, and EOC
+pub file_ends : (p : Picture) (q : Parameters) → is_profile q p ≡ true → IsWrittenBy q p → parts_fit p q ≡ true
+    → written p q ≡ Ok (text_upto p q (tile_count (siz_of p q)) ++ marker_text eoc)
+unfolding written text_upto
+file_ends p q profile by fit =
+    let codestream = codestream_text (tree_for p q) in
+    let front = front_of q.container p (length codestream) in
+    let main = main_text (siz_of p q) (segments_of (main_for p q)) in
+    let parts = parts_upto p q (tile_count (siz_of p q)) in
+    let whole : front ++ codestream ≡ (front ++ (main ++ parts)) ++ marker_text eoc =
+    ap (λ (x : List ℕ). front ++ x) (text_parts p q ∙ sym (append_assoc main parts (marker_text eoc))) ∙ sym (append_assoc front (main ++ parts) (marker_text eoc)) in
+    rw (profile, fit) (contained_front q.container p codestream by.contained ∙ ap (λ (x : List ℕ). Ok x) whole)
+
+-- and means the picture, as its layers do
+contained_holds : (k : Container) (p : Picture) (codestream file : List ℕ) → (k ≡ Jp2 → 16 + length codestream < 2 ^ 64) → Holds codestream codestream → contained k p codestream ≡ Ok file → Holds file codestream
+contained_holds Raw p codestream file small bare e = subst (λ (x : List ℕ). Holds x codestream) (ok_is codestream file e) bare
+contained_holds Jp2 p codestream file small bare e = inr (wrapped_holds p codestream file (small refl) e)
+
+pub file_means : (p : Picture) (q : Parameters) (file : List ℕ) → IsPicture p → IsWrittenBy q p → (q.container ≡ Jp2 → 16 + length (codestream_text (tree_for p q)) < 2 ^ 64)
+    → written p q ≡ Ok file → Means file 0 p × HasFronts p q file
+unfolding written
+file_means p q file is by small e =
+    let codestream = codestream_text (tree_for p q) in
+    let inside = guarded (not (is_profile q p)) BadParameters (file_for p q) file e in
+    let last = guarded (not (parts_fit p q)) Limit (contained q.container p codestream) file inside.1 in
+    let fit : parts_fit p q ≡ true = not-false (parts_fit p q) last.0 in
+    let holds : Holds file codestream = contained_holds q.container p codestream file small (written_bare p q) last.1 in
+    (holds_means file codestream p holds (written_means p q is by fit), fronts_mean p q file is by fit holds)
+
+-- ---- the start of a file, as it is put together
+
+-- a tile-part of the data of a tile
+pub part_of_tile : (p : Picture) (q : Parameters) (t : ℕ) (head read content : List ℕ) → read ≡ content → content ≡ tile_text p q t
+    → head ++ read ≡ part_text (only_part_of t read) → head ++ content ≡ part_text (part_for p q t)
+part_of_tile p q t head read content same is e =
+    ap (λ (x : List ℕ). head ++ x) (sym same) ∙ e ∙ ap (λ (x : List ℕ). part_text (only_part_of t x)) (same ∙ is)
+
+-- how long the codestream is, by its main header, its first tile-part, and those behind it
+pub size_said : (p : Picture) (q : Parameters) (main head content rest : ℕ) → main ≡ length (main_text (siz_of p q) (segments_of (main_for p q))) → head ≡ 14
+    → content ≡ length (tile_text p q 0) → length (parts_upto p q 1) + rest ≡ length (parts_upto p q (tile_count (siz_of p q)))
+    → main + (head + content) + rest + 2 ≡ length (codestream_text (tree_for p q))
+size_said p q main head content rest m h d r =
+    let first : length (parts_upto p q 1) ≡ 14 + length (tile_text p q 0) = ap (λ (x : List ℕ). length x) (parts_first p q) ∙ only_length 0 (tile_text p q 0) in
+    omega (arith, m, h, d, r, first, codestream_length p q)
+
+pub start_joined : (p : Picture) (q : Parameters) (front main head content : List ℕ) (size : ℕ) → front ≡ front_of q.container p size
+    → (q.container ≡ Jp2 → size ≡ length (codestream_text (tree_for p q))) → main ≡ main_text (siz_of p q) (segments_of (main_for p q))
+    → head ++ content ≡ part_text (part_for p q 0) → ((front ++ main) ++ head) ++ content ≡ text_upto p q 1
+unfolding text_upto
+start_joined p q front main head content size f s m part =
+    let first : front ≡ front_of q.container p (length (codestream_text (tree_for p q))) = f ∙ front_same q.container p size (length (codestream_text (tree_for p q))) s in
+    append_assoc (front ++ main) head content ∙ append_assoc front main (head ++ content)
+    ∙ ap (λ (x : List ℕ). x ++ (main ++ (head ++ content))) first
+    ∙ ap (λ (x : List ℕ). front_of q.container p (length (codestream_text (tree_for p q))) ++ (x ++ (head ++ content))) m
+    ∙ ap (λ (x : List ℕ). front_of q.container p (length (codestream_text (tree_for p q))) ++ (main_text (siz_of p q) (segments_of (main_for p q)) ++ x)) (part ∙ sym (parts_first p q))
+
+-- the first tile-part is too long, which is found before anything is written
+pub first_ahead : (p : Picture) (q : Parameters) → 0 < tile_count (siz_of p q) → part_fits p q 0 ≡ false → IsTooLongAhead p q
+first_ahead p q some long = (0, record { tile = some; before = below_none (part_fits p q); long = long }, none q.container)
+  where
+    none : (k : Container) → text_before k p q 0 ≡ []
+    none Raw = refl
+    none Jp2 = refl
+
+-- any is, in a JP2 file
+pub any_ahead : (p : Picture) (q : Parameters) → q.container ≡ Jp2 → IsTooLong p q → IsTooLongAhead p q
+any_ahead p q jp2 long = let first = first_too_long p q long in (first.0, first.1, ap (λ k. text_before k p q first.0) jp2)
+
+pub ahead_any : (p : Picture) (q : Parameters) (e : Fault) → IsMemory e ⊎ ((e ≡ Limit) × (q.container ≡ Jp2) × IsTooLong p q) → IsMemory e ⊎ ((e ≡ Limit) × IsTooLongAhead p q)
+ahead_any p q e why = elim why [
+  | inl memory ↦ inl memory
+  | inr limit ↦ inr (limit.0, any_ahead p q limit.1 limit.2)
+]
+
+pub ahead_first : (p : Picture) (q : Parameters) (e : Fault) (content : List ℕ) → 0 < tile_count (siz_of p q) → content ≡ tile_text p q 0 → IsMemory e ⊎ ((e ≡ Limit) × (2 ^ 32 ≤ 14 + length content))
+    → IsMemory e ⊎ ((e ≡ Limit) × IsTooLongAhead p q)
+ahead_first p q e content some same why = elim why [
+  | inl memory ↦ inl memory
+  | inr limit ↦ inr (limit.0, first_ahead p q some (long_said p q 0 (subst (λ (x : List ℕ). 2 ^ 32 ≤ 14 + length x) same limit.1)))
+]

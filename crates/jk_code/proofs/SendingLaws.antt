@@ -1,0 +1,211 @@
+-- Laws of what was written so far, and of what one step more writes.
+use Rattle.std.proofs.Common.{◌≡◌, ℕ, zero, suc, ◌+◌, ◌<◌, ◌≤◌, ◌⊎◌, inl, inr, Bool, true, false, List, [], ◌∷◌, ◌++◌, Option, Result, Ok, Err, OnOk, length, refl, ap, sym, ◌∙◌, subst, arith, append_assoc}
+use Rattle.std.specs.Bool.{⊤}
+use Rattle.std.specs.Io.KnownBytes.{Appends}
+use Rattle.std.proofs.lemmas.List.{append-nil}
+use Rattle.jk_math.specs.Front.{IsFront}
+use Rattle.jk_math.specs.Memory.{IsMemory}
+use Rattle.jk_math.specs.Picture.{Picture}
+use Rattle.jk_math.specs.declared.fault.Fault.{Fault}
+use Rattle.jk_math.specs.declared.fault.Fault.TheVariants.{BadParameters, Limit, Shelf}
+use Rattle.jk_math.proofs.Laws.{appends_none, appends_join}
+use Rattle.jk_marks.specs.Markers.{marker_text, eoc}
+use Rattle.jk_marks.specs.Siz.{tile_count}
+use Rattle.jk_marks.specs.Codestream.{main_text, part_text, codestream_text, segments_of}
+use Rattle.jk_params.specs.declared.parameters.Parameters.{Parameters}
+use Rattle.jk_params.specs.declared.parameters.Container.{Container}
+use Rattle.jk_params.specs.declared.parameters.Container.TheVariants.{Raw, Jp2}
+use Rattle.jk_params.specs.Profile.{siz_of, is_profile, IsWrittenBy}
+use Rattle.jk_window.specs.Views.{holds_below}
+use Rattle.jk_window.proofs.Laws.{below_none, below_more, below_fails}
+use Rattle.jk_code.specs.Written.{main_for, part_for, part_fits, parts_fit, tree_for, written}
+use Rattle.jk_code.specs.Beginnings.{front_of, parts_upto, text_upto, text_before, IsFirstTooLong, IsBegun, Left}
+use Rattle.jk_code.specs.Sending.{IsTooLongAhead, IsSent, IsPartSent, IsRestSent}
+use Rattle.jk_code.proofs.LoopLaws.{parts_more}
+use Rattle.jk_code.proofs.BeginningLaws.{file_ends, limit_due}
+
+-- a beginning behind what stands before
+pub front_behind : (before part text : List ℕ) → IsFront part text → IsFront (before ++ part) (before ++ text)
+front_behind before part text front = record {
+  more = front.more;
+  text = ap (λ (x : List ℕ). before ++ x) front.text ∙ sym (append_assoc before part front.more);
+}
+
+-- a whole text is a beginning of itself
+pub front_whole : (text all : List ℕ) → all ≡ text → IsFront text all
+front_whole text all e = record { more = []; text = e ∙ sym (append-nil text) }
+
+-- ---- one text after another
+
+-- this was written between two states of a writer
+abbrev pub Wrote : (a b : Option (List ℕ)) → (List ℕ → Type 0) → Type 0
+Wrote a b P = (text : List ℕ) × Appends a b text × P text
+
+pub sent_both : (a b c : Option (List ℕ)) (x y : List ℕ) (r : Result ⊤ Fault) → Wrote a b (λ part. part ≡ x) → Wrote b c (λ part. IsSent y part r) → Wrote a c (λ part. IsSent (x ++ y) part r)
+sent_both a b c x y (Ok done) first second =
+    (first.0 ++ second.0, appends_join a b c first.0 second.0 first.1 second.1, ap (λ (v : List ℕ). v ++ second.0) first.2 ∙ ap (λ (v : List ℕ). x ++ v) second.2)
+sent_both a b c x y (Err e) first second = (
+  first.0 ++ second.0,
+  appends_join a b c first.0 second.0 first.1 second.1,
+  (second.2.0, subst (λ (v : List ℕ). IsFront (v ++ second.0) (x ++ y)) (sym first.2) (front_behind x second.0 y second.2.1)),
+)
+
+-- a text is sent where its first half is cut off
+pub sent_first : (x y part : List ℕ) → IsFront part x → IsFront part (x ++ y)
+sent_first x y part front = record {
+  more = front.more ++ y;
+  text = ap (λ (v : List ℕ). v ++ y) front.text ∙ append_assoc part front.more y;
+}
+
+-- a tile-part whose length can be said is sent as a text is
+pub part_sent : (text part : List ℕ) (fits : Bool) (r : Result ⊤ Fault) → fits ≡ true → IsSent text part r → IsPartSent text fits part r
+part_sent text part fits (Ok done) fit sent = (fit, sent)
+part_sent text part fits (Err e) fit sent = inr (inr (sent.0, fit, sent.1))
+
+-- ---- the tile-parts behind the first
+
+-- what was written of them before tile t
+abbrev pub IsRestUpto : Picture → Parameters → ℕ → List ℕ → Type 0
+IsRestUpto p q t text = parts_upto p q 1 ++ text ≡ parts_upto p q t
+
+pub rest_more : (p : Picture) (q : Parameters) (a b c : Option (List ℕ)) (t : ℕ) → Wrote a b (IsRestUpto p q t) → Wrote b c (λ part. (part_fits p q t ≡ true) × (part ≡ part_text (part_for p q t)))
+    → Wrote a c (IsRestUpto p q (t + 1))
+rest_more p q a b c t before last = (
+  before.0 ++ last.0,
+  appends_join a b c before.0 last.0 before.1 last.1,
+  sym (append_assoc (parts_upto p q 1) before.0 last.0) ∙ ap (λ (v : List ℕ). v ++ last.0) before.2 ∙ ap (λ (v : List ℕ). parts_upto p q t ++ v) last.2.1
+      ∙ sym (parts_more (part_for p q) t),
+)
+
+pub rest_stopped : (p : Picture) (q : Parameters) (a b c : Option (List ℕ)) (t : ℕ) (e : Fault) → 0 < t → t < tile_count (siz_of p q) → holds_below (part_fits p q) t ≡ true
+    → Wrote a b (IsRestUpto p q t) → Wrote b c (λ part. IsPartSent (part_text (part_for p q t)) (part_fits p q t) part (Err e))
+    → Wrote a c (λ text. IsRestSent p q text (Err e))
+rest_stopped p q a b c t e some lt fit before last =
+    (before.0 ++ part, appends_join a b c before.0 part before.1 last.1, why last.2)
+  where
+    part : List ℕ
+    part = last.0
+
+    all : parts_upto p q 1 ++ (before.0 ++ part) ≡ parts_upto p q t ++ part
+    all = sym (append_assoc (parts_upto p q 1) before.0 part) ∙ ap (λ (v : List ℕ). v ++ part) before.2
+
+    none : part ≡ [] → parts_upto p q 1 ++ (before.0 ++ part) ≡ parts_upto p q t
+    none empty = all ∙ ap (λ (v : List ℕ). parts_upto p q t ++ v) empty ∙ append-nil (parts_upto p q t)
+
+    why : IsPartSent (part_text (part_for p q t)) (part_fits p q t) part (Err e) → IsRestSent p q (before.0 ++ part) (Err e)
+    why (inl long) = inl (long.0, t, some, record { tile = lt; before = fit; long = long.1 }, none long.2)
+    why (inr (inl memory)) = inr (inl memory.0, t, omega (arith, lt), fit, front_whole _ _ (sym (none memory.1)))
+    why (inr (inr shelf)) =
+        let begun : IsFront (parts_upto p q t ++ part) (parts_upto p q t ++ part_text (part_for p q t)) = front_behind (parts_upto p q t) part (part_text (part_for p q t)) shelf.2 in
+        inr (
+          inr shelf.0,
+          t + 1,
+          omega (arith, lt),
+          below_more (part_fits p q) t fit shelf.1,
+          subst (λ (x : List ℕ). IsFront x (parts_upto p q (t + 1))) (sym all) (subst (λ (x : List ℕ). IsFront (parts_upto p q t ++ part) x) (sym (parts_more (part_for p q) t)) begun),
+        )
+
+-- ---- the file
+
+-- what stands before a tile-part behind the first, by what stands before the second
+pub upto_more : (p : Picture) (q : Parameters) (n : ℕ) (text : List ℕ) → IsRestUpto p q n text → text_upto p q 1 ++ text ≡ text_upto p q n
+unfolding text_upto
+upto_more p q n text same =
+    let front = front_of q.container p (length (codestream_text (tree_for p q))) in
+    let main = main_text (siz_of p q) (segments_of (main_for p q)) in
+    append_assoc front (main ++ parts_upto p q 1) text ∙ ap (λ (v : List ℕ). front ++ v) (append_assoc main (parts_upto p q 1) text ∙ ap (λ (v : List ℕ). main ++ v) same)
+
+-- the same for a beginning
+pub begun_more : (p : Picture) (q : Parameters) (n : ℕ) (text : List ℕ) → IsFront (parts_upto p q 1 ++ text) (parts_upto p q n) → IsFront (text_upto p q 1 ++ text) (text_upto p q n)
+unfolding text_upto
+begun_more p q n text front =
+    let before = front_of q.container p (length (codestream_text (tree_for p q))) in
+    let main = main_text (siz_of p q) (segments_of (main_for p q)) in
+    let same : (before ++ (main ++ parts_upto p q 1)) ++ text ≡ before ++ (main ++ (parts_upto p q 1 ++ text)) =
+    append_assoc before (main ++ parts_upto p q 1) text ∙ ap (λ (v : List ℕ). before ++ v) (append_assoc main (parts_upto p q 1) text) in
+    subst (λ (x : List ℕ). IsFront x (before ++ (main ++ parts_upto p q n))) (sym same)
+    (front_behind before (main ++ (parts_upto p q 1 ++ text)) (main ++ parts_upto p q n) (front_behind main (parts_upto p q 1 ++ text) (parts_upto p q n) front))
+
+-- what is written before that tile-part is found to be too long
+before_is : (k : Container) (p : Picture) (q : Parameters) (n : ℕ) → 0 < n → (k ≡ Jp2 → ⊥) → text_before k p q n ≡ text_upto p q n
+before_is Raw p q zero some raw = absurd (omega (arith, some))
+before_is Raw p q (suc n) some raw = refl
+before_is Jp2 p q n some raw = absurd (raw refl)
+
+pub left_none : (p : Picture) (q : Parameters) (a : Option (List ℕ)) (e : Fault) → IsMemory e → Wrote a a (λ text. Left p q text (Err e))
+left_none p q a e memory =
+    ([], appends_none a, inr (inr (inl memory, inl (0, omega arith, below_none (part_fits p q), record { more = text_upto p q 0; text = refl }))))
+
+pub left_ahead : (p : Picture) (q : Parameters) (a : Option (List ℕ)) (e : Fault) → is_profile q p ≡ true → e ≡ Limit → IsTooLongAhead p q → Wrote a a (λ text. Left p q text (Err e))
+left_ahead p q a e profile limit ahead =
+    ([], appends_none a, inr (inl (limit, limit_due p q ahead.0 profile ahead.1, ahead.0, ahead.1, sym ahead.2)))
+
+pub left_start : (p : Picture) (q : Parameters) (a b : Option (List ℕ)) (start : List ℕ) (e : Fault) → 0 < tile_count (siz_of p q) → part_fits p q 0 ≡ true → start ≡ text_upto p q 1
+    → Wrote a b (λ part. IsSent start part (Err e)) → Wrote a b (λ text. Left p q text (Err e))
+left_start p q a b start e some fit same sent =
+    (sent.0, sent.1, inr (inr (inr sent.2.0, inl (1, some, below_more (part_fits p q) 0 (below_none (part_fits p q)) fit, subst (λ (x : List ℕ). IsFront sent.0 x) same sent.2.1))))
+
+pub left_rest : (p : Picture) (q : Parameters) (a b c : Option (List ℕ)) (start : List ℕ) (e : Fault) → is_profile q p ≡ true → (q.container ≡ Jp2 → parts_fit p q ≡ true) → start ≡ text_upto p q 1
+    → Wrote a b (λ part. part ≡ start) → Wrote b c (λ text. IsRestSent p q text (Err e)) → Wrote a c (λ text. Left p q text (Err e))
+left_rest p q a b c start e profile all same first rest =
+    (first.0 ++ rest.0, appends_join a b c first.0 rest.0 first.1 rest.1, why rest.2)
+  where
+    here : first.0 ++ rest.0 ≡ text_upto p q 1 ++ rest.0
+    here = ap (λ (v : List ℕ). v ++ rest.0) (first.2 ∙ same)
+
+    raw : (n : ℕ) → IsFirstTooLong p q n → q.container ≡ Jp2 → ⊥
+    raw n long jp2 = absurd (let both : true ≡ false = sym (all jp2) ∙ below_fails (part_fits p q) (tile_count (siz_of p q)) n long.tile long.long in cc)
+
+    why : IsRestSent p q rest.0 (Err e) → Left p q (first.0 ++ rest.0) (Err e)
+    why (inl long) =
+        inr (inl (
+          long.0,
+          limit_due p q long.1 profile long.3,
+          long.1,
+          long.3,
+          here ∙ upto_more p q long.1 rest.0 long.4 ∙ sym (before_is q.container p q long.1 long.2 (raw long.1 long.3)),
+        ))
+    why (inr stopped) =
+        inr (inr (stopped.0, inl (stopped.1, stopped.2, stopped.3, subst (λ (x : List ℕ). IsFront x (text_upto p q stopped.1)) (sym here) (begun_more p q stopped.1 rest.0 stopped.4))))
+
+pub left_end : (p : Picture) (q : Parameters) (a b c d : Option (List ℕ)) (start : List ℕ) (r : Result ⊤ Fault) → is_profile q p ≡ true → IsWrittenBy q p → start ≡ text_upto p q 1
+    → Wrote a b (λ part. part ≡ start) → Wrote b c (λ text. (parts_fit p q ≡ true) × IsRestUpto p q (tile_count (siz_of p q)) text) → Wrote c d (λ part. IsSent (marker_text eoc) part r)
+    → Wrote a d (λ text. Left p q text r)
+left_end p q a b c d start r profile by same first rest last =
+    ((first.0 ++ rest.0) ++ last.0, appends_join a c d (first.0 ++ rest.0) last.0 (appends_join a b c first.0 rest.0 first.1 rest.1) last.1, why r last.2)
+  where
+    count : ℕ
+    count = tile_count (siz_of p q)
+
+    here : first.0 ++ rest.0 ≡ text_upto p q count
+    here = ap (λ (v : List ℕ). v ++ rest.0) (first.2 ∙ same) ∙ upto_more p q count rest.0 rest.2.1
+
+    whole : written p q ≡ Ok (text_upto p q count ++ marker_text eoc)
+    whole = file_ends p q profile by rest.2.0
+
+    why : (r : Result ⊤ Fault) → IsSent (marker_text eoc) last.0 r → Left p q ((first.0 ++ rest.0) ++ last.0) r
+    why (Ok done) sent = whole ∙ ap (λ (v : List ℕ). Ok (v ++ marker_text eoc)) (sym here) ∙ ap (λ (v : List ℕ). Ok ((first.0 ++ rest.0) ++ v)) (sym sent)
+    why (Err e) sent =
+        inr (inr (
+          inr sent.0,
+          inr (
+            text_upto p q count ++ marker_text eoc,
+            whole,
+            subst (λ (v : List ℕ). IsFront (v ++ last.0) (text_upto p q count ++ marker_text eoc)) (sym here) (front_behind (text_upto p q count) last.0 (marker_text eoc) sent.1),
+          ),
+        ))
+
+-- the whole file where it wasn't refused
+pub left_ok : (p : Picture) (q : Parameters) (a b : Option (List ℕ)) (r : Result ⊤ Fault) → Wrote a b (λ text. Left p q text r) → OnOk r ((file : List ℕ) × (written p q ≡ Ok file) × Appends a b file)
+left_ok p q a b (Ok done) wrote = (wrote.0, wrote.2, wrote.1)
+left_ok p q a b (Err e) wrote = tt
+
+pub left_refused : (p : Picture) (q : Parameters) (a : Option (List ℕ)) (e : Fault) → is_profile q p ≡ true → IsMemory e ⊎ ((e ≡ Limit) × IsTooLongAhead p q) → Wrote a a (λ text. Left p q text (Err e))
+left_refused p q a e profile why = elim why [
+  | inl memory ↦ left_none p q a e memory
+  | inr limit ↦ left_ahead p q a e profile limit.0 limit.1
+]
+
+-- outside the profile nothing is written
+pub left_outside : (p : Picture) (q : Parameters) (a : Option (List ℕ)) (e : Fault) → e ≡ BadParameters → is_profile q p ≡ false → Wrote a a (λ text. Left p q text (Err e))
+left_outside p q a e bad outside = ([], appends_none a, inl (bad, outside, refl))

@@ -1,0 +1,189 @@
+//! Decoding a window.
+
+ghost use Rattle.std.specs.Prelude.{◌≡◌, ℕ, ◌≤◌, ◌<◌, true, List, length, IfOk, IfErr, OnOk, Ok};
+ghost use Rattle.jk_math.specs.Answer.{Answers};
+ghost use Rattle.jk_math.specs.Picture.{Picture, lists_of};
+ghost use Rattle.jk_marks.specs.Siz.{tile_count};
+ghost use Rattle.jk_geom.specs.Rectangles.{IsArea};
+ghost use Rattle.jk_params.specs.Headers.{AreHeaders};
+ghost use Rattle.jk_walk.specs.WalkReading.{packets_at};
+ghost use Rattle.jk_tile.specs.Filling.{IsPartOf};
+ghost use Rattle.jk_tile.specs.TileMeaning.{shown_area};
+ghost use Rattle.jk_tile.specs.TileReading.{tested, part_planes_at};
+ghost use Rattle.jk_window.specs.Views.{HaveLevels, frame_of};
+ghost use Rattle.jk_code.specs.Meaning.{Means};
+ghost use Rattle.jk_code.specs.MeaningReading.{planes_of_tiles};
+ghost use Rattle.jk_code.specs.Tiles.{AreSeen, ArePlanes, Keeps, ShowsTileAt};
+ghost use Rattle.jk_code.specs.Viewing.{picture_of_view};
+ghost use Rattle.jk_code.specs.ViewReading.{seen_part, is_seen, seen_packets_tested, seen_parts_tested, view_at, image_view_at, meaning_view_at};
+
+use crate::decoding::{blank_planes, put_tile};
+use crate::reduction::reduced;
+use jk_boxes::open;
+use jk_geom::tile;
+use jk_math::{Fault, Image, Rect};
+use jk_params::{Codestream, read_codestream};
+use jk_tile::{decode_part, meet, touches};
+use jk_walk::{TilePackets, read_packets};
+use jk_window::{View, window_area};
+use std::alloc::Global;
+
+/// What a tile shows of the image at a reduction.
+fn shown(headers: &Codestream, number: usize, reduce: u8) -> Rect
+    requires sound { (size : ℕ) × AreHeaders size headers.now }
+    requires number { number < tile_count headers.now.siz }
+    requires few { reduce ≤ 10 }
+    ensures value { result ≡ shown_area headers.now.siz number reduce }
+    ensures part { IsPartOf result (frame_of headers.now reduce) }
+    ensures area { IsArea result }
+{
+    reduced(&tile(headers.siz(), number as u32), reduce)
+}
+
+/// The packets of the tiles of which a window has samples; of the others none are read.
+fn seen_packets(
+    alloc: Global,
+    headers: &Codestream,
+    bytes: &[u8],
+    reduce: u8,
+    window: &Rect,
+) -> Result<Vec<Option<TilePackets>>, Fault>
+    requires sound { AreHeaders (length bytes.now) headers.now }
+    requires few { reduce ≤ 10 }
+    ensures exact { Answers (λ _. tt) result (seen_packets_tested bytes.now headers.now reduce window.now (tile_count headers.now.siz)) }
+    ensures read { IfOk result (λ v. AreSeen bytes.now headers.now reduce window.now (tile_count headers.now.siz) v.items) }
+{
+    let mut all = Vec::new(alloc);
+    for number in 0..headers.tile_count() {
+        let packets = if touches(window, &shown(headers, number, reduce)) {
+            Some(read_packets(alloc, headers, bytes, number)?)
+        } else {
+            None
+        };
+        all.push(packets)?;
+    }
+    Ok(all)
+}
+
+/// Puts what a window has of a tile into its planes. It has a sample of the tile.
+fn show_tile(
+    alloc: Global,
+    headers: &Codestream,
+    bytes: &[u8],
+    packets: &TilePackets,
+    number: usize,
+    reduce: u8,
+    window: &Rect,
+    planes: &mut Vec<Vec<i32>>,
+) -> Result<(), Fault>
+    requires sound { AreHeaders (length bytes.now) headers.now }
+    requires number { number < tile_count headers.now.siz }
+    requires packets { packets_at bytes.now headers.now number ≡ Ok packets.now }
+    requires levels { HaveLevels headers.now reduce }
+    requires few { reduce ≤ 10 }
+    requires window { IsArea window.now }
+    requires seen { is_seen headers.now reduce window.now number ≡ true }
+    requires planes { ArePlanes headers.now window.now planes.old.items }
+    ensures exact { Answers (λ _. tt) result (tested (part_planes_at bytes.now headers.now number reduce
+        (seen_part headers.now reduce window.now number) packets.now)) }
+    ensures planes { OnOk result (ArePlanes headers.now window.now planes.new.items) }
+    ensures keeps { OnOk result (Keeps bytes.now headers.now reduce window.now planes.old.items planes.new.items) }
+    ensures shows { OnOk result (ShowsTileAt bytes.now headers.now reduce window.now number headers.now.siz.components planes.new.items) }
+{
+    let part = meet(window, &shown(headers, number, reduce));
+    let values = decode_part(alloc, headers, bytes, number, packets, reduce, &part)?;
+    put_tile(
+        headers, bytes, packets, number, reduce, window, &part, &values, planes,
+    );
+    Ok(())
+}
+
+/// The planes of a window, tile by tile.
+fn window_planes(
+    alloc: Global,
+    headers: &Codestream,
+    bytes: &[u8],
+    all: &[Option<TilePackets>],
+    reduce: u8,
+    window: &Rect,
+) -> Result<Vec<Vec<i32>>, Fault>
+    requires sound { AreHeaders (length bytes.now) headers.now }
+    requires packets { AreSeen bytes.now headers.now reduce window.now (tile_count headers.now.siz) all.now }
+    requires levels { HaveLevels headers.now reduce }
+    requires few { reduce ≤ 10 }
+    requires window { IsArea window.now }
+    requires inside { IsPartOf window.now (frame_of headers.now reduce) }
+    ensures exact { Answers (λ _. tt) result (seen_parts_tested bytes.now headers.now reduce window.now (tile_count headers.now.siz)) }
+    ensures planes { IfOk result (λ v. lists_of v.items ≡ planes_of_tiles bytes.now headers.now reduce window.now) }
+{
+    let mut planes = blank_planes(alloc, headers.siz().components, window)?;
+    for number in 0..headers.tile_count() {
+        if let Some(packets) = &all[number] {
+            show_tile(
+                alloc,
+                headers,
+                bytes,
+                packets,
+                number,
+                reduce,
+                window,
+                &mut planes,
+            )?;
+        }
+    }
+    Ok(planes)
+}
+
+/// The window of a codestream with these headers.
+#[tactic(auto, unfolding(crate::specs::ViewReading::view_at))]
+fn view_image(alloc: Global, headers: &Codestream, bytes: &[u8], view: View) -> Result<Image, Fault>
+    requires { AreHeaders (length bytes.now) headers.now }
+    ensures { Answers (λ i. i) result (view_at headers.now bytes.now view) }
+{
+    let window = window_area(headers, view)?;
+    let reduce = view.reduce as u8;
+    let packets = seen_packets(alloc, headers, bytes, reduce, &window)?;
+    let planes = window_planes(alloc, headers, bytes, &packets, reduce, &window)?;
+    let siz = headers.siz();
+    let (width, height) = (window.x1 - window.x0, window.y1 - window.y0);
+    Image::new(
+        window.x0, window.y0, width, height, siz.depth, siz.signed, planes,
+    )
+}
+
+/// The window of a codestream.
+#[tactic(auto, unfolding(crate::specs::ViewReading::image_view_at))]
+fn codestream_view(alloc: Global, bytes: &[u8], view: View) -> Result<Image, Fault>
+    ensures { Answers (λ i. i) result (image_view_at bytes.now view) }
+{
+    let headers = read_codestream(alloc, bytes)?;
+    view_image(alloc, &headers, bytes, view)
+}
+
+/// The window of a file.
+#[tactic(auto, unfolding(crate::specs::ViewReading::meaning_view_at))]
+fn meaning_view(alloc: Global, bytes: &[u8], view: View) -> Result<Image, Fault>
+    ensures { Answers (λ i. i) result (meaning_view_at bytes.now view) }
+{
+    let boxed = open(bytes)?;
+    codestream_view(alloc, &bytes[boxed.start..boxed.end], view)
+}
+
+/// The window of a view of the image that a file, a bare codestream or a JP2 file, means: what `decode` gives at the view's
+/// reduction, on the rectangle of the view, cut with the reduced image. It takes the time and memory of the window, not of
+/// the image, but for the headers of the packets of the tiles that it meets.
+///
+/// The first of these faults: those of the boxes; those of `read_codestream`; BadWindow for a reduction past the least number
+/// of decomposition levels, or where the reduced image or the window has no sample; then, of the tiles of which the window
+/// has samples, those of their packets, as `read_packets` names them, tile by tile; then, tile by tile, CodeOutOfInterval of
+/// the code-blocks that have a coefficient on which a sample of the window depends. The packets of other tiles and other
+/// code-blocks aren't judged: a file that `decode` refuses may have a window.
+pub fn decode_window(alloc: Global, bytes: &[u8], view: View) -> Result<Image, Fault>
+    // Which image, or which fault is the first.
+    ensures exact { Answers (λ i. i) result (meaning_view_at bytes.now view) }
+    // Where the file means a picture at the view's reduction, it is that picture on the window, or BadWindow where the window has
+    // no sample.
+    ensures means { (p : Picture) → Means bytes.now view.reduce p → Answers (λ i. i) result (picture_of_view view p) }
+{
+    meaning_view(alloc, bytes, view)
+}

@@ -1,0 +1,5 @@
+use Rattle.jk_wave.specs.Regions.{IsHeld}
+use Rattle.jk_wave.proofs.backward.synthesise_region.Given as goal
+
+abbrev pub invariant-loop-r : goal.invariant-loop-r
+invariant-loop-r l = IsHeld l.region l.bands l.r l.plane.items

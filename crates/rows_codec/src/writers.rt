@@ -1,0 +1,183 @@
+//! Files that are written to a writer: one that takes a byte a call, one that fails at a call, and
+//! one that takes nothing from a call on.
+
+use crate::calls::{self, encode, encode_into};
+use crate::small::{Headers, file_of};
+use jk_marks::Order;
+use jk_math::{Fault, Image};
+use jk_params::{Container, Parameters};
+use std::alloc::Global;
+use std::io::{self, ErrorKind, Write};
+use std::test::Fail;
+
+/// Takes a byte a call, and so many in all. Then a call fails, or takes nothing.
+#[derive(Drop)]
+pub(crate) struct Slow {
+    bytes: Vec<u8>,
+    room: usize,
+    fails: bool,
+}
+
+impl Write for Slow {
+    fn write(&mut self, buf: &[u8]) -> io::Result<usize> {
+        if self.room <= self.bytes.len() && self.fails {
+            return Err(io::Error::from(ErrorKind::BrokenPipe));
+        }
+        if self.room <= self.bytes.len() {
+            return Ok(0);
+        }
+        let count = buf.len().min(1);
+        match self.bytes.extend_from_slice(&buf[..count]) {
+            Ok(()) => Ok(count),
+            Err(_) => Err(io::Error::from(ErrorKind::OutOfMemory)),
+        }
+    }
+
+    fn flush(&mut self) -> io::Result<()> {
+        Ok(())
+    }
+}
+
+/// Encodes into a writer that takes so many bytes, and gives the answer and what was written.
+fn written(
+    alloc: Global,
+    image: &Image,
+    parameters: &Parameters,
+    room: usize,
+    fails: bool,
+) -> (Result<(), Fault>, Vec<u8>) {
+    let bytes = Vec::new(alloc);
+    let mut writer = Slow { bytes, room, fails };
+    let answer = encode_into(alloc, image, parameters, &mut writer);
+    (answer, writer.bytes)
+}
+
+/// One layer, no markers, precincts or colour transform, and tiles of this size.
+fn parameters(alloc: Global, levels: u8, side: Option<u32>, container: Container) -> Parameters {
+    Parameters {
+        levels,
+        layers: 1,
+        order: Order::Lrcp,
+        tile: side.map(|side| (side, side)),
+        xcb: 6,
+        ycb: 6,
+        precincts: Vec::new(alloc),
+        colour: false,
+        sop: false,
+        eph: false,
+        container,
+    }
+}
+
+/// A grey image of so many columns and rows, whose samples differ.
+fn grey(alloc: Global, header: &str, area: usize) -> Result<Image, Fail> {
+    let mut pnm = Vec::new(alloc);
+    pnm.extend_from_slice(header.as_bytes())?;
+    for i in 0..area {
+        pnm.push((i.wrapping_mul(37) % 251) as u8)?;
+    }
+    Ok(calls::read(alloc, &pnm)?)
+}
+
+/// Where a writer takes so many bytes and then fails, or takes nothing, these stand there.
+fn stops(
+    alloc: Global,
+    image: &Image,
+    parameters: &Parameters,
+    file: &[u8],
+    room: usize,
+) -> Result<(), Fail> {
+    for fails in [true, false] {
+        let (answer, bytes) = written(alloc, image, parameters, room, fails);
+        if answer != Err(Fault::Shelf) || Some(bytes.as_slice()) != file.get(..room) {
+            return Err("the first bytes of the file".into());
+        }
+    }
+    Ok(())
+}
+
+/// What is written is the file, whole where there is room, and else its first bytes, at every so
+/// many lengths.
+fn check(alloc: Global, image: &Image, parameters: &Parameters, step: usize) -> Result<(), Fail> {
+    let file = encode(alloc, image, parameters)?;
+    let (answer, bytes) = written(alloc, image, parameters, file.len(), true);
+    if answer.is_err() || bytes.as_slice() != file.as_slice() {
+        return Err("the file".into());
+    }
+    for room in 0..file.len() {
+        if step != 0 && room % step == 0 {
+            stops(alloc, image, parameters, &file, room)?;
+        }
+    }
+    Ok(())
+}
+
+#[test]
+fn one_tile(rt: HostRuntime) -> Result<(), Fail> {
+    let alloc = rt.alloc();
+    let image = grey(alloc, "P5\n5 7\n255\n", 35)?;
+    check(
+        alloc,
+        &image,
+        &parameters(alloc, 1, None, Container::Raw),
+        1,
+    )?;
+    check(
+        alloc,
+        &image,
+        &parameters(alloc, 1, None, Container::Jp2),
+        1,
+    )
+}
+
+#[test]
+fn several_tiles(rt: HostRuntime) -> Result<(), Fail> {
+    let alloc = rt.alloc();
+    let image = grey(alloc, "P5\n5 7\n255\n", 35)?;
+    check(
+        alloc,
+        &image,
+        &parameters(alloc, 1, Some(3), Container::Raw),
+        1,
+    )?;
+    check(
+        alloc,
+        &image,
+        &parameters(alloc, 1, Some(3), Container::Jp2),
+        1,
+    )?;
+    let wide = grey(alloc, "P5\n90 70\n255\n", 6300)?;
+    check(
+        alloc,
+        &wide,
+        &parameters(alloc, 2, Some(32), Container::Jp2),
+        701,
+    )
+}
+
+#[test]
+fn a_known_file(rt: HostRuntime) -> Result<(), Fail> {
+    let alloc = rt.alloc();
+    let image = calls::read(alloc, b"P5\n1 1\n255\n\x81")?;
+    let bare = parameters(alloc, 0, None, Container::Raw);
+    let part = "FF90 000A 0000 00000011 00 01 FF93 C0 21 03 FFD9";
+    let wanted = file_of(alloc, Headers::Pixel, part)?;
+    let (answer, bytes) = written(alloc, &image, &bare, wanted.len(), true);
+    assert_eq!(rt; answer, Ok(()));
+    assert_eq!(rt; bytes.as_slice(), wanted.as_slice());
+    let (answer, bytes) = written(alloc, &image, &bare, 83, true);
+    assert_eq!(rt; answer, Err(Fault::Shelf));
+    assert_eq!(rt; bytes.len(), 83);
+    Ok(())
+}
+
+#[test]
+fn outside_the_profile(rt: HostRuntime) -> Result<(), Fail> {
+    let alloc = rt.alloc();
+    let image = grey(alloc, "P5\n5 7\n255\n", 35)?;
+    let deep = parameters(alloc, 6, None, Container::Jp2);
+    let (answer, bytes) = written(alloc, &image, &deep, 1000, true);
+    assert_eq!(rt; answer, Err(Fault::BadParameters));
+    assert_eq!(rt; bytes.len(), 0);
+    Ok(())
+}

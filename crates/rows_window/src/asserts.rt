@@ -1,0 +1,10 @@
+//! What a test claims. A claim made through these functions costs the proof of a test one call; an
+//! `assert_eq!` of its own costs it the comparison and the text of both values.
+
+use std::fmt::Debug;
+use std::process::Abort;
+
+/// Two values are equal.
+pub(crate) fn equal<T: PartialEq + Debug + Copy>(rt: &impl Abort, found: T, due: T) {
+    assert_eq!(rt; found, due);
+}
