@@ -7,7 +7,7 @@ use crate::world::World;
 use clap::ArgMatches;
 use jk_commands::{EncodeOptions, Plan, judge, read_image};
 use jk_math::{Fault, Image};
-use jk_store::{Archive, Images, Shelf, is_good_name};
+use jk_store::{Archive, Images, Shelf, is_good_name, judge_name};
 use std::alloc::Global;
 
 /// How many images an archive has at most.
@@ -43,6 +43,27 @@ fn open<W: World>(alloc: Global, world: &mut W, name: &str) -> Result<Archive<W:
         }
         Err(fault) => Err(of_folder(alloc, world, fault, name, &folder)),
     }
+}
+
+/// The images beside which one of a name is added. Where the names of files are those of fewer than
+/// 4,096 images, the name is judged by these and no file is read.
+///
+/// The first of these: Shelf; BadName; NameTaken, also by a file that wouldn't be listed, and by
+/// what can't be opened as a file; as `Images::read` where there may be 4,096 images.
+fn beside<W: World>(
+    alloc: Global,
+    world: &W,
+    shelf: &mut W::Folder,
+    name: &str,
+) -> Result<Images, Fault> {
+    let is_free = judge_name(alloc, shelf, name)?;
+    if world.has_other(shelf, name) {
+        return Err(Fault::NameTaken);
+    }
+    if is_free {
+        return Ok(Images::none(alloc));
+    }
+    Images::read(alloc, shelf)
 }
 
 /// Whether an archive has a file of a name, listed or not.
@@ -111,6 +132,21 @@ fn of_adding(
     }
 }
 
+/// Why an image can't be added beside others.
+fn of_beside<W: World>(
+    alloc: Global,
+    world: &mut W,
+    fault: Fault,
+    options: &EncodeOptions,
+    line: &ArgMatches<'_>,
+    shelf: &W::Folder,
+) -> Failure {
+    match fault {
+        Fault::BadName | Fault::NameTaken => of_adding(alloc, fault, options, line),
+        _ => of_folder(alloc, world, fault, options::folder(line), shelf),
+    }
+}
+
 /// `jk add DIR NAME IN`: the options first, then the input and its image, the folder, the name, and the adding.
 pub(crate) fn add<W: World>(
     alloc: Global,
@@ -127,7 +163,20 @@ pub(crate) fn add<W: World>(
     if let Err(fault) = world.lock(alloc, folder) {
         return Err(of_world(alloc, world, fault, folder, "locked"));
     }
-    let mut archive = open(alloc, world, folder)?;
+    let mut shelf = match world.folder(alloc, folder) {
+        Ok(shelf) => shelf,
+        Err(fault) => return Err(of_world(alloc, world, fault, folder, "opened")),
+    };
+    let images = match beside(alloc, world, &mut shelf, options::name(line)) {
+        Ok(images) => images,
+        Err(fault) => {
+            let failure = of_beside(alloc, world, fault, &options, line, &shelf);
+            world.give_back(alloc, folder, shelf)?;
+            return Err(failure);
+        }
+    };
+    world.tell_others(&shelf);
+    let mut archive = Archive::with(shelf, images);
     let added = add_to(alloc, &mut archive, options::name(line), image, plan);
     let kept = world.give_back(alloc, folder, archive.into_shelf());
     match added {

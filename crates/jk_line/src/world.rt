@@ -72,6 +72,10 @@ pub trait World {
     /// What the system said of it is what `said` tells then.
     fn trouble(&mut self, alloc: Global, folder: &Self::Folder) -> Option<String>;
 
+    /// Whether the last listing of an archive's folder found something under the name of an image
+    /// that can't be opened as a file.
+    fn has_other(&self, folder: &Self::Folder, name: &str) -> bool;
+
     /// Writes to standard error what stands in an archive's folder under the name of an image and
     /// can't be opened as a file.
     fn tell_others(&mut self, folder: &Self::Folder);

@@ -159,6 +159,15 @@ where
         String::from_str(alloc, trouble.name.as_str()).ok()
     }
 
+    fn has_other(&self, folder: &Folder<R>, name: &str) -> bool {
+        for other in folder.others() {
+            if other.name.strip_suffix(".jp2") == Some(name) {
+                return true;
+            }
+        }
+        false
+    }
+
     fn tell_others(&mut self, folder: &Folder<R>) {
         let rt = &self.rt;
         for other in folder.others() {

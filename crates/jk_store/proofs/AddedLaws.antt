@@ -1,17 +1,16 @@
 -- What the entries of an archive show after one more, and what its shelf keeps.
-use Rattle.std.proofs.Common.{◌≡◌, ℕ, ◌∷◌, ◌++◌, [], Bool, true, false, cond, List, map, Some, Result, Ok, refl, sym, ap, ◌∙◌, subst}
+use Rattle.std.proofs.Common.{◌≡◌, ℕ, ◌∷◌, ◌++◌, [], Bool, false, cond, List, map, Some, refl, sym, ap, ◌∙◌, subst}
 use Rattle.std.specs.Str.{bytes_eq}
 use Rattle.std.specs.String.{string_bytes}
 use Rattle.std.specs.List.{AllByRecursion}
-use Rattle.jk_math.specs.declared.fault.Fault.{Fault}
 use Rattle.jk_web.specs.Images.{Image}
 use Rattle.jk_store.specs.declared.entry.Entry.{Entry}
 use Rattle.jk_store.specs.Files.{Files, with_file, without}
 use Rattle.jk_store.specs.Names.{file_name, temporary_name}
 use Rattle.jk_store.specs.Catalogue.{is_listed, StandsFor, stored}
-use Rattle.jk_store.specs.Showing.{ShowsImage, ShowImages, AreKept, Stands}
+use Rattle.jk_store.specs.Showing.{ShowsImage, ShowImages, AreKept}
 use Rattle.jk_store.proofs.AddLaws.{map_more, neither, differs, at_front, names_apart, files_apart}
-use Rattle.jk_store.proofs.ShowingLaws.{image_for, shows_itself}
+use Rattle.jk_store.proofs.ShowingLaws.{image_for}
 
 show_more : (entries : List Entry) (images : List Image) (e : Entry) (i : Image) → ShowImages entries images → ShowsImage e i → ShowImages (entries ++ e ∷ []) (images ++ i ∷ [])
 show_more [] [] e i shows here = (here, tt)

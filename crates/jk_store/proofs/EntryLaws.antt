@@ -1,21 +1,18 @@
 -- What a window of an entry's file is.
-use Rattle.std.proofs.Common.{◌≡◌, ℕ, Bool, true, false, if◌then◌else◌, inl, inr, List, Result, Ok, Err, IfOk, refl, subst}
+use Rattle.std.proofs.Common.{◌≡◌, ℕ, List, Result, Ok, Err, IfOk, refl, subst}
 use Rattle.std.specs.Global.{Vec}
 use Rattle.std.specs.Result.{IsErr}
 use Rattle.jk_math.specs.Answer.{Answers, Refuses}
 use Rattle.jk_math.specs.declared.rect.Rect.{Rect}
 use Rattle.jk_math.specs.declared.fault.Fault.{Fault}
-use Rattle.jk_math.specs.declared.fault.Fault.TheVariants.{BadWindow, Limit}
+use Rattle.jk_math.specs.declared.fault.Fault.TheVariants.{BadWindow}
 use Rattle.jk_math.specs.Picture.{Picture}
 use Rattle.jk_window.specs.declared.view.View.{View}
-use Rattle.jk_boxes.specs.declared.place.Boxed.{Boxed}
-use Rattle.jk_boxes.specs.Boxes.{IsJp2, HoldsAt}
-use Rattle.jk_boxes.specs.Written.{recoded}
 use Rattle.jk_params.proofs.Laws.{sound_headers}
 use Rattle.jk_window.specs.Views.{HasWindow, window_at}
 use Rattle.jk_window.specs.Indexing.{IndexFields, IsIndexOf}
-use Rattle.jk_window.specs.Cutting.{with_codestream, cut_file}
-use Rattle.jk_window.proofs.Laws.{window_found, window_only, window_refused}
+use Rattle.jk_window.specs.Cutting.{cut_file}
+use Rattle.jk_window.proofs.Laws.{window_found, window_refused}
 use Rattle.jk_code.specs.Meaning.{Means}
 use Rattle.jk_code.specs.Windows.{IsWindowOf}
 use Rattle.jk_store.specs.declared.entry.Entry.{Entry}

@@ -1,6 +1,6 @@
 -- A JP2 file that means a picture has an index, and a file that is written in a JP2 container is one.
 use Rattle.std.proofs.Common.{◌≡◌, ℕ, Bool, true, false, not, if◌then◌else◌, inl, inr, List, ◌++◌, slice_index_or, Result, Ok, Err, refl, sym, ap, ◌∙◌, arith}
-use Rattle.jk_math.specs.Answer.{◌>>=◌, Refuses}
+use Rattle.jk_math.specs.Answer.{Refuses}
 use Rattle.jk_math.specs.Memory.{IsMemory}
 use Rattle.jk_math.specs.declared.fault.Fault.{Fault}
 use Rattle.jk_math.specs.declared.fault.Fault.TheVariants.{Memory, BadParameters, Limit, Unsupported}

@@ -4,6 +4,7 @@ pub mod Indexed
 pub mod AddLaws
 pub mod NameLaws
 pub mod OpenLaws
+pub mod JudgingLaws
 pub mod ShowingLaws
 pub mod AddedLaws
 pub mod MadeLaws

@@ -7,4 +7,5 @@ pub mod Names
 pub mod Catalogue
 pub mod Adding
 pub mod Opening
+pub mod Judging
 pub mod Showing

@@ -1,6 +1,6 @@
 //! Opening an archive.
 
-ghost use Rattle.std.specs.Prelude.{◌≡◌, ◌≤◌, ◌⊎◌, ℕ, List, map, length, true, false, Some, Ok, Err, All, IfOk, IfErr, OnOk};
+ghost use Rattle.std.specs.Prelude.{◌≡◌, ◌≤◌, ◌⊎◌, ℕ, List, map, length, true, false, Some, Ok, Err, [], All, IfOk, IfErr, OnOk};
 ghost use Rattle.std.specs.Arc.{arc_value};
 ghost use Rattle.std.specs.String.{string_bytes};
 ghost use Rattle.std.specs.BTreeSet.{keys};
@@ -165,6 +165,17 @@ pub struct Images {
 }
 
 impl Images {
+    /// No images.
+    pub fn none(alloc: Global) -> Images
+        ensures entries { result.entries.items ≡ [] }
+        ensures skipped { result.skipped.items ≡ [] }
+    {
+        Images {
+            entries: Vec::new(alloc),
+            skipped: Vec::new(alloc),
+        }
+    }
+
     /// Reads the images of a shelf. Whatever it answers, the shelf keeps what it kept.
     ///
     /// Files `NAME.jp2` with a good name are read in the order of their names. One that isn't a JP2 file with an index is skipped.

@@ -162,6 +162,10 @@ impl World for Memory {
         None
     }
 
+    fn has_other(&self, _folder: &MemoryShelf, _name: &str) -> bool {
+        false
+    }
+
     fn tell_others(&mut self, _folder: &MemoryShelf) {}
 
     fn tell_left(&mut self, _folder: &MemoryShelf) {}

@@ -12,6 +12,8 @@ mod directories;
 #[cfg(test)]
 mod failing;
 #[cfg(test)]
+mod judging;
+#[cfg(test)]
 mod limits;
 #[cfg(test)]
 mod loopback;
