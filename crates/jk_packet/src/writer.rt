@@ -82,8 +82,8 @@ fn open_bands(
     ensures { MatchResult result
         (λ v. BandsStand (bands_of shape.now) (banded (bands_of shape.now) tables.now) 0 v.items) (λ e. IsMemory e) }
 {
-    let mut bands = Vec::with_capacity(alloc, 3)?;
     let shapes = shape.bands();
+    let mut bands = Vec::with_capacity(alloc, shapes.len())?;
     let mut at = 0;
     for number in 0..shapes.len() {
         let band = shapes[number];
