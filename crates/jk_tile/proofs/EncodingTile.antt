@@ -31,10 +31,9 @@ use Rattle.jk_tile.specs.Needs.{exponents_for}
 use Rattle.jk_tile.specs.TileWritten.{WrittenBands, AreWrittenBands, coefficient_of}
 use Rattle.jk_tile.specs.PacketsWritten.{Tables, written_packet, written_text, precinct_tables, written_coding, written_shape, tile_tables, tile_text}
 use Rattle.jk_tile.specs.TileWriters.{table_lists, component_lists, tile_items, list_of, tables_in, index_of, IsPrecinctList, AreLists}
-use Rattle.jk_tile.proofs.TileIndex.{tile_at, tile_length}
+use Rattle.jk_tile.proofs.TileIndex.{tile_at, tile_length, level_few}
 use Rattle.jk_tile.proofs.TileAreas.{tile_is_area}
 use Rattle.jk_tile.proofs.PacketsFew.{count_is, few_below}
-use Rattle.jk_tile.proofs.WriterLists.{level_few}
 use Rattle.jk_tile.proofs.WrittenTile.{source_for, planes_have, coding_is, are_written, tables_same, precinct_fits}
 
 -- ---- few packets

@@ -21,7 +21,6 @@ pub mod WrittenTile
 pub mod SamplesMeant
 pub mod TileLists
 pub mod TileIndex
-pub mod WriterLists
 pub mod Firsts
 pub mod WritingTile
 pub mod PacketsFew

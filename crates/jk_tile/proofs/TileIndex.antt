@@ -1,5 +1,5 @@
 -- Where the precincts of a tile stand, one behind another.
-use Rattle.std.proofs.Common.{◌≡◌, ℕ, zero, suc, ◌+◌, ◌-◌, ◌*◌, ◌/◌, ◌%◌, ◌<◌, ◌≤◌, List, [], ◌∷◌, ◌++◌, length, get_or, sym, ap, ◌∙◌, inl, inr, arith, length-append}
+use Rattle.std.proofs.Common.{◌≡◌, ℕ, zero, suc, ◌+◌, ◌-◌, ◌*◌, ◌/◌, ◌%◌, ◌^◌, ◌<◌, ◌≤◌, List, [], ◌∷◌, ◌++◌, length, get_or, sym, ap, ◌∙◌, inl, inr, arith, length-append}
 use Rattle.std.specs.List.{flat_map, range_with_len}
 use Rattle.std.proofs.Math.Nat.{mul-le-mul_right}
 use Rattle.std.proofs.lemmas.Bool.{cases_lt}
@@ -33,6 +33,10 @@ below_rises a k r (suc n) lt = elim (cases_lt r n) [
   | inl less ↦ let before = below_rises a k r n less in let more = below_more a k n in omega (arith, before, more)
   | inr last ↦ let same : r ≡ n = omega (arith, lt, last) in let more = below_more a k n in let e = ap (λ m. precincts_below a k m + precinct_number a k m) same in omega (arith, e, more)
 ]
+
+-- a resolution has no more precincts than all
+pub level_few : (a : Rect) (k : Coding) (r : ℕ) → r < k.levels + 1 → precincts_below a k (k.levels + 1) ≤ 2 ^ 24 → precinct_number a k r ≤ 2 ^ 24
+level_few a k r lt few = let rise = below_rises a k r (k.levels + 1) lt in omega (arith, rise, few)
 
 pub component_at : {X : Type 0} (a : Rect) (k : Coding) (g : ℕ → ℕ → X) (m r n : ℕ) (d : X) → r < m → n < precinct_number a k r → get_or (component_items a k g m) (precincts_below a k r + n) d ≡ g r n
 component_at a k g zero r n d lt some = absurd (omega (arith, lt))

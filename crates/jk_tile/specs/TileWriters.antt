@@ -1,13 +1,15 @@
 -- The tables and the writers of all precincts of a tile, one behind another: component by component, resolution by resolution,
 -- precinct by precinct.
-use Rattle.std.specs.Prelude.{◌≡◌, ℕ, ◌+◌, ◌*◌, ◌<◌, ◌≤◌, Bool, false, List, [], length, map, slice_index_or}
+use Rattle.std.specs.Prelude.{◌≡◌, ℕ, ◌+◌, ◌*◌, ◌<◌, ◌≤◌, Bool, false, List, [], length, map, slice_index_or, Option, Some, None}
 use Rattle.std.specs.List.{flat_map, range_with_len}
-use Rattle.std.specs.Global.{Vec}
+use Rattle.std.specs.Global.{Vec, Box}
 use Rattle.jk_math.specs.declared.rect.Rect.{Rect}
 use Rattle.jk_marks.specs.declared.coding.Coding.{Coding}
+use Rattle.jk_geom.specs.declared.shape.TileShape.{TileShape}
+use Rattle.jk_geom.specs.declared.shape.PacketName.{PacketName}
 use Rattle.jk_geom.specs.Precincts.{precinct_number}
 use Rattle.jk_geom.specs.Counts.{precincts_below}
-use Rattle.jk_packet.specs.Written.{Table, PrecinctTables, AreTables, block_count, banded}
+use Rattle.jk_packet.specs.Written.{Table, PrecinctTables, AreTables, block_count, banded, packet_in}
 use Rattle.jk_walk.specs.TilePackets.{bands_at}
 use Rattle.jk_tile.specs.PacketsWritten.{Tables, precinct_tables}
 use Rattle.jk_tile.specs.TileWritten.{WrittenBands, coefficient_of}
@@ -62,15 +64,28 @@ list_of a k lists c r n = slice_index_or lists (index_of a k c r n) []
 abbrev pub tables_in : Rect → Coding → List (List Table) → Tables
 tables_in a k lists = λ c r n. banded (bands_at a k r n) (list_of a k lists c r n)
 
--- the writers of all precincts of components 0 to m - 1
-abbrev pub tile_writers : Rect → Coding → (sop eph : Bool) → (layers : ℕ) → List (List Table) → (m : ℕ) → List PrecinctTables
-tile_writers a k sop eph layers lists m = tile_items a k (λ c r n. writer_at a k sop eph layers (list_of a k lists c r n) r n) m
-
 -- Lists of tables for all precincts of so many components.
 pub record AreLists (a : Rect) (k : Coding) (layers m : ℕ) (lists : List (List Table)) : Type 0 where
   pub long : length lists ≡ m * precincts_below a k (k.levels + 1)
   pub each : (c r n : ℕ) → c < m → r ≤ k.levels → n < precinct_number a k r → IsPrecinctList a k layers r n (list_of a k lists c r n)
 
--- stands where there is no writer
-abbrev pub no_writer : PrecinctTables
-no_writer = record { shapes = []; sop = false; eph = false; layers = 0; tables = []; written = 0; failed = false }
+-- what is kept of a precinct's writer, if anything is
+abbrev pub WriterSlot : Type 0
+WriterSlot = Option (Box PrecinctTables)
+
+-- the writer that is kept, and a blank one where none is
+abbrev pub writer_of : WriterSlot → PrecinctTables → PrecinctTables
+writer_of (Some b) blank = b.value
+writer_of None blank = blank
+
+-- the writer at a place
+abbrev pub kept_writer : List WriterSlot → ℕ → PrecinctTables → PrecinctTables
+kept_writer slots i blank = writer_of (slice_index_or slots i None) blank
+
+-- the writer of a packet's precinct, which has these tables
+abbrev pub writer_in : TileShape → Coding → (sop eph : Bool) → List Table → List WriterSlot → ℕ → PacketName → PrecinctTables
+writer_in s k sop eph tables slots place n = kept_writer slots place (writer_at s.rect k sop eph s.layers tables n.resolution n.precinct)
+
+-- the next packet of a writer, which is packet `number` of its tile
+abbrev pub text_by : PrecinctTables → ℕ → List ℕ
+text_by w number = packet_in w.shapes w.sop w.eph w.tables w.written number

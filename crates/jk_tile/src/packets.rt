@@ -1,24 +1,25 @@
 //! The packets of a tile that is written, in their order (T.800 B.12).
 
-ghost use Rattle.std.specs.Prelude.{◌≡◌, ℕ, ◌+◌, ◌*◌, ◌^◌, ◌<◌, ◌≤◌, ◌++◌, length, replicate, slice_index, slice_index_or, IfOk, IfErr, OnOk};
-ghost use Rattle.std.specs.List.{flat_map, range_with_len};
+ghost use Rattle.std.specs.Prelude.{◌≡◌, ◌≢◌, ℕ, ◌+◌, ◌*◌, ◌^◌, ◌<◌, ◌≤◌, ◌++◌, length, replicate, None, slice_index, IfOk, IfErr, OnOk, MatchResult};
 ghost use Rattle.jk_math.specs.Memory.{IsMemory};
 ghost use Rattle.jk_marks.specs.Coding.{IsCoding};
 ghost use Rattle.jk_geom.specs.Rectangles.{IsArea};
+ghost use Rattle.jk_geom.specs.Precincts.{precinct_number};
 ghost use Rattle.jk_geom.specs.Counts.{precincts_below};
 ghost use Rattle.jk_geom.specs.TileShapes.{IsTileShape};
 ghost use Rattle.jk_order.specs.PacketOrder.{IsName, packet_count, order};
 ghost use Rattle.jk_params.specs.Coding.{HasPlanes};
-ghost use Rattle.jk_packet.specs.Written.{packet_in};
+ghost use Rattle.jk_packet.specs.Written.{PrecinctTables};
 ghost use Rattle.jk_tile.specs.PacketsWritten.{written_text};
-ghost use Rattle.jk_tile.specs.TileWriters.{table_lists, index_of, tables_in, no_writer, AreLists};
+ghost use Rattle.jk_tile.specs.TileWriters.{table_lists, tables_in, kept_writer, writer_at, writer_in, text_by, IsPrecinctList, AreLists};
 
-use crate::precincts::{PacketMarkers, tile_writers};
+use crate::precincts::PacketMarkers;
 use jk_geom::{PacketName, TileShape, precinct_count};
 use jk_marks::Coding;
 use jk_math::{Fault, Rect};
 use jk_order::{Packets, packet_count};
 use jk_packet::{BlockTable, PrecinctWriter};
+use jk_walk::precinct_shape;
 use std::alloc::Global;
 
 /// How many precincts the resolutions below each one have, and behind the highest resolution all of a component.
@@ -49,25 +50,129 @@ fn place_of(firsts: &[u32; 12], levels: u8, name: PacketName) -> usize
     name.component as usize * firsts[levels as usize + 1] as usize + below
 }
 
-/// Appends the next packet of a precinct, which is packet `number` of the tile.
-fn write_at(
-    writers: &mut Vec<PrecinctWriter<'_>>,
+/// What is kept of the writer of a precinct: nothing before its first packet, and nothing behind its last.
+type Slot<'a> = Option<Box<PrecinctWriter<'a>>>;
+
+/// Slots for so many precincts, of which no packet is written.
+fn no_writers<'a>(alloc: Global, count: usize) -> Result<Vec<Slot<'a>>, Fault>
+    ensures { MatchResult result (λ v. v.items ≡ replicate count None) IsMemory }
+{
+    let mut slots = Vec::with_capacity(alloc, count)?;
+    for _ in 0..count {
+        slots.push(None)?;
+    }
+    Ok(slots)
+}
+
+/// A writer of the precinct of a packet, from the tables of its code-blocks.
+fn new_writer<'a>(
+    alloc: Global,
+    shape: &TileShape,
+    coding: &Coding,
+    markers: PacketMarkers,
+    name: PacketName,
+    tables: &'a [BlockTable],
+) -> Result<PrecinctWriter<'a>, Fault>
+    requires area { IsArea shape.now.rect }
+    requires coding { IsCoding coding.now }
+    requires planes { HasPlanes coding.now }
+    requires resolution { name.resolution ≤ coding.now.levels }
+    requires precinct { name.precinct < precinct_number shape.now.rect coding.now name.resolution }
+    requires tables { IsPrecinctList shape.now.rect coding.now shape.now.layers name.resolution name.precinct tables.now }
+    ensures { MatchResult result
+        (λ w. w ≡ writer_at shape.now.rect coding.now markers.sop markers.eph shape.now.layers tables.now name.resolution name.precinct) IsMemory }
+{
+    let precinct = precinct_shape(
+        &shape.rect,
+        coding,
+        name.resolution,
+        name.precinct,
+        markers.sop,
+        markers.eph,
+    );
+    PrecinctWriter::new(alloc, &precinct, shape.layers, tables)
+}
+
+/// The writer of the precinct of a packet, which is taken out of those that are kept; a new one where none is kept.
+fn take<'a>(
+    alloc: Global,
+    shape: &TileShape,
+    coding: &Coding,
+    markers: PacketMarkers,
+    name: PacketName,
+    tables: &'a [BlockTable],
+    place: usize,
+    slots: &mut Vec<Slot<'a>>,
+) -> Result<Box<PrecinctWriter<'a>>, Fault>
+    requires area { IsArea shape.now.rect }
+    requires coding { IsCoding coding.now }
+    requires planes { HasPlanes coding.now }
+    requires resolution { name.resolution ≤ coding.now.levels }
+    requires precinct { name.precinct < precinct_number shape.now.rect coding.now name.resolution }
+    requires tables { IsPrecinctList shape.now.rect coding.now shape.now.layers name.resolution name.precinct tables.now }
+    requires place { place < length slots.old.items }
+    ensures value { MatchResult result
+        (λ w. w.value ≡ kept_writer slots.old.items place (writer_at shape.now.rect coding.now markers.sop markers.eph shape.now.layers tables.now name.resolution name.precinct)) IsMemory }
+    ensures others { (blank : PrecinctTables) (i : ℕ) → i ≢ place → kept_writer slots.new.items i blank ≡ kept_writer slots.old.items i blank }
+    ensures long { length slots.new.items ≡ length slots.old.items }
+{
+    match slots[place].take() {
+        Some(writer) => Ok(writer),
+        None => Ok(Box::new(
+            alloc,
+            new_writer(alloc, shape, coding, markers, name, tables)?,
+        )?),
+    }
+}
+
+/// Keeps a writer.
+fn keep<'a>(slots: &mut Vec<Slot<'a>>, place: usize, writer: Box<PrecinctWriter<'a>>)
+    requires { place < length slots.old.items }
+    ensures own { (blank : PrecinctTables) → kept_writer slots.new.items place blank ≡ writer.entry.value }
+    ensures others { (blank : PrecinctTables) (i : ℕ) → i ≢ place → kept_writer slots.new.items i blank ≡ kept_writer slots.old.items i blank }
+    ensures long { length slots.new.items ≡ length slots.old.items }
+{
+    slots[place] = Some(writer);
+}
+
+/// Appends the next packet of a precinct, which is packet `number` of the tile. Its writer is made with the first layer
+/// and let go of behind the last one.
+fn write_at<'a>(
+    alloc: Global,
+    shape: &TileShape,
+    coding: &Coding,
+    markers: PacketMarkers,
+    name: PacketName,
+    tables: &'a [BlockTable],
     place: usize,
     number: u32,
+    slots: &mut Vec<Slot<'a>>,
     out: &mut Vec<u8>,
 ) -> Result<(), Fault>
-    requires place { place < length writers.old.items }
-    requires more { (slice_index_or writers.old.items place no_writer).written < (slice_index_or writers.old.items place no_writer).layers }
-    ensures long { length writers.new.items ≡ length writers.old.items }
-    ensures here { OnOk result (slice_index_or writers.new.items place no_writer
-        ≡ record (slice_index_or writers.old.items place no_writer) { written = (slice_index_or writers.old.items place no_writer).written + 1 }) }
-    ensures others { (i : ℕ) → (i ≡ place → ⊥) → slice_index_or writers.new.items i no_writer ≡ slice_index_or writers.old.items i no_writer }
+    requires area { IsArea shape.now.rect }
+    requires coding { IsCoding coding.now }
+    requires planes { HasPlanes coding.now }
+    requires resolution { name.resolution ≤ coding.now.levels }
+    requires precinct { name.precinct < precinct_number shape.now.rect coding.now name.resolution }
+    requires tables { IsPrecinctList shape.now.rect coding.now shape.now.layers name.resolution name.precinct tables.now }
+    requires place { place < length slots.old.items }
+    requires layer { name.layer < shape.now.layers }
+    requires next { name.layer ≡ (writer_in shape.now coding.now markers.sop markers.eph tables.now slots.old.items place name).written }
+    requires more { name.layer < (writer_in shape.now coding.now markers.sop markers.eph tables.now slots.old.items place name).layers }
+    ensures long { length slots.new.items ≡ length slots.old.items }
+    ensures here { OnOk result (name.layer + 1 < shape.now.layers → (blank : PrecinctTables) → kept_writer slots.new.items place blank
+        ≡ record (writer_in shape.now coding.now markers.sop markers.eph tables.now slots.old.items place name) { written = name.layer + 1 }) }
+    ensures others { (blank : PrecinctTables) (i : ℕ) → i ≢ place → kept_writer slots.new.items i blank ≡ kept_writer slots.old.items i blank }
     ensures text { OnOk result (out.new.items ≡ out.old.items
-        ++ packet_in (slice_index_or writers.old.items place no_writer).shapes (slice_index_or writers.old.items place no_writer).sop (slice_index_or writers.old.items place no_writer).eph
-        (slice_index_or writers.old.items place no_writer).tables (slice_index_or writers.old.items place no_writer).written number) }
+        ++ text_by (writer_in shape.now coding.now markers.sop markers.eph tables.now slots.old.items place name) number) }
     ensures memory { IfErr result IsMemory }
 {
-    writers[place].write_packet(number, out)
+    let mut writer = take(alloc, shape, coding, markers, name, tables, place, slots)?;
+    writer.write_packet(number, out)?;
+    if name.layer + 1 < shape.layers {
+        keep(slots, place, writer);
+    }
+    Ok(())
 }
 
 /// The packets of a tile whose components are coded alike, from the tables of its precincts.
@@ -89,16 +194,7 @@ pub(crate) fn write_packets(
     ensures memory { IfErr result IsMemory }
 {
     let firsts = firsts(&shape.rect, coding);
-    let components = shape.codings.as_slice().len();
-    let mut writers = tile_writers(
-        alloc,
-        &shape.rect,
-        coding,
-        markers,
-        shape.layers,
-        components,
-        tables,
-    )?;
+    let mut slots = no_writers(alloc, tables.len())?;
     let mut packets = Packets::new(shape)?;
     let mut out = Vec::new(alloc);
     for number in 0..packet_count(shape) {
@@ -106,7 +202,19 @@ pub(crate) fn write_packets(
             break;
         };
         let place = place_of(&firsts, coding.levels, name);
-        write_at(&mut writers, place, number as u32, &mut out)?;
+        let own = &tables[place];
+        write_at(
+            alloc,
+            shape,
+            coding,
+            markers,
+            name,
+            own,
+            place,
+            number as u32,
+            &mut slots,
+            &mut out,
+        )?;
     }
     Ok(out)
 }

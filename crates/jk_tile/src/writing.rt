@@ -181,7 +181,9 @@ fn add_band(
     let orientation = orientation(part.resolution, part.band);
     let grid = blocks(&rect, coding, part.resolution, part.precinct, orientation);
     let planes = band_planes(coding, part.resolution, part.band);
-    for j in 0..grid.across * grid.down {
+    let count = grid.across * grid.down;
+    tables.reserve_exact(count as usize)?;
+    for j in 0..count {
         let coded = code_at(alloc, source, part, &grid, j)?;
         tables.push(table(alloc, coded, planes, source.layers())?)?;
     }

@@ -1,7 +1,7 @@
 use Rattle.std.proofs.Common.{◌-◌}
-use Rattle.jk_tile.specs.TileWriters.{table_lists, tables_in}
+use Rattle.jk_tile.specs.TileWriters.{table_lists}
 use Rattle.jk_tile.proofs.WritingTile.{IsWritingTile}
 use Rattle.jk_tile.proofs.packets.write_packets.Given as goal
 
 abbrev pub invariant-loop-number : goal.invariant-loop-number
-invariant-loop-number l = IsWritingTile l.shape l.coding l.fn.markers.sop l.fn.markers.eph (tables_in l.shape.rect l.coding (table_lists l.tables)) l.packets l.writers.items l.out.items l.number (l.number-end - l.number)
+invariant-loop-number l = IsWritingTile l.shape l.coding l.fn.markers.sop l.fn.markers.eph (table_lists l.tables) l.packets l.slots.items l.out.items l.number (l.number-end - l.number)
