@@ -93,7 +93,7 @@ pub record HeaderTold (bytes : List ℕ) (x : Header × List ℕ) : Type 0 where
   pub area : x.0.width * x.0.height ≤ 2 ^ 28
   pub raster : told.raster ≡ x.1
 
-header_found : (bytes : List ℕ) (x : Header × List ℕ) → header_at bytes ≡ Ok x → HeaderTold bytes x
+pub header_found : (bytes : List ℕ) (x : Header × List ℕ) → header_at bytes ≡ Ok x → HeaderTold bytes x
 unfolding header_at pnm_text
 header_found bytes x e =
     bind_then (magic_at bytes) _ x e (λ colour s1 e.

@@ -4,6 +4,7 @@ pub mod NumberLaws
 pub mod PlaneLaws
 pub mod PictureLaws
 pub mod FileLaws
+pub mod Tails
 pub mod RasterLaws
 pub mod WrittenLaws
 pub mod Examples

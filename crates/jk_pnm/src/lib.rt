@@ -6,6 +6,6 @@ mod reading;
 mod theorems;
 mod writing;
 
-pub use reading::read;
+pub use reading::{read, read_owned};
 pub use theorems::one_picture;
 pub use writing::write;

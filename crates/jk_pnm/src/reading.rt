@@ -1,6 +1,6 @@
 //! Reading.
 
-ghost use Rattle.std.specs.Prelude.{◌≡◌, ◌*◌, ◌+◌, ◌<◌, ◌≤◌, ◌^◌, length, IfOk, IfErr, Ok, map, pos, slice_index};
+ghost use Rattle.std.specs.Prelude.{◌≡◌, ◌*◌, ◌+◌, ◌-◌, ◌<◌, ◌≤◌, ◌^◌, ℕ, List, false, nat_lt, length, drop, IfOk, IfErr, Ok, map, pos, slice_index};
 ghost use Rattle.std.specs.List.{range_with_len};
 ghost use Rattle.jk_math.specs.Memory.{IsMemory};
 ghost use Rattle.jk_math.specs.Answer.{Answers};
@@ -95,17 +95,15 @@ fn planes(alloc: Global, header: &Header, raster: &[u8]) -> Result<Vec<Vec<i32>>
     Ok(planes)
 }
 
-/// The picture of a raster. BadPnm: a sample above maxval.
-fn picture(alloc: Global, header: &Header, raster: &[u8]) -> Result<Image, Fault>
+/// The picture of these planes. BadPnm: a sample above maxval.
+fn page(header: &Header, planes: Vec<Vec<i32>>) -> Result<Image, Fault>
     requires wide { 0 < header.now.width }
     requires high { 0 < header.now.height }
     requires area { header.now.width * header.now.height ≤ 2 ^ 28 }
     requires depth { 2 ^ header.now.depth ≡ header.now.maxval + 1 }
     requires bits { (1 ≤ header.now.depth) × (header.now.depth ≤ 16) }
-    requires whole { length raster.now ≡ raster_size header.now }
-    ensures { Answers (λ i. i) result (picture_at header.now raster.now) }
+    ensures { (raster : List ℕ) → lists_of planes.items ≡ map (map pos) (samples_of header.now raster) → Answers (λ i. i) result (picture_at header.now raster) }
 {
-    let planes = planes(alloc, header, raster)?;
     match Image::new(
         0,
         0,
@@ -120,6 +118,66 @@ fn picture(alloc: Global, header: &Header, raster: &[u8]) -> Result<Image, Fault
     }
 }
 
+/// The picture of a raster. BadPnm: a sample above maxval.
+fn picture(alloc: Global, header: &Header, raster: &[u8]) -> Result<Image, Fault>
+    requires wide { 0 < header.now.width }
+    requires high { 0 < header.now.height }
+    requires area { header.now.width * header.now.height ≤ 2 ^ 28 }
+    requires depth { 2 ^ header.now.depth ≡ header.now.maxval + 1 }
+    requires bits { (1 ≤ header.now.depth) × (header.now.depth ≤ 16) }
+    requires whole { length raster.now ≡ raster_size header.now }
+    ensures { Answers (λ i. i) result (picture_at header.now raster.now) }
+{
+    let planes = planes(alloc, header, raster)?;
+    page(header, planes)
+}
+
+/// How many bytes of a file are let go of at a time.
+const PIECE: usize = 1 << 20;
+
+/// The samples of the last bytes of a file, each of one byte.
+///
+/// The bytes are let go of as their samples are made, the last ones first, so that file and samples are never both whole
+/// in memory.
+#[inline(never)]
+fn last_samples(alloc: Global, bytes: Vec<u8>, count: usize) -> Result<Vec<i32>, Fault>
+    requires { count ≤ length bytes.items }
+    ensures value { IfOk result (λ v. v.items ≡ map pos (drop (length bytes.items - count) bytes.items)) }
+    ensures err { IfErr result (λ e. IsMemory e) }
+{
+    let mut left = bytes;
+    let mut samples = Vec::with_capacity(alloc, count)?;
+    for _ in 0..count {
+        let Some(byte) = left.pop() else {
+            break;
+        };
+        samples.push(byte as i32)?;
+        if left.len() % PIECE == 0 {
+            left.shrink_to_fit();
+        }
+    }
+    samples.reverse();
+    Ok(samples)
+}
+
+/// The picture of a file of one component and samples of one byte, whose end is the raster.
+fn grey_picture(alloc: Global, header: &Header, bytes: Vec<u8>) -> Result<Image, Fault>
+    requires wide { 0 < header.now.width }
+    requires high { 0 < header.now.height }
+    requires area { header.now.width * header.now.height ≤ 2 ^ 28 }
+    requires depth { 2 ^ header.now.depth ≡ header.now.maxval + 1 }
+    requires bits { (1 ≤ header.now.depth) × (header.now.depth ≤ 16) }
+    requires grey { header.now.colour ≡ false }
+    requires narrow { nat_lt 255 header.now.maxval ≡ false }
+    requires room { raster_size header.now ≤ length bytes.items }
+    ensures { Answers (λ i. i) result (picture_at header.now (drop (length bytes.items - raster_size header.now) bytes.items)) }
+{
+    let samples = last_samples(alloc, bytes, header.raster_size())?;
+    let mut planes = Vec::with_capacity(alloc, 1)?;
+    planes.push(samples)?;
+    page(header, planes)
+}
+
 /// The picture that a file has.
 #[tactic(auto, unfolding(crate::specs::Reading::pnm_at))]
 fn pnm(alloc: Global, bytes: &[u8]) -> Result<Image, Fault>
@@ -130,6 +188,21 @@ fn pnm(alloc: Global, bytes: &[u8]) -> Result<Image, Fault>
         return Err(Fault::BadPnm);
     }
     picture(alloc, &header, raster)
+}
+
+/// The picture that a file has. A file of one component and samples of one byte is let go of while its samples are made.
+#[tactic(auto, unfolding(crate::specs::Reading::pnm_at))]
+fn pnm_of(alloc: Global, bytes: Vec<u8>) -> Result<Image, Fault>
+    ensures { Answers (λ i. i) result (pnm_at bytes.items) }
+{
+    let (header, raster) = read_header(&bytes)?;
+    if raster.len() != header.raster_size() {
+        return Err(Fault::BadPnm);
+    }
+    if header.colour || header.is_wide() {
+        return picture(alloc, &header, raster);
+    }
+    grey_picture(alloc, &header, bytes)
 }
 
 /// The picture of a PGM file (`P5`, one component) or a PPM file (`P6`, three components), its upper left
@@ -145,4 +218,16 @@ pub fn read(alloc: Global, bytes: &[u8]) -> Result<Image, Fault>
     ensures only { (p : Picture) → IsPnm bytes.now p → Answers (λ i. i) result (Ok p) }
 {
     pnm(alloc, bytes)
+}
+
+/// The picture of a PGM or PPM file, as [`read`] gives it. The file is let go of; one of a single component with
+/// samples of one byte piece by piece as they are made, so that file and image take little more memory than the image.
+pub fn read_owned(alloc: Global, bytes: Vec<u8>) -> Result<Image, Fault>
+    ensures exact { Answers (λ i. i) result (pnm_at bytes.items) }
+    // What is read is a file of this picture.
+    ensures found { IfOk result (λ i. IsPnm bytes.items i) }
+    // A file of a picture is read.
+    ensures only { (p : Picture) → IsPnm bytes.items p → Answers (λ i. i) result (Ok p) }
+{
+    pnm_of(alloc, bytes)
 }
