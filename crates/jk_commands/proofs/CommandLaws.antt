@@ -1,5 +1,5 @@
 -- What the steps of a command say of one another.
-use Rattle.std.proofs.Common.{◌≡◌, List, ℕ, Result, Ok, Err, refl, ap, sym, ◌∙◌}
+use Rattle.std.proofs.Common.{◌≡◌, ℕ, Result, Ok, refl, ap, sym}
 use Rattle.jk_math.specs.Answer.{Refuses}
 use Rattle.jk_math.specs.Steps.{guard_ended}
 use Rattle.jk_math.specs.declared.fault.Fault.{Fault}

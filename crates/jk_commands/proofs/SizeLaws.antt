@@ -4,7 +4,7 @@ use Rattle.std.proofs.lemmas.List.{drop_all}
 use Rattle.jk_math.specs.Answer.{◌>>=◌}
 use Rattle.jk_math.specs.declared.fault.Fault.{Fault}
 use Rattle.jk_math.specs.declared.fault.Fault.TheVariants.{BadParameters}
-use Rattle.jk_commands.specs.Sizes.{digit_at, size_at, sizes_at}
+use Rattle.jk_commands.specs.Sizes.{digit_at, sizes_at}
 
 -- sizes in front of others
 abbrev pub behind : List (ℕ × ℕ) → Result (List (ℕ × ℕ)) Fault → Result (List (ℕ × ℕ)) Fault

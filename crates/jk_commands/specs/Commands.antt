@@ -5,7 +5,10 @@ use Rattle.jk_math.specs.declared.fault.Fault.{Fault}
 use Rattle.jk_math.specs.Picture.{Picture}
 use Rattle.jk_pnm.specs.Reading.{pnm_at}
 use Rattle.jk_pnm.specs.Written.{written as pnm_of}
+use Rattle.jk_window.specs.declared.view.View.{View}
 use Rattle.jk_code.specs.MeaningReading.{meaning_at}
+use Rattle.jk_code.specs.Viewing.{picture_of_view}
+use Rattle.jk_code.specs.ViewReading.{meaning_view_at}
 use Rattle.jk_code.specs.Written.{written as file_of}
 use Rattle.jk_commands.specs.declared.plan.Plan.{Plan}
 use Rattle.jk_commands.specs.Plans.{placing}
@@ -22,6 +25,18 @@ unfoldable pub decoded : List ℕ → (reduce : ℕ) → Result (List ℕ) Fault
 decoded bytes reduce = do
   p ← meaning_at bytes reduce
   pnm_of p
+
+-- `jk decode` with a window: the PGM or PPM file of the window of a view
+unfoldable pub window_decoded : List ℕ → View → Result (List ℕ) Fault
+window_decoded bytes v = do
+  p ← meaning_view_at bytes v
+  pnm_of p
+
+-- the PGM or PPM file of a picture on the window of a view; BadWindow where the window has no sample
+abbrev pub window_given : View → Picture → Result (List ℕ) Fault
+window_given v p = do
+  q ← picture_of_view v p
+  pnm_of q
 
 -- what decoding, not reduced, writes of what encoding writes
 abbrev pub encoded_and_decoded : List ℕ → Plan → Result (List ℕ) Fault

@@ -10,6 +10,7 @@ mod plan;
 mod sizes;
 mod telling;
 mod theorems;
+mod viewing;
 
 pub use cutting::cut_file;
 pub use decoding::decode_file;
@@ -19,3 +20,4 @@ pub use orders::{order_name, order_named};
 pub use plan::{Placed, Plan, judge};
 pub use telling::info_file;
 pub use theorems::encode_and_decode;
+pub use viewing::decode_window_file;

@@ -22,6 +22,13 @@ number of decomposition levels of a component of a tile: the image can't be halv
 LAYERS and ORDER are those of the main header. The boxes, all headers and all packets are read, and
 what is wrong with them is a fault; code-blocks aren't decoded.";
 
+/// What `jk decode` does with a window.
+const DECODE_WORDS: &str = "\
+With --x, --y, --w and --h a window alone is decoded, in the time and memory of a window. Columns
+and rows are counted on the reduced image, from its upper left sample; what passes its edge is left
+out. Packets and code-blocks on which the window doesn't depend aren't judged. IN may be the file of
+a window (`jk cut`), on which columns and rows are counted as on the old file.";
+
 /// What `jk cut` gives.
 const CUT_WORDS: &str = "\
 Columns and rows are counted on the reduced image, from its upper left sample; what passes its edge
@@ -53,6 +60,8 @@ enum Form<'a> {
     Number(&'a str),
     /// An option with a number that is required.
     Required,
+    /// One of the four numbers of a window, which are given together.
+    Window,
     /// An option with a number, the letter for it, and what stands where it isn't given.
     Default(&'a str, &'a str),
     /// An order of packets, and what stands where it isn't given.
@@ -73,6 +82,9 @@ const EXPLAIN: Word<'static> = Word(
     Form::Flag,
     "Say the cause of a fault in words, behind its line; on a terminal they are there anyway",
 );
+
+/// The numbers of a window.
+static WINDOW: [&str; 4] = ["x", "y", "w", "h"];
 
 /// The folder of an archive.
 const FOLDER: Word<'static> = Word("DIR", Form::Place, "The folder of the archive");
@@ -127,7 +139,7 @@ fn with_words<'a>(
 ) -> Result<Command<'a>, AllocError> {
     let mut command = command;
     for word in words {
-        command = command.arg(arg(alloc, *word))?;
+        command = command.arg(arg(alloc, *word)?)?;
     }
     Ok(command)
 }
@@ -245,7 +257,9 @@ fn tiling<'a>(
 
 /// `jk decode IN OUT`.
 fn decode<'a>(alloc: Global) -> Result<Command<'a>, AllocError> {
-    let command = Command::new(alloc, "decode").about("Decodes a JPEG 2000 file to PGM or PPM");
+    let command = Command::new(alloc, "decode")
+        .about("Decodes a JPEG 2000 file, or a window of it, to PGM or PPM")
+        .after_help(DECODE_WORDS);
     let words = [
         CODED,
         Word(
@@ -253,6 +267,14 @@ fn decode<'a>(alloc: Global) -> Result<Command<'a>, AllocError> {
             Form::Place,
             "The PGM or PPM file to write, or - for standard output",
         ),
+        Word(
+            "x",
+            Form::Window,
+            "The left column of a window; with --y, --w and --h",
+        ),
+        Word("y", Form::Window, "The upper row of the window"),
+        Word("w", Form::Window, "How many columns it has"),
+        Word("h", Form::Window, "How many rows it has"),
         Word(
             "reduce",
             Form::Default("D", "0"),
@@ -346,19 +368,20 @@ fn faults<'a>(alloc: Global) -> Result<Command<'a>, AllocError> {
 }
 
 /// What clap is told of a word.
-fn arg<'a>(alloc: Global, word: Word<'a>) -> Arg<'a> {
+fn arg<'a>(alloc: Global, word: Word<'a>) -> Result<Arg<'a>, AllocError> {
     let Word(name, form, help) = word;
     let arg = match form {
         Form::Place => Arg::new(alloc, name).required(true),
         Form::Flag => Arg::new(alloc, name).long(name).action(ArgAction::SetTrue),
         Form::Number(letter) => number(alloc, name, letter),
         Form::Required => number(alloc, name, "N").required(true),
+        Form::Window => number(alloc, name, "N").requires_all(&WINDOW)?,
         Form::Default(letter, value) => number(alloc, name, letter).default_value(value),
         Form::Order(value) => order(alloc, name, value),
         Form::Bytes => Arg::new(alloc, name).long(name).value_name("HEX"),
         Form::Port => port(alloc, name),
     };
-    arg.help(help)
+    Ok(arg.help(help))
 }
 
 /// An option with a number.

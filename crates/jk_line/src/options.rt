@@ -60,6 +60,14 @@ pub(crate) fn view(line: &ArgMatches<'_>) -> View {
     }
 }
 
+/// The window to decode, where one is given: its four numbers come together.
+pub(crate) fn window(line: &ArgMatches<'_>) -> Option<View> {
+    match line.get_one::<u32>("x") {
+        Some(_) => Some(view(line)),
+        None => None,
+    }
+}
+
 /// How an archive is served.
 pub(crate) fn serving(line: &ArgMatches<'_>) -> Serving {
     Serving {

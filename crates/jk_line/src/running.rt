@@ -11,7 +11,7 @@ use crate::world::World;
 use crate::{archive, options};
 use clap::ArgMatches;
 use clap::error::ErrorKind;
-use jk_commands::{cut_file, decode_file, encode_file_into, info_file, judge};
+use jk_commands::{cut_file, decode_file, decode_window_file, encode_file_into, info_file, judge};
 use jk_math::Fault;
 use std::alloc::Global;
 
@@ -35,11 +35,15 @@ fn encode<W: World>(alloc: Global, line: &ArgMatches<'_>, world: &mut W) -> Resu
     }
 }
 
-/// `jk decode IN OUT`.
+/// `jk decode IN OUT`: the image, or a window of it.
 fn decode<W: World>(alloc: Global, line: &ArgMatches<'_>, world: &mut W) -> Result<(), Failure> {
     let bytes = read(alloc, world, options::input(line))?;
     let left_out = left_out(&bytes);
-    match decode_file(alloc, bytes, options::reduction(line)) {
+    let decoded = match options::window(line) {
+        Some(view) => decode_window_file(alloc, bytes, view),
+        None => decode_file(alloc, bytes, options::reduction(line)),
+    };
+    match decoded {
         Ok(text) => write(alloc, world, options::output(line), &text),
         Err(fault) => Err(of_file(alloc, fault, left_out)),
     }

@@ -1,7 +1,6 @@
-use Rattle.std.proofs.Common.{◌≡◌, ℕ, Ok, ap, sym, subst, ◌∙◌}
+use Rattle.std.proofs.Common.{◌≡◌, ℕ, ap, sym}
 use Rattle.std.specs.Global.{Vec}
 use Rattle.std.proofs.lemmas.Result.{err_from_is_err_and}
-use Rattle.jk_math.specs.Picture.{Picture}
 use Rattle.jk_math.specs.Steps.{ok_is, answers_same}
 use Rattle.jk_pnm.specs.Written.{written as pnm_of}
 use Rattle.jk_commands.proofs.CommandLaws.{refuses_other}
