@@ -2,6 +2,8 @@
 #![tactic(auto)]
 
 #[cfg(test)]
+mod asserts;
+#[cfg(test)]
 mod calls;
 #[cfg(test)]
 mod geometry;
@@ -13,6 +15,8 @@ mod headers;
 mod layers;
 #[cfg(test)]
 mod meanings;
+#[cfg(test)]
+mod mixed;
 #[cfg(test)]
 mod pages;
 #[cfg(test)]

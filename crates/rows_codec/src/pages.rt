@@ -1,141 +1,128 @@
-use crate::calls::{self, decode, encode};
-use crate::texts::{MAIN, bytes_of, changed};
-use jk_marks::Order;
+//! Files of one packet, as they are written and read.
+
+use crate::asserts::{equal, equal_at};
+use crate::calls::{self, decode, decode_pnm, encode_pnm, plain, refusal};
+use crate::texts::{MAIN, bytes_of, changed, even_pnm};
 use jk_math::Fault;
 use jk_params::{Container, Parameters, read_codestream};
 use std::alloc::Global;
+use std::process::Abort;
 use std::test::Fail;
 
-/// No decomposition, a bare codestream.
-fn bare(alloc: Global) -> Parameters {
-    Parameters {
-        levels: 0,
-        layers: 1,
-        order: Order::Lrcp,
-        tile: None,
-        xcb: 6,
-        ycb: 6,
-        precincts: Vec::new(alloc),
-        colour: false,
-        sop: false,
-        eph: false,
-        container: Container::Raw,
-    }
-}
+/// The PGM file of one grey pixel.
+static PIXEL: &[u8] = b"P5\n1 1\n255\n\x80";
 
-/// A PGM file whose samples are all 128.
-fn grey(alloc: Global, header: &str, area: usize) -> Result<Vec<u8>, Fail> {
-    let mut file = Vec::new(alloc);
-    file.extend_from_slice(header.as_bytes())?;
-    for _ in 0..area {
-        file.push(128)?;
-    }
-    Ok(file)
-}
+/// Its tile-part, and EOC.
+static PART: &str = "FF90 000A 0000 0000000F 00 01 FF93 00 FFD9";
 
 #[test]
 fn one_pixel(rt: HostRuntime) -> Result<(), Fail> {
     let alloc = rt.alloc();
-    let pgm = grey(alloc, "P5\n1 1\n255\n", 1)?;
-    let image = calls::read(alloc, &pgm).ok().ok_or("an image")?;
-    let file = encode(alloc, &image, &bare(alloc)).ok().ok_or("a file")?;
-    let wanted = bytes_of(alloc, &[MAIN, "FF90 000A 0000 0000000F 00 01 FF93 00 FFD9"])?;
-    assert_eq!(rt; wanted.len(), 82);
-    assert_eq!(rt; &file[..], &wanted[..]);
-    let back = decode(alloc, &file, 0).ok().ok_or("an image again")?;
-    let again = calls::write(alloc, &back).ok().ok_or("a PGM file")?;
-    assert_eq!(rt; &again[..], &pgm[..]);
+    let file = encode_pnm(alloc, PIXEL, &plain(alloc, 0))?;
+    let wanted = bytes_of(alloc, &[MAIN, PART])?;
+    equal(&rt, wanted.len(), 82);
+    equal(&rt, file.as_slice(), wanted.as_slice());
+    equal(&rt, decode_pnm(alloc, &file, 0)?.as_slice(), PIXEL);
+    Ok(())
+}
+
+/// The width and height of the image of a PGM file.
+fn size_of(alloc: Global, pgm: &[u8]) -> Result<(u32, u32), Fault> {
+    let image = calls::read(alloc, pgm)?;
+    Ok((image.width(), image.height()))
+}
+
+/// The headers of the file of a whole page.
+fn page_headers(rt: &impl Abort, alloc: Global, file: &[u8]) -> Result<(), Fail> {
+    let headers = read_codestream(alloc, file)?;
+    equal(rt, (headers.siz().x1, headers.siz().y1), (300, 200));
+    assert_eq!(rt; headers.tile_count(), 1);
+    equal(rt, headers.data_places(0), [(79, 80)].as_slice());
+    equal(rt, headers.cod(0).layers, 1);
+    equal(rt, headers.codings(0).as_slice().len(), 1);
     Ok(())
 }
 
 #[test]
 fn whole_page(rt: HostRuntime) -> Result<(), Fail> {
     let alloc = rt.alloc();
-    let pgm = grey(alloc, "P5\n300 200\n255\n", 60_000)?;
-    let image = calls::read(alloc, &pgm).ok().ok_or("an image")?;
-    assert_eq!(rt; (image.width(), image.height()), (300, 200));
-    let file = encode(alloc, &image, &bare(alloc)).ok().ok_or("a file")?;
-    assert_eq!(rt; file.len(), 82);
-    let headers = read_codestream(alloc, &file).ok().ok_or("headers")?;
-    assert_eq!(rt; (headers.siz().x1, headers.siz().y1), (300, 200));
-    assert_eq!(rt; headers.tile_count(), 1);
-    assert_eq!(rt; *headers.data_places(0), *[(79, 80)].as_slice());
-    assert_eq!(rt; headers.cod(0).layers, 1);
-    assert_eq!(rt; headers.codings(0).as_slice().len(), 1);
-    let back = decode(alloc, &file, 0).ok().ok_or("an image again")?;
-    let again = calls::write(alloc, &back).ok().ok_or("a PGM file")?;
-    assert!(rt; again[..] == pgm[..]);
+    let pgm = even_pnm(alloc, "P5\n300 200\n255\n", 60_000, 128)?;
+    equal(&rt, size_of(alloc, &pgm), Ok((300, 200)));
+    let file = encode_pnm(alloc, &pgm, &plain(alloc, 0))?;
+    equal(&rt, file.len(), 82);
+    page_headers(&rt, alloc, &file)?;
+    let again = decode_pnm(alloc, &file, 0)?;
+    equal(&rt, again.as_slice() == pgm.as_slice(), true);
     Ok(())
 }
+
+/// Other tile-parts of one grey pixel; the packet of the last isn't empty and includes no code-block.
+static OTHERS: [&str; 4] = [
+    "FF90 000A 0000 00000000 00 01 FF93 00 FFD9",
+    "FF90 000A 0000 0000000F 00 01 FF93 7F FFD9",
+    "FF90 000A 0000 0000000F 00 FF FF93 00 FFD9",
+    "FF90 000A 0000 0000000F 00 01 FF93 80 FFD9",
+];
 
 #[test]
 fn other_files(rt: HostRuntime) -> Result<(), Fail> {
     let alloc = rt.alloc();
-    for part in [
-        "FF90 000A 0000 00000000 00 01 FF93 00 FFD9",
-        "FF90 000A 0000 0000000F 00 01 FF93 7F FFD9",
-        "FF90 000A 0000 0000000F 00 FF FF93 00 FFD9",
-        // A packet that isn't empty and includes no code-block.
-        "FF90 000A 0000 0000000F 00 01 FF93 80 FFD9",
-    ] {
+    for part in &OTHERS {
         let file = bytes_of(alloc, &[MAIN, part])?;
-        let image = decode(alloc, &file, 0).ok().ok_or("an image")?;
-        let text = calls::write(alloc, &image).ok().ok_or("a PGM file")?;
-        let wanted = grey(alloc, "P5\n1 1\n255\n", 1)?;
-        assert_eq!(rt; &text[..], &wanted[..], "{part}");
-        assert_eq!(rt;
-            decode(alloc, &file, 1).err(),
-            Some(Fault::BadWindow),
-            "{part}"
-        );
+        let pgm = decode_pnm(alloc, &file, 0)?;
+        equal_at(&rt, *part, pgm.as_slice(), PIXEL);
+        equal_at(&rt, *part, refusal(alloc, &file, 1), Some(Fault::BadWindow));
     }
     Ok(())
 }
 
+/// Tile-parts that are refused.
+static REFUSED: [(&str, Fault); 10] = [
+    (
+        "FF90 000A 0000 0000000E 00 01 FF93 FFD9",
+        Fault::MissingPackets,
+    ),
+    (
+        "FF90 000A 0000 00000010 00 01 FF93 00 00 FFD9",
+        Fault::SurplusBytes,
+    ),
+    (
+        "FF90 000A 0000 0000000F 00 01 FF93 00 FFD9 00",
+        Fault::SurplusBytes,
+    ),
+    ("FF90 000A 0000 0000000F 00 01 FF93 00", Fault::Truncated),
+    (
+        "FF90 000A 0000 0000000F 00 01 FF93 00 FFD8",
+        Fault::BadMarker,
+    ),
+    (
+        "FF90 000A 0000 00000012 00 01 FF93 00 FFD9",
+        Fault::Truncated,
+    ),
+    (
+        "FF90 000A 0000 0000000D 00 01 FF93 00 FFD9",
+        Fault::BadLength,
+    ),
+    (
+        "FF90 000B 0000 0000000F 00 01 FF93 00 FFD9",
+        Fault::BadLength,
+    ),
+    (
+        "FF90 000A 0001 0000000F 00 01 FF93 00 FFD9",
+        Fault::BadValue,
+    ),
+    (
+        "FF90 000A 0000 0000000F 01 01 FF93 00 FFD9",
+        Fault::BadValue,
+    ),
+];
+
 #[test]
 fn refused_files(rt: HostRuntime) -> Result<(), Fail> {
     let alloc = rt.alloc();
-    for (part, fault) in [
-        (
-            "FF90 000A 0000 0000000E 00 01 FF93 FFD9",
-            Fault::MissingPackets,
-        ),
-        (
-            "FF90 000A 0000 00000010 00 01 FF93 00 00 FFD9",
-            Fault::SurplusBytes,
-        ),
-        (
-            "FF90 000A 0000 0000000F 00 01 FF93 00 FFD9 00",
-            Fault::SurplusBytes,
-        ),
-        ("FF90 000A 0000 0000000F 00 01 FF93 00", Fault::Truncated),
-        (
-            "FF90 000A 0000 0000000F 00 01 FF93 00 FFD8",
-            Fault::BadMarker,
-        ),
-        (
-            "FF90 000A 0000 00000012 00 01 FF93 00 FFD9",
-            Fault::Truncated,
-        ),
-        (
-            "FF90 000A 0000 0000000D 00 01 FF93 00 FFD9",
-            Fault::BadLength,
-        ),
-        (
-            "FF90 000B 0000 0000000F 00 01 FF93 00 FFD9",
-            Fault::BadLength,
-        ),
-        (
-            "FF90 000A 0001 0000000F 00 01 FF93 00 FFD9",
-            Fault::BadValue,
-        ),
-        (
-            "FF90 000A 0000 0000000F 01 01 FF93 00 FFD9",
-            Fault::BadValue,
-        ),
-    ] {
+    for (part, fault) in &REFUSED {
         let file = bytes_of(alloc, &[MAIN, part])?;
-        assert_eq!(rt; decode(alloc, &file, 0).err(), Some(fault), "{part}");
+        equal_at(&rt, *part, refusal(alloc, &file, 0), Some(*fault));
     }
     Ok(())
 }
@@ -144,138 +131,151 @@ fn refused_files(rt: HostRuntime) -> Result<(), Fail> {
 #[test]
 fn fronts(rt: HostRuntime) -> Result<(), Fail> {
     let alloc = rt.alloc();
-    let file = bytes_of(alloc, &[MAIN, "FF90 000A 0000 0000000F 00 01 FF93 00 FFD9"])?;
+    let file = bytes_of(alloc, &[MAIN, PART])?;
     for length in 0..file.len() {
-        let fault = decode(alloc, &file[..length], 0).err();
-        assert_eq!(rt; fault, Some(Fault::Truncated), "{length}");
+        let fault = refusal(alloc, &file[..length], 0);
+        equal_at(&rt, length, fault, Some(Fault::Truncated));
     }
     Ok(())
 }
+
+/// A tile-part with a comment and the lengths of packets.
+static LONG_PART: &str =
+    "FF90 000A 0000 0000001C 00 01 FF64 0005 0001 41 FF58 0004 00 03 FF93 00 FFD9";
 
 /// A page whose main header has segments that are passed over.
 #[test]
 fn passed_segments(rt: HostRuntime) -> Result<(), Fail> {
     let alloc = rt.alloc();
-    let part = "FF90 000A 0000 0000000F 00 01 FF93 00 FFD9";
-    let file = bytes_of(alloc, &[MAIN, "FF30 FF6F 0003 00", part])?;
-    assert_eq!(rt; file.len(), 89);
-    let image = decode(alloc, &file, 0).ok().ok_or("an image")?;
-    let text = calls::write(alloc, &image).ok().ok_or("a PGM file")?;
-    let wanted = grey(alloc, "P5\n1 1\n255\n", 1)?;
-    assert_eq!(rt; &text[..], &wanted[..]);
-    let short = bytes_of(alloc, &[MAIN, "FF30 FF6F 0001 00", part])?;
-    assert_eq!(rt; decode(alloc, &short, 0).err(), Some(Fault::BadLength));
-    let long = "FF90 000A 0000 0000001C 00 01 FF64 0005 0001 41 FF58 0004 00 03 FF93 00 FFD9";
-    let commented = bytes_of(
-        alloc,
-        &[MAIN, "FF64 0006 0001 4142 FF55 0008 00 40 00000017", long],
-    )?;
-    assert!(rt; decode(alloc, &commented, 0).is_ok());
+    let file = bytes_of(alloc, &[MAIN, "FF30 FF6F 0003 00", PART])?;
+    equal(&rt, file.len(), 89);
+    equal(&rt, decode_pnm(alloc, &file, 0)?.as_slice(), PIXEL);
+    let short = bytes_of(alloc, &[MAIN, "FF30 FF6F 0001 00", PART])?;
+    equal(&rt, refusal(alloc, &short, 0), Some(Fault::BadLength));
+    let comment = "FF64 0006 0001 4142 FF55 0008 00 40 00000017";
+    let commented = bytes_of(alloc, &[MAIN, comment, LONG_PART])?;
+    equal(&rt, refusal(alloc, &commented, 0), None);
     Ok(())
 }
 
-/// Main headers of which one number is another.
+/// Main headers of which one number is another, and why they are refused. In the last one it is a second component,
+/// which SIZ doesn't have room for.
+static REFUSED_HEADERS: [(usize, u8, Fault); 6] = [
+    (3, 0x52, Fault::BadMarker),
+    (5, 0x28, Fault::BadLength),
+    (19, 1, Fault::BadValue),
+    (58, 0, Fault::Unsupported),
+    (8, 0x80, Fault::Limit),
+    (41, 2, Fault::BadLength),
+];
+
 #[test]
 fn refused_headers(rt: HostRuntime) -> Result<(), Fail> {
     let alloc = rt.alloc();
-    let part = "FF90 000A 0000 0000000F 00 01 FF93 00 FFD9";
-    for (place, byte, fault) in [
-        (3, 0x52, Fault::BadMarker),
-        (5, 0x28, Fault::BadLength),
-        (19, 1, Fault::BadValue),
-        (58, 0, Fault::Unsupported),
-        (8, 0x80, Fault::Limit),
-        // A second component, which SIZ doesn't have room for.
-        (41, 2, Fault::BadLength),
-    ] {
-        let file = changed(alloc, &[MAIN, part], place, byte)?;
-        assert_eq!(rt; decode(alloc, &file, 0).err(), Some(fault), "{place}");
-    }
-    // Signed samples, and a tile higher than the image.
-    for (place, byte, sample) in [(42, 0x87, 0), (31, 2, 128)] {
-        let file = changed(alloc, &[MAIN, part], place, byte)?;
-        let image = decode(alloc, &file, 0).ok().ok_or("an image")?;
-        assert_eq!(rt; *image.planes().plane(0), *[sample].as_slice(), "{place}");
+    for (place, byte, fault) in &REFUSED_HEADERS {
+        let file = changed(alloc, &[MAIN, PART], *place, *byte)?;
+        equal_at(&rt, *place, refusal(alloc, &file, 0), Some(*fault));
     }
     Ok(())
 }
 
+/// A page with a byte of its main header changed has one sample.
+fn one_sample(
+    rt: &impl Abort,
+    alloc: Global,
+    place: usize,
+    byte: u8,
+    sample: i32,
+) -> Result<(), Fail> {
+    let file = changed(alloc, &[MAIN, PART], place, byte)?;
+    let image = decode(alloc, &file, 0)?;
+    equal_at(rt, place, image.planes().plane(0), [sample].as_slice());
+    Ok(())
+}
+
+/// Signed samples, and a tile higher than the image.
 #[test]
-fn parameters(rt: HostRuntime) -> Result<(), Fail> {
+fn other_headers(rt: HostRuntime) -> Result<(), Fail> {
+    one_sample(&rt, rt.alloc(), 42, 0x87, 0)?;
+    one_sample(&rt, rt.alloc(), 31, 2, 128)
+}
+
+/// Whether an image of two grey samples is encoded with these.
+fn checked(alloc: Global, given: Parameters) -> Result<(), Fault> {
+    given.check(&calls::read(alloc, b"P5\n2 1\n255\n\x80\x80")?)
+}
+
+#[test]
+fn accepted_parameters(rt: HostRuntime) -> Result<(), Fail> {
     let alloc = rt.alloc();
-    let pgm = grey(alloc, "P5\n2 1\n255\n", 2)?;
-    let image = calls::read(alloc, &pgm).ok().ok_or("an image")?;
-    let mut pairs = Vec::new(alloc);
-    pairs.push((0, 15))?;
-    let mut given = bare(alloc);
-    given.precincts = pairs;
+    let mut given = plain(alloc, 0);
+    given.precincts.push((0, 15))?;
     given.container = Container::Jp2;
-    assert_eq!(rt; given.check(&image), Ok(()));
+    equal(&rt, checked(alloc, given), Ok(()));
+    let mut tiles = plain(alloc, 0);
+    tiles.tile = Some((1, 1));
+    equal(&rt, checked(alloc, tiles), Ok(()));
+    Ok(())
+}
+
+#[test]
+fn refused_parameters(rt: HostRuntime) {
+    let alloc = rt.alloc();
     let bad = Err(Fault::BadParameters);
-    let mut six = bare(alloc);
-    six.levels = 6;
-    assert_eq!(rt; six.check(&image), bad);
-    assert_eq!(rt;
-        encode(alloc, &image, &six).err(),
-        Some(Fault::BadParameters)
-    );
-    let mut colour = bare(alloc);
+    equal(&rt, checked(alloc, plain(alloc, 6)), bad);
+    let answer = encode_pnm(alloc, b"P5\n2 1\n255\n\x80\x80", &plain(alloc, 6));
+    equal(&rt, answer.err(), Some(Fault::BadParameters));
+    let mut colour = plain(alloc, 0);
     colour.colour = true;
-    assert_eq!(rt; colour.check(&image), bad);
-    let mut wide = bare(alloc);
+    equal(&rt, checked(alloc, colour), bad);
+    let mut wide = plain(alloc, 0);
     wide.xcb = 10;
     wide.ycb = 3;
-    assert_eq!(rt; wide.check(&image), bad);
-    let mut none = bare(alloc);
+    equal(&rt, checked(alloc, wide), bad);
+    let mut none = plain(alloc, 0);
     none.layers = 0;
-    assert_eq!(rt; none.check(&image), bad);
-    let mut flat = bare(alloc);
+    equal(&rt, checked(alloc, none), bad);
+    let mut flat = plain(alloc, 0);
     flat.tile = Some((1, 0));
-    assert_eq!(rt; flat.check(&image), bad);
-    let mut tiles = bare(alloc);
-    tiles.tile = Some((1, 1));
-    assert_eq!(rt; tiles.check(&image), Ok(()));
-    Ok(())
+    equal(&rt, checked(alloc, flat), bad);
 }
 
 /// The boxes in front of the codestream of one grey pixel.
 static BOXES: &str =
     "0000000C 6A502020 0D0A870A 00000014 66747970 6A703220 00000000 6A703220 0000002D 6A703268 00000016 69686472 00000001 00000001 0001 07 07 00 00 0000000F 636F6C72 01 00 00 00000011 0000005A 6A703263";
 
-/// Its tile-part, and EOC.
-static PART: &str = "FF90 000A 0000 0000000F 00 01 FF93 00 FFD9";
-
 #[test]
 fn boxed_page(rt: HostRuntime) -> Result<(), Fail> {
     let alloc = rt.alloc();
-    let pgm = grey(alloc, "P5\n1 1\n255\n", 1)?;
-    let image = calls::read(alloc, &pgm)?;
-    let mut boxed = bare(alloc);
+    let mut boxed = plain(alloc, 0);
     boxed.container = Container::Jp2;
-    let file = encode(alloc, &image, &boxed)?;
+    let file = encode_pnm(alloc, PIXEL, &boxed)?;
     let wanted = bytes_of(alloc, &[BOXES, MAIN, PART])?;
-    assert_eq!(rt; wanted.len(), 167);
-    assert_eq!(rt; &file[..], &wanted[..]);
+    equal(&rt, wanted.len(), 167);
+    equal(&rt, file.as_slice(), wanted.as_slice());
+    Ok(())
+}
+
+/// The file of one grey pixel with this behind the codestream has its sample.
+fn passes_over(rt: &impl Abort, alloc: Global, last: &str) -> Result<(), Fail> {
+    let file = bytes_of(alloc, &[BOXES, MAIN, PART, last])?;
+    let image = decode(alloc, &file, 0)?;
+    equal_at(rt, last, image.planes().plane(0), [128].as_slice());
     Ok(())
 }
 
 /// The boxes are passed over, and so is one behind the codestream.
 #[test]
 fn boxes_passed_over(rt: HostRuntime) -> Result<(), Fail> {
-    let alloc = rt.alloc();
-    for last in ["", "00000009 66726565 00"] {
-        let file = bytes_of(alloc, &[BOXES, MAIN, PART, last])?;
-        let image = decode(alloc, &file, 0)?;
-        assert_eq!(rt; *image.planes().plane(0), *[128].as_slice(), "{last}");
-    }
-    Ok(())
+    passes_over(&rt, rt.alloc(), "")?;
+    passes_over(&rt, rt.alloc(), "00000009 66726565 00")
 }
 
 #[test]
 fn another_signature(rt: HostRuntime) -> Result<(), Fail> {
     let alloc = rt.alloc();
     let file = bytes_of(alloc, &["0000000C 6A502020 0D0B870A", MAIN, PART])?;
-    assert_eq!(rt; decode(alloc, &file, 0).err(), Some(Fault::BadBox));
+    equal(&rt, refusal(alloc, &file, 0), Some(Fault::BadBox));
     Ok(())
 }
 
@@ -283,12 +283,9 @@ fn another_signature(rt: HostRuntime) -> Result<(), Fail> {
 #[test]
 fn placed_page(rt: HostRuntime) -> Result<(), Fail> {
     let alloc = rt.alloc();
-    let image = calls::read(alloc, b"P5\n2 1\n255\nab")
-        .ok()
-        .ok_or("an image")?;
-    assert_eq!(rt; *image.planes().plane(0), *[97, 98].as_slice());
-    let moved = image.place(1, 0).ok().ok_or("a place")?;
-    let text = calls::write(alloc, &moved).ok().ok_or("a PGM file")?;
-    assert_eq!(rt; &text[..], "P5\n2 1\n255\nab".as_bytes());
+    let image = calls::read(alloc, b"P5\n2 1\n255\nab")?;
+    equal(&rt, image.planes().plane(0), [97, 98].as_slice());
+    let text = calls::write(alloc, &image.place(1, 0)?)?;
+    equal(&rt, text.as_slice(), b"P5\n2 1\n255\nab".as_slice());
     Ok(())
 }

@@ -1,6 +1,7 @@
 ghost use Rattle.std.specs.Prelude.{◌≡◌, length, IfOk};
 ghost use Rattle.jk_marks.specs.Siz.{IsSiz, tile_count};
 
+use crate::asserts::equal;
 use crate::texts::{MAIN, bytes_of};
 use jk_geom::tile_count;
 use jk_marks::marker::{COD, EOC, QCD, SIZ, SOC, SOD, SOT};
@@ -13,17 +14,17 @@ use std::test::Fail;
 fn cursor(rt: HostRuntime) -> Result<(), Fail> {
     let bytes = [0xFF, 0x4F, 7, 0, 4, 0xAB, 0xCD, 1, 2, 3, 4, 9];
     let mut cursor = Cursor::new(&bytes, 0);
-    assert_eq!(rt; cursor.two_bytes(), Ok(SOC));
-    assert_eq!(rt; cursor.byte(), Ok(7));
-    assert_eq!(rt; cursor.enter(), Ok(4));
-    assert_eq!(rt; cursor.four_bytes(), Err(Fault::BadLength));
-    assert_eq!(rt; cursor.two_bytes(), Ok(0xABCD));
+    equal(&rt, cursor.two_bytes(), Ok(SOC));
+    equal(&rt, cursor.byte(), Ok(7));
+    equal(&rt, cursor.enter(), Ok(4));
+    equal(&rt, cursor.four_bytes(), Err(Fault::BadLength));
+    equal(&rt, cursor.two_bytes(), Ok(0xABCD));
     cursor.leave();
-    assert_eq!(rt; cursor.at(), 7);
-    assert_eq!(rt; cursor.four_bytes(), Ok(0x0102_0304));
-    assert_eq!(rt; cursor.is_at_end(), false);
-    assert_eq!(rt; cursor.two_bytes(), Err(Fault::Truncated));
-    assert_eq!(rt; cursor.left(), 1);
+    equal(&rt, cursor.at(), 7);
+    equal(&rt, cursor.four_bytes(), Ok(0x0102_0304));
+    equal(&rt, cursor.is_at_end(), false);
+    equal(&rt, cursor.two_bytes(), Err(Fault::Truncated));
+    equal(&rt, cursor.left(), 1);
     Ok(())
 }
 
@@ -94,16 +95,16 @@ fn main_fields(bytes: &[u8]) -> Result<Seen, Fail> {
 fn main_headers(rt: HostRuntime) -> Result<(), Fail> {
     let part = "FF90 000A 0000 0000000F 00 01 FF93 00";
     let file = bytes_of(rt.alloc(), &[MAIN, part])?;
-    assert_eq!(rt; file.len(), 80);
+    equal(&rt, file.len(), 80);
     let seen = main_fields(&file)?;
-    assert_eq!(rt; seen.length, 65);
-    assert_eq!(rt; seen.size, (1, 1));
-    assert_eq!(rt; seen.tiles, 1);
-    assert_eq!(rt; seen.order, Order::Lrcp);
-    assert_eq!(rt; (seen.precincts, seen.exponents), (0, 1));
-    assert_eq!(rt; Precincts::none().as_slice().len(), 0);
-    assert_eq!(rt; (SOC, SIZ, COD, QCD), (0xFF4F, 0xFF51, 0xFF52, 0xFF5C));
-    assert_eq!(rt; (SOT, SOD, EOC), (0xFF90, 0xFF93, 0xFFD9));
+    equal(&rt, seen.length, 65);
+    equal(&rt, seen.size, (1, 1));
+    equal(&rt, seen.tiles, 1);
+    equal(&rt, seen.order, Order::Lrcp);
+    equal(&rt, (seen.precincts, seen.exponents), (0, 1));
+    equal(&rt, Precincts::none().as_slice().len(), 0);
+    equal(&rt, (SOC, SIZ, COD, QCD), (0xFF4F, 0xFF51, 0xFF52, 0xFF5C));
+    equal(&rt, (SOT, SOD, EOC), (0xFF90, 0xFF93, 0xFFD9));
     Ok(())
 }
 
@@ -113,7 +114,11 @@ fn tile_parts(rt: HostRuntime) -> Result<(), Fail> {
     let text = "FF90 000A 0000 0000000F 00 01 FF93 00";
     let main = main_of(&bytes_of(alloc, &[MAIN, text])?)?;
     let part = bytes_of(alloc, &[text])?;
-    assert_eq!(rt; part_after(alloc, &main, &part, 0)?, Ok((0, 0, 14, 15)));
-    assert_eq!(rt; part_after(alloc, &main, &part, 1)?, Err(Fault::BadValue));
+    equal(&rt, part_after(alloc, &main, &part, 0)?, Ok((0, 0, 14, 15)));
+    equal(
+        &rt,
+        part_after(alloc, &main, &part, 1)?,
+        Err(Fault::BadValue),
+    );
     Ok(())
 }

@@ -1,72 +1,62 @@
-use crate::calls::{self, decode, encode};
+//! Calls with very many samples or bytes.
+
+use crate::asserts::equal;
+use crate::calls::{self, decode_pnm, encode_pnm, plain};
+use crate::texts::even_pnm;
 use jk_boxes::{open, replace_codestream, wrap};
-use jk_marks::{Order, write_tile_part};
-use jk_params::{Container, Parameters, read_codestream};
+use jk_marks::write_tile_part;
+use jk_math::Fault;
+use jk_params::{Parameters, read_codestream};
 use std::alloc::Global;
 use std::test::Fail;
 
 /// The number of elements that a call must take with ample memory.
 const MANY: usize = 1 << 20;
 
-/// So many bytes of one value.
-fn bytes(alloc: Global, count: usize, byte: u8) -> Result<Vec<u8>, Fail> {
-    let mut all = Vec::with_capacity(alloc, count)?;
-    for _ in 0..count {
-        all.push(byte)?;
-    }
-    Ok(all)
-}
-
-/// A grey page of this header.
-fn page(alloc: Global, header: &str, area: usize) -> Result<Vec<u8>, Fail> {
-    let mut file = bytes(alloc, 0, 0)?;
-    file.extend_from_slice(header.as_bytes())?;
-    file.extend_from_slice(&bytes(alloc, area, 128)?)?;
-    Ok(file)
-}
-
 /// A bare codestream in tiles of one sample, or in one tile.
 fn tiled(alloc: Global, tile: Option<(u32, u32)>) -> Parameters {
-    Parameters {
-        levels: 5,
-        layers: 1,
-        order: Order::Lrcp,
-        tile,
-        xcb: 6,
-        ycb: 6,
-        precincts: Vec::new(alloc),
-        colour: false,
-        sop: false,
-        eph: false,
-        container: Container::Raw,
-    }
+    let mut given = plain(alloc, 5);
+    given.tile = tile;
+    given
 }
 
-/// A page goes to a codestream and back; gives how many tiles its headers have.
+/// The file of a page, if it is decoded to that page.
 fn there_and_back(
     alloc: Global,
     pgm: &[u8],
     parameters: &Parameters,
-) -> Result<(Vec<u8>, bool), Fail> {
-    let image = calls::read(alloc, pgm)?;
-    let file = encode(alloc, &image, parameters)?;
-    let back = decode(alloc, &file, 0)?;
-    let again = calls::write(alloc, &back)?;
-    let same = again.as_slice() == pgm;
-    Ok((file, same))
+) -> Result<Option<Vec<u8>>, Fail> {
+    let file = encode_pnm(alloc, pgm, parameters)?;
+    let again = decode_pnm(alloc, &file, 0)?;
+    Ok(if again.as_slice() == pgm {
+        Some(file)
+    } else {
+        None
+    })
 }
 
 #[test]
 fn a_million_samples(rt: HostRuntime) -> Result<(), Fail> {
     let alloc = rt.alloc();
-    let pgm = page(alloc, "P5\n1024 1024\n255\n", MANY)?;
-    let (_, same) = there_and_back(alloc, &pgm, &tiled(alloc, None))?;
-    assert!(rt; same);
-    let strip = page(alloc, "P5\n65535 1\n255\n", 65_535)?;
-    let (file, same) = there_and_back(alloc, &strip, &tiled(alloc, Some((1, 1))))?;
-    assert!(rt; same);
-    let headers = read_codestream(alloc, &file)?;
-    assert_eq!(rt; (headers.siz().x1, headers.siz().tile_width), (65_535, 1));
+    let pgm = even_pnm(alloc, "P5\n1024 1024\n255\n", MANY, 128)?;
+    let file = there_and_back(alloc, &pgm, &tiled(alloc, None))?;
+    equal(&rt, file.is_some(), true);
+    Ok(())
+}
+
+/// The width of the image of a file, and that of its tiles.
+fn widths(alloc: Global, file: &[u8]) -> Result<(u32, u32), Fault> {
+    let headers = read_codestream(alloc, file)?;
+    Ok((headers.siz().x1, headers.siz().tile_width))
+}
+
+#[test]
+fn many_tiles(rt: HostRuntime) -> Result<(), Fail> {
+    let alloc = rt.alloc();
+    let strip = even_pnm(alloc, "P5\n65535 1\n255\n", 65_535, 128)?;
+    let file = there_and_back(alloc, &strip, &tiled(alloc, Some((1, 1))))?;
+    let file = file.ok_or("the page again")?;
+    equal(&rt, widths(alloc, &file), Ok((65_535, 1)));
     Ok(())
 }
 
@@ -99,13 +89,13 @@ fn part(alloc: Global, content: &[u8]) -> Result<Vec<u8>, Fail> {
 #[test]
 fn a_million_bytes(rt: HostRuntime) -> Result<(), Fail> {
     let alloc = rt.alloc();
-    let long = bytes(alloc, MANY, 7)?;
+    let long = vec![in alloc; 7u8; MANY]?;
     let file = wrapped(alloc, &long)?;
-    assert_eq!(rt; place(&file)?, (85, 85 + MANY, true));
+    equal(&rt, place(&file)?, (85, 85 + MANY, true));
     let short = replaced(alloc, &file, &[1, 2])?;
-    assert_eq!(rt; short.len(), 87);
+    equal(&rt, short.len(), 87);
     let again = replaced(alloc, &short, &long)?;
-    assert!(rt; again.as_slice() == file.as_slice());
-    assert_eq!(rt; part(alloc, &long)?.len(), 1 + 14 + MANY);
+    equal(&rt, again.as_slice() == file.as_slice(), true);
+    equal(&rt, part(alloc, &long)?.len(), 1 + 14 + MANY);
     Ok(())
 }

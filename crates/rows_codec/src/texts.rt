@@ -1,3 +1,5 @@
+//! Bytes, as hexadecimal texts, and files of them.
+
 use std::alloc::Global;
 use std::test::Fail;
 
@@ -40,4 +42,23 @@ pub(crate) fn changed(
     }
     bytes[place] = byte;
     Ok(bytes)
+}
+
+/// The PNM file of a header and samples.
+pub(crate) fn pnm_of(alloc: Global, header: &str, samples: &[u8]) -> Result<Vec<u8>, Fail> {
+    let mut file = Vec::new(alloc);
+    file.extend_from_slice(header.as_bytes())?;
+    file.extend_from_slice(samples)?;
+    Ok(file)
+}
+
+/// The PNM file of a header and so many bytes of one value.
+pub(crate) fn even_pnm(
+    alloc: Global,
+    header: &str,
+    count: usize,
+    byte: u8,
+) -> Result<Vec<u8>, Fail> {
+    let samples = vec![in alloc; byte; count]?;
+    pnm_of(alloc, header, &samples)
 }

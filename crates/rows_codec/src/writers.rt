@@ -1,9 +1,9 @@
 //! Files that are written to a writer: one that takes a byte a call, one that fails at a call, and
 //! one that takes nothing from a call on.
 
-use crate::calls::{self, encode, encode_into};
+use crate::asserts::equal;
+use crate::calls::{self, encode, encode_into, plain};
 use crate::small::{Headers, file_of};
-use jk_marks::Order;
 use jk_math::{Fault, Image};
 use jk_params::{Container, Parameters};
 use std::alloc::Global;
@@ -54,19 +54,10 @@ fn written(
 
 /// One layer, no markers, precincts or colour transform, and tiles of this size.
 fn parameters(alloc: Global, levels: u8, side: Option<u32>, container: Container) -> Parameters {
-    Parameters {
-        levels,
-        layers: 1,
-        order: Order::Lrcp,
-        tile: side.map(|side| (side, side)),
-        xcb: 6,
-        ycb: 6,
-        precincts: Vec::new(alloc),
-        colour: false,
-        sop: false,
-        eph: false,
-        container,
-    }
+    let mut given = plain(alloc, levels);
+    given.tile = side.map(|side| (side, side));
+    given.container = container;
+    given
 }
 
 /// A grey image of so many columns and rows, whose samples differ.
@@ -116,58 +107,48 @@ fn check(alloc: Global, image: &Image, parameters: &Parameters, step: usize) -> 
 fn one_tile(rt: HostRuntime) -> Result<(), Fail> {
     let alloc = rt.alloc();
     let image = grey(alloc, "P5\n5 7\n255\n", 35)?;
-    check(
-        alloc,
-        &image,
-        &parameters(alloc, 1, None, Container::Raw),
-        1,
-    )?;
-    check(
-        alloc,
-        &image,
-        &parameters(alloc, 1, None, Container::Jp2),
-        1,
-    )
+    let bare = parameters(alloc, 1, None, Container::Raw);
+    check(alloc, &image, &bare, 1)?;
+    let boxed = parameters(alloc, 1, None, Container::Jp2);
+    check(alloc, &image, &boxed, 1)
 }
 
 #[test]
 fn several_tiles(rt: HostRuntime) -> Result<(), Fail> {
     let alloc = rt.alloc();
     let image = grey(alloc, "P5\n5 7\n255\n", 35)?;
-    check(
-        alloc,
-        &image,
-        &parameters(alloc, 1, Some(3), Container::Raw),
-        1,
-    )?;
-    check(
-        alloc,
-        &image,
-        &parameters(alloc, 1, Some(3), Container::Jp2),
-        1,
-    )?;
+    let bare = parameters(alloc, 1, Some(3), Container::Raw);
+    check(alloc, &image, &bare, 1)?;
+    let boxed = parameters(alloc, 1, Some(3), Container::Jp2);
+    check(alloc, &image, &boxed, 1)
+}
+
+#[test]
+fn larger_tiles(rt: HostRuntime) -> Result<(), Fail> {
+    let alloc = rt.alloc();
     let wide = grey(alloc, "P5\n90 70\n255\n", 6300)?;
-    check(
-        alloc,
-        &wide,
-        &parameters(alloc, 2, Some(32), Container::Jp2),
-        701,
-    )
+    let boxed = parameters(alloc, 2, Some(32), Container::Jp2);
+    check(alloc, &wide, &boxed, 701)
 }
 
 #[test]
 fn a_known_file(rt: HostRuntime) -> Result<(), Fail> {
     let alloc = rt.alloc();
     let image = calls::read(alloc, b"P5\n1 1\n255\n\x81")?;
-    let bare = parameters(alloc, 0, None, Container::Raw);
     let part = "FF90 000A 0000 00000011 00 01 FF93 C0 21 03 FFD9";
     let wanted = file_of(alloc, Headers::Pixel, part)?;
-    let (answer, bytes) = written(alloc, &image, &bare, wanted.len(), true);
-    assert_eq!(rt; answer, Ok(()));
-    assert_eq!(rt; bytes.as_slice(), wanted.as_slice());
-    let (answer, bytes) = written(alloc, &image, &bare, 83, true);
-    assert_eq!(rt; answer, Err(Fault::Shelf));
-    assert_eq!(rt; bytes.len(), 83);
+    let (answer, bytes) = written(alloc, &image, &plain(alloc, 0), wanted.len(), true);
+    equal(&rt, answer, Ok(()));
+    equal(&rt, bytes.as_slice(), wanted.as_slice());
+    Ok(())
+}
+
+#[test]
+fn a_known_file_without_room(rt: HostRuntime) -> Result<(), Fail> {
+    let alloc = rt.alloc();
+    let image = calls::read(alloc, b"P5\n1 1\n255\n\x81")?;
+    let (answer, bytes) = written(alloc, &image, &plain(alloc, 0), 83, true);
+    equal(&rt, (answer, bytes.len()), (Err(Fault::Shelf), 83));
     Ok(())
 }
 
@@ -177,7 +158,6 @@ fn outside_the_profile(rt: HostRuntime) -> Result<(), Fail> {
     let image = grey(alloc, "P5\n5 7\n255\n", 35)?;
     let deep = parameters(alloc, 6, None, Container::Jp2);
     let (answer, bytes) = written(alloc, &image, &deep, 1000, true);
-    assert_eq!(rt; answer, Err(Fault::BadParameters));
-    assert_eq!(rt; bytes.len(), 0);
+    equal(&rt, (answer, bytes.len()), (Err(Fault::BadParameters), 0));
     Ok(())
 }
