@@ -17,7 +17,8 @@ use jk_math::{Fault, Image};
 use std::alloc::Global;
 use std::io::Write;
 
-/// The image of a PGM or PPM file, as `jk_pnm::read` gives it. The file is let go of.
+/// The image of a PGM or PPM file, as `jk_pnm::read` gives it. The file is let go of, one of grey samples of a byte while
+/// they are made.
 pub fn read_image(alloc: Global, bytes: Vec<u8>) -> Result<Image, Fault>
     ensures exact { Answers (λ i. i) result (pnm_at bytes.items) }
     // What is read is a file of this image.
@@ -25,7 +26,7 @@ pub fn read_image(alloc: Global, bytes: Vec<u8>) -> Result<Image, Fault>
     // A file of an image is read.
     ensures only { (p : Picture) → IsPnm bytes.items p → Answers (λ i. i) result (Ok p) }
 {
-    jk_pnm::read(alloc, &bytes)
+    jk_pnm::read_owned(alloc, bytes)
 }
 
 /// What `jk encode` writes of a PGM or PPM file.
