@@ -1,6 +1,5 @@
 -- Laws of what stands before a tile-part, and of the file as a whole.
-use Rattle.std.proofs.Common.{◌≡◌, ℕ, zero, suc, ◌+◌, ◌^◌, ◌<◌, ◌≤◌, ◌⊎◌, inl, inr, Bool, true, false, not, List, [], ◌∷◌, ◌++◌, length, map, replicate, Result, Ok, Err, IfOk, IfErr, refl, ap, sym, ◌∙◌, subst, arith, append_assoc}
-use Rattle.std.specs.List.{flat_map}
+use Rattle.std.proofs.Common.{◌≡◌, ℕ, zero, suc, ◌+◌, ◌^◌, ◌<◌, ◌≤◌, ◌⊎◌, inl, inr, Bool, true, false, not, List, [], ◌++◌, length, replicate, Result, Ok, Err, IfOk, IfErr, refl, ap, sym, ◌∙◌, subst, arith, append_assoc}
 use Rattle.std.proofs.lemmas.Bool.{cases_lt, lt-ltb, le-ltb, not-false}
 use Rattle.std.proofs.lemmas.List.{append-nil, length-append, length-replicate, append_cancel_right}
 use Rattle.jk_math.specs.Answer.{Refuses, Answers}
@@ -12,8 +11,8 @@ use Rattle.jk_math.specs.declared.fault.Fault.TheVariants.{Memory, BadParameters
 use Rattle.jk_marks.specs.Markers.{marker_text, eoc}
 use Rattle.jk_marks.specs.Siz.{tile_count}
 use Rattle.jk_marks.specs.Codestream.{main_text, part_text, codestream_text, segments_of, only_part_of}
-use Rattle.jk_boxes.specs.Boxes.{Holds, box_text, signature}
-use Rattle.jk_boxes.specs.Written.{file_type_box, header_box, code_box, code_head, is_wrapped, wrapped}
+use Rattle.jk_boxes.specs.Boxes.{Holds, box_text}
+use Rattle.jk_boxes.specs.Written.{is_wrapped, wrapped}
 use Rattle.jk_boxes.proofs.Laws.{wrapped_holds}
 use Rattle.jk_params.specs.declared.parameters.Parameters.{Parameters}
 use Rattle.jk_params.specs.declared.parameters.Container.{Container}

@@ -15,6 +15,7 @@ pub mod WindowLaws
 pub mod FrontLaws
 mod Examples
 pub mod ViewLaws
+pub mod CutViews
 pub mod BeginningLaws
 pub mod SendingLaws
 pub mod ViewSteps

@@ -17,7 +17,7 @@ use Rattle.jk_marks.specs.declared.siz.Siz.{Siz}
 use Rattle.jk_marks.specs.Siz.{IsSiz, tiles_across, tiles_down, tile_count}
 use Rattle.jk_geom.specs.Rectangles.{IsWithin, IsArea, tile_area, resolution_area}
 use Rattle.jk_geom.specs.Partitions.{image_area, reduced_area, TileHolds}
-use Rattle.jk_geom.proofs.Laws.{ceil_mono, tile_covers, tile_inside}
+use Rattle.jk_geom.proofs.Laws.{ceil_mono, tile_covers}
 use Rattle.jk_params.specs.Headers.{Headers}
 use Rattle.jk_walk.specs.declared.places.PacketPlace.{PacketPlace}
 use Rattle.jk_geom.specs.declared.shape.TileShape.{TileShape}

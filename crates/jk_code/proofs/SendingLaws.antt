@@ -1,5 +1,5 @@
 -- Laws of what was written so far, and of what one step more writes.
-use Rattle.std.proofs.Common.{◌≡◌, ℕ, zero, suc, ◌+◌, ◌<◌, ◌≤◌, ◌⊎◌, inl, inr, Bool, true, false, List, [], ◌∷◌, ◌++◌, Option, Result, Ok, Err, OnOk, length, refl, ap, sym, ◌∙◌, subst, arith, append_assoc}
+use Rattle.std.proofs.Common.{◌≡◌, ℕ, zero, suc, ◌+◌, ◌<◌, ◌⊎◌, inl, inr, Bool, true, false, List, [], ◌++◌, Option, Result, Ok, Err, OnOk, length, refl, ap, sym, ◌∙◌, subst, arith, append_assoc}
 use Rattle.std.specs.Bool.{⊤}
 use Rattle.std.specs.Io.KnownBytes.{Appends}
 use Rattle.std.proofs.lemmas.List.{append-nil}
@@ -7,7 +7,7 @@ use Rattle.jk_math.specs.Front.{IsFront}
 use Rattle.jk_math.specs.Memory.{IsMemory}
 use Rattle.jk_math.specs.Picture.{Picture}
 use Rattle.jk_math.specs.declared.fault.Fault.{Fault}
-use Rattle.jk_math.specs.declared.fault.Fault.TheVariants.{BadParameters, Limit, Shelf}
+use Rattle.jk_math.specs.declared.fault.Fault.TheVariants.{BadParameters, Limit}
 use Rattle.jk_math.proofs.Laws.{appends_none, appends_join}
 use Rattle.jk_marks.specs.Markers.{marker_text, eoc}
 use Rattle.jk_marks.specs.Siz.{tile_count}
@@ -19,7 +19,7 @@ use Rattle.jk_params.specs.Profile.{siz_of, is_profile, IsWrittenBy}
 use Rattle.jk_window.specs.Views.{holds_below}
 use Rattle.jk_window.proofs.Laws.{below_none, below_more, below_fails}
 use Rattle.jk_code.specs.Written.{main_for, part_for, part_fits, parts_fit, tree_for, written}
-use Rattle.jk_code.specs.Beginnings.{front_of, parts_upto, text_upto, text_before, IsFirstTooLong, IsBegun, Left}
+use Rattle.jk_code.specs.Beginnings.{front_of, parts_upto, text_upto, text_before, IsFirstTooLong, Left}
 use Rattle.jk_code.specs.Sending.{IsTooLongAhead, IsSent, IsPartSent, IsRestSent}
 use Rattle.jk_code.proofs.LoopLaws.{parts_more}
 use Rattle.jk_code.proofs.BeginningLaws.{file_ends, limit_due}

@@ -1,5 +1,5 @@
 -- A decoded window shows what the decoded image shows.
-use Rattle.std.proofs.Common.{◌≡◌, ℕ, ◌+◌, ◌-◌, ◌<◌, ◌≤◌, not, Bool, true, false, if◌then◌else◌, List, [], length, map, Result, Ok, Err, ℤ, refl, sym, ap, subst, ◌∙◌, arith}
+use Rattle.std.proofs.Common.{◌≡◌, ℕ, ◌-◌, ◌<◌, not, Bool, true, false, List, [], length, map, Result, Ok, ℤ, refl, sym, ap, ◌∙◌, arith}
 use Rattle.std.specs.Prelude.{slice_range}
 use Rattle.std.specs.List.{range_with_len}
 use Rattle.std.proofs.lemmas.List.{ext_get_or}
@@ -14,13 +14,13 @@ use Rattle.jk_math.specs.Raster.{raster}
 use Rattle.jk_math.proofs.Laws.{raster_same}
 use Rattle.jk_marks.specs.Siz.{tile_count}
 use Rattle.jk_boxes.specs.Reading.{boxes_at}
-use Rattle.jk_geom.specs.Rectangles.{is_empty, meet}
+use Rattle.jk_geom.specs.Rectangles.{is_empty}
 use Rattle.jk_params.specs.Headers.{Headers}
 use Rattle.jk_params.specs.HeadersReading.{headers_at}
 use Rattle.jk_walk.specs.WalkReading.{packets_at}
 use Rattle.jk_window.specs.declared.view.View.{View}
 use Rattle.jk_window.specs.Views.{have_levels, frame_of, window_in, window_of, window_at}
-use Rattle.jk_tile.specs.TileReading.{each, tested, tile_planes_at, part_planes_at}
+use Rattle.jk_tile.specs.TileReading.{tested, tile_planes_at, part_planes_at}
 use Rattle.jk_tile.proofs.Laws.{fine, each_found, each_only, each_fewer, bind_ok, part_fine}
 use Rattle.jk_code.specs.MeaningReading.{places_at, packets_tested, tiles_tested, reduction_at, sample_of_tiles, picture_with, planes_of_tiles, picture_at, image_at, meaning_at}
 use Rattle.jk_code.specs.Viewing.{rect_of, picture_on, picture_of_view}
@@ -53,13 +53,13 @@ pub view_by : (bytes : List ℕ) (h : Headers) (v : View) → view_at h bytes v
 unfolding view_at
 view_by bytes h v = refl
 
-of_view : (v : View) (p : Picture) → picture_of_view v p ≡ (refuse (is_empty (window_in (rect_of p) v)) BadWindow >>= λ _. Ok (picture_on (window_in (rect_of p) v) p))
+pub of_view : (v : View) (p : Picture) → picture_of_view v p ≡ (refuse (is_empty (window_in (rect_of p) v)) BadWindow >>= λ _. Ok (picture_on (window_in (rect_of p) v) p))
 unfolding picture_of_view
 of_view v p = refl
 
 -- ---- its samples
 
-same_rect : (a b : Rect) → a.x0 ≡ b.x0 → a.y0 ≡ b.y0 → a.x1 ≡ b.x1 → a.y1 ≡ b.y1 → a ≡ b
+pub same_rect : (a b : Rect) → a.x0 ≡ b.x0 → a.y0 ≡ b.y0 → a.x1 ≡ b.x1 → a.y1 ≡ b.y1 → a ≡ b
 same_rect a b left upper right lower =
     ap (λ k. record { x0 = k; y0 = a.y0; x1 = a.x1; y1 = a.y1 }) left ∙ ap (λ k. record { x0 = b.x0; y0 = k; x1 = a.x1; y1 = a.y1 }) upper
     ∙ ap (λ k. record { x0 = b.x0; y0 = b.y0; x1 = k; y1 = a.y1 }) right ∙ ap (λ k. record { x0 = b.x0; y0 = b.y0; x1 = b.x1; y1 = k }) lower

@@ -1,18 +1,15 @@
 -- The tiles of which a window has samples, one after another.
-use Rattle.std.proofs.Common.{◌≡◌, ℕ, ◌+◌, ◌-◌, ◌*◌, ◌<◌, ◌≤◌, ◌^◌, not, Bool, true, false, if◌then◌else◌, List, [], ◌∷◌, ◌++◌, length, get_or, Option, Some, None, Result, Ok, Err, refl, sym, ap, subst, ◌∙◌, inl, inr, arith}
+use Rattle.std.proofs.Common.{◌≡◌, ℕ, ◌+◌, ◌-◌, ◌<◌, ◌≤◌, ◌^◌, not, Bool, true, false, if◌then◌else◌, List, [], ◌∷◌, ◌++◌, get_or, Option, Some, None, Result, Ok, refl, sym, ap, subst, ◌∙◌, inl, inr, arith}
 use Rattle.std.proofs.lemmas.Bool.{cases_eq}
 use Rattle.std.proofs.lemmas.List.{length-append, get_or_default, get_or_append_left, get_or-append_right}
-use Rattle.std.proofs.Math.Nat.{mul-le-mul_right, mul-le-mul_left}
 use Rattle.jk_math.specs.declared.fault.Fault.{Fault}
 use Rattle.jk_math.specs.declared.rect.Rect.{Rect}
-use Rattle.jk_math.specs.Picture.{IsFrame}
 use Rattle.jk_geom.specs.Rectangles.{IsArea, IsWithin, is_empty, meet}
 use Rattle.jk_params.specs.Headers.{Headers, AreHeaders}
-use Rattle.jk_marks.specs.Siz.{tile_count}
 use Rattle.jk_walk.specs.declared.places.PacketPlace.{PacketPlace}
 use Rattle.jk_walk.specs.WalkReading.{packets_at}
 use Rattle.jk_window.specs.declared.view.View.{View}
-use Rattle.jk_window.specs.Views.{HaveLevels, HasWindow, frame_of, window_of, window_at}
+use Rattle.jk_window.specs.Views.{HaveLevels, frame_of, window_of, window_at}
 use Rattle.jk_window.proofs.Laws.{window_found}
 use Rattle.jk_tile.specs.Filling.{IsPartOf, touches}
 use Rattle.jk_tile.specs.TileMeaning.{shown_area}

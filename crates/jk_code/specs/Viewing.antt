@@ -1,5 +1,5 @@
 -- The picture of a view: a picture on the window.
-use Rattle.std.specs.Prelude.{ℕ, ◌+◌, ◌-◌, length, map, Result, Ok}
+use Rattle.std.specs.Prelude.{◌+◌, ◌-◌, length, map, Result, Ok}
 use Rattle.std.specs.List.{range_with_len}
 use Rattle.jk_math.specs.Answer.{◌>>=◌, refuse}
 use Rattle.jk_math.specs.declared.fault.Fault.{Fault}

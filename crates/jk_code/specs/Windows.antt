@@ -1,10 +1,12 @@
 -- Windows of pictures: what the file of a window means.
-use Rattle.std.specs.Prelude.{◌≡◌, ℕ, ◌+◌, ◌<◌, ◌≤◌, List, length, Ok}
+use Rattle.std.specs.Prelude.{◌≡◌, ℕ, ◌+◌, ◌<◌, ◌≤◌, ◌^◌, List, length, Ok, slice_index_or}
 use Rattle.jk_math.specs.Picture.{Picture, sample_at}
 use Rattle.jk_window.specs.declared.view.View.{View}
 use Rattle.jk_window.specs.Indexing.{IndexFields, IsIndexOf}
 use Rattle.jk_window.specs.Cutting.{cut_file}
 use Rattle.jk_code.specs.Meaning.{Means}
+use Rattle.jk_code.specs.Viewing.{picture_of_view}
+use Rattle.jk_code.specs.ViewReading.{meaning_view_at}
 
 -- A picture q has the place, the size, the depth, the sign and the components of p, and its samples in the rectangle of a view.
 pub record IsSameOnWindow (v : View) (p q : Picture) : Type 0 where
@@ -25,3 +27,20 @@ IsWindowOf v p reply = (q : Picture) × Means reply v.reduce q × IsSameOnWindow
 -- What the file of a window means, where the stored file means a picture at the reduction.
 abbrev pub IsWindowMeant : Type 0
 IsWindowMeant = (bytes : List ℕ) (i : IndexFields) (is : IsIndexOf bytes i) (v : View) (reply : List ℕ) → cut_file is v ≡ Ok reply → (p : Picture) → Means bytes v.reduce p → IsWindowOf v p reply
+
+-- The reply means a picture that on the window of the view is what p is there.
+abbrev pub ShowsWindow : View → Picture → List ℕ → Type 0
+ShowsWindow v p reply = (q : Picture) × Means reply v.reduce q × (picture_of_view v q ≡ picture_of_view v p)
+
+-- Where the stored file means a picture at the reduction, the file of a window shows it on the window.
+abbrev pub IsWindowShown : Type 0
+IsWindowShown = (bytes : List ℕ) (i : IndexFields) (is : IsIndexOf bytes i) (v : View) (reply : List ℕ) → cut_file is v ≡ Ok reply → (p : Picture) → Means bytes v.reduce p → ShowsWindow v p reply
+
+-- each is a byte
+abbrev pub AreOctets : List ℕ → Type 0
+AreOctets bytes = (k : ℕ) → slice_index_or bytes k 0 < 2 ^ 8
+
+-- Where the stored file means a picture at the reduction, decoding the window of the file of the window gives what decoding the
+-- window of the stored file gives.
+abbrev pub IsWindowKept : Type 0
+IsWindowKept = (bytes : List ℕ) (i : IndexFields) (is : IsIndexOf bytes i) (v : View) (reply : List ℕ) → AreOctets bytes → AreOctets reply → cut_file is v ≡ Ok reply → (p : Picture) → Means bytes v.reduce p → meaning_view_at reply v ≡ meaning_view_at bytes v

@@ -11,5 +11,7 @@ mod writing;
 pub use decoding::decode;
 pub use encoding::encode;
 pub use viewing::decode_window;
-pub use windows::{pictures_have_indexes, window, windows_show_the_picture};
+pub use windows::{
+    cut_files_show_the_window, pictures_have_indexes, window, windows_show_the_picture,
+};
 pub use writing::encode_into;

@@ -9,7 +9,7 @@ ghost use Rattle.jk_window.specs.Views.{HasWindow};
 ghost use Rattle.jk_window.specs.Indexing.{IndexFields, IsIndexOf};
 ghost use Rattle.jk_window.specs.Cutting.{cut_file};
 ghost use Rattle.jk_code.specs.Meaning.{Means};
-ghost use Rattle.jk_code.specs.Windows.{IsWindowOf, IsWindowMeant};
+ghost use Rattle.jk_code.specs.Windows.{IsWindowOf, IsWindowMeant, IsWindowShown, IsWindowKept};
 
 use jk_math::Fault;
 use jk_window::{Index, View, cut};
@@ -19,6 +19,15 @@ use std::alloc::Global;
 /// number of components, with the same samples in the window.
 pub fn windows_show_the_picture()
     ensures { IsWindowMeant }
+{}
+
+/// Where a file means a picture at the reduction of a view, the decoded window of the file of the view's window is the
+/// decoded window of the stored file: `decode_window` gives the same image of both.
+pub fn cut_files_show_the_window()
+    // The file of the window means a picture that on the window is that of the stored file.
+    ensures shown { IsWindowShown }
+    // What is decoded of both is the same.
+    ensures kept { IsWindowKept }
 {}
 
 /// A file that means a picture has an index, so no clause that asks for one says nothing of it.

@@ -6,7 +6,6 @@ use Rattle.jk_geom.specs.Rectangles.{meet}
 use Rattle.jk_walk.proofs.Laws.{packets_within}
 use Rattle.jk_tile.specs.Filling.{IsPartOf}
 use Rattle.jk_tile.specs.TileMeaning.{shown_area}
-use Rattle.jk_tile.specs.TileReading.{tested, part_planes_at}
 use Rattle.jk_tile.proofs.Laws.{part_decoded}
 use Rattle.jk_code.specs.Tiles.{IsPartSeen}
 use Rattle.jk_code.proofs.Placing.{ends_of}

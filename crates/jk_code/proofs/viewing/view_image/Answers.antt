@@ -1,4 +1,4 @@
-use Rattle.std.proofs.Common.{◌≡◌, Ok, ◌∙◌, ap, sym, subst, arith, length}
+use Rattle.std.proofs.Common.{◌≡◌, Ok, ◌∙◌, ap, sym, subst, length}
 use Rattle.jk_math.specs.Picture.{lists_of, IsPicture}
 use Rattle.jk_math.specs.Steps.{answers_same, answers_due}
 use Rattle.jk_marks.specs.declared.siz.Siz.{Siz}

@@ -1,4 +1,4 @@
-use Rattle.std.proofs.Common.{◌≡◌, ◌<◌, ◌+◌, ℕ, ℤ, true, false, if◌then◌else◌, List, Ok, length, ◌∙◌, ap, sym, subst, inl, inr, arith}
+use Rattle.std.proofs.Common.{◌≡◌, ◌<◌, ℕ, ℤ, if◌then◌else◌, List, Ok, ◌∙◌, ap, sym, subst, inl, inr, arith}
 use Rattle.std.specs.Global.{Vec}
 use Rattle.std.proofs.lemmas.Bool.{cases_eq}
 use Rattle.std.proofs.lemmas.Result.{err_from_is_err_and}
@@ -7,7 +7,6 @@ use Rattle.jk_marks.specs.declared.siz.Siz.{Siz}
 use Rattle.jk_marks.specs.Siz.{tile_count}
 use Rattle.jk_params.specs.Headers.{Headers}
 use Rattle.jk_walk.specs.declared.places.PacketPlace.{PacketPlace}
-use Rattle.jk_walk.specs.WalkReading.{packets_at}
 use Rattle.jk_tile.specs.TileReading.{tested, part_planes_at}
 use Rattle.jk_tile.proofs.Laws.{fine, each_none, each_more, each_fails, refuses_on}
 use Rattle.jk_window.specs.Views.{frame_of}

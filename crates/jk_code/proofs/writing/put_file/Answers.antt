@@ -1,4 +1,4 @@
-use Rattle.std.proofs.Common.{ℕ, List, ◌++◌}
+use Rattle.std.proofs.Common.{◌++◌}
 use Rattle.std.proofs.lemmas.Result.{err_from_is_err_and}
 use Rattle.jk_params.specs.Profile.{siz_of}
 use Rattle.jk_geom.proofs.Laws.{some_tile}
