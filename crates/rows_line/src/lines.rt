@@ -36,6 +36,11 @@ static COLUMN_TEXT: &str = "50350A 312039 0A 323535 0A 65 67 68 69 60 61 60 66 6
 
 static HALVED_TEXT: &str = "50350A 312035 0A 323535 0A 66 6A 62 60 6D";
 
+/// Windows of the column and of its halved image, which are rows of these.
+static WINDOW_TEXT: &str = "50350A 312033 0A 323535 0A 68 69 60";
+
+static HALVED_WINDOW_TEXT: &str = "50350A 312032 0A 323535 0A 60 6D";
+
 /// The headers of four pixels with one level; its codestream has these packets, and that of the
 /// window of its halved image those.
 static FOUR: &str =
@@ -216,6 +221,24 @@ fn commands_write_their_output(rt: HostRuntime) -> Result<(), Fail> {
     )
 }
 
+/// Windows are decoded alone: rows of the column, as its file has them, and what passes the edge is left out.
+#[test]
+fn windows_are_decoded(rt: HostRuntime) -> Result<(), Fail> {
+    let alloc = rt.alloc();
+    for (options, text) in [
+        ("--x 0 --y 2 --w 1 --h 3", WINDOW_TEXT),
+        (
+            "--reduce 1 --h 4294967295 --w 9 --y 3 --x 0",
+            HALVED_WINDOW_TEXT,
+        ),
+        ("--x 0 --y 0 --w 1 --h 9", COLUMN_TEXT),
+    ] {
+        let line = format!(in alloc; "decode - - {options}")?;
+        check_output(&rt, alloc, line.as_str(), &[COLUMN], &[text])?;
+    }
+    Ok(())
+}
+
 /// Command lines that answer a fault, a line for each: the command, its input, if that isn't the grey pixel, and the fault.
 /// Of two faults the one that is found first is answered: of options, the input, its grammar, its place, the output; where
 /// an image is added, of options, the input, its grammar, the folder, the name, the place.
@@ -232,6 +255,13 @@ encode - a/b||F20 Shelf
 decode no a/b --reduce 9||F20 Shelf
 decode - a/b --reduce 2|column|F16 BadWindow
 decode - a/b|column|F20 Shelf
+decode no a/b --x 1 --y 0 --w 1 --h 1||F20 Shelf
+decode - a/b --x 1 --y 0 --w 1 --h 1|FF4F|F2 Truncated
+decode - a/b --x 1 --y 0 --w 1 --h 1|column|F16 BadWindow
+decode - a/b --x 0 --y 0 --w 0 --h 1|column|F16 BadWindow
+decode - a/b --x 0 --y 5 --w 1 --h 1 --reduce 1|column|F16 BadWindow
+decode - a/b --x 0 --y 0 --w 1 --h 1 --reduce 2|column|F16 BadWindow
+decode - a/b --x 0 --y 8 --w 1 --h 1|column|F20 Shelf
 info -|FF4F|F2 Truncated
 cut - a/b --x 1 --y 0 --w 1 --h 1|FF4F|F2 Truncated
 cut - a/b --x 1 --y 0 --w 1 --h 1|column|F16 BadWindow
@@ -257,6 +287,8 @@ add d A - --explain||F19 BadName|A isn't 1 to 64 of the characters a to z, 0 to 
 add d c - --explain||F18 NameTaken|d has a file c.jp2
 info no --explain||F20 Shelf|no can't be read: entity not found
 decode - - --explain --reduce 2|column|F16 BadWindow|\
+a reduction past the least number of levels, or a window or reduced image without a sample
+decode - - --explain --x 0 --y 9 --w 1 --h 1|column|F16 BadWindow|\
 a reduction past the least number of levels, or a window or reduced image without a sample
 decode - - --explain|nine|F6 Unsupported|the file has the irreversible transform 9/7";
 
@@ -353,6 +385,13 @@ encode - - --levels 4294967296
 encode - - --order LCRP
 encode - - --reduce 1
 decode - - --levels 1
+decode - - --x 0
+decode - - --x 0 --y 0 --w 1
+decode - - --x 0 --y 0 --h 1
+decode - - --x 0 --w 1 --h 1
+decode - - --y 0 --w 1 --h 1 --reduce 1
+decode - - --x 0 --y 0 --w 1 --h 1 --h 1
+decode - - --x 0 --y 0 --w 1 --h -1
 cut - - --x 0 --y 0 --w 1
 serve d
 serve d --port 65536

@@ -13,3 +13,5 @@ mod many;
 mod meanings;
 #[cfg(test)]
 mod texts;
+#[cfg(test)]
+mod views;
