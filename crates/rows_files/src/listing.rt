@@ -68,24 +68,32 @@ fn unreadable(rt: HostRuntime) -> Result<(), Fail> {
     Ok(())
 }
 
+/// Makes a folder, a link to it, and in it a file, a link to that and a link to itself.
+fn make_inner(rt: &HostRuntime, inner: &str, link: &str) -> Result<(), Fail> {
+    fs::create_dir(rt, inner)?;
+    rt.symlink("inner", link)?;
+    fs::write(rt, within(rt, inner, "a")?.as_str(), b"")?;
+    rt.symlink("a", within(rt, inner, "b")?.as_str())?;
+    rt.symlink("c", within(rt, inner, "c")?.as_str())?;
+    Ok(())
+}
+
+/// What is told of a folder, with the files sorted.
+fn sorted(rt: &HostRuntime, path: &str) -> Result<String, Fail> {
+    let mut listing = list(rt, rt.alloc(), path, |_| true)?;
+    listing.files.sort()?;
+    told(rt.alloc(), &listing)
+}
+
 #[test]
 fn of_the_system(rt: HostRuntime) -> Result<(), Fail> {
     let path = folder(&rt, "listing")?;
     let inner = within(&rt, path.as_str(), "inner")?;
     let link = within(&rt, path.as_str(), "link")?;
-    fs::create_dir(&rt, inner.as_str())?;
-    rt.symlink("inner", link.as_str())?;
-    fs::write(&rt, within(&rt, inner.as_str(), "a")?.as_str(), b"")?;
-    rt.symlink("a", within(&rt, inner.as_str(), "b")?.as_str())?;
-    rt.symlink("c", within(&rt, inner.as_str(), "c")?.as_str())?;
-    for name in [
-        inner.as_str(),
-        link.as_str(),
-        within(&rt, link.as_str(), "")?.as_str(),
-    ] {
-        let mut listing = list(&rt, rt.alloc(), name, |_| true)?;
-        listing.files.sort()?;
-        let text = told(rt.alloc(), &listing)?;
+    let behind = within(&rt, link.as_str(), "")?;
+    make_inner(&rt, inner.as_str(), link.as_str())?;
+    for name in [inner.as_str(), link.as_str(), behind.as_str()] {
+        let text = sorted(&rt, name)?;
         equal_at(&rt, name, text.as_str(), "a b |c FilesystemLoop");
     }
     remove(&rt, path.as_str())

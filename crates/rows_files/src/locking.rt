@@ -24,30 +24,48 @@ fn is_held(answer: Result<Option<Lock<File>>, Refusal>) -> Result<bool, Fail> {
     Ok(answer?.is_some())
 }
 
+/// Whether a folder's lock can be taken, and what a try to share it gives.
+fn tries(rt: &HostRuntime, path: &str) -> Result<(bool, &'static str), Fail> {
+    let held = is_held(try_exclusive(rt, rt.alloc(), path))?;
+    Ok((held, word(try_shared(rt, rt.alloc(), path))))
+}
+
+/// The same while the lock is held alone.
+fn while_alone(rt: &HostRuntime, path: &str) -> Result<(bool, &'static str), Fail> {
+    let alone = try_exclusive(rt, rt.alloc(), path)?;
+    let answers = tries(rt, path);
+    drop(alone);
+    answers
+}
+
+/// The same while the lock is shared.
+fn while_shared(rt: &HostRuntime, path: &str) -> Result<(bool, &'static str), Fail> {
+    let shared = try_shared(rt, rt.alloc(), path)?;
+    let answers = tries(rt, path);
+    drop(shared);
+    answers
+}
+
+/// The same while the lock is held that was waited for.
+fn while_waited(rt: &HostRuntime, path: &str) -> Result<(bool, &'static str), Fail> {
+    let waited = wait_exclusive(rt, rt.alloc(), path, || ())?;
+    let answers = tries(rt, path);
+    drop(waited);
+    answers
+}
+
 #[test]
 fn of_the_system(rt: HostRuntime) -> Result<(), Fail> {
-    let alloc = rt.alloc();
     let path = folder(&rt, "locking")?;
-    let path = path.as_str();
-    let alone = try_exclusive(&rt, alloc, path)?;
-    let second = is_held(try_exclusive(&rt, alloc, path))?;
-    let while_alone = word(try_shared(&rt, alloc, path));
-    drop(alone);
-    let shared = try_shared(&rt, alloc, path)?;
-    let more = word(try_shared(&rt, alloc, path));
-    let while_shared = is_held(try_exclusive(&rt, alloc, path))?;
-    drop(shared);
-    let at_last = is_held(try_exclusive(&rt, alloc, path))?;
-    let waited = wait_exclusive(&rt, alloc, path, || ())?;
-    let while_waited = is_held(try_exclusive(&rt, alloc, path))?;
-    drop(waited);
-    remove(&rt, path)?;
-    equal(
-        &rt,
-        (second, while_shared, at_last, while_waited),
-        (false, false, true, false),
-    );
-    equal(&rt, [while_alone, more], ["taken", "held"]);
+    let alone = while_alone(&rt, path.as_str())?;
+    let shared = while_shared(&rt, path.as_str())?;
+    let at_last = tries(&rt, path.as_str())?;
+    let waited = while_waited(&rt, path.as_str())?;
+    remove(&rt, path.as_str())?;
+    equal(&rt, alone, (false, "taken"));
+    equal(&rt, shared, (false, "held"));
+    equal(&rt, at_last, (true, "held"));
+    equal(&rt, waited, (false, "taken"));
     Ok(())
 }
 

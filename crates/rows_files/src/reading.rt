@@ -136,23 +136,29 @@ fn no_regular_file(rt: HostRuntime) -> Result<(), Fail> {
     Ok(())
 }
 
+/// What a file of the system gives.
+fn of_system(rt: &HostRuntime, path: &str) -> Result<Result<bool, Fault>, Fail> {
+    is_whole(rt.alloc(), read_file(rt, rt.alloc(), path))
+}
+
+#[test]
+fn a_device(rt: HostRuntime) -> Result<(), Fail> {
+    equal(&rt, of_system(&rt, "/dev/zero")?, Err(Fault::Shelf));
+    Ok(())
+}
+
 #[test]
 fn of_the_system(rt: HostRuntime) -> Result<(), Fail> {
-    let alloc = rt.alloc();
     let path = folder(&rt, "reading")?;
     let file = within(&rt, path.as_str(), "a")?;
     let link = within(&rt, path.as_str(), "b")?;
-    fs::write(&rt, file.as_str(), megabyte(alloc)?.as_slice())?;
+    fs::write(&rt, file.as_str(), megabyte(rt.alloc())?.as_slice())?;
     rt.symlink("a", link.as_str())?;
-    let whole = is_whole(alloc, read_file(&rt, alloc, file.as_str()))?;
-    let linked = is_whole(alloc, read_file(&rt, alloc, link.as_str()))?;
-    let inner = is_whole(alloc, read_file(&rt, alloc, path.as_str()))?;
-    let device = is_whole(alloc, read_file(&rt, alloc, "/dev/zero"))?;
+    let whole = of_system(&rt, file.as_str())?;
+    let linked = of_system(&rt, link.as_str())?;
+    let inner = of_system(&rt, path.as_str())?;
     remove(&rt, path.as_str())?;
-    equal(
-        &rt,
-        [whole, linked, inner, device],
-        [Ok(true), Ok(true), Err(Fault::Shelf), Err(Fault::Shelf)],
-    );
+    equal(&rt, [whole, linked], [Ok(true), Ok(true)]);
+    equal(&rt, inner, Err(Fault::Shelf));
     Ok(())
 }

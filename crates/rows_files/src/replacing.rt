@@ -3,7 +3,7 @@
 use crate::asserts::{equal, equal_at, holds_at};
 use crate::disk::{Desk, Disk, Kind};
 use crate::scratch::{folder, remove, within};
-use jk_files::{read_file, replace_file};
+use jk_files::{Refusal, list, read_file, replace_file};
 use std::alloc::Global;
 use std::fs::{self, Permissions};
 use std::io::ErrorKind;
@@ -114,29 +114,54 @@ fn may_not_be_written(rt: HostRuntime) -> Result<(), Fail> {
     Ok(())
 }
 
+/// Replaces a file, and then again through a link to it. What was read through the link in between.
+fn replace_twice(rt: &HostRuntime, file: &str, link: &str) -> Result<Vec<u8>, Fail> {
+    replace_file(rt, rt.alloc(), file, b"one")?;
+    fs::set_permissions(rt, file, Permissions::from_mode(0o600))?;
+    rt.symlink("out", link)?;
+    let same = read_file(rt, rt.alloc(), link)?;
+    replace_file(rt, rt.alloc(), link, b"two")?;
+    Ok(same)
+}
+
+/// Replaces a file by what is read of it, and says what is read then.
+fn replace_by_itself(rt: &HostRuntime, file: &str) -> Result<Vec<u8>, Refusal> {
+    let bytes = read_file(rt, rt.alloc(), file)?;
+    replace_file(rt, rt.alloc(), file, bytes.as_slice())?;
+    read_file(rt, rt.alloc(), file)
+}
+
+/// How many files and how many others a folder has.
+fn counts(rt: &HostRuntime, path: &str) -> Result<(usize, usize), Fail> {
+    let listing = list(rt, rt.alloc(), path, |_| true)?;
+    Ok((listing.files.len(), listing.others.len()))
+}
+
+/// Whether a link is one, and the mode of a file.
+fn kinds(rt: &HostRuntime, file: &str, link: &str) -> Result<(bool, u32), Fail> {
+    let is_link = rt.symlink_metadata(link)?.is_symlink();
+    Ok((is_link, rt.metadata(file)?.permissions().mode() & 0o777))
+}
+
 #[test]
 fn of_the_system(rt: HostRuntime) -> Result<(), Fail> {
-    let alloc = rt.alloc();
     let path = folder(&rt, "replacing")?;
     let file = within(&rt, path.as_str(), "out")?;
     let link = within(&rt, path.as_str(), "link")?;
-    replace_file(&rt, alloc, file.as_str(), b"one")?;
-    fs::set_permissions(&rt, file.as_str(), Permissions::from_mode(0o600))?;
-    rt.symlink("out", link.as_str())?;
-    let same = read_file(&rt, alloc, link.as_str())?;
-    replace_file(&rt, alloc, link.as_str(), b"two")?;
-    let two = read_file(&rt, alloc, file.as_str())?;
-    replace_file(&rt, alloc, file.as_str(), two.as_slice())?;
-    let twice = read_file(&rt, alloc, file.as_str())?;
-    let is_link = rt.symlink_metadata(link.as_str())?.is_symlink();
-    let mode = rt.metadata(file.as_str())?.permissions().mode() & 0o777;
-    let listing = jk_files::list(&rt, alloc, path.as_str(), |_| true)?;
-    replace_file(&rt, alloc, "/dev/null", b"nothing")?;
+    let same = replace_twice(&rt, file.as_str(), link.as_str())?;
+    let twice = replace_by_itself(&rt, file.as_str())?;
+    let kinds = kinds(&rt, file.as_str(), link.as_str())?;
+    let counts = counts(&rt, path.as_str())?;
     remove(&rt, path.as_str())?;
     equal(&rt, same.as_slice(), b"one".as_slice());
     equal(&rt, twice.as_slice(), b"two".as_slice());
-    assert!(rt; is_link);
-    equal(&rt, mode, 0o600);
-    equal(&rt, (listing.files.len(), listing.others.len()), (2, 0));
+    equal(&rt, kinds, (true, 0o600));
+    equal(&rt, counts, (2, 0));
+    Ok(())
+}
+
+#[test]
+fn a_device(rt: HostRuntime) -> Result<(), Fail> {
+    replace_file(&rt, rt.alloc(), "/dev/null", b"nothing")?;
     Ok(())
 }

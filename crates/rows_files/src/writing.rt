@@ -116,21 +116,41 @@ fn names(rt: HostRuntime) -> Result<(), Fail> {
     Ok(())
 }
 
+/// Writes a new file where a link to another one is. Whether it is a link then, and what the other file has.
+fn write_over_link(
+    rt: &HostRuntime,
+    folder: &str,
+    victim: &str,
+    link: &str,
+) -> Result<(bool, Vec<u8>), Fail> {
+    fs::write(rt, victim, b"kept")?;
+    rt.symlink("victim", link)?;
+    write_new(rt, rt.alloc(), folder, "a.tmp", b"new")?;
+    let is_link = rt.symlink_metadata(link)?.is_symlink();
+    Ok((is_link, fs::read(rt, victim)?))
+}
+
+/// Renames the new file to the other one. Whether it still has its name, and what the other file has.
+fn rename_over(
+    rt: &HostRuntime,
+    folder: &str,
+    victim: &str,
+    link: &str,
+) -> Result<(bool, Vec<u8>), Fail> {
+    rename(rt, rt.alloc(), folder, "a.tmp", "victim")?;
+    let exists = fs::exists(rt, link)?;
+    Ok((exists, fs::read(rt, victim)?))
+}
+
 #[test]
 fn of_the_system(rt: HostRuntime) -> Result<(), Fail> {
     let path = folder(&rt, "writing")?;
     let victim = within(&rt, path.as_str(), "victim")?;
     let link = within(&rt, path.as_str(), "a.tmp")?;
-    fs::write(&rt, victim.as_str(), b"kept")?;
-    rt.symlink("victim", link.as_str())?;
-    write_new(&rt, rt.alloc(), path.as_str(), "a.tmp", b"new")?;
-    let is_link = rt.symlink_metadata(link.as_str())?.is_symlink();
-    let kept = fs::read(&rt, victim.as_str())?;
-    rename(&rt, rt.alloc(), path.as_str(), "a.tmp", "victim")?;
-    let renamed = fs::read(&rt, victim.as_str())?;
-    let gone = !fs::exists(&rt, link.as_str())?;
+    let (is_link, kept) = write_over_link(&rt, path.as_str(), victim.as_str(), link.as_str())?;
+    let (exists, renamed) = rename_over(&rt, path.as_str(), victim.as_str(), link.as_str())?;
     remove(&rt, path.as_str())?;
-    assert!(rt; !is_link && gone);
+    equal(&rt, (is_link, exists), (false, false));
     equal(&rt, kept.as_slice(), b"kept".as_slice());
     equal(&rt, renamed.as_slice(), b"new".as_slice());
     Ok(())
