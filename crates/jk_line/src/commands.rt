@@ -6,7 +6,7 @@ use std::alloc::{AllocError, Global};
 
 /// The version, and the line by which the kit names itself (`rt version`) that proves and builds
 /// the program.
-const VERSION: &str = "0.1.0\nrattle-kit-13b logic dac8208d650f15bf";
+const VERSION: &str = "0.1.0\nrattle-kit-13f logic dac8208d650f15bf";
 
 /// What is told under the list of commands.
 const STATUSES: &str = "\
