@@ -1,8 +1,9 @@
 //! Images added to an archive.
 
+use crate::asserts::{equal, equal_at};
 use crate::calls::{
-    add, add_with, is_page, joined, listed, open, pixel, plain, read, shelf_of, skipped,
-    with_levels,
+    add, archive_of, is_page, joined, listed, open, plain, read, refusal, refusal_with, shelf_of,
+    skipped, with_levels,
 };
 use crate::contents::Content;
 use crate::shelves::{Act, act_at};
@@ -12,9 +13,9 @@ use std::alloc::Global;
 use std::test::Fail;
 
 /// Of an image that is added: whether it has the digest of its file, its width and levels, and how many are listed.
-fn added(alloc: Global) -> Result<(bool, u32, u8, usize), Fail> {
-    let mut archive = open(alloc, shelf_of(alloc, &[])?)?;
-    let entry = add(&mut archive, alloc, "a", &pixel(alloc, 128)?)?;
+fn added(alloc: Global) -> Result<(bool, u32, u8, usize), Fault> {
+    let mut archive = archive_of(alloc, &[])?;
+    let entry = add(&mut archive, alloc, "a", 128)?;
     let same = entry.digest.as_slice() == Content::Digest.bytes(alloc)?.as_slice();
     let index = &entry.index;
     Ok((same, index.width(), index.levels(), archive.list().len()))
@@ -22,17 +23,16 @@ fn added(alloc: Global) -> Result<(bool, u32, u8, usize), Fail> {
 
 #[test]
 fn an_image_added(rt: HostRuntime) -> Result<(), Fail> {
-    let answer = added(rt.alloc())?;
-    assert_eq!(rt; answer, (true, 1, 0, 1));
+    equal(&rt, added(rt.alloc())?, (true, 1, 0, 1));
     Ok(())
 }
 
 /// Why a bare codestream isn't added under a name beside an image `a`, and how many images are listed then.
-fn refused(alloc: Global, name: &str) -> Result<(Option<Fault>, usize), Fail> {
-    let mut archive = open(alloc, shelf_of(alloc, &[("a.jp2", Content::Page)])?)?;
+fn refused(alloc: Global, name: &str) -> Result<(Option<Fault>, usize), Fault> {
+    let mut archive = archive_of(alloc, &[("a.jp2", Content::Page)])?;
     let raw = plain(alloc, Container::Raw);
-    let answer = add_with(&mut archive, alloc, name, &pixel(alloc, 128)?, &raw);
-    Ok((answer.err(), archive.list().len()))
+    let answer = refusal_with(&mut archive, alloc, name, &raw);
+    Ok((answer, archive.list().len()))
 }
 
 /// Names, and why they are refused.
@@ -57,99 +57,102 @@ static REFUSED: [(&str, Fault); 10] = [
 
 #[test]
 fn refused_names(rt: HostRuntime) -> Result<(), Fail> {
-    for (name, fault) in REFUSED {
+    for (name, fault) in &REFUSED {
         let answer = refused(rt.alloc(), name)?;
-        assert_eq!(rt; answer, (Some(fault), 1), "{name}");
+        equal_at(&rt, *name, answer, (Some(*fault), 1));
     }
     Ok(())
 }
 
 /// Why an image isn't added a second time to an archive, the same one or another, and what is listed then.
-fn added_twice(alloc: Global, sample: i32) -> Result<(Option<Fault>, String), Fail> {
-    let mut archive = open(alloc, shelf_of(alloc, &[("b.jp2", Content::Page)])?)?;
-    add(&mut archive, alloc, "a", &pixel(alloc, 128)?)?;
-    let answer = add(&mut archive, alloc, "a", &pixel(alloc, sample)?);
-    Ok((answer.err(), listed(&archive, alloc)?))
+fn added_twice(alloc: Global, sample: i32) -> Result<(Option<Fault>, String), Fault> {
+    let mut archive = archive_of(alloc, &[("b.jp2", Content::Page)])?;
+    add(&mut archive, alloc, "a", 128)?;
+    let answer = refusal(&mut archive, alloc, "a", sample);
+    Ok((answer, listed(&archive, alloc)?))
 }
 
 /// Why an image isn't added under the name of one whose file lay on the shelf before, and what is listed then; and whether
 /// that file is as it was.
-fn added_over(alloc: Global) -> Result<(Option<Fault>, String, Result<bool, Fault>), Fail> {
-    let mut archive = open(alloc, shelf_of(alloc, &[("a.jp2", Content::Page)])?)?;
-    let answer = add(&mut archive, alloc, "a", &pixel(alloc, 129)?);
+fn added_over(alloc: Global) -> Result<(Option<Fault>, String, Result<bool, Fault>), Fault> {
+    let mut archive = archive_of(alloc, &[("a.jp2", Content::Page)])?;
+    let answer = refusal(&mut archive, alloc, "a", 129);
     let names = listed(&archive, alloc)?;
-    let same = is_page(alloc, read(&mut archive.into_shelf(), alloc, "a.jp2"))?;
-    Ok((answer.err(), names, same))
+    let same = is_page(alloc, read(&mut archive.into_shelf(), alloc, "a.jp2"));
+    Ok((answer, names, same))
 }
 
 #[test]
 fn taken_names(rt: HostRuntime) -> Result<(), Fail> {
     for sample in [128, 129] {
         let (fault, names) = added_twice(rt.alloc(), sample)?;
-        assert_eq!(rt; (fault, names.as_str()), (Some(Fault::NameTaken), "b a "));
+        equal_at(&rt, sample, fault, Some(Fault::NameTaken));
+        equal_at(&rt, sample, names.as_str(), "b a ");
     }
+    Ok(())
+}
+
+#[test]
+fn taken_files(rt: HostRuntime) -> Result<(), Fail> {
     let (fault, names, same) = added_over(rt.alloc())?;
-    assert_eq!(rt; (fault, names.as_str()), (Some(Fault::NameTaken), "a "));
-    assert_eq!(rt; same, Ok(true));
+    equal(&rt, (fault, same), (Some(Fault::NameTaken), Ok(true)));
+    equal(&rt, names.as_str(), "a ");
     Ok(())
 }
 
 /// Why so many levels are refused, and how many images are listed then.
-fn refused_levels(alloc: Global, levels: u8) -> Result<(Option<Fault>, usize), Fail> {
-    let mut archive = open(alloc, shelf_of(alloc, &[])?)?;
-    let parameters = with_levels(alloc, levels);
-    let answer = add_with(&mut archive, alloc, "a", &pixel(alloc, 128)?, &parameters);
-    Ok((answer.err(), archive.list().len()))
+fn refused_levels(alloc: Global, levels: u8) -> Result<(Option<Fault>, usize), Fault> {
+    let mut archive = archive_of(alloc, &[])?;
+    let answer = refusal_with(&mut archive, alloc, "a", &with_levels(alloc, levels));
+    Ok((answer, archive.list().len()))
 }
 
 #[test]
 fn refused_parameters(rt: HostRuntime) -> Result<(), Fail> {
     let answer = refused_levels(rt.alloc(), 6)?;
-    assert_eq!(rt; answer, (Some(Fault::BadParameters), 0));
+    equal(&rt, answer, (Some(Fault::BadParameters), 0));
     Ok(())
 }
 
 /// What is skipped, what is listed after the name was added, and both after it was opened again.
 fn replaced(alloc: Global) -> Result<String, Fail> {
-    let mut archive = open(alloc, shelf_of(alloc, &[("c.jp2", Content::Bare)])?)?;
+    let mut archive = archive_of(alloc, &[("c.jp2", Content::Bare)])?;
     let before = skipped(&archive, alloc)?;
-    add(&mut archive, alloc, "c", &pixel(alloc, 128)?)?;
+    add(&mut archive, alloc, "c", 128)?;
     let after = listed(&archive, alloc)?;
     let again = open(alloc, archive.into_shelf())?;
     let names = listed(&again, alloc)?;
     let none = skipped(&again, alloc)?;
-    joined(
-        alloc,
-        &[
-            before.as_str(),
-            after.as_str(),
-            names.as_str(),
-            none.as_str(),
-        ],
-    )
+    let texts = [
+        before.as_str(),
+        after.as_str(),
+        names.as_str(),
+        none.as_str(),
+    ];
+    Ok(joined(alloc, &texts)?)
 }
 
 #[test]
 fn a_skipped_name_added(rt: HostRuntime) -> Result<(), Fail> {
     let answer = replaced(rt.alloc())?;
-    assert_eq!(rt; answer.as_str(), "c F13 BadBox;|c |c ||");
+    equal(&rt, answer.as_str(), "c F13 BadBox;|c |c ||");
     Ok(())
 }
 
 /// Why an image isn't added where the rename fails, and how many images are listed before and after the next try.
-fn renamed(alloc: Global) -> Result<(Option<Fault>, usize, usize), Fail> {
+fn renamed(alloc: Global) -> Result<(Option<Fault>, usize, usize), Fault> {
     // The calls are: list, write, rename.
     let shelf = act_at(shelf_of(alloc, &[])?, 3, Act::Fail);
     let mut archive = open(alloc, shelf)?;
-    let answer = add(&mut archive, alloc, "a", &pixel(alloc, 128)?);
+    let answer = refusal(&mut archive, alloc, "a", 128);
     let before = archive.list().len();
-    add(&mut archive, alloc, "a", &pixel(alloc, 128)?)?;
-    Ok((answer.err(), before, archive.list().len()))
+    add(&mut archive, alloc, "a", 128)?;
+    Ok((answer, before, archive.list().len()))
 }
 
 #[test]
 fn a_rename_that_fails(rt: HostRuntime) -> Result<(), Fail> {
     let answer = renamed(rt.alloc())?;
-    assert_eq!(rt; answer, (Some(Fault::Shelf), 0, 1));
+    equal(&rt, answer, (Some(Fault::Shelf), 0, 1));
     Ok(())
 }

@@ -11,12 +11,12 @@ use std::sync::Arc;
 use std::test::Fail;
 
 /// An image of one grey sample.
-pub(crate) fn pixel(alloc: Global, sample: i32) -> Result<Image, Fail> {
+fn pixel(alloc: Global, sample: i32) -> Result<Image, Fault> {
     let mut plane = Vec::new(alloc);
     plane.push(sample)?;
     let mut planes = Vec::new(alloc);
     planes.push(plane)?;
-    Ok(Image::new(0, 0, 1, 1, 8, false, planes)?)
+    Image::new(0, 0, 1, 1, 8, false, planes)
 }
 
 /// No levels, one layer, LRCP, blocks of 64 by 64, and nothing else, in this container.
@@ -56,7 +56,7 @@ pub(crate) fn view(x: u32, width: u32) -> View {
 }
 
 /// A shelf in memory with these files.
-pub(crate) fn shelf_of(alloc: Global, files: &[(&str, Content)]) -> Result<MemoryShelf, Fail> {
+pub(crate) fn shelf_of(alloc: Global, files: &[(&str, Content)]) -> Result<MemoryShelf, Fault> {
     let mut shelf = MemoryShelf::new(alloc);
     for (name, content) in files {
         write(&mut shelf, alloc, name, &content.bytes(alloc)?)?;
@@ -81,24 +81,53 @@ pub(crate) fn open<S: Shelf + Drop>(alloc: Global, shelf: S) -> Result<Archive<S
     Archive::open(alloc, shelf)
 }
 
+/// An archive in memory of these files.
+pub(crate) fn archive_of(
+    alloc: Global,
+    files: &[(&str, Content)],
+) -> Result<Archive<MemoryShelf>, Fault> {
+    open(alloc, shelf_of(alloc, files)?)
+}
+
 /// Adds a grey sample in a JP2 file.
 pub(crate) fn add<S: Shelf>(
     archive: &mut Archive<S>,
     alloc: Global,
     name: &str,
-    image: &Image,
+    sample: i32,
 ) -> Result<Arc<Entry>, Fault> {
-    archive.add(alloc, name, image, &plain(alloc, Container::Jp2))
+    let image = pixel(alloc, sample)?;
+    archive.add(alloc, name, &image, &plain(alloc, Container::Jp2))
 }
 
-pub(crate) fn add_with<S: Shelf>(
+/// Why a grey sample isn't added, where it isn't.
+pub(crate) fn refusal<S: Shelf>(
     archive: &mut Archive<S>,
     alloc: Global,
     name: &str,
-    image: &Image,
+    sample: i32,
+) -> Option<Fault> {
+    add(archive, alloc, name, sample).err()
+}
+
+/// Adds a grey sample of 128 with these parameters.
+fn add_with<S: Shelf>(
+    archive: &mut Archive<S>,
+    alloc: Global,
+    name: &str,
     parameters: &Parameters,
 ) -> Result<Arc<Entry>, Fault> {
-    archive.add(alloc, name, image, parameters)
+    archive.add(alloc, name, &pixel(alloc, 128)?, parameters)
+}
+
+/// Why a grey sample of 128 isn't added with these parameters, where it isn't.
+pub(crate) fn refusal_with<S: Shelf>(
+    archive: &mut Archive<S>,
+    alloc: Global,
+    name: &str,
+    parameters: &Parameters,
+) -> Option<Fault> {
+    add_with(archive, alloc, name, parameters).err()
 }
 
 pub(crate) fn whole<S: Shelf>(
@@ -119,7 +148,7 @@ pub(crate) fn window<S: Shelf>(
 }
 
 /// The names that are listed, with a space behind each.
-pub(crate) fn listed<S: Shelf>(archive: &Archive<S>, alloc: Global) -> Result<String, Fail> {
+pub(crate) fn listed<S: Shelf>(archive: &Archive<S>, alloc: Global) -> Result<String, Fault> {
     let mut names = String::new(alloc);
     for entry in archive.list() {
         names.push_str(entry.name.as_str())?;
@@ -142,7 +171,7 @@ pub(crate) fn skipped<S: Shelf>(archive: &Archive<S>, alloc: Global) -> Result<S
 }
 
 /// Texts with a bar behind each.
-pub(crate) fn joined(alloc: Global, texts: &[&str]) -> Result<String, Fail> {
+pub(crate) fn joined(alloc: Global, texts: &[&str]) -> Result<String, Fault> {
     let mut all = String::new(alloc);
     for text in texts {
         all.push_str(text)?;
@@ -152,10 +181,6 @@ pub(crate) fn joined(alloc: Global, texts: &[&str]) -> Result<String, Fail> {
 }
 
 /// Whether what was answered is the JP2 file of one sample.
-pub(crate) fn is_page(
-    alloc: Global,
-    answer: Result<Vec<u8>, Fault>,
-) -> Result<Result<bool, Fault>, Fail> {
-    let page = Content::Page.bytes(alloc)?;
-    Ok(answer.map(|bytes| bytes.as_slice() == page.as_slice()))
+pub(crate) fn is_page(alloc: Global, answer: Result<Vec<u8>, Fault>) -> Result<bool, Fault> {
+    Ok(answer?.as_slice() == Content::Page.bytes(alloc)?.as_slice())
 }

@@ -1,8 +1,8 @@
 //! What files hold, by name: a test that names them isn't burdened with their texts.
 
 use crate::texts::bytes_of;
+use jk_math::Fault;
 use std::alloc::Global;
-use std::test::Fail;
 
 /// What a file holds.
 #[derive(Clone, Copy)]
@@ -33,7 +33,7 @@ impl Content {
     }
 
     /// The bytes.
-    pub(crate) fn bytes(self, alloc: Global) -> Result<Vec<u8>, Fail> {
+    pub(crate) fn bytes(self, alloc: Global) -> Result<Vec<u8>, Fault> {
         bytes_of(alloc, &[self.text()])
     }
 }

@@ -1,6 +1,7 @@
 //! Archives of real files.
 
-use crate::calls::{add, is_page, joined, listed, open, pixel, skipped, view, whole, window};
+use crate::asserts::{equal, equal_at};
+use crate::calls::{add, is_page, joined, listed, open, skipped, view, whole, window};
 use crate::contents::Content;
 use jk_math::Fault;
 use jk_store::{Archive, Folder, Shelf};
@@ -34,16 +35,16 @@ fn archive_in(rt: HostRuntime, path: &str) -> Result<Archive<Folder<HostRuntime>
 }
 
 /// Adds two images to an empty directory, whose names are then listed.
-fn add_two(rt: HostRuntime, path: &str) -> Result<String, Fail> {
+fn add_two(rt: HostRuntime, path: &str) -> Result<String, Fault> {
     let alloc = rt.alloc();
     let mut archive = archive_in(rt, path)?;
-    add(&mut archive, alloc, "b", &pixel(alloc, 127)?)?;
-    add(&mut archive, alloc, "a", &pixel(alloc, 128)?)?;
+    add(&mut archive, alloc, "b", 127)?;
+    add(&mut archive, alloc, "a", 128)?;
     listed(&archive, alloc)
 }
 
 /// The names of what isn't a file that can be opened, and those of files that were left while they were written.
-fn told(folder: &Folder<HostRuntime>, alloc: Global) -> Result<String, Fail> {
+fn told(folder: &Folder<HostRuntime>, alloc: Global) -> Result<String, Fault> {
     let mut text = String::new(alloc);
     for other in folder.others() {
         text.push_str(other.name.as_str())?;
@@ -56,20 +57,25 @@ fn told(folder: &Folder<HostRuntime>, alloc: Global) -> Result<String, Fail> {
     Ok(text)
 }
 
-/// Puts other files and a directory beside the images, and says what is listed, what is skipped and
-/// what is told then.
-fn put_others(rt: HostRuntime, path: &str) -> Result<String, Fail> {
+/// Puts other files and a directory beside the images.
+fn put_others(rt: &HostRuntime, path: &str) -> Result<(), Fail> {
+    put(rt, path, "c.jp2", Content::Bare)?;
+    put(rt, path, "x.txt", Content::Page)?;
+    put(rt, path, "y.tmp", Content::Page)?;
+    put(rt, path, "B.jp2", Content::Page)?;
+    fs::create_dir(rt, format!(in rt.alloc(); "{path}/d.jp2")?.as_str())?;
+    Ok(())
+}
+
+/// What is listed of a directory, what is skipped and what is told.
+fn seen_in(rt: HostRuntime, path: &str) -> Result<String, Fail> {
     let alloc = rt.alloc();
-    put(&rt, path, "c.jp2", Content::Bare)?;
-    put(&rt, path, "x.txt", Content::Page)?;
-    put(&rt, path, "y.tmp", Content::Page)?;
-    put(&rt, path, "B.jp2", Content::Page)?;
-    fs::create_dir(&rt, format!(in alloc; "{path}/d.jp2")?.as_str())?;
     let archive = archive_in(rt, path)?;
     let names = listed(&archive, alloc)?;
     let others = skipped(&archive, alloc)?;
     let told = told(archive.shelf(), alloc)?;
-    joined(alloc, &[names.as_str(), others.as_str(), told.as_str()])
+    let texts = [names.as_str(), others.as_str(), told.as_str()];
+    Ok(joined(alloc, &texts)?)
 }
 
 /// Whether the JP2 file of one sample is given: as a file, as a window, after the file was changed, and after all files were
@@ -77,18 +83,13 @@ fn put_others(rt: HostRuntime, path: &str) -> Result<String, Fail> {
 fn read_four(rt: HostRuntime, path: &str) -> Result<([Result<bool, Fault>; 4], u64), Fail> {
     let alloc = rt.alloc();
     let mut archive = archive_in(rt, path)?;
-    let file = whole(&mut archive, alloc, "a");
-    let cut = window(&mut archive, alloc, "a", view(0, 1));
+    let file = is_page(alloc, whole(&mut archive, alloc, "a"));
+    let cut = is_page(alloc, window(&mut archive, alloc, "a", view(0, 1)));
     put(&rt, path, "a.jp2", Content::Byte)?;
-    let changed = whole(&mut archive, alloc, "a");
+    let changed = is_page(alloc, whole(&mut archive, alloc, "a"));
     fs::remove_dir_all(&rt, path)?;
-    let removed = whole(&mut archive, alloc, "a");
-    let answers = [
-        is_page(alloc, file)?,
-        is_page(alloc, cut)?,
-        is_page(alloc, changed)?,
-        is_page(alloc, removed)?,
-    ];
+    let removed = is_page(alloc, whole(&mut archive, alloc, "a"));
+    let answers = [file, cut, changed, removed];
     Ok((answers, archive.into_shelf().failures()))
 }
 
@@ -96,12 +97,13 @@ fn read_four(rt: HostRuntime, path: &str) -> Result<([Result<bool, Fault>; 4], u
 fn an_archive_of_files(rt: HostRuntime) -> Result<(), Fail> {
     let path = directory(&rt, "archive")?;
     let first = add_two(rt, path.as_str())?;
-    let second = put_others(rt, path.as_str())?;
+    put_others(&rt, path.as_str())?;
+    let second = seen_in(rt, path.as_str())?;
     let third = read_four(rt, path.as_str())?;
-    assert_eq!(rt; first.as_str(), "b a ");
-    assert_eq!(rt; second.as_str(), "a b |c F13 BadBox;|d.jp2;y.tmp;|");
+    equal(&rt, first.as_str(), "b a ");
+    equal(&rt, second.as_str(), "a b |c F13 BadBox;|d.jp2;y.tmp;|");
     let faults = [Ok(true), Ok(true), Err(Fault::Changed), Err(Fault::Shelf)];
-    assert_eq!(rt; third, (faults, 1));
+    equal(&rt, third, (faults, 1));
     Ok(())
 }
 
@@ -146,21 +148,20 @@ fn files_of_a_directory(rt: HostRuntime) -> Result<(), Fail> {
     let path = directory(&rt, "files")?;
     let mut folder = Folder::new(rt, rt.alloc(), path.as_str())?;
     let first = write_and_rename(&mut folder, rt.alloc())?;
-    assert_eq!(rt; trouble(&folder), "none");
-    assert_eq!(rt; folder.read(rt.alloc(), "c.jp2").err(), Some(Fault::Shelf));
-    assert_eq!(rt; trouble(&folder), "c.jp2");
-    let second = fail_four(rt, &mut folder, path.as_str())?;
+    equal(&rt, first, (true, 1));
+    equal(&rt, trouble(&folder), "none");
     let failed = Some(Fault::Shelf);
-    assert_eq!(rt; first, (true, 1));
-    assert_eq!(rt; trouble(&folder), "");
-    assert_eq!(rt; second, ([failed, failed, failed, failed], 5));
+    equal(&rt, folder.read(rt.alloc(), "c.jp2").err(), failed);
+    equal(&rt, trouble(&folder), "c.jp2");
+    let second = fail_four(rt, &mut folder, path.as_str())?;
+    equal(&rt, trouble(&folder), "");
+    equal(&rt, second, ([failed, failed, failed, failed], 5));
     Ok(())
 }
 
 #[test]
-fn no_directory(rt: HostRuntime) -> Result<(), Fail> {
+fn no_directory(rt: HostRuntime) {
     for path in ["/nowhere/at/all", "/etc/hostname"] {
-        assert_eq!(rt; archive_in(rt, path).err(), Some(Fault::Shelf), "{path}");
+        equal_at(&rt, path, archive_in(rt, path).err(), Some(Fault::Shelf));
     }
-    Ok(())
 }

@@ -1,7 +1,8 @@
 //! Shelves that fail at one call.
 
+use crate::asserts::{equal, equal_at};
 use crate::calls::{
-    add, is_page, joined, listed, open, pixel, read, shelf_of, view, whole, window,
+    add, is_page, joined, listed, open, read, refusal, shelf_of, view, whole, window,
 };
 use crate::contents::Content;
 use crate::shelves::{Act, Acting, act_at};
@@ -11,50 +12,47 @@ use std::alloc::Global;
 use std::test::Fail;
 
 /// The archive of two images and another file on a shelf that fails at a call, if it can be opened.
-fn opened(alloc: Global, call: u64) -> Result<Result<Archive<Acting>, Fault>, Fail> {
+fn opened(alloc: Global, call: u64) -> Result<Archive<Acting>, Fault> {
     let files = [
         ("a.jp2", Content::Page),
         ("b.jp2", Content::Bare),
         ("c.jp2", Content::Page),
     ];
     let shelf = shelf_of(alloc, &files)?;
-    Ok(open(alloc, act_at(shelf, call, Act::Fail)))
+    open(alloc, act_at(shelf, call, Act::Fail))
 }
 
 /// How many images are listed, or why none is.
-fn opening_at(alloc: Global, call: u64) -> Result<Result<usize, Fault>, Fail> {
-    Ok(opened(alloc, call)?.map(|archive| archive.list().len()))
+fn opening_at(alloc: Global, call: u64) -> Result<usize, Fault> {
+    Ok(opened(alloc, call)?.list().len())
 }
 
 #[test]
-fn opening(rt: HostRuntime) -> Result<(), Fail> {
+fn opening(rt: HostRuntime) {
     // One listing and three reads.
     for call in 1..5 {
-        let answer = opening_at(rt.alloc(), call)?;
-        assert_eq!(rt; answer, Err(Fault::Shelf), "{call}");
+        equal_at(&rt, call, opening_at(rt.alloc(), call), Err(Fault::Shelf));
     }
-    let answer = opening_at(rt.alloc(), 5)?;
-    assert_eq!(rt; answer, Ok(2));
-    Ok(())
+    equal(&rt, opening_at(rt.alloc(), 5), Ok(2));
 }
 
 /// Why an image isn't added; what is listed before and after the next try; and how many calls failed.
-fn adding_at(alloc: Global, call: u64) -> Result<(Option<Fault>, String, u64), Fail> {
-    let mut archive = opened(alloc, call)??;
-    let answer = add(&mut archive, alloc, "d", &pixel(alloc, 129)?);
+fn adding_at(alloc: Global, call: u64) -> Result<(Option<Fault>, String, u64), Fault> {
+    let mut archive = opened(alloc, call)?;
+    let answer = refusal(&mut archive, alloc, "d", 129);
     let before = listed(&archive, alloc)?;
-    add(&mut archive, alloc, "d", &pixel(alloc, 129)?)?;
+    add(&mut archive, alloc, "d", 129)?;
     let after = listed(&archive, alloc)?;
     let names = joined(alloc, &[before.as_str(), after.as_str()])?;
-    Ok((answer.err(), names, archive.into_shelf().failures()))
+    Ok((answer, names, archive.into_shelf().failures()))
 }
 
 #[test]
 fn adding(rt: HostRuntime) -> Result<(), Fail> {
     for call in 5..7 {
         let (answer, names, failures) = adding_at(rt.alloc(), call)?;
-        assert_eq!(rt; names.as_str(), "a c |a c d |", "{call}");
-        assert_eq!(rt; (answer, failures), (Some(Fault::Shelf), 1), "{call}");
+        equal_at(&rt, call, names.as_str(), "a c |a c d |");
+        equal_at(&rt, call, (answer, failures), (Some(Fault::Shelf), 1));
     }
     Ok(())
 }
@@ -63,14 +61,14 @@ fn adding(rt: HostRuntime) -> Result<(), Fail> {
 fn reading_at(
     alloc: Global,
     whole_first: bool,
-) -> Result<(Option<Fault>, Result<bool, Fault>, u64), Fail> {
-    let mut archive = opened(alloc, 5)??;
+) -> Result<(Option<Fault>, Result<bool, Fault>, u64), Fault> {
+    let mut archive = opened(alloc, 5)?;
     let first = if whole_first {
         whole(&mut archive, alloc, "c")
     } else {
         window(&mut archive, alloc, "c", view(0, 1))
     };
-    let second = is_page(alloc, whole(&mut archive, alloc, "a"))?;
+    let second = is_page(alloc, whole(&mut archive, alloc, "a"));
     Ok((first.err(), second, archive.into_shelf().failures()))
 }
 
@@ -78,7 +76,7 @@ fn reading_at(
 fn reading(rt: HostRuntime) -> Result<(), Fail> {
     for whole_first in [true, false] {
         let answer = reading_at(rt.alloc(), whole_first)?;
-        assert_eq!(rt; answer, (Some(Fault::Shelf), Ok(true), 1));
+        equal(&rt, answer, (Some(Fault::Shelf), Ok(true), 1));
     }
     Ok(())
 }
@@ -88,7 +86,7 @@ fn rename(shelf: &mut MemoryShelf, alloc: Global, from: &str, to: &str) -> Optio
 }
 
 /// The faults of calls with names that no file has, and with names that one has; and how many failed.
-fn calls(alloc: Global) -> Result<([Option<Fault>; 6], u64), Fail> {
+fn calls(alloc: Global) -> Result<([Option<Fault>; 6], u64), Fault> {
     let mut shelf = shelf_of(alloc, &[("a", Content::Byte), ("b", Content::Page)])?;
     let faults = [
         read(&mut shelf, alloc, "c").err(),
@@ -105,6 +103,6 @@ fn calls(alloc: Global) -> Result<([Option<Fault>; 6], u64), Fail> {
 fn absent_names(rt: HostRuntime) -> Result<(), Fail> {
     let answer = calls(rt.alloc())?;
     let failed = Some(Fault::Shelf);
-    assert_eq!(rt; answer, ([failed, failed, None, None, failed, None], 3));
+    equal(&rt, answer, ([failed, failed, None, None, failed, None], 3));
     Ok(())
 }

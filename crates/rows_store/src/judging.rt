@@ -1,7 +1,8 @@
 //! Names that are judged by the names of files alone, and an image that is added beside files that
 //! weren't read.
 
-use crate::calls::{add, listed, open, pixel, shelf_of};
+use crate::asserts::{equal, equal_at};
+use crate::calls::{add, listed, open, shelf_of};
 use crate::contents::Content;
 use crate::shelves::{Act, Many, act_at};
 use jk_math::Fault;
@@ -11,7 +12,7 @@ use std::test::Fail;
 
 /// What is said of a name beside two images, a bare codestream and another file, on a shelf that
 /// fails at a call.
-fn judged(alloc: Global, name: &str, call: u64) -> Result<Result<bool, Fault>, Fail> {
+fn judged(alloc: Global, name: &str, call: u64) -> Result<bool, Fault> {
     let files = [
         ("a.jp2", Content::Page),
         ("b.jp2", Content::Bare),
@@ -19,7 +20,7 @@ fn judged(alloc: Global, name: &str, call: u64) -> Result<Result<bool, Fault>, F
         ("e.jp2", Content::Page),
     ];
     let mut shelf = act_at(shelf_of(alloc, &files)?, call, Act::Fail);
-    Ok(judge_name(alloc, &mut shelf, name))
+    judge_name(alloc, &mut shelf, name)
 }
 
 /// Names, and what is said of them.
@@ -36,11 +37,9 @@ static NAMES: [(&str, Result<bool, Fault>); 6] = [
 fn names_beside_files(rt: HostRuntime) -> Result<(), Fail> {
     // The listing is the first call, and there is no second, which would fail.
     for (name, wanted) in NAMES {
-        let answer = judged(rt.alloc(), name, 2)?;
-        assert_eq!(rt; answer, wanted, "{name}");
+        equal_at(&rt, name, judged(rt.alloc(), name, 2), wanted);
     }
-    let answer = judged(rt.alloc(), "D", 1)?;
-    assert_eq!(rt; answer, Err(Fault::Shelf));
+    equal(&rt, judged(rt.alloc(), "D", 1), Err(Fault::Shelf));
     Ok(())
 }
 
@@ -54,17 +53,17 @@ fn beside(alloc: Global, name: &str, count: u16) -> Result<bool, Fault> {
 fn names_beside_many(rt: HostRuntime) -> Result<(), Fail> {
     let alloc = rt.alloc();
     let few = [beside(alloc, "4095", 4095), beside(alloc, "4094", 4095)];
-    assert_eq!(rt; few, [Ok(true), Err(Fault::NameTaken)]);
+    equal(&rt, few, [Ok(true), Err(Fault::NameTaken)]);
     let many = [beside(alloc, "4096", 4096), beside(alloc, "D", 4096)];
-    assert_eq!(rt; many, [Ok(false), Ok(false)]);
+    equal(&rt, many, [Ok(false), Ok(false)]);
     Ok(())
 }
 
 /// What an archive lists that is opened when an image was added beside files that weren't read.
-fn added_beside(alloc: Global) -> Result<String, Fail> {
+fn added_beside(alloc: Global) -> Result<String, Fault> {
     let shelf = shelf_of(alloc, &[("a.jp2", Content::Page), ("c.jp2", Content::Page)])?;
     let mut archive = Archive::with(shelf, Images::none(alloc));
-    add(&mut archive, alloc, "b", &pixel(alloc, 128)?)?;
+    add(&mut archive, alloc, "b", 128)?;
     let archive = open(alloc, archive.into_shelf())?;
     listed(&archive, alloc)
 }
@@ -72,6 +71,6 @@ fn added_beside(alloc: Global) -> Result<String, Fail> {
 #[test]
 fn an_image_beside_others(rt: HostRuntime) -> Result<(), Fail> {
     let names = added_beside(rt.alloc())?;
-    assert_eq!(rt; names.as_str(), "a b c ");
+    equal(&rt, names.as_str(), "a b c ");
     Ok(())
 }

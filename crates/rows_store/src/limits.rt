@@ -1,6 +1,7 @@
 //! How many images an archive may have.
 
-use crate::calls::{add_with, open, pixel, plain};
+use crate::asserts::equal;
+use crate::calls::{open, plain, refusal_with};
 use crate::contents::Content;
 use crate::shelves::Many;
 use jk_math::Fault;
@@ -9,15 +10,14 @@ use std::alloc::Global;
 use std::test::Fail;
 
 /// The faults of adding to an archive of 4,096 images, and how many there are then.
-fn add_to_full(alloc: Global) -> Result<([Option<Fault>; 3], usize), Fail> {
+fn add_to_full(alloc: Global) -> Result<([Option<Fault>; 3], usize), Fault> {
     let bytes = Content::Page.bytes(alloc)?;
-    let image = pixel(alloc, 128)?;
     let raw = plain(alloc, Container::Raw);
     let mut archive = open(alloc, Many { count: 4096, bytes })?;
     let faults = [
-        add_with(&mut archive, alloc, "A", &image, &raw).err(),
-        add_with(&mut archive, alloc, "4095", &image, &raw).err(),
-        add_with(&mut archive, alloc, "4096", &image, &raw).err(),
+        refusal_with(&mut archive, alloc, "A", &raw),
+        refusal_with(&mut archive, alloc, "4095", &raw),
+        refusal_with(&mut archive, alloc, "4096", &raw),
     ];
     Ok((faults, archive.list().len()))
 }
@@ -30,12 +30,12 @@ fn full_archives(rt: HostRuntime) -> Result<(), Fail> {
         Some(Fault::NameTaken),
         Some(Fault::Limit),
     ];
-    assert_eq!(rt; answer, (faults, 4096));
+    equal(&rt, answer, (faults, 4096));
     Ok(())
 }
 
 /// Why an archive of so many images can't be opened.
-fn opened(alloc: Global, count: u16) -> Result<Option<Fault>, Fail> {
+fn opened(alloc: Global, count: u16) -> Result<Option<Fault>, Fault> {
     let bytes = Content::Page.bytes(alloc)?;
     Ok(open(alloc, Many { count, bytes }).err())
 }
@@ -43,6 +43,6 @@ fn opened(alloc: Global, count: u16) -> Result<Option<Fault>, Fail> {
 #[test]
 fn one_image_too_many(rt: HostRuntime) -> Result<(), Fail> {
     let answer = opened(rt.alloc(), 4097)?;
-    assert_eq!(rt; answer, Some(Fault::Limit));
+    equal(&rt, answer, Some(Fault::Limit));
     Ok(())
 }

@@ -1,7 +1,9 @@
 //! An archive served over loopback.
 
-use crate::calls::{open, shelf_of};
+use crate::asserts::equal;
+use crate::calls::archive_of;
 use crate::contents::Content;
+use jk_math::Fault;
 use jk_store::{Archive, MemoryShelf};
 use jk_web::{End, run};
 use std::alloc::Global;
@@ -48,10 +50,18 @@ fn attend(
     Ok(run(alloc, &mut &stream, &mut &stream, archive, 100)?)
 }
 
+/// The replies on the first connection.
+fn replied(alloc: Global) -> Result<Vec<u8>, Fault> {
+    let mut due = Vec::new(alloc);
+    due.extend_from_slice(REPLIED.as_bytes())?;
+    due.extend_from_slice(&Content::Page.bytes(alloc)?)?;
+    Ok(due)
+}
+
 #[test]
 fn two_connections(rt: HostRuntime) -> Result<(), Fail> {
     let alloc = rt.alloc();
-    let mut archive = open(alloc, shelf_of(alloc, &[("a.jp2", Content::Page)])?)?;
+    let mut archive = archive_of(alloc, &[("a.jp2", Content::Page)])?;
     let listener = TcpListener::bind(&rt, ("127.0.0.1", 0))?;
     let port = listener.local_addr()?.port();
     let client = thread::spawn(&rt, move || asked_twice(&rt, port))?;
@@ -60,11 +70,9 @@ fn two_connections(rt: HostRuntime) -> Result<(), Fail> {
         attend(alloc, &listener, &mut archive)?,
     ];
     let (first, second) = client.join(&rt)?;
-    let mut due = Vec::new(alloc);
-    due.extend_from_slice(REPLIED.as_bytes())?;
-    due.extend_from_slice(&Content::Page.bytes(alloc)?)?;
-    assert_eq!(rt; ends, [End::Closed, End::Closed]);
-    assert_eq!(rt; first.as_slice(), due.as_slice());
-    assert_eq!(rt; second.as_slice(), REFUSED.as_bytes());
+    let due = replied(alloc)?;
+    equal(&rt, ends, [End::Closed, End::Closed]);
+    equal(&rt, first.as_slice(), due.as_slice());
+    equal(&rt, second.as_slice(), REFUSED.as_bytes());
     Ok(())
 }

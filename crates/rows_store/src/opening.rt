@@ -1,6 +1,9 @@
 //! Archives opened.
 
-use crate::calls::{add, is_page, joined, listed, open, pixel, shelf_of, skipped, whole, write};
+use crate::asserts::equal;
+use crate::calls::{
+    add, archive_of, is_page, joined, listed, open, shelf_of, skipped, whole, write,
+};
 use crate::contents::Content;
 use crate::texts::bytes_of;
 use jk_math::Fault;
@@ -13,7 +16,7 @@ fn opened(alloc: Global, shelf: MemoryShelf) -> Result<String, Fail> {
     let archive = open(alloc, shelf)?;
     let names = listed(&archive, alloc)?;
     let others = skipped(&archive, alloc)?;
-    joined(alloc, &[names.as_str(), others.as_str()])
+    Ok(joined(alloc, &[names.as_str(), others.as_str()])?)
 }
 
 static FILES: [(&str, Content); 7] = [
@@ -30,47 +33,44 @@ static FILES: [(&str, Content); 7] = [
 fn what_is_listed(rt: HostRuntime) -> Result<(), Fail> {
     let alloc = rt.alloc();
     let answer = opened(alloc, shelf_of(alloc, &FILES)?)?;
-    assert_eq!(rt; answer.as_str(), "a |c F13 BadBox;|");
+    equal(&rt, answer.as_str(), "a |c F13 BadBox;|");
     Ok(())
 }
 
 /// What is listed after these images were added, and after the archive was opened again.
 fn added(alloc: Global, names: &[&str]) -> Result<String, Fail> {
-    let mut archive = open(alloc, shelf_of(alloc, &[])?)?;
+    let mut archive = archive_of(alloc, &[])?;
     for name in names {
-        add(&mut archive, alloc, name, &pixel(alloc, 128)?)?;
+        add(&mut archive, alloc, name, 128)?;
     }
     let before = listed(&archive, alloc)?;
     let after = opened(alloc, archive.into_shelf())?;
-    joined(alloc, &[before.as_str(), after.as_str()])
+    Ok(joined(alloc, &[before.as_str(), after.as_str()])?)
 }
 
 #[test]
 fn the_order_of_names(rt: HostRuntime) -> Result<(), Fail> {
     let names = ["b", "a-b", "a", "z0", "_", "-", "9", "aa"];
     let answer = added(rt.alloc(), &names)?;
-    assert_eq!(rt;
-        answer.as_str(),
-        "b a-b a z0 _ - 9 aa |- 9 _ a a-b aa b z0 |||"
-    );
+    let due = "b a-b a z0 _ - 9 aa |- 9 _ a a-b aa b z0 |||";
+    equal(&rt, answer.as_str(), due);
     Ok(())
 }
 
 /// Whether two images that were added are the JP2 file of one sample of 128, after the archive was opened again.
-fn found(alloc: Global) -> Result<[Result<bool, Fault>; 2], Fail> {
-    let mut archive = open(alloc, shelf_of(alloc, &[])?)?;
-    add(&mut archive, alloc, "b", &pixel(alloc, 127)?)?;
-    add(&mut archive, alloc, "a", &pixel(alloc, 128)?)?;
+fn found(alloc: Global) -> Result<[Result<bool, Fault>; 2], Fault> {
+    let mut archive = archive_of(alloc, &[])?;
+    add(&mut archive, alloc, "b", 127)?;
+    add(&mut archive, alloc, "a", 128)?;
     let mut again = open(alloc, archive.into_shelf())?;
-    let first = is_page(alloc, whole(&mut again, alloc, "a"))?;
-    let second = is_page(alloc, whole(&mut again, alloc, "b"))?;
+    let first = is_page(alloc, whole(&mut again, alloc, "a"));
+    let second = is_page(alloc, whole(&mut again, alloc, "b"));
     Ok([first, second])
 }
 
 #[test]
 fn an_added_image_found(rt: HostRuntime) -> Result<(), Fail> {
-    let answer = found(rt.alloc())?;
-    assert_eq!(rt; answer, [Ok(true), Ok(false)]);
+    equal(&rt, found(rt.alloc())?, [Ok(true), Ok(false)]);
     Ok(())
 }
 
@@ -84,7 +84,7 @@ static SPOILT: [(usize, &str, &str); 5] = [
 ];
 
 /// A shelf with a JP2 file of one sample that is cut, and has other bytes behind.
-fn spoilt(alloc: Global, count: usize, behind: &str) -> Result<MemoryShelf, Fail> {
+fn spoilt(alloc: Global, count: usize, behind: &str) -> Result<MemoryShelf, Fault> {
     let mut bytes = Content::Page.bytes(alloc)?;
     bytes.truncate(count);
     bytes.extend_from_slice(&bytes_of(alloc, &[behind])?)?;
@@ -96,9 +96,9 @@ fn spoilt(alloc: Global, count: usize, behind: &str) -> Result<MemoryShelf, Fail
 #[test]
 fn what_is_skipped(rt: HostRuntime) -> Result<(), Fail> {
     let alloc = rt.alloc();
-    for (count, behind, fault) in SPOILT {
-        let answer = opened(alloc, spoilt(alloc, count, behind)?)?;
-        assert_eq!(rt; answer.as_str(), fault);
+    for (count, behind, fault) in &SPOILT {
+        let answer = opened(alloc, spoilt(alloc, *count, behind)?)?;
+        equal(&rt, answer.as_str(), *fault);
     }
     Ok(())
 }

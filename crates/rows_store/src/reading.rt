@@ -1,10 +1,11 @@
 //! Files and windows read back.
 
-use crate::calls::{is_page, open, shelf_of, view, whole, window};
+use crate::asserts::{equal, equal_at};
+use crate::calls::{archive_of, is_page, open, shelf_of, view, whole, window};
 use crate::contents::Content;
 use crate::shelves::{Act, act_at};
 use jk_math::Fault;
-use jk_store::{Entry, MemoryShelf, Shelf};
+use jk_store::{Archive, Entry, MemoryShelf, Shelf};
 use std::alloc::Global;
 use std::test::Fail;
 
@@ -15,14 +16,24 @@ enum Asked {
     Window(u32, u32),
 }
 
-/// Whether what an archive of one image `a` gives by a name is that image's file.
-fn by_a_name(alloc: Global, name: &str, asked: Asked) -> Result<Result<bool, Fault>, Fail> {
-    let mut archive = open(alloc, shelf_of(alloc, &[("a.jp2", Content::Page)])?)?;
+/// Whether what an archive gives by a name is the file of one sample.
+fn is_given<S: Shelf>(
+    archive: &mut Archive<S>,
+    alloc: Global,
+    name: &str,
+    asked: Asked,
+) -> Result<bool, Fault> {
     let answer = match asked {
-        Asked::Whole => whole(&mut archive, alloc, name),
-        Asked::Window(x, width) => window(&mut archive, alloc, name, view(x, width)),
+        Asked::Whole => whole(archive, alloc, name),
+        Asked::Window(x, width) => window(archive, alloc, name, view(x, width)),
     };
     is_page(alloc, answer)
+}
+
+/// Whether what an archive of one image `a` gives by a name is that image's file.
+fn by_a_name(alloc: Global, name: &str, asked: Asked) -> Result<bool, Fault> {
+    let mut archive = archive_of(alloc, &[("a.jp2", Content::Page)])?;
+    is_given(&mut archive, alloc, name, asked)
 }
 
 static BY_NAME: [(&str, Asked, Result<bool, Fault>); 6] = [
@@ -35,12 +46,10 @@ static BY_NAME: [(&str, Asked, Result<bool, Fault>); 6] = [
 ];
 
 #[test]
-fn by_name(rt: HostRuntime) -> Result<(), Fail> {
-    for (name, asked, due) in BY_NAME {
-        let answer = by_a_name(rt.alloc(), name, asked)?;
-        assert_eq!(rt; answer, due, "{name}");
+fn by_name(rt: HostRuntime) {
+    for (name, asked, due) in &BY_NAME {
+        equal_at(&rt, *name, by_a_name(rt.alloc(), name, *asked), *due);
     }
-    Ok(())
 }
 
 fn ask(
@@ -60,14 +69,14 @@ fn by_the_entry(
     alloc: Global,
     file: (&str, Content),
     asked: Asked,
-) -> Result<(Result<bool, Fault>, u64), Fail> {
-    let archive = open(alloc, shelf_of(alloc, &[("a.jp2", Content::Page)])?)?;
+) -> Result<(Result<bool, Fault>, u64), Fault> {
+    let archive = archive_of(alloc, &[("a.jp2", Content::Page)])?;
     let mut shelf = shelf_of(alloc, &[file])?;
     let Some(entry) = archive.list().first() else {
-        return Err("no image".into());
+        return Err(Fault::NoSuchImage);
     };
-    let answer = ask(entry, alloc, &mut shelf, asked);
-    Ok((is_page(alloc, answer)?, shelf.failures()))
+    let answer = is_page(alloc, ask(entry, alloc, &mut shelf, asked));
+    Ok((answer, shelf.failures()))
 }
 
 static BY_ENTRY: [(&str, Content, Asked, Result<bool, Fault>, u64); 8] = [
@@ -107,24 +116,20 @@ static BY_ENTRY: [(&str, Content, Asked, Result<bool, Fault>, u64); 8] = [
 
 #[test]
 fn by_an_entry(rt: HostRuntime) -> Result<(), Fail> {
-    for (name, content, asked, due, failures) in BY_ENTRY {
-        let answer = by_the_entry(rt.alloc(), (name, content), asked)?;
-        assert_eq!(rt; answer, (due, failures), "{name}");
+    for (name, content, asked, due, failures) in &BY_ENTRY {
+        let answer = by_the_entry(rt.alloc(), (*name, *content), *asked)?;
+        equal_at(&rt, *name, answer, (*due, *failures));
     }
     Ok(())
 }
 
 /// What is read where the shelf gives another file once, and what after that.
-fn changing(alloc: Global, asked: Asked) -> Result<[Result<bool, Fault>; 2], Fail> {
+fn changing(alloc: Global, asked: Asked) -> Result<[Result<bool, Fault>; 2], Fault> {
     // The calls are: list, read, and then this one.
     let shelf = shelf_of(alloc, &[("a.jp2", Content::Page)])?;
     let mut archive = open(alloc, act_at(shelf, 3, Act::Change))?;
-    let first = match asked {
-        Asked::Whole => whole(&mut archive, alloc, "a"),
-        Asked::Window(x, width) => window(&mut archive, alloc, "a", view(x, width)),
-    };
-    let first = is_page(alloc, first)?;
-    let second = is_page(alloc, whole(&mut archive, alloc, "a"))?;
+    let first = is_given(&mut archive, alloc, "a", asked);
+    let second = is_given(&mut archive, alloc, "a", Asked::Whole);
     Ok([first, second])
 }
 
@@ -132,7 +137,7 @@ fn changing(alloc: Global, asked: Asked) -> Result<[Result<bool, Fault>; 2], Fai
 fn a_file_that_changes(rt: HostRuntime) -> Result<(), Fail> {
     for asked in [Asked::Whole, Asked::Window(0, 1)] {
         let answer = changing(rt.alloc(), asked)?;
-        assert_eq!(rt; answer, [Err(Fault::Changed), Ok(true)]);
+        equal(&rt, answer, [Err(Fault::Changed), Ok(true)]);
     }
     Ok(())
 }

@@ -1,10 +1,12 @@
 //! An archive in memory, asked over HTTP.
 
-use crate::calls::{open, shelf_of};
+use crate::asserts::{equal, equal_at};
+use crate::calls::{archive_of, open, shelf_of};
 use crate::contents::Content;
 use crate::shelves::{Act, Acting, act_at};
+use jk_math::Fault;
 use jk_store::{Archive, MemoryShelf};
-use jk_web::{End, run};
+use jk_web::{Cache, End, run, run_with};
 use std::alloc::Global;
 use std::io;
 use std::io::Read;
@@ -33,7 +35,7 @@ impl Read for Source {
     }
 }
 
-fn requests(alloc: Global, text: &[u8], most: usize) -> Result<Source, Fail> {
+fn requests(alloc: Global, text: &[u8], most: usize) -> Result<Source, Fault> {
     Ok(Source {
         bytes: Vec::from_slice(alloc, text)?,
         at: 0,
@@ -42,14 +44,14 @@ fn requests(alloc: Global, text: &[u8], most: usize) -> Result<Source, Fail> {
 }
 
 /// The archive of one image `a`, which is one grey sample of 128.
-fn one_image(alloc: Global) -> Result<Archive<MemoryShelf>, Fail> {
-    Ok(open(alloc, shelf_of(alloc, &[("a.jp2", Content::Page)])?)?)
+fn one_image(alloc: Global) -> Result<Archive<MemoryShelf>, Fault> {
+    archive_of(alloc, &[("a.jp2", Content::Page)])
 }
 
 /// The same archive, whose file is another one at its nth read. The listing and the read of `open` come before.
-fn changed_at(alloc: Global, read: u64) -> Result<Archive<Acting>, Fail> {
+fn changed_at(alloc: Global, read: u64) -> Result<Archive<Acting>, Fault> {
     let shelf = shelf_of(alloc, &[("a.jp2", Content::Page)])?;
-    Ok(open(alloc, act_at(shelf, read.saturating_add(2), Act::Change))?)
+    open(alloc, act_at(shelf, read.saturating_add(2), Act::Change))
 }
 
 /// What is replied by an archive of one image to a stream that comes in pieces of this size, and how it ends.
@@ -123,8 +125,8 @@ fn replies(rt: HostRuntime) -> Result<(), Fail> {
     for (stream, want) in &REPLIES {
         for size in [1000, 1] {
             let (bytes, end) = replied(rt.alloc(), stream, size)?;
-            assert_eq!(rt; bytes.as_slice(), *want, "pieces of {size}");
-            assert_eq!(rt; end, End::Closed);
+            equal_at(&rt, size, bytes.as_slice(), *want);
+            equal_at(&rt, size, end, End::Closed);
         }
     }
     Ok(())
@@ -138,8 +140,8 @@ fn a_bad_request(rt: HostRuntime) -> Result<(), Fail> {
         b"HTTP/1.1 404 Not Found\r\nContent-Type: text/plain\r\nContent-Length: 14\r\n\r\n404 Not Found\nHTTP/1.1 400 Bad Request\r\nContent-Type: text/plain\r\nContent-Length: 16\r\nConnection: close\r\n\r\n400 Bad Request\n";
     for size in [1000, 1] {
         let (bytes, end) = replied(rt.alloc(), stream, size)?;
-        assert_eq!(rt; bytes.as_slice(), want.as_slice());
-        assert_eq!(rt; end, End::Bad);
+        equal_at(&rt, size, bytes.as_slice(), want.as_slice());
+        equal_at(&rt, size, end, End::Bad);
     }
     Ok(())
 }
@@ -153,7 +155,7 @@ static CHANGED: &[u8] =
     b"HTTP/1.1 500 Internal Server Error\r\nContent-Type: text/plain\r\nContent-Length: 26\r\n\r\n500 Internal Server Error\n";
 
 /// So many times the reply that is the image's file.
-fn files(alloc: Global, out: &mut Vec<u8>, count: usize) -> Result<(), Fail> {
+fn files(alloc: Global, out: &mut Vec<u8>, count: usize) -> Result<(), Fault> {
     for _ in 0..count {
         out.extend_from_slice(FILE_FOLLOWS)?;
         out.extend_from_slice(&Content::Page.bytes(alloc)?)?;
@@ -172,8 +174,8 @@ fn files_and_windows(rt: HostRuntime) -> Result<(), Fail> {
     files(alloc, &mut want, 2)?;
     for size in [1000, 1] {
         let (bytes, end) = replied(alloc, BOTH, size)?;
-        assert_eq!(rt; bytes.as_slice(), want.as_slice(), "pieces of {size}");
-        assert_eq!(rt; end, End::Closed);
+        equal_at(&rt, size, bytes.as_slice(), want.as_slice());
+        equal_at(&rt, size, end, End::Closed);
     }
     Ok(())
 }
@@ -189,8 +191,8 @@ fn one_changed(rt: &impl Abort, alloc: Global, read: u64) -> Result<(), Fail> {
         want.extend_from_slice(CHANGED)?;
     }
     let (bytes, end) = replied_to_changed(alloc, BOTH, read)?;
-    assert_eq!(rt; bytes.as_slice(), want.as_slice(), "read {read}");
-    assert_eq!(rt; end, End::Closed);
+    equal_at(rt, read, bytes.as_slice(), want.as_slice());
+    equal_at(rt, read, end, End::Closed);
     Ok(())
 }
 
@@ -198,4 +200,36 @@ fn one_changed(rt: &impl Abort, alloc: Global, read: u64) -> Result<(), Fail> {
 fn a_file_that_has_changed(rt: HostRuntime) -> Result<(), Fail> {
     one_changed(&rt, rt.alloc(), 1)?;
     one_changed(&rt, rt.alloc(), 2)
+}
+
+/// The same where windows are kept, one at a time.
+fn replied_with_cache(alloc: Global, stream: &[u8], read: u64) -> Result<(Vec<u8>, End), Fail> {
+    let mut out = Vec::new(alloc);
+    let mut reader = requests(alloc, stream, 1000)?;
+    let mut archive = changed_at(alloc, read)?;
+    let mut cache = Cache::new(alloc, 1)?;
+    let end = run_with(alloc, &mut reader, &mut out, &mut archive, &mut cache, 1000)?;
+    Ok((out, end))
+}
+
+/// A window, which is asked for twice. The second query has the reduction that the first leaves out.
+static TWICE: &[u8] =
+    b"GET /images/a/window?x=0&y=0&w=9&h=1 HTTP/1.1\r\n\r\nGET /images/a/window?x=0&y=0&w=9&h=1&r=0 HTTP/1.1\r\n\r\n";
+
+/// The shelf has another file at its second read. Without a cache the second reply tells of it; through
+/// a cache there is no second read.
+#[test]
+fn a_window_that_is_kept(rt: HostRuntime) -> Result<(), Fail> {
+    let alloc = rt.alloc();
+    let mut want = Vec::new(alloc);
+    files(alloc, &mut want, 1)?;
+    want.extend_from_slice(CHANGED)?;
+    let (bytes, _end) = replied_to_changed(alloc, TWICE, 2)?;
+    equal(&rt, bytes.as_slice(), want.as_slice());
+    let mut kept = Vec::new(alloc);
+    files(alloc, &mut kept, 2)?;
+    let (bytes, end) = replied_with_cache(alloc, TWICE, 2)?;
+    equal(&rt, bytes.as_slice(), kept.as_slice());
+    equal(&rt, end, End::Closed);
+    Ok(())
 }

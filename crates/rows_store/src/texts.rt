@@ -1,10 +1,10 @@
 //! Bytes, as hexadecimal texts.
 
+use jk_math::Fault;
 use std::alloc::Global;
-use std::test::Fail;
 
 /// The bytes of hexadecimal texts, one text behind the other.
-pub(crate) fn bytes_of(alloc: Global, texts: &[&str]) -> Result<Vec<u8>, Fail> {
+pub(crate) fn bytes_of(alloc: Global, texts: &[&str]) -> Result<Vec<u8>, Fault> {
     let mut bytes = Vec::new(alloc);
     let mut high = None;
     for text in texts {
