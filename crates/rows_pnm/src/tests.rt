@@ -1,6 +1,6 @@
 use crate::cases::{Case, OTHERS, REFUSED, WRITTEN};
 use jk_math::{Fault, Image};
-use jk_pnm::{read, write};
+use jk_pnm::{read, read_owned, write};
 use std::alloc::Global;
 use std::process::Abort;
 use std::test::Fail;
@@ -31,6 +31,8 @@ fn reads(rt: &impl Abort, alloc: Global, case: &Case<'_>) -> Result<Image, Fail>
         "{file:?}"
     );
     assert_eq!(rt; samples(alloc, &image)?.as_slice(), *wanted, "{file:?}");
+    let owned = read_owned(alloc, Vec::from_slice(alloc, file)?)?;
+    assert_eq!(rt; samples(alloc, &owned)?.as_slice(), *wanted, "{file:?}");
     Ok(image)
 }
 
