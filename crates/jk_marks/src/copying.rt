@@ -79,7 +79,12 @@ fn copy_front(
 
 /// Appends the segments at the front up to the marker `last`, without those of the marker `left_out`. Answers how many
 /// bytes they all take.
-pub(crate) fn copy_segments(bytes: &[u8], last: u16, left_out: u16, out: &mut Vec<u8>) -> Result<usize, Fault>
+pub(crate) fn copy_segments(
+    bytes: &[u8],
+    last: u16,
+    left_out: u16,
+    out: &mut Vec<u8>,
+) -> Result<usize, Fault>
     ensures ok { OnOk result (out.new.items ≡ out.old.items ++ kept_at (length bytes.now) last left_out bytes.now) }
     ensures size { IfOk result (λ n. n ≡ size_at (length bytes.now) last bytes.now) }
     ensures within { IfOk result (λ n. n ≤ length bytes.now) }

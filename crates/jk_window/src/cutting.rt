@@ -10,8 +10,8 @@ ghost use Rattle.jk_window.specs.Cutting.{cut_file};
 ghost use Rattle.jk_window.specs.Planning.{plan_text};
 
 use crate::kept::Index;
-use crate::steps::CutPlan;
 use crate::planning::plan;
+use crate::steps::CutPlan;
 use crate::view::View;
 use jk_boxes::open;
 use jk_math::Fault;

@@ -92,20 +92,20 @@ impl Index {
         around: Around,
     ) -> Index
         requires { IsIndex record {
-            place = place;
-            layers = layers;
-            order = order;
-            headers = headers;
-            packets = packets.items;
-            frame = around;
+          place = place;
+          layers = layers;
+          order = order;
+          headers = headers;
+          packets = packets.items;
+          frame = around;
         } }
         ensures { result ≡ record {
-            place = place;
-            layers = layers;
-            order = order;
-            headers = headers;
-            packets = packets.items;
-            frame = around;
+          place = place;
+          layers = layers;
+          order = order;
+          headers = headers;
+          packets = packets.items;
+          frame = around;
         } }
     {
         Index {

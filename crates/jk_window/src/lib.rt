@@ -17,9 +17,9 @@ mod window;
 pub use cutting::cut;
 pub use kept::Index;
 pub use need::needs;
-pub use steps::{CutPlan, CutStep};
 pub use planning::plan;
 pub use reading::index;
+pub use steps::{CutPlan, CutStep};
 pub use theorems::{
     emptied_codestreams_are_codestreams, emptied_tiles_are_tiles, stretches_hold_what_is_near,
     what_can_be_read_has_an_index,
