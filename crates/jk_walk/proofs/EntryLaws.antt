@@ -1,5 +1,5 @@
 -- Each packet of a tile finds its entry, and the entries give back the list of the walk.
-use Rattle.std.proofs.Common.{◌≡◌, ℕ, ◌<◌, List, [], ◌∷◌, length, map, get_or, replicate, Result, Ok, Err, refl, ap, sym, ◌∙◌, subst, arith}
+use Rattle.std.proofs.Common.{◌≡◌, ℕ, ◌<◌, ◌≤◌, ◌^◌, List, [], ◌∷◌, length, map, get_or, replicate, Result, Ok, Err, refl, ap, sym, ◌∙◌, subst, arith}
 use Rattle.std.specs.Prelude.{Contains}
 use Rattle.std.specs.declared.cmp.Ordering.TheVariants.{Less}
 use Rattle.std.specs.List.{AllByRecursion, AllZip, zip}
@@ -23,6 +23,7 @@ use Rattle.jk_walk.specs.declared.spans.PacketSpan.{PacketSpan}
 use Rattle.jk_walk.specs.TilePackets.{shape_in, Packet}
 use Rattle.jk_walk.specs.WalkReading.{packets_at, IsPlaced, span_of, spans_at}
 use Rattle.jk_walk.proofs.FoundLaws.{packets_found}
+use Rattle.jk_walk.proofs.TileFacts.{tile_few}
 use Rattle.jk_walk.specs.declared.entries.PacketEntry.{PacketEntry}
 use Rattle.jk_walk.specs.Placing.{AreOnce, AreBelow, IsNumbering, StandAtPlaces}
 use Rattle.jk_walk.specs.Entries.{no_entry, slotted, in_slots, entry_in, entry_of, place_name, entries_at, spans_in}
@@ -146,6 +147,14 @@ pub places_order : (bytes : List ℕ) (h : Headers) (t : ℕ) (places : List Pac
 places_order bytes h t places are less read =
     let found = packets_found bytes h t places are less read in
     subst (IsPacketOrder (shape_in h.siz (tile_in h.tiles t) t)) (names_placed bytes found.0 places found.2) found.1.order
+
+-- they are few
+pub places_few : (bytes : List ℕ) (h : Headers) (t : ℕ) (places : List PacketPlace) → AreHeaders (length bytes) h → t < tile_count h.siz → packets_at bytes h t ≡ Ok places → length places ≤ 2 ^ 24
+places_few bytes h t places are less read =
+    let s = shape_in h.siz (tile_in h.tiles t) t in
+    let count : length places ≡ packet_count s = sym (length-map places place_name) ∙ length_of s (map place_name places) (places_order bytes h t places are less read) in
+    let few = tile_few (length bytes) h t are less in
+    omega (arith, count, few)
 
 -- The entries of a tile give the spans that a walk gives, or the same fault.
 pub entries_spans : (bytes : List ℕ) (h : Headers) (t : ℕ) → AreHeaders (length bytes) h → t < tile_count h.siz

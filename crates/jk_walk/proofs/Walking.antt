@@ -176,18 +176,6 @@ pub record IsRead (s : TileShape) (n : PacketName) (old new : Kept) (x : Precinc
   pub others : (c r k : ℕ) → IsPrecinct s c r k → is_of c r k n ≡ false → states_in s new c r k ≡ states_in s old c r k
   pub same : IsKept old new
 
--- the precinct of a packet that was read is left
-pub read_left : (s : TileShape) (n : PacketName) (old mid new : Kept) → IsKept old mid → IsKept mid new
-    → ((c r k : ℕ) → IsPrecinct s c r k → is_of c r k n ≡ false → states_in s mid c r k ≡ states_in s old c r k)
-    → (n.layer + 1 < s.layers → states_in s new n.component n.resolution n.precinct ≡ states_in s mid n.component n.resolution n.precinct)
-    → ((c r k : ℕ) → IsPrecinct s c r k → is_of c r k n ≡ false → states_in s new c r k ≡ states_in s mid c r k)
-    → IsRead s n old new (states_in s mid n.component n.resolution n.precinct)
-read_left s n old mid new one two others early later = record {
-  early = early;
-  others = λ c r k is e. later c r k is e ∙ others c r k is e;
-  same = record { sop = two.sop ∙ one.sop; eph = two.eph ∙ one.eph; rows = two.rows ∙ one.rows };
-}
-
 -- what the states show once a packet was read
 shows_more : (s : TileShape) (kept kept' : Kept) (states : States) (n : PacketName) (x : PrecinctState) → Shows s kept states → x.layers ≡ n.layer + 1 → IsRead s n kept kept' x → Shows s kept' (with_state states n x)
 shows_more s kept kept' states n x shows count read c r k is = by (is_of c r k n) refl
