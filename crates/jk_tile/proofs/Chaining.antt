@@ -1,7 +1,7 @@
 -- Chains of the packets of precincts: one packet more, and what a chain tells.
-use Rattle.std.proofs.Common.{◌≡◌, ℕ, zero, suc, ◌+◌, ◌-◌, ◌<◌, ◌≤◌, inl, inr, Bool, true, false, cond, nat_eq, nat_lt, eqb, List, [], ◌∷◌, ◌++◌, length, map, filter, drop, get_or, set, replicate, refl, sym, ap, subst, ◌∙◌, arith, length-set, append_assoc, append-nil}
-use Rattle.std.specs.Prelude.{◌&&◌, ◌==◌, All}
-use Rattle.std.proofs.lemmas.Bool.{cases_eq, ne_eqb, eq-eqb}
+use Rattle.std.proofs.Common.{◌≡◌, ℕ, ◌+◌, ◌-◌, ◌<◌, ◌≤◌, inl, inr, Bool, true, false, cond, nat_eq, nat_lt, eqb, List, [], ◌∷◌, ◌++◌, length, filter, drop, get_or, set, replicate, refl, sym, ap, subst, ◌∙◌, arith, length-set, append_assoc, append-nil}
+use Rattle.std.specs.Prelude.{◌&&◌, ◌==◌}
+use Rattle.std.proofs.lemmas.Bool.{ne_eqb, eq-eqb}
 use Rattle.std.proofs.lemmas.Bool.Decides.{eqb_tells}
 use Rattle.std.proofs.lemmas.List.{drop_more, drop_all, get_or-replicate, length-replicate, get_or-set_same, get_or-set_other}
 use Rattle.std.proofs.lemmas.List.Elements.{All-nil, All-cons}
@@ -25,9 +25,12 @@ chain_kept next low at m v (k ∷ numbers) lt is =
     let below = is.1 in
     let inside = is.2 in
     let long = length-set next m v in
-    let other : k ≡ m → ⊥ = λ e. omega (arith, e, below, lt) in
-    (is.0, is.1, omega (arith, inside, long),
-    subst (λ i. IsChain (set next m v) (k + 1) i numbers) (sym (get_or-set_other next m k v 0 other)) (chain_kept next (k + 1) (get_or next k 0) m v numbers (omega (arith, below, lt)) is.3))
+    let other : k ≡ m → ⊥ = λ e. omega (arith, e, below, lt) in (
+      is.0,
+      is.1,
+      omega (arith, inside, long),
+      subst (λ i. IsChain (set next m v) (k + 1) i numbers) (sym (get_or-set_other next m k v 0 other)) (chain_kept next (k + 1) (get_or next k 0) m v numbers (omega (arith, below, lt)) is.3),
+    )
 
 -- ---- one packet more
 
@@ -69,7 +72,7 @@ chains_none places c r count chains first next =
       each = λ n lt. (
         [],
         ap (λ (xs : List ℕ). get_or xs n 0) first ∙ get_or-replicate count n 0 0 lt,
-        record { small = All-nil (λ i. i < length places); whose = ap (filter (P n)) (sym (drop_all (length places) places (omega arith))) }
+        record { small = All-nil (λ i. i < length places); whose = ap (filter (P n)) (sym (drop_all (length places) places (omega arith))) },
       );
     }
 

@@ -10,13 +10,12 @@ use Rattle.std.proofs.lemmas.List.Elements.{filter-append, All-nil, All-push}
 use Rattle.std.proofs.lemmas.Grind.{flat_map-append}
 use Rattle.std.proofs.lemmas.List.Sums.{sum_by-append, sum_by-cons}
 use Rattle.jk_packet.specs.declared.header.Part.{Part}
-use Rattle.jk_order.specs.PacketOrder.{is_of}
 use Rattle.jk_walk.specs.declared.places.PacketPlace.{PacketPlace}
 use Rattle.jk_walk.specs.TilePackets.{slice_of, Body}
 use Rattle.jk_walk.specs.WalkReading.{bodies_at}
 use Rattle.jk_tile.specs.declared.bodies.BodyPlace.{BodyPlace}
 use Rattle.jk_tile.specs.TileBlocks.{block_bodies}
-use Rattle.jk_tile.specs.Gathered.{no_place, place_in, list_at, body_of, bodies_in, IsInside, AreByBlock}
+use Rattle.jk_tile.specs.Gathered.{place_in, list_at, body_of, bodies_in, IsInside, AreByBlock}
 
 -- ---- lists of vectors
 

@@ -27,8 +27,8 @@ pub record AreNumbers (places : List PacketPlace) (of : List PacketPlace) (c r n
   pub small : All (λ i. i < length places) numbers
   pub whose : map (place_in places) numbers ≡ filter (λ w. is_of c r n w.name) of
 
--- Numbers from `low` on, which ascend, are told one behind another: the first at `at`, and behind each in the list the next. Each is told by
--- one more, and 0 ends them.
+-- Numbers from `low` on, which ascend, are told one behind another: `at` tells the first, and the
+-- list behind each of them the next. Number m is told by m + 1, and 0 tells that there is none.
 abbrev pub IsChain : (next : List ℕ) → (low at : ℕ) → List ℕ → Type 0
 IsChain next low at [] = at ≡ 0
 IsChain next low at (m ∷ numbers) = (at ≡ m + 1) × (low ≤ m) × (m < length next) × IsChain next (m + 1) (slice_index next m) numbers

@@ -23,7 +23,8 @@ pub(crate) struct PacketChains {
 
 /// Whether a packet is of a resolution of a component, in one of so many precincts.
 fn is_of_resolution(name: PacketName, component: u8, resolution: u8, precincts: usize) -> bool
-    ensures { result ≡ ((name.component == component) && ((name.resolution == resolution) && nat_lt name.precinct precincts)) }
+    ensures { result ≡ ((name.component == component)
+        && ((name.resolution == resolution) && nat_lt name.precinct precincts)) }
 {
     name.component == component
         && (name.resolution == resolution && (name.precinct as usize) < precincts)
@@ -35,7 +36,8 @@ fn link(chains: &mut PacketChains, precinct: usize, number: usize)
     requires number { number < length chains.old.next.items }
     requires few { number < 2 ^ 24 }
     ensures first { chains.new.first.items ≡ slice_set chains.old.first.items precinct (number + 1) }
-    ensures next { chains.new.next.items ≡ slice_set chains.old.next.items number (slice_index chains.old.first.items precinct) }
+    ensures next { chains.new.next.items
+        ≡ slice_set chains.old.next.items number (slice_index chains.old.first.items precinct) }
 {
     chains.next[number] = chains.first[precinct];
     chains.first[precinct] = number as u32 + 1;
@@ -76,9 +78,11 @@ pub(crate) fn follow(
     numbers: &mut Vec<usize>,
 ) -> Result<(), Fault>
     requires precinct { precinct < length chains.now.first.items }
-    requires chain { (list : List ℕ) × IsChain chains.now.next.items 0 (slice_index chains.now.first.items precinct) list }
+    requires chain { (list : List ℕ)
+        × IsChain chains.now.next.items 0 (slice_index chains.now.first.items precinct) list }
     ensures numbers { OnOk result ((list : List ℕ)
-        → IsChain chains.now.next.items 0 (slice_index chains.now.first.items precinct) list → numbers.new.items ≡ list) }
+        → IsChain chains.now.next.items 0 (slice_index chains.now.first.items precinct) list
+        → numbers.new.items ≡ list) }
     ensures memory { IfErr result IsMemory }
 {
     numbers.clear();

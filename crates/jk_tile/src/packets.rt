@@ -85,9 +85,11 @@ fn new_writer<'a>(
     requires planes { HasPlanes frame.now.coding.now }
     requires resolution { name.resolution ≤ frame.now.coding.now.levels }
     requires precinct { name.precinct < precinct_number frame.now.shape.now.rect frame.now.coding.now name.resolution }
-    requires tables { IsPrecinctList frame.now.shape.now.rect frame.now.coding.now frame.now.shape.now.layers name.resolution name.precinct tables.now }
+    requires tables { IsPrecinctList frame.now.shape.now.rect frame.now.coding.now frame.now.shape.now.layers
+        name.resolution name.precinct tables.now }
     ensures { MatchResult result
-        (λ w. w ≡ writer_at frame.now.shape.now.rect frame.now.coding.now frame.now.markers.sop frame.now.markers.eph frame.now.shape.now.layers tables.now name.resolution name.precinct) IsMemory }
+        (λ w. w ≡ writer_at frame.now.shape.now.rect frame.now.coding.now frame.now.markers.sop
+        frame.now.markers.eph frame.now.shape.now.layers tables.now name.resolution name.precinct) IsMemory }
 {
     let precinct = precinct_shape(
         &frame.shape.rect,
@@ -114,19 +116,19 @@ fn take<'a>(
     requires planes { HasPlanes frame.now.coding.now }
     requires resolution { name.resolution ≤ frame.now.coding.now.levels }
     requires precinct { name.precinct < precinct_number frame.now.shape.now.rect frame.now.coding.now name.resolution }
-    requires tables { IsPrecinctList frame.now.shape.now.rect frame.now.coding.now frame.now.shape.now.layers name.resolution name.precinct tables.now }
+    requires tables { IsPrecinctList frame.now.shape.now.rect frame.now.coding.now frame.now.shape.now.layers
+        name.resolution name.precinct tables.now }
     requires place { place < length slots.old.items }
     ensures value { MatchResult result
-        (λ w. w.value ≡ kept_writer slots.old.items place (writer_at frame.now.shape.now.rect frame.now.coding.now frame.now.markers.sop frame.now.markers.eph frame.now.shape.now.layers tables.now name.resolution name.precinct)) IsMemory }
+        (λ w. w.value ≡ kept_writer slots.old.items place (writer_at frame.now.shape.now.rect
+        frame.now.coding.now frame.now.markers.sop frame.now.markers.eph frame.now.shape.now.layers tables.now
+        name.resolution name.precinct)) IsMemory }
     ensures others { (blank : PrecinctTables) (i : ℕ) → i ≢ place → kept_writer slots.new.items i blank ≡ kept_writer slots.old.items i blank }
     ensures long { length slots.new.items ≡ length slots.old.items }
 {
     match slots[place].take() {
         Some(writer) => Ok(writer),
-        None => Ok(Box::new(
-            alloc,
-            new_writer(alloc, frame, name, tables)?,
-        )?),
+        None => Ok(Box::new(alloc, new_writer(alloc, frame, name, tables)?)?),
     }
 }
 
@@ -157,17 +159,23 @@ fn write_at<'a>(
     requires planes { HasPlanes frame.now.coding.now }
     requires resolution { name.resolution ≤ frame.now.coding.now.levels }
     requires precinct { name.precinct < precinct_number frame.now.shape.now.rect frame.now.coding.now name.resolution }
-    requires tables { IsPrecinctList frame.now.shape.now.rect frame.now.coding.now frame.now.shape.now.layers name.resolution name.precinct tables.now }
+    requires tables { IsPrecinctList frame.now.shape.now.rect frame.now.coding.now frame.now.shape.now.layers
+        name.resolution name.precinct tables.now }
     requires place { place < length slots.old.items }
     requires layer { name.layer < frame.now.shape.now.layers }
-    requires next { name.layer ≡ (writer_in frame.now.shape.now frame.now.coding.now frame.now.markers.sop frame.now.markers.eph tables.now slots.old.items place name).written }
-    requires more { name.layer < (writer_in frame.now.shape.now frame.now.coding.now frame.now.markers.sop frame.now.markers.eph tables.now slots.old.items place name).layers }
+    requires next { name.layer ≡ (writer_in frame.now.shape.now frame.now.coding.now frame.now.markers.sop
+        frame.now.markers.eph tables.now slots.old.items place name).written }
+    requires more { name.layer < (writer_in frame.now.shape.now frame.now.coding.now frame.now.markers.sop
+        frame.now.markers.eph tables.now slots.old.items place name).layers }
     ensures long { length slots.new.items ≡ length slots.old.items }
-    ensures here { OnOk result (name.layer + 1 < frame.now.shape.now.layers → (blank : PrecinctTables) → kept_writer slots.new.items place blank
-        ≡ record (writer_in frame.now.shape.now frame.now.coding.now frame.now.markers.sop frame.now.markers.eph tables.now slots.old.items place name) { written = name.layer + 1 }) }
+    ensures here { OnOk result (name.layer + 1 < frame.now.shape.now.layers → (blank : PrecinctTables)
+        → kept_writer slots.new.items place blank
+        ≡ record (writer_in frame.now.shape.now frame.now.coding.now frame.now.markers.sop
+        frame.now.markers.eph tables.now slots.old.items place name) { written = name.layer + 1 }) }
     ensures others { (blank : PrecinctTables) (i : ℕ) → i ≢ place → kept_writer slots.new.items i blank ≡ kept_writer slots.old.items i blank }
     ensures text { OnOk result (out.new.items ≡ out.old.items
-        ++ text_by (writer_in frame.now.shape.now frame.now.coding.now frame.now.markers.sop frame.now.markers.eph tables.now slots.old.items place name) number) }
+        ++ text_by (writer_in frame.now.shape.now frame.now.coding.now frame.now.markers.sop
+        frame.now.markers.eph tables.now slots.old.items place name) number) }
     ensures memory { IfErr result IsMemory }
 {
     let mut writer = take(alloc, frame, name, tables, place, slots)?;
@@ -189,9 +197,12 @@ pub(crate) fn write_packets(
     requires planes { HasPlanes frame.now.coding.now }
     requires alike { frame.now.shape.now.codings ≡ replicate (length frame.now.shape.now.codings) frame.now.coding.now }
     requires few { packet_count frame.now.shape.now ≤ 2 ^ 24 }
-    requires lists { AreLists frame.now.shape.now.rect frame.now.coding.now frame.now.shape.now.layers (length frame.now.shape.now.codings) (table_lists tables.now) }
+    requires lists { AreLists frame.now.shape.now.rect frame.now.coding.now frame.now.shape.now.layers
+        (length frame.now.shape.now.codings) (table_lists tables.now) }
     ensures text { IfOk result (λ v. v.items
-        ≡ written_text frame.now.shape.now frame.now.markers.sop frame.now.markers.eph (tables_in frame.now.shape.now.rect frame.now.coding.now (table_lists tables.now)) 0 (order frame.now.shape.now)) }
+        ≡ written_text frame.now.shape.now frame.now.markers.sop frame.now.markers.eph
+        (tables_in frame.now.shape.now.rect frame.now.coding.now (table_lists tables.now)) 0
+        (order frame.now.shape.now)) }
     ensures memory { IfErr result IsMemory }
 {
     let firsts = firsts(&frame.shape.rect, frame.coding);

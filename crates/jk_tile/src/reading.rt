@@ -211,15 +211,7 @@ pub(crate) fn read_resolution(
     let mut numbers = Vec::new(alloc);
     for n in 0..count {
         follow(&chains, n as usize, &mut numbers)?;
-        read_precinct(
-            alloc,
-            source,
-            &numbers,
-            r,
-            n,
-            &mut planes,
-            segment,
-        )?;
+        read_precinct(alloc, source, &numbers, r, n, &mut planes, segment)?;
     }
     Ok(planes)
 }

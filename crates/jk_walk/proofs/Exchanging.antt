@@ -1,5 +1,5 @@
 -- Values are brought to their places by exchanges.
-use Rattle.std.proofs.Common.{◌≡◌, ℕ, zero, suc, ◌+◌, ◌-◌, ◌<◌, ◌≤◌, inl, inr, Bool, true, false, cond, eqb, List, [], ◌∷◌, length, get_or, set, refl, ap, sym, ◌∙◌, subst, arith, length-set}
+use Rattle.std.proofs.Common.{◌≡◌, ℕ, zero, suc, ◌+◌, ◌<◌, ◌≤◌, inl, inr, cond, eqb, List, [], ◌∷◌, length, get_or, set, refl, ap, sym, ◌∙◌, subst, arith, length-set}
 use Rattle.std.specs.List.{SwappedAt}
 use Rattle.std.proofs.lemmas.Bool.{cases_eq, eq-eqb, ne_eqb}
 use Rattle.std.proofs.lemmas.List.{get_or-set_other, ext_get_or}
@@ -170,7 +170,7 @@ arranging_passes d places0 values0 places values at w here = record {
   long = w.long;
   size = w.size;
   are = w.are;
-  done = λ i lt. (elim (cases_eq i at) [ | inl same ↦ ap (λ k. get_or places k 0) same ∙ here ∙ sym same | inr apart ↦ w.done i (omega (arith, lt, apart)) ]);
+  done = λ i lt. (elim (cases_eq i at) [ inl same ↦ ap (λ k. get_or places k 0) same ∙ here ∙ sym same | inr apart ↦ w.done i (omega (arith, lt, apart)) ]);
   goes = w.goes;
 }
 

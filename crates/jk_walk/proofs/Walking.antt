@@ -1,6 +1,5 @@
 -- The walk over the packets of a tile, after some of them.
 use Rattle.std.proofs.Common.{◌≡◌, ℕ, ◌+◌, ◌-◌, ◌*◌, ◌<◌, ◌≤◌, inl, inr, Bool, true, false, not, eqb, nat_lt, List, [], ◌∷◌, ◌++◌, length, drop, Some, None, Result, Ok, Err, slice_get, get_or, replicate, cond, refl, sym, ap, ◌∙◌, subst, arith, append_assoc, append-nil}
-use Rattle.std.specs.Prelude.{slice_index_or}
 use Rattle.std.proofs.lemmas.Bool.{cases_lt, ne_eqb}
 use Rattle.std.proofs.lemmas.List.{nil_from_length, length-replicate, get_or-replicate, get_or_past}
 use Rattle.jk_math.specs.Steps.{bind_then, refuse_then, ok_is}

@@ -24,7 +24,7 @@ no_entry = record { start = 0; body = 0; end = 0; counter = None }
 abbrev pub slotted : {A : Type 0} → TileShape → (A → PacketName) → (A → PacketEntry) → List A → List PacketEntry
 slotted s name f packets = placed (λ w. slot_of s (name w)) f packets (replicate (length packets) no_entry)
 
--- the entries of the packets of a tile, which come in the order of the packets, each in its packet's slot
+-- the entries of a tile's packets, which come in the order of the packets, in their slots
 abbrev pub in_slots : TileShape → List PacketEntry → List PacketEntry
 in_slots s entries = slotted s (λ w. w.0) (λ w. w.1) (zip (order s) entries)
 

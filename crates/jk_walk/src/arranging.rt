@@ -41,7 +41,8 @@ fn packet_slots(alloc: Global, shape: &TileShape) -> Result<Vec<u32>, Fault>
 fn arrange(entries: &mut [PacketEntry], places: &mut [u32])
     requires long { length places.old ≡ length entries.old }
     requires places { IsNumbering places.old }
-    ensures { (arranged : List Entry) → StandAtPlaces no_entry arranged places.old entries.old → entries.new ≡ arranged }
+    ensures { (arranged : List Entry) → StandAtPlaces no_entry arranged places.old entries.old
+        → entries.new ≡ arranged }
 {
     let mut at = 0;
     while at < places.len() {

@@ -154,8 +154,9 @@ fn row_of(name: PacketName) -> usize
 
 /// What headers have told of the precincts of a tile.
 ///
-/// A precinct is made with the first of its packets and let go of behind its last one: few are alive where the layers of a
-/// precinct stand together, and a tile of which few packets are read takes little memory. Of one layer nothing is kept.
+/// A precinct is made with the first of its packets and let go of behind its last one: few are
+/// alive where the layers of a precinct stand together, and a tile of which few packets are read
+/// takes little memory. Where there is one layer, nothing is kept.
 #[derive(Drop)]
 pub(crate) struct Precincts {
     alloc: Global,

@@ -1,6 +1,6 @@
-use Rattle.std.proofs.Common.{◌≡◌, ◌+◌, ◌<◌, ◌≤◌, length, get_or, sym, ◌∙◌, arith}
+use Rattle.std.proofs.Common.{arith}
 use Rattle.jk_walk.specs.Entries.{no_entry}
-use Rattle.jk_walk.proofs.Exchanging.{misplaced, misplaced_fewer, arranging_starts, arranging_passes, arranging_moves, arranging_over}
+use Rattle.jk_walk.proofs.Exchanging.{misplaced_fewer, arranging_starts, arranging_passes, arranging_moves, arranging_over}
 use Rattle.jk_walk.proofs.arranging.arrange.Goals as goal
 
 pub loop-at-init : goal.loop-at-init
