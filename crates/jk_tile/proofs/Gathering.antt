@@ -10,13 +10,12 @@ use Rattle.std.proofs.lemmas.List.Elements.{filter-append, All-nil, All-push}
 use Rattle.std.proofs.lemmas.Grind.{flat_map-append}
 use Rattle.std.proofs.lemmas.List.Sums.{sum_by-append, sum_by-cons}
 use Rattle.jk_packet.specs.declared.header.Part.{Part}
-use Rattle.jk_order.specs.PacketOrder.{is_of}
 use Rattle.jk_walk.specs.declared.places.PacketPlace.{PacketPlace}
 use Rattle.jk_walk.specs.TilePackets.{slice_of, Body}
 use Rattle.jk_walk.specs.WalkReading.{bodies_at}
 use Rattle.jk_tile.specs.declared.bodies.BodyPlace.{BodyPlace}
 use Rattle.jk_tile.specs.TileBlocks.{block_bodies}
-use Rattle.jk_tile.specs.Gathered.{no_place, place_in, list_at, AreNumbers, AreByPrecinct, body_of, bodies_in, IsInside, AreByBlock}
+use Rattle.jk_tile.specs.Gathered.{place_in, list_at, body_of, bodies_in, IsInside, AreByBlock}
 
 -- ---- lists of vectors
 
@@ -55,34 +54,8 @@ filter_yes P xs x e = filter-append P xs (x ∷ []) ∙ ap (λ b. filter P xs ++
 filter_no : {X : Type 0} (P : X → Bool) (xs : List X) (x : X) → P x ≡ false → filter P (xs ++ x ∷ []) ≡ filter P xs
 filter_no P xs x e = filter-append P xs (x ∷ []) ∙ ap (λ b. filter P xs ++ (if b then x ∷ [] else [])) e ∙ append-nil (filter P xs)
 
--- ---- numbers of packets
-
-numbers_none : (places : List PacketPlace) (c r n : ℕ) (numbers : List ℕ) → numbers ≡ [] → AreNumbers places [] c r n numbers
-numbers_none places c r n numbers e = subst (AreNumbers places [] c r n) (sym e) (record { small = All-nil (λ i. i < length places); whose = refl })
-
-numbers_more : (places : List PacketPlace) (c r n m : ℕ) (b : Bool) (old new : List ℕ) → m < length places → b ≡ is_of c r n (place_in places m).name
-    → new ≡ (if b then old ++ m ∷ [] else old) → AreNumbers places (take m places) c r n old → AreNumbers places (take (m + 1) places) c r n new
-numbers_more places c r n m true old new lt is e h =
-    let P : PacketPlace → Bool = λ w. is_of c r n w.name in
-    let whole = take_one places m no_place lt in
-    subst (AreNumbers places (take (m + 1) places) c r n) (sym e) (record {
-      small = All-push (λ i. i < length places) old m h.small lt;
-      whose = map-append (place_in places) old (m ∷ []) ∙ ap (λ (ws : List PacketPlace). ws ++ place_in places m ∷ []) h.whose
-          ∙ sym (filter_yes P (take m places) (place_in places m) (sym is)) ∙ sym (ap (filter P) whole);
-    })
-numbers_more places c r n m false old new lt is e h =
-    let P : PacketPlace → Bool = λ w. is_of c r n w.name in
-    let whole = take_one places m no_place lt in
-    subst (AreNumbers places (take (m + 1) places) c r n) (sym e) (record {
-      small = h.small;
-      whose = h.whose ∙ sym (filter_no P (take m places) (place_in places m) (sym is)) ∙ sym (ap (filter P) whole);
-    })
-
-pub by_precinct_none : (places : List PacketPlace) (c r count : ℕ) (lists : List (Vec ℕ)) → length lists ≡ count → ((n : ℕ) → list_at lists n ≡ []) → AreByPrecinct places (take 0 places) c r count lists
-by_precinct_none places c r count lists long none = record { long = long; each = λ n lt. numbers_none places c r n (list_at lists n) (none n) }
-
--- whether a packet is put behind the list of precinct n
-same_test : (a b : Bool) (p n count : ℕ) → n < count → ((a && (b && nat_lt p count)) && nat_eq p n) ≡ (a && (b && nat_eq p n))
+-- whether one of so many is another
+pub same_test : (a b : Bool) (p n count : ℕ) → n < count → ((a && (b && nat_lt p count)) && nat_eq p n) ≡ (a && (b && nat_eq p n))
 same_test false b p n count lt = refl
 same_test true false p n count lt = refl
 same_test true true p n count lt = elim (eqb_tells p n) [
@@ -93,32 +66,6 @@ same_test true true p n count lt = elim (eqb_tells p n) [
     and_false : (b : Bool) → (b && false) ≡ false
     and_false true = refl
     and_false false = refl
-
--- what is left of a list where nothing is put
-pub by_precinct_kept : (places : List PacketPlace) (c r count m : ℕ) (lists : List (Vec ℕ)) → m < length places
-    → (((place_in places m).name.component == c) && (((place_in places m).name.resolution == r) && nat_lt (place_in places m).name.precinct count)) ≡ false
-    → AreByPrecinct places (take m places) c r count lists → AreByPrecinct places (take (m + 1) places) c r count lists
-by_precinct_kept places c r count m lists lt out h =
-    let name = (place_in places m).name in
-    record {
-      long = h.long;
-      each = λ n less.
-          let test = ap (λ t. t && nat_eq name.precinct n) (sym out) ∙ same_test (name.component == c) (name.resolution == r) name.precinct n count less in
-          numbers_more places c r n m false (list_at lists n) (list_at lists n) lt test refl (h.each n less);
-    }
-
-pub by_precinct_more : (places : List PacketPlace) (c r count m : ℕ) (lists new : List (Vec ℕ)) → m < length places
-    → (((place_in places m).name.component == c) && (((place_in places m).name.resolution == r) && nat_lt (place_in places m).name.precinct count)) ≡ true
-    → length new ≡ length lists → ((n : ℕ) → list_at new n ≡ (if nat_eq (place_in places m).name.precinct n then list_at lists n ++ m ∷ [] else list_at lists n))
-    → AreByPrecinct places (take m places) c r count lists → AreByPrecinct places (take (m + 1) places) c r count new
-by_precinct_more places c r count m lists new lt out long put h =
-    let name = (place_in places m).name in
-    record {
-      long = long ∙ h.long;
-      each = λ n less.
-          let test = ap (λ t. t && nat_eq name.precinct n) (sym out) ∙ same_test (name.component == c) (name.resolution == r) name.precinct n count less in
-          numbers_more places c r n m (nat_eq name.precinct n) (list_at lists n) (list_at new n) lt test (put n) (h.each n less);
-    }
 
 -- ---- bodies
 

@@ -1,4 +1,5 @@
 pub mod Gathering
+pub mod Chaining
 pub mod Fillings
 pub mod Steps
 pub mod Places

@@ -25,7 +25,8 @@ use Rattle.jk_walk.specs.WalkReading.{place_end}
 use Rattle.jk_tile.specs.TileBlocks.{orientation_at, grid_at, block_at_place, kind_of, shape_of_area, block_bodies}
 use Rattle.jk_tile.specs.TileReading.{each, tested, is_met, met_tested, precinct_part_tested, resolution_part_tested, bodies_of, bodies_values, block_values, values_or, block_with}
 use Rattle.jk_tile.specs.declared.bodies.BodyPlace.{BodyPlace}
-use Rattle.jk_tile.specs.Gathered.{place_in, list_at, AreNumbers, AreByPrecinct, AreByBlock, bodies_in, body_of, IsInside}
+use Rattle.jk_tile.specs.declared.chains.PacketChains.{PacketChains}
+use Rattle.jk_tile.specs.Gathered.{place_in, list_at, AreNumbers, IsChain, AreByPrecinct, AreByBlock, bodies_in, body_of, IsInside}
 use Rattle.jk_tile.specs.Filling.{has, IsPartOf, touches}
 use Rattle.jk_tile.specs.Source.{Source, IsSource, IsBlockShape, source_bodies, source_coefficient, source_part, IsPlane, ArePlanes, Keeps, ShowsBlocks, ShowsPrecinct, block_count, band_lists, resolution_at}
 use Rattle.jk_math.specs.declared.fault.Fault.{Fault}
@@ -221,12 +222,13 @@ pub plane_back : (s : Source) (r i : ℕ) (v : Vec ℤ) (lent new : List ℤ) �
 plane_back s r i v lent new e old is = with_same v new (is.long ∙ sym old.long ∙ ap (λ (xs : List ℤ). length xs) e)
 
 -- the numbers of a precinct's packets
-pub listed_numbers : (s : Source) (r n count : ℕ) (places : List PacketPlace) (c : ℕ) (lists : List (Vec ℕ)) (v : Vec ℕ) (lent : List ℕ) → places ≡ s.packets → c ≡ s.component
-    → AreByPrecinct places places c r count lists → n < count → v ≡ get_or lists n v → lent ≡ v.items → AreNumbers s.packets s.packets s.component r n lent
-listed_numbers s r n count places c lists v lent ep ec h lt ev el =
-    let same : lent ≡ list_at lists n = el ∙ vector_items lists n v (omega (arith, lt, h.long)) ev in
+pub followed_numbers : (s : Source) (r n count : ℕ) (places : List PacketPlace) (c : ℕ) (chains : PacketChains) (numbers lent : List ℕ) → places ≡ s.packets → c ≡ s.component
+    → AreByPrecinct places 0 c r count chains → n < count → ((list : List ℕ) → IsChain chains.next.items 0 (get_or chains.first.items n 0) list → numbers ≡ list) → lent ≡ numbers → AreNumbers s.packets s.packets s.component r n lent
+followed_numbers s r n count places c chains numbers lent ep ec h lt told el =
+    let own = h.each n lt in
+    let same : lent ≡ own.0 = el ∙ told own.0 own.1 in
     subst (λ (xs : List ℕ). AreNumbers s.packets s.packets s.component r n xs) (sym same)
-    (subst (λ m. AreNumbers s.packets s.packets m r n (list_at lists n)) ec (subst (λ (ws : List PacketPlace). AreNumbers ws ws c r n (list_at lists n)) ep (h.each n lt)))
+    (subst (λ m. AreNumbers s.packets s.packets m r n own.0) ec (subst (λ (ws : List PacketPlace). AreNumbers ws ws c r n own.0) ep own.2))
 
 -- a sub-band of the part
 pub number_under : (r i top : ℕ) → r ≤ top → i < length (orientations r) → band_number r i ≤ 3 * top

@@ -1,5 +1,5 @@
 -- Packets gathered by their precincts, and bodies by their code-blocks.
-use Rattle.std.specs.Prelude.{◌≡◌, ℕ, ◌+◌, ◌<◌, ◌≤◌, List, [], length, map, filter, All, slice_index_or}
+use Rattle.std.specs.Prelude.{◌≡◌, ℕ, ◌+◌, ◌<◌, ◌≤◌, List, [], ◌∷◌, length, map, filter, drop, All, slice_index, slice_index_or}
 use Rattle.std.specs.List.{flat_map}
 use Rattle.std.specs.Global.{Vec}
 use Rattle.jk_order.specs.PacketOrder.{is_of}
@@ -7,6 +7,7 @@ use Rattle.jk_walk.specs.declared.places.PacketPlace.{PacketPlace}
 use Rattle.jk_walk.specs.TilePackets.{slice_of, Body}
 use Rattle.jk_walk.specs.WalkReading.{bodies_at}
 use Rattle.jk_tile.specs.declared.bodies.BodyPlace.{BodyPlace}
+use Rattle.jk_tile.specs.declared.chains.PacketChains.{PacketChains}
 use Rattle.jk_tile.specs.TileBlocks.{block_bodies}
 
 -- stands where a packet isn't
@@ -26,10 +27,17 @@ pub record AreNumbers (places : List PacketPlace) (of : List PacketPlace) (c r n
   pub small : All (λ i. i < length places) numbers
   pub whose : map (place_in places) numbers ≡ filter (λ w. is_of c r n w.name) of
 
--- The lists are the packets of so many precincts, by their numbers.
-pub record AreByPrecinct (places of : List PacketPlace) (c r count : ℕ) (lists : List (Vec ℕ)) : Type 0 where
-  pub long : length lists ≡ count
-  pub each : (n : ℕ) → n < count → AreNumbers places of c r n (list_at lists n)
+-- Numbers from `low` on, which ascend, are told one behind another: `at` tells the first, and the
+-- list behind each of them the next. Number m is told by m + 1, and 0 tells that there is none.
+abbrev pub IsChain : (next : List ℕ) → (low at : ℕ) → List ℕ → Type 0
+IsChain next low at [] = at ≡ 0
+IsChain next low at (m ∷ numbers) = (at ≡ m + 1) × (low ≤ m) × (m < length next) × IsChain next (m + 1) (slice_index next m) numbers
+
+-- The chains of so many precincts are of their packets, of those from number `low` on.
+pub record AreByPrecinct (places : List PacketPlace) (low c r count : ℕ) (chains : PacketChains) : Type 0 where
+  pub first : length chains.first.items ≡ count
+  pub next : length chains.next.items ≡ length places
+  pub each : (n : ℕ) → n < count → (numbers : List ℕ) × IsChain chains.next.items low (slice_index chains.first.items n) numbers × AreNumbers places (drop low places) c r n numbers
 
 -- what stands at the place of a body
 abbrev pub body_of : List ℕ → BodyPlace → Body

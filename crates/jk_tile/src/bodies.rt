@@ -6,9 +6,8 @@ ghost use Rattle.jk_math.specs.Memory.{IsMemory};
 ghost use Rattle.jk_walk.specs.WalkReading.{place_end, bodies_at};
 ghost use Rattle.jk_walk.specs.TilePackets.{Body};
 ghost use Rattle.jk_tile.specs.TileBlocks.{passes_in, zeros_in, segment_of};
-ghost use Rattle.jk_tile.specs.Gathered.{list_at, place_in, AreByPrecinct, body_of, bodies_in, IsInside, AreByBlock};
+ghost use Rattle.jk_tile.specs.Gathered.{list_at, place_in, body_of, bodies_in, IsInside, AreByBlock};
 
-use jk_geom::PacketName;
 use jk_math::Fault;
 use jk_packet::Part;
 use jk_walk::PacketPlace;
@@ -19,61 +18,6 @@ use std::alloc::Global;
 pub(crate) struct BodyPlace {
     pub(crate) part: Part,
     pub(crate) start: usize,
-}
-
-/// So many empty lists.
-fn empty_numbers(alloc: Global, count: usize) -> Result<Vec<Vec<usize>>, Fault>
-    ensures long { IfOk result (λ v. length v.items ≡ count) }
-    ensures empty { IfOk result (λ v. (n : ℕ) → list_at v.items n ≡ []) }
-    ensures memory { IfErr result IsMemory }
-{
-    let mut lists = Vec::new(alloc);
-    for _ in 0..count {
-        lists.push(Vec::new(alloc))?;
-    }
-    Ok(lists)
-}
-
-/// Puts a number behind one of the lists.
-fn add_number(lists: &mut Vec<Vec<usize>>, index: usize, number: usize) -> Result<(), Fault>
-    requires { index < length lists.old.items }
-    ensures long { OnOk result (length lists.new.items ≡ length lists.old.items) }
-    ensures lists { OnOk result ((n : ℕ) → list_at lists.new.items n
-        ≡ (if nat_eq index n then list_at lists.old.items n ++ number ∷ [] else list_at lists.old.items n)) }
-    ensures memory { IfErr result IsMemory }
-{
-    lists[index].push(number)?;
-    Ok(())
-}
-
-/// Whether a packet is of a resolution of a component, in one of so many precincts.
-fn is_of_resolution(name: PacketName, component: u8, resolution: u8, precincts: usize) -> bool
-    ensures { result ≡ ((name.component == component) && ((name.resolution == resolution) && nat_lt name.precinct precincts)) }
-{
-    name.component == component
-        && (name.resolution == resolution && (name.precinct as usize) < precincts)
-}
-
-/// The packets of each precinct of a resolution of a component, by their numbers among these packets.
-pub(crate) fn packets_by_precinct(
-    alloc: Global,
-    packets: &[PacketPlace],
-    component: u8,
-    resolution: u8,
-    precincts: usize,
-) -> Result<Vec<Vec<usize>>, Fault>
-    ensures lists { IfOk result (λ v. AreByPrecinct packets.now packets.now component resolution precincts v.items) }
-    ensures memory { IfErr result IsMemory }
-{
-    let mut lists = empty_numbers(alloc, precincts)?;
-    for number in 0..packets.len() {
-        let name = packets[number].name;
-        let taken = is_of_resolution(name, component, resolution, precincts);
-        if taken {
-            add_number(&mut lists, name.precinct as usize, number)?;
-        }
-    }
-    Ok(lists)
 }
 
 /// So many empty lists.

@@ -14,7 +14,7 @@ ghost use Rattle.jk_tile.specs.PacketsWritten.{written_coding, written_shape, ti
 ghost use Rattle.jk_tile.specs.TileMeaning.{DecodesTile};
 ghost use Rattle.jk_tile.specs.TileWriters.{table_lists, tables_in, AreLists};
 
-use crate::packets::write_packets;
+use crate::packets::{TileFrame, write_packets};
 use crate::precincts::{PacketMarkers, tile_tables};
 use jk_geom::{Codings, TileShape, tile};
 use jk_marks::{Coding, Exponents, Quantisation};
@@ -106,9 +106,13 @@ pub fn encode_tile(
         order: parameters.order,
         codings: codings_alike(&coding, image.planes().len()),
     };
-    let markers = PacketMarkers {
-        sop: parameters.sop,
-        eph: parameters.eph,
+    let frame = TileFrame {
+        shape: &shape,
+        coding: &coding,
+        markers: PacketMarkers {
+            sop: parameters.sop,
+            eph: parameters.eph,
+        },
     };
-    write_packets(alloc, &shape, &coding, markers, &tables)
+    write_packets(alloc, &frame, &tables)
 }

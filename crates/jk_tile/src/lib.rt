@@ -4,6 +4,7 @@
 
 mod block;
 mod bodies;
+mod chains;
 mod colour;
 mod component;
 mod cutting;

@@ -50,6 +50,15 @@ fn place_of(firsts: &[u32; 12], levels: u8, name: PacketName) -> usize
     name.component as usize * firsts[levels as usize + 1] as usize + below
 }
 
+/// What all packets of a tile that is written share: the tile's shape, the coding of each of its
+/// components, and which markers the packets have.
+#[derive(Clone, Copy)]
+pub(crate) struct TileFrame<'a> {
+    pub(crate) shape: &'a TileShape,
+    pub(crate) coding: &'a Coding,
+    pub(crate) markers: PacketMarkers,
+}
+
 /// What is kept of the writer of a precinct: nothing before its first packet, and nothing behind its last.
 type Slot<'a> = Option<Box<PrecinctWriter<'a>>>;
 
@@ -67,61 +76,59 @@ fn no_writers<'a>(alloc: Global, count: usize) -> Result<Vec<Slot<'a>>, Fault>
 /// A writer of the precinct of a packet, from the tables of its code-blocks.
 fn new_writer<'a>(
     alloc: Global,
-    shape: &TileShape,
-    coding: &Coding,
-    markers: PacketMarkers,
+    frame: &TileFrame<'_>,
     name: PacketName,
     tables: &'a [BlockTable],
 ) -> Result<PrecinctWriter<'a>, Fault>
-    requires area { IsArea shape.now.rect }
-    requires coding { IsCoding coding.now }
-    requires planes { HasPlanes coding.now }
-    requires resolution { name.resolution ≤ coding.now.levels }
-    requires precinct { name.precinct < precinct_number shape.now.rect coding.now name.resolution }
-    requires tables { IsPrecinctList shape.now.rect coding.now shape.now.layers name.resolution name.precinct tables.now }
+    requires area { IsArea frame.now.shape.now.rect }
+    requires coding { IsCoding frame.now.coding.now }
+    requires planes { HasPlanes frame.now.coding.now }
+    requires resolution { name.resolution ≤ frame.now.coding.now.levels }
+    requires precinct { name.precinct < precinct_number frame.now.shape.now.rect frame.now.coding.now name.resolution }
+    requires tables { IsPrecinctList frame.now.shape.now.rect frame.now.coding.now frame.now.shape.now.layers
+        name.resolution name.precinct tables.now }
     ensures { MatchResult result
-        (λ w. w ≡ writer_at shape.now.rect coding.now markers.sop markers.eph shape.now.layers tables.now name.resolution name.precinct) IsMemory }
+        (λ w. w ≡ writer_at frame.now.shape.now.rect frame.now.coding.now frame.now.markers.sop
+        frame.now.markers.eph frame.now.shape.now.layers tables.now name.resolution name.precinct) IsMemory }
 {
     let precinct = precinct_shape(
-        &shape.rect,
-        coding,
+        &frame.shape.rect,
+        frame.coding,
         name.resolution,
         name.precinct,
-        markers.sop,
-        markers.eph,
+        frame.markers.sop,
+        frame.markers.eph,
     );
-    PrecinctWriter::new(alloc, &precinct, shape.layers, tables)
+    PrecinctWriter::new(alloc, &precinct, frame.shape.layers, tables)
 }
 
 /// The writer of the precinct of a packet, which is taken out of those that are kept; a new one where none is kept.
 fn take<'a>(
     alloc: Global,
-    shape: &TileShape,
-    coding: &Coding,
-    markers: PacketMarkers,
+    frame: &TileFrame<'_>,
     name: PacketName,
     tables: &'a [BlockTable],
     place: usize,
     slots: &mut Vec<Slot<'a>>,
 ) -> Result<Box<PrecinctWriter<'a>>, Fault>
-    requires area { IsArea shape.now.rect }
-    requires coding { IsCoding coding.now }
-    requires planes { HasPlanes coding.now }
-    requires resolution { name.resolution ≤ coding.now.levels }
-    requires precinct { name.precinct < precinct_number shape.now.rect coding.now name.resolution }
-    requires tables { IsPrecinctList shape.now.rect coding.now shape.now.layers name.resolution name.precinct tables.now }
+    requires area { IsArea frame.now.shape.now.rect }
+    requires coding { IsCoding frame.now.coding.now }
+    requires planes { HasPlanes frame.now.coding.now }
+    requires resolution { name.resolution ≤ frame.now.coding.now.levels }
+    requires precinct { name.precinct < precinct_number frame.now.shape.now.rect frame.now.coding.now name.resolution }
+    requires tables { IsPrecinctList frame.now.shape.now.rect frame.now.coding.now frame.now.shape.now.layers
+        name.resolution name.precinct tables.now }
     requires place { place < length slots.old.items }
     ensures value { MatchResult result
-        (λ w. w.value ≡ kept_writer slots.old.items place (writer_at shape.now.rect coding.now markers.sop markers.eph shape.now.layers tables.now name.resolution name.precinct)) IsMemory }
+        (λ w. w.value ≡ kept_writer slots.old.items place (writer_at frame.now.shape.now.rect
+        frame.now.coding.now frame.now.markers.sop frame.now.markers.eph frame.now.shape.now.layers tables.now
+        name.resolution name.precinct)) IsMemory }
     ensures others { (blank : PrecinctTables) (i : ℕ) → i ≢ place → kept_writer slots.new.items i blank ≡ kept_writer slots.old.items i blank }
     ensures long { length slots.new.items ≡ length slots.old.items }
 {
     match slots[place].take() {
         Some(writer) => Ok(writer),
-        None => Ok(Box::new(
-            alloc,
-            new_writer(alloc, shape, coding, markers, name, tables)?,
-        )?),
+        None => Ok(Box::new(alloc, new_writer(alloc, frame, name, tables)?)?),
     }
 }
 
@@ -139,9 +146,7 @@ fn keep<'a>(slots: &mut Vec<Slot<'a>>, place: usize, writer: Box<PrecinctWriter<
 /// and let go of behind the last one.
 fn write_at<'a>(
     alloc: Global,
-    shape: &TileShape,
-    coding: &Coding,
-    markers: PacketMarkers,
+    frame: &TileFrame<'_>,
     name: PacketName,
     tables: &'a [BlockTable],
     place: usize,
@@ -149,27 +154,33 @@ fn write_at<'a>(
     slots: &mut Vec<Slot<'a>>,
     out: &mut Vec<u8>,
 ) -> Result<(), Fault>
-    requires area { IsArea shape.now.rect }
-    requires coding { IsCoding coding.now }
-    requires planes { HasPlanes coding.now }
-    requires resolution { name.resolution ≤ coding.now.levels }
-    requires precinct { name.precinct < precinct_number shape.now.rect coding.now name.resolution }
-    requires tables { IsPrecinctList shape.now.rect coding.now shape.now.layers name.resolution name.precinct tables.now }
+    requires area { IsArea frame.now.shape.now.rect }
+    requires coding { IsCoding frame.now.coding.now }
+    requires planes { HasPlanes frame.now.coding.now }
+    requires resolution { name.resolution ≤ frame.now.coding.now.levels }
+    requires precinct { name.precinct < precinct_number frame.now.shape.now.rect frame.now.coding.now name.resolution }
+    requires tables { IsPrecinctList frame.now.shape.now.rect frame.now.coding.now frame.now.shape.now.layers
+        name.resolution name.precinct tables.now }
     requires place { place < length slots.old.items }
-    requires layer { name.layer < shape.now.layers }
-    requires next { name.layer ≡ (writer_in shape.now coding.now markers.sop markers.eph tables.now slots.old.items place name).written }
-    requires more { name.layer < (writer_in shape.now coding.now markers.sop markers.eph tables.now slots.old.items place name).layers }
+    requires layer { name.layer < frame.now.shape.now.layers }
+    requires next { name.layer ≡ (writer_in frame.now.shape.now frame.now.coding.now frame.now.markers.sop
+        frame.now.markers.eph tables.now slots.old.items place name).written }
+    requires more { name.layer < (writer_in frame.now.shape.now frame.now.coding.now frame.now.markers.sop
+        frame.now.markers.eph tables.now slots.old.items place name).layers }
     ensures long { length slots.new.items ≡ length slots.old.items }
-    ensures here { OnOk result (name.layer + 1 < shape.now.layers → (blank : PrecinctTables) → kept_writer slots.new.items place blank
-        ≡ record (writer_in shape.now coding.now markers.sop markers.eph tables.now slots.old.items place name) { written = name.layer + 1 }) }
+    ensures here { OnOk result (name.layer + 1 < frame.now.shape.now.layers → (blank : PrecinctTables)
+        → kept_writer slots.new.items place blank
+        ≡ record (writer_in frame.now.shape.now frame.now.coding.now frame.now.markers.sop
+        frame.now.markers.eph tables.now slots.old.items place name) { written = name.layer + 1 }) }
     ensures others { (blank : PrecinctTables) (i : ℕ) → i ≢ place → kept_writer slots.new.items i blank ≡ kept_writer slots.old.items i blank }
     ensures text { OnOk result (out.new.items ≡ out.old.items
-        ++ text_by (writer_in shape.now coding.now markers.sop markers.eph tables.now slots.old.items place name) number) }
+        ++ text_by (writer_in frame.now.shape.now frame.now.coding.now frame.now.markers.sop
+        frame.now.markers.eph tables.now slots.old.items place name) number) }
     ensures memory { IfErr result IsMemory }
 {
-    let mut writer = take(alloc, shape, coding, markers, name, tables, place, slots)?;
+    let mut writer = take(alloc, frame, name, tables, place, slots)?;
     writer.write_packet(number, out)?;
-    if name.layer + 1 < shape.layers {
+    if name.layer + 1 < frame.shape.layers {
         keep(slots, place, writer);
     }
     Ok(())
@@ -178,36 +189,35 @@ fn write_at<'a>(
 /// The packets of a tile whose components are coded alike, from the tables of its precincts.
 pub(crate) fn write_packets(
     alloc: Global,
-    shape: &TileShape,
-    coding: &Coding,
-    markers: PacketMarkers,
+    frame: &TileFrame<'_>,
     tables: &[Vec<BlockTable>],
 ) -> Result<Vec<u8>, Fault>
-    requires shape { IsTileShape shape.now }
-    requires coding { IsCoding coding.now }
-    requires planes { HasPlanes coding.now }
-    requires alike { shape.now.codings ≡ replicate (length shape.now.codings) coding.now }
-    requires few { packet_count shape.now ≤ 2 ^ 24 }
-    requires lists { AreLists shape.now.rect coding.now shape.now.layers (length shape.now.codings) (table_lists tables.now) }
+    requires shape { IsTileShape frame.now.shape.now }
+    requires coding { IsCoding frame.now.coding.now }
+    requires planes { HasPlanes frame.now.coding.now }
+    requires alike { frame.now.shape.now.codings ≡ replicate (length frame.now.shape.now.codings) frame.now.coding.now }
+    requires few { packet_count frame.now.shape.now ≤ 2 ^ 24 }
+    requires lists { AreLists frame.now.shape.now.rect frame.now.coding.now frame.now.shape.now.layers
+        (length frame.now.shape.now.codings) (table_lists tables.now) }
     ensures text { IfOk result (λ v. v.items
-        ≡ written_text shape.now markers.sop markers.eph (tables_in shape.now.rect coding.now (table_lists tables.now)) 0 (order shape.now)) }
+        ≡ written_text frame.now.shape.now frame.now.markers.sop frame.now.markers.eph
+        (tables_in frame.now.shape.now.rect frame.now.coding.now (table_lists tables.now)) 0
+        (order frame.now.shape.now)) }
     ensures memory { IfErr result IsMemory }
 {
-    let firsts = firsts(&shape.rect, coding);
+    let firsts = firsts(&frame.shape.rect, frame.coding);
     let mut slots = no_writers(alloc, tables.len())?;
-    let mut packets = Packets::new(shape)?;
+    let mut packets = Packets::new(frame.shape)?;
     let mut out = Vec::new(alloc);
-    for number in 0..packet_count(shape) {
+    for number in 0..packet_count(frame.shape) {
         let Some(name) = packets.next() else {
             break;
         };
-        let place = place_of(&firsts, coding.levels, name);
+        let place = place_of(&firsts, frame.coding.levels, name);
         let own = &tables[place];
         write_at(
             alloc,
-            shape,
-            coding,
-            markers,
+            frame,
             name,
             own,
             place,

@@ -16,7 +16,8 @@ ghost use Rattle.jk_tile.specs.Gathered.{AreNumbers, list_at, body_of, IsInside}
 ghost use Rattle.jk_tile.specs.Source.{source_bodies, IsBandPart, ShowsBlock, IsPlane, ArePlanes, Keeps, ShowsBlocks, ShowsPrecinct, block_count, source_part, resolution_at};
 
 use crate::block::{band_planes, read_block};
-use crate::bodies::{BodyPlace, bodies_by_block, packets_by_precinct};
+use crate::bodies::{BodyPlace, bodies_by_block};
+use crate::chains::{follow, packets_by_precinct};
 use crate::component::{CodedComponent, band_count, band_number, kind, orientation};
 use crate::filling::{put_common, touches};
 use jk_block::{BlockShape, Kind};
@@ -205,18 +206,12 @@ pub(crate) fn read_resolution(
     let rect = source.rect();
     let (across, down) = precinct_count(&rect, source.coding(), r);
     let count = across * down;
-    let numbers = packets_by_precinct(alloc, source.packets(), source.number(), r, count as usize)?;
+    let chains = packets_by_precinct(alloc, source.packets(), source.number(), r, count as usize)?;
     let mut planes = blank_planes(alloc, source, r)?;
+    let mut numbers = Vec::new(alloc);
     for n in 0..count {
-        read_precinct(
-            alloc,
-            source,
-            &numbers[n as usize],
-            r,
-            n,
-            &mut planes,
-            segment,
-        )?;
+        follow(&chains, n as usize, &mut numbers)?;
+        read_precinct(alloc, source, &numbers, r, n, &mut planes, segment)?;
     }
     Ok(planes)
 }

@@ -79,6 +79,7 @@ fn read_components(
     requires sound { AreHeaders (length bytes.now) headers.now }
     requires number { number < tile_count headers.now.siz }
     requires packets { AllByRecursion (λ w. place_end w ≤ length bytes.now) packets.now }
+    requires few { length packets.now ≤ 2 ^ 24 }
     requires levels { AllByRecursion (λ k. reduce ≤ k.levels) (tile_in headers.now.tiles number).codings }
     requires inside { IsPartOf area.now (shown_area headers.now.siz number reduce) }
     ensures exact { Answers (λ v. lists_of v.items) result (part_values_at bytes.now headers.now number reduce area.now packets.now) }

@@ -1,6 +1,6 @@
 -- The entries of a tile are those of its packets.
-use Rattle.std.proofs.Common.{◌≡◌, ℕ, suc, zero, ◌<◌, Bool, List, [], ◌∷◌, length, map, get_or, set, replicate, Result, Ok, refl, ap, sym, ◌∙◌, subst, arith}
-use Rattle.std.specs.List.{AllByRecursion, AllZip, flat_map}
+use Rattle.std.proofs.Common.{◌≡◌, ℕ, suc, zero, ◌<◌, Bool, List, [], ◌∷◌, length, map, set, replicate, Result, Ok, refl, ap, sym, ◌∙◌, subst, arith}
+use Rattle.std.specs.List.{AllByRecursion, AllZip, flat_map, zip}
 use Rattle.std.proofs.lemmas.List.{length-map}
 use Rattle.jk_math.specs.Answer.{◌>>=◌, Refuses}
 use Rattle.jk_math.specs.Steps.{bind_then, ok_is}
@@ -8,18 +8,17 @@ use Rattle.jk_math.specs.declared.fault.Fault.{Fault}
 use Rattle.jk_marks.specs.Siz.{tile_count}
 use Rattle.jk_geom.specs.declared.shape.TileShape.{TileShape}
 use Rattle.jk_geom.specs.declared.shape.PacketName.{PacketName}
-use Rattle.jk_order.specs.PacketOrder.{IsName, IsPacketOrder, order}
+use Rattle.jk_order.specs.PacketOrder.{IsName, IsPacketOrder, order, packet_count}
 use Rattle.jk_order.specs.Slots.{slot_of}
-use Rattle.jk_order.proofs.Laws.{length_of, order_is, slot_small}
+use Rattle.jk_order.proofs.Laws.{length_of, order_is, order_one, slot_small}
 use Rattle.jk_params.specs.Headers.{Headers, tile_in, AreHeaders}
 use Rattle.jk_walk.specs.declared.places.PacketPlace.{PacketPlace}
 use Rattle.jk_walk.specs.declared.entries.PacketEntry.{PacketEntry}
-use Rattle.jk_walk.specs.declared.entries.NamedEntry.{NamedEntry}
 use Rattle.jk_walk.specs.TilePackets.{slice_of, shape_in, Packet, IsPacket}
 use Rattle.jk_walk.specs.WalkReading.{packets_at, each_of, IsPlaced, ArePlaces, AreTilePackets, AreSpans}
 use Rattle.jk_walk.specs.Placing.{placed}
 use Rattle.jk_walk.specs.Sop.{counter_of, sop_written}
-use Rattle.jk_walk.specs.Entries.{no_entry, slotted, entry_in, entry_of, place_name, entries_at, named_name, named_entry, named_of, IsEntry, AreEntries, IsEntered, EnterAt, AreEnteredAt, span_in, spans_in}
+use Rattle.jk_walk.specs.Entries.{no_entry, slotted, entry_in, entry_of, place_name, entries_at, in_slots, IsEntry, AreEntries, IsEntered, EnterAt, AreEnteredAt, span_in, spans_in}
 use Rattle.jk_walk.proofs.FoundLaws.{packets_found, packets_within}
 use Rattle.jk_walk.proofs.OnlyLaws.{packets_only}
 use Rattle.jk_walk.proofs.Slices.{bodies_join}
@@ -27,7 +26,7 @@ use Rattle.jk_walk.proofs.SpanLaws.{refuses_read}
 use Rattle.jk_walk.proofs.WalkSteps.{refused_step}
 use Rattle.jk_walk.proofs.BitLaws.{HasBit, tile_bits}
 use Rattle.jk_walk.proofs.SopLaws.{sop_is_written}
-use Rattle.jk_walk.proofs.PlacingLaws.{map_map, all_in}
+use Rattle.jk_walk.proofs.PlacingLaws.{all_in, at_each}
 use Rattle.jk_walk.proofs.EntryLaws.{length-slotted, slotted_at, places_order}
 
 -- ---- what is read
@@ -125,61 +124,65 @@ entries_only bytes h t packets are less tile =
     let f = tile_in h.tiles t in
     (slotted (shape_in h.siz f t) place_name (entry_of bytes f.cod.sop) only.0, entries_ok bytes h t only.0 only.1, enter_at bytes h t packets only.0 are less only.1 tile only.2)
 
--- ---- from entries with names
+-- ---- from entries in the order of the packets
 
 placed_map : {A B X : Type 0} (place : B → ℕ) (g : B → X) (f : A → B) (items : List A) (values : List X) → placed place g (map f items) values ≡ placed (λ w. place (f w)) (λ w. g (f w)) items values
 placed_map place g f [] values = refl
 placed_map place g f (w ∷ items) values = placed_map place g f items (set values (place (f w)) (g (f w)))
 
-pub slotted_named : (bytes : List ℕ) (sop : Bool) (s : TileShape) (places : List PacketPlace) → slotted s named_name named_entry (map (named_of bytes sop) places) ≡ slotted s place_name (entry_of bytes sop) places
-slotted_named bytes sop s places =
-    placed_map (λ (v : NamedEntry). slot_of s (named_name v)) named_entry (named_of bytes sop) places (replicate (length (map (named_of bytes sop) places)) no_entry)
-    ∙ ap (λ n. placed (λ (w : PacketPlace). slot_of s (place_name w)) (entry_of bytes sop) places (replicate n no_entry)) (length-map places (named_of bytes sop))
+zip_map : {A B C : Type 0} (f : A → B) (g : A → C) (items : List A) → zip (map f items) (map g items) ≡ map (λ w. (f w, g w)) items
+zip_map f g [] = refl
+zip_map f g (w ∷ items) = let rest = zip_map f g items in λ i. (f w, g w) ∷ rest i
 
--- what a walk gives that keeps entries with names
-pub named_read : (bytes : List ℕ) (h : Headers) (t : ℕ) (named : List NamedEntry) → each_of (named_of bytes (tile_in h.tiles t).cod.sop) (packets_at bytes h t) ≡ Ok named
-    → (places : List PacketPlace) × (packets_at bytes h t ≡ Ok places) × (map (named_of bytes (tile_in h.tiles t).cod.sop) places ≡ named)
-named_read bytes h t named e =
-    bind_then (packets_at bytes h t) _ named e (λ places read k. (places, read, ok_is (map (named_of bytes (tile_in h.tiles t).cod.sop) places) named k))
+in_slots_is : (s : TileShape) (f : PacketPlace → PacketEntry) (places : List PacketPlace) → IsPacketOrder s (map place_name places) → in_slots s (map f places) ≡ slotted s place_name f places
+in_slots_is s f places o =
+    let pair : PacketPlace → PacketName × PacketEntry = λ w. (place_name w, f w) in
+    ap (λ (ns : List PacketName). slotted s (λ w. w.0) (λ w. w.1) (zip ns (map f places))) (order_one s (order s) (map place_name places) (order_is s) o)
+    ∙ ap (λ (ws : List (PacketName × PacketEntry)). slotted s (λ w. w.0) (λ w. w.1) ws) (zip_map place_name f places)
+    ∙ placed_map (λ (v : PacketName × PacketEntry). slot_of s v.0) (λ (v : PacketName × PacketEntry). v.1) pair places (replicate (length (map pair places)) no_entry)
+    ∙ ap (λ n. placed (λ (w : PacketPlace). slot_of s (place_name w)) f places (replicate n no_entry)) (length-map places pair)
 
-pub named_order : (bytes : List ℕ) (h : Headers) (t : ℕ) (named : List NamedEntry) → AreHeaders (length bytes) h → t < tile_count h.siz
-    → each_of (named_of bytes (tile_in h.tiles t).cod.sop) (packets_at bytes h t) ≡ Ok named → IsPacketOrder (shape_in h.siz (tile_in h.tiles t) t) (map named_name named)
-named_order bytes h t named are less e =
-    let s = shape_in h.siz (tile_in h.tiles t) t in
-    let read = named_read bytes h t named e in
-    subst (λ (ns : List NamedEntry). IsPacketOrder s (map named_name ns)) read.2
-    (subst (IsPacketOrder s) (sym (map_map named_name (named_of bytes (tile_in h.tiles t).cod.sop) read.0)) (places_order bytes h t read.0 are less read.1))
+-- what a walk gives that keeps entries
+walk_read : (bytes : List ℕ) (h : Headers) (t : ℕ) (entries : List PacketEntry) → each_of (entry_of bytes (tile_in h.tiles t).cod.sop) (packets_at bytes h t) ≡ Ok entries
+    → (places : List PacketPlace) × (packets_at bytes h t ≡ Ok places) × (map (entry_of bytes (tile_in h.tiles t).cod.sop) places ≡ entries)
+walk_read bytes h t entries e =
+    bind_then (packets_at bytes h t) _ entries e (λ places read k. (places, read, ok_is (map (entry_of bytes (tile_in h.tiles t).cod.sop) places) entries k))
 
-pub named_ok : (bytes : List ℕ) (h : Headers) (t : ℕ) (named : List NamedEntry) (entries : List PacketEntry) → each_of (named_of bytes (tile_in h.tiles t).cod.sop) (packets_at bytes h t) ≡ Ok named
-    → entries ≡ slotted (shape_in h.siz (tile_in h.tiles t) t) named_name named_entry named → entries_at bytes h t ≡ Ok entries
-named_ok bytes h t named entries e is =
+pub walk_count : (bytes : List ℕ) (h : Headers) (t : ℕ) (entries : List PacketEntry) → AreHeaders (length bytes) h → t < tile_count h.siz → each_of (entry_of bytes (tile_in h.tiles t).cod.sop) (packets_at bytes h t) ≡ Ok entries
+    → length entries ≡ packet_count (shape_in h.siz (tile_in h.tiles t) t)
+walk_count bytes h t entries are less e =
     let f = tile_in h.tiles t in
     let s = shape_in h.siz f t in
-    let read = named_read bytes h t named e in
+    let read = walk_read bytes h t entries e in
+    ap (λ (es : List PacketEntry). length es) (sym read.2) ∙ length-map read.0 (entry_of bytes f.cod.sop) ∙ sym (length-map read.0 place_name)
+    ∙ length_of s (map place_name read.0) (places_order bytes h t read.0 are less read.1)
+
+pub walk_slotted : (bytes : List ℕ) (h : Headers) (t : ℕ) (walked entries : List PacketEntry) → AreHeaders (length bytes) h → t < tile_count h.siz → each_of (entry_of bytes (tile_in h.tiles t).cod.sop) (packets_at bytes h t) ≡ Ok walked
+    → entries ≡ in_slots (shape_in h.siz (tile_in h.tiles t) t) walked → entries_at bytes h t ≡ Ok entries
+walk_slotted bytes h t walked entries are less e is =
+    let f = tile_in h.tiles t in
+    let s = shape_in h.siz f t in
+    let read = walk_read bytes h t walked e in
     entries_ok bytes h t read.0 read.1
-    ∙ ap (λ (es : List PacketEntry). Ok es) (sym (slotted_named bytes f.cod.sop s read.0) ∙ ap (λ (ns : List NamedEntry). slotted s named_name named_entry ns) read.2 ∙ sym is)
+    ∙ ap (λ (es : List PacketEntry). Ok es)
+    (sym (in_slots_is s (entry_of bytes f.cod.sop) read.0 (places_order bytes h t read.0 are less read.1)) ∙ ap (in_slots s) read.2 ∙ sym is)
 
 -- a fault is that of the walk
-pub named_refused : (bytes : List ℕ) (h : Headers) (t : ℕ) (e : Fault) → Refuses e (each_of (named_of bytes (tile_in h.tiles t).cod.sop) (packets_at bytes h t)) → Refuses e (entries_at bytes h t)
+pub walk_faulted : (bytes : List ℕ) (h : Headers) (t : ℕ) (e : Fault) → Refuses e (each_of (entry_of bytes (tile_in h.tiles t).cod.sop) (packets_at bytes h t)) → Refuses e (entries_at bytes h t)
 unfolding entries_at
-named_refused bytes h t e r = refused_step e (packets_at bytes h t) _ (refuses_read e (packets_at bytes h t) (map (named_of bytes (tile_in h.tiles t).cod.sop)) r)
+walk_faulted bytes h t e r = refused_step e (packets_at bytes h t) _ (refuses_read e (packets_at bytes h t) (map (entry_of bytes (tile_in h.tiles t).cod.sop)) r)
 
 -- ---- spans of entries within the bytes
 
-at_each : {X : Type 0} (P : X → Type 0) (xs : List X) (i : ℕ) (d : X) → AllByRecursion P xs → i < length xs → P (get_or xs i d)
-at_each P [] i d all lt = absurd (omega (arith, lt))
-at_each P (x ∷ xs) zero d all lt = all.0
-at_each P (x ∷ xs) (suc i) d all lt = at_each P xs i d all.1 (omega (arith, lt))
-
-named_lie : (size : ℕ) (s : TileShape) (entries : List PacketEntry) (names : List PacketName) → AreEntries size s entries → AllByRecursion (IsName s) names → AreSpans size s (map (span_in s entries) names)
-named_lie size s entries [] are all = tt
-named_lie size s entries (n ∷ names) are all =
+names_lie : (size : ℕ) (s : TileShape) (entries : List PacketEntry) (names : List PacketName) → AreEntries size s entries → AllByRecursion (IsName s) names → AreSpans size s (map (span_in s entries) names)
+names_lie size s entries [] are all = tt
+names_lie size s entries (n ∷ names) are all =
     let small = slot_small s n all.0 in
     let count = are.count in
     let e = at_each (IsEntry size) entries (slot_of s n) no_entry are.each (omega (arith, small, count)) in
     let header = e.header in
     let body = e.body in
-    (record { name = all.0; order = omega (arith, header, body); within = e.within }, named_lie size s entries names are all.1)
+    (record { name = all.0; order = omega (arith, header, body); within = e.within }, names_lie size s entries names are all.1)
 
 pub spans_lie : (size : ℕ) (s : TileShape) (entries : List PacketEntry) → AreEntries size s entries → AreSpans size s (spans_in s entries)
-spans_lie size s entries are = named_lie size s entries (order s) are (all_in (IsName s) (order s) (λ n. ((order_is s).members n).0))
+spans_lie size s entries are = names_lie size s entries (order s) are (all_in (IsName s) (order s) (λ n. ((order_is s).members n).0))

@@ -1,10 +1,12 @@
 -- Each packet of a tile finds its entry, and the entries give back the list of the walk.
-use Rattle.std.proofs.Common.{◌≡◌, ℕ, ◌<◌, List, [], ◌∷◌, length, map, replicate, Result, Ok, Err, refl, ap, sym, ◌∙◌, subst}
+use Rattle.std.proofs.Common.{◌≡◌, ℕ, ◌<◌, ◌≤◌, ◌^◌, List, [], ◌∷◌, length, map, get_or, replicate, Result, Ok, Err, refl, ap, sym, ◌∙◌, subst, arith}
 use Rattle.std.specs.Prelude.{Contains}
 use Rattle.std.specs.declared.cmp.Ordering.TheVariants.{Less}
-use Rattle.std.specs.List.{AllByRecursion, AllZip}
+use Rattle.std.specs.List.{AllByRecursion, AllZip, zip}
 use Rattle.std.specs.List.Sorted.{IsStrictlySortedBy}
-use Rattle.std.proofs.lemmas.List.{length-map, length-replicate}
+use Rattle.std.proofs.lemmas.List.{length-map, length-replicate, get_or-map}
+use Rattle.std.proofs.lemmas.List.Elements.{Contains-get_or}
+use Rattle.std.proofs.lemmas.Slice.Zip.{length-zip, get_or-zip, firsts-zip}
 use Rattle.jk_math.specs.Answer.{◌>>=◌}
 use Rattle.jk_math.specs.declared.fault.Fault.{Fault}
 use Rattle.jk_marks.specs.Siz.{tile_count}
@@ -21,10 +23,11 @@ use Rattle.jk_walk.specs.declared.spans.PacketSpan.{PacketSpan}
 use Rattle.jk_walk.specs.TilePackets.{shape_in, Packet}
 use Rattle.jk_walk.specs.WalkReading.{packets_at, IsPlaced, span_of, spans_at}
 use Rattle.jk_walk.proofs.FoundLaws.{packets_found}
+use Rattle.jk_walk.proofs.TileFacts.{tile_few}
 use Rattle.jk_walk.specs.declared.entries.PacketEntry.{PacketEntry}
-use Rattle.jk_walk.specs.Placing.{AreOnce, AreBelow}
-use Rattle.jk_walk.specs.Entries.{no_entry, slotted, entry_in, entry_of, place_name, entries_at, spans_in}
-use Rattle.jk_walk.proofs.PlacingLaws.{length-placed, placed_at, map_each, map_map, all_in, once_map, all_map}
+use Rattle.jk_walk.specs.Placing.{AreOnce, AreBelow, IsNumbering, StandAtPlaces}
+use Rattle.jk_walk.specs.Entries.{no_entry, slotted, in_slots, entry_in, entry_of, place_name, entries_at, spans_in}
+use Rattle.jk_walk.proofs.PlacingLaws.{length-placed, placed_at, map_each, map_map, all_in, once_map, all_map, at_each, once_index}
 
 -- ---- the slots of a list of names
 
@@ -82,6 +85,54 @@ slotted_back {A} {X} s name f packets g o =
     each p q g [] all = tt
     each p q g (w ∷ ws) all = (ap (g w) all.0, each p q g ws all.1)
 
+-- ---- the list of the walk
+
+-- stands where no packet is
+no_name : PacketName
+no_name = record { layer = 0; resolution = 0; component = 0; precinct = 0 }
+
+-- the slots of all packets are the numbers from 0 on
+pub slots_numbering : (s : TileShape) → IsNumbering (map (slot_of s) (order s))
+slots_numbering s =
+    let names = order s in
+    let is = order_is s in
+    let long : length (map (slot_of s) names) ≡ length names = length-map names (slot_of s) in
+    let count : length names ≡ packet_count s = length_of s names is in
+    record {
+      below = λ k lt.
+          (let within : k < length names = omega (arith, lt, long) in
+          let small = slot_small s (get_or names k no_name) ((is.members (get_or names k no_name)).0 (Contains-get_or names k no_name within)) in
+          let at = get_or-map (slot_of s) names k no_name 0 within in
+          omega (arith, small, at, long, count));
+      once = λ i j li lj e.
+          (let wi : i < length names = omega (arith, li, long) in
+          let wj : j < length names = omega (arith, lj, long) in
+          once_index (slot_of s) names i j no_name (once_names s names is.ascending (λ m there. (is.members m).0 there)) wi wj
+          (sym (get_or-map (slot_of s) names i no_name 0 wi) ∙ e ∙ get_or-map (slot_of s) names j no_name 0 wj));
+    }
+
+-- entries in their slots stand at the places that the slots are
+pub in_slots_stand : (s : TileShape) (entries : List PacketEntry) → length entries ≡ packet_count s → StandAtPlaces no_entry (in_slots s entries) (map (slot_of s) (order s)) entries
+in_slots_stand s entries all =
+    let names = order s in
+    let is = order_is s in
+    let pairs = zip names entries in
+    let none : PacketName × PacketEntry = (no_name, no_entry) in
+    let same : length entries ≡ length names = all ∙ sym (length_of s names is) in
+    let joined = length-zip names entries in
+    let long : length (map (slot_of s) names) ≡ length names = length-map names (slot_of s) in
+    let order = subst (IsPacketOrder s) (sym (firsts-zip names entries same)) is in
+    let found = slotted_at s (λ (w : PacketName × PacketEntry). w.0) (λ (w : PacketName × PacketEntry). w.1) pairs order in
+    record {
+      long = length-slotted s (λ (w : PacketName × PacketEntry). w.0) (λ (w : PacketName × PacketEntry). w.1) pairs ∙ omega (arith, joined, same);
+      each = λ k lt.
+          (let within : k < length names = omega (arith, lt, long) in
+          let inside : k < length entries = omega (arith, within, same) in
+          let own = at_each (λ (w : PacketName × PacketEntry). entry_in s (in_slots s entries) w.0 ≡ w.1) pairs k none found (omega (arith, within, inside, joined)) in
+          ap (λ i. get_or (in_slots s entries) i no_entry) (get_or-map (slot_of s) names k no_name 0 within)
+          ∙ subst (λ (w : PacketName × PacketEntry). entry_in s (in_slots s entries) w.0 ≡ w.1) (get_or-zip names entries k none within inside) own);
+    }
+
 -- ---- a tile
 
 names_placed : (bytes : List ℕ) (packets : List Packet) (places : List PacketPlace) → AllZip (IsPlaced bytes) packets places → map (λ p. p.name) packets ≡ map place_name places
@@ -96,6 +147,14 @@ pub places_order : (bytes : List ℕ) (h : Headers) (t : ℕ) (places : List Pac
 places_order bytes h t places are less read =
     let found = packets_found bytes h t places are less read in
     subst (IsPacketOrder (shape_in h.siz (tile_in h.tiles t) t)) (names_placed bytes found.0 places found.2) found.1.order
+
+-- they are few
+pub places_few : (bytes : List ℕ) (h : Headers) (t : ℕ) (places : List PacketPlace) → AreHeaders (length bytes) h → t < tile_count h.siz → packets_at bytes h t ≡ Ok places → length places ≤ 2 ^ 24
+places_few bytes h t places are less read =
+    let s = shape_in h.siz (tile_in h.tiles t) t in
+    let count : length places ≡ packet_count s = sym (length-map places place_name) ∙ length_of s (map place_name places) (places_order bytes h t places are less read) in
+    let few = tile_few (length bytes) h t are less in
+    omega (arith, count, few)
 
 -- The entries of a tile give the spans that a walk gives, or the same fault.
 pub entries_spans : (bytes : List ℕ) (h : Headers) (t : ℕ) → AreHeaders (length bytes) h → t < tile_count h.siz

@@ -14,5 +14,6 @@ pub mod SopLaws
 pub mod PlacingLaws
 pub mod EntryLaws
 pub mod EntriesRead
-pub mod Filling
+pub mod Giving
+pub mod Exchanging
 pub mod Laws

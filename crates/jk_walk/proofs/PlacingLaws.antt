@@ -1,5 +1,5 @@
 -- What stands in a list into which items were put.
-use Rattle.std.proofs.Common.{◌≡◌, ℕ, List, [], ◌∷◌, length, map, get_or, set, refl, sym, ◌∙◌, subst, arith}
+use Rattle.std.proofs.Common.{◌≡◌, ℕ, zero, suc, ◌<◌, List, [], ◌∷◌, length, map, get_or, set, refl, ap, sym, ◌∙◌, subst, arith}
 use Rattle.std.specs.List.{AllByRecursion}
 use Rattle.std.proofs.lemmas.List.{length-set, get_or-set_same, get_or-set_other}
 use Rattle.std.specs.Prelude.{Contains}
@@ -54,3 +54,17 @@ all_map P f (w ∷ items) all = (all.0, all_map P f items all.1)
 pub once_map : {A B : Type 0} (place : B → ℕ) (f : A → B) (items : List A) → AreOnce place (map f items) → AreOnce (λ w. place (f w)) items
 once_map place f [] once = tt
 once_map {A} {B} place f (w ∷ items) once = (all_map (λ (v : B). place v ≡ place (f w) → ⊥) f items once.0, once_map place f items once.1)
+
+-- what holds of all holds of each
+pub at_each : {X : Type 0} (P : X → Type 0) (xs : List X) (i : ℕ) (d : X) → AllByRecursion P xs → i < length xs → P (get_or xs i d)
+at_each P [] i d all lt = absurd (omega (arith, lt))
+at_each P (x ∷ xs) zero d all lt = all.0
+at_each P (x ∷ xs) (suc i) d all lt = at_each P xs i d all.1 (omega (arith, lt))
+
+-- items of the same place are the same one
+pub once_index : {A : Type 0} (place : A → ℕ) (items : List A) (i j : ℕ) (d : A) → AreOnce place items → i < length items → j < length items → place (get_or items i d) ≡ place (get_or items j d) → i ≡ j
+once_index place [] i j d once li lj e = absurd (omega (arith, li))
+once_index place (w ∷ items) zero zero d once li lj e = refl
+once_index {A} place (w ∷ items) zero (suc j) d once li lj e = absurd (at_each (λ (v : A). place v ≡ place w → ⊥) items j d once.0 (omega (arith, lj)) (sym e))
+once_index {A} place (w ∷ items) (suc i) zero d once li lj e = absurd (at_each (λ (v : A). place v ≡ place w → ⊥) items i d once.0 (omega (arith, li)) e)
+once_index place (w ∷ items) (suc i) (suc j) d once li lj e = ap (λ n. suc n) (once_index place items i j d once.1 (omega (arith, li)) (omega (arith, lj)) e)

@@ -10,8 +10,8 @@ use Rattle.jk_marks.specs.Siz.{tile_count}
 use Rattle.jk_params.specs.Headers.{Headers, tile_in, AreHeaders}
 use Rattle.jk_walk.specs.declared.places.PacketPlace.{PacketPlace}
 use Rattle.jk_walk.specs.declared.spans.PacketSpan.{PacketSpan}
-use Rattle.jk_walk.specs.TilePackets.{shape_in, Packet}
-use Rattle.jk_walk.specs.WalkReading.{packets_at, spans_at, span_of, IsPlaced, IsSpanned, AreLaid, AreTilePackets}
+use Rattle.jk_walk.specs.TilePackets.{Packet}
+use Rattle.jk_walk.specs.WalkReading.{spans_at, span_of, IsPlaced, IsSpanned, AreLaid, AreTilePackets}
 use Rattle.jk_walk.proofs.OnlyLaws.{packets_laid}
 
 -- ---- what is made of each of the values that are read

@@ -1,6 +1,5 @@
 -- The walk over the packets of a tile, after some of them.
 use Rattle.std.proofs.Common.{◌≡◌, ℕ, ◌+◌, ◌-◌, ◌*◌, ◌<◌, ◌≤◌, inl, inr, Bool, true, false, not, eqb, nat_lt, List, [], ◌∷◌, ◌++◌, length, drop, Some, None, Result, Ok, Err, slice_get, get_or, replicate, cond, refl, sym, ap, ◌∙◌, subst, arith, append_assoc, append-nil}
-use Rattle.std.specs.Prelude.{slice_index_or}
 use Rattle.std.proofs.lemmas.Bool.{cases_lt, ne_eqb}
 use Rattle.std.proofs.lemmas.List.{nil_from_length, length-replicate, get_or-replicate, get_or_past}
 use Rattle.jk_math.specs.Steps.{bind_then, refuse_then, ok_is}
@@ -175,18 +174,6 @@ pub record IsRead (s : TileShape) (n : PacketName) (old new : Kept) (x : Precinc
   pub early : n.layer + 1 < s.layers → states_in s new n.component n.resolution n.precinct ≡ x
   pub others : (c r k : ℕ) → IsPrecinct s c r k → is_of c r k n ≡ false → states_in s new c r k ≡ states_in s old c r k
   pub same : IsKept old new
-
--- the precinct of a packet that was read is left
-pub read_left : (s : TileShape) (n : PacketName) (old mid new : Kept) → IsKept old mid → IsKept mid new
-    → ((c r k : ℕ) → IsPrecinct s c r k → is_of c r k n ≡ false → states_in s mid c r k ≡ states_in s old c r k)
-    → (n.layer + 1 < s.layers → states_in s new n.component n.resolution n.precinct ≡ states_in s mid n.component n.resolution n.precinct)
-    → ((c r k : ℕ) → IsPrecinct s c r k → is_of c r k n ≡ false → states_in s new c r k ≡ states_in s mid c r k)
-    → IsRead s n old new (states_in s mid n.component n.resolution n.precinct)
-read_left s n old mid new one two others early later = record {
-  early = early;
-  others = λ c r k is e. later c r k is e ∙ others c r k is e;
-  same = record { sop = two.sop ∙ one.sop; eph = two.eph ∙ one.eph; rows = two.rows ∙ one.rows };
-}
 
 -- what the states show once a packet was read
 shows_more : (s : TileShape) (kept kept' : Kept) (states : States) (n : PacketName) (x : PrecinctState) → Shows s kept states → x.layers ≡ n.layer + 1 → IsRead s n kept kept' x → Shows s kept' (with_state states n x)

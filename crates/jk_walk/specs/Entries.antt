@@ -1,6 +1,6 @@
 -- What is kept of each packet of a tile, found by its component, resolution, precinct and layer.
 use Rattle.std.specs.Prelude.{◌≡◌, ℕ, ◌+◌, ◌≤◌, Bool, List, length, map, replicate, slice_index_or, None, Result, Ok}
-use Rattle.std.specs.List.{AllByRecursion, flat_map}
+use Rattle.std.specs.List.{AllByRecursion, flat_map, zip}
 use Rattle.jk_math.specs.Answer.{◌>>=◌}
 use Rattle.jk_math.specs.declared.fault.Fault.{Fault}
 use Rattle.jk_geom.specs.declared.shape.TileShape.{TileShape}
@@ -13,7 +13,6 @@ use Rattle.jk_walk.specs.declared.spans.PacketSpan.{PacketSpan}
 use Rattle.jk_walk.specs.TilePackets.{slice_of, shape_in, Packet}
 use Rattle.jk_walk.specs.WalkReading.{place_end, packets_at, AreTilePackets}
 use Rattle.jk_walk.specs.declared.entries.PacketEntry.{PacketEntry}
-use Rattle.jk_walk.specs.declared.entries.NamedEntry.{NamedEntry}
 use Rattle.jk_walk.specs.Placing.{placed}
 use Rattle.jk_walk.specs.Sop.{sop_of, counter_of, sop_written}
 
@@ -24,6 +23,10 @@ no_entry = record { start = 0; body = 0; end = 0; counter = None }
 -- the entries of packets, each in its packet's slot
 abbrev pub slotted : {A : Type 0} → TileShape → (A → PacketName) → (A → PacketEntry) → List A → List PacketEntry
 slotted s name f packets = placed (λ w. slot_of s (name w)) f packets (replicate (length packets) no_entry)
+
+-- the entries of a tile's packets, which come in the order of the packets, in their slots
+abbrev pub in_slots : TileShape → List PacketEntry → List PacketEntry
+in_slots s entries = slotted s (λ w. w.0) (λ w. w.1) (zip (order s) entries)
 
 -- the entry of a packet
 abbrev pub entry_in : TileShape → List PacketEntry → PacketName → PacketEntry
@@ -53,16 +56,6 @@ spans_in s entries = map (span_in s entries) (order s)
 -- the same of what is read
 abbrev pub spans_from : TileShape → Result (List PacketEntry) Fault → Result (List PacketSpan) Fault
 spans_from s read = read >>= λ entries. Ok (spans_in s entries)
-
--- the same with the packet's name
-abbrev pub named_of : List ℕ → (sop : Bool) → PacketPlace → NamedEntry
-named_of bytes sop w = record { name = w.name; entry = entry_of bytes sop w }
-
-abbrev pub named_name : NamedEntry → PacketName
-named_name e = e.name
-
-abbrev pub named_entry : NamedEntry → PacketEntry
-named_entry e = e.entry
 
 -- An entry within so many bytes.
 pub record IsEntry (size : ℕ) (e : PacketEntry) : Type 0 where

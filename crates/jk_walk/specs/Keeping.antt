@@ -1,10 +1,16 @@
 -- How the program keeps what headers have told of the precincts of a tile: those of which nothing is kept are blank.
-use Rattle.std.specs.Prelude.{◌≡◌, ℕ, ◌+◌, ◌*◌, ◌<◌, Bool, List, [], length, map, slice_index_or, Option, Some, None}
+use Rattle.std.specs.Prelude.{◌≡◌, ℕ, ◌+◌, ◌*◌, ◌<◌, Bool, List, [], length, map, slice_index_or, Option, Some, None, Result, Ok}
 use Rattle.std.specs.Global.{Vec, Box}
+use Rattle.jk_math.specs.Answer.{◌>>=◌}
+use Rattle.jk_math.specs.declared.fault.Fault.{Fault}
 use Rattle.jk_geom.specs.declared.shape.TileShape.{TileShape}
 use Rattle.jk_order.specs.PacketOrder.{IsPrecinct}
 use Rattle.jk_packet.specs.Reading.{PrecinctState}
 use Rattle.jk_walk.specs.WalkReading.{States, blank_states}
+
+-- what is read, without the state behind it
+abbrev pub alone : {A S : Type 0} → Result (A × S) Fault → Result A Fault
+alone read = read >>= λ o. Ok o.0
 
 -- what is kept of a precinct, if anything is
 abbrev pub Slot : Type 0

@@ -1,16 +1,16 @@
 //! What is kept of each packet of a tile, found by its name.
 
-ghost use Rattle.std.specs.Prelude.{◌≡◌, ℕ, ◌≤◌, ◌<◌, ◌^◌, map, length, IfOk, IfErr};
+ghost use Rattle.std.specs.Prelude.{◌≡◌, ℕ, ◌≤◌, ◌^◌, length, IfOk, IfErr};
 ghost use Rattle.jk_math.specs.Memory.{IsMemory};
 ghost use Rattle.jk_geom.specs.TileShapes.{IsTileShape};
-ghost use Rattle.jk_order.specs.PacketOrder.{IsPacketOrder, packet_count};
+ghost use Rattle.jk_order.specs.PacketOrder.{packet_count};
 ghost use Rattle.jk_walk.specs.WalkReading.{AreSpans};
 ghost use Rattle.jk_walk.specs.Sop.{counter_of};
-ghost use Rattle.jk_walk.specs.Entries.{slotted, spans_in, named_name, named_entry, named_of, AreEntries};
+ghost use Rattle.jk_walk.specs.Entries.{spans_in, entry_of, AreEntries};
 
 use crate::places::PacketPlace;
 use crate::spans::{OfPacket, PacketSpan};
-use jk_geom::{PacketName, TileShape};
+use jk_geom::TileShape;
 use jk_math::Fault;
 use jk_order::{Packets, Slots, packet_count};
 use std::alloc::Global;
@@ -30,21 +30,6 @@ pub struct PacketEntry {
     pub counter: Option<(u8, u8)>,
 }
 
-/// The entry of a packet, and whose it is.
-#[derive(Clone, Copy, Debug, PartialEq, Eq, Drop)]
-pub(crate) struct NamedEntry {
-    pub(crate) name: PacketName,
-    pub(crate) entry: PacketEntry,
-}
-
-/// Stands where no entry was put.
-const NO_ENTRY: PacketEntry = PacketEntry {
-    start: 0,
-    body: 0,
-    end: 0,
-    counter: None,
-};
-
 /// The counter of the SOP marker segment at the front of a packet, where one may stand and does.
 fn counter(sop: bool, text: &[u8]) -> Option<(u8, u8)>
     ensures { result ≡ counter_of sop text.now }
@@ -56,40 +41,17 @@ fn counter(sop: bool, text: &[u8]) -> Option<(u8, u8)>
     }
 }
 
-impl OfPacket for NamedEntry {
-    ghost kept_of = { named_of };
+impl OfPacket for PacketEntry {
+    ghost kept_of = { entry_of };
 
-    fn of_packet(bytes: &[u8], sop: bool, place: PacketPlace, end: usize) -> NamedEntry {
-        NamedEntry {
-            name: place.name,
-            entry: PacketEntry {
-                start: place.start,
-                body: place.body,
-                end,
-                counter: counter(sop, &bytes[place.start..end]),
-            },
+    fn of_packet(bytes: &[u8], sop: bool, place: PacketPlace, end: usize) -> PacketEntry {
+        PacketEntry {
+            start: place.start,
+            body: place.body,
+            end,
+            counter: counter(sop, &bytes[place.start..end]),
         }
     }
-}
-
-/// The entries of all packets of a tile, each in its packet's slot.
-pub(crate) fn place_entries(
-    alloc: Global,
-    shape: &TileShape,
-    packets: &[NamedEntry],
-) -> Result<Vec<PacketEntry>, Fault>
-    requires shape { IsTileShape shape.now }
-    requires few { packet_count shape.now ≤ 2 ^ 24 }
-    requires all { IsPacketOrder shape.now (map named_name packets.now) }
-    ensures value { IfOk result (λ v. v.items ≡ slotted shape.now named_name named_entry packets.now) }
-    ensures memory { IfErr result IsMemory }
-{
-    let slots = Slots::new(shape);
-    let mut entries = vec![in alloc; NO_ENTRY; packets.len()]?;
-    for packet in packets {
-        entries[slots.packet(shape, packet.name)] = packet.entry;
-    }
-    Ok(entries)
 }
 
 /// The packets of a tile in their order, each by its bytes.

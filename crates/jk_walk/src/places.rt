@@ -52,17 +52,20 @@ pub struct TilePackets {
 }
 
 impl Model for TilePackets {
-    ghost use Rattle.std.specs.Prelude.{List};
+    ghost use Rattle.std.specs.Prelude.{List, length, ◌≤◌, ◌^◌};
     ghost use Rattle.jk_walk.specs.declared.places.PacketPlace.{PacketPlace};
 
     ghost Value = { List PacketPlace };
 
     ghost view = { λ p. p.places.items };
+
+    ghost invariant = { λ p. length p.places.items ≤ 2 ^ 24 };
 }
 
 impl TilePackets {
     /// Packets at these places.
     pub(crate) fn new(places: Vec<PacketPlace>) -> TilePackets
+        requires { length places.items ≤ 2 ^ 24 }
         ensures { result ≡ places.items }
     {
         TilePackets { places }
@@ -84,7 +87,8 @@ impl TilePackets {
 
     /// The places, one after another.
     pub fn as_slice(&self) -> &[PacketPlace]
-        ensures { result.now ≡ self.now }
+        ensures value { result.now ≡ self.now }
+        ensures few { length self.now ≤ 2 ^ 24 }
     {
         &self.places
     }

@@ -2,14 +2,14 @@
 
 ghost use Rattle.std.specs.Prelude.{◌≡◌, ◌*◌, ◌<◌, ◌≤◌, ℕ, false, [], length, replicate, slice_index_or, ◌+◌, ◌≢◌, IfErr, OnOk, MatchResult};
 ghost use Rattle.std.specs.List.{AllByRecursion};
-ghost use Rattle.jk_math.specs.Answer.{ReadsBy};
+ghost use Rattle.jk_math.specs.Answer.{Answers, ReadsBy};
 ghost use Rattle.jk_math.specs.Memory.{IsMemory};
 ghost use Rattle.jk_geom.specs.TileShapes.{IsTileShape};
 ghost use Rattle.jk_order.specs.PacketOrder.{IsName, IsPrecinct, is_of};
 ghost use Rattle.jk_packet.specs.Reading.{PrecinctState, text_of, header_at};
 ghost use Rattle.jk_params.specs.Coding.{HasPlanes};
 ghost use Rattle.jk_walk.specs.WalkReading.{blank_states};
-ghost use Rattle.jk_walk.specs.Keeping.{row_of, seen, state_of, states_in};
+ghost use Rattle.jk_walk.specs.Keeping.{alone, row_of, seen, state_of, states_in};
 
 use crate::shape::precinct_shape;
 use jk_geom::{PacketName, TileShape};
@@ -70,6 +70,18 @@ fn make_upto(slots: &mut Vec<Slot>, number: u32) -> Result<(), Fault>
     Ok(())
 }
 
+/// Takes a precinct out of those that are kept, if it is among them.
+fn take_kept(slots: &mut Vec<Slot>, number: u32) -> Slot
+    ensures value { (blank : ℕ → PrecinctState) → state_of result (blank number) ≡ seen blank slots.old.items number }
+    ensures others { (blank : ℕ → PrecinctState) (k : ℕ) → k ≢ number → seen blank slots.new.items k ≡ seen blank slots.old.items k }
+{
+    if (number as usize) < slots.len() {
+        slots[number as usize].take()
+    } else {
+        None
+    }
+}
+
 /// The precinct of a packet, which is taken out of those that are kept; a blank one where none is kept.
 fn take(
     alloc: Global,
@@ -81,28 +93,29 @@ fn take(
     requires shape { IsTileShape shape.now }
     requires planes { AllByRecursion HasPlanes shape.now.codings }
     requires name { IsName shape.now name }
-    requires there { name.precinct < length slots.old.items }
     ensures value { MatchResult result
         (λ p. p.value ≡ seen (blank_states shape.now markers.sop markers.eph name.component name.resolution) slots.old.items name.precinct) (λ e. IsMemory e) }
     ensures others { (blank : ℕ → PrecinctState) (k : ℕ) → k ≢ name.precinct → seen blank slots.new.items k ≡ seen blank slots.old.items k }
-    ensures kept { length slots.new.items ≡ length slots.old.items }
 {
-    match slots[name.precinct as usize].take() {
+    match take_kept(slots, name.precinct) {
         Some(precinct) => Ok(precinct),
         None => Ok(Box::new(alloc, blank(alloc, shape, markers, name)?)?),
     }
 }
 
-/// Keeps a precinct, or nothing of it.
-fn put(slots: &mut Vec<Slot>, number: u32, slot: Slot)
-    requires { number < length slots.old.items }
-    ensures own { (blank : ℕ → PrecinctState) → seen blank slots.new.items number ≡ state_of slot (blank number) }
-    ensures others { (blank : ℕ → PrecinctState) (k : ℕ) → k ≢ number → seen blank slots.new.items k ≡ seen blank slots.old.items k }
+/// Keeps a precinct, with room for those before it in its resolution.
+fn keep(slots: &mut Vec<Slot>, number: u32, precinct: Box<Precinct>) -> Result<(), Fault>
+    ensures err { IfErr result (λ e. IsMemory e) }
+    ensures own { OnOk result ((blank : ℕ → PrecinctState) → seen blank slots.new.items number ≡ precinct.value) }
+    ensures others { OnOk result ((blank : ℕ → PrecinctState) (k : ℕ) → k ≢ number → seen blank slots.new.items k ≡ seen blank slots.old.items k) }
 {
-    slots[number as usize] = slot;
+    make_upto(slots, number)?;
+    slots[number as usize] = Some(precinct);
+    Ok(())
 }
 
-/// The header of a packet of a resolution whose precincts are these.
+/// The header of a packet of a resolution whose precincts are these. What it tells of its precinct
+/// is kept unless it is the last.
 fn read_in(
     alloc: Global,
     shape: &TileShape,
@@ -115,27 +128,21 @@ fn read_in(
     requires planes { AllByRecursion HasPlanes shape.now.codings }
     requires name { IsName shape.now name }
     requires next { name.layer ≡ (seen (blank_states shape.now markers.sop markers.eph name.component name.resolution) slots.old.items name.precinct).layers }
-    ensures exact { ReadsBy text_of (header_at name.layer bytes.now)
+    ensures exact { Answers text_of result (alone (header_at name.layer bytes.now
+        (seen (blank_states shape.now markers.sop markers.eph name.component name.resolution) slots.old.items name.precinct))) }
+    ensures early { name.layer + 1 < shape.now.layers → ReadsBy text_of (header_at name.layer bytes.now)
         (seen (blank_states shape.now markers.sop markers.eph name.component name.resolution) slots.old.items name.precinct)
         (seen (blank_states shape.now markers.sop markers.eph name.component name.resolution) slots.new.items name.precinct) result }
     ensures others { OnOk result ((k : ℕ) → k ≢ name.precinct
         → seen (blank_states shape.now markers.sop markers.eph name.component name.resolution) slots.new.items k
         ≡ seen (blank_states shape.now markers.sop markers.eph name.component name.resolution) slots.old.items k) }
 {
-    make_upto(slots, name.precinct)?;
     let mut precinct = take(alloc, shape, markers, name, slots)?;
     let header = precinct.read_header(bytes, name.layer)?;
-    put(slots, name.precinct, Some(precinct));
-    Ok(header)
-}
-
-/// Keeps nothing more of a precinct.
-fn drop_in(slots: &mut Vec<Slot>, number: u32)
-    ensures { (blank : ℕ → PrecinctState) (k : ℕ) → k ≢ number → seen blank slots.new.items k ≡ seen blank slots.old.items k }
-{
-    if (number as usize) < slots.len() {
-        put(slots, number, None);
+    if name.layer + 1 < shape.layers {
+        keep(slots, name.precinct, precinct)?;
     }
+    Ok(header)
 }
 
 /// Which list has the precincts of the resolution of a packet.
@@ -147,8 +154,9 @@ fn row_of(name: PacketName) -> usize
 
 /// What headers have told of the precincts of a tile.
 ///
-/// A precinct is made with the first of its packets and let go of behind its last one: few are alive where the layers of a
-/// precinct stand together, and a tile of which few packets are read takes little memory.
+/// A precinct is made with the first of its packets and let go of behind its last one: few are
+/// alive where the layers of a precinct stand together, and a tile of which few packets are read
+/// takes little memory. Where there is one layer, nothing is kept.
 #[derive(Drop)]
 pub(crate) struct Precincts {
     alloc: Global,
@@ -166,7 +174,7 @@ impl Model for Precincts {
 
 impl Precincts {
     ghost use Rattle.std.specs.Prelude.{◌≡◌, ◌*◌, ◌<◌, ◌≤◌, ◌+◌, ℕ, false, [], length, replicate, OnOk, MatchResult};
-    ghost use Rattle.jk_walk.specs.Keeping.{states_in, most_resolutions, IsKept};
+    ghost use Rattle.jk_walk.specs.Keeping.{alone, states_in, most_resolutions, IsKept};
 
     /// The precincts of a tile of so many components, of which nothing was read.
     pub(crate) fn new(
@@ -189,7 +197,8 @@ impl Precincts {
         })
     }
 
-    /// The header of a packet at the front of `bytes`, which is the next of its precinct.
+    /// The header of a packet at the front of `bytes`, which is the next of its precinct. Nothing
+    /// more is kept of the precinct if it is the last.
     ///
     /// The faults are those of `Precinct::read_header`.
     pub(crate) fn read_header(
@@ -203,7 +212,9 @@ impl Precincts {
         requires name { IsName shape.now name }
         requires kept { length self.old.precincts ≡ length shape.now.codings * most_resolutions }
         requires next { name.layer ≡ (states_in shape.now self.old name.component name.resolution name.precinct).layers }
-        ensures exact { ReadsBy text_of (header_at name.layer bytes.now)
+        ensures exact { Answers text_of result (alone (header_at name.layer bytes.now
+            (states_in shape.now self.old name.component name.resolution name.precinct))) }
+        ensures early { name.layer + 1 < shape.now.layers → ReadsBy text_of (header_at name.layer bytes.now)
             (states_in shape.now self.old name.component name.resolution name.precinct)
             (states_in shape.now self.new name.component name.resolution name.precinct) result }
         ensures others { OnOk result ((c r k : ℕ) → IsPrecinct shape.now c r k → is_of c r k name ≡ false
@@ -219,23 +230,5 @@ impl Precincts {
             bytes,
             &mut self.resolutions[row],
         )
-    }
-
-    /// Keeps nothing more of the precinct of a packet, if that was its last one.
-    pub(crate) fn leave(&mut self, shape: &TileShape, name: PacketName)
-        requires shape { IsTileShape shape.now }
-        requires name { IsName shape.now name }
-        requires kept { length self.old.precincts ≡ length shape.now.codings * most_resolutions }
-        ensures early { name.layer + 1 < shape.now.layers → states_in shape.now self.new name.component name.resolution name.precinct
-            ≡ states_in shape.now self.old name.component name.resolution name.precinct }
-        ensures others { (c r k : ℕ) → IsPrecinct shape.now c r k → is_of c r k name ≡ false
-            → states_in shape.now self.new c r k ≡ states_in shape.now self.old c r k }
-        ensures kept { IsKept self.old self.new }
-    {
-        if name.layer + 1 < shape.layers {
-            return;
-        }
-        let row = row_of(name);
-        drop_in(&mut self.resolutions[row], name.precinct);
     }
 }

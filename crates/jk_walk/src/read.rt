@@ -12,7 +12,8 @@ ghost use Rattle.jk_walk.specs.TilePackets.{shape_in, Packet};
 ghost use Rattle.jk_walk.specs.WalkReading.{packets_at, each_of, IsPlaced, AreTilePackets, StandAt, ArePlaces};
 ghost use Rattle.jk_walk.specs.Entries.{entries_at, EnterAt, AreEnteredAt, AreEntries};
 
-use crate::entries::{NamedEntry, TileEntries, place_entries};
+use crate::arranging::slot_entries;
+use crate::entries::{PacketEntry, TileEntries};
 use crate::places::{PacketPlace, TilePackets};
 use crate::precincts::Markers;
 use crate::spans::OfPacket;
@@ -89,9 +90,9 @@ fn tile_entries(
     requires tile { tile < tile_count headers.now.siz }
     ensures { Answers (λ p. p) result (entries_at bytes.now headers.now tile) }
 {
-    let named = read_tile::<NamedEntry>(alloc, headers, bytes, tile)?;
+    let entries = read_tile::<PacketEntry>(alloc, headers, bytes, tile)?;
     let shape = shape_of(headers, tile);
-    Ok(TileEntries::new(place_entries(alloc, &shape, &named)?))
+    Ok(TileEntries::new(slot_entries(alloc, &shape, entries)?))
 }
 
 /// The packets of a tile in the data of its parts, each by its place (T.800 B.9 to B.12).

@@ -1,6 +1,6 @@
 //! Reading the packets of a tile from front to back.
 
-ghost use Rattle.std.specs.Prelude.{◌≡◌, ◌≤◌, ◌<◌, ◌*◌, ◌^◌, ℕ, false, length, IfOk, OnOk, MatchResult};
+ghost use Rattle.std.specs.Prelude.{◌≡◌, ◌+◌, ◌≤◌, ◌<◌, ◌*◌, ◌^◌, ℕ, false, length, IfOk, OnOk, MatchResult};
 ghost use Rattle.std.specs.List.{AllByRecursion};
 ghost use Rattle.jk_math.specs.Answer.{ReadsBy, Answers};
 ghost use Rattle.jk_math.specs.declared.fault.Fault.TheVariants.{Truncated};
@@ -8,7 +8,7 @@ ghost use Rattle.jk_geom.specs.TileShapes.{IsTileShape};
 ghost use Rattle.jk_order.specs.PacketOrder.{IsName, IsPrecinct, is_of, order, packet_count};
 ghost use Rattle.jk_params.specs.Coding.{HasPlanes};
 ghost use Rattle.jk_walk.specs.WalkReading.{bodies_length, place_end, blank_states, packet_at, names_at, each_of};
-ghost use Rattle.jk_walk.specs.Keeping.{most_resolutions, states_in, IsKept};
+ghost use Rattle.jk_walk.specs.Keeping.{alone, most_resolutions, states_in, IsKept};
 
 use crate::parts::PartsLeft;
 use crate::places::PacketPlace;
@@ -54,7 +54,9 @@ fn read_packet(
     requires kept { length precincts.old.precincts ≡ length shape.now.codings * most_resolutions }
     requires next { name.layer ≡ (states_in shape.now precincts.old name.component name.resolution name.precinct).layers }
     requires part { (part.0 ≤ part.1) × (part.1 ≤ length bytes.now) }
-    ensures exact { ReadsBy (λ o. o.0) (packet_at bytes.now part name)
+    ensures exact { Answers (λ o. o.0) result (alone (packet_at bytes.now part name
+        (states_in shape.now precincts.old name.component name.resolution name.precinct))) }
+    ensures early { name.layer + 1 < shape.now.layers → ReadsBy (λ o. o.0) (packet_at bytes.now part name)
         (states_in shape.now precincts.old name.component name.resolution name.precinct)
         (states_in shape.now precincts.new name.component name.resolution name.precinct) result }
     ensures end { IfOk result (λ o. (o.1 ≡ place_end o.0) × (o.1 ≤ part.1) × (o.0.start ≤ o.1)) }
@@ -77,7 +79,8 @@ fn read_packet(
 
 /// What is kept of the packets of a tile of this shape, whose data stand at these places.
 ///
-/// No tile has more packets than its file has bytes, so room for as many is taken at once.
+/// No tile has more packets than its file has bytes, so room for as many is taken at once: it is
+/// touched as packets are read, and has no place to spare behind the last.
 pub(crate) fn read_kept<K: OfPacket>(
     alloc: Global,
     shape: &TileShape,
@@ -106,7 +109,6 @@ pub(crate) fn read_kept<K: OfPacket>(
             return Err(Fault::MissingPackets);
         };
         let (place, end) = read_packet(shape, bytes, part, name, &mut precincts)?;
-        precincts.leave(shape, name);
         all.push(K::of_packet(bytes, markers.sop, place, end))?;
         left.advance(end);
     }

@@ -14,14 +14,14 @@ use Rattle.jk_tile.proofs.packets.write_packets.Goals as goal
 use Rattle.jk_tile.proofs.packets.write_packets.Goals.{else-loop-number-test, then-loop-number-test+in_default}
 
 pub firsts-firsts-requires-clause-few : goal.firsts-firsts-requires-clause-few
-firsts-firsts-requires-clause-few c = few_below c.args.shape.now c.args.coding.now c.requires.shape c.requires.alike c.requires.few
+firsts-firsts-requires-clause-few c = few_below c.args.frame.now.shape.now c.args.frame.now.coding.now c.requires.shape c.requires.alike c.requires.few
 
 pub loop-number-init : goal.loop-number-init
 loop-number-init c =
-    let s = c.args.shape.now in
-    let k = c.args.coding.now in
-    let sop = c.args.markers.sop in
-    let eph = c.args.markers.eph in
+    let s = c.args.frame.now.shape.now in
+    let k = c.args.frame.now.coding.now in
+    let sop = c.args.frame.now.markers.sop in
+    let eph = c.args.frame.now.markers.eph in
     let lists = table_lists c.args.tables.now in
     let few = c.requires.few in
     let count : packet_count s ≡ c.packet_count-number-end.result - 0 = omega (arith, c.packet_count-number-end.ensures, few) in
@@ -32,7 +32,7 @@ loop-number-init c =
 pub place_of-place-requires-clause-component : goal.place_of-place-requires-clause-component
 place_of-place-requires-clause-component c =
     let w = c.loop-number.invariant in
-    let named = named_next c.args.shape.now c.args.coding.now c.args.markers.sop c.args.markers.eph _ _ _ _ _ _ c.in-Some.name c.requires.alike w (c.in-Some.ensures w.names w.follow).0 in
+    let named = named_next c.args.frame.now.shape.now c.args.frame.now.coding.now c.args.frame.now.markers.sop c.args.frame.now.markers.eph _ _ _ _ _ _ c.in-Some.name c.requires.alike w (c.in-Some.ensures w.names w.follow).0 in
     let lt = named.component in
     let few = c.requires.shape.codings.few in
     omega (arith, lt, few)
@@ -40,25 +40,25 @@ place_of-place-requires-clause-component c =
 pub place_of-place-requires-clause-resolution : goal.place_of-place-requires-clause-resolution
 place_of-place-requires-clause-resolution c =
     let w = c.loop-number.invariant in
-    (named_next c.args.shape.now c.args.coding.now c.args.markers.sop c.args.markers.eph _ _ _ _ _ _ c.in-Some.name c.requires.alike w (c.in-Some.ensures w.names w.follow).0).resolution
+    (named_next c.args.frame.now.shape.now c.args.frame.now.coding.now c.args.frame.now.markers.sop c.args.frame.now.markers.eph _ _ _ _ _ _ c.in-Some.name c.requires.alike w (c.in-Some.ensures w.names w.follow).0).resolution
 
 pub bounds-tables-place : goal.bounds-tables-place
 bounds-tables-place c =
-    let s = c.args.shape.now in
-    let k = c.args.coding.now in
+    let s = c.args.frame.now.shape.now in
+    let k = c.args.frame.now.coding.now in
     let w = c.loop-number.invariant in
     let n = c.in-Some.name in
-    let named = named_next s k c.args.markers.sop c.args.markers.eph _ _ _ _ _ _ n c.requires.alike w (c.in-Some.ensures w.names w.follow).0 in
+    let named = named_next s k c.args.frame.now.markers.sop c.args.frame.now.markers.eph _ _ _ _ _ _ n c.requires.alike w (c.in-Some.ensures w.names w.follow).0 in
     let at = place_at s.rect k c.firsts-firsts.result n.component n.resolution n.precinct c.place_of-place.result named.resolution c.firsts-firsts.ensures c.place_of-place.ensures in
     let long = sym (length-map c.args.tables.now (λ (v : Vec Table). v.items)) ∙ c.requires.lists.long in
     within_lists s k n c.place_of-place.result (length c.args.tables.now) named at long
 
 pub offset_bounds-tables-place : goal.offset_bounds-tables-place
 offset_bounds-tables-place c =
-    let s = c.args.shape.now in
-    let k = c.args.coding.now in
-    let sop = c.args.markers.sop in
-    let eph = c.args.markers.eph in
+    let s = c.args.frame.now.shape.now in
+    let k = c.args.frame.now.coding.now in
+    let sop = c.args.frame.now.markers.sop in
+    let eph = c.args.frame.now.markers.eph in
     let w = c.loop-number.invariant in
     let n = c.in-Some.name in
     let first = (c.in-Some.ensures w.names w.follow).0 in
@@ -74,19 +74,19 @@ offset_bounds-tables-place c =
 pub write_at-requires-clause-resolution : goal.write_at-requires-clause-resolution
 write_at-requires-clause-resolution c =
     let w = c.loop-number.invariant in
-    (named_next c.args.shape.now c.args.coding.now c.args.markers.sop c.args.markers.eph _ _ _ _ _ _ c.in-Some.name c.requires.alike w (c.in-Some.ensures w.names w.follow).0).resolution
+    (named_next c.args.frame.now.shape.now c.args.frame.now.coding.now c.args.frame.now.markers.sop c.args.frame.now.markers.eph _ _ _ _ _ _ c.in-Some.name c.requires.alike w (c.in-Some.ensures w.names w.follow).0).resolution
 
 pub write_at-requires-clause-precinct : goal.write_at-requires-clause-precinct
 write_at-requires-clause-precinct c =
     let w = c.loop-number.invariant in
-    (named_next c.args.shape.now c.args.coding.now c.args.markers.sop c.args.markers.eph _ _ _ _ _ _ c.in-Some.name c.requires.alike w (c.in-Some.ensures w.names w.follow).0).precinct
+    (named_next c.args.frame.now.shape.now c.args.frame.now.coding.now c.args.frame.now.markers.sop c.args.frame.now.markers.eph _ _ _ _ _ _ c.in-Some.name c.requires.alike w (c.in-Some.ensures w.names w.follow).0).precinct
 
 pub write_at-requires-clause-tables : goal.write_at-requires-clause-tables
 write_at-requires-clause-tables c =
-    let s = c.args.shape.now in
-    let k = c.args.coding.now in
-    let sop = c.args.markers.sop in
-    let eph = c.args.markers.eph in
+    let s = c.args.frame.now.shape.now in
+    let k = c.args.frame.now.coding.now in
+    let sop = c.args.frame.now.markers.sop in
+    let eph = c.args.frame.now.markers.eph in
     let w = c.loop-number.invariant in
     let n = c.in-Some.name in
     let first = (c.in-Some.ensures w.names w.follow).0 in
@@ -100,10 +100,10 @@ write_at-requires-clause-tables c =
 
 pub write_at-requires-clause-place : goal.write_at-requires-clause-place
 write_at-requires-clause-place c =
-    let s = c.args.shape.now in
-    let k = c.args.coding.now in
-    let sop = c.args.markers.sop in
-    let eph = c.args.markers.eph in
+    let s = c.args.frame.now.shape.now in
+    let k = c.args.frame.now.coding.now in
+    let sop = c.args.frame.now.markers.sop in
+    let eph = c.args.frame.now.markers.eph in
     let w = c.loop-number.invariant in
     let n = c.in-Some.name in
     let first = (c.in-Some.ensures w.names w.follow).0 in
@@ -117,10 +117,10 @@ write_at-requires-clause-place c =
 
 pub write_at-requires-clause-layer : goal.write_at-requires-clause-layer
 write_at-requires-clause-layer c =
-    let s = c.args.shape.now in
-    let k = c.args.coding.now in
-    let sop = c.args.markers.sop in
-    let eph = c.args.markers.eph in
+    let s = c.args.frame.now.shape.now in
+    let k = c.args.frame.now.coding.now in
+    let sop = c.args.frame.now.markers.sop in
+    let eph = c.args.frame.now.markers.eph in
     let w = c.loop-number.invariant in
     let n = c.in-Some.name in
     let first = (c.in-Some.ensures w.names w.follow).0 in
@@ -134,10 +134,10 @@ write_at-requires-clause-layer c =
 
 pub write_at-requires-clause-next : goal.write_at-requires-clause-next
 write_at-requires-clause-next c =
-    let s = c.args.shape.now in
-    let k = c.args.coding.now in
-    let sop = c.args.markers.sop in
-    let eph = c.args.markers.eph in
+    let s = c.args.frame.now.shape.now in
+    let k = c.args.frame.now.coding.now in
+    let sop = c.args.frame.now.markers.sop in
+    let eph = c.args.frame.now.markers.eph in
     let w = c.loop-number.invariant in
     let n = c.in-Some.name in
     let first = (c.in-Some.ensures w.names w.follow).0 in
@@ -151,10 +151,10 @@ write_at-requires-clause-next c =
 
 pub write_at-requires-clause-more : goal.write_at-requires-clause-more
 write_at-requires-clause-more c =
-    let s = c.args.shape.now in
-    let k = c.args.coding.now in
-    let sop = c.args.markers.sop in
-    let eph = c.args.markers.eph in
+    let s = c.args.frame.now.shape.now in
+    let k = c.args.frame.now.coding.now in
+    let sop = c.args.frame.now.markers.sop in
+    let eph = c.args.frame.now.markers.eph in
     let w = c.loop-number.invariant in
     let n = c.in-Some.name in
     let first = (c.in-Some.ensures w.names w.follow).0 in
@@ -168,10 +168,10 @@ write_at-requires-clause-more c =
 
 pub loop-number-preserved : goal.loop-number-preserved
 loop-number-preserved c =
-    let s = c.args.shape.now in
-    let k = c.args.coding.now in
-    let sop = c.args.markers.sop in
-    let eph = c.args.markers.eph in
+    let s = c.args.frame.now.shape.now in
+    let k = c.args.frame.now.coding.now in
+    let sop = c.args.frame.now.markers.sop in
+    let eph = c.args.frame.now.markers.eph in
     let w = c.loop-number.invariant in
     let n = c.in-Some.name in
     let first = (c.in-Some.ensures w.names w.follow).0 in
@@ -192,7 +192,7 @@ pub returns-clause-text : goal.returns-clause-text
 returns-clause-text c =
     let w = c.loop-number.invariant in
     let over : w.names ≡ [] = elim c.loop-number-test.branch [
-      | else-loop-number-test v ↦ counted_over c.args.shape.now c.args.coding.now c.args.markers.sop c.args.markers.eph _ _ _ _ _ _ w (omega (arith, v.loop-number-test.false))
-      | then-loop-number-test+in_default v ↦ given_over c.args.shape.now c.args.coding.now c.args.markers.sop c.args.markers.eph _ _ _ _ _ _ w (v.in_default.ensures w.names w.follow).0
+      | else-loop-number-test v ↦ counted_over c.args.frame.now.shape.now c.args.frame.now.coding.now c.args.frame.now.markers.sop c.args.frame.now.markers.eph _ _ _ _ _ _ w (omega (arith, v.loop-number-test.false))
+      | then-loop-number-test+in_default v ↦ given_over c.args.frame.now.shape.now c.args.frame.now.coding.now c.args.frame.now.markers.sop c.args.frame.now.markers.eph _ _ _ _ _ _ w (v.in_default.ensures w.names w.follow).0
     ] in
-    writing_over c.args.shape.now c.args.coding.now c.args.markers.sop c.args.markers.eph _ _ _ _ _ _ w over
+    writing_over c.args.frame.now.shape.now c.args.frame.now.coding.now c.args.frame.now.markers.sop c.args.frame.now.markers.eph _ _ _ _ _ _ w over

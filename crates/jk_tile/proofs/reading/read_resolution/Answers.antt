@@ -6,7 +6,7 @@ use Rattle.jk_tile.specs.Gathered.{list_at}
 use Rattle.jk_tile.specs.TileReading.{each, precinct_part_tested}
 use Rattle.jk_tile.specs.Source.{source_bodies, block_count, ShowsBlocks}
 use Rattle.jk_tile.proofs.Steps.{each_none, each_more, each_fails, refuses_on}
-use Rattle.jk_tile.proofs.Showing.{listed_numbers, shown_on, planes_are, count_is, resolution_fine, resolution_err}
+use Rattle.jk_tile.proofs.Showing.{followed_numbers, shown_on, planes_are, count_is, resolution_fine, resolution_err}
 use Rattle.jk_tile.proofs.reading.read_resolution.Goals as goal
 
 pub loop-n-init : goal.loop-n-init
@@ -16,10 +16,16 @@ loop-n-init c = record {
   shows = λ n lt. absurd (omega (arith, lt));
 }
 
+pub follow-requires-clause-precinct : goal.follow-requires-clause-precinct
+follow-requires-clause-precinct c = let long = c.in_ok-chains.ensures.chains.first in omega (arith, long, c.loop-n-test.true)
+
+pub follow-requires-clause-chain : goal.follow-requires-clause-chain
+follow-requires-clause-chain c = let own = c.in_ok-chains.ensures.chains.each c.loop-n.n c.loop-n-test.true in (own.0, own.1)
+
 pub read_precinct-requires-clause-numbers : goal.read_precinct-requires-clause-numbers
 read_precinct-requires-clause-numbers c =
-    listed_numbers c.args.source.now c.args.r c.loop-n.n (c.precinct_count-across.result.0 * c.precinct_count-across.result.1) c.packets.result.now c.number.result c.in_ok-numbers.numbers.items c.index.result.now c.deref.result.now
-    c.packets.ensures c.number.ensures c.in_ok-numbers.ensures.lists c.loop-n-test.true c.index.ensures c.deref.ensures.value
+    followed_numbers c.args.source.now c.args.r c.loop-n.n (c.precinct_count-across.result.0 * c.precinct_count-across.result.1) c.packets.result.now c.number.result c.in_ok-chains.chains c.follow.new.numbers.items c.deref.result.now
+    c.packets.ensures c.number.ensures c.in_ok-chains.ensures.chains c.loop-n-test.true c.in_ok-follow.ensures.numbers c.deref.ensures.value
 
 pub returns-in_err-read_precinct-clause-exact : goal.returns-in_err-read_precinct-clause-exact
 returns-in_err-read_precinct-clause-exact c =

@@ -21,7 +21,7 @@ returns-in_err-values c =
     let q = err_from_is_err_and c.from_residual.result c.from_residual.ensures.1 in
     record {
       exact = rw (q.1, q.2) (refuses_on e (part_values_at bytes h c.args.number c.args.reduce c.args.area.now c.as_slice-packets.result.now) _ c.in_err-values.ensures.exact
-          (λ is. planes_err bytes h c.args.number c.args.reduce c.args.area.now c.args.packets.now e (ap (part_values_at bytes h c.args.number c.args.reduce c.args.area.now) (sym c.as_slice-packets.ensures) ∙ is)));
+          (λ is. planes_err bytes h c.args.number c.args.reduce c.args.area.now c.args.packets.now e (ap (part_values_at bytes h c.args.number c.args.reduce c.args.area.now) (sym c.as_slice-packets.ensures.value) ∙ is)));
     }
 
 pub uncolour-requires-clause-three : goal.uncolour-requires-clause-three
@@ -79,7 +79,7 @@ returns c =
     let v = component_values bytes h t c.args.reduce places in
     let old = c.in_ok-values.values.items in
     let fine = planes_fine bytes h t c.args.reduce c.args.area.now places (lists_of old) c.in_ok-values.ensures.exact in
-    let there = ap (λ (ws : List PacketPlace). part_planes_at bytes h t c.args.reduce c.args.area.now ws) (sym c.as_slice-packets.ensures) ∙ fine.1 in
+    let there = ap (λ (ws : List PacketPlace). part_planes_at bytes h t c.args.reduce c.args.area.now ws) (sym c.as_slice-packets.ensures.value) ∙ fine.1 in
     let colour = ap (λ (k : Cod). k.colour) (sym c.cod.ensures) in
     let siz = ap (λ (s : Siz). map (map (sample_of s)) (lists_of c.if-cod.values.items)) c.siz.ensures in
     let made : map (map (sample_of h.siz)) (lists_of c.if-cod.values.items) ≡ rasters c.args.area.now (component_samples bytes h t c.args.reduce places) h.siz.components = elim c.if-cod.branch [

@@ -33,7 +33,7 @@ new-source-requires c =
     let coding = coding_read (tile_in h.tiles c.args.number).codings c.as_slice-codings.result.now c.loop-c.c c.index-codings-c.result slice lt c.index-codings-c.is in
     let fits : length c.args.bytes.now < 2 ^ 64 = search rules in
     let levels = levels_read (tile_in h.tiles c.args.number).codings c.loop-c.c c.args.reduce c.index-codings-c.result c.requires.levels lt coding in
-    source_is c.args.bytes.now h c.args.number c.loop-c.c c.args.reduce c.tile-rect.result c.args.area.now c.index-codings-c.result c.args.packets.now c.requires.sound c.requires.number lt c.tile-rect.ensures.area rect coding levels c.requires.inside fits c.requires.packets
+    source_is c.args.bytes.now h c.args.number c.loop-c.c c.args.reduce c.tile-rect.result c.args.area.now c.index-codings-c.result c.args.packets.now c.requires.sound c.requires.number lt c.tile-rect.ensures.area rect coding levels c.requires.inside fits c.requires.packets c.requires.few
 
 pub returns-in_err-read_component-clause-exact : goal.returns-in_err-read_component-clause-exact
 returns-in_err-read_component-clause-exact c =

@@ -1,11 +1,6 @@
-use Rattle.std.proofs.Common.{◌≡◌, length, Result, Ok, Err, sym, ◌∙◌, subst}
-use Rattle.std.specs.Prelude.{MatchResult}
+use Rattle.std.proofs.Common.{length}
 use Rattle.std.specs.List.{AllZip}
-use Rattle.jk_math.specs.Answer.{Refuses, Answers}
-use Rattle.jk_math.specs.Memory.{IsMemory}
 use Rattle.jk_math.specs.Steps.{if_ok_answers}
-use Rattle.jk_math.specs.declared.fault.Fault.{Fault}
-use Rattle.jk_math.specs.declared.fault.Fault.TheVariants.{Memory}
 use Rattle.jk_walk.specs.TilePackets.{shape_in}
 use Rattle.jk_params.specs.Headers.{tile_in}
 use Rattle.jk_walk.specs.WalkReading.{packets_at, IsPlaced, StandAt, ArePlaces}

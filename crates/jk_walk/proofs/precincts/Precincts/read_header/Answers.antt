@@ -1,9 +1,10 @@
 use Rattle.std.proofs.Common.{◌≡◌, ℕ, List, length, Result, Ok, Err, sym, ◌∙◌, subst}
 use Rattle.std.specs.Prelude.{OnOk}
-use Rattle.jk_math.specs.Answer.{ReadsBy}
+use Rattle.jk_math.specs.Answer.{Answers, ReadsBy}
 use Rattle.jk_math.specs.declared.fault.Fault.{Fault}
 use Rattle.jk_packet.specs.declared.header.Header.{Header}
 use Rattle.jk_packet.specs.Reading.{PrecinctState, text_of, header_at}
+use Rattle.jk_walk.specs.Keeping.{alone}
 use Rattle.jk_walk.proofs.KeptLaws.{rows_count, row_there, before_at, after_at, others_at}
 use Rattle.jk_walk.proofs.precincts.Precincts.read_header.Goals as goal
 
@@ -27,10 +28,24 @@ returns-clause-exact c =
     let at = c.row_of-row.ensures in
     let count = rows_count c.args.self.now sop eph vs c.self.view_is in
     let few = row_there s n (length vs) row c.requires.shape c.requires.name (sym c.requires.kept ∙ count) at in
+    subst (λ (x : PrecinctState). Answers text_of c.read_in.result (alone (header_at n.layer c.args.bytes.now x)))
+    (sym (before_at s c.args.self.now sop eph vs n.component n.resolution n.precinct row c.index_mut.result.now at c.self.view_is few c.index_mut.ensures.value)) c.read_in.ensures.exact
+
+pub returns-clause-early : goal.returns-clause-early
+returns-clause-early c = λ early.
+    let s = c.args.shape.now in
+    let n = c.args.name in
+    let sop = c.self.inside.markers.sop in
+    let eph = c.self.inside.markers.eph in
+    let vs = c.self.inside.resolutions.items in
+    let row = c.row_of-row.result in
+    let at = c.row_of-row.ensures in
+    let count = rows_count c.args.self.now sop eph vs c.self.view_is in
+    let few = row_there s n (length vs) row c.requires.shape c.requires.name (sym c.requires.kept ∙ count) at in
     reads_same n.layer c.args.bytes.now _ _ _ _ c.read_in.result
     (sym (before_at s c.args.self.now sop eph vs n.component n.resolution n.precinct row c.index_mut.result.now at c.self.view_is few c.index_mut.ensures.value))
     (sym (after_at s sop eph vs n.component n.resolution n.precinct row c.read_in.new.slots at few))
-    c.read_in.ensures.exact
+    (c.read_in.ensures.early early)
 
 pub returns-clause-others : goal.returns-clause-others
 returns-clause-others c =
