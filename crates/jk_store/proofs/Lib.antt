@@ -8,3 +8,4 @@ pub mod JudgingLaws
 pub mod ShowingLaws
 pub mod AddedLaws
 pub mod MadeLaws
+pub mod PartsLaws

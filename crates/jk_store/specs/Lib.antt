@@ -4,6 +4,7 @@ pub mod Files
 pub mod Counting
 pub mod Memories
 pub mod Names
+pub mod Parts
 pub mod Catalogue
 pub mod Adding
 pub mod Opening

@@ -13,6 +13,7 @@ use Rattle.jk_web.specs.declared.query.Asked.{Asked}
 use Rattle.jk_web.specs.Images.{Image}
 use Rattle.jk_store.specs.Files.{Files}
 use Rattle.jk_store.specs.Names.{file_name}
+use Rattle.jk_store.specs.Parts.{part_digests}
 use Rattle.jk_store.specs.Counting.{last_count}
 use Rattle.jk_store.specs.Catalogue.{entry_of, IsFileOf, IsOtherFile, IsCutFrom, WasForeign}
 use Rattle.jk_store.specs.declared.entry.Entry.{Entry}
@@ -44,6 +45,7 @@ pub record ShowsImage (e : Entry) (i : Image) : Type 0 where
   pub name : i.name ≡ string_bytes e.name
   pub line : i.line ≡ line_of e
   pub digest : e.digest ≡ sha256 i.file
+  pub parts : e.parts.items ≡ part_digests i.file
   pub index : IsIndexOf i.file e.index
   pub cut : (asked : Asked) → i.cut asked ≡ given_of (cut_file index (view_of asked))
 
@@ -72,9 +74,10 @@ Broke failed gave entries old n new =
 abbrev pub Reads : {S : Type 0} → (S → List ℕ → List ℕ → S → Type 0) → List Entry → S → List ℕ → List ℕ → S → Type 0
 Reads gave entries old n file new = (e : Entry) × (entry_of entries n ≡ Some e) × IsFileOf gave e old file new
 
--- The second file is the window of the first, cut with the index of the entry of a name.
-abbrev pub Cuts : List Entry → List ℕ → Asked → List ℕ → List ℕ → Type 0
-Cuts entries n asked file cut = (e : Entry) × (entry_of entries n ≡ Some e) × IsCutFrom e.index (view_of asked) file cut
+-- Between two states the shelf gave a file under the name of the entry that has the entry's digest,
+-- and this is the window of it.
+abbrev pub Cuts : {S : Type 0} → (S → List ℕ → List ℕ → S → Type 0) → List Entry → S → List ℕ → Asked → S → List ℕ → Type 0
+Cuts gave entries old n asked new cut = (e : Entry) × (file : List ℕ) × (entry_of entries n ≡ Some e) × IsFileOf gave e old file new × IsCutFrom e.index (view_of asked) file cut
 
 -- Such a cut may have been made for the entry of a name: of some file that has the entry's digest, cut with its index.
 abbrev pub MayBeMade : List Entry → List ℕ → Asked → List ℕ → Type 0

@@ -19,11 +19,13 @@ use jk_window::{Index, View};
 use sha2::{Digest, Sha256};
 use std::alloc::Global;
 
-/// An image of an archive: its name, and the SHA-256 and the index of its file.
+/// An image of an archive: its name, and of its file the SHA-256, the SHA-256 of each 2^14 bytes
+/// (the last may be fewer), and the index.
 #[derive(Drop)]
 pub struct Entry {
     pub name: String,
     pub digest: [u8; 32],
+    pub parts: Vec<[u8; 32]>,
     pub index: Index,
 }
 

@@ -10,6 +10,7 @@ mod judging;
 mod memory;
 mod names;
 mod opening;
+mod parts;
 mod shelf;
 mod showing;
 mod skipped;

@@ -94,7 +94,7 @@ fn window_of<S: Shelf>(
     asked: Asked,
 ) -> Result<Vec<u8>, Fault>
     ensures gives { (images : List Image) → ShowImages (map arc_value entries.now) images → MatchResult result
-        (λ v. IsCutGiven (image_of name.now images) asked (Reads S.gave (map arc_value entries.now)) (λ _. Cuts (map arc_value entries.now)) shelf.old name.now shelf.new v.items)
+        (λ v. IsCutGiven (image_of name.now images) asked (Cuts S.gave (map arc_value entries.now)) shelf.old name.now shelf.new v.items)
         (λ e. MayRefuse (image_of name.now images) (Broke S.failed S.gave (map arc_value entries.now) shelf.old name.now shelf.new)
         (HasNoCut (image_of name.now images) asked) e) }
     ensures same { (images : List Image) → ShowImages (map arc_value entries.now) images → AreKept S.keeps shelf.old images
@@ -122,7 +122,7 @@ impl<S: Shelf> Catalogue for Archive<S> {
 
     ghost reads = { λ a n file b. Reads S.gave (map arc_value a.entries.items) a.shelf n file b.shelf };
 
-    ghost cuts = { λ a n asked file cut. Cuts (map arc_value a.entries.items) n asked file cut };
+    ghost cuts = { λ a n asked b cut. Cuts S.gave (map arc_value a.entries.items) a.shelf n asked b.shelf cut };
 
     ghost made = { λ a. MayBeMade (map arc_value a.entries.items) };
 

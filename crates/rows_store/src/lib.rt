@@ -22,6 +22,8 @@ mod loopback;
 #[cfg(test)]
 mod opening;
 #[cfg(test)]
+mod parts;
+#[cfg(test)]
 mod reading;
 #[cfg(test)]
 mod serving;

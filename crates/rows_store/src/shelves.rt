@@ -50,6 +50,8 @@ impl Shelf for Acting {
 
     ghost gave = { λ _ _ _ _. Unit {0} };
 
+    ghost gave_at = { λ _ _ _ _ _ _. Unit {0} };
+
     ghost lists = { λ _ _ _. Unit {0} };
 
     ghost failed = { λ s. s.failures.count };
@@ -75,6 +77,29 @@ impl Shelf for Acting {
             return Ok(bytes);
         }
         let answer = self.inner.read(alloc, name);
+        self.failures.counted(answer)
+    }
+
+    fn read_at(
+        &mut self,
+        alloc: Global,
+        name: &str,
+        start: u64,
+        most: usize,
+    ) -> Result<Vec<u8>, Fault> {
+        self.failures.ready()?;
+        let changes = self.act == Act::Change;
+        if self.acts(self.act) {
+            if !changes {
+                return Err(self.failures.fail());
+            }
+            let mut bytes = self
+                .failures
+                .counted(self.inner.read_at(alloc, name, start, most))?;
+            bytes.push(0)?;
+            return Ok(bytes);
+        }
+        let answer = self.inner.read_at(alloc, name, start, most);
         self.failures.counted(answer)
     }
 
@@ -113,6 +138,8 @@ impl Shelf for Many {
 
     ghost gave = { λ _ _ _ _. Unit {0} };
 
+    ghost gave_at = { λ _ _ _ _ _ _. Unit {0} };
+
     ghost lists = { λ _ _ _. Unit {0} };
 
     ghost failed = { λ _. 0 };
@@ -127,6 +154,18 @@ impl Shelf for Many {
 
     fn read(&mut self, alloc: Global, _name: &str) -> Result<Vec<u8>, Fault> {
         Ok(Vec::from_slice(alloc, &self.bytes)?)
+    }
+
+    fn read_at(
+        &mut self,
+        alloc: Global,
+        _name: &str,
+        start: u64,
+        most: usize,
+    ) -> Result<Vec<u8>, Fault> {
+        let start = start.min(self.bytes.len() as u64) as usize;
+        let rest = &self.bytes[start..];
+        Ok(Vec::from_slice(alloc, &rest[..most.min(rest.len())])?)
     }
 
     fn write(&mut self, _alloc: Global, _name: &str, _bytes: &[u8]) -> Result<(), Fault> {

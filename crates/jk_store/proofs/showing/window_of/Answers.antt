@@ -6,7 +6,7 @@ use Rattle.jk_window.specs.Cutting.{cut_file}
 use Rattle.jk_window.specs.Views.{HasWindow}
 use Rattle.jk_web.specs.Images.{image_of}
 use Rattle.jk_store.specs.Catalogue.{entry_of, IsCutFrom, IsWindowGiven}
-use Rattle.jk_store.specs.Showing.{Broke, Reads, Cuts}
+use Rattle.jk_store.specs.Showing.{Broke, Cuts}
 use Rattle.jk_store.proofs.ShowingLaws.{absent_image, shown_at, kept_file, keeps_on, window_given, window_kept}
 use Rattle.jk_store.proofs.showing.window_of.Goals as goal
 
@@ -17,11 +17,11 @@ returns-in-Some-clause-gives g c = λ images shows.
     let e = c.deref.result.now in
     let is : entry_of entries n ≡ Some e = sym c.in-Some.ensures ∙ ap Some (sym c.deref.ensures) in
     let at = shown_at n entries e images shows is in
-    window_given (image_of n images) at.image e c.args.asked (λ f. Reads g.S.Shelf.gave entries c.args.shelf.now n f c.window.new.shelf) (Cuts entries n c.args.asked)
+    window_given (image_of n images) at.image e c.args.asked (λ cut. Cuts g.S.Shelf.gave entries c.args.shelf.now n c.args.asked c.window.new.shelf cut)
     (Broke g.S.Shelf.failed g.S.Shelf.gave entries c.args.shelf.now n c.window.new.shelf)
     c.window.result (g.S.Shelf.failed c.args.shelf.now) (g.S.Shelf.failed c.window.new.shelf) at.is at.shows
     (if_ok c.window.result
-    (λ w given. let made = subst (λ v. IsCutFrom e.index v given.0 w.items) c.view.ensures given.2 in (given.0, (e, is, given.1), (e, is, made), made))
+    (λ w given. (e, given.0, is, given.1, subst (λ v. IsCutFrom e.index v given.0 w.items) c.view.ensures given.2))
     c.window.ensures.given)
     (subst (λ v. c.window.result ≡ Err BadWindow → HasWindow e.index.headers v → ⊥) c.view.ensures c.window.ensures.bad)
     (λ x. inr (e, is, c.window.ensures.changed x)) c.window.ensures.counts (λ failed. inl failed)
