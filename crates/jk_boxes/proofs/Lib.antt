@@ -5,5 +5,5 @@ pub mod HeaderLaws
 pub mod WalkLaws
 pub mod FileLaws
 pub mod WrittenLaws
-pub mod ClosingLaws
+pub mod FormLaws
 pub mod Laws

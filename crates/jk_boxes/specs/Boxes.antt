@@ -1,6 +1,7 @@
 -- The boxes of a JP2 file (T.800 Annex I). A file is spelled, not read: the boxes are given, and their text is the file.
 use Rattle.std.specs.Prelude.{◌≡◌, ℕ, ◌+◌, ◌<◌, ◌^◌, ◌≢◌, ◌⊎◌, ◌==◌, Bool, true, false, List, [], ◌∷◌, ◌++◌, length, slice_index}
 use Rattle.std.specs.List.{flat_map, list_any, AllByRecursion}
+use Rattle.std.proofs.Common.{inl, inr}
 use Rattle.byteorder.specs.Endian.{big_bytes}
 use Rattle.jk_boxes.specs.declared.boxes.Form.{Form}
 use Rattle.jk_boxes.specs.declared.boxes.Form.TheVariants.{Short, Long, Open}
@@ -148,3 +149,8 @@ jp2_place j = record { start = length (text_before j) + head_size j.code.form; e
 -- the bytes hold this codestream at this place
 abbrev pub HoldsAt : List ℕ → List ℕ → Boxed → Type 0
 HoldsAt bytes codestream b = (IsBare bytes codestream × (b ≡ bare_place bytes)) ⊎ ((j : IsJp2 bytes codestream) × (b ≡ jp2_place j))
+
+-- how the length of the codestream box is told; Open where there is none
+abbrev pub form_of : {bytes codestream : List ℕ} {place : Boxed} → HoldsAt bytes codestream place → Form
+form_of (inl bare) = Open
+form_of (inr jp2) = jp2.0.code.form

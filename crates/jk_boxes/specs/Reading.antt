@@ -115,3 +115,7 @@ boxes_at bytes =
     if nat_lt (length bytes) 2 then Err Truncated
     else (if starts_with nat_eq bytes soc then Ok (record { start = 0; end = length bytes; jp2 = false })
     else (jp2_at bytes >>= λ place. Ok (record { start = place.start; end = place.end; jp2 = true })))
+
+-- how the length of the codestream box is told; Open where there is none
+unfoldable pub form_at : List ℕ → Result Form Fault
+form_at bytes = if starts_with nat_eq bytes soc then Ok Open else (jp2_at bytes >>= λ place. Ok place.form)

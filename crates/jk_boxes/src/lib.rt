@@ -2,10 +2,11 @@
 #![tactic(auto)]
 
 mod boxes;
-mod closing;
+mod head;
 mod place;
 mod writing;
 
-pub use closing::close_codestream;
+pub use boxes::Form;
+pub use head::{code_form, code_head};
 pub use place::{Boxed, open};
 pub use writing::{box_front, replace_codestream, wrap};

@@ -128,7 +128,7 @@ pub fn code_place(file: &[u8]) -> Result<CodePlace, Fault>
 }
 
 /// Whether a file is a bare codestream.
-fn is_bare(file: &[u8]) -> bool
+pub(crate) fn is_bare(file: &[u8]) -> bool
     ensures { result ≡ starts_with nat_eq file.now soc }
 {
     file.starts_with(&SOC)

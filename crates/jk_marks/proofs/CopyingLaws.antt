@@ -17,7 +17,7 @@ use Rattle.jk_marks.specs.Markers.{soc, siz, cod, coc, qcd, qcc, tlm, plt, sot, 
 use Rattle.jk_marks.specs.Siz.{siz_text, siz_length, grid_text, component_text}
 use Rattle.jk_marks.specs.Segments.{Segment, CodSegment, CocSegment, QcdSegment, QccSegment, Passed, Alone, IsSegment, contents, segment_body, segment_text, marker_of, is_passed, is_foreign}
 use Rattle.jk_marks.specs.Codestream.{Part, main_text, sot_text, part_text, part_length, psot, heading_of, IsMain, IsPart, BeginsMain, BeginsWith}
-use Rattle.jk_marks.specs.Copying.{is_passed_as, kept_segments, part_with, segment_size, kept_front, kept_at, size_at, main_kept_at, main_size_at, part_kept_at, psot_at, part_head_at, part_name_at}
+use Rattle.jk_marks.specs.Copying.{is_passed_as, kept_segments, part_with, segment_size, kept_front, kept_at, size_at, main_kept_at, main_size_at, part_kept_at}
 use Rattle.jk_marks.proofs.SegmentLaws.{coc_length, style_length, precincts_few}
 use Rattle.jk_marks.proofs.HeadLaws.{apart}
 use Rattle.jk_marks.proofs.HeadAgain.{EndsHeader, alone_not_passed, not_last, narrow_marker}
@@ -296,19 +296,10 @@ main_sized bytes s ss is begins =
 
 -- ---- a tile-part
 
-sot_front : (tile size number total : ℕ) (r : List ℕ) → take 6 (sot_text tile size number total ++ r) ≡ marker_text sot ++ (big_bytes 2 10 ++ big_bytes 2 tile)
-sot_front tile size number total r = refl
-
-sot_size : (tile size number total : ℕ) (r : List ℕ) → drop 6 (sot_text tile size number total ++ r) ≡ big_bytes 4 size ++ (big_bytes 1 number ++ (big_bytes 1 total ++ r))
-sot_size tile size number total r = refl
-
-sot_numbers : (tile size number total : ℕ) (r : List ℕ) → take 2 (drop 10 (sot_text tile size number total ++ r)) ≡ big_bytes 1 number ++ big_bytes 1 total
-sot_numbers tile size number total r = refl
-
 sot_rest : (tile size number total : ℕ) (r : List ℕ) → drop 12 (sot_text tile size number total ++ r) ≡ r
 sot_rest tile size number total r = refl
 
-part_rest : (bytes : List ℕ) (p : Part) → (begins : BeginsWith bytes p)
+pub part_rest : (bytes : List ℕ) (p : Part) → (begins : BeginsWith bytes p)
     → bytes ≡ sot_text p.tile (psot p) p.number p.total ++ (flat_map segment_text p.segments ++ (marker_text sod ++ (p.content ++ begins.others)))
 unfolding part_text
 part_rest bytes p begins =
@@ -317,7 +308,7 @@ part_rest bytes p begins =
 pub part_long : (bytes : List ℕ) (p : Part) → BeginsWith bytes p → 12 ≤ length bytes
 part_long bytes p begins = omega (arith, ap (λ (x : List ℕ). length x) (part_rest bytes p begins))
 
-part_kept : (siz : Siz) (bytes : List ℕ) (p : Part) → IsPart siz p → BeginsWith bytes p → part_kept_at bytes ≡ flat_map segment_text (kept_segments plt p.segments)
+pub part_kept : (siz : Siz) (bytes : List ℕ) (p : Part) → IsPart siz p → BeginsWith bytes p → part_kept_at bytes ≡ flat_map segment_text (kept_segments plt p.segments)
 part_kept siz bytes p is begins =
     let tail = marker_text sod ++ (p.content ++ begins.others) in
     let rest = flat_map segment_text p.segments ++ tail in
@@ -327,90 +318,8 @@ part_kept siz bytes p is begins =
     ap (λ (x : List ℕ). kept_at (length x) sod plt x) after
     ∙ segments_kept (length rest) (heading_of p.number) siz.components sod plt p.segments (p.content ++ begins.others) plt_out (ends_part p.number) is.well_formed.each (omega (arith, long, many_bytes p.segments))
 
--- whether Psot leaves the part open
-open_is : (b : Bool) (n : ℕ) → 0 < n → eqb (cond b 0 n) 0 ≡ b
-open_is true n some = refl
-open_is false n some = ne_eqb _ _ (λ z. omega (arith, z, some))
-
-pub psot_again : (siz : Siz) (bytes : List ℕ) (p : Part) (content : List ℕ) (size : ℕ) → IsPart siz p → BeginsWith bytes p → length content ≡ size → psot_at bytes size ≡ psot (part_with p content)
-psot_again siz bytes p content size is begins long =
-    let kept = flat_map segment_text (kept_segments plt p.segments) in
-    let rest = flat_map segment_text p.segments ++ (marker_text sod ++ (p.content ++ begins.others)) in
-    let fits = is.fits in
-    let number : big_number 4 (drop 6 bytes) ≡ psot p =
-    ap (λ (x : List ℕ). big_number 4 (drop 6 x)) (part_rest bytes p begins) ∙ ap (big_number 4) (sot_size p.tile (psot p) p.number p.total rest)
-    ∙ big_number-reads_back 4 (psot p) (big_bytes 1 p.number ++ (big_bytes 1 p.total ++ rest)) (omega (arith, fits)) in
-    let test : eqb (big_number 4 (drop 6 bytes)) 0 ≡ p.is_open = ap (λ n. eqb n 0) number ∙ open_is p.is_open (part_length p) (omega arith) in
-    let sum : 14 + length (part_kept_at bytes) + size ≡ 14 + length kept + length content = omega (arith, ap (λ (x : List ℕ). length x) (part_kept siz bytes p is begins), long) in
-    ap (λ b. cond b 0 (14 + length (part_kept_at bytes) + size)) test ∙ ap (λ n. cond p.is_open 0 n) sum
-
-part_again : (p : Part) → part_text p ≡ sot_text p.tile (psot p) p.number p.total ++ (flat_map segment_text p.segments ++ (marker_text sod ++ p.content))
-unfolding part_text
-part_again p = refl
-
-joined_head : (a b c d e content : List ℕ) → (a ++ (b ++ (c ++ (d ++ e)))) ++ content ≡ a ++ (b ++ (c ++ (d ++ (e ++ content))))
-joined_head a b c d e content = simp append_assoc
-
-sot_joined : (tile size number total : ℕ) (r : List ℕ)
-    → (marker_text sot ++ (big_bytes 2 10 ++ big_bytes 2 tile)) ++ (big_bytes 4 size ++ ((big_bytes 1 number ++ big_bytes 1 total) ++ r)) ≡ sot_text tile size number total ++ r
-sot_joined tile size number total r = refl
-
--- The header that is written, and data of that size.
-pub part_head_is : (siz : Siz) (bytes : List ℕ) (p : Part) (content : List ℕ) (size : ℕ) → IsPart siz p → BeginsWith bytes p → length content ≡ size → part_head_at bytes size ++ content ≡ part_text (part_with p content)
-part_head_is siz bytes p content size is begins long =
-    let rest = flat_map segment_text p.segments ++ (marker_text sod ++ (p.content ++ begins.others)) in
-    let kept = flat_map segment_text (kept_segments plt p.segments) in
-    let text = part_rest bytes p begins in
-    let front : take 6 bytes ≡ marker_text sot ++ (big_bytes 2 10 ++ big_bytes 2 p.tile) = ap (take 6) text ∙ sot_front p.tile (psot p) p.number p.total rest in
-    let numbers : take 2 (drop 10 bytes) ≡ big_bytes 1 p.number ++ big_bytes 1 p.total = ap (λ (x : List ℕ). take 2 (drop 10 x)) text ∙ sot_numbers p.tile (psot p) p.number p.total rest in
-    let size-is = psot_again siz bytes p content size is begins long in
-    let kept-is = part_kept siz bytes p is begins in
-    let q = part_with p content in
-    joined_head (take 6 bytes) (big_bytes 4 (psot_at bytes size)) (take 2 (drop 10 bytes)) (part_kept_at bytes) (marker_text sod) content
-    ∙ ap (λ (x : List ℕ). x ++ (big_bytes 4 (psot_at bytes size) ++ (take 2 (drop 10 bytes) ++ (part_kept_at bytes ++ (marker_text sod ++ content))))) front
-    ∙ ap (λ n. (marker_text sot ++ (big_bytes 2 10 ++ big_bytes 2 p.tile)) ++ (big_bytes 4 n ++ (take 2 (drop 10 bytes) ++ (part_kept_at bytes ++ (marker_text sod ++ content))))) size-is
-    ∙ ap (λ (x : List ℕ). (marker_text sot ++ (big_bytes 2 10 ++ big_bytes 2 p.tile)) ++ (big_bytes 4 (psot q) ++ (x ++ (part_kept_at bytes ++ (marker_text sod ++ content))))) numbers
-    ∙ ap (λ (x : List ℕ). (marker_text sot ++ (big_bytes 2 10 ++ big_bytes 2 p.tile)) ++ (big_bytes 4 (psot q) ++ ((big_bytes 1 p.number ++ big_bytes 1 p.total) ++ (x ++ (marker_text sod ++ content))))) kept-is
-    ∙ sot_joined p.tile (psot q) p.number p.total (kept ++ (marker_text sod ++ content))
-    ∙ sym (part_again q)
-
--- ---- the name of a tile-part
-
-pub name_again : (siz : Siz) (bytes : List ℕ) (p : Part) → IsPart siz p → BeginsWith bytes p → part_name_at bytes ≡ Some (p.tile, p.number)
-unfolding part_name_at
-name_again siz bytes p is begins =
-    let rest = flat_map segment_text p.segments ++ (marker_text sod ++ (p.content ++ begins.others)) in
-    let text = part_rest bytes p begins in
-    let narrow = is.narrow in
-    let few = is.number in
-    let more = big_bytes 2 10 ++ (big_bytes 2 p.tile ++ (big_bytes 4 (psot p) ++ (big_bytes 1 p.number ++ (big_bytes 1 p.total ++ rest)))) in
-    let long : ltb (length bytes) 12 ≡ false = le-ltb _ _ (part_long bytes p begins) in
-    let marker : big_number 2 bytes ≡ sot = ap (big_number 2) text ∙ big_number-reads_back 2 sot more (lit< tt) in
-    let tile : big_number 2 (drop 4 bytes) ≡ p.tile =
-    ap (λ (x : List ℕ). big_number 2 (drop 4 x)) text ∙ big_number-reads_back 2 p.tile (big_bytes 4 (psot p) ++ (big_bytes 1 p.number ++ (big_bytes 1 p.total ++ rest))) (omega (arith, narrow)) in
-    let number : get_or bytes 10 0 ≡ p.number = ap (λ (x : List ℕ). get_or x 10 0) text ∙ mod-eq_of_lt (omega (arith, few)) in
-    rw (long, marker, tile, number) refl
-
-pub none_at_end : (bytes others : List ℕ) → bytes ≡ marker_text eoc ++ others → part_name_at bytes ≡ None
-unfolding part_name_at
-none_at_end bytes others e =
-    let marker : big_number 2 bytes ≡ eoc = ap (big_number 2) e ∙ big_number-reads_back 2 eoc others (lit< tt) in
-    elim (cases_Bool (ltb (length bytes) 12)) [
-      | inl short ↦ rw short refl
-      | inr long ↦ rw (long, marker) refl
-    ]
-
 -- ---- what holds where a call succeeds
 
 pub on_ok_map : {A : Type 0} {P Q : Type 0} (r : Result A Fault) → (P → Q) → OnOk r P → OnOk r Q
 on_ok_map (Ok x) f h = f h
 on_ok_map (Err e) f h = tt
-
--- a header that was appended, and data of that size behind it
-pub head_appended : (siz : Siz) (bytes : List ℕ) (p : Part) (content : List ℕ) (size n : ℕ) (old new : List ℕ) → IsPart siz p → BeginsWith bytes p → length content ≡ size → n ≡ psot_at bytes size
-    → new ≡ old ++ (take 6 bytes ++ (big_bytes 4 n ++ (take 2 (drop 10 bytes) ++ (part_kept_at bytes ++ marker_text sod)))) → new ++ content ≡ old ++ part_text (part_with p content)
-head_appended siz bytes p content size n old new is begins long same e =
-    ap (λ (x : List ℕ). x ++ content) e
-    ∙ ap (λ m. (old ++ (take 6 bytes ++ (big_bytes 4 m ++ (take 2 (drop 10 bytes) ++ (part_kept_at bytes ++ marker_text sod))))) ++ content) same
-    ∙ append_assoc old (part_head_at bytes size) content
-    ∙ ap (λ (x : List ℕ). old ++ x) (part_head_is siz bytes p content size is begins long)

@@ -18,4 +18,5 @@ pub mod WrittenMeans
 pub mod OneTree
 pub mod CopyingLoops
 pub mod CopyingLaws
+pub mod PartHeadLaws
 pub mod Laws

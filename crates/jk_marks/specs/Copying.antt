@@ -1,7 +1,7 @@
 -- Headers without the segments that tell lengths: TLM and PLT (T.800 A.7.1, A.7.3).
-use Rattle.std.specs.Prelude.{ℕ, zero, suc, ◌+◌, Bool, false, not, ◌==◌, nat_lt, if◌then◌else◌, List, [], ◌++◌, length, take, drop, filter, slice_index, Option, Some, None}
-use Rattle.byteorder.specs.Endian.{big_number, big_bytes}
-use Rattle.jk_marks.specs.Markers.{sot, sod, tlm, plt, is_alone, marker_text}
+use Rattle.std.specs.Prelude.{ℕ, zero, suc, ◌+◌, Bool, false, not, ◌==◌, nat_lt, if◌then◌else◌, List, [], ◌++◌, length, take, drop, filter}
+use Rattle.byteorder.specs.Endian.{big_number}
+use Rattle.jk_marks.specs.Markers.{sot, sod, tlm, plt, is_alone}
 use Rattle.jk_marks.specs.Segments.{Segment, CodSegment, CocSegment, QcdSegment, QccSegment, Passed, Alone}
 use Rattle.jk_marks.specs.Codestream.{Part}
 
@@ -53,14 +53,6 @@ size_at (suc n) last bytes =
 abbrev pub part_kept_at : List ℕ → List ℕ
 part_kept_at bytes = kept_at (length (drop 12 bytes)) sod plt (drop 12 bytes)
 
--- Psot of a tile-part without PLT, whose data have so many bytes; it stays open where it is
-abbrev pub psot_at : List ℕ → ℕ → ℕ
-psot_at bytes size = if big_number 4 (drop 6 bytes) == 0 then 0 else 14 + length (part_kept_at bytes) + size
-
--- the header of a tile-part without PLT, whose data have so many bytes
-abbrev pub part_head_at : List ℕ → ℕ → List ℕ
-part_head_at bytes size = take 6 bytes ++ (big_bytes 4 (psot_at bytes size) ++ (take 2 (drop 10 bytes) ++ (part_kept_at bytes ++ marker_text sod)))
-
 -- a main header without TLM
 abbrev pub main_kept_at : List ℕ → List ℕ
 main_kept_at bytes = take 2 bytes ++ kept_at (length (drop 2 bytes)) sot tlm (drop 2 bytes)
@@ -68,9 +60,3 @@ main_kept_at bytes = take 2 bytes ++ kept_at (length (drop 2 bytes)) sot tlm (dr
 -- how many bytes it takes with TLM
 abbrev pub main_size_at : List ℕ → ℕ
 main_size_at bytes = 2 + size_at (length (drop 2 bytes)) sot (drop 2 bytes)
-
--- The tile and the number of the tile-part that begins the bytes (A.4.2).
-unfoldable pub part_name_at : List ℕ → Option (ℕ × ℕ)
-part_name_at bytes =
-    if nat_lt (length bytes) 12 then None
-    else (if big_number 2 bytes == sot then Some (big_number 2 (drop 4 bytes), slice_index bytes 10) else None)

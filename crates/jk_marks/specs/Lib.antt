@@ -12,3 +12,4 @@ pub mod Codestream
 pub mod Reading
 pub mod HeaderReading
 pub mod Copying
+pub mod PartHeads

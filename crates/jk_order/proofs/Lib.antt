@@ -13,5 +13,6 @@ pub mod LayerLaws
 pub mod LengthLaws
 pub mod SlotLaws
 pub mod FirstLaws
+pub mod Naming
 mod Examples
 pub mod Laws

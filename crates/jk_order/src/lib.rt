@@ -2,6 +2,7 @@
 #![tactic(auto)]
 
 mod count;
+mod names;
 mod opening;
 mod packets;
 mod slots;
@@ -10,6 +11,7 @@ mod theorems;
 
 pub use count::packet_count;
 pub use jk_geom::PacketName;
+pub use names::packet_names;
 pub use packets::Packets;
 pub use slots::Slots;
 pub use theorems::{

@@ -44,36 +44,6 @@ recoded_fits bytes old new j short =
     let out = signature ++ boxes_text (j.file_type ∷ (j.early ++ (j.header ∷ (j.middle ++ (code ∷ j.after))))) in
     (out, ap (λ b. cond b (Ok out) (Err Limit)) fits)
 
--- ---- what a file holds
-
-pub bare_case : {bytes codestream : List ℕ} {place : Boxed} (holds : HoldsAt bytes codestream place) (new : List ℕ) → place.jp2 ≡ false → with_codestream holds new ≡ Ok new
-bare_case (inl bare) new other = refl
-bare_case (inr jp2) new other = absurd (true≢false (sym (ap (λ (b : Boxed). b.jp2) jp2.1) ∙ other))
-
-pub jp2_case : {bytes codestream : List ℕ} {place : Boxed} (holds : HoldsAt bytes codestream place) (new : List ℕ) (C : Type 0) → place.jp2 ≡ true → length new ≤ length codestream
-    → ((j : IsJp2 bytes codestream) (out : List ℕ) → with_codestream holds new ≡ recoded j new → recoded j new ≡ Ok out → C) → C
-jp2_case (inl bare) new C is short go = absurd (true≢false (sym is ∙ ap (λ (b : Boxed). b.jp2) bare.1))
-jp2_case {bytes} {codestream} (inr jp2) new C is short go = let fits = recoded_fits bytes codestream new jp2.0 short in go jp2.0 fits.0 refl fits.1
-
--- The file of a window, where the answer to each form of file is known.
-pub either_case : {bytes codestream : List ℕ} {place own : Boxed} (holds : HoldsAt bytes codestream place) (new : List ℕ) (C : Type 0) → own ≡ place → length new ≤ length codestream
-    → (own.jp2 ≡ false → with_codestream holds new ≡ Ok new → C) → ((j : IsJp2 bytes codestream) (out : List ℕ) → with_codestream holds new ≡ recoded j new → recoded j new ≡ Ok out → C) → C
-either_case {place = place} {own = own} holds new C same short bare jp2 = elim (cases_Bool own.jp2) [
-  | inl is ↦ jp2_case holds new C (sym (ap (λ (b : Boxed). b.jp2) same) ∙ is) short jp2
-  | inr other ↦ bare other (bare_case holds new (sym (ap (λ (b : Boxed). b.jp2) same) ∙ other))
-]
-
-pub refuses_ok : {A : Type 0} (e : Fault) (due : Result A Fault) (out : A) → due ≡ Ok out → Refuses e due → IsMemory e
-refuses_ok (Memory r) due out is h = tt
-refuses_ok e due out is h = absurd (let clash = sym is ∙ h in cc)
-
--- ---- what an index says
-
--- the codestream is what stands at the place
-pub codestream_here : (bytes : List ℕ) (i : IndexFields) (place : Boxed) (own : List ℕ) → (is : IsIndexOf bytes i) → place ≡ i.place → own ≡ slice_range bytes place.start place.end → own ≡ is.codestream
-codestream_here bytes i place own is same e =
-    e ∙ ap (λ (b : Boxed). slice_range bytes b.start b.end) same ∙ sym (place_again bytes is.codestream i.place is.holds).1
-
 -- ---- answers of the cut
 
 -- an index of the bytes is where they are opened
@@ -97,9 +67,6 @@ match_answers (Err e) due again same h = memory_refuses e again h
     memory_refuses : (e : Fault) (d : Result (List ℕ) Fault) → IsMemory e → Refuses e d
     memory_refuses (Memory r) d h = tt
     memory_refuses e d h = absurd h
-
-pub never_changed : (r : Result (Vec ℕ) Fault) (due : Result (List ℕ) Fault) → r ≡ Err Changed → MatchResult r (λ v. due ≡ Ok v.items) (λ e. IsMemory e) → ⊥
-never_changed r due e h = subst (λ (x : Result (Vec ℕ) Fault). MatchResult x (λ v. due ≡ Ok v.items) (λ e. IsMemory e)) e h
 
 pub same_flag : (a b : Bool) → a ≡ b → not (beq a b) ≡ true → ⊥
 same_flag true true e h = true≢false (sym h)

@@ -16,7 +16,7 @@ use Rattle.jk_window.proofs.FileLaws.{text_shorter}
 use Rattle.jk_window.proofs.PartsAgain.{IsShort, parts_short}
 use Rattle.jk_window.proofs.CutAgain.{front_short}
 
-short_parts : (content : ℕ → ℕ → List ℕ) (parts : List Part) → AllByRecursion (IsShort content) parts → length (parts_text content parts) ≤ length (flat_map part_text parts)
+pub short_parts : (content : ℕ → ℕ → List ℕ) (parts : List Part) → AllByRecursion (IsShort content) parts → length (parts_text content parts) ≤ length (flat_map part_text parts)
 short_parts content [] all = omega arith
 short_parts content (p ∷ parts) all =
     let more = short_parts content parts all.1 in

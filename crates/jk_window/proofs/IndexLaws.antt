@@ -3,7 +3,7 @@ use Rattle.std.proofs.Common.{◌≡◌, ℕ, zero, suc, ◌+◌, ◌-◌, ◌<�
 use Rattle.std.specs.Prelude.{slice_range}
 use Rattle.std.proofs.Math.Seq.{take-suc}
 use Rattle.std.proofs.lemmas.Bool.{cases_lt, cases_Bool, eqb-true, eq-eqb}
-use Rattle.std.proofs.lemmas.List.{take_all, get_or_append_left, get_or_push}
+use Rattle.std.proofs.lemmas.List.{take_all, get_or_append_left, get_or_push, length-take-le, length-drop}
 use Rattle.jk_math.specs.Answer.{◌>>=◌, Refuses}
 use Rattle.jk_math.specs.Steps.{bind_then, ok_is}
 use Rattle.jk_math.specs.declared.fault.Fault.{Fault}
@@ -15,9 +15,10 @@ use Rattle.jk_marks.specs.Codestream.{main_text, main_of}
 use Rattle.jk_marks.specs.HeaderReading.{main_at}
 use Rattle.jk_marks.proofs.Laws.{only_main, begins_main}
 use Rattle.jk_boxes.specs.declared.place.Boxed.{Boxed}
-use Rattle.jk_boxes.specs.Boxes.{Holds, HoldsAt, bare_place, jp2_place}
-use Rattle.jk_boxes.specs.Reading.{boxes_at}
-use Rattle.jk_boxes.proofs.Laws.{boxes_take, place_again}
+use Rattle.jk_boxes.specs.declared.boxes.Form.{Form}
+use Rattle.jk_boxes.specs.Boxes.{Holds, HoldsAt, bare_place, jp2_place, form_of}
+use Rattle.jk_boxes.specs.Reading.{boxes_at, form_at}
+use Rattle.jk_boxes.proofs.Laws.{boxes_take, place_again, form_found, in_file}
 use Rattle.jk_params.specs.Headers.{Headers, cod_for, AreHeaders}
 use Rattle.jk_params.specs.HeadersReading.{headers_at}
 use Rattle.jk_params.proofs.Laws.{found_headers, only_headers, sound_headers}
@@ -26,7 +27,9 @@ use Rattle.jk_walk.specs.TilePackets.{Packet}
 use Rattle.jk_walk.specs.WalkReading.{AreTilePackets}
 use Rattle.jk_walk.specs.Entries.{entries_at}
 use Rattle.jk_walk.proofs.Laws.{entries_found, entries_only, entries_within}
-use Rattle.jk_window.specs.Indexing.{IndexFields, entries_of, AreIndexed, HasRuns, IsIndexOf, HaveIndexes, entries_upto, fields_at, index_at}
+use Rattle.jk_window.specs.Framing.{Frame, frame_at}
+use Rattle.jk_window.proofs.FramingLaws.{frame_found, frame_only}
+use Rattle.jk_window.specs.Indexing.{IndexFields, entries_of, AreIndexed, HasRuns, IsIndexOf, IsIndex, HaveIndexes, entries_upto, fields_at, index_at}
 
 -- ---- the entries of all tiles
 
@@ -130,9 +133,10 @@ runs_found bytes h t entries are lt e =
     let tile = found.1 in
     (tile.runs, record { packets = subst (AreTilePackets bytes h t) (sym tile.whole) tile; cut = tile.cut })
 
-found_fields : (bytes codestream : List ℕ) (place : Boxed) (i : IndexFields) → AreBytes bytes → boxes_at bytes ≡ Ok place → codestream ≡ slice_range bytes place.start place.end → fields_at place codestream ≡ Ok i → IsIndexOf bytes i
+pub found_fields : (bytes codestream : List ℕ) (place : Boxed) (form : Form) (i : IndexFields) → AreBytes bytes → boxes_at bytes ≡ Ok place → form_at bytes ≡ Ok form → codestream ≡ slice_range bytes place.start place.end
+    → fields_at place form (length bytes) codestream ≡ Ok i → IsIndexOf bytes i
 unfolding fields_at
-found_fields bytes codestream place i fits opened here e =
+found_fields bytes codestream place form i fits opened told here e =
     let o = boxes_take bytes place fits opened in
     let own : AreBytes codestream = subst AreBytes (sym here) (are_bytes_taken (place.end - place.start) (drop place.start bytes) (are_bytes_after place.start bytes fits)) in
     bind_then (main_at codestream) _ i e (λ m read e.
@@ -145,10 +149,12 @@ found_fields bytes codestream place i fits opened here e =
     let same : m ≡ (main_of tree.siz tree.segments, length (main_text tree.siz tree.segments)) = ok_is m (main_of tree.siz tree.segments, length (main_text tree.siz tree.segments)) (sym read ∙ again) in
     let are = upto_found codestream h (tile_count h.siz) all kept in
     let runs = picked [] (HasRuns codestream h) (tile_count h.siz) (λ t lt. runs_found codestream h t (entries_of all t) sound lt (are.each t lt)) in
-    let made : IndexFields = record { place = place; layers = m.0.cod.layers; order = m.0.cod.order; headers = h; packets = all } in
+    let made : IndexFields = record { place = place; layers = m.0.cod.layers; order = m.0.cod.order; headers = h; packets = all; frame = frame_at codestream h form (length bytes) } in
+    let holds : HoldsAt bytes codestream place = subst (λ (c : List ℕ). HoldsAt bytes c place) (sym here) o.at in
+    let own_form : form ≡ form_of holds = ok_is form (form_of holds) (sym told ∙ form_found holds) in
     let index : IsIndexOf bytes made = record {
       codestream = codestream;
-      holds = subst (λ (c : List ℕ). HoldsAt bytes c place) (sym here) o.at;
+      holds = holds;
       says = is;
       layers = ap (λ (x : Main × ℕ). x.0.cod.layers) same;
       order = ap (λ (x : Main × ℕ). x.0.cod.order) same;
@@ -156,6 +162,7 @@ found_fields bytes codestream place i fits opened here e =
       tiles = runs.1;
       count = are.count;
       kept = are.each;
+      frame = frame_found holds h is form (length bytes) own_form refl;
     } in
     subst (IsIndexOf bytes) (ok_is made i e) index)))
 
@@ -163,7 +170,9 @@ found_fields bytes codestream place i fits opened here e =
 pub index_found : (bytes : List ℕ) (i : IndexFields) → AreBytes bytes → index_at bytes ≡ Ok i → IsIndexOf bytes i
 unfolding index_at
 index_found bytes i fits e =
-    bind_then (boxes_at bytes) _ i e (λ place opened e. found_fields bytes (slice_range bytes place.start place.end) place i fits opened refl e)
+    bind_then (boxes_at bytes) _ i e (λ place opened e.
+    bind_then (form_at bytes) _ i e (λ form told e.
+    found_fields bytes (slice_range bytes place.start place.end) place form i fits opened told refl e))
 
 placed : (bytes codestream : List ℕ) → Holds bytes codestream → (place : Boxed) × HoldsAt bytes codestream place
 placed bytes codestream (inl bare) = (bare_place bytes, inl (bare, refl))
@@ -178,7 +187,7 @@ has_index bytes codestream h holds says all =
     let sound = sound_headers codestream h says in
     let entries = upto_each codestream h (tile_count h.siz) (λ t lt. let p = all t lt in let only = entries_only codestream h t p.0 sound lt p.1 in (only.0, only.1)) in
     let cod = cod_for says.tree.segments [] in (
-      record { place = place.0; layers = cod.layers; order = cod.order; headers = h; packets = entries.0 },
+      record { place = place.0; layers = cod.layers; order = cod.order; headers = h; packets = entries.0; frame = frame_at codestream h (form_of place.1) (length bytes) },
       record {
         codestream = codestream;
         holds = place.1;
@@ -189,10 +198,11 @@ has_index bytes codestream h holds says all =
         tiles = runs.1;
         count = entries.1.count;
         kept = entries.1.each;
+        frame = frame_found place.1 h says (form_of place.1) (length bytes) refl refl;
       },
     )
 
-only_fields : (bytes : List ℕ) (i : IndexFields) → (is : IsIndexOf bytes i) → fields_at i.place is.codestream ≡ Ok i
+only_fields : (bytes : List ℕ) (i : IndexFields) → (is : IsIndexOf bytes i) → fields_at i.place (form_of is.holds) (length bytes) is.codestream ≡ Ok i
 unfolding fields_at
 only_fields bytes i is =
     let h = i.headers in
@@ -201,25 +211,52 @@ only_fields bytes i is =
     let headers = only_headers is.codestream h is.says in
     let kept = upto_only is.codestream h (tile_count h.siz) i.packets is.count is.kept in
     let cod = cod_for tree.segments [] in
-    rw (main, headers, kept) (λ j. Ok record { place = i.place; layers = sym is.layers j; order = sym is.order j; headers = h; packets = i.packets })
+    let found = frame_at is.codestream h (form_of is.holds) (length bytes) in
+    let frame : found ≡ i.frame = frame_only is.holds tree found i.frame (frame_found is.holds h is.says (form_of is.holds) (length bytes) refl refl) is.frame in
+    rw (main, headers, kept) (λ j. Ok record { place = i.place; layers = sym is.layers j; order = sym is.order j; headers = h; packets = i.packets; frame = frame j })
 
 -- An index of a file is read.
 pub index_only : (bytes : List ℕ) (i : IndexFields) → IsIndexOf bytes i → index_at bytes ≡ Ok i
 unfolding index_at
 index_only bytes i is =
     let p = place_again bytes is.codestream i.place is.holds in
-    rw p.0 (ap (fields_at i.place) (sym p.1) ∙ only_fields bytes i is)
+    rw (p.0, form_found is.holds) (ap (fields_at i.place (form_of is.holds) (length bytes)) (sym p.1) ∙ only_fields bytes i is)
 
 -- the codestream is as long as its place
 pub index_long : (bytes : List ℕ) (i : IndexFields) → (is : IsIndexOf bytes i) → AreHeaders (length is.codestream) i.headers
 index_long bytes i is = sound_headers is.codestream i.headers is.says
+
+-- What an index has lies in the codestream of its file.
+pub index_kept : (bytes : List ℕ) (i : IndexFields) → IsIndexOf bytes i → IsIndex i
+index_kept bytes i is =
+    let c = is.codestream in
+    let p = place_again bytes c i.place is.holds in
+    let there = in_file is.holds in
+    let order = there.order in
+    let inside = there.within in
+    let long : length c ≡ i.place.end - i.place.start =
+    ap (λ (xs : List ℕ). length xs) p.1 ∙ length-take-le (i.place.end - i.place.start) (drop i.place.start bytes) (omega (arith, order, inside, length-drop i.place.start bytes)) in
+    record {
+      within = subst (λ n. AreIndexed n i.headers i.packets) long
+          (entries_indexed c i.headers i.packets (sound_headers c i.headers is.says) (upto_only c i.headers (tile_count i.headers.siz) i.packets is.count is.kept));
+      bytes = bytes;
+      indexes = is;
+    }
 
 -- a refusal of one due is a refusal of another
 pub refuses_on : {A B : Type 0} (e : Fault) (due : Result A Fault) (again : Result B Fault) → Refuses e due → (due ≡ Err e → again ≡ Err e) → Refuses e again
 refuses_on (Memory r) due again h on = tt
 refuses_on e due again h on = on h
 
-pub fields_fail : (place : Boxed) (codestream : List ℕ) (m : Main × ℕ) (h : Headers) (e : Fault) → Ok m ≡ main_at codestream → headers_at codestream ≡ Ok h → entries_upto codestream h (tile_count h.siz) ≡ Err e
-    → fields_at place codestream ≡ Err e
+pub fields_fail : (place : Boxed) (form : Form) (size : ℕ) (codestream : List ℕ) (m : Main × ℕ) (h : Headers) (e : Fault) → Ok m ≡ main_at codestream → headers_at codestream ≡ Ok h → entries_upto codestream h (tile_count h.siz) ≡ Err e
+    → fields_at place form size codestream ≡ Err e
 unfolding fields_at
-fields_fail place codestream m h e main headers kept = rw (sym main, headers, kept) refl
+fields_fail place form size codestream m h e main headers kept = rw (sym main, headers, kept) refl
+
+-- the index of a file, once all of it is read
+pub fields_ok : (place : Boxed) (form : Form) (size : ℕ) (codestream : List ℕ) (m : Main × ℕ) (h : Headers) (all : List (List PacketEntry)) (f : Frame) → Ok m ≡ main_at codestream → headers_at codestream ≡ Ok h
+    → entries_upto codestream h (tile_count h.siz) ≡ Ok all → f ≡ frame_at codestream h form size
+    → fields_at place form size codestream ≡ Ok (record { place = place; layers = m.0.cod.layers; order = m.0.cod.order; headers = h; packets = all; frame = f })
+unfolding fields_at
+fields_ok place form size codestream m h all f main headers kept around =
+    rw (sym main, headers, kept) (λ j. Ok (record { place = place; layers = m.0.cod.layers; order = m.0.cod.order; headers = h; packets = all; frame = sym around j }))

@@ -2,11 +2,11 @@ pub mod Below
 pub mod HeaderFacts
 pub mod Stretches
 pub mod Levels
+pub mod FramingLaws
 pub mod IndexLaws
 pub mod Runs
-pub mod PieceLaws
+pub mod RunMatching
 pub mod Lengths
-pub mod PartsLaws
 pub mod EmptiedLaws
 pub mod FileLaws
 pub mod BoxLaws
@@ -18,5 +18,10 @@ pub mod PartsAgain
 pub mod CutAgain
 pub mod FrontFile
 pub mod NeededPlaces
+pub mod PacketPlans
+pub mod FramedFile
+pub mod PlanLaws
+pub mod PartPlans
+pub mod RunPlans
 pub mod Laws
 mod Examples

@@ -1,5 +1,5 @@
 -- What is kept of a file: where its codestream stands, what its headers say, and where each of its packets stands.
-use Rattle.std.specs.Prelude.{◌≡◌, ℕ, zero, suc, ◌<◌, min, List, [], ◌∷◌, ◌++◌, length, map, slice_range, slice_index_or, Result, Ok}
+use Rattle.std.specs.Prelude.{◌≡◌, ℕ, zero, suc, ◌-◌, ◌<◌, min, List, [], ◌∷◌, ◌++◌, length, map, slice_range, slice_index_or, Result, Ok}
 use Rattle.std.specs.List.{flat_map}
 use Rattle.jk_math.specs.Answer.{◌>>=◌}
 use Rattle.jk_math.specs.declared.fault.Fault.{Fault}
@@ -10,7 +10,8 @@ use Rattle.jk_marks.specs.HeaderReading.{main_at}
 use Rattle.jk_geom.specs.TileShapes.{coding_of}
 use Rattle.jk_boxes.specs.declared.place.Boxed.{Boxed}
 use Rattle.jk_boxes.specs.Boxes.{Holds, HoldsAt}
-use Rattle.jk_boxes.specs.Reading.{boxes_at}
+use Rattle.jk_boxes.specs.declared.boxes.Form.{Form}
+use Rattle.jk_boxes.specs.Reading.{boxes_at, form_at}
 use Rattle.jk_params.specs.Headers.{Headers, TileFields, tile_in, cod_for, IsHeaders, AreHeaders}
 use Rattle.jk_params.specs.HeadersReading.{headers_at}
 use Rattle.jk_walk.specs.declared.entries.PacketEntry.{PacketEntry}
@@ -18,15 +19,17 @@ use Rattle.jk_walk.specs.TilePackets.{slice_of, shape_in, Packet}
 use Rattle.jk_walk.specs.WalkReading.{AreTilePackets}
 use Rattle.jk_walk.specs.Entries.{entries_at, AreEntries}
 use Rattle.jk_window.specs.Emptied.{run_text}
+use Rattle.jk_window.specs.Framing.{Frame, IsFrameOf, frame_at}
 
--- where the codestream stands in the file, the layers and the order of the main header, what all headers say, and for each
--- tile the entries of its packets
+-- where the codestream stands in the file, the layers and the order of the main header, what all headers say, for each tile the
+-- entries of its packets, and what stands around the packets
 pub record IndexFields : Type 0 where
   pub place : Boxed
   pub layers : ℕ
   pub order : Order
   pub headers : Headers
   pub packets : List (List PacketEntry)
+  pub frame : Frame
 
 -- the entries of tile t
 abbrev pub entries_of : List (List PacketEntry) → ℕ → List PacketEntry
@@ -61,6 +64,13 @@ pub record IsIndexOf (bytes : List ℕ) (i : IndexFields) : Type 0 where
   pub tiles : (t : ℕ) → t < tile_count i.headers.siz → HasRuns codestream i.headers t (runs t)
   pub count : length i.packets ≡ tile_count i.headers.siz
   pub kept : AreEntriesOf codestream i.headers i.packets
+  pub frame : IsFrameOf holds says.tree i.frame
+
+-- The index of some file, and what it has lies in the codestream of that file.
+pub record IsIndex (i : IndexFields) : Type 0 where
+  pub within : AreIndexed (i.place.end - i.place.start) i.headers i.packets
+  pub bytes : List ℕ
+  pub indexes : IsIndexOf bytes i
 
 -- A file whose codestream has headers, and packets for each tile, has an index.
 abbrev pub HaveIndexes : Type 0
@@ -72,19 +82,27 @@ unfoldable pub entries_upto : List ℕ → Headers → ℕ → Result (List (Lis
 entries_upto bytes h zero = Ok []
 entries_upto bytes h (suc n) = entries_upto bytes h n >>= λ before. entries_at bytes h n >>= λ last. Ok (before ++ last ∷ [])
 
--- the index of a codestream at a place
-unfoldable pub fields_at : Boxed → List ℕ → Result IndexFields Fault
-fields_at place codestream = do
+-- the index of a codestream at a place of a file of so many bytes, the length of whose box is told so
+unfoldable pub fields_at : Boxed → Form → ℕ → List ℕ → Result IndexFields Fault
+fields_at place form size codestream = do
   main ← main_at codestream
   headers ← headers_at codestream
   packets ← entries_upto codestream headers (tile_count headers.siz)
-  Ok (record { place = place; layers = main.0.cod.layers; order = main.0.cod.order; headers = headers; packets = packets })
+  Ok (record {
+    place = place;
+    layers = main.0.cod.layers;
+    order = main.0.cod.order;
+    headers = headers;
+    packets = packets;
+    frame = frame_at codestream headers form size;
+  })
 
 -- the index of a file, or the first fault
 unfoldable pub index_at : List ℕ → Result IndexFields Fault
 index_at bytes = do
   place ← boxes_at bytes
-  fields_at place (slice_range bytes place.start place.end)
+  form ← form_at bytes
+  fields_at place form (length bytes) (slice_range bytes place.start place.end)
 
 -- the least number of decomposition levels of the first n components, and of the components of the first n tiles; 10 where
 -- there are none

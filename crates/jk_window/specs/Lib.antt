@@ -1,7 +1,9 @@
 pub mod Views
 pub mod Needs
 pub mod Emptied
+pub mod Framing
 pub mod Indexing
 pub mod Cutting
+pub mod Planning
 pub mod Again
 pub mod Fronts

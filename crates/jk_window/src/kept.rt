@@ -9,9 +9,12 @@ ghost use Rattle.jk_geom.specs.TileShapes.{AreCodings};
 ghost use Rattle.jk_params.specs.Headers.{AreHeaders, tile_in, packets_of};
 ghost use Rattle.jk_walk.specs.TilePackets.{shape_in};
 ghost use Rattle.jk_walk.specs.Entries.{AreEntries};
+ghost use Rattle.jk_math.specs.declared.rect.Rect.{Rect as Area};
 ghost use Rattle.jk_window.specs.Views.{HasWindow};
-ghost use Rattle.jk_window.specs.Indexing.{IndexFields, AreIndexed, entries_of, least_in, least_levels};
+ghost use Rattle.jk_window.specs.Planning.{IsSound, Fits};
+ghost use Rattle.jk_window.specs.Indexing.{IndexFields, IsIndex, entries_of, least_in, least_levels};
 
+use crate::around::Around;
 use crate::view::View;
 use crate::window::sees;
 use jk_boxes::Boxed;
@@ -25,8 +28,9 @@ use std::marker::Model;
 /// The most decomposition levels that a tile-component may have.
 const MOST_LEVELS: u8 = 10;
 
-/// What is kept of a file: where its codestream stands, what its headers say, and where each of its
-/// packets stands, in 32 bytes a packet.
+/// What is kept of a file: where its codestream stands, what its headers say, where each of its
+/// packets stands, in 32 bytes a packet, and what stands around them, in 16 bytes a tile-part and
+/// the bytes of the headers.
 #[derive(Debug, Drop)]
 pub struct Index {
     place: Boxed,
@@ -34,11 +38,11 @@ pub struct Index {
     order: Order,
     headers: Codestream,
     packets: Vec<TileEntries>,
+    around: Around,
 }
 
 impl Model for Index {
-    ghost use Rattle.std.specs.Prelude.{◌-◌};
-    ghost use Rattle.jk_window.specs.Indexing.{IndexFields, AreIndexed};
+    ghost use Rattle.jk_window.specs.Indexing.{IndexFields, IsIndex};
 
     ghost Value = { IndexFields };
 
@@ -48,9 +52,18 @@ impl Model for Index {
       order = i.order;
       headers = i.headers;
       packets = i.packets.items;
+      frame = i.around;
     } };
 
-    ghost invariant = { λ i. AreIndexed (i.place.end - i.place.start) i.headers i.packets.items };
+    // There is a file whose index it is.
+    ghost invariant = { λ i. IsIndex record {
+      place = i.place;
+      layers = i.layers;
+      order = i.order;
+      headers = i.headers;
+      packets = i.packets.items;
+      frame = i.around;
+    } };
 }
 
 /// The least number of decomposition levels of components, and 10 where there are none.
@@ -76,10 +89,24 @@ impl Index {
         order: Order,
         headers: Codestream,
         packets: Vec<TileEntries>,
+        around: Around,
     ) -> Index
-        requires { AreIndexed (place.end - place.start) headers packets.items }
-        ensures { result
-            ≡ record { place = place; layers = layers; order = order; headers = headers; packets = packets.items } }
+        requires { IsIndex record {
+            place = place;
+            layers = layers;
+            order = order;
+            headers = headers;
+            packets = packets.items;
+            frame = around;
+        } }
+        ensures { result ≡ record {
+            place = place;
+            layers = layers;
+            order = order;
+            headers = headers;
+            packets = packets.items;
+            frame = around;
+        } }
     {
         Index {
             place,
@@ -87,7 +114,17 @@ impl Index {
             order,
             headers,
             packets,
+            around,
         }
+    }
+
+    /// What stands around the packets.
+    pub(crate) fn around(&self) -> &Around
+        ensures value { result.now ≡ self.now.frame }
+        ensures sound { IsSound self.now }
+        ensures fits { (w : Area) (d : ℕ) → Fits self.now w d }
+    {
+        &self.around
     }
 
     /// Where the codestream stands in the file.

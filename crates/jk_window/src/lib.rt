@@ -2,20 +2,23 @@
 //! empty.
 #![tactic(auto)]
 
+mod around;
+mod contents;
 mod cutting;
 mod kept;
 mod need;
-mod parts;
-mod pieces;
+mod planning;
 mod reading;
+mod steps;
 mod theorems;
-mod tiles;
 mod view;
 mod window;
 
 pub use cutting::cut;
 pub use kept::Index;
 pub use need::needs;
+pub use steps::{CutPlan, CutStep};
+pub use planning::plan;
 pub use reading::index;
 pub use theorems::{
     emptied_codestreams_are_codestreams, emptied_tiles_are_tiles, stretches_hold_what_is_near,

@@ -1,13 +1,15 @@
 //! Indexing a file.
 
-ghost use Rattle.std.specs.Prelude.{◌≡◌, ◌-◌, length, IfOk, Ok};
+ghost use Rattle.std.specs.Prelude.{◌≡◌, ◌≤◌, length, slice_range, IfOk, Ok};
 ghost use Rattle.jk_math.specs.Answer.{Answers};
 ghost use Rattle.jk_marks.specs.Siz.{tile_count};
+ghost use Rattle.jk_boxes.specs.Reading.{boxes_at, form_at};
 ghost use Rattle.jk_params.specs.Headers.{AreHeaders};
 ghost use Rattle.jk_window.specs.Indexing.{IndexFields, IsIndexOf, AreIndexed, entries_upto, fields_at, index_at};
 
+use crate::around::read_around;
 use crate::kept::Index;
-use jk_boxes::{Boxed, open};
+use jk_boxes::{Boxed, Form, code_form, open};
 use jk_marks::read_main;
 use jk_math::Fault;
 use jk_params::{Codestream, read_codestream};
@@ -27,16 +29,23 @@ fn all_entries(alloc: Global, headers: &Codestream, bytes: &[u8]) -> Result<Vec<
     Ok(all)
 }
 
-/// The index of a codestream at a place.
+/// The index of a file, whose codestream stands at a place, and the length of whose box is told so.
 #[tactic(auto, unfolding(crate::specs::Indexing::fields_at))]
-fn read_index(alloc: Global, place: Boxed, bytes: &[u8]) -> Result<Index, Fault>
-    requires { place.end - place.start ≡ length bytes.now }
-    ensures { Answers (λ i. i) result (fields_at place bytes.now) }
+fn read_index(alloc: Global, file: &[u8], place: Boxed, form: Form) -> Result<Index, Fault>
+    requires opened { boxes_at file.now ≡ Ok place }
+    requires told { form_at file.now ≡ Ok form }
+    requires order { place.start ≤ place.end }
+    requires within { place.end ≤ length file.now }
+    ensures { Answers (λ i. i) result
+        (fields_at place form (length file.now) (slice_range file.now place.start place.end)) }
 {
+    let bytes = &file[place.start..place.end];
     let (main, _) = read_main(bytes)?;
     let headers = read_codestream(alloc, bytes)?;
     let packets = all_entries(alloc, &headers, bytes)?;
-    Ok(Index::new(place, main.cod.layers, main.cod.order, headers, packets))
+    let around = read_around(alloc, &headers, bytes, form, file.len())?;
+    let cod = &main.cod;
+    Ok(Index::new(place, cod.layers, cod.order, headers, packets, around))
 }
 
 /// The index of a file.
@@ -45,7 +54,8 @@ fn indexing(alloc: Global, bytes: &[u8]) -> Result<Index, Fault>
     ensures { Answers (λ i. i) result (index_at bytes.now) }
 {
     let place = open(bytes)?;
-    read_index(alloc, place, &bytes[place.start..place.end])
+    let form = code_form(bytes)?;
+    read_index(alloc, bytes, place, form)
 }
 
 /// The index of a file, bare or JP2: its boxes, all headers and all packets are read.

@@ -12,3 +12,6 @@ returns-clause-ok c = λ siz segments is begins.
 
 pub returns-clause-size : goal.returns-clause-size
 returns-clause-size c = λ siz segments is begins. if_ok c.copy_main_segments.result (λ n e. e ∙ main_sized c.args.bytes.now siz segments is begins) c.copy_main_segments.ensures.size
+
+pub returns-then-bytes-lt2-clause-exact : goal.returns-then-bytes-lt2-clause-exact
+returns-then-bytes-lt2-clause-exact c = λ some. absurd (omega (arith, some, c.if-bytes-lt2.true))

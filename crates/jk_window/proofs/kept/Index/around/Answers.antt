@@ -1,0 +1,11 @@
+use Rattle.std.proofs.Common.{subst}
+use Rattle.jk_window.specs.Indexing.{IndexFields}
+use Rattle.jk_window.specs.Planning.{IsSound, Fits}
+use Rattle.jk_window.proofs.FramedFile.{sound, fits}
+use Rattle.jk_window.proofs.kept.Index.around.Goals as goal
+
+pub returns-clause-sound : goal.returns-clause-sound
+returns-clause-sound c = subst (λ (i : IndexFields). IsSound i) c.self.view_is (sound c.self.invariant.bytes _ c.self.invariant.indexes)
+
+pub returns-clause-fits : goal.returns-clause-fits
+returns-clause-fits c = λ w d. subst (λ (i : IndexFields). Fits i w d) c.self.view_is (fits c.self.invariant.bytes _ c.self.invariant.indexes w d)

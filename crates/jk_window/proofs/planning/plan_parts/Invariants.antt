@@ -1,0 +1,6 @@
+use Rattle.std.proofs.Common.{◌≡◌, ◌+◌, ◌<◌, ◌++◌, ◌^◌, List, ℕ, length, drop}
+use Rattle.jk_window.proofs.PartPlans.{IsGoing}
+use Rattle.jk_window.proofs.planning.plan_parts.Given as goal
+
+abbrev pub invariant-loop-head : goal.invariant-loop-head
+invariant-loop-head l = IsGoing l.index l.window l.reduce l.initial.plan l.plan l.head-items l.head-index l.at

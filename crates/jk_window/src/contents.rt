@@ -1,0 +1,163 @@
+//! What a plan takes of the packets of a tile.
+
+ghost use Rattle.std.specs.Prelude.{◌≡◌, ◌+◌, ◌≤◌, ◌++◌, ◌∷◌, ℕ, List, length, map, IfOk, IfErr, OnOk};
+ghost use Rattle.std.specs.List.{AllByRecursion, AllZip};
+ghost use Rattle.jk_math.specs.Memory.{IsMemory};
+ghost use Rattle.jk_order.specs.PacketOrder.{IsName};
+ghost use Rattle.jk_packet.specs.PacketText.{eph_text};
+ghost use Rattle.jk_walk.specs.Entries.{IsEntry, AreEntries, span_in, entry_in};
+ghost use Rattle.jk_walk.specs.Sop.{sop_written};
+ghost use Rattle.jk_window.specs.Cutting.{runs_at, wanted};
+ghost use Rattle.jk_window.specs.Planning.{IsTileCut, IsRunPlan, IsBehind, tile_packet, tile_packet_size, run_from};
+
+use crate::need::needs;
+use crate::steps::CutPlan;
+use crate::window::is_empty;
+use jk_geom::{PacketName, TileShape};
+use jk_math::{Fault, Rect};
+use jk_order::Slots;
+use jk_walk::{PacketEntry, TileEntries};
+use std::alloc::Global;
+
+/// A tile of a file, and what of it is in a window.
+#[derive(Clone, Copy)]
+pub(crate) struct TileCut<'a> {
+    pub(crate) shape: &'a TileShape,
+    pub(crate) slots: &'a Slots,
+    pub(crate) entries: &'a TileEntries,
+    /// Whether EPH stands at the packets.
+    pub(crate) eph: bool,
+    /// Where the codestream begins in the file.
+    pub(crate) start: usize,
+    /// The window, as far as the reduced tile has it.
+    pub(crate) top: Rect,
+    pub(crate) reduce: u8,
+}
+
+/// Whether the window needs a packet.
+fn is_wanted(tile: &TileCut<'_>, name: PacketName) -> bool
+    requires cut { (file : ℕ) × IsTileCut file tile.now }
+    requires name { IsName tile.now.shape.now name }
+    ensures { result ≡ wanted tile.now.shape.now tile.now.top tile.now.reduce name }
+{
+    let shape = tile.shape;
+    if is_empty(&tile.top) {
+        return false;
+    }
+    let coding = &shape.codings.as_slice()[name.component as usize];
+    needs(
+        &shape.rect,
+        coding,
+        &tile.top,
+        tile.reduce,
+        name.resolution,
+        name.precinct,
+    )
+}
+
+/// The entry of a packet.
+fn entry_of(tile: &TileCut<'_>, name: PacketName) -> PacketEntry
+    requires cut { (file : ℕ) × IsTileCut file tile.now }
+    requires name { IsName tile.now.shape.now name }
+    ensures value { result ≡ entry_in tile.now.shape.now tile.now.entries.now name }
+    ensures entry { (size : ℕ) → AreEntries size tile.now.shape.now tile.now.entries.now → IsEntry size result }
+{
+    tile.entries.as_slice()[tile.slots.packet(tile.shape, name)]
+}
+
+/// Writes the SOP marker segment of this counter (T.800 A.8.1), if there is one.
+fn put_sop(plan: &mut CutPlan, counter: Option<(u8, u8)>) -> Result<(), Fault>
+    ensures ok { OnOk result (IsBehind plan.old plan.new (λ _. sop_written counter) (length (sop_written counter))) }
+    ensures err { IfErr result IsMemory }
+{
+    match counter {
+        Some((high, low)) => plan.write(&[0xFF, 0x91, 0, 4, high, low]),
+        None => Ok(()),
+    }
+}
+
+/// Writes an empty packet: its SOP marker segment, if it has one, a header of the bit 0, and EPH,
+/// where it must stand.
+fn put_emptied(plan: &mut CutPlan, counter: Option<(u8, u8)>, eph: bool) -> Result<(), Fault>
+    ensures ok { OnOk result (IsBehind plan.old plan.new (λ _. sop_written counter ++ (0 ∷ eph_text eph))
+        (length (sop_written counter) + length (0 ∷ eph_text eph))) }
+    ensures err { IfErr result IsMemory }
+{
+    put_sop(plan, counter)?;
+    if eph {
+        plan.write(&[0, 0xFF, 0x92])
+    } else {
+        plan.write(&[0])
+    }
+}
+
+/// Plans a packet: all of it, where the window needs it, and else an empty one. Answers where it ends
+/// in the codestream.
+fn plan_packet(tile: &TileCut<'_>, name: PacketName, plan: &mut CutPlan) -> Result<usize, Fault>
+    requires cut { IsTileCut plan.old.size tile.now }
+    requires name { IsName tile.now.shape.now name }
+    ensures end { IfOk result (λ n. n ≡ (span_in tile.now.shape.now tile.now.entries.now name).end) }
+    ensures ok { OnOk result (IsBehind plan.old plan.new
+        (λ file. tile_packet tile.now file (span_in tile.now.shape.now tile.now.entries.now name))
+        (tile_packet_size tile.now (span_in tile.now.shape.now tile.now.entries.now name))) }
+    ensures err { IfErr result IsMemory }
+{
+    let entry = entry_of(tile, name);
+    if is_wanted(tile, name) {
+        plan.copy(tile.start + entry.start, tile.start + entry.end)?;
+    } else {
+        put_emptied(plan, entry.counter, tile.eph)?;
+    }
+    Ok(entry.end)
+}
+
+/// Plans the packets of a part: those from the `next`-th on, which stand one after another from the
+/// start of the part on, up to its end. Answers the number of the first packet behind them too.
+fn plan_run(
+    alloc: Global,
+    tile: &TileCut<'_>,
+    names: &[PacketName],
+    next: usize,
+    part: (usize, usize),
+    size: usize,
+) -> Result<(CutPlan, usize), Fault>
+    requires cut { IsTileCut size tile.now }
+    requires names { AllByRecursion (IsName tile.now.shape.now) names.now }
+    ensures plan { IfOk result (λ r. IsRunPlan size tile.now (run_from tile.now names.now next part) r.0) }
+    ensures next { IfOk result (λ r. r.1 ≡ next + length (run_from tile.now names.now next part)) }
+    ensures err { IfErr result IsMemory }
+{
+    let (start, end) = part;
+    let mut plan = CutPlan::new(alloc, size);
+    let mut at = start;
+    let mut i = next;
+    while at < end && i < names.len() {
+        at = plan_packet(tile, names[i], &mut plan)?;
+        i += 1;
+    }
+    Ok((plan, i))
+}
+
+/// Plans the packets of a tile, part by part.
+pub(crate) fn plan_runs(
+    alloc: Global,
+    tile: &TileCut<'_>,
+    names: &[PacketName],
+    parts: &[(usize, usize)],
+    size: usize,
+) -> Result<Vec<CutPlan>, Fault>
+    requires cut { IsTileCut size tile.now }
+    requires names { AllByRecursion (IsName tile.now.shape.now) names.now }
+    ensures plans { IfOk result (λ v. AllZip (IsRunPlan size tile.now)
+        (runs_at (map (span_in tile.now.shape.now tile.now.entries.now) names.now) parts.now) v.items) }
+    ensures err { IfErr result IsMemory }
+{
+    let mut plans = Vec::with_capacity(alloc, parts.len())?;
+    let mut next = 0;
+    for part in parts {
+        let (plan, behind) = plan_run(alloc, tile, names, next, *part, size)?;
+        plans.push(plan)?;
+        next = behind;
+    }
+    Ok(plans)
+}
