@@ -9,3 +9,6 @@ pub mod ShowingLaws
 pub mod AddedLaws
 pub mod MadeLaws
 pub mod PartsLaws
+pub mod GivenLaws
+pub mod ReadingLaws
+pub mod ByPartsLaws

@@ -6,6 +6,8 @@ pub mod Memories
 pub mod Names
 pub mod Parts
 pub mod Catalogue
+pub mod PartsGiven
+pub mod Readings
 pub mod Adding
 pub mod Opening
 pub mod Judging

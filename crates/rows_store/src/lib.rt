@@ -6,6 +6,8 @@ mod adding;
 #[cfg(test)]
 mod asserts;
 #[cfg(test)]
+mod by_parts;
+#[cfg(test)]
 mod calls;
 #[cfg(test)]
 mod contents;

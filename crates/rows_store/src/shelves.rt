@@ -15,22 +15,27 @@ pub(crate) enum Act {
     Change,
 }
 
-/// A shelf in memory that acts at one of its calls, and at no other.
+/// A shelf in memory that acts at one of its calls, and at no other. It counts the stretches that are
+/// read of its files, and their bytes.
 #[derive(Drop)]
 pub(crate) struct Acting {
     inner: MemoryShelf,
     left: u64,
     act: Act,
     failures: Failures,
+    pub(crate) stretches: u64,
+    pub(crate) bytes: u64,
 }
 
-/// A shelf that acts at its nth call, counted from 1.
+/// A shelf that acts at its nth call, counted from 1; at the call 0 it never does.
 pub(crate) fn act_at(inner: MemoryShelf, call: u64, act: Act) -> Acting {
     Acting {
         inner,
         left: call,
         act,
         failures: Failures::none(),
+        stretches: 0,
+        bytes: 0,
     }
 }
 
@@ -42,6 +47,14 @@ impl Acting {
         let due = self.left == 1;
         self.left = self.left.saturating_sub(1);
         due && self.act == act
+    }
+
+    /// Counts a stretch.
+    fn note(&mut self, bytes: usize)
+        ensures { self.new.failures ≡ self.old.failures }
+    {
+        self.stretches = self.stretches.saturating_add(1);
+        self.bytes = self.bytes.saturating_add(bytes as u64);
     }
 }
 
@@ -100,7 +113,9 @@ impl Shelf for Acting {
             return Ok(bytes);
         }
         let answer = self.inner.read_at(alloc, name, start, most);
-        self.failures.counted(answer)
+        let bytes = self.failures.counted(answer)?;
+        self.note(bytes.len());
+        Ok(bytes)
     }
 
     fn write(&mut self, alloc: Global, name: &str, bytes: &[u8]) -> Result<(), Fault> {
