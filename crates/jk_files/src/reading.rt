@@ -9,7 +9,7 @@ use crate::place::place;
 use crate::refusal::Refusal;
 use jk_math::Refused;
 use std::alloc::Global;
-use std::io::{self, ErrorKind, Read};
+use std::io::{self, ErrorKind, Read, Seek, SeekFrom};
 use std::rt::Files;
 
 /// How many bytes are asked for at once.
@@ -99,6 +99,7 @@ pub fn read_all<S: Read + Drop>(alloc: Global, source: S) -> Result<Vec<u8>, Ref
 /// System: it can't be read, or has neither given so many nor ended after 2^32 reads.
 fn read_front<S: Read + Drop>(alloc: Global, source: S, most: usize) -> Result<Vec<u8>, Refusal>
     ensures front { IfOk result (λ v. IfSome (S.remaining source) (λ all. v.items ≡ take most all)) }
+    ensures most { IfOk result (λ v. length v.items ≤ most) }
 {
     let mut source = source;
     let mut bytes = space(alloc, most)?;
@@ -136,4 +137,41 @@ pub fn read_inside<R: Files>(
 {
     let path = place(alloc, folder, name)?;
     read_file(rt, alloc, path.as_str())
+}
+
+/// At most so many bytes of a source from a place on. An interrupted read is made again.
+///
+/// System: it can't go to the place, or can't be read, as `read_front` says.
+fn read_from<S: Read + Seek + Drop>(
+    alloc: Global,
+    source: S,
+    start: u64,
+    most: usize,
+) -> Result<Vec<u8>, Refusal>
+    ensures most { IfOk result (λ v. length v.items ≤ most) }
+{
+    let mut source = source;
+    source.seek(SeekFrom::Start(start))?;
+    read_front(alloc, source, most)
+}
+
+/// At most so many bytes of a regular file of a folder, from a place on, links followed: fewer
+/// where the file ends before, and none where it ends before the place. What is added to it
+/// meanwhile is read with it.
+///
+/// System: as `read_inside`, and where no file can have such a place.
+pub fn read_inside_at<R: Files>(
+    rt: &R,
+    alloc: Global,
+    folder: &str,
+    name: &str,
+    start: u64,
+    most: usize,
+) -> Result<Vec<u8>, Refusal>
+    ensures name { OnOk result (IsFileName name.now) }
+    ensures most { IfOk result (λ v. length v.items ≤ most) }
+{
+    let path = place(alloc, folder, name)?;
+    let opened = open_to_read(rt, path.as_str())?;
+    read_from(alloc, opened.file, start, most)
 }

@@ -23,7 +23,7 @@ abbrev pub added : (e : Entry) (name file : List ℕ) → StandsFor e (stored na
 added e name file is = image_for e file is.indexes
 
 shows_added : (e : Entry) (name file : List ℕ) → (is : StandsFor e (stored name file)) → ShowsImage e (added e name file is)
-shows_added e name file is = record { name = refl; line = refl; digest = is.digest; index = is.indexes; cut = λ asked. refl }
+shows_added e name file is = record { name = refl; line = refl; digest = is.digest; parts = is.parts; index = is.indexes; cut = λ asked. refl }
 
 pub archive_shows : {X : Type 0} (value : X → Entry) (old mid new : List X) (x : X) (y : Entry) (name file : List ℕ) (images : List Image) → new ≡ mid ++ x ∷ [] → mid ≡ old → value x ≡ y
     → (is : StandsFor y (stored name file)) → ShowImages (map value old) images → ShowImages (map value new) (images ++ added y name file is ∷ [])

@@ -8,3 +8,7 @@ pub mod JudgingLaws
 pub mod ShowingLaws
 pub mod AddedLaws
 pub mod MadeLaws
+pub mod PartsLaws
+pub mod GivenLaws
+pub mod ReadingLaws
+pub mod ByPartsLaws

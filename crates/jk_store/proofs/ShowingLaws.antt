@@ -22,7 +22,7 @@ use Rattle.jk_store.specs.declared.entry.Entry.{Entry}
 use Rattle.jk_store.specs.Files.{Files}
 use Rattle.jk_store.specs.Names.{file_name, is_name_byte, is_good_name}
 use Rattle.jk_store.specs.Counting.{last_count}
-use Rattle.jk_store.specs.Catalogue.{StandsFor, StandIn, stored, is_listed, are_named, entry_of, IsCutFrom, IsWindowGiven, Passes}
+use Rattle.jk_store.specs.Catalogue.{StandsFor, StandIn, stored, is_listed, are_named, entry_of, IsWindowGiven, Passes}
 use Rattle.jk_store.specs.Showing.{line_of, view_of, given_of, ShowsImage, ShowImages, AreKept, Stands}
 use Rattle.jk_store.proofs.AddLaws.{differs}
 use Rattle.jk_store.proofs.EntryLaws.{no_window_cut}
@@ -140,13 +140,20 @@ file_given o i reads file is read = subst (λ x. IsFileOf x file ⊎ IsOtherFile
     by (inl same) = inl same
     by (inr other) = inr (read, other)
 
-pub cut_given : (o : Option Image) (i : Image) (e : Entry) (asked : Asked) (reads : List ℕ → Type 0) (cuts : List ℕ → List ℕ → Type 0) (file cut : List ℕ) → o ≡ Some i → ShowsImage e i
-    → reads file → cuts file cut → IsCutFrom e.index (view_of asked) file cut → IsCutOf o asked cut ⊎ IsOtherCut o reads cuts cut
-cut_given o i e asked reads cuts file cut is shows read made from = subst (λ x. IsCutOf x asked cut ⊎ IsOtherCut x reads cuts cut) (sym is) (by (same_or file i.file))
+some_or : (o : Option (List ℕ)) (b : List ℕ) → (o ≡ Some b) ⊎ (o ≡ Some b → ⊥)
+some_or None b = inr (λ same. cc)
+some_or (Some a) b = by (same_or a b)
   where
-    by : (file ≡ i.file) ⊎ (file ≡ i.file → ⊥) → IsCutOf (Some i) asked cut ⊎ IsOtherCut (Some i) reads cuts cut
-    by (inl same) = inl (shows.cut asked ∙ ap given_of ((subst (λ f. IsCutFrom e.index (view_of asked) f cut) same from).cut shows.index))
-    by (inr other) = inr (file, (read, other), made)
+    by : (a ≡ b) ⊎ (a ≡ b → ⊥) → (Some a ≡ Some b) ⊎ (Some a ≡ Some b → ⊥)
+    by (inl same) = inl (ap Some same)
+    by (inr other) = inr (λ same. other (cc))
+
+pub cut_given : (o : Option Image) (i : Image) (asked : Asked) (cuts : List ℕ → Type 0) (cut : List ℕ) → o ≡ Some i → cuts cut → IsCutOf o asked cut ⊎ IsOtherCut o asked cuts cut
+cut_given o i asked cuts cut is made = subst (λ x. IsCutOf x asked cut ⊎ IsOtherCut x asked cuts cut) (sym is) (by (some_or (i.cut asked) cut))
+  where
+    by : (i.cut asked ≡ Some cut) ⊎ (i.cut asked ≡ Some cut → ⊥) → IsCutOf (Some i) asked cut ⊎ IsOtherCut (Some i) asked cuts cut
+    by (inl same) = inl same
+    by (inr other) = inr (made, other)
 
 -- a window that the view hasn't
 pub no_cut : (o : Option Image) (i : Image) (e : Entry) (asked : Asked) → o ≡ Some i → ShowsImage e i → (HasWindow e.index.headers (view_of asked) → ⊥) → HasNoCut o asked
@@ -206,14 +213,13 @@ pub whole_given : (o : Option Image) (i : Image) (reads : List ℕ → Type 0) (
 whole_given o i reads broken (Ok v) before after is read changed counts failed = file_given o i reads v.items is read
 whole_given o i reads broken (Err x) before after is read changed counts failed = whole_refused o broken x before after counts (λ c. changed (ap (λ y. Err y) c)) failed
 
-pub window_given : (o : Option Image) (i : Image) (e : Entry) (asked : Asked) (reads : List ℕ → Type 0) (cuts : List ℕ → List ℕ → Type 0) (broken : Type 0) (r : Result (Vec ℕ) Fault) (before after : ℕ)
-    → o ≡ Some i → ShowsImage e i → IfOk r (λ w. (f : List ℕ) × reads f × cuts f w.items × IsCutFrom e.index (view_of asked) f w.items)
+pub window_given : (o : Option Image) (i : Image) (e : Entry) (asked : Asked) (cuts : List ℕ → Type 0) (broken : Type 0) (r : Result (Vec ℕ) Fault) (before after : ℕ)
+    → o ≡ Some i → ShowsImage e i → IfOk r (λ w. cuts w.items)
     → (r ≡ Err BadWindow → HasWindow e.index.headers (view_of asked) → ⊥) → (r ≡ Err Changed → broken)
     → Passes (λ y. IsMemory y ⊎ (y ≡ BadWindow) ⊎ (y ≡ Changed)) r before after → (after ≡ min (before + 1) last_count → broken)
-    → MatchResult r (λ v. IsCutOf o asked v.items ⊎ IsOtherCut o reads cuts v.items) (λ x. MayRefuse o broken (HasNoCut o asked) x)
-window_given o i e asked reads cuts broken (Ok w) before after is shows given bad changed counts failed =
-    cut_given o i e asked reads cuts given.0 w.items is shows given.1 given.2 given.3
-window_given o i e asked reads cuts broken (Err x) before after is shows given bad changed counts failed =
+    → MatchResult r (λ v. IsCutOf o asked v.items ⊎ IsOtherCut o asked cuts v.items) (λ x. MayRefuse o broken (HasNoCut o asked) x)
+window_given o i e asked cuts broken (Ok w) before after is shows given bad changed counts failed = cut_given o i asked cuts w.items is given
+window_given o i e asked cuts broken (Err x) before after is shows given bad changed counts failed =
     window_refused o broken (HasNoCut o asked) x before after counts (λ w. no_cut o i e asked is shows (bad (ap (λ y. Err y) w))) (λ c. changed (ap (λ y. Err y) c)) failed
 
 -- of a file that is kept
@@ -251,7 +257,7 @@ abbrev pub image_for : (e : Entry) (file : List ℕ) → IsIndexOf file e.index 
 image_for e file is = record { name = string_bytes e.name; line = line_of e; file = file; cut = λ asked. given_of (cut_file is (view_of asked)) }
 
 pub shows_itself : (e : Entry) (file : List ℕ) → (is : StandsFor e (stored (string_bytes e.name) file)) → ShowsImage e (image_for e file is.indexes)
-shows_itself e file is = record { name = refl; line = refl; digest = is.digest; index = is.indexes; cut = λ asked. refl }
+shows_itself e file is = record { name = refl; line = refl; digest = is.digest; parts = is.parts; index = is.indexes; cut = λ asked. refl }
 
 good_segment : (name : List ℕ) → is_good_name name ≡ true → IsSegment name
 good_segment name good =
@@ -270,7 +276,7 @@ shown_of files (e ∷ entries) stand named =
     let is = stand.0.2 in (
       image_for e file is.indexes ∷ more.0,
       record {
-        shows = (record { name = refl; line = refl; digest = is.digest; index = is.indexes; cut = λ asked. refl }, more.1.shows);
+        shows = (record { name = refl; line = refl; digest = is.digest; parts = is.parts; index = is.indexes; cut = λ asked. refl }, more.1.shows);
         each = (stand.0.1, more.1.each);
         segments = (AllPass-from_list_all is_segment_byte own (segment_bytes own bytes.1), more.1.segments);
       },

@@ -17,6 +17,7 @@ use Rattle.jk_code.specs.Meaning.{Means}
 use Rattle.jk_code.specs.Windows.{IsWindowOf}
 use Rattle.jk_store.specs.Files.{Files}
 use Rattle.jk_store.specs.Names.{is_good_name, file_name}
+use Rattle.jk_store.specs.Parts.{part_digests}
 use Rattle.jk_store.specs.Counting.{last_count}
 use Rattle.jk_store.specs.declared.entry.Entry.{Entry}
 
@@ -59,6 +60,7 @@ image_at bytes = do
 pub record StandsFor (e : Entry) (s : Stored) : Type 0 where
   pub name : string_bytes e.name ≡ s.name
   pub digest : e.digest ≡ sha256 s.file
+  pub parts : e.parts.items ≡ part_digests s.file
   pub index : image_at s.file ≡ Ok e.index
   pub indexes : IsIndexOf s.file e.index
 

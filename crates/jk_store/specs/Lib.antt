@@ -4,7 +4,10 @@ pub mod Files
 pub mod Counting
 pub mod Memories
 pub mod Names
+pub mod Parts
 pub mod Catalogue
+pub mod PartsGiven
+pub mod Readings
 pub mod Adding
 pub mod Opening
 pub mod Judging

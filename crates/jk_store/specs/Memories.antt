@@ -1,5 +1,5 @@
 -- What a shelf in memory holds.
-use Rattle.std.specs.Prelude.{◌≡◌, ℕ, List, map, Option, Some, None, cond, ◌⊎◌}
+use Rattle.std.specs.Prelude.{◌≡◌, ℕ, List, map, take, drop, Option, Some, None, cond, ◌⊎◌}
 use Rattle.std.specs.Option.{option_map}
 use Rattle.std.specs.Str.{bytes_eq}
 use Rattle.std.specs.String.{string_bytes}
@@ -23,6 +23,10 @@ Keeps s files = (n b : List ℕ) → files n ≡ Some b → held s n ≡ Some b
 -- The shelf has these bytes under a name, and stays as it is.
 abbrev pub Gave : MemoryShelf → List ℕ → List ℕ → MemoryShelf → Type 0
 Gave s n b t = (t ≡ s) × (held s n ≡ Some b)
+
+-- The file of a name has these bytes from a place on, so many at most, and the shelf stays as it is.
+abbrev pub GaveAt : MemoryShelf → List ℕ → (start most : ℕ) → List ℕ → MemoryShelf → Type 0
+GaveAt s n start most b t = (t ≡ s) × (option_map (λ file. take most (drop start file)) (held s n) ≡ Some b)
 
 -- These are its names, and it stays as it is.
 abbrev pub Lists : MemoryShelf → List (List ℕ) → MemoryShelf → Type 0

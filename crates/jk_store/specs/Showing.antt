@@ -13,8 +13,10 @@ use Rattle.jk_web.specs.declared.query.Asked.{Asked}
 use Rattle.jk_web.specs.Images.{Image}
 use Rattle.jk_store.specs.Files.{Files}
 use Rattle.jk_store.specs.Names.{file_name}
+use Rattle.jk_store.specs.Parts.{part_digests}
 use Rattle.jk_store.specs.Counting.{last_count}
-use Rattle.jk_store.specs.Catalogue.{entry_of, IsFileOf, IsOtherFile, IsCutFrom, WasForeign}
+use Rattle.jk_store.specs.Catalogue.{entry_of, IsFileOf, IsOtherFile}
+use Rattle.jk_store.specs.PartsGiven.{GivenPart, ArePartsOf, ReadsParts, IsOtherPart, IsCutOfParts}
 use Rattle.jk_store.specs.declared.entry.Entry.{Entry}
 
 -- a space and a number
@@ -44,6 +46,7 @@ pub record ShowsImage (e : Entry) (i : Image) : Type 0 where
   pub name : i.name ≡ string_bytes e.name
   pub line : i.line ≡ line_of e
   pub digest : e.digest ≡ sha256 i.file
+  pub parts : e.parts.items ≡ part_digests i.file
   pub index : IsIndexOf i.file e.index
   pub cut : (asked : Asked) → i.cut asked ≡ given_of (cut_file index (view_of asked))
 
@@ -62,20 +65,26 @@ pub record Stands {S : Type 0} (keeps : S → Files → Type 0) (entries : List 
   pub shows : ShowImages entries images
   pub kept : AreKept keeps shelf images
 
--- Between two states a failure of the shelf was counted; or the shelf gave a file under the name of the entry that isn't the entry's:
--- it has another digest, or the index isn't its own.
-abbrev pub Broke : {S : Type 0} → (S → ℕ) → (S → List ℕ → List ℕ → S → Type 0) → List Entry → S → List ℕ → S → Type 0
-Broke failed gave entries old n new =
-    (failed new ≡ min (failed old + 1) last_count) ⊎ ((e : Entry) × (entry_of entries n ≡ Some e) × (IsOtherFile gave e old new ⊎ WasForeign gave e old new))
+-- Between two states a failure of the shelf was counted; or the shelf gave under the name of the
+-- entry a file that has another digest, or parts, of which the last has another digest or length.
+abbrev pub Broke : {S : Type 0} → (S → ℕ) → (gave : S → List ℕ → List ℕ → S → Type 0) → (gave_at : S → List ℕ → ℕ → ℕ → List ℕ → S → Type 0)
+    → List Entry → S → List ℕ → S → Type 0
+Broke failed gave gave_at entries old n new =
+    (failed new ≡ min (failed old + 1) last_count)
+    ⊎ ((e : Entry) × (entry_of entries n ≡ Some e) × (IsOtherFile gave e old new ⊎ IsOtherPart gave_at e old new))
 
 -- Between two states the shelf gave this file under the name of the entry, and it has the entry's digest.
 abbrev pub Reads : {S : Type 0} → (S → List ℕ → List ℕ → S → Type 0) → List Entry → S → List ℕ → List ℕ → S → Type 0
 Reads gave entries old n file new = (e : Entry) × (entry_of entries n ≡ Some e) × IsFileOf gave e old file new
 
--- The second file is the window of the first, cut with the index of the entry of a name.
-abbrev pub Cuts : List Entry → List ℕ → Asked → List ℕ → List ℕ → Type 0
-Cuts entries n asked file cut = (e : Entry) × (entry_of entries n ≡ Some e) × IsCutFrom e.index (view_of asked) file cut
+-- Between two states the shelf gave parts of the file of the entry of a name, each with its digest,
+-- and the window is cut of them.
+abbrev pub Cuts : {S : Type 0} → (gave_at : S → List ℕ → ℕ → ℕ → List ℕ → S → Type 0) → List Entry → S → List ℕ → Asked → S → List ℕ → Type 0
+Cuts gave_at entries old n asked new cut =
+    (e : Entry) × (given : List GivenPart) × (entry_of entries n ≡ Some e) × ReadsParts gave_at e old given new × IsCutOfParts e.index (view_of asked) given cut
 
--- Such a cut may have been made for the entry of a name: of some file that has the entry's digest, cut with its index.
+-- Such a cut may have been made for the entry of a name: of some parts with the digests of the
+-- entry's.
 abbrev pub MayBeMade : List Entry → List ℕ → Asked → List ℕ → Type 0
-MayBeMade entries n asked cut = (e : Entry) × (file : List ℕ) × (entry_of entries n ≡ Some e) × (sha256 file ≡ e.digest) × IsCutFrom e.index (view_of asked) file cut
+MayBeMade entries n asked cut =
+    (e : Entry) × (given : List GivenPart) × (entry_of entries n ≡ Some e) × ArePartsOf e given × IsCutOfParts e.index (view_of asked) given cut

@@ -25,6 +25,7 @@ use crate::archive::Archive;
 use crate::entry::Entry;
 use crate::names;
 use crate::opening::image_index;
+use crate::parts::part_digests;
 use crate::shelf::Shelf;
 use jk_code::encode;
 use jk_math::{Fault, Image};
@@ -100,6 +101,7 @@ fn entry_of(alloc: Global, name: &str, bytes: &[u8]) -> Result<Entry, Fault>
     Ok(Entry {
         name: String::from_str(alloc, name)?,
         digest: Sha256::digest(bytes),
+        parts: part_digests(alloc, bytes)?,
         index,
     })
 }

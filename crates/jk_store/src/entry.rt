@@ -10,25 +10,29 @@ ghost use Rattle.jk_window.specs.Indexing.{IsIndexOf};
 ghost use Rattle.jk_window.specs.Cutting.{cut_file};
 ghost use Rattle.jk_store.specs.Files.{Files};
 ghost use Rattle.jk_store.specs.Names.{file_name};
-ghost use Rattle.jk_store.specs.Catalogue.{IsFileOf, IsOtherFile, IsCutFrom, IsWindowGiven, WasForeign, Passes};
+ghost use Rattle.jk_store.specs.Catalogue.{IsFileOf, IsOtherFile, IsCutFrom, IsWindowGiven, WasForeign, Passes, StandsFor, stored};
+ghost use Rattle.jk_store.specs.PartsGiven.{GivenPart, ReadsParts, IsOtherPart, IsCutOfParts};
 
+use crate::assembling::assemble;
 use crate::names;
 use crate::shelf::Shelf;
 use jk_math::Fault;
-use jk_window::{Index, View};
+use jk_window::{Index, View, plan};
 use sha2::{Digest, Sha256};
 use std::alloc::Global;
 
-/// An image of an archive: its name, and the SHA-256 and the index of its file.
+/// An image of an archive: its name, and of its file the SHA-256, the SHA-256 of each 2^14 bytes
+/// (the last may be fewer), and the index.
 #[derive(Drop)]
 pub struct Entry {
     pub name: String,
     pub digest: [u8; 32],
+    pub parts: Vec<[u8; 32]>,
     pub index: Index,
 }
 
 /// Whether bytes have a digest.
-fn has_digest(bytes: &[u8], digest: &[u8; 32]) -> bool
+pub(crate) fn has_digest(bytes: &[u8], digest: &[u8; 32]) -> bool
     ensures yes { result ≡ true → sha256 bytes.now ≡ digest.now }
     ensures no { result ≡ false → sha256 bytes.now ≡ digest.now → ⊥ }
 {
@@ -83,5 +87,40 @@ impl Entry {
         self.index.sees(view)?;
         let file = self.whole(alloc, shelf)?;
         jk_code::window(alloc, &file, &self.index, view)
+    }
+
+    /// The file of a window of the image, for which only the parts of the stored file are read that
+    /// it copies from. Each is judged by the digest that was taken of it when the entry was made.
+    /// What isn't read may have changed; `whole` tells.
+    ///
+    /// BadWindow: the view has no window, which is judged before the shelf is read. Changed: the
+    /// shelf gave a part of another length, or with another digest.
+    pub fn window_by_parts<S: Shelf>(
+        &self,
+        alloc: Global,
+        shelf: &mut S,
+        view: View,
+    ) -> Result<Vec<u8>, Fault>
+        // The shelf gave parts, each with its digest; and of each file that has these parts, and of
+        // which the index is, it is the window.
+        ensures given { IfOk result (λ w. (given : List GivenPart) × ReadsParts S.gave_at self.now shelf.old given shelf.new
+            × IsCutOfParts self.now.index view given w.items) }
+        ensures seen { OnOk result (HasWindow self.now.index.headers view) }
+        // Of a file that the shelf keeps under the name it is the window.
+        ensures same { (files : Files) (b : List ℕ) → S.keeps shelf.old files → files (file_name (string_bytes self.now.name)) ≡ Some b
+            → (is : IsIndexOf b self.now.index) → IsWindowGiven (cut_file is view) result }
+        // Where that is the file of which the entry was made, it isn't told to have changed.
+        ensures steady { (files : Files) (b : List ℕ) → S.keeps shelf.old files → files (file_name (string_bytes self.now.name)) ≡ Some b
+            → StandsFor self.now (stored (string_bytes self.now.name) b) → result ≡ Err Fault.Changed → ⊥ }
+        // Where the view has no window, that is the answer, and the shelf isn't read.
+        ensures unseen { (HasWindow self.now.index.headers view → ⊥) → (result ≡ Err Fault.BadWindow) × (shelf.new ≡ shelf.old) }
+        // No other BadWindow is answered.
+        ensures bad { result ≡ Err Fault.BadWindow → HasWindow self.now.index.headers view → ⊥ }
+        ensures changed { result ≡ Err Fault.Changed → IsOtherPart S.gave_at self.now shelf.old shelf.new }
+        ensures kept { (files : Files) → S.keeps shelf.old files → S.keeps shelf.new files }
+        ensures counts { Passes (λ e. IsMemory e ⊎ (e ≡ BadWindow) ⊎ (e ≡ Changed)) result (S.failed shelf.old) (S.failed shelf.new) }
+    {
+        let plan = plan(alloc, &self.index, view)?;
+        assemble(alloc, self, shelf, &plan)
     }
 }

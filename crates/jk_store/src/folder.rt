@@ -119,6 +119,8 @@ impl<R: Files + Drop> Shelf for Folder<R> {
 
     ghost gave = { λ _ _ _ _. Unit {0} };
 
+    ghost gave_at = { λ _ _ _ _ _ _. Unit {0} };
+
     ghost lists = { λ _ _ _. Unit {0} };
 
     ghost failed = { λ f. f.failures.count };
@@ -135,6 +137,25 @@ impl<R: Files + Drop> Shelf for Folder<R> {
     fn read(&mut self, alloc: Global, name: &str) -> Result<Vec<u8>, Fault> {
         self.failures.ready()?;
         let answer = jk_files::read_inside(&self.rt, alloc, self.path.as_str(), name);
+        self.answered(alloc, name, answer)
+    }
+
+    fn read_at(
+        &mut self,
+        alloc: Global,
+        name: &str,
+        start: u64,
+        most: usize,
+    ) -> Result<Vec<u8>, Fault> {
+        self.failures.ready()?;
+        let answer = jk_files::read_inside_at(
+            &self.rt,
+            alloc,
+            self.path.as_str(),
+            name,
+            start,
+            most,
+        );
         self.answered(alloc, name, answer)
     }
 

@@ -3,6 +3,7 @@
 
 mod adding;
 mod archive;
+mod assembling;
 mod entry;
 mod failures;
 mod folder;
@@ -10,6 +11,8 @@ mod judging;
 mod memory;
 mod names;
 mod opening;
+mod parts;
+mod reading;
 mod shelf;
 mod showing;
 mod skipped;

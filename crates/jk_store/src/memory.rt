@@ -1,9 +1,9 @@
 //! A shelf in memory.
 
-ghost use Rattle.std.specs.Prelude.{◌≡◌, ℕ, List, [], Some, None, IfOk, OnOk, OnErr, IfErr};
+ghost use Rattle.std.specs.Prelude.{◌≡◌, ℕ, List, [], take, drop, Some, None, IfOk, OnOk, OnErr, IfErr};
 ghost use Rattle.std.specs.Option.{option_map};
 ghost use Rattle.jk_math.specs.Memory.{IsMemory};
-ghost use Rattle.jk_store.specs.Memories.{Keeps, Gave, Lists, Unlisted, Unread, Unwritten, Unrenamed, HoldSame, HoldsInstead, held, names_of};
+ghost use Rattle.jk_store.specs.Memories.{Keeps, Gave, GaveAt, Lists, Unlisted, Unread, Unwritten, Unrenamed, HoldSame, HoldsInstead, held, names_of};
 
 use crate::failures::Failures;
 use crate::shelf::Shelf;
@@ -16,6 +16,15 @@ use std::collections::BTreeMap;
 pub struct MemoryShelf {
     files: BTreeMap<String, Vec<u8>>,
     failures: Failures,
+}
+
+/// At most so many bytes from a place on.
+fn stretch(bytes: &[u8], start: u64, most: usize) -> &[u8]
+    ensures { result.now ≡ take most (drop start bytes.now) }
+{
+    let start = start.min(bytes.len() as u64) as usize;
+    let rest = &bytes[start..];
+    &rest[..most.min(rest.len())]
 }
 
 impl MemoryShelf {
@@ -38,6 +47,23 @@ impl MemoryShelf {
     {
         match self.files.get(name) {
             Some(bytes) => Ok(Some(Vec::from_slice(alloc, bytes)?)),
+            None => Ok(None),
+        }
+    }
+
+    /// At most so many bytes of a file from a place on.
+    fn copy_at(
+        &self,
+        alloc: Global,
+        name: &str,
+        start: u64,
+        most: usize,
+    ) -> Result<Option<Vec<u8>>, Fault>
+        ensures ok { IfOk result (λ o. option_map (λ v. v.items) o ≡ option_map (λ b. take most (drop start b)) (held self.now name.now)) }
+        ensures err { IfErr result IsMemory }
+    {
+        match self.files.get(name) {
+            Some(bytes) => Ok(Some(Vec::from_slice(alloc, stretch(bytes, start, most))?)),
             None => Ok(None),
         }
     }
@@ -67,6 +93,8 @@ impl Shelf for MemoryShelf {
 
     ghost gave = { Gave };
 
+    ghost gave_at = { GaveAt };
+
     ghost lists = { Lists };
 
     ghost unlisted = { Unlisted };
@@ -91,6 +119,20 @@ impl Shelf for MemoryShelf {
     fn read(&mut self, alloc: Global, name: &str) -> Result<Vec<u8>, Fault> {
         self.failures.ready()?;
         match self.copy(alloc, name)? {
+            Some(bytes) => Ok(bytes),
+            None => Err(self.failures.fail()),
+        }
+    }
+
+    fn read_at(
+        &mut self,
+        alloc: Global,
+        name: &str,
+        start: u64,
+        most: usize,
+    ) -> Result<Vec<u8>, Fault> {
+        self.failures.ready()?;
+        match self.copy_at(alloc, name, start, most)? {
             Some(bytes) => Ok(bytes),
             None => Err(self.failures.fail()),
         }

@@ -24,6 +24,7 @@ use crate::adding::MOST_ENTRIES;
 use crate::archive::Archive;
 use crate::entry::Entry;
 use crate::names;
+use crate::parts::part_digests;
 use crate::shelf::Shelf;
 use crate::skipped::Skipped;
 use jk_boxes::open;
@@ -80,6 +81,7 @@ fn look<S: Shelf>(alloc: Global, shelf: &mut S, name: &str) -> Result<Looked, Fa
         Ok(index) => Ok(Looked::Listed(Entry {
             name,
             digest: Sha256::digest(&bytes),
+            parts: part_digests(alloc, &bytes)?,
             index,
         })),
         Err(fault) => {

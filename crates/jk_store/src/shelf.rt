@@ -1,6 +1,6 @@
 //! What an archive stands on.
 
-ghost use Rattle.std.specs.Prelude.{◌≡◌, ◌⊎◌, ℕ, List, map, true, Some, IfOk, IfErr, OnOk};
+ghost use Rattle.std.specs.Prelude.{◌≡◌, ◌⊎◌, ℕ, List, map, take, drop, true, Some, IfOk, IfErr, OnOk};
 ghost use Rattle.std.specs.String.{string_bytes};
 ghost use Rattle.jk_math.specs.Memory.{IsMemory};
 ghost use Rattle.jk_math.specs.declared.fault.Fault.TheVariants.{Shelf as ShelfFault};
@@ -19,6 +19,10 @@ pub trait Shelf {
 
     /// From the first state a read of that name may give these bytes and leave the second.
     ghost gave: { Self → List ℕ → List ℕ → Self → Type 0 };
+
+    /// From the first state a read of so many bytes at most of that name, from a place on, may give
+    /// these and leave the second.
+    ghost gave_at: { Self → List ℕ → ℕ → ℕ → List ℕ → Self → Type 0 };
 
     /// From the first state a listing may give these names and leave the second.
     ghost lists: { Self → List (List ℕ) → Self → Type 0 };
@@ -59,6 +63,22 @@ pub trait Shelf {
             → IfOk result (λ v. v.items ≡ b) }
         // And what it gives it keeps.
         ensures held { (files : Files) → keeps self.old files → IfOk result (λ v. keeps self.new (with_file name.now v.items files)) }
+        ensures cause { IfErr result (λ e. e ≡ ShelfFault → unread self.old name.now self.new) }
+        ensures counts { Counts result (failed self.old) (failed self.new) };
+
+    /// At most so many bytes of a file from a place on: fewer where the file ends before.
+    fn read_at(
+        &mut self,
+        alloc: Global,
+        name: &str,
+        start: u64,
+        most: usize,
+    ) -> Result<Vec<u8>, Fault>
+        ensures given { IfOk result (λ v. gave_at self.old name.now start most v.items self.new) }
+        ensures kept { (files : Files) → keeps self.old files → keeps self.new files }
+        // Of a file that it keeps it is those bytes.
+        ensures same { (files : Files) (b : List ℕ) → keeps self.old files → files name.now ≡ Some b
+            → IfOk result (λ v. v.items ≡ take most (drop start b)) }
         ensures cause { IfErr result (λ e. e ≡ ShelfFault → unread self.old name.now self.new) }
         ensures counts { Counts result (failed self.old) (failed self.new) };
 

@@ -74,7 +74,7 @@ fn whole_of<S: Shelf>(
 ) -> Result<Vec<u8>, Fault>
     ensures gives { (images : List Image) → ShowImages (map arc_value entries.now) images → MatchResult result
         (λ v. IsFileGiven (image_of name.now images) (Reads S.gave (map arc_value entries.now)) shelf.old name.now shelf.new v.items)
-        (λ e. MayRefuse (image_of name.now images) (Broke S.failed S.gave (map arc_value entries.now) shelf.old name.now shelf.new) ⊥ e) }
+        (λ e. MayRefuse (image_of name.now images) (Broke S.failed S.gave S.gave_at (map arc_value entries.now) shelf.old name.now shelf.new) ⊥ e) }
     ensures same { (images : List Image) → ShowImages (map arc_value entries.now) images → AreKept S.keeps shelf.old images
         → IfOk result (λ v. IsFileOf (image_of name.now images) v.items) }
     ensures keeps { (images : List Image) → AreKept S.keeps shelf.old images → AreKept S.keeps shelf.new images }
@@ -94,8 +94,8 @@ fn window_of<S: Shelf>(
     asked: Asked,
 ) -> Result<Vec<u8>, Fault>
     ensures gives { (images : List Image) → ShowImages (map arc_value entries.now) images → MatchResult result
-        (λ v. IsCutGiven (image_of name.now images) asked (Reads S.gave (map arc_value entries.now)) (λ _. Cuts (map arc_value entries.now)) shelf.old name.now shelf.new v.items)
-        (λ e. MayRefuse (image_of name.now images) (Broke S.failed S.gave (map arc_value entries.now) shelf.old name.now shelf.new)
+        (λ v. IsCutGiven (image_of name.now images) asked (Cuts S.gave_at (map arc_value entries.now)) shelf.old name.now shelf.new v.items)
+        (λ e. MayRefuse (image_of name.now images) (Broke S.failed S.gave S.gave_at (map arc_value entries.now) shelf.old name.now shelf.new)
         (HasNoCut (image_of name.now images) asked) e) }
     ensures same { (images : List Image) → ShowImages (map arc_value entries.now) images → AreKept S.keeps shelf.old images
         → IfOk result (λ v. IsCutOf (image_of name.now images) asked v.items) }
@@ -103,7 +103,7 @@ fn window_of<S: Shelf>(
     ensures keeps { (images : List Image) → AreKept S.keeps shelf.old images → AreKept S.keeps shelf.new images }
 {
     match find(entries, name) {
-        Some(entry) => entry.window(alloc, shelf, view(asked)),
+        Some(entry) => entry.window_by_parts(alloc, shelf, view(asked)),
         None => Err(Fault::NoSuchImage),
     }
 }
@@ -118,11 +118,11 @@ impl<S: Shelf> Catalogue for Archive<S> {
 
     ghost keeps = { λ a images. AreKept S.keeps a.shelf images };
 
-    ghost broke = { λ a n b. Broke S.failed S.gave (map arc_value a.entries.items) a.shelf n b.shelf };
+    ghost broke = { λ a n b. Broke S.failed S.gave S.gave_at (map arc_value a.entries.items) a.shelf n b.shelf };
 
     ghost reads = { λ a n file b. Reads S.gave (map arc_value a.entries.items) a.shelf n file b.shelf };
 
-    ghost cuts = { λ a n asked file cut. Cuts (map arc_value a.entries.items) n asked file cut };
+    ghost cuts = { λ a n asked b cut. Cuts S.gave_at (map arc_value a.entries.items) a.shelf n asked b.shelf cut };
 
     ghost made = { λ a. MayBeMade (map arc_value a.entries.items) };
 

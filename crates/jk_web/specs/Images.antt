@@ -87,7 +87,7 @@ abbrev pub HasNoCut : Option Image → Asked → Type 0
 HasNoCut None asked = ⊥
 HasNoCut (Some image) asked = image.cut asked ≡ None
 
--- Why such a call may refuse; broke: a file couldn't be read, or another was read in its place.
+-- Why such a call may refuse; broke: a file couldn't be read, or other bytes were read in its place.
 abbrev pub MayRefuse : Option Image → Type 0 → Type 0 → Fault → Type 0
 MayRefuse image broke uncut (Memory r) = Unit {0}
 MayRefuse image broke uncut NoSuchImage = image ≡ None
@@ -101,26 +101,26 @@ abbrev pub IsOtherFile : Option Image → (reads : List ℕ → Type 0) → List
 IsOtherFile None reads file = ⊥
 IsOtherFile (Some image) reads file = reads file × (file ≡ image.file → ⊥)
 
--- The window of such a file.
-abbrev pub IsOtherCut : Option Image → (reads : List ℕ → Type 0) → (cuts : List ℕ → List ℕ → Type 0) → List ℕ → Type 0
-IsOtherCut image reads cuts cut = (file : List ℕ) × IsOtherFile image reads file × cuts file cut
+-- A window that was cut of what was read in the place of the image's file, and isn't the image's.
+abbrev pub IsOtherCut : Option Image → Asked → (cuts : List ℕ → Type 0) → List ℕ → Type 0
+IsOtherCut None asked cuts cut = ⊥
+IsOtherCut (Some image) asked cuts cut = cuts cut × (image.cut asked ≡ Some cut → ⊥)
 
--- The window of another file that was read between two states.
-abbrev pub IsOtherRead : {S : Type 0} → (reads : S → List ℕ → List ℕ → S → Type 0) → (cuts : S → List ℕ → Asked → List ℕ → List ℕ → Type 0)
-    → Option Image → S → List ℕ → Asked → S → List ℕ → Type 0
-IsOtherRead reads cuts image s name asked t cut = IsOtherCut image (λ f. reads s name f t) (cuts s name asked) cut
+-- Such a window of what was read between two states.
+abbrev pub IsOtherRead : {S : Type 0} → (cuts : S → List ℕ → Asked → S → List ℕ → Type 0) → Option Image → S → List ℕ → Asked → S → List ℕ → Type 0
+IsOtherRead cuts image s name asked t cut = IsOtherCut image asked (cuts s name asked t) cut
 
 -- A cut that was made for the name and the window, and isn't the image's.
 abbrev pub IsOtherMade : {S : Type 0} → (made : S → List ℕ → Asked → List ℕ → Type 0) → Option Image → S → List ℕ → Asked → S → List ℕ → Type 0
 IsOtherMade made image s name asked t cut = made t name asked cut × (IsCutOf image asked cut → ⊥)
 
--- What a call gives, where nothing is known of files: what is due of the image's, or the same of another that was read in its place.
+-- What a call gives, where nothing is known of files: what is due of the image's, or the same of
+-- what was read in its place.
 abbrev pub IsFileGiven : {S : Type 0} → Option Image → (reads : S → List ℕ → List ℕ → S → Type 0) → S → List ℕ → S → List ℕ → Type 0
 IsFileGiven image reads s name t file = IsFileOf image file ⊎ IsOtherFile image (λ f. reads s name f t) file
 
-abbrev pub IsCutGiven : {S : Type 0} → Option Image → Asked → (reads : S → List ℕ → List ℕ → S → Type 0) → (cuts : S → List ℕ → Asked → List ℕ → List ℕ → Type 0)
-    → S → List ℕ → S → List ℕ → Type 0
-IsCutGiven image asked reads cuts s name t cut = IsCutOf image asked cut ⊎ IsOtherCut image (λ f. reads s name f t) (cuts s name asked) cut
+abbrev pub IsCutGiven : {S : Type 0} → Option Image → Asked → (cuts : S → List ℕ → Asked → S → List ℕ → Type 0) → S → List ℕ → S → List ℕ → Type 0
+IsCutGiven image asked cuts s name t cut = IsCutOf image asked cut ⊎ IsOtherRead cuts image s name asked t cut
 
 -- the status that says so
 abbrev pub status_of : Fault → ℕ
@@ -132,21 +132,24 @@ status_of e = 500
 abbrev pub asked_for : Request → List (List ℕ) → Resource
 asked_for q names = if bytes_eq q.method (codes "GET") then resource_at (path_of q.target) names else nowhere
 
--- The file of the image that a resource names couldn't be read, or another was read in its place.
+-- The file of the image that a resource names couldn't be read, or other bytes were read in its
+-- place.
 abbrev pub IsBroken : (broke : List ℕ → Type 0) → Resource → Type 0
 IsBroken broke listing = ⊥
 IsBroken broke (whole name) = broke name
 IsBroken broke (window name) = broke name
 IsBroken broke nowhere = ⊥
 
--- A file that is sent to a query for a resource, and isn't the image's: another that was read in its place, or such a window.
+-- A file that is sent to a query for a resource, and isn't the image's: another that was read in
+-- its place, or another window.
 abbrev pub IsOtherSent : List Image → (reads : List ℕ → List ℕ → Type 0) → (windows : Option Image → List ℕ → Asked → List ℕ → Type 0) → List ℕ → Resource → List ℕ → Type 0
 IsOtherSent images reads windows query listing file = ⊥
 IsOtherSent images reads windows query (whole name) file = (are_none (pairs_of query) ≡ true) × IsOtherFile (image_of name images) (reads name) file
 IsOtherSent images reads windows query (window name) file = (asked : Asked) × (asked_by (pairs_of query) ≡ Some asked) × windows (image_of name images) name asked file
 IsOtherSent images reads windows query nowhere file = ⊥
 
--- A reply says what is due; or that a file couldn't be read, or that another was read in its place; or it has such another file.
+-- A reply says what is due; or that a file couldn't be read, or that other bytes were read in its
+-- place; or it has such another file.
 abbrev pub IsReplyOf : (due : Content) → (broken : Type 0) → (other : List ℕ → Type 0) → Bool → Reply → Type 0
 IsReplyOf due broken other close r =
     (r ≡ printed due close) ⊎ (broken × (r ≡ failed close)) ⊎ ((file : List ℕ) × other file × (r ≡ printed (sent file) close))
@@ -170,16 +173,16 @@ module _ {S : Type 0} (broke : S → List ℕ → S → Type 0) (reads : S → L
   abbrev pub gives_with : List Image → S → Request → Reply → S → Type 0
   gives_with images s q r t = IsReplyWith images q s t r
 
--- Windows are made at each request: another is that of a file that was read for it.
-module _ {S : Type 0} (broke : S → List ℕ → S → Type 0) (reads : S → List ℕ → List ℕ → S → Type 0) (cuts : S → List ℕ → Asked → List ℕ → List ℕ → Type 0) where
+-- Windows are made at each request: another is one of what was read for it.
+module _ {S : Type 0} (broke : S → List ℕ → S → Type 0) (reads : S → List ℕ → List ℕ → S → Type 0) (cuts : S → List ℕ → Asked → S → List ℕ → Type 0) where
   abbrev pub IsReplyAt : List Image → S → S → List ℕ → Bool → Resource → Reply → Type 0
-  IsReplyAt = IsReplyAtWith broke reads (IsOtherRead reads cuts)
+  IsReplyAt = IsReplyAtWith broke reads (IsOtherRead cuts)
 
   abbrev pub IsReply : List Image → Request → S → S → Reply → Type 0
-  IsReply = IsReplyWith broke reads (IsOtherRead reads cuts)
+  IsReply = IsReplyWith broke reads (IsOtherRead cuts)
 
   abbrev pub gives_reply : List Image → S → Request → Reply → S → Type 0
-  gives_reply = gives_with broke reads (IsOtherRead reads cuts)
+  gives_reply = gives_with broke reads (IsOtherRead cuts)
 
 -- Windows may be kept: another was made for the same name and window, by this request or by an earlier one.
 module _ {S : Type 0} (broke : S → List ℕ → S → Type 0) (reads : S → List ℕ → List ℕ → S → Type 0) (made : S → List ℕ → Asked → List ℕ → Type 0) where

@@ -20,16 +20,18 @@ pub trait Catalogue {
     // It will give the files of these images.
     ghost keeps: { Self → List Image → Type 0 };
 
-    // Between the two the file of the image of this name couldn't be read, or another was read in its place.
+    // Between the two the file of the image of this name couldn't be read, or other bytes were read
+    // in its place.
     ghost broke: { Self → List ℕ → Self → Type 0 };
 
     // Between the two this file was read for the image of this name, and taken for the image's.
     ghost reads: { Self → List ℕ → List ℕ → Self → Type 0 };
 
-    // Of the image of this name such a window of the first file is cut to the second.
-    ghost cuts: { Self → List ℕ → Asked → List ℕ → List ℕ → Type 0 };
+    // Between the two such a window was cut of what was read for the image of this name, and taken
+    // for the image's.
+    ghost cuts: { Self → List ℕ → Asked → Self → List ℕ → Type 0 };
 
-    // For the image of this name such a cut may have been made, of a file taken for the image's.
+    // For the image of this name such a cut may have been made, of what was taken for the image's.
     ghost made: { Self → List ℕ → Asked → List ℕ → Type 0 };
 
     /// The lines of all images, in order.
@@ -56,7 +58,7 @@ pub trait Catalogue {
     /// The file of a window of an image.
     fn window(&mut self, alloc: Global, name: &[u8], asked: Asked) -> Result<Vec<u8>, Fault>
         ensures gives { (images : List Image) → stands self.old images → MatchResult result
-            (λ v. IsCutGiven (image_of name.now images) asked reads cuts self.old name.now self.new v.items)
+            (λ v. IsCutGiven (image_of name.now images) asked cuts self.old name.now self.new v.items)
             (λ e. MayRefuse (image_of name.now images) (broke self.old name.now self.new) (HasNoCut (image_of name.now images) asked) e) }
         // Of a file that is kept it is the window.
         ensures same { (images : List Image) → stands self.old images → keeps self.old images

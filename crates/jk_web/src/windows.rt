@@ -58,7 +58,7 @@ pub(crate) struct Direct;
 impl<C: Catalogue> Windows<C> for Direct {
     ghost has = { λ d n a b. ⊥ };
 
-    ghost others = { IsOtherRead C.reads C.cuts };
+    ghost others = { IsOtherRead C.cuts };
 
     fn window(
         &mut self,

@@ -70,8 +70,15 @@ impl Write for Handle<'_> {
 }
 
 impl Seek for Handle<'_> {
-    fn seek(&mut self, _to: SeekFrom) -> io::Result<u64> {
-        Err(io::Error::from(ErrorKind::Unsupported))
+    fn seek(&mut self, to: SeekFrom) -> io::Result<u64> {
+        self.disk.call("seek", self.path.as_str())?;
+        match to {
+            SeekFrom::Start(place) => {
+                self.at = place.min(self.bytes.len() as u64) as usize;
+                Ok(place)
+            }
+            _ => Err(io::Error::from(ErrorKind::Unsupported)),
+        }
     }
 }
 

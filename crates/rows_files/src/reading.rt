@@ -3,7 +3,7 @@
 use crate::asserts::{equal, equal_at};
 use crate::disk::{Desk, Disk, Kind};
 use crate::scratch::{folder, remove, within};
-use jk_files::{Refusal, read_all, read_file};
+use jk_files::{Refusal, read_all, read_file, read_inside_at};
 use jk_math::Fault;
 use std::alloc::Global;
 use std::fs::{self, File};
@@ -136,6 +136,96 @@ fn no_regular_file(rt: HostRuntime) -> Result<(), Fail> {
     Ok(())
 }
 
+/// Whether a file of a disk gives from a place on what the megabyte has there, at most so much of
+/// it, or what the fault was.
+fn from(
+    alloc: Global,
+    disk: &Disk,
+    start: usize,
+    most: usize,
+) -> Result<Result<bool, Fault>, Fail> {
+    let all = megabyte(alloc)?;
+    let rest = all.get(start..).unwrap_or(b"");
+    let due = rest.get(..most).unwrap_or(rest);
+    Ok(
+        match read_inside_at(&Desk(disk), alloc, "d", "a", start as u64, most) {
+            Ok(bytes) => Ok(bytes.as_slice() == due),
+            Err(refusal) => Err(refusal.fault()),
+        },
+    )
+}
+
+/// Places, and how much is asked for: in front, in the middle, at the end, past it and nothing.
+static STRETCHES: [(usize, usize); 8] = [
+    (0, 16384),
+    (16384, 16384),
+    (255, 300_000),
+    (1_048_570, 7),
+    (1_048_570, 16384),
+    (1_048_577, 16384),
+    (2_000_000, 1),
+    (5, 0),
+];
+
+#[test]
+fn from_a_place(rt: HostRuntime) -> Result<(), Fail> {
+    for (start, most) in &STRETCHES {
+        for piece in [usize::MAX, 100_000, 4096] {
+            let disk = disk_of(rt.alloc(), piece)?;
+            disk.interrupts.set(1);
+            equal_at(
+                &rt,
+                (*start, *most, piece),
+                from(rt.alloc(), &disk, *start, *most)?,
+                Ok(true),
+            );
+        }
+    }
+    Ok(())
+}
+
+#[test]
+fn from_a_place_failing_at_each_call(rt: HostRuntime) -> Result<(), Fail> {
+    // A question, an opening, a step to the place, and three reads.
+    for call in 1..7 {
+        let disk = disk_of(rt.alloc(), 100_000)?;
+        disk.fails_at.set(call);
+        equal_at(
+            &rt,
+            call,
+            from(rt.alloc(), &disk, 70_000, 250_000)?,
+            Err(Fault::Shelf),
+        );
+    }
+    let disk = disk_of(rt.alloc(), 100_000)?;
+    disk.fails_at.set(7);
+    equal(&rt, from(rt.alloc(), &disk, 70_000, 250_000)?, Ok(true));
+    Ok(())
+}
+
+/// What a file of a folder gives whose name or kind isn't that of a regular file inside it.
+fn from_no_file(alloc: Global, name: &str, kind: Kind) -> Result<Option<Fault>, Fail> {
+    let disk = Disk::new(alloc);
+    disk.put("d/a", kind, b"0123")?;
+    let answer = read_inside_at(&Desk(&disk), alloc, "d", name, 1, 2);
+    Ok(answer.err().map(|refusal| refusal.fault()))
+}
+
+#[test]
+fn from_no_regular_file(rt: HostRuntime) -> Result<(), Fail> {
+    for (name, kind, due) in [
+        ("a", Kind::File, None),
+        ("b", Kind::File, Some(Fault::Shelf)),
+        ("../a", Kind::File, Some(Fault::Shelf)),
+        ("a", Kind::Pipe, Some(Fault::Shelf)),
+        ("a", Kind::Folder, Some(Fault::Shelf)),
+        ("a", Kind::Turned, Some(Fault::Shelf)),
+    ] {
+        equal_at(&rt, name, from_no_file(rt.alloc(), name, kind)?, due);
+    }
+    Ok(())
+}
+
 /// What a file of the system gives.
 fn of_system(rt: &HostRuntime, path: &str) -> Result<Result<bool, Fault>, Fail> {
     is_whole(rt.alloc(), read_file(rt, rt.alloc(), path))
@@ -157,8 +247,10 @@ fn of_the_system(rt: HostRuntime) -> Result<(), Fail> {
     let whole = of_system(&rt, file.as_str())?;
     let linked = of_system(&rt, link.as_str())?;
     let inner = of_system(&rt, path.as_str())?;
+    let stretch = read_inside_at(&rt, rt.alloc(), path.as_str(), "b", 1_048_574, 9)?;
     remove(&rt, path.as_str())?;
     equal(&rt, [whole, linked], [Ok(true), Ok(true)]);
+    equal(&rt, stretch.as_slice(), [254u8, 255, 7].as_slice());
     equal(&rt, inner, Err(Fault::Shelf));
     Ok(())
 }

@@ -19,6 +19,20 @@ fn pixel(alloc: Global, sample: i32) -> Result<Image, Fault> {
     Image::new(0, 0, 1, 1, 8, false, planes)
 }
 
+/// An image of 448 by 448 grey samples of noise: the high bytes of numbers, each of which is 1,664,525
+/// times the one before it and 1,013,904,223, by 32 bits; the first comes so from 1.
+fn noise(alloc: Global) -> Result<Image, Fault> {
+    let mut plane = Vec::new(alloc);
+    let mut number = 1u32;
+    for _ in 0..448 * 448 {
+        number = number.wrapping_mul(1_664_525).wrapping_add(1_013_904_223);
+        plane.push((number >> 24) as i32)?;
+    }
+    let mut planes = Vec::new(alloc);
+    planes.push(plane)?;
+    Image::new(0, 0, 448, 448, 8, false, planes)
+}
+
 /// No levels, one layer, LRCP, blocks of 64 by 64, and nothing else, in this container.
 pub(crate) fn plain(alloc: Global, container: Container) -> Parameters {
     parameters(alloc, 0, container)
@@ -42,6 +56,17 @@ fn parameters(alloc: Global, levels: u8, container: Container) -> Parameters {
         sop: false,
         eph: false,
         container,
+    }
+}
+
+/// A square window, whose upper left corner is as far from both edges.
+pub(crate) fn square(corner: u32, side: u32) -> View {
+    View {
+        reduce: 0,
+        x: corner,
+        y: corner,
+        width: side,
+        height: side,
     }
 }
 
@@ -100,6 +125,18 @@ pub(crate) fn add<S: Shelf>(
     archive.add(alloc, name, &image, &plain(alloc, Container::Jp2))
 }
 
+/// Adds noise in tiles of 64 by 64, with two levels.
+pub(crate) fn add_noise<S: Shelf>(
+    archive: &mut Archive<S>,
+    alloc: Global,
+    name: &str,
+) -> Result<Arc<Entry>, Fault> {
+    let image = noise(alloc)?;
+    let mut parameters = with_levels(alloc, 2);
+    parameters.tile = Some((64, 64));
+    archive.add(alloc, name, &image, &parameters)
+}
+
 /// Why a grey sample isn't added, where it isn't.
 pub(crate) fn refusal<S: Shelf>(
     archive: &mut Archive<S>,
@@ -145,6 +182,32 @@ pub(crate) fn window<S: Shelf>(
     view: View,
 ) -> Result<Vec<u8>, Fault> {
     archive.window(alloc, name, view)
+}
+
+pub(crate) fn entry_whole<S: Shelf>(
+    entry: &Entry,
+    alloc: Global,
+    shelf: &mut S,
+) -> Result<Vec<u8>, Fault> {
+    entry.whole(alloc, shelf)
+}
+
+pub(crate) fn entry_window<S: Shelf>(
+    entry: &Entry,
+    alloc: Global,
+    shelf: &mut S,
+    view: View,
+) -> Result<Vec<u8>, Fault> {
+    entry.window(alloc, shelf, view)
+}
+
+pub(crate) fn by_parts<S: Shelf>(
+    entry: &Entry,
+    alloc: Global,
+    shelf: &mut S,
+    view: View,
+) -> Result<Vec<u8>, Fault> {
+    entry.window_by_parts(alloc, shelf, view)
 }
 
 /// The names that are listed, with a space behind each.

@@ -6,6 +6,8 @@ mod adding;
 #[cfg(test)]
 mod asserts;
 #[cfg(test)]
+mod by_parts;
+#[cfg(test)]
 mod calls;
 #[cfg(test)]
 mod contents;
@@ -21,6 +23,8 @@ mod limits;
 mod loopback;
 #[cfg(test)]
 mod opening;
+#[cfg(test)]
+mod parts;
 #[cfg(test)]
 mod reading;
 #[cfg(test)]

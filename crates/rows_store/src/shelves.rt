@@ -15,22 +15,27 @@ pub(crate) enum Act {
     Change,
 }
 
-/// A shelf in memory that acts at one of its calls, and at no other.
+/// A shelf in memory that acts at one of its calls, and at no other. It counts the stretches that are
+/// read of its files, and their bytes.
 #[derive(Drop)]
 pub(crate) struct Acting {
     inner: MemoryShelf,
     left: u64,
     act: Act,
     failures: Failures,
+    pub(crate) stretches: u64,
+    pub(crate) bytes: u64,
 }
 
-/// A shelf that acts at its nth call, counted from 1.
+/// A shelf that acts at its nth call, counted from 1; at the call 0 it never does.
 pub(crate) fn act_at(inner: MemoryShelf, call: u64, act: Act) -> Acting {
     Acting {
         inner,
         left: call,
         act,
         failures: Failures::none(),
+        stretches: 0,
+        bytes: 0,
     }
 }
 
@@ -43,12 +48,22 @@ impl Acting {
         self.left = self.left.saturating_sub(1);
         due && self.act == act
     }
+
+    /// Counts a stretch.
+    fn note(&mut self, bytes: usize)
+        ensures { self.new.failures ≡ self.old.failures }
+    {
+        self.stretches = self.stretches.saturating_add(1);
+        self.bytes = self.bytes.saturating_add(bytes as u64);
+    }
 }
 
 impl Shelf for Acting {
     ghost keeps = { λ _ _. ⊥ };
 
     ghost gave = { λ _ _ _ _. Unit {0} };
+
+    ghost gave_at = { λ _ _ _ _ _ _. Unit {0} };
 
     ghost lists = { λ _ _ _. Unit {0} };
 
@@ -76,6 +91,31 @@ impl Shelf for Acting {
         }
         let answer = self.inner.read(alloc, name);
         self.failures.counted(answer)
+    }
+
+    fn read_at(
+        &mut self,
+        alloc: Global,
+        name: &str,
+        start: u64,
+        most: usize,
+    ) -> Result<Vec<u8>, Fault> {
+        self.failures.ready()?;
+        let changes = self.act == Act::Change;
+        if self.acts(self.act) {
+            if !changes {
+                return Err(self.failures.fail());
+            }
+            let mut bytes = self
+                .failures
+                .counted(self.inner.read_at(alloc, name, start, most))?;
+            bytes.push(0)?;
+            return Ok(bytes);
+        }
+        let answer = self.inner.read_at(alloc, name, start, most);
+        let bytes = self.failures.counted(answer)?;
+        self.note(bytes.len());
+        Ok(bytes)
     }
 
     fn write(&mut self, alloc: Global, name: &str, bytes: &[u8]) -> Result<(), Fault> {
@@ -113,6 +153,8 @@ impl Shelf for Many {
 
     ghost gave = { λ _ _ _ _. Unit {0} };
 
+    ghost gave_at = { λ _ _ _ _ _ _. Unit {0} };
+
     ghost lists = { λ _ _ _. Unit {0} };
 
     ghost failed = { λ _. 0 };
@@ -127,6 +169,18 @@ impl Shelf for Many {
 
     fn read(&mut self, alloc: Global, _name: &str) -> Result<Vec<u8>, Fault> {
         Ok(Vec::from_slice(alloc, &self.bytes)?)
+    }
+
+    fn read_at(
+        &mut self,
+        alloc: Global,
+        _name: &str,
+        start: u64,
+        most: usize,
+    ) -> Result<Vec<u8>, Fault> {
+        let start = start.min(self.bytes.len() as u64) as usize;
+        let rest = &self.bytes[start..];
+        Ok(Vec::from_slice(alloc, &rest[..most.min(rest.len())])?)
     }
 
     fn write(&mut self, _alloc: Global, _name: &str, _bytes: &[u8]) -> Result<(), Fault> {

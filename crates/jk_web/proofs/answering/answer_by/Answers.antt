@@ -20,7 +20,7 @@ returns-in-Whole-clause-exact g c =
     (λ image n asked cut. g.W.Windows.others image c.args.catalogue.now n asked c.answer_whole.new.catalogue cut) query r) q.closes))
     (if_ok c.answer_whole.result
     (λ r. reply_as _ _ _ _ q.closes r (whole_alone images _
-    (λ image n asked cut. IsOtherRead g.C.Catalogue.reads g.C.Catalogue.cuts image c.args.catalogue.now n asked c.answer_whole.new.catalogue cut)
+    (λ image n asked cut. IsOtherRead g.C.Catalogue.cuts image c.args.catalogue.now n asked c.answer_whole.new.catalogue cut)
     (λ image n asked cut. g.W.Windows.others image c.args.catalogue.now n asked c.answer_whole.new.catalogue cut) c.in-Whole.name.now c.split_target.result.1.now))
     (c.answer_whole.ensures.exact images stands))
 

@@ -1,0 +1,7 @@
+use Rattle.jk_store.proofs.PartsLaws.{digests_more}
+use Rattle.jk_store.proofs.parts.part_digests.Goals as goal
+
+pub loop-number-preserved : goal.loop-number-preserved
+loop-number-preserved c =
+    digests_more c.args.bytes.now c.loop-number.number c.loop-number.digests.items c.push.new.self.items c.part.result.now c.digest.result c.loop-number.invariant c.part.ensures c.digest.ensures
+    c.in_ok-push.ensures.items

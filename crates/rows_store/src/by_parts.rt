@@ -1,0 +1,224 @@
+//! Windows of a large file, of which only the parts are read that they need.
+
+use crate::asserts::{equal, equal_at};
+use crate::calls::{add_noise, by_parts, entry_whole, entry_window, open, read, square, write};
+use crate::shelves::{Act, act_at};
+use jk_math::Fault;
+use jk_store::{Archive, Entry, MemoryShelf, Shelf};
+use jk_window::View;
+use std::alloc::Global;
+use std::test::Fail;
+
+/// The archive of one image `n`, 448 by 448 grey samples of noise in tiles of 64 by 64, and its
+/// file.
+#[derive(Drop)]
+struct Noise {
+    archive: Archive<MemoryShelf>,
+    file: Vec<u8>,
+}
+
+fn made(alloc: Global) -> Result<Noise, Fault> {
+    let mut archive = open(alloc, MemoryShelf::new(alloc))?;
+    add_noise(&mut archive, alloc, "n")?;
+    let mut shelf = archive.into_shelf();
+    let file = read(&mut shelf, alloc, "n.jp2")?;
+    Ok(Noise {
+        archive: open(alloc, shelf)?,
+        file,
+    })
+}
+
+impl Noise {
+    fn entry(&self) -> Result<&Entry, Fault> {
+        match self.archive.list().first() {
+            Some(entry) => Ok(entry),
+            None => Err(Fault::NoSuchImage),
+        }
+    }
+}
+
+/// A shelf with one file.
+fn with_file(alloc: Global, name: &str, bytes: &[u8]) -> Result<MemoryShelf, Fault> {
+    let mut shelf = MemoryShelf::new(alloc);
+    write(&mut shelf, alloc, name, bytes)?;
+    Ok(shelf)
+}
+
+/// The window that is cut of the whole file.
+fn due(alloc: Global, noise: &Noise, asked: View) -> Result<Vec<u8>, Fault> {
+    let mut shelf = with_file(alloc, "n.jp2", &noise.file)?;
+    entry_window(noise.entry()?, alloc, &mut shelf, asked)
+}
+
+/// Whether the window is what is cut of the whole file; and how many stretches of how many bytes
+/// were read for it.
+fn compared(alloc: Global, noise: &Noise, asked: View) -> Result<(bool, u64, u64), Fault> {
+    let mut shelf = act_at(with_file(alloc, "n.jp2", &noise.file)?, 0, Act::Fail);
+    let made = by_parts(noise.entry()?, alloc, &mut shelf, asked)?;
+    let same = made.as_slice() == due(alloc, noise, asked)?.as_slice();
+    Ok((same, shelf.stretches, shelf.bytes))
+}
+
+/// Upper left corners and sides of windows, and how many parts each may need.
+static WINDOWS: [(u32, u32, u64); 4] = [(0, 1, 2), (130, 60, 3), (300, 16, 4), (0, 448, 100)];
+
+#[test]
+fn of_their_parts_alone(rt: HostRuntime) -> Result<(), Fail> {
+    let noise = made(rt.alloc())?;
+    for (corner, side, most) in &WINDOWS {
+        let asked = square(*corner, *side);
+        let (same, stretches, bytes) = compared(rt.alloc(), &noise, asked)?;
+        let few = stretches <= *most && bytes <= most.saturating_mul(16384);
+        equal_at(&rt, *corner, (same, few), (true, true));
+    }
+    Ok(())
+}
+
+/// The file with another byte at the front of one of its parts.
+fn turned(alloc: Global, file: &[u8], part: usize) -> Result<Vec<u8>, Fault> {
+    let mut bytes = Vec::from_slice(alloc, file)?;
+    if let Some(byte) = bytes.get_mut(part.saturating_mul(16384)) {
+        *byte ^= 1;
+    }
+    Ok(bytes)
+}
+
+/// How many of the files in which one part has changed give the window as it was, how many are told
+/// to have changed where the window is asked for, and how many where the whole is.
+fn with_each_turned(alloc: Global, noise: &Noise, asked: View) -> Result<(u64, u64, u64), Fault> {
+    let entry = noise.entry()?;
+    let window = due(alloc, noise, asked)?;
+    let mut same = 0u64;
+    let mut changed = 0u64;
+    let mut wholes = 0u64;
+    for part in 0..entry.parts.len() {
+        let bytes = turned(alloc, &noise.file, part)?;
+        let mut shelf = with_file(alloc, "n.jp2", &bytes)?;
+        match by_parts(entry, alloc, &mut shelf, asked) {
+            Ok(made) => {
+                if made.as_slice() == window.as_slice() {
+                    same = same.saturating_add(1);
+                }
+            }
+            Err(fault) => {
+                if fault == Fault::Changed {
+                    changed = changed.saturating_add(1);
+                }
+            }
+        }
+        if entry_whole(entry, alloc, &mut shelf).err() == Some(Fault::Changed) {
+            wholes = wholes.saturating_add(1);
+        }
+    }
+    Ok((same, changed, wholes))
+}
+
+/// A file that has changed in a part that is read is told; one that has changed elsewhere gives the
+/// window.
+#[test]
+fn where_a_part_has_changed(rt: HostRuntime) -> Result<(), Fail> {
+    let noise = made(rt.alloc())?;
+    let parts = noise.entry()?.parts.len() as u64;
+    for (corner, side, _most) in &WINDOWS[..2] {
+        let asked = square(*corner, *side);
+        let (_same, stretches, _bytes) = compared(rt.alloc(), &noise, asked)?;
+        let counts = with_each_turned(rt.alloc(), &noise, asked)?;
+        let due = (parts.saturating_sub(stretches), stretches, parts);
+        equal_at(&rt, *corner, counts, due);
+    }
+    Ok(())
+}
+
+/// Whether a window of a file without its last bytes, or with so many zeros behind it, is that of
+/// the file; what is said of the whole; and the failures.
+fn of_length(
+    alloc: Global,
+    noise: &Noise,
+    (cut, more): (usize, usize),
+    asked: View,
+) -> Result<(Result<bool, Fault>, Option<Fault>, u64), Fault> {
+    let mut bytes = Vec::from_slice(alloc, &noise.file)?;
+    bytes.truncate(bytes.len().saturating_sub(cut));
+    for _ in 0..more {
+        bytes.push(0)?;
+    }
+    let window = due(alloc, noise, asked)?;
+    let mut shelf = with_file(alloc, "n.jp2", &bytes)?;
+    let entry = noise.entry()?;
+    let answer = match by_parts(entry, alloc, &mut shelf, asked) {
+        Ok(made) => Ok(made.as_slice() == window.as_slice()),
+        Err(fault) => Err(fault),
+    };
+    let all = entry_whole(entry, alloc, &mut shelf).err();
+    Ok((answer, all, shelf.failures()))
+}
+
+/// Bytes that are cut off, bytes that are added, the corner of a window of 8 by 8, and whether it
+/// is given.
+static LENGTHS: [(usize, usize, u32, Result<bool, Fault>); 6] = [
+    (0, 1, 0, Ok(true)),
+    (0, 1, 440, Ok(true)),
+    (0, 50_000, 440, Ok(true)),
+    (1, 0, 0, Ok(true)),
+    (20_000, 0, 440, Err(Fault::Changed)),
+    (1_000_000, 0, 0, Err(Fault::Changed)),
+];
+
+#[test]
+fn longer_and_shorter_files(rt: HostRuntime) -> Result<(), Fail> {
+    let noise = made(rt.alloc())?;
+    for (cut, more, corner, due) in &LENGTHS {
+        let answer = of_length(rt.alloc(), &noise, (*cut, *more), square(*corner, 8))?;
+        equal_at(&rt, (*cut, *more), answer, (*due, Some(Fault::Changed), 0));
+    }
+    Ok(())
+}
+
+/// What a window of a file that isn't there gives, and one that the view hasn't; and the failures.
+fn of_no_file(alloc: Global, noise: &Noise) -> Result<([Option<Fault>; 2], u64), Fault> {
+    let mut shelf = with_file(alloc, "m.jp2", &noise.file)?;
+    let entry = noise.entry()?;
+    let faults = [
+        by_parts(entry, alloc, &mut shelf, square(0, 8)).err(),
+        by_parts(entry, alloc, &mut shelf, square(448, 8)).err(),
+    ];
+    Ok((faults, shelf.failures()))
+}
+
+#[test]
+fn missing_files(rt: HostRuntime) -> Result<(), Fail> {
+    let noise = made(rt.alloc())?;
+    let due = [Some(Fault::Shelf), Some(Fault::BadWindow)];
+    equal(&rt, of_no_file(rt.alloc(), &noise)?, (due, 1));
+    Ok(())
+}
+
+/// Whether a window of a shelf that fails at a call is given as it is due, and the failures.
+fn failing_at(
+    alloc: Global,
+    noise: &Noise,
+    asked: View,
+    call: u64,
+) -> Result<(Result<bool, Fault>, u64), Fault> {
+    let window = due(alloc, noise, asked)?;
+    let mut shelf = act_at(with_file(alloc, "n.jp2", &noise.file)?, call, Act::Fail);
+    let answer = match by_parts(noise.entry()?, alloc, &mut shelf, asked) {
+        Ok(made) => Ok(made.as_slice() == window.as_slice()),
+        Err(fault) => Err(fault),
+    };
+    Ok((answer, shelf.failures()))
+}
+
+#[test]
+fn failing_at_each_call(rt: HostRuntime) -> Result<(), Fail> {
+    let noise = made(rt.alloc())?;
+    let asked = square(0, 448);
+    let (_same, stretches, _bytes) = compared(rt.alloc(), &noise, asked)?;
+    for call in 1..stretches.saturating_add(1) {
+        let answer = failing_at(rt.alloc(), &noise, asked, call)?;
+        equal_at(&rt, call, answer, (Err(Fault::Shelf), 1));
+    }
+    let answer = failing_at(rt.alloc(), &noise, asked, stretches.saturating_add(1))?;
+    equal(&rt, answer, (Ok(true), 0));
+    Ok(())
+}
