@@ -1,3 +1,8 @@
 pub mod SizeLaws
 pub mod CommandLaws
 pub mod LeftLaws
+pub mod WalkLoops
+pub mod MarkerLaws
+pub mod BoxLaws
+pub mod AllLaws
+mod Examples

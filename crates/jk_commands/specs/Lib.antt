@@ -6,3 +6,7 @@ pub mod Plans
 pub mod Commands
 pub mod Written
 pub mod Lines
+pub mod BoxList
+pub mod HeaderMarkers
+pub mod Values
+pub mod AllLines

@@ -1,15 +1,20 @@
 //! What each command of jk makes of byte strings: no file is opened here, and nothing is printed.
 #![tactic(auto)]
 
+mod box_list;
+mod coding_values;
 mod cutting;
 mod decoding;
 mod encoding;
+mod markers;
 mod options;
 mod orders;
 mod plan;
 mod sizes;
 mod telling;
+mod telling_all;
 mod theorems;
+mod values;
 mod viewing;
 
 pub use cutting::cut_file;
@@ -19,5 +24,6 @@ pub use options::EncodeOptions;
 pub use orders::{order_name, order_named};
 pub use plan::{Placed, Plan, judge};
 pub use telling::info_file;
+pub use telling_all::info_all_file;
 pub use theorems::encode_and_decode;
 pub use viewing::decode_window_file;

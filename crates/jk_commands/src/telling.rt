@@ -47,7 +47,7 @@ fn put_counts(alloc: Global, line: &mut String, index: &Index) -> Result<(), All
 }
 
 /// The line of an index.
-fn line(alloc: Global, index: &Index) -> Result<String, AllocError>
+pub(crate) fn line(alloc: Global, index: &Index) -> Result<String, AllocError>
     ensures { IfOk result (λ s. string_bytes s ≡ line_of index.now) }
 {
     let mut line = String::new(alloc);

@@ -20,7 +20,19 @@ const INFO_WORDS: &str = "\
 The line is WIDTH HEIGHT COMPONENTS DEPTH LEVELS LAYERS ORDER TILES PACKETS. LEVELS is the least
 number of decomposition levels of a component of a tile: the image can't be halved more often.
 LAYERS and ORDER are those of the main header. The boxes, all headers and all packets are read, and
-what is wrong with them is a fault; code-blocks aren't decoded.";
+what is wrong with them is a fault; code-blocks aren't decoded.
+
+With --all these lines follow, each a LABEL, a colon and values, each behind a space:
+boxes: KIND=LENGTH of each box; what isn't a letter or a digit of a kind stands as in a URL
+tile-parts: how many there are
+code-blocks: WIDTHxHEIGHT
+precincts: WIDTHxHEIGHT of each resolution, from the lowest on
+SOP: yes or no
+EPH: yes or no
+colour-transform: reversible or none
+passed-over: NAME=COUNT of the marker segments in headers that say nothing of the image
+sizes: WIDTHxHEIGHT of the image at each reduction, from 0 on
+The value is `differ` where tiles or components aren't alike, and `none` where there is nothing.";
 
 /// What `jk decode` does with a window.
 const DECODE_WORDS: &str = "\
@@ -290,7 +302,16 @@ fn info<'a>(alloc: Global) -> Result<Command<'a>, AllocError> {
     let command = Command::new(alloc, "info")
         .about("Tells in one line what a JPEG 2000 file holds")
         .after_help(INFO_WORDS);
-    with_words(alloc, command, &[CODED, EXPLAIN])
+    let words = [
+        CODED,
+        Word(
+            "all",
+            Form::Flag,
+            "Tell in more lines what decides how small windows get, and what the file carries",
+        ),
+        EXPLAIN,
+    ];
+    with_words(alloc, command, &words)
 }
 
 /// `jk cut IN OUT`.
@@ -378,34 +399,35 @@ fn arg<'a>(alloc: Global, word: Word<'a>) -> Result<Arg<'a>, AllocError> {
         Form::Window => number(alloc, name, "N").requires_all(&WINDOW)?,
         Form::Default(letter, value) => number(alloc, name, letter).default_value(value),
         Form::Order(value) => order(alloc, name, value),
-        Form::Bytes => Arg::new(alloc, name).long(name).value_name("HEX"),
+        Form::Bytes => option(alloc, name, "HEX"),
         Form::Port => port(alloc, name),
     };
     Ok(arg.help(help))
 }
 
-/// An option with a number.
-fn number<'a>(alloc: Global, name: &'a str, letter: &'a str) -> Arg<'a> {
+/// An option with a value. A negative number is a value too, which is judged as others are.
+fn option<'a>(alloc: Global, name: &'a str, value: &'a str) -> Arg<'a> {
     Arg::new(alloc, name)
         .long(name)
-        .value_name(letter)
-        .value_parser(value_parser!(u32))
+        .value_name(value)
+        .allow_negative_numbers(true)
+}
+
+/// An option with a number.
+fn number<'a>(alloc: Global, name: &'a str, letter: &'a str) -> Arg<'a> {
+    option(alloc, name, letter).value_parser(value_parser!(u32))
 }
 
 /// The order of packets.
 fn order<'a>(alloc: Global, name: &'a str, value: &'a str) -> Arg<'a> {
-    Arg::new(alloc, name)
-        .long(name)
-        .value_name("ORDER")
+    option(alloc, name, "ORDER")
         .value_parser(["LRCP", "RLCP", "RPCL", "PCRL", "CPRL"].as_slice())
         .default_value(value)
 }
 
 /// A port, which is required.
 fn port<'a>(alloc: Global, name: &'a str) -> Arg<'a> {
-    Arg::new(alloc, name)
-        .long(name)
-        .value_name("P")
+    option(alloc, name, "P")
         .value_parser(value_parser!(u16))
         .required(true)
 }

@@ -11,7 +11,9 @@ use crate::world::World;
 use crate::{archive, options};
 use clap::ArgMatches;
 use clap::error::ErrorKind;
-use jk_commands::{cut_file, decode_file, decode_window_file, encode_file_into, info_file, judge};
+use jk_commands::{
+    cut_file, decode_file, decode_window_file, encode_file_into, info_all_file, info_file, judge,
+};
 use jk_math::Fault;
 use std::alloc::Global;
 
@@ -52,7 +54,12 @@ fn decode<W: World>(alloc: Global, line: &ArgMatches<'_>, world: &mut W) -> Resu
 /// `jk info IN`.
 fn info<W: World>(alloc: Global, line: &ArgMatches<'_>, world: &mut W) -> Result<(), Failure> {
     let bytes = read(alloc, world, options::input(line))?;
-    match info_file(alloc, &bytes) {
+    let told = if line.get_flag("all") {
+        info_all_file(alloc, &bytes)
+    } else {
+        info_file(alloc, &bytes)
+    };
+    match told {
         Ok(text) => write(alloc, world, "-", text.as_bytes()),
         Err(fault) => Err(of_file(alloc, fault, left_out(&bytes))),
     }

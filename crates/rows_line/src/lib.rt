@@ -6,4 +6,8 @@ mod lines;
 #[cfg(test)]
 mod memory;
 #[cfg(test)]
+mod numbers;
+#[cfg(test)]
+mod telling;
+#[cfg(test)]
 mod texts;

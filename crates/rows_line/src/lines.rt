@@ -10,26 +10,26 @@ use std::str::Split;
 use std::test::Fail;
 
 /// A PGM file of one pixel, 128.
-static GREY: &str = "50350A 312031 0A 323535 0A 80";
+pub(crate) static GREY: &str = "50350A 312031 0A 323535 0A 80";
 
 /// A PPM file of one pixel whose components are 128.
-static COLOURS: &str = "50360A 312031 0A 323535 0A 808080";
+pub(crate) static COLOURS: &str = "50360A 312031 0A 323535 0A 808080";
 
 /// The segments of the grey pixel without levels: SIZ, COD and QCD.
-static SIZE: &str =
+pub(crate) static SIZE: &str =
     "FF51 0029 0000 00000001 00000001 00000000 00000000 00000001 00000001 00000000 00000000 0001 07 01 01";
 
-static CODING: &str = "FF52 000C 00 00 0001 00 00 04 04 00 01";
+pub(crate) static CODING: &str = "FF52 000C 00 00 0001 00 00 04 04 00 01";
 
-static STEPS: &str = "FF5C 0004 40 40";
+pub(crate) static STEPS: &str = "FF5C 0004 40 40";
 
 /// The boxes around its codestream in a JP2 file.
-static BOXES: &str =
+pub(crate) static BOXES: &str =
     "0000000C 6A502020 0D0A870A 00000014 66747970 6A703220 00000000 6A703220 0000002D 6A703268 00000016 69686472 00000001 00000001 0001 07 07 00 00 0000000F 636F6C72 01 00 00 00000011 0000005A 6A703263";
 
 /// A column of nine samples with one level: its codestream, its PGM file, and that of the halved
 /// image.
-static COLUMN: &str =
+pub(crate) static COLUMN: &str =
     "FF4F FF51 0029 0000 00000001 00000009 00000000 00000000 00000001 00000009 00000000 00000000 0001 07 01 01 FF52 000C 00 00 0001 00 01 04 04 00 01 FF5C 0007 40 40 48 48 50 FF90 000A 0000 0000001E 00 01 FF93 C7 D4 0C 01 8F 0D C8 75 7F C0 7C 21 80 0F B1 7F FFD9";
 
 static COLUMN_TEXT: &str = "50350A 312039 0A 323535 0A 65 67 68 69 60 61 60 66 6D";
@@ -68,13 +68,13 @@ fn words(alloc: Global, line: &str) -> Result<Vec<String>, Fail> {
 }
 
 /// Runs a command line.
-fn run_line(alloc: Global, world: &mut Memory, line: &str) -> Result<Status, Fail> {
+pub(crate) fn run_line(alloc: Global, world: &mut Memory, line: &str) -> Result<Status, Fail> {
     let words = words(alloc, line)?;
     Ok(run(alloc, &words, world))
 }
 
 /// Runs a command line over an input, which must write an output and nothing else.
-fn check_output(
+pub(crate) fn check_output(
     rt: &impl Abort,
     alloc: Global,
     line: &str,
@@ -263,6 +263,8 @@ decode - a/b --x 0 --y 5 --w 1 --h 1 --reduce 1|column|F16 BadWindow
 decode - a/b --x 0 --y 0 --w 1 --h 1 --reduce 2|column|F16 BadWindow
 decode - a/b --x 0 --y 8 --w 1 --h 1|column|F20 Shelf
 info -|FF4F|F2 Truncated
+info no --all||F20 Shelf
+info - --all|FF4F|F2 Truncated
 cut - a/b --x 1 --y 0 --w 1 --h 1|FF4F|F2 Truncated
 cut - a/b --x 1 --y 0 --w 1 --h 1|column|F16 BadWindow
 add no A no --layers 65536||F15 BadParameters
@@ -397,6 +399,10 @@ serve d
 serve d --port 65536
 faults x
 info
+info --all
+info - --all x
+info - --all --all
+info - --all=1
 --explain";
 
 /// Wrong command lines, and what is asked of the program itself.
