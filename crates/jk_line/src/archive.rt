@@ -36,7 +36,10 @@ fn open<W: World>(alloc: Global, world: &mut W, name: &str) -> Result<Archive<W:
         Ok(folder) => folder,
         Err(fault) => return Err(of_world(alloc, world, fault, name, "opened")),
     };
-    match Images::read(alloc, &mut folder) {
+    world.begin_opening(&mut folder);
+    let read = Images::read(alloc, &mut folder);
+    world.end_opening(&mut folder);
+    match read {
         Ok(images) => {
             world.tell_others(&folder);
             Ok(Archive::with(folder, images))
@@ -167,7 +170,10 @@ pub(crate) fn add<W: World>(
         Ok(shelf) => shelf,
         Err(fault) => return Err(of_world(alloc, world, fault, folder, "opened")),
     };
-    let images = match beside(alloc, world, &mut shelf, options::name(line)) {
+    world.begin_opening(&mut shelf);
+    let beside = beside(alloc, world, &mut shelf, options::name(line));
+    world.end_opening(&mut shelf);
+    let images = match beside {
         Ok(images) => images,
         Err(fault) => {
             let failure = of_beside(alloc, world, fault, &options, line, &shelf);

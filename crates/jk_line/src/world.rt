@@ -68,6 +68,13 @@ pub trait World {
     /// Takes the folder of an archive back.
     fn give_back(&mut self, alloc: Global, name: &str, folder: Self::Folder) -> Result<(), Fault>;
 
+    /// From now on it is told how many files of an archive's folder were read, where standard error
+    /// is a terminal: they are read one after another, which takes a while where there are many.
+    fn begin_opening(&mut self, folder: &mut Self::Folder);
+
+    /// Ends that, and takes away what is told of it.
+    fn end_opening(&mut self, folder: &mut Self::Folder);
+
     /// The file of an archive's folder at which the folder's last call was refused, if it was one.
     /// What the system said of it is what `said` tells then.
     fn trouble(&mut self, alloc: Global, folder: &Self::Folder) -> Option<String>;

@@ -1,5 +1,6 @@
 //! The world of the program: the system's files, streams and sockets.
 
+use crate::opening::Watched;
 use crate::output::Late;
 use crate::{files, serving};
 use jk_files::{Lock, Lockable, Refusal, SharedLock, wait_exclusive, wait_shared};
@@ -77,7 +78,7 @@ impl<
 where
     R::File: Lockable,
 {
-    type Folder = Folder<R>;
+    type Folder = Watched<Folder<R>, R>;
 
     type Output = BufWriter<Late<R>, Global>;
 
@@ -142,16 +143,32 @@ where
         self.lock = None;
     }
 
-    fn folder(&mut self, alloc: Global, folder: &str) -> Result<Folder<R>, Fault> {
-        Folder::new(self.rt.clone()?, alloc, folder)
+    fn folder(&mut self, alloc: Global, folder: &str) -> Result<Watched<Folder<R>, R>, Fault> {
+        let folder = Folder::new(self.rt.clone()?, alloc, folder)?;
+        Ok(Watched::new(folder, self.rt.clone()?))
     }
 
-    fn give_back(&mut self, _alloc: Global, _name: &str, _folder: Folder<R>) -> Result<(), Fault> {
+    fn give_back(
+        &mut self,
+        _alloc: Global,
+        _name: &str,
+        _folder: Watched<Folder<R>, R>,
+    ) -> Result<(), Fault> {
         Ok(())
     }
 
-    fn trouble(&mut self, alloc: Global, folder: &Folder<R>) -> Option<String> {
-        let trouble = folder.trouble()?;
+    fn begin_opening(&mut self, folder: &mut Watched<Folder<R>, R>) {
+        if self.is_terminal {
+            folder.begin();
+        }
+    }
+
+    fn end_opening(&mut self, folder: &mut Watched<Folder<R>, R>) {
+        folder.end();
+    }
+
+    fn trouble(&mut self, alloc: Global, folder: &Watched<Folder<R>, R>) -> Option<String> {
+        let trouble = folder.shelf().trouble()?;
         self.said = Some(trouble.said);
         if trouble.name.is_empty() {
             return None;
@@ -159,8 +176,8 @@ where
         String::from_str(alloc, trouble.name.as_str()).ok()
     }
 
-    fn has_other(&self, folder: &Folder<R>, name: &str) -> bool {
-        for other in folder.others() {
+    fn has_other(&self, folder: &Watched<Folder<R>, R>, name: &str) -> bool {
+        for other in folder.shelf().others() {
             if other.name.strip_suffix(".jp2") == Some(name) {
                 return true;
             }
@@ -168,16 +185,16 @@ where
         false
     }
 
-    fn tell_others(&mut self, folder: &Folder<R>) {
+    fn tell_others(&mut self, folder: &Watched<Folder<R>, R>) {
         let rt = &self.rt;
-        for other in folder.others() {
+        for other in folder.shelf().others() {
             let _ = eprintln!(rt; "jk: {} isn't listed: {}", other.name, other.said);
         }
     }
 
-    fn tell_left(&mut self, folder: &Folder<R>) {
+    fn tell_left(&mut self, folder: &Watched<Folder<R>, R>) {
         let rt = &self.rt;
-        for name in folder.left() {
+        for name in folder.shelf().left() {
             let _ = eprintln!(rt; "jk: {} was left when adding was broken off", name);
         }
     }
@@ -185,7 +202,7 @@ where
     fn serve(
         &mut self,
         alloc: Global,
-        archive: &mut Archive<Folder<R>>,
+        archive: &mut Archive<Watched<Folder<R>, R>>,
         serving: Serving,
     ) -> Result<(), Fault> {
         let port = match serving::bind(&self.rt, serving.port) {

@@ -3,6 +3,7 @@
 
 mod files;
 mod host;
+mod opening;
 mod output;
 mod serving;
 

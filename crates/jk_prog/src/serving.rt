@@ -2,12 +2,11 @@
 
 use jk_line::{Serving, listening};
 use jk_math::Fault;
-use jk_store::{Archive, Folder};
+use jk_store::{Archive, Shelf};
 use jk_web::{Cache, End, run_with};
 use std::alloc::Global;
 use std::io::{self, Read};
 use std::net::{Net, OpenListener, Shutdown, TcpListener, TcpStream};
-use std::rt::Files;
 use std::thread;
 use std::time::{Clock, Duration, Instant};
 
@@ -67,11 +66,11 @@ fn read_out<R: Clock>(rt: &R, stream: &TcpStream) -> io::Result<()> {
 }
 
 /// Answers the requests of a connection. However it ends, the next one is taken.
-fn attend<R: Files + Clock + Drop>(
+fn attend<R: Clock, S: Shelf>(
     rt: &R,
     alloc: Global,
     stream: &TcpStream,
-    archive: &mut Archive<Folder<R>>,
+    archive: &mut Archive<S>,
     cache: &mut Cache,
 ) {
     match run_with(alloc, &mut &*stream, &mut &*stream, archive, cache, TURNS) {
@@ -134,11 +133,11 @@ fn connections(serving: Serving) -> u64 {
 
 /// Answers the requests of so many connections, one after another. One that can't be taken counts
 /// as one of them.
-pub(crate) fn serve<R: Files + Eprint + Clock + Drop>(
+pub(crate) fn serve<R: Eprint + Clock, S: Shelf>(
     rt: &R,
     alloc: Global,
     port: &Port,
-    archive: &mut Archive<Folder<R>>,
+    archive: &mut Archive<S>,
     serving: Serving,
 ) -> Result<(), Fault> {
     let mut cache = Cache::new(alloc, WINDOWS)?;

@@ -158,6 +158,10 @@ impl World for Memory {
         Ok(())
     }
 
+    fn begin_opening(&mut self, _folder: &mut MemoryShelf) {}
+
+    fn end_opening(&mut self, _folder: &mut MemoryShelf) {}
+
     fn trouble(&mut self, _alloc: Global, _folder: &MemoryShelf) -> Option<String> {
         None
     }
