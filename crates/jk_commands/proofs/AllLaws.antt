@@ -1,5 +1,5 @@
 -- What is told by places in a file is what its boxes, its tree and its headers say.
-use Rattle.std.proofs.Common.{◌≡◌, ℕ, zero, suc, ◌+◌, ◌<◌, ◌≤◌, Bool, true, false, cond, eqb, ◌||◌, List, [], ◌∷◌, ◌++◌, length, get_or, Result, Ok, Err, inl, inr, add-one, refl, sym, ap, subst, ◌∙◌, append_assoc, arith}
+use Rattle.std.proofs.Common.{◌≡◌, ℕ, zero, suc, ◌+◌, ◌<◌, ◌≤◌, Bool, false, cond, eqb, ◌||◌, List, [], ◌∷◌, ◌++◌, length, get_or, Result, Ok, Err, inl, inr, refl, sym, ap, subst, ◌∙◌, append_assoc, arith}
 use Rattle.std.specs.Prelude.{◌==◌, slice_range, codes}
 use Rattle.std.specs.List.{count_by, AllByRecursion}
 use Rattle.std.specs.Fmt.{decimal}
@@ -13,8 +13,8 @@ use Rattle.jk_math.specs.Steps.{done, ok_is}
 use Rattle.jk_math.specs.declared.fault.Fault.{Fault}
 use Rattle.jk_marks.specs.declared.coding.Coding.{Coding}
 use Rattle.jk_marks.specs.Siz.{tile_count}
-use Rattle.jk_marks.specs.Coding.{IsCoding, precinct_size}
-use Rattle.jk_marks.specs.Codestream.{main_text, BeginsMain}
+use Rattle.jk_marks.specs.Coding.{IsCoding}
+use Rattle.jk_marks.specs.Codestream.{BeginsMain}
 use Rattle.jk_marks.specs.Copying.{main_size_at}
 use Rattle.jk_marks.proofs.Laws.{begins_main}
 use Rattle.jk_boxes.specs.declared.place.Boxed.{Boxed}
@@ -29,8 +29,7 @@ use Rattle.jk_commands.specs.BoxList.{listed}
 use Rattle.jk_commands.specs.HeaderMarkers.{all_segments, is_passed_over, parts_in, markers_in, is_read}
 use Rattle.jk_commands.specs.Lines.{line_of, info_at}
 use Rattle.jk_commands.specs.Values.{value, pair_value, labelled, marker_name, texts_below}
-use Rattle.jk_commands.specs.AllLines.{box_values, marker_value, passed_values, coding_lines, frame_values, boxes_in, first_coding, lines_with, lines_below, lines_of, all_at}
-use Rattle.jk_commands.proofs.WalkLoops.{texts_none, texts_more}
+use Rattle.jk_commands.specs.AllLines.{box_values, marker_value, passed_values, coding_lines, frame_values, boxes_in, lines_with, lines_below, lines_of, all_at}
 use Rattle.jk_commands.proofs.MarkerLaws.{meets_all}
 use Rattle.jk_commands.proofs.BoxLaws.{all_met}
 

@@ -1,8 +1,8 @@
 -- The boxes that are met in a file are those of which it is made.
-use Rattle.std.proofs.Common.{lit<, ◌≡◌, ℕ, zero, suc, ◌+◌, ◌<◌, ◌≤◌, true, List, [], ◌∷◌, ◌++◌, length, map, Some, None, Ok, refl, sym, ap, ◌∙◌, length-append, arith}
+use Rattle.std.proofs.Common.{lit<, ◌≡◌, ℕ, zero, suc, ◌+◌, ◌<◌, ◌≤◌, true, List, [], ◌∷◌, ◌++◌, length, map, Some, None, Ok, refl, ap, ◌∙◌, length-append, arith}
 use Rattle.jk_boxes.specs.declared.boxes.Form.{Form}
 use Rattle.jk_boxes.specs.declared.boxes.Form.TheVariants.{Short, Long, Open}
-use Rattle.jk_boxes.specs.Boxes.{Box, IsBox, AreBoxes, IsJp2, signature, head_size, box_text, boxes_text, is_open}
+use Rattle.jk_boxes.specs.Boxes.{Box, IsBox, AreBoxes, IsJp2, signature, head_size, box_text, boxes_text}
 use Rattle.jk_boxes.specs.Reading.{box_at}
 use Rattle.jk_boxes.proofs.Heads.{head_of, box_again, box_length, after_box}
 use Rattle.jk_commands.specs.BoxList.{signature_box, all_boxes, kind_and_length, named, box_named, boxes_from}

@@ -1,5 +1,5 @@
 -- Examples of what stands in the lines of `jk info --all`.
-use Rattle.std.proofs.Common.{◌≡◌, List, [], ◌∷◌, ◌++◌, refl}
+use Rattle.std.proofs.Common.{◌≡◌, [], ◌++◌, refl}
 use Rattle.std.specs.Prelude.{codes}
 use Rattle.std.specs.Fmt.{digits}
 use Rattle.jk_boxes.specs.Boxes.{code_kind}

@@ -1,5 +1,5 @@
 -- The markers that are met in the headers of a codestream are those of its segments.
-use Rattle.std.proofs.Common.{◌≡◌, ℕ, zero, suc, ◌+◌, ◌-◌, ◌^◌, ◌<◌, ◌≤◌, Bool, true, false, not, ◌||◌, cond, eqb, ltb, List, [], ◌∷◌, ◌++◌, length, map, drop, replicate, refl, sym, ap, subst, ◌∙◌, inl, inr, append_assoc, length-append, zero-add, lit<, arith}
+use Rattle.std.proofs.Common.{◌≡◌, ℕ, zero, suc, ◌+◌, ◌-◌, ◌^◌, ◌<◌, ◌≤◌, true, false, not, ◌||◌, cond, eqb, ltb, List, [], ◌∷◌, ◌++◌, length, map, drop, replicate, refl, sym, ap, subst, ◌∙◌, inl, inr, append_assoc, length-append, zero-add, lit<, arith}
 use Rattle.std.specs.Prelude.{◌==◌}
 use Rattle.std.specs.List.{flat_map, concat, count_by, AllByRecursion}
 use Rattle.std.proofs.lemmas.Bool.{true≢false, false_from_ne_true, or_from, and_right, eq-eqb, eqb-true, ne_eqb, le-ltb, cases_Bool}

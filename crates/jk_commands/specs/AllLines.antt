@@ -1,8 +1,8 @@
--- The lines that `jk info --all` writes: that of `jk info`, and below it what decides how small windows
--- get, and what the file carries. Those of a JP2 file of 3 by 2 pixels in two tiles, which have SOP, EPH
--- and precincts, are these; EXAMPLE is how long its codestream box is:
+-- The lines that `jk info --all` writes: that of `jk info`, and below it what decides how small
+-- windows get, and what the file carries. Those of a JP2 file of 3 by 2 pixels in two tiles, with SOP,
+-- EPH and precincts, are these:
 --   3 2 3 8 1 1 LRCP 2 12
---   boxes: jP%20%20=12 ftyp=20 jp2h=45 jp2c=EXAMPLE
+--   boxes: jP%20%20=12 ftyp=20 jp2h=45 jp2c=251
 --   tile-parts: 2
 --   code-blocks: 32x16
 --   precincts: 32x16 64x32
@@ -11,7 +11,7 @@
 --   colour-transform: reversible
 --   passed-over: none
 --   sizes: 3x2 2x1
-use Rattle.std.specs.Prelude.{ℕ, ◌+◌, ◌-◌, ◌^◌, Bool, not, ◌&&◌, ◌||◌, ◌==◌, if◌then◌else◌, List, [], ◌∷◌, ◌++◌, length, slice_range, Result, Ok, codes}
+use Rattle.std.specs.Prelude.{ℕ, ◌+◌, ◌-◌, ◌^◌, Bool, not, ◌&&◌, ◌||◌, ◌==◌, if◌then◌else◌, List, [], ◌++◌, length, slice_range, Result, Ok, codes}
 use Rattle.std.specs.List.{flat_map, list_all, count_by}
 use Rattle.std.specs.Fmt.{decimal}
 use Rattle.std.specs.Cmp.Lexicographic.{pointwise}
@@ -124,8 +124,8 @@ coding_lines h =
     ++ (labelled (codes "EPH") (flag_values Eph (codes "yes") (codes "no") h)
     ++ labelled (codes "colour-transform") (flag_values Colour (codes "reversible") (codes "none") h))))
 
--- the lines below the first: what the boxes are, how many tile-parts there are, how often each marker
--- is passed over, and what all headers say
+-- the lines below the first: what the boxes are, how many tile-parts there are, how often each
+-- marker is passed over, and what all headers say
 unfoldable pub lines_with : List (ℕ × ℕ) → ℕ → (ℕ → ℕ) → Headers → List ℕ
 lines_with boxes parts count h =
     labelled (codes "boxes") (box_values boxes)

@@ -1,5 +1,5 @@
 -- The boxes of a file, one behind the other (T.800 I.4): of each its kind and its length.
-use Rattle.std.specs.Prelude.{ℕ, zero, suc, ◌⊎◌, List, [], ◌∷◌, ◌++◌, map, drop, true, Option, Some, None, Result, Ok, Err}
+use Rattle.std.specs.Prelude.{ℕ, zero, suc, List, [], ◌∷◌, ◌++◌, map, drop, true, Option, Some, None, Result, Ok, Err}
 use Rattle.std.proofs.Common.{inl, inr}
 use Rattle.jk_math.specs.declared.fault.Fault.{Fault}
 use Rattle.jk_boxes.specs.declared.boxes.BoxHead.{BoxHead}

@@ -1,4 +1,4 @@
-use Rattle.std.proofs.Common.{◌<◌, ℕ, Bool, not, true, false, length, sym, ap, ◌∙◌, arith}
+use Rattle.std.proofs.Common.{◌<◌, Bool, not, length, sym, ap, ◌∙◌, arith}
 use Rattle.jk_marks.specs.declared.segments.Cod.{Cod}
 use Rattle.jk_params.specs.Headers.{tile_in}
 use Rattle.jk_window.proofs.Laws.{below_fails}

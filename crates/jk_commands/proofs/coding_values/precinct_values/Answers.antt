@@ -1,6 +1,5 @@
 use Rattle.std.specs.Cmp.Lexicographic.{pointwise}
 use Rattle.std.specs.List.{list_all, AllByRecursion}
-use Rattle.std.specs.String.{string_bytes}
 use Rattle.std.proofs.Common.{◌≡◌, ◌==◌, ◌&&◌, ◌<◌, ◌++◌, ℕ, Bool, true, false, cond, List, length, subst, sym, ap, ◌∙◌}
 use Rattle.jk_marks.specs.declared.coding.Coding.{Coding}
 use Rattle.jk_params.specs.Headers.{Headers, tile_in}

@@ -2,7 +2,7 @@ use Rattle.std.specs.Prelude.{codes, slice_range}
 use Rattle.std.specs.List.{count_by}
 use Rattle.std.specs.Fmt.{decimal}
 use Rattle.std.specs.String.{string_bytes}
-use Rattle.std.proofs.Common.{◌≡◌, ◌≤◌, ◌==◌, ℕ, List, ◌++◌, length, subst, sym, ap, ◌∙◌}
+use Rattle.std.proofs.Common.{◌≤◌, ◌==◌, ℕ, List, ◌++◌, length, subst, sym, ap, ◌∙◌}
 use Rattle.jk_marks.specs.Siz.{tile_count}
 use Rattle.jk_marks.specs.Copying.{main_size_at}
 use Rattle.jk_commands.specs.HeaderMarkers.{parts_in, markers_in}
