@@ -12,3 +12,4 @@ pub mod PartsLaws
 pub mod GivenLaws
 pub mod ReadingLaws
 pub mod ByPartsLaws
+pub mod KnownParts

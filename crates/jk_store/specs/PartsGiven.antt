@@ -34,6 +34,10 @@ IsPartOf e i b = (length b ≡ part_length (size_of e) i) × (slice_get e.parts.
 abbrev pub HasParts : List GivenPart → List ℕ → Type 0
 HasParts given file = AllByRecursion (λ g. part g.0 file ≡ g.1) given
 
+-- Each of these parts is the file's, if it has the digest of the file's.
+abbrev pub AreKnownByDigest : List ℕ → List GivenPart → Type 0
+AreKnownByDigest file given = AllByRecursion (λ g. sha256 g.1 ≡ sha256 (part g.0 file) → g.1 ≡ part g.0 file) given
+
 -- These are the parts of an entry's file.
 abbrev pub ArePartsOf : Entry → List GivenPart → Type 0
 ArePartsOf e given = AllByRecursion (λ g. IsPartOf e g.0 g.1) given

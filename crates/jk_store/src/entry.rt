@@ -11,7 +11,7 @@ ghost use Rattle.jk_window.specs.Cutting.{cut_file};
 ghost use Rattle.jk_store.specs.Files.{Files};
 ghost use Rattle.jk_store.specs.Names.{file_name};
 ghost use Rattle.jk_store.specs.Catalogue.{IsFileOf, IsOtherFile, IsCutFrom, IsWindowGiven, WasForeign, Passes, StandsFor, stored};
-ghost use Rattle.jk_store.specs.PartsGiven.{GivenPart, ReadsParts, IsOtherPart, IsCutOfParts};
+ghost use Rattle.jk_store.specs.PartsGiven.{GivenPart, ReadsParts, IsOtherPart, IsCutOfParts, AreKnownByDigest};
 
 use crate::assembling::assemble;
 use crate::names;
@@ -105,6 +105,11 @@ impl Entry {
         // which the index is, it is the window.
         ensures given { IfOk result (λ w. (given : List GivenPart) × ReadsParts S.gave_at self.now shelf.old given shelf.new
             × IsCutOfParts self.now.index view given w.items) }
+        // It is the window of the file of which the entry was made, if each part that was given and
+        // has the digest of that file's part is that part.
+        ensures judged { (f : List ℕ) → StandsFor self.now (stored (string_bytes self.now.name) f) → (is : IsIndexOf f self.now.index)
+            → IfOk result (λ w. (given : List GivenPart) × ReadsParts S.gave_at self.now shelf.old given shelf.new
+            × (AreKnownByDigest f given → cut_file is view ≡ Ok w.items)) }
         ensures seen { OnOk result (HasWindow self.now.index.headers view) }
         // Of a file that the shelf keeps under the name it is the window.
         ensures same { (files : Files) (b : List ℕ) → S.keeps shelf.old files → files (file_name (string_bytes self.now.name)) ≡ Some b

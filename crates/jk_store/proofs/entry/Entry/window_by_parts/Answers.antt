@@ -2,6 +2,7 @@ use Rattle.jk_window.specs.Cutting.{cut_file}
 use Rattle.jk_window.specs.Views.{HasWindow}
 use Rattle.jk_window.specs.Planning.{plan_text}
 use Rattle.jk_store.proofs.ByPartsLaws.{index_size, refused_given, not_changed, seen_there, given_parts, never_bad, changed_parts, steady_parts, kept_parts, counts_parts, same_parts}
+use Rattle.jk_store.proofs.KnownParts.{judged_parts}
 use Rattle.jk_store.proofs.entry.Entry.window_by_parts.Goals as goal
 
 pub returns-in_err-plan-clause-same : goal.returns-in_err-plan-clause-same
@@ -16,6 +17,9 @@ returns-in_err-plan-clause-changed g c = λ changed. absurd (not_changed c.from_
 
 pub returns-clause-given : goal.returns-clause-given
 returns-clause-given g c = given_parts g.S.Shelf.keeps g.S.Shelf.gave_at g.S.Shelf.failed c.args.self.now c.args.shelf.now c.assemble.new.shelf (λ f. plan_text f c.in_ok-plan.plan) c.args.view c.assemble.result c.assemble.ensures.read c.in_ok-plan.ensures.exact
+
+pub returns-clause-judged : goal.returns-clause-judged
+returns-clause-judged g c = λ f stands is. judged_parts g.S.Shelf.gave_at c.args.self.now f c.args.shelf.now c.assemble.new.shelf c.args.view c.assemble.result stands.parts is (returns-clause-given g c)
 
 pub returns-clause-seen : goal.returns-clause-seen
 returns-clause-seen g c = seen_there c.assemble.result (HasWindow c.args.self.now.index.headers c.args.view) c.in_ok-plan.ensures.seen
