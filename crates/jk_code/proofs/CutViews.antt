@@ -14,10 +14,9 @@ use Rattle.jk_geom.specs.Rectangles.{is_empty}
 use Rattle.jk_window.specs.declared.view.View.{View}
 use Rattle.jk_window.specs.Views.{window_in}
 use Rattle.jk_code.specs.Viewing.{rect_of, picture_on, picture_of_view}
-use Rattle.jk_code.specs.Windows.{IsSameOnWindow, IsWindowShown, IsWindowKept}
-use Rattle.jk_code.proofs.MeaningLaws.{only_meaning}
+use Rattle.jk_code.specs.Windows.{IsSameOnWindow, IsWindowShown}
 use Rattle.jk_code.proofs.WindowLaws.{window_meant}
-use Rattle.jk_code.proofs.ViewLaws.{same_rect, of_view, meaning_shows}
+use Rattle.jk_code.proofs.ViewLaws.{same_rect, of_view}
 
 -- ---- its samples
 
@@ -74,8 +73,3 @@ pub window_shown_by : IsWindowShown
 window_shown_by bytes i is v reply due p m =
     let found = window_meant bytes i is v reply due p m in
     (found.0, found.1, same_view v p found.0 found.2)
-
-pub window_kept : IsWindowKept
-window_kept bytes i is v reply fits less due p m =
-    let found = window_shown_by bytes i is v reply due p m in
-    meaning_shows reply v found.0 (only_meaning reply v.reduce found.0 less found.1) ∙ found.2 ∙ sym (meaning_shows bytes v p (only_meaning bytes v.reduce p fits m))

@@ -14,13 +14,13 @@ use Rattle.jk_window.specs.Again.{front_runs, AreAlike}
 use Rattle.jk_window.proofs.Laws.{runs_kept}
 
 -- what a tile's decoding depends on of its headers
-abbrev Said : Type 0
+abbrev pub Said : Type 0
 Said = Siz × Cod × List Coding
 
-abbrev said_of : Headers → ℕ → Said
+abbrev pub said_of : Headers → ℕ → Said
 said_of h t = (h.siz, (tile_in h.tiles t).cod, (tile_in h.tiles t).codings)
 
-said_alike : (g h : Headers) (t : ℕ) → AreAlike g h → t < tile_count h.siz → said_of g t ≡ said_of h t
+pub said_alike : (g h : Headers) (t : ℕ) → AreAlike g h → t < tile_count h.siz → said_of g t ≡ said_of h t
 said_alike g h t alike lt = λ i. (alike.siz i, alike.cod t lt i, alike.codings t lt i)
 
 -- the packets that are left of a tile

@@ -10,6 +10,7 @@ pub mod PartLaws
 pub mod WrittenLaws
 pub mod EmptiedTiles
 pub mod WindowBands
+pub mod MetNeeds
 pub mod WindowTile
 pub mod WindowLaws
 pub mod FrontLaws
@@ -19,3 +20,4 @@ pub mod CutViews
 pub mod BeginningLaws
 pub mod SendingLaws
 pub mod ViewSteps
+pub mod ViewAgain

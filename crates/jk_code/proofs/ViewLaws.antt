@@ -101,7 +101,7 @@ tiles_on bytes h v =
 
 -- ---- what is tested
 
-packets_fine : (bytes : List ℕ) (h : Headers) (d : ℕ) (w : Rect) (n : ℕ) → packets_tested bytes h n ≡ fine → seen_packets_tested bytes h d w n ≡ fine
+pub packets_fine : (bytes : List ℕ) (h : Headers) (d : ℕ) (w : Rect) (n : ℕ) → packets_tested bytes h n ≡ fine → seen_packets_tested bytes h d w n ≡ fine
 packets_fine bytes h d w n e = each_fewer n (λ t. tested (packets_at bytes h t)) (is_seen h d w) e
 
 parts_fine : (bytes : List ℕ) (h : Headers) (d : ℕ) (w : Rect) (n : ℕ) → tiles_tested bytes h d n ≡ fine → seen_parts_tested bytes h d w n ≡ fine

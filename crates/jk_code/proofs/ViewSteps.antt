@@ -113,7 +113,7 @@ within_both a b x y h g =
     let gl = g.left in let gr = g.right in let gu = g.upper in let gd = g.lower in
     record { left = omega (arith, hl, gl); right = omega (arith, hr, gr); upper = omega (arith, hu, gu); lower = omega (arith, hd, gd) }
 
-some_sides : (a : Rect) → not (is_empty a) ≡ true → is_empty a ≡ false
+pub some_sides : (a : Rect) → not (is_empty a) ≡ true → is_empty a ≡ false
 some_sides a e = go (is_empty a) e refl
   where
     go : (b : Bool) → not b ≡ true → is_empty a ≡ b → is_empty a ≡ false

@@ -49,13 +49,13 @@ unfolding band_area
 lowest_band a levels = refl
 
 -- the sub-bands of a resolution above the lowest
-high_same : (q i : ℕ) → i < 3 → orientation_at (suc q) i ≡ high_orientation i
+pub high_same : (q i : ℕ) → i < 3 → orientation_at (suc q) i ≡ high_orientation i
 high_same q zero lt = refl
 high_same q (suc zero) lt = refl
 high_same q (suc (suc zero)) lt = refl
 high_same q (suc (suc (suc i))) lt = absurd (omega (arith, lt))
 
-high_part : (u : Rect) (n i : ℕ) → i < 3 → needed_part u n (high_orientation i) ≡ part_of_band (stretch u n) (high_orientation i)
+pub high_part : (u : Rect) (n i : ℕ) → i < 3 → needed_part u n (high_orientation i) ≡ part_of_band (stretch u n) (high_orientation i)
 high_part u n zero lt = refl
 high_part u n (suc zero) lt = refl
 high_part u n (suc (suc zero)) lt = refl
@@ -84,21 +84,22 @@ high_at x y odd = elim (cases_eq (x % 2) 0) [
 
 -- ---- values
 
--- The values of two decodings agree in the window.
-pub values_agree : (a : Rect) (codings : List Coding) (w : Rect) (d c : ℕ) (mine theirs : ℕ → ℕ → List Body) (p q : ℕ → ℕ → ℕ → ℤ) (x y : ℕ) → AreDecodings a codings w d c mine theirs p q → IsWithin (seen a w d) x y
+-- The values of sub-bands agree in the window where the coefficients do that the window depends on.
+pub values_local : (a : Rect) (codings : List Coding) (w : Rect) (d c : ℕ) (p q : ℕ → ℕ → ℕ → ℤ) (x y : ℕ) → d ≤ (coding_of codings c).levels → IsWithin (seen a w d) x y
+    → ((r i u v : ℕ) → r + d ≤ (coding_of codings c).levels → i < length (orientations r) → IsWithin (band_area a (coding_of codings c).levels r (orientation_at r i)) u v
+    → IsWithin (needed_part (seen a w d) ((coding_of codings c).levels - (r + d)) (orientation_at r i)) u v → p (band_number r i) u v ≡ q (band_number r i) u v)
     → values_of a (coding_of codings c) d p x y ≡ values_of a (coding_of codings c) d q x y
-values_agree a codings w d c mine theirs p q x y are within =
+values_local a codings w d c p q x y le within agree =
     let k = coding_of codings c in
     let levels = k.levels in
     let top = seen a w d in
     let u : ℕ → Rect = λ r. stretch top (levels - (r + d)) in
-    let le = are.levels in
     let l = within.left in let m = within.right in let e = within.upper in let f = within.lower in
     let inside : IsWithin (reduced_area a d) x y = record { left = omega (arith, l); right = omega (arith, m); upper = omega (arith, e); lower = omega (arith, f) } in
     let whole : levels - (levels - d + d) ≡ 0 = omega (arith, le) in
     is_local_resolution a levels u p q (levels - d) (omega arith)
     (λ s t here stretched.
-    band_agrees a codings w d c mine theirs p q x y are within 0 0 s t (omega (arith, le)) (omega arith) (subst (λ (z : Rect). IsWithin z s t) (sym (lowest_band a levels)) here) stretched)
+    agree 0 0 s t (omega (arith, le)) (omega arith) (subst (λ (z : Rect). IsWithin z s t) (sym (lowest_band a levels)) here) stretched)
     (λ r s t less here near even_x even_y.
     let next : levels - (r + 1 + d) + 1 ≡ levels - (r + d) = omega (arith, less, le) in
     subst (λ n. IsWithin (stretch top n) (s / 2) (t / 2)) next (near_stretch top (levels - (r + 1 + d)) s t near even_x even_y))
@@ -118,5 +119,11 @@ values_agree a codings w d c mine theirs p q x y are within =
     (subst (λ (z : Rect). IsWithin z (s / 2) (t / 2)) (sym (high_part top (levels - (suc r + d)) i few))
     (near_part (stretch top (levels - (suc r + d))) (high_orientation i) s t (subst (λ n. IsNear (stretch top n) s t) below near) high.across high.down)) in
     subst (λ b. p b (s / 2) (t / 2) ≡ q b (s / 2) (t / 2)) (sym counted)
-    (band_agrees a codings w d c mine theirs p q x y are within (suc r) i (s / 2) (t / 2) (omega (arith, less, le)) few band part))
+    (agree (suc r) i (s / 2) (t / 2) (omega (arith, less, le)) few band part))
     x y (subst (λ (z : Rect). IsWithin z x y) (sym (shown_is a levels d le)) inside) (subst (λ (z : Rect). IsWithin z x y) (stretch_none top ∙ ap (stretch top) (sym whole)) within)
+
+-- The values of two decodings agree in the window.
+pub values_agree : (a : Rect) (codings : List Coding) (w : Rect) (d c : ℕ) (mine theirs : ℕ → ℕ → List Body) (p q : ℕ → ℕ → ℕ → ℤ) (x y : ℕ) → AreDecodings a codings w d c mine theirs p q → IsWithin (seen a w d) x y
+    → values_of a (coding_of codings c) d p x y ≡ values_of a (coding_of codings c) d q x y
+values_agree a codings w d c mine theirs p q x y are within =
+    values_local a codings w d c p q x y are.levels within (band_agrees a codings w d c mine theirs p q x y are within)

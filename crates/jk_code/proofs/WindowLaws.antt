@@ -63,10 +63,10 @@ picture_of bytes i is d p m =
 -- ---- what is the same of alike headers
 
 -- each tile-component has d levels
-abbrev HaveLevelsIn : ℕ → List TileFields → Type 0
+abbrev pub HaveLevelsIn : ℕ → List TileFields → Type 0
 HaveLevelsIn d tiles = AllByRecursion (λ (f : TileFields). AllByRecursion (λ (k : Coding). d ≤ k.levels) f.codings) tiles
 
-levels_alike : (d : ℕ) (tiles others : List TileFields) → HaveLevelsIn d others → length tiles ≡ length others → ((t : ℕ) → t < length tiles → (tile_in tiles t).codings ≡ (tile_in others t).codings) → HaveLevelsIn d tiles
+pub levels_alike : (d : ℕ) (tiles others : List TileFields) → HaveLevelsIn d others → length tiles ≡ length others → ((t : ℕ) → t < length tiles → (tile_in tiles t).codings ≡ (tile_in others t).codings) → HaveLevelsIn d tiles
 levels_alike d [] others all long same = tt
 levels_alike d (f ∷ tiles) [] all long same = absurd (omega (arith, long))
 levels_alike d (f ∷ tiles) (g ∷ others) all long same = (

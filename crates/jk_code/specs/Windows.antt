@@ -1,5 +1,5 @@
 -- Windows of pictures: what the file of a window means.
-use Rattle.std.specs.Prelude.{◌≡◌, ℕ, ◌+◌, ◌<◌, ◌≤◌, ◌^◌, List, length, Ok, slice_index_or}
+use Rattle.std.specs.Prelude.{◌≡◌, ℕ, ◌+◌, ◌<◌, ◌≤◌, List, length, Ok}
 use Rattle.jk_math.specs.Picture.{Picture, sample_at}
 use Rattle.jk_window.specs.declared.view.View.{View}
 use Rattle.jk_window.specs.Indexing.{IndexFields, IsIndexOf}
@@ -36,11 +36,7 @@ ShowsWindow v p reply = (q : Picture) × Means reply v.reduce q × (picture_of_v
 abbrev pub IsWindowShown : Type 0
 IsWindowShown = (bytes : List ℕ) (i : IndexFields) (is : IsIndexOf bytes i) (v : View) (reply : List ℕ) → cut_file is v ≡ Ok reply → (p : Picture) → Means bytes v.reduce p → ShowsWindow v p reply
 
--- each is a byte
-abbrev pub AreOctets : List ℕ → Type 0
-AreOctets bytes = (k : ℕ) → slice_index_or bytes k 0 < 2 ^ 8
-
--- Where the stored file means a picture at the reduction, decoding the window of the file of the window gives what decoding the
--- window of the stored file gives.
+-- Decoding the window of the file of a window gives what decoding the window of the stored file gives: the image, or the first
+-- fault of its code-blocks.
 abbrev pub IsWindowKept : Type 0
-IsWindowKept = (bytes : List ℕ) (i : IndexFields) (is : IsIndexOf bytes i) (v : View) (reply : List ℕ) → AreOctets bytes → AreOctets reply → cut_file is v ≡ Ok reply → (p : Picture) → Means bytes v.reduce p → meaning_view_at reply v ≡ meaning_view_at bytes v
+IsWindowKept = (bytes : List ℕ) (i : IndexFields) (is : IsIndexOf bytes i) (v : View) (reply : List ℕ) → cut_file is v ≡ Ok reply → meaning_view_at reply v ≡ meaning_view_at bytes v

@@ -10,7 +10,7 @@ mod writing;
 
 pub use decoding::decode;
 pub use encoding::encode;
-pub use viewing::decode_window;
+pub use viewing::{decode_window, decode_window_by};
 pub use windows::{
     cut_files_show_the_window, pictures_have_indexes, window, windows_show_the_picture,
 };

@@ -10,6 +10,7 @@ ghost use Rattle.jk_walk.specs.WalkReading.{packets_at};
 ghost use Rattle.jk_tile.specs.Filling.{IsPartOf};
 ghost use Rattle.jk_tile.specs.TileMeaning.{shown_area};
 ghost use Rattle.jk_tile.specs.TileReading.{tested, part_planes_at};
+ghost use Rattle.jk_window.specs.Indexing.{IsIndexOf};
 ghost use Rattle.jk_window.specs.Views.{HaveLevels, frame_of};
 ghost use Rattle.jk_code.specs.Meaning.{Means};
 ghost use Rattle.jk_code.specs.MeaningReading.{planes_of_tiles};
@@ -19,13 +20,14 @@ ghost use Rattle.jk_code.specs.ViewReading.{seen_part, is_seen, seen_packets_tes
 
 use crate::decoding::{blank_planes, put_tile};
 use crate::reduction::reduced;
+use crate::windows::window;
 use jk_boxes::open;
 use jk_geom::tile;
 use jk_math::{Fault, Image, Rect};
 use jk_params::{Codestream, read_codestream};
 use jk_tile::{decode_part, meet, touches};
 use jk_walk::{TilePackets, read_packets};
-use jk_window::{View, window_area};
+use jk_window::{Index, View, window_area};
 use std::alloc::Global;
 
 /// What a tile shows of the image at a reduction.
@@ -186,4 +188,27 @@ pub fn decode_window(alloc: Global, bytes: &[u8], view: View) -> Result<Image, F
     ensures means { (p : Picture) → Means bytes.now view.reduce p → Answers (λ i. i) result (picture_of_view view p) }
 {
     meaning_view(alloc, bytes, view)
+}
+
+/// The window of a view of the image that a file means, by the file's index: what [`decode_window`] gives. Of the packets that
+/// the window doesn't need no header is read, and of the code-blocks none.
+///
+/// Changed: the index isn't that of these bytes. Else the faults of `decode_window`; those of boxes, headers and packets don't
+/// come, as a file with an index has none. If the index isn't that of these bytes and another answer is given, nothing is known
+/// of it.
+pub fn decode_window_by(
+    alloc: Global,
+    bytes: &[u8],
+    index: &Index,
+    view: View,
+) -> Result<Image, Fault>
+    // With the index of these bytes it is what `decode_window` gives: the image, or the first fault.
+    ensures exact { IsIndexOf bytes.now index.now → Answers (λ i. i) result (meaning_view_at bytes.now view) }
+    // Where the bytes mean a picture at the view's reduction, it is that picture on the window, or BadWindow where the window has
+    // no sample.
+    ensures means { IsIndexOf bytes.now index.now → (p : Picture) → Means bytes.now view.reduce p
+        → Answers (λ i. i) result (picture_of_view view p) }
+{
+    let file = window(alloc, bytes, index, view)?;
+    decode_window(alloc, &file, view)
 }

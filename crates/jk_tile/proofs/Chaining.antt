@@ -1,14 +1,17 @@
 -- Chains of the packets of precincts: one packet more, and what a chain tells.
-use Rattle.std.proofs.Common.{◌≡◌, ℕ, ◌+◌, ◌-◌, ◌<◌, ◌≤◌, inl, inr, Bool, true, false, cond, nat_eq, nat_lt, eqb, List, [], ◌∷◌, ◌++◌, length, filter, drop, get_or, set, replicate, refl, sym, ap, subst, ◌∙◌, arith, length-set, append_assoc, append-nil}
+use Rattle.std.proofs.Common.{◌≡◌, ℕ, ◌+◌, ◌-◌, ◌<◌, ◌≤◌, inl, inr, Bool, true, false, not, cond, nat_eq, nat_lt, eqb, List, [], ◌∷◌, ◌++◌, length, filter, drop, get_or, set, replicate, refl, sym, ap, subst, ◌∙◌, arith, length-set, append_assoc, append-nil}
 use Rattle.std.specs.Prelude.{◌&&◌, ◌==◌}
-use Rattle.std.proofs.lemmas.Bool.{ne_eqb, eq-eqb}
+use Rattle.std.proofs.lemmas.Bool.{ne_eqb, eq-eqb, eqb-true, not-false, and_parts}
 use Rattle.std.proofs.lemmas.Bool.Decides.{eqb_tells}
 use Rattle.std.proofs.lemmas.List.{drop_more, drop_all, get_or-replicate, length-replicate, get_or-set_same, get_or-set_other}
 use Rattle.std.proofs.lemmas.List.Elements.{All-nil, All-cons}
 use Rattle.jk_order.specs.PacketOrder.{is_of}
+use Rattle.jk_packet.specs.declared.header.Part.{Part}
 use Rattle.jk_walk.specs.declared.places.PacketPlace.{PacketPlace}
+use Rattle.jk_walk.specs.TilePackets.{Body}
+use Rattle.jk_walk.specs.WalkReading.{bodies_at}
 use Rattle.jk_tile.specs.declared.chains.PacketChains.{PacketChains}
-use Rattle.jk_tile.specs.Gathered.{no_place, place_in, AreNumbers, IsChain, AreByPrecinct}
+use Rattle.jk_tile.specs.Gathered.{no_place, place_in, bodies_in, AreNumbers, IsChain, AreByPrecinct}
 use Rattle.jk_tile.proofs.Gathering.{same_test}
 
 -- ---- chains
@@ -34,23 +37,46 @@ chain_kept next low at m v (k ∷ numbers) lt is =
 
 -- ---- one packet more
 
+-- the packets of a precinct from number m on
+from_one : (places : List PacketPlace) (c r n m : ℕ) (b : Bool) → m < length places → is_of c r n (place_in places m).name ≡ b
+    → filter (λ (w : PacketPlace). is_of c r n w.name) (drop m places)
+    ≡ cond b (place_in places m ∷ filter (λ (w : PacketPlace). is_of c r n w.name) (drop (m + 1) places)) (filter (λ (w : PacketPlace). is_of c r n w.name) (drop (m + 1) places))
+from_one places c r n m b lt e =
+    let P : PacketPlace → Bool = λ w. is_of c r n w.name in
+    ap (filter P) (drop_more places m no_place lt) ∙ ap (λ t. cond t (place_in places m ∷ filter P (drop (m + 1) places)) (filter P (drop (m + 1) places))) e
+
 numbers_kept : (places : List PacketPlace) (c r n m : ℕ) (numbers : List ℕ) → m < length places → is_of c r n (place_in places m).name ≡ false
     → AreNumbers places (drop (m + 1) places) c r n numbers → AreNumbers places (drop m places) c r n numbers
-numbers_kept places c r n m numbers lt none h =
-    let P : PacketPlace → Bool = λ w. is_of c r n w.name in
-    record {
-      small = h.small;
-      whose = h.whose ∙ ap (λ b. cond b (place_in places m ∷ filter P (drop (m + 1) places)) (filter P (drop (m + 1) places))) (sym none) ∙ ap (filter P) (sym (drop_more places m no_place lt));
-    }
+numbers_kept places c r n m numbers lt none h = record {
+  small = h.small;
+  whose = λ bytes. h.whose bytes ∙ ap (bodies_in bytes) (sym (from_one places c r n m false lt none));
+}
 
 numbers_more : (places : List PacketPlace) (c r n m : ℕ) (numbers : List ℕ) → m < length places → is_of c r n (place_in places m).name ≡ true
     → AreNumbers places (drop (m + 1) places) c r n numbers → AreNumbers places (drop m places) c r n (m ∷ numbers)
-numbers_more places c r n m numbers lt own h =
-    let P : PacketPlace → Bool = λ w. is_of c r n w.name in
-    record {
-      small = All-cons (λ i. i < length places) m numbers lt h.small;
-      whose = ap (λ (ws : List PacketPlace). place_in places m ∷ ws) h.whose
-          ∙ ap (λ b. cond b (place_in places m ∷ filter P (drop (m + 1) places)) (filter P (drop (m + 1) places))) (sym own) ∙ ap (filter P) (sym (drop_more places m no_place lt));
+numbers_more places c r n m numbers lt own h = record {
+  small = All-cons (λ i. i < length places) m numbers lt h.small;
+  whose = λ bytes.
+      (let w = place_in places m in
+      ap (λ (bs : List Body). bodies_at bytes w.body w.parts ++ bs) (h.whose bytes)
+      ∙ ap (bodies_in bytes) (sym (from_one places c r n m true lt own)));
+}
+
+-- a packet that has nothing
+numbers_bare : (places : List PacketPlace) (c r n m : ℕ) (numbers : List ℕ) → m < length places → (place_in places m).parts ≡ []
+    → AreNumbers places (drop (m + 1) places) c r n numbers → AreNumbers places (drop m places) c r n numbers
+numbers_bare places c r n m numbers lt none h = by (is_of c r n (place_in places m).name) refl
+  where
+    by : (b : Bool) → is_of c r n (place_in places m).name ≡ b → AreNumbers places (drop m places) c r n numbers
+    by false e = numbers_kept places c r n m numbers lt e h
+    by true e = record {
+      small = h.small;
+      whose = λ bytes.
+          (let w = place_in places m in
+          let rest = bodies_in bytes (filter (λ (v : PacketPlace). is_of c r n v.name) (drop (m + 1) places)) in
+          h.whose bytes
+          ∙ sym (ap (λ (ps : List Part). bodies_at bytes w.body ps ++ rest) none)
+          ∙ ap (bodies_in bytes) (sym (from_one places c r n m true lt e)));
     }
 
 -- whether packet m is of a resolution of a component, in one of so many precincts
@@ -72,12 +98,12 @@ chains_none places c r count chains first next =
       each = λ n lt. (
         [],
         ap (λ (xs : List ℕ). get_or xs n 0) first ∙ get_or-replicate count n 0 0 lt,
-        record { small = All-nil (λ i. i < length places); whose = ap (filter (P n)) (sym (drop_all (length places) places (omega arith))) },
+        record { small = All-nil (λ i. i < length places); whose = λ bytes. ap (λ (ws : List PacketPlace). bodies_in bytes (filter (P n) ws)) (sym (drop_all (length places) places (omega arith))) },
       );
     }
 
 -- a packet of other precincts
-pub chains_kept : (places : List PacketPlace) (c r count m : ℕ) (chains : PacketChains) → m < length places → belongs places c r count m ≡ false → AreByPrecinct places (m + 1) c r count chains
+chains_kept : (places : List PacketPlace) (c r count m : ℕ) (chains : PacketChains) → m < length places → belongs places c r count m ≡ false → AreByPrecinct places (m + 1) c r count chains
     → AreByPrecinct places m c r count chains
 chains_kept places c r count m chains lt out h = record {
   first = h.first;
@@ -90,11 +116,48 @@ chains_kept places c r count m chains lt out h = record {
       ));
 }
 
+-- a packet that has nothing
+chains_bare : (places : List PacketPlace) (c r count m : ℕ) (chains : PacketChains) → m < length places → (place_in places m).parts ≡ [] → AreByPrecinct places (m + 1) c r count chains
+    → AreByPrecinct places m c r count chains
+chains_bare places c r count m chains lt none h = record {
+  first = h.first;
+  next = h.next;
+  each = λ n less.
+      (let old = h.each n less in (
+        old.0,
+        chain_low chains.next.items (m + 1) m (get_or chains.first.items n 0) old.0 (omega arith) old.1,
+        numbers_bare places c r n m old.0 lt none old.2,
+      ));
+}
+
+-- whether packet m has something too
+abbrev pub is_full : (places : List PacketPlace) (c r count m : ℕ) → Bool
+is_full places c r count m = belongs places c r count m && not (length (place_in places m).parts == 0)
+
+full_belongs : (places : List PacketPlace) (c r count m : ℕ) → is_full places c r count m ≡ true → belongs places c r count m ≡ true
+full_belongs places c r count m e = (and_parts (belongs places c r count m) _ e).0
+
+-- a packet that isn't told
+pub chains_past : (places : List PacketPlace) (c r count m : ℕ) (chains : PacketChains) → m < length places → is_full places c r count m ≡ false → AreByPrecinct places (m + 1) c r count chains
+    → AreByPrecinct places m c r count chains
+chains_past places c r count m chains lt out h = by (belongs places c r count m) refl
+  where
+    empty : (parts : List Part) → not (length parts == 0) ≡ false → parts ≡ []
+    empty [] e = refl
+    empty (p ∷ parts) e = absurd (let none = eqb-true (length (p ∷ parts)) 0 (not-false (length (p ∷ parts) == 0) e) in omega (arith, none))
+
+    by : (b : Bool) → belongs places c r count m ≡ b → AreByPrecinct places m c r count chains
+    by false e = chains_kept places c r count m chains lt e h
+    by true e =
+        let parts = (place_in places m).parts in
+        chains_bare places c r count m chains lt (empty parts (ap (λ t. t && not (length parts == 0)) (sym e) ∙ out)) h
+
 -- a packet of one of the precincts
-pub chains_more : (places : List PacketPlace) (c r count m : ℕ) (chains new : PacketChains) → m < length places → belongs places c r count m ≡ true
+pub chains_more : (places : List PacketPlace) (c r count m : ℕ) (chains new : PacketChains) → m < length places → is_full places c r count m ≡ true
     → new.first.items ≡ set chains.first.items (place_in places m).name.precinct (m + 1) → new.next.items ≡ set chains.next.items m (get_or chains.first.items (place_in places m).name.precinct 0)
     → AreByPrecinct places (m + 1) c r count chains → AreByPrecinct places m c r count new
-chains_more places c r count m chains new lt own first next h =
+chains_more places c r count m chains new lt full first next h =
+    let own = full_belongs places c r count m full in
     let p = (place_in places m).name.precinct in
     let v = get_or chains.first.items p 0 in
     let inside : m < length chains.next.items = (let long = h.next in omega (arith, lt, long)) in

@@ -30,5 +30,6 @@ pub mod TileLaws
 pub mod FrontsMeant
 pub mod FrontBodies
 pub mod LocalTiles
+pub mod MetBlocks
 pub mod PartLaws
 pub mod Laws

@@ -48,7 +48,7 @@ either : {X : Type 0} (f : BlockGrid → X) (v : X) (b : Bool) (p q : BlockGrid)
 either f v true p q here there = here
 either f v false p q here there = there
 
-grid_area : (a : Rect) (w h : ℕ) → (grid_of a w h).area ≡ a
+pub grid_area : (a : Rect) (w h : ℕ) → (grid_of a w h).area ≡ a
 unfolding grid_of
 grid_area a w h = either (λ g. g.area) a (is_empty a) _ _ refl refl
 
@@ -64,7 +64,7 @@ grid_height a w h = either (λ g. g.height) h (is_empty a) _ _ refl refl
 abbrev part_of : Rect → Coding → (r n i : ℕ) → Rect
 part_of a k r n i = precinct_area a k r n (orientation_at r i)
 
-grid_is : (a : Rect) (k : Coding) (r n i : ℕ) → grid_at a k r n i ≡ grid_of (part_of a k r n i) (min k.xcb (part_width k r)) (min k.ycb (part_height k r))
+pub grid_is : (a : Rect) (k : Coding) (r n i : ℕ) → grid_at a k r n i ≡ grid_of (part_of a k r n i) (min k.xcb (part_width k r)) (min k.ycb (part_height k r))
 unfolding block_grid
 grid_is a k r n i = refl
 

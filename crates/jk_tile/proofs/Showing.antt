@@ -124,7 +124,7 @@ block_tested s r n i j = if is_met s.region s.coding r n i j then tested (block_
 -- the bodies of a precinct, by the numbers of its packets
 pub numbered_bodies : (s : Source) (r n : ℕ) (numbers : List ℕ) → AreNumbers s.packets s.packets s.component r n numbers → bodies_in s.bytes (map (place_in s.packets) numbers) ≡ source_bodies s r n
 unfolding bodies_of
-numbered_bodies s r n numbers is = ap (bodies_in s.bytes) is.whose
+numbered_bodies s r n numbers is = is.whose s.bytes
 
 -- what a code-block has of them
 pub listed_bodies : (s : Source) (r n i j count : ℕ) (numbers : List ℕ) (places : List PacketPlace) (lists : List (Vec BodyPlace)) (v : Vec BodyPlace) (lent : List BodyPlace)

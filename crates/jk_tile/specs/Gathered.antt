@@ -22,10 +22,14 @@ place_in places i = slice_index_or places i no_place
 abbrev pub list_at : {X : Type 0} → List (Vec X) → ℕ → List X
 list_at lists n = slice_index_or (map (λ v. v.items) lists) n []
 
--- The numbers are those of the packets of a precinct among these packets.
+-- the bodies of packets
+abbrev pub bodies_in : List ℕ → List PacketPlace → List Body
+bodies_in bytes places = flat_map (λ w. bodies_at bytes w.body w.parts) places
+
+-- The packets of these numbers have what the packets of a precinct have among some. Packets that have nothing needn't be told.
 pub record AreNumbers (places : List PacketPlace) (of : List PacketPlace) (c r n : ℕ) (numbers : List ℕ) : Type 0 where
   pub small : All (λ i. i < length places) numbers
-  pub whose : map (place_in places) numbers ≡ filter (λ w. is_of c r n w.name) of
+  pub whose : (bytes : List ℕ) → bodies_in bytes (map (place_in places) numbers) ≡ bodies_in bytes (filter (λ w. is_of c r n w.name) of)
 
 -- Numbers from `low` on, which ascend, are told one behind another: `at` tells the first, and the
 -- list behind each of them the next. Number m is told by m + 1, and 0 tells that there is none.
@@ -42,10 +46,6 @@ pub record AreByPrecinct (places : List PacketPlace) (low c r count : ℕ) (chai
 -- what stands at the place of a body
 abbrev pub body_of : List ℕ → BodyPlace → Body
 body_of bytes b = record { part = b.part; bytes = slice_of bytes (b.start, b.start + b.part.length) }
-
--- the bodies of packets
-abbrev pub bodies_in : List ℕ → List PacketPlace → List Body
-bodies_in bytes places = flat_map (λ w. bodies_at bytes w.body w.parts) places
 
 -- the body's bytes lie within so many
 abbrev pub IsInside : ℕ → BodyPlace → Type 0

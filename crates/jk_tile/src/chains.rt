@@ -1,6 +1,6 @@
 //! The packets of each precinct of a resolution, as chains through all packets of a tile.
 
-ghost use Rattle.std.specs.Prelude.{◌≡◌, ℕ, ◌+◌, ◌<◌, ◌≤◌, ◌&&◌, ◌==◌, ◌^◌, nat_lt, List, length, slice_index, slice_set, IfOk, IfErr, OnOk};
+ghost use Rattle.std.specs.Prelude.{◌≡◌, ℕ, ◌+◌, ◌<◌, ◌≤◌, not, ◌&&◌, ◌==◌, ◌^◌, nat_lt, List, length, slice_index, slice_set, IfOk, IfErr, OnOk};
 ghost use Rattle.jk_math.specs.Memory.{IsMemory};
 ghost use Rattle.jk_tile.specs.Gathered.{IsChain, AreByPrecinct};
 
@@ -9,8 +9,8 @@ use jk_math::Fault;
 use jk_walk::PacketPlace;
 use std::alloc::Global;
 
-/// The packets of each precinct of a resolution of a component, by their numbers among all packets
-/// of the tile: 4 bytes for each precinct and 4 for each packet.
+/// The packets of each precinct of a resolution of a component that have something of a code-block,
+/// by their numbers among all packets of the tile: 4 bytes for each precinct and 4 for each packet.
 ///
 /// Packet `i` is told by the number `i + 1`, and 0 tells that there is none.
 #[derive(Drop)]
@@ -28,6 +28,21 @@ fn is_of_resolution(name: PacketName, component: u8, resolution: u8, precincts: 
 {
     name.component == component
         && (name.resolution == resolution && (name.precinct as usize) < precincts)
+}
+
+/// Whether it has something of a code-block beside that.
+fn is_full_of_resolution(
+    packet: &PacketPlace,
+    component: u8,
+    resolution: u8,
+    precincts: usize,
+) -> bool
+    ensures { result ≡ ((((packet.now.name).component == component)
+        && (((packet.now.name).resolution == resolution) && nat_lt (packet.now.name).precinct precincts))
+        && not (length packet.now.parts == 0)) }
+{
+    is_of_resolution(packet.name, component, resolution, precincts)
+        && !packet.parts.as_slice().is_empty()
 }
 
 /// Puts a packet before the others of a precinct.
@@ -62,10 +77,10 @@ pub(crate) fn packets_by_precinct(
     let mut number = packets.len();
     while number > 0 {
         number -= 1;
-        let name = packets[number].name;
-        let taken = is_of_resolution(name, component, resolution, precincts);
+        let packet = &packets[number];
+        let taken = is_full_of_resolution(packet, component, resolution, precincts);
         if taken {
-            link(&mut chains, name.precinct as usize, number);
+            link(&mut chains, packet.name.precinct as usize, number);
         }
     }
     Ok(chains)

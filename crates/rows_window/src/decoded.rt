@@ -3,7 +3,7 @@
 use crate::asserts::equal;
 use crate::many::MANY;
 use crate::texts::bytes_of;
-use jk_code::{decode, decode_window, window};
+use jk_code::{decode, decode_window, decode_window_by, window};
 use jk_math::{Fault, Image};
 use jk_window::{View, index};
 use std::alloc::Global;
@@ -111,6 +111,51 @@ fn views_without_a_window(rt: HostRuntime) -> Result<(), Fail> {
         &rt,
         refusal(alloc, view(11, 0, 0, 1, 1))?,
         Some(Fault::BadWindow),
+    );
+    Ok(())
+}
+
+/// Two tiles of one sample, of which the code-block of the first one isn't in the interval: its two bytes can't be those of two
+/// coding passes. The second one is -128 and the level shift, 0 on the grid of samples from 0 on.
+static DAMAGED: &str = "\
+FF4FFF51002900000000000200000001000000000000000000000001000000010000000000000000000107 0101FF52000C00000001000004040001FF5C00\
+044040FF90000A0000000000120001FF93C022FF8FFF90000A0001000000110001FF93C02103FFD9";
+
+/// What a view of a file decodes to, and what it decodes to by the index of a file: the first sample, or the fault.
+fn by_index(alloc: Global, file: &[u8], of: &[u8], view: View) -> Result<(Shown, Shown), Fail> {
+    let kept = index(alloc, of)?;
+    Ok((
+        shown(decode_window(alloc, file, view)),
+        shown(decode_window_by(alloc, file, &kept, view)),
+    ))
+}
+
+/// The first sample of an image, or the fault.
+type Shown = Result<Option<i32>, Fault>;
+
+fn shown(answer: Result<Image, Fault>) -> Shown {
+    match answer {
+        Ok(image) => Ok(sample(&image, 0, 0)),
+        Err(fault) => Err(fault),
+    }
+}
+
+/// A code-block on which the window depends is judged, and others aren't; the index of another file is told.
+#[test]
+fn windows_by_the_index(rt: HostRuntime) -> Result<(), Fail> {
+    let alloc = rt.alloc();
+    let file = bytes_of(alloc, &[DAMAGED])?;
+    let other = bytes_of(alloc, &[MANY])?;
+    let refused: Shown = Err(Fault::CodeOutOfInterval);
+    let first = by_index(alloc, &file, &file, view(0, 0, 0, 1, 1))?;
+    equal(&rt, first == (refused, refused), true);
+    let second = by_index(alloc, &file, &file, view(0, 1, 0, 1, 1))?;
+    equal(&rt, second, (Ok(Some(129)), Ok(Some(129))));
+    let changed: Shown = Err(Fault::Changed);
+    equal(
+        &rt,
+        by_index(alloc, &other, &file, view(0, 1, 0, 1, 1))?.1 == changed,
+        true,
     );
     Ok(())
 }

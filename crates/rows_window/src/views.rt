@@ -2,7 +2,7 @@
 
 use crate::asserts::equal;
 use crate::texts::bytes_of;
-use jk_code::{decode_window, window};
+use jk_code::{decode_window, decode_window_by, window};
 use jk_math::Image;
 use jk_window::{View, index};
 use std::alloc::Global;
@@ -165,10 +165,20 @@ fn shown_of_reply(alloc: Global, file: &[u8], view: View) -> Result<String, Fail
     }
 }
 
-/// How many views there are, and how many of them decode to what is due, in the file and in the file of the window.
-fn alike(alloc: Global, file: &str, views: &str) -> Result<(u32, u32, u32), Fail> {
+/// What it decodes to by the index of the file.
+fn shown_by_index(alloc: Global, file: &[u8], view: View) -> Result<String, Fail> {
+    let kept = index(alloc, file)?;
+    match decode_window_by(alloc, file, &kept, view) {
+        Ok(image) => text_of(alloc, &image),
+        Err(fault) => Ok(format!(in alloc; "{fault}")?),
+    }
+}
+
+/// How many views there are, and how many of them decode to what is due: in the file, in the file of the window, and by the
+/// index.
+fn alike(alloc: Global, file: &str, views: &str) -> Result<(u32, u32, u32, u32), Fail> {
     let file = bytes_of(alloc, &[file])?;
-    let (mut count, mut same, mut again) = (0u32, 0u32, 0u32);
+    let (mut count, mut same, mut again, mut indexed) = (0u32, 0u32, 0u32, 0u32);
     for row in views.split('\n') {
         let mut fields = row.split('|');
         let view = view_of(fields.next().unwrap_or(""));
@@ -180,8 +190,11 @@ fn alike(alloc: Global, file: &str, views: &str) -> Result<(u32, u32, u32), Fail
         if shown_of_reply(alloc, &file, view)?.as_str() == due {
             again = again.saturating_add(1);
         }
+        if shown_by_index(alloc, &file, view)?.as_str() == due {
+            indexed = indexed.saturating_add(1);
+        }
     }
-    Ok((count, same, again))
+    Ok((count, same, again, indexed))
 }
 
 /// One sample, each border, windows over all tiles, odd places, reductions, what passes the edge, and views without a
@@ -189,7 +202,7 @@ fn alike(alloc: Global, file: &str, views: &str) -> Result<(u32, u32, u32), Fail
 #[test]
 fn windows_have_the_samples_of_another_decoder(rt: HostRuntime) -> Result<(), Fail> {
     let alloc = rt.alloc();
-    equal(&rt, alike(alloc, TILED, TILED_VIEWS)?, (19, 19, 19));
-    equal(&rt, alike(alloc, COLOUR, COLOUR_VIEWS)?, (4, 4, 4));
+    equal(&rt, alike(alloc, TILED, TILED_VIEWS)?, (19, 19, 19, 19));
+    equal(&rt, alike(alloc, COLOUR, COLOUR_VIEWS)?, (4, 4, 4, 4));
     Ok(())
 }

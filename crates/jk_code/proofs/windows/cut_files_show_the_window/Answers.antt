@@ -1,4 +1,5 @@
-use Rattle.jk_code.proofs.CutViews.{window_shown_by, window_kept}
+use Rattle.jk_code.proofs.CutViews.{window_shown_by}
+use Rattle.jk_code.proofs.ViewAgain.{window_kept}
 use Rattle.jk_code.proofs.windows.cut_files_show_the_window.Goals as goal
 
 pub returns-clause-shown : goal.returns-clause-shown
