@@ -9,5 +9,5 @@ pub use Rattle.jk_walk.proofs.ShapeLaws.{exponent_fits, bands_lowest, bands_high
 pub use Rattle.jk_walk.proofs.Turns.{Counts, one_more, no_counts, AreTurns, is_own, at_own, its_precinct, all_of, order_turns}
 pub use Rattle.jk_walk.proofs.BitLaws.{HasBit, no_packet, tile_layers, tile_bits}
 pub use Rattle.jk_walk.proofs.SopLaws.{sop_by, sop_is_written}
-pub use Rattle.jk_walk.proofs.EntryLaws.{slotted_at, slotted_back, entries_spans, kept_spans}
-pub use Rattle.jk_walk.proofs.EntriesRead.{entries_found, entries_only, entries_within, spans_lie}
+pub use Rattle.jk_walk.proofs.EntryLaws.{entries_spans, kept_spans}
+pub use Rattle.jk_walk.proofs.EntriesRead.{entries_found, entries_only, entries_within}

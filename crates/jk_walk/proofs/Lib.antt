@@ -11,9 +11,6 @@ pub mod Walking
 pub mod TileFacts
 pub mod BitLaws
 pub mod SopLaws
-pub mod PlacingLaws
 pub mod EntryLaws
 pub mod EntriesRead
-pub mod Giving
-pub mod Exchanging
 pub mod Laws

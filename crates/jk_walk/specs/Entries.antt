@@ -1,57 +1,34 @@
--- What is kept of each packet of a tile, found by its component, resolution, precinct and layer.
-use Rattle.std.specs.Prelude.{◌≡◌, ℕ, ◌+◌, ◌≤◌, Bool, List, length, map, replicate, slice_index_or, None, Result, Ok}
-use Rattle.std.specs.List.{AllByRecursion, flat_map, zip}
+-- What is kept of each packet of a tile, in the order of the packets.
+use Rattle.std.specs.Prelude.{◌≡◌, ℕ, ◌+◌, ◌≤◌, Bool, List, length, map, Result, Ok}
+use Rattle.std.specs.List.{AllByRecursion, AllZip, flat_map, zip}
 use Rattle.jk_math.specs.Answer.{◌>>=◌}
 use Rattle.jk_math.specs.declared.fault.Fault.{Fault}
 use Rattle.jk_geom.specs.declared.shape.TileShape.{TileShape}
 use Rattle.jk_geom.specs.declared.shape.PacketName.{PacketName}
 use Rattle.jk_order.specs.PacketOrder.{order, packet_count}
-use Rattle.jk_order.specs.Slots.{slot_of}
 use Rattle.jk_params.specs.Headers.{Headers, tile_in}
 use Rattle.jk_walk.specs.declared.places.PacketPlace.{PacketPlace}
 use Rattle.jk_walk.specs.declared.spans.PacketSpan.{PacketSpan}
-use Rattle.jk_walk.specs.TilePackets.{slice_of, shape_in, Packet}
-use Rattle.jk_walk.specs.WalkReading.{place_end, packets_at, AreTilePackets}
+use Rattle.jk_walk.specs.TilePackets.{slice_of, Packet}
+use Rattle.jk_walk.specs.WalkReading.{place_end, packets_at, each_of, AreTilePackets}
 use Rattle.jk_walk.specs.declared.entries.PacketEntry.{PacketEntry}
-use Rattle.jk_walk.specs.Placing.{placed}
 use Rattle.jk_walk.specs.Sop.{sop_of, counter_of, sop_written}
-
--- stands where no entry was put
-abbrev pub no_entry : PacketEntry
-no_entry = record { start = 0; body = 0; end = 0; counter = None }
-
--- the entries of packets, each in its packet's slot
-abbrev pub slotted : {A : Type 0} → TileShape → (A → PacketName) → (A → PacketEntry) → List A → List PacketEntry
-slotted s name f packets = placed (λ w. slot_of s (name w)) f packets (replicate (length packets) no_entry)
-
--- the entries of a tile's packets, which come in the order of the packets, in their slots
-abbrev pub in_slots : TileShape → List PacketEntry → List PacketEntry
-in_slots s entries = slotted s (λ w. w.0) (λ w. w.1) (zip (order s) entries)
-
--- the entry of a packet
-abbrev pub entry_in : TileShape → List PacketEntry → PacketName → PacketEntry
-entry_in s entries n = slice_index_or entries (slot_of s n) no_entry
 
 -- what is kept of a packet at a place
 abbrev pub entry_of : List ℕ → (sop : Bool) → PacketPlace → PacketEntry
 entry_of bytes sop w = record { start = w.start; body = w.body; end = place_end w; counter = counter_of sop (slice_of bytes (w.start, place_end w)) }
 
-abbrev pub place_name : PacketPlace → PacketName
-place_name w = w.name
-
--- the entries of tile t
+-- the entries of tile t, in the order of its packets
 unfoldable pub entries_at : List ℕ → Headers → ℕ → Result (List PacketEntry) Fault
-entries_at bytes h t =
-    let f = tile_in h.tiles t in
-    packets_at bytes h t >>= λ places. Ok (slotted (shape_in h.siz f t) place_name (entry_of bytes f.cod.sop) places)
+entries_at bytes h t = each_of (entry_of bytes (tile_in h.tiles t).cod.sop) (packets_at bytes h t)
 
--- the bytes of a packet, from its entry
-abbrev pub span_in : TileShape → List PacketEntry → PacketName → PacketSpan
-span_in s entries n = record { name = n; start = (entry_in s entries n).start; end = (entry_in s entries n).end }
+-- the bytes of a packet, from its name and its entry
+abbrev pub entry_span : PacketName × PacketEntry → PacketSpan
+entry_span w = record { name = w.0; start = w.1.start; end = w.1.end }
 
 -- the packets of a tile in their order, each by its bytes
 abbrev pub spans_in : TileShape → List PacketEntry → List PacketSpan
-spans_in s entries = map (span_in s entries) (order s)
+spans_in s entries = map entry_span (zip (order s) entries)
 
 -- the same of what is read
 abbrev pub spans_from : TileShape → Result (List PacketEntry) Fault → Result (List PacketSpan) Fault
@@ -75,11 +52,9 @@ pub record IsEntered (bytes : List ℕ) (sop : Bool) (p : Packet) (e : PacketEnt
   pub bodies : slice_of bytes (e.body, e.end) ≡ flat_map (λ b. b.bytes) p.bodies
   pub counter : sop_written e.counter ≡ sop_of sop p.text
 
--- The packets of tile t stand where their entries say.
+-- The packets of tile t stand where their entries say, each where its own does.
 abbrev pub EnterAt : List ℕ → Headers → ℕ → List Packet → List PacketEntry → Type 0
-EnterAt bytes h t packets entries =
-    let f = tile_in h.tiles t in
-    AllByRecursion (λ p. IsEntered bytes f.cod.sop p (entry_in (shape_in h.siz f t) entries p.name)) packets
+EnterAt bytes h t packets entries = AllZip (IsEntered bytes (tile_in h.tiles t).cod.sop) packets entries
 
 -- The packets of tile t have these entries.
 abbrev pub AreEnteredAt : List ℕ → Headers → ℕ → List PacketEntry → Type 0

@@ -2,5 +2,4 @@ pub mod TilePackets
 pub mod WalkReading
 pub mod Keeping
 pub mod Sop
-pub mod Placing
 pub mod Entries

@@ -1,19 +1,11 @@
-//! What is kept of each packet of a tile, found by its name.
+//! What is kept of each packet of a tile.
 
-ghost use Rattle.std.specs.Prelude.{◌≡◌, ℕ, ◌≤◌, ◌^◌, length, IfOk, IfErr};
-ghost use Rattle.jk_math.specs.Memory.{IsMemory};
-ghost use Rattle.jk_geom.specs.TileShapes.{IsTileShape};
-ghost use Rattle.jk_order.specs.PacketOrder.{packet_count};
-ghost use Rattle.jk_walk.specs.WalkReading.{AreSpans};
+ghost use Rattle.std.specs.Prelude.{◌≡◌};
 ghost use Rattle.jk_walk.specs.Sop.{counter_of};
-ghost use Rattle.jk_walk.specs.Entries.{spans_in, entry_of, AreEntries};
+ghost use Rattle.jk_walk.specs.Entries.{entry_of};
 
 use crate::places::PacketPlace;
-use crate::spans::{OfPacket, PacketSpan};
-use jk_geom::TileShape;
-use jk_math::Fault;
-use jk_order::{Packets, Slots, packet_count};
-use std::alloc::Global;
+use crate::spans::OfPacket;
 use std::marker::Model;
 
 /// Where a packet stands in the codestream, in bytes from its first one on.
@@ -54,39 +46,8 @@ impl OfPacket for PacketEntry {
     }
 }
 
-/// The packets of a tile in their order, each by its bytes.
-fn spans(
-    alloc: Global,
-    shape: &TileShape,
-    entries: &[PacketEntry],
-) -> Result<Vec<PacketSpan>, Fault>
-    requires shape { IsTileShape shape.now }
-    requires few { packet_count shape.now ≤ 2 ^ 24 }
-    requires all { length entries.now ≡ packet_count shape.now }
-    ensures value { IfOk result (λ v. v.items ≡ spans_in shape.now entries.now) }
-    ensures within { (size : ℕ) → AreEntries size shape.now entries.now
-        → IfOk result (λ v. AreSpans size shape.now v.items) }
-    ensures memory { IfErr result IsMemory }
-{
-    let slots = Slots::new(shape);
-    let mut packets = Packets::new(shape)?;
-    let mut spans = Vec::with_capacity(alloc, entries.len())?;
-    for _ in 0..packet_count(shape) {
-        let Some(name) = packets.next() else {
-            break;
-        };
-        let entry = entries[slots.packet(shape, name)];
-        spans.push(PacketSpan {
-            name,
-            start: entry.start,
-            end: entry.end,
-        })?;
-    }
-    Ok(spans)
-}
-
-/// Where the packets of a tile stand, by component, resolution, precinct and layer: an entry of 32
-/// bytes in the slot of each packet, as `jk_order::Slots` numbers them.
+/// Where the packets of a tile stand: an entry of 32 bytes for each packet, in the order of the
+/// packets, as `jk_order::packet_names` gives their names.
 #[derive(Debug, Drop)]
 pub struct TileEntries {
     entries: Vec<PacketEntry>,
@@ -109,25 +70,10 @@ impl TileEntries {
         TileEntries { entries }
     }
 
-    /// The entries, slot by slot.
+    /// The entries, packet by packet in the order of the tile.
     pub fn as_slice(&self) -> &[PacketEntry]
         ensures { result.now ≡ self.now }
     {
         &self.entries
-    }
-
-    /// The packets of the tile of this shape in their order, each by its bytes (T.800 B.12).
-    pub fn spans(&self, alloc: Global, shape: &TileShape) -> Result<Vec<PacketSpan>, Fault>
-        requires shape { IsTileShape shape.now }
-        requires few { packet_count shape.now ≤ 2 ^ 24 }
-        requires all { length self.now ≡ packet_count shape.now }
-        ensures value { IfOk result (λ v. v.items ≡ spans_in shape.now self.now) }
-        // Where the entries are of packets, the bytes are of packets that there are, and lie where
-        // those do.
-        ensures within { (size : ℕ) → AreEntries size shape.now self.now
-            → IfOk result (λ v. AreSpans size shape.now v.items) }
-        ensures memory { IfErr result IsMemory }
-    {
-        spans(alloc, shape, &self.entries)
     }
 }

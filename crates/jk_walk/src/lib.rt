@@ -1,7 +1,6 @@
 //! The packets of a tile in its tile-parts (T.800 B.9 to B.12).
 #![tactic(auto)]
 
-mod arranging;
 mod entries;
 mod parts;
 mod places;

@@ -12,7 +12,6 @@ ghost use Rattle.jk_walk.specs.TilePackets.{shape_in, Packet};
 ghost use Rattle.jk_walk.specs.WalkReading.{packets_at, each_of, IsPlaced, AreTilePackets, StandAt, ArePlaces};
 ghost use Rattle.jk_walk.specs.Entries.{entries_at, EnterAt, AreEnteredAt, AreEntries};
 
-use crate::arranging::slot_entries;
 use crate::entries::{PacketEntry, TileEntries};
 use crate::places::{PacketPlace, TilePackets};
 use crate::precincts::Markers;
@@ -80,6 +79,7 @@ fn tile_packets(
 }
 
 /// The entries of the packets of a tile.
+#[tactic(auto, unfolding(crate::specs::Entries::entries_at))]
 fn tile_entries(
     alloc: Global,
     headers: &Codestream,
@@ -91,8 +91,7 @@ fn tile_entries(
     ensures { Answers (λ p. p) result (entries_at bytes.now headers.now tile) }
 {
     let entries = read_tile::<PacketEntry>(alloc, headers, bytes, tile)?;
-    let shape = shape_of(headers, tile);
-    Ok(TileEntries::new(slot_entries(alloc, &shape, entries)?))
+    Ok(TileEntries::new(entries))
 }
 
 /// The packets of a tile in the data of its parts, each by its place (T.800 B.9 to B.12).
@@ -121,8 +120,8 @@ pub fn read_packets(
     tile_packets(alloc, headers, bytes, tile)
 }
 
-/// The packets of a tile, each by its place in the codestream and found by its name: what
-/// `read_packets` finds, without the parts.
+/// The entries of the packets of a tile, in the order of the packets: what `read_packets` finds,
+/// without the names and the parts.
 ///
 /// The faults are those of `read_packets`, in the same order. Room is taken for no more packets than
 /// the codestream has bytes, whatever the headers promise.
@@ -134,7 +133,7 @@ pub fn read_entries(
 ) -> Result<TileEntries, Fault>
     requires sound { AreHeaders (length bytes.now) headers.now }
     requires tile { tile < tile_count headers.now.siz }
-    // The places that `read_packets` gives, each in its packet's slot, or the same fault.
+    // An entry of each place that `read_packets` gives, or the same fault.
     ensures exact { Answers (λ p. p) result (entries_at bytes.now headers.now tile) }
     // The packets of the tile stand where their entries say.
     ensures found { IfOk result (AreEnteredAt bytes.now headers.now tile) }

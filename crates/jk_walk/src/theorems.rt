@@ -1,17 +1,14 @@
 //! Laws of the packets of a tile: the contract of an empty function is the law.
 
-ghost use Rattle.std.specs.Prelude.{◌≡◌, ◌<◌, ℕ, Bool, List, length, map, Ok};
-ghost use Rattle.std.specs.List.{AllByRecursion, AllZip};
+ghost use Rattle.std.specs.Prelude.{◌≡◌, ◌<◌, ℕ, Bool, List, length, Ok};
+ghost use Rattle.std.specs.List.{AllZip};
 ghost use Rattle.jk_marks.specs.Siz.{tile_count};
-ghost use Rattle.jk_geom.specs.declared.shape.TileShape.{TileShape};
-ghost use Rattle.jk_order.specs.PacketOrder.{IsPacketOrder};
 ghost use Rattle.jk_params.specs.Headers.{Headers, tile_in, AreHeaders};
 ghost use Rattle.jk_walk.specs.declared.places.PacketPlace.{PacketPlace};
-ghost use Rattle.jk_walk.specs.declared.entries.PacketEntry.{PacketEntry};
 ghost use Rattle.jk_walk.specs.TilePackets.{shape_in, Packet, IsPacket};
 ghost use Rattle.jk_walk.specs.WalkReading.{packets_at, spans_at, IsPlaced, AreTilePackets, StandAt};
 ghost use Rattle.jk_walk.specs.Sop.{sop_of, counter_of, sop_written};
-ghost use Rattle.jk_walk.specs.Entries.{slotted, entry_in, place_name, entries_at, spans_from};
+ghost use Rattle.jk_walk.specs.Entries.{entries_at, spans_from};
 
 /// The data of a tile's parts are read exactly where they are the texts of its packets, cut into a run for each part:
 /// what is read are packets of the tile, and packets of the tile are read, each at its place.
@@ -22,12 +19,9 @@ pub fn packets_are_read()
         → AreTilePackets bytes h t packets → (places : List PacketPlace) × (packets_at bytes h t ≡ Ok places) × AllZip (IsPlaced bytes) packets places }
 {}
 
-/// Each packet finds its entry by its name, and the entries of a tile give the bytes of its packets
-/// in their order, or the same fault.
+/// The entries of a tile, beside the names of its packets, give the bytes of its packets in their
+/// order, or the same fault.
 pub fn entries_give_spans()
-    ensures found { (s : TileShape) (f : PacketPlace → PacketEntry) (places : List PacketPlace)
-        → IsPacketOrder s (map place_name places)
-        → AllByRecursion (λ w. entry_in s (slotted s place_name f places) w.name ≡ f w) places }
     ensures spans { (bytes : List ℕ) (h : Headers) (t : ℕ) → AreHeaders (length bytes) h → t < tile_count h.siz
         → spans_at bytes h t ≡ spans_from (shape_in h.siz (tile_in h.tiles t) t) (entries_at bytes h t) }
 {}
