@@ -1,6 +1,6 @@
 -- The file with another codestream, which is no longer than its own.
-use Rattle.std.proofs.Common.{◌≡◌, ℕ, ◌≤◌, ◌^◌, true, false, cond, inl, inr, List, [], ◌∷◌, ◌++◌, length, Result, Ok, Err, refl, sym, ap, ◌∙◌, subst, arith}
-use Rattle.std.specs.Prelude.{slice_range, MatchResult, Bool, not}
+use Rattle.std.proofs.Common.{◌≡◌, ℕ, ◌≤◌, ◌^◌, true, false, cond, List, [], ◌∷◌, ◌++◌, length, Result, Ok, Err, refl, sym, ap, ◌∙◌, arith}
+use Rattle.std.specs.Prelude.{MatchResult, Bool, not}
 use mathlib.Core.Bool.{beq}
 use Rattle.std.specs.Global.{Vec}
 use Rattle.jk_math.specs.Steps.{ok_is}
@@ -10,15 +10,15 @@ use Rattle.jk_boxes.specs.Reading.{boxes_at}
 use Rattle.jk_params.specs.Headers.{Headers}
 use Rattle.jk_window.specs.declared.view.View.{View}
 use Rattle.jk_window.specs.Views.{window_at}
-use Rattle.std.proofs.lemmas.Bool.{lt-ltb, true≢false, cases_Bool}
+use Rattle.std.proofs.lemmas.Bool.{lt-ltb, true≢false}
 use Rattle.jk_math.specs.Answer.{◌>>=◌, Refuses, Answers}
 use Rattle.jk_math.specs.Memory.{IsMemory}
 use Rattle.jk_math.specs.declared.fault.Fault.{Fault}
-use Rattle.jk_math.specs.declared.fault.Fault.TheVariants.{Memory, Limit, Changed}
+use Rattle.jk_math.specs.declared.fault.Fault.TheVariants.{Memory, Limit}
 use Rattle.jk_boxes.specs.declared.boxes.Form.{Form}
 use Rattle.jk_boxes.specs.declared.boxes.Form.TheVariants.{Short, Long, Open}
 use Rattle.jk_boxes.specs.declared.place.Boxed.{Boxed}
-use Rattle.jk_boxes.specs.Boxes.{Box, box_size, boxes_text, signature, FitsForm, AreBoxes, IsJp2, HoldsAt}
+use Rattle.jk_boxes.specs.Boxes.{Box, box_size, boxes_text, signature, FitsForm, AreBoxes, IsJp2}
 use Rattle.jk_boxes.specs.Written.{fits_form, recoded}
 use Rattle.jk_boxes.proofs.Laws.{place_again}
 use Rattle.jk_window.specs.Indexing.{IndexFields, IsIndexOf}

@@ -23,9 +23,9 @@ use Rattle.jk_boxes.specs.Boxes.{Box, IsJp2, HoldsAt, bare_place, jp2_place, hea
 use Rattle.jk_boxes.specs.Written.{fits_form, recoded}
 use Rattle.jk_boxes.proofs.Laws.{place_again, in_file, recoded_there}
 use Rattle.jk_params.specs.Headers.{Headers, tile_in, headers_of}
-use Rattle.jk_params.proofs.Laws.{part_text_length, part_placed, sound_headers}
+use Rattle.jk_params.proofs.Laws.{part_text_length, part_placed}
 use Rattle.jk_walk.specs.TilePackets.{slice_of, shape_in}
-use Rattle.jk_window.specs.Emptied.{emptied_part, run_text}
+use Rattle.jk_window.specs.Emptied.{emptied_part}
 use Rattle.jk_window.specs.Indexing.{IndexFields, IsIndexOf}
 use Rattle.jk_window.specs.Cutting.{keeps, content_of, parts_text, cut_tree, with_codestream}
 use Rattle.jk_window.specs.Planning.{part_from, part_size, framed, framed_size, around, headed, reboxed, front_of, made_of, Fits, IsHead, IsSound}

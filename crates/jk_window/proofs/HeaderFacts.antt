@@ -3,9 +3,8 @@ use Rattle.std.proofs.Common.{◌≡◌, ℕ, zero, suc, ◌<◌, ◌≤◌, tru
 use Rattle.std.specs.List.{AllByRecursion, list_all}
 use Rattle.std.proofs.lemmas.Bool.{leb-true, leb-false, le-leb, and_parts, and_from, or_parts}
 use Rattle.jk_math.specs.declared.rect.Rect.{Rect}
-use Rattle.jk_marks.specs.declared.siz.Siz.{Siz}
 use Rattle.jk_marks.specs.declared.coding.Coding.{Coding}
-use Rattle.jk_marks.specs.Siz.{IsSiz, tile_count}
+use Rattle.jk_marks.specs.Siz.{tile_count}
 use Rattle.jk_geom.specs.Rectangles.{is_empty}
 use Rattle.jk_geom.specs.TileShapes.{coding_of}
 use Rattle.jk_geom.proofs.Laws.{some_tile}

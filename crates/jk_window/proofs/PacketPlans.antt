@@ -1,7 +1,7 @@
 -- Packets from the file, by their places in its codestream, and emptied ones by their counters.
-use Rattle.std.proofs.Common.{◌≡◌, ℕ, zero, suc, ◌+◌, ◌-◌, ◌<◌, ◌≤◌, Bool, true, false, cond, inl, inr, List, [], ◌∷◌, ◌++◌, length, length-append, take, drop, get_or, Option, Ok, refl, sym, ap, ◌∙◌, subst, arith}
+use Rattle.std.proofs.Common.{◌≡◌, ℕ, zero, suc, ◌+◌, ◌-◌, ◌<◌, ◌≤◌, Bool, true, false, cond, inl, inr, List, [], ◌∷◌, ◌++◌, length, length-append, take, map, drop, get_or, refl, sym, ap, ◌∙◌, subst, arith}
 use Rattle.std.specs.Prelude.{sum_by}
-use Rattle.std.specs.List.{AllByRecursion, AllZip, flat_map}
+use Rattle.std.specs.List.{AllZip, flat_map, zip}
 use Rattle.std.proofs.lemmas.List.Sums.{sum_by-cons}
 use Rattle.std.proofs.lemmas.Bool.{cases_lt}
 use Rattle.std.proofs.lemmas.List.{take-take, drop-drop, drop-take, length-drop}
@@ -10,23 +10,23 @@ use Rattle.jk_math.specs.declared.rect.Rect.{Rect}
 use Rattle.jk_marks.specs.Siz.{tile_count}
 use Rattle.jk_boxes.proofs.Laws.{place_again}
 use Rattle.jk_geom.specs.declared.shape.PacketName.{PacketName}
-use Rattle.jk_geom.specs.declared.shape.TileShape.{TileShape}
+use Rattle.jk_order.specs.PacketOrder.{order}
+use Rattle.jk_order.proofs.Laws.{order_is, order_one}
 use Rattle.jk_packet.specs.PacketText.{eph_text}
 use Rattle.jk_params.specs.Headers.{tile_in}
 use Rattle.jk_params.proofs.Laws.{sound_headers}
 use Rattle.jk_walk.specs.declared.spans.PacketSpan.{PacketSpan}
 use Rattle.jk_walk.specs.declared.entries.PacketEntry.{PacketEntry}
 use Rattle.jk_walk.specs.TilePackets.{slice_of, shape_in, Packet}
-use Rattle.jk_walk.specs.WalkReading.{IsSpanned, AreLaid}
-use Rattle.jk_walk.specs.Entries.{entry_in, IsEntered, EnterAt}
+use Rattle.jk_walk.specs.WalkReading.{AreLaid}
+use Rattle.jk_walk.specs.Entries.{entry_span, IsEntered, EnterAt}
 use Rattle.jk_walk.proofs.Laws.{spans_laid, tile_parts, kept_spans, entries_only}
 use Rattle.jk_walk.specs.Sop.{sop_written}
-use Rattle.jk_window.specs.Emptied.{sop_of, emptied_packet, kept_packet, emptied_run, run_text}
+use Rattle.jk_window.specs.Emptied.{emptied_packet, kept_packet, emptied_run, run_text}
 use Rattle.jk_window.specs.Indexing.{IndexFields, IsIndexOf, entries_of, joined_runs}
-use Rattle.jk_window.specs.Cutting.{keeps, content_of}
-use Rattle.jk_window.proofs.EmptiedLaws.{run_of}
-use Rattle.jk_window.specs.Planning.{packet_from, packet_size, counter_in, spans_of, counters_of, part_from, part_size, part_spans}
-use Rattle.jk_window.proofs.RunMatching.{runs_match}
+use Rattle.jk_window.specs.Cutting.{Entered, keeps, content_of}
+use Rattle.jk_window.specs.Planning.{packet_from, packet_size, entered_in, part_packets, part_from, part_size}
+use Rattle.jk_window.proofs.RunMatching.{IsStored, runs_match}
 
 -- ---- a place in the codestream is a place in the file
 
@@ -68,71 +68,75 @@ inside file codestream s e a b own long =
 
 -- ---- packets
 
--- each packet has the SOP that its counter tells
-abbrev AreCounted : Bool → (PacketName → Option (ℕ × ℕ)) → List Packet → Type 0
-AreCounted sop counters packets = AllByRecursion (λ p. sop_written (counters p.name) ≡ sop_of sop p.text) packets
-
-packet_is : (file codestream : List ℕ) (s e : ℕ) (keep : PacketName → Bool) (sop eph : Bool) (counters : PacketName → Option (ℕ × ℕ)) (p : Packet) (v : PacketSpan) → codestream ≡ slice_of file (s, e)
-    → IsSpanned codestream p v → sop_written (counters p.name) ≡ sop_of sop p.text → packet_from file s keep eph counters v ≡ (kept_packet keep sop eph p).text
-packet_is file codestream s e keep sop eph counters p v own is counted = by (keep v.name) refl
+packet_is : (file codestream : List ℕ) (s e : ℕ) (keep : PacketName → Bool) (sop eph : Bool) (p : Packet) (v : Entered) → codestream ≡ slice_of file (s, e)
+    → IsStored codestream sop p v → packet_from file s keep eph v ≡ (kept_packet keep sop eph p).text
+packet_is file codestream s e keep sop eph p v own is = by (keep v.0) refl
   where
-    by : (b : Bool) → keep v.name ≡ b → cond b (slice_of file (s + v.start, s + v.end)) (sop_written (counters v.name) ++ (0 ∷ eph_text eph)) ≡ (kept_packet keep sop eph p).text
+    by : (b : Bool) → keep v.0 ≡ b → cond b (slice_of file (s + v.1.start, s + v.1.end)) (sop_written v.1.counter ++ (0 ∷ eph_text eph)) ≡ (kept_packet keep sop eph p).text
     by true k =
         let kept : keep p.name ≡ true = ap keep (sym is.name) ∙ k in
         let size = is.size in
-        let long : length (slice_of codestream (v.start, v.end)) ≡ v.end - v.start = ap (λ (xs : List ℕ). length xs) is.text ∙ omega (arith, size) in
-        inside file codestream s e v.start v.end own long ∙ is.text ∙ ap (λ b. (cond b p (emptied_packet sop eph p)).text) (sym kept)
+        let long : length (slice_of codestream (v.1.start, v.1.end)) ≡ v.1.end - v.1.start = ap (λ (xs : List ℕ). length xs) is.text ∙ omega (arith, size) in
+        inside file codestream s e v.1.start v.1.end own long ∙ is.text ∙ ap (λ b. (cond b p (emptied_packet sop eph p)).text) (sym kept)
     by false k =
         let kept : keep p.name ≡ false = ap keep (sym is.name) ∙ k in
-        ap (λ (n : PacketName). sop_written (counters n) ++ (0 ∷ eph_text eph)) is.name
-        ∙ ap (λ (xs : List ℕ). xs ++ (0 ∷ eph_text eph)) counted
+        ap (λ (xs : List ℕ). xs ++ (0 ∷ eph_text eph)) is.counter
         ∙ ap (λ b. (cond b p (emptied_packet sop eph p)).text) (sym kept)
 
-packets_are : (file codestream : List ℕ) (s e : ℕ) (keep : PacketName → Bool) (sop eph : Bool) (counters : PacketName → Option (ℕ × ℕ)) (run : List Packet) (vs : List PacketSpan) → codestream ≡ slice_of file (s, e)
-    → AllZip (IsSpanned codestream) run vs → AreCounted sop counters run → flat_map (packet_from file s keep eph counters) vs ≡ run_text (emptied_run keep sop eph run)
-packets_are file codestream s e keep sop eph counters [] [] own all counted = refl
-packets_are file codestream s e keep sop eph counters [] (v ∷ vs) own all counted = absurd all
-packets_are file codestream s e keep sop eph counters (p ∷ run) [] own all counted = absurd all
-packets_are file codestream s e keep sop eph counters (p ∷ run) (v ∷ vs) own all counted =
-    ap (λ (xs : List ℕ). xs ++ flat_map (packet_from file s keep eph counters) vs) (packet_is file codestream s e keep sop eph counters p v own all.0 counted.0)
-    ∙ ap (λ (xs : List ℕ). (kept_packet keep sop eph p).text ++ xs) (packets_are file codestream s e keep sop eph counters run vs own all.1 counted.1)
+packets_are : (file codestream : List ℕ) (s e : ℕ) (keep : PacketName → Bool) (sop eph : Bool) (run : List Packet) (vs : List Entered) → codestream ≡ slice_of file (s, e)
+    → AllZip (IsStored codestream sop) run vs → flat_map (packet_from file s keep eph) vs ≡ run_text (emptied_run keep sop eph run)
+packets_are file codestream s e keep sop eph [] [] own all = refl
+packets_are file codestream s e keep sop eph [] (v ∷ vs) own all = absurd all
+packets_are file codestream s e keep sop eph (p ∷ run) [] own all = absurd all
+packets_are file codestream s e keep sop eph (p ∷ run) (v ∷ vs) own all =
+    ap (λ (xs : List ℕ). xs ++ flat_map (packet_from file s keep eph) vs) (packet_is file codestream s e keep sop eph p v own all.0)
+    ∙ ap (λ (xs : List ℕ). (kept_packet keep sop eph p).text ++ xs) (packets_are file codestream s e keep sop eph run vs own all.1)
 
 -- the packets of a tile, by their entries
 record TileStands (codestream : List ℕ) (i : IndexFields) (runs : List (List Packet)) (t : ℕ) : Type 0 where
-  placed : AllZip (IsSpanned codestream) (joined_runs runs) (spans_of i t)
-  laid : AreLaid (spans_of i t) (tile_in i.headers.tiles t).data_places
-  counted : AreCounted (tile_in i.headers.tiles t).cod.sop (counters_of i t) (joined_runs runs)
+  stored : AllZip (IsStored codestream (tile_in i.headers.tiles t).cod.sop) (joined_runs runs) (entered_in i t)
+  laid : AreLaid (map entry_span (entered_in i t)) (tile_in i.headers.tiles t).data_places
 
-counted : (bytes : List ℕ) (s : TileShape) (sop : Bool) (entries : List PacketEntry) (packets : List Packet) → AllByRecursion (λ p. IsEntered bytes sop p (entry_in s entries p.name)) packets
-    → AreCounted sop (counter_in s entries) packets
-counted bytes s sop entries [] all = tt
-counted bytes s sop entries (p ∷ packets) all = (all.0.counter, counted bytes s sop entries packets all.1)
+stored : (bytes : List ℕ) (sop : Bool) (packets : List Packet) (names : List PacketName) (entries : List PacketEntry) → map (λ (p : Packet). p.name) packets ≡ names → AllZip (IsEntered bytes sop) packets entries
+    → AllZip (IsStored bytes sop) packets (zip names entries)
+stored bytes sop [] [] [] e all = tt
+stored bytes sop [] [] (x ∷ entries) e all = absurd all
+stored bytes sop [] (n ∷ names) entries e all = absurd cc
+stored bytes sop (p ∷ packets) [] entries e all = absurd cc
+stored bytes sop (p ∷ packets) (n ∷ names) [] e all = absurd all
+stored bytes sop (p ∷ packets) (n ∷ names) (x ∷ entries) e all =
+    let first : p.name ≡ n = cc in
+    let rest : map (λ (p : Packet). p.name) packets ≡ names = cc in
+    (record { name = sym first; size = all.0.size; text = all.0.text; counter = all.0.counter }, stored bytes sop packets names entries rest all.1)
 
 stands : (bytes : List ℕ) (i : IndexFields) (is : IsIndexOf bytes i) (t : ℕ) → t < tile_count i.headers.siz → TileStands is.codestream i (is.runs t) t
 stands bytes i is t less =
     let h = i.headers in
     let f = tile_in h.tiles t in
+    let s = shape_in h.siz f t in
     let c = is.codestream in
+    let packets = joined_runs (is.runs t) in
     let are = sound_headers c h is.says in
     let has = is.tiles t less in
-    let laid = spans_laid c h t (joined_runs (is.runs t)) are less has.packets in
+    let laid = spans_laid c h t packets are less has.packets in
     let read = kept_spans c h t (entries_of i.packets t) are less (is.kept t less) in
-    let same : laid.0 ≡ spans_of i t = ok_is laid.0 (spans_of i t) (sym laid.1 ∙ read) in
-    let only = entries_only c h t (joined_runs (is.runs t)) are less has.packets in
+    let same : laid.0 ≡ map entry_span (entered_in i t) = ok_is laid.0 (map entry_span (entered_in i t)) (sym laid.1 ∙ read) in
+    let only = entries_only c h t packets are less has.packets in
     let own : only.0 ≡ entries_of i.packets t = ok_is only.0 (entries_of i.packets t) (sym only.1 ∙ is.kept t less) in
-    let entered = subst (EnterAt c h t (joined_runs (is.runs t))) own only.2 in
+    let entered = subst (EnterAt c h t packets) own only.2 in
+    let named = order_one s (map (λ (p : Packet). p.name) packets) (order s) has.packets.order (order_is s) in
     record {
-      placed = subst (AllZip (IsSpanned c) (joined_runs (is.runs t))) same laid.2;
+      stored = stored c f.cod.sop packets (order s) (entries_of i.packets t) named entered;
       laid = subst (λ (ws : List PacketSpan). AreLaid ws f.data_places) same laid.3;
-      counted = counted c (shape_in h.siz f t) f.cod.sop (entries_of i.packets t) (joined_runs (is.runs t)) entered;
     }
 
-matched : (bytes : List ℕ) (i : IndexFields) (is : IsIndexOf bytes i) (t n : ℕ) → t < tile_count i.headers.siz → AllZip (IsSpanned is.codestream) (get_or (is.runs t) n []) (part_spans i t n)
+matched : (bytes : List ℕ) (i : IndexFields) (is : IsIndexOf bytes i) (t n : ℕ) → t < tile_count i.headers.siz
+    → AllZip (IsStored is.codestream (tile_in i.headers.tiles t).cod.sop) (get_or (is.runs t) n []) (part_packets i t n)
 matched bytes i is t n less =
     let h = i.headers in
     let c = is.codestream in
     let stand = stands bytes i is t less in
-    runs_match c (is.runs t) (spans_of i t) (tile_in h.tiles t).data_places (tile_parts c h t (sound_headers c h is.says) less) stand.placed stand.laid (is.tiles t less).cut n
+    runs_match c (tile_in h.tiles t).cod.sop (is.runs t) (entered_in i t) (tile_in h.tiles t).data_places (tile_parts c h t (sound_headers c h is.says) less) stand.stored stand.laid (is.tiles t less).cut n
 
 -- where the codestream stands in the file
 pub stands_in : (bytes : List ℕ) (i : IndexFields) (is : IsIndexOf bytes i) → is.codestream ≡ slice_of bytes (i.place.start, i.place.end)
@@ -143,39 +147,37 @@ pub part_is : (bytes : List ℕ) (i : IndexFields) (is : IsIndexOf bytes i) (w :
 part_is bytes i is w d t n less =
     let h = i.headers in
     let f = tile_in h.tiles t in
-    let stand = stands bytes i is t less in
-    let own = run_of (λ (p : Packet). sop_written (counters_of i t p.name) ≡ sop_of f.cod.sop p.text) (is.runs t) n stand.counted in
-    packets_are bytes is.codestream i.place.start i.place.end (keeps h w d t) f.cod.sop f.cod.eph (counters_of i t) (get_or (is.runs t) n []) (part_spans i t n) (stands_in bytes i is) (matched bytes i is t n less) own
+    packets_are bytes is.codestream i.place.start i.place.end (keeps h w d t) f.cod.sop f.cod.eph (get_or (is.runs t) n []) (part_packets i t n) (stands_in bytes i is) (matched bytes i is t n less)
 
 -- ---- lengths
 
-packet_sized : (file codestream : List ℕ) (s e : ℕ) (keep : PacketName → Bool) (eph : Bool) (counters : PacketName → Option (ℕ × ℕ)) (p : Packet) (v : PacketSpan) → codestream ≡ slice_of file (s, e)
-    → IsSpanned codestream p v → length (packet_from file s keep eph counters v) ≡ packet_size keep eph counters v
-packet_sized file codestream s e keep eph counters p v own is = by (keep v.name)
+packet_sized : (file codestream : List ℕ) (s e : ℕ) (keep : PacketName → Bool) (sop eph : Bool) (p : Packet) (v : Entered) → codestream ≡ slice_of file (s, e)
+    → IsStored codestream sop p v → length (packet_from file s keep eph v) ≡ packet_size keep eph v
+packet_sized file codestream s e keep sop eph p v own is = by (keep v.0)
   where
-    by : (b : Bool) → length (cond b (slice_of file (s + v.start, s + v.end)) (sop_written (counters v.name) ++ (0 ∷ eph_text eph))) ≡ cond b (v.end - v.start) (length (sop_written (counters v.name)) + length (0 ∷ eph_text eph))
+    by : (b : Bool) → length (cond b (slice_of file (s + v.1.start, s + v.1.end)) (sop_written v.1.counter ++ (0 ∷ eph_text eph))) ≡ cond b (v.1.end - v.1.start) (length (sop_written v.1.counter) + length (0 ∷ eph_text eph))
     by true =
         let size = is.size in
-        let long : length (slice_of codestream (v.start, v.end)) ≡ v.end - v.start = ap (λ (xs : List ℕ). length xs) is.text ∙ omega (arith, size) in
-        ap (λ (xs : List ℕ). length xs) (inside file codestream s e v.start v.end own long) ∙ long
-    by false = length-append (sop_written (counters v.name)) (0 ∷ eph_text eph)
+        let long : length (slice_of codestream (v.1.start, v.1.end)) ≡ v.1.end - v.1.start = ap (λ (xs : List ℕ). length xs) is.text ∙ omega (arith, size) in
+        ap (λ (xs : List ℕ). length xs) (inside file codestream s e v.1.start v.1.end own long) ∙ long
+    by false = length-append (sop_written v.1.counter) (0 ∷ eph_text eph)
 
-packets_sized : (file codestream : List ℕ) (s e : ℕ) (keep : PacketName → Bool) (eph : Bool) (counters : PacketName → Option (ℕ × ℕ)) (run : List Packet) (vs : List PacketSpan) → codestream ≡ slice_of file (s, e)
-    → AllZip (IsSpanned codestream) run vs → length (flat_map (packet_from file s keep eph counters) vs) ≡ sum_by (packet_size keep eph counters) vs
-packets_sized file codestream s e keep eph counters [] [] own all = refl
-packets_sized file codestream s e keep eph counters [] (v ∷ vs) own all = absurd all
-packets_sized file codestream s e keep eph counters (p ∷ run) [] own all = absurd all
-packets_sized file codestream s e keep eph counters (p ∷ run) (v ∷ vs) own all =
-    let f = packet_from file s keep eph counters in
-    let here = packet_sized file codestream s e keep eph counters p v own all.0 in
-    let more = packets_sized file codestream s e keep eph counters run vs own all.1 in
-    let sum = sum_by-cons (packet_size keep eph counters) v vs in
-    length-append (f v) (flat_map f vs) ∙ ap (λ k. k + length (flat_map f vs)) here ∙ ap (λ k. packet_size keep eph counters v + k) more ∙ sym sum
+packets_sized : (file codestream : List ℕ) (s e : ℕ) (keep : PacketName → Bool) (sop eph : Bool) (run : List Packet) (vs : List Entered) → codestream ≡ slice_of file (s, e)
+    → AllZip (IsStored codestream sop) run vs → length (flat_map (packet_from file s keep eph) vs) ≡ sum_by (packet_size keep eph) vs
+packets_sized file codestream s e keep sop eph [] [] own all = refl
+packets_sized file codestream s e keep sop eph [] (v ∷ vs) own all = absurd all
+packets_sized file codestream s e keep sop eph (p ∷ run) [] own all = absurd all
+packets_sized file codestream s e keep sop eph (p ∷ run) (v ∷ vs) own all =
+    let f = packet_from file s keep eph in
+    let here = packet_sized file codestream s e keep sop eph p v own all.0 in
+    let more = packets_sized file codestream s e keep sop eph run vs own all.1 in
+    let sum = sum_by-cons (packet_size keep eph) v vs in
+    length-append (f v) (flat_map f vs) ∙ ap (λ k. k + length (flat_map f vs)) here ∙ ap (λ k. packet_size keep eph v + k) more ∙ sym sum
 
 -- How long the data of a part are.
 pub part_sized : (bytes : List ℕ) (i : IndexFields) (is : IsIndexOf bytes i) (w : Rect) (d t n : ℕ) → t < tile_count i.headers.siz → part_size i w d t n ≡ length (content_of i.headers is.runs w d t n)
 part_sized bytes i is w d t n less =
     let h = i.headers in
     let f = tile_in h.tiles t in
-    sym (packets_sized bytes is.codestream i.place.start i.place.end (keeps h w d t) f.cod.eph (counters_of i t) (get_or (is.runs t) n []) (part_spans i t n) (stands_in bytes i is) (matched bytes i is t n less))
+    sym (packets_sized bytes is.codestream i.place.start i.place.end (keeps h w d t) f.cod.sop f.cod.eph (get_or (is.runs t) n []) (part_packets i t n) (stands_in bytes i is) (matched bytes i is t n less))
     ∙ ap (λ (xs : List ℕ). length xs) (part_is bytes i is w d t n less)

@@ -1,46 +1,43 @@
 -- Packets that are planned one by one are all packets of a part, and parts that are planned one by one all parts of a tile.
-use Rattle.std.proofs.Common.{◌≡◌, ℕ, zero, suc, ◌+◌, ◌<◌, ◌≤◌, Bool, List, [], ◌∷◌, ◌++◌, length, length-append, map, take, drop, get_or, append_assoc, refl, sym, ap, ◌∙◌, subst, arith, inl, inr}
+use Rattle.std.proofs.Common.{◌≡◌, ℕ, zero, suc, ◌+◌, ◌<◌, ◌≤◌, List, [], ◌∷◌, ◌++◌, length, length-append, drop, get_or, append_assoc, refl, sym, ap, ◌∙◌, subst, arith, inl, inr}
 use Rattle.std.specs.Prelude.{sum_by}
-use Rattle.std.specs.List.{AllByRecursion, AllZip, flat_map}
+use Rattle.std.specs.List.{AllZip, flat_map, zip}
 use Rattle.std.proofs.lemmas.Bool.{cases_lt}
-use Rattle.std.proofs.lemmas.List.{append-nil, length-map, get_or_append_left, get_or_push}
+use Rattle.std.proofs.lemmas.List.{append-nil, get_or_append_left, get_or_push}
 use Rattle.std.proofs.lemmas.List.Sums.{sum_by-cons}
-use Rattle.std.proofs.Math.ListN.{get_or-map}
+use Rattle.std.proofs.lemmas.Slice.Zip.{length-zip, get_or-zip}
 use Rattle.jk_math.specs.declared.rect.Rect.{Rect}
 use Rattle.jk_geom.specs.declared.shape.PacketName.{PacketName}
-use Rattle.jk_geom.specs.declared.shape.TileShape.{TileShape}
 use Rattle.jk_geom.specs.Rectangles.{meet, tile_area}
 use Rattle.jk_geom.specs.Partitions.{reduced_area}
 use Rattle.jk_order.specs.PacketOrder.{order}
 use Rattle.jk_params.specs.Headers.{tile_in}
 use Rattle.jk_walk.specs.declared.entries.PacketEntry.{PacketEntry}
-use Rattle.jk_walk.specs.declared.spans.PacketSpan.{PacketSpan}
-use Rattle.jk_walk.specs.Entries.{span_in}
 use Rattle.jk_walk.specs.TilePackets.{shape_in}
 use Rattle.jk_window.specs.declared.contents.TileCut.{TileCut}
 use Rattle.jk_window.specs.Indexing.{IndexFields, entries_of}
-use Rattle.jk_window.specs.Cutting.{run_at, runs_at, wanted}
-use Rattle.jk_window.specs.Planning.{PlanFields, plan_text, plan_length, IsBehind, tile_packet, tile_packet_size, run_from, IsRunPlan, IsPartPlan, AreTilePlans, ArePlansUpto, packet_from, packet_size, counter_in, part_from, part_size, no_plan}
+use Rattle.jk_window.specs.Cutting.{Entered, run_at, runs_at, wanted}
+use Rattle.jk_window.specs.Planning.{PlanFields, plan_text, plan_length, IsBehind, tile_packet, tile_packet_size, run_from, IsRunPlan, AreTilePlans, ArePlansUpto, packet_from, packet_size, no_plan}
 use Rattle.jk_window.proofs.PlanLaws.{plan_of, planned-nil}
 use Rattle.jk_window.proofs.Runs.{run_more, runs_step, runs_over, runs_length}
 
 -- ---- a part
 
--- the packets of a tile, each by its bytes
-abbrev pub spans_by : TileCut → List PacketName → List PacketSpan
-spans_by c names = map (span_in c.shape.now c.entries.now) names
+-- the packets of a tile with their entries
+abbrev pub entered_by : TileCut → List PacketName → List Entered
+entered_by c names = zip names c.entries.now
 
 -- So far the packets from the `next`-th to the i-th are planned.
 pub record IsRunning (n : ℕ) (c : TileCut) (names : List PacketName) (next start stop : ℕ) (plan : PlanFields) (i at : ℕ) : Type 0 where
   pub size : plan.size ≡ n
   pub first : next ≤ i
-  pub text : (file : List ℕ) → plan_text file plan ++ flat_map (tile_packet c file) (run_at (drop i (spans_by c names)) at stop) ≡ flat_map (tile_packet c file) (run_at (drop next (spans_by c names)) start stop)
-  pub long : plan_length plan + sum_by (tile_packet_size c) (run_at (drop i (spans_by c names)) at stop) ≡ sum_by (tile_packet_size c) (run_at (drop next (spans_by c names)) start stop)
-  pub count : i + length (run_at (drop i (spans_by c names)) at stop) ≡ next + length (run_at (drop next (spans_by c names)) start stop)
+  pub text : (file : List ℕ) → plan_text file plan ++ flat_map (tile_packet c file) (run_at (drop i (entered_by c names)) at stop) ≡ flat_map (tile_packet c file) (run_at (drop next (entered_by c names)) start stop)
+  pub long : plan_length plan + sum_by (tile_packet_size c) (run_at (drop i (entered_by c names)) at stop) ≡ sum_by (tile_packet_size c) (run_at (drop next (entered_by c names)) start stop)
+  pub count : i + length (run_at (drop i (entered_by c names)) at stop) ≡ next + length (run_at (drop next (entered_by c names)) start stop)
 
 pub running_starts : (n : ℕ) (c : TileCut) (names : List PacketName) (next start stop : ℕ) (plan : PlanFields) → plan ≡ plan_of [] [] n → IsRunning n c names next start stop plan next start
 running_starts n c names next start stop plan e =
-    let run = run_at (drop next (spans_by c names)) start stop in
+    let run = run_at (drop next (entered_by c names)) start stop in
     subst (λ (p : PlanFields). IsRunning n c names next start stop p next start) (sym e) (record {
       size = refl;
       first = omega arith;
@@ -49,47 +46,55 @@ running_starts n c names next start stop plan e =
       count = refl;
     })
 
-pub running_more : (n : ℕ) (c : TileCut) (names : List PacketName) (next start stop : ℕ) (plan new : PlanFields) (i at end : ℕ) (d : PacketName) → IsRunning n c names next start stop plan i at → i < length names → at < stop
-    → end ≡ (span_in c.shape.now c.entries.now (get_or names i d)).end
-    → IsBehind plan new (λ file. tile_packet c file (span_in c.shape.now c.entries.now (get_or names i d))) (tile_packet_size c (span_in c.shape.now c.entries.now (get_or names i d)))
+running_by : (n : ℕ) (c : TileCut) (names : List PacketName) (next start stop : ℕ) (plan new : PlanFields) (i at end : ℕ) (d : PacketName) (e : PacketEntry) → IsRunning n c names next start stop plan i at
+    → i < length names → i < length c.entries.now → at < stop → end ≡ (get_or c.entries.now i e).end
+    → IsBehind plan new (λ file. tile_packet c file (get_or names i d, get_or c.entries.now i e)) (tile_packet_size c (get_or names i d, get_or c.entries.now i e))
     → IsRunning n c names next start stop new (i + 1) end
-running_more n c names next start stop plan new i at end d r lt less ends b =
-    let spans = spans_by c names in
-    let f : PacketName → PacketSpan = span_in c.shape.now c.entries.now in
-    let x = f (get_or names i d) in
-    let long = length-map names f in
-    let one : get_or spans i (f d) ≡ x = get_or-map f names i d in
-    let step : run_at (drop i spans) at stop ≡ x ∷ run_at (drop (i + 1) spans) end stop =
-    run_more spans i at stop (f d) (omega (arith, lt, long)) less ∙ (λ j. one j ∷ run_at (drop (i + 1) spans) (one j).end stop) ∙ ap (λ k. x ∷ run_at (drop (i + 1) spans) k stop) (sym ends) in
-    let rest = run_at (drop (i + 1) spans) end stop in
+running_by n c names next start stop plan new i at end d e r named lt less ends b =
+    let packets = entered_by c names in
+    let x : Entered = (get_or names i d, get_or c.entries.now i e) in
+    let long = length-zip names c.entries.now in
+    let one : get_or packets i (d, e) ≡ x = get_or-zip names c.entries.now i (d, e) named lt in
+    let step : run_at (drop i packets) at stop ≡ x ∷ run_at (drop (i + 1) packets) end stop =
+    run_more packets i at stop (d, e) (omega (arith, named, lt, long)) less ∙ (λ j. one j ∷ run_at (drop (i + 1) packets) (one j).1.end stop) ∙ ap (λ k. x ∷ run_at (drop (i + 1) packets) k stop) (sym ends) in
+    let rest = run_at (drop (i + 1) packets) end stop in
     let grown = b.long in
     let sum = ap (sum_by (tile_packet_size c)) step ∙ sum_by-cons (tile_packet_size c) x rest in
     let before = r.long in
     let first = r.first in
     let count = r.count in
-    let size = ap (λ (xs : List PacketSpan). length xs) step in
+    let size = ap (λ (xs : List Entered). length xs) step in
     record {
       size = b.size ∙ r.size;
       first = omega (arith, first);
       text = λ file.
           ap (λ (xs : List ℕ). xs ++ flat_map (tile_packet c file) rest) (b.made file)
           ∙ append_assoc (plan_text file plan) (tile_packet c file x) (flat_map (tile_packet c file) rest)
-          ∙ ap (λ (xs : List PacketSpan). plan_text file plan ++ flat_map (tile_packet c file) xs) (sym step)
+          ∙ ap (λ (xs : List Entered). plan_text file plan ++ flat_map (tile_packet c file) xs) (sym step)
           ∙ r.text file;
       long = omega (arith, before, sum, grown);
       count = omega (arith, count, size);
     }
 
-pub running_over : (n : ℕ) (c : TileCut) (names : List PacketName) (next start stop : ℕ) (plan : PlanFields) (i at : ℕ) → IsRunning n c names next start stop plan i at → run_at (drop i (spans_by c names)) at stop ≡ []
-    → IsRunPlan n c (run_at (drop next (spans_by c names)) start stop) plan × (i ≡ next + length (run_at (drop next (spans_by c names)) start stop))
+-- the same by a list that has the entries
+pub running_more : (n : ℕ) (c : TileCut) (names : List PacketName) (entries : List PacketEntry) (next start stop : ℕ) (plan new : PlanFields) (i at : ℕ) (d : PacketName) (e : PacketEntry) → IsRunning n c names next start stop plan i at
+    → entries ≡ c.entries.now → length names ≡ length c.entries.now → i < length names → at < stop
+    → IsBehind plan new (λ file. tile_packet c file (get_or names i d, get_or entries i e)) (tile_packet_size c (get_or names i d, get_or entries i e))
+    → IsRunning n c names next start stop new (i + 1) (get_or entries i e).end
+running_more n c names entries next start stop plan new i at d e r same all named less b =
+    running_by n c names next start stop plan new i at (get_or entries i e).end d e r named (omega (arith, named, all)) less (ap (λ (xs : List PacketEntry). (get_or xs i e).end) same)
+    (subst (λ (xs : List PacketEntry). IsBehind plan new (λ file. tile_packet c file (get_or names i d, get_or xs i e)) (tile_packet_size c (get_or names i d, get_or xs i e))) same b)
+
+pub running_over : (n : ℕ) (c : TileCut) (names : List PacketName) (next start stop : ℕ) (plan : PlanFields) (i at : ℕ) → IsRunning n c names next start stop plan i at → run_at (drop i (entered_by c names)) at stop ≡ []
+    → IsRunPlan n c (run_at (drop next (entered_by c names)) start stop) plan × (i ≡ next + length (run_at (drop next (entered_by c names)) start stop))
 running_over n c names next start stop plan i at r none =
     let over = ap (sum_by (tile_packet_size c)) none in
     let long = r.long in
     let count = r.count in
-    let size = ap (λ (xs : List PacketSpan). length xs) none in (
+    let size = ap (λ (xs : List Entered). length xs) none in (
       record {
         size = r.size;
-        text = λ file. sym (append-nil (plan_text file plan)) ∙ ap (λ (xs : List PacketSpan). plan_text file plan ++ flat_map (tile_packet c file) xs) (sym none) ∙ r.text file;
+        text = λ file. sym (append-nil (plan_text file plan)) ∙ ap (λ (xs : List Entered). plan_text file plan ++ flat_map (tile_packet c file) xs) (sym none) ∙ r.text file;
         long = omega (arith, over, long);
       },
       omega (arith, count, size),
@@ -118,9 +123,9 @@ zip_get P (a ∷ xs) (b ∷ ys) (suc n) d e all lt = zip_get P xs ys n d e all.1
 
 -- So far the first k parts are planned.
 pub record AreRunning (n : ℕ) (c : TileCut) (names : List PacketName) (parts : List (ℕ × ℕ)) (plans : List PlanFields) (k next : ℕ) : Type 0 where
-  pub done : List (List PacketSpan)
+  pub done : List (List Entered)
   pub planned_so : AllZip (IsRunPlan n c) done plans
-  pub goes : done ++ runs_at (drop next (spans_by c names)) (drop k parts) ≡ runs_at (spans_by c names) parts
+  pub goes : done ++ runs_at (drop next (entered_by c names)) (drop k parts) ≡ runs_at (entered_by c names) parts
 
 pub runs_start : (n : ℕ) (c : TileCut) (names : List PacketName) (parts : List (ℕ × ℕ)) (plans : List PlanFields) → plans ≡ [] → AreRunning n c names parts plans 0 0
 runs_start n c names parts plans e = record { done = []; planned_so = subst (AllZip (IsRunPlan n c) []) (sym e) tt; goes = refl }
@@ -128,41 +133,41 @@ runs_start n c names parts plans e = record { done = []; planned_so = subst (All
 pub runs_more : (n : ℕ) (c : TileCut) (names : List PacketName) (parts : List (ℕ × ℕ)) (plans new : List PlanFields) (k next behind : ℕ) (p d : ℕ × ℕ) (plan : PlanFields) → AreRunning n c names parts plans k next → k < length parts → p ≡ get_or parts k d
     → IsRunPlan n c (run_from c names next p) plan → behind ≡ next + length (run_from c names next p) → new ≡ plans ++ plan ∷ [] → AreRunning n c names parts new (k + 1) behind
 runs_more n c names parts plans new k next behind p d plan r lt own is ends pushed =
-    let spans = spans_by c names in
+    let packets = entered_by c names in
     let run = run_from c names next p in
-    let step = runs_step spans next k (length run) parts p d lt own refl in
+    let step = runs_step packets next k (length run) parts p d lt own refl in
     record {
       done = r.done ++ run ∷ [];
       planned_so = subst (AllZip (IsRunPlan n c) (r.done ++ run ∷ [])) (sym pushed) (zip_push (IsRunPlan n c) r.done plans run plan r.planned_so is);
       goes =
-          ap (λ m. (r.done ++ run ∷ []) ++ runs_at (drop m spans) (drop (k + 1) parts)) ends
-          ∙ append_assoc r.done (run ∷ []) (runs_at (drop (next + length run) spans) (drop (k + 1) parts))
-          ∙ ap (λ (xs : List (List PacketSpan)). r.done ++ xs) (sym step)
+          ap (λ m. (r.done ++ run ∷ []) ++ runs_at (drop m packets) (drop (k + 1) parts)) ends
+          ∙ append_assoc r.done (run ∷ []) (runs_at (drop (next + length run) packets) (drop (k + 1) parts))
+          ∙ ap (λ (xs : List (List Entered)). r.done ++ xs) (sym step)
           ∙ r.goes;
     }
 
-pub runs_end : (n : ℕ) (c : TileCut) (names : List PacketName) (parts : List (ℕ × ℕ)) (plans : List PlanFields) (k next : ℕ) → AreRunning n c names parts plans k next → length parts ≤ k → AllZip (IsRunPlan n c) (runs_at (spans_by c names) parts) plans
+pub runs_end : (n : ℕ) (c : TileCut) (names : List PacketName) (parts : List (ℕ × ℕ)) (plans : List PlanFields) (k next : ℕ) → AreRunning n c names parts plans k next → length parts ≤ k → AllZip (IsRunPlan n c) (runs_at (entered_by c names) parts) plans
 runs_end n c names parts plans k next r le =
-    let over = runs_over (spans_by c names) next k parts le in
-    subst (λ (xs : List (List PacketSpan)). AllZip (IsRunPlan n c) xs plans) (sym (append-nil r.done) ∙ ap (λ (xs : List (List PacketSpan)). r.done ++ xs) (sym over) ∙ r.goes) r.planned_so
+    let over = runs_over (entered_by c names) next k parts le in
+    subst (λ (xs : List (List Entered)). AllZip (IsRunPlan n c) xs plans) (sym (append-nil r.done) ∙ ap (λ (xs : List (List Entered)). r.done ++ xs) (sym over) ∙ r.goes) r.planned_so
 
 -- The plans of a tile's parts are those of the index's.
-pub tile_plans : (i : IndexFields) (w : Rect) (d t n : ℕ) (c : TileCut) (names : List PacketName) (parts : List (ℕ × ℕ)) (plans : List PlanFields) → AllZip (IsRunPlan n c) (runs_at (spans_by c names) parts) plans → n ≡ i.frame.size
+pub tile_plans : (i : IndexFields) (w : Rect) (d t n : ℕ) (c : TileCut) (names : List PacketName) (parts : List (ℕ × ℕ)) (plans : List PlanFields) → AllZip (IsRunPlan n c) (runs_at (entered_by c names) parts) plans → n ≡ i.frame.size
     → c.shape.now ≡ shape_in i.headers.siz (tile_in i.headers.tiles t) t → names ≡ order c.shape.now → c.entries.now ≡ entries_of i.packets t → c.eph ≡ (tile_in i.headers.tiles t).cod.eph → c.start ≡ i.place.start
     → c.top ≡ meet w (reduced_area (tile_area i.headers.siz t) d) → c.reduce ≡ d → parts ≡ (tile_in i.headers.tiles t).data_places → AreTilePlans i w d t plans
 tile_plans i w d t n c names parts plans all size shape named entries eph start top reduce places =
     let own_names : names ≡ order (shape_in i.headers.siz (tile_in i.headers.tiles t) t) = named ∙ ap order shape in
-    let count = zip_length (IsRunPlan n c) (runs_at (spans_by c names) parts) plans all in
-    let long = runs_length (spans_by c names) parts in
+    let count = zip_length (IsRunPlan n c) (runs_at (entered_by c names) parts) plans all in
+    let long = runs_length (entered_by c names) parts in
     let some = ap (λ (ps : List (ℕ × ℕ)). length ps) places in
     record {
       count = omega (arith, count, long, some);
       each = λ k lt.
-          let one = zip_get (IsRunPlan n c) (runs_at (spans_by c names) parts) plans k [] no_plan all lt in
+          let one = zip_get (IsRunPlan n c) (runs_at (entered_by c names) parts) plans k [] no_plan all lt in
           record {
             size = one.size ∙ size;
-            text = λ file. one.text file ∙ (λ j. flat_map (packet_from file (start j) (wanted (shape j) (top j) (reduce j)) (eph j) (counter_in (shape j) (entries j))) (get_or (runs_at (map (span_in (shape j) (entries j)) (own_names j)) (places j)) k []));
-            long = one.long ∙ (λ j. sum_by (packet_size (wanted (shape j) (top j) (reduce j)) (eph j) (counter_in (shape j) (entries j))) (get_or (runs_at (map (span_in (shape j) (entries j)) (own_names j)) (places j)) k []));
+            text = λ file. one.text file ∙ (λ j. flat_map (packet_from file (start j) (wanted (shape j) (top j) (reduce j)) (eph j)) (get_or (runs_at (zip (own_names j) (entries j)) (places j)) k []));
+            long = one.long ∙ (λ j. sum_by (packet_size (wanted (shape j) (top j) (reduce j)) (eph j)) (get_or (runs_at (zip (own_names j) (entries j)) (places j)) k []));
           };
     }
 

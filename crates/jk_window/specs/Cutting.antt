@@ -1,30 +1,26 @@
 -- The file of a window: the stored one, in which the packets that the window doesn't need are empty.
-use Rattle.std.specs.Prelude.{◌≡◌, ℕ, ◌+◌, ◌-◌, ◌<◌, ◌≤◌, ◌^◌, Bool, true, false, not, if◌then◌else◌, nat_lt, List, [], ◌∷◌, ◌++◌, length, drop, map, min, sum_by, slice_index_or, slice_get, Some, Result, Ok, ◌&&◌}
+use Rattle.std.specs.Prelude.{ℕ, ◌<◌, Bool, not, if◌then◌else◌, nat_lt, List, [], ◌∷◌, length, drop, map, slice_index_or, Result, Ok, ◌&&◌}
 use Rattle.std.proofs.Common.{inl, inr}
-use Rattle.std.specs.Global.{Vec}
-use Rattle.std.specs.List.{flat_map, AllByRecursion}
+use Rattle.std.specs.List.{flat_map}
 use Rattle.jk_math.specs.Answer.{◌>>=◌}
 use Rattle.jk_math.specs.declared.fault.Fault.{Fault}
 use Rattle.jk_math.specs.declared.rect.Rect.{Rect}
-use Rattle.jk_marks.specs.declared.siz.Siz.{Siz}
 use Rattle.jk_marks.specs.Siz.{tile_count}
-use Rattle.jk_marks.specs.Markers.{eoc, marker_text}
-use Rattle.jk_marks.specs.Codestream.{Part, Tree, IsPart, BeginsWith, data_start, part_length, part_text, codestream_text}
+use Rattle.jk_marks.specs.Codestream.{Part, Tree, part_text, codestream_text}
 use Rattle.jk_boxes.specs.declared.place.Boxed.{Boxed}
 use Rattle.jk_boxes.specs.Boxes.{HoldsAt}
 use Rattle.jk_boxes.specs.Written.{recoded}
 use Rattle.jk_geom.specs.declared.shape.PacketName.{PacketName}
 use Rattle.jk_geom.specs.declared.shape.TileShape.{TileShape}
 use Rattle.jk_geom.specs.Rectangles.{is_empty, tile_area}
-use Rattle.jk_geom.specs.TileShapes.{coding_of, IsTileShape}
+use Rattle.jk_geom.specs.TileShapes.{coding_of}
 use Rattle.jk_params.specs.Headers.{Headers, tile_in}
-use Rattle.jk_packet.specs.PacketText.{eph_text}
-use Rattle.jk_walk.specs.TilePackets.{slice_of, Packet}
-use Rattle.jk_walk.specs.declared.spans.PacketSpan.{PacketSpan}
+use Rattle.jk_walk.specs.TilePackets.{Packet}
+use Rattle.jk_walk.specs.declared.entries.PacketEntry.{PacketEntry}
 use Rattle.jk_window.specs.declared.view.View.{View}
 use Rattle.jk_window.specs.Views.{window_at}
 use Rattle.jk_window.specs.Needs.{needs, is_needed}
-use Rattle.jk_window.specs.Emptied.{begins_sop, emptied_run, run_text, emptied_part, emptied_tree}
+use Rattle.jk_window.specs.Emptied.{emptied_run, run_text, emptied_part, emptied_tree}
 use Rattle.jk_window.specs.Indexing.{IndexFields, HasRuns, IsIndexOf}
 
 -- whether a window w at reduction d needs a packet of tile t
@@ -54,14 +50,18 @@ cut_file {i = i} is v = window_at i.headers v >>= λ w. with_codestream is.holds
 abbrev pub wanted : TileShape → (top : Rect) → (d : ℕ) → PacketName → Bool
 wanted s top d n = not (is_empty top) && needs s.rect (coding_of s.codings n.component) top d n.resolution n.precinct
 
--- Of packets that stand one after another from a place on, those up to another place; and so for each part.
-unfoldable pub run_at : List PacketSpan → (at stop : ℕ) → List PacketSpan
-run_at [] at stop = []
-run_at (v ∷ spans) at stop = if nat_lt at stop then v ∷ run_at spans v.end stop else []
+-- a packet's name with its entry
+abbrev pub Entered : Type 0
+Entered = PacketName × PacketEntry
 
-unfoldable pub runs_at : List PacketSpan → List (ℕ × ℕ) → List (List PacketSpan)
-runs_at spans [] = []
-runs_at spans (p ∷ parts) = run_at spans p.0 p.1 ∷ runs_at (drop (length (run_at spans p.0 p.1)) spans) parts
+-- Of packets that stand one after another from a place on, those up to another place; and so for each part.
+unfoldable pub run_at : List Entered → (at stop : ℕ) → List Entered
+run_at [] at stop = []
+run_at (v ∷ packets) at stop = if nat_lt at stop then v ∷ run_at packets v.1.end stop else []
+
+unfoldable pub runs_at : List Entered → List (ℕ × ℕ) → List (List Entered)
+runs_at packets [] = []
+runs_at packets (p ∷ parts) = run_at packets p.0 p.1 ∷ runs_at (drop (length (run_at packets p.0 p.1)) packets) parts
 
 -- the runs of all tiles
 abbrev pub HaveRuns : List ℕ → Headers → (ℕ → List (List Packet)) → Type 0

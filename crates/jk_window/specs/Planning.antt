@@ -1,7 +1,6 @@
 -- The file of a window from what an index keeps: stretches of the stored file, and what is written between them.
-use Rattle.std.specs.Prelude.{◌≡◌, ℕ, ◌+◌, ◌-◌, ◌<◌, ◌≤◌, ◌^◌, Bool, true, if◌then◌else◌, List, [], ◌∷◌, ◌++◌, length, map, take, drop, sum_by, slice_index_or, Result, Ok, Err, Option}
-use Rattle.std.specs.List.{flat_map, AllByRecursion}
-use Rattle.jk_math.specs.Answer.{◌>>=◌}
+use Rattle.std.specs.Prelude.{◌≡◌, ℕ, ◌+◌, ◌-◌, ◌<◌, ◌≤◌, ◌^◌, Bool, true, if◌then◌else◌, List, [], ◌∷◌, ◌++◌, length, take, drop, sum_by, slice_index_or, Result, Ok, Err}
+use Rattle.std.specs.List.{flat_map, AllByRecursion, zip}
 use Rattle.jk_math.specs.declared.fault.Fault.{Fault}
 use Rattle.jk_math.specs.declared.fault.Fault.TheVariants.{Limit}
 use Rattle.jk_math.specs.declared.rect.Rect.{Rect}
@@ -14,24 +13,18 @@ use Rattle.jk_boxes.specs.declared.place.Boxed.{Boxed}
 use Rattle.jk_boxes.specs.Boxes.{head_size, head_text, code_kind}
 use Rattle.jk_boxes.specs.Written.{fits_form}
 use Rattle.jk_geom.specs.declared.shape.PacketName.{PacketName}
-use Rattle.jk_geom.specs.declared.shape.TileShape.{TileShape}
 use Rattle.jk_geom.specs.TileShapes.{IsTileShape}
-use Rattle.jk_order.specs.PacketOrder.{packet_count}
-use Rattle.jk_order.specs.Slots.{AreFirsts}
+use Rattle.jk_order.specs.PacketOrder.{order}
 use Rattle.jk_params.specs.Headers.{Headers, tile_in}
 use Rattle.jk_packet.specs.PacketText.{eph_text}
-use Rattle.jk_walk.specs.declared.entries.PacketEntry.{PacketEntry}
-use Rattle.jk_walk.specs.declared.spans.PacketSpan.{PacketSpan}
-use Rattle.jk_walk.specs.Entries.{entry_in, span_in, spans_in, AreEntries}
+use Rattle.jk_walk.specs.Entries.{AreEntries}
 use Rattle.jk_walk.specs.Sop.{sop_written}
 use Rattle.jk_walk.specs.TilePackets.{slice_of, shape_in}
 use Rattle.jk_window.specs.declared.steps.CutStep.{CutStep}
 use Rattle.jk_window.specs.declared.contents.TileCut.{TileCut}
-use Rattle.jk_window.specs.declared.view.View.{View}
-use Rattle.jk_window.specs.Views.{window_at}
 use Rattle.jk_window.specs.Framing.{Frame}
 use Rattle.jk_window.specs.Indexing.{IndexFields, entries_of}
-use Rattle.jk_window.specs.Cutting.{keeps, wanted, run_at, runs_at}
+use Rattle.jk_window.specs.Cutting.{Entered, keeps, wanted, run_at, runs_at}
 
 -- ---- a plan
 
@@ -83,45 +76,35 @@ pub record IsLast (p : PlanFields) (n : ℕ) (P : CutStep → Type 0) : Type 0 w
 -- ---- packets
 
 -- a packet that is kept, or an empty one, where the codestream begins at `start` of the file
-abbrev pub packet_from : (file : List ℕ) → (start : ℕ) → (PacketName → Bool) → (eph : Bool) → (PacketName → Option (ℕ × ℕ)) → PacketSpan → List ℕ
-packet_from file start keep eph counters v =
-    if keep v.name then slice_of file (start + v.start, start + v.end) else sop_written (counters v.name) ++ (0 ∷ eph_text eph)
+abbrev pub packet_from : (file : List ℕ) → (start : ℕ) → (PacketName → Bool) → (eph : Bool) → Entered → List ℕ
+packet_from file start keep eph v =
+    if keep v.0 then slice_of file (start + v.1.start, start + v.1.end) else sop_written v.1.counter ++ (0 ∷ eph_text eph)
 
 -- how many bytes that are
-abbrev pub packet_size : (PacketName → Bool) → (eph : Bool) → (PacketName → Option (ℕ × ℕ)) → PacketSpan → ℕ
-packet_size keep eph counters v = if keep v.name then v.end - v.start else length (sop_written (counters v.name)) + length (0 ∷ eph_text eph)
+abbrev pub packet_size : (PacketName → Bool) → (eph : Bool) → Entered → ℕ
+packet_size keep eph v = if keep v.0 then v.1.end - v.1.start else length (sop_written v.1.counter) + length (0 ∷ eph_text eph)
 
--- the counter of a packet by its entry
-abbrev pub counter_in : TileShape → List PacketEntry → PacketName → Option (ℕ × ℕ)
-counter_in s entries n = (entry_in s entries n).counter
+-- the packets of tile t in their order, with their entries
+abbrev pub entered_in : IndexFields → ℕ → List Entered
+entered_in i t = zip (order (shape_in i.headers.siz (tile_in i.headers.tiles t) t)) (entries_of i.packets t)
 
--- the packets of tile t in their order, each by its bytes, and their counters
-abbrev pub spans_of : IndexFields → ℕ → List PacketSpan
-spans_of i t = spans_in (shape_in i.headers.siz (tile_in i.headers.tiles t) t) (entries_of i.packets t)
-
-abbrev pub counters_of : IndexFields → ℕ → PacketName → Option (ℕ × ℕ)
-counters_of i t = counter_in (shape_in i.headers.siz (tile_in i.headers.tiles t) t) (entries_of i.packets t)
-
--- the packets of part n of tile t
-abbrev pub part_spans : IndexFields → (t n : ℕ) → List PacketSpan
-part_spans i t n = slice_index_or (runs_at (spans_of i t) (tile_in i.headers.tiles t).data_places) n []
+-- those of part n of tile t
+abbrev pub part_packets : IndexFields → (t n : ℕ) → List Entered
+part_packets i t n = slice_index_or (runs_at (entered_in i t) (tile_in i.headers.tiles t).data_places) n []
 
 -- its data
 abbrev pub part_from : (file : List ℕ) → IndexFields → (w : Rect) → (d t n : ℕ) → List ℕ
-part_from file i w d t n =
-    flat_map (packet_from file i.place.start (keeps i.headers w d t) (tile_in i.headers.tiles t).cod.eph (counters_of i t)) (part_spans i t n)
+part_from file i w d t n = flat_map (packet_from file i.place.start (keeps i.headers w d t) (tile_in i.headers.tiles t).cod.eph) (part_packets i t n)
 
 -- how many bytes these are, by the index alone
 abbrev pub part_size : IndexFields → (w : Rect) → (d t n : ℕ) → ℕ
-part_size i w d t n = sum_by (packet_size (keeps i.headers w d t) (tile_in i.headers.tiles t).cod.eph (counters_of i t)) (part_spans i t n)
+part_size i w d t n = sum_by (packet_size (keeps i.headers w d t) (tile_in i.headers.tiles t).cod.eph) (part_packets i t n)
 
 -- ---- a tile, by what is kept of it
 
 -- a tile of a file of so many bytes, and a rectangle of the reduced grid
 pub record IsTileCut (file : ℕ) (c : TileCut) : Type 0 where
   pub shape : IsTileShape c.shape.now
-  pub few_packets : packet_count c.shape.now ≤ 2 ^ 24
-  pub firsts : AreFirsts c.shape.now c.slots.now
   pub size : ℕ
   pub entries : AreEntries size c.shape.now c.entries.now
   pub within : c.start + size ≤ file
@@ -131,18 +114,18 @@ pub record IsTileCut (file : ℕ) (c : TileCut) : Type 0 where
   pub few : c.reduce ≤ 10
 
 -- what is made of a packet of it, and how many bytes that are
-abbrev pub tile_packet : TileCut → (file : List ℕ) → PacketSpan → List ℕ
-tile_packet c file v = packet_from file c.start (wanted c.shape.now c.top c.reduce) c.eph (counter_in c.shape.now c.entries.now) v
+abbrev pub tile_packet : TileCut → (file : List ℕ) → Entered → List ℕ
+tile_packet c file v = packet_from file c.start (wanted c.shape.now c.top c.reduce) c.eph v
 
-abbrev pub tile_packet_size : TileCut → PacketSpan → ℕ
-tile_packet_size c v = packet_size (wanted c.shape.now c.top c.reduce) c.eph (counter_in c.shape.now c.entries.now) v
+abbrev pub tile_packet_size : TileCut → Entered → ℕ
+tile_packet_size c v = packet_size (wanted c.shape.now c.top c.reduce) c.eph v
 
 -- its packets from the `next`-th on that stand in a part
-abbrev pub run_from : TileCut → List PacketName → (next : ℕ) → ℕ × ℕ → List PacketSpan
-run_from c names next part = run_at (drop next (map (span_in c.shape.now c.entries.now) names)) part.0 part.1
+abbrev pub run_from : TileCut → List PacketName → (next : ℕ) → ℕ × ℕ → List Entered
+run_from c names next part = run_at (drop next (zip names c.entries.now)) part.0 part.1
 
 -- the plan of some of its packets
-pub record IsRunPlan (n : ℕ) (c : TileCut) (run : List PacketSpan) (p : PlanFields) : Type 0 where
+pub record IsRunPlan (n : ℕ) (c : TileCut) (run : List Entered) (p : PlanFields) : Type 0 where
   pub size : p.size ≡ n
   pub text : (file : List ℕ) → plan_text file p ≡ flat_map (tile_packet c file) run
   pub long : plan_length p ≡ sum_by (tile_packet_size c) run

@@ -1,11 +1,11 @@
 //! What a plan takes of the packets of a tile.
 
-ghost use Rattle.std.specs.Prelude.{◌≡◌, ◌+◌, ◌≤◌, ◌++◌, ◌∷◌, ℕ, List, length, map, IfOk, IfErr, OnOk};
-ghost use Rattle.std.specs.List.{AllByRecursion, AllZip};
+ghost use Rattle.std.specs.Prelude.{◌≡◌, ◌+◌, ◌-◌, ◌≤◌, ◌++◌, ◌∷◌, ℕ, List, length, IfOk, IfErr, OnOk};
+ghost use Rattle.std.specs.List.{AllByRecursion, AllZip, zip};
 ghost use Rattle.jk_math.specs.Memory.{IsMemory};
 ghost use Rattle.jk_order.specs.PacketOrder.{IsName};
 ghost use Rattle.jk_packet.specs.PacketText.{eph_text};
-ghost use Rattle.jk_walk.specs.Entries.{IsEntry, AreEntries, span_in, entry_in};
+ghost use Rattle.jk_walk.specs.Entries.{IsEntry};
 ghost use Rattle.jk_walk.specs.Sop.{sop_written};
 ghost use Rattle.jk_window.specs.Cutting.{runs_at, wanted};
 ghost use Rattle.jk_window.specs.Planning.{IsTileCut, IsRunPlan, IsBehind, tile_packet, tile_packet_size, run_from};
@@ -15,7 +15,6 @@ use crate::steps::CutPlan;
 use crate::window::is_empty;
 use jk_geom::{PacketName, TileShape};
 use jk_math::{Fault, Rect};
-use jk_order::Slots;
 use jk_walk::{PacketEntry, TileEntries};
 use std::alloc::Global;
 
@@ -23,7 +22,6 @@ use std::alloc::Global;
 #[derive(Clone, Copy)]
 pub(crate) struct TileCut<'a> {
     pub(crate) shape: &'a TileShape,
-    pub(crate) slots: &'a Slots,
     pub(crate) entries: &'a TileEntries,
     /// Whether EPH stands at the packets.
     pub(crate) eph: bool,
@@ -55,16 +53,6 @@ fn is_wanted(tile: &TileCut<'_>, name: PacketName) -> bool
     )
 }
 
-/// The entry of a packet.
-fn entry_of(tile: &TileCut<'_>, name: PacketName) -> PacketEntry
-    requires cut { (file : ℕ) × IsTileCut file tile.now }
-    requires name { IsName tile.now.shape.now name }
-    ensures value { result ≡ entry_in tile.now.shape.now tile.now.entries.now name }
-    ensures entry { (size : ℕ) → AreEntries size tile.now.shape.now tile.now.entries.now → IsEntry size result }
-{
-    tile.entries.as_slice()[tile.slots.packet(tile.shape, name)]
-}
-
 /// Writes the SOP marker segment of this counter (T.800 A.8.1), if there is one.
 fn put_sop(plan: &mut CutPlan, counter: Option<(u8, u8)>) -> Result<(), Fault>
     ensures ok { OnOk result (IsBehind plan.old plan.new (λ _. sop_written counter) (length (sop_written counter))) }
@@ -91,24 +79,25 @@ fn put_emptied(plan: &mut CutPlan, counter: Option<(u8, u8)>, eph: bool) -> Resu
     }
 }
 
-/// Plans a packet: all of it, where the window needs it, and else an empty one. Answers where it ends
-/// in the codestream.
-fn plan_packet(tile: &TileCut<'_>, name: PacketName, plan: &mut CutPlan) -> Result<usize, Fault>
+/// Plans a packet: all of it, where the window needs it, and else an empty one.
+fn plan_packet(
+    tile: &TileCut<'_>,
+    name: PacketName,
+    entry: PacketEntry,
+    plan: &mut CutPlan,
+) -> Result<(), Fault>
     requires cut { IsTileCut plan.old.size tile.now }
     requires name { IsName tile.now.shape.now name }
-    ensures end { IfOk result (λ n. n ≡ (span_in tile.now.shape.now tile.now.entries.now name).end) }
+    requires entry { IsEntry (plan.old.size - tile.now.start) entry }
     ensures ok { OnOk result (IsBehind plan.old plan.new
-        (λ file. tile_packet tile.now file (span_in tile.now.shape.now tile.now.entries.now name))
-        (tile_packet_size tile.now (span_in tile.now.shape.now tile.now.entries.now name))) }
+        (λ file. tile_packet tile.now file (name, entry)) (tile_packet_size tile.now (name, entry))) }
     ensures err { IfErr result IsMemory }
 {
-    let entry = entry_of(tile, name);
     if is_wanted(tile, name) {
-        plan.copy(tile.start + entry.start, tile.start + entry.end)?;
+        plan.copy(tile.start + entry.start, tile.start + entry.end)
     } else {
-        put_emptied(plan, entry.counter, tile.eph)?;
+        put_emptied(plan, entry.counter, tile.eph)
     }
-    Ok(entry.end)
 }
 
 /// Plans the packets of a part: those from the `next`-th on, which stand one after another from the
@@ -123,16 +112,20 @@ fn plan_run(
 ) -> Result<(CutPlan, usize), Fault>
     requires cut { IsTileCut size tile.now }
     requires names { AllByRecursion (IsName tile.now.shape.now) names.now }
+    requires all { length names.now ≡ length tile.now.entries.now }
     ensures plan { IfOk result (λ r. IsRunPlan size tile.now (run_from tile.now names.now next part) r.0) }
     ensures next { IfOk result (λ r. r.1 ≡ next + length (run_from tile.now names.now next part)) }
     ensures err { IfErr result IsMemory }
 {
     let (start, end) = part;
+    let entries = tile.entries.as_slice();
     let mut plan = CutPlan::new(alloc, size);
     let mut at = start;
     let mut i = next;
     while at < end && i < names.len() {
-        at = plan_packet(tile, names[i], &mut plan)?;
+        let entry = entries[i];
+        plan_packet(tile, names[i], entry, &mut plan)?;
+        at = entry.end;
         i += 1;
     }
     Ok((plan, i))
@@ -148,8 +141,9 @@ pub(crate) fn plan_runs(
 ) -> Result<Vec<CutPlan>, Fault>
     requires cut { IsTileCut size tile.now }
     requires names { AllByRecursion (IsName tile.now.shape.now) names.now }
+    requires all { length names.now ≡ length tile.now.entries.now }
     ensures plans { IfOk result (λ v. AllZip (IsRunPlan size tile.now)
-        (runs_at (map (span_in tile.now.shape.now tile.now.entries.now) names.now) parts.now) v.items) }
+        (runs_at (zip names.now tile.now.entries.now) parts.now) v.items) }
     ensures err { IfErr result IsMemory }
 {
     let mut plans = Vec::with_capacity(alloc, parts.len())?;

@@ -29,7 +29,7 @@ use jk_boxes::code_head;
 use jk_geom::TileShape;
 use jk_marks::{PartHead, put_part_head};
 use jk_math::{Fault, Rect};
-use jk_order::{Slots, packet_names};
+use jk_order::packet_names;
 use jk_walk::shape_of;
 use std::alloc::Global;
 use std::marker::Model;
@@ -66,7 +66,6 @@ impl TilePlans {
 fn tile_cut<'a>(
     index: &'a Index,
     shape: &'a TileShape,
-    slots: &'a Slots,
     window: &Rect,
     reduce: u8,
     tile: usize,
@@ -77,7 +76,6 @@ fn tile_cut<'a>(
     requires lower { window.now.y1 < 2 ^ 31 }
     requires few { reduce ≤ 10 }
     ensures shape { result.shape.now ≡ shape.now }
-    ensures slots { result.slots.now ≡ slots.now }
     ensures entries { result.entries.now ≡ entries_of index.now.packets tile }
     ensures within { AreEntries (index.now.place.end - index.now.place.start)
         (shape_in index.now.headers.siz (tile_in index.now.headers.tiles tile) tile) result.entries.now }
@@ -90,7 +88,6 @@ fn tile_cut<'a>(
 {
     TileCut {
         shape,
-        slots,
         entries: index.entries(tile),
         eph: index.headers().cod(tile).eph,
         start: index.place().start,
@@ -117,8 +114,7 @@ fn plan_tile(
     let headers = index.headers();
     let shape = shape_of(headers, tile);
     let names = packet_names(alloc, &shape)?;
-    let slots = Slots::new(&shape);
-    let cut = tile_cut(index, &shape, &slots, window, reduce, tile);
+    let cut = tile_cut(index, &shape, window, reduce, tile);
     let places = headers.data_places(tile);
     let around = index.around();
     let parts = plan_runs(alloc, &cut, &names, places, around.size)?;

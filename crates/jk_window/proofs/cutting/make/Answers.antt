@@ -5,7 +5,7 @@ use Rattle.std.proofs.lemmas.List.{append-nil, drop_more, drop_all, drop-drop}
 use Rattle.std.proofs.lemmas.List.Sums.{sum_by-cons}
 use Rattle.jk_walk.specs.TilePackets.{slice_of}
 use Rattle.jk_window.specs.declared.steps.CutStep.{CutStep}
-use Rattle.jk_window.specs.Planning.{planned, plan_text, IsStep, no_step}
+use Rattle.jk_window.specs.Planning.{planned, IsStep, no_step}
 use Rattle.jk_window.proofs.PlanLaws.{written_of, planned-cons, planned-nil}
 use Rattle.jk_window.proofs.cutting.make.Goals as goal
 

@@ -1,4 +1,4 @@
-use Rattle.std.proofs.Common.{◌≡◌, ◌++◌, ◌∷◌, Ok, sym, ap, ◌∙◌}
+use Rattle.std.proofs.Common.{sym, ap, ◌∙◌}
 use Rattle.jk_boxes.specs.declared.place.Boxed.{Boxed}
 use Rattle.jk_window.proofs.BoxLaws.{opened_there, not_refused, same_flag}
 use Rattle.jk_window.proofs.cutting.may_be.Goals as goal

@@ -1,4 +1,4 @@
-use Rattle.std.proofs.Common.{◌≡◌, ◌+◌, min, length, ap, ◌∙◌, List, ℕ, arith, drop}
+use Rattle.std.proofs.Common.{◌≡◌, ap, ◌∙◌, List, arith}
 use Rattle.std.specs.Prelude.{sum_by}
 use Rattle.std.proofs.lemmas.List.{drop_all}
 use Rattle.jk_marks.specs.declared.part_head.PartHead.{PartHead}

@@ -7,7 +7,6 @@ use Rattle.jk_math.specs.Memory.{IsMemory}
 use Rattle.jk_math.specs.declared.rect.Rect.{Rect}
 use Rattle.jk_marks.specs.Codestream.{codestream_text}
 use Rattle.jk_math.specs.declared.fault.Fault.{Fault}
-use Rattle.jk_math.specs.declared.fault.Fault.TheVariants.{BadWindow}
 use Rattle.jk_params.specs.Headers.{Headers}
 use Rattle.jk_window.specs.Views.{HasWindow, window_at}
 use Rattle.jk_window.specs.Cutting.{cut_file, cut_tree, with_codestream}

@@ -1,4 +1,4 @@
-use Rattle.std.proofs.Common.{◌≡◌, ◌≤◌, ◌<◌, ◌^◌, ◌+◌, ◌++◌, ◌∷◌, ◌∙◌, List, ℕ, [], Ok, true, sym, ap, subst, arith, append_assoc, length}
+use Rattle.std.proofs.Common.{◌≡◌, ◌<◌, ◌^◌, ◌+◌, ◌++◌, ◌∙◌, List, ℕ, [], Ok, sym, ap, subst, arith, append_assoc}
 use Rattle.jk_boxes.specs.Boxes.{head_size}
 use Rattle.jk_boxes.specs.Written.{fits_form}
 use Rattle.jk_boxes.specs.declared.place.Boxed.{Boxed}
@@ -6,7 +6,7 @@ use Rattle.jk_marks.specs.PartHeads.{heads_text}
 use Rattle.jk_marks.specs.Markers.{eoc, marker_text}
 use Rattle.jk_walk.specs.TilePackets.{slice_of}
 use Rattle.jk_window.specs.Framing.{Frame}
-use Rattle.jk_window.specs.Planning.{PlanFields, plan_text, framed, framed_size, part_from, part_size, front_of}
+use Rattle.jk_window.specs.Planning.{PlanFields, plan_text, framed_size, part_from, part_size, front_of}
 use Rattle.jk_window.proofs.FramedFile.{made_by}
 use Rattle.jk_window.proofs.PlanLaws.{planned-nil}
 use Rattle.jk_window.proofs.planning.plan_file.Goals as goal

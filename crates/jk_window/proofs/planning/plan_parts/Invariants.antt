@@ -1,4 +1,3 @@
-use Rattle.std.proofs.Common.{◌≡◌, ◌+◌, ◌<◌, ◌++◌, ◌^◌, List, ℕ, length, drop}
 use Rattle.jk_window.proofs.PartPlans.{IsGoing}
 use Rattle.jk_window.proofs.planning.plan_parts.Given as goal
 

@@ -1,14 +1,22 @@
-use Rattle.std.proofs.Common.{◌≡◌, ◌∙◌, sym, ap, subst, refl}
-use Rattle.jk_math.specs.declared.rect.Rect.{Rect}
+use Rattle.std.proofs.Common.{◌∙◌, List, length, sym, ap}
+use Rattle.jk_geom.specs.declared.shape.PacketName.{PacketName}
 use Rattle.jk_geom.specs.declared.shape.TileShape.{TileShape}
 use Rattle.jk_geom.specs.Rectangles.{meet}
 use Rattle.jk_geom.specs.Partitions.{reduced_area}
-use Rattle.jk_order.specs.PacketOrder.{order}
+use Rattle.jk_order.specs.PacketOrder.{order, packet_count}
+use Rattle.jk_order.proofs.Laws.{length_of, order_is}
 use Rattle.jk_params.specs.Headers.{Headers, tile_in}
 use Rattle.jk_walk.specs.TilePackets.{shape_in}
 use Rattle.jk_window.specs.Framing.{Frame}
 use Rattle.jk_window.proofs.RunPlans.{tile_plans}
 use Rattle.jk_window.proofs.planning.plan_tile.Goals as goal
+
+pub plan_runs-requires-clause-all : goal.plan_runs-requires-clause-all
+plan_runs-requires-clause-all c =
+    let t = c.args.tile in
+    let s = c.shape_of-shape.result in
+    let shape = c.shape_of-shape.ensures.value ∙ ap (λ (x : Headers). shape_in x.siz (tile_in x.tiles t) t) c.headers-headers.ensures.value in
+    ap (λ (ns : List PacketName). length ns) (c.deref.ensures.value ∙ c.in_ok-names.ensures.value) ∙ length_of s (order s) (order_is s) ∙ ap packet_count shape ∙ sym c.tile_cut-cut.ensures.within.count
 
 pub returns-clause-plans : goal.returns-clause-plans
 returns-clause-plans c =

@@ -1,9 +1,9 @@
-use Rattle.std.proofs.Common.{◌≡◌, ◌+◌, ◌-◌, ◌<◌, ◌∙◌, ◌++◌, List, ℕ, sym, subst, ap, arith, length, get_or, take, drop}
+use Rattle.std.proofs.Common.{◌≡◌, ◌+◌, ◌-◌, ◌∙◌, List, sym, subst, ap, arith, length, get_or, take, drop}
 use Rattle.std.specs.List.{AllByRecursion}
 use Rattle.std.specs.Prelude.{sum_by}
 use Rattle.jk_window.specs.declared.steps.CutStep.{CutStep}
-use Rattle.jk_window.specs.Planning.{PlanFields, planned, plan_text, plan_length, step_length, IsBehind, IsStep, no_step}
-use Rattle.jk_window.proofs.PlanLaws.{IsAppending, written_of, appending_starts, appending_more, appending_over, behind_same}
+use Rattle.jk_window.specs.Planning.{PlanFields, planned, plan_text, plan_length, step_length, IsStep, no_step}
+use Rattle.jk_window.proofs.PlanLaws.{written_of, appending_starts, appending_more, appending_over, behind_same}
 use Rattle.jk_window.proofs.steps.CutPlan.append.Goals as goal
 
 pub loop-step-init : goal.loop-step-init

@@ -1,4 +1,4 @@
-use Rattle.std.proofs.Common.{◌≡◌, ◌≤◌, ◌-◌, ◌∷◌, ◌++◌, [], List, sym, subst}
+use Rattle.std.proofs.Common.{◌≤◌, ◌-◌, List, sym, subst}
 use Rattle.jk_walk.specs.TilePackets.{slice_of}
 use Rattle.jk_window.specs.declared.steps.CutStep.{CutStep}
 use Rattle.jk_window.specs.Planning.{PlanFields, IsBehind}
