@@ -19,9 +19,9 @@ ghost use Rattle.jk_math.specs.Raster.{places_of};
 ghost use Rattle.jk_code.specs.Tiles.{AreRead, ArePlanes, Keeps, ShowsTileAt, IsPartSeen, part_lists, plane_in};
 ghost use Rattle.jk_window.specs.Views.{HaveLevels, frame_of};
 
-use crate::reduction::{check_reduction, reduced};
+use crate::reduction::check_reduction;
 use jk_boxes::open;
-use jk_geom::tile;
+use jk_geom::{reduced, tile};
 use jk_math::{Fault, Image, Rect};
 use jk_params::{Codestream, read_codestream};
 use jk_tile::{decode_tile, put};

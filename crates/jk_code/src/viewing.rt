@@ -19,13 +19,12 @@ ghost use Rattle.jk_code.specs.Viewing.{picture_of_view};
 ghost use Rattle.jk_code.specs.ViewReading.{seen_part, is_seen, seen_packets_tested, seen_parts_tested, view_at, image_view_at, meaning_view_at};
 
 use crate::decoding::{blank_planes, put_tile};
-use crate::reduction::reduced;
 use crate::windows::window;
 use jk_boxes::open;
-use jk_geom::tile;
+use jk_geom::{meet, reduced, tile, touches};
 use jk_math::{Fault, Image, Rect};
 use jk_params::{Codestream, read_codestream};
-use jk_tile::{decode_part, meet, touches};
+use jk_tile::decode_part;
 use jk_walk::{TilePackets, read_packets};
 use jk_window::{Index, View, window_area};
 use std::alloc::Global;

@@ -1,6 +1,6 @@
 -- Tiles, resolutions and sub-bands (T.800 Annex B), by its formulas on whole numbers.
 -- A difference is 0 where its second number is the greater one.
-use Rattle.std.specs.Prelude.{ℕ, ◌+◌, ◌-◌, ◌*◌, ◌/◌, ◌%◌, ◌^◌, ◌<◌, ◌≤◌, min, max, Bool, ◌||◌, nat_le}
+use Rattle.std.specs.Prelude.{ℕ, ◌+◌, ◌-◌, ◌*◌, ◌/◌, ◌%◌, ◌^◌, ◌<◌, ◌≤◌, min, max, Bool, not, ◌||◌, nat_le}
 use Rattle.jk_math.specs.declared.rect.Rect.{Rect}
 use Rattle.jk_marks.specs.declared.siz.Siz.{Siz}
 use Rattle.jk_marks.specs.Siz.{tiles_across}
@@ -32,6 +32,10 @@ is_empty a = nat_le a.x1 a.x0 || nat_le a.y1 a.y0
 -- what two rectangles have in common
 abbrev pub meet : Rect → Rect → Rect
 meet a b = record { x0 = max a.x0 b.x0; y0 = max a.y0 b.y0; x1 = min a.x1 b.x1; y1 = min a.y1 b.y1 }
+
+-- two rectangles have a place in common
+abbrev pub touches : Rect → Rect → Bool
+touches a b = not (is_empty (meet a b))
 
 -- The rectangle of column a and row b where the plane is cut, from 0 on, into rectangles 2^ex wide and 2^ey high.
 abbrev pub cell : (a b ex ey : ℕ) → Rect

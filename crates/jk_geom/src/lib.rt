@@ -5,6 +5,7 @@ mod bands;
 mod count;
 mod grid;
 mod precincts;
+mod rectangles;
 mod rounding;
 mod shape;
 mod theorems;
@@ -14,6 +15,7 @@ pub use bands::{Orientation, band, resolution};
 pub use count::packet_count;
 pub use grid::{BlockGrid, blocks};
 pub use precincts::{precinct, precinct_count};
+pub use rectangles::{is_empty, meet, reduced, reduced_image, touches};
 pub use shape::{Codings, PacketName, TileShape, tile_shape};
 pub use theorems::{
     blocks_share_a_band, precincts_are_counted, resolutions_are_woven, tiles_share_the_image,

@@ -9,3 +9,5 @@ pub use Rattle.jk_params.proofs.SoundLaws.{sound_headers}
 pub use Rattle.jk_params.proofs.LoopLaws.{total_more}
 pub use Rattle.jk_params.proofs.CountLaws.{part_of_total, packets_in, few_packets}
 pub use Rattle.jk_params.proofs.PlaceLaws.{part_placed}
+pub use Rattle.jk_params.proofs.Below.{below_none, below_more, below_fails, below_at, below_from}
+pub use Rattle.jk_params.proofs.LevelLaws.{few_levels, levels_found, levels_only}

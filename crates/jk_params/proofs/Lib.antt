@@ -13,4 +13,6 @@ pub mod ProfileLaws
 pub mod CountLaws
 pub mod ContentLaws
 pub mod PlaceLaws
+pub mod Below
+pub mod LevelLaws
 pub mod Laws

@@ -10,3 +10,4 @@ pub mod Tables
 pub mod HeadersReading
 pub mod Tiling
 pub mod Profile
+pub mod Levels

@@ -1,9 +1,12 @@
 //! The headers of a codestream as a whole.
 
 ghost use Rattle.std.specs.Prelude.{◌≡◌, ◌<◌, ℕ, length};
+ghost use Rattle.jk_marks.specs.Siz.{tile_count};
 ghost use Rattle.jk_params.specs.Headers.{tile_in, packets_of, AreHeaders};
+ghost use Rattle.jk_params.specs.Levels.{have_levels};
 
 use crate::count::count_own;
+use crate::levels::tiles_have_levels;
 use crate::table::Table;
 use jk_geom::Codings;
 use jk_marks::{Cod, Siz};
@@ -68,6 +71,14 @@ impl Codestream {
         ensures { result.now ≡ (tile_in self.now.tiles tile).data_places }
     {
         self.tiles.places(tile)
+    }
+
+    /// Whether each component of each tile has so many decomposition levels, so that the image can be halved so often.
+    pub fn has_levels(&self, levels: u32) -> bool
+        requires { length self.now.tiles ≡ tile_count self.now.siz }
+        ensures { result ≡ have_levels self.now levels }
+    {
+        tiles_have_levels(self, levels)
     }
 
     /// How many packets the tiles have.

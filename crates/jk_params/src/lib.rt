@@ -4,6 +4,7 @@
 mod coding;
 mod count;
 mod headers;
+mod levels;
 mod parameters;
 mod placing;
 mod profile;

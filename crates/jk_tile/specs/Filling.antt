@@ -1,7 +1,7 @@
 -- Rectangles that are filled part by part.
-use Rattle.std.specs.Prelude.{ℕ, ◌+◌, ◌&&◌, Bool, not, nat_le, nat_lt}
+use Rattle.std.specs.Prelude.{ℕ, ◌+◌, ◌&&◌, Bool, nat_le, nat_lt}
 use Rattle.jk_math.specs.declared.rect.Rect.{Rect}
-use Rattle.jk_geom.specs.Rectangles.{is_empty, meet}
+pub use Rattle.jk_geom.specs.Rectangles.{touches}
 pub use Rattle.jk_wave.specs.Regions.{IsPartOf}
 
 -- a place lies in a rectangle
@@ -11,7 +11,3 @@ has a x y = (nat_le a.x0 x && nat_lt x a.x1) && (nat_le a.y0 y && nat_lt y a.y1)
 -- the first rows of a rectangle
 abbrev pub rows_above : Rect → ℕ → Rect
 rows_above a n = record { x0 = a.x0; y0 = a.y0; x1 = a.x1; y1 = a.y0 + n }
-
--- two rectangles have a place in common
-abbrev pub touches : Rect → Rect → Bool
-touches a b = not (is_empty (meet a b))

@@ -3,9 +3,10 @@
 ghost use Rattle.std.specs.Prelude.{◌≡◌, true, ℕ, ◌+◌, ◌-◌, ◌*◌, ◌<◌, ◌≤◌, ◌&&◌, nat_le, nat_lt, length, All, if◌then◌else◌};
 ghost use Rattle.jk_math.specs.Raster.{places_of, plane_at};
 ghost use Rattle.jk_math.specs.Signed.{IsBelow, signed_at};
-ghost use Rattle.jk_geom.specs.Rectangles.{IsArea, IsWithin, meet};
+ghost use Rattle.jk_geom.specs.Rectangles.{IsArea, IsWithin};
 ghost use Rattle.jk_tile.specs.Filling.{has, IsPartOf, touches};
 
+use jk_geom::meet;
 use jk_math::Rect;
 
 /// Writes a row into a plane at a place.
@@ -42,26 +43,6 @@ pub fn put(area: &Rect, plane: &mut [i32], part: &Rect, values: &[i32])
             &values[from..from + part_width],
         );
     }
-}
-
-/// What two rectangles have in common.
-pub fn meet(a: &Rect, b: &Rect) -> Rect
-    ensures { result ≡ meet a.now b.now }
-{
-    Rect {
-        x0: a.x0.max(b.x0),
-        y0: a.y0.max(b.y0),
-        x1: a.x1.min(b.x1),
-        y1: a.y1.min(b.y1),
-    }
-}
-
-/// Whether two rectangles have a place in common.
-pub fn touches(a: &Rect, b: &Rect) -> bool
-    ensures { result ≡ touches a.now b.now }
-{
-    let common = meet(a, b);
-    common.x0 < common.x1 && common.y0 < common.y1
 }
 
 /// Writes what the values of a rectangle have of another one, row by row, at their places in the

@@ -22,7 +22,7 @@ mod values;
 mod writing;
 
 pub use encoding::encode_tile;
-pub use filling::{meet, put, touches};
+pub use filling::put;
 pub use needs::exponents;
 pub use samples::level_shift;
 pub use subbands::tile_bands;

@@ -6,7 +6,6 @@ pub use Rattle.jk_window.proofs.PrecinctAgain.{front_bodies, kept_bodies}
 pub use Rattle.jk_window.proofs.FrontFile.{front_fits}
 pub use Rattle.jk_window.proofs.Stretches.{stretch_none, stretch_more, near_part, near_stretch}
 pub use Rattle.jk_window.proofs.NeededPlaces.{place_needs}
-pub use Rattle.jk_window.proofs.Below.{below_none, below_more, below_fails, below_at, below_from}
-pub use Rattle.jk_window.proofs.HeaderFacts.{few_levels, levels_found, levels_only}
+pub use Rattle.jk_params.proofs.Laws.{below_none, below_more, below_fails, below_at, below_from, few_levels, levels_found, levels_only}
 pub use Rattle.jk_window.proofs.Levels.{window_found, window_only, window_refused}
 pub use Rattle.jk_window.proofs.IndexLaws.{has_index, index_only}

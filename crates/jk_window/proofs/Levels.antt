@@ -14,7 +14,7 @@ use Rattle.jk_params.specs.Headers.{Headers, TileFields, tile_in}
 use Rattle.jk_window.specs.declared.view.View.{View}
 use Rattle.jk_window.specs.Views.{frame_of, window_of, HasWindow, have_levels, window_at}
 use Rattle.jk_window.specs.Indexing.{least_in, least_levels}
-use Rattle.jk_window.proofs.HeaderFacts.{levels_found, levels_only}
+use Rattle.jk_params.proofs.Laws.{levels_found, levels_only}
 
 pub least_none : (ks : List Coding) → 10 ≡ least_in ks 0
 unfolding least_in

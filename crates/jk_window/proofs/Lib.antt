@@ -1,5 +1,3 @@
-pub mod Below
-pub mod HeaderFacts
 pub mod Stretches
 pub mod Levels
 pub mod FramingLaws

@@ -7,13 +7,13 @@ use Rattle.jk_math.specs.declared.rect.Rect.{Rect}
 use Rattle.jk_marks.specs.declared.coding.Coding.{Coding}
 use Rattle.jk_geom.specs.declared.bands.Orientation.{Orientation}
 use Rattle.jk_geom.specs.declared.bands.Orientation.TheVariants.{LL}
-use Rattle.jk_geom.specs.Rectangles.{IsWithin, is_empty, meet}
+use Rattle.jk_geom.specs.Rectangles.{IsWithin, is_empty, meet, touches}
 use Rattle.jk_geom.specs.Precincts.{precinct_area}
 use Rattle.jk_geom.specs.Partitions.{reduced_area}
 use Rattle.jk_geom.specs.TileShapes.{coding_of}
 use Rattle.jk_geom.proofs.Laws.{sides_some}
 use Rattle.jk_walk.specs.TilePackets.{orientations}
-use Rattle.jk_window.specs.Needs.{touches, needed_part, needs, is_needed}
+use Rattle.jk_window.specs.Needs.{needed_part, needs, is_needed}
 
 -- rectangles that have a place in common
 some_place : (a : Rect) (x y : ℕ) → IsWithin a x y → is_empty a ≡ false

@@ -5,7 +5,7 @@ use Rattle.jk_math.specs.declared.rect.Rect.{Rect}
 use Rattle.jk_marks.specs.declared.coding.Coding.{Coding}
 use Rattle.jk_geom.specs.declared.bands.Orientation.{Orientation}
 use Rattle.jk_geom.specs.declared.bands.Orientation.TheVariants.{LL, HL, LH, HH}
-use Rattle.jk_geom.specs.Rectangles.{is_empty, meet, across_offset, down_offset}
+use Rattle.jk_geom.specs.Rectangles.{is_empty, meet, touches, across_offset, down_offset}
 use Rattle.jk_geom.specs.Precincts.{precinct_area}
 use Rattle.jk_geom.specs.Partitions.{reduced_area}
 use Rattle.jk_geom.specs.TileShapes.{coding_of}
@@ -40,10 +40,6 @@ needed_part u n LL = stretch u n
 needed_part u n HL = part_of_band (stretch u n) HL
 needed_part u n LH = part_of_band (stretch u n) LH
 needed_part u n HH = part_of_band (stretch u n) HH
-
--- Two rectangles have a place in common.
-abbrev pub touches : Rect → Rect → Bool
-touches a b = not (is_empty (meet a b))
 
 -- A stretch u of a tile-component, which is reduced by d levels, needs precinct k of resolution r: a sub-band has a place that
 -- belongs to the precinct and that the stretch depends on.

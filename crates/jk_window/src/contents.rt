@@ -12,8 +12,7 @@ ghost use Rattle.jk_window.specs.Planning.{IsTileCut, IsRunPlan, IsBehind, tile_
 
 use crate::need::needs;
 use crate::steps::CutPlan;
-use crate::window::is_empty;
-use jk_geom::{PacketName, TileShape};
+use jk_geom::{PacketName, TileShape, is_empty};
 use jk_math::{Fault, Rect};
 use jk_walk::{PacketEntry, TileEntries};
 use std::alloc::Global;

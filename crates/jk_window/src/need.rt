@@ -1,17 +1,15 @@
 //! Which precincts a window needs.
 
-ghost use Rattle.std.specs.Prelude.{◌≡◌, ◌≤◌, ◌+◌, ◌-◌, ◌<◌, ◌^◌, ℕ, nat_le, not, if◌then◌else◌};
+ghost use Rattle.std.specs.Prelude.{◌≡◌, ◌≤◌, ◌+◌, ◌-◌, ◌<◌, ◌^◌, ℕ, if◌then◌else◌};
 ghost use Rattle.jk_math.specs.declared.rect.Rect.{Rect as Area};
 ghost use Rattle.std.specs.List.{list_any};
 ghost use Rattle.jk_marks.specs.Coding.{IsCoding};
-ghost use Rattle.jk_geom.specs.Rectangles.{IsArea, is_empty, meet, across_offset, down_offset};
+ghost use Rattle.jk_geom.specs.Rectangles.{IsArea, touches};
 ghost use Rattle.jk_geom.specs.Precincts.{precinct_number, precinct_area};
-ghost use Rattle.jk_geom.specs.TileShapes.{AreCodings, coding_of};
 ghost use Rattle.jk_walk.specs.TilePackets.{orientations};
-ghost use Rattle.jk_window.specs.Needs.{half_start, half_end, part_of_band, stretch, needed_part, touches, needs, is_needed};
+ghost use Rattle.jk_window.specs.Needs.{half_start, half_end, part_of_band, stretch, needed_part, needs};
 
-use crate::window::is_empty;
-use jk_geom::{Orientation, precinct};
+use jk_geom::{Orientation, precinct, touches};
 use jk_marks::Coding;
 use jk_math::Rect;
 
@@ -80,18 +78,6 @@ fn needed_part(area: &Rect, orientation: Orientation) -> Rect
     }
 }
 
-/// What two rectangles have in common.
-pub(crate) fn meet(a: &Rect, b: &Rect) -> Rect
-    ensures { result ≡ meet a.now b.now }
-{
-    Rect {
-        x0: a.x0.max(b.x0),
-        y0: a.y0.max(b.y0),
-        x1: a.x1.min(b.x1),
-        y1: a.y1.min(b.y1),
-    }
-}
-
 /// Whether a stretch of a resolution depends on a place of a sub-band that belongs to precinct `k`.
 fn touches_band(
     rect: &Rect,
@@ -112,7 +98,7 @@ fn touches_band(
 {
     let part = needed_part(area, orientation);
     let precinct = precinct(rect, coding, r, k, orientation);
-    !is_empty(&meet(&precinct, &part))
+    touches(&precinct, &part)
 }
 
 /// The same of all sub-bands of the resolution.

@@ -21,12 +21,11 @@ ghost use Rattle.jk_window.specs.Planning.{plan_text, plan_length, AreTilePlans,
 
 use crate::contents::{TileCut, plan_runs};
 use crate::kept::Index;
-use crate::need::meet;
 use crate::steps::CutPlan;
 use crate::view::View;
-use crate::window::{reduced, window};
+use crate::window::window;
 use jk_boxes::code_head;
-use jk_geom::TileShape;
+use jk_geom::{TileShape, meet, reduced};
 use jk_marks::{PartHead, put_part_head};
 use jk_math::{Fault, Rect};
 use jk_order::packet_names;

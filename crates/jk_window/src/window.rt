@@ -1,76 +1,15 @@
 //! The window of a view.
 
-ghost use Rattle.std.specs.Prelude.{◌≡◌, ◌≤◌, ◌+◌, ◌<◌, ◌^◌, ℕ, length, nat_le, min, IfOk, MatchResult, false};
+ghost use Rattle.std.specs.Prelude.{◌≡◌, ◌≤◌, ◌<◌, ◌^◌, ℕ, min, IfOk, MatchResult, false};
 ghost use Rattle.jk_math.specs.declared.fault.Fault.TheVariants.{BadWindow};
-ghost use Rattle.std.specs.List.{list_all};
-ghost use Rattle.jk_marks.specs.Siz.{IsSiz, tile_count};
 ghost use Rattle.jk_geom.specs.Rectangles.{IsArea, is_empty};
-ghost use Rattle.jk_geom.specs.Partitions.{image_area, reduced_area};
-ghost use Rattle.jk_params.specs.Headers.{AreHeaders, tile_in};
-ghost use Rattle.jk_window.specs.Views.{HasWindow, frame_of, window_in, window_of, window_at, has_levels, have_levels};
+ghost use Rattle.jk_params.specs.Headers.{AreHeaders};
+ghost use Rattle.jk_window.specs.Views.{HasWindow, window_in, window_at};
 
 use crate::view::View;
-use jk_geom::{Codings, resolution};
-use jk_marks::Siz;
+use jk_geom::{is_empty, reduced_image};
 use jk_math::{Fault, Rect};
 use jk_params::Codestream;
-
-/// Whether each component of a tile has so many decomposition levels.
-fn codings_have_levels(codings: &Codings, levels: u32) -> bool
-    ensures { result ≡ list_all (λ k. nat_le levels k.levels) codings.now }
-{
-    codings
-        .as_slice()
-        .iter()
-        .all(|coding| levels <= coding.levels as u32)
-}
-
-/// Whether each component of each tile has so many decomposition levels.
-#[tactic(auto, using(crate::proofs::Below::below_none, crate::proofs::Below::below_more, crate::proofs::Below::below_fails))]
-fn tiles_have_levels(headers: &Codestream, levels: u32) -> bool
-    requires { length headers.now.tiles ≡ tile_count headers.now.siz }
-    ensures { result ≡ have_levels headers.now levels }
-{
-    for number in 0..headers.tile_count() {
-        if !codings_have_levels(headers.codings(number), levels) {
-            return false;
-        }
-    }
-    true
-}
-
-/// A rectangle on the grid that is reduced by so many levels.
-pub(crate) fn reduced(area: &Rect, levels: u8) -> Rect
-    requires area { IsArea area.now }
-    requires levels { levels ≤ 10 }
-    ensures value { result ≡ reduced_area area.now levels }
-    ensures area { IsArea result }
-{
-    resolution(area, levels, 0)
-}
-
-/// The place of the image on the grid that is reduced by so many levels.
-fn reduced_image(siz: &Siz, levels: u8) -> Rect
-    requires siz { IsSiz siz.now }
-    requires levels { levels ≤ 10 }
-    ensures value { result ≡ reduced_area (image_area siz.now) levels }
-    ensures area { IsArea result }
-{
-    let image = Rect {
-        x0: siz.x0,
-        y0: siz.y0,
-        x1: siz.x1,
-        y1: siz.y1,
-    };
-    reduced(&image, levels)
-}
-
-/// Whether a rectangle has no place.
-pub(crate) fn is_empty(area: &Rect) -> bool
-    ensures { result ≡ is_empty area.now }
-{
-    area.x1 <= area.x0 || area.y1 <= area.y0
-}
 
 /// The least of two numbers, the first of which may be large.
 fn cut_at(value: u64, most: u32) -> u32
@@ -113,7 +52,7 @@ pub fn window(headers: &Codestream, view: View) -> Result<Rect, Fault>
     ensures lower { IfOk result (λ w. w.y1 < 2 ^ 31) }
     ensures few { IfOk result (λ w. view.reduce ≤ 10) }
 {
-    if !tiles_have_levels(headers, view.reduce) {
+    if !headers.has_levels(view.reduce) {
         return Err(Fault::BadWindow);
     }
     let area = reduced_image(headers.siz(), view.reduce as u8);

@@ -1,7 +1,7 @@
 -- Tests of the numbers below one.
 use Rattle.std.proofs.Common.{◌≡◌, ℕ, zero, suc, ◌+◌, ◌<◌, Bool, true, false, ◌&&◌, refl, sym, ap, ◌∙◌, add-one, inl, inr, arith}
 use Rattle.std.proofs.lemmas.Bool.{and_parts, and_left, and_right, cases_lt}
-use Rattle.jk_window.specs.Views.{holds_below}
+use Rattle.jk_params.specs.Levels.{holds_below}
 
 below_next : (f : ℕ → Bool) (n : ℕ) → holds_below f (suc n) ≡ (holds_below f n && f n)
 unfolding holds_below

@@ -1,16 +1,14 @@
--- What headers say of levels and the reduced image.
-use Rattle.std.proofs.Common.{◌≡◌, ℕ, zero, suc, ◌<◌, ◌≤◌, true, false, leb, List, [], ◌∷◌, length, refl, arith}
+-- What headers say of levels.
+use Rattle.std.proofs.Common.{◌≡◌, ℕ, zero, suc, ◌<◌, ◌≤◌, true, leb, List, [], ◌∷◌, length, refl, arith}
 use Rattle.std.specs.List.{AllByRecursion, list_all}
-use Rattle.std.proofs.lemmas.Bool.{leb-true, leb-false, le-leb, and_parts, and_from, or_parts}
-use Rattle.jk_math.specs.declared.rect.Rect.{Rect}
+use Rattle.std.proofs.lemmas.Bool.{leb-true, le-leb, and_parts, and_from}
 use Rattle.jk_marks.specs.declared.coding.Coding.{Coding}
 use Rattle.jk_marks.specs.Siz.{tile_count}
-use Rattle.jk_geom.specs.Rectangles.{is_empty}
 use Rattle.jk_geom.specs.TileShapes.{coding_of}
 use Rattle.jk_geom.proofs.Laws.{some_tile}
 use Rattle.jk_params.specs.Headers.{Headers, TileFields, tile_in, AreHeaders}
-use Rattle.jk_window.specs.Views.{has_levels, holds_below}
-use Rattle.jk_window.proofs.Below.{below_at, below_from}
+use Rattle.jk_params.specs.Levels.{has_levels, holds_below}
+use Rattle.jk_params.proofs.Below.{below_at, below_from}
 
 -- ---- levels
 
@@ -55,7 +53,3 @@ levels_found d n tiles long e = tiles_all d tiles (λ t lt. below_at (λ t. has_
 
 pub levels_only : (d n : ℕ) (tiles : List TileFields) → length tiles ≡ n → AllByRecursion (λ (f : TileFields). AllByRecursion (λ (k : Coding). d ≤ k.levels) f.codings) tiles → holds_below (λ t. has_levels d (tile_in tiles t)) n ≡ true
 levels_only d n tiles long h = below_from (λ t. has_levels d (tile_in tiles t)) n (λ t lt. all_tiles d tiles h t (omega (arith, lt, long)))
-
--- and only such a one
-pub sides_of : (a : Rect) → is_empty a ≡ false → (a.x0 < a.x1) × (a.y0 < a.y1)
-sides_of a e = let parts = or_parts (leb a.x1 a.x0) (leb a.y1 a.y0) e in (leb-false a.x1 a.x0 parts.0, leb-false a.y1 a.y0 parts.1)

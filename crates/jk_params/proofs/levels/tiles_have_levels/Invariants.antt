@@ -1,8 +1,8 @@
 use Rattle.std.proofs.Common.{◌≡◌, true}
 use Rattle.jk_marks.specs.Siz.{tile_count}
 use Rattle.jk_params.specs.Headers.{tile_in}
-use Rattle.jk_window.specs.Views.{has_levels, holds_below}
-use Rattle.jk_window.proofs.window.tiles_have_levels.Given as goal
+use Rattle.jk_params.specs.Levels.{has_levels, holds_below}
+use Rattle.jk_params.proofs.levels.tiles_have_levels.Given as goal
 
 -- the tiles before have the levels
 abbrev pub invariant-loop-number : goal.invariant-loop-number

@@ -3,9 +3,9 @@ use Rattle.std.specs.List.{list_all}
 use Rattle.jk_marks.specs.Siz.{tile_count}
 use Rattle.jk_marks.specs.declared.coding.Coding.{Coding}
 use Rattle.jk_params.specs.Headers.{tile_in}
-use Rattle.jk_window.specs.Views.{has_levels}
-use Rattle.jk_window.proofs.Below.{below_fails}
-use Rattle.jk_window.proofs.window.tiles_have_levels.Goals as goal
+use Rattle.jk_params.specs.Levels.{has_levels}
+use Rattle.jk_params.proofs.Below.{below_fails}
+use Rattle.jk_params.proofs.levels.tiles_have_levels.Goals as goal
 
 pub returns-then-not-codings_have_levels : goal.returns-then-not-codings_have_levels
 returns-then-not-codings_have_levels c =
