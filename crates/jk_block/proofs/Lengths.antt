@@ -4,10 +4,10 @@ use Rattle.std.specs.Prelude.{◌&&◌, nat_eq, nat_lt, nat_le}
 use Rattle.jk_model.specs.Decisions.{State, Decision, initial, qe_at}
 use Rattle.jk_model.specs.Deciding.{decided, takes_lower}
 use Rattle.jk_model.specs.Placed.{onto}
-use Rattle.jk_mqenc.specs.Machine.{Machine, put, placed_after, byte_out}
-use Rattle.jk_mqenc.specs.Coding.{shifted, twice, renorm, part, set_bits, shifted_by, pushed_out, flushed}
-use Rattle.jk_mqenc.specs.Deciding.{step, run}
-use Rattle.jk_mqenc.specs.Encoded.{started, without_ff, finished}
+use Rattle.jk_mqenc.specs.Machine.{Machine, with_byte, placed_after, byte_out}
+use Rattle.jk_mqenc.specs.Coding.{shifted, twice, renorme, subinterval, set_bits, shifted_by, pushed_out, flushed}
+use Rattle.jk_mqenc.specs.Deciding.{machine_decided, machine_by}
+use Rattle.jk_mqenc.specs.Encoded.{started, without_last_ff, finished}
 use Rattle.jk_scan.specs.declared.shape.BlockShape.{BlockShape}
 use Rattle.jk_scan.specs.Neighbours.{Field, is_inside}
 use Rattle.jk_scan.specs.Moments.{number, visits, stripes, pass_of}
@@ -25,7 +25,7 @@ placed_short : (bs : List ℕ) (d w : ℕ) → length (placed_after bs d w).plac
 placed_short [] d w = omega arith
 placed_short (b ∷ o) d w = by (nat_eq b 255) (nat_lt d (2 ^ 27))
   where
-    by : (p q : Bool) → length (cond p (put (b ∷ o) d w) (cond q (put (b ∷ o) d w) (put (suc b ∷ o) (d - 2 ^ 27) w))).placed ≤ suc (length o) + 1
+    by : (p q : Bool) → length (cond p (with_byte (b ∷ o) d w) (cond q (with_byte (b ∷ o) d w) (with_byte (suc b ∷ o) (d - 2 ^ 27) w))).placed ≤ suc (length o) + 1
     by true q = omega arith
     by false true = omega arith
     by false false = omega arith
@@ -42,26 +42,26 @@ twice_short m = by (nat_eq m.count 1)
     by true = byte_out_short (shifted m)
     by false = omega arith
 
-renorm_short : (k : ℕ) (m : Machine) → length (renorm k m).placed ≤ length m.placed + k
-unfolding renorm
-renorm_short zero m = omega arith
-renorm_short (suc k) m = by (nat_lt m.width (2 ^ 15)) (renorm_short k (twice m))
+renorme_short : (k : ℕ) (m : Machine) → length (renorme k m).placed ≤ length m.placed + k
+unfolding renorme
+renorme_short zero m = omega arith
+renorme_short (suc k) m = by (nat_lt m.width (2 ^ 15)) (renorme_short k (twice m))
   where
-    by : (p : Bool) → length (renorm k (twice m)).placed ≤ length (twice m).placed + k → length (cond p (renorm k (twice m)) m).placed ≤ length m.placed + suc k
+    by : (p : Bool) → length (renorme k (twice m)).placed ≤ length (twice m).placed + k → length (cond p (renorme k (twice m)) m).placed ≤ length m.placed + suc k
     by true r = let t = twice_short m in omega (arith, r, t)
     by false r = omega arith
 
-part_same : (m : Machine) (q : ℕ) (lower : Bool) → (part m q lower).placed ≡ m.placed
-unfolding part
-part_same m q true = refl
-part_same m q false = refl
+subinterval_same : (m : Machine) (q : ℕ) (lower : Bool) → (subinterval m q lower).placed ≡ m.placed
+unfolding subinterval
+subinterval_same m q true = refl
+subinterval_same m q false = refl
 
-run_short : (m : Machine) (s : State) (ds : List Decision) → length (run m s ds).placed ≤ length m.placed + 15 * length ds
-run_short m s [] = omega arith
-run_short m s (d ∷ ds) =
-    let r = run_short (step m s d) (decided s d) ds in
-    let t = renorm_short 15 (part m (qe_at s d.0) (takes_lower s d.0 d.1)) in
-    let p = ap (λ (xs : List ℕ). length xs) (part_same m (qe_at s d.0) (takes_lower s d.0 d.1)) in
+machine_short : (m : Machine) (s : State) (ds : List Decision) → length (machine_by m s ds).placed ≤ length m.placed + 15 * length ds
+machine_short m s [] = omega arith
+machine_short m s (d ∷ ds) =
+    let r = machine_short (machine_decided m s d) (decided s d) ds in
+    let t = renorme_short 15 (subinterval m (qe_at s d.0) (takes_lower s d.0 d.1)) in
+    let p = ap (λ (xs : List ℕ). length xs) (subinterval_same m (qe_at s d.0) (takes_lower s d.0 d.1)) in
     omega (arith, r, t, p)
 
 shifted_same : (k : ℕ) (m : Machine) → (shifted_by k m).placed ≡ m.placed
@@ -84,7 +84,7 @@ flushed_short m =
     let b = pushed_short (pushed_out n) in
     omega (arith, a, b)
 
-without_short : (bs : List ℕ) → length (without_ff bs) ≤ length bs
+without_short : (bs : List ℕ) → length (without_last_ff bs) ≤ length bs
 without_short [] = omega arith
 without_short (b ∷ o) = by (nat_eq b 255)
   where
@@ -99,22 +99,22 @@ onto_length (x ∷ xs) q = let r = onto_length xs (x ∷ q) in omega (arith, r)
 pub finished_short : (ds : List Decision) → length (finished ds) ≤ 15 * length ds + 2
 unfolding finished
 finished_short ds =
-    let m = run started initial ds in
+    let m = machine_by started initial ds in
     let f = (flushed m).placed in
-    let a = onto_length (without_ff f) [] in
+    let a = onto_length (without_last_ff f) [] in
     let b = without_short f in
     let c = flushed_short m in
-    let d = run_short started initial ds in
+    let d = machine_short started initial ds in
     omega (arith, a, b, c, d)
 
 -- ---- decisions by places
 
-joined_few : (n c : ℕ) (part : ℕ → Decided) → ((k : ℕ) → length (part k) ≤ c) → length (joined n part) ≤ n * c
+joined_few : (n c : ℕ) (each : ℕ → Decided) → ((k : ℕ) → length (each k) ≤ c) → length (joined n each) ≤ n * c
 unfolding joined
-joined_few zero c part h = omega arith
-joined_few (suc n) c part h =
-    let a = length-append (joined n part) (part n) in
-    let r = joined_few n c part h in
+joined_few zero c each h = omega arith
+joined_few (suc n) c each h =
+    let a = length-append (joined n each) (each n) in
+    let r = joined_few n c each h in
     let l = h n in
     let e : suc n * c ≡ n * c + c = omega arith in
     omega (arith, a, r, l, e)

@@ -19,7 +19,7 @@ use crate::sketch::Sketch;
 use crate::spot::{Pass, pass_of};
 use jk_math::Fault;
 use jk_model::first_steps;
-use jk_mqdec::Run;
+use jk_mqdec::PassDecoder;
 use jk_scan::{BlockShape, Kind, WORDS};
 use std::alloc::Global;
 
@@ -64,7 +64,7 @@ fn note(ages: &mut Ages, significant: &[u64; WORDS], n: usize)
 /// Reads the n-th pass of a block.
 fn read_pass(
     sketch: &mut Sketch,
-    decoder: &mut Run,
+    decoder: &mut PassDecoder,
     refined: &[u64; WORDS],
     planes: u32,
     n: usize,
@@ -86,7 +86,7 @@ fn read_pass(
 /// Reads the passes of a block.
 fn read_passes(
     sketch: &mut Sketch,
-    decoder: &mut Run,
+    decoder: &mut PassDecoder,
     planes: u32,
     passes: usize,
 ) -> Result<(), Fault>
@@ -185,7 +185,7 @@ pub fn decode(
     }
     let mut sketch = Sketch::new(shape);
     let mut contexts = first_steps();
-    let mut decoder = Run::new(segment, &mut contexts);
+    let mut decoder = PassDecoder::new(segment, &mut contexts);
     read_passes(&mut sketch, &mut decoder, planes, passes)?;
     Ok(Block {
         width: shape.width,

@@ -16,7 +16,7 @@ use crate::sketch::Sketch;
 use crate::spot::Spot;
 use crate::visits::{read_left, read_member, read_next, read_run};
 use jk_math::Fault;
-use jk_mqdec::Run;
+use jk_mqdec::PassDecoder;
 use jk_scan::{
     Around, BlockShape, WORDS, inside, members, quiet_behind, quiet_columns, refine_context,
     seen_around, touched_places, word_place,
@@ -24,7 +24,7 @@ use jk_scan::{
 
 /// Reads a word in the significance propagation pass (T.800 D.3.1). A place that becomes significant takes in the later ones
 /// of its word that it touches.
-pub fn propagate(sketch: &mut Sketch, decoder: &mut Run, spot: Spot) -> Result<(), Fault>
+pub fn propagate(sketch: &mut Sketch, decoder: &mut PassDecoder, spot: Spot) -> Result<(), Fault>
     requires { IsSpot sketch.old.shape spot }
     ensures shape { sketch.new.shape ≡ sketch.old.shape }
     ensures bytes { decoder.new.bytes ≡ decoder.old.bytes }
@@ -73,7 +73,7 @@ fn refined_places(refined: &[u64; WORDS], shape: BlockShape, spot: Spot) -> u64
 /// Reads a word in the magnitude refinement pass (T.800 D.3.3).
 pub fn refine(
     sketch: &mut Sketch,
-    decoder: &mut Run,
+    decoder: &mut PassDecoder,
     refined: &[u64; WORDS],
     spot: Spot,
 ) -> Result<(), Fault>
@@ -131,7 +131,7 @@ fn still_columns(shape: BlockShape, spot: Spot, seen: Around, limits: u64) -> u6
 }
 
 /// Reads a word in the cleanup pass (T.800 D.3.4): the places that are left, and columns in run mode.
-pub fn clean(sketch: &mut Sketch, decoder: &mut Run, spot: Spot) -> Result<(), Fault>
+pub fn clean(sketch: &mut Sketch, decoder: &mut PassDecoder, spot: Spot) -> Result<(), Fault>
     requires { IsSpot sketch.old.shape spot }
     ensures shape { sketch.new.shape ≡ sketch.old.shape }
     ensures bytes { decoder.new.bytes ≡ decoder.old.bytes }

@@ -10,13 +10,13 @@ use crate::loops::{clean, propagate, refine};
 use crate::sketch::Sketch;
 use crate::spot::{Pass, Spot};
 use jk_math::Fault;
-use jk_mqdec::Run;
+use jk_mqdec::PassDecoder;
 use jk_scan::{WORDS, words_across};
 
 /// Reads a word in a pass.
 fn visit_word(
     sketch: &mut Sketch,
-    decoder: &mut Run,
+    decoder: &mut PassDecoder,
     refined: &[u64; WORDS],
     spot: Spot,
     pass: Pass,
@@ -39,7 +39,7 @@ fn visit_word(
 /// Reads a stripe in a pass.
 fn visit_stripe(
     sketch: &mut Sketch,
-    decoder: &mut Run,
+    decoder: &mut PassDecoder,
     refined: &[u64; WORDS],
     plane: u32,
     pass: Pass,
@@ -68,7 +68,7 @@ fn visit_stripe(
 /// Reads all places in a pass of a bit-plane.
 pub fn visit_plane(
     sketch: &mut Sketch,
-    decoder: &mut Run,
+    decoder: &mut PassDecoder,
     refined: &[u64; WORDS],
     plane: u32,
     pass: Pass,

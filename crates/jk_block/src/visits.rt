@@ -16,7 +16,7 @@ ghost use Rattle.jk_block.specs.Sketches.{Takes, TakesUpTo, IsFresh, lit_in, vis
 use crate::sketch::Sketch;
 use crate::spot::Spot;
 use jk_math::Fault;
-use jk_mqdec::Run;
+use jk_mqdec::PassDecoder;
 use jk_scan::{Around, BlockShape, seen_around, sign_context_at, zero_context_at};
 
 /// The contexts of run mode (T.800 D.3.4, Table D.5).
@@ -36,7 +36,7 @@ fn flipped(flip: bool, bit: bool) -> bool
 #[inline(always)]
 fn read_sign(
     sketch: &mut Sketch,
-    decoder: &mut Run,
+    decoder: &mut PassDecoder,
     shape: BlockShape,
     spot: Spot,
     k: u32,
@@ -65,7 +65,7 @@ fn read_sign(
 #[inline(always)]
 fn read_new(
     sketch: &mut Sketch,
-    decoder: &mut Run,
+    decoder: &mut PassDecoder,
     shape: BlockShape,
     spot: Spot,
     k: u32,
@@ -95,7 +95,7 @@ fn read_new(
 #[inline(always)]
 pub fn read_member(
     sketch: &mut Sketch,
-    decoder: &mut Run,
+    decoder: &mut PassDecoder,
     shape: BlockShape,
     spot: Spot,
     k: u32,
@@ -122,7 +122,7 @@ pub fn read_member(
 #[inline(always)]
 pub fn read_next(
     sketch: &mut Sketch,
-    decoder: &mut Run,
+    decoder: &mut PassDecoder,
     shape: BlockShape,
     spot: Spot,
     k: u32,
@@ -156,7 +156,7 @@ pub fn read_next(
 #[inline(always)]
 pub fn read_left(
     sketch: &mut Sketch,
-    decoder: &mut Run,
+    decoder: &mut PassDecoder,
     shape: BlockShape,
     spot: Spot,
     k: u32,
@@ -193,7 +193,7 @@ fn row_named(high: bool, low: bool) -> u32
 /// gives that row, or 4.
 pub fn read_run(
     sketch: &mut Sketch,
-    decoder: &mut Run,
+    decoder: &mut PassDecoder,
     shape: BlockShape,
     spot: Spot,
     k: u32,

@@ -1,5 +1,5 @@
-//! A decoder that is used up to its first fault: the contexts lie with the caller, and whether the code value has left the
-//! interval is asked only where a byte is due.
+//! A decoder that is used up to its first fault: the contexts lie with the caller, and whether the
+//! code value has left the interval is asked only where a byte is due.
 
 ghost use Rattle.std.specs.Prelude.{◌≡◌, ◌<◌, OnOk};
 ghost use Rattle.jk_model.specs.Contexts.{first_contexts as start};
@@ -14,13 +14,13 @@ use std::marker::Model;
 
 /// The MQ decoder over the bytes of a segment (T.800 Annex C), up to its first fault.
 #[derive(Drop)]
-pub struct Run<'a> {
+pub struct PassDecoder<'a> {
     bytes: &'a [u8],
     registers: WideRegisters,
     contexts: &'a mut [Step; 19],
 }
 
-impl<'a> Model for Run<'a> {
+impl<'a> Model for PassDecoder<'a> {
     ghost use Rattle.jk_mqdec.specs.Standing.{View};
     ghost use Rattle.jk_mqdec.specs.Wide.{IsSteadyWide};
 
@@ -31,14 +31,14 @@ impl<'a> Model for Run<'a> {
     ghost invariant = { λ d. IsSteadyWide d.bytes.now d.registers };
 }
 
-impl<'a> Run<'a> {
+impl<'a> PassDecoder<'a> {
     /// A decoder at the start of a segment (INITDEC, T.800 C.3.5).
-    pub fn new(bytes: &'a [u8], contexts: &'a mut [Step; 19]) -> Run<'a>
+    pub fn new(bytes: &'a [u8], contexts: &'a mut [Step; 19]) -> PassDecoder<'a>
         requires { contexts.old ≡ start }
         ensures bytes { result.bytes ≡ bytes.now }
         ensures stands { Stands result initial }
     {
-        Run {
+        PassDecoder {
             bytes,
             registers: begun(bytes),
             contexts,
@@ -56,12 +56,12 @@ impl<'a> Run<'a> {
     {
         let contexts = &mut *self.contexts;
         let context = contexts[cx];
-        let part = divided(self.registers, scaled(context.size()));
-        contexts[cx] = context.after(is_narrow(part.registers), part.less);
-        match renormalised_within(self.bytes, part.registers) {
+        let subinterval = divided(self.registers, scaled(context.size()));
+        contexts[cx] = context.after(is_narrow(subinterval.registers), subinterval.less);
+        match renormalised_within(self.bytes, subinterval.registers) {
             Some(registers) => {
                 self.registers = registers;
-                Ok(context.mps() != part.less)
+                Ok(context.mps() != subinterval.less)
             }
             None => Err(Fault::CodeOutOfInterval),
         }

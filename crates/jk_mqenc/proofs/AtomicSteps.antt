@@ -1,12 +1,12 @@
--- Runs of atomic steps.
+-- Atomic steps one after another.
 use Rattle.std.proofs.Common.{◌≡◌, ◌∙◌, ap, sym, subst, refl, ℕ, zero, suc, ◌+◌, ◌-◌, ◌*◌, ◌^◌, ◌<◌, ◌≤◌, inl, inr, Bool, cond, eqb, ltb, arith}
 use Rattle.std.proofs.Math.Nat.{pow-succ'}
 use Rattle.std.proofs.lemmas.Bool.{cases_eq, cases_lt, eq-eqb, ne_eqb, lt-ltb, le-ltb}
 use Rattle.std.proofs.lemmas.Nat.{mul-le, pow_pos}
-use Rattle.jk_model.specs.Decisions.{State, doubled, renormalised}
+use Rattle.jk_model.specs.Decisions.{State, doubled, renormalised, doubled_by}
 use Rattle.jk_mqenc.specs.Machine.{Machine, byte_out, Holds}
 use Rattle.jk_mqenc.specs.Leads.{Leads}
-use Rattle.jk_mqenc.specs.Coding.{shifted, twice, renorm, shifted_by, doubled_by}
+use Rattle.jk_mqenc.specs.Coding.{shifted, twice, renorme, shifted_by}
 use Rattle.jk_model.proofs.Laws.{after_ff, plain, follows}
 use Rattle.jk_mqenc.proofs.Machine.{narrow, double}
 use Rattle.jk_mqenc.proofs.ByteOut.{settled, byte_out-holds}
@@ -49,7 +49,7 @@ pub twice-is : (m : Machine) → twice m ≡ cond (eqb m.count 1) (byte_out (shi
 unfolding twice
 twice-is m = refl
 
--- a run that ends with CT above 0
+-- doublings that end with CT above 0
 pub record Goes (m : Machine) (s : State) (n : Machine) (u : State) : Type 0 where
   pub leads : Leads m s n u
   pub count : 1 ≤ n.count
@@ -72,40 +72,40 @@ goes-twice m s h k i =
 
 -- ---- a renormalisation
 
-pub renorm-suc : (k : ℕ) (m : Machine) → renorm (suc k) m ≡ cond (ltb m.width 32768) (renorm k (twice m)) m
-unfolding renorm
-renorm-suc k m = refl
+pub renorme-suc : (k : ℕ) (m : Machine) → renorme (suc k) m ≡ cond (ltb m.width 32768) (renorme k (twice m)) m
+unfolding renorme
+renorme-suc k m = refl
 
 pub renormalised-suc : (k : ℕ) (s : State) → renormalised (suc k) s ≡ cond (ltb s.width 32768) (renormalised k (doubled s)) s
 unfolding renormalised
 renormalised-suc k s = refl
 
-pub renorm-zero : (m : Machine) → renorm 0 m ≡ m
-unfolding renorm
-renorm-zero m = refl
+pub renorme-zero : (m : Machine) → renorme 0 m ≡ m
+unfolding renorme
+renorme-zero m = refl
 
 pub renormalised-zero : (s : State) → renormalised 0 s ≡ s
 unfolding renormalised
 renormalised-zero s = refl
 
-pub goes-renorm : (k : ℕ) (m : Machine) (s : State) → 1 ≤ m.count → Holds m s → Goes m s (renorm k m) (renormalised k s)
-goes-renorm zero m s h i =
-    subst (λ (u : State). Goes m s (renorm 0 m) u) (sym (renormalised-zero s)) (subst (λ (o : Machine). Goes m s o s) (sym (renorm-zero m)) (record { leads = leads-self m s i; count = h }))
-goes-renorm (suc k) m s h i =
+pub goes-renorme : (k : ℕ) (m : Machine) (s : State) → 1 ≤ m.count → Holds m s → Goes m s (renorme k m) (renormalised k s)
+goes-renorme zero m s h i =
+    subst (λ (u : State). Goes m s (renorme 0 m) u) (sym (renormalised-zero s)) (subst (λ (o : Machine). Goes m s o s) (sym (renorme-zero m)) (record { leads = leads-self m s i; count = h }))
+goes-renorme (suc k) m s h i =
     elim (cases_lt m.width 32768) [
       | inl l ↦
           let first = goes-twice m s h l i in
-          let rest = goes-renorm k (twice m) (doubled s) first.count first.leads.holds in
-          let here : renorm (suc k) m ≡ renorm k (twice m) = renorm-suc k m ∙ ap (λ (t : Bool). cond t (renorm k (twice m)) m) (lt-ltb m.width 32768 l) in
+          let rest = goes-renorme k (twice m) (doubled s) first.count first.leads.holds in
+          let here : renorme (suc k) m ≡ renorme k (twice m) = renorme-suc k m ∙ ap (λ (t : Bool). cond t (renorme k (twice m)) m) (lt-ltb m.width 32768 l) in
           let there : renormalised (suc k) s ≡ renormalised k (doubled s) = renormalised-suc k s ∙ ap (λ (t : Bool). cond t (renormalised k (doubled s)) s) (lt-ltb s.width 32768 (omega (arith, i.width))) in
-          subst (λ (u : State). Goes m s (renorm (suc k) m) u) (sym there) (subst (λ (o : Machine). Goes m s o (renormalised k (doubled s))) (sym here) (record {
-            leads = leads-then m (twice m) (renorm k (twice m)) s (doubled s) (renormalised k (doubled s)) first.leads rest.leads;
+          subst (λ (u : State). Goes m s (renorme (suc k) m) u) (sym there) (subst (λ (o : Machine). Goes m s o (renormalised k (doubled s))) (sym here) (record {
+            leads = leads-then m (twice m) (renorme k (twice m)) s (doubled s) (renormalised k (doubled s)) first.leads rest.leads;
             count = rest.count;
           }))
       | inr l ↦
-          let here : renorm (suc k) m ≡ m = renorm-suc k m ∙ ap (λ (t : Bool). cond t (renorm k (twice m)) m) (le-ltb m.width 32768 l) in
+          let here : renorme (suc k) m ≡ m = renorme-suc k m ∙ ap (λ (t : Bool). cond t (renorme k (twice m)) m) (le-ltb m.width 32768 l) in
           let there : renormalised (suc k) s ≡ s = renormalised-suc k s ∙ ap (λ (t : Bool). cond t (renormalised k (doubled s)) s) (le-ltb s.width 32768 (omega (arith, i.width))) in
-          subst (λ (u : State). Goes m s (renorm (suc k) m) u) (sym there) (subst (λ (o : Machine). Goes m s o s) (sym here) (record { leads = leads-self m s i; count = h }))
+          subst (λ (u : State). Goes m s (renorme (suc k) m) u) (sym there) (subst (λ (o : Machine). Goes m s o s) (sym here) (record { leads = leads-self m s i; count = h }))
     ]
 
 -- ---- several shifts

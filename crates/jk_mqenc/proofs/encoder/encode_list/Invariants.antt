@@ -1,7 +1,7 @@
 use Rattle.std.proofs.Common.{◌++◌, List, map, take}
 use Rattle.jk_model.specs.Decisions.{Decision}
 use Rattle.jk_mqenc.specs.Encoded.{Codes, decision_of, with_registers, lasting}
-use Rattle.jk_mqenc.proofs.encoder.steps.Given as goal
+use Rattle.jk_mqenc.proofs.encoder.encode_list.Given as goal
 
 abbrev pub invariant-loop-byte : goal.invariant-loop-byte
 invariant-loop-byte l =
