@@ -206,7 +206,7 @@ pub cleaning_one : {A : Type 0} (at : Spot) (k0 k k' : Sketch) (v0 v v' : View) 
     → Takes (place_at v.bytes k.shape at.plane 2 (column at.word (trailing_zeros w64 (bit_or left still))) (row at.stripe (trailing_zeros w64 (bit_or left still)))) k k' v v' (Ok u) → k'.shape ≡ k.shape → v'.bytes ≡ v.bytes
     → k'.visited ≡ k.visited → ((x y : ℕ) → lit_in k' x y ≡ also (lit_in k) (column at.word (trailing_zeros w64 (bit_or left still))) (row at.stripe (trailing_zeros w64 (bit_or left still))) x y)
     → Behind still still' (trailing_zeros w64 (bit_or left still)) → ((m : ℕ) → on still m ≡ false → on still' m ≡ false)
-    → Cleaning at k0 k' v0 v' record { own = bit_or seen.own (1 * 2 ^ trailing_zeros w64 (bit_or left still) % 2 ^ 64); left = seen.left; right = seen.right } (bit_and left (left - 1)) still'
+    → Cleaning at k0 k' v0 v' record { centre = bit_or seen.centre (1 * 2 ^ trailing_zeros w64 (bit_or left still) % 2 ^ 64); west = seen.west; east = seen.east } (bit_and left (left - 1)) still'
 cleaning_one at k0 k k' v0 v v' seen left still still' u st p q off takes shape bytes visited lit behind fewer =
     let z = trailing_zeros w64 (bit_or left still) in
     let l = lowest (bit_or left still) p q in
@@ -275,7 +275,7 @@ pub cleaning_run_one : (at : Spot) (k0 k k' : Sketch) (v0 v v' : View) (seen : A
     → on still (trailing_zeros w64 (bit_or left still)) ≡ true → f < 4 → RunTaken at k k' v v' (trailing_zeros w64 (bit_or left still)) f → k'.shape ≡ k.shape → v'.bytes ≡ v.bytes → k'.visited ≡ k.visited
     → ((x y : ℕ) → lit_in k' x y ≡ also (lit_in k) (column at.word (trailing_zeros w64 (bit_or left still) + f)) (row at.stripe (trailing_zeros w64 (bit_or left still) + f)) x y)
     → Behind (bit_and still (still - 1)) still' (trailing_zeros w64 (bit_or left still) + f) → ((m : ℕ) → on (bit_and still (still - 1)) m ≡ false → on still' m ≡ false)
-    → Cleaning at k0 k' v0 v' record { own = bit_or seen.own (1 * 2 ^ (trailing_zeros w64 (bit_or left still) + f) % 2 ^ 64); left = seen.left; right = seen.right }
+    → Cleaning at k0 k' v0 v' record { centre = bit_or seen.centre (1 * 2 ^ (trailing_zeros w64 (bit_or left still) + f) % 2 ^ 64); west = seen.west; east = seen.east }
     (bit_and left (0xFFFF_FFFF_FFFF_FFFE * 2 ^ (trailing_zeros w64 (bit_or left still) + f) % 2 ^ 64)) still'
 cleaning_run_one at k0 k k' v0 v v' seen left still still' f st p q set few takes shape bytes visited lit behind fewer =
     let z = trailing_zeros w64 (bit_or left still) in

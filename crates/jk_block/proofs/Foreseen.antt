@@ -89,49 +89,49 @@ apart_below m z h = grind (arith, nat_tests)
 together : (m z : ℕ) → m ≡ z → nat_eq m z ≡ true
 together m z h = grind (arith, nat_tests)
 
--- what is around a word with other places of its own
-abbrev pub with_own : ℕ → Around → Around
-with_own own around = record { own = own; left = around.left; right = around.right }
+-- what is around a word with other places of its centre
+abbrev pub with_centre : ℕ → Around → Around
+with_centre centre around = record { centre = centre; west = around.west; east = around.east }
 
--- The pass has come to bit n of a word. So far the places in `own` are significant, and the candidates are the members of the pass
+-- The pass has come to bit n of a word. So far the places in `centre` are significant, and the candidates are the members of the pass
 -- from there on. All members to come are the candidates, and what will be reached from members to come with the bit 1.
 pub record Foreseen (v : BlockPlane) (at : Spot) (old list : Decided) (around : Around) (inside ones all rest : ℕ) : Type 0 where
   pub n : ℕ
-  pub own : ℕ
+  pub centre : ℕ
   pub candidates : ℕ
-  pub own_fits : own < 2 ^ 64
+  pub centre_fits : centre < 2 ^ 64
   pub fits : candidates < 2 ^ 64
   pub coming : Told v 0 at n old list
-  pub shown : IsAround (bordered (lit_at v (moment_at v.shape 0 at.word at.stripe n))) at.word at.stripe (with_own own around)
+  pub shown : IsAround (bordered (lit_at v (moment_at v.shape 0 at.word at.stripe n))) at.word at.stripe (with_centre centre around)
   pub awaits : Awaits v.shape (lit_at v (moment_at v.shape 0 at.word at.stripe n)) at.word at.stripe n candidates
   pub known : (m : ℕ) → m < n → on all m ≡ codes v.shape (mag v) 0 at.word at.stripe m
-  pub turns : Turns own (bit_or around.own (bit_and all ones)) around.own n
+  pub turns : Turns centre (bit_or around.centre (bit_and all ones)) around.centre n
   pub rest_is : (m : ℕ) → m < 64 → on rest m ≡ (nat_le n m && on all m)
-  pub ahead : (m : ℕ) → n ≤ m → m < 64 → on all m ≡ (on candidates m || (on (bit_and inside (bit_not w64 around.own)) m && is_reached (λ k. nat_le n k && (on all k && on ones k)) m))
+  pub ahead : (m : ℕ) → n ≤ m → m < 64 → on all m ≡ (on candidates m || (on (bit_and inside (bit_not w64 around.centre)) m && is_reached (λ k. nat_le n k && (on all k && on ones k)) m))
 
-abbrev propagated_of : (v : BlockPlane) (at : Spot) (old list : Decided) (around : Around) (inside ones all rest : ℕ) (h : Foreseen v at old list around inside ones all rest) → Propagated v at old list (with_own h.own around) h.candidates
+abbrev propagated_of : (v : BlockPlane) (at : Spot) (old list : Decided) (around : Around) (inside ones all rest : ℕ) (h : Foreseen v at old list around inside ones all rest) → Propagated v at old list (with_centre h.centre around) h.candidates
 propagated_of v at old list around inside ones all rest h = record { n = h.n; coming = h.coming; shown = h.shown; awaits = h.awaits }
 
-pub foreseen_none : (v : BlockPlane) (at : Spot) (list : Decided) (around : Around) (inside ones all candidates : ℕ) → at.stripe < stripes v.shape → around.own < 2 ^ 64 → candidates < 2 ^ 64
+pub foreseen_none : (v : BlockPlane) (at : Spot) (list : Decided) (around : Around) (inside ones all candidates : ℕ) → at.stripe < stripes v.shape → around.centre < 2 ^ 64 → candidates < 2 ^ 64
     → IsAround (bordered (lit_at v (moment_at v.shape 0 at.word at.stripe 0))) at.word at.stripe around
     → Shows of_rows (is_member (bordered (is_inside v.shape)) (bordered (lit_at v (moment_at v.shape 0 at.word at.stripe 0)))) (at.word + 1) (at.stripe + 1) candidates
-    → ((m : ℕ) → m < 64 → on all m ≡ (on candidates m || (on (bit_and inside (bit_not w64 around.own)) m && is_reached (λ k. on all k && on ones k) m)))
+    → ((m : ℕ) → m < 64 → on all m ≡ (on candidates m || (on (bit_and inside (bit_not w64 around.centre)) m && is_reached (λ k. on all k && on ones k) m)))
     → Foreseen v at list list around inside ones all all
-foreseen_none v at list around inside ones all candidates stripe own_fits fits shown members all_is = record {
+foreseen_none v at list around inside ones all candidates stripe centre_fits fits shown members all_is = record {
   n = 0;
-  own = around.own;
+  centre = around.centre;
   candidates = candidates;
-  own_fits = own_fits;
+  centre_fits = centre_fits;
   fits = fits;
   coming = told_none v 0 at list stripe;
   known = λ m l. absurd (omega (arith, l));
-  shown = record { own = shown.own; left = shown.left; right = shown.right };
+  shown = record { centre = shown.centre; west = shown.west; east = shown.east };
   awaits = awaits_all v.shape (lit_at v (moment_at v.shape 0 at.word at.stripe 0)) at.word at.stripe candidates members;
   turns = record { before = λ m l. absurd (omega (arith, l)); behind = λ m l h. refl };
   rest_is = λ m l. ap (λ b. b && on all m) (let e : true ≡ nat_le 0 m = grind (arith, nat_tests) in e);
   ahead = λ m l h.
       all_is m h
-      ∙ ap (λ b. on candidates m || (on (bit_and inside (bit_not w64 around.own)) m && b))
+      ∙ ap (λ b. on candidates m || (on (bit_and inside (bit_not w64 around.centre)) m && b))
       (reach_same (λ k. on all k && on ones k) (λ k. nat_le 0 k && (on all k && on ones k)) m (λ k. ap (λ b. b && (on all k && on ones k)) (let e : true ≡ nat_le 0 k = grind (arith, nat_tests) in e)));
 }
 
@@ -199,10 +199,10 @@ foreseen_lowest v at old list around inside ones all rest h p q =
     let onward : h.n ≤ z = true_le h.n z both.0 in
     let quiet : (m : ℕ) → h.n ≤ m → m < z → on all m ≡ false = λ m a b. none_before (on rest m) (nat_le h.n m) (on all m) (l.2 m b) (h.rest_is m (omega (arith, b, within))) (is_le h.n m a) in
     let unreached : is_reached (λ k. nat_le h.n k && (on all k && on ones k)) z ≡ false = reach_none (λ k. nat_le h.n k && (on all k && on ones k)) z (λ k less. off h.n k (on all k) (on ones k) (λ le. quiet k le less)) in
-    let set : on h.candidates z ≡ true = only (on all z) (on h.candidates z) (on (bit_and inside (bit_not w64 around.own)) z) (is_reached (λ k. nat_le h.n k && (on all k && on ones k)) z) (h.ahead z onward l.0) both.1 unreached in
+    let set : on h.candidates z ≡ true = only (on all z) (on h.candidates z) (on (bit_and inside (bit_not w64 around.centre)) z) (is_reached (λ k. nat_le h.n k && (on all k && on ones k)) z) (h.ahead z onward l.0) both.1 unreached in
     let clear : (m : ℕ) → m < z → on h.candidates m ≡ false = λ m less. elim (cases_lt m h.n) [
       | inl before ↦ early (on h.candidates m) (nat_le h.n m) (is_spread v.shape (lit_at v (moment_at v.shape 0 at.word at.stripe h.n)) at.word at.stripe m) (h.awaits m (omega (arith, less, within))) (not_le h.n m before)
-      | inr from ↦ no_first (on all m) (on h.candidates m) (on (bit_and inside (bit_not w64 around.own)) m && is_reached (λ k. nat_le h.n k && (on all k && on ones k)) m) (h.ahead m from (omega (arith, less, within))) (quiet m from less)
+      | inr from ↦ no_first (on all m) (on h.candidates m) (on (bit_and inside (bit_not w64 around.centre)) m && is_reached (λ k. nat_le h.n k && (on all k && on ones k)) m) (h.ahead m from (omega (arith, less, within))) (quiet m from less)
     ] in
     let low = lowest_is h.candidates z h.fits l.0 set clear in
     record { some = low.0; is = low.1; onward = onward; within = l.0; quiet = quiet; member = both.1 }
@@ -221,14 +221,14 @@ foreseen_lowest v at old list around inside ones all rest h p q =
 
 -- the next place, as it is coded
 pub foreseen_next : (v : BlockPlane) (at : Spot) (old list : Decided) (around : Around) (inside ones all rest : ℕ) (h : Foreseen v at old list around inside ones all rest) → 0 < rest → rest < 2 ^ 64
-    → NextSpread v at old list (with_own h.own around) h.n (trailing_zeros w64 rest)
+    → NextSpread v at old list (with_centre h.centre around) h.n (trailing_zeros w64 rest)
 foreseen_next v at old list around inside ones all rest h p q =
     let low = foreseen_lowest v at old list around inside ones all rest h p q in
-    subst (λ z. NextSpread v at old list (with_own h.own around) h.n z) low.is
-    (propagated_next v at old list (with_own h.own around) h.candidates (propagated_of v at old list around inside ones all rest h) low.some h.fits)
+    subst (λ z. NextSpread v at old list (with_centre h.centre around) h.n z) low.is
+    (propagated_next v at old list (with_centre h.centre around) h.candidates (propagated_of v at old list around inside ones all rest h) low.some h.fits)
 
 pub foreseen_turns : (v : BlockPlane) (at : Spot) (old list : Decided) (around : Around) (inside ones all rest : ℕ) (h : Foreseen v at old list around inside ones all rest) → 0 < rest → rest < 2 ^ 64
-    → Turns h.own (bit_or around.own (bit_and all ones)) around.own (trailing_zeros w64 rest)
+    → Turns h.centre (bit_or around.centre (bit_and all ones)) around.centre (trailing_zeros w64 rest)
 foreseen_turns v at old list around inside ones all rest h p q =
     let low = foreseen_lowest v at old list around inside ones all rest h p q in
     let onward = low.onward in
@@ -236,7 +236,7 @@ foreseen_turns v at old list around inside ones all rest h p q =
     record {
       before = λ m less. elim (cases_lt m h.n) [
         | inl before ↦ h.turns.before m before
-        | inr from ↦ h.turns.behind m from (omega (arith, less, within)) ∙ sym (on_or around.own (bit_and all ones) m ∙ ap (λ b. on around.own m || b) (on_and all ones m) ∙ no_both (on around.own m) (on all m) (on ones m) (low.quiet m from less))
+        | inr from ↦ h.turns.behind m from (omega (arith, less, within)) ∙ sym (on_or around.centre (bit_and all ones) m ∙ ap (λ b. on around.centre m || b) (on_and all ones m) ∙ no_both (on around.centre m) (on all m) (on ones m) (low.quiet m from less))
       ];
       behind = λ m le l. h.turns.behind m (omega (arith, le, onward)) l;
     }
@@ -246,11 +246,11 @@ step_on z m rest n due k h a b = grind (arith, nat_tests)
 
 -- a place was listed
 pub foreseen_place : (v : BlockPlane) (at : Spot) (old list list' : Decided) (around : Around) (inside ones all rest : ℕ) (h : Foreseen v at old list around inside ones all rest) → 0 < rest → rest < 2 ^ 64
-    → inside < 2 ^ 64 → around.own < 2 ^ 64 → Shows of_rows (bordered (is_inside v.shape)) (at.word + 1) (at.stripe + 1) inside
+    → inside < 2 ^ 64 → around.centre < 2 ^ 64 → Shows of_rows (bordered (is_inside v.shape)) (at.word + 1) (at.stripe + 1) inside
     → on ones (trailing_zeros w64 rest) ≡ is_one (mag v (column at.word (trailing_zeros w64 rest)) (row at.stripe (trailing_zeros w64 rest)))
-    → ((t : ℕ) → IsAround (bordered (lit_at v t)) at.word at.stripe (with_own h.own around) → list' ≡ list ++ new_decisions v.shape (seen v) t (column at.word (trailing_zeros w64 rest)) (row at.stripe (trailing_zeros w64 rest)))
+    → ((t : ℕ) → IsAround (bordered (lit_at v t)) at.word at.stripe (with_centre h.centre around) → list' ≡ list ++ new_decisions v.shape (seen v) t (column at.word (trailing_zeros w64 rest)) (row at.stripe (trailing_zeros w64 rest)))
     → Foreseen v at old list' around inside ones all (bit_and rest (rest - 1))
-foreseen_place v at old list list' around inside ones all rest h p q inside_fits own_fits limits one listed =
+foreseen_place v at old list list' around inside ones all rest h p q inside_fits centre_fits limits one listed =
     by (on ones z) refl
   where
     j : ℕ
@@ -280,8 +280,8 @@ foreseen_place v at old list list' around inside ones all rest h p q inside_fits
     member : on all z ≡ true
     member = ap (on all) same ∙ low.member
 
-    own' : ℕ
-    own' = bit_or h.own (1 * 2 ^ z % 2 ^ 64)
+    centre' : ℕ
+    centre' = bit_or h.centre (1 * 2 ^ z % 2 ^ 64)
 
     w : ℕ
     w = h.candidates
@@ -292,16 +292,16 @@ foreseen_place v at old list list' around inside ones all rest h p q inside_fits
     u : ℕ
     u = moment_at v.shape 0 j i (z + 1)
 
-    next : NextSpread v at old list (with_own h.own around) h.n z
-    next = propagated_next v at old list (with_own h.own around) w (propagated_of v at old list around inside ones all rest h) low.some h.fits
+    next : NextSpread v at old list (with_centre h.centre around) h.n z
+    next = propagated_next v at old list (with_centre h.centre around) w (propagated_of v at old list around inside ones all rest h) low.some h.fits
 
     one' : on ones z ≡ is_one (mag v (column j z) (row i z))
     one' = subst (λ z. on ones z ≡ is_one (mag v (column j z) (row i z))) (sym same) one
 
     coming' : Told v 0 at (z + 1) old list'
     coming' =
-        propagated_place v at old list list' (with_own h.own around) h.n z next
-        (subst (λ z. (t : ℕ) → IsAround (bordered (lit_at v t)) at.word at.stripe (with_own h.own around) → list' ≡ list ++ new_decisions v.shape (seen v) t (column j z) (row i z)) (sym same) listed)
+        propagated_place v at old list list' (with_centre h.centre around) h.n z next
+        (subst (λ z. (t : ℕ) → IsAround (bordered (lit_at v t)) at.word at.stripe (with_centre h.centre around) → list' ≡ list ++ new_decisions v.shape (seen v) t (column j z) (row i z)) (sym same) listed)
 
     known' : (m : ℕ) → m < z + 1 → on all m ≡ codes v.shape (mag v) 0 j i m
     known' m less = elim (cases_lt m h.n) [
@@ -316,11 +316,11 @@ foreseen_place v at old list list' around inside ones all rest h p q inside_fits
     rest' m l =
         step_on z m (on (bit_and rest (rest - 1)) m) (on rest m) (on all m) h.n onward (rest_at rest p q m ∙ ap (λ z. nat_le (z + 1) m && on rest m) (sym same)) (h.rest_is m l)
 
-    free : (m : ℕ) → m < 64 → on (bit_and inside (bit_not w64 around.own)) m ≡ (on inside m && not (on around.own m))
-    free m l = on_and inside (bit_not w64 around.own) m ∙ ap (λ b. on inside m && b) (on_not w64 around.own m own_fits l)
+    free : (m : ℕ) → m < 64 → on (bit_and inside (bit_not w64 around.centre)) m ≡ (on inside m && not (on around.centre m))
+    free m l = on_and inside (bit_not w64 around.centre) m ∙ ap (λ b. on inside m && b) (on_not w64 around.centre m centre_fits l)
 
-    new_at : (m : ℕ) → on (bit_or around.own (bit_and all ones)) m ≡ (on around.own m || (on all m && on ones m))
-    new_at m = on_or around.own (bit_and all ones) m ∙ ap (λ b. on around.own m || b) (on_and all ones m)
+    new_at : (m : ℕ) → on (bit_or around.centre (bit_and all ones)) m ≡ (on around.centre m || (on all m && on ones m))
+    new_at m = on_or around.centre (bit_and all ones) m ∙ ap (λ b. on around.centre m || b) (on_and all ones m)
 
     source : (k : ℕ) → (nat_le h.n k && (on all k && on ones k)) ≡ ((nat_le (z + 1) k && (on all k && on ones k)) || (nat_eq k z && on ones z))
     source k = elim (cases_lt k z) [
@@ -345,70 +345,70 @@ foreseen_place v at old list list' around inside ones all rest h p q inside_fits
     kept : (m : ℕ) → z + 1 ≤ m → on (bit_and w (w - 1)) m ≡ on w m
     kept m le = rest_at w low.some h.fits m ∙ ap (λ b. b && on w m) (is_le (z + 1) m le)
 
-    quiet_before : (m : ℕ) → m < z → on h.own m ≡ on (bit_or around.own (bit_and all ones)) m
+    quiet_before : (m : ℕ) → m < z → on h.centre m ≡ on (bit_or around.centre (bit_and all ones)) m
     quiet_before m less = elim (cases_lt m h.n) [
       | inl before ↦ h.turns.before m before
-      | inr from ↦ h.turns.behind m from (let w = within in omega (arith, less, w)) ∙ sym (new_at m ∙ no_both (on around.own m) (on all m) (on ones m) (quiet m from less))
+      | inr from ↦ h.turns.behind m from (let w = within in omega (arith, less, w)) ∙ sym (new_at m ∙ no_both (on around.centre m) (on all m) (on ones m) (quiet m from less))
     ]
 
     by : (b : Bool) → on ones z ≡ b → Foreseen v at old list' around inside ones all (bit_and rest (rest - 1))
     by false bit = record {
       n = z + 1;
-      own = h.own;
+      centre = h.centre;
       candidates = bit_and w (w - 1);
-      own_fits = h.own_fits;
+      centre_fits = h.centre_fits;
       fits = (let e = and_le_l w (w - 1) in let f = h.fits in omega (arith, e, f));
       coming = coming';
       known = known';
-      shown = subst (λ (f : Field Bool). IsAround (bordered f) j i (with_own h.own around)) (sym unlit) h.shown;
+      shown = subst (λ (f : Field Bool). IsAround (bordered f) j i (with_centre h.centre around)) (sym unlit) h.shown;
       awaits = awaits_rest v.shape (lit_at v (moment_at v.shape 0 j i h.n)) (lit_at v u) j i h.n w low.some h.fits onward unlit h.awaits;
       turns = record {
         before = λ m less. elim (cases_lt m z) [
           | inl before ↦ quiet_before m before
           | inr from ↦ (let e : m ≡ z = omega (arith, less, from) in
-              h.turns.behind m (let o = onward in omega (arith, o, from)) (let w = within in omega (arith, less, w)) ∙ sym (new_at m ∙ no_second (on around.own m) (on all m) (on ones m) (ap (on ones) e ∙ bit)))
+              h.turns.behind m (let o = onward in omega (arith, o, from)) (let w = within in omega (arith, less, w)) ∙ sym (new_at m ∙ no_second (on around.centre m) (on all m) (on ones m) (ap (on ones) e ∙ bit)))
         ];
         behind = λ m le l. h.turns.behind m (let o = onward in omega (arith, o, le)) l;
       };
       rest_is = rest';
       ahead = λ m le l.
           h.ahead m (let o = onward in omega (arith, o, le)) l
-          ∙ ap (λ r. on w m || (on (bit_and inside (bit_not w64 around.own)) m && r)) (split m ∙ ap (λ b. is_reached (λ k. nat_le (z + 1) k && (on all k && on ones k)) m || b) (from_here (on ones z) m (omega (arith, le)) ∙ ap (λ o. o && (nat_eq (m - z) 1 || (nat_eq (m - z) 7 || (nat_eq (m - z) 8 || nat_eq (m - z) 9)))) bit))
-          ∙ taken_none (on w m) (on (bit_and w (w - 1)) m) (on (bit_and inside (bit_not w64 around.own)) m) (is_reached (λ k. nat_le (z + 1) k && (on all k && on ones k)) m) (kept m le);
+          ∙ ap (λ r. on w m || (on (bit_and inside (bit_not w64 around.centre)) m && r)) (split m ∙ ap (λ b. is_reached (λ k. nat_le (z + 1) k && (on all k && on ones k)) m || b) (from_here (on ones z) m (omega (arith, le)) ∙ ap (λ o. o && (nat_eq (m - z) 1 || (nat_eq (m - z) 7 || (nat_eq (m - z) 8 || nat_eq (m - z) 9)))) bit))
+          ∙ taken_none (on w m) (on (bit_and w (w - 1)) m) (on (bit_and inside (bit_not w64 around.centre)) m) (is_reached (λ k. nat_le (z + 1) k && (on all k && on ones k)) m) (kept m le);
     }
       where
         unlit : lit_at v u ≡ lit_at v (moment_at v.shape 0 j i h.n)
         unlit = (lit_place v 0 j i z (on ones z) next.coming.stripe next.due (one' ∙ one_is v 0 j i z next.due refl)).0 bit ∙ next.lit
     by true bit = record {
       n = z + 1;
-      own = own';
-      candidates = bit_or (bit_and w (w - 1)) (taken inside own' z);
-      own_fits = own'_fits;
+      centre = centre';
+      candidates = bit_or (bit_and w (w - 1)) (taken inside centre' z);
+      centre_fits = centre'_fits;
       fits =
-          or_lt 64 (bit_and w (w - 1)) (taken inside own' z) (let e = and_le_l w (w - 1) in let f = h.fits in omega (arith, e, f))
-          (let e = and_le_l (bit_and (0x382 * 2 ^ z % 2 ^ 64) inside) (bit_not w64 own') in let g = and_le_r (0x382 * 2 ^ z % 2 ^ 64) inside in omega (arith, e, g, inside_fits));
+          or_lt 64 (bit_and w (w - 1)) (taken inside centre' z) (let e = and_le_l w (w - 1) in let f = h.fits in omega (arith, e, f))
+          (let e = and_le_l (bit_and (0x382 * 2 ^ z % 2 ^ 64) inside) (bit_not w64 centre') in let g = and_le_r (0x382 * 2 ^ z % 2 ^ 64) inside in omega (arith, e, g, inside_fits));
       coming = coming';
       known = known';
-      shown = around_also (lit_at v t) (lit_at v u) j i z (with_own h.own around) within next.place.on_row lit next.shown;
-      awaits = awaits_more v.shape (lit_at v (moment_at v.shape 0 j i h.n)) (lit_at v u) j i h.n w inside h.own low.some h.fits h.own_fits within next.place.on_row onward lit_n limits h.shown.own h.awaits;
+      shown = around_also (lit_at v t) (lit_at v u) j i z (with_centre h.centre around) within next.place.on_row lit next.shown;
+      awaits = awaits_more v.shape (lit_at v (moment_at v.shape 0 j i h.n)) (lit_at v u) j i h.n w inside h.centre low.some h.fits h.centre_fits within next.place.on_row onward lit_n limits h.shown.centre h.awaits;
       turns = record {
-        before = λ m less. on_set h.own z 64 m (let w = within in omega (arith, less, w)) ∙ elim (cases_lt m z) [
-          | inl before ↦ other (on h.own m) (on (bit_or around.own (bit_and all ones)) m) (nat_eq m z) (quiet_before m before) (apart_below m z before)
-          | inr from ↦ (let e : m ≡ z = omega (arith, less, from) in sym (new_at m ∙ hit (on h.own m) (on around.own m) (on all m) (on ones m) (nat_eq m z) (ap (on all) e ∙ member) (ap (on ones) e ∙ bit) (together m z e)))
+        before = λ m less. on_set h.centre z 64 m (let w = within in omega (arith, less, w)) ∙ elim (cases_lt m z) [
+          | inl before ↦ other (on h.centre m) (on (bit_or around.centre (bit_and all ones)) m) (nat_eq m z) (quiet_before m before) (apart_below m z before)
+          | inr from ↦ (let e : m ≡ z = omega (arith, less, from) in sym (new_at m ∙ hit (on h.centre m) (on around.centre m) (on all m) (on ones m) (nat_eq m z) (ap (on all) e ∙ member) (ap (on ones) e ∙ bit) (together m z e)))
         ];
         behind = λ m le l. late m le l;
       };
       rest_is = rest';
       ahead = λ m le l.
           h.ahead m (let o = onward in omega (arith, o, le)) l
-          ∙ ap (λ r. on w m || (on (bit_and inside (bit_not w64 around.own)) m && r)) (split m ∙ ap (λ b. is_reached (λ k. nat_le (z + 1) k && (on all k && on ones k)) m || b) (from_here (on ones z) m (omega (arith, le)) ∙ ap (λ o. o && (nat_eq (m - z) 1 || (nat_eq (m - z) 7 || (nat_eq (m - z) 8 || nat_eq (m - z) 9)))) bit))
-          ∙ taken_more (on w m) (on (bit_and w (w - 1)) m) (on (bit_and inside (bit_not w64 around.own)) m) (is_reached (λ k. nat_le (z + 1) k && (on all k && on ones k)) m) (nat_eq (m - z) 1 || (nat_eq (m - z) 7 || (nat_eq (m - z) 8 || nat_eq (m - z) 9)))
-          (on inside m) (on around.own m) (on (taken inside own' z) m) (kept m le) (free m l) (taken_at m le l)
-          ∙ sym (ap (λ b. b || (on (bit_and inside (bit_not w64 around.own)) m && is_reached (λ k. nat_le (z + 1) k && (on all k && on ones k)) m)) (on_or (bit_and w (w - 1)) (taken inside own' z) m));
+          ∙ ap (λ r. on w m || (on (bit_and inside (bit_not w64 around.centre)) m && r)) (split m ∙ ap (λ b. is_reached (λ k. nat_le (z + 1) k && (on all k && on ones k)) m || b) (from_here (on ones z) m (omega (arith, le)) ∙ ap (λ o. o && (nat_eq (m - z) 1 || (nat_eq (m - z) 7 || (nat_eq (m - z) 8 || nat_eq (m - z) 9)))) bit))
+          ∙ taken_more (on w m) (on (bit_and w (w - 1)) m) (on (bit_and inside (bit_not w64 around.centre)) m) (is_reached (λ k. nat_le (z + 1) k && (on all k && on ones k)) m) (nat_eq (m - z) 1 || (nat_eq (m - z) 7 || (nat_eq (m - z) 8 || nat_eq (m - z) 9)))
+          (on inside m) (on around.centre m) (on (taken inside centre' z) m) (kept m le) (free m l) (taken_at m le l)
+          ∙ sym (ap (λ b. b || (on (bit_and inside (bit_not w64 around.centre)) m && is_reached (λ k. nat_le (z + 1) k && (on all k && on ones k)) m)) (on_or (bit_and w (w - 1)) (taken inside centre' z) m));
     }
       where
-        own'_fits : own' < 2 ^ 64
-        own'_fits = or_lt 64 h.own (1 * 2 ^ z % 2 ^ 64) h.own_fits (mod-lt (1 * 2 ^ z) (pow_pos 64))
+        centre'_fits : centre' < 2 ^ 64
+        centre'_fits = or_lt 64 h.centre (1 * 2 ^ z % 2 ^ 64) h.centre_fits (mod-lt (1 * 2 ^ z) (pow_pos 64))
 
         lit : (x y : ℕ) → lit_at v u x y ≡ also (lit_at v t) (column j z) (row i z) x y
         lit = (lit_place v 0 j i z (on ones z) next.coming.stripe next.due (one' ∙ one_is v 0 j i z next.due refl)).1 bit
@@ -416,19 +416,19 @@ foreseen_place v at old list list' around inside ones all rest h p q inside_fits
         lit_n : (x y : ℕ) → lit_at v u x y ≡ also (lit_at v (moment_at v.shape 0 j i h.n)) (column j z) (row i z) x y
         lit_n x y = lit x y ∙ ap (λ (f : Field Bool). also f (column j z) (row i z) x y) next.lit
 
-        late : (m : ℕ) → z + 1 ≤ m → m < 64 → on own' m ≡ on around.own m
-        late m le l = on_set h.own z 64 m l ∙ other (on h.own m) (on around.own m) (nat_eq m z) (h.turns.behind m (let o = onward in omega (arith, o, le)) l) (apart m z le)
+        late : (m : ℕ) → z + 1 ≤ m → m < 64 → on centre' m ≡ on around.centre m
+        late m le l = on_set h.centre z 64 m l ∙ other (on h.centre m) (on around.centre m) (nat_eq m z) (h.turns.behind m (let o = onward in omega (arith, o, le)) l) (apart m z le)
 
-        taken_at : (m : ℕ) → z + 1 ≤ m → m < 64 → on (taken inside own' z) m ≡ (((nat_eq (m - z) 1 || (nat_eq (m - z) 7 || (nat_eq (m - z) 8 || nat_eq (m - z) 9))) && on inside m) && not (on around.own m))
+        taken_at : (m : ℕ) → z + 1 ≤ m → m < 64 → on (taken inside centre' z) m ≡ (((nat_eq (m - z) 1 || (nat_eq (m - z) 7 || (nat_eq (m - z) 8 || nat_eq (m - z) 9))) && on inside m) && not (on around.centre m))
         taken_at m le l =
-            on_and (bit_and (0x382 * 2 ^ z % 2 ^ 64) inside) (bit_not w64 own') m
+            on_and (bit_and (0x382 * 2 ^ z % 2 ^ 64) inside) (bit_not w64 centre') m
             ∙ and_same (on_and (0x382 * 2 ^ z % 2 ^ 64) inside m ∙ ap (λ b. b && on inside m) (on_shl_any 0x382 z 64 m l ∙ and_true (nat_le z m) (on 0x382 (m - z)) (is_le z m (omega (arith, le))) ∙ step_is (m - z) (omega (arith, l))))
-            (on_not w64 own' m own'_fits l ∙ ap not (late m le l))
+            (on_not w64 centre' m centre'_fits l ∙ ap not (late m le l))
 
 pub foreseen_all : (v : BlockPlane) (at : Spot) (old list : Decided) (around : Around) (inside ones all rest : ℕ) → Foreseen v at old list around inside ones all rest → rest ≡ 0
     → Told v 0 at 64 old list × ((m : ℕ) → m < 64 → on all m ≡ codes v.shape (mag v) 0 at.word at.stripe m)
 foreseen_all v at old list around inside ones all rest h empty =
-    let end = propagated_to v at old list (with_own h.own around) h.candidates (propagated_of v at old list around inside ones all rest h) 64 h.coming.most (omega arith) clear in (
+    let end = propagated_to v at old list (with_centre h.centre around) h.candidates (propagated_of v at old list around inside ones all rest h) 64 h.coming.most (omega arith) clear in (
       end.0,
       λ m l. elim (cases_lt m h.n) [ inl before ↦ h.known m before | inr from ↦ none m from l ∙ sym (end.2 m from l) ],
     )
@@ -442,7 +442,7 @@ foreseen_all v at old list around inside ones all rest h empty =
     clear : (m : ℕ) → m < 64 → on h.candidates m ≡ false
     clear m l = elim (cases_lt m h.n) [
       | inl before ↦ early (on h.candidates m) (nat_le h.n m) (is_spread v.shape (lit_at v (moment_at v.shape 0 at.word at.stripe h.n)) at.word at.stripe m) (h.awaits m l) (not_le h.n m before)
-      | inr from ↦ no_first (on all m) (on h.candidates m) (on (bit_and inside (bit_not w64 around.own)) m && is_reached (λ k. nat_le h.n k && (on all k && on ones k)) m) (h.ahead m from l) (none m from l)
+      | inr from ↦ no_first (on all m) (on h.candidates m) (on (bit_and inside (bit_not w64 around.centre)) m && is_reached (λ k. nat_le h.n k && (on all k && on ones k)) m) (h.ahead m from l) (none m from l)
     ]
 
 -- what is in a byte, by the place itself
@@ -465,20 +465,20 @@ signs_here v at signs crosses around h k l on_row =
 -- The words of the places around each place, as a word's places are listed.
 abbrev pub HasRings : Around → (new : ℕ) → List ℕ → Type 0
 HasRings around new rings =
-    (f : Truths) (j s own k : ℕ) → k < 64 → of_rows (k % 8) ≡ true → own < 2 ^ 64 → Turns own new around.own k → IsAround f j s (with_own own around)
+    (f : Truths) (j s centre k : ℕ) → k < 64 → of_rows (k % 8) ≡ true → centre < 2 ^ 64 → Turns centre new around.centre k → IsAround f j s (with_centre centre around)
     → IsRing f (column (j + 1) k) (row (s + 1) k) (get_or rings (k % 8 - 1) 0) (k / 8)
 
 abbrev pub HasCrosses : Around → (new : ℕ) → List ℕ → Type 0
 HasCrosses around new crosses =
-    (f : Truths) (j s own k : ℕ) → k < 64 → of_rows (k % 8) ≡ true → own < 2 ^ 64 → Turns own new around.own k → IsAround f j s (with_own own around)
+    (f : Truths) (j s centre k : ℕ) → k < 64 → of_rows (k % 8) ≡ true → centre < 2 ^ 64 → Turns centre new around.centre k → IsAround f j s (with_centre centre around)
     → IsCross f (column (j + 1) k) (row (s + 1) k) (get_or crosses (k % 8 - 1) 0) (k / 8) 0
 
 pub record Listing (v : BlockPlane) (at : Spot) (old list : Decided) (inside ones all : ℕ) (rings crosses : List ℕ) (rest : ℕ) : Type 0 where
   pub around : Around
-  pub fits : around.own < 2 ^ 64
+  pub fits : around.centre < 2 ^ 64
   pub foreseen : Foreseen v at old list around inside ones all rest
-  pub rings_are : HasRings around (bit_or around.own (bit_and all ones)) rings
-  pub crosses_are : HasCrosses around (bit_or around.own (bit_and all ones)) crosses
+  pub rings_are : HasRings around (bit_or around.centre (bit_and all ones)) rings
+  pub crosses_are : HasCrosses around (bit_or around.centre (bit_and all ones)) crosses
 
 pub listing_next : (v : BlockPlane) (at : Spot) (old list : Decided) (inside ones all : ℕ) (rings crosses : List ℕ) (rest : ℕ) → Listing v at old list inside ones all rings crosses rest → 0 < rest → rest < 2 ^ 64
     → IsPlace v.shape at (trailing_zeros w64 rest)
@@ -501,8 +501,8 @@ listing_place v at old list list' inside ones all rings crosses rest h p q insid
       fits = h.fits;
       foreseen = foreseen_place v at old list list' h.around inside ones all rest f p q inside_fits h.fits limits one
           (λ t shown. listed t
-          (ring_here (bordered (lit_at v t)) at.word at.stripe z (get_or rings (z % 8 - 1) 0) (z / 8) place.on_row (h.rings_are (bordered (lit_at v t)) at.word at.stripe f.own z place.within place.on_row f.own_fits turns shown))
-          (cross_here (bordered (lit_at v t)) at.word at.stripe z (get_or crosses (z % 8 - 1) 0) (z / 8) 0 place.on_row (h.crosses_are (bordered (lit_at v t)) at.word at.stripe f.own z place.within place.on_row f.own_fits turns shown)));
+          (ring_here (bordered (lit_at v t)) at.word at.stripe z (get_or rings (z % 8 - 1) 0) (z / 8) place.on_row (h.rings_are (bordered (lit_at v t)) at.word at.stripe f.centre z place.within place.on_row f.centre_fits turns shown))
+          (cross_here (bordered (lit_at v t)) at.word at.stripe z (get_or crosses (z % 8 - 1) 0) (z / 8) 0 place.on_row (h.crosses_are (bordered (lit_at v t)) at.word at.stripe f.centre z place.within place.on_row f.centre_fits turns shown)));
       rings_are = h.rings_are;
       crosses_are = h.crosses_are;
     }

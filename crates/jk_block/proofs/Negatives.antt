@@ -157,13 +157,13 @@ negative_all s q n words e = drawn_same s (negative_to s q n) (negative_of s q) 
         turned b = grind (arith, nat_tests)
 
 -- the sign of a place
-pub sign_bit : (v : BlockPlane) (at : Spot) (k : ℕ) (signs : Around) → IsPlace v.shape at k → IsAround (bordered (negative_in v)) at.word at.stripe signs → on signs.own k ≡ (seen v).negative (column at.word k) (row at.stripe k)
+pub sign_bit : (v : BlockPlane) (at : Spot) (k : ℕ) (signs : Around) → IsPlace v.shape at k → IsAround (bordered (negative_in v)) at.word at.stripe signs → on signs.centre k ≡ (seen v).negative (column at.word k) (row at.stripe k)
 unfolding plane_at
 sign_bit v at k signs place h =
     let shifted = place_shifted at.word at.stripe k place.on_row in
     let between = rows_between (k % 8) place.on_row in
-    ap (on signs.own) (let e : k ≡ 8 * (k / 8) + k % 8 = omega arith in e)
-    ∙ h.own (k / 8) (k % 8) (let w = place.within in omega (arith, w)) (omega arith)
+    ap (on signs.centre) (let e : k ≡ 8 * (k / 8) + k % 8 = omega arith in e)
+    ∙ h.centre (k / 8) (k % 8) (let w = place.within in omega (arith, w)) (omega arith)
     ∙ ap (λ g. g && bordered (negative_in v) (column (at.word + 1) k) (row (at.stripe + 1) k)) (gathered between.1)
     ∙ ap (λ x. bordered (negative_in v) x (row (at.stripe + 1) k)) shifted.0 ∙ ap (λ y. bordered (negative_in v) (column at.word k + 8) y) shifted.1
     ∙ bordered_at (negative_in v) (column at.word k) (row at.stripe k)

@@ -45,14 +45,14 @@ around_same f g j i seen e h = subst (λ (f : Truths). IsAround (bordered f) j i
 
 -- one more place
 pub around_also : (f g : Truths) (j i z : ℕ) (seen : Around) → z < 64 → of_rows (z % 8) ≡ true → ((x y : ℕ) → g x y ≡ also f (column j z) (row i z) x y) → IsAround (bordered f) j i seen
-    → IsAround (bordered g) j i record { own = bit_or seen.own (1 * 2 ^ z % 2 ^ 64); left = seen.left; right = seen.right }
+    → IsAround (bordered g) j i record { centre = bit_or seen.centre (1 * 2 ^ z % 2 ^ 64); west = seen.west; east = seen.east }
 around_also f g j i z seen lim on_row e h =
-    subst (λ (g : Truths). IsAround g j i record { own = bit_or seen.own (1 * 2 ^ z % 2 ^ 64); left = seen.left; right = seen.right })
+    subst (λ (g : Truths). IsAround g j i record { centre = bit_or seen.centre (1 * 2 ^ z % 2 ^ 64); west = seen.west; east = seen.east })
     (sym (ap (λ (g : Truths). bordered g) (same_field g (also f (column j z) (row i z)) e) ∙ bordered_also f j i z on_row))
     record {
-      own = set_shows (bordered f) j i seen.own z lim on_row h.own;
-      left = λ c b p q. h.left c b p q ∙ away (of_gathered b) (bordered f (8 * j + c) (4 * (i + 1) + b - 1)) (nat_eq (8 * j + c) (column (j + 1) z)) (nat_eq (4 * (i + 1) + b - 1) (row (i + 1) z)) (grind (arith, nat_tests));
-      right = λ c b p q. h.right c b p q ∙ away (of_gathered b) (bordered f (8 * (j + 2) + c) (4 * (i + 1) + b - 1)) (nat_eq (8 * (j + 2) + c) (column (j + 1) z)) (nat_eq (4 * (i + 1) + b - 1) (row (i + 1) z)) (grind (arith, nat_tests));
+      centre = set_shows (bordered f) j i seen.centre z lim on_row h.centre;
+      west = λ c b p q. h.west c b p q ∙ away (of_gathered b) (bordered f (8 * j + c) (4 * (i + 1) + b - 1)) (nat_eq (8 * j + c) (column (j + 1) z)) (nat_eq (4 * (i + 1) + b - 1) (row (i + 1) z)) (grind (arith, nat_tests));
+      east = λ c b p q. h.east c b p q ∙ away (of_gathered b) (bordered f (8 * (j + 2) + c) (4 * (i + 1) + b - 1)) (nat_eq (8 * (j + 2) + c) (column (j + 1) z)) (nat_eq (4 * (i + 1) + b - 1) (row (i + 1) z)) (grind (arith, nat_tests));
     }
   where
     away : (g v p q : Bool) → p ≡ false → (g && v) ≡ (g && (v || (p && q)))
@@ -187,11 +187,11 @@ spreading_zero at k0 k k' v0 v v' seen inside n u st p q takes shape bytes lit =
       };
     }
 
-pub spreading_one : {A : Type 0} (at : Spot) (k0 k k' : Sketch) (v0 v v' : View) (seen : Around) (inside n : ℕ) (u : A) (st : Spreading at k0 k v0 v seen inside n) → 0 < n → n < 2 ^ 64 → seen.own < 2 ^ 64
+pub spreading_one : {A : Type 0} (at : Spot) (k0 k k' : Sketch) (v0 v v' : View) (seen : Around) (inside n : ℕ) (u : A) (st : Spreading at k0 k v0 v seen inside n) → 0 < n → n < 2 ^ 64 → seen.centre < 2 ^ 64
     → Takes (place_at v.bytes k.shape at.plane 0 (column at.word (trailing_zeros w64 n)) (row at.stripe (trailing_zeros w64 n))) k k' v v' (Ok u) → k'.shape ≡ k.shape → v'.bytes ≡ v.bytes
     → ((x y : ℕ) → lit_in k' x y ≡ also (lit_in k) (column at.word (trailing_zeros w64 n)) (row at.stripe (trailing_zeros w64 n)) x y)
-    → Spreading at k0 k' v0 v' record { own = bit_or seen.own (1 * 2 ^ trailing_zeros w64 n % 2 ^ 64); left = seen.left; right = seen.right } inside
-    (bit_or (bit_and n (n - 1)) (taken inside (bit_or seen.own (1 * 2 ^ trailing_zeros w64 n % 2 ^ 64)) (trailing_zeros w64 n)))
+    → Spreading at k0 k' v0 v' record { centre = bit_or seen.centre (1 * 2 ^ trailing_zeros w64 n % 2 ^ 64); west = seen.west; east = seen.east } inside
+    (bit_or (bit_and n (n - 1)) (taken inside (bit_or seen.centre (1 * 2 ^ trailing_zeros w64 n % 2 ^ 64)) (trailing_zeros w64 n)))
 spreading_one at k0 k k' v0 v v' seen inside n u st p q xb takes shape bytes lit =
     let z = trailing_zeros w64 n in
     let j = at.word in
@@ -200,11 +200,11 @@ spreading_one at k0 k k' v0 v v' seen inside n u st p q xb takes shape bytes lit
     let l = lowest n p q in
     let both = and_parts (nat_le st.n z) (is_spread k.shape (lit_in k) j i z) (sym (st.spreads.awaits z l.0) ∙ l.1) in
     let onward : st.n ≤ z = let b = both.0 in grind (arith, nat_tests) in
-    let x' = bit_or seen.own (1 * 2 ^ z % 2 ^ 64) in
+    let x' = bit_or seen.centre (1 * 2 ^ z % 2 ^ 64) in
     let ins = bordered (is_inside k.shape) in
     let old = bordered (lit_in k) in
     let new = also old (column (j + 1) z) (row (i + 1) z) in
-    let own = set_shows old j i seen.own z next.place.within next.place.on_row st.spreads.around.own in
+    let own = set_shows old j i seen.centre z next.place.within next.place.on_row st.spreads.around.centre in
     record {
       n = z + 1;
       going = going_place 0 at z k0 k k' v0 v v' u next.going next.place takes shape bytes;
@@ -216,7 +216,7 @@ spreading_one at k0 k k' v0 v v' seen inside n u st p q xb takes shape bytes lit
             ∙ gate z m (nat_le st.n m) (on (bit_and n (n - 1)) m) (on n m) (on (taken inside x' z) m) (is_spread k.shape (lit_in k) j i m) (is_spread k'.shape (lit_in k') j i m)
             (rest_at n p q m) (st.spreads.awaits m h) (λ le. grind (arith, nat_tests, onward, le)) (λ le. taken_low inside x' z m h le)
             (λ le. ap (λ b. b || on (taken inside x' z) m) (sym (spread_is_member k.shape (lit_in k) j i m))
-            ∙ added_at old ins j i x' inside z m (set_below seen.own z xb) le h next.place.on_row own st.spreads.limits
+            ∙ added_at old ins j i x' inside z m (set_below seen.centre z xb) le h next.place.on_row own st.spreads.limits
             ∙ later m);
       };
     }

@@ -34,14 +34,14 @@ pub fn propagate(sketch: &mut Sketch, decoder: &mut PassDecoder, spot: Spot) -> 
     let shape = sketch.shape;
     let limits = inside(shape, spot.word, spot.stripe);
     let mut seen = seen_around(&sketch.significant, shape, spot.word, spot.stripe);
-    let mut candidates = members(seen.own, seen.left, seen.right, limits);
+    let mut candidates = members(seen, limits);
     while candidates != 0 {
         let k = candidates.trailing_zeros();
         candidates &= candidates - 1;
         let bit = read_member(sketch, decoder, shape, spot, k, seen)?;
         if bit {
-            seen.own |= 1 << k;
-            candidates |= 0x382 << k & limits & !seen.own;
+            seen.centre |= 1 << k;
+            candidates |= 0x382 << k & limits & !seen.centre;
         }
     }
     Ok(())
@@ -87,7 +87,7 @@ pub fn refine(
 {
     let shape = sketch.shape;
     let seen = seen_around(&sketch.significant, shape, spot.word, spot.stripe);
-    let touched = touched_places(seen.own, seen.left, seen.right);
+    let touched = touched_places(seen);
     let again = refined_places(refined, shape, spot);
     let mut candidates = older(sketch, spot);
     while candidates != 0 {
@@ -124,7 +124,7 @@ fn still_columns(shape: BlockShape, spot: Spot, seen: Around, limits: u64) -> u6
         && is_quiet shape f (8 * spot.word + m / 8) spot.stripe)) }
 {
     if 4 * spot.stripe + 4 <= shape.height {
-        quiet_columns(seen.own, seen.left, seen.right, limits)
+        quiet_columns(seen, limits)
     } else {
         0
     }
@@ -150,14 +150,14 @@ pub fn clean(sketch: &mut Sketch, decoder: &mut PassDecoder, spot: Spot) -> Resu
             left &= 0xFFFF_FFFF_FFFF_FFFE << (k + row);
             still &= still - 1;
             if row < 4 {
-                seen.own |= 1 << (k + row);
+                seen.centre |= 1 << (k + row);
                 still = quiet_behind(still, k + row);
             }
         } else {
             let bit = read_left(sketch, decoder, shape, spot, k, seen)?;
             left &= left - 1;
             if bit {
-                seen.own |= 1 << k;
+                seen.centre |= 1 << k;
                 still = quiet_behind(still, k);
             }
         }

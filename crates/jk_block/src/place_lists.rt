@@ -76,7 +76,7 @@ pub fn list_new(
         context,
         bit,
         sign.context,
-        flip(sign.flip, bit_of(signs.own, k)),
+        flip(sign.flip, bit_of(signs.centre, k)),
     )
 }
 
@@ -148,6 +148,6 @@ pub fn list_run(
         bytes,
         three,
         sign.context,
-        flip(sign.flip, bit_of(signs.own, k + found)),
+        flip(sign.flip, bit_of(signs.centre, k + found)),
     )
 }

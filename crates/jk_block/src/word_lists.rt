@@ -44,20 +44,20 @@ pub fn list_propagation(
     let own = *block;
     let limits = inside(own.shape, spot.word, spot.stripe);
     let around = seen_around(&flags.significant, own.shape, spot.word, spot.stripe);
-    let candidates = members(around.own, around.left, around.right, limits);
+    let candidates = members(around, limits);
     if candidates == 0 {
         return Ok(());
     }
     let ones = own.ones(spot);
-    let all = with_reached(candidates, ones, limits & !around.own);
+    let all = with_reached(candidates, ones, limits & !around.centre);
     let seen = Around {
-        own: around.own | all & ones,
-        left: around.left,
-        right: around.right,
+        centre: around.centre | all & ones,
+        west: around.west,
+        east: around.east,
     };
     let signs = seen_around(own.negative, own.shape, spot.word, spot.stripe);
-    let rings = ring_words(seen, around.own);
-    let crosses = cross_words(seen, around.own, signs);
+    let rings = ring_words(seen, around.centre);
+    let crosses = cross_words(seen, around.centre, signs);
     flags.visit_all(own.shape, spot, all);
     flags.light_all(own.shape, spot, all & ones);
     make_room(&mut list.bytes, list.count)?;
@@ -106,7 +106,7 @@ pub fn list_refinement(
         return Ok(());
     }
     let around = seen_around(&flags.significant, own.shape, spot.word, spot.stripe);
-    let touched = touched_places(around.own, around.left, around.right);
+    let touched = touched_places(around);
     let refined = own.refined_places(spot);
     let ones = own.ones(spot);
     make_room(&mut list.bytes, list.count)?;
@@ -149,8 +149,8 @@ fn run_columns(shape: BlockShape, spot: Spot, seen: Around, old: u64, limits: u6
     requires sized { IsSized shape }
     requires spot { IsSpot shape spot }
     requires limits { Shows of_rows (bordered (is_inside shape)) (spot.word + 1) (spot.stripe + 1) limits }
-    ensures { (f : Field Bool) (own m : ℕ) → m < 64 → own < 2 ^ 64 → Turns own seen.own old (8 * (m / 8))
-        → IsAround (bordered f) spot.word spot.stripe (record { own = own; left = seen.left; right = seen.right })
+    ensures { (f : Field Bool) (own m : ℕ) → m < 64 → own < 2 ^ 64 → Turns own seen.centre old (8 * (m / 8))
+        → IsAround (bordered f) spot.word spot.stripe (record { centre = own; west = seen.west; east = seen.east })
         → on result m ≡ (nat_eq (m % 8) 1 && (nat_lt (8 * spot.word + m / 8) shape.width && is_quiet shape f (8 * spot.word + m / 8) spot.stripe)) }
 {
     if 4 * spot.stripe + 4 <= shape.height {
@@ -182,13 +182,13 @@ pub fn list_cleanup(
         return Ok(());
     }
     let around = seen_around(&flags.significant, own.shape, spot.word, spot.stripe);
-    let before = around.own;
+    let before = around.centre;
     let ones = own.ones(spot);
     let new = left & ones;
     let seen = Around {
-        own: before | new,
-        left: around.left,
-        right: around.right,
+        centre: before | new,
+        west: around.west,
+        east: around.east,
     };
     let signs = seen_around(own.negative, own.shape, spot.word, spot.stripe);
     let rings = ring_words(seen, before);

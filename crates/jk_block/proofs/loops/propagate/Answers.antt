@@ -17,7 +17,7 @@ loop-candidates-init c =
     let at = c.args.spot in
     let around = c.seen_around-seen.ensures (lit_in k) k.lit in
     spreading_none at k _ c.args.decoder.now c.seen_around-seen.result c.inside-limits.result c.members-candidates.result refl (λ coder. refl) around c.inside-limits.ensures
-    (c.members-candidates.ensures (bordered (lit_in k)) (bordered (is_inside k.shape)) at.word at.stripe around.own around.left around.right c.inside-limits.ensures)
+    (c.members-candidates.ensures (bordered (lit_in k)) (bordered (is_inside k.shape)) at.word at.stripe around c.inside-limits.ensures)
 
 pub read_member-requires-clause-place : goal.read_member-requires-clause-place
 read_member-requires-clause-place c =
@@ -41,7 +41,7 @@ loop-candidates-smaller c = sooner_zero c.loop-candidates.candidates (omega arit
 
 pub loop-candidates-smaller-then-bit : goal.loop-candidates-smaller-then-bit
 loop-candidates-smaller-then-bit c =
-    sooner_one c.loop-candidates.candidates c.inside-limits.result (bit_or c.loop-candidates.seen.own (1 * 2 ^ trailing_zeros w64 c.loop-candidates.candidates % 2 ^ 64)) (omega arith) (omega arith)
+    sooner_one c.loop-candidates.candidates c.inside-limits.result (bit_or c.loop-candidates.seen.centre (1 * 2 ^ trailing_zeros w64 c.loop-candidates.candidates % 2 ^ 64)) (omega arith) (omega arith)
 
 pub loop-candidates-preserved : goal.loop-candidates-preserved
 loop-candidates-preserved c =

@@ -18,7 +18,7 @@ loop-candidates-init c =
     let at = c.args.spot in
     let around = c.seen_around-seen.ensures (lit_in k) k.lit in
     refining_none at c.args.refined.now k _ c.args.decoder.now c.touched_places-touched.result c.older-candidates.result refl (λ coder. refl) c.requires.fresh
-    (c.touched_places-touched.ensures (bordered (lit_in k)) at.word at.stripe around.own around.left around.right) c.older-candidates.ensures
+    (c.touched_places-touched.ensures (bordered (lit_in k)) at.word at.stripe around) c.older-candidates.ensures
 
 pub read_next-requires-clause-place : goal.read_next-requires-clause-place
 read_next-requires-clause-place c =

@@ -15,7 +15,7 @@ returns-then-spot-shape c =
     let s = c.args.shape in
     let at = c.args.spot in
     λ f around. stills_are s f at.word at.stripe c.quiet_columns.result (omega arith)
-    (c.quiet_columns.ensures (bordered f) (bordered (is_inside s)) at.word at.stripe around.own around.left around.right c.requires.limits)
+    (c.quiet_columns.ensures (bordered f) (bordered (is_inside s)) at.word at.stripe around c.requires.limits)
 
 pub returns-else-spot-shape : goal.returns-else-spot-shape
 returns-else-spot-shape c = λ f around m l.

@@ -25,7 +25,7 @@ returns-then-candidates-eq0-clause-flagged c =
     let f = lit_at v (moment_at v.shape 0 at.word at.stripe 0) in
     let around = c.seen_around-around.ensures f c.requires.flagged.lit in
     (propagated_empty v at c.args.list.now c.seen_around-around.result c.members-candidates.result c.requires.spot.stripe around
-    (c.members-candidates.ensures (bordered f) (bordered (is_inside v.shape)) at.word at.stripe around.own around.left around.right c.inside-limits.ensures) c.if-candidates-eq0.true).1
+    (c.members-candidates.ensures (bordered f) (bordered (is_inside v.shape)) at.word at.stripe around c.inside-limits.ensures) c.if-candidates-eq0.true).1
     c.args.flags.now c.requires.flagged
 
 pub returns-then-candidates-eq0-clause-listed : goal.returns-then-candidates-eq0-clause-listed
@@ -36,7 +36,7 @@ returns-then-candidates-eq0-clause-listed c =
     let around = c.seen_around-around.ensures f c.requires.flagged.lit in
     told_all v 0 at c.args.list.now c.args.list.now
     (propagated_empty v at c.args.list.now c.seen_around-around.result c.members-candidates.result c.requires.spot.stripe around
-    (c.members-candidates.ensures (bordered f) (bordered (is_inside v.shape)) at.word at.stripe around.own around.left around.right c.inside-limits.ensures) c.if-candidates-eq0.true).0
+    (c.members-candidates.ensures (bordered f) (bordered (is_inside v.shape)) at.word at.stripe around c.inside-limits.ensures) c.if-candidates-eq0.true).0
 
 pub visit_all-requires-clause-rows : goal.visit_all-requires-clause-rows
 visit_all-requires-clause-rows c =
@@ -46,9 +46,9 @@ visit_all-requires-clause-rows c =
     let around = c.seen_around-around.ensures f c.requires.flagged.lit in
     let all = c.with_reached-all.result in
     let ones = c.ones-ones.result in
-    all_rows (is_member (bordered (is_inside v.shape)) (bordered f)) (bordered (is_inside v.shape)) (at.word + 1) (at.stripe + 1) c.inside-limits.result (bit_not w64 c.seen_around-around.result.own) c.members-candidates.result all
+    all_rows (is_member (bordered (is_inside v.shape)) (bordered f)) (bordered (is_inside v.shape)) (at.word + 1) (at.stripe + 1) c.inside-limits.result (bit_not w64 c.seen_around-around.result.centre) c.members-candidates.result all
     (is_reached (λ k. on all k && on ones k))
-    (c.members-candidates.ensures (bordered f) (bordered (is_inside v.shape)) at.word at.stripe around.own around.left around.right c.inside-limits.ensures) c.inside-limits.ensures c.with_reached-all.ensures
+    (c.members-candidates.ensures (bordered f) (bordered (is_inside v.shape)) at.word at.stripe around c.inside-limits.ensures) c.inside-limits.ensures c.with_reached-all.ensures
 
 pub light_all-requires-clause-rows : goal.light_all-requires-clause-rows
 light_all-requires-clause-rows c =
@@ -59,9 +59,9 @@ light_all-requires-clause-rows c =
     let all = c.with_reached-all.result in
     let ones = c.ones-ones.result in
     some_rows all ones
-    (all_rows (is_member (bordered (is_inside v.shape)) (bordered f)) (bordered (is_inside v.shape)) (at.word + 1) (at.stripe + 1) c.inside-limits.result (bit_not w64 c.seen_around-around.result.own) c.members-candidates.result all
+    (all_rows (is_member (bordered (is_inside v.shape)) (bordered f)) (bordered (is_inside v.shape)) (at.word + 1) (at.stripe + 1) c.inside-limits.result (bit_not w64 c.seen_around-around.result.centre) c.members-candidates.result all
     (is_reached (λ k. on all k && on ones k))
-    (c.members-candidates.ensures (bordered f) (bordered (is_inside v.shape)) at.word at.stripe around.own around.left around.right c.inside-limits.ensures) c.inside-limits.ensures c.with_reached-all.ensures)
+    (c.members-candidates.ensures (bordered f) (bordered (is_inside v.shape)) at.word at.stripe around c.inside-limits.ensures) c.inside-limits.ensures c.with_reached-all.ensures)
 
 pub loop-left-init : goal.loop-left-init
 loop-left-init c =
@@ -82,7 +82,7 @@ loop-left-init c =
             fits = omega arith;
             foreseen = foreseen_none v at c.args.list.now c.seen_around-around.result c.inside-limits.result c.ones-ones.result all c.members-candidates.result c.requires.spot.stripe
                 (omega arith) (omega arith) around
-                (c.members-candidates.ensures (bordered f) (bordered (is_inside v.shape)) at.word at.stripe around.own around.left around.right c.inside-limits.ensures)
+                (c.members-candidates.ensures (bordered f) (bordered (is_inside v.shape)) at.word at.stripe around c.inside-limits.ensures)
                 c.with_reached-all.ensures;
             rings_are = c.ring_words-rings.ensures;
             crosses_are = c.cross_words-crosses.ensures.places;
