@@ -1,5 +1,5 @@
 -- What the registers of the decoder hold of the definition's interval.
-use Rattle.std.specs.Prelude.{◌≡◌, ℕ, zero, suc, ◌+◌, ◌-◌, ◌*◌, ◌^◌, ◌<◌, ◌≤◌, ◌⊎◌, true, false, List, length}
+use Rattle.std.specs.Prelude.{◌≡◌, ℕ, suc, ◌+◌, ◌-◌, ◌*◌, ◌^◌, ◌<◌, ◌≤◌, ◌⊎◌, true, false, List, length}
 use Rattle.jk_model.specs.Code.{is_last, is_past, fed, places, wanted, code_value}
 use Rattle.jk_model.specs.Decisions.{State}
 use Rattle.jk_mqdec.specs.declared.registers.Registers.{Registers}

@@ -1,4 +1,4 @@
-use Rattle.std.proofs.Common.{◌≡◌, ◌∙◌, ap, sym, subst, refl, ◌+◌, ◌-◌, ◌*◌, ◌^◌, ◌≤◌, ◌<◌, cond, arith, IfOk, Bool}
+use Rattle.std.proofs.Common.{◌≡◌, ◌∙◌, ap, sym, subst, refl, ◌+◌, ◌*◌, ◌^◌, ◌≤◌, ◌<◌, cond, arith, IfOk, Bool}
 use Rattle.jk_mqenc.specs.Machine.{Machine}
 use Rattle.jk_mqenc.specs.Coding.{subinterval, renorme}
 use Rattle.jk_mqenc.specs.Encoded.{with_registers}
