@@ -16,7 +16,7 @@ use Rattle.jk_scan.specs.Moments.{number, visits, old, pass_of, moment, is_coded
 use Rattle.jk_scan.specs.Passes.{Plane, Decided, is_one, new_decisions, refining_decision, place_decisions}
 use Rattle.jk_scan.proofs.Laws.{significant_is, cases_of, agree_pass, moment_is, place_any}
 use Rattle.jk_block.specs.Meaning.{above}
-use Rattle.jk_block.specs.Reading.{Progress, lit, put, decide, with_coder, coded_as, read_new, read_next, visit, place_at}
+use Rattle.jk_block.specs.Reading.{Progress, lit, put, decide, with_coder, coded_as, read_new, read_refined, visit, place_at}
 use Rattle.jk_block.proofs.Spelling.{Told, told_none, decide_told, told_decide}
 use Rattle.jk_block.proofs.Stages.{mags, Cut, Like, Stage}
 use Rattle.jk_block.proofs.Changes.{Due, Change, mags_inside, like_before, due_even, change_cut, change_back, change_only, change_bit, Idle, idle_cut, idle_only}
@@ -47,8 +47,8 @@ kept_visits x y n v = record { here = or_false (v x y); away = λ _ _ _. refl }
     or_false b = grind (arith, nat_tests)
 
 pub next_codes : (bytes : List ℕ) (s : BlockShape) (b t x y : ℕ) (z : Progress) → Cut s b t z → Due s b t 1 x y z
-    → Codes bytes s b t 1 x y z (read_next bytes s b x y z) (λ p. refining_decision s p t x y ∷ [])
-unfolding read_next refined with_visited
+    → Codes bytes s b t 1 x y z (read_refined bytes s b x y z) (λ p. refining_decision s p t x y ∷ [])
+unfolding read_refined refined with_visited
 next_codes bytes s b t x y z cut due =
     let cx = refine_context_of (nat_le 4 (z.magnitude x y / 2 ^ b)) (touched (lit s z) x y) in
     record {
@@ -192,8 +192,8 @@ stage_place bytes s b t zero x y narrow room few now =
     (λ p. ap (λ u. cond (is_due s p.magnitude 0 x y) (new_decisions s p u x y) []) (sym now))
     (λ z cut due. new_codes bytes s b t 0 x y z (put z.visited x y true) cut due (visit_visits x y z.visited) (dark_of s b t 0 x y z cut due refl))
 stage_place bytes s b t (suc zero) x y narrow room few now =
-    stage_by_test bytes s b t 1 x y (place_at bytes s b 1 x y) (λ z. read_next bytes s b x y z) (λ p. place_decisions s p 1 x y) (λ p. refining_decision s p t x y ∷ []) narrow room now
-    (λ z cut. ap (λ q. cond q (read_next bytes s b x y z) (done z)) (tests_refinement s b t z x y cut now))
+    stage_by_test bytes s b t 1 x y (place_at bytes s b 1 x y) (λ z. read_refined bytes s b x y z) (λ p. place_decisions s p 1 x y) (λ p. refining_decision s p t x y ∷ []) narrow room now
+    (λ z cut. ap (λ q. cond q (read_refined bytes s b x y z) (done z)) (tests_refinement s b t z x y cut now))
     (λ p. ap (λ u. cond (is_due s p.magnitude 1 x y) (refining_decision s p u x y ∷ []) []) (sym now))
     (λ z cut due. next_codes bytes s b t x y z cut due)
 stage_place bytes s b t (suc (suc zero)) x y narrow room few now =

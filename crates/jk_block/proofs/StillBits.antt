@@ -10,8 +10,8 @@ use Rattle.jk_scan.specs.Neighbours.{Field}
 use Rattle.jk_scan.specs.Words.{Truths, of_rows, bordered, IsQuietFrom}
 use Rattle.jk_scan.specs.WordPlaces.{column, row, also}
 use Rattle.jk_scan.proofs.Laws.{same_field, rest_by, on_and, high_ones}
-use Rattle.jk_block.proofs.Refining.{le_true}
 use Rattle.jk_block.proofs.Stills.{is_still, is_whole, still_behind}
+use Rattle.jk_block.proofs.WordBits.{le_true}
 
 is_one : (a : ℕ) → nat_eq a 1 ≡ true → a ≡ 1
 is_one a h = grind (arith, nat_tests)

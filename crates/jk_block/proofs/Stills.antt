@@ -9,7 +9,7 @@ use Rattle.jk_scan.specs.Words.{Truths, of_rows, aside, near, bordered, in_six, 
 use Rattle.jk_scan.specs.WordPlaces.{column, row, also}
 use Rattle.jk_scan.proofs.Laws.{same_field, near_is}
 use Rattle.jk_block.specs.Reading.{is_quiet}
-use Rattle.jk_block.proofs.Spreading.{bordered_at, bordered_also}
+use Rattle.jk_block.proofs.WordBits.{bordered_at, bordered_also}
 
 -- a column of the block and a stripe of four rows, with nothing significant in it or around it
 abbrev pub is_still : BlockShape → Field Bool → (j i c : ℕ) → Bool

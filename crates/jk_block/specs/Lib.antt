@@ -1,13 +1,10 @@
 pub mod Meaning
 pub mod Reading
 pub mod Fields
-pub mod Sketches
 pub mod Ages
 pub mod BlockWritten
 pub mod Layers
-pub mod Viewed
 pub mod CodedBlocks
 pub mod Steps
-pub mod Slices
-pub mod Sheets
-pub mod Reached
+pub mod decoding
+pub mod encoding

@@ -65,8 +65,8 @@ read_new bytes s b x y z =
     >>= λ d. if d.0 then read_sign bytes s b x y (with_coder z d.1) else Ok (with_coder z d.1)
 
 -- a place that was significant before this plane
-unfoldable pub read_next : List ℕ → BlockShape → (b x y : ℕ) → Progress → Result Progress Fault
-read_next bytes s b x y z =
+unfoldable pub read_refined : List ℕ → BlockShape → (b x y : ℕ) → Progress → Result Progress Fault
+read_refined bytes s b x y z =
     decide bytes (refine_context_of (nat_le 4 (z.magnitude x y / 2 ^ b)) (touched (lit s z) x y)) z.coder
     >>= λ d. Ok (with_coder (coded_as b x y d.0 (z.negative x y) z) d.1)
 
@@ -76,7 +76,7 @@ visit x y z = record z { visited = put z.visited x y true }
 -- a place in a pass: coded there, or passed over
 unfoldable pub place_at : List ℕ → BlockShape → (b pass x y : ℕ) → Progress → Result Progress Fault
 place_at bytes s b zero x y z = if is_inside s x y && (not (lit s z x y) && touched (lit s z) x y) then read_new bytes s b x y (visit x y z) else Ok z
-place_at bytes s b (suc zero) x y z = if lit s z x y && not (z.visited x y) then read_next bytes s b x y z else Ok z
+place_at bytes s b (suc zero) x y z = if lit s z x y && not (z.visited x y) then read_refined bytes s b x y z else Ok z
 place_at bytes s b (suc (suc n)) x y z = if is_inside s x y && (not (lit s z x y) && not (z.visited x y)) then read_new bytes s b x y z else Ok z
 
 -- n rows of a column, from the row j of the stripe i on

@@ -3,12 +3,20 @@ use Rattle.std.specs.Prelude.{◌≡◌, ℕ, ◌+◌, ◌*◌, ◌%◌, ◌<◌
 use Rattle.jk_math.specs.declared.fault.Fault.{Fault}
 use Rattle.jk_scan.specs.declared.shape.BlockShape.{BlockShape}
 use Rattle.jk_scan.specs.Neighbours.{is_inside}
-use Rattle.jk_scan.specs.Moments.{stripes}
+use Rattle.jk_scan.specs.Moments.{stripes, propagation, refinement, cleanup}
 use Rattle.jk_scan.specs.Words.{of_rows}
 use Rattle.jk_scan.specs.WordPlaces.{column, row}
 use Rattle.jk_scan.specs.Flags.{across}
+use Rattle.jk_block.specs.declared.spot.Pass.{Pass}
+use Rattle.jk_block.specs.declared.spot.Pass.TheVariants.{Propagation, Refinement, Cleanup}
 use Rattle.jk_block.specs.declared.spot.Spot.{Spot}
 use Rattle.jk_block.specs.Reading.{Progress, times, column_at}
+
+-- the number of a pass
+abbrev pub number_of : Pass → ℕ
+number_of Propagation = propagation
+number_of Refinement = refinement
+number_of Cleanup = cleanup
 
 -- The word lies in the block.
 pub record IsSpot (s : BlockShape) (at : Spot) : Type 0 where

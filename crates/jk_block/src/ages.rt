@@ -2,9 +2,15 @@
 
 ghost use Rattle.std.specs.Prelude.{◌≡◌, replicate};
 
-use crate::flags::unmarked;
 use jk_scan::WORDS;
 use std::marker::Model;
+
+/// No place is marked.
+pub fn unmarked() -> [u64; WORDS]
+    ensures { result ≡ replicate 774 0 }
+{
+    [0; WORDS]
+}
 
 /// What was significant before a plane, and what was so before the plane above. The two change places with each plane.
 #[derive(Drop)]

@@ -1,24 +1,14 @@
-//! Code-blocks: what the bytes of a segment mean by the coding passes of T.800 Annex D, reading them and writing them.
+//! Code-blocks: what the bytes of a segment mean by the coding passes of T.800 Annex D, reading them
+//! and writing them. Each direction is a wing, `decoding` and `encoding`; beside them stands what both
+//! need.
 #![tactic(auto)]
 
 mod ages;
-mod ahead;
-mod decisions;
 mod decoding;
 mod encoding;
-mod flags;
-mod lists;
-mod loops;
-mod passes;
-mod place_lists;
-mod plane;
 mod promises;
-mod sketch;
-mod slices;
 mod spot;
 mod theorems;
-mod visits;
-mod word_lists;
 
 pub use decoding::{Block, decode};
 pub use encoding::{CodedBlock, code, top_bits};

@@ -2,7 +2,7 @@
 
 ghost use Rattle.std.specs.Prelude.{◌≡◌, ◌<◌};
 ghost use Rattle.jk_block.specs.Meaning.{kind_of};
-ghost use Rattle.jk_block.specs.Sketches.{number_of};
+ghost use Rattle.jk_block.specs.Steps.{number_of};
 
 /// The three passes of a bit-plane.
 #[derive(Clone, Copy, Debug, PartialEq, Eq)]

@@ -1,4 +1,5 @@
--- The code value as the interval doubles: which bytes it holds, how it grows, and what the next byte adds.
+-- The code value as the interval doubles: which bytes it holds, how it grows, and what the next
+-- byte adds.
 use Rattle.std.proofs.Common.{◌≡◌, ◌∙◌, ap, sym, ℕ, zero, suc, ◌+◌, ◌-◌, ◌*◌, ◌^◌, ◌<◌, ◌≤◌, inl, inr, Bool, true, false, not, cond, ◌&&◌, ◌||◌, List, eqb, ltb, leb, refl, arith}
 use Rattle.std.proofs.Math.Nat.{pow-succ'}
 use Rattle.std.proofs.lemmas.Bool.{cases_lt, le-leb, lt-leb}

@@ -14,15 +14,15 @@ bit-back false true false = refl
 bit-back false false true = refl
 bit-back false false false = refl
 
-part-back : (lower mps ex : Bool) → lower ≡ beq (beq (cond (beq lower ex) mps (not mps)) mps) ex
-part-back true true true = refl
-part-back true true false = refl
-part-back true false true = refl
-part-back true false false = refl
-part-back false true true = refl
-part-back false true false = refl
-part-back false false true = refl
-part-back false false false = refl
+subinterval-back : (lower mps ex : Bool) → lower ≡ beq (beq (cond (beq lower ex) mps (not mps)) mps) ex
+subinterval-back true true true = refl
+subinterval-back true true false = refl
+subinterval-back true false true = refl
+subinterval-back true false false = refl
+subinterval-back false true true = refl
+subinterval-back false true false = refl
+subinterval-back false false true = refl
+subinterval-back false false false = refl
 
 pub takes_lower-is : (s : State) (cx : ℕ) (bit : Bool) → takes_lower s cx bit ≡ beq (beq bit (context_at s cx).mps) (is_exchanged s cx)
 unfolding takes_lower
@@ -37,10 +37,10 @@ bit-taken b s cx bit h =
     let mps = (context_at s cx).mps in
     bit_at-is b s cx ∙ ap (λ (t : Bool). cond (beq t (is_exchanged s cx)) mps (not mps)) (h ∙ takes_lower-is s cx bit) ∙ bit-back bit mps (is_exchanged s cx)
 
-pub part-taken : (b : List ℕ) (s : State) (cx : ℕ) (bit : Bool) → bit_at b s cx ≡ bit → is_lower b s cx ≡ takes_lower s cx bit
-part-taken b s cx bit h =
+pub subinterval-taken : (b : List ℕ) (s : State) (cx : ℕ) (bit : Bool) → bit_at b s cx ≡ bit → is_lower b s cx ≡ takes_lower s cx bit
+subinterval-taken b s cx bit h =
     let mps = (context_at s cx).mps in
-    part-back (is_lower b s cx) mps (is_exchanged s cx) ∙ ap (λ (t : Bool). beq (beq t mps) (is_exchanged s cx)) (sym (bit_at-is b s cx) ∙ h) ∙ sym (takes_lower-is s cx bit)
+    subinterval-back (is_lower b s cx) mps (is_exchanged s cx) ∙ ap (λ (t : Bool). beq (beq t mps) (is_exchanged s cx)) (sym (bit_at-is b s cx) ∙ h) ∙ sym (takes_lower-is s cx bit)
 
 pub after-made : (b : List ℕ) (s : State) (cx : ℕ) → after b s cx ≡ made s cx (is_lower b s cx) (bit_at b s cx)
 unfolding after made contexts_taken contexts_after divided taken
@@ -54,9 +54,9 @@ after-decided b s cx bit h =
 pub state_after-by : (b : List ℕ) (s : State) (ds : List Decision) → SpellsFrom b s ds → state_after b s ds ≡ state_by s ds
 state_after-by b s [] h = refl
 state_after-by b s (d ∷ ds) h =
-    state_after-by b (after b s d.0) ds h.3 ∙ ap (λ (t : State). state_by t ds) (after-decided b s d.0 d.1 (part-taken b s d.0 d.1 h.1))
+    state_after-by b (after b s d.0) ds h.3 ∙ ap (λ (t : State). state_by t ds) (after-decided b s d.0 d.1 (subinterval-taken b s d.0 d.1 h.1))
 
--- spelled by the parts that are taken
+-- spelled by the subintervals that are taken
 pub spells-follows : (b : List ℕ) (s : State) (ds : List Decision) → Follows b s ds → SpellsFrom b s ds
 spells-follows b s [] h = tt
 spells-follows b s (d ∷ ds) h =
@@ -66,7 +66,7 @@ spells-follows b s (d ∷ ds) h =
 pub follows-spells : (b : List ℕ) (s : State) (ds : List Decision) → SpellsFrom b s ds → Follows b s ds
 follows-spells b s [] h = tt
 follows-spells b s (d ∷ ds) h =
-    let p = part-taken b s d.0 d.1 h.1 in
+    let p = subinterval-taken b s d.0 d.1 h.1 in
     let e = after-decided b s d.0 d.1 p in
     (h.0, p, subst (λ (t : State). IsWithin b t) e h.2, subst (λ (t : State). Follows b t ds) e (follows-spells b (after b s d.0) ds h.3))
 

@@ -4,7 +4,7 @@ use Rattle.std.proofs.lemmas.Bool.{cases_eq, cases_lt, and_from, and_left, and_r
 use Rattle.std.proofs.lemmas.Nat.{pow-add}
 use Rattle.jk_model.specs.Code.{byte_at, is_last, is_past, fed, places, start, wanted, share, shares, code_value}
 use Rattle.jk_model.proofs.CodeValue.{is_last-is, is_past-zero, is_past-suc, fed-is, places-is, start-zero, start-suc, wanted-zero, wanted-suc, share-in, shares-zero, shares-suc, code_value-upto}
-use Rattle.jk_model.specs.Placed.{gap, top, num, end, Clean, onto}
+use Rattle.jk_model.specs.Placed.{gap, top, placed_number, end, Clean, onto}
 use Rattle.jk_model.proofs.Placed.{gap-nil, gap-ff, gap-other, top-ff, after_ff, plain, follows}
 
 or_neither : (x y : Bool) → x ≡ false → y ≡ false → (x || y) ≡ false
@@ -72,17 +72,17 @@ share-placed xs x q n t c h k =
     let e : n + 14 - start b l ≡ t = omega (arith, a.ends) in
     share-in b n l (omega (arith, wanted-placed xs (x ∷ q) c.1)) ∙ ap (λ f. f * 2 ^ (n + 14 - start b l)) a.byte_is ∙ ap (λ i. x * 2 ^ i) e
 
-pub shares-placed : (xs : List ℕ) (x : ℕ) (q : List ℕ) (n t : ℕ) → Clean (x ∷ xs) → end xs ≤ n + 14 → t + end (x ∷ xs) ≡ n + 22 → shares (onto xs (x ∷ q)) n (suc (length xs)) ≡ num (x ∷ xs) * 2 ^ t
+pub shares-placed : (xs : List ℕ) (x : ℕ) (q : List ℕ) (n t : ℕ) → Clean (x ∷ xs) → end xs ≤ n + 14 → t + end (x ∷ xs) ≡ n + 22 → shares (onto xs (x ∷ q)) n (suc (length xs)) ≡ placed_number (x ∷ xs) * 2 ^ t
 shares-placed [] x q n t c h k = omega (arith, shares-suc (x ∷ q) n 0, shares-zero (x ∷ q) n, share-placed [] x q n t c h k)
 shares-placed (y ∷ ys) x q n t c h k =
     let b = onto ys (y ∷ x ∷ q) in
     let g = gap (y ∷ ys) in
     let before = shares-placed ys y (x ∷ q) n (t + g) c.1 (omega arith) (omega arith) in
     let last = share-placed (y ∷ ys) x q n t c h k in
-    shares-suc b n (suc (length ys)) ∙ ap (λ z. z + share b n (suc (length ys))) before ∙ ap (λ z. num (y ∷ ys) * 2 ^ (t + g) + z) last ∙ ap (λ z. num (y ∷ ys) * z + x * 2 ^ t) (pow-add 2 t g) ∙ spread (num (y ∷ ys)) (2 ^ t) (2 ^ g) x
+    shares-suc b n (suc (length ys)) ∙ ap (λ z. z + share b n (suc (length ys))) before ∙ ap (λ z. placed_number (y ∷ ys) * 2 ^ (t + g) + z) last ∙ ap (λ z. placed_number (y ∷ ys) * z + x * 2 ^ t) (pow-add 2 t g) ∙ spread (placed_number (y ∷ ys)) (2 ^ t) (2 ^ g) x
 
 -- the code value at a moment that the last placed byte decides
-pub value-decided : (xs : List ℕ) (x : ℕ) (q : List ℕ) (n t : ℕ) → Clean (x ∷ xs) → end xs ≤ n + 14 → t + end (x ∷ xs) ≡ n + 22 → t < 8 → code_value (onto (x ∷ xs) q) n ≡ num (x ∷ xs) * 2 ^ t
+pub value-decided : (xs : List ℕ) (x : ℕ) (q : List ℕ) (n t : ℕ) → Clean (x ∷ xs) → end xs ≤ n + 14 → t + end (x ∷ xs) ≡ n + 22 → t < 8 → code_value (onto (x ∷ xs) q) n ≡ placed_number (x ∷ xs) * 2 ^ t
 value-decided xs x q n t c h k l =
     code_value-upto (onto xs (x ∷ q)) n (length xs) (omega (arith, wanted-placed xs (x ∷ q) c.1)) (omega (arith, wanted-placed (x ∷ xs) q c)) ∙ shares-placed xs x q n t c h k
 

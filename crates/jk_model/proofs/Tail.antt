@@ -4,7 +4,7 @@ use Rattle.std.proofs.lemmas.Bool.{cases_eq, and_from, and_left, and_right, eq-e
 use Rattle.std.proofs.lemmas.Nat.{pow-add}
 use Rattle.jk_model.specs.Code.{byte_at, is_last, is_past, fed, places, start, wanted, share, shares, code_value}
 use Rattle.jk_model.proofs.CodeValue.{is_last-is, is_past-suc, fed-is, places-is, start-suc, wanted-suc, share-in, shares-suc, code_value-upto}
-use Rattle.jk_model.specs.Placed.{num, end, Clean, onto}
+use Rattle.jk_model.specs.Placed.{placed_number, end, Clean, onto}
 use Rattle.jk_model.proofs.Join.{byte-onto, at-placed, shares-placed, wanted-placed}
 
 same_both : (t : Bool) (a : ℕ) → cond t a a ≡ a
@@ -59,12 +59,12 @@ fed-ones xs x j =
     fed-is b i ∙ ap (λ y. cond (is_past b i) 255 y) byte ∙ same_both (is_past b i) 255
 
 -- after j bytes of ones only the last of their places is missing
-shares-ones : (xs : List ℕ) (x n t j r : ℕ) → Clean (x ∷ xs) → end xs ≤ n + 14 → t + end (x ∷ xs) ≡ n + 22 → r + 8 * j ≡ t → shares (onto xs (x ∷ [])) n (suc (length xs) + j) + 2 ^ r ≡ (num (x ∷ xs) + 1) * 2 ^ t
+shares-ones : (xs : List ℕ) (x n t j r : ℕ) → Clean (x ∷ xs) → end xs ≤ n + 14 → t + end (x ∷ xs) ≡ n + 22 → r + 8 * j ≡ t → shares (onto xs (x ∷ [])) n (suc (length xs) + j) + 2 ^ r ≡ (placed_number (x ∷ xs) + 1) * 2 ^ t
 shares-ones xs x n t zero r c h k e =
     let b = onto xs (x ∷ []) in
     let zero_more : suc (length xs) + 0 ≡ suc (length xs) = omega arith in
     let same : r ≡ t = omega arith in
-    let whole : num (x ∷ xs) * 2 ^ t + 2 ^ t ≡ (num (x ∷ xs) + 1) * 2 ^ t = grind arith in
+    let whole : placed_number (x ∷ xs) * 2 ^ t + 2 ^ t ≡ (placed_number (x ∷ xs) + 1) * 2 ^ t = grind arith in
     ap (λ i. shares b n i + 2 ^ r) zero_more ∙ ap (λ i. shares b n (suc (length xs)) + 2 ^ i) same ∙ ap (λ y. y + 2 ^ t) (shares-placed xs x [] n t c h k) ∙ whole
 shares-ones xs x n t (suc j) r c h k e =
     let b = onto xs (x ∷ []) in
@@ -84,7 +84,7 @@ wanted-before xs x n t (suc j) c h k l =
     subst (λ y. wanted (onto xs (x ∷ [])) y ≤ n + 14) e (omega (arith, wanted-ones xs x j c))
 
 -- What is fed past the placed bytes makes the code value short of the next number by at most 128.
-pub value-tail : (xs : List ℕ) (x n t : ℕ) → Clean (x ∷ xs) → end xs ≤ n + 14 → t + end (x ∷ xs) ≡ n + 22 → (r : ℕ) × (r < 8) × (code_value (onto (x ∷ xs) []) n + 2 ^ r ≡ (num (x ∷ xs) + 1) * 2 ^ t)
+pub value-tail : (xs : List ℕ) (x n t : ℕ) → Clean (x ∷ xs) → end xs ≤ n + 14 → t + end (x ∷ xs) ≡ n + 22 → (r : ℕ) × (r < 8) × (code_value (onto (x ∷ xs) []) n + 2 ^ r ≡ (placed_number (x ∷ xs) + 1) * 2 ^ t)
 value-tail xs x n t c h k =
     let b = onto xs (x ∷ []) in
     let j = t / 8 in

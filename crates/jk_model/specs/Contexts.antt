@@ -1,5 +1,5 @@
--- The contexts of the MQ coder: the table of Qe values and probability estimation (T.800 Table C.2), the first
--- contexts (T.800 Table D.7) and the move of a context (T.800 C.2.5 and C.3.2).
+-- The contexts of the MQ coder: the table of Qe values and probability estimation (T.800 Table
+-- C.2), the first contexts (T.800 Table D.7) and the move of a context (T.800 C.2.5 and C.3.2).
 use Rattle.std.specs.Prelude.{ℕ, Bool, true, false, not, List, [], ◌∷◌, ◌++◌, replicate, get_or, if◌then◌else◌}
 use Rattle.std.specs.Bool.{beq}
 use Rattle.jk_model.specs.declared.table.Row.{Row}
@@ -9,7 +9,8 @@ pub record Context : Type 0 where
   pub state : ℕ
   pub mps : Bool
 
--- one row: Qe, the next states after the more and after the less probable symbol, and whether an LPS flips the MPS
+-- one row: Qe, the next states after the more and after the less probable symbol, and whether an
+-- LPS flips the MPS
 abbrev pub line : ℕ → ℕ → ℕ → Bool → Row
 line qe next_mps next_lps switch = record { qe = qe; next_mps = next_mps; next_lps = next_lps; switch = switch }
 
@@ -69,8 +70,8 @@ rows =
 abbrev pub row_of : ℕ → Row
 row_of state = get_or rows state (line 0 0 0 false)
 
--- How a context moves at a renormalisation: to the next state of the symbol that was coded. A less probable symbol
--- flips the sense of the more probable one where the row says so.
+-- How a context moves at a renormalisation: to the next state of the symbol that was coded. A less
+-- probable symbol flips the sense of the more probable one where the row says so.
 unfoldable pub moved : Context → Bool → Context
 moved cx bit =
     let row = row_of cx.state in
@@ -82,7 +83,7 @@ moved cx bit =
 abbrev pub begins : ℕ → Context
 begins state = record { state = state; mps = false }
 
--- Contexts 0 to 18 at the start: 0 (all neighbours of a coefficient insignificant) in state 4, 17 (run length) in state
--- 3, 18 (uniform) in state 46, all others in state 0.
+-- Contexts 0 to 18 at the start: 0 (all neighbours of a coefficient insignificant) in state 4, 17
+-- (run length) in state 3, 18 (uniform) in state 46, all others in state 0.
 unfoldable pub first_contexts : List Context
 first_contexts = begins 4 ∷ replicate 16 (begins 0) ++ begins 3 ∷ begins 46 ∷ []

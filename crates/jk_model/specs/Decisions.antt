@@ -1,11 +1,13 @@
--- The decisions that the bytes of a segment spell (T.800 C.1.1, C.3.2): the recursive division of an interval, with
--- whole numbers that have no bound.
-use Rattle.std.specs.Prelude.{◌≡◌, ℕ, zero, suc, ◌+◌, ◌-◌, ◌*◌, ◌^◌, ◌<◌, Bool, not, List, [], ◌∷◌, ◌++◌, get_or, set, nat_lt, if◌then◌else◌}
+-- The decisions that the bytes of a segment spell (T.800 C.1.1, C.3.2): the recursive division of
+-- an interval, with whole numbers that have no bound.
+use Rattle.std.specs.Prelude.{◌≡◌, ℕ, zero, suc, ◌+◌, ◌-◌, ◌*◌, ◌^◌, ◌<◌, Bool, not, List, [], ◌∷◌, ◌++◌, get_or, set}
+use Rattle.std.specs.Prelude.{nat_lt, if◌then◌else◌}
 use Rattle.std.specs.Bool.{beq}
 use Rattle.jk_model.specs.Contexts.{Context, row_of, moved, begins, first_contexts}
 use Rattle.jk_model.specs.Code.{code_value}
 
--- The interval from low, of size width, after this many doublings, and the contexts as they are then.
+-- The interval from low, of size width, after this many doublings, and the contexts as they are
+-- then.
 pub record State : Type 0 where
   pub low : ℕ
   pub width : ℕ
@@ -31,26 +33,27 @@ is_within bytes s = nat_lt (code_value bytes s.doublings) (128 * (s.low + s.widt
 abbrev pub context_at : State → ℕ → Context
 context_at s cx = get_or s.contexts cx (begins 0)
 
--- the size of the lower part of the interval in a context, Qe
+-- the size of the lower subinterval in a context, Qe
 abbrev pub qe_at : State → ℕ → ℕ
 qe_at s cx = (row_of (context_at s cx).state).qe
 
--- the code value lies in the lower part
+-- the code value lies in the lower subinterval
 unfoldable pub is_lower : List ℕ → State → ℕ → Bool
 is_lower bytes s cx = nat_lt (code_value bytes s.doublings) (128 * (s.low + qe_at s cx))
 
--- The lower part stands for the more probable symbol where the upper one is the smaller of the two (the conditional
--- exchange, T.800 C.2.4 and C.3.2).
+-- The lower subinterval stands for the more probable symbol where the upper one is the smaller of
+-- the two (the conditional exchange, T.800 C.2.4 and C.3.2).
 unfoldable pub is_exchanged : State → ℕ → Bool
 is_exchanged s cx = nat_lt (s.width - qe_at s cx) (qe_at s cx)
 
--- The bit of the decision: the part that the code value lies in stands for the more or for the less probable symbol.
+-- The bit of the decision: the subinterval that the code value lies in stands for the more or for
+-- the less probable symbol.
 unfoldable pub bit_at : List ℕ → State → ℕ → Bool
 bit_at bytes s cx =
     let mps = (context_at s cx).mps in
     if beq (is_lower bytes s cx) (is_exchanged s cx) then mps else not mps
 
--- the part of the interval that the code value lies in
+-- the subinterval that the code value lies in
 unfoldable pub divided : List ℕ → State → ℕ → State
 divided bytes s cx =
     if is_lower bytes s cx
@@ -61,8 +64,13 @@ divided bytes s cx =
 abbrev pub doubled : State → State
 doubled s = record s { low = 2 * s.low; width = 2 * s.width; doublings = s.doublings + 1 }
 
--- Doubled as long as the width is below 2^15 (T.800 C.3.3, RENORMD), up to k times. The width isn't 0, so 15 times are
--- enough.
+-- s after so many doublings
+abbrev pub doubled_by : ℕ → State → State
+doubled_by zero s = s
+doubled_by (suc n) s = doubled_by n (doubled s)
+
+-- Doubled as long as the width is below 2^15 (T.800 C.3.3, RENORMD), up to k times. The width isn't
+-- 0, so 15 times are enough.
 unfoldable pub renormalised : ℕ → State → State
 renormalised zero s = s
 renormalised (suc k) s = if nat_lt s.width (2 ^ 15) then renormalised k (doubled s) else s
@@ -83,12 +91,13 @@ abbrev pub state_after : List ℕ → State → List Decision → State
 state_after bytes s [] = s
 state_after bytes s (d ∷ ds) = state_after bytes (after bytes s d.0) ds
 
--- From the state s on, the bytes spell these decisions: each has its bit, and the code value lies within the interval
--- before the first of them and after each.
+-- From the state s on, the bytes spell these decisions: each has its bit, and the code value lies
+-- within the interval before the first of them and after each.
 abbrev pub SpellsFrom : List ℕ → State → List Decision → Type 0
 SpellsFrom bytes s [] = Unit {0}
 SpellsFrom bytes s (d ∷ ds) =
-    IsWithin bytes s × (bit_at bytes s d.0 ≡ d.1) × IsWithin bytes (after bytes s d.0) × SpellsFrom bytes (after bytes s d.0) ds
+    IsWithin bytes s × (bit_at bytes s d.0 ≡ d.1) × IsWithin bytes (after bytes s d.0)
+    × SpellsFrom bytes (after bytes s d.0) ds
 
 -- the bytes spell these decisions
 abbrev pub Spells : List ℕ → List Decision → Type 0

@@ -6,8 +6,8 @@ ghost use Rattle.jk_model.specs.Contexts.{row_of, moved, begins, first_contexts 
 use crate::table::{Row, STATES};
 use std::marker::Model;
 
-/// A context: the index of its state in the table, and the symbol that is more probable in it (I(CX) and MPS(CX) of
-/// T.800 C.2.3). The state is below 47.
+/// A context: the index of its state in the table, and the symbol that is more probable in it
+/// (I(CX) and MPS(CX) of T.800 C.2.3). The state is below 47.
 #[derive(Clone, Copy, Debug, PartialEq, Eq)]
 pub struct Cx {
     /// The index of the state.

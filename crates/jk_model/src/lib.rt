@@ -1,5 +1,5 @@
-//! The MQ coder of T.800 Annex C as both directions see it: the table of states, the contexts and their moves, and the
-//! definitions of the code value and of the decisions that bytes spell.
+//! The MQ coder of T.800 Annex C as both directions see it: the table of states, the contexts and
+//! their moves, and the definitions of the code value and of the decisions that bytes spell.
 #![tactic(auto)]
 
 mod context;

@@ -6,8 +6,8 @@ ghost use Rattle.jk_model.specs.Steps.{steps, context_of, IsEntry};
 
 use std::marker::Model;
 
-/// The moves of all contexts (T.800 Table C.2): a row for each state and symbol, and in it the context as it is, after
-/// a more probable symbol, as it is, and after a less probable one.
+/// The moves of all contexts (T.800 Table C.2): a row for each state and symbol, and in it the
+/// context as it is, after a more probable symbol, as it is, and after a less probable one.
 ///
 /// An entry has Qe in its upper sixteen bits, and the place of its own row in the lower ones.
 #[rattlefmt::skip]
@@ -156,7 +156,7 @@ impl Step {
         }
     }
 
-    /// The size of the lower part of the interval, Qe, in units of the width's register.
+    /// The size of the lower subinterval, Qe, in units of the width's register.
     pub fn qe(self) -> u32
         ensures value { result ≡ (row_of self.state).qe * 2 ^ 16 }
         ensures smallest { 2 ^ 16 ≤ result }
@@ -165,7 +165,7 @@ impl Step {
         (self.entry >> 16) << 16
     }
 
-    /// The size of the lower part of the interval, Qe.
+    /// The size of the lower subinterval, Qe.
     #[inline(always)]
     pub fn size(self) -> u32
         ensures value { result ≡ (row_of self.state).qe }
@@ -182,8 +182,8 @@ impl Step {
         self.entry >> 2 & 1 == 1
     }
 
-    /// The context after a decision, which was for the less probable symbol where `less`. It moves where a
-    /// renormalisation is due.
+    /// The context after a decision, which was for the less probable symbol where `less`. It moves
+    /// where a renormalisation is due.
     pub fn after(self, moves: bool, less: bool) -> Step
         ensures { result ≡ (if moves then moved self (if less then not self.mps else self.mps) else self) }
     {

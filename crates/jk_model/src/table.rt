@@ -3,7 +3,7 @@
 /// One row of the table: what a context in this state codes with, and where it goes.
 #[derive(Clone, Copy, Debug, PartialEq, Eq)]
 pub struct Row {
-    /// The size of the lower part of the interval, Qe.
+    /// The size of the lower subinterval, Qe.
     pub qe: u32,
     /// The state after a more probable symbol, NMPS.
     pub next_mps: u8,

@@ -1,10 +1,11 @@
-//! What holds of the table and of the definitions. None of these functions does anything at run time.
+//! What holds of the table and of the definitions. None of these functions does anything at run
+//! time.
 
 ghost use Rattle.std.specs.Prelude.{◌≡◌, ◌↔◌, ℕ, ◌+◌, ◌*◌, ◌^◌, ◌<◌, ◌≤◌, List, [], ◌∷◌, ◌++◌, Bool, length};
 ghost use Rattle.jk_model.specs.Code.{code_value};
 ghost use Rattle.jk_model.specs.Contexts.{rows};
 ghost use Rattle.jk_model.specs.Deciding.{state_by, Follows, Alike};
-ghost use Rattle.jk_model.specs.Placed.{num, end, Clean, onto};
+ghost use Rattle.jk_model.specs.Placed.{placed_number, end, Clean, onto};
 ghost use Rattle.jk_model.specs.Decisions.{State, Decision, SpellsFrom, Spells, state_after, chosen};
 
 use crate::table::STATES;
@@ -14,7 +15,8 @@ pub fn standard_states()
     ensures { STATES ≡ rows }
 {}
 
-/// A segment spells at most one list of bits of each length, also where each context is chosen by the bits before it.
+/// A segment spells at most one list of bits of each length, also where each context is chosen by
+/// the bits before it.
 pub fn one_spelling()
     ensures { (bytes : List ℕ) (choose : List Bool → ℕ) (xs ys : List Bool) → length xs ≡ length ys
         → Spells bytes (chosen choose [] xs) → Spells bytes (chosen choose [] ys) → xs ≡ ys }
@@ -28,8 +30,9 @@ pub fn joined_spelling()
         → state_after bytes s (xs ++ ys) ≡ state_after bytes (state_after bytes s xs) ys }
 {}
 
-/// The states that decisions lead to need no bytes: they are those of all bytes that spell the decisions, and bytes
-/// spell them just where the code value follows the parts that stand for their bits.
+/// The states that decisions lead to need no bytes: they are those of all bytes that spell the
+/// decisions, and bytes spell them just where the code value follows the subintervals that stand
+/// for their bits.
 pub fn given_decisions()
     ensures state { (bytes : List ℕ) (s : State) (ds : List Decision)
         → SpellsFrom bytes s ds → state_after bytes s ds ≡ state_by s ds }
@@ -45,13 +48,14 @@ pub fn alike_spelling()
     ensures last { (bytes : List ℕ) → Alike (bytes ++ 255 ∷ []) bytes }
 {}
 
-/// The code value of bytes that are placed, the last one first, before further bytes: what they decide by their number,
-/// that no further byte changes what they decide, and what the ones past the end add.
+/// The code value of bytes that are placed, the last one first, before further bytes: what they
+/// decide by their number, that no further byte changes what they decide, and what the ones past
+/// the end add.
 pub fn placed_value()
     ensures decided { (xs : List ℕ) (x : ℕ) (q : List ℕ) (n t : ℕ) → Clean (x ∷ xs) → end xs ≤ n + 14
-        → t + end (x ∷ xs) ≡ n + 22 → t < 8 → code_value (onto (x ∷ xs) q) n ≡ num (x ∷ xs) * 2 ^ t }
+        → t + end (x ∷ xs) ≡ n + 22 → t < 8 → code_value (onto (x ∷ xs) q) n ≡ placed_number (x ∷ xs) * 2 ^ t }
     ensures kept { (bs p q : List ℕ) (n : ℕ) → Clean bs → n + 15 ≤ end bs
         → code_value (onto bs p) n ≡ code_value (onto bs q) n }
     ensures ones { (xs : List ℕ) (x n t : ℕ) → Clean (x ∷ xs) → end xs ≤ n + 14 → t + end (x ∷ xs) ≡ n + 22
-        → (r : ℕ) × (r < 8) × (code_value (onto (x ∷ xs) []) n + 2 ^ r ≡ (num (x ∷ xs) + 1) * 2 ^ t) }
+        → (r : ℕ) × (r < 8) × (code_value (onto (x ∷ xs) []) n + 2 ^ r ≡ (placed_number (x ∷ xs) + 1) * 2 ^ t) }
 {}

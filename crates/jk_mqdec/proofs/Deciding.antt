@@ -50,7 +50,8 @@ pub next-failed : (b : List ℕ) (s : State) (cx : ℕ) → IsOutside b s → ne
 unfolding next
 next-failed b s cx h = ap (λ (t : Bool). cond t (after b s cx) s) (is_within-false b s h)
 
--- A decision of the decoder is that of the definition, from each state that the decoder may stand at.
+-- A decision of the decoder is that of the definition, from each state that the decoder may stand
+-- at.
 pub record Decides (old new : View) (cx : ℕ) (result : Result Bool Fault) : Type 0 where
   pub answers : (s : State) → Stands old s → result ≡ answer old.bytes s cx
   pub goes_on : (s : State) → Stands old s → Stands new (next old.bytes s cx)
@@ -72,7 +73,7 @@ decides-failed d cx h = record {
   goes_on = λ s st. subst (λ t. Stands d t) (sym (next-failed d.bytes s cx (is-outside d s h st))) st;
 }
 
--- ---- the state after a decision, by its parts
+-- ---- the state after a decision, by its subintervals
 
 -- the state after the division and the move of the context, before the renormalisation
 abbrev settling : List ℕ → State → ℕ → State
@@ -117,7 +118,7 @@ unfolding contexts_after
 contexts-kept b s cx h =
     ap (λ (t : Bool). cond t (set s.contexts cx (moved (context_at s cx) (bit_at b s cx))) s.contexts) (le-ltb (divided b s cx).width (2 ^ 15) h)
 
--- ---- the part that the code value lies in
+-- ---- the subinterval that the code value lies in
 
 divided-is : (b : List ℕ) (s : State) (cx : ℕ) (t : Bool) → is_lower b s cx ≡ t → divided b s cx ≡ cond t (record s { width = qe_at s cx }) (record s { low = s.low + qe_at s cx; width = s.width - qe_at s cx })
 unfolding divided
@@ -132,12 +133,12 @@ lower-false : (b : List ℕ) (r : WideRegisters) (s : State) (cx : ℕ) → Hold
 unfolding is_lower
 lower-false b r s cx h k = le-ltb (code_value b s.doublings) (128 * (s.low + qe_at s cx)) (held-above b r.code r.width r.count r.place (qe_at s cx) s h k)
 
-holds-lower : (b : List ℕ) (now part : WideRegisters) (s : State) (cx : ℕ) → HoldsWide b now s → now.code < qe_at s cx * 2 ^ 48 → part.code ≡ now.code → part.width ≡ qe_at s cx * 2 ^ 48 → part.count ≡ now.count → part.place ≡ now.place → HoldsWide b part (divided b s cx)
-holds-lower b now part s cx h k code width count place =
-    subst (λ t. HoldsWide b part t) (sym (divided-is b s cx true (lower-true b now s cx h k)))
-    (subst (λ x. IsHeld b x part.width part.count part.place (record s { width = qe_at s cx })) (sym code)
-    (subst (λ x. IsHeld b now.code part.width x part.place (record s { width = qe_at s cx })) (sym count)
-    (subst (λ x. IsHeld b now.code part.width now.count x (record s { width = qe_at s cx })) (sym place) (record {
+holds-lower : (b : List ℕ) (now subinterval : WideRegisters) (s : State) (cx : ℕ) → HoldsWide b now s → now.code < qe_at s cx * 2 ^ 48 → subinterval.code ≡ now.code → subinterval.width ≡ qe_at s cx * 2 ^ 48 → subinterval.count ≡ now.count → subinterval.place ≡ now.place → HoldsWide b subinterval (divided b s cx)
+holds-lower b now subinterval s cx h k code width count place =
+    subst (λ t. HoldsWide b subinterval t) (sym (divided-is b s cx true (lower-true b now s cx h k)))
+    (subst (λ x. IsHeld b x subinterval.width subinterval.count subinterval.place (record s { width = qe_at s cx })) (sym code)
+    (subst (λ x. IsHeld b now.code subinterval.width x subinterval.place (record s { width = qe_at s cx })) (sym count)
+    (subst (λ x. IsHeld b now.code subinterval.width now.count x (record s { width = qe_at s cx })) (sym place) (record {
       code_is = h.code_is;
       width_is = width;
       near = h.near;
@@ -147,13 +148,13 @@ holds-lower b now part s cx h k code width count place =
       place_is = h.place_is;
     }))))
 
-holds-upper : (b : List ℕ) (now part : WideRegisters) (s : State) (cx : ℕ) → HoldsWide b now s → qe_at s cx * 2 ^ 48 ≤ now.code → part.code + qe_at s cx * 2 ^ 48 ≡ now.code → part.width ≡ now.width - qe_at s cx * 2 ^ 48 → part.count ≡ now.count → part.place ≡ now.place → HoldsWide b part (divided b s cx)
-holds-upper b now part s cx h k code width count place =
-    let e : now.code + 2 ^ 48 * s.low ≡ part.code + 2 ^ 48 * (s.low + qe_at s cx) = omega (arith, code) in
+holds-upper : (b : List ℕ) (now subinterval : WideRegisters) (s : State) (cx : ℕ) → HoldsWide b now s → qe_at s cx * 2 ^ 48 ≤ now.code → subinterval.code + qe_at s cx * 2 ^ 48 ≡ now.code → subinterval.width ≡ now.width - qe_at s cx * 2 ^ 48 → subinterval.count ≡ now.count → subinterval.place ≡ now.place → HoldsWide b subinterval (divided b s cx)
+holds-upper b now subinterval s cx h k code width count place =
+    let e : now.code + 2 ^ 48 * s.low ≡ subinterval.code + 2 ^ 48 * (s.low + qe_at s cx) = omega (arith, code) in
     let width_was = h.width_is in
-    subst (λ t. HoldsWide b part t) (sym (divided-is b s cx false (lower-false b now s cx h k)))
-    (subst (λ x. IsHeld b part.code part.width x part.place (record s { low = s.low + qe_at s cx; width = s.width - qe_at s cx })) (sym count)
-    (subst (λ x. IsHeld b part.code part.width now.count x (record s { low = s.low + qe_at s cx; width = s.width - qe_at s cx })) (sym place) (record {
+    subst (λ t. HoldsWide b subinterval t) (sym (divided-is b s cx false (lower-false b now s cx h k)))
+    (subst (λ x. IsHeld b subinterval.code subinterval.width x subinterval.place (record s { low = s.low + qe_at s cx; width = s.width - qe_at s cx })) (sym count)
+    (subst (λ x. IsHeld b subinterval.code subinterval.width now.count x (record s { low = s.low + qe_at s cx; width = s.width - qe_at s cx })) (sym place) (record {
       code_is = ap (λ x. x * 2 ^ now.count) (sym e) ∙ h.code_is;
       width_is = omega (arith, width, width_was);
       near = h.near;
@@ -170,7 +171,7 @@ unfolding bit_at
 bit-is b s cx x h =
     ap (λ (t : Bool). cond (beq t (is_exchanged s cx)) (context_at s cx).mps (not (context_at s cx).mps)) h
 
--- the less probable symbol, from the part and from which part is the smaller
+-- the less probable symbol, from the subinterval and from which subinterval is the smaller
 bit_from : (lower exchanged mps : Bool) → not (beq mps (not (beq lower exchanged))) ≡ cond (beq lower exchanged) mps (not mps)
 bit_from true true true = refl
 bit_from true true false = refl
@@ -207,39 +208,41 @@ stands-within old new t same k h contexts = inl (record { code = k; holds = rw s
 stands-outside : (old new : View) (t : State) → new.bytes ≡ old.bytes → HasFailed new → IsOutside old.bytes t → Stands new t
 stands-outside old new t same k h = inr (record { failed = k; outside = rw same h })
 
--- The registers part hold the part of s that the code value lies in, and the decision is still to be settled.
-pub record Divides (old : View) (part : WideRegisters) (s : State) (cx : ℕ) (context : Context) (bit : Bool) : Type 0 where
+-- The registers subinterval hold the subinterval of s that the code value lies in, and the decision
+-- is still to be settled.
+pub record Divides (old : View) (subinterval : WideRegisters) (s : State) (cx : ℕ) (context : Context) (bit : Bool) : Type 0 where
   pub within : IsWithin old.bytes s
-  pub holds : HoldsWide old.bytes part (divided old.bytes s cx)
+  pub holds : HoldsWide old.bytes subinterval (divided old.bytes s cx)
   pub context_is : context ≡ context_at s cx
   pub contexts_are : old.contexts ≡ s.contexts
   pub bit_is : bit ≡ bit_at old.bytes s cx
 
--- What the call does: the context moves where a renormalisation is due, and the part is renormalised.
-pub record Settles (old new : View) (part : WideRegisters) (cx : ℕ) (context : Context) (less : Bool) (result : Result Bool Fault) : Type 0 where
+-- What the call does: the context moves where a renormalisation is due, and the subinterval is
+-- renormalised.
+pub record Settles (old new : View) (subinterval : WideRegisters) (cx : ℕ) (context : Context) (less : Bool) (result : Result Bool Fault) : Type 0 where
   pub bytes : new.bytes ≡ old.bytes
-  pub contexts : new.contexts ≡ set old.contexts cx (cond (ltb part.width (2 ^ 63)) (moved context (cond less (not context.mps) context.mps)) context)
+  pub contexts : new.contexts ≡ set old.contexts cx (cond (ltb subinterval.width (2 ^ 63)) (moved context (cond less (not context.mps) context.mps)) context)
   pub bit_is : IfOk result (λ b. b ≡ not (beq context.mps less))
   pub fault : IfErr result (λ e. e ≡ CodeOutOfInterval)
   pub ready : OnOk result (IsReadyWide old.bytes new.registers)
   pub left : OnErr result (HasLeftWide new.registers)
-  pub holds : (s : State) → HoldsWide old.bytes part s → MatchResult result (λ _. HoldsWide old.bytes new.registers (renormalised 15 s)) (λ _. IsOutside old.bytes (renormalised 15 s))
+  pub holds : (s : State) → HoldsWide old.bytes subinterval s → MatchResult result (λ _. HoldsWide old.bytes new.registers (renormalised 15 s)) (λ _. IsOutside old.bytes (renormalised 15 s))
 
-settles-contexts : (old new : View) (part : WideRegisters) (s : State) (cx : ℕ) (context : Context) (less : Bool) (r : Result Bool Fault) → Settles old new part cx context less r → Divides old part s cx context (not (beq context.mps less)) → new.contexts ≡ (after old.bytes s cx).contexts
-settles-contexts old new part s cx context less r h d =
+settles-contexts : (old new : View) (subinterval : WideRegisters) (s : State) (cx : ℕ) (context : Context) (less : Bool) (r : Result Bool Fault) → Settles old new subinterval cx context less r → Divides old subinterval s cx context (not (beq context.mps less)) → new.contexts ≡ (after old.bytes s cx).contexts
+settles-contexts old new subinterval s cx context less r h d =
     let b = old.bytes in
     let bit = not (beq context.mps less) in
     let symbol_is : cond less (not context.mps) context.mps ≡ bit_at b s cx = sym (symbol less context.mps) ∙ d.bit_is in
-    h.contexts ∙ elim (cases_lt part.width (2 ^ 63)) [
+    h.contexts ∙ elim (cases_lt subinterval.width (2 ^ 63)) [
       | inl narrow ↦
-          ap (λ (t : Bool). set old.contexts cx (cond t (moved context (cond less (not context.mps) context.mps)) context)) (lt-ltb part.width (2 ^ 63) narrow)
+          ap (λ (t : Bool). set old.contexts cx (cond t (moved context (cond less (not context.mps) context.mps)) context)) (lt-ltb subinterval.width (2 ^ 63) narrow)
           ∙ ap (λ (cs : List Context). set cs cx (moved context (cond less (not context.mps) context.mps))) d.contexts_are
           ∙ ap (λ (x : Bool). set s.contexts cx (moved context x)) symbol_is
           ∙ ap (λ (x : Context). set s.contexts cx (moved x (bit_at b s cx))) d.context_is
           ∙ sym (contexts-moved b s cx (let w = d.holds.width_is in omega (arith, w, narrow)))
           ∙ sym (contexts-after b s cx)
       | inr wide ↦
-          ap (λ (t : Bool). set old.contexts cx (cond t (moved context (cond less (not context.mps) context.mps)) context)) (le-ltb part.width (2 ^ 63) wide)
+          ap (λ (t : Bool). set old.contexts cx (cond t (moved context (cond less (not context.mps) context.mps)) context)) (le-ltb subinterval.width (2 ^ 63) wide)
           ∙ ap (λ (cs : List Context). set cs cx context) d.contexts_are
           ∙ ap (λ (x : Context). set s.contexts cx x) d.context_is
           ∙ set-get_or s.contexts cx (begins 0)
@@ -247,30 +250,30 @@ settles-contexts old new part s cx context less r h d =
           ∙ sym (contexts-after b s cx)
     ]
 
-settles-answers : (old new : View) (part : WideRegisters) (s : State) (cx : ℕ) (context : Context) (less : Bool) (r : Result Bool Fault) → Settles old new part cx context less r → Divides old part s cx context (not (beq context.mps less)) → (r ≡ answer old.bytes s cx) × Stands new (next old.bytes s cx)
-settles-answers old new part s cx context less (Ok x) h d =
+settles-answers : (old new : View) (subinterval : WideRegisters) (s : State) (cx : ℕ) (context : Context) (less : Bool) (r : Result Bool Fault) → Settles old new subinterval cx context less r → Divides old subinterval s cx context (not (beq context.mps less)) → (r ≡ answer old.bytes s cx) × Stands new (next old.bytes s cx)
+settles-answers old new subinterval s cx context less (Ok x) h d =
     let b = old.bytes in
     let t = settling b s cx in
-    let there : HoldsWide b new.registers (after b s cx) = subst (λ u. HoldsWide b new.registers u) (sym (after-is b s cx)) (h.holds t (holds-contexts b part (divided b s cx) (contexts_after b s cx) d.holds)) in
-    (ap (λ (y : Bool). let z : Result Bool Fault = Ok y in z) (h.bit_is ∙ d.bit_is) ∙ sym (answer-ok b s cx d.within (within-holds b new.registers (after b s cx) h.ready.code there)), subst (λ u. Stands new u) (sym (next-within b s cx d.within)) (stands-within old new (after b s cx) h.bytes h.ready.code there (settles-contexts old new part s cx context less (Ok x) h d)))
-settles-answers old new part s cx context less (Err e) h d =
+    let there : HoldsWide b new.registers (after b s cx) = subst (λ u. HoldsWide b new.registers u) (sym (after-is b s cx)) (h.holds t (holds-contexts b subinterval (divided b s cx) (contexts_after b s cx) d.holds)) in
+    (ap (λ (y : Bool). let z : Result Bool Fault = Ok y in z) (h.bit_is ∙ d.bit_is) ∙ sym (answer-ok b s cx d.within (within-holds b new.registers (after b s cx) h.ready.code there)), subst (λ u. Stands new u) (sym (next-within b s cx d.within)) (stands-within old new (after b s cx) h.bytes h.ready.code there (settles-contexts old new subinterval s cx context less (Ok x) h d)))
+settles-answers old new subinterval s cx context less (Err e) h d =
     let b = old.bytes in
     let t = settling b s cx in
-    let there : IsOutside b (after b s cx) = subst (λ u. IsOutside b u) (sym (after-is b s cx)) (h.holds t (holds-contexts b part (divided b s cx) (contexts_after b s cx) d.holds)) in
+    let there : IsOutside b (after b s cx) = subst (λ u. IsOutside b u) (sym (after-is b s cx)) (h.holds t (holds-contexts b subinterval (divided b s cx) (contexts_after b s cx) d.holds)) in
     (ap (λ (y : Fault). let z : Result Bool Fault = Err y in z) h.fault ∙ sym (answer-left b s cx d.within there), subst (λ u. Stands new u) (sym (next-within b s cx d.within)) (stands-outside old new (after b s cx) h.bytes h.left there))
 
-pub decides-settled : (old new : View) (part : WideRegisters) (cx : ℕ) (context : Context) (less : Bool) (r : Result Bool Fault) → Settles old new part cx context less r → ((s : State) → Stands old s → Divides old part s cx context (not (beq context.mps less))) → Decides old new cx r
-decides-settled old new part cx context less r h divides = record {
-  answers = λ s st. (settles-answers old new part s cx context less r h (divides s st)).0;
-  goes_on = λ s st. (settles-answers old new part s cx context less r h (divides s st)).1;
+pub decides-settled : (old new : View) (subinterval : WideRegisters) (cx : ℕ) (context : Context) (less : Bool) (r : Result Bool Fault) → Settles old new subinterval cx context less r → ((s : State) → Stands old s → Divides old subinterval s cx context (not (beq context.mps less))) → Decides old new cx r
+decides-settled old new subinterval cx context less r h divides = record {
+  answers = λ s st. (settles-answers old new subinterval s cx context less r h (divides s st)).0;
+  goes_on = λ s st. (settles-answers old new subinterval s cx context less r h (divides s st)).1;
 }
 
--- ---- the part that the code value lies in, as the call finds it
+-- ---- the subinterval that the code value lies in, as the call finds it
 
-pub divides : (old : View) (part : WideRegisters) (cx : ℕ) (context : Context) (q : ℕ) (less : Bool) → old.registers.code < old.registers.width → context ≡ get_or old.contexts cx (begins 0) → q ≡ (row_of context.state).qe * 2 ^ 48
-    → (old.registers.code < q → part ≡ record old.registers { width = q }) → (q ≤ old.registers.code → part ≡ record old.registers { code = old.registers.code - q; width = old.registers.width - q })
-    → less ≡ not (beq (ltb old.registers.code q) (ltb (old.registers.width - q) q)) → (s : State) → Stands old s → Divides old part s cx context (not (beq context.mps less))
-divides old part cx context q less k context_is q_is low high less_is s st =
+pub divides : (old : View) (subinterval : WideRegisters) (cx : ℕ) (context : Context) (q : ℕ) (less : Bool) → old.registers.code < old.registers.width → context ≡ get_or old.contexts cx (begins 0) → q ≡ (row_of context.state).qe * 2 ^ 48
+    → (old.registers.code < q → subinterval ≡ record old.registers { width = q }) → (q ≤ old.registers.code → subinterval ≡ record old.registers { code = old.registers.code - q; width = old.registers.width - q })
+    → less ≡ not (beq (ltb old.registers.code q) (ltb (old.registers.width - q) q)) → (s : State) → Stands old s → Divides old subinterval s cx context (not (beq context.mps less))
+divides old subinterval cx context q less k context_is q_is low high less_is s st =
     let b = old.bytes in
     let r = old.registers in
     let at = is-within old s k st in
@@ -285,7 +288,7 @@ divides old part cx context q less k context_is q_is low high less_is s st =
     ∙ bit_from lower (is_exchanged s cx) context.mps
     ∙ ap (λ (x : Context). cond (beq lower (is_exchanged s cx)) x.mps (not x.mps)) same
     ∙ sym (bit-is b s cx lower there) in
-    let made : (part_held : HoldsWide b part (divided b s cx)) (lower : Bool) → ltb r.code q ≡ lower → is_lower b s cx ≡ lower → Divides old part s cx context (not (beq context.mps less)) = λ held lower here there. record {
+    let made : (subinterval_held : HoldsWide b subinterval (divided b s cx)) (lower : Bool) → ltb r.code q ≡ lower → is_lower b s cx ≡ lower → Divides old subinterval s cx context (not (beq context.mps less)) = λ held lower here there. record {
       within = within-holds b r s k h;
       holds = held;
       context_is = same;
@@ -296,11 +299,11 @@ divides old part cx context q less k context_is q_is low high less_is s st =
       | inl below ↦
           let is = low below in
           let here : r.code < qe_at s cx * 2 ^ 48 = omega (arith, below, size) in
-          made (holds-lower b r part s cx h here (ap (λ (x : WideRegisters). x.code) is) (ap (λ (x : WideRegisters). x.width) is ∙ size) (ap (λ (x : WideRegisters). x.count) is) (ap (λ (x : WideRegisters). x.place) is)) true (lt-ltb r.code q below) (lower-true b r s cx h here)
+          made (holds-lower b r subinterval s cx h here (ap (λ (x : WideRegisters). x.code) is) (ap (λ (x : WideRegisters). x.width) is ∙ size) (ap (λ (x : WideRegisters). x.count) is) (ap (λ (x : WideRegisters). x.place) is)) true (lt-ltb r.code q below) (lower-true b r s cx h here)
       | inr above ↦
           let is = high above in
           let here : qe_at s cx * 2 ^ 48 ≤ r.code = omega (arith, above, size) in
           let code = ap (λ (x : WideRegisters). x.code) is in
           let width = ap (λ (x : WideRegisters). x.width) is in
-          made (holds-upper b r part s cx h here (omega (arith, code, above, size)) (omega (arith, width, size)) (ap (λ (x : WideRegisters). x.count) is) (ap (λ (x : WideRegisters). x.place) is)) false (le-ltb r.code q above) (lower-false b r s cx h here)
+          made (holds-upper b r subinterval s cx h here (omega (arith, code, above, size)) (omega (arith, width, size)) (ap (λ (x : WideRegisters). x.count) is) (ap (λ (x : WideRegisters). x.place) is)) false (le-ltb r.code q above) (lower-false b r s cx h here)
     ]

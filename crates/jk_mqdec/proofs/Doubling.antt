@@ -2,10 +2,10 @@
 use Rattle.std.proofs.Common.{◌≡◌, ◌∙◌, ap, sym, subst, ℕ, zero, suc, ◌+◌, ◌-◌, ◌*◌, ◌^◌, ◌<◌, ◌≤◌, inl, inr, cond, List, ltb, refl, arith}
 use Rattle.std.proofs.lemmas.Bool.{cases_eq, lt-ltb, le-ltb}
 use Rattle.jk_model.specs.Code.{byte_at, is_past, fed, places}
-use Rattle.jk_model.specs.Decisions.{State, initial, doubled, renormalised}
+use Rattle.jk_model.specs.Decisions.{State, initial, doubled, renormalised, doubled_by}
 use Rattle.jk_model.proofs.Laws.{places-ge, places-le, wanted-next, wanted-suc, start-zero, code_value-double, code_value-feed, code_value-grows, code_value-start, fed-is, is_past-zero}
 use Rattle.jk_mqdec.specs.declared.registers.Registers.{Registers}
-use Rattle.jk_mqdec.specs.Registers.{IsAt, Feeds, Holds, Supplied, IsOutside, HasLeft, doubled_by}
+use Rattle.jk_mqdec.specs.Registers.{IsAt, Feeds, Holds, Supplied, IsOutside, HasLeft}
 use Rattle.jk_mqdec.proofs.Shifts.{shift_first, shift_grows}
 
 -- ---- one doubling

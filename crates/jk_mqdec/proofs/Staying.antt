@@ -26,9 +26,9 @@ pub some-of : {A : Type 0} (o : Option A) (P : Type 0) → P → IfSome o (λ _.
 some-of None P p = tt
 some-of (Some x) P p = p
 
--- a part is left where the whole is
-pub whole-inside : (r part : WideRegisters) (q : ℕ) → q ≤ r.width → (r.code < q → part ≡ record r { width = q }) → (q ≤ r.code → part ≡ record r { code = r.code - q; width = r.width - q }) → part.code < part.width → r.code < r.width
-whole-inside r part q fits low high k = elim (cases_lt r.code q) [
+-- a subinterval is left where the whole is
+pub whole-inside : (r subinterval : WideRegisters) (q : ℕ) → q ≤ r.width → (r.code < q → subinterval ≡ record r { width = q }) → (q ≤ r.code → subinterval ≡ record r { code = r.code - q; width = r.width - q }) → subinterval.code < subinterval.width → r.code < r.width
+whole-inside r subinterval q fits low high k = elim (cases_lt r.code q) [
   | inl below ↦ omega (arith, below, fits)
   | inr above ↦
       let is = high above in
@@ -37,8 +37,8 @@ whole-inside r part q fits low high k = elim (cases_lt r.code q) [
       omega (arith, code, width, above, k)
 ]
 
-pub part-inside : (r part : WideRegisters) (q : ℕ) → (r.code < q → part ≡ record r { width = q }) → (q ≤ r.code → part ≡ record r { code = r.code - q; width = r.width - q }) → r.code < r.width → part.code < part.width
-part-inside r part q low high k = elim (cases_lt r.code q) [
+pub subinterval-inside : (r subinterval : WideRegisters) (q : ℕ) → (r.code < q → subinterval ≡ record r { width = q }) → (q ≤ r.code → subinterval ≡ record r { code = r.code - q; width = r.width - q }) → r.code < r.width → subinterval.code < subinterval.width
+subinterval-inside r subinterval q low high k = elim (cases_lt r.code q) [
   | inl below ↦
       let is = low below in
       let code = ap (λ (x : WideRegisters). x.code) is in

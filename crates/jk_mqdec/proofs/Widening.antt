@@ -1,16 +1,16 @@
--- The wide registers: the part of the interval that they tell, doublings, bytes fed ahead, and the way from the narrow
--- registers and back to them.
+-- The wide registers: the subinterval that they tell, doublings, bytes fed ahead, and the way from
+-- the narrow registers and back to them.
 use Rattle.std.proofs.Common.{◌≡◌, ◌∙◌, ap, sym, subst, ℕ, zero, suc, ◌+◌, ◌-◌, ◌*◌, ◌/◌, ◌^◌, ◌<◌, ◌≤◌, inl, inr, List, arith}
 use Rattle.std.proofs.Math.Nat.{mul-le-mul_right}
 use Rattle.std.proofs.Math.Pow.{pow_mono}
 use Rattle.std.proofs.lemmas.Nat.{pow-add}
 use Rattle.std.proofs.lemmas.Bool.{cases_lt}
 use Rattle.jk_model.specs.Code.{byte_at, fed, places, start, wanted, share, shares, code_value}
-use Rattle.jk_model.specs.Decisions.{State, doubled, renormalised}
+use Rattle.jk_model.specs.Decisions.{State, doubled, renormalised, doubled_by}
 use Rattle.jk_model.proofs.Laws.{places-ge, wanted-next, wanted-suc, wanted-zero, start-suc, share-in, shares-zero, shares-suc, code_value-upto, code_value-double, code_value-feed, code_value-grows}
 use Rattle.jk_mqdec.specs.declared.registers.Registers.{Registers}
 use Rattle.jk_mqdec.specs.declared.wide.WideRegisters.{WideRegisters}
-use Rattle.jk_mqdec.specs.Registers.{IsAt, Holds, doubled_by}
+use Rattle.jk_mqdec.specs.Registers.{IsAt, Holds}
 use Rattle.jk_mqdec.specs.Wide.{IsHeld, HoldsWide}
 use Rattle.jk_mqdec.proofs.Shifts.{shift_first, shift_less, shift_twice}
 use Rattle.jk_mqdec.proofs.Doubling.{renormalised-times}
@@ -42,7 +42,7 @@ value-grows b n (suc k) =
     let first = shift_first (code_value b n) k in
     omega (arith, e, before, one, first)
 
--- ---- which part of the interval
+-- ---- which subinterval
 
 -- code below a number
 pub held-below : (b : List ℕ) (code width count place q : ℕ) (s : State) → IsHeld b code width count place s → code < q * 2 ^ 48 → code_value b s.doublings < 128 * (s.low + q)
@@ -200,8 +200,8 @@ wanted-soon b (suc i) m h =
     omega (arith, w, one, long, h)
 
 record IsWhole (value : ℕ) : Type 0 where
-  part : ℕ
-  is : value ≡ 128 * part
+  subinterval : ℕ
+  is : value ≡ 128 * subinterval
 
 share-whole : (b : List ℕ) (m i : ℕ) → start b i ≤ m + 7 → IsWhole (share b m i)
 share-whole b m i h =
@@ -209,10 +209,10 @@ share-whole b m i h =
     let e : m + 14 - start b i ≡ 7 + (m + 7 - start b i) = omega (arith, h) in
     let p = ap (λ k. 2 ^ k) e ∙ pow-add 2 7 (m + 7 - start b i) in
     let all = ap (λ x. fed b i * x) p in
-    record { part = fed b i * 2 ^ (m + 7 - start b i); is = omega (arith, is, all) }
+    record { subinterval = fed b i * 2 ^ (m + 7 - start b i); is = omega (arith, is, all) }
 
 shares-whole : (b : List ℕ) (m last k : ℕ) → start b last ≡ m + 7 → k ≤ suc last → IsWhole (shares b m k)
-shares-whole b m last zero h few = let z = shares-zero b m in record { part = 0; is = omega (arith, z) }
+shares-whole b m last zero h few = let z = shares-zero b m in record { subinterval = 0; is = omega (arith, z) }
 shares-whole b m last (suc k) h few =
     let before = shares-whole b m last k h (omega (arith, few)) in
     let e = ap (λ i. start b i) (let e : k + (last - k) ≡ last = omega (arith, few) in e) in
@@ -221,7 +221,7 @@ shares-whole b m last (suc k) h few =
     let more = shares-suc b m k in
     let x = before.is in
     let y = one.is in
-    record { part = before.part + one.part; is = omega (arith, more, x, y) }
+    record { subinterval = before.subinterval + one.subinterval; is = omega (arith, more, x, y) }
 
 -- just before a byte is wanted
 value-whole : (b : List ℕ) (m last : ℕ) → wanted b last ≤ m + 14 → wanted b (suc last) ≡ m + 15 → IsWhole (code_value b m)
@@ -230,9 +230,10 @@ value-whole b m last h k =
     let upto = code_value-upto b m last h (omega (arith, k)) in
     let all = shares-whole b m last (suc last) (omega (arith, w, k)) (omega arith) in
     let x = all.is in
-    record { part = all.part; is = omega (arith, upto, x) }
+    record { subinterval = all.subinterval; is = omega (arith, upto, x) }
 
--- what the code value is after eight doublings more, of which the first wants a byte of eight places
+-- what the code value is after eight doublings more, of which the first wants a byte of eight
+-- places
 value-ahead : (b : List ℕ) (m last byte : ℕ) → wanted b last ≤ m + 14 → wanted b (suc last) ≡ m + 15 → fed b (suc last) ≡ byte → places b last ≡ 8 → (i : ℕ) → i ≤ 7 → code_value b (m + 1 + i) ≡ (2 * code_value b m + byte) * 2 ^ i
 value-ahead b m last byte h k is long i few =
     let next = wanted-next b last in
@@ -287,7 +288,7 @@ held-ahead b code width count place byte s is small not_ff few h =
         | inr before ↦
             let near = h.near j x (omega (arith, before)) less in
             let shape : 128 * x * 2 ^ (count - j) ≡ 128 * (x * 2 ^ (count - j)) = grind arith in
-            let bound = near-before (code_value b m) whole.part (x * 2 ^ (count - j)) byte whole_is (omega (arith, near, shape)) small in
+            let bound = near-before (code_value b m) whole.subinterval (x * 2 ^ (count - j)) byte whole_is (omega (arith, near, shape)) small in
             let power = ap (λ k. 2 ^ k) (let e : count + 8 - j ≡ count - j + 8 = omega (arith, before) in e) ∙ pow-add 2 (count - j) 8 in
             let goal = ap (λ p. 128 * x * p) power in
             omega (arith, value, bound, goal)

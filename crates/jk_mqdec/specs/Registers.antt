@@ -1,10 +1,11 @@
 -- What the registers of the decoder hold of the definition's interval.
-use Rattle.std.specs.Prelude.{◌≡◌, ℕ, zero, suc, ◌+◌, ◌-◌, ◌*◌, ◌^◌, ◌<◌, ◌≤◌, ◌⊎◌, true, false, List, length}
+use Rattle.std.specs.Prelude.{◌≡◌, ℕ, suc, ◌+◌, ◌-◌, ◌*◌, ◌^◌, ◌<◌, ◌≤◌, ◌⊎◌, true, false, List, length}
 use Rattle.jk_model.specs.Code.{is_last, is_past, fed, places, wanted, code_value}
-use Rattle.jk_model.specs.Decisions.{State, doubled}
+use Rattle.jk_model.specs.Decisions.{State}
 use Rattle.jk_mqdec.specs.declared.registers.Registers.{Registers}
 
--- Byte last is the one that was fed last, and place is its place in the segment, or that of the FF that ended the data.
+-- Byte last is the one that was fed last, and place is its place in the segment, or that of the FF
+-- that ended the data.
 pub record IsAt (bytes : List ℕ) (place last : ℕ) : Type 0 where
   pub before_end : is_past bytes place ≡ false
   pub here : (place ≡ last) ⊎ ((place < last) × (is_last bytes place ≡ true))
@@ -16,12 +17,8 @@ pub record Feeds (bytes : List ℕ) (old new : Registers) (last : ℕ) : Type 0 
   pub count : new.count ≡ places bytes last
   pub place : IsAt bytes new.place (suc last)
 
--- s after so many doublings
-abbrev pub doubled_by : ℕ → State → State
-doubled_by zero s = s
-doubled_by (suc n) s = doubled_by n (doubled s)
-
--- The registers hold the interval of s, and the code value as it is then. Both are in the units of C, 2^16 for one of the interval.
+-- The registers hold the interval of s, and the code value as it is then. Both are in the units of
+-- C, 2^16 for one of the interval.
 pub record Holds (bytes : List ℕ) (r : Registers) (s : State) : Type 0 where
   pub code : r.code + 2 ^ 16 * s.low ≡ 2 ^ 9 * code_value bytes s.doublings
   pub width : r.width ≡ s.width * 2 ^ 16
@@ -30,7 +27,8 @@ pub record Holds (bytes : List ℕ) (r : Registers) (s : State) : Type 0 where
   pub due_next : wanted bytes (suc last) ≡ s.doublings + 15 + r.count
   pub place : IsAt bytes r.place last
 
--- The registers hold the interval of s, and already the code value after one more doubling, still in the units of s.
+-- The registers hold the interval of s, and already the code value after one more doubling, still
+-- in the units of s.
 pub record Supplied (bytes : List ℕ) (r : Registers) (s : State) : Type 0 where
   pub code : 2 * (r.code + 2 ^ 16 * s.low) ≡ 2 ^ 9 * code_value bytes (s.doublings + 1)
   pub width : r.width ≡ s.width * 2 ^ 16

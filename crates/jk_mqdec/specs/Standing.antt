@@ -35,8 +35,8 @@ pub record StandsOutside (d : View) (s : State) : Type 0 where
 abbrev pub Stands : View → State → Type 0
 Stands d s = StandsWithin d s ⊎ StandsOutside d s
 
--- The decoder was made on these bytes and has given these decisions so far: the bytes spell them, and the decoder
--- stands where they lead.
+-- The decoder was made on these bytes and has given these decisions so far: the bytes spell them,
+-- and the decoder stands where they lead.
 pub record Reached (d : View) (bytes : List ℕ) (done : List Decision) : Type 0 where
   pub bytes_are : d.bytes ≡ bytes
   pub spelled : Spells bytes done

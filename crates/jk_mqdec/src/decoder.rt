@@ -1,6 +1,7 @@
 //! The decoder: registers over a segment, and the contexts.
 
-ghost use Rattle.std.specs.Prelude.{◌≡◌, ℕ, Bool, suc, ◌+◌, ◌*◌, ◌^◌, ◌<◌, ◌≤◌, [], ◌∷◌, ◌++◌, List, length, set, IfOk, IfErr, OnOk, OnErr, MatchResult, Ok, Err};
+ghost use Rattle.std.specs.Prelude.{◌≡◌, ℕ, Bool, suc, ◌+◌, ◌*◌, ◌^◌, ◌<◌, ◌≤◌, [], ◌∷◌, ◌++◌, List, length, set, IfOk};
+ghost use Rattle.std.specs.Prelude.{IfErr, OnOk, OnErr, MatchResult, Ok, Err};
 ghost use Rattle.jk_math.specs.declared.fault.Fault.TheVariants.{CodeOutOfInterval};
 ghost use Rattle.jk_model.specs.Decisions.{State, Decision, initial, Spells};
 ghost use Rattle.jk_mqdec.specs.Standing.{View, Stands, HasFailed, Reached};
@@ -31,8 +32,8 @@ impl<'a> Model for Decoder<'a> {
 }
 
 impl<'a> Decoder<'a> {
-    /// A decoder at the start of a segment (INITDEC, T.800 C.3.5), its contexts as they are at the start of a
-    /// code-block.
+    /// A decoder at the start of a segment (INITDEC, T.800 C.3.5), its contexts as they are at the
+    /// start of a code-block.
     pub fn new(bytes: &'a [u8]) -> Decoder<'a>
         ensures bytes { result.bytes ≡ bytes.now }
         ensures stands { Stands result initial }
@@ -73,17 +74,17 @@ impl<'a> Decoder<'a> {
         }
         let contexts = &mut self.contexts;
         let context = contexts[cx];
-        let part = divided(now, scaled(context.size()));
-        contexts[cx] = context.after(is_narrow(part.registers), part.less);
-        match renormalised(self.bytes, part.registers) {
+        let subinterval = divided(now, scaled(context.size()));
+        contexts[cx] = context.after(is_narrow(subinterval.registers), subinterval.less);
+        match renormalised(self.bytes, subinterval.registers) {
             Some(registers) => {
                 self.registers = registers;
-                Ok(context.mps() != part.less)
+                Ok(context.mps() != subinterval.less)
             }
             None => {
                 self.registers = WideRegisters {
                     width: 0,
-                    ..part.registers
+                    ..subinterval.registers
                 };
                 Err(Fault::CodeOutOfInterval)
             }

@@ -2,9 +2,9 @@
 #![tactic(auto)]
 
 mod decoder;
+mod pass_decoder;
 mod registers;
-mod run;
 mod wide;
 
 pub use decoder::Decoder;
-pub use run::Run;
+pub use pass_decoder::PassDecoder;

@@ -2,8 +2,8 @@
 
 ghost use Rattle.std.specs.Prelude.{◌≡◌, ℕ, suc, ◌+◌, ◌*◌, ◌^◌, ◌<◌, ◌≤◌, length, IfSome, MatchOption};
 ghost use Rattle.jk_model.specs.Code.{byte_at};
-ghost use Rattle.jk_model.specs.Decisions.{State, initial, doubled};
-ghost use Rattle.jk_mqdec.specs.Registers.{IsAt, Feeds, Holds, Supplied, IsOutside, CanDouble, IsReady, doubled_by};
+ghost use Rattle.jk_model.specs.Decisions.{State, initial, doubled, doubled_by};
+ghost use Rattle.jk_mqdec.specs.Registers.{IsAt, Feeds, Holds, Supplied, IsOutside, CanDouble, IsReady};
 
 /// The registers C, A and CT of T.800 C.3.1, and the place of the byte that was fed last, BP.
 #[derive(Clone, Copy)]
@@ -68,7 +68,8 @@ fn fed(bytes: &[u8], old: Registers) -> Registers
     }
 }
 
-/// Feeds the byte that is due before the next doubling. `None` where the code value has left the interval.
+/// Feeds the byte that is due before the next doubling. `None` where the code value has left the
+/// interval.
 #[inline(always)]
 fn supplied(bytes: &[u8], old: Registers) -> Option<Registers>
     requires can { CanDouble bytes.now old }
@@ -110,7 +111,8 @@ fn shifted(old: Registers, times: u32) -> Registers
     }
 }
 
-/// Doubles so many times, with bytes fed between. `None` where the code value has left the interval.
+/// Doubles so many times, with bytes fed between. `None` where the code value has left the
+/// interval.
 #[inline(always)]
 pub fn fed_through(bytes: &[u8], old: Registers, times: u32) -> Option<Registers>
     requires can { CanDouble bytes.now old }

@@ -1,10 +1,12 @@
-//! The registers of the decoder with room for bytes that are fed before they are due, so that most decisions wait for none.
+//! The registers of the decoder with room for bytes that are fed before they are due, so that most
+//! decisions wait for none.
 
-ghost use Rattle.std.specs.Prelude.{◌≡◌, ℕ, ◌+◌, ◌-◌, ◌*◌, ◌/◌, ◌^◌, ◌<◌, ◌≤◌, not, nat_lt, length, List, IfSome, MatchOption};
+ghost use Rattle.std.specs.Prelude.{◌≡◌, ℕ, ◌+◌, ◌-◌, ◌*◌, ◌/◌, ◌^◌, ◌<◌, ◌≤◌, not, nat_lt, length, List, IfSome};
+ghost use Rattle.std.specs.Prelude.{MatchOption};
 ghost use Rattle.std.specs.Bool.{beq};
 ghost use Rattle.jk_model.specs.Code.{byte_at};
-ghost use Rattle.jk_model.specs.Decisions.{State, initial, renormalised};
-ghost use Rattle.jk_mqdec.specs.Registers.{Holds, IsOutside, doubled_by};
+ghost use Rattle.jk_model.specs.Decisions.{State, initial, renormalised, doubled_by};
+ghost use Rattle.jk_mqdec.specs.Registers.{Holds, IsOutside};
 ghost use Rattle.jk_mqdec.specs.Wide.{HoldsWide, HasLeftWide, IsReadyWide, IsSteadyWide};
 
 use crate::registers::{Registers, byte, fed_through, loaded};
@@ -22,10 +24,10 @@ pub struct WideRegisters {
     pub place: usize,
 }
 
-/// A part of a divided interval, and whether it stands for the less probable symbol.
+/// A subinterval of a divided interval, and whether it stands for the less probable symbol.
 #[derive(Drop)]
-pub struct Part {
-    /// The registers that hold the part.
+pub struct Subinterval {
+    /// The registers that hold the subinterval.
     pub registers: WideRegisters,
     /// Whether it stands for the less probable symbol.
     pub less: bool,
@@ -136,7 +138,8 @@ fn shifted(old: WideRegisters, times: u32) -> WideRegisters
     }
 }
 
-/// Doubles so many times, with bytes fed between and behind. `None` where the code value has left the interval.
+/// Doubles so many times, with bytes fed between and behind. `None` where the code value has left
+/// the interval.
 #[inline(always)]
 fn refilled(bytes: &[u8], old: WideRegisters, times: u32) -> Option<WideRegisters>
     requires code { old.code < old.width }
@@ -147,7 +150,8 @@ fn refilled(bytes: &[u8], old: WideRegisters, times: u32) -> Option<WideRegister
     requires width { old.width * 2 ^ times < 2 ^ 64 }
     ensures ready { IfSome result (IsReadyWide bytes.now) }
     ensures holds { (s : State) → HoldsWide bytes.now old s
-        → MatchOption result (IsOutside bytes.now (doubled_by times s)) (λ r. HoldsWide bytes.now r (doubled_by times s)) }
+        → MatchOption result (IsOutside bytes.now (doubled_by times s))
+        (λ r. HoldsWide bytes.now r (doubled_by times s)) }
 {
     let now = emptied(old);
     if now.code >= now.width {
@@ -157,8 +161,8 @@ fn refilled(bytes: &[u8], old: WideRegisters, times: u32) -> Option<WideRegister
     Some(filled(bytes, widened(ready)))
 }
 
-/// Doubles until the width is at least half its range (RENORMD, T.800 C.3.3). `None` where the code value has left the
-/// interval.
+/// Doubles until the width is at least half its range (RENORMD, T.800 C.3.3). `None` where the code
+/// value has left the interval.
 #[inline(always)]
 pub fn renormalised(bytes: &[u8], old: WideRegisters) -> Option<WideRegisters>
     requires code { old.code < old.width }
@@ -167,7 +171,8 @@ pub fn renormalised(bytes: &[u8], old: WideRegisters) -> Option<WideRegisters>
     requires wide { 2 ^ 48 ≤ old.width }
     ensures ready { IfSome result (IsReadyWide bytes.now) }
     ensures holds { (s : State) → HoldsWide bytes.now old s
-        → MatchOption result (IsOutside bytes.now (renormalised 15 s)) (λ r. HoldsWide bytes.now r (renormalised 15 s)) }
+        → MatchOption result (IsOutside bytes.now (renormalised 15 s))
+        (λ r. HoldsWide bytes.now r (renormalised 15 s)) }
 {
     let times = old.width.leading_zeros();
     if times <= old.count {
@@ -176,7 +181,8 @@ pub fn renormalised(bytes: &[u8], old: WideRegisters) -> Option<WideRegisters>
     refilled(bytes, old, times)
 }
 
-/// The same of registers whose code value may have left the interval before. A doubling that waits for a byte tells.
+/// The same of registers whose code value may have left the interval before. A doubling that waits
+/// for a byte tells.
 #[inline(always)]
 pub fn renormalised_within(bytes: &[u8], old: WideRegisters) -> Option<WideRegisters>
     requires count { old.count ≤ 48 }
@@ -186,7 +192,8 @@ pub fn renormalised_within(bytes: &[u8], old: WideRegisters) -> Option<WideRegis
     ensures ready { IfSome result (IsReadyWide bytes.now) }
     ensures inside { IfSome result (λ _. old.code < old.width) }
     ensures holds { (s : State) → old.code < old.width → HoldsWide bytes.now old s
-        → MatchOption result (IsOutside bytes.now (renormalised 15 s)) (λ r. HoldsWide bytes.now r (renormalised 15 s)) }
+        → MatchOption result (IsOutside bytes.now (renormalised 15 s))
+        (λ r. HoldsWide bytes.now r (renormalised 15 s)) }
 {
     let doublings = old.width.leading_zeros();
     if doublings <= old.count {
@@ -198,11 +205,12 @@ pub fn renormalised_within(bytes: &[u8], old: WideRegisters) -> Option<WideRegis
     refilled(bytes, old, doublings)
 }
 
-/// The part of the interval that the code value lies in, where the lower part is so large (T.800 C.3.2).
+/// The subinterval that the code value lies in, where the lower subinterval is so large (T.800
+/// C.3.2).
 ///
 /// The choice is made without a branch, since half of all decisions can't be foreseen.
 #[inline(always)]
-pub fn divided(now: WideRegisters, lower_width: u64) -> Part
+pub fn divided(now: WideRegisters, lower_width: u64) -> Subinterval
     requires { lower_width ≤ now.width }
     ensures lower { now.code < lower_width
         → result.registers ≡ record now { width = lower_width } }
@@ -213,7 +221,7 @@ pub fn divided(now: WideRegisters, lower_width: u64) -> Part
 {
     let upper_width = now.width - lower_width;
     let is_lower = now.code < lower_width;
-    Part {
+    Subinterval {
         registers: WideRegisters {
             code: if is_lower {
                 now.code
@@ -235,7 +243,7 @@ pub fn is_narrow(registers: WideRegisters) -> bool
     registers.width < HALF
 }
 
-/// The size of the lower part of the interval, in the units of the registers.
+/// The size of the lower subinterval, in the units of the registers.
 #[inline(always)]
 pub fn scaled(size: u32) -> u64
     requires { size < 2 ^ 16 }
@@ -244,8 +252,8 @@ pub fn scaled(size: u32) -> u64
     (size as u64) << 48
 }
 
-/// The registers at the start of a segment, with no doubling before the next byte where the code value has left the
-/// interval already.
+/// The registers at the start of a segment, with no doubling before the next byte where the code
+/// value has left the interval already.
 pub fn begun(bytes: &[u8]) -> WideRegisters
     ensures steady { IsSteadyWide bytes.now result }
     ensures holds { result.code < result.width → HoldsWide bytes.now result initial }

@@ -3,8 +3,8 @@ use Rattle.std.proofs.Common.{◌≡◌, ◌∙◌, ap, sym, subst, ℕ, suc, �
 use Rattle.std.proofs.lemmas.Bool.{cases_eq, cases_lt, eq-eqb, ne_eqb, lt-ltb, le-ltb}
 use Rattle.std.proofs.lemmas.Nat.{div-add-mod', mod_below}
 use Rattle.jk_model.specs.Decisions.{State}
-use Rattle.jk_model.specs.Placed.{gap, top, num, end, Clean}
-use Rattle.jk_mqenc.specs.Machine.{Machine, unit, put, byte_out, HasRoom, Holds}
+use Rattle.jk_model.specs.Placed.{gap, top, placed_number, end, Clean}
+use Rattle.jk_mqenc.specs.Machine.{Machine, unit, with_byte, byte_out, HasRoom, Holds}
 use Rattle.jk_model.proofs.Laws.{top-ff, after_ff, plain, follows}
 use Rattle.jk_mqenc.proofs.Machine.{unit-zero, unit-seven, unit-eight}
 
@@ -13,9 +13,10 @@ halves : (d u v : ℕ) → u ≡ v → 0 < v → (d / u * v + d % u ≡ d) × (d
 halves d u v e h =
     (ap (λ x. d / u * x + d % u) (sym e) ∙ div-add-mod' d u, subst (λ x. d % u < x) e (mod_below d u (subst (λ x. 0 < x) (sym e) h)))
 
--- what the code d above these bytes makes of the interval, in units of 2^27, before a byte is placed
+-- what the code d above these bytes makes of the interval, in units of 2^27, before a byte is
+-- placed
 pub record Due (bs : List ℕ) (d w : ℕ) (s : State) : Type 0 where
-  pub low : s.low ≡ d + num bs * 134217728
+  pub low : s.low ≡ d + placed_number bs * 134217728
   pub clock : s.doublings ≡ 12 + end bs
   pub width : w ≡ s.width
   pub positive : 1 ≤ w
@@ -27,13 +28,13 @@ pub record Due (bs : List ℕ) (d w : ℕ) (s : State) : Type 0 where
 abbrev placing : List ℕ → ℕ → ℕ → ℕ → Machine
 placing bs d w g = record { code = d % unit g; width = w; count = g; placed = (d / unit g) ∷ bs }
 
-put-after_ff : (bs : List ℕ) (d w : ℕ) (s : State) → gap bs ≡ 7 → top bs ≡ 143 → Due bs d w s → Holds (placing bs d w 7) s
-put-after_ff bs d w s g t i =
+with_byte-after_ff : (bs : List ℕ) (d w : ℕ) (s : State) → gap bs ≡ 7 → top bs ≡ 143 → Due bs d w s → Holds (placing bs d w 7) s
+with_byte-after_ff bs d w s g t i =
     let x = d / unit 7 in
     let h = halves d (unit 7) 1048576 unit-seven (omega arith) in
     let sum = h.0 in
     let rest = h.1 in
-    let weight : num (x ∷ bs) * unit 7 ≡ (num bs * 128 + x) * 1048576 = ap (λ k. (num bs * 2 ^ k + x) * unit 7) g ∙ ap (λ v. (num bs * 128 + x) * v) unit-seven in
+    let weight : placed_number (x ∷ bs) * unit 7 ≡ (placed_number bs * 128 + x) * 1048576 = ap (λ k. (placed_number bs * 2 ^ k + x) * unit 7) g ∙ ap (λ v. (placed_number bs * 128 + x) * v) unit-seven in
     let own : x * unit 7 ≡ x * 1048576 = ap (λ v. x * v) unit-seven in
     let bound = i.after_ff t in
     record {
@@ -48,13 +49,13 @@ put-after_ff bs d w s g t i =
       clean = (omega (arith, sum, bound, i.positive, t), i.clean);
     }
 
-put-plain : (bs : List ℕ) (d w : ℕ) (s : State) → gap bs ≡ 8 → top bs ≡ 255 → Due bs d w s → Holds (placing bs d w 8) s
-put-plain bs d w s g t i =
+with_byte-plain : (bs : List ℕ) (d w : ℕ) (s : State) → gap bs ≡ 8 → top bs ≡ 255 → Due bs d w s → Holds (placing bs d w 8) s
+with_byte-plain bs d w s g t i =
     let x = d / unit 8 in
     let h = halves d (unit 8) 524288 unit-eight (omega arith) in
     let sum = h.0 in
     let rest = h.1 in
-    let weight : num (x ∷ bs) * unit 8 ≡ (num bs * 256 + x) * 524288 = ap (λ k. (num bs * 2 ^ k + x) * unit 8) g ∙ ap (λ v. (num bs * 256 + x) * v) unit-eight in
+    let weight : placed_number (x ∷ bs) * unit 8 ≡ (placed_number bs * 256 + x) * 524288 = ap (λ k. (placed_number bs * 2 ^ k + x) * unit 8) g ∙ ap (λ v. (placed_number bs * 256 + x) * v) unit-eight in
     let bound = i.plain t in
     record {
       low = omega (arith, i.low, weight, sum);
@@ -68,11 +69,11 @@ put-plain bs d w s g t i =
       clean = (omega (arith, sum, bound, t), i.clean);
     }
 
-pub put-holds : (bs : List ℕ) (d w : ℕ) (s : State) → Due bs d w s → Holds (put bs d w) s
-put-holds bs d w s i =
+pub with_byte-holds : (bs : List ℕ) (d w : ℕ) (s : State) → Due bs d w s → Holds (with_byte bs d w) s
+with_byte-holds bs d w s i =
     elim (follows bs) [
-      | after_ff g t ↦ subst (λ k. Holds (placing bs d w k) s) (sym g) (put-after_ff bs d w s g t i)
-      | plain g t ↦ subst (λ k. Holds (placing bs d w k) s) (sym g) (put-plain bs d w s g t i)
+      | after_ff g t ↦ subst (λ k. Holds (placing bs d w k) s) (sym g) (with_byte-after_ff bs d w s g t i)
+      | plain g t ↦ subst (λ k. Holds (placing bs d w k) s) (sym g) (with_byte-plain bs d w s g t i)
     ]
 
 -- ---- what is due at CT = 0
@@ -81,7 +82,7 @@ put-holds bs d w s i =
 due-same : (m : Machine) (s : State) → m.count ≡ 0 → (top m.placed ≡ 255 → m.code < 134217728) → Holds m s → Due m.placed m.code m.width s
 due-same m s z p i =
     let u : unit m.count ≡ 134217728 = ap (λ c. unit c) z ∙ unit-zero in
-    let weight : num m.placed * unit m.count ≡ num m.placed * 134217728 = ap (λ v. num m.placed * v) u in
+    let weight : placed_number m.placed * unit m.count ≡ placed_number m.placed * 134217728 = ap (λ v. placed_number m.placed * v) u in
     record {
       low = omega (arith, i.low, weight);
       clock = omega (arith, i.clock, z);
@@ -107,7 +108,7 @@ carry-fits b o u x e h n l r =
 -- after a carry nothing more than 2^24 is left
 due-carry : (b : ℕ) (o : List ℕ) (d w : ℕ) (s : State) → (b ≡ 255 → ⊥) → 134217728 ≤ d → Holds (record { code = d; width = w; count = 0; placed = b ∷ o }) s → Due (suc b ∷ o) (d - 134217728) w s
 due-carry b o d w s n c i =
-    let weight : num (b ∷ o) * unit 0 ≡ num (b ∷ o) * 134217728 = ap (λ v. num (b ∷ o) * v) unit-zero in
+    let weight : placed_number (b ∷ o) * unit 0 ≡ placed_number (b ∷ o) * 134217728 = ap (λ v. placed_number (b ∷ o) * v) unit-zero in
     let fits = carry-fits b o (unit 0) (d + w) unit-zero (omega (arith, i.positive)) n i.clean.0 i.above in
     record {
       low = omega (arith, i.low, weight);
@@ -120,7 +121,7 @@ due-carry b o d w s n c i =
       clean = (fits, i.clean.1);
     }
 
--- ---- BYTEOUT is a carry or none, and then a byte is put
+-- ---- BYTEOUT is a carry or none, and then a byte is with_byte
 
 -- the bytes after the carry
 abbrev pub IsCarried : List ℕ → List ℕ → Type 0
@@ -130,14 +131,14 @@ pub record Settled (m : Machine) (s : State) : Type 0 where
   pub bytes : List ℕ
   pub rest : ℕ
   pub due : Due bytes rest m.width s
-  pub is : byte_out m ≡ put bytes rest m.width
+  pub is : byte_out m ≡ with_byte bytes rest m.width
   pub from : IsCarried m.placed bytes
 
-byte_out-nil : (d w : ℕ) → byte_out (record { code = d; width = w; count = 0; placed = [] }) ≡ put [] d w
+byte_out-nil : (d w : ℕ) → byte_out (record { code = d; width = w; count = 0; placed = [] }) ≡ with_byte [] d w
 unfolding byte_out
 byte_out-nil d w = refl
 
-byte_out-cons : (b : ℕ) (o : List ℕ) (d w : ℕ) → byte_out (record { code = d; width = w; count = 0; placed = b ∷ o }) ≡ cond (eqb b 255) (put (b ∷ o) d w) (cond (ltb d 134217728) (put (b ∷ o) d w) (put (suc b ∷ o) (d - 134217728) w))
+byte_out-cons : (b : ℕ) (o : List ℕ) (d w : ℕ) → byte_out (record { code = d; width = w; count = 0; placed = b ∷ o }) ≡ cond (eqb b 255) (with_byte (b ∷ o) d w) (cond (ltb d 134217728) (with_byte (b ∷ o) d w) (with_byte (suc b ∷ o) (d - 134217728) w))
 unfolding byte_out
 byte_out-cons b o d w = refl
 
@@ -153,8 +154,8 @@ settled-zero [] d w s i = record {
   from = inl refl;
 }
 settled-zero (b ∷ o) d w s i =
-    let here = put (b ∷ o) d w in
-    let carried = put (suc b ∷ o) (d - 134217728) w in
+    let here = with_byte (b ∷ o) d w in
+    let carried = with_byte (suc b ∷ o) (d - 134217728) w in
     elim (cases_eq b 255) [
       | inl e ↦ record {
         bytes = b ∷ o;
@@ -190,4 +191,4 @@ settled m s z i =
 pub byte_out-holds : (m : Machine) (s : State) → m.count ≡ 0 → Holds m s → Holds (byte_out m) s
 byte_out-holds m s z i =
     let t = settled m s z i in
-    subst (λ (k : Machine). Holds k s) (sym t.is) (put-holds t.bytes t.rest m.width s t.due)
+    subst (λ (k : Machine). Holds k s) (sym t.is) (with_byte-holds t.bytes t.rest m.width s t.due)

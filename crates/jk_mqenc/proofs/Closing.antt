@@ -6,7 +6,7 @@ use Rattle.std.proofs.lemmas.Nat.{pow-add, pow_pos, mul-le, pow_below}
 use Rattle.jk_model.specs.Code.{code_value}
 use Rattle.jk_model.specs.Decisions.{State}
 use Rattle.jk_model.proofs.Laws.{code_value-grows}
-use Rattle.jk_model.specs.Placed.{gap, num, end, Clean, onto}
+use Rattle.jk_model.specs.Placed.{gap, placed_number, end, Clean, onto}
 use Rattle.jk_mqenc.specs.Machine.{Machine, unit}
 use Rattle.jk_mqenc.specs.Since.{Since}
 use Rattle.jk_mqenc.proofs.Machine.{unit-is}
@@ -86,13 +86,13 @@ top-above m s n c =
     let xs = c.pushed.before in
     let g = gap xs in
     let clean = subst (λ (b : List ℕ). Clean b) c.pushed.placed c.leads.holds.clean in
-    let low = subst (λ (b : List ℕ). c.u.low ≡ n.code + num b * unit n.count) c.pushed.placed c.leads.holds.low in
-    let low_g = subst (λ i. c.u.low ≡ n.code + num (x ∷ xs) * unit i) c.pushed.count low in
+    let low = subst (λ (b : List ℕ). c.u.low ≡ n.code + placed_number b * unit n.count) c.pushed.placed c.leads.holds.low in
+    let low_g = subst (λ i. c.u.low ≡ n.code + placed_number (x ∷ xs) * unit i) c.pushed.count low in
     let t = 34 - c.more - g in
     let e : t + end (x ∷ xs) ≡ s.doublings + 22 = omega (arith, c.pushed.clock, c.doublings, c.more_most, gap-le xs) in
     let tail = value-tail xs x s.doublings t clean (omega (arith, c.pushed.clock, c.doublings, c.more_most)) e in
-    let top = ceiling c.least c.times c.more (num (x ∷ xs)) n.code g c.ones c.more_least (gap-ge xs) (sym c.low ∙ low_g) in
-    let scaled = ceiling-scaled c.least c.more (num (x ∷ xs)) t g (gap-le xs) (omega (arith, c.more_most, gap-le xs)) top in
+    let top = ceiling c.least c.times c.more (placed_number (x ∷ xs)) n.code g c.ones c.more_least (gap-ge xs) (sym c.low ∙ low_g) in
+    let scaled = ceiling-scaled c.least c.more (placed_number (x ∷ xs)) t g (gap-le xs) (omega (arith, c.more_most, gap-le xs)) top in
     let value : code_value (bytes_of n) s.doublings ≡ code_value (onto (x ∷ xs) []) s.doublings = ap (λ (b : List ℕ). code_value (onto b []) s.doublings) c.pushed.placed in
     omega (arith, value, tail.2, pow_pos tail.0, scaled, c.within)
 
@@ -132,8 +132,8 @@ closed-below t m s n c since =
     let holds = c.leads.holds in
     let clean = subst (λ (b : List ℕ). Clean b) c.pushed.placed holds.clean in
     let ends : end n.placed ≡ end (x ∷ xs) = ap (λ (b : List ℕ). end b) c.pushed.placed in
-    let low = subst (λ (b : List ℕ). c.u.low ≡ n.code + num b * unit n.count) c.pushed.placed holds.low in
-    let low_g = subst (λ i. c.u.low ≡ n.code + num (x ∷ xs) * unit i) c.pushed.count low in
+    let low = subst (λ (b : List ℕ). c.u.low ≡ n.code + placed_number b * unit n.count) c.pushed.placed holds.low in
+    let low_g = subst (λ i. c.u.low ≡ n.code + placed_number (x ∷ xs) * unit i) c.pushed.count low in
     let code_g = subst (λ i. n.code < unit i) c.pushed.count c.pushed.code in
     let value : code_value (bytes_of n) t.doublings ≡ code_value (onto (x ∷ xs) []) t.doublings = ap (λ (b : List ℕ). code_value (onto b []) t.doublings) c.pushed.placed in
     elim (cases_lt (t.doublings + 14) (end (x ∷ xs))) [
@@ -142,6 +142,6 @@ closed-below t m s n c since =
           let i = t.doublings + 22 - end (x ∷ xs) in
           let e : i + end (x ∷ xs) ≡ t.doublings + 22 = omega arith in
           let tail = value-tail xs x t.doublings i clean (omega arith) e in
-          let below = below-tail t.low after.more (num (x ∷ xs)) n.code g i tail.0 (code_value (onto (x ∷ xs) []) t.doublings) code_g (omega (arith, after.low, low_g)) (gap-le xs) (omega (arith, after.clock, c.pushed.clock)) (omega arith) tail.1 tail.2 in
+          let below = below-tail t.low after.more (placed_number (x ∷ xs)) n.code g i tail.0 (code_value (onto (x ∷ xs) []) t.doublings) code_g (omega (arith, after.low, low_g)) (gap-le xs) (omega (arith, after.clock, c.pushed.clock)) (omega arith) tail.1 tail.2 in
           omega (arith, below, value)
     ]

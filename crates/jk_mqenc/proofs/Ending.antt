@@ -13,8 +13,8 @@ ends-last bs = record {
   ends = let e : length bs - length bs ≡ 0 = omega arith in ap (λ i. end (drop i bs)) e;
 }
 
-ends-put : (w e x : ℕ) (bs : List ℕ) → Ends w e bs → Ends w e (x ∷ bs)
-ends-put w e x bs h = record {
+ends-with_byte : (w e x : ℕ) (bs : List ℕ) → Ends w e bs → Ends w e (x ∷ bs)
+ends-with_byte w e x bs h = record {
   enough = omega (arith, h.enough);
   ends = let s : length (x ∷ bs) - w ≡ suc (length bs - w) = omega (arith, h.enough) in ap (λ i. end (drop i (x ∷ bs))) s ∙ h.ends;
 }
@@ -38,7 +38,7 @@ ends-carried w e old new h k =
 pub ends-byte_out : (w e : ℕ) (m : Machine) (s : State) → m.count ≡ 0 → Holds m s → Ends w e m.placed → Ends w e (byte_out m).placed
 ends-byte_out w e m s z i h =
     let r = settled m s z i in
-    subst (λ (n : Machine). Ends w e n.placed) (sym r.is) (ends-put w e _ r.bytes (ends-carried w e m.placed r.bytes r.from h))
+    subst (λ (n : Machine). Ends w e n.placed) (sym r.is) (ends-with_byte w e _ r.bytes (ends-carried w e m.placed r.bytes r.from h))
 
 long-gap : (bs : List ℕ) → 7 ≤ gap bs
 long-gap bs = elim (follows bs) [ after_ff g t ↦ omega arith | plain g t ↦ omega arith ]

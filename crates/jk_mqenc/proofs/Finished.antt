@@ -10,7 +10,7 @@ use Rattle.jk_mqenc.specs.Machine.{Machine}
 use Rattle.jk_mqenc.specs.Holding.{placed_of, IsBegun}
 use Rattle.jk_mqenc.specs.Coding.{set_bits, pushed_out, flushed}
 use Rattle.jk_model.proofs.Laws.{alike-ff}
-use Rattle.jk_mqenc.specs.Encoded.{without_ff}
+use Rattle.jk_mqenc.specs.Encoded.{without_last_ff}
 use Rattle.jk_mqenc.proofs.Prefix.{onto-append}
 use Rattle.jk_mqenc.proofs.Holdings.{none-begun}
 use Rattle.jk_mqenc.proofs.Flush.{pushed_out-is, flushed-is}
@@ -26,24 +26,24 @@ onto-reversed (x ∷ xs) q = ap (λ (y : List ℕ). onto y q) (reverse_onto xs x
 pub onto-held : (items : List ℕ) (b : ℕ) → onto (b ∷ reverse items) [] ≡ items ++ b ∷ []
 onto-held items b = onto-reversed items (b ∷ [])
 
-placed-held : (items f : List ℕ) (held : Option ℕ) (b : ℕ) → placed_of items held ≡ f → held ≡ Some b → without_ff f ≡ cond (eqb b 255) (reverse items) (b ∷ reverse items)
+placed-held : (items f : List ℕ) (held : Option ℕ) (b : ℕ) → placed_of items held ≡ f → held ≡ Some b → without_last_ff f ≡ cond (eqb b 255) (reverse items) (b ∷ reverse items)
 placed-held items f held b e h =
-    ap (λ (x : List ℕ). without_ff x) (sym e) ∙ ap (λ (x : Option ℕ). without_ff (placed_of items x)) h
+    ap (λ (x : List ℕ). without_last_ff x) (sym e) ∙ ap (λ (x : Option ℕ). without_last_ff (placed_of items x)) h
 
-pub last-pushed : (items new f : List ℕ) (held : Option ℕ) (b : ℕ) → placed_of items held ≡ f → held ≡ Some b → (b ≡ 255 → ⊥) → new ≡ items ++ b ∷ [] → new ≡ onto (without_ff f) []
+pub last-pushed : (items new f : List ℕ) (held : Option ℕ) (b : ℕ) → placed_of items held ≡ f → held ≡ Some b → (b ≡ 255 → ⊥) → new ≡ items ++ b ∷ [] → new ≡ onto (without_last_ff f) []
 last-pushed items new f held b e h n k =
     k ∙ sym (ap (λ (x : List ℕ). onto x []) (placed-held items f held b e h ∙ ap (λ (t : Bool). cond t (reverse items) (b ∷ reverse items)) (ne_eqb b 255 n)) ∙ onto-held items b)
 
-pub last-left_off : (items new f : List ℕ) (held : Option ℕ) (b : ℕ) → placed_of items held ≡ f → held ≡ Some b → b ≡ 255 → new ≡ items → new ≡ onto (without_ff f) []
+pub last-left_off : (items new f : List ℕ) (held : Option ℕ) (b : ℕ) → placed_of items held ≡ f → held ≡ Some b → b ≡ 255 → new ≡ items → new ≡ onto (without_last_ff f) []
 last-left_off items new f held b e h n k =
     k ∙ sym (ap (λ (x : List ℕ). onto x []) (placed-held items f held b e h ∙ ap (λ (t : Bool). cond t (reverse items) (b ∷ reverse items)) (eq-eqb b 255 n)) ∙ onto-reversed items [] ∙ append-nil items)
 
-pub last-none : (items new f : List ℕ) (held : Option ℕ) → placed_of items held ≡ f → held ≡ None → IsBegun items held → new ≡ items → new ≡ onto (without_ff f) []
+pub last-none : (items new f : List ℕ) (held : Option ℕ) → placed_of items held ≡ f → held ≡ None → IsBegun items held → new ≡ items → new ≡ onto (without_last_ff f) []
 last-none items new f held e h g k =
-    k ∙ none-begun items held h g ∙ ap (λ (x : List ℕ). onto (without_ff x) []) (sym (ap (λ (x : Option ℕ). placed_of items x) h) ∙ e)
+    k ∙ none-begun items held h g ∙ ap (λ (x : List ℕ). onto (without_last_ff x) []) (sym (ap (λ (x : Option ℕ). placed_of items x) h) ∙ e)
 
 -- a last FF that is left off changes nothing
-pub alike-last : (bs : List ℕ) → Alike (onto (without_ff bs) []) (onto bs [])
+pub alike-last : (bs : List ℕ) → Alike (onto (without_last_ff bs) []) (onto bs [])
 alike-last [] i = refl
 alike-last (b ∷ o) i =
     elim (cases_eq b 255) [

@@ -3,10 +3,11 @@ use Rattle.std.proofs.Common.{◌≡◌, ◌∙◌, ap, sym, subst, ℕ, zero, s
 use Rattle.std.proofs.Math.Nat.{pow-succ'}
 use Rattle.std.proofs.lemmas.Nat.{pow-add, mul-le}
 use Rattle.jk_mqenc.specs.Machine.{Machine, unit, byte_out, Holds}
-use Rattle.jk_mqenc.specs.Coding.{shifted, shifted_by, doubled_by, set_bits, pushed_out}
+use Rattle.jk_model.specs.Decisions.{doubled_by}
+use Rattle.jk_mqenc.specs.Coding.{shifted, shifted_by, set_bits, pushed_out}
 use Rattle.jk_mqenc.proofs.Machine.{unit-is}
 use Rattle.jk_mqenc.proofs.Holdings.{IsHeld, held-room, held-first}
-use Rattle.jk_mqenc.proofs.Runs.{leads-narrow, leads-shifts, shifts-count}
+use Rattle.jk_mqenc.proofs.AtomicSteps.{leads-narrow, leads-shifts, shifts-count}
 use Rattle.jk_mqenc.proofs.ByteOut.{byte_out-holds}
 use Rattle.jk_mqenc.proofs.Flush.{set_bits-set, pushed_out-is, power-small}
 

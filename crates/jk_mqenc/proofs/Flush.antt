@@ -1,17 +1,17 @@
--- FLUSH as a run of atomic steps.
+-- FLUSH as atomic steps.
 use Rattle.std.proofs.Common.{◌≡◌, ◌∙◌, ap, sym, subst, refl, ℕ, ◌+◌, ◌-◌, ◌*◌, ◌/◌, ◌^◌, ◌<◌, ◌≤◌, inl, inr, Bool, cond, List, ◌∷◌, leb, arith}
 use Rattle.std.proofs.lemmas.Bool.{cases_lt, le-leb, lt-leb}
 use Rattle.std.proofs.lemmas.Nat.{pow-add, mod_below, pow_below}
-use Rattle.jk_model.specs.Decisions.{State}
-use Rattle.jk_model.specs.Placed.{gap, num, end}
+use Rattle.jk_model.specs.Decisions.{State, doubled_by}
+use Rattle.jk_model.specs.Placed.{gap, placed_number, end}
 use Rattle.jk_mqenc.specs.Machine.{Machine, unit, byte_out, Holds}
 use Rattle.jk_mqenc.specs.Leads.{Leads}
-use Rattle.jk_mqenc.specs.Coding.{set_bits, shifted_by, doubled_by, pushed_out, flushed}
+use Rattle.jk_mqenc.specs.Coding.{set_bits, shifted_by, pushed_out, flushed}
 use Rattle.jk_model.proofs.Laws.{after_ff, plain, follows}
 use Rattle.jk_mqenc.proofs.Machine.{unit-is}
 use Rattle.jk_mqenc.proofs.ByteOut.{settled}
 use Rattle.jk_mqenc.proofs.Since.{gap-le, unit-positive}
-use Rattle.jk_mqenc.proofs.Runs.{leads-then, leads-narrow, leads-byte_out, leads-shifts, shifts-count, doubled_by-low, doubled_by-doublings}
+use Rattle.jk_mqenc.proofs.AtomicSteps.{leads-then, leads-narrow, leads-byte_out, leads-shifts, shifts-count, doubled_by-low, doubled_by-doublings}
 
 -- ---- SETBITS
 
@@ -149,16 +149,16 @@ closes m s h w i =
     let d2 = doubled_by-doublings m1.count (narrowed m1 s1 m1.code) in
     let count_ge = gap-ge one.pushed.before in
     let count_le = gap-le one.pushed.before in
-    let even : num m.placed * unit m.count ≡ num m.placed * (2 ^ (12 - m.count) * 32768) = ap (λ x. num m.placed * x) (unit-even m.count i.count) in
+    let even : placed_number m.placed * unit m.count ≡ placed_number m.placed * (2 ^ (12 - m.count) * 32768) = ap (λ x. placed_number m.placed * x) (unit-even m.count i.count) in
     subst (λ (n : Machine). Closes m s n) (sym (flushed-is m)) (record {
       u = s2;
       leads = leads-then m m1 m2 s s1 s2 one.leads two.leads;
       pushed = two.pushed;
       least = s.low + (c - m.code);
-      times = set.times + num m.placed * 2 ^ (12 - m.count);
+      times = set.times + placed_number m.placed * 2 ^ (12 - m.count);
       more = m.count + m1.count;
       within = omega (arith, set.least, set.below, i.width);
-      ones = omega (arith, set.least, i.low, together set.times (num m.placed) (2 ^ (12 - m.count)) 0 c (num m.placed * unit m.count) set.ones even);
+      ones = omega (arith, set.least, i.low, together set.times (placed_number m.placed) (2 ^ (12 - m.count)) 0 c (placed_number m.placed * unit m.count) set.ones even);
       more_least = omega (arith, count_ge, one.pushed.count);
       more_most = omega (arith, count_le, one.pushed.count, i.count);
       doublings = omega (arith, d1, d2);

@@ -9,7 +9,7 @@ use Rattle.jk_mqenc.specs.Holding.{placed_of, IsBegun, before}
 use Rattle.jk_mqenc.specs.Coding.{shifted, twice}
 use Rattle.jk_mqenc.proofs.Machine.{unit-is, unit-zero}
 use Rattle.jk_mqenc.proofs.Placements.{made_of}
-use Rattle.jk_mqenc.proofs.Runs.{twice-is}
+use Rattle.jk_mqenc.proofs.AtomicSteps.{twice-is}
 
 before-placed : (items : List ℕ) (held : Option ℕ) → placed_of items held ≡ before held (reverse items)
 before-placed items None = refl

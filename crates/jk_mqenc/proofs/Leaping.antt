@@ -5,12 +5,12 @@ use Rattle.std.proofs.Math.Nat.{pow-succ', mul-lt-mul_of_pos_right}
 use Rattle.std.proofs.Math.Pow.{pow_mono}
 use Rattle.std.proofs.lemmas.Bool.{cases_eq, cases_lt, eq-eqb, ne_eqb, lt-ltb}
 use Rattle.std.proofs.lemmas.Nat.{pow-add, mul-le, pow_pos, leading_top}
-use Rattle.jk_model.specs.Decisions.{State}
+use Rattle.jk_model.specs.Decisions.{State, doubled_by}
 use Rattle.jk_mqenc.specs.Machine.{Machine, byte_out, Holds}
-use Rattle.jk_mqenc.specs.Coding.{shifted, shifted_by, doubled_by, twice, leapt, renorm}
+use Rattle.jk_mqenc.specs.Coding.{shifted, shifted_by, twice, leapt, renorme}
 use Rattle.jk_mqenc.proofs.Holdings.{IsHeld, twice-more}
 use Rattle.jk_mqenc.proofs.Finishing.{at_of, shifted_by-is, code-small}
-use Rattle.jk_mqenc.proofs.Runs.{Goes, twice-is, renorm-suc, below-half, leads-then, leads-shifts, leads-byte_out, byte_out-count, shifts-count}
+use Rattle.jk_mqenc.proofs.AtomicSteps.{Goes, twice-is, renorme-suc, below-half, leads-then, leads-shifts, leads-byte_out, byte_out-count, shifts-count}
 use Rattle.jk_mqenc.proofs.Renorming.{Comes, comes-first, comes-last}
 
 -- ---- the code against the pure function
@@ -61,18 +61,18 @@ leapt-next k m =
 power-more : (w k : ℕ) → w * 2 ^ suc k ≡ 2 * w * 2 ^ k
 power-more w k = ap (λ x. w * x) (pow-succ' 2 k) ∙ grind arith
 
-renorm-leapt : (k l n : ℕ) (m : Machine) → n ≡ suc k + l → suc k ≤ m.count → m.width * 2 ^ suc k < 65536 → renorm n m ≡ renorm l (leapt (suc k) m)
-renorm-leapt k l zero m e h w = absurd (omega arith)
-renorm-leapt zero l (suc n) m e h w =
+renorme-leapt : (k l n : ℕ) (m : Machine) → n ≡ suc k + l → suc k ≤ m.count → m.width * 2 ^ suc k < 65536 → renorme n m ≡ renorme l (leapt (suc k) m)
+renorme-leapt k l zero m e h w = absurd (omega arith)
+renorme-leapt zero l (suc n) m e h w =
     let same : n ≡ l = omega arith in
     let small : m.width < 32768 = below-half m.width (2 ^ 0) (pow_pos 0) (omega (arith, power-more m.width 0)) in
-    renorm-suc n m ∙ ap (λ (t : Bool). cond t (renorm n (twice m)) m) (lt-ltb m.width 32768 small) ∙ ap (λ i. renorm i (twice m)) same ∙ ap (λ (x : Machine). renorm l x) (leapt-one m h)
-renorm-leapt (suc k) l (suc n) m e h w =
+    renorme-suc n m ∙ ap (λ (t : Bool). cond t (renorme n (twice m)) m) (lt-ltb m.width 32768 small) ∙ ap (λ i. renorme i (twice m)) same ∙ ap (λ (x : Machine). renorme l x) (leapt-one m h)
+renorme-leapt (suc k) l (suc n) m e h w =
     let p = power-more m.width (suc k) in
     let small : m.width < 32768 = below-half m.width (2 ^ suc k) (pow_pos (suc k)) (omega (arith, p)) in
     let many : m.count ≡ 1 → ⊥ = λ z. omega (arith, z, h) in
-    let rest = renorm-leapt k l n (shifted m) (omega arith) (omega arith) (omega (arith, p)) in
-    renorm-suc n m ∙ ap (λ (t : Bool). cond t (renorm n (twice m)) m) (lt-ltb m.width 32768 small) ∙ ap (λ (x : Machine). renorm n x) (twice-more m many) ∙ rest ∙ ap (λ (x : Machine). renorm l x) (leapt-next (suc k) m)
+    let rest = renorme-leapt k l n (shifted m) (omega arith) (omega arith) (omega (arith, p)) in
+    renorme-suc n m ∙ ap (λ (t : Bool). cond t (renorme n (twice m)) m) (lt-ltb m.width 32768 small) ∙ ap (λ (x : Machine). renorme n x) (twice-more m many) ∙ rest ∙ ap (λ (x : Machine). renorme l x) (leapt-next (suc k) m)
 
 goes-leapt : (k : ℕ) (m : Machine) (s : State) → k ≤ m.count → m.width * 2 ^ k < 65536 → Holds m s → Goes m s (leapt k m) (doubled_by k s)
 goes-leapt k m s h w i =
@@ -121,7 +121,7 @@ comes-leap-suc now next first k h w e c =
     let power : now.width * 2 ^ suc k * 2 ^ l ≡ now.width * 2 ^ c.left = sym (ap (λ x. now.width * x) (ap (λ i. 2 ^ i) split ∙ pow-add 2 (suc k) l) ∙ grind arith) in
     subst (λ (n : Machine). Comes n first) (sym e) (record {
       left = l;
-      same = sym (renorm-leapt k l c.left now split h w) ∙ c.same;
+      same = sym (renorme-leapt k l c.left now split h w) ∙ c.same;
       enough = subst (λ x. 32768 ≤ x * 2 ^ l) (sym width) (subst (λ x. 32768 ≤ x) (sym power) c.enough);
       count = g.count;
       at = doubled_by (suc k) c.at;
@@ -156,7 +156,7 @@ zeros-all w some small =
     (omega (arith, all, low), omega (arith, below, top), omega (arith, least, half))
 
 -- All doublings at once, where no byte goes out.
-pub leap-all : (now next : Machine) (k : ℕ) → k < now.count → now.width * 2 ^ k < 65536 → 32768 ≤ now.width * 2 ^ k → IsHeld now → next ≡ shifted_by k now → next ≡ renorm 15 now
+pub leap-all : (now next : Machine) (k : ℕ) → k < now.count → now.width * 2 ^ k < 65536 → 32768 ≤ now.width * 2 ^ k → IsHeld now → next ≡ shifted_by k now → next ≡ renorme 15 now
 leap-all now next zero h w l i e = e ∙ comes-last now now (omega (arith, l)) (comes-first now (omega (arith, h)) i)
 leap-all now next (suc k) h w l i e =
     let same : next ≡ leapt (suc k) now = e ∙ sym (leapt-more (suc k) now (λ z. omega (arith, h, z))) in
@@ -164,7 +164,7 @@ leap-all now next (suc k) h w l i e =
     comes-last next now (omega (arith, width, l)) (comes-leap now next now (suc k) (omega arith) (omega (arith, h)) w same (comes-first now (omega (arith, h)) i))
 
 -- The last doublings, where no byte goes out.
-pub leap-rest : (now next first : Machine) (k : ℕ) → k < now.count → now.width * 2 ^ k < 65536 → 32768 ≤ now.width * 2 ^ k → next ≡ shifted_by k now → Comes now first → next ≡ renorm 15 first
+pub leap-rest : (now next first : Machine) (k : ℕ) → k < now.count → now.width * 2 ^ k < 65536 → 32768 ≤ now.width * 2 ^ k → next ≡ shifted_by k now → Comes now first → next ≡ renorme 15 first
 leap-rest now next first zero h w l e c = e ∙ comes-last now first (omega (arith, l)) c
 leap-rest now next first (suc k) h w l e c =
     let same : next ≡ leapt (suc k) now = e ∙ sym (leapt-more (suc k) now (λ z. omega (arith, h, z))) in

@@ -1,7 +1,7 @@
 pub mod ByteOut
 pub mod Machine
 pub mod Since
-pub mod Runs
+pub mod AtomicSteps
 pub mod Flush
 pub mod Closing
 pub mod Spelled
@@ -9,7 +9,7 @@ pub mod Placements
 pub mod Holdings
 pub mod Renorming
 pub mod Prefix
-pub mod Parts
+pub mod Subintervals
 pub mod Ending
 pub mod Finishing
 pub mod Finished

@@ -2,7 +2,7 @@
 use Rattle.std.proofs.Common.{◌≡◌, ◌∙◌, ap, sym, ℕ, suc, ◌+◌, ◌-◌, ◌*◌, ◌^◌, ◌<◌, ◌≤◌, List, [], ◌∷◌, refl, arith}
 use Rattle.std.proofs.Math.Nat.{pow-succ'}
 use Rattle.jk_model.specs.Decisions.{State, initial, doubled}
-use Rattle.jk_model.specs.Placed.{num}
+use Rattle.jk_model.specs.Placed.{placed_number}
 use Rattle.jk_mqenc.specs.Machine.{Machine, unit, HasRoom, Holds}
 
 -- ---- the unit
@@ -78,7 +78,7 @@ pub double : (m : Machine) (s : State) (c : ℕ) → m.count ≡ c + 1 → m.wid
 double m s c h k i =
     let u : unit c ≡ 2 * unit m.count = unit-double c (omega (arith, i.count)) ∙ ap (λ x. 2 * unit x) (sym h) in
     record {
-      low = omega (arith, i.low, twice (num m.placed) (unit m.count) (unit c) u);
+      low = omega (arith, i.low, twice (placed_number m.placed) (unit m.count) (unit c) u);
       clock = omega (arith, i.clock);
       count = omega (arith, i.count);
       width = omega (arith, i.width);

@@ -9,9 +9,9 @@ use Rattle.jk_model.specs.Placed.{end, Clean, onto}
 use Rattle.jk_model.specs.Deciding.{Alike, state_by}
 use Rattle.jk_mqenc.specs.Machine.{Machine, Holds}
 use Rattle.jk_mqenc.specs.Coding.{flushed}
-use Rattle.jk_mqenc.specs.Deciding.{run, Closed, Between}
+use Rattle.jk_mqenc.specs.Deciding.{machine_by, Closed, Between}
 use Rattle.jk_mqenc.proofs.Ending.{ends-last, end-of_more}
-use Rattle.jk_mqenc.proofs.Spelled.{runs, spelled, closed-flushed}
+use Rattle.jk_mqenc.proofs.Spelled.{leads_by, spelled, closed-flushed}
 use Rattle.jk_mqenc.proofs.Closing.{bytes_of}
 use Rattle.jk_mqenc.proofs.Flush.{closes}
 use Rattle.jk_model.proofs.Laws.{value-kept}
@@ -37,16 +37,17 @@ value-part bs i n c h =
 closed-same : (a b : List ℕ) (t : State) → code_value b t.doublings ≡ code_value a t.doublings → Closed a t → Closed b t
 closed-same a b t e c = record { least = omega (arith, c.least); below = omega (arith, c.below) }
 
--- Four bytes more than were placed after the first decisions spell these, whatever was coded after them.
+-- Four bytes more than were placed after the first decisions spell these, whatever was coded after
+-- them.
 pub spelled-part : (m : Machine) (s : State) (ds rest : List Decision) (z : ℕ) (b : List ℕ) → Holds m s → Between m s
-    → let f = (flushed (run (run m s ds) (state_by s ds) rest)).placed in
-    length (run m s ds).placed + 4 ≤ z → z ≤ length f → Alike b (onto (drop (length f - z) f) []) → SpellsFrom b s ds
+    → let f = (flushed (machine_by (machine_by m s ds) (state_by s ds) rest)).placed in
+    length (machine_by m s ds).placed + 4 ≤ z → z ≤ length f → Alike b (onto (drop (length f - z) f) []) → SpellsFrom b s ds
 spelled-part m s ds rest z b i w h k same =
-    let first = runs m s ds i w in
-    let m1 = run m s ds in
+    let first = leads_by m s ds i w in
+    let m1 = machine_by m s ds in
     let s1 = state_by s ds in
-    let second = runs m1 s1 rest first.leads.holds first.between in
-    let m2 = run m1 s1 rest in
+    let second = leads_by m1 s1 rest first.leads.holds first.between in
+    let m2 = machine_by m1 s1 rest in
     let s2 = state_by s1 rest in
     let f = (flushed m2).placed in
     let c = closes m2 s2 second.between.count (omega (arith, second.between.wide, second.leads.holds.width)) second.leads.holds in
@@ -58,10 +59,10 @@ spelled-part m s ds rest z b i w h k same =
     closed-same (bytes_of (flushed m2)) b t (value-alike b part same t.doublings ∙ value-part f (length f - z) t.doublings c.leads.holds.clean decided) whole)
 
 -- The finished bytes, or bytes that read alike, spell all decisions.
-pub spelled-all : (m : Machine) (s : State) (ds : List Decision) (b : List ℕ) → Holds m s → Between m s → Alike b (bytes_of (flushed (run m s ds))) → SpellsFrom b s ds
+pub spelled-all : (m : Machine) (s : State) (ds : List Decision) (b : List ℕ) → Holds m s → Between m s → Alike b (bytes_of (flushed (machine_by m s ds))) → SpellsFrom b s ds
 spelled-all m s ds b i w same =
-    let r = runs m s ds i w in
-    spelled b m s ds i w (λ t since. closed-same (bytes_of (flushed (run m s ds))) b t (value-alike b (bytes_of (flushed (run m s ds))) same t.doublings) (closed-flushed (run m s ds) (state_by s ds) r.leads.holds r.between t since))
+    let r = leads_by m s ds i w in
+    spelled b m s ds i w (λ t since. closed-same (bytes_of (flushed (machine_by m s ds))) b t (value-alike b (bytes_of (flushed (machine_by m s ds))) same t.doublings) (closed-flushed (machine_by m s ds) (state_by s ds) r.leads.holds r.between t since))
 
 -- ---- a first part, in order
 

@@ -5,12 +5,12 @@ use Rattle.std.proofs.lemmas.Bool.{cases_lt}
 use Rattle.std.proofs.lemmas.Nat.{pow-add, pow_pos, mul-le, mod_below}
 use Rattle.jk_model.specs.Code.{code_value}
 use Rattle.jk_model.specs.Decisions.{State, doubled}
-use Rattle.jk_model.specs.Placed.{gap, num, end, Clean, onto}
-use Rattle.jk_mqenc.specs.Machine.{Machine, unit, put, byte_out, Holds}
+use Rattle.jk_model.specs.Placed.{gap, placed_number, end, Clean, onto}
+use Rattle.jk_mqenc.specs.Machine.{Machine, unit, with_byte, byte_out, Holds}
 use Rattle.jk_mqenc.specs.Since.{Since}
 use Rattle.jk_model.proofs.Laws.{after_ff, plain, follows}
 use Rattle.jk_mqenc.proofs.Machine.{unit-is}
-use Rattle.jk_mqenc.proofs.ByteOut.{IsCarried, Settled, settled, put-holds}
+use Rattle.jk_mqenc.proofs.ByteOut.{IsCarried, Settled, settled, with_byte-holds}
 use Rattle.jk_model.proofs.Laws.{value-decided, value-kept}
 
 -- ---- S1, S2, S3
@@ -65,7 +65,7 @@ carry-grows b o q n c d h =
           let e : t + end (b ∷ o) ≡ n + 22 = omega (arith, gap-le o) in
           let old = value-decided o b q n t c m e (omega arith) in
           let new = value-decided o (suc b) q n t d m e (omega arith) in
-          omega (arith, old, new, mul-le (num (b ∷ o)) (2 ^ t) (num (suc b ∷ o)) (2 ^ t) (omega arith) (omega arith))
+          omega (arith, old, new, mul-le (placed_number (b ∷ o)) (2 ^ t) (placed_number (suc b ∷ o)) (2 ^ t) (omega arith) (omega arith))
     ]
 
 carried-grows : (old new : List ℕ) (n : ℕ) → IsCarried old new → Clean old → Clean new → n + 15 ≤ end old → code_value (onto old []) n ≤ code_value (onto new []) n
@@ -95,9 +95,9 @@ regroup : (l a b : ℕ) → l * (a * b) ≡ l * a * b
 regroup l a b = grind arith
 
 -- The last of the placed bytes decides the moment t.
-decided-now : (t s : State) (xs : List ℕ) (x c g k : ℕ) → Clean (x ∷ xs) → end xs ≤ t.doublings + 14 → t.doublings + 15 ≤ end (x ∷ xs) → s.doublings ≡ t.doublings + k → t.low * 2 ^ k ≤ s.low → s.low ≡ c + num (x ∷ xs) * unit g → c < unit g → g ≤ 8 → s.doublings + g ≡ 12 + end (x ∷ xs) → 128 * t.low ≤ code_value (onto (x ∷ xs) []) t.doublings
+decided-now : (t s : State) (xs : List ℕ) (x c g k : ℕ) → Clean (x ∷ xs) → end xs ≤ t.doublings + 14 → t.doublings + 15 ≤ end (x ∷ xs) → s.doublings ≡ t.doublings + k → t.low * 2 ^ k ≤ s.low → s.low ≡ c + placed_number (x ∷ xs) * unit g → c < unit g → g ≤ 8 → s.doublings + g ≡ 12 + end (x ∷ xs) → 128 * t.low ≤ code_value (onto (x ∷ xs) []) t.doublings
 decided-now t s xs x c g k clean before now clock low is below small end_is =
-    let p = num (x ∷ xs) in
+    let p = placed_number (x ∷ xs) in
     let i = t.doublings + 22 - end (x ∷ xs) in
     let e : i + end (x ∷ xs) ≡ t.doublings + 22 = omega (arith, gap-le xs) in
     let j = 7 - i in
@@ -113,11 +113,11 @@ decided-now t s xs x c g k clean before now clock low is below small end_is =
 pub unit-positive : (g : ℕ) → 0 < unit g
 unit-positive g = subst (λ x. 0 < x) (sym (unit-is g)) (pow_pos (27 - g))
 
--- ---- a byte is put
+-- ---- a byte is with_byte
 
-put-kept : (t s : State) (m : Machine) (z : m.count ≡ 0) (i : Holds m s) (r : Settled m s) → Since t m s → t.doublings + 15 ≤ end (put r.bytes r.rest m.width).placed → 128 * t.low ≤ code_value (onto (put r.bytes r.rest m.width).placed []) t.doublings
-put-kept t s m z i r since h =
-    let next = put-holds r.bytes r.rest m.width s r.due in
+with_byte-kept : (t s : State) (m : Machine) (z : m.count ≡ 0) (i : Holds m s) (r : Settled m s) → Since t m s → t.doublings + 15 ≤ end (with_byte r.bytes r.rest m.width).placed → 128 * t.low ≤ code_value (onto (with_byte r.bytes r.rest m.width).placed []) t.doublings
+with_byte-kept t s m z i r since h =
+    let next = with_byte-holds r.bytes r.rest m.width s r.due in
     let u = unit (gap r.bytes) in
     let x = r.rest / u in
     let same = carried-end m.placed r.bytes r.from in
@@ -137,5 +137,5 @@ since-byte_out t m s z i since =
       clock = since.clock;
       low = since.low;
       high = since.high;
-      kept = put-kept t s m z i r since;
+      kept = with_byte-kept t s m z i r since;
     })

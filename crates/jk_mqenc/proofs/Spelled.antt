@@ -12,10 +12,10 @@ use Rattle.jk_model.proofs.Laws.{row-sound, bit-taken, after-decided}
 use Rattle.jk_mqenc.specs.Machine.{Machine, Holds}
 use Rattle.jk_mqenc.specs.Since.{Since}
 use Rattle.jk_mqenc.specs.Leads.{Leads}
-use Rattle.jk_mqenc.specs.Coding.{part, renorm, flushed}
-use Rattle.jk_mqenc.specs.Deciding.{step, run, Closed, Between}
+use Rattle.jk_mqenc.specs.Coding.{subinterval, renorme, flushed}
+use Rattle.jk_mqenc.specs.Deciding.{machine_decided, machine_by, Closed, Between}
 use Rattle.jk_mqenc.proofs.Since.{since-now}
-use Rattle.jk_mqenc.proofs.Runs.{leads-self, leads-then, leads-narrow, goes-renorm, renormalised-suc, renormalised-zero}
+use Rattle.jk_mqenc.proofs.AtomicSteps.{leads-self, leads-then, leads-narrow, goes-renorme, renormalised-suc, renormalised-zero}
 use Rattle.jk_mqenc.proofs.Flush.{closes}
 use Rattle.jk_mqenc.proofs.Closing.{bytes_of, closed-above, closed-below}
 
@@ -44,13 +44,13 @@ leads-contexts m s n u c h = record {
   ends = λ w e k. h.ends w e k;
 }
 
-pub part-lower : (m : Machine) (q : ℕ) → part m q true ≡ record m { width = q }
-unfolding part
-part-lower m q = refl
+pub subinterval-lower : (m : Machine) (q : ℕ) → subinterval m q true ≡ record m { width = q }
+unfolding subinterval
+subinterval-lower m q = refl
 
-pub part-upper : (m : Machine) (q : ℕ) → part m q false ≡ record m { code = m.code + q; width = m.width - q }
-unfolding part
-part-upper m q = refl
+pub subinterval-upper : (m : Machine) (q : ℕ) → subinterval m q false ≡ record m { code = m.code + q; width = m.width - q }
+unfolding subinterval
+subinterval-upper m q = refl
 
 pub taken-lower : (s : State) (cx : ℕ) → taken s cx true ≡ record s { width = qe_at s cx }
 unfolding taken
@@ -72,16 +72,16 @@ leads-upper m s q h i =
     let e : m.width - q ≡ s.width - q = ap (λ x. x - q) i.width in
     subst (λ x. Leads m s (record m { code = m.code + q; width = m.width - q }) (record s { low = s.low + q; width = x })) e (leads-narrow m s q (m.width - q) (omega arith) (omega arith) i)
 
-leads-part : (m : Machine) (s : State) (cx : ℕ) (lower : Bool) → 1 ≤ qe_at s cx → qe_at s cx < m.width → Holds m s → Leads m s (part m (qe_at s cx) lower) (taken s cx lower)
-leads-part m s cx true h k i =
-    subst (λ (n : Machine). Leads m s n (taken s cx true)) (sym (part-lower m (qe_at s cx))) (subst (λ (u : State). Leads m s (record m { width = qe_at s cx }) u) (sym (taken-lower s cx)) (leads-lower m s (qe_at s cx) h (omega arith) i))
-leads-part m s cx false h k i =
-    subst (λ (n : Machine). Leads m s n (taken s cx false)) (sym (part-upper m (qe_at s cx))) (subst (λ (u : State). Leads m s (record m { code = m.code + qe_at s cx; width = m.width - qe_at s cx }) u) (sym (taken-upper s cx)) (leads-upper m s (qe_at s cx) k i))
+leads-subinterval : (m : Machine) (s : State) (cx : ℕ) (lower : Bool) → 1 ≤ qe_at s cx → qe_at s cx < m.width → Holds m s → Leads m s (subinterval m (qe_at s cx) lower) (taken s cx lower)
+leads-subinterval m s cx true h k i =
+    subst (λ (n : Machine). Leads m s n (taken s cx true)) (sym (subinterval-lower m (qe_at s cx))) (subst (λ (u : State). Leads m s (record m { width = qe_at s cx }) u) (sym (taken-lower s cx)) (leads-lower m s (qe_at s cx) h (omega arith) i))
+leads-subinterval m s cx false h k i =
+    subst (λ (n : Machine). Leads m s n (taken s cx false)) (sym (subinterval-upper m (qe_at s cx))) (subst (λ (u : State). Leads m s (record m { code = m.code + qe_at s cx; width = m.width - qe_at s cx }) u) (sym (taken-upper s cx)) (leads-upper m s (qe_at s cx) k i))
 
-part-count : (m : Machine) (q : ℕ) (lower : Bool) → (part m q lower).count ≡ m.count
-unfolding part
-part-count m q true = refl
-part-count m q false = refl
+subinterval-count : (m : Machine) (q : ℕ) (lower : Bool) → (subinterval m q lower).count ≡ m.count
+unfolding subinterval
+subinterval-count m q true = refl
+subinterval-count m q false = refl
 
 contexts_taken-is : (s : State) (cx : ℕ) (lower bit : Bool) → contexts_taken s cx lower bit ≡ record (taken s cx lower) { contexts = cond (ltb (taken s cx lower).width 32768) (set s.contexts cx (moved (context_at s cx) bit)) s.contexts }
 unfolding contexts_taken
@@ -91,11 +91,11 @@ made-is : (s : State) (cx : ℕ) (lower bit : Bool) → made s cx lower bit ≡ 
 unfolding made
 made-is s cx lower bit = refl
 
--- from before a decision to the part, and from the part on
+-- from before a decision to the subinterval, and from the subinterval on
 record Steps (m : Machine) (s : State) (d : Decision) : Type 0 where
-  divides : Leads m s (part m (qe_at s d.0) (takes_lower s d.0 d.1)) (taken s d.0 (takes_lower s d.0 d.1))
-  doubles : Leads (part m (qe_at s d.0) (takes_lower s d.0 d.1)) (taken s d.0 (takes_lower s d.0 d.1)) (step m s d) (decided s d)
-  between : Between (step m s d) (decided s d)
+  divides : Leads m s (subinterval m (qe_at s d.0) (takes_lower s d.0 d.1)) (taken s d.0 (takes_lower s d.0 d.1))
+  doubles : Leads (subinterval m (qe_at s d.0) (takes_lower s d.0 d.1)) (taken s d.0 (takes_lower s d.0 d.1)) (machine_decided m s d) (decided s d)
+  between : Between (machine_decided m s d) (decided s d)
 
 -- ---- the contexts
 
@@ -158,17 +158,17 @@ steps m s d i b =
     let lower = takes_lower s cx d.1 in
     let q = qe_at s cx in
     let row = row-sound (context_at s cx).state (b.states cx) in
-    let n = part m q lower in
+    let n = subinterval m q lower in
     let t = taken s cx lower in
     let u = contexts_taken s cx lower d.1 in
-    let first = leads-part m s cx lower row.smallest (omega (arith, row.largest, b.wide, i.width)) i in
+    let first = leads-subinterval m s cx lower row.smallest (omega (arith, row.largest, b.wide, i.width)) i in
     let second : Leads n t n u = subst (λ (v : State). Leads n t n v) (sym (contexts_taken-is s cx lower d.1)) (leads-contexts n t n t (cond (ltb t.width 32768) (set s.contexts cx (moved (context_at s cx) d.1)) s.contexts) (leads-self n t first.holds)) in
-    let third = goes-renorm 15 n u (omega (arith, b.count, part-count m q lower)) second.holds in
+    let third = goes-renorme 15 n u (omega (arith, b.count, subinterval-count m q lower)) second.holds in
     let positive : 1 ≤ u.width = omega (arith, second.holds.positive, second.holds.width) in
     let same = made-is s cx lower d.1 in
     record {
       divides = first;
-      doubles = subst (λ (v : State). Leads n t (renorm 15 n) v) (sym same) (leads-then n n (renorm 15 n) t u (renormalised 15 u) second third.leads);
+      doubles = subst (λ (v : State). Leads n t (renorme 15 n) v) (sym same) (leads-then n n (renorme 15 n) t u (renormalised 15 u) second third.leads);
       between = record {
         count = third.count;
         wide = subst (λ (v : State). 32768 ≤ v.width) (sym same) (renormalised-wide 15 u (omega arith));
@@ -178,19 +178,19 @@ steps m s d i b =
 
 -- ---- all decisions
 
-pub record Runs (m : Machine) (s : State) (ds : List Decision) : Type 0 where
-  pub leads : Leads m s (run m s ds) (state_by s ds)
-  pub between : Between (run m s ds) (state_by s ds)
+pub record LeadsBy (m : Machine) (s : State) (ds : List Decision) : Type 0 where
+  pub leads : Leads m s (machine_by m s ds) (state_by s ds)
+  pub between : Between (machine_by m s ds) (state_by s ds)
 
-pub runs : (m : Machine) (s : State) (ds : List Decision) → Holds m s → Between m s → Runs m s ds
-runs m s [] i b = record { leads = leads-self m s i; between = b }
-runs m s (d ∷ ds) i b =
+pub leads_by : (m : Machine) (s : State) (ds : List Decision) → Holds m s → Between m s → LeadsBy m s ds
+leads_by m s [] i b = record { leads = leads-self m s i; between = b }
+leads_by m s (d ∷ ds) i b =
     let first = steps m s d i b in
-    let n = part m (qe_at s d.0) (takes_lower s d.0 d.1) in
+    let n = subinterval m (qe_at s d.0) (takes_lower s d.0 d.1) in
     let t = taken s d.0 (takes_lower s d.0 d.1) in
-    let rest = runs (step m s d) (decided s d) ds first.doubles.holds first.between in
+    let rest = leads_by (machine_decided m s d) (decided s d) ds first.doubles.holds first.between in
     record {
-      leads = leads-then m (step m s d) (run m s (d ∷ ds)) s (decided s d) (state_by s (d ∷ ds)) (leads-then m n (step m s d) s t (decided s d) first.divides first.doubles) rest.leads;
+      leads = leads-then m (machine_decided m s d) (machine_by m s (d ∷ ds)) s (decided s d) (state_by s (d ∷ ds)) (leads-then m n (machine_decided m s d) s t (decided s d) first.divides first.doubles) rest.leads;
       between = rest.between;
     }
 
@@ -198,7 +198,7 @@ is_lower-is : (b : List ℕ) (s : State) (cx : ℕ) → is_lower b s cx ≡ ltb 
 unfolding is_lower
 is_lower-is b s cx = refl
 
--- the code value lies in the part that the bit took
+-- the code value lies in the subinterval that the bit took
 side : (b : List ℕ) (s : State) (cx : ℕ) (lower : Bool) → Closed b (taken s cx lower) → is_lower b s cx ≡ lower
 side b s cx true c =
     let k = subst (λ (u : State). Closed b u) (taken-lower s cx) c in
@@ -208,15 +208,15 @@ side b s cx false c =
     is_lower-is b s cx ∙ le-ltb (code_value b s.doublings) (128 * (s.low + qe_at s cx)) k.least
 
 -- Bytes that lie within each interval that the registers remember spell the decisions.
-pub spelled : (b : List ℕ) (m : Machine) (s : State) (ds : List Decision) → Holds m s → Between m s → ((t : State) → Since t (run m s ds) (state_by s ds) → Closed b t) → SpellsFrom b s ds
+pub spelled : (b : List ℕ) (m : Machine) (s : State) (ds : List Decision) → Holds m s → Between m s → ((t : State) → Since t (machine_by m s ds) (state_by s ds) → Closed b t) → SpellsFrom b s ds
 spelled b m s [] i w c = tt
 spelled b m s (d ∷ ds) i w c =
     let first = steps m s d i w in
-    let n = part m (qe_at s d.0) (takes_lower s d.0 d.1) in
+    let n = subinterval m (qe_at s d.0) (takes_lower s d.0 d.1) in
     let t = taken s d.0 (takes_lower s d.0 d.1) in
-    let n2 = step m s d in
+    let n2 = machine_decided m s d in
     let s2 = decided s d in
-    let rest = runs n2 s2 ds first.doubles.holds first.between in
+    let rest = leads_by n2 s2 ds first.doubles.holds first.between in
     let here = c s (rest.leads.since s (first.doubles.since s (first.divides.since s (since-now m s i)))) in
     let there = c t (rest.leads.since t (first.doubles.since t (since-now n t first.divides.holds))) in
     let next = c s2 (rest.leads.since s2 (since-now n2 s2 first.doubles.holds)) in

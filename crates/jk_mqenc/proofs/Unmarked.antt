@@ -8,16 +8,16 @@ use Rattle.jk_model.proofs.Laws.{is_last-is, is_past-suc}
 use Rattle.jk_mqenc.specs.Machine.{Machine}
 use Rattle.jk_model.specs.Placed.{end, Clean, onto}
 use Rattle.jk_mqenc.specs.Coding.{flushed}
-use Rattle.jk_mqenc.specs.Deciding.{run}
-use Rattle.jk_mqenc.specs.Encoded.{started, written_by, without_ff, finished}
+use Rattle.jk_mqenc.specs.Deciding.{machine_by}
+use Rattle.jk_mqenc.specs.Encoded.{started, written_by, without_last_ff, finished}
 use Rattle.jk_mqenc.proofs.Machine.{holds-started}
 use Rattle.jk_model.proofs.Laws.{top-ff}
 use Rattle.jk_model.proofs.Laws.{byte-onto, at-placed}
 use Rattle.jk_mqenc.proofs.Flush.{closes}
-use Rattle.jk_mqenc.proofs.Spelled.{runs}
+use Rattle.jk_mqenc.proofs.Spelled.{leads_by}
 use Rattle.jk_mqenc.proofs.Ending.{ends-last}
 use Rattle.jk_mqenc.proofs.Prefix.{length-onto}
-use Rattle.jk_mqenc.proofs.Encoding.{between-started, run-more, finished-is, written_by-is}
+use Rattle.jk_mqenc.proofs.Encoding.{between-started, machine_by-more, finished-is, written_by-is}
 
 neither-left : (x y : Bool) → (x || y) ≡ false → x ≡ false
 neither-left true y h = h
@@ -54,7 +54,7 @@ after-ff : (o : List ℕ) → Clean (255 ∷ o) → (i : ℕ) → i < length o �
 after-ff [] c i h = absurd (omega arith)
 after-ff (y ∷ ys) c i h = last-other y ys c.1 (λ e. omega (arith, c.0, top-ff y ys e)) i h
 
-either-unmarked : (b : ℕ) (o : List ℕ) → Clean (b ∷ o) → (i : ℕ) → i < length (without_ff (b ∷ o)) → is_last (onto (without_ff (b ∷ o)) []) i ≡ false
+either-unmarked : (b : ℕ) (o : List ℕ) → Clean (b ∷ o) → (i : ℕ) → i < length (without_last_ff (b ∷ o)) → is_last (onto (without_last_ff (b ∷ o)) []) i ≡ false
 either-unmarked b o c i h =
     elim (cases_eq b 255) [
       | inl e ↦
@@ -65,26 +65,26 @@ either-unmarked b o c i h =
           ap (λ (x : List ℕ). is_last (onto x []) i) t ∙ last-other b o c n i (subst (λ (x : List ℕ). i < length x) t h)
     ]
 
-without-unmarked : (f : List ℕ) → Clean f → (i : ℕ) → i < length (without_ff f) → is_last (onto (without_ff f) []) i ≡ false
+without-unmarked : (f : List ℕ) → Clean f → (i : ℕ) → i < length (without_last_ff f) → is_last (onto (without_last_ff f) []) i ≡ false
 without-unmarked [] c i h = absurd (omega arith)
 without-unmarked (b ∷ o) c i h = either-unmarked b o c i h
 
 -- No byte above 8F follows an FF, and the last byte isn't FF.
 pub finished-unmarked : (ds : List Decision) (i : ℕ) → i < length (finished ds) → is_last (finished ds) i ≡ false
 finished-unmarked ds i h =
-    let r = runs started initial ds holds-started between-started in
-    let m = run started initial ds in
+    let r = leads_by started initial ds holds-started between-started in
+    let m = machine_by started initial ds in
     let c = closes m (state_by initial ds) r.between.count (omega (arith, r.between.wide, r.leads.holds.width)) r.leads.holds in
     let f = (flushed m).placed in
-    let size : i < length (without_ff f) = omega (arith, h, ap (λ (x : List ℕ). length x) (finished-is ds), length-onto (without_ff f) []) in
+    let size : i < length (without_last_ff f) = omega (arith, h, ap (λ (x : List ℕ). length x) (finished-is ds), length-onto (without_last_ff f) []) in
     ap (λ (x : List ℕ). is_last x i) (finished-is ds) ∙ without-unmarked f c.leads.holds.clean i size
 
 -- What is placed stays placed.
 pub written-grows : (ds rest : List Decision) → written_by ds ≤ written_by (ds ++ rest)
 written-grows ds rest =
-    let first = runs started initial ds holds-started between-started in
-    let m = run started initial ds in
+    let first = leads_by started initial ds holds-started between-started in
+    let m = machine_by started initial ds in
     let s = state_by initial ds in
-    let second = runs m s rest first.leads.holds first.between in
+    let second = leads_by m s rest first.leads.holds first.between in
     let more = second.leads.ends (length m.placed) (end m.placed) (ends-last m.placed) in
-    omega (arith, written_by-is ds, written_by-is (ds ++ rest), ap (λ (n : Machine). length n.placed) (run-more started initial ds rest), more.enough)
+    omega (arith, written_by-is ds, written_by-is (ds ++ rest), ap (λ (n : Machine). length n.placed) (machine_by-more started initial ds rest), more.enough)

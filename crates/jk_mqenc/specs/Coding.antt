@@ -1,6 +1,5 @@
 -- The encoder's procedures as pure functions.
 use Rattle.std.specs.Prelude.{ℕ, zero, suc, ◌+◌, ◌-◌, ◌*◌, ◌^◌, ◌/◌, Bool, nat_lt, nat_le, ◌==◌, if◌then◌else◌}
-use Rattle.jk_model.specs.Decisions.{State, doubled}
 use Rattle.jk_mqenc.specs.Machine.{Machine, byte_out}
 
 -- a doubling, before a byte is placed
@@ -12,13 +11,13 @@ unfoldable pub twice : Machine → Machine
 twice m = if m.count == 1 then byte_out (shifted m) else shifted m
 
 -- RENORME
-unfoldable pub renorm : ℕ → Machine → Machine
-renorm zero m = m
-renorm (suc k) m = if nat_lt m.width (2 ^ 15) then renorm k (twice m) else m
+unfoldable pub renorme : ℕ → Machine → Machine
+renorme zero m = m
+renorme (suc k) m = if nat_lt m.width (2 ^ 15) then renorme k (twice m) else m
 
--- the lower or the upper part of the interval
-unfoldable pub part : Machine → ℕ → Bool → Machine
-part m q lower = if lower then record m { width = q } else record m { code = m.code + q; width = m.width - q }
+-- the lower or the upper subinterval
+unfoldable pub subinterval : Machine → ℕ → Bool → Machine
+subinterval m q lower = if lower then record m { width = q } else record m { code = m.code + q; width = m.width - q }
 
 -- SETBITS
 unfoldable pub set_bits : ℕ → ℕ → ℕ
@@ -34,10 +33,6 @@ shifted_by (suc k) m = shifted_by k (shifted m)
 -- k doublings, where k is at most CT, and BYTEOUT where it is CT
 unfoldable pub leapt : ℕ → Machine → Machine
 leapt k m = if m.count - k == 0 then byte_out (shifted_by k m) else shifted_by k m
-
-abbrev pub doubled_by : ℕ → State → State
-doubled_by zero s = s
-doubled_by (suc k) s = doubled_by k (doubled s)
 
 -- C <<= CT, BYTEOUT
 unfoldable pub pushed_out : Machine → Machine

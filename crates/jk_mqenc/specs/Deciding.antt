@@ -4,15 +4,15 @@ use Rattle.jk_model.specs.Code.{code_value}
 use Rattle.jk_model.specs.Decisions.{State, Decision, context_at, qe_at}
 use Rattle.jk_model.specs.Deciding.{takes_lower, decided}
 use Rattle.jk_mqenc.specs.Machine.{Machine}
-use Rattle.jk_mqenc.specs.Coding.{part, renorm}
+use Rattle.jk_mqenc.specs.Coding.{subinterval, renorme}
 
 -- the registers after a decision
-abbrev pub step : Machine → State → Decision → Machine
-step m s d = renorm 15 (part m (qe_at s d.0) (takes_lower s d.0 d.1))
+abbrev pub machine_decided : Machine → State → Decision → Machine
+machine_decided m s d = renorme 15 (subinterval m (qe_at s d.0) (takes_lower s d.0 d.1))
 
-abbrev pub run : Machine → State → List Decision → Machine
-run m s [] = m
-run m s (d ∷ ds) = run (step m s d) (decided s d) ds
+abbrev pub machine_by : Machine → State → List Decision → Machine
+machine_by m s [] = m
+machine_by m s (d ∷ ds) = machine_by (machine_decided m s d) (decided s d) ds
 
 -- the bytes name a code value within the interval
 pub record Closed (bytes : List ℕ) (t : State) : Type 0 where

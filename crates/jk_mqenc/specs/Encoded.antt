@@ -7,7 +7,7 @@ use Rattle.jk_model.specs.Placed.{onto}
 use Rattle.jk_mqenc.specs.declared.coder.Registers.{Registers}
 use Rattle.jk_mqenc.specs.Machine.{Machine}
 use Rattle.jk_mqenc.specs.Coding.{flushed}
-use Rattle.jk_mqenc.specs.Deciding.{run}
+use Rattle.jk_mqenc.specs.Deciding.{machine_by}
 
 -- the registers and the contexts, and whether memory was refused
 pub record View : Type 0 where
@@ -29,7 +29,7 @@ started = record { code = 0; width = 2 ^ 15; count = 12; placed = [] }
 
 -- the encoder has coded these decisions, and no memory was refused
 pub record Codes (e : View) (ds : List Decision) : Type 0 where
-  pub machine : e.machine ≡ run started initial ds
+  pub machine : e.machine ≡ machine_by started initial ds
   pub contexts : e.contexts ≡ (state_by initial ds).contexts
   pub lasting : e.failed ≡ false
 
@@ -39,16 +39,16 @@ HasCoded e = e.failed ≡ false → (done : List Decision) × Codes e done
 
 -- How many bytes are placed after these decisions. The one that a carry may still reach is counted.
 unfoldable pub written_by : List Decision → ℕ
-written_by ds = length (run started initial ds).placed
+written_by ds = length (machine_by started initial ds).placed
 
 -- placed bytes, a last FF left off
-abbrev pub without_ff : List ℕ → List ℕ
-without_ff [] = []
-without_ff (b ∷ o) = if b == 255 then o else b ∷ o
+abbrev pub without_last_ff : List ℕ → List ℕ
+without_last_ff [] = []
+without_last_ff (b ∷ o) = if b == 255 then o else b ∷ o
 
 -- the bytes of these decisions: those that FLUSH leaves, a last FF left off
 unfoldable pub finished : List Decision → List ℕ
-finished ds = onto (without_ff (flushed (run started initial ds)).placed) []
+finished ds = onto (without_last_ff (flushed (machine_by started initial ds)).placed) []
 
 -- a decision in one byte: the bit is the highest, the number of the context stands in the others
 abbrev pub decision_of : ℕ → Decision

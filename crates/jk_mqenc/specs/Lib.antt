@@ -5,3 +5,4 @@ pub mod Leads
 pub mod Deciding
 pub mod Holding
 pub mod Encoded
+pub mod Examples

@@ -1,7 +1,8 @@
 -- The registers of the encoder as pure functions (T.800 C.2), and what they hold of the interval.
-use Rattle.std.specs.Prelude.{◌≡◌, ℕ, suc, ◌+◌, ◌-◌, ◌*◌, ◌^◌, ◌/◌, ◌%◌, ◌<◌, ◌≤◌, List, [], ◌∷◌, nat_lt, ◌==◌, if◌then◌else◌}
+use Rattle.std.specs.Prelude.{◌≡◌, ℕ, suc, ◌+◌, ◌-◌, ◌*◌, ◌^◌, ◌/◌, ◌%◌, ◌<◌, ◌≤◌, List, [], ◌∷◌, nat_lt, ◌==◌}
+use Rattle.std.specs.Prelude.{if◌then◌else◌}
 use Rattle.jk_model.specs.Decisions.{State}
-use Rattle.jk_model.specs.Placed.{gap, top, num, end, Clean}
+use Rattle.jk_model.specs.Placed.{gap, top, placed_number, end, Clean}
 
 -- C, A, CT, and the bytes placed, the held one first
 pub record Machine : Type 0 where
@@ -15,16 +16,21 @@ unfoldable pub unit : ℕ → ℕ
 unit count = 2 ^ (27 - count)
 
 -- a byte is placed after these, from the code d
-abbrev pub put : List ℕ → ℕ → ℕ → Machine
-put bs d width = record { code = d % unit (gap bs); width = width; count = gap bs; placed = (d / unit (gap bs)) ∷ bs }
+abbrev pub with_byte : List ℕ → ℕ → ℕ → Machine
+with_byte bs d width = record {
+  code = d % unit (gap bs);
+  width = width;
+  count = gap bs;
+  placed = (d / unit (gap bs)) ∷ bs;
+}
 
 -- BYTEOUT
 abbrev pub placed_after : List ℕ → ℕ → ℕ → Machine
-placed_after [] d width = put [] d width
+placed_after [] d width = with_byte [] d width
 placed_after (b ∷ o) d width =
     if b == 255
-    then put (b ∷ o) d width
-    else if nat_lt d (2 ^ 27) then put (b ∷ o) d width else put (suc b ∷ o) (d - 2 ^ 27) width
+    then with_byte (b ∷ o) d width
+    else if nat_lt d (2 ^ 27) then with_byte (b ∷ o) d width else with_byte (suc b ∷ o) (d - 2 ^ 27) width
 
 unfoldable pub byte_out : Machine → Machine
 byte_out m = placed_after m.placed m.code m.width
@@ -35,7 +41,7 @@ HasRoom [] u x = x ≤ u
 HasRoom (b ∷ o) u x = top o ≡ 143 → b * u + x ≤ 144 * u
 
 pub record Holds (m : Machine) (s : State) : Type 0 where
-  pub low : s.low ≡ m.code + num m.placed * unit m.count
+  pub low : s.low ≡ m.code + placed_number m.placed * unit m.count
   pub clock : s.doublings + m.count ≡ 12 + end m.placed
   pub count : m.count ≤ 12
   pub width : m.width ≡ s.width

@@ -5,7 +5,8 @@ use Rattle.jk_model.specs.Decisions.{State}
 use Rattle.jk_model.specs.Placed.{end, onto}
 use Rattle.jk_mqenc.specs.Machine.{Machine}
 
--- The interval of s lies within that of t, and once the placed bytes decide the code value at t, it isn't below the low end of t.
+-- The interval of s lies within that of t, and once the placed bytes decide the code value at t, it
+-- isn't below the low end of t.
 pub record Since (t : State) (m : Machine) (s : State) : Type 0 where
   pub more : ℕ
   pub clock : s.doublings ≡ t.doublings + more

@@ -1,19 +1,21 @@
 //! The registers of the encoder, and the bytes that it has placed.
 
-ghost use Rattle.std.specs.Prelude.{◌≡◌, ℕ, List, ◌+◌, ◌-◌, ◌*◌, ◌^◌, ◌<◌, ◌≤◌, [], ◌∷◌, IfOk, None, IsNone, length, if◌then◌else◌};
+ghost use Rattle.std.specs.Prelude.{◌≡◌, ℕ, List, ◌+◌, ◌-◌, ◌*◌, ◌^◌, ◌<◌, ◌≤◌, [], ◌∷◌, IfOk, None, IsNone, length};
+ghost use Rattle.std.specs.Prelude.{if◌then◌else◌};
 ghost use Rattle.jk_model.specs.Decisions.{State};
 ghost use Rattle.jk_mqenc.specs.Machine.{Machine, Holds, byte_out, placed_after};
 ghost use Rattle.jk_mqenc.specs.Holding.{before};
 ghost use Rattle.jk_model.specs.Placed.{onto};
-ghost use Rattle.jk_mqenc.specs.Encoded.{started, without_ff, with_registers};
-ghost use Rattle.jk_mqenc.specs.Coding.{shifted_by, leapt, renorm, part, set_bits, pushed_out, flushed};
+ghost use Rattle.jk_mqenc.specs.Encoded.{started, without_last_ff, with_registers};
+ghost use Rattle.jk_mqenc.specs.Coding.{shifted_by, leapt, renorme, subinterval, set_bits, pushed_out, flushed};
 
-use crate::taken::Part;
+use crate::taken::Subinterval;
 use jk_math::Refused;
 use std::alloc::Global;
 use std::marker::Model;
 
-/// The registers C, A and CT of T.800 C.2, the bytes that are written, and the last one, which a carry may still reach.
+/// The registers C, A and CT of T.800 C.2, the bytes that are written, and the last one, which a
+/// carry may still reach.
 #[derive(Drop)]
 pub struct Coder {
     code: u32,
@@ -29,7 +31,12 @@ impl Model for Coder {
 
     ghost Value = { Machine };
 
-    ghost view = { λ c. record { code = c.code; width = c.width; count = c.count; placed = placed_of c.out.items c.held } };
+    ghost view = { λ c. record {
+      code = c.code;
+      width = c.width;
+      count = c.count;
+      placed = placed_of c.out.items c.held;
+    } };
 
     ghost invariant = { λ c. IsBegun c.out.items c.held };
 }
@@ -192,7 +199,7 @@ impl Coder {
         requires fits { self.old.width * 2 ^ times < 2 ^ 16 }
         requires wide { 2 ^ 15 ≤ self.old.width * 2 ^ times }
         requires holds { (s : State) × Holds self.old s }
-        ensures done { IfOk result (λ _. self.new ≡ renorm 15 self.old) }
+        ensures done { IfOk result (λ _. self.new ≡ renorme 15 self.old) }
     {
         let mut due = times;
         loop {
@@ -236,17 +243,22 @@ impl Coder {
         requires fits { registers.width * 2 ^ times < 2 ^ 16 }
         requires wide { 2 ^ 15 ≤ registers.width * 2 ^ times }
         requires holds { (s : State) × Holds (with_registers self.old registers) s }
-        ensures done { IfOk result (λ r. with_registers self.new r ≡ renorm 15 (with_registers self.old registers)) }
+        ensures done { IfOk result (λ r. with_registers self.new r ≡ renorme 15 (with_registers self.old registers)) }
     {
         self.restore(registers);
         self.renormalise_through(times)?;
         Ok(self.registers())
     }
 
-    /// The part of the interval that a decision takes, renormalised (T.800 C.2.4, C.2.6). These are the registers over
-    /// the bytes, and not those that are kept here.
+    /// The subinterval that a decision takes, renormalised (T.800 C.2.4, C.2.6). These are the
+    /// registers over the bytes, and not those that are kept here.
     #[inline(always)]
-    pub fn code(&mut self, registers: Registers, qe: u32, taken: Part) -> Result<Registers, Refused>
+    pub fn code(
+        &mut self,
+        registers: Registers,
+        qe: u32,
+        taken: Subinterval,
+    ) -> Result<Registers, Refused>
         requires least { 1 ≤ qe }
         requires below { qe < registers.width }
         requires width { taken.width ≡ (if taken.lower then qe else registers.width - qe) }
@@ -254,7 +266,8 @@ impl Coder {
         requires wide { 2 ^ 15 ≤ taken.width * 2 ^ taken.times }
         requires count { 1 ≤ registers.count }
         requires holds { (s : State) × Holds (with_registers self.old registers) s }
-        ensures done { IfOk result (λ r. with_registers self.new r ≡ renorm 15 (part (with_registers self.old registers) qe taken.lower)) }
+        ensures done { IfOk result (λ r. with_registers self.new r
+            ≡ renorme 15 (subinterval (with_registers self.old registers) qe taken.lower)) }
     {
         let code = registers.code + if taken.lower { 0 } else { qe };
         if taken.times < registers.count {
@@ -289,9 +302,9 @@ impl Coder {
         requires count { 1 ≤ self.count }
         requires width { 2 ^ 15 ≤ self.width }
         requires holds { (s : State) × Holds self s }
-        ensures bytes { IfOk result (λ v. v.items ≡ onto (without_ff (flushed self).placed) []) }
+        ensures bytes { IfOk result (λ v. v.items ≡ onto (without_last_ff (flushed self).placed) []) }
     {
-        self.code = with_bits(self.code, self.width);
+        self.code = set_bits(self.code, self.width);
         self.width = 1;
         self.push_out()?;
         self.width = 1;
@@ -307,7 +320,7 @@ impl Coder {
 
 /// C with as many of its last bits set as the interval allows (SETBITS).
 #[tactic(auto, unfolding(crate::specs::Coding::set_bits))]
-fn with_bits(code: u32, width: u32) -> u32
+fn set_bits(code: u32, width: u32) -> u32
     requires { code + width < 2 ^ 29 }
     ensures { result ≡ set_bits code width }
 {

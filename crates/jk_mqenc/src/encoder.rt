@@ -1,20 +1,21 @@
 //! The encoder: registers, placed bytes, and the contexts.
 
-ghost use Rattle.std.specs.Prelude.{◌≡◌, ℕ, ◌+◌, ◌-◌, ◌%◌, ◌<◌, ◌≤◌, List, [], ◌∷◌, ◌++◌, All, IfOk, MatchResult, false, true, map, take, get_or, length};
+ghost use Rattle.std.specs.Prelude.{◌≡◌, ℕ, ◌+◌, ◌-◌, ◌%◌, ◌<◌, ◌≤◌, List, [], ◌∷◌, ◌++◌, All, IfOk, MatchResult};
+ghost use Rattle.std.specs.Prelude.{false, true, map, take, get_or, length};
 ghost use Rattle.jk_math.specs.Memory.{IsMemory};
 ghost use Rattle.jk_model.specs.Code.{is_last};
 ghost use Rattle.jk_model.specs.Decisions.{Decision, Spells};
 ghost use Rattle.jk_mqenc.specs.Encoded.{Codes, decision_of, written_by, finished, with_registers, lasting};
 
 use crate::coder::{Coder, Registers};
-use crate::taken::part_of;
+use crate::taken::subinterval_of;
 use jk_math::{Fault, Refused};
 use jk_model::{Step, first_steps};
 use std::alloc::Global;
 use std::marker::Model;
 
-/// The MQ encoder (T.800 Annex C), its contexts as they are at the start of a code-block. After `Memory` it answers
-/// `Memory` for ever.
+/// The MQ encoder (T.800 Annex C), its contexts as they are at the start of a code-block. After
+/// `Memory` it answers `Memory` for ever.
 #[derive(Drop)]
 pub struct Encoder {
     coder: Coder,
@@ -30,12 +31,14 @@ impl Model for Encoder {
 
     ghost view = { λ e. record { machine = e.coder; contexts = e.contexts; failed = is_some e.refused } };
 
-    ghost invariant = { λ e. HasCoded (record { machine = e.coder; contexts = e.contexts; failed = is_some e.refused }) };
+    ghost invariant = { λ e. HasCoded
+        (record { machine = e.coder; contexts = e.contexts; failed = is_some e.refused }) };
 }
 
-/// Codes a decision in the context of this number (ENCODE, T.800 C.2.2), with these registers over the coder's bytes.
+/// Codes a decision in the context of this number (ENCODE, T.800 C.2.2), with these registers over
+/// the coder's bytes.
 #[inline(always)]
-fn step(
+fn encode_one(
     coder: &mut Coder,
     contexts: &mut [Step; 19],
     registers: Registers,
@@ -44,20 +47,25 @@ fn step(
 ) -> Result<Registers, Refused>
     requires cx { cx < 19 }
     requires coded { (ds : List Decision) × Codes (lasting (with_registers coder.old registers) contexts.old) ds }
-    ensures codes { IfOk result (λ r. (ds : List Decision) → Codes (lasting (with_registers coder.old registers) contexts.old) ds
+    ensures codes { IfOk result (λ r. (ds : List Decision)
+        → Codes (lasting (with_registers coder.old registers) contexts.old) ds
         → Codes (lasting (with_registers coder.new r) contexts.new) (ds ++ (cx, bit) ∷ [])) }
 {
     let context = contexts[cx];
     let qe = context.size();
     let less = bit != context.mps();
-    let taken = part_of(registers.width, qe, less);
+    let taken = subinterval_of(registers.width, qe, less);
     contexts[cx] = context.after(taken.moves, less);
     coder.code(registers, qe, taken)
 }
 
 /// Codes these decisions. The registers leave the coder until the last of them is coded.
 #[inline(never)]
-fn steps(coder: &mut Coder, contexts: &mut [Step; 19], decisions: &[u8]) -> Result<(), Refused>
+fn encode_list(
+    coder: &mut Coder,
+    contexts: &mut [Step; 19],
+    decisions: &[u8],
+) -> Result<(), Refused>
     requires decisions { All (λ byte. byte % 128 < 19) decisions.now }
     requires coded { (ds : List Decision) × Codes (lasting coder.old contexts.old) ds }
     ensures codes { IfOk result (λ _. (ds : List Decision) → Codes (lasting coder.old contexts.old) ds
@@ -65,7 +73,7 @@ fn steps(coder: &mut Coder, contexts: &mut [Step; 19], decisions: &[u8]) -> Resu
 {
     let mut registers = coder.registers();
     for byte in decisions {
-        registers = step(
+        registers = encode_one(
             coder,
             contexts,
             registers,
@@ -89,7 +97,8 @@ impl Encoder {
         }
     }
 
-    /// How many bytes are placed by now. A carry may still reach the last of them, which is counted.
+    /// How many bytes are placed by now. A carry may still reach the last of them, which is
+    /// counted.
     pub fn written(&self) -> usize
         ensures { (ds : List Decision) → Codes self.now ds → result ≡ written_by ds }
     {
@@ -109,7 +118,7 @@ impl Encoder {
             return Err(Fault::Memory(refused));
         }
         let registers = self.coder.registers();
-        match step(&mut self.coder, &mut self.contexts, registers, cx, bit) {
+        match encode_one(&mut self.coder, &mut self.contexts, registers, cx, bit) {
             Ok(registers) => {
                 self.coder.restore(registers);
                 Ok(())
@@ -121,8 +130,8 @@ impl Encoder {
         }
     }
 
-    /// Codes these decisions, each in one byte: its highest bit is the decision's, the others are the
-    /// number of its context.
+    /// Codes these decisions, each in one byte: its highest bit is the decision's, the others are
+    /// the number of its context.
     pub fn encode_all(&mut self, decisions: &[u8]) -> Result<(), Fault>
         requires { All (λ byte. byte % 128 < 19) decisions.now }
         ensures codes { IfOk result (λ _. (ds : List Decision)
@@ -134,7 +143,7 @@ impl Encoder {
         if let Some(refused) = self.refused {
             return Err(Fault::Memory(refused));
         }
-        match steps(&mut self.coder, &mut self.contexts, decisions) {
+        match encode_list(&mut self.coder, &mut self.contexts, decisions) {
             Ok(()) => Ok(()),
             Err(memory) => {
                 self.refused = Some(memory);
@@ -143,8 +152,9 @@ impl Encoder {
         }
     }
 
-    /// The bytes of the decisions (FLUSH, T.800 C.2.9). They spell the decisions, and what is four bytes longer than
-    /// was [`written`](Encoder::written) at an earlier time spells those made by then.
+    /// The bytes of the decisions (FLUSH, T.800 C.2.9). They spell the decisions, and what is four
+    /// bytes longer than was [`written`](Encoder::written) at an earlier time spells those made by
+    /// then.
     pub fn finish(self) -> Result<Vec<u8>, Fault>
         ensures exact { IfOk result (λ v. (ds : List Decision) → Codes self ds → v.items ≡ finished ds) }
         ensures spells { IfOk result (λ v. (ds : List Decision) → Codes self ds → Spells v.items ds) }

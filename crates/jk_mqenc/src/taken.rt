@@ -1,12 +1,12 @@
-//! The part of the interval that a decision takes, and how many doublings it needs. No branch hangs on the decision: half of
-//! them can't be foreseen.
+//! The subinterval that a decision takes, and how many doublings it needs. No branch hangs on the
+//! decision: half of them can't be foreseen.
 
 ghost use Rattle.std.specs.Prelude.{◌≡◌, ◌-◌, ◌*◌, ◌^◌, ◌<◌, ◌≤◌, not, nat_lt, if◌then◌else◌};
 ghost use Rattle.std.specs.Bool.{beq};
 
-/// The part of the interval that a decision takes (CODEMPS and CODELPS, T.800 C.2.4).
+/// The subinterval that a decision takes (CODEMPS and CODELPS, T.800 C.2.4).
 #[derive(Clone, Copy)]
-pub struct Part {
+pub struct Subinterval {
     /// Whether it is the lower one, of the size Qe.
     pub lower: bool,
     /// Its width.
@@ -44,10 +44,11 @@ fn digit(bit: bool) -> u32
     bit as u32
 }
 
-/// The part that a decision takes of an interval of this width, where it is for the less probable symbol or not. The less
-/// probable symbol has the smaller part: of the size Qe, or what is left where that is less.
+/// The subinterval that a decision takes of an interval of this width, where it is for the less
+/// probable symbol or not. The less probable symbol has the smaller subinterval: of the size Qe, or
+/// what is left where that is less.
 #[inline(always)]
-pub fn part_of(interval: u32, qe: u32, less: bool) -> Part
+pub fn subinterval_of(interval: u32, qe: u32, less: bool) -> Subinterval
     requires least { 1 ≤ qe }
     requires most { qe ≤ 0x5601 }
     requires wide { 2 ^ 15 ≤ interval }
@@ -62,7 +63,7 @@ pub fn part_of(interval: u32, qe: u32, less: bool) -> Part
     let exchanged = upper < qe;
     let narrow = upper < 0x8000;
     let few = chosen(exchanged, 1 + digit(upper < 0x4000), doublings(qe));
-    Part {
+    Subinterval {
         lower: less != exchanged,
         width: chosen(
             less,

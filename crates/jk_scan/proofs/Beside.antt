@@ -6,7 +6,7 @@ use Rattle.std.proofs.lemmas.Nat.{or_lt, and_le_r}
 use Rattle.std.proofs.lemmas.Bool.{cases_lt}
 use Rattle.std.proofs.lemmas.Bool.Decides.{nat_tests}
 use Rattle.jk_scan.specs.Bits.{on}
-use Rattle.jk_scan.specs.Words.{Truths, of_gathered, Shows, bordered, IsColumn, IsWindow}
+use Rattle.jk_scan.specs.Words.{Truths, of_gathered, Shows, bordered, IsColumn, IsNeighbourhood}
 use Rattle.jk_scan.proofs.BitLaws.{on_or, on_and, on_above, on_shl, on_shl_low, on_shr, on_shr_at}
 use Rattle.jk_scan.proofs.Seen.{AreSeen, AreFour, seen}
 use Rattle.jk_scan.proofs.Nines.{column_at, first, second, third}
@@ -25,33 +25,33 @@ pub at_place : (f : Truths) (j s w c i m n : ℕ) → Shows of_gathered f j s w 
 at_place f j s w c i m n h p q e g =
     h c i p (omega arith) ∙ ap (λ b. b && f (8 * j + c) (4 * s + i - 1)) (gathered_up i q) ∙ ap (λ x. f x (4 * s + i - 1)) (sym e) ∙ ap (f m) (sym g)
 
-pub right_moved : (x left : ℕ) → x < 2 ^ 64 → left < 2 ^ 64 → (f : Truths) (j s c i : ℕ) → Shows of_gathered f (j + 1) s x → Shows of_gathered f j s left
-    → c < 8 → i < 6 → on (bit_or (x * 2 ^ 8 % 2 ^ 64) (left / 2 ^ 56)) (8 * c + i) ≡ f (8 * (j + 1) + c - 1) (4 * s + i - 1)
-right_moved x left xb lb f j s c i hx hl p q =
-    on_or (x * 2 ^ 8 % 2 ^ 64) (left / 2 ^ 56) (8 * c + i) ∙ by_column c p
+pub right_moved : (x west : ℕ) → x < 2 ^ 64 → west < 2 ^ 64 → (f : Truths) (j s c i : ℕ) → Shows of_gathered f (j + 1) s x → Shows of_gathered f j s west
+    → c < 8 → i < 6 → on (bit_or (x * 2 ^ 8 % 2 ^ 64) (west / 2 ^ 56)) (8 * c + i) ≡ f (8 * (j + 1) + c - 1) (4 * s + i - 1)
+right_moved x west xb lb f j s c i hx hl p q =
+    on_or (x * 2 ^ 8 % 2 ^ 64) (west / 2 ^ 56) (8 * c + i) ∙ by_column c p
   where
-    by_column : (c : ℕ) → c < 8 → (on (x * 2 ^ 8 % 2 ^ 64) (8 * c + i) || on (left / 2 ^ 56) (8 * c + i)) ≡ f (8 * (j + 1) + c - 1) (4 * s + i - 1)
+    by_column : (c : ℕ) → c < 8 → (on (x * 2 ^ 8 % 2 ^ 64) (8 * c + i) || on (west / 2 ^ 56) (8 * c + i)) ≡ f (8 * (j + 1) + c - 1) (4 * s + i - 1)
     by_column zero p =
-        right_of (on (x * 2 ^ 8 % 2 ^ 64) (8 * zero + i)) (on (left / 2 ^ 56) (8 * zero + i)) (f (8 * (j + 1) + zero - 1) (4 * s + i - 1))
+        right_of (on (x * 2 ^ 8 % 2 ^ 64) (8 * zero + i)) (on (west / 2 ^ 56) (8 * zero + i)) (f (8 * (j + 1) + zero - 1) (4 * s + i - 1))
         (on_shl_low x 8 64 (8 * zero + i) (omega arith) (omega arith))
-        (on_shr_at left 56 (8 * 7 + i) (8 * zero + i) (omega arith) ∙ at_place f j s left 7 i (8 * (j + 1) + zero - 1) (4 * s + i - 1) hl (omega arith) q (omega arith) (omega arith))
+        (on_shr_at west 56 (8 * 7 + i) (8 * zero + i) (omega arith) ∙ at_place f j s west 7 i (8 * (j + 1) + zero - 1) (4 * s + i - 1) hl (omega arith) q (omega arith) (omega arith))
     by_column (suc c) p =
-        left_of (on (x * 2 ^ 8 % 2 ^ 64) (8 * suc c + i)) (on (left / 2 ^ 56) (8 * suc c + i)) (f (8 * (j + 1) + suc c - 1) (4 * s + i - 1))
+        left_of (on (x * 2 ^ 8 % 2 ^ 64) (8 * suc c + i)) (on (west / 2 ^ 56) (8 * suc c + i)) (f (8 * (j + 1) + suc c - 1) (4 * s + i - 1))
         (on_shl x 8 64 (8 * c + i) (8 * suc c + i) (omega arith) (omega arith) ∙ at_place f (j + 1) s x c i (8 * (j + 1) + suc c - 1) (4 * s + i - 1) hx (omega arith) q (omega arith) (omega arith))
-        (on_shr left 56 (8 * suc c + i) ∙ on_above left 64 (56 + (8 * suc c + i)) lb (omega arith))
+        (on_shr west 56 (8 * suc c + i) ∙ on_above west 64 (56 + (8 * suc c + i)) lb (omega arith))
 
-pub left_moved : (x right : ℕ) → x < 2 ^ 64 → right < 2 ^ 64 → (f : Truths) (j s c i : ℕ) → Shows of_gathered f (j + 1) s x → Shows of_gathered f (j + 2) s right
-    → c < 8 → i < 6 → on (bit_or (x / 2 ^ 8) (right * 2 ^ 56 % 2 ^ 64)) (8 * c + i) ≡ f (8 * (j + 1) + c + 1) (4 * s + i - 1)
-left_moved x right xb rb f j s c i hx hr p q =
-    on_or (x / 2 ^ 8) (right * 2 ^ 56 % 2 ^ 64) (8 * c + i) ∙ elim (cases_lt c 7) [
+pub left_moved : (x east : ℕ) → x < 2 ^ 64 → east < 2 ^ 64 → (f : Truths) (j s c i : ℕ) → Shows of_gathered f (j + 1) s x → Shows of_gathered f (j + 2) s east
+    → c < 8 → i < 6 → on (bit_or (x / 2 ^ 8) (east * 2 ^ 56 % 2 ^ 64)) (8 * c + i) ≡ f (8 * (j + 1) + c + 1) (4 * s + i - 1)
+left_moved x east xb rb f j s c i hx hr p q =
+    on_or (x / 2 ^ 8) (east * 2 ^ 56 % 2 ^ 64) (8 * c + i) ∙ elim (cases_lt c 7) [
       | inl less ↦
-          left_of (on (x / 2 ^ 8) (8 * c + i)) (on (right * 2 ^ 56 % 2 ^ 64) (8 * c + i)) (f (8 * (j + 1) + c + 1) (4 * s + i - 1))
+          left_of (on (x / 2 ^ 8) (8 * c + i)) (on (east * 2 ^ 56 % 2 ^ 64) (8 * c + i)) (f (8 * (j + 1) + c + 1) (4 * s + i - 1))
           (on_shr_at x 8 (8 * (c + 1) + i) (8 * c + i) (omega arith) ∙ at_place f (j + 1) s x (c + 1) i (8 * (j + 1) + c + 1) (4 * s + i - 1) hx (omega arith) q (omega arith) (omega arith))
-          (on_shl_low right 56 64 (8 * c + i) (omega arith) (omega arith))
+          (on_shl_low east 56 64 (8 * c + i) (omega arith) (omega arith))
       | inr last ↦
-          right_of (on (x / 2 ^ 8) (8 * c + i)) (on (right * 2 ^ 56 % 2 ^ 64) (8 * c + i)) (f (8 * (j + 1) + c + 1) (4 * s + i - 1))
+          right_of (on (x / 2 ^ 8) (8 * c + i)) (on (east * 2 ^ 56 % 2 ^ 64) (8 * c + i)) (f (8 * (j + 1) + c + 1) (4 * s + i - 1))
           (on_shr x 8 (8 * c + i) ∙ on_above x 64 (8 + (8 * c + i)) xb (omega arith))
-          (on_shl right 56 64 (8 * 0 + i) (8 * c + i) (omega arith) (omega arith) ∙ at_place f (j + 2) s right 0 i (8 * (j + 1) + c + 1) (4 * s + i - 1) hr (omega arith) q (omega arith) (omega arith))
+          (on_shl east 56 64 (8 * 0 + i) (8 * c + i) (omega arith) (omega arith) ∙ at_place f (j + 2) s east 0 i (8 * (j + 1) + c + 1) (4 * s + i - 1) hr (omega arith) q (omega arith) (omega arith))
     ]
 
 -- three bits of a word from a place's row on
@@ -102,14 +102,14 @@ nine_few l o r =
     (or_lt 9 (bit_and l 7) (bit_and y 0x38) (let e = and_le_r l 7 in omega (arith, e)) (let e = and_le_r y 0x38 in omega (arith, e)))
     (let e = and_le_r z 0x1c0 in omega (arith, e))
 
--- The nine places are those of a window.
-pub nine_of_window : (f : Truths) (C R l o r nine window : ℕ) → IsWindow f C R window → IsColumn f (C + 0 - 1) R l → IsColumn f (C + 1 - 1) R o → IsColumn f (C + 2 - 1) R r
+-- The nine places are those of a neighbourhood.
+pub nine_of_neighbourhood : (f : Truths) (C R l o r nine neighbourhood : ℕ) → IsNeighbourhood f C R neighbourhood → IsColumn f (C + 0 - 1) R l → IsColumn f (C + 1 - 1) R o → IsColumn f (C + 2 - 1) R r
     → ((t : ℕ) → t < 3 → on nine (3 * 0 + t) ≡ on l t) → ((t : ℕ) → t < 3 → on nine (3 * 1 + t) ≡ on o t) → ((t : ℕ) → t < 3 → on nine (3 * 2 + t) ≡ on r t)
-    → (a t : ℕ) → a < 3 → t < 3 → on nine (3 * a + t) ≡ on window (8 * a + t)
-nine_of_window f C R l o r nine window w cl co cr nl own nr zero t p q = nl t q ∙ cl t q ∙ sym (w 0 t p q)
-nine_of_window f C R l o r nine window w cl co cr nl own nr (suc zero) t p q = own t q ∙ co t q ∙ sym (w 1 t p q)
-nine_of_window f C R l o r nine window w cl co cr nl own nr (suc (suc zero)) t p q = nr t q ∙ cr t q ∙ sym (w 2 t p q)
-nine_of_window f C R l o r nine window w cl co cr nl own nr (suc (suc (suc a))) t p q = absurd (omega arith)
+    → (a t : ℕ) → a < 3 → t < 3 → on nine (3 * a + t) ≡ on neighbourhood (8 * a + t)
+nine_of_neighbourhood f C R l o r nine neighbourhood w cl co cr nl centre nr zero t p q = nl t q ∙ cl t q ∙ sym (w 0 t p q)
+nine_of_neighbourhood f C R l o r nine neighbourhood w cl co cr nl centre nr (suc zero) t p q = centre t q ∙ co t q ∙ sym (w 1 t p q)
+nine_of_neighbourhood f C R l o r nine neighbourhood w cl co cr nl centre nr (suc (suc zero)) t p q = nr t q ∙ cr t q ∙ sym (w 2 t p q)
+nine_of_neighbourhood f C R l o r nine neighbourhood w cl co cr nl centre nr (suc (suc (suc a))) t p q = absurd (omega arith)
 
 -- the four places beside a place, out of three columns
 abbrev pub four_of : (l o r : ℕ) → ℕ
@@ -165,11 +165,11 @@ four_small l o r =
     (let e = and_le_r z 8 in omega (arith, e))
 
 -- what they show of the neighbours of the place (x, y)
-pub four_seen : (f : Truths) (x y C R l o r four window : ℕ) → C ≡ x + 8 → R ≡ y + 4 → IsWindow (bordered f) C R window
+pub four_seen : (f : Truths) (x y C R l o r four neighbourhood : ℕ) → C ≡ x + 8 → R ≡ y + 4 → IsNeighbourhood (bordered f) C R neighbourhood
     → IsColumn (bordered f) (C + 0 - 1) R l → IsColumn (bordered f) (C + 1 - 1) R o → IsColumn (bordered f) (C + 2 - 1) R r
     → four < 16 → on four 0 ≡ on l 1 → on four 1 ≡ on o 0 → on four 2 ≡ on o 2 → on four 3 ≡ on r 1 → AreFour f x y four
-four_seen f x y C R l o r four window ex ey w cl co cr small fl fa fb fr =
-    let a : AreSeen f x y window = seen f x y C R window ex ey w in
+four_seen f x y C R l o r four neighbourhood ex ey w cl co cr small fl fa fb fr =
+    let a : AreSeen f x y neighbourhood = seen f x y C R neighbourhood ex ey w in
     record {
       small = small;
       left = fl ∙ cl 1 (omega arith) ∙ sym (w 0 1 (omega arith) (omega arith)) ∙ a.left;

@@ -48,16 +48,16 @@ raised word c i p q = elim (cases_lt i 4) [ inl low ↦ below c p low | inr high
 join : (i : ℕ) (value up down : Bool) → i < 8 → (i ≡ 0 → up ≡ value) → (i ≡ 5 → down ≡ value) → (((of_rows i && value) || (nat_eq i 0 && up)) || (nat_eq i 5 && down)) ≡ (of_gathered i && value)
 join i value up down h a b = grind (arith, nat_tests)
 
-pub gathered : (own above below : ℕ) (f : Truths) (j s : ℕ) → Shows of_rows f j (s + 1) own → Shows of_rows f j s above → Shows of_rows f j (s + 2) below
-    → Shows of_gathered f j (s + 1) (bit_or (bit_or own (bit_and (above / 2 ^ 4) 0x0101_0101_0101_0101)) (bit_and below 0x0202_0202_0202_0202 * 2 ^ 4 % 2 ^ 64))
-gathered own above below f j s o a b c i p q =
+pub gathered : (centre above below : ℕ) (f : Truths) (j s : ℕ) → Shows of_rows f j (s + 1) centre → Shows of_rows f j s above → Shows of_rows f j (s + 2) below
+    → Shows of_gathered f j (s + 1) (bit_or (bit_or centre (bit_and (above / 2 ^ 4) 0x0101_0101_0101_0101)) (bit_and below 0x0202_0202_0202_0202 * 2 ^ 4 % 2 ^ 64))
+gathered centre above below f j s o a b c i p q =
     let k = 8 * c + i in
     let value = f (8 * j + c) (4 * (s + 1) + i - 1) in
     let here = o c i p q in
     let up = lowered above c i p q in
     let down = raised below c i p q in
-    on_or (bit_or own (bit_and (above / 2 ^ 4) 0x0101_0101_0101_0101)) (bit_and below 0x0202_0202_0202_0202 * 2 ^ 4 % 2 ^ 64) k
-    ∙ ap (λ x. x || on (bit_and below 0x0202_0202_0202_0202 * 2 ^ 4 % 2 ^ 64) k) (on_or own (bit_and (above / 2 ^ 4) 0x0101_0101_0101_0101) k)
+    on_or (bit_or centre (bit_and (above / 2 ^ 4) 0x0101_0101_0101_0101)) (bit_and below 0x0202_0202_0202_0202 * 2 ^ 4 % 2 ^ 64) k
+    ∙ ap (λ x. x || on (bit_and below 0x0202_0202_0202_0202 * 2 ^ 4 % 2 ^ 64) k) (on_or centre (bit_and (above / 2 ^ 4) 0x0101_0101_0101_0101) k)
     ∙ ap (λ x. (x || on (bit_and (above / 2 ^ 4) 0x0101_0101_0101_0101) k) || on (bit_and below 0x0202_0202_0202_0202 * 2 ^ 4 % 2 ^ 64) k) here
     ∙ ap (λ x. ((of_rows i && value) || x) || on (bit_and below 0x0202_0202_0202_0202 * 2 ^ 4 % 2 ^ 64) k) up
     ∙ ap (λ x. ((of_rows i && value) || (nat_eq i 0 && on above (8 * c + 4))) || x) down

@@ -9,7 +9,7 @@ pub mod Gathering
 pub mod Neighbours
 pub mod Nines
 pub mod Beside
-pub mod Windows
+pub mod Neighbourhoods
 pub mod Quietness
 pub mod Adding
 pub mod Behind

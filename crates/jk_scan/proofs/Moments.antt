@@ -115,8 +115,9 @@ significant_early s a t x y h =
     at_left : (m p : ℕ) (f q : Bool) → p ≡ 2 * visits s + number s.width x y → q ≡ false → f ≡ (nat_eq m 1 && (q && nat_lt (number s.width x y) t)) → (nat_eq m 1 && nat_lt p t) ≡ f
     at_left m p f q o g e = grind (arith, nat_tests)
 
--- Two blocks at a plane that don't differ in what is coded before a moment: the bits above are the same everywhere, and all
--- bits where the place is coded. (It is said of the places coded in the first of them.)
+-- Two blocks at a plane that don't differ in what is coded before a moment: the bits above are the
+-- same everywhere, and all bits where the place is coded. (It is said of the places coded in the
+-- first of them.)
 pub record Agree (s : BlockShape) (a a' : Field ℕ) (t : ℕ) : Type 0 where
   pub halves : (x y : ℕ) → a x y / 2 ≡ a' x y / 2
   pub coded : (x y : ℕ) → is_coded s a t x y ≡ true → a x y ≡ a' x y

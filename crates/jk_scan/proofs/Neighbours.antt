@@ -118,7 +118,8 @@ members_seen w x inside xb f m j s hx hi hw c i p q =
 pub shown_at : (rows : ℕ → Bool) (f : Truths) (j s word : ℕ) → Shows rows f j s word → ShowsAt rows f j s word
 shown_at rows f j s word h c i p q row = h c i p q ∙ ap (λ b. b && f (8 * j + c) (4 * s + i - 1)) row
 
--- With the border's eight columns and four rows taken off, "next to" is one of the eight neighbours.
+-- With the border's eight columns and four rows taken off, "next to" is one of the eight
+-- neighbours.
 pub touched_is : (f : Truths) (c r : ℕ) → (not (f c r) && aside (up_down (bordered f)) (c + 8) (r + 4)) ≡ (not (f c r) && touched f c r)
 unfolding touched
 touched_is f c r =

@@ -1,4 +1,4 @@
--- The nine places of a window, brought together.
+-- The nine places of a neighbourhood, brought together.
 use Rattle.std.proofs.Common.{◌≡◌, ℕ, ◌+◌, ◌*◌, ◌/◌, ◌^◌, ◌<◌, Bool, true, refl, ap, ◌∙◌, arith}
 use Rattle.std.specs.Int.RustNames.{bit_or, bit_and}
 use Rattle.std.specs.Prelude.{◌&&◌, ◌||◌, nat_eq}

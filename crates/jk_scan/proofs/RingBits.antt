@@ -213,16 +213,16 @@ pub record Beheld (f : Truths) (j s early late left right c row : ℕ) : Type 0 
   pub east : (t : ℕ) → t < 3 → on (bit_or (late / 2 ^ 8) (right * 2 ^ 56 % 2 ^ 64)) (8 * c + (row + t)) ≡ f (8 * (j + 1) + c + 2 - 1) (4 * (s + 1) + (row + 1) - 1 + t - 1)
 
 pub beheld : (f : Truths) (j s own early late left right c row : ℕ) → own < 2 ^ 64 → late < 2 ^ 64 → left < 2 ^ 64 → right < 2 ^ 64 → c < 8 → row < 4 → Turns own early late (8 * c + (row + 1))
-    → IsAround f j s (record { own = own; left = left; right = right }) → Beheld f j s early late left right c row
+    → IsAround f j s (record { centre = own; west = left; east = right }) → Beheld f j s early late left right c row
 beheld f j s own early late left right c row ob tb lb rb p q turns h = record {
   west = λ t l.
       left_of_place own early left (8 * c + (row + 1)) c (row + t) turns.before (omega arith) p (omega arith)
-      ∙ right_moved own left ob lb f j (s + 1) c (row + t) h.own h.left p (omega arith) ∙ at (8 * (j + 1) + c - 1) (8 * (j + 1) + c + 0 - 1) (4 * (s + 1) + (row + t) - 1) (4 * (s + 1) + (row + 1) - 1 + t - 1) (omega arith) (omega arith);
-  above = sym (turns.before (8 * c + row) (omega arith)) ∙ at_place f (j + 1) (s + 1) own c row (8 * (j + 1) + c + 1 - 1) (4 * (s + 1) + (row + 1) - 1 + 0 - 1) h.own p (omega arith) (omega arith) (omega arith);
-  below = sym (turns.behind (8 * c + (row + 2)) (omega arith) (omega arith)) ∙ at_place f (j + 1) (s + 1) own c (row + 2) (8 * (j + 1) + c + 1 - 1) (4 * (s + 1) + (row + 1) - 1 + 2 - 1) h.own p (omega arith) (omega arith) (omega arith);
+      ∙ right_moved own left ob lb f j (s + 1) c (row + t) h.centre h.west p (omega arith) ∙ at (8 * (j + 1) + c - 1) (8 * (j + 1) + c + 0 - 1) (4 * (s + 1) + (row + t) - 1) (4 * (s + 1) + (row + 1) - 1 + t - 1) (omega arith) (omega arith);
+  above = sym (turns.before (8 * c + row) (omega arith)) ∙ at_place f (j + 1) (s + 1) own c row (8 * (j + 1) + c + 1 - 1) (4 * (s + 1) + (row + 1) - 1 + 0 - 1) h.centre p (omega arith) (omega arith) (omega arith);
+  below = sym (turns.behind (8 * c + (row + 2)) (omega arith) (omega arith)) ∙ at_place f (j + 1) (s + 1) own c (row + 2) (8 * (j + 1) + c + 1 - 1) (4 * (s + 1) + (row + 1) - 1 + 2 - 1) h.centre p (omega arith) (omega arith) (omega arith);
   east = λ t l.
       right_of_place own late right (8 * c + (row + 1)) c (row + t) ob tb turns.behind (omega arith) (omega arith)
-      ∙ left_moved own right ob rb f j (s + 1) c (row + t) h.own h.right p (omega arith) ∙ at (8 * (j + 1) + c + 1) (8 * (j + 1) + c + 2 - 1) (4 * (s + 1) + (row + t) - 1) (4 * (s + 1) + (row + 1) - 1 + t - 1) (omega arith) (omega arith);
+      ∙ left_moved own right ob rb f j (s + 1) c (row + t) h.centre h.east p (omega arith) ∙ at (8 * (j + 1) + c + 1) (8 * (j + 1) + c + 2 - 1) (4 * (s + 1) + (row + t) - 1) (4 * (s + 1) + (row + 1) - 1 + t - 1) (omega arith) (omega arith);
 }
   where
     at : (x x' y y' : ℕ) → x ≡ x' → y ≡ y' → f x y ≡ f x' y'
@@ -237,13 +237,13 @@ four_rows P w0 w1 w2 w3 a b d e (suc (suc (suc zero))) h = e
 four_rows P w0 w1 w2 w3 a b d e (suc (suc (suc (suc r)))) h = absurd (omega arith)
 
 behold : (f : Truths) (j s own early late left right r k : ℕ) → own < 2 ^ 64 → late < 2 ^ 64 → left < 2 ^ 64 → right < 2 ^ 64 → k < 64 → r < 4 → k % 8 ≡ r + 1 → Turns own early late k
-    → IsAround f j s (record { own = own; left = left; right = right }) → Beheld f j s early late left right (k / 8) r
+    → IsAround f j s (record { centre = own; west = left; east = right }) → Beheld f j s early late left right (k / 8) r
 behold f j s own early late left right r k ob tb lb rb within few e turns h =
     beheld f j s own early late left right (k / 8) r ob tb lb rb (omega arith) few (subst (λ k. Turns own early late k) (let g : k ≡ 8 * (k / 8) + (r + 1) = omega (arith, e) in g) turns) h
 
 -- the places around a place of a row
 pub ring_row : (f : Truths) (j s own early late left right r k word : ℕ) → own < 2 ^ 64 → late < 2 ^ 64 → left < 2 ^ 64 → right < 2 ^ 64 → k < 64 → r < 4 → Turns own early late k
-    → IsAround f j s (record { own = own; left = left; right = right })
+    → IsAround f j s (record { centre = own; west = left; east = right })
     → ((c t : ℕ) → c < 8 → t < 3 → on word (8 * c + t) ≡ on (bit_or (early * 2 ^ 8 % 2 ^ 64) (left / 2 ^ 56)) (8 * c + (r + t)))
     → ((c : ℕ) → c < 8 → on word (8 * c + 3) ≡ on early (8 * c + r)) → ((c : ℕ) → c < 8 → on word (8 * c + 4) ≡ on late (8 * c + (r + 2)))
     → ((c t : ℕ) → c < 8 → t < 3 → on word (8 * c + (5 + t)) ≡ on (bit_or (late / 2 ^ 8) (right * 2 ^ 56 % 2 ^ 64)) (8 * c + (r + t)))
@@ -252,14 +252,14 @@ ring_row f j s own early late left right r k word ob tb lb rb within few turns h
     let b = behold f j s own early late left right r k ob tb lb rb within few e turns h in
     let c = k / 8 in
     record {
-      left = λ t l. west c t (omega arith) l ∙ b.west t l ∙ ap (λ q. f (8 * (j + 1) + c + 0 - 1) (4 * (s + 1) + q - 1 + t - 1)) (sym e);
+      west = λ t l. west c t (omega arith) l ∙ b.west t l ∙ ap (λ q. f (8 * (j + 1) + c + 0 - 1) (4 * (s + 1) + q - 1 + t - 1)) (sym e);
       above = above c (omega arith) ∙ b.above ∙ ap (λ q. f (8 * (j + 1) + c + 1 - 1) (4 * (s + 1) + q - 1 + 0 - 1)) (sym e);
       below = below c (omega arith) ∙ b.below ∙ ap (λ q. f (8 * (j + 1) + c + 1 - 1) (4 * (s + 1) + q - 1 + 2 - 1)) (sym e);
-      right = λ t l. east c t (omega arith) l ∙ b.east t l ∙ ap (λ q. f (8 * (j + 1) + c + 2 - 1) (4 * (s + 1) + q - 1 + t - 1)) (sym e);
+      east = λ t l. east c t (omega arith) l ∙ b.east t l ∙ ap (λ q. f (8 * (j + 1) + c + 2 - 1) (4 * (s + 1) + q - 1 + t - 1)) (sym e);
     }
 
 pub cross_row : (f : Truths) (j s own early late left right r k word o : ℕ) → own < 2 ^ 64 → late < 2 ^ 64 → left < 2 ^ 64 → right < 2 ^ 64 → k < 64 → r < 4 → Turns own early late k
-    → IsAround f j s (record { own = own; left = left; right = right })
+    → IsAround f j s (record { centre = own; west = left; east = right })
     → ((c : ℕ) → c < 8 → on word (8 * c + (o + 0)) ≡ on (bit_or (early * 2 ^ 8 % 2 ^ 64) (left / 2 ^ 56)) (8 * c + (r + 1)))
     → ((c : ℕ) → c < 8 → on word (8 * c + (o + 1)) ≡ on early (8 * c + r)) → ((c : ℕ) → c < 8 → on word (8 * c + (o + 2)) ≡ on late (8 * c + (r + 2)))
     → ((c : ℕ) → c < 8 → on word (8 * c + (o + 3)) ≡ on (bit_or (late / 2 ^ 8) (right * 2 ^ 56 % 2 ^ 64)) (8 * c + (r + 1)))
@@ -268,8 +268,8 @@ cross_row f j s own early late left right r k word o ob tb lb rb within few turn
     let b = behold f j s own early late left right r k ob tb lb rb within few e turns h in
     let c = k / 8 in
     record {
-      left = west c (omega arith) ∙ b.west 1 (omega arith) ∙ ap (λ q. f (8 * (j + 1) + c + 0 - 1) (4 * (s + 1) + q - 1 + 1 - 1)) (sym e);
+      west = west c (omega arith) ∙ b.west 1 (omega arith) ∙ ap (λ q. f (8 * (j + 1) + c + 0 - 1) (4 * (s + 1) + q - 1 + 1 - 1)) (sym e);
       above = above c (omega arith) ∙ b.above ∙ ap (λ q. f (8 * (j + 1) + c + 1 - 1) (4 * (s + 1) + q - 1 + 0 - 1)) (sym e);
       below = below c (omega arith) ∙ b.below ∙ ap (λ q. f (8 * (j + 1) + c + 1 - 1) (4 * (s + 1) + q - 1 + 2 - 1)) (sym e);
-      right = east c (omega arith) ∙ b.east 1 (omega arith) ∙ ap (λ q. f (8 * (j + 1) + c + 2 - 1) (4 * (s + 1) + q - 1 + 1 - 1)) (sym e);
+      east = east c (omega arith) ∙ b.east 1 (omega arith) ∙ ap (λ q. f (8 * (j + 1) + c + 2 - 1) (4 * (s + 1) + q - 1 + 1 - 1)) (sym e);
     }

@@ -120,10 +120,10 @@ pub ring_zero : (kind : Kind) (f : Truths) (x y word c : ℕ) → IsRing (border
 unfolding zero_context_by zero_at
 ring_zero kind f x y word c r =
     let n = beside f x y in
-    same_counts (low 1 (omega arith) ∙ r.left 1 (omega arith) ∙ n.left) (high 7 6 (omega arith) (omega arith) refl ∙ r.right 1 (omega arith) ∙ n.right)
+    same_counts (low 1 (omega arith) ∙ r.west 1 (omega arith) ∙ n.left) (high 7 6 (omega arith) (omega arith) refl ∙ r.east 1 (omega arith) ∙ n.right)
     (low 3 (omega arith) ∙ r.above ∙ n.above) (high 5 4 (omega arith) (omega arith) refl ∙ r.below ∙ n.below)
-    (low 0 (omega arith) ∙ r.left 0 (omega arith) ∙ n.left_above) (high 6 5 (omega arith) (omega arith) refl ∙ r.right 0 (omega arith) ∙ n.right_above)
-    (low 2 (omega arith) ∙ r.left 2 (omega arith) ∙ n.left_below) (high 8 7 (omega arith) (omega arith) refl ∙ r.right 2 (omega arith) ∙ n.right_below)
+    (low 0 (omega arith) ∙ r.west 0 (omega arith) ∙ n.left_above) (high 6 5 (omega arith) (omega arith) refl ∙ r.east 0 (omega arith) ∙ n.right_above)
+    (low 2 (omega arith) ∙ r.west 2 (omega arith) ∙ n.left_below) (high 8 7 (omega arith) (omega arith) refl ∙ r.east 2 (omega arith) ∙ n.right_below)
   where
     low : (m : ℕ) → m < 4 → on (gapped (word / 2 ^ (8 * c))) m ≡ on word (8 * c + m)
     low m h = gapped_low (word / 2 ^ (8 * c)) m h ∙ on_shr word (8 * c) m
@@ -160,17 +160,17 @@ cross_sign f n x y word c p q =
     let b = beside n x y in
     let places : AreFour f x y (byte % 16) = record {
       small = mod-lt byte (omega arith);
-      left = low byte 0 (omega arith) ∙ byte_at word c 0 (omega arith) ∙ p.left ∙ a.left;
+      left = low byte 0 (omega arith) ∙ byte_at word c 0 (omega arith) ∙ p.west ∙ a.left;
       above = low byte 1 (omega arith) ∙ byte_at word c 1 (omega arith) ∙ p.above ∙ a.above;
       below = low byte 2 (omega arith) ∙ byte_at word c 2 (omega arith) ∙ p.below ∙ a.below;
-      right = low byte 3 (omega arith) ∙ byte_at word c 3 (omega arith) ∙ p.right ∙ a.right;
+      right = low byte 3 (omega arith) ∙ byte_at word c 3 (omega arith) ∙ p.east ∙ a.right;
     } in
     let signs : AreFour n x y (byte / 16) = record {
       small = omega (arith, small);
-      left = on_shr_at byte 4 4 0 refl ∙ byte_at word c 4 (omega arith) ∙ q.left ∙ b.left;
+      left = on_shr_at byte 4 4 0 refl ∙ byte_at word c 4 (omega arith) ∙ q.west ∙ b.left;
       above = on_shr_at byte 4 5 1 refl ∙ byte_at word c 5 (omega arith) ∙ q.above ∙ b.above;
       below = on_shr_at byte 4 6 2 refl ∙ byte_at word c 6 (omega arith) ∙ q.below ∙ b.below;
-      right = on_shr_at byte 4 7 3 refl ∙ byte_at word c 7 (omega arith) ∙ q.right ∙ b.right;
+      right = on_shr_at byte 4 7 3 refl ∙ byte_at word c 7 (omega arith) ∙ q.east ∙ b.right;
     } in
     ap sign_context_by (let e : byte ≡ byte % 16 + 16 * (byte / 16) = omega arith in e) ∙ sign_seen f n x y (byte % 16) (byte / 16) places signs
   where

@@ -7,22 +7,22 @@ use Rattle.jk_scan.specs.Bits.{on}
 use Rattle.jk_scan.specs.Contexts.{zero_context_of, contribution_of, sign_context_of}
 use Rattle.jk_scan.specs.Neighbours.{west, east, north, south, count, zero_at, sign_at}
 use Rattle.jk_scan.specs.Tables.{zero_context_by, sign_context_by}
-use Rattle.jk_scan.specs.Words.{Truths, bordered, IsWindow}
+use Rattle.jk_scan.specs.Words.{Truths, bordered, IsNeighbourhood}
 use Rattle.jk_scan.proofs.BitLaws.{on_mod, on_shr_at}
 
--- what a window shows of the neighbours of the place (x, y)
-pub record AreSeen (f : Truths) (x y window : ℕ) : Type 0 where
-  pub left : on window 1 ≡ west f x y
-  pub right : on window 17 ≡ east f x y
-  pub above : on window 8 ≡ north f x y
-  pub below : on window 10 ≡ south f x y
-  pub left_above : on window 0 ≡ west (north f) x y
-  pub right_above : on window 16 ≡ east (north f) x y
-  pub left_below : on window 2 ≡ west (south f) x y
-  pub right_below : on window 18 ≡ east (south f) x y
+-- what a neighbourhood shows of the neighbours of the place (x, y)
+pub record AreSeen (f : Truths) (x y neighbourhood : ℕ) : Type 0 where
+  pub left : on neighbourhood 1 ≡ west f x y
+  pub right : on neighbourhood 17 ≡ east f x y
+  pub above : on neighbourhood 8 ≡ north f x y
+  pub below : on neighbourhood 10 ≡ south f x y
+  pub left_above : on neighbourhood 0 ≡ west (north f) x y
+  pub right_above : on neighbourhood 16 ≡ east (north f) x y
+  pub left_below : on neighbourhood 2 ≡ west (south f) x y
+  pub right_below : on neighbourhood 18 ≡ east (south f) x y
 
-pub seen : (f : Truths) (x y X Y window : ℕ) → X ≡ x + 8 → Y ≡ y + 4 → IsWindow (bordered f) X Y window → AreSeen f x y window
-seen f x y X Y window ex ey h = record {
+pub seen : (f : Truths) (x y X Y neighbourhood : ℕ) → X ≡ x + 8 → Y ≡ y + 4 → IsNeighbourhood (bordered f) X Y neighbourhood → AreSeen f x y neighbourhood
+seen f x y X Y neighbourhood ex ey h = record {
   left = h 0 1 (omega arith) (omega arith) ∙ place c1 r0 d1 e0;
   right = h 2 1 (omega arith) (omega arith) ∙ place c2 r0 d2 e0;
   above = h 1 0 (omega arith) (omega arith) ∙ place c0 r1 d0 e1;
@@ -72,9 +72,9 @@ seen f x y X Y window ex ey h = record {
     e2 : Y + 2 - 1 - 4 ≡ y + 1
     e2 = omega arith
 
-pub zero_seen : (kind : Kind) (f : Truths) (x y window nine : ℕ) → AreSeen f x y window → ((a t : ℕ) → a < 3 → t < 3 → on nine (3 * a + t) ≡ on window (8 * a + t)) → zero_context_by kind nine ≡ zero_at kind f x y
+pub zero_seen : (kind : Kind) (f : Truths) (x y neighbourhood nine : ℕ) → AreSeen f x y neighbourhood → ((a t : ℕ) → a < 3 → t < 3 → on nine (3 * a + t) ≡ on neighbourhood (8 * a + t)) → zero_context_by kind nine ≡ zero_at kind f x y
 unfolding zero_context_by zero_at
-zero_seen kind f x y window nine w h =
+zero_seen kind f x y neighbourhood nine w h =
     same (h 0 1 (omega arith) (omega arith) ∙ w.left) (h 2 1 (omega arith) (omega arith) ∙ w.right) (h 1 0 (omega arith) (omega arith) ∙ w.above) (h 1 2 (omega arith) (omega arith) ∙ w.below)
     (h 0 0 (omega arith) (omega arith) ∙ w.left_above) (h 2 0 (omega arith) (omega arith) ∙ w.right_above) (h 0 2 (omega arith) (omega arith) ∙ w.left_below) (h 2 2 (omega arith) (omega arith) ∙ w.right_below)
   where

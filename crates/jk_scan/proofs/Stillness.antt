@@ -67,7 +67,7 @@ still_at f m j s x left right d quiet inside lines hx hl hr hi hq c i p q = stil
 pub still_in_turn : (f m : Truths) (j s own early late left right quiet inside c i : ℕ) → late < 2 ^ 64 → left < 2 ^ 64 → right < 2 ^ 64
     → (let d = bit_and (bit_or (bit_or (bit_or (early * 2 ^ 8 % 2 ^ 64) (left / 2 ^ 56)) late) (bit_or (late / 2 ^ 8) (right * 2 ^ 56 % 2 ^ 64))) 0x3F3F_3F3F_3F3F_3F3F in
     (c i : ℕ) → c < 8 → i < 8 → on quiet (8 * c + i) ≡ (nat_eq i 1 && not (any_of_six d c)))
-    → c < 8 → i < 8 → own < 2 ^ 64 → Turns own early late (8 * c) → IsAround f j s (record { own = own; left = left; right = right }) → Shows of_rows m (j + 1) (s + 1) inside
+    → c < 8 → i < 8 → own < 2 ^ 64 → Turns own early late (8 * c) → IsAround f j s (record { centre = own; west = left; east = right }) → Shows of_rows m (j + 1) (s + 1) inside
     → on (bit_and quiet inside) (8 * c + i) ≡ (nat_eq i 1 && (m (8 * (j + 1) + c) (4 * (s + 1)) && not (in_six (aside f) (8 * (j + 1) + c) (s + 1))))
 still_in_turn f m j s own early late left right quiet inside c i tb lb rb hq p q ob turns h hi =
     still_by f m j s c i (bit_and (bit_or (bit_or west late) east) 0x3F3F_3F3F_3F3F_3F3F) quiet inside p q hi row (hq c i p q)
@@ -82,9 +82,9 @@ still_in_turn f m j s own early late left right quiet inside c i tb lb rb hq p q
     row r l =
         masked (bit_or (bit_or west late) east) c r p (omega arith)
         ∙ three (on_or (bit_or west late) east (8 * c + r) ∙ ap (λ b. b || on east (8 * c + r)) (on_or west late (8 * c + r)))
-        (left_of_place own early left (8 * c) c r turns.before (omega arith) p (omega arith) ∙ right_moved own left ob lb f j (s + 1) c r h.own h.left p l)
-        (sym (turns.behind (8 * c + r) (omega arith) (omega arith)) ∙ at_place f (j + 1) (s + 1) own c r (8 * (j + 1) + c) (4 * (s + 1) + r - 1) h.own p l (omega arith) (omega arith))
-        (right_of_place own late right (8 * c) c r ob tb turns.behind (omega arith) (omega arith) ∙ left_moved own right ob rb f j (s + 1) c r h.own h.right p l)
+        (left_of_place own early left (8 * c) c r turns.before (omega arith) p (omega arith) ∙ right_moved own left ob lb f j (s + 1) c r h.centre h.west p l)
+        (sym (turns.behind (8 * c + r) (omega arith) (omega arith)) ∙ at_place f (j + 1) (s + 1) own c r (8 * (j + 1) + c) (4 * (s + 1) + r - 1) h.centre p l (omega arith) (omega arith))
+        (right_of_place own late right (8 * c) c r ob tb turns.behind (omega arith) (omega arith) ∙ left_moved own right ob rb f j (s + 1) c r h.centre h.east p l)
       where
         three : {a w o e w' o' e' : Bool} → a ≡ ((w || o) || e) → w ≡ w' → o ≡ o' → e ≡ e' → (a && nat_lt r 6) ≡ ((o' || w') || e')
         three {a} {w} {o} {e} {w'} {o'} {e'} g h i k = ap (λ a. a && nat_lt r 6) (g ∙ same h i k) ∙ turned w' o' e'

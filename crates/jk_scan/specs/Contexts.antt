@@ -11,7 +11,8 @@ abbrev pub low_context_of : ℕ → ℕ → ℕ → ℕ
 low_context_of horizontal vertical diagonal =
     if nat_le 2 horizontal then 8
     else (if nat_le 1 horizontal then (if nat_le 1 vertical then 7 else (if nat_le 1 diagonal then 6 else 5))
-    else (if nat_le 2 vertical then 4 else (if nat_le 1 vertical then 3 else (if nat_le 2 diagonal then 2 else (if nat_le 1 diagonal then 1 else 0)))))
+    else (if nat_le 2 vertical then 4
+    else (if nat_le 1 vertical then 3 else (if nat_le 2 diagonal then 2 else (if nat_le 1 diagonal then 1 else 0)))))
 
 -- Table D.1, HH: significant neighbours beside, that is across and down, and diagonal
 abbrev pub high_context_of : ℕ → ℕ → ℕ
@@ -28,7 +29,8 @@ zero_context_of HL horizontal vertical diagonal = low_context_of vertical horizo
 zero_context_of LH horizontal vertical diagonal = low_context_of horizontal vertical diagonal
 zero_context_of HH horizontal vertical diagonal = high_context_of (horizontal + vertical) diagonal
 
--- Table D.2: what two neighbours contribute, by how many of them are significant and positive, and significant and negative
+-- Table D.2: what two neighbours contribute, by how many of them are significant and positive, and
+-- significant and negative
 unfoldable pub contribution_of : (positive negative : ℕ) → Contribution
 contribution_of positive negative =
     if nat_lt negative positive then Positive else (if nat_lt positive negative then Negative else Balanced)

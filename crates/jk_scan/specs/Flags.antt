@@ -1,4 +1,5 @@
--- Truth values of the places of a block in an array of words, with a border of words that show nothing.
+-- Truth values of the places of a block in an array of words, with a border of words that show
+-- nothing.
 use Rattle.std.specs.Prelude.{ℕ, ◌+◌, ◌*◌, ◌/◌, ◌%◌, ◌<◌, ◌≤◌, List, get_or}
 use Rattle.jk_scan.specs.declared.shape.BlockShape.{BlockShape}
 use Rattle.jk_scan.specs.Moments.{stripes}
@@ -23,7 +24,8 @@ word_at s j i = i * (across s + 2) + j
 
 -- The words show a field.
 abbrev pub IsDrawn : BlockShape → Truths → List ℕ → Type 0
-IsDrawn s f words = (j i : ℕ) → j < across s + 2 → i < stripes s + 2 → Shows of_rows (bordered f) j i (get_or words (word_at s j i) 0)
+IsDrawn s f words =
+    (j i : ℕ) → j < across s + 2 → i < stripes s + 2 → Shows of_rows (bordered f) j i (get_or words (word_at s j i) 0)
 
 -- the truth value of a place in the words
 abbrev pub flag_at : BlockShape → List ℕ → Truths

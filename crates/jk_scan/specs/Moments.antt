@@ -1,12 +1,14 @@
--- In which order the places of a block are visited, in which pass of a bit-plane each is coded, and which are significant
--- at a moment (T.800 D.1 to D.3). Everything here is a function of the magnitudes at a bit-plane: what the higher planes
--- and this one make of each magnitude, the bit of this plane last. Outside the block they are 0.
-use Rattle.std.specs.Prelude.{ℕ, zero, suc, ◌+◌, ◌*◌, ◌/◌, ◌%◌, Bool, false, not, ◌&&◌, ◌||◌, nat_eq, nat_lt, nat_le, if◌then◌else◌}
+-- In which order the places of a block are visited, in which pass of a bit-plane each is coded, and
+-- which are significant at a moment (T.800 D.1 to D.3). Everything here is a function of the
+-- magnitudes at a bit-plane: what the higher planes and this one make of each magnitude, the bit of
+-- this plane last. Outside the block they are 0.
+use Rattle.std.specs.Prelude.{ℕ, zero, suc, ◌+◌, ◌*◌, ◌/◌, ◌%◌, Bool, false, not, ◌&&◌, ◌||◌, nat_eq, nat_lt, nat_le}
+use Rattle.std.specs.Prelude.{if◌then◌else◌}
 use Rattle.jk_scan.specs.declared.shape.BlockShape.{BlockShape}
 use Rattle.jk_scan.specs.Neighbours.{Field, touched}
 
--- The number of a place in the order of a pass: stripes of four rows, in a stripe the columns from left to right, each
--- downwards (D.1).
+-- The number of a place in the order of a pass: stripes of four rows, in a stripe the columns from
+-- left to right, each downwards (D.1).
 unfoldable pub number : ℕ → Field ℕ
 number width x y = 4 * (width * (y / 4) + x) + y % 4
 
@@ -21,13 +23,16 @@ visits s = 4 * (s.width * stripes s)
 abbrev pub old : Field ℕ → Field Bool
 old a x y = nat_le 2 (a x y)
 
--- Found by the significance propagation pass among the numbers below k: the places that become significant there.
+-- Found by the significance propagation pass among the numbers below k: the places that become
+-- significant there.
 unfoldable pub found : ℕ → Field ℕ → ℕ → Field Bool
 found width a zero x y = false
 found width a (suc k) x y =
-    found width a k x y || (nat_eq (number width x y) k && (nat_eq (a x y) 1 && touched (λ x y. old a x y || found width a k x y) x y))
+    found width a k x y || (nat_eq (number width x y) k
+    && (nat_eq (a x y) 1 && touched (λ x y. old a x y || found width a k x y) x y))
 
--- Coded in the significance propagation pass: not significant before, and a neighbour is significant at that moment (D.3.1).
+-- Coded in the significance propagation pass: not significant before, and a neighbour is
+-- significant at that moment (D.3.1).
 unfoldable pub spread : ℕ → Field ℕ → Field Bool
 spread width a x y = not (old a x y) && touched (λ x' y'. old a x' y' || found width a (number width x y) x' y') x y
 
@@ -45,7 +50,8 @@ cleanup = 2
 unfoldable pub pass_of : ℕ → Field ℕ → Field ℕ
 pass_of width a x y = if old a x y then refinement else (if spread width a x y then propagation else cleanup)
 
--- The moment at which the bit of a place is coded. A moment counts the visits in a bit-plane over its three passes.
+-- The moment at which the bit of a place is coded. A moment counts the visits in a bit-plane over
+-- its three passes.
 unfoldable pub moment : BlockShape → Field ℕ → Field ℕ
 moment s a x y = pass_of s.width a x y * visits s + number s.width x y
 
@@ -53,6 +59,7 @@ moment s a x y = pass_of s.width a x y * visits s + number s.width x y
 abbrev pub is_coded : BlockShape → Field ℕ → ℕ → Field Bool
 is_coded s a t x y = nat_lt (moment s a x y) t
 
--- Significant at a moment: the highest 1 of the magnitude was coded in a higher plane, or before in this one (D.3).
+-- Significant at a moment: the highest 1 of the magnitude was coded in a higher plane, or before in
+-- this one (D.3).
 unfoldable pub significant : BlockShape → Field ℕ → ℕ → Field Bool
 significant s a t x y = old a x y || (nat_eq (a x y) 1 && is_coded s a t x y)

@@ -41,15 +41,20 @@ diagonal f x y = count (west (north f) x y) (east (north f) x y) + count (west (
 
 -- one of the eight neighbours
 unfoldable pub touched : Field Bool → Field Bool
-touched f x y = ((west f x y || east f x y) || (north f x y || south f x y)) || ((west (north f) x y || east (north f) x y) || (west (south f) x y || east (south f) x y))
+touched f x y =
+    ((west f x y || east f x y) || (north f x y || south f x y))
+    || ((west (north f) x y || east (north f) x y) || (west (south f) x y || east (south f) x y))
 
 -- the context of a place that isn't significant, by the significant places
 unfoldable pub zero_at : Kind → Field Bool → Field ℕ
-zero_at kind significant x y = zero_context_of kind (horizontal significant x y) (vertical significant x y) (diagonal significant x y)
+zero_at kind significant x y =
+    zero_context_of kind (horizontal significant x y) (vertical significant x y) (diagonal significant x y)
 
--- The context of a sign, by the significant places and the negative ones. A place that isn't significant counts as neither.
+-- The context of a sign, by the significant places and the negative ones. A place that isn't
+-- significant counts as neither.
 unfoldable pub sign_at : (significant negative : Field Bool) → Field SignContext
 sign_at significant negative x y =
     let plus : Field Bool = λ x y. significant x y && not (negative x y) in
     let minus : Field Bool = λ x y. significant x y && negative x y in
-    sign_context_of (contribution_of (horizontal plus x y) (horizontal minus x y)) (contribution_of (vertical plus x y) (vertical minus x y))
+    sign_context_of (contribution_of (horizontal plus x y) (horizontal minus x y))
+    (contribution_of (vertical plus x y) (vertical minus x y))

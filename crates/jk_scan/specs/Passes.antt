@@ -1,6 +1,7 @@
--- What the passes of a bit-plane decide (T.800 D.3): for each place, column and pass a list of decisions, each the number
--- of its context and its bit.
-use Rattle.std.specs.Prelude.{ℕ, zero, suc, ◌+◌, ◌-◌, ◌*◌, ◌%◌, Bool, true, false, not, ◌&&◌, List, [], ◌∷◌, ◌++◌, nat_eq, nat_le, if◌then◌else◌}
+-- What the passes of a bit-plane decide (T.800 D.3): for each place, column and pass a list of
+-- decisions, each the number of its context and its bit.
+use Rattle.std.specs.Prelude.{ℕ, zero, suc, ◌+◌, ◌-◌, ◌*◌, ◌%◌, Bool, true, false, not, ◌&&◌, List, [], ◌∷◌, ◌++◌}
+use Rattle.std.specs.Prelude.{nat_eq, nat_le, if◌then◌else◌}
 use Rattle.jk_scan.specs.declared.shape.BlockShape.{BlockShape}
 use Rattle.jk_scan.specs.Contexts.{refine_context_of, run_length, uniform}
 use Rattle.jk_scan.specs.Neighbours.{Field, is_inside, touched, zero_at, sign_at}
@@ -38,10 +39,13 @@ new_decisions s p t x y =
     (zero_at s.kind (significant s p.magnitude t) x y, is_one (p.magnitude x y))
     ∷ (if is_one (p.magnitude x y) then sign_decision s p t x y ∷ [] else [])
 
--- The bit of a place that was significant before (D.3.3). The bit after its highest 1 is the first to be refined.
+-- The bit of a place that was significant before (D.3.3). The bit after its highest 1 is the first
+-- to be refined.
 unfoldable pub refining_decision : BlockShape → Plane → ℕ → Field (ℕ × Bool)
-refining_decision s p t x y =
-    (refine_context_of (nat_le 4 (p.magnitude x y)) (touched (significant s p.magnitude t) x y), is_one (p.magnitude x y))
+refining_decision s p t x y = (
+  refine_context_of (nat_le 4 (p.magnitude x y)) (touched (significant s p.magnitude t) x y),
+  is_one (p.magnitude x y),
+)
 
 -- the decisions of a place at a moment, in the pass that codes it
 abbrev pub own_decisions : BlockShape → Plane → (pass t : ℕ) → Field Decided
@@ -60,26 +64,29 @@ place_decisions s p pass x y =
 abbrev pub rows_decisions : BlockShape → Plane → (pass x i j n : ℕ) → Decided
 rows_decisions s p pass x i j n = joined n (λ k. place_decisions s p pass x (4 * i + (j + k)))
 
--- The column of a stripe is coded in run mode (D.3.4): it has four rows, all of them are left to the cleanup pass, and
--- none has a significant neighbour when the column begins.
+-- The column of a stripe is coded in run mode (D.3.4): it has four rows, all of them are left to
+-- the cleanup pass, and none has a significant neighbour when the column begins.
 unfoldable pub runs : BlockShape → Field ℕ → (x i : ℕ) → Bool
 runs s a x i =
     let t = cleanup * visits s + number s.width x (4 * i) in
-    let left : ℕ → Bool = λ j. nat_eq (pass_of s.width a x (4 * i + j)) cleanup && not (touched (significant s a t) x (4 * i + j)) in
+    let left : ℕ → Bool = λ j. nat_eq (pass_of s.width a x (4 * i + j)) cleanup
+    && not (touched (significant s a t) x (4 * i + j)) in
     nat_le (4 * i + 4) s.height && ((left 0 && left 1) && (left 2 && left 3))
 
 -- the first row of a column with the bit 1, or 4
 unfoldable pub first_one : Field ℕ → (x i : ℕ) → ℕ
 first_one a x i =
     if is_one (a x (4 * i + 0)) then 0
-    else (if is_one (a x (4 * i + 1)) then 1 else (if is_one (a x (4 * i + 2)) then 2 else (if is_one (a x (4 * i + 3)) then 3 else 4)))
+    else (if is_one (a x (4 * i + 1)) then 1
+    else (if is_one (a x (4 * i + 2)) then 2 else (if is_one (a x (4 * i + 3)) then 3 else 4)))
 
--- In run mode (D.3.4, Table D.5): whether a row has the bit 1, the first such row, high bit first, its sign, and then the rows
--- below it one by one.
+-- In run mode (D.3.4, Table D.5): whether a row has the bit 1, the first such row, high bit first,
+-- its sign, and then the rows below it one by one.
 unfoldable pub run_decisions : BlockShape → Plane → (x i f : ℕ) → Decided
 run_decisions s p x i f =
     if nat_eq f 4 then (run_length, false) ∷ []
-    else (((run_length, true) ∷ (uniform, nat_le 2 f) ∷ (uniform, is_one f) ∷ sign_decision s p (cleanup * visits s + number s.width x (4 * i + f)) x (4 * i + f) ∷ [])
+    else (((run_length, true) ∷ (uniform, nat_le 2 f) ∷ (uniform, is_one f)
+    ∷ sign_decision s p (cleanup * visits s + number s.width x (4 * i + f)) x (4 * i + f) ∷ [])
     ++ rows_decisions s p cleanup x i (f + 1) (3 - f))
 
 unfoldable pub column_decisions : BlockShape → Plane → (pass x i : ℕ) → Decided

@@ -3,8 +3,9 @@ use Rattle.std.specs.Prelude.{ℕ, ◌+◌}
 use Rattle.jk_scan.specs.declared.around.Around.{Around}
 use Rattle.jk_scan.specs.Words.{Truths, of_gathered, Shows}
 
--- Three gathered words show a field in the word j of the stripe s and beside it. The field has its border.
+-- Three gathered words show a field in the word j of the stripe s and beside it. The field has its
+-- border.
 pub record IsAround (f : Truths) (j s : ℕ) (around : Around) : Type 0 where
-  pub own : Shows of_gathered f (j + 1) (s + 1) around.own
-  pub left : Shows of_gathered f j (s + 1) around.left
-  pub right : Shows of_gathered f (j + 2) (s + 1) around.right
+  pub centre : Shows of_gathered f (j + 1) (s + 1) around.centre
+  pub west : Shows of_gathered f j (s + 1) around.west
+  pub east : Shows of_gathered f (j + 2) (s + 1) around.east

@@ -8,19 +8,21 @@ use Rattle.jk_scan.specs.Bits.{on}
 use Rattle.jk_scan.specs.Contexts.{zero_context_of, contribution_of, sign_context_of}
 use Rattle.jk_scan.specs.Neighbours.{count}
 
--- The context of a place that isn't significant, where bit 3a + t of nine is the place in the a-th of three columns and the
--- t-th of three rows around it.
+-- The context of a place that isn't significant, where bit 3a + t of nine is the place in the a-th
+-- of three columns and the t-th of three rows around it.
 unfoldable pub zero_context_by : Kind → (nine : ℕ) → ℕ
 zero_context_by kind nine =
-    zero_context_of kind (count (on nine 1) (on nine 7)) (count (on nine 3) (on nine 5)) (count (on nine 0) (on nine 6) + count (on nine 2) (on nine 8))
+    zero_context_of kind (count (on nine 1) (on nine 7)) (count (on nine 3) (on nine 5))
+    (count (on nine 0) (on nine 6) + count (on nine 2) (on nine 8))
 
--- The context of a sign, where bits 0 to 3 are whether the places left, above, below and right are significant, and bits 4 to 7
--- whether they are negative.
+-- The context of a sign, where bits 0 to 3 are whether the places left, above, below and right are
+-- significant, and bits 4 to 7 whether they are negative.
 unfoldable pub sign_context_by : (eight : ℕ) → SignContext
 sign_context_by eight =
     let plus : ℕ → Bool = λ b. on eight b && not (on eight (b + 4)) in
     let minus : ℕ → Bool = λ b. on eight b && on eight (b + 4) in
-    sign_context_of (contribution_of (count (plus 0) (plus 3)) (count (minus 0) (minus 3))) (contribution_of (count (plus 1) (plus 2)) (count (minus 1) (minus 2)))
+    sign_context_of (contribution_of (count (plus 0) (plus 3)) (count (minus 0) (minus 3)))
+    (contribution_of (count (plus 1) (plus 2)) (count (minus 1) (minus 2)))
 
 -- a context and its flip in one number
 abbrev pub packed : SignContext → ℕ

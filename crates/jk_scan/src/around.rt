@@ -3,7 +3,8 @@
 ghost use Rattle.std.specs.Prelude.{◌≡◌, ℕ, Bool, not, ◌&&◌, ◌+◌, ◌-◌, ◌*◌, ◌<◌, ◌≤◌, ◌/◌, ◌%◌, true, false, nat_eq};
 ghost use Rattle.jk_scan.specs.Bits.{on};
 ghost use Rattle.jk_scan.specs.Neighbours.{zero_at, sign_at};
-ghost use Rattle.jk_scan.specs.Words.{Truths, of_rows, of_gathered, Shows, bordered, any_of_six, IsNarrow, IsWindow, IsQuietFrom};
+ghost use Rattle.jk_scan.specs.Words.{Truths, of_rows, of_gathered, Shows, bordered, any_of_six, IsNarrow};
+ghost use Rattle.jk_scan.specs.Words.{IsNeighbourhood, IsQuietFrom};
 ghost use Rattle.jk_scan.specs.WordPlaces.{column, row, also};
 ghost use Rattle.jk_scan.specs.Surroundings.{IsAround};
 
@@ -16,11 +17,11 @@ use crate::tables::{sign_context_of_eight, zero_context_of_nine};
 #[derive(Clone, Copy)]
 pub struct Around {
     /// The word.
-    pub own: u64,
+    pub centre: u64,
     /// The word of the eight columns to the left.
-    pub left: u64,
+    pub west: u64,
     /// The word of the eight columns to the right.
-    pub right: u64,
+    pub east: u64,
 }
 
 /// Bit 1 of each byte that is 0.
@@ -33,31 +34,33 @@ pub fn quiet(d: u64) -> u64
 }
 
 /// The three by three places around bit k.
-pub fn window(x: u64, left: u64, right: u64, k: u32) -> u128
+pub fn neighbourhood(centre: u64, west: u64, east: u64, k: u32) -> u128
     requires some { 1 ≤ k }
     requires within { k < 64 }
-    ensures { (f : Truths) (j s c i : ℕ) → Shows of_gathered f (j + 1) s x → Shows of_gathered f j s left → Shows of_gathered f (j + 2) s right
-        → k ≡ 8 * c + i → c < 8 → 1 ≤ i → i < 5 → IsWindow f (8 * (j + 1) + c) (4 * s + i - 1) result }
+    ensures { (f : Truths) (j s c i : ℕ) → Shows of_gathered f (j + 1) s centre → Shows of_gathered f j s west
+        → Shows of_gathered f (j + 2) s east → k ≡ 8 * c + i → c < 8 → 1 ≤ i → i < 5
+        → IsNeighbourhood f (8 * (j + 1) + c) (4 * s + i - 1) result }
 {
-    ((left >> 56) as u128 | (x as u128) << 8 | (right as u128) << 72) >> (k - 1)
+    ((west >> 56) as u128 | (centre as u128) << 8 | (east as u128) << 72) >> (k - 1)
 }
 
 /// The quiet columns behind a place that becomes significant.
 pub fn quiet_behind(quiet: u64, k: u32) -> u64
     requires { k < 64 }
-    ensures behind { (limits : ℕ → Bool) (f : Truths) (j s : ℕ) → of_rows (k % 8) ≡ true → IsQuietFrom limits f (j + 1) (s + 1) (k / 8 + 1) quiet
+    ensures behind { (limits : ℕ → Bool) (f : Truths) (j s : ℕ) → of_rows (k % 8) ≡ true
+        → IsQuietFrom limits f (j + 1) (s + 1) (k / 8 + 1) quiet
         → IsQuietFrom limits (also f (column (j + 1) k) (row (s + 1) k)) (j + 1) (s + 1) (k / 8 + 1) result }
     ensures fewer { (i : ℕ) → on quiet i ≡ false → on result i ≡ false }
 {
     quiet & !(0x200 << (k & 0x38))
 }
 
-/// The nine places of a window, without gaps.
-pub fn nine(window: u128) -> usize
+/// The nine places of a neighbourhood, without gaps.
+pub fn nine(neighbourhood: u128) -> usize
     ensures small { result < 512 }
-    ensures bits { (a t : ℕ) → a < 3 → t < 3 → on result (3 * a + t) ≡ on window (8 * a + t) }
+    ensures bits { (a t : ℕ) → a < 3 → t < 3 → on result (3 * a + t) ≡ on neighbourhood (8 * a + t) }
 {
-    (window & 7 | window >> 5 & 0x38 | window >> 10 & 0x1c0) as usize
+    (neighbourhood & 7 | neighbourhood >> 5 & 0x38 | neighbourhood >> 10 & 0x1c0) as usize
 }
 
 /// The context of the place at bit k, which isn't significant, by the significant places.
@@ -77,7 +80,8 @@ pub fn zero_context_at(kind: Kind, significant: Around, k: u32) -> u8
 pub fn sign_context_at(significant: Around, negative: Around, k: u32) -> SignContext
     requires within { k < 64 }
     requires on_row { of_rows (k % 8) ≡ true }
-    ensures value { (f n : Truths) (j s : ℕ) → IsAround (bordered f) j s significant → IsAround (bordered n) j s negative
+    ensures value { (f n : Truths) (j s : ℕ) → IsAround (bordered f) j s significant
+        → IsAround (bordered n) j s negative
         → result ≡ sign_at f n (column j k) (row s k) }
     ensures small { result.context < 14 }
 {

@@ -1,7 +1,8 @@
 //! The contexts of the three kinds of decisions (T.800 Tables D.1 to D.4).
 
 ghost use Rattle.std.specs.Prelude.{◌≡◌, ◌<◌, ◌≤◌};
-ghost use Rattle.jk_scan.specs.Contexts.{low_context_of, high_context_of, zero_context_of, contribution_of, sign_context_of, refine_context_of};
+ghost use Rattle.jk_scan.specs.Contexts.{low_context_of, high_context_of, zero_context_of, contribution_of};
+ghost use Rattle.jk_scan.specs.Contexts.{sign_context_of, refine_context_of};
 
 use crate::shape::Kind;
 
@@ -25,8 +26,8 @@ pub struct SignContext {
     pub flip: bool,
 }
 
-/// The context of the bit of a coefficient that isn't significant yet, from its significant neighbours across, down and
-/// diagonal (T.800 Table D.1).
+/// The context of the bit of a coefficient that isn't significant yet, from its significant
+/// neighbours across, down and diagonal (T.800 Table D.1).
 #[tactic(auto, unfolding(crate::specs::Contexts::zero_context_of))]
 pub fn zero_context(kind: Kind, horizontal: u8, vertical: u8, diagonal: u8) -> u8
     requires horizontal { horizontal ≤ 2 }
@@ -77,7 +78,8 @@ fn high_context(beside: u8, diagonal: u8) -> u8
     }
 }
 
-/// What two neighbours contribute, by how many of them are significant and positive, and significant and negative.
+/// What two neighbours contribute, by how many of them are significant and positive, and
+/// significant and negative.
 #[tactic(auto, unfolding(crate::specs::Contexts::contribution_of))]
 pub fn contributed(positive: u8, negative: u8) -> Contribution
     ensures { result ≡ contribution_of positive negative }
@@ -112,8 +114,8 @@ pub fn sign_context(horizontal: Contribution, vertical: Contribution) -> SignCon
     SignContext { context, flip }
 }
 
-/// The context of the bit of a coefficient that is significant, by whether a bit of it was refined before, and whether one of
-/// its eight neighbours is significant (T.800 Table D.4).
+/// The context of the bit of a coefficient that is significant, by whether a bit of it was refined
+/// before, and whether one of its eight neighbours is significant (T.800 Table D.4).
 #[tactic(auto, unfolding(crate::specs::Contexts::refine_context_of))]
 pub fn refine_context(refined: bool, touched: bool) -> u8
     ensures value { result ≡ refine_context_of refined touched }

@@ -1,4 +1,5 @@
-//! Truth values of the places of a block in an array of words, with a border of words that show nothing.
+//! Truth values of the places of a block in an array of words, with a border of words that show
+//! nothing.
 
 ghost use Rattle.std.specs.Prelude.{◌≡◌, ℕ, ◌+◌, ◌-◌, ◌*◌, ◌<◌, ◌≤◌, nat_le, ◌&&◌};
 ghost use Rattle.jk_scan.specs.Bits.{on};
@@ -41,10 +42,10 @@ fn gathered(words: &[u64; WORDS], shape: BlockShape, word: usize, stripe: usize)
     requires stripe { stripe < stripes shape }
     ensures { (f : Truths) → IsDrawn shape f words.now → Shows of_gathered (bordered f) word (stripe + 1) result }
 {
-    let own = words[word_place(shape, word, stripe + 1)];
+    let centre = words[word_place(shape, word, stripe + 1)];
     let above = words[word_place(shape, word, stripe)];
     let below = words[word_place(shape, word, stripe + 2)];
-    gather(own, above, below)
+    gather(centre, above, below)
 }
 
 /// A word of a stripe and those beside it, each with the rows above and below.
@@ -56,9 +57,9 @@ pub fn seen_around(words: &[u64; WORDS], shape: BlockShape, word: usize, stripe:
     ensures { (f : Truths) → IsDrawn shape f words.now → IsAround (bordered f) word stripe result }
 {
     Around {
-        own: gathered(words, shape, word + 1, stripe),
-        left: gathered(words, shape, word, stripe),
-        right: gathered(words, shape, word + 2, stripe),
+        centre: gathered(words, shape, word + 1, stripe),
+        west: gathered(words, shape, word, stripe),
+        east: gathered(words, shape, word + 2, stripe),
     }
 }
 

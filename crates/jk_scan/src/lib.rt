@@ -1,5 +1,6 @@
-//! The coefficient bit modelling of T.800 Annex D: the order in which the coefficients of a code-block are visited,
-//! their neighbours, the contexts, and the definition of what each coding pass decides.
+//! The coefficient bit modelling of T.800 Annex D: the order in which the coefficients of a
+//! code-block are visited, their neighbours, the contexts, and the definition of what each coding
+//! pass decides.
 #![tactic(auto)]
 
 mod around;
@@ -12,7 +13,9 @@ mod tables;
 mod theorems;
 mod words;
 
-pub use around::{Around, nine, quiet, quiet_behind, sign_context_at, window, zero_context_at};
+pub use around::{
+    Around, neighbourhood, nine, quiet, quiet_behind, sign_context_at, zero_context_at,
+};
 pub use contexts::{
     Contribution, SignContext, contributed, refine_context, sign_context, zero_context,
 };

@@ -6,8 +6,8 @@ ghost use Rattle.jk_scan.specs.Tables.{zero_contexts, first_of, sign_entries, ze
 use crate::contexts::SignContext;
 use crate::shape::Kind;
 
-/// The contexts of a place that isn't significant (T.800 Table D.1), by the nine places of its window: those of LL and LH,
-/// then those of HL, then those of HH.
+/// The contexts of a place that isn't significant (T.800 Table D.1), by the nine places of its
+/// neighbourhood: those of LL and LH, then those of HL, then those of HH.
 #[rattlefmt::skip]
 static ZEROS: [u8; 1536] = [
     0, 1, 5, 6, 1, 2, 6, 6, 3, 3, 7, 7, 3, 3, 7, 7, 0, 1, 5, 6, 1, 2, 6, 6, 3, 3, 7, 7, 3, 3, 7, 7,
@@ -60,8 +60,9 @@ static ZEROS: [u8; 1536] = [
     7, 8, 7, 8, 8, 8, 8, 8, 7, 8, 7, 8, 8, 8, 8, 8, 7, 8, 7, 8, 8, 8, 8, 8, 7, 8, 7, 8, 8, 8, 8, 8,
 ];
 
-/// Twice the context of a sign, and 1 more where it is flipped (T.800 Tables D.2 and D.3), by which of the places left, above,
-/// below and right are significant, in bits 0 to 3, and which are negative, in bits 4 to 7.
+/// Twice the context of a sign, and 1 more where it is flipped (T.800 Tables D.2 and D.3), by which
+/// of the places left, above, below and right are significant, in bits 0 to 3, and which are
+/// negative, in bits 4 to 7.
 #[rattlefmt::skip]
 static SIGNS: [u8; 256] = [
     18, 24, 20, 26, 20, 26, 20, 26, 24, 24, 26, 26, 26, 26, 26, 26,
@@ -107,7 +108,7 @@ fn sign_entry(eight: usize) -> u8
     SIGNS[eight]
 }
 
-/// The context of a place that isn't significant, by the nine places of its window.
+/// The context of a place that isn't significant, by the nine places of its neighbourhood.
 pub fn zero_context_of_nine(kind: Kind, nine: usize) -> u8
     requires { nine < 512 }
     ensures value { result ≡ zero_context_by kind nine }
@@ -116,8 +117,8 @@ pub fn zero_context_of_nine(kind: Kind, nine: usize) -> u8
     zero_entry(first_entry(kind) + nine)
 }
 
-/// The context of a sign, by which of the places left, above, below and right are significant, in bits 0 to 3, and which
-/// are negative, in bits 4 to 7.
+/// The context of a sign, by which of the places left, above, below and right are significant, in
+/// bits 0 to 3, and which are negative, in bits 4 to 7.
 pub fn sign_context_of_eight(eight: usize) -> SignContext
     requires { eight < 256 }
     ensures value { result ≡ sign_context_by eight }

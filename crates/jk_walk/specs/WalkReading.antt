@@ -129,12 +129,3 @@ pub record IsPlace (size : ℕ) (s : TileShape) (w : PacketPlace) : Type 0 where
 
 abbrev pub ArePlaces : (size : ℕ) → TileShape → List PacketPlace → Type 0
 ArePlaces size s places = AllByRecursion (IsPlace size s) places
-
--- The bytes of a packet of the tile, within so many.
-pub record IsSpan (size : ℕ) (s : TileShape) (v : PacketSpan) : Type 0 where
-  pub name : IsName s v.name
-  pub order : v.start ≤ v.end
-  pub within : v.end ≤ size
-
-abbrev pub AreSpans : (size : ℕ) → TileShape → List PacketSpan → Type 0
-AreSpans size s spans = AllByRecursion (IsSpan size s) spans

@@ -1,5 +1,6 @@
-//! Blocks: width, height, kind, bit-planes, passes, the segment in hexadecimal, and what an independent decoder answered:
-//! the values, or for a larger block `#` and a checksum of them, or a fault.
+//! Blocks: width, height, kind, bit-planes, passes, the segment in hexadecimal, and what an
+//! independent decoder answered: the values, or for a larger block `#` and a checksum of them, or a
+//! fault.
 
 pub const CASES: &str = "\
 1 1 LL 1 1 07 -1

@@ -3,8 +3,8 @@ use jk_block::{Block, BlockShape, Kind, decode, one_meaning, read_is_meant};
 use jk_math::Fault;
 use jk_mqdec::Decoder;
 use jk_scan::{
-    Contribution, contributed, gather, members, nine, quiet, quiet_behind, refine_context,
-    sign_context, untouched_context, window, zero_context,
+    Around, Contribution, contributed, gather, members, neighbourhood, nine, quiet, quiet_behind,
+    refine_context, sign_context, untouched_context, zero_context,
 };
 use std::alloc::{AllocError, Global};
 use std::process::Abort;
@@ -173,13 +173,23 @@ fn contexts(rt: HostRuntime) -> Result<(), Fail> {
 #[test]
 fn words(rt: HostRuntime) -> Result<(), Fail> {
     assert_eq!(rt; gather(0x1E, 0x10, 0x02), 0x3F);
-    assert_eq!(rt; members(0x02, 0, 0, 0x1E1E), 0x604);
+    assert_eq!(rt;
+        members(
+            Around {
+                centre: 0x02,
+                west: 0,
+                east: 0
+            },
+            0x1E1E
+        ),
+        0x604
+    );
     assert_eq!(rt; quiet(0), 0x0202_0202_0202_0202);
     assert_eq!(rt;
         quiet_behind(0x0202_0202_0202_0202, 1),
         0x0202_0202_0202_0002
     );
-    assert_eq!(rt; window(1 << 9, 0, 0, 10), 0x100);
+    assert_eq!(rt; neighbourhood(1 << 9, 0, 0, 10), 0x100);
     assert_eq!(rt; nine(0x100), 8);
     untouched_context();
     Ok(())

@@ -1,5 +1,6 @@
-//! Blocks of extreme and alternating coefficients in every size up to 9 by 9, as an independent encoder writes them: width,
-//! height, kind, pattern, bit-planes, passes, how many bytes, and a checksum of bytes and marks.
+//! Blocks of extreme and alternating coefficients in every size up to 9 by 9, as an independent
+//! encoder writes them: width, height, kind, pattern, bit-planes, passes, how many bytes, and a
+//! checksum of bytes and marks.
 
 pub const WRITTEN: &str = "\
 1 1 LL extreme 23 67 2 1885514466

@@ -1,5 +1,5 @@
-//! Segments in hexadecimal, the number of the first context, and the bits that an independent decoder by the code value
-//! gave. `!` stands where the code value had left the interval.
+//! Segments in hexadecimal, the number of the first context, and the bits that an independent
+//! decoder by the code value gave. `!` stands where the code value had left the interval.
 
 pub const CASES: &str = "\
 4D01E5 5 01011001100110010000010110100001

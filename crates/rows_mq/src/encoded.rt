@@ -1,6 +1,6 @@
-//! Decisions in hexadecimal, each in a byte (the bit is the highest, the number of the context stands in the others), a
-//! number of them, how many bytes an independent encoder of the registers had placed after so many, and its bytes at the
-//! end. `-` has none.
+//! Decisions in hexadecimal, each in a byte (the bit is the highest, the number of the context
+//! stands in the others), a number of them, how many bytes an independent encoder of the registers
+//! had placed after so many, and its bytes at the end. `-` has none.
 
 pub const ENCODED: &str = "\
 - 0 0 FF7F

@@ -7,8 +7,8 @@ use std::alloc::Global;
 use std::process::Abort;
 use std::test::Fail;
 
-/// Codes the decisions and finishes; `written` is asked for before the decision of this number, or at the end. A
-/// decoder then finds the decisions in the bytes.
+/// Codes the decisions and finishes; `written` is asked for before the decision of this number, or
+/// at the end. A decoder then finds the decisions in the bytes.
 fn encodes(
     rt: &impl Abort,
     alloc: Global,
@@ -83,8 +83,8 @@ fn listed_decisions(rt: HostRuntime) -> Result<(), Fail> {
     Ok(())
 }
 
-/// A million decisions, drawn by a linear congruence; the bytes are those of an independent encoder by their number, the
-/// first and the last, and a sum.
+/// A million decisions, drawn by a linear congruence; the bytes are those of an independent encoder
+/// by their number, the first and the last, and a sum.
 #[test]
 fn long_run(rt: HostRuntime) -> Result<(), Fail> {
     let mut encoder = Encoder::new(rt.alloc());

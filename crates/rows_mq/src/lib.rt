@@ -1,4 +1,5 @@
-//! Segments that the MQ decoder and decisions that the MQ encoder are tried on, with answers from outside.
+//! Segments that the MQ decoder and decisions that the MQ encoder are tried on, with answers from
+//! outside.
 #![tactic(auto)]
 
 #[cfg(test)]

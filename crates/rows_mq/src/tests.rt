@@ -38,8 +38,8 @@ fn mark(answer: Result<bool, Fault>) -> char {
     }
 }
 
-/// Decodes as many decisions as `wanted` has marks. The first context is `first`; after it each context depends on the
-/// bit before. A decoder that has failed fails again.
+/// Decodes as many decisions as `wanted` has marks. The first context is `first`; after it each
+/// context depends on the bit before. A decoder that has failed fails again.
 fn decodes(rt: &impl Abort, segment: &[u8], first: usize, wanted: &str) {
     let mut decoder = Decoder::new(segment);
     let mut number = first;
@@ -69,8 +69,8 @@ fn random_segments(rt: HostRuntime) -> Result<(), Fail> {
     Ok(())
 }
 
-/// The decisions of the one cleanup pass of a block of 1 by 1 in LL: the significance in context 0, and behind a 1 the
-/// sign in context 9.
+/// The decisions of the one cleanup pass of a block of 1 by 1 in LL: the significance in context 0,
+/// and behind a 1 the sign in context 9.
 #[test]
 fn single_coefficients(rt: HostRuntime) -> Result<(), Fail> {
     for (segment, significance, sign) in [

@@ -9,7 +9,7 @@ use Rattle.jk_scan.specs.declared.shape.BlockShape.{BlockShape}
 use Rattle.jk_scan.specs.Neighbours.{is_inside}
 use Rattle.jk_block.specs.Fields.{field_of}
 use Rattle.jk_block.specs.Meaning.{with_sign}
-use Rattle.jk_block.specs.Sketches.{negative_in}
+use Rattle.jk_block.specs.decoding.Sketches.{negative_in}
 use Rattle.jk_block.proofs.Meanings.{abs_with_sign}
 use Rattle.jk_block.proofs.decoding.append_row.Goals as goal
 

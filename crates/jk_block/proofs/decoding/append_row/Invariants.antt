@@ -2,7 +2,7 @@ use Rattle.std.proofs.Common.{◌≡◌, ◌++◌, map}
 use Rattle.std.specs.List.{range_with_len}
 use Rattle.jk_block.specs.Fields.{field_of}
 use Rattle.jk_block.specs.Meaning.{with_sign}
-use Rattle.jk_block.specs.Sketches.{negative_in}
+use Rattle.jk_block.specs.decoding.Sketches.{negative_in}
 use Rattle.jk_block.proofs.decoding.append_row.Given as goal
 
 abbrev pub invariant-loop-x : goal.invariant-loop-x

@@ -1,7 +1,8 @@
 use Rattle.std.proofs.Common.{sym, ap, ◌∙◌}
 use Rattle.jk_block.specs.declared.spot.Pass.{Pass}
 use Rattle.jk_block.specs.Reading.{begun}
-use Rattle.jk_block.specs.Sketches.{progress, number_of}
+use Rattle.jk_block.specs.Steps.{number_of}
+use Rattle.jk_block.specs.decoding.Sketches.{progress}
 use Rattle.jk_block.proofs.decoding.begin.Goals as goal
 
 pub returns-in-Propagation-clause-begun : goal.returns-in-Propagation-clause-begun

@@ -8,8 +8,8 @@ use Rattle.jk_scan.specs.declared.shape.BlockShape.{BlockShape}
 use Rattle.jk_scan.specs.Neighbours.{is_inside}
 use Rattle.jk_block.specs.Meaning.{values_of}
 use Rattle.jk_block.specs.Reading.{Progress, coefficients, block_at}
-use Rattle.jk_block.specs.Sketches.{progress}
-use Rattle.jk_block.proofs.Taking.{from_blank}
+use Rattle.jk_block.specs.decoding.Sketches.{progress}
+use Rattle.jk_block.proofs.decoding.Taking.{from_blank}
 use Rattle.jk_block.proofs.Meanings.{block_found, block_only, block_is, block_faults, block_refused, values_small, passes_small}
 use Rattle.jk_block.proofs.decoding.decode.Goals as goal
 

@@ -2,8 +2,9 @@ use Rattle.std.proofs.Common.{ℕ, sym, ap, ◌∙◌}
 use Rattle.jk_scan.specs.declared.shape.BlockShape.{BlockShape}
 use Rattle.jk_block.specs.Meaning.{plane_of}
 use Rattle.jk_block.specs.Reading.{Progress, begun, plane_pass_at, pass_at}
-use Rattle.jk_block.specs.Sketches.{progress, number_of}
-use Rattle.jk_block.proofs.Taking.{takes_through}
+use Rattle.jk_block.specs.Steps.{number_of}
+use Rattle.jk_block.specs.decoding.Sketches.{progress}
+use Rattle.jk_block.proofs.decoding.Taking.{takes_through}
 use Rattle.jk_block.proofs.decoding.read_pass.Goals as goal
 
 pub returns-clause-takes : goal.returns-clause-takes
@@ -15,9 +16,9 @@ returns-clause-takes c =
     let b = plane_of c.args.planes c.args.n in
     let pass = number_of c.pass_of-pass.result in
     let k' = c.begin.new.sketch in
-    takes_through (pass_at bytes k.shape c.args.planes c.args.n) (plane_pass_at bytes k'.shape b pass) k k' c.visit_plane.new.sketch v c.visit_plane.new.decoder c.visit_plane.result
+    takes_through (pass_at bytes k.shape c.args.planes c.args.n) (plane_pass_at bytes k'.shape b pass) k k' c.read_bit_plane.new.sketch v c.read_bit_plane.new.decoder c.read_bit_plane.result
     (λ coder.
     ap (λ (m : ℕ). plane_pass_at bytes k.shape b m (begun m (progress k coder))) (sym c.pass_of-pass.ensures)
     ∙ ap (λ (w : Progress). plane_pass_at bytes k.shape b pass w) (sym (c.begin.ensures.begun coder))
     ∙ ap (λ (s : BlockShape). plane_pass_at bytes s b pass (progress k' coder)) (sym c.begin.ensures.shape))
-    c.visit_plane.ensures.takes
+    c.read_bit_plane.ensures.takes

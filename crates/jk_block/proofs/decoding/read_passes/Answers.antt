@@ -4,10 +4,10 @@ use Rattle.jk_scan.specs.declared.shape.BlockShape.{BlockShape}
 use Rattle.jk_scan.specs.Flags.{flag_at}
 use Rattle.jk_block.specs.Ages.{AgesView}
 use Rattle.jk_block.specs.Reading.{Progress, lit, times, blank, pass_at}
-use Rattle.jk_block.specs.Sketches.{progress}
-use Rattle.jk_block.proofs.Aging.{plane_before, aged_none, aged_noted, aged_passed}
-use Rattle.jk_block.proofs.Freshness.{fresh_after}
-use Rattle.jk_block.proofs.Taking.{taken_none, taken_more, taken_fault, advanced_at}
+use Rattle.jk_block.specs.decoding.Sketches.{progress}
+use Rattle.jk_block.proofs.decoding.Aging.{plane_before, aged_none, aged_noted, aged_passed}
+use Rattle.jk_block.proofs.decoding.Freshness.{fresh_after}
+use Rattle.jk_block.proofs.decoding.Taking.{taken_none, taken_more, taken_fault, advanced_at}
 use Rattle.jk_block.proofs.decoding.read_passes.Goals as goal
 
 pub loop-n-init : goal.loop-n-init

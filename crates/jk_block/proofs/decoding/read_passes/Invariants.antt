@@ -1,5 +1,5 @@
-use Rattle.jk_block.proofs.Aging.{Aged, plane_before}
-use Rattle.jk_block.proofs.Taking.{Taken}
+use Rattle.jk_block.proofs.decoding.Aging.{Aged, plane_before}
+use Rattle.jk_block.proofs.decoding.Taking.{Taken}
 use Rattle.jk_block.specs.Reading.{pass_at}
 use Rattle.jk_block.proofs.decoding.read_passes.Given as goal
 

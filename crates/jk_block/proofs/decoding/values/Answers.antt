@@ -2,8 +2,8 @@ use Rattle.std.proofs.Common.{◌≡◌, ◌++◌, ℤ, List, sym, ap, ◌∙◌
 use Rattle.jk_scan.specs.Neighbours.{Field}
 use Rattle.jk_block.specs.Fields.{field_of}
 use Rattle.jk_block.specs.Meaning.{with_sign}
-use Rattle.jk_block.specs.Sketches.{negative_in}
-use Rattle.jk_block.proofs.Listing.{rows_of, row_of, rows_more, rows_all}
+use Rattle.jk_block.specs.decoding.Sketches.{negative_in}
+use Rattle.jk_block.proofs.decoding.Listing.{rows_of, row_of, rows_more, rows_all}
 use Rattle.jk_block.proofs.decoding.values.Goals as goal
 
 pub loop-y-preserved : goal.loop-y-preserved

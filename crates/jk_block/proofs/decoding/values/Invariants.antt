@@ -1,8 +1,8 @@
 use Rattle.std.proofs.Common.{◌≡◌}
 use Rattle.jk_block.specs.Fields.{field_of}
 use Rattle.jk_block.specs.Meaning.{with_sign}
-use Rattle.jk_block.specs.Sketches.{negative_in}
-use Rattle.jk_block.proofs.Listing.{rows_of}
+use Rattle.jk_block.specs.decoding.Sketches.{negative_in}
+use Rattle.jk_block.proofs.decoding.Listing.{rows_of}
 use Rattle.jk_block.proofs.decoding.values.Given as goal
 
 abbrev pub invariant-loop-y : goal.invariant-loop-y

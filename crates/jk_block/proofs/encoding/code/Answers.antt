@@ -5,8 +5,8 @@ use Rattle.jk_block.specs.Meaning.{value_in}
 use Rattle.jk_math.specs.BitLength.{bit_length}
 use Rattle.jk_block.specs.BlockWritten.{greatest, bytes_of, marks_upto}
 use Rattle.jk_block.specs.CodedBlocks.{shape_of}
-use Rattle.jk_block.proofs.Lengths.{bytes_small}
-use Rattle.jk_block.proofs.Planes.{some_value, some_sides}
+use Rattle.jk_block.proofs.encoding.Lengths.{bytes_small}
+use Rattle.jk_block.proofs.encoding.Planes.{some_value, some_sides}
 use Rattle.jk_block.proofs.Parts.{made, coded_from, planes_hold, bytes_none, bytes_some, marks_none, marks_length, decisions_none, means_of, read_of, part_of, shorter_of, rise_of}
 use Rattle.jk_block.proofs.encoding.code.Goals as goal
 

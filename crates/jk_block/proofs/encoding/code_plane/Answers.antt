@@ -3,10 +3,10 @@ use Rattle.std.proofs.lemmas.Bool.{cases_lt}
 use Rattle.jk_scan.specs.Moments.{visits}
 use Rattle.jk_block.specs.Meaning.{plane_of, kind_of, value_in}
 use Rattle.jk_block.specs.CodedBlocks.{HasCodedPasses}
-use Rattle.jk_block.specs.Sketches.{number_of}
-use Rattle.jk_block.specs.Viewed.{IsFlagged}
-use Rattle.jk_block.proofs.Planes.{begun_plane, begun_top, ended_plane}
-use Rattle.jk_block.proofs.Written.{coded_pass}
+use Rattle.jk_block.specs.Steps.{number_of}
+use Rattle.jk_block.specs.encoding.Viewed.{IsFlagged}
+use Rattle.jk_block.proofs.encoding.Planes.{begun_plane, begun_top, ended_plane}
+use Rattle.jk_block.proofs.encoding.Written.{coded_pass}
 use Rattle.jk_block.proofs.encoding.code_plane.Goals as goal
 
 pub loop-n-init : goal.loop-n-init

@@ -2,7 +2,7 @@ use Rattle.std.proofs.Common.{◌+◌, ◌-◌, ◌*◌}
 use Rattle.jk_scan.specs.Moments.{visits}
 use Rattle.jk_block.specs.Meaning.{value_in}
 use Rattle.jk_block.specs.CodedBlocks.{HasCodedPasses}
-use Rattle.jk_block.specs.Viewed.{IsFlagged}
+use Rattle.jk_block.specs.encoding.Viewed.{IsFlagged}
 use Rattle.jk_block.proofs.encoding.code_plane.Given as goal
 
 abbrev pub invariant-loop-n : goal.invariant-loop-n

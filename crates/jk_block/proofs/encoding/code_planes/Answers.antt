@@ -3,9 +3,9 @@ use Rattle.std.specs.Prelude.{nat_lt}
 use Rattle.jk_scan.specs.Flags.{IsDrawn}
 use Rattle.jk_block.specs.Meaning.{plane_at, value_in}
 use Rattle.jk_block.specs.CodedBlocks.{HasCodedPasses}
-use Rattle.jk_block.specs.Slices.{IsSliced}
-use Rattle.jk_block.specs.Viewed.{IsLitUpto}
-use Rattle.jk_block.proofs.Planes.{short_of, lit_none, top_plane, none_refined, refined_drawn}
+use Rattle.jk_block.specs.encoding.Slices.{IsSliced}
+use Rattle.jk_block.specs.encoding.Viewed.{IsLitUpto}
+use Rattle.jk_block.proofs.encoding.Planes.{short_of, lit_none, top_plane, none_refined, refined_drawn}
 use Rattle.jk_block.proofs.encoding.code_planes.Goals as goal
 use Rattle.jk_block.proofs.encoding.code_planes.Goals.{then-plane-eq7, else-plane-eq7}
 

@@ -3,8 +3,8 @@ use Rattle.std.specs.Prelude.{nat_lt}
 use Rattle.jk_scan.specs.Flags.{IsDrawn}
 use Rattle.jk_block.specs.Meaning.{plane_at, value_in}
 use Rattle.jk_block.specs.CodedBlocks.{HasCodedPasses}
-use Rattle.jk_block.specs.Slices.{IsSliced}
-use Rattle.jk_block.specs.Viewed.{IsLitUpto}
+use Rattle.jk_block.specs.encoding.Slices.{IsSliced}
+use Rattle.jk_block.specs.encoding.Viewed.{IsLitUpto}
 use Rattle.jk_block.proofs.encoding.code_planes.Given as goal
 
 abbrev pub invariant-loop-above : goal.invariant-loop-above

@@ -1,5 +1,6 @@
 use Rattle.std.proofs.Common.{◌≡◌, ap, subst, ◌+◌, ◌-◌, ◌*◌, ◌^◌, arith}
-use Rattle.jk_mqdec.specs.Registers.{IsOutside, doubled_by}
+use Rattle.jk_model.specs.Decisions.{doubled_by}
+use Rattle.jk_mqdec.specs.Registers.{IsOutside}
 use Rattle.jk_mqdec.specs.Wide.{HoldsWide}
 use Rattle.jk_mqdec.proofs.Shifts.{shift_less, shift_grows}
 use Rattle.jk_mqdec.proofs.Doubling.{doubled_by-add}

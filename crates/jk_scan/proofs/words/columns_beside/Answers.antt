@@ -3,4 +3,4 @@ use Rattle.jk_scan.proofs.Neighbours.{columns_line}
 use Rattle.jk_scan.proofs.words.columns_beside.Goals as goal
 
 pub returns : goal.returns
-returns c = columns_line c.args.v c.args.left c.args.right (omega arith) (omega arith)
+returns c = columns_line c.args.v c.args.west c.args.east (omega arith) (omega arith)

@@ -2,4 +2,4 @@ use Rattle.jk_scan.proofs.Gathering.{gathered}
 use Rattle.jk_scan.proofs.words.gather.Goals as goal
 
 pub returns : goal.returns
-returns c = gathered c.args.own c.args.above c.args.below
+returns c = gathered c.args.centre c.args.above c.args.below

@@ -35,75 +35,75 @@ returns-then-now c =
 
 -- the decision is settled
 some : (c : After-mps) → Decides c.args.self.now (record { bytes = c.self.inside.bytes.now; registers = c.in-Some.registers; contexts = set c.self.inside.contexts c.args.cx c.after.result }) c.args.cx
-    (Ok (not (beq c.mps.result c.divided-part.result.less)))
+    (Ok (not (beq c.mps.result c.divided-subinterval.result.less)))
 some c =
     let old = c.args.self.now in
     let s = c.self.inside in
-    let part = c.divided-part.result.registers in
-    let less = c.divided-part.result.less in
+    let subinterval = c.divided-subinterval.result.registers in
+    let less = c.divided-subinterval.result.less in
     let q = c.scaled.result in
     let context = get_or s.contexts c.args.cx c.index-contexts-cx.result in
     let bytes : s.bytes.now ≡ old.bytes = ap (λ (v : View). v.bytes) c.self.view_is in
     let registers : s.registers ≡ old.registers = ap (λ (v : View). v.registers) c.self.view_is in
     let here : c.args.cx < length s.contexts = omega arith in
-    let contexts : set s.contexts c.args.cx c.after.result ≡ set old.contexts c.args.cx (cond (ltb part.width (2 ^ 63)) (moved context (cond less (not context.mps) context.mps)) context) =
+    let contexts : set s.contexts c.args.cx c.after.result ≡ set old.contexts c.args.cx (cond (ltb subinterval.width (2 ^ 63)) (moved context (cond less (not context.mps) context.mps)) context) =
     ap (λ (x : Context). set s.contexts c.args.cx x) (c.after.ensures ∙ ap (λ (t : Bool). cond t (moved context (cond less (not context.mps) context.mps)) context) c.is_narrow.ensures)
-    ∙ ap (λ (v : View). set v.contexts c.args.cx (cond (ltb part.width (2 ^ 63)) (moved context (cond less (not context.mps) context.mps)) context)) c.self.view_is in
+    ∙ ap (λ (v : View). set v.contexts c.args.cx (cond (ltb subinterval.width (2 ^ 63)) (moved context (cond less (not context.mps) context.mps)) context)) c.self.view_is in
     let new : View = record { bytes = s.bytes.now; registers = c.in-Some.registers; contexts = set s.contexts c.args.cx c.after.result } in
     let result : Result Bool Fault = Ok (not (beq c.mps.result less)) in
-    let settles : Settles old new part c.args.cx context less result = record {
+    let settles : Settles old new subinterval c.args.cx context less result = record {
       bytes = bytes;
       contexts = contexts;
       bit_is = ap (λ (m : Bool). not (beq m less)) c.mps.ensures;
       fault = tt;
       ready = subst (λ b. IsReadyWide b c.in-Some.registers) bytes c.in-Some.ensures.ready;
       left = tt;
-      holds = λ t. subst (λ b. HoldsWide b part t → HoldsWide b c.in-Some.registers (renormalised 15 t)) bytes (c.in-Some.ensures.holds t);
+      holds = λ t. subst (λ b. HoldsWide b subinterval t → HoldsWide b c.in-Some.registers (renormalised 15 t)) bytes (c.in-Some.ensures.holds t);
     } in
-    let divide = divides old part c.args.cx context q less
+    let divide = divides old subinterval c.args.cx context q less
     (subst (λ (r : WideRegisters). r.code < r.width) registers c.if-now.false)
     (get_or_default s.contexts c.args.cx c.index-contexts-cx.result (begins 0) here ∙ ap (λ (v : View). get_or v.contexts c.args.cx (begins 0)) c.self.view_is)
     (c.scaled.ensures ∙ ap (λ k. k * 2 ^ 48) c.size.ensures.value)
-    (subst (λ (r : WideRegisters). r.code < q → part ≡ record r { width = q }) registers c.divided-part.ensures.lower)
-    (subst (λ (r : WideRegisters). q ≤ r.code → part ≡ record r { code = r.code - q; width = r.width - q }) registers c.divided-part.ensures.upper)
-    (subst (λ (r : WideRegisters). less ≡ not (beq (ltb r.code q) (ltb (r.width - q) q))) registers c.divided-part.ensures.less) in
-    decides-settled old new part c.args.cx context less result settles divide
+    (subst (λ (r : WideRegisters). r.code < q → subinterval ≡ record r { width = q }) registers c.divided-subinterval.ensures.lower)
+    (subst (λ (r : WideRegisters). q ≤ r.code → subinterval ≡ record r { code = r.code - q; width = r.width - q }) registers c.divided-subinterval.ensures.upper)
+    (subst (λ (r : WideRegisters). less ≡ not (beq (ltb r.code q) (ltb (r.width - q) q))) registers c.divided-subinterval.ensures.less) in
+    decides-settled old new subinterval c.args.cx context less result settles divide
 
 -- the code value leaves the interval
-none : (c : In-None) → Decides c.args.self.now (record { bytes = c.self.inside.bytes.now; registers = record c.divided-part.result.registers { width = 0 }; contexts = set c.self.inside.contexts c.args.cx c.after.result }) c.args.cx
+none : (c : In-None) → Decides c.args.self.now (record { bytes = c.self.inside.bytes.now; registers = record c.divided-subinterval.result.registers { width = 0 }; contexts = set c.self.inside.contexts c.args.cx c.after.result }) c.args.cx
     (Err CodeOutOfInterval)
 none c =
     let old = c.args.self.now in
     let s = c.self.inside in
-    let part = c.divided-part.result.registers in
-    let less = c.divided-part.result.less in
+    let subinterval = c.divided-subinterval.result.registers in
+    let less = c.divided-subinterval.result.less in
     let q = c.scaled.result in
     let context = get_or s.contexts c.args.cx c.index-contexts-cx.result in
     let bytes : s.bytes.now ≡ old.bytes = ap (λ (v : View). v.bytes) c.self.view_is in
     let registers : s.registers ≡ old.registers = ap (λ (v : View). v.registers) c.self.view_is in
     let here : c.args.cx < length s.contexts = omega arith in
-    let contexts : set s.contexts c.args.cx c.after.result ≡ set old.contexts c.args.cx (cond (ltb part.width (2 ^ 63)) (moved context (cond less (not context.mps) context.mps)) context) =
+    let contexts : set s.contexts c.args.cx c.after.result ≡ set old.contexts c.args.cx (cond (ltb subinterval.width (2 ^ 63)) (moved context (cond less (not context.mps) context.mps)) context) =
     ap (λ (x : Context). set s.contexts c.args.cx x) (c.after.ensures ∙ ap (λ (t : Bool). cond t (moved context (cond less (not context.mps) context.mps)) context) c.is_narrow.ensures)
-    ∙ ap (λ (v : View). set v.contexts c.args.cx (cond (ltb part.width (2 ^ 63)) (moved context (cond less (not context.mps) context.mps)) context)) c.self.view_is in
-    let new : View = record { bytes = s.bytes.now; registers = record part { width = 0 }; contexts = set s.contexts c.args.cx c.after.result } in
+    ∙ ap (λ (v : View). set v.contexts c.args.cx (cond (ltb subinterval.width (2 ^ 63)) (moved context (cond less (not context.mps) context.mps)) context)) c.self.view_is in
+    let new : View = record { bytes = s.bytes.now; registers = record subinterval { width = 0 }; contexts = set s.contexts c.args.cx c.after.result } in
     let result : Result Bool Fault = Err CodeOutOfInterval in
-    let settles : Settles old new part c.args.cx context less result = record {
+    let settles : Settles old new subinterval c.args.cx context less result = record {
       bytes = bytes;
       contexts = contexts;
       bit_is = tt;
       fault = refl;
       ready = tt;
       left = omega arith;
-      holds = λ t. subst (λ b. HoldsWide b part t → IsOutside b (renormalised 15 t)) bytes (c.in-None.ensures.holds t);
+      holds = λ t. subst (λ b. HoldsWide b subinterval t → IsOutside b (renormalised 15 t)) bytes (c.in-None.ensures.holds t);
     } in
-    let divide = divides old part c.args.cx context q less
+    let divide = divides old subinterval c.args.cx context q less
     (subst (λ (r : WideRegisters). r.code < r.width) registers c.if-now.false)
     (get_or_default s.contexts c.args.cx c.index-contexts-cx.result (begins 0) here ∙ ap (λ (v : View). get_or v.contexts c.args.cx (begins 0)) c.self.view_is)
     (c.scaled.ensures ∙ ap (λ k. k * 2 ^ 48) c.size.ensures.value)
-    (subst (λ (r : WideRegisters). r.code < q → part ≡ record r { width = q }) registers c.divided-part.ensures.lower)
-    (subst (λ (r : WideRegisters). q ≤ r.code → part ≡ record r { code = r.code - q; width = r.width - q }) registers c.divided-part.ensures.upper)
-    (subst (λ (r : WideRegisters). less ≡ not (beq (ltb r.code q) (ltb (r.width - q) q))) registers c.divided-part.ensures.less) in
-    decides-settled old new part c.args.cx context less result settles divide
+    (subst (λ (r : WideRegisters). r.code < q → subinterval ≡ record r { width = q }) registers c.divided-subinterval.ensures.lower)
+    (subst (λ (r : WideRegisters). q ≤ r.code → subinterval ≡ record r { code = r.code - q; width = r.width - q }) registers c.divided-subinterval.ensures.upper)
+    (subst (λ (r : WideRegisters). less ≡ not (beq (ltb r.code q) (ltb (r.width - q) q))) registers c.divided-subinterval.ensures.less) in
+    decides-settled old new subinterval c.args.cx context less result settles divide
 
 pub returns-in-Some-clause-answer : goal.returns-in-Some-clause-answer
 returns-in-Some-clause-answer c = (some c.before).answers

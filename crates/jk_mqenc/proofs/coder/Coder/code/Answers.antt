@@ -1,10 +1,10 @@
-use Rattle.std.proofs.Common.{◌≡◌, ◌∙◌, ap, sym, subst, refl, ◌+◌, ◌-◌, ◌*◌, ◌^◌, ◌≤◌, ◌<◌, cond, arith, IfOk, Bool}
+use Rattle.std.proofs.Common.{◌≡◌, ◌∙◌, ap, sym, subst, refl, ◌+◌, ◌*◌, ◌^◌, ◌≤◌, ◌<◌, cond, arith, IfOk, Bool}
 use Rattle.jk_mqenc.specs.Machine.{Machine}
-use Rattle.jk_mqenc.specs.Coding.{part, renorm}
+use Rattle.jk_mqenc.specs.Coding.{subinterval, renorme}
 use Rattle.jk_mqenc.specs.Encoded.{with_registers}
 use Rattle.jk_mqenc.proofs.Holdings.{IsHeld, held-bound}
 use Rattle.jk_mqenc.proofs.Leaping.{leap-view, leap-all}
-use Rattle.jk_mqenc.proofs.Parts.{held-part, part-made}
+use Rattle.jk_mqenc.proofs.Subintervals.{held-subinterval, subinterval-made}
 use Rattle.jk_mqenc.proofs.coder.Coder.code.Goals as goal
 use Rattle.jk_mqenc.proofs.coder.Coder.code.Goals.{then-taken, else-taken}
 
@@ -26,9 +26,9 @@ returns-then-taken-registers c = record {
         | then-taken w ↦ w.code-is ∙ sym (ap (λ (t : Bool). cond t 0 q) w.if-taken.true)
         | else-taken w ↦ w.code-is ∙ sym (ap (λ (t : Bool). cond t 0 q) w.if-taken.false)
       ] in
-      let p = part m q lower in
-      let same = part-made m m q c.if-taken.code c.args.taken.width lower refl code c.requires.width in
-      let held = held-part m q lower c.requires.least c.requires.below c.requires.holds in
+      let p = subinterval m q lower in
+      let same = subinterval-made m m q c.if-taken.code c.args.taken.width lower refl code c.requires.width in
+      let held = held-subinterval m q lower c.requires.least c.requires.below c.requires.holds in
       let size = ap (λ (m : Machine). m.width) same in
       let count = ap (λ (m : Machine). m.count) same in
       let k = c.args.taken.times in
@@ -48,8 +48,8 @@ through-requires-clause-holds c =
       | then-taken w ↦ w.code-is ∙ sym (ap (λ (t : Bool). cond t 0 q) w.if-taken.true)
       | else-taken w ↦ w.code-is ∙ sym (ap (λ (t : Bool). cond t 0 q) w.if-taken.false)
     ] in
-    let same = part-made m m q c.if-taken.code c.args.taken.width lower refl code c.requires.width in
-    subst (λ (m : Machine). IsHeld m) (sym same) (held-part m q lower c.requires.least c.requires.below c.requires.holds)
+    let same = subinterval-made m m q c.if-taken.code c.args.taken.width lower refl code c.requires.width in
+    subst (λ (m : Machine). IsHeld m) (sym same) (held-subinterval m q lower c.requires.least c.requires.below c.requires.holds)
 
 pub returns : goal.returns
 returns c = record {
@@ -62,6 +62,6 @@ returns c = record {
         | then-taken w ↦ w.code-is ∙ sym (ap (λ (t : Bool). cond t 0 q) w.if-taken.true)
         | else-taken w ↦ w.code-is ∙ sym (ap (λ (t : Bool). cond t 0 q) w.if-taken.false)
       ] in
-      let same = part-made m m q c.if-taken.code c.args.taken.width lower refl code c.requires.width in
-      subst (λ (m : Machine). IfOk c.through.result (λ r. with_registers c.through.new.self r ≡ renorm 15 m)) same c.through.ensures.done;
+      let same = subinterval-made m m q c.if-taken.code c.args.taken.width lower refl code c.requires.width in
+      subst (λ (m : Machine). IfOk c.through.result (λ r. with_registers c.through.new.self r ≡ renorme 15 m)) same c.through.ensures.done;
 }

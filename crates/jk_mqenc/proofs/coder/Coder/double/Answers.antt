@@ -2,7 +2,7 @@ use Rattle.std.proofs.Common.{◌∙◌, ap, sym, arith}
 use Rattle.jk_mqenc.specs.Machine.{Machine, byte_out}
 use Rattle.jk_mqenc.specs.Coding.{shifted_by}
 use Rattle.jk_mqenc.proofs.Holdings.{held-room, held-first}
-use Rattle.jk_mqenc.proofs.Runs.{shifts-count}
+use Rattle.jk_mqenc.proofs.AtomicSteps.{shifts-count}
 use Rattle.jk_mqenc.proofs.Leaping.{leap-view, held-shifted_by, leapt-last, leapt-more}
 use Rattle.jk_mqenc.proofs.coder.Coder.double.Goals as goal
 

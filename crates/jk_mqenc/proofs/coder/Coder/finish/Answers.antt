@@ -8,8 +8,8 @@ use Rattle.jk_mqenc.proofs.Finished.{set-is, flushed-from, last-pushed, last-lef
 use Rattle.jk_mqenc.proofs.coder.Coder.finish.Goals as goal
 use Rattle.jk_mqenc.proofs.coder.Coder.finish.Goals.{in-Some+then-byte+in_ok-push, in-Some+else-byte, in_default}
 
-pub with_bits-requires : goal.with_bits-requires
-with_bits-requires c =
+pub set_bits-requires : goal.set_bits-requires
+set_bits-requires c =
     let code = ap (λ (m : Machine). m.code) c.self.view_is in
     let width = ap (λ (m : Machine). m.width) c.self.view_is in
     omega (arith, code, width, held-bound c.args.self c.requires.holds)
@@ -17,12 +17,12 @@ with_bits-requires c =
 pub push_out-requires-clause-holds : goal.push_out-requires-clause-holds
 push_out-requires-clause-holds c =
     let s = c.self.inside in
-    subst (λ (m : Machine). IsHeld m) (sym (set-is s.code s.width s.count c.with_bits.result _ c.args.self c.self.view_is c.with_bits.ensures)) (held-set c.args.self c.requires.width c.requires.holds)
+    subst (λ (m : Machine). IsHeld m) (sym (set-is s.code s.width s.count c.set_bits.result _ c.args.self c.self.view_is c.set_bits.ensures)) (held-set c.args.self c.requires.width c.requires.holds)
 
 pub push_out-requires-2-clause-holds : goal.push_out-requires-2-clause-holds
 push_out-requires-2-clause-holds c =
     let s = c.self.inside in
-    let first = set-is s.code s.width s.count c.with_bits.result _ c.args.self c.self.view_is c.with_bits.ensures in
+    let first = set-is s.code s.width s.count c.set_bits.result _ c.args.self c.self.view_is c.set_bits.ensures in
     let held = subst (λ (m : Machine). IsHeld m) (sym (c.in_ok-push_out.ensures.done ∙ ap (λ (m : Machine). pushed_out m) first)) (held-pushed (record c.args.self { code = set_bits c.args.self.code c.args.self.width; width = 1 }) refl (held-set c.args.self c.requires.width c.requires.holds)) in
     subst (λ (m : Machine). IsHeld m) (sym (ap (λ (m : Machine). record m { width = 1 }) c.self-2.view_is)) (held-least c.push_out.new.self held)
 
@@ -30,7 +30,7 @@ pub returns : goal.returns
 returns c = record {
   bytes =
       let s = c.self.inside in
-      let first = set-is s.code s.width s.count c.with_bits.result _ c.args.self c.self.view_is c.with_bits.ensures in
+      let first = set-is s.code s.width s.count c.set_bits.result _ c.args.self c.self.view_is c.set_bits.ensures in
       let last = flushed-from c.args.self _ c.push_out.new.self _ c.push_out-2.new.self first c.in_ok-push_out.ensures.done (ap (λ (m : Machine). record m { width = 1 }) c.self-2.view_is) c.in_ok-push_out-2.ensures.done in
       let placed = ap (λ (m : Machine). m.placed) (c.self-3.view_is ∙ last) in
       let old = c.self-3.inside in

@@ -1,5 +1,0 @@
-use Rattle.jk_block.proofs.Reaching.{reached_at}
-use Rattle.jk_block.proofs.ahead.reached.Goals as goal
-
-pub returns : goal.returns
-returns c = reached_at c.args.lit

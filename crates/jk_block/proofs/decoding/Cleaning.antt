@@ -1,0 +1,350 @@
+-- Cleanup over a word.
+use Rattle.std.proofs.Common.{◌≡◌, ℕ, ◌+◌, ◌-◌, ◌*◌, ◌/◌, ◌%◌, ◌^◌, ◌<◌, ◌≤◌, Bool, true, false, not, Ok, Err, refl, sym, ap, ◌∙◌, subst, inl, inr, arith}
+use Rattle.std.specs.Prelude.{◌&&◌, ◌||◌, nat_eq, nat_le, nat_lt}
+use Rattle.std.specs.Int.{trailing_zeros, w64}
+use Rattle.std.specs.Int.RustNames.{bit_or, bit_and}
+use Rattle.std.proofs.lemmas.Bool.{cases_lt, and_parts}
+use Rattle.std.proofs.lemmas.Bool.Decides.{nat_tests}
+use Rattle.std.proofs.lemmas.Nat.{or_lt, and_le_l}
+use Rattle.jk_math.specs.declared.fault.Fault.{Fault}
+use Rattle.jk_model.specs.Decisions.{State}
+use Rattle.jk_mqdec.specs.Standing.{View, Stands}
+use Rattle.jk_scan.specs.declared.shape.BlockShape.{BlockShape}
+use Rattle.jk_scan.specs.declared.around.Around.{Around}
+use Rattle.jk_scan.specs.Bits.{on}
+use Rattle.jk_scan.specs.Neighbours.{Field, is_inside, touched}
+use Rattle.jk_scan.specs.Words.{of_rows, bordered}
+use Rattle.jk_scan.specs.WordPlaces.{column, row, also}
+use Rattle.jk_scan.specs.Surroundings.{IsAround}
+use Rattle.jk_scan.proofs.Laws.{rows_between, lowest, on_or, on_zero, later_lowest}
+use Rattle.jk_block.specs.declared.spot.Spot.{Spot}
+use Rattle.jk_block.specs.declared.decoding.sketch.Sketch.{Sketch}
+use Rattle.jk_block.specs.Reading.{is_quiet, place_at, rows_at, read_run}
+use Rattle.jk_block.specs.decoding.Sketches.{progress, lit_in, visited_in, Takes, Onward}
+use Rattle.jk_block.specs.Steps.{IsPlace, word_pass}
+use Rattle.jk_block.proofs.decoding.Going.{Going, going_none, going_skip, going_place, going_run, going_run_fault}
+use Rattle.jk_block.proofs.decoding.Leaving.{is_left, left_after, left_kept}
+use Rattle.jk_block.proofs.StillBits.{Behind, by_columns, bits_from, bits_kept, bits_behind, rest_bits, run_bits, above_bits}
+use Rattle.jk_block.proofs.Stills.{is_still}
+use Rattle.jk_block.proofs.WordBits.{around_same, around_also, le_true, true_le, on_rows, is_one_number, none_before}
+
+-- Words show the pass at bit n: what is around, the places that are left, and the still columns that have not begun.
+pub record Cleans (at : Spot) (n : ℕ) (k : Sketch) (seen : Around) (left still : ℕ) : Type 0 where
+  pub around : IsAround (bordered (lit_in k)) at.word at.stripe seen
+  pub left_is : (m : ℕ) → m < 64 → on left m ≡ (nat_le n m && is_left k at.word at.stripe m)
+  pub still_is : (m : ℕ) → m < 64 → on still m ≡ (nat_eq (m % 8) 1 && (nat_le n (m - 1) && is_still k.shape (lit_in k) at.word at.stripe (m / 8)))
+
+pub record Cleaning (at : Spot) (k0 k : Sketch) (v0 v : View) (seen : Around) (left still : ℕ) : Type 0 where
+  pub n : ℕ
+  pub going : Going 2 at n k0 k v0 v
+  pub cleans : Cleans at n k seen left still
+
+pub cleaning_none : (at : Spot) (k0 k : Sketch) (v : View) (seen : Around) (left still : ℕ) → k.shape ≡ k0.shape → ((coder : State) → progress k0 coder ≡ progress k coder) → IsAround (bordered (lit_in k)) at.word at.stripe seen
+    → ((m : ℕ) → m < 64 → on left m ≡ is_left k at.word at.stripe m) → ((m : ℕ) → m < 64 → on still m ≡ (nat_eq (m % 8) 1 && is_still k.shape (lit_in k) at.word at.stripe (m / 8)))
+    → Cleaning at k0 k v v seen left still
+cleaning_none at k0 k v seen left still shape same around left_is still_is = record {
+  n = 0;
+  going = going_none 2 at k0 k v shape same;
+  cleans = record {
+    around = around;
+    left_is = λ m l. left_is m l ∙ ap (λ b. b && is_left k at.word at.stripe m) (let e : true ≡ nat_le 0 m = grind (arith, nat_tests) in e);
+    still_is = λ m l. still_is m l ∙ ap (λ b. nat_eq (m % 8) 1 && (b && is_still k.shape (lit_in k) at.word at.stripe (m / 8))) (let e : true ≡ nat_le 0 (m - 1) = grind (arith, nat_tests) in e);
+  };
+}
+
+pub second : (r d : Bool) → (r && d) ≡ false → r ≡ true → d ≡ false
+second true d e h = e
+second false d e h = absurd cc
+
+neither : (a b : Bool) → (a || b) ≡ false → (a ≡ false) × (b ≡ false)
+neither true b e = absurd cc
+neither false b e = (refl, e)
+
+one_of : (a b : Bool) → (a || b) ≡ true → b ≡ false → a ≡ true
+one_of true b e h = refl
+one_of false b e h = let c : true ≡ false = sym e ∙ h in absurd cc
+
+-- nothing happens from n to z, where no bit is set before z, and no still column begins at z
+idle_until : (at : Spot) (k0 k : Sketch) (v0 v : View) (seen : Around) (left still : ℕ) (st : Cleaning at k0 k v0 v seen left still) (z : ℕ) → z ≤ 64 → ((m : ℕ) → m < z → (on left m ≡ false) × (on still m ≡ false))
+    → (d : ℕ) → st.n ≤ d → d ≤ z → (d ≡ z → z < 64 → on still z ≡ false) → Going 2 at d k0 k v0 v
+idle_until at k0 k v0 v seen left still st z most clear d from to end =
+    going_skip 2 at st.n d k0 k v0 v st.going from (omega arith) (λ coder m a b. record { plain = λ e. plain m a b e; idle = λ g h. idle m a b g h })
+  where
+    off : (m : ℕ) → m < 64 → st.n ≤ m - 1 → m % 8 ≡ 1 → on still m ≡ false → is_still k.shape (lit_in k) at.word at.stripe (m / 8) ≡ false
+    off m l a e h =
+        none_before (on still m) (nat_le st.n (m - 1)) (is_still k.shape (lit_in k) at.word at.stripe (m / 8)) h
+        (st.cleans.still_is m l ∙ ap (λ b. b && (nat_le st.n (m - 1) && is_still k.shape (lit_in k) at.word at.stripe (m / 8))) (let g : nat_eq (m % 8) 1 ≡ true = grind (arith, nat_tests) in g)) (le_true st.n (m - 1) a)
+
+    plain : (m : ℕ) → st.n ≤ m → m < d → m % 8 ≡ 0 → (nat_lt (8 * at.word + m / 8) k.shape.width && is_quiet k.shape (lit_in k) (8 * at.word + m / 8) at.stripe) ≡ false
+    plain m a b e =
+        ap (λ c. is_still k.shape (lit_in k) at.word at.stripe c) (let g : m / 8 ≡ (m + 1) / 8 = omega arith in g)
+        ∙ off (m + 1) (omega arith) (omega arith) (omega arith)
+        (elim (cases_lt (m + 1) z) [ inl less ↦ (clear (m + 1) less).1 | inr not_less ↦ let g : m + 1 ≡ z = omega arith in ap (on still) g ∙ end (omega arith) (omega arith) ])
+
+    idle : (m : ℕ) → st.n ≤ m → m < d → 1 ≤ m % 8 → m % 8 < 5
+        → (is_inside k.shape (8 * at.word + m / 8) (4 * at.stripe + m % 8 - 1) && (not (lit_in k (8 * at.word + m / 8) (4 * at.stripe + m % 8 - 1)) && not (visited_in k (8 * at.word + m / 8) (4 * at.stripe + m % 8 - 1)))) ≡ false
+    idle m a b g h =
+        second (of_rows (m % 8)) (is_inside k.shape (column at.word m) (row at.stripe m) && (not (lit_in k (column at.word m) (row at.stripe m)) && not (visited_in k (column at.word m) (row at.stripe m))))
+        (none_before (on left m) (nat_le st.n m) (is_left k at.word at.stripe m) (clear m (omega arith)).0 (st.cleans.left_is m (omega arith)) (le_true st.n m a))
+        (on_rows (m % 8) g h)
+
+-- the next place that is coded by itself
+pub record NextLeft (at : Spot) (k0 k : Sketch) (v0 v : View) (left z : ℕ) : Type 0 where
+  pub place : IsPlace k.shape at z
+  pub due : (not (lit_in k (column at.word z) (row at.stripe z)) && not (visited_in k (column at.word z) (row at.stripe z))) ≡ true
+  pub going : Going 2 at z k0 k v0 v
+  pub set : on left z ≡ true
+
+clear_below : (left still : ℕ) → 0 < bit_or left still → bit_or left still < 2 ^ 64 → (m : ℕ) → m < trailing_zeros w64 (bit_or left still) → (on left m ≡ false) × (on still m ≡ false)
+clear_below left still p q m h = let l = lowest (bit_or left still) p q in neither (on left m) (on still m) (sym (on_or left still m) ∙ l.2 m h)
+
+pub next_left : (at : Spot) (k0 k : Sketch) (v0 v : View) (seen : Around) (left still : ℕ) (st : Cleaning at k0 k v0 v seen left still) → 0 < bit_or left still → bit_or left still < 2 ^ 64
+    → on still (trailing_zeros w64 (bit_or left still)) ≡ false → NextLeft at k0 k v0 v left (trailing_zeros w64 (bit_or left still))
+next_left at k0 k v0 v seen left still st p q off =
+    let z = trailing_zeros w64 (bit_or left still) in
+    let x = column at.word z in
+    let y = row at.stripe z in
+    let l = lowest (bit_or left still) p q in
+    let set = one_of (on left z) (on still z) (sym (on_or left still z) ∙ l.1) off in
+    let both = and_parts (nat_le st.n z) (is_left k at.word at.stripe z) (sym (st.cleans.left_is z l.0) ∙ set) in
+    let parts = and_parts (of_rows (z % 8)) (is_inside k.shape x y && (not (lit_in k x y) && not (visited_in k x y))) both.1 in
+    let due = and_parts (is_inside k.shape x y) (not (lit_in k x y) && not (visited_in k x y)) parts.1 in
+    let within = l.0 in
+    record {
+      place = record { within = l.0; on_row = parts.0; inside = due.0 };
+      due = due.1;
+      going = idle_until at k0 k v0 v seen left still st z (omega (arith, within)) (clear_below left still p q) z (true_le st.n z both.0) (omega arith) (λ _ _. off);
+      set = set;
+    }
+
+-- the next column in run mode
+pub record NextRun (at : Spot) (k0 k : Sketch) (v0 v : View) (z : ℕ) : Type 0 where
+  pub place : IsPlace k.shape at z
+  pub first : z % 8 ≡ 1
+  pub rows : 4 * at.stripe + 4 ≤ k.shape.height
+  pub run : is_still k.shape (lit_in k) at.word at.stripe (z / 8) ≡ true
+  pub going : Going 2 at (z - 1) k0 k v0 v
+
+high_enough : (s : BlockShape) (f : Field Bool) (x i : ℕ) → is_quiet s f x i ≡ true → 4 * i + 4 ≤ s.height
+unfolding is_quiet
+high_enough s f x i h =
+    let q : ℕ → Bool = λ j. not (f x (4 * i + j)) && not (touched f x (4 * i + j)) in
+    true_le (4 * i + 4) s.height (and_parts (nat_le (4 * i + 4) s.height) ((q 0 && q 1) && (q 2 && q 3)) h).0
+
+both_true : (a b : Bool) → a ≡ true → b ≡ true → (a && b) ≡ true
+both_true a b e g = cc
+
+lt_true : (a b : ℕ) → a < b → nat_lt a b ≡ true
+lt_true a b h = grind (arith, nat_tests)
+
+pub next_run : (at : Spot) (k0 k : Sketch) (v0 v : View) (seen : Around) (left still : ℕ) (st : Cleaning at k0 k v0 v seen left still) → 0 < bit_or left still → bit_or left still < 2 ^ 64
+    → on still (trailing_zeros w64 (bit_or left still)) ≡ true → NextRun at k0 k v0 v (trailing_zeros w64 (bit_or left still))
+next_run at k0 k v0 v seen left still st p q set =
+    let z = trailing_zeros w64 (bit_or left still) in
+    let l = lowest (bit_or left still) p q in
+    let all = and_parts (nat_eq (z % 8) 1) (nat_le st.n (z - 1) && is_still k.shape (lit_in k) at.word at.stripe (z / 8)) (sym (st.cleans.still_is z l.0) ∙ set) in
+    let both = and_parts (nat_le st.n (z - 1)) (is_still k.shape (lit_in k) at.word at.stripe (z / 8)) all.1 in
+    let parts = and_parts (nat_lt (8 * at.word + z / 8) k.shape.width) (is_quiet k.shape (lit_in k) (8 * at.word + z / 8) at.stripe) both.1 in
+    let first = is_one_number (z % 8) all.0 in
+    let high = high_enough k.shape (lit_in k) (8 * at.word + z / 8) at.stripe parts.1 in
+    let within = l.0 in
+    record {
+      place = record {
+        within = l.0;
+        on_row = on_rows (z % 8) (omega (arith, first)) (omega (arith, first));
+        inside = both_true (nat_lt (column at.word z) k.shape.width) (nat_lt (row at.stripe z) k.shape.height) parts.0 (lt_true (row at.stripe z) k.shape.height (omega (arith, first, high)));
+      };
+      first = first;
+      rows = high;
+      run = both.1;
+      going = idle_until at k0 k v0 v seen left still st z (omega (arith, within)) (clear_below left still p q) (z - 1) (true_le st.n (z - 1) both.0) (omega arith) (λ e. absurd (omega (arith, e, first)));
+    }
+
+-- no still column up to that of z, where z is not one
+none_until : (at : Spot) (k0 k : Sketch) (v0 v : View) (seen : Around) (left still : ℕ) (st : Cleaning at k0 k v0 v seen left still) (z : ℕ) → z < 64 → 1 ≤ z % 8 → ((m : ℕ) → m < z → on still m ≡ false) → on still z ≡ false → (m : ℕ) → m ≤ 8 * (z / 8) + 1 → on still m ≡ false
+none_until at k0 k v0 v seen left still st z within row clear off m h = elim (cases_lt m z) [ inl less ↦ clear m less | inr not_less ↦ let e : m ≡ z = omega (arith, row) in ap (on still) e ∙ off ]
+
+-- a place was coded, and its bit is 0
+pub cleaning_zero : {A : Type 0} (at : Spot) (k0 k k' : Sketch) (v0 v v' : View) (seen : Around) (left still : ℕ) (u : A) (st : Cleaning at k0 k v0 v seen left still) → 0 < bit_or left still → bit_or left still < 2 ^ 64
+    → on still (trailing_zeros w64 (bit_or left still)) ≡ false
+    → Takes (place_at v.bytes k.shape at.plane 2 (column at.word (trailing_zeros w64 (bit_or left still))) (row at.stripe (trailing_zeros w64 (bit_or left still)))) k k' v v' (Ok u) → k'.shape ≡ k.shape → v'.bytes ≡ v.bytes
+    → k'.visited ≡ k.visited → ((x y : ℕ) → lit_in k' x y ≡ lit_in k x y) → Cleaning at k0 k' v0 v' seen (bit_and left (left - 1)) still
+cleaning_zero at k0 k k' v0 v v' seen left still u st p q off takes shape bytes visited lit =
+    let z = trailing_zeros w64 (bit_or left still) in
+    let next = next_left at k0 k v0 v seen left still st p q off in
+    let row_z = rows_between (z % 8) next.place.on_row in
+    let clear = clear_below left still p q in
+    let bits = bits_from k.shape (lit_in k) at.word at.stripe still z st.n (st_le at k0 k v0 v seen left still st p q off) st.cleans.still_is (none_until at k0 k v0 v seen left still st z next.place.within row_z.0 (λ m h. (clear m h).1) off) in
+    let after = bits_kept k.shape k'.shape (lit_in k) (lit_in k') at.word at.stripe still z shape lit bits in
+    record {
+      n = z + 1;
+      going = going_place 2 at z k0 k k' v0 v v' u next.going next.place takes shape bytes;
+      cleans = record {
+        around = around_same (lit_in k) (lit_in k') at.word at.stripe seen lit st.cleans.around;
+        left_is = left_kept k k' at.word at.stripe z st.n left (bit_and left (left - 1)) shape visited (st_le at k0 k v0 v seen left still st p q off) lit st.cleans.left_is (λ m l. rest_bits left z m next.set (λ m h. (clear m h).0));
+        still_is = by_columns still z z (is_still k'.shape (lit_in k') at.word at.stripe) (omega arith) (let r = row_z.1 in omega (arith, r)) after.other after.early after.late;
+      };
+    }
+  where
+    st_le : (at : Spot) (k0 k : Sketch) (v0 v : View) (seen : Around) (left still : ℕ) (st : Cleaning at k0 k v0 v seen left still) (p : 0 < bit_or left still) (q : bit_or left still < 2 ^ 64) → on still (trailing_zeros w64 (bit_or left still)) ≡ false → st.n ≤ trailing_zeros w64 (bit_or left still)
+    st_le at k0 k v0 v seen left still st p q off =
+        let z = trailing_zeros w64 (bit_or left still) in
+        let l = lowest (bit_or left still) p q in
+        let next = next_left at k0 k v0 v seen left still st p q off in
+        true_le st.n z (and_parts (nat_le st.n z) (is_left k at.word at.stripe z) (sym (st.cleans.left_is z l.0) ∙ next.set)).0
+
+-- a place was coded, and its bit is 1
+pub cleaning_one : {A : Type 0} (at : Spot) (k0 k k' : Sketch) (v0 v v' : View) (seen : Around) (left still still' : ℕ) (u : A) (st : Cleaning at k0 k v0 v seen left still) → 0 < bit_or left still → bit_or left still < 2 ^ 64
+    → on still (trailing_zeros w64 (bit_or left still)) ≡ false
+    → Takes (place_at v.bytes k.shape at.plane 2 (column at.word (trailing_zeros w64 (bit_or left still))) (row at.stripe (trailing_zeros w64 (bit_or left still)))) k k' v v' (Ok u) → k'.shape ≡ k.shape → v'.bytes ≡ v.bytes
+    → k'.visited ≡ k.visited → ((x y : ℕ) → lit_in k' x y ≡ also (lit_in k) (column at.word (trailing_zeros w64 (bit_or left still))) (row at.stripe (trailing_zeros w64 (bit_or left still))) x y)
+    → Behind still still' (trailing_zeros w64 (bit_or left still)) → ((m : ℕ) → on still m ≡ false → on still' m ≡ false)
+    → Cleaning at k0 k' v0 v' record { centre = bit_or seen.centre (1 * 2 ^ trailing_zeros w64 (bit_or left still) % 2 ^ 64); west = seen.west; east = seen.east } (bit_and left (left - 1)) still'
+cleaning_one at k0 k k' v0 v v' seen left still still' u st p q off takes shape bytes visited lit behind fewer =
+    let z = trailing_zeros w64 (bit_or left still) in
+    let l = lowest (bit_or left still) p q in
+    let next = next_left at k0 k v0 v seen left still st p q off in
+    let row_z = rows_between (z % 8) next.place.on_row in
+    let clear = clear_below left still p q in
+    let le = true_le st.n z (and_parts (nat_le st.n z) (is_left k at.word at.stripe z) (sym (st.cleans.left_is z l.0) ∙ next.set)).0 in
+    let bits = bits_from k.shape (lit_in k) at.word at.stripe still z st.n le st.cleans.still_is (none_until at k0 k v0 v seen left still st z next.place.within row_z.0 (λ m h. (clear m h).1) off) in
+    let after = bits_behind k.shape k'.shape (lit_in k) (lit_in k') at.word at.stripe still still' z z shape next.place.on_row refl lit behind fewer bits in
+    record {
+      n = z + 1;
+      going = going_place 2 at z k0 k k' v0 v v' u next.going next.place takes shape bytes;
+      cleans = record {
+        around = around_also (lit_in k) (lit_in k') at.word at.stripe z seen next.place.within next.place.on_row lit st.cleans.around;
+        left_is = left_after k k' at.word at.stripe z z st.n left (bit_and left (left - 1)) shape visited next.place.on_row le (omega arith) lit st.cleans.left_is (λ m l. rest_bits left z m next.set (λ m h. (clear m h).0));
+        still_is = by_columns still' z z (is_still k'.shape (lit_in k') at.word at.stripe) (omega arith) (let r = row_z.1 in omega (arith, r)) after.other after.early after.late;
+      };
+    }
+
+-- the call of a column in run mode, by the bit of its first row
+abbrev pub RunTaken : (at : Spot) (k k' : Sketch) (v v' : View) (z f : ℕ) → Type 0
+RunTaken at k k' v v' z f = (coder : State) → Stands v coder → Onward (read_run v.bytes k.shape at.plane (column at.word z) at.stripe) (rows_at v.bytes k.shape at.plane 2 (column at.word z) at.stripe (f + 1) (3 - f)) k k' v' coder
+
+going_on : (at : Spot) (z f : ℕ) (k0 k k' : Sketch) (v0 v v' : View) → Going 2 at (z - 1) k0 k v0 v → z < 64 → z % 8 ≡ 1 → f ≤ 4 → is_still k.shape (lit_in k) at.word at.stripe (z / 8) ≡ true → RunTaken at k k' v v' z f
+    → k'.shape ≡ k.shape → v'.bytes ≡ v.bytes → Going 2 at (z + f + 1) k0 k' v0 v'
+going_on at z f k0 k k' v0 v v' going within first few run takes shape bytes =
+    let same : z / 8 ≡ (z - 1) / 8 = omega (arith, first) in
+    subst (λ n. Going 2 at n k0 k' v0 v') (let e : z - 1 + f + 2 ≡ z + f + 1 = omega (arith, first) in e)
+    (going_run at (z - 1) f k0 k k' v0 v v' going (omega arith) (omega (arith, first)) few (sym (ap (is_still k.shape (lit_in k) at.word at.stripe) same) ∙ run)
+    (λ coder st. subst (λ c. Onward (read_run v.bytes k.shape at.plane (8 * at.word + c) at.stripe) (rows_at v.bytes k.shape at.plane 2 (8 * at.word + c) at.stripe (f + 1) (3 - f)) k k' v' coder) same (takes coder st)) shape bytes)
+
+from_run : (at : Spot) (k0 k : Sketch) (v0 v : View) (seen : Around) (left still : ℕ) (st : Cleaning at k0 k v0 v seen left still) → 0 < bit_or left still → bit_or left still < 2 ^ 64 → on still (trailing_zeros w64 (bit_or left still)) ≡ true
+    → st.n ≤ trailing_zeros w64 (bit_or left still)
+from_run at k0 k v0 v seen left still st p q set =
+    let z = trailing_zeros w64 (bit_or left still) in
+    let l = lowest (bit_or left still) p q in
+    let all = and_parts (nat_eq (z % 8) 1) (nat_le st.n (z - 1) && is_still k.shape (lit_in k) at.word at.stripe (z / 8)) (sym (st.cleans.still_is z l.0) ∙ set) in
+    let le = true_le st.n (z - 1) (and_parts (nat_le st.n (z - 1)) (is_still k.shape (lit_in k) at.word at.stripe (z / 8)) all.1).0 in
+    omega (arith, le)
+
+-- a column in run mode has no 1
+pub cleaning_run : (at : Spot) (k0 k k' : Sketch) (v0 v v' : View) (seen : Around) (left still f : ℕ) (st : Cleaning at k0 k v0 v seen left still) → 0 < bit_or left still → bit_or left still < 2 ^ 64
+    → on still (trailing_zeros w64 (bit_or left still)) ≡ true → f ≤ 4 → RunTaken at k k' v v' (trailing_zeros w64 (bit_or left still)) f → k'.shape ≡ k.shape → v'.bytes ≡ v.bytes → k'.visited ≡ k.visited → ((x y : ℕ) → lit_in k' x y ≡ lit_in k x y)
+    → Cleaning at k0 k' v0 v' seen (bit_and left (0xFFFF_FFFF_FFFF_FFFE * 2 ^ (trailing_zeros w64 (bit_or left still) + f) % 2 ^ 64)) (bit_and still (still - 1))
+cleaning_run at k0 k k' v0 v v' seen left still f st p q set few takes shape bytes visited lit =
+    let z = trailing_zeros w64 (bit_or left still) in
+    let l = lowest (bit_or left still) p q in
+    let next = next_run at k0 k v0 v seen left still st p q set in
+    let first = next.first in
+    let clear = clear_below left still p q in
+    let le = from_run at k0 k v0 v seen left still st p q set in
+    let bits = run_bits k.shape (lit_in k) at.word at.stripe still z st.n l.0 first le set (λ m h. (clear m h).1) st.cleans.still_is in
+    let after = bits_kept k.shape k'.shape (lit_in k) (lit_in k') at.word at.stripe (bit_and still (still - 1)) z shape lit bits in
+    record {
+      n = z + f + 1;
+      going = going_on at z f k0 k k' v0 v v' next.going l.0 first few next.run takes shape bytes;
+      cleans = record {
+        around = around_same (lit_in k) (lit_in k') at.word at.stripe seen lit st.cleans.around;
+        left_is = left_kept k k' at.word at.stripe (z + f) st.n left (bit_and left (0xFFFF_FFFF_FFFF_FFFE * 2 ^ (z + f) % 2 ^ 64)) shape visited (omega (arith, le)) lit st.cleans.left_is (λ m l. above_bits left (z + f) m l);
+        still_is = by_columns (bit_and still (still - 1)) z (z + f) (is_still k'.shape (lit_in k') at.word at.stripe) (omega arith) (omega (arith, first)) after.other after.early after.late;
+      };
+    }
+
+-- a column in run mode has a 1 in the row f
+pub cleaning_run_one : (at : Spot) (k0 k k' : Sketch) (v0 v v' : View) (seen : Around) (left still still' f : ℕ) (st : Cleaning at k0 k v0 v seen left still) → 0 < bit_or left still → bit_or left still < 2 ^ 64
+    → on still (trailing_zeros w64 (bit_or left still)) ≡ true → f < 4 → RunTaken at k k' v v' (trailing_zeros w64 (bit_or left still)) f → k'.shape ≡ k.shape → v'.bytes ≡ v.bytes → k'.visited ≡ k.visited
+    → ((x y : ℕ) → lit_in k' x y ≡ also (lit_in k) (column at.word (trailing_zeros w64 (bit_or left still) + f)) (row at.stripe (trailing_zeros w64 (bit_or left still) + f)) x y)
+    → Behind (bit_and still (still - 1)) still' (trailing_zeros w64 (bit_or left still) + f) → ((m : ℕ) → on (bit_and still (still - 1)) m ≡ false → on still' m ≡ false)
+    → Cleaning at k0 k' v0 v' record { centre = bit_or seen.centre (1 * 2 ^ (trailing_zeros w64 (bit_or left still) + f) % 2 ^ 64); west = seen.west; east = seen.east }
+    (bit_and left (0xFFFF_FFFF_FFFF_FFFE * 2 ^ (trailing_zeros w64 (bit_or left still) + f) % 2 ^ 64)) still'
+cleaning_run_one at k0 k k' v0 v v' seen left still still' f st p q set few takes shape bytes visited lit behind fewer =
+    let z = trailing_zeros w64 (bit_or left still) in
+    let l = lowest (bit_or left still) p q in
+    let next = next_run at k0 k v0 v seen left still st p q set in
+    let first = next.first in
+    let within = l.0 in
+    let clear = clear_below left still p q in
+    let le = from_run at k0 k v0 v seen left still st p q set in
+    let on_row = on_rows ((z + f) % 8) (omega (arith, first)) (omega (arith, first)) in
+    let bits = run_bits k.shape (lit_in k) at.word at.stripe still z st.n l.0 first le set (λ m h. (clear m h).1) st.cleans.still_is in
+    let after = bits_behind k.shape k'.shape (lit_in k) (lit_in k') at.word at.stripe (bit_and still (still - 1)) still' z (z + f) shape on_row (omega (arith, first)) lit behind fewer bits in
+    record {
+      n = z + f + 1;
+      going = going_on at z f k0 k k' v0 v v' next.going l.0 first (omega arith) next.run takes shape bytes;
+      cleans = record {
+        around = around_also (lit_in k) (lit_in k') at.word at.stripe (z + f) seen (omega (arith, within, first)) on_row lit st.cleans.around;
+        left_is = left_after k k' at.word at.stripe (z + f) (z + f) st.n left (bit_and left (0xFFFF_FFFF_FFFF_FFFE * 2 ^ (z + f) % 2 ^ 64)) shape visited on_row (omega (arith, le)) (omega arith) lit st.cleans.left_is (λ m l. above_bits left (z + f) m l);
+        still_is = by_columns still' z (z + f) (is_still k'.shape (lit_in k') at.word at.stripe) (omega arith) (omega (arith, first)) after.other after.early after.late;
+      };
+    }
+
+pub cleaning_run_fault : (at : Spot) (k0 k : Sketch) (v0 v : View) (seen : Around) (left still : ℕ) (e : Fault) (st : Cleaning at k0 k v0 v seen left still) → 0 < bit_or left still → bit_or left still < 2 ^ 64 → on still (trailing_zeros w64 (bit_or left still)) ≡ true
+    → ((coder : State) → Stands v coder → read_run v.bytes k.shape at.plane (column at.word (trailing_zeros w64 (bit_or left still))) at.stripe (progress k coder) ≡ Err e) → (coder : State) → Stands v0 coder → word_pass v0.bytes k0.shape at.plane 2 at.word at.stripe (progress k0 coder) ≡ Err e
+cleaning_run_fault at k0 k v0 v seen left still e st p q set takes =
+    let z = trailing_zeros w64 (bit_or left still) in
+    let l = lowest (bit_or left still) p q in
+    let next = next_run at k0 k v0 v seen left still st p q set in
+    let first = next.first in
+    let within = l.0 in
+    let same : z / 8 ≡ (z - 1) / 8 = omega (arith, first) in
+    going_run_fault at (z - 1) k0 k v0 v e next.going (omega (arith, within)) (omega (arith, first)) (sym (ap (is_still k.shape (lit_in k) at.word at.stripe) same) ∙ next.run)
+    (λ coder s. failed (λ c. read_run v.bytes k.shape at.plane (8 * at.word + c) at.stripe (progress k coder)) (z / 8) ((z - 1) / 8) same (takes coder s))
+  where
+    failed : {X : Type 0} (f : ℕ → X) (a b : ℕ) {y : X} → a ≡ b → f a ≡ y → f b ≡ y
+    failed f a b e h = sym (ap f e) ∙ h
+
+pub cleaning_all : (at : Spot) (k0 k : Sketch) (v0 v : View) (seen : Around) (left still : ℕ) → Cleaning at k0 k v0 v seen left still → bit_or left still ≡ 0 → Going 2 at 64 k0 k v0 v
+cleaning_all at k0 k v0 v seen left still st empty =
+    idle_until at k0 k v0 v seen left still st 64 (omega arith) (λ m h. neither (on left m) (on still m) (sym (on_or left still m) ∙ ap (λ w. on w m) empty ∙ on_zero m)) 64 st.going.most (omega arith) (λ _ l. absurd (omega arith))
+
+both_clear : (a b : Bool) → a ≡ false → b ≡ false → (a || b) ≡ false
+both_clear a b e g = cc
+
+not_lt : (a b : ℕ) → b ≤ a → nat_lt a b ≡ false
+not_lt a b h = grind (arith, nat_tests)
+
+-- the loop comes to an end: the lowest bit goes up
+sooner_place : (left still still' : ℕ) → 0 < bit_or left still → bit_or left still < 2 ^ 64 → left < 2 ^ 64 → still' < 2 ^ 64
+    → on left (trailing_zeros w64 (bit_or left still)) ≡ true → on still (trailing_zeros w64 (bit_or left still)) ≡ false → ((m : ℕ) → on still m ≡ false → on still' m ≡ false)
+    → 64 - trailing_zeros w64 (bit_or (bit_and left (left - 1)) still') < 64 - trailing_zeros w64 (bit_or left still)
+sooner_place left still still' p q lim lim' set off fewer =
+    let z = trailing_zeros w64 (bit_or left still) in
+    let clear = clear_below left still p q in
+    later_lowest (bit_or left still) (bit_or (bit_and left (left - 1)) still') p q
+    (or_lt 64 (bit_and left (left - 1)) still' (let e = and_le_l left (left - 1) in omega (arith, e)) lim')
+    (λ m l le. on_or (bit_and left (left - 1)) still' m
+    ∙ both_clear (on (bit_and left (left - 1)) m) (on still' m)
+    (rest_bits left z m set (λ m h. (clear m h).0) ∙ ap (λ b. b && on left m) (not_lt z m le))
+    (fewer m (elim (cases_lt m z) [ inl less ↦ (clear m less).1 | inr not_less ↦ let e : m ≡ z = omega arith in ap (on still) e ∙ off ])))
+
+pub sooner_left : (at : Spot) (k0 k : Sketch) (v0 v : View) (seen : Around) (left still still' : ℕ) (st : Cleaning at k0 k v0 v seen left still) → 0 < bit_or left still → bit_or left still < 2 ^ 64 → left < 2 ^ 64 → still' < 2 ^ 64
+    → on still (trailing_zeros w64 (bit_or left still)) ≡ false → ((m : ℕ) → on still m ≡ false → on still' m ≡ false)
+    → 64 - trailing_zeros w64 (bit_or (bit_and left (left - 1)) still') < 64 - trailing_zeros w64 (bit_or left still)
+sooner_left at k0 k v0 v seen left still still' st p q lim lim' off fewer = sooner_place left still still' p q lim lim' (next_left at k0 k v0 v seen left still st p q off).set off fewer
+
+pub sooner_run : (left still still' f : ℕ) → 0 < bit_or left still → bit_or left still < 2 ^ 64 → left < 2 ^ 64 → still' < 2 ^ 64 → on still (trailing_zeros w64 (bit_or left still)) ≡ true
+    → ((m : ℕ) → on (bit_and still (still - 1)) m ≡ false → on still' m ≡ false)
+    → 64 - trailing_zeros w64 (bit_or (bit_and left (0xFFFF_FFFF_FFFF_FFFE * 2 ^ (trailing_zeros w64 (bit_or left still) + f) % 2 ^ 64)) still') < 64 - trailing_zeros w64 (bit_or left still)
+sooner_run left still still' f p q lim lim' set fewer =
+    let z = trailing_zeros w64 (bit_or left still) in
+    let clear = clear_below left still p q in
+    let rest = bit_and left (0xFFFF_FFFF_FFFF_FFFE * 2 ^ (z + f) % 2 ^ 64) in
+    later_lowest (bit_or left still) (bit_or rest still') p q
+    (or_lt 64 rest still' (let e = and_le_l left (0xFFFF_FFFF_FFFF_FFFE * 2 ^ (z + f) % 2 ^ 64) in omega (arith, e)) lim')
+    (λ m l le. on_or rest still' m
+    ∙ both_clear (on rest m) (on still' m)
+    (above_bits left (z + f) m l ∙ ap (λ b. b && on left m) (not_lt (z + f) m (omega arith)))
+    (fewer m (rest_bits still z m set (λ m h. (clear m h).1) ∙ ap (λ b. b && on still m) (not_lt z m le))))

@@ -1,0 +1,23 @@
+-- The way of a block that is written: its planes (Slicing, Negatives), the moment of each bit of a word
+-- (Timing), what is listed of a word (Coming, Remaining) in significance propagation (Foreseen), magnitude
+-- refinement (Refined) and cleanup (Turned, Cleaned), and one pass and plane after another (Planes, Written).
+pub mod Behind
+pub mod Cleaned
+pub mod Coming
+pub mod Emptied
+pub mod Foreseen
+pub mod Lengths
+pub mod Lighting
+pub mod Listed
+pub mod Negatives
+pub mod Planes
+pub mod Propagated
+pub mod Reaching
+pub mod Refined
+pub mod Remaining
+pub mod Sheeted
+pub mod Slicing
+pub mod Testing
+pub mod Timing
+pub mod Turned
+pub mod Written

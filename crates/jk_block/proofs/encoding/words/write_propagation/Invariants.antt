@@ -1,0 +1,14 @@
+use Rattle.std.proofs.Common.{◌+◌, ◌-◌, ◌*◌}
+use Rattle.std.specs.Int.{trailing_zeros, w64}
+use Rattle.jk_block.specs.encoding.Sheets.{IsSheet, told}
+use Rattle.jk_block.proofs.encoding.Foreseen.{Listing}
+use Rattle.jk_block.proofs.encoding.words.write_propagation.Given as goal
+
+abbrev pub invariant-loop-left : goal.invariant-loop-left
+invariant-loop-left l = record {
+  listing : Listing l.block l.spot l.fn.list (told l.bytes l.count) l.limits l.ones l.all l.rings l.crosses l.left;
+  room : IsSheet l.bytes (l.count + 2 * (64 - trailing_zeros w64 l.left));
+}
+
+abbrev pub decreases-loop-left : goal.decreases-loop-left
+decreases-loop-left l = 64 - trailing_zeros w64 l.left

@@ -1,9 +1,0 @@
-use Rattle.std.proofs.Common.{◌≡◌}
-use Rattle.jk_block.proofs.Taking.{Taken}
-use Rattle.jk_block.specs.Reading.{stripe_at}
-use Rattle.jk_block.specs.Sketches.{IsFresh, number_of}
-use Rattle.jk_block.proofs.passes.visit_plane.Given as goal
-
-abbrev pub invariant-loop-stripe : goal.invariant-loop-stripe
-invariant-loop-stripe l =
-    Taken (λ bytes s i z. stripe_at bytes s l.plane (number_of l.pass) i z) l.stripe l.fn.sketch l.sketch l.fn.decoder l.decoder × (number_of l.pass ≡ 1 → IsFresh l.plane l.refined l.sketch)

@@ -1,5 +1,0 @@
-use Rattle.jk_block.proofs.Slicing.{plane_bits}
-use Rattle.jk_block.proofs.slices.plane_of.Goals as goal
-
-pub returns : goal.returns
-returns c n i p q = plane_bits c.args.slice c.args.bit n i c.requires p q

@@ -1,5 +1,0 @@
-use Rattle.jk_block.proofs.Slicing.{HasBytes}
-use Rattle.jk_block.proofs.slices.slice_by.Given as goal
-
-abbrev pub invariant-loop-c : goal.invariant-loop-c
-invariant-loop-c l = HasBytes l.values l.start l.shift l.c l.word

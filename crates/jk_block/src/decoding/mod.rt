@@ -1,0 +1,204 @@
+//! A block read from its segment. The MQ decoder gives decisions; a pass goes over stripes (`passes`),
+//! their words of 32 places (`words`) and the places that it codes (`places`), and each decision goes
+//! into the `sketch`: magnitudes, and words of which places are significant. The sketch is the block.
+
+ghost use Rattle.std.specs.Prelude.{◌≡◌, ℕ, ℤ, List, true, IfErr, OnOk, map, ◌++◌, ◌+◌, ◌-◌, ◌*◌, ◌/◌, ◌%◌, ◌^◌, ◌<◌, ◌≤◌, All, IfOk, MatchResult, unsigned_abs};
+ghost use Rattle.std.specs.List.{range_with_len};
+ghost use Rattle.jk_math.specs.Answer.{Answers};
+ghost use Rattle.jk_math.specs.Memory.{IsMemory};
+ghost use Rattle.jk_model.specs.Decisions.{State};
+ghost use Rattle.jk_mqdec.specs.Standing.{Stands};
+ghost use Rattle.jk_scan.specs.Neighbours.{Field, is_inside};
+ghost use Rattle.jk_scan.specs.Flags.{IsSized};
+ghost use Rattle.jk_block.specs.Fields.{field_of};
+ghost use Rattle.jk_block.specs.Meaning.{IsBlockMeaning, plane_of, kind_of, with_sign, value_in, values_of};
+ghost use Rattle.jk_block.specs.Reading.{times, blank, begun, pass_at, coefficients, block_at};
+ghost use Rattle.jk_block.specs.Steps.{number_of};
+ghost use Rattle.jk_block.specs.decoding.Sketches.{Takes, IsFresh, progress, negative_in};
+
+mod passes;
+mod places;
+mod sketch;
+mod words;
+
+use crate::ages::Ages;
+use crate::spot::{Pass, pass_of};
+use jk_math::Fault;
+use jk_model::first_steps;
+use jk_mqdec::PassDecoder;
+use jk_scan::{BlockShape, Kind, WORDS};
+use passes::read_bit_plane;
+use sketch::Sketch;
+use std::alloc::Global;
+
+/// A code-block: the coefficients of its place in a sub-band.
+#[derive(Drop)]
+pub struct Block {
+    /// How many columns it has.
+    pub width: usize,
+    /// How many rows it has.
+    pub height: usize,
+    /// Its sub-band.
+    pub kind: Kind,
+    /// The coefficients, row by row.
+    pub values: Vec<i32>,
+}
+
+/// Begins a pass: with significance propagation a plane begins.
+fn begin(sketch: &mut Sketch, pass: Pass)
+    ensures shape { sketch.new.shape ≡ sketch.old.shape }
+    ensures begun { (c : State) → progress sketch.new c ≡ begun (number_of pass) (progress sketch.old c) }
+    ensures fresh { (plane : ℕ) (refined : List ℕ) → number_of pass ≡ 1 → IsFresh plane refined sketch.old → IsFresh plane refined sketch.new }
+{
+    match pass {
+        Pass::Propagation => sketch.begin(),
+        _ => {}
+    }
+}
+
+/// Notes what is significant as the n-th pass begins, if with it a plane begins.
+fn note(ages: &mut Ages, significant: &[u64; WORDS], n: usize)
+    requires { n < 100 }
+    ensures refined { kind_of n ≡ 0 → ages.new.refined ≡ ages.old.older }
+    ensures older { kind_of n ≡ 0 → ages.new.older ≡ significant.now }
+    ensures kept { (kind_of n ≡ 0 → ⊥) → ages.new ≡ ages.old }
+{
+    match pass_of(n) {
+        Pass::Propagation => ages.note(significant),
+        _ => {}
+    }
+}
+
+/// Reads the n-th pass of a block.
+fn read_pass(
+    sketch: &mut Sketch,
+    decoder: &mut PassDecoder,
+    refined: &[u64; WORDS],
+    planes: u32,
+    n: usize,
+) -> Result<(), Fault>
+    requires planes { planes ≤ 23 }
+    requires n { n < 3 * planes - 2 }
+    requires fresh { kind_of n ≡ 1 → IsFresh (plane_of planes n) refined.now sketch.old }
+    ensures shape { sketch.new.shape ≡ sketch.old.shape }
+    ensures bytes { decoder.new.bytes ≡ decoder.old.bytes }
+    ensures takes { Takes (pass_at decoder.old.bytes sketch.old.shape planes n)
+        sketch.old sketch.new decoder.old decoder.new result }
+{
+    let plane = planes - 1 - (n as u32 + 2) / 3;
+    let pass = pass_of(n);
+    begin(sketch, pass);
+    read_bit_plane(sketch, decoder, refined, plane, pass)
+}
+
+/// Reads the passes of a block.
+fn read_passes(
+    sketch: &mut Sketch,
+    decoder: &mut PassDecoder,
+    planes: u32,
+    passes: usize,
+) -> Result<(), Fault>
+    requires planes { planes ≤ 23 }
+    requires passes { passes ≤ 3 * planes - 2 }
+    requires blank { progress sketch.old blank.coder ≡ blank }
+    requires stands { Stands decoder.old blank.coder }
+    ensures shape { sketch.new.shape ≡ sketch.old.shape }
+    ensures bytes { decoder.new.bytes ≡ decoder.old.bytes }
+    ensures takes { Takes (times passes (pass_at decoder.old.bytes sketch.old.shape planes))
+        sketch.old sketch.new decoder.old decoder.new result }
+{
+    let mut ages = Ages::none();
+    for n in 0..passes {
+        note(&mut ages, &sketch.significant, n);
+        read_pass(sketch, decoder, ages.refined(), planes, n)?;
+    }
+    Ok(())
+}
+
+/// The coefficient of a place.
+#[inline(always)]
+fn coefficient(sketch: &Sketch, shape: BlockShape, x: usize, y: usize) -> i32
+    requires same { shape ≡ sketch.now.shape }
+    requires inside { is_inside sketch.now.shape x y ≡ true }
+    requires small { field_of sketch.now.shape sketch.now.magnitudes 0 x y < 2 ^ 23 }
+    ensures { result ≡ with_sign (negative_in sketch.now x y) (field_of sketch.now.shape sketch.now.magnitudes 0 x y) }
+{
+    let magnitudes = &sketch.magnitudes;
+    let magnitude = magnitudes[y * shape.width + x] as i32;
+    if sketch.is_negative(shape, x, y) {
+        -magnitude
+    } else {
+        magnitude
+    }
+}
+
+/// Appends the coefficients of a row.
+fn append_row(values: &mut Vec<i32>, sketch: &Sketch, y: usize) -> Result<(), Fault>
+    requires row { y < sketch.now.shape.height }
+    requires small { (x y : ℕ) → is_inside sketch.now.shape x y ≡ true
+        → field_of sketch.now.shape sketch.now.magnitudes 0 x y < 2 ^ 23 }
+    ensures row { OnOk result (values.new.items ≡ values.old.items
+        ++ map (λ x. with_sign (negative_in sketch.now x y) (field_of sketch.now.shape sketch.now.magnitudes 0 x y)) (range_with_len 0 sketch.now.shape.width)) }
+    ensures memory { IfErr result IsMemory }
+{
+    let shape = sketch.shape;
+    for x in 0..shape.width {
+        values.push(coefficient(sketch, shape, x, y))?;
+    }
+    Ok(())
+}
+
+/// The coefficients of a sketch.
+fn values(alloc: Global, sketch: &Sketch) -> Result<Vec<i32>, Fault>
+    requires { (x y : ℕ) → is_inside sketch.now.shape x y ≡ true
+        → field_of sketch.now.shape sketch.now.magnitudes 0 x y < 2 ^ 23 }
+    ensures values { (c : State)
+        → IfOk result (λ v. v.items ≡ values_of sketch.now.shape (coefficients (progress sketch.now c))) }
+    ensures memory { IfErr result IsMemory }
+{
+    let mut values = Vec::with_capacity(alloc, sketch.shape.width * sketch.shape.height)?;
+    for y in 0..sketch.shape.height {
+        append_row(&mut values, sketch, y)?;
+    }
+    Ok(values)
+}
+
+/// Reads a code-block of so many bit-planes from the segment of its coding passes (T.800 Annex D), or
+/// [`Fault::Memory`], [`Fault::TooManyPasses`] or [`Fault::CodeOutOfInterval`]. Without a pass all coefficients are 0.
+pub fn decode(
+    alloc: Global,
+    segment: &[u8],
+    shape: BlockShape,
+    planes: u32,
+    passes: usize,
+) -> Result<Block, Fault>
+    requires wide { 1 ≤ shape.width }
+    requires narrow { shape.width ≤ 1024 }
+    requires high { 1 ≤ shape.height }
+    requires low { shape.height ≤ 1024 }
+    requires area { shape.width * shape.height ≤ 4096 }
+    requires planes { planes ≤ 23 }
+    ensures exact { Answers (λ b. b.values.items) result (block_at shape planes passes segment.now) }
+    ensures found { IfOk result
+        (λ b. IsBlockMeaning shape planes passes segment.now (value_in shape b.values.items)) }
+    ensures only { (q : Field ℤ) → IsBlockMeaning shape planes passes segment.now q
+        → MatchResult result (λ b. b.values.items ≡ values_of shape q) IsMemory }
+    ensures small { IfOk result (λ b. All (λ v. unsigned_abs v < 2 ^ planes) b.values.items) }
+    ensures width { IfOk result (λ b. b.width ≡ shape.width) }
+    ensures height { IfOk result (λ b. b.height ≡ shape.height) }
+    ensures kind { IfOk result (λ b. b.kind ≡ shape.kind) }
+{
+    if passes > (3 * planes as usize).saturating_sub(2) {
+        return Err(Fault::TooManyPasses);
+    }
+    let mut sketch = Sketch::new(shape);
+    let mut contexts = first_steps();
+    let mut decoder = PassDecoder::new(segment, &mut contexts);
+    read_passes(&mut sketch, &mut decoder, planes, passes)?;
+    Ok(Block {
+        width: shape.width,
+        height: shape.height,
+        kind: shape.kind,
+        values: values(alloc, &sketch)?,
+    })
+}

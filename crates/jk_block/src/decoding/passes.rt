@@ -1,0 +1,87 @@
+//! Stripes, and whole passes.
+
+ghost use Rattle.std.specs.Prelude.{◌≡◌, ◌<◌, ◌≤◌};
+ghost use Rattle.jk_scan.specs.Moments.{stripes};
+ghost use Rattle.jk_block.specs.Reading.{stripe_at, plane_pass_at};
+ghost use Rattle.jk_block.specs.Steps.{IsSpot, word_pass, number_of};
+ghost use Rattle.jk_block.specs.decoding.Sketches.{Takes, IsFresh};
+
+use super::sketch::Sketch;
+use super::words::{read_cleanup, read_propagation, read_refinement};
+use crate::spot::{Pass, Spot};
+use jk_math::Fault;
+use jk_mqdec::PassDecoder;
+use jk_scan::{WORDS, words_across};
+
+/// Reads a word in a pass.
+fn read_word(
+    sketch: &mut Sketch,
+    decoder: &mut PassDecoder,
+    refined: &[u64; WORDS],
+    spot: Spot,
+    pass: Pass,
+) -> Result<(), Fault>
+    requires spot { IsSpot sketch.old.shape spot }
+    requires fresh { number_of pass ≡ 1 → IsFresh spot.plane refined.now sketch.old }
+    ensures shape { sketch.new.shape ≡ sketch.old.shape }
+    ensures bytes { decoder.new.bytes ≡ decoder.old.bytes }
+    ensures fresh { number_of pass ≡ 1 → IsFresh spot.plane refined.now sketch.new }
+    ensures takes { Takes (word_pass decoder.old.bytes sketch.old.shape spot.plane (number_of pass) spot.word spot.stripe)
+        sketch.old sketch.new decoder.old decoder.new result }
+{
+    match pass {
+        Pass::Propagation => read_propagation(sketch, decoder, spot),
+        Pass::Refinement => read_refinement(sketch, decoder, refined, spot),
+        Pass::Cleanup => read_cleanup(sketch, decoder, spot),
+    }
+}
+
+/// Reads a stripe in a pass.
+fn read_stripe(
+    sketch: &mut Sketch,
+    decoder: &mut PassDecoder,
+    refined: &[u64; WORDS],
+    plane: u32,
+    pass: Pass,
+    stripe: usize,
+) -> Result<(), Fault>
+    requires plane { plane < 23 }
+    requires stripe { stripe < stripes sketch.old.shape }
+    requires fresh { number_of pass ≡ 1 → IsFresh plane refined.now sketch.old }
+    ensures shape { sketch.new.shape ≡ sketch.old.shape }
+    ensures bytes { decoder.new.bytes ≡ decoder.old.bytes }
+    ensures fresh { number_of pass ≡ 1 → IsFresh plane refined.now sketch.new }
+    ensures takes { Takes (stripe_at decoder.old.bytes sketch.old.shape plane (number_of pass) stripe)
+        sketch.old sketch.new decoder.old decoder.new result }
+{
+    for word in 0..words_across(sketch.shape) {
+        let spot = Spot {
+            plane,
+            word,
+            stripe,
+        };
+        read_word(sketch, decoder, refined, spot, pass)?;
+    }
+    Ok(())
+}
+
+/// Reads all places in a pass of a bit-plane.
+pub fn read_bit_plane(
+    sketch: &mut Sketch,
+    decoder: &mut PassDecoder,
+    refined: &[u64; WORDS],
+    plane: u32,
+    pass: Pass,
+) -> Result<(), Fault>
+    requires plane { plane < 23 }
+    requires fresh { number_of pass ≡ 1 → IsFresh plane refined.now sketch.old }
+    ensures shape { sketch.new.shape ≡ sketch.old.shape }
+    ensures bytes { decoder.new.bytes ≡ decoder.old.bytes }
+    ensures takes { Takes (plane_pass_at decoder.old.bytes sketch.old.shape plane (number_of pass))
+        sketch.old sketch.new decoder.old decoder.new result }
+{
+    for stripe in 0..(sketch.shape.height + 3) / 4 {
+        read_stripe(sketch, decoder, refined, plane, pass, stripe)?;
+    }
+    Ok(())
+}

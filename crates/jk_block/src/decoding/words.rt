@@ -1,0 +1,170 @@
+//! A word of 32 places in each pass: loops over the places that the pass codes, from the lowest bit on. Between two of them
+//! nothing happens.
+
+ghost use Rattle.std.specs.Prelude.{◌≡◌, ℕ, Bool, true, not, nat_eq, nat_lt, ◌&&◌, ◌+◌, ◌*◌, ◌/◌, ◌%◌, ◌<◌};
+ghost use Rattle.jk_scan.specs.Bits.{on};
+ghost use Rattle.jk_scan.specs.Neighbours.{Field, is_inside};
+ghost use Rattle.jk_scan.specs.Words.{of_rows, bordered, Shows};
+ghost use Rattle.jk_scan.specs.WordPlaces.{column, row};
+ghost use Rattle.jk_scan.specs.Surroundings.{IsAround};
+ghost use Rattle.jk_scan.specs.Flags.{IsSized, flag_at};
+ghost use Rattle.jk_block.specs.Reading.{is_quiet};
+ghost use Rattle.jk_block.specs.Steps.{IsSpot, word_pass};
+ghost use Rattle.jk_block.specs.decoding.Sketches.{Takes, IsFresh, lit_in, visited_in};
+
+use super::places::{read_cleaned, read_propagated, read_refined, read_run};
+use super::sketch::Sketch;
+use crate::spot::Spot;
+use jk_math::Fault;
+use jk_mqdec::PassDecoder;
+use jk_scan::{
+    Around, BlockShape, WORDS, inside, members, quiet_behind, quiet_columns, refine_context,
+    seen_around, touched_places, word_place,
+};
+
+/// Reads a word in the significance propagation pass (T.800 D.3.1). A place that becomes significant takes in the later ones
+/// of its word that it touches.
+pub fn read_propagation(
+    sketch: &mut Sketch,
+    decoder: &mut PassDecoder,
+    spot: Spot,
+) -> Result<(), Fault>
+    requires { IsSpot sketch.old.shape spot }
+    ensures shape { sketch.new.shape ≡ sketch.old.shape }
+    ensures bytes { decoder.new.bytes ≡ decoder.old.bytes }
+    ensures takes { Takes (word_pass decoder.old.bytes sketch.old.shape spot.plane 0 spot.word spot.stripe)
+        sketch.old sketch.new decoder.old decoder.new result }
+{
+    let shape = sketch.shape;
+    let limits = inside(shape, spot.word, spot.stripe);
+    let mut seen = seen_around(&sketch.significant, shape, spot.word, spot.stripe);
+    let mut candidates = members(seen, limits);
+    while candidates != 0 {
+        let k = candidates.trailing_zeros();
+        candidates &= candidates - 1;
+        let bit = read_propagated(sketch, decoder, shape, spot, k, seen)?;
+        if bit {
+            seen.centre |= 1 << k;
+            candidates |= 0x382 << k & limits & !seen.centre;
+        }
+    }
+    Ok(())
+}
+
+/// The places of a word that were significant before this plane.
+fn older(sketch: &Sketch, spot: Spot) -> u64
+    requires { IsSpot sketch.now.shape spot }
+    ensures { (m : ℕ) → m < 64 → on result m ≡ (of_rows (m % 8)
+        && (lit_in sketch.now (column spot.word m) (row spot.stripe m) && not (visited_in sketch.now (column spot.word m) (row spot.stripe m)))) }
+{
+    let place = word_place(sketch.shape, spot.word + 1, spot.stripe + 1);
+    let significant = &sketch.significant;
+    let visited = &sketch.visited;
+    significant[place] & !visited[place]
+}
+
+/// The places of a word that the words show.
+#[inline(always)]
+fn refined_places(refined: &[u64; WORDS], shape: BlockShape, spot: Spot) -> u64
+    requires sized { IsSized shape }
+    requires spot { IsSpot shape spot }
+    ensures { (m : ℕ) → m < 64 → of_rows (m % 8) ≡ true
+        → on result m ≡ flag_at shape refined.now (column spot.word m) (row spot.stripe m) }
+{
+    refined[word_place(shape, spot.word + 1, spot.stripe + 1)]
+}
+
+/// Reads a word in the magnitude refinement pass (T.800 D.3.3).
+pub fn read_refinement(
+    sketch: &mut Sketch,
+    decoder: &mut PassDecoder,
+    refined: &[u64; WORDS],
+    spot: Spot,
+) -> Result<(), Fault>
+    requires spot { IsSpot sketch.old.shape spot }
+    requires fresh { IsFresh spot.plane refined.now sketch.old }
+    ensures shape { sketch.new.shape ≡ sketch.old.shape }
+    ensures bytes { decoder.new.bytes ≡ decoder.old.bytes }
+    ensures fresh { IsFresh spot.plane refined.now sketch.new }
+    ensures takes { Takes (word_pass decoder.old.bytes sketch.old.shape spot.plane 1 spot.word spot.stripe)
+        sketch.old sketch.new decoder.old decoder.new result }
+{
+    let shape = sketch.shape;
+    let seen = seen_around(&sketch.significant, shape, spot.word, spot.stripe);
+    let touched = touched_places(seen);
+    let again = refined_places(refined, shape, spot);
+    let mut candidates = older(sketch, spot);
+    while candidates != 0 {
+        let k = candidates.trailing_zeros();
+        candidates &= candidates - 1;
+        let context = refine_context(again >> k & 1 == 1, touched >> k & 1 == 1);
+        read_refined(sketch, decoder, shape, spot, k, context)?;
+    }
+    Ok(())
+}
+
+/// The places of a word that no pass has coded yet.
+fn uncoded(sketch: &Sketch, spot: Spot, limits: u64) -> u64
+    requires spot { IsSpot sketch.now.shape spot }
+    requires limits { Shows of_rows (bordered (is_inside sketch.now.shape)) (spot.word + 1) (spot.stripe + 1) limits }
+    ensures { (m : ℕ) → m < 64 → on result m ≡ (of_rows (m % 8) && (is_inside sketch.now.shape (column spot.word m) (row spot.stripe m)
+        && (not (lit_in sketch.now (column spot.word m) (row spot.stripe m)) && not (visited_in sketch.now (column spot.word m) (row spot.stripe m))))) }
+{
+    let place = word_place(sketch.shape, spot.word + 1, spot.stripe + 1);
+    let significant = &sketch.significant;
+    let visited = &sketch.visited;
+    limits & !(significant[place] | visited[place])
+}
+
+/// The columns of a word that are coded in run mode, by their first rows: they have four rows, with nothing significant in
+/// them or around them.
+#[inline(always)]
+fn still_columns(shape: BlockShape, spot: Spot, seen: Around, limits: u64) -> u64
+    requires sized { IsSized shape }
+    requires spot { IsSpot shape spot }
+    requires limits { Shows of_rows (bordered (is_inside shape)) (spot.word + 1) (spot.stripe + 1) limits }
+    ensures { (f : Field Bool) → IsAround (bordered f) spot.word spot.stripe seen
+        → (m : ℕ) → m < 64 → on result m ≡ (nat_eq (m % 8) 1 && (nat_lt (8 * spot.word + m / 8) shape.width
+        && is_quiet shape f (8 * spot.word + m / 8) spot.stripe)) }
+{
+    if 4 * spot.stripe + 4 <= shape.height {
+        quiet_columns(seen, limits)
+    } else {
+        0
+    }
+}
+
+/// Reads a word in the cleanup pass (T.800 D.3.4): the places that are left, and columns in run mode.
+pub fn read_cleanup(sketch: &mut Sketch, decoder: &mut PassDecoder, spot: Spot) -> Result<(), Fault>
+    requires { IsSpot sketch.old.shape spot }
+    ensures shape { sketch.new.shape ≡ sketch.old.shape }
+    ensures bytes { decoder.new.bytes ≡ decoder.old.bytes }
+    ensures takes { Takes (word_pass decoder.old.bytes sketch.old.shape spot.plane 2 spot.word spot.stripe)
+        sketch.old sketch.new decoder.old decoder.new result }
+{
+    let shape = sketch.shape;
+    let limits = inside(shape, spot.word, spot.stripe);
+    let mut seen = seen_around(&sketch.significant, shape, spot.word, spot.stripe);
+    let mut left = uncoded(sketch, spot, limits);
+    let mut still = still_columns(shape, spot, seen, limits);
+    'places: while left | still != 0 {
+        let k = (left | still).trailing_zeros();
+        if still >> k & 1 == 1 {
+            let row = read_run(sketch, decoder, shape, spot, k, seen)?;
+            left &= 0xFFFF_FFFF_FFFF_FFFE << (k + row);
+            still &= still - 1;
+            if row < 4 {
+                seen.centre |= 1 << (k + row);
+                still = quiet_behind(still, k + row);
+            }
+        } else {
+            let bit = read_cleaned(sketch, decoder, shape, spot, k, seen)?;
+            left &= left - 1;
+            if bit {
+                seen.centre |= 1 << k;
+                still = quiet_behind(still, k);
+            }
+        }
+    }
+    Ok(())
+}

@@ -1,0 +1,72 @@
+//! What is known of the places of a block while it is written.
+
+ghost use Rattle.std.specs.Prelude.{◌≡◌, ℕ, ◌%◌, ◌<◌, true, replicate};
+ghost use Rattle.jk_scan.specs.Bits.{on};
+ghost use Rattle.jk_scan.specs.Neighbours.{Field};
+ghost use Rattle.jk_scan.specs.Words.{of_rows};
+ghost use Rattle.jk_scan.specs.Flags.{IsSized, IsDrawn};
+ghost use Rattle.jk_block.specs.Steps.{IsSpot};
+
+use crate::ages::unmarked;
+use crate::spot::Spot;
+use jk_scan::{BlockShape, WORDS, word_place};
+
+/// Words of 32 places: which are significant, and which the significance propagation pass of this plane has coded.
+#[derive(Drop)]
+pub struct Flags {
+    pub significant: [u64; WORDS],
+    pub visited: [u64; WORDS],
+}
+
+impl Flags {
+    ghost use Rattle.std.specs.Prelude.{Bool};
+    ghost use Rattle.jk_block.specs.encoding.Viewed.{with_word};
+
+    /// No place is significant.
+    pub fn new() -> Flags
+        ensures significant { result.significant ≡ replicate 774 0 }
+    {
+        Flags {
+            significant: unmarked(),
+            visited: unmarked(),
+        }
+    }
+
+    /// Begins a plane: no place is coded.
+    pub fn begin(&mut self)
+        ensures significant { self.new.significant ≡ self.old.significant }
+        ensures visited { self.new.visited ≡ replicate 774 0 }
+    {
+        self.visited = unmarked();
+    }
+
+    /// Flags these places of a word as coded by the significance propagation pass.
+    #[inline(always)]
+    pub fn visit_all(&mut self, shape: BlockShape, spot: Spot, places: u64)
+        requires sized { IsSized shape }
+        requires spot { IsSpot shape spot }
+        requires rows { (m : ℕ) → m < 64 → on places m ≡ true → of_rows (m % 8) ≡ true }
+        ensures significant { self.new.significant ≡ self.old.significant }
+        ensures visited { (f : Field Bool) → IsDrawn shape f self.old.visited
+            → IsDrawn shape (with_word f spot.word spot.stripe places) self.new.visited }
+    {
+        let at = word_place(shape, spot.word + 1, spot.stripe + 1);
+        let visited = &mut self.visited;
+        visited[at] |= places;
+    }
+
+    /// These places of a word become significant.
+    #[inline(always)]
+    pub fn light_all(&mut self, shape: BlockShape, spot: Spot, places: u64)
+        requires sized { IsSized shape }
+        requires spot { IsSpot shape spot }
+        requires rows { (m : ℕ) → m < 64 → on places m ≡ true → of_rows (m % 8) ≡ true }
+        ensures lit { (f : Field Bool) → IsDrawn shape f self.old.significant
+            → IsDrawn shape (with_word f spot.word spot.stripe places) self.new.significant }
+        ensures visited { self.new.visited ≡ self.old.visited }
+    {
+        let at = word_place(shape, spot.word + 1, spot.stripe + 1);
+        let significant = &mut self.significant;
+        significant[at] |= places;
+    }
+}

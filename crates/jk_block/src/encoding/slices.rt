@@ -1,0 +1,155 @@
+//! The magnitudes of a block in slices: one byte of each magnitude, eight beside each other in one number. So the bits of a
+//! word of 32 places in a bit-plane are those of four slices.
+
+ghost use Rattle.std.specs.Prelude.{◌≡◌, ℕ, ◌&&◌, ◌+◌, ◌*◌, ◌/◌, ◌%◌, ◌^◌, ◌<◌, ◌≤◌, nat_eq, nat_lt, length, pos, ℤ, replicate, slice_index_or};
+ghost use Rattle.jk_scan.specs.Bits.{on};
+ghost use Rattle.jk_scan.specs.Flags.{IsSized, IsDrawn, across};
+ghost use Rattle.jk_scan.specs.Moments.{stripes};
+ghost use Rattle.jk_scan.specs.Neighbours.{Field};
+ghost use Rattle.jk_block.specs.Meaning.{value_in};
+ghost use Rattle.jk_block.specs.encoding.Slices.{signed, negative_of, negative_to, IsShort, IsSliced, IsSlicedTo, IsPlaneWord};
+ghost use Rattle.jk_block.specs.Steps.{IsSpot};
+
+use crate::ages::unmarked;
+use crate::spot::Spot;
+use jk_scan::{BlockShape, WORDS, word_place, words_across};
+
+/// How many slices are kept, enough for each block with the rows behind its last one up to a whole stripe.
+pub const SLICES: usize = 1032;
+
+/// The byte of a magnitude from a bit on. Bit 31 is the sign.
+#[inline(always)]
+fn byte_at(values: &[i32], at: usize, shift: u32) -> u64
+    requires within { at < length values.now }
+    requires shift { shift < 32 }
+    ensures { result ≡ signed (slice_index_or values.now at (pos 0)) / 2 ^ shift % 2 ^ 8 }
+{
+    let sign = (values[at] < 0) as u32;
+    ((values[at].unsigned_abs() | sign << 31) >> shift & 0xFF) as u64
+}
+
+/// The slice of so many values, by a loop over them.
+#[inline(always)]
+fn slice_by(values: &[i32], start: usize, count: usize, shift: u32) -> u64
+    requires within { start + count ≤ length values.now }
+    requires few { count ≤ 8 }
+    requires shift { shift < 32 }
+    ensures { (c i : ℕ) → c < 8 → i < 8
+        → on result (8 * c + i) ≡ (nat_lt c count && on (signed (slice_index_or values.now (start + c) (pos 0))) (shift + i)) }
+{
+    let mut word = 0;
+    for c in 0..count {
+        word |= byte_at(values, start + c, shift) << (8 * c);
+    }
+    word
+}
+
+/// The slice of so many values. Most have eight, for which the loop is laid out in full.
+fn slice(values: &[i32], start: usize, count: usize, shift: u32) -> u64
+    requires within { start + count ≤ length values.now }
+    requires few { count ≤ 8 }
+    requires shift { shift < 32 }
+    ensures { (c i : ℕ) → c < 8 → i < 8
+        → on result (8 * c + i) ≡ (nat_lt c count && on (signed (slice_index_or values.now (start + c) (pos 0))) (shift + i)) }
+{
+    if count == 8 {
+        slice_by(values, start, 8, shift)
+    } else {
+        slice_by(values, start, count, shift)
+    }
+}
+
+/// The slices of a row.
+fn slice_row(slices: &mut [u64; SLICES], shape: BlockShape, values: &[i32], row: usize, shift: u32)
+    requires sized { IsSized shape }
+    requires whole { length values.now ≡ shape.width * shape.height }
+    requires row { row < shape.height }
+    requires shift { shift < 32 }
+    requires before { IsSlicedTo shape shift (value_in shape values.now) (row * across shape) slices.old }
+    ensures { IsSlicedTo shape shift (value_in shape values.now) ((row + 1) * across shape) slices.new }
+{
+    let across = words_across(shape);
+    for word in 0..across {
+        let first = 8 * word;
+        let count = (shape.width - first).min(8);
+        slices[row * across + word] = slice(values, row * shape.width + first, count, shift);
+    }
+}
+
+/// No magnitude has a bit.
+fn blank() -> [u64; SLICES]
+    ensures { result ≡ replicate 1032 0 }
+{
+    [0; SLICES]
+}
+
+/// The slices of a block, of the bytes of its magnitudes from a bit on.
+pub fn sliced(shape: BlockShape, values: &[i32], shift: u32) -> [u64; SLICES]
+    requires sized { IsSized shape }
+    requires whole { length values.now ≡ shape.width * shape.height }
+    requires shift { shift < 32 }
+    ensures { IsSliced shape shift (value_in shape values.now) result }
+{
+    let mut slices = blank();
+    for row in 0..shape.height {
+        slice_row(&mut slices, shape, values, row, shift);
+    }
+    slices
+}
+
+/// A bit of each byte of a slice.
+#[inline(always)]
+fn plane_of(slice: u64, bit: u32) -> u64
+    requires { bit < 8 }
+    ensures { (c i : ℕ) → c < 8 → i < 8 → on result (8 * c + i) ≡ (nat_eq i 0 && on slice (8 * c + bit)) }
+{
+    slice >> bit & 0x0101_0101_0101_0101
+}
+
+/// The places of a word that have a 1 in this bit of their bytes.
+#[inline(always)]
+pub fn ones(slices: &[u64; SLICES], shape: BlockShape, spot: Spot, bit: u32) -> u64
+    requires sized { IsSized shape }
+    requires spot { IsSpot shape spot }
+    requires bit { bit < 8 }
+    ensures { (shift : ℕ) (q : Field ℤ) → IsSliced shape shift q slices.now → IsPlaneWord shape (shift + bit) q spot.word spot.stripe result }
+{
+    let across = words_across(shape);
+    let first = 4 * spot.stripe * across + spot.word;
+    plane_of(slices[first], bit) << 1
+        | plane_of(slices[first + across], bit) << 2
+        | plane_of(slices[first + 2 * across], bit) << 3
+        | plane_of(slices[first + 3 * across], bit) << 4
+}
+
+/// Marks the negative places of a stripe.
+fn mark_negative(slices: &[u64; SLICES], shape: BlockShape, stripe: usize, words: &mut [u64; WORDS])
+    requires sized { IsSized shape }
+    requires stripe { stripe < stripes shape }
+    ensures { (q : Field ℤ) → IsShort shape q → IsSliced shape 24 q slices.now → IsDrawn shape (negative_to shape q (stripe * across shape)) words.old
+        → IsDrawn shape (negative_to shape q ((stripe + 1) * across shape)) words.new }
+{
+    for word in 0..words_across(shape) {
+        let spot = Spot {
+            plane: 0,
+            word,
+            stripe,
+        };
+        words[word_place(shape, word + 1, stripe + 1)] = ones(slices, shape, spot, 7);
+    }
+}
+
+/// The negative places of a block.
+pub fn negative_places(shape: BlockShape, values: &[i32]) -> [u64; WORDS]
+    requires sized { IsSized shape }
+    requires whole { length values.now ≡ shape.width * shape.height }
+    requires short { IsShort shape (value_in shape values.now) }
+    ensures { IsDrawn shape (negative_of shape (value_in shape values.now)) result }
+{
+    let slices = sliced(shape, values, 24);
+    let mut words = unmarked();
+    for stripe in 0..(shape.height + 3) / 4 {
+        mark_negative(&slices, shape, stripe, &mut words);
+    }
+    words
+}

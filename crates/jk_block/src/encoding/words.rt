@@ -1,0 +1,214 @@
+//! The decisions of a word of 32 places in each pass: loops over the places that the pass codes, from the lowest bit on.
+//! Between two of them nothing is decided.
+
+ghost use Rattle.std.specs.Prelude.{◌≡◌, ℕ, Bool, not, nat_eq, nat_lt, ◌&&◌, ◌+◌, ◌*◌, ◌/◌, ◌%◌, ◌^◌, ◌<◌, ◌++◌, IfOk, IfErr};
+ghost use Rattle.jk_math.specs.Memory.{IsMemory};
+ghost use Rattle.jk_scan.specs.Bits.{on};
+ghost use Rattle.jk_scan.specs.Neighbours.{Field, is_inside};
+ghost use Rattle.jk_scan.specs.Words.{of_rows, bordered, Shows};
+ghost use Rattle.jk_scan.specs.WordPlaces.{column, row};
+ghost use Rattle.jk_scan.specs.Surroundings.{IsAround};
+ghost use Rattle.jk_scan.specs.RingPlaces.{Turns};
+ghost use Rattle.jk_scan.specs.Flags.{IsSized};
+ghost use Rattle.jk_block.specs.Reading.{is_quiet};
+ghost use Rattle.jk_block.specs.Steps.{IsSpot};
+ghost use Rattle.jk_block.specs.encoding.Viewed.{seen, lit_at, spread_at, IsFlagged, moment_at, word_decisions};
+
+use super::ahead::with_reached;
+use super::decisions::{DecisionList, make_room};
+use super::flags::Flags;
+use super::places::{bit_of, first_row, write_new, write_refined, write_run};
+use super::plane::BlockPlane;
+use crate::spot::Spot;
+use jk_math::Fault;
+use jk_scan::{
+    Around, BlockShape, cross_words, inside, members, quiet_in_turn, ring_words, seen_around,
+    touched_places, word_place,
+};
+
+/// A word in the significance propagation pass (T.800 D.3.1). Its places are known at once, and so is what each of them has
+/// around it: of the places before it those that are significant behind this pass, of the others those that are so before it.
+#[inline(always)]
+pub fn write_propagation(
+    block: &BlockPlane<'_>,
+    flags: &mut Flags,
+    spot: Spot,
+    list: &mut DecisionList,
+) -> Result<(), Fault>
+    requires spot { IsSpot block.now.shape spot }
+    requires flagged { IsFlagged block.now (moment_at block.now.shape 0 spot.word spot.stripe 0) flags.old }
+    ensures flagged { IfOk result (λ _. IsFlagged block.now (moment_at block.now.shape 0 spot.word spot.stripe 64) flags.new) }
+    ensures listed { IfOk result (λ _. list.new ≡ list.old ++ word_decisions block.now.shape (seen block.now) 0 spot.word spot.stripe) }
+    ensures memory { IfErr result IsMemory }
+{
+    let own = *block;
+    let limits = inside(own.shape, spot.word, spot.stripe);
+    let around = seen_around(&flags.significant, own.shape, spot.word, spot.stripe);
+    let candidates = members(around, limits);
+    if candidates == 0 {
+        return Ok(());
+    }
+    let ones = own.ones(spot);
+    let all = with_reached(candidates, ones, limits & !around.centre);
+    let seen = Around {
+        centre: around.centre | all & ones,
+        west: around.west,
+        east: around.east,
+    };
+    let signs = seen_around(own.negative, own.shape, spot.word, spot.stripe);
+    let rings = ring_words(seen, around.centre);
+    let crosses = cross_words(seen, around.centre, signs);
+    flags.visit_all(own.shape, spot, all);
+    flags.light_all(own.shape, spot, all & ones);
+    make_room(&mut list.bytes, list.count)?;
+    let bytes = &mut list.bytes[..];
+    let mut count = list.count;
+    let mut left = all;
+    while left != 0 {
+        let k = left.trailing_zeros();
+        left &= left - 1;
+        count = write_new(&own, spot, k, &rings, &crosses, signs, ones, bytes, count);
+    }
+    list.count = count;
+    Ok(())
+}
+
+/// The places of a word that were significant before this plane.
+#[inline(always)]
+fn older(block: &BlockPlane<'_>, flags: &Flags, spot: Spot) -> u64
+    requires { IsSpot block.now.shape spot }
+    ensures { (t : ℕ) → IsFlagged block.now t flags.now → (m : ℕ) → m < 64 → on result m ≡ (of_rows (m % 8)
+        && (lit_at block.now t (column spot.word m) (row spot.stripe m) && not (spread_at block.now t (column spot.word m) (row spot.stripe m)))) }
+{
+    let place = word_place(block.shape, spot.word + 1, spot.stripe + 1);
+    let significant = &flags.significant;
+    let visited = &flags.visited;
+    significant[place] & !visited[place]
+}
+
+/// A word in the magnitude refinement pass (T.800 D.3.3).
+#[inline(always)]
+pub fn write_refinement(
+    block: &BlockPlane<'_>,
+    flags: &Flags,
+    spot: Spot,
+    list: &mut DecisionList,
+) -> Result<(), Fault>
+    requires spot { IsSpot block.now.shape spot }
+    requires flagged { IsFlagged block.now (moment_at block.now.shape 1 spot.word spot.stripe 0) flags.now }
+    ensures flagged { IfOk result (λ _. IsFlagged block.now (moment_at block.now.shape 1 spot.word spot.stripe 64) flags.now) }
+    ensures listed { IfOk result (λ _. list.new ≡ list.old ++ word_decisions block.now.shape (seen block.now) 1 spot.word spot.stripe) }
+    ensures memory { IfErr result IsMemory }
+{
+    let own = *block;
+    let mut candidates = older(&own, flags, spot);
+    if candidates == 0 {
+        return Ok(());
+    }
+    let around = seen_around(&flags.significant, own.shape, spot.word, spot.stripe);
+    let touched = touched_places(around);
+    let refined = own.refined_places(spot);
+    let ones = own.ones(spot);
+    make_room(&mut list.bytes, list.count)?;
+    let bytes = &mut list.bytes[..];
+    let mut count = list.count;
+    while candidates != 0 {
+        let k = candidates.trailing_zeros();
+        candidates &= candidates - 1;
+        count = write_refined(
+            bit_of(refined, k),
+            bit_of(touched, k),
+            bit_of(ones, k),
+            bytes,
+            count,
+        );
+    }
+    list.count = count;
+    Ok(())
+}
+
+/// The places of a word that no pass has coded yet.
+#[inline(always)]
+fn uncoded(block: &BlockPlane<'_>, flags: &Flags, spot: Spot, limits: u64) -> u64
+    requires spot { IsSpot block.now.shape spot }
+    requires limits { Shows of_rows (bordered (is_inside block.now.shape)) (spot.word + 1) (spot.stripe + 1) limits }
+    ensures { (t : ℕ) → IsFlagged block.now t flags.now → (m : ℕ) → m < 64 → on result m ≡ (of_rows (m % 8)
+        && (is_inside block.now.shape (column spot.word m) (row spot.stripe m)
+        && (not (lit_at block.now t (column spot.word m) (row spot.stripe m)) && not (spread_at block.now t (column spot.word m) (row spot.stripe m))))) }
+{
+    let place = word_place(block.shape, spot.word + 1, spot.stripe + 1);
+    let significant = &flags.significant;
+    let visited = &flags.visited;
+    limits & !(significant[place] | visited[place])
+}
+
+/// The columns of a word that are coded in run mode, by their first rows, each as it is in its turn: it sees the columns
+/// before it in `seen`, itself and those behind it in `old`.
+#[inline(always)]
+fn run_columns(shape: BlockShape, spot: Spot, seen: Around, old: u64, limits: u64) -> u64
+    requires sized { IsSized shape }
+    requires spot { IsSpot shape spot }
+    requires limits { Shows of_rows (bordered (is_inside shape)) (spot.word + 1) (spot.stripe + 1) limits }
+    ensures { (f : Field Bool) (own m : ℕ) → m < 64 → own < 2 ^ 64 → Turns own seen.centre old (8 * (m / 8))
+        → IsAround (bordered f) spot.word spot.stripe (record { centre = own; west = seen.west; east = seen.east })
+        → on result m ≡ (nat_eq (m % 8) 1 && (nat_lt (8 * spot.word + m / 8) shape.width && is_quiet shape f (8 * spot.word + m / 8) spot.stripe)) }
+{
+    if 4 * spot.stripe + 4 <= shape.height {
+        quiet_in_turn(seen, old, limits)
+    } else {
+        0
+    }
+}
+
+/// A word in the cleanup pass (T.800 D.3.4): all places that are left, and columns in run mode. What each place has around it
+/// is known at once, as in the significance propagation pass.
+#[inline(always)]
+pub fn write_cleanup(
+    block: &BlockPlane<'_>,
+    flags: &mut Flags,
+    spot: Spot,
+    list: &mut DecisionList,
+) -> Result<(), Fault>
+    requires spot { IsSpot block.now.shape spot }
+    requires flagged { IsFlagged block.now (moment_at block.now.shape 2 spot.word spot.stripe 0) flags.old }
+    ensures flagged { IfOk result (λ _. IsFlagged block.now (moment_at block.now.shape 2 spot.word spot.stripe 64) flags.new) }
+    ensures listed { IfOk result (λ _. list.new ≡ list.old ++ word_decisions block.now.shape (seen block.now) 2 spot.word spot.stripe) }
+    ensures memory { IfErr result IsMemory }
+{
+    let own = *block;
+    let limits = inside(own.shape, spot.word, spot.stripe);
+    let mut left = uncoded(&own, flags, spot, limits);
+    if left == 0 {
+        return Ok(());
+    }
+    let around = seen_around(&flags.significant, own.shape, spot.word, spot.stripe);
+    let before = around.centre;
+    let ones = own.ones(spot);
+    let new = left & ones;
+    let seen = Around {
+        centre: before | new,
+        west: around.west,
+        east: around.east,
+    };
+    let signs = seen_around(own.negative, own.shape, spot.word, spot.stripe);
+    let rings = ring_words(seen, before);
+    let crosses = cross_words(seen, before, signs);
+    let still = run_columns(own.shape, spot, seen, before, limits);
+    flags.light_all(own.shape, spot, new);
+    make_room(&mut list.bytes, list.count)?;
+    let bytes = &mut list.bytes[..];
+    let mut count = list.count;
+    while left != 0 {
+        let k = left.trailing_zeros();
+        if bit_of(still, k) {
+            let found = first_row(ones, k);
+            left &= 0xFFFF_FFFF_FFFF_FFFE << (k + found);
+            count = write_run(&own, spot, k, found, &crosses, signs, bytes, count);
+        } else {
+            left &= left - 1;
+            count = write_new(&own, spot, k, &rings, &crosses, signs, ones, bytes, count);
+        }
+    }
+    list.count = count;
+    Ok(())
+}

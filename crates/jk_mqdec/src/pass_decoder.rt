@@ -1,0 +1,69 @@
+//! A decoder that is used up to its first fault: the contexts lie with the caller, and whether the
+//! code value has left the interval is asked only where a byte is due.
+
+ghost use Rattle.std.specs.Prelude.{◌≡◌, ◌<◌, OnOk};
+ghost use Rattle.jk_model.specs.Contexts.{first_contexts as start};
+ghost use Rattle.jk_model.specs.Decisions.{State, initial};
+ghost use Rattle.jk_mqdec.specs.Standing.{View, Stands};
+ghost use Rattle.jk_mqdec.specs.Answers.{answer, next};
+
+use crate::wide::{WideRegisters, begun, divided, is_narrow, renormalised_within, scaled};
+use jk_math::Fault;
+use jk_model::Step;
+use std::marker::Model;
+
+/// The MQ decoder over the bytes of a segment (T.800 Annex C), up to its first fault.
+#[derive(Drop)]
+pub struct PassDecoder<'a> {
+    bytes: &'a [u8],
+    registers: WideRegisters,
+    contexts: &'a mut [Step; 19],
+}
+
+impl<'a> Model for PassDecoder<'a> {
+    ghost use Rattle.jk_mqdec.specs.Standing.{View};
+    ghost use Rattle.jk_mqdec.specs.Wide.{IsSteadyWide};
+
+    ghost Value = { View };
+
+    ghost view = { λ d. record { bytes = d.bytes.now; registers = d.registers; contexts = d.contexts.now } };
+
+    ghost invariant = { λ d. IsSteadyWide d.bytes.now d.registers };
+}
+
+impl<'a> PassDecoder<'a> {
+    /// A decoder at the start of a segment (INITDEC, T.800 C.3.5).
+    pub fn new(bytes: &'a [u8], contexts: &'a mut [Step; 19]) -> PassDecoder<'a>
+        requires { contexts.old ≡ start }
+        ensures bytes { result.bytes ≡ bytes.now }
+        ensures stands { Stands result initial }
+    {
+        PassDecoder {
+            bytes,
+            registers: begun(bytes),
+            contexts,
+        }
+    }
+
+    /// The bit of the next decision, in the context of this number (DECODE, T.800 C.3.2), or
+    /// [`Fault::CodeOutOfInterval`], behind which nothing more is decoded.
+    #[inline(always)]
+    pub fn decode(&mut self, cx: usize) -> Result<bool, Fault>
+        requires { cx < 19 }
+        ensures bytes { self.new.bytes ≡ self.old.bytes }
+        ensures answer { (s : State) → Stands self.old s → result ≡ answer self.old.bytes s cx }
+        ensures next { OnOk result ((s : State) → Stands self.old s → Stands self.new (next self.old.bytes s cx)) }
+    {
+        let contexts = &mut *self.contexts;
+        let context = contexts[cx];
+        let subinterval = divided(self.registers, scaled(context.size()));
+        contexts[cx] = context.after(is_narrow(subinterval.registers), subinterval.less);
+        match renormalised_within(self.bytes, subinterval.registers) {
+            Some(registers) => {
+                self.registers = registers;
+                Ok(context.mps() != subinterval.less)
+            }
+            None => Err(Fault::CodeOutOfInterval),
+        }
+    }
+}
