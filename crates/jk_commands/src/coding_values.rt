@@ -57,7 +57,7 @@ fn have_blocks(codings: &Codings, xcb: u8, ycb: u8) -> bool
 }
 
 /// Whether each component of each tile has code-blocks of this size.
-#[tactic(auto, using(jk_window::proofs::Below::below_none, jk_window::proofs::Below::below_more, jk_window::proofs::Below::below_fails))]
+#[tactic(auto, using(jk_params::proofs::Laws::below_none, jk_params::proofs::Laws::below_more, jk_params::proofs::Laws::below_fails))]
 fn all_have_blocks(headers: &Codestream, xcb: u8, ycb: u8) -> bool
     ensures { result ≡ hold_of_codings (λ k. (k.xcb == xcb) && (k.ycb == ycb)) headers.now }
 {
@@ -80,7 +80,7 @@ fn have_precincts(codings: &Codings, sizes: &[(u8, u8)]) -> bool
 }
 
 /// Whether each component of each tile has these precinct sizes.
-#[tactic(auto, using(jk_window::proofs::Below::below_none, jk_window::proofs::Below::below_more, jk_window::proofs::Below::below_fails))]
+#[tactic(auto, using(jk_params::proofs::Laws::below_none, jk_params::proofs::Laws::below_more, jk_params::proofs::Laws::below_fails))]
 fn all_have_precincts(headers: &Codestream, sizes: &[(u8, u8)]) -> bool
     ensures { result ≡ hold_of_codings (λ k. are_alike k.precincts sizes.now) headers.now }
 {
@@ -93,7 +93,7 @@ fn all_have_precincts(headers: &Codestream, sizes: &[(u8, u8)]) -> bool
 }
 
 /// Whether each tile says yes.
-#[tactic(auto, using(jk_window::proofs::Below::below_none, jk_window::proofs::Below::below_more, jk_window::proofs::Below::below_fails))]
+#[tactic(auto, using(jk_params::proofs::Laws::below_none, jk_params::proofs::Laws::below_more, jk_params::proofs::Laws::below_fails))]
 fn each_has(headers: &Codestream, flag: Flag) -> bool
     ensures { result ≡ hold_of_styles (flag_in flag) headers.now }
 {
@@ -106,7 +106,7 @@ fn each_has(headers: &Codestream, flag: Flag) -> bool
 }
 
 /// Whether no tile says yes.
-#[tactic(auto, using(jk_window::proofs::Below::below_none, jk_window::proofs::Below::below_more, jk_window::proofs::Below::below_fails))]
+#[tactic(auto, using(jk_params::proofs::Laws::below_none, jk_params::proofs::Laws::below_more, jk_params::proofs::Laws::below_fails))]
 fn none_has(headers: &Codestream, flag: Flag) -> bool
     ensures { result ≡ hold_of_styles (λ c. not (flag_in flag c)) headers.now }
 {
