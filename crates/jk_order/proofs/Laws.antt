@@ -2,4 +2,3 @@
 pub use Rattle.jk_order.proofs.LayerLaws.{layers_of}
 pub use Rattle.jk_order.proofs.LengthLaws.{length_of}
 pub use Rattle.jk_order.proofs.OrderLaws.{order_is, order_one}
-pub use Rattle.jk_order.proofs.SlotLaws.{slot_is, count_before, slot_small, slot_once}

@@ -11,8 +11,6 @@ pub mod OrderLaws
 pub mod Starting
 pub mod LayerLaws
 pub mod LengthLaws
-pub mod SlotLaws
-pub mod FirstLaws
 pub mod Naming
 mod Examples
 pub mod Laws

@@ -5,7 +5,6 @@ mod count;
 mod names;
 mod opening;
 mod packets;
-mod slots;
 mod stream;
 mod theorems;
 
@@ -13,7 +12,4 @@ pub use count::packet_count;
 pub use jk_geom::PacketName;
 pub use names::packet_names;
 pub use packets::Packets;
-pub use slots::Slots;
-pub use theorems::{
-    layers_in_turn, one_packet_order, packet_order, packets_are_counted, packets_have_slots,
-};
+pub use theorems::{layers_in_turn, one_packet_order, packet_order, packets_are_counted};

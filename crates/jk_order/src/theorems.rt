@@ -1,11 +1,10 @@
 //! Laws of the order of packets: the contract of an empty function is the law.
 
-ghost use Rattle.std.specs.Prelude.{◌≡◌, ◌<◌, ℕ, List, filter, length};
+ghost use Rattle.std.specs.Prelude.{◌≡◌, ℕ, List, filter, length};
 ghost use Rattle.jk_geom.specs.declared.shape.TileShape.{TileShape};
 ghost use Rattle.jk_geom.specs.declared.shape.PacketName.{PacketName};
-ghost use Rattle.jk_order.specs.PacketOrder.{IsName, IsPacketOrder, IsPrecinct, is_of, layer_names};
+ghost use Rattle.jk_order.specs.PacketOrder.{IsPacketOrder, IsPrecinct, is_of, layer_names};
 ghost use Rattle.jk_order.specs.PacketOrder.{order, packet_count};
-ghost use Rattle.jk_order.specs.Slots.{slot_of};
 
 /// `order` is a list of all packets of a tile in their order.
 pub fn packet_order()
@@ -27,10 +26,4 @@ pub fn layers_in_turn()
 /// A tile has as many packets as the formula says.
 pub fn packets_are_counted()
     ensures { (s : TileShape) (names : List PacketName) → IsPacketOrder s names → length names ≡ packet_count s }
-{}
-
-/// Each packet of a tile has a slot of its own, below the number of packets.
-pub fn packets_have_slots()
-    ensures small { (s : TileShape) (n : PacketName) → IsName s n → slot_of s n < packet_count s }
-    ensures once { (s : TileShape) (m n : PacketName) → IsName s m → IsName s n → slot_of s m ≡ slot_of s n → m ≡ n }
 {}

@@ -10,6 +10,4 @@ mod random;
 #[cfg(test)]
 mod random_tiles;
 #[cfg(test)]
-mod slots;
-#[cfg(test)]
 mod sums;

@@ -1,8 +1,7 @@
-use Rattle.std.proofs.Common.{◌≡◌, ◌-◌, ℕ, List, [], subst, sym, arith}
+use Rattle.std.proofs.Common.{◌≡◌, ◌-◌, [], subst, sym, arith}
 use Rattle.std.specs.List.{AllByRecursion}
-use Rattle.jk_geom.specs.declared.shape.PacketName.{PacketName}
-use Rattle.jk_order.specs.PacketOrder.{IsName, order, packet_count}
-use Rattle.jk_order.proofs.Naming.{IsNaming, naming_starts, naming_more, naming_over, none_is, counted_over, order_names}
+use Rattle.jk_order.specs.PacketOrder.{IsName, packet_count}
+use Rattle.jk_order.proofs.Naming.{IsNaming, naming_starts, naming_over, none_is, counted_over, order_names}
 use Rattle.jk_order.proofs.names.packet_names.Goals as goal
 use Rattle.jk_order.proofs.names.packet_names.Goals.{else-loop-test, then-loop-test+in_default}
 
