@@ -47,7 +47,8 @@ unfolding is_last is_past fed places start wanted share shares code_value rows m
     read_refined place_at is_quiet read_run column_at stripe_at plane_pass_at pass_at block_at
 read = refl
 
--- as an independent encoder writes it: planes, passes, bytes, and how many are placed after each pass
+-- as an independent encoder writes it: planes, passes, bytes, and how many are placed after each
+-- pass
 written : coded shape values
     ≡ record {
       planes = 3;
