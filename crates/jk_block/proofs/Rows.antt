@@ -30,7 +30,8 @@ stage_rows bytes s b pass x i j n narrow stripe few rows =
     (stage_place bytes s b (t k) pass x (4 * i + (j + k)) narrow (number_room s x i (j + k) narrow stripe (omega arith)) few
     (let e = number_row s.width x i (j + k) (omega arith) in let g : pass * visits s + 4 * (s.width * i + x) + (j + k) ≡ pass * visits s + number s.width x (4 * i + (j + k)) = omega (arith, e) in g))))
 
--- A column that is left to run mode: at its beginning nothing in it is held, and all of it is left to the cleanup pass.
+-- A column that is left to run mode: at its beginning nothing in it is held, and all of it is left
+-- to the cleanup pass.
 pub record Still (s : BlockShape) (b x i : ℕ) (z : Progress) : Type 0 where
   pub narrow : x < s.width
   pub stripe : i < stripes s

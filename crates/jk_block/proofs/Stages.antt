@@ -1,4 +1,5 @@
--- Parts of a block's passes, each from one moment to another: what is read there is what is spelled there.
+-- Parts of a block's passes, each from one moment to another: what is read there is what is spelled
+-- there.
 use Rattle.std.proofs.Common.{◌≡◌, ℕ, zero, suc, ◌*◌, ◌/◌, ◌%◌, ◌^◌, ◌<◌, true, false, cond, List, [], ◌++◌, Result, Ok, refl, sym, ap, ◌∙◌, subst, arith}
 use Rattle.std.specs.Prelude.{◌&&◌, nat_lt}
 use Rattle.jk_math.specs.declared.fault.Fault.{Fault}

@@ -1,6 +1,6 @@
--- The way of a block that is read: a pass is stripes and a stripe is words (Stripes, Rests), and of a
--- word so much is read (Going) by significance propagation (Spreading), magnitude refinement (Refining)
--- and cleanup (Leaving, Cleaning). Each call takes a step of the definition (Taking).
+-- The way of a block that is read: a pass is stripes and a stripe is words (Stripes, Rests), and of
+-- a word so much is read (Going) by significance propagation (Spreading), magnitude refinement
+-- (Refining) and cleanup (Leaving, Cleaning). Each call takes a step of the definition (Taking).
 pub mod Aging
 pub mod Cleaning
 pub mod Freshness

@@ -1,6 +1,7 @@
--- The way of a block that is written: its planes (Slicing, Negatives), the moment of each bit of a word
--- (Timing), what is listed of a word (Coming, Remaining) in significance propagation (Foreseen), magnitude
--- refinement (Refined) and cleanup (Turned, Cleaned), and one pass and plane after another (Planes, Written).
+-- The way of a block that is written: its planes (Slicing, Negatives), the moment of each bit of a
+-- word (Timing), what is listed of a word (Coming, Remaining) in significance propagation
+-- (Foreseen), magnitude refinement (Refined) and cleanup (Turned, Cleaned), and one pass and plane
+-- after another (Planes, Written).
 pub mod Behind
 pub mod Cleaned
 pub mod Coming

@@ -13,7 +13,8 @@ abbrev pub greatest : List ℤ → ℕ
 greatest [] = 0
 greatest (v ∷ vs) = max (unsigned_abs v) (greatest vs)
 
--- The passes of a block of so many bit-planes: the highest plane has a cleanup pass alone, each lower one has three (D.3).
+-- The passes of a block of so many bit-planes: the highest plane has a cleanup pass alone, each
+-- lower one has three (D.3).
 abbrev pub pass_count : ℕ → ℕ
 pass_count planes = 3 * planes - 2
 
@@ -36,7 +37,8 @@ pub record Coded : Type 0 where
   pub bytes : List ℕ
   pub marks : List ℕ
 
--- a block with these coefficients, row by row, as it is written: all passes of the planes that its greatest magnitude has
+-- a block with these coefficients, row by row, as it is written: all passes of the planes that its
+-- greatest magnitude has
 unfoldable pub coded : BlockShape → List ℤ → Coded
 coded s values =
     let planes = bit_length (greatest values) in

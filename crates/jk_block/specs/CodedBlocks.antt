@@ -19,6 +19,7 @@ abbrev pub contents : CodedBlock → Coded
 contents k = record { planes = k.planes; passes = k.passes; bytes = k.bytes.items; marks = k.marks.items }
 
 -- The encoder has coded the first passes, and so many bytes were placed after each.
-pub record HasCodedPasses (s : BlockShape) (planes passes : ℕ) (q : Field ℤ) (encoder : View) (marks : List ℕ) : Type 0 where
+pub record HasCodedPasses (s : BlockShape) (planes passes : ℕ) (q : Field ℤ) (encoder : View)
+    (marks : List ℕ) : Type 0 where
   pub codes : Codes encoder (decisions_upto s planes passes q)
   pub marked : marks ≡ marks_upto s planes passes q

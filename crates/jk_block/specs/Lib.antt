@@ -8,3 +8,4 @@ pub mod CodedBlocks
 pub mod Steps
 pub mod decoding
 pub mod encoding
+pub mod Examples

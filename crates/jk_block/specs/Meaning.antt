@@ -1,5 +1,6 @@
 -- What a segment means: the block whose decisions it spells (T.800 Annex D).
-use Rattle.std.specs.Prelude.{◌≡◌, ℕ, zero, suc, ◌+◌, ◌-◌, ◌*◌, ◌/◌, ◌%◌, ◌^◌, ◌<◌, ◌≤◌, Bool, true, List, [], ◌∷◌, ◌++◌, slice_index_or, nat_le, if◌then◌else◌, map, ℤ, pos, neg_ℤ, unsigned_abs}
+use Rattle.std.specs.Prelude.{◌≡◌, ℕ, zero, suc, ◌+◌, ◌-◌, ◌*◌, ◌/◌, ◌%◌, ◌^◌, ◌<◌, ◌≤◌, Bool, true, List, [], ◌∷◌}
+use Rattle.std.specs.Prelude.{◌++◌, slice_index_or, nat_le, if◌then◌else◌, map, ℤ, pos, neg_ℤ, unsigned_abs}
 use Rattle.std.specs.Int.{is_negative}
 use Rattle.std.specs.List.{flat_map, range_with_len}
 use Rattle.jk_model.specs.Decisions.{Spells}
@@ -8,8 +9,9 @@ use Rattle.jk_scan.specs.Neighbours.{Field, is_inside}
 use Rattle.jk_scan.specs.Moments.{pass_of}
 use Rattle.jk_scan.specs.Passes.{Plane, Decided, plane_decisions}
 
--- The coding passes of a block of so many bit-planes, from 0 on: the highest plane has a cleanup pass alone, each lower one
--- has all three (D.3). So pass n is the (n + 2)-th of all, were the first plane to have three.
+-- The coding passes of a block of so many bit-planes, from 0 on: the highest plane has a cleanup
+-- pass alone, each lower one has all three (D.3). So pass n is the (n + 2)-th of all, were the
+-- first plane to have three.
 abbrev pub plane_of : (planes n : ℕ) → ℕ
 plane_of planes n = planes - 1 - (n + 2) / 3
 
@@ -26,7 +28,8 @@ plane_at s b q = record {
 -- what the first passes decide, each a list of its own
 unfoldable pub pass_decisions : BlockShape → (planes passes : ℕ) → Field ℤ → List Decided
 pass_decisions s planes zero q = []
-pass_decisions s planes (suc n) q = pass_decisions s planes n q ++ plane_decisions s (plane_at s (plane_of planes n) q) (kind_of n) ∷ []
+pass_decisions s planes (suc n) q =
+    pass_decisions s planes n q ++ plane_decisions s (plane_at s (plane_of planes n) q) (kind_of n) ∷ []
 
 abbrev pub with_sign : Bool → ℕ → ℤ
 with_sign negative m = if negative then neg_ℤ (pos m) else pos m
@@ -35,14 +38,15 @@ with_sign negative m = if negative then neg_ℤ (pos m) else pos m
 abbrev pub above : (b m : ℕ) → ℕ
 above b m = m / 2 ^ b * 2 ^ b
 
--- What the first passes code of a coefficient: its bits in the planes that are coded, that of the last plane only where one
--- of these passes codes it. All other bits are 0.
+-- What the first passes code of a coefficient: its bits in the planes that are coded, that of the
+-- last plane only where one of these passes codes it. All other bits are 0.
 unfoldable pub cut : BlockShape → (planes passes : ℕ) → Field ℤ → Field ℤ
 cut s planes zero q x y = pos 0
 cut s planes (suc n) q x y =
     let b = plane_of planes n in
     with_sign (is_negative (q x y))
-    (if nat_le (pass_of s.width (plane_at s b q).magnitude x y) (kind_of n) then above b (unsigned_abs (q x y)) else above (b + 1) (unsigned_abs (q x y)))
+    (if nat_le (pass_of s.width (plane_at s b q).magnitude x y) (kind_of n) then above b (unsigned_abs (q x y))
+    else above (b + 1) (unsigned_abs (q x y)))
 
 -- The segment, of which so many passes are coded over so many bit-planes, means these coefficients.
 pub record IsBlockMeaning (s : BlockShape) (planes passes : ℕ) (segment : List ℕ) (q : Field ℤ) : Type 0 where

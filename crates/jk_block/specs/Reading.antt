@@ -1,6 +1,7 @@
--- A block read from its segment: which value, or which first fault. This goes place by place as the passes do, and every
--- context is that of the block as far as it is read.
-use Rattle.std.specs.Prelude.{ℕ, zero, suc, ◌+◌, ◌-◌, ◌*◌, ◌/◌, ◌^◌, Bool, true, false, not, ◌&&◌, List, Result, Ok, nat_eq, nat_lt, nat_le, if◌then◌else◌, ℤ}
+-- A block read from its segment: which value, or which first fault. This goes place by place as the
+-- passes do, and every context is that of the block as far as it is read.
+use Rattle.std.specs.Prelude.{ℕ, zero, suc, ◌+◌, ◌-◌, ◌*◌, ◌/◌, ◌^◌, Bool, true, false, not, ◌&&◌, List, Result, Ok}
+use Rattle.std.specs.Prelude.{nat_eq, nat_lt, nat_le, if◌then◌else◌, ℤ}
 use Rattle.jk_math.specs.declared.fault.Fault.{Fault}
 use Rattle.jk_math.specs.declared.fault.Fault.TheVariants.{TooManyPasses}
 use Rattle.jk_math.specs.Answer.{◌>>=◌, refuse}
@@ -13,8 +14,8 @@ use Rattle.jk_scan.specs.Moments.{stripes, propagation, cleanup}
 use Rattle.jk_scan.specs.Passes.{flipped}
 use Rattle.jk_block.specs.Meaning.{plane_of, kind_of, with_sign, above, values_of}
 
--- How far a block is read: the magnitudes and the signs so far, which places the significance propagation pass of this
--- plane has coded, and the state of the decoder.
+-- How far a block is read: the magnitudes and the signs so far, which places the significance
+-- propagation pass of this plane has coded, and the state of the decoder.
 pub record Progress : Type 0 where
   pub magnitude : Field ℕ
   pub negative : Field Bool
@@ -75,9 +76,12 @@ visit x y z = record z { visited = put z.visited x y true }
 
 -- a place in a pass: coded there, or passed over
 unfoldable pub place_at : List ℕ → BlockShape → (b pass x y : ℕ) → Progress → Result Progress Fault
-place_at bytes s b zero x y z = if is_inside s x y && (not (lit s z x y) && touched (lit s z) x y) then read_new bytes s b x y (visit x y z) else Ok z
+place_at bytes s b zero x y z =
+    if is_inside s x y && (not (lit s z x y) && touched (lit s z) x y) then read_new bytes s b x y (visit x y z)
+    else Ok z
 place_at bytes s b (suc zero) x y z = if lit s z x y && not (z.visited x y) then read_refined bytes s b x y z else Ok z
-place_at bytes s b (suc (suc n)) x y z = if is_inside s x y && (not (lit s z x y) && not (z.visited x y)) then read_new bytes s b x y z else Ok z
+place_at bytes s b (suc (suc n)) x y z =
+    if is_inside s x y && (not (lit s z x y) && not (z.visited x y)) then read_new bytes s b x y z else Ok z
 
 -- n rows of a column, from the row j of the stripe i on
 abbrev pub rows_at : List ℕ → BlockShape → (b pass x i j n : ℕ) → Progress → Result Progress Fault
@@ -101,12 +105,14 @@ unfoldable pub read_run : List ℕ → BlockShape → (b x i : ℕ) → Progress
 read_run bytes s b x i z =
     decide bytes run_length z.coder
     >>= λ d. if d.0
-    then (decide bytes uniform d.1 >>= λ high. decide bytes uniform high.1 >>= λ low. read_from bytes s b x i (row_named high.0 low.0) (with_coder z low.1))
+    then (decide bytes uniform d.1 >>= λ high. decide bytes uniform high.1
+    >>= λ low. read_from bytes s b x i (row_named high.0 low.0) (with_coder z low.1))
     else Ok (with_coder z d.1)
 
 unfoldable pub column_at : List ℕ → BlockShape → (b pass x i : ℕ) → Progress → Result Progress Fault
 column_at bytes s b pass x i z =
-    if nat_eq pass cleanup && is_quiet s (lit s z) x i then read_run bytes s b x i z else rows_at bytes s b pass x i 0 4 z
+    if nat_eq pass cleanup && is_quiet s (lit s z) x i then read_run bytes s b x i z
+    else rows_at bytes s b pass x i 0 4 z
 
 unfoldable pub stripe_at : List ℕ → BlockShape → (b pass i : ℕ) → Progress → Result Progress Fault
 stripe_at bytes s b pass i z = times s.width (λ x. column_at bytes s b pass x i) z

@@ -32,7 +32,8 @@ pub record IsPlace (s : BlockShape) (at : Spot) (k : ℕ) : Type 0 where
 
 -- column c of a word in a pass, if the block has it
 unfoldable pub word_column : List ℕ → BlockShape → (b pass j i c : ℕ) → Progress → Result Progress Fault
-word_column bytes s b pass j i c z = if nat_lt (8 * j + c) s.width then column_at bytes s b pass (8 * j + c) i z else Ok z
+word_column bytes s b pass j i c z =
+    if nat_lt (8 * j + c) s.width then column_at bytes s b pass (8 * j + c) i z else Ok z
 
 -- a word in a pass
 unfoldable pub word_pass : List ℕ → BlockShape → (b pass j i : ℕ) → Progress → Result Progress Fault

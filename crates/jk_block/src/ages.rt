@@ -12,7 +12,8 @@ pub fn unmarked() -> [u64; WORDS]
     [0; WORDS]
 }
 
-/// What was significant before a plane, and what was so before the plane above. The two change places with each plane.
+/// What was significant before a plane, and what was so before the plane above. The two change
+/// places with each plane.
 #[derive(Drop)]
 pub struct Ages {
     even: [u64; WORDS],
@@ -26,7 +27,10 @@ impl Model for Ages {
 
     ghost Value = { AgesView };
 
-    ghost view = { λ a. record { refined = if a.is_odd then a.odd else a.even; older = if a.is_odd then a.even else a.odd } };
+    ghost view = { λ a. record {
+      refined = if a.is_odd then a.odd else a.even;
+      older = if a.is_odd then a.even else a.odd;
+    } };
 }
 
 impl Ages {

@@ -1,6 +1,6 @@
-//! Code-blocks: what the bytes of a segment mean by the coding passes of T.800 Annex D, reading them
-//! and writing them. Each direction is a wing, `decoding` and `encoding`; beside them stands what both
-//! need.
+//! Code-blocks: what the bytes of a segment mean by the coding passes of T.800 Annex D, reading
+//! them and writing them. Each direction is a wing, `decoding` and `encoding`; beside them stands
+//! what both need.
 #![tactic(auto)]
 
 mod ages;

@@ -23,8 +23,9 @@ pub fn layers_have_passes()
     ensures whole { (layers planes : ℕ) → passes_upto layers planes (layers - 1) ≡ pass_count planes }
 {}
 
-/// The bytes up to a layer mean what the passes up to it code of the block, which are the bits in the planes from
-/// `layers - 1 - l` on. They are no fewer than up to the layer before, and all up to the last layer.
+/// The bytes up to a layer mean what the passes up to it code of the block, which are the bits in
+/// the planes from `layers - 1 - l` on. They are no fewer than up to the layer before, and all up
+/// to the last layer.
 pub fn layers_have_bytes()
     ensures means { (s : Shape) (values : List ℤ) (layers l : ℕ) → l < layers
         → IsBlockMeaning s (coded s values).planes (passes_upto layers (coded s values).planes l)
@@ -32,7 +33,8 @@ pub fn layers_have_bytes()
         (cut s (coded s values).planes (passes_upto layers (coded s values).planes l) (value_in s values)) }
     ensures lower { (s : Shape) (values : List ℤ) (layers l x y : ℕ)
         → cut s (coded s values).planes (passes_upto layers (coded s values).planes l) (value_in s values) x y
-        ≡ with_sign (is_negative (value_in s values x y)) (above (layers - 1 - l) (unsigned_abs (value_in s values x y))) }
+        ≡ with_sign (is_negative (value_in s values x y))
+        (above (layers - 1 - l) (unsigned_abs (value_in s values x y))) }
     ensures rises { (s : Shape) (values : List ℤ) (layers l m : ℕ) → l ≤ m → m < layers
         → bytes_upto layers (coded s values) l ≤ bytes_upto layers (coded s values) m }
     ensures whole { (s : Shape) (values : List ℤ) (layers : ℕ) → 1 ≤ layers

@@ -1,4 +1,5 @@
--- What was significant before a plane and before the plane above, by the magnitudes as they are later.
+-- What was significant before a plane and before the plane above, by the magnitudes as they are
+-- later.
 use Rattle.std.proofs.Common.{◌≡◌, ℕ, suc, ◌+◌, ◌-◌, ◌*◌, ◌/◌, ◌%◌, ◌^◌, ◌<◌, ◌≤◌, Bool, true, false, cond, List, Ok, replicate, inl, inr, refl, sym, ap, ◌∙◌, subst, arith}
 use Rattle.std.specs.Prelude.{◌&&◌, nat_eq, nat_le, nat_lt}
 use Rattle.std.proofs.lemmas.Bool.{cases_lt, and_parts}
@@ -195,7 +196,8 @@ kept bytes s planes n z z' h is more x y i =
 abbrev pub plane_before : (planes n : ℕ) → ℕ
 plane_before planes n = planes - 1 - (n + 1) / 3
 
--- The words show what was significant before the plane of the pass before, and before the plane above that.
+-- The words show what was significant before the plane of the pass before, and before the plane
+-- above that.
 pub record Aged (s : BlockShape) (magnitudes : List ℕ) (b : ℕ) (refined older : List ℕ) : Type 0 where
   pub refined_is : (x y : ℕ) → is_inside s x y ≡ true → flag_at s refined x y ≡ nat_le (2 ^ (b + 2)) (field_of s magnitudes 0 x y)
   pub older_is : (x y : ℕ) → is_inside s x y ≡ true → flag_at s older x y ≡ nat_le (2 ^ (b + 1)) (field_of s magnitudes 0 x y)

@@ -28,7 +28,8 @@ use Rattle.jk_block.proofs.StillBits.{Behind, by_columns, bits_from, bits_kept, 
 use Rattle.jk_block.proofs.Stills.{is_still}
 use Rattle.jk_block.proofs.WordBits.{around_same, around_also, le_true, true_le, on_rows, is_one_number, none_before}
 
--- Words show the pass at bit n: what is around, the places that are left, and the still columns that have not begun.
+-- Words show the pass at bit n: what is around, the places that are left, and the still columns
+-- that have not begun.
 pub record Cleans (at : Spot) (n : ℕ) (k : Sketch) (seen : Around) (left still : ℕ) : Type 0 where
   pub around : IsAround (bordered (lit_in k)) at.word at.stripe seen
   pub left_is : (m : ℕ) → m < 64 → on left m ≡ (nat_le n m && is_left k at.word at.stripe m)

@@ -1,4 +1,5 @@
--- What is significant when refinement begins and isn't coded in this plane was so in a higher plane.
+-- What is significant when refinement begins and isn't coded in this plane was so in a higher
+-- plane.
 use Rattle.std.proofs.Common.{◌≡◌, ℕ, ◌+◌, ◌-◌, ◌*◌, ◌%◌, ◌^◌, ◌<◌, ◌≤◌, Bool, true, false, List, Ok, sym, ap, ◌∙◌, subst, arith}
 use Rattle.std.specs.Prelude.{◌&&◌, nat_le, nat_lt}
 use Rattle.std.proofs.lemmas.Bool.{and_parts}

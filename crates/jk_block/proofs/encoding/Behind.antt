@@ -42,7 +42,8 @@ none f w p a = grind (arith, nat_tests)
 is_place : (p n : ℕ) → nat_eq p n ≡ true → p ≡ n
 is_place p n e = grind (arith, nat_tests)
 
--- A field takes in a place at each bit where g holds. Behind bit n it has taken in those of the word before it.
+-- A field takes in a place at each bit where g holds. Behind bit n it has taken in those of the
+-- word before it.
 taken_in : (f : ℕ → Field Bool) (g : ℕ → Bool) (j i word : ℕ) → ((n x y : ℕ) → f (n + 1) x y ≡ (f n x y || (g n && here (column j n) (row i n) x y))) → ((m : ℕ) → g m ≡ true → of_rows (m % 8) ≡ true)
     → ((m : ℕ) → m < 64 → on word m ≡ g m) → (x y n : ℕ) → n ≤ 64
     → f n x y ≡ (f 0 x y || ((nat_eq (x / 8) j && nat_eq (y / 4) i) && (nat_lt (8 * (x % 8) + (y % 4 + 1)) n && on word (8 * (x % 8) + (y % 4 + 1)))))

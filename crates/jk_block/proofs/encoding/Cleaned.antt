@@ -33,8 +33,8 @@ use Rattle.jk_block.proofs.encoding.Timing.{codes, moment_place}
 use Rattle.jk_block.proofs.encoding.Turned.{Prepared}
 use Rattle.jk_block.proofs.WordBits.{none_before, is_one_number, le_true, true_le, on_rows}
 
--- The pass has come to bit n of a word. A column in run mode is listed from its first row on, so the pass never stands there. There
--- is room for two decisions of each bit that comes.
+-- The pass has come to bit n of a word. A column in run mode is listed from its first row on, so
+-- the pass never stands there. There is room for two decisions of each bit that comes.
 pub record Cleaned (v : BlockPlane) (at : Spot) (old : Decided) (bytes : List ℕ) (count : ℕ) (rings crosses : List ℕ) (still left : ℕ) : Type 0 where
   pub prepared : Prepared v at rings crosses still
   pub n : ℕ

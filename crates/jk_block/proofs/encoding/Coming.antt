@@ -33,7 +33,8 @@ flagged_at v t u flags e g h = record {
   coded = drawn_same v.shape (spread_at v t) (spread_at v u) flags.visited (λ x y. sym (g x y)) h.coded;
 }
 
--- nothing changes at a bit: no place is coded there, or a 0 is, but not in the significance propagation pass
+-- nothing changes at a bit: no place is coded there, or a 0 is, but not in the significance
+-- propagation pass
 pub record Idle (v : BlockPlane) (pass j i k : ℕ) : Type 0 where
   pub lit : (codes v.shape (mag v) pass j i k && nat_eq (mag v (column j k) (row i k)) 1) ≡ false
   pub coded : (codes v.shape (mag v) pass j i k && nat_eq pass 0) ≡ false

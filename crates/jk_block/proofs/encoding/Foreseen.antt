@@ -1,4 +1,5 @@
--- A word listed in the significance propagation pass, where the places that it codes are known before.
+-- A word listed in the significance propagation pass, where the places that it codes are known
+-- before.
 use Rattle.std.proofs.Common.{◌≡◌, ℕ, ◌+◌, ◌-◌, ◌*◌, ◌/◌, ◌%◌, ◌^◌, ◌<◌, ◌≤◌, Bool, true, false, not, List, get_or, ◌++◌, refl, sym, ap, ◌∙◌, subst, inl, inr, arith}
 use Rattle.std.specs.Prelude.{◌&&◌, ◌||◌, nat_eq, nat_le}
 use Rattle.std.specs.Int.{trailing_zeros, bit_not, w64}
@@ -92,8 +93,9 @@ together m z h = grind (arith, nat_tests)
 abbrev pub with_centre : ℕ → Around → Around
 with_centre centre around = record { centre = centre; west = around.west; east = around.east }
 
--- The pass has come to bit n of a word. So far the places in `centre` are significant, and the candidates are the members of the pass
--- from there on. All members to come are the candidates, and what will be reached from members to come with the bit 1.
+-- The pass has come to bit n of a word. So far the places in `centre` are significant, and the
+-- candidates are the members of the pass from there on. All members to come are the candidates, and
+-- what will be reached from members to come with the bit 1.
 pub record Foreseen (v : BlockPlane) (at : Spot) (old list : Decided) (around : Around) (inside ones all rest : ℕ) : Type 0 where
   pub n : ℕ
   pub centre : ℕ

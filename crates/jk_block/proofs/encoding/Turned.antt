@@ -1,5 +1,5 @@
--- What is significant as the cleanup pass goes through a word: of the places before the one it has come to those that are so
--- behind the pass, of the others those that were so before it.
+-- What is significant as the cleanup pass goes through a word: of the places before the one it has
+-- come to those that are so behind the pass, of the others those that were so before it.
 use Rattle.std.proofs.Common.{◌≡◌, ℕ, zero, suc, ◌+◌, ◌-◌, ◌*◌, ◌/◌, ◌%◌, ◌^◌, ◌<◌, ◌≤◌, Bool, true, false, List, get_or, refl, sym, ap, ◌∙◌, subst, inl, inr, arith}
 use Rattle.std.specs.Prelude.{◌&&◌, ◌||◌, nat_eq}
 use Rattle.std.specs.Int.RustNames.{bit_or}
@@ -121,8 +121,8 @@ turned v at around new stripe fits shown new_is (suc n) most =
     subst (Turned v at around new) (let e : n + 1 ≡ suc n = omega arith in e)
     (turn v at around new n stripe (omega (arith, most)) (new_is n (omega (arith, most))) (turned v at around new stripe fits shown new_is n (omega (arith, most))))
 
--- What is known of each place of a word before the first is listed: what it has around it at its moment, and which columns are in
--- run mode.
+-- What is known of each place of a word before the first is listed: what it has around it at its
+-- moment, and which columns are in run mode.
 pub record Prepared (v : BlockPlane) (at : Spot) (rings crosses : List ℕ) (still : ℕ) : Type 0 where
   pub rings_are : (k : ℕ) → k < 64 → of_rows (k % 8) ≡ true → IsRing (bordered (lit_at v (moment_at v.shape 2 at.word at.stripe k))) (column at.word k + 8) (row at.stripe k + 4) (get_or rings (k % 8 - 1) 0) (k / 8)
   pub crosses_are : (k : ℕ) → k < 64 → of_rows (k % 8) ≡ true → IsCross (bordered (lit_at v (moment_at v.shape 2 at.word at.stripe k))) (column at.word k + 8) (row at.stripe k + 4) (get_or crosses (k % 8 - 1) 0) (k / 8) 0

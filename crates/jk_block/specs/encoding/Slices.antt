@@ -1,5 +1,6 @@
 -- Slices: one byte of each of eight magnitudes in one number.
-use Rattle.std.specs.Prelude.{◌≡◌, ℕ, ℤ, ◌+◌, ◌*◌, ◌/◌, ◌%◌, ◌^◌, ◌<◌, Bool, true, if◌then◌else◌, ◌&&◌, nat_lt, List, get_or, unsigned_abs}
+use Rattle.std.specs.Prelude.{◌≡◌, ℕ, ℤ, ◌+◌, ◌*◌, ◌/◌, ◌%◌, ◌^◌, ◌<◌, Bool, true, if◌then◌else◌, ◌&&◌, nat_lt, List}
+use Rattle.std.specs.Prelude.{get_or, unsigned_abs}
 use Rattle.std.specs.Int.{is_negative}
 use Rattle.std.specs.Int.RustNames.{bit_or}
 use Rattle.jk_scan.specs.declared.shape.BlockShape.{BlockShape}
@@ -30,17 +31,20 @@ negative_to s q n x y = negative_of s q x y && nat_lt (y / 4 * across s + x / 8)
 abbrev pub IsShort : BlockShape → Field ℤ → Type 0
 IsShort s q = (x y : ℕ) → is_inside s x y ≡ true → unsigned_abs (q x y) < 2 ^ 31
 
--- Bit i of byte c of the slice j of row y is bit shift + i of the magnitude in column 8j + c. The slices of a row stand one
--- behind another, and those of a row before those of the next one. The rows go on to the end of the last stripe, there with zeros.
+-- Bit i of byte c of the slice j of row y is bit shift + i of the magnitude in column 8j + c. The
+-- slices of a row stand one behind another, and those of a row before those of the next one. The
+-- rows go on to the end of the last stripe, there with zeros.
 abbrev pub IsSliced : BlockShape → (shift : ℕ) → Field ℤ → List ℕ → Type 0
 IsSliced s shift q slices =
-    (j y c i : ℕ) → j < across s → y < 4 * stripes s → c < 8 → i < 8 → on (get_or slices (y * across s + j) 0) (8 * c + i) ≡ bit_in s (shift + i) q (8 * j + c) y
+    (j y c i : ℕ) → j < across s → y < 4 * stripes s → c < 8 → i < 8
+    → on (get_or slices (y * across s + j) 0) (8 * c + i) ≡ bit_in s (shift + i) q (8 * j + c) y
 
 -- The same of the first n slices. The others are zero.
 abbrev pub IsSlicedTo : BlockShape → (shift : ℕ) → Field ℤ → (n : ℕ) → List ℕ → Type 0
 IsSlicedTo s shift q n slices =
     (j y c i : ℕ) → j < across s → y < 4 * stripes s → c < 8 → i < 8
-    → on (get_or slices (y * across s + j) 0) (8 * c + i) ≡ (nat_lt (y * across s + j) n && bit_in s (shift + i) q (8 * j + c) y)
+    → on (get_or slices (y * across s + j) 0) (8 * c + i)
+    ≡ (nat_lt (y * across s + j) n && bit_in s (shift + i) q (8 * j + c) y)
 
 -- The word shows which of its places have a 1 in bit b.
 abbrev pub IsPlaneWord : BlockShape → (b : ℕ) → Field ℤ → (j i word : ℕ) → Type 0

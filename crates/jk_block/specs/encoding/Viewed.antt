@@ -1,5 +1,6 @@
 -- What words show of a block at a bit-plane while its decisions are listed.
-use Rattle.std.specs.Prelude.{◌≡◌, ◌<◌, ℕ, ◌+◌, ◌-◌, ◌*◌, ◌/◌, ◌%◌, Bool, true, false, ◌&&◌, ◌||◌, nat_eq, nat_lt, nat_le, [], ◌∷◌, List, get_or, ℤ, if◌then◌else◌}
+use Rattle.std.specs.Prelude.{◌≡◌, ◌<◌, ℕ, ◌+◌, ◌-◌, ◌*◌, ◌/◌, ◌%◌, Bool, true, false, ◌&&◌, ◌||◌, nat_eq, nat_lt}
+use Rattle.std.specs.Prelude.{nat_le, [], ◌∷◌, List, get_or, ℤ, if◌then◌else◌}
 use Rattle.jk_scan.specs.declared.shape.BlockShape.{BlockShape}
 use Rattle.jk_scan.specs.Contexts.{run_length, uniform}
 use Rattle.jk_scan.specs.Neighbours.{Field, is_inside}
@@ -21,7 +22,8 @@ seen v = plane_at v.shape v.plane (value_in v.shape v.values.now)
 
 -- The word shows which of its places have the bit 1.
 abbrev pub ShowsOnes : BlockPlane → (j i word : ℕ) → Type 0
-ShowsOnes v j i word = (m : ℕ) → m < 64 → on word m ≡ (of_rows (m % 8) && is_one ((seen v).magnitude (column j m) (row i m)))
+ShowsOnes v j i word =
+    (m : ℕ) → m < 64 → on word m ≡ (of_rows (m % 8) && is_one ((seen v).magnitude (column j m) (row i m)))
 
 -- significant at a moment
 abbrev pub lit_at : BlockPlane → ℕ → Field Bool
@@ -33,7 +35,8 @@ negative_in v = negative_of v.shape (value_in v.shape v.values.now)
 
 -- coded by the significance propagation pass before a moment
 abbrev pub spread_at : BlockPlane → ℕ → Field Bool
-spread_at v t x y = is_inside v.shape x y && (spread v.shape.width (seen v).magnitude x y && nat_lt (number v.shape.width x y) t)
+spread_at v t x y =
+    is_inside v.shape x y && (spread v.shape.width (seen v).magnitude x y && nat_lt (number v.shape.width x y) t)
 
 -- The words show what is so at a moment.
 pub record IsFlagged (v : BlockPlane) (t : ℕ) (flags : Flags) : Type 0 where
@@ -51,13 +54,16 @@ with_word f j i word x y = f x y || ((nat_eq (x / 8) j && nat_eq (y / 4) i) && o
 -- The words show which of the places beside each place of the word j of the stripe i are negative.
 abbrev pub ShowsSigns : BlockPlane → (j i : ℕ) → List ℕ → Type 0
 ShowsSigns v j i crosses =
-    (k : ℕ) → k < 64 → of_rows (k % 8) ≡ true → IsCross (bordered (negative_in v)) (column j k + 8) (row i k + 4) (get_or crosses (k % 8 - 1) 0) (k / 8) 4
+    (k : ℕ) → k < 64 → of_rows (k % 8) ≡ true
+    → IsCross (bordered (negative_in v)) (column j k + 8) (row i k + 4) (get_or crosses (k % 8 - 1) 0) (k / 8) 4
 
--- How many places of a pass come before row r of column c, where r counts from 1 and some places come before the stripe.
+-- How many places of a pass come before row r of column c, where r counts from 1 and some places
+-- come before the stripe.
 unfoldable pub number_by : (w before c r : ℕ) → ℕ
 number_by w before c r = if nat_lt c w then 4 * (before + c) + (if nat_lt r 5 then r - 1 else 4) else 4 * (before + w)
 
--- The moment at which a pass comes to bit k of the word j of the stripe i. Only bits of places take time.
+-- The moment at which a pass comes to bit k of the word j of the stripe i. Only bits of places take
+-- time.
 unfoldable pub moment_at : BlockShape → (pass j i k : ℕ) → ℕ
 moment_at s pass j i k = pass * visits s + number_by s.width (s.width * i) (8 * j + k / 8) (k % 8)
 
@@ -69,7 +75,8 @@ column_if s p pass j i c = if nat_lt (8 * j + c) s.width then column_decisions s
 unfoldable pub word_decisions : BlockShape → Plane → (pass j i : ℕ) → Decided
 word_decisions s p pass j i = joined 8 (column_if s p pass j i)
 
--- What a column in run mode decides up to its first row f with the bit 1, at the moment of that row.
+-- What a column in run mode decides up to its first row f with the bit 1, at the moment of that
+-- row.
 unfoldable pub run_head : BlockShape → Plane → (t x i f : ℕ) → Decided
 run_head s p t x i f =
     if nat_eq f 4 then (run_length, false) ∷ []

@@ -1,8 +1,10 @@
-//! A block read from its segment. The MQ decoder gives decisions; a pass goes over stripes (`passes`),
-//! their words of 32 places (`words`) and the places that it codes (`places`), and each decision goes
-//! into the `sketch`: magnitudes, and words of which places are significant. The sketch is the block.
+//! A block read from its segment. The MQ decoder gives decisions; a pass goes over stripes
+//! (`passes`), their words of 32 places (`words`) and the places that it codes (`places`), and each
+//! decision goes into the `sketch`: magnitudes, and words of which places are significant. The
+//! sketch is the block.
 
-ghost use Rattle.std.specs.Prelude.{◌≡◌, ℕ, ℤ, List, true, IfErr, OnOk, map, ◌++◌, ◌+◌, ◌-◌, ◌*◌, ◌/◌, ◌%◌, ◌^◌, ◌<◌, ◌≤◌, All, IfOk, MatchResult, unsigned_abs};
+ghost use Rattle.std.specs.Prelude.{◌≡◌, ℕ, ℤ, List, true, IfErr, OnOk, map, ◌++◌, ◌+◌, ◌-◌, ◌*◌, ◌/◌, ◌%◌, ◌^◌, ◌<◌};
+ghost use Rattle.std.specs.Prelude.{◌≤◌, All, IfOk, MatchResult, unsigned_abs};
 ghost use Rattle.std.specs.List.{range_with_len};
 ghost use Rattle.jk_math.specs.Answer.{Answers};
 ghost use Rattle.jk_math.specs.Memory.{IsMemory};
@@ -48,7 +50,8 @@ pub struct Block {
 fn begin(sketch: &mut Sketch, pass: Pass)
     ensures shape { sketch.new.shape ≡ sketch.old.shape }
     ensures begun { (c : State) → progress sketch.new c ≡ begun (number_of pass) (progress sketch.old c) }
-    ensures fresh { (plane : ℕ) (refined : List ℕ) → number_of pass ≡ 1 → IsFresh plane refined sketch.old → IsFresh plane refined sketch.new }
+    ensures fresh { (plane : ℕ) (refined : List ℕ) → number_of pass ≡ 1 → IsFresh plane refined sketch.old
+        → IsFresh plane refined sketch.new }
 {
     match pass {
         Pass::Propagation => sketch.begin(),
@@ -138,7 +141,8 @@ fn append_row(values: &mut Vec<i32>, sketch: &Sketch, y: usize) -> Result<(), Fa
     requires small { (x y : ℕ) → is_inside sketch.now.shape x y ≡ true
         → field_of sketch.now.shape sketch.now.magnitudes 0 x y < 2 ^ 23 }
     ensures row { OnOk result (values.new.items ≡ values.old.items
-        ++ map (λ x. with_sign (negative_in sketch.now x y) (field_of sketch.now.shape sketch.now.magnitudes 0 x y)) (range_with_len 0 sketch.now.shape.width)) }
+        ++ map (λ x. with_sign (negative_in sketch.now x y) (field_of sketch.now.shape sketch.now.magnitudes 0 x y))
+        (range_with_len 0 sketch.now.shape.width)) }
     ensures memory { IfErr result IsMemory }
 {
     let shape = sketch.shape;
@@ -163,8 +167,9 @@ fn values(alloc: Global, sketch: &Sketch) -> Result<Vec<i32>, Fault>
     Ok(values)
 }
 
-/// Reads a code-block of so many bit-planes from the segment of its coding passes (T.800 Annex D), or
-/// [`Fault::Memory`], [`Fault::TooManyPasses`] or [`Fault::CodeOutOfInterval`]. Without a pass all coefficients are 0.
+/// Reads a code-block of so many bit-planes from the segment of its coding passes (T.800 Annex D),
+/// or [`Fault::Memory`], [`Fault::TooManyPasses`] or [`Fault::CodeOutOfInterval`]. Without a pass
+/// all coefficients are 0.
 pub fn decode(
     alloc: Global,
     segment: &[u8],

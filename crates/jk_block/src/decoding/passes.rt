@@ -26,7 +26,8 @@ fn read_word(
     ensures shape { sketch.new.shape ≡ sketch.old.shape }
     ensures bytes { decoder.new.bytes ≡ decoder.old.bytes }
     ensures fresh { number_of pass ≡ 1 → IsFresh spot.plane refined.now sketch.new }
-    ensures takes { Takes (word_pass decoder.old.bytes sketch.old.shape spot.plane (number_of pass) spot.word spot.stripe)
+    ensures takes { Takes (word_pass decoder.old.bytes sketch.old.shape spot.plane
+        (number_of pass) spot.word spot.stripe)
         sketch.old sketch.new decoder.old decoder.new result }
 {
     match pass {

@@ -1,6 +1,7 @@
 //! One place in a pass.
 
-ghost use Rattle.std.specs.Prelude.{◌≡◌, ℕ, List, true, false, not, ◌&&◌, nat_lt, nat_le, ◌+◌, ◌-◌, ◌*◌, ◌/◌, ◌%◌, ◌^◌, ◌<◌, ◌≤◌, IfOk, OnOk, if◌then◌else◌};
+ghost use Rattle.std.specs.Prelude.{◌≡◌, ℕ, List, true, false, not, ◌&&◌, nat_lt, nat_le, ◌+◌, ◌-◌, ◌*◌, ◌/◌, ◌%◌, ◌^◌};
+ghost use Rattle.std.specs.Prelude.{◌<◌, ◌≤◌, IfOk, OnOk, if◌then◌else◌};
 ghost use Rattle.jk_scan.specs.Contexts.{refine_context_of};
 ghost use Rattle.jk_scan.specs.Neighbours.{touched};
 ghost use Rattle.jk_scan.specs.Moments.{cleanup};
@@ -51,7 +52,8 @@ fn read_sign(
     ensures visited { sketch.new.visited ≡ sketch.old.visited }
     ensures lit { OnOk result ((x y : ℕ) → lit_in sketch.new x y
         ≡ also (lit_in sketch.old) (column spot.word k) (row spot.stripe k) x y) }
-    ensures takes { Takes (read_sign decoder.old.bytes sketch.old.shape spot.plane (column spot.word k) (row spot.stripe k))
+    ensures takes { Takes (read_sign decoder.old.bytes sketch.old.shape spot.plane (column spot.word k)
+        (row spot.stripe k))
         sketch.old sketch.new decoder.old decoder.new result }
 {
     let negative = seen_around(&sketch.negative, shape, spot.word, spot.stripe);
@@ -79,8 +81,10 @@ fn read_new(
     ensures bytes { decoder.new.bytes ≡ decoder.old.bytes }
     ensures visited { sketch.new.visited ≡ sketch.old.visited }
     ensures lit { IfOk result (λ bit. (x y : ℕ) → lit_in sketch.new x y
-        ≡ (if bit then also (lit_in sketch.old) (column spot.word k) (row spot.stripe k) x y else lit_in sketch.old x y)) }
-    ensures takes { Takes (read_new decoder.old.bytes sketch.old.shape spot.plane (column spot.word k) (row spot.stripe k))
+        ≡ (if bit then also (lit_in sketch.old) (column spot.word k) (row spot.stripe k) x y
+        else lit_in sketch.old x y)) }
+    ensures takes { Takes (read_new decoder.old.bytes sketch.old.shape spot.plane (column spot.word k)
+        (row spot.stripe k))
         sketch.old sketch.new decoder.old decoder.new result }
 {
     let context = zero_context_at(shape.kind, significant, k);
@@ -110,8 +114,10 @@ pub fn read_propagated(
     ensures shape { sketch.new.shape ≡ sketch.old.shape }
     ensures bytes { decoder.new.bytes ≡ decoder.old.bytes }
     ensures lit { IfOk result (λ bit. (x y : ℕ) → lit_in sketch.new x y
-        ≡ (if bit then also (lit_in sketch.old) (column spot.word k) (row spot.stripe k) x y else lit_in sketch.old x y)) }
-    ensures takes { Takes (place_at decoder.old.bytes sketch.old.shape spot.plane 0 (column spot.word k) (row spot.stripe k))
+        ≡ (if bit then also (lit_in sketch.old) (column spot.word k) (row spot.stripe k) x y
+        else lit_in sketch.old x y)) }
+    ensures takes { Takes (place_at decoder.old.bytes sketch.old.shape spot.plane 0 (column spot.word k)
+        (row spot.stripe k))
         sketch.old sketch.new decoder.old decoder.new result }
 {
     sketch.visit(shape, spot, k);
@@ -133,7 +139,8 @@ pub fn read_refined(
     requires place { IsPlace sketch.old.shape spot k }
     requires few { context < 19 }
     requires context { context ≡ refine_context_of
-        (nat_le 4 (field_of sketch.old.shape sketch.old.magnitudes 0 (column spot.word k) (row spot.stripe k) / 2 ^ spot.plane))
+        (nat_le 4 (field_of sketch.old.shape sketch.old.magnitudes 0 (column spot.word k)
+        (row spot.stripe k) / 2 ^ spot.plane))
         (touched (lit_in sketch.old) (column spot.word k) (row spot.stripe k)) }
     requires lit { lit_in sketch.old (column spot.word k) (row spot.stripe k) ≡ true }
     requires uncoded { visited_in sketch.old (column spot.word k) (row spot.stripe k) ≡ false }
@@ -144,7 +151,8 @@ pub fn read_refined(
     ensures visited { sketch.new.visited ≡ sketch.old.visited }
     ensures lit { (x y : ℕ) → lit_in sketch.new x y ≡ lit_in sketch.old x y }
     ensures fresh { (refined : List ℕ) → IsFresh spot.plane refined sketch.old → IsFresh spot.plane refined sketch.new }
-    ensures takes { Takes (place_at decoder.old.bytes sketch.old.shape spot.plane 1 (column spot.word k) (row spot.stripe k))
+    ensures takes { Takes (place_at decoder.old.bytes sketch.old.shape spot.plane 1 (column spot.word k)
+        (row spot.stripe k))
         sketch.old sketch.new decoder.old decoder.new result }
 {
     let bit = decoder.decode(context as usize)?;
@@ -172,8 +180,10 @@ pub fn read_cleaned(
     ensures bytes { decoder.new.bytes ≡ decoder.old.bytes }
     ensures visited { sketch.new.visited ≡ sketch.old.visited }
     ensures lit { IfOk result (λ bit. (x y : ℕ) → lit_in sketch.new x y
-        ≡ (if bit then also (lit_in sketch.old) (column spot.word k) (row spot.stripe k) x y else lit_in sketch.old x y)) }
-    ensures takes { Takes (place_at decoder.old.bytes sketch.old.shape spot.plane 2 (column spot.word k) (row spot.stripe k))
+        ≡ (if bit then also (lit_in sketch.old) (column spot.word k) (row spot.stripe k) x y
+        else lit_in sketch.old x y)) }
+    ensures takes { Takes (place_at decoder.old.bytes sketch.old.shape spot.plane 2 (column spot.word k)
+        (row spot.stripe k))
         sketch.old sketch.new decoder.old decoder.new result }
 {
     read_new(sketch, decoder, shape, spot, k, significant)
@@ -189,8 +199,8 @@ fn row_named(high: bool, low: bool) -> u32
     upper + lower
 }
 
-/// Reads a column in run mode (T.800 D.3.4), from the bit k of its first row, up to the first row that becomes significant:
-/// gives that row, or 4.
+/// Reads a column in run mode (T.800 D.3.4), from the bit k of its first row, up to the first row
+/// that becomes significant: gives that row, or 4.
 pub fn read_run(
     sketch: &mut Sketch,
     decoder: &mut PassDecoder,
@@ -210,9 +220,11 @@ pub fn read_run(
     ensures visited { sketch.new.visited ≡ sketch.old.visited }
     ensures few { IfOk result (λ f. f ≤ 4) }
     ensures lit { IfOk result (λ f. (x y : ℕ) → lit_in sketch.new x y
-        ≡ (if nat_lt f 4 then also (lit_in sketch.old) (column spot.word (k + f)) (row spot.stripe (k + f)) x y else lit_in sketch.old x y)) }
+        ≡ (if nat_lt f 4 then also (lit_in sketch.old) (column spot.word (k + f)) (row spot.stripe (k + f)) x y
+        else lit_in sketch.old x y)) }
     ensures takes { TakesUpTo (read_run decoder.old.bytes sketch.old.shape spot.plane (column spot.word k) spot.stripe)
-        (λ f. rows_at decoder.old.bytes sketch.old.shape spot.plane cleanup (column spot.word k) spot.stripe (f + 1) (3 - f))
+        (λ f. rows_at decoder.old.bytes sketch.old.shape spot.plane cleanup (column spot.word k) spot.stripe (f + 1)
+        (3 - f))
         sketch.old sketch.new decoder.old decoder.new result }
 {
     let some = decoder.decode(RUN_LENGTH)?;

@@ -14,8 +14,9 @@ use crate::ages::unmarked;
 use crate::spot::Spot;
 use jk_scan::{BlockShape, WORDS, word_place};
 
-/// A block as far as it is read: magnitudes row by row, and words of 32 places for which are significant, which are
-/// negative, and which the significance propagation pass of this plane has coded.
+/// A block as far as it is read: magnitudes row by row, and words of 32 places for which are
+/// significant, which are negative, and which the significance propagation pass of this plane has
+/// coded.
 #[derive(Drop)]
 pub struct Sketch {
     pub shape: BlockShape,
@@ -86,7 +87,8 @@ impl Sketch {
         requires place { IsPlace self.old.shape spot k }
         ensures shape { self.new.shape ≡ self.old.shape }
         ensures lit { lit_in self.new ≡ lit_in self.old }
-        ensures visited { (c : State) → progress self.new c ≡ visit (column spot.word k) (row spot.stripe k) (progress self.old c) }
+        ensures visited { (c : State)
+            → progress self.new c ≡ visit (column spot.word k) (row spot.stripe k) (progress self.old c) }
     {
         let at = word_place(shape, spot.word + 1, spot.stripe + 1);
         let visited = &mut self.visited;
@@ -103,7 +105,8 @@ impl Sketch {
         ensures visited { self.new.visited ≡ self.old.visited }
         ensures coded { (c : State) → progress self.new c
             ≡ coded_as spot.plane (column spot.word k) (row spot.stripe k) true negative (progress self.old c) }
-        ensures lit { (x y : ℕ) → lit_in self.new x y ≡ also (lit_in self.old) (column spot.word k) (row spot.stripe k) x y }
+        ensures lit { (x y : ℕ) → lit_in self.new x y
+            ≡ also (lit_in self.old) (column spot.word k) (row spot.stripe k) x y }
     {
         let at = word_place(shape, spot.word + 1, spot.stripe + 1);
         let bit = 1 << k;

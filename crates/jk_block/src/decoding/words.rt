@@ -1,5 +1,5 @@
-//! A word of 32 places in each pass: loops over the places that the pass codes, from the lowest bit on. Between two of them
-//! nothing happens.
+//! A word of 32 places in each pass: loops over the places that the pass codes, from the lowest bit
+//! on. Between two of them nothing happens.
 
 ghost use Rattle.std.specs.Prelude.{◌≡◌, ℕ, Bool, true, not, nat_eq, nat_lt, ◌&&◌, ◌+◌, ◌*◌, ◌/◌, ◌%◌, ◌<◌};
 ghost use Rattle.jk_scan.specs.Bits.{on};
@@ -22,8 +22,8 @@ use jk_scan::{
     seen_around, touched_places, word_place,
 };
 
-/// Reads a word in the significance propagation pass (T.800 D.3.1). A place that becomes significant takes in the later ones
-/// of its word that it touches.
+/// Reads a word in the significance propagation pass (T.800 D.3.1). A place that becomes
+/// significant takes in the later ones of its word that it touches.
 pub fn read_propagation(
     sketch: &mut Sketch,
     decoder: &mut PassDecoder,
@@ -55,7 +55,8 @@ pub fn read_propagation(
 fn older(sketch: &Sketch, spot: Spot) -> u64
     requires { IsSpot sketch.now.shape spot }
     ensures { (m : ℕ) → m < 64 → on result m ≡ (of_rows (m % 8)
-        && (lit_in sketch.now (column spot.word m) (row spot.stripe m) && not (visited_in sketch.now (column spot.word m) (row spot.stripe m)))) }
+        && (lit_in sketch.now (column spot.word m) (row spot.stripe m)
+        && not (visited_in sketch.now (column spot.word m) (row spot.stripe m)))) }
 {
     let place = word_place(sketch.shape, spot.word + 1, spot.stripe + 1);
     let significant = &sketch.significant;
@@ -107,8 +108,10 @@ pub fn read_refinement(
 fn uncoded(sketch: &Sketch, spot: Spot, limits: u64) -> u64
     requires spot { IsSpot sketch.now.shape spot }
     requires limits { Shows of_rows (bordered (is_inside sketch.now.shape)) (spot.word + 1) (spot.stripe + 1) limits }
-    ensures { (m : ℕ) → m < 64 → on result m ≡ (of_rows (m % 8) && (is_inside sketch.now.shape (column spot.word m) (row spot.stripe m)
-        && (not (lit_in sketch.now (column spot.word m) (row spot.stripe m)) && not (visited_in sketch.now (column spot.word m) (row spot.stripe m))))) }
+    ensures { (m : ℕ) → m < 64
+        → on result m ≡ (of_rows (m % 8) && (is_inside sketch.now.shape (column spot.word m) (row spot.stripe m)
+        && (not (lit_in sketch.now (column spot.word m) (row spot.stripe m))
+        && not (visited_in sketch.now (column spot.word m) (row spot.stripe m))))) }
 {
     let place = word_place(sketch.shape, spot.word + 1, spot.stripe + 1);
     let significant = &sketch.significant;
@@ -116,8 +119,8 @@ fn uncoded(sketch: &Sketch, spot: Spot, limits: u64) -> u64
     limits & !(significant[place] | visited[place])
 }
 
-/// The columns of a word that are coded in run mode, by their first rows: they have four rows, with nothing significant in
-/// them or around them.
+/// The columns of a word that are coded in run mode, by their first rows: they have four rows, with
+/// nothing significant in them or around them.
 #[inline(always)]
 fn still_columns(shape: BlockShape, spot: Spot, seen: Around, limits: u64) -> u64
     requires sized { IsSized shape }
@@ -134,7 +137,8 @@ fn still_columns(shape: BlockShape, spot: Spot, seen: Around, limits: u64) -> u6
     }
 }
 
-/// Reads a word in the cleanup pass (T.800 D.3.4): the places that are left, and columns in run mode.
+/// Reads a word in the cleanup pass (T.800 D.3.4): the places that are left, and columns in run
+/// mode.
 pub fn read_cleanup(sketch: &mut Sketch, decoder: &mut PassDecoder, spot: Spot) -> Result<(), Fault>
     requires { IsSpot sketch.old.shape spot }
     ensures shape { sketch.new.shape ≡ sketch.old.shape }

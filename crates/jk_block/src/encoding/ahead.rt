@@ -1,5 +1,5 @@
-//! The places of a word that the significance propagation pass codes. While a block is written all its bits are known, so
-//! these places are known before the first of them is listed.
+//! The places of a word that the significance propagation pass codes. While a block is written all
+//! its bits are known, so these places are known before the first of them is listed.
 
 ghost use Rattle.std.specs.Prelude.{◌≡◌, ℕ, ◌&&◌, ◌||◌, ◌<◌};
 ghost use Rattle.jk_scan.specs.Bits.{on};
@@ -16,7 +16,8 @@ fn reached(lit: u64) -> u64
 /// The candidates, and of the free places those that one of all these with the bit 1 reaches.
 #[inline(always)]
 pub fn with_reached(candidates: u64, ones: u64, free: u64) -> u64
-    ensures { (m : ℕ) → m < 64 → on result m ≡ (on candidates m || (on free m && is_reached (λ k. on result k && on ones k) m)) }
+    ensures { (m : ℕ) → m < 64
+        → on result m ≡ (on candidates m || (on free m && is_reached (λ k. on result k && on ones k) m)) }
 {
     let mut all = candidates;
     let mut more = candidates | reached(all & ones) & free;

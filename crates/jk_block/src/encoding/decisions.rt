@@ -1,6 +1,7 @@
 //! The decisions of a pass.
 
-ghost use Rattle.std.specs.Prelude.{◌≡◌, ℕ, [], ◌∷◌, ◌+◌, ◌++◌, List, ◌%◌, ◌<◌, ◌≤◌, IfOk, IfErr, if◌then◌else◌, replicate};
+ghost use Rattle.std.specs.Prelude.{◌≡◌, ℕ, [], ◌∷◌, ◌+◌, ◌++◌, List, ◌%◌, ◌<◌, ◌≤◌, IfOk, IfErr, if◌then◌else◌};
+ghost use Rattle.std.specs.Prelude.{replicate};
 ghost use Rattle.jk_math.specs.Memory.{IsMemory};
 ghost use Rattle.jk_model.specs.Decisions.{Decision};
 ghost use Rattle.jk_mqenc.specs.Encoded.{Codes, decision_of};
@@ -17,7 +18,8 @@ const ROOM: usize = 2048;
 /// How much room is made for a word: more than the decisions of its places and columns.
 const WORD_ROOM: usize = 136;
 
-/// Decisions, each in one byte: the highest bit is the decision's, the others are the number of its context.
+/// Decisions, each in one byte: the highest bit is the decision's, the others are the number of its
+/// context.
 #[derive(Drop)]
 pub struct DecisionList {
     /// The decisions, and room behind them.
@@ -100,7 +102,8 @@ pub fn put_new(
     requires room { IsSheet bytes.old (count + 2) }
     requires context { context < 19 }
     requires next { next < 19 }
-    ensures told { told bytes.new result ≡ told bytes.old count ++ (context, bit) ∷ (if bit then (next, next_bit) ∷ [] else []) }
+    ensures told { told bytes.new result
+        ≡ told bytes.old count ++ (context, bit) ∷ (if bit then (next, next_bit) ∷ [] else []) }
     ensures few { result ≤ count + 2 }
     ensures sheet { (n : ℕ) → IsSheet bytes.old n → IsSheet bytes.new n }
 {

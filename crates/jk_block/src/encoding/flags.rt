@@ -11,7 +11,8 @@ use crate::ages::unmarked;
 use crate::spot::Spot;
 use jk_scan::{BlockShape, WORDS, word_place};
 
-/// Words of 32 places: which are significant, and which the significance propagation pass of this plane has coded.
+/// Words of 32 places: which are significant, and which the significance propagation pass of this
+/// plane has coded.
 #[derive(Drop)]
 pub struct Flags {
     pub significant: [u64; WORDS],

@@ -1,8 +1,10 @@
-//! A block written. Its magnitudes are cut into `slices`, of which each bit-plane has its words (`plane`);
-//! a pass goes over stripes (`passes`), their words (`words`) and the places that it codes (`places`),
-//! and puts `decisions` into a list, of which the MQ encoder makes the bytes of the pass.
+//! A block written. Its magnitudes are cut into `slices`, of which each bit-plane has its words
+//! (`plane`); a pass goes over stripes (`passes`), their words (`words`) and the places that it
+//! codes (`places`), and puts `decisions` into a list, of which the MQ encoder makes the bytes of
+//! the pass.
 
-ghost use Rattle.std.specs.Prelude.{◌≡◌, ℕ, true, false, List, ◌+◌, ◌-◌, ◌*◌, ◌^◌, ◌<◌, ◌≤◌, ◌++◌, ◌∷◌, [], All, IfOk, IfErr, Ok, get_or, length, min, take, unsigned_abs};
+ghost use Rattle.std.specs.Prelude.{◌≡◌, ℕ, true, false, List, ◌+◌, ◌-◌, ◌*◌, ◌^◌, ◌<◌, ◌≤◌, ◌++◌, ◌∷◌, [], All, IfOk};
+ghost use Rattle.std.specs.Prelude.{IfErr, Ok, get_or, length, min, take, unsigned_abs};
 ghost use Rattle.jk_math.specs.BitLength.{bit_length};
 ghost use Rattle.jk_math.specs.Memory.{IsMemory};
 ghost use Rattle.jk_model.specs.Decisions.{Decision};
@@ -53,7 +55,8 @@ pub struct CodedBlock {
     pub marks: Vec<usize>,
 }
 
-/// How many bits the greatest magnitude has: the number of bit-planes of a block with these coefficients.
+/// How many bits the greatest magnitude has: the number of bit-planes of a block with these
+/// coefficients.
 pub fn top_bits(values: &[i32]) -> u32
     requires { All (λ v. unsigned_abs v < 2 ^ 23) values.now }
     ensures planes { result ≡ bit_length (greatest values.now) }
@@ -83,7 +86,8 @@ fn code_pass(
     ensures codes { IfOk result (λ _. (ds : List Decision) → Codes encoder.old ds
         → Codes encoder.new (ds ++ plane_decisions block.now.shape (seen block.now) (number_of pass))) }
     ensures marks { IfOk result (λ _. (ds : List Decision) → Codes encoder.old ds
-        → marks.new.items ≡ marks.old.items ++ written_by (ds ++ plane_decisions block.now.shape (seen block.now) (number_of pass)) ∷ []) }
+        → marks.new.items ≡ marks.old.items
+        ++ written_by (ds ++ plane_decisions block.now.shape (seen block.now) (number_of pass)) ∷ []) }
     ensures memory { IfErr result IsMemory }
 {
     list.clear();
@@ -107,11 +111,15 @@ fn code_plane(
     requires above { above < planes }
     requires plane { block.now.plane ≡ planes - 1 - above }
     requires top { above ≡ 0 → (x y : ℕ) → old (seen block.now).magnitude x y ≡ false }
-    requires lit { IsLitUpto block.now.shape (block.now.plane + 1) (value_in block.now.shape block.now.values.now) flags.old }
-    requires before { HasCodedPasses block.now.shape planes (3 * above - 2) (value_in block.now.shape block.now.values.now)
+    requires lit { IsLitUpto block.now.shape (block.now.plane + 1)
+        (value_in block.now.shape block.now.values.now) flags.old }
+    requires before { HasCodedPasses block.now.shape planes (3 * above - 2)
+        (value_in block.now.shape block.now.values.now)
         encoder.old marks.old.items }
-    ensures lit { IfOk result (λ _. IsLitUpto block.now.shape block.now.plane (value_in block.now.shape block.now.values.now) flags.new) }
-    ensures after { IfOk result (λ _. HasCodedPasses block.now.shape planes (3 * above + 1) (value_in block.now.shape block.now.values.now)
+    ensures lit { IfOk result (λ _. IsLitUpto block.now.shape block.now.plane
+        (value_in block.now.shape block.now.values.now) flags.new) }
+    ensures after { IfOk result
+        (λ _. HasCodedPasses block.now.shape planes (3 * above + 1) (value_in block.now.shape block.now.values.now)
         encoder.new marks.new.items) }
     ensures memory { IfErr result IsMemory }
 {
@@ -134,7 +142,8 @@ fn code_planes(
     requires sized { IsSized shape }
     requires whole { length values.now ≡ shape.width * shape.height }
     requires planes { planes ≤ 23 }
-    requires small { (x y : ℕ) → is_inside shape x y ≡ true → unsigned_abs (value_in shape values.now x y) < 2 ^ planes }
+    requires small { (x y : ℕ) → is_inside shape x y ≡ true
+        → unsigned_abs (value_in shape values.now x y) < 2 ^ planes }
     requires before { HasCodedPasses shape planes 0 (value_in shape values.now) encoder.old marks.old.items }
     ensures after { IfOk result (λ _. HasCodedPasses shape planes (3 * planes - 2) (value_in shape values.now)
         encoder.new marks.new.items) }
@@ -163,7 +172,8 @@ fn code_planes(
     Ok(())
 }
 
-/// Codes a block (T.800 Annexes C and D), or [`Fault::Memory`]. A block of zeros has no pass and no bytes.
+/// Codes a block (T.800 Annexes C and D), or [`Fault::Memory`]. A block of zeros has no pass and no
+/// bytes.
 pub fn code(alloc: Global, block: &Block) -> Result<CodedBlock, Fault>
     requires narrow { block.now.width ≤ 1024 }
     requires low { block.now.height ≤ 1024 }
@@ -171,10 +181,13 @@ pub fn code(alloc: Global, block: &Block) -> Result<CodedBlock, Fault>
     requires whole { length block.now.values.items ≡ block.now.width * block.now.height }
     requires small { All (λ v. unsigned_abs v < 2 ^ 23) block.now.values.items }
     ensures exact { IfOk result (λ k. contents k ≡ coded (shape_of block.now) block.now.values.items) }
-    ensures means { IfOk result (λ k. IsBlockMeaning (shape_of block.now) k.planes k.passes k.bytes.items (coefficients_of block.now)) }
-    ensures back { IfOk result (λ k. block_at (shape_of block.now) k.planes k.passes k.bytes.items ≡ Ok block.now.values.items) }
+    ensures means { IfOk result
+        (λ k. IsBlockMeaning (shape_of block.now) k.planes k.passes k.bytes.items (coefficients_of block.now)) }
+    ensures back { IfOk result
+        (λ k. block_at (shape_of block.now) k.planes k.passes k.bytes.items ≡ Ok block.now.values.items) }
 
-    // The bytes up to four behind the mark of a pass mean what the passes up to it code, also without a last byte FF.
+    // The bytes up to four behind the mark of a pass mean what the passes up to it code, also
+    // without a last byte FF.
     ensures prefix { IfOk result (λ k. (n z : ℕ) → 1 ≤ n → n ≤ k.passes
         → min (length k.bytes.items) (get_or k.marks.items (n - 1) 0 + 4) ≤ z
         → IsBlockMeaning (shape_of block.now) k.planes n (take z k.bytes.items)

@@ -25,9 +25,13 @@ fn write_word(
     list: &mut DecisionList,
 ) -> Result<(), Fault>
     requires spot { IsSpot block.now.shape spot }
-    requires flagged { IsFlagged block.now (moment_at block.now.shape (number_of pass) spot.word spot.stripe 0) flags.old }
-    ensures flagged { IfOk result (λ _. IsFlagged block.now (moment_at block.now.shape (number_of pass) spot.word spot.stripe 64) flags.new) }
-    ensures listed { IfOk result (λ _. list.new ≡ list.old ++ word_decisions block.now.shape (seen block.now) (number_of pass) spot.word spot.stripe) }
+    requires flagged { IsFlagged block.now
+        (moment_at block.now.shape (number_of pass) spot.word spot.stripe 0) flags.old }
+    ensures flagged { IfOk result
+        (λ _. IsFlagged block.now (moment_at block.now.shape (number_of pass) spot.word spot.stripe 64) flags.new) }
+    ensures listed { IfOk result
+        (λ _. list.new ≡ list.old ++ word_decisions block.now.shape (seen block.now)
+        (number_of pass) spot.word spot.stripe) }
     ensures memory { IfErr result IsMemory }
 {
     match pass {
@@ -48,9 +52,11 @@ fn write_stripe(
 ) -> Result<(), Fault>
     requires stripe { stripe < stripes block.now.shape }
     requires flagged { IsFlagged block.now (moment_at block.now.shape (number_of pass) 0 stripe 0) flags.old }
-    ensures flagged { IfOk result (λ _. IsFlagged block.now (moment_at block.now.shape (number_of pass) 0 (stripe + 1) 0) flags.new) }
+    ensures flagged { IfOk result
+        (λ _. IsFlagged block.now (moment_at block.now.shape (number_of pass) 0 (stripe + 1) 0) flags.new) }
     ensures listed { IfOk result (λ _. list.new ≡ list.old
-        ++ joined block.now.shape.width (λ x. column_decisions block.now.shape (seen block.now) (number_of pass) x stripe)) }
+        ++ joined block.now.shape.width
+        (λ x. column_decisions block.now.shape (seen block.now) (number_of pass) x stripe)) }
     ensures memory { IfErr result IsMemory }
 {
     for word in 0..words_across(block.shape) {
@@ -73,7 +79,8 @@ pub fn write_pass(
 ) -> Result<(), Fault>
     requires flagged { IsFlagged block.now (number_of pass * visits block.now.shape) flags.old }
     ensures flagged { IfOk result (λ _. IsFlagged block.now ((number_of pass + 1) * visits block.now.shape) flags.new) }
-    ensures listed { IfOk result (λ _. list.new ≡ list.old ++ plane_decisions block.now.shape (seen block.now) (number_of pass)) }
+    ensures listed { IfOk result
+        (λ _. list.new ≡ list.old ++ plane_decisions block.now.shape (seen block.now) (number_of pass)) }
     ensures memory { IfErr result IsMemory }
 {
     for stripe in 0..(block.shape.height + 3) / 4 {

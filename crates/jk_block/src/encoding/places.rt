@@ -41,8 +41,8 @@ pub fn bit_of(word: u64, k: u32) -> bool
     word >> k & 1 == 1
 }
 
-/// The bit of a place that isn't significant, and its sign where the bit is 1, by what each place of its word has around it, put
-/// behind so many decisions (T.800 D.3.1, D.3.4).
+/// The bit of a place that isn't significant, and its sign where the bit is 1, by what each place
+/// of its word has around it, put behind so many decisions (T.800 D.3.1, D.3.4).
 #[inline(always)]
 pub fn write_new(
     block: &BlockPlane<'_>,
@@ -61,9 +61,12 @@ pub fn write_new(
     requires crosses { ShowsSigns block.now spot.word spot.stripe crosses.now }
     requires ones { ShowsOnes block.now spot.word spot.stripe ones }
     requires room { IsSheet bytes.old (count + 2) }
-    ensures listed { (t : ℕ) → IsRing (bordered (lit_at block.now t)) (column spot.word k + 8) (row spot.stripe k + 4) (get_or rings.now (k % 8 - 1) 0) (k / 8)
-        → IsCross (bordered (lit_at block.now t)) (column spot.word k + 8) (row spot.stripe k + 4) (get_or crosses.now (k % 8 - 1) 0) (k / 8) 0
-        → told bytes.new result ≡ told bytes.old count ++ new_decisions block.now.shape (seen block.now) t (column spot.word k) (row spot.stripe k) }
+    ensures listed { (t : ℕ) → IsRing (bordered (lit_at block.now t)) (column spot.word k + 8) (row spot.stripe k + 4)
+        (get_or rings.now (k % 8 - 1) 0) (k / 8)
+        → IsCross (bordered (lit_at block.now t)) (column spot.word k + 8) (row spot.stripe k + 4)
+        (get_or crosses.now (k % 8 - 1) 0) (k / 8) 0
+        → told bytes.new result ≡ told bytes.old count
+        ++ new_decisions block.now.shape (seen block.now) t (column spot.word k) (row spot.stripe k) }
     ensures few { result ≤ count + 2 }
     ensures sheet { (n : ℕ) → IsSheet bytes.old n → IsSheet bytes.new n }
 {
@@ -80,7 +83,8 @@ pub fn write_new(
     )
 }
 
-/// The bit of a place that was significant before this plane (T.800 D.3.3), put behind so many decisions.
+/// The bit of a place that was significant before this plane (T.800 D.3.3), put behind so many
+/// decisions.
 #[inline(always)]
 pub fn write_refined(
     refined: bool,
@@ -103,15 +107,18 @@ pub fn write_refined(
 #[inline(always)]
 pub fn first_row(ones: u64, k: u32) -> u32
     requires { k < 60 }
-    ensures value { (a : Field ℕ) (x i : ℕ) → on ones (k + 0) ≡ is_one (a x (4 * i + 0)) → on ones (k + 1) ≡ is_one (a x (4 * i + 1))
-        → on ones (k + 2) ≡ is_one (a x (4 * i + 2)) → on ones (k + 3) ≡ is_one (a x (4 * i + 3)) → result ≡ first_one a x i }
+    ensures value { (a : Field ℕ) (x i : ℕ) → on ones (k + 0) ≡ is_one (a x (4 * i + 0))
+        → on ones (k + 1) ≡ is_one (a x (4 * i + 1))
+        → on ones (k + 2) ≡ is_one (a x (4 * i + 2)) → on ones (k + 3) ≡ is_one (a x (4 * i + 3))
+        → result ≡ first_one a x i }
     ensures few { result ≤ 4 }
 {
     (ones >> k & 0xF | 0x10).trailing_zeros()
 }
 
-/// A column in run mode, from the bit k of its first row, up to the first row with the bit 1: whether there is one, which, and
-/// its sign, put behind so many decisions. `found` is that row, or 4.
+/// A column in run mode, from the bit k of its first row, up to the first row with the bit 1:
+/// whether there is one, which, and its sign, put behind so many decisions. `found` is that row, or
+/// 4.
 #[inline(always)]
 pub fn write_run(
     block: &BlockPlane<'_>,
@@ -131,9 +138,12 @@ pub fn write_run(
     requires found { found ≤ 4 }
     requires rows { 4 * spot.stripe + 4 ≤ block.now.shape.height }
     requires room { IsSheet bytes.old (count + 4) }
-    ensures listed { (t : ℕ) → (found < 4 → IsCross (bordered (lit_at block.now t)) (column spot.word (k + found) + 8) (row spot.stripe (k + found) + 4)
+    ensures listed { (t : ℕ)
+        → (found < 4 → IsCross (bordered (lit_at block.now t)) (column spot.word (k + found) + 8)
+        (row spot.stripe (k + found) + 4)
         (get_or crosses.now ((k + found) % 8 - 1) 0) ((k + found) / 8) 0)
-        → told bytes.new result ≡ told bytes.old count ++ run_head block.now.shape (seen block.now) t (column spot.word k) spot.stripe found }
+        → told bytes.new result ≡ told bytes.old count
+        ++ run_head block.now.shape (seen block.now) t (column spot.word k) spot.stripe found }
     ensures few { result ≤ count + 4 }
     ensures sheet { (n : ℕ) → IsSheet bytes.old n → IsSheet bytes.new n }
 {

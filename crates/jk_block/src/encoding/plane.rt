@@ -29,7 +29,8 @@ pub struct BlockPlane<'a> {
     ghost whole: { length values.now ≡ shape.width * shape.height },
     ghost shallow: { plane < 23 },
     ghost sliced: { IsSliced shape (plane / 8 * 8) (value_in shape values.now) slices.now },
-    ghost older: { IsDrawn shape (λ x y. nat_le 4 ((plane_at shape plane (value_in shape values.now)).magnitude x y)) refined.now },
+    ghost older: { IsDrawn shape
+        (λ x y. nat_le 4 ((plane_at shape plane (value_in shape values.now)).magnitude x y)) refined.now },
     ghost signs: { IsDrawn shape (negative_of shape (value_in shape values.now)) negative.now },
 }
 
@@ -45,11 +46,14 @@ impl<'a> BlockPlane<'a> {
         ones(self.slices, self.shape, spot, self.plane % 8)
     }
 
-    /// The places of a word that were refined in a higher plane, if they were significant before this one.
+    /// The places of a word that were refined in a higher plane, if they were significant before
+    /// this one.
     #[inline(always)]
     pub fn refined_places(&self, spot: Spot) -> u64
         requires { IsSpot self.now.shape spot }
-        ensures { (m : ℕ) → m < 64 → on result m ≡ (of_rows (m % 8) && nat_le 4 ((seen self.now).magnitude (column spot.word m) (row spot.stripe m))) }
+        ensures { (m : ℕ) → m < 64
+            → on result m ≡ (of_rows (m % 8)
+            && nat_le 4 ((seen self.now).magnitude (column spot.word m) (row spot.stripe m))) }
     {
         let refined = self.refined;
         refined[word_place(self.shape, spot.word + 1, spot.stripe + 1)]

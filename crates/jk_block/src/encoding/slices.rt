@@ -1,20 +1,23 @@
-//! The magnitudes of a block in slices: one byte of each magnitude, eight beside each other in one number. So the bits of a
-//! word of 32 places in a bit-plane are those of four slices.
+//! The magnitudes of a block in slices: one byte of each magnitude, eight beside each other in one
+//! number. So the bits of a word of 32 places in a bit-plane are those of four slices.
 
-ghost use Rattle.std.specs.Prelude.{◌≡◌, ℕ, ◌&&◌, ◌+◌, ◌*◌, ◌/◌, ◌%◌, ◌^◌, ◌<◌, ◌≤◌, nat_eq, nat_lt, length, pos, ℤ, replicate, slice_index_or};
+ghost use Rattle.std.specs.Prelude.{◌≡◌, ℕ, ◌&&◌, ◌+◌, ◌*◌, ◌/◌, ◌%◌, ◌^◌, ◌<◌, ◌≤◌, nat_eq, nat_lt, length, pos, ℤ};
+ghost use Rattle.std.specs.Prelude.{replicate, slice_index_or};
 ghost use Rattle.jk_scan.specs.Bits.{on};
 ghost use Rattle.jk_scan.specs.Flags.{IsSized, IsDrawn, across};
 ghost use Rattle.jk_scan.specs.Moments.{stripes};
 ghost use Rattle.jk_scan.specs.Neighbours.{Field};
 ghost use Rattle.jk_block.specs.Meaning.{value_in};
-ghost use Rattle.jk_block.specs.encoding.Slices.{signed, negative_of, negative_to, IsShort, IsSliced, IsSlicedTo, IsPlaneWord};
+ghost use Rattle.jk_block.specs.encoding.Slices.{signed, negative_of, negative_to, IsShort, IsSliced, IsSlicedTo};
+ghost use Rattle.jk_block.specs.encoding.Slices.{IsPlaneWord};
 ghost use Rattle.jk_block.specs.Steps.{IsSpot};
 
 use crate::ages::unmarked;
 use crate::spot::Spot;
 use jk_scan::{BlockShape, WORDS, word_place, words_across};
 
-/// How many slices are kept, enough for each block with the rows behind its last one up to a whole stripe.
+/// How many slices are kept, enough for each block with the rows behind its last one up to a whole
+/// stripe.
 pub const SLICES: usize = 1032;
 
 /// The byte of a magnitude from a bit on. Bit 31 is the sign.
@@ -35,7 +38,8 @@ fn slice_by(values: &[i32], start: usize, count: usize, shift: u32) -> u64
     requires few { count ≤ 8 }
     requires shift { shift < 32 }
     ensures { (c i : ℕ) → c < 8 → i < 8
-        → on result (8 * c + i) ≡ (nat_lt c count && on (signed (slice_index_or values.now (start + c) (pos 0))) (shift + i)) }
+        → on result (8 * c + i) ≡ (nat_lt c count
+        && on (signed (slice_index_or values.now (start + c) (pos 0))) (shift + i)) }
 {
     let mut word = 0;
     for c in 0..count {
@@ -50,7 +54,8 @@ fn slice(values: &[i32], start: usize, count: usize, shift: u32) -> u64
     requires few { count ≤ 8 }
     requires shift { shift < 32 }
     ensures { (c i : ℕ) → c < 8 → i < 8
-        → on result (8 * c + i) ≡ (nat_lt c count && on (signed (slice_index_or values.now (start + c) (pos 0))) (shift + i)) }
+        → on result (8 * c + i) ≡ (nat_lt c count
+        && on (signed (slice_index_or values.now (start + c) (pos 0))) (shift + i)) }
 {
     if count == 8 {
         slice_by(values, start, 8, shift)
@@ -112,7 +117,8 @@ pub fn ones(slices: &[u64; SLICES], shape: BlockShape, spot: Spot, bit: u32) -> 
     requires sized { IsSized shape }
     requires spot { IsSpot shape spot }
     requires bit { bit < 8 }
-    ensures { (shift : ℕ) (q : Field ℤ) → IsSliced shape shift q slices.now → IsPlaneWord shape (shift + bit) q spot.word spot.stripe result }
+    ensures { (shift : ℕ) (q : Field ℤ) → IsSliced shape shift q slices.now
+        → IsPlaneWord shape (shift + bit) q spot.word spot.stripe result }
 {
     let across = words_across(shape);
     let first = 4 * spot.stripe * across + spot.word;
@@ -126,7 +132,8 @@ pub fn ones(slices: &[u64; SLICES], shape: BlockShape, spot: Spot, bit: u32) -> 
 fn mark_negative(slices: &[u64; SLICES], shape: BlockShape, stripe: usize, words: &mut [u64; WORDS])
     requires sized { IsSized shape }
     requires stripe { stripe < stripes shape }
-    ensures { (q : Field ℤ) → IsShort shape q → IsSliced shape 24 q slices.now → IsDrawn shape (negative_to shape q (stripe * across shape)) words.old
+    ensures { (q : Field ℤ) → IsShort shape q → IsSliced shape 24 q slices.now
+        → IsDrawn shape (negative_to shape q (stripe * across shape)) words.old
         → IsDrawn shape (negative_to shape q ((stripe + 1) * across shape)) words.new }
 {
     for word in 0..words_across(shape) {

@@ -1,7 +1,8 @@
-//! The decisions of a word of 32 places in each pass: loops over the places that the pass codes, from the lowest bit on.
-//! Between two of them nothing is decided.
+//! The decisions of a word of 32 places in each pass: loops over the places that the pass codes,
+//! from the lowest bit on. Between two of them nothing is decided.
 
-ghost use Rattle.std.specs.Prelude.{◌≡◌, ℕ, Bool, not, nat_eq, nat_lt, ◌&&◌, ◌+◌, ◌*◌, ◌/◌, ◌%◌, ◌^◌, ◌<◌, ◌++◌, IfOk, IfErr};
+ghost use Rattle.std.specs.Prelude.{◌≡◌, ℕ, Bool, not, nat_eq, nat_lt, ◌&&◌, ◌+◌, ◌*◌, ◌/◌, ◌%◌, ◌^◌, ◌<◌, ◌++◌, IfOk};
+ghost use Rattle.std.specs.Prelude.{IfErr};
 ghost use Rattle.jk_math.specs.Memory.{IsMemory};
 ghost use Rattle.jk_scan.specs.Bits.{on};
 ghost use Rattle.jk_scan.specs.Neighbours.{Field, is_inside};
@@ -26,8 +27,9 @@ use jk_scan::{
     touched_places, word_place,
 };
 
-/// A word in the significance propagation pass (T.800 D.3.1). Its places are known at once, and so is what each of them has
-/// around it: of the places before it those that are significant behind this pass, of the others those that are so before it.
+/// A word in the significance propagation pass (T.800 D.3.1). Its places are known at once, and so
+/// is what each of them has around it: of the places before it those that are significant behind
+/// this pass, of the others those that are so before it.
 #[inline(always)]
 pub fn write_propagation(
     block: &BlockPlane<'_>,
@@ -37,8 +39,10 @@ pub fn write_propagation(
 ) -> Result<(), Fault>
     requires spot { IsSpot block.now.shape spot }
     requires flagged { IsFlagged block.now (moment_at block.now.shape 0 spot.word spot.stripe 0) flags.old }
-    ensures flagged { IfOk result (λ _. IsFlagged block.now (moment_at block.now.shape 0 spot.word spot.stripe 64) flags.new) }
-    ensures listed { IfOk result (λ _. list.new ≡ list.old ++ word_decisions block.now.shape (seen block.now) 0 spot.word spot.stripe) }
+    ensures flagged { IfOk result
+        (λ _. IsFlagged block.now (moment_at block.now.shape 0 spot.word spot.stripe 64) flags.new) }
+    ensures listed { IfOk result
+        (λ _. list.new ≡ list.old ++ word_decisions block.now.shape (seen block.now) 0 spot.word spot.stripe) }
     ensures memory { IfErr result IsMemory }
 {
     let own = *block;
@@ -78,7 +82,8 @@ pub fn write_propagation(
 fn older(block: &BlockPlane<'_>, flags: &Flags, spot: Spot) -> u64
     requires { IsSpot block.now.shape spot }
     ensures { (t : ℕ) → IsFlagged block.now t flags.now → (m : ℕ) → m < 64 → on result m ≡ (of_rows (m % 8)
-        && (lit_at block.now t (column spot.word m) (row spot.stripe m) && not (spread_at block.now t (column spot.word m) (row spot.stripe m)))) }
+        && (lit_at block.now t (column spot.word m) (row spot.stripe m)
+        && not (spread_at block.now t (column spot.word m) (row spot.stripe m)))) }
 {
     let place = word_place(block.shape, spot.word + 1, spot.stripe + 1);
     let significant = &flags.significant;
@@ -96,8 +101,10 @@ pub fn write_refinement(
 ) -> Result<(), Fault>
     requires spot { IsSpot block.now.shape spot }
     requires flagged { IsFlagged block.now (moment_at block.now.shape 1 spot.word spot.stripe 0) flags.now }
-    ensures flagged { IfOk result (λ _. IsFlagged block.now (moment_at block.now.shape 1 spot.word spot.stripe 64) flags.now) }
-    ensures listed { IfOk result (λ _. list.new ≡ list.old ++ word_decisions block.now.shape (seen block.now) 1 spot.word spot.stripe) }
+    ensures flagged { IfOk result
+        (λ _. IsFlagged block.now (moment_at block.now.shape 1 spot.word spot.stripe 64) flags.now) }
+    ensures listed { IfOk result
+        (λ _. list.new ≡ list.old ++ word_decisions block.now.shape (seen block.now) 1 spot.word spot.stripe) }
     ensures memory { IfErr result IsMemory }
 {
     let own = *block;
@@ -134,7 +141,8 @@ fn uncoded(block: &BlockPlane<'_>, flags: &Flags, spot: Spot, limits: u64) -> u6
     requires limits { Shows of_rows (bordered (is_inside block.now.shape)) (spot.word + 1) (spot.stripe + 1) limits }
     ensures { (t : ℕ) → IsFlagged block.now t flags.now → (m : ℕ) → m < 64 → on result m ≡ (of_rows (m % 8)
         && (is_inside block.now.shape (column spot.word m) (row spot.stripe m)
-        && (not (lit_at block.now t (column spot.word m) (row spot.stripe m)) && not (spread_at block.now t (column spot.word m) (row spot.stripe m))))) }
+        && (not (lit_at block.now t (column spot.word m) (row spot.stripe m))
+        && not (spread_at block.now t (column spot.word m) (row spot.stripe m))))) }
 {
     let place = word_place(block.shape, spot.word + 1, spot.stripe + 1);
     let significant = &flags.significant;
@@ -142,8 +150,8 @@ fn uncoded(block: &BlockPlane<'_>, flags: &Flags, spot: Spot, limits: u64) -> u6
     limits & !(significant[place] | visited[place])
 }
 
-/// The columns of a word that are coded in run mode, by their first rows, each as it is in its turn: it sees the columns
-/// before it in `seen`, itself and those behind it in `old`.
+/// The columns of a word that are coded in run mode, by their first rows, each as it is in its
+/// turn: it sees the columns before it in `seen`, itself and those behind it in `old`.
 #[inline(always)]
 fn run_columns(shape: BlockShape, spot: Spot, seen: Around, old: u64, limits: u64) -> u64
     requires sized { IsSized shape }
@@ -151,7 +159,8 @@ fn run_columns(shape: BlockShape, spot: Spot, seen: Around, old: u64, limits: u6
     requires limits { Shows of_rows (bordered (is_inside shape)) (spot.word + 1) (spot.stripe + 1) limits }
     ensures { (f : Field Bool) (own m : ℕ) → m < 64 → own < 2 ^ 64 → Turns own seen.centre old (8 * (m / 8))
         → IsAround (bordered f) spot.word spot.stripe (record { centre = own; west = seen.west; east = seen.east })
-        → on result m ≡ (nat_eq (m % 8) 1 && (nat_lt (8 * spot.word + m / 8) shape.width && is_quiet shape f (8 * spot.word + m / 8) spot.stripe)) }
+        → on result m ≡ (nat_eq (m % 8) 1
+        && (nat_lt (8 * spot.word + m / 8) shape.width && is_quiet shape f (8 * spot.word + m / 8) spot.stripe)) }
 {
     if 4 * spot.stripe + 4 <= shape.height {
         quiet_in_turn(seen, old, limits)
@@ -160,8 +169,8 @@ fn run_columns(shape: BlockShape, spot: Spot, seen: Around, old: u64, limits: u6
     }
 }
 
-/// A word in the cleanup pass (T.800 D.3.4): all places that are left, and columns in run mode. What each place has around it
-/// is known at once, as in the significance propagation pass.
+/// A word in the cleanup pass (T.800 D.3.4): all places that are left, and columns in run mode.
+/// What each place has around it is known at once, as in the significance propagation pass.
 #[inline(always)]
 pub fn write_cleanup(
     block: &BlockPlane<'_>,
@@ -171,8 +180,10 @@ pub fn write_cleanup(
 ) -> Result<(), Fault>
     requires spot { IsSpot block.now.shape spot }
     requires flagged { IsFlagged block.now (moment_at block.now.shape 2 spot.word spot.stripe 0) flags.old }
-    ensures flagged { IfOk result (λ _. IsFlagged block.now (moment_at block.now.shape 2 spot.word spot.stripe 64) flags.new) }
-    ensures listed { IfOk result (λ _. list.new ≡ list.old ++ word_decisions block.now.shape (seen block.now) 2 spot.word spot.stripe) }
+    ensures flagged { IfOk result
+        (λ _. IsFlagged block.now (moment_at block.now.shape 2 spot.word spot.stripe 64) flags.new) }
+    ensures listed { IfOk result
+        (λ _. list.new ≡ list.old ++ word_decisions block.now.shape (seen block.now) 2 spot.word spot.stripe) }
     ensures memory { IfErr result IsMemory }
 {
     let own = *block;
