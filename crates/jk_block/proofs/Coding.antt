@@ -113,11 +113,11 @@ sign_goes bytes s b t x y z p e h =
     ∙ ap (λ (d : Decision). done (with_coder (coded_as b x y true (p.negative x y) z) (state_after bytes z.coder (d ∷ [])))) d
 
 -- the decisions of a place that isn't significant, in terms of what is held
-pub new_list : (s : BlockShape) (t x y cx : ℕ) (bit : Bool) (p : Plane) → cx ≡ zero_at s.kind (significant s p.magnitude t) x y → bit ≡ is_one (p.magnitude x y)
+pub new_list : (s : BlockShape) (t x y cx : ℕ) (bit : Bool) (p : Plane) → cx ≡ zero_at s.orientation (significant s p.magnitude t) x y → bit ≡ is_one (p.magnitude x y)
     → ((cx, bit) ∷ cond bit (sign_decision s p t x y ∷ []) []) ≡ new_decisions s p t x y
 unfolding new_decisions
 new_list s t x y cx bit p e h =
-    ap (λ (c : ℕ). (c, bit) ∷ cond bit (sign_decision s p t x y ∷ []) []) e ∙ ap (λ (b : Bool). (zero_at s.kind (significant s p.magnitude t) x y, b) ∷ cond b (sign_decision s p t x y ∷ []) []) h
+    ap (λ (c : ℕ). (c, bit) ∷ cond bit (sign_decision s p t x y ∷ []) []) e ∙ ap (λ (b : Bool). (zero_at s.orientation (significant s p.magnitude t) x y, b) ∷ cond b (sign_decision s p t x y ∷ []) []) h
 
 pub read_sign_if : List ℕ → BlockShape → (b x y : ℕ) → Progress → Bool × State → Result Progress Fault
 read_sign_if bytes s b x y z d = cond d.0 (read_sign bytes s b x y (with_coder z d.1)) (done (with_coder z d.1))
@@ -126,13 +126,13 @@ read_sign_if bytes s b x y z d = cond d.0 (read_sign bytes s b x y (with_coder z
 pub record NewRead (bytes : List ℕ) (s : BlockShape) (b x y : ℕ) (z z' : Progress) : Type 0 where
   pub bit : Bool
   pub coder : State
-  pub is : decide bytes (zero_at s.kind (lit s z) x y) z.coder ≡ Ok (bit, coder)
+  pub is : decide bytes (zero_at s.orientation (lit s z) x y) z.coder ≡ Ok (bit, coder)
   pub then_is : read_sign_if bytes s b x y z (bit, coder) ≡ Ok z'
 
 pub new_read : (bytes : List ℕ) (s : BlockShape) (b x y : ℕ) (z z' : Progress) → read_new bytes s b x y z ≡ Ok z' → NewRead bytes s b x y z z'
 unfolding read_new read_sign_if
 new_read bytes s b x y z z' e =
-    bind_then (decide bytes (zero_at s.kind (lit s z) x y) z.coder) (read_sign_if bytes s b x y z) z' e (λ d i r. record { bit = d.0; coder = d.1; is = i; then_is = r })
+    bind_then (decide bytes (zero_at s.orientation (lit s z) x y) z.coder) (read_sign_if bytes s b x y z) z' e (λ d i r. record { bit = d.0; coder = d.1; is = i; then_is = r })
 
 pub new_change : (bytes : List ℕ) (s : BlockShape) (b pass x y : ℕ) (z z' : Progress) (v : Field Bool) → Visits pass x y z.visited v → nat_lt 0 (z.magnitude x y) ≡ false
     → (bit : Bool) (coder : State) → read_sign_if bytes s b x y (with_visited z v) (bit, coder) ≡ Ok z' → Change s b pass x y z z' bit
@@ -184,7 +184,7 @@ new_goes bytes s b t pass x y z v p cut due h dark l false coder e spelled =
     none_lit : (m : ℕ) (d : Bool) → m ≡ 0 → (nat_le 2 m || (nat_eq m 1 && d)) ≡ true → ⊥
     none_lit m d e h = grind (arith, nat_tests)
 
-pub new_goes_by : (bytes : List ℕ) (s : BlockShape) (b t x y : ℕ) (z : Progress) (p : Plane) (cx : ℕ) (bit : Bool) → decide bytes (zero_at s.kind (lit s z) x y) z.coder ≡ Ok (bit, after bytes z.coder cx)
+pub new_goes_by : (bytes : List ℕ) (s : BlockShape) (b t x y : ℕ) (z : Progress) (p : Plane) (cx : ℕ) (bit : Bool) → decide bytes (zero_at s.orientation (lit s z) x y) z.coder ≡ Ok (bit, after bytes z.coder cx)
     → ((cx, bit) ∷ cond bit (sign_decision s p t x y ∷ []) []) ≡ new_decisions s p t x y
     → Goes s b (t + 1) (read_sign_if bytes s b x y z (bit, after bytes z.coder cx)) p (state_after bytes (after bytes z.coder cx) (cond bit (sign_decision s p t x y ∷ []) []))
     → Goes s b (t + 1) (read_new bytes s b x y z) p (state_after bytes z.coder (new_decisions s p t x y))
@@ -204,12 +204,12 @@ new_codes bytes s b t pass x y z v cut due h dark = record {
   told = λ z' e p l l'.
       let r = new_read bytes s b x y (with_visited z v) z' e in
       let c = new_change bytes s b pass x y z z' v h dark r.bit r.coder r.then_is in
-      let cx = zero_at s.kind (lit s z) x y in
+      let cx = zero_at s.orientation (lit s z) x y in
       subst (λ (ds : Decided). Told bytes z.coder ds z'.coder) (new_list s t x y cx r.bit p (zero_like s b t z p cut l x y) (sym (change_bit s b t pass x y z z' r.bit p cut due c l')))
       (told_join bytes z.coder r.coder z'.coder ((cx, r.bit) ∷ []) (cond r.bit (sign_decision s p t x y ∷ []) []) (decide_told bytes cx z.coder r.coder r.bit r.is)
       (new_told bytes s b t pass x y z z' v p cut due l l' r.bit r.coder r.then_is c));
   goes = λ p l spelled.
-      let cx = zero_at s.kind (lit s z) x y in
+      let cx = zero_at s.orientation (lit s z) x y in
       let bit = is_one (p.magnitude x y) in
       let list = new_list s t x y cx bit p (zero_like s b t z p cut l x y) refl in
       let parts = spells_parts bytes z.coder ((cx, bit) ∷ []) (cond bit (sign_decision s p t x y ∷ []) []) (subst (λ (ds : Decided). SpellsFrom bytes z.coder ds) (sym list) spelled) in

@@ -41,8 +41,8 @@ lit_is s b t z cut x y = inside_or (is_inside s x y)
 pub lit_like : (s : BlockShape) (b t : ℕ) (z : Progress) (p : Plane) → Cut s b t z → Like s b t z p → (x y : ℕ) → lit s z x y ≡ significant s p.magnitude t x y
 lit_like s b t z p cut l x y = lit_is s b t z cut x y ∙ agree_significant s (mags s b z) p.magnitude t x y l.agree
 
-pub zero_like : (s : BlockShape) (b t : ℕ) (z : Progress) (p : Plane) → Cut s b t z → Like s b t z p → (x y : ℕ) → zero_at s.kind (lit s z) x y ≡ zero_at s.kind (significant s p.magnitude t) x y
-zero_like s b t z p cut l x y = ap (λ (f : Field Bool). zero_at s.kind f x y) (same_field (lit s z) (significant s p.magnitude t) (lit_like s b t z p cut l))
+pub zero_like : (s : BlockShape) (b t : ℕ) (z : Progress) (p : Plane) → Cut s b t z → Like s b t z p → (x y : ℕ) → zero_at s.orientation (lit s z) x y ≡ zero_at s.orientation (significant s p.magnitude t) x y
+zero_like s b t z p cut l x y = ap (λ (f : Field Bool). zero_at s.orientation f x y) (same_field (lit s z) (significant s p.magnitude t) (lit_like s b t z p cut l))
 
 pub sign_like : (s : BlockShape) (b t : ℕ) (z : Progress) (p : Plane) → Cut s b t z → Like s b t z p → (x y : ℕ) → sign_at (lit s z) z.negative x y ≡ sign_at (significant s p.magnitude t) p.negative x y
 sign_like s b t z p cut l x y =

@@ -9,7 +9,7 @@ use Rattle.jk_block.specs.Meaning.{value_in}
 use Rattle.jk_block.specs.BlockWritten.{Coded, decisions_upto, marks_upto}
 
 abbrev pub shape_of : Block → BlockShape
-shape_of b = record { width = b.width; height = b.height; kind = b.kind }
+shape_of b = record { width = b.width; height = b.height; orientation = b.orientation }
 
 -- the coefficients of a block by their places
 abbrev pub coefficients_of : Block → Field ℤ

@@ -11,7 +11,7 @@ use Rattle.jk_model.specs.Contexts.{rows, moved, first_contexts}
 use Rattle.jk_model.specs.Decisions.{is_lower, is_exchanged, bit_at, divided, renormalised, contexts_after, after}
 use Rattle.jk_mqdec.specs.Answers.{answer, next}
 use Rattle.jk_scan.specs.declared.shape.BlockShape.{BlockShape}
-use Rattle.jk_scan.specs.declared.shape.Kind.TheVariants.{LH}
+use Rattle.jk_math.specs.declared.orientation.Orientation.TheVariants.{LH}
 use Rattle.jk_scan.specs.Contexts.{zero_context_of, contribution_of, sign_context_of, refine_context_of}
 use Rattle.jk_scan.specs.Neighbours.{touched, zero_at, sign_at}
 use Rattle.jk_scan.specs.Moments.{number, visits, found, spread, pass_of, moment, significant}
@@ -24,7 +24,7 @@ use Rattle.jk_block.specs.Reading.{times, decide, read_sign, read_new, read_refi
 use Rattle.jk_block.specs.Reading.{column_at, stripe_at, plane_pass_at, pass_at, block_at}
 
 abbrev shape : BlockShape
-shape = record { width = 1; height = 4; kind = LH }
+shape = record { width = 1; height = 4; orientation = LH }
 
 abbrev values : List ℤ
 values = pos 1 ∷ pos 5 ∷ pos 1 ∷ pos 0 ∷ []

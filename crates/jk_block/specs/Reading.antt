@@ -62,7 +62,7 @@ read_sign bytes s b x y z =
 -- a place that isn't significant
 unfoldable pub read_new : List ℕ → BlockShape → (b x y : ℕ) → Progress → Result Progress Fault
 read_new bytes s b x y z =
-    decide bytes (zero_at s.kind (lit s z) x y) z.coder
+    decide bytes (zero_at s.orientation (lit s z) x y) z.coder
     >>= λ d. if d.0 then read_sign bytes s b x y (with_coder z d.1) else Ok (with_coder z d.1)
 
 -- a place that was significant before this plane

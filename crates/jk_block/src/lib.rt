@@ -12,6 +12,6 @@ mod theorems;
 
 pub use decoding::{Block, decode};
 pub use encoding::{CodedBlock, code, top_bits};
-pub use jk_scan::{BlockShape, Kind};
+pub use jk_scan::BlockShape;
 pub use promises::{layers_have_bytes, layers_have_passes, written_is_read};
 pub use theorems::{one_meaning, read_is_meant};

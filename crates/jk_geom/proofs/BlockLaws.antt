@@ -5,8 +5,8 @@ use Rattle.std.proofs.lemmas.Bool.{lt-ltb, le-ltb, leb-false, or_parts}
 use Rattle.jk_math.specs.declared.rect.Rect.{Rect}
 use Rattle.jk_marks.specs.declared.coding.Coding.{Coding}
 use Rattle.jk_marks.specs.Coding.{IsCoding, precinct_size}
-use Rattle.jk_geom.specs.declared.bands.Orientation.{Orientation}
-use Rattle.jk_geom.specs.declared.bands.Orientation.TheVariants.{LL, HL, LH, HH}
+use Rattle.jk_math.specs.declared.orientation.Orientation.{Orientation}
+use Rattle.jk_math.specs.declared.orientation.Orientation.TheVariants.{LL, HL, LH, HH}
 use Rattle.jk_geom.specs.declared.grid.BlockGrid.{BlockGrid}
 use Rattle.jk_geom.specs.Rectangles.{ceil_div, is_empty, IsWithin, meet, cell, across_offset, down_offset, resolution_area, band_area}
 use Rattle.jk_geom.specs.Precincts.{span, precincts_across, precincts_down, precinct_number, precinct_column, precinct_row, band_exponent, part_width, part_height, precinct_area}

@@ -4,7 +4,7 @@ use Rattle.jk_math.specs.declared.rect.Rect.{Rect}
 use Rattle.jk_marks.specs.declared.siz.Siz.{Siz}
 use Rattle.jk_marks.specs.declared.coding.Coding.{Coding}
 use Rattle.jk_marks.specs.Siz.{tile_count}
-use Rattle.jk_geom.specs.declared.bands.Orientation.TheVariants.{HL, LH, HH}
+use Rattle.jk_math.specs.declared.orientation.Orientation.TheVariants.{HL, LH, HH}
 use Rattle.jk_geom.specs.Rectangles.{tile_area, resolution_area, band_area}
 use Rattle.jk_geom.specs.Precincts.{precincts_across, precincts_down, precinct_column, precinct_row, precinct_area}
 use Rattle.jk_geom.specs.Blocks.{grid_of, block_grid, block_area}

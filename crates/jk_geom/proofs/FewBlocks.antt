@@ -7,7 +7,7 @@ use Rattle.std.proofs.lemmas.Bool.{cases_lt, lt-ltb, le-ltb}
 use Rattle.jk_math.specs.declared.rect.Rect.{Rect}
 use Rattle.jk_marks.specs.declared.coding.Coding.{Coding}
 use Rattle.jk_marks.specs.Coding.{IsCoding, precinct_size}
-use Rattle.jk_geom.specs.declared.bands.Orientation.{Orientation}
+use Rattle.jk_math.specs.declared.orientation.Orientation.{Orientation}
 use Rattle.jk_geom.specs.declared.grid.BlockGrid.{BlockGrid}
 use Rattle.jk_geom.specs.Rectangles.{ceil_div, is_empty, meet, cell, band_area}
 use Rattle.jk_geom.specs.Precincts.{precinct_column, precinct_row, band_exponent, part_width, part_height, precinct_area}

@@ -3,8 +3,8 @@ use Rattle.std.proofs.Common.{◌≡◌, ℕ, ◌+◌, ◌-◌, ◌*◌, ◌/◌
 use Rattle.std.proofs.lemmas.Nat.{pow_pos, pow-add}
 use Rattle.std.proofs.lemmas.Bool.{cases_lt}
 use Rattle.jk_math.specs.declared.rect.Rect.{Rect}
-use Rattle.jk_geom.specs.declared.bands.Orientation.{Orientation}
-use Rattle.jk_geom.specs.declared.bands.Orientation.TheVariants.{LL, HL, LH, HH}
+use Rattle.jk_math.specs.declared.orientation.Orientation.{Orientation}
+use Rattle.jk_math.specs.declared.orientation.Orientation.TheVariants.{LL, HL, LH, HH}
 use Rattle.jk_geom.specs.Rectangles.{ceil_div, across_offset, down_offset, resolution_area, band_area, IsWithin}
 use Rattle.jk_geom.specs.Partitions.{reduced_area, woven_area, woven_x, woven_y, IsWoven}
 use Rattle.jk_geom.proofs.Ceilings.{ceil_least}

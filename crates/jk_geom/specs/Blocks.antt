@@ -2,7 +2,7 @@
 use Rattle.std.specs.Prelude.{◌≡◌, ℕ, ◌+◌, ◌-◌, ◌/◌, ◌%◌, ◌^◌, ◌<◌, ◌≤◌, min, if◌then◌else◌}
 use Rattle.jk_math.specs.declared.rect.Rect.{Rect}
 use Rattle.jk_marks.specs.declared.coding.Coding.{Coding}
-use Rattle.jk_geom.specs.declared.bands.Orientation.{Orientation}
+use Rattle.jk_math.specs.declared.orientation.Orientation.{Orientation}
 use Rattle.jk_geom.specs.declared.grid.BlockGrid.{BlockGrid}
 use Rattle.jk_geom.specs.Rectangles.{ceil_div, is_empty, meet, cell}
 use Rattle.jk_geom.specs.Precincts.{part_width, part_height, precinct_area}

@@ -3,7 +3,7 @@ use Rattle.std.specs.Prelude.{ℕ, ◌+◌, ◌-◌, ◌*◌, ◌/◌, ◌%◌, 
 use Rattle.jk_math.specs.declared.rect.Rect.{Rect}
 use Rattle.jk_marks.specs.declared.coding.Coding.{Coding}
 use Rattle.jk_marks.specs.Coding.{precinct_size}
-use Rattle.jk_geom.specs.declared.bands.Orientation.{Orientation}
+use Rattle.jk_math.specs.declared.orientation.Orientation.{Orientation}
 use Rattle.jk_geom.specs.Rectangles.{ceil_div, meet, cell, resolution_area, band_area}
 
 -- how many cells of a grid of 2^e meet the places from lo up to hi

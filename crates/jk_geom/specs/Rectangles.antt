@@ -4,8 +4,8 @@ use Rattle.std.specs.Prelude.{ℕ, ◌+◌, ◌-◌, ◌*◌, ◌/◌, ◌%◌, 
 use Rattle.jk_math.specs.declared.rect.Rect.{Rect}
 use Rattle.jk_marks.specs.declared.siz.Siz.{Siz}
 use Rattle.jk_marks.specs.Siz.{tiles_across}
-use Rattle.jk_geom.specs.declared.bands.Orientation.{Orientation}
-use Rattle.jk_geom.specs.declared.bands.Orientation.TheVariants.{LL, HL, LH, HH}
+use Rattle.jk_math.specs.declared.orientation.Orientation.{Orientation}
+use Rattle.jk_math.specs.declared.orientation.Orientation.TheVariants.{LL, HL, LH, HH}
 
 -- a / b rounded up
 abbrev pub ceil_div : ℕ → ℕ → ℕ

@@ -4,20 +4,7 @@ ghost use Rattle.std.specs.Prelude.{◌≡◌, ◌<◌, ◌≤◌, ◌^◌, if�
 ghost use Rattle.jk_geom.specs.Rectangles.{IsArea, across_offset, down_offset, band_bound, resolution_area, band_area, level_area};
 
 use crate::rounding::shift_up;
-use jk_math::Rect;
-
-/// Which filters made a sub-band, across and then down (T.800 B.5).
-#[derive(Clone, Copy, Debug, PartialEq, Eq)]
-pub enum Orientation {
-    /// Low-pass both ways.
-    LL,
-    /// High-pass across.
-    HL,
-    /// High-pass down.
-    LH,
-    /// High-pass both ways.
-    HH,
-}
+use jk_math::{Orientation, Rect};
 
 /// Resolution `r` of a tile-component with `levels` decomposition levels (T.800 B.5, equation B-14).
 #[tactic(auto, unfolding(crate::specs::Rectangles::resolution_area))]

@@ -6,11 +6,10 @@ ghost use Rattle.jk_geom.specs.Rectangles.{IsArea};
 ghost use Rattle.jk_geom.specs.Precincts.{precinct_number};
 ghost use Rattle.jk_geom.specs.Blocks.{IsGrid, grid_of, block_grid, block_area};
 
-use crate::bands::Orientation;
 use crate::precincts::{part_size, precinct};
 use crate::rounding::{part_of, shift_up};
 use jk_marks::Coding;
-use jk_math::Rect;
+use jk_math::{Orientation, Rect};
 
 /// The code-blocks of a rectangle of a sub-band: the parts of it in the cells of a grid, in raster order.
 #[derive(Clone, Copy, Debug, PartialEq, Eq)]

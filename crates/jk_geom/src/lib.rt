@@ -11,7 +11,7 @@ mod shape;
 mod theorems;
 mod tiling;
 
-pub use bands::{Orientation, band, resolution};
+pub use bands::{band, resolution};
 pub use count::packet_count;
 pub use grid::{BlockGrid, blocks};
 pub use precincts::{precinct, precinct_count};

@@ -5,10 +5,10 @@ ghost use Rattle.jk_marks.specs.Coding.{IsCoding, precinct_size};
 ghost use Rattle.jk_geom.specs.Rectangles.{ceil_div, IsArea};
 ghost use Rattle.jk_geom.specs.Precincts.{span, precincts_across, precincts_down, precinct_number, precinct_column, precinct_row, precinct_area, part_width, part_height};
 
-use crate::bands::{Orientation, band, resolution};
+use crate::bands::{band, resolution};
 use crate::rounding::{part_of, shift_up};
 use jk_marks::Coding;
-use jk_math::Rect;
+use jk_math::{Orientation, Rect};
 
 /// The exponents of the size of resolution `r`'s precincts.
 pub(crate) fn size(coding: &Coding, r: u8) -> (u8, u8)

@@ -6,7 +6,7 @@ ghost use Rattle.jk_marks.specs.declared.siz.Siz.{Siz};
 ghost use Rattle.jk_marks.specs.declared.coding.Coding.{Coding};
 ghost use Rattle.jk_marks.specs.Siz.{IsSiz};
 ghost use Rattle.jk_marks.specs.Coding.{IsCoding};
-ghost use Rattle.jk_geom.specs.declared.bands.Orientation.{Orientation};
+ghost use Rattle.jk_math.specs.declared.orientation.Orientation.{Orientation};
 ghost use Rattle.jk_geom.specs.Rectangles.{IsWithin, is_empty, resolution_area, band_area};
 ghost use Rattle.jk_geom.specs.Blocks.{block_grid, block_area};
 ghost use Rattle.jk_geom.specs.TileShapes.{coding_of};

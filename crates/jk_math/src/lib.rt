@@ -4,6 +4,7 @@
 mod division;
 mod fault;
 mod image;
+mod orientation;
 mod planes;
 mod rect;
 mod writing;
@@ -11,6 +12,7 @@ mod writing;
 pub use division::{ceil_div, floor_div, reflect};
 pub use fault::{Fault, Refused};
 pub use image::{Image, sample_range};
+pub use orientation::Orientation;
 pub use planes::Planes;
 pub use rect::Rect;
 pub use writing::write_out;

@@ -8,8 +8,8 @@ use Rattle.jk_scan.specs.declared.contexts.Contribution.TheVariants.{Negative, B
 use Rattle.std.proofs.Math.ListN.{get_or-append}
 use Rattle.std.proofs.lemmas.List.{get_or-append-add}
 use Rattle.std.proofs.lemmas.List.FromFn.{get_or-map-range_with_len, length-map-range_with_len}
-use Rattle.jk_scan.specs.declared.shape.Kind.{Kind}
-use Rattle.jk_scan.specs.declared.shape.Kind.TheVariants.{LL, HL, LH, HH}
+use Rattle.jk_math.specs.declared.orientation.Orientation.{Orientation}
+use Rattle.jk_math.specs.declared.orientation.Orientation.TheVariants.{LL, HL, LH, HH}
 use Rattle.jk_scan.specs.declared.contexts.SignContext.{SignContext}
 use Rattle.jk_scan.specs.Bits.{on}
 use Rattle.jk_scan.specs.Neighbours.{count}
@@ -21,28 +21,28 @@ low_alike : (i : ℕ) → zero_context_by LL i ≡ zero_context_by LH i
 unfolding zero_context_by zero_context_of
 low_alike i = refl
 
-of_kind : (kind : Kind) (i : ℕ) → i < 512 → get_or (contexts_by kind) i 0 ≡ zero_context_by kind i
+of_orientation : (orientation : Orientation) (i : ℕ) → i < 512 → get_or (contexts_by orientation) i 0 ≡ zero_context_by orientation i
 unfolding contexts_by
-of_kind kind i h = get_or-map-range_with_len (zero_context_by kind) 0 512 i i 0 h (omega arith)
+of_orientation orientation i h = get_or-map-range_with_len (zero_context_by orientation) 0 512 i i 0 h (omega arith)
 
-long : (kind : Kind) → length (contexts_by kind) ≡ 512
+long : (orientation : Orientation) → length (contexts_by orientation) ≡ 512
 unfolding contexts_by
-long kind = length-map-range_with_len (zero_context_by kind) 0 512
+long orientation = length-map-range_with_len (zero_context_by orientation) 0 512
 
-first_part : (kind : Kind) (rest : List ℕ) (i : ℕ) → i < 512 → get_or (contexts_by kind ++ rest) i 0 ≡ zero_context_by kind i
-first_part kind rest i h = let l = long kind in get_or-append (contexts_by kind) rest 0 i (omega (arith, l)) ∙ of_kind kind i h
+first_part : (orientation : Orientation) (rest : List ℕ) (i : ℕ) → i < 512 → get_or (contexts_by orientation ++ rest) i 0 ≡ zero_context_by orientation i
+first_part orientation rest i h = let l = long orientation in get_or-append (contexts_by orientation) rest 0 i (omega (arith, l)) ∙ of_orientation orientation i h
 
-behind_part : (kind : Kind) (rest : List ℕ) (i j : ℕ) → j ≡ 512 + i → get_or (contexts_by kind ++ rest) j 0 ≡ get_or rest i 0
-behind_part kind rest i j e = let l = long kind in ap (λ n. get_or (contexts_by kind ++ rest) n 0) (let g : j ≡ length (contexts_by kind) + i = omega (arith, l, e) in g) ∙ get_or-append-add (contexts_by kind) rest i 0
+behind_part : (orientation : Orientation) (rest : List ℕ) (i j : ℕ) → j ≡ 512 + i → get_or (contexts_by orientation ++ rest) j 0 ≡ get_or rest i 0
+behind_part orientation rest i j e = let l = long orientation in ap (λ n. get_or (contexts_by orientation ++ rest) n 0) (let g : j ≡ length (contexts_by orientation) + i = omega (arith, l, e) in g) ∙ get_or-append-add (contexts_by orientation) rest i 0
 
-pub zero_entry_at : (kind : Kind) (i : ℕ) → i < 512 → get_or zero_contexts (first_of kind + i) 0 ≡ zero_context_by kind i
+pub zero_entry_at : (orientation : Orientation) (i : ℕ) → i < 512 → get_or zero_contexts (first_of orientation + i) 0 ≡ zero_context_by orientation i
 unfolding zero_contexts
 zero_entry_at LL i h = ap (λ n. get_or (contexts_by LL ++ (contexts_by HL ++ contexts_by HH)) n 0) (let g : 0 + i ≡ i = omega arith in g) ∙ first_part LL (contexts_by HL ++ contexts_by HH) i h
 zero_entry_at LH i h =
     ap (λ n. get_or (contexts_by LL ++ (contexts_by HL ++ contexts_by HH)) n 0) (let g : 0 + i ≡ i = omega arith in g) ∙ first_part LL (contexts_by HL ++ contexts_by HH) i h ∙ low_alike i
 zero_entry_at HL i h = behind_part LL (contexts_by HL ++ contexts_by HH) i (512 + i) refl ∙ first_part HL (contexts_by HH) i h
 zero_entry_at HH i h =
-    behind_part LL (contexts_by HL ++ contexts_by HH) (512 + i) (1024 + i) (omega arith) ∙ behind_part HL (contexts_by HH) i (512 + i) refl ∙ of_kind HH i h
+    behind_part LL (contexts_by HL ++ contexts_by HH) (512 + i) (1024 + i) (omega arith) ∙ behind_part HL (contexts_by HH) i (512 + i) refl ∙ of_orientation HH i h
 
 pub sign_at_entry : (i : ℕ) → i < 256 → get_or sign_entries i 0 ≡ packed (sign_context_by i)
 unfolding sign_entries
@@ -54,16 +54,16 @@ low_small h v d = grind (arith, nat_tests)
 high_small : (b d : ℕ) → high_context_of b d < 9
 high_small b d = grind (arith, nat_tests)
 
-context_small : (kind : Kind) (h v d : ℕ) → zero_context_of kind h v d < 9
+context_small : (orientation : Orientation) (h v d : ℕ) → zero_context_of orientation h v d < 9
 unfolding zero_context_of
 context_small LL h v d = low_small h v d
 context_small HL h v d = low_small v h d
 context_small LH h v d = low_small h v d
 context_small HH h v d = high_small (h + v) d
 
-pub zero_small : (kind : Kind) (i : ℕ) → zero_context_by kind i < 9
+pub zero_small : (orientation : Orientation) (i : ℕ) → zero_context_by orientation i < 9
 unfolding zero_context_by
-zero_small kind i = context_small kind (count (on i 1) (on i 7)) (count (on i 3) (on i 5)) (count (on i 0) (on i 6) + count (on i 2) (on i 8))
+zero_small orientation i = context_small orientation (count (on i 1) (on i 7)) (count (on i 3) (on i 5)) (count (on i 0) (on i 6) + count (on i 2) (on i 8))
 
 made : ℕ → Bool → SignContext
 made n f = record { context = n; flip = f }

@@ -5,7 +5,7 @@ use Rattle.std.specs.Int.RustNames.{bit_or, bit_and}
 use Rattle.std.proofs.lemmas.Nat.{or_lt, and_le_r}
 use Rattle.std.proofs.Math.Nat.{mod-lt}
 use Rattle.std.proofs.lemmas.Bool.Decides.{nat_tests}
-use Rattle.jk_scan.specs.declared.shape.Kind.{Kind}
+use Rattle.jk_math.specs.declared.orientation.Orientation.{Orientation}
 use Rattle.jk_scan.specs.Bits.{on}
 use Rattle.jk_scan.specs.Contexts.{zero_context_of}
 use Rattle.jk_scan.specs.Neighbours.{west, east, north, south, count, zero_at, sign_at}
@@ -116,9 +116,9 @@ gapped_small b =
     or_lt 9 (bit_and b 0xF) (bit_and b 0xF0 * 2 ^ 1 % 2 ^ 64) (let e = and_le_r b 0xF in omega (arith, e))
     (let e = and_le_r b 0xF0 in omega (arith, e))
 
-pub ring_zero : (kind : Kind) (f : Truths) (x y word c : ℕ) → IsRing (bordered f) (x + 8) (y + 4) word c → zero_context_by kind (gapped (word / 2 ^ (8 * c))) ≡ zero_at kind f x y
+pub ring_zero : (orientation : Orientation) (f : Truths) (x y word c : ℕ) → IsRing (bordered f) (x + 8) (y + 4) word c → zero_context_by orientation (gapped (word / 2 ^ (8 * c))) ≡ zero_at orientation f x y
 unfolding zero_context_by zero_at
-ring_zero kind f x y word c r =
+ring_zero orientation f x y word c r =
     let n = beside f x y in
     same_counts (low 1 (omega arith) ∙ r.west 1 (omega arith) ∙ n.left) (high 7 6 (omega arith) (omega arith) refl ∙ r.east 1 (omega arith) ∙ n.right)
     (low 3 (omega arith) ∙ r.above ∙ n.above) (high 5 4 (omega arith) (omega arith) refl ∙ r.below ∙ n.below)
@@ -132,7 +132,7 @@ ring_zero kind f x y word c r =
     high m i h l e = gapped_high (word / 2 ^ (8 * c)) m i h l e ∙ on_shr word (8 * c) i
 
     same_counts : {a b d e g i j k a' b' d' e' g' i' j' k' : Bool} → a ≡ a' → b ≡ b' → d ≡ d' → e ≡ e' → g ≡ g' → i ≡ i' → j ≡ j' → k ≡ k'
-        → zero_context_of kind (count a b) (count d e) (count g i + count j k) ≡ zero_context_of kind (count a' b') (count d' e') (count g' i' + count j' k')
+        → zero_context_of orientation (count a b) (count d e) (count g i + count j k) ≡ zero_context_of orientation (count a' b') (count d' e') (count g' i' + count j' k')
     same_counts p q r s t u v z = cc
 
 -- eight bits of a word

@@ -2,7 +2,7 @@
 use Rattle.std.proofs.Common.{◌≡◌, ℕ, ◌+◌, ◌-◌, ◌*◌, ◌/◌, ◌%◌, ◌<◌, Bool, true, not, refl, sym, ap, ◌∙◌, arith}
 use Rattle.std.specs.Prelude.{◌&&◌, nat_le}
 use Rattle.std.proofs.lemmas.Bool.Decides.{nat_tests}
-use Rattle.jk_scan.specs.declared.shape.Kind.{Kind}
+use Rattle.jk_math.specs.declared.orientation.Orientation.{Orientation}
 use Rattle.jk_scan.specs.Bits.{on}
 use Rattle.jk_scan.specs.Contexts.{zero_context_of, contribution_of, sign_context_of}
 use Rattle.jk_scan.specs.Neighbours.{west, east, north, south, count, zero_at, sign_at}
@@ -72,14 +72,14 @@ seen f x y X Y neighbourhood ex ey h = record {
     e2 : Y + 2 - 1 - 4 ≡ y + 1
     e2 = omega arith
 
-pub zero_seen : (kind : Kind) (f : Truths) (x y neighbourhood nine : ℕ) → AreSeen f x y neighbourhood → ((a t : ℕ) → a < 3 → t < 3 → on nine (3 * a + t) ≡ on neighbourhood (8 * a + t)) → zero_context_by kind nine ≡ zero_at kind f x y
+pub zero_seen : (orientation : Orientation) (f : Truths) (x y neighbourhood nine : ℕ) → AreSeen f x y neighbourhood → ((a t : ℕ) → a < 3 → t < 3 → on nine (3 * a + t) ≡ on neighbourhood (8 * a + t)) → zero_context_by orientation nine ≡ zero_at orientation f x y
 unfolding zero_context_by zero_at
-zero_seen kind f x y neighbourhood nine w h =
+zero_seen orientation f x y neighbourhood nine w h =
     same (h 0 1 (omega arith) (omega arith) ∙ w.left) (h 2 1 (omega arith) (omega arith) ∙ w.right) (h 1 0 (omega arith) (omega arith) ∙ w.above) (h 1 2 (omega arith) (omega arith) ∙ w.below)
     (h 0 0 (omega arith) (omega arith) ∙ w.left_above) (h 2 0 (omega arith) (omega arith) ∙ w.right_above) (h 0 2 (omega arith) (omega arith) ∙ w.left_below) (h 2 2 (omega arith) (omega arith) ∙ w.right_below)
   where
     same : {a b d e g i j k a' b' d' e' g' i' j' k' : Bool} → a ≡ a' → b ≡ b' → d ≡ d' → e ≡ e' → g ≡ g' → i ≡ i' → j ≡ j' → k ≡ k'
-        → zero_context_of kind (count a b) (count d e) (count g i + count j k) ≡ zero_context_of kind (count a' b') (count d' e') (count g' i' + count j' k')
+        → zero_context_of orientation (count a b) (count d e) (count g i + count j k) ≡ zero_context_of orientation (count a' b') (count d' e') (count g' i' + count j' k')
     same p q r s t u v z = cc
 
 -- two such fours in one number

@@ -2,8 +2,8 @@
 use Rattle.std.proofs.Common.{◌≡◌, ℕ, ◌+◌, Bool, true, false, not, refl, ap, ◌∙◌, arith}
 use Rattle.std.specs.Prelude.{◌&&◌, ◌||◌, nat_eq}
 use Rattle.std.proofs.lemmas.Bool.Decides.{nat_tests}
-use Rattle.jk_scan.specs.declared.shape.Kind.{Kind}
-use Rattle.jk_scan.specs.declared.shape.Kind.TheVariants.{LL, HL, LH, HH}
+use Rattle.jk_math.specs.declared.orientation.Orientation.{Orientation}
+use Rattle.jk_math.specs.declared.orientation.Orientation.TheVariants.{LL, HL, LH, HH}
 use Rattle.jk_scan.specs.Contexts.{low_context_of, high_context_of, zero_context_of}
 use Rattle.jk_scan.specs.Neighbours.{Field, west, east, north, south, count, horizontal, vertical, diagonal, touched, zero_at}
 
@@ -32,7 +32,7 @@ nested : (a b d : Bool) → ((a && b) && d) ≡ (a && (b && d))
 nested true b d = refl
 nested false b d = refl
 
-by_counts : (kind : Kind) (h v d : ℕ) → nat_eq (zero_context_of kind h v d) 0 ≡ (nat_eq h 0 && (nat_eq v 0 && nat_eq d 0))
+by_counts : (orientation : Orientation) (h v d : ℕ) → nat_eq (zero_context_of orientation h v d) 0 ≡ (nat_eq h 0 && (nat_eq v 0 && nat_eq d 0))
 unfolding zero_context_of
 by_counts LL h v d = low_zero h v d
 by_counts HL h v d = low_zero v h d ∙ turned (nat_eq v 0) (nat_eq h 0) (nat_eq d 0)
@@ -45,12 +45,12 @@ none false true d e = refl
 none false false true e = refl
 none false false false e = refl
 
-pub zero_where : (kind : Kind) (f : Field Bool) (x y : ℕ) → nat_eq (zero_at kind f x y) 0 ≡ not (touched f x y)
+pub zero_where : (orientation : Orientation) (f : Field Bool) (x y : ℕ) → nat_eq (zero_at orientation f x y) 0 ≡ not (touched f x y)
 unfolding zero_at touched
-zero_where kind f x y =
+zero_where orientation f x y =
     let up = count (west (north f) x y) (east (north f) x y) in
     let down = count (west (south f) x y) (east (south f) x y) in
-    by_counts kind (horizontal f x y) (vertical f x y) (diagonal f x y)
+    by_counts orientation (horizontal f x y) (vertical f x y) (diagonal f x y)
     ∙ ap (λ d. nat_eq (horizontal f x y) 0 && (nat_eq (vertical f x y) 0 && d)) (sum_zero up down)
     ∙ ap (λ h. h && (nat_eq (vertical f x y) 0 && (nat_eq up 0 && nat_eq down 0))) (count_zero (west f x y) (east f x y))
     ∙ ap (λ v. not (west f x y || east f x y) && (v && (nat_eq up 0 && nat_eq down 0))) (count_zero (north f x y) (south f x y))

@@ -1,7 +1,7 @@
 -- The contexts of the three kinds of decisions (T.800 Tables D.1 to D.4).
 use Rattle.std.specs.Prelude.{ℕ, ◌+◌, Bool, true, false, nat_lt, nat_le, if◌then◌else◌}
-use Rattle.jk_scan.specs.declared.shape.Kind.{Kind}
-use Rattle.jk_scan.specs.declared.shape.Kind.TheVariants.{LL, HL, LH, HH}
+use Rattle.jk_math.specs.declared.orientation.Orientation.{Orientation}
+use Rattle.jk_math.specs.declared.orientation.Orientation.TheVariants.{LL, HL, LH, HH}
 use Rattle.jk_scan.specs.declared.contexts.Contribution.{Contribution}
 use Rattle.jk_scan.specs.declared.contexts.Contribution.TheVariants.{Negative, Balanced, Positive}
 use Rattle.jk_scan.specs.declared.contexts.SignContext.{SignContext}
@@ -23,7 +23,7 @@ high_context_of beside diagonal =
     else (if nat_le 2 beside then 2 else (if nat_le 1 beside then 1 else 0))))
 
 -- Table D.1. In HL the neighbours across and down change places.
-unfoldable pub zero_context_of : Kind → ℕ → ℕ → ℕ → ℕ
+unfoldable pub zero_context_of : Orientation → ℕ → ℕ → ℕ → ℕ
 zero_context_of LL horizontal vertical diagonal = low_context_of horizontal vertical diagonal
 zero_context_of HL horizontal vertical diagonal = low_context_of vertical horizontal diagonal
 zero_context_of LH horizontal vertical diagonal = low_context_of horizontal vertical diagonal

@@ -1,6 +1,6 @@
 -- The places of a block and their neighbours (T.800 D.2, D.3.1 and D.3.2).
 use Rattle.std.specs.Prelude.{ℕ, ◌+◌, ◌-◌, Bool, not, ◌&&◌, ◌||◌, nat_lt, nat_le, if◌then◌else◌}
-use Rattle.jk_scan.specs.declared.shape.Kind.{Kind}
+use Rattle.jk_math.specs.declared.orientation.Orientation.{Orientation}
 use Rattle.jk_scan.specs.declared.shape.BlockShape.{BlockShape}
 use Rattle.jk_scan.specs.declared.contexts.SignContext.{SignContext}
 use Rattle.jk_scan.specs.Contexts.{zero_context_of, contribution_of, sign_context_of}
@@ -46,9 +46,9 @@ touched f x y =
     || ((west (north f) x y || east (north f) x y) || (west (south f) x y || east (south f) x y))
 
 -- the context of a place that isn't significant, by the significant places
-unfoldable pub zero_at : Kind → Field Bool → Field ℕ
-zero_at kind significant x y =
-    zero_context_of kind (horizontal significant x y) (vertical significant x y) (diagonal significant x y)
+unfoldable pub zero_at : Orientation → Field Bool → Field ℕ
+zero_at orientation significant x y =
+    zero_context_of orientation (horizontal significant x y) (vertical significant x y) (diagonal significant x y)
 
 -- The context of a sign, by the significant places and the negative ones. A place that isn't
 -- significant counts as neither.

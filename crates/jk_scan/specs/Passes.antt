@@ -36,7 +36,7 @@ sign_decision s p t x y =
 -- the bit of a place that isn't significant, and its sign where the bit is 1 (D.3.1 and D.3.4)
 unfoldable pub new_decisions : BlockShape → Plane → ℕ → Field Decided
 new_decisions s p t x y =
-    (zero_at s.kind (significant s p.magnitude t) x y, is_one (p.magnitude x y))
+    (zero_at s.orientation (significant s p.magnitude t) x y, is_one (p.magnitude x y))
     ∷ (if is_one (p.magnitude x y) then sign_decision s p t x y ∷ [] else [])
 
 -- The bit of a place that was significant before (D.3.3). The bit after its highest 1 is the first

@@ -1,8 +1,8 @@
 -- The contexts as tables, by the bits of what is seen around a place.
 use Rattle.std.specs.Prelude.{ℕ, ◌+◌, ◌*◌, Bool, not, ◌&&◌, List, map, ◌++◌, if◌then◌else◌}
 use Rattle.std.specs.List.{range_with_len}
-use Rattle.jk_scan.specs.declared.shape.Kind.{Kind}
-use Rattle.jk_scan.specs.declared.shape.Kind.TheVariants.{LL, HL, LH, HH}
+use Rattle.jk_math.specs.declared.orientation.Orientation.{Orientation}
+use Rattle.jk_math.specs.declared.orientation.Orientation.TheVariants.{LL, HL, LH, HH}
 use Rattle.jk_scan.specs.declared.contexts.SignContext.{SignContext}
 use Rattle.jk_scan.specs.Bits.{on}
 use Rattle.jk_scan.specs.Contexts.{zero_context_of, contribution_of, sign_context_of}
@@ -10,9 +10,9 @@ use Rattle.jk_scan.specs.Neighbours.{count}
 
 -- The context of a place that isn't significant, where bit 3a + t of nine is the place in the a-th
 -- of three columns and the t-th of three rows around it.
-unfoldable pub zero_context_by : Kind → (nine : ℕ) → ℕ
-zero_context_by kind nine =
-    zero_context_of kind (count (on nine 1) (on nine 7)) (count (on nine 3) (on nine 5))
+unfoldable pub zero_context_by : Orientation → (nine : ℕ) → ℕ
+zero_context_by orientation nine =
+    zero_context_of orientation (count (on nine 1) (on nine 7)) (count (on nine 3) (on nine 5))
     (count (on nine 0) (on nine 6) + count (on nine 2) (on nine 8))
 
 -- The context of a sign, where bits 0 to 3 are whether the places left, above, below and right are
@@ -29,15 +29,15 @@ abbrev pub packed : SignContext → ℕ
 packed c = 2 * c.context + (if c.flip then 1 else 0)
 
 -- the tables
-unfoldable pub contexts_by : Kind → List ℕ
-contexts_by kind = map (zero_context_by kind) (range_with_len 0 512)
+unfoldable pub contexts_by : Orientation → List ℕ
+contexts_by orientation = map (zero_context_by orientation) (range_with_len 0 512)
 
 -- those of LL and LH, of HL, and of HH
 unfoldable pub zero_contexts : List ℕ
 zero_contexts = contexts_by LL ++ (contexts_by HL ++ contexts_by HH)
 
--- where those of a kind begin
-abbrev pub first_of : Kind → ℕ
+-- where those of an orientation begin
+abbrev pub first_of : Orientation → ℕ
 first_of LL = 0
 first_of HL = 512
 first_of LH = 0

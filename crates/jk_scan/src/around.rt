@@ -10,8 +10,8 @@ ghost use Rattle.jk_scan.specs.Surroundings.{IsAround};
 
 use crate::columns::{columns_at, four_beside, nine_beside};
 use crate::contexts::SignContext;
-use crate::shape::Kind;
 use crate::tables::{sign_context_of_eight, zero_context_of_nine};
+use jk_math::Orientation;
 
 /// A gathered word, and those left and right of it.
 #[derive(Clone, Copy)]
@@ -65,14 +65,14 @@ pub fn nine(neighbourhood: u128) -> usize
 
 /// The context of the place at bit k, which isn't significant, by the significant places.
 #[inline(always)]
-pub fn zero_context_at(kind: Kind, significant: Around, k: u32) -> u8
+pub fn zero_context_at(orientation: Orientation, significant: Around, k: u32) -> u8
     requires within { k < 64 }
     requires on_row { of_rows (k % 8) ≡ true }
     ensures value { (f : Truths) (j s : ℕ) → IsAround (bordered f) j s significant
-        → result ≡ zero_at kind f (column j k) (row s k) }
+        → result ≡ zero_at orientation f (column j k) (row s k) }
     ensures small { result < 9 }
 {
-    zero_context_of_nine(kind, nine_beside(columns_at(significant, k)))
+    zero_context_of_nine(orientation, nine_beside(columns_at(significant, k)))
 }
 
 /// The context of the sign of the place at bit k, by the significant places and the negative ones.

@@ -4,7 +4,7 @@ ghost use Rattle.std.specs.Prelude.{◌≡◌, ◌<◌, ◌≤◌};
 ghost use Rattle.jk_scan.specs.Contexts.{low_context_of, high_context_of, zero_context_of, contribution_of};
 ghost use Rattle.jk_scan.specs.Contexts.{sign_context_of, refine_context_of};
 
-use crate::shape::Kind;
+use jk_math::Orientation;
 
 /// What two neighbours across, or two down, contribute to the context of a sign (T.800 Table D.2).
 #[derive(Clone, Copy, Debug, PartialEq, Eq)]
@@ -29,16 +29,16 @@ pub struct SignContext {
 /// The context of the bit of a coefficient that isn't significant yet, from its significant
 /// neighbours across, down and diagonal (T.800 Table D.1).
 #[tactic(auto, unfolding(crate::specs::Contexts::zero_context_of))]
-pub fn zero_context(kind: Kind, horizontal: u8, vertical: u8, diagonal: u8) -> u8
+pub fn zero_context(orientation: Orientation, horizontal: u8, vertical: u8, diagonal: u8) -> u8
     requires horizontal { horizontal ≤ 2 }
     requires vertical { vertical ≤ 2 }
-    ensures value { result ≡ zero_context_of kind horizontal vertical diagonal }
+    ensures value { result ≡ zero_context_of orientation horizontal vertical diagonal }
     ensures small { result < 9 }
 {
-    match kind {
-        Kind::LL | Kind::LH => low_context(horizontal, vertical, diagonal),
-        Kind::HL => low_context(vertical, horizontal, diagonal),
-        Kind::HH => high_context(horizontal + vertical, diagonal),
+    match orientation {
+        Orientation::LL | Orientation::LH => low_context(horizontal, vertical, diagonal),
+        Orientation::HL => low_context(vertical, horizontal, diagonal),
+        Orientation::HH => high_context(horizontal + vertical, diagonal),
     }
 }
 

@@ -21,7 +21,7 @@ pub use contexts::{
 };
 pub use flags::{WORDS, inside, seen_around, word_place, words_across};
 pub use rings::{cross_words, ring_words, sign_context_in, zero_context_in};
-pub use shape::{BlockShape, Kind};
+pub use shape::BlockShape;
 pub use tables::{sign_context_of_eight, zero_context_of_nine};
 pub use theorems::untouched_context;
 pub use words::{gather, members, quiet_columns, quiet_in_turn, touched_places};

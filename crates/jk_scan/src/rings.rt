@@ -11,8 +11,8 @@ ghost use Rattle.jk_scan.specs.RingPlaces.{IsRing, IsCross, Turns};
 
 use crate::around::Around;
 use crate::contexts::SignContext;
-use crate::shape::Kind;
 use crate::tables::{sign_context_of_eight, zero_context_of_nine};
+use jk_math::Orientation;
 
 /// The eight places around each place of a row, out of the words of the columns left of it, of its
 /// own column above and below it, and of the columns right of it.
@@ -114,15 +114,15 @@ pub fn cross_words(seen: Around, old: u64, negative: Around) -> [u64; 4]
 
 /// The context of the place at bit k, which isn't significant, by the places around each place.
 #[inline(always)]
-pub fn zero_context_in(kind: Kind, rings: &[u64; 4], k: u32) -> u8
+pub fn zero_context_in(orientation: Orientation, rings: &[u64; 4], k: u32) -> u8
     requires within { k < 64 }
     requires on_row { of_rows (k % 8) ≡ true }
     ensures value { (f : Truths) (x y : ℕ)
-        → IsRing (bordered f) (x + 8) (y + 4) (get_or rings.now (k % 8 - 1) 0) (k / 8) → result ≡ zero_at kind f x y }
+        → IsRing (bordered f) (x + 8) (y + 4) (get_or rings.now (k % 8 - 1) 0) (k / 8) → result ≡ zero_at orientation f x y }
     ensures small { result < 9 }
 {
     let byte = rings[(k % 8 - 1) as usize] >> (8 * (k / 8));
-    zero_context_of_nine(kind, (byte & 0xF | (byte & 0xF0) << 1) as usize)
+    zero_context_of_nine(orientation, (byte & 0xF | (byte & 0xF0) << 1) as usize)
 }
 
 /// The context of the sign of the place at bit k, by the places beside each place and which of them

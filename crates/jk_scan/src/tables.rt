@@ -4,7 +4,7 @@ ghost use Rattle.std.specs.Prelude.{◌≡◌, ◌+◌, ◌*◌, ◌<◌, ◌≤
 ghost use Rattle.jk_scan.specs.Tables.{zero_contexts, first_of, sign_entries, zero_context_by, sign_context_by};
 
 use crate::contexts::SignContext;
-use crate::shape::Kind;
+use jk_math::Orientation;
 
 /// The contexts of a place that isn't significant (T.800 Table D.1), by the nine places of its
 /// neighbourhood: those of LL and LH, then those of HL, then those of HH.
@@ -90,14 +90,14 @@ fn zero_entry(place: usize) -> u8
     ZEROS[place]
 }
 
-/// Where the contexts of a kind begin.
+/// Where the contexts of an orientation begin.
 #[inline(always)]
-fn first_entry(kind: Kind) -> usize
-    ensures value { result ≡ first_of kind }
+fn first_entry(orientation: Orientation) -> usize
+    ensures value { result ≡ first_of orientation }
     ensures small { result ≤ 1024 }
 {
-    let high_across = matches!(kind, Kind::HL);
-    let high_both = matches!(kind, Kind::HH);
+    let high_across = matches!(orientation, Orientation::HL);
+    let high_both = matches!(orientation, Orientation::HH);
     512 * (high_across as usize) + 1024 * (high_both as usize)
 }
 
@@ -109,12 +109,12 @@ fn sign_entry(eight: usize) -> u8
 }
 
 /// The context of a place that isn't significant, by the nine places of its neighbourhood.
-pub fn zero_context_of_nine(kind: Kind, nine: usize) -> u8
+pub fn zero_context_of_nine(orientation: Orientation, nine: usize) -> u8
     requires { nine < 512 }
-    ensures value { result ≡ zero_context_by kind nine }
+    ensures value { result ≡ zero_context_by orientation nine }
     ensures small { result < 9 }
 {
-    zero_entry(first_entry(kind) + nine)
+    zero_entry(first_entry(orientation) + nine)
 }
 
 /// The context of a sign, by which of the places left, above, below and right are significant, in

@@ -12,17 +12,16 @@ use Rattle.jk_math.specs.Picture.{lists_of}
 use Rattle.jk_math.proofs.Laws.{raster_is}
 use Rattle.jk_geom.specs.Precincts.{precinct_number, precincts_across, precincts_down}
 use Rattle.jk_marks.specs.declared.coding.Coding.{Coding}
-use Rattle.jk_geom.specs.declared.bands.Orientation.{Orientation}
+use Rattle.jk_math.specs.declared.orientation.Orientation.{Orientation}
 use Rattle.jk_geom.specs.declared.grid.BlockGrid.{BlockGrid}
 use Rattle.jk_geom.specs.Rectangles.{IsWithin, band_area, meet, cell}
 use Rattle.jk_geom.specs.Blocks.{block_area, block_grid}
 use Rattle.jk_geom.specs.Partitions.{block_number, precinct_of}
-use Rattle.jk_scan.specs.declared.shape.Kind.{Kind}
 use Rattle.jk_scan.specs.declared.shape.BlockShape.{BlockShape}
 use Rattle.jk_walk.specs.declared.places.PacketPlace.{PacketPlace}
 use Rattle.jk_walk.specs.TilePackets.{Body, orientations, band_number, planes_of}
 use Rattle.jk_walk.specs.WalkReading.{place_end}
-use Rattle.jk_tile.specs.TileBlocks.{orientation_at, grid_at, block_at_place, kind_of, shape_of_area, block_bodies}
+use Rattle.jk_tile.specs.TileBlocks.{orientation_at, grid_at, block_at_place, shape_of_area, block_bodies}
 use Rattle.jk_tile.specs.TileReading.{each, tested, is_met, met_tested, precinct_part_tested, resolution_part_tested, bodies_of, bodies_values, block_values, values_or, block_with}
 use Rattle.jk_tile.specs.declared.bodies.BodyPlace.{BodyPlace}
 use Rattle.jk_tile.specs.declared.chains.PacketChains.{PacketChains}
@@ -86,22 +85,22 @@ pub few_is : (s : Source) (r n i j : ℕ) (grid : BlockGrid) → grid ≡ grid_a
 few_is s r n i j grid e lt = subst (λ (g : BlockGrid). j < block_number g) e lt
 
 -- its shape
-pub shape_is : (s : Source) (r n i j : ℕ) (place : Rect) (o : Orientation) (kind : Kind) (shape : BlockShape) → IsSource s → place ≡ block_at_place s.region.rect s.coding r n i j → o ≡ orientation_at r i
-    → kind ≡ kind_of o → shape ≡ shape_of_area place kind → j < block_number (grid_at s.region.rect s.coding r n i) → IsBlockShape shape
-shape_is s r n i j place o kind shape is ep eo ek e lt =
-    let same : shape ≡ shape_of_area (block_at_place s.region.rect s.coding r n i j) (kind_of (orientation_at r i)) =
-    e ∙ ap (λ (p : Rect). shape_of_area p kind) ep ∙ ap (λ (k : Kind). shape_of_area (block_at_place s.region.rect s.coding r n i j) k) (ek ∙ ap kind_of eo) in
+pub shape_is : (s : Source) (r n i j : ℕ) (place : Rect) (o : Orientation) (shape : BlockShape) → IsSource s → place ≡ block_at_place s.region.rect s.coding r n i j → o ≡ orientation_at r i
+    → shape ≡ shape_of_area place o → j < block_number (grid_at s.region.rect s.coding r n i) → IsBlockShape shape
+shape_is s r n i j place o shape is ep eo e lt =
+    let same : shape ≡ shape_of_area (block_at_place s.region.rect s.coding r n i j) (orientation_at r i) =
+    e ∙ ap (λ (p : Rect). shape_of_area p o) ep ∙ ap (shape_of_area (block_at_place s.region.rect s.coding r n i j)) eo in
     subst IsBlockShape (sym same) (block_is_shape s.region.rect s.coding r n i j is.coding lt)
 
 -- what is due
-pub due_is : (s : Source) (r n i j planes : ℕ) (place : Rect) (o : Orientation) (kind : Kind) (shape : BlockShape) (bodies : List Body) → place ≡ block_at_place s.region.rect s.coding r n i j → o ≡ orientation_at r i
-    → kind ≡ kind_of o → shape ≡ shape_of_area place kind → planes ≡ planes_of s.coding (band_number r i) → bodies ≡ block_bodies i j (source_bodies s r n)
+pub due_is : (s : Source) (r n i j planes : ℕ) (place : Rect) (o : Orientation) (shape : BlockShape) (bodies : List Body) → place ≡ block_at_place s.region.rect s.coding r n i j → o ≡ orientation_at r i
+    → shape ≡ shape_of_area place o → planes ≡ planes_of s.coding (band_number r i) → bodies ≡ block_bodies i j (source_bodies s r n)
     → bodies_values shape planes bodies ≡ block_values s.region.rect s.coding r n i j (source_bodies s r n)
-due_is s r n i j planes place o kind shape bodies ep eo ek e en eb =
-    let same : shape ≡ shape_of_area (block_at_place s.region.rect s.coding r n i j) (kind_of (orientation_at r i)) =
-    e ∙ ap (λ (p : Rect). shape_of_area p kind) ep ∙ ap (λ (k : Kind). shape_of_area (block_at_place s.region.rect s.coding r n i j) k) (ek ∙ ap kind_of eo) in
-    ap (λ (x : BlockShape). bodies_values x planes bodies) same ∙ ap (λ m. bodies_values (shape_of_area (block_at_place s.region.rect s.coding r n i j) (kind_of (orientation_at r i))) m bodies) en
-    ∙ ap (bodies_values (shape_of_area (block_at_place s.region.rect s.coding r n i j) (kind_of (orientation_at r i))) (planes_of s.coding (band_number r i))) eb
+due_is s r n i j planes place o shape bodies ep eo e en eb =
+    let same : shape ≡ shape_of_area (block_at_place s.region.rect s.coding r n i j) (orientation_at r i) =
+    e ∙ ap (λ (p : Rect). shape_of_area p o) ep ∙ ap (shape_of_area (block_at_place s.region.rect s.coding r n i j)) eo in
+    ap (λ (x : BlockShape). bodies_values x planes bodies) same ∙ ap (λ m. bodies_values (shape_of_area (block_at_place s.region.rect s.coding r n i j) (orientation_at r i)) m bodies) en
+    ∙ ap (bodies_values (shape_of_area (block_at_place s.region.rect s.coding r n i j) (orientation_at r i)) (planes_of s.coding (band_number r i))) eb
 
 -- values that are due are the coefficients
 pub values_agree : (s : Source) (r n i j : ℕ) (place : Rect) (values : List ℤ) → IsSource s → r ≤ s.coding.levels → n < precinct_number s.region.rect s.coding r → i < length (orientations r) → j < block_number (grid_at s.region.rect s.coding r n i)

@@ -11,12 +11,11 @@ use Rattle.jk_math.specs.Raster.{columns_of, rows_of, places_of, plane_at, raste
 use Rattle.jk_math.specs.BitLength.{bit_length}
 use Rattle.jk_math.proofs.Laws.{raster_length, index_below, bit_length_room, bit_length_few}
 use Rattle.jk_marks.specs.declared.coding.Coding.{Coding}
-use Rattle.jk_geom.specs.declared.bands.Orientation.{Orientation}
+use Rattle.jk_math.specs.declared.orientation.Orientation.{Orientation}
 use Rattle.jk_geom.specs.declared.grid.BlockGrid.{BlockGrid}
 use Rattle.jk_geom.specs.Rectangles.{band_area}
 use Rattle.jk_geom.specs.Blocks.{block_area, block_grid}
 use Rattle.jk_geom.specs.Partitions.{block_number}
-use Rattle.jk_scan.specs.declared.shape.Kind.{Kind}
 use Rattle.jk_scan.specs.declared.shape.BlockShape.{BlockShape}
 use Rattle.jk_block.specs.BlockWritten.{greatest, Coded, coded}
 use Rattle.jk_block.proofs.Laws.{greatest_bounds, greatest_small}
@@ -25,7 +24,7 @@ use Rattle.jk_walk.specs.TilePackets.{orientations, band_number, planes_of}
 use Rattle.jk_packet.specs.Written.{Table}
 use Rattle.jk_tile.specs.PacketsWritten.{coded_table}
 use Rattle.jk_tile.specs.Filling.{IsPartOf}
-use Rattle.jk_tile.specs.TileBlocks.{orientation_at, grid_at, block_at_place, kind_of, shape_of_area, block_shape}
+use Rattle.jk_tile.specs.TileBlocks.{orientation_at, grid_at, block_at_place, shape_of_area, block_shape}
 use Rattle.jk_tile.specs.Source.{IsBlockShape}
 use Rattle.jk_tile.specs.TileWritten.{WrittenBands, AreWrittenBands, band_of, coefficient_of, block_list, coded_at}
 use Rattle.jk_tile.proofs.AllBands.{numbered_low, numbered_high}
@@ -79,9 +78,9 @@ values_are s r n i j area place plane values ea ep el e =
     e ∙ ap (λ (b : Rect). raster b (plane_at area plane)) ep ∙ ap (λ (a : Rect). raster (block_at_place s.rect s.coding r n i j) (plane_at a plane)) ea
     ∙ ap (λ (l : List ℤ). raster (block_at_place s.rect s.coding r n i j) (plane_at (numbered_area s.rect s.coding.levels (band_number r i)) l)) el
 
-pub shape_of_block : (s : WrittenBands) (r n i j : ℕ) (place : Rect) (o : Orientation) (kind : Kind) (shape : BlockShape) → place ≡ block_at_place s.rect s.coding r n i j → o ≡ orientation_at r i → kind ≡ kind_of o → shape ≡ shape_of_area place kind
+pub shape_of_block : (s : WrittenBands) (r n i j : ℕ) (place : Rect) (o : Orientation) (shape : BlockShape) → place ≡ block_at_place s.rect s.coding r n i j → o ≡ orientation_at r i → shape ≡ shape_of_area place o
     → shape ≡ block_shape s.rect s.coding r n i j
-shape_of_block s r n i j place o kind shape ep eo ek e = e ∙ ap (λ (b : Rect). shape_of_area b kind) ep ∙ ap (shape_of_area (block_at_place s.rect s.coding r n i j)) (ek ∙ ap kind_of eo)
+shape_of_block s r n i j place o shape ep eo e = e ∙ ap (λ (b : Rect). shape_of_area b o) ep ∙ ap (shape_of_area (block_at_place s.rect s.coding r n i j)) eo
 
 pub shape_fits : (s : WrittenBands) (r n i j : ℕ) → AreWrittenBands s → j < block_number (grid_at s.rect s.coding r n i) → IsBlockShape (block_shape s.rect s.coding r n i j)
 shape_fits s r n i j are lt = block_is_shape s.rect s.coding r n i j are.coding lt
@@ -93,8 +92,8 @@ cut_few m area place plane part long small = raster_few m place (plane_at area p
     let lt = index_below area x y (record { left = within.left; right = within.right; upper = within.upper; lower = within.lower }) in
     All-get_or (λ v. unsigned_abs v < m) plane ((y - area.y0) * columns_of area + (x - area.x0)) (pos 0) (omega (arith, lt, long)) small)
 
-pub block_long : (place : Rect) (f : ℕ → ℕ → ℤ) (values : List ℤ) (kind : Kind) (shape : BlockShape) → values ≡ raster place f → shape ≡ shape_of_area place kind → length values ≡ shape.width * shape.height
-block_long place f values kind shape e is =
+pub block_long : (place : Rect) (f : ℕ → ℕ → ℤ) (values : List ℤ) (o : Orientation) (shape : BlockShape) → values ≡ raster place f → shape ≡ shape_of_area place o → length values ≡ shape.width * shape.height
+block_long place f values o shape e is =
     ap (λ (l : List ℤ). length l) e ∙ raster_length place f ∙ (let turned : rows_of place * columns_of place ≡ columns_of place * rows_of place = omega arith in turned) ∙ ap (λ (b : BlockShape). b.width * b.height) (sym is)
 
 pub block_small : (area place : Rect) (plane band values : List ℤ) → IsPartOf place area → length plane ≡ places_of area → plane ≡ band → All (λ v. unsigned_abs v < 2 ^ 23) band → values ≡ raster place (plane_at area plane)

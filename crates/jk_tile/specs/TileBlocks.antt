@@ -4,25 +4,16 @@ use Rattle.std.specs.List.{flat_map}
 use Rattle.jk_math.specs.declared.rect.Rect.{Rect}
 use Rattle.jk_math.specs.Raster.{columns_of, rows_of}
 use Rattle.jk_marks.specs.declared.coding.Coding.{Coding}
-use Rattle.jk_geom.specs.declared.bands.Orientation.{Orientation}
-use Rattle.jk_geom.specs.declared.bands.Orientation.TheVariants.{LL as LowLow, HL as HighLow, LH as LowHigh, HH as HighHigh}
+use Rattle.jk_math.specs.declared.orientation.Orientation.{Orientation}
+use Rattle.jk_math.specs.declared.orientation.Orientation.TheVariants.{LL}
 use Rattle.jk_geom.specs.declared.grid.BlockGrid.{BlockGrid}
 use Rattle.jk_geom.specs.Blocks.{block_grid, block_area}
-use Rattle.jk_scan.specs.declared.shape.Kind.{Kind}
-use Rattle.jk_scan.specs.declared.shape.Kind.TheVariants.{LL, HL, LH, HH}
 use Rattle.jk_scan.specs.declared.shape.BlockShape.{BlockShape}
 use Rattle.jk_walk.specs.TilePackets.{Body, orientations}
 
--- the sub-band by which the contexts of a code-block are chosen (Table D.1)
-abbrev pub kind_of : Orientation → Kind
-kind_of LowLow = LL
-kind_of HighLow = HL
-kind_of LowHigh = LH
-kind_of HighHigh = HH
-
 -- sub-band i of a resolution, in the order of its packets
 abbrev pub orientation_at : (r i : ℕ) → Orientation
-orientation_at r i = slice_index_or (orientations r) i LowLow
+orientation_at r i = slice_index_or (orientations r) i LL
 
 -- the code-blocks of sub-band i in precinct n of resolution r
 abbrev pub grid_at : Rect → Coding → (r n i : ℕ) → BlockGrid
@@ -32,11 +23,11 @@ grid_at a k r n i = block_grid a k r n (orientation_at r i)
 abbrev pub block_at_place : Rect → Coding → (r n i j : ℕ) → Rect
 block_at_place a k r n i j = block_area (grid_at a k r n i) j
 
-abbrev pub shape_of_area : Rect → Kind → BlockShape
-shape_of_area b kind = record { width = columns_of b; height = rows_of b; kind = kind }
+abbrev pub shape_of_area : Rect → Orientation → BlockShape
+shape_of_area b orientation = record { width = columns_of b; height = rows_of b; orientation = orientation }
 
 abbrev pub block_shape : Rect → Coding → (r n i j : ℕ) → BlockShape
-block_shape a k r n i j = shape_of_area (block_at_place a k r n i j) (kind_of (orientation_at r i))
+block_shape a k r n i j = shape_of_area (block_at_place a k r n i j) (orientation_at r i)
 
 -- what packets have of code-block j of sub-band i
 abbrev pub block_bodies : (i j : ℕ) → List Body → List Body

@@ -6,15 +6,13 @@ ghost use Rattle.jk_math.specs.Raster.{raster};
 ghost use Rattle.jk_math.specs.Signed.{IsBelow};
 ghost use Rattle.jk_geom.specs.Rectangles.{resolution_area};
 ghost use Rattle.jk_walk.specs.TilePackets.{orientations, band_number, planes_of};
-ghost use Rattle.jk_tile.specs.TileBlocks.{kind_of, orientation_at};
+ghost use Rattle.jk_tile.specs.TileBlocks.{orientation_at};
 ghost use Rattle.jk_tile.specs.TileMeaning.{values_of};
 ghost use Rattle.jk_tile.specs.TileReading.{component_tested};
 ghost use Rattle.jk_tile.specs.Source.{IsSource, source_bodies, source_coefficient};
 
-use jk_block::Kind;
-use jk_geom::Orientation;
 use jk_marks::Coding;
-use jk_math::Rect;
+use jk_math::{Orientation, Rect};
 use jk_walk::PacketPlace;
 use jk_wave::Region;
 use std::marker::Model;
@@ -138,17 +136,5 @@ pub(crate) fn band_number(r: u8, i: u8) -> usize
         0
     } else {
         3 * (r as usize - 1) + 1 + i as usize
-    }
-}
-
-/// The sub-band by which contexts are chosen.
-pub(crate) fn kind(orientation: Orientation) -> Kind
-    ensures { result ≡ kind_of orientation }
-{
-    match orientation {
-        Orientation::LL => Kind::LL,
-        Orientation::HL => Kind::HL,
-        Orientation::LH => Kind::LH,
-        Orientation::HH => Kind::HH,
     }
 }

@@ -8,7 +8,6 @@ ghost use Rattle.jk_math.specs.Picture.{lists_of};
 ghost use Rattle.jk_geom.specs.Rectangles.{IsArea};
 ghost use Rattle.jk_geom.specs.Precincts.{precinct_number};
 ghost use Rattle.jk_walk.specs.TilePackets.{orientations};
-ghost use Rattle.jk_scan.specs.declared.shape.Kind.{Kind as Contexts};
 ghost use Rattle.jk_geom.specs.Blocks.{IsGrid};
 ghost use Rattle.jk_tile.specs.TileBlocks.{shape_of_area, grid_at, block_bodies};
 ghost use Rattle.jk_tile.specs.TileReading.{tested, block_values, is_met, met_tested, precinct_part_tested};
@@ -18,24 +17,24 @@ ghost use Rattle.jk_tile.specs.Source.{source_bodies, IsBandPart, ShowsBlock, Is
 use crate::block::{band_planes, read_block};
 use crate::bodies::{BodyPlace, bodies_by_block};
 use crate::chains::{follow, packets_by_precinct};
-use crate::component::{CodedComponent, band_count, band_number, kind, orientation};
+use crate::component::{CodedComponent, band_count, band_number, orientation};
 use crate::filling::put_common;
-use jk_block::{BlockShape, Kind};
+use jk_block::BlockShape;
 use jk_geom::{BlockGrid, blocks, precinct_count, touches};
-use jk_math::{Fault, Rect};
+use jk_math::{Fault, Orientation, Rect};
 use jk_wave::part_area;
 use std::alloc::Global;
 
 /// The shape of the code-block at a place of a sub-band.
-pub(crate) fn shape_at(place: &Rect, kind: Kind) -> BlockShape
+pub(crate) fn shape_at(place: &Rect, orientation: Orientation) -> BlockShape
     requires left { place.now.x0 ≤ place.now.x1 }
     requires upper { place.now.y0 ≤ place.now.y1 }
-    ensures { result ≡ shape_of_area place.now kind }
+    ensures { result ≡ shape_of_area place.now orientation }
 {
     BlockShape {
         width: (place.x1 - place.x0) as usize,
         height: (place.y1 - place.y0) as usize,
-        kind,
+        orientation,
     }
 }
 
@@ -81,7 +80,7 @@ fn read_at(
     }
     let orientation = orientation(part.resolution, part.band);
     let planes = band_planes(coding, part.resolution, part.band);
-    let shape = shape_at(&place, kind(orientation));
+    let shape = shape_at(&place, orientation);
     let block = read_block(alloc, source.bytes(), bodies, shape, planes, segment)?;
     put_common(&area, plane, &place, &block.values);
     Ok(())

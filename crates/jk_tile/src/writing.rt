@@ -14,7 +14,7 @@ ghost use Rattle.jk_tile.specs.TileBlocks.{grid_at, block_shape};
 ghost use Rattle.jk_tile.specs.TileWritten.{block_list, coded_at, coefficient_of, AreWrittenBands, IsWrittenPart};
 
 use crate::block::band_planes;
-use crate::component::{band_count, kind, orientation};
+use crate::component::{band_count, orientation};
 use crate::cutting::cut_out;
 use crate::reading::{BandPart, shape_at};
 use crate::tables::table;
@@ -134,11 +134,11 @@ fn block_at(
     let place = grid.block(j);
     let plane = source.bands().plane(number_of(part.resolution, part.band));
     let values = cut_out(alloc, &area, plane, &place)?;
-    let shape = shape_at(&place, kind(orientation));
+    let shape = shape_at(&place, orientation);
     Ok(Block {
         width: shape.width,
         height: shape.height,
-        kind: shape.kind,
+        orientation: shape.orientation,
         values,
     })
 }

@@ -4,8 +4,8 @@ use Rattle.std.specs.List.{AllByRecursion, flat_map, range_with_len}
 use Rattle.jk_math.specs.declared.rect.Rect.{Rect}
 use Rattle.jk_marks.specs.declared.siz.Siz.{Siz}
 use Rattle.jk_marks.specs.declared.coding.Coding.{Coding}
-use Rattle.jk_geom.specs.declared.bands.Orientation.{Orientation}
-use Rattle.jk_geom.specs.declared.bands.Orientation.TheVariants.{LL, HL, LH, HH}
+use Rattle.jk_math.specs.declared.orientation.Orientation.{Orientation}
+use Rattle.jk_math.specs.declared.orientation.Orientation.TheVariants.{LL, HL, LH, HH}
 use Rattle.jk_geom.specs.declared.shape.TileShape.{TileShape}
 use Rattle.jk_geom.specs.declared.shape.PacketName.{PacketName}
 use Rattle.jk_geom.specs.Rectangles.{tile_area}

@@ -8,9 +8,9 @@ ghost use Rattle.jk_packet.specs.Shapes.{bands_of};
 ghost use Rattle.jk_params.specs.Coding.{band_count, HasPlanes};
 ghost use Rattle.jk_walk.specs.TilePackets.{planes_of, band_part, bands_at};
 
-use jk_geom::{Orientation, blocks};
+use jk_geom::blocks;
 use jk_marks::Coding;
-use jk_math::Rect;
+use jk_math::{Orientation, Rect};
 use jk_packet::{BandShape, PrecinctShape};
 
 /// How many magnitude bit-planes the sub-band of a number in QCD has (T.800 E.1, equation E-2).

@@ -4,8 +4,8 @@ use Rattle.std.proofs.Math.Nat.{mul-le-mul_right}
 use Rattle.std.proofs.lemmas.Nat.{pow_pos, pow-add}
 use Rattle.std.proofs.lemmas.Bool.{cases_eq}
 use Rattle.jk_math.specs.declared.rect.Rect.{Rect}
-use Rattle.jk_geom.specs.declared.bands.Orientation.{Orientation}
-use Rattle.jk_geom.specs.declared.bands.Orientation.TheVariants.{HL, LH, HH}
+use Rattle.jk_math.specs.declared.orientation.Orientation.{Orientation}
+use Rattle.jk_math.specs.declared.orientation.Orientation.TheVariants.{HL, LH, HH}
 use Rattle.jk_geom.specs.Rectangles.{ceil_div, across_offset, down_offset, resolution_area, band_area, level_area, IsWithin}
 use Rattle.jk_geom.proofs.Laws.{ceil_covers, ceil_least}
 use Rattle.jk_wave.specs.Bands.{numbered_area, high_orientation}

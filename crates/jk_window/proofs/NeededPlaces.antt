@@ -5,8 +5,8 @@ use Rattle.std.specs.List.{list_any}
 use Rattle.std.proofs.lemmas.Bool.{le-leb, and_from}
 use Rattle.jk_math.specs.declared.rect.Rect.{Rect}
 use Rattle.jk_marks.specs.declared.coding.Coding.{Coding}
-use Rattle.jk_geom.specs.declared.bands.Orientation.{Orientation}
-use Rattle.jk_geom.specs.declared.bands.Orientation.TheVariants.{LL}
+use Rattle.jk_math.specs.declared.orientation.Orientation.{Orientation}
+use Rattle.jk_math.specs.declared.orientation.Orientation.TheVariants.{LL}
 use Rattle.jk_geom.specs.Rectangles.{IsWithin, is_empty, meet, touches}
 use Rattle.jk_geom.specs.Precincts.{precinct_area}
 use Rattle.jk_geom.specs.Partitions.{reduced_area}

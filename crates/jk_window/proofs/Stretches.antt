@@ -1,8 +1,8 @@
 -- Stretches of resolutions, and the places near them.
 use Rattle.std.proofs.Common.{◌≡◌, ℕ, ◌+◌, ◌/◌, ◌%◌, ◌<◌, ◌≤◌, add-one, refl, sym, ap, subst, ◌∙◌, arith}
 use Rattle.jk_math.specs.declared.rect.Rect.{Rect}
-use Rattle.jk_geom.specs.declared.bands.Orientation.{Orientation}
-use Rattle.jk_geom.specs.declared.bands.Orientation.TheVariants.{LL, HL, LH, HH}
+use Rattle.jk_math.specs.declared.orientation.Orientation.{Orientation}
+use Rattle.jk_math.specs.declared.orientation.Orientation.TheVariants.{LL, HL, LH, HH}
 use Rattle.jk_geom.specs.Rectangles.{IsWithin, across_offset, down_offset}
 use Rattle.jk_window.specs.Needs.{half_start, half_end, part_of_band, stretch, IsNear}
 

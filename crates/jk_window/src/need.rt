@@ -9,9 +9,9 @@ ghost use Rattle.jk_geom.specs.Precincts.{precinct_number, precinct_area};
 ghost use Rattle.jk_walk.specs.TilePackets.{orientations};
 ghost use Rattle.jk_window.specs.Needs.{half_start, half_end, part_of_band, stretch, needed_part, needs};
 
-use jk_geom::{Orientation, precinct, touches};
+use jk_geom::{precinct, touches};
 use jk_marks::Coding;
-use jk_math::Rect;
+use jk_math::{Orientation, Rect};
 
 /// From which place on a half of a line is near the places from `start` on.
 fn half_start(high: bool, start: u32) -> u32

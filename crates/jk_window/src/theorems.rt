@@ -2,7 +2,7 @@
 
 ghost use Rattle.std.specs.Prelude.{◌≡◌, ◌+◌, ◌/◌, ◌%◌, ℕ, Bool, List, map};
 ghost use Rattle.jk_math.specs.declared.rect.Rect.{Rect};
-ghost use Rattle.jk_geom.specs.declared.bands.Orientation.{Orientation};
+ghost use Rattle.jk_math.specs.declared.orientation.Orientation.{Orientation};
 ghost use Rattle.jk_geom.specs.declared.shape.TileShape.{TileShape};
 ghost use Rattle.jk_geom.specs.Rectangles.{IsWithin, across_offset, down_offset};
 ghost use Rattle.jk_walk.specs.TilePackets.{Packet, IsTile};

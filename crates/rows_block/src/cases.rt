@@ -1,4 +1,4 @@
-//! Blocks: width, height, kind, bit-planes, passes, the segment in hexadecimal, and what an
+//! Blocks: width, height, orientation, bit-planes, passes, the segment in hexadecimal, and what an
 //! independent decoder answered: the values, or for a larger block `#` and a checksum of them, or a
 //! fault.
 

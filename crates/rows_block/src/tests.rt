@@ -1,6 +1,6 @@
 use crate::cases::CASES;
-use jk_block::{Block, BlockShape, Kind, decode, one_meaning, read_is_meant};
-use jk_math::Fault;
+use jk_block::{Block, BlockShape, decode, one_meaning, read_is_meant};
+use jk_math::{Fault, Orientation};
 use jk_mqdec::Decoder;
 use jk_scan::{
     Around, Contribution, contributed, gather, members, neighbourhood, nine, quiet, quiet_behind,
@@ -30,12 +30,12 @@ fn bytes_of(alloc: Global, text: &str) -> Result<Vec<u8>, Fail> {
     Ok(bytes)
 }
 
-fn kind_of(text: &str) -> Kind {
+fn orientation_of(text: &str) -> Orientation {
     match text {
-        "HL" => Kind::HL,
-        "LH" => Kind::LH,
-        "HH" => Kind::HH,
-        _ => Kind::LL,
+        "HL" => Orientation::HL,
+        "LH" => Orientation::LH,
+        "HH" => Orientation::HH,
+        _ => Orientation::LL,
     }
 }
 
@@ -76,7 +76,7 @@ fn reads(rt: &impl Abort, alloc: Global, line: &str) -> Result<(), Fail> {
     let mut words = line.split(' ');
     let width = words.next().ok_or("a width")?.parse::<u16>()? as usize;
     let height = words.next().ok_or("a height")?.parse::<u16>()? as usize;
-    let kind = kind_of(words.next().ok_or("a kind")?);
+    let orientation = orientation_of(words.next().ok_or("a sub-band")?);
     let planes = words.next().ok_or("planes")?.parse::<u8>()? as u32;
     let passes = words.next().ok_or("passes")?.parse::<u8>()? as usize;
     let segment = bytes_of(alloc, words.next().ok_or("a segment")?)?;
@@ -91,7 +91,7 @@ fn reads(rt: &impl Abort, alloc: Global, line: &str) -> Result<(), Fail> {
     let shape = BlockShape {
         width,
         height,
-        kind,
+        orientation,
     };
     let answer = decode(alloc, &segment, shape, planes, passes);
     let text = told(alloc, answer, area)?;
@@ -148,8 +148,8 @@ fn fails_for_ever(rt: HostRuntime) -> Result<(), Fail> {
 /// One entry of each table of contexts, and what the block says of itself.
 #[test]
 fn contexts(rt: HostRuntime) -> Result<(), Fail> {
-    assert_eq!(rt; zero_context(Kind::HL, 2, 0, 0), 4);
-    assert_eq!(rt; zero_context(Kind::HH, 1, 1, 1), 5);
+    assert_eq!(rt; zero_context(Orientation::HL, 2, 0, 0), 4);
+    assert_eq!(rt; zero_context(Orientation::HH, 1, 1, 1), 5);
     let sign = sign_context(Contribution::Negative, contributed(1, 0));
     assert_eq!(rt; sign.context, 11);
     assert!(rt; sign.flip);
@@ -157,12 +157,12 @@ fn contexts(rt: HostRuntime) -> Result<(), Fail> {
     let shape = BlockShape {
         width: 2,
         height: 3,
-        kind: Kind::HL,
+        orientation: Orientation::HL,
     };
     let block = decode(rt.alloc(), b"", shape, 0, 0)?;
     assert_eq!(rt; block.width, 2);
     assert_eq!(rt; block.height, 3);
-    assert_eq!(rt; block.kind, Kind::HL);
+    assert_eq!(rt; block.orientation, Orientation::HL);
     assert_eq!(rt; block.values.len(), 6);
     one_meaning();
     read_is_meant();

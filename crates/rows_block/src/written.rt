@@ -2,9 +2,10 @@ ghost use Rattle.std.specs.Prelude.{◌≡◌, ◌^◌, ◌<◌, ◌≤◌, All,
 
 use crate::written_cases::WRITTEN;
 use jk_block::{
-    Block, BlockShape, CodedBlock, Kind, code, decode, layers_have_bytes, layers_have_passes,
+    Block, BlockShape, CodedBlock, code, decode, layers_have_bytes, layers_have_passes,
     written_is_read,
 };
+use jk_math::Orientation;
 use std::alloc::Global;
 use std::process::Abort;
 use std::test::Fail;
@@ -12,12 +13,12 @@ use std::test::Fail;
 /// The greatest magnitude that a coefficient may have.
 const MOST: i32 = 8388607;
 
-fn kind_of(text: &str) -> Kind {
+fn orientation_of(text: &str) -> Orientation {
     match text {
-        "HL" => Kind::HL,
-        "LH" => Kind::LH,
-        "HH" => Kind::HH,
-        _ => Kind::LL,
+        "HL" => Orientation::HL,
+        "LH" => Orientation::LH,
+        "HH" => Orientation::HH,
+        _ => Orientation::LL,
     }
 }
 
@@ -52,14 +53,14 @@ fn block_of(
     alloc: Global,
     width: usize,
     height: usize,
-    kind: Kind,
+    orientation: Orientation,
     pattern: &str,
 ) -> Result<Block, Fail>
     requires narrow { width ≤ 9 }
     requires low { height ≤ 9 }
     ensures width { IfOk result (λ b. b.width ≡ width) }
     ensures height { IfOk result (λ b. b.height ≡ height) }
-    ensures kind { IfOk result (λ b. b.kind ≡ kind) }
+    ensures orientation { IfOk result (λ b. b.orientation ≡ orientation) }
 {
     let mut values = Vec::new(alloc);
     for y in 0..height {
@@ -70,7 +71,7 @@ fn block_of(
     Ok(Block {
         width,
         height,
-        kind,
+        orientation,
         values,
     })
 }
@@ -97,7 +98,7 @@ fn codes(rt: &impl Abort, alloc: Global, block: &Block) -> Result<CodedBlock, Fa
     let shape = BlockShape {
         width: block.width,
         height: block.height,
-        kind: block.kind,
+        orientation: block.orientation,
     };
     let again = decode(alloc, &coded.bytes, shape, coded.planes, coded.passes)?;
     assert_eq!(rt; again.values.as_slice(), block.values.as_slice());
@@ -109,7 +110,7 @@ fn writes(rt: &impl Abort, alloc: Global, line: &str) -> Result<(), Fail> {
     let mut words = line.split(' ');
     let width = words.next().ok_or("a width")?.parse::<u8>()? as usize;
     let height = words.next().ok_or("a height")?.parse::<u8>()? as usize;
-    let kind = kind_of(words.next().ok_or("a kind")?);
+    let orientation = orientation_of(words.next().ok_or("a sub-band")?);
     let pattern = words.next().ok_or("a pattern")?;
     let planes = words.next().ok_or("planes")?.parse::<u8>()? as u32;
     let passes = words.next().ok_or("passes")?.parse::<u8>()? as usize;
@@ -118,7 +119,7 @@ fn writes(rt: &impl Abort, alloc: Global, line: &str) -> Result<(), Fail> {
     if width > 9 || height > 9 {
         return Err("a shape".into());
     }
-    let block = block_of(alloc, width, height, kind, pattern)?;
+    let block = block_of(alloc, width, height, orientation, pattern)?;
     let coded = codes(rt, alloc, &block)?;
     assert_eq!(rt; coded.planes, planes, "for {line}");
     assert_eq!(rt; coded.passes, passes, "for {line}");
@@ -143,7 +144,7 @@ fn gives(
     rt: &impl Abort,
     alloc: Global,
     width: usize,
-    kind: Kind,
+    orientation: Orientation,
     values: &[i32],
     bytes: &[u8],
     marks: &[usize],
@@ -153,7 +154,7 @@ fn gives(
     let block = Block {
         width,
         height: values.len() / width,
-        kind,
+        orientation,
         values: values.to_vec(alloc)?,
     };
     let coded = codes(rt, alloc, &block)?;
@@ -167,14 +168,14 @@ fn gives(
 #[test]
 fn worked_blocks(rt: HostRuntime) -> Result<(), Fail> {
     let alloc = rt.alloc();
-    gives(&rt, alloc, 1, Kind::LL, &[1], &[0x03], &[0])?;
-    gives(&rt, alloc, 1, Kind::LL, &[15], &[0x00], &[0; 10])?;
-    gives(&rt, alloc, 1, Kind::LL, &[0], &[], &[])?;
+    gives(&rt, alloc, 1, Orientation::LL, &[1], &[0x03], &[0])?;
+    gives(&rt, alloc, 1, Orientation::LL, &[15], &[0x00], &[0; 10])?;
+    gives(&rt, alloc, 1, Orientation::LL, &[0], &[], &[])?;
     gives(
         &rt,
         alloc,
         1,
-        Kind::LL,
+        Orientation::LL,
         &[-26, -22, -30, -32, -19],
         &[0x01, 0x8F, 0x0D, 0xC8, 0x75, 0x7F],
         &[0, 1, 1, 2, 2, 2, 2, 2, 3, 3, 3, 4, 4, 4, 4, 4],
@@ -183,7 +184,7 @@ fn worked_blocks(rt: HostRuntime) -> Result<(), Fail> {
         &rt,
         alloc,
         1,
-        Kind::LH,
+        Orientation::LH,
         &[1, 5, 1, 0],
         &[0x0F, 0xB1, 0x7F],
         &[0, 0, 0, 0, 1, 1, 1],

@@ -1,5 +1,5 @@
 //! Blocks of extreme and alternating coefficients in every size up to 9 by 9, as an independent
-//! encoder writes them: width, height, kind, pattern, bit-planes, passes, how many bytes, and a
+//! encoder writes them: width, height, orientation, pattern, bit-planes, passes, how many bytes, and a
 //! checksum of bytes and marks.
 
 pub const WRITTEN: &str = "\

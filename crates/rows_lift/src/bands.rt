@@ -6,8 +6,8 @@ ghost use Rattle.jk_math.specs.Signed.{IsBelow};
 ghost use Rattle.jk_geom.specs.Rectangles.{IsArea};
 ghost use Rattle.jk_wave.specs.Bands.{AreBands, numbered_area};
 
-use jk_geom::{Orientation, band};
-use jk_math::{Planes, Rect};
+use jk_geom::band;
+use jk_math::{Orientation, Planes, Rect};
 use jk_wave::{Bands, analyse, synthesise};
 use std::alloc::Global;
 use std::process::Abort;

@@ -8,9 +8,9 @@ ghost use Rattle.jk_geom.specs.TileShapes.{IsTileShape};
 
 use crate::random::{Random, any_tile};
 use crate::sums::{BLOCKS, NAMES};
-use jk_geom::{BlockGrid, Orientation, TileShape, band, blocks, precinct_count, resolution};
+use jk_geom::{BlockGrid, TileShape, band, blocks, precinct_count, resolution};
 use jk_marks::Coding;
-use jk_math::Rect;
+use jk_math::{Orientation, Rect};
 use jk_order::{Packets, packet_count};
 use std::test::Fail;
 

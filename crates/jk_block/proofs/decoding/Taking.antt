@@ -51,14 +51,14 @@ sign_faults bytes s b x y z c f e d =
     ap (λ (c : SignContext). decide bytes c.context z.coder >>= λ d. done (with_coder (coded_as b x y true (flipped c.flip d.0) z) d.1)) (sym e)
     ∙ ap (λ (r : Result (Bool × State) Fault). r >>= λ d. done (with_coder (coded_as b x y true (flipped c.flip d.0) z) d.1)) d
 
-pub new_takes : (bytes : List ℕ) (s : BlockShape) (b x y : ℕ) (z : Progress) (cx : ℕ) (bit : Bool) (n : State) (r : Result Progress Fault) → cx ≡ zero_at s.kind (lit s z) x y → decide bytes cx z.coder ≡ Ok (bit, n)
+pub new_takes : (bytes : List ℕ) (s : BlockShape) (b x y : ℕ) (z : Progress) (cx : ℕ) (bit : Bool) (n : State) (r : Result Progress Fault) → cx ≡ zero_at s.orientation (lit s z) x y → decide bytes cx z.coder ≡ Ok (bit, n)
     → cond bit (read_sign bytes s b x y (with_coder z n)) (Ok (with_coder z n)) ≡ r → read_new bytes s b x y z ≡ r
 unfolding read_new
 new_takes bytes s b x y z cx bit n r e d h =
     ap (λ (c : ℕ). decide bytes c z.coder >>= λ d. cond d.0 (read_sign bytes s b x y (with_coder z d.1)) (done (with_coder z d.1))) (sym e)
     ∙ ap (λ (r : Result (Bool × State) Fault). r >>= λ d. cond d.0 (read_sign bytes s b x y (with_coder z d.1)) (done (with_coder z d.1))) d ∙ h
 
-pub new_faults : (bytes : List ℕ) (s : BlockShape) (b x y : ℕ) (z : Progress) (cx : ℕ) (f : Fault) → cx ≡ zero_at s.kind (lit s z) x y → decide bytes cx z.coder ≡ Err f → read_new bytes s b x y z ≡ Err f
+pub new_faults : (bytes : List ℕ) (s : BlockShape) (b x y : ℕ) (z : Progress) (cx : ℕ) (f : Fault) → cx ≡ zero_at s.orientation (lit s z) x y → decide bytes cx z.coder ≡ Err f → read_new bytes s b x y z ≡ Err f
 unfolding read_new
 new_faults bytes s b x y z cx f e d =
     ap (λ (c : ℕ). decide bytes c z.coder >>= λ d. cond d.0 (read_sign bytes s b x y (with_coder z d.1)) (done (with_coder z d.1))) (sym e)

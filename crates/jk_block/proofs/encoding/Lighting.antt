@@ -45,9 +45,9 @@ word_lit s f words j i places p z len hj hi ep rows drawn =
         (λ r. let b = rows_between (m % 8) r in ap (on places) (let e : 8 * (column j m % 8) + (row i m % 4 + 1) ≡ m = omega (arith, l, b) in e))
 
 -- the list of a place that isn't significant
-pub new_is : (s : BlockShape) (p : Plane) (t x y cx : ℕ) (bit : Bool) (sign : ℕ × Bool) → cx ≡ zero_at s.kind (significant s p.magnitude t) x y → bit ≡ is_one (p.magnitude x y) → sign ≡ sign_decision s p t x y
+pub new_is : (s : BlockShape) (p : Plane) (t x y cx : ℕ) (bit : Bool) (sign : ℕ × Bool) → cx ≡ zero_at s.orientation (significant s p.magnitude t) x y → bit ≡ is_one (p.magnitude x y) → sign ≡ sign_decision s p t x y
     → ((cx, bit) ∷ cond bit (sign ∷ []) []) ≡ new_decisions s p t x y
 unfolding new_decisions
 new_is s p t x y cx bit sign e h g =
-    ap (λ (c : ℕ). (c, bit) ∷ cond bit (sign ∷ []) []) e ∙ ap (λ (b : Bool). (zero_at s.kind (significant s p.magnitude t) x y, b) ∷ cond b (sign ∷ []) []) h
-    ∙ ap (λ (d : ℕ × Bool). (zero_at s.kind (significant s p.magnitude t) x y, is_one (p.magnitude x y)) ∷ cond (is_one (p.magnitude x y)) (d ∷ []) []) g
+    ap (λ (c : ℕ). (c, bit) ∷ cond bit (sign ∷ []) []) e ∙ ap (λ (b : Bool). (zero_at s.orientation (significant s p.magnitude t) x y, b) ∷ cond b (sign ∷ []) []) h
+    ∙ ap (λ (d : ℕ × Bool). (zero_at s.orientation (significant s p.magnitude t) x y, is_one (p.magnitude x y)) ∷ cond (is_one (p.magnitude x y)) (d ∷ []) []) g

@@ -25,10 +25,10 @@ mod words;
 
 use crate::ages::Ages;
 use crate::spot::{Pass, pass_of};
-use jk_math::Fault;
+use jk_math::{Fault, Orientation};
 use jk_model::first_steps;
 use jk_mqdec::PassDecoder;
-use jk_scan::{BlockShape, Kind, WORDS};
+use jk_scan::{BlockShape, WORDS};
 use passes::read_bit_plane;
 use sketch::Sketch;
 use std::alloc::Global;
@@ -41,7 +41,7 @@ pub struct Block {
     /// How many rows it has.
     pub height: usize,
     /// Its sub-band.
-    pub kind: Kind,
+    pub orientation: Orientation,
     /// The coefficients, row by row.
     pub values: Vec<i32>,
 }
@@ -191,7 +191,7 @@ pub fn decode(
     ensures small { IfOk result (λ b. All (λ v. unsigned_abs v < 2 ^ planes) b.values.items) }
     ensures width { IfOk result (λ b. b.width ≡ shape.width) }
     ensures height { IfOk result (λ b. b.height ≡ shape.height) }
-    ensures kind { IfOk result (λ b. b.kind ≡ shape.kind) }
+    ensures orientation { IfOk result (λ b. b.orientation ≡ shape.orientation) }
 {
     if passes > (3 * planes as usize).saturating_sub(2) {
         return Err(Fault::TooManyPasses);
@@ -203,7 +203,7 @@ pub fn decode(
     Ok(Block {
         width: shape.width,
         height: shape.height,
-        kind: shape.kind,
+        orientation: shape.orientation,
         values: values(alloc, &sketch)?,
     })
 }

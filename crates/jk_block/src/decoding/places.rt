@@ -87,7 +87,7 @@ fn read_new(
         (row spot.stripe k))
         sketch.old sketch.new decoder.old decoder.new result }
 {
-    let context = zero_context_at(shape.kind, significant, k);
+    let context = zero_context_at(shape.orientation, significant, k);
     let bit = decoder.decode(context as usize)?;
     if bit {
         read_sign(sketch, decoder, shape, spot, k, significant)?;

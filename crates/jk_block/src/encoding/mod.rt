@@ -218,7 +218,7 @@ pub fn code(alloc: Global, block: &Block) -> Result<CodedBlock, Fault>
     let shape = BlockShape {
         width: block.width,
         height: block.height,
-        kind: block.kind,
+        orientation: block.orientation,
     };
     let mut list = DecisionList::new(alloc);
     let mut encoder = Encoder::new(alloc);

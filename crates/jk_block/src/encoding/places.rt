@@ -71,7 +71,7 @@ pub fn write_new(
     ensures sheet { (n : ℕ) → IsSheet bytes.old n → IsSheet bytes.new n }
 {
     let bit = bit_of(ones, k);
-    let context = zero_context_in(block.shape.kind, rings, k);
+    let context = zero_context_in(block.shape.orientation, rings, k);
     let sign = sign_context_in(crosses, k);
     put_new(
         bytes,

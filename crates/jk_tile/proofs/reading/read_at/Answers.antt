@@ -31,8 +31,8 @@ read_block-requires-clause-shape c =
     let s = c.args.source.now in
     let p = c.args.part in
     let place = place_is s p.resolution p.precinct p.band c.args.j c.args.grid.now c.block-place.result c.requires.grid c.block-place.ensures in
-    shape_is s p.resolution p.precinct p.band c.args.j c.block-place.result c.orientation-orientation.result c.kind.result c.shape_at-shape.result c.coding-coding.ensures.source place c.orientation-orientation.ensures
-    c.kind.ensures c.shape_at-shape.ensures (few_is s p.resolution p.precinct p.band c.args.j c.args.grid.now c.requires.grid c.requires.j)
+    shape_is s p.resolution p.precinct p.band c.args.j c.block-place.result c.orientation-orientation.result c.shape_at-shape.result c.coding-coding.ensures.source place c.orientation-orientation.ensures
+    c.shape_at-shape.ensures (few_is s p.resolution p.precinct p.band c.args.j c.args.grid.now c.requires.grid c.requires.j)
 
 pub returns-clause-plane : goal.returns-clause-plane
 returns-clause-plane c = record {
@@ -49,8 +49,8 @@ returns-clause-keeps c = λ x y h before.
     let lt = few_is s p.resolution p.precinct p.band c.args.j c.args.grid.now c.requires.grid c.requires.j in
     let bodies = ap (λ bs. map (body_of bs) c.args.bodies.now) c.bytes.ensures ∙ c.requires.bodies in
     let planes = c.band_planes-planes.ensures.value ∙ ap (λ (k : Coding). planes_of k (band_number p.resolution p.band)) c.coding-coding.ensures.value in
-    let due = due_is s p.resolution p.precinct p.band c.args.j c.band_planes-planes.result c.block-place.result c.orientation-orientation.result c.kind.result c.shape_at-shape.result
-    (map (body_of c.bytes.result.now) c.args.bodies.now) place c.orientation-orientation.ensures c.kind.ensures c.shape_at-shape.ensures planes bodies in
+    let due = due_is s p.resolution p.precinct p.band c.args.j c.band_planes-planes.result c.block-place.result c.orientation-orientation.result c.shape_at-shape.result
+    (map (body_of c.bytes.result.now) c.args.bodies.now) place c.orientation-orientation.ensures c.shape_at-shape.ensures planes bodies in
     let agrees = values_agree s p.resolution p.precinct p.band c.args.j c.block-place.result c.in_ok-block.block.values.items c.coding-coding.ensures.source
     (few_levels s p.resolution c.coding-coding.ensures.source c.requires.part.resolution) c.requires.part.precinct c.requires.part.band lt place (sym due ∙ c.in_ok-block.ensures.exact) in
     let put = subst (λ (a : Rect). IsPut a c.block-place.result c.args.plane.now c.put_common.new.plane c.in_ok-block.block.values.items) area
@@ -66,8 +66,8 @@ returns-clause-shows c = λ x y h inside.
     let lt = few_is s p.resolution p.precinct p.band c.args.j c.args.grid.now c.requires.grid c.requires.j in
     let bodies = ap (λ bs. map (body_of bs) c.args.bodies.now) c.bytes.ensures ∙ c.requires.bodies in
     let planes = c.band_planes-planes.ensures.value ∙ ap (λ (k : Coding). planes_of k (band_number p.resolution p.band)) c.coding-coding.ensures.value in
-    let due = due_is s p.resolution p.precinct p.band c.args.j c.band_planes-planes.result c.block-place.result c.orientation-orientation.result c.kind.result c.shape_at-shape.result
-    (map (body_of c.bytes.result.now) c.args.bodies.now) place c.orientation-orientation.ensures c.kind.ensures c.shape_at-shape.ensures planes bodies in
+    let due = due_is s p.resolution p.precinct p.band c.args.j c.band_planes-planes.result c.block-place.result c.orientation-orientation.result c.shape_at-shape.result
+    (map (body_of c.bytes.result.now) c.args.bodies.now) place c.orientation-orientation.ensures c.shape_at-shape.ensures planes bodies in
     let agrees = values_agree s p.resolution p.precinct p.band c.args.j c.block-place.result c.in_ok-block.block.values.items c.coding-coding.ensures.source
     (few_levels s p.resolution c.coding-coding.ensures.source c.requires.part.resolution) c.requires.part.precinct c.requires.part.band lt place (sym due ∙ c.in_ok-block.ensures.exact) in
     let put = subst (λ (a : Rect). IsPut a c.block-place.result c.args.plane.now c.put_common.new.plane c.in_ok-block.block.values.items) area

@@ -56,7 +56,7 @@ returns-clause-shape c =
     let few = few_blocks s p.resolution p.precinct p.band c.args.j c.args.grid.now c.requires.grid c.requires.j in
     let place = place_of s p.resolution p.precinct p.band c.args.j c.args.grid.now c.block-place.result c.requires.grid c.block-place.ensures in
     let area = area_of s p.resolution p.band c.rect-rect.result c.band-area.result c.coding.result.now.levels c.orientation-orientation.result is.band c.rect-rect.ensures.value (ap (λ (k : Coding). k.levels) c.coding.ensures.value) c.orientation-orientation.ensures c.band-area.ensures.value in
-    shape_of_block s p.resolution p.precinct p.band c.args.j c.block-place.result c.orientation-orientation.result c.kind.result c.shape_at-shape.result place c.orientation-orientation.ensures c.kind.ensures c.shape_at-shape.ensures
+    shape_of_block s p.resolution p.precinct p.band c.args.j c.block-place.result c.orientation-orientation.result c.shape_at-shape.result place c.orientation-orientation.ensures c.shape_at-shape.ensures
 
 pub returns-clause-values : goal.returns-clause-values
 returns-clause-values c =
@@ -77,11 +77,11 @@ returns-clause-fits c =
     let few = few_blocks s p.resolution p.precinct p.band c.args.j c.args.grid.now c.requires.grid c.requires.j in
     let place = place_of s p.resolution p.precinct p.band c.args.j c.args.grid.now c.block-place.result c.requires.grid c.block-place.ensures in
     let area = area_of s p.resolution p.band c.rect-rect.result c.band-area.result c.coding.result.now.levels c.orientation-orientation.result is.band c.rect-rect.ensures.value (ap (λ (k : Coding). k.levels) c.coding.ensures.value) c.orientation-orientation.ensures c.band-area.ensures.value in
-    let shape = shape_of_block s p.resolution p.precinct p.band c.args.j c.block-place.result c.orientation-orientation.result c.kind.result c.shape_at-shape.result place c.orientation-orientation.ensures c.kind.ensures c.shape_at-shape.ensures in
+    let shape = shape_of_block s p.resolution p.precinct p.band c.args.j c.block-place.result c.orientation-orientation.result c.shape_at-shape.result place c.orientation-orientation.ensures c.shape_at-shape.ensures in
     subst IsBlockShape (sym shape) (shape_fits s p.resolution p.precinct p.band c.args.j c.rect-rect.ensures.source few)
 
 pub returns-clause-whole : goal.returns-clause-whole
-returns-clause-whole c = block_long c.block-place.result (plane_at c.band-area.result c.plane-plane.result.now) c.in_ok-values.values.items c.kind.result c.shape_at-shape.result c.in_ok-values.ensures.value c.shape_at-shape.ensures
+returns-clause-whole c = block_long c.block-place.result (plane_at c.band-area.result c.plane-plane.result.now) c.in_ok-values.values.items c.orientation-orientation.result c.shape_at-shape.result c.in_ok-values.ensures.value c.shape_at-shape.ensures
 
 pub returns-clause-small : goal.returns-clause-small
 returns-clause-small c =

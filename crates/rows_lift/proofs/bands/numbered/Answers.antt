@@ -1,8 +1,8 @@
 use Rattle.std.proofs.Common.{◌≡◌, ◌≢◌, ℕ, suc, ◌+◌, ◌-◌, ◌/◌, ◌%◌, ◌∙◌, ap, sym, refl, arith}
 use Rattle.jk_math.specs.declared.rect.Rect.{Rect}
 use Rattle.jk_geom.specs.Rectangles.{band_area}
-use Rattle.jk_geom.specs.declared.bands.Orientation.{Orientation}
-use Rattle.jk_geom.specs.declared.bands.Orientation.TheVariants.{LL}
+use Rattle.jk_math.specs.declared.orientation.Orientation.{Orientation}
+use Rattle.jk_math.specs.declared.orientation.Orientation.TheVariants.{LL}
 use Rattle.jk_wave.specs.Bands.{numbered_area, high_orientation}
 use Rattle.rows_lift.proofs.bands.numbered.Goals as goal
 use Rattle.rows_lift.proofs.bands.numbered.Goals.{in-0, in-1, in_default}

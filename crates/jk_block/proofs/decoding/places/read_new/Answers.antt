@@ -26,7 +26,7 @@ returns-in_ok-read_sign-clause-takes c = λ coder st.
     record {
       next = a.next;
       stands = a.stands;
-      is = new_takes bytes k.shape at.plane x y (progress k coder) cx bit n (done (progress c.read_sign.new.sketch a.next)) (c.zero_context_at-context.ensures.value (lit_in k) at.word at.stripe c.requires.around ∙ ap (λ (s : BlockShape). zero_at s.kind (lit_in k) (column at.word c.args.k) (row at.stripe c.args.k)) c.requires.same) (decide_ok bytes cx coder bit (c.in_ok-bit.ensures.answer coder st))
+      is = new_takes bytes k.shape at.plane x y (progress k coder) cx bit n (done (progress c.read_sign.new.sketch a.next)) (c.zero_context_at-context.ensures.value (lit_in k) at.word at.stripe c.requires.around ∙ ap (λ (s : BlockShape). zero_at s.orientation (lit_in k) (column at.word c.args.k) (row at.stripe c.args.k)) c.requires.same) (decide_ok bytes cx coder bit (c.in_ok-bit.ensures.answer coder st))
           (ap (λ (b : Bool). cond b (read_sign bytes k.shape at.plane x y (progress k n)) (done (progress k n))) c.if-bit.true ∙ read);
     }
 
@@ -43,7 +43,7 @@ returns-else-bit-clause-takes c = λ coder st.
     record {
       next = n;
       stands = c.in_ok-bit.ensures.next coder st;
-      is = new_takes bytes k.shape at.plane x y (progress k coder) cx bit n (done (progress k n)) (c.zero_context_at-context.ensures.value (lit_in k) at.word at.stripe c.requires.around ∙ ap (λ (s : BlockShape). zero_at s.kind (lit_in k) (column at.word c.args.k) (row at.stripe c.args.k)) c.requires.same) (decide_ok bytes cx coder bit (c.in_ok-bit.ensures.answer coder st))
+      is = new_takes bytes k.shape at.plane x y (progress k coder) cx bit n (done (progress k n)) (c.zero_context_at-context.ensures.value (lit_in k) at.word at.stripe c.requires.around ∙ ap (λ (s : BlockShape). zero_at s.orientation (lit_in k) (column at.word c.args.k) (row at.stripe c.args.k)) c.requires.same) (decide_ok bytes cx coder bit (c.in_ok-bit.ensures.answer coder st))
           (ap (λ (b : Bool). cond b (read_sign bytes k.shape at.plane x y (progress k n)) (done (progress k n))) c.if-bit.false);
     }
 
@@ -54,7 +54,7 @@ returns-in_err-bit-clause-takes c =
     let at = c.args.spot in
     let bytes = c.args.decoder.now.bytes in
     let cx = c.zero_context_at-context.result in
-    rw (p.1, p.2) (λ coder st. new_faults bytes k.shape at.plane (column at.word c.args.k) (row at.stripe c.args.k) (progress k coder) cx c.in_err-bit.field-0.0 (c.zero_context_at-context.ensures.value (lit_in k) at.word at.stripe c.requires.around ∙ ap (λ (s : BlockShape). zero_at s.kind (lit_in k) (column at.word c.args.k) (row at.stripe c.args.k)) c.requires.same)
+    rw (p.1, p.2) (λ coder st. new_faults bytes k.shape at.plane (column at.word c.args.k) (row at.stripe c.args.k) (progress k coder) cx c.in_err-bit.field-0.0 (c.zero_context_at-context.ensures.value (lit_in k) at.word at.stripe c.requires.around ∙ ap (λ (s : BlockShape). zero_at s.orientation (lit_in k) (column at.word c.args.k) (row at.stripe c.args.k)) c.requires.same)
     (decide_err bytes cx coder c.in_err-bit.field-0.0 (c.in_err-bit.ensures.answer coder st)))
 
 refused : Fault → Result Progress Fault
@@ -75,5 +75,5 @@ returns-in_err-read_sign-clause-takes c =
     let n = next bytes coder cx in
     let a = c.in_err-read_sign.ensures.takes n (c.in_ok-bit.ensures.next coder st) in
     let read = ap (λ (bs : List ℕ). read_sign bs k.shape at.plane x y (progress k n)) (sym c.in_ok-bit.ensures.bytes) ∙ a in
-    new_takes bytes k.shape at.plane x y (progress k coder) cx bit n (refused c.in_err-read_sign.field-0.0) (c.zero_context_at-context.ensures.value (lit_in k) at.word at.stripe c.requires.around ∙ ap (λ (s : BlockShape). zero_at s.kind (lit_in k) (column at.word c.args.k) (row at.stripe c.args.k)) c.requires.same) (decide_ok bytes cx coder bit (c.in_ok-bit.ensures.answer coder st))
+    new_takes bytes k.shape at.plane x y (progress k coder) cx bit n (refused c.in_err-read_sign.field-0.0) (c.zero_context_at-context.ensures.value (lit_in k) at.word at.stripe c.requires.around ∙ ap (λ (s : BlockShape). zero_at s.orientation (lit_in k) (column at.word c.args.k) (row at.stripe c.args.k)) c.requires.same) (decide_ok bytes cx coder bit (c.in_ok-bit.ensures.answer coder st))
     (ap (λ (b : Bool). cond b (read_sign bytes k.shape at.plane x y (progress k n)) (done (progress k n))) c.if-bit.true ∙ read))
