@@ -23,6 +23,19 @@ const RUN_LENGTH: u8 = 17;
 
 const UNIFORM: u8 = 18;
 
+/// What the places of a word have around them while its decisions are listed.
+#[derive(Clone, Copy)]
+pub struct Surroundings<'a> {
+    /// The places around each place, row by row.
+    pub rings: &'a [u64; 4],
+    /// The places beside each place, and which of them are negative, row by row.
+    pub crosses: &'a [u64; 4],
+    /// The negative places.
+    pub signs: Around,
+    /// The places with the bit 1.
+    pub ones: u64,
+}
+
 /// The other bit, if it is to be flipped.
 #[inline(always)]
 #[tactic(auto, unfolding(jk_scan::specs::Passes::flipped))]
@@ -48,38 +61,35 @@ pub fn write_new(
     block: &BlockPlane<'_>,
     spot: Spot,
     k: u32,
-    rings: &[u64; 4],
-    crosses: &[u64; 4],
-    signs: Around,
-    ones: u64,
+    beside: &Surroundings<'_>,
     bytes: &mut [u8],
     count: usize,
 ) -> usize
     requires spot { IsSpot block.now.shape spot }
     requires place { IsPlace block.now.shape spot k }
-    requires signs { IsAround (bordered (negative_in block.now)) spot.word spot.stripe signs }
-    requires crosses { ShowsSigns block.now spot.word spot.stripe crosses.now }
-    requires ones { ShowsOnes block.now spot.word spot.stripe ones }
+    requires signs { IsAround (bordered (negative_in block.now)) spot.word spot.stripe beside.now.signs }
+    requires crosses { ShowsSigns block.now spot.word spot.stripe beside.now.crosses.now }
+    requires ones { ShowsOnes block.now spot.word spot.stripe beside.now.ones }
     requires room { IsSheet bytes.old (count + 2) }
     ensures listed { (t : ℕ) → IsRing (bordered (lit_at block.now t)) (column spot.word k + 8) (row spot.stripe k + 4)
-        (get_or rings.now (k % 8 - 1) 0) (k / 8)
+        (get_or beside.now.rings.now (k % 8 - 1) 0) (k / 8)
         → IsCross (bordered (lit_at block.now t)) (column spot.word k + 8) (row spot.stripe k + 4)
-        (get_or crosses.now (k % 8 - 1) 0) (k / 8) 0
+        (get_or beside.now.crosses.now (k % 8 - 1) 0) (k / 8) 0
         → told bytes.new result ≡ told bytes.old count
         ++ new_decisions block.now.shape (seen block.now) t (column spot.word k) (row spot.stripe k) }
     ensures few { result ≤ count + 2 }
     ensures sheet { (n : ℕ) → IsSheet bytes.old n → IsSheet bytes.new n }
 {
-    let bit = bit_of(ones, k);
-    let context = zero_context_in(block.shape.orientation, rings, k);
-    let sign = sign_context_in(crosses, k);
+    let bit = bit_of(beside.ones, k);
+    let context = zero_context_in(block.shape.orientation, beside.rings, k);
+    let sign = sign_context_in(beside.crosses, k);
     put_new(
         bytes,
         count,
         context,
         bit,
         sign.context,
-        flip(sign.flip, bit_of(signs.centre, k)),
+        flip(sign.flip, bit_of(beside.signs.centre, k)),
     )
 }
 
@@ -125,15 +135,14 @@ pub fn write_run(
     spot: Spot,
     k: u32,
     found: u32,
-    crosses: &[u64; 4],
-    signs: Around,
+    beside: &Surroundings<'_>,
     bytes: &mut [u8],
     count: usize,
 ) -> usize
     requires spot { IsSpot block.now.shape spot }
     requires place { IsPlace block.now.shape spot k }
-    requires signs { IsAround (bordered (negative_in block.now)) spot.word spot.stripe signs }
-    requires crosses { ShowsSigns block.now spot.word spot.stripe crosses.now }
+    requires signs { IsAround (bordered (negative_in block.now)) spot.word spot.stripe beside.now.signs }
+    requires crosses { ShowsSigns block.now spot.word spot.stripe beside.now.crosses.now }
     requires first { k % 8 ≡ 1 }
     requires found { found ≤ 4 }
     requires rows { 4 * spot.stripe + 4 ≤ block.now.shape.height }
@@ -141,7 +150,7 @@ pub fn write_run(
     ensures listed { (t : ℕ)
         → (found < 4 → IsCross (bordered (lit_at block.now t)) (column spot.word (k + found) + 8)
         (row spot.stripe (k + found) + 4)
-        (get_or crosses.now ((k + found) % 8 - 1) 0) ((k + found) / 8) 0)
+        (get_or beside.now.crosses.now ((k + found) % 8 - 1) 0) ((k + found) / 8) 0)
         → told bytes.new result ≡ told bytes.old count
         ++ run_head block.now.shape (seen block.now) t (column spot.word k) spot.stripe found }
     ensures few { result ≤ count + 4 }
@@ -153,11 +162,11 @@ pub fn write_run(
     let one = put_one(bytes, count, RUN_LENGTH, true);
     let two = put_one(bytes, one, UNIFORM, found >= 2);
     let three = put_one(bytes, two, UNIFORM, found % 2 == 1);
-    let sign = sign_context_in(crosses, k + found);
+    let sign = sign_context_in(beside.crosses, k + found);
     put_one(
         bytes,
         three,
         sign.context,
-        flip(sign.flip, bit_of(signs.centre, k + found)),
+        flip(sign.flip, bit_of(beside.signs.centre, k + found)),
     )
 }

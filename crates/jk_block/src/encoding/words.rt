@@ -18,7 +18,7 @@ ghost use Rattle.jk_block.specs.encoding.Viewed.{seen, lit_at, spread_at, IsFlag
 use super::ahead::with_reached;
 use super::decisions::{DecisionList, make_room};
 use super::flags::Flags;
-use super::places::{bit_of, first_row, write_new, write_refined, write_run};
+use super::places::{Surroundings, bit_of, first_row, write_new, write_refined, write_run};
 use super::plane::BlockPlane;
 use crate::spot::Spot;
 use jk_math::Fault;
@@ -62,6 +62,12 @@ pub fn write_propagation(
     let signs = seen_around(own.negative, own.shape, spot.word, spot.stripe);
     let rings = ring_words(seen, around.centre);
     let crosses = cross_words(seen, around.centre, signs);
+    let beside = Surroundings {
+        rings: &rings,
+        crosses: &crosses,
+        signs,
+        ones,
+    };
     flags.visit_all(own.shape, spot, all);
     flags.light_all(own.shape, spot, all & ones);
     make_room(&mut list.bytes, list.count)?;
@@ -71,7 +77,7 @@ pub fn write_propagation(
     while left != 0 {
         let k = left.trailing_zeros();
         left &= left - 1;
-        count = write_new(&own, spot, k, &rings, &crosses, signs, ones, bytes, count);
+        count = write_new(&own, spot, k, &beside, bytes, count);
     }
     list.count = count;
     Ok(())
@@ -204,6 +210,12 @@ pub fn write_cleanup(
     let signs = seen_around(own.negative, own.shape, spot.word, spot.stripe);
     let rings = ring_words(seen, before);
     let crosses = cross_words(seen, before, signs);
+    let beside = Surroundings {
+        rings: &rings,
+        crosses: &crosses,
+        signs,
+        ones,
+    };
     let still = run_columns(own.shape, spot, seen, before, limits);
     flags.light_all(own.shape, spot, new);
     make_room(&mut list.bytes, list.count)?;
@@ -214,10 +226,10 @@ pub fn write_cleanup(
         if bit_of(still, k) {
             let found = first_row(ones, k);
             left &= 0xFFFF_FFFF_FFFF_FFFE << (k + found);
-            count = write_run(&own, spot, k, found, &crosses, signs, bytes, count);
+            count = write_run(&own, spot, k, found, &beside, bytes, count);
         } else {
             left &= left - 1;
-            count = write_new(&own, spot, k, &rings, &crosses, signs, ones, bytes, count);
+            count = write_new(&own, spot, k, &beside, bytes, count);
         }
     }
     list.count = count;

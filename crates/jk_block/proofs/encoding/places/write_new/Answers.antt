@@ -18,8 +18,8 @@ returns-clause-listed c = λ t ring cross.
     let y = row at.stripe k in
     let bit = c.bit_of-bit.result in
     let sign = c.sign_context_in-sign.result in
-    let one : bit ≡ is_one ((seen v).magnitude x y) = c.bit_of-bit.ensures ∙ one_at v at k c.args.ones c.requires.place c.requires.ones in
-    let own : c.bit_of.result ≡ (seen v).negative x y = c.bit_of.ensures ∙ sign_bit v at k c.args.signs c.requires.place c.requires.signs in
+    let one : bit ≡ is_one ((seen v).magnitude x y) = c.bit_of-bit.ensures ∙ one_at v at k c.args.beside.now.ones c.requires.place c.requires.ones in
+    let own : c.bit_of.result ≡ (seen v).negative x y = c.bit_of.ensures ∙ sign_bit v at k c.args.beside.now.signs c.requires.place c.requires.signs in
     c.put_new.ensures.told
     ∙ ap (λ ds. told c.args.bytes.now c.args.count ++ ds)
     (new_is v.shape (seen v) t x y c.zero_context_in-context.result bit (sign.context, c.flip.result) (c.zero_context_in-context.ensures.value (lit_at v t) x y ring) one

@@ -35,7 +35,7 @@ returns-clause-listed c = λ t cross.
     let place = row_place s at k f c.requires.place c.requires.first few c.requires.rows in
     let x = column at.word (k + f) in
     let y = row at.stripe (k + f) in
-    let bit : c.bit_of.result ≡ p.negative x y = c.bit_of.ensures ∙ sign_bit v at (k + f) c.args.signs place c.requires.signs in
+    let bit : c.bit_of.result ≡ p.negative x y = c.bit_of.ensures ∙ sign_bit v at (k + f) c.args.beside.now.signs place c.requires.signs in
     let sign : (c.sign_context_in-sign.result.context, c.flip.result) ≡ sign_decision s p t (column at.word k) (4 * at.stripe + f) =
     sign_is v t x y c.sign_context_in-sign.result c.bit_of.result c.flip.result
     (c.sign_context_in-sign.ensures.value (lit_at v t) (negative_in v) x y (cross few) (c.requires.crosses (k + f) place.within place.on_row)) bit c.flip.ensures
