@@ -17,7 +17,7 @@ use Rattle.jk_block.specs.declared.decoding.Block.{Block}
 use Rattle.jk_block.specs.Meaning.{values_of}
 use Rattle.jk_block.specs.Reading.{Progress, times, pass_at, blank, coefficients, block_at}
 use Rattle.jk_walk.specs.TilePackets.{Body}
-use Rattle.jk_tile.specs.declared.bodies.BodyPlace.{BodyPlace}
+use Rattle.jk_tile.specs.declared.decoding.bodies.BodyPlace.{BodyPlace}
 use Rattle.jk_tile.specs.TileBlocks.{segment_of, passes_in, zeros_in}
 use Rattle.jk_tile.specs.TileReading.{bodies_values}
 use Rattle.jk_tile.specs.Gathered.{body_of}

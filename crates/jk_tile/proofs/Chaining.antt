@@ -10,7 +10,7 @@ use Rattle.jk_packet.specs.declared.header.Part.{Part}
 use Rattle.jk_walk.specs.declared.places.PacketPlace.{PacketPlace}
 use Rattle.jk_walk.specs.TilePackets.{Body}
 use Rattle.jk_walk.specs.WalkReading.{bodies_at}
-use Rattle.jk_tile.specs.declared.chains.PacketChains.{PacketChains}
+use Rattle.jk_tile.specs.declared.decoding.chains.PacketChains.{PacketChains}
 use Rattle.jk_tile.specs.Gathered.{no_place, place_in, bodies_in, AreNumbers, IsChain, AreByPrecinct}
 use Rattle.jk_tile.proofs.Gathering.{same_test}
 

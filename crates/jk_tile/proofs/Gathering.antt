@@ -13,7 +13,7 @@ use Rattle.jk_packet.specs.declared.header.Part.{Part}
 use Rattle.jk_walk.specs.declared.places.PacketPlace.{PacketPlace}
 use Rattle.jk_walk.specs.TilePackets.{slice_of, Body}
 use Rattle.jk_walk.specs.WalkReading.{bodies_at}
-use Rattle.jk_tile.specs.declared.bodies.BodyPlace.{BodyPlace}
+use Rattle.jk_tile.specs.declared.decoding.bodies.BodyPlace.{BodyPlace}
 use Rattle.jk_tile.specs.TileBlocks.{block_bodies}
 use Rattle.jk_tile.specs.Gathered.{place_in, list_at, body_of, bodies_in, IsInside, AreByBlock}
 

@@ -23,8 +23,8 @@ use Rattle.jk_walk.specs.TilePackets.{Body, orientations, band_number, planes_of
 use Rattle.jk_walk.specs.WalkReading.{place_end}
 use Rattle.jk_tile.specs.TileBlocks.{orientation_at, grid_at, block_at_place, shape_of_area, block_bodies}
 use Rattle.jk_tile.specs.TileReading.{each, tested, is_met, met_tested, precinct_part_tested, resolution_part_tested, bodies_of, bodies_values, block_values, values_or, block_with}
-use Rattle.jk_tile.specs.declared.bodies.BodyPlace.{BodyPlace}
-use Rattle.jk_tile.specs.declared.chains.PacketChains.{PacketChains}
+use Rattle.jk_tile.specs.declared.decoding.bodies.BodyPlace.{BodyPlace}
+use Rattle.jk_tile.specs.declared.decoding.chains.PacketChains.{PacketChains}
 use Rattle.jk_tile.specs.Gathered.{place_in, list_at, AreNumbers, IsChain, AreByPrecinct, AreByBlock, bodies_in, body_of, IsInside}
 use Rattle.jk_tile.specs.Filling.{has, IsPartOf, touches}
 use Rattle.jk_tile.specs.Source.{Source, IsSource, IsBlockShape, source_bodies, source_coefficient, source_part, IsPlane, ArePlanes, Keeps, ShowsBlocks, ShowsPrecinct, block_count, band_lists, resolution_at}

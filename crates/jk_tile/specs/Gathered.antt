@@ -6,8 +6,8 @@ use Rattle.jk_order.specs.PacketOrder.{is_of}
 use Rattle.jk_walk.specs.declared.places.PacketPlace.{PacketPlace}
 use Rattle.jk_walk.specs.TilePackets.{slice_of, Body}
 use Rattle.jk_walk.specs.WalkReading.{bodies_at}
-use Rattle.jk_tile.specs.declared.bodies.BodyPlace.{BodyPlace}
-use Rattle.jk_tile.specs.declared.chains.PacketChains.{PacketChains}
+use Rattle.jk_tile.specs.declared.decoding.bodies.BodyPlace.{BodyPlace}
+use Rattle.jk_tile.specs.declared.decoding.chains.PacketChains.{PacketChains}
 use Rattle.jk_tile.specs.TileBlocks.{block_bodies}
 
 -- stands where a packet isn't

@@ -20,7 +20,7 @@ use Rattle.jk_wave.specs.Regions.{IsRegion, part_area}
 use Rattle.jk_wave.specs.Resolutions.{resolution_of}
 use Rattle.jk_tile.specs.TileReading.{bodies_of, coefficient_at, each, resolution_part_tested}
 use Rattle.jk_tile.specs.Gathered.{list_at}
-use Rattle.jk_tile.specs.declared.reading.BandPart.{BandPart}
+use Rattle.jk_tile.specs.declared.bands.BandPart.{BandPart}
 use Rattle.jk_math.specs.Answer.{◌>>=◌}
 use Rattle.jk_math.specs.declared.fault.Fault.{Fault}
 use Rattle.std.specs.Global.{Vec}

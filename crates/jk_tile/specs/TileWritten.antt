@@ -12,7 +12,7 @@ use Rattle.jk_wave.specs.Bands.{numbered_area, coefficients_of}
 use Rattle.jk_geom.specs.Precincts.{precinct_number}
 use Rattle.jk_walk.specs.TilePackets.{orientations, band_number, planes_of}
 use Rattle.jk_tile.specs.TileBlocks.{block_at_place, block_shape}
-use Rattle.jk_tile.specs.declared.reading.BandPart.{BandPart}
+use Rattle.jk_tile.specs.declared.bands.BandPart.{BandPart}
 
 -- the coefficients of code-block j of sub-band i in precinct n of resolution r, row by row, where f gives them by sub-band, column and row
 abbrev pub block_list : Rect → Coding → (ℕ → ℕ → ℕ → ℤ) → (r n i j : ℕ) → List ℤ

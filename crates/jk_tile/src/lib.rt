@@ -1,29 +1,13 @@
-//! The samples of a tile from its packets: code-blocks, sub-bands, the wavelet, the colour transform and the level shift
-//! (T.800 Annexes D to G).
+//! The samples of a tile from its packets, and its packets from the samples: code-blocks, sub-bands,
+//! the wavelet, the colour transform and the level shift (T.800 Annexes D to G). Each direction is a
+//! wing, `decoding` and `encoding`; beside them stands what both need.
 #![tactic(auto)]
 
-mod block;
-mod bodies;
-mod chains;
-mod colour;
-mod component;
-mod cutting;
+mod bands;
+mod decoding;
 mod encoding;
-mod filling;
-mod needs;
-mod packets;
-mod precincts;
-mod reading;
 mod samples;
-mod subbands;
-mod tables;
-mod tile;
-mod values;
-mod writing;
 
-pub use encoding::encode_tile;
-pub use filling::put;
-pub use needs::exponents;
+pub use decoding::{decode_part, decode_tile, put};
+pub use encoding::{encode_tile, exponents, tile_bands};
 pub use samples::level_shift;
-pub use subbands::tile_bands;
-pub use tile::{decode_part, decode_tile};

@@ -1,0 +1,57 @@
+use Rattle.std.proofs.Common.{◌<◌, length, [], ◌∙◌, arith}
+use Rattle.std.specs.Prelude.{slice_index}
+use Rattle.std.proofs.lemmas.List.{get_or_default}
+use Rattle.jk_params.specs.Profile.{siz_of}
+use Rattle.jk_geom.specs.Rectangles.{tile_area}
+use Rattle.jk_tile.proofs.Forwards.{tile_is_part}
+use Rattle.jk_tile.proofs.TileAreas.{tile_is_area}
+use Rattle.jk_tile.proofs.Needing.{bands_at, bands_count, bands_long, bands_small, need_more, need_all}
+use Rattle.jk_tile.proofs.encoding.needs.raise_by_tile.Goals as goal
+
+pub raise-requires-clause-few : goal.raise-requires-clause-few
+raise-requires-clause-few c =
+    let p = c.args.image.now in
+    let q = c.args.parameters.now in
+    let a = tile_area (siz_of p q) c.args.number in
+    let all = c.in_ok-bands.ensures.bands in
+    let count = bands_count p q a c.in_ok-bands.bands.items all in
+    let same = c.in_ok-bands.bands.ok in
+    let less : c.loop-c.c < length c.in_ok-bands.bands.items = omega (arith, c.loop-c-test.true, c.len-c-end.ensures, same.0, c.loop-c.auto.c-end) in
+    let e = c.index.ensures ∙ get_or_default c.in_ok-bands.bands.items c.loop-c.c c.index.result.now [] less ∙ bands_at p q a c.in_ok-bands.bands.items c.loop-c.c all (omega (arith, less, count)) in
+    let levels = c.requires.written.levels in
+    omega (arith, levels, bands_long p q a c.loop-c.c c.index.result.now e)
+
+pub raise-requires-clause-small : goal.raise-requires-clause-small
+raise-requires-clause-small c =
+    let p = c.args.image.now in
+    let q = c.args.parameters.now in
+    let a = tile_area (siz_of p q) c.args.number in
+    let part = tile_is_part p q c.args.number (tile_is_area (siz_of p q) c.args.number c.requires.written.siz c.requires.number) in
+    let all = c.in_ok-bands.ensures.bands in
+    let count = bands_count p q a c.in_ok-bands.bands.items all in
+    let same = c.in_ok-bands.bands.ok in
+    let less : c.loop-c.c < length c.in_ok-bands.bands.items = omega (arith, c.loop-c-test.true, c.len-c-end.ensures, same.0, c.loop-c.auto.c-end) in
+    let e = c.index.ensures ∙ get_or_default c.in_ok-bands.bands.items c.loop-c.c c.index.result.now [] less ∙ bands_at p q a c.in_ok-bands.bands.items c.loop-c.c all (omega (arith, less, count)) in
+    bands_small p q a c.loop-c.c c.index.result.now c.requires.picture c.requires.written part (omega (arith, less, count)) e
+
+pub loop-c-preserved : goal.loop-c-preserved
+loop-c-preserved c = λ b lt.
+    let p = c.args.image.now in
+    let q = c.args.parameters.now in
+    let t = c.args.number in
+    let a = tile_area (siz_of p q) t in
+    let all = c.in_ok-bands.ensures.bands in
+    let count = bands_count p q a c.in_ok-bands.bands.items all in
+    let same = c.in_ok-bands.bands.ok in
+    let less : c.loop-c.c < length c.in_ok-bands.bands.items = omega (arith, c.loop-c-test.true, c.len-c-end.ensures, same.0, c.loop-c.auto.c-end) in
+    let e = c.index.ensures ∙ get_or_default c.in_ok-bands.bands.items c.loop-c.c c.index.result.now [] less ∙ bands_at p q a c.in_ok-bands.bands.items c.loop-c.c all (omega (arith, less, count)) in
+    need_more p q t c.loop-c.c b (slice_index c.args.needs.now b) (slice_index c.loop-c.needs b) (slice_index c.raise.new.needs b) c.index.result.now e lt (c.loop-c.invariant b lt)
+    (c.raise.ensures b (omega (arith, lt, bands_long p q a c.loop-c.c c.index.result.now e)))
+
+pub returns-clause-needs : goal.returns-clause-needs
+returns-clause-needs c = λ b lt.
+    let p = c.args.image.now in
+    let q = c.args.parameters.now in
+    let same = c.in_ok-bands.bands.ok in
+    let count = bands_count p q (tile_area (siz_of p q) c.args.number) c.in_ok-bands.bands.items c.in_ok-bands.ensures.bands in
+    c.loop-c.invariant b lt ∙ need_all p q c.args.number b (slice_index c.args.needs.now b) c.loop-c.c (omega (arith, c.loop-c-test.false, c.loop-c.auto.c-end, c.len-c-end.ensures, same.0, count))

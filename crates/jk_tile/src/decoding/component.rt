@@ -1,0 +1,104 @@
+//! A part of a tile-component whose code-blocks are decoded.
+
+ghost use Rattle.std.specs.Prelude.{◌≡◌, ◌<◌, ◌≤◌, ◌+◌, ◌-◌, ◌*◌, ◌^◌, ◌∷◌, [], length, Ok, IfOk, All};
+ghost use Rattle.jk_math.specs.Answer.{Answers};
+ghost use Rattle.jk_math.specs.Raster.{raster};
+ghost use Rattle.jk_math.specs.Signed.{IsBelow};
+ghost use Rattle.jk_geom.specs.Rectangles.{resolution_area};
+ghost use Rattle.jk_tile.specs.TileMeaning.{values_of};
+ghost use Rattle.jk_tile.specs.TileReading.{component_tested};
+ghost use Rattle.jk_tile.specs.Source.{IsSource, source_bodies, source_coefficient};
+
+use jk_marks::Coding;
+use jk_math::Rect;
+use jk_walk::PacketPlace;
+use jk_wave::Region;
+use std::marker::Model;
+
+/// A part of a component of a tile: the codestream, the part, the component's coding, the packets
+/// of the tile, and the number of the component.
+#[derive(Drop)]
+pub(crate) struct CodedComponent<'a> {
+    bytes: &'a [u8],
+    region: Region,
+    coding: &'a Coding,
+    packets: &'a [PacketPlace],
+    number: u8,
+}
+
+impl<'a> Model for CodedComponent<'a> {
+    ghost use Rattle.jk_tile.specs.Source.{Source, IsSource};
+
+    ghost Value = { Source };
+
+    ghost view = { λ c. record { bytes = c.bytes.now; region = c.region; coding = c.coding.now; packets = c.packets.now; component = c.number } };
+
+    ghost invariant = { λ c. IsSource (record { bytes = c.bytes.now; region = c.region; coding = c.coding.now; packets = c.packets.now; component = c.number }) };
+}
+
+impl<'a> CodedComponent<'a> {
+    /// A part of a component of a tile.
+    pub(crate) fn new(
+        bytes: &'a [u8],
+        region: Region,
+        coding: &'a Coding,
+        packets: &'a [PacketPlace],
+        number: u8,
+    ) -> CodedComponent<'a>
+        requires { IsSource (record { bytes = bytes.now; region = region; coding = coding.now; packets = packets.now; component = number }) }
+        ensures { result ≡ record { bytes = bytes.now; region = region; coding = coding.now; packets = packets.now; component = number } }
+    {
+        CodedComponent {
+            bytes,
+            region,
+            coding,
+            packets,
+            number,
+        }
+    }
+
+    /// The codestream.
+    pub(crate) fn bytes(&self) -> &'a [u8]
+        ensures { result.now ≡ self.now.bytes }
+    {
+        self.bytes
+    }
+
+    /// The part.
+    pub(crate) fn region(&self) -> Region
+        ensures value { result ≡ self.now.region }
+        ensures source { IsSource self.now }
+    {
+        self.region
+    }
+
+    /// The tile's rectangle.
+    pub(crate) fn rect(&self) -> Rect
+        ensures value { result ≡ self.now.region.rect }
+        ensures source { IsSource self.now }
+    {
+        self.region.rect
+    }
+
+    /// How the component is coded.
+    pub(crate) fn coding(&self) -> &'a Coding
+        ensures value { result.now ≡ self.now.coding }
+        ensures source { IsSource self.now }
+    {
+        self.coding
+    }
+
+    /// The packets of the tile.
+    pub(crate) fn packets(&self) -> &'a [PacketPlace]
+        ensures { result.now ≡ self.now.packets }
+    {
+        self.packets
+    }
+
+    /// The number of the component.
+    pub(crate) fn number(&self) -> u8
+        ensures { result ≡ self.now.component }
+    {
+        self.number
+    }
+}

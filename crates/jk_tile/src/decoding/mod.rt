@@ -1,0 +1,16 @@
+//! A tile from its packets. A `tile` goes component by component, and a `component` resolution by
+//! resolution (`reading`): `chains` tell the packets of each precinct, `bodies` what these have of each
+//! code-block, a `block` gives coefficients, and `filling` puts them at their places in the sub-bands.
+//! The wavelet makes values of the sub-bands, `colour` and the level shift make samples of these.
+
+mod block;
+mod bodies;
+mod chains;
+mod colour;
+mod component;
+mod filling;
+mod reading;
+mod tile;
+
+pub use filling::put;
+pub use tile::{decode_part, decode_tile};

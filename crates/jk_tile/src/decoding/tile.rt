@@ -1,0 +1,160 @@
+//! A tile from its packets.
+
+ghost use Rattle.std.specs.Prelude.{◌≡◌, ℕ, ◌<◌, ◌≤◌, ◌+◌, ◌-◌, ◌*◌, ◌++◌, ◌^◌, length, map, All, IfOk, IfErr, OnOk, Ok};
+ghost use Rattle.std.specs.List.{AllByRecursion};
+ghost use Rattle.jk_math.specs.Answer.{Answers};
+ghost use Rattle.jk_math.specs.Memory.{IsMemory};
+ghost use Rattle.jk_math.specs.Picture.{lists_of};
+ghost use Rattle.jk_math.specs.Signed.{IsBelow};
+ghost use Rattle.jk_marks.specs.Siz.{tile_count};
+ghost use Rattle.jk_params.specs.Headers.{AreHeaders, tile_in};
+ghost use Rattle.jk_walk.specs.WalkReading.{place_end};
+ghost use Rattle.jk_tile.specs.Filling.{IsPartOf};
+ghost use Rattle.jk_tile.specs.TileMeaning.{shown_area};
+ghost use Rattle.jk_tile.specs.TileReading.{part_values_at, part_planes_at, tile_planes_at};
+ghost use Rattle.jk_tile.specs.Gathered.{list_at};
+ghost use Rattle.jk_tile.specs.Source.{bands_at, source_values};
+
+use crate::decoding::colour::uncolour;
+use crate::decoding::component::CodedComponent;
+use crate::decoding::reading::read_resolution;
+use crate::samples::all_to_samples;
+use jk_geom::{resolution, tile};
+use jk_math::{Fault, Planes, Rect};
+use jk_params::Codestream;
+use jk_walk::{PacketPlace, TilePackets};
+use jk_wave::{BandParts, Region, synthesise_part};
+use std::alloc::Global;
+
+/// Puts the sub-bands of a resolution behind those of the lower ones.
+fn add_bands(bands: &mut Vec<Vec<i32>>, more: Vec<Vec<i32>>) -> Result<(), Fault>
+    ensures bands { OnOk result (bands.new.items ≡ bands.old.items ++ more.items) }
+    ensures memory { IfErr result IsMemory }
+{
+    let mut more = more;
+    bands.append(&mut more)?;
+    Ok(())
+}
+
+/// The parts of all sub-bands, each a list of coefficients row by row.
+#[tactic(auto, unfolding(crate::specs::Source::bands_at))]
+fn read_bands(alloc: Global, source: &CodedComponent<'_>) -> Result<Vec<Vec<i32>>, Fault>
+    ensures exact { Answers (λ v. lists_of v.items) result (bands_at source.now) }
+    ensures small { IfOk result (λ v. (b : ℕ) → All (IsBelow (2 ^ 23)) (list_at v.items b)) }
+{
+    let region = source.region();
+    let mut segment = Vec::new(alloc);
+    let mut bands = Vec::new(alloc);
+    for r in 0..region.top + 1 {
+        let planes = read_resolution(alloc, source, r, &mut segment)?;
+        add_bands(&mut bands, planes)?;
+    }
+    Ok(bands)
+}
+
+/// A part of a component of a tile, row by row.
+pub(crate) fn read_component(alloc: Global, source: &CodedComponent<'_>) -> Result<Vec<i32>, Fault>
+    ensures exact { Answers (λ v. v.items) result (source_values source.now) }
+    ensures small { IfOk result (λ v. All (IsBelow (2 ^ 29)) v.items) }
+{
+    let parts = BandParts {
+        region: source.region(),
+        bands: Planes::new(read_bands(alloc, source)?),
+    };
+    synthesise_part(alloc, &parts)
+}
+
+/// The values of all components of a part of a tile, `reduce` resolutions below their highest, each
+/// row by row.
+#[tactic(auto, unfolding(crate::specs::TileReading::part_values_at))]
+fn read_components(
+    alloc: Global,
+    headers: &Codestream,
+    bytes: &[u8],
+    number: usize,
+    packets: &[PacketPlace],
+    reduce: u8,
+    area: &Rect,
+) -> Result<Vec<Vec<i32>>, Fault>
+    requires sound { AreHeaders (length bytes.now) headers.now }
+    requires number { number < tile_count headers.now.siz }
+    requires packets { AllByRecursion (λ w. place_end w ≤ length bytes.now) packets.now }
+    requires few { length packets.now ≤ 2 ^ 24 }
+    requires levels { AllByRecursion (λ k. reduce ≤ k.levels) (tile_in headers.now.tiles number).codings }
+    requires inside { IsPartOf area.now (shown_area headers.now.siz number reduce) }
+    ensures exact { Answers (λ v. lists_of v.items) result (part_values_at bytes.now headers.now number reduce area.now packets.now) }
+    ensures small { IfOk result (λ v. (c : ℕ) → All (IsBelow (2 ^ 29)) (list_at v.items c)) }
+{
+    let rect = tile(headers.siz(), number as u32);
+    let codings = headers.codings(number).as_slice();
+    let mut values = Vec::new(alloc);
+    for c in 0..codings.len() {
+        let coding = &codings[c];
+        let region = Region {
+            rect,
+            levels: coding.levels,
+            top: coding.levels - reduce,
+            area: *area,
+        };
+        let source = CodedComponent::new(bytes, region, coding, packets, c as u8);
+        values.push(read_component(alloc, &source)?)?;
+    }
+    Ok(values)
+}
+
+/// The samples of a part of a tile at a reduction, component by component, each row by row, from
+/// the tile's packets, which [`jk_walk::read_packets`] reads. The part is a rectangle of the
+/// reduced image.
+///
+/// The faults of [`decode_tile`], of those code-blocks alone that have a coefficient on which a
+/// sample of the part depends. Others are not decoded.
+#[tactic(auto, unfolding(crate::specs::TileReading::part_planes_at))]
+pub fn decode_part(
+    alloc: Global,
+    headers: &Codestream,
+    bytes: &[u8],
+    number: usize,
+    packets: &TilePackets,
+    reduce: u8,
+    area: &Rect,
+) -> Result<Vec<Vec<i32>>, Fault>
+    requires sound { AreHeaders (length bytes.now) headers.now }
+    requires number { number < tile_count headers.now.siz }
+    requires packets { AllByRecursion (λ w. place_end w ≤ length bytes.now) packets.now }
+    requires levels { AllByRecursion (λ k. reduce ≤ k.levels) (tile_in headers.now.tiles number).codings }
+    requires inside { IsPartOf area.now (shown_area headers.now.siz number reduce) }
+    ensures exact { Answers (λ v. lists_of v.items) result (part_planes_at bytes.now headers.now number reduce area.now packets.now) }
+{
+    let packets = packets.as_slice();
+    let mut values = read_components(alloc, headers, bytes, number, packets, reduce, area)?;
+    if headers.cod(number).colour {
+        uncolour(alloc, &mut values);
+    }
+    all_to_samples(headers.siz(), &mut values);
+    Ok(values)
+}
+
+/// The samples of a tile at a reduction, component by component, each row by row, from its packets,
+/// which [`jk_walk::read_packets`] reads.
+///
+/// The first of these faults, by component, resolution, precinct, sub-band and code-block:
+/// [`Fault::TooManyPasses`] and [`Fault::CodeOutOfInterval`]. Code-blocks of resolutions that
+/// aren't asked for are not decoded.
+pub fn decode_tile(
+    alloc: Global,
+    headers: &Codestream,
+    bytes: &[u8],
+    number: usize,
+    packets: &TilePackets,
+    reduce: u8,
+) -> Result<Vec<Vec<i32>>, Fault>
+    requires sound { AreHeaders (length bytes.now) headers.now }
+    requires number { number < tile_count headers.now.siz }
+    requires packets { AllByRecursion (λ w. place_end w ≤ length bytes.now) packets.now }
+    requires levels { AllByRecursion (λ k. reduce ≤ k.levels) (tile_in headers.now.tiles number).codings }
+    ensures exact { Answers (λ v. lists_of v.items) result (tile_planes_at bytes.now headers.now number reduce packets.now) }
+{
+    let rect = tile(headers.siz(), number as u32);
+    let area = resolution(&rect, reduce, 0);
+    decode_part(alloc, headers, bytes, number, packets, reduce, &area)
+}

@@ -1,0 +1,17 @@
+//! A tile into its packets. `values` of its samples, with the level shift and the colour transform, go
+//! through the wavelet into `subbands`, and `needs` are the exponents that make room for these. `writing`
+//! codes the code-blocks, cut into layers by `tables`; `precincts` and `packets` give them their order.
+
+mod cutting;
+mod needs;
+mod packets;
+mod precincts;
+mod subbands;
+mod tables;
+mod tile;
+mod values;
+mod writing;
+
+pub use needs::exponents;
+pub use subbands::tile_bands;
+pub use tile::encode_tile;

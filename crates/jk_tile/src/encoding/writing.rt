@@ -1,0 +1,215 @@
+//! The code-blocks of a tile-component that is written.
+
+ghost use Rattle.std.specs.Prelude.{◌≡◌, ◌<◌, ◌≤◌, ◌*◌, ◌^◌, ◌++◌, length, All, unsigned_abs, IfOk, IfErr, OnOk};
+ghost use Rattle.std.specs.List.{flat_map};
+ghost use Rattle.jk_math.specs.Memory.{IsMemory};
+ghost use Rattle.jk_marks.specs.Coding.{IsCoding};
+ghost use Rattle.jk_geom.specs.Blocks.{IsGrid};
+ghost use Rattle.jk_geom.specs.Precincts.{precinct_number};
+ghost use Rattle.jk_block.specs.CodedBlocks.{contents, shape_of};
+ghost use Rattle.jk_walk.specs.TilePackets.{orientations, band_number};
+ghost use Rattle.jk_tile.specs.PacketsWritten.{IsCodedBlock, band_tables_at, precinct_tables};
+ghost use Rattle.jk_tile.specs.Source.{IsBlockShape};
+ghost use Rattle.jk_tile.specs.TileBlocks.{grid_at, block_shape};
+ghost use Rattle.jk_tile.specs.TileWritten.{block_list, coded_at, coefficient_of, AreWrittenBands, IsWrittenPart};
+
+use crate::bands::{BandPart, band_count, band_planes, orientation, shape_at};
+use crate::encoding::cutting::cut_out;
+use crate::encoding::tables::table;
+use jk_block::{Block, CodedBlock, code};
+use jk_geom::{BlockGrid, band, blocks};
+use jk_marks::Coding;
+use jk_math::{Fault, Planes, Rect};
+use jk_packet::BlockTable;
+use std::alloc::Global;
+use std::marker::Model;
+
+/// A component of a tile that is written: the tile's rectangle, the component's coding, the number of layers, and its
+/// sub-bands in the order of QCD.
+#[derive(Drop)]
+pub(crate) struct BandSource<'a> {
+    rect: Rect,
+    coding: &'a Coding,
+    layers: u16,
+    bands: &'a Planes,
+}
+
+impl<'a> Model for BandSource<'a> {
+    ghost use Rattle.jk_tile.specs.TileWritten.{WrittenBands, AreWrittenBands};
+
+    ghost Value = { WrittenBands };
+
+    ghost view = { λ s. record { rect = s.rect; coding = s.coding.now; layers = s.layers; bands = s.bands.now } };
+
+    ghost invariant = { λ s. AreWrittenBands (record { rect = s.rect; coding = s.coding.now; layers = s.layers; bands = s.bands.now }) };
+}
+
+impl<'a> BandSource<'a> {
+    /// A component of a tile.
+    pub(crate) fn new(
+        rect: Rect,
+        coding: &'a Coding,
+        layers: u16,
+        bands: &'a Planes,
+    ) -> BandSource<'a>
+        requires { AreWrittenBands (record { rect = rect; coding = coding.now; layers = layers; bands = bands.now }) }
+        ensures { result ≡ record { rect = rect; coding = coding.now; layers = layers; bands = bands.now } }
+    {
+        BandSource {
+            rect,
+            coding,
+            layers,
+            bands,
+        }
+    }
+
+    /// The tile's rectangle.
+    pub(crate) fn rect(&self) -> Rect
+        ensures value { result ≡ self.now.rect }
+        ensures source { AreWrittenBands self.now }
+    {
+        self.rect
+    }
+
+    /// How the component is coded.
+    pub(crate) fn coding(&self) -> &'a Coding
+        ensures value { result.now ≡ self.now.coding }
+        ensures sound { IsCoding self.now.coding }
+    {
+        self.coding
+    }
+
+    /// How many layers there are.
+    pub(crate) fn layers(&self) -> u16
+        ensures { result ≡ self.now.layers }
+    {
+        self.layers
+    }
+
+    /// The sub-bands.
+    pub(crate) fn bands(&self) -> &'a Planes
+        ensures { result.now ≡ self.now.bands }
+    {
+        self.bands
+    }
+}
+
+/// The number in QCD of sub-band `i` of a resolution.
+pub(crate) fn number_of(r: u8, i: u8) -> usize
+    requires { i < length (orientations r) }
+    ensures { result ≡ band_number r i }
+{
+    if r == 0 {
+        0
+    } else {
+        3 * (r as usize - 1) + 1 + i as usize
+    }
+}
+
+/// The coefficients of code-block `j` of a part of a sub-band.
+fn block_at(
+    alloc: Global,
+    source: &BandSource<'_>,
+    part: BandPart,
+    grid: &BlockGrid,
+    j: u32,
+) -> Result<Block, Fault>
+    requires part { IsWrittenPart source.now part }
+    requires grid { grid.now ≡ grid_at source.now.rect source.now.coding part.resolution part.precinct part.band }
+    requires sound { IsGrid grid.now }
+    requires j { j < grid.now.across * grid.now.down }
+    ensures shape { IfOk result (λ b. shape_of b ≡ block_shape source.now.rect source.now.coding part.resolution part.precinct part.band j) }
+    ensures values { IfOk result (λ b. b.values.items
+        ≡ block_list source.now.rect source.now.coding (coefficient_of source.now) part.resolution part.precinct part.band j) }
+    ensures fits { IfOk result (λ b. IsBlockShape (shape_of b)) }
+    ensures whole { IfOk result (λ b. length b.values.items ≡ b.width * b.height) }
+    ensures small { IfOk result (λ b. All (λ v. unsigned_abs v < 2 ^ 23) b.values.items) }
+    ensures memory { IfErr result IsMemory }
+{
+    let rect = source.rect();
+    let orientation = orientation(part.resolution, part.band);
+    let area = band(&rect, source.coding().levels, part.resolution, orientation);
+    let place = grid.block(j);
+    let plane = source.bands().plane(number_of(part.resolution, part.band));
+    let values = cut_out(alloc, &area, plane, &place)?;
+    let shape = shape_at(&place, orientation);
+    Ok(Block {
+        width: shape.width,
+        height: shape.height,
+        orientation: shape.orientation,
+        values,
+    })
+}
+
+/// Codes code-block `j` of a part of a sub-band.
+pub(crate) fn code_at(
+    alloc: Global,
+    source: &BandSource<'_>,
+    part: BandPart,
+    grid: &BlockGrid,
+    j: u32,
+) -> Result<CodedBlock, Fault>
+    requires part { IsWrittenPart source.now part }
+    requires grid { grid.now ≡ grid_at source.now.rect source.now.coding part.resolution part.precinct part.band }
+    requires sound { IsGrid grid.now }
+    requires j { j < grid.now.across * grid.now.down }
+    ensures block { IfOk result IsCodedBlock }
+    ensures coded { IfOk result (λ k. contents k
+        ≡ coded_at source.now.rect source.now.coding (coefficient_of source.now) part.resolution part.precinct part.band j) }
+    ensures memory { IfErr result IsMemory }
+{
+    let block = block_at(alloc, source, part, grid, j)?;
+    code(alloc, &block)
+}
+
+/// Appends what is written of the code-blocks of a part of a sub-band, in raster order.
+fn add_band(
+    alloc: Global,
+    source: &BandSource<'_>,
+    part: BandPart,
+    tables: &mut Vec<BlockTable>,
+) -> Result<(), Fault>
+    requires part { IsWrittenPart source.now part }
+    ensures tables { OnOk result (tables.new.items ≡ tables.old.items
+        ++ band_tables_at source.now.layers source.now.rect source.now.coding (coefficient_of source.now) part.resolution part.precinct part.band) }
+    ensures memory { IfErr result IsMemory }
+{
+    let rect = source.rect();
+    let coding = source.coding();
+    let orientation = orientation(part.resolution, part.band);
+    let grid = blocks(&rect, coding, part.resolution, part.precinct, orientation);
+    let planes = band_planes(coding, part.resolution, part.band);
+    let count = grid.across * grid.down;
+    tables.reserve_exact(count as usize)?;
+    for j in 0..count {
+        let coded = code_at(alloc, source, part, &grid, j)?;
+        tables.push(table(alloc, coded, planes, source.layers())?)?;
+    }
+    Ok(())
+}
+
+/// What is written of the code-blocks of a precinct, sub-band behind sub-band, each in raster order.
+#[tactic(auto, unfolding(crate::specs::PacketsWritten::precinct_tables))]
+pub(crate) fn precinct_tables(
+    alloc: Global,
+    source: &BandSource<'_>,
+    r: u8,
+    n: u32,
+) -> Result<Vec<BlockTable>, Fault>
+    requires r { r ≤ source.now.coding.levels }
+    requires n { n < precinct_number source.now.rect source.now.coding r }
+    ensures tables { IfOk result (λ v. v.items
+        ≡ flat_map (λ ts. ts) (precinct_tables source.now.layers source.now.rect source.now.coding (coefficient_of source.now) r n)) }
+    ensures memory { IfErr result IsMemory }
+{
+    let mut tables = Vec::new(alloc);
+    for i in 0..band_count(r) {
+        let part = BandPart {
+            resolution: r,
+            precinct: n,
+            band: i,
+        };
+        add_band(alloc, source, part, &mut tables)?;
+    }
+    Ok(tables)
+}
