@@ -189,12 +189,12 @@ pub fn decode_window(alloc: Global, bytes: &[u8], view: View) -> Result<Image, F
     meaning_view(alloc, bytes, view)
 }
 
-/// The window of a view of the image that a file means, by the file's index: what [`decode_window`] gives. Of the packets that
-/// the window doesn't need no header is read, and of the code-blocks none.
+/// The window of a view of the image that a file means, by the file's index: what [`decode_window`]
+/// gives. Of the file's packets that the window doesn't need not one byte is read.
 ///
-/// Changed: the index isn't that of these bytes. Else the faults of `decode_window`; those of boxes, headers and packets don't
-/// come, as a file with an index has none. If the index isn't that of these bytes and another answer is given, nothing is known
-/// of it.
+/// With the index of these bytes the faults are those of `decode_window`; those of boxes, headers
+/// and packets don't come, as a file with an index has none. If the index isn't that of these
+/// bytes, the answer may be Changed, and of any other answer nothing is known.
 pub fn decode_window_by(
     alloc: Global,
     bytes: &[u8],
