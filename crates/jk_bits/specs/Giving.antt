@@ -1,5 +1,6 @@
 -- Bits that a reader gives, one after another, and their laws.
-use Rattle.std.proofs.Common.{◌≡◌, ℕ, ◌+◌, Bool, false, true, List, [], ◌∷◌, ◌++◌, length, drop, Result, Ok, Err, refl, sym, ap, ◌∙◌, arith, append_assoc, length-append, add-zero}
+use Rattle.std.proofs.Common.{◌≡◌, ℕ, ◌+◌, Bool, false, true, List, [], ◌∷◌, ◌++◌, length, drop, Result, Ok, Err, refl}
+use Rattle.std.proofs.Common.{sym, ap, ◌∙◌, arith, append_assoc, length-append, add-zero}
 use Rattle.std.proofs.lemmas.List.{drop-drop, drop_at}
 use Rattle.jk_math.specs.Answer.{Reads}
 use Rattle.jk_math.specs.declared.fault.Fault.{Fault}
@@ -20,10 +21,12 @@ ahead-advance r n = sym (drop-drop n r.read (spread false r.bytes))
 
 -- What begins with bits gives them.
 pub ahead_on : (r : Bits) (bits rest : List Bool) → ahead r ≡ bits ++ rest → ahead (advance r (length bits)) ≡ rest
-ahead_on r bits rest h = ahead-advance r (length bits) ∙ ap (drop (length bits)) h ∙ drop_at bits rest (length bits) refl
+ahead_on r bits rest h = ahead-advance r (length bits) ∙ ap (drop (length bits)) h
+    ∙ drop_at bits rest (length bits) refl
 
 pub gives_on : (r : Bits) (bits rest : List Bool) → ahead r ≡ bits ++ rest → Gives r bits (advance r (length bits))
-gives_on r bits rest h = record { first = h ∙ ap (λ (xs : List Bool). bits ++ xs) (sym (ahead_on r bits rest h)); moved = refl }
+gives_on r bits rest h =
+    record { first = h ∙ ap (λ (xs : List Bool). bits ++ xs) (sym (ahead_on r bits rest h)); moved = refl }
 
 pub gives_none : (r : Bits) → Gives r [] r
 gives_none r = record { first = refl; moved = ap (λ n. record r { read = n }) (sym (add-zero r.read)) }
@@ -34,10 +37,13 @@ gives_join a b c xs ys g h = record {
   moved =
       h.moved
       ∙ ap (λ (r : Bits). record r { read = r.read + length ys }) g.moved
-      ∙ ap (λ n. record a { read = n }) (let e : a.read + length xs + length ys ≡ a.read + length (xs ++ ys) = omega (arith, length-append xs ys) in e);
+      ∙ ap (λ n. record a { read = n })
+      (let e : a.read + length xs + length ys
+      ≡ a.read + length (xs ++ ys) = omega (arith, length-append xs ys) in e);
 }
 
-bit_from : (a : Bits) (xs : List Bool) (r : Bool × Bits) → ahead a ≡ xs → first_bit a xs ≡ Ok r → (r ≡ (r.0, advance a 1)) × (ahead a ≡ r.0 ∷ ahead (advance a 1))
+bit_from : (a : Bits) (xs : List Bool) (r : Bool × Bits) → ahead a ≡ xs → first_bit a xs ≡ Ok r
+    → (r ≡ (r.0, advance a 1)) × (ahead a ≡ r.0 ∷ ahead (advance a 1))
 bit_from a [] r h e = absurd (cc)
 bit_from a (b ∷ bs) r h e =
     let is : r ≡ (b, advance a 1) = cc in
@@ -60,7 +66,8 @@ unfolding bit_at
 bit_ahead a b rest h = ap (first_bit a) h
 
 -- What is read by one function is read by another that agrees with it there.
-pub reads_same : {S A : Type 0} (f g : S → Result (A × S) Fault) (old new : S) (result : Result A Fault) → g old ≡ f old → Reads f old new result → Reads g old new result
+pub reads_same : {S A : Type 0} (f g : S → Result (A × S) Fault) (old new : S) (result : Result A Fault) → g old ≡ f old
+    → Reads f old new result → Reads g old new result
 reads_same f g old new (Ok x) e h = e ∙ h
 reads_same f g old new (Err x) e h = e ∙ h
 

@@ -1,5 +1,6 @@
 -- A reader of stuffed bits, from the front of its bytes.
-use Rattle.std.specs.Prelude.{◌≡◌, ℕ, ◌+◌, ◌-◌, ◌<◌, ◌≤◌, Bool, false, ◌==◌, if◌then◌else◌, List, [], ◌∷◌, ◌++◌, length, take, drop, Result, Ok, Err, Option, IfSome}
+use Rattle.std.specs.Prelude.{◌≡◌, ℕ, ◌+◌, ◌-◌, ◌<◌, ◌≤◌, Bool, false, ◌==◌, if◌then◌else◌, List, [], ◌∷◌, ◌++◌, length}
+use Rattle.std.specs.Prelude.{take, drop, Result, Ok, Err, Option, IfSome}
 use Rattle.jk_math.specs.Answer.{◌>>=◌}
 use Rattle.jk_math.specs.declared.fault.Fault.{Fault}
 use Rattle.jk_bits.specs.Stuffing.{binary, spread, edge, size}
@@ -49,7 +50,12 @@ pub record IsReading (bytes : List ℕ) (position byte left : ℕ) (failed : Opt
   pub below : left < 8
   pub within : position ≤ length bytes
   pub fits : left + length (spread (byte == 255) (drop position bytes)) ≤ length (spread false bytes)
-  pub bits_left : drop (read_of bytes position byte left) (spread false bytes) ≡ binary left byte ++ spread (byte == 255) (drop position bytes)
+  pub bits_left : drop (read_of bytes position byte left) (spread false bytes)
+      ≡ binary left byte ++ spread (byte == 255) (drop position bytes)
   pub ends : edge false bytes ≡ edge (byte == 255) (drop position bytes)
-  pub sizes : (more : ℕ) → size false (read_of bytes position byte left + more) bytes ≡ (size (byte == 255) (more - left) (drop position bytes) >>= (λ n. Ok (position + n)))
-  pub stuck : IfSome failed (λ e. (left ≡ 0) × (spread (byte == 255) (drop position bytes) ≡ []) × (e ≡ edge (byte == 255) (drop position bytes)))
+  pub sizes : (more : ℕ)
+      → size false (read_of bytes position byte left + more) bytes
+      ≡ (size (byte == 255) (more - left) (drop position bytes) >>= (λ n. Ok (position + n)))
+  pub stuck : IfSome failed
+      (λ e. (left ≡ 0) × (spread (byte == 255) (drop position bytes) ≡ [])
+      × (e ≡ edge (byte == 255) (drop position bytes)))

@@ -1,6 +1,7 @@
 //! Bits out of stuffed bytes (T.800 B.10.1).
 
-ghost use Rattle.std.specs.Prelude.{◌≡◌, ℕ, ◌+◌, ◌<◌, ◌≤◌, ◌==◌, ◌++◌, Bool, List, false, true, length, take, drop, IfOk, OnErr, Ok};
+ghost use Rattle.std.specs.Prelude.{◌≡◌, ℕ, ◌+◌, ◌<◌, ◌≤◌, ◌==◌, ◌++◌, Bool, List, false, true, length, take, drop};
+ghost use Rattle.std.specs.Prelude.{IfOk, OnErr, Ok};
 ghost use Rattle.jk_math.specs.Answer.{Reads};
 ghost use Rattle.jk_bits.specs.Stuffing.{Packs, first_byte};
 ghost use Rattle.jk_bits.specs.Reading.{ahead, bit_at, end_from, finish_at, given};
@@ -82,7 +83,8 @@ impl<'a> BitReader<'a> {
 
     /// The next bit.
     ///
-    /// `Truncated` where the bytes end before it, `PacketHeader` where a stuffed bit before it is 1.
+    /// `Truncated` where the bytes end before it, `PacketHeader` where a stuffed bit before it is
+    /// 1.
     pub fn bit(&mut self) -> Result<bool, Fault>
         ensures exact { Reads bit_at self.old self.new result }
         ensures failed { OnErr result (self.new ≡ record self.old { failed = true }) }
@@ -104,11 +106,11 @@ impl<'a> BitReader<'a> {
         Ok(self.byte >> self.left & 1 == 1)
     }
 
-    /// How many bytes hold the bits read so far, with their padding and the byte that is stuffed behind
-    /// a last byte FF.
+    /// How many bytes hold the bits read so far, with their padding and the byte that is stuffed
+    /// behind a last byte FF.
     ///
-    /// `Truncated` where that byte is missing, `PacketHeader` where its stuffed bit is 1, and the fault
-    /// of `bit` where that has failed.
+    /// `Truncated` where that byte is missing, `PacketHeader` where its stuffed bit is 1, and the
+    /// fault of `bit` where that has failed.
     pub fn finish(self) -> Result<usize, Fault>
         ensures exact { result ≡ finish_at self.entry }
         ensures found { IfOk result (λ n. Packs false (given self.entry) (take n self.entry.bytes)) }

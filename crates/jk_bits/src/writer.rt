@@ -1,6 +1,7 @@
 //! Bits into stuffed bytes (T.800 B.10.1).
 
-ghost use Rattle.std.specs.Prelude.{◌≡◌, if◌then◌else◌, ◌++◌, [], ◌∷◌, Err, false, true, IfOk, MatchResult, length, take, Ok, List, ℕ};
+ghost use Rattle.std.specs.Prelude.{◌≡◌, if◌then◌else◌, ◌++◌, [], ◌∷◌, Err, false, true, IfOk, MatchResult, length};
+ghost use Rattle.std.specs.Prelude.{take, Ok, List, ℕ};
 ghost use Rattle.jk_math.specs.Memory.{IsMemory};
 ghost use Rattle.jk_bits.specs.Stuffing.{Packs, spread, size, stuffed};
 

@@ -11,6 +11,7 @@ pub mod Whole
 pub mod Meanings
 pub mod Laws
 pub mod WordBits
+pub mod WordDrawing
 pub mod Drawing
 pub mod Sizing
 pub mod Parts

@@ -1,5 +1,5 @@
 -- What is read is what the segment means, and what it means is read.
-use Rattle.std.proofs.Common.{◌≡◌, ℕ, zero, suc, ◌+◌, ◌-◌, ◌*◌, ◌/◌, ◌%◌, ◌^◌, ◌<◌, ◌≤◌, Bool, true, false, cond, List, [], map, Result, Ok, Err, ℤ, pos, negsuc, unsigned_abs, refl, sym, ap, ◌∙◌, subst, inl, inr, get_or, length, arith}
+use Rattle.std.proofs.Common.{◌≡◌, ℕ, zero, suc, ◌+◌, ◌-◌, ◌*◌, ◌/◌, ◌%◌, ◌^◌, ◌<◌, ◌≤◌, Bool, true, false, cond, List, map, Result, Ok, Err, ℤ, pos, negsuc, unsigned_abs, refl, sym, ap, ◌∙◌, subst, inl, inr, get_or, length, arith}
 use Rattle.std.specs.Prelude.{◌&&◌, nat_lt, nat_le}
 use Rattle.std.specs.Int.{is_negative}
 use Rattle.std.specs.List.{flat_map, range_with_len}
@@ -296,7 +296,6 @@ values_small s z most k d small l =
     let f : ℕ → ℤ = λ i. coefficients z (i % s.width) (i / s.width) in
     let n = length-map-range_with_len f 0 (s.width * s.height) in
     let below : k < s.width * s.height = omega (arith, l, n) in
-    let none : List ℕ = [] in
-    let at = listed_at s none 0 k below in
+    let at = listed_at s k below in
     subst (λ (v : ℤ). unsigned_abs v < most) (sym (get_or-map-range_with_len f 0 (s.width * s.height) k k d below (omega arith)))
-    (subst (λ m. m < most) (sym (abs_with_sign (z.negative (k % s.width) (k / s.width)) (z.magnitude (k % s.width) (k / s.width)))) (small (k % s.width) (k / s.width) at.0))
+    (subst (λ m. m < most) (sym (abs_with_sign (z.negative (k % s.width) (k / s.width)) (z.magnitude (k % s.width) (k / s.width)))) (small (k % s.width) (k / s.width) at))

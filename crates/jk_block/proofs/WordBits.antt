@@ -1,7 +1,7 @@
 -- Fields with their border, what is around a word of one, and the bits of words that show them.
-use Rattle.std.proofs.Common.{◌≡◌, ℕ, ◌+◌, ◌-◌, ◌*◌, ◌/◌, ◌%◌, ◌^◌, ◌<◌, ◌≤◌, Bool, true, false, not, refl, sym, ap, ◌∙◌, subst, arith, List, get_or}
+use Rattle.std.proofs.Common.{◌≡◌, ℕ, zero, suc, ◌+◌, ◌-◌, ◌*◌, ◌/◌, ◌%◌, ◌^◌, ◌<◌, ◌≤◌, Bool, true, false, not, refl, sym, ap, ◌∙◌, subst, arith, List, get_or}
 use Rattle.std.specs.Prelude.{◌&&◌, ◌||◌, nat_eq, nat_le}
-use Rattle.std.specs.Int.RustNames.{bit_or}
+use Rattle.std.specs.Int.RustNames.{bit_or, bit_and}
 use Rattle.std.proofs.lemmas.Bool.Decides.{nat_tests}
 use Rattle.jk_scan.specs.declared.shape.BlockShape.{BlockShape}
 use Rattle.jk_scan.specs.declared.around.Around.{Around}
@@ -10,7 +10,7 @@ use Rattle.jk_scan.specs.Neighbours.{Field, is_inside, touched}
 use Rattle.jk_scan.specs.Words.{Truths, of_rows, of_gathered, Shows, up_down, aside, bordered, is_member}
 use Rattle.jk_scan.specs.WordPlaces.{column, row, also}
 use Rattle.jk_scan.specs.Surroundings.{IsAround}
-use Rattle.jk_scan.proofs.Laws.{same_field, touched_is, rows_between, set_shows}
+use Rattle.jk_scan.proofs.Laws.{same_field, touched_is, rows_between, set_shows, on_and, on_shr_at, firsts}
 use Rattle.jk_scan.specs.Moments.{stripes}
 use Rattle.jk_scan.specs.Flags.{IsDrawn, across, word_at, flag_at}
 
@@ -133,3 +133,19 @@ is_one_number a h = grind (arith, nat_tests)
 
 pub none_before : (a p q : Bool) → a ≡ false → a ≡ (p && q) → p ≡ true → q ≡ false
 none_before a p q e g h = grind (arith, nat_tests)
+
+-- a bit of each byte
+pub row_bits_are : (x b n i : ℕ) → b < 8 → n < 8 → i < 8 → on (bit_and (x / 2 ^ b) 72340172838076673) (8 * n + i) ≡ (nat_eq i 0 && on x (8 * n + b))
+row_bits_are x b n i hb p q =
+    on_and (x / 2 ^ b) 72340172838076673 (8 * n + i) ∙ ap (λ v. on (x / 2 ^ b) (8 * n + i) && v) (firsts n i p q) ∙ ap (λ v. v && nat_eq i 0) (on_shr_at x b (b + (8 * n + i)) (8 * n + i) refl)
+    ∙ by i
+  where
+    turned : (a b : Bool) → (a && b) ≡ (b && a)
+    turned a b = grind (arith, nat_tests)
+
+    none : (a : Bool) → (a && false) ≡ false
+    none a = grind (arith, nat_tests)
+
+    by : (i : ℕ) → (on x (b + (8 * n + i)) && nat_eq i 0) ≡ (nat_eq i 0 && on x (8 * n + b))
+    by zero = turned (on x (b + (8 * n + 0))) true ∙ ap (on x) (let e : b + (8 * n + 0) ≡ 8 * n + b = omega arith in e)
+    by (suc i) = let e : nat_eq (suc i) 0 ≡ false = grind (arith, nat_tests) in ap (λ v. on x (b + (8 * n + suc i)) && v) e ∙ none (on x (b + (8 * n + suc i))) ∙ sym (ap (λ v. v && on x (8 * n + b)) e)

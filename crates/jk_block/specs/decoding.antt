@@ -2,3 +2,5 @@
 -- place, and the sketch the block. Here stands what a sketch shows of it. The definition of what is
 -- read is `Reading`, beside this wing.
 pub mod Sketches
+pub mod Sights
+pub mod Eights

@@ -10,7 +10,7 @@ use Rattle.jk_math.specs.Steps.{bind_then, guarded, chosen, ok_is}
 use Rattle.jk_math.specs.declared.fault.Fault.TheVariants.{Truncated}
 use Rattle.jk_boxes.specs.declared.place.CodePlace.{CodePlace}
 use Rattle.jk_boxes.specs.declared.place.Boxed.{Boxed}
-use Rattle.jk_boxes.specs.Boxes.{Box, head_size, head_text, box_size, box_text, boxes_text, is_open, signature, soc, IsJp2, IsBare, Holds, HoldsAt, bare_place, jp2_place, text_before}
+use Rattle.jk_boxes.specs.Boxes.{Box, head_size, head_text, box_size, box_text, boxes_text, is_open, signature, soc, IsJp2, IsBare, HoldsCodestream, HoldsAt, bare_place, jp2_place, text_before}
 use Rattle.jk_boxes.specs.Reading.{signature_at, file_type_at, jp2_at, boxes_at}
 use Rattle.jk_math.proofs.Laws.{AreBytes, are_bytes_after}
 use Rattle.jk_boxes.proofs.Heads.{head_length, box_length}
@@ -169,7 +169,7 @@ walked_place bytes codestream j =
 
 -- what is opened
 pub record Opened (bytes : List ℕ) (b : Boxed) : Type 0 where
-  pub holds : Holds bytes (slice_range bytes b.start b.end)
+  pub holds : HoldsCodestream bytes (slice_range bytes b.start b.end)
   pub at : HoldsAt bytes (slice_range bytes b.start b.end) b
   pub order : b.start ≤ b.end
   pub within : b.end ≤ length bytes
@@ -232,7 +232,7 @@ jp2_boxes bytes codestream j =
     let first : starts_with nat_eq bytes soc ≡ false = ap (λ (x : List ℕ). starts_with nat_eq x soc) j.text ∙ other_start rest in
     rw (long, first, jp2_again bytes codestream j) refl
 
-pub boxes_again : (bytes codestream : List ℕ) → Holds bytes codestream → OpensAt bytes codestream
+pub boxes_again : (bytes codestream : List ℕ) → HoldsCodestream bytes codestream → OpensAt bytes codestream
 boxes_again bytes codestream h = elim h [
   | inl bare ↦ record { boxed = bare_place bytes; due = bare_boxes bytes codestream bare; here = bare_whole bytes codestream bare }
   | inr j ↦ record { boxed = boxed_of (place_of j); due = jp2_boxes bytes codestream j; here = sym (codestream_is bytes codestream j) }

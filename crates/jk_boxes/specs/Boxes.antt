@@ -1,5 +1,7 @@
--- The boxes of a JP2 file (T.800 Annex I). A file is spelled, not read: the boxes are given, and their text is the file.
-use Rattle.std.specs.Prelude.{◌≡◌, ℕ, ◌+◌, ◌<◌, ◌^◌, ◌≢◌, ◌⊎◌, ◌==◌, Bool, true, false, List, [], ◌∷◌, ◌++◌, length, slice_index}
+-- The boxes of a JP2 file (T.800 Annex I). A file is spelled, not read: the boxes are given, and
+-- their text is the file.
+use Rattle.std.specs.Prelude.{◌≡◌, ℕ, ◌+◌, ◌<◌, ◌^◌, ◌≢◌, ◌⊎◌, ◌==◌, Bool, true, false, List, [], ◌∷◌, ◌++◌, length}
+use Rattle.std.specs.Prelude.{slice_index}
 use Rattle.std.specs.List.{flat_map, list_any, AllByRecursion}
 use Rattle.std.proofs.Common.{inl, inr}
 use Rattle.byteorder.specs.Endian.{big_bytes}
@@ -54,7 +56,8 @@ head_size Short = 8
 head_size Long = 16
 head_size Open = 8
 
--- LBox, TBox, XLBox: the length of the whole box in LBox; in XLBox, where LBox is 1; or up to the end of the file, where LBox is 0
+-- LBox, TBox, XLBox: the length of the whole box in LBox; in XLBox, where LBox is 1; or up to the
+-- end of the file, where LBox is 0
 abbrev pub head_text : Form → ℕ → ℕ → List ℕ
 head_text Short kind size = big_bytes 4 size ++ big_bytes 4 kind
 head_text Long kind size = big_bytes 4 1 ++ (big_bytes 4 kind ++ big_bytes 8 size)
@@ -84,7 +87,8 @@ abbrev pub AreBoxes : List Box → Type 0
 AreBoxes [] = Unit {0}
 AreBoxes (b ∷ bs) = IsBox b × (is_open b.form ≡ true → bs ≡ []) × AreBoxes bs
 
--- The contents of the file type box (I.5.2): BR, MinV, and the compatibility list, in which `jp2 ` stands.
+-- The contents of the file type box (I.5.2): BR, MinV, and the compatibility list, in which `jp2 `
+-- stands.
 pub record IsFileType (contents : List ℕ) : Type 0 where
   pub brand : ℕ
   pub version : ℕ
@@ -99,7 +103,8 @@ pub record IsInner (kind : ℕ) (b : Box) : Type 0 where
   pub closed : is_open b.form ≡ false
   pub other : b.kind ≢ kind
 
--- The contents of the JP2 header box (I.5.3): the image header box with the compression type 7 (I.5.3.1), and boxes of which none is a palette.
+-- The contents of the JP2 header box (I.5.3): the image header box with the compression type 7
+-- (I.5.3.1), and boxes of which none is a palette.
 pub record IsHeaderBox (contents : List ℕ) : Type 0 where
   pub image : List ℕ
   pub others : List Box
@@ -131,24 +136,30 @@ pub record IsBare (bytes codestream : List ℕ) : Type 0 where
   pub whole : codestream ≡ bytes
 
 -- the bytes hold this codestream
-abbrev pub Holds : List ℕ → List ℕ → Type 0
-Holds bytes codestream = IsBare bytes codestream ⊎ IsJp2 bytes codestream
+abbrev pub HoldsCodestream : List ℕ → List ℕ → Type 0
+HoldsCodestream bytes codestream = IsBare bytes codestream ⊎ IsJp2 bytes codestream
 
 -- what stands before the codestream box of a JP2 file
 abbrev pub text_before : {bytes codestream : List ℕ} → IsJp2 bytes codestream → List ℕ
 text_before j = signature ++ boxes_text (j.file_type ∷ (j.early ++ (j.header ∷ j.middle)))
 
--- The place of the codestream: the whole of a bare file; in a JP2 file the contents of the codestream box, behind all that stands
--- before the box and behind its head.
+-- The place of the codestream: the whole of a bare file; in a JP2 file the contents of the
+-- codestream box, behind all that stands before the box and behind its head.
 abbrev pub bare_place : List ℕ → Boxed
 bare_place bytes = record { start = 0; end = length bytes; jp2 = false }
 
 abbrev pub jp2_place : {bytes codestream : List ℕ} → IsJp2 bytes codestream → Boxed
-jp2_place j = record { start = length (text_before j) + head_size j.code.form; end = length (text_before j) + box_size j.code; jp2 = true }
+jp2_place j =
+    record {
+      start = length (text_before j) + head_size j.code.form;
+      end = length (text_before j) + box_size j.code;
+      jp2 = true;
+    }
 
 -- the bytes hold this codestream at this place
 abbrev pub HoldsAt : List ℕ → List ℕ → Boxed → Type 0
-HoldsAt bytes codestream b = (IsBare bytes codestream × (b ≡ bare_place bytes)) ⊎ ((j : IsJp2 bytes codestream) × (b ≡ jp2_place j))
+HoldsAt bytes codestream b = (IsBare bytes codestream × (b ≡ bare_place bytes))
+    ⊎ ((j : IsJp2 bytes codestream) × (b ≡ jp2_place j))
 
 -- how the length of the codestream box is told; Open where there is none
 abbrev pub form_of : {bytes codestream : List ℕ} {place : Boxed} → HoldsAt bytes codestream place → Form

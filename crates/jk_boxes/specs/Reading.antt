@@ -1,5 +1,6 @@
 -- Reading boxes from left to right, with the first fault that is met.
-use Rattle.std.specs.Prelude.{ℕ, zero, suc, ◌+◌, ◌%◌, List, [], ◌∷◌, length, drop, Bool, true, false, not, ◌&&◌, ◌||◌, ◌==◌, nat_lt, nat_eq, if◌then◌else◌, Result, Ok, Err, slice_index, slice_range}
+use Rattle.std.specs.Prelude.{ℕ, zero, suc, ◌+◌, ◌%◌, List, [], ◌∷◌, length, drop, Bool, true, false, not, ◌&&◌, ◌||◌}
+use Rattle.std.specs.Prelude.{◌==◌, nat_lt, nat_eq, if◌then◌else◌, Result, Ok, Err, slice_index, slice_range}
 use Rattle.std.specs.List.{starts_with}
 use Rattle.byteorder.specs.Endian.{big_number}
 use Rattle.jk_math.specs.Answer.{◌>>=◌, refuse}
@@ -12,9 +13,11 @@ use Rattle.jk_boxes.specs.declared.place.CodePlace.{CodePlace}
 use Rattle.jk_boxes.specs.declared.place.Seen.{Seen}
 use Rattle.jk_boxes.specs.declared.place.Seen.TheVariants.{Nothing, Header, Code}
 use Rattle.jk_boxes.specs.declared.place.Boxed.{Boxed}
-use Rattle.jk_boxes.specs.Boxes.{file_type_kind, header_kind, image_header_kind, palette_kind, code_kind, jp2_brand, signature, soc, head_size}
+use Rattle.jk_boxes.specs.Boxes.{file_type_kind, header_kind, image_header_kind, palette_kind, code_kind, jp2_brand}
+use Rattle.jk_boxes.specs.Boxes.{signature, soc, head_size}
 
--- how the length of the box that begins the bytes is told, and the length; `ends`: the file ends with these bytes
+-- how the length of the box that begins the bytes is told, and the length; `ends`: the file ends
+-- with these bytes
 unfoldable pub length_at : Bool → List ℕ → Result (Form × ℕ) Fault
 length_at ends rest =
     if big_number 4 rest == 0 then (if ends then Ok (Open, length rest) else Err Truncated)
@@ -60,7 +63,8 @@ unfoldable pub no_palette_at : ℕ → Bool → List ℕ → Result (Unit {0}) F
 no_palette_at zero ends rest = Ok tt
 no_palette_at (suc n) ends rest =
     if length rest == 0 then Ok tt
-    else (box_at ends rest >>= λ box. refuse (box.kind == palette_kind) Unsupported >>= λ _. no_palette_at n ends (drop box.size rest))
+    else (box_at ends rest >>= λ box. refuse (box.kind == palette_kind) Unsupported
+    >>= λ _. no_palette_at n ends (drop box.size rest))
 
 abbrev pub is_short : Form → Bool
 is_short Short = true
@@ -81,7 +85,8 @@ passed Nothing at box rest =
     if box.kind == header_kind then (header_at (box.size == length rest) (contents_of box rest) >>= λ _. Ok Header)
     else (if box.kind == code_kind then Err BadBox else Ok Nothing)
 passed Header at box rest =
-    if box.kind == code_kind then Ok (Code (record { form = box.form; start = at + head_size box.form; end = at + box.size })) else Ok Header
+    if box.kind == code_kind
+    then Ok (Code (record { form = box.form; start = at + head_size box.form; end = at + box.size })) else Ok Header
 passed (Code place) at box rest = Ok (Code place)
 
 -- the codestream box, once all boxes were passed
@@ -95,7 +100,8 @@ unfoldable pub walk_at : ℕ → Seen → ℕ → List ℕ → Result CodePlace 
 walk_at zero seen at rest = place_in seen
 walk_at (suc n) seen at rest =
     if length rest == 0 then place_in seen
-    else (box_at true rest >>= λ box. passed seen at box rest >>= λ next. walk_at n next (at + box.size) (drop box.size rest))
+    else (box_at true rest >>= λ box. passed seen at box rest
+    >>= λ next. walk_at n next (at + box.size) (drop box.size rest))
 
 unfoldable pub signature_at : List ℕ → Result (Unit {0}) Fault
 signature_at bytes =

@@ -13,7 +13,9 @@ use Rattle.jk_boxes.specs.Written.{fits_form}
 unfoldable pub replaced_at : CodePlace → List ℕ → List ℕ → Result (List ℕ) Fault
 replaced_at p file codestream =
     let size = head_size p.form + length codestream in
-    if fits_form p.form size then Ok (take (p.start - head_size p.form) file ++ (head_text p.form code_kind size ++ (codestream ++ drop p.end file)))
+    if fits_form p.form size
+    then Ok (take (p.start - head_size p.form) file
+    ++ (head_text p.form code_kind size ++ (codestream ++ drop p.end file)))
     else Err Limit
 
 unfoldable pub replaced : List ℕ → List ℕ → Result (List ℕ) Fault

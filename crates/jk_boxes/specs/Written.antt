@@ -1,20 +1,28 @@
 -- The boxes that are written, and a codestream box whose contents are replaced.
-use Rattle.std.specs.Prelude.{ℕ, ◌+◌, ◌-◌, ◌^◌, Bool, true, ◌==◌, nat_lt, if◌then◌else◌, List, [], ◌∷◌, ◌++◌, length, Result, Ok, Err}
+use Rattle.std.specs.Prelude.{ℕ, ◌+◌, ◌-◌, ◌^◌, Bool, true, ◌==◌, nat_lt, if◌then◌else◌, List, [], ◌∷◌, ◌++◌, length}
+use Rattle.std.specs.Prelude.{Result, Ok, Err}
 use Rattle.byteorder.specs.Endian.{big_bytes}
 use Rattle.jk_math.specs.Picture.{Picture, is_grey_or_rgb}
 use Rattle.jk_math.specs.declared.fault.Fault.{Fault}
 use Rattle.jk_math.specs.declared.fault.Fault.TheVariants.{Unsupported, Limit}
 use Rattle.jk_boxes.specs.declared.boxes.Form.{Form}
 use Rattle.jk_boxes.specs.declared.boxes.Form.TheVariants.{Short, Long, Open}
-use Rattle.jk_boxes.specs.Boxes.{Box, boxes_text, box_size, head_size, head_text, signature, jp2_brand, file_type_kind, header_kind, image_header_kind, colour_kind, code_kind, IsJp2}
+use Rattle.jk_boxes.specs.Boxes.{Box, boxes_text, box_size, head_size, head_text, signature, jp2_brand, file_type_kind}
+use Rattle.jk_boxes.specs.Boxes.{header_kind, image_header_kind, colour_kind, code_kind, IsJp2}
 
 -- BR `jp2 `, MinV 0, and `jp2 ` alone in the compatibility list (I.5.2)
 abbrev pub file_type_box : Box
-file_type_box = record { form = Short; kind = file_type_kind; contents = big_bytes 4 jp2_brand ++ (big_bytes 4 0 ++ big_bytes 4 jp2_brand) }
+file_type_box =
+    record {
+      form = Short;
+      kind = file_type_kind;
+      contents = big_bytes 4 jp2_brand ++ (big_bytes 4 0 ++ big_bytes 4 jp2_brand);
+    }
 
 -- HEIGHT, WIDTH, NC, BPC, C, UnkC, IPR (I.5.3.1)
 abbrev pub image_header_of : ℕ → ℕ → ℕ → ℕ → List ℕ
-image_header_of width height components depth = big_bytes 4 height ++ (big_bytes 4 width ++ (big_bytes 2 components ++ ((depth - 1) ∷ 7 ∷ 0 ∷ 0 ∷ [])))
+image_header_of width height components depth = big_bytes 4 height
+    ++ (big_bytes 4 width ++ (big_bytes 2 components ++ ((depth - 1) ∷ 7 ∷ 0 ∷ 0 ∷ [])))
 
 -- EnumCS: greyscale, or sRGB (I.5.3.3)
 abbrev pub colour_space : ℕ → ℕ
@@ -22,14 +30,17 @@ colour_space components = if components == 1 then 17 else 16
 
 -- METH, PREC, APPROX, EnumCS (I.5.3.3)
 abbrev pub colour_box : ℕ → Box
-colour_box components = record { form = Short; kind = colour_kind; contents = 1 ∷ 0 ∷ 0 ∷ big_bytes 4 (colour_space components) }
+colour_box components =
+    record { form = Short; kind = colour_kind; contents = 1 ∷ 0 ∷ 0 ∷ big_bytes 4 (colour_space components) }
 
 -- the JP2 header box (I.5.3)
 abbrev pub header_box : ℕ → ℕ → ℕ → ℕ → Box
 header_box width height components depth = record {
   form = Short;
   kind = header_kind;
-  contents = boxes_text (record { form = Short; kind = image_header_kind; contents = image_header_of width height components depth } ∷ colour_box components ∷ []);
+  contents = boxes_text
+      (record { form = Short; kind = image_header_kind; contents = image_header_of width height components depth }
+      ∷ colour_box components ∷ []);
 }
 
 -- the length in four bytes, or in eight where it needs them
@@ -49,7 +60,10 @@ is_wrapped p = is_grey_or_rgb (length p.planes) p.signed
 -- the JP2 file that is written for an image and its codestream
 unfoldable pub wrapped : Picture → List ℕ → Result (List ℕ) Fault
 wrapped p codestream =
-    if is_wrapped p then Ok (signature ++ boxes_text (file_type_box ∷ header_box p.width p.height (length p.planes) p.depth ∷ code_box codestream ∷ []))
+    if is_wrapped p
+    then Ok (signature
+    ++ boxes_text
+    (file_type_box ∷ header_box p.width p.height (length p.planes) p.depth ∷ code_box codestream ∷ []))
     else Err Unsupported
 
 -- whether a length has this form
@@ -62,5 +76,6 @@ fits_form Open size = true
 unfoldable pub recoded : {bytes old : List ℕ} → IsJp2 bytes old → List ℕ → Result (List ℕ) Fault
 recoded j codestream =
     let code : Box = record j.code { contents = codestream } in
-    if fits_form code.form (box_size code) then Ok (signature ++ boxes_text (j.file_type ∷ (j.early ++ (j.header ∷ (j.middle ++ (code ∷ j.after))))))
+    if fits_form code.form (box_size code)
+    then Ok (signature ++ boxes_text (j.file_type ∷ (j.early ++ (j.header ∷ (j.middle ++ (code ∷ j.after))))))
     else Err Limit

@@ -2,7 +2,8 @@
 
 ghost use Rattle.std.specs.Prelude.{◌≡◌, ◌+◌, ◌≤◌, ◌<◌, ◌==◌, length, IfOk};
 ghost use Rattle.jk_boxes.specs.Boxes.{head_size};
-ghost use Rattle.jk_boxes.specs.Reading.{length_at, box_at, contents_of, box_of_kind_at, names_jp2, file_type_at, no_palette_at, header_at};
+ghost use Rattle.jk_boxes.specs.Reading.{length_at, box_at, contents_of, box_of_kind_at, names_jp2, file_type_at};
+ghost use Rattle.jk_boxes.specs.Reading.{no_palette_at, header_at};
 
 use byteorder::{BigEndian, ByteOrder};
 use jk_math::Fault;
@@ -22,7 +23,8 @@ pub const CODE: u32 = 0x6A70_3263;
 /// The brand of a JP2 file.
 pub const JP2: u32 = 0x6A70_3220;
 
-/// How the length of a box is told (T.800 I.4): by four bytes, by eight more, or by the end of the file.
+/// How the length of a box is told (T.800 I.4): by four bytes, by eight more, or by the end of the
+/// file.
 #[derive(Clone, Copy, Debug, PartialEq, Eq)]
 pub enum Form {
     Short,

@@ -31,7 +31,8 @@ fn read_form(bytes: &[u8]) -> Result<Form, Fault>
 pub fn code_form(bytes: &[u8]) -> Result<Form, Fault>
     ensures exact { result ≡ form_at bytes.now }
     // A file that holds a codestream at a place has the form of its box.
-    ensures holds { (codestream : List ℕ) (place : Boxed) (holds : HoldsAt bytes.now codestream place) → result ≡ Ok (form_of holds) }
+    ensures holds { (codestream : List ℕ) (place : Boxed) (holds : HoldsAt bytes.now codestream place)
+        → result ≡ Ok (form_of holds) }
 {
     read_form(bytes)
 }

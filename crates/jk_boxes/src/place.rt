@@ -156,12 +156,13 @@ fn place(bytes: &[u8]) -> Result<Boxed, Fault>
     })
 }
 
-/// The place of the codestream in a file (T.800 Annex I). A file that begins with SOC is the codestream.
+/// The place of the codestream in a file (T.800 Annex I). A file that begins with SOC is the
+/// codestream.
 ///
-/// Truncated: a box passes the end of the file or of the box around it. Unsupported: `jp2 ` isn't in the
-/// compatibility list, a compression type other than 7, or a palette. BadBox: no file type box after the
-/// signature, no JP2 header box before the first codestream box, no image header box of 22 bytes first in
-/// it, no codestream box, or a length that isn't one.
+/// Truncated: a box passes the end of the file or of the box around it. Unsupported: `jp2 ` isn't
+/// in the compatibility list, a compression type other than 7, or a palette. BadBox: no file type
+/// box after the signature, no JP2 header box before the first codestream box, no image header box
+/// of 22 bytes first in it, no codestream box, or a length that isn't one.
 pub fn open(bytes: &[u8]) -> Result<Boxed, Fault>
     ensures exact { result ≡ boxes_at bytes.now }
     // What is opened holds the codestream at this place.

@@ -1,13 +1,16 @@
 //! Writing boxes.
 
-ghost use Rattle.std.specs.Prelude.{◌≡◌, ◌+◌, ◌-◌, ◌≤◌, ◌<◌, ◌^◌, ◌++◌, ◌∷◌, [], ◌==◌, true, false, not, Bool, length, take, drop, nat_eq, OnOk, IfOk, IfErr, Ok, List, ℕ};
+ghost use Rattle.std.specs.Prelude.{◌≡◌, ◌+◌, ◌-◌, ◌≤◌, ◌<◌, ◌^◌, ◌++◌, ◌∷◌, [], ◌==◌, true, false, not, Bool, length};
+ghost use Rattle.std.specs.Prelude.{take, drop, nat_eq, OnOk, IfOk, IfErr, Ok, List, ℕ};
 ghost use Rattle.std.specs.List.{starts_with};
 ghost use Rattle.jk_math.specs.Memory.{IsMemory};
 ghost use Rattle.byteorder.specs.Endian.{big_bytes};
 ghost use Rattle.jk_math.specs.Answer.{Answers};
-ghost use Rattle.jk_boxes.specs.Boxes.{Holds, IsJp2, soc, FitsForm, box_text, boxes_text, head_size, head_text, signature};
+ghost use Rattle.jk_boxes.specs.Boxes.{HoldsCodestream, IsJp2, soc, FitsForm, box_text, boxes_text, head_size, head_text};
+ghost use Rattle.jk_boxes.specs.Boxes.{signature};
 ghost use Rattle.jk_boxes.specs.Reading.{boxes_at};
-ghost use Rattle.jk_boxes.specs.Written.{file_type_box, header_box, image_header_of, colour_box, colour_space, code_box, code_head, is_wrapped, wrapped, fits_form, recoded};
+ghost use Rattle.jk_boxes.specs.Written.{file_type_box, header_box, image_header_of, colour_box, colour_space};
+ghost use Rattle.jk_boxes.specs.Written.{code_box, code_head, is_wrapped, wrapped, fits_form, recoded};
 ghost use Rattle.jk_boxes.specs.Replacing.{replaced, replaced_at};
 
 use crate::boxes::{self, Form};
@@ -129,7 +132,9 @@ fn front(
     requires depth { 1 ≤ depth }
     requires size { size + 16 < 2 ^ 64 }
     ensures ok { IfOk result (λ v. (codestream : List ℕ) → length codestream ≡ size
-        → v.items ++ codestream ≡ signature ++ boxes_text (file_type_box ∷ header_box width height components depth ∷ code_box codestream ∷ [])) }
+        → v.items ++ codestream
+        ≡ signature ++ boxes_text
+        (file_type_box ∷ header_box width height components depth ∷ code_box codestream ∷ [])) }
     ensures err { IfErr result (λ e. IsMemory e) }
 {
     let mut out = Vec::with_capacity(alloc, 93)?;
@@ -147,8 +152,8 @@ fn is_wrapped(image: &Image) -> bool
     !image.signed() && (components == 1 || components == 3)
 }
 
-/// What stands before the codestream in the JP2 file of an image (T.800 Annex I): the boxes before it,
-/// and the head of its own. The codestream has `size` bytes.
+/// What stands before the codestream in the JP2 file of an image (T.800 Annex I): the boxes before
+/// it, and the head of its own. The codestream has `size` bytes.
 ///
 /// Unsupported: the image hasn't 1 or 3 unsigned components.
 #[tactic(auto, unfolding(crate::specs::Written::wrapped))]
@@ -188,7 +193,7 @@ fn wrapping(alloc: Global, image: &Image, codestream: &[u8]) -> Result<Vec<u8>, 
 pub fn wrap(alloc: Global, image: &Image, codestream: &[u8]) -> Result<Vec<u8>, Fault>
     ensures exact { Answers (λ v. v.items) result (wrapped image.now codestream.now) }
     // The file holds the codestream.
-    ensures holds { IfOk result (λ v. Holds v.items codestream.now) }
+    ensures holds { IfOk result (λ v. HoldsCodestream v.items codestream.now) }
 {
     wrapping(alloc, image, codestream)
 }
@@ -249,8 +254,9 @@ fn replacing(alloc: Global, file: &[u8], jp2: bool, codestream: &[u8]) -> Result
     replace_at(alloc, file, &place, codestream)
 }
 
-/// The file with another codestream in the place of its own. The box keeps the form of its length: four
-/// bytes, eight bytes, or open up to the end of the file. A bare codestream gives way to the new one.
+/// The file with another codestream in the place of its own. The box keeps the form of its length:
+/// four bytes, eight bytes, or open up to the end of the file. A bare codestream gives way to the
+/// new one.
 ///
 /// Limit: the new length doesn't fit the form.
 pub fn replace_codestream(
@@ -262,7 +268,8 @@ pub fn replace_codestream(
     requires { boxes_at file.now ≡ Ok boxed.now }
     ensures exact { Answers (λ v. v.items) result (replaced file.now codestream.now) }
     // The contents and the length of the codestream box change, and nothing else.
-    ensures changed { (old : List ℕ) → (j : IsJp2 file.now old) → Answers (λ v. v.items) result (recoded j codestream.now) }
+    ensures changed { (old : List ℕ) → (j : IsJp2 file.now old)
+        → Answers (λ v. v.items) result (recoded j codestream.now) }
     // The new file holds the new codestream.
     ensures opens { IfOk result (λ v. boxed.now.jp2 ≡ true → IsJp2 v.items codestream.now) }
     ensures bare { boxed.now.jp2 ≡ false → Answers (λ v. v.items) result (Ok codestream.now) }

@@ -11,7 +11,7 @@ use Rattle.jk_math.specs.declared.fault.Fault.TheVariants.{Memory, BadParameters
 use Rattle.jk_marks.specs.Markers.{marker_text, eoc}
 use Rattle.jk_marks.specs.Siz.{tile_count}
 use Rattle.jk_marks.specs.Codestream.{main_text, part_text, codestream_text, segments_of, only_part_of}
-use Rattle.jk_boxes.specs.Boxes.{Holds, box_text}
+use Rattle.jk_boxes.specs.Boxes.{HoldsCodestream, box_text}
 use Rattle.jk_boxes.specs.Written.{is_wrapped, wrapped}
 use Rattle.jk_boxes.proofs.Laws.{wrapped_holds}
 use Rattle.jk_params.specs.declared.parameters.Parameters.{Parameters}
@@ -19,7 +19,7 @@ use Rattle.jk_params.specs.declared.parameters.Container.{Container}
 use Rattle.jk_params.specs.declared.parameters.Container.TheVariants.{Raw, Jp2}
 use Rattle.jk_params.specs.Profile.{siz_of, is_profile, is_contained, IsWrittenBy}
 use Rattle.jk_params.proofs.Laws.{part_text_length}
-use Rattle.jk_tile.specs.PacketsWritten.{tile_text}
+use Rattle.jk_tile.specs.encoding.PacketsWritten.{tile_text}
 use Rattle.jk_window.specs.Views.{holds_below}
 use Rattle.jk_window.proofs.Laws.{below_none, below_more, below_fails, below_at, below_from}
 use Rattle.jk_code.specs.Meaning.{Means}
@@ -157,8 +157,8 @@ file_ends p q profile by fit =
     rw (profile, fit) (contained_front q.container p codestream by.contained ∙ ap (λ (x : List ℕ). Ok x) whole)
 
 -- and means the picture, as its layers do
-contained_holds : (k : Container) (p : Picture) (codestream file : List ℕ) → (k ≡ Jp2 → 16 + length codestream < 2 ^ 64) → Holds codestream codestream → contained k p codestream ≡ Ok file → Holds file codestream
-contained_holds Raw p codestream file small bare e = subst (λ (x : List ℕ). Holds x codestream) (ok_is codestream file e) bare
+contained_holds : (k : Container) (p : Picture) (codestream file : List ℕ) → (k ≡ Jp2 → 16 + length codestream < 2 ^ 64) → HoldsCodestream codestream codestream → contained k p codestream ≡ Ok file → HoldsCodestream file codestream
+contained_holds Raw p codestream file small bare e = subst (λ (x : List ℕ). HoldsCodestream x codestream) (ok_is codestream file e) bare
 contained_holds Jp2 p codestream file small bare e = inr (wrapped_holds p codestream file (small refl) e)
 
 pub file_means : (p : Picture) (q : Parameters) (file : List ℕ) → IsPicture p → IsWrittenBy q p → (q.container ≡ Jp2 → 16 + length (codestream_text (tree_for p q)) < 2 ^ 64)
@@ -169,7 +169,7 @@ file_means p q file is by small e =
     let inside = guarded (not (is_profile q p)) BadParameters (file_for p q) file e in
     let last = guarded (not (parts_fit p q)) Limit (contained q.container p codestream) file inside.1 in
     let fit : parts_fit p q ≡ true = not-false (parts_fit p q) last.0 in
-    let holds : Holds file codestream = contained_holds q.container p codestream file small (written_bare p q) last.1 in
+    let holds : HoldsCodestream file codestream = contained_holds q.container p codestream file small (written_bare p q) last.1 in
     (holds_means file codestream p holds (written_means p q is by fit), fronts_mean p q file is by fit holds)
 
 -- ---- the start of a file, as it is put together

@@ -14,7 +14,7 @@ use Rattle.jk_marks.specs.declared.coding.Coding.{Coding}
 use Rattle.jk_marks.specs.Siz.{tile_count}
 use Rattle.jk_marks.specs.Codestream.{codestream_text}
 use Rattle.jk_boxes.specs.declared.place.Boxed.{Boxed}
-use Rattle.jk_boxes.specs.Boxes.{Holds}
+use Rattle.jk_boxes.specs.Boxes.{HoldsCodestream}
 use Rattle.jk_boxes.proofs.Laws.{boxes_again, place_again}
 use Rattle.jk_geom.specs.Rectangles.{IsWithin, tile_area}
 use Rattle.jk_geom.specs.TileShapes.{coding_of}
@@ -25,7 +25,7 @@ use Rattle.jk_params.specs.Headers.{Headers, TileFields, tile_in, IsHeaders, Are
 use Rattle.jk_params.specs.Profile.{siz_of, IsWrittenBy}
 use Rattle.jk_params.proofs.Laws.{only_headers, sound_headers}
 use Rattle.jk_walk.specs.TilePackets.{Body, Packet, shape_in}
-use Rattle.jk_tile.specs.Fronts.{front_sample}
+use Rattle.jk_tile.specs.encoding.Fronts.{front_sample}
 use Rattle.jk_tile.specs.TileMeaning.{shown_area, IsBlockAt, DecodesLayers, DecodesTile}
 use Rattle.jk_tile.proofs.Laws.{front_decodes, one_front}
 use Rattle.jk_window.specs.Indexing.{IndexFields, joined_runs, HasRuns, IsIndexOf}
@@ -148,7 +148,7 @@ front_shown p q k bytes i is picture by some few text said =
 
 -- ---- the file
 
-pub fronts_mean : (p : Picture) (q : Parameters) (bytes : List ℕ) → IsPicture p → IsWrittenBy q p → parts_fit p q ≡ true → Holds bytes (codestream_text (tree_for p q)) → HasFronts p q bytes
+pub fronts_mean : (p : Picture) (q : Parameters) (bytes : List ℕ) → IsPicture p → IsWrittenBy q p → parts_fit p q ≡ true → HoldsCodestream bytes (codestream_text (tree_for p q)) → HasFronts p q bytes
 fronts_mean p q bytes picture by fit holds k some few i is =
     let text = codestream_text (tree_for p q) in
     let o = boxes_again bytes text holds in

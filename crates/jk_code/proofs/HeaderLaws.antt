@@ -12,7 +12,7 @@ use Rattle.jk_marks.proofs.Laws.{steps_back, main_written as is_main}
 use Rattle.jk_params.specs.declared.parameters.Parameters.{Parameters}
 use Rattle.jk_params.specs.Coding.{coding_with, coding_of, codings_of}
 use Rattle.jk_params.specs.Profile.{siz_of, cod_of, IsWrittenBy}
-use Rattle.jk_tile.specs.Needs.{exponents_for}
+use Rattle.jk_tile.specs.encoding.Needs.{exponents_for}
 use Rattle.jk_tile.proofs.Laws.{IsSmall, exponents_long, exponents_small}
 use Rattle.jk_code.specs.Written.{main_for}
 

@@ -14,7 +14,6 @@ pub mod MetNeeds
 pub mod WindowTile
 pub mod WindowLaws
 pub mod FrontLaws
-mod Examples
 pub mod ViewLaws
 pub mod CutViews
 pub mod BeginningLaws

@@ -21,7 +21,7 @@ use Rattle.jk_params.specs.HeadersReading.{headers_at}
 use Rattle.jk_params.proofs.Laws.{found_headers, only_headers, sound_headers}
 use Rattle.jk_code.specs.Meaning.{IsFrameOf, ShowsTile, MeansPicture, Means}
 use Rattle.jk_walk.specs.WalkReading.{packets_at}
-use Rattle.jk_tile.specs.TileReading.{tested, tile_planes_at}
+use Rattle.jk_tile.specs.decoding.TileReading.{tested, tile_planes_at}
 use Rattle.jk_code.specs.MeaningReading.{places_at, packets_tested, tiles_tested, reduction_at, picture_with, planes_of_tiles, picture_at, image_at, meaning_at}
 use Rattle.jk_window.specs.Views.{frame_of, has_levels, holds_below}
 use Rattle.jk_code.proofs.HeaderFacts.{sides_of}

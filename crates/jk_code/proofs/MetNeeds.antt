@@ -13,7 +13,7 @@ use Rattle.jk_wave.specs.Regions.{held, around, part_area}
 use Rattle.jk_wave.specs.Bands.{high_orientation}
 use Rattle.jk_wave.proofs.Laws.{part_lowest, part_number}
 use Rattle.jk_tile.specs.TileBlocks.{orientation_at}
-use Rattle.jk_tile.specs.TileReading.{region_of, is_met}
+use Rattle.jk_tile.specs.decoding.TileReading.{region_of, is_met}
 use Rattle.jk_tile.proofs.Laws.{met_place}
 use Rattle.jk_window.specs.Needs.{part_of_band, stretch, needed_part, is_needed}
 use Rattle.jk_window.proofs.Laws.{place_needs}

@@ -10,7 +10,7 @@ use Rattle.jk_params.specs.declared.parameters.Parameters.{Parameters}
 use Rattle.jk_params.specs.Headers.{total}
 use Rattle.jk_params.specs.Profile.{siz_of, IsWrittenBy}
 use Rattle.jk_params.proofs.Laws.{put}
-use Rattle.jk_tile.specs.PacketsWritten.{tile_text}
+use Rattle.jk_tile.specs.encoding.PacketsWritten.{tile_text}
 use Rattle.jk_code.specs.Written.{part_for, part_fits, parts_fit}
 use Rattle.jk_window.proofs.Laws.{below_at}
 

@@ -10,7 +10,7 @@ use Rattle.jk_math.specs.declared.fault.Fault.{Fault}
 use Rattle.std.proofs.lemmas.List.FromFn.{length-map-range_with_len, get_or-map-range_with_len}
 use Rattle.jk_math.specs.Answer.{Answers}
 use Rattle.jk_math.specs.declared.rect.Rect.{Rect}
-use Rattle.jk_math.specs.Picture.{lists_of}
+use Rattle.jk_math.specs.Lists.{lists_of}
 use Rattle.jk_math.specs.Raster.{raster, plane_at, places_of}
 use Rattle.jk_math.proofs.Laws.{raster_length, raster_at, raster_is}
 use Rattle.jk_marks.specs.declared.siz.Siz.{Siz}
@@ -24,10 +24,10 @@ use Rattle.jk_geom.specs.declared.shape.TileShape.{TileShape}
 use Rattle.jk_walk.specs.WalkReading.{place_end, IsPlace, packets_at}
 use Rattle.jk_tile.specs.Filling.{IsPartOf}
 use Rattle.jk_tile.specs.TileMeaning.{shown_area}
-use Rattle.jk_tile.specs.TileReading.{tested, tile_planes_at, component_samples}
+use Rattle.jk_tile.specs.decoding.TileReading.{tested, tile_planes_at, component_samples}
 use Rattle.jk_tile.proofs.Laws.{each_none, each_more, each_fails, refuses_on, tested_ok, tested_err, tile_tested, IsPut, Agrees, put_keeps, put_at, put_here, put_there, vector_items}
 use Rattle.jk_code.specs.MeaningReading.{places_or, places_at, sample_of_tiles, tiles_tested, planes_of_tiles}
-use Rattle.jk_code.specs.Tiles.{plane_in, ArePlanes, Shows, Keeps, ShowsTileAt, IsPartSeen, part_lists, AreRead}
+use Rattle.jk_code.specs.Tiles.{plane_in, ArePlanes, ShowsSample, KeepsSamples, ShowsTileAt, IsPartSeen, part_lists, AreRead}
 use Rattle.jk_window.specs.Views.{frame_of}
 use Rattle.jk_code.proofs.Tiling.{tile_value}
 
@@ -182,11 +182,11 @@ planes_put h a c planes w is lt long = record {
 }
 
 pub planes_keep : (bytes : List ℕ) (h : Headers) (d : ℕ) (a : Rect) (c : ℕ) (planes : List (Vec ℤ)) (w : Vec ℤ) (part : Rect) (values : List ℤ) → ArePlanes h a planes → c < h.siz.components
-    → IsPut a part (plane_in planes c) w.items values → Agrees part values (sample_of_tiles bytes h d c) → Keeps bytes h d a planes (set planes c w)
+    → IsPut a part (plane_in planes c) w.items values → Agrees part values (sample_of_tiles bytes h d c) → KeepsSamples bytes h d a planes (set planes c w)
 planes_keep bytes h d a c planes w part values is lt put agrees i x y few within before = elim (cases_eq i c) [
   | inl same ↦
-      let was : Shows bytes h d a c (plane_in planes c) x y = subst (λ n. Shows bytes h d a n (plane_in planes n) x y) same before in
-      subst (λ n. Shows bytes h d a n (plane_in (set planes c w) n) x y) (sym same)
+      let was : ShowsSample bytes h d a c (plane_in planes c) x y = subst (λ n. ShowsSample bytes h d a n (plane_in planes n) x y) same before in
+      subst (λ n. ShowsSample bytes h d a n (plane_in (set planes c w) n) x y) (sym same)
       (ap (λ (l : List ℤ). plane_at a l x y) (put_here planes c w (omega (arith, lt, is.count))) ∙ put_keeps a part (plane_in planes c) w.items values (sample_of_tiles bytes h d c) put agrees x y within was)
   | inr other ↦ ap (λ (l : List ℤ). plane_at a l x y) (put_there planes c i w other) ∙ before
 ]
@@ -195,7 +195,7 @@ pub planes_show : (bytes : List ℕ) (h : Headers) (d : ℕ) (a : Rect) (t c : �
     → IsPut a part (plane_in planes c) w.items values → Agrees part values (sample_of_tiles bytes h d c) → ShowsTileAt bytes h d a t c planes → ShowsTileAt bytes h d a t (c + 1) (set planes c w)
 planes_show bytes h d a t c planes w part values is lt seen put agrees before i x y few within inside = elim (cases_eq i c) [
   | inl same ↦
-      subst (λ n. Shows bytes h d a n (plane_in (set planes c w) n) x y) (sym same)
+      subst (λ n. ShowsSample bytes h d a n (plane_in (set planes c w) n) x y) (sym same)
       (ap (λ (l : List ℤ). plane_at a l x y) (put_here planes c w (omega (arith, lt, is.count))) ∙ put_at a part (plane_in planes c) w.items values (sample_of_tiles bytes h d c) put agrees x y (seen.all x y within inside) inside)
   | inr other ↦ ap (λ (l : List ℤ). plane_at a l x y) (put_there planes c i w other) ∙ before i x y (omega (arith, few, other)) within inside
 ]

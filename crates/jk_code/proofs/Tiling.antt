@@ -13,7 +13,7 @@ use Rattle.jk_params.specs.Headers.{Headers, TileFields, tile_in, AreHeaders}
 use Rattle.jk_walk.specs.declared.places.PacketPlace.{PacketPlace}
 use Rattle.jk_walk.specs.WalkReading.{packets_at}
 use Rattle.jk_tile.specs.TileMeaning.{shown_area}
-use Rattle.jk_tile.specs.TileReading.{tested, tile_planes_at, component_samples}
+use Rattle.jk_tile.specs.decoding.TileReading.{tested, tile_planes_at, component_samples}
 use Rattle.jk_tile.proofs.Laws.{fine, tile_found, tile_only, tested_then, tested_ok}
 use Rattle.jk_code.specs.Meaning.{ShowsTile}
 use Rattle.jk_code.specs.MeaningReading.{places_or, places_at, sample_of_tiles}

@@ -33,7 +33,7 @@ use Rattle.jk_walk.proofs.Laws.{packets_only}
 use Rattle.jk_tile.specs.Pixels.{tile_sample}
 use Rattle.jk_tile.specs.TileBlocks.{orientation_at}
 use Rattle.jk_tile.specs.TileMeaning.{shown_area, values_of}
-use Rattle.jk_tile.specs.TileReading.{each, tested, bodies_of, coefficient_at, component_part_tested, component_samples, part_planes_at}
+use Rattle.jk_tile.specs.decoding.TileReading.{each, tested, bodies_of, coefficient_at, component_part_tested, component_samples, part_planes_at}
 use Rattle.jk_tile.proofs.Laws.{fine, each_only, tested_ok, bind_ok, bodies_are, pixel_same, levels_read, is_band, each_alike, if_alike, component_alike, coefficient_alike}
 use Rattle.jk_window.specs.declared.view.View.{View}
 use Rattle.jk_window.specs.Views.{HasWindow, HaveLevels, frame_of, window_of, window_at}

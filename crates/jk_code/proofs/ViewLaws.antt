@@ -20,7 +20,7 @@ use Rattle.jk_params.specs.HeadersReading.{headers_at}
 use Rattle.jk_walk.specs.WalkReading.{packets_at}
 use Rattle.jk_window.specs.declared.view.View.{View}
 use Rattle.jk_window.specs.Views.{have_levels, frame_of, window_in, window_of, window_at}
-use Rattle.jk_tile.specs.TileReading.{tested, tile_planes_at, part_planes_at}
+use Rattle.jk_tile.specs.decoding.TileReading.{tested, tile_planes_at, part_planes_at}
 use Rattle.jk_tile.proofs.Laws.{fine, each_found, each_only, each_fewer, bind_ok, part_fine}
 use Rattle.jk_code.specs.MeaningReading.{places_at, packets_tested, tiles_tested, reduction_at, sample_of_tiles, picture_with, planes_of_tiles, picture_at, image_at, meaning_at}
 use Rattle.jk_code.specs.Viewing.{rect_of, picture_on, picture_of_view}

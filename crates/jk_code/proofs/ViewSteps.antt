@@ -13,7 +13,7 @@ use Rattle.jk_window.specs.Views.{HaveLevels, frame_of, window_of, window_at}
 use Rattle.jk_window.proofs.Laws.{window_found}
 use Rattle.jk_tile.specs.Filling.{IsPartOf, touches}
 use Rattle.jk_tile.specs.TileMeaning.{shown_area}
-use Rattle.jk_tile.specs.TileReading.{tested}
+use Rattle.jk_tile.specs.decoding.TileReading.{tested}
 use Rattle.jk_tile.proofs.Laws.{fine, tested_ok}
 use Rattle.jk_code.specs.MeaningReading.{places_or, places_at}
 use Rattle.jk_code.specs.ViewReading.{seen_part, is_seen}

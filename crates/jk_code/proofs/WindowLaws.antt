@@ -15,7 +15,7 @@ use Rattle.jk_marks.specs.Siz.{tile_count, siz_text}
 use Rattle.jk_marks.specs.Segments.{segment_text}
 use Rattle.jk_marks.specs.Codestream.{Tree, main_text, part_text, codestream_text}
 use Rattle.jk_boxes.specs.declared.place.Boxed.{Boxed}
-use Rattle.jk_boxes.specs.Boxes.{IsBare, Holds, HoldsAt}
+use Rattle.jk_boxes.specs.Boxes.{IsBare, HoldsCodestream, HoldsAt}
 use Rattle.jk_boxes.proofs.Laws.{boxes_again, place_again, recoded_holds}
 use Rattle.jk_geom.specs.Rectangles.{IsWithin, is_empty, tile_area}
 use Rattle.jk_geom.specs.Partitions.{image_area, reduced_area, TileHolds}
@@ -25,7 +25,7 @@ use Rattle.jk_params.proofs.Laws.{only_headers, sound_headers}
 use Rattle.jk_walk.specs.declared.places.PacketPlace.{PacketPlace}
 use Rattle.jk_walk.specs.WalkReading.{packets_at}
 use Rattle.jk_tile.specs.TileMeaning.{shown_area, DecodesTile}
-use Rattle.jk_tile.specs.TileReading.{tested, tile_planes_at, component_samples}
+use Rattle.jk_tile.specs.decoding.TileReading.{tested, tile_planes_at, component_samples}
 use Rattle.jk_tile.proofs.Laws.{tile_only, tested_ok}
 use Rattle.jk_window.specs.declared.view.View.{View}
 use Rattle.jk_window.specs.Views.{have_levels, window_of, window_at, HaveLevels, frame_of}
@@ -96,9 +96,9 @@ text_bare tree = record {
   whole = refl;
 }
 
-pub reply_holds : (bytes codestream : List ℕ) (b : Boxed) (holds : HoldsAt bytes codestream b) (tree : Tree) (reply : List ℕ) → with_codestream holds (codestream_text tree) ≡ Ok reply → Holds reply (codestream_text tree)
+pub reply_holds : (bytes codestream : List ℕ) (b : Boxed) (holds : HoldsAt bytes codestream b) (tree : Tree) (reply : List ℕ) → with_codestream holds (codestream_text tree) ≡ Ok reply → HoldsCodestream reply (codestream_text tree)
 reply_holds bytes codestream b (inl bare) tree reply e =
-    subst (λ (r : List ℕ). Holds r (codestream_text tree)) (ok_is (codestream_text tree) reply e) (inl (text_bare tree))
+    subst (λ (r : List ℕ). HoldsCodestream r (codestream_text tree)) (ok_is (codestream_text tree) reply e) (inl (text_bare tree))
 reply_holds bytes codestream b (inr jp2) tree reply e = inr (recoded_holds bytes codestream (codestream_text tree) reply jp2.0 e)
 
 -- ---- its picture

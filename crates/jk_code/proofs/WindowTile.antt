@@ -16,7 +16,7 @@ use Rattle.jk_walk.specs.WalkReading.{AreTilePackets}
 use Rattle.jk_walk.proofs.Laws.{packets_only}
 use Rattle.jk_tile.specs.TileBlocks.{grid_at}
 use Rattle.jk_tile.specs.TileMeaning.{shown_area, values_of, IsBlockAt, DecodesTile}
-use Rattle.jk_tile.specs.TileReading.{bodies_of, coefficient_at}
+use Rattle.jk_tile.specs.decoding.TileReading.{bodies_of, coefficient_at}
 use Rattle.jk_tile.specs.Pixels.{tile_sample}
 use Rattle.jk_tile.proofs.Laws.{bodies_are, pixel_same, levels_read, IsMeant, meant_at, none_meant, gathered}
 use Rattle.jk_window.specs.Indexing.{joined_runs, HasRuns}

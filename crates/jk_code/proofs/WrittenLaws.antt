@@ -10,7 +10,7 @@ use Rattle.jk_marks.specs.Siz.{tile_count}
 use Rattle.jk_marks.specs.Segments.{Segment}
 use Rattle.jk_marks.specs.Markers.{marker_text, eoc}
 use Rattle.jk_marks.specs.Codestream.{Part, main_text, part_text, codestream_text, of_tile}
-use Rattle.jk_boxes.specs.Boxes.{Holds}
+use Rattle.jk_boxes.specs.Boxes.{HoldsCodestream}
 use Rattle.jk_geom.specs.Rectangles.{tile_area, resolution_area}
 use Rattle.jk_geom.specs.Partitions.{image_area, reduced_area}
 use Rattle.jk_geom.specs.Counts.{packet_number}
@@ -20,7 +20,7 @@ use Rattle.jk_params.specs.Headers.{Headers, TileFields, head_segments, tile_in,
 use Rattle.jk_params.specs.Profile.{siz_of, cod_of, coding_for, packets_for, IsWrittenBy}
 use Rattle.jk_params.proofs.Laws.{places_from, contents_from, tiles_said, fields_with, said_at, same_packets, tile_same}
 use Rattle.jk_walk.specs.TilePackets.{slice_of}
-use Rattle.jk_tile.specs.PacketsWritten.{tile_text}
+use Rattle.jk_tile.specs.encoding.PacketsWritten.{tile_text}
 use Rattle.jk_tile.specs.TileMeaning.{DecodesTile}
 use Rattle.jk_tile.proofs.Laws.{planes_have, written_decodes}
 use Rattle.jk_code.specs.Meaning.{IsFrameOf, ShowsTile, MeansPicture, Means}
@@ -144,12 +144,12 @@ written_means p q is by fit = record {
 }
 
 -- and is a bare file
-pub written_bare : (p : Picture) (q : Parameters) → Holds (codestream_text (tree_for p q)) (codestream_text (tree_for p q))
+pub written_bare : (p : Picture) (q : Parameters) → HoldsCodestream (codestream_text (tree_for p q)) (codestream_text (tree_for p q))
 unfolding codestream_text main_text
 written_bare p q = inl (record { others = drop 2 (codestream_text (tree_for p q)); text = refl; whole = refl })
 
 -- a file that holds a codestream means what the codestream means
-pub holds_means : (bytes codestream : List ℕ) (p : Picture) → Holds bytes codestream → MeansPicture codestream 0 p → Means bytes 0 p
+pub holds_means : (bytes codestream : List ℕ) (p : Picture) → HoldsCodestream bytes codestream → MeansPicture codestream 0 p → Means bytes 0 p
 holds_means bytes codestream p holds means = record { codestream = codestream; holds = holds; picture = means }
 
 -- the parts of the text, as they are written

@@ -13,3 +13,4 @@ pub mod Viewing
 pub mod ViewReading
 pub mod Beginnings
 pub mod Sending
+pub mod Examples

@@ -3,7 +3,7 @@ use Rattle.std.specs.Prelude.{◌≡◌, ℕ, ◌+◌, ◌-◌, ◌*◌, ◌<◌
 use Rattle.std.specs.List.{AllByRecursion}
 use Rattle.jk_math.specs.Picture.{Picture, sample_at}
 use Rattle.jk_marks.specs.Siz.{tile_count}
-use Rattle.jk_boxes.specs.Boxes.{Holds}
+use Rattle.jk_boxes.specs.Boxes.{HoldsCodestream}
 use Rattle.jk_geom.specs.Rectangles.{IsWithin}
 use Rattle.jk_geom.specs.Partitions.{image_area, reduced_area}
 use Rattle.jk_params.specs.Headers.{Headers, tile_in, IsHeaders}
@@ -29,7 +29,8 @@ pub record ShowsTile (codestream : List ℕ) (h : Headers) (d : ℕ) (p : Pictur
   pub placed : (component x y : ℕ) → component < h.siz.components → IsWithin (shown_area h.siz t d) x y
       → sample_at p component (x - p.x0) (y - p.y0) ≡ samples component x y
 
--- The codestream means the picture at reduction d, which no tile-component's decomposition levels fall short of.
+-- The codestream means the picture at reduction d, which no tile-component's decomposition levels
+-- fall short of.
 pub record MeansPicture (codestream : List ℕ) (d : ℕ) (p : Picture) : Type 0 where
   pub headers : Headers
   pub says : IsHeaders codestream headers
@@ -40,5 +41,5 @@ pub record MeansPicture (codestream : List ℕ) (d : ℕ) (p : Picture) : Type 0
 -- The bytes are a file, bare or JP2, whose codestream means the picture at reduction d.
 pub record Means (bytes : List ℕ) (d : ℕ) (p : Picture) : Type 0 where
   pub codestream : List ℕ
-  pub holds : Holds bytes codestream
+  pub holds : HoldsCodestream bytes codestream
   pub picture : MeansPicture codestream d p

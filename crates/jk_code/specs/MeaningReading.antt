@@ -17,7 +17,7 @@ use Rattle.jk_params.specs.HeadersReading.{headers_at}
 use Rattle.jk_walk.specs.declared.places.PacketPlace.{PacketPlace}
 use Rattle.jk_walk.specs.WalkReading.{packets_at}
 use Rattle.jk_window.specs.Views.{have_levels, frame_of}
-use Rattle.jk_tile.specs.TileReading.{each, tested, tile_planes_at, component_samples}
+use Rattle.jk_tile.specs.decoding.TileReading.{each, tested, tile_planes_at, component_samples}
 
 -- the packets of tile t, where they are read
 abbrev pub places_or : Result (List PacketPlace) Fault → List PacketPlace
@@ -35,7 +35,8 @@ packets_tested bytes h n = each n (λ t. tested (packets_at bytes h t))
 abbrev pub tiles_tested : List ℕ → Headers → (d n : ℕ) → Result (Unit {0}) Fault
 tiles_tested bytes h d n = each n (λ t. tested (tile_planes_at bytes h t d (places_at bytes h t)))
 
--- The place of the reduced image: no tile-component has fewer levels, and the reduced image isn't empty.
+-- The place of the reduced image: no tile-component has fewer levels, and the reduced image isn't
+-- empty.
 unfoldable pub reduction_at : Headers → ℕ → Result Rect Fault
 reduction_at h d = do
   _ ← refuse (not (have_levels h d)) BadWindow
@@ -64,7 +65,8 @@ picture_with s a planes = record {
 abbrev pub planes_of_tiles : List ℕ → Headers → ℕ → Rect → List (List ℤ)
 planes_of_tiles bytes h d a = map (λ c. raster a (sample_of_tiles bytes h d c)) (range_with_len 0 h.siz.components)
 
--- The same of a codestream with these headers. The packets of all tiles are judged before the code-blocks of any.
+-- The same of a codestream with these headers. The packets of all tiles are judged before the
+-- code-blocks of any.
 unfoldable pub picture_at : Headers → List ℕ → ℕ → Result Picture Fault
 picture_at h bytes d = do
   area ← reduction_at h d

@@ -25,7 +25,8 @@ abbrev pub IsSent : List ℕ → List ℕ → Result ⊤ Fault → Type 0
 IsSent text part (Ok done) = part ≡ text
 IsSent text part (Err e) = (e ≡ Shelf) × IsFront part text
 
--- What was written of a tile-part: all; nothing where it is too long, or memory was refused; a beginning where a write failed.
+-- What was written of a tile-part: all; nothing where it is too long, or memory was refused; a
+-- beginning where a write failed.
 abbrev pub IsPartSent : List ℕ → (fits : Bool) → List ℕ → Result ⊤ Fault → Type 0
 IsPartSent text fits part (Ok done) = (fits ≡ true) × (part ≡ text)
 IsPartSent text fits part (Err e) =
@@ -33,9 +34,12 @@ IsPartSent text fits part (Err e) =
     ⊎ (IsMemory e × (part ≡ []))
     ⊎ ((e ≡ Shelf) × (fits ≡ true) × IsFront part text)
 
--- What was written of the tile-parts behind the first: all; those before one that is too long; or a beginning.
+-- What was written of the tile-parts behind the first: all; those before one that is too long; or a
+-- beginning.
 abbrev pub IsRestSent : Picture → Parameters → List ℕ → Result ⊤ Fault → Type 0
-IsRestSent p q text (Ok done) = (parts_fit p q ≡ true) × (parts_upto p q 1 ++ text ≡ parts_upto p q (tile_count (siz_of p q)))
+IsRestSent p q text (Ok done) = (parts_fit p q ≡ true)
+    × (parts_upto p q 1 ++ text ≡ parts_upto p q (tile_count (siz_of p q)))
 IsRestSent p q text (Err e) =
     ((e ≡ Limit) × (n : ℕ) × (0 < n) × IsFirstTooLong p q n × (parts_upto p q 1 ++ text ≡ parts_upto p q n))
-    ⊎ ((IsMemory e ⊎ (e ≡ Shelf)) × (n : ℕ) × (n ≤ tile_count (siz_of p q)) × (holds_below (part_fits p q) n ≡ true) × IsFront (parts_upto p q 1 ++ text) (parts_upto p q n))
+    ⊎ ((IsMemory e ⊎ (e ≡ Shelf)) × (n : ℕ) × (n ≤ tile_count (siz_of p q)) × (holds_below (part_fits p q) n ≡ true)
+    × IsFront (parts_upto p q 1 ++ text) (parts_upto p q n))

@@ -13,7 +13,7 @@ use Rattle.jk_walk.specs.WalkReading.{packets_at}
 use Rattle.jk_window.specs.declared.view.View.{View}
 use Rattle.jk_window.specs.Views.{window_at}
 use Rattle.jk_tile.specs.TileMeaning.{shown_area}
-use Rattle.jk_tile.specs.TileReading.{each, tested, part_planes_at}
+use Rattle.jk_tile.specs.decoding.TileReading.{each, tested, part_planes_at}
 use Rattle.jk_code.specs.MeaningReading.{places_at, picture_with, planes_of_tiles}
 
 -- what a window of the image at reduction d has of tile t
@@ -30,10 +30,12 @@ seen_packets_tested bytes h d w n = each n (λ t. if is_seen h d w t then tested
 
 -- the code-blocks of these tiles on which the samples of the window depend, tile by tile
 abbrev pub seen_parts_tested : List ℕ → Headers → (d : ℕ) → Rect → (n : ℕ) → Result (Unit {0}) Fault
-seen_parts_tested bytes h d w n = each n (λ t. if is_seen h d w t then tested (part_planes_at bytes h t d (seen_part h d w t) (places_at bytes h t)) else Ok tt)
+seen_parts_tested bytes h d w n =
+    each n (λ t. if is_seen h d w t then tested (part_planes_at bytes h t d (seen_part h d w t) (places_at bytes h t))
+    else Ok tt)
 
--- The samples of a codestream with these headers on the window of a view. The packets of all tiles are judged before the code-blocks
--- of any; what the window doesn't depend on isn't judged.
+-- The samples of a codestream with these headers on the window of a view. The packets of all tiles
+-- are judged before the code-blocks of any; what the window doesn't depend on isn't judged.
 unfoldable pub view_at : Headers → List ℕ → View → Result Picture Fault
 view_at h bytes v = do
   w ← window_at h v

@@ -27,8 +27,8 @@ picture_on w p = record {
   planes = map (λ c. raster w (λ x y. sample_at p c (x - p.x0) (y - p.y0))) (range_with_len 0 (length p.planes));
 }
 
--- The picture on the window of a view, which is counted from its upper left sample and cut with it; BadWindow where the window has
--- no sample.
+-- The picture on the window of a view, which is counted from its upper left sample and cut with it;
+-- BadWindow where the window has no sample.
 unfoldable pub picture_of_view : View → Picture → Result Picture Fault
 picture_of_view v p = do
   _ ← refuse (is_empty (window_in (rect_of p) v)) BadWindow

@@ -8,7 +8,8 @@ use Rattle.jk_code.specs.Meaning.{Means}
 use Rattle.jk_code.specs.Viewing.{picture_of_view}
 use Rattle.jk_code.specs.ViewReading.{meaning_view_at}
 
--- A picture q has the place, the size, the depth, the sign and the components of p, and its samples in the rectangle of a view.
+-- A picture q has the place, the size, the depth, the sign and the components of p, and its samples
+-- in the rectangle of a view.
 pub record IsSameOnWindow (v : View) (p q : Picture) : Type 0 where
   pub left : q.x0 ≡ p.x0
   pub upper : q.y0 ≡ p.y0
@@ -18,7 +19,8 @@ pub record IsSameOnWindow (v : View) (p q : Picture) : Type 0 where
   pub signed : q.signed ≡ p.signed
   pub components : length q.planes ≡ length p.planes
   -- by component, column and row, counted from the upper left sample
-  pub samples : (c x y : ℕ) → c < length p.planes → x < p.width → y < p.height → v.x ≤ x → x < v.x + v.width → v.y ≤ y → y < v.y + v.height → sample_at q c x y ≡ sample_at p c x y
+  pub samples : (c x y : ℕ) → c < length p.planes → x < p.width → y < p.height → v.x ≤ x → x < v.x + v.width → v.y ≤ y
+      → y < v.y + v.height → sample_at q c x y ≡ sample_at p c x y
 
 -- The reply means, at the view's reduction, a picture that is p on the window.
 abbrev pub IsWindowOf : View → Picture → List ℕ → Type 0
@@ -26,17 +28,21 @@ IsWindowOf v p reply = (q : Picture) × Means reply v.reduce q × IsSameOnWindow
 
 -- What the file of a window means, where the stored file means a picture at the reduction.
 abbrev pub IsWindowMeant : Type 0
-IsWindowMeant = (bytes : List ℕ) (i : IndexFields) (is : IsIndexOf bytes i) (v : View) (reply : List ℕ) → cut_file is v ≡ Ok reply → (p : Picture) → Means bytes v.reduce p → IsWindowOf v p reply
+IsWindowMeant = (bytes : List ℕ) (i : IndexFields) (is : IsIndexOf bytes i) (v : View) (reply : List ℕ)
+    → cut_file is v ≡ Ok reply → (p : Picture) → Means bytes v.reduce p → IsWindowOf v p reply
 
 -- The reply means a picture that on the window of the view is what p is there.
 abbrev pub ShowsWindow : View → Picture → List ℕ → Type 0
 ShowsWindow v p reply = (q : Picture) × Means reply v.reduce q × (picture_of_view v q ≡ picture_of_view v p)
 
--- Where the stored file means a picture at the reduction, the file of a window shows it on the window.
+-- Where the stored file means a picture at the reduction, the file of a window shows it on the
+-- window.
 abbrev pub IsWindowShown : Type 0
-IsWindowShown = (bytes : List ℕ) (i : IndexFields) (is : IsIndexOf bytes i) (v : View) (reply : List ℕ) → cut_file is v ≡ Ok reply → (p : Picture) → Means bytes v.reduce p → ShowsWindow v p reply
+IsWindowShown = (bytes : List ℕ) (i : IndexFields) (is : IsIndexOf bytes i) (v : View) (reply : List ℕ)
+    → cut_file is v ≡ Ok reply → (p : Picture) → Means bytes v.reduce p → ShowsWindow v p reply
 
--- Decoding the window of the file of a window gives what decoding the window of the stored file gives: the image, or the first
--- fault of its code-blocks.
+-- Decoding the window of the file of a window gives what decoding the window of the stored file
+-- gives: the image, or the first fault of its code-blocks.
 abbrev pub IsWindowKept : Type 0
-IsWindowKept = (bytes : List ℕ) (i : IndexFields) (is : IsIndexOf bytes i) (v : View) (reply : List ℕ) → cut_file is v ≡ Ok reply → meaning_view_at reply v ≡ meaning_view_at bytes v
+IsWindowKept = (bytes : List ℕ) (i : IndexFields) (is : IsIndexOf bytes i) (v : View) (reply : List ℕ)
+    → cut_file is v ≡ Ok reply → meaning_view_at reply v ≡ meaning_view_at bytes v

@@ -12,8 +12,8 @@ use Rattle.jk_params.specs.declared.parameters.Parameters.{Parameters}
 use Rattle.jk_params.specs.declared.parameters.Container.{Container}
 use Rattle.jk_params.specs.declared.parameters.Container.TheVariants.{Raw, Jp2}
 use Rattle.jk_params.specs.Profile.{siz_of, cod_of, is_profile}
-use Rattle.jk_tile.specs.Needs.{exponents_for}
-use Rattle.jk_tile.specs.PacketsWritten.{tile_text}
+use Rattle.jk_tile.specs.encoding.Needs.{exponents_for}
+use Rattle.jk_tile.specs.encoding.PacketsWritten.{tile_text}
 use Rattle.jk_window.specs.Views.{holds_below}
 
 -- the main header; there are two guard bits, and the exponents leave room for each coefficient
@@ -32,7 +32,12 @@ part_for p q t = only_part_of t (tile_text p q t)
 
 -- the codestream as a tree: tile after tile, each in one part
 abbrev pub tree_for : Picture → Parameters → Tree
-tree_for p q = record { siz = siz_of p q; segments = segments_of (main_for p q); parts = map (part_for p q) (range_with_len 0 (tile_count (siz_of p q))) }
+tree_for p q =
+    record {
+      siz = siz_of p q;
+      segments = segments_of (main_for p q);
+      parts = map (part_for p q) (range_with_len 0 (tile_count (siz_of p q)));
+    }
 
 -- The part of tile t can say its length, and so can those of all tiles (A.4.2).
 abbrev pub part_fits : Picture → Parameters → ℕ → Bool

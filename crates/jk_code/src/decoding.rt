@@ -4,19 +4,21 @@ ghost use Rattle.std.specs.Prelude.{◌≡◌, ℕ, ◌≤◌, ◌<◌, ◌-◌,
 ghost use Rattle.std.specs.List.{AllByRecursion};
 ghost use Rattle.jk_math.specs.Answer.{Answers};
 ghost use Rattle.jk_math.specs.Memory.{IsMemory};
-ghost use Rattle.jk_math.specs.Picture.{Picture, IsFrame, lists_of};
+ghost use Rattle.jk_math.specs.Picture.{Picture, IsFrame};
+ghost use Rattle.jk_math.specs.Lists.{lists_of};
 ghost use Rattle.jk_math.specs.declared.rect.Rect.{Rect as Place};
 ghost use Rattle.jk_marks.specs.Siz.{tile_count};
 ghost use Rattle.jk_geom.specs.Partitions.{image_area, reduced_area};
 ghost use Rattle.jk_params.specs.Headers.{AreHeaders, tile_in};
 ghost use Rattle.jk_walk.specs.declared.places.PacketPlace.{PacketPlace};
 ghost use Rattle.jk_walk.specs.WalkReading.{packets_at};
-ghost use Rattle.jk_tile.specs.TileReading.{tested, tile_planes_at};
+ghost use Rattle.jk_tile.specs.decoding.TileReading.{tested, tile_planes_at};
 ghost use Rattle.jk_code.specs.Meaning.{Means};
-ghost use Rattle.jk_code.specs.MeaningReading.{places_at, packets_tested, tiles_tested, planes_of_tiles, picture_with, picture_at, image_at, meaning_at};
+ghost use Rattle.jk_code.specs.MeaningReading.{places_at, packets_tested, tiles_tested, planes_of_tiles, picture_with};
+ghost use Rattle.jk_code.specs.MeaningReading.{picture_at, image_at, meaning_at};
 ghost use Rattle.jk_geom.specs.Rectangles.{IsArea};
 ghost use Rattle.jk_math.specs.Raster.{places_of};
-ghost use Rattle.jk_code.specs.Tiles.{AreRead, ArePlanes, Keeps, ShowsTileAt, IsPartSeen, part_lists, plane_in};
+ghost use Rattle.jk_code.specs.Tiles.{AreRead, ArePlanes, KeepsSamples, ShowsTileAt, IsPartSeen, part_lists, plane_in};
 ghost use Rattle.jk_window.specs.Views.{HaveLevels, frame_of};
 
 use crate::reduction::check_reduction;
@@ -41,8 +43,8 @@ fn all_packets(alloc: Global, headers: &Codestream, bytes: &[u8]) -> Result<Vec<
     Ok(all)
 }
 
-/// Puts the planes of a part of a tile into those of a rectangle of the reduced image. The part has all that the rectangle
-/// has of the tile.
+/// Puts the planes of a part of a tile into those of a rectangle of the reduced image. The part has
+/// all that the rectangle has of the tile.
 pub(crate) fn put_tile(
     headers: &Codestream,
     bytes: &[u8],
@@ -62,8 +64,9 @@ pub(crate) fn put_tile(
     requires shown { lists_of shown.now ≡ part_lists bytes.now headers.now number reduce part.now packets.now }
     requires planes { ArePlanes headers.now area.now planes.old.items }
     ensures planes { ArePlanes headers.now area.now planes.new.items }
-    ensures keeps { Keeps bytes.now headers.now reduce area.now planes.old.items planes.new.items }
-    ensures shows { ShowsTileAt bytes.now headers.now reduce area.now number headers.now.siz.components planes.new.items }
+    ensures keeps { KeepsSamples bytes.now headers.now reduce area.now planes.old.items planes.new.items }
+    ensures shows { ShowsTileAt bytes.now headers.now reduce area.now number headers.now.siz.components
+        planes.new.items }
 {
     for c in 0..planes.len() {
         put(area, &mut planes[c], part, &shown[c]);
@@ -84,7 +87,8 @@ fn planes_of_one(
     requires levels { HaveLevels headers.now reduce }
     requires few { reduce ≤ 10 }
     ensures exact { Answers (λ _. tt) result (tiles_tested bytes.now headers.now reduce 1) }
-    ensures planes { IfOk result (λ v. lists_of v.items ≡ planes_of_tiles bytes.now headers.now reduce (frame_of headers.now reduce)) }
+    ensures planes { IfOk result
+        (λ v. lists_of v.items ≡ planes_of_tiles bytes.now headers.now reduce (frame_of headers.now reduce)) }
 {
     decode_tile(alloc, headers, bytes, 0, &packets[0], reduce)
 }
@@ -206,13 +210,14 @@ fn meaning(alloc: Global, bytes: &[u8], reduce: u32) -> Result<Image, Fault>
     codestream_image(alloc, &bytes[boxed.start..boxed.end], reduce)
 }
 
-/// The image that a file, a bare codestream or a JP2 file, means at a reduction: the image itself at 0,
-/// half as large at 1, and so on.
+/// The image that a file, a bare codestream or a JP2 file, means at a reduction: the image itself
+/// at 0, half as large at 1, and so on.
 ///
-/// The first of these faults: those of the boxes; those of `read_codestream`; BadWindow for a reduction past
-/// the least number of decomposition levels, or one that leaves no sample; then, tile by tile, those of its
-/// packets, as `read_packets` names them, with TooManyPasses among them, as the headers of packets tell the passes; then,
-/// tile by tile, CodeOutOfInterval of its code-blocks up to the resolution that is asked for.
+/// The first of these faults: those of the boxes; those of `read_codestream`; BadWindow for a
+/// reduction past the least number of decomposition levels, or one that leaves no sample; then,
+/// tile by tile, those of its packets, as `read_packets` names them, with TooManyPasses among them,
+/// as the headers of packets tell the passes; then, tile by tile, CodeOutOfInterval of its
+/// code-blocks up to the resolution that is asked for.
 pub fn decode(alloc: Global, bytes: &[u8], reduce: u32) -> Result<Image, Fault>
     // Which image, or which fault is the first.
     ensures exact { Answers (λ i. i) result (meaning_at bytes.now reduce) }

@@ -1,6 +1,7 @@
 //! Encoding.
 
-ghost use Rattle.std.specs.Prelude.{◌≡◌, ℕ, List, ◌≤◌, ◌<◌, ◌+◌, ◌^◌, ◌++◌, ◌⊎◌, length, true, false, IfOk, IfErr, OnOk};
+ghost use Rattle.std.specs.Prelude.{◌≡◌, ℕ, List, ◌≤◌, ◌<◌, ◌+◌, ◌^◌, ◌++◌, ◌⊎◌, length, true, false, IfOk, IfErr};
+ghost use Rattle.std.specs.Prelude.{OnOk};
 ghost use Rattle.std.specs.List.{flat_map};
 ghost use Rattle.jk_math.specs.Memory.{IsMemory};
 ghost use Rattle.jk_math.specs.Answer.{Answers};
@@ -8,9 +9,9 @@ ghost use Rattle.jk_math.specs.declared.fault.Fault.TheVariants.{Limit};
 ghost use Rattle.jk_math.specs.Picture.{IsPicture};
 ghost use Rattle.jk_marks.specs.Siz.{tile_count};
 ghost use Rattle.jk_marks.specs.Codestream.{codestream_text, part_text, IsWritten};
-ghost use Rattle.jk_boxes.specs.Boxes.{Holds};
+ghost use Rattle.jk_boxes.specs.Boxes.{HoldsCodestream};
 ghost use Rattle.jk_params.specs.Profile.{siz_of, IsWrittenBy};
-ghost use Rattle.jk_tile.specs.Needs.{exponents_for, written_bands};
+ghost use Rattle.jk_tile.specs.encoding.Needs.{exponents_for, written_bands};
 ghost use Rattle.jk_code.specs.Meaning.{Means, MeansPicture};
 ghost use Rattle.jk_code.specs.Written.{main_for, part_for, part_fits, parts_fit, tree_for, file_for, written};
 ghost use Rattle.jk_code.specs.Fronts.{HasFronts};
@@ -80,7 +81,8 @@ fn put_tiles(
     requires written { IsWrittenBy parameters.now image.now }
     requires exponents { exponents.now ≡ exponents_for image.now parameters.now }
     requires first { first.items ≡ written_bands image.now parameters.now 0 }
-    ensures ok { OnOk result (out.new.items ≡ out.old.items ++ flat_map part_text (tree_for image.now parameters.now).parts) }
+    ensures ok { OnOk result
+        (out.new.items ≡ out.old.items ++ flat_map part_text (tree_for image.now parameters.now).parts) }
     ensures fits { OnOk result (parts_fit image.now parameters.now ≡ true) }
     ensures err { IfErr result (λ e. IsMemory e ⊎ ((e ≡ Limit) × (parts_fit image.now parameters.now ≡ false))) }
 {
@@ -101,8 +103,9 @@ fn codestream(alloc: Global, image: &Image, parameters: &Parameters) -> Result<V
     ensures value { IfOk result (λ v. v.items ≡ codestream_text (tree_for image.now parameters.now)) }
     ensures fits { IfOk result (λ v. parts_fit image.now parameters.now ≡ true) }
     ensures means { IfOk result (λ v. MeansPicture v.items 0 image.now) }
-    ensures bare { IfOk result (λ v. Holds v.items v.items) }
-    ensures fronts { IfOk result (λ v. (bytes : List ℕ) → Holds bytes v.items → HasFronts image.now parameters.now bytes) }
+    ensures bare { IfOk result (λ v. HoldsCodestream v.items v.items) }
+    ensures fronts { IfOk result
+        (λ v. (bytes : List ℕ) → HoldsCodestream bytes v.items → HasFronts image.now parameters.now bytes) }
     ensures err { IfErr result (λ e. IsMemory e ⊎ ((e ≡ Limit) × (parts_fit image.now parameters.now ≡ false))) }
 {
     let (exponents, first) = exponents(alloc, image, parameters)?;
@@ -130,16 +133,17 @@ fn file(alloc: Global, image: &Image, parameters: &Parameters) -> Result<Vec<u8>
 
 /// The file of an image: a bare codestream or a JP2 file, as the parameters say.
 ///
-/// BadParameters: an image and parameters outside the profile, as `Parameters::check` says. Limit: a tile-part would be
-/// longer than 2^32 - 1 bytes. The box of the codestream has no such limit, as its length may take eight bytes.
+/// BadParameters: an image and parameters outside the profile, as `Parameters::check` says. Limit:
+/// a tile-part would be longer than 2^32 - 1 bytes. The box of the codestream has no such limit, as
+/// its length may take eight bytes.
 #[tactic(auto, unfolding(crate::specs::Written::written))]
 pub fn encode(alloc: Global, image: &Image, parameters: &Parameters) -> Result<Vec<u8>, Fault>
     // Which bytes, or which fault.
     ensures exact { Answers (λ v. v.items) result (written image.now parameters.now) }
     // The file means exactly the image.
     ensures means { IfOk result (λ v. Means v.items 0 image.now) }
-    // With all layers but the first k empty, of L layers, it means the image that is rebuilt from the coefficients, each
-    // without its L - k lowest bit-planes.
+    // With all layers but the first k empty, of L layers, it means the image that is rebuilt from
+    // the coefficients, each without its L - k lowest bit-planes.
     ensures fronts { IfOk result (λ v. HasFronts image.now parameters.now v.items) }
 {
     parameters.check(image)?;

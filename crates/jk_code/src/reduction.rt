@@ -11,8 +11,8 @@ use jk_geom::{is_empty, reduced_image};
 use jk_math::{Fault, Rect};
 use jk_params::Codestream;
 
-/// The place of the reduced image. BadWindow: a tile-component has fewer decomposition levels, or no sample is
-/// left.
+/// The place of the reduced image. BadWindow: a tile-component has fewer decomposition levels, or
+/// no sample is left.
 #[tactic(auto, unfolding(crate::specs::MeaningReading::reduction_at))]
 pub(crate) fn check_reduction(headers: &Codestream, reduce: u32) -> Result<Rect, Fault>
     requires { (size : ℕ) × AreHeaders size headers.now }

@@ -2,21 +2,23 @@
 
 ghost use Rattle.std.specs.Prelude.{◌≡◌, ℕ, ◌≤◌, ◌<◌, true, List, length, IfOk, IfErr, OnOk, Ok};
 ghost use Rattle.jk_math.specs.Answer.{Answers};
-ghost use Rattle.jk_math.specs.Picture.{Picture, lists_of};
+ghost use Rattle.jk_math.specs.Picture.{Picture};
+ghost use Rattle.jk_math.specs.Lists.{lists_of};
 ghost use Rattle.jk_marks.specs.Siz.{tile_count};
 ghost use Rattle.jk_geom.specs.Rectangles.{IsArea};
 ghost use Rattle.jk_params.specs.Headers.{AreHeaders};
 ghost use Rattle.jk_walk.specs.WalkReading.{packets_at};
 ghost use Rattle.jk_tile.specs.Filling.{IsPartOf};
 ghost use Rattle.jk_tile.specs.TileMeaning.{shown_area};
-ghost use Rattle.jk_tile.specs.TileReading.{tested, part_planes_at};
+ghost use Rattle.jk_tile.specs.decoding.TileReading.{tested, part_planes_at};
 ghost use Rattle.jk_window.specs.Indexing.{IsIndexOf};
 ghost use Rattle.jk_window.specs.Views.{HaveLevels, frame_of};
 ghost use Rattle.jk_code.specs.Meaning.{Means};
 ghost use Rattle.jk_code.specs.MeaningReading.{planes_of_tiles};
-ghost use Rattle.jk_code.specs.Tiles.{AreSeen, ArePlanes, Keeps, ShowsTileAt};
+ghost use Rattle.jk_code.specs.Tiles.{AreSeen, ArePlanes, KeepsSamples, ShowsTileAt};
 ghost use Rattle.jk_code.specs.Viewing.{picture_of_view};
-ghost use Rattle.jk_code.specs.ViewReading.{seen_part, is_seen, seen_packets_tested, seen_parts_tested, view_at, image_view_at, meaning_view_at};
+ghost use Rattle.jk_code.specs.ViewReading.{seen_part, is_seen, seen_packets_tested, seen_parts_tested, view_at};
+ghost use Rattle.jk_code.specs.ViewReading.{image_view_at, meaning_view_at};
 
 use crate::decoding::{blank_planes, put_tile};
 use crate::windows::window;
@@ -51,8 +53,10 @@ fn seen_packets(
 ) -> Result<Vec<Option<TilePackets>>, Fault>
     requires sound { AreHeaders (length bytes.now) headers.now }
     requires few { reduce ≤ 10 }
-    ensures exact { Answers (λ _. tt) result (seen_packets_tested bytes.now headers.now reduce window.now (tile_count headers.now.siz)) }
-    ensures read { IfOk result (λ v. AreSeen bytes.now headers.now reduce window.now (tile_count headers.now.siz) v.items) }
+    ensures exact { Answers (λ _. tt) result
+        (seen_packets_tested bytes.now headers.now reduce window.now (tile_count headers.now.siz)) }
+    ensures read { IfOk result
+        (λ v. AreSeen bytes.now headers.now reduce window.now (tile_count headers.now.siz) v.items) }
 {
     let mut all = Vec::new(alloc);
     for number in 0..headers.tile_count() {
@@ -88,8 +92,9 @@ fn show_tile(
     ensures exact { Answers (λ _. tt) result (tested (part_planes_at bytes.now headers.now number reduce
         (seen_part headers.now reduce window.now number) packets.now)) }
     ensures planes { OnOk result (ArePlanes headers.now window.now planes.new.items) }
-    ensures keeps { OnOk result (Keeps bytes.now headers.now reduce window.now planes.old.items planes.new.items) }
-    ensures shows { OnOk result (ShowsTileAt bytes.now headers.now reduce window.now number headers.now.siz.components planes.new.items) }
+    ensures keeps { OnOk result (KeepsSamples bytes.now headers.now reduce window.now planes.old.items planes.new.items) }
+    ensures shows { OnOk result
+        (ShowsTileAt bytes.now headers.now reduce window.now number headers.now.siz.components planes.new.items) }
 {
     let part = meet(window, &shown(headers, number, reduce));
     let values = decode_part(alloc, headers, bytes, number, packets, reduce, &part)?;
@@ -114,7 +119,8 @@ fn window_planes(
     requires few { reduce ≤ 10 }
     requires window { IsArea window.now }
     requires inside { IsPartOf window.now (frame_of headers.now reduce) }
-    ensures exact { Answers (λ _. tt) result (seen_parts_tested bytes.now headers.now reduce window.now (tile_count headers.now.siz)) }
+    ensures exact { Answers (λ _. tt) result
+        (seen_parts_tested bytes.now headers.now reduce window.now (tile_count headers.now.siz)) }
     ensures planes { IfOk result (λ v. lists_of v.items ≡ planes_of_tiles bytes.now headers.now reduce window.now) }
 {
     let mut planes = blank_planes(alloc, headers.siz().components, window)?;
@@ -170,20 +176,22 @@ fn meaning_view(alloc: Global, bytes: &[u8], view: View) -> Result<Image, Fault>
     codestream_view(alloc, &bytes[boxed.start..boxed.end], view)
 }
 
-/// The window of a view of the image that a file, a bare codestream or a JP2 file, means: what `decode` gives at the view's
-/// reduction, on the rectangle of the view, cut with the reduced image. It takes the time and memory of the window, not of
-/// the image, but for the headers of the packets of the tiles that it meets.
+/// The window of a view of the image that a file, a bare codestream or a JP2 file, means: what
+/// `decode` gives at the view's reduction, on the rectangle of the view, cut with the reduced
+/// image. It takes the time and memory of the window, not of the image, but for the headers of the
+/// packets of the tiles that it meets.
 ///
-/// The first of these faults: those of the boxes; those of `read_codestream`; BadWindow for a reduction past the least number
-/// of decomposition levels, or where the reduced image or the window has no sample; then, of the tiles of which the window
-/// has samples, those of their packets, as `read_packets` names them, tile by tile; then, tile by tile, CodeOutOfInterval of
-/// the code-blocks that have a coefficient on which a sample of the window depends. The packets of other tiles and other
-/// code-blocks aren't judged: a file that `decode` refuses may have a window.
+/// The first of these faults: those of the boxes; those of `read_codestream`; BadWindow for a
+/// reduction past the least number of decomposition levels, or where the reduced image or the
+/// window has no sample; then, of the tiles of which the window has samples, those of their
+/// packets, as `read_packets` names them, tile by tile; then, tile by tile, CodeOutOfInterval of
+/// the code-blocks that have a coefficient on which a sample of the window depends. The packets of
+/// other tiles and other code-blocks aren't judged: a file that `decode` refuses may have a window.
 pub fn decode_window(alloc: Global, bytes: &[u8], view: View) -> Result<Image, Fault>
     // Which image, or which fault is the first.
     ensures exact { Answers (λ i. i) result (meaning_view_at bytes.now view) }
-    // Where the file means a picture at the view's reduction, it is that picture on the window, or BadWindow where the window has
-    // no sample.
+    // Where the file means a picture at the view's reduction, it is that picture on the window, or
+    // BadWindow where the window has no sample.
     ensures means { (p : Picture) → Means bytes.now view.reduce p → Answers (λ i. i) result (picture_of_view view p) }
 {
     meaning_view(alloc, bytes, view)
@@ -201,10 +209,11 @@ pub fn decode_window_by(
     index: &Index,
     view: View,
 ) -> Result<Image, Fault>
-    // With the index of these bytes it is what `decode_window` gives: the image, or the first fault.
+    // With the index of these bytes it is what `decode_window` gives: the image, or the first
+    // fault.
     ensures exact { IsIndexOf bytes.now index.now → Answers (λ i. i) result (meaning_view_at bytes.now view) }
-    // Where the bytes mean a picture at the view's reduction, it is that picture on the window, or BadWindow where the window has
-    // no sample.
+    // Where the bytes mean a picture at the view's reduction, it is that picture on the window, or
+    // BadWindow where the window has no sample.
     ensures means { IsIndexOf bytes.now index.now → (p : Picture) → Means bytes.now view.reduce p
         → Answers (λ i. i) result (picture_of_view view p) }
 {

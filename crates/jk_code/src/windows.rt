@@ -15,14 +15,15 @@ use jk_math::Fault;
 use jk_window::{Index, View, cut};
 use std::alloc::Global;
 
-/// Where a file means a picture at a reduction, the file of a window of it means one of the same place, size, depth, sign and
-/// number of components, with the same samples in the window.
+/// Where a file means a picture at a reduction, the file of a window of it means one of the same
+/// place, size, depth, sign and number of components, with the same samples in the window.
 pub fn windows_show_the_picture()
     ensures { IsWindowMeant }
 {}
 
-/// Where a file means a picture at the reduction of a view, the decoded window of the file of the view's window is the
-/// decoded window of the stored file: `decode_window` gives the same image of both.
+/// Where a file means a picture at the reduction of a view, the decoded window of the file of the
+/// view's window is the decoded window of the stored file: `decode_window` gives the same image of
+/// both.
 pub fn cut_files_show_the_window()
     // The file of the window means a picture that on the window is that of the stored file.
     ensures shown { IsWindowShown }
@@ -35,12 +36,12 @@ pub fn pictures_have_indexes()
     ensures { (bytes : List ℕ) (d : ℕ) (p : Picture) → Means bytes d p → (i : IndexFields) × IsIndexOf bytes i }
 {}
 
-/// The file of the window of a view, as `jk_window::cut` makes it: the stored file, in which the packets that the window
-/// doesn't need are empty.
+/// The file of the window of a view, as `jk_window::cut` makes it: the stored file, in which the
+/// packets that the window doesn't need are empty.
 ///
-/// BadWindow: a tile-component has fewer decomposition levels than the reduction, or the reduced image or the window has
-/// no sample. Changed: the index isn't that of these bytes. If the index isn't and another answer is given, nothing is known
-/// of it.
+/// BadWindow: a tile-component has fewer decomposition levels than the reduction, or the reduced
+/// image or the window has no sample. Changed: the index isn't that of these bytes. If the index
+/// isn't and another answer is given, nothing is known of it.
 pub fn window(alloc: Global, bytes: &[u8], index: &Index, view: View) -> Result<Vec<u8>, Fault>
     // With the index of these bytes it is the file of the window, or BadWindow.
     ensures exact { (is : IsIndexOf bytes.now index.now) → Answers (λ v. v.items) result (cut_file is view) }
@@ -50,7 +51,8 @@ pub fn window(alloc: Global, bytes: &[u8], index: &Index, view: View) -> Result<
     // BadWindow is answered only where the view has no window, whichever index it is.
     ensures unseen { result ≡ Err Fault.BadWindow → HasWindow index.now.headers view → ⊥ }
     // What the bytes mean, the reply means on the window.
-    ensures means { IsIndexOf bytes.now index.now → (p : Picture) → Means bytes.now view.reduce p → IfOk result (λ v. IsWindowOf view p v.items) }
+    ensures means { IsIndexOf bytes.now index.now → (p : Picture) → Means bytes.now view.reduce p
+        → IfOk result (λ v. IsWindowOf view p v.items) }
 {
     cut(alloc, index, bytes, view)
 }

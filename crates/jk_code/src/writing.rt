@@ -1,14 +1,15 @@
 //! Encoding into a writer, tile by tile.
 
-ghost use Rattle.std.specs.Prelude.{◌≡◌, ℕ, ◌+◌, ◌<◌, ◌≤◌, ◌^◌, ◌++◌, ◌⊎◌, List, length, nat_lt, true, Ok, IfOk, IfErr, OnOk};
+ghost use Rattle.std.specs.Prelude.{◌≡◌, ℕ, ◌+◌, ◌<◌, ◌≤◌, ◌^◌, ◌++◌, ◌⊎◌, List, length, nat_lt, true, Ok, IfOk, IfErr};
+ghost use Rattle.std.specs.Prelude.{OnOk};
 ghost use Rattle.std.specs.Io.KnownBytes.{Appends};
 ghost use Rattle.jk_math.specs.Memory.{IsMemory};
 ghost use Rattle.jk_math.specs.declared.fault.Fault.TheVariants.{Limit, Shelf};
 ghost use Rattle.jk_marks.specs.Siz.{tile_count};
 ghost use Rattle.jk_marks.specs.Codestream.{part_text, only_part_of};
 ghost use Rattle.jk_params.specs.Profile.{siz_of, is_profile, IsWrittenBy};
-ghost use Rattle.jk_tile.specs.Needs.{exponents_for, written_bands};
-ghost use Rattle.jk_tile.specs.PacketsWritten.{tile_text};
+ghost use Rattle.jk_tile.specs.encoding.Needs.{exponents_for, written_bands};
+ghost use Rattle.jk_tile.specs.encoding.PacketsWritten.{tile_text};
 ghost use Rattle.jk_code.specs.Meaning.{Means};
 ghost use Rattle.jk_code.specs.Fronts.{HasFronts};
 ghost use Rattle.jk_code.specs.Written.{part_for, part_fits, parts_fit, written};
@@ -74,7 +75,8 @@ fn rest_size(
     ensures size { IfOk result (λ size. length (parts_upto image.now parameters.now 1) + size
         ≡ length (parts_upto image.now parameters.now (tile_count (siz_of image.now parameters.now)))) }
     ensures small { IfOk result (λ size. size < 2 ^ 48) }
-    ensures fits { IfOk result (λ _. part_fits image.now parameters.now 0 ≡ true → parts_fit image.now parameters.now ≡ true) }
+    ensures fits { IfOk result
+        (λ _. part_fits image.now parameters.now 0 ≡ true → parts_fit image.now parameters.now ≡ true) }
     ensures err { IfErr result (λ e. IsMemory e ⊎ ((e ≡ Limit) × IsTooLong image.now parameters.now)) }
 {
     let mut size = 0;
@@ -95,10 +97,12 @@ fn size_ahead(
 ) -> Result<u64, Fault>
     requires written { IsWrittenBy parameters.now image.now }
     requires exponents { exponents.now ≡ exponents_for image.now parameters.now }
-    ensures size { IfOk result (λ size. parameters.now.container ≡ Container.Jp2 → length (parts_upto image.now parameters.now 1) + size
+    ensures size { IfOk result
+        (λ size. parameters.now.container ≡ Container.Jp2 → length (parts_upto image.now parameters.now 1) + size
         ≡ length (parts_upto image.now parameters.now (tile_count (siz_of image.now parameters.now)))) }
     ensures small { IfOk result (λ size. size < 2 ^ 48) }
-    ensures fits { IfOk result (λ _. parameters.now.container ≡ Container.Jp2 → part_fits image.now parameters.now 0 ≡ true
+    ensures fits { IfOk result
+        (λ _. parameters.now.container ≡ Container.Jp2 → part_fits image.now parameters.now 0 ≡ true
         → parts_fit image.now parameters.now ≡ true) }
     ensures err { IfErr result (λ e. IsMemory e
         ⊎ ((e ≡ Limit) × (parameters.now.container ≡ Container.Jp2) × IsTooLong image.now parameters.now)) }
@@ -146,7 +150,8 @@ fn first_part(
     requires first { first.items ≡ written_bands image.now parameters.now 0 }
     ensures text { IfOk result (λ s. s.before.items ++ s.content.items ≡ text_upto image.now parameters.now 1) }
     ensures fits { IfOk result (λ _. part_fits image.now parameters.now 0 ≡ true) }
-    ensures all { IfOk result (λ _. parameters.now.container ≡ Container.Jp2 → parts_fit image.now parameters.now ≡ true) }
+    ensures all { IfOk result
+        (λ _. parameters.now.container ≡ Container.Jp2 → parts_fit image.now parameters.now ≡ true) }
     ensures means { IfOk result (λ _. (file : List ℕ) → written image.now parameters.now ≡ Ok file
         → Means file 0 image.now × HasFronts image.now parameters.now file) }
     ensures err { IfErr result (λ e. IsMemory e ⊎ ((e ≡ Limit) × IsTooLongAhead image.now parameters.now)) }
@@ -168,7 +173,8 @@ fn first_part(
 ///
 /// Shelf: a write failed or took nothing. A beginning of the text was written.
 fn send<W: Write>(writer: &mut W, text: &[u8]) -> Result<(), Fault>
-    ensures { (part : List ℕ) × Appends (W.contents writer.old) (W.contents writer.new) part × IsSent text.now part result }
+    ensures { (part : List ℕ) × Appends (W.contents writer.old) (W.contents writer.new) part
+        × IsSent text.now part result }
 {
     if write_out(writer, text) {
         Ok(())
@@ -179,7 +185,8 @@ fn send<W: Write>(writer: &mut W, text: &[u8]) -> Result<(), Fault>
 
 /// Writes the start of a file. It is let go of.
 fn put_start<W: Write>(writer: &mut W, start: Start) -> Result<(), Fault>
-    ensures { (part : List ℕ) × Appends (W.contents writer.old) (W.contents writer.new) part × IsSent (start.before.items ++ start.content.items) part result }
+    ensures { (part : List ℕ) × Appends (W.contents writer.old) (W.contents writer.new) part
+        × IsSent (start.before.items ++ start.content.items) part result }
 {
     send(writer, &start.before)?;
     send(writer, &start.content)
@@ -188,7 +195,8 @@ fn put_start<W: Write>(writer: &mut W, start: Start) -> Result<(), Fault>
 /// Writes the only tile-part of a tile with these data.
 fn put_part<W: Write>(alloc: Global, writer: &mut W, tile: u16, content: &[u8]) -> Result<(), Fault>
     ensures { (part : List ℕ) × Appends (W.contents writer.old) (W.contents writer.new) part
-        × IsPartSent (part_text (only_part_of tile content.now)) (nat_lt (14 + length content.now) (2 ^ 32)) part result }
+        × IsPartSent (part_text (only_part_of tile content.now))
+        (nat_lt (14 + length content.now) (2 ^ 32)) part result }
 {
     let head = part_head(alloc, tile, content)?;
     send(writer, &head)?;
@@ -208,7 +216,8 @@ fn put_tile<W: Write>(
     requires exponents { exponents.now ≡ exponents_for image.now parameters.now }
     requires number { number < tile_count (siz_of image.now parameters.now) }
     ensures { (part : List ℕ) × Appends (W.contents writer.old) (W.contents writer.new) part
-        × IsPartSent (part_text (part_for image.now parameters.now number)) (part_fits image.now parameters.now number) part result }
+        × IsPartSent (part_text (part_for image.now parameters.now number))
+        (part_fits image.now parameters.now number) part result }
 {
     let content = tile_content(alloc, image, parameters, exponents, number)?;
     put_part(alloc, writer, number as u16, &content)
@@ -225,7 +234,8 @@ fn put_rest<W: Write>(
     requires written { IsWrittenBy parameters.now image.now }
     requires exponents { exponents.now ≡ exponents_for image.now parameters.now }
     requires first { part_fits image.now parameters.now 0 ≡ true }
-    ensures { (text : List ℕ) × Appends (W.contents writer.old) (W.contents writer.new) text × IsRestSent image.now parameters.now text result }
+    ensures { (text : List ℕ) × Appends (W.contents writer.old) (W.contents writer.new) text
+        × IsRestSent image.now parameters.now text result }
 {
     for number in 1..tile_count(&siz_of(image, parameters)) {
         put_tile(alloc, writer, image, parameters, exponents, number)?;
@@ -244,7 +254,8 @@ fn put_file<W: Write>(
     requires written { IsWrittenBy parameters.now image.now }
     ensures means { OnOk result ((file : List ℕ) → written image.now parameters.now ≡ Ok file
         → Means file 0 image.now × HasFronts image.now parameters.now file) }
-    ensures part { (text : List ℕ) × Appends (W.contents writer.old) (W.contents writer.new) text × Left image.now parameters.now text result }
+    ensures part { (text : List ℕ) × Appends (W.contents writer.old) (W.contents writer.new) text
+        × Left image.now parameters.now text result }
 {
     let (exponents, first) = exponents(alloc, image, parameters)?;
     let start = first_part(alloc, image, parameters, &exponents, first)?;
@@ -253,15 +264,16 @@ fn put_file<W: Write>(
     send(writer, &EOC)
 }
 
-/// Writes the file of an image, a bare codestream or a JP2 file as the parameters say: the bytes that
-/// [`encode`](crate::encode) gives. The packets of one tile are held at a time.
+/// Writes the file of an image, a bare codestream or a JP2 file as the parameters say: the bytes
+/// that [`encode`](crate::encode) gives. The packets of one tile are held at a time.
 ///
-/// The front of a JP2 file says how long its codestream is: where there is more than one tile, all but the first are coded
-/// once for that, and once more to be written.
+/// The front of a JP2 file says how long its codestream is: where there is more than one tile, all
+/// but the first are coded once for that, and once more to be written.
 ///
-/// BadParameters: an image and parameters outside the profile, as `Parameters::check` says; nothing is written. Limit: a
-/// tile-part would be longer than 2^32 - 1 bytes; of a JP2 file nothing is written, of a bare codestream what stands before
-/// the tile-part. Shelf: a write failed or took nothing. After Memory and Shelf a beginning of the file is written.
+/// BadParameters: an image and parameters outside the profile, as `Parameters::check` says; nothing
+/// is written. Limit: a tile-part would be longer than 2^32 - 1 bytes; of a JP2 file nothing is
+/// written, of a bare codestream what stands before the tile-part. Shelf: a write failed or took
+/// nothing. After Memory and Shelf a beginning of the file is written.
 pub fn encode_into<W: Write>(
     alloc: Global,
     image: &Image,
@@ -269,12 +281,15 @@ pub fn encode_into<W: Write>(
     writer: &mut W,
 ) -> Result<(), Fault>
     // The whole file is written, byte for byte what encoding gives.
-    ensures ok { OnOk result ((file : List ℕ) × (written image.now parameters.now ≡ Ok file) × Appends (W.contents writer.old) (W.contents writer.new) file) }
+    ensures ok { OnOk result
+        ((file : List ℕ) × (written image.now parameters.now ≡ Ok file)
+        × Appends (W.contents writer.old) (W.contents writer.new) file) }
     // It means exactly the image, and so do its layers.
     ensures means { OnOk result ((file : List ℕ) → written image.now parameters.now ≡ Ok file
         → Means file 0 image.now × HasFronts image.now parameters.now file) }
     // What was written, however it ended.
-    ensures part { (text : List ℕ) × Appends (W.contents writer.old) (W.contents writer.new) text × Left image.now parameters.now text result }
+    ensures part { (text : List ℕ) × Appends (W.contents writer.old) (W.contents writer.new) text
+        × Left image.now parameters.now text result }
 {
     parameters.check(image)?;
     put_file(alloc, image, parameters, writer)

@@ -5,4 +5,3 @@ pub mod WalkLoops
 pub mod MarkerLaws
 pub mod BoxLaws
 pub mod AllLaws
-mod Examples

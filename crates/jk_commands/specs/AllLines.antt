@@ -1,17 +1,10 @@
 -- The lines that `jk info --all` writes: that of `jk info`, and below it what decides how small
--- windows get, and what the file carries. Those of a JP2 file of 3 by 2 pixels in two tiles, with SOP,
--- EPH and precincts, are these:
---   3 2 3 8 1 1 LRCP 2 12
---   boxes: jP%20%20=12 ftyp=20 jp2h=45 jp2c=251
---   tile-parts: 2
---   code-blocks: 32x16
---   precincts: 32x16 64x32
---   SOP: yes
---   EPH: yes
---   colour-transform: reversible
---   passed-over: none
---   sizes: 3x2 2x1
-use Rattle.std.specs.Prelude.{ℕ, ◌+◌, ◌-◌, ◌^◌, Bool, not, ◌&&◌, ◌||◌, ◌==◌, if◌then◌else◌, List, [], ◌++◌, length, slice_range, Result, Ok, codes}
+-- windows get, and what the file carries. Those of a JP2 file of 3 by 2 pixels in two tiles, with
+-- SOP, EPH and precincts, are these: 3 2 3 8 1 1 LRCP 2 12 boxes: jP%20%20=12 ftyp=20 jp2h=45
+-- jp2c=251 tile-parts: 2 code-blocks: 32x16 precincts: 32x16 64x32 SOP: yes EPH: yes
+-- colour-transform: reversible passed-over: none sizes: 3x2 2x1
+use Rattle.std.specs.Prelude.{ℕ, ◌+◌, ◌-◌, ◌^◌, Bool, not, ◌&&◌, ◌||◌, ◌==◌, if◌then◌else◌, List, [], ◌++◌, length}
+use Rattle.std.specs.Prelude.{slice_range, Result, Ok, codes}
 use Rattle.std.specs.List.{flat_map, list_all, count_by}
 use Rattle.std.specs.Fmt.{decimal}
 use Rattle.std.specs.Cmp.Lexicographic.{pointwise}

@@ -32,7 +32,8 @@ window_decoded bytes v = do
   p ← meaning_view_at bytes v
   pnm_of p
 
--- the PGM or PPM file of a picture on the window of a view; BadWindow where the window has no sample
+-- the PGM or PPM file of a picture on the window of a view; BadWindow where the window has no
+-- sample
 abbrev pub window_given : View → Picture → Result (List ℕ) Fault
 window_given v p = do
   q ← picture_of_view v p

@@ -1,6 +1,7 @@
 -- The marker segments that are passed over in the headers of a codestream (T.800 A.3, A.4.2): among
 -- its segments, and by their places.
-use Rattle.std.specs.Prelude.{ℕ, zero, suc, ◌-◌, not, ◌==◌, nat_lt, if◌then◌else◌, Bool, false, List, [], ◌∷◌, ◌++◌, length, drop}
+use Rattle.std.specs.Prelude.{ℕ, zero, suc, ◌-◌, not, ◌==◌, nat_lt, if◌then◌else◌, Bool, false, List, [], ◌∷◌, ◌++◌}
+use Rattle.std.specs.Prelude.{length, drop}
 use Rattle.std.specs.List.{flat_map, list_any}
 use Rattle.byteorder.specs.Endian.{big_number}
 use Rattle.jk_marks.specs.Markers.{siz, cod, coc, qcd, qcc, sot, sod}
@@ -29,10 +30,11 @@ is_passed_over m (Alone k) = k == m
 unfoldable pub markers_from : (n last : ℕ) → List ℕ → List ℕ
 markers_from zero last bytes = []
 markers_from (suc n) last bytes =
-    if segment_size last bytes == 0 then [] else big_number 2 bytes ∷ markers_from n last (drop (segment_size last bytes) bytes)
+    if segment_size last bytes == 0 then []
+    else big_number 2 bytes ∷ markers_from n last (drop (segment_size last bytes) bytes)
 
--- How long the tile-part is that begins the bytes, which go on to the end of the codestream: Psot, or
--- up to EOC where Psot is 0. It is 0 where no tile-part stands there as a whole.
+-- How long the tile-part is that begins the bytes, which go on to the end of the codestream: Psot,
+-- or up to EOC where Psot is 0. It is 0 where no tile-part stands there as a whole.
 unfoldable pub part_size : List ℕ → ℕ
 part_size bytes =
     if nat_lt (length bytes) 14 then 0
@@ -61,7 +63,7 @@ parts_in bytes size = parts_from (length (drop size bytes)) (drop size bytes)
 abbrev pub markers_in : List ℕ → ℕ → List ℕ
 markers_in bytes size = main_markers bytes ++ flat_map part_markers (parts_in bytes size)
 
--- the markers of the segments that say something: SIZ, COD, COC, QCD and QCC; all others in a header
--- are passed over
+-- the markers of the segments that say something: SIZ, COD, COC, QCD and QCC; all others in a
+-- header are passed over
 abbrev pub is_read : ℕ → Bool
 is_read m = list_any (λ k. k == m) (siz ∷ cod ∷ coc ∷ qcd ∷ qcc ∷ [])

@@ -10,3 +10,4 @@ pub mod BoxList
 pub mod HeaderMarkers
 pub mod Values
 pub mod AllLines
+pub mod Examples

@@ -1,5 +1,6 @@
 -- What the options of an encoding ask for.
-use Rattle.std.specs.Prelude.{ℕ, ◌+◌, ◌^◌, ◌==◌, ◌&&◌, Bool, true, false, not, nat_lt, List, length, replicate, Option, Some, None, Result, Ok, Err, if◌then◌else◌}
+use Rattle.std.specs.Prelude.{ℕ, ◌+◌, ◌^◌, ◌==◌, ◌&&◌, Bool, true, false, not, nat_lt, List, length, replicate, Option}
+use Rattle.std.specs.Prelude.{Some, None, Result, Ok, Err, if◌then◌else◌}
 use Rattle.std.specs.String.{string_bytes}
 use Rattle.jk_math.specs.Answer.{◌>>=◌}
 use Rattle.jk_math.specs.declared.fault.Fault.{Fault}
@@ -45,8 +46,8 @@ order_for (Some order) windows = order
 order_for None true = Rpcl
 order_for None false = Lrcp
 
--- The precinct sizes: the given ones; else 128 by 128 (2^7) at each resolution of a file for windows,
--- and none in another.
+-- The precinct sizes: the given ones; else 128 by 128 (2^7) at each resolution of a file for
+-- windows, and none in another.
 abbrev pub precincts_for : (text : List ℕ) (windows : Bool) (levels : ℕ) → Result (List (ℕ × ℕ)) Fault
 precincts_for text windows levels =
     if windows && (length text == 0) then Ok (replicate (levels + 1) (7, 7)) else sizes_at text

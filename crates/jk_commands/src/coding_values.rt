@@ -5,7 +5,8 @@ ghost use Rattle.std.specs.List.{list_all, AllByRecursion};
 ghost use Rattle.std.specs.String.{string_bytes};
 ghost use Rattle.jk_marks.specs.Coding.{IsCoding};
 ghost use Rattle.jk_params.specs.Headers.{AreHeaders};
-ghost use Rattle.jk_commands.specs.AllLines.{are_alike, hold_of_codings, hold_of_styles, first_coding, block_values, precincts_text, precinct_values, flag_in, flag_values};
+ghost use Rattle.jk_commands.specs.AllLines.{are_alike, hold_of_codings, hold_of_styles, first_coding, block_values};
+ghost use Rattle.jk_commands.specs.AllLines.{precincts_text, precinct_values, flag_in, flag_values};
 
 use crate::values::{put_size, put_value};
 use jk_geom::Codings;

@@ -17,8 +17,8 @@ use jk_math::{Fault, Image};
 use std::alloc::Global;
 use std::io::Write;
 
-/// The image of a PGM or PPM file, as `jk_pnm::read` gives it. The file is let go of, one of grey samples of a byte while
-/// they are made.
+/// The image of a PGM or PPM file, as `jk_pnm::read` gives it. The file is let go of, one of grey
+/// samples of a byte while they are made.
 pub fn read_image(alloc: Global, bytes: Vec<u8>) -> Result<Image, Fault>
     ensures exact { Answers (λ i. i) result (pnm_at bytes.items) }
     // What is read is a file of this image.
@@ -38,7 +38,8 @@ pub fn read_image(alloc: Global, bytes: Vec<u8>) -> Result<Image, Fault>
 pub fn encode_file(alloc: Global, bytes: Vec<u8>, plan: Plan) -> Result<Vec<u8>, Fault>
     // Which bytes, or which fault is the first.
     ensures exact { Answers (λ v. v.items) result (encoded bytes.items plan) }
-    // Of a file of a picture, what is written means exactly that picture, placed as it is asked for.
+    // Of a file of a picture, what is written means exactly that picture, placed as it is asked
+    // for.
     ensures means { (p : Picture) → IsPnm bytes.items p
         → IfOk result (λ v. Means v.items 0 (at_place p plan.x0 plan.y0)) }
     // Nothing is written of other bytes.
@@ -50,10 +51,11 @@ pub fn encode_file(alloc: Global, bytes: Vec<u8>, plan: Plan) -> Result<Vec<u8>,
     encode(alloc, &placed.image, &placed.parameters)
 }
 
-/// Writes what `jk encode` makes of a PGM or PPM file, tile by tile: the bytes that [`encode_file`] gives.
+/// Writes what `jk encode` makes of a PGM or PPM file, tile by tile: the bytes that [`encode_file`]
+/// gives.
 ///
-/// The faults are those of [`encode_file`] in their order, and Shelf: a write failed or took nothing.
-/// Nothing is written after BadPnm and BadParameters; after Limit, Memory and Shelf what
+/// The faults are those of [`encode_file`] in their order, and Shelf: a write failed or took
+/// nothing. Nothing is written after BadPnm and BadParameters; after Limit, Memory and Shelf what
 /// `jk_code::encode_into` leaves. Before the image is encoded, the file is let go of.
 pub fn encode_file_into<W: Write>(
     alloc: Global,

@@ -4,7 +4,8 @@ ghost use Rattle.std.specs.Prelude.{◌≡◌, ◌≤◌, ◌<◌, ◌++◌, len
 ghost use Rattle.std.specs.List.{flat_map};
 ghost use Rattle.jk_marks.specs.Copying.{segment_size};
 ghost use Rattle.jk_marks.specs.Markers.{is_alone};
-ghost use Rattle.jk_commands.specs.HeaderMarkers.{markers_from, part_size, parts_from, part_markers, main_markers, parts_in, markers_in};
+ghost use Rattle.jk_commands.specs.HeaderMarkers.{markers_from, part_size, parts_from, part_markers, main_markers};
+ghost use Rattle.jk_commands.specs.HeaderMarkers.{parts_in, markers_in};
 
 use byteorder::{BigEndian, ByteOrder};
 use jk_marks::marker;

@@ -13,7 +13,8 @@ ghost use Rattle.jk_params.specs.Headers.{AreHeaders};
 ghost use Rattle.jk_window.specs.Indexing.{IndexFields, IsIndexOf, least_levels};
 ghost use Rattle.jk_commands.specs.HeaderMarkers.{is_read};
 ghost use Rattle.jk_commands.specs.Lines.{line_of, info_at};
-ghost use Rattle.jk_commands.specs.AllLines.{box_values, boxes_in, marker_value, passed_values, frame_value, frame_values, coding_lines, lines_below, lines_of, all_at};
+ghost use Rattle.jk_commands.specs.AllLines.{box_values, boxes_in, marker_value, passed_values, frame_value};
+ghost use Rattle.jk_commands.specs.AllLines.{frame_values, coding_lines, lines_below, lines_of, all_at};
 
 use crate::box_list::boxes;
 use crate::coding_values::{Flag, block_values, flag_values, precinct_values};

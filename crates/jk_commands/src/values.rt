@@ -3,7 +3,8 @@
 ghost use Rattle.std.specs.Prelude.{◌≡◌, ◌<◌, ◌++◌, true, OnOk, IfOk};
 ghost use Rattle.std.specs.String.{string_bytes};
 ghost use Rattle.std.specs.Fmt.{decimal, digit_glyph};
-ghost use Rattle.jk_commands.specs.Values.{value, size_value, pair_value, labelled, hex_text, kind_byte, kind_text, marker_name};
+ghost use Rattle.jk_commands.specs.Values.{value, size_value, pair_value, labelled, hex_text, kind_byte, kind_text};
+ghost use Rattle.jk_commands.specs.Values.{marker_name};
 
 use jk_marks::marker;
 use std::alloc::{AllocError, Global};

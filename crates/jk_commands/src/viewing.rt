@@ -35,10 +35,12 @@ pub fn decode_window_file(alloc: Global, bytes: Vec<u8>, view: View) -> Result<V
     // Which bytes, or which fault is the first.
     ensures exact { Answers (λ v. v.items) result (window_decoded bytes.items view) }
     // What is written is a PGM or PPM file of the picture that the window shows.
-    ensures found { IfOk result (λ v. (p : Picture) × (meaning_view_at bytes.items view ≡ Ok p) × IsPnm v.items (at_place p 0 0)) }
-    // Of a file that means a picture, the file of that picture on the window is written, or BadWindow
-    // is answered where the window has no sample.
-    ensures means { (p : Picture) → Means bytes.items view.reduce p → Answers (λ v. v.items) result (window_given view p) }
+    ensures found { IfOk result
+        (λ v. (p : Picture) × (meaning_view_at bytes.items view ≡ Ok p) × IsPnm v.items (at_place p 0 0)) }
+    // Of a file that means a picture, the file of that picture on the window is written, or
+    // BadWindow is answered where the window has no sample.
+    ensures means { (p : Picture) → Means bytes.items view.reduce p
+        → Answers (λ v. v.items) result (window_given view p) }
 {
     let image = window_image(alloc, bytes, view)?;
     jk_pnm::write(alloc, &image)

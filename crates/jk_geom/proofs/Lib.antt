@@ -8,4 +8,3 @@ pub mod Sums
 pub mod Counts
 pub mod FewBlocks
 pub mod Laws
-mod Examples

@@ -9,9 +9,11 @@ use Rattle.jk_geom.specs.Precincts.{part_width, part_height, precinct_area}
 
 -- no code-blocks
 abbrev pub no_blocks : Rect → (width height : ℕ) → BlockGrid
-no_blocks area width height = record { area = area; width = width; height = height; column = 0; row = 0; across = 0; down = 0 }
+no_blocks area width height =
+    record { area = area; width = width; height = height; column = 0; row = 0; across = 0; down = 0 }
 
--- The code-blocks of a rectangle: those of the cells, 2^width wide and 2^height high, that have a place in it.
+-- The code-blocks of a rectangle: those of the cells, 2^width wide and 2^height high, that have a
+-- place in it.
 unfoldable pub grid_of : Rect → (width height : ℕ) → BlockGrid
 grid_of area width height = if is_empty area then no_blocks area width height else record {
   area = area;
@@ -23,7 +25,8 @@ grid_of area width height = if is_empty area then no_blocks area width height el
   down = ceil_div area.y1 (2 ^ height) - area.y0 / 2 ^ height;
 }
 
--- the code-blocks of a precinct's part of a sub-band; they are no larger than the precinct (equations B-17 and B-18)
+-- the code-blocks of a precinct's part of a sub-band; they are no larger than the precinct
+-- (equations B-17 and B-18)
 unfoldable pub block_grid : Rect → Coding → (r n : ℕ) → Orientation → BlockGrid
 block_grid a k r n o = grid_of (precinct_area a k r n o) (min k.xcb (part_width k r)) (min k.ycb (part_height k r))
 

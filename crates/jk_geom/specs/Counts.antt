@@ -13,7 +13,8 @@ precincts_below a k (suc r) = precincts_below a k r + precinct_number a k r
 -- how many precincts the components before c have
 unfoldable pub precincts_before : Rect → List Coding → ℕ → ℕ
 precincts_before a codings zero = 0
-precincts_before a codings (suc c) = precincts_before a codings c + precincts_below a (coding_of codings c) ((coding_of codings c).levels + 1)
+precincts_before a codings (suc c) = precincts_before a codings c
+    + precincts_below a (coding_of codings c) ((coding_of codings c).levels + 1)
 
 -- one packet for each layer of each precinct of each component
 unfoldable pub packet_number : Rect → (layers : ℕ) → List Coding → ℕ

@@ -6,3 +6,4 @@ pub mod Blocks
 pub mod Partitions
 pub mod TileShapes
 pub mod Counts
+pub mod Examples

@@ -8,7 +8,8 @@ use Rattle.jk_marks.specs.Coding.{precinct_size}
 use Rattle.jk_math.specs.declared.orientation.Orientation.{Orientation}
 use Rattle.jk_math.specs.declared.orientation.Orientation.TheVariants.{LL, HL, LH, HH}
 use Rattle.jk_geom.specs.declared.grid.BlockGrid.{BlockGrid}
-use Rattle.jk_geom.specs.Rectangles.{IsWithin, ceil_div, across_offset, down_offset, tile_area, resolution_area, band_area}
+use Rattle.jk_geom.specs.Rectangles.{IsWithin, ceil_div, across_offset, down_offset, tile_area, resolution_area}
+use Rattle.jk_geom.specs.Rectangles.{band_area}
 use Rattle.jk_geom.specs.Precincts.{precincts_across, precinct_number, part_width, part_height}
 use Rattle.jk_geom.specs.Blocks.{block_grid, block_area}
 

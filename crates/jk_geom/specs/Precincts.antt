@@ -28,7 +28,8 @@ precinct_column a k r n = (resolution_area a k.levels r).x0 / 2 ^ (precinct_size
 unfoldable pub precinct_row : Rect → Coding → ℕ → ℕ → ℕ
 precinct_row a k r n = (resolution_area a k.levels r).y0 / 2 ^ (precinct_size k r).1 + n / precincts_across a k r
 
--- the exponents of a precinct's part of a sub-band: above the lowest resolution a sub-band has half the places of it
+-- the exponents of a precinct's part of a sub-band: above the lowest resolution a sub-band has half
+-- the places of it
 abbrev pub band_exponent : (exponent r : ℕ) → ℕ
 band_exponent exponent r = if nat_lt 0 r then exponent - 1 else exponent
 
@@ -40,4 +41,6 @@ part_height k r = band_exponent (precinct_size k r).1 r
 
 -- the part of a sub-band that belongs to precinct n
 unfoldable pub precinct_area : Rect → Coding → (r n : ℕ) → Orientation → Rect
-precinct_area a k r n o = meet (cell (precinct_column a k r n) (precinct_row a k r n) (part_width k r) (part_height k r)) (band_area a k.levels r o)
+precinct_area a k r n o =
+    meet (cell (precinct_column a k r n) (precinct_row a k r n) (part_width k r) (part_height k r))
+    (band_area a k.levels r o)

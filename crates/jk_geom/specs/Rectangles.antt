@@ -37,7 +37,8 @@ meet a b = record { x0 = max a.x0 b.x0; y0 = max a.y0 b.y0; x1 = min a.x1 b.x1; 
 abbrev pub touches : Rect → Rect → Bool
 touches a b = not (is_empty (meet a b))
 
--- The rectangle of column a and row b where the plane is cut, from 0 on, into rectangles 2^ex wide and 2^ey high.
+-- The rectangle of column a and row b where the plane is cut, from 0 on, into rectangles 2^ex wide
+-- and 2^ey high.
 abbrev pub cell : (a b ex ey : ℕ) → Rect
 cell a b ex ey = record { x0 = a * 2 ^ ex; y0 = b * 2 ^ ey; x1 = (a + 1) * 2 ^ ex; y1 = (b + 1) * 2 ^ ey }
 
@@ -75,7 +76,8 @@ down_offset HL = 0
 down_offset LH = 1
 down_offset HH = 1
 
--- a bound of a sub-band of level nb with the offset 0 or 1, from that of the tile-component (B.5, equation B-15)
+-- a bound of a sub-band of level nb with the offset 0 or 1, from that of the tile-component (B.5,
+-- equation B-15)
 abbrev pub band_bound : (value nb offset : ℕ) → ℕ
 band_bound value nb offset = ceil_div (value - 2 ^ (nb - 1) * offset) (2 ^ nb)
 
@@ -88,8 +90,8 @@ level_area a nb o = record {
   y1 = band_bound a.y1 nb (down_offset o);
 }
 
--- The sub-bands of resolution r: LL of resolution 0, which is that resolution; HL, LH and HH of each other one, which
--- stand on level nb = levels - r + 1 (B.5).
+-- The sub-bands of resolution r: LL of resolution 0, which is that resolution; HL, LH and HH of
+-- each other one, which stand on level nb = levels - r + 1 (B.5).
 unfoldable pub band_area : Rect → (levels r : ℕ) → Orientation → Rect
 band_area a levels r LL = resolution_area a levels 0
 band_area a levels r o = level_area a (levels - r + 1) o

@@ -1,12 +1,14 @@
 //! Resolutions and sub-bands.
 
 ghost use Rattle.std.specs.Prelude.{◌≡◌, ◌<◌, ◌≤◌, ◌^◌, if◌then◌else◌};
-ghost use Rattle.jk_geom.specs.Rectangles.{IsArea, across_offset, down_offset, band_bound, resolution_area, band_area, level_area};
+ghost use Rattle.jk_geom.specs.Rectangles.{IsArea, across_offset, down_offset, band_bound, resolution_area, band_area};
+ghost use Rattle.jk_geom.specs.Rectangles.{level_area};
 
 use crate::rounding::shift_up;
 use jk_math::{Orientation, Rect};
 
-/// Resolution `r` of a tile-component with `levels` decomposition levels (T.800 B.5, equation B-14).
+/// Resolution `r` of a tile-component with `levels` decomposition levels (T.800 B.5, equation
+/// B-14).
 #[tactic(auto, unfolding(crate::specs::Rectangles::resolution_area))]
 pub fn resolution(rect: &Rect, levels: u8, r: u8) -> Rect
     requires area { IsArea rect.now }
@@ -41,8 +43,10 @@ fn level_band(rect: &Rect, nb: u8, across: bool, down: bool) -> Rect
     requires area { IsArea rect.now }
     requires some { 0 < nb }
     requires few { nb ≤ 11 }
-    ensures x { (result.x0 ≡ band_bound rect.now.x0 nb (if across then 1 else 0)) × (result.x1 ≡ band_bound rect.now.x1 nb (if across then 1 else 0)) }
-    ensures y { (result.y0 ≡ band_bound rect.now.y0 nb (if down then 1 else 0)) × (result.y1 ≡ band_bound rect.now.y1 nb (if down then 1 else 0)) }
+    ensures x { (result.x0 ≡ band_bound rect.now.x0 nb (if across then 1 else 0))
+        × (result.x1 ≡ band_bound rect.now.x1 nb (if across then 1 else 0)) }
+    ensures y { (result.y0 ≡ band_bound rect.now.y0 nb (if down then 1 else 0))
+        × (result.y1 ≡ band_bound rect.now.y1 nb (if down then 1 else 0)) }
     ensures area { IsArea result }
 {
     Rect {
@@ -53,8 +57,8 @@ fn level_band(rect: &Rect, nb: u8, across: bool, down: bool) -> Rect
     }
 }
 
-/// A sub-band of resolution `r` (T.800 B.5, equation B-15): LL, which is resolution 0, or HL, LH or HH of a
-/// resolution above it.
+/// A sub-band of resolution `r` (T.800 B.5, equation B-15): LL, which is resolution 0, or HL, LH or
+/// HH of a resolution above it.
 #[tactic(auto, unfolding(crate::specs::Rectangles::band_area))]
 pub fn band(rect: &Rect, levels: u8, r: u8, orientation: Orientation) -> Rect
     requires area { IsArea rect.now }

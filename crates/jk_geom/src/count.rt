@@ -26,8 +26,8 @@ fn precincts(rect: &Rect, coding: &Coding) -> u64
     count
 }
 
-/// How many packets a tile with so many layers and these codings has, and 2^64 - 1 where there are more: one
-/// for each layer of each precinct (T.800 B.9).
+/// How many packets a tile with so many layers and these codings has, and 2^64 - 1 where there are
+/// more: one for each layer of each precinct (T.800 B.9).
 pub fn packet_count(rect: &Rect, layers: u16, codings: &Codings) -> u64
     requires area { IsArea rect.now }
     requires layers { 1 ≤ layers }

@@ -11,7 +11,8 @@ use crate::rounding::{part_of, shift_up};
 use jk_marks::Coding;
 use jk_math::{Orientation, Rect};
 
-/// The code-blocks of a rectangle of a sub-band: the parts of it in the cells of a grid, in raster order.
+/// The code-blocks of a rectangle of a sub-band: the parts of it in the cells of a grid, in raster
+/// order.
 #[derive(Clone, Copy, Debug, PartialEq, Eq)]
 pub struct BlockGrid {
     /// The rectangle.

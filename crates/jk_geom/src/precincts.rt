@@ -3,7 +3,8 @@
 ghost use Rattle.std.specs.Prelude.{◌≡◌, ◌+◌, ◌-◌, ◌*◌, ◌/◌, ◌<◌, ◌≤◌, ◌^◌};
 ghost use Rattle.jk_marks.specs.Coding.{IsCoding, precinct_size};
 ghost use Rattle.jk_geom.specs.Rectangles.{ceil_div, IsArea};
-ghost use Rattle.jk_geom.specs.Precincts.{span, precincts_across, precincts_down, precinct_number, precinct_column, precinct_row, precinct_area, part_width, part_height};
+ghost use Rattle.jk_geom.specs.Precincts.{span, precincts_across, precincts_down, precinct_number, precinct_column};
+ghost use Rattle.jk_geom.specs.Precincts.{precinct_row, precinct_area, part_width, part_height};
 
 use crate::bands::{band, resolution};
 use crate::rounding::{part_of, shift_up};
@@ -51,8 +52,8 @@ fn cells(start: u32, end: u32, exponent: u8) -> u32
     }
 }
 
-/// How many precincts resolution `r` of a tile-component has side by side, and how many one above the
-/// other (T.800 B.6, equation B-16).
+/// How many precincts resolution `r` of a tile-component has side by side, and how many one above
+/// the other (T.800 B.6, equation B-16).
 #[tactic(auto, unfolding(crate::specs::Precincts::precincts_across, crate::specs::Precincts::precincts_down))]
 pub fn precinct_count(rect: &Rect, coding: &Coding, r: u8) -> (u32, u32)
     requires area { IsArea rect.now }
@@ -102,7 +103,8 @@ pub(crate) fn place(rect: &Rect, coding: &Coding, r: u8, k: u32) -> (u32, u32)
     )
 }
 
-/// The part of a sub-band of resolution `r` that belongs to precinct `k`; it may be empty (T.800 B.6).
+/// The part of a sub-band of resolution `r` that belongs to precinct `k`; it may be empty (T.800
+/// B.6).
 #[tactic(auto, using(crate::proofs::Ceilings::part_fits), unfolding(crate::specs::Precincts::precinct_area))]
 pub fn precinct(rect: &Rect, coding: &Coding, r: u8, k: u32, orientation: Orientation) -> Rect
     requires area { IsArea rect.now }

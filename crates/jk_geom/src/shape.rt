@@ -106,7 +106,8 @@ pub struct PacketName {
 pub fn tile_shape(siz: &Siz, tile: u32, layers: u16, order: Order, codings: Codings) -> TileShape
     requires siz { IsSiz siz.now }
     requires tile { tile < tile_count siz.now }
-    ensures value { result ≡ record { rect = tile_area siz.now tile; layers = layers; order = order; codings = codings } }
+    ensures value { result
+        ≡ record { rect = tile_area siz.now tile; layers = layers; order = order; codings = codings } }
     ensures area { IsArea result.rect }
     ensures shape { AreCodings codings → 1 ≤ layers → IsTileShape result }
 {

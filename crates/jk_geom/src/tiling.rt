@@ -32,7 +32,8 @@ pub fn tile_count(siz: &Siz) -> u32
     across(siz) * tiles_between(siz.tile_y0, siz.y1, siz.tile_height)
 }
 
-/// The bounds of tile `n` of those that begin at `first` and are `side` wide, within `start` and `end`.
+/// The bounds of tile `n` of those that begin at `first` and are `side` wide, within `start` and
+/// `end`.
 fn bounds(first: u32, side: u32, n: u32, start: u32, end: u32) -> (u32, u32)
     requires side { 0 < side }
     requires first { start < first + side }
@@ -47,8 +48,8 @@ fn bounds(first: u32, side: u32, n: u32, start: u32, end: u32) -> (u32, u32)
     (left.max(start as u64) as u32, right.min(end as u64) as u32)
 }
 
-/// The part of the image that is tile number `tile`, in raster order (T.800 B.3, equations B-6 to B-10).
-/// No tile is empty.
+/// The part of the image that is tile number `tile`, in raster order (T.800 B.3, equations B-6 to
+/// B-10). No tile is empty.
 #[tactic(auto, unfolding(crate::specs::Rectangles::tile_area))]
 pub fn tile(siz: &Siz, tile: u32) -> Rect
     requires siz { IsSiz siz.now }

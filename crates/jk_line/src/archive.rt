@@ -150,7 +150,8 @@ fn of_beside<W: World>(
     }
 }
 
-/// `jk add DIR NAME IN`: the options first, then the input and its image, the folder, the name, and the adding.
+/// `jk add DIR NAME IN`: the options first, then the input and its image, the folder, the name, and
+/// the adding.
 pub(crate) fn add<W: World>(
     alloc: Global,
     line: &ArgMatches<'_>,

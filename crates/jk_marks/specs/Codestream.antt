@@ -1,5 +1,6 @@
 -- The codestream (T.800 A.3): a main header, tile-parts, and the end.
-use Rattle.std.specs.Prelude.{ℕ, ◌+◌, ◌<◌, ◌≤◌, ◌^◌, ◌≡◌, List, [], ◌∷◌, ◌++◌, length, map, Bool, true, false, ◌==◌, filter, slice_index_or, Option, None, Some, if◌then◌else◌}
+use Rattle.std.specs.Prelude.{ℕ, ◌+◌, ◌<◌, ◌≤◌, ◌^◌, ◌≡◌, List, [], ◌∷◌, ◌++◌, length, map, Bool, true, false, ◌==◌}
+use Rattle.std.specs.Prelude.{filter, slice_index_or, Option, None, Some, if◌then◌else◌}
 use Rattle.std.specs.List.{flat_map, AllByRecursion, range_with_len}
 use Rattle.byteorder.specs.Endian.{big_bytes}
 use Rattle.jk_marks.specs.declared.segments.Order.TheVariants.{Lrcp}
@@ -14,10 +15,12 @@ use Rattle.jk_marks.specs.declared.main_header.Main.{Main}
 use Rattle.jk_marks.specs.declared.tile_part.TilePart.{TilePart}
 use Rattle.jk_marks.specs.Markers.{soc, sot, sod, eoc, marker_text}
 use Rattle.jk_marks.specs.Siz.{siz_text, tile_count, IsSiz}
-use Rattle.jk_marks.specs.Segments.{Segment, CodSegment, CocSegment, QcdSegment, QccSegment, segment_text, cods, qcds, cocs_of, qccs_of, quantisation_of, written_steps, AreSegments, IsCod, IsStyle, IsQuantisation}
+use Rattle.jk_marks.specs.Segments.{Segment, CodSegment, CocSegment, QcdSegment, QccSegment, segment_text, cods, qcds}
+use Rattle.jk_marks.specs.Segments.{cocs_of, qccs_of, quantisation_of, written_steps, AreSegments, IsCod, IsStyle}
+use Rattle.jk_marks.specs.Segments.{IsQuantisation}
 
--- A tile-part (A.4.2): the tile's number, whether its length is left open, its number within the tile, how many parts
--- it says that there are, the segments of its header, and its data.
+-- A tile-part (A.4.2): the tile's number, whether its length is left open, its number within the
+-- tile, how many parts it says that there are, the segments of its header, and its data.
 pub record Part : Type 0 where
   pub tile : ℕ
   pub is_open : Bool
@@ -49,10 +52,12 @@ psot p = if p.is_open then 0 else part_length p
 
 -- SOT and its segment (A.4.2): Isot, Psot, TPsot and TNsot
 abbrev pub sot_text : (tile size number total : ℕ) → List ℕ
-sot_text tile size number total = marker_text sot ++ (big_bytes 2 10 ++ (big_bytes 2 tile ++ (big_bytes 4 size ++ (big_bytes 1 number ++ big_bytes 1 total))))
+sot_text tile size number total = marker_text sot
+    ++ (big_bytes 2 10 ++ (big_bytes 2 tile ++ (big_bytes 4 size ++ (big_bytes 1 number ++ big_bytes 1 total))))
 
 unfoldable pub part_text : Part → List ℕ
-part_text p = sot_text p.tile (psot p) p.number p.total ++ (flat_map segment_text p.segments ++ (marker_text sod ++ p.content))
+part_text p = sot_text p.tile (psot p) p.number p.total
+    ++ (flat_map segment_text p.segments ++ (marker_text sod ++ p.content))
 
 unfoldable pub codestream_text : Tree → List ℕ
 codestream_text t = main_text t.siz t.segments ++ (flat_map part_text t.parts ++ marker_text eoc)
@@ -119,7 +124,14 @@ first_given d xs = or_else d (first xs)
 
 -- what the program keeps of a main header, which has a COD and a QCD
 abbrev pub main_with : Siz → TileHead → Main
-main_with siz head = record { siz = siz; cod = or_else no_coding head.cod; qcd = or_else no_quantisation head.qcd; coc = head.coc; qcc = head.qcc }
+main_with siz head =
+    record {
+      siz = siz;
+      cod = or_else no_coding head.cod;
+      qcd = or_else no_quantisation head.qcd;
+      coc = head.coc;
+      qcc = head.qcc;
+    }
 
 abbrev pub main_of : Siz → List Segment → Main
 main_of siz segments = main_with siz (head_of segments)
@@ -182,10 +194,12 @@ given_for xs i = slice_index_or xs i None
 
 -- the segments that are written for components
 abbrev pub style_segments : Main → List Segment
-style_segments m = own_style 0 (given_for m.coc 0) ++ (own_style 1 (given_for m.coc 1) ++ (own_style 2 (given_for m.coc 2) ++ own_style 3 (given_for m.coc 3)))
+style_segments m = own_style 0 (given_for m.coc 0)
+    ++ (own_style 1 (given_for m.coc 1) ++ (own_style 2 (given_for m.coc 2) ++ own_style 3 (given_for m.coc 3)))
 
 abbrev pub step_segments : Main → List Segment
-step_segments m = own_steps 0 (given_for m.qcc 0) ++ (own_steps 1 (given_for m.qcc 1) ++ (own_steps 2 (given_for m.qcc 2) ++ own_steps 3 (given_for m.qcc 3)))
+step_segments m = own_steps 0 (given_for m.qcc 0)
+    ++ (own_steps 1 (given_for m.qcc 1) ++ (own_steps 2 (given_for m.qcc 2) ++ own_steps 3 (given_for m.qcc 3)))
 
 -- the segments that are written for a main header
 abbrev pub segments_of : Main → List Segment
@@ -214,4 +228,5 @@ pub record IsWritten (m : Main) : Type 0 where
 
 -- the part that is written for a tile: the only one, closed and without segments
 abbrev pub only_part_of : ℕ → List ℕ → Part
-only_part_of tile content = record { tile = tile; is_open = false; number = 0; total = 1; segments = []; content = content }
+only_part_of tile content =
+    record { tile = tile; is_open = false; number = 0; total = 1; segments = []; content = content }

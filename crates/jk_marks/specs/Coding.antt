@@ -6,7 +6,8 @@ use Rattle.jk_marks.specs.declared.coding.Coding.{Coding}
 abbrev pub precinct_size : Coding → ℕ → ℕ × ℕ
 precinct_size k r = slice_index_or k.precincts r (0, 0)
 
--- What T.800 and the profile ask of a coding: a precinct size for each resolution, with 0 only at the lowest.
+-- What T.800 and the profile ask of a coding: a precinct size for each resolution, with 0 only at
+-- the lowest.
 pub record IsCoding (k : Coding) : Type 0 where
   pub levels : k.levels ≤ 10
   pub narrow : 2 ≤ k.xcb

@@ -1,5 +1,6 @@
 -- Headers without the segments that tell lengths: TLM and PLT (T.800 A.7.1, A.7.3).
-use Rattle.std.specs.Prelude.{ℕ, zero, suc, ◌+◌, Bool, false, not, ◌==◌, nat_lt, if◌then◌else◌, List, [], ◌++◌, length, take, drop, filter}
+use Rattle.std.specs.Prelude.{ℕ, zero, suc, ◌+◌, Bool, false, not, ◌==◌, nat_lt, if◌then◌else◌, List, [], ◌++◌, length}
+use Rattle.std.specs.Prelude.{take, drop, filter}
 use Rattle.byteorder.specs.Endian.{big_number}
 use Rattle.jk_marks.specs.Markers.{sot, sod, tlm, plt, is_alone}
 use Rattle.jk_marks.specs.Segments.{Segment, CodSegment, CocSegment, QcdSegment, QccSegment, Passed, Alone}
@@ -22,8 +23,8 @@ kept_segments m segments = filter (λ s. not (is_passed_as m s)) segments
 abbrev pub part_with : Part → List ℕ → Part
 part_with p content = record p { segments = kept_segments plt p.segments; content = content }
 
--- How many bytes the marker segment at the front takes; 0 where the marker `last` stands there, or where the bytes end before
--- the segment does.
+-- How many bytes the marker segment at the front takes; 0 where the marker `last` stands there, or
+-- where the bytes end before the segment does.
 unfoldable pub segment_size : ℕ → List ℕ → ℕ
 segment_size last bytes =
     if nat_lt (length bytes) 2 then 0
@@ -47,7 +48,8 @@ kept_at (suc n) last out bytes =
 unfoldable pub size_at : (n last : ℕ) → List ℕ → ℕ
 size_at zero last bytes = 0
 size_at (suc n) last bytes =
-    if segment_size last bytes == 0 then 0 else segment_size last bytes + size_at n last (drop (segment_size last bytes) bytes)
+    if segment_size last bytes == 0 then 0
+    else segment_size last bytes + size_at n last (drop (segment_size last bytes) bytes)
 
 -- The segments of a tile-part without PLT, behind SOT and its segment.
 abbrev pub part_kept_at : List ℕ → List ℕ

@@ -1,9 +1,11 @@
 -- Reading the main header and tile-parts from left to right, with the first fault that is met.
-use Rattle.std.specs.Prelude.{ℕ, zero, suc, ◌+◌, ◌-◌, ◌*◌, ◌/◌, ◌%◌, ◌^◌, List, length, take, drop, Bool, not, ◌&&◌, ◌||◌, ◌==◌, nat_lt, nat_le, is_none, if◌then◌else◌, Result, Ok, Err, slice_index}
+use Rattle.std.specs.Prelude.{ℕ, zero, suc, ◌+◌, ◌-◌, ◌*◌, ◌/◌, ◌%◌, ◌^◌, List, length, take, drop, Bool, not, ◌&&◌}
+use Rattle.std.specs.Prelude.{◌||◌, ◌==◌, nat_lt, nat_le, is_none, if◌then◌else◌, Result, Ok, Err, slice_index}
 use Rattle.byteorder.specs.Endian.{big_number}
 use Rattle.jk_math.specs.Answer.{◌>>=◌, refuse}
 use Rattle.jk_math.specs.declared.fault.Fault.{Fault}
-use Rattle.jk_math.specs.declared.fault.Fault.TheVariants.{Truncated, BadMarker, BadLength, BadValue, Unsupported, Limit}
+use Rattle.jk_math.specs.declared.fault.Fault.TheVariants.{Truncated, BadMarker, BadLength, BadValue, Unsupported}
+use Rattle.jk_math.specs.declared.fault.Fault.TheVariants.{Limit}
 use Rattle.jk_marks.specs.declared.siz.Siz.{Siz}
 use Rattle.jk_marks.specs.declared.siz_segment.Area.{Area}
 use Rattle.jk_marks.specs.declared.siz_segment.Tiling.{Tiling}
@@ -139,10 +141,12 @@ main_at bytes = do
 -- where the data of a tile-part end that says the length psot
 unfoldable pub part_end : List ℕ → ℕ → Result ℕ Fault
 part_end bytes psot =
-    if psot == 0 then (if nat_le 2 (length bytes) && (big_number 2 (drop (length bytes - 2) bytes) == eoc) then Ok (length bytes - 2) else Err Truncated)
+    if psot == 0 then (if nat_le 2 (length bytes) && (big_number 2 (drop (length bytes - 2) bytes) == eoc)
+    then Ok (length bytes - 2) else Err Truncated)
     else (if nat_lt (length bytes) psot then Err Truncated else Ok psot)
 
--- SOT, from its marker on (A.4.2): the tile, the end of the part, and its number; `seen` says how many parts of each tile came before
+-- SOT, from its marker on (A.4.2): the tile, the end of the part, and its number; `seen` says how
+-- many parts of each tile came before
 unfoldable pub sot_at : Siz → List ℕ → List ℕ → Place → Result (Sot × Place) Fault
 sot_at siz seen bytes p = do
   marker ← number 2 p

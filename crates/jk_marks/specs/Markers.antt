@@ -59,11 +59,12 @@ eoc = 0xFFD9
 abbrev pub is_left_out : ℕ → Bool
 is_left_out m = list_any (λ k. k == m) (0xFF57 ∷ 0xFF5E ∷ 0xFF5F ∷ 0xFF60 ∷ 0xFF61 ∷ [])
 
--- The markers of the table: SOC, SIZ, COD, COC, TLM, PLM, PLT, QCD, QCC, RGN, POC, PPM, PPT, CRG, COM, SOT, SOP, EPH, SOD, EOC.
--- All others belong to other standards.
+-- The markers of the table: SOC, SIZ, COD, COC, TLM, PLM, PLT, QCD, QCC, RGN, POC, PPM, PPT, CRG,
+-- COM, SOT, SOP, EPH, SOD, EOC. All others belong to other standards.
 abbrev pub is_listed : ℕ → Bool
 is_listed m =
-    list_any (λ k. k == m) (0xFF4F ∷ 0xFF51 ∷ 0xFF52 ∷ 0xFF53 ∷ 0xFF55 ∷ 0xFF57 ∷ 0xFF58 ∷ 0xFF5C ∷ 0xFF5D ∷ 0xFF5E ∷ 0xFF5F
+    list_any (λ k. k == m)
+    (0xFF4F ∷ 0xFF51 ∷ 0xFF52 ∷ 0xFF53 ∷ 0xFF55 ∷ 0xFF57 ∷ 0xFF58 ∷ 0xFF5C ∷ 0xFF5D ∷ 0xFF5E ∷ 0xFF5F
     ∷ 0xFF60 ∷ 0xFF61 ∷ 0xFF63 ∷ 0xFF64 ∷ 0xFF90 ∷ 0xFF91 ∷ 0xFF92 ∷ 0xFF93 ∷ 0xFFD9 ∷ [])
 
 -- the markers that stand alone, without a length (A.1.1)

@@ -1,5 +1,6 @@
 -- The head of a tile-part, SOT to SOD (T.800 A.4.2), without PLT (A.7.3), apart from its data.
-use Rattle.std.specs.Prelude.{ℕ, ◌+◌, Bool, ◌==◌, nat_lt, is_some, if◌then◌else◌, List, [], ◌∷◌, ◌++◌, length, take, drop, slice_index, Option, Some, None}
+use Rattle.std.specs.Prelude.{ℕ, ◌+◌, Bool, ◌==◌, nat_lt, is_some, if◌then◌else◌, List, [], ◌∷◌, ◌++◌, length, take}
+use Rattle.std.specs.Prelude.{drop, slice_index, Option, Some, None}
 use Rattle.std.specs.List.{flat_map}
 use Rattle.byteorder.specs.Endian.{big_number}
 use Rattle.jk_marks.specs.declared.part_head.PartHead.{PartHead}
@@ -13,7 +14,13 @@ abbrev pub kept_text : Part → List ℕ
 kept_text p = flat_map segment_text (kept_segments plt p.segments)
 
 abbrev pub head_of : Part → PartHead
-head_of p = record { tile = p.tile; number = p.number; total = p.total; is_open = p.is_open; size = length (kept_text p) }
+head_of p = record {
+  tile = p.tile;
+  number = p.number;
+  total = p.total;
+  is_open = p.is_open;
+  size = length (kept_text p);
+}
 
 -- the head of the tile-part that begins the bytes, where SOT stands there
 unfoldable pub part_head_at : List ℕ → Option PartHead
@@ -39,7 +46,8 @@ psot_for h n = if h.is_open then 0 else 14 + h.size + n
 abbrev pub part_head : PartHead → (kept : List ℕ) → ℕ → List ℕ
 part_head h kept n = sot_text h.tile (psot_for h n) h.number h.total ++ (kept ++ marker_text sod)
 
--- Tile-parts one after another, from their heads, their segments in one text, and the data of each tile and number.
+-- Tile-parts one after another, from their heads, their segments in one text, and the data of each
+-- tile and number.
 unfoldable pub heads_text : List PartHead → (segments : List ℕ) → (ℕ → ℕ → List ℕ) → List ℕ
 heads_text [] segments content = []
 heads_text (h ∷ heads) segments content =

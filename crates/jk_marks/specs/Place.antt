@@ -1,7 +1,8 @@
 -- A place in the bytes of a codestream.
 use Rattle.std.specs.Prelude.{ℕ, ◌+◌, ◌-◌, List, length, drop}
 
--- the bytes from the place on, how many stand before it, and how many of them belong to the segment that was entered
+-- the bytes from the place on, how many stand before it, and how many of them belong to the segment
+-- that was entered
 pub record Place : Type 0 where
   pub rest : List ℕ
   pub at : ℕ

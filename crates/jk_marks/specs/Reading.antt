@@ -1,9 +1,12 @@
 -- Reading numbers and marker segments from left to right, with the first fault that is met.
-use Rattle.std.specs.Prelude.{ℕ, zero, suc, ◌+◌, ◌-◌, ◌/◌, ◌%◌, List, [], ◌∷◌, ◌++◌, length, take, Bool, true, false, not, ◌&&◌, ◌||◌, ◌==◌, nat_lt, nat_le, Option, None, Some, is_some, if◌then◌else◌, Result, Ok, Err, slice_index_or, slice_set}
+use Rattle.std.specs.Prelude.{ℕ, zero, suc, ◌+◌, ◌-◌, ◌/◌, ◌%◌, List, [], ◌∷◌, ◌++◌, length, take, Bool, true, false}
+use Rattle.std.specs.Prelude.{not, ◌&&◌, ◌||◌, ◌==◌, nat_lt, nat_le, Option, None, Some, is_some, if◌then◌else◌, Result}
+use Rattle.std.specs.Prelude.{Ok, Err, slice_index_or, slice_set}
 use Rattle.byteorder.specs.Endian.{big_number}
 use Rattle.jk_math.specs.Answer.{◌>>=◌, refuse}
 use Rattle.jk_math.specs.declared.fault.Fault.{Fault}
-use Rattle.jk_math.specs.declared.fault.Fault.TheVariants.{Truncated, BadMarker, BadLength, BadValue, Unsupported, Limit}
+use Rattle.jk_math.specs.declared.fault.Fault.TheVariants.{Truncated, BadMarker, BadLength, BadValue, Unsupported}
+use Rattle.jk_math.specs.declared.fault.Fault.TheVariants.{Limit}
 use Rattle.jk_marks.specs.declared.segments.CodingStyle.{CodingStyle}
 use Rattle.jk_marks.specs.declared.segments.Cod.{Cod}
 use Rattle.jk_marks.specs.declared.segments.Quantisation.{Quantisation}
@@ -49,7 +52,8 @@ abbrev pub given_precincts_at : Bool → ℕ → Place → Result (List (ℕ × 
 given_precincts_at true n p = precincts_at n [] p
 given_precincts_at false n p = Ok ([], p)
 
--- Number of decomposition levels in a segment of that length, which has `fixed` bytes beside the precinct sizes.
+-- Number of decomposition levels in a segment of that length, which has `fixed` bytes beside the
+-- precinct sizes.
 unfoldable pub levels_at : (size fixed : ℕ) → Bool → Place → Result (ℕ × Place) Fault
 levels_at size fixed given p = do
   levels ← number 1 p
@@ -67,7 +71,8 @@ block_at p = do
   _ ← refuse (nat_lt 8 ycb.0 || nat_lt 8 (xcb.0 + ycb.0)) BadValue
   Ok ((xcb.0 + 2, ycb.0 + 2), ycb.1)
 
--- the code-block style, of which none is read (table A.19), and the transform, which is the reversible 5-3 filter (table A.20)
+-- the code-block style, of which none is read (table A.19), and the transform, which is the
+-- reversible 5-3 filter (table A.20)
 unfoldable pub transform_at : Place → Result (Unit {0} × Place) Fault
 transform_at p = do
   style ← number 1 p
@@ -134,7 +139,8 @@ coc_at others n p = do
   style ← style_at size.0 9 (flags.0 == 1) flags.1
   Ok ((i.0, style.0), style.1)
 
--- Sqcd or Sqcc, and a byte for each of n sub-bands (tables A.27 to A.29); of the styles only no quantization is read
+-- Sqcd or Sqcc, and a byte for each of n sub-bands (tables A.27 to A.29); of the styles only no
+-- quantization is read
 unfoldable pub steps_at : ℕ → Place → Result (Quantisation × Place) Fault
 steps_at n p = do
   style ← number 1 p
@@ -167,7 +173,8 @@ passed_at p = do
   passing (size.0 - 2) size.1
 
 abbrev pub in_cod : TileHead → ℕ → Place → Result (TileHead × Place) Fault
-in_cod head n p = refuse (is_some head.cod) BadMarker >>= λ _. cod_at n p >>= λ c. Ok (record head { cod = Some c.0 }, c.1)
+in_cod head n p = refuse (is_some head.cod) BadMarker >>= λ _. cod_at n p
+    >>= λ c. Ok (record head { cod = Some c.0 }, c.1)
 
 abbrev pub in_qcd : TileHead → Place → Result (TileHead × Place) Fault
 in_qcd head p = refuse (is_some head.qcd) BadMarker >>= λ _. qcd_at p >>= λ q. Ok (record head { qcd = Some q.0 }, q.1)
@@ -196,7 +203,8 @@ segment_at heading n head m p =
     else (if is_coded heading && (m == qcc) then in_qcc head n p
     else other_at heading head m p)))
 
--- the segments of a header, at most k of them, up to the marker that ends it; the place is after that marker
+-- the segments of a header, at most k of them, up to the marker that ends it; the place is after
+-- that marker
 unfoldable pub segments_at : ℕ → Heading → ℕ → (last : ℕ) → TileHead → Place → Result (TileHead × Place) Fault
 segments_at zero heading n last head p = Err Truncated
 segments_at (suc k) heading n last head p =

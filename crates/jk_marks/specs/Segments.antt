@@ -1,5 +1,6 @@
 -- The marker segments of headers (T.800 A.6, A.7, A.9), as they are spelled.
-use Rattle.std.specs.Prelude.{ℕ, ◌+◌, ◌-◌, ◌*◌, ◌<◌, ◌≤◌, ◌^◌, ◌≡◌, ◌==◌, ◌&&◌, ◌||◌, not, List, [], ◌∷◌, ◌++◌, length, map, drop, Bool, true, false, All, if◌then◌else◌}
+use Rattle.std.specs.Prelude.{ℕ, ◌+◌, ◌-◌, ◌*◌, ◌<◌, ◌≤◌, ◌^◌, ◌≡◌, ◌==◌, ◌&&◌, ◌||◌, not, List, [], ◌∷◌, ◌++◌, length}
+use Rattle.std.specs.Prelude.{map, drop, Bool, true, false, All, if◌then◌else◌}
 use Rattle.std.specs.List.{flat_map, AllByRecursion}
 use Rattle.std.proofs.Common.{◌⊎◌}
 use Rattle.byteorder.specs.Endian.{big_bytes}
@@ -40,7 +41,8 @@ given_bit (p ∷ ps) = 1
 abbrev pub scod : Cod → ℕ
 scod c = given_bit c.style.precincts + 2 * bit_of c.sop + 4 * bit_of c.eph
 
--- SPcod or SPcoc from the number of decomposition levels on (table A.15); the transform is the reversible 5-3 filter
+-- SPcod or SPcoc from the number of decomposition levels on (table A.15); the transform is the
+-- reversible 5-3 filter
 unfoldable pub style_text : CodingStyle → List ℕ
 style_text k = k.levels ∷ (k.xcb - 2) ∷ (k.ycb - 2) ∷ k.style ∷ 1 ∷ map precinct_byte k.precincts
 
@@ -68,7 +70,8 @@ pub record IsCod (components : ℕ) (c : Cod) : Type 0 where
   pub colour : c.colour ≡ true → 3 ≤ components
   pub style : IsStyle c.style
 
--- A quantization segment has a byte for one sub-band at least. There may be more of them than sub-bands.
+-- A quantization segment has a byte for one sub-band at least. There may be more of them than
+-- sub-bands.
 pub record AreSteps (q : StepSizes) : Type 0 where
   pub guard : q.guard < 8
   pub some : 1 ≤ length q.bytes
@@ -121,7 +124,8 @@ IsSegment heading n (CodSegment c) = (is_coded heading ≡ true) × IsCod n c
 IsSegment heading n (CocSegment i k) = (is_coded heading ≡ true) × (i < n) × IsStyle k
 IsSegment heading n (QcdSegment q) = (is_coded heading ≡ true) × AreSteps q × (3 + length q.bytes < 2 ^ 16)
 IsSegment heading n (QccSegment i q) = (is_coded heading ≡ true) × (i < n) × AreSteps q × (4 + length q.bytes < 2 ^ 16)
-IsSegment heading n (Passed m bytes) = (0xFF00 ≤ m) × (m < 2 ^ 16) × ((is_passed heading m || is_foreign m) ≡ true) × (2 + length bytes < 2 ^ 16)
+IsSegment heading n (Passed m bytes) = (0xFF00 ≤ m) × (m < 2 ^ 16) × ((is_passed heading m || is_foreign m) ≡ true)
+    × (2 + length bytes < 2 ^ 16)
 IsSegment heading n (Alone m) = is_alone m ≡ true
 
 abbrev pub quantisation_of : StepSizes → Quantisation
@@ -156,7 +160,8 @@ cocs_of i ss = flat_map (style_in i) ss
 abbrev pub qccs_of : ℕ → List Segment → List StepSizes
 qccs_of i ss = flat_map (steps_in i) ss
 
--- The segments of a header, in any order, with at most one COD and QCD, and at most one COC and QCC for a component.
+-- The segments of a header, in any order, with at most one COD and QCD, and at most one COC and QCC
+-- for a component.
 pub record AreSegments (heading : Heading) (n : ℕ) (ss : List Segment) : Type 0 where
   pub each : AllByRecursion (IsSegment heading n) ss
   pub one_coding : length (cods ss) ≤ 1

@@ -36,7 +36,9 @@ grid_text s =
 
 unfoldable pub siz_text : Siz → List ℕ
 siz_text s =
-    marker_text siz ++ (big_bytes 2 (siz_length s) ++ (grid_text s ++ (big_bytes 2 s.components ++ concat (replicate s.components (component_text s)))))
+    marker_text siz
+    ++ (big_bytes 2 (siz_length s)
+    ++ (grid_text s ++ (big_bytes 2 s.components ++ concat (replicate s.components (component_text s)))))
 
 -- what T.800 and the profile ask of the fields
 pub record IsSiz (s : Siz) : Type 0 where

@@ -2,7 +2,8 @@
 
 ghost use Rattle.std.specs.Prelude.{◌≡◌, ◌≤◌, ◌<◌, length, [], IfOk};
 ghost use Rattle.jk_math.specs.Answer.{Reads};
-ghost use Rattle.jk_marks.specs.Reading.{precinct_at, precincts_at, given_precincts_at, levels_at, block_at, transform_at, style_at, cod_at, component_at, coc_at};
+ghost use Rattle.jk_marks.specs.Reading.{precinct_at, precincts_at, given_precincts_at, levels_at, block_at};
+ghost use Rattle.jk_marks.specs.Reading.{transform_at, style_at, cod_at, component_at, coc_at};
 
 use crate::cursor::Cursor;
 use crate::segments::{Cod, CodingStyle, Order, Precincts};

@@ -8,14 +8,15 @@ ghost use Rattle.jk_marks.specs.declared.siz.Siz.{Siz};
 ghost use Rattle.jk_marks.specs.Markers.{tlm};
 ghost use Rattle.jk_marks.specs.Segments.{Segment};
 ghost use Rattle.jk_marks.specs.Codestream.{IsMain, BeginsMain, main_text};
-ghost use Rattle.jk_marks.specs.Copying.{kept_segments, segment_size, kept_front, kept_at, size_at, main_kept_at, main_size_at};
+ghost use Rattle.jk_marks.specs.Copying.{kept_segments, segment_size, kept_front, kept_at, size_at, main_kept_at};
+ghost use Rattle.jk_marks.specs.Copying.{main_size_at};
 
 use crate::marker;
 use byteorder::{BigEndian, ByteOrder};
 use jk_math::Fault;
 
-/// How many bytes the marker segment at the front takes: 0 where the marker `last` stands there, or where the
-/// bytes end before the segment does.
+/// How many bytes the marker segment at the front takes: 0 where the marker `last` stands there, or
+/// where the bytes end before the segment does.
 #[tactic(auto, unfolding(crate::specs::Copying::segment_size))]
 fn segment_size(bytes: &[u8], last: u16) -> usize
     ensures value { result ≡ segment_size last bytes.now }
@@ -77,8 +78,8 @@ fn copy_front(
     Ok(())
 }
 
-/// Appends the segments at the front up to the marker `last`, without those of the marker `left_out`. Answers how many
-/// bytes they all take.
+/// Appends the segments at the front up to the marker `last`, without those of the marker
+/// `left_out`. Answers how many bytes they all take.
 pub(crate) fn copy_segments(
     bytes: &[u8],
     last: u16,
@@ -117,8 +118,8 @@ fn copy_main_segments(bytes: &[u8], out: &mut Vec<u8>) -> Result<usize, Fault>
     Ok(2 + size)
 }
 
-/// Appends the main header that begins these bytes, without TLM. Answers how many bytes it takes with TLM. After Memory a
-/// part of it may stand behind what was there.
+/// Appends the main header that begins these bytes, without TLM. Answers how many bytes it takes
+/// with TLM. After Memory a part of it may stand behind what was there.
 ///
 /// Bytes that don't begin with a main header append something that is no header.
 pub fn copy_main(bytes: &[u8], out: &mut Vec<u8>) -> Result<usize, Fault>

@@ -10,11 +10,11 @@ use byteorder::{BigEndian, ByteOrder};
 use jk_math::Fault;
 use std::marker::Model;
 
-/// A place in the bytes of a codestream or tile-part, and how much room is left in the marker segment
-/// that was entered.
+/// A place in the bytes of a codestream or tile-part, and how much room is left in the marker
+/// segment that was entered.
 ///
-/// Truncated: the bytes end before the field does. BadLength: the segment does. A read that fails leaves the
-/// cursor where it was.
+/// Truncated: the bytes end before the field does. BadLength: the segment does. A read that fails
+/// leaves the cursor where it was.
 #[derive(Debug, Drop)]
 pub struct Cursor<'a> {
     bytes: &'a [u8],

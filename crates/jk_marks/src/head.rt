@@ -50,8 +50,8 @@ impl Heading {
     }
 }
 
-/// What the segments of a header say, each if it is given: the segments of the whole tile, or of one
-/// component.
+/// What the segments of a header say, each if it is given: the segments of the whole tile, or of
+/// one component.
 #[derive(Debug, Drop)]
 pub struct TileHead {
     pub cod: Option<Cod>,

@@ -50,14 +50,15 @@ fn main_from(siz: Siz, head: TileHead) -> Result<Main, Fault>
 
 /// The main header that begins a codestream, and its length (T.800 A.3). SOT follows it.
 ///
-/// Truncated: the bytes end before SOT. BadMarker: a marker that may not stand here or stands here twice,
-/// or no COD or QCD. BadLength: a segment's length that its fields contradict. BadValue: a field's value that
-/// T.800 doesn't allow. Unsupported: what T.800 allows and is left out here. Limit: more samples, larger
-/// coordinates or more decomposition levels than are read.
+/// Truncated: the bytes end before SOT. BadMarker: a marker that may not stand here or stands here
+/// twice, or no COD or QCD. BadLength: a segment's length that its fields contradict. BadValue: a
+/// field's value that T.800 doesn't allow. Unsupported: what T.800 allows and is left out here.
+/// Limit: more samples, larger coordinates or more decomposition levels than are read.
 pub fn read_main(bytes: &[u8]) -> Result<(Main, usize), Fault>
     ensures exact { result ≡ main_at bytes.now }
     // What is read is spelled so.
-    ensures found { IfOk result (λ m. (siz : Siz) × (segments : List Segment) × IsMain siz segments × BeginsMain bytes.now siz segments
+    ensures found { IfOk result
+        (λ m. (siz : Siz) × (segments : List Segment) × IsMain siz segments × BeginsMain bytes.now siz segments
         × (m.0 ≡ main_of siz segments) × (m.1 ≡ length (main_text siz segments))) }
     // What is spelled so is read.
     ensures only { (siz : Siz) (segments : List Segment) → IsMain siz segments → BeginsMain bytes.now siz segments

@@ -1,6 +1,7 @@
 //! Heads of tile-parts without PLT, apart from their data.
 
-ghost use Rattle.std.specs.Prelude.{◌≡◌, ◌≤◌, ◌<◌, ◌^◌, ◌++◌, ◌==◌, nat_lt, ◌&&◌, not, true, ℕ, List, length, Some, None, IfOk, OnOk, IfErr};
+ghost use Rattle.std.specs.Prelude.{◌≡◌, ◌≤◌, ◌<◌, ◌^◌, ◌++◌, ◌==◌, nat_lt, ◌&&◌, not, true, ℕ, List, length, Some};
+ghost use Rattle.std.specs.Prelude.{None, IfOk, OnOk, IfErr};
 ghost use Rattle.byteorder.specs.Endian.{big_number, big_bytes};
 ghost use Rattle.jk_math.specs.Memory.{IsMemory};
 ghost use Rattle.jk_math.specs.Front.{IsFront};
@@ -54,8 +55,8 @@ fn head_at(bytes: &[u8], size: usize) -> PartHead
     }
 }
 
-/// The head of the tile-part that begins these bytes; none where no SOT stands. Its segments but PLT
-/// are appended. After Memory a part of them may stand behind what was there.
+/// The head of the tile-part that begins these bytes; none where no SOT stands. Its segments but
+/// PLT are appended. After Memory a part of them may stand behind what was there.
 ///
 /// Bytes that don't begin with a tile-part may give a head, and append what is no segment.
 #[tactic(auto, unfolding(crate::specs::PartHeads::part_head_at))]
@@ -98,8 +99,9 @@ fn put_sot(tile: u16, psot: u32, number: u8, total: u8, out: &mut Vec<u8>) -> Re
     Ok(())
 }
 
-/// Appends SOT, segments, and SOD of a tile-part whose data have `content` bytes: Psot is the length
-/// of all of it, or 0 where it was. After Memory a part of it may stand behind what was there.
+/// Appends SOT, segments, and SOD of a tile-part whose data have `content` bytes: Psot is the
+/// length of all of it, or 0 where it was. After Memory a part of it may stand behind what was
+/// there.
 pub fn put_part_head(
     head: &PartHead,
     segments: &[u8],

@@ -8,8 +8,8 @@ use crate::cursor::Cursor;
 use crate::segments::{Exponents, Quantisation};
 use jk_math::Fault;
 
-/// The style, which is no quantization, the guard bits and the exponents of `count` sub-bands (T.800
-/// tables A.27 to A.29).
+/// The style, which is no quantization, the guard bits and the exponents of `count` sub-bands
+/// (T.800 tables A.27 to A.29).
 #[tactic(auto, unfolding(crate::specs::Reading::steps_at))]
 fn read_steps(cursor: &mut Cursor<'_>, count: u16) -> Result<Quantisation, Fault>
     ensures { Reads (steps_at count) cursor.old cursor.new result }

@@ -1,6 +1,7 @@
 //! The coding style and quantization segments.
 
-ghost use Rattle.std.specs.Prelude.{◌≡◌, ◌≤◌, ◌<◌, ◌++◌, [], length, ◌+◌, ◌*◌, ◌/◌, ◌↔◌, map, take, replicate, All, IsTrue, OnOk, IfErr, ◌∷◌};
+ghost use Rattle.std.specs.Prelude.{◌≡◌, ◌≤◌, ◌<◌, ◌++◌, [], length, ◌+◌, ◌*◌, ◌/◌, ◌↔◌, map, take, replicate, All};
+ghost use Rattle.std.specs.Prelude.{IsTrue, OnOk, IfErr, ◌∷◌};
 ghost use Rattle.std.specs.List.{AllByRecursion};
 ghost use Rattle.jk_math.specs.Memory.{IsMemory};
 ghost use Rattle.jk_math.specs.Front.{IsFront};
@@ -54,8 +55,8 @@ impl Order {
     }
 }
 
-/// The precinct sizes of a coding style, as pairs of exponents PPx and PPy from the lowest resolution
-/// on; none where they aren't given.
+/// The precinct sizes of a coding style, as pairs of exponents PPx and PPy from the lowest
+/// resolution on; none where they aren't given.
 #[derive(Debug, Drop)]
 pub struct Precincts {
     count: usize,
@@ -157,8 +158,8 @@ fn put_precincts(out: &mut Vec<u8>, precincts: &[(u8, u8)]) -> Result<(), Fault>
     Ok(())
 }
 
-/// The exponents of a quantization segment, in the order of the sub-bands: LL, then HL, LH and HH of
-/// each level from the lowest resolution on.
+/// The exponents of a quantization segment, in the order of the sub-bands: LL, then HL, LH and HH
+/// of each level from the lowest resolution on.
 #[derive(Debug, Drop)]
 pub struct Exponents {
     count: usize,

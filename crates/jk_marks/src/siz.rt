@@ -1,7 +1,7 @@
 //! The image and tile size segment.
 
-/// The fields of the image and tile size segment (T.800 A.5.1). All components have one depth and sign,
-/// and none is subsampled.
+/// The fields of the image and tile size segment (T.800 A.5.1). All components have one depth and
+/// sign, and none is subsampled.
 #[derive(Clone, Copy, Debug, PartialEq, Eq)]
 pub struct Siz {
     /// Rsiz, the capabilities.

@@ -3,7 +3,8 @@
 ghost use Rattle.std.specs.Prelude.{◌≡◌, ◌≤◌, ◌<◌, ◌^◌, ◌*◌, ◌-◌, ◌+◌, ◌/◌, nat_lt, IfOk};
 ghost use Rattle.jk_math.specs.Answer.{Reads};
 ghost use Rattle.jk_marks.specs.Siz.{IsSiz};
-ghost use Rattle.jk_marks.specs.HeaderReading.{covers, area_at, tiles_of, tiling_at, sampling_at, component_depth_at, components_at, count_at, siz_at};
+ghost use Rattle.jk_marks.specs.HeaderReading.{covers, area_at, tiles_of, tiling_at, sampling_at, component_depth_at};
+ghost use Rattle.jk_marks.specs.HeaderReading.{components_at, count_at, siz_at};
 
 use crate::cursor::Cursor;
 use crate::siz::Siz;

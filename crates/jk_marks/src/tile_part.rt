@@ -15,8 +15,8 @@ use crate::siz::Siz;
 use byteorder::{BigEndian, ByteOrder};
 use jk_math::Fault;
 
-/// A tile-part: what its header says, and where its data stand, counted from the first byte of its SOT
-/// (T.800 A.4.2).
+/// A tile-part: what its header says, and where its data stand, counted from the first byte of its
+/// SOT (T.800 A.4.2).
 #[derive(Debug, Drop)]
 pub struct TilePart {
     /// Isot, the number of the tile.
@@ -91,17 +91,18 @@ fn read_sot(cursor: &mut Cursor<'_>, bytes: &[u8], siz: &Siz, seen: &[u16]) -> R
     Ok(Sot { tile, end, part })
 }
 
-/// The tile-part that begins these bytes, which go on to the end of the codestream. `seen` has for each
-/// tile how many parts of it came before (T.800 A.4.2).
+/// The tile-part that begins these bytes, which go on to the end of the codestream. `seen` has for
+/// each tile how many parts of it came before (T.800 A.4.2).
 ///
-/// The faults are those of `read_main`, and: BadMarker where no SOT stands, or a segment of the coding in
-/// another part than the first of its tile; BadLength: Psot from 1 to 13; BadValue: a tile or a number of
-/// the part that isn't the next; Truncated: the bytes end before the part does.
+/// The faults are those of `read_main`, and: BadMarker where no SOT stands, or a segment of the
+/// coding in another part than the first of its tile; BadLength: Psot from 1 to 13; BadValue: a
+/// tile or a number of the part that isn't the next; Truncated: the bytes end before the part does.
 pub fn read_tile_part(bytes: &[u8], main: &Main, seen: &[u16]) -> Result<TilePart, Fault>
     requires tiles { length seen.now ≡ tile_count main.now.siz }
     requires few { main.now.siz.components ≤ 4 }
     ensures exact { result ≡ part_at main.now.siz seen.now bytes.now }
-    // What is read is the next part of its tile, spelled so at the front, and its data stand at its place.
+    // What is read is the next part of its tile, spelled so at the front, and its data stand at its
+    // place.
     ensures found { IfOk result (λ t. (p : Part) × IsPart main.now.siz p × (p.number ≡ slice_index seen.now p.tile)
         × BeginsWith bytes.now p × (t ≡ place_of p) × (slice_range bytes.now t.start t.end ≡ p.content)) }
     // Such a part is read.

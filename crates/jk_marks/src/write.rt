@@ -1,6 +1,7 @@
 //! Writing the marker segments.
 
-ghost use Rattle.std.specs.Prelude.{◌≡◌, ◌+◌, ◌*◌, ◌≤◌, ◌<◌, ◌^◌, ◌++◌, ◌∷◌, [], List, ℕ, length, OnOk, OnErr, IfErr, replicate, Err, ◌⊎◌, ◌↔◌};
+ghost use Rattle.std.specs.Prelude.{◌≡◌, ◌+◌, ◌*◌, ◌≤◌, ◌<◌, ◌^◌, ◌++◌, ◌∷◌, [], List, ℕ, length, OnOk, OnErr, IfErr};
+ghost use Rattle.std.specs.Prelude.{replicate, Err, ◌⊎◌, ◌↔◌};
 ghost use Rattle.std.specs.List.{concat, flat_map, AllByRecursion};
 ghost use Rattle.jk_math.specs.Memory.{IsMemory};
 ghost use Rattle.byteorder.specs.Endian.{big_bytes};
@@ -8,8 +9,11 @@ ghost use Rattle.jk_math.specs.Front.{IsFront};
 ghost use Rattle.jk_marks.specs.Markers.{marker_text, eoc};
 ghost use Rattle.jk_marks.specs.declared.siz.Siz.{Siz};
 ghost use Rattle.jk_marks.specs.Siz.{siz_text, grid_text, ssiz, component_text, tile_count, IsSiz};
-ghost use Rattle.jk_marks.specs.Segments.{segment_text, given_bit, scod, bit_of, style_text, CodSegment, CocSegment, QcdSegment, written_steps, IsStyle, IsQuantisation};
-ghost use Rattle.jk_marks.specs.Codestream.{main_text, own_style, own_steps, style_segments, step_segments, given_for, segments_of, main_of, sot_text, part_text, only_part_of, ForGiven, IsWritten, IsMain, IsPart};
+ghost use Rattle.jk_marks.specs.Segments.{segment_text, given_bit, scod, bit_of, style_text, CodSegment, CocSegment};
+ghost use Rattle.jk_marks.specs.Segments.{QcdSegment, written_steps, IsStyle, IsQuantisation};
+ghost use Rattle.jk_marks.specs.Codestream.{main_text, own_style, own_steps, style_segments, step_segments, given_for};
+ghost use Rattle.jk_marks.specs.Codestream.{segments_of, main_of, sot_text, part_text, only_part_of, ForGiven};
+ghost use Rattle.jk_marks.specs.Codestream.{IsWritten, IsMain, IsPart};
 
 use crate::main_header::Main;
 use crate::marker;
@@ -29,7 +33,8 @@ fn put_two(out: &mut Vec<u8>, value: u16) -> Result<(), Fault>
 
 /// Four bytes for each of four numbers.
 fn put_four(out: &mut Vec<u8>, a: u32, b: u32, c: u32, d: u32) -> Result<(), Fault>
-    ensures ok { OnOk result (out.new.items ≡ out.old.items ++ (big_bytes 4 a ++ (big_bytes 4 b ++ (big_bytes 4 c ++ big_bytes 4 d)))) }
+    ensures ok { OnOk result
+        (out.new.items ≡ out.old.items ++ (big_bytes 4 a ++ (big_bytes 4 b ++ (big_bytes 4 c ++ big_bytes 4 d)))) }
     ensures err { IfErr result (λ e. IsMemory e) }
     ensures front { IsFront out.old.items out.new.items }
 {
@@ -53,7 +58,8 @@ fn depth_byte(siz: &Siz) -> u8
 fn put_components(out: &mut Vec<u8>, siz: &Siz) -> Result<(), Fault>
     requires some { 1 ≤ siz.now.depth }
     requires few { siz.now.depth ≤ 16 }
-    ensures ok { OnOk result (out.new.items ≡ out.old.items ++ concat (replicate siz.now.components (component_text siz.now))) }
+    ensures ok { OnOk result
+        (out.new.items ≡ out.old.items ++ concat (replicate siz.now.components (component_text siz.now))) }
     ensures err { IfErr result (λ e. IsMemory e) }
     ensures front { IsFront out.old.items out.new.items }
 {
@@ -217,7 +223,9 @@ fn put_own_steps(
 fn put_style_of(out: &mut Vec<u8>, component: u8, main: &Main) -> Result<(), Fault>
     requires component { component < 4 }
     requires styles { AllByRecursion (ForGiven IsStyle) main.now.coc }
-    ensures ok { OnOk result (out.new.items ≡ out.old.items ++ flat_map segment_text (own_style component (given_for main.now.coc component))) }
+    ensures ok { OnOk result
+        (out.new.items
+        ≡ out.old.items ++ flat_map segment_text (own_style component (given_for main.now.coc component))) }
     ensures err { IfErr result (λ e. IsMemory e) }
     ensures front { IsFront out.old.items out.new.items }
 {
@@ -228,7 +236,9 @@ fn put_style_of(out: &mut Vec<u8>, component: u8, main: &Main) -> Result<(), Fau
 fn put_steps_of(out: &mut Vec<u8>, component: u8, main: &Main) -> Result<(), Fault>
     requires component { component < 4 }
     requires steps { AllByRecursion (ForGiven IsQuantisation) main.now.qcc }
-    ensures ok { OnOk result (out.new.items ≡ out.old.items ++ flat_map segment_text (own_steps component (given_for main.now.qcc component))) }
+    ensures ok { OnOk result
+        (out.new.items
+        ≡ out.old.items ++ flat_map segment_text (own_steps component (given_for main.now.qcc component))) }
     ensures err { IfErr result (λ e. IsMemory e) }
     ensures front { IsFront out.old.items out.new.items }
 {
@@ -280,13 +290,14 @@ fn put_main(out: &mut Vec<u8>, main: &Main) -> Result<(), Fault>
     Ok(())
 }
 
-/// Appends a main header: SOC, SIZ, COD, QCD, and the COC and QCC that are given (T.800 A.3). After Memory a
-/// part of it may stand behind what was there.
+/// Appends a main header: SOC, SIZ, COD, QCD, and the COC and QCC that are given (T.800 A.3). After
+/// Memory a part of it may stand behind what was there.
 pub fn write_main(main: &Main, out: &mut Vec<u8>) -> Result<(), Fault>
     requires { IsWritten main.now }
     ensures ok { OnOk result (out.new.items ≡ out.old.items ++ main_text main.now.siz (segments_of main.now)) }
     // That is a main header, and it says what was given.
-    ensures means { OnOk result (IsMain main.now.siz (segments_of main.now) × (main_of main.now.siz (segments_of main.now) ≡ main.now)) }
+    ensures means { OnOk result
+        (IsMain main.now.siz (segments_of main.now) × (main_of main.now.siz (segments_of main.now) ≡ main.now)) }
     ensures err { IfErr result (λ e. IsMemory e) }
     ensures front { IsFront out.old.items out.new.items }
 {
@@ -307,8 +318,9 @@ fn put_sot(out: &mut Vec<u8>, tile: u16, psot: u32) -> Result<(), Fault>
     Ok(())
 }
 
-/// Appends the head of a tile's only tile-part, which has `size` bytes of data: SOT with its segment, and SOD (T.800
-/// A.4.2, A.4.3). After Memory a part of it may stand behind what was there.
+/// Appends the head of a tile's only tile-part, which has `size` bytes of data: SOT with its
+/// segment, and SOD (T.800 A.4.2, A.4.3). After Memory a part of it may stand behind what was
+/// there.
 ///
 /// Limit: the tile-part would be longer than 2^32 - 1 bytes; then nothing is appended.
 #[tactic(auto, unfolding(crate::specs::Codestream::part_text))]
@@ -331,8 +343,8 @@ pub fn write_part_head(tile: u16, size: u64, out: &mut Vec<u8>) -> Result<(), Fa
     Ok(())
 }
 
-/// Appends a tile's only tile-part with these data (T.800 A.4.2). After Memory a part of it may stand behind
-/// what was there.
+/// Appends a tile's only tile-part with these data (T.800 A.4.2). After Memory a part of it may
+/// stand behind what was there.
 ///
 /// Limit: the tile-part would be longer than 2^32 - 1 bytes; then nothing is appended.
 pub fn write_tile_part(tile: u16, content: &[u8], out: &mut Vec<u8>) -> Result<(), Fault>

@@ -3,7 +3,7 @@ use Rattle.std.proofs.Common.{◌≡◌, List, [], ◌∷◌, length, All, ℤ}
 use Rattle.std.specs.Global.{Vec}
 use Rattle.std.proofs.lemmas.List.Elements.{All-map, All-head, All-tail, All-cons, All-nil}
 use Rattle.std.proofs.lemmas.List.{length-map}
-use Rattle.jk_math.specs.Picture.{lists_of}
+use Rattle.jk_math.specs.Lists.{lists_of}
 
 pub all_lists_of : (P : List ℤ → Type 0) (planes : List (Vec ℤ)) → All (λ plane. P plane.items) planes → All P (lists_of planes)
 all_lists_of P planes h = All-map P (λ plane. plane.items) planes h

@@ -1,4 +1,5 @@
--- Whole numbers that may be negative: division that rounds down or up, and reflection at the ends of a line.
+-- Whole numbers that may be negative: division that rounds down or up, and reflection at the ends
+-- of a line.
 use Rattle.std.specs.Prelude.{ℕ, ◌+◌, ◌-◌, ◌*◌, ◌/◌, ◌%◌, min, pos, negsuc, ◌+ℤ◌, ◌-ℤ◌, ℤ}
 
 -- the greatest whole number that is at most z / b
@@ -15,8 +16,8 @@ abbrev pub remainder_of : ℤ → ℕ → ℕ
 remainder_of (pos a) p = a % p
 remainder_of (negsuc a) p = p - 1 - a % p
 
--- The place of [i0, i1) that stands for place i of the whole-sample symmetric extension, however far outside i is
--- (T.800 F.3.7, the index of PSE). A line of one place has that place alone.
+-- The place of [i0, i1) that stands for place i of the whole-sample symmetric extension, however
+-- far outside i is (T.800 F.3.7, the index of PSE). A line of one place has that place alone.
 unfoldable pub reflected : ℤ → ℕ → ℕ → ℕ
 reflected i i0 i1 =
     let p = 2 * (i1 - i0 - 1) in

@@ -1,4 +1,5 @@
--- What a call that appends to a vector leaves, also where it fails: the old content stands in front.
+-- What a call that appends to a vector leaves, also where it fails: the old content stands in
+-- front.
 use Rattle.std.specs.Prelude.{◌≡◌, ℕ, List, ◌++◌}
 
 pub record IsFront (old new : List ℕ) : Type 0 where

@@ -2,6 +2,7 @@ pub mod Answer
 pub mod BitLength
 pub mod Division
 pub mod Front
+pub mod Lists
 pub mod Memory
 pub mod Picture
 pub mod Raster

@@ -1,6 +1,7 @@
--- What an image is: its place on the reference grid, its size, and a list of samples for each component.
-use Rattle.std.specs.Prelude.{◌≡◌, ℕ, ◌+◌, ◌-◌, ◌*◌, ◌^◌, ◌<◌, ◌≤◌, Bool, true, false, not, ◌&&◌, ◌||◌, ◌==◌, List, [], length, map, All, slice_index_or, ℤ, pos, neg_ℤ, ◌≤ℤ◌}
-use Rattle.std.specs.Global.{Vec}
+-- What an image is: its place on the reference grid, its size, and a list of samples for each
+-- component.
+use Rattle.std.specs.Prelude.{◌≡◌, ℕ, ◌+◌, ◌-◌, ◌*◌, ◌^◌, ◌<◌, ◌≤◌, Bool, true, false, not, ◌&&◌, ◌||◌, ◌==◌, List, []}
+use Rattle.std.specs.Prelude.{length, All, slice_index_or, ℤ, pos, neg_ℤ, ◌≤ℤ◌}
 
 -- Rows of samples from the upper left corner (x0, y0) on, one plane for each component.
 pub record Picture : Type 0 where
@@ -11,10 +12,6 @@ pub record Picture : Type 0 where
   pub depth : ℕ
   pub signed : Bool
   pub planes : List (List ℤ)
-
--- the planes as they lie in memory
-abbrev pub lists_of : List (Vec ℤ) → List (List ℤ)
-lists_of planes = map (λ plane. plane.items) planes
 
 -- the sample of a component at column x and row y, counted from the upper left corner
 abbrev pub sample_at : Picture → ℕ → ℕ → ℕ → ℤ

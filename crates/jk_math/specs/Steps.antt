@@ -11,17 +11,20 @@ if_ok (Ok x) h p = h x p
 if_ok (Err e) h p = tt
 
 -- goes on with the value of a step that did not fail
-pub bind_then : {A B C : Type 0} (r : Result A Fault) (f : A → Result B Fault) (y : B) → (r >>= f) ≡ Ok y → ((x : A) → r ≡ Ok x → f x ≡ Ok y → C) → C
+pub bind_then : {A B C : Type 0} (r : Result A Fault) (f : A → Result B Fault) (y : B) → (r >>= f) ≡ Ok y
+    → ((x : A) → r ≡ Ok x → f x ≡ Ok y → C) → C
 bind_then (Ok x) f y e go = go x refl e
 bind_then (Err d) f y e go = absurd cc
 
 -- goes on behind a test that did not refuse
-pub refuse_then : {B C : Type 0} (b : Bool) (d : Fault) (f : Unit {0} → Result B Fault) (y : B) → (refuse b d >>= f) ≡ Ok y → (b ≡ false → f tt ≡ Ok y → C) → C
+pub refuse_then : {B C : Type 0} (b : Bool) (d : Fault) (f : Unit {0} → Result B Fault) (y : B)
+    → (refuse b d >>= f) ≡ Ok y → (b ≡ false → f tt ≡ Ok y → C) → C
 refuse_then true d f y e go = absurd cc
 refuse_then false d f y e go = go refl e
 
 -- a value behind a test that did not refuse
-pub guarded : {A : Type 0} (b : Bool) (d : Fault) (r : Result A Fault) (y : A) → cond b (Err d) r ≡ Ok y → (b ≡ false) × (r ≡ Ok y)
+pub guarded : {A : Type 0} (b : Bool) (d : Fault) (r : Result A Fault) (y : A) → cond b (Err d) r ≡ Ok y
+    → (b ≡ false) × (r ≡ Ok y)
 guarded true d r y e = absurd cc
 guarded false d r y e = (refl, e)
 
@@ -48,20 +51,24 @@ if_ok_from (Ok x) P h = h x refl
 if_ok_from (Err d) P h = tt
 
 -- what holds of the value of an Ok, where the answer is that of a function or Memory
-pub if_ok_answers : {X Y : Type 0} (view : X → Y) (r : Result X Fault) (due : Result Y Fault) (P : X → Type 0) → Answers view r due → ((x : X) → due ≡ Ok (view x) → P x) → IfOk r P
+pub if_ok_answers : {X Y : Type 0} (view : X → Y) (r : Result X Fault) (due : Result Y Fault) (P : X → Type 0)
+    → Answers view r due → ((x : X) → due ≡ Ok (view x) → P x) → IfOk r P
 if_ok_answers view (Ok x) due P a h = h x a
 if_ok_answers view (Err d) due P a h = tt
 
 -- an answer to what is due is an answer to what that equals
-pub answers_same : {X Y : Type 0} (view : X → Y) (r : Result X Fault) (due again : Result Y Fault) → Answers view r due → due ≡ again → Answers view r again
+pub answers_same : {X Y : Type 0} (view : X → Y) (r : Result X Fault) (due again : Result Y Fault) → Answers view r due
+    → due ≡ again → Answers view r again
 answers_same {X} {Y} view r due again a e = subst (λ (d : Result Y Fault). Answers view r d) e a
 
 -- the same where the answer is exactly that of a function
-pub if_ok_exactly : {X Y : Type 0} (view : X → Y) (r : Result X Fault) (due : Result Y Fault) (P : X → Type 0) → AnswersExactly view r due → ((x : X) → due ≡ Ok (view x) → P x) → IfOk r P
+pub if_ok_exactly : {X Y : Type 0} (view : X → Y) (r : Result X Fault) (due : Result Y Fault) (P : X → Type 0)
+    → AnswersExactly view r due → ((x : X) → due ≡ Ok (view x) → P x) → IfOk r P
 if_ok_exactly view (Ok x) due P a h = h x a
 if_ok_exactly view (Err d) due P a h = tt
 
-pub exactly_same : {X Y : Type 0} (view : X → Y) (r : Result X Fault) (due again : Result Y Fault) → AnswersExactly view r due → due ≡ again → AnswersExactly view r again
+pub exactly_same : {X Y : Type 0} (view : X → Y) (r : Result X Fault) (due again : Result Y Fault)
+    → AnswersExactly view r due → due ≡ again → AnswersExactly view r again
 exactly_same {X} {Y} view r due again a e = subst (λ (d : Result Y Fault). AnswersExactly view r d) e a
 
 -- a fault that is due is refused

@@ -5,8 +5,8 @@ ghost use Rattle.jk_math.specs.Memory.{IsMemory};
 use std::alloc::{AllocError, AllocFailed};
 use thiserror::Error;
 
-/// A growth of memory that was refused. Its field is private and no call makes one, so a value of this type comes
-/// from an `AllocError` or an `AllocFailed` alone.
+/// A growth of memory that was refused. Its field is private and no call makes one, so a value of
+/// this type comes from an `AllocError` or an `AllocFailed` alone.
 #[derive(Clone, Copy, Debug, PartialEq, Eq)]
 pub struct Refused {
     seen: (),
@@ -18,13 +18,15 @@ pub enum Fault {
     /// A growth of memory was refused.
     #[error("F1 Memory")]
     Memory(Refused),
-    /// The file, box or tile-part ends inside something that was begun, or EOC is missing at the end.
+    /// The file, box or tile-part ends inside something that was begun, or EOC is missing at the
+    /// end.
     #[error("F2 Truncated")]
     Truncated,
     /// A marker that can't stand here, a second one where one is allowed, or a required one absent.
     #[error("F3 BadMarker")]
     BadMarker,
-    /// A segment's length contradicts its contents; Psot from 1 to 13; a length of SOP other than 4.
+    /// A segment's length contradicts its contents; Psot from 1 to 13; a length of SOP other than
+    /// 4.
     #[error("F4 BadLength")]
     BadLength,
     /// A field has a value that T.800 doesn't allow.
@@ -36,8 +38,8 @@ pub enum Fault {
     /// Past a limit of jk.
     #[error("F7 Limit")]
     Limit,
-    /// A stuffed bit is 1, the zero bit planes pass Mb, a length field is wider than 32 bits, or other
-    /// bytes stand where EPH must.
+    /// A stuffed bit is 1, the zero bit planes pass Mb, a length field is wider than 32 bits, or
+    /// other bytes stand where EPH must.
     #[error("F8 PacketHeader")]
     PacketHeader,
     /// More coding passes of a code-block than its bit planes have.

@@ -1,8 +1,11 @@
 //! Images: where they lie on the reference grid, and their samples.
 
-ghost use Rattle.std.specs.Prelude.{◌≡◌, ◌+◌, ◌*◌, ◌^◌, ◌<◌, ◌≤◌, ◌↔◌, IsTrue, Ok, Err, IfErr, IfOk, length, All, map, List, ℤ, ◌≤ℤ◌};
+ghost use Rattle.std.specs.Prelude.{◌≡◌, ◌+◌, ◌*◌, ◌^◌, ◌<◌, ◌≤◌, ◌↔◌, IsTrue, Ok, Err, IfErr, IfOk, length, All, map};
+ghost use Rattle.std.specs.Prelude.{List, ℤ, ◌≤ℤ◌};
 ghost use Rattle.std.specs.Global.{Vec};
-ghost use Rattle.jk_math.specs.Picture.{Picture, IsFrame, IsPlane, AreComponents, IsPicture, lists_of, lowest, greatest, sample_at};
+ghost use Rattle.jk_math.specs.Picture.{Picture, IsFrame, IsPlane, AreComponents, IsPicture, lowest, greatest};
+ghost use Rattle.jk_math.specs.Picture.{sample_at};
+ghost use Rattle.jk_math.specs.Lists.{lists_of};
 
 use crate::fault::Fault;
 use crate::planes::Planes;
@@ -23,9 +26,27 @@ pub struct Image {
 impl Model for Image {
     ghost Value = { Picture };
 
-    ghost view = { λ i. record { x0 = i.x0; y0 = i.y0; width = i.width; height = i.height; depth = i.depth; signed = i.signed; planes = i.planes } };
+    ghost view = { λ i.
+        record {
+          x0 = i.x0;
+          y0 = i.y0;
+          width = i.width;
+          height = i.height;
+          depth = i.depth;
+          signed = i.signed;
+          planes = i.planes;
+        } };
 
-    ghost invariant = { λ i. IsPicture (record { x0 = i.x0; y0 = i.y0; width = i.width; height = i.height; depth = i.depth; signed = i.signed; planes = i.planes }) };
+    ghost invariant = { λ i. IsPicture
+        (record {
+          x0 = i.x0;
+          y0 = i.y0;
+          width = i.width;
+          height = i.height;
+          depth = i.depth;
+          signed = i.signed;
+          planes = i.planes;
+        }) };
 }
 
 /// The least and the greatest sample of a depth, 1 to 16 bits (T.800 A.5.1, Ssiz).
@@ -89,11 +110,12 @@ fn are_components(planes: &[Vec<i32>], area: usize, depth: u8, signed: bool) -> 
 }
 
 impl Image {
-    /// An image whose upper left sample stands at (`x0`, `y0`), of 1 to 16 bits, with 1 to 4 planes of
-    /// `width` times `height` samples row by row.
+    /// An image whose upper left sample stands at (`x0`, `y0`), of 1 to 16 bits, with 1 to 4 planes
+    /// of `width` times `height` samples row by row.
     ///
-    /// BadParameters: a side of 0, an area above 2^28, a right or lower edge at 2^31 or beyond, another
-    /// depth or number of planes, a plane of another length, or a sample outside the range of the depth.
+    /// BadParameters: a side of 0, an area above 2^28, a right or lower edge at 2^31 or beyond,
+    /// another depth or number of planes, a plane of another length, or a sample outside the range
+    /// of the depth.
     pub fn new(
         x0: u32,
         y0: u32,
@@ -103,9 +125,27 @@ impl Image {
         signed: bool,
         planes: Vec<Vec<i32>>,
     ) -> Result<Image, Fault>
-        ensures made { let p : Picture = record { x0 = x0; y0 = y0; width = width; height = height; depth = depth; signed = signed; planes = lists_of planes.items } in
+        ensures made { let p : Picture = record {
+          x0 = x0;
+          y0 = y0;
+          width = width;
+          height = height;
+          depth = depth;
+          signed = signed;
+          planes = lists_of planes.items;
+        } in
             IsPicture p → result ≡ Ok p }
-        ensures value { IfOk result (λ image. image ≡ record { x0 = x0; y0 = y0; width = width; height = height; depth = depth; signed = signed; planes = lists_of planes.items }) }
+        ensures value { IfOk result
+            (λ image. image
+            ≡ record {
+              x0 = x0;
+              y0 = y0;
+              width = width;
+              height = height;
+              depth = depth;
+              signed = signed;
+              planes = lists_of planes.items;
+            }) }
         ensures profile { IfOk result IsPicture }
         ensures refused { IfErr result (λ e. e ≡ Fault.BadParameters) }
     {

@@ -1,4 +1,5 @@
-//! Rectangles, division, images, faults and texts that are written: what every crate of jk speaks of.
+//! Rectangles, division, images, faults and texts that are written: what every crate of jk speaks
+//! of.
 #![tactic(auto)]
 
 mod division;

@@ -1,7 +1,7 @@
 //! The planes of an image.
 
 ghost use Rattle.std.specs.Prelude.{◌≡◌, ◌<◌, [], length, slice_index_or, IsTrue, ◌↔◌};
-ghost use Rattle.jk_math.specs.Picture.{lists_of};
+ghost use Rattle.jk_math.specs.Lists.{lists_of};
 
 use std::marker::Model;
 
@@ -13,7 +13,7 @@ pub struct Planes {
 
 impl Model for Planes {
     ghost use Rattle.std.specs.Prelude.{List, ℤ};
-    ghost use Rattle.jk_math.specs.Picture.{lists_of};
+    ghost use Rattle.jk_math.specs.Lists.{lists_of};
 
     ghost Value = { List (List ℤ) };
 

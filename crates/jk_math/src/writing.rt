@@ -6,7 +6,8 @@ ghost use Rattle.jk_math.specs.Front.{IsFront};
 
 use std::io::Write;
 
-/// Writes a text. False where a write failed or took nothing: then a beginning of the text was written.
+/// Writes a text. False where a write failed or took nothing: then a beginning of the text was
+/// written.
 pub fn write_out<W: Write>(writer: &mut W, text: &[u8]) -> bool
     ensures { MatchBool result
         (Appends (W.contents writer.old) (W.contents writer.new) text.now)

@@ -2,11 +2,13 @@
 //! their moves, and the definitions of the code value and of the decisions that bytes spell.
 #![tactic(auto)]
 
+mod choices;
 mod context;
 mod steps;
 mod table;
 mod theorems;
 
+pub use choices::{chosen, highest_bit, kept};
 pub use context::{Cx, first_contexts, next_state};
 pub use steps::{Step, first_steps};
 pub use table::{Row, STATES};

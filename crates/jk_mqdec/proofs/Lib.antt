@@ -1,5 +1,6 @@
 pub mod Shifts
 pub mod Deciding
+pub mod Deferring
 pub mod Doubling
 pub mod Feeding
 pub mod Reaching

@@ -1,4 +1,5 @@
 pub mod Answers
+pub mod Deferred
 pub mod Registers
 pub mod Standing
 pub mod Wide

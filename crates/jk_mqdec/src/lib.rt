@@ -2,6 +2,7 @@
 #![tactic(auto)]
 
 mod decoder;
+mod deferred;
 mod pass_decoder;
 mod registers;
 mod wide;

@@ -7,28 +7,33 @@ ghost use Rattle.jk_model.specs.Decisions.{State, initial};
 ghost use Rattle.jk_mqdec.specs.Standing.{View, Stands};
 ghost use Rattle.jk_mqdec.specs.Answers.{answer, next};
 
-use crate::wide::{WideRegisters, begun, divided, is_narrow, renormalised_within, scaled};
+use crate::deferred::{DeferredRegisters, caught_up, deferred};
+use crate::wide::{Subinterval, begun, divided};
 use jk_math::Fault;
-use jk_model::Step;
+use jk_model::{Step, highest_bit};
 use std::marker::Model;
 
 /// The MQ decoder over the bytes of a segment (T.800 Annex C), up to its first fault.
 #[derive(Drop)]
 pub struct PassDecoder<'a> {
     bytes: &'a [u8],
-    registers: WideRegisters,
+    registers: DeferredRegisters,
     contexts: &'a mut [Step; 19],
 }
 
 impl<'a> Model for PassDecoder<'a> {
     ghost use Rattle.jk_mqdec.specs.Standing.{View};
-    ghost use Rattle.jk_mqdec.specs.Wide.{IsSteadyWide};
+    ghost use Rattle.jk_mqdec.specs.Deferred.{caught_up, IsSteadyDeferred};
 
     ghost Value = { View };
 
-    ghost view = { λ d. record { bytes = d.bytes.now; registers = d.registers; contexts = d.contexts.now } };
+    ghost view = { λ d. record {
+      bytes = d.bytes.now;
+      registers = caught_up d.registers.registers;
+      contexts = d.contexts.now;
+    } };
 
-    ghost invariant = { λ d. IsSteadyWide d.bytes.now d.registers };
+    ghost invariant = { λ d. IsSteadyDeferred d.bytes.now d.registers };
 }
 
 impl<'a> PassDecoder<'a> {
@@ -40,7 +45,7 @@ impl<'a> PassDecoder<'a> {
     {
         PassDecoder {
             bytes,
-            registers: begun(bytes),
+            registers: deferred(begun(bytes)),
             contexts,
         }
     }
@@ -54,14 +59,26 @@ impl<'a> PassDecoder<'a> {
         ensures answer { (s : State) → Stands self.old s → result ≡ answer self.old.bytes s cx }
         ensures next { OnOk result ((s : State) → Stands self.old s → Stands self.new (next self.old.bytes s cx)) }
     {
+        let now = self.registers.registers;
+        let top = highest_bit(now.width);
         let contexts = &mut *self.contexts;
         let context = contexts[cx];
-        let subinterval = divided(self.registers, scaled(context.size()));
-        contexts[cx] = context.after(is_narrow(subinterval.registers), subinterval.less);
-        match renormalised_within(self.bytes, subinterval.registers) {
+        let Subinterval { registers, less } = divided(now, context.scaled(top));
+        contexts[cx] = context.followed(less, registers.width >> top);
+        let bit = context.mps() != less;
+        if registers.width >= self.registers.least {
+            self.registers.registers.code = registers.code;
+            self.registers.registers.width = registers.width;
+            return Ok(bit);
+        }
+        let taken = DeferredRegisters {
+            registers,
+            least: self.registers.least,
+        };
+        match caught_up(self.bytes, taken, 63 - top) {
             Some(registers) => {
                 self.registers = registers;
-                Ok(context.mps() != subinterval.less)
+                Ok(bit)
             }
             None => Err(Fault::CodeOutOfInterval),
         }

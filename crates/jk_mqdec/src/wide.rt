@@ -10,6 +10,7 @@ ghost use Rattle.jk_mqdec.specs.Registers.{Holds, IsOutside};
 ghost use Rattle.jk_mqdec.specs.Wide.{HoldsWide, HasLeftWide, IsReadyWide, IsSteadyWide};
 
 use crate::registers::{Registers, byte, fed_through, loaded};
+use jk_model::{chosen, kept};
 
 /// The registers C, A, CT and BP of T.800 C.3.1, C and A with 32 bits more below the others.
 #[derive(Clone, Copy)]
@@ -120,7 +121,7 @@ fn filled(bytes: &[u8], old: WideRegisters) -> WideRegisters
 
 /// The registers after so many doublings, for which no byte is due.
 #[inline(always)]
-fn shifted(old: WideRegisters, times: u32) -> WideRegisters
+pub fn shifted(old: WideRegisters, times: u32) -> WideRegisters
     requires code { old.code < old.width }
     requires width { old.width * 2 ^ times < 2 ^ 64 }
     requires times { times ≤ old.count }
@@ -141,7 +142,7 @@ fn shifted(old: WideRegisters, times: u32) -> WideRegisters
 /// Doubles so many times, with bytes fed between and behind. `None` where the code value has left
 /// the interval.
 #[inline(always)]
-fn refilled(bytes: &[u8], old: WideRegisters, times: u32) -> Option<WideRegisters>
+pub fn refilled(bytes: &[u8], old: WideRegisters, times: u32) -> Option<WideRegisters>
     requires code { old.code < old.width }
     requires place { old.place ≤ length bytes.now }
     requires due { old.count < times }
@@ -181,34 +182,10 @@ pub fn renormalised(bytes: &[u8], old: WideRegisters) -> Option<WideRegisters>
     refilled(bytes, old, times)
 }
 
-/// The same of registers whose code value may have left the interval before. A doubling that waits
-/// for a byte tells.
-#[inline(always)]
-pub fn renormalised_within(bytes: &[u8], old: WideRegisters) -> Option<WideRegisters>
-    requires count { old.count ≤ 48 }
-    requires place { old.place ≤ length bytes.now }
-    requires wide { 2 ^ 48 ≤ old.width }
-    requires waits { HasLeftWide old → (old.count ≡ 0) × (old.width < 2 ^ 63) }
-    ensures ready { IfSome result (IsReadyWide bytes.now) }
-    ensures inside { IfSome result (λ _. old.code < old.width) }
-    ensures holds { (s : State) → old.code < old.width → HoldsWide bytes.now old s
-        → MatchOption result (IsOutside bytes.now (renormalised 15 s))
-        (λ r. HoldsWide bytes.now r (renormalised 15 s)) }
-{
-    let doublings = old.width.leading_zeros();
-    if doublings <= old.count {
-        return Some(shifted(old, doublings));
-    }
-    if old.code >= old.width {
-        return None;
-    }
-    refilled(bytes, old, doublings)
-}
-
 /// The subinterval that the code value lies in, where the lower subinterval is so large (T.800
 /// C.3.2).
 ///
-/// The choice is made without a branch, since half of all decisions can't be foreseen.
+/// No branch hangs on the choice.
 #[inline(always)]
 pub fn divided(now: WideRegisters, lower_width: u64) -> Subinterval
     requires { lower_width ≤ now.width }
@@ -223,12 +200,8 @@ pub fn divided(now: WideRegisters, lower_width: u64) -> Subinterval
     let is_lower = now.code < lower_width;
     Subinterval {
         registers: WideRegisters {
-            code: if is_lower {
-                now.code
-            } else {
-                now.code - lower_width
-            },
-            width: if is_lower { lower_width } else { upper_width },
+            code: now.code - kept(!is_lower, lower_width),
+            width: chosen(is_lower, lower_width, upper_width),
             ..now
         },
         less: is_lower != (upper_width < lower_width),

@@ -1,4 +1,6 @@
 pub mod ByteOut
+pub mod Deferring
+pub mod Settling
 pub mod Machine
 pub mod Since
 pub mod AtomicSteps

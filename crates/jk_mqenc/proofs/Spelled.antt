@@ -130,7 +130,7 @@ renormalised-contexts (suc k) s =
       | inr l ↦ ap (λ (u : State). u.contexts) (renormalised-suc k s ∙ ap (λ (t : Bool). cond t (renormalised k (doubled s)) s) (le-ltb s.width 32768 l))
     ]
 
-renormalised-wide : (k : ℕ) (s : State) → 32768 ≤ s.width * 2 ^ k → 32768 ≤ (renormalised k s).width
+pub renormalised-wide : (k : ℕ) (s : State) → 32768 ≤ s.width * 2 ^ k → 32768 ≤ (renormalised k s).width
 renormalised-wide zero s h = subst (λ (u : State). 32768 ≤ u.width) (sym (renormalised-zero s)) (omega arith)
 renormalised-wide (suc k) s h =
     elim (cases_lt s.width 32768) [

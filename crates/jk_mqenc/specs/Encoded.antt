@@ -4,7 +4,7 @@ use Rattle.jk_model.specs.Contexts.{Context}
 use Rattle.jk_model.specs.Decisions.{Decision, initial}
 use Rattle.jk_model.specs.Deciding.{state_by}
 use Rattle.jk_model.specs.Placed.{onto}
-use Rattle.jk_mqenc.specs.declared.coder.Registers.{Registers}
+use Rattle.jk_mqenc.specs.declared.registers.Registers.{Registers}
 use Rattle.jk_mqenc.specs.Machine.{Machine}
 use Rattle.jk_mqenc.specs.Coding.{flushed}
 use Rattle.jk_mqenc.specs.Deciding.{machine_by}

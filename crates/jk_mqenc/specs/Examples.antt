@@ -1,5 +1,5 @@
--- Examples: the bytes that FLUSH leaves of decisions, as an independent encoder of the registers gives
--- them.
+-- Examples: the bytes that FLUSH leaves of decisions, as an independent encoder of the registers
+-- gives them.
 use Rattle.std.specs.Prelude.{◌≡◌, refl, true, false, List, [], ◌∷◌}
 use Rattle.jk_model.specs.Contexts.{rows, moved, first_contexts}
 use Rattle.jk_model.specs.Decisions.{Decision, is_exchanged, renormalised}
@@ -29,7 +29,8 @@ column =
     (3, true) ∷ (10, false) ∷ (3, false) ∷ (16, true) ∷ []
 
 column_bytes : finished column ≡ 0x0F ∷ 0xB1 ∷ 0x7F ∷ []
-unfolding column finished gap unit byte_out set_bits pushed_out flushed twice renorme subinterval rows moved first_contexts
+unfolding column finished gap unit byte_out set_bits pushed_out flushed twice renorme subinterval rows moved
+    first_contexts
     is_exchanged renormalised takes_lower taken contexts_taken made
 column_bytes = refl
 

@@ -1,6 +1,7 @@
 pub mod Since
 pub mod Machine
 pub mod Coding
+pub mod Deferred
 pub mod Leads
 pub mod Deciding
 pub mod Holding

@@ -7,9 +7,9 @@ ghost use Rattle.jk_mqenc.specs.Machine.{Machine, Holds, byte_out, placed_after}
 ghost use Rattle.jk_mqenc.specs.Holding.{before};
 ghost use Rattle.jk_model.specs.Placed.{onto};
 ghost use Rattle.jk_mqenc.specs.Encoded.{started, without_last_ff, with_registers};
-ghost use Rattle.jk_mqenc.specs.Coding.{shifted_by, leapt, renorme, subinterval, set_bits, pushed_out, flushed};
+ghost use Rattle.jk_mqenc.specs.Coding.{shifted_by, leapt, renorme, set_bits, pushed_out, flushed};
 
-use crate::taken::Subinterval;
+use crate::registers::{DeferredRegisters, Registers, Subinterval, doublings};
 use jk_math::Refused;
 use std::alloc::Global;
 use std::marker::Model;
@@ -39,17 +39,6 @@ impl Model for Coder {
     } };
 
     ghost invariant = { λ c. IsBegun c.out.items c.held };
-}
-
-/// The registers C, A and CT of T.800 C.2.
-#[derive(Clone, Copy)]
-pub struct Registers {
-    /// C, the low end of the interval.
-    pub code: u32,
-    /// A, the width of the interval.
-    pub width: u32,
-    /// CT, how many doublings there are before the next byte.
-    pub count: u32,
 }
 
 /// What BYTEOUT makes of C and of the held byte.
@@ -250,39 +239,22 @@ impl Coder {
         Ok(self.registers())
     }
 
-    /// The subinterval that a decision takes, renormalised (T.800 C.2.4, C.2.6). These are the
-    /// registers over the bytes, and not those that are kept here.
+    /// A subinterval, renormalised (RENORME, T.800 C.2.6). These are the registers over the bytes,
+    /// and not those that are kept here.
     #[inline(always)]
-    pub fn code(
-        &mut self,
-        registers: Registers,
-        qe: u32,
-        taken: Subinterval,
-    ) -> Result<Registers, Refused>
-        requires least { 1 ≤ qe }
-        requires below { qe < registers.width }
-        requires width { taken.width ≡ (if taken.lower then qe else registers.width - qe) }
-        requires fits { taken.width * 2 ^ taken.times < 2 ^ 16 }
-        requires wide { 2 ^ 15 ≤ taken.width * 2 ^ taken.times }
-        requires count { 1 ≤ registers.count }
-        requires holds { (s : State) × Holds (with_registers self.old registers) s }
+    pub fn code(&mut self, taken: Subinterval) -> Result<DeferredRegisters, Refused>
+        requires count { 1 ≤ taken.count }
+        requires holds { (s : State) × Holds (with_registers self.old taken) s }
         ensures done { IfOk result (λ r. with_registers self.new r
-            ≡ renorme 15 (subinterval (with_registers self.old registers) qe taken.lower)) }
+            ≡ renorme 15 (with_registers self.old taken)) }
     {
-        let code = registers.code + if taken.lower { 0 } else { qe };
-        if taken.times < registers.count {
-            return Ok(Registers {
-                code: code << taken.times,
-                width: taken.width << taken.times,
-                count: registers.count - taken.times,
-            });
+        if let Some(registers) = taken.deferred() {
+            return Ok(registers);
         }
-        let narrow = Registers {
-            code,
-            width: taken.width,
-            count: registers.count,
-        };
-        self.through(narrow, taken.times)
+        let narrow = taken.registers();
+        let times = doublings(narrow.width);
+        let ready = self.through(narrow, times)?;
+        Ok(DeferredRegisters::new(ready))
     }
 
     /// `C <<= CT`, and BYTEOUT.

@@ -7,8 +7,8 @@ ghost use Rattle.jk_model.specs.Code.{is_last};
 ghost use Rattle.jk_model.specs.Decisions.{Decision, Spells};
 ghost use Rattle.jk_mqenc.specs.Encoded.{Codes, decision_of, written_by, finished, with_registers, lasting};
 
-use crate::coder::{Coder, Registers};
-use crate::taken::subinterval_of;
+use crate::coder::Coder;
+use crate::registers::DeferredRegisters;
 use jk_math::{Fault, Refused};
 use jk_model::{Step, first_steps};
 use std::alloc::Global;
@@ -41,10 +41,10 @@ impl Model for Encoder {
 fn encode_one(
     coder: &mut Coder,
     contexts: &mut [Step; 19],
-    registers: Registers,
+    registers: DeferredRegisters,
     cx: usize,
     bit: bool,
-) -> Result<Registers, Refused>
+) -> Result<DeferredRegisters, Refused>
     requires cx { cx < 19 }
     requires coded { (ds : List Decision) × Codes (lasting (with_registers coder.old registers) contexts.old) ds }
     ensures codes { IfOk result (λ r. (ds : List Decision)
@@ -52,11 +52,10 @@ fn encode_one(
         → Codes (lasting (with_registers coder.new r) contexts.new) (ds ++ (cx, bit) ∷ [])) }
 {
     let context = contexts[cx];
-    let qe = context.size();
     let less = bit != context.mps();
-    let taken = subinterval_of(registers.width, qe, less);
-    contexts[cx] = context.after(taken.moves, less);
-    coder.code(registers, qe, taken)
+    let taken = registers.taken(context, less);
+    contexts[cx] = context.followed(less, taken.wide());
+    coder.code(taken)
 }
 
 /// Codes these decisions. The registers leave the coder until the last of them is coded.
@@ -71,7 +70,7 @@ fn encode_list(
     ensures codes { IfOk result (λ _. (ds : List Decision) → Codes (lasting coder.old contexts.old) ds
         → Codes (lasting coder.new contexts.new) (ds ++ map decision_of decisions.now)) }
 {
-    let mut registers = coder.registers();
+    let mut registers = DeferredRegisters::new(coder.registers());
     for byte in decisions {
         registers = encode_one(
             coder,
@@ -81,7 +80,7 @@ fn encode_list(
             *byte >= 0x80,
         )?;
     }
-    coder.restore(registers);
+    coder.restore(registers.caught_up());
     Ok(())
 }
 
@@ -117,10 +116,10 @@ impl Encoder {
         if let Some(refused) = self.refused {
             return Err(Fault::Memory(refused));
         }
-        let registers = self.coder.registers();
+        let registers = DeferredRegisters::new(self.coder.registers());
         match encode_one(&mut self.coder, &mut self.contexts, registers, cx, bit) {
             Ok(registers) => {
-                self.coder.restore(registers);
+                self.coder.restore(registers.caught_up());
                 Ok(())
             }
             Err(refused) => {

@@ -3,7 +3,7 @@
 
 mod coder;
 mod encoder;
-mod taken;
+mod registers;
 mod theorems;
 
 pub use encoder::Encoder;

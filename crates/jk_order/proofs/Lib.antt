@@ -12,5 +12,4 @@ pub mod Starting
 pub mod LayerLaws
 pub mod LengthLaws
 pub mod Naming
-mod Examples
 pub mod Laws

@@ -1,5 +1,6 @@
 -- The packets of a tile and their order (T.800 B.12).
-use Rattle.std.specs.Prelude.{ℕ, zero, suc, ◌+◌, ◌-◌, ◌*◌, ◌^◌, ◌<◌, ◌≤◌, ◌↔◌, max, List, [], ◌∷◌, ◌++◌, length, map, Contains, Bool, ◌==◌, ◌&&◌}
+use Rattle.std.specs.Prelude.{ℕ, zero, suc, ◌+◌, ◌-◌, ◌*◌, ◌^◌, ◌<◌, ◌≤◌, ◌↔◌, max, List, [], ◌∷◌, ◌++◌, length, map}
+use Rattle.std.specs.Prelude.{Contains, Bool, ◌==◌, ◌&&◌}
 use Rattle.std.specs.Ordering.{nat_cmp}
 use Rattle.std.specs.declared.cmp.Ordering.{Ordering}
 use Rattle.std.specs.declared.cmp.Ordering.TheVariants.{Less, Equal, Greater}
@@ -16,22 +17,24 @@ use Rattle.jk_geom.specs.TileShapes.{coding_of}
 use Rattle.jk_geom.specs.Precincts.{precinct_number, precinct_column, precinct_row}
 use Rattle.jk_geom.specs.Counts.{packet_number}
 
--- A packet of the tile: one for each layer of each precinct of each resolution of each component (B.9).
+-- A packet of the tile: one for each layer of each precinct of each resolution of each component
+-- (B.9).
 pub record IsName (s : TileShape) (n : PacketName) : Type 0 where
   pub layer : n.layer < s.layers
   pub component : n.component < length s.codings
   pub resolution : n.resolution ≤ (coding_of s.codings n.component).levels
   pub precinct : n.precinct < precinct_number s.rect (coding_of s.codings n.component) n.resolution
 
--- Where precinct n of resolution r lies on the reference grid: where its upper left corner lies, or the tile's own
--- where a precinct begins before the tile does.
+-- Where precinct n of resolution r lies on the reference grid: where its upper left corner lies, or
+-- the tile's own where a precinct begins before the tile does.
 abbrev pub precinct_x : Rect → Coding → (r n : ℕ) → ℕ
 precinct_x a k r n = max a.x0 (precinct_column a k r n * 2 ^ ((precinct_size k r).0 + (k.levels - r)))
 
 abbrev pub precinct_y : Rect → Coding → (r n : ℕ) → ℕ
 precinct_y a k r n = max a.y0 (precinct_row a k r n * 2 ^ ((precinct_size k r).1 + (k.levels - r)))
 
--- the numbers by which the orders compare packets, the first that differ deciding (B.12.1.1 to B.12.1.5)
+-- the numbers by which the orders compare packets, the first that differ deciding (B.12.1.1 to
+-- B.12.1.5)
 abbrev pub key_at : Order → (l r c k x y : ℕ) → List ℕ
 key_at Lrcp l r c k x y = l ∷ r ∷ c ∷ k ∷ []
 key_at Rlcp l r c k x y = r ∷ l ∷ c ∷ k ∷ []
@@ -42,7 +45,8 @@ key_at Cprl l r c k x y = c ∷ y ∷ x ∷ r ∷ l ∷ []
 unfoldable pub key : TileShape → PacketName → List ℕ
 key s n =
     let k = coding_of s.codings n.component in
-    key_at s.order n.layer n.resolution n.component n.precinct (precinct_x s.rect k n.resolution n.precinct) (precinct_y s.rect k n.resolution n.precinct)
+    key_at s.order n.layer n.resolution n.component n.precinct (precinct_x s.rect k n.resolution n.precinct)
+    (precinct_y s.rect k n.resolution n.precinct)
 
 abbrev pub key_cmp : List ℕ → List ℕ → Ordering
 key_cmp = slice_cmp nat_cmp

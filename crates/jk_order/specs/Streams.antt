@@ -1,5 +1,8 @@
--- The packets of each resolution of each component as a stream that ascends, and what is left of the streams.
-use Rattle.std.specs.Prelude.{◌≡◌, ℕ, ◌+◌, ◌-◌, ◌*◌, ◌/◌, ◌%◌, ◌^◌, ◌<◌, ◌≤◌, ◌↔◌, max, Bool, true, false, nat_lt, nat_le, List, length, map, Contains, Option, Some, None, if◌then◌else◌, slice_index, slice_index_or}
+-- The packets of each resolution of each component as a stream that ascends, and what is left of
+-- the streams.
+use Rattle.std.specs.Prelude.{◌≡◌, ℕ, ◌+◌, ◌-◌, ◌*◌, ◌/◌, ◌%◌, ◌^◌, ◌<◌, ◌≤◌, ◌↔◌, max, Bool, true, false, nat_lt}
+use Rattle.std.specs.Prelude.{nat_le, List, length, map, Contains, Option, Some, None, if◌then◌else◌, slice_index}
+use Rattle.std.specs.Prelude.{slice_index_or}
 use Rattle.std.specs.Ordering.{nat_cmp}
 use Rattle.std.specs.List.Sorted.{IsStrictlySortedBy}
 use Rattle.jk_marks.specs.declared.segments.Order.{Order}
@@ -74,7 +77,11 @@ pub record IsStream (f : Frame) (s : Stream) : Type 0 where
 abbrev pub stepped : Stream → Stream
 stepped s =
     let whole = nat_lt (s.column + 1) s.across in
-    record s { precinct = s.precinct + 1; column = if whole then s.column + 1 else 0; row = if whole then s.row else s.row + 1 }
+    record s {
+      precinct = s.precinct + 1;
+      column = if whole then s.column + 1 else 0;
+      row = if whole then s.row else s.row + 1;
+    }
 
 abbrev pub next_precinct : Stream → Option Stream
 next_precinct s = if nat_lt (s.precinct + 1) s.precincts then Some (stepped s) else None
@@ -108,7 +115,21 @@ successor f s = if is_inside f.order then layers_inside f s else layers_outside 
 
 -- stands where there is no stream
 abbrev pub no_stream : Stream
-no_stream = record { component = 0; resolution = 0; width = 0; height = 0; left = 0; top = 0; across = 0; down = 0; precincts = 0; layer = 0; precinct = 0; column = 0; row = 0 }
+no_stream = record {
+  component = 0;
+  resolution = 0;
+  width = 0;
+  height = 0;
+  left = 0;
+  top = 0;
+  across = 0;
+  down = 0;
+  precincts = 0;
+  layer = 0;
+  precinct = 0;
+  column = 0;
+  row = 0;
+}
 
 -- the streams of resolutions 0 to 10 of components 0 to 3, and the rank of the next packet of each
 pub record Walk : Type 0 where
@@ -144,7 +165,8 @@ pub record IsWalk (w : Walk) : Type 0 where
   pub stream : (i : ℕ) → i < 44 → IsStream w.frame (stream_at w.streams i)
   pub place : (i : ℕ) → i < 44 → 11 * (stream_at w.streams i).component + (stream_at w.streams i).resolution ≡ i
   pub beyond : (i : ℕ) → w.frame.streams ≤ i → i < 44 → slice_index w.heads i ≡ finished
-  pub live : (i : ℕ) → i < 44 → (slice_index w.heads i ≡ finished → ⊥) → IsLive w.frame (stream_at w.streams i) (slice_index w.heads i)
+  pub live : (i : ℕ) → i < 44 → (slice_index w.heads i ≡ finished → ⊥)
+      → IsLive w.frame (stream_at w.streams i) (slice_index w.heads i)
 
 -- the rank of a packet
 abbrev pub rank_of : Walk → PacketName → ℕ
@@ -165,7 +187,13 @@ pub record Left (w : Walk) (names : List PacketName) : Type 0 where
 
 -- what all packets of a tile share
 abbrev pub frame_of : TileShape → Frame
-frame_of s = record { order = s.order; layers = s.layers; x0 = s.rect.x0; y0 = s.rect.y0; streams = 11 * length s.codings }
+frame_of s = record {
+  order = s.order;
+  layers = s.layers;
+  x0 = s.rect.x0;
+  y0 = s.rect.y0;
+  streams = 11 * length s.codings;
+}
 
 -- the stream of a resolution of a component, before its first packet
 abbrev pub stream_in : Rect → Coding → (c r : ℕ) → Stream
@@ -191,7 +219,8 @@ stream_in a k c r =
 abbrev pub no_packets : (c r : ℕ) → Stream
 no_packets c r = record no_stream { component = c; resolution = r }
 
--- The stream of resolution i % 11 of component i / 11: without packets where the tile has no such one.
+-- The stream of resolution i % 11 of component i / 11: without packets where the tile has no such
+-- one.
 unfoldable pub stream_of : TileShape → ℕ → Stream
 stream_of s i =
     let k = coding_of s.codings (i / 11) in

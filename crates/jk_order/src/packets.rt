@@ -1,6 +1,7 @@
 //! The packets of a tile in their order.
 
-ghost use Rattle.std.specs.Prelude.{◌≡◌, ◌-◌, ◌<◌, ◌≤◌, ◌^◌, ◌↔◌, ℕ, List, Ok, Err, IfOk, IfErr, length, drop, slice_get, slice_index};
+ghost use Rattle.std.specs.Prelude.{◌≡◌, ◌-◌, ◌<◌, ◌≤◌, ◌^◌, ◌↔◌, ℕ, List, Ok, Err, IfOk, IfErr, length, drop};
+ghost use Rattle.std.specs.Prelude.{slice_get, slice_index};
 ghost use Rattle.jk_math.specs.declared.fault.Fault.TheVariants.{Limit};
 ghost use Rattle.jk_geom.specs.TileShapes.{IsTileShape};
 ghost use Rattle.jk_order.specs.PacketOrder.{packet_count, order};
@@ -121,7 +122,8 @@ impl Packets {
 
     /// The next packet, unless all were given.
     pub fn next(&mut self) -> Option<PacketName>
-        ensures { (names : List PacketName) → Left self.old names → (result ≡ slice_get names 0) × Left self.new (drop 1 names) }
+        ensures { (names : List PacketName) → Left self.old names
+            → (result ≡ slice_get names 0) × Left self.new (drop 1 names) }
     {
         take(&self.frame, &mut self.streams, &mut self.heads)
     }

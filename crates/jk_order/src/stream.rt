@@ -1,7 +1,8 @@
 //! The packets of one resolution of one component.
 
 ghost use Rattle.std.specs.Prelude.{◌≡◌, ◌+◌, ◌*◌, ◌<◌, ◌≤◌, ◌^◌, nat_lt, if◌then◌else◌, Some, None};
-ghost use Rattle.jk_order.specs.Streams.{IsFrame, IsPlaced, IsStream, column_x, row_y, packed, rank, next_precinct, next_layer, successor};
+ghost use Rattle.jk_order.specs.Streams.{IsFrame, IsPlaced, IsStream, column_x, row_y, packed, rank, next_precinct};
+ghost use Rattle.jk_order.specs.Streams.{next_layer, successor};
 
 use jk_marks::Order;
 
@@ -60,7 +61,8 @@ fn packed(a: u32, b: u32, c: u32, d: u8, e: u32) -> u128
 }
 
 impl Stream {
-    /// Where the column of the next packet's precinct begins on the reference grid, or the tile does.
+    /// Where the column of the next packet's precinct begins on the reference grid, or the tile
+    /// does.
     fn x(&self, frame: &Frame) -> u32
         requires stream { IsStream frame.now self.now }
         requires column { self.now.column < self.now.across }
@@ -133,7 +135,8 @@ impl Stream {
 
     /// The next layer of the same precinct.
     fn next_layer(self, layers: u16) -> Option<Stream>
-        ensures { result ≡ (if nat_lt (self.layer + 1) layers then Some (record self { layer = self.layer + 1 }) else None) }
+        ensures { result
+            ≡ (if nat_lt (self.layer + 1) layers then Some (record self { layer = self.layer + 1 }) else None) }
     {
         if self.layer as u32 + 1 >= layers as u32 {
             return None;

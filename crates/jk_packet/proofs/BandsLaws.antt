@@ -7,7 +7,7 @@ use Rattle.jk_bits.specs.Reading.{Bits, ahead}
 use Rattle.jk_tree.specs.TagTree.{Shape}
 use Rattle.jk_bits.specs.Giving.{Gives, advance, ahead_on, gives_none, gives_join}
 use Rattle.jk_packet.specs.declared.shape.BandShape.{BandShape}
-use Rattle.jk_packet.specs.declared.header.Part.{Part}
+use Rattle.jk_packet.specs.declared.header.BlockContribution.{BlockContribution}
 use Rattle.jk_packet.specs.Reading.{BandState, BandWalk, Walk, band_in, no_band, blocks_at, band_at, bands_at}
 use Rattle.jk_packet.specs.PacketText.{Contribution, Layer, of_band, band_layers, Trees, band_shape, leaves, bands_bits, AreBands, band_parts, bands_parts}
 use Rattle.jk_packet.specs.Standing.{BandStands}
@@ -74,7 +74,7 @@ bands_only shapes t layers number [] w rest all long st are h = record {
   earlier = λ n less. refl;
   stands = λ n more less. absurd (omega (arith, all, more, less));
   bits = sym (advance_none w.bits) ∙ ap (λ (xs : List Bool). advance w.bits (length xs)) (sym (bits_end shapes t layers number));
-  parts = sym (append-nil w.parts) ∙ ap (λ (ps : List Part). w.parts ++ ps) (sym (parts_end number));
+  parts = sym (append-nil w.parts) ∙ ap (λ (ps : List BlockContribution). w.parts ++ ps) (sym (parts_end number));
 }
 bands_only shapes t layers number (cs ∷ ls) w rest all long st are h =
     let b = band_shape shapes number in
@@ -109,9 +109,9 @@ bands_only shapes t layers number (cs ∷ ls) w rest all long st are h =
           ∙ ap (λ (xs : List Bool). advance w.bits (length xs)) (sym (bits_more shapes t layers number cs ls));
       parts =
           on.parts
-          ∙ ap (λ (ps : List Part). ps ++ bands_parts (number + 1) ls) one.parts
+          ∙ ap (λ (ps : List BlockContribution). ps ++ bands_parts (number + 1) ls) one.parts
           ∙ append_assoc w.parts (band_parts number 0 cs) (bands_parts (number + 1) ls)
-          ∙ ap (λ (ps : List Part). w.parts ++ ps) (sym (parts_more number cs ls));
+          ∙ ap (λ (ps : List BlockContribution). w.parts ++ ps) (sym (parts_more number cs ls));
     }
 
 -- What is read of sub-bands is told.
@@ -134,7 +134,7 @@ bands_end shapes layers number w all = record {
   count = refl;
   earlier = λ n less. refl;
   reached = λ n more less. absurd (omega (arith, all, more, less));
-  parts = sym (append-nil w.parts) ∙ ap (λ (ps : List Part). w.parts ++ ps) (sym (parts_end number));
+  parts = sym (append-nil w.parts) ∙ ap (λ (ps : List BlockContribution). w.parts ++ ps) (sym (parts_end number));
   each = λ t st. (
     λ n more less. absurd (omega (arith, all, more, less)),
     subst (λ (xs : List Bool). Gives w.bits xs w.bits) (sym (bits_end shapes t layers number)) (gives_none w.bits),
@@ -163,9 +163,9 @@ bands_step shapes layers number more w u v here long one on =
       ];
       parts =
           on.parts
-          ∙ ap (λ (ps : List Part). ps ++ bands_parts (number + 1) on.ls) one.parts
+          ∙ ap (λ (ps : List BlockContribution). ps ++ bands_parts (number + 1) on.ls) one.parts
           ∙ append_assoc w.parts (band_parts number 0 cs) (bands_parts (number + 1) on.ls)
-          ∙ ap (λ (ps : List Part). w.parts ++ ps) (sym (parts_more number cs on.ls));
+          ∙ ap (λ (ps : List BlockContribution). w.parts ++ ps) (sym (parts_more number cs on.ls));
       each = λ t st.
           let mine : BandStands b (t number) (band_layers number layers) cs u.band =
           subst (λ (s : BandState). BandStands b (t number) (band_layers number layers) cs s) own

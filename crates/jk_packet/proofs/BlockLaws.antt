@@ -6,7 +6,7 @@ use Rattle.jk_math.specs.Answer.{◌>>=◌}
 use Rattle.jk_math.specs.Steps.{bind_then}
 use Rattle.jk_bits.specs.Reading.{Bits, ahead}
 use Rattle.jk_tree.specs.TagTree.{Query}
-use Rattle.jk_tree.specs.Asking.{Stands, Reached, Tree, IsOpen}
+use Rattle.jk_tree.specs.Asking.{AreTold, AreToldBySome, Tree, IsOpen}
 use Rattle.jk_bits.specs.Giving.{Gives, advance, ahead_on, gives_join}
 use Rattle.jk_packet.specs.declared.shape.BandShape.{BandShape}
 use Rattle.jk_packet.specs.declared.block.Block.{Block}
@@ -14,7 +14,7 @@ use Rattle.jk_packet.specs.declared.words.Piece.{Piece}
 use Rattle.jk_packet.specs.Words.{piece_bits, most_passes}
 use Rattle.jk_packet.specs.Reading.{BandState, BandWalk, block_in, grown, included_at, zero_planes_at, piece_at, with_inclusion, with_piece, taken_at, block_at}
 use Rattle.jk_packet.specs.PacketText.{Contribution, BandLayer, contributions, zeros_of, passes_of, lblock_of, is_included, asks_inclusion, asks_zeros, queries_before, BandTrees, leaves, inclusion_bits, zeros_bits, taken_bits, block_bits, IsContribution, IsBlock, block_parts}
-use Rattle.jk_packet.specs.Standing.{block_of, so_far, Holds, BandStands}
+use Rattle.jk_packet.specs.Standing.{block_of, so_far, HoldsBlocks, BandStands}
 use Rattle.jk_packet.proofs.Codes.{advance_twice}
 use Rattle.jk_packet.proofs.Pieces.{Says, coded_piece}
 use Rattle.jk_packet.proofs.QueryLaws.{so_far_none, so_far_other, so_far_own, block_push, zeros_none}
@@ -23,11 +23,11 @@ use Rattle.jk_packet.proofs.BandLaws.{block_left, block_taken, taken_ok}
 
 -- a sub-band that layers and the front of a packet may have left
 pub record BandReached (b : BandShape) (layers : List BandLayer) (front : List (Option Contribution)) (state : BandState) : Type 0 where
-  pub holds : Holds b layers front state
-  pub inclusion : Reached (leaves b) (queries_before asks_inclusion layers front) state.inclusion.nodes
-  pub zeros : Reached (leaves b) (queries_before asks_zeros layers front) state.zeros.nodes
+  pub holds : HoldsBlocks b layers front state
+  pub inclusion : AreToldBySome (leaves b) (queries_before asks_inclusion layers front) state.inclusion.nodes
+  pub zeros : AreToldBySome (leaves b) (queries_before asks_zeros layers front) state.zeros.nodes
 
-module _ (b : BandShape) (layers : List BandLayer) (front : List (Option Contribution)) (number : ℕ) (w : BandWalk) (holds : Holds b layers front w.band) (less : length front < b.across * b.down) where
+module _ (b : BandShape) (layers : List BandLayer) (front : List (Option Contribution)) (number : ℕ) (w : BandWalk) (holds : HoldsBlocks b layers front w.band) (less : length front < b.across * b.down) where
   -- the block in hand has the contributions of the layers
   block_is : block_in w.band.blocks (length front) ≡ block_of (contributions layers (length front))
   block_is = holds.blocks (length front) less ∙ ap block_of (so_far_none layers front (length front) (omega arith))
@@ -35,7 +35,7 @@ module _ (b : BandShape) (layers : List BandLayer) (front : List (Option Contrib
   included_is : (block_in w.band.blocks (length front)).included ≡ is_included layers (length front)
   included_is = ap (λ (x : Block). x.included) block_is
 
-  holds_none : (t : Tree) → IsOpen (leaves b) t → Holds b layers (front ++ None ∷ []) (record w.band { inclusion = t })
+  holds_none : (t : Tree) → IsOpen (leaves b) t → HoldsBlocks b layers (front ++ None ∷ []) (record w.band { inclusion = t })
   holds_none t can = record {
     shape = holds.shape;
     planes = holds.planes;
@@ -50,7 +50,7 @@ module _ (b : BandShape) (layers : List BandLayer) (front : List (Option Contrib
   }
 
   holds_some : (c : Contribution) (t z : Tree) → IsOpen (leaves b) t → IsOpen (leaves b) z → (is_included layers (length front) ≡ true → c.zero_planes ≡ zeros_of (contributions layers (length front)))
-      → Holds b layers (front ++ Some c ∷ []) (record w.band { blocks = set w.band.blocks (length front) (grown (block_in w.band.blocks (length front)) c.zero_planes c.piece); inclusion = t; zeros = z })
+      → HoldsBlocks b layers (front ++ Some c ∷ []) (record w.band { blocks = set w.band.blocks (length front) (grown (block_in w.band.blocks (length front)) c.zero_planes c.piece); inclusion = t; zeros = z })
   holds_some c t z can can_z later =
       let x = grown (block_in w.band.blocks (length front)) c.zero_planes c.piece in
       let own : x ≡ block_of (so_far layers (front ++ Some c ∷ []) (length front)) =
@@ -100,7 +100,7 @@ module _ (b : BandShape) (layers : List BandLayer) (front : List (Option Contrib
         stands = record {
           holds = holds_none a.after a.can_go;
           inclusion = a.stands;
-          zeros = subst (λ (qs : List Query). Stands (leaves b) t.zeros qs w.band.zeros.nodes) (sym (zeros_none layers front)) st.zeros;
+          zeros = subst (λ (qs : List Query). AreTold (leaves b) t.zeros qs w.band.zeros.nodes) (sym (zeros_none layers front)) st.zeros;
         };
         bits = ap (λ (xs : List Bool). advance w.bits (length xs)) (sym (append-nil first));
         parts = sym (append-nil w.parts);
@@ -155,12 +155,12 @@ module _ (b : BandShape) (layers : List BandLayer) (front : List (Option Contrib
         reached = record {
           holds = holds_none o.0 f.can_go;
           inclusion = f.reached;
-          zeros = subst (λ (qs : List Query). Reached (leaves b) qs w.band.zeros.nodes) (sym (zeros_none layers front)) reached.zeros;
+          zeros = subst (λ (qs : List Query). AreToldBySome (leaves b) qs w.band.zeros.nodes) (sym (zeros_none layers front)) reached.zeros;
         };
         parts = sym (append-nil w.parts);
         each = λ t st.
             let g = f.each t.inclusion st.inclusion in (
-              record { holds = holds; inclusion = g.0; zeros = subst (λ (qs : List Query). Stands (leaves b) t.zeros qs w.band.zeros.nodes) (zeros_none layers front) st.zeros },
+              record { holds = holds; inclusion = g.0; zeros = subst (λ (qs : List Query). AreTold (leaves b) t.zeros qs w.band.zeros.nodes) (zeros_none layers front) st.zeros },
               subst (λ (xs : List Bool). Gives w.bits xs o.1) (sym (append-nil (inclusion_bits (leaves b) t.inclusion layers front (length front) false))) g.1,
               record { first = g.2; taken = tt },
             );

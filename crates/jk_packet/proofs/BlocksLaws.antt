@@ -5,13 +5,13 @@ use Rattle.std.specs.List.{flat_map, range_with_len}
 use Rattle.jk_math.specs.Steps.{bind_then}
 use Rattle.jk_bits.specs.Reading.{Bits, ahead}
 use Rattle.jk_tree.specs.TagTree.{Shape, Query}
-use Rattle.jk_tree.specs.Asking.{Stands}
+use Rattle.jk_tree.specs.Asking.{AreTold}
 use Rattle.jk_bits.specs.Giving.{Gives, advance, ahead_on, gives_none, gives_join}
 use Rattle.jk_packet.specs.declared.shape.BandShape.{BandShape}
-use Rattle.jk_packet.specs.declared.header.Part.{Part}
+use Rattle.jk_packet.specs.declared.header.BlockContribution.{BlockContribution}
 use Rattle.jk_packet.specs.Reading.{BandState, BandWalk, block_at, blocks_at}
 use Rattle.jk_packet.specs.PacketText.{Contribution, BandLayer, asks_inclusion, asks_zeros, BandTrees, leaves, block_bits, band_bits, AreBlocks, block_parts, band_parts}
-use Rattle.jk_packet.specs.Standing.{block_of, Holds, BandStands}
+use Rattle.jk_packet.specs.Standing.{block_of, HoldsBlocks, BandStands}
 use Rattle.jk_packet.proofs.Codes.{advance_twice}
 use Rattle.jk_packet.proofs.QueryLaws.{before_layer, before_empty, so_far_layer, so_far_empty}
 use Rattle.jk_packet.proofs.BandLaws.{blocks_none, blocks_next}
@@ -73,7 +73,7 @@ blocks_only b t layers front [] number w rest count st are h = record {
   is = blocks_none number (length layers) (length front) w;
   stands = subst (λ (f : List (Option Contribution)). BandStands b t layers f w.band) (sym (append-nil front)) st;
   bits = sym (advance_none w.bits) ∙ ap (λ (xs : List Bool). advance w.bits (length xs)) (sym (bits_none b t layers front));
-  parts = sym (append-nil w.parts) ∙ ap (λ (ps : List Part). w.parts ++ ps) (sym (parts_none number (length front)));
+  parts = sym (append-nil w.parts) ∙ ap (λ (ps : List BlockContribution). w.parts ++ ps) (sym (parts_none number (length front)));
 }
 blocks_only b t layers front (c ∷ cs) number w rest count st are h =
     let i = length front in
@@ -96,10 +96,10 @@ blocks_only b t layers front (c ∷ cs) number w rest count st are h =
           ∙ ap (λ (xs : List Bool). advance w.bits (length xs)) (sym (bits_more b t layers front c cs));
       parts =
           on.parts
-          ∙ ap (λ (ps : List Part). ps ++ band_parts number (length (front ++ c ∷ [])) cs) one.parts
+          ∙ ap (λ (ps : List BlockContribution). ps ++ band_parts number (length (front ++ c ∷ [])) cs) one.parts
           ∙ append_assoc w.parts (block_parts number i c) (band_parts number (length (front ++ c ∷ [])) cs)
           ∙ ap (λ k. w.parts ++ (block_parts number i c ++ band_parts number k cs)) next
-          ∙ ap (λ (ps : List Part). w.parts ++ ps) (sym (parts_more number i c cs));
+          ∙ ap (λ (ps : List BlockContribution). w.parts ++ ps) (sym (parts_more number i c cs));
     }
 
 -- What is read of blocks is told.
@@ -116,7 +116,7 @@ blocks_end b layers front number w reached = record {
   cs = [];
   count = refl;
   reached = subst (λ (f : List (Option Contribution)). BandReached b layers f w.band) (sym (append-nil front)) reached;
-  parts = sym (append-nil w.parts) ∙ ap (λ (ps : List Part). w.parts ++ ps) (sym (parts_none number (length front)));
+  parts = sym (append-nil w.parts) ∙ ap (λ (ps : List BlockContribution). w.parts ++ ps) (sym (parts_none number (length front)));
   each = λ t st. (
     subst (λ (f : List (Option Contribution)). BandStands b t layers f w.band) (append-nil front) st,
     subst (λ (xs : List Bool). Gives w.bits xs w.bits) (sym (bits_none b t layers front)) (gives_none w.bits),
@@ -124,7 +124,7 @@ blocks_end b layers front number w reached = record {
   );
 }
 
-blocks_step : (b : BandShape) (layers : List BandLayer) (front : List (Option Contribution)) (more number : ℕ) (w u v : BandWalk) (holds : Holds b layers front w.band) (less : length front < b.across * b.down)
+blocks_step : (b : BandShape) (layers : List BandLayer) (front : List (Option Contribution)) (more number : ℕ) (w u v : BandWalk) (holds : HoldsBlocks b layers front w.band) (less : length front < b.across * b.down)
     → (one : BlockFound b layers front number w holds less u) → BlocksFound b layers (front ++ one.c ∷ []) more number u v → BlocksFound b layers front (suc more) number w v
 blocks_step b layers front more number w u v holds less one on =
     let next : length (front ++ one.c ∷ []) ≡ length front + 1 = length_push front one.c in
@@ -134,10 +134,10 @@ blocks_step b layers front more number w u v holds less one on =
       reached = subst (λ (f : List (Option Contribution)). BandReached b layers f v.band) (append_assoc front (one.c ∷ []) on.cs) on.reached;
       parts =
           on.parts
-          ∙ ap (λ (ps : List Part). ps ++ band_parts number (length (front ++ one.c ∷ [])) on.cs) one.parts
+          ∙ ap (λ (ps : List BlockContribution). ps ++ band_parts number (length (front ++ one.c ∷ [])) on.cs) one.parts
           ∙ append_assoc w.parts (block_parts number (length front) one.c) (band_parts number (length (front ++ one.c ∷ [])) on.cs)
           ∙ ap (λ k. w.parts ++ (block_parts number (length front) one.c ++ band_parts number k on.cs)) next
-          ∙ ap (λ (ps : List Part). w.parts ++ ps) (sym (parts_more number (length front) one.c on.cs));
+          ∙ ap (λ (ps : List BlockContribution). w.parts ++ ps) (sym (parts_more number (length front) one.c on.cs));
       each = λ t st.
           let e = on.each t (subst (λ (f : List (Option Contribution)). BandStands b t layers f v.band) (sym (append_assoc front (one.c ∷ []) on.cs)) st) in
           let f = one.each t e.0 in (
@@ -161,7 +161,7 @@ blocks_found b layers front (suc more) number w v count reached h =
     (blocks_found b layers (front ++ one.c ∷ []) more number u v (omega (arith, next, count)) one.reached (ap (λ i. blocks_at number (length layers) more i u) next ∙ k)))
 
 -- A whole packet of a sub-band is a layer of it.
-holds_layer : (b : BandShape) (layers : List BandLayer) (cs : List (Option Contribution)) (s : BandState) → Holds b layers cs s → Holds b (layers ++ Some cs ∷ []) [] s
+holds_layer : (b : BandShape) (layers : List BandLayer) (cs : List (Option Contribution)) (s : BandState) → HoldsBlocks b layers cs s → HoldsBlocks b (layers ++ Some cs ∷ []) [] s
 holds_layer b layers cs s h = record {
   shape = h.shape;
   planes = h.planes;
@@ -171,7 +171,7 @@ holds_layer b layers cs s h = record {
   zeros = h.zeros;
 }
 
-holds_packet : (b : BandShape) (layers : List BandLayer) (cs : List (Option Contribution)) (s : BandState) → Holds b (layers ++ Some cs ∷ []) [] s → Holds b layers cs s
+holds_packet : (b : BandShape) (layers : List BandLayer) (cs : List (Option Contribution)) (s : BandState) → HoldsBlocks b (layers ++ Some cs ∷ []) [] s → HoldsBlocks b layers cs s
 holds_packet b layers cs s h = record {
   shape = h.shape;
   planes = h.planes;
@@ -184,15 +184,15 @@ holds_packet b layers cs s h = record {
 pub stands_layer : (b : BandShape) (t : BandTrees) (layers : List BandLayer) (cs : List (Option Contribution)) (s : BandState) → BandStands b t layers cs s → BandStands b t (layers ++ Some cs ∷ []) [] s
 stands_layer b t layers cs s st = record {
   holds = holds_layer b layers cs s st.holds;
-  inclusion = subst (λ (qs : List Query). Stands (leaves b) t.inclusion qs s.inclusion.nodes) (sym (before_layer asks_inclusion layers cs)) st.inclusion;
-  zeros = subst (λ (qs : List Query). Stands (leaves b) t.zeros qs s.zeros.nodes) (sym (before_layer asks_zeros layers cs)) st.zeros;
+  inclusion = subst (λ (qs : List Query). AreTold (leaves b) t.inclusion qs s.inclusion.nodes) (sym (before_layer asks_inclusion layers cs)) st.inclusion;
+  zeros = subst (λ (qs : List Query). AreTold (leaves b) t.zeros qs s.zeros.nodes) (sym (before_layer asks_zeros layers cs)) st.zeros;
 }
 
 pub stands_packet : (b : BandShape) (t : BandTrees) (layers : List BandLayer) (cs : List (Option Contribution)) (s : BandState) → BandStands b t (layers ++ Some cs ∷ []) [] s → BandStands b t layers cs s
 stands_packet b t layers cs s st = record {
   holds = holds_packet b layers cs s st.holds;
-  inclusion = subst (λ (qs : List Query). Stands (leaves b) t.inclusion qs s.inclusion.nodes) (before_layer asks_inclusion layers cs) st.inclusion;
-  zeros = subst (λ (qs : List Query). Stands (leaves b) t.zeros qs s.zeros.nodes) (before_layer asks_zeros layers cs) st.zeros;
+  inclusion = subst (λ (qs : List Query). AreTold (leaves b) t.inclusion qs s.inclusion.nodes) (before_layer asks_inclusion layers cs) st.inclusion;
+  zeros = subst (λ (qs : List Query). AreTold (leaves b) t.zeros qs s.zeros.nodes) (before_layer asks_zeros layers cs) st.zeros;
 }
 
 -- An empty packet is a layer that leaves a sub-band as it is.
@@ -206,8 +206,8 @@ stands_empty b t layers s st = record {
     inclusion = st.holds.inclusion;
     zeros = st.holds.zeros;
   };
-  inclusion = subst (λ (qs : List Query). Stands (leaves b) t.inclusion qs s.inclusion.nodes) (sym (before_empty asks_inclusion layers)) st.inclusion;
-  zeros = subst (λ (qs : List Query). Stands (leaves b) t.zeros qs s.zeros.nodes) (sym (before_empty asks_zeros layers)) st.zeros;
+  inclusion = subst (λ (qs : List Query). AreTold (leaves b) t.inclusion qs s.inclusion.nodes) (sym (before_empty asks_inclusion layers)) st.inclusion;
+  zeros = subst (λ (qs : List Query). AreTold (leaves b) t.zeros qs s.zeros.nodes) (sym (before_empty asks_zeros layers)) st.zeros;
 }
 
 pub stands_still : (b : BandShape) (t : BandTrees) (layers : List BandLayer) (s : BandState) → BandStands b t (layers ++ None ∷ []) [] s → BandStands b t layers [] s
@@ -220,6 +220,6 @@ stands_still b t layers s st = record {
     inclusion = st.holds.inclusion;
     zeros = st.holds.zeros;
   };
-  inclusion = subst (λ (qs : List Query). Stands (leaves b) t.inclusion qs s.inclusion.nodes) (before_empty asks_inclusion layers) st.inclusion;
-  zeros = subst (λ (qs : List Query). Stands (leaves b) t.zeros qs s.zeros.nodes) (before_empty asks_zeros layers) st.zeros;
+  inclusion = subst (λ (qs : List Query). AreTold (leaves b) t.inclusion qs s.inclusion.nodes) (before_empty asks_inclusion layers) st.inclusion;
+  zeros = subst (λ (qs : List Query). AreTold (leaves b) t.zeros qs s.zeros.nodes) (before_empty asks_zeros layers) st.zeros;
 }

@@ -9,7 +9,7 @@ use Rattle.std.proofs.lemmas.List.Concat.{flat_map-append}
 use Rattle.std.proofs.lemmas.List.Elements.{filter-append}
 use Rattle.std.proofs.lemmas.List.Sums.{sum_by-append, sum_by_more}
 use Rattle.jk_packet.specs.declared.shape.BandShape.{BandShape}
-use Rattle.jk_packet.specs.declared.header.Part.{Part}
+use Rattle.jk_packet.specs.declared.header.BlockContribution.{BlockContribution}
 use Rattle.jk_packet.specs.Reading.{part_of}
 use Rattle.jk_packet.specs.PacketText.{Contribution, option_list, band_shape, block_parts, band_parts, bands_parts, parts_of}
 use Rattle.jk_packet.specs.Written.{Table, part_in, contribution_in, band_tables, table_at, has_passes, is_full, band_layer, layer_in, bodies_text, body_in, band_bodies, bands_bodies, bodies_in, bodies_of, HasBlock, IsTable, AreTables}
@@ -19,7 +19,7 @@ use Rattle.jk_packet.proofs.BandWriting.{range_more}
 
 -- a body: its part, and its bytes
 abbrev Body : Type 0
-Body = Part × List ℕ
+Body = BlockContribution × List ℕ
 
 -- a block without passes has no body, and one with passes has one
 body_none : (i j l : ℕ) (t : Table) → nat_eq (part_in t l).0 0 ≡ true → body_in i j l t ≡ []
@@ -41,16 +41,16 @@ unfolding band_bodies band_parts
 band_parts_are i j l [] = refl
 band_parts_are i j l (t ∷ ts) =
     map-append (λ (b : Body). b.0) (body_in i j l t) (band_bodies i (j + 1) l ts)
-    ∙ ap (λ (ps : List Part). ps ++ map (λ (b : Body). b.0) (band_bodies i (j + 1) l ts)) (body_part i j (part_in t l).1 (contribution_in t l))
-    ∙ ap (λ (ps : List Part). block_parts i j (contribution_in t l) ++ ps) (band_parts_are i (j + 1) l ts)
+    ∙ ap (λ (ps : List BlockContribution). ps ++ map (λ (b : Body). b.0) (band_bodies i (j + 1) l ts)) (body_part i j (part_in t l).1 (contribution_in t l))
+    ∙ ap (λ (ps : List BlockContribution). block_parts i j (contribution_in t l) ++ ps) (band_parts_are i (j + 1) l ts)
 
 bands_parts_are : (i l : ℕ) (tables : List (List Table)) → map (λ (b : Body). b.0) (bands_bodies i l tables) ≡ bands_parts i (map (λ ts. band_layer ts l) tables)
 unfolding bands_bodies bands_parts
 bands_parts_are i l [] = refl
 bands_parts_are i l (ts ∷ tables) =
     map-append (λ (b : Body). b.0) (band_bodies i 0 l ts) (bands_bodies (i + 1) l tables)
-    ∙ ap (λ (ps : List Part). ps ++ map (λ (b : Body). b.0) (bands_bodies (i + 1) l tables)) (band_parts_are i 0 l ts)
-    ∙ ap (λ (ps : List Part). band_parts i 0 (band_layer ts l) ++ ps) (bands_parts_are (i + 1) l tables)
+    ∙ ap (λ (ps : List BlockContribution). ps ++ map (λ (b : Body). b.0) (bands_bodies (i + 1) l tables)) (band_parts_are i 0 l ts)
+    ∙ ap (λ (ps : List BlockContribution). band_parts i 0 (band_layer ts l) ++ ps) (bands_parts_are (i + 1) l tables)
 
 not_test : (b : Bool) → not b ≡ false → b ≡ true
 not_test true e = refl
@@ -226,7 +226,7 @@ own_bands i j n (suc m) l (ts ∷ tables) at less inside =
     ∙ own_bands i j (n + 1) m l tables (omega (arith, at)) (omega (arith, less)) inside
 
 -- what the first n layers have of a block
-abbrev pub table_bodies : (i j : ℕ) → Table → ℕ → List (Part × List ℕ)
+abbrev pub table_bodies : (i j : ℕ) → Table → ℕ → List (BlockContribution × List ℕ)
 table_bodies i j t n = flat_map (λ l. body_in i j l t) (range_with_len 0 n)
 
 gathered : (i j : ℕ) (tables : List (List Table)) (ls : List ℕ) → i < length tables → j < length (band_tables tables i) → bodies_of i j (flat_map (bodies_in tables) ls) ≡ flat_map (λ l. body_in i j l (table_at (band_tables tables i) j)) ls
@@ -248,7 +248,7 @@ passes_in_body i j l t = elim (cases_Bool (nat_eq (part_in t l).0 0)) [
 ]
 
 -- the first n layers have the passes and the bytes of the first n parts
-pub record HasFront (t : Table) (n : ℕ) (bodies : List (Part × List ℕ)) : Type 0 where
+pub record HasFront (t : Table) (n : ℕ) (bodies : List (BlockContribution × List ℕ)) : Type 0 where
   pub zeros : AllByRecursion (λ b. b.0.zero_planes ≡ t.zero_planes) bodies
   pub passes : sum_by (λ b. b.0.passes) bodies ≡ sum_by (λ p. p.0) (take n t.parts)
   pub bytes : flat_map (λ b. b.1) bodies ≡ flat_map (λ p. p.1) (take n t.parts)

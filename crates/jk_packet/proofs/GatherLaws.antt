@@ -9,20 +9,20 @@ use Rattle.std.proofs.lemmas.List.Sums.{sum_by_push}
 use Rattle.std.proofs.Math.Seq.{take-suc}
 use Rattle.jk_tree.specs.TagTree.{Shape}
 use Rattle.jk_packet.specs.declared.shape.BandShape.{BandShape}
-use Rattle.jk_packet.specs.declared.header.Part.{Part}
+use Rattle.jk_packet.specs.declared.header.BlockContribution.{BlockContribution}
 use Rattle.jk_packet.specs.Words.{most_passes}
 use Rattle.jk_packet.specs.Reading.{part_of}
 use Rattle.jk_packet.specs.PacketText.{Contribution, BandLayer, given, option_list, contributions, has_any, zeros_of, passes_of, BandTrees, IsBlock, AreBlocks, Layer, of_band, band_layers, Trees, band_shape, leaves, AreBands, IsLayer, band_parts, bands_parts, parts_of}
 use Rattle.jk_packet.specs.Standing.{Tells}
-use Rattle.jk_packet.specs.Gathering.{parts_in, IsPartOf, block_contributions, IsHistory, Gathers}
+use Rattle.jk_packet.specs.Gathering.{parts_in, IsOfBlock, block_contributions, IsHistory, Gathers}
 use Rattle.jk_packet.proofs.QueryLaws.{contributions_push}
 use Rattle.jk_packet.proofs.LayerLaws.{layers_push}
 
-abbrev is_its : ℕ → ℕ → Part → Bool
+abbrev is_its : ℕ → ℕ → BlockContribution → Bool
 is_its i j p = (p.band == i) && (p.block == j)
 
 -- a contribution as a part
-abbrev said : ℕ → ℕ → Contribution → Part
+abbrev said : ℕ → ℕ → Contribution → BlockContribution
 said i j c = part_of i j c.zero_planes c.piece
 
 band_other : (i j n k : ℕ) (cs : List (Option Contribution)) → (n == i) ≡ false → parts_in i j (band_parts n k cs) ≡ []
@@ -33,14 +33,14 @@ band_other i j n k (Some c ∷ cs) other =
     ap (λ (t : Bool). cond (t && (k == j)) (part_of n k c.zero_planes c.piece ∷ parts_in i j (band_parts n (k + 1) cs)) (parts_in i j (band_parts n (k + 1) cs))) other
     ∙ band_other i j n (k + 1) cs other
 
-block_other : (i j k : ℕ) (c : Contribution) (rest : List Part) → (k == j) ≡ false → parts_in i j (part_of i k c.zero_planes c.piece ∷ rest) ≡ parts_in i j rest
+block_other : (i j k : ℕ) (c : Contribution) (rest : List BlockContribution) → (k == j) ≡ false → parts_in i j (part_of i k c.zero_planes c.piece ∷ rest) ≡ parts_in i j rest
 block_other i j k c rest other = by_band (i == i)
   where
     by_band : (t : Bool) → cond (t && (k == j)) (part_of i k c.zero_planes c.piece ∷ parts_in i j rest) (parts_in i j rest) ≡ parts_in i j rest
     by_band true = ap (λ (t : Bool). cond t (part_of i k c.zero_planes c.piece ∷ parts_in i j rest) (parts_in i j rest)) other
     by_band false = refl
 
-block_own : (i j k : ℕ) (c : Contribution) (rest : List Part) → k ≡ j → parts_in i j (part_of i k c.zero_planes c.piece ∷ rest) ≡ said i j c ∷ parts_in i j rest
+block_own : (i j k : ℕ) (c : Contribution) (rest : List BlockContribution) → k ≡ j → parts_in i j (part_of i k c.zero_planes c.piece ∷ rest) ≡ said i j c ∷ parts_in i j rest
 block_own i j k c rest own =
     let band : (i == i) ≡ true = grind (arith, nat_tests) in
     let block : (k == j) ≡ true = grind (arith, nat_tests) in
@@ -63,7 +63,7 @@ band_own i j k zero [] at = refl
 band_own i j k (suc m) [] at = refl
 band_own i j k zero (None ∷ cs) at = band_behind i j (k + 1) cs (omega (arith, at))
 band_own i j k zero (Some c ∷ cs) at =
-    block_own i j k c (band_parts i (k + 1) cs) (omega (arith, at)) ∙ ap (λ (ps : List Part). said i j c ∷ ps) (band_behind i j (k + 1) cs (omega (arith, at)))
+    block_own i j k c (band_parts i (k + 1) cs) (omega (arith, at)) ∙ ap (λ (ps : List BlockContribution). said i j c ∷ ps) (band_behind i j (k + 1) cs (omega (arith, at)))
 band_own i j k (suc m) (None ∷ cs) at = band_own i j (k + 1) m cs (omega (arith, at))
 band_own i j k (suc m) (Some c ∷ cs) at =
     let other : (k == j) ≡ false = grind (arith, nat_tests) in
@@ -75,7 +75,7 @@ bands_behind i j n [] less = refl
 bands_behind i j n (cs ∷ bands) less =
     let other : (n == i) ≡ false = grind (arith, nat_tests) in
     filter-append (is_its i j) (band_parts n 0 cs) (bands_parts (n + 1) bands)
-    ∙ ap (λ (ps : List Part). ps ++ parts_in i j (bands_parts (n + 1) bands)) (band_other i j n 0 cs other)
+    ∙ ap (λ (ps : List BlockContribution). ps ++ parts_in i j (bands_parts (n + 1) bands)) (band_other i j n 0 cs other)
     ∙ bands_behind i j (n + 1) bands (omega (arith, less))
 
 bands_own : (i j n m : ℕ) (bands : List (List (Option Contribution))) → n + m ≡ i → parts_in i j (bands_parts n bands) ≡ map (said i j) (option_list (get_or (get_or bands m []) j None))
@@ -93,14 +93,14 @@ bands_own i j n (suc m) [] at = none j
 bands_own i j n zero (cs ∷ bands) at =
     let own : n ≡ i = omega (arith, at) in
     filter-append (is_its i j) (band_parts n 0 cs) (bands_parts (n + 1) bands)
-    ∙ ap (λ (ps : List Part). parts_in i j (band_parts n 0 cs) ++ ps) (bands_behind i j (n + 1) bands (omega (arith, at)))
+    ∙ ap (λ (ps : List BlockContribution). parts_in i j (band_parts n 0 cs) ++ ps) (bands_behind i j (n + 1) bands (omega (arith, at)))
     ∙ ap (λ k. parts_in i j (band_parts k 0 cs) ++ []) own
-    ∙ ap (λ (ps : List Part). ps ++ []) (band_own i j 0 j cs (omega arith))
+    ∙ ap (λ (ps : List BlockContribution). ps ++ []) (band_own i j 0 j cs (omega arith))
     ∙ append-nil (map (said i j) (option_list (get_or cs j None)))
 bands_own i j n (suc m) (cs ∷ bands) at =
     let other : (n == i) ≡ false = grind (arith, nat_tests) in
     filter-append (is_its i j) (band_parts n 0 cs) (bands_parts (n + 1) bands)
-    ∙ ap (λ (ps : List Part). ps ++ parts_in i j (bands_parts (n + 1) bands)) (band_other i j n 0 cs other)
+    ∙ ap (λ (ps : List BlockContribution). ps ++ parts_in i j (bands_parts (n + 1) bands)) (band_other i j n 0 cs other)
     ∙ bands_own i j (n + 1) m bands (omega (arith, at))
 
 layer_own : (i j : ℕ) (layer : Layer) → parts_in i j (parts_of layer) ≡ map (said i j) (option_list (given (of_band i layer) j))
@@ -113,8 +113,8 @@ unfolding contributions
 gathered i j [] = refl
 gathered i j (layer ∷ layers) =
     filter-append (is_its i j) (parts_of layer) (flat_map parts_of layers)
-    ∙ ap (λ (ps : List Part). ps ++ parts_in i j (flat_map parts_of layers)) (layer_own i j layer)
-    ∙ ap (λ (ps : List Part). map (said i j) (option_list (given (of_band i layer) j)) ++ ps) (gathered i j layers)
+    ∙ ap (λ (ps : List BlockContribution). ps ++ parts_in i j (flat_map parts_of layers)) (layer_own i j layer)
+    ∙ ap (λ (ps : List BlockContribution). map (said i j) (option_list (given (of_band i layer) j)) ++ ps) (gathered i j layers)
     ∙ sym (map-append (said i j) (option_list (given (of_band i layer) j)) (block_contributions layers i j))
 
 -- One contribution more.
@@ -201,24 +201,24 @@ told_gathers shapes trees layers bits tells i j in_bands in_blocks = (
 )
 
 -- All parts are of blocks that there are.
-all_append : (P : Part → Type 0) (ps qs : List Part) → AllByRecursion P ps → AllByRecursion P qs → AllByRecursion P (ps ++ qs)
+all_append : (P : BlockContribution → Type 0) (ps qs : List BlockContribution) → AllByRecursion P ps → AllByRecursion P qs → AllByRecursion P (ps ++ qs)
 all_append P [] qs all more = more
 all_append P (p ∷ ps) qs all more = (all.0, all_append P ps qs all.1 more)
 
-band_within : (shapes : List BandShape) (n k : ℕ) (cs : List (Option Contribution)) → n < length shapes → k + length cs ≤ (band_shape shapes n).across * (band_shape shapes n).down → AllByRecursion (IsPartOf shapes) (band_parts n k cs)
+band_within : (shapes : List BandShape) (n k : ℕ) (cs : List (Option Contribution)) → n < length shapes → k + length cs ≤ (band_shape shapes n).across * (band_shape shapes n).down → AllByRecursion (IsOfBlock shapes) (band_parts n k cs)
 unfolding band_parts
 band_within shapes n k [] less fits = tt
 band_within shapes n k (None ∷ cs) less fits = band_within shapes n (k + 1) cs less (omega (arith, fits))
 band_within shapes n k (Some c ∷ cs) less fits = ((less, omega (arith, fits)), band_within shapes n (k + 1) cs less (omega (arith, fits)))
 
-bands_within : (shapes : List BandShape) (trees : Trees) (layers : List Layer) (n : ℕ) (bands : List (List (Option Contribution))) → n + length bands ≤ length shapes → AreBands shapes trees layers n bands → AllByRecursion (IsPartOf shapes) (bands_parts n bands)
+bands_within : (shapes : List BandShape) (trees : Trees) (layers : List Layer) (n : ℕ) (bands : List (List (Option Contribution))) → n + length bands ≤ length shapes → AreBands shapes trees layers n bands → AllByRecursion (IsOfBlock shapes) (bands_parts n bands)
 unfolding bands_parts
 bands_within shapes trees layers n [] fits are = tt
 bands_within shapes trees layers n (cs ∷ bands) fits are =
     let long = are.0 in
-    all_append (IsPartOf shapes) (band_parts n 0 cs) (bands_parts (n + 1) bands) (band_within shapes n 0 cs (omega (arith, fits)) (omega (arith, long)))
+    all_append (IsOfBlock shapes) (band_parts n 0 cs) (bands_parts (n + 1) bands) (band_within shapes n 0 cs (omega (arith, fits)) (omega (arith, long)))
     (bands_within shapes trees layers (n + 1) bands (omega (arith, fits)) are.2)
 
-pub parts_within : (shapes : List BandShape) (trees : Trees) (layers : List Layer) (layer : Layer) → IsLayer shapes trees layers layer → AllByRecursion (IsPartOf shapes) (parts_of layer)
+pub parts_within : (shapes : List BandShape) (trees : Trees) (layers : List Layer) (layer : Layer) → IsLayer shapes trees layers layer → AllByRecursion (IsOfBlock shapes) (parts_of layer)
 parts_within shapes trees layers None is = tt
 parts_within shapes trees layers (Some bands) is = let all = is.0 in bands_within shapes trees layers 0 bands (omega (arith, all)) is.1

@@ -8,7 +8,7 @@ use Rattle.jk_math.specs.Steps.{bind_then, refuse_then}
 use Rattle.jk_math.specs.declared.fault.Fault.TheVariants.{PacketHeader}
 use Rattle.jk_bits.specs.Reading.{Bits, ahead, bit_at}
 use Rattle.jk_tree.specs.TagTree.{Shape, Values, Query, query_of, told, leaf_of}
-use Rattle.jk_tree.specs.Asking.{node_at, Stands, Reached, Tree, ask_at, IsOpen}
+use Rattle.jk_tree.specs.Asking.{node_at, AreTold, AreToldBySome, Tree, ask_at, IsOpen}
 use Rattle.jk_bits.specs.Giving.{Gives, advance, gives_none, gives_bit, bit_ahead}
 use Rattle.jk_tree.proofs.Laws.{ask_only, ask_found, told_same, stands_same, low_is, value_is, low_below}
 use Rattle.jk_packet.specs.declared.block.Block.{Block}
@@ -41,9 +41,9 @@ module _ (s : Shape) (layers : List BandLayer) (front : List (Option Contributio
     pub after : Tree
     pub is : included_at (length layers) (length front) block (tree, r) ≡ Ok (is_some c, (after, advance r (length (inclusion_bits s v layers front (length front) (is_some c)))))
     pub can_go : IsOpen s after
-    pub stands : Stands s v (queries_before asks_inclusion layers (front ++ c ∷ [])) after.nodes
+    pub stands : AreTold s v (queries_before asks_inclusion layers (front ++ c ∷ [])) after.nodes
 
-  pub included_only : (v : Values) (c : Option Contribution) (r : Bits) (rest : List Bool) → Stands s v (queries_before asks_inclusion layers front) tree.nodes
+  pub included_only : (v : Values) (c : Option Contribution) (r : Bits) (rest : List Bool) → AreTold s v (queries_before asks_inclusion layers front) tree.nodes
       → (is_included layers (length front) ≡ false → is_some c ≡ nat_lt (leaf_of s v (length front)) (length layers + 1))
       → ahead r ≡ inclusion_bits s v layers front (length front) (is_some c) ++ rest → IncludedOnly v c r
   included_only v c r rest st first h = elim (cases_Bool (is_included layers (length front))) [
@@ -53,7 +53,7 @@ module _ (s : Shape) (layers : List BandLayer) (front : List (Option Contributio
           included_bit (length layers) (length front) block tree r (advance r 1) (Ok (is_some c)) (was ∙ old) (bit_ahead r (is_some c) rest (h ∙ ap (λ (xs : List Bool). xs ++ rest) bits))
           ∙ ap (λ (xs : List Bool). Ok (is_some c, (tree, advance r (length xs)))) (sym bits);
       can_go = can;
-      stands = subst (λ (qs : List Query). Stands s v qs tree.nodes) (sym (inclusion_old layers front c old)) st;
+      stands = subst (λ (qs : List Query). AreTold s v qs tree.nodes) (sym (inclusion_old layers front c old)) st;
     })
     | inr new ↦ (let bits = inclusion_bits_new s v layers front (is_some c) new in
         let q = query_of (length front) (length layers + 1) in
@@ -65,39 +65,39 @@ module _ (s : Shape) (layers : List BandLayer) (front : List (Option Contributio
               ∙ ap (λ (b : Bool). Ok (b, (a.after, advance r (length (told s v (queries_before asks_inclusion layers front) q))))) (sym (first new))
               ∙ ap (λ (xs : List Bool). Ok (is_some c, (a.after, advance r (length xs)))) (sym bits);
           can_go = a.can;
-          stands = subst (λ (qs : List Query). Stands s v qs a.after.nodes) (sym (inclusion_new layers front c new)) a.stands;
+          stands = subst (λ (qs : List Query). AreTold s v qs a.after.nodes) (sym (inclusion_new layers front c new)) a.stands;
         })
   ]
 
   -- the inclusion that is read is told
   pub record IncludedFound (c : Option Contribution) (r : Bits) (o : Bool × (Tree × Bits)) : Type 0 where
     pub can_go : IsOpen s o.1.0
-    pub reached : Reached s (queries_before asks_inclusion layers (front ++ c ∷ [])) o.1.0.nodes
-    pub each : (v : Values) → Stands s v (queries_before asks_inclusion layers (front ++ c ∷ [])) o.1.0.nodes
-        → Stands s v (queries_before asks_inclusion layers front) tree.nodes × Gives r (inclusion_bits s v layers front (length front) o.0) o.1.1
+    pub reached : AreToldBySome s (queries_before asks_inclusion layers (front ++ c ∷ [])) o.1.0.nodes
+    pub each : (v : Values) → AreTold s v (queries_before asks_inclusion layers (front ++ c ∷ [])) o.1.0.nodes
+        → AreTold s v (queries_before asks_inclusion layers front) tree.nodes × Gives r (inclusion_bits s v layers front (length front) o.0) o.1.1
         × (is_included layers (length front) ≡ false → o.0 ≡ nat_lt (leaf_of s v (length front)) (length layers + 1))
 
-  old_found : (c : Option Contribution) (r : Bits) (o : Bool × (Tree × Bits)) → is_included layers (length front) ≡ true → Reached s (queries_before asks_inclusion layers front) tree.nodes
+  old_found : (c : Option Contribution) (r : Bits) (o : Bool × (Tree × Bits)) → is_included layers (length front) ≡ true → AreToldBySome s (queries_before asks_inclusion layers front) tree.nodes
       → (x : Bool × Bits) → bit_at r ≡ Ok x → (x.0, (tree, x.1)) ≡ o → IncludedFound c r o
   old_found c r o old reached x e is = subst (λ (p : Bool × (Tree × Bits)). IncludedFound c r p) is record {
     can_go = can;
-    reached = subst (λ (qs : List Query). Reached s qs tree.nodes) (sym (inclusion_old layers front c old)) reached;
+    reached = subst (λ (qs : List Query). AreToldBySome s qs tree.nodes) (sym (inclusion_old layers front c old)) reached;
     each = λ v st. (
-      subst (λ (qs : List Query). Stands s v qs tree.nodes) (inclusion_old layers front c old) st,
+      subst (λ (qs : List Query). AreTold s v qs tree.nodes) (inclusion_old layers front c old) st,
       subst (λ (xs : List Bool). Gives r xs x.1) (sym (inclusion_bits_old s v layers front x.0 old)) (gives_bit r x e),
       λ new. absurd (let clash : true ≡ false = sym old ∙ new in cc),
     );
   }
 
-  pub included_found : (c : Option Contribution) (r : Bits) (o : Bool × (Tree × Bits)) → Reached s (queries_before asks_inclusion layers front) tree.nodes → included_at (length layers) (length front) block (tree, r) ≡ Ok o → IncludedFound c r o
+  pub included_found : (c : Option Contribution) (r : Bits) (o : Bool × (Tree × Bits)) → AreToldBySome s (queries_before asks_inclusion layers front) tree.nodes → included_at (length layers) (length front) block (tree, r) ≡ Ok o → IncludedFound c r o
   included_found c r o reached h = elim (cases_Bool (is_included layers (length front))) [
     | inl old ↦ bind_then (bit_at r) (λ x. Ok (x.0, (tree, x.1))) o (sym (included_old (length layers) (length front) block (tree, r) (was ∙ old)) ∙ h) (λ x e k. old_found c r o old reached x e (let is : (x.0, (tree, x.1)) ≡ o = cc in is))
     | inr new ↦ (let q = query_of (length front) (length layers + 1) in
         let f = ask_found s (queries_before asks_inclusion layers front) q tree r o less can reached (sym (included_ask (length layers) (length front) block (tree, r) (was ∙ new)) ∙ h) in record {
           can_go = f.can;
-          reached = subst (λ (qs : List Query). Reached s qs o.1.0.nodes) (sym (inclusion_new layers front c new)) f.reached;
+          reached = subst (λ (qs : List Query). AreToldBySome s qs o.1.0.nodes) (sym (inclusion_new layers front c new)) f.reached;
           each = λ v st.
-              let e = f.each v (subst (λ (qs : List Query). Stands s v qs o.1.0.nodes) (inclusion_new layers front c new) st) in
+              let e = f.each v (subst (λ (qs : List Query). AreTold s v qs o.1.0.nodes) (inclusion_new layers front c new) st) in
               (e.0, subst (λ (xs : List Bool). Gives r xs o.1.1) (sym (inclusion_bits_new s v layers front o.0 new)) e.1, λ _. e.2);
         })
   ]
@@ -107,9 +107,9 @@ module _ (s : Shape) (layers : List BandLayer) (front : List (Option Contributio
     pub after : Tree
     pub is : zero_planes_at planes (length front) block (tree, r) ≡ Ok (c.zero_planes, (after, advance r (length (zeros_bits s v layers front (length front) c.zero_planes))))
     pub can_go : IsOpen s after
-    pub stands : Stands s v (queries_before asks_zeros layers (front ++ Some c ∷ [])) after.nodes
+    pub stands : AreTold s v (queries_before asks_zeros layers (front ++ Some c ∷ [])) after.nodes
 
-  pub zeros_only : (planes : ℕ) (v : Values) (c : Contribution) (r : Bits) (rest : List Bool) → Stands s v (queries_before asks_zeros layers front) tree.nodes
+  pub zeros_only : (planes : ℕ) (v : Values) (c : Contribution) (r : Bits) (rest : List Bool) → AreTold s v (queries_before asks_zeros layers front) tree.nodes
       → (is_included layers (length front) ≡ false → (c.zero_planes ≡ leaf_of s v (length front)) × (c.zero_planes ≤ planes)) → (is_included layers (length front) ≡ true → c.zero_planes ≡ block.zero_planes)
       → ahead r ≡ zeros_bits s v layers front (length front) c.zero_planes ++ rest → ZerosOnly planes v c r
   zeros_only planes v c r rest st first later h = elim (cases_Bool (is_included layers (length front))) [
@@ -121,7 +121,7 @@ module _ (s : Shape) (layers : List BandLayer) (front : List (Option Contributio
           ∙ ap (λ n. Ok (c.zero_planes, (tree, record r { read = n }))) (sym (add-zero r.read))
           ∙ ap (λ (xs : List Bool). Ok (c.zero_planes, (tree, advance r (length xs)))) (sym bits);
       can_go = can;
-      stands = subst (λ (qs : List Query). Stands s v qs tree.nodes) (sym (zeros_old layers front c old)) st;
+      stands = subst (λ (qs : List Query). AreTold s v qs tree.nodes) (sym (zeros_old layers front c old)) st;
     })
     | inr new ↦ (let i = length front in
         let qs = queries_before asks_zeros layers front in
@@ -139,34 +139,34 @@ module _ (s : Shape) (layers : List BandLayer) (front : List (Option Contributio
               ∙ ap (λ n. Ok (n, (a.after, advance r (length (told s v qs (query_of i (planes + 1))))))) (low_is s v qs i (planes + 1) a.after.nodes less high a.stands ∙ sym leaf)
               ∙ ap (λ (xs : List Bool). Ok (c.zero_planes, (a.after, advance r (length xs)))) (sym bits);
           can_go = a.can;
-          stands = subst (λ (ks : List Query). Stands s v ks a.after.nodes) (sym (zeros_new layers front c new)) (stands_same s v qs i (planes + 1) (c.zero_planes + 1) a.after.nodes less high low a.stands);
+          stands = subst (λ (ks : List Query). AreTold s v ks a.after.nodes) (sym (zeros_new layers front c new)) (stands_same s v qs i (planes + 1) (c.zero_planes + 1) a.after.nodes less high low a.stands);
         })
   ]
 
   -- the zero bit-planes that are read are told
   pub record ZerosFound (planes : ℕ) (c : Contribution) (r : Bits) (o : ℕ × (Tree × Bits)) : Type 0 where
     pub can_go : IsOpen s o.1.0
-    pub reached : Reached s (queries_before asks_zeros layers (front ++ Some c ∷ [])) o.1.0.nodes
+    pub reached : AreToldBySome s (queries_before asks_zeros layers (front ++ Some c ∷ [])) o.1.0.nodes
     pub later : is_included layers (length front) ≡ true → o.0 ≡ block.zero_planes
     pub within : is_included layers (length front) ≡ false → o.0 ≤ planes
-    pub each : (v : Values) → Stands s v (queries_before asks_zeros layers (front ++ Some c ∷ [])) o.1.0.nodes
-        → Stands s v (queries_before asks_zeros layers front) tree.nodes × Gives r (zeros_bits s v layers front (length front) o.0) o.1.1
+    pub each : (v : Values) → AreTold s v (queries_before asks_zeros layers (front ++ Some c ∷ [])) o.1.0.nodes
+        → AreTold s v (queries_before asks_zeros layers front) tree.nodes × Gives r (zeros_bits s v layers front (length front) o.0) o.1.1
         × (is_included layers (length front) ≡ false → o.0 ≡ leaf_of s v (length front))
 
-  known_found : (planes : ℕ) (c : Contribution) (r : Bits) (o : ℕ × (Tree × Bits)) → is_included layers (length front) ≡ true → Reached s (queries_before asks_zeros layers front) tree.nodes → (block.zero_planes, (tree, r)) ≡ o → ZerosFound planes c r o
+  known_found : (planes : ℕ) (c : Contribution) (r : Bits) (o : ℕ × (Tree × Bits)) → is_included layers (length front) ≡ true → AreToldBySome s (queries_before asks_zeros layers front) tree.nodes → (block.zero_planes, (tree, r)) ≡ o → ZerosFound planes c r o
   known_found planes c r o old reached is = subst (λ (p : ℕ × (Tree × Bits)). ZerosFound planes c r p) is record {
     can_go = can;
-    reached = subst (λ (qs : List Query). Reached s qs tree.nodes) (sym (zeros_old layers front c old)) reached;
+    reached = subst (λ (qs : List Query). AreToldBySome s qs tree.nodes) (sym (zeros_old layers front c old)) reached;
     later = λ _. refl;
     within = λ new. absurd (let clash : true ≡ false = sym old ∙ new in cc);
     each = λ v st. (
-      subst (λ (qs : List Query). Stands s v qs tree.nodes) (zeros_old layers front c old) st,
+      subst (λ (qs : List Query). AreTold s v qs tree.nodes) (zeros_old layers front c old) st,
       subst (λ (xs : List Bool). Gives r xs r) (sym (zeros_bits_old s v layers front block.zero_planes old)) (gives_none r),
       λ new. absurd (let clash : true ≡ false = sym old ∙ new in cc),
     );
   }
 
-  asked_found : (planes : ℕ) (c : Contribution) (r : Bits) (o : ℕ × (Tree × Bits)) → c.zero_planes ≡ o.0 → is_included layers (length front) ≡ false → Reached s (queries_before asks_zeros layers front) tree.nodes
+  asked_found : (planes : ℕ) (c : Contribution) (r : Bits) (o : ℕ × (Tree × Bits)) → c.zero_planes ≡ o.0 → is_included layers (length front) ≡ false → AreToldBySome s (queries_before asks_zeros layers front) tree.nodes
       → (a : Bool × (Tree × Bits)) → ask_at (query_of (length front) (planes + 1)) (tree, r) ≡ Ok a → a.0 ≡ true → ((node_at a.1.0.nodes (length front)).low, a.1) ≡ o → ZerosFound planes c r o
   asked_found planes c r o value new reached a e known is =
       let i = length front in
@@ -183,11 +183,11 @@ module _ (s : Shape) (layers : List BandLayer) (front : List (Option Contributio
             let v = f.reached.0 in
             let st = f.reached.1 in
             let leaf = value_is s v qs i (planes + 1) a.1.0.nodes less below st in
-            (v, subst (λ (ks : List Query). Stands s v ks a.1.0.nodes) (sym next) (stands_same s v qs i (planes + 1) (low + 1) a.1.0.nodes less (omega (arith, leaf, below)) (omega (arith, leaf)) st));
+            (v, subst (λ (ks : List Query). AreTold s v ks a.1.0.nodes) (sym next) (stands_same s v qs i (planes + 1) (low + 1) a.1.0.nodes less (omega (arith, leaf, below)) (omega (arith, leaf)) st));
         later = λ old. absurd (let clash : true ≡ false = sym old ∙ new in cc);
         within = λ _. omega (arith, below);
         each = λ v st.
-            let here : Stands s v (qs ++ query_of i (low + 1) ∷ []) a.1.0.nodes = subst (λ (ks : List Query). Stands s v ks a.1.0.nodes) next st in
+            let here : AreTold s v (qs ++ query_of i (low + 1) ∷ []) a.1.0.nodes = subst (λ (ks : List Query). AreTold s v ks a.1.0.nodes) next st in
             let leaf = value_is s v qs i (low + 1) a.1.0.nodes less (omega arith) here in
             let wide = stands_same s v qs i (low + 1) (planes + 1) a.1.0.nodes less (omega (arith, leaf)) (omega (arith, leaf, below)) here in
             let g = f.each v wide in
@@ -198,7 +198,7 @@ module _ (s : Shape) (layers : List BandLayer) (front : List (Option Contributio
             );
       }
 
-  pub zeros_found : (planes : ℕ) (c : Contribution) (r : Bits) (o : ℕ × (Tree × Bits)) → c.zero_planes ≡ o.0 → Reached s (queries_before asks_zeros layers front) tree.nodes → zero_planes_at planes (length front) block (tree, r) ≡ Ok o → ZerosFound planes c r o
+  pub zeros_found : (planes : ℕ) (c : Contribution) (r : Bits) (o : ℕ × (Tree × Bits)) → c.zero_planes ≡ o.0 → AreToldBySome s (queries_before asks_zeros layers front) tree.nodes → zero_planes_at planes (length front) block (tree, r) ≡ Ok o → ZerosFound planes c r o
   zeros_found planes c r o value reached h = elim (cases_Bool (is_included layers (length front))) [
     | inl old ↦ known_found planes c r o old reached (let e : Ok (block.zero_planes, (tree, r)) ≡ Ok o = sym (zeros_known planes (length front) block (tree, r) (was ∙ old)) ∙ h in let is : (block.zero_planes, (tree, r)) ≡ o = cc in is)
     | inr new ↦ bind_then (ask_at (query_of (length front) (planes + 1)) (tree, r)) (λ a. refuse (not a.0) PacketHeader >>= λ _. Ok ((node_at a.1.0.nodes (length front)).low, a.1)) o

@@ -24,4 +24,3 @@ pub mod BandWriting
 pub mod PrecinctWriting
 pub mod BodyLaws
 pub mod Laws
-mod Examples

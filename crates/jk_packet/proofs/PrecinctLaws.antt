@@ -16,7 +16,7 @@ use Rattle.jk_tree.specs.Asking.{unless_failed}
 use Rattle.jk_tree.proofs.Laws.{blank_open, blank_tree_stands}
 use Rattle.jk_packet.specs.declared.shape.BandShape.{BandShape}
 use Rattle.jk_packet.specs.declared.header.Header.{Header}
-use Rattle.jk_packet.specs.declared.header.Part.{Part}
+use Rattle.jk_packet.specs.declared.header.BlockContribution.{BlockContribution}
 use Rattle.jk_packet.specs.Reading.{BandState, Walk, HeaderText, text_of, PrecinctState, band_in, no_band, blank_block, blank_band, blank_bands, blank_precinct, bits_of, text_at, header_at}
 use Rattle.jk_packet.specs.PacketText.{contributions, queries_in, queries_of, BandTrees, Layer, Trees, band_layers, band_shape, leaves, header_bits, IsLayer, eph_text, IsHeaderText, parts_of}
 use Rattle.jk_packet.specs.Standing.{BandStands, AreTrees, PrecinctStands, Tells, PrecinctReached, ReadsLayer, IsRead}
@@ -107,7 +107,7 @@ precinct_only shapes t layers layer text rest bytes s st is text_is e =
       after = after;
       is =
           header_ok (length layers) bytes s (record { length = length text; parts = o.after.parts }, o.after.bands) st.sound x.3
-          ∙ ap (λ (ps : List Part). Ok (record { length = length text; parts = ps }, after)) o.parts;
+          ∙ ap (λ (ps : List BlockContribution). Ok (record { length = length text; parts = ps }, after)) o.parts;
       stands = record {
         count = o.count ∙ st.count;
         read = ap (λ n. n + 1) st.read ∙ sym (length_push layers layer);

@@ -6,3 +6,4 @@ pub mod Standing
 pub mod Gathering
 pub mod Written
 pub mod Writing
+pub mod Examples

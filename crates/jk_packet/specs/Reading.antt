@@ -1,5 +1,7 @@
 -- Reading packet headers from front to back, with the first fault.
-use Rattle.std.specs.Prelude.{ℕ, zero, suc, ◌+◌, ◌-◌, ◌*◌, Bool, true, false, not, ◌&&◌, ◌==◌, nat_lt, if◌then◌else◌, List, [], ◌∷◌, ◌++◌, length, map, drop, replicate, slice_index, slice_index_or, slice_set, Option, None, Result, Ok, Err}
+use Rattle.std.specs.Prelude.{ℕ, zero, suc, ◌+◌, ◌-◌, ◌*◌, Bool, true, false, not, ◌&&◌, ◌==◌, nat_lt, if◌then◌else◌}
+use Rattle.std.specs.Prelude.{List, [], ◌∷◌, ◌++◌, length, map, drop, replicate, slice_index, slice_index_or, slice_set}
+use Rattle.std.specs.Prelude.{Option, None, Result, Ok, Err}
 use Rattle.jk_math.specs.Answer.{◌>>=◌, refuse}
 use Rattle.jk_math.specs.declared.fault.Fault.{Fault}
 use Rattle.jk_math.specs.declared.fault.Fault.TheVariants.{Truncated, BadLength, PacketHeader, TooManyPasses}
@@ -7,7 +9,7 @@ use Rattle.jk_bits.specs.Reading.{Bits, bit_at, finish_at}
 use Rattle.jk_tree.specs.TagTree.{Shape, shape_of, query_of}
 use Rattle.jk_tree.specs.Asking.{Tree, node_at, unless_failed, ask_at, blank_tree}
 use Rattle.jk_packet.specs.declared.shape.BandShape.{BandShape}
-use Rattle.jk_packet.specs.declared.header.Part.{Part}
+use Rattle.jk_packet.specs.declared.header.BlockContribution.{BlockContribution}
 use Rattle.jk_packet.specs.declared.header.Header.{Header}
 use Rattle.jk_packet.specs.declared.words.Piece.{Piece}
 use Rattle.jk_packet.specs.declared.block.Block.{Block}
@@ -31,13 +33,14 @@ passes_at r =
     else (number_at 5 0 c.1 >>= λ d. if nat_lt d.0 31 then Ok (6 + d.0, d.1)
     else (number_at 7 0 d.1 >>= λ e. Ok (37 + e.0, e.1)))))
 
--- The growth of Lblock, of which `growth` was read; with `room` more the length field would pass 32 bits. The test stands
--- before each bit, also before the first.
+-- The growth of Lblock, of which `growth` was read; with `room` more the length field would pass 32
+-- bits. The test stands before each bit, also before the first.
 unfoldable pub growth_at : ℕ → ℕ → Bits → Result (ℕ × Bits) Fault
 growth_at zero growth r = Err PacketHeader
 growth_at (suc room) growth r = bit_at r >>= λ b. if b.0 then growth_at room (growth + 1) b.1 else Ok (growth, b.1)
 
--- The words of a code-block that has a piece, of whose passes `most` are allowed and `before` were read.
+-- The words of a code-block that has a piece, of whose passes `most` are allowed and `before` were
+-- read.
 unfoldable pub piece_at : (most before lblock : ℕ) → Bits → Result (Piece × Bits) Fault
 piece_at most before lblock r =
     passes_at r >>= λ n. refuse (nat_lt most (before + n.0)) TooManyPasses
@@ -58,7 +61,8 @@ included_at layer leaf b s =
 unfoldable pub zero_planes_at : (planes leaf : ℕ) → Block → Tree × Bits → Result (ℕ × (Tree × Bits)) Fault
 zero_planes_at planes leaf b s =
     if b.included then Ok (b.zero_planes, s)
-    else (ask_at (query_of leaf (planes + 1)) s >>= λ o. refuse (not o.0) PacketHeader >>= λ _. Ok ((node_at o.1.0.nodes leaf).low, o.1))
+    else (ask_at (query_of leaf (planes + 1)) s >>= λ o. refuse (not o.0) PacketHeader
+    >>= λ _. Ok ((node_at o.1.0.nodes leaf).low, o.1))
 
 -- What packet headers have told so far of a sub-band of a precinct.
 pub record BandState : Type 0 where
@@ -72,7 +76,7 @@ pub record BandState : Type 0 where
 pub record BandWalk : Type 0 where
   pub band : BandState
   pub bits : Bits
-  pub parts : List Part
+  pub parts : List BlockContribution
 
 -- the block at an index
 abbrev pub block_in : List Block → ℕ → Block
@@ -80,11 +84,18 @@ block_in blocks i = slice_index_or blocks i blank_block
 
 -- a block once a piece was read
 abbrev pub grown : Block → ℕ → Piece → Block
-grown b zeros p = record { included = true; zero_planes = zeros; passes = b.passes + p.passes; length_bits = b.length_bits + p.growth }
+grown b zeros p =
+    record {
+      included = true;
+      zero_planes = zeros;
+      passes = b.passes + p.passes;
+      length_bits = b.length_bits + p.growth;
+    }
 
 -- what is told of a piece
-abbrev pub part_of : (band block zeros : ℕ) → Piece → Part
-part_of band block zeros p = record { band = band; block = block; zero_planes = zeros; passes = p.passes; length = p.length }
+abbrev pub part_of : (band block zeros : ℕ) → Piece → BlockContribution
+part_of band block zeros p =
+    record { band = band; block = block; zero_planes = zeros; passes = p.passes; length = p.length }
 
 -- a sub-band once the inclusion of a block was read
 abbrev pub with_inclusion : BandWalk → Tree × Bits → BandWalk
@@ -102,7 +113,8 @@ with_piece number i w z p = record {
 unfoldable pub taken_at : (number i : ℕ) → BandWalk → Result BandWalk Fault
 taken_at number i w =
     zero_planes_at w.band.planes i (block_in w.band.blocks i) (w.band.zeros, w.bits)
-    >>= λ z. piece_at (most_passes w.band.planes z.0) (block_in w.band.blocks i).passes (block_in w.band.blocks i).length_bits z.1.1
+    >>= λ z. piece_at (most_passes w.band.planes z.0) (block_in w.band.blocks i).passes
+    (block_in w.band.blocks i).length_bits z.1.1
     >>= λ p. Ok (with_piece number i w z p)
 
 -- one block
@@ -134,7 +146,7 @@ blank_band b = record {
 pub record Walk : Type 0 where
   pub bands : List BandState
   pub bits : Bits
-  pub parts : List Part
+  pub parts : List BlockContribution
 
 -- no sub-band
 unfoldable pub no_band : BandState
@@ -148,13 +160,15 @@ unfoldable pub bands_at : (layer more number : ℕ) → Walk → Result Walk Fau
 bands_at layer zero number w = Ok w
 bands_at layer (suc more) number w =
     band_at number layer (record { band = band_in w.bands number; bits = w.bits; parts = w.parts })
-    >>= λ v. bands_at layer more (number + 1) (record { bands = slice_set w.bands number v.band; bits = v.bits; parts = v.parts })
+    >>= λ v. bands_at layer more (number + 1)
+    (record { bands = slice_set w.bands number v.band; bits = v.bits; parts = v.parts })
 
 -- the sub-bands of a packet that isn't empty
 abbrev pub packet_at : ℕ → Walk → Result Walk Fault
 packet_at layer w = bands_at layer (length w.bands) 0 w
 
--- How many bytes an SOP marker segment takes that may stand at the front (A.8.1): its length is 4, its counter isn't looked at.
+-- How many bytes an SOP marker segment takes that may stand at the front (A.8.1): its length is 4,
+-- its counter isn't looked at.
 unfoldable pub sop_at : Bool → List ℕ → Result ℕ Fault
 sop_at allowed bytes =
     if allowed && (slice_index bytes 0 == 0xFF) && (slice_index bytes 1 == 0x91) then
@@ -173,7 +187,8 @@ eph_at due bytes =
     >>= λ _. Ok 2)
     else Ok 0
 
--- What the packet headers of a precinct have told so far: how many layers were read, and why a header was refused, if one was.
+-- What the packet headers of a precinct have told so far: how many layers were read, and why a
+-- header was refused, if one was.
 pub record PrecinctState : Type 0 where
   pub bands : List BandState
   pub sop : Bool
@@ -197,7 +212,7 @@ blank_precinct bands sop eph = record { bands = blank_bands bands; sop = sop; ep
 -- a header: how many bytes it takes, and its parts
 pub record HeaderText : Type 0 where
   pub length : ℕ
-  pub parts : List Part
+  pub parts : List BlockContribution
 
 abbrev pub text_of : Header → HeaderText
 text_of h = record { length = h.length; parts = h.parts }
@@ -214,14 +229,16 @@ bits_at layer bands r =
 
 -- the end of a header: the EPH marker
 abbrev pub text_end : (eph : Bool) → List ℕ → ℕ → Walk → ℕ → Result (HeaderText × List BandState) Fault
-text_end eph bytes n w m = eph_at eph (drop (n + m) bytes) >>= λ k. Ok (record { length = n + m + k; parts = w.parts }, w.bands)
+text_end eph bytes n w m = eph_at eph (drop (n + m) bytes)
+    >>= λ k. Ok (record { length = n + m + k; parts = w.parts }, w.bands)
 
 -- the rest of a header, once its bits were read
 abbrev pub text_rest : (eph : Bool) → List ℕ → ℕ → Walk → Result (HeaderText × List BandState) Fault
 text_rest eph bytes n w = finish_at w.bits >>= λ m. text_end eph bytes n w m
 
 -- the header of the packet of a layer, with the sub-bands after it
-unfoldable pub text_at : (sop eph : Bool) (layer : ℕ) → List ℕ → List BandState → Result (HeaderText × List BandState) Fault
+unfoldable pub text_at : (sop eph : Bool) (layer : ℕ) → List ℕ → List BandState
+    → Result (HeaderText × List BandState) Fault
 text_at sop eph layer bytes bands =
     sop_at sop bytes >>= λ n. bits_at layer bands (bits_of (drop n bytes)) >>= λ w. text_rest eph bytes n w
 

@@ -1,5 +1,6 @@
 -- The words that a packet header has for a code-block (T.800 B.10.6, B.10.7).
-use Rattle.std.specs.Prelude.{ℕ, zero, suc, ◌+◌, ◌-◌, ◌*◌, ◌^◌, ◌<◌, ◌≤◌, Bool, true, false, ◌==◌, nat_le, if◌then◌else◌, List, [], ◌∷◌, ◌++◌, replicate}
+use Rattle.std.specs.Prelude.{ℕ, zero, suc, ◌+◌, ◌-◌, ◌*◌, ◌^◌, ◌<◌, ◌≤◌, Bool, true, false, ◌==◌, nat_le}
+use Rattle.std.specs.Prelude.{if◌then◌else◌, List, [], ◌∷◌, ◌++◌, replicate}
 use Rattle.jk_bits.specs.Stuffing.{binary}
 use Rattle.jk_packet.specs.declared.words.Piece.{Piece}
 
@@ -36,7 +37,7 @@ pub record IsPiece (lblock : ℕ) (p : Piece) : Type 0 where
   pub narrow : width lblock p ≤ 32
   pub fits : p.length < 2 ^ width lblock p
 
--- How many coding passes a block of so many magnitude bit-planes has, of which some are zero: one for the first
--- that isn't, and three for each other (D.3, B.10.5).
+-- How many coding passes a block of so many magnitude bit-planes has, of which some are zero: one
+-- for the first that isn't, and three for each other (D.3, B.10.5).
 abbrev pub most_passes : ℕ → ℕ → ℕ
 most_passes planes zeros = 3 * (planes - zeros) - 2

@@ -1,25 +1,28 @@
--- The packets that are written of a precinct (T.800 B.9, B.10): what each layer has of each code-block, the tag trees by it,
--- the bits of the headers, and the texts.
-use Rattle.std.specs.Prelude.{◌≡◌, ℕ, zero, suc, ◌+◌, ◌-◌, ◌*◌, ◌^◌, ◌<◌, ◌≤◌, ◌/◌, ◌%◌, Bool, true, false, not, ◌&&◌, ◌==◌, if◌then◌else◌, List, [], ◌∷◌, ◌++◌, length, map, take, drop, replicate, sum_by, slice_index_or, Option, Some, None}
+-- The packets that are written of a precinct (T.800 B.9, B.10): what each layer has of each
+-- code-block, the tag trees by it, the bits of the headers, and the texts.
+use Rattle.std.specs.Prelude.{◌≡◌, ℕ, zero, suc, ◌+◌, ◌-◌, ◌*◌, ◌^◌, ◌<◌, ◌≤◌, ◌/◌, ◌%◌, Bool, true, false, not, ◌&&◌}
+use Rattle.std.specs.Prelude.{◌==◌, if◌then◌else◌, List, [], ◌∷◌, ◌++◌, length, map, take, drop, replicate, sum_by}
+use Rattle.std.specs.Prelude.{slice_index_or, Option, Some, None}
 use Rattle.std.specs.List.{AllByRecursion, filter, flat_map, list_any, range_with_len}
 use Rattle.jk_math.specs.BitLength.{bit_length}
 use Rattle.jk_bits.specs.Stuffing.{stuffed}
 use Rattle.jk_tree.specs.Telling.{written}
 use Rattle.jk_packet.specs.declared.shape.BandShape.{BandShape}
-use Rattle.jk_packet.specs.declared.header.Part.{Part}
+use Rattle.jk_packet.specs.declared.header.BlockContribution.{BlockContribution}
 use Rattle.jk_packet.specs.declared.table.LayerPart.{LayerPart}
 use Rattle.jk_packet.specs.declared.words.Piece.{Piece}
 use Rattle.jk_packet.specs.Words.{floor_log2, most_passes}
 use Rattle.jk_packet.specs.Reading.{part_of}
-use Rattle.jk_packet.specs.PacketText.{Contribution, option_list, BandTrees, Layer, Trees, band_shape, leaves, bands_bits, header_bits, eph_text}
+use Rattle.jk_packet.specs.PacketText.{Contribution, option_list, BandTrees, Layer, Trees, band_shape, leaves}
+use Rattle.jk_packet.specs.PacketText.{bands_bits, header_bits, eph_text}
 
 -- an SOP marker segment with a counter below 2^16 (A.8.1), or none
 abbrev pub sop_text : Bool → ℕ → List ℕ
 sop_text true counter = 0xFF ∷ 0x91 ∷ 0x00 ∷ 0x04 ∷ counter / 256 ∷ counter % 256 ∷ []
 sop_text false counter = []
 
--- What is written of a code-block: how many of its bit-planes are zero, and for each layer the number of coding passes that it
--- adds, with their bytes.
+-- What is written of a code-block: how many of its bit-planes are zero, and for each layer the
+-- number of coding passes that it adds, with their bytes.
 pub record Table : Type 0 where
   pub zero_planes : ℕ
   pub parts : List (ℕ × List ℕ)
@@ -28,14 +31,17 @@ pub record Table : Type 0 where
 abbrev pub part_in : Table → ℕ → ℕ × List ℕ
 part_in t l = slice_index_or t.parts l (0, [])
 
--- By how much Lblock grows before the length of so many passes: the least that makes room for it (B.10.7.1).
+-- By how much Lblock grows before the length of so many passes: the least that makes room for it
+-- (B.10.7.1).
 unfoldable pub least_growth : (lblock passes size : ℕ) → ℕ
 least_growth lblock passes size = bit_length size - (lblock + floor_log2 passes)
 
--- Lblock before layer l: 3 at first, and more by the growths in the layers that have passes of the block
+-- Lblock before layer l: 3 at first, and more by the growths in the layers that have passes of the
+-- block
 unfoldable pub lblock_at : Table → ℕ → ℕ
 lblock_at t zero = 3
-lblock_at t (suc l) = lblock_at t l + (if (part_in t l).0 == 0 then 0 else least_growth (lblock_at t l) (part_in t l).0 (length (part_in t l).1))
+lblock_at t (suc l) = lblock_at t l
+    + (if (part_in t l).0 == 0 then 0 else least_growth (lblock_at t l) (part_in t l).0 (length (part_in t l).1))
 
 -- the piece that layer l adds, where it has passes
 abbrev pub piece_in : Table → ℕ → Piece
@@ -47,7 +53,8 @@ piece_in t l = record {
 
 -- what the packet of layer l has of the block
 unfoldable pub contribution_in : Table → ℕ → Option Contribution
-contribution_in t l = if (part_in t l).0 == 0 then None else Some record { zero_planes = t.zero_planes; piece = piece_in t l }
+contribution_in t l = if (part_in t l).0 == 0 then None
+    else Some record { zero_planes = t.zero_planes; piece = piece_in t l }
 
 -- the first layer that has passes of the block, or the number of layers where none has
 abbrev pub first_in : List (ℕ × List ℕ) → ℕ
@@ -72,7 +79,8 @@ is_full tables l = list_any (list_any (has_passes l)) tables
 abbrev pub band_layer : List Table → ℕ → List (Option Contribution)
 band_layer ts l = map (λ t. contribution_in t l) ts
 
--- What layer l has of the precinct: nothing where it has no passes of any block, so that its packet is empty (B.10.3).
+-- What layer l has of the precinct: nothing where it has no passes of any block, so that its packet
+-- is empty (B.10.3).
 unfoldable pub layer_in : List (List Table) → ℕ → Layer
 layer_in tables l = if is_full tables l then Some (map (λ ts. band_layer ts l) tables) else None
 
@@ -80,24 +88,32 @@ layer_in tables l = if is_full tables l then Some (map (λ ts. band_layer ts l) 
 abbrev pub layers_before : List (List Table) → ℕ → List Layer
 layers_before tables l = map (layer_in tables) (range_with_len 0 l)
 
--- The tag trees of a sub-band: of the first layers that include the blocks, and of their zero bit-planes (B.10.4, B.10.5).
+-- The tag trees of a sub-band: of the first layers that include the blocks, and of their zero
+-- bit-planes (B.10.4, B.10.5).
 abbrev pub band_trees : BandShape → List Table → BandTrees
-band_trees b ts = record { inclusion = written (leaves b) (map (λ t. first_in t.parts) ts); zeros = written (leaves b) (map (λ t. t.zero_planes) ts) }
+band_trees b ts =
+    record {
+      inclusion = written (leaves b) (map (λ t. first_in t.parts) ts);
+      zeros = written (leaves b) (map (λ t. t.zero_planes) ts);
+    }
 
 abbrev pub trees_in : List BandShape → List (List Table) → Trees
 trees_in shapes tables = λ i. band_trees (band_shape shapes i) (band_tables tables i)
 
 -- what the header of layer l's packet has of the sub-bands, where it isn't empty
 unfoldable pub full_bits : List BandShape → List (List Table) → ℕ → List Bool
-full_bits shapes tables l = bands_bits shapes (trees_in shapes tables) (layers_before tables l) 0 (map (λ ts. band_layer ts l) tables)
+full_bits shapes tables l =
+    bands_bits shapes (trees_in shapes tables) (layers_before tables l) 0 (map (λ ts. band_layer ts l) tables)
 
 -- the bits of the header of layer l's packet
 unfoldable pub bits_in : List BandShape → List (List Table) → ℕ → List Bool
 bits_in shapes tables l = header_bits shapes (trees_in shapes tables) (layers_before tables l) (layer_in tables l)
 
--- The header of layer l's packet, which is packet `number` of its tile, counted from 0: SOP counts to 2^16 (A.8.1).
+-- The header of layer l's packet, which is packet `number` of its tile, counted from 0: SOP counts
+-- to 2^16 (A.8.1).
 unfoldable pub header_in : List BandShape → (sop eph : Bool) → List (List Table) → (l number : ℕ) → List ℕ
-header_in shapes sop eph tables l number = sop_text sop (number % 65536) ++ (stuffed (bits_in shapes tables l) ++ eph_text eph)
+header_in shapes sop eph tables l number = sop_text sop (number % 65536)
+    ++ (stuffed (bits_in shapes tables l) ++ eph_text eph)
 
 -- what follows the header: the bytes of the blocks, sub-band by sub-band
 unfoldable pub bodies_text : List (List Table) → ℕ → List ℕ
@@ -108,34 +124,37 @@ abbrev pub packet_in : List BandShape → (sop eph : Bool) → List (List Table)
 packet_in shapes sop eph tables l number = header_in shapes sop eph tables l number ++ bodies_text tables l
 
 -- what layer l has of block j of sub-band i: the part of the header, and the bytes
-abbrev pub body_in : (i j l : ℕ) → Table → List (Part × List ℕ)
+abbrev pub body_in : (i j l : ℕ) → Table → List (BlockContribution × List ℕ)
 body_in i j l t = map (λ c. (part_of i j c.zero_planes c.piece, (part_in t l).1)) (option_list (contribution_in t l))
 
--- the same of the blocks of sub-band i, the first of which is the j-th, and of sub-bands, the first of which is the i-th
-unfoldable pub band_bodies : (i j l : ℕ) → List Table → List (Part × List ℕ)
+-- the same of the blocks of sub-band i, the first of which is the j-th, and of sub-bands, the first
+-- of which is the i-th
+unfoldable pub band_bodies : (i j l : ℕ) → List Table → List (BlockContribution × List ℕ)
 band_bodies i j l [] = []
 band_bodies i j l (t ∷ ts) = body_in i j l t ++ band_bodies i (j + 1) l ts
 
-unfoldable pub bands_bodies : (i l : ℕ) → List (List Table) → List (Part × List ℕ)
+unfoldable pub bands_bodies : (i l : ℕ) → List (List Table) → List (BlockContribution × List ℕ)
 bands_bodies i l [] = []
 bands_bodies i l (ts ∷ tables) = band_bodies i 0 l ts ++ bands_bodies (i + 1) l tables
 
 -- the bodies of layer l's packet
-abbrev pub bodies_in : List (List Table) → ℕ → List (Part × List ℕ)
+abbrev pub bodies_in : List (List Table) → ℕ → List (BlockContribution × List ℕ)
 bodies_in tables l = bands_bodies 0 l tables
 
--- What packets have of a block is all that its table has: the coding passes and the bytes, each part with its zero bit-planes.
-pub record HasBlock (t : Table) (bodies : List (Part × List ℕ)) : Type 0 where
+-- What packets have of a block is all that its table has: the coding passes and the bytes, each
+-- part with its zero bit-planes.
+pub record HasBlock (t : Table) (bodies : List (BlockContribution × List ℕ)) : Type 0 where
   pub zeros : AllByRecursion (λ b. b.0.zero_planes ≡ t.zero_planes) bodies
   pub passes : sum_by (λ b. b.0.passes) bodies ≡ sum_by (λ p. p.0) t.parts
   pub bytes : flat_map (λ b. b.1) bodies ≡ flat_map (λ p. p.1) t.parts
 
 -- the bodies of block j of sub-band i
-abbrev pub bodies_of : (i j : ℕ) → List (Part × List ℕ) → List (Part × List ℕ)
+abbrev pub bodies_of : (i j : ℕ) → List (BlockContribution × List ℕ) → List (BlockContribution × List ℕ)
 bodies_of i j bodies = filter (λ b. (b.0.band == i) && (b.0.block == j)) bodies
 
--- The table of a block of so many bit-planes, for so many layers. A layer adds no more passes than a header can tell, and no
--- byte without a pass; the passes are no more than the bit-planes have, and the bytes so few that each length can be told.
+-- The table of a block of so many bit-planes, for so many layers. A layer adds no more passes than
+-- a header can tell, and no byte without a pass; the passes are no more than the bit-planes have,
+-- and the bytes so few that each length can be told.
 pub record IsTable (layers planes : ℕ) (t : Table) : Type 0 where
   pub long : length t.parts ≡ layers
   pub zeros : t.zero_planes ≤ planes
@@ -168,7 +187,8 @@ AreEnds from (p ∷ parts) size = (from ≤ p.end) × (p.end ≤ size) × AreEnd
 
 -- a table whose first layers have nothing of the block
 abbrev pub table_of : (zero_planes skipped : ℕ) → List LayerPart → List ℕ → Table
-table_of zero_planes skipped parts bytes = record { zero_planes = zero_planes; parts = replicate skipped (0, []) ++ cut_parts 0 parts bytes }
+table_of zero_planes skipped parts bytes =
+    record { zero_planes = zero_planes; parts = replicate skipped (0, []) ++ cut_parts 0 parts bytes }
 
 -- how many blocks sub-bands have
 abbrev pub block_count : List BandShape → ℕ
@@ -179,8 +199,8 @@ abbrev pub banded : List BandShape → List Table → List (List Table)
 banded [] tables = []
 banded (b ∷ shapes) tables = take (b.across * b.down) tables ∷ banded shapes (drop (b.across * b.down) tables)
 
--- A precinct that is written: its sub-bands and markers, its tables for so many layers, how many of these are written, and
--- whether memory was refused.
+-- A precinct that is written: its sub-bands and markers, its tables for so many layers, how many of
+-- these are written, and whether memory was refused.
 pub record PrecinctTables : Type 0 where
   pub shapes : List BandShape
   pub sop : Bool

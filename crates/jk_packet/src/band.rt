@@ -6,7 +6,7 @@ ghost use Rattle.jk_math.specs.Memory.{IsMemory};
 ghost use Rattle.jk_packet.specs.Reading.{BandWalk, blank_band, band_at, block_at};
 
 use crate::block::{Block, blank_blocks, read_inclusion, read_zero_planes};
-use crate::header::Part;
+use crate::header::BlockContribution;
 use crate::shape::BandShape;
 use crate::words::read_piece;
 use jk_bits::BitReader;
@@ -60,14 +60,15 @@ impl Band {
         })
     }
 
-    /// What the packet of a layer has of one block; `number` is that of the sub-band in its precinct.
+    /// What the packet of a layer has of one block; `number` is that of the sub-band in its
+    /// precinct.
     fn read_block(
         &mut self,
         number: u8,
         index: u32,
         layer: u16,
         reader: &mut BitReader<'_>,
-        parts: &mut Vec<Part>,
+        parts: &mut Vec<BlockContribution>,
     ) -> Result<(), Fault>
         requires index { index < self.old.shape.width * self.old.shape.height }
         requires layer { layer < 65535 }
@@ -101,7 +102,7 @@ impl Band {
             passes: block.passes + piece.passes as u16,
             length_bits: block.length_bits + piece.growth,
         };
-        parts.push(Part {
+        parts.push(BlockContribution {
             band: number,
             block: index,
             zero_planes,
@@ -117,7 +118,7 @@ impl Band {
         number: u8,
         layer: u16,
         reader: &mut BitReader<'_>,
-        parts: &mut Vec<Part>,
+        parts: &mut Vec<BlockContribution>,
     ) -> Result<(), Fault>
         requires { layer < 65535 }
         ensures { Answers

@@ -1,4 +1,5 @@
-//! What is known of a code-block, and what a packet tells of it first: inclusion and zero bit-planes.
+//! What is known of a code-block, and what a packet tells of it first: inclusion and zero
+//! bit-planes.
 
 ghost use Rattle.std.specs.Prelude.{◌≡◌, ℕ, ◌+◌, ◌*◌, ◌<◌, replicate, MatchResult};
 ghost use Rattle.jk_math.specs.Answer.{Reads};
@@ -57,8 +58,8 @@ pub(crate) fn read_inclusion(
 
 /// How many bit-planes of a block are zero (T.800 B.10.5), of `planes` in all.
 ///
-/// A block tells it with its first piece. One query for all bit-planes reads the same bits as queries with
-/// growing thresholds.
+/// A block tells it with its first piece. One query for all bit-planes reads the same bits as
+/// queries with growing thresholds.
 pub(crate) fn read_zero_planes(
     block: Block,
     leaf: u32,

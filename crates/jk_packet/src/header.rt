@@ -6,7 +6,7 @@ use std::marker::Model;
 
 /// What a packet has of one code-block.
 #[derive(Clone, Copy, Debug, PartialEq, Eq, Drop)]
-pub struct Part {
+pub struct BlockContribution {
     /// The number of the sub-band in the precinct, from 0.
     pub band: u8,
     /// The number of the code-block in its sub-band, in raster order from 0.
@@ -19,24 +19,24 @@ pub struct Part {
     pub length: u32,
 }
 
-/// A list of parts, in the order in which their bodies stand.
+/// What a packet has of each of its code-blocks, in the order in which the bodies stand.
 #[derive(Debug, Drop)]
 pub struct Parts {
-    parts: Vec<Part>,
+    parts: Vec<BlockContribution>,
 }
 
 impl Model for Parts {
     ghost use Rattle.std.specs.Prelude.{List};
-    ghost use Rattle.jk_packet.specs.declared.header.Part.{Part};
+    ghost use Rattle.jk_packet.specs.declared.header.BlockContribution.{BlockContribution};
 
-    ghost Value = { List Part };
+    ghost Value = { List BlockContribution };
 
     ghost view = { λ p. p.parts.items };
 }
 
 impl Parts {
     /// These parts.
-    pub(crate) fn new(parts: Vec<Part>) -> Parts
+    pub(crate) fn new(parts: Vec<BlockContribution>) -> Parts
         ensures { result ≡ parts.items }
     {
         Parts { parts }
@@ -57,7 +57,7 @@ impl Parts {
     }
 
     /// The parts, one after another.
-    pub fn as_slice(&self) -> &[Part]
+    pub fn as_slice(&self) -> &[BlockContribution]
         ensures { result.now ≡ self.now }
     {
         &self.parts

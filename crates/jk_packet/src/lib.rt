@@ -15,7 +15,7 @@ mod writer;
 mod writing;
 
 pub use facts::{headers_have_a_byte, parts_are_contributions, tables_are_told};
-pub use header::{Header, Part, Parts};
+pub use header::{BlockContribution, Header, Parts};
 pub use precinct::Precinct;
 pub use shape::{BandShape, PrecinctShape};
 pub use table::{BlockTable, LayerPart};

@@ -7,7 +7,8 @@ use jk_math::Fault;
 
 /// How many bytes an SOP marker segment takes at the front, where one is allowed (T.800 A.8.1).
 ///
-/// `Truncated` where it isn't whole, and `BadLength` where its length isn't 4. Its counter isn't looked at.
+/// `Truncated` where it isn't whole, and `BadLength` where its length isn't 4. Its counter isn't
+/// looked at.
 #[tactic(auto, unfolding(crate::specs::Reading::sop_at))]
 pub(crate) fn sop_length(allowed: bool, bytes: &[u8]) -> Result<usize, Fault>
     ensures exact { result ≡ sop_at allowed bytes.now }

@@ -1,6 +1,7 @@
 //! A precinct, and the headers of its packets (T.800 B.9, B.10).
 
-ghost use Rattle.std.specs.Prelude.{◌≡◌, ℕ, ◌+◌, ◌<◌, ◌≤◌, Bool, List, [], ◌++◌, length, drop, is_ok, if◌then◌else◌, IfOk, Some, Err, IfErr, IfSome, OnOk, MatchResult};
+ghost use Rattle.std.specs.Prelude.{◌≡◌, ℕ, ◌+◌, ◌<◌, ◌≤◌, Bool, List, [], ◌++◌, length, drop, is_ok, if◌then◌else◌};
+ghost use Rattle.std.specs.Prelude.{IfOk, Some, Err, IfErr, IfSome, OnOk, MatchResult};
 ghost use Rattle.jk_math.specs.Answer.{Answers, ReadsBy};
 ghost use Rattle.jk_math.specs.Memory.{IsMemory};
 ghost use Rattle.jk_packet.specs.Reading.{blank_precinct, bands_seen, packet_at, bits_at, text_of, text_at, header_at};
@@ -10,7 +11,7 @@ ghost use Rattle.jk_packet.specs.PacketText.{Layer, Trees, header_bits, IsLayer,
 ghost use Rattle.jk_packet.specs.Standing.{AreTrees, PrecinctStands, PrecinctReached, ReadsLayer, IsRead};
 
 use crate::band::Band;
-use crate::header::{Header, Part, Parts};
+use crate::header::{BlockContribution, Header, Parts};
 use crate::markers::{eph_length, sop_length};
 use crate::shape::PrecinctShape;
 use jk_bits::BitReader;
@@ -70,7 +71,7 @@ fn read_bands(
     bands: &mut Vec<Band>,
     layer: u16,
     reader: &mut BitReader<'_>,
-    parts: &mut Vec<Part>,
+    parts: &mut Vec<BlockContribution>,
 ) -> Result<(), Fault>
     requires layer { layer < 65535 }
     requires few { length bands.old.items ≤ 3 }
@@ -86,20 +87,25 @@ fn read_bands(
     Ok(())
 }
 
-/// The bits of a header: a 0 for an empty packet, and a 1 before what it has of the sub-bands (T.800 B.10.3).
+/// The bits of a header: a 0 for an empty packet, and a 1 before what it has of the sub-bands
+/// (T.800 B.10.3).
 fn read_bits(
     alloc: Global,
     shape: PrecinctShape,
     bands: &mut Vec<Band>,
     layer: u16,
     reader: &mut BitReader<'_>,
-    parts: &mut Vec<Part>,
+    parts: &mut Vec<BlockContribution>,
 ) -> Result<(), Fault>
     requires layer { layer < 65535 }
     requires few { length bands.old.items ≤ 3 }
     requires none { parts.old.items ≡ [] }
     ensures exact { Answers
-        (λ _. record { bands = bands_seen (bands_of shape) bands.new.items; bits = reader.new; parts = parts.new.items }) result
+        (λ _. record {
+          bands = bands_seen (bands_of shape) bands.new.items;
+          bits = reader.new;
+          parts = parts.new.items;
+        }) result
         (bits_at layer (bands_seen (bands_of shape) bands.old.items) reader.old) }
     ensures few { length bands.new.items ≤ 3 }
 {
@@ -152,7 +158,8 @@ fn read_text(
 impl Precinct {
     /// A precinct of which no packet was read.
     ///
-    /// What a packet header tells of code-blocks takes memory at the precinct's first packet that isn't empty.
+    /// What a packet header tells of code-blocks takes memory at the precinct's first packet that
+    /// isn't empty.
     pub fn new(alloc: Global, shape: &PrecinctShape) -> Result<Precinct, Fault>
         ensures blank { MatchResult result
             (λ p. p ≡ blank_precinct (bands_of shape.now) shape.now.sop shape.now.eph) (λ e. IsMemory e) }
@@ -171,10 +178,11 @@ impl Precinct {
 
     /// The header of the packet of `layer`, which is the next layer, at the front of `bytes`.
     ///
-    /// The faults, in the order of the bytes: `Truncated` where they end, `BadLength` for an SOP marker segment
-    /// whose length isn't 4, `PacketHeader` for a stuffed bit that is 1, more zero bit-planes than the sub-band
-    /// has, a length field wider than 32 bits, and other bytes where EPH must stand, and `TooManyPasses` for more
-    /// coding passes of a code-block than its bit-planes have. The first fault is the answer to each later call.
+    /// The faults, in the order of the bytes: `Truncated` where they end, `BadLength` for an SOP
+    /// marker segment whose length isn't 4, `PacketHeader` for a stuffed bit that is 1, more zero
+    /// bit-planes than the sub-band has, a length field wider than 32 bits, and other bytes where
+    /// EPH must stand, and `TooManyPasses` for more coding passes of a code-block than its
+    /// bit-planes have. The first fault is the answer to each later call.
     pub fn read_header(&mut self, bytes: &[u8], layer: u16) -> Result<Header, Fault>
         requires next { layer ≡ self.old.layers }
         requires layer { layer < 65535 }
@@ -185,7 +193,8 @@ impl Precinct {
         ensures counted { self.new.layers ≡ (if is_ok result then self.old.layers + 1 else self.old.layers) }
 
         // What trees would tell of one more layer is read, whatever they told before.
-        ensures only { (shapes : List BandShape) (trees : Trees) (layers : List Layer) (said : Layer) (text rest : List ℕ)
+        ensures only { (shapes : List BandShape) (trees : Trees) (layers : List Layer) (said : Layer)
+            (text rest : List ℕ)
             → PrecinctStands shapes trees layers self.old
             → IsLayer shapes trees layers said
             → IsHeaderText self.old.sop self.old.eph (header_bits shapes trees layers said) text

@@ -15,8 +15,8 @@ pub struct LayerPart {
     pub end: u32,
 }
 
-/// What is written of a code-block: how many of its bit-planes are zero, and for each layer the coding passes
-/// that it adds, with their bytes.
+/// What is written of a code-block: how many of its bit-planes are zero, and for each layer the
+/// coding passes that it adds, with their bytes.
 #[derive(Debug, Drop)]
 pub struct BlockTable {
     zero_planes: u8,
@@ -60,8 +60,8 @@ fn cut(bytes: &[u8], begin: usize, end: usize) -> &[u8]
 }
 
 impl BlockTable {
-    /// The table of a code-block with so many zero bit-planes (T.800 B.10.5), of which the first `skipped`
-    /// layers have nothing, and the layers behind them these parts of its bytes.
+    /// The table of a code-block with so many zero bit-planes (T.800 B.10.5), of which the first
+    /// `skipped` layers have nothing, and the layers behind them these parts of its bytes.
     pub fn new(zero_planes: u8, skipped: u16, parts: Vec<LayerPart>, bytes: Vec<u8>) -> BlockTable
         requires { AreEnds 0 parts.items (length bytes.items) }
         ensures { result ≡ table_of zero_planes skipped parts.items bytes.items }

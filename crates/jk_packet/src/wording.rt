@@ -44,8 +44,8 @@ fn push_ones(count: u8, writer: &mut BitWriter) -> Result<(), Fault>
     Ok(())
 }
 
-/// The code-word of a number of coding passes, from 1 to 164 (Table B.4): so many ones, and behind them so many
-/// bits of what the number is above another.
+/// The code-word of a number of coding passes, from 1 to 164 (Table B.4): so many ones, and behind
+/// them so many bits of what the number is above another.
 fn pass_word(passes: u8) -> (u8, u32, u8)
     requires some { 1 ≤ passes }
     ensures word { replicate result.0 true ++ binary result.1 (passes - result.2) ≡ pass_code passes }

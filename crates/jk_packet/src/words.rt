@@ -69,7 +69,8 @@ fn read_pass_count(reader: &mut BitReader<'_>) -> Result<u8, Fault>
 
 /// By how much Lblock grows; it has `room` to grow by less.
 ///
-/// `PacketHeader` where the length field would be wider than 32 bits, which is tested before each bit.
+/// `PacketHeader` where the length field would be wider than 32 bits, which is tested before each
+/// bit.
 fn read_growth(reader: &mut BitReader<'_>, room: u32) -> Result<u8, Fault>
     requires { room ≤ 33 }
     ensures exact { Reads (growth_at room 0) reader.old reader.new result }
@@ -95,8 +96,8 @@ pub(crate) fn floor_log2(passes: u8) -> u32
     (passes as u32).ilog2()
 }
 
-/// The words of a piece, for a block of `planes` magnitude bit-planes, of which `zero_planes` are zero, with
-/// `before` passes and an Lblock of `length_bits` from earlier packets.
+/// The words of a piece, for a block of `planes` magnitude bit-planes, of which `zero_planes` are
+/// zero, with `before` passes and an Lblock of `length_bits` from earlier packets.
 #[tactic(auto, unfolding(crate::specs::Reading::piece_at))]
 pub(crate) fn read_piece(
     reader: &mut BitReader<'_>,

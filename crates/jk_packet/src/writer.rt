@@ -1,6 +1,7 @@
 //! The packets of a precinct, written layer by layer (T.800 B.9, B.10).
 
-ghost use Rattle.std.specs.Prelude.{◌≡◌, ℕ, ◌+◌, ◌*◌, ◌%◌, ◌<◌, ◌≤◌, ◌++◌, false, true, length, take, drop, IfOk, IfErr, IsErr, OnOk, MatchResult};
+ghost use Rattle.std.specs.Prelude.{◌≡◌, ℕ, ◌+◌, ◌*◌, ◌%◌, ◌<◌, ◌≤◌, ◌++◌, false, true, length, take, drop, IfOk};
+ghost use Rattle.std.specs.Prelude.{IfErr, IsErr, OnOk, MatchResult};
 ghost use Rattle.std.specs.List.{list_any, flat_map};
 ghost use Rattle.jk_math.specs.Front.{IsFront};
 ghost use Rattle.jk_math.specs.Memory.{IsMemory};
@@ -8,7 +9,8 @@ ghost use Rattle.jk_tree.specs.Telling.{with_bits};
 ghost use Rattle.jk_packet.specs.Shapes.{bands_of};
 ghost use Rattle.jk_bits.specs.Stuffing.{stuffed};
 ghost use Rattle.jk_packet.specs.PacketText.{eph_text};
-ghost use Rattle.jk_packet.specs.Written.{sop_text, has_passes, is_full, full_bits, bits_in, part_in, packet_in, block_count, banded, AreTables};
+ghost use Rattle.jk_packet.specs.Written.{sop_text, has_passes, is_full, full_bits, bits_in, part_in, packet_in};
+ghost use Rattle.jk_packet.specs.Written.{block_count, banded, AreTables};
 ghost use Rattle.jk_packet.specs.Writing.{BandsStand};
 
 use crate::shape::{BandShape, PrecinctShape};
@@ -50,7 +52,8 @@ impl<'a> Model for PrecinctWriter<'a> {
       failed = is_some w.fault;
     } };
 
-    ghost invariant = { λ w. IsWriting (bands_of w.shape) w.layers (banded (bands_of w.shape) w.tables.now) w.written (is_some w.fault) w.bands.items
+    ghost invariant = { λ w. IsWriting (bands_of w.shape) w.layers (banded (bands_of w.shape) w.tables.now) w.written
+        (is_some w.fault) w.bands.items
         × (length w.tables.now ≡ block_count (bands_of w.shape))
         × IfSome w.fault IsMemory };
 }
@@ -109,7 +112,8 @@ fn write_bands(
     requires layer { layer < layers }
     requires full { is_full (banded (bands_of shape.now) tables.now) layer ≡ true }
     requires stand { BandsStand (bands_of shape.now) (banded (bands_of shape.now) tables.now) layer bands.old.items }
-    ensures stand { IfOk result (λ _. BandsStand (bands_of shape.now) (banded (bands_of shape.now) tables.now) (layer + 1) bands.new.items) }
+    ensures stand { IfOk result
+        (λ _. BandsStand (bands_of shape.now) (banded (bands_of shape.now) tables.now) (layer + 1) bands.new.items) }
     ensures told { IfOk result (λ _. writer.new ≡ with_bits writer.old
         (full_bits (bands_of shape.now) (banded (bands_of shape.now) tables.now) layer)) }
     ensures memory { IfErr result (λ e. IsMemory e) }
@@ -151,8 +155,10 @@ fn write_bits(
     requires whole { length tables.now ≡ block_count (bands_of shape.now) }
     requires layer { layer < layers }
     requires stand { BandsStand (bands_of shape.now) (banded (bands_of shape.now) tables.now) layer bands.old.items }
-    ensures stand { IfOk result (λ _. BandsStand (bands_of shape.now) (banded (bands_of shape.now) tables.now) (layer + 1) bands.new.items) }
-    ensures told { IfOk result (λ v. v.items ≡ stuffed (bits_in (bands_of shape.now) (banded (bands_of shape.now) tables.now) layer)) }
+    ensures stand { IfOk result
+        (λ _. BandsStand (bands_of shape.now) (banded (bands_of shape.now) tables.now) (layer + 1) bands.new.items) }
+    ensures told { IfOk result
+        (λ v. v.items ≡ stuffed (bits_in (bands_of shape.now) (banded (bands_of shape.now) tables.now) layer)) }
     ensures memory { IfErr result (λ e. IsMemory e) }
 {
     let mut writer = BitWriter::new(alloc);
@@ -219,7 +225,8 @@ fn push_packet(
     requires whole { length tables.now ≡ block_count (bands_of shape.now) }
     requires layer { layer < layers }
     requires stand { BandsStand (bands_of shape.now) (banded (bands_of shape.now) tables.now) layer bands.old.items }
-    ensures stand { IfOk result (λ _. BandsStand (bands_of shape.now) (banded (bands_of shape.now) tables.now) (layer + 1) bands.new.items) }
+    ensures stand { IfOk result
+        (λ _. BandsStand (bands_of shape.now) (banded (bands_of shape.now) tables.now) (layer + 1) bands.new.items) }
     ensures ok { OnOk result (out.new.items ≡ out.old.items
         ++ packet_in (bands_of shape.now) shape.now.sop shape.now.eph (banded (bands_of shape.now) tables.now) layer number) }
     ensures front { IsFront out.old.items out.new.items }
@@ -268,9 +275,10 @@ impl<'a> PrecinctWriter<'a> {
 
     /// Appends the packet of the next layer, which is packet `number` of its tile, counted from 0.
     ///
-    /// SOP and EPH stand as the precinct's shape tells; SOP has the number's lowest 16 bits (T.800 A.8.1). A
-    /// layer without a coding pass of any block gives an empty packet (B.10.3). After [`Fault::Memory`] some of
-    /// its bytes may stand, and each later call answers `Memory` and appends nothing.
+    /// SOP and EPH stand as the precinct's shape tells; SOP has the number's lowest 16 bits (T.800
+    /// A.8.1). A layer without a coding pass of any block gives an empty packet (B.10.3). After
+    /// [`Fault::Memory`] some of its bytes may stand, and each later call answers `Memory` and
+    /// appends nothing.
     pub fn write_packet(&mut self, number: u32, out: &mut Vec<u8>) -> Result<(), Fault>
         requires { self.old.written < self.old.layers }
         ensures ok { OnOk result (out.new.items ≡ out.old.items

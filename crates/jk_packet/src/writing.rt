@@ -1,6 +1,7 @@
 //! A sub-band of a precinct that is written: what its code-blocks and tag trees have told.
 
-ghost use Rattle.std.specs.Prelude.{◌≡◌, ℕ, ◌+◌, ◌*◌, ◌<◌, ◌≤◌, ◌^◌, Bool, List, [], ◌∷◌, ◌++◌, false, length, map, take, nat_lt, Some, IfOk, IfErr, MatchResult};
+ghost use Rattle.std.specs.Prelude.{◌≡◌, ℕ, ◌+◌, ◌*◌, ◌<◌, ◌≤◌, ◌^◌, Bool, List, [], ◌∷◌, ◌++◌, false, length, map};
+ghost use Rattle.std.specs.Prelude.{take, nat_lt, Some, IfOk, IfErr, MatchResult};
 ghost use Rattle.std.specs.Bool.{MatchBool};
 ghost use Rattle.jk_math.specs.Memory.{IsMemory};
 ghost use Rattle.jk_tree.specs.TagTree.{query_of};
@@ -210,7 +211,9 @@ pub(crate) fn write_band(
     ensures ready { IfOk result (λ _. IsReady shape tables.now (layer + 1) 0 band.new) }
     ensures told { IfOk result (λ _. (layers : List BandLayer) → Follow tables.now layer layers
         → TreesSpeak shape tables.now layers [] band.old
-        → (writer.new ≡ with_bits writer.old (band_bits (leaves shape) (band_trees shape tables.now) layers (band_layer tables.now layer)))
+        → (writer.new
+        ≡ with_bits writer.old
+        (band_bits (leaves shape) (band_trees shape tables.now) layers (band_layer tables.now layer)))
         × TreesSpeak shape tables.now (layers ++ Some (band_layer tables.now layer) ∷ []) [] band.new) }
     ensures memory { IfErr result (λ e. IsMemory e) }
 {

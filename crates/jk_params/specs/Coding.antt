@@ -1,4 +1,5 @@
--- The coding of a tile-component (T.800 A.6, E.1): which segments go before others, and how many magnitude planes a sub-band has.
+-- The coding of a tile-component (T.800 A.6, E.1): which segments go before others, and how many
+-- magnitude planes a sub-band has.
 use Rattle.std.specs.Prelude.{◌≡◌, ℕ, ◌+◌, ◌*◌, ◌≤◌, ◌==◌, min, List, ◌++◌, length, map, take, replicate, if◌then◌else◌}
 use Rattle.std.specs.List.{AllByRecursion, range_with_len}
 use Rattle.jk_marks.specs.declared.coding.Coding.{Coding}
@@ -7,10 +8,12 @@ use Rattle.jk_marks.specs.declared.segments.Quantisation.{Quantisation}
 use Rattle.jk_marks.specs.Segments.{Segment, cods, qcds, cocs_of, qccs_of, quantisation_of}
 use Rattle.jk_marks.specs.Codestream.{first_given, no_coding, no_quantisation}
 
--- The coding style of component i: the tile's COC goes before its COD, the COD before the COC of the main header, and that before its COD.
+-- The coding style of component i: the tile's COC goes before its COD, the COD before the COC of
+-- the main header, and that before its COD.
 abbrev pub style_for : (main head : List Segment) → ℕ → CodingStyle
 style_for main head i =
-    first_given no_coding.style (cocs_of i head ++ (map (λ c. c.style) (cods head) ++ (cocs_of i main ++ map (λ c. c.style) (cods main))))
+    first_given no_coding.style
+    (cocs_of i head ++ (map (λ c. c.style) (cods head) ++ (cocs_of i main ++ map (λ c. c.style) (cods main))))
 
 -- the quantization likewise
 abbrev pub quantisation_for : (main head : List Segment) → ℕ → Quantisation
@@ -40,7 +43,8 @@ coding_with k q = record {
 abbrev pub coding_of : (main head : List Segment) → ℕ → Coding
 coding_of main head i = coding_with (style_for main head i) (quantisation_for main head i)
 
--- An exponent for each sub-band, and 0 to 23 magnitude planes: the guard bits and the exponent, less one (equation E-2).
+-- An exponent for each sub-band, and 0 to 23 magnitude planes: the guard bits and the exponent,
+-- less one (equation E-2).
 pub record HasPlanes (k : Coding) : Type 0 where
   pub count : length k.exponents ≡ band_count k.levels
   pub planes : AllByRecursion (λ e. (1 ≤ k.guard + e) × (k.guard + e ≤ 24)) k.exponents

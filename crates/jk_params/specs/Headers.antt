@@ -1,18 +1,22 @@
--- What the headers of a codestream say (T.800 A.6): the image and tile size, and for each tile its coding and where its data stand.
-use Rattle.std.specs.Prelude.{◌≡◌, ℕ, zero, suc, ◌+◌, ◌^◌, ◌<◌, ◌≤◌, true, false, List, [], ◌∷◌, ◌++◌, length, map, take, filter, sum_by, slice_index_or, ◌==◌}
+-- What the headers of a codestream say (T.800 A.6): the image and tile size, and for each tile its
+-- coding and where its data stand.
+use Rattle.std.specs.Prelude.{◌≡◌, ℕ, zero, suc, ◌+◌, ◌^◌, ◌<◌, ◌≤◌, true, false, List, [], ◌∷◌, ◌++◌, length, map}
+use Rattle.std.specs.Prelude.{take, filter, sum_by, slice_index_or, ◌==◌}
 use Rattle.std.specs.List.{range_with_len, AllByRecursion}
 use Rattle.jk_marks.specs.declared.siz.Siz.{Siz}
 use Rattle.jk_marks.specs.declared.segments.Cod.{Cod}
 use Rattle.jk_marks.specs.declared.coding.Coding.{Coding}
 use Rattle.jk_marks.specs.Siz.{IsSiz, tile_count}
 use Rattle.jk_marks.specs.Segments.{Segment, cods}
-use Rattle.jk_marks.specs.Codestream.{Part, Tree, main_text, data_start, part_length, of_tile, no_coding, first_given, IsCodestream}
+use Rattle.jk_marks.specs.Codestream.{Part, Tree, main_text, data_start, part_length, of_tile, no_coding, first_given}
+use Rattle.jk_marks.specs.Codestream.{IsCodestream}
 use Rattle.jk_geom.specs.Rectangles.{tile_area}
 use Rattle.jk_geom.specs.TileShapes.{AreCodings}
 use Rattle.jk_geom.specs.Counts.{packet_number}
 use Rattle.jk_params.specs.Coding.{coding_of, codings_of, HasPlanes}
 
--- a tile: its COD, the codings of its components, and the places of the data of its parts in the codestream
+-- a tile: its COD, the codings of its components, and the places of the data of its parts in the
+-- codestream
 pub record TileFields : Type 0 where
   pub cod : Cod
   pub codings : List Coding
@@ -40,7 +44,8 @@ data_place tree i = (part_start tree i + data_start (part_in tree i), part_start
 
 -- where the data of the parts of tile t stand
 abbrev pub places_of : Tree → ℕ → List (ℕ × ℕ)
-places_of tree t = map (data_place tree) (filter (λ i. (part_in tree i).tile == t) (range_with_len 0 (length tree.parts)))
+places_of tree t =
+    map (data_place tree) (filter (λ i. (part_in tree i).tile == t) (range_with_len 0 (length tree.parts)))
 
 -- the segments of the first part of a tile
 abbrev pub head_segments : List Part → List Segment
@@ -81,21 +86,24 @@ packets_alike siz layers codings = total (λ t. packet_number (tile_area siz t) 
 
 -- how many packets the tiles of these fields have
 abbrev pub packets_of : Siz → List TileFields → ℕ
-packets_of siz tiles = total (λ t. packet_number (tile_area siz t) (tile_in tiles t).cod.layers (tile_in tiles t).codings) (tile_count siz)
+packets_of siz tiles =
+    total (λ t. packet_number (tile_area siz t) (tile_in tiles t).cod.layers (tile_in tiles t).codings) (tile_count siz)
 
 -- how many packets a codestream may have
 abbrev pub most_packets : ℕ
 most_packets = 2 ^ 24
 
--- The headers of a codestream: each coding has magnitude planes, and there aren't too many packets, neither by the main
--- header alone nor by the tiles' own headers.
+-- The headers of a codestream: each coding has magnitude planes, and there aren't too many packets,
+-- neither by the main header alone nor by the tiles' own headers.
 pub record IsHeaders (bytes : List ℕ) (h : Headers) : Type 0 where
   pub tree : Tree
   pub spelled : IsCodestream bytes tree
   pub says : h ≡ headers_of tree
   pub main_planes : (c : ℕ) → c < tree.siz.components → HasPlanes (coding_of tree.segments [] c)
-  pub main_few : packets_alike tree.siz (cod_for tree.segments []).layers (codings_of tree.siz.components tree.segments []) ≤ most_packets
-  pub planes : (t c : ℕ) → t < tile_count tree.siz → c < tree.siz.components → HasPlanes (coding_of tree.segments (head_segments (of_tile t tree.parts)) c)
+  pub main_few : packets_alike tree.siz (cod_for tree.segments []).layers
+      (codings_of tree.siz.components tree.segments []) ≤ most_packets
+  pub planes : (t c : ℕ) → t < tile_count tree.siz → c < tree.siz.components
+      → HasPlanes (coding_of tree.segments (head_segments (of_tile t tree.parts)) c)
   pub few : packets_of h.siz h.tiles ≤ most_packets
 
 -- the fields of a tile in a codestream of a size

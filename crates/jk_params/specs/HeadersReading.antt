@@ -1,5 +1,6 @@
 -- Reading the headers of a codestream from left to right, with the first fault that is met.
-use Rattle.std.specs.Prelude.{ℕ, zero, suc, ◌+◌, ◌<◌, ◌≤◌, Bool, List, [], ◌∷◌, ◌++◌, length, map, replicate, drop, not, ◌==◌, nat_lt, ◌&&◌, slice_set, if◌then◌else◌, Result, Ok, Err}
+use Rattle.std.specs.Prelude.{ℕ, zero, suc, ◌+◌, ◌<◌, ◌≤◌, Bool, List, [], ◌∷◌, ◌++◌, length, map, replicate, drop, not}
+use Rattle.std.specs.Prelude.{◌==◌, nat_lt, ◌&&◌, slice_set, if◌then◌else◌, Result, Ok, Err}
 use Rattle.jk_math.specs.Answer.{◌>>=◌, refuse}
 use Rattle.jk_math.specs.declared.fault.Fault.{Fault}
 use Rattle.jk_math.specs.declared.fault.Fault.TheVariants.{BadMarker, SurplusBytes, Limit, Truncated}
@@ -41,7 +42,9 @@ with_coding f cod codings = record { cod = cod; codings = codings; data_places =
 unfoldable pub tiles_with : Main → ℕ → TilePart → List TileFields → Result (List TileFields) Fault
 tiles_with main at part tiles =
     if part.part == 0
-    then (codings_at main part.head >>= λ ks. Ok (slice_set tiles part.tile (with_place (with_coding (tile_in tiles part.tile) (or_else main.cod part.head.cod) ks) (place_at at part))))
+    then (codings_at main part.head
+    >>= λ ks. Ok (slice_set tiles part.tile
+    (with_place (with_coding (tile_in tiles part.tile) (or_else main.cod part.head.cod) ks) (place_at at part))))
     else Ok (slice_set tiles part.tile (with_place (tile_in tiles part.tile) (place_at at part)))
 
 -- how many parts of each tile came so far
@@ -85,7 +88,8 @@ headers_at bytes = do
 
 -- the packets of each tile can be counted
 abbrev pub AreCountable : List TileFields → Type 0
-AreCountable tiles = (t : ℕ) → t < length tiles → (1 ≤ (tile_in tiles t).cod.layers) × AreCodings (tile_in tiles t).codings
+AreCountable tiles = (t : ℕ) → t < length tiles
+    → (1 ≤ (tile_in tiles t).cod.layers) × AreCodings (tile_in tiles t).codings
 
 -- A main header of the profile: its size, a layer or more, its coding styles.
 pub record IsProfileMain (main : Main) : Type 0 where

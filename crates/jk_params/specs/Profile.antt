@@ -1,5 +1,6 @@
 -- The images and parameters that are written.
-use Rattle.std.specs.Prelude.{◌≡◌, ℕ, ◌+◌, ◌*◌, ◌^◌, ◌≤◌, Bool, true, not, ◌&&◌, ◌||◌, ◌==◌, nat_lt, nat_le, List, [], length, drop, replicate, Option, Some, None, option_map}
+use Rattle.std.specs.Prelude.{◌≡◌, ℕ, ◌+◌, ◌*◌, ◌^◌, ◌≤◌, Bool, true, not, ◌&&◌, ◌||◌, ◌==◌, nat_lt, nat_le, List, []}
+use Rattle.std.specs.Prelude.{length, drop, replicate, Option, Some, None, option_map}
 use Rattle.std.specs.List.{list_all}
 use Rattle.jk_math.specs.Picture.{Picture, is_grey_or_rgb}
 use Rattle.jk_marks.specs.declared.siz.Siz.{Siz}
@@ -60,7 +61,8 @@ are_sizes q =
 abbrev pub are_precincts : ℕ → List (ℕ × ℕ) → Bool
 are_precincts levels sizes =
     (length sizes == 0)
-    || ((length sizes == levels + 1) && list_all (λ s. nat_le s.0 15 && nat_le s.1 15) sizes && list_all (λ s. nat_lt 0 s.0 && nat_lt 0 s.1) (drop 1 sizes))
+    || ((length sizes == levels + 1) && list_all (λ s. nat_le s.0 15 && nat_le s.1 15) sizes
+    && list_all (λ s. nat_lt 0 s.0 && nat_lt 0 s.1) (drop 1 sizes))
 
 -- sides from 1 to 2^31 - 1
 abbrev pub is_tile : Option (ℕ × ℕ) → Bool
@@ -75,7 +77,8 @@ is_contained Jp2 components signed = is_grey_or_rgb components signed
 -- how many tiles that makes
 abbrev pub tiles_of : Option (ℕ × ℕ) → Picture → ℕ
 tiles_of t p =
-    tiles_between (option_map (λ s. s.0) t) p.x0 (p.x0 + p.width) * tiles_between (option_map (λ s. s.1) t) p.y0 (p.y0 + p.height)
+    tiles_between (option_map (λ s. s.0) t) p.x0 (p.x0 + p.width)
+    * tiles_between (option_map (λ s. s.1) t) p.y0 (p.y0 + p.height)
 
 -- how each component is coded; the exponents say nothing of the packets
 abbrev pub coding_for : Parameters → Coding

@@ -1,4 +1,5 @@
--- How the program keeps the fields of the tiles: the codings, and for each tile the number of its coding among them.
+-- How the program keeps the fields of the tiles: the codings, and for each tile the number of its
+-- coding among them.
 use Rattle.std.specs.Prelude.{ℕ, ◌<◌, List, [], length, map, slice_index_or}
 use Rattle.std.specs.List.{AllByRecursion}
 use Rattle.jk_marks.specs.Codestream.{no_coding}
@@ -12,7 +13,12 @@ coding_in codings i = slice_index_or codings i record { cod = no_coding; codings
 
 -- the fields of a tile
 abbrev pub fields_in : List TileCoding → TileEntry → TileFields
-fields_in codings e = record { cod = (coding_in codings e.coding).cod; codings = (coding_in codings e.coding).codings; data_places = e.places.items }
+fields_in codings e =
+    record {
+      cod = (coding_in codings e.coding).cod;
+      codings = (coding_in codings e.coding).codings;
+      data_places = e.places.items;
+    }
 
 -- the fields of all tiles
 unfoldable pub tiles_in : List TileCoding → List TileEntry → List TileFields

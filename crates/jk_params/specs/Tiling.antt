@@ -1,4 +1,5 @@
--- The tiling that parameters ask for: tiles of a given side lie on the multiples of it, and without one there is a single tile.
+-- The tiling that parameters ask for: tiles of a given side lie on the multiples of it, and without
+-- one there is a single tile.
 use Rattle.std.specs.Prelude.{ℕ, ◌+◌, ◌-◌, ◌*◌, ◌/◌, Option, Some, None}
 
 -- where the first tile begins: XTOsiz or YTOsiz
@@ -11,6 +12,7 @@ abbrev pub tile_side : Option ℕ → ℕ → ℕ
 tile_side None end = end
 tile_side (Some side) end = side
 
--- how many tiles lie between the start of the first one and the end of the image (B.3, equation B-5)
+-- how many tiles lie between the start of the first one and the end of the image (B.3, equation
+-- B-5)
 abbrev pub tiles_between : Option ℕ → ℕ → ℕ → ℕ
 tiles_between side start end = (end - first_tile side start + tile_side side end - 1) / tile_side side end

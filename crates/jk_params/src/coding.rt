@@ -6,14 +6,15 @@ ghost use Rattle.jk_marks.specs.Segments.{Segment};
 ghost use Rattle.jk_marks.specs.declared.siz.Siz.{Siz};
 ghost use Rattle.jk_marks.specs.Codestream.{main_of, head_of};
 ghost use Rattle.jk_params.specs.Coding.{every_precinct, coding_with, coding_of, HasPlanes};
-ghost use Rattle.jk_params.specs.CodingReading.{style_in, quantisation_in, planes_at, head_or_none, coding_at, codings_at};
+ghost use Rattle.jk_params.specs.CodingReading.{style_in, quantisation_in, planes_at, head_or_none, coding_at};
+ghost use Rattle.jk_params.specs.CodingReading.{codings_at};
 
 use jk_geom::Codings;
 use jk_marks::{Coding, CodingStyle, Main, Precincts, Quantisation, TileHead};
 use jk_math::Fault;
 
-/// The coding style that goes before others: the tile's COC, its COD, the COC and the COD of the main
-/// header.
+/// The coding style that goes before others: the tile's COC, its COD, the COC and the COD of the
+/// main header.
 fn style_of<'a>(main: &'a Main, head: &'a TileHead, component: usize) -> &'a CodingStyle
     requires { component < 4 }
     ensures { result.now ≡ style_in main.now head.now component }
@@ -30,8 +31,8 @@ fn style_of<'a>(main: &'a Main, head: &'a TileHead, component: usize) -> &'a Cod
     &main.cod.style
 }
 
-/// The quantization that goes before others: the tile's QCC, its QCD, the QCC and the QCD of the main
-/// header.
+/// The quantization that goes before others: the tile's QCC, its QCD, the QCC and the QCD of the
+/// main header.
 fn quantisation_of<'a>(main: &'a Main, head: &'a TileHead, component: usize) -> &'a Quantisation
     requires { component < 4 }
     ensures { result.now ≡ quantisation_in main.now head.now component }
@@ -111,9 +112,11 @@ fn with_head(main: &Main, head: &TileHead, component: u16) -> Result<Coding, Fau
     requires { component < 4 }
     ensures exact { result ≡ coding_at main.now (Some head.now) component }
     ensures planes { IfOk result HasPlanes }
-    ensures only { (siz : Siz) (segments tile : List Segment) → main.now ≡ main_of siz segments → head.now ≡ head_of tile
+    ensures only { (siz : Siz) (segments tile : List Segment) → main.now ≡ main_of siz segments
+        → head.now ≡ head_of tile
         → HasPlanes (coding_of segments tile component) → result ≡ Ok (coding_of segments tile component) }
-    ensures found { (siz : Siz) (segments tile : List Segment) → main.now ≡ main_of siz segments → head.now ≡ head_of tile
+    ensures found { (siz : Siz) (segments tile : List Segment) → main.now ≡ main_of siz segments
+        → head.now ≡ head_of tile
         → IfOk result (λ k. k ≡ coding_of segments tile component) }
 {
     let component = component as usize;
@@ -123,20 +126,23 @@ fn with_head(main: &Main, head: &TileHead, component: u16) -> Result<Coding, Fau
     ))
 }
 
-/// The coding of a component of a tile, by the main header and the tile's first header (T.800 A.6, E.1).
+/// The coding of a component of a tile, by the main header and the tile's first header (T.800 A.6,
+/// E.1).
 ///
-/// BadValue: fewer exponents than sub-bands, or less than no magnitude plane. Limit: more than 23 magnitude
-/// planes.
+/// BadValue: fewer exponents than sub-bands, or less than no magnitude plane. Limit: more than 23
+/// magnitude planes.
 pub fn effective(main: &Main, head: Option<&TileHead>, component: u16) -> Result<Coding, Fault>
     requires { component < 4 }
     ensures exact { result ≡ coding_at main.now (option_map (λ h. h.now) head.entry) component }
     // What is given has magnitude planes.
     ensures planes { IfOk result HasPlanes }
     // A coding with magnitude planes is given.
-    ensures only { (siz : Siz) (segments tile : List Segment) → main.now ≡ main_of siz segments → head_or_none (option_map (λ h. h.now) head.entry) ≡ head_of tile
+    ensures only { (siz : Siz) (segments tile : List Segment) → main.now ≡ main_of siz segments
+        → head_or_none (option_map (λ h. h.now) head.entry) ≡ head_of tile
         → HasPlanes (coding_of segments tile component) → result ≡ Ok (coding_of segments tile component) }
     // What is given is the coding by the segments.
-    ensures found { (siz : Siz) (segments tile : List Segment) → main.now ≡ main_of siz segments → head_or_none (option_map (λ h. h.now) head.entry) ≡ head_of tile
+    ensures found { (siz : Siz) (segments tile : List Segment) → main.now ≡ main_of siz segments
+        → head_or_none (option_map (λ h. h.now) head.entry) ≡ head_of tile
         → IfOk result (λ k. k ≡ coding_of segments tile component) }
 {
     match head {

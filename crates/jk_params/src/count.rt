@@ -9,7 +9,8 @@ use crate::table::Table;
 use jk_geom::{Codings, packet_count, tile, tile_count};
 use jk_marks::Siz;
 
-/// How many packets there are where all tiles have these layers and codings, and 2^64 - 1 where there are more.
+/// How many packets there are where all tiles have these layers and codings, and 2^64 - 1 where
+/// there are more.
 pub(crate) fn count_alike(siz: &Siz, layers: u16, codings: &Codings) -> u64
     requires siz { IsSiz siz.now }
     requires layers { 1 ≤ layers }

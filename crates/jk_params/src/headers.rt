@@ -73,7 +73,8 @@ impl Codestream {
         self.tiles.places(tile)
     }
 
-    /// Whether each component of each tile has so many decomposition levels, so that the image can be halved so often.
+    /// Whether each component of each tile has so many decomposition levels, so that the image can
+    /// be halved so often.
     pub fn has_levels(&self, levels: u32) -> bool
         requires { length self.now.tiles ≡ tile_count self.now.siz }
         ensures { result ≡ have_levels self.now levels }

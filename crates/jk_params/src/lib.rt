@@ -5,6 +5,7 @@ mod coding;
 mod count;
 mod headers;
 mod levels;
+mod markers;
 mod parameters;
 mod placing;
 mod profile;
@@ -14,6 +15,7 @@ mod walk;
 
 pub use coding::effective;
 pub use headers::Codestream;
+pub use markers::PacketMarkers;
 pub use parameters::{Container, Parameters};
 pub use placing::parts_are_placed;
 pub use profile::{cod_of, coding_with, codings_for, siz_of};

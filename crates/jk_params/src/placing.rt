@@ -8,7 +8,9 @@ ghost use Rattle.jk_params.specs.Headers.{tile_in, headers_of};
 
 /// The headers say where the data of a tile-part stand, by its tile and its number.
 pub fn parts_are_placed()
-    ensures { (tree : Tree) (at : ℕ) (front : List Part) (p : Part) (back : List Part) → AreParts tree.siz tree.parts → tree.parts ≡ front ++ p ∷ back → p.tile < tile_count tree.siz
+    ensures { (tree : Tree) (at : ℕ) (front : List Part) (p : Part) (back : List Part) → AreParts tree.siz tree.parts
+        → tree.parts ≡ front ++ p ∷ back → p.tile < tile_count tree.siz
         → at ≡ length (main_text tree.siz tree.segments) + length (flat_map part_text front)
-        → slice_get (tile_in (headers_of tree).tiles p.tile).data_places p.number ≡ Some (at + data_start p, at + part_length p) }
+        → slice_get (tile_in (headers_of tree).tiles p.tile).data_places p.number
+        ≡ Some (at + data_start p, at + part_length p) }
 {}

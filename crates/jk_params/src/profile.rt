@@ -1,6 +1,7 @@
 //! Whether an image is written with parameters.
 
-ghost use Rattle.std.specs.Prelude.{◌≡◌, ◌+◌, ◌-◌, ◌*◌, ◌/◌, ◌<◌, ◌≤◌, ◌^◌, ℕ, IsTrue, IfOk, Ok, Err, if◌then◌else◌, length, option_map, Option, nat_lt, nat_le, ◌&&◌, true, replicate};
+ghost use Rattle.std.specs.Prelude.{◌≡◌, ◌+◌, ◌-◌, ◌*◌, ◌/◌, ◌<◌, ◌≤◌, ◌^◌, ℕ, IsTrue, IfOk, Ok, Err, if◌then◌else◌};
+ghost use Rattle.std.specs.Prelude.{length, option_map, Option, nat_lt, nat_le, ◌&&◌, true, replicate};
 ghost use Rattle.std.specs.Option.{ForSome};
 ghost use Rattle.std.specs.List.{list_all};
 ghost use Rattle.jk_math.specs.Picture.{IsPicture};
@@ -8,7 +9,8 @@ ghost use Rattle.jk_marks.specs.Siz.{IsSiz};
 ghost use Rattle.jk_geom.specs.TileShapes.{AreCodings};
 ghost use Rattle.jk_params.specs.Coding.{coding_with};
 ghost use Rattle.jk_params.specs.Headers.{most_packets};
-ghost use Rattle.jk_params.specs.Profile.{siz_of, cod_of, coding_for, packets_for, are_sizes, are_precincts, is_tile, is_contained, is_profile, tiles_of, IsWrittenBy};
+ghost use Rattle.jk_params.specs.Profile.{siz_of, cod_of, coding_for, packets_for, are_sizes, are_precincts, is_tile};
+ghost use Rattle.jk_params.specs.Profile.{is_contained, is_profile, tiles_of, IsWrittenBy};
 ghost use Rattle.jk_params.specs.Tiling.{first_tile, tile_side, tiles_between};
 
 use crate::coding::coding;
@@ -248,8 +250,8 @@ fn are_few_packets(image: &Image, parameters: &Parameters) -> bool
 impl Parameters {
     /// Whether the image is written with these parameters.
     ///
-    /// BadParameters: a field outside the range that it names, an image that the container doesn't hold,
-    /// more than 65,535 tiles, or more than 2^24 packets.
+    /// BadParameters: a field outside the range that it names, an image that the container doesn't
+    /// hold, more than 65,535 tiles, or more than 2^24 packets.
     #[tactic(auto, unfolding(crate::specs::Profile::is_profile))]
     pub fn check(&self, image: &Image) -> Result<(), Fault>
         ensures exact { result ≡ (if is_profile self.now image.now then Ok tt else Err Fault.BadParameters) }

@@ -25,7 +25,8 @@ pub(crate) struct TileEntry {
     pub(crate) places: Vec<(usize, usize)>,
 }
 
-/// The fields of all tiles. The coding of the main header is number 0, and serves each tile that has no own.
+/// The fields of all tiles. The coding of the main header is number 0, and serves each tile that
+/// has no own.
 #[derive(Debug, Drop)]
 pub(crate) struct Table {
     codings: Vec<TileCoding>,
@@ -103,7 +104,8 @@ impl Table {
         codings: Codings,
     ) -> Result<(), Fault>
         requires { tile < length self.old }
-        ensures ok { OnOk result (self.new ≡ slice_set self.old tile (with_coding (tile_in self.old tile) cod codings)) }
+        ensures ok { OnOk result
+            (self.new ≡ slice_set self.old tile (with_coding (tile_in self.old tile) cod codings)) }
         ensures err { IfErr result (λ e. IsMemory e) }
     {
         let coding = self.codings.len();

@@ -6,7 +6,8 @@ ghost use Rattle.jk_marks.specs.Siz.{tile_count};
 ghost use Rattle.jk_marks.specs.Codestream.{Tree, of_tile, or_else, IsCodestream};
 ghost use Rattle.jk_geom.specs.TileShapes.{AreCodings};
 ghost use Rattle.jk_params.specs.Headers.{Headers, headers_of, tile_in, IsHeaders, AreHeaders};
-ghost use Rattle.jk_params.specs.HeadersReading.{IsProfileMain, AreCountable, ends_at, main_fields_at, parts_from, parts_seen, tiles_at, tiles_with, headers_at};
+ghost use Rattle.jk_params.specs.HeadersReading.{IsProfileMain, AreCountable, ends_at, main_fields_at, parts_from};
+ghost use Rattle.jk_params.specs.HeadersReading.{parts_seen, tiles_at, tiles_with, headers_at};
 
 use crate::coding::codings;
 use crate::count::{count_alike, count_own};
@@ -86,7 +87,8 @@ fn ends(bytes: &[u8], at: usize) -> Result<bool, Fault>
     Ok(marker != marker::SOT)
 }
 
-/// Takes a tile-part that begins at a place into the table. The first part of a tile says its coding.
+/// Takes a tile-part that begins at a place into the table. The first part of a tile says its
+/// coding.
 #[tactic(auto, unfolding(crate::specs::HeadersReading::tiles_with))]
 fn add_part(tiles: &mut Table, main: &Main, at: usize, part: &TilePart) -> Result<(), Fault>
     requires few { main.now.siz.components ≤ 4 }
@@ -170,12 +172,14 @@ fn headers(alloc: Global, bytes: &[u8]) -> Result<Codestream, Fault>
     Ok(Codestream::new(main.siz, tiles))
 }
 
-/// What the headers of a codestream say: the main header, the tile-parts and EOC, which is the end (T.800 A.3).
+/// What the headers of a codestream say: the main header, the tile-parts and EOC, which is the end
+/// (T.800 A.3).
 ///
-/// The faults of the main header are those of `read_main`; then, of each component's coding, BadValue for fewer
-/// exponents than sub-bands or less than no magnitude plane, and Limit for more than 23; then Limit for more than 2^24
-/// packets by these codings. Of each tile-part, those of `read_tile_part`, and of a tile's first part those of its codings;
-/// behind it BadMarker where neither SOT nor EOC stands, and SurplusBytes after EOC. Last, Limit for more than 2^24 packets
+/// The faults of the main header are those of `read_main`; then, of each component's coding,
+/// BadValue for fewer exponents than sub-bands or less than no magnitude plane, and Limit for more
+/// than 23; then Limit for more than 2^24 packets by these codings. Of each tile-part, those of
+/// `read_tile_part`, and of a tile's first part those of its codings; behind it BadMarker where
+/// neither SOT nor EOC stands, and SurplusBytes after EOC. Last, Limit for more than 2^24 packets
 /// by the tiles' own codings.
 pub fn read_codestream(alloc: Global, bytes: &[u8]) -> Result<Codestream, Fault>
     ensures exact { Answers (λ c. c) result (headers_at bytes.now) }
@@ -185,7 +189,9 @@ pub fn read_codestream(alloc: Global, bytes: &[u8]) -> Result<Codestream, Fault>
     ensures only { (h : Headers) → IsHeaders bytes.now h → Answers (λ c. c) result (Ok h) }
     // The data of each tile's parts stand at its places.
     ensures contents { IfOk result (λ c. (tree : Tree) × IsCodestream bytes.now tree × (c ≡ headers_of tree)
-        × ((t : ℕ) → t < length c.tiles → map (λ p. slice_range bytes.now p.0 p.1) (tile_in c.tiles t).data_places ≡ map (λ p. p.content) (of_tile t tree.parts))) }
+        × ((t : ℕ) → t < length c.tiles
+        → map (λ p. slice_range bytes.now p.0 p.1) (tile_in c.tiles t).data_places
+        ≡ map (λ p. p.content) (of_tile t tree.parts))) }
     // The places lie in the codestream, and the fields are of the profile.
     ensures sound { IfOk result (λ c. AreHeaders (length bytes.now) c) }
 {

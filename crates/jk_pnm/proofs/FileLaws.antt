@@ -8,7 +8,7 @@ use Rattle.jk_math.specs.Steps.{bind_then, refuse_then, chosen, guard_ended, ok_
 use Rattle.jk_math.specs.Picture.{Picture}
 use Rattle.jk_math.specs.declared.fault.Fault.TheVariants.{BadPnm}
 use Rattle.jk_pnm.specs.declared.header.Header.{Header}
-use Rattle.jk_pnm.specs.Pnm.{is_space, Piece, gap_text, IsGap, number_of, IsNumber, Text, magic_text, pnm_text, IsText, components_of, sample_size, planes_from, Shows, IsPnm}
+use Rattle.jk_pnm.specs.Pnm.{is_space, Piece, gap_text, IsGap, number_of, IsNumber, Text, magic_text, pnm_text, IsText, components_of, sample_size, planes_from, ShowsPicture, IsPnm}
 use Rattle.jk_pnm.specs.Reading.{magic_at, gap_at, field_at, depth_at, header_at, raster_size, samples_of, picture_of, are_below, picture_at, pnm_at}
 use Rattle.jk_pnm.proofs.GapLaws.{gap_found, gap_again, gap_begins, Begins, space_is_no_digit, digit_is_no_space}
 use Rattle.jk_pnm.proofs.NumberLaws.{or_parts, number_found, number_again, number_begins, depth_found, depth_again}
@@ -193,7 +193,7 @@ are_below_again m planes h = below_again m planes h
 
 -- a text shows the picture of a header that says the same
 shows_header : (t : Text) (h : Header) → t.colour ≡ h.colour → number_of t.width ≡ h.width → number_of t.height ≡ h.height → number_of t.maxval ≡ h.maxval
-    → (2 ^ h.depth ≡ h.maxval + 1) × (1 ≤ h.depth) × (h.depth ≤ 16) → h.width * h.height ≤ 2 ^ 28 → length t.raster ≡ raster_size h → are_below h.maxval (samples_of h t.raster) ≡ true → Shows t (picture_of h t.raster)
+    → (2 ^ h.depth ≡ h.maxval + 1) × (1 ≤ h.depth) × (h.depth ≤ 16) → h.width * h.height ≤ 2 ^ 28 → length t.raster ≡ raster_size h → are_below h.maxval (samples_of h t.raster) ≡ true → ShowsPicture t (picture_of h t.raster)
 shows_header t h colour width height maxval depth area whole below =
     let size : ℕ → ℕ = λ m. h.width * h.height * components_of h.colour * sample_size m in
     let planes : Bool → ℕ → List (List ℕ) = λ k m. planes_from m (components_of k) (h.width * h.height) t.raster in
@@ -219,12 +219,12 @@ pnm_found bytes p e =
     let o = header_found bytes x s in
     let g = guard_ended (are_below x.0.maxval (samples_of x.0 x.1)) BadPnm (picture_of x.0 x.1) p e in
     let size : length x.1 ≡ raster_size x.0 = eqb-true _ _ (not-false _ whole) in
-    let shows : Shows o.told (picture_of x.0 o.told.raster) =
+    let shows : ShowsPicture o.told (picture_of x.0 o.told.raster) =
     shows_header o.told x.0 o.colour o.width o.height o.maxval o.depth o.area
     (ap (λ (r : List ℕ). length r) o.raster ∙ size)
     (ap (λ (r : List ℕ). are_below x.0.maxval (samples_of x.0 r)) o.raster ∙ g.0) in
     let p-is : picture_of x.0 o.told.raster ≡ p = ap (λ (r : List ℕ). picture_of x.0 r) o.raster ∙ g.1 in
-    record { told = o.told; text = o.text; rules = o.rules; shows = subst (λ (q : Picture). Shows o.told q) p-is shows }
+    record { told = o.told; text = o.text; rules = o.rules; shows = subst (λ (q : Picture). ShowsPicture o.told q) p-is shows }
     ))
 
 side_of_area : (a b : ℕ) → 0 < b → a * b ≤ 2 ^ 28 → a ≤ 2 ^ 28
@@ -244,11 +244,11 @@ picture_same p w h planes corner width height unsigned same =
     ∙ ap (λ (ps : List (List ℤ)). record p { x0 = 0; y0 = 0; width = w; height = h; signed = false; planes = ps }) same
 
 -- the samples of a text, by the sides of its picture and by those of its header
-sides_same : (t : Text) (p : Picture) → Shows t p → p.width * p.height ≡ number_of t.width * number_of t.height
+sides_same : (t : Text) (p : Picture) → ShowsPicture t p → p.width * p.height ≡ number_of t.width * number_of t.height
 sides_same t p shows = ap (λ (k : ℕ). k * p.height) shows.width ∙ ap (λ (k : ℕ). number_of t.width * k) shows.height
 
 -- the picture of a text is that of its header
-picture_again : (t : Text) (p : Picture) → Shows t p → p ≡ picture_of (header_of t p.depth) t.raster
+picture_again : (t : Text) (p : Picture) → ShowsPicture t p → p ≡ picture_of (header_of t p.depth) t.raster
 picture_again t p shows =
     let planes : ℕ → List (List ℤ) = λ pixels. map (map pos) (planes_from (number_of t.maxval) (components_of t.colour) pixels t.raster) in
     picture_same p (number_of t.width) (number_of t.height) (planes (number_of t.width * number_of t.height)) shows.corner shows.width shows.height shows.unsigned (shows.planes ∙ ap planes (sides_same t p shows))

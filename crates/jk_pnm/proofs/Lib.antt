@@ -7,4 +7,3 @@ pub mod FileLaws
 pub mod Tails
 pub mod RasterLaws
 pub mod WrittenLaws
-pub mod Examples

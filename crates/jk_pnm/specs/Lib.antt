@@ -3,3 +3,4 @@ pub use Rattle.jk_math.specs.Picture
 pub mod Pnm
 pub mod Reading
 pub mod Written
+pub mod Examples

@@ -1,5 +1,7 @@
--- PGM and PPM files in their binary forms, `P5` and `P6`. A file is spelled, not read: what it says is given, and its text is the file.
-use Rattle.std.specs.Prelude.{◌≡◌, ℕ, ◌+◌, ◌-◌, ◌*◌, ◌^◌, ◌<◌, ◌≤◌, nat_lt, ◌==◌, ◌||◌, Bool, true, false, List, [], ◌∷◌, ◌++◌, length, map, slice_index, if◌then◌else◌, pos}
+-- PGM and PPM files in their binary forms, `P5` and `P6`. A file is spelled, not read: what it says
+-- is given, and its text is the file.
+use Rattle.std.specs.Prelude.{◌≡◌, ℕ, ◌+◌, ◌-◌, ◌*◌, ◌^◌, ◌<◌, ◌≤◌, nat_lt, ◌==◌, ◌||◌, Bool, true, false, List, []}
+use Rattle.std.specs.Prelude.{◌∷◌, ◌++◌, length, map, slice_index, if◌then◌else◌, pos}
 use Rattle.std.specs.List.{flat_map, range_with_len, AllByRecursion}
 use Rattle.std.specs.Char.{is_ascii_digit}
 use Rattle.jk_math.specs.Picture.{Picture}
@@ -12,7 +14,8 @@ is_space c = (c == 32) || ((c == 9) || ((c == 10) || ((c == 11) || ((c == 12) ||
 abbrev pub is_line_end : ℕ → Bool
 is_line_end c = (c == 10) || (c == 13)
 
--- What may stand between two fields: a whitespace byte; or a comment, which is `#`, a text, and the LF or CR that ends it.
+-- What may stand between two fields: a whitespace byte; or a comment, which is `#`, a text, and the
+-- LF or CR that ends it.
 pub data Piece : Type 0 where
   Space : ℕ → Piece
   Comment : List ℕ → ℕ → Piece
@@ -43,7 +46,8 @@ pub record IsNumber (digits : List ℕ) : Type 0 where
   pub plain : AllByRecursion (λ d. is_ascii_digit d ≡ true) digits
   pub some : 0 < number_of digits
 
--- what a file says: `P5` or, with colour, `P6`; width, height and maxval, each behind a gap; a byte; the raster
+-- what a file says: `P5` or, with colour, `P6`; width, height and maxval, each behind a gap; a
+-- byte; the raster
 pub record Text : Type 0 where
   pub colour : Bool
   pub before_width : List Piece
@@ -88,7 +92,8 @@ sample_size maxval = if nat_lt 255 maxval then 2 else 1
 -- the sample of this number in the raster, the byte of more weight first
 abbrev pub sample_from : ℕ → List ℕ → ℕ → ℕ
 sample_from maxval raster k =
-    if nat_lt 255 maxval then 256 * slice_index raster (2 * k) + slice_index raster (2 * k + 1) else slice_index raster k
+    if nat_lt 255 maxval then 256 * slice_index raster (2 * k) + slice_index raster (2 * k + 1)
+    else slice_index raster k
 
 -- the samples of a component: the raster goes pixel by pixel, and in a pixel component by component
 abbrev pub plane_from : ℕ → ℕ → ℕ → List ℕ → ℕ → List ℕ
@@ -96,10 +101,12 @@ plane_from maxval components pixels raster component =
     map (λ pixel. sample_from maxval raster (pixel * components + component)) (range_with_len 0 pixels)
 
 unfoldable pub planes_from : ℕ → ℕ → ℕ → List ℕ → List (List ℕ)
-planes_from maxval components pixels raster = map (plane_from maxval components pixels raster) (range_with_len 0 components)
+planes_from maxval components pixels raster =
+    map (plane_from maxval components pixels raster) (range_with_len 0 components)
 
--- The picture of a text: unsigned samples with the upper left one at (0, 0), as many bits as maxval has, all of which are 1.
-pub record Shows (t : Text) (p : Picture) : Type 0 where
+-- The picture of a text: unsigned samples with the upper left one at (0, 0), as many bits as maxval
+-- has, all of which are 1.
+pub record ShowsPicture (t : Text) (p : Picture) : Type 0 where
   pub corner : (p.x0 ≡ 0) × (p.y0 ≡ 0)
   pub width : p.width ≡ number_of t.width
   pub height : p.height ≡ number_of t.height
@@ -108,12 +115,14 @@ pub record Shows (t : Text) (p : Picture) : Type 0 where
   pub few_bits : (1 ≤ p.depth) × (p.depth ≤ 16)
   pub unsigned : p.signed ≡ false
   pub whole : length t.raster ≡ p.width * p.height * components_of t.colour * sample_size (number_of t.maxval)
-  pub planes : p.planes ≡ map (map pos) (planes_from (number_of t.maxval) (components_of t.colour) (p.width * p.height) t.raster)
-  pub below : AllByRecursion (AllByRecursion (λ s. s ≤ number_of t.maxval)) (planes_from (number_of t.maxval) (components_of t.colour) (p.width * p.height) t.raster)
+  pub planes : p.planes
+      ≡ map (map pos) (planes_from (number_of t.maxval) (components_of t.colour) (p.width * p.height) t.raster)
+  pub below : AllByRecursion (AllByRecursion (λ s. s ≤ number_of t.maxval))
+      (planes_from (number_of t.maxval) (components_of t.colour) (p.width * p.height) t.raster)
 
 -- these bytes are a PNM file of this picture
 pub record IsPnm (bytes : List ℕ) (p : Picture) : Type 0 where
   pub told : Text
   pub text : bytes ≡ pnm_text told
   pub rules : IsText told
-  pub shows : Shows told p
+  pub shows : ShowsPicture told p

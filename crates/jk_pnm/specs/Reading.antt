@@ -1,5 +1,7 @@
 -- Reading a PNM file from left to right, with the first fault that is met.
-use Rattle.std.specs.Prelude.{ℕ, ◌+◌, ◌*◌, ◌^◌, ◌-◌, List, [], ◌∷◌, length, drop, map, pos, Bool, true, false, not, ◌&&◌, ◌||◌, ◌==◌, nat_le, nat_lt, nat_eq, slice_index, Option, Some, None, Result, Ok, Err, if◌then◌else◌}
+use Rattle.std.specs.Prelude.{ℕ, ◌+◌, ◌*◌, ◌^◌, ◌-◌, List, [], ◌∷◌, length, drop, map, pos, Bool, true, false, not}
+use Rattle.std.specs.Prelude.{◌&&◌, ◌||◌, ◌==◌, nat_le, nat_lt, nat_eq, slice_index, Option, Some, None, Result, Ok}
+use Rattle.std.specs.Prelude.{Err, if◌then◌else◌}
 use Rattle.std.specs.List.{starts_with, find, range_with_len, list_all}
 use Rattle.std.specs.Char.{is_ascii_digit}
 use Rattle.jk_math.specs.Answer.{◌>>=◌, refuse}
@@ -19,7 +21,8 @@ magic_at bytes =
 unfoldable pub after_gap : Bool → List ℕ → Result (List ℕ) Fault
 after_gap comment [] = Err BadPnm
 after_gap true (c ∷ cs) = after_gap (not (is_line_end c)) cs
-after_gap false (c ∷ cs) = if c == 35 then after_gap true cs else (if is_space c then after_gap false cs else Ok (c ∷ cs))
+after_gap false (c ∷ cs) = if c == 35 then after_gap true cs
+    else (if is_space c then after_gap false cs else Ok (c ∷ cs))
 
 -- the same, where some must stand
 unfoldable pub gap_at : List ℕ → Result (List ℕ) Fault
@@ -28,7 +31,8 @@ gap_at bytes = do
   _ ← refuse (length rest == length bytes) BadPnm
   Ok rest
 
--- the number that the digits at the front write after those of n, and what follows; it goes no further once it is past every field
+-- the number that the digits at the front write after those of n, and what follows; it goes no
+-- further once it is past every field
 unfoldable pub digits_at : ℕ → List ℕ → ℕ × List ℕ
 digits_at n [] = (n, [])
 digits_at n (c ∷ cs) = if is_ascii_digit c && nat_le n (2 ^ 28) then digits_at (10 * n + (c - 48)) cs else (n, c ∷ cs)
@@ -74,7 +78,16 @@ abbrev pub samples_of : Header → List ℕ → List (List ℕ)
 samples_of h raster = planes_from h.maxval (components_of h.colour) (h.width * h.height) raster
 
 abbrev pub picture_of : Header → List ℕ → Picture
-picture_of h raster = record { x0 = 0; y0 = 0; width = h.width; height = h.height; depth = h.depth; signed = false; planes = map (map pos) (samples_of h raster) }
+picture_of h raster =
+    record {
+      x0 = 0;
+      y0 = 0;
+      width = h.width;
+      height = h.height;
+      depth = h.depth;
+      signed = false;
+      planes = map (map pos) (samples_of h raster);
+    }
 
 unfoldable pub are_below : ℕ → List (List ℕ) → Bool
 are_below maxval planes = list_all (list_all (λ s. nat_le s maxval)) planes

@@ -1,5 +1,7 @@
--- The PNM file that is written for a picture: the magic number, LF, width, space, height, LF, maxval, LF, raster.
-use Rattle.std.specs.Prelude.{ℕ, ◌-◌, ◌*◌, ◌/◌, ◌%◌, ◌^◌, Bool, ◌==◌, nat_lt, List, [], ◌∷◌, ◌++◌, length, slice_index_or, Result, Ok, Err, if◌then◌else◌, ℤ, pos, negsuc}
+-- The PNM file that is written for a picture: the magic number, LF, width, space, height, LF,
+-- maxval, LF, raster.
+use Rattle.std.specs.Prelude.{ℕ, ◌-◌, ◌*◌, ◌/◌, ◌%◌, ◌^◌, Bool, ◌==◌, nat_lt, List, [], ◌∷◌, ◌++◌, length}
+use Rattle.std.specs.Prelude.{slice_index_or, Result, Ok, Err, if◌then◌else◌, ℤ, pos, negsuc}
 use Rattle.std.specs.List.{flat_map, range_with_len}
 use Rattle.std.specs.Fmt.{decimal}
 use Rattle.jk_math.specs.declared.fault.Fault.{Fault}
@@ -30,7 +32,8 @@ abbrev pub raster_text : ℕ → List (List ℤ) → ℕ → List ℕ
 raster_text maxval planes pixels = flat_map (pixel_text maxval planes) (range_with_len 0 pixels)
 
 abbrev pub header_text : Bool → ℕ → ℕ → ℕ → List ℕ
-header_text colour width height maxval = magic_text colour ++ (10 ∷ (decimal width ++ (32 ∷ (decimal height ++ (10 ∷ (decimal maxval ++ (10 ∷ [])))))))
+header_text colour width height maxval = magic_text colour
+    ++ (10 ∷ (decimal width ++ (32 ∷ (decimal height ++ (10 ∷ (decimal maxval ++ (10 ∷ [])))))))
 
 unfoldable pub file_text : Picture → List ℕ
 file_text p =

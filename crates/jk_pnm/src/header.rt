@@ -3,11 +3,13 @@
 ghost use Rattle.std.specs.Prelude.{◌≡◌, ◌*◌, ◌+◌, ◌<◌, ◌≤◌, ◌^◌, false, length, nat_lt, IfOk};
 ghost use Rattle.jk_math.specs.Answer.{AnswersExactly};
 ghost use Rattle.jk_pnm.specs.Pnm.{is_space, is_line_end, components_of};
-ghost use Rattle.jk_pnm.specs.Reading.{magic_at, after_gap, gap_at, digits_at, number_at, field_at, depth_at, raster_size, header_at};
+ghost use Rattle.jk_pnm.specs.Reading.{magic_at, after_gap, gap_at, digits_at, number_at, field_at, depth_at};
+ghost use Rattle.jk_pnm.specs.Reading.{raster_size, header_at};
 
 use jk_math::Fault;
 
-/// The fields of a PNM file: `P5`, or `P6` with colour; columns; rows; the greatest sample, and its bits.
+/// The fields of a PNM file: `P5`, or `P6` with colour; columns; rows; the greatest sample, and its
+/// bits.
 #[derive(Clone, Copy)]
 pub struct Header {
     pub colour: bool,
@@ -108,8 +110,8 @@ fn gap(bytes: &[u8]) -> Result<&[u8], Fault>
     Ok(rest)
 }
 
-/// The number that the digits at the front write, and what follows. A number past every field is left
-/// unfinished.
+/// The number that the digits at the front write, and what follows. A number past every field is
+/// left unfinished.
 fn digits(bytes: &[u8]) -> (u32, &[u8])
     ensures value { (result.0, result.1.now) ≡ digits_at 0 bytes.now }
 {
@@ -163,9 +165,9 @@ fn depth(maxval: u32) -> Result<u8, Fault>
 
 /// The fields of a file, and its raster.
 ///
-/// BadPnm: another magic number; a field that isn't a number from 1 to 2^28 behind whitespace or comments;
-/// a maxval that isn't one less than a power of two, or of more than 16 bits; no whitespace behind it; more
-/// than 2^28 pixels.
+/// BadPnm: another magic number; a field that isn't a number from 1 to 2^28 behind whitespace or
+/// comments; a maxval that isn't one less than a power of two, or of more than 16 bits; no
+/// whitespace behind it; more than 2^28 pixels.
 #[tactic(auto, unfolding(crate::specs::Reading::header_at))]
 pub fn read_header(bytes: &[u8]) -> Result<(Header, &[u8]), Fault>
     ensures exact { AnswersExactly (λ x. (x.0, x.1.now)) result (header_at bytes.now) }

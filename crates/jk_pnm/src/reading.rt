@@ -1,10 +1,12 @@
 //! Reading.
 
-ghost use Rattle.std.specs.Prelude.{◌≡◌, ◌*◌, ◌+◌, ◌-◌, ◌<◌, ◌≤◌, ◌^◌, ℕ, List, false, nat_lt, length, drop, IfOk, IfErr, Ok, map, pos, slice_index};
+ghost use Rattle.std.specs.Prelude.{◌≡◌, ◌*◌, ◌+◌, ◌-◌, ◌<◌, ◌≤◌, ◌^◌, ℕ, List, false, nat_lt, length, drop, IfOk};
+ghost use Rattle.std.specs.Prelude.{IfErr, Ok, map, pos, slice_index};
 ghost use Rattle.std.specs.List.{range_with_len};
 ghost use Rattle.jk_math.specs.Memory.{IsMemory};
 ghost use Rattle.jk_math.specs.Answer.{Answers};
-ghost use Rattle.jk_math.specs.Picture.{Picture, lists_of};
+ghost use Rattle.jk_math.specs.Picture.{Picture};
+ghost use Rattle.jk_math.specs.Lists.{lists_of};
 ghost use Rattle.jk_pnm.specs.Pnm.{components_of, plane_from, IsPnm};
 ghost use Rattle.jk_pnm.specs.Reading.{raster_size, samples_of, picture_at, pnm_at};
 
@@ -31,7 +33,9 @@ fn narrow_plane(
 ) -> Result<Vec<i32>, Fault>
     requires component { component < components }
     requires whole { pixels * components ≤ length raster.now }
-    ensures value { IfOk result (λ v. v.items ≡ map (λ pixel. pos (slice_index raster.now (pixel * components + component))) (range_with_len 0 pixels)) }
+    ensures value { IfOk result
+        (λ v. v.items
+        ≡ map (λ pixel. pos (slice_index raster.now (pixel * components + component))) (range_with_len 0 pixels)) }
     ensures err { IfErr result (λ e. IsMemory e) }
 {
     let mut samples = Vec::with_capacity(alloc, pixels)?;
@@ -52,7 +56,11 @@ fn wide_plane(
 ) -> Result<Vec<i32>, Fault>
     requires component { component < components }
     requires whole { 2 * (pixels * components) ≤ length raster.now }
-    ensures value { IfOk result (λ v. v.items ≡ map (λ pixel. pos (256 * slice_index raster.now (2 * (pixel * components + component)) + slice_index raster.now (2 * (pixel * components + component) + 1))) (range_with_len 0 pixels)) }
+    ensures value { IfOk result
+        (λ v. v.items
+        ≡ map (λ pixel.
+        pos (256 * slice_index raster.now (2 * (pixel * components + component))
+        + slice_index raster.now (2 * (pixel * components + component) + 1))) (range_with_len 0 pixels)) }
     ensures err { IfErr result (λ e. IsMemory e) }
 {
     let mut samples = Vec::with_capacity(alloc, pixels)?;
@@ -67,7 +75,10 @@ fn wide_plane(
 fn plane(alloc: Global, header: &Header, raster: &[u8], component: usize) -> Result<Vec<i32>, Fault>
     requires component { component < components_of header.now.colour }
     requires whole { length raster.now ≡ raster_size header.now }
-    ensures value { IfOk result (λ v. v.items ≡ map pos (plane_from header.now.maxval (components_of header.now.colour) (header.now.width * header.now.height) raster.now component)) }
+    ensures value { IfOk result
+        (λ v. v.items
+        ≡ map pos (plane_from header.now.maxval (components_of header.now.colour)
+        (header.now.width * header.now.height) raster.now component)) }
     ensures err { IfErr result (λ e. IsMemory e) }
 {
     let pixels = header.pixels();
@@ -102,7 +113,8 @@ fn page(header: &Header, planes: Vec<Vec<i32>>) -> Result<Image, Fault>
     requires area { header.now.width * header.now.height ≤ 2 ^ 28 }
     requires depth { 2 ^ header.now.depth ≡ header.now.maxval + 1 }
     requires bits { (1 ≤ header.now.depth) × (header.now.depth ≤ 16) }
-    ensures { (raster : List ℕ) → lists_of planes.items ≡ map (map pos) (samples_of header.now raster) → Answers (λ i. i) result (picture_at header.now raster) }
+    ensures { (raster : List ℕ) → lists_of planes.items ≡ map (map pos) (samples_of header.now raster)
+        → Answers (λ i. i) result (picture_at header.now raster) }
 {
     match Image::new(
         0,
@@ -137,8 +149,8 @@ const PIECE: usize = 1 << 20;
 
 /// The samples of the last bytes of a file, each of one byte.
 ///
-/// The bytes are let go of as their samples are made, the last ones first, so that file and samples are never both whole
-/// in memory.
+/// The bytes are let go of as their samples are made, the last ones first, so that file and samples
+/// are never both whole in memory.
 #[inline(never)]
 fn last_samples(alloc: Global, bytes: Vec<u8>, count: usize) -> Result<Vec<i32>, Fault>
     requires { count ≤ length bytes.items }
@@ -170,7 +182,8 @@ fn grey_picture(alloc: Global, header: &Header, bytes: Vec<u8>) -> Result<Image,
     requires grey { header.now.colour ≡ false }
     requires narrow { nat_lt 255 header.now.maxval ≡ false }
     requires room { raster_size header.now ≤ length bytes.items }
-    ensures { Answers (λ i. i) result (picture_at header.now (drop (length bytes.items - raster_size header.now) bytes.items)) }
+    ensures { Answers (λ i. i) result
+        (picture_at header.now (drop (length bytes.items - raster_size header.now) bytes.items)) }
 {
     let samples = last_samples(alloc, bytes, header.raster_size())?;
     let mut planes = Vec::with_capacity(alloc, 1)?;
@@ -190,7 +203,8 @@ fn pnm(alloc: Global, bytes: &[u8]) -> Result<Image, Fault>
     picture(alloc, &header, raster)
 }
 
-/// The picture that a file has. A file of one component and samples of one byte is let go of while its samples are made.
+/// The picture that a file has. A file of one component and samples of one byte is let go of while
+/// its samples are made.
 #[tactic(auto, unfolding(crate::specs::Reading::pnm_at))]
 fn pnm_of(alloc: Global, bytes: Vec<u8>) -> Result<Image, Fault>
     ensures { Answers (λ i. i) result (pnm_at bytes.items) }
@@ -205,11 +219,11 @@ fn pnm_of(alloc: Global, bytes: Vec<u8>) -> Result<Image, Fault>
     grey_picture(alloc, &header, bytes)
 }
 
-/// The picture of a PGM file (`P5`, one component) or a PPM file (`P6`, three components), its upper left
-/// sample at (0, 0), its samples unsigned and of 1 to 16 bits.
+/// The picture of a PGM file (`P5`, one component) or a PPM file (`P6`, three components), its
+/// upper left sample at (0, 0), its samples unsigned and of 1 to 16 bits.
 ///
-/// BadPnm: the file isn't in the grammar, its maxval isn't one less than a power of two, its raster has another
-/// length than the header asks for, or a sample is above maxval.
+/// BadPnm: the file isn't in the grammar, its maxval isn't one less than a power of two, its raster
+/// has another length than the header asks for, or a sample is above maxval.
 pub fn read(alloc: Global, bytes: &[u8]) -> Result<Image, Fault>
     ensures exact { Answers (λ i. i) result (pnm_at bytes.now) }
     // What is read is a file of this picture.
@@ -220,8 +234,9 @@ pub fn read(alloc: Global, bytes: &[u8]) -> Result<Image, Fault>
     pnm(alloc, bytes)
 }
 
-/// The picture of a PGM or PPM file, as [`read`] gives it. The file is let go of; one of a single component with
-/// samples of one byte piece by piece as they are made, so that file and image take little more memory than the image.
+/// The picture of a PGM or PPM file, as [`read`] gives it. The file is let go of; one of a single
+/// component with samples of one byte piece by piece as they are made, so that file and image take
+/// little more memory than the image.
 pub fn read_owned(alloc: Global, bytes: Vec<u8>) -> Result<Image, Fault>
     ensures exact { Answers (λ i. i) result (pnm_at bytes.items) }
     // What is read is a file of this picture.

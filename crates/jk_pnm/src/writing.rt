@@ -1,11 +1,13 @@
 //! Writing.
 
-ghost use Rattle.std.specs.Prelude.{◌≡◌, ◌*◌, ◌+◌, ◌-◌, ◌<◌, ◌≤◌, ◌^◌, ◌++◌, ◌∷◌, [], true, length, IfOk, OnOk, IfErr, pos, All, ◌≤ℤ◌};
+ghost use Rattle.std.specs.Prelude.{◌≡◌, ◌*◌, ◌+◌, ◌-◌, ◌<◌, ◌≤◌, ◌^◌, ◌++◌, ◌∷◌, [], true, length, IfOk, OnOk, IfErr};
+ghost use Rattle.std.specs.Prelude.{pos, All, ◌≤ℤ◌};
 ghost use Rattle.jk_math.specs.Memory.{IsMemory};
 ghost use Rattle.jk_math.specs.Answer.{Answers};
 ghost use Rattle.jk_math.specs.Picture.{IsPicture};
 ghost use Rattle.jk_pnm.specs.Pnm.{IsPnm, magic_text};
-ghost use Rattle.jk_pnm.specs.Written.{is_written, maxval_of, sample_text, raster_text, header_text, file_text, written};
+ghost use Rattle.jk_pnm.specs.Written.{is_written, maxval_of, sample_text, raster_text, header_text, file_text};
+ghost use Rattle.jk_pnm.specs.Written.{written};
 
 use jk_math::{Fault, Image};
 use std::alloc::Global;
@@ -41,7 +43,8 @@ fn put_sample(out: &mut Vec<u8>, maxval: u32, sample: i32) -> Result<(), Fault>
 fn put_grey(out: &mut Vec<u8>, maxval: u32, samples: &[i32]) -> Result<(), Fault>
     requires samples { All (λ s. (pos 0 ≤ℤ s) × (s ≤ℤ pos maxval)) samples.now }
     requires maxval { maxval < 2 ^ 16 }
-    ensures ok { OnOk result (out.new.items ≡ out.old.items ++ raster_text maxval (samples.now ∷ []) (length samples.now)) }
+    ensures ok { OnOk result
+        (out.new.items ≡ out.old.items ++ raster_text maxval (samples.now ∷ []) (length samples.now)) }
     ensures err { IfErr result (λ e. IsMemory e) }
 {
     for sample in samples {
@@ -65,7 +68,8 @@ fn put_colour(
     requires greens { length green.now ≡ length red.now }
     requires blues { length blue.now ≡ length red.now }
     requires maxval { maxval < 2 ^ 16 }
-    ensures ok { OnOk result (out.new.items ≡ out.old.items ++ raster_text maxval (red.now ∷ green.now ∷ blue.now ∷ []) (length red.now)) }
+    ensures ok { OnOk result
+        (out.new.items ≡ out.old.items ++ raster_text maxval (red.now ∷ green.now ∷ blue.now ∷ []) (length red.now)) }
     ensures err { IfErr result (λ e. IsMemory e) }
 {
     for pixel in 0..red.len() {
@@ -111,7 +115,8 @@ fn put_raster(out: &mut Vec<u8>, image: &Image, maxval: u32) -> Result<(), Fault
     requires written { is_written image.now ≡ true }
     requires profile { IsPicture image.now }
     requires maxval { maxval ≡ maxval_of image.now.depth }
-    ensures ok { OnOk result (out.new.items ≡ out.old.items ++ raster_text maxval image.now.planes (image.now.width * image.now.height)) }
+    ensures ok { OnOk result
+        (out.new.items ≡ out.old.items ++ raster_text maxval image.now.planes (image.now.width * image.now.height)) }
     ensures err { IfErr result (λ e. IsMemory e) }
 {
     let planes = image.planes();
@@ -146,8 +151,8 @@ fn file(alloc: Global, image: &Image) -> Result<Vec<u8>, Fault>
     Ok(out)
 }
 
-/// The PGM file of an image of one component, or the PPM file of an image of three. Where the image lies on
-/// the reference grid isn't written.
+/// The PGM file of an image of one component, or the PPM file of an image of three. Where the image
+/// lies on the reference grid isn't written.
 ///
 /// Unsupported: another number of components, or signed samples.
 #[tactic(auto, unfolding(crate::specs::Written::written))]

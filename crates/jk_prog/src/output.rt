@@ -44,8 +44,8 @@ impl<R: Files + Print + Drop> Late<R> {
         }
     }
 
-    /// Ends what was written. Where that is whole with these last bytes, a file takes its place; else
-    /// what has its place stays. It is refused where a write was.
+    /// Ends what was written. Where that is whole with these last bytes, a file takes its place;
+    /// else what has its place stays. It is refused where a write was.
     pub(crate) fn finish(mut self, last: &[u8], is_whole: bool) -> Result<(), Refusal> {
         if is_whole && self.refusal.is_none() && !last.is_empty() {
             self.refusal = self.put(last).err();

@@ -1,5 +1,5 @@
--- The reversible component transform (T.800 G.2): I0, I1, I2 are a pixel's samples of components 0, 1 and 2, and
--- Y0, Y1, Y2 what stands for them.
+-- The reversible component transform (T.800 G.2): I0, I1, I2 are a pixel's samples of components 0,
+-- 1 and 2, and Y0, Y1, Y2 what stands for them.
 use Rattle.std.specs.Prelude.{◌≡◌, ℕ, ℤ, ◌+◌, ◌≤◌, ◌+ℤ◌, ◌-ℤ◌, ◌≤ℤ◌, unsigned_abs}
 use Rattle.jk_math.specs.Division.{floor_of}
 use Rattle.jk_math.specs.Signed.{IsBelow}
@@ -37,7 +37,8 @@ UndoesInverse = (y0 y1 y2 : ℤ) →
     × (y1_of (i0_of y0 y1 y2) (i1_of y0 y1 y2) (i2_of y0 y1 y2) ≡ y1)
     × (y2_of (i0_of y0 y1 y2) (i1_of y0 y1 y2) (i2_of y0 y1 y2) ≡ y2)
 
--- From samples of one range, Y0 lies in that range, and Y1 and Y2 are differences of two of its numbers.
+-- From samples of one range, Y0 lies in that range, and Y1 and Y2 are differences of two of its
+-- numbers.
 abbrev pub KeepsRange : Type 0
 KeepsRange = (low high i0 i1 i2 : ℤ) → low ≤ℤ i0 → i0 ≤ℤ high → low ≤ℤ i1 → i1 ≤ℤ high → low ≤ℤ i2 → i2 ≤ℤ high →
     (low ≤ℤ y0_of i0 i1 i2) × (y0_of i0 i1 i2 ≤ℤ high)

@@ -4,7 +4,8 @@
 ghost use Rattle.std.specs.Prelude.{◌≡◌, ℕ, ◌^◌, ◌<◌, pos, ◌+ℤ◌, length, All};
 ghost use Rattle.jk_math.specs.Division.{floor_of};
 ghost use Rattle.jk_math.specs.Signed.{IsBelow, signed_at};
-ghost use Rattle.jk_rct.specs.Colour.{y0_of, y1_of, y2_of, i0_of, i1_of, i2_of, UndoesColour, UndoesInverse, KeepsRange, InverseBounds};
+ghost use Rattle.jk_rct.specs.Colour.{y0_of, y1_of, y2_of, i0_of, i1_of, i2_of, UndoesColour, UndoesInverse};
+ghost use Rattle.jk_rct.specs.Colour.{KeepsRange, InverseBounds};
 
 /// Puts Y0, Y1 and Y2 in the places of the samples of components 0, 1 and 2.
 pub fn forward(a: &mut [i32], b: &mut [i32], c: &mut [i32])

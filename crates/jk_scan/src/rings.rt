@@ -118,7 +118,8 @@ pub fn zero_context_in(orientation: Orientation, rings: &[u64; 4], k: u32) -> u8
     requires within { k < 64 }
     requires on_row { of_rows (k % 8) ≡ true }
     ensures value { (f : Truths) (x y : ℕ)
-        → IsRing (bordered f) (x + 8) (y + 4) (get_or rings.now (k % 8 - 1) 0) (k / 8) → result ≡ zero_at orientation f x y }
+        → IsRing (bordered f) (x + 8) (y + 4) (get_or rings.now (k % 8 - 1) 0) (k / 8)
+        → result ≡ zero_at orientation f x y }
     ensures small { result < 9 }
 {
     let byte = rings[(k % 8 - 1) as usize] >> (8 * (k / 8));

@@ -12,12 +12,12 @@ use Rattle.jk_window.specs.declared.view.View.{View}
 use Rattle.jk_window.specs.Indexing.{IsIndexOf}
 use Rattle.jk_window.specs.Cutting.{cut_file}
 use Rattle.jk_store.specs.Parts.{part, part_count, part_digests}
-use Rattle.jk_store.specs.PartsGiven.{GivenPart, HasParts, IsPartOf, ReadsParts, IsCutOfParts, AreKnownByDigest}
+use Rattle.jk_store.specs.PartsGiven.{GivenPart, HasParts, IsPartOfFile, ReadsParts, IsCutOfParts, AreKnownByDigest}
 use Rattle.jk_store.specs.declared.entry.Entry.{Entry}
 use Rattle.jk_store.proofs.PartsLaws.{digest_is}
 
 -- a part that passes has the digest of the file's
-same_digest : (e : Entry) (file : List ℕ) (i : ℕ) (b : List ℕ) → e.parts.items ≡ part_digests file → IsPartOf e i b → sha256 b ≡ sha256 (part i file)
+same_digest : (e : Entry) (file : List ℕ) (i : ℕ) (b : List ℕ) → e.parts.items ≡ part_digests file → IsPartOfFile e i b → sha256 b ≡ sha256 (part i file)
 same_digest e file i b parts passes =
     let there : slice_get (part_digests file) i ≡ Some (sha256 b) = ap (λ (ds : List (List ℕ)). slice_get ds i) (sym parts) ∙ passes.1 in
     let within : i < part_count (length file) =

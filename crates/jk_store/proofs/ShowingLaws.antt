@@ -16,14 +16,14 @@ use Rattle.jk_window.specs.Views.{HasWindow}
 use Rattle.jk_window.specs.Cutting.{cut_file}
 use Rattle.jk_window.specs.Indexing.{IsIndexOf}
 use Rattle.jk_web.specs.declared.query.Asked.{Asked}
-use Rattle.jk_web.specs.Places.{is_segment_byte, IsSegment}
+use Rattle.jk_web.specs.Resources.{is_segment_byte, IsSegment}
 use Rattle.jk_web.specs.Images.{Image, names_of, image_of, IsFileOf, IsCutOf, IsOtherFile, IsOtherCut, HasNoCut, MayRefuse}
 use Rattle.jk_store.specs.declared.entry.Entry.{Entry}
 use Rattle.jk_store.specs.Files.{Files}
 use Rattle.jk_store.specs.Names.{file_name, is_name_byte, is_good_name}
 use Rattle.jk_store.specs.Counting.{last_count}
 use Rattle.jk_store.specs.Catalogue.{StandsFor, StandIn, stored, is_listed, are_named, entry_of, IsWindowGiven, Passes}
-use Rattle.jk_store.specs.Showing.{line_of, view_of, given_of, ShowsImage, ShowImages, AreKept, Stands}
+use Rattle.jk_store.specs.Showing.{line_of, view_of, given_of, ShowsImage, ShowImages, AreKept, StandForImages}
 use Rattle.jk_store.proofs.AddLaws.{differs}
 use Rattle.jk_store.proofs.EntryLaws.{no_window_cut}
 
@@ -307,7 +307,7 @@ each_shown entries each named = let all = all_shown entries each named in (all.0
 
 -- What stands in files is shown.
 pub stands_shown : {S : Type 0} (keeps : S → Files → Type 0) (shelf : S) (files : Files) (entries : List Entry) → keeps shelf files → StandIn files entries → are_named entries ≡ true
-    → (images : List Image) × Stands keeps entries shelf images × All IsSegment (names_of images)
+    → (images : List Image) × StandForImages keeps entries shelf images × All IsSegment (names_of images)
 stands_shown keeps shelf files entries kept stand named =
     let all = shown_of files entries stand named in (
       all.0,

@@ -27,12 +27,16 @@ judged entries name p q = do
   _ ← refuse (not (is_profile q p)) BadParameters
   refuse (is_raw q.container) BadParameters
 
--- What is left of files after a refusal, where a file that was made is written under a temporary name and gets its own: all others,
--- and under its own name what was there before; or, after Shelf, the file that was made.
-pub record IsLeft (temporary own : List ℕ) (made : Result (List ℕ) Fault) (e : Fault) (files left : Files) : Type 0 where
+-- What is left of files after a refusal, where a file that was made is written under a temporary
+-- name and gets its own: all others, and under its own name what was there before; or, after Shelf,
+-- the file that was made.
+pub record IsLeft (temporary own : List ℕ) (made : Result (List ℕ) Fault) (e : Fault)
+    (files left : Files) : Type 0 where
   pub others : (n : List ℕ) → bytes_eq temporary n ≡ false → bytes_eq own n ≡ false → left n ≡ files n
   pub here : (left own ≡ files own) ⊎ ((file : List ℕ) × (e ≡ Shelf) × (made ≡ Ok file) × (left own ≡ Some file))
 
 -- The file couldn't be written under its temporary name, or that couldn't become its own.
-abbrev pub IsUnstored : {S : Type 0} → (unwritten : S → List ℕ → S → Type 0) → (unrenamed : S → List ℕ → List ℕ → S → Type 0) → (temporary own : List ℕ) → S → S → Type 0
-IsUnstored {S} unwritten unrenamed temporary own old new = unwritten old temporary new ⊎ ((mid : S) × unrenamed mid temporary own new)
+abbrev pub IsUnstored : {S : Type 0} → (unwritten : S → List ℕ → S → Type 0)
+    → (unrenamed : S → List ℕ → List ℕ → S → Type 0) → (temporary own : List ℕ) → S → S → Type 0
+IsUnstored {S} unwritten unrenamed temporary own old new = unwritten old temporary new
+    ⊎ ((mid : S) × unrenamed mid temporary own new)

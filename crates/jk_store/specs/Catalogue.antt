@@ -1,5 +1,6 @@
 -- What the entries of an archive stand for.
-use Rattle.std.specs.Prelude.{◌≡◌, ℕ, ◌+◌, ◌≤◌, Bool, true, false, not, ◌&&◌, ◌||◌, cond, min, ◌⊎◌, List, [], ◌∷◌, length, Option, Some, None, Result, Ok, Err}
+use Rattle.std.specs.Prelude.{◌≡◌, ℕ, ◌+◌, ◌≤◌, Bool, true, false, not, ◌&&◌, ◌||◌, cond, min, ◌⊎◌, List, [], ◌∷◌}
+use Rattle.std.specs.Prelude.{length, Option, Some, None, Result, Ok, Err}
 use Rattle.std.specs.Global.{Vec}
 use Rattle.std.specs.List.{AllByRecursion}
 use Rattle.std.specs.Str.{bytes_eq}
@@ -29,7 +30,8 @@ is_listed (e ∷ entries) n = bytes_eq (string_bytes e.name) n || is_listed entr
 -- Names are good, and none stands twice.
 abbrev pub are_named : List Entry → Bool
 are_named [] = true
-are_named (e ∷ entries) = is_good_name (string_bytes e.name) && not (is_listed entries (string_bytes e.name)) && are_named entries
+are_named (e ∷ entries) = is_good_name (string_bytes e.name) && not (is_listed entries (string_bytes e.name))
+    && are_named entries
 
 -- how many images an archive has at most
 abbrev pub most_entries : ℕ
@@ -66,7 +68,10 @@ pub record StandsFor (e : Entry) (s : Stored) : Type 0 where
 
 -- Each entry stands for the file that has its name among these.
 abbrev pub StandIn : Files → List Entry → Type 0
-StandIn files entries = AllByRecursion (λ e. (file : List ℕ) × (files (file_name (string_bytes e.name)) ≡ Some file) × StandsFor e (stored (string_bytes e.name) file)) entries
+StandIn files entries =
+    AllByRecursion
+    (λ e. (file : List ℕ) × (files (file_name (string_bytes e.name)) ≡ Some file)
+    × StandsFor e (stored (string_bytes e.name) file)) entries
 
 -- the entry of a name, if there is one
 abbrev pub entry_of : List Entry → List ℕ → Option Entry
@@ -79,9 +84,11 @@ IsFileOf gave e old file new = gave old (file_name (string_bytes e.name)) file n
 
 -- The shelf gave a file under the name of the entry that has another digest.
 abbrev pub IsOtherFile : {S : Type 0} → (S → List ℕ → List ℕ → S → Type 0) → Entry → S → S → Type 0
-IsOtherFile gave e old new = (file : List ℕ) × gave old (file_name (string_bytes e.name)) file new × (sha256 file ≡ e.digest → ⊥)
+IsOtherFile gave e old new = (file : List ℕ) × gave old (file_name (string_bytes e.name)) file new
+    × (sha256 file ≡ e.digest → ⊥)
 
--- Bytes are the file of a window of a file, where the index is that of the file; and they mean what it means there.
+-- Bytes are the file of a window of a file, where the index is that of the file; and they mean what
+-- it means there.
 pub record IsCutFrom (i : IndexFields) (v : View) (file reply : List ℕ) : Type 0 where
   pub cut : (is : IsIndexOf file i) → cut_file is v ≡ Ok reply
   pub means : IsIndexOf file i → (p : Picture) → Means file v.reduce p → IsWindowOf v p reply

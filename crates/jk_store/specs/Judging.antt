@@ -10,8 +10,10 @@ use Rattle.jk_store.specs.Opening.{AreNamesIn, Opened}
 use Rattle.jk_store.specs.declared.entry.Entry.{Entry}
 use Rattle.jk_store.specs.declared.skipped.Skipped.{Skipped}
 
--- The shelf listed these files, which are those of fewer images than an archive may have, and none of them has the name.
-pub record IsFree {S : Type 0} (lists : S → List (List ℕ) → S → Type 0) (old : S) (name : List ℕ) (new : S) : Type 0 where
+-- The shelf listed these files, which are those of fewer images than an archive may have, and none
+-- of them has the name.
+pub record IsFree {S : Type 0} (lists : S → List (List ℕ) → S → Type 0) (old : S) (name : List ℕ)
+    (new : S) : Type 0 where
   pub files : List (List ℕ)
   pub names : List (List ℕ)
   pub listed : lists old files new
@@ -28,7 +30,9 @@ pub record IsFull {S : Type 0} (lists : S → List (List ℕ) → S → Type 0) 
   pub are : AreNamesIn files names
   pub many : most_entries ≤ length names
 
--- Whatever is listed of the images of these names, an image is judged beside it as it is where nothing is listed.
+-- Whatever is listed of the images of these names, an image is judged beside it as it is where
+-- nothing is listed.
 abbrev pub JudgedAlone : {S : Type 0} → (S → List ℕ → List ℕ → S → Type 0) → List (List ℕ) → List ℕ → Type 0
-JudgedAlone {S} gave names name = (old new : S) (entries : List Entry) (skipped : List Skipped) → Opened gave names old entries skipped new
+JudgedAlone {S} gave names name = (old new : S) (entries : List Entry) (skipped : List Skipped)
+    → Opened gave names old entries skipped new
     → (p : Picture) (q : Parameters) → judged entries name p q ≡ judged [] name p q

@@ -17,14 +17,15 @@ abbrev pub names_of : MemoryShelf → List (List ℕ)
 names_of s = map string_bytes (keys s.files)
 
 -- These files are on the shelf.
-abbrev pub Keeps : MemoryShelf → Files → Type 0
-Keeps s files = (n b : List ℕ) → files n ≡ Some b → held s n ≡ Some b
+abbrev pub KeepsFiles : MemoryShelf → Files → Type 0
+KeepsFiles s files = (n b : List ℕ) → files n ≡ Some b → held s n ≡ Some b
 
 -- The shelf has these bytes under a name, and stays as it is.
 abbrev pub Gave : MemoryShelf → List ℕ → List ℕ → MemoryShelf → Type 0
 Gave s n b t = (t ≡ s) × (held s n ≡ Some b)
 
--- The file of a name has these bytes from a place on, so many at most, and the shelf stays as it is.
+-- The file of a name has these bytes from a place on, so many at most, and the shelf stays as it
+-- is.
 abbrev pub GaveAt : MemoryShelf → List ℕ → (start most : ℕ) → List ℕ → MemoryShelf → Type 0
 GaveAt s n start most b t = (t ≡ s) × (option_map (λ file. take most (drop start file)) (held s n) ≡ Some b)
 

@@ -21,19 +21,25 @@ abbrev pub IsLookedOf : List ℕ → List ℕ → Looked → Type 0
 IsLookedOf name bytes (Listed e) = StandsFor e (stored name bytes)
 IsLookedOf name bytes (Passed k) = IsSkippedOf name bytes k
 
--- The shelf gave these bytes under a name. A file that it keeps is what it gives; and it keeps what it kept and what it gave.
-pub record Gives {S : Type 0} (keeps : S → Files → Type 0) (gave : S → List ℕ → List ℕ → S → Type 0) (old : S) (n bytes : List ℕ) (new : S) : Type 0 where
+-- The shelf gave these bytes under a name. A file that it keeps is what it gives; and it keeps what
+-- it kept and what it gave.
+pub record Gives {S : Type 0} (keeps : S → Files → Type 0) (gave : S → List ℕ → List ℕ → S → Type 0) (old : S)
+    (n bytes : List ℕ) (new : S) : Type 0 where
   pub given : gave old n bytes new
   pub same : (files : Files) (b : List ℕ) → keeps old files → files n ≡ Some b → bytes ≡ b
   pub kept : (files : Files) → keeps old files → keeps new files
   pub held : (files : Files) → keeps old files → keeps new (with_file n bytes files)
 
--- From one state of the shelf to another the files of these names were read in turn; of each there is an entry, or it was skipped.
-abbrev pub Opened : {S : Type 0} → (S → List ℕ → List ℕ → S → Type 0) → List (List ℕ) → S → List Entry → List Skipped → S → Type 0
+-- From one state of the shelf to another the files of these names were read in turn; of each there
+-- is an entry, or it was skipped.
+abbrev pub Opened : {S : Type 0} → (S → List ℕ → List ℕ → S → Type 0) → List (List ℕ) → S → List Entry → List Skipped
+    → S → Type 0
 Opened gave [] old entries skipped new = (entries ≡ []) × (skipped ≡ []) × (new ≡ old)
 Opened {S} gave (n ∷ names) old entries skipped new = (bytes : List ℕ) × (mid : S) × gave old (file_name n) bytes mid
-    × (((e : Entry) × (more : List Entry) × StandsFor e (stored n bytes) × (entries ≡ e ∷ more) × Opened gave names mid more skipped new)
-    ⊎ ((k : Skipped) × (more : List Skipped) × IsSkippedOf n bytes k × (skipped ≡ k ∷ more) × Opened gave names mid entries more new))
+    × (((e : Entry) × (more : List Entry) × StandsFor e (stored n bytes) × (entries ≡ e ∷ more)
+    × Opened gave names mid more skipped new)
+    ⊎ ((k : Skipped) × (more : List Skipped) × IsSkippedOf n bytes k × (skipped ≡ k ∷ more)
+    × Opened gave names mid entries more new))
 
 -- One file more: it is listed, or skipped.
 abbrev pub Enters : List ℕ → List ℕ → List Entry → List Entry → List Skipped → List Skipped → Type 0
@@ -48,25 +54,32 @@ pub record AreNamesIn (files names : List (List ℕ)) : Type 0 where
 
 -- The files of a beginning of these names have more images than an archive may have.
 abbrev pub ReadsPast : {S : Type 0} → (S → List ℕ → List ℕ → S → Type 0) → List (List ℕ) → S → Type 0
-ReadsPast {S} gave names old = (front rest : List (List ℕ)) × (entries : List Entry) × (skipped : List Skipped) × (new : S)
+ReadsPast {S} gave names old = (front rest : List (List ℕ)) × (entries : List Entry) × (skipped : List Skipped)
+    × (new : S)
     × (names ≡ front ++ rest) × Opened gave front old entries skipped new × (most_entries < length entries)
 
 -- After the files of a beginning of these names were read, the next can't be read.
-abbrev pub ReadsUpTo : {S : Type 0} → (S → List ℕ → List ℕ → S → Type 0) → (S → List ℕ → S → Type 0) → List (List ℕ) → S → Type 0
-ReadsUpTo {S} gave unread names old = (front : List (List ℕ)) × (n : List ℕ) × (rest : List (List ℕ)) × (entries : List Entry) × (skipped : List Skipped) × (mid new : S)
+abbrev pub ReadsUpTo : {S : Type 0} → (S → List ℕ → List ℕ → S → Type 0) → (S → List ℕ → S → Type 0) → List (List ℕ) → S
+    → Type 0
+ReadsUpTo {S} gave unread names old = (front : List (List ℕ)) × (n : List ℕ) × (rest : List (List ℕ))
+    × (entries : List Entry) × (skipped : List Skipped) × (mid new : S)
     × (names ≡ front ++ n ∷ rest) × Opened gave front old entries skipped mid × unread mid (file_name n) new
 
 -- The shelf listed its files, and then those of its images were read.
-abbrev pub OpensAs : {S : Type 0} → (S → List (List ℕ) → S → Type 0) → (S → List ℕ → List ℕ → S → Type 0) → S → List Entry → List Skipped → S → Type 0
+abbrev pub OpensAs : {S : Type 0} → (S → List (List ℕ) → S → Type 0) → (S → List ℕ → List ℕ → S → Type 0) → S
+    → List Entry → List Skipped → S → Type 0
 OpensAs {S} lists gave old entries skipped new = (files : List (List ℕ)) × (names : List (List ℕ)) × (mid : S)
     × lists old files mid × AreNamesIn files names × Opened gave names mid entries skipped new
 
--- The shelf listed its files, and the images of a beginning of them are more than an archive may have.
+-- The shelf listed its files, and the images of a beginning of them are more than an archive may
+-- have.
 abbrev pub OpensPast : {S : Type 0} → (S → List (List ℕ) → S → Type 0) → (S → List ℕ → List ℕ → S → Type 0) → S → Type 0
 OpensPast {S} lists gave old = (files : List (List ℕ)) × (names : List (List ℕ)) × (mid : S)
     × lists old files mid × AreNamesIn files names × ReadsPast gave names mid
 
 -- The shelf can't list its files, or one of the images among them can't be read.
-abbrev pub OpensUpTo : {S : Type 0} → (S → List (List ℕ) → S → Type 0) → (S → S → Type 0) → (S → List ℕ → List ℕ → S → Type 0) → (S → List ℕ → S → Type 0) → S → Type 0
+abbrev pub OpensUpTo : {S : Type 0} → (S → List (List ℕ) → S → Type 0) → (S → S → Type 0)
+    → (S → List ℕ → List ℕ → S → Type 0) → (S → List ℕ → S → Type 0) → S → Type 0
 OpensUpTo {S} lists unlisted gave unread old = ((new : S) × unlisted old new)
-    ⊎ ((files : List (List ℕ)) × (names : List (List ℕ)) × (mid : S) × lists old files mid × AreNamesIn files names × ReadsUpTo gave unread names mid)
+    ⊎ ((files : List (List ℕ)) × (names : List (List ℕ)) × (mid : S) × lists old files mid × AreNamesIn files names
+    × ReadsUpTo gave unread names mid)

@@ -27,8 +27,8 @@ abbrev pub GivenPart : Type 0
 GivenPart = ℕ × List ℕ
 
 -- Bytes pass for part i of an entry's file: they are as long as it, and have its digest.
-abbrev pub IsPartOf : Entry → ℕ → List ℕ → Type 0
-IsPartOf e i b = (length b ≡ part_length (size_of e) i) × (slice_get e.parts.items i ≡ Some (sha256 b))
+abbrev pub IsPartOfFile : Entry → ℕ → List ℕ → Type 0
+IsPartOfFile e i b = (length b ≡ part_length (size_of e) i) × (slice_get e.parts.items i ≡ Some (sha256 b))
 
 -- A file has these parts.
 abbrev pub HasParts : List GivenPart → List ℕ → Type 0
@@ -40,21 +40,25 @@ AreKnownByDigest file given = AllByRecursion (λ g. sha256 g.1 ≡ sha256 (part 
 
 -- These are the parts of an entry's file.
 abbrev pub ArePartsOf : Entry → List GivenPart → Type 0
-ArePartsOf e given = AllByRecursion (λ g. IsPartOf e g.0 g.1) given
+ArePartsOf e given = AllByRecursion (λ g. IsPartOfFile e g.0 g.1) given
 
 -- The shelf was asked for part i of an entry's file, gave these bytes and left the second state.
-abbrev pub GavePart : {S : Type 0} → (gave_at : S → List ℕ → ℕ → ℕ → List ℕ → S → Type 0) → Entry → S → ℕ → List ℕ → S → Type 0
+abbrev pub GavePart : {S : Type 0} → (gave_at : S → List ℕ → ℕ → ℕ → List ℕ → S → Type 0) → Entry → S → ℕ → List ℕ → S
+    → Type 0
 GavePart gave_at e old i b new = gave_at old (file_of e) (i * part_size) (part_length (size_of e) i) b new
 
 -- From one state to another the shelf gave these parts of an entry's file in turn, each of which
 -- passes for the part.
-abbrev pub ReadsParts : {S : Type 0} → (gave_at : S → List ℕ → ℕ → ℕ → List ℕ → S → Type 0) → Entry → S → List GivenPart → S → Type 0
+abbrev pub ReadsParts : {S : Type 0} → (gave_at : S → List ℕ → ℕ → ℕ → List ℕ → S → Type 0) → Entry → S → List GivenPart
+    → S → Type 0
 ReadsParts gave_at e old [] new = new ≡ old
-ReadsParts {S} gave_at e old (g ∷ given) new = (mid : S) × GavePart gave_at e old g.0 g.1 mid × IsPartOf e g.0 g.1 × ReadsParts gave_at e mid given new
+ReadsParts {S} gave_at e old (g ∷ given) new = (mid : S) × GavePart gave_at e old g.0 g.1 mid × IsPartOfFile e g.0 g.1
+    × ReadsParts gave_at e mid given new
 
 -- From one state to another the shelf gave parts of an entry's file, and at last bytes that don't
 -- pass for the part that was asked for.
-pub record IsOtherPart {S : Type 0} (gave_at : S → List ℕ → ℕ → ℕ → List ℕ → S → Type 0) (e : Entry) (old new : S) : Type 0 where
+pub record IsOtherPart {S : Type 0} (gave_at : S → List ℕ → ℕ → ℕ → List ℕ → S → Type 0) (e : Entry)
+    (old new : S) : Type 0 where
   pub before : List GivenPart
   pub mid : S
   pub reads : ReadsParts gave_at e old before mid
@@ -62,7 +66,7 @@ pub record IsOtherPart {S : Type 0} (gave_at : S → List ℕ → ℕ → ℕ �
   pub bytes : List ℕ
   pub there : number < part_count (size_of e)
   pub gave : GavePart gave_at e mid number bytes new
-  pub other : IsPartOf e number bytes → ⊥
+  pub other : IsPartOfFile e number bytes → ⊥
 
 -- Bytes are the file of a window, cut of these parts: of each file that has them, and of which the
 -- index is, they are its window.
@@ -70,13 +74,15 @@ abbrev pub IsCutOfParts : IndexFields → View → List GivenPart → List ℕ �
 IsCutOfParts i v given reply = (file : List ℕ) → HasParts given file → IsCutFrom i v file reply
 
 -- What is known of a shelf that gave parts of an entry's file, and of one that didn't give a part.
-module _ {S : Type 0} (keeps : S → Files → Type 0) (gave_at : S → List ℕ → ℕ → ℕ → List ℕ → S → Type 0) (failed : S → ℕ) (e : Entry) where
+module _ {S : Type 0} (keeps : S → Files → Type 0) (gave_at : S → List ℕ → ℕ → ℕ → List ℕ → S → Type 0) (failed : S → ℕ)
+    (e : Entry) where
   -- These parts were read: a file that the shelf keeps under the name, and that is as long as the
   -- entry's, has them.
   pub record PartsRead (old : S) (given : List GivenPart) (new : S) : Type 0 where
     pub reads : ReadsParts gave_at e old given new
     pub kept : (files : Files) → keeps old files → keeps new files
-    pub same : (files : Files) (b : List ℕ) → keeps old files → files (file_of e) ≡ Some b → length b ≡ size_of e → HasParts given b
+    pub same : (files : Files) (b : List ℕ) → keeps old files → files (file_of e) ≡ Some b → length b ≡ size_of e
+        → HasParts given b
     pub counts : failed new ≡ failed old
 
   -- Why parts were not read: memory was refused; what was given isn't the entry's; or the shelf
@@ -86,4 +92,5 @@ module _ {S : Type 0} (keeps : S → Files → Type 0) (gave_at : S → List ℕ
     pub why : (IsMemory x × (failed new ≡ failed old))
         ⊎ (((x ≡ Changed) × IsOtherPart gave_at e old new × (failed new ≡ failed old))
         ⊎ ((x ≡ Shelf) × (failed new ≡ min (failed old + 1) last_count)))
-    pub steady : (files : Files) (b : List ℕ) → keeps old files → files (file_of e) ≡ Some b → length b ≡ size_of e → e.parts.items ≡ part_digests b → x ≡ Changed → ⊥
+    pub steady : (files : Files) (b : List ℕ) → keeps old files → files (file_of e) ≡ Some b → length b ≡ size_of e
+        → e.parts.items ≡ part_digests b → x ≡ Changed → ⊥

@@ -11,7 +11,8 @@ use Rattle.jk_store.specs.declared.reading.Reading.{Reading}
 pub record IsReading (e : Entry) (r : Reading) : Type 0 where
   pub named : string_bytes r.name ≡ file_of e
   pub sized : r.size ≡ size_of e
-  pub held : (r.part.items ≡ []) ⊎ ((r.number < part_count (size_of e)) × (length r.part.items ≡ part_length (size_of e) r.number))
+  pub held : (r.part.items ≡ [])
+      ⊎ ((r.number < part_count (size_of e)) × (length r.part.items ≡ part_length (size_of e) r.number))
 
 -- What is held is nothing, or that part of the file.
 abbrev pub HoldsOf : Reading → List ℕ → Type 0

@@ -23,14 +23,16 @@ use Rattle.jk_store.specs.declared.entry.Entry.{Entry}
 abbrev pub number_text : ℕ → List ℕ
 number_text n = 32 ∷ decimal n
 
--- the line of an image: its name, its width and height, its components, its depth, and how often it can be halved
+-- the line of an image: its name, its width and height, its components, its depth, and how often it
+-- can be halved
 abbrev pub line_of : Entry → List ℕ
 line_of e =
     let h = e.index.headers in
     string_bytes e.name
     ++ (number_text (h.siz.x1 - h.siz.x0)
     ++ (number_text (h.siz.y1 - h.siz.y0)
-    ++ (number_text h.siz.components ++ (number_text h.siz.depth ++ (number_text (least_levels h.tiles (tile_count h.siz)) ++ (10 ∷ []))))))
+    ++ (number_text h.siz.components
+    ++ (number_text h.siz.depth ++ (number_text (least_levels h.tiles (tile_count h.siz)) ++ (10 ∷ []))))))
 
 -- the view that is asked for
 abbrev pub view_of : Asked → View
@@ -61,30 +63,36 @@ pub record AreKept {S : Type 0} (keeps : S → Files → Type 0) (shelf : S) (im
   pub each : AllByRecursion (λ i. files (file_name i.name) ≡ Some i.file) images
 
 -- Entries over a shelf stand for images: each shows its image, and the shelf keeps their files.
-pub record Stands {S : Type 0} (keeps : S → Files → Type 0) (entries : List Entry) (shelf : S) (images : List Image) : Type 0 where
+pub record StandForImages {S : Type 0} (keeps : S → Files → Type 0) (entries : List Entry) (shelf : S)
+    (images : List Image) : Type 0 where
   pub shows : ShowImages entries images
   pub kept : AreKept keeps shelf images
 
 -- Between two states a failure of the shelf was counted; or the shelf gave under the name of the
 -- entry a file that has another digest, or parts, of which the last has another digest or length.
-abbrev pub Broke : {S : Type 0} → (S → ℕ) → (gave : S → List ℕ → List ℕ → S → Type 0) → (gave_at : S → List ℕ → ℕ → ℕ → List ℕ → S → Type 0)
+abbrev pub Broke : {S : Type 0} → (S → ℕ) → (gave : S → List ℕ → List ℕ → S → Type 0)
+    → (gave_at : S → List ℕ → ℕ → ℕ → List ℕ → S → Type 0)
     → List Entry → S → List ℕ → S → Type 0
 Broke failed gave gave_at entries old n new =
     (failed new ≡ min (failed old + 1) last_count)
     ⊎ ((e : Entry) × (entry_of entries n ≡ Some e) × (IsOtherFile gave e old new ⊎ IsOtherPart gave_at e old new))
 
--- Between two states the shelf gave this file under the name of the entry, and it has the entry's digest.
+-- Between two states the shelf gave this file under the name of the entry, and it has the entry's
+-- digest.
 abbrev pub Reads : {S : Type 0} → (S → List ℕ → List ℕ → S → Type 0) → List Entry → S → List ℕ → List ℕ → S → Type 0
 Reads gave entries old n file new = (e : Entry) × (entry_of entries n ≡ Some e) × IsFileOf gave e old file new
 
 -- Between two states the shelf gave parts of the file of the entry of a name, each with its digest,
 -- and the window is cut of them.
-abbrev pub Cuts : {S : Type 0} → (gave_at : S → List ℕ → ℕ → ℕ → List ℕ → S → Type 0) → List Entry → S → List ℕ → Asked → S → List ℕ → Type 0
+abbrev pub Cuts : {S : Type 0} → (gave_at : S → List ℕ → ℕ → ℕ → List ℕ → S → Type 0) → List Entry → S → List ℕ → Asked
+    → S → List ℕ → Type 0
 Cuts gave_at entries old n asked new cut =
-    (e : Entry) × (given : List GivenPart) × (entry_of entries n ≡ Some e) × ReadsParts gave_at e old given new × IsCutOfParts e.index (view_of asked) given cut
+    (e : Entry) × (given : List GivenPart) × (entry_of entries n ≡ Some e) × ReadsParts gave_at e old given new
+    × IsCutOfParts e.index (view_of asked) given cut
 
 -- Such a cut may have been made for the entry of a name: of some parts with the digests of the
 -- entry's.
 abbrev pub MayBeMade : List Entry → List ℕ → Asked → List ℕ → Type 0
 MayBeMade entries n asked cut =
-    (e : Entry) × (given : List GivenPart) × (entry_of entries n ≡ Some e) × ArePartsOf e given × IsCutOfParts e.index (view_of asked) given cut
+    (e : Entry) × (given : List GivenPart) × (entry_of entries n ≡ Some e) × ArePartsOf e given
+    × IsCutOfParts e.index (view_of asked) given cut

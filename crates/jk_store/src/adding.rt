@@ -1,6 +1,7 @@
 //! Adding an image to an archive.
 
-ghost use Rattle.std.specs.Prelude.{◌≡◌, ◌≤◌, ◌<◌, ◌⊎◌, ◌++◌, ◌∷◌, [], ℕ, List, true, false, map, length, Ok, Err, IfOk, IfErr, OnOk, OnErr};
+ghost use Rattle.std.specs.Prelude.{◌≡◌, ◌≤◌, ◌<◌, ◌⊎◌, ◌++◌, ◌∷◌, [], ℕ, List, true, false, map, length, Ok, Err};
+ghost use Rattle.std.specs.Prelude.{IfOk, IfErr, OnOk, OnErr};
 ghost use Rattle.std.specs.String.{string_bytes};
 ghost use Rattle.std.specs.Arc.{arc_value};
 ghost use Rattle.jk_math.specs.Answer.{Answers};
@@ -15,7 +16,7 @@ ghost use Rattle.jk_store.specs.Names.{is_good_name, file_name, temporary_name};
 ghost use Rattle.jk_store.specs.Counting.{Counts};
 ghost use Rattle.jk_store.specs.Catalogue.{is_listed, image_at, most_entries, StandsFor, stored, Passes};
 ghost use Rattle.jk_store.specs.Adding.{judged, IsLeft, IsUnstored};
-ghost use Rattle.jk_store.specs.Showing.{ShowImages, Stands, MayBeMade};
+ghost use Rattle.jk_store.specs.Showing.{ShowImages, StandForImages, MayBeMade};
 ghost use Rattle.jk_web.specs.Images.{Image as Shown};
 ghost use Rattle.jk_web.specs.Cuts.{Within};
 ghost use Rattle.std.specs.Str.{bytes_eq};
@@ -60,7 +61,8 @@ fn is_listed(entries: &[Arc<Entry>], name: &str) -> bool
 
 /// Whether an image may be added.
 ///
-/// The first of these: BadName; NameTaken; Limit where there are 4,096 images; BadParameters, also for a bare codestream.
+/// The first of these: BadName; NameTaken; Limit where there are 4,096 images; BadParameters, also
+/// for a bare codestream.
 #[tactic(auto, unfolding(crate::specs::Adding::judged))]
 fn judge(
     entries: &[Arc<Entry>],
@@ -137,12 +139,20 @@ fn prepare(
 /// Writes a file under its temporary name, and then gives it its own.
 fn store<S: Shelf>(alloc: Global, shelf: &mut S, made: &Prepared) -> Result<(), Fault>
     ensures ok { (files : Files) → S.keeps shelf.old files
-        → OnOk result (S.keeps shelf.new (with_file (string_bytes made.now.file) made.now.bytes.items (without (string_bytes made.now.temporary) files))) }
+        → OnOk result
+        (S.keeps shelf.new
+        (with_file (string_bytes made.now.file) made.now.bytes.items
+        (without (string_bytes made.now.temporary) files))) }
     // Of other files nothing is lost, whatever it answers.
-    ensures left { bytes_eq (string_bytes made.now.temporary) (string_bytes made.now.file) ≡ false → (files : Files) → S.keeps shelf.old files
+    ensures left { bytes_eq (string_bytes made.now.temporary) (string_bytes made.now.file) ≡ false → (files : Files)
+        → S.keeps shelf.old files
         → IfErr result (λ e. (left : Files) × S.keeps shelf.new left
-        × IsLeft (string_bytes made.now.temporary) (string_bytes made.now.file) (Ok made.now.bytes.items) e files left) }
-    ensures cause { IfErr result (λ e. e ≡ ShelfFault → IsUnstored S.unwritten S.unrenamed (string_bytes made.now.temporary) (string_bytes made.now.file) shelf.old shelf.new) }
+        × IsLeft (string_bytes made.now.temporary) (string_bytes made.now.file)
+        (Ok made.now.bytes.items) e files left) }
+    ensures cause { IfErr result
+        (λ e. e ≡ ShelfFault
+        → IsUnstored S.unwritten S.unrenamed (string_bytes made.now.temporary)
+        (string_bytes made.now.file) shelf.old shelf.new) }
     ensures counts { Counts result (S.failed shelf.old) (S.failed shelf.new) }
 {
     shelf.write(alloc, made.temporary.as_str(), &made.bytes)?;
@@ -152,8 +162,9 @@ fn store<S: Shelf>(alloc: Global, shelf: &mut S, made: &Prepared) -> Result<(), 
 impl<S: Shelf> Archive<S> {
     /// Adds an image: its JP2 file is written to the shelf, and then it is listed.
     ///
-    /// The first of these: BadName; NameTaken; Limit where 4,096 images are listed; BadParameters, also for a bare codestream;
-    /// Limit for a tile-part that is too long; Shelf. After a refusal the list is as before, and the temporary file may stand.
+    /// The first of these: BadName; NameTaken; Limit where 4,096 images are listed; BadParameters,
+    /// also for a bare codestream; Limit for a tile-part that is too long; Shelf. After a refusal
+    /// the list is as before, and the temporary file may stand.
     pub fn add(
         &mut self,
         alloc: Global,
@@ -161,31 +172,45 @@ impl<S: Shelf> Archive<S> {
         image: &Image,
         parameters: &Parameters,
     ) -> Result<Arc<Entry>, Fault>
-        ensures judged { (e : Fault) → judged (map arc_value self.old.entries.items) name.now image.now parameters.now ≡ Err e
+        ensures judged { (e : Fault)
+            → judged (map arc_value self.old.entries.items) name.now image.now parameters.now ≡ Err e
             → (result ≡ Err e) × (self.new.shelf ≡ self.old.shelf) }
-        ensures allowed { OnOk result (judged (map arc_value self.old.entries.items) name.now image.now parameters.now ≡ Ok tt) }
+        ensures allowed { OnOk result
+            (judged (map arc_value self.old.entries.items) name.now image.now parameters.now ≡ Ok tt) }
         // The list grows by one entry, which stands for the file of the image.
-        ensures listed { IfOk result (λ e. map arc_value self.new.entries.items ≡ map arc_value self.old.entries.items ++ arc_value e ∷ []) }
+        ensures listed { IfOk result
+            (λ e. map arc_value self.new.entries.items ≡ map arc_value self.old.entries.items ++ arc_value e ∷ []) }
         ensures stands { IfOk result (λ e. (file : List ℕ) × (written image.now parameters.now ≡ Ok file)
             × StandsFor (arc_value e) (stored name.now file)) }
         // The shelf keeps the file, and what it kept.
-        ensures holds { (files : Files) (file : List ℕ) → S.keeps self.old.shelf files → written image.now parameters.now ≡ Ok file
-            → OnOk result (S.keeps self.new.shelf (with_file (file_name name.now) file (without (temporary_name name.now) files))) }
+        ensures holds { (files : Files) (file : List ℕ) → S.keeps self.old.shelf files
+            → written image.now parameters.now ≡ Ok file
+            → OnOk result
+            (S.keeps self.new.shelf
+            (with_file (file_name name.now) file (without (temporary_name name.now) files))) }
         // What the archive stood for it stands for, with one image more.
         ensures shows { (images : List Shown) → ShowImages (map arc_value self.old.entries.items) images
             → IfOk result (λ e. (i : Shown) × ShowImages (map arc_value self.new.entries.items) (images ++ i ∷ [])
             × (i.name ≡ name.now) × (written image.now parameters.now ≡ Ok i.file)) }
-        ensures keeps { (images : List Shown) → Stands S.keeps (map arc_value self.old.entries.items) self.old.shelf images
-            → IfOk result (λ e. (i : Shown) × Stands S.keeps (map arc_value self.new.entries.items) self.new.shelf (images ++ i ∷ [])
+        ensures keeps { (images : List Shown)
+            → StandForImages S.keeps (map arc_value self.old.entries.items) self.old.shelf images
+            → IfOk result
+            (λ e. (i : Shown)
+            × StandForImages S.keeps (map arc_value self.new.entries.items) self.new.shelf (images ++ i ∷ [])
             × (i.name ≡ name.now) × (written image.now parameters.now ≡ Ok i.file)) }
         // What may have been made of its images still may.
-        ensures made { Within (MayBeMade (map arc_value self.old.entries.items)) (MayBeMade (map arc_value self.new.entries.items)) }
-        // After a refusal the list is as before, and of files all but the temporary one of this name are.
+        ensures made { Within (MayBeMade (map arc_value self.old.entries.items))
+            (MayBeMade (map arc_value self.new.entries.items)) }
+        // After a refusal the list is as before, and of files all but the temporary one of this
+        // name are.
         ensures err { OnErr result (self.new.entries.items ≡ self.old.entries.items) }
-        ensures left { (files : Files) → S.keeps self.old.shelf files → IfErr result (λ e. (left : Files) × S.keeps self.new.shelf left
+        ensures left { (files : Files) → S.keeps self.old.shelf files
+            → IfErr result (λ e. (left : Files) × S.keeps self.new.shelf left
             × IsLeft (temporary_name name.now) (file_name name.now) (written image.now parameters.now) e files left) }
         ensures skipped { self.new.skipped ≡ self.old.skipped }
-        ensures counts { Passes (λ e. IsMemory e ⊎ (judged (map arc_value self.old.entries.items) name.now image.now parameters.now ≡ Err e) ⊎ (written image.now parameters.now ≡ Err e))
+        ensures counts { Passes
+            (λ e. IsMemory e ⊎ (judged (map arc_value self.old.entries.items) name.now image.now parameters.now ≡ Err e)
+            ⊎ (written image.now parameters.now ≡ Err e))
             result (S.failed self.old.shelf) (S.failed self.new.shelf) }
     {
         judge(&self.entries, name, image, parameters)?;

@@ -1,6 +1,7 @@
 //! An archive of images on a shelf.
 
-ghost use Rattle.std.specs.Prelude.{◌≡◌, ◌≤◌, ◌⊎◌, ℕ, List, true, map, length, Option, Some, None, Ok, Err, IfOk, OnOk, IsSome};
+ghost use Rattle.std.specs.Prelude.{◌≡◌, ◌≤◌, ◌⊎◌, ℕ, List, true, map, length, Option, Some, None, Ok, Err, IfOk, OnOk};
+ghost use Rattle.std.specs.Prelude.{IsSome};
 ghost use Rattle.std.specs.Option.{option_map};
 ghost use Rattle.std.specs.String.{string_bytes};
 ghost use Rattle.std.specs.Arc.{arc_value};
@@ -11,7 +12,8 @@ ghost use Rattle.jk_window.specs.Indexing.{IsIndexOf};
 ghost use Rattle.jk_window.specs.Cutting.{cut_file};
 ghost use Rattle.jk_store.specs.Files.{Files};
 ghost use Rattle.jk_store.specs.Names.{file_name};
-ghost use Rattle.jk_store.specs.Catalogue.{entry_of, are_named, most_entries, IsFileOf, IsOtherFile, IsCutFrom, IsWindowGiven, WasForeign, Passes};
+ghost use Rattle.jk_store.specs.Catalogue.{entry_of, are_named, most_entries, IsFileOf, IsOtherFile, IsCutFrom};
+ghost use Rattle.jk_store.specs.Catalogue.{IsWindowGiven, WasForeign, Passes};
 ghost use Rattle.jk_store.specs.declared.entry.Entry.{Entry as EntryFields};
 
 use crate::entry::Entry;
@@ -96,14 +98,16 @@ impl<S: Shelf> Archive<S> {
         ensures given { (e : EntryFields) → entry_of (map arc_value self.old.entries.items) name.now ≡ Some e
             → IfOk result (λ f. IsFileOf S.gave e self.old.shelf f.items self.new.shelf) }
         ensures same { (e : EntryFields) → entry_of (map arc_value self.old.entries.items) name.now ≡ Some e
-            → (files : Files) (b : List ℕ) → S.keeps self.old.shelf files → files (file_name (string_bytes e.name)) ≡ Some b
+            → (files : Files) (b : List ℕ) → S.keeps self.old.shelf files
+            → files (file_name (string_bytes e.name)) ≡ Some b
             → IfOk result (λ f. f.items ≡ b) }
         ensures changed { (e : EntryFields) → entry_of (map arc_value self.old.entries.items) name.now ≡ Some e
             → result ≡ Err Fault.Changed → IsOtherFile S.gave e self.old.shelf self.new.shelf }
         ensures list { self.new.entries ≡ self.old.entries }
         ensures skipped { self.new.skipped ≡ self.old.skipped }
         ensures kept { (files : Files) → S.keeps self.old.shelf files → S.keeps self.new.shelf files }
-        ensures counts { Passes (λ e. IsMemory e ⊎ (e ≡ NoSuchImage) ⊎ (e ≡ Changed)) result (S.failed self.old.shelf) (S.failed self.new.shelf) }
+        ensures counts { Passes (λ e. IsMemory e ⊎ (e ≡ NoSuchImage) ⊎ (e ≡ Changed)) result (S.failed self.old.shelf)
+            (S.failed self.new.shelf) }
     {
         match find_named(&self.entries, name) {
             Some(entry) => entry.whole(alloc, &mut self.shelf),
@@ -119,14 +123,18 @@ impl<S: Shelf> Archive<S> {
             → (result ≡ Err Fault.NoSuchImage) × (self.new.shelf ≡ self.old.shelf) }
         ensures present { OnOk result (IsSome (entry_of (map arc_value self.old.entries.items) name.now)) }
         ensures given { (e : EntryFields) → entry_of (map arc_value self.old.entries.items) name.now ≡ Some e
-            → IfOk result (λ w. (f : List ℕ) × IsFileOf S.gave e self.old.shelf f self.new.shelf × IsCutFrom e.index view f w.items) }
+            → IfOk result
+            (λ w. (f : List ℕ) × IsFileOf S.gave e self.old.shelf f self.new.shelf
+            × IsCutFrom e.index view f w.items) }
         ensures same { (e : EntryFields) → entry_of (map arc_value self.old.entries.items) name.now ≡ Some e
-            → (files : Files) (b : List ℕ) → S.keeps self.old.shelf files → files (file_name (string_bytes e.name)) ≡ Some b
+            → (files : Files) (b : List ℕ) → S.keeps self.old.shelf files
+            → files (file_name (string_bytes e.name)) ≡ Some b
             → (is : IsIndexOf b e.index) → IsWindowGiven (cut_file is view) result }
         ensures seen { (e : EntryFields) → entry_of (map arc_value self.old.entries.items) name.now ≡ Some e
             → OnOk result (HasWindow e.index.headers view) }
         ensures unseen { (e : EntryFields) → entry_of (map arc_value self.old.entries.items) name.now ≡ Some e
-            → (HasWindow e.index.headers view → ⊥) → (result ≡ Err Fault.BadWindow) × (self.new.shelf ≡ self.old.shelf) }
+            → (HasWindow e.index.headers view → ⊥)
+            → (result ≡ Err Fault.BadWindow) × (self.new.shelf ≡ self.old.shelf) }
         ensures bad { (e : EntryFields) → entry_of (map arc_value self.old.entries.items) name.now ≡ Some e
             → result ≡ Err Fault.BadWindow → HasWindow e.index.headers view → ⊥ }
         ensures changed { (e : EntryFields) → entry_of (map arc_value self.old.entries.items) name.now ≡ Some e
@@ -135,7 +143,8 @@ impl<S: Shelf> Archive<S> {
         ensures list { self.new.entries ≡ self.old.entries }
         ensures skipped { self.new.skipped ≡ self.old.skipped }
         ensures kept { (files : Files) → S.keeps self.old.shelf files → S.keeps self.new.shelf files }
-        ensures counts { Passes (λ e. IsMemory e ⊎ (e ≡ NoSuchImage) ⊎ (e ≡ BadWindow) ⊎ (e ≡ Changed)) result (S.failed self.old.shelf) (S.failed self.new.shelf) }
+        ensures counts { Passes (λ e. IsMemory e ⊎ (e ≡ NoSuchImage) ⊎ (e ≡ BadWindow) ⊎ (e ≡ Changed)) result
+            (S.failed self.old.shelf) (S.failed self.new.shelf) }
     {
         match find_named(&self.entries, name) {
             Some(entry) => entry.window(alloc, &mut self.shelf, view),

@@ -19,7 +19,8 @@ pub(crate) fn assemble<S: Shelf>(
     plan: &CutPlan,
 ) -> Result<Vec<u8>, Fault>
     requires { plan.now.size ≡ size_of entry.now }
-    ensures read { IfOk result (λ v. (given : List GivenPart) × PartsRead S.keeps S.gave_at S.failed entry.now shelf.old given shelf.new
+    ensures read { IfOk result
+        (λ v. (given : List GivenPart) × PartsRead S.keeps S.gave_at S.failed entry.now shelf.old given shelf.new
         × ((f : List ℕ) → HasParts given f → v.items ≡ plan_text f plan.now)) }
     ensures refused { IfErr result (λ x. PartsRefused S.keeps S.gave_at S.failed entry.now shelf.old x shelf.new) }
 {

@@ -10,7 +10,8 @@ ghost use Rattle.jk_window.specs.Indexing.{IsIndexOf};
 ghost use Rattle.jk_window.specs.Cutting.{cut_file};
 ghost use Rattle.jk_store.specs.Files.{Files};
 ghost use Rattle.jk_store.specs.Names.{file_name};
-ghost use Rattle.jk_store.specs.Catalogue.{IsFileOf, IsOtherFile, IsCutFrom, IsWindowGiven, WasForeign, Passes, StandsFor, stored};
+ghost use Rattle.jk_store.specs.Catalogue.{IsFileOf, IsOtherFile, IsCutFrom, IsWindowGiven, WasForeign, Passes};
+ghost use Rattle.jk_store.specs.Catalogue.{StandsFor, stored};
 ghost use Rattle.jk_store.specs.PartsGiven.{GivenPart, ReadsParts, IsOtherPart, IsCutOfParts, AreKnownByDigest};
 
 use crate::assembling::assemble;
@@ -46,7 +47,8 @@ impl Entry {
     pub fn whole<S: Shelf>(&self, alloc: Global, shelf: &mut S) -> Result<Vec<u8>, Fault>
         ensures given { IfOk result (λ f. IsFileOf S.gave self.now shelf.old f.items shelf.new) }
         // A file that the shelf keeps under the name is what is given.
-        ensures same { (files : Files) (b : List ℕ) → S.keeps shelf.old files → files (file_name (string_bytes self.now.name)) ≡ Some b
+        ensures same { (files : Files) (b : List ℕ) → S.keeps shelf.old files
+            → files (file_name (string_bytes self.now.name)) ≡ Some b
             → IfOk result (λ f. f.items ≡ b) }
         ensures changed { result ≡ Err Fault.Changed → IsOtherFile S.gave self.now shelf.old shelf.new }
         ensures kept { (files : Files) → S.keeps shelf.old files → S.keeps shelf.new files }
@@ -62,27 +64,32 @@ impl Entry {
 
     /// The file of a window of the image, as `jk_code::window` makes it.
     ///
-    /// BadWindow: the view has no window, which is judged before the shelf is read. Changed: as `whole`, and where the index
-    /// isn't that of the file.
+    /// BadWindow: the view has no window, which is judged before the shelf is read. Changed: as
+    /// `whole`, and where the index isn't that of the file.
     pub fn window<S: Shelf>(
         &self,
         alloc: Global,
         shelf: &mut S,
         view: View,
     ) -> Result<Vec<u8>, Fault>
-        ensures given { IfOk result (λ w. (f : List ℕ) × IsFileOf S.gave self.now shelf.old f shelf.new × IsCutFrom self.now.index view f w.items) }
+        ensures given { IfOk result
+            (λ w. (f : List ℕ) × IsFileOf S.gave self.now shelf.old f shelf.new
+            × IsCutFrom self.now.index view f w.items) }
         ensures seen { OnOk result (HasWindow self.now.index.headers view) }
         // Of a file that the shelf keeps under the name it is the window.
-        ensures same { (files : Files) (b : List ℕ) → S.keeps shelf.old files → files (file_name (string_bytes self.now.name)) ≡ Some b
+        ensures same { (files : Files) (b : List ℕ) → S.keeps shelf.old files
+            → files (file_name (string_bytes self.now.name)) ≡ Some b
             → (is : IsIndexOf b self.now.index) → IsWindowGiven (cut_file is view) result }
         // Where the view has no window, that is the answer, and the shelf isn't read.
-        ensures unseen { (HasWindow self.now.index.headers view → ⊥) → (result ≡ Err Fault.BadWindow) × (shelf.new ≡ shelf.old) }
+        ensures unseen { (HasWindow self.now.index.headers view → ⊥)
+            → (result ≡ Err Fault.BadWindow) × (shelf.new ≡ shelf.old) }
         // No other BadWindow is answered.
         ensures bad { result ≡ Err Fault.BadWindow → HasWindow self.now.index.headers view → ⊥ }
         ensures changed { result ≡ Err Fault.Changed → IsOtherFile S.gave self.now shelf.old shelf.new
             ⊎ WasForeign S.gave self.now shelf.old shelf.new }
         ensures kept { (files : Files) → S.keeps shelf.old files → S.keeps shelf.new files }
-        ensures counts { Passes (λ e. IsMemory e ⊎ (e ≡ BadWindow) ⊎ (e ≡ Changed)) result (S.failed shelf.old) (S.failed shelf.new) }
+        ensures counts { Passes (λ e. IsMemory e ⊎ (e ≡ BadWindow) ⊎ (e ≡ Changed)) result (S.failed shelf.old)
+            (S.failed shelf.new) }
     {
         self.index.sees(view)?;
         let file = self.whole(alloc, shelf)?;
@@ -103,27 +110,33 @@ impl Entry {
     ) -> Result<Vec<u8>, Fault>
         // The shelf gave parts, each with its digest; and of each file that has these parts, and of
         // which the index is, it is the window.
-        ensures given { IfOk result (λ w. (given : List GivenPart) × ReadsParts S.gave_at self.now shelf.old given shelf.new
+        ensures given { IfOk result
+            (λ w. (given : List GivenPart) × ReadsParts S.gave_at self.now shelf.old given shelf.new
             × IsCutOfParts self.now.index view given w.items) }
         // It is the window of the file of which the entry was made, if each part that was given and
         // has the digest of that file's part is that part.
-        ensures judged { (f : List ℕ) → StandsFor self.now (stored (string_bytes self.now.name) f) → (is : IsIndexOf f self.now.index)
+        ensures judged { (f : List ℕ) → StandsFor self.now (stored (string_bytes self.now.name) f)
+            → (is : IsIndexOf f self.now.index)
             → IfOk result (λ w. (given : List GivenPart) × ReadsParts S.gave_at self.now shelf.old given shelf.new
             × (AreKnownByDigest f given → cut_file is view ≡ Ok w.items)) }
         ensures seen { OnOk result (HasWindow self.now.index.headers view) }
         // Of a file that the shelf keeps under the name it is the window.
-        ensures same { (files : Files) (b : List ℕ) → S.keeps shelf.old files → files (file_name (string_bytes self.now.name)) ≡ Some b
+        ensures same { (files : Files) (b : List ℕ) → S.keeps shelf.old files
+            → files (file_name (string_bytes self.now.name)) ≡ Some b
             → (is : IsIndexOf b self.now.index) → IsWindowGiven (cut_file is view) result }
         // Where that is the file of which the entry was made, it isn't told to have changed.
-        ensures steady { (files : Files) (b : List ℕ) → S.keeps shelf.old files → files (file_name (string_bytes self.now.name)) ≡ Some b
+        ensures steady { (files : Files) (b : List ℕ) → S.keeps shelf.old files
+            → files (file_name (string_bytes self.now.name)) ≡ Some b
             → StandsFor self.now (stored (string_bytes self.now.name) b) → result ≡ Err Fault.Changed → ⊥ }
         // Where the view has no window, that is the answer, and the shelf isn't read.
-        ensures unseen { (HasWindow self.now.index.headers view → ⊥) → (result ≡ Err Fault.BadWindow) × (shelf.new ≡ shelf.old) }
+        ensures unseen { (HasWindow self.now.index.headers view → ⊥)
+            → (result ≡ Err Fault.BadWindow) × (shelf.new ≡ shelf.old) }
         // No other BadWindow is answered.
         ensures bad { result ≡ Err Fault.BadWindow → HasWindow self.now.index.headers view → ⊥ }
         ensures changed { result ≡ Err Fault.Changed → IsOtherPart S.gave_at self.now shelf.old shelf.new }
         ensures kept { (files : Files) → S.keeps shelf.old files → S.keeps shelf.new files }
-        ensures counts { Passes (λ e. IsMemory e ⊎ (e ≡ BadWindow) ⊎ (e ≡ Changed)) result (S.failed shelf.old) (S.failed shelf.new) }
+        ensures counts { Passes (λ e. IsMemory e ⊎ (e ≡ BadWindow) ⊎ (e ≡ Changed)) result (S.failed shelf.old)
+            (S.failed shelf.new) }
     {
         let plan = plan(alloc, &self.index, view)?;
         assemble(alloc, self, shelf, &plan)

@@ -14,11 +14,13 @@ use std::alloc::Global;
 use std::io;
 use std::rt::Files;
 
-/// The files of a directory. A call fails where the system refuses it, and at a name that no file can have.
+/// The files of a directory. A call fails where the system refuses it, and at a name that no file
+/// can have.
 ///
-/// Its list has the files of images alone: regular files that can be opened, whose name is `NAME.jp2` with a good NAME. What else stands under
-/// such a name, and what was left while a file was written, it keeps to be told. What `write` and `rename` return behind is
-/// stored, as far as the system keeps its word: a file before its name.
+/// Its list has the files of images alone: regular files that can be opened, whose name is
+/// `NAME.jp2` with a good NAME. What else stands under such a name, and what was left while a file
+/// was written, it keeps to be told. What `write` and `rename` return behind is stored, as far as
+/// the system keeps its word: a file before its name.
 #[derive(Drop)]
 pub struct Folder<R> {
     rt: R,
@@ -65,8 +67,8 @@ impl<R: Files + Drop> Folder<R> {
         })
     }
 
-    /// What the last listing left out: what stands under the name of an image's file and can't be opened as a file, each with
-    /// what the system said.
+    /// What the last listing left out: what stands under the name of an image's file and can't be
+    /// opened as a file, each with what the system said.
     pub fn others(&self) -> &[Other] {
         &self.others
     }
@@ -76,7 +78,8 @@ impl<R: Files + Drop> Folder<R> {
         &self.left
     }
 
-    /// The name at which the last call failed, empty for the directory itself, and what the system said.
+    /// The name at which the last call failed, empty for the directory itself, and what the system
+    /// said.
     pub fn trouble(&self) -> Option<&Other> {
         self.trouble.as_ref()
     }
@@ -101,7 +104,8 @@ impl<R: Files + Drop> Folder<R> {
         }
     }
 
-    /// Keeps what the system said of a name. Where there is no memory for the name, it is kept without.
+    /// Keeps what the system said of a name. Where there is no memory for the name, it is kept
+    /// without.
     fn note(&mut self, alloc: Global, name: &str, said: io::Error)
         ensures { self.new.failures ≡ self.old.failures }
     {

@@ -14,24 +14,29 @@ use crate::shelf::Shelf;
 use jk_math::Fault;
 use std::alloc::Global;
 
-/// Judges the name of an image that is to be added to the archive of a shelf, by the names of its files alone: no file is
-/// read. Answers true where these are the names of fewer than 4,096 images, and none of them is this: then an image is judged
-/// beside all that are listed as it is where nothing is. Answers false where there may be 4,096 images: then only opening the
-/// archive tells whether one more may be added.
+/// Judges the name of an image that is to be added to the archive of a shelf, by the names of its
+/// files alone: no file is read. Answers true where these are the names of fewer than 4,096 images,
+/// and none of them is this: then an image is judged beside all that are listed as it is where
+/// nothing is. Answers false where there may be 4,096 images: then only opening the archive tells
+/// whether one more may be added.
 ///
-/// The first of these: Shelf where the names can't be listed; of fewer than 4,096 images BadName, and NameTaken where an
-/// image's file has the name, whether it would be listed or skipped.
+/// The first of these: Shelf where the names can't be listed; of fewer than 4,096 images BadName,
+/// and NameTaken where an image's file has the name, whether it would be listed or skipped.
 pub fn judge_name<S: Shelf>(alloc: Global, shelf: &mut S, name: &str) -> Result<bool, Fault>
     ensures free { IfOk result (λ few. few ≡ true → IsFree S.lists shelf.old name.now shelf.new) }
     // Adding to the archive of its images is judged as adding to one without images.
-    ensures alone { IfOk result (λ few. few ≡ true → (is : IsFree S.lists shelf.old name.now shelf.new) × JudgedAlone S.gave is.names name.now) }
+    ensures alone { IfOk result
+        (λ few. few ≡ true
+        → (is : IsFree S.lists shelf.old name.now shelf.new) × JudgedAlone S.gave is.names name.now) }
     ensures full { IfOk result (λ few. few ≡ false → IsFull S.lists shelf.old shelf.new) }
     ensures err { IfErr result (λ e. IsMemory e
         ⊎ ((e ≡ ShelfFault) × S.unlisted shelf.old shelf.new)
         ⊎ ((e ≡ BadName) × (is_good_name name.now ≡ false))
-        ⊎ ((e ≡ NameTaken) × ((files : List (List ℕ)) × S.lists shelf.old files shelf.new × (is_image name.now files ≡ true)))) }
+        ⊎ ((e ≡ NameTaken)
+        × ((files : List (List ℕ)) × S.lists shelf.old files shelf.new × (is_image name.now files ≡ true)))) }
     ensures kept { (files : Files) → S.keeps shelf.old files → S.keeps shelf.new files }
-    ensures counts { Passes (λ e. IsMemory e ⊎ (e ≡ BadName) ⊎ (e ≡ NameTaken)) result (S.failed shelf.old) (S.failed shelf.new) }
+    ensures counts { Passes (λ e. IsMemory e ⊎ (e ≡ BadName) ⊎ (e ≡ NameTaken)) result (S.failed shelf.old)
+        (S.failed shelf.new) }
 {
     let files = shelf.list(alloc)?;
     let taken = names::names_in(alloc, &files)?;

@@ -3,7 +3,8 @@
 ghost use Rattle.std.specs.Prelude.{◌≡◌, ℕ, List, [], take, drop, Some, None, IfOk, OnOk, OnErr, IfErr};
 ghost use Rattle.std.specs.Option.{option_map};
 ghost use Rattle.jk_math.specs.Memory.{IsMemory};
-ghost use Rattle.jk_store.specs.Memories.{Keeps, Gave, GaveAt, Lists, Unlisted, Unread, Unwritten, Unrenamed, HoldSame, HoldsInstead, held, names_of};
+ghost use Rattle.jk_store.specs.Memories.{KeepsFiles, Gave, GaveAt, Lists, Unlisted, Unread, Unwritten, Unrenamed, HoldSame};
+ghost use Rattle.jk_store.specs.Memories.{HoldsInstead, held, names_of};
 
 use crate::failures::Failures;
 use crate::shelf::Shelf;
@@ -59,7 +60,8 @@ impl MemoryShelf {
         start: u64,
         most: usize,
     ) -> Result<Option<Vec<u8>>, Fault>
-        ensures ok { IfOk result (λ o. option_map (λ v. v.items) o ≡ option_map (λ b. take most (drop start b)) (held self.now name.now)) }
+        ensures ok { IfOk result
+            (λ o. option_map (λ v. v.items) o ≡ option_map (λ b. take most (drop start b)) (held self.now name.now)) }
         ensures err { IfErr result IsMemory }
     {
         match self.files.get(name) {
@@ -89,7 +91,7 @@ impl MemoryShelf {
 }
 
 impl Shelf for MemoryShelf {
-    ghost keeps = { Keeps };
+    ghost keeps = { KeepsFiles };
 
     ghost gave = { Gave };
 

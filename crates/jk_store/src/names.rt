@@ -84,7 +84,8 @@ pub(crate) fn is_left_file(file: &str) -> bool {
 
 /// Puts the name of the image of which a file is among others.
 fn add_name(alloc: Global, names: &mut BTreeSet<String>, file: &str) -> Result<(), Fault>
-    ensures ok { OnOk result ((n : List ℕ) → contains_text names.new n ≡ (is_file_of n file.now || contains_text names.old n)) }
+    ensures ok { OnOk result
+        ((n : List ℕ) → contains_text names.new n ≡ (is_file_of n file.now || contains_text names.old n)) }
     ensures err { IfErr result IsMemory }
 {
     if let Some(name) = name_of(file) {

@@ -1,6 +1,7 @@
 //! Opening an archive.
 
-ghost use Rattle.std.specs.Prelude.{◌≡◌, ◌≤◌, ◌⊎◌, ℕ, List, map, length, true, false, Some, Ok, Err, [], All, IfOk, IfErr, OnOk};
+ghost use Rattle.std.specs.Prelude.{◌≡◌, ◌≤◌, ◌⊎◌, ℕ, List, map, length, true, false, Some, Ok, Err, [], All, IfOk};
+ghost use Rattle.std.specs.Prelude.{IfErr, OnOk};
 ghost use Rattle.std.specs.Arc.{arc_value};
 ghost use Rattle.std.specs.String.{string_bytes};
 ghost use Rattle.std.specs.BTreeSet.{keys};
@@ -12,12 +13,14 @@ ghost use Rattle.jk_math.specs.Memory.{IsMemory};
 ghost use Rattle.jk_math.specs.declared.fault.Fault.TheVariants.{Limit, Shelf as ShelfFault};
 ghost use Rattle.jk_window.specs.Indexing.{IndexFields, IsIndexOf};
 ghost use Rattle.jk_web.specs.Images.{Image, names_of};
-ghost use Rattle.jk_web.specs.Places.{IsSegment};
+ghost use Rattle.jk_web.specs.Resources.{IsSegment};
 ghost use Rattle.jk_store.specs.Files.{Files, AreIn};
 ghost use Rattle.jk_store.specs.Names.{file_name, is_good_name};
-ghost use Rattle.jk_store.specs.Catalogue.{entry_of, image_at, are_named, most_entries, StandsFor, StandIn, stored, Passes};
-ghost use Rattle.jk_store.specs.Showing.{ShowImages, Stands};
-ghost use Rattle.jk_store.specs.Opening.{IsLookedOf, Gives, Enters, Opened, ReadsPast, ReadsUpTo, OpensAs, OpensPast, OpensUpTo};
+ghost use Rattle.jk_store.specs.Catalogue.{entry_of, image_at, are_named, most_entries, StandsFor, StandIn, stored};
+ghost use Rattle.jk_store.specs.Catalogue.{Passes};
+ghost use Rattle.jk_store.specs.Showing.{ShowImages, StandForImages};
+ghost use Rattle.jk_store.specs.Opening.{IsLookedOf, Gives, Enters, Opened, ReadsPast, ReadsUpTo, OpensAs, OpensPast};
+ghost use Rattle.jk_store.specs.Opening.{OpensUpTo};
 ghost use Rattle.jk_store.specs.declared.entry.Entry.{Entry as EntryFields};
 
 use crate::adding::MOST_ENTRIES;
@@ -66,10 +69,13 @@ pub(crate) fn image_index(alloc: Global, bytes: &[u8]) -> Result<Index, Fault>
     Ok(index)
 }
 
-/// Reads the file of a name, and says what becomes of it. Whatever it answers, the shelf keeps what it kept.
+/// Reads the file of a name, and says what becomes of it. Whatever it answers, the shelf keeps what
+/// it kept.
 #[tactic(auto, using(crate::proofs::Indexed::due_fault))]
 fn look<S: Shelf>(alloc: Global, shelf: &mut S, name: &str) -> Result<Looked, Fault>
-    ensures given { IfOk result (λ r. (bytes : List ℕ) × Gives S.keeps S.gave shelf.old (file_name name.now) bytes shelf.new × IsLookedOf name.now bytes r) }
+    ensures given { IfOk result
+        (λ r. (bytes : List ℕ) × Gives S.keeps S.gave shelf.old (file_name name.now) bytes shelf.new
+        × IsLookedOf name.now bytes r) }
     ensures cause { IfErr result (λ e. e ≡ ShelfFault → S.unread shelf.old (file_name name.now) shelf.new) }
     ensures kept { (files : Files) → S.keeps shelf.old files → S.keeps shelf.new files }
     ensures counts { Passes IsMemory result (S.failed shelf.old) (S.failed shelf.new) }
@@ -93,7 +99,8 @@ fn look<S: Shelf>(alloc: Global, shelf: &mut S, name: &str) -> Result<Looked, Fa
     }
 }
 
-/// Reads the file of a name, and lists or skips it. Whatever it answers, the shelf keeps what it kept.
+/// Reads the file of a name, and lists or skips it. Whatever it answers, the shelf keeps what it
+/// kept.
 ///
 /// Limit: 4,096 images are listed, and this would be one more.
 fn enter<S: Shelf>(
@@ -104,10 +111,12 @@ fn enter<S: Shelf>(
     skipped: &mut Vec<Skipped>,
 ) -> Result<(), Fault>
     ensures given { OnOk result ((bytes : List ℕ) × Gives S.keeps S.gave shelf.old (file_name name.now) bytes shelf.new
-        × Enters name.now bytes (map arc_value entries.old.items) (map arc_value entries.new.items) skipped.old.items skipped.new.items) }
+        × Enters name.now bytes (map arc_value entries.old.items)
+        (map arc_value entries.new.items) skipped.old.items skipped.new.items) }
     ensures few { length entries.old.items ≤ most_entries → OnOk result (length entries.new.items ≤ most_entries) }
     ensures full { result ≡ Err Limit → (most_entries ≤ length entries.old.items)
-        × ((bytes : List ℕ) × (e : EntryFields) × Gives S.keeps S.gave shelf.old (file_name name.now) bytes shelf.new × StandsFor e (stored name.now bytes)) }
+        × ((bytes : List ℕ) × (e : EntryFields) × Gives S.keeps S.gave shelf.old (file_name name.now) bytes shelf.new
+        × StandsFor e (stored name.now bytes)) }
     ensures cause { IfErr result (λ e. e ≡ ShelfFault → S.unread shelf.old (file_name name.now) shelf.new) }
     ensures kept { (files : Files) → S.keeps shelf.old files → S.keeps shelf.new files }
     ensures counts { Passes (λ e. IsMemory e ⊎ (e ≡ Limit)) result (S.failed shelf.old) (S.failed shelf.new) }
@@ -131,7 +140,8 @@ struct Made {
     skipped: Vec<Skipped>,
 }
 
-/// Reads the files of some names, in their order. Whatever it answers, the shelf keeps what it kept.
+/// Reads the files of some names, in their order. Whatever it answers, the shelf keeps what it
+/// kept.
 ///
 /// Limit: more than 4,096 of them would be listed.
 fn read_images<S: Shelf>(
@@ -144,7 +154,9 @@ fn read_images<S: Shelf>(
     ensures ordered { IsStrictlySortedBy (slice_cmp nat_cmp) (map string_bytes (keys names.now)) }
     ensures few { IfOk result (λ r. length r.entries.items ≤ most_entries) }
     ensures full { result ≡ Err Limit → ReadsPast (Gives S.keeps S.gave) (map string_bytes (keys names.now)) shelf.old }
-    ensures cause { IfErr result (λ e. e ≡ ShelfFault → ReadsUpTo (Gives S.keeps S.gave) S.unread (map string_bytes (keys names.now)) shelf.old) }
+    ensures cause { IfErr result
+        (λ e. e ≡ ShelfFault
+        → ReadsUpTo (Gives S.keeps S.gave) S.unread (map string_bytes (keys names.now)) shelf.old) }
     ensures kept { (files : Files) → S.keeps shelf.old files → S.keeps shelf.new files }
     ensures counts { Passes (λ e. IsMemory e ⊎ (e ≡ Limit)) result (S.failed shelf.old) (S.failed shelf.new) }
 {
@@ -180,24 +192,37 @@ impl Images {
 
     /// Reads the images of a shelf. Whatever it answers, the shelf keeps what it kept.
     ///
-    /// Files `NAME.jp2` with a good name are read in the order of their names. One that isn't a JP2 file with an index is skipped.
-    /// Limit: more than 4,096 images would be listed. Shelf: the shelf failed.
+    /// Files `NAME.jp2` with a good name are read in the order of their names. One that isn't a JP2
+    /// file with an index is skipped. Limit: more than 4,096 images would be listed. Shelf: the
+    /// shelf failed.
     pub fn read<S: Shelf>(alloc: Global, shelf: &mut S) -> Result<Images, Fault>
-        ensures opened { IfOk result (λ a. OpensAs S.lists S.gave shelf.old (map arc_value a.entries.items) a.skipped.items shelf.new) }
+        ensures opened { IfOk result
+            (λ a. OpensAs S.lists S.gave shelf.old (map arc_value a.entries.items) a.skipped.items shelf.new) }
         // An image whose file the shelf keeps is listed.
-        ensures found { (files : Files) (n b : List ℕ) (i : IndexFields) → S.keeps shelf.old files → is_good_name n ≡ true
+        ensures found { (files : Files) (n b : List ℕ) (i : IndexFields) → S.keeps shelf.old files
+            → is_good_name n ≡ true
             → files (file_name n) ≡ Some b → image_at b ≡ Ok i
-            → IfOk result (λ a. (e : EntryFields) × (entry_of (map arc_value a.entries.items) n ≡ Some e) × StandsFor e (stored n b)) }
+            → IfOk result
+            (λ a. (e : EntryFields) × (entry_of (map arc_value a.entries.items) n ≡ Some e)
+            × StandsFor e (stored n b)) }
         ensures kept { (files : Files) → S.keeps shelf.old files → S.keeps shelf.new files }
         // The shelf keeps a file for each entry, for which the entry stands.
         ensures stands { (files : Files) → S.keeps shelf.old files
-            → IfOk result (λ a. (all : Files) × S.keeps shelf.new all × AreIn files all × StandIn all (map arc_value a.entries.items)) }
+            → IfOk result
+            (λ a. (all : Files) × S.keeps shelf.new all × AreIn files all
+            × StandIn all (map arc_value a.entries.items)) }
         // The entries show images, whose names are segments of a path.
-        ensures shows { IfOk result (λ a. (images : List Image) × ShowImages (map arc_value a.entries.items) images × All IsSegment (names_of images)) }
+        ensures shows { IfOk result
+            (λ a. (images : List Image) × ShowImages (map arc_value a.entries.items) images
+            × All IsSegment (names_of images)) }
         // Of files that the shelf keeps, images whose files it keeps.
         ensures shown { (files : Files) → S.keeps shelf.old files
-            → IfOk result (λ a. (images : List Image) × Stands S.keeps (map arc_value a.entries.items) shelf.new images × All IsSegment (names_of images)) }
-        ensures err { IfErr result (λ e. IsMemory e ⊎ ((e ≡ ShelfFault) × OpensUpTo S.lists S.unlisted S.gave S.unread shelf.old) ⊎ ((e ≡ Limit) × OpensPast S.lists S.gave shelf.old)) }
+            → IfOk result
+            (λ a. (images : List Image) × StandForImages S.keeps (map arc_value a.entries.items) shelf.new images
+            × All IsSegment (names_of images)) }
+        ensures err { IfErr result
+            (λ e. IsMemory e ⊎ ((e ≡ ShelfFault) × OpensUpTo S.lists S.unlisted S.gave S.unread shelf.old)
+            ⊎ ((e ≡ Limit) × OpensPast S.lists S.gave shelf.old)) }
         ensures counts { Passes (λ e. IsMemory e ⊎ (e ≡ Limit)) result (S.failed shelf.old) (S.failed shelf.new) }
     {
         let files = shelf.list(alloc)?;
@@ -227,23 +252,35 @@ impl<S> Archive<S> {
 }
 
 impl<S: Shelf + Drop> Archive<S> {
-    /// The archive of the images on a shelf, as `Images::read` reads them. Where it is refused the shelf is given up.
+    /// The archive of the images on a shelf, as `Images::read` reads them. Where it is refused the
+    /// shelf is given up.
     pub fn open(alloc: Global, shelf: S) -> Result<Archive<S>, Fault>
-        ensures opened { IfOk result (λ a. OpensAs S.lists S.gave shelf (map arc_value a.entries.items) a.skipped.items a.shelf) }
+        ensures opened { IfOk result
+            (λ a. OpensAs S.lists S.gave shelf (map arc_value a.entries.items) a.skipped.items a.shelf) }
         // An image whose file the shelf keeps is listed.
         ensures found { (files : Files) (n b : List ℕ) (i : IndexFields) → S.keeps shelf files → is_good_name n ≡ true
             → files (file_name n) ≡ Some b → image_at b ≡ Ok i
-            → IfOk result (λ a. (e : EntryFields) × (entry_of (map arc_value a.entries.items) n ≡ Some e) × StandsFor e (stored n b)) }
+            → IfOk result
+            (λ a. (e : EntryFields) × (entry_of (map arc_value a.entries.items) n ≡ Some e)
+            × StandsFor e (stored n b)) }
         // The shelf keeps what it kept, and a file for each entry, for which the entry stands.
         ensures kept { (files : Files) → S.keeps shelf files → IfOk result (λ a. S.keeps a.shelf files) }
         ensures stands { (files : Files) → S.keeps shelf files
-            → IfOk result (λ a. (all : Files) × S.keeps a.shelf all × AreIn files all × StandIn all (map arc_value a.entries.items)) }
+            → IfOk result
+            (λ a. (all : Files) × S.keeps a.shelf all × AreIn files all
+            × StandIn all (map arc_value a.entries.items)) }
         // A server shows its entries: they show images, whose names are segments of a path.
-        ensures shows { IfOk result (λ a. (images : List Image) × ShowImages (map arc_value a.entries.items) images × All IsSegment (names_of images)) }
+        ensures shows { IfOk result
+            (λ a. (images : List Image) × ShowImages (map arc_value a.entries.items) images
+            × All IsSegment (names_of images)) }
         // Of files that the shelf keeps, images whose files it keeps.
         ensures shown { (files : Files) → S.keeps shelf files
-            → IfOk result (λ a. (images : List Image) × Stands S.keeps (map arc_value a.entries.items) a.shelf images × All IsSegment (names_of images)) }
-        ensures err { IfErr result (λ e. IsMemory e ⊎ ((e ≡ ShelfFault) × OpensUpTo S.lists S.unlisted S.gave S.unread shelf) ⊎ ((e ≡ Limit) × OpensPast S.lists S.gave shelf)) }
+            → IfOk result
+            (λ a. (images : List Image) × StandForImages S.keeps (map arc_value a.entries.items) a.shelf images
+            × All IsSegment (names_of images)) }
+        ensures err { IfErr result
+            (λ e. IsMemory e ⊎ ((e ≡ ShelfFault) × OpensUpTo S.lists S.unlisted S.gave S.unread shelf)
+            ⊎ ((e ≡ Limit) × OpensPast S.lists S.gave shelf)) }
         ensures counts { IfOk result (λ a. S.failed a.shelf ≡ S.failed shelf) }
     {
         let mut shelf = shelf;

@@ -4,7 +4,7 @@ ghost use Rattle.std.specs.Prelude.{◌≡◌, ◌<◌, ◌≤◌, ◌++◌, ◌
 ghost use Rattle.jk_math.specs.Memory.{IsMemory};
 ghost use Rattle.jk_walk.specs.TilePackets.{slice_of};
 ghost use Rattle.jk_store.specs.Parts.{part_length, part_count};
-ghost use Rattle.jk_store.specs.PartsGiven.{file_of, size_of, GivenPart, IsPartOf, HasParts, PartsRead, PartsRefused};
+ghost use Rattle.jk_store.specs.PartsGiven.{file_of, size_of, GivenPart, IsPartOfFile, HasParts, PartsRead, PartsRefused};
 ghost use Rattle.jk_store.specs.Readings.{IsReading, HoldsOf};
 
 use crate::entry::{Entry, has_digest};
@@ -44,8 +44,8 @@ impl Reading {
 /// Whether bytes pass for a part of an entry's file, which has so many.
 fn is_part(entry: &Entry, number: usize, length: usize, bytes: &[u8]) -> bool
     requires { length ≡ part_length (size_of entry.now) number }
-    ensures yes { result ≡ true → IsPartOf entry.now number bytes.now }
-    ensures no { result ≡ false → IsPartOf entry.now number bytes.now → ⊥ }
+    ensures yes { result ≡ true → IsPartOfFile entry.now number bytes.now }
+    ensures no { result ≡ false → IsPartOfFile entry.now number bytes.now → ⊥ }
 {
     match entry.parts.get(number) {
         Some(digest) => bytes.len() == length && has_digest(bytes, digest),
@@ -65,8 +65,9 @@ fn read_part<S: Shelf>(
 ) -> Result<Vec<u8>, Fault>
     requires reading { IsReading entry.now reading.now }
     requires there { number < part_count (size_of entry.now) }
-    ensures read { IfOk result (λ b. PartsRead S.keeps S.gave_at S.failed entry.now shelf.old ((number, b.items) ∷ []) shelf.new) }
-    ensures passes { IfOk result (λ b. IsPartOf entry.now number b.items) }
+    ensures read { IfOk result
+        (λ b. PartsRead S.keeps S.gave_at S.failed entry.now shelf.old ((number, b.items) ∷ []) shelf.new) }
+    ensures passes { IfOk result (λ b. IsPartOfFile entry.now number b.items) }
     ensures refused { IfErr result (λ x. PartsRefused S.keeps S.gave_at S.failed entry.now shelf.old x shelf.new) }
 {
     let size = reading.size;
@@ -92,7 +93,8 @@ fn hold<S: Shelf>(
     ensures reading { OnOk result (IsReading entry.now reading.new) }
     ensures number { OnOk result (reading.new.number ≡ number) }
     ensures whole { OnOk result (length reading.new.part.items ≡ part_length (size_of entry.now) number) }
-    ensures read { OnOk result ((given : List GivenPart) × PartsRead S.keeps S.gave_at S.failed entry.now shelf.old given shelf.new
+    ensures read { OnOk result
+        ((given : List GivenPart) × PartsRead S.keeps S.gave_at S.failed entry.now shelf.old given shelf.new
         × ((f : List ℕ) → HasParts given f → HoldsOf reading.old f → HoldsOf reading.new f)) }
     // A part that is held isn't read again.
     ensures unread { (reading.old.part.items ≡ [] → ⊥) → reading.old.number ≡ number → shelf.new ≡ shelf.old }
@@ -120,7 +122,8 @@ pub(crate) fn put_stretch<S: Shelf>(
     requires order { start ≤ end }
     requires within { end ≤ size_of entry.now }
     ensures reading { OnOk result (IsReading entry.now reading.new) }
-    ensures read { OnOk result ((given : List GivenPart) × PartsRead S.keeps S.gave_at S.failed entry.now shelf.old given shelf.new
+    ensures read { OnOk result
+        ((given : List GivenPart) × PartsRead S.keeps S.gave_at S.failed entry.now shelf.old given shelf.new
         × ((f : List ℕ) → HasParts given f → HoldsOf reading.old f
         → HoldsOf reading.new f × (out.new.items ≡ out.old.items ++ slice_of f (start, end)))) }
     ensures refused { IfErr result (λ x. PartsRefused S.keeps S.gave_at S.failed entry.now shelf.old x shelf.new) }

@@ -12,7 +12,8 @@ use std::alloc::Global;
 
 /// Files under names. Each call may answer Memory, or Shelf where it failed.
 ///
-/// Each answer Shelf counts one failure. At 2^64 - 1 the count stays, and every later call is Shelf.
+/// Each answer Shelf counts one failure. At 2^64 - 1 the count stays, and every later call is
+/// Shelf.
 pub trait Shelf {
     /// It holds these files under these names, and will give them.
     ghost keeps: { Self → Files → Type 0 };
@@ -36,7 +37,8 @@ pub trait Shelf {
     /// From the first state a write under that name may fail and leave the second.
     ghost unwritten: { Self → List ℕ → Self → Type 0 } = { λ _ _ _. Unit {0} };
 
-    /// From the first state the first name may fail to become the second, which leaves the second state.
+    /// From the first state the first name may fail to become the second, which leaves the second
+    /// state.
     ghost unrenamed: { Self → List ℕ → List ℕ → Self → Type 0 } = { λ _ _ _ _. Unit {0} };
 
     /// How many failures were counted.
@@ -50,7 +52,9 @@ pub trait Shelf {
         ensures found { (files : Files) (n b : List ℕ) → keeps self.old files → files n ≡ Some b
             → IfOk result (λ v. is_among n (map string_bytes v.items) ≡ true) }
         ensures only { (files : Files) (n : List ℕ) → keeps self.old files
-            → IfOk result (λ v. is_among n (map string_bytes v.items) ≡ true → (b : List ℕ) × keeps self.new (with_file n b files)) }
+            → IfOk result
+            (λ v. is_among n (map string_bytes v.items) ≡ true
+            → (b : List ℕ) × keeps self.new (with_file n b files)) }
         ensures cause { IfErr result (λ e. e ≡ ShelfFault → unlisted self.old self.new) }
         ensures counts { Counts result (failed self.old) (failed self.new) };
 
@@ -62,7 +66,8 @@ pub trait Shelf {
         ensures same { (files : Files) (b : List ℕ) → keeps self.old files → files name.now ≡ Some b
             → IfOk result (λ v. v.items ≡ b) }
         // And what it gives it keeps.
-        ensures held { (files : Files) → keeps self.old files → IfOk result (λ v. keeps self.new (with_file name.now v.items files)) }
+        ensures held { (files : Files) → keeps self.old files
+            → IfOk result (λ v. keeps self.new (with_file name.now v.items files)) }
         ensures cause { IfErr result (λ e. e ≡ ShelfFault → unread self.old name.now self.new) }
         ensures counts { Counts result (failed self.old) (failed self.new) };
 
@@ -84,20 +89,25 @@ pub trait Shelf {
 
     /// Creates a file, or replaces it. After a refusal the file may be there in part.
     fn write(&mut self, alloc: Global, name: &str, bytes: &[u8]) -> Result<(), Fault>
-        ensures ok { (files : Files) → keeps self.old files → OnOk result (keeps self.new (with_file name.now bytes.now files)) }
+        ensures ok { (files : Files) → keeps self.old files
+            → OnOk result (keeps self.new (with_file name.now bytes.now files)) }
         ensures others { (files : Files) → keeps self.old files → keeps self.new (without name.now files) }
         ensures cause { IfErr result (λ e. e ≡ ShelfFault → unwritten self.old name.now self.new) }
         ensures counts { Counts result (failed self.old) (failed self.new) };
 
-    /// Gives a file another name, and replaces what had it, in one step: after a refusal all is as before, or, after Shelf, the
-    /// file has its new name.
+    /// Gives a file another name, and replaces what had it, in one step: after a refusal all is as
+    /// before, or, after Shelf, the file has its new name.
     fn rename(&mut self, alloc: Global, from: &str, to: &str) -> Result<(), Fault>
         ensures ok { (files : Files) (b : List ℕ) → keeps self.old files → files from.now ≡ Some b
             → OnOk result (keeps self.new (with_file to.now b (without from.now files))) }
-        ensures others { (files : Files) → keeps self.old files → keeps self.new (without from.now (without to.now files)) }
+        ensures others { (files : Files) → keeps self.old files
+            → keeps self.new (without from.now (without to.now files)) }
         ensures whole { (files : Files) (b : List ℕ) → keeps self.old files → files from.now ≡ Some b
-            → IfErr result (λ e. keeps self.new files ⊎ ((e ≡ ShelfFault) × keeps self.new (with_file to.now b (without from.now files)))) }
-        ensures memory { (files : Files) → keeps self.old files → IfErr result (λ e. IsMemory e → keeps self.new files) }
+            → IfErr result
+            (λ e. keeps self.new files
+            ⊎ ((e ≡ ShelfFault) × keeps self.new (with_file to.now b (without from.now files)))) }
+        ensures memory { (files : Files) → keeps self.old files
+            → IfErr result (λ e. IsMemory e → keeps self.new files) }
         ensures cause { IfErr result (λ e. e ≡ ShelfFault → unrenamed self.old from.now to.now self.new) }
         ensures counts { Counts result (failed self.old) (failed self.new) };
 

@@ -5,7 +5,8 @@ ghost use Rattle.std.specs.List.{flat_map};
 ghost use Rattle.std.specs.Arc.{arc_value};
 ghost use Rattle.jk_math.specs.Memory.{IsMemory};
 ghost use Rattle.jk_web.specs.Images.{Image, image_of, IsFileOf, IsCutOf, IsFileGiven, IsCutGiven, HasNoCut, MayRefuse};
-ghost use Rattle.jk_store.specs.Showing.{line_of, number_text, view_of, ShowImages, AreKept, Broke, Reads, Cuts, MayBeMade};
+ghost use Rattle.jk_store.specs.Showing.{line_of, number_text, view_of, ShowImages, AreKept, Broke, Reads, Cuts};
+ghost use Rattle.jk_store.specs.Showing.{MayBeMade};
 
 use crate::archive::{Archive, find};
 use crate::entry::Entry;
@@ -73,9 +74,12 @@ fn whole_of<S: Shelf>(
     name: &[u8],
 ) -> Result<Vec<u8>, Fault>
     ensures gives { (images : List Image) → ShowImages (map arc_value entries.now) images → MatchResult result
-        (λ v. IsFileGiven (image_of name.now images) (Reads S.gave (map arc_value entries.now)) shelf.old name.now shelf.new v.items)
-        (λ e. MayRefuse (image_of name.now images) (Broke S.failed S.gave S.gave_at (map arc_value entries.now) shelf.old name.now shelf.new) ⊥ e) }
-    ensures same { (images : List Image) → ShowImages (map arc_value entries.now) images → AreKept S.keeps shelf.old images
+        (λ v. IsFileGiven (image_of name.now images)
+        (Reads S.gave (map arc_value entries.now)) shelf.old name.now shelf.new v.items)
+        (λ e. MayRefuse (image_of name.now images)
+        (Broke S.failed S.gave S.gave_at (map arc_value entries.now) shelf.old name.now shelf.new) ⊥ e) }
+    ensures same { (images : List Image) → ShowImages (map arc_value entries.now) images
+        → AreKept S.keeps shelf.old images
         → IfOk result (λ v. IsFileOf (image_of name.now images) v.items) }
     ensures keeps { (images : List Image) → AreKept S.keeps shelf.old images → AreKept S.keeps shelf.new images }
 {
@@ -94,10 +98,13 @@ fn window_of<S: Shelf>(
     asked: Asked,
 ) -> Result<Vec<u8>, Fault>
     ensures gives { (images : List Image) → ShowImages (map arc_value entries.now) images → MatchResult result
-        (λ v. IsCutGiven (image_of name.now images) asked (Cuts S.gave_at (map arc_value entries.now)) shelf.old name.now shelf.new v.items)
-        (λ e. MayRefuse (image_of name.now images) (Broke S.failed S.gave S.gave_at (map arc_value entries.now) shelf.old name.now shelf.new)
+        (λ v. IsCutGiven (image_of name.now images) asked
+        (Cuts S.gave_at (map arc_value entries.now)) shelf.old name.now shelf.new v.items)
+        (λ e. MayRefuse (image_of name.now images)
+        (Broke S.failed S.gave S.gave_at (map arc_value entries.now) shelf.old name.now shelf.new)
         (HasNoCut (image_of name.now images) asked) e) }
-    ensures same { (images : List Image) → ShowImages (map arc_value entries.now) images → AreKept S.keeps shelf.old images
+    ensures same { (images : List Image) → ShowImages (map arc_value entries.now) images
+        → AreKept S.keeps shelf.old images
         → IfOk result (λ v. IsCutOf (image_of name.now images) asked v.items) }
     ensures made { IfOk result (λ v. MayBeMade (map arc_value entries.now) name.now asked v.items) }
     ensures keeps { (images : List Image) → AreKept S.keeps shelf.old images → AreKept S.keeps shelf.new images }

@@ -6,11 +6,10 @@ use Rattle.std.proofs.lemmas.List.{length-map, get_or-map, ext_get_or, get_or_de
 use Rattle.std.proofs.lemmas.List.FromFn.{length-map-range_with_len, get_or-map-range_with_len}
 use Rattle.jk_math.specs.declared.rect.Rect.{Rect}
 use Rattle.jk_math.specs.Raster.{raster, places_of, columns_of}
-use Rattle.jk_math.specs.Picture.{lists_of}
+use Rattle.jk_math.specs.Lists.{lists_of, list_at}
 use Rattle.jk_math.specs.Signed.{IsBelow, signed_at}
 use Rattle.jk_math.proofs.Laws.{raster_length, raster_entry, raster_same}
 use Rattle.jk_rct.specs.Colour.{i0_of, i1_of, i2_of}
-use Rattle.jk_tile.specs.Gathered.{list_at}
 use Rattle.std.proofs.lemmas.Int.{ints}
 use Rattle.std.proofs.lemmas.List.Elements.{All-weaker}
 use Rattle.jk_math.specs.Answer.{◌>>=◌}
@@ -26,7 +25,7 @@ use Rattle.jk_walk.specs.declared.places.PacketPlace.{PacketPlace}
 use Rattle.jk_tile.specs.Samples.{sample_of}
 use Rattle.jk_tile.specs.Pixels.{uncoloured, tile_sample}
 use Rattle.jk_tile.specs.TileMeaning.{shown_area}
-use Rattle.jk_tile.specs.TileReading.{each, component_tested, bodies_of, component_values, component_samples, part_values_at, part_planes_at, tile_planes_at}
+use Rattle.jk_tile.specs.decoding.TileReading.{each, component_tested, bodies_of, component_values, component_samples, part_values_at, part_planes_at, tile_planes_at}
 use Rattle.jk_tile.proofs.Components.{parts_tested, values_by}
 
 -- lists over one rectangle

@@ -24,13 +24,12 @@ use Rattle.std.specs.Global.{Vec}
 use Rattle.std.proofs.lemmas.List.{map-append, get_or_default}
 use Rattle.std.proofs.lemmas.List.Elements.{All-nil}
 use Rattle.jk_math.specs.Answer.{◌>>=◌}
-use Rattle.jk_math.specs.Picture.{lists_of}
+use Rattle.jk_math.specs.Lists.{lists_of, list_at}
 use Rattle.jk_math.specs.Signed.{IsBelow}
 use Rattle.jk_math.specs.declared.fault.Fault.{Fault}
-use Rattle.jk_tile.specs.Gathered.{list_at}
 use Rattle.jk_tile.specs.Filling.{IsPartOf}
-use Rattle.jk_tile.specs.TileReading.{each, bodies_of, region_of, component_part_tested, coefficient_at, component_values, part_values_at}
-use Rattle.jk_tile.specs.Source.{Source, IsSource, source_values}
+use Rattle.jk_tile.specs.decoding.TileReading.{each, bodies_of, region_of, component_part_tested, coefficient_at, component_values, part_values_at}
+use Rattle.jk_tile.specs.decoding.Source.{Source, IsSource, source_values}
 use Rattle.jk_tile.proofs.Steps.{fine, bind_ok, bind_err}
 use Rattle.jk_tile.proofs.AllBands.{range_join, value_then, fault_then}
 

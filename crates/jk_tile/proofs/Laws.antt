@@ -4,20 +4,20 @@ pub use Rattle.jk_tile.proofs.TileLaws.{IsDecoded, tile_tested}
 pub use Rattle.jk_tile.proofs.Steps.{fine, each_none, each_more, each_fails, each_found, each_only, refuses_on, tested_then, tested_ok, tested_err, bind_ok, bind_err}
 pub use Rattle.jk_tile.proofs.Showing.{IsPut, Agrees, put_keeps, put_shows, put_at, has_within, within_has, put_here, put_there, vector_items, with_same}
 pub use Rattle.jk_tile.proofs.Colours.{rasters}
-pub use Rattle.jk_tile.proofs.PacketsTold.{HaveTables, names_of, of_layers, bodies_same, tile_is}
-pub use Rattle.jk_tile.proofs.LayerTables.{table_fits, table_has_bytes, table_has_passes}
-pub use Rattle.jk_tile.proofs.BlocksMeant.{precinct_bodies, block_meant}
-pub use Rattle.jk_tile.proofs.TileAreas.{tile_is_area}
-pub use Rattle.jk_tile.proofs.WrittenTile.{IsSmall, exponents_long, exponents_small, planes_have, are_written}
-pub use Rattle.jk_tile.proofs.WrittenTile.{coding_is, tables_same, block_room, table_for, precinct_fits, tables_have}
-pub use Rattle.jk_tile.proofs.SamplesMeant.{written_decodes}
-pub use Rattle.jk_tile.proofs.FrontsMeant.{front_decodes}
+pub use Rattle.jk_tile.proofs.encoding.PacketsTold.{HaveTables, names_of, of_layers, bodies_same, tile_is}
+pub use Rattle.jk_tile.proofs.encoding.LayerTables.{table_fits, table_has_bytes, table_has_passes}
+pub use Rattle.jk_tile.proofs.encoding.BlocksMeant.{precinct_bodies, block_meant}
+pub use Rattle.jk_tile.proofs.encoding.TileAreas.{tile_is_area}
+pub use Rattle.jk_tile.proofs.encoding.WrittenTile.{IsSmall, exponents_long, exponents_small, planes_have, are_written}
+pub use Rattle.jk_tile.proofs.encoding.WrittenTile.{coding_is, tables_same, block_room, table_for, precinct_fits, tables_have}
+pub use Rattle.jk_tile.proofs.encoding.SamplesMeant.{written_decodes}
+pub use Rattle.jk_tile.proofs.encoding.FrontsMeant.{front_decodes}
 pub use Rattle.jk_tile.proofs.FrontBodies.{one_front}
-pub use Rattle.jk_tile.proofs.TileIndex.{tile_at, index_below, index_apart}
+pub use Rattle.jk_tile.proofs.encoding.TileIndex.{tile_at, index_below, index_apart}
 pub use Rattle.jk_tile.proofs.TileLaws.{bodies_are, pixel_same}
 pub use Rattle.jk_tile.proofs.Components.{levels_read, shown_is}
 pub use Rattle.jk_tile.proofs.AllBands.{numbered_low, numbered_high}
-pub use Rattle.jk_tile.proofs.LocalTiles.{IsMeant, meant_at, none_meant, gathered, place_agrees}
-pub use Rattle.jk_tile.proofs.PartLaws.{each_fewer, part_decoded, part_fine}
-pub use Rattle.jk_tile.proofs.MetBlocks.{IsMetAt, met_place, each_alike, if_alike, AreSameMet, component_alike, coefficient_alike}
+pub use Rattle.jk_tile.proofs.decoding.LocalTiles.{IsMeant, meant_at, none_meant, gathered, place_agrees}
+pub use Rattle.jk_tile.proofs.decoding.PartLaws.{each_fewer, part_decoded, part_fine}
+pub use Rattle.jk_tile.proofs.decoding.MetBlocks.{IsMetAt, met_place, each_alike, if_alike, AreSameMet, component_alike, coefficient_alike}
 pub use Rattle.jk_tile.proofs.Places.{is_band}

@@ -15,10 +15,9 @@ use Rattle.jk_geom.specs.Blocks.{grid_of, block_grid, block_area}
 use Rattle.jk_geom.specs.Partitions.{IsBand, block_number, BlockHolds, precinct_of}
 use Rattle.jk_geom.proofs.Laws.{precinct_found, grid_found, blocks_one, blocks_inside, blocks_some}
 use Rattle.jk_walk.specs.TilePackets.{Body, orientations, band_number}
-use Rattle.jk_tile.specs.TileBlocks.{orientation_at, grid_at, block_at_place, block_shape, band_resolution, band_index}
-use Rattle.jk_tile.specs.TileReading.{block_with, block_value, coefficient_at}
+use Rattle.jk_tile.specs.TileBlocks.{orientation_at, grid_at, block_at_place, block_shape, band_resolution, band_index, IsBlockShape}
+use Rattle.jk_tile.specs.decoding.TileReading.{block_with, block_value, coefficient_at}
 use Rattle.jk_tile.specs.Filling.{IsPartOf}
-use Rattle.jk_tile.specs.Source.{IsBlockShape}
 
 -- ---- sub-bands by number
 

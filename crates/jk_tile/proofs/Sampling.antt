@@ -5,8 +5,7 @@ use Rattle.std.proofs.lemmas.Int.{ints, to_z-of_z}
 use Rattle.std.proofs.lemmas.List.{get_or-set_same, get_or-set_other, length-set, length-map, get_or-map, ext_get_or}
 use mir.Val.{SFits}
 use Rattle.std.specs.Global.{Vec}
-use Rattle.jk_math.specs.Picture.{lists_of}
-use Rattle.jk_tile.specs.Gathered.{list_at}
+use Rattle.jk_math.specs.Lists.{lists_of, list_at}
 use Rattle.jk_tile.proofs.Showing.{vector_items, put_here, put_there}
 use Rattle.jk_math.specs.Signed.{IsBelow, signed_at}
 

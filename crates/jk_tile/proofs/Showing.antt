@@ -8,7 +8,7 @@ use Rattle.std.proofs.lemmas.List.FromFn.{length-map-range_with_len, get_or-map-
 use Rattle.std.proofs.lemmas.Bool.{cases_eq, and_parts, leb-true, ltb-true, le-leb, lt-ltb}
 use Rattle.jk_math.specs.declared.rect.Rect.{Rect}
 use Rattle.jk_math.specs.Raster.{plane_at, raster}
-use Rattle.jk_math.specs.Picture.{lists_of}
+use Rattle.jk_math.specs.Lists.{lists_of, list_at}
 use Rattle.jk_math.proofs.Laws.{raster_is}
 use Rattle.jk_geom.specs.Precincts.{precinct_number, precincts_across, precincts_down}
 use Rattle.jk_marks.specs.declared.coding.Coding.{Coding}
@@ -21,13 +21,13 @@ use Rattle.jk_scan.specs.declared.shape.BlockShape.{BlockShape}
 use Rattle.jk_walk.specs.declared.places.PacketPlace.{PacketPlace}
 use Rattle.jk_walk.specs.TilePackets.{Body, orientations, band_number, planes_of}
 use Rattle.jk_walk.specs.WalkReading.{place_end}
-use Rattle.jk_tile.specs.TileBlocks.{orientation_at, grid_at, block_at_place, shape_of_area, block_bodies}
-use Rattle.jk_tile.specs.TileReading.{each, tested, is_met, met_tested, precinct_part_tested, resolution_part_tested, bodies_of, bodies_values, block_values, values_or, block_with}
+use Rattle.jk_tile.specs.TileBlocks.{orientation_at, grid_at, block_at_place, shape_of_area, block_bodies, IsBlockShape}
+use Rattle.jk_tile.specs.decoding.TileReading.{each, tested, is_met, met_tested, precinct_part_tested, resolution_part_tested, bodies_of, bodies_values, block_values, values_or, block_with}
 use Rattle.jk_tile.specs.declared.decoding.bodies.BodyPlace.{BodyPlace}
 use Rattle.jk_tile.specs.declared.decoding.chains.PacketChains.{PacketChains}
-use Rattle.jk_tile.specs.Gathered.{place_in, list_at, AreNumbers, IsChain, AreByPrecinct, AreByBlock, bodies_in, body_of, IsInside}
+use Rattle.jk_tile.specs.decoding.Gathered.{place_in, AreNumbers, IsChain, AreByPrecinct, AreByBlock, bodies_in, body_of, IsInside}
 use Rattle.jk_tile.specs.Filling.{has, IsPartOf, touches}
-use Rattle.jk_tile.specs.Source.{Source, IsSource, IsBlockShape, source_bodies, source_coefficient, source_part, IsPlane, ArePlanes, Keeps, ShowsBlocks, ShowsPrecinct, block_count, band_lists, resolution_at}
+use Rattle.jk_tile.specs.decoding.Source.{Source, IsSource, source_bodies, source_coefficient, source_part, ShowsBlocks, block_count, resolution_values, resolution_at}
 use Rattle.jk_math.specs.declared.fault.Fault.{Fault}
 use Rattle.jk_wave.specs.Bands.{numbered_area}
 use Rattle.jk_wave.proofs.Laws.{part_inside, part_within}
@@ -159,8 +159,8 @@ none_tested s r n i none =
     met_by s.region s.coding r n i (source_bodies s r n)
     ∙ each_only (block_count s r n i) (block_tested s r n i) (λ j lt. ap (λ (b : Bool). if b then tested (block_values s.region.rect s.coding r n i j (source_bodies s r n)) else Ok tt) (none j))
 
-pub none_shown : (s : Source) (r n i count : ℕ) (plane : List ℤ) → ((j : ℕ) → is_met s.region s.coding r n i j ≡ false) → ShowsBlocks s r n i count plane
-none_shown s r n i count plane none j lt x y h inside =
+pub none_shown : (s : Source) (r n i count : ℕ) (rows : List ℤ) → ((j : ℕ) → is_met s.region s.coding r n i j ≡ false) → ShowsBlocks s r n i count rows
+none_shown s r n i count rows none j lt x y h inside =
     absurd (let f : true ≡ false = sym (touches_at (block_at_place s.region.rect s.coding r n i j) (source_part s r i) x y h inside) ∙ none j in cc)
 
 -- ---- the sub-bands of a resolution
@@ -177,35 +177,6 @@ pub put_there : {X : Type 0} (lists : List (Vec X)) (i k : ℕ) (v : Vec X) → 
 put_there {X} lists i k v other =
     ap (λ (ls : List (List X)). get_or ls k []) (map-set (λ w. w.items) lists i v) ∙ get_or-set_other (map (λ (w : Vec X). w.items) lists) i k v.items [] other
 
--- the list of a sub-band that is lent
-pub lent_plane : (s : Source) (r i : ℕ) (planes : List (Vec ℤ)) (v : Vec ℤ) (lent : List ℤ) → ArePlanes s r planes → i < length (orientations r) → v ≡ get_or planes i v → lent ≡ v.items → (lent ≡ list_at planes i) × IsPlane s r i lent
-lent_plane s r i planes v lent is lt e el =
-    let same : lent ≡ list_at planes i = el ∙ vector_items planes i v (omega (arith, lt, is.count)) e in
-    (same, subst (IsPlane s r i) (sym same) (is.each i lt))
-
--- after code-blocks of one sub-band are put
-pub planes_put : (s : Source) (r i : ℕ) (planes : List (Vec ℤ)) (v : Vec ℤ) → ArePlanes s r planes → i < length (orientations r) → IsPlane s r i v.items → ArePlanes s r (set planes i v)
-planes_put s r i planes v is lt new = record {
-  count = length-set planes i v ∙ is.count;
-  each = λ k less. elim (cases_eq k i) [
-    | inl same ↦ subst (λ n. IsPlane s r n (list_at (set planes i v) n)) (sym same) (subst (IsPlane s r i) (sym (put_here planes i v (omega (arith, lt, is.count)))) new)
-    | inr other ↦ subst (IsPlane s r k) (sym (put_there planes i k v other)) (is.each k less)
-  ];
-}
-
-pub planes_keep : (s : Source) (r i : ℕ) (planes : List (Vec ℤ)) (v : Vec ℤ) → ArePlanes s r planes → i < length (orientations r) → Keeps s r i (list_at planes i) v.items → (k : ℕ) → Keeps s r k (list_at planes k) (list_at (set planes i v) k)
-planes_keep s r i planes v is lt keeps k = elim (cases_eq k i) [
-  | inl same ↦ subst (λ n. Keeps s r n (list_at planes n) (list_at (set planes i v) n)) (sym same) (subst (Keeps s r i (list_at planes i)) (sym (put_here planes i v (omega (arith, lt, is.count)))) keeps)
-  | inr other ↦ subst (Keeps s r k (list_at planes k)) (sym (put_there planes i k v other)) (λ x y h before. before)
-]
-
-pub planes_show : (s : Source) (r n i count : ℕ) (planes : List (Vec ℤ)) (v : Vec ℤ) → i < length planes → ShowsBlocks s r n i count v.items → ShowsBlocks s r n i count (list_at (set planes i v) i)
-planes_show s r n i count planes v lt shows = subst (ShowsBlocks s r n i count) (sym (put_here planes i v lt)) shows
-
--- what was shown in one list is shown in the next
-pub shown_on : (s : Source) (r n i : ℕ) (old new : List ℤ) → Keeps s r i old new → ShowsBlocks s r n i (block_count s r n i) old → ShowsBlocks s r n i (block_count s r n i) new
-shown_on s r n i old new keeps shows j lt x y h inside = keeps x y inside (shows j lt x y h inside)
-
 -- a vector whose elements are all written again
 take_front : {X : Type 0} (xs ys : List X) → take (length xs) (xs ++ ys) ≡ xs
 take_front [] ys = refl
@@ -215,10 +186,6 @@ pub with_same : {X : Type 0} (v : Vec X) (xs : List X) → length xs ≡ length 
 with_same v xs e =
     let len : v.len ≡ length xs = omega (arith, e, v.ok.0) in
     ap (λ n. take n (xs ++ drop (length xs) v.items)) len ∙ take_front xs (drop (length xs) v.items)
-
--- the list of a sub-band that was lent comes back
-pub plane_back : (s : Source) (r i : ℕ) (v : Vec ℤ) (lent new : List ℤ) → lent ≡ v.items → IsPlane s r i lent → IsPlane s r i new → (with_items v new).items ≡ new
-plane_back s r i v lent new e old is = with_same v new (is.long ∙ sym old.long ∙ ap (λ (xs : List ℤ). length xs) e)
 
 -- the numbers of a precinct's packets
 pub followed_numbers : (s : Source) (r n count : ℕ) (places : List PacketPlace) (c : ℕ) (chains : PacketChains) (numbers lent : List ℕ) → places ≡ s.packets → c ≡ s.component
@@ -252,31 +219,16 @@ part_in_band s r i x y is few lt h =
     (part_within (source_part s r i) (numbered_area s.region.rect s.region.levels (band_number r i)) x y
     (part_inside s.region is.region (band_number r i) (number_under r i s.region.top few lt)) h)
 
--- all precincts are shown: so are all places
-pub plane_is : (s : Source) (r i : ℕ) (plane : List ℤ) → IsSource s → r ≤ s.region.top → i < length (orientations r) → IsPlane s r i plane
-    → ((n : ℕ) → n < precinct_number s.region.rect s.coding r → ShowsBlocks s r n i (block_count s r n i) plane) → plane ≡ raster (source_part s r i) (source_coefficient s (band_number r i))
-plane_is s r i plane is few lt whole shows = raster_is (source_part s r i) plane (source_coefficient s (band_number r i)) whole.long (λ x y h.
-    let here : IsWithin (source_part s r i) x y = record { left = h.left; right = h.right; upper = h.upper; lower = h.lower } in
-    let holds = block_found s.region.rect s.coding r i x y is.coding (few_levels s r is few) lt (part_in_band s r i x y is few lt here) in
-    shows (precinct_of s.region.rect s.coding r x y) holds.precinct (block_with s.region.rect s.coding r (precinct_of s.region.rect s.coding r x y) i x y) holds.block x y holds.place here)
-
-pub planes_are : (s : Source) (r : ℕ) (planes : List (Vec ℤ)) → IsSource s → r ≤ s.region.top → ArePlanes s r planes → ((n : ℕ) → n < precinct_number s.region.rect s.coding r → ShowsPrecinct s r n planes) → lists_of planes ≡ band_lists s r
-planes_are s r planes is few whole shows =
-    let f : ℕ → List ℤ = λ i. raster (source_part s r i) (source_coefficient s (band_number r i)) in
-    ext_get_or [] (lists_of planes) (band_lists s r) (length-map planes (λ v. v.items) ∙ whole.count ∙ sym (length-map-range_with_len f 0 (length (orientations r)))) (λ i less.
-    let lt : i < length (orientations r) = omega (arith, less, length-map planes (λ (v : Vec ℤ). v.items), whole.count) in
-    plane_is s r i (list_at planes i) is few lt (whole.each i lt) (λ n under. shows n under i lt) ∙ sym (get_or-map-range_with_len f 0 (length (orientations r)) i i [] lt (omega arith)))
-
 -- how many precincts there are
 pub count_is : (s : Source) (r across down : ℕ) (rect : Rect) (coding : Coding) → rect ≡ s.region.rect → coding ≡ s.coding → across ≡ precincts_across rect coding r → down ≡ precincts_down rect coding r → across * down ≡ precinct_number s.region.rect s.coding r
 count_is s r across down rect coding er ec ea ed =
     ap (λ n. n * down) ea ∙ ap (λ n. precincts_across rect coding r * n) ed ∙ ap (λ (x : Rect). precinct_number x coding r) er ∙ ap (λ (k : Coding). precinct_number s.region.rect k r) ec
 
 -- a resolution whose code-blocks are fine, and one whose aren't
-pub resolution_fine : (s : Source) (r : ℕ) → each (precinct_number s.region.rect s.coding r) (λ n. precinct_part_tested s.region s.coding r n (source_bodies s r n)) ≡ fine → resolution_at s r ≡ Ok (band_lists s r)
+pub resolution_fine : (s : Source) (r : ℕ) → each (precinct_number s.region.rect s.coding r) (λ n. precinct_part_tested s.region s.coding r n (source_bodies s r n)) ≡ fine → resolution_at s r ≡ Ok (resolution_values s r)
 unfolding resolution_at
-resolution_fine s r e = bind_ok (resolution_part_tested s.region s.coding r (source_bodies s r)) (λ _. Ok (band_lists s r)) tt (resolution_part_by s.region s.coding r (source_bodies s r) ∙ e)
+resolution_fine s r e = bind_ok (resolution_part_tested s.region s.coding r (source_bodies s r)) (λ _. Ok (resolution_values s r)) tt (resolution_part_by s.region s.coding r (source_bodies s r) ∙ e)
 
 pub resolution_err : (s : Source) (r : ℕ) (e : Fault) → each (precinct_number s.region.rect s.coding r) (λ n. precinct_part_tested s.region s.coding r n (source_bodies s r n)) ≡ Err e → resolution_at s r ≡ Err e
 unfolding resolution_at
-resolution_err s r e h = bind_err (resolution_part_tested s.region s.coding r (source_bodies s r)) (λ _. Ok (band_lists s r)) e (resolution_part_by s.region s.coding r (source_bodies s r) ∙ h)
+resolution_err s r e h = bind_err (resolution_part_tested s.region s.coding r (source_bodies s r)) (λ _. Ok (resolution_values s r)) e (resolution_part_by s.region s.coding r (source_bodies s r) ∙ h)

@@ -12,7 +12,7 @@ use Rattle.jk_geom.specs.Partitions.{block_number}
 use Rattle.jk_walk.specs.TilePackets.{Body, orientations}
 use Rattle.jk_wave.specs.declared.region.Region.{Region}
 use Rattle.jk_tile.specs.TileBlocks.{grid_at}
-use Rattle.jk_tile.specs.TileReading.{each, tested, block_values, band_tested, precinct_tested, resolution_tested, component_tested, is_met, met_tested, precinct_part_tested, resolution_part_tested, region_of, component_part_tested}
+use Rattle.jk_tile.specs.decoding.TileReading.{each, tested, block_values, band_tested, precinct_tested, resolution_tested, component_tested, is_met, met_tested, precinct_part_tested, resolution_part_tested, region_of, component_part_tested}
 
 abbrev pub Step : Type 0
 Step = ℕ → Result (Unit {0}) Fault

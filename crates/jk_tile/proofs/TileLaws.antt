@@ -32,7 +32,7 @@ use Rattle.jk_walk.specs.WalkReading.{packets_at, bodies_at, IsPlaced}
 use Rattle.jk_walk.proofs.Laws.{packets_found, packets_only}
 use Rattle.jk_tile.specs.TileBlocks.{orientation_at, grid_at, block_at_place, block_shape, block_bodies, segment_of, passes_in, zeros_in, band_resolution, band_index}
 use Rattle.jk_tile.specs.TileMeaning.{shown_area, values_of, IsBlockAt, DecodesTile}
-use Rattle.jk_tile.specs.TileReading.{bodies_of, each, tested, bodies_values, block_values, block_value, block_with, values_or, coefficient_at, band_tested, precinct_tested, resolution_tested, component_tested, component_values, component_samples, tile_planes_at}
+use Rattle.jk_tile.specs.decoding.TileReading.{bodies_of, each, tested, bodies_values, block_values, block_value, block_with, values_or, coefficient_at, band_tested, precinct_tested, resolution_tested, component_tested, component_values, component_samples, tile_planes_at}
 use Rattle.jk_tile.specs.Pixels.{uncoloured, tile_sample}
 use Rattle.jk_tile.specs.Samples.{sample_of}
 use Rattle.jk_tile.proofs.Steps.{fine, each_found, each_only, tested_then, tested_ok, bind_ok, band_by, precinct_by, resolution_by, component_by}

@@ -2,13 +2,6 @@ pub mod Samples
 pub mod Pixels
 pub mod TileBlocks
 pub mod TileMeaning
-pub mod TileReading
 pub mod Filling
-pub mod Gathered
-pub mod Source
-pub mod Forward
-pub mod Needs
-pub mod TileWritten
-pub mod PacketsWritten
-pub mod TileWriters
-pub mod Fronts
+pub mod decoding
+pub mod encoding

@@ -5,7 +5,8 @@ use Rattle.jk_marks.specs.declared.segments.Cod.{Cod}
 use Rattle.jk_rct.specs.Colour.{i0_of, i1_of, i2_of}
 use Rattle.jk_tile.specs.Samples.{sample_of}
 
--- The inverse component transform of the values of a pixel, by component (G.2.2). Components past the third keep their values.
+-- The inverse component transform of the values of a pixel, by component (G.2.2). Components past
+-- the third keep their values.
 unfoldable pub uncoloured : (ℕ → ℤ) → ℕ → ℤ
 uncoloured v zero = i0_of (v 0) (v 1) (v 2)
 uncoloured v (suc zero) = i1_of (v 0) (v 1) (v 2)

@@ -1,5 +1,6 @@
 -- The code-blocks of a tile-component, and what its packets have of them (T.800 B.7, B.10).
-use Rattle.std.specs.Prelude.{ℕ, zero, suc, ◌+◌, ◌/◌, ◌%◌, ◌&&◌, ◌==◌, List, [], ◌∷◌, filter, sum_by, slice_index_or}
+use Rattle.std.specs.Prelude.{ℕ, zero, suc, ◌+◌, ◌*◌, ◌≤◌, ◌/◌, ◌%◌, ◌&&◌, ◌==◌, List, [], ◌∷◌, filter, sum_by}
+use Rattle.std.specs.Prelude.{slice_index_or}
 use Rattle.std.specs.List.{flat_map}
 use Rattle.jk_math.specs.declared.rect.Rect.{Rect}
 use Rattle.jk_math.specs.Raster.{columns_of, rows_of}
@@ -26,6 +27,14 @@ block_at_place a k r n i j = block_area (grid_at a k r n i) j
 abbrev pub shape_of_area : Rect → Orientation → BlockShape
 shape_of_area b orientation = record { width = columns_of b; height = rows_of b; orientation = orientation }
 
+-- the shape of a code-block of the profile
+pub record IsBlockShape (s : BlockShape) : Type 0 where
+  pub wide : 1 ≤ s.width
+  pub narrow : s.width ≤ 1024
+  pub high : 1 ≤ s.height
+  pub low : s.height ≤ 1024
+  pub area : s.width * s.height ≤ 4096
+
 abbrev pub block_shape : Rect → Coding → (r n i j : ℕ) → BlockShape
 block_shape a k r n i j = shape_of_area (block_at_place a k r n i j) (orientation_at r i)
 
@@ -33,8 +42,8 @@ block_shape a k r n i j = shape_of_area (block_at_place a k r n i j) (orientatio
 abbrev pub block_bodies : (i j : ℕ) → List Body → List Body
 block_bodies i j bodies = filter (λ b. (b.part.band == i) && (b.part.block == j)) bodies
 
--- Its segment, the bodies one behind another (B.10.7.1); its coding passes; its zero bit-planes, which the first packet that
--- has something of it tells (B.10.5).
+-- Its segment, the bodies one behind another (B.10.7.1); its coding passes; its zero bit-planes,
+-- which the first packet that has something of it tells (B.10.5).
 abbrev pub segment_of : List Body → List ℕ
 segment_of bodies = flat_map (λ b. b.bytes) bodies
 

@@ -1,6 +1,6 @@
-//! The samples of a tile from its packets, and its packets from the samples: code-blocks, sub-bands,
-//! the wavelet, the colour transform and the level shift (T.800 Annexes D to G). Each direction is a
-//! wing, `decoding` and `encoding`; beside them stands what both need.
+//! The samples of a tile from its packets, and its packets from the samples: code-blocks,
+//! sub-bands, the wavelet, the colour transform and the level shift (T.800 Annexes D to G). Each
+//! direction is a wing, `decoding` and `encoding`; beside them stands what both need.
 #![tactic(auto)]
 
 mod bands;

@@ -3,8 +3,7 @@
 ghost use Rattle.std.specs.Prelude.{◌≡◌, ℕ, ◌+◌, ◌<◌, ◌≤◌, ◌^◌, length, map, All, pos, neg_ℤ, ◌≤ℤ◌};
 ghost use Rattle.jk_math.specs.Signed.{IsBelow, signed_at};
 ghost use Rattle.jk_marks.specs.Siz.{IsSiz};
-ghost use Rattle.jk_math.specs.Picture.{lists_of};
-ghost use Rattle.jk_tile.specs.Gathered.{list_at};
+ghost use Rattle.jk_math.specs.Lists.{lists_of, list_at};
 ghost use Rattle.jk_tile.specs.Samples.{sample_of, shift, clamped};
 
 use jk_marks::Siz;

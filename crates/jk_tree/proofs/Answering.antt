@@ -5,7 +5,7 @@ use Rattle.jk_math.specs.declared.fault.Fault.{Fault}
 use Rattle.jk_bits.specs.Reading.{Bits, ahead}
 use Rattle.jk_tree.specs.TagTree.{top, count, Values, Query, told}
 use Rattle.jk_tree.specs.declared.node.Node.{Node}
-use Rattle.jk_tree.specs.Asking.{Stands, Reached, walk, is_below, Tree, unless_failed, ask_at, IsAnswer}
+use Rattle.jk_tree.specs.Asking.{AreTold, AreToldBySome, walk, is_below, Tree, unless_failed, ask_at, IsAnswer}
 use Rattle.jk_bits.specs.Giving.{advance, gives_on}
 use Rattle.jk_tree.proofs.Asks.{told_by, found_by, reached_on}
 
@@ -26,7 +26,7 @@ ask_at-err q t r e none h = ask_at-none q t r none ∙ ap (λ (w : Result (List 
 
 -- What a tree would tell is read.
 pub only_law : (q : Query) (t : Tree) (r : Bits) (v : Values) (queries : List Query) (rest : List Bool) → q.leaf < t.shape.width * t.shape.height → length t.nodes ≡ count t.shape → t.failed ≡ None
-    → Stands t.shape v queries t.nodes → ahead r ≡ told t.shape v queries q ++ rest
+    → AreTold t.shape v queries t.nodes → ahead r ≡ told t.shape v queries q ++ rest
     → (o : Bool × (Tree × Bits)) × (ask_at q (t, r) ≡ Ok o) × IsAnswer t v queries q r o.1.0 o.1.1 o.0
 only_law q t r v queries rest less long none st first =
     let w = told_by t.shape v queries q t.nodes r rest less long st first in
@@ -38,8 +38,8 @@ only_law q t r v queries rest less long none st first =
 
 -- What is read is what each tree tells that stands afterwards, and there is one.
 pub found_law : (q : Query) (t : Tree) (r : Bits) (o : List Node × Bits) (queries : List Query) → q.leaf < t.shape.width * t.shape.height → length t.nodes ≡ count t.shape → t.failed ≡ None
-    → walk t.shape q (top t.shape + 1) 0 t.nodes r ≡ Ok o → Reached t.shape queries t.nodes
-    → Reached t.shape (queries ++ q ∷ []) o.0 × ((v : Values) → Stands t.shape v (queries ++ q ∷ []) o.0 → IsAnswer t v queries q r (record t { nodes = o.0 }) o.1 (is_below q o.0))
+    → walk t.shape q (top t.shape + 1) 0 t.nodes r ≡ Ok o → AreToldBySome t.shape queries t.nodes
+    → AreToldBySome t.shape (queries ++ q ∷ []) o.0 × ((v : Values) → AreTold t.shape v (queries ++ q ∷ []) o.0 → IsAnswer t v queries q r (record t { nodes = o.0 }) o.1 (is_below q o.0))
 found_law q t r o queries less long none h reached =
     let on = reached_on t.shape queries q t.nodes r o less long reached h in (
       on.0,

@@ -7,7 +7,7 @@ use Rattle.std.proofs.lemmas.List.{get_or-replicate}
 use Rattle.jk_bits.specs.Reading.{Bits, ahead}
 use Rattle.jk_tree.specs.TagTree.{Shape, top, place, count, column, row, IsNode, Values, IsTree, Query, asked, told, told_below}
 use Rattle.jk_tree.specs.declared.node.Node.{Node}
-use Rattle.jk_tree.specs.Asking.{told_node, node_at, Stands, Reached, walk, is_below}
+use Rattle.jk_tree.specs.Asking.{told_node, node_at, AreTold, AreToldBySome, walk, is_below}
 use Rattle.jk_bits.specs.Giving.{Gives, advance}
 use Rattle.jk_tree.proofs.Visits.{IsAsked, asked_told, node_same, visit_knows}
 use Rattle.jk_tree.proofs.Places.{place_counted, path_node, place_leaf, up_node}
@@ -68,7 +68,7 @@ least_known s nodes chain (suc up) j x y e n h =
     let low = c.1 in
     omega (arith, rest, low)
 
-pub least_stands : (s : Shape) (queries : List Query) (nodes : List Node) → IsChained s nodes → ((j x y : ℕ) → IsNode s j x y → IsAsked (node_at nodes (place s j x y)) (asked s queries j x y)) → Stands s (least s nodes) queries nodes
+pub least_stands : (s : Shape) (queries : List Query) (nodes : List Node) → IsChained s nodes → ((j x y : ℕ) → IsNode s j x y → IsAsked (node_at nodes (place s j x y)) (asked s queries j x y)) → AreTold s (least s nodes) queries nodes
 unfolding least
 least_stands s queries nodes chain is_asked = record {
   tree = least_tree s nodes;
@@ -92,7 +92,7 @@ least_stands s queries nodes chain is_asked = record {
         node_same node.low (min (least s nodes j x y) a) node.known (nat_lt (least s nodes j x y) a) (omega (arith, low, over)) (h ∙ sym none)
 
 -- what stands is chained
-pub stands_chained : (s : Shape) (v : Values) (queries : List Query) (nodes : List Node) → Stands s v queries nodes → IsChained s nodes
+pub stands_chained : (s : Shape) (v : Values) (queries : List Query) (nodes : List Node) → AreTold s v queries nodes → IsChained s nodes
 stands_chained s v queries nodes st j x y n low h =
     let own = st.each j x y n in
     let up_is = st.each (j + 1) (x / 2) (y / 2) (up_node s j x y n low) in
@@ -113,7 +113,7 @@ stands_chained s v queries nodes st j x y n low h =
 pub record Told (s : Shape) (v : Values) (queries : List Query) (q : Query) (nodes : List Node) (r : Bits) : Type 0 where
   pub after : List Node
   pub is : walk s q (top s + 1) 0 nodes r ≡ Ok (after, advance r (length (told s v queries q)))
-  pub stands : Stands s v (queries ++ q ∷ []) after
+  pub stands : AreTold s v (queries ++ q ∷ []) after
   pub answer : is_below q after ≡ nat_lt (v 0 (column s q.leaf 0) (row s q.leaf 0)) q.threshold
 
 levels : (s : Shape) → top s + 1 ≡ suc (top s)
@@ -136,7 +136,7 @@ answer_of w m t h = elim (cases_lt w t) [
     neither true b c f g = f ∙ sym g
     neither false b c f g = sym g
 
-pub answered : (s : Shape) (v : Values) (queries : List Query) (q : Query) (nodes : List Node) → q.leaf < s.width * s.height → Stands s v (queries ++ q ∷ []) nodes
+pub answered : (s : Shape) (v : Values) (queries : List Query) (q : Query) (nodes : List Node) → q.leaf < s.width * s.height → AreTold s v (queries ++ q ∷ []) nodes
     → is_below q nodes ≡ nat_lt (v 0 (column s q.leaf 0) (row s q.leaf 0)) q.threshold
 answered s v queries q nodes less st =
     let x = column s q.leaf 0 in
@@ -148,13 +148,13 @@ answered s v queries q nodes less st =
     ∙ ap (λ (n : Node). n.known && nat_lt n.low q.threshold) own
     ∙ answer_of (v 0 x y) m q.threshold (omega (arith, here))
 
-pub half_stands : (s : Shape) (v : Values) (queries : List Query) (q : Query) (nodes : List Node) → IsTree s v → HalfTold s v queries q 0 nodes → Stands s v (queries ++ q ∷ []) nodes
+pub half_stands : (s : Shape) (v : Values) (queries : List Query) (q : Query) (nodes : List Node) → IsTree s v → HalfTold s v queries q 0 nodes → AreTold s v (queries ++ q ∷ []) nodes
 half_stands s v queries q nodes tree h = record { tree = tree; each = λ j x y n. h.each j x y n ∙ ap (told_node (v j x y)) (half_all s queries q j x y) }
 
-pub stands_half : (s : Shape) (v : Values) (queries : List Query) (q : Query) (nodes : List Node) → length nodes ≡ count s → Stands s v (queries ++ q ∷ []) nodes → HalfTold s v queries q 0 nodes
+pub stands_half : (s : Shape) (v : Values) (queries : List Query) (q : Query) (nodes : List Node) → length nodes ≡ count s → AreTold s v (queries ++ q ∷ []) nodes → HalfTold s v queries q 0 nodes
 stands_half s v queries q nodes long st = record { long = long; each = λ j x y n. st.each j x y n ∙ ap (told_node (v j x y)) (sym (half_all s queries q j x y)) }
 
-pub told_by : (s : Shape) (v : Values) (queries : List Query) (q : Query) (nodes : List Node) (r : Bits) (rest : List Bool) → q.leaf < s.width * s.height → length nodes ≡ count s → Stands s v queries nodes
+pub told_by : (s : Shape) (v : Values) (queries : List Query) (q : Query) (nodes : List Node) (r : Bits) (rest : List Bool) → q.leaf < s.width * s.height → length nodes ≡ count s → AreTold s v queries nodes
     → ahead r ≡ told s v queries q ++ rest → Told s v queries q nodes r
 told_by s v queries q nodes r rest less long st first =
     let h : HalfTold s v queries q (suc (top s)) nodes = record { long = long; each = λ j x y n. st.each j x y n ∙ ap (told_node (v j x y)) (sym (half_none s queries q j x y n.level)) } in
@@ -169,12 +169,12 @@ told_by s v queries q nodes r rest less long st first =
 
 -- What a query that went well says.
 pub record Found (s : Shape) (v : Values) (queries : List Query) (q : Query) (nodes : List Node) (r : Bits) (out : List Node × Bits) : Type 0 where
-  pub before : Stands s v queries nodes
+  pub before : AreTold s v queries nodes
   pub given : Gives r (told s v queries q) out.1
   pub answer : is_below q out.0 ≡ nat_lt (v 0 (column s q.leaf 0) (row s q.leaf 0)) q.threshold
 
 pub found_by : (s : Shape) (v : Values) (queries : List Query) (q : Query) (nodes : List Node) (r : Bits) (out : List Node × Bits) → q.leaf < s.width * s.height → length nodes ≡ count s → length out.0 ≡ count s
-    → Reached s queries nodes → walk s q (top s + 1) 0 nodes r ≡ Ok out → Stands s v (queries ++ q ∷ []) out.0 → Found s v queries q nodes r out
+    → AreToldBySome s queries nodes → walk s q (top s + 1) 0 nodes r ≡ Ok out → AreTold s v (queries ++ q ∷ []) out.0 → Found s v queries q nodes r out
 found_by s v queries q nodes r out less long long_out reached h st =
     let old = reached.1 in
     let is_asked : (k : ℕ) → k < suc (top s) → IsAsked (node_at nodes (way s q k)) (asked s queries k (column s q.leaf k) (row s q.leaf k)) =
@@ -189,7 +189,7 @@ found_by s v queries q nodes r out less long long_out reached h st =
 
 -- Some tree stands after a query that went well.
 pub reached_on : (s : Shape) (queries : List Query) (q : Query) (nodes : List Node) (r : Bits) (out : List Node × Bits) → q.leaf < s.width * s.height → length nodes ≡ count s
-    → Reached s queries nodes → walk s q (top s + 1) 0 nodes r ≡ Ok out → Reached s (queries ++ q ∷ []) out.0 × (length out.0 ≡ count s)
+    → AreToldBySome s queries nodes → walk s q (top s + 1) 0 nodes r ≡ Ok out → AreToldBySome s (queries ++ q ∷ []) out.0 × (length out.0 ≡ count s)
 reached_on s queries q nodes r out less long reached h =
     let old = reached.1 in
     let m : Midway s queries q (suc (top s)) 0 nodes = record {
@@ -209,7 +209,7 @@ reached_on s queries q nodes r out less long reached h =
     )
 
 -- A tree that was asked nothing.
-pub fresh : (s : Shape) (v : Values) (n : ℕ) → IsTree s v → count s ≤ n → Stands s v [] (replicate n record { low = 0; known = false })
+pub fresh : (s : Shape) (v : Values) (n : ℕ) → IsTree s v → count s ≤ n → AreTold s v [] (replicate n record { low = 0; known = false })
 unfolding asked
 fresh s v n tree all = record {
   tree = tree;

@@ -10,7 +10,7 @@ use Rattle.jk_math.specs.declared.fault.Fault.{Fault}
 use Rattle.jk_bits.specs.Reading.{Bits, ahead}
 use Rattle.jk_tree.specs.TagTree.{Shape, top, count, column, row, IsNode, Values, above, IsTree, Query, query_of, passes, asked, word, piece, told_below, told, leaf_of}
 use Rattle.jk_tree.specs.declared.node.Node.{Node}
-use Rattle.jk_tree.specs.Asking.{told_node, node_at, Stands, Reached, walk, is_below, Tree, IsOpen, unless_failed, blank_tree, ask_at}
+use Rattle.jk_tree.specs.Asking.{told_node, node_at, AreTold, AreToldBySome, walk, is_below, Tree, IsOpen, unless_failed, blank_tree, ask_at}
 use Rattle.jk_bits.specs.Giving.{Gives, advance, Moves}
 use Rattle.jk_tree.proofs.Moving.{walk_moves}
 use Rattle.jk_tree.proofs.Visits.{piece_asked, piece_known, node_same}
@@ -70,9 +70,9 @@ pub record AskOnly (s : Shape) (v : Values) (queries : List Query) (q : Query) (
   pub after : Tree
   pub is : ask_at q (t, r) ≡ Ok (nat_lt (leaf_of s v q.leaf) q.threshold, (after, advance r (length (told s v queries q))))
   pub can : IsOpen s after
-  pub stands : Stands s v (queries ++ q ∷ []) after.nodes
+  pub stands : AreTold s v (queries ++ q ∷ []) after.nodes
 
-ask_here : (v : Values) (queries : List Query) (q : Query) (t : Tree) (r : Bits) (rest : List Bool) → q.leaf < t.shape.width * t.shape.height → IsOpen t.shape t → Stands t.shape v queries t.nodes
+ask_here : (v : Values) (queries : List Query) (q : Query) (t : Tree) (r : Bits) (rest : List Bool) → q.leaf < t.shape.width * t.shape.height → IsOpen t.shape t → AreTold t.shape v queries t.nodes
     → ahead r ≡ told t.shape v queries q ++ rest → AskOnly t.shape v queries q t r
 ask_here v queries q t r rest less w st first =
     let law = only_law q t r v queries rest less w.long w.sound st first in
@@ -86,19 +86,19 @@ ask_here v queries q t r rest less w st first =
       stands = a.after;
     }
 
-pub ask_only : (s : Shape) (v : Values) (queries : List Query) (q : Query) (t : Tree) (r : Bits) (rest : List Bool) → q.leaf < s.width * s.height → IsOpen s t → Stands s v queries t.nodes
+pub ask_only : (s : Shape) (v : Values) (queries : List Query) (q : Query) (t : Tree) (r : Bits) (rest : List Bool) → q.leaf < s.width * s.height → IsOpen s t → AreTold s v queries t.nodes
     → ahead r ≡ told s v queries q ++ rest → AskOnly s v queries q t r
 ask_only s v queries q t r rest less w =
-    subst (λ (x : Shape). q.leaf < x.width * x.height → IsOpen x t → Stands x v queries t.nodes → ahead r ≡ told x v queries q ++ rest → AskOnly x v queries q t r) w.shape
+    subst (λ (x : Shape). q.leaf < x.width * x.height → IsOpen x t → AreTold x v queries t.nodes → ahead r ≡ told x v queries q ++ rest → AskOnly x v queries q t r) w.shape
     (λ l o st first. ask_here v queries q t r rest l o st first) less w
 
 -- What is read is what each tree tells that stands afterwards, and there is one.
 pub record AskFound (s : Shape) (queries : List Query) (q : Query) (t : Tree) (r : Bits) (o : Bool × (Tree × Bits)) : Type 0 where
   pub can : IsOpen s o.1.0
-  pub reached : Reached s (queries ++ q ∷ []) o.1.0.nodes
-  pub each : (v : Values) → Stands s v (queries ++ q ∷ []) o.1.0.nodes → Stands s v queries t.nodes × Gives r (told s v queries q) o.1.1 × (o.0 ≡ nat_lt (leaf_of s v q.leaf) q.threshold)
+  pub reached : AreToldBySome s (queries ++ q ∷ []) o.1.0.nodes
+  pub each : (v : Values) → AreTold s v (queries ++ q ∷ []) o.1.0.nodes → AreTold s v queries t.nodes × Gives r (told s v queries q) o.1.1 × (o.0 ≡ nat_lt (leaf_of s v q.leaf) q.threshold)
 
-found_here : (queries : List Query) (q : Query) (t : Tree) (r : Bits) (o : Bool × (Tree × Bits)) → q.leaf < t.shape.width * t.shape.height → IsOpen t.shape t → Reached t.shape queries t.nodes
+found_here : (queries : List Query) (q : Query) (t : Tree) (r : Bits) (o : Bool × (Tree × Bits)) → q.leaf < t.shape.width * t.shape.height → IsOpen t.shape t → AreToldBySome t.shape queries t.nodes
     → ask_at q (t, r) ≡ Ok o → AskFound t.shape queries q t r o
 unfolding ask_at
 found_here queries q t r o less w reached h =
@@ -106,14 +106,14 @@ found_here queries q t r o less w reached h =
     let law = found_law q t r a.1 queries less w.long w.sound a.2 reached in
     record {
       can = asked_open t.shape q t r o w h;
-      reached = subst (λ (x : Bool × (Tree × Bits)). Reached t.shape (queries ++ q ∷ []) x.1.0.nodes) a.3 law.0;
-      each = subst (λ (x : Bool × (Tree × Bits)). (v : Values) → Stands t.shape v (queries ++ q ∷ []) x.1.0.nodes → Stands t.shape v queries t.nodes × Gives r (told t.shape v queries q) x.1.1 × (x.0 ≡ nat_lt (leaf_of t.shape v q.leaf) q.threshold)) a.3
+      reached = subst (λ (x : Bool × (Tree × Bits)). AreToldBySome t.shape (queries ++ q ∷ []) x.1.0.nodes) a.3 law.0;
+      each = subst (λ (x : Bool × (Tree × Bits)). (v : Values) → AreTold t.shape v (queries ++ q ∷ []) x.1.0.nodes → AreTold t.shape v queries t.nodes × Gives r (told t.shape v queries q) x.1.1 × (x.0 ≡ nat_lt (leaf_of t.shape v q.leaf) q.threshold)) a.3
           (λ v st. let f = law.1 v st in (f.before, f.given, f.answer));
     }
 
-pub ask_found : (s : Shape) (queries : List Query) (q : Query) (t : Tree) (r : Bits) (o : Bool × (Tree × Bits)) → q.leaf < s.width * s.height → IsOpen s t → Reached s queries t.nodes → ask_at q (t, r) ≡ Ok o → AskFound s queries q t r o
+pub ask_found : (s : Shape) (queries : List Query) (q : Query) (t : Tree) (r : Bits) (o : Bool × (Tree × Bits)) → q.leaf < s.width * s.height → IsOpen s t → AreToldBySome s queries t.nodes → ask_at q (t, r) ≡ Ok o → AskFound s queries q t r o
 ask_found s queries q t r o less w =
-    subst (λ (x : Shape). q.leaf < x.width * x.height → IsOpen x t → Reached x queries t.nodes → ask_at q (t, r) ≡ Ok o → AskFound x queries q t r o) w.shape
+    subst (λ (x : Shape). q.leaf < x.width * x.height → IsOpen x t → AreToldBySome x queries t.nodes → ask_at q (t, r) ≡ Ok o → AskFound x queries q t r o) w.shape
     (λ l u reached h. found_here queries q t r o l u reached h) less w
 
 -- Over a leaf no node is greater.
@@ -183,15 +183,15 @@ asked_same s v queries leaf t t' j x y less tree low low' n =
         let two : nat_lt (v j x y) (max a t') ≡ true = grind (arith, nat_tests) in
         node_same (min (v j x y) (max a t)) (min (v j x y) (max a t')) (nat_lt (v j x y) (max a t)) (nat_lt (v j x y) (max a t')) (omega (arith, here, low, low')) (one ∙ sym two)
 
-pub stands_same : (s : Shape) (v : Values) (queries : List Query) (leaf t t' : ℕ) (nodes : List Node) → leaf < s.width * s.height → leaf_of s v leaf < t → leaf_of s v leaf < t' → Stands s v (queries ++ query_of leaf t ∷ []) nodes
-    → Stands s v (queries ++ query_of leaf t' ∷ []) nodes
+pub stands_same : (s : Shape) (v : Values) (queries : List Query) (leaf t t' : ℕ) (nodes : List Node) → leaf < s.width * s.height → leaf_of s v leaf < t → leaf_of s v leaf < t' → AreTold s v (queries ++ query_of leaf t ∷ []) nodes
+    → AreTold s v (queries ++ query_of leaf t' ∷ []) nodes
 stands_same s v queries leaf t t' nodes less low low' st = record {
   tree = st.tree;
   each = λ j x y n. st.each j x y n ∙ asked_same s v queries leaf t t' j x y less st.tree low low' n;
 }
 
 -- What is known of a leaf, where it is less than was asked, is its value.
-leaf_known : (s : Shape) (v : Values) (queries : List Query) (leaf t : ℕ) (nodes : List Node) → leaf < s.width * s.height → Stands s v (queries ++ query_of leaf t ∷ []) nodes
+leaf_known : (s : Shape) (v : Values) (queries : List Query) (leaf t : ℕ) (nodes : List Node) → leaf < s.width * s.height → AreTold s v (queries ++ query_of leaf t ∷ []) nodes
     → (m : ℕ) × (t ≤ m) × ((node_at nodes leaf).low ≡ min (leaf_of s v leaf) m)
 leaf_known s v queries leaf t nodes less st =
     let x = column s leaf 0 in
@@ -203,10 +203,10 @@ leaf_known s v queries leaf t nodes less st =
       ap (λ p. (node_at nodes p).low) (sym (place_leaf s leaf)) ∙ ap (λ (n : Node). n.low) own,
     )
 
-pub low_is : (s : Shape) (v : Values) (queries : List Query) (leaf t : ℕ) (nodes : List Node) → leaf < s.width * s.height → leaf_of s v leaf < t → Stands s v (queries ++ query_of leaf t ∷ []) nodes → (node_at nodes leaf).low ≡ leaf_of s v leaf
+pub low_is : (s : Shape) (v : Values) (queries : List Query) (leaf t : ℕ) (nodes : List Node) → leaf < s.width * s.height → leaf_of s v leaf < t → AreTold s v (queries ++ query_of leaf t ∷ []) nodes → (node_at nodes leaf).low ≡ leaf_of s v leaf
 low_is s v queries leaf t nodes less low st = let k = leaf_known s v queries leaf t nodes less st in let a = k.1 in let e = k.2 in omega (arith, a, e, low)
 
-pub value_is : (s : Shape) (v : Values) (queries : List Query) (leaf t : ℕ) (nodes : List Node) → leaf < s.width * s.height → (node_at nodes leaf).low < t → Stands s v (queries ++ query_of leaf t ∷ []) nodes → leaf_of s v leaf ≡ (node_at nodes leaf).low
+pub value_is : (s : Shape) (v : Values) (queries : List Query) (leaf t : ℕ) (nodes : List Node) → leaf < s.width * s.height → (node_at nodes leaf).low < t → AreTold s v (queries ++ query_of leaf t ∷ []) nodes → leaf_of s v leaf ≡ (node_at nodes leaf).low
 value_is s v queries leaf t nodes less low st = let k = leaf_known s v queries leaf t nodes less st in let a = k.1 in let e = k.2 in omega (arith, a, e, low)
 
 -- A tree of which nothing is known.
@@ -214,6 +214,6 @@ pub blank_open : (s : Shape) → IsOpen s (blank_tree s)
 unfolding blank_tree
 blank_open s = record { shape = refl; sound = refl; long = length-replicate (count s) record { low = 0; known = false } }
 
-pub blank_tree_stands : (s : Shape) (v : Values) → IsTree s v → Stands s v [] (blank_tree s).nodes
+pub blank_tree_stands : (s : Shape) (v : Values) → IsTree s v → AreTold s v [] (blank_tree s).nodes
 unfolding blank_tree
 blank_tree_stands s v tree = fresh s v (count s) tree (omega arith)

@@ -1,5 +1,7 @@
 -- Queries of a tree that is read: what is known of each node, and the answer or the first fault.
-use Rattle.std.specs.Prelude.{◌≡◌, ℕ, zero, suc, ◌+◌, ◌-◌, min, max, Bool, true, false, ◌&&◌, ◌||◌, nat_lt, nat_le, if◌then◌else◌, List, [], ◌∷◌, ◌++◌, length, slice_index_or, slice_set, replicate, Option, Some, None, Result, Ok, Err}
+use Rattle.std.specs.Prelude.{◌≡◌, ℕ, zero, suc, ◌+◌, ◌-◌, min, max, Bool, true, false, ◌&&◌, ◌||◌, nat_lt, nat_le}
+use Rattle.std.specs.Prelude.{if◌then◌else◌, List, [], ◌∷◌, ◌++◌, length, slice_index_or, slice_set, replicate, Option}
+use Rattle.std.specs.Prelude.{Some, None, Result, Ok, Err}
 use Rattle.jk_math.specs.Answer.{◌>>=◌}
 use Rattle.jk_math.specs.declared.fault.Fault.{Fault}
 use Rattle.jk_bits.specs.Reading.{Bits, bit_at}
@@ -16,30 +18,33 @@ abbrev pub node_at : List Node → ℕ → Node
 node_at nodes p = slice_index_or nodes p record { low = 0; known = false }
 
 -- After the queries, the nodes are what such a tree would have told.
-pub record Stands (s : Shape) (v : Values) (queries : List Query) (nodes : List Node) : Type 0 where
+pub record AreTold (s : Shape) (v : Values) (queries : List Query) (nodes : List Node) : Type 0 where
   pub tree : IsTree s v
   pub each : (i x y : ℕ) → IsNode s i x y → node_at nodes (place s i x y) ≡ told_node (v i x y) (asked s queries i x y)
 
 -- After the queries, some tree would have told the nodes.
-abbrev pub Reached : Shape → List Query → List Node → Type 0
-Reached s queries nodes = (v : Values) × Stands s v queries nodes
+abbrev pub AreToldBySome : Shape → List Query → List Node → Type 0
+AreToldBySome s queries nodes = (v : Values) × AreTold s v queries nodes
 
 -- zeros from low on up to a one, as far as the threshold, which is more ahead
 unfoldable pub climb : ℕ → ℕ → Bits → Result (Node × Bits) Fault
 climb low zero bits = Ok (record { low = low; known = false }, bits)
-climb low (suc more) bits = bit_at bits >>= (λ r. if r.0 then Ok (record { low = low; known = true }, r.1) else climb (low + 1) more r.1)
+climb low (suc more) bits = bit_at bits
+    >>= (λ r. if r.0 then Ok (record { low = low; known = true }, r.1) else climb (low + 1) more r.1)
 
 -- what a node tells, under one of which over is known
 unfoldable pub visit : Node → (over threshold : ℕ) → Bits → Result (Node × Bits) Fault
 visit node over threshold bits =
-    if node.known || nat_le threshold node.low then Ok (node, bits) else climb (max node.low over) (threshold - max node.low over) bits
+    if node.known || nat_le threshold node.low then Ok (node, bits)
+    else climb (max node.low over) (threshold - max node.low over) bits
 
 -- the nodes of the levels below i, from the top down
 unfoldable pub walk : Shape → Query → ℕ → ℕ → List Node → Bits → Result (List Node × Bits) Fault
 walk s q zero over nodes bits = Ok (nodes, bits)
 walk s q (suc i) over nodes bits =
     let p = place s i (column s q.leaf i) (row s q.leaf i) in
-    visit (node_at nodes p) over q.threshold bits >>= (λ r. walk s q i (min r.0.low q.threshold) (slice_set nodes p r.0) r.1)
+    visit (node_at nodes p) over q.threshold bits
+    >>= (λ r. walk s q i (min r.0.low q.threshold) (slice_set nodes p r.0) r.1)
 
 -- the leaf is known to be below the threshold
 abbrev pub is_below : Query → List Node → Bool
@@ -69,12 +74,14 @@ unless_failed None due = due
 -- the answer to a query, with the tree and the reader after it, or the first fault
 unfoldable pub ask_at : Query → Tree × Bits → Result (Bool × (Tree × Bits)) Fault
 ask_at q s = unless_failed s.0.failed
-    (walk s.0.shape q (top s.0.shape + 1) 0 s.0.nodes s.1 >>= (λ o. Ok (is_below q o.0, (record s.0 { nodes = o.0 }, o.1))))
+    (walk s.0.shape q (top s.0.shape + 1) 0 s.0.nodes s.1
+    >>= (λ o. Ok (is_below q o.0, (record s.0 { nodes = o.0 }, o.1))))
 
 -- The answer b to a query after other queries, for a tree that told it and what was told before.
-pub record IsAnswer (old : Tree) (v : Values) (queries : List Query) (q : Query) (reader : Bits) (new : Tree) (reader_on : Bits) (b : Bool) : Type 0 where
-  pub before : Stands old.shape v queries old.nodes
-  pub after : Stands old.shape v (queries ++ q ∷ []) new.nodes
+pub record IsAnswer (old : Tree) (v : Values) (queries : List Query) (q : Query) (reader : Bits) (new : Tree)
+    (reader_on : Bits) (b : Bool) : Type 0 where
+  pub before : AreTold old.shape v queries old.nodes
+  pub after : AreTold old.shape v (queries ++ q ∷ []) new.nodes
   pub kept : (new.shape ≡ old.shape) × (new.failed ≡ None)
   pub given : Gives reader (told old.shape v queries q) reader_on
   pub answer : b ≡ nat_lt (v 0 (column old.shape q.leaf 0) (row old.shape q.leaf 0)) q.threshold

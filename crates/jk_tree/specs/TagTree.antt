@@ -1,5 +1,7 @@
--- Tag trees (T.800 B.10.2): the nodes, the word of each node, and what a query tells after other queries.
-use Rattle.std.specs.Prelude.{ℕ, zero, suc, ◌+◌, ◌-◌, ◌*◌, ◌/◌, ◌%◌, ◌^◌, ◌<◌, ◌≤◌, min, max, Bool, true, false, ◌&&◌, ◌==◌, nat_lt, nat_le, if◌then◌else◌, List, [], ◌∷◌, ◌++◌, length, drop, replicate}
+-- Tag trees (T.800 B.10.2): the nodes, the word of each node, and what a query tells after other
+-- queries.
+use Rattle.std.specs.Prelude.{ℕ, zero, suc, ◌+◌, ◌-◌, ◌*◌, ◌/◌, ◌%◌, ◌^◌, ◌<◌, ◌≤◌, min, max, Bool, true, false, ◌&&◌}
+use Rattle.std.specs.Prelude.{◌==◌, nat_lt, nat_le, if◌then◌else◌, List, [], ◌∷◌, ◌++◌, length, drop, replicate}
 
 -- the leaves across and down
 pub record Shape : Type 0 where
@@ -13,7 +15,8 @@ shape_of width height = record { width = width; height = height }
 unfoldable pub wide : ℕ → ℕ → ℕ
 wide n i = (n + 2 ^ i - 1) / 2 ^ i
 
--- the first level from i on at which at most one node stands over n leaves, sought on that many levels
+-- the first level from i on at which at most one node stands over n leaves, sought on that many
+-- levels
 unfoldable pub level_from : ℕ → ℕ → ℕ → ℕ
 level_from zero n i = i
 level_from (suc more) n i = if nat_le n (2 ^ i) then i else level_from more n (i + 1)
@@ -27,7 +30,8 @@ unfoldable pub start : Shape → ℕ → ℕ
 start s zero = 0
 start s (suc i) = start s i + wide s.width i * wide s.height i
 
--- where node (x, y) of level i stands among all nodes, level by level from the leaves, in raster order
+-- where node (x, y) of level i stands among all nodes, level by level from the leaves, in raster
+-- order
 unfoldable pub place : Shape → ℕ → ℕ → ℕ → ℕ
 place s i x y = start s i + y * wide s.width i + x
 
@@ -64,8 +68,8 @@ leaf_of s v i = v 0 (column s i 0) (row s i 0)
 abbrev pub IsTree : Shape → Values → Type 0
 IsTree s v = (i x y : ℕ) → IsNode s i x y → above s v i x y ≤ v i x y
 
--- the word of a node of that value at a threshold: its excess over the node above as zeros, as far as the threshold
--- asks, and a one if it is below the threshold
+-- the word of a node of that value at a threshold: its excess over the node above as zeros, as far
+-- as the threshold asks, and a one if it is below the threshold
 abbrev pub word : (over value threshold : ℕ) → List Bool
 word over value threshold =
     replicate (min value threshold - min over threshold) false ++ (if nat_lt value threshold then true ∷ [] else [])
@@ -100,6 +104,7 @@ told_below s v queries q (suc i) =
     let y = row s q.leaf i in
     piece (above s v i x y) (v i x y) (asked s queries i x y) q.threshold ++ told_below s v queries q i
 
--- what a query tells after those before it: the nodes on the way from the root to the leaf, one after another
+-- what a query tells after those before it: the nodes on the way from the root to the leaf, one
+-- after another
 unfoldable pub told : Shape → Values → List Query → Query → List Bool
 told s v queries q = told_below s v queries q (top s + 1)

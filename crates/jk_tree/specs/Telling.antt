@@ -1,5 +1,6 @@
 -- Queries of a tree that is written: the values of its nodes, and what it tells.
-use Rattle.std.specs.Prelude.{◌≡◌, ℕ, zero, suc, ◌*◌, min, Bool, true, if◌then◌else◌, List, [], ◌∷◌, ◌++◌, slice_index, slice_index_or}
+use Rattle.std.specs.Prelude.{◌≡◌, ℕ, zero, suc, ◌*◌, min, Bool, true, if◌then◌else◌, List, [], ◌∷◌, ◌++◌, slice_index}
+use Rattle.std.specs.Prelude.{slice_index_or}
 use Rattle.jk_bits.specs.Writing.{Written}
 use Rattle.jk_tree.specs.TagTree.{Shape, place, IsNode, Values, passes, IsTree, Query, asked, told}
 use Rattle.jk_tree.specs.declared.write.WriteNode.{WriteNode}
@@ -7,7 +8,8 @@ use Rattle.jk_tree.specs.declared.write.WriteNode.{WriteNode}
 -- the least value of the first n leaves that are under node (x, y) of level i, and 65535 if none is
 unfoldable pub least_under : Shape → List ℕ → ℕ → ℕ → ℕ → ℕ → ℕ
 least_under s leaves zero i x y = 65535
-least_under s leaves (suc n) i x y = min (least_under s leaves n i x y) (if passes s n i x y then slice_index leaves n else 65535)
+least_under s leaves (suc n) i x y =
+    min (least_under s leaves n i x y) (if passes s n i x y then slice_index leaves n else 65535)
 
 -- The values of a written tree: each node has the least of the leaves under it.
 abbrev pub written : Shape → List ℕ → Values
@@ -26,12 +28,15 @@ speaker_at nodes p = slice_index_or nodes p record { value = 0; told = 0 }
 -- The nodes have these values, and have told the queries.
 pub record Speaks (s : Shape) (v : Values) (queries : List Query) (nodes : List WriteNode) : Type 0 where
   pub tree : IsTree s v
-  pub each : (i x y : ℕ) → IsNode s i x y → speaker_at nodes (place s i x y) ≡ record { value = v i x y; told = asked s queries i x y }
+  pub each : (i x y : ℕ) → IsNode s i x y
+      → speaker_at nodes (place s i x y) ≡ record { value = v i x y; told = asked s queries i x y }
 
 -- The nodes over the leaf are lowered to a value, and no others.
 abbrev pub Lowers : Shape → ℕ → ℕ → List WriteNode → List WriteNode → Type 0
 Lowers s leaf value old new = (i x y : ℕ) → IsNode s i x y → speaker_at new (place s i x y)
-    ≡ (if passes s leaf i x y then record (speaker_at old (place s i x y)) { value = min (speaker_at old (place s i x y)).value value } else speaker_at old (place s i x y))
+    ≡ (if passes s leaf i x y
+    then record (speaker_at old (place s i x y)) { value = min (speaker_at old (place s i x y)).value value }
+    else speaker_at old (place s i x y))
 
 -- the writer with these bits more
 abbrev pub with_bits : Written → List Bool → Written
@@ -45,7 +50,8 @@ Grows writer writer_on = (more : List Bool) × (writer_on ≡ with_bits writer m
 abbrev pub Fails : Written → Written → Type 0
 Fails writer writer_on = (more : List Bool) × (writer_on ≡ record (with_bits writer more) { failed = true })
 
--- A query tells what it has to tell after those before it, whichever these were and whatever the values are.
+-- A query tells what it has to tell after those before it, whichever these were and whatever the
+-- values are.
 abbrev pub Tells : Shape → Query → (old new : List WriteNode) → (writer writer_on : Written) → Type 0
 Tells s q old new writer writer_on = (v : Values) (queries : List Query) → Speaks s v queries old
     → (writer_on ≡ with_bits writer (told s v queries q)) × Speaks s v (queries ++ q ∷ []) new

@@ -1,12 +1,13 @@
 //! Tag trees that are read (T.800 B.10.2).
 
-ghost use Rattle.std.specs.Prelude.{◌≡◌, ℕ, ◌+◌, ◌-◌, ◌*◌, ◌<◌, ◌≤◌, min, ◌++◌, [], ◌∷◌, List, Bool, length, Ok, Err, None, Some, IfOk, IfErr, OnErr, IfSome, IsOkAnd, MatchResult};
+ghost use Rattle.std.specs.Prelude.{◌≡◌, ℕ, ◌+◌, ◌-◌, ◌*◌, ◌<◌, ◌≤◌, min, ◌++◌, [], ◌∷◌, List, Bool, length, Ok, Err};
+ghost use Rattle.std.specs.Prelude.{None, Some, IfOk, IfErr, OnErr, IfSome, IsOkAnd, MatchResult};
 ghost use Rattle.jk_math.specs.Answer.{Reads};
 ghost use Rattle.jk_math.specs.Memory.{IsMemory};
 ghost use Rattle.jk_bits.specs.Reading.{ahead};
 ghost use Rattle.jk_bits.specs.Giving.{Stops};
 ghost use Rattle.jk_tree.specs.TagTree.{shape_of, query_of, Values, IsTree, Query, count, top, told};
-ghost use Rattle.jk_tree.specs.Asking.{IsAnswer, Reached, Stands, ask_at, blank_tree, climb, node_at, visit, walk};
+ghost use Rattle.jk_tree.specs.Asking.{IsAnswer, AreToldBySome, AreTold, ask_at, blank_tree, climb, node_at, visit, walk};
 
 use crate::levels::{Levels, node_count, node_over, root_level};
 use crate::node::{Node, blank_nodes, is_below};
@@ -113,7 +114,7 @@ impl ReadTree {
         ensures blank { IfOk result (λ t. t ≡ blank_tree (shape_of width height)) }
         ensures stands { MatchResult result
             (λ t. (t.shape ≡ (shape_of width height)) × (t.failed ≡ None)
-            × ((v : Values) → IsTree t.shape v → Stands t.shape v [] t.nodes))
+            × ((v : Values) → IsTree t.shape v → AreTold t.shape v [] t.nodes))
             (λ e. IsMemory e) }
     {
         let root = root_level(width, height);
@@ -129,8 +130,8 @@ impl ReadTree {
         })
     }
 
-    /// What is known of the value of a leaf: the value itself, where an answer was that it is below the
-    /// threshold, and otherwise the greatest threshold asked.
+    /// What is known of the value of a leaf: the value itself, where an answer was that it is below
+    /// the threshold, and otherwise the greatest threshold asked.
     pub fn low(&self, leaf: u32) -> u16
         requires { leaf < self.now.shape.width * self.now.shape.height }
         ensures { result ≡ (node_at self.now.nodes leaf).low }
@@ -153,7 +154,8 @@ impl ReadTree {
         ensures kept { self.new.shape ≡ self.old.shape }
         ensures failed { IfErr result (λ e. self.new.failed ≡ Some e) }
 
-        // With the tree's first fault the reader fails too, some bits on. What has failed stays as it is.
+        // With the tree's first fault the reader fails too, some bits on. What has failed stays as
+        // it is.
         ensures stops { self.old.failed ≡ None → OnErr result (Stops reader.old reader.new) }
         ensures stays { IfSome self.old.failed
             (λ e. (result ≡ Err e) × (self.new ≡ self.old) × (reader.new ≡ reader.old)) }
@@ -161,17 +163,17 @@ impl ReadTree {
         // What a tree would tell is read, whatever was asked before.
         ensures only { (v : Values) (queries : List Query) (rest : List Bool)
             → self.old.failed ≡ None
-            → Stands self.old.shape v queries self.old.nodes
+            → AreTold self.old.shape v queries self.old.nodes
             → ahead reader.old ≡ told self.old.shape v queries (query_of leaf threshold) ++ rest
             → IsOkAnd result
             (IsAnswer self.old v queries (query_of leaf threshold) reader.old self.new reader.new) }
 
         // What is read is what each tree tells that stands afterwards, and there is such a tree.
-        ensures found { (queries : List Query) → Reached self.old.shape queries self.old.nodes
+        ensures found { (queries : List Query) → AreToldBySome self.old.shape queries self.old.nodes
             → IfOk result (λ b.
-            Reached self.new.shape (queries ++ query_of leaf threshold ∷ []) self.new.nodes
+            AreToldBySome self.new.shape (queries ++ query_of leaf threshold ∷ []) self.new.nodes
             × ((v : Values)
-            → Stands self.new.shape v (queries ++ query_of leaf threshold ∷ []) self.new.nodes
+            → AreTold self.new.shape v (queries ++ query_of leaf threshold ∷ []) self.new.nodes
             → IsAnswer self.old v queries (query_of leaf threshold) reader.old self.new reader.new b)) }
     {
         if let Some(fault) = self.failed {

@@ -1,6 +1,7 @@
 //! Tag trees that are written (T.800 B.10.2).
 
-ghost use Rattle.std.specs.Prelude.{◌≡◌, ℕ, ◌+◌, ◌*◌, ◌<◌, ◌≤◌, ◌++◌, [], ◌∷◌, false, true, List, length, replicate, slice_index, OnErr, MatchResult};
+ghost use Rattle.std.specs.Prelude.{◌≡◌, ℕ, ◌+◌, ◌*◌, ◌<◌, ◌≤◌, ◌++◌, [], ◌∷◌, false, true, List, length, replicate};
+ghost use Rattle.std.specs.Prelude.{slice_index, OnErr, MatchResult};
 ghost use Rattle.jk_math.specs.Memory.{IsMemory};
 ghost use Rattle.jk_tree.specs.TagTree.{shape_of, query_of, column, row, Values, Query, count, top, told, piece};
 ghost use Rattle.jk_tree.specs.Telling.{Fails, Grows, Lowers, Speaks, Tells, with_bits, written};
@@ -203,7 +204,8 @@ impl WriteTree {
             self.old.nodes self.new.nodes writer.old writer.new)
             (λ e. IsMemory e × (self.new.failed ≡ true) × (self.new.shape ≡ self.old.shape)) }
 
-        // At the tree's first fault the writer fails too, some bits on. What has failed stays as it is.
+        // At the tree's first fault the writer fails too, some bits on. What has failed stays as it
+        // is.
         ensures fails { self.old.failed ≡ false → OnErr result (Fails writer.old writer.new) }
         ensures stays { self.old.failed ≡ true → (self.new ≡ self.old) × (writer.new ≡ writer.old) }
     {

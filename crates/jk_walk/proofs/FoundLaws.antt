@@ -15,7 +15,7 @@ use Rattle.jk_order.specs.PacketOrder.{IsName, IsPacketOrder, is_of, order}
 use Rattle.jk_order.proofs.Laws.{order_is}
 use Rattle.jk_packet.specs.declared.shape.BandShape.{BandShape}
 use Rattle.jk_packet.specs.PacketText.{Layer, IsHeaderText}
-use Rattle.jk_packet.specs.Gathering.{IsPartOf}
+use Rattle.jk_packet.specs.Gathering.{IsOfBlock}
 use Rattle.jk_packet.specs.Reading.{PrecinctState, HeaderText, header_at}
 use Rattle.jk_packet.specs.Standing.{PrecinctReached, ReadsLayer}
 use Rattle.jk_packet.proofs.Laws.{reached_read, header_keeps, precinct_found, tells_last, parts_within, fresh_reached}
@@ -99,7 +99,7 @@ packet_of bytes s sop eph part n layers bits x o name in_bytes knows h l fits =
         name = name;
         order = omega arith;
         within = within;
-        parts = subst (AllByRecursion (IsPartOf shapes)) (sym l.parts) (parts_within shapes some.0 layers l.layer last.last);
+        parts = subst (AllByRecursion (IsOfBlock shapes)) (sym l.parts) (parts_within shapes some.0 layers l.layer last.last);
       };
       left = (fits, in_bytes.1);
       text = slice_join bytes start stop part.1 (omega arith) fits;

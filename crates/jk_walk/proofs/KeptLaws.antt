@@ -9,7 +9,8 @@ use Rattle.jk_geom.specs.declared.shape.PacketName.{PacketName}
 use Rattle.jk_geom.specs.TileShapes.{coding_of, IsTileShape}
 use Rattle.jk_order.specs.PacketOrder.{IsName, IsPrecinct, is_of}
 use Rattle.jk_walk.specs.WalkReading.{blank_states}
-use Rattle.jk_walk.specs.Keeping.{Kept, Slot, lists_of, most_resolutions, row_of, seen, states_in}
+use Rattle.jk_walk.specs.Keeping.{Kept, Slot, most_resolutions, row_of, seen, states_in}
+use Rattle.jk_math.specs.Lists.{lists_of}
 
 -- a row that was read
 abbrev pub items_of : Vec Slot → List Slot

@@ -12,7 +12,7 @@ use Rattle.jk_geom.specs.declared.shape.PacketName.{PacketName}
 use Rattle.jk_order.specs.PacketOrder.{IsPrecinct, is_of, order}
 use Rattle.jk_order.proofs.Laws.{order_is, order_one}
 use Rattle.jk_packet.specs.declared.shape.BandShape.{BandShape}
-use Rattle.jk_packet.specs.declared.header.Part.{Part}
+use Rattle.jk_packet.specs.declared.header.BlockContribution.{BlockContribution}
 use Rattle.jk_packet.specs.PacketText.{Layer, Trees, header_bits, IsLayer, IsHeaderText, parts_of}
 use Rattle.jk_packet.specs.Reading.{PrecinctState, HeaderText, header_at}
 use Rattle.jk_packet.specs.Standing.{PrecinctStands, Tells}
@@ -74,7 +74,7 @@ pub record PacketAgain (bytes : List ℕ) (shapes : List BandShape) (sop eph : B
   pub counted : after.layers ≡ x.layers + 1
   pub ahead : Ahead shapes sop eph packets after
 
-pub packet_ok : (bytes : List ℕ) (part : ℕ × ℕ) (n : PacketName) (x after : PrecinctState) (size : ℕ) (parts : List Part) → header_at n.layer (slice_of bytes part) x ≡ Ok (record { length = size; parts = parts }, after)
+pub packet_ok : (bytes : List ℕ) (part : ℕ × ℕ) (n : PacketName) (x after : PrecinctState) (size : ℕ) (parts : List BlockContribution) → header_at n.layer (slice_of bytes part) x ≡ Ok (record { length = size; parts = parts }, after)
     → part.0 + size + bodies_length parts ≤ part.1 → packet_at bytes part n x ≡ Ok (place_of n part.0 size parts, after)
 unfolding packet_at
 packet_ok bytes part n x after size parts read fits =
@@ -124,7 +124,7 @@ packet_again bytes shapes sop eph p packets part rest x turn is a in_bytes text 
         name = refl;
         size = stop;
         text = here;
-        bodies = bodies_are bytes (start + size) p.bodies (rest ++ beyond) is.lengths at_bodies ∙ ap (λ (ps : List Part). bodies_at bytes (start + size) ps) own;
+        bodies = bodies_are bytes (start + size) p.bodies (rest ++ beyond) is.lengths at_bodies ∙ ap (λ (ps : List BlockContribution). bodies_at bytes (start + size) ps) own;
       };
       begins = refl;
       left = (within, last);

@@ -3,12 +3,12 @@ use Rattle.std.proofs.Common.{◌≡◌, ℕ, ◌+◌, ◌-◌, ◌≤◌, List,
 use Rattle.std.specs.List.{AllByRecursion, flat_map}
 use Rattle.std.proofs.lemmas.List.{length-take-le, length-drop, length-append, take-take, take-append-drop, take_at, drop_at, drop-drop, drop-take}
 use Rattle.std.proofs.lemmas.List.Sums.{sum_by-cons}
-use Rattle.jk_packet.specs.declared.header.Part.{Part}
+use Rattle.jk_packet.specs.declared.header.BlockContribution.{BlockContribution}
 use Rattle.jk_walk.specs.TilePackets.{slice_of, Body}
 use Rattle.jk_walk.specs.WalkReading.{bodies_length, bodies_at}
 
-pub bodies_length-cons : (p : Part) (parts : List Part) → bodies_length (p ∷ parts) ≡ p.length + bodies_length parts
-bodies_length-cons p parts = sum_by-cons (λ (p : Part). p.length) p parts
+pub bodies_length-cons : (p : BlockContribution) (parts : List BlockContribution) → bodies_length (p ∷ parts) ≡ p.length + bodies_length parts
+bodies_length-cons p parts = sum_by-cons (λ (p : BlockContribution). p.length) p parts
 
 take_sum : (n m : ℕ) (xs : List ℕ) → take (n + m) xs ≡ take n xs ++ take m (drop n xs)
 take_sum n m xs =
@@ -39,18 +39,18 @@ slice_none bytes a b le = ap (λ n. take n (drop a bytes)) (let e : b - a ≡ 0 
 abbrev pub body_bytes : Body → List ℕ
 body_bytes b = b.bytes
 
-abbrev pub body_part : Body → Part
+abbrev pub body_part : Body → BlockContribution
 body_part b = b.part
 
 -- the body is as long as its part says
 abbrev pub IsLong : Body → Type 0
 IsLong b = length b.bytes ≡ b.part.length
 
-pub bodies_parts : (bytes : List ℕ) (at : ℕ) (parts : List Part) → map body_part (bodies_at bytes at parts) ≡ parts
+pub bodies_parts : (bytes : List ℕ) (at : ℕ) (parts : List BlockContribution) → map body_part (bodies_at bytes at parts) ≡ parts
 bodies_parts bytes at [] = refl
-bodies_parts bytes at (p ∷ parts) = ap (λ (ps : List Part). p ∷ ps) (bodies_parts bytes (at + p.length) parts)
+bodies_parts bytes at (p ∷ parts) = ap (λ (ps : List BlockContribution). p ∷ ps) (bodies_parts bytes (at + p.length) parts)
 
-pub bodies_long : (bytes : List ℕ) (at : ℕ) (parts : List Part) → at + bodies_length parts ≤ length bytes → AllByRecursion IsLong (bodies_at bytes at parts)
+pub bodies_long : (bytes : List ℕ) (at : ℕ) (parts : List BlockContribution) → at + bodies_length parts ≤ length bytes → AllByRecursion IsLong (bodies_at bytes at parts)
 bodies_long bytes at [] within = tt
 bodies_long bytes at (p ∷ parts) within =
     let size = bodies_length-cons p parts in (
@@ -58,7 +58,7 @@ bodies_long bytes at (p ∷ parts) within =
       bodies_long bytes (at + p.length) parts (omega (arith, size, within)),
     )
 
-pub bodies_join : (bytes : List ℕ) (at : ℕ) (parts : List Part) → flat_map body_bytes (bodies_at bytes at parts) ≡ slice_of bytes (at, at + bodies_length parts)
+pub bodies_join : (bytes : List ℕ) (at : ℕ) (parts : List BlockContribution) → flat_map body_bytes (bodies_at bytes at parts) ≡ slice_of bytes (at, at + bodies_length parts)
 bodies_join bytes at [] = sym (slice_none bytes at (at + 0) (omega arith))
 bodies_join bytes at (p ∷ parts) =
     let size = bodies_length-cons p parts in

@@ -16,7 +16,7 @@ use Rattle.jk_packet.proofs.Laws.{header_keeps}
 use Rattle.jk_walk.specs.declared.places.PacketPlace.{PacketPlace}
 use Rattle.jk_walk.specs.WalkReading.{States, blank_states, with_state, begun, place_end, place_of, packet_at, names_at}
 use Rattle.jk_walk.specs.TilePackets.{slice_of}
-use Rattle.jk_walk.specs.Keeping.{Kept, Slot, most_resolutions, row_of, seen, states_in, Shows, IsKept}
+use Rattle.jk_walk.specs.Keeping.{Kept, Slot, most_resolutions, row_of, seen, states_in, ShowsStates, IsKept}
 use Rattle.jk_walk.proofs.Turns.{AreTurns, counts_of, next_counts, order_turns, its_precinct, at_own}
 use Rattle.jk_walk.proofs.Runs.{AreParts, begun_later, begun_parts}
 use Rattle.jk_walk.proofs.FoundLaws.{names_from, names-nil, names-cons}
@@ -29,7 +29,7 @@ pub record IsWalking (bytes : List ℕ) (s : TileShape) (sop eph : Bool) (all : 
   pub follow : Left packets names
   pub count : length names ≡ more
   pub turns : AreTurns s (counts_of states) names
-  pub shows : Shows s kept states
+  pub shows : ShowsStates s kept states
   pub same_sop : kept.sop ≡ sop
   pub same_eph : kept.eph ≡ eph
   pub rows : length kept.precincts ≡ length s.codings * most_resolutions
@@ -176,7 +176,7 @@ pub record IsRead (s : TileShape) (n : PacketName) (old new : Kept) (x : Precinc
   pub same : IsKept old new
 
 -- what the states show once a packet was read
-shows_more : (s : TileShape) (kept kept' : Kept) (states : States) (n : PacketName) (x : PrecinctState) → Shows s kept states → x.layers ≡ n.layer + 1 → IsRead s n kept kept' x → Shows s kept' (with_state states n x)
+shows_more : (s : TileShape) (kept kept' : Kept) (states : States) (n : PacketName) (x : PrecinctState) → ShowsStates s kept states → x.layers ≡ n.layer + 1 → IsRead s n kept kept' x → ShowsStates s kept' (with_state states n x)
 shows_more s kept kept' states n x shows count read c r k is = by (is_of c r k n) refl
   where
     by : (t : Bool) → is_of c r k n ≡ t → (cond t x (states c r k)).layers < s.layers → cond t x (states c r k) ≡ states_in s kept' c r k

@@ -16,7 +16,13 @@ use Rattle.jk_walk.specs.Sop.{sop_of, counter_of, sop_written}
 
 -- what is kept of a packet at a place
 abbrev pub entry_of : List ℕ → (sop : Bool) → PacketPlace → PacketEntry
-entry_of bytes sop w = record { start = w.start; body = w.body; end = place_end w; counter = counter_of sop (slice_of bytes (w.start, place_end w)) }
+entry_of bytes sop w =
+    record {
+      start = w.start;
+      body = w.body;
+      end = place_end w;
+      counter = counter_of sop (slice_of bytes (w.start, place_end w));
+    }
 
 -- the entries of tile t, in the order of its packets
 unfoldable pub entries_at : List ℕ → Headers → ℕ → Result (List PacketEntry) Fault
@@ -58,4 +64,5 @@ EnterAt bytes h t packets entries = AllZip (IsEntered bytes (tile_in h.tiles t).
 
 -- The packets of tile t have these entries.
 abbrev pub AreEnteredAt : List ℕ → Headers → ℕ → List PacketEntry → Type 0
-AreEnteredAt bytes h t entries = (packets : List Packet) × AreTilePackets bytes h t packets × EnterAt bytes h t packets entries
+AreEnteredAt bytes h t entries = (packets : List Packet) × AreTilePackets bytes h t packets
+    × EnterAt bytes h t packets entries

@@ -1,5 +1,7 @@
--- How the program keeps what headers have told of the precincts of a tile: those of which nothing is kept are blank.
-use Rattle.std.specs.Prelude.{◌≡◌, ℕ, ◌+◌, ◌*◌, ◌<◌, Bool, List, [], length, map, slice_index_or, Option, Some, None, Result, Ok}
+-- How the program keeps what headers have told of the precincts of a tile: those of which nothing
+-- is kept are blank.
+use Rattle.std.specs.Prelude.{◌≡◌, ℕ, ◌+◌, ◌*◌, ◌<◌, Bool, List, [], length, map, slice_index_or, Option, Some, None}
+use Rattle.std.specs.Prelude.{Result, Ok}
 use Rattle.std.specs.Global.{Vec, Box}
 use Rattle.jk_math.specs.Answer.{◌>>=◌}
 use Rattle.jk_math.specs.declared.fault.Fault.{Fault}
@@ -27,10 +29,6 @@ pub record Kept : Type 0 where
   pub eph : Bool
   pub precincts : List (List Slot)
 
--- the lists as they lie in memory
-abbrev pub lists_of : List (Vec Slot) → List (List Slot)
-lists_of resolutions = map (λ resolution. resolution.items) resolutions
-
 -- how many resolutions a component may have
 abbrev pub most_resolutions : ℕ
 most_resolutions = 11
@@ -48,8 +46,9 @@ abbrev pub states_in : TileShape → Kept → States
 states_in s p = λ c r k. seen (blank_states s p.sop p.eph c r) (slice_index_or p.precincts (row_of c r) []) k
 
 -- the precincts of the tile are kept as these states say, each until its last layer is read
-abbrev pub Shows : TileShape → Kept → States → Type 0
-Shows s p states = (c r k : ℕ) → IsPrecinct s c r k → (states c r k).layers < s.layers → states c r k ≡ states_in s p c r k
+abbrev pub ShowsStates : TileShape → Kept → States → Type 0
+ShowsStates s p states = (c r k : ℕ) → IsPrecinct s c r k → (states c r k).layers < s.layers
+    → states c r k ≡ states_in s p c r k
 
 -- the same markers, and as many resolutions
 pub record IsKept (old new : Kept) : Type 0 where

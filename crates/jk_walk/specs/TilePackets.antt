@@ -1,5 +1,6 @@
 -- The packets of a tile, and how its tile-parts hold them (T.800 B.9 to B.12).
-use Rattle.std.specs.Prelude.{◌≡◌, ℕ, zero, suc, ◌+◌, ◌-◌, ◌*◌, Bool, List, [], ◌∷◌, ◌++◌, length, map, take, drop, filter, slice_index, slice_index_or}
+use Rattle.std.specs.Prelude.{◌≡◌, ℕ, zero, suc, ◌+◌, ◌-◌, ◌*◌, Bool, List, [], ◌∷◌, ◌++◌, length, map, take, drop}
+use Rattle.std.specs.Prelude.{filter, slice_index, slice_index_or}
 use Rattle.std.specs.List.{AllByRecursion, flat_map, range_with_len}
 use Rattle.jk_math.specs.declared.rect.Rect.{Rect}
 use Rattle.jk_marks.specs.declared.siz.Siz.{Siz}
@@ -13,7 +14,7 @@ use Rattle.jk_geom.specs.Blocks.{block_grid}
 use Rattle.jk_geom.specs.TileShapes.{coding_of}
 use Rattle.jk_order.specs.PacketOrder.{IsPacketOrder, IsPrecinct, is_of}
 use Rattle.jk_packet.specs.declared.shape.BandShape.{BandShape}
-use Rattle.jk_packet.specs.declared.header.Part.{Part}
+use Rattle.jk_packet.specs.declared.header.BlockContribution.{BlockContribution}
 use Rattle.jk_packet.specs.PacketText.{Layer, Trees, IsHeaderText, parts_of}
 use Rattle.jk_packet.specs.Standing.{AreTrees, Tells}
 use Rattle.jk_params.specs.Headers.{TileFields}
@@ -28,10 +29,11 @@ shape_in siz f t = record { rect = tile_area siz t; layers = f.cod.layers; order
 
 -- What a packet has of a code-block: its part, and the bytes.
 pub record Body : Type 0 where
-  pub part : Part
+  pub part : BlockContribution
   pub bytes : List ℕ
 
--- A packet: whose it is, what it has of its precinct, the bits of its header, the bodies of its parts, and its text.
+-- A packet: whose it is, what it has of its precinct, the bits of its header, the bodies of its
+-- parts, and its text.
 pub record Packet : Type 0 where
   pub name : PacketName
   pub layer : Layer
@@ -39,7 +41,8 @@ pub record Packet : Type 0 where
   pub bodies : List Body
   pub text : List ℕ
 
--- A packet where SOP may stand and EPH must: a header, and behind it a body for each part, as long as the header says.
+-- A packet where SOP may stand and EPH must: a header, and behind it a body for each part, as long
+-- as the header says.
 pub record IsPacket (sop eph : Bool) (p : Packet) : Type 0 where
   pub header : List ℕ
   pub is_header : IsHeaderText sop eph p.bits header
@@ -63,7 +66,8 @@ planes_of k b = k.guard + slice_index k.exponents b - 1
 
 -- the part of a sub-band that lies in precinct n of resolution r; b is its number in QCD
 abbrev pub band_part : Rect → Coding → (r n : ℕ) → Orientation → (b : ℕ) → BandShape
-band_part a k r n o b = let g = block_grid a k r n o in record { across = g.across; down = g.down; planes = planes_of k b }
+band_part a k r n o b = let g =
+    block_grid a k r n o in record { across = g.across; down = g.down; planes = planes_of k b }
 
 -- the same of sub-band i of the resolution
 abbrev pub band_at : Rect → Coding → (r n i : ℕ) → BandShape
@@ -83,12 +87,13 @@ pub record IsToldPrecinct (shapes : List BandShape) (packets : List Packet) : Ty
   pub are : AreTrees shapes trees
   pub told : Tells shapes trees (map (λ p. p.layer) packets) (map (λ p. p.bits) packets)
 
--- The packets of a tile in their order: the headers of each precinct are told layer by layer, and the data of the tile's
--- parts are the texts, cut into one run for each part.
+-- The packets of a tile in their order: the headers of each precinct are told layer by layer, and
+-- the data of the tile's parts are the texts, cut into one run for each part.
 pub record IsTile (s : TileShape) (sop eph : Bool) (packets : List Packet) (parts : List (List ℕ)) : Type 0 where
   pub order : IsPacketOrder s (map (λ p. p.name) packets)
   pub texts : AllByRecursion (IsPacket sop eph) packets
-  pub told : (c r k : ℕ) → IsPrecinct s c r k → IsToldPrecinct (bands_at s.rect (coding_of s.codings c) r k) (of_precinct c r k packets)
+  pub told : (c r k : ℕ) → IsPrecinct s c r k
+      → IsToldPrecinct (bands_at s.rect (coding_of s.codings c) r k) (of_precinct c r k packets)
   pub runs : List (List Packet)
   pub whole : flat_map (λ run. run) runs ≡ packets
   pub cut : map (λ run. flat_map (λ p. p.text) run) runs ≡ parts

@@ -1,5 +1,7 @@
--- Reading the packets of a tile from front to back, with the first fault: for each packet, where it stands.
-use Rattle.std.specs.Prelude.{◌≡◌, ℕ, ◌+◌, ◌<◌, ◌≤◌, Bool, not, ◌==◌, nat_lt, if◌then◌else◌, List, [], ◌∷◌, length, map, drop, sum_by, Result, Ok, Err}
+-- Reading the packets of a tile from front to back, with the first fault: for each packet, where it
+-- stands.
+use Rattle.std.specs.Prelude.{◌≡◌, ℕ, ◌+◌, ◌<◌, ◌≤◌, Bool, not, ◌==◌, nat_lt, if◌then◌else◌, List, [], ◌∷◌, length, map}
+use Rattle.std.specs.Prelude.{drop, sum_by, Result, Ok, Err}
 use Rattle.std.specs.List.{AllByRecursion, AllZip}
 use Rattle.jk_math.specs.Answer.{◌>>=◌, refuse}
 use Rattle.jk_math.specs.declared.fault.Fault.{Fault}
@@ -8,8 +10,8 @@ use Rattle.jk_geom.specs.declared.shape.TileShape.{TileShape}
 use Rattle.jk_geom.specs.declared.shape.PacketName.{PacketName}
 use Rattle.jk_geom.specs.TileShapes.{coding_of}
 use Rattle.jk_order.specs.PacketOrder.{IsName, is_of, order}
-use Rattle.jk_packet.specs.declared.header.Part.{Part}
-use Rattle.jk_packet.specs.Gathering.{IsPartOf}
+use Rattle.jk_packet.specs.declared.header.BlockContribution.{BlockContribution}
+use Rattle.jk_packet.specs.Gathering.{IsOfBlock}
 use Rattle.jk_packet.specs.Reading.{PrecinctState, blank_precinct, header_at}
 use Rattle.jk_params.specs.Headers.{Headers, tile_in}
 use Rattle.jk_walk.specs.declared.places.PacketPlace.{PacketPlace}
@@ -17,7 +19,7 @@ use Rattle.jk_walk.specs.declared.spans.PacketSpan.{PacketSpan}
 use Rattle.jk_walk.specs.TilePackets.{slice_of, shape_in, Body, Packet, bands_at, IsTile}
 
 -- how many bytes the bodies of parts take
-abbrev pub bodies_length : List Part → ℕ
+abbrev pub bodies_length : List BlockContribution → ℕ
 bodies_length parts = sum_by (λ p. p.length) parts
 
 -- the first byte behind a packet
@@ -47,7 +49,7 @@ in_hand [] = Err MissingPackets
 in_hand (p ∷ parts) = Ok p
 
 -- the place of a packet from its start on
-abbrev pub place_of : PacketName → (start header : ℕ) → List Part → PacketPlace
+abbrev pub place_of : PacketName → (start header : ℕ) → List BlockContribution → PacketPlace
 place_of n start header parts = record { name = n; start = start; body = start + header; parts = parts }
 
 -- the packet at the front of a part, with its precinct after it
@@ -74,9 +76,10 @@ packets_at bytes h t =
     names_at bytes (order s) (blank_states s f.cod.sop f.cod.eph) f.data_places
 
 -- the bodies of parts, which stand one after another from a place on
-abbrev pub bodies_at : List ℕ → ℕ → List Part → List Body
+abbrev pub bodies_at : List ℕ → ℕ → List BlockContribution → List Body
 bodies_at bytes at [] = []
-bodies_at bytes at (p ∷ parts) = record { part = p; bytes = slice_of bytes (at, at + p.length) } ∷ bodies_at bytes (at + p.length) parts
+bodies_at bytes at (p ∷ parts) = record { part = p; bytes = slice_of bytes (at, at + p.length) }
+    ∷ bodies_at bytes (at + p.length) parts
 
 -- A packet stands at a place.
 pub record IsPlaced (bytes : List ℕ) (p : Packet) (w : PacketPlace) : Type 0 where
@@ -103,12 +106,13 @@ pub record IsSpanned (bytes : List ℕ) (p : Packet) (v : PacketSpan) : Type 0 w
   pub size : v.end ≡ v.start + length p.text
   pub text : slice_of bytes (v.start, v.end) ≡ p.text
 
--- Bytes of packets stand one after another in what is left of parts, and leave nothing: each begin where the part in hand goes on,
--- have a byte, and end within the part.
+-- Bytes of packets stand one after another in what is left of parts, and leave nothing: each begin
+-- where the part in hand goes on, have a byte, and end within the part.
 abbrev pub AreLaid : List PacketSpan → List (ℕ × ℕ) → Type 0
 AreLaid [] parts = begun parts ≡ []
 AreLaid (v ∷ spans) parts =
-    (part : ℕ × ℕ) × (later : List (ℕ × ℕ)) × (begun parts ≡ part ∷ later) × (v.start ≡ part.0) × (v.start < v.end) × (v.end ≤ part.1) × AreLaid spans ((v.end, part.1) ∷ later)
+    (part : ℕ × ℕ) × (later : List (ℕ × ℕ)) × (begun parts ≡ part ∷ later) × (v.start ≡ part.0) × (v.start < v.end)
+    × (v.end ≤ part.1) × AreLaid spans ((v.end, part.1) ∷ later)
 
 -- the packets of tile t, in the places of its data
 abbrev pub AreTilePackets : List ℕ → Headers → ℕ → List Packet → Type 0
@@ -118,14 +122,17 @@ AreTilePackets bytes h t packets =
 
 -- The packets of tile t stand at these places.
 abbrev pub StandAt : List ℕ → Headers → ℕ → List PacketPlace → Type 0
-StandAt bytes h t places = (packets : List Packet) × AreTilePackets bytes h t packets × AllZip (IsPlaced bytes) packets places
+StandAt bytes h t places = (packets : List Packet) × AreTilePackets bytes h t packets
+    × AllZip (IsPlaced bytes) packets places
 
--- The place of a packet of the tile, within so many bytes: its parts are of code-blocks of its precinct.
+-- The place of a packet of the tile, within so many bytes: its parts are of code-blocks of its
+-- precinct.
 pub record IsPlace (size : ℕ) (s : TileShape) (w : PacketPlace) : Type 0 where
   pub name : IsName s w.name
   pub order : w.start ≤ w.body
   pub within : place_end w ≤ size
-  pub parts : AllByRecursion (IsPartOf (bands_at s.rect (coding_of s.codings w.name.component) w.name.resolution w.name.precinct)) w.parts
+  pub parts : AllByRecursion
+      (IsOfBlock (bands_at s.rect (coding_of s.codings w.name.component) w.name.resolution w.name.precinct)) w.parts
 
 abbrev pub ArePlaces : (size : ℕ) → TileShape → List PacketPlace → Type 0
 ArePlaces size s places = AllByRecursion (IsPlace size s) places

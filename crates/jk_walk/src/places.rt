@@ -4,7 +4,7 @@ ghost use Rattle.std.specs.Prelude.{◌≡◌, ◌+◌, ◌<◌, ◌≤◌, ◌�
 ghost use Rattle.jk_walk.specs.WalkReading.{bodies_length, place_end};
 
 use jk_geom::PacketName;
-use jk_packet::{Part, Parts};
+use jk_packet::{BlockContribution, Parts};
 use std::marker::Model;
 
 /// Where a packet stands in the codestream.
@@ -16,12 +16,13 @@ pub struct PacketPlace {
     pub start: usize,
     /// The first byte behind the header and its EPH marker, where the bodies begin.
     pub body: usize,
-    /// What the packet has of each code-block that it has something of. The bodies stand in this order.
+    /// What the packet has of each code-block that it has something of. The bodies stand in this
+    /// order.
     pub parts: Parts,
 }
 
 /// The first byte behind the bodies of parts, which begin at a place.
-fn behind(body: usize, parts: &[Part]) -> usize
+fn behind(body: usize, parts: &[BlockContribution]) -> usize
     requires { body + bodies_length parts.now < 2 ^ 64 }
     ensures { result ≡ body + bodies_length parts.now }
 {

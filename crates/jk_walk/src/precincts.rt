@@ -1,6 +1,7 @@
 //! The precincts of a tile, made as their packets are read.
 
-ghost use Rattle.std.specs.Prelude.{◌≡◌, ◌*◌, ◌<◌, ◌≤◌, ℕ, false, [], length, replicate, slice_index_or, ◌+◌, ◌≢◌, IfErr, OnOk, MatchResult};
+ghost use Rattle.std.specs.Prelude.{◌≡◌, ◌*◌, ◌<◌, ◌≤◌, ℕ, false, [], length, replicate, slice_index_or, ◌+◌, ◌≢◌};
+ghost use Rattle.std.specs.Prelude.{IfErr, OnOk, MatchResult};
 ghost use Rattle.std.specs.List.{AllByRecursion};
 ghost use Rattle.jk_math.specs.Answer.{Answers, ReadsBy};
 ghost use Rattle.jk_math.specs.Memory.{IsMemory};
@@ -15,20 +16,12 @@ use crate::shape::precinct_shape;
 use jk_geom::{PacketName, TileShape};
 use jk_math::Fault;
 use jk_packet::{Header, Precinct};
+use jk_params::PacketMarkers;
 use std::alloc::Global;
 use std::marker::Model;
 
 /// How many resolutions a component may have.
 const MOST_RESOLUTIONS: usize = 11;
-
-/// Which markers stand at the packets of a tile (T.800 A.8).
-#[derive(Clone, Copy)]
-pub(crate) struct Markers {
-    /// An SOP marker segment may stand before a packet.
-    pub(crate) sop: bool,
-    /// An EPH marker must stand behind a packet's header.
-    pub(crate) eph: bool,
-}
 
 /// What is kept of a precinct: nothing before its first packet, and nothing behind its last.
 type Slot = Option<Box<Precinct>>;
@@ -37,14 +30,15 @@ type Slot = Option<Box<Precinct>>;
 fn blank(
     alloc: Global,
     shape: &TileShape,
-    markers: Markers,
+    markers: PacketMarkers,
     name: PacketName,
 ) -> Result<Precinct, Fault>
     requires shape { IsTileShape shape.now }
     requires planes { AllByRecursion HasPlanes shape.now.codings }
     requires name { IsName shape.now name }
     ensures { MatchResult result
-        (λ p. p ≡ blank_states shape.now markers.sop markers.eph name.component name.resolution name.precinct) (λ e. IsMemory e) }
+        (λ p. p ≡ blank_states shape.now markers.sop markers.eph name.component name.resolution name.precinct)
+        (λ e. IsMemory e) }
 {
     let coding = &shape.codings.as_slice()[name.component as usize];
     let precinct = precinct_shape(
@@ -62,7 +56,8 @@ fn blank(
 fn make_upto(slots: &mut Vec<Slot>, number: u32) -> Result<(), Fault>
     ensures err { IfErr result (λ e. IsMemory e) }
     ensures there { OnOk result (number < length slots.new.items) }
-    ensures same { OnOk result ((blank : ℕ → PrecinctState) (k : ℕ) → seen blank slots.new.items k ≡ seen blank slots.old.items k) }
+    ensures same { OnOk result
+        ((blank : ℕ → PrecinctState) (k : ℕ) → seen blank slots.new.items k ≡ seen blank slots.old.items k) }
 {
     for _ in slots.len()..number as usize + 1 {
         slots.push(None)?;
@@ -73,7 +68,8 @@ fn make_upto(slots: &mut Vec<Slot>, number: u32) -> Result<(), Fault>
 /// Takes a precinct out of those that are kept, if it is among them.
 fn take_kept(slots: &mut Vec<Slot>, number: u32) -> Slot
     ensures value { (blank : ℕ → PrecinctState) → state_of result (blank number) ≡ seen blank slots.old.items number }
-    ensures others { (blank : ℕ → PrecinctState) (k : ℕ) → k ≢ number → seen blank slots.new.items k ≡ seen blank slots.old.items k }
+    ensures others { (blank : ℕ → PrecinctState) (k : ℕ) → k ≢ number
+        → seen blank slots.new.items k ≡ seen blank slots.old.items k }
 {
     if (number as usize) < slots.len() {
         slots[number as usize].take()
@@ -82,11 +78,12 @@ fn take_kept(slots: &mut Vec<Slot>, number: u32) -> Slot
     }
 }
 
-/// The precinct of a packet, which is taken out of those that are kept; a blank one where none is kept.
+/// The precinct of a packet, which is taken out of those that are kept; a blank one where none is
+/// kept.
 fn take(
     alloc: Global,
     shape: &TileShape,
-    markers: Markers,
+    markers: PacketMarkers,
     name: PacketName,
     slots: &mut Vec<Slot>,
 ) -> Result<Box<Precinct>, Fault>
@@ -94,8 +91,11 @@ fn take(
     requires planes { AllByRecursion HasPlanes shape.now.codings }
     requires name { IsName shape.now name }
     ensures value { MatchResult result
-        (λ p. p.value ≡ seen (blank_states shape.now markers.sop markers.eph name.component name.resolution) slots.old.items name.precinct) (λ e. IsMemory e) }
-    ensures others { (blank : ℕ → PrecinctState) (k : ℕ) → k ≢ name.precinct → seen blank slots.new.items k ≡ seen blank slots.old.items k }
+        (λ p. p.value
+        ≡ seen (blank_states shape.now markers.sop markers.eph name.component name.resolution) slots.old.items
+        name.precinct) (λ e. IsMemory e) }
+    ensures others { (blank : ℕ → PrecinctState) (k : ℕ) → k ≢ name.precinct
+        → seen blank slots.new.items k ≡ seen blank slots.old.items k }
 {
     match take_kept(slots, name.precinct) {
         Some(precinct) => Ok(precinct),
@@ -107,7 +107,9 @@ fn take(
 fn keep(slots: &mut Vec<Slot>, number: u32, precinct: Box<Precinct>) -> Result<(), Fault>
     ensures err { IfErr result (λ e. IsMemory e) }
     ensures own { OnOk result ((blank : ℕ → PrecinctState) → seen blank slots.new.items number ≡ precinct.value) }
-    ensures others { OnOk result ((blank : ℕ → PrecinctState) (k : ℕ) → k ≢ number → seen blank slots.new.items k ≡ seen blank slots.old.items k) }
+    ensures others { OnOk result
+        ((blank : ℕ → PrecinctState) (k : ℕ) → k ≢ number
+        → seen blank slots.new.items k ≡ seen blank slots.old.items k) }
 {
     make_upto(slots, number)?;
     slots[number as usize] = Some(precinct);
@@ -119,7 +121,7 @@ fn keep(slots: &mut Vec<Slot>, number: u32, precinct: Box<Precinct>) -> Result<(
 fn read_in(
     alloc: Global,
     shape: &TileShape,
-    markers: Markers,
+    markers: PacketMarkers,
     name: PacketName,
     bytes: &[u8],
     slots: &mut Vec<Slot>,
@@ -127,12 +129,17 @@ fn read_in(
     requires shape { IsTileShape shape.now }
     requires planes { AllByRecursion HasPlanes shape.now.codings }
     requires name { IsName shape.now name }
-    requires next { name.layer ≡ (seen (blank_states shape.now markers.sop markers.eph name.component name.resolution) slots.old.items name.precinct).layers }
+    requires next { name.layer
+        ≡ (seen (blank_states shape.now markers.sop markers.eph name.component name.resolution) slots.old.items
+        name.precinct).layers }
     ensures exact { Answers text_of result (alone (header_at name.layer bytes.now
-        (seen (blank_states shape.now markers.sop markers.eph name.component name.resolution) slots.old.items name.precinct))) }
+        (seen (blank_states shape.now markers.sop markers.eph name.component name.resolution) slots.old.items
+        name.precinct))) }
     ensures early { name.layer + 1 < shape.now.layers → ReadsBy text_of (header_at name.layer bytes.now)
-        (seen (blank_states shape.now markers.sop markers.eph name.component name.resolution) slots.old.items name.precinct)
-        (seen (blank_states shape.now markers.sop markers.eph name.component name.resolution) slots.new.items name.precinct) result }
+        (seen (blank_states shape.now markers.sop markers.eph name.component name.resolution) slots.old.items
+        name.precinct)
+        (seen (blank_states shape.now markers.sop markers.eph name.component name.resolution) slots.new.items
+        name.precinct) result }
     ensures others { OnOk result ((k : ℕ) → k ≢ name.precinct
         → seen (blank_states shape.now markers.sop markers.eph name.component name.resolution) slots.new.items k
         ≡ seen (blank_states shape.now markers.sop markers.eph name.component name.resolution) slots.old.items k) }
@@ -160,12 +167,13 @@ fn row_of(name: PacketName) -> usize
 #[derive(Drop)]
 pub(crate) struct Precincts {
     alloc: Global,
-    markers: Markers,
+    markers: PacketMarkers,
     resolutions: Vec<Vec<Slot>>,
 }
 
 impl Model for Precincts {
-    ghost use Rattle.jk_walk.specs.Keeping.{Kept, lists_of};
+    ghost use Rattle.jk_walk.specs.Keeping.{Kept};
+    ghost use Rattle.jk_math.specs.Lists.{lists_of};
 
     ghost Value = { Kept };
 
@@ -180,11 +188,15 @@ impl Precincts {
     pub(crate) fn new(
         alloc: Global,
         components: usize,
-        markers: Markers,
+        markers: PacketMarkers,
     ) -> Result<Precincts, Fault>
         requires { components ≤ 4 }
         ensures { MatchResult result
-            (λ p. p ≡ record { sop = markers.sop; eph = markers.eph; precincts = replicate (components * most_resolutions) [] }) (λ e. IsMemory e) }
+            (λ p. p ≡ record {
+              sop = markers.sop;
+              eph = markers.eph;
+              precincts = replicate (components * most_resolutions) [];
+            }) (λ e. IsMemory e) }
     {
         let mut resolutions = Vec::new(alloc);
         for _ in 0..components * MOST_RESOLUTIONS {
@@ -211,7 +223,8 @@ impl Precincts {
         requires planes { AllByRecursion HasPlanes shape.now.codings }
         requires name { IsName shape.now name }
         requires kept { length self.old.precincts ≡ length shape.now.codings * most_resolutions }
-        requires next { name.layer ≡ (states_in shape.now self.old name.component name.resolution name.precinct).layers }
+        requires next { name.layer
+            ≡ (states_in shape.now self.old name.component name.resolution name.precinct).layers }
         ensures exact { Answers text_of result (alone (header_at name.layer bytes.now
             (states_in shape.now self.old name.component name.resolution name.precinct))) }
         ensures early { name.layer + 1 < shape.now.layers → ReadsBy text_of (header_at name.layer bytes.now)

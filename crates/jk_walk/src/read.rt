@@ -14,12 +14,11 @@ ghost use Rattle.jk_walk.specs.Entries.{entries_at, EnterAt, AreEnteredAt, AreEn
 
 use crate::entries::{PacketEntry, TileEntries};
 use crate::places::{PacketPlace, TilePackets};
-use crate::precincts::Markers;
 use crate::spans::OfPacket;
 use crate::walk::read_kept;
 use jk_geom::{TileShape, tile_shape};
 use jk_math::Fault;
-use jk_params::Codestream;
+use jk_params::{Codestream, PacketMarkers};
 use std::alloc::Global;
 
 /// What the packets of a tile depend on: its rectangle and codings, layers and their order (T.800
@@ -52,11 +51,12 @@ fn read_tile<K: OfPacket>(
     requires sound { AreHeaders (length bytes.now) headers.now }
     requires tile { tile < tile_count headers.now.siz }
     ensures { Answers (λ v. v.items) result
-        (each_of (K.kept_of bytes.now (tile_in headers.now.tiles tile).cod.sop) (packets_at bytes.now headers.now tile)) }
+        (each_of (K.kept_of bytes.now (tile_in headers.now.tiles tile).cod.sop)
+        (packets_at bytes.now headers.now tile)) }
 {
     let cod = headers.cod(tile);
     let shape = shape_of(headers, tile);
-    let markers = Markers {
+    let markers = PacketMarkers {
         sop: cod.sop,
         eph: cod.eph,
     };
@@ -96,9 +96,9 @@ fn tile_entries(
 
 /// The packets of a tile in the data of its parts, each by its place (T.800 B.9 to B.12).
 ///
-/// The first of these faults, packet by packet in the order of the tile: MissingPackets where no part has bytes left,
-/// those of `Precinct::read_header` in what is left of the part, and Truncated where the bodies pass its end; behind
-/// the last packet SurplusBytes where bytes are left.
+/// The first of these faults, packet by packet in the order of the tile: MissingPackets where no
+/// part has bytes left, those of `Precinct::read_header` in what is left of the part, and Truncated
+/// where the bodies pass its end; behind the last packet SurplusBytes where bytes are left.
 pub fn read_packets(
     alloc: Global,
     headers: &Codestream,
@@ -115,7 +115,8 @@ pub fn read_packets(
     ensures only { (packets : List Packet) → AreTilePackets bytes.now headers.now tile packets
         → MatchResult result (AllZip (IsPlaced bytes.now) packets) (λ e. IsMemory e) }
     // The places lie in the codestream, and the parts are of code-blocks that there are.
-    ensures within { IfOk result (ArePlaces (length bytes.now) (shape_in headers.now.siz (tile_in headers.now.tiles tile) tile)) }
+    ensures within { IfOk result
+        (ArePlaces (length bytes.now) (shape_in headers.now.siz (tile_in headers.now.tiles tile) tile)) }
 {
     tile_packets(alloc, headers, bytes, tile)
 }
@@ -123,8 +124,8 @@ pub fn read_packets(
 /// The entries of the packets of a tile, in the order of the packets: what `read_packets` finds,
 /// without the names and the parts.
 ///
-/// The faults are those of `read_packets`, in the same order. Room is taken for no more packets than
-/// the codestream has bytes, whatever the headers promise.
+/// The faults are those of `read_packets`, in the same order. Room is taken for no more packets
+/// than the codestream has bytes, whatever the headers promise.
 pub fn read_entries(
     alloc: Global,
     headers: &Codestream,

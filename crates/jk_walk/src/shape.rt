@@ -48,11 +48,12 @@ fn band_shape(
     }
 }
 
-/// Precinct `k` of resolution `r` of a tile-component, whose packets have these markers: its sub-bands in the
-/// order of the packet (T.800 B.9), each with its code-blocks and its magnitude bit-planes.
+/// Precinct `k` of resolution `r` of a tile-component, whose packets have these markers: its
+/// sub-bands in the order of the packet (T.800 B.9), each with its code-blocks and its magnitude
+/// bit-planes.
 ///
-/// `sop` tells whether an SOP marker segment may stand before a packet, and `eph` whether an EPH marker must
-/// stand behind its header.
+/// `sop` tells whether an SOP marker segment may stand before a packet, and `eph` whether an EPH
+/// marker must stand behind its header.
 #[tactic(auto, using(crate::proofs::ShapeLaws::bands_lowest, crate::proofs::ShapeLaws::bands_higher))]
 pub fn precinct_shape(
     rect: &Rect,

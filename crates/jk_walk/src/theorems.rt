@@ -10,13 +10,18 @@ ghost use Rattle.jk_walk.specs.WalkReading.{packets_at, spans_at, IsPlaced, AreT
 ghost use Rattle.jk_walk.specs.Sop.{sop_of, counter_of, sop_written};
 ghost use Rattle.jk_walk.specs.Entries.{entries_at, spans_from};
 
-/// The data of a tile's parts are read exactly where they are the texts of its packets, cut into a run for each part:
-/// what is read are packets of the tile, and packets of the tile are read, each at its place.
+/// The data of a tile's parts are read exactly where they are the texts of its packets, cut into a
+/// run for each part: what is read are packets of the tile, and packets of the tile are read, each
+/// at its place.
 pub fn packets_are_read()
-    ensures found { (bytes : List ℕ) (h : Headers) (t : ℕ) (places : List PacketPlace) → AreHeaders (length bytes) h → t < tile_count h.siz
+    ensures found { (bytes : List ℕ) (h : Headers) (t : ℕ) (places : List PacketPlace) → AreHeaders (length bytes) h
+        → t < tile_count h.siz
         → packets_at bytes h t ≡ Ok places → StandAt bytes h t places }
-    ensures only { (bytes : List ℕ) (h : Headers) (t : ℕ) (packets : List Packet) → AreHeaders (length bytes) h → t < tile_count h.siz
-        → AreTilePackets bytes h t packets → (places : List PacketPlace) × (packets_at bytes h t ≡ Ok places) × AllZip (IsPlaced bytes) packets places }
+    ensures only { (bytes : List ℕ) (h : Headers) (t : ℕ) (packets : List Packet) → AreHeaders (length bytes) h
+        → t < tile_count h.siz
+        → AreTilePackets bytes h t packets
+        → (places : List PacketPlace) × (packets_at bytes h t ≡ Ok places)
+        × AllZip (IsPlaced bytes) packets places }
 {}
 
 /// The entries of a tile, beside the names of its packets, give the bytes of its packets in their

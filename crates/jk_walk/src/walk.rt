@@ -12,18 +12,19 @@ ghost use Rattle.jk_walk.specs.Keeping.{alone, most_resolutions, states_in, IsKe
 
 use crate::parts::PartsLeft;
 use crate::places::PacketPlace;
-use crate::precincts::{Markers, Precincts};
+use crate::precincts::Precincts;
 use crate::spans::OfPacket;
 use jk_geom::{PacketName, TileShape};
 use jk_math::Fault;
 use jk_order::{Packets, packet_count};
-use jk_packet::Part;
+use jk_packet::BlockContribution;
+use jk_params::PacketMarkers;
 use std::alloc::Global;
 
 /// How many bytes the bodies of parts take.
 ///
 /// Truncated: they take more than `room`.
-fn bodies_size(parts: &[Part], room: usize) -> Result<usize, Fault>
+fn bodies_size(parts: &[BlockContribution], room: usize) -> Result<usize, Fault>
     ensures { MatchResult result
         (λ n. (n ≡ bodies_length parts.now) × (n ≤ room)) (λ e. (e ≡ Truncated) × (room < bodies_length parts.now)) }
 {
@@ -52,7 +53,8 @@ fn read_packet(
     requires planes { AllByRecursion HasPlanes shape.now.codings }
     requires name { IsName shape.now name }
     requires kept { length precincts.old.precincts ≡ length shape.now.codings * most_resolutions }
-    requires next { name.layer ≡ (states_in shape.now precincts.old name.component name.resolution name.precinct).layers }
+    requires next { name.layer
+        ≡ (states_in shape.now precincts.old name.component name.resolution name.precinct).layers }
     requires part { (part.0 ≤ part.1) × (part.1 ≤ length bytes.now) }
     ensures exact { Answers (λ o. o.0) result (alone (packet_at bytes.now part name
         (states_in shape.now precincts.old name.component name.resolution name.precinct))) }
@@ -84,7 +86,7 @@ fn read_packet(
 pub(crate) fn read_kept<K: OfPacket>(
     alloc: Global,
     shape: &TileShape,
-    markers: Markers,
+    markers: PacketMarkers,
     bytes: &[u8],
     parts: &[(usize, usize)],
 ) -> Result<Vec<K>, Fault>

@@ -7,10 +7,10 @@ use Rattle.jk_math.proofs.Laws.{raster_same}
 use Rattle.jk_geom.specs.Rectangles.{IsWithin, resolution_area}
 use Rattle.jk_wave.specs.Analysis.{reduced, analysed, analysed_bands}
 use Rattle.jk_wave.specs.Bands.{numbered_area}
-use Rattle.jk_wave.specs.Levels.{half_area, lifted_over}
+use Rattle.jk_wave.specs.Levels.{half_area}
 use Rattle.jk_wave.proofs.Equations.{reduced_none, reduced_more, analysed_lowest, analysed_more}
 use Rattle.jk_wave.proofs.Halves.{half_within, below_half, lowest_area, number_area, resolution_top}
-use Rattle.jk_wave.proofs.Climbing.{place_within}
+use Rattle.jk_wave.proofs.Within.{place_within}
 use Rattle.jk_wave.proofs.Leaving.{lifted_agree}
 
 -- two functions have the same values on a rectangle

@@ -1,5 +1,5 @@
 -- What is left after some levels forwards, and the sub-bands that were put aside.
-use Rattle.std.proofs.Common.{◌≡◌, ℕ, ◌+◌, ◌-◌, ◌*◌, ◌/◌, ◌%◌, ◌^◌, ◌<◌, ◌≤◌, inl, inr, List, [], ◌∷◌, ◌++◌, length, get_or, map, ℤ, pos, unsigned_abs, refl, sym, ◌∙◌, ap, subst, length-append, arith}
+use Rattle.std.proofs.Common.{◌≡◌, ℕ, ◌+◌, ◌-◌, ◌*◌, ◌/◌, ◌%◌, ◌^◌, ◌<◌, ◌≤◌, inl, inr, List, [], ◌∷◌, ◌++◌, length, get_or, map, ℤ, pos, unsigned_abs, refl, sym, ◌∙◌, ap, subst, length-append, append_assoc, arith}
 use Rattle.std.specs.List.{All}
 use Rattle.std.specs.Prelude.{reverse}
 use Rattle.std.proofs.lemmas.Bool.{cases_eq, cases_lt}
@@ -8,7 +8,7 @@ use Rattle.std.proofs.lemmas.List.FromFn.{fill_by_all, length-map-range_with_len
 use Rattle.std.proofs.lemmas.List.Elements.{All-from_get_or, All-nil}
 use Rattle.jk_math.specs.declared.rect.Rect.{Rect}
 use Rattle.std.specs.Global.{Vec}
-use Rattle.jk_math.specs.Picture.{lists_of}
+use Rattle.jk_math.specs.Lists.{lists_of}
 use Rattle.jk_math.specs.Signed.{IsBelow, signed_at}
 use Rattle.jk_math.specs.Raster.{columns_of, places_of, raster, plane_at}
 use Rattle.jk_math.proofs.Laws.{raster_length, raster_entry, entry_place, raster_at, raster_is, raster_same}
@@ -22,7 +22,7 @@ use Rattle.jk_wave.proofs.Equations.{reduced_none, reduced_more, analysed_lowest
 use Rattle.jk_wave.proofs.Halves.{half_within, below_half, lowest_area, number_area, resolution_top}
 use Rattle.jk_wave.proofs.Growth.{reduced_small, has_width}
 use Rattle.jk_wave.proofs.Synthesis.{entry_size, size_below}
-use Rattle.jk_wave.proofs.Climbing.{place_within, within_place}
+use Rattle.jk_wave.proofs.Within.{place_within, within_place}
 
 -- a level of functions that agree on the rectangle
 pub lifted_agree : (area : Rect) (f g : ℕ → ℕ → ℤ) → ((x y : ℕ) → IsWithin area x y → f x y ≡ g x y) → (x y : ℕ) → IsWithin area x y → lifted_over area f x y ≡ lifted_over area g x y
@@ -187,3 +187,7 @@ map_reverse f (x ∷ items) =
 -- the lists of vectors that one was added to, turned round
 pub lists_turned : (items : List (Vec ℤ)) (left : Vec ℤ) → lists_of (reverse (items ++ left ∷ [])) ≡ reverse (lists_of items ++ left.items ∷ [])
 lists_turned items left = map_reverse (λ v. v.items) (items ++ left ∷ []) ∙ ap reverse (map-append (λ v. v.items) items (left ∷ []))
+
+-- the lists of vectors that three were added to
+pub lists_pushed : (items : List (Vec ℤ)) (a b c : Vec ℤ) → lists_of (((items ++ a ∷ []) ++ b ∷ []) ++ c ∷ []) ≡ lists_of items ++ (a.items ∷ b.items ∷ c.items ∷ [])
+lists_pushed items a b c = ap (map (λ v. v.items)) (simp append_assoc) ∙ map-append (λ v. v.items) items (a ∷ b ∷ c ∷ [])

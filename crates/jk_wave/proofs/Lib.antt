@@ -4,14 +4,18 @@ pub mod Local
 pub mod Undoing
 pub mod Growth
 pub mod Rows
+pub mod PartRows
 pub mod Synthesis
-pub mod Climbing
+pub mod Within
 pub mod Descending
 pub mod Leaving
 pub mod Agreeing
 pub mod RegionAreas
 pub mod MovedRows
+pub mod RowsMade
+pub mod PutRows
+pub mod BandPlaces
+pub mod LevelSamples
 pub mod PartSamples
 pub mod Pieces
-mod Examples
 pub mod Laws

@@ -1,5 +1,5 @@
 -- Resolutions of sub-bands that agree where they are looked at.
-use Rattle.std.proofs.Common.{◌≡◌, ℕ, zero, suc, ◌+◌, ◌*◌, ◌/◌, ◌%◌, ◌<◌, ◌⊎◌, inl, inr, ℤ, sym, ◌∙◌, subst, add-one, arith}
+use Rattle.std.proofs.Common.{◌≡◌, ℕ, zero, suc, ◌+◌, ◌*◌, ◌/◌, ◌%◌, ◌<◌, ◌⊎◌, inl, inr, cond, eqb, ℤ, refl, sym, ◌∙◌, subst, add-one, arith}
 use Rattle.std.proofs.lemmas.Bool.{cases_eq}
 use Rattle.jk_math.specs.declared.rect.Rect.{Rect}
 use Rattle.jk_geom.specs.Rectangles.{IsWithin, resolution_area}
@@ -17,6 +17,13 @@ parities x y = elim (cases_eq (x % 2) 0) [
   | inl ex ↦ elim (cases_eq (y % 2) 0) [ inl ey ↦ inl (ex, ey) | inr ny ↦ inr (inr (omega arith)) ]
   | inr nx ↦ inr (inl (omega arith))
 ]
+
+-- an orientation from its two parities
+pub parities_back : (o : ℕ) → o < 3 → cond (eqb ((o + 1) % 2) 1) 1 0 + cond (eqb ((o + 1) / 2) 1) 2 0 ≡ o + 1
+parities_back zero few = refl
+parities_back (suc zero) few = refl
+parities_back (suc (suc zero)) few = refl
+parities_back (suc (suc (suc o))) few = absurd (omega arith)
 
 -- a place of a resolution, in the part that has it
 pub in_part : (a : Rect) (x y : ℕ) → IsWithin a x y → IsWithin (half_area a (x % 2 + 2 * (y % 2))) (x / 2) (y / 2)

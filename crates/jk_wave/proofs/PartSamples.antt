@@ -1,24 +1,22 @@
--- From what is looked at of one resolution to what is looked at of the next.
-use Rattle.std.proofs.Common.{◌≡◌, ℕ, ◌+◌, ◌-◌, ◌*◌, ◌/◌, ◌%◌, ◌^◌, ◌<◌, ◌≤◌, inl, inr, List, length, ℤ, pos, refl, sym, ◌∙◌, ap, subst, arith}
-use Rattle.std.specs.List.{All}
-use Rattle.std.proofs.lemmas.List.Elements.{All-from_get_or}
+-- The lists of the sub-bands' parts, in the lists of their resolutions.
+use Rattle.std.proofs.Common.{◌≡◌, ◌≢◌, ℕ, ◌+◌, ◌-◌, ◌*◌, ◌^◌, ◌<◌, ◌≤◌, inl, inr, List, length, ℤ, refl, sym, ◌∙◌, ap, subst, arith}
+use Rattle.std.proofs.lemmas.Bool.{cases_eq}
 use Rattle.jk_math.specs.declared.rect.Rect.{Rect}
 use Rattle.jk_math.specs.Signed.{IsBelow, signed_at}
 use Rattle.jk_math.specs.Raster.{columns_of, places_of, raster, plane_at}
-use Rattle.jk_math.proofs.Laws.{raster_length, raster_entry, entry_place, raster_at, raster_is, raster_same}
-use Rattle.jk_geom.specs.Rectangles.{IsWithin, resolution_area}
-use Rattle.jk_lift.proofs.Laws.{is_piece_of_plane}
+use Rattle.jk_geom.specs.Rectangles.{IsWithin}
+use Rattle.jk_wave.specs.declared.places.BandRows.{BandRows}
 use Rattle.jk_wave.specs.declared.region.Region.{Region}
 use Rattle.jk_wave.specs.Bands.{AreBands, coefficients_of}
-use Rattle.jk_wave.specs.Levels.{half_area, unlifted_over, pick, woven_parts, ArePartsOf}
-use Rattle.jk_wave.specs.Regions.{IsPartOf, IsRegion, held, around, part_area, AreBandParts, ShowsParts, IsHeld}
-use Rattle.jk_wave.specs.Resolutions.{woven_plane, resolution_of}
-use Rattle.jk_wave.proofs.Equations.{level_of, resolution_lowest, resolution_more}
-use Rattle.jk_wave.proofs.Local.{in_part, in_low, woven_agree}
-use Rattle.jk_wave.proofs.Growth.{resolution_bound}
+use Rattle.jk_wave.specs.LevelRows.{index_in, coefficient_of}
+use Rattle.jk_wave.specs.Regions.{held, part_area, AreBandParts, ShowsParts, IsHeld}
+use Rattle.jk_wave.specs.RegionRows.{resolution_with, band_rows, low_rows, ShowsLow, ShowsBands, AreSmall, IsMadeSmall, IsLevel}
+use Rattle.jk_wave.specs.Resolutions.{resolution_of}
+use Rattle.jk_wave.proofs.BandPlaces.{lies_apart, lies_off_low}
+use Rattle.jk_wave.proofs.Within.{list_of}
+use Rattle.jk_wave.proofs.LevelSamples.{stays_level}
+use Rattle.jk_wave.proofs.RegionAreas.{whole_region, part_whole, held_none}
 use Rattle.jk_wave.proofs.Synthesis.{entry_size, size_below}
-use Rattle.jk_wave.proofs.Climbing.{place_within, within_place, list_of, picked}
-use Rattle.jk_wave.proofs.RegionAreas.{whole_region, part_whole, held_none, held_more, held_part, part_within, part_lowest, part_number}
 
 -- the coefficients that the lists themselves have
 abbrev pub own : Region → List (List ℤ) → ℕ → ℕ → ℕ → ℤ
@@ -27,117 +25,56 @@ own s lists b = plane_at (part_area s b) (list_of lists b)
 pub own_shown : (s : Region) (lists : List (List ℤ)) → ShowsParts s lists (own s lists)
 own_shown s lists b x y few h = refl
 
--- what is looked at one resolution below is the low half of what is near
-pub below_near : (s : Region) (r : ℕ) → r < s.top → held s (s.top - r) ≡ half_area (around s (s.top - (r + 1))) 0
-below_near s r less = ap (held s) (let e : s.top - r ≡ s.top - (r + 1) + 1 = omega arith in e) ∙ held_more s (s.top - (r + 1))
+-- the coefficients of the lists are small
+pub own_small : (s : Region) (lists : List (List ℤ)) → AreBandParts s lists → AreSmall s (own s lists)
+own_small s lists h b x y few =
+    let k : ℕ = (y - (part_area s b).y0) * columns_of (part_area s b) + (x - (part_area s b).x0) in
+    size_below (2 ^ 23) (own s lists b x y) (entry_size (2 ^ 23) (list_of lists b) (omega arith) (h.small b few) k)
 
--- LL has what is looked at of resolution 0
-pub lowest_held : (s : Region) (lists : List (List ℤ)) → AreBandParts s lists → IsHeld s lists 0 (list_of lists 0)
-lowest_held s lists h c shown =
-    let is : part_area s 0 ≡ held s (s.top - 0) = part_lowest s ∙ ap (held s) (let e : s.top ≡ s.top - 0 = omega arith in e) in
-    raster_is (part_area s 0) (list_of lists 0) (resolution_of s.rect s.levels c 0) (h.lengths 0 (omega arith))
-    (λ x y w. shown 0 x y (omega arith) (place_within (part_area s 0) x y w) ∙ sym (resolution_lowest s.rect s.levels c x y))
-    ∙ ap (λ q. raster q (resolution_of s.rect s.levels c 0)) is
+-- so what is made of them is made of small coefficients
+pub held_made : (s : Region) (r : ℕ) (lists : List (List ℤ)) (values : List ℤ) → AreBandParts s lists → IsHeld s lists r values → IsMadeSmall s r values
+held_made s r lists values h was = record {
+  coefficients = own s lists;
+  small = own_small s lists h;
+  is = was (own s lists) (own_shown s lists);
+}
 
--- one level back of what is near has the samples of the next resolution where it is looked at
-pub next_samples : (s : Region) (r : ℕ) (lists : List (List ℤ)) (below : List ℤ) (c : ℕ → ℕ → ℕ → ℤ) → IsRegion s → r < s.top → ShowsParts s lists c →
-    below ≡ raster (held s (s.top - r)) (resolution_of s.rect s.levels c r) → (x y : ℕ) → IsWithin (held s (s.top - (r + 1))) x y →
-    unlifted_over (around s (s.top - (r + 1))) (woven_parts (around s (s.top - (r + 1))) below (list_of lists (3 * r + 1)) (list_of lists (3 * r + 1 + 1)) (list_of lists (3 * r + 1 + 2))) x y
-    ≡ resolution_of s.rect s.levels c (r + 1) x y
-unfolding woven_parts
-next_samples s r lists below c region less shown was x y h =
-    let n : ℕ = s.top - (r + 1) in
-    let up : s.top - n ≡ r + 1 = omega arith in
-    let area : Rect = resolution_area s.rect s.levels (s.top - n) in
-    let u : Rect = held s n in
-    let near : Rect = around s n in
-    let top = region.top in
-    let here : IsWithin area x y = part_within u area x y (held_part s region n (omega arith)) h in
-    let high : ℕ → ℕ → ℕ → ℤ = λ o. plane_at (half_area near o) (pick o (list_of lists (3 * r + 1)) (list_of lists (3 * r + 1 + 1)) (list_of lists (3 * r + 1 + 2))) in
-    is_piece_of_plane area u (woven_plane (plane_at (half_area near 0) below) high) (level_of s.rect s.levels c r)
-    (λ i j if it jf jt.
-    let inside : IsWithin near i j = record { left = if; right = it; upper = jf; lower = jt } in
-    woven_agree (plane_at (half_area near 0) below) (resolution_of s.rect s.levels c r) high (λ o. c (3 * r + o)) i j
-    (λ ei ej.
-    let half = below_near s r less in
-    let there : IsWithin (held s (s.top - r)) (i / 2) (j / 2) = subst (λ (q : Rect). IsWithin q (i / 2) (j / 2)) (sym half) (in_low near i j inside ei ej) in
-    ap (λ q. plane_at q below (i / 2) (j / 2)) (sym half) ∙ ap (λ l. plane_at (held s (s.top - r)) l (i / 2) (j / 2)) was
-    ∙ raster_at (held s (s.top - r)) (resolution_of s.rect s.levels c r) (i / 2) (j / 2) (within_place (held s (s.top - r)) (i / 2) (j / 2) there))
-    (λ odd.
-    let o : ℕ = i % 2 + 2 * (j % 2) in
-    let some : 0 < o = elim odd [ inl e ↦ omega arith | inr e ↦ omega arith ] in
-    let part : part_area s (3 * r + o) ≡ half_area near o = part_number s r o some (omega arith) in
-    let there : IsWithin (part_area s (3 * r + o)) (i / 2) (j / 2) = subst (λ (q : Rect). IsWithin q (i / 2) (j / 2)) (sym part) (in_part near i j inside) in
-    ap (λ l. plane_at (half_area near o) l (i / 2) (j / 2)) (picked lists r o some (omega arith))
-    ∙ ap (λ q. plane_at q (list_of lists (3 * r + o)) (i / 2) (j / 2)) (sym part)
-    ∙ shown (3 * r + o) (i / 2) (j / 2) (omega arith) there))
-    x y here.left here.right here.upper here.lower h.left h.right h.upper h.lower
-    ∙ ap (λ k. unlifted_over (resolution_area s.rect s.levels k) (level_of s.rect s.levels c r) x y) up
-    ∙ sym (resolution_more s.rect s.levels c r x y)
+-- one more of them is at its places in the list of a resolution
+pub record ArePutBelow (s : Region) (r b : ℕ) (lists : List (List ℤ)) (old new : List ℤ) : Type 0 where
+  pub put : (d x y : ℕ) → d < b → resolution_with d ≡ r → IsWithin (part_area s d) x y → coefficient_of (band_rows s d) new x y ≡ own s lists d x y
+  pub low : ShowsLow s r (coefficient_of (low_rows s r) old) new
 
--- what is cropped of it
-pub next_is_held : (s : Region) (r : ℕ) (lists : List (List ℤ)) (below plane made : List ℤ) → IsRegion s → r < s.top → IsHeld s lists r below →
-    plane ≡ raster (around s (s.top - (r + 1))) (unlifted_over (around s (s.top - (r + 1)))
-    (woven_parts (around s (s.top - (r + 1))) below (list_of lists (3 * r + 1)) (list_of lists (3 * r + 1 + 1)) (list_of lists (3 * r + 1 + 2)))) →
-    IsPartOf (held s (s.top - (r + 1))) (around s (s.top - (r + 1))) →
-    made ≡ raster (held s (s.top - (r + 1))) (plane_at (around s (s.top - (r + 1))) plane) → IsHeld s lists (r + 1) made
-next_is_held s r lists below plane made region less was is part cut c shown =
-    let near : Rect = around s (s.top - (r + 1)) in
-    let u : Rect = held s (s.top - (r + 1)) in
-    let f : ℕ → ℕ → ℤ = unlifted_over near (woven_parts near below (list_of lists (3 * r + 1)) (list_of lists (3 * r + 1 + 1)) (list_of lists (3 * r + 1 + 2))) in
-    cut ∙ raster_same u (plane_at near plane) (resolution_of s.rect s.levels c (r + 1)) (λ x y h.
-    let w : IsWithin u x y = place_within u x y h in
-    ap (λ l. plane_at near l x y) is
-    ∙ raster_at near f x y (within_place near x y (part_within u near x y part w))
-    ∙ next_samples s r lists below c region less shown (was c shown) x y w)
-
--- the lists are as long as the level asks
-pub next_lists : (s : Region) (r : ℕ) (lists : List (List ℤ)) (below : List ℤ) → r < s.top → AreBandParts s lists → IsHeld s lists r below →
-    ArePartsOf (around s (s.top - (r + 1))) below (list_of lists (3 * r + 1)) (list_of lists (3 * r + 1 + 1)) (list_of lists (3 * r + 1 + 2))
-next_lists s r lists below less h was =
+pub one_more_put : (s : Region) (r b : ℕ) (p : BandRows) (lists : List (List ℤ)) (values initial old new : List ℤ) → resolution_with b ≡ r → p ≡ band_rows s b → values ≡ list_of lists b →
+    ((x y : ℕ) → IsWithin p.area x y → coefficient_of p new x y ≡ plane_at p.area values x y) →
+    ((k : ℕ) → ((x y : ℕ) → IsWithin p.area x y → index_in p x y ≢ k) → signed_at new k ≡ signed_at old k) →
+    ArePutBelow s r b lists initial old → ArePutBelow s r (b + 1) lists initial new
+one_more_put s r b p lists values initial old new of is list written others before =
+    let there : (x y : ℕ) → IsWithin (part_area s b) x y → coefficient_of (band_rows s b) new x y ≡ plane_at (part_area s b) (list_of lists b) x y =
+    subst (λ l. (x y : ℕ) → IsWithin (part_area s b) x y → coefficient_of (band_rows s b) new x y ≡ plane_at (part_area s b) l x y) list
+    (subst (λ (q : BandRows). (x y : ℕ) → IsWithin q.area x y → coefficient_of q new x y ≡ plane_at q.area values x y) is written) in
+    let apart : (k : ℕ) → ((x y : ℕ) → IsWithin (part_area s b) x y → index_in (band_rows s b) x y ≢ k) → signed_at new k ≡ signed_at old k =
+    subst (λ (q : BandRows). (k : ℕ) → ((x y : ℕ) → IsWithin q.area x y → index_in q x y ≢ k) → signed_at new k ≡ signed_at old k) is others in
     record {
-      ll_places = ap length (was (own s lists) (own_shown s lists)) ∙ raster_length (held s (s.top - r)) (resolution_of s.rect s.levels (own s lists) r) ∙ ap places_of (below_near s r less);
-      hl_places = part 1 (3 * r + 1) (omega arith) (omega arith) refl;
-      lh_places = part 2 (3 * r + 1 + 1) (omega arith) (omega arith) (omega arith);
-      hh_places = part 3 (3 * r + 1 + 2) (omega arith) (omega arith) (omega arith);
+      put = λ d x y below same w. elim (cases_eq d b) [
+        | inl e ↦ subst (λ n. IsWithin (part_area s n) x y → coefficient_of (band_rows s n) new x y ≡ own s lists n x y) (sym e) (there x y) w
+        | inr ne ↦
+            apart (index_in (band_rows s d) x y) (λ u v h meet. ne (sym (lies_apart s b d u v x y (of ∙ sym same) h w meet).0))
+            ∙ before.put d x y (omega arith) same w
+      ];
+      low = λ x y some w.
+          apart (index_in (low_rows s r) x y) (λ u v h meet. lies_off_low s b u v x y (rw of some) h (subst (λ n. IsWithin (low_rows s n).area x y) (sym of) w) (meet ∙ ap (λ n. index_in (low_rows s n) x y) (sym of)))
+          ∙ before.low x y some w;
     }
-  where
-    part : (o b : ℕ) → 0 < o → o < 4 → b ≡ 3 * r + o → length (list_of lists b) ≡ places_of (half_area (around s (s.top - (r + 1))) o)
-    part o b some few e =
-        h.lengths b (omega arith) ∙ ap (λ n. places_of (part_area s n)) e ∙ ap places_of (part_number s r o some few)
 
--- the magnitudes of what is looked at of a resolution
-held_size : (s : Region) (r : ℕ) (lists : List (List ℤ)) (values : List ℤ) (m : ℕ) → IsRegion s → r ≤ s.top → AreBandParts s lists → 2 ^ 25 + r * 176160775 < 4 * m →
-    IsHeld s lists r values → All (IsBelow m) values
-held_size s r lists values m region few parts bound was =
-    let area = held s (s.top - r) in
-    let f = resolution_of s.rect s.levels (own s lists) r in
-    let is : values ≡ raster area f = was (own s lists) (own_shown s lists) in
-    let long : length values ≡ places_of area = ap length is ∙ raster_length area f in
-    let top = region.top in
-    let back : s.top - (s.top - r) ≡ r = omega arith in
-    All-from_get_or (IsBelow m) values (pos 0) (λ k lt.
-    let fits : k < places_of area = omega arith in
-    let at : signed_at values k ≡ f (area.x0 + k % columns_of area) (area.y0 + k / columns_of area) = ap (λ l. signed_at l k) is ∙ raster_entry area f k fits in
-    let inside = part_within area (resolution_area s.rect s.levels (s.top - (s.top - r))) (area.x0 + k % columns_of area) (area.y0 + k / columns_of area)
-    (held_part s region (s.top - r) (omega arith)) (place_within area (area.x0 + k % columns_of area) (area.y0 + k / columns_of area) (entry_place area k fits)) in
-    let size = resolution_bound s.rect s.levels (own s lists) r (omega arith)
-    (λ b x y under w. let z = entry_size (2 ^ 23) (list_of lists b) (omega arith) (parts.small b (omega arith)) ((y - (part_area s b).y0) * columns_of (part_area s b) + (x - (part_area s b).x0)) in omega arith)
-    (area.x0 + k % columns_of area) (area.y0 + k / columns_of area)
-    (subst (λ n. IsWithin (resolution_area s.rect s.levels n) (area.x0 + k % columns_of area) (area.y0 + k / columns_of area)) back inside) in
-    subst (IsBelow m) (sym at) (size_below m (f (area.x0 + k % columns_of area) (area.y0 + k / columns_of area)) (omega arith)))
+-- the bands of the lists, at their places in the list of a resolution
+pub bands_put : (s : Region) (r : ℕ) (lists : List (List ℤ)) (rows : List ℤ) (c : ℕ → ℕ → ℕ → ℤ) → r ≤ s.top → ShowsParts s lists c →
+    ShowsBands s r (own s lists) rows → ShowsBands s r c rows
+bands_put s r lists rows c few shown put b x y of w = put b x y of w ∙ shown b x y (omega arith) w
 
-pub held_below : (s : Region) (r : ℕ) (lists : List (List ℤ)) (values : List ℤ) → IsRegion s → r < s.top → AreBandParts s lists →
-    IsHeld s lists r values → All (IsBelow (2 ^ 29 - 2 ^ 26)) values
-held_below s r lists values region less parts was =
-    let top = region.top in let ten = region.levels in
-    held_size s r lists values (2 ^ 29 - 2 ^ 26) region (omega arith) parts (omega arith) was
-
-pub held_small : (s : Region) (r : ℕ) (lists : List (List ℤ)) (values : List ℤ) → IsRegion s → r ≤ s.top → AreBandParts s lists →
-    IsHeld s lists r values → All (IsBelow (2 ^ 29)) values
-held_small s r lists values region few parts was =
-    let top = region.top in let ten = region.levels in
-    held_size s r lists values (2 ^ 29) region few parts (omega arith) was
+pub put_is_level : (s : Region) (r : ℕ) (lists : List (List ℤ)) (old new : List ℤ) → r ≤ s.top → AreBandParts s lists → IsLevel s r old → length new ≡ length old →
+    ShowsLow s r (coefficient_of (low_rows s r) old) new → ShowsBands s r (own s lists) new → IsLevel s r new
+put_is_level s r lists old new few h level long low put = stays_level s r old new level long low (λ b x y of w.
+    subst (IsBelow (2 ^ 23)) (sym (put b x y of w)) (own_small s lists h b x y (omega arith)))
 
 -- what is looked at of the highest resolution is the region
 pub all_held : (s : Region) (r : ℕ) (lists : List (List ℤ)) (values : List ℤ) (c : ℕ → ℕ → ℕ → ℤ) → r ≡ s.top → IsHeld s lists r values → ShowsParts s lists c →

@@ -1,5 +1,6 @@
 -- The sub-bands of a tile-component by their numbers in QCD, as lists of coefficients.
-use Rattle.std.specs.Prelude.{◌≡◌, ℕ, zero, suc, ◌+◌, ◌*◌, ◌/◌, ◌%◌, ◌^◌, ◌<◌, ◌≤◌, List, [], length, slice_index_or, ℤ, All}
+use Rattle.std.specs.Prelude.{◌≡◌, ℕ, zero, suc, ◌+◌, ◌*◌, ◌/◌, ◌%◌, ◌^◌, ◌<◌, ◌≤◌, List, [], length, slice_index_or, ℤ}
+use Rattle.std.specs.Prelude.{All}
 use Rattle.jk_math.specs.declared.rect.Rect.{Rect}
 use Rattle.jk_math.specs.Raster.{places_of, plane_at}
 use Rattle.jk_math.specs.Signed.{IsBelow}
@@ -22,7 +23,8 @@ numbered_area a levels (suc b) = band_area a levels (b / 3 + 1) (high_orientatio
 abbrev pub coefficients_of : Rect → (levels : ℕ) → List (List ℤ) → ℕ → ℕ → ℕ → ℤ
 coefficients_of a levels lists b = plane_at (numbered_area a levels b) (slice_index_or lists b [])
 
--- The lists have the sub-bands of the resolutions up to r, each coefficient below 2^23 in magnitude.
+-- The lists have the sub-bands of the resolutions up to r, each coefficient below 2^23 in
+-- magnitude.
 pub record AreBands (a : Rect) (levels r : ℕ) (lists : List (List ℤ)) : Type 0 where
   pub count : 3 * r < length lists
   pub lengths : (b : ℕ) → b ≤ 3 * r → length (slice_index_or lists b []) ≡ places_of (numbered_area a levels b)

@@ -1,17 +1,18 @@
 -- One level of the transform over a rectangle, and the lists of its four parts.
 use Rattle.std.specs.Prelude.{◌≡◌, ℕ, zero, suc, ◌+◌, ◌-◌, ◌*◌, ◌/◌, ◌%◌, ◌<◌, List, take, drop, length, ℤ}
 use Rattle.jk_math.specs.declared.rect.Rect.{Rect}
-use Rattle.jk_math.specs.Raster.{places_of, plane_at}
+use Rattle.jk_math.specs.Raster.{columns_of, plane_at}
 use Rattle.jk_geom.specs.Rectangles.{IsWithin}
+use Rattle.jk_wave.specs.declared.forward.LevelParts.{LevelParts}
 use Rattle.jk_lift.specs.Lifting.{lifted}
 use Rattle.jk_lift.specs.Planes.{lifted_plane, unlifted_plane}
-use Rattle.jk_wave.specs.Resolutions.{woven_plane}
 
 -- half of a bound, so that the places of this parity are counted
 abbrev pub half_bound : (bound parity : ℕ) → ℕ
 half_bound bound parity = (bound + 1 - parity) / 2
 
--- Part o of a rectangle: its places of even or odd x and y, both halved. LL is 0, HL 1, LH 2 and HH 3.
+-- Part o of a rectangle: its places of even or odd x and y, both halved. LL is 0, HL 1, LH 2 and HH
+-- 3.
 abbrev pub half_area : Rect → ℕ → Rect
 half_area a o = record {
   x0 = half_bound a.x0 (o % 2);
@@ -31,24 +32,6 @@ lifted_over area f x y = lifted_plane area.x0 area.x1 area.y0 area.y1 f x y
 abbrev pub row_of : (width v : ℕ) → List ℤ → List ℤ
 row_of width v values = take width (drop (v * width) values)
 
--- each list has the places of its part
-pub record ArePartsOf (area : Rect) (ll hl lh hh : List ℤ) : Type 0 where
-  pub ll_places : length ll ≡ places_of (half_area area 0)
-  pub hl_places : length hl ≡ places_of (half_area area 1)
-  pub lh_places : length lh ≡ places_of (half_area area 2)
-  pub hh_places : length hh ≡ places_of (half_area area 3)
-
--- part o of three
-abbrev pub pick : ℕ → (hl lh hh : List ℤ) → List ℤ
-pick zero hl lh hh = hl
-pick (suc zero) hl lh hh = hl
-pick (suc (suc zero)) hl lh hh = lh
-pick (suc (suc (suc o))) hl lh hh = hh
-
--- what these lists are woven to
-unfoldable pub woven_parts : Rect → (ll hl lh hh : List ℤ) → ℕ → ℕ → ℤ
-woven_parts area ll hl lh hh = woven_plane (plane_at (half_area area 0) ll) (λ o. plane_at (half_area area o) (pick o hl lh hh))
-
 -- part o of a level of f
 abbrev pub part_of : Rect → (ℕ → ℕ → ℤ) → ℕ → ℕ → ℕ → ℤ
 part_of area f o x y = lifted_over area f (2 * x + o % 2) (2 * y + o / 2)
@@ -56,4 +39,18 @@ part_of area f o x y = lifted_over area f (2 * x + o % 2) (2 * y + o / 2)
 -- A list has part o of the rows below this one, of a plane whose columns are analysed.
 abbrev pub part_below : Rect → (o row : ℕ) → (plane part : List ℤ) → Type 0
 part_below area o row plane part = (x y : ℕ) → IsWithin (half_area area o) x y → 2 * y + o / 2 < area.y0 + row →
-    plane_at (half_area area o) part x y ≡ lifted area.x0 area.x1 (λ i. plane_at area plane i (2 * y + o / 2)) (2 * x + o % 2)
+    plane_at (half_area area o) part x y
+    ≡ lifted area.x0 area.x1 (λ i. plane_at area plane i (2 * y + o / 2)) (2 * x + o % 2)
+
+-- and it is as long as its rows
+pub record IsPartUpto (area : Rect) (o row : ℕ) (plane part : List ℤ) : Type 0 where
+  pub long : length part
+      ≡ (half_bound (area.y0 + row) (o / 2) - half_bound area.y0 (o / 2)) * columns_of (half_area area o)
+  pub below : part_below area o row plane part
+
+-- part o of a level
+abbrev pub part_list : LevelParts → (o : ℕ) → List ℤ
+part_list parts zero = parts.ll.items
+part_list parts (suc zero) = parts.hl.items
+part_list parts (suc (suc zero)) = parts.lh.items
+part_list parts (suc (suc (suc o))) = parts.hh.items

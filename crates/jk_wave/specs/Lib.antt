@@ -1,6 +1,9 @@
 pub mod Resolutions
 pub mod Levels
+pub mod LevelRows
 pub mod Bands
 pub mod Analysis
-pub mod Laws
 pub mod Regions
+pub mod RegionRows
+pub mod Laws
+pub mod Examples

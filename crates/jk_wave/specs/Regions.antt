@@ -1,5 +1,6 @@
 -- A region of a resolution, and the parts of the sub-bands that it depends on.
-use Rattle.std.specs.Prelude.{◌≡◌, ℕ, zero, suc, ◌+◌, ◌-◌, ◌*◌, ◌/◌, ◌%◌, ◌^◌, ◌<◌, ◌≤◌, List, [], length, slice_index_or, ℤ, All}
+use Rattle.std.specs.Prelude.{◌≡◌, ℕ, zero, suc, ◌+◌, ◌-◌, ◌*◌, ◌/◌, ◌%◌, ◌^◌, ◌<◌, ◌≤◌, List, [], length}
+use Rattle.std.specs.Prelude.{slice_index_or, ℤ, All}
 use Rattle.jk_math.specs.declared.rect.Rect.{Rect}
 use Rattle.jk_math.specs.Raster.{places_of, plane_at, raster}
 use Rattle.jk_math.specs.Signed.{IsBelow}
@@ -52,9 +53,11 @@ pub record AreBandParts (s : Region) (lists : List (List ℤ)) : Type 0 where
 
 -- The lists have these coefficients, by sub-band, column and row, at the places of the parts.
 abbrev pub ShowsParts : Region → List (List ℤ) → (ℕ → ℕ → ℕ → ℤ) → Type 0
-ShowsParts s lists c = (b x y : ℕ) → b ≤ 3 * s.top → IsWithin (part_area s b) x y → plane_at (part_area s b) (slice_index_or lists b []) x y ≡ c b x y
+ShowsParts s lists c = (b x y : ℕ) → b ≤ 3 * s.top → IsWithin (part_area s b) x y
+    → plane_at (part_area s b) (slice_index_or lists b []) x y ≡ c b x y
 
 -- The list has the samples of what is looked at of resolution r, whatever the coefficients are
 -- elsewhere.
 abbrev pub IsHeld : Region → List (List ℤ) → (r : ℕ) → List ℤ → Type 0
-IsHeld s lists r plane = (c : ℕ → ℕ → ℕ → ℤ) → ShowsParts s lists c → plane ≡ raster (held s (s.top - r)) (resolution_of s.rect s.levels c r)
+IsHeld s lists r plane = (c : ℕ → ℕ → ℕ → ℤ) → ShowsParts s lists c
+    → plane ≡ raster (held s (s.top - r)) (resolution_of s.rect s.levels c r)

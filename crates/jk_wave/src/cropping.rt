@@ -14,8 +14,10 @@ fn move_rows(plane: &mut [i32], area: &Rect, part: &Rect)
     requires area { IsArea area.now }
     requires part { IsPartOf part.now area.now }
     requires whole { length plane.old ≡ places_of area.now }
-    ensures { (j x : ℕ) → j < rows_of part.now → x < columns_of part.now → signed_at plane.new (j * columns_of part.now + x)
-        ≡ signed_at plane.old ((part.now.y0 - area.now.y0 + j) * columns_of area.now + (part.now.x0 - area.now.x0 + x)) }
+    ensures { (j x : ℕ) → j < rows_of part.now → x < columns_of part.now
+        → signed_at plane.new (j * columns_of part.now + x)
+        ≡ signed_at plane.old
+        ((part.now.y0 - area.now.y0 + j) * columns_of area.now + (part.now.x0 - area.now.x0 + x)) }
 {
     let width = (area.x1 - area.x0) as usize;
     let part_width = (part.x1 - part.x0) as usize;

@@ -44,7 +44,7 @@ fn half_bound(bound: u32, odd: bool) -> u32
 }
 
 /// The part of a rectangle whose places are odd across, or down, both halved.
-fn half_area(area: &Rect, across: bool, down: bool) -> Rect
+pub(crate) fn half_area(area: &Rect, across: bool, down: bool) -> Rect
     requires { IsArea area.now }
     ensures value { result ≡ half_area area.now ((if across then 1 else 0) + (if down then 2 else 0)) }
     ensures area { IsArea result }

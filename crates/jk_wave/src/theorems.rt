@@ -1,6 +1,8 @@
 //! Laws of sub-bands and resolutions. Each is the contract of a function that does nothing.
 
-ghost use Rattle.jk_wave.specs.Laws.{IsLocalResolution, IsDecided, IsUndone, IsReduced, GrowsLevels, HasPlanes, HasWidth, BoundsResolutions, IsClimbing};
+ghost use Rattle.jk_wave.specs.Laws.{IsLocalResolution, IsDecided, IsUndone, IsReduced, GrowsLevels, HasPlanes};
+ghost use Rattle.jk_wave.specs.Laws.{HasWidth, BoundsResolutions, IsClimbing, LiesInLevel, LiesApart, LiesOffLow};
+ghost use Rattle.jk_wave.specs.Laws.{HasRows, KeepsOthers, StaysLevel};
 
 /// What a resolution shows of a rectangle depends on the sub-bands near it alone.
 pub fn resolutions_are_local()
@@ -30,4 +32,18 @@ pub fn resolutions_bound()
 /// there.
 pub fn pieces_climb()
     ensures { IsClimbing }
+{}
+
+/// Where the coefficients of the sub-bands lie in the lists of their resolutions.
+pub fn levels_hold_bands()
+    ensures inside { LiesInLevel }
+    ensures apart { LiesApart }
+    ensures off_low { LiesOffLow }
+    ensures rows { HasRows }
+{}
+
+/// What stays of such a list where coefficients are written into it.
+pub fn levels_stay()
+    ensures others { KeepsOthers }
+    ensures level { StaysLevel }
 {}

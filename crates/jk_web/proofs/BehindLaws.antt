@@ -4,7 +4,7 @@ use Rattle.jk_math.specs.declared.fault.Fault.{Fault}
 use Rattle.jk_web.specs.declared.query.Asked.{Asked}
 use Rattle.jk_web.specs.declared.serving.End.{End}
 use Rattle.jk_web.specs.declared.running.Answering.{Answering}
-use Rattle.jk_web.specs.Places.{IsSegment}
+use Rattle.jk_web.specs.Resources.{IsSegment}
 use Rattle.jk_web.specs.Images.{Image, names_of, gives_with, gives_kept, refuses_memory}
 use Rattle.jk_web.specs.Serving.{Ends}
 use Rattle.jk_web.specs.Behind.{HoldsBehind, KnowsBehind, GoesBehind, GivesBehind, RefusesBehind}

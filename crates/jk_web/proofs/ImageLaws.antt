@@ -3,7 +3,7 @@ use Rattle.std.proofs.Common.{◌≡◌, ℕ, Bool, true, false, cond, ◌||◌,
 use Rattle.std.specs.Str.{bytes_eq}
 use Rattle.jk_web.specs.declared.request.Request.{Request}
 use Rattle.jk_web.specs.declared.query.Asked.{Asked}
-use Rattle.jk_web.specs.Places.{path_of, query_of, Resource, whole, window, nowhere, resource_at, is_among, among}
+use Rattle.jk_web.specs.Resources.{path_of, query_of, Resource, whole, window, nowhere, resource_at, is_among, among}
 use Rattle.jk_web.specs.Replies.{Content, error}
 use Rattle.jk_web.specs.Images.{Image, names_of, image_of, content_of, content, asked_for, IsOtherSent}
 

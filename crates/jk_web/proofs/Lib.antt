@@ -3,7 +3,7 @@ pub mod TooManyLaws
 pub mod NumberLaws
 pub mod ReadingLaws
 pub mod Texts
-pub mod PlaceLaws
+pub mod ResourceLaws
 pub mod KnownLaws
 pub mod ServingLaws
 pub mod ImageLaws

@@ -4,7 +4,7 @@ use Rattle.std.specs.Global.{Vec}
 use Rattle.jk_math.specs.declared.fault.Fault.{Fault}
 use Rattle.jk_web.specs.declared.query.Asked.{Asked}
 use Rattle.jk_web.specs.declared.request.Request.{Request}
-use Rattle.jk_web.specs.Places.{query_of, window}
+use Rattle.jk_web.specs.Resources.{query_of, window}
 use Rattle.jk_web.specs.Queries.{pairs_of, asked_by}
 use Rattle.jk_web.specs.Images.{Image, image_of, IsCutOf, asked_for}
 

@@ -1,12 +1,13 @@
--- The fields of a request that a server judges (RFC 9110, sections 5.1 and 7.6.1; RFC 9112, section 6).
+-- The fields of a request that a server judges (RFC 9110, sections 5.1 and 7.6.1; RFC 9112, section
+-- 6).
 use Rattle.std.specs.Prelude.{ℕ, Bool, not, ◌&&◌, ◌||◌, ◌==◌, List, codes}
 use Rattle.std.specs.List.{list_any}
 use Rattle.std.specs.Str.{bytes_eq, str_eq_ignore_ascii_case}
 use Rattle.httparse.specs.Grammar.{Field, RequestHead}
 use Rattle.httparse.specs.Spans.{name_and_value}
 
--- A name and a value, without the white space around it, that say that a body may follow: any transfer coding, or a
--- length other than the text `0`. Names are compared without regard to case.
+-- A name and a value, without the white space around it, that say that a body may follow: any
+-- transfer coding, or a length other than the text `0`. Names are compared without regard to case.
 abbrev pub announces_body : List ℕ × List ℕ → Bool
 announces_body f =
     str_eq_ignore_ascii_case f.0 (codes "transfer-encoding")

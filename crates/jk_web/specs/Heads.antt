@@ -1,6 +1,8 @@
--- Heads of requests at the front of the bytes of a connection, in the grammar of httparse (RFC 9112, sections 2 to 5).
+-- Heads of requests at the front of the bytes of a connection, in the grammar of httparse (RFC
+-- 9112, sections 2 to 5).
 use Rattle.std.specs.Prelude.{◌≡◌, ℕ, ◌<◌, ◌≤◌, ◌⊎◌, true, false, List, [], ◌∷◌, ◌++◌, length, take}
-use Rattle.httparse.specs.Grammar.{lf, print_end, is_token_byte, RequestHead, print_request, ReadsRequest, HasNoRequest, NeverHasRequest, MayBecomeRequest}
+use Rattle.httparse.specs.Grammar.{lf, print_end, is_token_byte, RequestHead, print_request, ReadsRequest, HasNoRequest}
+use Rattle.httparse.specs.Grammar.{NeverHasRequest, MayBecomeRequest}
 use Rattle.jk_web.specs.declared.request.Request.{Request}
 use Rattle.jk_web.specs.Fields.{announces, closes}
 

@@ -9,12 +9,13 @@ use Rattle.jk_web.specs.declared.query.Asked.{Asked}
 use Rattle.jk_web.specs.declared.reply.Media.TheVariants.{Plain, Jp2}
 use Rattle.jk_web.specs.declared.reply.Reply.{Reply}
 use Rattle.jk_web.specs.declared.request.Request.{Request}
-use Rattle.jk_web.specs.Places.{path_of, query_of, Resource, listing, whole, window, nowhere, resource_at}
+use Rattle.jk_web.specs.Resources.{path_of, query_of, Resource, listing, whole, window, nowhere, resource_at}
 use Rattle.jk_web.specs.Pairs.{are_none}
 use Rattle.jk_web.specs.Queries.{pairs_of, asked_by}
 use Rattle.jk_web.specs.Replies.{Content, printed, error}
 
--- An image: its name, its line in the list of images, its file, and the file of a window of it, where it has that window.
+-- An image: its name, its line in the list of images, its file, and the file of a window of it,
+-- where it has that window.
 pub record Image : Type 0 where
   pub name : List ℕ
   pub line : List ℕ
@@ -53,7 +54,8 @@ window_content (Some image) (Some asked) = cut_content (image.cut asked)
 -- what is said of a resource to a query
 abbrev pub content_of : List Image → List ℕ → Resource → Content
 content_of images query listing =
-    if are_none (pairs_of query) then record { status = 200; media = Plain; body = flat_map (λ (i : Image). i.line) images } else error 400
+    if are_none (pairs_of query)
+    then record { status = 200; media = Plain; body = flat_map (λ (i : Image). i.line) images } else error 400
 content_of images query (whole name) = whole_content (image_of name images) (are_none (pairs_of query))
 content_of images query (window name) = window_content (image_of name images) (asked_by (pairs_of query))
 content_of images query nowhere = error 404
@@ -87,7 +89,8 @@ abbrev pub HasNoCut : Option Image → Asked → Type 0
 HasNoCut None asked = ⊥
 HasNoCut (Some image) asked = image.cut asked ≡ None
 
--- Why such a call may refuse; broke: a file couldn't be read, or other bytes were read in its place.
+-- Why such a call may refuse; broke: a file couldn't be read, or other bytes were read in its
+-- place.
 abbrev pub MayRefuse : Option Image → Type 0 → Type 0 → Fault → Type 0
 MayRefuse image broke uncut (Memory r) = Unit {0}
 MayRefuse image broke uncut NoSuchImage = image ≡ None
@@ -107,19 +110,23 @@ IsOtherCut None asked cuts cut = ⊥
 IsOtherCut (Some image) asked cuts cut = cuts cut × (image.cut asked ≡ Some cut → ⊥)
 
 -- Such a window of what was read between two states.
-abbrev pub IsOtherRead : {S : Type 0} → (cuts : S → List ℕ → Asked → S → List ℕ → Type 0) → Option Image → S → List ℕ → Asked → S → List ℕ → Type 0
+abbrev pub IsOtherRead : {S : Type 0} → (cuts : S → List ℕ → Asked → S → List ℕ → Type 0) → Option Image → S → List ℕ
+    → Asked → S → List ℕ → Type 0
 IsOtherRead cuts image s name asked t cut = IsOtherCut image asked (cuts s name asked t) cut
 
 -- A cut that was made for the name and the window, and isn't the image's.
-abbrev pub IsOtherMade : {S : Type 0} → (made : S → List ℕ → Asked → List ℕ → Type 0) → Option Image → S → List ℕ → Asked → S → List ℕ → Type 0
+abbrev pub IsOtherMade : {S : Type 0} → (made : S → List ℕ → Asked → List ℕ → Type 0) → Option Image → S → List ℕ
+    → Asked → S → List ℕ → Type 0
 IsOtherMade made image s name asked t cut = made t name asked cut × (IsCutOf image asked cut → ⊥)
 
 -- What a call gives, where nothing is known of files: what is due of the image's, or the same of
 -- what was read in its place.
-abbrev pub IsFileGiven : {S : Type 0} → Option Image → (reads : S → List ℕ → List ℕ → S → Type 0) → S → List ℕ → S → List ℕ → Type 0
+abbrev pub IsFileGiven : {S : Type 0} → Option Image → (reads : S → List ℕ → List ℕ → S → Type 0) → S → List ℕ → S
+    → List ℕ → Type 0
 IsFileGiven image reads s name t file = IsFileOf image file ⊎ IsOtherFile image (λ f. reads s name f t) file
 
-abbrev pub IsCutGiven : {S : Type 0} → Option Image → Asked → (cuts : S → List ℕ → Asked → S → List ℕ → Type 0) → S → List ℕ → S → List ℕ → Type 0
+abbrev pub IsCutGiven : {S : Type 0} → Option Image → Asked → (cuts : S → List ℕ → Asked → S → List ℕ → Type 0) → S
+    → List ℕ → S → List ℕ → Type 0
 IsCutGiven image asked cuts s name t cut = IsCutOf image asked cut ⊎ IsOtherRead cuts image s name asked t cut
 
 -- the status that says so
@@ -142,39 +149,47 @@ IsBroken broke nowhere = ⊥
 
 -- A file that is sent to a query for a resource, and isn't the image's: another that was read in
 -- its place, or another window.
-abbrev pub IsOtherSent : List Image → (reads : List ℕ → List ℕ → Type 0) → (windows : Option Image → List ℕ → Asked → List ℕ → Type 0) → List ℕ → Resource → List ℕ → Type 0
+abbrev pub IsOtherSent : List Image → (reads : List ℕ → List ℕ → Type 0)
+    → (windows : Option Image → List ℕ → Asked → List ℕ → Type 0) → List ℕ → Resource → List ℕ → Type 0
 IsOtherSent images reads windows query listing file = ⊥
-IsOtherSent images reads windows query (whole name) file = (are_none (pairs_of query) ≡ true) × IsOtherFile (image_of name images) (reads name) file
-IsOtherSent images reads windows query (window name) file = (asked : Asked) × (asked_by (pairs_of query) ≡ Some asked) × windows (image_of name images) name asked file
+IsOtherSent images reads windows query (whole name) file = (are_none (pairs_of query) ≡ true)
+    × IsOtherFile (image_of name images) (reads name) file
+IsOtherSent images reads windows query (window name) file = (asked : Asked) × (asked_by (pairs_of query) ≡ Some asked)
+    × windows (image_of name images) name asked file
 IsOtherSent images reads windows query nowhere file = ⊥
 
 -- A reply says what is due; or that a file couldn't be read, or that other bytes were read in its
 -- place; or it has such another file.
 abbrev pub IsReplyOf : (due : Content) → (broken : Type 0) → (other : List ℕ → Type 0) → Bool → Reply → Type 0
 IsReplyOf due broken other close r =
-    (r ≡ printed due close) ⊎ (broken × (r ≡ failed close)) ⊎ ((file : List ℕ) × other file × (r ≡ printed (sent file) close))
+    (r ≡ printed due close) ⊎ (broken × (r ≡ failed close))
+    ⊎ ((file : List ℕ) × other file × (r ≡ printed (sent file) close))
 
 -- Others: the windows that may be sent in the place of an image's.
-module _ {S : Type 0} (broke : S → List ℕ → S → Type 0) (reads : S → List ℕ → List ℕ → S → Type 0) (others : Option Image → S → List ℕ → Asked → S → List ℕ → Type 0) where
+module _ {S : Type 0} (broke : S → List ℕ → S → Type 0) (reads : S → List ℕ → List ℕ → S → Type 0)
+    (others : Option Image → S → List ℕ → Asked → S → List ℕ → Type 0) where
   -- The reply of a resource to a query, from one state to another.
   abbrev pub IsReplyAtWith : List Image → S → S → List ℕ → Bool → Resource → Reply → Type 0
   IsReplyAtWith images s t query close resource r =
       IsReplyOf (content_of images query resource) (IsBroken (λ n. broke s n t) resource)
-      (IsOtherSent images (λ n file. reads s n file t) (λ image n asked cut. others image s n asked t cut) query resource) close r
+      (IsOtherSent images (λ n file. reads s n file t)
+      (λ image n asked cut. others image s n asked t cut) query resource) close r
 
   -- The reply to a request for images.
   abbrev pub IsReplyWith : List Image → Request → S → S → Reply → Type 0
   IsReplyWith images q s t r =
       let resource = asked_for q (names_of images) in
       IsReplyOf (content q images) (IsBroken (λ n. broke s n t) resource)
-      (IsOtherSent images (λ n file. reads s n file t) (λ image n asked cut. others image s n asked t cut) (query_of q.target) resource) q.closes r
+      (IsOtherSent images (λ n file. reads s n file t) (λ image n asked cut. others image s n asked t cut)
+      (query_of q.target) resource) q.closes r
 
   -- What is written for a request.
   abbrev pub gives_with : List Image → S → Request → Reply → S → Type 0
   gives_with images s q r t = IsReplyWith images q s t r
 
 -- Windows are made at each request: another is one of what was read for it.
-module _ {S : Type 0} (broke : S → List ℕ → S → Type 0) (reads : S → List ℕ → List ℕ → S → Type 0) (cuts : S → List ℕ → Asked → S → List ℕ → Type 0) where
+module _ {S : Type 0} (broke : S → List ℕ → S → Type 0) (reads : S → List ℕ → List ℕ → S → Type 0)
+    (cuts : S → List ℕ → Asked → S → List ℕ → Type 0) where
   abbrev pub IsReplyAt : List Image → S → S → List ℕ → Bool → Resource → Reply → Type 0
   IsReplyAt = IsReplyAtWith broke reads (IsOtherRead cuts)
 
@@ -184,8 +199,10 @@ module _ {S : Type 0} (broke : S → List ℕ → S → Type 0) (reads : S → L
   abbrev pub gives_reply : List Image → S → Request → Reply → S → Type 0
   gives_reply = gives_with broke reads (IsOtherRead cuts)
 
--- Windows may be kept: another was made for the same name and window, by this request or by an earlier one.
-module _ {S : Type 0} (broke : S → List ℕ → S → Type 0) (reads : S → List ℕ → List ℕ → S → Type 0) (made : S → List ℕ → Asked → List ℕ → Type 0) where
+-- Windows may be kept: another was made for the same name and window, by this request or by an
+-- earlier one.
+module _ {S : Type 0} (broke : S → List ℕ → S → Type 0) (reads : S → List ℕ → List ℕ → S → Type 0)
+    (made : S → List ℕ → Asked → List ℕ → Type 0) where
   abbrev pub IsCachedReply : List Image → Request → S → S → Reply → Type 0
   IsCachedReply = IsReplyWith broke reads (IsOtherMade made)
 
@@ -195,10 +212,12 @@ module _ {S : Type 0} (broke : S → List ℕ → S → Type 0) (reads : S → L
 -- The same where the images' files are kept: no other is read in their place.
 module _ {S : Type 0} (broke : S → List ℕ → S → Type 0) where
   abbrev pub IsKeptReplyAt : List Image → S → S → List ℕ → Bool → Resource → Reply → Type 0
-  IsKeptReplyAt images s t query close resource r = IsReplyOf (content_of images query resource) (IsBroken (λ n. broke s n t) resource) (λ _. ⊥) close r
+  IsKeptReplyAt images s t query close resource r =
+      IsReplyOf (content_of images query resource) (IsBroken (λ n. broke s n t) resource) (λ _. ⊥) close r
 
   abbrev pub IsKeptReply : List Image → Request → S → S → Reply → Type 0
-  IsKeptReply images q s t r = IsReplyOf (content q images) (IsBroken (λ n. broke s n t) (asked_for q (names_of images))) (λ _. ⊥) q.closes r
+  IsKeptReply images q s t r =
+      IsReplyOf (content q images) (IsBroken (λ n. broke s n t) (asked_for q (names_of images))) (λ _. ⊥) q.closes r
 
   abbrev pub gives_kept : List Image → S → Request → Reply → S → Type 0
   gives_kept images s q r t = IsKeptReply images q s t r

@@ -7,7 +7,7 @@ pub mod Sessions
 pub mod Replies
 pub mod Queries
 pub mod Readings
-pub mod Places
+pub mod Resources
 pub mod Serving
 pub mod Pairs
 pub mod Images

@@ -1,5 +1,6 @@
 -- Queries that ask for a window (the URL Standard, section 5.1, for the pairs of a query).
-use Rattle.std.specs.Prelude.{ℕ, ◌^◌, Bool, ◌&&◌, nat_lt, nat_le, List, [], ◌∷◌, length, map, count_by, find, Option, Some, None, is_some, unwrap_or, option_and_then, if◌then◌else◌, codes}
+use Rattle.std.specs.Prelude.{ℕ, ◌^◌, Bool, ◌&&◌, nat_lt, nat_le, List, [], ◌∷◌, length, map, count_by, find, Option}
+use Rattle.std.specs.Prelude.{Some, None, is_some, unwrap_or, option_and_then, if◌then◌else◌, codes}
 use Rattle.std.specs.List.{list_any, list_all}
 use Rattle.std.specs.Char.{is_ascii_digit}
 use Rattle.std.specs.Str.{bytes_eq}
@@ -53,9 +54,11 @@ window_of (Some x) (Some y) (Some width) (Some height) reduce =
     Some record { reduce = unwrap_or reduce 0; x = x; y = y; width = width; height = height }
 window_of _ _ _ _ _ = None
 
--- The window that pairs ask for: each pair has one of the names and a number, and no name stands twice.
+-- The window that pairs ask for: each pair has one of the names and a number, and no name stands
+-- twice.
 abbrev pub asked_by : List (List ℕ × List ℕ) → Option Asked
 asked_by pairs =
     if list_all is_reading pairs && list_all (stands_once pairs) keys
-    then window_of (number_at (codes "x") pairs) (number_at (codes "y") pairs) (number_at (codes "w") pairs) (number_at (codes "h") pairs) (number_at (codes "r") pairs)
+    then window_of (number_at (codes "x") pairs) (number_at (codes "y") pairs) (number_at (codes "w") pairs)
+    (number_at (codes "h") pairs) (number_at (codes "r") pairs)
     else None

@@ -1,5 +1,6 @@
 -- A query that is read from front to back: what was read, and the pairs that are left.
-use Rattle.std.specs.Prelude.{ℕ, ◌+◌, Bool, ◌&&◌, nat_le, List, [], ◌∷◌, count_by, Option, None, is_some, if◌then◌else◌, codes}
+use Rattle.std.specs.Prelude.{ℕ, ◌+◌, Bool, ◌&&◌, nat_le, List, [], ◌∷◌, count_by, Option, None, is_some, if◌then◌else◌}
+use Rattle.std.specs.Prelude.{codes}
 use Rattle.std.specs.List.{list_all}
 use Rattle.std.specs.Option.{option_or}
 use Rattle.jk_web.specs.declared.query.Asked.{Asked}
@@ -8,7 +9,8 @@ use Rattle.jk_web.specs.Queries.{has_key, is_reading, number_at, window_of}
 
 -- what was read, by name
 abbrev pub slots : Readings → List (List ℕ × Option ℕ)
-slots r = (codes "x", r.x) ∷ (codes "y", r.y) ∷ (codes "w", r.width) ∷ (codes "h", r.height) ∷ (codes "r", r.reduce) ∷ []
+slots r = (codes "x", r.x) ∷ (codes "y", r.y) ∷ (codes "w", r.width) ∷ (codes "h", r.height) ∷ (codes "r", r.reduce)
+    ∷ []
 
 -- whether a name stands once in all, what was read counted
 abbrev pub is_once : List (List ℕ × List ℕ) → List ℕ × Option ℕ → Bool
@@ -22,5 +24,7 @@ number_with slot key pairs = option_or slot (number_at key pairs)
 unfoldable pub asked_with : Readings → List (List ℕ × List ℕ) → Option Asked
 asked_with r pairs =
     if list_all is_reading pairs && list_all (is_once pairs) (slots r)
-    then window_of (number_with r.x (codes "x") pairs) (number_with r.y (codes "y") pairs) (number_with r.width (codes "w") pairs) (number_with r.height (codes "h") pairs) (number_with r.reduce (codes "r") pairs)
+    then window_of (number_with r.x (codes "x") pairs) (number_with r.y (codes "y") pairs)
+    (number_with r.width (codes "w") pairs) (number_with r.height (codes "h") pairs)
+    (number_with r.reduce (codes "r") pairs)
     else None

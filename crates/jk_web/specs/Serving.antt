@@ -14,8 +14,9 @@ use Rattle.jk_web.specs.Unread.{Unread}
 use Rattle.jk_web.specs.Replies.{bad_reply}
 
 module _ {S : Type 0} (gives : S → Request → Reply → S → Type 0) where
-  -- The requests at the front of a stream were answered in turn, and none of them closes the connection: this text was
-  -- written, this rest is left of the stream, and what answers is in this state.
+  -- The requests at the front of a stream were answered in turn, and none of them closes the
+  -- connection: this text was written, this rest is left of the stream, and what answers is in this
+  -- state.
   pub data Answered (s : S) (stream : List ℕ) : List ℕ → List ℕ → S → Type 0 where
     nothing : Answered s stream [] stream s
     one_more : (text rest : List ℕ) (t : S) (h : RequestHead) (tail : List ℕ) (reply : Reply) (u : S)
@@ -77,7 +78,8 @@ module _ {S : Type 0} (gives : S → Request → Reply → S → Type 0) (refuse
     pub rest : List ℕ
     pub state : S
     pub answered : Answered gives s stream text rest state
-    pub cause : (IsMemory e × (t ≡ state)) ⊎ ((h : RequestHead) × (tail : List ℕ) × IsWhole rest h tail × IsGood h × refuses state (request_of h) e t)
+    pub cause : (IsMemory e × (t ≡ state))
+        ⊎ ((h : RequestHead) × (tail : List ℕ) × IsWhole rest h tail × IsGood h × refuses state (request_of h) e t)
 
   -- What was written to a stream, where it goes on with this rest, or where it ended.
   abbrev pub Tells : S → List ℕ → List ℕ → Unread → S → Result (Option End) Fault → Type 0
@@ -89,10 +91,11 @@ module _ {S : Type 0} (gives : S → Request → Reply → S → Type 0) (refuse
   Tells s stream text new t (Ok (Some TurnsSpent)) = ⊥
   Tells s stream text new t (Err e) = IsRefusedText s stream text e t
 
-  -- What was written to a stream that was read, and what has ended the connection. Over: no more input comes; spent: no
-  -- read is left.
+  -- What was written to a stream that was read, and what has ended the connection. Over: no more
+  -- input comes; spent: no read is left.
   abbrev pub Ends : S → List ℕ → List ℕ → Type 0 → Type 0 → S → Result End Fault → Type 0
-  Ends s stream text over spent t (Ok Closed) = (IsOpenText gives s stream text t × over) ⊎ IsClosedText gives s stream text t
+  Ends s stream text over spent t (Ok Closed) = (IsOpenText gives s stream text t × over)
+      ⊎ IsClosedText gives s stream text t
   Ends s stream text over spent t (Ok Bad) = IsBadText gives s stream text t
   Ends s stream text over spent t (Ok ReadFailed) = IsOpenText gives s stream text t
   Ends s stream text over spent t (Ok WriteFailed) = IsCutText gives s stream text t

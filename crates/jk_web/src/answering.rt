@@ -2,18 +2,19 @@
 
 ghost use Rattle.std.specs.Prelude.{◌≡◌, List, ℕ, Some, All, IfOk, IfErr, IsErr};
 ghost use Rattle.jk_math.specs.Memory.{IsMemory};
-ghost use Rattle.jk_web.specs.Places.{IsSegment, among, whole, window, listing};
+ghost use Rattle.jk_web.specs.Resources.{IsSegment, among, whole, window, listing};
 ghost use Rattle.jk_web.specs.Queries.{pairs_of, asked_by};
 ghost use Rattle.jk_web.specs.Replies.{printed, error};
-ghost use Rattle.jk_web.specs.Images.{Image, names_of, content_of, status_of, IsReplyAt, IsReplyAtWith, IsKeptReplyAt, IsReply, IsReplyWith, IsCachedReply, IsKeptReply};
+ghost use Rattle.jk_web.specs.Images.{Image, names_of, content_of, status_of, IsReplyAt, IsReplyAtWith, IsKeptReplyAt};
+ghost use Rattle.jk_web.specs.Images.{IsReply, IsReplyWith, IsCachedReply, IsKeptReply};
 ghost use Rattle.jk_web.specs.Cuts.{Within, AreOf, IsHit, Has};
 
 use crate::cache::Cache;
 use crate::catalogue::Catalogue;
-use crate::place::{Place, place_of, split_target};
 use crate::query::{Asked, is_empty, window_asked};
 use crate::reply::{Media, Reply, answered, refuse};
 use crate::request::Request;
+use crate::resource::{NamedResource, resource_of, split_target};
 use crate::windows::{Direct, Windows};
 use jk_math::Fault;
 use std::alloc::Global;
@@ -60,9 +61,13 @@ fn answer_whole<C: Catalogue>(
     catalogue: &mut C,
 ) -> Result<Reply, Fault>
     ensures exact { (images : List Image) → C.stands catalogue.old images
-        → IfOk result (IsReplyAt C.broke C.reads C.cuts images catalogue.old catalogue.new query.now close (among (names_of images) (whole name.now))) }
+        → IfOk result
+        (IsReplyAt C.broke C.reads C.cuts images catalogue.old catalogue.new query.now close
+        (among (names_of images) (whole name.now))) }
     ensures same { (images : List Image) → C.stands catalogue.old images → C.keeps catalogue.old images
-        → IfOk result (IsKeptReplyAt C.broke images catalogue.old catalogue.new query.now close (among (names_of images) (whole name.now))) }
+        → IfOk result
+        (IsKeptReplyAt C.broke images catalogue.old catalogue.new query.now close
+        (among (names_of images) (whole name.now))) }
     ensures stands { (images : List Image) → C.stands catalogue.old images → C.stands catalogue.new images }
     ensures keeps { (images : List Image) → C.keeps catalogue.old images → C.keeps catalogue.new images }
     ensures lasts { Within (C.made catalogue.old) (C.made catalogue.new) }
@@ -150,11 +155,11 @@ pub(crate) fn answer_by<C: Catalogue, W: Windows<C>>(
         return refuse(alloc, 405, close);
     }
     let (path, query) = split_target(request.target.as_slice());
-    match place_of(path) {
-        Place::Listing => answer_listing(alloc, query, close, &*catalogue),
-        Place::Whole(name) => answer_whole(alloc, name, query, close, catalogue),
-        Place::Window(name) => answer_window(alloc, name, query, close, catalogue, windows),
-        Place::Nowhere => refuse(alloc, 404, close),
+    match resource_of(path) {
+        NamedResource::Listing => answer_listing(alloc, query, close, &*catalogue),
+        NamedResource::Whole(name) => answer_whole(alloc, name, query, close, catalogue),
+        NamedResource::Window(name) => answer_window(alloc, name, query, close, catalogue, windows),
+        NamedResource::Nowhere => refuse(alloc, 404, close),
     }
 }
 
@@ -168,7 +173,8 @@ pub fn answer<C: Catalogue>(
     ensures exact { (images : List Image) → C.stands catalogue.old images → All IsSegment (names_of images)
         → IfOk result (IsReply C.broke C.reads C.cuts images request.now catalogue.old catalogue.new) }
     // Where they are kept, no other file is sent.
-    ensures same { (images : List Image) → C.stands catalogue.old images → C.keeps catalogue.old images → All IsSegment (names_of images)
+    ensures same { (images : List Image) → C.stands catalogue.old images → C.keeps catalogue.old images
+        → All IsSegment (names_of images)
         → IfOk result (IsKeptReply C.broke images request.now catalogue.old catalogue.new) }
     ensures stands { (images : List Image) → C.stands catalogue.old images → C.stands catalogue.new images }
     ensures keeps { (images : List Image) → C.keeps catalogue.old images → C.keeps catalogue.new images }

@@ -58,7 +58,8 @@ impl<'a, I: Read> Budget<'a, I> {
         ensures left { self.new.left + 1 ≡ self.old.left }
         ensures failed { IsErr result → self.new.last ≡ Last.Failed }
         ensures bound { ReadsAtMost result piece.new }
-        ensures bytes { ReadConsumes (I.remaining self.old.reader.now) (I.remaining self.new.reader.now) result piece.new }
+        ensures bytes { ReadConsumes (I.remaining self.old.reader.now)
+            (I.remaining self.new.reader.now) result piece.new }
     {
         self.left -= 1;
         let read = self.reader.read(piece);

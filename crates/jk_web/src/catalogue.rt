@@ -36,7 +36,8 @@ pub trait Catalogue {
 
     /// The lines of all images, in order.
     fn lines(&self, alloc: Global) -> Result<Vec<u8>, Fault>
-        ensures lines { (images : List Image) → stands self.now images → IfOk result (λ v. v.items ≡ flat_map (λ i. i.line) images) }
+        ensures lines { (images : List Image) → stands self.now images
+            → IfOk result (λ v. v.items ≡ flat_map (λ i. i.line) images) }
         ensures memory { IfErr result (λ e. IsMemory e) };
 
     /// Whether there is an image of this name.
@@ -59,7 +60,8 @@ pub trait Catalogue {
     fn window(&mut self, alloc: Global, name: &[u8], asked: Asked) -> Result<Vec<u8>, Fault>
         ensures gives { (images : List Image) → stands self.old images → MatchResult result
             (λ v. IsCutGiven (image_of name.now images) asked cuts self.old name.now self.new v.items)
-            (λ e. MayRefuse (image_of name.now images) (broke self.old name.now self.new) (HasNoCut (image_of name.now images) asked) e) }
+            (λ e. MayRefuse (image_of name.now images) (broke self.old name.now self.new)
+            (HasNoCut (image_of name.now images) asked) e) }
         // Of a file that is kept it is the window.
         ensures same { (images : List Image) → stands self.old images → keeps self.old images
             → IfOk result (λ v. IsCutOf (image_of name.now images) asked v.items) }

@@ -1,4 +1,5 @@
-//! HTTP/1.1 for images: requests out of the bytes of a connection in any pieces, and the bytes of the replies.
+//! HTTP/1.1 for images: requests out of the bytes of a connection in any pieces, and the bytes of
+//! the replies.
 #![tactic(auto)]
 
 mod answering;
@@ -8,10 +9,10 @@ mod catalogue;
 mod fields;
 mod head;
 mod octets;
-mod place;
 mod query;
 mod reply;
 mod request;
+mod resource;
 mod running;
 mod service;
 mod serving;
@@ -22,10 +23,10 @@ pub use answering::{answer, answer_with};
 pub use cache::Cache;
 pub use catalogue::Catalogue;
 pub use octets::Octets;
-pub use place::{Place, place_of};
 pub use query::{Asked, window_asked};
 pub use reply::{Media, Reply, bad};
 pub use request::Request;
+pub use resource::{NamedResource, resource_of};
 pub use running::{run, run_with};
 pub use service::Service;
 pub use serving::{End, serve};

@@ -15,8 +15,8 @@ use std::alloc::Global;
 /// The most digits of a number.
 const MOST_DIGITS: usize = 10;
 
-/// A window that a query asks for: a rectangle of an image at a reduction, counted from the upper left sample of the
-/// reduced image.
+/// A window that a query asks for: a rectangle of an image at a reduction, counted from the upper
+/// left sample of the reduced image.
 #[derive(Clone, Copy, Debug, PartialEq, Eq)]
 pub struct Asked {
     /// How often the image is halved.
@@ -71,7 +71,8 @@ fn fill(place: &mut Option<u32>, number: u32) -> bool
 }
 
 impl Readings {
-    /// Keeps the number of a pair. False where the name isn't known or was read before, or the value is no number.
+    /// Keeps the number of a pair. False where the name isn't known or was read before, or the
+    /// value is no number.
     fn keep(&mut self, key: &str, value: &str) -> bool
         ensures { (rest : List (List ℕ × List ℕ)) → asked_with self.old ((key.now, value.now) ∷ rest)
             ≡ (if result then asked_with self.new rest else None) }
@@ -105,8 +106,9 @@ impl Readings {
     }
 }
 
-/// The window that a query asks for, by numbers `x`, `y`, `w` and `h`, and `r` where it isn't 0. None where one of them is
-/// missing or stands twice, another name stands there, or a value is no number of 1 to 10 digits below 2^32.
+/// The window that a query asks for, by numbers `x`, `y`, `w` and `h`, and `r` where it isn't 0.
+/// None where one of them is missing or stands twice, another name stands there, or a value is no
+/// number of 1 to 10 digits below 2^32.
 pub fn window_asked(alloc: Global, query: &[u8]) -> Result<Option<Asked>, Fault>
     ensures exact { IfOk result (λ window. window ≡ asked_by (pairs_of query.now)) }
     ensures memory { IfErr result (λ e. IsMemory e) }

@@ -2,7 +2,8 @@
 
 ghost use Rattle.std.specs.Prelude.{◌≡◌, ◌++◌, IfOk, IfErr, OnOk};
 ghost use Rattle.jk_math.specs.Memory.{IsMemory};
-ghost use Rattle.jk_web.specs.Replies.{phrase_of, media_text, status_line, field_line, allow_line, close_line, head_text, printed, error, bad_reply};
+ghost use Rattle.jk_web.specs.Replies.{phrase_of, media_text, status_line, field_line, allow_line, close_line};
+ghost use Rattle.jk_web.specs.Replies.{head_text, printed, error, bad_reply};
 
 use crate::octets::Octets;
 use http::StatusCode;

@@ -3,8 +3,9 @@
 ghost use Rattle.std.specs.Prelude.{◌≡◌, ◌<◌, ◌≤◌, List, ℕ, All, length, Ok, IfErr, IfSome};
 ghost use Rattle.std.specs.Io.KnownBytes.{Appends, Consumes, IsAtEnd};
 ghost use Rattle.jk_math.specs.Memory.{IsMemory};
-ghost use Rattle.jk_web.specs.Places.{IsSegment};
-ghost use Rattle.jk_web.specs.Images.{Image, names_of, gives_reply, gives_with, gives_cached, gives_kept, refuses_memory};
+ghost use Rattle.jk_web.specs.Resources.{IsSegment};
+ghost use Rattle.jk_web.specs.Images.{Image, names_of, gives_reply, gives_with, gives_cached, gives_kept};
+ghost use Rattle.jk_web.specs.Images.{refuses_memory};
 ghost use Rattle.jk_web.specs.Serving.{Ends};
 ghost use Rattle.jk_web.specs.Cuts.{Within, AreOf, Has};
 ghost use Rattle.jk_web.specs.Behind.{AreSame, HoldsBehind, KnowsBehind};
@@ -24,7 +25,7 @@ use std::io::{Read, Write};
 impl<C: Catalogue> Service for C {
     ghost use Rattle.std.specs.Prelude.{List, All};
     ghost use Rattle.jk_math.specs.Memory.{IsMemory};
-    ghost use Rattle.jk_web.specs.Places.{IsSegment};
+    ghost use Rattle.jk_web.specs.Resources.{IsSegment};
     ghost use Rattle.jk_web.specs.Images.{Image, names_of};
     ghost use Rattle.jk_web.specs.Running.{Gives, Refuses};
 
@@ -39,9 +40,9 @@ impl<C: Catalogue> Service for C {
 
 /// Answers the requests of a connection from a catalogue of images, in at most so many reads.
 ///
-/// What is written is the replies to the requests in order, whatever pieces they come in, up to the first that closes or to
-/// the first bad one. Where memory is refused, whole replies are written alone. TurnsSpent: so many reads were made, and each
-/// gave a byte.
+/// What is written is the replies to the requests in order, whatever pieces they come in, up to the
+/// first that closes or to the first bad one. Where memory is refused, whole replies are written
+/// alone. TurnsSpent: so many reads were made, and each gave a byte.
 pub fn run<I: Read, O: Write, C: Catalogue>(
     alloc: Global,
     reader: &mut I,
@@ -54,13 +55,16 @@ pub fn run<I: Read, O: Write, C: Catalogue>(
         → (stream : List ℕ) × (text : List ℕ)
         × Consumes (I.remaining reader.old) (I.remaining reader.new) stream
         × Appends (O.contents writer.old) (O.contents writer.new) text
-        × Ends (gives_reply C.broke C.reads C.cuts images) refuses_memory catalogue.old stream text (IsAtEnd (I.remaining reader.new)) (turns ≤ length stream) catalogue.new result }
+        × Ends (gives_reply C.broke C.reads C.cuts images) refuses_memory catalogue.old stream text
+        (IsAtEnd (I.remaining reader.new)) (turns ≤ length stream) catalogue.new result }
     // Where they are kept, no other file is sent.
-    ensures same { (images : List Image) → C.stands catalogue.old images → C.keeps catalogue.old images → All IsSegment (names_of images)
+    ensures same { (images : List Image) → C.stands catalogue.old images → C.keeps catalogue.old images
+        → All IsSegment (names_of images)
         → (stream : List ℕ) × (text : List ℕ)
         × Consumes (I.remaining reader.old) (I.remaining reader.new) stream
         × Appends (O.contents writer.old) (O.contents writer.new) text
-        × Ends (gives_kept C.broke images) refuses_memory catalogue.old stream text (IsAtEnd (I.remaining reader.new)) (turns ≤ length stream) catalogue.new result }
+        × Ends (gives_kept C.broke images) refuses_memory catalogue.old stream text (IsAtEnd (I.remaining reader.new))
+        (turns ≤ length stream) catalogue.new result }
     ensures stands { (images : List Image) → C.stands catalogue.old images → C.stands catalogue.new images }
     ensures keeps { (images : List Image) → C.keeps catalogue.old images → C.keeps catalogue.new images }
     ensures lasts { Within (C.made catalogue.old) (C.made catalogue.new) }

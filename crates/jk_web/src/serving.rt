@@ -67,8 +67,8 @@ fn answer_all<O: Write, S: Service>(
     }
 }
 
-/// Answers the requests of a connection one after another, in at most so many reads. TurnsSpent: none is left. ReadFailed: the last
-/// one failed.
+/// Answers the requests of a connection one after another, in at most so many reads. TurnsSpent:
+/// none is left. ReadFailed: the last one failed.
 fn serve_turns<'a, I: Read, O: Write, S: Service>(
     alloc: Global,
     budget: &mut Budget<'a, I>,
@@ -83,7 +83,8 @@ fn serve_turns<'a, I: Read, O: Write, S: Service>(
     ensures text { (stream : List ℕ) × (text : List ℕ)
         × Consumes (I.remaining budget.old.reader.now) (I.remaining budget.new.reader.now) stream
         × Appends (O.contents writer.old) (O.contents writer.new) text
-        × Ends S.gives S.refuses service.old stream text (IsAtEnd (I.remaining budget.new.reader.now)) (turns ≤ length stream) service.new result }
+        × Ends S.gives S.refuses service.old stream text (IsAtEnd (I.remaining budget.new.reader.now))
+        (turns ≤ length stream) service.new result }
 {
     let mut session = Session::new(alloc);
     let mut piece = [0; PIECE];
@@ -107,8 +108,9 @@ fn serve_turns<'a, I: Read, O: Write, S: Service>(
 
 /// Answers the requests of a connection one after another, in at most so many reads.
 ///
-/// What is written is the replies to the requests in order, whatever pieces they come in, up to the first that closes or to
-/// the first bad one. Where memory or an answer is refused, whole replies are written alone.
+/// What is written is the replies to the requests in order, whatever pieces they come in, up to the
+/// first that closes or to the first bad one. Where memory or an answer is refused, whole replies
+/// are written alone.
 pub fn serve<I: Read, O: Write, S: Service>(
     alloc: Global,
     reader: &mut I,
@@ -119,7 +121,8 @@ pub fn serve<I: Read, O: Write, S: Service>(
     ensures { (stream : List ℕ) × (text : List ℕ)
         × Consumes (I.remaining reader.old) (I.remaining reader.new) stream
         × Appends (O.contents writer.old) (O.contents writer.new) text
-        × Ends S.gives S.refuses service.old stream text (IsAtEnd (I.remaining reader.new)) (turns ≤ length stream) service.new result }
+        × Ends S.gives S.refuses service.old stream text (IsAtEnd (I.remaining reader.new))
+        (turns ≤ length stream) service.new result }
 {
     let mut budget = Budget::new(reader, turns);
     serve_turns(alloc, &mut budget, writer, service, turns)

@@ -59,7 +59,12 @@ impl Model for Session {
 /// The request that a head asks for.
 fn request_of(alloc: Global, rest: &[u8], head: Head) -> Result<Request, AllocError>
     requires { IsHeadWithin rest.now head }
-    ensures { IfOk result (λ r. r ≡ record { method = span_bytes rest.now head.method; target = span_bytes rest.now head.target; closes = head.closes }) }
+    ensures { IfOk result
+        (λ r. r ≡ record {
+          method = span_bytes rest.now head.method;
+          target = span_bytes rest.now head.target;
+          closes = head.closes;
+        }) }
 {
     Ok(Request {
         method: Octets::new(Vec::from_slice(alloc, head.method.of(rest))?),
@@ -81,7 +86,8 @@ impl Session {
         }
     }
 
-    /// Lets go the bytes of which requests were made, where they are as many as those that are left.
+    /// Lets go the bytes of which requests were made, where they are as many as those that are
+    /// left.
     fn compact(&mut self)
         ensures { self.new ≡ self.old }
     {
@@ -120,7 +126,8 @@ impl Session {
 
     /// What comes next. `Bad` stays, and so does `Memory`.
     ///
-    /// A head is sought in the first 8,192 bytes that are left, and its fields are judged once it is whole.
+    /// A head is sought in the first 8,192 bytes that are left, and its fields are judged once it
+    /// is whole.
     pub fn next(&mut self) -> Result<Next, Fault>
         ensures request { IfRequest result (Takes self.old self.new) }
         ensures found { (h : RequestHead) (tail : List ℕ) → IsWhole self.old.rest h tail → IsGood h

@@ -16,7 +16,7 @@ use Rattle.jk_marks.specs.HeaderReading.{main_at}
 use Rattle.jk_marks.proofs.Laws.{only_main, begins_main}
 use Rattle.jk_boxes.specs.declared.place.Boxed.{Boxed}
 use Rattle.jk_boxes.specs.declared.boxes.Form.{Form}
-use Rattle.jk_boxes.specs.Boxes.{Holds, HoldsAt, bare_place, jp2_place, form_of}
+use Rattle.jk_boxes.specs.Boxes.{HoldsCodestream, HoldsAt, bare_place, jp2_place, form_of}
 use Rattle.jk_boxes.specs.Reading.{boxes_at, form_at}
 use Rattle.jk_boxes.proofs.Laws.{boxes_take, place_again, form_found, in_file}
 use Rattle.jk_params.specs.Headers.{Headers, cod_for, AreHeaders}
@@ -174,7 +174,7 @@ index_found bytes i fits e =
     bind_then (form_at bytes) _ i e (λ form told e.
     found_fields bytes (slice_range bytes place.start place.end) place form i fits opened told refl e))
 
-placed : (bytes codestream : List ℕ) → Holds bytes codestream → (place : Boxed) × HoldsAt bytes codestream place
+placed : (bytes codestream : List ℕ) → HoldsCodestream bytes codestream → (place : Boxed) × HoldsAt bytes codestream place
 placed bytes codestream (inl bare) = (bare_place bytes, inl (bare, refl))
 placed bytes codestream (inr jp2) = (jp2_place jp2, inr (jp2, refl))
 

@@ -22,4 +22,3 @@ pub mod PlanLaws
 pub mod PartPlans
 pub mod RunPlans
 pub mod Laws
-mod Examples

@@ -1,4 +1,5 @@
--- A codestream in which packets are empty is a codestream again: what it says, and what its packets are.
+-- A codestream in which packets are empty is a codestream again: what it says, and what its packets
+-- are.
 use Rattle.std.specs.Prelude.{◌≡◌, ℕ, ◌<◌, Bool, if◌then◌else◌, List, [], map, slice_index_or}
 use Rattle.jk_math.specs.declared.rect.Rect.{Rect}
 use Rattle.jk_marks.specs.Siz.{tile_count}
@@ -18,7 +19,8 @@ needed_by h w d t c r k = is_needed (tile_area h.siz t) (tile_in h.tiles t).codi
 -- The runs of tile t, in which each precinct keeps the packets of its first layers, and all others
 -- are empty. How many layers these are the fronts say, by tile, component, resolution and number.
 abbrev pub front_runs : Headers → (fronts : ℕ → ℕ → ℕ → ℕ → ℕ) → (ℕ → List (List Packet)) → ℕ → List (List Packet)
-front_runs h fronts runs t = let f = tile_in h.tiles t in map (emptied_run (of_fronts (fronts t)) f.cod.sop f.cod.eph) (runs t)
+front_runs h fronts runs t = let f =
+    tile_in h.tiles t in map (emptied_run (of_fronts (fronts t)) f.cod.sop f.cod.eph) (runs t)
 
 -- the data of its part n
 abbrev pub front_content : Headers → (fronts : ℕ → ℕ → ℕ → ℕ → ℕ) → (ℕ → List (List Packet)) → (t n : ℕ) → List ℕ
@@ -41,7 +43,8 @@ pub record AreAlike (g h : Headers) : Type 0 where
   pub cod : (t : ℕ) → t < tile_count h.siz → (tile_in g.tiles t).cod ≡ (tile_in h.tiles t).cod
   pub codings : (t : ℕ) → t < tile_count h.siz → (tile_in g.tiles t).codings ≡ (tile_in h.tiles t).codings
 
--- The bytes are a codestream whose headers say what h says, and whose tiles have these runs of packets.
+-- The bytes are a codestream whose headers say what h says, and whose tiles have these runs of
+-- packets.
 pub record IsAgain (new : List ℕ) (h : Headers) (runs : ℕ → List (List Packet)) : Type 0 where
   pub headers : Headers
   pub says : IsHeaders new headers
@@ -50,7 +53,8 @@ pub record IsAgain (new : List ℕ) (h : Headers) (runs : ℕ → List (List Pac
 
 -- A codestream in which each precinct keeps its first layers, and all other packets are empty.
 abbrev pub IsCodestreamAgain : Type 0
-IsCodestreamAgain = (bytes : List ℕ) (h : Headers) (is : IsHeaders bytes h) (runs : ℕ → List (List Packet)) → HaveRuns bytes h runs → (fronts : ℕ → ℕ → ℕ → ℕ → ℕ)
+IsCodestreamAgain = (bytes : List ℕ) (h : Headers) (is : IsHeaders bytes h) (runs : ℕ → List (List Packet))
+    → HaveRuns bytes h runs → (fronts : ℕ → ℕ → ℕ → ℕ → ℕ)
     → IsAgain (codestream_text (emptied_tree (front_content h fronts runs) is.tree)) h (front_runs h fronts runs)
 
 -- That of a window.

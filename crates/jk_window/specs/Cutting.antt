@@ -1,5 +1,7 @@
--- The file of a window: the stored one, in which the packets that the window doesn't need are empty.
-use Rattle.std.specs.Prelude.{ℕ, ◌<◌, Bool, not, if◌then◌else◌, nat_lt, List, [], ◌∷◌, length, drop, map, slice_index_or, Result, Ok, ◌&&◌}
+-- The file of a window: the stored one, in which the packets that the window doesn't need are
+-- empty.
+use Rattle.std.specs.Prelude.{ℕ, ◌<◌, Bool, not, if◌then◌else◌, nat_lt, List, [], ◌∷◌, length, drop, map}
+use Rattle.std.specs.Prelude.{slice_index_or, Result, Ok, ◌&&◌}
 use Rattle.std.proofs.Common.{inl, inr}
 use Rattle.std.specs.List.{flat_map}
 use Rattle.jk_math.specs.Answer.{◌>>=◌}
@@ -38,13 +40,15 @@ abbrev pub cut_tree : {bytes : List ℕ} {i : IndexFields} → IsIndexOf bytes i
 cut_tree {i = i} is w d = emptied_tree (content_of i.headers is.runs w d) is.says.tree
 
 -- the file with another codestream in the place of its own
-abbrev pub with_codestream : {bytes codestream : List ℕ} {place : Boxed} → HoldsAt bytes codestream place → List ℕ → Result (List ℕ) Fault
+abbrev pub with_codestream : {bytes codestream : List ℕ} {place : Boxed} → HoldsAt bytes codestream place → List ℕ
+    → Result (List ℕ) Fault
 with_codestream (inl bare) new = Ok new
 with_codestream (inr jp2) new = recoded jp2.0 new
 
 -- The file of the window of a view.
 abbrev pub cut_file : {bytes : List ℕ} {i : IndexFields} → IsIndexOf bytes i → View → Result (List ℕ) Fault
-cut_file {i = i} is v = window_at i.headers v >>= λ w. with_codestream is.holds (codestream_text (cut_tree is w v.reduce))
+cut_file {i = i} is v = window_at i.headers v
+    >>= λ w. with_codestream is.holds (codestream_text (cut_tree is w v.reduce))
 
 -- the same by the tile and by its part of the window
 abbrev pub wanted : TileShape → (top : Rect) → (d : ℕ) → PacketName → Bool
@@ -54,7 +58,8 @@ wanted s top d n = not (is_empty top) && needs s.rect (coding_of s.codings n.com
 abbrev pub Entered : Type 0
 Entered = PacketName × PacketEntry
 
--- Of packets that stand one after another from a place on, those up to another place; and so for each part.
+-- Of packets that stand one after another from a place on, those up to another place; and so for
+-- each part.
 unfoldable pub run_at : List Entered → (at stop : ℕ) → List Entered
 run_at [] at stop = []
 run_at (v ∷ packets) at stop = if nat_lt at stop then v ∷ run_at packets v.1.end stop else []

@@ -1,6 +1,7 @@
--- What an index keeps around the packets of a file: its main header, the heads of its tile-parts and their segments, how the
--- length of its codestream box is told, and its own length.
-use Rattle.std.specs.Prelude.{◌≡◌, ℕ, zero, suc, List, [], ◌∷◌, ◌++◌, length, drop, map, slice_index_or, Option, Some, None}
+-- What an index keeps around the packets of a file: its main header, the heads of its tile-parts
+-- and their segments, how the length of its codestream box is told, and its own length.
+use Rattle.std.specs.Prelude.{◌≡◌, ℕ, zero, suc, List, [], ◌∷◌, ◌++◌, length, drop, map, slice_index_or, Option, Some}
+use Rattle.std.specs.Prelude.{None}
 use Rattle.std.specs.List.{flat_map}
 use Rattle.jk_marks.specs.declared.part_head.PartHead.{PartHead}
 use Rattle.jk_marks.specs.Markers.{tlm}
@@ -12,8 +13,9 @@ use Rattle.jk_boxes.specs.declared.place.Boxed.{Boxed}
 use Rattle.jk_boxes.specs.Boxes.{HoldsAt, form_of}
 use Rattle.jk_params.specs.Headers.{Headers, tile_in}
 
--- the main header without TLM; the heads of the tile-parts in file order; their segments without PLT, one after another; how the
--- length of the codestream box is told; and how many bytes the file has
+-- the main header without TLM; the heads of the tile-parts in file order; their segments without
+-- PLT, one after another; how the length of the codestream box is told; and how many bytes the file
+-- has
 pub record Frame : Type 0 where
   pub main : List ℕ
   pub heads : List PartHead
@@ -22,7 +24,8 @@ pub record Frame : Type 0 where
   pub size : ℕ
 
 -- It is that of these bytes, of which the codestream spells this.
-pub record IsFrameOf {bytes codestream : List ℕ} {place : Boxed} (holds : HoldsAt bytes codestream place) (tree : Tree) (f : Frame) : Type 0 where
+pub record IsFrameOf {bytes codestream : List ℕ} {place : Boxed} (holds : HoldsAt bytes codestream place) (tree : Tree)
+    (f : Frame) : Type 0 where
   pub main : f.main ≡ main_text tree.siz (kept_segments tlm tree.segments)
   pub heads : f.heads ≡ map head_of tree.parts
   pub segments : f.segments ≡ flat_map kept_text tree.parts
@@ -43,7 +46,8 @@ where_some (Some head) f = f head
 unfoldable pub walked : {X : Type 0} → (PartHead → List ℕ → List X) → ℕ → List ℕ → Headers → ℕ → List X
 walked taken zero bytes h at = []
 walked taken (suc n) bytes h at =
-    where_some (part_head_at (drop at bytes)) (λ head. taken head (drop at bytes) ++ walked taken n bytes h (end_of h head))
+    where_some (part_head_at (drop at bytes))
+    (λ head. taken head (drop at bytes) ++ walked taken n bytes h (end_of h head))
 
 abbrev pub head_alone : PartHead → List ℕ → List PartHead
 head_alone head bytes = head ∷ []

@@ -1,5 +1,7 @@
--- What is kept of a file: where its codestream stands, what its headers say, and where each of its packets stands.
-use Rattle.std.specs.Prelude.{◌≡◌, ℕ, zero, suc, ◌-◌, ◌<◌, min, List, [], ◌∷◌, ◌++◌, length, map, slice_range, slice_index_or, Result, Ok}
+-- What is kept of a file: where its codestream stands, what its headers say, and where each of its
+-- packets stands.
+use Rattle.std.specs.Prelude.{◌≡◌, ℕ, zero, suc, ◌-◌, ◌<◌, min, List, [], ◌∷◌, ◌++◌, length, map, slice_range}
+use Rattle.std.specs.Prelude.{slice_index_or, Result, Ok}
 use Rattle.std.specs.List.{flat_map}
 use Rattle.jk_math.specs.Answer.{◌>>=◌}
 use Rattle.jk_math.specs.declared.fault.Fault.{Fault}
@@ -9,7 +11,7 @@ use Rattle.jk_marks.specs.Siz.{tile_count}
 use Rattle.jk_marks.specs.HeaderReading.{main_at}
 use Rattle.jk_geom.specs.TileShapes.{coding_of}
 use Rattle.jk_boxes.specs.declared.place.Boxed.{Boxed}
-use Rattle.jk_boxes.specs.Boxes.{Holds, HoldsAt}
+use Rattle.jk_boxes.specs.Boxes.{HoldsCodestream, HoldsAt}
 use Rattle.jk_boxes.specs.declared.boxes.Form.{Form}
 use Rattle.jk_boxes.specs.Reading.{boxes_at, form_at}
 use Rattle.jk_params.specs.Headers.{Headers, TileFields, tile_in, cod_for, IsHeaders, AreHeaders}
@@ -21,8 +23,8 @@ use Rattle.jk_walk.specs.Entries.{entries_at, AreEntries}
 use Rattle.jk_window.specs.Emptied.{run_text}
 use Rattle.jk_window.specs.Framing.{Frame, IsFrameOf, frame_at}
 
--- where the codestream stands in the file, the layers and the order of the main header, what all headers say, for each tile the
--- entries of its packets, and what stands around the packets
+-- where the codestream stands in the file, the layers and the order of the main header, what all
+-- headers say, for each tile the entries of its packets, and what stands around the packets
 pub record IndexFields : Type 0 where
   pub place : Boxed
   pub layers : ℕ
@@ -39,11 +41,13 @@ entries_of packets t = slice_index_or packets t []
 pub record AreIndexed (size : ℕ) (h : Headers) (packets : List (List PacketEntry)) : Type 0 where
   pub headers : AreHeaders size h
   pub count : length packets ≡ tile_count h.siz
-  pub each : (t : ℕ) → t < tile_count h.siz → AreEntries size (shape_in h.siz (tile_in h.tiles t) t) (entries_of packets t)
+  pub each : (t : ℕ) → t < tile_count h.siz
+      → AreEntries size (shape_in h.siz (tile_in h.tiles t) t) (entries_of packets t)
 
 -- The entries of each tile are those of its packets in the codestream.
 abbrev pub AreEntriesOf : List ℕ → Headers → List (List PacketEntry) → Type 0
-AreEntriesOf codestream h packets = (t : ℕ) → t < tile_count h.siz → entries_at codestream h t ≡ Ok (entries_of packets t)
+AreEntriesOf codestream h packets = (t : ℕ) → t < tile_count h.siz
+    → entries_at codestream h t ≡ Ok (entries_of packets t)
 
 abbrev pub joined_runs : List (List Packet) → List Packet
 joined_runs runs = flat_map (λ run. run) runs
@@ -53,7 +57,8 @@ pub record HasRuns (bytes : List ℕ) (h : Headers) (t : ℕ) (runs : List (List
   pub packets : AreTilePackets bytes h t (joined_runs runs)
   pub cut : map run_text runs ≡ map (slice_of bytes) (tile_in h.tiles t).data_places
 
--- The file holds a codestream at this place, whose headers say this, and which has packets for each tile, with these entries.
+-- The file holds a codestream at this place, whose headers say this, and which has packets for each
+-- tile, with these entries.
 pub record IsIndexOf (bytes : List ℕ) (i : IndexFields) : Type 0 where
   pub codestream : List ℕ
   pub holds : HoldsAt bytes codestream i.place
@@ -74,15 +79,18 @@ pub record IsIndex (i : IndexFields) : Type 0 where
 
 -- A file whose codestream has headers, and packets for each tile, has an index.
 abbrev pub HaveIndexes : Type 0
-HaveIndexes = (bytes codestream : List ℕ) (h : Headers) → Holds bytes codestream → IsHeaders codestream h
-    → ((t : ℕ) → t < tile_count h.siz → (packets : List Packet) × AreTilePackets codestream h t packets) → (i : IndexFields) × IsIndexOf bytes i
+HaveIndexes = (bytes codestream : List ℕ) (h : Headers) → HoldsCodestream bytes codestream → IsHeaders codestream h
+    → ((t : ℕ) → t < tile_count h.siz → (packets : List Packet) × AreTilePackets codestream h t packets)
+    → (i : IndexFields) × IsIndexOf bytes i
 
 -- the entries of the first n tiles, or the first fault of their packets, tile by tile
 unfoldable pub entries_upto : List ℕ → Headers → ℕ → Result (List (List PacketEntry)) Fault
 entries_upto bytes h zero = Ok []
-entries_upto bytes h (suc n) = entries_upto bytes h n >>= λ before. entries_at bytes h n >>= λ last. Ok (before ++ last ∷ [])
+entries_upto bytes h (suc n) = entries_upto bytes h n >>= λ before. entries_at bytes h n
+    >>= λ last. Ok (before ++ last ∷ [])
 
--- the index of a codestream at a place of a file of so many bytes, the length of whose box is told so
+-- the index of a codestream at a place of a file of so many bytes, the length of whose box is told
+-- so
 unfoldable pub fields_at : Boxed → Form → ℕ → List ℕ → Result IndexFields Fault
 fields_at place form size codestream = do
   main ← main_at codestream
@@ -104,12 +112,13 @@ index_at bytes = do
   form ← form_at bytes
   fields_at place form (length bytes) (slice_range bytes place.start place.end)
 
--- the least number of decomposition levels of the first n components, and of the components of the first n tiles; 10 where
--- there are none
+-- the least number of decomposition levels of the first n components, and of the components of the
+-- first n tiles; 10 where there are none
 unfoldable pub least_in : List Coding → ℕ → ℕ
 least_in codings zero = 10
 least_in codings (suc n) = min (least_in codings n) (coding_of codings n).levels
 
 unfoldable pub least_levels : List TileFields → ℕ → ℕ
 least_levels tiles zero = 10
-least_levels tiles (suc n) = min (least_levels tiles n) (least_in (tile_in tiles n).codings (length (tile_in tiles n).codings))
+least_levels tiles (suc n) =
+    min (least_levels tiles n) (least_in (tile_in tiles n).codings (length (tile_in tiles n).codings))

@@ -7,3 +7,4 @@ pub mod Cutting
 pub mod Planning
 pub mod Again
 pub mod Fronts
+pub mod Examples

@@ -1,5 +1,7 @@
--- The file of a window from what an index keeps: stretches of the stored file, and what is written between them.
-use Rattle.std.specs.Prelude.{◌≡◌, ℕ, ◌+◌, ◌-◌, ◌<◌, ◌≤◌, ◌^◌, Bool, true, if◌then◌else◌, List, [], ◌∷◌, ◌++◌, length, take, drop, sum_by, slice_index_or, Result, Ok, Err}
+-- The file of a window from what an index keeps: stretches of the stored file, and what is written
+-- between them.
+use Rattle.std.specs.Prelude.{◌≡◌, ℕ, ◌+◌, ◌-◌, ◌<◌, ◌≤◌, ◌^◌, Bool, true, if◌then◌else◌, List, [], ◌∷◌, ◌++◌, length}
+use Rattle.std.specs.Prelude.{take, drop, sum_by, slice_index_or, Result, Ok, Err}
 use Rattle.std.specs.List.{flat_map, AllByRecursion, zip}
 use Rattle.jk_math.specs.declared.fault.Fault.{Fault}
 use Rattle.jk_math.specs.declared.fault.Fault.TheVariants.{Limit}
@@ -28,7 +30,8 @@ use Rattle.jk_window.specs.Cutting.{Entered, keeps, wanted, run_at, runs_at}
 
 -- ---- a plan
 
--- the stretches that are copied of a stored file of so many bytes, and what is written behind each, all in one text
+-- the stretches that are copied of a stored file of so many bytes, and what is written behind each,
+-- all in one text
 pub record PlanFields : Type 0 where
   pub steps : List CutStep
   pub written : List ℕ
@@ -37,7 +40,8 @@ pub record PlanFields : Type 0 where
 -- what is made of a file
 unfoldable pub planned : List ℕ → List CutStep → List ℕ → List ℕ
 planned file [] written = []
-planned file (s ∷ steps) written = slice_of file (s.start, s.end) ++ (take s.written written ++ planned file steps (drop s.written written))
+planned file (s ∷ steps) written = slice_of file (s.start, s.end)
+    ++ (take s.written written ++ planned file steps (drop s.written written))
 
 abbrev pub plan_text : List ℕ → PlanFields → List ℕ
 plan_text file p = planned file p.steps p.written
@@ -78,11 +82,13 @@ pub record IsLast (p : PlanFields) (n : ℕ) (P : CutStep → Type 0) : Type 0 w
 -- a packet that is kept, or an empty one, where the codestream begins at `start` of the file
 abbrev pub packet_from : (file : List ℕ) → (start : ℕ) → (PacketName → Bool) → (eph : Bool) → Entered → List ℕ
 packet_from file start keep eph v =
-    if keep v.0 then slice_of file (start + v.1.start, start + v.1.end) else sop_written v.1.counter ++ (0 ∷ eph_text eph)
+    if keep v.0 then slice_of file (start + v.1.start, start + v.1.end)
+    else sop_written v.1.counter ++ (0 ∷ eph_text eph)
 
 -- how many bytes that are
 abbrev pub packet_size : (PacketName → Bool) → (eph : Bool) → Entered → ℕ
-packet_size keep eph v = if keep v.0 then v.1.end - v.1.start else length (sop_written v.1.counter) + length (0 ∷ eph_text eph)
+packet_size keep eph v = if keep v.0 then v.1.end - v.1.start
+    else length (sop_written v.1.counter) + length (0 ∷ eph_text eph)
 
 -- the packets of tile t in their order, with their entries
 abbrev pub entered_in : IndexFields → ℕ → List Entered
@@ -94,11 +100,14 @@ part_packets i t n = slice_index_or (runs_at (entered_in i t) (tile_in i.headers
 
 -- its data
 abbrev pub part_from : (file : List ℕ) → IndexFields → (w : Rect) → (d t n : ℕ) → List ℕ
-part_from file i w d t n = flat_map (packet_from file i.place.start (keeps i.headers w d t) (tile_in i.headers.tiles t).cod.eph) (part_packets i t n)
+part_from file i w d t n =
+    flat_map (packet_from file i.place.start (keeps i.headers w d t) (tile_in i.headers.tiles t).cod.eph)
+    (part_packets i t n)
 
 -- how many bytes these are, by the index alone
 abbrev pub part_size : IndexFields → (w : Rect) → (d t n : ℕ) → ℕ
-part_size i w d t n = sum_by (packet_size (keeps i.headers w d t) (tile_in i.headers.tiles t).cod.eph) (part_packets i t n)
+part_size i w d t n =
+    sum_by (packet_size (keeps i.headers w d t) (tile_in i.headers.tiles t).cod.eph) (part_packets i t n)
 
 -- ---- a tile, by what is kept of it
 
@@ -161,8 +170,8 @@ framed f content = f.main ++ (heads_text f.heads f.segments content ++ marker_te
 abbrev pub framed_size : Frame → (ℕ → ℕ → ℕ) → ℕ
 framed_size f size = length f.main + (sum_by (λ h. 14 + h.size + size h.tile h.number) f.heads + 2)
 
--- the file around another codestream: a bare one; or the file up to the head of its codestream box, a head for the new length, the
--- codestream, and what stands behind
+-- the file around another codestream: a bare one; or the file up to the head of its codestream box,
+-- a head for the new length, the codestream, and what stands behind
 abbrev pub around : Boxed → (size : ℕ) → List ℕ → List ℕ → List ℕ
 around place size file new = slice_of file (0, place.start) ++ (new ++ slice_of file (place.end, size))
 
@@ -175,12 +184,14 @@ headed place form size file new =
 abbrev pub front_of : IndexFields → (length : ℕ) → List ℕ → List ℕ
 front_of i length file =
     let form = i.frame.form in
-    if i.place.jp2 then slice_of file (0, i.place.start - head_size form) ++ head_text form code_kind (head_size form + length)
+    if i.place.jp2
+    then slice_of file (0, i.place.start - head_size form) ++ head_text form code_kind (head_size form + length)
     else slice_of file (0, i.place.start)
 
 unfoldable pub reboxed : Boxed → Form → (size : ℕ) → List ℕ → List ℕ → Result (List ℕ) Fault
 reboxed place form size file new =
-    if place.jp2 then (if fits_form form (head_size form + length new) then Ok (headed place form size file new) else Err Limit)
+    if place.jp2 then (if fits_form form (head_size form + length new) then Ok (headed place form size file new)
+    else Err Limit)
     else Ok (around place size file new)
 
 -- the file of the window w at reduction d
@@ -200,7 +211,8 @@ pub record IsHead (headers : Headers) (h : PartHead) : Type 0 where
   pub tile : h.tile < tile_count headers.siz
   pub number : h.number < length (tile_in headers.tiles h.tile).data_places
 
--- The heads are of parts that there are, their segments are there, and the codestream lies in the file, behind the head of its box.
+-- The heads are of parts that there are, their segments are there, and the codestream lies in the
+-- file, behind the head of its box.
 pub record IsSound (i : IndexFields) : Type 0 where
   pub heads : AllByRecursion (IsHead i.headers) i.frame.heads
   pub segments : sum_by (λ h. h.size) i.frame.heads ≡ length i.frame.segments

@@ -14,15 +14,17 @@ use Rattle.jk_window.specs.declared.view.View.{View}
 abbrev pub frame_of : Headers → ℕ → Rect
 frame_of h d = reduced_area (image_area h.siz) d
 
--- The rectangle of a view, counted from the upper left corner of the reduced image, and cut with it.
+-- The rectangle of a view, counted from the upper left corner of the reduced image, and cut with
+-- it.
 abbrev pub window_in : Rect → View → Rect
-window_in a v = meet a record { x0 = a.x0 + v.x; y0 = a.y0 + v.y; x1 = a.x0 + v.x + v.width; y1 = a.y0 + v.y + v.height }
+window_in a v =
+    meet a record { x0 = a.x0 + v.x; y0 = a.y0 + v.y; x1 = a.x0 + v.x + v.width; y1 = a.y0 + v.y + v.height }
 
 abbrev pub window_of : Headers → View → Rect
 window_of h v = window_in (frame_of h v.reduce) v
 
--- A view has a window: no tile-component has fewer decomposition levels than the reduction, and neither the reduced image nor
--- the window is empty.
+-- A view has a window: no tile-component has fewer decomposition levels than the reduction, and
+-- neither the reduced image nor the window is empty.
 pub record HasWindow (h : Headers) (v : View) : Type 0 where
   pub levels : HaveLevels h v.reduce
   pub image : is_empty (frame_of h v.reduce) ≡ false

@@ -87,8 +87,8 @@ fn read_parts(
     Ok(())
 }
 
-/// What stands around the packets of a codestream with these headers, in a file of so many bytes, the
-/// length of whose codestream box is told so.
+/// What stands around the packets of a codestream with these headers, in a file of so many bytes,
+/// the length of whose codestream box is told so.
 pub(crate) fn read_around(
     alloc: Global,
     headers: &Codestream,

@@ -50,8 +50,8 @@ fn may_be(index: &Index, bytes: &[u8]) -> bool
 
 /// The file of the window of a view, as `plan` says it.
 ///
-/// BadWindow: as `plan`. Changed: the index isn't that of these bytes. If the index isn't and another
-/// answer is given, nothing is known of it.
+/// BadWindow: as `plan`. Changed: the index isn't that of these bytes. If the index isn't and
+/// another answer is given, nothing is known of it.
 pub fn cut(alloc: Global, index: &Index, bytes: &[u8], view: View) -> Result<Vec<u8>, Fault>
     // With the index of these bytes it is the file of the window, or BadWindow.
     ensures exact { (is : IsIndexOf bytes.now index.now) → Answers (λ v. v.items) result (cut_file is view) }

@@ -182,7 +182,8 @@ impl Index {
         self.headers.siz().depth
     }
 
-    /// The least number of decomposition levels of a component of a tile: so often the image can be halved.
+    /// The least number of decomposition levels of a component of a tile: so often the image can be
+    /// halved.
     #[tactic(auto, using(crate::proofs::Levels::levels_none, crate::proofs::Levels::levels_more))]
     pub fn levels(&self) -> u8
         ensures { result ≡ least_levels self.now.headers.tiles (tile_count self.now.headers.siz) }
@@ -224,8 +225,8 @@ impl Index {
 
     /// Whether a view has a window.
     ///
-    /// BadWindow: a tile-component has fewer decomposition levels than the reduction, or the reduced image or the window
-    /// has no sample.
+    /// BadWindow: a tile-component has fewer decomposition levels than the reduction, or the
+    /// reduced image or the window has no sample.
     pub fn sees(&self, view: View) -> Result<(), Fault>
         ensures { MatchResult result
             (λ _. HasWindow self.now.headers view) (λ e. (e ≡ BadWindow) × (HasWindow self.now.headers view → ⊥)) }

@@ -1,5 +1,5 @@
-//! Windows of a stored file, cut out without decoding: which packets a window needs, and the file in which all others are
-//! empty.
+//! Windows of a stored file, cut out without decoding: which packets a window needs, and the file
+//! in which all others are empty.
 #![tactic(auto)]
 
 mod around;

@@ -34,8 +34,10 @@ fn half_end(high: bool, end: u32) -> u32
 fn part_of_band(stretch: &Rect, across: bool, down: bool) -> Rect
     requires right { stretch.now.x1 < 2 ^ 31 }
     requires lower { stretch.now.y1 < 2 ^ 31 }
-    ensures x { (result.x0 ≡ half_start (if across then 1 else 0) stretch.now.x0) × (result.x1 ≡ half_end (if across then 1 else 0) stretch.now.x1) }
-    ensures y { (result.y0 ≡ half_start (if down then 1 else 0) stretch.now.y0) × (result.y1 ≡ half_end (if down then 1 else 0) stretch.now.y1) }
+    ensures x { (result.x0 ≡ half_start (if across then 1 else 0) stretch.now.x0)
+        × (result.x1 ≡ half_end (if across then 1 else 0) stretch.now.x1) }
+    ensures y { (result.y0 ≡ half_start (if down then 1 else 0) stretch.now.y0)
+        × (result.y1 ≡ half_end (if down then 1 else 0) stretch.now.y1) }
     ensures right { result.x1 < 2 ^ 31 }
     ensures lower { result.y1 < 2 ^ 31 }
 {
@@ -63,8 +65,8 @@ fn stretch(top: &Rect, below: u8) -> Rect
     area
 }
 
-/// What a stretch of a resolution depends on of a sub-band of it; LL is that of the lowest resolution, which is the
-/// resolution itself.
+/// What a stretch of a resolution depends on of a sub-band of it; LL is that of the lowest
+/// resolution, which is the resolution itself.
 fn needed_part(area: &Rect, orientation: Orientation) -> Rect
     requires right { area.now.x1 < 2 ^ 31 }
     requires lower { area.now.y1 < 2 ^ 31 }
@@ -110,7 +112,8 @@ fn touches_any(rect: &Rect, coding: &Coding, area: &Rect, r: u8, k: u32) -> bool
     requires right { area.now.x1 < 2 ^ 31 }
     requires lower { area.now.y1 < 2 ^ 31 }
     ensures { (u : Area) (n : ℕ) → area.now ≡ stretch u n
-        → result ≡ list_any (λ o. touches (precinct_area rect.now coding.now r k o) (needed_part u n o)) (orientations r) }
+        → result ≡ list_any (λ o. touches (precinct_area rect.now coding.now r k o) (needed_part u n o))
+        (orientations r) }
 {
     if r == 0 {
         return touches_band(rect, coding, area, r, k, Orientation::LL);
@@ -120,8 +123,9 @@ fn touches_any(rect: &Rect, coding: &Coding, area: &Rect, r: u8, k: u32) -> bool
         || touches_band(rect, coding, area, r, k, Orientation::HH)
 }
 
-/// Whether a stretch `top` of a tile-component, which is reduced by `reduce` levels, needs precinct `k` of resolution `r`: a
-/// sub-band has a place that belongs to the precinct and on which the stretch depends.
+/// Whether a stretch `top` of a tile-component, which is reduced by `reduce` levels, needs precinct
+/// `k` of resolution `r`: a sub-band has a place that belongs to the precinct and on which the
+/// stretch depends.
 pub fn needs(rect: &Rect, coding: &Coding, top: &Rect, reduce: u8, r: u8, k: u32) -> bool
     requires area { IsArea rect.now }
     requires coding { IsCoding coding.now }

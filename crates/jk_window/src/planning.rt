@@ -1,6 +1,7 @@
 //! The plan of the file of a window, made of an index alone.
 
-ghost use Rattle.std.specs.Prelude.{◌≡◌, true, ◌+◌, ◌-◌, ◌≤◌, ◌<◌, ◌^◌, ◌⊎◌, ◌++◌, ℕ, List, length, min, sum_by, IfOk, IfErr, OnOk, MatchResult, Ok, Err};
+ghost use Rattle.std.specs.Prelude.{◌≡◌, true, ◌+◌, ◌-◌, ◌≤◌, ◌<◌, ◌^◌, ◌⊎◌, ◌++◌, ℕ, List, length, min, sum_by, IfOk};
+ghost use Rattle.std.specs.Prelude.{IfErr, OnOk, MatchResult, Ok, Err};
 ghost use Rattle.jk_math.specs.Memory.{IsMemory};
 ghost use Rattle.jk_math.specs.declared.fault.Fault.TheVariants.{BadWindow};
 ghost use Rattle.jk_marks.specs.Siz.{tile_count};
@@ -17,7 +18,8 @@ ghost use Rattle.jk_walk.specs.TilePackets.{shape_in};
 ghost use Rattle.jk_window.specs.Views.{HasWindow};
 ghost use Rattle.jk_window.specs.Indexing.{IsIndexOf, entries_of};
 ghost use Rattle.jk_window.specs.Cutting.{cut_file};
-ghost use Rattle.jk_window.specs.Planning.{plan_text, plan_length, AreTilePlans, ArePlansUpto, part_from, front_of, part_size, framed_size, made_of};
+ghost use Rattle.jk_window.specs.Planning.{plan_text, plan_length, AreTilePlans, ArePlansUpto, part_from, front_of};
+ghost use Rattle.jk_window.specs.Planning.{part_size, framed_size, made_of};
 
 use crate::contents::{TileCut, plan_runs};
 use crate::kept::Index;
@@ -130,7 +132,8 @@ fn plan_tiles(
     requires right { window.now.x1 < 2 ^ 31 }
     requires lower { window.now.y1 < 2 ^ 31 }
     requires few { reduce ≤ 10 }
-    ensures plans { IfOk result (λ v. ArePlansUpto index.now window.now reduce (tile_count index.now.headers.siz) v.items) }
+    ensures plans { IfOk result
+        (λ v. ArePlansUpto index.now window.now reduce (tile_count index.now.headers.siz) v.items) }
     ensures err { IfErr result IsMemory }
 {
     let count = index.tiles();
@@ -141,8 +144,8 @@ fn plan_tiles(
     Ok(all)
 }
 
-/// How many bytes the codestream of a window has, where its parts have these data, and 2^64 - 1 where
-/// there are more.
+/// How many bytes the codestream of a window has, where its parts have these data, and 2^64 - 1
+/// where there are more.
 fn codestream_length(index: &Index, window: &Rect, reduce: u8, tiles: &[TilePlans]) -> usize
     requires plans { ArePlansUpto index.now window.now reduce (tile_count index.now.headers.siz) tiles.now }
     ensures { result ≡ min (framed_size index.now.frame (part_size index.now window.now reduce)) (2 ^ 64 - 1) }
@@ -157,8 +160,8 @@ fn codestream_length(index: &Index, window: &Rect, reduce: u8, tiles: &[TilePlan
     length.saturating_add(2) as usize
 }
 
-/// Plans what stands before the codestream: in a JP2 file the head of its box is that of a box with so
-/// long a codestream.
+/// Plans what stands before the codestream: in a JP2 file the head of its box is that of a box with
+/// so long a codestream.
 fn plan_front(alloc: Global, index: &Index, length: usize, plan: &mut CutPlan) -> Result<(), Fault>
     requires size { plan.old.size ≡ index.now.frame.size }
     requires fits { fits_form index.now.frame.form (head_size index.now.frame.form + length) ≡ true }
@@ -190,7 +193,8 @@ fn plan_part(
     requires size { content.now.size ≡ plan.old.size }
     requires fits { psot_for head.now (plan_length content.now) < 2 ^ 32 }
     ensures text { OnOk result ((file : List ℕ) → plan_text file plan.new
-        ≡ plan_text file plan.old ++ (part_head head.now segments.now (plan_length content.now) ++ plan_text file content.now)) }
+        ≡ plan_text file plan.old
+        ++ (part_head head.now segments.now (plan_length content.now) ++ plan_text file content.now)) }
     ensures size { OnOk result (plan.new.size ≡ plan.old.size) }
     ensures err { IfErr result IsMemory }
 {
@@ -251,10 +255,10 @@ fn plan_file(alloc: Global, index: &Index, window: &Rect, reduce: u8) -> Result<
     Ok(plan)
 }
 
-/// The plan of the file of a view's window (T.800 B.10.3): the stored file, in which the packets that
-/// the window doesn't need are empty and keep their SOP and EPH. TLM and PLT are left out, and Psot
-/// and the length of the codestream box are as they must be; all else stays. It is made of the index
-/// alone.
+/// The plan of the file of a view's window (T.800 B.10.3): the stored file, in which the packets
+/// that the window doesn't need are empty and keep their SOP and EPH. TLM and PLT are left out, and
+/// Psot and the length of the codestream box are as they must be; all else stays. It is made of the
+/// index alone.
 ///
 /// BadWindow: a tile-component has fewer decomposition levels than the reduction, or the reduced
 /// image or the window has no sample.

@@ -60,8 +60,9 @@ fn indexing(alloc: Global, bytes: &[u8]) -> Result<Index, Fault>
 
 /// The index of a file, bare or JP2: its boxes, all headers and all packets are read.
 ///
-/// The first of these faults: those of the boxes, as `open` names them; those of `read_codestream`; then, tile by tile, those
-/// of its packets, as `read_packets` names them. Code-blocks aren't decoded.
+/// The first of these faults: those of the boxes, as `open` names them; those of `read_codestream`;
+/// then, tile by tile, those of its packets, as `read_packets` names them. Code-blocks aren't
+/// decoded.
 pub fn index(alloc: Global, bytes: &[u8]) -> Result<Index, Fault>
     // Which index, or which fault is the first.
     ensures exact { Answers (λ i. i) result (index_at bytes.now) }

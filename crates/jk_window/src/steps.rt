@@ -1,6 +1,7 @@
 //! What the file of a window is made of.
 
-ghost use Rattle.std.specs.Prelude.{◌≡◌, ◌+◌, ◌-◌, ◌<◌, ◌≤◌, ◌^◌, ◌++◌, ℕ, List, [], length, min, OnOk, IfErr, MatchOption};
+ghost use Rattle.std.specs.Prelude.{◌≡◌, ◌+◌, ◌-◌, ◌<◌, ◌≤◌, ◌^◌, ◌++◌, ℕ, List, [], length, min, OnOk, IfErr};
+ghost use Rattle.std.specs.Prelude.{MatchOption};
 ghost use Rattle.jk_math.specs.Memory.{IsMemory};
 ghost use Rattle.jk_walk.specs.TilePackets.{slice_of};
 ghost use Rattle.jk_window.specs.Planning.{plan_text, plan_length, IsStep, IsLast, IsBehind};
@@ -179,7 +180,8 @@ impl CutPlan {
     fn append_step(&mut self, step: CutStep, written: &[u8]) -> Result<(), Fault>
         requires { IsStep self.old.size step }
         ensures ok { OnOk result (IsBehind self.old self.new
-            (λ file. slice_of file (step.start, step.end) ++ written.now) (step.end - step.start + length written.now)) }
+            (λ file. slice_of file (step.start, step.end) ++ written.now)
+            (step.end - step.start + length written.now)) }
         ensures err { IfErr result IsMemory }
     {
         if step.start < step.end {
@@ -194,7 +196,8 @@ impl CutPlan {
     /// What another plan of the file makes, behind what is there.
     pub(crate) fn append(&mut self, other: &CutPlan) -> Result<(), Fault>
         requires { other.now.size ≡ self.old.size }
-        ensures ok { OnOk result (IsBehind self.old self.new (λ file. plan_text file other.now) (plan_length other.now)) }
+        ensures ok { OnOk result
+            (IsBehind self.old self.new (λ file. plan_text file other.now) (plan_length other.now)) }
         ensures err { IfErr result IsMemory }
     {
         let mut at = 0;

@@ -1,7 +1,7 @@
 //! Views.
 
-/// A rectangle of an image at a reduction, counted from the upper left sample of the reduced image. What passes the edge
-/// of the image is left out.
+/// A rectangle of an image at a reduction, counted from the upper left sample of the reduced image.
+/// What passes the edge of the image is left out.
 #[derive(Clone, Copy, Debug, PartialEq, Eq)]
 pub struct View {
     /// How often the image is halved.

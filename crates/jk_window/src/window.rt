@@ -22,7 +22,8 @@ fn cut_at(value: u64, most: u32) -> u32
     }
 }
 
-/// The rectangle of a view on an image that has this place. It is empty where it has no place of the image.
+/// The rectangle of a view on an image that has this place. It is empty where it has no place of
+/// the image.
 fn clipped(area: &Rect, view: View) -> Rect
     requires area { IsArea area.now }
     ensures same { is_empty result ≡ is_empty (window_in area.now view) }
@@ -42,8 +43,8 @@ fn clipped(area: &Rect, view: View) -> Rect
 
 /// The window of a view: its rectangle, cut with the reduced image.
 ///
-/// BadWindow: a tile-component has fewer decomposition levels than the reduction, or the reduced image or the window has
-/// no sample.
+/// BadWindow: a tile-component has fewer decomposition levels than the reduction, or the reduced
+/// image or the window has no sample.
 #[tactic(auto, unfolding(crate::specs::Views::window_at))]
 pub fn window(headers: &Codestream, view: View) -> Result<Rect, Fault>
     requires { (size : ℕ) × AreHeaders size headers.now }
@@ -69,7 +70,8 @@ pub fn window(headers: &Codestream, view: View) -> Result<Rect, Fault>
 /// Whether a view has a window, with the same fault.
 pub(crate) fn sees(headers: &Codestream, view: View) -> Result<(), Fault>
     requires { (size : ℕ) × AreHeaders size headers.now }
-    ensures { MatchResult result (λ _. HasWindow headers.now view) (λ e. (e ≡ BadWindow) × (HasWindow headers.now view → ⊥)) }
+    ensures { MatchResult result (λ _. HasWindow headers.now view)
+        (λ e. (e ≡ BadWindow) × (HasWindow headers.now view → ⊥)) }
 {
     match window(headers, view) {
         Ok(_) => Ok(()),

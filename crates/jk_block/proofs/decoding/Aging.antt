@@ -16,11 +16,9 @@ use Rattle.jk_scan.specs.Flags.{IsDrawn, across, flag_at}
 use Rattle.jk_scan.specs.WordPlaces.{column, row}
 use Rattle.jk_scan.proofs.Laws.{inside_parts, flag_none}
 use Rattle.jk_model.specs.Decisions.{State}
-use Rattle.jk_block.specs.declared.decoding.sketch.Sketch.{Sketch}
-use Rattle.jk_block.specs.Fields.{field_of}
 use Rattle.jk_block.specs.Meaning.{plane_of, kind_of, above}
 use Rattle.jk_block.specs.Reading.{Progress, put, times, blank, begun, pass_at}
-use Rattle.jk_block.specs.decoding.Sketches.{progress, lit_in, IsFresh}
+use Rattle.jk_block.specs.decoding.Sketches.{Draft, progress, lit_in, IsFresh}
 use Rattle.jk_block.specs.declared.spot.Spot.{Spot}
 use Rattle.jk_block.specs.Steps.{IsPlace}
 use Rattle.jk_block.proofs.Changes.{mags_inside, mags_outside}
@@ -198,62 +196,62 @@ plane_before planes n = planes - 1 - (n + 1) / 3
 
 -- The words show what was significant before the plane of the pass before, and before the plane
 -- above that.
-pub record Aged (s : BlockShape) (magnitudes : List ℕ) (b : ℕ) (refined older : List ℕ) : Type 0 where
-  pub refined_is : (x y : ℕ) → is_inside s x y ≡ true → flag_at s refined x y ≡ nat_le (2 ^ (b + 2)) (field_of s magnitudes 0 x y)
-  pub older_is : (x y : ℕ) → is_inside s x y ≡ true → flag_at s older x y ≡ nat_le (2 ^ (b + 1)) (field_of s magnitudes 0 x y)
+pub record Aged (s : BlockShape) (magnitude : Field ℕ) (b : ℕ) (refined older : List ℕ) : Type 0 where
+  pub refined_is : (x y : ℕ) → is_inside s x y ≡ true → flag_at s refined x y ≡ nat_le (2 ^ (b + 2)) (magnitude x y)
+  pub older_is : (x y : ℕ) → is_inside s x y ≡ true → flag_at s older x y ≡ nat_le (2 ^ (b + 1)) (magnitude x y)
 
-pub aged_none : (s : BlockShape) (magnitudes : List ℕ) (b : ℕ) (refined older : List ℕ) → refined ≡ replicate 774 0 → older ≡ replicate 774 0 → ((x y : ℕ) → field_of s magnitudes 0 x y ≡ 0) → Aged s magnitudes b refined older
-aged_none s magnitudes b refined older r o z = record {
-  refined_is = λ x y i. ap (λ (ws : List ℕ). flag_at s ws x y) r ∙ flag_none s 774 x y ∙ sym (none (2 ^ (b + 2)) (field_of s magnitudes 0 x y) (pow_pos (b + 2)) (z x y));
-  older_is = λ x y i. ap (λ (ws : List ℕ). flag_at s ws x y) o ∙ flag_none s 774 x y ∙ sym (none (2 ^ (b + 1)) (field_of s magnitudes 0 x y) (pow_pos (b + 1)) (z x y));
+pub aged_none : (s : BlockShape) (magnitude : Field ℕ) (b : ℕ) (refined older : List ℕ) → refined ≡ replicate 774 0 → older ≡ replicate 774 0 → ((x y : ℕ) → magnitude x y ≡ 0) → Aged s magnitude b refined older
+aged_none s magnitude b refined older r o z = record {
+  refined_is = λ x y i. ap (λ (ws : List ℕ). flag_at s ws x y) r ∙ flag_none s 774 x y ∙ sym (none (2 ^ (b + 2)) (magnitude x y) (pow_pos (b + 2)) (z x y));
+  older_is = λ x y i. ap (λ (ws : List ℕ). flag_at s ws x y) o ∙ flag_none s 774 x y ∙ sym (none (2 ^ (b + 1)) (magnitude x y) (pow_pos (b + 1)) (z x y));
 }
   where
     none : (p m : ℕ) → 0 < p → m ≡ 0 → nat_le p m ≡ false
     none p m h e = grind (arith, nat_tests)
 
 -- as a pass begins
-pub aged_noted : (bytes : List ℕ) (k : Sketch) (planes n : ℕ) (coder : State) (refined older refined' older' : List ℕ) → n < 3 * planes - 2 → times n (pass_at bytes k.shape planes) blank ≡ Ok (progress k coder)
-    → IsDrawn k.shape (lit_in k) k.significant → Aged k.shape k.magnitudes (plane_before planes n) refined older → (kind_of n ≡ 0 → refined' ≡ older) → (kind_of n ≡ 0 → older' ≡ k.significant)
-    → ((kind_of n ≡ 0 → ⊥) → refined' ≡ refined) → ((kind_of n ≡ 0 → ⊥) → older' ≡ older) → Aged k.shape k.magnitudes (plane_of planes n) refined' older'
-aged_noted bytes k planes n coder refined older refined' older' h is drawn aged r o r0 o0 = elim (cases_lt 0 (kind_of n)) [
+pub aged_noted : (bytes : List ℕ) (k : Draft) (planes n : ℕ) (coder : State) (significant refined older refined' older' : List ℕ) → n < 3 * planes - 2 → times n (pass_at bytes k.shape planes) blank ≡ Ok (progress k coder)
+    → IsDrawn k.shape (lit_in k) significant → Aged k.shape k.magnitude (plane_before planes n) refined older → (kind_of n ≡ 0 → refined' ≡ older) → (kind_of n ≡ 0 → older' ≡ significant)
+    → ((kind_of n ≡ 0 → ⊥) → refined' ≡ refined) → ((kind_of n ≡ 0 → ⊥) → older' ≡ older) → Aged k.shape k.magnitude (plane_of planes n) refined' older'
+aged_noted bytes k planes n coder significant refined older refined' older' h is drawn aged r o r0 o0 = elim (cases_lt 0 (kind_of n)) [
   | inl later ↦
       let other : kind_of n ≡ 0 → ⊥ = λ e. omega (arith, e, later) in
       let same : plane_before planes n ≡ plane_of planes n = ap (λ d. planes - 1 - d) (let e : (n + 1) / 3 ≡ (n + 2) / 3 = omega (arith, later) in e) in
-      subst (λ (ws : List ℕ). Aged k.shape k.magnitudes (plane_of planes n) ws older') (sym (r0 other))
-      (subst (λ (ws : List ℕ). Aged k.shape k.magnitudes (plane_of planes n) refined ws) (sym (o0 other))
-      (subst (λ b. Aged k.shape k.magnitudes b refined older) same aged))
+      subst (λ (ws : List ℕ). Aged k.shape k.magnitude (plane_of planes n) ws older') (sym (r0 other))
+      (subst (λ (ws : List ℕ). Aged k.shape k.magnitude (plane_of planes n) refined ws) (sym (o0 other))
+      (subst (λ b. Aged k.shape k.magnitude b refined older) same aged))
   | inr first ↦
       let kind : kind_of n ≡ 0 = omega (arith, first) in
       let b = plane_of planes n in
       let up : plane_before planes n + 1 ≡ b + 2 = omega (arith, kind, h) in
       record {
-        refined_is = λ x y i. ap (λ (ws : List ℕ). flag_at k.shape ws x y) (r kind) ∙ aged.older_is x y i ∙ ap (λ p. nat_le (2 ^ p) (field_of k.shape k.magnitudes 0 x y)) up;
-        older_is = λ x y i. ap (λ (ws : List ℕ). flag_at k.shape ws x y) (o kind) ∙ drawn_flag k.shape (lit_in k) k.significant x y drawn i ∙ ap (λ t. t && nat_lt 0 (field_of k.shape k.magnitudes 0 x y)) i
+        refined_is = λ x y i. ap (λ (ws : List ℕ). flag_at k.shape ws x y) (r kind) ∙ aged.older_is x y i ∙ ap (λ p. nat_le (2 ^ p) (k.magnitude x y)) up;
+        older_is = λ x y i. ap (λ (ws : List ℕ). flag_at k.shape ws x y) (o kind) ∙ drawn_flag k.shape (lit_in k) significant x y drawn i ∙ ap (λ t. t && nat_lt 0 (k.magnitude x y)) i
             ∙ started bytes k.shape planes n (progress k coder) h kind is x y i;
       }
 ]
 
 -- behind it
-pub aged_passed : (bytes : List ℕ) (k k' : Sketch) (planes n : ℕ) (coder coder' : State) (refined older : List ℕ) → n < 3 * planes - 2 → times n (pass_at bytes k.shape planes) blank ≡ Ok (progress k coder)
-    → pass_at bytes k.shape planes n (progress k coder) ≡ Ok (progress k' coder') → k'.shape ≡ k.shape → Aged k.shape k.magnitudes (plane_of planes n) refined older → Aged k'.shape k'.magnitudes (plane_before planes (n + 1)) refined older
+pub aged_passed : (bytes : List ℕ) (k k' : Draft) (planes n : ℕ) (coder coder' : State) (refined older : List ℕ) → n < 3 * planes - 2 → times n (pass_at bytes k.shape planes) blank ≡ Ok (progress k coder)
+    → pass_at bytes k.shape planes n (progress k coder) ≡ Ok (progress k' coder') → k'.shape ≡ k.shape → Aged k.shape k.magnitude (plane_of planes n) refined older → Aged k'.shape k'.magnitude (plane_before planes (n + 1)) refined older
 aged_passed bytes k k' planes n coder coder' refined older h is more shape aged =
     let b = plane_of planes n in
     let same : b ≡ plane_before planes (n + 1) = ap (λ d. planes - 1 - d) (let e : (n + 2) / 3 ≡ (n + 1 + 1) / 3 = omega arith in e) in
     let stays = kept bytes k.shape planes n (progress k coder) (progress k' coder') h is more in
     let there : (x y : ℕ) → is_inside k'.shape x y ≡ true → is_inside k.shape x y ≡ true = λ x y i. ap (λ (s : BlockShape). is_inside s x y) (sym shape) ∙ i in
-    subst (λ b. Aged k'.shape k'.magnitudes b refined older) same (record {
+    subst (λ b. Aged k'.shape k'.magnitude b refined older) same (record {
       refined_is = λ x y i. ap (λ (s : BlockShape). flag_at s refined x y) shape ∙ aged.refined_is x y (there x y i)
-          ∙ same_four b (field_of k.shape k.magnitudes 0 x y) (field_of k'.shape k'.magnitudes 0 x y) (sym (stays x y (there x y i)));
+          ∙ same_four b (k.magnitude x y) (k'.magnitude x y) (sym (stays x y (there x y i)));
       older_is = λ x y i. ap (λ (s : BlockShape). flag_at s older x y) shape ∙ aged.older_is x y (there x y i)
-          ∙ same_two b (field_of k.shape k.magnitudes 0 x y) (field_of k'.shape k'.magnitudes 0 x y) (sym (stays x y (there x y i)));
+          ∙ same_two b (k.magnitude x y) (k'.magnitude x y) (sym (stays x y (there x y i)));
     })
 
 -- the context of a place of the pass
-pub next_context : (at : Spot) (refined : List ℕ) (k : Sketch) (again seen z context : ℕ) (a b : Bool) → IsFresh at.plane refined k → IsPlace k.shape at z → on again z ≡ flag_at k.shape refined (column at.word z) (row at.stripe z) → on seen z ≡ touched (lit_in k) (column at.word z) (row at.stripe z)
+pub next_context : (at : Spot) (refined : List ℕ) (k : Draft) (again seen z context : ℕ) (a b : Bool) → IsFresh at.plane refined k → IsPlace k.shape at z → on again z ≡ flag_at k.shape refined (column at.word z) (row at.stripe z) → on seen z ≡ touched (lit_in k) (column at.word z) (row at.stripe z)
     → a ≡ on again z → b ≡ on seen z → context ≡ refine_context_of a b
-    → context ≡ refine_context_of (nat_le 4 (field_of k.shape k.magnitudes 0 (column at.word z) (row at.stripe z) / 2 ^ at.plane)) (touched (lit_in k) (column at.word z) (row at.stripe z))
+    → context ≡ refine_context_of (nat_le 4 (k.magnitude (column at.word z) (row at.stripe z) / 2 ^ at.plane)) (touched (lit_in k) (column at.word z) (row at.stripe z))
 next_context at refined k again seen z context a b fresh place shown near a_is b_is is =
     let x = column at.word z in
     let y = row at.stripe z in
-    is ∙ ap (λ t. refine_context_of t b) (a_is ∙ shown ∙ fresh.older x y place.inside ∙ by_four at.plane (field_of k.shape k.magnitudes 0 x y))
-    ∙ ap (λ t. refine_context_of (nat_le 4 (field_of k.shape k.magnitudes 0 x y / 2 ^ at.plane)) t) (b_is ∙ near)
+    is ∙ ap (λ t. refine_context_of t b) (a_is ∙ shown ∙ fresh.older x y place.inside ∙ by_four at.plane (k.magnitude x y))
+    ∙ ap (λ t. refine_context_of (nat_le 4 (k.magnitude x y / 2 ^ at.plane)) t) (b_is ∙ near)

@@ -10,7 +10,8 @@ use Rattle.jk_scan.specs.declared.shape.BlockShape.{BlockShape}
 use Rattle.jk_scan.specs.Neighbours.{is_inside}
 use Rattle.jk_scan.specs.Moments.{number, visits, spread, moment}
 use Rattle.jk_scan.proofs.Laws.{cases_of, number_below}
-use Rattle.jk_block.specs.Meaning.{plane_of, kind_of}
+use Rattle.jk_block.specs.Meaning.{plane_of, kind_of, above}
+use Rattle.jk_block.proofs.Changes.{mags_inside}
 use Rattle.jk_block.specs.Reading.{Progress, lit, times, blank, begun, pass_at}
 use Rattle.jk_block.proofs.Stages.{mags, Cut}
 use Rattle.jk_block.proofs.Whole.{ready, passes_onward}
@@ -50,3 +51,11 @@ pub fresh_after : (bytes : List ℕ) (s : BlockShape) (planes n : ℕ) (z : Prog
 fresh_after bytes s planes n z h kind is =
     let cut = ready s planes n z h (passes_onward bytes s planes n z (omega arith) is) in
     fresh_at s (plane_of planes n) z (subst (λ k. Cut s (plane_of planes n) (k * visits s) (begun k z)) kind cut)
+
+-- nothing is held below the plane of a pass
+pub whole_after : (bytes : List ℕ) (s : BlockShape) (planes n : ℕ) (z : Progress) → n < 3 * planes - 2 → times n (pass_at bytes s planes) blank ≡ Ok z
+    → (x y : ℕ) → is_inside s x y ≡ true → above (plane_of planes n) (z.magnitude x y) ≡ z.magnitude x y
+whole_after bytes s planes n z h is x y i =
+    let b = plane_of planes n in
+    let cut = ready s planes n z h (passes_onward bytes s planes n z (omega arith) is) in
+    ap (λ q. q * 2 ^ b) (sym (mags_inside s b z x y i)) ∙ sym (cut.whole x y i)

@@ -1,6 +1,6 @@
 -- Steps that code takes.
 use Rattle.std.proofs.Common.{◌≡◌, ℕ, zero, suc, ◌+◌, ◌/◌, ◌^◌, ◌<◌, Bool, true, false, cond, List, Result, Ok, Err, refl, sym, ap, ◌∙◌, subst, inl, inr, arith}
-use Rattle.std.specs.Prelude.{nat_le}
+use Rattle.std.specs.Prelude.{nat_le, OnOk}
 use Rattle.std.proofs.lemmas.Bool.{cases_lt}
 use Rattle.jk_math.specs.declared.fault.Fault.{Fault}
 use Rattle.jk_math.specs.Answer.{◌>>=◌}
@@ -13,9 +13,10 @@ use Rattle.jk_scan.specs.declared.contexts.SignContext.{SignContext}
 use Rattle.jk_scan.specs.Contexts.{refine_context_of, run_length, uniform}
 use Rattle.jk_scan.specs.Neighbours.{touched, zero_at, sign_at}
 use Rattle.jk_scan.specs.Passes.{flipped}
-use Rattle.jk_block.specs.declared.decoding.sketch.Sketch.{Sketch}
-use Rattle.jk_block.specs.Reading.{Progress, lit, times, decide, with_coder, coded_as, read_sign, read_new, read_refined, rows_at, row_named, read_from, read_run, pass_at, blank}
-use Rattle.jk_block.specs.decoding.Sketches.{progress, Advanced, Takes}
+use Rattle.jk_block.specs.Reading.{Progress, lit, times, decide, with_coder, coded_as, place_at, read_sign, read_new, read_refined, rows_at, row_named, read_from, read_run, pass_at, blank}
+use Rattle.jk_block.specs.decoding.Sketches.{Draft, progress, lit_in, coded_in, Advanced, TakesTo, Takes}
+use Rattle.jk_block.specs.declared.spot.Spot.{Spot}
+use Rattle.jk_block.proofs.decoding.WordSteps.{next_due}
 
 fault : Fault → Result (Bool × State) Fault
 fault e = Err e
@@ -79,16 +80,16 @@ next_faults bytes s b x y z cx f e d =
     ∙ ap (λ (r : Result (Bool × State) Fault). r >>= λ d. done (with_coder (coded_as b x y d.0 (z.negative x y) z) d.1)) d
 
 -- a step that does what another does
-pub takes_through : {A : Type 0} (step other : Progress → Result Progress Fault) (k k' new : Sketch) (v v' : View) (r : Result A Fault) → ((coder : State) → step (progress k coder) ≡ other (progress k' coder)) → Takes other k' new v v' r → Takes step k new v v' r
+pub takes_through : {A : Type 0} (step other : Progress → Result Progress Fault) (k k' new : Draft) (v v' : View) (r : Result A Fault) → ((coder : State) → step (progress k coder) ≡ other (progress k' coder)) → Takes other k' new v v' r → Takes step k new v v' r
 takes_through step other k k' new v v' (Ok u) same t = λ coder st. let a = t coder st in record { next = a.next; stands = a.stands; is = same coder ∙ a.is }
 takes_through step other k k' new v v' (Err e) same t = λ coder st. same coder ∙ t coder st
 
 -- steps one after another
-pub advanced_none : (f : ℕ → Progress → Result Progress Fault) (k : Sketch) (v : View) (coder : State) → Stands v coder → Advanced (times 0 f) k k v coder
+pub advanced_none : (f : ℕ → Progress → Result Progress Fault) (k : Draft) (v : View) (coder : State) → Stands v coder → Advanced (times 0 f) k k v coder
 unfolding times
 advanced_none f k v coder st = record { next = coder; stands = st; is = refl }
 
-pub advanced_more : (f : ℕ → Progress → Result Progress Fault) (n : ℕ) (k k' k'' : Sketch) (v' v'' : View) (coder : State) → (a : Advanced (times n f) k k' v' coder) → Advanced (f n) k' k'' v'' a.next → Advanced (times (n + 1) f) k k'' v'' coder
+pub advanced_more : (f : ℕ → Progress → Result Progress Fault) (n : ℕ) (k k' k'' : Draft) (v' v'' : View) (coder : State) → (a : Advanced (times n f) k k' v' coder) → Advanced (f n) k' k'' v'' a.next → Advanced (times (n + 1) f) k k'' v'' coder
 unfolding times
 advanced_more f n k k' k'' v' v'' coder a b = record {
   next = b.next;
@@ -107,15 +108,15 @@ times_fault f n (suc m) z w e h a b = elim (cases_lt n m) [
 ]
 
 -- A loop that takes steps: what it has taken so far.
-pub record Taken (steps : List ℕ → BlockShape → ℕ → Progress → Result Progress Fault) (n : ℕ) (k k' : Sketch) (v v' : View) : Type 0 where
+pub record Taken (steps : List ℕ → BlockShape → ℕ → Progress → Result Progress Fault) (n : ℕ) (k k' : Draft) (v v' : View) : Type 0 where
   pub shape : k'.shape ≡ k.shape
   pub bytes : v'.bytes ≡ v.bytes
   pub advanced : (coder : State) → Stands v coder → Advanced (times n (steps v.bytes k.shape)) k k' v' coder
 
-pub taken_none : (steps : List ℕ → BlockShape → ℕ → Progress → Result Progress Fault) (k : Sketch) (v : View) → Taken steps 0 k k v v
+pub taken_none : (steps : List ℕ → BlockShape → ℕ → Progress → Result Progress Fault) (k : Draft) (v : View) → Taken steps 0 k k v v
 taken_none steps k v = record { shape = refl; bytes = refl; advanced = λ coder st. advanced_none (steps v.bytes k.shape) k v coder st }
 
-pub taken_more : (steps : List ℕ → BlockShape → ℕ → Progress → Result Progress Fault) (n : ℕ) (k k' k'' : Sketch) (v v' v'' : View) → Taken steps n k k' v v' → k''.shape ≡ k'.shape → v''.bytes ≡ v'.bytes
+pub taken_more : (steps : List ℕ → BlockShape → ℕ → Progress → Result Progress Fault) (n : ℕ) (k k' k'' : Draft) (v v' v'' : View) → Taken steps n k k' v v' → k''.shape ≡ k'.shape → v''.bytes ≡ v'.bytes
     → ((coder : State) → Stands v' coder → Advanced (steps v'.bytes k'.shape n) k' k'' v'' coder) → Taken steps (n + 1) k k'' v v''
 taken_more steps n k k' k'' v v' v'' t shape bytes step = record {
   shape = shape ∙ t.shape;
@@ -126,7 +127,7 @@ taken_more steps n k k' k'' v v' v'' t shape bytes step = record {
       (subst (λ (s : BlockShape). Advanced (steps v.bytes s n) k' k'' v'' a.next) t.shape (subst (λ (bs : List ℕ). Advanced (steps bs k'.shape n) k' k'' v'' a.next) t.bytes (step a.next a.stands)));
 }
 
-pub taken_fault : (steps : List ℕ → BlockShape → ℕ → Progress → Result Progress Fault) (n m : ℕ) (k k' : Sketch) (v v' : View) (e : Fault) → n < m → Taken steps n k k' v v'
+pub taken_fault : (steps : List ℕ → BlockShape → ℕ → Progress → Result Progress Fault) (n m : ℕ) (k k' : Draft) (v v' : View) (e : Fault) → n < m → Taken steps n k k' v v'
     → ((coder : State) → Stands v' coder → steps v'.bytes k'.shape n (progress k' coder) ≡ Err e) → (coder : State) → Stands v coder → times m (steps v.bytes k.shape) (progress k coder) ≡ Err e
 taken_fault steps n m k k' v v' e l t step coder st =
     let a = t.advanced coder st in
@@ -184,11 +185,11 @@ pub run_goes : (bytes : List ℕ) (s : BlockShape) (b x i : ℕ) (z : Progress) 
     → read_run bytes s b x i z ≡ read_from bytes s b x i (row_named high low) (with_coder z o)
 run_goes bytes s b x i z bit high low n m o e h g k = run_third bytes s b x i z bit high n m (done (low, o)) e h g k
 
-pub advanced_at : (f : ℕ → Progress → Result Progress Fault) (n m : ℕ) (k k' : Sketch) (v' : View) (coder : State) → n ≡ m → Advanced (times n f) k k' v' coder → Advanced (times m f) k k' v' coder
+pub advanced_at : (f : ℕ → Progress → Result Progress Fault) (n m : ℕ) (k k' : Draft) (v' : View) (coder : State) → n ≡ m → Advanced (times n f) k k' v' coder → Advanced (times m f) k k' v' coder
 advanced_at f n m k k' v' coder e a = subst (λ (n : ℕ). Advanced (times n f) k k' v' coder) e a
 
 -- passes over the block from its start
-pub from_blank : (bytes bytes' : List ℕ) (s : BlockShape) (planes passes : ℕ) (k : Sketch) (r : Result Progress Fault) → bytes' ≡ bytes → k.shape ≡ s → progress k blank.coder ≡ blank
+pub from_blank : (bytes bytes' : List ℕ) (s : BlockShape) (planes passes : ℕ) (k : Draft) (r : Result Progress Fault) → bytes' ≡ bytes → k.shape ≡ s → progress k blank.coder ≡ blank
     → times passes (pass_at bytes' k.shape planes) (progress k blank.coder) ≡ r → times passes (pass_at bytes s planes) blank ≡ r
 from_blank bytes bytes' s planes passes k r b h e t =
     sym (ap (λ (bs : List ℕ). times passes (pass_at bs k.shape planes) (progress k blank.coder)) b ∙ ap (λ (s : BlockShape). times passes (pass_at bytes s planes) (progress k blank.coder)) h ∙ ap (λ (z : Progress). times passes (pass_at bytes s planes) z) e) ∙ t
@@ -197,3 +198,15 @@ from_blank bytes bytes' s planes passes k r b h e t =
 pub no_rows : (bytes : List ℕ) (s : BlockShape) (b x i j : ℕ) (z : Progress) → rows_at bytes s b 2 x i j 0 z ≡ Ok z
 unfolding times
 no_rows bytes s b x i j z = refl
+
+-- a place that was significant before this plane
+pub refined_takes : (at : Spot) (d : Draft) (x y : ℕ) (bytes : List ℕ) (cx : ℕ) (v v' : View) (r : Result Bool Fault) → lit_in d x y ≡ true → d.visited x y ≡ false
+    → cx ≡ refine_context_of (nat_le 4 (d.magnitude x y / 2 ^ at.plane)) (touched (lit_in d) x y) → ((s : State) → Stands v s → r ≡ answer bytes s cx) → OnOk r ((s : State) → Stands v s → Stands v' (next bytes s cx))
+    → TakesTo (place_at bytes d.shape at.plane 1 x y) d (λ bit. coded_in at.plane x y bit (d.negative x y) d) v v' r
+refined_takes at d x y bytes cx v v' (Ok bit) lit uncoded is answers goes = λ coder st. record {
+  next = next bytes coder cx;
+  stands = goes coder st;
+  is = next_due bytes d.shape at.plane x y (progress d coder) lit uncoded ∙ next_takes bytes d.shape at.plane x y (progress d coder) cx bit (next bytes coder cx) is (decide_ok bytes cx coder bit (answers coder st));
+}
+refined_takes at d x y bytes cx v v' (Err e) lit uncoded is answers goes = λ coder st.
+    next_due bytes d.shape at.plane x y (progress d coder) lit uncoded ∙ next_faults bytes d.shape at.plane x y (progress d coder) cx e is (decide_err bytes cx coder e (answers coder st))

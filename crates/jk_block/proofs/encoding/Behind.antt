@@ -14,7 +14,8 @@ use Rattle.jk_scan.proofs.Laws.{rows_between, drawn_same, on_and}
 use Rattle.jk_block.specs.declared.encoding.flags.Flags.{Flags}
 use Rattle.jk_block.specs.declared.encoding.plane.BlockPlane.{BlockPlane}
 use Rattle.jk_block.specs.declared.spot.Spot.{Spot}
-use Rattle.jk_block.specs.encoding.Viewed.{ShowsOnes, lit_at, spread_at, IsFlagged, with_word, moment_at}
+use Rattle.jk_block.specs.encoding.Viewed.{ShowsOnes, lit_at, spread_at, IsFlagged, moment_at}
+use Rattle.jk_block.specs.Fields.{with_word}
 use Rattle.jk_block.proofs.encoding.Coming.{mag, mag_outside}
 use Rattle.jk_block.proofs.encoding.Propagated.{one_is}
 use Rattle.jk_block.proofs.Seeing.{is_due}

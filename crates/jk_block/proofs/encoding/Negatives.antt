@@ -1,10 +1,9 @@
 -- Words of negative places.
-use Rattle.std.proofs.Common.{◌≡◌, ℕ, ◌+◌, ◌-◌, ◌*◌, ◌/◌, ◌%◌, ◌<◌, ◌≤◌, Bool, true, false, ℤ, List, length, get_or, set, replicate, refl, sym, ap, ◌∙◌, subst, inl, inr, arith}
-use Rattle.std.specs.Prelude.{◌&&◌, nat_lt, nat_le}
+use Rattle.std.proofs.Common.{◌≡◌, ℕ, ◌+◌, ◌*◌, ◌/◌, ◌%◌, ◌<◌, ◌≤◌, Bool, true, false, ℤ, List, length, set, replicate, refl, sym, ap, ◌∙◌, subst, arith}
+use Rattle.std.specs.Prelude.{◌&&◌, nat_lt}
 use Rattle.std.specs.Int.{is_negative}
-use Rattle.std.proofs.lemmas.Bool.{and_parts, cases_lt}
+use Rattle.std.proofs.lemmas.Bool.{and_parts}
 use Rattle.std.proofs.lemmas.Bool.Decides.{nat_tests}
-use Rattle.std.proofs.lemmas.List.{get_or-set_same, get_or-set_other}
 use Rattle.std.proofs.lemmas.Nat.{same_from_place, mul-add-lt}
 use Rattle.jk_scan.specs.declared.shape.BlockShape.{BlockShape}
 use Rattle.jk_scan.specs.declared.around.Around.{Around}
@@ -12,10 +11,10 @@ use Rattle.jk_scan.specs.Bits.{on}
 use Rattle.jk_scan.specs.Neighbours.{Field, is_inside}
 use Rattle.jk_scan.specs.Moments.{stripes}
 use Rattle.jk_scan.specs.Surroundings.{IsAround}
-use Rattle.jk_scan.specs.Words.{Truths, of_rows, of_gathered, bordered}
+use Rattle.jk_scan.specs.Words.{of_rows, of_gathered, bordered}
 use Rattle.jk_scan.specs.WordPlaces.{column, row}
 use Rattle.jk_scan.specs.Flags.{IsSized, IsDrawn, across, word_at}
-use Rattle.jk_scan.proofs.Laws.{drawn_same, drawn_none, inside_parts, rows_between, word_fits}
+use Rattle.jk_scan.proofs.Laws.{drawn_same, drawn_none, inside_parts, rows_between}
 use Rattle.jk_block.specs.Meaning.{plane_at, value_in}
 use Rattle.jk_block.specs.Steps.{IsPlace}
 use Rattle.jk_block.specs.declared.encoding.plane.BlockPlane.{BlockPlane}
@@ -24,75 +23,7 @@ use Rattle.jk_block.specs.encoding.Viewed.{seen, negative_in}
 use Rattle.jk_block.specs.encoding.Slices.{signed, bit_in, negative_of, negative_to, IsShort, IsPlaneWord}
 use Rattle.jk_block.proofs.encoding.Slicing.{on_sign}
 use Rattle.jk_block.proofs.WordBits.{bordered_at, place_shifted}
-
--- a word is written
-pub word_drawn : (s : BlockShape) (g h : Truths) (words : List ℕ) (j i new : ℕ) → IsSized s → 774 ≤ length words → j < across s → i < stripes s → IsDrawn s g words
-    → ((m : ℕ) → m < 64 → on new m ≡ (of_rows (m % 8) && h (column j m) (row i m))) → ((x y : ℕ) → (x / 8 ≡ j → y / 4 ≡ i → ⊥) → h x y ≡ g x y) → IsDrawn s h (set words (word_at s (j + 1) (i + 1)) new)
-unfolding word_at
-word_drawn s g h words j i new z len hj hi drawn own other j' i' hj' hi' c b p q = elim (cases_lt j' (j + 1)) [
-  | inl left ↦ apart (λ e. omega (arith, e, left))
-  | inr not_left ↦ elim (cases_lt (j + 1) j') [
-    | inl right ↦ apart (λ e. omega (arith, e, right))
-    | inr not_right ↦ elim (cases_lt i' (i + 1)) [
-      | inl above ↦ apart_row (λ e. omega (arith, e, above))
-      | inr not_above ↦ elim (cases_lt (i + 1) i') [
-        | inl below ↦ apart_row (λ e. omega (arith, e, below))
-        | inr not_below ↦ here (omega arith) (omega arith)
-      ]
-    ]
-  ]
-]
-  where
-    place : ℕ
-    place = (i + 1) * (across s + 2) + (j + 1)
-
-    room : place < length words
-    room = let f = word_fits s (j + 1) (i + 1) z (omega arith) (omega arith) in omega (arith, f, len)
-
-    kept : (j' ≡ j + 1 → i' ≡ i + 1 → ⊥) → on (get_or (set words place new) (i' * (across s + 2) + j') 0) (8 * c + b) ≡ (of_rows b && bordered g (8 * j' + c) (4 * i' + b - 1))
-    kept away =
-        ap (λ w. on w (8 * c + b)) (get_or-set_other words place (i' * (across s + 2) + j') new 0
-        (λ e. let one = same_from_place i' j' (i + 1) (j + 1) (across s + 2) hj' (omega arith) e in away one.1 one.0))
-        ∙ drawn j' i' hj' hi' c b p q
-
-    same : (j' ≡ j + 1 → i' ≡ i + 1 → ⊥) → (r : Bool) → of_rows b ≡ r → (of_rows b && bordered g (8 * j' + c) (4 * i' + b - 1)) ≡ (of_rows b && bordered h (8 * j' + c) (4 * i' + b - 1))
-    same away false e = ap (λ r. r && bordered g (8 * j' + c) (4 * i' + b - 1)) e ∙ sym (ap (λ r. r && bordered h (8 * j' + c) (4 * i' + b - 1)) e)
-    same away true e =
-        let between = rows_between b e in
-        ap (λ r. of_rows b && r) (inner (nat_le 8 (8 * j' + c)) refl (nat_le 4 (4 * i' + b - 1)) refl between.0 between.1)
-      where
-        inner : (u : Bool) → nat_le 8 (8 * j' + c) ≡ u → (v : Bool) → nat_le 4 (4 * i' + b - 1) ≡ v → 1 ≤ b → b < 5 → bordered g (8 * j' + c) (4 * i' + b - 1) ≡ bordered h (8 * j' + c) (4 * i' + b - 1)
-        inner false eu v ev lo hi = ap (λ u. u && (nat_le 4 (4 * i' + b - 1) && g (8 * j' + c - 8) (4 * i' + b - 1 - 4))) eu ∙ sym (ap (λ u. u && (nat_le 4 (4 * i' + b - 1) && h (8 * j' + c - 8) (4 * i' + b - 1 - 4))) eu)
-        inner true eu false ev lo hi =
-            ap (λ v. nat_le 8 (8 * j' + c) && (v && g (8 * j' + c - 8) (4 * i' + b - 1 - 4))) ev ∙ sym (ap (λ v. nat_le 8 (8 * j' + c) && (v && h (8 * j' + c - 8) (4 * i' + b - 1 - 4))) ev)
-        inner true eu true ev lo hi =
-            let wide : 8 ≤ 8 * j' + c = grind (arith, nat_tests) in
-            let high : 4 ≤ 4 * i' + b - 1 = grind (arith, nat_tests) in
-            ap (λ v. nat_le 8 (8 * j' + c) && (nat_le 4 (4 * i' + b - 1) && v))
-            (sym (other (8 * j' + c - 8) (4 * i' + b - 1 - 4) (λ ex ey. away (omega (arith, ex, wide)) (omega (arith, ey, high, lo, hi)))))
-
-    apart : (j' ≡ j + 1 → ⊥) → on (get_or (set words place new) (i' * (across s + 2) + j') 0) (8 * c + b) ≡ (of_rows b && bordered h (8 * j' + c) (4 * i' + b - 1))
-    apart away = kept (λ e _. away e) ∙ same (λ e _. away e) (of_rows b) refl
-
-    apart_row : (i' ≡ i + 1 → ⊥) → on (get_or (set words place new) (i' * (across s + 2) + j') 0) (8 * c + b) ≡ (of_rows b && bordered h (8 * j' + c) (4 * i' + b - 1))
-    apart_row away = kept (λ _ e. away e) ∙ same (λ _ e. away e) (of_rows b) refl
-
-    here : j' ≡ j + 1 → i' ≡ i + 1 → on (get_or (set words place new) (i' * (across s + 2) + j') 0) (8 * c + b) ≡ (of_rows b && bordered h (8 * j' + c) (4 * i' + b - 1))
-    here ej ei =
-        ap (λ i. on (get_or (set words place new) (i * (across s + 2) + j') 0) (8 * c + b)) ei ∙ ap (λ j. on (get_or (set words place new) ((i + 1) * (across s + 2) + j) 0) (8 * c + b)) ej
-        ∙ ap (λ w. on w (8 * c + b)) (get_or-set_same words place new 0 room)
-        ∙ own (8 * c + b) (omega arith)
-        ∙ ap (λ k. of_rows k && h (column j (8 * c + b)) (row i (8 * c + b))) (let e : (8 * c + b) % 8 ≡ b = omega arith in e)
-        ∙ inside (of_rows b) refl
-      where
-        inside : (r : Bool) → of_rows b ≡ r → (of_rows b && h (column j (8 * c + b)) (row i (8 * c + b))) ≡ (of_rows b && bordered h (8 * j' + c) (4 * i' + b - 1))
-        inside false e = ap (λ r. r && h (column j (8 * c + b)) (row i (8 * c + b))) e ∙ sym (ap (λ r. r && bordered h (8 * j' + c) (4 * i' + b - 1)) e)
-        inside true e =
-            let between = rows_between b e in
-            ap (λ r. of_rows b && r)
-            (sym (ap (λ x. bordered h x (4 * i' + b - 1)) (let e : 8 * j' + c ≡ column j (8 * c + b) + 8 = omega (arith, ej) in e)
-            ∙ ap (λ y. bordered h (column j (8 * c + b) + 8) y) (let e : 4 * i' + b - 1 ≡ row i (8 * c + b) + 4 = omega (arith, ei, between) in e)
-            ∙ bordered_at h (column j (8 * c + b)) (row i (8 * c + b))))
+use Rattle.jk_block.proofs.WordDrawing.{word_drawn}
 
 -- The next word is written.
 pub negative_more : (s : BlockShape) (q : Field ℤ) (words : List ℕ) (j i p w : ℕ) → IsSized s → 774 ≤ length words → j < across s → i < stripes s → p ≡ word_at s (j + 1) (i + 1) → IsShort s q → IsPlaneWord s 31 q j i w

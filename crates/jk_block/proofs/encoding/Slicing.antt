@@ -15,7 +15,7 @@ use Rattle.jk_scan.specs.Moments.{stripes}
 use Rattle.jk_scan.specs.Words.{of_rows}
 use Rattle.jk_scan.specs.WordPlaces.{column, row}
 use Rattle.jk_scan.specs.Flags.{IsSized, across}
-use Rattle.jk_scan.proofs.Laws.{on_mod, on_above, on_shl_low, firsts, lowest}
+use Rattle.jk_scan.proofs.Laws.{on_mod, on_above, on_shl_low, lowest}
 use Rattle.jk_scan.proofs.Laws.{on_or, on_and, on_zero, on_shl_any, on_shr_at, rows_between}
 use Rattle.jk_block.specs.Meaning.{value_in}
 use Rattle.jk_block.specs.Meaning.{plane_at}
@@ -129,22 +129,6 @@ sliced_all s shift n q slices e h j y c i hj hy p r =
         let less : y < s.height = grind (arith, nat_tests) in
         let m = mul-add-lt y (across s) j s.height less hj in
         grind (arith, nat_tests, m, e)
-
--- a bit of each byte
-pub plane_bits : (x b n i : ℕ) → b < 8 → n < 8 → i < 8 → on (bit_and (x / 2 ^ b) 72340172838076673) (8 * n + i) ≡ (nat_eq i 0 && on x (8 * n + b))
-plane_bits x b n i hb p q =
-    on_and (x / 2 ^ b) 72340172838076673 (8 * n + i) ∙ ap (λ v. on (x / 2 ^ b) (8 * n + i) && v) (firsts n i p q) ∙ ap (λ v. v && nat_eq i 0) (on_shr_at x b (b + (8 * n + i)) (8 * n + i) refl)
-    ∙ by i
-  where
-    turned : (a b : Bool) → (a && b) ≡ (b && a)
-    turned a b = grind (arith, nat_tests)
-
-    none : (a : Bool) → (a && false) ≡ false
-    none a = grind (arith, nat_tests)
-
-    by : (i : ℕ) → (on x (b + (8 * n + i)) && nat_eq i 0) ≡ (nat_eq i 0 && on x (8 * n + b))
-    by zero = turned (on x (b + (8 * n + 0))) true ∙ ap (on x) (let e : b + (8 * n + 0) ≡ 8 * n + b = omega arith in e)
-    by (suc i) = let e : nat_eq (suc i) 0 ≡ false = grind (arith, nat_tests) in ap (λ v. on x (b + (8 * n + suc i)) && v) e ∙ none (on x (b + (8 * n + suc i))) ∙ sym (ap (λ v. v && on x (8 * n + b)) e)
 
 -- the bits of a slice, put where a row has its bits
 pub row_bits : (x z b r n i : ℕ) → ((n i : ℕ) → n < 8 → i < 8 → on z (8 * n + i) ≡ (nat_eq i 0 && on x (8 * n + b))) → 1 ≤ r → r < 5 → n < 8 → i < 8 → on (z * 2 ^ r % 2 ^ 64) (8 * n + i) ≡ (nat_eq i r && on x (8 * n + b))

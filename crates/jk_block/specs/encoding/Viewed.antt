@@ -1,5 +1,5 @@
 -- What words show of a block at a bit-plane while its decisions are listed.
-use Rattle.std.specs.Prelude.{◌≡◌, ◌<◌, ℕ, ◌+◌, ◌-◌, ◌*◌, ◌/◌, ◌%◌, Bool, true, false, ◌&&◌, ◌||◌, nat_eq, nat_lt}
+use Rattle.std.specs.Prelude.{◌≡◌, ◌<◌, ℕ, ◌+◌, ◌-◌, ◌*◌, ◌/◌, ◌%◌, Bool, true, false, ◌&&◌, nat_eq, nat_lt}
 use Rattle.std.specs.Prelude.{nat_le, [], ◌∷◌, List, get_or, ℤ, if◌then◌else◌}
 use Rattle.jk_scan.specs.declared.shape.BlockShape.{BlockShape}
 use Rattle.jk_scan.specs.Contexts.{run_length, uniform}
@@ -46,10 +46,6 @@ pub record IsFlagged (v : BlockPlane) (t : ℕ) (flags : Flags) : Type 0 where
 -- Between planes the words show what has a bit in plane b or above it.
 pub record IsLitUpto (s : BlockShape) (b : ℕ) (q : Field ℤ) (flags : Flags) : Type 0 where
   pub lit : IsDrawn s (λ x y. nat_lt 0 ((plane_at s b q).magnitude x y)) flags.significant
-
--- a field with the places of the word j of the stripe i
-abbrev pub with_word : Field Bool → (j i word : ℕ) → Field Bool
-with_word f j i word x y = f x y || ((nat_eq (x / 8) j && nat_eq (y / 4) i) && on word (8 * (x % 8) + (y % 4 + 1)))
 
 -- The words show which of the places beside each place of the word j of the stripe i are negative.
 abbrev pub ShowsSigns : BlockPlane → (j i : ℕ) → List ℕ → Type 0

@@ -1,36 +1,37 @@
 //! A block read from its segment. The MQ decoder gives decisions; a pass goes over stripes
-//! (`passes`), their words of 32 places (`words`) and the places that it codes (`places`), and each
-//! decision goes into the `sketch`: magnitudes, and words of which places are significant. The
-//! sketch is the block.
+//! (`passes`), their words of 32 places (`words`) and the places that it codes (`places`). What a
+//! word becomes stands in its `sight` until the last of its places, and goes into the `sketch`
+//! then: words of which places are significant, and of the bits of each plane. The sketch is the
+//! block.
 
-ghost use Rattle.std.specs.Prelude.{◌≡◌, ℕ, ℤ, List, true, IfErr, OnOk, map, ◌++◌, ◌+◌, ◌-◌, ◌*◌, ◌/◌, ◌%◌, ◌^◌, ◌<◌};
+ghost use Rattle.std.specs.Prelude.{◌≡◌, ℕ, ℤ, List, true, ◌+◌, ◌-◌, ◌*◌, ◌%◌, ◌^◌, ◌<◌};
 ghost use Rattle.std.specs.Prelude.{◌≤◌, All, IfOk, MatchResult, unsigned_abs};
-ghost use Rattle.std.specs.List.{range_with_len};
 ghost use Rattle.jk_math.specs.Answer.{Answers};
 ghost use Rattle.jk_math.specs.Memory.{IsMemory};
 ghost use Rattle.jk_model.specs.Decisions.{State};
 ghost use Rattle.jk_mqdec.specs.Standing.{Stands};
-ghost use Rattle.jk_scan.specs.Neighbours.{Field, is_inside};
-ghost use Rattle.jk_scan.specs.Flags.{IsSized};
-ghost use Rattle.jk_block.specs.Fields.{field_of};
-ghost use Rattle.jk_block.specs.Meaning.{IsBlockMeaning, plane_of, kind_of, with_sign, value_in, values_of};
-ghost use Rattle.jk_block.specs.Reading.{times, blank, begun, pass_at, coefficients, block_at};
+ghost use Rattle.jk_scan.specs.Neighbours.{Field};
+ghost use Rattle.jk_block.specs.Meaning.{IsBlockMeaning, plane_of, kind_of, value_in, values_of};
+ghost use Rattle.jk_block.specs.Reading.{times, blank, begun, pass_at, block_at};
 ghost use Rattle.jk_block.specs.Steps.{number_of};
-ghost use Rattle.jk_block.specs.decoding.Sketches.{Takes, IsFresh, progress, negative_in};
+ghost use Rattle.jk_block.specs.decoding.Sketches.{Takes, IsFresh, draft_of, progress};
 
+mod coefficients;
 mod passes;
 mod places;
+mod sight;
 mod sketch;
 mod words;
 
 use crate::ages::Ages;
 use crate::spot::{Pass, pass_of};
+use coefficients::values;
 use jk_math::{Fault, Orientation};
 use jk_model::first_steps;
 use jk_mqdec::PassDecoder;
 use jk_scan::{BlockShape, WORDS};
 use passes::read_bit_plane;
-use sketch::Sketch;
+use sketch::{Sketch, no_bits};
 use std::alloc::Global;
 
 /// A code-block: the coefficients of its place in a sub-band.
@@ -49,9 +50,11 @@ pub struct Block {
 /// Begins a pass: with significance propagation a plane begins.
 fn begin(sketch: &mut Sketch, pass: Pass)
     ensures shape { sketch.new.shape ≡ sketch.old.shape }
-    ensures begun { (c : State) → progress sketch.new c ≡ begun (number_of pass) (progress sketch.old c) }
-    ensures fresh { (plane : ℕ) (refined : List ℕ) → number_of pass ≡ 1 → IsFresh plane refined sketch.old
-        → IsFresh plane refined sketch.new }
+    ensures planes { sketch.new.planes ≡ sketch.old.planes }
+    ensures begun { (c : State) → progress (draft_of sketch.new) c
+        ≡ begun (number_of pass) (progress (draft_of sketch.old) c) }
+    ensures fresh { (plane : ℕ) (refined : List ℕ) → number_of pass ≡ 1
+        → IsFresh plane refined (draft_of sketch.old) → IsFresh plane refined (draft_of sketch.new) }
 {
     match pass {
         Pass::Propagation => sketch.begin(),
@@ -80,13 +83,15 @@ fn read_pass(
     planes: u32,
     n: usize,
 ) -> Result<(), Fault>
-    requires planes { planes ≤ 23 }
+    requires planes { planes ≡ sketch.old.planes }
+    requires few { planes ≤ 23 }
     requires n { n < 3 * planes - 2 }
-    requires fresh { kind_of n ≡ 1 → IsFresh (plane_of planes n) refined.now sketch.old }
+    requires fresh { kind_of n ≡ 1 → IsFresh (plane_of planes n) refined.now (draft_of sketch.old) }
     ensures shape { sketch.new.shape ≡ sketch.old.shape }
+    ensures planes { sketch.new.planes ≡ sketch.old.planes }
     ensures bytes { decoder.new.bytes ≡ decoder.old.bytes }
     ensures takes { Takes (pass_at decoder.old.bytes sketch.old.shape planes n)
-        sketch.old sketch.new decoder.old decoder.new result }
+        (draft_of sketch.old) (draft_of sketch.new) decoder.old decoder.new result }
 {
     let plane = planes - 1 - (n as u32 + 2) / 3;
     let pass = pass_of(n);
@@ -101,14 +106,16 @@ fn read_passes(
     planes: u32,
     passes: usize,
 ) -> Result<(), Fault>
-    requires planes { planes ≤ 23 }
+    requires planes { planes ≡ sketch.old.planes }
+    requires few { planes ≤ 23 }
     requires passes { passes ≤ 3 * planes - 2 }
-    requires blank { progress sketch.old blank.coder ≡ blank }
+    requires blank { progress (draft_of sketch.old) blank.coder ≡ blank }
     requires stands { Stands decoder.old blank.coder }
     ensures shape { sketch.new.shape ≡ sketch.old.shape }
+    ensures planes { sketch.new.planes ≡ sketch.old.planes }
     ensures bytes { decoder.new.bytes ≡ decoder.old.bytes }
     ensures takes { Takes (times passes (pass_at decoder.old.bytes sketch.old.shape planes))
-        sketch.old sketch.new decoder.old decoder.new result }
+        (draft_of sketch.old) (draft_of sketch.new) decoder.old decoder.new result }
 {
     let mut ages = Ages::none();
     for n in 0..passes {
@@ -116,55 +123,6 @@ fn read_passes(
         read_pass(sketch, decoder, ages.refined(), planes, n)?;
     }
     Ok(())
-}
-
-/// The coefficient of a place.
-#[inline(always)]
-fn coefficient(sketch: &Sketch, shape: BlockShape, x: usize, y: usize) -> i32
-    requires same { shape ≡ sketch.now.shape }
-    requires inside { is_inside sketch.now.shape x y ≡ true }
-    requires small { field_of sketch.now.shape sketch.now.magnitudes 0 x y < 2 ^ 23 }
-    ensures { result ≡ with_sign (negative_in sketch.now x y) (field_of sketch.now.shape sketch.now.magnitudes 0 x y) }
-{
-    let magnitudes = &sketch.magnitudes;
-    let magnitude = magnitudes[y * shape.width + x] as i32;
-    if sketch.is_negative(shape, x, y) {
-        -magnitude
-    } else {
-        magnitude
-    }
-}
-
-/// Appends the coefficients of a row.
-fn append_row(values: &mut Vec<i32>, sketch: &Sketch, y: usize) -> Result<(), Fault>
-    requires row { y < sketch.now.shape.height }
-    requires small { (x y : ℕ) → is_inside sketch.now.shape x y ≡ true
-        → field_of sketch.now.shape sketch.now.magnitudes 0 x y < 2 ^ 23 }
-    ensures row { OnOk result (values.new.items ≡ values.old.items
-        ++ map (λ x. with_sign (negative_in sketch.now x y) (field_of sketch.now.shape sketch.now.magnitudes 0 x y))
-        (range_with_len 0 sketch.now.shape.width)) }
-    ensures memory { IfErr result IsMemory }
-{
-    let shape = sketch.shape;
-    for x in 0..shape.width {
-        values.push(coefficient(sketch, shape, x, y))?;
-    }
-    Ok(())
-}
-
-/// The coefficients of a sketch.
-fn values(alloc: Global, sketch: &Sketch) -> Result<Vec<i32>, Fault>
-    requires { (x y : ℕ) → is_inside sketch.now.shape x y ≡ true
-        → field_of sketch.now.shape sketch.now.magnitudes 0 x y < 2 ^ 23 }
-    ensures values { (c : State)
-        → IfOk result (λ v. v.items ≡ values_of sketch.now.shape (coefficients (progress sketch.now c))) }
-    ensures memory { IfErr result IsMemory }
-{
-    let mut values = Vec::with_capacity(alloc, sketch.shape.width * sketch.shape.height)?;
-    for y in 0..sketch.shape.height {
-        append_row(&mut values, sketch, y)?;
-    }
-    Ok(values)
 }
 
 /// Reads a code-block of so many bit-planes from the segment of its coding passes (T.800 Annex D),
@@ -196,7 +154,7 @@ pub fn decode(
     if passes > (3 * planes as usize).saturating_sub(2) {
         return Err(Fault::TooManyPasses);
     }
-    let mut sketch = Sketch::new(shape);
+    let mut sketch = Sketch::new(shape, planes, no_bits(alloc, shape, planes)?);
     let mut contexts = first_steps();
     let mut decoder = PassDecoder::new(segment, &mut contexts);
     read_passes(&mut sketch, &mut decoder, planes, passes)?;

@@ -1,167 +1,144 @@
 //! The working state in which a block is read.
 
-ghost use Rattle.std.specs.Prelude.{◌≡◌, ℕ, List, true, ◌+◌, ◌*◌, ◌^◌, ◌<◌, ◌≤◌, replicate, if◌then◌else◌};
+ghost use Rattle.std.specs.Prelude.{◌≡◌, ℕ, Bool, true, ◌&&◌, ◌+◌, ◌*◌, ◌%◌, ◌<◌, ◌≤◌, length, replicate, IfOk, IfErr};
+ghost use Rattle.jk_math.specs.Memory.{IsMemory};
 ghost use Rattle.jk_model.specs.Decisions.{State};
+ghost use Rattle.jk_scan.specs.Bits.{on};
 ghost use Rattle.jk_scan.specs.Neighbours.{is_inside};
-ghost use Rattle.jk_scan.specs.WordPlaces.{column, row, also};
-ghost use Rattle.jk_scan.specs.Flags.{IsSized, IsDrawn};
-ghost use Rattle.jk_block.specs.Meaning.{above};
-ghost use Rattle.jk_block.specs.Reading.{blank, coded_as, visit, begun};
-ghost use Rattle.jk_block.specs.Fields.{field_of, lit_of, flagged};
-ghost use Rattle.jk_block.specs.Steps.{IsSpot, IsPlace};
+ghost use Rattle.jk_scan.specs.Words.{of_rows, bordered, Shows};
+ghost use Rattle.jk_scan.specs.WordPlaces.{column, row};
+ghost use Rattle.jk_scan.specs.Flags.{IsSized, IsDrawn, word_at};
+ghost use Rattle.jk_block.specs.Reading.{blank, begun};
+ghost use Rattle.jk_block.specs.Fields.{lit_of, flagged, words_of, magnitude_of, with_word};
+ghost use Rattle.jk_block.specs.Steps.{IsSpot};
 
+use super::sight::Sight;
 use crate::ages::unmarked;
 use crate::spot::Spot;
-use jk_scan::{BlockShape, WORDS, word_place};
+use jk_math::Fault;
+use jk_scan::{BlockShape, WORDS, word_place, words_across};
+use std::alloc::Global;
 
-/// A block as far as it is read: magnitudes row by row, and words of 32 places for which are
-/// significant, which are negative, and which the significance propagation pass of this plane has
-/// coded.
+/// A block as far as it is read, in words of 32 places: which are significant, which are negative,
+/// which the significance propagation pass of this plane has coded, and plane by plane which have a
+/// 1 there.
 #[derive(Drop)]
 pub struct Sketch {
     pub shape: BlockShape,
-    pub magnitudes: [u32; 4096],
+    pub planes: u32,
     pub significant: [u64; WORDS],
     pub negative: [u64; WORDS],
     pub visited: [u64; WORDS],
+    pub bits: Vec<u64>,
     ghost sized: { IsSized shape },
-    ghost lit: { IsDrawn shape (lit_of shape magnitudes) significant },
+    ghost few: { planes ≤ 23 },
+    ghost room: { length bits.items ≡ planes * words_of shape },
+    ghost lit: { IsDrawn shape (lit_of shape (magnitude_of shape planes bits.items)) significant },
     ghost signs: { IsDrawn shape (flagged shape negative) negative },
 }
 
-/// A magnitude with this bit of a plane, and 0 below it.
-#[inline(always)]
-fn with_bit(magnitude: u32, plane: u32, bit: bool) -> u32
-    requires { plane < 23 }
-    ensures { result ≡ above (plane + 1) magnitude + (if bit then 2 ^ plane else 0) }
+/// How many words show a block once, with their border.
+pub fn words_of(shape: BlockShape) -> usize
+    requires { IsSized shape }
+    ensures is { result ≡ words_of shape }
+    ensures few { result ≤ 774 }
 {
-    let high = magnitude >> (plane + 1) << (plane + 1);
-    if bit { high + (1 << plane) } else { high }
+    (words_across(shape) + 2) * ((shape.height + 3) / 4 + 2)
 }
 
-/// A truth value as a number.
-fn digit(bit: bool) -> u64
-    ensures { result ≡ (if bit then 1 else 0) }
+/// Words of so many bit-planes, in which no place has a 1.
+pub fn no_bits(alloc: Global, shape: BlockShape, planes: u32) -> Result<Vec<u64>, Fault>
+    requires sized { IsSized shape }
+    requires planes { planes ≤ 23 }
+    ensures items { IfOk result (λ bits. bits.items ≡ replicate (planes * words_of shape) 0) }
+    ensures memory { IfErr result IsMemory }
 {
-    bit as u64
-}
-
-/// No magnitude has a bit.
-fn unset() -> [u32; 4096]
-    ensures { result ≡ replicate 4096 0 }
-{
-    [0; 4096]
+    Ok(vec![in alloc; 0; planes as usize * words_of(shape)]?)
 }
 
 impl Sketch {
-    ghost use Rattle.jk_block.specs.decoding.Sketches.{progress, lit_in, negative_in, IsFresh};
+    ghost use Rattle.jk_block.specs.declared.decoding.sight.Sight.{Sight};
+    ghost use Rattle.jk_block.specs.decoding.Sketches.{Draft, draft_of, progress, lit_in};
+    ghost use Rattle.jk_block.specs.decoding.Sights.{IsHeld, Held, IsRefined, refined_in};
 
     /// A block of which nothing is read.
-    pub fn new(shape: BlockShape) -> Sketch
-        requires { IsSized shape }
+    pub fn new(shape: BlockShape, planes: u32, bits: Vec<u64>) -> Sketch
+        requires sized { IsSized shape }
+        requires few { planes ≤ 23 }
+        requires bits { bits.items ≡ replicate (planes * words_of shape) 0 }
         ensures shape { result.shape ≡ shape }
-        ensures blank { progress result blank.coder ≡ blank }
+        ensures planes { result.planes ≡ planes }
+        ensures blank { progress (draft_of result) blank.coder ≡ blank }
     {
         Sketch {
             shape,
-            magnitudes: unset(),
+            planes,
             significant: unmarked(),
             negative: unmarked(),
             visited: unmarked(),
+            bits,
         }
     }
 
     /// Begins a plane: no place is marked as coded.
     pub fn begin(&mut self)
         ensures shape { self.new.shape ≡ self.old.shape }
-        ensures begun { (c : State) → progress self.new c ≡ begun 0 (progress self.old c) }
+        ensures planes { self.new.planes ≡ self.old.planes }
+        ensures begun { (c : State) → progress (draft_of self.new) c ≡ begun 0 (progress (draft_of self.old) c) }
     {
         self.visited = unmarked();
     }
 
-    /// Marks the place at bit k of a word as coded by the significance propagation pass.
+    /// Marks these places of a word as coded by the significance propagation pass.
     #[inline(always)]
-    pub fn visit(&mut self, shape: BlockShape, spot: Spot, k: u32)
-        requires same { shape ≡ self.old.shape }
+    pub fn visit_all(&mut self, spot: Spot, places: u64)
         requires spot { IsSpot self.old.shape spot }
-        requires place { IsPlace self.old.shape spot k }
-        ensures shape { self.new.shape ≡ self.old.shape }
-        ensures lit { lit_in self.new ≡ lit_in self.old }
-        ensures visited { (c : State)
-            → progress self.new c ≡ visit (column spot.word k) (row spot.stripe k) (progress self.old c) }
+        requires inside { (m : ℕ) → m < 64 → on places m ≡ true
+            → (of_rows (m % 8) && is_inside self.old.shape (column spot.word m) (row spot.stripe m)) ≡ true }
+        ensures visited { draft_of self.new ≡ record (draft_of self.old)
+            { visited = with_word (draft_of self.old).visited spot.word spot.stripe places } }
+        ensures planes { self.new.planes ≡ self.old.planes }
     {
-        let at = word_place(shape, spot.word + 1, spot.stripe + 1);
+        let at = word_place(self.shape, spot.word + 1, spot.stripe + 1);
         let visited = &mut self.visited;
-        visited[at] |= 1 << k;
+        visited[at] |= places;
     }
 
-    /// The place at bit k of a word becomes significant in this plane, with this sign.
+    /// Puts back a word in which places have become significant in this plane.
     #[inline(always)]
-    pub fn light(&mut self, shape: BlockShape, spot: Spot, k: u32, negative: bool)
-        requires same { shape ≡ self.old.shape }
+    pub fn light_all(&mut self, spot: Spot, limits: u64, sight: Sight)
         requires spot { IsSpot self.old.shape spot }
-        requires place { IsPlace self.old.shape spot k }
-        ensures shape { self.new.shape ≡ self.old.shape }
-        ensures visited { self.new.visited ≡ self.old.visited }
-        ensures coded { (c : State) → progress self.new c
-            ≡ coded_as spot.plane (column spot.word k) (row spot.stripe k) true negative (progress self.old c) }
-        ensures lit { (x y : ℕ) → lit_in self.new x y
-            ≡ also (lit_in self.old) (column spot.word k) (row spot.stripe k) x y }
+        requires plane { spot.plane < self.old.planes }
+        requires limits { Shows of_rows (bordered (is_inside self.old.shape)) (spot.word + 1) (spot.stripe + 1) limits }
+        requires held { IsHeld spot (draft_of self.old) sight }
+        ensures lit { (d : Draft) → Held spot (draft_of self.old) sight d
+            → draft_of self.new ≡ record d { visited = (draft_of self.old).visited } }
+        ensures planes { self.new.planes ≡ self.old.planes }
     {
-        let at = word_place(shape, spot.word + 1, spot.stripe + 1);
-        let bit = 1 << k;
+        let at = word_place(self.shape, spot.word + 1, spot.stripe + 1);
+        let lit = sight.significant.centre & limits;
         let significant = &mut self.significant;
-        significant[at] |= bit;
-        let signs = &mut self.negative;
-        signs[at] = signs[at] & !bit | digit(negative) << k;
-        let place = place_of(shape, spot, k);
-        let magnitudes = &mut self.magnitudes;
-        magnitudes[place] = with_bit(magnitudes[place], spot.plane, true);
+        let new = lit & !significant[at];
+        significant[at] = lit;
+        let negative = &mut self.negative;
+        negative[at] = sight.negative.centre & limits;
+        let start = spot.plane as usize * words_of(self.shape);
+        let bits = &mut self.bits;
+        bits[start + at] |= new;
     }
 
-    /// Takes the next bit of the place at bit k of a word, which was significant before this plane.
+    /// Puts back the bits in this plane of places of a word that were significant before.
     #[inline(always)]
-    pub fn refine(&mut self, shape: BlockShape, spot: Spot, k: u32, bit: bool)
-        requires same { shape ≡ self.old.shape }
+    pub fn refine_all(&mut self, spot: Spot, places: u64, ones: u64)
         requires spot { IsSpot self.old.shape spot }
-        requires place { IsPlace self.old.shape spot k }
-        requires large { 2 ^ (spot.plane + 1)
-            ≤ field_of self.old.shape self.old.magnitudes 0 (column spot.word k) (row spot.stripe k) }
-        ensures shape { self.new.shape ≡ self.old.shape }
-        ensures visited { self.new.visited ≡ self.old.visited }
-        ensures coded { (c : State) → progress self.new c
-            ≡ coded_as spot.plane (column spot.word k) (row spot.stripe k) bit
-            (negative_in self.old (column spot.word k) (row spot.stripe k)) (progress self.old c) }
-        ensures lit { (x y : ℕ) → lit_in self.new x y ≡ lit_in self.old x y }
-        ensures fresh { (refined : List ℕ) → IsFresh spot.plane refined self.old → IsFresh spot.plane refined self.new }
+        requires plane { spot.plane < self.old.planes }
+        requires refined { IsRefined spot places ones (draft_of self.old) }
+        ensures refined { draft_of self.new ≡ refined_in spot places ones (draft_of self.old) }
+        ensures planes { self.new.planes ≡ self.old.planes }
     {
-        let place = place_of(shape, spot, k);
-        let magnitudes = &mut self.magnitudes;
-        magnitudes[place] = with_bit(magnitudes[place], spot.plane, bit);
+        let at = word_place(self.shape, spot.word + 1, spot.stripe + 1);
+        let start = spot.plane as usize * words_of(self.shape);
+        let bits = &mut self.bits;
+        bits[start + at] = bits[start + at] & !places | ones;
     }
-
-    /// Whether a place is negative.
-    #[inline(always)]
-    pub fn is_negative(&self, shape: BlockShape, x: usize, y: usize) -> bool
-        requires same { shape ≡ self.now.shape }
-        requires inside { is_inside self.now.shape x y ≡ true }
-        ensures { result ≡ negative_in self.now x y }
-    {
-        let at = word_place(shape, x / 8 + 1, y / 4 + 1);
-        let words = &self.negative;
-        words[at] >> (8 * (x % 8) + (y % 4 + 1)) & 1 == 1
-    }
-}
-
-/// The place at bit k of a word, counted row by row.
-#[inline(always)]
-fn place_of(shape: BlockShape, spot: Spot, k: u32) -> usize
-    requires sized { IsSized shape }
-    requires place { IsPlace shape spot k }
-    ensures value { result ≡ row spot.stripe k * shape.width + column spot.word k }
-    ensures small { result < 4096 }
-{
-    let x = 8 * spot.word + k as usize / 8;
-    let y = 4 * spot.stripe + k as usize % 8 - 1;
-    y * shape.width + x
 }

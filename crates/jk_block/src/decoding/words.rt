@@ -1,7 +1,10 @@
 //! A word of 32 places in each pass: loops over the places that the pass codes, from the lowest bit
-//! on. Between two of them nothing happens.
+//! on. Between two of them nothing happens. What the places of the word become stands in locals,
+//! and is put back into the sketch behind the last.
 
-ghost use Rattle.std.specs.Prelude.{◌≡◌, ℕ, Bool, true, not, nat_eq, nat_lt, ◌&&◌, ◌+◌, ◌*◌, ◌/◌, ◌%◌, ◌<◌};
+ghost use Rattle.std.specs.Prelude.{◌≡◌, ℕ, Bool, true, not, nat_eq, nat_lt, ◌&&◌, ◌+◌, ◌*◌, ◌/◌, ◌%◌, ◌^◌, ◌<◌};
+ghost use Rattle.std.specs.Prelude.{bit_and};
+ghost use Rattle.std.specs.Int.{bit_not, w64};
 ghost use Rattle.jk_scan.specs.Bits.{on};
 ghost use Rattle.jk_scan.specs.Neighbours.{Field, is_inside};
 ghost use Rattle.jk_scan.specs.Words.{of_rows, bordered, Shows};
@@ -10,9 +13,10 @@ ghost use Rattle.jk_scan.specs.Surroundings.{IsAround};
 ghost use Rattle.jk_scan.specs.Flags.{IsSized, flag_at};
 ghost use Rattle.jk_block.specs.Reading.{is_quiet};
 ghost use Rattle.jk_block.specs.Steps.{IsSpot, word_pass};
-ghost use Rattle.jk_block.specs.decoding.Sketches.{Takes, IsFresh, lit_in, visited_in};
+ghost use Rattle.jk_block.specs.decoding.Sketches.{Takes, IsFresh, draft_of, lit_in};
 
-use super::places::{read_cleaned, read_propagated, read_refined, read_run};
+use super::places::{read_new, read_refined, read_run};
+use super::sight::{Sight, digit};
 use super::sketch::Sketch;
 use crate::spot::Spot;
 use jk_math::Fault;
@@ -22,6 +26,16 @@ use jk_scan::{
     seen_around, touched_places, word_place,
 };
 
+/// The later places of a word that the place at bit k touches and that aren't significant.
+#[inline(always)]
+fn later_touched(significant: u64, limits: u64, k: u32) -> u64
+    requires { k < 64 }
+    ensures is { result ≡ bit_and (bit_and (0x382 * 2 ^ k % 2 ^ 64) limits) (bit_not w64 significant) }
+    ensures fits { significant < 2 ^ 64 }
+{
+    0x382 << k & limits & !significant
+}
+
 /// Reads a word in the significance propagation pass (T.800 D.3.1). A place that becomes
 /// significant takes in the later ones of its word that it touches.
 pub fn read_propagation(
@@ -29,34 +43,49 @@ pub fn read_propagation(
     decoder: &mut PassDecoder,
     spot: Spot,
 ) -> Result<(), Fault>
-    requires { IsSpot sketch.old.shape spot }
+    requires spot { IsSpot sketch.old.shape spot }
+    requires plane { spot.plane < sketch.old.planes }
     ensures shape { sketch.new.shape ≡ sketch.old.shape }
+    ensures planes { sketch.new.planes ≡ sketch.old.planes }
     ensures bytes { decoder.new.bytes ≡ decoder.old.bytes }
     ensures takes { Takes (word_pass decoder.old.bytes sketch.old.shape spot.plane 0 spot.word spot.stripe)
-        sketch.old sketch.new decoder.old decoder.new result }
+        (draft_of sketch.old) (draft_of sketch.new) decoder.old decoder.new result }
 {
     let shape = sketch.shape;
     let limits = inside(shape, spot.word, spot.stripe);
-    let mut seen = seen_around(&sketch.significant, shape, spot.word, spot.stripe);
-    let mut candidates = members(seen, limits);
+    let significant = seen_around(&sketch.significant, shape, spot.word, spot.stripe);
+    let mut candidates = members(significant, limits);
+    if candidates == 0 {
+        return Ok(());
+    }
+    let negative = seen_around(&sketch.negative, shape, spot.word, spot.stripe);
+    let mut sight = Sight {
+        significant,
+        negative,
+    };
+    let mut visited = candidates;
     while candidates != 0 {
         let k = candidates.trailing_zeros();
         candidates &= candidates - 1;
-        let bit = read_propagated(sketch, decoder, shape, spot, k, seen)?;
+        let bit = read_new(&mut sight, decoder, shape.orientation, k)?;
         if bit {
-            seen.centre |= 1 << k;
-            candidates |= 0x382 << k & limits & !seen.centre;
+            let reached = later_touched(sight.significant.centre, limits, k);
+            candidates |= reached;
+            visited |= reached;
         }
     }
+    sketch.visit_all(spot, visited);
+    sketch.light_all(spot, limits, sight);
     Ok(())
 }
 
 /// The places of a word that were significant before this plane.
+#[inline(always)]
 fn older(sketch: &Sketch, spot: Spot) -> u64
     requires { IsSpot sketch.now.shape spot }
     ensures { (m : ℕ) → m < 64 → on result m ≡ (of_rows (m % 8)
-        && (lit_in sketch.now (column spot.word m) (row spot.stripe m)
-        && not (visited_in sketch.now (column spot.word m) (row spot.stripe m)))) }
+        && (lit_in (draft_of sketch.now) (column spot.word m) (row spot.stripe m)
+        && not ((draft_of sketch.now).visited (column spot.word m) (row spot.stripe m)))) }
 {
     let place = word_place(sketch.shape, spot.word + 1, spot.stripe + 1);
     let significant = &sketch.significant;
@@ -83,35 +112,45 @@ pub fn read_refinement(
     spot: Spot,
 ) -> Result<(), Fault>
     requires spot { IsSpot sketch.old.shape spot }
-    requires fresh { IsFresh spot.plane refined.now sketch.old }
+    requires plane { spot.plane < sketch.old.planes }
+    requires fresh { IsFresh spot.plane refined.now (draft_of sketch.old) }
     ensures shape { sketch.new.shape ≡ sketch.old.shape }
+    ensures planes { sketch.new.planes ≡ sketch.old.planes }
     ensures bytes { decoder.new.bytes ≡ decoder.old.bytes }
-    ensures fresh { IsFresh spot.plane refined.now sketch.new }
+    ensures fresh { IsFresh spot.plane refined.now (draft_of sketch.new) }
     ensures takes { Takes (word_pass decoder.old.bytes sketch.old.shape spot.plane 1 spot.word spot.stripe)
-        sketch.old sketch.new decoder.old decoder.new result }
+        (draft_of sketch.old) (draft_of sketch.new) decoder.old decoder.new result }
 {
     let shape = sketch.shape;
-    let seen = seen_around(&sketch.significant, shape, spot.word, spot.stripe);
-    let touched = touched_places(seen);
+    let places = older(sketch, spot);
+    if places == 0 {
+        return Ok(());
+    }
+    let significant = seen_around(&sketch.significant, shape, spot.word, spot.stripe);
+    let touched = touched_places(significant);
     let again = refined_places(refined, shape, spot);
-    let mut candidates = older(sketch, spot);
+    let mut candidates = places;
+    let mut ones = 0;
     while candidates != 0 {
         let k = candidates.trailing_zeros();
         candidates &= candidates - 1;
         let context = refine_context(again >> k & 1 == 1, touched >> k & 1 == 1);
-        read_refined(sketch, decoder, shape, spot, k, context)?;
+        let bit = read_refined(decoder, context)?;
+        ones |= digit(bit) << k;
     }
+    sketch.refine_all(spot, places, ones);
     Ok(())
 }
 
 /// The places of a word that no pass has coded yet.
+#[inline(always)]
 fn uncoded(sketch: &Sketch, spot: Spot, limits: u64) -> u64
     requires spot { IsSpot sketch.now.shape spot }
     requires limits { Shows of_rows (bordered (is_inside sketch.now.shape)) (spot.word + 1) (spot.stripe + 1) limits }
     ensures { (m : ℕ) → m < 64
         → on result m ≡ (of_rows (m % 8) && (is_inside sketch.now.shape (column spot.word m) (row spot.stripe m)
-        && (not (lit_in sketch.now (column spot.word m) (row spot.stripe m))
-        && not (visited_in sketch.now (column spot.word m) (row spot.stripe m))))) }
+        && (not (lit_in (draft_of sketch.now) (column spot.word m) (row spot.stripe m))
+        && not ((draft_of sketch.now).visited (column spot.word m) (row spot.stripe m))))) }
 {
     let place = word_place(sketch.shape, spot.word + 1, spot.stripe + 1);
     let significant = &sketch.significant;
@@ -140,35 +179,44 @@ fn still_columns(shape: BlockShape, spot: Spot, seen: Around, limits: u64) -> u6
 /// Reads a word in the cleanup pass (T.800 D.3.4): the places that are left, and columns in run
 /// mode.
 pub fn read_cleanup(sketch: &mut Sketch, decoder: &mut PassDecoder, spot: Spot) -> Result<(), Fault>
-    requires { IsSpot sketch.old.shape spot }
+    requires spot { IsSpot sketch.old.shape spot }
+    requires plane { spot.plane < sketch.old.planes }
     ensures shape { sketch.new.shape ≡ sketch.old.shape }
+    ensures planes { sketch.new.planes ≡ sketch.old.planes }
     ensures bytes { decoder.new.bytes ≡ decoder.old.bytes }
     ensures takes { Takes (word_pass decoder.old.bytes sketch.old.shape spot.plane 2 spot.word spot.stripe)
-        sketch.old sketch.new decoder.old decoder.new result }
+        (draft_of sketch.old) (draft_of sketch.new) decoder.old decoder.new result }
 {
     let shape = sketch.shape;
     let limits = inside(shape, spot.word, spot.stripe);
-    let mut seen = seen_around(&sketch.significant, shape, spot.word, spot.stripe);
+    let significant = seen_around(&sketch.significant, shape, spot.word, spot.stripe);
     let mut left = uncoded(sketch, spot, limits);
-    let mut still = still_columns(shape, spot, seen, limits);
+    let mut still = still_columns(shape, spot, significant, limits);
+    if left | still == 0 {
+        return Ok(());
+    }
+    let negative = seen_around(&sketch.negative, shape, spot.word, spot.stripe);
+    let mut sight = Sight {
+        significant,
+        negative,
+    };
     'places: while left | still != 0 {
         let k = (left | still).trailing_zeros();
         if still >> k & 1 == 1 {
-            let row = read_run(sketch, decoder, shape, spot, k, seen)?;
+            let row = read_run(&mut sight, decoder, k)?;
             left &= 0xFFFF_FFFF_FFFF_FFFE << (k + row);
             still &= still - 1;
             if row < 4 {
-                seen.centre |= 1 << (k + row);
                 still = quiet_behind(still, k + row);
             }
         } else {
-            let bit = read_cleaned(sketch, decoder, shape, spot, k, seen)?;
+            let bit = read_new(&mut sight, decoder, shape.orientation, k)?;
             left &= left - 1;
             if bit {
-                seen.centre |= 1 << k;
                 still = quiet_behind(still, k);
             }
         }
     }
+    sketch.light_all(spot, limits, sight);
     Ok(())
 }

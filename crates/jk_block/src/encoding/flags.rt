@@ -21,7 +21,7 @@ pub struct Flags {
 
 impl Flags {
     ghost use Rattle.std.specs.Prelude.{Bool};
-    ghost use Rattle.jk_block.specs.encoding.Viewed.{with_word};
+    ghost use Rattle.jk_block.specs.Fields.{with_word};
 
     /// No place is significant.
     pub fn new() -> Flags

@@ -3,18 +3,18 @@
 ghost use Rattle.std.specs.Prelude.{◌≡◌, ◌<◌, ◌≤◌, ◌-◌, ◌*◌, ◌^◌, length, map, IfOk, All};
 ghost use Rattle.jk_math.specs.Answer.{Answers};
 ghost use Rattle.jk_math.specs.Signed.{IsBelow};
-ghost use Rattle.jk_tile.specs.TileReading.{bodies_values};
-ghost use Rattle.jk_tile.specs.Gathered.{body_of, IsInside};
-ghost use Rattle.jk_tile.specs.Source.{IsBlockShape};
+ghost use Rattle.jk_tile.specs.decoding.TileReading.{bodies_values};
+ghost use Rattle.jk_tile.specs.decoding.Gathered.{body_of, IsInside};
+ghost use Rattle.jk_tile.specs.TileBlocks.{IsBlockShape};
 
 use crate::decoding::bodies::{BodyPlace, join, passes, zero_planes};
 use jk_block::{Block, BlockShape, decode};
 use jk_math::Fault;
 use std::alloc::Global;
 
-/// The code-block of this shape, in a sub-band of so many bit-planes, from its bodies in the codestream. The segment of
-/// several bodies is joined in `segment`.
-#[tactic(auto, unfolding(crate::specs::TileReading::bodies_values))]
+/// The code-block of this shape, in a sub-band of so many bit-planes, from its bodies in the
+/// codestream. The segment of several bodies is joined in `segment`.
+#[tactic(auto, unfolding(crate::specs::decoding::TileReading::bodies_values))]
 pub(crate) fn read_block(
     alloc: Global,
     bytes: &[u8],
@@ -26,7 +26,8 @@ pub(crate) fn read_block(
     requires shape { IsBlockShape shape }
     requires planes { planes ≤ 23 }
     requires inside { All (IsInside (length bytes.now)) bodies.now }
-    ensures exact { Answers (λ b. b.values.items) result (bodies_values shape planes (map (body_of bytes.now) bodies.now)) }
+    ensures exact { Answers (λ b. b.values.items) result
+        (bodies_values shape planes (map (body_of bytes.now) bodies.now)) }
     ensures small { IfOk result (λ b. All (IsBelow (2 ^ 23)) b.values.items) }
     ensures long { IfOk result (λ b. length b.values.items ≡ shape.height * shape.width) }
 {

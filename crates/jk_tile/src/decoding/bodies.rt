@@ -1,22 +1,24 @@
 //! What packets have of each code-block.
 
-ghost use Rattle.std.specs.Prelude.{◌≡◌, ℕ, ◌+◌, ◌<◌, ◌≤◌, ◌&&◌, ◌==◌, nat_eq, nat_lt, if◌then◌else◌, ◌++◌, List, [], ◌∷◌, length, map, min, ◌-◌, ◌^◌, IfOk, IfErr, OnOk, All};
+ghost use Rattle.std.specs.Prelude.{◌≡◌, ℕ, ◌+◌, ◌<◌, ◌≤◌, ◌&&◌, ◌==◌, nat_eq, nat_lt, if◌then◌else◌, ◌++◌, List, []};
+ghost use Rattle.std.specs.Prelude.{◌∷◌, length, map, min, ◌-◌, ◌^◌, IfOk, IfErr, OnOk, All};
 ghost use Rattle.std.specs.List.{AllByRecursion};
 ghost use Rattle.jk_math.specs.Memory.{IsMemory};
 ghost use Rattle.jk_walk.specs.WalkReading.{place_end, bodies_at};
 ghost use Rattle.jk_walk.specs.TilePackets.{Body};
 ghost use Rattle.jk_tile.specs.TileBlocks.{passes_in, zeros_in, segment_of};
-ghost use Rattle.jk_tile.specs.Gathered.{list_at, place_in, body_of, bodies_in, IsInside, AreByBlock};
+ghost use Rattle.jk_tile.specs.decoding.Gathered.{place_in, body_of, bodies_in, IsInside, AreByBlock};
+ghost use Rattle.jk_math.specs.Lists.{list_at};
 
 use jk_math::Fault;
-use jk_packet::Part;
+use jk_packet::BlockContribution;
 use jk_walk::PacketPlace;
 use std::alloc::Global;
 
 /// What a packet has of a code-block, and where its bytes begin in the codestream.
 #[derive(Clone, Copy, Debug, Drop)]
 pub(crate) struct BodyPlace {
-    pub(crate) part: Part,
+    pub(crate) part: BlockContribution,
     pub(crate) start: usize,
 }
 
@@ -46,7 +48,7 @@ fn add_body(lists: &mut Vec<Vec<BodyPlace>>, index: usize, body: BodyPlace) -> R
 }
 
 /// Whether a part is of one of so many code-blocks of a sub-band.
-fn is_of_band(part: Part, band: u8, blocks: usize) -> bool
+fn is_of_band(part: BlockContribution, band: u8, blocks: usize) -> bool
     ensures { result ≡ ((part.band == band) && nat_lt part.block blocks) }
 {
     part.band == band && (part.block as usize) < blocks
@@ -61,8 +63,11 @@ fn add_bodies(
 ) -> Result<(), Fault>
     requires end { place_end packet.now < 2 ^ 64 }
     requires long { length lists.old.items ≡ blocks }
-    ensures lists { OnOk result ((size : ℕ) (before : List ℕ → List Body) → place_end packet.now ≤ size → AreByBlock size band blocks before lists.old.items
-        → AreByBlock size band blocks (λ bytes. before bytes ++ bodies_at bytes packet.now.body packet.now.parts) lists.new.items) }
+    ensures lists { OnOk result
+        ((size : ℕ) (before : List ℕ → List Body) → place_end packet.now ≤ size
+        → AreByBlock size band blocks before lists.old.items
+        → AreByBlock size band blocks
+        (λ bytes. before bytes ++ bodies_at bytes packet.now.body packet.now.parts) lists.new.items) }
     ensures long { OnOk result (length lists.new.items ≡ blocks) }
     ensures memory { IfErr result IsMemory }
 {
@@ -79,7 +84,8 @@ fn add_bodies(
     Ok(())
 }
 
-/// What these packets have of each of so many code-blocks of a sub-band, in the order of the packets.
+/// What these packets have of each of so many code-blocks of a sub-band, in the order of the
+/// packets.
 pub(crate) fn bodies_by_block(
     alloc: Global,
     packets: &[PacketPlace],
@@ -89,7 +95,9 @@ pub(crate) fn bodies_by_block(
 ) -> Result<Vec<Vec<BodyPlace>>, Fault>
     requires ends { AllByRecursion (λ w. place_end w < 2 ^ 64) packets.now }
     requires numbers { All (λ i. i < length packets.now) numbers.now }
-    ensures lists { IfOk result (λ v. (size : ℕ) → AllByRecursion (λ w. place_end w ≤ size) packets.now → AreByBlock size band blocks (λ bytes. bodies_in bytes (map (place_in packets.now) numbers.now)) v.items) }
+    ensures lists { IfOk result
+        (λ v. (size : ℕ) → AllByRecursion (λ w. place_end w ≤ size) packets.now
+        → AreByBlock size band blocks (λ bytes. bodies_in bytes (map (place_in packets.now) numbers.now)) v.items) }
     ensures memory { IfErr result IsMemory }
 {
     let mut lists = empty_bodies(alloc, blocks)?;

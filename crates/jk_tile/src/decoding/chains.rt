@@ -1,8 +1,9 @@
 //! The packets of each precinct of a resolution, as chains through all packets of a tile.
 
-ghost use Rattle.std.specs.Prelude.{◌≡◌, ℕ, ◌+◌, ◌<◌, ◌≤◌, not, ◌&&◌, ◌==◌, ◌^◌, nat_lt, List, length, slice_index, slice_set, IfOk, IfErr, OnOk};
+ghost use Rattle.std.specs.Prelude.{◌≡◌, ℕ, ◌+◌, ◌<◌, ◌≤◌, not, ◌&&◌, ◌==◌, ◌^◌, nat_lt, List, length, slice_index};
+ghost use Rattle.std.specs.Prelude.{slice_set, IfOk, IfErr, OnOk};
 ghost use Rattle.jk_math.specs.Memory.{IsMemory};
-ghost use Rattle.jk_tile.specs.Gathered.{IsChain, AreByPrecinct};
+ghost use Rattle.jk_tile.specs.decoding.Gathered.{IsChain, AreByPrecinct};
 
 use jk_geom::PacketName;
 use jk_math::Fault;

@@ -3,7 +3,7 @@
 ghost use Rattle.std.specs.Prelude.{◌≡◌, ℕ, ◌<◌, ◌≤◌, ◌^◌, length, All};
 ghost use Rattle.jk_math.specs.Signed.{IsBelow, signed_at};
 ghost use Rattle.jk_rct.specs.Colour.{i0_of, i1_of, i2_of};
-ghost use Rattle.jk_tile.specs.Gathered.{list_at};
+ghost use Rattle.jk_math.specs.Lists.{list_at};
 
 use jk_rct::inverse;
 use std::alloc::Global;
@@ -18,11 +18,14 @@ pub(crate) fn uncolour(alloc: Global, values: &mut Vec<Vec<i32>>)
     ensures count { length values.new.items ≡ length values.old.items }
     ensures long { (c : ℕ) → length (list_at values.new.items c) ≡ length (list_at values.old.items c) }
     ensures i0 { (k : ℕ) → k < length (list_at values.old.items 0) → signed_at (list_at values.new.items 0) k
-        ≡ i0_of (signed_at (list_at values.old.items 0) k) (signed_at (list_at values.old.items 1) k) (signed_at (list_at values.old.items 2) k) }
+        ≡ i0_of (signed_at (list_at values.old.items 0) k) (signed_at (list_at values.old.items 1) k)
+        (signed_at (list_at values.old.items 2) k) }
     ensures i1 { (k : ℕ) → k < length (list_at values.old.items 0) → signed_at (list_at values.new.items 1) k
-        ≡ i1_of (signed_at (list_at values.old.items 0) k) (signed_at (list_at values.old.items 1) k) (signed_at (list_at values.old.items 2) k) }
+        ≡ i1_of (signed_at (list_at values.old.items 0) k) (signed_at (list_at values.old.items 1) k)
+        (signed_at (list_at values.old.items 2) k) }
     ensures i2 { (k : ℕ) → k < length (list_at values.old.items 0) → signed_at (list_at values.new.items 2) k
-        ≡ i2_of (signed_at (list_at values.old.items 0) k) (signed_at (list_at values.old.items 1) k) (signed_at (list_at values.old.items 2) k) }
+        ≡ i2_of (signed_at (list_at values.old.items 0) k) (signed_at (list_at values.old.items 1) k)
+        (signed_at (list_at values.old.items 2) k) }
     ensures others { (c : ℕ) → 3 ≤ c → list_at values.new.items c ≡ list_at values.old.items c }
 {
     let mut first = mem::replace(&mut values[0], Vec::new(alloc));

@@ -6,8 +6,8 @@ ghost use Rattle.jk_math.specs.Raster.{raster};
 ghost use Rattle.jk_math.specs.Signed.{IsBelow};
 ghost use Rattle.jk_geom.specs.Rectangles.{resolution_area};
 ghost use Rattle.jk_tile.specs.TileMeaning.{values_of};
-ghost use Rattle.jk_tile.specs.TileReading.{component_tested};
-ghost use Rattle.jk_tile.specs.Source.{IsSource, source_bodies, source_coefficient};
+ghost use Rattle.jk_tile.specs.decoding.TileReading.{component_tested};
+ghost use Rattle.jk_tile.specs.decoding.Source.{IsSource, source_bodies, source_coefficient};
 
 use jk_marks::Coding;
 use jk_math::Rect;
@@ -27,13 +27,27 @@ pub(crate) struct CodedComponent<'a> {
 }
 
 impl<'a> Model for CodedComponent<'a> {
-    ghost use Rattle.jk_tile.specs.Source.{Source, IsSource};
+    ghost use Rattle.jk_tile.specs.decoding.Source.{Source, IsSource};
 
     ghost Value = { Source };
 
-    ghost view = { λ c. record { bytes = c.bytes.now; region = c.region; coding = c.coding.now; packets = c.packets.now; component = c.number } };
+    ghost view = { λ c.
+        record {
+          bytes = c.bytes.now;
+          region = c.region;
+          coding = c.coding.now;
+          packets = c.packets.now;
+          component = c.number;
+        } };
 
-    ghost invariant = { λ c. IsSource (record { bytes = c.bytes.now; region = c.region; coding = c.coding.now; packets = c.packets.now; component = c.number }) };
+    ghost invariant = { λ c. IsSource
+        (record {
+          bytes = c.bytes.now;
+          region = c.region;
+          coding = c.coding.now;
+          packets = c.packets.now;
+          component = c.number;
+        }) };
 }
 
 impl<'a> CodedComponent<'a> {
@@ -45,8 +59,22 @@ impl<'a> CodedComponent<'a> {
         packets: &'a [PacketPlace],
         number: u8,
     ) -> CodedComponent<'a>
-        requires { IsSource (record { bytes = bytes.now; region = region; coding = coding.now; packets = packets.now; component = number }) }
-        ensures { result ≡ record { bytes = bytes.now; region = region; coding = coding.now; packets = packets.now; component = number } }
+        requires { IsSource
+            (record {
+              bytes = bytes.now;
+              region = region;
+              coding = coding.now;
+              packets = packets.now;
+              component = number;
+            }) }
+        ensures { result
+            ≡ record {
+              bytes = bytes.now;
+              region = region;
+              coding = coding.now;
+              packets = packets.now;
+              component = number;
+            } }
     {
         CodedComponent {
             bytes,

@@ -1,7 +1,8 @@
 //! A tile from its packets. A `tile` goes component by component, and a `component` resolution by
-//! resolution (`reading`): `chains` tell the packets of each precinct, `bodies` what these have of each
-//! code-block, a `block` gives coefficients, and `filling` puts them at their places in the sub-bands.
-//! The wavelet makes values of the sub-bands, `colour` and the level shift make samples of these.
+//! resolution (`reading`): `chains` tell the packets of each precinct, `bodies` what these have of
+//! each code-block, a `block` gives coefficients, and `filling` puts them at their places in the
+//! sub-bands. The wavelet makes values of the sub-bands, `colour` and the level shift make samples
+//! of these.
 
 mod block;
 mod bodies;

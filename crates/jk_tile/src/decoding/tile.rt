@@ -1,72 +1,49 @@
 //! A tile from its packets.
 
-ghost use Rattle.std.specs.Prelude.{◌≡◌, ℕ, ◌<◌, ◌≤◌, ◌+◌, ◌-◌, ◌*◌, ◌++◌, ◌^◌, length, map, All, IfOk, IfErr, OnOk, Ok};
+ghost use Rattle.std.specs.Prelude.{◌≡◌, ℕ, ◌<◌, ◌≤◌, ◌+◌, ◌-◌, ◌*◌, ◌++◌, ◌^◌, length, map, All, IfOk, IfErr, OnOk};
+ghost use Rattle.std.specs.Prelude.{Ok};
 ghost use Rattle.std.specs.List.{AllByRecursion};
 ghost use Rattle.jk_math.specs.Answer.{Answers};
 ghost use Rattle.jk_math.specs.Memory.{IsMemory};
-ghost use Rattle.jk_math.specs.Picture.{lists_of};
+ghost use Rattle.jk_math.specs.Lists.{lists_of, list_at};
 ghost use Rattle.jk_math.specs.Signed.{IsBelow};
 ghost use Rattle.jk_marks.specs.Siz.{tile_count};
 ghost use Rattle.jk_params.specs.Headers.{AreHeaders, tile_in};
 ghost use Rattle.jk_walk.specs.WalkReading.{place_end};
 ghost use Rattle.jk_tile.specs.Filling.{IsPartOf};
 ghost use Rattle.jk_tile.specs.TileMeaning.{shown_area};
-ghost use Rattle.jk_tile.specs.TileReading.{part_values_at, part_planes_at, tile_planes_at};
-ghost use Rattle.jk_tile.specs.Gathered.{list_at};
-ghost use Rattle.jk_tile.specs.Source.{bands_at, source_values};
+ghost use Rattle.jk_tile.specs.decoding.TileReading.{part_values_at, part_planes_at, tile_planes_at};
+ghost use Rattle.jk_tile.specs.decoding.Source.{source_values};
 
 use crate::decoding::colour::uncolour;
 use crate::decoding::component::CodedComponent;
 use crate::decoding::reading::read_resolution;
 use crate::samples::all_to_samples;
 use jk_geom::{resolution, tile};
-use jk_math::{Fault, Planes, Rect};
+use jk_math::{Fault, Rect};
 use jk_params::Codestream;
 use jk_walk::{PacketPlace, TilePackets};
-use jk_wave::{BandParts, Region, synthesise_part};
+use jk_wave::Region;
 use std::alloc::Global;
 
-/// Puts the sub-bands of a resolution behind those of the lower ones.
-fn add_bands(bands: &mut Vec<Vec<i32>>, more: Vec<Vec<i32>>) -> Result<(), Fault>
-    ensures bands { OnOk result (bands.new.items ≡ bands.old.items ++ more.items) }
-    ensures memory { IfErr result IsMemory }
-{
-    let mut more = more;
-    bands.append(&mut more)?;
-    Ok(())
-}
-
-/// The parts of all sub-bands, each a list of coefficients row by row.
-#[tactic(auto, unfolding(crate::specs::Source::bands_at))]
-fn read_bands(alloc: Global, source: &CodedComponent<'_>) -> Result<Vec<Vec<i32>>, Fault>
-    ensures exact { Answers (λ v. lists_of v.items) result (bands_at source.now) }
-    ensures small { IfOk result (λ v. (b : ℕ) → All (IsBelow (2 ^ 23)) (list_at v.items b)) }
-{
-    let region = source.region();
-    let mut segment = Vec::new(alloc);
-    let mut bands = Vec::new(alloc);
-    for r in 0..region.top + 1 {
-        let planes = read_resolution(alloc, source, r, &mut segment)?;
-        add_bands(&mut bands, planes)?;
-    }
-    Ok(bands)
-}
-
-/// A part of a component of a tile, row by row.
+/// A part of a component of a tile, row by row: resolution upon resolution.
+#[tactic(auto, unfolding(crate::specs::decoding::Source::source_values))]
 pub(crate) fn read_component(alloc: Global, source: &CodedComponent<'_>) -> Result<Vec<i32>, Fault>
     ensures exact { Answers (λ v. v.items) result (source_values source.now) }
     ensures small { IfOk result (λ v. All (IsBelow (2 ^ 29)) v.items) }
 {
-    let parts = BandParts {
-        region: source.region(),
-        bands: Planes::new(read_bands(alloc, source)?),
-    };
-    synthesise_part(alloc, &parts)
+    let top = source.region().top;
+    let mut segment = Vec::new(alloc);
+    let mut values = Vec::new(alloc);
+    for r in 0..top + 1 {
+        values = read_resolution(alloc, source, r, values, &mut segment)?;
+    }
+    Ok(values)
 }
 
 /// The values of all components of a part of a tile, `reduce` resolutions below their highest, each
 /// row by row.
-#[tactic(auto, unfolding(crate::specs::TileReading::part_values_at))]
+#[tactic(auto, unfolding(crate::specs::decoding::TileReading::part_values_at))]
 fn read_components(
     alloc: Global,
     headers: &Codestream,
@@ -82,7 +59,8 @@ fn read_components(
     requires few { length packets.now ≤ 2 ^ 24 }
     requires levels { AllByRecursion (λ k. reduce ≤ k.levels) (tile_in headers.now.tiles number).codings }
     requires inside { IsPartOf area.now (shown_area headers.now.siz number reduce) }
-    ensures exact { Answers (λ v. lists_of v.items) result (part_values_at bytes.now headers.now number reduce area.now packets.now) }
+    ensures exact { Answers (λ v. lists_of v.items) result
+        (part_values_at bytes.now headers.now number reduce area.now packets.now) }
     ensures small { IfOk result (λ v. (c : ℕ) → All (IsBelow (2 ^ 29)) (list_at v.items c)) }
 {
     let rect = tile(headers.siz(), number as u32);
@@ -108,7 +86,7 @@ fn read_components(
 ///
 /// The faults of [`decode_tile`], of those code-blocks alone that have a coefficient on which a
 /// sample of the part depends. Others are not decoded.
-#[tactic(auto, unfolding(crate::specs::TileReading::part_planes_at))]
+#[tactic(auto, unfolding(crate::specs::decoding::TileReading::part_planes_at))]
 pub fn decode_part(
     alloc: Global,
     headers: &Codestream,
@@ -123,7 +101,8 @@ pub fn decode_part(
     requires packets { AllByRecursion (λ w. place_end w ≤ length bytes.now) packets.now }
     requires levels { AllByRecursion (λ k. reduce ≤ k.levels) (tile_in headers.now.tiles number).codings }
     requires inside { IsPartOf area.now (shown_area headers.now.siz number reduce) }
-    ensures exact { Answers (λ v. lists_of v.items) result (part_planes_at bytes.now headers.now number reduce area.now packets.now) }
+    ensures exact { Answers (λ v. lists_of v.items) result
+        (part_planes_at bytes.now headers.now number reduce area.now packets.now) }
 {
     let packets = packets.as_slice();
     let mut values = read_components(alloc, headers, bytes, number, packets, reduce, area)?;
@@ -152,7 +131,8 @@ pub fn decode_tile(
     requires number { number < tile_count headers.now.siz }
     requires packets { AllByRecursion (λ w. place_end w ≤ length bytes.now) packets.now }
     requires levels { AllByRecursion (λ k. reduce ≤ k.levels) (tile_in headers.now.tiles number).codings }
-    ensures exact { Answers (λ v. lists_of v.items) result (tile_planes_at bytes.now headers.now number reduce packets.now) }
+    ensures exact { Answers (λ v. lists_of v.items) result
+        (tile_planes_at bytes.now headers.now number reduce packets.now) }
 {
     let rect = tile(headers.siz(), number as u32);
     let area = resolution(&rect, reduce, 0);

@@ -1,6 +1,7 @@
-//! A tile into its packets. `values` of its samples, with the level shift and the colour transform, go
-//! through the wavelet into `subbands`, and `needs` are the exponents that make room for these. `writing`
-//! codes the code-blocks, cut into layers by `tables`; `precincts` and `packets` give them their order.
+//! A tile into its packets. `values` of its samples, with the level shift and the colour transform,
+//! go through the wavelet into `subbands`, and `needs` are the exponents that make room for these.
+//! `writing` codes the code-blocks, cut into layers by `tables`; `precincts` and `packets` give
+//! them their order.
 
 mod cutting;
 mod needs;

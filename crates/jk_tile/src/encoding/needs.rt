@@ -1,6 +1,7 @@
 //! The exponents that the sub-bands of an image need (T.800 E.1).
 
-ghost use Rattle.std.specs.Prelude.{◌≡◌, ℕ, ◌+◌, ◌*◌, ◌<◌, ◌≤◌, ◌^◌, [], length, max, All, IfOk, IfErr, OnOk, slice_index, slice_index_or, unsigned_abs};
+ghost use Rattle.std.specs.Prelude.{◌≡◌, ℕ, ◌+◌, ◌*◌, ◌<◌, ◌≤◌, ◌^◌, [], length, max, All, IfOk, IfErr, OnOk};
+ghost use Rattle.std.specs.Prelude.{slice_index, slice_index_or, unsigned_abs};
 ghost use Rattle.jk_math.specs.Memory.{IsMemory};
 ghost use Rattle.jk_math.specs.Picture.{IsPicture};
 ghost use Rattle.jk_marks.specs.Siz.{tile_count};
@@ -8,7 +9,7 @@ ghost use Rattle.jk_params.specs.Coding.{band_count};
 ghost use Rattle.jk_params.specs.Profile.{siz_of, IsWrittenBy};
 ghost use Rattle.jk_math.specs.BitLength.{bit_length};
 ghost use Rattle.jk_block.specs.BlockWritten.{greatest};
-ghost use Rattle.jk_tile.specs.Needs.{most, tile_need, need, gain, exponents_for, written_bands};
+ghost use Rattle.jk_tile.specs.encoding.Needs.{most, tile_need, need, gain, exponents_for, written_bands};
 
 use crate::encoding::subbands::tile_bands;
 use jk_block::top_bits;
@@ -56,14 +57,16 @@ fn raise_by_tile(
     Ok(bands)
 }
 
-/// How many bits the greatest magnitude of each sub-band has, and the sub-bands of the first tile, with which the walk ends.
+/// How many bits the greatest magnitude of each sub-band has, and the sub-bands of the first tile,
+/// with which the walk ends.
 fn all_needs(
     alloc: Global,
     image: &Image,
     parameters: &Parameters,
 ) -> Result<([u8; 16], Vec<Planes>), Fault>
     requires written { IsWrittenBy parameters.now image.now }
-    ensures needs { IfOk result (λ v. (b : ℕ) → b < band_count parameters.now.levels → slice_index v.0 b ≡ need image.now parameters.now b) }
+    ensures needs { IfOk result
+        (λ v. (b : ℕ) → b < band_count parameters.now.levels → slice_index v.0 b ≡ need image.now parameters.now b) }
     ensures first { IfOk result (λ v. v.1.items ≡ written_bands image.now parameters.now 0) }
     ensures memory { IfErr result IsMemory }
 {
@@ -90,11 +93,12 @@ fn gain(band: usize) -> u8
     }
 }
 
-/// The exponents of the sub-bands of an image, in the order of QCD, where there are two guard bits: the depth and the
-/// gain of the sub-band, or more where a coefficient needs it (T.800 E.1).
+/// The exponents of the sub-bands of an image, in the order of QCD, where there are two guard bits:
+/// the depth and the gain of the sub-band, or more where a coefficient needs it (T.800 E.1).
 ///
-/// It walks all tiles through the component and wavelet transforms, one after another and the first one last, whose
-/// sub-bands it gives as well, so that the transforms of the tile that is written first aren't made again.
+/// It walks all tiles through the component and wavelet transforms, one after another and the first
+/// one last, whose sub-bands it gives as well, so that the transforms of the tile that is written
+/// first aren't made again.
 pub fn exponents(
     alloc: Global,
     image: &Image,

@@ -1,6 +1,7 @@
 //! The packets of a tile that is written, in their order (T.800 B.12).
 
-ghost use Rattle.std.specs.Prelude.{◌≡◌, ◌≢◌, ℕ, ◌+◌, ◌*◌, ◌^◌, ◌<◌, ◌≤◌, ◌++◌, length, replicate, None, slice_index, IfOk, IfErr, OnOk, MatchResult};
+ghost use Rattle.std.specs.Prelude.{◌≡◌, ◌≢◌, ℕ, ◌+◌, ◌*◌, ◌^◌, ◌<◌, ◌≤◌, ◌++◌, length, replicate, None, slice_index};
+ghost use Rattle.std.specs.Prelude.{IfOk, IfErr, OnOk, MatchResult};
 ghost use Rattle.jk_math.specs.Memory.{IsMemory};
 ghost use Rattle.jk_marks.specs.Coding.{IsCoding};
 ghost use Rattle.jk_geom.specs.Rectangles.{IsArea};
@@ -10,19 +11,22 @@ ghost use Rattle.jk_geom.specs.TileShapes.{IsTileShape};
 ghost use Rattle.jk_order.specs.PacketOrder.{IsName, packet_count, order};
 ghost use Rattle.jk_params.specs.Coding.{HasPlanes};
 ghost use Rattle.jk_packet.specs.Written.{PrecinctTables};
-ghost use Rattle.jk_tile.specs.PacketsWritten.{written_text};
-ghost use Rattle.jk_tile.specs.TileWriters.{table_lists, tables_in, kept_writer, writer_at, writer_in, text_by, IsPrecinctList, AreLists};
+ghost use Rattle.jk_tile.specs.encoding.PacketsWritten.{written_text};
+ghost use Rattle.jk_tile.specs.encoding.TileWriters.{tables_in, kept_writer, writer_at, writer_in, text_by};
+ghost use Rattle.jk_tile.specs.encoding.TileWriters.{IsPrecinctList, AreLists};
+ghost use Rattle.jk_math.specs.Lists.{lists_of};
 
-use crate::encoding::precincts::PacketMarkers;
 use jk_geom::{PacketName, TileShape, precinct_count};
 use jk_marks::Coding;
 use jk_math::{Fault, Rect};
 use jk_order::{Packets, packet_count};
 use jk_packet::{BlockTable, PrecinctWriter};
+use jk_params::PacketMarkers;
 use jk_walk::precinct_shape;
 use std::alloc::Global;
 
-/// How many precincts the resolutions below each one have, and behind the highest resolution all of a component.
+/// How many precincts the resolutions below each one have, and behind the highest resolution all of
+/// a component.
 fn firsts(rect: &Rect, coding: &Coding) -> [u32; 12]
     requires area { IsArea rect.now }
     requires coding { IsCoding coding.now }
@@ -44,7 +48,9 @@ fn place_of(firsts: &[u32; 12], levels: u8, name: PacketName) -> usize
     requires levels { levels ≤ 10 }
     requires component { name.component < 4 }
     requires resolution { name.resolution ≤ levels }
-    ensures { result ≡ name.component * slice_index firsts.now (levels + 1) + (slice_index firsts.now name.resolution + name.precinct) }
+    ensures { result
+        ≡ name.component * slice_index firsts.now (levels + 1)
+        + (slice_index firsts.now name.resolution + name.precinct) }
 {
     let below = firsts[name.resolution as usize] as usize + name.precinct as usize;
     name.component as usize * firsts[levels as usize + 1] as usize + below
@@ -59,7 +65,8 @@ pub(crate) struct TileFrame<'a> {
     pub(crate) markers: PacketMarkers,
 }
 
-/// What is kept of the writer of a precinct: nothing before its first packet, and nothing behind its last.
+/// What is kept of the writer of a precinct: nothing before its first packet, and nothing behind
+/// its last.
 type Slot<'a> = Option<Box<PrecinctWriter<'a>>>;
 
 /// Slots for so many precincts, of which no packet is written.
@@ -102,7 +109,8 @@ fn new_writer<'a>(
     PrecinctWriter::new(alloc, &precinct, frame.shape.layers, tables)
 }
 
-/// The writer of the precinct of a packet, which is taken out of those that are kept; a new one where none is kept.
+/// The writer of the precinct of a packet, which is taken out of those that are kept; a new one
+/// where none is kept.
 fn take<'a>(
     alloc: Global,
     frame: &TileFrame<'_>,
@@ -123,7 +131,8 @@ fn take<'a>(
         (λ w. w.value ≡ kept_writer slots.old.items place (writer_at frame.now.shape.now.rect
         frame.now.coding.now frame.now.markers.sop frame.now.markers.eph frame.now.shape.now.layers tables.now
         name.resolution name.precinct)) IsMemory }
-    ensures others { (blank : PrecinctTables) (i : ℕ) → i ≢ place → kept_writer slots.new.items i blank ≡ kept_writer slots.old.items i blank }
+    ensures others { (blank : PrecinctTables) (i : ℕ) → i ≢ place
+        → kept_writer slots.new.items i blank ≡ kept_writer slots.old.items i blank }
     ensures long { length slots.new.items ≡ length slots.old.items }
 {
     match slots[place].take() {
@@ -136,14 +145,15 @@ fn take<'a>(
 fn keep<'a>(slots: &mut Vec<Slot<'a>>, place: usize, writer: Box<PrecinctWriter<'a>>)
     requires { place < length slots.old.items }
     ensures own { (blank : PrecinctTables) → kept_writer slots.new.items place blank ≡ writer.entry.value }
-    ensures others { (blank : PrecinctTables) (i : ℕ) → i ≢ place → kept_writer slots.new.items i blank ≡ kept_writer slots.old.items i blank }
+    ensures others { (blank : PrecinctTables) (i : ℕ) → i ≢ place
+        → kept_writer slots.new.items i blank ≡ kept_writer slots.old.items i blank }
     ensures long { length slots.new.items ≡ length slots.old.items }
 {
     slots[place] = Some(writer);
 }
 
-/// Appends the next packet of a precinct, which is packet `number` of the tile. Its writer is made with the first layer
-/// and let go of behind the last one.
+/// Appends the next packet of a precinct, which is packet `number` of the tile. Its writer is made
+/// with the first layer and let go of behind the last one.
 fn write_at<'a>(
     alloc: Global,
     frame: &TileFrame<'_>,
@@ -172,7 +182,8 @@ fn write_at<'a>(
         → kept_writer slots.new.items place blank
         ≡ record (writer_in frame.now.shape.now frame.now.coding.now frame.now.markers.sop
         frame.now.markers.eph tables.now slots.old.items place name) { written = name.layer + 1 }) }
-    ensures others { (blank : PrecinctTables) (i : ℕ) → i ≢ place → kept_writer slots.new.items i blank ≡ kept_writer slots.old.items i blank }
+    ensures others { (blank : PrecinctTables) (i : ℕ) → i ≢ place
+        → kept_writer slots.new.items i blank ≡ kept_writer slots.old.items i blank }
     ensures text { OnOk result (out.new.items ≡ out.old.items
         ++ text_by (writer_in frame.now.shape.now frame.now.coding.now frame.now.markers.sop
         frame.now.markers.eph tables.now slots.old.items place name) number) }
@@ -198,10 +209,10 @@ pub(crate) fn write_packets(
     requires alike { frame.now.shape.now.codings ≡ replicate (length frame.now.shape.now.codings) frame.now.coding.now }
     requires few { packet_count frame.now.shape.now ≤ 2 ^ 24 }
     requires lists { AreLists frame.now.shape.now.rect frame.now.coding.now frame.now.shape.now.layers
-        (length frame.now.shape.now.codings) (table_lists tables.now) }
+        (length frame.now.shape.now.codings) (lists_of tables.now) }
     ensures text { IfOk result (λ v. v.items
         ≡ written_text frame.now.shape.now frame.now.markers.sop frame.now.markers.eph
-        (tables_in frame.now.shape.now.rect frame.now.coding.now (table_lists tables.now)) 0
+        (tables_in frame.now.shape.now.rect frame.now.coding.now (lists_of tables.now)) 0
         (order frame.now.shape.now)) }
     ensures memory { IfErr result IsMemory }
 {

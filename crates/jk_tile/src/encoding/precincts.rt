@@ -1,6 +1,7 @@
 //! The precincts of a tile that is written, one behind another.
 
-ghost use Rattle.std.specs.Prelude.{◌≡◌, ℕ, ◌+◌, ◌*◌, ◌^◌, ◌<◌, ◌≤◌, ◌++◌, [], length, map, slice_index_or, IfOk, IfErr, OnOk};
+ghost use Rattle.std.specs.Prelude.{◌≡◌, ℕ, ◌+◌, ◌*◌, ◌^◌, ◌<◌, ◌≤◌, ◌++◌, [], length, map, slice_index_or, IfOk};
+ghost use Rattle.std.specs.Prelude.{IfErr, OnOk};
 ghost use Rattle.std.specs.List.{flat_map, range_with_len};
 ghost use Rattle.jk_math.specs.Memory.{IsMemory};
 ghost use Rattle.jk_marks.specs.Coding.{IsCoding};
@@ -8,8 +9,9 @@ ghost use Rattle.jk_geom.specs.Rectangles.{IsArea};
 ghost use Rattle.jk_geom.specs.Precincts.{precinct_number};
 ghost use Rattle.jk_geom.specs.Counts.{precincts_below};
 ghost use Rattle.jk_params.specs.Coding.{HasPlanes};
-ghost use Rattle.jk_tile.specs.TileWritten.{AreWrittenBands};
-ghost use Rattle.jk_tile.specs.TileWriters.{table_lists, resolution_lists, component_lists};
+ghost use Rattle.jk_tile.specs.encoding.TileWritten.{AreWrittenBands};
+ghost use Rattle.jk_tile.specs.encoding.TileWriters.{resolution_lists, component_lists};
+ghost use Rattle.jk_math.specs.Lists.{lists_of};
 
 use crate::encoding::writing::{BandSource, precinct_tables};
 use jk_geom::precinct_count;
@@ -17,15 +19,6 @@ use jk_marks::Coding;
 use jk_math::{Fault, Planes, Rect};
 use jk_packet::BlockTable;
 use std::alloc::Global;
-
-/// Which markers stand at the packets of a tile (T.800 A.8).
-#[derive(Clone, Copy)]
-pub(crate) struct PacketMarkers {
-    /// An SOP marker segment stands before each packet.
-    pub(crate) sop: bool,
-    /// An EPH marker stands behind each packet's header.
-    pub(crate) eph: bool,
-}
 
 /// Appends the tables of each precinct of a resolution.
 fn add_resolution(
@@ -36,7 +29,8 @@ fn add_resolution(
 ) -> Result<(), Fault>
     requires r { r ≤ source.now.coding.levels }
     requires few { precinct_number source.now.rect source.now.coding r ≤ 2 ^ 24 }
-    ensures tables { OnOk result (table_lists tables.new.items ≡ table_lists tables.old.items ++ resolution_lists source.now r) }
+    ensures tables { OnOk result
+        (lists_of tables.new.items ≡ lists_of tables.old.items ++ resolution_lists source.now r) }
     ensures memory { IfErr result IsMemory }
 {
     let rect = source.rect();
@@ -53,8 +47,9 @@ fn add_component(
     source: &BandSource<'_>,
     tables: &mut Vec<Vec<BlockTable>>,
 ) -> Result<(), Fault>
-    requires few { (r : ℕ) → r ≤ source.now.coding.levels → precinct_number source.now.rect source.now.coding r ≤ 2 ^ 24 }
-    ensures tables { OnOk result (table_lists tables.new.items ≡ table_lists tables.old.items ++ component_lists source.now) }
+    requires few { (r : ℕ) → r ≤ source.now.coding.levels
+        → precinct_number source.now.rect source.now.coding r ≤ 2 ^ 24 }
+    ensures tables { OnOk result (lists_of tables.new.items ≡ lists_of tables.old.items ++ component_lists source.now) }
     ensures memory { IfErr result IsMemory }
 {
     for r in 0..source.coding().levels + 1 {
@@ -72,10 +67,14 @@ pub(crate) fn tile_tables(
     bands: &[Planes],
 ) -> Result<Vec<Vec<BlockTable>>, Fault>
     requires bands { (c : ℕ) → c < length bands.now
-        → AreWrittenBands (record { rect = rect.now; coding = coding.now; layers = layers; bands = slice_index_or bands.now c [] }) }
+        → AreWrittenBands
+        (record { rect = rect.now; coding = coding.now; layers = layers; bands = slice_index_or bands.now c [] }) }
     requires few { (r : ℕ) → r ≤ coding.now.levels → precinct_number rect.now coding.now r ≤ 2 ^ 24 }
-    ensures tables { IfOk result (λ v. table_lists v.items
-        ≡ flat_map (λ c. component_lists (record { rect = rect.now; coding = coding.now; layers = layers; bands = slice_index_or bands.now c [] })) (range_with_len 0 (length bands.now))) }
+    ensures tables { IfOk result (λ v. lists_of v.items
+        ≡ flat_map (λ c.
+        component_lists
+        (record { rect = rect.now; coding = coding.now; layers = layers; bands = slice_index_or bands.now c [] }))
+        (range_with_len 0 (length bands.now))) }
     ensures memory { IfErr result IsMemory }
 {
     let mut tables = Vec::new(alloc);

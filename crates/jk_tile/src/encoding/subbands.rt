@@ -9,8 +9,8 @@ ghost use Rattle.jk_params.specs.Profile.{siz_of, IsWrittenBy};
 ghost use Rattle.jk_wave.specs.Analysis.{analysed_bands};
 ghost use Rattle.jk_geom.specs.Rectangles.{IsArea};
 ghost use Rattle.jk_tile.specs.Filling.{IsPartOf};
-ghost use Rattle.jk_tile.specs.Forward.{picture_area, tile_value};
-ghost use Rattle.jk_tile.specs.Needs.{written_bands};
+ghost use Rattle.jk_tile.specs.encoding.Forward.{picture_area, tile_value};
+ghost use Rattle.jk_tile.specs.encoding.Needs.{written_bands};
 
 use crate::encoding::values::tile_values;
 use jk_geom::tile;
@@ -20,7 +20,8 @@ use jk_wave::analyse;
 use std::alloc::Global;
 use std::mem;
 
-/// The sub-bands of each component of a tile on this rectangle, in the order of QCD, each row by row.
+/// The sub-bands of each component of a tile on this rectangle, in the order of QCD, each row by
+/// row.
 fn bands_on(
     alloc: Global,
     image: &Image,
@@ -34,7 +35,8 @@ fn bands_on(
     requires levels { levels ≤ 10 }
     requires colours { colours ≡ true → 3 ≤ length image.now.planes }
     ensures value { IfOk result (λ v. v.items
-        ≡ map (λ c. analysed_bands rect.now levels (tile_value image.now colours c)) (range_with_len 0 (length image.now.planes))) }
+        ≡ map (λ c. analysed_bands rect.now levels (tile_value image.now colours c))
+        (range_with_len 0 (length image.now.planes))) }
     ensures memory { IfErr result IsMemory }
 {
     let mut values = tile_values(alloc, image, colours, rect)?;
@@ -47,8 +49,8 @@ fn bands_on(
     Ok(all)
 }
 
-/// The sub-bands of each component of tile `number`, in the order of QCD, each row by row: its samples through the component
-/// and wavelet transforms (T.800 G.1, G.2, F.4).
+/// The sub-bands of each component of tile `number`, in the order of QCD, each row by row: its
+/// samples through the component and wavelet transforms (T.800 G.1, G.2, F.4).
 pub fn tile_bands(
     alloc: Global,
     image: &Image,

@@ -4,15 +4,16 @@ ghost use Rattle.std.specs.Prelude.{◌≡◌, ◌+◌, ◌<◌, ◌≤◌, leng
 ghost use Rattle.jk_math.specs.Memory.{IsMemory};
 ghost use Rattle.jk_block.specs.CodedBlocks.{contents};
 ghost use Rattle.jk_block.specs.Layers.{passes_upto, without_ff, bytes_upto};
-ghost use Rattle.jk_tile.specs.PacketsWritten.{IsCodedBlock, parts_for, coded_table};
+ghost use Rattle.jk_tile.specs.encoding.PacketsWritten.{IsCodedBlock, parts_for, coded_table};
 
 use jk_block::CodedBlock;
 use jk_math::Fault;
 use jk_packet::{BlockTable, LayerPart};
 use std::alloc::Global;
 
-/// How many coding passes of a block of so many bit-planes stand in the layers up to this one: the last layer has
-/// bit-plane 0, the one before it plane 1 and so on, the first one all planes that are left.
+/// How many coding passes of a block of so many bit-planes stand in the layers up to this one: the
+/// last layer has bit-plane 0, the one before it plane 1 and so on, the first one all planes that
+/// are left.
 #[tactic(auto, unfolding(jk_block::specs::Layers::passes_upto))]
 fn passes_upto(layers: u16, planes: u32, layer: u16) -> u32
     requires some { layer < layers }

@@ -9,18 +9,19 @@ ghost use Rattle.jk_order.specs.PacketOrder.{IsPrecinct};
 ghost use Rattle.jk_params.specs.Headers.{Headers};
 ghost use Rattle.jk_params.specs.Profile.{siz_of, cod_of, IsWrittenBy};
 ghost use Rattle.jk_walk.specs.TilePackets.{slice_of};
-ghost use Rattle.jk_tile.specs.Needs.{exponents_for, written_bands};
-ghost use Rattle.jk_tile.specs.PacketsWritten.{written_coding, written_shape, tile_tables, tile_text};
+ghost use Rattle.jk_tile.specs.encoding.Needs.{exponents_for, written_bands};
+ghost use Rattle.jk_tile.specs.encoding.PacketsWritten.{written_coding, written_shape, tile_tables, tile_text};
 ghost use Rattle.jk_tile.specs.TileMeaning.{DecodesTile};
-ghost use Rattle.jk_tile.specs.TileWriters.{table_lists, tables_in, AreLists};
+ghost use Rattle.jk_tile.specs.encoding.TileWriters.{tables_in, AreLists};
+ghost use Rattle.jk_math.specs.Lists.{lists_of};
 
 use crate::encoding::packets::{TileFrame, write_packets};
-use crate::encoding::precincts::{PacketMarkers, tile_tables};
+use crate::encoding::precincts::tile_tables;
 use jk_geom::{Codings, TileShape, tile};
 use jk_marks::{Coding, Exponents, Quantisation};
 use jk_math::{Fault, Image, Planes, Rect};
 use jk_packet::BlockTable;
-use jk_params::{Parameters, coding_with, siz_of};
+use jk_params::{PacketMarkers, Parameters, coding_with, siz_of};
 use std::alloc::Global;
 
 /// How each component of an image is coded, with two guard bits.
@@ -48,7 +49,8 @@ fn codings_alike(coding: &Coding, components: usize) -> Codings
     codings
 }
 
-/// The tables of all precincts of a tile on this rectangle: each code-block of its sub-bands, coded and cut into layers.
+/// The tables of all precincts of a tile on this rectangle: each code-block of its sub-bands, coded
+/// and cut into layers.
 fn code_tile(
     alloc: Global,
     image: &Image,
@@ -64,18 +66,20 @@ fn code_tile(
     requires number { number < tile_count (siz_of image.now parameters.now) }
     requires rect { rect.now ≡ tile_area (siz_of image.now parameters.now) number }
     requires bands { bands.items ≡ written_bands image.now parameters.now number }
-    ensures lists { IfOk result (λ v. AreLists rect.now coding.now parameters.now.layers (length image.now.planes) (table_lists v.items)) }
+    ensures lists { IfOk result
+        (λ v. AreLists rect.now coding.now parameters.now.layers (length image.now.planes) (lists_of v.items)) }
     ensures tables { IfOk result (λ v. (c r n : ℕ) → IsPrecinct (written_shape image.now parameters.now number) c r n
-        → tables_in rect.now coding.now (table_lists v.items) c r n ≡ tile_tables image.now parameters.now number c r n) }
+        → tables_in rect.now coding.now (lists_of v.items) c r n ≡ tile_tables image.now parameters.now number c r n) }
     ensures memory { IfErr result IsMemory }
 {
     tile_tables(alloc, rect, coding, parameters.layers, &bands)
 }
 
-/// The data of the only part of tile `number`: its packets in their order, each layer of each precinct (T.800 B.9 to
-/// B.12).
+/// The data of the only part of tile `number`: its packets in their order, each layer of each
+/// precinct (T.800 B.9 to B.12).
 ///
-/// `exponents` are those of [`crate::exponents`], and `bands` the sub-bands of the tile, which [`crate::tile_bands`] gives.
+/// `exponents` are those of [`crate::exponents`], and `bands` the sub-bands of the tile, which
+/// [`crate::tile_bands`] gives.
 pub fn encode_tile(
     alloc: Global,
     image: &Image,
@@ -91,9 +95,15 @@ pub fn encode_tile(
     // Which bytes.
     ensures exact { IfOk result (λ v. v.items ≡ tile_text image.now parameters.now number) }
     // They decode to the samples of the image.
-    ensures means { IfOk result (λ v. (codestream : List ℕ) (h : Headers) (places : List (ℕ × ℕ)) → h.siz ≡ siz_of image.now parameters.now
+    ensures means { IfOk result
+        (λ v. (codestream : List ℕ) (h : Headers) (places : List (ℕ × ℕ)) → h.siz ≡ siz_of image.now parameters.now
         → map (slice_of codestream) places ≡ v.items ∷ []
-        → DecodesTile codestream h (record { cod = cod_of parameters.now; codings = replicate (length image.now.planes) (written_coding image.now parameters.now); data_places = places }) number 0
+        → DecodesTile codestream h
+        (record {
+          cod = cod_of parameters.now;
+          codings = replicate (length image.now.planes) (written_coding image.now parameters.now);
+          data_places = places;
+        }) number 0
         (λ c x y. sample_at image.now c (x - image.now.x0) (y - image.now.y0))) }
     ensures memory { IfErr result IsMemory }
 {

@@ -1,16 +1,17 @@
 //! From the samples of a tile to what the wavelet takes (T.800 G.1.1, G.2.1).
 
-ghost use Rattle.std.specs.Prelude.{◌≡◌, ℕ, ◌+◌, ◌<◌, ◌≤◌, ◌^◌, length, map, All, IfOk, IfErr, true, ◌-ℤ◌, ◌≤ℤ◌, pos, neg_ℤ};
+ghost use Rattle.std.specs.Prelude.{◌≡◌, ℕ, ◌+◌, ◌<◌, ◌≤◌, ◌^◌, length, map, All, IfOk, IfErr, true, ◌-ℤ◌, ◌≤ℤ◌, pos};
+ghost use Rattle.std.specs.Prelude.{neg_ℤ};
 ghost use Rattle.std.specs.List.{range_with_len};
 ghost use Rattle.jk_math.specs.Memory.{IsMemory};
-ghost use Rattle.jk_math.specs.Picture.{IsPicture, lists_of};
+ghost use Rattle.jk_math.specs.Picture.{IsPicture};
+ghost use Rattle.jk_math.specs.Lists.{lists_of, list_at};
 ghost use Rattle.jk_math.specs.Raster.{raster};
 ghost use Rattle.jk_math.specs.Signed.{IsBelow, signed_at};
 ghost use Rattle.jk_rct.specs.Colour.{y0_of, y1_of, y2_of};
 ghost use Rattle.jk_geom.specs.Rectangles.{IsArea};
 ghost use Rattle.jk_tile.specs.Filling.{IsPartOf};
-ghost use Rattle.jk_tile.specs.Forward.{picture_area, levelled, tile_value, value_lists};
-ghost use Rattle.jk_tile.specs.Gathered.{list_at};
+ghost use Rattle.jk_tile.specs.encoding.Forward.{picture_area, levelled, tile_value, value_lists};
 ghost use Rattle.jk_tile.specs.Samples.{shift};
 
 use crate::encoding::cutting::cut_out;
@@ -36,7 +37,7 @@ fn picture_area(image: &Image) -> Rect
 
 /// A sample less the level shift.
 #[inline(always)]
-#[tactic(auto, using(crate::proofs::Forwards::shift_range))]
+#[tactic(auto, using(crate::proofs::encoding::Forwards::shift_range))]
 fn lowered(sample: i32, depth: u8, signed: bool) -> i32
     requires sample { IsBelow (2 ^ 30) sample }
     requires some { 1 ≤ depth }
@@ -76,7 +77,9 @@ fn shifted(alloc: Global, image: &Image, component: usize, rect: &Rect) -> Resul
 fn all_shifted(alloc: Global, image: &Image, rect: &Rect) -> Result<Vec<Vec<i32>>, Fault>
     requires picture { IsPicture image.now }
     requires rect { IsPartOf rect.now (picture_area image.now) }
-    ensures value { IfOk result (λ v. lists_of v.items ≡ map (λ c. raster rect.now (levelled image.now c)) (range_with_len 0 (length image.now.planes))) }
+    ensures value { IfOk result
+        (λ v. lists_of v.items
+        ≡ map (λ c. raster rect.now (levelled image.now c)) (range_with_len 0 (length image.now.planes))) }
     ensures memory { IfErr result IsMemory }
 {
     let mut all = Vec::new(alloc);
@@ -95,11 +98,14 @@ fn colour(alloc: Global, values: &mut Vec<Vec<i32>>)
     ensures count { length values.new.items ≡ length values.old.items }
     ensures long { (c : ℕ) → length (list_at values.new.items c) ≡ length (list_at values.old.items c) }
     ensures y0 { (k : ℕ) → k < length (list_at values.old.items 0) → signed_at (list_at values.new.items 0) k
-        ≡ y0_of (signed_at (list_at values.old.items 0) k) (signed_at (list_at values.old.items 1) k) (signed_at (list_at values.old.items 2) k) }
+        ≡ y0_of (signed_at (list_at values.old.items 0) k) (signed_at (list_at values.old.items 1) k)
+        (signed_at (list_at values.old.items 2) k) }
     ensures y1 { (k : ℕ) → k < length (list_at values.old.items 0) → signed_at (list_at values.new.items 1) k
-        ≡ y1_of (signed_at (list_at values.old.items 0) k) (signed_at (list_at values.old.items 1) k) (signed_at (list_at values.old.items 2) k) }
+        ≡ y1_of (signed_at (list_at values.old.items 0) k) (signed_at (list_at values.old.items 1) k)
+        (signed_at (list_at values.old.items 2) k) }
     ensures y2 { (k : ℕ) → k < length (list_at values.old.items 0) → signed_at (list_at values.new.items 2) k
-        ≡ y2_of (signed_at (list_at values.old.items 0) k) (signed_at (list_at values.old.items 1) k) (signed_at (list_at values.old.items 2) k) }
+        ≡ y2_of (signed_at (list_at values.old.items 0) k) (signed_at (list_at values.old.items 1) k)
+        (signed_at (list_at values.old.items 2) k) }
     ensures others { (c : ℕ) → 3 ≤ c → list_at values.new.items c ≡ list_at values.old.items c }
 {
     let mut first = mem::replace(&mut values[0], Vec::new(alloc));
@@ -121,7 +127,8 @@ pub(crate) fn tile_values(
     requires picture { IsPicture image.now }
     requires rect { IsPartOf rect.now (picture_area image.now) }
     requires colours { colours ≡ true → 3 ≤ length image.now.planes }
-    ensures value { IfOk result (λ v. lists_of v.items ≡ value_lists image.now colours rect.now (length image.now.planes)) }
+    ensures value { IfOk result
+        (λ v. lists_of v.items ≡ value_lists image.now colours rect.now (length image.now.planes)) }
     ensures memory { IfErr result IsMemory }
 {
     let mut values = all_shifted(alloc, image, rect)?;

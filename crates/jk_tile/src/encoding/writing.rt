@@ -8,10 +8,10 @@ ghost use Rattle.jk_geom.specs.Blocks.{IsGrid};
 ghost use Rattle.jk_geom.specs.Precincts.{precinct_number};
 ghost use Rattle.jk_block.specs.CodedBlocks.{contents, shape_of};
 ghost use Rattle.jk_walk.specs.TilePackets.{orientations, band_number};
-ghost use Rattle.jk_tile.specs.PacketsWritten.{IsCodedBlock, band_tables_at, precinct_tables};
-ghost use Rattle.jk_tile.specs.Source.{IsBlockShape};
-ghost use Rattle.jk_tile.specs.TileBlocks.{grid_at, block_shape};
-ghost use Rattle.jk_tile.specs.TileWritten.{block_list, coded_at, coefficient_of, AreWrittenBands, IsWrittenPart};
+ghost use Rattle.jk_tile.specs.encoding.PacketsWritten.{IsCodedBlock, band_tables_at, precinct_tables};
+ghost use Rattle.jk_tile.specs.TileBlocks.{grid_at, block_shape, IsBlockShape};
+ghost use Rattle.jk_tile.specs.encoding.TileWritten.{block_list, coded_at, coefficient_of, AreWrittenBands};
+ghost use Rattle.jk_tile.specs.encoding.TileWritten.{IsWrittenPart};
 
 use crate::bands::{BandPart, band_count, band_planes, orientation, shape_at};
 use crate::encoding::cutting::cut_out;
@@ -24,8 +24,8 @@ use jk_packet::BlockTable;
 use std::alloc::Global;
 use std::marker::Model;
 
-/// A component of a tile that is written: the tile's rectangle, the component's coding, the number of layers, and its
-/// sub-bands in the order of QCD.
+/// A component of a tile that is written: the tile's rectangle, the component's coding, the number
+/// of layers, and its sub-bands in the order of QCD.
 #[derive(Drop)]
 pub(crate) struct BandSource<'a> {
     rect: Rect,
@@ -35,13 +35,14 @@ pub(crate) struct BandSource<'a> {
 }
 
 impl<'a> Model for BandSource<'a> {
-    ghost use Rattle.jk_tile.specs.TileWritten.{WrittenBands, AreWrittenBands};
+    ghost use Rattle.jk_tile.specs.encoding.TileWritten.{WrittenBands, AreWrittenBands};
 
     ghost Value = { WrittenBands };
 
     ghost view = { λ s. record { rect = s.rect; coding = s.coding.now; layers = s.layers; bands = s.bands.now } };
 
-    ghost invariant = { λ s. AreWrittenBands (record { rect = s.rect; coding = s.coding.now; layers = s.layers; bands = s.bands.now }) };
+    ghost invariant = { λ s. AreWrittenBands
+        (record { rect = s.rect; coding = s.coding.now; layers = s.layers; bands = s.bands.now }) };
 }
 
 impl<'a> BandSource<'a> {
@@ -118,9 +119,11 @@ fn block_at(
     requires grid { grid.now ≡ grid_at source.now.rect source.now.coding part.resolution part.precinct part.band }
     requires sound { IsGrid grid.now }
     requires j { j < grid.now.across * grid.now.down }
-    ensures shape { IfOk result (λ b. shape_of b ≡ block_shape source.now.rect source.now.coding part.resolution part.precinct part.band j) }
+    ensures shape { IfOk result
+        (λ b. shape_of b ≡ block_shape source.now.rect source.now.coding part.resolution part.precinct part.band j) }
     ensures values { IfOk result (λ b. b.values.items
-        ≡ block_list source.now.rect source.now.coding (coefficient_of source.now) part.resolution part.precinct part.band j) }
+        ≡ block_list source.now.rect source.now.coding
+        (coefficient_of source.now) part.resolution part.precinct part.band j) }
     ensures fits { IfOk result (λ b. IsBlockShape (shape_of b)) }
     ensures whole { IfOk result (λ b. length b.values.items ≡ b.width * b.height) }
     ensures small { IfOk result (λ b. All (λ v. unsigned_abs v < 2 ^ 23) b.values.items) }
@@ -155,7 +158,8 @@ pub(crate) fn code_at(
     requires j { j < grid.now.across * grid.now.down }
     ensures block { IfOk result IsCodedBlock }
     ensures coded { IfOk result (λ k. contents k
-        ≡ coded_at source.now.rect source.now.coding (coefficient_of source.now) part.resolution part.precinct part.band j) }
+        ≡ coded_at source.now.rect source.now.coding
+        (coefficient_of source.now) part.resolution part.precinct part.band j) }
     ensures memory { IfErr result IsMemory }
 {
     let block = block_at(alloc, source, part, grid, j)?;
@@ -188,8 +192,9 @@ fn add_band(
     Ok(())
 }
 
-/// What is written of the code-blocks of a precinct, sub-band behind sub-band, each in raster order.
-#[tactic(auto, unfolding(crate::specs::PacketsWritten::precinct_tables))]
+/// What is written of the code-blocks of a precinct, sub-band behind sub-band, each in raster
+/// order.
+#[tactic(auto, unfolding(crate::specs::encoding::PacketsWritten::precinct_tables))]
 pub(crate) fn precinct_tables(
     alloc: Global,
     source: &BandSource<'_>,
@@ -199,7 +204,8 @@ pub(crate) fn precinct_tables(
     requires r { r ≤ source.now.coding.levels }
     requires n { n < precinct_number source.now.rect source.now.coding r }
     ensures tables { IfOk result (λ v. v.items
-        ≡ flat_map (λ ts. ts) (precinct_tables source.now.layers source.now.rect source.now.coding (coefficient_of source.now) r n)) }
+        ≡ flat_map (λ ts. ts)
+        (precinct_tables source.now.layers source.now.rect source.now.coding (coefficient_of source.now) r n)) }
     ensures memory { IfErr result IsMemory }
 {
     let mut tables = Vec::new(alloc);

@@ -1,36 +1,18 @@
-use Rattle.std.proofs.Common.{◌≡◌, ◌^◌, ◌<◌, ◌≤◌, ℕ, ℤ, List, Result, Ok, Err, length, get_or, unsigned_abs, sym, ap, ◌∙◌, subst, arith}
-use Rattle.std.proofs.Math.Pow.{pow_mono}
+use Rattle.std.proofs.Common.{◌≡◌, ◌^◌, ◌<◌, ℕ, ℤ, List, Result, Ok, Err, length, get_or, unsigned_abs, sym, ap, ◌∙◌, subst, arith}
 use Rattle.std.proofs.lemmas.Result.{err_from_is_err_and}
 use Rattle.jk_math.specs.declared.fault.Fault.{Fault}
 use Rattle.jk_math.specs.Steps.{done, ok_is, refuses_due}
 use Rattle.jk_model.specs.Decisions.{initial}
 use Rattle.jk_scan.specs.declared.shape.BlockShape.{BlockShape}
-use Rattle.jk_scan.specs.Neighbours.{is_inside}
 use Rattle.jk_block.specs.Meaning.{values_of}
 use Rattle.jk_block.specs.Reading.{Progress, coefficients, block_at}
-use Rattle.jk_block.specs.decoding.Sketches.{progress}
+use Rattle.jk_block.specs.decoding.Sketches.{draft_of, progress}
 use Rattle.jk_block.proofs.decoding.Taking.{from_blank}
 use Rattle.jk_block.proofs.Meanings.{block_found, block_only, block_is, block_faults, block_refused, values_small, passes_small}
 use Rattle.jk_block.proofs.decoding.decode.Goals as goal
 
-powers : (n : ℕ) → n ≤ 23 → 2 ^ n ≤ 2 ^ 23
-powers n h = pow_mono h
-
 pub returns-then-passes-saturating_sub-clause-exact : goal.returns-then-passes-saturating_sub-clause-exact
 returns-then-passes-saturating_sub-clause-exact c = block_refused c.args.shape c.args.planes c.args.passes c.args.segment.now (omega arith)
-
-pub values-requires : goal.values-requires
-values-requires c x y i =
-    let s = c.args.shape in
-    let k = c.new-sketch.result in
-    let bytes = c.args.segment.now in
-    let a = c.in_ok-read_passes.ensures.takes initial c.new-decoder.ensures.stands in
-    let shape = c.in_ok-read_passes.ensures.shape ∙ c.new-sketch.ensures.shape in
-    let z = progress c.read_passes.new.sketch a.next in
-    let is = from_blank bytes c.new-decoder.result.bytes s c.args.planes c.args.passes k (done z) c.new-decoder.ensures.bytes c.new-sketch.ensures.shape c.new-sketch.ensures.blank a.is in
-    let small = passes_small bytes s c.args.planes c.args.passes z (omega arith) is x y (ap (λ (s : BlockShape). is_inside s x y) (sym shape) ∙ i) in
-    let p = powers c.args.planes c.requires.planes in
-    omega (arith, small, p)
 
 refused : Fault → Result Progress Fault
 refused e = Err e
@@ -41,9 +23,9 @@ listed e = Err e
 pub returns-in_err-read_passes-clause-exact : goal.returns-in_err-read_passes-clause-exact
 unfolding refused
 returns-in_err-read_passes-clause-exact c =
-    let p = err_from_is_err_and c.from_residual.result c.from_residual.ensures.1 in
+    let p = err_from_is_err_and c.from_residual-in_err-read_passes.result c.from_residual-in_err-read_passes.ensures.1 in
     let s = c.args.shape in
-    let k = c.new-sketch.result in
+    let k = draft_of c.new-sketch.result in
     let bytes = c.args.segment.now in
     let e = c.in_err-read_passes.field-0.0 in
     let a = c.in_err-read_passes.ensures.takes initial c.new-decoder.ensures.stands in
@@ -61,7 +43,7 @@ pub returns-in_err-read_passes-clause-only : goal.returns-in_err-read_passes-cla
 unfolding refused
 returns-in_err-read_passes-clause-only c =
     let s = c.args.shape in
-    let k = c.new-sketch.result in
+    let k = draft_of c.new-sketch.result in
     let bytes = c.args.segment.now in
     let e = c.in_err-read_passes.field-0.0 in
     let a = c.in_err-read_passes.ensures.takes initial c.new-decoder.ensures.stands in
@@ -71,11 +53,11 @@ returns-in_err-read_passes-clause-only c =
 pub returns-clause-exact : goal.returns-clause-exact
 returns-clause-exact c =
     let s = c.args.shape in
-    let k = c.new-sketch.result in
+    let k = draft_of c.new-sketch.result in
     let bytes = c.args.segment.now in
     let a = c.in_ok-read_passes.ensures.takes initial c.new-decoder.ensures.stands in
     let shape = c.in_ok-read_passes.ensures.shape ∙ c.new-sketch.ensures.shape in
-    let z = progress c.read_passes.new.sketch a.next in
+    let z = progress (draft_of c.read_passes.new.sketch) a.next in
     let is = from_blank bytes c.new-decoder.result.bytes s c.args.planes c.args.passes k (done z) c.new-decoder.ensures.bytes c.new-sketch.ensures.shape c.new-sketch.ensures.blank a.is in
     block_is s c.args.planes c.args.passes bytes z (omega arith) is
     ∙ ap (λ (vs : List ℤ). done vs) (ap (λ (s : BlockShape). values_of s (coefficients z)) (sym shape) ∙ sym (c.in_ok-values.ensures.values a.next))
@@ -83,11 +65,11 @@ returns-clause-exact c =
 pub returns-clause-found : goal.returns-clause-found
 returns-clause-found c =
     let s = c.args.shape in
-    let k = c.new-sketch.result in
+    let k = draft_of c.new-sketch.result in
     let bytes = c.args.segment.now in
     let a = c.in_ok-read_passes.ensures.takes initial c.new-decoder.ensures.stands in
     let shape = c.in_ok-read_passes.ensures.shape ∙ c.new-sketch.ensures.shape in
-    let z = progress c.read_passes.new.sketch a.next in
+    let z = progress (draft_of c.read_passes.new.sketch) a.next in
     let is = from_blank bytes c.new-decoder.result.bytes s c.args.planes c.args.passes k (done z) c.new-decoder.ensures.bytes c.new-sketch.ensures.shape c.new-sketch.ensures.blank a.is in
     let exact : block_at s c.args.planes c.args.passes bytes ≡ done c.in_ok-values.field-0.items =
     block_is s c.args.planes c.args.passes bytes z (omega arith) is
@@ -97,11 +79,11 @@ returns-clause-found c =
 pub returns-clause-only : goal.returns-clause-only
 returns-clause-only c =
     let s = c.args.shape in
-    let k = c.new-sketch.result in
+    let k = draft_of c.new-sketch.result in
     let bytes = c.args.segment.now in
     let a = c.in_ok-read_passes.ensures.takes initial c.new-decoder.ensures.stands in
     let shape = c.in_ok-read_passes.ensures.shape ∙ c.new-sketch.ensures.shape in
-    let z = progress c.read_passes.new.sketch a.next in
+    let z = progress (draft_of c.read_passes.new.sketch) a.next in
     let is = from_blank bytes c.new-decoder.result.bytes s c.args.planes c.args.passes k (done z) c.new-decoder.ensures.bytes c.new-sketch.ensures.shape c.new-sketch.ensures.blank a.is in
     let exact : block_at s c.args.planes c.args.passes bytes ≡ done c.in_ok-values.field-0.items =
     block_is s c.args.planes c.args.passes bytes z (omega arith) is
@@ -111,11 +93,11 @@ returns-clause-only c =
 pub returns-clause-small : goal.returns-clause-small
 returns-clause-small c =
     let s = c.args.shape in
-    let k = c.new-sketch.result in
+    let k = draft_of c.new-sketch.result in
     let bytes = c.args.segment.now in
     let a = c.in_ok-read_passes.ensures.takes initial c.new-decoder.ensures.stands in
     let shape = c.in_ok-read_passes.ensures.shape ∙ c.new-sketch.ensures.shape in
-    let z = progress c.read_passes.new.sketch a.next in
+    let z = progress (draft_of c.read_passes.new.sketch) a.next in
     let is = from_blank bytes c.new-decoder.result.bytes s c.args.planes c.args.passes k (done z) c.new-decoder.ensures.bytes c.new-sketch.ensures.shape c.new-sketch.ensures.blank a.is in
     let items : c.in_ok-values.field-0.items ≡ values_of s (coefficients z) = c.in_ok-values.ensures.values a.next ∙ ap (λ (s : BlockShape). values_of s (coefficients z)) shape in
     subst (λ (vs : List ℤ). (k : ℕ) (d : ℤ) → k < length vs → unsigned_abs (get_or vs k d) < 2 ^ c.args.planes) (sym items)

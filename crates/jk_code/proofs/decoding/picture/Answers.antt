@@ -1,5 +1,6 @@
 use Rattle.std.proofs.Common.{◌≡◌, Ok, ◌∙◌, ap, sym, subst}
-use Rattle.jk_math.specs.Picture.{lists_of, IsPicture}
+use Rattle.jk_math.specs.Picture.{IsPicture}
+use Rattle.jk_math.specs.Lists.{lists_of}
 use Rattle.jk_math.specs.Steps.{answers_same, answers_due}
 use Rattle.jk_marks.specs.declared.siz.Siz.{Siz}
 use Rattle.jk_marks.specs.Siz.{tile_count}

@@ -2,11 +2,11 @@ use Rattle.std.proofs.Common.{◌≡◌, ◌<◌, List, ℤ, length, ◌∙◌, 
 use Rattle.std.proofs.lemmas.Bool.{cases_eq}
 use Rattle.std.proofs.lemmas.Result.{err_from_is_err_and}
 use Rattle.std.specs.Global.{Vec}
-use Rattle.jk_math.specs.Picture.{lists_of}
+use Rattle.jk_math.specs.Lists.{lists_of}
 use Rattle.jk_marks.specs.declared.siz.Siz.{Siz}
 use Rattle.jk_marks.specs.Siz.{tile_count}
 use Rattle.jk_walk.proofs.Laws.{packets_within}
-use Rattle.jk_tile.specs.TileReading.{each, tested, tile_planes_at}
+use Rattle.jk_tile.specs.decoding.TileReading.{each, tested, tile_planes_at}
 use Rattle.jk_tile.proofs.Laws.{each_none, each_more, each_fails, refuses_on, tested_ok, tested_err, tile_tested}
 use Rattle.jk_math.specs.declared.rect.Rect.{Rect}
 use Rattle.jk_geom.specs.Rectangles.{IsArea, IsWithin, tile_area}

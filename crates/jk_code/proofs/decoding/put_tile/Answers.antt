@@ -2,7 +2,7 @@ use Rattle.std.proofs.Common.{◌≡◌, ◌<◌, List, ℤ, length, ◌∙◌, 
 use Rattle.std.specs.Vec.{with_items}
 use Rattle.jk_math.specs.Raster.{places_of}
 use Rattle.jk_math.proofs.Laws.{raster_length}
-use Rattle.jk_tile.specs.TileReading.{component_samples}
+use Rattle.jk_tile.specs.decoding.TileReading.{component_samples}
 use Rattle.jk_tile.proofs.Laws.{IsPut, vector_items, with_same}
 use Rattle.jk_code.specs.Tiles.{plane_in}
 use Rattle.jk_code.proofs.Placing.{tile_agrees, shown_vector, shown_vectors, planes_put, planes_keep, planes_show}

@@ -1,5 +1,5 @@
 use Rattle.std.proofs.Common.{ℕ, List, append_assoc, sym, subst}
-use Rattle.jk_boxes.specs.Boxes.{Holds}
+use Rattle.jk_boxes.specs.Boxes.{HoldsCodestream}
 use Rattle.jk_code.specs.Meaning.{MeansPicture}
 use Rattle.jk_code.proofs.WrittenLaws.{text_parts, written_means, written_bare}
 use Rattle.jk_code.proofs.FrontLaws.{fronts_mean}
@@ -16,9 +16,9 @@ returns-clause-means c =
     subst (λ (bytes : List ℕ). MeansPicture bytes 0 p) (sym (returns-clause-value c)) (written_means p c.args.parameters.now c.main_header.ensures.picture c.requires.profile c.in_ok-put_tiles.ensures.fits)
 
 pub returns-clause-bare : goal.returns-clause-bare
-returns-clause-bare c = subst (λ (bytes : List ℕ). Holds bytes bytes) (sym (returns-clause-value c)) (written_bare c.args.image.now c.args.parameters.now)
+returns-clause-bare c = subst (λ (bytes : List ℕ). HoldsCodestream bytes bytes) (sym (returns-clause-value c)) (written_bare c.args.image.now c.args.parameters.now)
 
 pub returns-clause-fronts : goal.returns-clause-fronts
 returns-clause-fronts c bytes holds =
     fronts_mean c.args.image.now c.args.parameters.now bytes c.main_header.ensures.picture c.requires.profile c.in_ok-put_tiles.ensures.fits
-    (subst (λ (text : List ℕ). Holds bytes text) (returns-clause-value c) holds)
+    (subst (λ (text : List ℕ). HoldsCodestream bytes text) (returns-clause-value c) holds)

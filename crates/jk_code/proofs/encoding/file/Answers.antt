@@ -1,10 +1,10 @@
 use Rattle.std.proofs.Common.{ℕ, List, subst}
 use Rattle.jk_math.specs.Steps.{if_ok}
-use Rattle.jk_boxes.specs.Boxes.{Holds}
+use Rattle.jk_boxes.specs.Boxes.{HoldsCodestream}
 use Rattle.jk_code.proofs.encoding.file.Goals as goal
 
 pub returns-in-Raw-clause-fronts : goal.returns-in-Raw-clause-fronts
 returns-in-Raw-clause-fronts c = c.in_ok-codestream.ensures.fronts c.in_ok-codestream.codestream.items c.in_ok-codestream.ensures.bare
 
 pub returns-in-Jp2-clause-fronts : goal.returns-in-Jp2-clause-fronts
-returns-in-Jp2-clause-fronts c = if_ok c.wrap.result (λ v holds. c.in_ok-codestream.ensures.fronts v.items (subst (λ (text : List ℕ). Holds v.items text) c.deref.ensures.value holds)) c.wrap.ensures.holds
+returns-in-Jp2-clause-fronts c = if_ok c.wrap.result (λ v holds. c.in_ok-codestream.ensures.fronts v.items (subst (λ (text : List ℕ). HoldsCodestream v.items text) c.deref.ensures.value holds)) c.wrap.ensures.holds

@@ -3,7 +3,7 @@ use Rattle.std.proofs.lemmas.Result.{err_from_is_err_and}
 use Rattle.jk_marks.specs.Siz.{tile_count}
 use Rattle.jk_walk.specs.declared.places.PacketPlace.{PacketPlace}
 use Rattle.jk_walk.specs.WalkReading.{packets_at}
-use Rattle.jk_tile.specs.TileReading.{tested}
+use Rattle.jk_tile.specs.decoding.TileReading.{tested}
 use Rattle.jk_tile.proofs.Laws.{fine, each_none, each_more, each_fails, refuses_on, tested_err}
 use Rattle.jk_code.specs.Tiles.{AreSeen}
 use Rattle.jk_code.specs.ViewReading.{is_seen, seen_packets_tested}

@@ -1,7 +1,7 @@
 use Rattle.std.proofs.Common.{List, ℤ, length, ap, subst, sym, ◌∙◌}
 use Rattle.std.specs.Global.{Vec}
 use Rattle.jk_math.specs.declared.rect.Rect.{Rect}
-use Rattle.jk_math.specs.Picture.{lists_of}
+use Rattle.jk_math.specs.Lists.{lists_of}
 use Rattle.jk_geom.specs.Rectangles.{meet}
 use Rattle.jk_walk.proofs.Laws.{packets_within}
 use Rattle.jk_tile.specs.Filling.{IsPartOf}

@@ -7,11 +7,11 @@ use Rattle.jk_marks.specs.declared.siz.Siz.{Siz}
 use Rattle.jk_marks.specs.Siz.{tile_count}
 use Rattle.jk_params.specs.Headers.{Headers}
 use Rattle.jk_walk.specs.declared.places.PacketPlace.{PacketPlace}
-use Rattle.jk_tile.specs.TileReading.{tested, part_planes_at}
+use Rattle.jk_tile.specs.decoding.TileReading.{tested, part_planes_at}
 use Rattle.jk_tile.proofs.Laws.{fine, each_none, each_more, each_fails, refuses_on}
 use Rattle.jk_window.specs.Views.{frame_of}
 use Rattle.jk_code.specs.MeaningReading.{places_or, places_at}
-use Rattle.jk_code.specs.Tiles.{ArePlanes, Keeps, ShowsTileAt}
+use Rattle.jk_code.specs.Tiles.{ArePlanes, KeepsSamples, ShowsTileAt}
 use Rattle.jk_code.specs.ViewReading.{seen_part, is_seen, seen_parts_tested}
 use Rattle.jk_code.proofs.Placing.{within_part, planes_are}
 use Rattle.jk_code.proofs.ViewSteps.{if_true, if_false, some_kept, none_kept, none_seen}
@@ -61,7 +61,7 @@ returns-in_err-show_tile-clause-exact c =
 record IsDone (bytes : List ℕ) (h : Headers) (d : ℕ) (w : Rect) (t : ℕ) (old new : List (Vec ℤ)) : Type 0 where
   pub tested : (if is_seen h d w t then tested (part_planes_at bytes h t d (seen_part h d w t) (places_at bytes h t)) else Ok tt) ≡ fine
   pub planes : ArePlanes h w new
-  pub keeps : Keeps bytes h d w old new
+  pub keeps : KeepsSamples bytes h d w old new
   pub shows : ShowsTileAt bytes h d w t h.siz.components new
 
 pub loop-number-preserved : goal.loop-number-preserved

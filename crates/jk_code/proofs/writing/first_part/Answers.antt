@@ -5,7 +5,7 @@ use Rattle.jk_marks.specs.Codestream.{main_text, part_text, codestream_text, seg
 use Rattle.jk_params.specs.declared.parameters.Container.TheVariants.{Jp2}
 use Rattle.jk_params.specs.Profile.{siz_of}
 use Rattle.jk_geom.proofs.Laws.{some_tile}
-use Rattle.jk_tile.specs.PacketsWritten.{tile_text}
+use Rattle.jk_tile.specs.encoding.PacketsWritten.{tile_text}
 use Rattle.jk_code.specs.Written.{main_for, part_for, tree_for}
 use Rattle.jk_code.proofs.BeginningLaws.{ahead_any, ahead_first, part_of_tile, size_said, start_joined, fits_said, file_means}
 use Rattle.jk_code.proofs.writing.first_part.Goals as goal

@@ -3,7 +3,7 @@ use Rattle.jk_marks.specs.declared.siz.Siz.{Siz}
 use Rattle.jk_marks.specs.Siz.{tile_count}
 use Rattle.jk_params.specs.Profile.{siz_of}
 use Rattle.jk_geom.proofs.Laws.{some_tile}
-use Rattle.jk_tile.specs.PacketsWritten.{tile_text}
+use Rattle.jk_tile.specs.encoding.PacketsWritten.{tile_text}
 use Rattle.jk_code.specs.Beginnings.{parts_upto}
 use Rattle.jk_code.proofs.BeginningLaws.{parts_longer, fits_said, fits_more, fits_from}
 use Rattle.jk_code.proofs.writing.rest_size.Goals as goal

@@ -5,7 +5,7 @@ use Rattle.jk_math.specs.Steps.{refuses_due}
 use Rattle.jk_bits.specs.Reading.{Bits, finish_at}
 use Rattle.jk_bits.specs.Giving.{same_bytes}
 use Rattle.jk_bits.proofs.Laws.{finish_within}
-use Rattle.jk_packet.specs.declared.header.Part.{Part}
+use Rattle.jk_packet.specs.declared.header.BlockContribution.{BlockContribution}
 use Rattle.jk_packet.specs.Shapes.{bands_of}
 use Rattle.jk_packet.specs.Reading.{BandState, Walk, bands_seen, bits_of, bits_at, sop_at, eph_at, text_end, text_rest, text_at}
 use Rattle.jk_packet.proofs.BandLaws.{refuses_on}
@@ -116,7 +116,7 @@ returns-clause-exact c =
     ∙ bind_ok (finish_at w.bits) (λ m. text_end s.eph bytes n w m) m (sym c.in_ok-size.ensures.exact)
     ∙ bind_ok (eph_at s.eph (drop (n + m) bytes)) (λ k. Ok (record { length = n + m + k; parts = w.parts }, w.bands)) k
     (ap (eph_at s.eph) (sym c.bytes_from-2.ensures) ∙ ap (λ b. eph_at b c.bytes_from-2.result.now) (sym c.eph.ensures) ∙ sym c.in_ok-eph.ensures.exact)
-    ∙ ap (λ (ps : List Part). Ok (record { length = n + m + k; parts = ps }, w.bands)) (sym c.new.ensures)
+    ∙ ap (λ (ps : List BlockContribution). Ok (record { length = n + m + k; parts = ps }, w.bands)) (sym c.new.ensures)
 
 pub overflow_add-result : goal.overflow_add-result
 overflow_add-result c =

@@ -1,7 +1,7 @@
 use Rattle.std.proofs.Common.{◌≡◌, ◌-◌, ◌++◌, ◌∷◌, [], ℕ, ℤ, List, length, map, drop, pos, ap, ◌∙◌, arith}
 use Rattle.std.specs.Global.{Vec}
 use Rattle.std.proofs.lemmas.List.{length-drop}
-use Rattle.jk_math.specs.Picture.{lists_of}
+use Rattle.jk_math.specs.Lists.{lists_of}
 use Rattle.jk_pnm.specs.Reading.{raster_size}
 use Rattle.jk_pnm.proofs.Tails.{grey_plane}
 use Rattle.jk_pnm.proofs.reading.grey_picture.Goals as goal

@@ -3,7 +3,7 @@ use Rattle.std.specs.Global.{Vec}
 use Rattle.std.specs.List.{range_with_len}
 use Rattle.std.proofs.lemmas.List.{map-append}
 use Rattle.std.proofs.lemmas.List.FromFn.{map-range_with_len_more}
-use Rattle.jk_math.specs.Picture.{lists_of}
+use Rattle.jk_math.specs.Lists.{lists_of}
 use Rattle.jk_pnm.specs.Pnm.{components_of, plane_from}
 use Rattle.jk_pnm.proofs.PlaneLaws.{planes_are}
 use Rattle.jk_pnm.proofs.reading.planes.Goals as goal

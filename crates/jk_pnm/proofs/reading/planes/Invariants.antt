@@ -1,6 +1,6 @@
 use Rattle.std.proofs.Common.{◌≡◌, ◌*◌, map, pos}
 use Rattle.std.specs.List.{range_with_len}
-use Rattle.jk_math.specs.Picture.{lists_of}
+use Rattle.jk_math.specs.Lists.{lists_of}
 use Rattle.jk_pnm.specs.Pnm.{components_of, plane_from}
 use Rattle.jk_pnm.proofs.reading.planes.Given as goal
 

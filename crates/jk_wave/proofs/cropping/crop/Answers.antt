@@ -1,14 +1,10 @@
-use Rattle.std.proofs.Common.{◌≡◌, ℕ, true, ◌&&◌, eqb, List, ◌++◌, length, take, drop, ℤ, ◌∙◌, ap, arith}
+use Rattle.std.proofs.Common.{◌≡◌, ℕ, true, ◌&&◌, eqb, length, take, ◌∙◌, ap, arith}
 use Rattle.std.proofs.lemmas.Bool.Decides.{nat_tests}
-use Rattle.std.proofs.lemmas.Grind.{common_steps}
 use Rattle.jk_math.specs.declared.rect.Rect.{Rect}
 use Rattle.jk_math.specs.Raster.{places_of, plane_at, raster}
 use Rattle.jk_wave.proofs.MovedRows.{crop_whole, crop_part, part_fewer}
+use Rattle.jk_wave.proofs.Rows.{written_items}
 use Rattle.jk_wave.proofs.cropping.crop.Goals as goal
-
--- a plane whose entries were written again
-written : (n : ℕ) (new old : List ℤ) → n ≡ length new → length new ≡ length old → take n (new ++ drop (length new) old) ≡ new
-written n new old e same = grind (arith, common_steps)
 
 same_rect : (a b : Rect) → true ≡ (eqb a.x0 b.x0 && (eqb a.y0 b.y0 && (eqb a.x1 b.x1 && eqb a.y1 b.y1))) → a ≡ b
 same_rect a b e =
@@ -29,7 +25,7 @@ returns c =
     let n : ℕ = places_of c.args.part.now in
     let kept : length c.move_rows.new.plane ≡ length c.args.plane.items = c.move_rows.auto.plane ∙ ap length c.deref_mut.ensures.value in
     c.truncate.ensures.items
-    ∙ ap (take n) (written c.args.plane.len c.move_rows.new.plane c.args.plane.items (omega (arith, c.args.plane.ok.0)) kept)
+    ∙ ap (take n) (written_items c.args.plane.len c.move_rows.new.plane c.args.plane.items (omega (arith, c.args.plane.ok.0)) kept)
     ∙ crop_part c.args.area.now c.args.part.now n c.deref_mut.result.now c.move_rows.new.plane c.requires.part (omega arith) (omega arith)
     c.move_rows.ensures
     ∙ ap (λ l. raster c.args.part.now (plane_at c.args.area.now l)) c.deref_mut.ensures.value

@@ -1,6 +1,6 @@
 use Rattle.std.proofs.Common.{◌≡◌, Ok, ◌∙◌, ap, subst, sym, arith}
 use Rattle.std.specs.Prelude.{reverse}
-use Rattle.jk_math.specs.Picture.{lists_of}
+use Rattle.jk_math.specs.Lists.{lists_of}
 use Rattle.jk_math.specs.Raster.{plane_at}
 use Rattle.jk_wave.proofs.Leaving.{IsLeft, AreAside, left_none, aside_none, left_more, aside_more, left_small, left_length, all_bands, bands_small, lists_turned}
 use Rattle.jk_wave.proofs.forward.analyse.Goals as goal

@@ -1,4 +1,4 @@
-use Rattle.jk_math.specs.Picture.{lists_of}
+use Rattle.jk_math.specs.Lists.{lists_of}
 use Rattle.jk_math.specs.Raster.{plane_at}
 use Rattle.jk_wave.proofs.Leaving.{IsLeft, AreAside}
 use Rattle.jk_wave.proofs.forward.analyse.Given as goal

@@ -1,17 +1,11 @@
-use Rattle.std.proofs.Common.{◌≡◌, ℕ, zero, suc, ◌+◌, ◌-◌, ◌*◌, ◌/◌, ◌%◌, ◌<◌, cond, eqb, refl, sym, ◌∙◌, ap, subst, arith}
+use Rattle.std.proofs.Common.{◌≡◌, ℕ, ◌+◌, ◌-◌, ◌*◌, ◌/◌, ◌%◌, sym, ◌∙◌, ap, subst, arith}
 use Rattle.jk_geom.specs.Rectangles.{IsArea}
 use Rattle.jk_wave.specs.Bands.{numbered_area}
 use Rattle.jk_wave.specs.Levels.{half_area}
 use Rattle.jk_wave.specs.Regions.{IsPartOf, part_area}
 use Rattle.jk_wave.proofs.RegionAreas.{held_is_area, part_lowest, part_number, part_inside}
+use Rattle.jk_wave.proofs.Local.{parities_back}
 use Rattle.jk_wave.proofs.region.part_area.Goals as goal
-
--- an orientation from its two parities
-parities_back : (o : ℕ) → o < 3 → cond (eqb ((o + 1) % 2) 1) 1 0 + cond (eqb ((o + 1) / 2) 1) 2 0 ≡ o + 1
-parities_back zero few = refl
-parities_back (suc zero) few = refl
-parities_back (suc (suc zero)) few = refl
-parities_back (suc (suc (suc o))) few = absurd (omega arith)
 
 pub returns-then-b-eq0-clause-value : goal.returns-then-b-eq0-clause-value
 returns-then-b-eq0-clause-value c =

@@ -1,6 +1,6 @@
 use Rattle.std.proofs.Common.{◌≡◌, true, codes, ℕ, List, IfOk, ap, subst, ◌∙◌, rules}
 use Rattle.std.specs.Str.{bytes_eq}
-use Rattle.jk_web.specs.Places.{path_of, query_of}
+use Rattle.jk_web.specs.Resources.{path_of, query_of}
 use Rattle.jk_web.specs.Queries.{pairs_of, asked_by}
 use Rattle.jk_math.specs.Steps.{if_ok}
 use Rattle.jk_web.specs.Images.{IsBroken, IsOtherRead, IsOtherSent, IsReplyOf}

@@ -1,5 +1,5 @@
 use Rattle.std.proofs.Common.{◌≡◌, inl, true, is_some, IfOk, sym, ◌∙◌}
-use Rattle.jk_web.specs.Places.{whole}
+use Rattle.jk_web.specs.Resources.{whole}
 use Rattle.jk_web.specs.Pairs.{are_none}
 use Rattle.jk_web.specs.Queries.{pairs_of}
 use Rattle.jk_web.specs.Images.{image_of, IsReplyAt, IsKeptReplyAt}

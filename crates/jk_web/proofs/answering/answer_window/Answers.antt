@@ -1,6 +1,6 @@
 use Rattle.std.proofs.Common.{◌≡◌, inl, true, Some, is_some, IfOk, sym, subst, ◌∙◌}
 use Rattle.jk_web.specs.declared.query.Asked.{Asked}
-use Rattle.jk_web.specs.Places.{window}
+use Rattle.jk_web.specs.Resources.{window}
 use Rattle.jk_web.specs.Queries.{pairs_of, asked_by}
 use Rattle.jk_web.specs.Images.{image_of, HasNoCut, IsReplyAtWith, IsKeptReplyAt}
 use Rattle.jk_web.proofs.ImageLaws.{at_name}

@@ -1,67 +1,133 @@
-use Rattle.std.proofs.Common.{◌*◌, ◌^◌, ◌%◌, Bool, cond, ap, ◌∙◌, refl, arith}
+use Rattle.std.proofs.Common.{ℕ, ◌-◌, ◌%◌, ◌<◌, Bool, sym, ap, ◌∙◌, subst, arith}
+use Rattle.std.specs.Prelude.{◌&&◌}
 use Rattle.std.specs.Int.{trailing_zeros, w64}
-use Rattle.std.specs.Int.RustNames.{bit_or}
+use Rattle.std.specs.Int.RustNames.{bit_or, bit_and}
 use Rattle.std.proofs.lemmas.Result.{err_from_is_err_and}
 use Rattle.jk_scan.specs.Neighbours.{is_inside}
-use Rattle.jk_scan.specs.Words.{bordered}
-use Rattle.jk_scan.specs.WordPlaces.{column, row, also}
+use Rattle.jk_scan.specs.declared.shape.BlockShape.{BlockShape}
+use Rattle.jk_scan.specs.Words.{of_rows, bordered}
+use Rattle.jk_scan.specs.WordPlaces.{column, row}
 use Rattle.jk_scan.proofs.Laws.{sooner_zero, sooner_one}
-use Rattle.jk_block.specs.decoding.Sketches.{lit_in}
+use Rattle.jk_block.specs.Fields.{with_word}
+use Rattle.jk_block.specs.Steps.{word_pass}
+use Rattle.jk_block.specs.decoding.Sketches.{Draft, Advanced, draft_of, lit_in, visited_in}
+use Rattle.jk_block.specs.decoding.Sights.{Sees, Held, IsHeld, new_in}
 use Rattle.jk_block.proofs.decoding.Going.{going_fault, going_all}
-use Rattle.jk_block.proofs.decoding.Spreading.{spreading_none, spreading_next, spreading_zero, spreading_one, spreading_all}
+use Rattle.jk_block.proofs.decoding.Holding.{sees_visited}
+use Rattle.jk_block.proofs.decoding.Spreading.{Spreading, spreading_none, spreading_idle, spreading_next, spreading_zero, spreading_one, spreading_all, member_fault, held_behind, draft_behind}
 use Rattle.jk_block.proofs.decoding.words.read_propagation.Goals as goal
+
+pub returns-then-candidates-eq0-clause-takes : goal.returns-then-candidates-eq0-clause-takes
+returns-then-candidates-eq0-clause-takes c =
+    let k = c.args.sketch.now in
+    let at = c.args.spot in
+    let around = c.seen_around-significant.ensures (lit_in (draft_of k)) k.lit in
+    going_all 0 at (draft_of k) (draft_of k) c.args.decoder.now c.args.decoder.now
+    (spreading_idle at (draft_of k) c.args.decoder.now c.members-candidates.result (c.members-candidates.ensures (bordered (lit_in (draft_of k))) (bordered (is_inside k.shape)) at.word at.stripe around c.inside-limits.ensures) (omega arith))
 
 pub loop-candidates-init : goal.loop-candidates-init
 loop-candidates-init c =
     let k = c.args.sketch.now in
     let at = c.args.spot in
-    let around = c.seen_around-seen.ensures (lit_in k) k.lit in
-    spreading_none at k _ c.args.decoder.now c.seen_around-seen.result c.inside-limits.result c.members-candidates.result refl (λ coder. refl) around c.inside-limits.ensures
-    (c.members-candidates.ensures (bordered (lit_in k)) (bordered (is_inside k.shape)) at.word at.stripe around c.inside-limits.ensures)
+    let around = c.seen_around-significant.ensures (lit_in (draft_of k)) k.lit in
+    spreading_none at (draft_of k) c.args.decoder.now _ c.inside-limits.result c.members-candidates.result
+    record { significant = around; negative = c.seen_around-negative.ensures (draft_of k).negative k.signs } c.inside-limits.ensures
+    (c.members-candidates.ensures (bordered (lit_in (draft_of k))) (bordered (is_inside k.shape)) at.word at.stripe around c.inside-limits.ensures)
 
-pub read_propagated-requires-clause-place : goal.read_propagated-requires-clause-place
-read_propagated-requires-clause-place c =
+pub read_new-requires-clause-on_row : goal.read_new-requires-clause-on_row
+read_new-requires-clause-on_row c =
     let l = c.loop-candidates in
-    (spreading_next c.args.spot c.args.sketch.now l.sketch c.args.decoder.now l.decoder l.seen c.inside-limits.result l.candidates l.invariant (omega arith) (omega arith)).place
-
-pub read_propagated-requires-clause-due : goal.read_propagated-requires-clause-due
-read_propagated-requires-clause-due c =
-    let l = c.loop-candidates in
-    (spreading_next c.args.spot c.args.sketch.now l.sketch c.args.decoder.now l.decoder l.seen c.inside-limits.result l.candidates l.invariant (omega arith) (omega arith)).due
+    (spreading_next c.args.spot (draft_of c.args.sketch.now) c.args.decoder.now l.decoder l.sight c.inside-limits.result l.candidates l.visited l.invariant (omega arith) (omega arith)).place.on_row
 
 pub returns-in_err-bit-clause-takes : goal.returns-in_err-bit-clause-takes
 returns-in_err-bit-clause-takes c =
     let p = err_from_is_err_and c.from_residual.result c.from_residual.ensures.1 in
     let l = c.loop-candidates in
-    let next = spreading_next c.args.spot c.args.sketch.now l.sketch c.args.decoder.now l.decoder l.seen c.inside-limits.result l.candidates l.invariant (omega arith) (omega arith) in
-    rw (p.1, p.2) (going_fault 0 c.args.spot (trailing_zeros w64 l.candidates) c.args.sketch.now l.sketch c.args.decoder.now l.decoder c.in_err-bit.field-0.0 next.going next.place c.in_err-bit.ensures.takes)
+    let k = c.args.sketch.now in
+    let at = c.args.spot in
+    let z = trailing_zeros w64 l.candidates in
+    let x = column at.word z in
+    let y = row at.stripe z in
+    let d = l.invariant.draft in
+    let next = spreading_next at (draft_of k) c.args.decoder.now l.decoder l.sight c.inside-limits.result l.candidates l.visited l.invariant (omega arith) (omega arith) in
+    rw (p.1, p.2) (going_fault 0 at z (draft_of k) d c.args.decoder.now l.decoder c.in_err-bit.field-0.0 next.going next.place
+    (member_fault at d l.decoder z c.in_err-bit.field-0.0 next.place next.due
+    (c.in_err-bit.ensures.takes at (visited_in x y d) (ap (λ s. s.orientation) l.invariant.going.shape) next.place (sees_visited at d l.sight x y l.invariant.held.sees))))
 
 pub loop-candidates-smaller : goal.loop-candidates-smaller
 loop-candidates-smaller c = sooner_zero c.loop-candidates.candidates (omega arith) (omega arith)
 
 pub loop-candidates-smaller-then-bit : goal.loop-candidates-smaller-then-bit
 loop-candidates-smaller-then-bit c =
-    sooner_one c.loop-candidates.candidates c.inside-limits.result (bit_or c.loop-candidates.seen.centre (1 * 2 ^ trailing_zeros w64 c.loop-candidates.candidates % 2 ^ 64)) (omega arith) (omega arith)
+    let n = c.loop-candidates.candidates in
+    subst (λ (r : ℕ). 64 - trailing_zeros w64 (bit_or (bit_and n (n - 1)) r) < 64 - trailing_zeros w64 n) (sym c.later_touched-reached.ensures.is)
+    (sooner_one n c.inside-limits.result c.read_new.new.sight.significant.centre (omega arith) (omega arith))
 
 pub loop-candidates-preserved : goal.loop-candidates-preserved
 loop-candidates-preserved c =
     let l = c.loop-candidates in
-    let z = trailing_zeros w64 l.candidates in
+    let k = c.args.sketch.now in
     let at = c.args.spot in
-    spreading_zero at c.args.sketch.now l.sketch c.read_propagated.new.sketch c.args.decoder.now l.decoder c.read_propagated.new.decoder l.seen c.inside-limits.result l.candidates c.in_ok-bit.bit l.invariant (omega arith) (omega arith)
-    c.in_ok-bit.ensures.takes c.in_ok-bit.ensures.shape c.in_ok-bit.ensures.bytes
-    (λ x y. c.in_ok-bit.ensures.lit x y ∙ ap (λ (b : Bool). cond b (also (lit_in l.sketch) (column at.word z) (row at.stripe z) x y) (lit_in l.sketch x y)) c.if-bit.false)
+    let z = trailing_zeros w64 l.candidates in
+    let x = column at.word z in
+    let y = row at.stripe z in
+    let d = l.invariant.draft in
+    let dv = visited_in x y d in
+    let next = spreading_next at (draft_of k) c.args.decoder.now l.decoder l.sight c.inside-limits.result l.candidates l.visited l.invariant (omega arith) (omega arith) in
+    let place = next.place in
+    let sees = sees_visited at d l.sight x y l.invariant.held.sees in
+    let takes = c.in_ok-bit.ensures.takes at dv (ap (λ s. s.orientation) l.invariant.going.shape) place sees in
+    spreading_zero at (draft_of k) c.args.decoder.now l.decoder c.read_new.new.decoder l.sight c.read_new.new.sight c.inside-limits.result l.candidates l.visited c.in_ok-bit.bit l.invariant (omega arith) (omega arith)
+    (λ coder st. rw c.if-bit.false at takes coder st) c.in_ok-bit.ensures.bytes
+    (subst (λ (b : Bool). Sees at (new_in at z b c.read_new.new.sight dv) c.read_new.new.sight) c.if-bit.false (c.in_ok-bit.ensures.sees at dv place sees))
 
 pub loop-candidates-preserved-then-bit : goal.loop-candidates-preserved-then-bit
 loop-candidates-preserved-then-bit c =
     let l = c.loop-candidates in
-    let z = trailing_zeros w64 l.candidates in
+    let k = c.args.sketch.now in
     let at = c.args.spot in
-    spreading_one at c.args.sketch.now l.sketch c.read_propagated.new.sketch c.args.decoder.now l.decoder c.read_propagated.new.decoder l.seen c.inside-limits.result l.candidates c.in_ok-bit.bit l.invariant (omega arith) (omega arith) (omega arith)
-    c.in_ok-bit.ensures.takes c.in_ok-bit.ensures.shape c.in_ok-bit.ensures.bytes
-    (λ x y. c.in_ok-bit.ensures.lit x y ∙ ap (λ (b : Bool). cond b (also (lit_in l.sketch) (column at.word z) (row at.stripe z) x y) (lit_in l.sketch x y)) c.if-bit.true)
+    let z = trailing_zeros w64 l.candidates in
+    let x = column at.word z in
+    let y = row at.stripe z in
+    let d = l.invariant.draft in
+    let dv = visited_in x y d in
+    let next = spreading_next at (draft_of k) c.args.decoder.now l.decoder l.sight c.inside-limits.result l.candidates l.visited l.invariant (omega arith) (omega arith) in
+    let sees = sees_visited at d l.sight x y l.invariant.held.sees in
+    let takes = c.in_ok-bit.ensures.takes at dv (ap (λ s. s.orientation) l.invariant.going.shape) next.place sees in
+    subst (λ (r : ℕ). Spreading at (draft_of k) c.args.decoder.now c.read_new.new.decoder c.read_new.new.sight c.inside-limits.result (bit_or (bit_and l.candidates (l.candidates - 1)) r) (bit_or l.visited r)) (sym c.later_touched-reached.ensures.is)
+    (spreading_one at (draft_of k) c.args.decoder.now l.decoder c.read_new.new.decoder l.sight c.read_new.new.sight c.inside-limits.result l.candidates l.visited c.in_ok-bit.bit l.invariant (omega arith) (omega arith) c.later_touched-reached.ensures.fits
+    (λ coder st. rw c.if-bit.true at takes coder st) c.in_ok-bit.ensures.bytes
+    (subst (λ (b : Bool). Sees at (new_in at z b c.read_new.new.sight dv) c.read_new.new.sight) c.if-bit.true (c.in_ok-bit.ensures.sees at dv next.place sees)))
+
+pub visit_all-requires-clause-inside : goal.visit_all-requires-clause-inside
+visit_all-requires-clause-inside c = λ m l e. let i = c.loop-candidates.invariant in ap (λ (s : BlockShape). of_rows (m % 8) && is_inside s (column c.args.spot.word m) (row c.args.spot.stripe m)) (sym i.going.shape) ∙ i.marks.inside m l e
+
+pub light_all-requires-clause-held : goal.light_all-requires-clause-held
+light_all-requires-clause-held c =
+    let l = c.loop-candidates in
+    let k = c.args.sketch.now in
+    let at = c.args.spot in
+    subst (λ (k : Draft). IsHeld at k l.sight) (sym c.visit_all.ensures.visited)
+    record { draft = l.invariant.draft; held = held_behind at (draft_of k) l.invariant.draft l.sight (with_word (draft_of k).visited at.word at.stripe l.visited) l.invariant.held }
+
+pub returns-clause-shape : goal.returns-clause-shape
+returns-clause-shape c =
+    let l = c.loop-candidates in
+    let k = c.args.sketch.now in
+    let at = c.args.spot in
+    let d = l.invariant.draft in
+    let held = subst (λ (k : Draft). Held at k l.sight d) (sym c.visit_all.ensures.visited) (held_behind at (draft_of k) d l.sight (with_word (draft_of k).visited at.word at.stripe l.visited) l.invariant.held) in
+    ap (λ (d : Draft). d.shape) (c.light_all.ensures.lit d held) ∙ l.invariant.going.shape
 
 pub returns-clause-takes : goal.returns-clause-takes
-returns-clause-takes c =
+returns-clause-takes c = λ coder st.
     let l = c.loop-candidates in
-    going_all 0 c.args.spot c.args.sketch.now l.sketch c.args.decoder.now l.decoder (spreading_all c.args.spot c.args.sketch.now l.sketch c.args.decoder.now l.decoder l.seen c.inside-limits.result l.candidates l.invariant (omega arith))
+    let k = c.args.sketch.now in
+    let at = c.args.spot in
+    let v = c.args.decoder.now in
+    let limits = c.inside-limits.result in
+    let d = l.invariant.draft in
+    let held = subst (λ (k : Draft). Held at k l.sight d) (sym c.visit_all.ensures.visited) (held_behind at (draft_of k) d l.sight (with_word (draft_of k).visited at.word at.stripe l.visited) l.invariant.held) in
+    let behind = draft_behind at (draft_of k) v l.decoder l.sight limits l.candidates l.visited l.invariant (omega arith) (draft_of c.visit_all.new.self) (draft_of c.light_all.new.self) c.visit_all.ensures.visited (c.light_all.ensures.lit d held) in
+    subst (λ (n : Draft). Advanced (word_pass v.bytes k.shape at.plane 0 at.word at.stripe) (draft_of k) n l.decoder coder) (sym behind)
+    (going_all 0 at (draft_of k) d v l.decoder (spreading_all at (draft_of k) v l.decoder l.sight limits l.candidates l.visited l.invariant (omega arith)) coder st)

@@ -1,4 +1,5 @@
-use Rattle.std.proofs.Common.{◌∙◌, refl, sym, ap, arith}
+use Rattle.std.proofs.Common.{ℕ, ◌-◌, ◌*◌, ◌^◌, ◌%◌, ◌∙◌, sym, ap, subst, arith}
+use Rattle.std.specs.Int.RustNames.{bit_or, bit_and}
 use Rattle.std.specs.Int.{trailing_zeros, w64}
 use Rattle.std.proofs.lemmas.Result.{err_from_is_err_and}
 use Rattle.jk_scan.specs.declared.shape.BlockShape.{BlockShape}
@@ -6,58 +7,44 @@ use Rattle.jk_scan.specs.Words.{bordered}
 use Rattle.jk_scan.specs.WordPlaces.{column, row}
 use Rattle.jk_scan.specs.Flags.{flag_at}
 use Rattle.jk_scan.proofs.Laws.{sooner_zero, bit_is}
-use Rattle.jk_block.specs.decoding.Sketches.{lit_in}
+use Rattle.jk_block.specs.Steps.{word_pass}
+use Rattle.jk_block.specs.decoding.Sketches.{Draft, Advanced, IsFresh, draft_of, lit_in}
 use Rattle.jk_block.proofs.decoding.Aging.{next_context}
 use Rattle.jk_block.proofs.decoding.Going.{going_fault, going_all}
-use Rattle.jk_block.proofs.decoding.Refining.{refining_none, refining_next, refining_one, refining_all}
+use Rattle.jk_block.proofs.decoding.Refining.{Refining, refining_none, refining_idle, refining_next, refining_one, refining_all, refined_all, may_refine}
 use Rattle.jk_block.proofs.decoding.words.read_refinement.Goals as goal
+
+pub returns-then-places-eq0-clause-takes : goal.returns-then-places-eq0-clause-takes
+returns-then-places-eq0-clause-takes c =
+    let k = draft_of c.args.sketch.now in
+    let v = c.args.decoder.now in
+    going_all 1 c.args.spot k k v v (refining_idle c.args.spot k v c.older-places.result c.older-places.ensures (omega arith))
 
 pub loop-candidates-init : goal.loop-candidates-init
 loop-candidates-init c =
     let k = c.args.sketch.now in
     let at = c.args.spot in
-    let around = c.seen_around-seen.ensures (lit_in k) k.lit in
-    refining_none at c.args.refined.now k _ c.args.decoder.now c.touched_places-touched.result c.older-candidates.result refl (λ coder. refl) c.requires.fresh
-    (c.touched_places-touched.ensures (bordered (lit_in k)) at.word at.stripe around) c.older-candidates.ensures
+    let around = c.seen_around-significant.ensures (lit_in (draft_of k)) k.lit in
+    refining_none at c.args.refined.now (draft_of k) c.args.decoder.now c.touched_places-touched.result c.older-places.result c.requires.fresh
+    (c.touched_places-touched.ensures (bordered (lit_in (draft_of k))) at.word at.stripe around) c.older-places.ensures
 
-pub read_refined-requires-clause-place : goal.read_refined-requires-clause-place
-read_refined-requires-clause-place c =
-    let l = c.loop-candidates in
-    (refining_next c.args.spot c.args.refined.now c.args.sketch.now l.sketch c.args.decoder.now l.decoder c.touched_places-touched.result l.candidates l.invariant (omega arith) (omega arith)).place
-
-pub read_refined-requires-clause-lit : goal.read_refined-requires-clause-lit
-read_refined-requires-clause-lit c =
-    let l = c.loop-candidates in
-    (refining_next c.args.spot c.args.refined.now c.args.sketch.now l.sketch c.args.decoder.now l.decoder c.touched_places-touched.result l.candidates l.invariant (omega arith) (omega arith)).lit
-
-pub read_refined-requires-clause-uncoded : goal.read_refined-requires-clause-uncoded
-read_refined-requires-clause-uncoded c =
-    let l = c.loop-candidates in
-    (refining_next c.args.spot c.args.refined.now c.args.sketch.now l.sketch c.args.decoder.now l.decoder c.touched_places-touched.result l.candidates l.invariant (omega arith) (omega arith)).uncoded
-
-pub read_refined-requires-clause-context : goal.read_refined-requires-clause-context
-read_refined-requires-clause-context c =
-    let l = c.loop-candidates in
-    let z = trailing_zeros w64 l.candidates in
-    let next = refining_next c.args.spot c.args.refined.now c.args.sketch.now l.sketch c.args.decoder.now l.decoder c.touched_places-touched.result l.candidates l.invariant (omega arith) (omega arith) in
-    next_context c.args.spot c.args.refined.now l.sketch c.refined_places-again.result c.touched_places-touched.result z c.refine_context-context.result _ _ l.invariant.fresh next.place
-    (c.refined_places-again.ensures z next.place.within next.place.on_row ∙ ap (λ (s : BlockShape). flag_at s c.args.refined.now (column c.args.spot.word z) (row c.args.spot.stripe z)) (sym l.invariant.going.shape))
-    (l.invariant.near z next.place.within next.place.on_row)
-    (bit_is c.refined_places-again.result z) (bit_is c.touched_places-touched.result z) c.refine_context-context.ensures.value
-
-pub read_refined-requires-clause-large : goal.read_refined-requires-clause-large
-read_refined-requires-clause-large c =
-    let l = c.loop-candidates in
-    let z = trailing_zeros w64 l.candidates in
-    let next = refining_next c.args.spot c.args.refined.now c.args.sketch.now l.sketch c.args.decoder.now l.decoder c.touched_places-touched.result l.candidates l.invariant (omega arith) (omega arith) in
-    l.invariant.fresh.higher (column c.args.spot.word z) (row c.args.spot.stripe z) next.lit next.uncoded
-
-pub returns-in_err-read_refined-clause-takes : goal.returns-in_err-read_refined-clause-takes
-returns-in_err-read_refined-clause-takes c =
+pub returns-in_err-bit-clause-takes : goal.returns-in_err-bit-clause-takes
+returns-in_err-bit-clause-takes c =
     let p = err_from_is_err_and c.from_residual.result c.from_residual.ensures.1 in
     let l = c.loop-candidates in
-    let next = refining_next c.args.spot c.args.refined.now c.args.sketch.now l.sketch c.args.decoder.now l.decoder c.touched_places-touched.result l.candidates l.invariant (omega arith) (omega arith) in
-    rw (p.1, p.2) (going_fault 1 c.args.spot (trailing_zeros w64 l.candidates) c.args.sketch.now l.sketch c.args.decoder.now l.decoder c.in_err-read_refined.field-0.0 next.going next.place c.in_err-read_refined.ensures.takes)
+    let k = draft_of c.args.sketch.now in
+    let at = c.args.spot in
+    let v = c.args.decoder.now in
+    let z = trailing_zeros w64 l.candidates in
+    let d = l.invariant.draft in
+    let seen = c.touched_places-touched.result in
+    let again = c.refined_places-again.result in
+    let next = refining_next at c.args.refined.now k v l.decoder seen c.older-places.result l.candidates l.ones l.invariant (omega arith) (omega arith) in
+    let context = next_context at c.args.refined.now d again seen z c.refine_context-context.result _ _ l.invariant.fresh next.place
+    (c.refined_places-again.ensures z next.place.within next.place.on_row ∙ ap (λ (s : BlockShape). flag_at s c.args.refined.now (column at.word z) (row at.stripe z)) (sym l.invariant.going.shape))
+    (l.invariant.near z next.place.within next.place.on_row) (bit_is again z) (bit_is seen z) c.refine_context-context.ensures.value in
+    rw (p.1, p.2) (going_fault 1 at z k d v l.decoder c.in_err-bit.field-0.0 next.going next.place
+    (c.in_err-bit.ensures.takes at d (column at.word z) (row at.stripe z) next.lit next.uncoded context))
 
 pub loop-candidates-smaller : goal.loop-candidates-smaller
 loop-candidates-smaller c = sooner_zero c.loop-candidates.candidates (omega arith) (omega arith)
@@ -65,10 +52,39 @@ loop-candidates-smaller c = sooner_zero c.loop-candidates.candidates (omega arit
 pub loop-candidates-preserved : goal.loop-candidates-preserved
 loop-candidates-preserved c =
     let l = c.loop-candidates in
-    refining_one c.args.spot c.args.refined.now c.args.sketch.now l.sketch c.read_refined.new.sketch c.args.decoder.now l.decoder c.read_refined.new.decoder c.touched_places-touched.result l.candidates c.in_ok-read_refined.field-0 l.invariant (omega arith) (omega arith)
-    c.in_ok-read_refined.ensures.takes c.in_ok-read_refined.ensures.shape c.in_ok-read_refined.ensures.bytes c.in_ok-read_refined.ensures.lit c.in_ok-read_refined.ensures.visited (c.in_ok-read_refined.ensures.fresh c.args.refined.now l.invariant.fresh)
+    let k = draft_of c.args.sketch.now in
+    let at = c.args.spot in
+    let v = c.args.decoder.now in
+    let z = trailing_zeros w64 l.candidates in
+    let d = l.invariant.draft in
+    let seen = c.touched_places-touched.result in
+    let again = c.refined_places-again.result in
+    let next = refining_next at c.args.refined.now k v l.decoder seen c.older-places.result l.candidates l.ones l.invariant (omega arith) (omega arith) in
+    let context = next_context at c.args.refined.now d again seen z c.refine_context-context.result _ _ l.invariant.fresh next.place
+    (c.refined_places-again.ensures z next.place.within next.place.on_row ∙ ap (λ (s : BlockShape). flag_at s c.args.refined.now (column at.word z) (row at.stripe z)) (sym l.invariant.going.shape))
+    (l.invariant.near z next.place.within next.place.on_row) (bit_is again z) (bit_is seen z) c.refine_context-context.ensures.value in
+    subst (λ (one : ℕ). Refining at c.args.refined.now k v c.read_refined.new.decoder seen c.older-places.result (bit_and l.candidates (l.candidates - 1)) (bit_or l.ones (one * 2 ^ z % 2 ^ 64))) (sym c.digit.ensures)
+    (refining_one at c.args.refined.now k v l.decoder c.read_refined.new.decoder seen c.older-places.result l.candidates l.ones c.in_ok-bit.bit c.in_ok-bit.bit l.invariant (omega arith) (omega arith) (omega arith) (omega arith)
+    (c.in_ok-bit.ensures.takes at d (column at.word z) (row at.stripe z) next.lit next.uncoded context) c.in_ok-bit.ensures.bytes)
+
+pub refine_all-requires-clause-refined : goal.refine_all-requires-clause-refined
+refine_all-requires-clause-refined c =
+    may_refine c.args.spot c.args.refined.now (draft_of c.args.sketch.now) c.older-places.result c.loop-candidates.ones c.requires.fresh c.older-places.ensures c.loop-candidates.invariant.bits.only
+
+pub returns-clause-fresh : goal.returns-clause-fresh
+returns-clause-fresh c =
+    let l = c.loop-candidates in
+    let at = c.args.spot in
+    let behind = refined_all at c.args.refined.now (draft_of c.args.sketch.now) c.args.decoder.now l.decoder c.touched_places-touched.result c.older-places.result l.candidates l.ones l.invariant (omega arith) in
+    subst (λ (d : Draft). IsFresh at.plane c.args.refined.now d) (behind ∙ sym c.refine_all.ensures.refined) l.invariant.fresh
 
 pub returns-clause-takes : goal.returns-clause-takes
-returns-clause-takes c =
+returns-clause-takes c = λ coder st.
     let l = c.loop-candidates in
-    going_all 1 c.args.spot c.args.sketch.now l.sketch c.args.decoder.now l.decoder (refining_all c.args.spot c.args.refined.now c.args.sketch.now l.sketch c.args.decoder.now l.decoder c.touched_places-touched.result l.candidates l.invariant (omega arith))
+    let k = draft_of c.args.sketch.now in
+    let at = c.args.spot in
+    let v = c.args.decoder.now in
+    let seen = c.touched_places-touched.result in
+    let behind = refined_all at c.args.refined.now k v l.decoder seen c.older-places.result l.candidates l.ones l.invariant (omega arith) in
+    subst (λ (n : Draft). Advanced (word_pass v.bytes k.shape at.plane 1 at.word at.stripe) k n l.decoder coder) (behind ∙ sym c.refine_all.ensures.refined)
+    (going_all 1 at k l.invariant.draft v l.decoder (refining_all at c.args.refined.now k v l.decoder seen c.older-places.result l.candidates l.ones l.invariant (omega arith)) coder st)

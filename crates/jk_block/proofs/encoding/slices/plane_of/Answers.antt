@@ -1,5 +1,5 @@
-use Rattle.jk_block.proofs.encoding.Slicing.{plane_bits}
+use Rattle.jk_block.proofs.WordBits.{row_bits_are}
 use Rattle.jk_block.proofs.encoding.slices.plane_of.Goals as goal
 
 pub returns : goal.returns
-returns c n i p q = plane_bits c.args.slice c.args.bit n i c.requires p q
+returns c n i p q = row_bits_are c.args.slice c.args.bit n i c.requires p q

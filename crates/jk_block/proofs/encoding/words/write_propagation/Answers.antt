@@ -9,7 +9,8 @@ use Rattle.jk_scan.specs.Flags.{IsDrawn}
 use Rattle.jk_scan.proofs.Laws.{sooner_zero}
 use Rattle.jk_block.specs.encoding.Reached.{is_reached}
 use Rattle.jk_block.specs.encoding.Sheets.{told}
-use Rattle.jk_block.specs.encoding.Viewed.{lit_at, negative_in, with_word, moment_at}
+use Rattle.jk_block.specs.encoding.Viewed.{lit_at, negative_in, moment_at}
+use Rattle.jk_block.specs.Fields.{with_word}
 use Rattle.jk_block.proofs.encoding.Behind.{flagged_spread}
 use Rattle.jk_block.proofs.encoding.Coming.{told_all}
 use Rattle.jk_block.proofs.encoding.Foreseen.{Listing, foreseen_none, all_rows, some_rows, listing_next, listing_place, listing_all, signs_here}

@@ -1,8 +1,8 @@
-use Rattle.std.proofs.Common.{◌≡◌, ◌∙◌, ap, sym, subst, ◌+◌, ◌*◌, ◌%◌, ◌^◌, cond, not, get_or, arith}
+use Rattle.std.proofs.Common.{◌≡◌, ◌∙◌, ap, sym, subst, ◌+◌, ◌%◌, ◌^◌, cond, not, get_or, arith}
 use Rattle.std.proofs.lemmas.Nat.{and_mask}
 use Rattle.jk_model.specs.Contexts.{Context, moved}
 use Rattle.jk_model.specs.Steps.{steps, entry_of, context_of, IsEntry}
-use Rattle.jk_model.proofs.StepLaws.{after_is, row_end, move_sound, entry_sound, context_back}
+use Rattle.jk_model.proofs.StepLaws.{after_is, after_end, move_sound, entry_sound, context_back}
 use Rattle.jk_model.proofs.steps.Step.after.Goals as goal
 use Rattle.jk_model.proofs.steps.Step.after.Goals.{After-entry_at}
 
@@ -10,7 +10,7 @@ pub entry_at-requires : goal.entry_at-requires
 entry_at-requires c =
     let e = c.self.inside.entry in
     let row = and_mask e 16 in
-    let end = row_end e c.args.moves c.args.less c.self.invariant in
+    let end = after_end e c.args.moves c.args.less c.self.invariant in
     let a = c.digit.ensures in
     let b = c.digit-2.ensures in
     omega (arith, row, end, a, b)
@@ -20,9 +20,9 @@ entry : (c : After-entry_at) → c.entry_at.result ≡ entry_of (cond c.args.mov
 entry c =
     let e = c.self.inside.entry in
     c.entry_at.ensures
-    ∙ ap (λ r. get_or steps (r + c.digit.result + 2 * c.digit-2.result) 0) (and_mask e 16)
-    ∙ ap (λ m. get_or steps (e % 2 ^ 16 + m + 2 * c.digit-2.result) 0) c.digit.ensures
-    ∙ ap (λ l. get_or steps (e % 2 ^ 16 + cond c.args.moves 1 0 + 2 * l) 0) c.digit-2.ensures
+    ∙ ap (λ r. get_or steps (r + c.digit.result + c.digit-2.result) 0) (and_mask e 16)
+    ∙ ap (λ m. get_or steps (e % 2 ^ 16 + m + c.digit-2.result) 0) c.digit.ensures
+    ∙ ap (λ l. get_or steps (e % 2 ^ 16 + cond c.args.moves 1 0 + l) 0) c.digit-2.ensures
     ∙ after_is e c.args.moves c.args.less c.self.invariant
 
 pub invariant_of-result : goal.invariant_of-result

@@ -7,13 +7,13 @@ use Rattle.jk_tree.specs.Asking.{Tree}
 use Rattle.jk_tree.specs.TagTree.{shape_of}
 use Rattle.jk_packet.specs.declared.shape.BandShape.{BandShape}
 use Rattle.jk_packet.specs.declared.block.Block.{Block}
-use Rattle.jk_packet.specs.declared.header.Part.{Part}
+use Rattle.jk_packet.specs.declared.header.BlockContribution.{BlockContribution}
 use Rattle.jk_packet.specs.Words.{most_passes}
 use Rattle.jk_packet.specs.Reading.{BandState, BandWalk, block_in, grown, part_of, included_at, zero_planes_at, piece_at, with_inclusion, block_at}
 use Rattle.jk_packet.proofs.BandLaws.{block_err, block_left, block_taken, taken_zeros_err, taken_piece_err, taken_ok}
 use Rattle.jk_packet.proofs.band.Band.read_block.Goals as goal
 
-abbrev walk_at : BandShape → List Block → Tree → Tree → Bits → List Part → BandWalk
+abbrev walk_at : BandShape → List Block → Tree → Tree → Bits → List BlockContribution → BandWalk
 walk_at shape blocks inclusion zeros bits parts = record {
   band = record { shape = shape_of shape.across shape.down; planes = shape.planes; blocks = blocks; inclusion = inclusion; zeros = zeros };
   bits = bits;
@@ -96,7 +96,7 @@ returns-clause-exact c =
       bits = c.read_piece.new.reader;
       parts = c.args.parts.now.items ++ part_of c.args.number c.args.index z.0 p ∷ [];
     })) (sym block)
-    ∙ ap (λ (ps : List Part). Ok (record {
+    ∙ ap (λ (ps : List BlockContribution). Ok (record {
       band = record { shape = shape_of s.shape.across s.shape.down; planes = s.shape.planes; blocks = set s.blocks.items c.args.index (grown c.index-block.result.now z.0 p); inclusion = c.read_inclusion.new.tree; zeros = c.read_zero_planes.new.tree };
       bits = c.read_piece.new.reader;
       parts = ps;

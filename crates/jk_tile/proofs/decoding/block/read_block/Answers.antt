@@ -2,9 +2,9 @@ use Rattle.std.proofs.Common.{map, take, drop, get_or, ◌+◌, ◌-◌, ◌∙�
 use Rattle.jk_math.specs.Steps.{answers_same}
 use Rattle.jk_block.specs.Reading.{block_at}
 use Rattle.jk_tile.specs.declared.decoding.bodies.BodyPlace.{BodyPlace}
-use Rattle.jk_tile.specs.TileReading.{bodies_values}
-use Rattle.jk_tile.specs.Gathered.{body_of}
-use Rattle.jk_tile.proofs.Blocks.{block_is, one_body, if_small, if_long}
+use Rattle.jk_tile.specs.decoding.TileReading.{bodies_values}
+use Rattle.jk_tile.specs.decoding.Gathered.{body_of}
+use Rattle.jk_tile.proofs.decoding.Blocks.{block_is, one_body, if_small, if_long}
 use Rattle.jk_tile.proofs.decoding.block.read_block.Goals as goal
 
 pub returns-then-bodies-eq1-clause-exact : goal.returns-then-bodies-eq1-clause-exact

@@ -1,8 +1,8 @@
 use Rattle.std.proofs.Common.{◌≡◌, ◌+◌, ◌≤◌, ◌++◌, List, ℕ, length, take}
 use Rattle.jk_walk.specs.TilePackets.{Body}
 use Rattle.jk_walk.specs.WalkReading.{place_end, bodies_at}
-use Rattle.jk_tile.specs.Gathered.{AreByBlock}
-use Rattle.jk_tile.proofs.Gathering.{lengths}
+use Rattle.jk_tile.specs.decoding.Gathered.{AreByBlock}
+use Rattle.jk_tile.proofs.decoding.Gathering.{lengths}
 use Rattle.jk_tile.proofs.decoding.bodies.add_bodies.Given as goal
 
 abbrev pub invariant-loop-index : goal.invariant-loop-index

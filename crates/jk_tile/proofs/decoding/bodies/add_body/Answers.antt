@@ -1,4 +1,4 @@
-use Rattle.jk_tile.proofs.Gathering.{list_set}
+use Rattle.jk_tile.proofs.decoding.Gathering.{list_set}
 use Rattle.jk_tile.proofs.decoding.bodies.add_body.Goals as goal
 
 pub returns-clause-lists : goal.returns-clause-lists

@@ -2,8 +2,8 @@ use Rattle.std.proofs.Common.{◌≡◌, ◌<◌, ◌≤◌, ◌^◌, ℕ, List,
 use Rattle.std.proofs.lemmas.List.{take_all}
 use Rattle.jk_walk.specs.declared.places.PacketPlace.{PacketPlace}
 use Rattle.jk_walk.specs.WalkReading.{place_end}
-use Rattle.jk_tile.specs.Gathered.{place_in, bodies_in, AreByBlock}
-use Rattle.jk_tile.proofs.Gathering.{place_read, by_block_none, by_block_packet, ends_read}
+use Rattle.jk_tile.specs.decoding.Gathered.{place_in, bodies_in, AreByBlock}
+use Rattle.jk_tile.proofs.decoding.Gathering.{place_read, by_block_none, by_block_packet, ends_read}
 use Rattle.jk_tile.proofs.decoding.bodies.bodies_by_block.Goals as goal
 
 pub loop-index-init : goal.loop-index-init

@@ -1,7 +1,7 @@
 use Rattle.std.proofs.Common.{◌≡◌, ◌≤◌, ℕ, length, map, take}
 use Rattle.std.specs.List.{AllByRecursion}
 use Rattle.jk_walk.specs.WalkReading.{place_end}
-use Rattle.jk_tile.specs.Gathered.{AreByBlock, bodies_in, place_in}
+use Rattle.jk_tile.specs.decoding.Gathered.{AreByBlock, bodies_in, place_in}
 use Rattle.jk_tile.proofs.decoding.bodies.bodies_by_block.Given as goal
 
 abbrev pub invariant-loop-index : goal.invariant-loop-index

@@ -1,7 +1,7 @@
 use Rattle.std.proofs.Common.{◌+◌, ◌∷◌, [], length, ap, ◌∙◌}
 use Rattle.std.proofs.lemmas.List.{length-append}
-use Rattle.jk_tile.specs.Gathered.{list_at}
-use Rattle.jk_tile.proofs.Gathering.{list_push}
+use Rattle.jk_math.specs.Lists.{list_at}
+use Rattle.jk_tile.proofs.decoding.Gathering.{list_push}
 use Rattle.jk_tile.proofs.decoding.bodies.empty_bodies.Goals as goal
 
 pub loop-preserved : goal.loop-preserved

@@ -1,5 +1,5 @@
 use Rattle.std.proofs.Common.{◌≡◌, ℕ, [], length}
-use Rattle.jk_tile.specs.Gathered.{list_at}
+use Rattle.jk_math.specs.Lists.{list_at}
 use Rattle.jk_tile.proofs.decoding.bodies.empty_bodies.Given as goal
 
 abbrev pub invariant-loop : goal.invariant-loop

@@ -1,6 +1,6 @@
 use Rattle.std.proofs.Common.{◌≡◌, take, map}
 use Rattle.jk_tile.specs.TileBlocks.{segment_of}
-use Rattle.jk_tile.specs.Gathered.{body_of}
+use Rattle.jk_tile.specs.decoding.Gathered.{body_of}
 use Rattle.jk_tile.proofs.decoding.bodies.join.Given as goal
 
 abbrev pub invariant-loop-index : goal.invariant-loop-index

@@ -1,6 +1,6 @@
 use Rattle.std.proofs.Common.{◌≡◌, ◌-◌, ◌<◌, ℕ, get_or, sym, subst, ◌∙◌, arith}
 use Rattle.std.proofs.lemmas.Grind.{get_or_default_zero}
-use Rattle.jk_tile.proofs.Chaining.{IsFollowing, to_go, following_starts, following_inside, following_nearer, following_more, following_over}
+use Rattle.jk_tile.proofs.decoding.Chaining.{IsFollowing, to_go, following_starts, following_inside, following_nearer, following_more, following_over}
 use Rattle.jk_tile.proofs.decoding.chains.follow.Goals as goal
 
 pub loop-at-init : goal.loop-at-init

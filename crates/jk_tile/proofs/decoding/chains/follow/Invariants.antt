@@ -1,5 +1,5 @@
 use Rattle.std.proofs.Common.{get_or}
-use Rattle.jk_tile.proofs.Chaining.{IsFollowing, to_go}
+use Rattle.jk_tile.proofs.decoding.Chaining.{IsFollowing, to_go}
 use Rattle.jk_tile.proofs.decoding.chains.follow.Given as goal
 
 abbrev pub invariant-loop-at : goal.invariant-loop-at

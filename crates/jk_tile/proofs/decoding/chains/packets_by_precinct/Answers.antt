@@ -1,9 +1,9 @@
 use Rattle.std.proofs.Common.{◌≡◌, ◌+◌, ◌-◌, ◌<◌, ℕ, length, get_or, set, nat_lt, sym, ap, subst, ◌∙◌, arith}
 use Rattle.std.specs.Prelude.{Bool, not, ◌&&◌, ◌==◌}
 use Rattle.jk_walk.specs.declared.places.PacketPlace.{PacketPlace}
-use Rattle.jk_tile.specs.Gathered.{AreByPrecinct}
-use Rattle.jk_tile.proofs.Gathering.{place_read}
-use Rattle.jk_tile.proofs.Chaining.{chains_past, chains_more}
+use Rattle.jk_tile.specs.decoding.Gathered.{AreByPrecinct}
+use Rattle.jk_tile.proofs.decoding.Gathering.{place_read}
+use Rattle.jk_tile.proofs.decoding.Chaining.{chains_past, chains_more}
 use Rattle.jk_tile.proofs.decoding.chains.packets_by_precinct.Goals as goal
 
 -- whether a packet is of the resolution and has something

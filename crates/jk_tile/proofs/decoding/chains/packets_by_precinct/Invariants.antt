@@ -1,5 +1,5 @@
 use Rattle.std.proofs.Common.{◌≤◌, length}
-use Rattle.jk_tile.specs.Gathered.{AreByPrecinct}
+use Rattle.jk_tile.specs.decoding.Gathered.{AreByPrecinct}
 use Rattle.jk_tile.proofs.decoding.chains.packets_by_precinct.Given as goal
 
 abbrev pub invariant-loop-number : goal.invariant-loop-number

@@ -1,8 +1,7 @@
-use Rattle.std.proofs.Common.{◌≡◌, ◌+◌, true, refl, sym, subst, ◌∙◌, arith}
-use Rattle.std.proofs.lemmas.List.Elements.{All-take, All-drop}
+use Rattle.std.proofs.Common.{◌≡◌, ◌+◌, ℕ, true, length, refl, sym, ap, subst, ◌∙◌, arith}
 use Rattle.jk_math.specs.declared.rect.Rect.{Rect}
-use Rattle.jk_math.specs.Signed.{IsBelow}
 use Rattle.jk_geom.specs.Rectangles.{meet}
+use Rattle.jk_wave.specs.LevelRows.{FitsIn}
 use Rattle.jk_tile.specs.Filling.{IsPartOf, touches}
 use Rattle.jk_tile.proofs.Fillings.{AreCommonRows, common_part, common_fits, common_length, common_more, row_inside}
 use Rattle.jk_tile.proofs.decoding.filling.put_common.Goals as goal
@@ -18,30 +17,29 @@ pub slice_bounds-put_row-end : goal.slice_bounds-put_row-end
 slice_bounds-put_row-end c =
     let u = c.meet-common.result in
     let place = c.args.place.now in
-    let fits = common_fits place u c.loop-row.row (of_place c.args.area.now place u c.requires.touches c.meet-common.ensures) c.loop-row-test.true in
+    let fits = common_fits place u c.loop-row.row (of_place c.args.lies.now.area place u c.requires.touches c.meet-common.ensures) c.loop-row-test.true in
     omega (arith, fits, c.requires.values)
 
 pub put_row-requires : goal.put_row-requires
 put_row-requires c =
     let u = c.meet-common.result in
-    let area = c.args.area.now in
+    let v = c.args.lies.now in
     let place = c.args.place.now in
-    let part = of_place area place u c.requires.touches c.meet-common.ensures in
-    let inside = row_inside area u c.loop-row.row (of_area area place u c.requires.touches c.meet-common.ensures) c.loop-row-test.true in
+    let part = of_place v.area place u c.requires.touches c.meet-common.ensures in
+    let inside = row_inside v u c.loop-row.row (length c.args.rows.now) c.requires.fits (of_area v.area place u c.requires.touches c.meet-common.ensures) c.loop-row-test.true in
     let long = common_length place u c.loop-row.row _ _ c.args.values.now part c.loop-row-test.true c.requires.values refl refl in
-    omega (arith, inside, long, c.loop-row.invariant.long, c.requires.whole)
+    omega (arith, inside, long, c.loop-row.invariant.long)
 
 pub loop-row-preserved : goal.loop-row-preserved
 loop-row-preserved c =
     let u = c.meet-common.result in
-    let area = c.args.area.now in
+    let v = c.args.lies.now in
     let place = c.args.place.now in
-    let before = subst (λ (q : Rect). AreCommonRows area place q c.loop-row.row c.args.values.now c.args.plane.now c.loop-row.plane) (sym c.meet-common.ensures) c.loop-row.invariant.value in
+    let before = subst (λ (q : Rect). AreCommonRows v place q c.loop-row.row c.args.values.now c.args.rows.now c.loop-row.rows) (sym c.meet-common.ensures) c.loop-row.invariant.written in
     record {
       long = c.put_row.ensures.long ∙ c.loop-row.invariant.long;
-      value = subst (λ (q : Rect). AreCommonRows area place q (c.loop-row.row + 1) c.args.values.now c.args.plane.now c.put_row.new.plane) c.meet-common.ensures
-          (common_more area place u c.loop-row.row _ _ _ 0 c.args.values.now c.args.plane.now c.loop-row.plane c.put_row.new.plane
-          (of_area area place u c.requires.touches c.meet-common.ensures) (of_place area place u c.requires.touches c.meet-common.ensures) c.loop-row-test.true c.requires.values
+      written = subst (λ (q : Rect). AreCommonRows v place q (c.loop-row.row + 1) c.args.values.now c.args.rows.now c.put_row.new.plane) c.meet-common.ensures
+          (common_more v place u c.loop-row.row _ _ _ c.args.values.now c.args.rows.now c.loop-row.rows c.put_row.new.plane c.requires.apart
+          (of_area v.area place u c.requires.touches c.meet-common.ensures) (of_place v.area place u c.requires.touches c.meet-common.ensures) c.loop-row-test.true c.requires.values
           refl refl refl c.put_row.ensures.value before);
-      small = λ m old values. c.put_row.ensures.small m (c.loop-row.invariant.small m old values) (All-take (IsBelow m) _ _ (All-drop (IsBelow m) _ c.args.values.now values));
     }

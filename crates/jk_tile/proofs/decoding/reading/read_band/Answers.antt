@@ -3,12 +3,13 @@ use Rattle.std.specs.List.{AllByRecursion}
 use Rattle.std.proofs.lemmas.Bool.{cases_eq}
 use Rattle.std.proofs.lemmas.Result.{err_from_is_err_and}
 use Rattle.jk_walk.specs.WalkReading.{place_end}
-use Rattle.jk_tile.specs.TileReading.{each}
+use Rattle.jk_tile.specs.decoding.TileReading.{each}
 use Rattle.jk_wave.specs.declared.region.Region.{Region}
 use Rattle.jk_wave.specs.Regions.{part_area}
-use Rattle.jk_tile.specs.Source.{source_bodies, source_part, block_count, ShowsBlock}
+use Rattle.jk_tile.specs.decoding.Source.{source_bodies, source_part, block_count, ShowsBlock}
 use Rattle.jk_tile.proofs.Steps.{each_none, each_more, each_fails, refuses_on, met_by}
 use Rattle.jk_tile.proofs.Showing.{block_tested, none_met, none_tested, none_shown, ends_fit, listed_bodies, grid_is}
+use Rattle.jk_tile.proofs.decoding.Filled.{fills_same, fills_then}
 use Rattle.jk_tile.proofs.decoding.reading.read_band.Goals as goal
 
 pub bodies_by_block-requires-clause-ends : goal.bodies_by_block-requires-clause-ends
@@ -18,8 +19,7 @@ bodies_by_block-requires-clause-ends c =
 pub loop-j-init : goal.loop-j-init
 loop-j-init c = record {
   tested = each_none _;
-  plane = c.requires.plane;
-  keeps = λ x y h before. before;
+  fills = fills_same c.args.source.now c.args.part.resolution c.args.rows.now c.requires.filling;
   shows = λ j lt. absurd (omega (arith, lt));
 }
 
@@ -69,13 +69,12 @@ loop-j-preserved c =
     let grid = grid_is s p.resolution p.precinct p.band c.rect-rect.result c.coding.result.now c.orientation-orientation.result c.blocks-grid.result c.rect-rect.ensures.value c.coding.ensures.value c.orientation-orientation.ensures c.blocks-grid.ensures.value in
     record {
       tested = each_more c.loop-j.j (block_tested s p.resolution p.precinct p.band) c.loop-j.invariant.tested c.in_ok-read_at.ensures.exact;
-      plane = c.in_ok-read_at.ensures.plane;
-      keeps = λ x y h before. c.in_ok-read_at.ensures.keeps x y h (c.loop-j.invariant.keeps x y h before);
+      fills = fills_then s p.resolution c.args.rows.now c.loop-j.rows c.read_at.new.rows c.loop-j.invariant.fills c.in_ok-read_at.ensures.fills;
       shows = λ j lt. elim (cases_eq j c.loop-j.j) [
-        | inl same ↦ subst (λ k. ShowsBlock s p.resolution p.precinct p.band k c.read_at.new.plane) (sym same) c.in_ok-read_at.ensures.shows
+        | inl same ↦ subst (λ k. ShowsBlock s p.resolution p.precinct p.band k c.read_at.new.rows) (sym same) c.in_ok-read_at.ensures.shows
         | inr other ↦ λ x y h inside.
             let before : j < c.loop-j.j = omega (arith, lt, other) in
-            c.in_ok-read_at.ensures.keeps x y inside (c.loop-j.invariant.shows j before x y h inside)
+            c.in_ok-read_at.ensures.fills.keeps p.band x y c.requires.part.band inside (c.loop-j.invariant.shows j before x y h inside)
       ];
     }
 
@@ -102,5 +101,5 @@ returns-then-not-touches-clause-shows c =
     let p = c.args.part in
     let grid = grid_is s p.resolution p.precinct p.band c.rect-rect.result c.coding.result.now c.orientation-orientation.result c.blocks-grid.result c.rect-rect.ensures.value c.coding.ensures.value c.orientation-orientation.ensures c.blocks-grid.ensures.value in
     let area : c.part_area-area.result ≡ source_part s p.resolution p.band = c.part_area-area.ensures.value ∙ ap (λ (q : Region). part_area q c.band_number.result) c.region.ensures.value ∙ ap (part_area s.region) c.band_number.ensures in
-    none_shown s p.resolution p.precinct p.band (block_count s p.resolution p.precinct p.band) c.args.plane.now
+    none_shown s p.resolution p.precinct p.band (block_count s p.resolution p.precinct p.band) c.args.rows.now
     (none_met s p.resolution p.precinct p.band c.blocks-grid.result c.part_area-area.result grid area (sym c.touches.ensures ∙ c.if-not-touches.true))

@@ -1,13 +1,12 @@
 use Rattle.std.proofs.Common.{◌≡◌, ◌<◌, ◌^◌, ℕ, List, length, map, All, Ok, ◌∙◌, ap, sym, subst, arith}
 use Rattle.std.proofs.lemmas.Result.{err_from_is_err_and}
-use Rattle.jk_math.specs.Picture.{lists_of}
+use Rattle.jk_math.specs.Lists.{lists_of, list_at}
 use Rattle.jk_math.specs.Signed.{IsBelow}
 use Rattle.jk_marks.specs.declared.siz.Siz.{Siz}
 use Rattle.jk_marks.specs.declared.segments.Cod.{Cod}
 use Rattle.jk_walk.specs.declared.places.PacketPlace.{PacketPlace}
-use Rattle.jk_tile.specs.Gathered.{list_at}
 use Rattle.jk_tile.specs.Samples.{sample_of}
-use Rattle.jk_tile.specs.TileReading.{component_values, component_samples, part_values_at, part_planes_at}
+use Rattle.jk_tile.specs.decoding.TileReading.{component_values, component_samples, part_values_at, part_planes_at}
 use Rattle.jk_tile.proofs.Steps.{refuses_on}
 use Rattle.jk_tile.proofs.Colours.{rasters, count_is, list_long, lists_uncoloured, uncoloured_small, wider, planes_fine, planes_err, samples_coloured, samples_plain}
 use Rattle.jk_tile.proofs.decoding.tile.decode_part.Goals.{then-cod, else-cod}

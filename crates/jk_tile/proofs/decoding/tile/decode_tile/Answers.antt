@@ -1,11 +1,11 @@
 use Rattle.std.proofs.Common.{◌≡◌, ◌∙◌, ap, arith}
-use Rattle.jk_math.specs.Picture.{lists_of}
+use Rattle.jk_math.specs.Lists.{lists_of}
 use Rattle.jk_math.specs.Steps.{answers_same}
 use Rattle.jk_math.specs.declared.rect.Rect.{Rect}
 use Rattle.jk_geom.specs.Rectangles.{tile_area, resolution_area}
 use Rattle.jk_tile.specs.TileMeaning.{shown_area}
-use Rattle.jk_tile.specs.TileReading.{part_planes_at}
-use Rattle.jk_tile.proofs.WholeTile.{whole_planes}
+use Rattle.jk_tile.specs.decoding.TileReading.{part_planes_at}
+use Rattle.jk_tile.proofs.decoding.WholeTile.{whole_planes}
 use Rattle.jk_tile.proofs.decoding.tile.decode_tile.Goals as goal
 
 pub returns : goal.returns

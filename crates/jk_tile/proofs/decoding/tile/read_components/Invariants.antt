@@ -1,10 +1,9 @@
 use Rattle.std.proofs.Common.{◌≡◌, ◌^◌, ℕ, map, All}
 use Rattle.std.specs.List.{range_with_len}
-use Rattle.jk_math.specs.Picture.{lists_of}
+use Rattle.jk_math.specs.Lists.{lists_of, list_at}
 use Rattle.jk_math.specs.Raster.{raster}
 use Rattle.jk_math.specs.Signed.{IsBelow}
-use Rattle.jk_tile.specs.Gathered.{list_at}
-use Rattle.jk_tile.specs.TileReading.{component_values}
+use Rattle.jk_tile.specs.decoding.TileReading.{component_values}
 use Rattle.jk_tile.proofs.Steps.{fine}
 use Rattle.jk_tile.proofs.Components.{parts_tested}
 use Rattle.jk_tile.proofs.decoding.tile.read_components.Given as goal

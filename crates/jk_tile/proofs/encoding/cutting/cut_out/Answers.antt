@@ -1,5 +1,5 @@
 use Rattle.std.proofs.Common.{◌+◌, subst, sym, arith}
-use Rattle.jk_tile.proofs.Copying.{IsCut, start_inside, cut_more, cut_all}
+use Rattle.jk_tile.proofs.encoding.Copying.{IsCut, start_inside, cut_more, cut_all}
 use Rattle.jk_tile.proofs.encoding.cutting.cut_out.Goals as goal
 
 pub append_row-requires : goal.append_row-requires

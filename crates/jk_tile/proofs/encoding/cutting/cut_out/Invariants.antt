@@ -1,4 +1,4 @@
-use Rattle.jk_tile.proofs.Copying.{IsCut}
+use Rattle.jk_tile.proofs.encoding.Copying.{IsCut}
 use Rattle.jk_tile.proofs.encoding.cutting.cut_out.Given as goal
 
 abbrev pub invariant-loop-row : goal.invariant-loop-row

@@ -4,7 +4,7 @@ use Rattle.jk_marks.specs.declared.siz.Siz.{Siz}
 use Rattle.jk_marks.specs.Siz.{tile_count}
 use Rattle.jk_geom.proofs.Laws.{some_tile}
 use Rattle.jk_params.specs.Profile.{siz_of}
-use Rattle.jk_tile.proofs.Needing.{need_is, tile_more}
+use Rattle.jk_tile.proofs.encoding.Needing.{need_is, tile_more}
 use Rattle.jk_tile.proofs.encoding.needs.all_needs.Goals as goal
 
 pub loop-number-preserved : goal.loop-number-preserved

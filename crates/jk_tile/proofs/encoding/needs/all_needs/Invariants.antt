@@ -1,7 +1,7 @@
 use Rattle.std.proofs.Common.{◌≡◌, ◌<◌, ℕ, max}
 use Rattle.std.specs.Prelude.{slice_index}
 use Rattle.jk_params.specs.Coding.{band_count}
-use Rattle.jk_tile.specs.Needs.{most, tile_need}
+use Rattle.jk_tile.specs.encoding.Needs.{most, tile_need}
 use Rattle.jk_tile.proofs.encoding.needs.all_needs.Given as goal
 
 -- with what the first tile needs

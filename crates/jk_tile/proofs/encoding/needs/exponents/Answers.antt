@@ -2,7 +2,7 @@ use Rattle.std.proofs.Common.{◌≡◌, ◌+◌, ◌-◌, ◌<◌, length, ◌�
 use Rattle.std.specs.List.{range_with_len}
 use Rattle.std.proofs.lemmas.List.{take_more_set, length-set}
 use Rattle.std.proofs.lemmas.List.FromFn.{map-range_with_len_more}
-use Rattle.jk_tile.specs.Needs.{gain, need}
+use Rattle.jk_tile.specs.encoding.Needs.{gain, need}
 use Rattle.jk_tile.proofs.encoding.needs.exponents.Goals as goal
 
 pub loop-band-preserved : goal.loop-band-preserved

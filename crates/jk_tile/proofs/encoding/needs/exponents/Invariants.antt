@@ -1,6 +1,6 @@
 use Rattle.std.proofs.Common.{◌≡◌, ◌+◌, ◌-◌, length, map, max, take}
 use Rattle.std.specs.List.{range_with_len}
-use Rattle.jk_tile.specs.Needs.{gain, need}
+use Rattle.jk_tile.specs.encoding.Needs.{gain, need}
 use Rattle.jk_tile.proofs.encoding.needs.exponents.Given as goal
 
 -- those of the sub-bands before

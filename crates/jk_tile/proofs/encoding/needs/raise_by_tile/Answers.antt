@@ -3,9 +3,9 @@ use Rattle.std.specs.Prelude.{slice_index}
 use Rattle.std.proofs.lemmas.List.{get_or_default}
 use Rattle.jk_params.specs.Profile.{siz_of}
 use Rattle.jk_geom.specs.Rectangles.{tile_area}
-use Rattle.jk_tile.proofs.Forwards.{tile_is_part}
-use Rattle.jk_tile.proofs.TileAreas.{tile_is_area}
-use Rattle.jk_tile.proofs.Needing.{bands_at, bands_count, bands_long, bands_small, need_more, need_all}
+use Rattle.jk_tile.proofs.encoding.Forwards.{tile_is_part}
+use Rattle.jk_tile.proofs.encoding.TileAreas.{tile_is_area}
+use Rattle.jk_tile.proofs.encoding.Needing.{bands_at, bands_count, bands_long, bands_small, need_more, need_all}
 use Rattle.jk_tile.proofs.encoding.needs.raise_by_tile.Goals as goal
 
 pub raise-requires-clause-few : goal.raise-requires-clause-few

@@ -3,7 +3,7 @@ use Rattle.std.specs.Prelude.{slice_index}
 use Rattle.jk_params.specs.Coding.{band_count}
 use Rattle.jk_math.specs.BitLength.{bit_length}
 use Rattle.jk_block.specs.BlockWritten.{greatest}
-use Rattle.jk_tile.specs.Needs.{most, written_band}
+use Rattle.jk_tile.specs.encoding.Needs.{most, written_band}
 use Rattle.jk_tile.proofs.encoding.needs.raise_by_tile.Given as goal
 
 abbrev pub invariant-loop-c : goal.invariant-loop-c

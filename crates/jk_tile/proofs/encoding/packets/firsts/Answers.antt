@@ -1,6 +1,6 @@
 use Rattle.std.proofs.Common.{◌+◌, ◌<◌, [], ◌∷◌, length, length-set, refl, ◌∙◌, arith}
-use Rattle.jk_tile.proofs.TileLists.{count_of}
-use Rattle.jk_tile.proofs.Firsts.{first_none, first_at, sum_more, sum_few, firsts_more}
+use Rattle.jk_tile.proofs.encoding.TileLists.{count_of}
+use Rattle.jk_tile.proofs.encoding.Firsts.{first_none, first_at, sum_more, sum_few, firsts_more}
 use Rattle.jk_tile.proofs.encoding.packets.firsts.Goals as goal
 
 pub loop-r-init : goal.loop-r-init

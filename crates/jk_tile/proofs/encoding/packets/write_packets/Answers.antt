@@ -5,11 +5,12 @@ use Rattle.std.proofs.lemmas.List.{length-map}
 use Rattle.jk_geom.specs.Counts.{precincts_below}
 use Rattle.jk_order.specs.PacketOrder.{packet_count}
 use Rattle.jk_packet.specs.Written.{Table}
-use Rattle.jk_tile.specs.TileWriters.{table_lists, list_of, index_of, IsPrecinctList}
-use Rattle.jk_tile.proofs.Firsts.{place_at}
-use Rattle.jk_tile.proofs.PacketsFew.{few_below}
-use Rattle.jk_tile.proofs.TileLists.{own_list}
-use Rattle.jk_tile.proofs.WritingTile.{IsWritingTile, writing_starts, named_next, within_lists, next_is, next_more, next_layer, writing_more, writing_over, counted_over, given_over}
+use Rattle.jk_tile.specs.encoding.TileWriters.{list_of, index_of, IsPrecinctList}
+use Rattle.jk_math.specs.Lists.{lists_of}
+use Rattle.jk_tile.proofs.encoding.Firsts.{place_at}
+use Rattle.jk_tile.proofs.encoding.PacketsFew.{few_below}
+use Rattle.jk_tile.proofs.encoding.TileLists.{own_list}
+use Rattle.jk_tile.proofs.encoding.WritingTile.{IsWritingTile, writing_starts, named_next, within_lists, next_is, next_more, next_layer, writing_more, writing_over, counted_over, given_over}
 use Rattle.jk_tile.proofs.encoding.packets.write_packets.Goals as goal
 use Rattle.jk_tile.proofs.encoding.packets.write_packets.Goals.{else-loop-number-test, then-loop-number-test+in_default}
 
@@ -22,7 +23,7 @@ loop-number-init c =
     let k = c.args.frame.now.coding.now in
     let sop = c.args.frame.now.markers.sop in
     let eph = c.args.frame.now.markers.eph in
-    let lists = table_lists c.args.tables.now in
+    let lists = lists_of c.args.tables.now in
     let few = c.requires.few in
     let count : packet_count s ≡ c.packet_count-number-end.result - 0 = omega (arith, c.packet_count-number-end.ensures, few) in
     let long = sym (length-map c.args.tables.now (λ (v : Vec Table). v.items)) in
@@ -93,7 +94,7 @@ write_at-requires-clause-tables c =
     let named = named_next s k sop eph _ _ _ _ _ _ n c.requires.alike w first in
     let at = place_at s.rect k c.firsts-firsts.result n.component n.resolution n.precinct c.place_of-place.result named.resolution c.firsts-firsts.ensures c.place_of-place.ensures in
     let long = sym (length-map c.args.tables.now (λ (v : Vec Table). v.items)) ∙ c.requires.lists.long in
-    let due : c.deref.result.now ≡ list_of s.rect k (table_lists c.args.tables.now) n.component n.resolution n.precinct =
+    let due : c.deref.result.now ≡ list_of s.rect k (lists_of c.args.tables.now) n.component n.resolution n.precinct =
     own_list c.args.tables.now c.index-tables-place.result c.deref.result.now c.place_of-place.result (index_of s.rect k n.component n.resolution n.precinct) c.index-tables-place.is c.deref.ensures.value at
     (within_lists s k n c.place_of-place.result (length c.args.tables.now) named at long) in
     subst (IsPrecinctList s.rect k s.layers n.resolution n.precinct) (sym due) (c.requires.lists.each n.component n.resolution n.precinct named.component named.resolution named.precinct)
@@ -110,7 +111,7 @@ write_at-requires-clause-place c =
     let named = named_next s k sop eph _ _ _ _ _ _ n c.requires.alike w first in
     let at = place_at s.rect k c.firsts-firsts.result n.component n.resolution n.precinct c.place_of-place.result named.resolution c.firsts-firsts.ensures c.place_of-place.ensures in
     let long = sym (length-map c.args.tables.now (λ (v : Vec Table). v.items)) ∙ c.requires.lists.long in
-    let due : c.deref.result.now ≡ list_of s.rect k (table_lists c.args.tables.now) n.component n.resolution n.precinct =
+    let due : c.deref.result.now ≡ list_of s.rect k (lists_of c.args.tables.now) n.component n.resolution n.precinct =
     own_list c.args.tables.now c.index-tables-place.result c.deref.result.now c.place_of-place.result (index_of s.rect k n.component n.resolution n.precinct) c.index-tables-place.is c.deref.ensures.value at
     (within_lists s k n c.place_of-place.result (length c.args.tables.now) named at long) in
     (next_is s k sop eph _ _ _ _ _ _ n c.deref.result.now c.place_of-place.result c.requires.alike w first at due).within
@@ -127,7 +128,7 @@ write_at-requires-clause-layer c =
     let named = named_next s k sop eph _ _ _ _ _ _ n c.requires.alike w first in
     let at = place_at s.rect k c.firsts-firsts.result n.component n.resolution n.precinct c.place_of-place.result named.resolution c.firsts-firsts.ensures c.place_of-place.ensures in
     let long = sym (length-map c.args.tables.now (λ (v : Vec Table). v.items)) ∙ c.requires.lists.long in
-    let due : c.deref.result.now ≡ list_of s.rect k (table_lists c.args.tables.now) n.component n.resolution n.precinct =
+    let due : c.deref.result.now ≡ list_of s.rect k (lists_of c.args.tables.now) n.component n.resolution n.precinct =
     own_list c.args.tables.now c.index-tables-place.result c.deref.result.now c.place_of-place.result (index_of s.rect k n.component n.resolution n.precinct) c.index-tables-place.is c.deref.ensures.value at
     (within_lists s k n c.place_of-place.result (length c.args.tables.now) named at long) in
     (next_is s k sop eph _ _ _ _ _ _ n c.deref.result.now c.place_of-place.result c.requires.alike w first at due).name.layer
@@ -144,7 +145,7 @@ write_at-requires-clause-next c =
     let named = named_next s k sop eph _ _ _ _ _ _ n c.requires.alike w first in
     let at = place_at s.rect k c.firsts-firsts.result n.component n.resolution n.precinct c.place_of-place.result named.resolution c.firsts-firsts.ensures c.place_of-place.ensures in
     let long = sym (length-map c.args.tables.now (λ (v : Vec Table). v.items)) ∙ c.requires.lists.long in
-    let due : c.deref.result.now ≡ list_of s.rect k (table_lists c.args.tables.now) n.component n.resolution n.precinct =
+    let due : c.deref.result.now ≡ list_of s.rect k (lists_of c.args.tables.now) n.component n.resolution n.precinct =
     own_list c.args.tables.now c.index-tables-place.result c.deref.result.now c.place_of-place.result (index_of s.rect k n.component n.resolution n.precinct) c.index-tables-place.is c.deref.ensures.value at
     (within_lists s k n c.place_of-place.result (length c.args.tables.now) named at long) in
     next_layer s k sop eph _ _ _ n c.deref.result.now c.place_of-place.result (next_is s k sop eph _ _ _ _ _ _ n c.deref.result.now c.place_of-place.result c.requires.alike w first at due)
@@ -161,7 +162,7 @@ write_at-requires-clause-more c =
     let named = named_next s k sop eph _ _ _ _ _ _ n c.requires.alike w first in
     let at = place_at s.rect k c.firsts-firsts.result n.component n.resolution n.precinct c.place_of-place.result named.resolution c.firsts-firsts.ensures c.place_of-place.ensures in
     let long = sym (length-map c.args.tables.now (λ (v : Vec Table). v.items)) ∙ c.requires.lists.long in
-    let due : c.deref.result.now ≡ list_of s.rect k (table_lists c.args.tables.now) n.component n.resolution n.precinct =
+    let due : c.deref.result.now ≡ list_of s.rect k (lists_of c.args.tables.now) n.component n.resolution n.precinct =
     own_list c.args.tables.now c.index-tables-place.result c.deref.result.now c.place_of-place.result (index_of s.rect k n.component n.resolution n.precinct) c.index-tables-place.is c.deref.ensures.value at
     (within_lists s k n c.place_of-place.result (length c.args.tables.now) named at long) in
     next_more s k sop eph _ _ _ n c.deref.result.now c.place_of-place.result (next_is s k sop eph _ _ _ _ _ _ n c.deref.result.now c.place_of-place.result c.requires.alike w first at due)
@@ -178,11 +179,11 @@ loop-number-preserved c =
     let named = named_next s k sop eph _ _ _ _ _ _ n c.requires.alike w first in
     let at = place_at s.rect k c.firsts-firsts.result n.component n.resolution n.precinct c.place_of-place.result named.resolution c.firsts-firsts.ensures c.place_of-place.ensures in
     let long = sym (length-map c.args.tables.now (λ (v : Vec Table). v.items)) ∙ c.requires.lists.long in
-    let due : c.deref.result.now ≡ list_of s.rect k (table_lists c.args.tables.now) n.component n.resolution n.precinct =
+    let due : c.deref.result.now ≡ list_of s.rect k (lists_of c.args.tables.now) n.component n.resolution n.precinct =
     own_list c.args.tables.now c.index-tables-place.result c.deref.result.now c.place_of-place.result (index_of s.rect k n.component n.resolution n.precinct) c.index-tables-place.is c.deref.ensures.value at
     (within_lists s k n c.place_of-place.result (length c.args.tables.now) named at long) in
     let next = c.in-Some.ensures w.names w.follow in
-    let lists = table_lists c.args.tables.now in
+    let lists = lists_of c.args.tables.now in
     let count : c.packet_count-number-end.result - c.loop-number.number - 1 ≡ c.packet_count-number-end.result - (c.loop-number.number + 1) = omega arith in
     subst (IsWritingTile s k sop eph lists c.next.new.self c.write_at.new.slots.items c.write_at.new.out.items (c.loop-number.number + 1)) count
     (writing_more s k sop eph lists _ c.next.new.self _ c.write_at.new.slots.items _ c.write_at.new.out.items c.loop-number.number _ n c.deref.result.now c.place_of-place.result c.requires.alike w next.0 next.1 at due

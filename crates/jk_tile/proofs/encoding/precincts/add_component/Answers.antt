@@ -1,7 +1,7 @@
 use Rattle.std.proofs.Common.{◌+◌, ap, ◌∙◌, arith}
 use Rattle.jk_marks.specs.declared.coding.Coding.{Coding}
-use Rattle.jk_tile.specs.TileWriters.{resolution_lists}
-use Rattle.jk_tile.proofs.TileLists.{parts_grow, parts_end}
+use Rattle.jk_tile.specs.encoding.TileWriters.{resolution_lists}
+use Rattle.jk_tile.proofs.encoding.TileLists.{parts_grow, parts_end}
 use Rattle.jk_tile.proofs.encoding.precincts.add_component.Goals as goal
 
 pub loop-r-preserved : goal.loop-r-preserved

@@ -1,9 +1,9 @@
 use Rattle.std.proofs.Common.{◌∙◌, arith}
 use Rattle.std.specs.List.{flat_map}
 use Rattle.jk_geom.specs.Precincts.{precinct_number}
-use Rattle.jk_tile.specs.PacketsWritten.{precinct_tables}
-use Rattle.jk_tile.specs.TileWritten.{coefficient_of}
-use Rattle.jk_tile.proofs.TileLists.{lists_grow, lists_end, count_of}
+use Rattle.jk_tile.specs.encoding.PacketsWritten.{precinct_tables}
+use Rattle.jk_tile.specs.encoding.TileWritten.{coefficient_of}
+use Rattle.jk_tile.proofs.encoding.TileLists.{lists_grow, lists_end, count_of}
 use Rattle.jk_tile.proofs.encoding.precincts.add_resolution.Goals as goal
 
 pub loop-n-preserved : goal.loop-n-preserved

@@ -5,10 +5,10 @@ use Rattle.jk_math.specs.Signed.{IsBelow}
 use Rattle.jk_math.specs.Steps.{ok_is}
 use Rattle.jk_math.proofs.Laws.{raster_length}
 use Rattle.jk_wave.specs.Analysis.{analysed_bands}
-use Rattle.jk_tile.specs.Forward.{tile_value}
+use Rattle.jk_tile.specs.encoding.Forward.{tile_value}
 use Rattle.jk_tile.proofs.Colours.{count_is}
 use Rattle.jk_tile.proofs.Showing.{vector_items, put_there}
-use Rattle.jk_tile.proofs.Forwards.{value_list, values_below, bands_of_samples, bands_push}
+use Rattle.jk_tile.proofs.encoding.Forwards.{value_list, values_below, bands_of_samples, bands_push}
 use Rattle.jk_tile.proofs.encoding.subbands.bands_on.Goals as goal
 
 pub analyse-requires-clause-whole : goal.analyse-requires-clause-whole

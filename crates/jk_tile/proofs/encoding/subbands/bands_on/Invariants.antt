@@ -1,8 +1,8 @@
 use Rattle.std.proofs.Common.{◌≡◌, ◌≤◌, ℕ, [], length, map, get_or}
 use Rattle.std.specs.List.{range_with_len}
 use Rattle.jk_wave.specs.Analysis.{analysed_bands}
-use Rattle.jk_tile.specs.Forward.{tile_value, value_lists}
-use Rattle.jk_tile.specs.Gathered.{list_at}
+use Rattle.jk_tile.specs.encoding.Forward.{tile_value, value_lists}
+use Rattle.jk_math.specs.Lists.{list_at}
 use Rattle.jk_tile.proofs.encoding.subbands.bands_on.Given as goal
 
 abbrev pub invariant-loop-c : goal.invariant-loop-c

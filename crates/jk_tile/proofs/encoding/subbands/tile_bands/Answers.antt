@@ -6,8 +6,8 @@ use Rattle.jk_marks.specs.declared.siz.Siz.{Siz}
 use Rattle.jk_geom.specs.Rectangles.{IsArea, tile_area}
 use Rattle.jk_wave.specs.Analysis.{analysed_bands}
 use Rattle.jk_tile.specs.Filling.{IsPartOf}
-use Rattle.jk_tile.specs.Forward.{picture_area, tile_value}
-use Rattle.jk_tile.proofs.Forwards.{tile_is_part}
+use Rattle.jk_tile.specs.encoding.Forward.{picture_area, tile_value}
+use Rattle.jk_tile.proofs.encoding.Forwards.{tile_is_part}
 use Rattle.jk_tile.proofs.encoding.subbands.tile_bands.Goals as goal
 
 pub bands_on-requires-clause-rect : goal.bands_on-requires-clause-rect

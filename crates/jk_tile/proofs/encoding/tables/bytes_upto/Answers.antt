@@ -3,7 +3,7 @@ use Rattle.std.proofs.lemmas.List.{get_or_default}
 use Rattle.jk_block.specs.Layers.{without_ff, passes_upto}
 use Rattle.jk_block.specs.CodedBlocks.{contents}
 use Rattle.jk_block.proofs.Laws.{passes_few, upto_few}
-use Rattle.jk_tile.proofs.LayerTables.{early_is, saturated}
+use Rattle.jk_tile.proofs.encoding.LayerTables.{early_is, saturated}
 use Rattle.jk_tile.proofs.encoding.tables.bytes_upto.Goals as goal
 
 pub index-requires : goal.index-requires

@@ -1,6 +1,6 @@
 use Rattle.std.proofs.Common.{sym, ◌∙◌, arith}
 use Rattle.jk_block.specs.CodedBlocks.{contents}
-use Rattle.jk_tile.proofs.LayerTables.{next_passes, before_passes, parts_more}
+use Rattle.jk_tile.proofs.encoding.LayerTables.{next_passes, before_passes, parts_more}
 use Rattle.jk_tile.proofs.encoding.tables.layer_parts.Goals as goal
 
 pub overflow_sub-passes : goal.overflow_sub-passes

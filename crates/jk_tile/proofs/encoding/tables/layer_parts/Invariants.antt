@@ -2,7 +2,7 @@ use Rattle.std.proofs.Common.{◌≡◌, ◌-◌, map}
 use Rattle.std.specs.List.{range_with_len}
 use Rattle.jk_block.specs.CodedBlocks.{contents}
 use Rattle.jk_block.specs.Layers.{passes_upto, bytes_upto}
-use Rattle.jk_tile.specs.PacketsWritten.{passes_before}
+use Rattle.jk_tile.specs.encoding.PacketsWritten.{passes_before}
 use Rattle.jk_tile.proofs.encoding.tables.layer_parts.Given as goal
 
 abbrev pub invariant-loop-layer : goal.invariant-loop-layer

@@ -1,6 +1,6 @@
 use Rattle.std.proofs.Common.{◌-◌, refl}
 use Rattle.jk_block.specs.CodedBlocks.{contents}
-use Rattle.jk_tile.proofs.LayerTables.{ends_of, table_by}
+use Rattle.jk_tile.proofs.encoding.LayerTables.{ends_of, table_by}
 use Rattle.jk_tile.proofs.encoding.tables.table.Goals as goal
 
 pub new-requires : goal.new-requires

@@ -11,11 +11,11 @@ use Rattle.jk_params.specs.Profile.{siz_of, IsWrittenBy}
 use Rattle.jk_geom.specs.Rectangles.{tile_area}
 use Rattle.jk_order.specs.PacketOrder.{packet_count}
 use Rattle.jk_params.specs.Coding.{HasPlanes}
-use Rattle.jk_tile.specs.PacketsWritten.{written_coding, written_shape}
-use Rattle.jk_tile.specs.TileWriters.{table_lists}
-use Rattle.jk_tile.proofs.WrittenTile.{planes_have}
-use Rattle.jk_tile.proofs.EncodingTile.{AreTileLists, written_few, shape_made, text_made}
-use Rattle.jk_tile.proofs.SamplesMeant.{written_decodes}
+use Rattle.jk_tile.specs.encoding.PacketsWritten.{written_coding, written_shape}
+use Rattle.jk_math.specs.Lists.{lists_of}
+use Rattle.jk_tile.proofs.encoding.WrittenTile.{planes_have}
+use Rattle.jk_tile.proofs.encoding.EncodingTile.{AreTileLists, written_few, shape_made, text_made}
+use Rattle.jk_tile.proofs.encoding.SamplesMeant.{written_decodes}
 use Rattle.jk_tile.proofs.encoding.tile.encode_tile.Goals as goal
 
 shape_from : (p : Picture) (q : Parameters) (t : ℕ) (rect : Rect) (siz : Siz) (planes : List (List ℤ)) (n : ℕ) (coding : Coding) (codings : List Coding) → IsWrittenBy q p → t < tile_count (siz_of p q)
@@ -44,7 +44,7 @@ returns-clause-exact c =
     let t = c.args.number in
     let same = shape_from p q t c.tile-rect.result c.siz_of.result c.planes.result.now c.len.result c.coding_of-coding.result c.codings_alike.result c.requires.written c.requires.number
     c.tile-rect.ensures.value c.siz_of.ensures.value c.codings_alike.ensures c.len.ensures c.planes.ensures c.coding_of-coding.ensures in
-    let are : AreTileLists p q t c.tile-rect.result c.coding_of-coding.result (table_lists c.in_ok-tables.tables.items) = record { are = c.in_ok-tables.ensures.lists; tables = c.in_ok-tables.ensures.tables } in
+    let are : AreTileLists p q t c.tile-rect.result c.coding_of-coding.result (lists_of c.in_ok-tables.tables.items) = record { are = c.in_ok-tables.ensures.lists; tables = c.in_ok-tables.ensures.tables } in
     if_ok c.write_packets.result
     (λ v e. text_made p q t c.tile-rect.result c.coding_of-coding.result _ c.deref.result.now c.in_ok-tables.tables.items v.items same c.deref.ensures.value are e) c.write_packets.ensures.text
 
@@ -55,7 +55,7 @@ returns-clause-means c =
     let t = c.args.number in
     let same = shape_from p q t c.tile-rect.result c.siz_of.result c.planes.result.now c.len.result c.coding_of-coding.result c.codings_alike.result c.requires.written c.requires.number
     c.tile-rect.ensures.value c.siz_of.ensures.value c.codings_alike.ensures c.len.ensures c.planes.ensures c.coding_of-coding.ensures in
-    let are : AreTileLists p q t c.tile-rect.result c.coding_of-coding.result (table_lists c.in_ok-tables.tables.items) = record { are = c.in_ok-tables.ensures.lists; tables = c.in_ok-tables.ensures.tables } in
+    let are : AreTileLists p q t c.tile-rect.result c.coding_of-coding.result (lists_of c.in_ok-tables.tables.items) = record { are = c.in_ok-tables.ensures.lists; tables = c.in_ok-tables.ensures.tables } in
     if_ok c.write_packets.result
     (λ v e codestream h places siz content. written_decodes p q t codestream h places c.siz_of.ensures.picture c.requires.written c.requires.number siz
     (content ∙ ap (λ (xs : List ℕ). xs ∷ []) (text_made p q t c.tile-rect.result c.coding_of-coding.result _ c.deref.result.now c.in_ok-tables.tables.items v.items same c.deref.ensures.value are e))) c.write_packets.ensures.text

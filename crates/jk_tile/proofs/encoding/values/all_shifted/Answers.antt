@@ -1,5 +1,5 @@
 use Rattle.jk_math.specs.Raster.{raster}
-use Rattle.jk_tile.specs.Forward.{levelled}
+use Rattle.jk_tile.specs.encoding.Forward.{levelled}
 use Rattle.jk_tile.proofs.Components.{lists_push}
 use Rattle.jk_tile.proofs.encoding.values.all_shifted.Goals as goal
 

@@ -1,8 +1,8 @@
 use Rattle.std.proofs.Common.{◌≡◌, map}
 use Rattle.std.specs.List.{range_with_len}
-use Rattle.jk_math.specs.Picture.{lists_of}
+use Rattle.jk_math.specs.Lists.{lists_of}
 use Rattle.jk_math.specs.Raster.{raster}
-use Rattle.jk_tile.specs.Forward.{levelled}
+use Rattle.jk_tile.specs.encoding.Forward.{levelled}
 use Rattle.jk_tile.proofs.encoding.values.all_shifted.Given as goal
 
 abbrev pub invariant-loop-component : goal.invariant-loop-component

@@ -3,7 +3,7 @@ use Rattle.std.proofs.lemmas.List.{length-map}
 use Rattle.jk_math.specs.Signed.{IsBelow}
 use Rattle.jk_tile.specs.Samples.{shift}
 use Rattle.jk_tile.proofs.Showing.{with_same}
-use Rattle.jk_tile.proofs.Forwards.{cut_is, samples_below, shifted_is}
+use Rattle.jk_tile.proofs.encoding.Forwards.{cut_is, samples_below, shifted_is}
 use Rattle.jk_tile.proofs.encoding.values.shifted.Goals as goal
 
 pub shift_down-requires-clause-samples : goal.shift_down-requires-clause-samples

@@ -1,10 +1,10 @@
 use Rattle.std.proofs.Common.{true, false, ◌^◌, length, All, ap, sym, subst, ◌∙◌, arith}
-use Rattle.jk_math.specs.Picture.{lists_of}
+use Rattle.jk_math.specs.Lists.{lists_of}
 use Rattle.jk_math.specs.Signed.{IsBelow}
 use Rattle.jk_rct.specs.Colour.{y0_of, y1_of, y2_of}
-use Rattle.jk_tile.specs.Forward.{levelled, coloured}
+use Rattle.jk_tile.specs.encoding.Forward.{levelled, coloured}
 use Rattle.jk_tile.proofs.Colours.{count_is, list_is, list_long, lists_changed}
-use Rattle.jk_tile.proofs.Forwards.{coloured_at, levelled_below, lists_plain, lists_coloured, lists_either}
+use Rattle.jk_tile.proofs.encoding.Forwards.{coloured_at, levelled_below, lists_plain, lists_coloured, lists_either}
 use Rattle.jk_tile.proofs.encoding.values.tile_values.Goals.{then-colours, else-colours}
 use Rattle.jk_tile.proofs.encoding.values.tile_values.Goals as goal
 

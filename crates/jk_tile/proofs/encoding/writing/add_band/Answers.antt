@@ -3,9 +3,9 @@ use Rattle.jk_marks.specs.declared.coding.Coding.{Coding}
 use Rattle.jk_block.specs.CodedBlocks.{contents}
 use Rattle.jk_packet.specs.Written.{Table}
 use Rattle.jk_walk.specs.TilePackets.{band_number, planes_of}
-use Rattle.jk_tile.specs.PacketsWritten.{coded_table}
-use Rattle.jk_tile.specs.TileWritten.{coefficient_of, coded_at}
-use Rattle.jk_tile.proofs.WrittenBlocks.{grid_of, few_of, room_of, tables_more, table_made}
+use Rattle.jk_tile.specs.encoding.PacketsWritten.{coded_table}
+use Rattle.jk_tile.specs.encoding.TileWritten.{coefficient_of, coded_at}
+use Rattle.jk_tile.proofs.encoding.WrittenBlocks.{grid_of, few_of, room_of, tables_more, table_made}
 use Rattle.jk_tile.proofs.encoding.writing.add_band.Goals as goal
 
 pub table-requires-clause-room : goal.table-requires-clause-room

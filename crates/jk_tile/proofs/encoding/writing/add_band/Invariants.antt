@@ -1,8 +1,8 @@
 use Rattle.std.proofs.Common.{◌≡◌, ◌++◌, map}
 use Rattle.std.specs.List.{range_with_len}
 use Rattle.jk_walk.specs.TilePackets.{band_number, planes_of}
-use Rattle.jk_tile.specs.PacketsWritten.{coded_table}
-use Rattle.jk_tile.specs.TileWritten.{coefficient_of, coded_at}
+use Rattle.jk_tile.specs.encoding.PacketsWritten.{coded_table}
+use Rattle.jk_tile.specs.encoding.TileWritten.{coefficient_of, coded_at}
 use Rattle.jk_tile.proofs.encoding.writing.add_band.Given as goal
 
 abbrev pub invariant-loop-j : goal.invariant-loop-j

@@ -2,9 +2,9 @@ use Rattle.std.proofs.Common.{List, ℤ, [], get_or, ap, sym, subst, ◌∙◌}
 use Rattle.jk_marks.specs.declared.coding.Coding.{Coding}
 use Rattle.jk_math.specs.Raster.{plane_at}
 use Rattle.jk_walk.specs.TilePackets.{band_number}
-use Rattle.jk_tile.specs.Source.{IsBlockShape}
-use Rattle.jk_tile.specs.TileWritten.{band_of}
-use Rattle.jk_tile.proofs.WrittenBlocks.{number_few, few_blocks, place_of, area_of, place_part, plane_long, values_are, shape_of_block, shape_fits, block_small, block_long}
+use Rattle.jk_tile.specs.TileBlocks.{IsBlockShape}
+use Rattle.jk_tile.specs.encoding.TileWritten.{band_of}
+use Rattle.jk_tile.proofs.encoding.WrittenBlocks.{number_few, few_blocks, place_of, area_of, place_part, plane_long, values_are, shape_of_block, shape_fits, block_small, block_long}
 use Rattle.jk_tile.proofs.encoding.writing.block_at.Goals as goal
 
 pub cut_out-requires-clause-part : goal.cut_out-requires-clause-part

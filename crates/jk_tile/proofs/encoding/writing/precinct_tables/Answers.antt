@@ -1,6 +1,6 @@
-use Rattle.jk_tile.specs.PacketsWritten.{band_tables_at}
-use Rattle.jk_tile.specs.TileWritten.{coefficient_of}
-use Rattle.jk_tile.proofs.WrittenBlocks.{bands_more}
+use Rattle.jk_tile.specs.encoding.PacketsWritten.{band_tables_at}
+use Rattle.jk_tile.specs.encoding.TileWritten.{coefficient_of}
+use Rattle.jk_tile.proofs.encoding.WrittenBlocks.{bands_more}
 use Rattle.jk_tile.proofs.encoding.writing.precinct_tables.Goals as goal
 
 pub loop-i-preserved : goal.loop-i-preserved

@@ -1,7 +1,7 @@
 use Rattle.std.proofs.Common.{◌≡◌, map}
 use Rattle.std.specs.List.{flat_map, range_with_len}
-use Rattle.jk_tile.specs.PacketsWritten.{band_tables_at}
-use Rattle.jk_tile.specs.TileWritten.{coefficient_of}
+use Rattle.jk_tile.specs.encoding.PacketsWritten.{band_tables_at}
+use Rattle.jk_tile.specs.encoding.TileWritten.{coefficient_of}
 use Rattle.jk_tile.proofs.encoding.writing.precinct_tables.Given as goal
 
 abbrev pub invariant-loop-i : goal.invariant-loop-i

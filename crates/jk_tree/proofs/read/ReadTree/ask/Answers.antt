@@ -3,7 +3,7 @@ use Rattle.std.specs.Prelude.{nat_lt}
 use Rattle.std.proofs.lemmas.List.{get_or_read}
 use Rattle.jk_tree.specs.TagTree.{Query, top, count}
 use Rattle.jk_tree.specs.declared.node.Node.{Node}
-use Rattle.jk_tree.specs.Asking.{node_at, Tree, Reached, walk, is_below, ask_at, IsAnswer}
+use Rattle.jk_tree.specs.Asking.{node_at, Tree, AreToldBySome, walk, is_below, ask_at, IsAnswer}
 use Rattle.jk_tree.proofs.Places.{leaf_counted}
 use Rattle.jk_tree.proofs.Answering.{ask_at-some, ask_at-ok, ask_at-err, only_law, found_law, answer_same}
 use Rattle.jk_tree.proofs.read.ReadTree.ask.Goals as goal
@@ -72,7 +72,7 @@ returns-in-Ok-clause-found c = λ queries reached.
     let q : Query = record { leaf = c.args.leaf; threshold = c.args.threshold } in
     let t : Tree = record { shape = record { width = s.levels.width; height = s.levels.height }; nodes = s.nodes.items; failed = s.failed } in
     let less : c.args.leaf < t.shape.width * t.shape.height = subst (λ (x : Tree). c.args.leaf < x.shape.width * x.shape.height) (sym c.self.view_is) c.requires in
-    let was = subst (λ (x : Tree). Reached x.shape queries x.nodes) (sym c.self.view_is) reached in
+    let was = subst (λ (x : Tree). AreToldBySome x.shape queries x.nodes) (sym c.self.view_is) reached in
     let law = found_law q t c.args.reader.now (c.walk.new.nodes.items, c.walk.new.reader) queries less c.self.invariant.2 c.in_default.is (walked c) was in (
       law.0,
       λ v st.

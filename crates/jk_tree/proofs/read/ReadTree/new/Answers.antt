@@ -1,7 +1,7 @@
 use Rattle.std.proofs.Common.{false, List, [], None, replicate, refl, sym, ap, ◌∙◌, subst, arith}
 use Rattle.jk_tree.specs.TagTree.{Shape}
 use Rattle.jk_tree.specs.declared.node.Node.{Node}
-use Rattle.jk_tree.specs.Asking.{Stands, blank_tree}
+use Rattle.jk_tree.specs.Asking.{AreTold, blank_tree}
 use Rattle.jk_tree.proofs.Asks.{fresh}
 use Rattle.jk_tree.proofs.read.ReadTree.new.Goals as goal
 
@@ -15,4 +15,4 @@ returns-clause-blank c =
 pub returns-clause-stands : goal.returns-clause-stands
 returns-clause-stands c =
     let s : Shape = record { width = c.args.width; height = c.args.height } in
-    (refl, refl, λ v tree. subst (λ (ns : List Node). Stands s v [] ns) (sym c.in_ok-nodes.ensures) (fresh s v c.node_count.result tree (let e = c.node_count.ensures in omega (arith, e))))
+    (refl, refl, λ v tree. subst (λ (ns : List Node). AreTold s v [] ns) (sym c.in_ok-nodes.ensures) (fresh s v c.node_count.result tree (let e = c.node_count.ensures in omega (arith, e))))

@@ -1,5 +1,5 @@
 use Rattle.std.proofs.Common.{◌≡◌, [], replicate}
-use Rattle.jk_walk.specs.Keeping.{lists_of}
+use Rattle.jk_math.specs.Lists.{lists_of}
 use Rattle.jk_walk.proofs.precincts.Precincts.new.Given as goal
 
 -- the rows that were made are empty

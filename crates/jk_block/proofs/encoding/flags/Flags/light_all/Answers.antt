@@ -1,5 +1,5 @@
 use Rattle.std.proofs.Common.{arith}
-use Rattle.jk_block.proofs.encoding.Lighting.{word_lit}
+use Rattle.jk_block.proofs.WordDrawing.{word_lit}
 use Rattle.jk_block.proofs.encoding.flags.Flags.light_all.Goals as goal
 
 pub returns-clause-lit : goal.returns-clause-lit

@@ -1,0 +1,12 @@
+-- The way of a tile that is read: packets are gathered by precinct along chains (Chaining) and
+-- bodies by code-block (Gathering); a code-block is read (Blocks) where a part meets it (MetBlocks).
+-- A part of a tile depends on these alone (LocalTiles, PartLaws), and the whole tile is one (WholeTile).
+pub mod Gathering
+pub mod Filled
+pub mod Unread
+pub mod Chaining
+pub mod Blocks
+pub mod WholeTile
+pub mod LocalTiles
+pub mod MetBlocks
+pub mod PartLaws

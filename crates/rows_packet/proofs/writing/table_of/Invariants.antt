@@ -1,6 +1,0 @@
-use Rattle.std.proofs.Common.{length}
-use Rattle.jk_packet.specs.Written.{AreEnds}
-use Rattle.rows_packet.proofs.writing.table_of.Given as goal
-
-abbrev pub invariant-loop-part : goal.invariant-loop-part
-invariant-loop-part l = AreEnds 0 l.parts.items (length l.bytes.items)

@@ -1,0 +1,161 @@
+//! Headers with one byte changed, and what T.800 says of them: where the header ends, or the first
+//! fault. The answers are those of an independent decoder.
+
+use crate::asserts::{equal, equal_at};
+use crate::header_cases::{PART, PART_CASES, PLAIN, PLAIN_CASES, RICH, RICH_CASES};
+use crate::texts::changed;
+use jk_geom::tile_count;
+use jk_marks::{Main, read_main, read_tile_part};
+use jk_math::Fault;
+use std::alloc::Global;
+use std::process::Abort;
+use std::test::Fail;
+use vectors::bytes_of;
+
+/// The fault of a number.
+fn fault_of(number: u8) -> Option<Fault> {
+    match number {
+        2 => Some(Fault::Truncated),
+        3 => Some(Fault::BadMarker),
+        4 => Some(Fault::BadLength),
+        5 => Some(Fault::BadValue),
+        6 => Some(Fault::Unsupported),
+        7 => Some(Fault::Limit),
+        _ => None,
+    }
+}
+
+/// Where a main header ends, or its fault.
+fn main_answer(bytes: &[u8]) -> (usize, Option<Fault>) {
+    match read_main(bytes) {
+        Ok((_, length)) => (length, None),
+        Err(fault) => (0, Some(fault)),
+    }
+}
+
+/// Reads a main header with a byte changed.
+fn judge_main(rt: &impl Abort, alloc: Global, text: &str, case: &[u8; 5]) -> Result<(), Fail> {
+    let [place, byte, number, length, _] = *case;
+    let bytes = changed(alloc, &[text], place as usize, byte)?;
+    let wanted = (length as usize, fault_of(number));
+    equal_at(rt, (place, byte), main_answer(&bytes), wanted);
+    Ok(())
+}
+
+/// The main header of RICH, and its number of tiles.
+fn rich(alloc: Global) -> Result<(Main, u32), Fail> {
+    let (main, _) = read_main(&bytes_of(alloc, &[RICH])?)?;
+    let tiles = tile_count(&main.siz);
+    Ok((main, tiles))
+}
+
+/// Where the data of a tile-part behind RICH begin and end, or its fault.
+fn part_answer(alloc: Global, part: &[u8]) -> Result<(usize, usize, Option<Fault>), Fail> {
+    let header = bytes_of(alloc, &[RICH])?;
+    let (main, _) = read_main(&header)?;
+    let seen = vec![in alloc; 0u16; tile_count(&main.siz) as usize]?;
+    Ok(match read_tile_part(part, &main, &seen) {
+        Ok(part) => (part.start, part.end, None),
+        Err(fault) => (0, 0, Some(fault)),
+    })
+}
+
+/// Reads the tile-part with a byte changed.
+fn judge_part(rt: &impl Abort, alloc: Global, case: &[u8; 5]) -> Result<(), Fail> {
+    let [place, byte, number, start, end] = *case;
+    let bytes = changed(alloc, &[PART], place as usize, byte)?;
+    let wanted = (start as usize, end as usize, fault_of(number));
+    equal_at(rt, (place, byte), part_answer(alloc, &bytes)?, wanted);
+    Ok(())
+}
+
+#[test]
+fn plain_headers(rt: HostRuntime) -> Result<(), Fail> {
+    for case in &PLAIN_CASES {
+        judge_main(&rt, rt.alloc(), PLAIN, case)?;
+    }
+    Ok(())
+}
+
+#[test]
+fn rich_headers(rt: HostRuntime) -> Result<(), Fail> {
+    for case in &RICH_CASES {
+        judge_main(&rt, rt.alloc(), RICH, case)?;
+    }
+    Ok(())
+}
+
+#[test]
+fn tile_parts(rt: HostRuntime) -> Result<(), Fail> {
+    for case in &PART_CASES {
+        judge_part(&rt, rt.alloc(), case)?;
+    }
+    Ok(())
+}
+
+/// Where the image of a main header ends and begins, and its components, their depth and sign.
+fn sizes(main: &Main) -> ((u32, u32, u32, u32), (u16, u8, bool)) {
+    let siz = &main.siz;
+    (
+        (siz.x1, siz.y1, siz.x0, siz.y0),
+        (siz.components, siz.depth, siz.signed),
+    )
+}
+
+/// The markers, the colour transform and the layers of all components, and their levels and
+/// code-blocks.
+fn style(main: &Main) -> ((bool, bool, bool, u16), (u8, u8, u8)) {
+    let cod = &main.cod;
+    (
+        (cod.sop, cod.eph, cod.colour, cod.layers),
+        (cod.style.levels, cod.style.xcb, cod.style.ycb),
+    )
+}
+
+/// Which of three components have a coding style of their own, and which a quantization.
+fn own(main: &Main) -> ([bool; 3], [bool; 3]) {
+    (
+        [
+            main.coc[0].is_some(),
+            main.coc[1].is_some(),
+            main.coc[2].is_some(),
+        ],
+        [
+            main.qcc[0].is_some(),
+            main.qcc[1].is_some(),
+            main.qcc[2].is_some(),
+        ],
+    )
+}
+
+/// The levels and code-blocks of component 1, and the guard bits and number of sub-bands of
+/// component 2.
+fn others(main: &Main) -> Result<((u8, u8, u8), (u8, usize)), Fail> {
+    let own = main.coc[1].as_ref().ok_or("a coding style")?;
+    let steps = main.qcc[2].as_ref().ok_or("a quantization")?;
+    Ok((
+        (own.levels, own.xcb, own.ycb),
+        (steps.guard, steps.exponents.len()),
+    ))
+}
+
+/// What is kept of the headers as they stand.
+#[test]
+fn kept(rt: HostRuntime) -> Result<(), Fail> {
+    let (main, tiles) = rich(rt.alloc())?;
+    equal(&rt, tiles, 9);
+    equal(&rt, sizes(&main), ((320, 240, 16, 8), (3, 12, false)));
+    equal(&rt, style(&main), ((true, true, true, 3), (2, 6, 5)));
+    let precincts = [(6, 7), (7, 8), (8, 9)];
+    equal(&rt, main.cod.style.precincts.as_slice(), &precincts);
+    let exponents = [12, 13, 13, 14, 13, 13, 14];
+    equal(&rt, main.qcd.guard, 3);
+    equal(&rt, main.qcd.exponents.as_slice(), &exponents);
+    equal(
+        &rt,
+        own(&main),
+        ([false, true, false], [false, false, true]),
+    );
+    equal(&rt, others(&main)?, ((1, 5, 5), (2, 7)));
+    Ok(())
+}

@@ -1,0 +1,5 @@
+//! Code-blocks on worker threads, with answers from outside.
+#![tactic(auto)]
+
+#[cfg(test)]
+mod tests;

@@ -1,0 +1,11 @@
+//! The command line, run in memory, with answers from outside.
+#![tactic(auto)]
+
+#[cfg(test)]
+mod lines;
+#[cfg(test)]
+mod memory;
+#[cfg(test)]
+mod numbers;
+#[cfg(test)]
+mod telling;

@@ -1,0 +1,439 @@
+//! Command lines, and what they do.
+
+use crate::memory::Memory;
+use jk_line::{Status, run};
+use jk_store::{MemoryShelf, Shelf};
+use std::alloc::Global;
+use std::process::Abort;
+use std::str::Split;
+use std::test::Fail;
+use vectors::bytes_of;
+
+/// A PGM file of one pixel, 128.
+pub(crate) static GREY: &str = "50350A 312031 0A 323535 0A 80";
+
+/// A PPM file of one pixel whose components are 128.
+pub(crate) static COLOURS: &str = "50360A 312031 0A 323535 0A 808080";
+
+/// The segments of the grey pixel without levels: SIZ, COD and QCD.
+pub(crate) static SIZE: &str =
+    "FF51 0029 0000 00000001 00000001 00000000 00000000 00000001 00000001 00000000 00000000 0001 07 01 01";
+
+pub(crate) static CODING: &str = "FF52 000C 00 00 0001 00 00 04 04 00 01";
+
+pub(crate) static STEPS: &str = "FF5C 0004 40 40";
+
+/// The boxes around its codestream in a JP2 file.
+pub(crate) static BOXES: &str =
+    "0000000C 6A502020 0D0A870A 00000014 66747970 6A703220 00000000 6A703220 0000002D 6A703268 00000016 69686472 00000001 00000001 0001 07 07 00 00 0000000F 636F6C72 01 00 00 00000011 0000005A 6A703263";
+
+/// A column of nine samples with one level: its codestream, its PGM file, and that of the halved
+/// image.
+pub(crate) static COLUMN: &str =
+    "FF4F FF51 0029 0000 00000001 00000009 00000000 00000000 00000001 00000009 00000000 00000000 0001 07 01 01 FF52 000C 00 00 0001 00 01 04 04 00 01 FF5C 0007 40 40 48 48 50 FF90 000A 0000 0000001E 00 01 FF93 C7 D4 0C 01 8F 0D C8 75 7F C0 7C 21 80 0F B1 7F FFD9";
+
+static COLUMN_TEXT: &str = "50350A 312039 0A 323535 0A 65 67 68 69 60 61 60 66 6D";
+
+static HALVED_TEXT: &str = "50350A 312035 0A 323535 0A 66 6A 62 60 6D";
+
+/// Windows of the column and of its halved image, which are rows of these.
+static WINDOW_TEXT: &str = "50350A 312033 0A 323535 0A 68 69 60";
+
+static HALVED_WINDOW_TEXT: &str = "50350A 312032 0A 323535 0A 60 6D";
+
+/// The headers of four pixels with one level; its codestream has these packets, and that of the
+/// window of its halved image those.
+static FOUR: &str =
+    "FF4F FF51 0029 0000 00000002 00000002 00000000 00000000 00000002 00000002 00000000 00000000 0001 07 01 01 FF52 000C 00 00 0001 00 01 04 04 00 01 FF5C 0007 40 40 48 48 50";
+
+static FOUR_PART: &str = "FF90 000A 0000 00000018 00 01 FF93 C0 21 03 C0 10 A0 04 20 03 07 FFD9";
+
+static WINDOW_PART: &str = "FF90 000A 0000 00000012 00 01 FF93 C0 21 03 00 FFD9";
+
+/// The beginning of a codestream with the irreversible transform.
+static NINE_SEVEN: &str =
+    "FF4F FF51 0029 0000 00000001 00000001 00000000 00000000 00000001 00000001 \
+00000000 00000000 0001 07 01 01 FF52 000C 00 00 0001 00 00 04 04 00 00";
+
+/// The words of a command line.
+fn words(alloc: Global, line: &str) -> Result<Vec<String>, Fail> {
+    let mut words = Vec::new(alloc);
+    words.push(String::from_str(alloc, "jk")?)?;
+    for word in line.split(' ') {
+        if !word.is_empty() {
+            words.push(String::from_str(alloc, word)?)?;
+        }
+    }
+    Ok(words)
+}
+
+/// Runs a command line.
+pub(crate) fn run_line(alloc: Global, world: &mut Memory, line: &str) -> Result<Status, Fail> {
+    let words = words(alloc, line)?;
+    Ok(run(alloc, &words, world))
+}
+
+/// Runs a command line over an input, which must write an output and nothing else.
+pub(crate) fn check_output(
+    rt: &impl Abort,
+    alloc: Global,
+    line: &str,
+    input: &[&str],
+    output: &[&str],
+) -> Result<(), Fail> {
+    let mut world = Memory::new(alloc, bytes_of(alloc, input)?);
+    let status = run_line(alloc, &mut world, line)?;
+    assert_eq!(rt; status, Status::Done, "{line}");
+    let wanted = bytes_of(alloc, output)?;
+    assert!(rt; world.output.as_slice() == wanted.as_slice(), "{line}");
+    assert_eq!(rt; world.error.len(), 0, "{line}");
+    Ok(())
+}
+
+/// Runs a command line over an input and a folder `d` with a file `c.jp2` that isn't listed, which
+/// must answer a fault and write nothing.
+fn check_fault(
+    rt: &impl Abort,
+    alloc: Global,
+    line: &str,
+    input: &str,
+    error: &str,
+) -> Result<(), Fail> {
+    let mut world = Memory::new(alloc, bytes_of(alloc, &[input])?);
+    let mut shelf = MemoryShelf::new(alloc);
+    shelf.write(alloc, "c.jp2", &[0xFF])?;
+    world.folders.insert(String::from_str(alloc, "d")?, shelf)?;
+    let status = run_line(alloc, &mut world, line)?;
+    assert_eq!(rt; status, Status::Refused, "{line}");
+    assert!(rt; world.error.as_str() == error, "{line}: {}", world.error);
+    assert_eq!(rt; world.output.len(), 0, "{line}");
+    Ok(())
+}
+
+/// What each option of an encoding changes, a line for each: the options; what they change of SIZ,
+/// of COD and of QCD, and nothing where it is as without them; Psot and the packets (T.800 A.4 to
+/// A.6).
+static OPTIONS: &str = "\
+--levels 0||||0000000F 00 01 FF93 00
+--levels 1||FF52 000C 00 00 0001 00 01 04 04 00 01|FF5C 0007 40 40 48 48 50|00000010 00 01 FF93 00 00
+--levels 0 --layers 2||FF52 000C 00 00 0002 00 00 04 04 00 01||00000010 00 01 FF93 00 00
+--levels 0 --order LRCP||||0000000F 00 01 FF93 00
+--levels 0 --order RLCP||FF52 000C 00 01 0001 00 00 04 04 00 01||0000000F 00 01 FF93 00
+--levels 0 --order RPCL||FF52 000C 00 02 0001 00 00 04 04 00 01||0000000F 00 01 FF93 00
+--levels 0 --order PCRL||FF52 000C 00 03 0001 00 00 04 04 00 01||0000000F 00 01 FF93 00
+--levels 0 --order CPRL||FF52 000C 00 04 0001 00 00 04 04 00 01||0000000F 00 01 FF93 00
+--levels 0 --sop||FF52 000C 02 00 0001 00 00 04 04 00 01||00000015 00 01 FF93 FF91 0004 0000 00
+--levels 0 --eph||FF52 000C 04 00 0001 00 00 04 04 00 01||00000011 00 01 FF93 00 FF92
+--levels 0 --block-x 3||FF52 000C 00 00 0001 00 00 01 04 00 01||0000000F 00 01 FF93 00
+--levels 0 --block-y 4||FF52 000C 00 00 0001 00 00 04 02 00 01||0000000F 00 01 FF93 00
+--levels 0 --precincts 1f||FF52 000D 01 00 0001 00 00 04 04 00 01 1F||0000000F 00 01 FF93 00
+--levels 0 --windows||FF52 000D 01 02 0001 00 00 04 04 00 01 77||0000000F 00 01 FF93 00
+--levels 1 --windows||FF52 000E 01 02 0001 00 01 04 04 00 01 77 77|FF5C 0007 40 40 48 48 50|00000010 00 01 FF93 00 00
+--levels 0 --windows --order LRCP||FF52 000D 01 00 0001 00 00 04 04 00 01 77||0000000F 00 01 FF93 00
+--levels 0 --windows --precincts 1f||FF52 000D 01 02 0001 00 00 04 04 00 01 1F||0000000F 00 01 FF93 00
+--levels 0 --x0 5|FF51 0029 0000 00000006 00000001 00000005 00000000 \
+00000006 00000001 00000000 00000000 0001 07 01 01|||0000000F 00 01 FF93 00
+--levels 0 --y0 7|FF51 0029 0000 00000001 00000008 00000000 00000007 \
+00000001 00000008 00000000 00000000 0001 07 01 01|||0000000F 00 01 FF93 00
+--levels 0 --tile-width 3 --tile-height 4|FF51 0029 0000 00000001 00000001 00000000 00000000 \
+00000003 00000004 00000000 00000000 0001 07 01 01|||0000000F 00 01 FF93 00";
+
+/// The next field of a line, or what stands where it is empty.
+fn field<'a>(fields: &mut Split<'a, char>, other: &'a str) -> &'a str {
+    match fields.next() {
+        Some("") | None => other,
+        Some(field) => field,
+    }
+}
+
+#[test]
+fn options_change_their_fields(rt: HostRuntime) -> Result<(), Fail> {
+    let alloc = rt.alloc();
+    for row in OPTIONS.split('\n') {
+        let mut fields = row.split('|');
+        let options = field(&mut fields, "");
+        let file = [
+            "FF4F",
+            field(&mut fields, SIZE),
+            field(&mut fields, CODING),
+            field(&mut fields, STEPS),
+            "FF90 000A 0000",
+            field(&mut fields, ""),
+            "FFD9",
+        ];
+        let line = format!(in alloc; "encode - - --raw {options}")?;
+        check_output(&rt, alloc, line.as_str(), &[GREY], &file)?;
+    }
+    Ok(())
+}
+
+/// The colour transform is for three components, unless it is refused.
+#[test]
+fn colour_is_for_three_components(rt: HostRuntime) -> Result<(), Fail> {
+    let alloc = rt.alloc();
+    for (options, colour) in [("", "01"), ("--no-colour", "00")] {
+        let line = format!(in alloc; "encode - - --raw --levels 0 {options}")?;
+        let file = [
+            "FF4F FF51 002F 0000 00000001 00000001 00000000 00000000 00000001 00000001 00000000 00000000 0003 070101 070101 070101 FF52 000C 00 00 0001",
+            colour,
+            "00 04 04 00 01 FF5C 0004 40 40 FF90 000A 0000 00000011 00 01 FF93 000000 FFD9",
+        ];
+        check_output(&rt, alloc, line.as_str(), &[COLOURS], &file)?;
+    }
+    Ok(())
+}
+
+/// What the commands write that work on one file.
+#[test]
+fn commands_write_their_output(rt: HostRuntime) -> Result<(), Fail> {
+    let alloc = rt.alloc();
+    let pixel = [
+        BOXES,
+        "FF4F",
+        SIZE,
+        CODING,
+        STEPS,
+        "FF90 000A 0000 0000000F 00 01 FF93 00 FFD9",
+    ];
+    check_output(&rt, alloc, "encode - - --levels 0", &[GREY], &pixel)?;
+    check_output(&rt, alloc, "decode - -", &pixel, &[GREY])?;
+    check_output(&rt, alloc, "decode - -", &[COLUMN], &[COLUMN_TEXT])?;
+    check_output(
+        &rt,
+        alloc,
+        "decode - - --reduce 1",
+        &[COLUMN],
+        &[HALVED_TEXT],
+    )?;
+    // 1 9 1 8 1 1 LRCP 1 2
+    check_output(
+        &rt,
+        alloc,
+        "info -",
+        &[COLUMN],
+        &["31 20 39 20 31 20 38 20 31 20 31 20 4C524350 20 31 20 32 0A"],
+    )?;
+    check_output(
+        &rt,
+        alloc,
+        "cut - - --x 0 --y 0 --w 1 --h 1 --reduce 1",
+        &[FOUR, FOUR_PART],
+        &[FOUR, WINDOW_PART],
+    )
+}
+
+/// Windows are decoded alone: rows of the column, as its file has them, and what passes the edge is
+/// left out.
+#[test]
+fn windows_are_decoded(rt: HostRuntime) -> Result<(), Fail> {
+    let alloc = rt.alloc();
+    for (options, text) in [
+        ("--x 0 --y 2 --w 1 --h 3", WINDOW_TEXT),
+        (
+            "--reduce 1 --h 4294967295 --w 9 --y 3 --x 0",
+            HALVED_WINDOW_TEXT,
+        ),
+        ("--x 0 --y 0 --w 1 --h 9", COLUMN_TEXT),
+    ] {
+        let line = format!(in alloc; "decode - - {options}")?;
+        check_output(&rt, alloc, line.as_str(), &[COLUMN], &[text])?;
+    }
+    Ok(())
+}
+
+/// Command lines that answer a fault, a line for each: the command, its input, if that isn't the
+/// grey pixel, and the fault. Of two faults the one that is found first is answered: of options,
+/// the input, its grammar, its place, the output; where an image is added, of options, the input,
+/// its grammar, the folder, the name, the place.
+static FAULTS: &str = "\
+encode no - --layers 65536||F15 BadParameters
+encode no - --tile-width 1||F15 BadParameters
+encode no - --precincts 1g||F15 BadParameters
+encode no - --precincts 1||F15 BadParameters
+encode no - --levels 6||F20 Shelf
+encode - a/b --x0 4294967295|5035|F14 BadPnm
+encode - a/b --x0 2147483647||F15 BadParameters
+encode - a/b --levels 6||F15 BadParameters
+encode - a/b||F20 Shelf
+decode no a/b --reduce 9||F20 Shelf
+decode - a/b --reduce 2|column|F16 BadWindow
+decode - a/b|column|F20 Shelf
+decode no a/b --x 1 --y 0 --w 1 --h 1||F20 Shelf
+decode - a/b --x 1 --y 0 --w 1 --h 1|FF4F|F2 Truncated
+decode - a/b --x 1 --y 0 --w 1 --h 1|column|F16 BadWindow
+decode - a/b --x 0 --y 0 --w 0 --h 1|column|F16 BadWindow
+decode - a/b --x 0 --y 5 --w 1 --h 1 --reduce 1|column|F16 BadWindow
+decode - a/b --x 0 --y 0 --w 1 --h 1 --reduce 2|column|F16 BadWindow
+decode - a/b --x 0 --y 8 --w 1 --h 1|column|F20 Shelf
+info -|FF4F|F2 Truncated
+info no --all||F20 Shelf
+info - --all|FF4F|F2 Truncated
+cut - a/b --x 1 --y 0 --w 1 --h 1|FF4F|F2 Truncated
+cut - a/b --x 1 --y 0 --w 1 --h 1|column|F16 BadWindow
+add no A no --layers 65536||F15 BadParameters
+add no A no||F20 Shelf
+add no A -|5035|F14 BadPnm
+add no A -||F20 Shelf
+add d A - --x0 2147483647||F19 BadName
+add d c - --x0 2147483647||F18 NameTaken
+add d b - --x0 2147483647||F15 BadParameters
+add d b - --levels 6||F15 BadParameters
+serve no --port 0||F20 Shelf";
+
+/// The same of lines that ask for the cause, which stands behind the fault.
+static CAUSES: &str = "\
+encode - - --explain --levels 6||F15 BadParameters|--levels is 6, and may be 0 to 5
+encode - - --explain --tile-width 3||F15 BadParameters|--tile-width is given without --tile-height
+encode - - --explain --block-x 7||F15 BadParameters|\
+--block-x and --block-y are 7 and 6, and may be 12 at most in all
+encode - - --explain --precincts 1x||F15 BadParameters|\
+--precincts is 1x, and may have pairs of hexadecimal digits
+add d A - --explain||F19 BadName|A isn't 1 to 64 of the characters a to z, 0 to 9, - and _
+add d c - --explain||F18 NameTaken|d has a file c.jp2
+info no --explain||F20 Shelf|no can't be read: entity not found
+decode - - --explain --reduce 2|column|F16 BadWindow|\
+a reduction past the least number of levels, or a window or reduced image without a sample
+decode - - --explain --x 0 --y 9 --w 1 --h 1|column|F16 BadWindow|\
+a reduction past the least number of levels, or a window or reduced image without a sample
+decode - - --explain|nine|F6 Unsupported|the file has the irreversible transform 9/7";
+
+/// The bytes of an input, by its name or as they are.
+fn input_of<'a>(name: &'a str) -> &'a str {
+    match name {
+        "column" => COLUMN,
+        "nine" => NINE_SEVEN,
+        _ => name,
+    }
+}
+
+#[test]
+fn faults_come_in_order(rt: HostRuntime) -> Result<(), Fail> {
+    let alloc = rt.alloc();
+    for row in FAULTS.split('\n') {
+        let mut fields = row.split('|');
+        let line = field(&mut fields, "");
+        let input = input_of(field(&mut fields, GREY));
+        let error = format!(in alloc; "jk: {}\n", field(&mut fields, ""))?;
+        check_fault(&rt, alloc, line, input, error.as_str())?;
+    }
+    Ok(())
+}
+
+#[test]
+fn causes_are_told(rt: HostRuntime) -> Result<(), Fail> {
+    let alloc = rt.alloc();
+    for row in CAUSES.split('\n') {
+        let mut fields = row.split('|');
+        let line = field(&mut fields, "");
+        let input = input_of(field(&mut fields, GREY));
+        let fault = field(&mut fields, "");
+        let error = format!(in alloc; "jk: {fault}\n{}\n", field(&mut fields, ""))?;
+        check_fault(&rt, alloc, line, input, error.as_str())?;
+    }
+    Ok(())
+}
+
+/// An archive: adding, a name that is taken, and what is told where it is served.
+#[test]
+fn archives_grow(rt: HostRuntime) -> Result<(), Fail> {
+    let alloc = rt.alloc();
+    let mut world = Memory::new(alloc, bytes_of(alloc, &[GREY])?);
+    let mut shelf = MemoryShelf::new(alloc);
+    let bare = bytes_of(alloc, &[COLUMN])?;
+    shelf.write(alloc, "c.jp2", &bare)?;
+    world.folders.insert(String::from_str(alloc, "d")?, shelf)?;
+    assert_eq!(rt;
+        run_line(alloc, &mut world, "add d a - --levels 0")?,
+        Status::Done
+    );
+    assert_eq!(rt; run_line(alloc, &mut world, "add d a -")?, Status::Refused);
+    assert_eq!(rt; run_line(alloc, &mut world, "add d c -")?, Status::Refused);
+    assert!(rt; world.error.as_str() == "jk: F18 NameTaken\njk: F18 NameTaken\n");
+    assert_eq!(rt; world.output.len(), 0);
+    let mut shelf = world.folders.remove("d").ok_or("the folder is given back")?;
+    let wanted = bytes_of(
+        alloc,
+        &[
+            BOXES,
+            "FF4F",
+            SIZE,
+            CODING,
+            STEPS,
+            "FF90 000A 0000 0000000F 00 01 FF93 00 FFD9",
+        ],
+    )?;
+    assert!(rt; shelf.read(alloc, "a.jp2")?.as_slice() == wanted.as_slice());
+    assert_eq!(rt; shelf.read(alloc, "c.jp2")?.len(), bare.len());
+    assert_eq!(rt; shelf.list(alloc)?.len(), 2);
+    world.folders.insert(String::from_str(alloc, "d")?, shelf)?;
+    world.error.clear();
+    assert_eq!(rt;
+        run_line(alloc, &mut world, "serve d --port 8080")?,
+        Status::Done
+    );
+    assert!(rt;
+        world.error.as_str()
+            == "jk: c.jp2 isn't listed: F13 BadBox\njk: 1 images on http://127.0.0.1:8080/images\nNone",
+        "{}",
+        world.error
+    );
+    Ok(())
+}
+
+/// Wrong command lines, the first of them empty.
+static WRONG: &str = "
+copy a b
+encode -
+encode - - -
+encode - - --levels x
+encode - - --levels 4294967296
+encode - - --order LCRP
+encode - - --reduce 1
+decode - - --levels 1
+decode - - --x 0
+decode - - --x 0 --y 0 --w 1
+decode - - --x 0 --y 0 --h 1
+decode - - --x 0 --w 1 --h 1
+decode - - --y 0 --w 1 --h 1 --reduce 1
+decode - - --x 0 --y 0 --w 1 --h 1 --h 1
+decode - - --x 0 --y 0 --w 1 --h -1
+cut - - --x 0 --y 0 --w 1
+serve d
+serve d --port 65536
+faults x
+info
+info --all
+info - --all x
+info - --all --all
+info - --all=1
+--explain";
+
+/// Wrong command lines, and what is asked of the program itself.
+#[test]
+fn lines_are_judged(rt: HostRuntime) -> Result<(), Fail> {
+    let alloc = rt.alloc();
+    for line in WRONG.split('\n') {
+        let mut world = Memory::new(alloc, bytes_of(alloc, &[GREY])?);
+        let status = run_line(alloc, &mut world, line)?;
+        assert_eq!(rt; status, Status::WrongLine, "{line}");
+        assert_eq!(rt; world.output.len(), 0, "{line}");
+        assert!(rt; !world.error.is_empty(), "{line}");
+    }
+    for line in ["--help", "--version", "encode --help", "faults"] {
+        let mut world = Memory::new(alloc, bytes_of(alloc, &[GREY])?);
+        assert_eq!(rt; run_line(alloc, &mut world, line)?, Status::Done, "{line}");
+        assert!(rt; !world.output.is_empty(), "{line}");
+        assert_eq!(rt; world.error.len(), 0, "{line}");
+        world.is_full = true;
+        assert_eq!(rt;
+            run_line(alloc, &mut world, line)?,
+            Status::Refused,
+            "{line}"
+        );
+        assert!(rt; world.error.as_str() == "jk: F20 Shelf\n", "{line}");
+    }
+    assert_eq!(rt; Status::Done.code(), 0);
+    assert_eq!(rt; Status::Refused.code(), 1);
+    assert_eq!(rt; Status::WrongLine.code(), 2);
+    Ok(())
+}

@@ -1,0 +1,59 @@
+//! Negative numbers on a command line.
+
+use crate::lines::{GREY, run_line};
+use crate::memory::Memory;
+use jk_line::Status;
+use std::test::Fail;
+use vectors::bytes_of;
+
+/// Command lines with a negative number, and how each is refused.
+static NEGATIVE: &str = "\
+decode - - --x -5 --y 0 --w 1 --h 1|invalid value '-5' for '--x <N>': -5 is not in 0..=4294967295
+decode - - --x 0 --y 0 --w 1 --h -1|invalid value '-1' for '--h <N>': -1 is not in 0..=4294967295
+decode - - --reduce -1|invalid value '-1' for '--reduce <D>': -1 is not in 0..=4294967295
+cut - - --x 0 --y -2 --w 1 --h 1|invalid value '-2' for '--y <N>': -2 is not in 0..=4294967295
+encode - - --levels -3|invalid value '-3' for '--levels <N>': -3 is not in 0..=4294967295
+encode - - --tile-width -3|invalid value '-3' for '--tile-width <N>': -3 is not in 0..=4294967295
+encode - - --x0 -1.5|invalid value '-1.5' for '--x0 <N>': invalid digit found in string
+encode - - --order -1|invalid value '-1' for '--order <ORDER>'
+add d a - --levels=-3|invalid value '-3' for '--levels <N>': -3 is not in 0..=4294967295
+serve d --port -80|invalid value '-80' for '--port <P>': -80 is not in 0..=65535
+serve d --port 80 --connections -1|invalid value '-1' for '--connections <K>': -1 is not in 0..=4294967295";
+
+/// A negative number is a value, which none of the options has.
+#[test]
+fn negative_numbers_are_values(rt: HostRuntime) -> Result<(), Fail> {
+    let alloc = rt.alloc();
+    for row in NEGATIVE.split('\n') {
+        let Some((line, wanted)) = row.split_once('|') else {
+            return Err("a line and its refusal".into());
+        };
+        let mut world = Memory::new(alloc, bytes_of(alloc, &[GREY])?);
+        let status = run_line(alloc, &mut world, line)?;
+        assert_eq!(rt; status, Status::WrongLine, "{line}");
+        assert_eq!(rt; world.output.len(), 0, "{line}");
+        assert!(rt;
+            world.error.as_str().contains(wanted),
+            "{line}: {}",
+            world.error
+        );
+    }
+    Ok(())
+}
+
+/// Precinct sizes are judged as a text: a negative number is none, and neither is a word of another
+/// option.
+#[test]
+fn negative_precincts_are_judged(rt: HostRuntime) -> Result<(), Fail> {
+    let alloc = rt.alloc();
+    let mut world = Memory::new(alloc, bytes_of(alloc, &[GREY])?);
+    let line = "encode - - --explain --precincts -1";
+    assert_eq!(rt; run_line(alloc, &mut world, line)?, Status::Refused);
+    assert!(rt;
+        world.error.as_str()
+            == "jk: F15 BadParameters\n--precincts is -1, and may have pairs of hexadecimal digits\n",
+        "{}",
+        world.error
+    );
+    Ok(())
+}

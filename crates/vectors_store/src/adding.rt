@@ -1,0 +1,162 @@
+//! Images added to an archive.
+
+use crate::asserts::{equal, equal_at};
+use crate::calls::{
+    add, archive_of, is_page, joined, listed, open, plain, read, refusal, refusal_with, shelf_of,
+    skipped, with_levels,
+};
+use crate::contents::Content;
+use crate::shelves::{Act, act_at};
+use jk_math::Fault;
+use jk_params::Container;
+use std::alloc::Global;
+use std::test::Fail;
+
+/// Of an image that is added: whether it has the digest of its file, its width and levels, and how
+/// many are listed.
+fn added(alloc: Global) -> Result<(bool, u32, u8, usize), Fault> {
+    let mut archive = archive_of(alloc, &[])?;
+    let entry = add(&mut archive, alloc, "a", 128)?;
+    let same = entry.digest.as_slice() == Content::Digest.bytes(alloc)?.as_slice();
+    let index = &entry.index;
+    Ok((same, index.width(), index.levels(), archive.list().len()))
+}
+
+#[test]
+fn an_image_added(rt: HostRuntime) -> Result<(), Fail> {
+    equal(&rt, added(rt.alloc())?, (true, 1, 0, 1));
+    Ok(())
+}
+
+/// Why a bare codestream isn't added under a name beside an image `a`, and how many images are
+/// listed then.
+fn refused(alloc: Global, name: &str) -> Result<(Option<Fault>, usize), Fault> {
+    let mut archive = archive_of(alloc, &[("a.jp2", Content::Page)])?;
+    let raw = plain(alloc, Container::Raw);
+    let answer = refusal_with(&mut archive, alloc, name, &raw);
+    Ok((answer, archive.list().len()))
+}
+
+/// Names, and why they are refused.
+static REFUSED: [(&str, Fault); 10] = [
+    ("A", Fault::BadName),
+    ("", Fault::BadName),
+    ("a.b", Fault::BadName),
+    ("a/b", Fault::BadName),
+    ("ä", Fault::BadName),
+    ("a b", Fault::BadName),
+    (
+        "01234567890123456789012345678901234567890123456789012345678901234",
+        Fault::BadName,
+    ),
+    ("a", Fault::NameTaken),
+    (
+        "0123456789012345678901234567890123456789012345678901234567890123",
+        Fault::BadParameters,
+    ),
+    ("a-b_9", Fault::BadParameters),
+];
+
+#[test]
+fn refused_names(rt: HostRuntime) -> Result<(), Fail> {
+    for (name, fault) in &REFUSED {
+        let answer = refused(rt.alloc(), name)?;
+        equal_at(&rt, *name, answer, (Some(*fault), 1));
+    }
+    Ok(())
+}
+
+/// Why an image isn't added a second time to an archive, the same one or another, and what is
+/// listed then.
+fn added_twice(alloc: Global, sample: i32) -> Result<(Option<Fault>, String), Fault> {
+    let mut archive = archive_of(alloc, &[("b.jp2", Content::Page)])?;
+    add(&mut archive, alloc, "a", 128)?;
+    let answer = refusal(&mut archive, alloc, "a", sample);
+    Ok((answer, listed(&archive, alloc)?))
+}
+
+/// Why an image isn't added under the name of one whose file lay on the shelf before, and what is
+/// listed then; and whether that file is as it was.
+fn added_over(alloc: Global) -> Result<(Option<Fault>, String, Result<bool, Fault>), Fault> {
+    let mut archive = archive_of(alloc, &[("a.jp2", Content::Page)])?;
+    let answer = refusal(&mut archive, alloc, "a", 129);
+    let names = listed(&archive, alloc)?;
+    let same = is_page(alloc, read(&mut archive.into_shelf(), alloc, "a.jp2"));
+    Ok((answer, names, same))
+}
+
+#[test]
+fn taken_names(rt: HostRuntime) -> Result<(), Fail> {
+    for sample in [128, 129] {
+        let (fault, names) = added_twice(rt.alloc(), sample)?;
+        equal_at(&rt, sample, fault, Some(Fault::NameTaken));
+        equal_at(&rt, sample, names.as_str(), "b a ");
+    }
+    Ok(())
+}
+
+#[test]
+fn taken_files(rt: HostRuntime) -> Result<(), Fail> {
+    let (fault, names, same) = added_over(rt.alloc())?;
+    equal(&rt, (fault, same), (Some(Fault::NameTaken), Ok(true)));
+    equal(&rt, names.as_str(), "a ");
+    Ok(())
+}
+
+/// Why so many levels are refused, and how many images are listed then.
+fn refused_levels(alloc: Global, levels: u8) -> Result<(Option<Fault>, usize), Fault> {
+    let mut archive = archive_of(alloc, &[])?;
+    let answer = refusal_with(&mut archive, alloc, "a", &with_levels(alloc, levels));
+    Ok((answer, archive.list().len()))
+}
+
+#[test]
+fn refused_parameters(rt: HostRuntime) -> Result<(), Fail> {
+    let answer = refused_levels(rt.alloc(), 6)?;
+    equal(&rt, answer, (Some(Fault::BadParameters), 0));
+    Ok(())
+}
+
+/// What is skipped, what is listed after the name was added, and both after it was opened again.
+fn replaced(alloc: Global) -> Result<String, Fail> {
+    let mut archive = archive_of(alloc, &[("c.jp2", Content::Bare)])?;
+    let before = skipped(&archive, alloc)?;
+    add(&mut archive, alloc, "c", 128)?;
+    let after = listed(&archive, alloc)?;
+    let again = open(alloc, archive.into_shelf())?;
+    let names = listed(&again, alloc)?;
+    let none = skipped(&again, alloc)?;
+    let texts = [
+        before.as_str(),
+        after.as_str(),
+        names.as_str(),
+        none.as_str(),
+    ];
+    Ok(joined(alloc, &texts)?)
+}
+
+#[test]
+fn a_skipped_name_added(rt: HostRuntime) -> Result<(), Fail> {
+    let answer = replaced(rt.alloc())?;
+    equal(&rt, answer.as_str(), "c F13 BadBox;|c |c ||");
+    Ok(())
+}
+
+/// Why an image isn't added where the rename fails, and how many images are listed before and after
+/// the next try.
+fn renamed(alloc: Global) -> Result<(Option<Fault>, usize, usize), Fault> {
+    // The calls are: list, write, rename.
+    let shelf = act_at(shelf_of(alloc, &[])?, 3, Act::Fail);
+    let mut archive = open(alloc, shelf)?;
+    let answer = refusal(&mut archive, alloc, "a", 128);
+    let before = archive.list().len();
+    add(&mut archive, alloc, "a", 128)?;
+    Ok((answer, before, archive.list().len()))
+}
+
+#[test]
+fn a_rename_that_fails(rt: HostRuntime) -> Result<(), Fail> {
+    let answer = renamed(rt.alloc())?;
+    equal(&rt, answer, (Some(Fault::Shelf), 0, 1));
+    Ok(())
+}

@@ -1,0 +1,111 @@
+//! Shelves that fail at one call.
+
+use crate::asserts::{equal, equal_at};
+use crate::calls::{
+    add, is_page, joined, listed, open, read, refusal, shelf_of, view, whole, window,
+};
+use crate::contents::Content;
+use crate::shelves::{Act, Acting, act_at};
+use jk_math::Fault;
+use jk_store::{Archive, MemoryShelf, Shelf};
+use std::alloc::Global;
+use std::test::Fail;
+
+/// The archive of two images and another file on a shelf that fails at a call, if it can be opened.
+fn opened(alloc: Global, call: u64) -> Result<Archive<Acting>, Fault> {
+    let files = [
+        ("a.jp2", Content::Page),
+        ("b.jp2", Content::Bare),
+        ("c.jp2", Content::Page),
+    ];
+    let shelf = shelf_of(alloc, &files)?;
+    open(alloc, act_at(shelf, call, Act::Fail))
+}
+
+/// How many images are listed, or why none is.
+fn opening_at(alloc: Global, call: u64) -> Result<usize, Fault> {
+    Ok(opened(alloc, call)?.list().len())
+}
+
+#[test]
+fn opening(rt: HostRuntime) {
+    // One listing and three reads.
+    for call in 1..5 {
+        equal_at(&rt, call, opening_at(rt.alloc(), call), Err(Fault::Shelf));
+    }
+    equal(&rt, opening_at(rt.alloc(), 5), Ok(2));
+}
+
+/// Why an image isn't added; what is listed before and after the next try; and how many calls
+/// failed.
+fn adding_at(alloc: Global, call: u64) -> Result<(Option<Fault>, String, u64), Fault> {
+    let mut archive = opened(alloc, call)?;
+    let answer = refusal(&mut archive, alloc, "d", 129);
+    let before = listed(&archive, alloc)?;
+    add(&mut archive, alloc, "d", 129)?;
+    let after = listed(&archive, alloc)?;
+    let names = joined(alloc, &[before.as_str(), after.as_str()])?;
+    Ok((answer, names, archive.into_shelf().failures()))
+}
+
+#[test]
+fn adding(rt: HostRuntime) -> Result<(), Fail> {
+    for call in 5..7 {
+        let (answer, names, failures) = adding_at(rt.alloc(), call)?;
+        equal_at(&rt, call, names.as_str(), "a c |a c d |");
+        equal_at(&rt, call, (answer, failures), (Some(Fault::Shelf), 1));
+    }
+    Ok(())
+}
+
+/// What a read and a window give where the shelf fails at the first call, and what the next read
+/// gives; and the failures.
+fn reading_at(
+    alloc: Global,
+    whole_first: bool,
+) -> Result<(Option<Fault>, Result<bool, Fault>, u64), Fault> {
+    let mut archive = opened(alloc, 5)?;
+    let first = if whole_first {
+        whole(&mut archive, alloc, "c")
+    } else {
+        window(&mut archive, alloc, "c", view(0, 1))
+    };
+    let second = is_page(alloc, whole(&mut archive, alloc, "a"));
+    Ok((first.err(), second, archive.into_shelf().failures()))
+}
+
+#[test]
+fn reading(rt: HostRuntime) -> Result<(), Fail> {
+    for whole_first in [true, false] {
+        let answer = reading_at(rt.alloc(), whole_first)?;
+        equal(&rt, answer, (Some(Fault::Shelf), Ok(true), 1));
+    }
+    Ok(())
+}
+
+fn rename(shelf: &mut MemoryShelf, alloc: Global, from: &str, to: &str) -> Option<Fault> {
+    shelf.rename(alloc, from, to).err()
+}
+
+/// The faults of calls with names that no file has, and with names that one has; and how many
+/// failed.
+fn calls(alloc: Global) -> Result<([Option<Fault>; 6], u64), Fault> {
+    let mut shelf = shelf_of(alloc, &[("a", Content::Byte), ("b", Content::Page)])?;
+    let faults = [
+        read(&mut shelf, alloc, "c").err(),
+        rename(&mut shelf, alloc, "c", "a"),
+        rename(&mut shelf, alloc, "b", "b"),
+        rename(&mut shelf, alloc, "b", "a"),
+        read(&mut shelf, alloc, "b").err(),
+        read(&mut shelf, alloc, "a").err(),
+    ];
+    Ok((faults, shelf.failures()))
+}
+
+#[test]
+fn absent_names(rt: HostRuntime) -> Result<(), Fail> {
+    let answer = calls(rt.alloc())?;
+    let failed = Some(Fault::Shelf);
+    equal(&rt, answer, ([failed, failed, None, None, failed, None], 3));
+    Ok(())
+}

@@ -1,0 +1,33 @@
+//! Archives on shelves, against answers from outside.
+#![tactic(auto)]
+
+#[cfg(test)]
+mod adding;
+#[cfg(test)]
+mod asserts;
+#[cfg(test)]
+mod by_parts;
+#[cfg(test)]
+mod calls;
+#[cfg(test)]
+mod contents;
+#[cfg(test)]
+mod directories;
+#[cfg(test)]
+mod failing;
+#[cfg(test)]
+mod judging;
+#[cfg(test)]
+mod limits;
+#[cfg(test)]
+mod loopback;
+#[cfg(test)]
+mod opening;
+#[cfg(test)]
+mod parts;
+#[cfg(test)]
+mod reading;
+#[cfg(test)]
+mod serving;
+#[cfg(test)]
+mod shelves;

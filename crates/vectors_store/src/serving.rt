@@ -1,0 +1,239 @@
+//! An archive in memory, asked over HTTP.
+
+use crate::asserts::{equal, equal_at};
+use crate::calls::{archive_of, open, shelf_of};
+use crate::contents::Content;
+use crate::shelves::{Act, Acting, act_at};
+use jk_math::Fault;
+use jk_store::{Archive, MemoryShelf};
+use jk_web::{Cache, End, run, run_with};
+use std::alloc::Global;
+use std::io;
+use std::io::Read;
+use std::process::Abort;
+use std::test::Fail;
+
+/// Gives at most so many bytes a read.
+#[derive(Drop)]
+struct Source {
+    bytes: Vec<u8>,
+    at: usize,
+    most: usize,
+}
+
+impl Read for Source {
+    fn read(&mut self, buf: &mut [u8]) -> io::Result<usize> {
+        let left = self.bytes.len().saturating_sub(self.at);
+        let count = left.min(self.most).min(buf.len());
+        for i in 0..count {
+            if self.at < self.bytes.len() && i < buf.len() {
+                buf[i] = self.bytes[self.at];
+                self.at = self.at.saturating_add(1);
+            }
+        }
+        Ok(count)
+    }
+}
+
+fn requests(alloc: Global, text: &[u8], most: usize) -> Result<Source, Fault> {
+    Ok(Source {
+        bytes: Vec::from_slice(alloc, text)?,
+        at: 0,
+        most,
+    })
+}
+
+/// The archive of one image `a`, which is one grey sample of 128.
+fn one_image(alloc: Global) -> Result<Archive<MemoryShelf>, Fault> {
+    archive_of(alloc, &[("a.jp2", Content::Page)])
+}
+
+/// The same archive, whose file is another one at its nth read. The listing and the read of `open`
+/// come before.
+fn changed_at(alloc: Global, read: u64) -> Result<Archive<Acting>, Fault> {
+    let shelf = shelf_of(alloc, &[("a.jp2", Content::Page)])?;
+    open(alloc, act_at(shelf, read.saturating_add(2), Act::Change))
+}
+
+/// What is replied by an archive of one image to a stream that comes in pieces of this size, and
+/// how it ends.
+fn replied(alloc: Global, stream: &[u8], size: usize) -> Result<(Vec<u8>, End), Fail> {
+    let mut out = Vec::new(alloc);
+    let mut reader = requests(alloc, stream, size)?;
+    let mut archive = one_image(alloc)?;
+    let end = run(alloc, &mut reader, &mut out, &mut archive, 1000)?;
+    Ok((out, end))
+}
+
+/// The same where the image's file is another one at its nth read.
+fn replied_to_changed(alloc: Global, stream: &[u8], read: u64) -> Result<(Vec<u8>, End), Fail> {
+    let mut out = Vec::new(alloc);
+    let mut reader = requests(alloc, stream, 1000)?;
+    let mut archive = changed_at(alloc, read)?;
+    let end = run(alloc, &mut reader, &mut out, &mut archive, 1000)?;
+    Ok((out, end))
+}
+
+/// What is asked, and the reply.
+static REPLIES: [(&[u8], &[u8]); 11] = [
+    (
+        b"GET /images HTTP/1.1\r\nHost: x\r\n\r\n",
+        b"HTTP/1.1 200 OK\r\nContent-Type: text/plain\r\nContent-Length: 12\r\n\r\na 1 1 1 8 0\n",
+    ),
+    (
+        b"GET /images HTTP/1.1\r\nHost: x\r\n\r\nGET /images HTTP/1.1\r\nHost: x\r\n\r\n",
+        b"HTTP/1.1 200 OK\r\nContent-Type: text/plain\r\nContent-Length: 12\r\n\r\na 1 1 1 8 0\nHTTP/1.1 200 OK\r\nContent-Type: text/plain\r\nContent-Length: 12\r\n\r\na 1 1 1 8 0\n",
+    ),
+    (
+        b"GET /b HTTP/1.1\r\n\r\n",
+        b"HTTP/1.1 404 Not Found\r\nContent-Type: text/plain\r\nContent-Length: 14\r\n\r\n404 Not Found\n",
+    ),
+    (
+        b"GET /images/b HTTP/1.1\r\n\r\n",
+        b"HTTP/1.1 404 Not Found\r\nContent-Type: text/plain\r\nContent-Length: 14\r\n\r\n404 Not Found\n",
+    ),
+    (
+        b"POST /images HTTP/1.1\r\n\r\n",
+        b"HTTP/1.1 405 Method Not Allowed\r\nAllow: GET\r\nContent-Type: text/plain\r\nContent-Length: 23\r\n\r\n405 Method Not Allowed\n",
+    ),
+    (
+        b"HEAD /images/a HTTP/1.1\r\n\r\n",
+        b"HTTP/1.1 405 Method Not Allowed\r\nAllow: GET\r\nContent-Type: text/plain\r\nContent-Length: 23\r\n\r\n405 Method Not Allowed\n",
+    ),
+    (
+        b"GET /images/a/window?x=0&y=0&w=0&h=1 HTTP/1.1\r\n\r\n",
+        b"HTTP/1.1 400 Bad Request\r\nContent-Type: text/plain\r\nContent-Length: 16\r\n\r\n400 Bad Request\n",
+    ),
+    (
+        b"GET /images/a/window?x=1&y=0&w=1&h=1 HTTP/1.1\r\n\r\n",
+        b"HTTP/1.1 400 Bad Request\r\nContent-Type: text/plain\r\nContent-Length: 16\r\n\r\n400 Bad Request\n",
+    ),
+    (
+        b"GET /images/a/window?x=0&y=0&w=1&h=1&r=1 HTTP/1.1\r\n\r\n",
+        b"HTTP/1.1 400 Bad Request\r\nContent-Type: text/plain\r\nContent-Length: 16\r\n\r\n400 Bad Request\n",
+    ),
+    (
+        b"GET /images HTTP/1.0\r\n\r\nGET /b HTTP/1.1\r\n\r\n",
+        b"HTTP/1.1 200 OK\r\nContent-Type: text/plain\r\nContent-Length: 12\r\nConnection: close\r\n\r\na 1 1 1 8 0\n",
+    ),
+    (
+        b"GET /b HTTP/1.1\r\nConnection: CLOSE\r\n\r\nGET /images HTTP/1.1\r\n\r\n",
+        b"HTTP/1.1 404 Not Found\r\nContent-Type: text/plain\r\nContent-Length: 14\r\nConnection: close\r\n\r\n404 Not Found\n",
+    ),
+];
+
+#[test]
+fn replies(rt: HostRuntime) -> Result<(), Fail> {
+    for (stream, want) in &REPLIES {
+        for size in [1000, 1] {
+            let (bytes, end) = replied(rt.alloc(), stream, size)?;
+            equal_at(&rt, size, bytes.as_slice(), *want);
+            equal_at(&rt, size, end, End::Closed);
+        }
+    }
+    Ok(())
+}
+
+/// A bad request has a reply that closes, behind the replies to those before it, and is the end.
+#[test]
+fn a_bad_request(rt: HostRuntime) -> Result<(), Fail> {
+    let stream = b"GET /b HTTP/1.1\r\n\r\nGET / HTTP/9\r\n\r\nGET /b HTTP/1.1\r\n\r\n";
+    let want =
+        b"HTTP/1.1 404 Not Found\r\nContent-Type: text/plain\r\nContent-Length: 14\r\n\r\n404 Not Found\nHTTP/1.1 400 Bad Request\r\nContent-Type: text/plain\r\nContent-Length: 16\r\nConnection: close\r\n\r\n400 Bad Request\n";
+    for size in [1000, 1] {
+        let (bytes, end) = replied(rt.alloc(), stream, size)?;
+        equal_at(&rt, size, bytes.as_slice(), want.as_slice());
+        equal_at(&rt, size, end, End::Bad);
+    }
+    Ok(())
+}
+
+/// The head of a reply that is the image's file.
+static FILE_FOLLOWS: &[u8] =
+    b"HTTP/1.1 200 OK\r\nContent-Type: image/jp2\r\nContent-Length: 167\r\n\r\n";
+
+/// The reply where the file isn't the one that was indexed.
+static CHANGED: &[u8] =
+    b"HTTP/1.1 500 Internal Server Error\r\nContent-Type: text/plain\r\nContent-Length: 26\r\n\r\n500 Internal Server Error\n";
+
+/// So many times the reply that is the image's file.
+fn files(alloc: Global, out: &mut Vec<u8>, count: usize) -> Result<(), Fault> {
+    for _ in 0..count {
+        out.extend_from_slice(FILE_FOLLOWS)?;
+        out.extend_from_slice(&Content::Page.bytes(alloc)?)?;
+    }
+    Ok(())
+}
+
+/// The file, and a window of it, which is the file again since it has one sample.
+static BOTH: &[u8] =
+    b"GET /images/a HTTP/1.1\r\n\r\nGET /images/a/window?x=0&y=0&w=9&h=1&r=0 HTTP/1.1\r\n\r\n";
+
+#[test]
+fn files_and_windows(rt: HostRuntime) -> Result<(), Fail> {
+    let alloc = rt.alloc();
+    let mut want = Vec::new(alloc);
+    files(alloc, &mut want, 2)?;
+    for size in [1000, 1] {
+        let (bytes, end) = replied(alloc, BOTH, size)?;
+        equal_at(&rt, size, bytes.as_slice(), want.as_slice());
+        equal_at(&rt, size, end, End::Closed);
+    }
+    Ok(())
+}
+
+/// Looks at the replies to a file and a window of which the nth one is made from a file that has
+/// changed.
+fn one_changed(rt: &impl Abort, alloc: Global, read: u64) -> Result<(), Fail> {
+    let mut want = Vec::new(alloc);
+    if read == 1 {
+        want.extend_from_slice(CHANGED)?;
+        files(alloc, &mut want, 1)?;
+    } else {
+        files(alloc, &mut want, 1)?;
+        want.extend_from_slice(CHANGED)?;
+    }
+    let (bytes, end) = replied_to_changed(alloc, BOTH, read)?;
+    equal_at(rt, read, bytes.as_slice(), want.as_slice());
+    equal_at(rt, read, end, End::Closed);
+    Ok(())
+}
+
+#[test]
+fn a_file_that_has_changed(rt: HostRuntime) -> Result<(), Fail> {
+    one_changed(&rt, rt.alloc(), 1)?;
+    one_changed(&rt, rt.alloc(), 2)
+}
+
+/// The same where windows are kept, one at a time.
+fn replied_with_cache(alloc: Global, stream: &[u8], read: u64) -> Result<(Vec<u8>, End), Fail> {
+    let mut out = Vec::new(alloc);
+    let mut reader = requests(alloc, stream, 1000)?;
+    let mut archive = changed_at(alloc, read)?;
+    let mut cache = Cache::new(alloc, 1)?;
+    let end = run_with(alloc, &mut reader, &mut out, &mut archive, &mut cache, 1000)?;
+    Ok((out, end))
+}
+
+/// A window, which is asked for twice. The second query has the reduction that the first leaves
+/// out.
+static TWICE: &[u8] =
+    b"GET /images/a/window?x=0&y=0&w=9&h=1 HTTP/1.1\r\n\r\nGET /images/a/window?x=0&y=0&w=9&h=1&r=0 HTTP/1.1\r\n\r\n";
+
+/// The shelf has another file at its second read. Without a cache the second reply tells of it;
+/// through a cache there is no second read.
+#[test]
+fn a_window_that_is_kept(rt: HostRuntime) -> Result<(), Fail> {
+    let alloc = rt.alloc();
+    let mut want = Vec::new(alloc);
+    files(alloc, &mut want, 1)?;
+    want.extend_from_slice(CHANGED)?;
+    let (bytes, _end) = replied_to_changed(alloc, TWICE, 2)?;
+    equal(&rt, bytes.as_slice(), want.as_slice());
+    let mut kept = Vec::new(alloc);
+    files(alloc, &mut kept, 2)?;
+    let (bytes, end) = replied_with_cache(alloc, TWICE, 2)?;
+    equal(&rt, bytes.as_slice(), kept.as_slice());
+    equal(&rt, end, End::Closed);
+    Ok(())
+}

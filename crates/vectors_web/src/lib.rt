@@ -1,0 +1,14 @@
+//! Tests of requests, replies, queries and paths, against values from RFC 9112 and from the
+//! server's own rules.
+#![tactic(auto)]
+
+#[cfg(test)]
+mod answers;
+#[cfg(test)]
+mod caching;
+#[cfg(test)]
+mod cases;
+#[cfg(test)]
+mod serving;
+#[cfg(test)]
+mod tests;

@@ -1,0 +1,15 @@
+//! Windows of files, cut out, with answers from outside.
+#![tactic(auto)]
+
+#[cfg(test)]
+mod asserts;
+#[cfg(test)]
+mod cuts;
+#[cfg(test)]
+mod decoded;
+#[cfg(test)]
+mod many;
+#[cfg(test)]
+mod meanings;
+#[cfg(test)]
+mod views;
