@@ -1,4 +1,5 @@
 pub mod Contexts
+pub mod Examples
 pub mod Neighbours
 pub mod Moments
 pub mod Passes

@@ -2,7 +2,6 @@
 use Rattle.std.proofs.Common.{◌≡◌, ℕ, ◌<◌, Bool, List, [], ◌∷◌, length, map, Result, Ok, ap, sym, ◌∙◌, subst, arith}
 use Rattle.std.specs.List.{AllByRecursion, AllZip, flat_map}
 use Rattle.std.proofs.lemmas.List.{length-map}
-use Rattle.jk_math.specs.Answer.{◌>>=◌}
 use Rattle.jk_math.specs.Steps.{bind_then, ok_is}
 use Rattle.jk_math.specs.declared.fault.Fault.{Fault}
 use Rattle.jk_marks.specs.Siz.{tile_count}

@@ -1,8 +1,8 @@
 -- How the program keeps what headers have told of the precincts of a tile: those of which nothing
 -- is kept are blank.
-use Rattle.std.specs.Prelude.{◌≡◌, ℕ, ◌+◌, ◌*◌, ◌<◌, Bool, List, [], length, map, slice_index_or, Option, Some, None}
+use Rattle.std.specs.Prelude.{◌≡◌, ℕ, ◌+◌, ◌*◌, ◌<◌, Bool, List, [], length, slice_index_or, Option, Some, None}
 use Rattle.std.specs.Prelude.{Result, Ok}
-use Rattle.std.specs.Global.{Vec, Box}
+use Rattle.std.specs.Global.{Box}
 use Rattle.jk_math.specs.Answer.{◌>>=◌}
 use Rattle.jk_math.specs.declared.fault.Fault.{Fault}
 use Rattle.jk_geom.specs.declared.shape.TileShape.{TileShape}

@@ -3,3 +3,4 @@ pub mod WalkReading
 pub mod Keeping
 pub mod Sop
 pub mod Entries
+pub mod Examples
