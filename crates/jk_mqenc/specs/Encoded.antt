@@ -1,5 +1,5 @@
 -- What contracts see of an encoder.
-use Rattle.std.specs.Prelude.{◌≡◌, ℕ, ◌^◌, ◌%◌, Bool, false, List, [], ◌∷◌, ◌==◌, length, nat_le, if◌then◌else◌}
+use Rattle.std.specs.Prelude.{◌≡◌, ℕ, ◌^◌, ◌/◌, ◌%◌, Bool, false, List, [], ◌∷◌, ◌==◌, length, if◌then◌else◌}
 use Rattle.jk_model.specs.Contexts.{Context}
 use Rattle.jk_model.specs.Decisions.{Decision, initial}
 use Rattle.jk_model.specs.Deciding.{state_by}
@@ -50,6 +50,6 @@ without_last_ff (b ∷ o) = if b == 255 then o else b ∷ o
 unfoldable pub finished : List Decision → List ℕ
 finished ds = onto (without_last_ff (flushed (machine_by started initial ds)).placed) []
 
--- a decision in one byte: the bit is the highest, the number of the context stands in the others
+-- a decision in one byte: the bit is the lowest, the number of the context stands above it
 abbrev pub decision_of : ℕ → Decision
-decision_of byte = (byte % 128, nat_le 128 byte)
+decision_of byte = (byte / 2, byte % 2 == 1)

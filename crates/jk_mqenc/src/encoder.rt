@@ -1,6 +1,6 @@
 //! The encoder: registers, placed bytes, and the contexts.
 
-ghost use Rattle.std.specs.Prelude.{◌≡◌, ℕ, ◌+◌, ◌-◌, ◌%◌, ◌<◌, ◌≤◌, List, [], ◌∷◌, ◌++◌, All, IfOk, MatchResult};
+ghost use Rattle.std.specs.Prelude.{◌≡◌, ℕ, ◌+◌, ◌-◌, ◌/◌, ◌%◌, ◌<◌, ◌≤◌, List, [], ◌∷◌, ◌++◌, All, IfOk, MatchResult};
 ghost use Rattle.std.specs.Prelude.{false, true, map, take, get_or, length};
 ghost use Rattle.jk_math.specs.Memory.{IsMemory};
 ghost use Rattle.jk_model.specs.Code.{is_last};
@@ -65,7 +65,7 @@ fn encode_list(
     contexts: &mut [Step; 19],
     decisions: &[u8],
 ) -> Result<(), Refused>
-    requires decisions { All (λ byte. byte % 128 < 19) decisions.now }
+    requires decisions { All (λ byte. byte / 2 < 19) decisions.now }
     requires coded { (ds : List Decision) × Codes (lasting coder.old contexts.old) ds }
     ensures codes { IfOk result (λ _. (ds : List Decision) → Codes (lasting coder.old contexts.old) ds
         → Codes (lasting coder.new contexts.new) (ds ++ map decision_of decisions.now)) }
@@ -76,8 +76,8 @@ fn encode_list(
             coder,
             contexts,
             registers,
-            (byte & 0x7F) as usize,
-            *byte >= 0x80,
+            (*byte / 2) as usize,
+            *byte % 2 == 1,
         )?;
     }
     coder.restore(registers.caught_up());
@@ -129,10 +129,10 @@ impl Encoder {
         }
     }
 
-    /// Codes these decisions, each in one byte: its highest bit is the decision's, the others are
-    /// the number of its context.
+    /// Codes these decisions, each in one byte: its lowest bit is the decision's, those above it
+    /// are the number of its context.
     pub fn encode_all(&mut self, decisions: &[u8]) -> Result<(), Fault>
-        requires { All (λ byte. byte % 128 < 19) decisions.now }
+        requires { All (λ byte. byte / 2 < 19) decisions.now }
         ensures codes { IfOk result (λ _. (ds : List Decision)
             → Codes self.old ds → Codes self.new (ds ++ map decision_of decisions.now)) }
         ensures fault { MatchResult result

@@ -67,14 +67,14 @@ fn random_decisions(rt: HostRuntime) -> Result<(), Fail> {
 #[test]
 fn listed_decisions(rt: HostRuntime) -> Result<(), Fail> {
     let mut plus = Encoder::new(rt.alloc());
-    plus.encode_all(&[0x80, 0x09]).ok().ok_or("memory")?;
+    plus.encode_all(&[0x01, 0x12]).ok().ok_or("memory")?;
     assert_eq!(rt; plus.written(), 0);
     assert_eq!(rt;
         plus.finish().ok().ok_or("memory")?.as_slice(),
         &[0x03u8][..]
     );
     let mut minus = Encoder::new(rt.alloc());
-    minus.encode_all(&[0x80, 0x89]).ok().ok_or("memory")?;
+    minus.encode_all(&[0x01, 0x13]).ok().ok_or("memory")?;
     assert_eq!(rt; minus.written(), 0);
     assert_eq!(rt;
         minus.finish().ok().ok_or("memory")?.as_slice(),

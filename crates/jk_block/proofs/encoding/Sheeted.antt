@@ -1,13 +1,13 @@
 -- Decisions written in front of room.
-use Rattle.std.proofs.Common.{◌≡◌, ℕ, ◌+◌, ◌%◌, ◌<◌, ◌≤◌, List, All, length, replicate, ◌++◌, take, drop, sym, ap, ◌∙◌, subst, arith}
+use Rattle.std.proofs.Common.{◌≡◌, ℕ, ◌+◌, ◌/◌, ◌<◌, ◌≤◌, List, All, length, replicate, ◌++◌, take, drop, sym, ap, ◌∙◌, subst, arith}
 use Rattle.std.proofs.lemmas.List.{length-append, length-replicate}
 use Rattle.std.proofs.lemmas.List.Elements.{All-append, All-replicate}
 use Rattle.std.proofs.Math.Seq.{take-append_seam}
 use Rattle.jk_model.specs.Decisions.{Decision}
 use Rattle.jk_block.specs.encoding.Sheets.{IsSheet, told}
 
-zeros : (n : ℕ) → All (λ byte. byte % 128 < 19) (replicate n 0)
-zeros n = All-replicate (λ byte. byte % 128 < 19) n 0 (omega arith)
+zeros : (n : ℕ) → All (λ byte. byte / 2 < 19) (replicate n 0)
+zeros n = All-replicate (λ byte. byte / 2 < 19) n 0 (omega arith)
 
 -- more bytes
 pub sheet_wider : (xs ys : List ℕ) (n m : ℕ) → IsSheet xs n → ys ≡ xs ++ replicate 2048 0 → m ≤ n + 2048 → IsSheet ys m
@@ -16,7 +16,7 @@ sheet_wider xs ys n m h e few =
     (let l = length-append xs (replicate 2048 0) in
     let r = length-replicate {A = ℕ} 2048 0 in
     let w = h.within in
-    record { within = omega (arith, l, r, w, few); small = All-append (λ byte. byte % 128 < 19) xs (replicate 2048 0) h.small (zeros 2048) })
+    record { within = omega (arith, l, r, w, few); small = All-append (λ byte. byte / 2 < 19) xs (replicate 2048 0) h.small (zeros 2048) })
 
 -- a vector after writes to the slice of all its bytes
 whole : (xs ys : List ℕ) (m : ℕ) → m ≡ length ys → take m (ys ++ drop (length ys) xs) ≡ ys

@@ -1,6 +1,6 @@
 //! The decisions of a pass.
 
-ghost use Rattle.std.specs.Prelude.{◌≡◌, ℕ, [], ◌∷◌, ◌+◌, ◌++◌, List, ◌%◌, ◌<◌, ◌≤◌, IfOk, IfErr, if◌then◌else◌};
+ghost use Rattle.std.specs.Prelude.{◌≡◌, ℕ, [], ◌∷◌, ◌+◌, ◌++◌, List, ◌/◌, ◌<◌, ◌≤◌, IfOk, IfErr, if◌then◌else◌};
 ghost use Rattle.std.specs.Prelude.{replicate};
 ghost use Rattle.jk_math.specs.Memory.{IsMemory};
 ghost use Rattle.jk_model.specs.Decisions.{Decision};
@@ -18,8 +18,8 @@ const ROOM: usize = 2048;
 /// How much room is made for a word: more than the decisions of its places and columns.
 const WORD_ROOM: usize = 136;
 
-/// Decisions, each in one byte: the highest bit is the decision's, the others are the number of its
-/// context.
+/// Decisions, each in one byte: the lowest bit is the decision's, those above it are the number of
+/// its context.
 #[derive(Drop)]
 pub struct DecisionList {
     /// The decisions, and room behind them.
@@ -45,9 +45,9 @@ impl Model for DecisionList {
 fn spelled(context: u8, bit: bool) -> u8
     requires { context < 19 }
     ensures value { decision_of result ≡ (context, bit) }
-    ensures small { result % 128 < 19 }
+    ensures small { result / 2 < 19 }
 {
-    if bit { context + 128 } else { context }
+    if bit { 2 * context + 1 } else { 2 * context }
 }
 
 /// More bytes.
