@@ -1,3 +1,4 @@
 pub mod Rounds
 pub mod Shares
 pub mod InOrder
+pub mod Laws

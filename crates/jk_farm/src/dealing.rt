@@ -1,9 +1,11 @@
 //! Jobs dealt out to workers in turn, and what they give put together in the order of jobs.
 
 ghost use Rattle.std.specs.Prelude.{◌↔◌, IsTrue, ◌≡◌, ◌⊎◌, ℕ, ◌+◌, ◌*◌, ◌^◌, ◌<◌, ◌≤◌, All, IfOk, IfErr, Ok};
+ghost use Rattle.std.specs.Prelude.{Err};
 ghost use Rattle.std.specs.Prelude.{MatchResult, length, map};
 ghost use Rattle.std.specs.Thread.{IsSync, IsSend};
 ghost use Rattle.jk_math.specs.Memory.{IsMemory};
+ghost use Rattle.jk_math.specs.declared.fault.Fault.TheVariants.{BadParameters};
 ghost use Rattle.jk_farm.specs.Dealing.{AreLeft, AreGiven, IsFirstFault};
 ghost use Rattle.jk_math.specs.Lists.{list_at};
 
@@ -110,4 +112,29 @@ pub(crate) fn dealt<W: Work + Sync, R: Threads + Sync, G: Gate + Sync>(
     { share::<W, G>(alloc, gate, jobs, worker, count) };
     let shares = thread::map_indices(rt, alloc, count, &share_of)?;
     merged::<W>(alloc, jobs, collected(alloc, shares)?)
+}
+
+/// What jobs give, in their order, or the fault of the first job that has one. So many workers do
+/// them side by side, as far as threads can be had: with n workers, the first one does the jobs 0,
+/// n, 2n and so on.
+///
+/// [`Fault::BadParameters`], before all else: less than one worker or more than 64.
+pub fn map_jobs<W: Work + Sync, R: Threads + Sync, G: Gate + Sync>(
+    rt: &R,
+    alloc: Global,
+    workers: usize,
+    gate: &G,
+    jobs: &[W::Job],
+) -> Result<Vec<W::Done>, Fault>
+    requires room { length jobs.now < 2 ^ 63 }
+    requires jobs { All W.accepts jobs.now }
+    ensures range { (1 ≤ workers → workers ≤ 64 → ⊥) → result ≡ Err BadParameters }
+    ensures given { 1 ≤ workers → workers ≤ 64
+        → MatchResult result (λ v. AreGiven W.gives jobs.now (length jobs.now) v.items)
+        (λ e. IsMemory e ⊎ IsFirstFault W.gives jobs.now e) }
+{
+    if !are_allowed(workers) {
+        return Err(Fault::BadParameters);
+    }
+    dealt::<W, R, G>(rt, alloc, workers, gate, jobs)
 }

@@ -8,9 +8,11 @@ use std::alloc::Global;
 use std::marker::{Send, Sync};
 
 /// Work of which each job is done by itself.
-pub(crate) trait Work {
+pub trait Work {
+    /// What tells what is to be done.
     type Job: Sync;
 
+    /// What is given.
     type Done: Send + Drop;
 
     /// What is asked of a job.
@@ -19,6 +21,7 @@ pub(crate) trait Work {
     /// What it gives.
     ghost gives: { Self.Job → Result Self.Done Fault → Type 0 };
 
+    /// Does a job.
     fn done(alloc: Global, job: &Self::Job) -> Result<Self::Done, Fault>
         requires { accepts job.now }
         ensures { gives job.now result };
