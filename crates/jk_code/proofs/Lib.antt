@@ -20,3 +20,4 @@ pub mod BeginningLaws
 pub mod SendingLaws
 pub mod ViewSteps
 pub mod ViewAgain
+pub mod StripeLaws

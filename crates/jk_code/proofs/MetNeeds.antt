@@ -1,10 +1,8 @@
 -- What a part of a tile depends on is what the window needs of it: a precinct with a code-block that is met is needed.
-use Rattle.std.proofs.Common.{◌≡◌, ℕ, zero, suc, ◌+◌, ◌-◌, ◌*◌, ◌/◌, ◌%◌, ◌<◌, ◌≤◌, true, List, length, refl, sym, ap, ◌∙◌, subst, arith}
+use Rattle.std.proofs.Common.{◌≡◌, ℕ, zero, suc, ◌+◌, ◌-◌, ◌*◌, ◌<◌, ◌≤◌, true, List, length, sym, ap, ◌∙◌, subst, arith}
 use Rattle.jk_math.specs.declared.rect.Rect.{Rect}
 use Rattle.jk_marks.specs.declared.coding.Coding.{Coding}
-use Rattle.jk_math.specs.declared.orientation.Orientation.{Orientation}
-use Rattle.jk_math.specs.declared.orientation.Orientation.TheVariants.{LL}
-use Rattle.jk_geom.specs.Rectangles.{IsWithin, across_offset, down_offset}
+use Rattle.jk_geom.specs.Rectangles.{IsWithin}
 use Rattle.jk_geom.specs.TileShapes.{coding_of}
 use Rattle.jk_walk.specs.TilePackets.{orientations, band_number}
 use Rattle.jk_wave.specs.declared.region.Region.{Region}

@@ -1,10 +1,12 @@
 -- Pictures made of planes of samples.
-use Rattle.std.proofs.Common.{◌≡◌, ℕ, ◌+◌, ◌*◌, ◌-◌, ◌/◌, ◌%◌, ◌<◌, ◌≤◌, Bool, true, false, List, All, ℤ, pos, ◌≤ℤ◌, sym, subst, ◌∙◌, arith, lit≤}
+use Rattle.std.proofs.Common.{◌≡◌, ℕ, ◌+◌, ◌*◌, ◌-◌, ◌/◌, ◌%◌, ◌<◌, ◌≤◌, Bool, true, false, List, All, ℤ, pos, ◌≤ℤ◌, sym, ap, subst, ◌∙◌, arith, lit≤}
 use Rattle.std.proofs.lemmas.List.{get_or_default}
 use Rattle.std.proofs.lemmas.List.FromFn.{length-map-range_with_len, get_or-map-range_with_len}
 use Rattle.std.proofs.lemmas.Int.{ints, clamps}
 use Rattle.std.proofs.Math.Nat.{one-le-pow}
 use Rattle.std.specs.Int.{int_min, int_max}
+use Rattle.std.specs.Global.{Vec}
+use Rattle.jk_math.specs.Lists.{lists_of}
 use Rattle.jk_math.specs.declared.rect.Rect.{Rect}
 use Rattle.jk_math.specs.Picture.{IsFrame, IsPlane, IsPicture, lowest, greatest}
 use Rattle.jk_math.specs.Raster.{raster, places_of, columns_of}
@@ -64,3 +66,8 @@ tiles_are_picture bytes h d a is frame =
             (record { count = raster_length a (sample_of_tiles bytes h d c) ∙ turned; range = raster_range a (sample_of_tiles bytes h d c) h.siz (λ x y. pixel_range _ h.siz _ c is.some_bits) });
       };
     }
+
+-- and so is the one of planes that are those of all tiles
+pub tiles_made : (bytes : List ℕ) (h : Headers) (d : ℕ) (a : Rect) (planes : List (Vec ℤ)) → IsSiz h.siz → HasFrame a → lists_of planes ≡ planes_of_tiles bytes h d a
+    → IsPicture (picture_with h.siz a (lists_of planes))
+tiles_made bytes h d a planes is frame e = subst IsPicture (sym (ap (picture_with h.siz a) e)) (tiles_are_picture bytes h d a is frame)

@@ -1,10 +1,10 @@
 -- The decoded window of the file of a window is that of the stored file, whatever the file's code-blocks are: the precincts that
 -- the window needs have the same bodies.
-use Rattle.std.proofs.Common.{◌≡◌, ℕ, zero, suc, ◌+◌, ◌-◌, ◌*◌, ◌^◌, ◌<◌, ◌≤◌, not, Bool, true, false, cond, if◌then◌else◌, List, [], ◌∷◌, length, map, Result, Ok, Err, ℤ, refl, sym, ap, ◌∙◌, subst, arith}
+use Rattle.std.proofs.Common.{◌≡◌, ℕ, zero, suc, ◌+◌, ◌<◌, ◌≤◌, not, true, cond, if◌then◌else◌, List, [], ◌∷◌, length, map, Result, Ok, Err, ℤ, refl, sym, ap, ◌∙◌, subst, arith}
 use Rattle.std.specs.Prelude.{slice_range}
-use Rattle.std.specs.List.{flat_map, range_with_len, AllByRecursion}
+use Rattle.std.specs.List.{flat_map, range_with_len}
 use Rattle.jk_math.specs.Answer.{◌>>=◌}
-use Rattle.jk_math.specs.Steps.{bind_then, ok_is}
+use Rattle.jk_math.specs.Steps.{bind_then}
 use Rattle.jk_math.specs.declared.fault.Fault.{Fault}
 use Rattle.jk_math.specs.declared.fault.Fault.TheVariants.{BadWindow}
 use Rattle.jk_math.specs.declared.rect.Rect.{Rect}
@@ -27,20 +27,20 @@ use Rattle.jk_params.specs.Headers.{Headers, tile_in, AreHeaders}
 use Rattle.jk_params.specs.HeadersReading.{headers_at}
 use Rattle.jk_params.proofs.Laws.{only_headers, sound_headers}
 use Rattle.jk_walk.specs.declared.places.PacketPlace.{PacketPlace}
-use Rattle.jk_walk.specs.TilePackets.{shape_in, Body, Packet, orientations, of_precinct}
+use Rattle.jk_walk.specs.TilePackets.{shape_in, Body, Packet, of_precinct}
 use Rattle.jk_walk.specs.WalkReading.{packets_at}
 use Rattle.jk_walk.proofs.Laws.{packets_only}
 use Rattle.jk_tile.specs.Pixels.{tile_sample}
 use Rattle.jk_tile.specs.TileBlocks.{orientation_at}
 use Rattle.jk_tile.specs.TileMeaning.{shown_area, values_of}
-use Rattle.jk_tile.specs.decoding.TileReading.{each, tested, bodies_of, coefficient_at, component_part_tested, component_samples, part_planes_at}
+use Rattle.jk_tile.specs.decoding.TileReading.{each, tested, bodies_of, coefficient_at, component_part_tested, part_planes_at}
 use Rattle.jk_tile.proofs.Laws.{fine, each_only, tested_ok, bind_ok, bodies_are, pixel_same, levels_read, is_band, each_alike, if_alike, component_alike, coefficient_alike}
 use Rattle.jk_window.specs.declared.view.View.{View}
 use Rattle.jk_window.specs.Views.{HasWindow, HaveLevels, frame_of, window_of, window_at}
 use Rattle.jk_window.specs.Again.{needed_by, kept_layers, kept_runs, AreAlike}
 use Rattle.jk_window.specs.Emptied.{kept_packet, of_fronts}
 use Rattle.jk_window.specs.Indexing.{IndexFields, IsIndexOf, joined_runs, HasRuns}
-use Rattle.jk_window.specs.Cutting.{HaveRuns, with_codestream, cut_tree}
+use Rattle.jk_window.specs.Cutting.{HaveRuns, cut_tree}
 use Rattle.jk_window.proofs.Laws.{cut_again, runs_kept, kept_bodies, place_needs, window_found, window_only, window_refused}
 use Rattle.jk_code.specs.MeaningReading.{places_or, places_at, packets_tested, sample_of_tiles, planes_of_tiles, picture_with}
 use Rattle.jk_code.specs.ViewReading.{seen_part, is_seen, seen_packets_tested, seen_parts_tested, view_at, image_view_at, meaning_view_at}

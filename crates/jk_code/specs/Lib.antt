@@ -11,6 +11,7 @@ pub mod Windows
 pub mod Fronts
 pub mod Viewing
 pub mod ViewReading
+pub mod Stripes
 pub mod Beginnings
 pub mod Sending
 pub mod Examples

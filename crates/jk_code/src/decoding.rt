@@ -4,7 +4,7 @@ ghost use Rattle.std.specs.Prelude.{◌≡◌, ℕ, ◌≤◌, ◌<◌, ◌-◌,
 ghost use Rattle.std.specs.List.{AllByRecursion};
 ghost use Rattle.jk_math.specs.Answer.{Answers};
 ghost use Rattle.jk_math.specs.Memory.{IsMemory};
-ghost use Rattle.jk_math.specs.Picture.{Picture, IsFrame};
+ghost use Rattle.jk_math.specs.Picture.{Picture, IsPicture, IsFrame};
 ghost use Rattle.jk_math.specs.Lists.{lists_of};
 ghost use Rattle.jk_math.specs.declared.rect.Rect.{Rect as Place};
 ghost use Rattle.jk_marks.specs.Siz.{tile_count};
@@ -31,7 +31,11 @@ use jk_walk::{TilePackets, read_packets};
 use std::alloc::Global;
 
 /// The packets of all tiles.
-fn all_packets(alloc: Global, headers: &Codestream, bytes: &[u8]) -> Result<Vec<TilePackets>, Fault>
+pub(crate) fn all_packets(
+    alloc: Global,
+    headers: &Codestream,
+    bytes: &[u8],
+) -> Result<Vec<TilePackets>, Fault>
     requires sound { AreHeaders (length bytes.now) headers.now }
     ensures exact { Answers (λ _. tt) result (packets_tested bytes.now headers.now (tile_count headers.now.siz)) }
     ensures read { IfOk result (λ v. AreRead bytes.now headers.now (tile_count headers.now.siz) v.items) }
@@ -132,7 +136,7 @@ fn planes_of_all(
 }
 
 /// The planes of the image. Those of a tile that is alone are the image's, and aren't put anywhere.
-fn all_planes(
+pub(crate) fn all_planes(
     alloc: Global,
     headers: &Codestream,
     bytes: &[u8],
@@ -176,6 +180,22 @@ pub(crate) fn blank_planes(
     Ok(planes)
 }
 
+/// An image of the depth and sign that headers tell, over this rectangle.
+pub(crate) fn image_of(
+    headers: &Codestream,
+    area: &Rect,
+    planes: Vec<Vec<i32>>,
+) -> Result<Image, Fault>
+    requires { IsPicture (picture_with headers.now.siz area.now (lists_of planes.items)) }
+    ensures { result ≡ Ok (picture_with headers.now.siz area.now (lists_of planes.items)) }
+{
+    let siz = headers.siz();
+    let (width, height) = (area.x1 - area.x0, area.y1 - area.y0);
+    Image::new(
+        area.x0, area.y0, width, height, siz.depth, siz.signed, planes,
+    )
+}
+
 /// The image of a codestream with these headers at a reduction.
 #[tactic(auto, unfolding(crate::specs::MeaningReading::picture_at))]
 fn picture(alloc: Global, headers: &Codestream, bytes: &[u8], reduce: u32) -> Result<Image, Fault>
@@ -185,11 +205,7 @@ fn picture(alloc: Global, headers: &Codestream, bytes: &[u8], reduce: u32) -> Re
     let area = check_reduction(headers, reduce)?;
     let packets = all_packets(alloc, headers, bytes)?;
     let planes = all_planes(alloc, headers, bytes, &packets, reduce as u8, &area)?;
-    let siz = headers.siz();
-    let (width, height) = (area.x1 - area.x0, area.y1 - area.y0);
-    Image::new(
-        area.x0, area.y0, width, height, siz.depth, siz.signed, planes,
-    )
+    image_of(headers, &area, planes)
 }
 
 /// The image that a codestream means.

@@ -32,7 +32,7 @@ use jk_window::{Index, View, window_area};
 use std::alloc::Global;
 
 /// What a tile shows of the image at a reduction.
-fn shown(headers: &Codestream, number: usize, reduce: u8) -> Rect
+pub(crate) fn shown(headers: &Codestream, number: usize, reduce: u8) -> Rect
     requires sound { (size : ℕ) × AreHeaders size headers.now }
     requires number { number < tile_count headers.now.siz }
     requires few { reduce ≤ 10 }
@@ -71,7 +71,7 @@ fn seen_packets(
 }
 
 /// Puts what a window has of a tile into its planes. It has a sample of the tile.
-fn show_tile(
+pub(crate) fn show_tile(
     alloc: Global,
     headers: &Codestream,
     bytes: &[u8],

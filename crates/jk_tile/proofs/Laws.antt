@@ -19,5 +19,6 @@ pub use Rattle.jk_tile.proofs.Components.{levels_read, shown_is}
 pub use Rattle.jk_tile.proofs.AllBands.{numbered_low, numbered_high}
 pub use Rattle.jk_tile.proofs.decoding.LocalTiles.{IsMeant, meant_at, none_meant, gathered, place_agrees}
 pub use Rattle.jk_tile.proofs.decoding.PartLaws.{each_fewer, part_decoded, part_fine}
+pub use Rattle.jk_tile.proofs.decoding.Covered.{tile_covered}
 pub use Rattle.jk_tile.proofs.decoding.MetBlocks.{IsMetAt, met_place, each_alike, if_alike, AreSameMet, component_alike, coefficient_alike}
 pub use Rattle.jk_tile.proofs.Places.{is_band}

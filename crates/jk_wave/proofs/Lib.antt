@@ -11,6 +11,7 @@ pub mod Descending
 pub mod Leaving
 pub mod Agreeing
 pub mod RegionAreas
+pub mod Covering
 pub mod MovedRows
 pub mod RowsMade
 pub mod PutRows

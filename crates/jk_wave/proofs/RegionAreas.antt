@@ -62,7 +62,7 @@ pub held_none : (s : Region) → held s 0 ≡ s.area
 unfolding held
 held_none s = refl
 
-held_suc : (s : Region) (n : ℕ) → held s (suc n) ≡ half_area (around s n) 0
+pub held_suc : (s : Region) (n : ℕ) → held s (suc n) ≡ half_area (around s n) 0
 unfolding held
 held_suc s n = refl
 

@@ -6,10 +6,6 @@ use Rattle.jk_math.specs.Steps.{answers_same, refuses_due}
 use Rattle.jk_math.specs.Picture.{Picture}
 use Rattle.jk_math.specs.declared.fault.Fault.{Fault}
 use Rattle.jk_math.specs.declared.fault.Fault.TheVariants.{Memory, BadWindow, Changed}
-use Rattle.jk_window.specs.Views.{HasWindow}
-use Rattle.jk_window.specs.Indexing.{IndexFields, IsIndexOf}
-use Rattle.jk_window.specs.declared.view.View.{View}
-use Rattle.jk_code.specs.Meaning.{Means}
 use Rattle.jk_code.specs.Viewing.{picture_of_view}
 use Rattle.jk_code.specs.ViewReading.{meaning_view_at}
 use Rattle.jk_code.proofs.MeaningLaws.{only_meaning}
