@@ -1,8 +1,9 @@
 //! Decoding to a PGM or PPM file.
 
-ghost use Rattle.std.specs.Prelude.{Ok, IfOk};
+ghost use Rattle.std.specs.Prelude.{◌≡◌, ◌≤◌, Ok, Err, IfOk};
 ghost use Rattle.jk_math.specs.Answer.{Answers};
 ghost use Rattle.jk_math.specs.Picture.{Picture};
+ghost use Rattle.jk_math.specs.declared.fault.Fault.TheVariants.{BadParameters};
 ghost use Rattle.jk_pnm.specs.Pnm.{IsPnm};
 ghost use Rattle.jk_pnm.specs.Written.{written as pnm_of};
 ghost use Rattle.jk_code.specs.Meaning.{Means};
@@ -10,9 +11,11 @@ ghost use Rattle.jk_code.specs.MeaningReading.{meaning_at};
 ghost use Rattle.jk_commands.specs.Plans.{at_place};
 ghost use Rattle.jk_commands.specs.Commands.{decoded};
 
-use jk_code::decode;
+use jk_code::{decode, decode_with};
+use jk_farm::Gate;
 use jk_math::{Fault, Image};
 use std::alloc::Global;
+use std::thread::Threads;
 
 /// The image that a file means. The file is let go of.
 fn decode_image(alloc: Global, bytes: Vec<u8>, reduce: u32) -> Result<Image, Fault>
@@ -38,4 +41,59 @@ pub fn decode_file(alloc: Global, bytes: Vec<u8>, reduce: u32) -> Result<Vec<u8>
 {
     let image = decode_image(alloc, bytes, reduce)?;
     jk_pnm::write(alloc, &image)
+}
+
+/// The image that a file means, decoded by so many workers. The file is let go of.
+fn decode_image_with<R: Threads + Sync, G: Gate + Sync>(
+    rt: &R,
+    alloc: Global,
+    workers: usize,
+    gate: &G,
+    bytes: Vec<u8>,
+    reduce: u32,
+) -> Result<Image, Fault>
+    ensures range { (1 ≤ workers → workers ≤ 64 → ⊥) → result ≡ Err BadParameters }
+    ensures exact { 1 ≤ workers → workers ≤ 64 → Answers (λ i. i) result (meaning_at bytes.items reduce) }
+    ensures found { IfOk result (λ i. Means bytes.items reduce i) }
+    ensures only { 1 ≤ workers → workers ≤ 64 → (p : Picture) → Means bytes.items reduce p
+        → Answers (λ i. i) result (Ok p) }
+{
+    decode_with::<R, G>(rt, alloc, workers, gate, &bytes, reduce)
+}
+
+/// What `jk decode` writes of a file at a reduction, decoded by so many workers side by side: what
+/// [`decode_file`] gives, and its first fault.
+///
+/// BadParameters, before all else: less than one worker or more than 64.
+#[tactic(auto, unfolding(crate::specs::Commands::decoded))]
+pub fn decode_file_with<R: Threads + Sync, G: Gate + Sync>(
+    rt: &R,
+    alloc: Global,
+    workers: usize,
+    gate: &G,
+    bytes: Vec<u8>,
+    reduce: u32,
+) -> Result<Vec<u8>, Fault>
+    ensures range { (1 ≤ workers → workers ≤ 64 → ⊥) → result ≡ Err BadParameters }
+    // Which bytes, or which fault is the first.
+    ensures exact { 1 ≤ workers → workers ≤ 64 → Answers (λ v. v.items) result (decoded bytes.items reduce) }
+    // What is written is a PGM or PPM file of the picture that the file means.
+    ensures found { IfOk result (λ v. (p : Picture) × Means bytes.items reduce p × IsPnm v.items (at_place p 0 0)) }
+    // Of a file that means a picture, the picture's file is written.
+    ensures only { 1 ≤ workers → workers ≤ 64 → (p : Picture) → Means bytes.items reduce p
+        → Answers (λ v. v.items) result (pnm_of p) }
+{
+    let image = decode_image_with::<R, G>(rt, alloc, workers, gate, bytes, reduce)?;
+    jk_pnm::write(alloc, &image)
+}
+
+/// How many workers are asked for. BadParameters: none, or more than 64.
+pub fn check_workers(workers: u32) -> Result<usize, Fault>
+    ensures range { (1 ≤ workers → workers ≤ 64 → ⊥) → result ≡ Err BadParameters }
+    ensures value { 1 ≤ workers → workers ≤ 64 → result ≡ Ok workers }
+{
+    if workers < 1 || 64 < workers {
+        return Err(Fault::BadParameters);
+    }
+    Ok(workers as usize)
 }
