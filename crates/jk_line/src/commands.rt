@@ -39,7 +39,8 @@ const DECODE_WORDS: &str = "\
 With --x, --y, --w and --h a window alone is decoded, in the time and memory of a window. Columns
 and rows are counted on the reduced image, from its upper left sample; what passes its edge is left
 out. Packets and code-blocks on which the window doesn't depend aren't judged. IN may be the file of
-a window (`jk cut`), on which columns and rows are counted as on the old file.";
+a window (`jk cut`), on which columns and rows are counted as on the old file. A window is decoded by
+one thread, whatever --workers says.";
 
 /// What `jk cut` gives.
 const CUT_WORDS: &str = "\
@@ -93,6 +94,13 @@ const EXPLAIN: Word<'static> = Word(
     "explain",
     Form::Flag,
     "Say the cause of a fault in words, behind its line; on a terminal they are there anyway",
+);
+
+/// How many workers there are.
+const WORKERS: Word<'static> = Word(
+    "workers",
+    Form::Default("N", "1"),
+    "How many threads to work on the image with, 1 to 64; what is written is the same",
 );
 
 /// The numbers of a window.
@@ -292,6 +300,7 @@ fn decode<'a>(alloc: Global) -> Result<Command<'a>, AllocError> {
             Form::Default("D", "0"),
             "How often to halve the image, at most the LEVELS of `jk info`",
         ),
+        WORKERS,
         EXPLAIN,
     ];
     with_words(alloc, command, &words)

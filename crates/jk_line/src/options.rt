@@ -44,6 +44,11 @@ pub(crate) fn encoding(alloc: Global, line: &ArgMatches<'_>) -> Result<EncodeOpt
     })
 }
 
+/// How many workers there are to be.
+pub(crate) fn workers(line: &ArgMatches<'_>) -> u32 {
+    number(line, "workers", 1)
+}
+
 /// How often the image is halved.
 pub(crate) fn reduction(line: &ArgMatches<'_>) -> u32 {
     number(line, "reduce", 0)

@@ -2,7 +2,7 @@
 
 use crate::commands::command;
 use crate::defaults::Defaults;
-use crate::failure::{Failure, of_file, of_options, of_world};
+use crate::failure::{Failure, of_file, of_options, of_world, with_words};
 use crate::faults::{self, FaultLine, cause_of};
 use crate::features::left_out;
 use crate::status::Status;
@@ -12,8 +12,10 @@ use crate::{archive, options};
 use clap::ArgMatches;
 use clap::error::ErrorKind;
 use jk_commands::{
-    cut_file, decode_file, decode_window_file, encode_file_into, info_all_file, info_file, judge,
+    check_workers, cut_file, decode_file, decode_file_with, decode_window_file, encode_file_into,
+    info_all_file, info_file, judge,
 };
+use jk_farm::Open;
 use jk_math::Fault;
 use std::alloc::Global;
 
@@ -37,13 +39,41 @@ fn encode<W: World>(alloc: Global, line: &ArgMatches<'_>, world: &mut W) -> Resu
     }
 }
 
-/// `jk decode IN OUT`: the image, or a window of it.
+/// How many workers are asked for, with words where there may not be so many.
+fn workers(alloc: Global, line: &ArgMatches<'_>) -> Result<usize, Failure> {
+    let asked = options::workers(line);
+    match check_workers(asked) {
+        Ok(workers) => Ok(workers),
+        Err(fault) => Err(with_words(
+            fault,
+            format!(in alloc; "--workers is {asked}, and may be 1 to 64"),
+        )),
+    }
+}
+
+/// The image of a file, decoded by this thread or by several workers.
+fn decode_image<W: World>(
+    alloc: Global,
+    world: &W,
+    workers: usize,
+    bytes: Vec<u8>,
+    reduce: u32,
+) -> Result<Vec<u8>, Fault> {
+    if workers == 1 {
+        decode_file(alloc, bytes, reduce)
+    } else {
+        decode_file_with::<W::Runtime, Open>(world.runtime(), alloc, workers, &Open, bytes, reduce)
+    }
+}
+
+/// `jk decode IN OUT`: the image, or a window of it. How many workers there are is judged first.
 fn decode<W: World>(alloc: Global, line: &ArgMatches<'_>, world: &mut W) -> Result<(), Failure> {
+    let workers = workers(alloc, line)?;
     let bytes = read(alloc, world, options::input(line))?;
     let left_out = left_out(&bytes);
     let decoded = match options::window(line) {
         Some(view) => decode_window_file(alloc, bytes, view),
-        None => decode_file(alloc, bytes, options::reduction(line)),
+        None => decode_image(alloc, world, workers, bytes, options::reduction(line)),
     };
     match decoded {
         Ok(text) => write(alloc, world, options::output(line), &text),

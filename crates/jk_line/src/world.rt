@@ -5,6 +5,7 @@ use jk_store::{Archive, Shelf};
 use std::alloc::Global;
 use std::fmt::Display;
 use std::io::{self, Write};
+use std::thread::Threads;
 
 /// How an archive is served.
 #[derive(Clone, Copy, Debug, PartialEq, Eq)]
@@ -24,6 +25,12 @@ pub trait World {
 
     /// A file that is written in parts, or standard output.
     type Output: Write + Drop;
+
+    /// What starts threads.
+    type Runtime: Threads + Sync;
+
+    /// What starts the threads of workers.
+    fn runtime(&self) -> &Self::Runtime;
 
     /// All bytes of a file, or of standard input for `-`.
     fn read(&mut self, alloc: Global, name: &str) -> Result<Vec<u8>, Fault>;

@@ -12,6 +12,7 @@ use std::fmt::Display;
 use std::io::{self, BufWriter};
 use std::net::{Net, TcpListener, TcpStream};
 use std::rt::Files;
+use std::thread::Threads;
 use std::time::Clock;
 
 /// The world of the program: a runtime, the lock that is held, and what the system said where it
@@ -73,6 +74,8 @@ impl<
         + Clock
         + Clone
         + Drop
+        + Threads
+        + Sync
         + Net<Listener = TcpListener, Stream = TcpStream>,
 > World for Host<R>
 where
@@ -81,6 +84,12 @@ where
     type Folder = Watched<Folder<R>, R>;
 
     type Output = BufWriter<Late<R>, Global>;
+
+    type Runtime = R;
+
+    fn runtime(&self) -> &R {
+        &self.rt
+    }
 
     fn read(&mut self, alloc: Global, name: &str) -> Result<Vec<u8>, Fault> {
         let answer = files::read(&self.rt, alloc, name);
