@@ -20,4 +20,5 @@ pub mod BeginningLaws
 pub mod SendingLaws
 pub mod ViewSteps
 pub mod ViewAgain
+pub mod OneTile
 pub mod StripeLaws

@@ -122,7 +122,7 @@ one_side : (first side start end p : ℕ) → first ≤ start → p ≡ 0 → en
 one_side first side start end p le none few =
     (ap (λ k. max (first + k * side) start) none ∙ omega (arith, le), ap (λ k. min (first + (k + 1) * side) end) none ∙ omega (arith, few))
 
-same_rect : (a b : Rect) → a.x0 ≡ b.x0 → a.y0 ≡ b.y0 → a.x1 ≡ b.x1 → a.y1 ≡ b.y1 → a ≡ b
+pub same_rect : (a b : Rect) → a.x0 ≡ b.x0 → a.y0 ≡ b.y0 → a.x1 ≡ b.x1 → a.y1 ≡ b.y1 → a ≡ b
 same_rect a b left upper right lower =
     ap (λ k. record { x0 = k; y0 = a.y0; x1 = a.x1; y1 = a.y1 }) left ∙ ap (λ k. record { x0 = b.x0; y0 = k; x1 = a.x1; y1 = a.y1 }) upper
     ∙ ap (λ k. record { x0 = b.x0; y0 = b.y0; x1 = k; y1 = a.y1 }) right ∙ ap (λ k. record { x0 = b.x0; y0 = b.y0; x1 = b.x1; y1 = k }) lower
@@ -137,12 +137,16 @@ one_tile s is one =
     let down = one_side s.tile_y0 s.tile_height s.y0 s.y1 (0 / tiles_across s) is.tile_upper (omega (arith, row, sides.1)) (one_part (s.y1 - s.tile_y0) s.tile_height is.tile_high (omega (arith, sides.1))) in
     same_rect (tile_area s 0) (image_area s) across.0 down.0 across.1 down.1
 
+-- so what is shown of it is the reduced image
+pub one_frame : (h : Headers) (d : ℕ) → IsSiz h.siz → tile_count h.siz ≡ 1 → shown_area h.siz 0 d ≡ frame_of h d
+one_frame h d is one = ap (λ (a : Rect). resolution_area a d 0) (one_tile h.siz is one)
+
 pub one_shown : (bytes : List ℕ) (h : Headers) (d : ℕ) (places : List PacketPlace) (planes : List (List ℤ)) → IsSiz h.siz → tile_count h.siz ≡ 1 → packets_at bytes h 0 ≡ Ok places → tile_planes_at bytes h 0 d places ≡ Ok planes
     → planes ≡ planes_of_tiles bytes h d (frame_of h d)
 one_shown bytes h d places planes is one read e =
     let f : ℕ → List ℤ = λ c. raster (frame_of h d) (sample_of_tiles bytes h d c) in
     let lt : 0 < tile_count h.siz = omega (arith, one) in
-    let area : shown_area h.siz 0 d ≡ frame_of h d = ap (λ (a : Rect). resolution_area a d 0) (one_tile h.siz is one) in
+    let area = one_frame h d is one in
     let lists = (tile_tested bytes h 0 d places planes e).1 in
     let count = shown_count bytes h d 0 (shown_area h.siz 0 d) places planes lists in
     ext_get_or [] planes (planes_of_tiles bytes h d (frame_of h d)) (count ∙ sym (length-map-range_with_len f 0 h.siz.components)) (λ c less.

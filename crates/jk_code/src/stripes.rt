@@ -1,6 +1,6 @@
 //! An image in stripes of rows, one below the other, which are decoded each by itself.
 
-ghost use Rattle.std.specs.Prelude.{◌≡◌, ℕ, ◌+◌, ◌*◌, ◌-◌, ◌^◌, ◌<◌, ◌≤◌, ◌++◌, List, [], length, map};
+ghost use Rattle.std.specs.Prelude.{◌≡◌, ℕ, ◌+◌, ◌*◌, ◌-◌, ◌^◌, ◌<◌, ◌≤◌, ◌++◌, List, [], length, map, false};
 ghost use Rattle.std.specs.Prelude.{IfOk, IfErr, OnOk};
 ghost use Rattle.std.specs.List.{range_with_len};
 ghost use Rattle.jk_math.specs.Answer.{Answers};
@@ -8,7 +8,7 @@ ghost use Rattle.jk_math.specs.Memory.{IsMemory};
 ghost use Rattle.jk_math.specs.Lists.{lists_of, list_at};
 ghost use Rattle.jk_math.specs.declared.rect.Rect.{Rect as Place};
 ghost use Rattle.jk_marks.specs.Siz.{tile_count};
-ghost use Rattle.jk_geom.specs.Rectangles.{IsArea};
+ghost use Rattle.jk_geom.specs.Rectangles.{IsArea, is_empty};
 ghost use Rattle.jk_params.specs.Headers.{AreHeaders};
 ghost use Rattle.jk_tile.specs.Filling.{IsPartOf};
 ghost use Rattle.jk_window.specs.Views.{HaveLevels, frame_of};
@@ -19,9 +19,10 @@ ghost use Rattle.jk_code.specs.ViewReading.{seen_parts_tested};
 
 use crate::decoding::blank_planes;
 use crate::viewing::{show_tile, shown};
-use jk_geom::touches;
+use jk_geom::{is_empty, touches};
 use jk_math::{Fault, Rect};
 use jk_params::Codestream;
+use jk_tile::decode_part;
 use jk_walk::TilePackets;
 use std::alloc::Global;
 
@@ -117,8 +118,32 @@ pub(crate) fn stripe(area: &Rect, cut: Cut, number: usize) -> Rect
     }
 }
 
+/// The planes of a stripe, which has a row, of an image that is one tile: what is decoded of the
+/// tile, and isn't put anywhere.
+fn stripe_of_one(
+    alloc: Global,
+    headers: &Codestream,
+    bytes: &[u8],
+    packets: &[TilePackets],
+    reduce: u8,
+    stripe: &Rect,
+) -> Result<Vec<Vec<i32>>, Fault>
+    requires sound { AreHeaders (length bytes.now) headers.now }
+    requires one { tile_count headers.now.siz ≡ 1 }
+    requires packets { AreRead bytes.now headers.now (tile_count headers.now.siz) packets.now }
+    requires levels { HaveLevels headers.now reduce }
+    requires few { reduce ≤ 10 }
+    requires some { is_empty stripe.now ≡ false }
+    requires inside { IsPartOf stripe.now (frame_of headers.now reduce) }
+    ensures exact { Answers (λ _. tt) result
+        (seen_parts_tested bytes.now headers.now reduce stripe.now (tile_count headers.now.siz)) }
+    ensures planes { IfOk result (λ v. lists_of v.items ≡ planes_of_tiles bytes.now headers.now reduce stripe.now) }
+{
+    decode_part(alloc, headers, bytes, 0, &packets[0], reduce, stripe)
+}
+
 /// The planes of a stripe, tile by tile.
-pub(crate) fn stripe_planes(
+fn stripe_of_tiles(
     alloc: Global,
     headers: &Codestream,
     bytes: &[u8],
@@ -152,6 +177,32 @@ pub(crate) fn stripe_planes(
         }
     }
     Ok(planes)
+}
+
+/// The planes of a stripe.
+pub(crate) fn stripe_planes(
+    alloc: Global,
+    headers: &Codestream,
+    bytes: &[u8],
+    packets: &[TilePackets],
+    reduce: u8,
+    stripe: &Rect,
+) -> Result<Vec<Vec<i32>>, Fault>
+    requires sound { AreHeaders (length bytes.now) headers.now }
+    requires packets { AreRead bytes.now headers.now (tile_count headers.now.siz) packets.now }
+    requires levels { HaveLevels headers.now reduce }
+    requires few { reduce ≤ 10 }
+    requires stripe { IsArea stripe.now }
+    requires inside { IsPartOf stripe.now (frame_of headers.now reduce) }
+    ensures exact { Answers (λ _. tt) result
+        (seen_parts_tested bytes.now headers.now reduce stripe.now (tile_count headers.now.siz)) }
+    ensures planes { IfOk result (λ v. lists_of v.items ≡ planes_of_tiles bytes.now headers.now reduce stripe.now) }
+{
+    if headers.tile_count() == 1 && !is_empty(stripe) {
+        stripe_of_one(alloc, headers, bytes, packets, reduce, stripe)
+    } else {
+        stripe_of_tiles(alloc, headers, bytes, packets, reduce, stripe)
+    }
 }
 
 /// Room for the planes of so many components over a rectangle.

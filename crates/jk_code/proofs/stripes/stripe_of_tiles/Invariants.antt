@@ -3,7 +3,7 @@ use Rattle.jk_marks.specs.Siz.{tile_count}
 use Rattle.jk_tile.proofs.Laws.{fine}
 use Rattle.jk_code.specs.Tiles.{ArePlanes, ShowsTileAt}
 use Rattle.jk_code.specs.ViewReading.{seen_parts_tested}
-use Rattle.jk_code.proofs.stripes.stripe_planes.Given as goal
+use Rattle.jk_code.proofs.stripes.stripe_of_tiles.Given as goal
 
 abbrev pub invariant-loop-number : goal.invariant-loop-number
 invariant-loop-number l = record {

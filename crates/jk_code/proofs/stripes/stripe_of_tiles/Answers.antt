@@ -17,8 +17,8 @@ use Rattle.jk_code.specs.Tiles.{ArePlanes, KeepsSamples, ShowsTileAt}
 use Rattle.jk_code.specs.ViewReading.{seen_part, is_seen, seen_parts_tested}
 use Rattle.jk_code.proofs.Placing.{within_part, planes_are, tile_places}
 use Rattle.jk_code.proofs.ViewSteps.{if_true, if_false, seen_is, none_seen}
-use Rattle.jk_code.proofs.stripes.stripe_planes.Goals as goal
-use Rattle.jk_code.proofs.stripes.stripe_planes.Goals.{then-touches+in_ok-show_tile, else-touches}
+use Rattle.jk_code.proofs.stripes.stripe_of_tiles.Goals as goal
+use Rattle.jk_code.proofs.stripes.stripe_of_tiles.Goals.{then-touches+in_ok-show_tile, else-touches}
 
 pub loop-number-init : goal.loop-number-init
 loop-number-init c =
