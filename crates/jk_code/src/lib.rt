@@ -3,6 +3,7 @@
 
 mod decoding;
 mod encoding;
+mod encoding_with;
 mod reduction;
 mod viewing;
 mod windows;
@@ -10,6 +11,7 @@ mod writing;
 
 pub use decoding::decode;
 pub use encoding::encode;
+pub use encoding_with::encode_with;
 pub use viewing::{decode_window, decode_window_by};
 pub use windows::{
     cut_files_show_the_window, pictures_have_indexes, window, windows_show_the_picture,
