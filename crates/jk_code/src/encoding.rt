@@ -116,8 +116,31 @@ fn codestream(alloc: Global, image: &Image, parameters: &Parameters) -> Result<V
     Ok(out)
 }
 
-/// The codestream of an image in its container.
+/// A codestream of an image in its container.
 #[tactic(auto, using(crate::proofs::WrittenLaws::holds_means))]
+pub(crate) fn contained(
+    alloc: Global,
+    image: &Image,
+    parameters: &Parameters,
+    codestream: Vec<u8>,
+) -> Result<Vec<u8>, Fault>
+    requires value { codestream.items ≡ codestream_text (tree_for image.now parameters.now) }
+    requires fits { parts_fit image.now parameters.now ≡ true }
+    requires means { MeansPicture codestream.items 0 image.now }
+    requires bare { HoldsCodestream codestream.items codestream.items }
+    requires fronts { (bytes : List ℕ) → HoldsCodestream bytes codestream.items
+        → HasFronts image.now parameters.now bytes }
+    ensures exact { Answers (λ v. v.items) result (file_for image.now parameters.now) }
+    ensures means { IfOk result (λ v. Means v.items 0 image.now) }
+    ensures fronts { IfOk result (λ v. HasFronts image.now parameters.now v.items) }
+{
+    match parameters.container {
+        Container::Raw => Ok(codestream),
+        Container::Jp2 => wrap(alloc, image, &codestream),
+    }
+}
+
+/// The codestream of an image in its container.
 fn file(alloc: Global, image: &Image, parameters: &Parameters) -> Result<Vec<u8>, Fault>
     requires profile { IsWrittenBy parameters.now image.now }
     ensures exact { Answers (λ v. v.items) result (file_for image.now parameters.now) }
@@ -125,10 +148,7 @@ fn file(alloc: Global, image: &Image, parameters: &Parameters) -> Result<Vec<u8>
     ensures fronts { IfOk result (λ v. HasFronts image.now parameters.now v.items) }
 {
     let codestream = codestream(alloc, image, parameters)?;
-    match parameters.container {
-        Container::Raw => Ok(codestream),
-        Container::Jp2 => wrap(alloc, image, &codestream),
-    }
+    contained(alloc, image, parameters, codestream)
 }
 
 /// The file of an image: a bare codestream or a JP2 file, as the parameters say.

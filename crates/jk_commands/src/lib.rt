@@ -19,7 +19,7 @@ mod viewing;
 
 pub use cutting::cut_file;
 pub use decoding::{check_workers, decode_file, decode_file_with};
-pub use encoding::{encode_file, encode_file_into, read_image};
+pub use encoding::{encode_file, encode_file_into, encode_file_with, read_image};
 pub use options::EncodeOptions;
 pub use orders::{order_name, order_named};
 pub use plan::{Placed, Plan, judge};

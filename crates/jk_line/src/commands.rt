@@ -179,6 +179,7 @@ fn encode<'a>(alloc: Global, defaults: &'a Defaults) -> Result<Command<'a>, Allo
             Form::Flag,
             "Write a bare codestream, and no JP2 file",
         ),
+        WORKERS,
     ];
     let command = with_words(alloc, command, &words)?;
     with_encoding(alloc, command, defaults)

@@ -12,32 +12,12 @@ use crate::{archive, options};
 use clap::ArgMatches;
 use clap::error::ErrorKind;
 use jk_commands::{
-    check_workers, cut_file, decode_file, decode_file_with, decode_window_file, encode_file_into,
-    info_all_file, info_file, judge,
+    EncodeOptions, Plan, check_workers, cut_file, decode_file, decode_file_with,
+    decode_window_file, encode_file_into, encode_file_with, info_all_file, info_file, judge,
 };
 use jk_farm::Open;
 use jk_math::Fault;
 use std::alloc::Global;
-
-/// `jk encode IN OUT`: the options first, then the input, the image and its encoding, which goes to
-/// the output tile by tile.
-fn encode<W: World>(alloc: Global, line: &ArgMatches<'_>, world: &mut W) -> Result<(), Failure> {
-    let options = options::encoding(alloc, line)?;
-    let plan = match judge(alloc, &options) {
-        Ok(plan) => plan,
-        Err(fault) => return Err(of_options(alloc, fault, &options)),
-    };
-    let bytes = read(alloc, world, options::input(line))?;
-    let name = options::output(line);
-    let mut output = create(alloc, world, name)?;
-    let encoded = encode_file_into(alloc, bytes, plan, &mut output);
-    let finished = finish(alloc, world, name, output, encoded.is_ok());
-    match encoded {
-        Ok(()) => finished,
-        Err(Fault::Shelf) => finished.and(Err(Failure::from(Fault::Shelf))),
-        Err(fault) => Err(of_options(alloc, fault, &options)),
-    }
-}
 
 /// How many workers are asked for, with words where there may not be so many.
 fn workers(alloc: Global, line: &ArgMatches<'_>) -> Result<usize, Failure> {
@@ -48,6 +28,54 @@ fn workers(alloc: Global, line: &ArgMatches<'_>) -> Result<usize, Failure> {
             fault,
             format!(in alloc; "--workers is {asked}, and may be 1 to 64"),
         )),
+    }
+}
+
+/// The whole file of an image, coded by several workers, and then written.
+fn encode_by<W: World>(
+    alloc: Global,
+    line: &ArgMatches<'_>,
+    world: &mut W,
+    workers: usize,
+    options: &EncodeOptions,
+    plan: Plan,
+) -> Result<(), Failure> {
+    let bytes = read(alloc, world, options::input(line))?;
+    let encoded = encode_file_with::<W::Runtime, Open>(
+        world.runtime(),
+        alloc,
+        workers,
+        &Open,
+        bytes,
+        plan,
+    );
+    match encoded {
+        Ok(file) => write(alloc, world, options::output(line), &file),
+        Err(fault) => Err(of_options(alloc, fault, options)),
+    }
+}
+
+/// `jk encode IN OUT`: how many workers there are, the options, then the input, the image and its
+/// encoding, which one thread writes to the output tile by tile.
+fn encode<W: World>(alloc: Global, line: &ArgMatches<'_>, world: &mut W) -> Result<(), Failure> {
+    let workers = workers(alloc, line)?;
+    let options = options::encoding(alloc, line)?;
+    let plan = match judge(alloc, &options) {
+        Ok(plan) => plan,
+        Err(fault) => return Err(of_options(alloc, fault, &options)),
+    };
+    if workers > 1 {
+        return encode_by(alloc, line, world, workers, &options, plan);
+    }
+    let bytes = read(alloc, world, options::input(line))?;
+    let name = options::output(line);
+    let mut output = create(alloc, world, name)?;
+    let encoded = encode_file_into(alloc, bytes, plan, &mut output);
+    let finished = finish(alloc, world, name, output, encoded.is_ok());
+    match encoded {
+        Ok(()) => finished,
+        Err(Fault::Shelf) => finished.and(Err(Failure::from(Fault::Shelf))),
+        Err(fault) => Err(of_options(alloc, fault, &options)),
     }
 }
 

@@ -1,10 +1,11 @@
 -- The way of a tile that is written: samples become coefficients (Forward), these have exponents
 -- (Needs) and code-blocks with their tables (TileWritten), and the packets are made of the tables
--- in their order (PacketsWritten; TileWriters: what is kept on the way). Fronts: what the first
--- layers of it mean.
+-- in their order (PacketsWritten; TileWriters: what is kept on the way). Jobs: the code-blocks as
+-- they are coded side by side. Fronts: what the first layers of it mean.
 pub mod Forward
 pub mod Needs
 pub mod TileWritten
 pub mod PacketsWritten
 pub mod TileWriters
+pub mod Jobs
 pub mod Fronts

@@ -9,5 +9,5 @@ mod encoding;
 mod samples;
 
 pub use decoding::{decode_part, decode_tile, put};
-pub use encoding::{encode_tile, exponents, tile_bands};
+pub use encoding::{encode_tile, encode_tile_with, exponents, tile_bands};
 pub use samples::level_shift;

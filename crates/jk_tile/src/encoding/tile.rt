@@ -25,7 +25,7 @@ use jk_params::{PacketMarkers, Parameters, coding_with, siz_of};
 use std::alloc::Global;
 
 /// How each component of an image is coded, with two guard bits.
-fn coding_of(image: &Image, parameters: &Parameters, exponents: &Exponents) -> Coding
+pub(crate) fn coding_of(image: &Image, parameters: &Parameters, exponents: &Exponents) -> Coding
     requires written { IsWrittenBy parameters.now image.now }
     requires exponents { exponents.now ≡ exponents_for image.now parameters.now }
     ensures { result ≡ written_coding image.now parameters.now }
@@ -75,6 +75,56 @@ fn code_tile(
     tile_tables(alloc, rect, coding, parameters.layers, &bands)
 }
 
+/// The packets of a tile on this rectangle in their order, from the tables of its precincts.
+pub(crate) fn packets_of(
+    alloc: Global,
+    image: &Image,
+    parameters: &Parameters,
+    coding: &Coding,
+    number: u32,
+    rect: &Rect,
+    tables: &[Vec<BlockTable>],
+) -> Result<Vec<u8>, Fault>
+    requires picture { IsPicture image.now }
+    requires written { IsWrittenBy parameters.now image.now }
+    requires coding { coding.now ≡ written_coding image.now parameters.now }
+    requires number { number < tile_count (siz_of image.now parameters.now) }
+    requires rect { rect.now ≡ tile_area (siz_of image.now parameters.now) number }
+    requires lists { AreLists rect.now coding.now parameters.now.layers (length image.now.planes)
+        (lists_of tables.now) }
+    requires tables { (c r n : ℕ) → IsPrecinct (written_shape image.now parameters.now number) c r n
+        → tables_in rect.now coding.now (lists_of tables.now) c r n
+        ≡ tile_tables image.now parameters.now number c r n }
+    ensures exact { IfOk result (λ v. v.items ≡ tile_text image.now parameters.now number) }
+    ensures means { IfOk result
+        (λ v. (codestream : List ℕ) (h : Headers) (places : List (ℕ × ℕ)) → h.siz ≡ siz_of image.now parameters.now
+        → map (slice_of codestream) places ≡ v.items ∷ []
+        → DecodesTile codestream h
+        (record {
+          cod = cod_of parameters.now;
+          codings = replicate (length image.now.planes) (written_coding image.now parameters.now);
+          data_places = places;
+        }) number 0
+        (λ c x y. sample_at image.now c (x - image.now.x0) (y - image.now.y0))) }
+    ensures memory { IfErr result IsMemory }
+{
+    let shape = TileShape {
+        rect: *rect,
+        layers: parameters.layers,
+        order: parameters.order,
+        codings: codings_alike(coding, image.planes().len()),
+    };
+    let frame = TileFrame {
+        shape: &shape,
+        coding,
+        markers: PacketMarkers {
+            sop: parameters.sop,
+            eph: parameters.eph,
+        },
+    };
+    write_packets(alloc, &frame, tables)
+}
+
 /// The data of the only part of tile `number`: its packets in their order, each layer of each
 /// precinct (T.800 B.9 to B.12).
 ///
@@ -110,19 +160,5 @@ pub fn encode_tile(
     let coding = coding_of(image, parameters, exponents);
     let rect = tile(&siz_of(image, parameters), number);
     let tables = code_tile(alloc, image, parameters, &coding, number, &rect, bands)?;
-    let shape = TileShape {
-        rect,
-        layers: parameters.layers,
-        order: parameters.order,
-        codings: codings_alike(&coding, image.planes().len()),
-    };
-    let frame = TileFrame {
-        shape: &shape,
-        coding: &coding,
-        markers: PacketMarkers {
-            sop: parameters.sop,
-            eph: parameters.eph,
-        },
-    };
-    write_packets(alloc, &frame, &tables)
+    packets_of(alloc, image, parameters, &coding, number, &rect, &tables)
 }

@@ -8,7 +8,7 @@ ghost use Rattle.jk_geom.specs.Blocks.{IsGrid};
 ghost use Rattle.jk_geom.specs.Precincts.{precinct_number};
 ghost use Rattle.jk_block.specs.CodedBlocks.{contents, shape_of};
 ghost use Rattle.jk_walk.specs.TilePackets.{orientations, band_number};
-ghost use Rattle.jk_tile.specs.encoding.PacketsWritten.{IsCodedBlock, band_tables_at, precinct_tables};
+ghost use Rattle.jk_tile.specs.encoding.PacketsWritten.{IsCodedBlock, band_tables_at, precinct_tables, block_table};
 ghost use Rattle.jk_tile.specs.TileBlocks.{grid_at, block_shape, IsBlockShape};
 ghost use Rattle.jk_tile.specs.encoding.TileWritten.{block_list, coded_at, coefficient_of, AreWrittenBands};
 ghost use Rattle.jk_tile.specs.encoding.TileWritten.{IsWrittenPart};
@@ -76,6 +76,7 @@ impl<'a> BandSource<'a> {
     pub(crate) fn coding(&self) -> &'a Coding
         ensures value { result.now ≡ self.now.coding }
         ensures sound { IsCoding self.now.coding }
+        ensures source { AreWrittenBands self.now }
     {
         self.coding
     }
@@ -166,6 +167,44 @@ pub(crate) fn code_at(
     code(alloc, &block)
 }
 
+/// The code-blocks of a part of a sub-band.
+pub(crate) fn grid_of(source: &BandSource<'_>, part: BandPart) -> BlockGrid
+    requires part { IsWrittenPart source.now part }
+    ensures value { result ≡ grid_at source.now.rect source.now.coding part.resolution part.precinct part.band }
+    ensures sound { IsGrid result }
+    ensures few { (result.across ≤ 2 ^ 13) × (result.down ≤ 2 ^ 13) }
+{
+    let rect = source.rect();
+    let orientation = orientation(part.resolution, part.band);
+    blocks(
+        &rect,
+        source.coding(),
+        part.resolution,
+        part.precinct,
+        orientation,
+    )
+}
+
+/// What is written of code-block `j` of a part of a sub-band.
+pub(crate) fn table_at(
+    alloc: Global,
+    source: &BandSource<'_>,
+    part: BandPart,
+    grid: &BlockGrid,
+    j: u32,
+) -> Result<BlockTable, Fault>
+    requires part { IsWrittenPart source.now part }
+    requires grid { grid.now ≡ grid_at source.now.rect source.now.coding part.resolution part.precinct part.band }
+    requires sound { IsGrid grid.now }
+    requires j { j < grid.now.across * grid.now.down }
+    ensures table { IfOk result (λ t. t ≡ block_table source.now part j) }
+    ensures memory { IfErr result IsMemory }
+{
+    let planes = band_planes(source.coding(), part.resolution, part.band);
+    let coded = code_at(alloc, source, part, grid, j)?;
+    table(alloc, coded, planes, source.layers())
+}
+
 /// Appends what is written of the code-blocks of a part of a sub-band, in raster order.
 fn add_band(
     alloc: Global,
@@ -175,19 +214,15 @@ fn add_band(
 ) -> Result<(), Fault>
     requires part { IsWrittenPart source.now part }
     ensures tables { OnOk result (tables.new.items ≡ tables.old.items
-        ++ band_tables_at source.now.layers source.now.rect source.now.coding (coefficient_of source.now) part.resolution part.precinct part.band) }
+        ++ band_tables_at source.now.layers source.now.rect source.now.coding (coefficient_of source.now)
+        part.resolution part.precinct part.band) }
     ensures memory { IfErr result IsMemory }
 {
-    let rect = source.rect();
-    let coding = source.coding();
-    let orientation = orientation(part.resolution, part.band);
-    let grid = blocks(&rect, coding, part.resolution, part.precinct, orientation);
-    let planes = band_planes(coding, part.resolution, part.band);
+    let grid = grid_of(source, part);
     let count = grid.across * grid.down;
     tables.reserve_exact(count as usize)?;
     for j in 0..count {
-        let coded = code_at(alloc, source, part, &grid, j)?;
-        tables.push(table(alloc, coded, planes, source.layers())?)?;
+        tables.push(table_at(alloc, source, part, &grid, j)?)?;
     }
     Ok(())
 }

@@ -1,28 +1,16 @@
-use Rattle.std.proofs.Common.{◌≡◌, ℕ, ◌<◌, ◌⊎◌, inl, inr, false, List, ◌++◌, map, append_assoc, ap, sym, ◌∙◌, arith}
+use Rattle.std.proofs.Common.{◌≡◌, ℕ, List, ◌++◌, map, append_assoc, ap, sym, ◌∙◌, arith}
 use Rattle.std.proofs.lemmas.Result.{err_from_is_err_and}
 use Rattle.std.specs.List.{flat_map, range_with_len}
-use Rattle.jk_math.specs.Memory.{IsMemory}
-use Rattle.jk_math.specs.Picture.{Picture}
-use Rattle.jk_math.specs.declared.fault.Fault.{Fault}
-use Rattle.jk_math.specs.declared.fault.Fault.TheVariants.{Limit}
 use Rattle.jk_marks.specs.declared.siz.Siz.{Siz}
 use Rattle.jk_marks.specs.Siz.{tile_count}
 use Rattle.jk_marks.specs.Codestream.{part_text}
-use Rattle.jk_params.specs.declared.parameters.Parameters.{Parameters}
 use Rattle.jk_params.specs.Profile.{siz_of}
 use Rattle.jk_geom.proofs.Laws.{some_tile}
-use Rattle.jk_code.specs.Written.{part_for, part_fits, parts_fit}
+use Rattle.jk_code.specs.Written.{part_for, part_fits}
 use Rattle.jk_window.specs.Views.{holds_below}
-use Rattle.jk_window.proofs.Laws.{below_none, below_more, below_fails}
-use Rattle.jk_code.proofs.LoopLaws.{parts_more}
+use Rattle.jk_window.proofs.Laws.{below_none, below_more}
+use Rattle.jk_code.proofs.LoopLaws.{parts_more, refused}
 use Rattle.jk_code.proofs.encoding.put_tiles.Goals as goal
-
--- a part that doesn't fit
-refused : (p : Picture) (q : Parameters) (t : ℕ) (e : Fault) → t < tile_count (siz_of p q) → IsMemory e ⊎ ((e ≡ Limit) × (part_fits p q t ≡ false)) → IsMemory e ⊎ ((e ≡ Limit) × (parts_fit p q ≡ false))
-refused p q t e lt why = elim why [
-  | inl memory ↦ inl memory
-  | inr limit ↦ inr (limit.0, below_fails (part_fits p q) (tile_count (siz_of p q)) t lt limit.1)
-]
 
 pub put_tile-requires-clause-number : goal.put_tile-requires-clause-number
 put_tile-requires-clause-number c = some_tile (siz_of c.args.image.now c.args.parameters.now) c.requires.written.siz

@@ -4,7 +4,7 @@ use Rattle.jk_math.specs.Steps.{if_ok_answers, answers_same}
 use Rattle.jk_code.specs.Meaning.{Means}
 use Rattle.jk_code.specs.MeaningReading.{meaning_at}
 use Rattle.jk_code.proofs.MeaningLaws.{found_meaning, only_meaning}
-use Rattle.jk_code.proofs.workers.decode_with.Goals as goal
+use Rattle.jk_code.proofs.decoding_with.decode_with.Goals as goal
 
 pub returns-clause-found : goal.returns-clause-found
 returns-clause-found g c =

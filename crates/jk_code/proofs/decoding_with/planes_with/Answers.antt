@@ -1,7 +1,7 @@
 use Rattle.std.proofs.Common.{◌≡◌, length, sym, ap, ◌∙◌, arith}
 use Rattle.jk_marks.specs.declared.siz.Siz.{Siz}
 use Rattle.jk_code.proofs.StripeLaws.{AreShown, are_shown, shown_long, joined_tested, joined_is}
-use Rattle.jk_code.proofs.workers.planes_with.Goals as goal
+use Rattle.jk_code.proofs.decoding_with.planes_with.Goals as goal
 
 pub join-requires-clause-stripes : goal.join-requires-clause-stripes
 join-requires-clause-stripes g c =

@@ -1,0 +1,178 @@
+//! Encoding, the code-blocks of each tile coded side by side by workers.
+
+ghost use Rattle.std.specs.Prelude.{◌≡◌, ℕ, List, ◌≤◌, ◌<◌, ◌+◌, ◌^◌, ◌++◌, ◌⊎◌, true, false, Err, IfOk, IfErr};
+ghost use Rattle.std.specs.Prelude.{OnOk};
+ghost use Rattle.std.specs.List.{flat_map};
+ghost use Rattle.jk_math.specs.Memory.{IsMemory};
+ghost use Rattle.jk_math.specs.Answer.{Answers};
+ghost use Rattle.jk_math.specs.declared.fault.Fault.TheVariants.{BadParameters, Limit};
+ghost use Rattle.jk_marks.specs.Siz.{tile_count};
+ghost use Rattle.jk_marks.specs.Codestream.{codestream_text, part_text};
+ghost use Rattle.jk_boxes.specs.Boxes.{HoldsCodestream};
+ghost use Rattle.jk_params.specs.Profile.{siz_of, IsWrittenBy};
+ghost use Rattle.jk_tile.specs.encoding.Needs.{exponents_for, written_bands};
+ghost use Rattle.jk_code.specs.Meaning.{Means, MeansPicture};
+ghost use Rattle.jk_code.specs.Written.{part_for, part_fits, parts_fit, tree_for, file_for, written};
+ghost use Rattle.jk_code.specs.Fronts.{HasFronts};
+
+use crate::encoding::{contained, main_header};
+use jk_farm::Gate;
+use jk_geom::tile_count;
+use jk_marks::{Exponents, write_end, write_main, write_tile_part};
+use jk_math::{Fault, Image, Planes};
+use jk_params::{Parameters, siz_of};
+use jk_tile::{encode_tile_with, exponents, tile_bands};
+use std::alloc::Global;
+use std::marker::Sync;
+use std::thread::Threads;
+
+/// Appends the only part of a tile, which has these sub-bands.
+///
+/// Limit: it would be longer than 2^32 - 1 bytes.
+fn put_tile_with<R: Threads + Sync, G: Gate + Sync>(
+    rt: &R,
+    alloc: Global,
+    workers: usize,
+    gate: &G,
+    out: &mut Vec<u8>,
+    image: &Image,
+    parameters: &Parameters,
+    exponents: &Exponents,
+    number: u32,
+    bands: Vec<Planes>,
+) -> Result<(), Fault>
+    requires some { 1 ≤ workers }
+    requires most { workers ≤ 64 }
+    requires written { IsWrittenBy parameters.now image.now }
+    requires exponents { exponents.now ≡ exponents_for image.now parameters.now }
+    requires number { number < tile_count (siz_of image.now parameters.now) }
+    requires bands { bands.items ≡ written_bands image.now parameters.now number }
+    ensures ok { OnOk result (out.new.items ≡ out.old.items ++ part_text (part_for image.now parameters.now number)) }
+    ensures fits { OnOk result (part_fits image.now parameters.now number ≡ true) }
+    ensures err { IfErr result (λ e. IsMemory e ⊎ ((e ≡ Limit) × (part_fits image.now parameters.now number ≡ false))) }
+{
+    let content = encode_tile_with(
+        rt, alloc, workers, gate, image, parameters, exponents, number, bands,
+    )?;
+    write_tile_part(number as u16, &content, out)
+}
+
+/// Appends the tile-parts, one for each tile, of which the first one has these sub-bands.
+fn put_tiles_with<R: Threads + Sync, G: Gate + Sync>(
+    rt: &R,
+    alloc: Global,
+    workers: usize,
+    gate: &G,
+    out: &mut Vec<u8>,
+    image: &Image,
+    parameters: &Parameters,
+    exponents: &Exponents,
+    first: Vec<Planes>,
+) -> Result<(), Fault>
+    requires some { 1 ≤ workers }
+    requires most { workers ≤ 64 }
+    requires written { IsWrittenBy parameters.now image.now }
+    requires exponents { exponents.now ≡ exponents_for image.now parameters.now }
+    requires first { first.items ≡ written_bands image.now parameters.now 0 }
+    ensures ok { OnOk result
+        (out.new.items ≡ out.old.items ++ flat_map part_text (tree_for image.now parameters.now).parts) }
+    ensures fits { OnOk result (parts_fit image.now parameters.now ≡ true) }
+    ensures err { IfErr result (λ e. IsMemory e ⊎ ((e ≡ Limit) × (parts_fit image.now parameters.now ≡ false))) }
+{
+    let siz = siz_of(image, parameters);
+    put_tile_with(
+        rt, alloc, workers, gate, out, image, parameters, exponents, 0, first,
+    )?;
+    for number in 1..tile_count(&siz) {
+        let bands = tile_bands(alloc, image, parameters, number)?;
+        put_tile_with(
+            rt, alloc, workers, gate, out, image, parameters, exponents, number, bands,
+        )?;
+    }
+    Ok(())
+}
+
+/// The codestream of an image.
+///
+/// Limit: a tile-part would be longer than 2^32 - 1 bytes.
+fn codestream_with<R: Threads + Sync, G: Gate + Sync>(
+    rt: &R,
+    alloc: Global,
+    workers: usize,
+    gate: &G,
+    image: &Image,
+    parameters: &Parameters,
+) -> Result<Vec<u8>, Fault>
+    requires some { 1 ≤ workers }
+    requires most { workers ≤ 64 }
+    requires profile { IsWrittenBy parameters.now image.now }
+    ensures value { IfOk result (λ v. v.items ≡ codestream_text (tree_for image.now parameters.now)) }
+    ensures fits { IfOk result (λ v. parts_fit image.now parameters.now ≡ true) }
+    ensures means { IfOk result (λ v. MeansPicture v.items 0 image.now) }
+    ensures bare { IfOk result (λ v. HoldsCodestream v.items v.items) }
+    ensures fronts { IfOk result
+        (λ v. (bytes : List ℕ) → HoldsCodestream bytes v.items → HasFronts image.now parameters.now bytes) }
+    ensures err { IfErr result (λ e. IsMemory e ⊎ ((e ≡ Limit) × (parts_fit image.now parameters.now ≡ false))) }
+{
+    let (exponents, first) = exponents(alloc, image, parameters)?;
+    let mut out = Vec::new(alloc);
+    write_main(&main_header(image, parameters, &exponents), &mut out)?;
+    put_tiles_with(
+        rt, alloc, workers, gate, &mut out, image, parameters, &exponents, first,
+    )?;
+    write_end(&mut out)?;
+    Ok(out)
+}
+
+/// The codestream of an image in its container.
+fn file_with<R: Threads + Sync, G: Gate + Sync>(
+    rt: &R,
+    alloc: Global,
+    workers: usize,
+    gate: &G,
+    image: &Image,
+    parameters: &Parameters,
+) -> Result<Vec<u8>, Fault>
+    requires some { 1 ≤ workers }
+    requires most { workers ≤ 64 }
+    requires profile { IsWrittenBy parameters.now image.now }
+    ensures exact { Answers (λ v. v.items) result (file_for image.now parameters.now) }
+    ensures means { IfOk result (λ v. Means v.items 0 image.now) }
+    ensures fronts { IfOk result (λ v. HasFronts image.now parameters.now v.items) }
+{
+    let codestream = codestream_with(rt, alloc, workers, gate, image, parameters)?;
+    contained(alloc, image, parameters, codestream)
+}
+
+/// What [`crate::encode`] gives, with the code-blocks of each tile coded side by side by so many
+/// workers, as far as threads can be had.
+///
+/// `gate` is told of each code-block of a component of a tile, when it begins and when it has
+/// ended.
+///
+/// BadParameters, before all else: less than one worker or more than 64.
+#[tactic(auto, unfolding(crate::specs::Written::written))]
+pub fn encode_with<R: Threads + Sync, G: Gate + Sync>(
+    rt: &R,
+    alloc: Global,
+    workers: usize,
+    gate: &G,
+    image: &Image,
+    parameters: &Parameters,
+) -> Result<Vec<u8>, Fault>
+    ensures range { (1 ≤ workers → workers ≤ 64 → ⊥) → result ≡ Err BadParameters }
+    // Which bytes, or which fault.
+    ensures exact { 1 ≤ workers → workers ≤ 64
+        → Answers (λ v. v.items) result (written image.now parameters.now) }
+    // The file means exactly the image.
+    ensures means { IfOk result (λ v. Means v.items 0 image.now) }
+    // With all layers but the first k empty, of L layers, it means the image that is rebuilt from
+    // the coefficients, each without its L - k lowest bit-planes.
+    ensures fronts { IfOk result (λ v. HasFronts image.now parameters.now v.items) }
+{
+    if workers < 1 || 64 < workers {
+        return Err(Fault::BadParameters);
+    }
+    parameters.check(image)?;
+    file_with(rt, alloc, workers, gate, image, parameters)
+}
