@@ -123,7 +123,7 @@ fn code_plane(
         encoder.new marks.new.items) }
     ensures memory { IfErr result IsMemory }
 {
-    flags.begin();
+    flags.begin(block.shape);
     for n in (3 * above).saturating_sub(2)..3 * above + 1 {
         code_pass(block, flags, pass_of(n as usize), list, encoder, marks)?;
     }
@@ -158,7 +158,7 @@ fn code_planes(
         if plane % 8 == 7 {
             slices = sliced(shape, values, plane - 7);
         }
-        ages.note(&flags.significant);
+        ages.note(shape, &flags.significant);
         let block = BlockPlane {
             shape,
             values,

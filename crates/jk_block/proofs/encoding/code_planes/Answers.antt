@@ -6,6 +6,7 @@ use Rattle.jk_block.specs.CodedBlocks.{HasCodedPasses}
 use Rattle.jk_block.specs.encoding.Slices.{IsSliced}
 use Rattle.jk_block.specs.encoding.Viewed.{IsLitUpto}
 use Rattle.jk_block.proofs.encoding.Planes.{short_of, lit_none, top_plane, none_refined, refined_drawn}
+use Rattle.jk_block.proofs.WordDrawing.{drawn_alike}
 use Rattle.jk_block.proofs.encoding.code_planes.Goals as goal
 use Rattle.jk_block.proofs.encoding.code_planes.Goals.{then-plane-eq7, else-plane-eq7}
 
@@ -72,6 +73,6 @@ loop-above-preserved c =
       coded = subst (λ n. HasCodedPasses s planes n q c.code_plane.new.encoder c.code_plane.new.marks.items) (let e : 3 * l.above + 1 ≡ 3 * (l.above + 1) - 2 = omega arith in e) c.in_ok-code_plane.ensures.after;
       lit = subst (λ b. IsLitUpto s b q c.code_plane.new.flags) (let e : planes - 1 - l.above ≡ planes - (l.above + 1) = omega arith in e) c.in_ok-code_plane.ensures.lit;
       sliced = subst (λ b. IsSliced s (b / 8 * 8) q c.if-plane-eq7.slices) (let e : plane ≡ planes - (l.above + 1) = omega arith in e) sliced;
-      older = subst (λ ws. IsDrawn s (λ x y. nat_lt 0 ((plane_at s (planes - (l.above + 1) + 1) q).magnitude x y)) ws) (sym c.note.ensures.older)
+      older = drawn_alike s (λ x y. nat_lt 0 ((plane_at s (planes - (l.above + 1) + 1) q).magnitude x y)) l.flags.significant c.note.new.self.older c.note.ensures.older
           (subst (λ b. IsDrawn s (λ x y. nat_lt 0 ((plane_at s b q).magnitude x y)) l.flags.significant) (let e : planes - l.above ≡ planes - (l.above + 1) + 1 = omega arith in e) l.invariant.lit.lit);
     }

@@ -3,7 +3,7 @@ use Rattle.std.proofs.Math.Nat.{mul_comm, add-mul}
 use Rattle.jk_scan.specs.Moments.{stripes}
 use Rattle.jk_scan.specs.Flags.{across, word_at}
 use Rattle.jk_scan.proofs.Laws.{word_fits}
-use Rattle.jk_block.proofs.decoding.sketch.words_of.Goals as goal
+use Rattle.jk_block.proofs.ages.words_of.Goals as goal
 
 few : (a t : ℕ) → (t + 1) * (a + 2) + (a + 1) < 774 → (a + 2) * (t + 2) ≤ 774
 few a t h =
