@@ -21,3 +21,8 @@ pub mod Geometry
 pub mod Marking
 pub mod RingBits
 pub mod RingContexts
+pub mod Nearness
+pub mod DigitBits
+pub mod HalfBits
+pub mod ByteBits
+pub mod NearContexts

@@ -22,14 +22,14 @@ pub thirds : (c i : ℕ) → c < 8 → i < 8 → on 0x0404_0404_0404_0404 (8 * c
 unfolding patterned all_below same on
 thirds = pattern_at 0x0404_0404_0404_0404 (λ i. nat_eq i 2) refl
 
-masked : (w r mask c i : ℕ) (b : Bool) → on mask (8 * c + i) ≡ b → on (bit_and (w / 2 ^ r) mask) (8 * c + i) ≡ (on w (8 * c + (r + i)) && b)
+pub masked : (w r mask c i : ℕ) (b : Bool) → on mask (8 * c + i) ≡ b → on (bit_and (w / 2 ^ r) mask) (8 * c + i) ≡ (on w (8 * c + (r + i)) && b)
 masked w r mask c i b e = on_and (w / 2 ^ r) mask (8 * c + i) ∙ two (on_shr_at w r (8 * c + (r + i)) (8 * c + i) (omega arith)) e
   where
     two : {a b a' b' : Bool} → a ≡ a' → b ≡ b' → (a && b) ≡ (a' && b')
     two e g = cc
 
 -- bits of bytes moved up, where none comes into the next byte
-moved_up : (w s low c i : ℕ) → ((c' i' : ℕ) → c' < 8 → i' < 8 → low ≤ i' → on w (8 * c' + i') ≡ false) → low + s ≤ 8 → c < 8 → i < 8
+pub moved_up : (w s low c i : ℕ) → ((c' i' : ℕ) → c' < 8 → i' < 8 → low ≤ i' → on w (8 * c' + i') ≡ false) → low + s ≤ 8 → c < 8 → i < 8
     → on (w * 2 ^ s % 2 ^ 64) (8 * c + i) ≡ (nat_le s i && on w (8 * c + (i - s)))
 moved_up w s low c i none room p q = on_shl_any w s 64 (8 * c + i) (omega arith) ∙ elim (cases_lt i s) [
   | inl less ↦ below c p less ∙ sym (ap (λ b. b && on w (8 * c + (i - s))) (let e : nat_le s i ≡ false = grind (arith, nat_tests) in e))
@@ -236,7 +236,7 @@ four_rows P w0 w1 w2 w3 a b d e (suc (suc zero)) h = d
 four_rows P w0 w1 w2 w3 a b d e (suc (suc (suc zero))) h = e
 four_rows P w0 w1 w2 w3 a b d e (suc (suc (suc (suc r)))) h = absurd (omega arith)
 
-behold : (f : Truths) (j s own early late left right r k : ℕ) → own < 2 ^ 64 → late < 2 ^ 64 → left < 2 ^ 64 → right < 2 ^ 64 → k < 64 → r < 4 → k % 8 ≡ r + 1 → Turns own early late k
+pub behold : (f : Truths) (j s own early late left right r k : ℕ) → own < 2 ^ 64 → late < 2 ^ 64 → left < 2 ^ 64 → right < 2 ^ 64 → k < 64 → r < 4 → k % 8 ≡ r + 1 → Turns own early late k
     → IsAround f j s (record { centre = own; west = left; east = right }) → Beheld f j s early late left right (k / 8) r
 behold f j s own early late left right r k ob tb lb rb within few e turns h =
     beheld f j s own early late left right (k / 8) r ob tb lb rb (omega arith) few (subst (λ k. Turns own early late k) (let g : k ≡ 8 * (k / 8) + (r + 1) = omega (arith, e) in g) turns) h

@@ -17,7 +17,7 @@ use Rattle.jk_scan.proofs.Patterns.{all_below, all_at, same, same_is}
 use Rattle.jk_scan.proofs.Seen.{AreFour, sign_seen}
 
 -- the neighbours of the place (x, y) in a field with its border
-record AreBeside (f : Truths) (x y : ℕ) : Type 0 where
+pub record AreBeside (f : Truths) (x y : ℕ) : Type 0 where
   pub left : bordered f (x + 8 + 0 - 1) (y + 4 + 1 - 1) ≡ west f x y
   pub right : bordered f (x + 8 + 2 - 1) (y + 4 + 1 - 1) ≡ east f x y
   pub above : bordered f (x + 8 + 1 - 1) (y + 4 + 0 - 1) ≡ north f x y
@@ -27,7 +27,7 @@ record AreBeside (f : Truths) (x y : ℕ) : Type 0 where
   pub left_below : bordered f (x + 8 + 0 - 1) (y + 4 + 2 - 1) ≡ west (south f) x y
   pub right_below : bordered f (x + 8 + 2 - 1) (y + 4 + 2 - 1) ≡ east (south f) x y
 
-beside : (f : Truths) (x y : ℕ) → AreBeside f x y
+pub beside : (f : Truths) (x y : ℕ) → AreBeside f x y
 beside f x y = record {
   left = place c1 r0 d1 e0;
   right = place c2 r0 d2 e0;

@@ -10,3 +10,4 @@ pub mod Tables
 pub mod Surroundings
 pub mod Flags
 pub mod RingPlaces
+pub mod WordNumbers

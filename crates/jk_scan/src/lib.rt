@@ -4,9 +4,12 @@
 #![tactic(auto)]
 
 mod around;
+mod bytes;
 mod columns;
 mod contexts;
+mod digits;
 mod flags;
+mod nearby;
 mod rings;
 mod shape;
 mod tables;
@@ -16,6 +19,7 @@ mod words;
 pub use around::{
     Around, neighbourhood, nine, quiet, quiet_behind, sign_context_at, zero_context_at,
 };
+pub use bytes::{DecisionBytes, byte_in, decision_bytes};
 pub use contexts::{
     Contribution, SignContext, contributed, refine_context, sign_context, zero_context,
 };
