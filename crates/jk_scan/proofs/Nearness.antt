@@ -1,17 +1,80 @@
 -- The places next to each place of a word.
-use Rattle.std.proofs.Common.{◌≡◌, ℕ, ◌+◌, ◌-◌, ◌*◌, ◌/◌, ◌%◌, ◌^◌, ◌<◌, true, ap, ◌∙◌, arith}
+use Rattle.std.proofs.Common.{◌≡◌, ℕ, Bool, ◌+◌, ◌-◌, ◌*◌, ◌/◌, ◌%◌, ◌^◌, ◌<◌, true, ap, ◌∙◌, arith}
+use Rattle.std.specs.Prelude.{◌&&◌, nat_le}
 use Rattle.std.specs.Int.RustNames.{bit_or}
+use Rattle.std.proofs.lemmas.Bool.Decides.{nat_tests}
+use Rattle.jk_scan.specs.Neighbours.{west, east, north, south}
 use Rattle.jk_scan.specs.declared.nearby.Nearby.{Nearby}
 use Rattle.jk_scan.specs.Bits.{on}
 use Rattle.jk_scan.specs.Words.{Truths, of_rows, bordered}
 use Rattle.jk_scan.specs.WordPlaces.{column, row}
-use Rattle.jk_scan.specs.Surroundings.{IsAround}
-use Rattle.jk_scan.specs.RingPlaces.{Turns}
+use Rattle.jk_scan.specs.Surroundings.{IsAround, Turns}
 use Rattle.jk_scan.specs.WordNumbers.{IsNear}
 use Rattle.jk_scan.proofs.Adding.{rows_between}
 use Rattle.jk_scan.proofs.BitLaws.{on_shl, on_shr_at}
-use Rattle.jk_scan.proofs.RingBits.{behold}
-use Rattle.jk_scan.proofs.RingContexts.{beside}
+use Rattle.jk_scan.proofs.Beheld.{behold}
+
+-- the neighbours of the place (x, y) in a field with its border
+pub record AreBeside (f : Truths) (x y : ℕ) : Type 0 where
+  pub left : bordered f (x + 8 + 0 - 1) (y + 4 + 1 - 1) ≡ west f x y
+  pub right : bordered f (x + 8 + 2 - 1) (y + 4 + 1 - 1) ≡ east f x y
+  pub above : bordered f (x + 8 + 1 - 1) (y + 4 + 0 - 1) ≡ north f x y
+  pub below : bordered f (x + 8 + 1 - 1) (y + 4 + 2 - 1) ≡ south f x y
+  pub left_above : bordered f (x + 8 + 0 - 1) (y + 4 + 0 - 1) ≡ west (north f) x y
+  pub right_above : bordered f (x + 8 + 2 - 1) (y + 4 + 0 - 1) ≡ east (north f) x y
+  pub left_below : bordered f (x + 8 + 0 - 1) (y + 4 + 2 - 1) ≡ west (south f) x y
+  pub right_below : bordered f (x + 8 + 2 - 1) (y + 4 + 2 - 1) ≡ east (south f) x y
+
+pub beside : (f : Truths) (x y : ℕ) → AreBeside f x y
+beside f x y = record {
+  left = place c1 r0 d1 e0;
+  right = place c2 r0 d2 e0;
+  above = place c0 r1 d0 e1;
+  below = place c0 r2 d0 e2;
+  left_above = place c1 r1 d1 e1;
+  right_above = place c2 r1 d2 e1;
+  left_below = place c1 r2 d1 e2;
+  right_below = place c2 r2 d2 e2;
+}
+  where
+    place : {a a' b b' : Bool} {x x' y y' : ℕ} → a ≡ a' → b ≡ b' → x ≡ x' → y ≡ y' → (a && (b && f x y)) ≡ (a' && (b' && f x' y'))
+    place p q e g = cc
+
+    c0 : nat_le 8 (x + 8 + 1 - 1) ≡ true
+    c0 = grind (arith, nat_tests)
+
+    c1 : nat_le 8 (x + 8 + 0 - 1) ≡ nat_le 1 x
+    c1 = grind (arith, nat_tests)
+
+    c2 : nat_le 8 (x + 8 + 2 - 1) ≡ true
+    c2 = grind (arith, nat_tests)
+
+    r0 : nat_le 4 (y + 4 + 1 - 1) ≡ true
+    r0 = grind (arith, nat_tests)
+
+    r1 : nat_le 4 (y + 4 + 0 - 1) ≡ nat_le 1 y
+    r1 = grind (arith, nat_tests)
+
+    r2 : nat_le 4 (y + 4 + 2 - 1) ≡ true
+    r2 = grind (arith, nat_tests)
+
+    d0 : x + 8 + 1 - 1 - 8 ≡ x
+    d0 = omega arith
+
+    d1 : x + 8 + 0 - 1 - 8 ≡ x - 1
+    d1 = omega arith
+
+    d2 : x + 8 + 2 - 1 - 8 ≡ x + 1
+    d2 = omega arith
+
+    e0 : y + 4 + 1 - 1 - 4 ≡ y
+    e0 = omega arith
+
+    e1 : y + 4 + 0 - 1 - 4 ≡ y - 1
+    e1 = omega arith
+
+    e2 : y + 4 + 2 - 1 - 4 ≡ y + 1
+    e2 = omega arith
 
 -- the columns left and right of the places of a word
 abbrev pub left_of : (early left : ℕ) → ℕ

@@ -6,8 +6,7 @@ ghost use Rattle.jk_scan.specs.Bits.{on};
 ghost use Rattle.jk_scan.specs.Neighbours.{zero_at, sign_at};
 ghost use Rattle.jk_scan.specs.Words.{Truths, of_rows, bordered};
 ghost use Rattle.jk_scan.specs.WordPlaces.{column, row};
-ghost use Rattle.jk_scan.specs.Surroundings.{IsAround};
-ghost use Rattle.jk_scan.specs.RingPlaces.{Turns};
+ghost use Rattle.jk_scan.specs.Surroundings.{IsAround, Turns};
 ghost use Rattle.jk_scan.specs.WordNumbers.{of_digits, byte_of, byte_at, sign_byte};
 
 use crate::around::Around;

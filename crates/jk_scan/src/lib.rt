@@ -10,7 +10,6 @@ mod contexts;
 mod digits;
 mod flags;
 mod nearby;
-mod rings;
 mod shape;
 mod tables;
 mod theorems;
@@ -24,7 +23,6 @@ pub use contexts::{
     Contribution, SignContext, contributed, refine_context, sign_context, zero_context,
 };
 pub use flags::{WORDS, inside, seen_around, word_place, words_across};
-pub use rings::{cross_words, ring_words, sign_context_in, zero_context_in};
 pub use shape::BlockShape;
 pub use tables::{sign_context_of_eight, zero_context_of_nine};
 pub use theorems::untouched_context;

@@ -3,8 +3,7 @@
 ghost use Rattle.std.specs.Prelude.{◌≡◌, ℕ, ◌%◌, ◌^◌, ◌<◌, true};
 ghost use Rattle.jk_scan.specs.Words.{Truths, of_rows, bordered};
 ghost use Rattle.jk_scan.specs.WordPlaces.{column, row};
-ghost use Rattle.jk_scan.specs.Surroundings.{IsAround};
-ghost use Rattle.jk_scan.specs.RingPlaces.{Turns};
+ghost use Rattle.jk_scan.specs.Surroundings.{IsAround, Turns};
 ghost use Rattle.jk_scan.specs.WordNumbers.{IsNear};
 
 use crate::around::Around;

@@ -15,8 +15,7 @@ use Rattle.jk_scan.specs.Moments.{stripes}
 use Rattle.jk_scan.specs.Passes.{Decided, is_one, new_decisions}
 use Rattle.jk_scan.specs.Words.{Truths, of_rows, Shows, bordered, is_member}
 use Rattle.jk_scan.specs.WordPlaces.{column, row, also}
-use Rattle.jk_scan.specs.Surroundings.{IsAround}
-use Rattle.jk_scan.specs.RingPlaces.{Turns}
+use Rattle.jk_scan.specs.Surroundings.{IsAround, Turns}
 use Rattle.jk_scan.specs.WordNumbers.{byte_at}
 use Rattle.jk_scan.proofs.Laws.{lowest, rest_at, taken, on_or, on_and, on_not, on_set, on_zero, on_shl_any, step_is}
 use Rattle.jk_block.specs.encoding.Reached.{is_reached}

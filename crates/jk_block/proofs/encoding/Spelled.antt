@@ -9,8 +9,7 @@ use Rattle.jk_scan.specs.Neighbours.{zero_at, sign_at}
 use Rattle.jk_scan.specs.Passes.{flipped}
 use Rattle.jk_scan.specs.Words.{Truths, of_rows, bordered}
 use Rattle.jk_scan.specs.WordPlaces.{column, row}
-use Rattle.jk_scan.specs.Surroundings.{IsAround}
-use Rattle.jk_scan.specs.RingPlaces.{Turns}
+use Rattle.jk_scan.specs.Surroundings.{IsAround, Turns}
 use Rattle.jk_scan.specs.WordNumbers.{byte_at, sign_byte}
 use Rattle.jk_block.specs.declared.encoding.plane.BlockPlane.{BlockPlane}
 use Rattle.jk_block.specs.declared.spot.Spot.{Spot}

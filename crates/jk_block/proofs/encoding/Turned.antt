@@ -13,8 +13,7 @@ use Rattle.jk_scan.specs.Neighbours.{Field}
 use Rattle.jk_scan.specs.Moments.{stripes}
 use Rattle.jk_scan.specs.Words.{bordered}
 use Rattle.jk_scan.specs.WordPlaces.{column, row}
-use Rattle.jk_scan.specs.Surroundings.{IsAround}
-use Rattle.jk_scan.specs.RingPlaces.{Turns}
+use Rattle.jk_scan.specs.Surroundings.{IsAround, Turns}
 use Rattle.jk_scan.specs.WordNumbers.{byte_at}
 use Rattle.jk_scan.proofs.Laws.{same_field, on_or, on_set}
 use Rattle.jk_block.specs.declared.encoding.plane.BlockPlane.{BlockPlane}

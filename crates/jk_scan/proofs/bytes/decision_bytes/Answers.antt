@@ -1,14 +1,14 @@
 use Rattle.std.proofs.Common.{◌≡◌, ◌+◌, ◌-◌, ◌*◌, ◌/◌, ◌%◌, ◌<◌, cond, get_or, refl, ap, ◌∙◌, arith}
+use Rattle.jk_scan.specs.Surroundings.{Turns}
 use Rattle.jk_scan.specs.declared.contexts.SignContext.{SignContext}
 use Rattle.jk_scan.specs.Bits.{on}
-use Rattle.jk_scan.specs.RingPlaces.{Turns}
 use Rattle.jk_scan.specs.WordPlaces.{column, row}
 use Rattle.jk_scan.specs.WordNumbers.{of_digits, byte_of, sign_byte}
 use Rattle.jk_scan.proofs.Adding.{rows_between}
 use Rattle.jk_scan.proofs.ByteBits.{doubled_small, sixteen_small}
 use Rattle.jk_scan.proofs.HalfBits.{same_digits}
 use Rattle.jk_scan.proofs.NearContexts.{zero_near, sign_near, doubled_same}
-use Rattle.jk_scan.proofs.RingBits.{four_rows}
+use Rattle.jk_scan.proofs.Beheld.{four_rows}
 use Rattle.jk_scan.proofs.bytes.decision_bytes.Goals as goal
 
 pub returns-clause-bits : goal.returns-clause-bits

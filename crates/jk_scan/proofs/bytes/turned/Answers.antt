@@ -2,7 +2,7 @@ use Rattle.std.proofs.Common.{◌≡◌, ℕ, ◌+◌, ap, ◌∙◌, arith}
 use Rattle.jk_scan.specs.Bits.{on}
 use Rattle.jk_scan.specs.WordNumbers.{of_digits}
 use Rattle.jk_scan.proofs.HalfBits.{same_digits}
-use Rattle.jk_scan.proofs.RingBits.{four_rows}
+use Rattle.jk_scan.proofs.Beheld.{four_rows}
 use Rattle.jk_scan.proofs.bytes.turned.Goals as goal
 
 pub returns : goal.returns
