@@ -15,7 +15,7 @@ use Rattle.jk_scan.specs.Words.{Truths, of_rows, bordered}
 use Rattle.jk_scan.specs.WordPlaces.{column, row}
 use Rattle.jk_scan.specs.Flags.{IsSized, IsDrawn, across, word_at, flag_at}
 use Rattle.jk_scan.proofs.Laws.{inside_parts, rows_between, word_fits, on_or, drawn_none}
-use Rattle.jk_block.specs.Fields.{is_in_word, own_bit, with_word, words_of, AreAlike, plane_bit}
+use Rattle.jk_block.specs.Fields.{is_in_word, own_bit, with_word, words_of, AreSameWords, plane_bit}
 use Rattle.jk_block.proofs.WordBits.{bordered_at, drawn_bit}
 
 -- a word is written
@@ -159,7 +159,7 @@ unfolding word_at
 word_room s j i hj hi = let h = mul-add-lt i (across s + 2) j (stripes s + 2) hi hj in h
 
 -- words that are the same where they show a block
-pub drawn_alike : (s : BlockShape) (f : Field Bool) (a b : List ℕ) → AreAlike s a b → IsDrawn s f a → IsDrawn s f b
+pub drawn_alike : (s : BlockShape) (f : Field Bool) (a b : List ℕ) → AreSameWords s a b → IsDrawn s f a → IsDrawn s f b
 drawn_alike s f a b e h j i hj hi c r p q = ap (λ w. on w (8 * c + r)) (sym (e (word_at s j i) (word_room s j i hj hi))) ∙ h j i hj hi c r p q
 
 -- words of which none has a bit where they show a block

@@ -32,8 +32,8 @@ abbrev pub words_of : BlockShape → ℕ
 words_of s = (across s + 2) * (stripes s + 2)
 
 -- Words that are the same where they show a block.
-abbrev pub AreAlike : BlockShape → (a b : List ℕ) → Type 0
-AreAlike s a b = (k : ℕ) → k < words_of s → get_or a k 0 ≡ get_or b k 0
+abbrev pub AreSameWords : BlockShape → (a b : List ℕ) → Type 0
+AreSameWords s a b = (k : ℕ) → k < words_of s → get_or a k 0 ≡ get_or b k 0
 
 -- The truth value of a place in the words of bit-plane b. The planes stand one behind another.
 abbrev pub plane_bit : BlockShape → List ℕ → (b x y : ℕ) → Bool

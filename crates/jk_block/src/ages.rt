@@ -2,7 +2,7 @@
 
 ghost use Rattle.std.specs.Prelude.{◌≡◌, ℕ, ◌<◌, ◌≤◌, replicate, get_or};
 ghost use Rattle.jk_scan.specs.Flags.{IsSized};
-ghost use Rattle.jk_block.specs.Fields.{words_of, AreAlike};
+ghost use Rattle.jk_block.specs.Fields.{words_of, AreSameWords};
 
 use jk_scan::{BlockShape, WORDS, words_across};
 use std::marker::Model;
@@ -36,7 +36,7 @@ pub fn unmark(shape: BlockShape, words: &mut [u64; WORDS])
 /// Copies the words that show a block.
 fn copy(shape: BlockShape, from: &[u64; WORDS], to: &mut [u64; WORDS])
     requires { IsSized shape }
-    ensures { AreAlike shape from.now to.new }
+    ensures { AreSameWords shape from.now to.new }
 {
     for at in 0..words_of(shape) {
         to[at] = from[at];
@@ -90,7 +90,7 @@ impl Ages {
     pub fn note(&mut self, shape: BlockShape, significant: &[u64; WORDS])
         requires { IsSized shape }
         ensures refined { self.new.refined ≡ self.old.older }
-        ensures older { AreAlike shape significant.now self.new.older }
+        ensures older { AreSameWords shape significant.now self.new.older }
     {
         if self.is_odd {
             copy(shape, significant, &mut self.odd);

@@ -18,7 +18,7 @@ use Rattle.jk_scan.proofs.Laws.{inside_parts, flag_none}
 use Rattle.jk_model.specs.Decisions.{State}
 use Rattle.jk_block.specs.Meaning.{plane_of, kind_of, above}
 use Rattle.jk_block.specs.Reading.{Progress, put, times, blank, begun, pass_at}
-use Rattle.jk_block.specs.Fields.{AreAlike}
+use Rattle.jk_block.specs.Fields.{AreSameWords}
 use Rattle.jk_block.specs.decoding.Sketches.{Draft, progress, lit_in, IsFresh}
 use Rattle.jk_block.specs.declared.spot.Spot.{Spot}
 use Rattle.jk_block.specs.Steps.{IsPlace}
@@ -213,7 +213,7 @@ aged_none s magnitude b refined older r o z = record {
 
 -- as a pass begins
 pub aged_noted : (bytes : List ℕ) (k : Draft) (planes n : ℕ) (coder : State) (significant refined older refined' older' : List ℕ) → n < 3 * planes - 2 → times n (pass_at bytes k.shape planes) blank ≡ Ok (progress k coder)
-    → IsDrawn k.shape (lit_in k) significant → Aged k.shape k.magnitude (plane_before planes n) refined older → (kind_of n ≡ 0 → refined' ≡ older) → (kind_of n ≡ 0 → AreAlike k.shape significant older')
+    → IsDrawn k.shape (lit_in k) significant → Aged k.shape k.magnitude (plane_before planes n) refined older → (kind_of n ≡ 0 → refined' ≡ older) → (kind_of n ≡ 0 → AreSameWords k.shape significant older')
     → ((kind_of n ≡ 0 → ⊥) → refined' ≡ refined) → ((kind_of n ≡ 0 → ⊥) → older' ≡ older) → Aged k.shape k.magnitude (plane_of planes n) refined' older'
 aged_noted bytes k planes n coder significant refined older refined' older' h is drawn aged r o r0 o0 = elim (cases_lt 0 (kind_of n)) [
   | inl later ↦

@@ -12,7 +12,7 @@ ghost use Rattle.jk_model.specs.Decisions.{State};
 ghost use Rattle.jk_mqdec.specs.Standing.{Stands};
 ghost use Rattle.jk_scan.specs.Flags.{IsSized};
 ghost use Rattle.jk_scan.specs.Neighbours.{Field};
-ghost use Rattle.jk_block.specs.Fields.{AreAlike};
+ghost use Rattle.jk_block.specs.Fields.{AreSameWords};
 ghost use Rattle.jk_block.specs.Meaning.{IsBlockMeaning, plane_of, kind_of, value_in, values_of};
 ghost use Rattle.jk_block.specs.Reading.{times, blank, begun, pass_at, block_at};
 ghost use Rattle.jk_block.specs.Steps.{number_of};
@@ -69,7 +69,7 @@ fn note(ages: &mut Ages, shape: BlockShape, significant: &[u64; WORDS], n: usize
     requires few { n < 100 }
     requires sized { IsSized shape }
     ensures refined { kind_of n ≡ 0 → ages.new.refined ≡ ages.old.older }
-    ensures older { kind_of n ≡ 0 → AreAlike shape significant.now ages.new.older }
+    ensures older { kind_of n ≡ 0 → AreSameWords shape significant.now ages.new.older }
     ensures kept { (kind_of n ≡ 0 → ⊥) → ages.new ≡ ages.old }
 {
     match pass_of(n) {
