@@ -103,8 +103,8 @@ pub fn zero_digits(orientation: Orientation, near: Nearby) -> Digits
     }
 }
 
-/// The decisions of signs but for 16: the contexts, and below them the sign or, where it is flipped,
-/// its opposite (T.800 Tables D.2 and D.3).
+/// The decisions of signs but for 16: the contexts, and below them the sign or, where the context
+/// flips it, its opposite (T.800 Tables D.2 and D.3).
 #[inline(always)]
 pub fn sign_digits(near: Nearby, signs: Nearby, own: u64) -> Digits
     ensures { (k : ℕ) → k < 64 → 16 + number_at result k ≡ sign_byte (sign_context_of

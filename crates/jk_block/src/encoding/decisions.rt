@@ -1,7 +1,7 @@
 //! The decisions of a pass.
 
-ghost use Rattle.std.specs.Prelude.{◌≡◌, ℕ, [], ◌∷◌, ◌+◌, ◌++◌, List, ◌/◌, ◌<◌, ◌≤◌, IfOk, IfErr, if◌then◌else◌, ◌%◌, ◌==◌};
-ghost use Rattle.std.specs.Prelude.{replicate};
+ghost use Rattle.std.specs.Prelude.{◌≡◌, ℕ, [], ◌∷◌, ◌+◌, ◌++◌, List, ◌/◌, ◌<◌, ◌≤◌, IfOk, IfErr, if◌then◌else◌};
+ghost use Rattle.std.specs.Prelude.{◌%◌, ◌==◌, replicate};
 ghost use Rattle.jk_math.specs.Memory.{IsMemory};
 ghost use Rattle.jk_model.specs.Decisions.{Decision};
 ghost use Rattle.jk_mqenc.specs.Encoded.{Codes, decision_of};
@@ -76,7 +76,7 @@ pub fn make_room(bytes: &mut Vec<u8>, count: usize) -> Result<(), Fault>
     Ok(())
 }
 
-/// Puts a decision that is spelled so behind those that are there, and gives how many they are then.
+/// Puts a decision in one byte behind those that are there, and gives how many they are then.
 #[inline(always)]
 pub fn put_byte(bytes: &mut [u8], count: usize, byte: u8) -> usize
     requires room { IsSheet bytes.old (count + 1) }
