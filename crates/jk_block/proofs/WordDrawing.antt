@@ -1,5 +1,5 @@
 -- A word of 32 places written whole.
-use Rattle.std.proofs.Common.{◌≡◌, ℕ, ◌+◌, ◌-◌, ◌*◌, ◌/◌, ◌%◌, ◌<◌, ◌≤◌, Bool, true, false, cond, List, length, get_or, set, refl, sym, ap, ◌∙◌, subst, inl, inr, arith}
+use Rattle.std.proofs.Common.{◌≡◌, ℕ, ◌+◌, ◌-◌, ◌*◌, ◌/◌, ◌%◌, ◌<◌, ◌≤◌, Bool, true, false, cond, List, [], length, get_or, set, refl, sym, ap, ◌∙◌, subst, inl, inr, arith}
 use Rattle.std.specs.Prelude.{◌&&◌, ◌||◌, nat_eq, nat_le}
 use Rattle.std.specs.Int.RustNames.{bit_or}
 use Rattle.std.proofs.lemmas.Bool.{and_parts, cases_lt}
@@ -14,8 +14,8 @@ use Rattle.jk_scan.specs.Moments.{stripes}
 use Rattle.jk_scan.specs.Words.{Truths, of_rows, bordered}
 use Rattle.jk_scan.specs.WordPlaces.{column, row}
 use Rattle.jk_scan.specs.Flags.{IsSized, IsDrawn, across, word_at, flag_at}
-use Rattle.jk_scan.proofs.Laws.{inside_parts, rows_between, word_fits, on_or}
-use Rattle.jk_block.specs.Fields.{is_in_word, own_bit, with_word, words_of, plane_bit}
+use Rattle.jk_scan.proofs.Laws.{inside_parts, rows_between, word_fits, on_or, drawn_none}
+use Rattle.jk_block.specs.Fields.{is_in_word, own_bit, with_word, words_of, AreSameWords, plane_bit}
 use Rattle.jk_block.proofs.WordBits.{bordered_at, drawn_bit}
 
 -- a word is written
@@ -157,6 +157,14 @@ same_place j i x y m e h =
 pub word_room : (s : BlockShape) (j i : ℕ) → j < across s + 2 → i < stripes s + 2 → word_at s j i < words_of s
 unfolding word_at
 word_room s j i hj hi = let h = mul-add-lt i (across s + 2) j (stripes s + 2) hi hj in h
+
+-- words that are the same where they show a block
+pub drawn_alike : (s : BlockShape) (f : Field Bool) (a b : List ℕ) → AreSameWords s a b → IsDrawn s f a → IsDrawn s f b
+drawn_alike s f a b e h j i hj hi c r p q = ap (λ w. on w (8 * c + r)) (sym (e (word_at s j i) (word_room s j i hj hi))) ∙ h j i hj hi c r p q
+
+-- words of which none has a bit where they show a block
+pub drawn_dark : (s : BlockShape) (f : Field Bool) (words : List ℕ) → ((k : ℕ) → k < words_of s → get_or words k 0 ≡ 0) → ((x y : ℕ) → f x y ≡ false) → IsDrawn s f words
+drawn_dark s f words h dark = drawn_alike s f [] words (λ k l. sym (h k l)) (drawn_none s f 0 dark)
 
 pub index_of : (s : BlockShape) (n b j i : ℕ) → b < n → j < across s + 2 → i < stripes s + 2 → b * words_of s + word_at s j i < n * words_of s
 index_of s n b j i h hj hi = let m = mul-add-lt b (words_of s) (word_at s j i) n h (word_room s j i hj hi) in let c = mul_comm (words_of s) n in omega (arith, m, c)

@@ -18,6 +18,7 @@ pub mod Refined
 pub mod Remaining
 pub mod Sheeted
 pub mod Slicing
+pub mod Spelled
 pub mod Testing
 pub mod Timing
 pub mod Turned

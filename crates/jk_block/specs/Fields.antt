@@ -1,6 +1,6 @@
 -- Words as fields.
-use Rattle.std.specs.Prelude.{ℕ, zero, suc, ◌+◌, ◌*◌, ◌/◌, ◌%◌, Bool, ◌&&◌, ◌||◌, nat_eq, nat_lt, List, get_or}
-use Rattle.std.specs.Prelude.{if◌then◌else◌}
+use Rattle.std.specs.Prelude.{◌≡◌, ℕ, zero, suc, ◌+◌, ◌*◌, ◌/◌, ◌%◌, ◌<◌, Bool, ◌&&◌, ◌||◌, nat_eq, nat_lt, List}
+use Rattle.std.specs.Prelude.{get_or, if◌then◌else◌}
 use Rattle.jk_scan.specs.declared.shape.BlockShape.{BlockShape}
 use Rattle.jk_scan.specs.Bits.{on}
 use Rattle.jk_scan.specs.Neighbours.{Field, is_inside}
@@ -30,6 +30,10 @@ with_word f j i word x y = f x y || (is_in_word j i x y && on word (own_bit x y)
 -- how many words show a block once, with their border
 abbrev pub words_of : BlockShape → ℕ
 words_of s = (across s + 2) * (stripes s + 2)
+
+-- Words that are the same where they show a block.
+abbrev pub AreSameWords : BlockShape → (a b : List ℕ) → Type 0
+AreSameWords s a b = (k : ℕ) → k < words_of s → get_or a k 0 ≡ get_or b k 0
 
 -- The truth value of a place in the words of bit-plane b. The planes stand one behind another.
 abbrev pub plane_bit : BlockShape → List ℕ → (b x y : ℕ) → Bool

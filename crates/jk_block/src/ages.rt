@@ -1,8 +1,10 @@
 //! What was significant as the last two planes of a block began.
 
-ghost use Rattle.std.specs.Prelude.{◌≡◌, replicate};
+ghost use Rattle.std.specs.Prelude.{◌≡◌, ℕ, ◌<◌, ◌≤◌, replicate, get_or};
+ghost use Rattle.jk_scan.specs.Flags.{IsSized};
+ghost use Rattle.jk_block.specs.Fields.{words_of, AreSameWords};
 
-use jk_scan::WORDS;
+use jk_scan::{BlockShape, WORDS, words_across};
 use std::marker::Model;
 
 /// No place is marked.
@@ -10,6 +12,35 @@ pub fn unmarked() -> [u64; WORDS]
     ensures { result ≡ replicate 774 0 }
 {
     [0; WORDS]
+}
+
+/// How many words show a block once, with their border.
+pub fn words_of(shape: BlockShape) -> usize
+    requires { IsSized shape }
+    ensures is { result ≡ words_of shape }
+    ensures few { result ≤ 774 }
+{
+    (words_across(shape) + 2) * ((shape.height + 3) / 4 + 2)
+}
+
+/// No place of a block is marked any more.
+pub fn unmark(shape: BlockShape, words: &mut [u64; WORDS])
+    requires { IsSized shape }
+    ensures { (k : ℕ) → k < words_of shape → get_or words.new k 0 ≡ 0 }
+{
+    for at in 0..words_of(shape) {
+        words[at] = 0;
+    }
+}
+
+/// Copies the words that show a block.
+fn copy(shape: BlockShape, from: &[u64; WORDS], to: &mut [u64; WORDS])
+    requires { IsSized shape }
+    ensures { AreSameWords shape from.now to.new }
+{
+    for at in 0..words_of(shape) {
+        to[at] = from[at];
+    }
 }
 
 /// What was significant before a plane, and what was so before the plane above. The two change
@@ -56,14 +87,15 @@ impl Ages {
     }
 
     /// Notes what is significant as a plane begins.
-    pub fn note(&mut self, significant: &[u64; WORDS])
+    pub fn note(&mut self, shape: BlockShape, significant: &[u64; WORDS])
+        requires { IsSized shape }
         ensures refined { self.new.refined ≡ self.old.older }
-        ensures older { self.new.older ≡ significant.now }
+        ensures older { AreSameWords shape significant.now self.new.older }
     {
         if self.is_odd {
-            self.odd = *significant;
+            copy(shape, significant, &mut self.odd);
         } else {
-            self.even = *significant;
+            copy(shape, significant, &mut self.even);
         }
         self.is_odd = !self.is_odd;
     }

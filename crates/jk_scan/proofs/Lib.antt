@@ -19,5 +19,9 @@ pub mod Seen
 pub mod Candidates
 pub mod Geometry
 pub mod Marking
-pub mod RingBits
-pub mod RingContexts
+pub mod Beheld
+pub mod Nearness
+pub mod DigitBits
+pub mod HalfBits
+pub mod ByteBits
+pub mod NearContexts

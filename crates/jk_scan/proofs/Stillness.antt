@@ -5,11 +5,10 @@ use Rattle.std.specs.Prelude.{◌&&◌, ◌||◌, nat_eq, nat_lt}
 use Rattle.std.proofs.lemmas.Bool.Decides.{nat_tests}
 use Rattle.jk_scan.specs.Bits.{on}
 use Rattle.jk_scan.specs.Words.{Truths, of_rows, of_gathered, Shows, IsLine, aside, any_of_six, in_six, IsNarrow}
-use Rattle.jk_scan.specs.Surroundings.{IsAround}
-use Rattle.jk_scan.specs.RingPlaces.{Turns}
+use Rattle.jk_scan.specs.Surroundings.{IsAround, Turns}
 use Rattle.jk_scan.proofs.BitLaws.{on_or, on_and}
 use Rattle.jk_scan.proofs.Beside.{at_place, right_moved, left_moved}
-use Rattle.jk_scan.proofs.RingBits.{left_of_place, right_of_place}
+use Rattle.jk_scan.proofs.Beheld.{left_of_place, right_of_place}
 use Rattle.jk_scan.proofs.Patterns.{all_below, same, patterned, pattern_at}
 use Rattle.jk_scan.proofs.Neighbours.{line_shown}
 

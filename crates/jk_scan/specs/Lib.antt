@@ -9,4 +9,4 @@ pub mod WordPlaces
 pub mod Tables
 pub mod Surroundings
 pub mod Flags
-pub mod RingPlaces
+pub mod WordNumbers

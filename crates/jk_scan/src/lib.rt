@@ -4,10 +4,12 @@
 #![tactic(auto)]
 
 mod around;
+mod bytes;
 mod columns;
 mod contexts;
+mod digits;
 mod flags;
-mod rings;
+mod nearby;
 mod shape;
 mod tables;
 mod theorems;
@@ -16,11 +18,11 @@ mod words;
 pub use around::{
     Around, neighbourhood, nine, quiet, quiet_behind, sign_context_at, zero_context_at,
 };
+pub use bytes::{DecisionBytes, byte_in, decision_bytes};
 pub use contexts::{
     Contribution, SignContext, contributed, refine_context, sign_context, zero_context,
 };
 pub use flags::{WORDS, inside, seen_around, word_place, words_across};
-pub use rings::{cross_words, ring_words, sign_context_in, zero_context_in};
 pub use shape::BlockShape;
 pub use tables::{sign_context_of_eight, zero_context_of_nine};
 pub use theorems::untouched_context;

@@ -6,8 +6,7 @@ ghost use Rattle.std.specs.Prelude.{◌≡◌, ℕ, Bool, ◌+◌, ◌-◌, ◌*
 ghost use Rattle.jk_scan.specs.Bits.{on};
 ghost use Rattle.jk_scan.specs.Words.{Truths, of_rows, of_gathered, Shows, ShowsAt, IsLine, up_down, upright, aside};
 ghost use Rattle.jk_scan.specs.Words.{near, is_member, in_six};
-ghost use Rattle.jk_scan.specs.Surroundings.{IsAround};
-ghost use Rattle.jk_scan.specs.RingPlaces.{Turns};
+ghost use Rattle.jk_scan.specs.Surroundings.{IsAround, Turns};
 
 use crate::around::{Around, quiet};
 

@@ -18,6 +18,7 @@ use Rattle.jk_scan.proofs.Laws.{inside_parts, flag_none}
 use Rattle.jk_model.specs.Decisions.{State}
 use Rattle.jk_block.specs.Meaning.{plane_of, kind_of, above}
 use Rattle.jk_block.specs.Reading.{Progress, put, times, blank, begun, pass_at}
+use Rattle.jk_block.specs.Fields.{AreSameWords}
 use Rattle.jk_block.specs.decoding.Sketches.{Draft, progress, lit_in, IsFresh}
 use Rattle.jk_block.specs.declared.spot.Spot.{Spot}
 use Rattle.jk_block.specs.Steps.{IsPlace}
@@ -25,6 +26,7 @@ use Rattle.jk_block.proofs.Changes.{mags_inside, mags_outside}
 use Rattle.jk_block.proofs.Stages.{mags, Cut, Like}
 use Rattle.jk_block.proofs.Whole.{ready, passes_onward, stage_plane}
 use Rattle.jk_block.proofs.WordBits.{drawn_bit, on_rows}
+use Rattle.jk_block.proofs.WordDrawing.{drawn_alike}
 
 -- ---- sizes by quotients
 
@@ -211,7 +213,7 @@ aged_none s magnitude b refined older r o z = record {
 
 -- as a pass begins
 pub aged_noted : (bytes : List ℕ) (k : Draft) (planes n : ℕ) (coder : State) (significant refined older refined' older' : List ℕ) → n < 3 * planes - 2 → times n (pass_at bytes k.shape planes) blank ≡ Ok (progress k coder)
-    → IsDrawn k.shape (lit_in k) significant → Aged k.shape k.magnitude (plane_before planes n) refined older → (kind_of n ≡ 0 → refined' ≡ older) → (kind_of n ≡ 0 → older' ≡ significant)
+    → IsDrawn k.shape (lit_in k) significant → Aged k.shape k.magnitude (plane_before planes n) refined older → (kind_of n ≡ 0 → refined' ≡ older) → (kind_of n ≡ 0 → AreSameWords k.shape significant older')
     → ((kind_of n ≡ 0 → ⊥) → refined' ≡ refined) → ((kind_of n ≡ 0 → ⊥) → older' ≡ older) → Aged k.shape k.magnitude (plane_of planes n) refined' older'
 aged_noted bytes k planes n coder significant refined older refined' older' h is drawn aged r o r0 o0 = elim (cases_lt 0 (kind_of n)) [
   | inl later ↦
@@ -226,7 +228,7 @@ aged_noted bytes k planes n coder significant refined older refined' older' h is
       let up : plane_before planes n + 1 ≡ b + 2 = omega (arith, kind, h) in
       record {
         refined_is = λ x y i. ap (λ (ws : List ℕ). flag_at k.shape ws x y) (r kind) ∙ aged.older_is x y i ∙ ap (λ p. nat_le (2 ^ p) (k.magnitude x y)) up;
-        older_is = λ x y i. ap (λ (ws : List ℕ). flag_at k.shape ws x y) (o kind) ∙ drawn_flag k.shape (lit_in k) significant x y drawn i ∙ ap (λ t. t && nat_lt 0 (k.magnitude x y)) i
+        older_is = λ x y i. drawn_flag k.shape (lit_in k) older' x y (drawn_alike k.shape (lit_in k) significant older' (o kind) drawn) i ∙ ap (λ t. t && nat_lt 0 (k.magnitude x y)) i
             ∙ started bytes k.shape planes n (progress k coder) h kind is x y i;
       }
 ]

@@ -1,5 +1,5 @@
 -- A word listed in the cleanup pass.
-use Rattle.std.proofs.Common.{◌≡◌, ℕ, ◌+◌, ◌-◌, ◌*◌, ◌/◌, ◌%◌, ◌^◌, ◌<◌, ◌≤◌, Bool, true, false, List, get_or, ◌++◌, sym, ap, ◌∙◌, subst, inl, inr, arith}
+use Rattle.std.proofs.Common.{◌≡◌, ℕ, ◌+◌, ◌-◌, ◌*◌, ◌/◌, ◌%◌, ◌^◌, ◌<◌, ◌≤◌, Bool, true, false, List, ◌++◌, sym, ap, ◌∙◌, subst, inl, inr, arith}
 use Rattle.std.specs.Prelude.{◌&&◌, nat_eq, nat_le, nat_lt}
 use Rattle.std.specs.Int.{trailing_zeros, w64}
 use Rattle.std.specs.Int.RustNames.{bit_and}
@@ -8,16 +8,17 @@ use Rattle.std.proofs.lemmas.Bool.Decides.{nat_tests}
 use Rattle.std.proofs.lemmas.Nat.{and_le_l}
 use Rattle.jk_scan.specs.Bits.{on}
 use Rattle.jk_scan.specs.Moments.{number, stripes, visits}
-use Rattle.jk_scan.specs.Passes.{Decided, new_decisions, rows_decisions, runs, first_one, run_decisions, place_decisions}
-use Rattle.jk_scan.specs.Words.{of_rows, bordered}
+use Rattle.jk_scan.specs.Passes.{Decided, sign_decision, new_decisions, rows_decisions, runs, first_one, run_decisions, place_decisions}
+use Rattle.jk_scan.specs.Words.{of_rows}
 use Rattle.jk_scan.specs.WordPlaces.{column, row}
-use Rattle.jk_scan.specs.RingPlaces.{IsRing, IsCross}
+use Rattle.jk_scan.specs.WordNumbers.{byte_at}
+use Rattle.jk_mqenc.specs.Encoded.{decision_of}
 use Rattle.jk_scan.proofs.Laws.{rows_between, lowest, rest_at, later_lowest, on_zero}
 use Rattle.jk_block.specs.encoding.Sheets.{IsSheet, told}
 use Rattle.jk_block.specs.Steps.{IsPlace}
 use Rattle.jk_block.specs.declared.encoding.plane.BlockPlane.{BlockPlane}
 use Rattle.jk_block.specs.declared.spot.Spot.{Spot}
-use Rattle.jk_block.specs.encoding.Viewed.{seen, lit_at, moment_at, run_head, word_decisions}
+use Rattle.jk_block.specs.encoding.Viewed.{seen, moment_at, run_head, word_decisions, SpellsBit, SpellsSign}
 use Rattle.jk_block.proofs.Columns.{rows_left, row_left, runs_is}
 use Rattle.jk_block.proofs.Rows.{start}
 use Rattle.jk_block.proofs.encoding.Coming.{mag, Told, told_none, told_skip, told_place, told_all, append_both}
@@ -27,6 +28,7 @@ use Rattle.jk_block.proofs.encoding.Propagated.{new_place}
 use Rattle.jk_block.proofs.encoding.Remaining.{is_run, remaining_at, remaining_run}
 use Rattle.jk_block.proofs.Seeing.{is_due}
 use Rattle.jk_block.proofs.encoding.Sheeted.{sheet_less}
+use Rattle.jk_block.proofs.encoding.Slicing.{row_place}
 use Rattle.jk_block.proofs.StillBits.{above_bits}
 use Rattle.jk_block.proofs.encoding.Testing.{due_inside}
 use Rattle.jk_block.proofs.encoding.Timing.{codes, moment_place}
@@ -35,17 +37,17 @@ use Rattle.jk_block.proofs.WordBits.{none_before, is_one_number, le_true, true_l
 
 -- The pass has come to bit n of a word. A column in run mode is listed from its first row on, so
 -- the pass never stands there. There is room for two decisions of each bit that comes.
-pub record Cleaned (v : BlockPlane) (at : Spot) (old : Decided) (bytes : List ℕ) (count : ℕ) (rings crosses : List ℕ) (still left : ℕ) : Type 0 where
-  pub prepared : Prepared v at rings crosses still
+pub record Cleaned (v : BlockPlane) (at : Spot) (old : Decided) (bytes : List ℕ) (count : ℕ) (bits signs : List ℕ) (still left : ℕ) : Type 0 where
+  pub prepared : Prepared v at bits signs still
   pub n : ℕ
   pub begun : n % 8 ≡ 1 → ⊥
   pub coming : Told v 2 at n old (told bytes count)
   pub room : IsSheet bytes (count + 2 * (64 - n))
   pub left_is : (m : ℕ) → m < 64 → on left m ≡ (nat_le n m && codes v.shape (mag v) 2 at.word at.stripe m)
 
-pub cleaned_none : (v : BlockPlane) (at : Spot) (old : Decided) (bytes : List ℕ) (count : ℕ) (rings crosses : List ℕ) (still left : ℕ) → at.stripe < stripes v.shape → Prepared v at rings crosses still
-    → ((m : ℕ) → m < 64 → on left m ≡ codes v.shape (mag v) 2 at.word at.stripe m) → told bytes count ≡ old → IsSheet bytes (count + 128) → Cleaned v at old bytes count rings crosses still left
-cleaned_none v at old bytes count rings crosses still left stripe prepared left_is same room = record {
+pub cleaned_none : (v : BlockPlane) (at : Spot) (old : Decided) (bytes : List ℕ) (count : ℕ) (bits signs : List ℕ) (still left : ℕ) → at.stripe < stripes v.shape → Prepared v at bits signs still
+    → ((m : ℕ) → m < 64 → on left m ≡ codes v.shape (mag v) 2 at.word at.stripe m) → told bytes count ≡ old → IsSheet bytes (count + 128) → Cleaned v at old bytes count bits signs still left
+cleaned_none v at old bytes count bits signs still left stripe prepared left_is same room = record {
   prepared = prepared;
   n = 0;
   begun = λ e. absurd (omega (arith, e));
@@ -55,9 +57,9 @@ cleaned_none v at old bytes count rings crosses still left stripe prepared left_
 }
 
 -- Nothing is listed up to d where no bit before z is left, and no column in run mode begins at z.
-passed : (v : BlockPlane) (at : Spot) (old : Decided) (bytes : List ℕ) (count : ℕ) (rings crosses : List ℕ) (still left : ℕ) (st : Cleaned v at old bytes count rings crosses still left) (z : ℕ) → z ≤ 64 → ((m : ℕ) → m < z → on left m ≡ false)
+passed : (v : BlockPlane) (at : Spot) (old : Decided) (bytes : List ℕ) (count : ℕ) (bits signs : List ℕ) (still left : ℕ) (st : Cleaned v at old bytes count bits signs still left) (z : ℕ) → z ≤ 64 → ((m : ℕ) → m < z → on left m ≡ false)
     → (d : ℕ) → st.n ≤ d → d ≤ z → (d ≡ z → z < 64 → on still z ≡ false) → Told v 2 at d old (told bytes count)
-passed v at old bytes count rings crosses still left st z most clear d from to end =
+passed v at old bytes count bits signs still left st z most clear d from to end =
     told_skip v 2 at st.n d old (told bytes count) st.coming from (omega (arith, to, most)) (λ m a b. record { plain = plain m a b; idle = idle m a (omega (arith, b, to)) })
   where
     j : ℕ
@@ -91,8 +93,8 @@ pub record NextLeft (v : BlockPlane) (at : Spot) (n z : ℕ) : Type 0 where
   pub place : IsPlace v.shape at z
   pub due : codes v.shape (mag v) 2 at.word at.stripe z ≡ true
 
-pub next_left : (v : BlockPlane) (at : Spot) (old : Decided) (bytes : List ℕ) (count : ℕ) (rings crosses : List ℕ) (still left : ℕ) (st : Cleaned v at old bytes count rings crosses still left) → 0 < left → left < 2 ^ 64 → NextLeft v at st.n (trailing_zeros w64 left)
-next_left v at old bytes count rings crosses still left st p q =
+pub next_left : (v : BlockPlane) (at : Spot) (old : Decided) (bytes : List ℕ) (count : ℕ) (bits signs : List ℕ) (still left : ℕ) (st : Cleaned v at old bytes count bits signs still left) → 0 < left → left < 2 ^ 64 → NextLeft v at st.n (trailing_zeros w64 left)
+next_left v at old bytes count bits signs still left st p q =
     let z = trailing_zeros w64 left in
     let l = lowest left p q in
     let both = and_parts (nat_le st.n z) (codes v.shape (mag v) 2 at.word at.stripe z) (sym (st.left_is z l.0) ∙ l.1) in
@@ -110,32 +112,32 @@ later : (z m : ℕ) → nat_le (z + 1) m ≡ nat_lt z m
 later z m = grind (arith, nat_tests)
 
 -- a place was listed
-pub cleaned_place : (v : BlockPlane) (at : Spot) (old : Decided) (bytes bytes' : List ℕ) (count count' : ℕ) (rings crosses : List ℕ) (still left : ℕ) → Cleaned v at old bytes count rings crosses still left → 0 < left → left < 2 ^ 64
+pub cleaned_place : (v : BlockPlane) (at : Spot) (old : Decided) (bytes bytes' : List ℕ) (count count' : ℕ) (bits signs : List ℕ) (still left : ℕ) → Cleaned v at old bytes count bits signs still left → 0 < left → left < 2 ^ 64
     → on still (trailing_zeros w64 left) ≡ false
-    → ((t : ℕ) → IsRing (bordered (lit_at v t)) (column at.word (trailing_zeros w64 left) + 8) (row at.stripe (trailing_zeros w64 left) + 4) (get_or rings (trailing_zeros w64 left % 8 - 1) 0) (trailing_zeros w64 left / 8)
-    → IsCross (bordered (lit_at v t)) (column at.word (trailing_zeros w64 left) + 8) (row at.stripe (trailing_zeros w64 left) + 4) (get_or crosses (trailing_zeros w64 left % 8 - 1) 0) (trailing_zeros w64 left / 8) 0
+    → ((t : ℕ) → SpellsBit v t (column at.word (trailing_zeros w64 left)) (row at.stripe (trailing_zeros w64 left)) (byte_at bits (trailing_zeros w64 left))
+    → SpellsSign v t (column at.word (trailing_zeros w64 left)) (row at.stripe (trailing_zeros w64 left)) (byte_at signs (trailing_zeros w64 left))
     → told bytes' count' ≡ told bytes count ++ new_decisions v.shape (seen v) t (column at.word (trailing_zeros w64 left)) (row at.stripe (trailing_zeros w64 left)))
     → count' ≤ count + 2 → ((n : ℕ) → IsSheet bytes n → IsSheet bytes' n)
-    → Cleaned v at old bytes' count' rings crosses still (bit_and left (left - 1))
-cleaned_place v at old bytes bytes' count count' rings crosses still left st p q off listed few sheet =
+    → Cleaned v at old bytes' count' bits signs still (bit_and left (left - 1))
+cleaned_place v at old bytes bytes' count count' bits signs still left st p q off listed few sheet =
     let z = trailing_zeros w64 left in
     let j = at.word in
     let i = at.stripe in
     let s = v.shape in
     let l = lowest left p q in
-    let next = next_left v at old bytes count rings crosses still left st p q in
+    let next = next_left v at old bytes count bits signs still left st p q in
     let within = next.place.within in
     let row_z = rows_between (z % 8) next.place.on_row in
     let t = moment_at s 2 j i z in
     let list = told bytes count in
     let onward = next.onward in
     let is : told bytes' count' ≡ list ++ place_decisions s (seen v) 2 (column j z) (row i z) =
-    new_place v 2 j i z list (told bytes' count') next.due (λ e. absurd (omega (arith, e))) (listed t (st.prepared.rings_are z within next.place.on_row) (st.prepared.crosses_are z within next.place.on_row)) in
+    new_place v 2 j i z list (told bytes' count') next.due (λ e. absurd (omega (arith, e))) (listed t (st.prepared.bits_are z next.place) (st.prepared.signs_are z next.place)) in
     record {
       prepared = st.prepared;
       n = z + 1;
       begun = λ e. absurd (omega (arith, e, row_z));
-      coming = told_place v 2 at z old list (told bytes' count') (passed v at old bytes count rings crosses still left st z (omega (arith, within)) l.2 z onward (omega arith) (λ _ _. off)) next.place is;
+      coming = told_place v 2 at z old list (told bytes' count') (passed v at old bytes count bits signs still left st z (omega (arith, within)) l.2 z onward (omega arith) (λ _ _. off)) next.place is;
       room = sheet_less bytes' (count + 2 * (64 - st.n)) (count' + 2 * (64 - (z + 1))) (sheet (count + 2 * (64 - st.n)) st.room) (omega (arith, few, onward, within));
       left_is = λ m h. left_rest z m st.n (on left m) (on (bit_and left (left - 1)) m) (codes s (mag v) 2 j i m) next.onward (st.left_is m h) (rest_at left p q m ∙ ap (λ b. b && on left m) (later z m));
     }
@@ -148,14 +150,14 @@ pub record NextRun (v : BlockPlane) (at : Spot) (n z : ℕ) : Type 0 where
   pub rows : 4 * at.stripe + 4 ≤ v.shape.height
   pub run : is_run v.shape (mag v) 2 at.word at.stripe (z / 8) ≡ true
 
-pub next_run : (v : BlockPlane) (at : Spot) (old : Decided) (bytes : List ℕ) (count : ℕ) (rings crosses : List ℕ) (still left : ℕ) (st : Cleaned v at old bytes count rings crosses still left) → 0 < left → left < 2 ^ 64
+pub next_run : (v : BlockPlane) (at : Spot) (old : Decided) (bytes : List ℕ) (count : ℕ) (bits signs : List ℕ) (still left : ℕ) (st : Cleaned v at old bytes count bits signs still left) → 0 < left → left < 2 ^ 64
     → on still (trailing_zeros w64 left) ≡ true → NextRun v at st.n (trailing_zeros w64 left)
 unfolding rows_left
-next_run v at old bytes count rings crosses still left st p q set =
+next_run v at old bytes count bits signs still left st p q set =
     let z = trailing_zeros w64 left in
     let s = v.shape in
     let x = 8 * at.word + z / 8 in
-    let next = next_left v at old bytes count rings crosses still left st p q in
+    let next = next_left v at old bytes count bits signs still left st p q in
     let within = next.place.within in
     let onward = next.onward in
     let begun = st.begun in
@@ -177,25 +179,25 @@ next_run v at old bytes count rings crosses still left st p q set =
     narrow_of x w e = grind (arith, nat_tests)
 
 -- what a call lists of a column in run mode, from the bit of its first row
-pub record RunListed (v : BlockPlane) (at : Spot) (crosses : List ℕ) (z f : ℕ) (bytes bytes' : List ℕ) (count count' : ℕ) : Type 0 where
+pub record RunListed (v : BlockPlane) (at : Spot) (signs : List ℕ) (z f : ℕ) (bytes bytes' : List ℕ) (count count' : ℕ) : Type 0 where
   pub row_is : f ≡ first_one (mag v) (column at.word z) at.stripe
   pub few : f ≤ 4
   pub more : count' ≤ count + 4
   pub sheet : (n : ℕ) → IsSheet bytes n → IsSheet bytes' n
-  pub listed : (t : ℕ) → (f < 4 → IsCross (bordered (lit_at v t)) (column at.word (z + f) + 8) (row at.stripe (z + f) + 4) (get_or crosses ((z + f) % 8 - 1) 0) ((z + f) / 8) 0)
+  pub listed : (t : ℕ) → (f < 4 → decision_of (byte_at signs (z + f)) ≡ sign_decision v.shape (seen v) t (column at.word z) (4 * at.stripe + f))
       → told bytes' count' ≡ told bytes count ++ run_head v.shape (seen v) t (column at.word z) at.stripe f
 
 -- a column was listed up to its first 1
-pub cleaned_run : (v : BlockPlane) (at : Spot) (old : Decided) (bytes bytes' : List ℕ) (count count' : ℕ) (rings crosses : List ℕ) (still left f : ℕ) → Cleaned v at old bytes count rings crosses still left → 0 < left → left < 2 ^ 64
-    → on still (trailing_zeros w64 left) ≡ true → RunListed v at crosses (trailing_zeros w64 left) f bytes bytes' count count'
-    → Cleaned v at old bytes' count' rings crosses still (bit_and left (0xFFFF_FFFF_FFFF_FFFE * 2 ^ (trailing_zeros w64 left + f) % 2 ^ 64))
-cleaned_run v at old bytes bytes' count count' rings crosses still left f st p q set call =
+pub cleaned_run : (v : BlockPlane) (at : Spot) (old : Decided) (bytes bytes' : List ℕ) (count count' : ℕ) (bits signs : List ℕ) (still left f : ℕ) → Cleaned v at old bytes count bits signs still left → 0 < left → left < 2 ^ 64
+    → on still (trailing_zeros w64 left) ≡ true → RunListed v at signs (trailing_zeros w64 left) f bytes bytes' count count'
+    → Cleaned v at old bytes' count' bits signs still (bit_and left (0xFFFF_FFFF_FFFF_FFFE * 2 ^ (trailing_zeros w64 left + f) % 2 ^ 64))
+cleaned_run v at old bytes bytes' count count' bits signs still left f st p q set call =
     let z = trailing_zeros w64 left in
     let j = at.word in
     let i = at.stripe in
     let s = v.shape in
     let l = lowest left p q in
-    let next = next_run v at old bytes count rings crosses still left st p q set in
+    let next = next_run v at old bytes count bits signs still left st p q set in
     let within = l.0 in
     let first = next.first in
     let few = call.few in
@@ -204,7 +206,7 @@ cleaned_run v at old bytes bytes' count count' rings crosses still left f st p q
     let more = call.more in
     let list = told bytes count in
     let t = moment_at s 2 j i (z + f) in
-    let before = passed v at old bytes count rings crosses still left st z (omega (arith, within)) l.2 (z - 1) onward (omega arith) (λ e. absurd (omega (arith, e, first))) in
+    let before = passed v at old bytes count bits signs still left st z (omega (arith, within)) l.2 (z - 1) onward (omega arith) (λ e. absurd (omega (arith, e, first))) in
     let same : (z - 1) / 8 ≡ z / 8 = omega (arith, first) in
     let behind : remaining_at s (seen v) 2 j i (z - 1) ≡ run_head s (seen v) t (column j z) i f ++ remaining_at s (seen v) 2 j i (z + f + 1) =
     remaining_run s (seen v) 2 j i (z - 1) f (run_head s (seen v) t (column j z) i f) (omega (arith, within)) (omega (arith, first)) few (ap (is_run s (mag v) 2 j i) same ∙ next.run)
@@ -221,12 +223,19 @@ cleaned_run v at old bytes bytes' count count' rings crosses still left f st p q
         stripe = before.stripe;
         listed = append_both (old ++ word_decisions s (seen v) 2 j i) list (run_head s (seen v) t (column j z) i f) (remaining_at s (seen v) 2 j i (z - 1)) (remaining_at s (seen v) 2 j i (z + f + 1)) before.listed behind
             ∙ ap (λ (ds : Decided). ds ++ remaining_at s (seen v) 2 j i (z + f + 1))
-            (sym (call.listed t (λ less. st.prepared.crosses_are (z + f) (omega (arith, within, first, less)) (on_rows ((z + f) % 8) (omega (arith, first, less)) (omega (arith, first, less))))));
+            (sym (call.listed t (λ less. st.prepared.signs_are (z + f) (row_place s at z f (next_left v at old bytes count bits signs still left st p q).place first less next.rows)
+            ∙ ap (λ x. sign_decision s (seen v) t x (row i (z + f))) (same_column j z f first less) ∙ ap (sign_decision s (seen v) t (column j z)) (same_row i z f first less))));
       };
       room = sheet_less bytes' (count + 2 * (64 - st.n)) (count' + 2 * (64 - (z + f + 1))) (call.sheet (count + 2 * (64 - st.n)) st.room) (omega (arith, more, onward, within, first, few));
       left_is = λ m h. left_rest (z + f) m st.n (on left m) (on (bit_and left (0xFFFF_FFFF_FFFF_FFFE * 2 ^ (z + f) % 2 ^ 64)) m) (codes s (mag v) 2 j i m) (omega (arith, onward)) (st.left_is m h) (above_bits left (z + f) m h);
     }
   where
+    same_column : (j k f : ℕ) → k % 8 ≡ 1 → f < 4 → column j (k + f) ≡ column j k
+    same_column j k f h l = omega arith
+
+    same_row : (i k f : ℕ) → k % 8 ≡ 1 → f < 4 → row i (k + f) ≡ 4 * i + f
+    same_row i k f h l = omega arith
+
     below_four : (f : ℕ) → f ≤ 4 → nat_eq f 4 ≡ false → f < 4
     below_four f few e = grind (arith, nat_tests)
 
@@ -239,10 +248,10 @@ cleaned_run v at old bytes bytes' count count' rings crosses still left f st p q
         ∙ ap (λ x. 2 * visits v.shape + number v.shape.width x (row i (z + f))) same ∙ ap (λ y. 2 * visits v.shape + number v.shape.width (column j z) y) y
 
 -- nothing is left
-pub cleaned_all : (v : BlockPlane) (at : Spot) (old : Decided) (bytes : List ℕ) (count : ℕ) (rings crosses : List ℕ) (still left : ℕ) → Cleaned v at old bytes count rings crosses still left → left ≡ 0 → told bytes count ≡ old ++ word_decisions v.shape (seen v) 2 at.word at.stripe
-cleaned_all v at old bytes count rings crosses still left st empty =
+pub cleaned_all : (v : BlockPlane) (at : Spot) (old : Decided) (bytes : List ℕ) (count : ℕ) (bits signs : List ℕ) (still left : ℕ) → Cleaned v at old bytes count bits signs still left → left ≡ 0 → told bytes count ≡ old ++ word_decisions v.shape (seen v) 2 at.word at.stripe
+cleaned_all v at old bytes count bits signs still left st empty =
     told_all v 2 at old (told bytes count)
-    (passed v at old bytes count rings crosses still left st 64 (omega arith) (λ m h. ap (λ w. on w m) empty ∙ on_zero m) 64 st.coming.most (omega arith) (λ _ l. absurd (omega (arith, l))))
+    (passed v at old bytes count bits signs still left st 64 (omega arith) (λ m h. ap (λ w. on w m) empty ∙ on_zero m) 64 st.coming.most (omega arith) (λ _ l. absurd (omega (arith, l))))
 
 -- the loop comes to an end: the lowest bit goes up
 pub sooner_run : (left f : ℕ) → 0 < left → left < 2 ^ 64 → 64 - trailing_zeros w64 (bit_and left (0xFFFF_FFFF_FFFF_FFFE * 2 ^ (trailing_zeros w64 left + f) % 2 ^ 64)) < 64 - trailing_zeros w64 left

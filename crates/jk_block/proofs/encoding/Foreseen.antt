@@ -1,6 +1,6 @@
 -- A word listed in the significance propagation pass, where the places that it codes are known
 -- before.
-use Rattle.std.proofs.Common.{◌≡◌, ℕ, ◌+◌, ◌-◌, ◌*◌, ◌/◌, ◌%◌, ◌^◌, ◌<◌, ◌≤◌, Bool, true, false, not, List, get_or, ◌++◌, refl, sym, ap, ◌∙◌, subst, inl, inr, arith}
+use Rattle.std.proofs.Common.{◌≡◌, ℕ, ◌+◌, ◌-◌, ◌*◌, ◌/◌, ◌%◌, ◌^◌, ◌<◌, ◌≤◌, Bool, true, false, not, List, ◌++◌, refl, sym, ap, ◌∙◌, subst, inl, inr, arith}
 use Rattle.std.specs.Prelude.{◌&&◌, ◌||◌, nat_eq, nat_le}
 use Rattle.std.specs.Int.{trailing_zeros, bit_not, w64}
 use Rattle.std.specs.Int.RustNames.{bit_or, bit_and}
@@ -15,19 +15,19 @@ use Rattle.jk_scan.specs.Moments.{stripes}
 use Rattle.jk_scan.specs.Passes.{Decided, is_one, new_decisions}
 use Rattle.jk_scan.specs.Words.{Truths, of_rows, Shows, bordered, is_member}
 use Rattle.jk_scan.specs.WordPlaces.{column, row, also}
-use Rattle.jk_scan.specs.Surroundings.{IsAround}
-use Rattle.jk_scan.specs.RingPlaces.{IsRing, IsCross, Turns}
+use Rattle.jk_scan.specs.Surroundings.{IsAround, Turns}
+use Rattle.jk_scan.specs.WordNumbers.{byte_at}
 use Rattle.jk_scan.proofs.Laws.{lowest, rest_at, taken, on_or, on_and, on_not, on_set, on_zero, on_shl_any, step_is}
 use Rattle.jk_block.specs.encoding.Reached.{is_reached}
 use Rattle.jk_block.specs.Steps.{IsPlace}
 use Rattle.jk_block.specs.declared.encoding.plane.BlockPlane.{BlockPlane}
 use Rattle.jk_block.specs.declared.spot.Spot.{Spot}
-use Rattle.jk_block.specs.encoding.Viewed.{seen, lit_at, negative_in, ShowsSigns, moment_at}
+use Rattle.jk_block.specs.encoding.Viewed.{seen, lit_at, moment_at, SpellsBit, SpellsSign}
 use Rattle.jk_block.proofs.encoding.Coming.{mag, Told, told_none}
 use Rattle.jk_block.proofs.encoding.Propagated.{Awaits, awaits_all, awaits_rest, awaits_more, Propagated, propagated_to, NextSpread, propagated_next, propagated_place, lit_place, one_is}
 use Rattle.jk_block.proofs.encoding.Timing.{codes}
 use Rattle.jk_block.proofs.encoding.Reaching.{reach_same, reach_none, reach_both}
-use Rattle.jk_block.proofs.WordBits.{true_le, is_spread, around_also, place_shifted, none_before}
+use Rattle.jk_block.proofs.WordBits.{true_le, is_spread, around_also, none_before}
 
 is_le : (n m : ℕ) → n ≤ m → nat_le n m ≡ true
 is_le n m h = grind (arith, nat_tests)
@@ -443,68 +443,50 @@ foreseen_all v at old list around inside ones all rest h empty =
       | inr from ↦ no_first (on all m) (on h.candidates m) (on (bit_and inside (bit_not w64 around.centre)) m && is_reached (λ k. nat_le h.n k && (on all k && on ones k)) m) (h.ahead m from l) (none m from l)
     ]
 
--- what is in a byte, by the place itself
-pub ring_here : (f : Truths) (j i z word c : ℕ) → of_rows (z % 8) ≡ true → IsRing f (column (j + 1) z) (row (i + 1) z) word c → IsRing f (column j z + 8) (row i z + 4) word c
-ring_here f j i z word c on_row h =
-    let shifted = place_shifted j i z on_row in
-    subst (λ r. IsRing f (column j z + 8) r word c) shifted.1 (subst (λ x. IsRing f x (row (i + 1) z) word c) shifted.0 h)
+-- The bytes of the decisions of each place, as a word's places are listed: of their bits, and of
+-- their signs.
+abbrev pub HasBits : BlockPlane → Spot → Around → (new : ℕ) → List ℕ → Type 0
+HasBits v at around new bits =
+    (t centre k : ℕ) → IsPlace v.shape at k → centre < 2 ^ 64 → Turns centre new around.centre k → IsAround (bordered (lit_at v t)) at.word at.stripe (with_centre centre around)
+    → SpellsBit v t (column at.word k) (row at.stripe k) (byte_at bits k)
 
-pub cross_here : (f : Truths) (j i z word c o : ℕ) → of_rows (z % 8) ≡ true → IsCross f (column (j + 1) z) (row (i + 1) z) word c o → IsCross f (column j z + 8) (row i z + 4) word c o
-cross_here f j i z word c o on_row h =
-    let shifted = place_shifted j i z on_row in
-    subst (λ r. IsCross f (column j z + 8) r word c o) shifted.1 (subst (λ x. IsCross f x (row (i + 1) z) word c o) shifted.0 h)
+abbrev pub HasSigns : BlockPlane → Spot → Around → (new : ℕ) → List ℕ → Type 0
+HasSigns v at around new signs =
+    (t centre k : ℕ) → IsPlace v.shape at k → centre < 2 ^ 64 → Turns centre new around.centre k → IsAround (bordered (lit_at v t)) at.word at.stripe (with_centre centre around)
+    → SpellsSign v t (column at.word k) (row at.stripe k) (byte_at signs k)
 
--- which of the places beside each place are negative
-pub signs_here : (v : BlockPlane) (at : Spot) (signs : Around) (crosses : List ℕ) → IsAround (bordered (negative_in v)) at.word at.stripe signs
-    → ((f : Truths) (j s k : ℕ) → k < 64 → of_rows (k % 8) ≡ true → IsAround f j s signs → IsCross f (column (j + 1) k) (row (s + 1) k) (get_or crosses (k % 8 - 1) 0) (k / 8) 4) → ShowsSigns v at.word at.stripe crosses
-signs_here v at signs crosses around h k l on_row =
-    cross_here (bordered (negative_in v)) at.word at.stripe k (get_or crosses (k % 8 - 1) 0) (k / 8) 4 on_row (h (bordered (negative_in v)) at.word at.stripe k l on_row around)
-
--- The words of the places around each place, as a word's places are listed.
-abbrev pub HasRings : Around → (new : ℕ) → List ℕ → Type 0
-HasRings around new rings =
-    (f : Truths) (j s centre k : ℕ) → k < 64 → of_rows (k % 8) ≡ true → centre < 2 ^ 64 → Turns centre new around.centre k → IsAround f j s (with_centre centre around)
-    → IsRing f (column (j + 1) k) (row (s + 1) k) (get_or rings (k % 8 - 1) 0) (k / 8)
-
-abbrev pub HasCrosses : Around → (new : ℕ) → List ℕ → Type 0
-HasCrosses around new crosses =
-    (f : Truths) (j s centre k : ℕ) → k < 64 → of_rows (k % 8) ≡ true → centre < 2 ^ 64 → Turns centre new around.centre k → IsAround f j s (with_centre centre around)
-    → IsCross f (column (j + 1) k) (row (s + 1) k) (get_or crosses (k % 8 - 1) 0) (k / 8) 0
-
-pub record Listing (v : BlockPlane) (at : Spot) (old list : Decided) (inside ones all : ℕ) (rings crosses : List ℕ) (rest : ℕ) : Type 0 where
+pub record Listing (v : BlockPlane) (at : Spot) (old list : Decided) (inside ones all : ℕ) (bits signs : List ℕ) (rest : ℕ) : Type 0 where
   pub around : Around
   pub fits : around.centre < 2 ^ 64
   pub foreseen : Foreseen v at old list around inside ones all rest
-  pub rings_are : HasRings around (bit_or around.centre (bit_and all ones)) rings
-  pub crosses_are : HasCrosses around (bit_or around.centre (bit_and all ones)) crosses
+  pub bits_are : HasBits v at around (bit_or around.centre (bit_and all ones)) bits
+  pub signs_are : HasSigns v at around (bit_or around.centre (bit_and all ones)) signs
 
-pub listing_next : (v : BlockPlane) (at : Spot) (old list : Decided) (inside ones all : ℕ) (rings crosses : List ℕ) (rest : ℕ) → Listing v at old list inside ones all rings crosses rest → 0 < rest → rest < 2 ^ 64
+pub listing_next : (v : BlockPlane) (at : Spot) (old list : Decided) (inside ones all : ℕ) (bits signs : List ℕ) (rest : ℕ) → Listing v at old list inside ones all bits signs rest → 0 < rest → rest < 2 ^ 64
     → IsPlace v.shape at (trailing_zeros w64 rest)
-listing_next v at old list inside ones all rings crosses rest h p q = (foreseen_next v at old list h.around inside ones all rest h.foreseen p q).place
+listing_next v at old list inside ones all bits signs rest h p q = (foreseen_next v at old list h.around inside ones all rest h.foreseen p q).place
 
-pub listing_place : (v : BlockPlane) (at : Spot) (old list list' : Decided) (inside ones all : ℕ) (rings crosses : List ℕ) (rest : ℕ) → Listing v at old list inside ones all rings crosses rest → 0 < rest → rest < 2 ^ 64
+pub listing_place : (v : BlockPlane) (at : Spot) (old list list' : Decided) (inside ones all : ℕ) (bits signs : List ℕ) (rest : ℕ) → Listing v at old list inside ones all bits signs rest → 0 < rest → rest < 2 ^ 64
     → inside < 2 ^ 64 → Shows of_rows (bordered (is_inside v.shape)) (at.word + 1) (at.stripe + 1) inside
     → on ones (trailing_zeros w64 rest) ≡ is_one (mag v (column at.word (trailing_zeros w64 rest)) (row at.stripe (trailing_zeros w64 rest)))
-    → ((t : ℕ) → IsRing (bordered (lit_at v t)) (column at.word (trailing_zeros w64 rest) + 8) (row at.stripe (trailing_zeros w64 rest) + 4) (get_or rings (trailing_zeros w64 rest % 8 - 1) 0) (trailing_zeros w64 rest / 8)
-    → IsCross (bordered (lit_at v t)) (column at.word (trailing_zeros w64 rest) + 8) (row at.stripe (trailing_zeros w64 rest) + 4) (get_or crosses (trailing_zeros w64 rest % 8 - 1) 0) (trailing_zeros w64 rest / 8) 0
+    → ((t : ℕ) → SpellsBit v t (column at.word (trailing_zeros w64 rest)) (row at.stripe (trailing_zeros w64 rest)) (byte_at bits (trailing_zeros w64 rest))
+    → SpellsSign v t (column at.word (trailing_zeros w64 rest)) (row at.stripe (trailing_zeros w64 rest)) (byte_at signs (trailing_zeros w64 rest))
     → list' ≡ list ++ new_decisions v.shape (seen v) t (column at.word (trailing_zeros w64 rest)) (row at.stripe (trailing_zeros w64 rest)))
-    → Listing v at old list' inside ones all rings crosses (bit_and rest (rest - 1))
-listing_place v at old list list' inside ones all rings crosses rest h p q inside_fits limits one listed =
+    → Listing v at old list' inside ones all bits signs (bit_and rest (rest - 1))
+listing_place v at old list list' inside ones all bits signs rest h p q inside_fits limits one listed =
     let z = trailing_zeros w64 rest in
     let f = h.foreseen in
-    let place = listing_next v at old list inside ones all rings crosses rest h p q in
+    let place = listing_next v at old list inside ones all bits signs rest h p q in
     let turns = foreseen_turns v at old list h.around inside ones all rest f p q in
     record {
       around = h.around;
       fits = h.fits;
       foreseen = foreseen_place v at old list list' h.around inside ones all rest f p q inside_fits h.fits limits one
-          (λ t shown. listed t
-          (ring_here (bordered (lit_at v t)) at.word at.stripe z (get_or rings (z % 8 - 1) 0) (z / 8) place.on_row (h.rings_are (bordered (lit_at v t)) at.word at.stripe f.centre z place.within place.on_row f.centre_fits turns shown))
-          (cross_here (bordered (lit_at v t)) at.word at.stripe z (get_or crosses (z % 8 - 1) 0) (z / 8) 0 place.on_row (h.crosses_are (bordered (lit_at v t)) at.word at.stripe f.centre z place.within place.on_row f.centre_fits turns shown)));
-      rings_are = h.rings_are;
-      crosses_are = h.crosses_are;
+          (λ t shown. listed t (h.bits_are t f.centre z place f.centre_fits turns shown) (h.signs_are t f.centre z place f.centre_fits turns shown));
+      bits_are = h.bits_are;
+      signs_are = h.signs_are;
     }
 
-pub listing_all : (v : BlockPlane) (at : Spot) (old list : Decided) (inside ones all : ℕ) (rings crosses : List ℕ) (rest : ℕ) → Listing v at old list inside ones all rings crosses rest → rest ≡ 0
+pub listing_all : (v : BlockPlane) (at : Spot) (old list : Decided) (inside ones all : ℕ) (bits signs : List ℕ) (rest : ℕ) → Listing v at old list inside ones all bits signs rest → rest ≡ 0
     → Told v 0 at 64 old list × ((m : ℕ) → m < 64 → on all m ≡ codes v.shape (mag v) 0 at.word at.stripe m)
-listing_all v at old list inside ones all rings crosses rest h empty = foreseen_all v at old list h.around inside ones all rest h.foreseen empty
+listing_all v at old list inside ones all bits signs rest h empty = foreseen_all v at old list h.around inside ones all rest h.foreseen empty

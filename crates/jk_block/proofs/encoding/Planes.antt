@@ -74,13 +74,17 @@ unspread w a h x y =
     none true = refl
     none false = refl
 
+-- the words show a field that is nowhere true
+abbrev IsDark : BlockShape → List ℕ → Type 0
+IsDark s words = (f : Field Bool) → ((x y : ℕ) → f x y ≡ false) → IsDrawn s f words
+
 -- a plane begins, where what is significant is what was before, and nothing is coded
-begun_at : (v : BlockPlane) (t : ℕ) (flags flags' : Flags) → IsLitUpto v.shape (v.plane + 1) (value_of v) flags → flags'.significant ≡ flags.significant → flags'.visited ≡ replicate 774 0
+begun_at : (v : BlockPlane) (t : ℕ) (flags flags' : Flags) → IsLitUpto v.shape (v.plane + 1) (value_of v) flags → flags'.significant ≡ flags.significant → IsDark v.shape flags'.visited
     → ((x y : ℕ) → lit_at v t x y ≡ old (mag v) x y) → ((x y : ℕ) → spread_at v t x y ≡ false) → IsFlagged v t flags'
 begun_at v t flags flags' h e k lit none = record {
   lit = subst (λ ws. IsDrawn v.shape (lit_at v t) ws) (sym e)
       (drawn_same v.shape (λ x y. nat_lt 0 ((plane_at v.shape (v.plane + 1) (value_of v)).magnitude x y)) (lit_at v t) flags.significant (λ x y. sym (lit x y ∙ old_above v x y)) h.lit);
-  coded = subst (λ ws. IsDrawn v.shape (spread_at v t) ws) (sym k) (drawn_none v.shape (spread_at v t) 774 none);
+  coded = k (spread_at v t) none;
 }
 
 and_none : (a b : Bool) → (a && (b && false)) ≡ false
@@ -88,7 +92,7 @@ and_none true true = refl
 and_none true false = refl
 and_none false b = refl
 
-pub begun_plane : (v : BlockPlane) (flags flags' : Flags) → IsLitUpto v.shape (v.plane + 1) (value_of v) flags → flags'.significant ≡ flags.significant → flags'.visited ≡ replicate 774 0 → IsFlagged v (0 * visits v.shape) flags'
+pub begun_plane : (v : BlockPlane) (flags flags' : Flags) → IsLitUpto v.shape (v.plane + 1) (value_of v) flags → flags'.significant ≡ flags.significant → IsDark v.shape flags'.visited → IsFlagged v (0 * visits v.shape) flags'
 begun_plane v flags flags' h e k =
     begun_at v (0 * visits v.shape) flags flags' h e k
     (λ x y. significant_is v.shape (mag v) (0 * visits v.shape) x y ∙ early (old (mag v) x y) (nat_eq (mag v x y) 1) (moment v.shape (mag v) x y) (0 * visits v.shape) (omega arith))
@@ -101,7 +105,7 @@ begun_plane v flags flags' h e k =
     early o e m t z = grind (arith, nat_tests)
 
 -- the highest plane has a cleanup pass alone
-pub begun_top : (v : BlockPlane) (flags flags' : Flags) → IsLitUpto v.shape (v.plane + 1) (value_of v) flags → flags'.significant ≡ flags.significant → flags'.visited ≡ replicate 774 0
+pub begun_top : (v : BlockPlane) (flags flags' : Flags) → IsLitUpto v.shape (v.plane + 1) (value_of v) flags → flags'.significant ≡ flags.significant → IsDark v.shape flags'.visited
     → ((x y : ℕ) → old (mag v) x y ≡ false) → IsFlagged v (2 * visits v.shape) flags'
 begun_top v flags flags' h e k top =
     begun_at v (2 * visits v.shape) flags flags' h e k

@@ -25,7 +25,7 @@ use Rattle.jk_block.specs.declared.spot.Spot.{Spot}
 use Rattle.jk_block.specs.encoding.Viewed.{seen, ShowsOnes}
 use Rattle.jk_block.specs.Steps.{IsPlace}
 use Rattle.jk_block.proofs.Rows.{first_is}
-use Rattle.jk_block.specs.encoding.Slices.{signed, bit_in, IsSliced, IsSlicedTo, IsPlaneWord}
+use Rattle.jk_block.specs.encoding.Slices.{signed, bit_in, IsSliced, IsClearBehind, IsSlicedTo, IsPlaneWord}
 
 -- a byte of a magnitude
 on_byte : (a s k : ℕ) → on (a / 2 ^ s % 2 ^ 8) k ≡ (nat_lt k 8 && on a (s + k))
@@ -81,54 +81,48 @@ slice_shows s vs j y shift count start word high wide ec es h c i p q =
     h c i p q ∙ ap (λ k. nat_lt c count && on (signed (slice_index_or vs k (pos 0))) (shift + i)) (let e : start + c ≡ y * s.width + (8 * j + c) = omega (arith, es) in e)
     ∙ ap (λ b. b && on (signed (value_in s vs (8 * j + c) y)) (shift + i)) (let e : nat_lt c count ≡ (nat_lt (8 * j + c) s.width && nat_lt y s.height) = grind (arith, nat_tests) in e)
 
-pub sliced_none : (s : BlockShape) (shift n : ℕ) (q : Field ℤ) → IsSlicedTo s shift q 0 (replicate n 0)
-sliced_none s shift n q j y c i hj hy p r =
-    ap (λ w. on w (8 * c + i)) (none_at n (y * across s + j) 0) ∙ on_zero (8 * c + i)
-    ∙ (let e : false ≡ nat_lt (y * across s + j) 0 = grind (arith, nat_tests) in ap (λ b. b && bit_in s (shift + i) q (8 * j + c) y) e)
+-- slices of which none has a bit
+pub clear_none : (s : BlockShape) (n : ℕ) (slices : List ℕ) → slices ≡ replicate n 0 → IsClearBehind s slices
+clear_none s n slices e j y c i hj hy p r past = ap (λ (ws : List ℕ). on (get_or ws (y * across s + j) 0) (8 * c + i)) e ∙ ap (λ w. on w (8 * c + i)) (none_at n (y * across s + j) 0) ∙ on_zero (8 * c + i)
   where
     none_at : (n k d : ℕ) → get_or (replicate n d) k d ≡ d
     none_at n k d = elim (cases_lt k n) [ inl less ↦ get_or-replicate n k d d less | inr past ↦ get_or_past (replicate n d) k d (let l = length-replicate n d in omega (arith, l)) ]
 
-pub sliced_more : (s : BlockShape) (shift : ℕ) (q : Field ℤ) (slices : List ℕ) (j y p word : ℕ) → j < across s → p ≡ y * across s + j → p < length slices
-    → ((c i : ℕ) → c < 8 → i < 8 → on word (8 * c + i) ≡ bit_in s (shift + i) q (8 * j + c) y) → IsSlicedTo s shift q p slices → IsSlicedTo s shift q (p + 1) (set slices p word)
-sliced_more s shift q slices j y p word hj ep room shows h j' y' c i hj' hy' a b =
-    let n = y' * across s + j' in
-    elim (cases_lt n p) [
-      | inl before ↦ other n refl (λ e. omega (arith, e, before)) (let e : nat_lt n p ≡ nat_lt n (p + 1) = grind (arith, nat_tests) in e)
-      | inr not_before ↦ elim (cases_lt p n) [
-        | inl after ↦ other n refl (λ e. omega (arith, e, after)) (let e : nat_lt n p ≡ nat_lt n (p + 1) = grind (arith, nat_tests) in e)
-        | inr not_after ↦
-            let e : p ≡ n = omega arith in
-            let one = same_from_place y' j' y j (across s) hj' hj (sym e ∙ ep) in
-            let ey = one.0 in
-            let ej = one.1 in
-            ap (λ k. on (get_or (set slices p word) k 0) (8 * c + i)) (sym e) ∙ ap (λ w. on w (8 * c + i)) (get_or-set_same slices p word 0 room)
-            ∙ shows c i a b ∙ ap (λ k. bit_in s (shift + i) q (8 * k + c) y) (sym ej) ∙ ap (λ k. bit_in s (shift + i) q (8 * j' + c) k) (sym ey)
-            ∙ ap (λ b. b && bit_in s (shift + i) q (8 * j' + c) y') (let e : true ≡ nat_lt n (p + 1) = grind (arith, nat_tests) in e)
-      ]
-    ]
+-- the bits of a row behind the last one
+bit_behind : (s : BlockShape) (b : ℕ) (q : Field ℤ) (x y : ℕ) → s.height ≤ y → bit_in s b q x y ≡ false
+bit_behind s b q x y past = gate (nat_lt x s.width) (on (signed (q x y)) b)
   where
-    other : (n : ℕ) → n ≡ y' * across s + j' → n ≢ p → nat_lt n p ≡ nat_lt n (p + 1) → on (get_or (set slices p word) (y' * across s + j') 0) (8 * c + i) ≡ (nat_lt (y' * across s + j') (p + 1) && bit_in s (shift + i) q (8 * j' + c) y')
-    other n en apart e =
-        ap (λ w. on w (8 * c + i)) (get_or-set_other slices p (y' * across s + j') word 0 (λ g. apart (en ∙ g)))
-        ∙ h j' y' c i hj' hy' a b
-        ∙ ap (λ b. b && bit_in s (shift + i) q (8 * j' + c) y') (ap (λ k. nat_lt k p) (sym en) ∙ e ∙ ap (λ k. nat_lt k (p + 1)) en)
+    gate : (w v : Bool) → ((w && nat_lt y s.height) && v) ≡ false
+    gate w v = grind (arith, nat_tests)
+
+pub clear_sliced : (s : BlockShape) (shift : ℕ) (q : Field ℤ) (slices : List ℕ) → IsSliced s shift q slices → IsClearBehind s slices
+clear_sliced s shift q slices h j y c i hj hy p r past = h j y c i hj hy p r ∙ bit_behind s (shift + i) q (8 * j + c) y past
+
+pub sliced_none : (s : BlockShape) (shift n : ℕ) (q : Field ℤ) (slices : List ℕ) → n ≡ 0 → IsClearBehind s slices → IsSlicedTo s shift q n slices
+sliced_none s shift n q slices e h = record { first = λ j y c i hj hy p r less. absurd (omega (arith, less, e)); behind = h }
+
+pub sliced_more : (s : BlockShape) (shift : ℕ) (q : Field ℤ) (slices : List ℕ) (j y p word : ℕ) → j < across s → y < s.height → p ≡ y * across s + j → p < length slices
+    → ((c i : ℕ) → c < 8 → i < 8 → on word (8 * c + i) ≡ bit_in s (shift + i) q (8 * j + c) y) → IsSlicedTo s shift q p slices → IsSlicedTo s shift q (p + 1) (set slices p word)
+sliced_more s shift q slices j y p word hj high ep room shows h = record {
+  first = λ j' y' c i hj' hy' a b less. elim (cases_lt (y' * across s + j') p) [
+    | inl before ↦ apart j' y' c i (λ e. omega (arith, e, before)) ∙ h.first j' y' c i hj' hy' a b before
+    | inr not_before ↦
+        let e : p ≡ y' * across s + j' = omega (arith, less, not_before) in
+        let one = same_from_place y' j' y j (across s) hj' hj (sym e ∙ ep) in
+        ap (λ k. on (get_or (set slices p word) k 0) (8 * c + i)) (sym e) ∙ ap (λ w. on w (8 * c + i)) (get_or-set_same slices p word 0 room)
+        ∙ shows c i a b ∙ ap (λ k. bit_in s (shift + i) q (8 * k + c) y) (sym one.1) ∙ ap (λ k. bit_in s (shift + i) q (8 * j' + c) k) (sym one.0)
+  ];
+  behind = λ j' y' c i hj' hy' a b past. apart j' y' c i (λ e. let one = same_from_place y' j' y j (across s) hj' hj (e ∙ ep) in let ey = one.0 in omega (arith, ey, past, high)) ∙ h.behind j' y' c i hj' hy' a b past;
+}
+  where
+    apart : (j' y' c i : ℕ) → (y' * across s + j' ≡ p → ⊥) → on (get_or (set slices p word) (y' * across s + j') 0) (8 * c + i) ≡ on (get_or slices (y' * across s + j') 0) (8 * c + i)
+    apart j' y' c i away = ap (λ w. on w (8 * c + i)) (get_or-set_other slices p (y' * across s + j') word 0 away)
 
 pub sliced_all : (s : BlockShape) (shift n : ℕ) (q : Field ℤ) (slices : List ℕ) → n ≡ s.height * across s → IsSlicedTo s shift q n slices → IsSliced s shift q slices
-sliced_all s shift n q slices e h j y c i hj hy p r =
-    h j y c i hj hy p r ∙ gate (nat_lt (y * across s + j) n) (nat_lt (8 * j + c) s.width) (nat_lt y s.height) (on (signed (q (8 * j + c) y)) (shift + i)) (λ l. early l)
-  where
-    gate : (n w h b : Bool) → (h ≡ true → n ≡ true) → (n && ((w && h) && b)) ≡ ((w && h) && b)
-    gate true w h b f = refl
-    gate false true true b f = absurd (let f0 = f refl in cc)
-    gate false true false b f = refl
-    gate false false h b f = refl
-
-    early : nat_lt y s.height ≡ true → nat_lt (y * across s + j) n ≡ true
-    early l =
-        let less : y < s.height = grind (arith, nat_tests) in
-        let m = mul-add-lt y (across s) j s.height less hj in
-        grind (arith, nat_tests, m, e)
+sliced_all s shift n q slices e h j y c i hj hy p r = elim (cases_lt y s.height) [
+  | inl less ↦ h.first j y c i hj hy p r (let m = mul-add-lt y (across s) j s.height less hj in omega (arith, m, e))
+  | inr past ↦ h.behind j y c i hj hy p r past ∙ sym (bit_behind s (shift + i) q (8 * j + c) y past)
+]
 
 -- the bits of a slice, put where a row has its bits
 pub row_bits : (x z b r n i : ℕ) → ((n i : ℕ) → n < 8 → i < 8 → on z (8 * n + i) ≡ (nat_eq i 0 && on x (8 * n + b))) → 1 ≤ r → r < 5 → n < 8 → i < 8 → on (z * 2 ^ r % 2 ^ 64) (8 * n + i) ≡ (nat_eq i r && on x (8 * n + b))

@@ -1,6 +1,6 @@
 -- What is significant as the cleanup pass goes through a word: of the places before the one it has
 -- come to those that are so behind the pass, of the others those that were so before it.
-use Rattle.std.proofs.Common.{◌≡◌, ℕ, zero, suc, ◌+◌, ◌-◌, ◌*◌, ◌/◌, ◌%◌, ◌^◌, ◌<◌, ◌≤◌, Bool, true, false, List, get_or, refl, sym, ap, ◌∙◌, subst, inl, inr, arith}
+use Rattle.std.proofs.Common.{◌≡◌, ℕ, zero, suc, ◌+◌, ◌*◌, ◌/◌, ◌%◌, ◌^◌, ◌<◌, ◌≤◌, Bool, true, false, List, refl, sym, ap, ◌∙◌, subst, inl, inr, arith}
 use Rattle.std.specs.Prelude.{◌&&◌, ◌||◌, nat_eq}
 use Rattle.std.specs.Int.RustNames.{bit_or}
 use Rattle.std.proofs.lemmas.Bool.{cases_lt}
@@ -11,17 +11,18 @@ use Rattle.jk_scan.specs.declared.around.Around.{Around}
 use Rattle.jk_scan.specs.Bits.{on}
 use Rattle.jk_scan.specs.Neighbours.{Field}
 use Rattle.jk_scan.specs.Moments.{stripes}
-use Rattle.jk_scan.specs.Words.{of_rows, bordered}
+use Rattle.jk_scan.specs.Words.{bordered}
 use Rattle.jk_scan.specs.WordPlaces.{column, row}
-use Rattle.jk_scan.specs.Surroundings.{IsAround}
-use Rattle.jk_scan.specs.RingPlaces.{IsRing, IsCross, Turns}
+use Rattle.jk_scan.specs.Surroundings.{IsAround, Turns}
+use Rattle.jk_scan.specs.WordNumbers.{byte_at}
 use Rattle.jk_scan.proofs.Laws.{same_field, on_or, on_set}
 use Rattle.jk_block.specs.declared.encoding.plane.BlockPlane.{BlockPlane}
 use Rattle.jk_block.specs.declared.spot.Spot.{Spot}
-use Rattle.jk_block.specs.encoding.Viewed.{lit_at, moment_at}
+use Rattle.jk_block.specs.Steps.{IsPlace}
+use Rattle.jk_block.specs.encoding.Viewed.{lit_at, moment_at, SpellsBit, SpellsSign}
 use Rattle.jk_block.proofs.encoding.Behind.{becomes, becoming_row}
 use Rattle.jk_block.proofs.encoding.Coming.{mag, mag_outside}
-use Rattle.jk_block.proofs.encoding.Foreseen.{with_centre, HasRings, HasCrosses, ring_here, cross_here}
+use Rattle.jk_block.proofs.encoding.Foreseen.{with_centre, HasBits, HasSigns}
 use Rattle.jk_block.proofs.encoding.Remaining.{is_run}
 use Rattle.jk_block.proofs.Stills.{is_still}
 use Rattle.jk_block.proofs.encoding.Testing.{still_runs}
@@ -123,9 +124,9 @@ turned v at around new stripe fits shown new_is (suc n) most =
 
 -- What is known of each place of a word before the first is listed: what it has around it at its
 -- moment, and which columns are in run mode.
-pub record Prepared (v : BlockPlane) (at : Spot) (rings crosses : List ℕ) (still : ℕ) : Type 0 where
-  pub rings_are : (k : ℕ) → k < 64 → of_rows (k % 8) ≡ true → IsRing (bordered (lit_at v (moment_at v.shape 2 at.word at.stripe k))) (column at.word k + 8) (row at.stripe k + 4) (get_or rings (k % 8 - 1) 0) (k / 8)
-  pub crosses_are : (k : ℕ) → k < 64 → of_rows (k % 8) ≡ true → IsCross (bordered (lit_at v (moment_at v.shape 2 at.word at.stripe k))) (column at.word k + 8) (row at.stripe k + 4) (get_or crosses (k % 8 - 1) 0) (k / 8) 0
+pub record Prepared (v : BlockPlane) (at : Spot) (bits signs : List ℕ) (still : ℕ) : Type 0 where
+  pub bits_are : (k : ℕ) → IsPlace v.shape at k → SpellsBit v (moment_at v.shape 2 at.word at.stripe k) (column at.word k) (row at.stripe k) (byte_at bits k)
+  pub signs_are : (k : ℕ) → IsPlace v.shape at k → SpellsSign v (moment_at v.shape 2 at.word at.stripe k) (column at.word k) (row at.stripe k) (byte_at signs k)
   pub runs_are : (m : ℕ) → m < 64 → on still m ≡ (nat_eq (m % 8) 1 && is_run v.shape (mag v) 2 at.word at.stripe (m / 8))
 
 -- the columns in run mode, each in its turn
@@ -134,17 +135,15 @@ HasRuns v at around new still =
     (f : Field Bool) (centre m : ℕ) → m < 64 → centre < 2 ^ 64 → Turns centre new around.centre (8 * (m / 8)) → IsAround (bordered f) at.word at.stripe (with_centre centre around)
     → on still m ≡ (nat_eq (m % 8) 1 && is_still v.shape f at.word at.stripe (m / 8))
 
-pub prepared : (v : BlockPlane) (at : Spot) (around : Around) (new : ℕ) (rings crosses : List ℕ) (still : ℕ) → ((n : ℕ) → n ≤ 64 → Turned v at around new n)
-    → HasRings around (bit_or around.centre new) rings → HasCrosses around (bit_or around.centre new) crosses → HasRuns v at around (bit_or around.centre new) still → Prepared v at rings crosses still
-prepared v at around new rings crosses still all rings_are crosses_are runs_are = record {
-  rings_are = λ k l on_row.
-      let t = all k (omega (arith, l)) in
-      let f = lit_at v (moment_at v.shape 2 j i k) in
-      ring_here (bordered f) j i k (get_or rings (k % 8 - 1) 0) (k / 8) on_row (rings_are (bordered f) j i t.centre k l on_row t.fits t.turns t.shown);
-  crosses_are = λ k l on_row.
-      let t = all k (omega (arith, l)) in
-      let f = lit_at v (moment_at v.shape 2 j i k) in
-      cross_here (bordered f) j i k (get_or crosses (k % 8 - 1) 0) (k / 8) 0 on_row (crosses_are (bordered f) j i t.centre k l on_row t.fits t.turns t.shown);
+pub prepared : (v : BlockPlane) (at : Spot) (around : Around) (new : ℕ) (bits signs : List ℕ) (still : ℕ) → ((n : ℕ) → n ≤ 64 → Turned v at around new n)
+    → HasBits v at around (bit_or around.centre new) bits → HasSigns v at around (bit_or around.centre new) signs → HasRuns v at around (bit_or around.centre new) still → Prepared v at bits signs still
+prepared v at around new bits signs still all bits_are signs_are runs_are = record {
+  bits_are = λ k place.
+      let t = all k (let l = place.within in omega (arith, l)) in
+      bits_are (moment_at v.shape 2 j i k) t.centre k place t.fits t.turns t.shown;
+  signs_are = λ k place.
+      let t = all k (let l = place.within in omega (arith, l)) in
+      signs_are (moment_at v.shape 2 j i k) t.centre k place t.fits t.turns t.shown;
   runs_are = λ m l.
       let t = all (8 * (m / 8)) (omega (arith, l)) in
       runs_are (lit_at v (moment_at v.shape 2 j i (8 * (m / 8)))) t.centre m l t.fits t.turns t.shown ∙ ap (λ b. nat_eq (m % 8) 1 && b) (still_runs v.shape (mag v) j i (m / 8));

@@ -1,5 +1,6 @@
 -- Slices: one byte of each of eight magnitudes in one number.
-use Rattle.std.specs.Prelude.{◌≡◌, ℕ, ℤ, ◌+◌, ◌*◌, ◌/◌, ◌%◌, ◌^◌, ◌<◌, Bool, true, if◌then◌else◌, ◌&&◌, nat_lt, List}
+use Rattle.std.specs.Prelude.{◌≡◌, ℕ, ℤ, ◌+◌, ◌*◌, ◌/◌, ◌%◌, ◌^◌, ◌<◌, ◌≤◌, Bool, true, false}
+use Rattle.std.specs.Prelude.{if◌then◌else◌, ◌&&◌, nat_lt, List}
 use Rattle.std.specs.Prelude.{get_or, unsigned_abs}
 use Rattle.std.specs.Int.{is_negative}
 use Rattle.std.specs.Int.RustNames.{bit_or}
@@ -39,12 +40,17 @@ IsSliced s shift q slices =
     (j y c i : ℕ) → j < across s → y < 4 * stripes s → c < 8 → i < 8
     → on (get_or slices (y * across s + j) 0) (8 * c + i) ≡ bit_in s (shift + i) q (8 * j + c) y
 
--- The same of the first n slices. The others are zero.
-abbrev pub IsSlicedTo : BlockShape → (shift : ℕ) → Field ℤ → (n : ℕ) → List ℕ → Type 0
-IsSlicedTo s shift q n slices =
-    (j y c i : ℕ) → j < across s → y < 4 * stripes s → c < 8 → i < 8
-    → on (get_or slices (y * across s + j) 0) (8 * c + i)
-    ≡ (nat_lt (y * across s + j) n && bit_in s (shift + i) q (8 * j + c) y)
+-- The slices of rows behind the last one are zero.
+abbrev pub IsClearBehind : BlockShape → List ℕ → Type 0
+IsClearBehind s slices =
+    (j y c i : ℕ) → j < across s → y < 4 * stripes s → c < 8 → i < 8 → s.height ≤ y
+    → on (get_or slices (y * across s + j) 0) (8 * c + i) ≡ false
+
+-- The first n slices are so, and those of rows behind the last one.
+pub record IsSlicedTo (s : BlockShape) (shift : ℕ) (q : Field ℤ) (n : ℕ) (slices : List ℕ) : Type 0 where
+  pub first : (j y c i : ℕ) → j < across s → y < 4 * stripes s → c < 8 → i < 8 → y * across s + j < n
+      → on (get_or slices (y * across s + j) 0) (8 * c + i) ≡ bit_in s (shift + i) q (8 * j + c) y
+  pub behind : IsClearBehind s slices
 
 -- The word shows which of its places have a 1 in bit b.
 abbrev pub IsPlaneWord : BlockShape → (b : ℕ) → Field ℤ → (j i word : ℕ) → Type 0

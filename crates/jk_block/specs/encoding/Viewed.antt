@@ -1,16 +1,16 @@
 -- What words show of a block at a bit-plane while its decisions are listed.
 use Rattle.std.specs.Prelude.{◌≡◌, ◌<◌, ℕ, ◌+◌, ◌-◌, ◌*◌, ◌/◌, ◌%◌, Bool, true, false, ◌&&◌, nat_eq, nat_lt}
-use Rattle.std.specs.Prelude.{nat_le, [], ◌∷◌, List, get_or, ℤ, if◌then◌else◌}
+use Rattle.std.specs.Prelude.{nat_le, [], ◌∷◌, ℤ, if◌then◌else◌}
 use Rattle.jk_scan.specs.declared.shape.BlockShape.{BlockShape}
 use Rattle.jk_scan.specs.Contexts.{run_length, uniform}
-use Rattle.jk_scan.specs.Neighbours.{Field, is_inside}
+use Rattle.jk_scan.specs.Neighbours.{Field, is_inside, zero_at}
 use Rattle.jk_scan.specs.Moments.{number, visits, spread, significant}
 use Rattle.jk_scan.specs.Passes.{Plane, Decided, is_one, joined, sign_decision, column_decisions}
 use Rattle.jk_scan.specs.Bits.{on}
-use Rattle.jk_scan.specs.Words.{of_rows, bordered}
+use Rattle.jk_scan.specs.Words.{of_rows}
 use Rattle.jk_scan.specs.WordPlaces.{column, row}
 use Rattle.jk_scan.specs.Flags.{IsDrawn}
-use Rattle.jk_scan.specs.RingPlaces.{IsCross}
+use Rattle.jk_mqenc.specs.Encoded.{decision_of}
 use Rattle.jk_block.specs.Meaning.{plane_at, value_in}
 use Rattle.jk_block.specs.encoding.Slices.{negative_of}
 use Rattle.jk_block.specs.declared.encoding.plane.BlockPlane.{BlockPlane}
@@ -47,11 +47,14 @@ pub record IsFlagged (v : BlockPlane) (t : ℕ) (flags : Flags) : Type 0 where
 pub record IsLitUpto (s : BlockShape) (b : ℕ) (q : Field ℤ) (flags : Flags) : Type 0 where
   pub lit : IsDrawn s (λ x y. nat_lt 0 ((plane_at s b q).magnitude x y)) flags.significant
 
--- The words show which of the places beside each place of the word j of the stripe i are negative.
-abbrev pub ShowsSigns : BlockPlane → (j i : ℕ) → List ℕ → Type 0
-ShowsSigns v j i crosses =
-    (k : ℕ) → k < 64 → of_rows (k % 8) ≡ true
-    → IsCross (bordered (negative_in v)) (column j k + 8) (row i k + 4) (get_or crosses (k % 8 - 1) 0) (k / 8) 4
+-- The byte spells the decision of the bit of a place that isn't significant at a moment, or that
+-- of its sign.
+abbrev pub SpellsBit : BlockPlane → (t x y byte : ℕ) → Type 0
+SpellsBit v t x y byte =
+    decision_of byte ≡ (zero_at v.shape.orientation (lit_at v t) x y, is_one ((seen v).magnitude x y))
+
+abbrev pub SpellsSign : BlockPlane → (t x y byte : ℕ) → Type 0
+SpellsSign v t x y byte = decision_of byte ≡ sign_decision v.shape (seen v) t x y
 
 -- How many places of a pass come before row r of column c, where r counts from 1 and some places
 -- come before the stripe.

@@ -15,7 +15,8 @@ ghost use Rattle.jk_block.specs.Fields.{number_from, words_of};
 ghost use Rattle.jk_block.specs.decoding.Sketches.{draft_of, progress};
 ghost use Rattle.jk_block.specs.decoding.Eights.{HasBits, IsEight, eight_bit, value_of};
 
-use super::sketch::{Sketch, words_of};
+use super::sketch::Sketch;
+use crate::ages::words_of;
 use jk_math::Fault;
 use jk_scan::{word_place, words_across};
 use std::alloc::Global;

@@ -10,7 +10,9 @@ ghost use Rattle.jk_math.specs.Answer.{Answers};
 ghost use Rattle.jk_math.specs.Memory.{IsMemory};
 ghost use Rattle.jk_model.specs.Decisions.{State};
 ghost use Rattle.jk_mqdec.specs.Standing.{Stands};
+ghost use Rattle.jk_scan.specs.Flags.{IsSized};
 ghost use Rattle.jk_scan.specs.Neighbours.{Field};
+ghost use Rattle.jk_block.specs.Fields.{AreSameWords};
 ghost use Rattle.jk_block.specs.Meaning.{IsBlockMeaning, plane_of, kind_of, value_in, values_of};
 ghost use Rattle.jk_block.specs.Reading.{times, blank, begun, pass_at, block_at};
 ghost use Rattle.jk_block.specs.Steps.{number_of};
@@ -63,14 +65,15 @@ fn begin(sketch: &mut Sketch, pass: Pass)
 }
 
 /// Notes what is significant as the n-th pass begins, if with it a plane begins.
-fn note(ages: &mut Ages, significant: &[u64; WORDS], n: usize)
-    requires { n < 100 }
+fn note(ages: &mut Ages, shape: BlockShape, significant: &[u64; WORDS], n: usize)
+    requires few { n < 100 }
+    requires sized { IsSized shape }
     ensures refined { kind_of n ≡ 0 → ages.new.refined ≡ ages.old.older }
-    ensures older { kind_of n ≡ 0 → ages.new.older ≡ significant.now }
+    ensures older { kind_of n ≡ 0 → AreSameWords shape significant.now ages.new.older }
     ensures kept { (kind_of n ≡ 0 → ⊥) → ages.new ≡ ages.old }
 {
     match pass_of(n) {
-        Pass::Propagation => ages.note(significant),
+        Pass::Propagation => ages.note(shape, significant),
         _ => {}
     }
 }
@@ -119,7 +122,7 @@ fn read_passes(
 {
     let mut ages = Ages::none();
     for n in 0..passes {
-        note(&mut ages, &sketch.significant, n);
+        note(&mut ages, sketch.shape, &sketch.significant, n);
         read_pass(sketch, decoder, ages.refined(), planes, n)?;
     }
     Ok(())

@@ -13,10 +13,10 @@ ghost use Rattle.jk_block.specs.Fields.{lit_of, flagged, words_of, magnitude_of,
 ghost use Rattle.jk_block.specs.Steps.{IsSpot};
 
 use super::sight::Sight;
-use crate::ages::unmarked;
+use crate::ages::{unmarked, words_of};
 use crate::spot::Spot;
 use jk_math::Fault;
-use jk_scan::{BlockShape, WORDS, word_place, words_across};
+use jk_scan::{BlockShape, WORDS, word_place};
 use std::alloc::Global;
 
 /// A block as far as it is read, in words of 32 places: which are significant, which are negative,
@@ -35,15 +35,6 @@ pub struct Sketch {
     ghost room: { length bits.items ≡ planes * words_of shape },
     ghost lit: { IsDrawn shape (lit_of shape (magnitude_of shape planes bits.items)) significant },
     ghost signs: { IsDrawn shape (flagged shape negative) negative },
-}
-
-/// How many words show a block once, with their border.
-pub fn words_of(shape: BlockShape) -> usize
-    requires { IsSized shape }
-    ensures is { result ≡ words_of shape }
-    ensures few { result ≤ 774 }
-{
-    (words_across(shape) + 2) * ((shape.height + 3) / 4 + 2)
 }
 
 /// Words of so many bit-planes, in which no place has a 1.

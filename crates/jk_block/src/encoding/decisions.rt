@@ -1,7 +1,7 @@
 //! The decisions of a pass.
 
 ghost use Rattle.std.specs.Prelude.{◌≡◌, ℕ, [], ◌∷◌, ◌+◌, ◌++◌, List, ◌/◌, ◌<◌, ◌≤◌, IfOk, IfErr, if◌then◌else◌};
-ghost use Rattle.std.specs.Prelude.{replicate};
+ghost use Rattle.std.specs.Prelude.{◌%◌, ◌==◌, replicate};
 ghost use Rattle.jk_math.specs.Memory.{IsMemory};
 ghost use Rattle.jk_model.specs.Decisions.{Decision};
 ghost use Rattle.jk_mqenc.specs.Encoded.{Codes, decision_of};
@@ -76,6 +76,19 @@ pub fn make_room(bytes: &mut Vec<u8>, count: usize) -> Result<(), Fault>
     Ok(())
 }
 
+/// Puts a decision in one byte behind those that are there, and gives how many they are then.
+#[inline(always)]
+pub fn put_byte(bytes: &mut [u8], count: usize, byte: u8) -> usize
+    requires room { IsSheet bytes.old (count + 1) }
+    requires small { byte / 2 < 19 }
+    ensures told { told bytes.new result ≡ told bytes.old count ++ decision_of byte ∷ [] }
+    ensures one { result ≡ count + 1 }
+    ensures sheet { (n : ℕ) → IsSheet bytes.old n → IsSheet bytes.new n }
+{
+    bytes[count] = byte;
+    count + 1
+}
+
 /// Puts a decision behind those that are there, and gives how many they are then.
 #[inline(always)]
 pub fn put_one(bytes: &mut [u8], count: usize, context: u8, bit: bool) -> usize
@@ -89,27 +102,20 @@ pub fn put_one(bytes: &mut [u8], count: usize, context: u8, bit: bool) -> usize
     count + 1
 }
 
-/// The same, and another decision behind it where its bit is 1.
+/// Puts a decision behind those that are there, and another one behind it where its bit is 1.
 #[inline(always)]
-pub fn put_new(
-    bytes: &mut [u8],
-    count: usize,
-    context: u8,
-    bit: bool,
-    next: u8,
-    next_bit: bool,
-) -> usize
+pub fn put_new(bytes: &mut [u8], count: usize, byte: u8, next: u8) -> usize
     requires room { IsSheet bytes.old (count + 2) }
-    requires context { context < 19 }
-    requires next { next < 19 }
+    requires small { byte / 2 < 19 }
+    requires next { next / 2 < 19 }
     ensures told { told bytes.new result
-        ≡ told bytes.old count ++ (context, bit) ∷ (if bit then (next, next_bit) ∷ [] else []) }
+        ≡ told bytes.old count ++ decision_of byte ∷ (if byte % 2 == 1 then decision_of next ∷ [] else []) }
     ensures few { result ≤ count + 2 }
     ensures sheet { (n : ℕ) → IsSheet bytes.old n → IsSheet bytes.new n }
 {
-    bytes[count] = spelled(context, bit);
-    bytes[count + 1] = spelled(next, next_bit);
-    count + 1 + bit as usize
+    bytes[count] = byte;
+    bytes[count + 1] = next;
+    count + 1 + (byte % 2 == 1) as usize
 }
 
 impl DecisionList {

@@ -1,13 +1,13 @@
 //! What is known of the places of a block while it is written.
 
-ghost use Rattle.std.specs.Prelude.{◌≡◌, ℕ, ◌%◌, ◌<◌, true, replicate};
+ghost use Rattle.std.specs.Prelude.{◌≡◌, ℕ, ◌%◌, ◌<◌, true, false, replicate};
 ghost use Rattle.jk_scan.specs.Bits.{on};
 ghost use Rattle.jk_scan.specs.Neighbours.{Field};
 ghost use Rattle.jk_scan.specs.Words.{of_rows};
 ghost use Rattle.jk_scan.specs.Flags.{IsSized, IsDrawn};
 ghost use Rattle.jk_block.specs.Steps.{IsSpot};
 
-use crate::ages::unmarked;
+use crate::ages::{unmark, unmarked};
 use crate::spot::Spot;
 use jk_scan::{BlockShape, WORDS, word_place};
 
@@ -34,11 +34,12 @@ impl Flags {
     }
 
     /// Begins a plane: no place is coded.
-    pub fn begin(&mut self)
+    pub fn begin(&mut self, shape: BlockShape)
+        requires { IsSized shape }
         ensures significant { self.new.significant ≡ self.old.significant }
-        ensures visited { self.new.visited ≡ replicate 774 0 }
+        ensures visited { (f : Field Bool) → ((x y : ℕ) → f x y ≡ false) → IsDrawn shape f self.new.visited }
     {
-        self.visited = unmarked();
+        unmark(shape, &mut self.visited);
     }
 
     /// Flags these places of a word as coded by the significance propagation pass.

@@ -39,7 +39,7 @@ use jk_mqenc::Encoder;
 use jk_scan::BlockShape;
 use passes::write_pass;
 use plane::BlockPlane;
-use slices::{negative_places, sliced};
+use slices::{blank, negative_places, slice_all};
 use std::alloc::Global;
 
 /// A code-block as it is written.
@@ -123,7 +123,7 @@ fn code_plane(
         encoder.new marks.new.items) }
     ensures memory { IfErr result IsMemory }
 {
-    flags.begin();
+    flags.begin(block.shape);
     for n in (3 * above).saturating_sub(2)..3 * above + 1 {
         code_pass(block, flags, pass_of(n as usize), list, encoder, marks)?;
     }
@@ -150,15 +150,17 @@ fn code_planes(
     ensures memory { IfErr result IsMemory }
 {
     let mut flags = Flags::new();
-    let mut slices = sliced(shape, values, planes / 8 * 8);
     let mut ages = Ages::none();
-    let negative = negative_places(shape, values);
+    let mut slices = blank();
+    slice_all(&mut slices, shape, values, 24);
+    let negative = negative_places(&slices, shape);
+    slice_all(&mut slices, shape, values, planes / 8 * 8);
     for above in 0..planes {
         let plane = planes - 1 - above;
         if plane % 8 == 7 {
-            slices = sliced(shape, values, plane - 7);
+            slice_all(&mut slices, shape, values, plane - 7);
         }
-        ages.note(&flags.significant);
+        ages.note(shape, &flags.significant);
         let block = BlockPlane {
             shape,
             values,

@@ -9,6 +9,7 @@ ghost use Rattle.jk_scan.specs.Moments.{stripes};
 ghost use Rattle.jk_scan.specs.Neighbours.{Field};
 ghost use Rattle.jk_block.specs.Meaning.{value_in};
 ghost use Rattle.jk_block.specs.encoding.Slices.{signed, negative_of, negative_to, IsShort, IsSliced, IsSlicedTo};
+ghost use Rattle.jk_block.specs.encoding.Slices.{IsClearBehind};
 ghost use Rattle.jk_block.specs.encoding.Slices.{IsPlaneWord};
 ghost use Rattle.jk_block.specs.Steps.{IsSpot};
 
@@ -82,24 +83,23 @@ fn slice_row(slices: &mut [u64; SLICES], shape: BlockShape, values: &[i32], row:
 }
 
 /// No magnitude has a bit.
-fn blank() -> [u64; SLICES]
+pub fn blank() -> [u64; SLICES]
     ensures { result ≡ replicate 1032 0 }
 {
     [0; SLICES]
 }
 
-/// The slices of a block, of the bytes of its magnitudes from a bit on.
-pub fn sliced(shape: BlockShape, values: &[i32], shift: u32) -> [u64; SLICES]
+/// Makes the slices of a block, of the bytes of its magnitudes from a bit on.
+pub fn slice_all(slices: &mut [u64; SLICES], shape: BlockShape, values: &[i32], shift: u32)
     requires sized { IsSized shape }
     requires whole { length values.now ≡ shape.width * shape.height }
     requires shift { shift < 32 }
-    ensures { IsSliced shape shift (value_in shape values.now) result }
+    requires clear { IsClearBehind shape slices.old }
+    ensures { IsSliced shape shift (value_in shape values.now) slices.new }
 {
-    let mut slices = blank();
     for row in 0..shape.height {
-        slice_row(&mut slices, shape, values, row, shift);
+        slice_row(slices, shape, values, row, shift);
     }
-    slices
 }
 
 /// A bit of each byte of a slice.
@@ -146,17 +146,15 @@ fn mark_negative(slices: &[u64; SLICES], shape: BlockShape, stripe: usize, words
     }
 }
 
-/// The negative places of a block.
-pub fn negative_places(shape: BlockShape, values: &[i32]) -> [u64; WORDS]
-    requires sized { IsSized shape }
-    requires whole { length values.now ≡ shape.width * shape.height }
-    requires short { IsShort shape (value_in shape values.now) }
-    ensures { IsDrawn shape (negative_of shape (value_in shape values.now)) result }
+/// The negative places of a block, by the slices of its highest bytes.
+pub fn negative_places(slices: &[u64; SLICES], shape: BlockShape) -> [u64; WORDS]
+    requires { IsSized shape }
+    ensures { (q : Field ℤ) → IsShort shape q → IsSliced shape 24 q slices.now
+        → IsDrawn shape (negative_of shape q) result }
 {
-    let slices = sliced(shape, values, 24);
     let mut words = unmarked();
     for stripe in 0..(shape.height + 3) / 4 {
-        mark_negative(&slices, shape, stripe, &mut words);
+        mark_negative(slices, shape, stripe, &mut words);
     }
     words
 }

@@ -8,8 +8,7 @@ ghost use Rattle.jk_scan.specs.Bits.{on};
 ghost use Rattle.jk_scan.specs.Neighbours.{Field, is_inside};
 ghost use Rattle.jk_scan.specs.Words.{of_rows, bordered, Shows};
 ghost use Rattle.jk_scan.specs.WordPlaces.{column, row};
-ghost use Rattle.jk_scan.specs.Surroundings.{IsAround};
-ghost use Rattle.jk_scan.specs.RingPlaces.{Turns};
+ghost use Rattle.jk_scan.specs.Surroundings.{IsAround, Turns};
 ghost use Rattle.jk_scan.specs.Flags.{IsSized};
 ghost use Rattle.jk_block.specs.Reading.{is_quiet};
 ghost use Rattle.jk_block.specs.Steps.{IsSpot};
@@ -18,12 +17,12 @@ ghost use Rattle.jk_block.specs.encoding.Viewed.{seen, lit_at, spread_at, IsFlag
 use super::ahead::with_reached;
 use super::decisions::{DecisionList, make_room};
 use super::flags::Flags;
-use super::places::{Surroundings, bit_of, first_row, write_new, write_refined, write_run};
+use super::places::{bit_of, first_row, write_new, write_refined, write_run};
 use super::plane::BlockPlane;
 use crate::spot::Spot;
 use jk_math::Fault;
 use jk_scan::{
-    Around, BlockShape, cross_words, inside, members, quiet_in_turn, ring_words, seen_around,
+    Around, BlockShape, byte_in, decision_bytes, inside, members, quiet_in_turn, seen_around,
     touched_places, word_place,
 };
 
@@ -60,14 +59,7 @@ pub fn write_propagation(
         east: around.east,
     };
     let signs = seen_around(own.negative, own.shape, spot.word, spot.stripe);
-    let rings = ring_words(seen, around.centre);
-    let crosses = cross_words(seen, around.centre, signs);
-    let beside = Surroundings {
-        rings: &rings,
-        crosses: &crosses,
-        signs,
-        ones,
-    };
+    let told = decision_bytes(own.shape.orientation, seen, around.centre, signs, ones);
     flags.visit_all(own.shape, spot, all);
     flags.light_all(own.shape, spot, all & ones);
     make_room(&mut list.bytes, list.count)?;
@@ -77,7 +69,9 @@ pub fn write_propagation(
     while left != 0 {
         let k = left.trailing_zeros();
         left &= left - 1;
-        count = write_new(&own, spot, k, &beside, bytes, count);
+        let bit = byte_in(&told.bits, k);
+        let sign = byte_in(&told.signs, k);
+        count = write_new(bit, sign, bytes, count);
     }
     list.count = count;
     Ok(())
@@ -208,14 +202,7 @@ pub fn write_cleanup(
         east: around.east,
     };
     let signs = seen_around(own.negative, own.shape, spot.word, spot.stripe);
-    let rings = ring_words(seen, before);
-    let crosses = cross_words(seen, before, signs);
-    let beside = Surroundings {
-        rings: &rings,
-        crosses: &crosses,
-        signs,
-        ones,
-    };
+    let told = decision_bytes(own.shape.orientation, seen, before, signs, ones);
     let still = run_columns(own.shape, spot, seen, before, limits);
     flags.light_all(own.shape, spot, new);
     make_room(&mut list.bytes, list.count)?;
@@ -226,10 +213,12 @@ pub fn write_cleanup(
         if bit_of(still, k) {
             let found = first_row(ones, k);
             left &= 0xFFFF_FFFF_FFFF_FFFE << (k + found);
-            count = write_run(&own, spot, k, found, &beside, bytes, count);
+            count = write_run(k, found, &told.signs, bytes, count);
         } else {
             left &= left - 1;
-            count = write_new(&own, spot, k, &beside, bytes, count);
+            let bit = byte_in(&told.bits, k);
+            let sign = byte_in(&told.signs, k);
+            count = write_new(bit, sign, bytes, count);
         }
     }
     list.count = count;

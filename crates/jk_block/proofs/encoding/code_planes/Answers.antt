@@ -6,6 +6,8 @@ use Rattle.jk_block.specs.CodedBlocks.{HasCodedPasses}
 use Rattle.jk_block.specs.encoding.Slices.{IsSliced}
 use Rattle.jk_block.specs.encoding.Viewed.{IsLitUpto}
 use Rattle.jk_block.proofs.encoding.Planes.{short_of, lit_none, top_plane, none_refined, refined_drawn}
+use Rattle.jk_block.proofs.WordDrawing.{drawn_alike}
+use Rattle.jk_block.proofs.encoding.Slicing.{clear_none, clear_sliced}
 use Rattle.jk_block.proofs.encoding.code_planes.Goals as goal
 use Rattle.jk_block.proofs.encoding.code_planes.Goals.{then-plane-eq7, else-plane-eq7}
 
@@ -17,7 +19,7 @@ loop-above-init c =
     record {
       coded = c.requires.before;
       lit = subst (λ b. IsLitUpto s b q c.new-flags.result) (omega arith) (lit_none s planes q c.new-flags.result c.requires.small c.new-flags.ensures.significant);
-      sliced = subst (λ b. IsSliced s (b / 8 * 8) q c.sliced-slices.result) (let e : planes ≡ planes - 0 = omega arith in e) c.sliced-slices.ensures;
+      sliced = subst (λ b. IsSliced s (b / 8 * 8) q c.slice_all-2.new.slices) (let e : planes ≡ planes - 0 = omega arith in e) c.slice_all-2.ensures;
       older = subst (λ b. IsDrawn s (λ x y. nat_lt 0 ((plane_at s (b + 1) q).magnitude x y)) c.none-ages.result.older) (let e : planes ≡ planes - 0 = omega arith in e)
           (none_refined s planes q c.none-ages.result.older c.requires.small c.none-ages.ensures.older);
     }
@@ -31,14 +33,22 @@ invariant_of-block-clause-sliced c =
     elim c.if-plane-eq7.branch [
       | then-plane-eq7 w ↦
           (let e : plane - 7 ≡ plane / 8 * 8 = let r = w.if-plane-eq7.true in omega (arith, r) in
-          subst (λ ws. IsSliced s (plane / 8 * 8) q ws) (sym w.slices-is) (subst (λ b. IsSliced s b q w.sliced-slices-then-plane-eq7.result) e w.sliced-slices-then-plane-eq7.ensures))
+          subst (λ ws. IsSliced s (plane / 8 * 8) q ws) (sym w.slices-is) (subst (λ b. IsSliced s b q w.slice_all-then-plane-eq7.new.slices) e w.slice_all-then-plane-eq7.ensures))
       | else-plane-eq7 w ↦
           (let e : (c.args.planes - l.above) / 8 * 8 ≡ plane / 8 * 8 = let r = w.if-plane-eq7.false in omega (arith, r) in
           subst (λ ws. IsSliced s (plane / 8 * 8) q ws) (sym w.slices-is) (subst (λ b. IsSliced s b q l.slices) e l.invariant.sliced))
     ]
 
-pub negative_places-negative-requires-clause-short : goal.negative_places-negative-requires-clause-short
-negative_places-negative-requires-clause-short c = λ x y i. short_of (unsigned_abs (value_in c.args.shape c.args.values.now x y)) c.args.planes (c.requires.small x y i) c.requires.planes
+pub slice_all-requires-clause-clear : goal.slice_all-requires-clause-clear
+slice_all-requires-clause-clear c = clear_none c.args.shape 1032 c.blank-slices.result c.blank-slices.ensures
+
+pub slice_all-requires-2-clause-clear : goal.slice_all-requires-2-clause-clear
+slice_all-requires-2-clause-clear c = clear_sliced c.args.shape 24 (value_in c.args.shape c.args.values.now) c.slice_all.new.slices c.slice_all.ensures
+
+pub invariant_of-block-clause-signs : goal.invariant_of-block-clause-signs
+invariant_of-block-clause-signs c =
+    let q = value_in c.args.shape c.args.values.now in
+    c.negative_places-negative.ensures q (λ x y i. short_of (unsigned_abs (q x y)) c.args.planes (c.requires.small x y i) c.requires.planes) c.slice_all.ensures
 
 pub invariant_of-block-clause-older : goal.invariant_of-block-clause-older
 invariant_of-block-clause-older c =
@@ -63,7 +73,7 @@ loop-above-preserved c =
     let sliced : IsSliced s (plane / 8 * 8) q c.if-plane-eq7.slices = elim c.if-plane-eq7.branch [
       | then-plane-eq7 w ↦
           (let e : plane - 7 ≡ plane / 8 * 8 = let r = w.if-plane-eq7.true in omega (arith, r) in
-          subst (λ ws. IsSliced s (plane / 8 * 8) q ws) (sym w.slices-is) (subst (λ b. IsSliced s b q w.sliced-slices-then-plane-eq7.result) e w.sliced-slices-then-plane-eq7.ensures))
+          subst (λ ws. IsSliced s (plane / 8 * 8) q ws) (sym w.slices-is) (subst (λ b. IsSliced s b q w.slice_all-then-plane-eq7.new.slices) e w.slice_all-then-plane-eq7.ensures))
       | else-plane-eq7 w ↦
           (let e : (c.args.planes - l.above) / 8 * 8 ≡ plane / 8 * 8 = let r = w.if-plane-eq7.false in omega (arith, r) in
           subst (λ ws. IsSliced s (plane / 8 * 8) q ws) (sym w.slices-is) (subst (λ b. IsSliced s b q l.slices) e l.invariant.sliced))
@@ -72,6 +82,6 @@ loop-above-preserved c =
       coded = subst (λ n. HasCodedPasses s planes n q c.code_plane.new.encoder c.code_plane.new.marks.items) (let e : 3 * l.above + 1 ≡ 3 * (l.above + 1) - 2 = omega arith in e) c.in_ok-code_plane.ensures.after;
       lit = subst (λ b. IsLitUpto s b q c.code_plane.new.flags) (let e : planes - 1 - l.above ≡ planes - (l.above + 1) = omega arith in e) c.in_ok-code_plane.ensures.lit;
       sliced = subst (λ b. IsSliced s (b / 8 * 8) q c.if-plane-eq7.slices) (let e : plane ≡ planes - (l.above + 1) = omega arith in e) sliced;
-      older = subst (λ ws. IsDrawn s (λ x y. nat_lt 0 ((plane_at s (planes - (l.above + 1) + 1) q).magnitude x y)) ws) (sym c.note.ensures.older)
+      older = drawn_alike s (λ x y. nat_lt 0 ((plane_at s (planes - (l.above + 1) + 1) q).magnitude x y)) l.flags.significant c.note.new.self.older c.note.ensures.older
           (subst (λ b. IsDrawn s (λ x y. nat_lt 0 ((plane_at s b q).magnitude x y)) l.flags.significant) (let e : planes - l.above ≡ planes - (l.above + 1) + 1 = omega arith in e) l.invariant.lit.lit);
     }

@@ -17,7 +17,7 @@ loop-word-preserved c =
     let same : p ≡ y * across s + l.word = ap (λ a. y * a + l.word) e in
     let room = row_room s l.word y a e c.requires.sized (omega arith) c.requires.row in
     subst (λ n. IsSlicedTo s c.args.shift (value_in s vs) n (set l.slices p c.slice.result)) (let g : p + 1 ≡ y * across s + (l.word + 1) = omega (arith, same) in g)
-    (sliced_more s c.args.shift (value_in s vs) l.slices l.word y p c.slice.result (omega arith) same (omega (arith, room))
+    (sliced_more s c.args.shift (value_in s vs) l.slices l.word y p c.slice.result (omega arith) c.requires.row same (omega (arith, room))
     (slice_shows s vs l.word y c.args.shift c.min-count.result (y * s.width + 8 * l.word) c.slice.result c.requires.row (omega arith) (omega arith) refl c.slice.ensures)
     (subst (λ n. IsSlicedTo s c.args.shift (value_in s vs) n l.slices) (sym same) l.invariant))
 

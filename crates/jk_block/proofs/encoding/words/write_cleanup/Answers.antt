@@ -1,16 +1,18 @@
-use Rattle.std.proofs.Common.{◌≡◌, ℕ, ◌+◌, ◌-◌, ◌*◌, ◌<◌, ◌%◌, refl, sym, ◌∙◌, arith}
+use Rattle.std.proofs.Common.{◌≡◌, ℕ, ◌+◌, ◌-◌, ◌*◌, ◌<◌, ◌%◌, refl, sym, ap, ◌∙◌, arith}
 use Rattle.std.specs.Int.{trailing_zeros, w64}
-use Rattle.std.specs.Int.RustNames.{bit_and}
+use Rattle.std.specs.Int.RustNames.{bit_and, bit_or}
+use Rattle.jk_mqenc.specs.Encoded.{decision_of}
+use Rattle.jk_scan.specs.WordPlaces.{column, row}
 use Rattle.jk_scan.specs.Bits.{on}
 use Rattle.jk_scan.proofs.Laws.{sooner_zero}
-use Rattle.jk_block.specs.encoding.Viewed.{lit_at, negative_in, moment_at}
+use Rattle.jk_block.specs.encoding.Viewed.{seen, lit_at, negative_in, moment_at}
 use Rattle.jk_block.proofs.encoding.Behind.{becoming, becoming_row, flagged_left}
 use Rattle.jk_block.proofs.encoding.Cleaned.{RunListed, cleaned_none, next_left, cleaned_place, next_run, cleaned_run, cleaned_all, sooner_run}
 use Rattle.jk_block.proofs.encoding.Coming.{mag, told_all}
 use Rattle.jk_block.proofs.encoding.Emptied.{emptied}
-use Rattle.jk_block.proofs.encoding.Foreseen.{signs_here}
 use Rattle.jk_block.proofs.encoding.Sheeted.{sheet_at, sheet_less, sheet_whole, told_at, told_whole}
 use Rattle.jk_block.proofs.encoding.Slicing.{run_row}
+use Rattle.jk_block.proofs.encoding.Spelled.{bits_spelled, signs_spelled}
 use Rattle.jk_block.proofs.encoding.Testing.{left_codes}
 use Rattle.jk_block.proofs.encoding.Timing.{codes}
 use Rattle.jk_block.proofs.encoding.Turned.{turned, prepared}
@@ -42,8 +44,8 @@ loop-left-init c =
     let at = c.args.spot in
     let left = c.uncoded-left.result in
     let ones = c.ones-ones.result in
-    let rings = c.ring_words-rings.result in
-    let crosses = c.cross_words-crosses.result in
+    let bits = c.decision_bytes-told.result.bits in
+    let signs = c.decision_bytes-told.result.signs in
     let still = c.run_columns-still.result in
     let t = moment_at v.shape 2 at.word at.stripe 0 in
     let around = c.seen_around-around.result in
@@ -53,10 +55,11 @@ loop-left-init c =
     let slice = c.deref_mut.result.now in
     let left_is : (m : ℕ) → m < 64 → on left m ≡ codes v.shape (mag v) 2 at.word at.stripe m =
     λ m l. c.uncoded-left.ensures t c.requires.flagged m l ∙ left_codes v.shape (mag v) at.word at.stripe m l in
-    cleaned_none v at c.args.list.now slice n rings crosses still left c.requires.spot.stripe
-    (prepared v at around (bit_and left ones) rings crosses still
+    cleaned_none v at c.args.list.now slice n bits signs still left c.requires.spot.stripe
+    (prepared v at around (bit_and left ones) bits signs still
     (turned v at around (bit_and left ones) c.requires.spot.stripe (omega arith) (c.seen_around-around.ensures (lit_at v t) c.requires.flagged.lit) (becoming v 2 at.word at.stripe left ones refl left_is c.ones-ones.ensures))
-    c.ring_words-rings.ensures c.cross_words-crosses.ensures.places c.run_columns-still.ensures)
+    (bits_spelled v at around (bit_or around.centre (bit_and left ones)) ones bits c.ones-ones.ensures c.decision_bytes-told.ensures.bits)
+    (signs_spelled v at around c.seen_around-signs.result (bit_or around.centre (bit_and left ones)) signs (c.seen_around-signs.ensures (negative_in v) v.signs) c.decision_bytes-told.ensures.signs) c.run_columns-still.ensures)
     left_is (told_at c.list.inside.bytes.items bytes slice n c.args.list.now c.list.view_is made.told c.deref_mut.ensures.value) (sheet_at bytes slice (n + 136) (n + 128) c.deref_mut.ensures.value made.room (omega arith))
 
 early : (z : ℕ) → z < 64 → z % 8 ≡ 1 → z < 60
@@ -67,41 +70,31 @@ first_row-found-requires c =
     let l = c.loop-left in
     let v = c.args.block.now in
     early (trailing_zeros w64 l.left)
-    (next_left v c.args.spot c.args.list.now l.bytes l.count c.ring_words-rings.result c.cross_words-crosses.result c.run_columns-still.result l.left l.invariant (omega arith) (omega arith)).place.within
-    (next_run v c.args.spot c.args.list.now l.bytes l.count c.ring_words-rings.result c.cross_words-crosses.result c.run_columns-still.result l.left l.invariant (omega arith) (omega arith) (sym c.bit_of.ensures ∙ c.if-bit_of.true)).first
+    (next_left v c.args.spot c.args.list.now l.bytes l.count c.decision_bytes-told.result.bits c.decision_bytes-told.result.signs c.run_columns-still.result l.left l.invariant (omega arith) (omega arith)).place.within
+    (next_run v c.args.spot c.args.list.now l.bytes l.count c.decision_bytes-told.result.bits c.decision_bytes-told.result.signs c.run_columns-still.result l.left l.invariant (omega arith) (omega arith) (sym c.bit_of.ensures ∙ c.if-bit_of.true)).first
 
-pub write_run-count-requires-clause-place : goal.write_run-count-requires-clause-place
-write_run-count-requires-clause-place c =
+pub write_run-count-requires-clause-small : goal.write_run-count-requires-clause-small
+write_run-count-requires-clause-small c = c.decision_bytes-told.ensures.small_signs
+
+pub write_run-count-requires-clause-within : goal.write_run-count-requires-clause-within
+write_run-count-requires-clause-within c =
     let l = c.loop-left in
-    (next_left c.args.block.now c.args.spot c.args.list.now l.bytes l.count c.ring_words-rings.result c.cross_words-crosses.result c.run_columns-still.result l.left l.invariant (omega arith) (omega arith)).place
-
-pub write_run-count-requires-clause-signs : goal.write_run-count-requires-clause-signs
-write_run-count-requires-clause-signs c = c.seen_around-signs.ensures (negative_in c.args.block.now) c.args.block.now.signs
-
-pub write_run-count-requires-clause-crosses : goal.write_run-count-requires-clause-crosses
-write_run-count-requires-clause-crosses c =
-    let v = c.args.block.now in
-    signs_here v c.args.spot c.seen_around-signs.result c.cross_words-crosses.result (c.seen_around-signs.ensures (negative_in v) v.signs) c.cross_words-crosses.ensures.signs
+    (next_left c.args.block.now c.args.spot c.args.list.now l.bytes l.count c.decision_bytes-told.result.bits c.decision_bytes-told.result.signs c.run_columns-still.result l.left l.invariant (omega arith) (omega arith)).place.within
 
 pub write_run-count-requires-clause-first : goal.write_run-count-requires-clause-first
 write_run-count-requires-clause-first c =
     let l = c.loop-left in
-    (next_run c.args.block.now c.args.spot c.args.list.now l.bytes l.count c.ring_words-rings.result c.cross_words-crosses.result c.run_columns-still.result l.left l.invariant (omega arith) (omega arith) (sym c.bit_of.ensures ∙ c.if-bit_of.true)).first
-
-pub write_run-count-requires-clause-rows : goal.write_run-count-requires-clause-rows
-write_run-count-requires-clause-rows c =
-    let l = c.loop-left in
-    (next_run c.args.block.now c.args.spot c.args.list.now l.bytes l.count c.ring_words-rings.result c.cross_words-crosses.result c.run_columns-still.result l.left l.invariant (omega arith) (omega arith) (sym c.bit_of.ensures ∙ c.if-bit_of.true)).rows
+    (next_run c.args.block.now c.args.spot c.args.list.now l.bytes l.count c.decision_bytes-told.result.bits c.decision_bytes-told.result.signs c.run_columns-still.result l.left l.invariant (omega arith) (omega arith) (sym c.bit_of.ensures ∙ c.if-bit_of.true)).first
 
 pub write_run-count-requires-clause-room : goal.write_run-count-requires-clause-room
 write_run-count-requires-clause-room c =
     let l = c.loop-left in
     let v = c.args.block.now in
-    let rings = c.ring_words-rings.result in
-    let crosses = c.cross_words-crosses.result in
+    let bits = c.decision_bytes-told.result.bits in
+    let signs = c.decision_bytes-told.result.signs in
     let still = c.run_columns-still.result in
-    let within = (next_left v c.args.spot c.args.list.now l.bytes l.count rings crosses still l.left l.invariant (omega arith) (omega arith)).place.within in
-    let run = next_run v c.args.spot c.args.list.now l.bytes l.count rings crosses still l.left l.invariant (omega arith) (omega arith) (sym c.bit_of.ensures ∙ c.if-bit_of.true) in
+    let within = (next_left v c.args.spot c.args.list.now l.bytes l.count bits signs still l.left l.invariant (omega arith) (omega arith)).place.within in
+    let run = next_run v c.args.spot c.args.list.now l.bytes l.count bits signs still l.left l.invariant (omega arith) (omega arith) (sym c.bit_of.ensures ∙ c.if-bit_of.true) in
     let onward = run.onward in
     let first = run.first in
     sheet_less l.bytes (l.count + 2 * (64 - l.invariant.n)) (l.count + 4) l.invariant.room (omega (arith, within, onward, first))
@@ -114,42 +107,60 @@ loop-left-preserved-then-bit_of c =
     let l = c.loop-left in
     let v = c.args.block.now in
     let at = c.args.spot in
-    let rings = c.ring_words-rings.result in
-    let crosses = c.cross_words-crosses.result in
+    let bits = c.decision_bytes-told.result.bits in
+    let signs = c.decision_bytes-told.result.signs in
     let still = c.run_columns-still.result in
     let ones = c.ones-ones.result in
     let z = trailing_zeros w64 l.left in
     let found = c.first_row-found.result in
     let next = c.write_run-count in
     let set = sym c.bit_of.ensures ∙ c.if-bit_of.true in
-    let within = (next_left v at c.args.list.now l.bytes l.count rings crosses still l.left l.invariant (omega arith) (omega arith)).place.within in
-    let first = (next_run v at c.args.list.now l.bytes l.count rings crosses still l.left l.invariant (omega arith) (omega arith) set).first in
-    let call : RunListed v at crosses z found l.bytes next.new.bytes l.count next.result = record {
+    let within = (next_left v at c.args.list.now l.bytes l.count bits signs still l.left l.invariant (omega arith) (omega arith)).place.within in
+    let first = (next_run v at c.args.list.now l.bytes l.count bits signs still l.left l.invariant (omega arith) (omega arith) set).first in
+    let call : RunListed v at signs z found l.bytes next.new.bytes l.count next.result = record {
       row_is = run_row v at z ones found within first c.ones-ones.ensures c.first_row-found.ensures.value;
       few = c.first_row-found.ensures.few;
       more = next.ensures.few;
       sheet = next.ensures.sheet;
-      listed = next.ensures.listed;
+      listed = λ t sign. next.ensures.listed v.shape (seen v) t (column at.word z) at.stripe sign;
     } in
-    cleaned_run v at c.args.list.now l.bytes next.new.bytes l.count next.result rings crosses still l.left found l.invariant (omega arith) (omega arith) set call
+    cleaned_run v at c.args.list.now l.bytes next.new.bytes l.count next.result bits signs still l.left found l.invariant (omega arith) (omega arith) set call
 
-pub write_new-count-requires-clause-place : goal.write_new-count-requires-clause-place
-write_new-count-requires-clause-place c =
+pub byte_in-bit-requires-clause-within : goal.byte_in-bit-requires-clause-within
+byte_in-bit-requires-clause-within c =
     let l = c.loop-left in
-    (next_left c.args.block.now c.args.spot c.args.list.now l.bytes l.count c.ring_words-rings.result c.cross_words-crosses.result c.run_columns-still.result l.left l.invariant (omega arith) (omega arith)).place
+    (next_left c.args.block.now c.args.spot c.args.list.now l.bytes l.count c.decision_bytes-told.result.bits c.decision_bytes-told.result.signs c.run_columns-still.result l.left l.invariant (omega arith) (omega arith)).place.within
 
-pub write_new-count-requires-clause-signs : goal.write_new-count-requires-clause-signs
-write_new-count-requires-clause-signs c = c.seen_around-signs.ensures (negative_in c.args.block.now) c.args.block.now.signs
+pub byte_in-bit-requires-clause-on_row : goal.byte_in-bit-requires-clause-on_row
+byte_in-bit-requires-clause-on_row c =
+    let l = c.loop-left in
+    (next_left c.args.block.now c.args.spot c.args.list.now l.bytes l.count c.decision_bytes-told.result.bits c.decision_bytes-told.result.signs c.run_columns-still.result l.left l.invariant (omega arith) (omega arith)).place.on_row
 
-pub write_new-count-requires-clause-crosses : goal.write_new-count-requires-clause-crosses
-write_new-count-requires-clause-crosses c =
-    let v = c.args.block.now in
-    signs_here v c.args.spot c.seen_around-signs.result c.cross_words-crosses.result (c.seen_around-signs.ensures (negative_in v) v.signs) c.cross_words-crosses.ensures.signs
+pub byte_in-sign-requires-clause-on_row : goal.byte_in-sign-requires-clause-on_row
+byte_in-sign-requires-clause-on_row c =
+    let l = c.loop-left in
+    (next_left c.args.block.now c.args.spot c.args.list.now l.bytes l.count c.decision_bytes-told.result.bits c.decision_bytes-told.result.signs c.run_columns-still.result l.left l.invariant (omega arith) (omega arith)).place.on_row
+
+pub write_new-count-requires-clause-bit : goal.write_new-count-requires-clause-bit
+write_new-count-requires-clause-bit c =
+    let l = c.loop-left in
+    let place = (next_left c.args.block.now c.args.spot c.args.list.now l.bytes l.count c.decision_bytes-told.result.bits c.decision_bytes-told.result.signs c.run_columns-still.result l.left l.invariant (omega arith) (omega arith)).place in
+    let e = c.byte_in-bit.ensures in
+    let small = c.decision_bytes-told.ensures.small (trailing_zeros w64 l.left) place.within place.on_row in
+    omega (arith, e, small)
+
+pub write_new-count-requires-clause-sign : goal.write_new-count-requires-clause-sign
+write_new-count-requires-clause-sign c =
+    let l = c.loop-left in
+    let place = (next_left c.args.block.now c.args.spot c.args.list.now l.bytes l.count c.decision_bytes-told.result.bits c.decision_bytes-told.result.signs c.run_columns-still.result l.left l.invariant (omega arith) (omega arith)).place in
+    let e = c.byte_in-sign.ensures in
+    let small = c.decision_bytes-told.ensures.small_signs (trailing_zeros w64 l.left) place.within place.on_row in
+    omega (arith, e, small)
 
 pub write_new-count-requires-clause-room : goal.write_new-count-requires-clause-room
 write_new-count-requires-clause-room c =
     let l = c.loop-left in
-    let next = next_left c.args.block.now c.args.spot c.args.list.now l.bytes l.count c.ring_words-rings.result c.cross_words-crosses.result c.run_columns-still.result l.left l.invariant (omega arith) (omega arith) in
+    let next = next_left c.args.block.now c.args.spot c.args.list.now l.bytes l.count c.decision_bytes-told.result.bits c.decision_bytes-told.result.signs c.run_columns-still.result l.left l.invariant (omega arith) (omega arith) in
     let within = next.place.within in
     let onward = next.onward in
     sheet_less l.bytes (l.count + 2 * (64 - l.invariant.n)) (l.count + 2) l.invariant.room (omega (arith, within, onward))
@@ -160,9 +171,13 @@ loop-left-smaller c = sooner_zero c.loop-left.left (omega arith) (omega arith)
 pub loop-left-preserved : goal.loop-left-preserved
 loop-left-preserved c =
     let l = c.loop-left in
+    let v = c.args.block.now in
+    let at = c.args.spot in
+    let z = trailing_zeros w64 l.left in
     let next = c.write_new-count in
-    cleaned_place c.args.block.now c.args.spot c.args.list.now l.bytes next.new.bytes l.count next.result c.ring_words-rings.result c.cross_words-crosses.result c.run_columns-still.result l.left l.invariant (omega arith) (omega arith)
-    (sym c.bit_of.ensures ∙ c.if-bit_of.false) next.ensures.listed next.ensures.few next.ensures.sheet
+    cleaned_place c.args.block.now c.args.spot c.args.list.now l.bytes next.new.bytes l.count next.result c.decision_bytes-told.result.bits c.decision_bytes-told.result.signs c.run_columns-still.result l.left l.invariant (omega arith) (omega arith)
+    (sym c.bit_of.ensures ∙ c.if-bit_of.false)
+    (λ t bit sign. next.ensures.listed v.shape (seen v) t (column at.word z) (row at.stripe z) (ap decision_of c.byte_in-bit.ensures ∙ bit) (ap decision_of c.byte_in-sign.ensures ∙ sign)) next.ensures.few next.ensures.sheet
 
 pub invariant_of-list-2 : goal.invariant_of-list-2
 invariant_of-list-2 c =
@@ -183,4 +198,4 @@ returns-clause-listed c =
     let l = c.loop-left in
     let vector = c.make_room.new.bytes in
     told_whole vector.items l.bytes vector.len l.count (omega arith)
-    ∙ cleaned_all c.args.block.now c.args.spot c.args.list.now l.bytes l.count c.ring_words-rings.result c.cross_words-crosses.result c.run_columns-still.result l.left l.invariant (omega arith)
+    ∙ cleaned_all c.args.block.now c.args.spot c.args.list.now l.bytes l.count c.decision_bytes-told.result.bits c.decision_bytes-told.result.signs c.run_columns-still.result l.left l.invariant (omega arith)

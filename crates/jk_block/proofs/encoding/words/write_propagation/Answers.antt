@@ -1,7 +1,9 @@
-use Rattle.std.proofs.Common.{◌+◌, ◌-◌, ◌*◌, sym, ◌∙◌, subst, arith}
+use Rattle.std.proofs.Common.{◌+◌, ◌-◌, ◌*◌, sym, ap, ◌∙◌, subst, arith}
 use Rattle.std.specs.Int.{bit_not, trailing_zeros, w64}
 use Rattle.std.specs.Prelude.{◌&&◌}
-use Rattle.std.specs.Int.RustNames.{bit_and}
+use Rattle.std.specs.Int.RustNames.{bit_and, bit_or}
+use Rattle.jk_mqenc.specs.Encoded.{decision_of}
+use Rattle.jk_scan.specs.WordPlaces.{column, row}
 use Rattle.jk_scan.specs.Bits.{on}
 use Rattle.jk_scan.specs.Neighbours.{is_inside}
 use Rattle.jk_scan.specs.Words.{bordered, is_member}
@@ -9,14 +11,15 @@ use Rattle.jk_scan.specs.Flags.{IsDrawn}
 use Rattle.jk_scan.proofs.Laws.{sooner_zero}
 use Rattle.jk_block.specs.encoding.Reached.{is_reached}
 use Rattle.jk_block.specs.encoding.Sheets.{told}
-use Rattle.jk_block.specs.encoding.Viewed.{lit_at, negative_in, moment_at}
+use Rattle.jk_block.specs.encoding.Viewed.{seen, lit_at, negative_in, moment_at}
 use Rattle.jk_block.specs.Fields.{with_word}
 use Rattle.jk_block.proofs.encoding.Behind.{flagged_spread}
 use Rattle.jk_block.proofs.encoding.Coming.{told_all}
-use Rattle.jk_block.proofs.encoding.Foreseen.{Listing, foreseen_none, all_rows, some_rows, listing_next, listing_place, listing_all, signs_here}
+use Rattle.jk_block.proofs.encoding.Foreseen.{Listing, foreseen_none, all_rows, some_rows, listing_next, listing_place, listing_all}
 use Rattle.jk_block.proofs.encoding.Propagated.{propagated_empty}
 use Rattle.jk_block.proofs.encoding.Sheeted.{sheet_at, sheet_less, sheet_whole, told_at, told_whole}
 use Rattle.jk_block.proofs.encoding.Slicing.{one_at}
+use Rattle.jk_block.proofs.encoding.Spelled.{bits_spelled, signs_spelled}
 use Rattle.jk_block.proofs.encoding.words.write_propagation.Goals as goal
 
 pub returns-then-candidates-eq0-clause-flagged : goal.returns-then-candidates-eq0-clause-flagged
@@ -76,7 +79,7 @@ loop-left-init c =
     let bytes = c.make_room.new.bytes.items in
     let slice = c.deref_mut.result.now in
     record {
-      listing = subst (λ ds. Listing v at c.args.list.now ds c.inside-limits.result c.ones-ones.result all c.ring_words-rings.result c.cross_words-crosses.result all)
+      listing = subst (λ ds. Listing v at c.args.list.now ds c.inside-limits.result c.ones-ones.result all c.decision_bytes-told.result.bits c.decision_bytes-told.result.signs all)
           (sym (told_at c.list.inside.bytes.items bytes slice n c.args.list.now c.list.view_is made.told c.deref_mut.ensures.value))
           (record {
             around = c.seen_around-around.result;
@@ -85,8 +88,9 @@ loop-left-init c =
                 (omega arith) (omega arith) around
                 (c.members-candidates.ensures (bordered f) (bordered (is_inside v.shape)) at.word at.stripe around c.inside-limits.ensures)
                 c.with_reached-all.ensures;
-            rings_are = c.ring_words-rings.ensures;
-            crosses_are = c.cross_words-crosses.ensures.places;
+            bits_are = bits_spelled v at c.seen_around-around.result (bit_or c.seen_around-around.result.centre (bit_and all c.ones-ones.result)) c.ones-ones.result c.decision_bytes-told.result.bits c.ones-ones.ensures c.decision_bytes-told.ensures.bits;
+            signs_are = signs_spelled v at c.seen_around-around.result c.seen_around-signs.result (bit_or c.seen_around-around.result.centre (bit_and all c.ones-ones.result)) c.decision_bytes-told.result.signs
+                (c.seen_around-signs.ensures (negative_in v) v.signs) c.decision_bytes-told.ensures.signs;
           });
       room = sheet_at bytes slice (n + 136) (n + 2 * (64 - trailing_zeros w64 all)) c.deref_mut.ensures.value made.room (omega arith);
     }
@@ -94,18 +98,36 @@ loop-left-init c =
 pub loop-left-smaller : goal.loop-left-smaller
 loop-left-smaller c = sooner_zero c.loop-left.left (omega arith) (omega arith)
 
-pub write_new-count-requires-clause-place : goal.write_new-count-requires-clause-place
-write_new-count-requires-clause-place c =
+pub byte_in-bit-requires-clause-within : goal.byte_in-bit-requires-clause-within
+byte_in-bit-requires-clause-within c =
     let l = c.loop-left in
-    listing_next c.args.block.now c.args.spot c.args.list.now (told l.bytes l.count) c.inside-limits.result c.ones-ones.result c.with_reached-all.result c.ring_words-rings.result c.cross_words-crosses.result l.left l.invariant.listing (omega arith) (omega arith)
+    (listing_next c.args.block.now c.args.spot c.args.list.now (told l.bytes l.count) c.inside-limits.result c.ones-ones.result c.with_reached-all.result c.decision_bytes-told.result.bits c.decision_bytes-told.result.signs l.left l.invariant.listing (omega arith) (omega arith)).within
 
-pub write_new-count-requires-clause-signs : goal.write_new-count-requires-clause-signs
-write_new-count-requires-clause-signs c = c.seen_around-signs.ensures (negative_in c.args.block.now) c.args.block.now.signs
+pub byte_in-bit-requires-clause-on_row : goal.byte_in-bit-requires-clause-on_row
+byte_in-bit-requires-clause-on_row c =
+    let l = c.loop-left in
+    (listing_next c.args.block.now c.args.spot c.args.list.now (told l.bytes l.count) c.inside-limits.result c.ones-ones.result c.with_reached-all.result c.decision_bytes-told.result.bits c.decision_bytes-told.result.signs l.left l.invariant.listing (omega arith) (omega arith)).on_row
 
-pub write_new-count-requires-clause-crosses : goal.write_new-count-requires-clause-crosses
-write_new-count-requires-clause-crosses c =
-    let v = c.args.block.now in
-    signs_here v c.args.spot c.seen_around-signs.result c.cross_words-crosses.result (c.seen_around-signs.ensures (negative_in v) v.signs) c.cross_words-crosses.ensures.signs
+pub byte_in-sign-requires-clause-on_row : goal.byte_in-sign-requires-clause-on_row
+byte_in-sign-requires-clause-on_row c =
+    let l = c.loop-left in
+    (listing_next c.args.block.now c.args.spot c.args.list.now (told l.bytes l.count) c.inside-limits.result c.ones-ones.result c.with_reached-all.result c.decision_bytes-told.result.bits c.decision_bytes-told.result.signs l.left l.invariant.listing (omega arith) (omega arith)).on_row
+
+pub write_new-count-requires-clause-bit : goal.write_new-count-requires-clause-bit
+write_new-count-requires-clause-bit c =
+    let l = c.loop-left in
+    let place = listing_next c.args.block.now c.args.spot c.args.list.now (told l.bytes l.count) c.inside-limits.result c.ones-ones.result c.with_reached-all.result c.decision_bytes-told.result.bits c.decision_bytes-told.result.signs l.left l.invariant.listing (omega arith) (omega arith) in
+    let e = c.byte_in-bit.ensures in
+    let small = c.decision_bytes-told.ensures.small (trailing_zeros w64 l.left) place.within place.on_row in
+    omega (arith, e, small)
+
+pub write_new-count-requires-clause-sign : goal.write_new-count-requires-clause-sign
+write_new-count-requires-clause-sign c =
+    let l = c.loop-left in
+    let place = listing_next c.args.block.now c.args.spot c.args.list.now (told l.bytes l.count) c.inside-limits.result c.ones-ones.result c.with_reached-all.result c.decision_bytes-told.result.bits c.decision_bytes-told.result.signs l.left l.invariant.listing (omega arith) (omega arith) in
+    let e = c.byte_in-sign.ensures in
+    let small = c.decision_bytes-told.ensures.small_signs (trailing_zeros w64 l.left) place.within place.on_row in
+    omega (arith, e, small)
 
 pub write_new-count-requires-clause-room : goal.write_new-count-requires-clause-room
 write_new-count-requires-clause-room c =
@@ -122,10 +144,11 @@ loop-left-preserved c =
     let z = trailing_zeros w64 l.left in
     let next = c.write_new-count in
     let less = sooner_zero l.left (omega arith) (omega arith) in
-    let place = listing_next v at c.args.list.now (told l.bytes l.count) c.inside-limits.result ones c.with_reached-all.result c.ring_words-rings.result c.cross_words-crosses.result l.left l.invariant.listing (omega arith) (omega arith) in
+    let place = listing_next v at c.args.list.now (told l.bytes l.count) c.inside-limits.result ones c.with_reached-all.result c.decision_bytes-told.result.bits c.decision_bytes-told.result.signs l.left l.invariant.listing (omega arith) (omega arith) in
     record {
-      listing = listing_place v at c.args.list.now (told l.bytes l.count) (told next.new.bytes next.result) c.inside-limits.result ones c.with_reached-all.result c.ring_words-rings.result c.cross_words-crosses.result l.left l.invariant.listing
-          (omega arith) (omega arith) (omega arith) c.inside-limits.ensures (one_at v at z ones place c.ones-ones.ensures) next.ensures.listed;
+      listing = listing_place v at c.args.list.now (told l.bytes l.count) (told next.new.bytes next.result) c.inside-limits.result ones c.with_reached-all.result c.decision_bytes-told.result.bits c.decision_bytes-told.result.signs l.left l.invariant.listing
+          (omega arith) (omega arith) (omega arith) c.inside-limits.ensures (one_at v at z ones place c.ones-ones.ensures)
+          (λ t bit sign. next.ensures.listed v.shape (seen v) t (column at.word z) (row at.stripe z) (ap decision_of c.byte_in-bit.ensures ∙ bit) (ap decision_of c.byte_in-sign.ensures ∙ sign));
       room = sheet_less next.new.bytes (l.count + 2 * (64 - z)) (next.result + 2 * (64 - trailing_zeros w64 (bit_and l.left (l.left - 1)))) (next.ensures.sheet (l.count + 2 * (64 - z)) l.invariant.room)
           (let few = next.ensures.few in omega (arith, less, few));
     }
@@ -140,7 +163,7 @@ pub returns-clause-flagged : goal.returns-clause-flagged
 returns-clause-flagged c =
     let l = c.loop-left in
     let v = c.args.block.now in
-    let end = listing_all v c.args.spot c.args.list.now (told l.bytes l.count) c.inside-limits.result c.ones-ones.result c.with_reached-all.result c.ring_words-rings.result c.cross_words-crosses.result l.left l.invariant.listing (omega arith) in
+    let end = listing_all v c.args.spot c.args.list.now (told l.bytes l.count) c.inside-limits.result c.ones-ones.result c.with_reached-all.result c.decision_bytes-told.result.bits c.decision_bytes-told.result.signs l.left l.invariant.listing (omega arith) in
     flagged_spread v c.args.spot c.with_reached-all.result c.ones-ones.result c.args.flags.now c.light_all.new.self c.requires.spot.stripe end.1 c.ones-ones.ensures c.requires.flagged
     (λ f drawn. c.light_all.ensures.lit f (subst (λ ws. IsDrawn v.shape f ws) (sym c.visit_all.ensures.significant) drawn))
     (λ f drawn. subst (λ ws. IsDrawn v.shape (with_word f c.args.spot.word c.args.spot.stripe c.with_reached-all.result) ws) (sym c.light_all.ensures.visited) (c.visit_all.ensures.visited f drawn))
@@ -151,4 +174,4 @@ returns-clause-listed c =
     let vector = c.make_room.new.bytes in
     told_whole vector.items l.bytes vector.len l.count (omega arith)
     ∙ told_all c.args.block.now 0 c.args.spot c.args.list.now (told l.bytes l.count)
-    (listing_all c.args.block.now c.args.spot c.args.list.now (told l.bytes l.count) c.inside-limits.result c.ones-ones.result c.with_reached-all.result c.ring_words-rings.result c.cross_words-crosses.result l.left l.invariant.listing (omega arith)).0
+    (listing_all c.args.block.now c.args.spot c.args.list.now (told l.bytes l.count) c.inside-limits.result c.ones-ones.result c.with_reached-all.result c.decision_bytes-told.result.bits c.decision_bytes-told.result.signs l.left l.invariant.listing (omega arith)).0

@@ -6,7 +6,7 @@ use Rattle.jk_block.proofs.encoding.words.write_propagation.Given as goal
 
 abbrev pub invariant-loop-left : goal.invariant-loop-left
 invariant-loop-left l = record {
-  listing : Listing l.block l.spot l.fn.list (told l.bytes l.count) l.limits l.ones l.all l.beside.rings.now l.beside.crosses.now l.left;
+  listing : Listing l.block l.fn.spot l.fn.list (told l.bytes l.count) l.limits l.ones l.all l.told.bits l.told.signs l.left;
   room : IsSheet l.bytes (l.count + 2 * (64 - trailing_zeros w64 l.left));
 }
 
