@@ -1,11 +1,14 @@
 //! The calls that the tests make, without their contracts: a test says what is answered, and proves
 //! nothing by it.
 
+use jk_farm::Gate;
 use jk_marks::Order;
 use jk_math::{Fault, Image};
 use jk_params::{Container, Parameters};
 use std::alloc::Global;
 use std::io::Write;
+use std::marker::Sync;
+use std::thread::Threads;
 
 /// One layer, LRCP, blocks of 64 by 64, no precinct sizes, tiles, markers or colour transform; a
 /// bare codestream.
@@ -31,6 +34,17 @@ pub(crate) fn encode(
     parameters: &Parameters,
 ) -> Result<Vec<u8>, Fault> {
     jk_code::encode(alloc, image, parameters)
+}
+
+pub(crate) fn encode_with<R: Threads + Sync, G: Gate + Sync>(
+    rt: &R,
+    alloc: Global,
+    workers: usize,
+    gate: &G,
+    image: &Image,
+    parameters: &Parameters,
+) -> Result<Vec<u8>, Fault> {
+    jk_code::encode_with(rt, alloc, workers, gate, image, parameters)
 }
 
 pub(crate) fn encode_into<W: Write>(

@@ -35,3 +35,5 @@ mod values;
 mod writers;
 #[cfg(test)]
 mod written;
+#[cfg(test)]
+mod written_with;

@@ -114,7 +114,7 @@ fn one_square(rt: HostRuntime) -> Result<(), Fail> {
 }
 
 /// No levels, the colour transform, and blocks of this size.
-fn in_colour(alloc: Global, block: u8) -> Parameters {
+pub(crate) fn in_colour(alloc: Global, block: u8) -> Parameters {
     let mut asked = plain(alloc, 0);
     asked.colour = true;
     asked.xcb = block;
@@ -181,7 +181,7 @@ fn extremes(rt: HostRuntime) -> Result<(), Fail> {
 }
 
 /// The samples of an image in tiles.
-fn tiled_samples(alloc: Global) -> Result<Vec<u8>, Fail> {
+pub(crate) fn tiled_samples(alloc: Global) -> Result<Vec<u8>, Fail> {
     let mut samples = Vec::new(alloc);
     for y in 0..13_u8 {
         for x in 0..17_u8 {
@@ -192,13 +192,19 @@ fn tiled_samples(alloc: Global) -> Result<Vec<u8>, Fail> {
     Ok(samples)
 }
 
-/// The file of nine tiles in this order has this checksum.
-fn has_checksum(rt: &impl Abort, alloc: Global, order: Order, sum: u32) -> Result<(), Fail> {
-    let pnm = pnm_of(alloc, "P5\n17 13\n255\n", &tiled_samples(alloc)?)?;
+/// One level, this order, tiles of 8 by 8, and precincts of 2 by 2 and 4 by 4.
+pub(crate) fn in_tiles(alloc: Global, order: Order) -> Result<Parameters, Fail> {
     let mut asked = plain(alloc, 1);
     asked.order = order;
     asked.tile = Some((8, 8));
     asked.precincts.extend_from_slice(&[(1, 1), (2, 2)])?;
+    Ok(asked)
+}
+
+/// The file of nine tiles in this order has this checksum.
+fn has_checksum(rt: &impl Abort, alloc: Global, order: Order, sum: u32) -> Result<(), Fail> {
+    let pnm = pnm_of(alloc, "P5\n17 13\n255\n", &tiled_samples(alloc)?)?;
+    let asked = in_tiles(alloc, order)?;
     let found = measure(alloc, &pnm, (3, 5), &asked)?;
     equal_at(rt, order, found, (576, sum));
     Ok(())
