@@ -7,6 +7,7 @@ use std::alloc::Global;
 use std::process::Abort;
 use std::str::Split;
 use std::test::Fail;
+use std::thread::Threads;
 use vectors::bytes_of;
 
 /// A PGM file of one pixel, 128.
@@ -68,20 +69,24 @@ fn words(alloc: Global, line: &str) -> Result<Vec<String>, Fail> {
 }
 
 /// Runs a command line.
-pub(crate) fn run_line(alloc: Global, world: &mut Memory, line: &str) -> Result<Status, Fail> {
+pub(crate) fn run_line<R: Threads + Sync>(
+    alloc: Global,
+    world: &mut Memory<'_, R>,
+    line: &str,
+) -> Result<Status, Fail> {
     let words = words(alloc, line)?;
     Ok(run(alloc, &words, world))
 }
 
 /// Runs a command line over an input, which must write an output and nothing else.
-pub(crate) fn check_output(
-    rt: &impl Abort,
+pub(crate) fn check_output<R: Abort + Threads + Sync>(
+    rt: &R,
     alloc: Global,
     line: &str,
     input: &[&str],
     output: &[&str],
 ) -> Result<(), Fail> {
-    let mut world = Memory::new(alloc, bytes_of(alloc, input)?);
+    let mut world = Memory::new(rt, alloc, bytes_of(alloc, input)?);
     let status = run_line(alloc, &mut world, line)?;
     assert_eq!(rt; status, Status::Done, "{line}");
     let wanted = bytes_of(alloc, output)?;
@@ -92,14 +97,14 @@ pub(crate) fn check_output(
 
 /// Runs a command line over an input and a folder `d` with a file `c.jp2` that isn't listed, which
 /// must answer a fault and write nothing.
-fn check_fault(
-    rt: &impl Abort,
+fn check_fault<R: Abort + Threads + Sync>(
+    rt: &R,
     alloc: Global,
     line: &str,
     input: &str,
     error: &str,
 ) -> Result<(), Fail> {
-    let mut world = Memory::new(alloc, bytes_of(alloc, &[input])?);
+    let mut world = Memory::new(rt, alloc, bytes_of(alloc, &[input])?);
     let mut shelf = MemoryShelf::new(alloc);
     shelf.write(alloc, "c.jp2", &[0xFF])?;
     world.folders.insert(String::from_str(alloc, "d")?, shelf)?;
@@ -195,9 +200,13 @@ fn commands_write_their_output(rt: HostRuntime) -> Result<(), Fail> {
         STEPS,
         "FF90 000A 0000 0000000F 00 01 FF93 00 FFD9",
     ];
-    check_output(&rt, alloc, "encode - - --levels 0", &[GREY], &pixel)?;
-    check_output(&rt, alloc, "decode - -", &pixel, &[GREY])?;
-    check_output(&rt, alloc, "decode - -", &[COLUMN], &[COLUMN_TEXT])?;
+    for line in ["encode - - --levels 0", "encode - - --levels 0 --workers 2"] {
+        check_output(&rt, alloc, line, &[GREY], &pixel)?;
+    }
+    for line in ["decode - -", "decode - - --workers 3"] {
+        check_output(&rt, alloc, line, &pixel, &[GREY])?;
+        check_output(&rt, alloc, line, &[COLUMN], &[COLUMN_TEXT])?;
+    }
     check_output(
         &rt,
         alloc,
@@ -246,6 +255,11 @@ fn windows_are_decoded(rt: HostRuntime) -> Result<(), Fail> {
 /// the input, its grammar, its place, the output; where an image is added, of options, the input,
 /// its grammar, the folder, the name, the place.
 static FAULTS: &str = "\
+encode no - --workers 0||F15 BadParameters
+decode no a/b --workers 65||F15 BadParameters
+decode - a/b --workers 2 --reduce 2|column|F16 BadWindow
+encode - a/b --workers 2|5035|F14 BadPnm
+encode - a/b --workers 2||F20 Shelf
 encode no - --layers 65536||F15 BadParameters
 encode no - --tile-width 1||F15 BadParameters
 encode no - --precincts 1g||F15 BadParameters
@@ -282,6 +296,7 @@ serve no --port 0||F20 Shelf";
 
 /// The same of lines that ask for the cause, which stands behind the fault.
 static CAUSES: &str = "\
+decode - - --explain --workers 65||F15 BadParameters|--workers is 65, and may be 1 to 64
 encode - - --explain --levels 6||F15 BadParameters|--levels is 6, and may be 0 to 5
 encode - - --explain --tile-width 3||F15 BadParameters|--tile-width is given without --tile-height
 encode - - --explain --block-x 7||F15 BadParameters|\
@@ -337,7 +352,7 @@ fn causes_are_told(rt: HostRuntime) -> Result<(), Fail> {
 #[test]
 fn archives_grow(rt: HostRuntime) -> Result<(), Fail> {
     let alloc = rt.alloc();
-    let mut world = Memory::new(alloc, bytes_of(alloc, &[GREY])?);
+    let mut world = Memory::new(&rt, alloc, bytes_of(alloc, &[GREY])?);
     let mut shelf = MemoryShelf::new(alloc);
     let bare = bytes_of(alloc, &[COLUMN])?;
     shelf.write(alloc, "c.jp2", &bare)?;
@@ -413,14 +428,14 @@ info - --all=1
 fn lines_are_judged(rt: HostRuntime) -> Result<(), Fail> {
     let alloc = rt.alloc();
     for line in WRONG.split('\n') {
-        let mut world = Memory::new(alloc, bytes_of(alloc, &[GREY])?);
+        let mut world = Memory::new(&rt, alloc, bytes_of(alloc, &[GREY])?);
         let status = run_line(alloc, &mut world, line)?;
         assert_eq!(rt; status, Status::WrongLine, "{line}");
         assert_eq!(rt; world.output.len(), 0, "{line}");
         assert!(rt; !world.error.is_empty(), "{line}");
     }
     for line in ["--help", "--version", "encode --help", "faults"] {
-        let mut world = Memory::new(alloc, bytes_of(alloc, &[GREY])?);
+        let mut world = Memory::new(&rt, alloc, bytes_of(alloc, &[GREY])?);
         assert_eq!(rt; run_line(alloc, &mut world, line)?, Status::Done, "{line}");
         assert!(rt; !world.output.is_empty(), "{line}");
         assert_eq!(rt; world.error.len(), 0, "{line}");

@@ -7,10 +7,12 @@ use std::alloc::Global;
 use std::collections::BTreeMap;
 use std::fmt::Display;
 use std::io::{self, ErrorKind, Write};
+use std::thread::Threads;
 
 /// Files, folders and streams in memory.
 #[derive(Drop)]
-pub(crate) struct Memory {
+pub(crate) struct Memory<'a, R> {
+    rt: &'a R,
     pub(crate) alloc: Global,
     pub(crate) files: BTreeMap<String, Vec<u8>>,
     pub(crate) folders: BTreeMap<String, MemoryShelf>,
@@ -22,10 +24,11 @@ pub(crate) struct Memory {
     said: Option<io::Error>,
 }
 
-impl Memory {
-    /// A world of this standard input.
-    pub(crate) fn new(alloc: Global, input: Vec<u8>) -> Memory {
+impl<'a, R> Memory<'a, R> {
+    /// A world of this runtime and this standard input.
+    pub(crate) fn new(rt: &'a R, alloc: Global, input: Vec<u8>) -> Memory<'a, R> {
         Memory {
+            rt,
             alloc,
             files: BTreeMap::new(alloc),
             folders: BTreeMap::new(alloc),
@@ -78,10 +81,16 @@ impl Write for Written {
     }
 }
 
-impl World for Memory {
+impl<'a, R: Threads + Sync> World for Memory<'a, R> {
     type Folder = MemoryShelf;
 
     type Output = Written;
+
+    type Runtime = R;
+
+    fn runtime(&self) -> &R {
+        self.rt
+    }
 
     fn read(&mut self, alloc: Global, name: &str) -> Result<Vec<u8>, Fault> {
         if name == "-" {

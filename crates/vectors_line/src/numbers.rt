@@ -28,7 +28,7 @@ fn negative_numbers_are_values(rt: HostRuntime) -> Result<(), Fail> {
         let Some((line, wanted)) = row.split_once('|') else {
             return Err("a line and its refusal".into());
         };
-        let mut world = Memory::new(alloc, bytes_of(alloc, &[GREY])?);
+        let mut world = Memory::new(&rt, alloc, bytes_of(alloc, &[GREY])?);
         let status = run_line(alloc, &mut world, line)?;
         assert_eq!(rt; status, Status::WrongLine, "{line}");
         assert_eq!(rt; world.output.len(), 0, "{line}");
@@ -46,7 +46,7 @@ fn negative_numbers_are_values(rt: HostRuntime) -> Result<(), Fail> {
 #[test]
 fn negative_precincts_are_judged(rt: HostRuntime) -> Result<(), Fail> {
     let alloc = rt.alloc();
-    let mut world = Memory::new(alloc, bytes_of(alloc, &[GREY])?);
+    let mut world = Memory::new(&rt, alloc, bytes_of(alloc, &[GREY])?);
     let line = "encode - - --explain --precincts -1";
     assert_eq!(rt; run_line(alloc, &mut world, line)?, Status::Refused);
     assert!(rt;

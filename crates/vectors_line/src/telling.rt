@@ -6,6 +6,7 @@ use jk_line::Status;
 use std::alloc::Global;
 use std::process::Abort;
 use std::test::Fail;
+use std::thread::Threads;
 use vectors::bytes_of;
 
 /// The lines of a JP2 file of the grey pixel without levels.
@@ -100,8 +101,13 @@ static SIX_OPTIONS: &str =
     "--levels 1 --sop --eph --precincts 4556 --tile-width 2 --tile-height 4 --block-x 5 --block-y 4";
 
 /// What a command line writes of an input.
-fn written(rt: &impl Abort, alloc: Global, line: &str, input: Vec<u8>) -> Result<Vec<u8>, Fail> {
-    let mut world = Memory::new(alloc, input);
+fn written<R: Abort + Threads + Sync>(
+    rt: &R,
+    alloc: Global,
+    line: &str,
+    input: Vec<u8>,
+) -> Result<Vec<u8>, Fail> {
+    let mut world = Memory::new(rt, alloc, input);
     let status = run_line(alloc, &mut world, line)?;
     assert_eq!(rt; status, Status::Done, "{line}: {}", world.error);
     assert_eq!(rt; world.error.len(), 0, "{line}");
@@ -109,7 +115,12 @@ fn written(rt: &impl Abort, alloc: Global, line: &str, input: Vec<u8>) -> Result
 }
 
 /// Checks the lines of a file.
-fn check_lines(rt: &impl Abort, alloc: Global, file: &[&str], lines: &str) -> Result<(), Fail> {
+fn check_lines<R: Abort + Threads + Sync>(
+    rt: &R,
+    alloc: Global,
+    file: &[&str],
+    lines: &str,
+) -> Result<(), Fail> {
     let told = written(rt, alloc, "info - --all", bytes_of(alloc, file)?)?;
     let text = String::from_utf8(told).map_err(|_| "the lines are text")?;
     assert!(rt; text.as_str() == lines, "{text}");
