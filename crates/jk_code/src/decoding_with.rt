@@ -10,6 +10,7 @@ ghost use Rattle.jk_math.specs.declared.fault.Fault.TheVariants.{BadParameters};
 ghost use Rattle.jk_marks.specs.Siz.{tile_count};
 ghost use Rattle.jk_geom.specs.Rectangles.{IsArea};
 ghost use Rattle.jk_params.specs.Headers.{AreHeaders};
+ghost use Rattle.jk_tile.specs.decoding.Decoded.{AreDecoded};
 ghost use Rattle.jk_window.specs.Views.{HaveLevels, frame_of};
 ghost use Rattle.jk_code.specs.Meaning.{Means};
 ghost use Rattle.jk_code.specs.MeaningReading.{tiles_tested, planes_of_tiles, picture_at, image_at, meaning_at};
@@ -21,9 +22,10 @@ use crate::decoding::{all_packets, all_planes, image_of};
 use crate::reduction::check_reduction;
 use crate::stripes::{Cut, cut_for, join, stripe, stripe_planes};
 use jk_boxes::open;
-use jk_farm::Gate;
+use jk_farm::{Gate, Open};
 use jk_math::{Fault, Image, Rect};
 use jk_params::{Codestream, read_codestream};
+use jk_tile::{DecodedBlocks, decode_blocks_with};
 use jk_walk::TilePackets;
 use std::alloc::Global;
 use std::thread;
@@ -40,6 +42,7 @@ fn told_planes<G: Gate>(
     area: &Rect,
     cut: Cut,
     number: usize,
+    decoded: &DecodedBlocks,
 ) -> Result<Vec<Vec<i32>>, Fault>
     requires sound { AreHeaders (length bytes.now) headers.now }
     requires packets { AreRead bytes.now headers.now (tile_count headers.now.siz) packets.now }
@@ -48,6 +51,7 @@ fn told_planes<G: Gate>(
     requires frame { IsArea area.now }
     requires few { reduce ≤ 10 }
     requires number { number < 64 }
+    requires decoded { AreDecoded bytes.now decoded.now }
     ensures exact { Answers (λ _. tt) result
         (seen_parts_tested bytes.now headers.now reduce (stripe_of area.now cut number) (tile_count headers.now.siz)) }
     ensures planes { IfOk result
@@ -55,7 +59,7 @@ fn told_planes<G: Gate>(
 {
     gate.began(number);
     let stripe = stripe(area, cut, number);
-    let planes = stripe_planes(alloc, headers, bytes, packets, reduce, &stripe);
+    let planes = stripe_planes(alloc, headers, bytes, packets, reduce, &stripe, decoded);
     gate.ended(number);
     planes
 }
@@ -71,8 +75,62 @@ fn collected<X: Drop>(alloc: Global, parts: Vec<Result<X, Fault>>) -> Result<Vec
     Ok(all)
 }
 
-/// The planes of the image, in stripes that are decoded side by side. Where one of them has a
-/// fault, the image is decoded again by this thread alone, whose first fault is answered.
+/// The planes of the image, in stripes that are made side by side, of code-blocks that were decoded
+/// before and of small ones. Where one of them has a fault, the image is decoded again by this
+/// thread alone, whose first fault is answered.
+fn stripes_with<R: Threads + Sync, G: Gate + Sync>(
+    rt: &R,
+    alloc: Global,
+    workers: usize,
+    gate: &G,
+    headers: &Codestream,
+    bytes: &[u8],
+    packets: &[TilePackets],
+    reduce: u8,
+    area: &Rect,
+    decoded: DecodedBlocks,
+) -> Result<Vec<Vec<i32>>, Fault>
+    requires some { 1 ≤ workers }
+    requires few_workers { workers ≤ 64 }
+    requires sound { AreHeaders (length bytes.now) headers.now }
+    requires packets { AreRead bytes.now headers.now (tile_count headers.now.siz) packets.now }
+    requires levels { HaveLevels headers.now reduce }
+    requires area { area.now ≡ frame_of headers.now reduce }
+    requires frame { IsArea area.now }
+    requires few { reduce ≤ 10 }
+    requires decoded { AreDecoded bytes.now decoded }
+    ensures exact { Answers (λ _. tt) result (tiles_tested bytes.now headers.now reduce (tile_count headers.now.siz)) }
+    ensures planes { IfOk result (λ v. lists_of v.items ≡ planes_of_tiles bytes.now headers.now reduce area.now) }
+{
+    let cut = cut_for(headers, reduce, area, workers);
+    let planes_of = |number: usize| -> Result<Vec<Vec<i32>>, Fault>
+        requires { IsSync G.row × AreHeaders (length bytes.now) headers.now
+            × AreRead bytes.now headers.now (tile_count headers.now.siz) packets.now
+            × HaveLevels headers.now reduce × (area.now ≡ frame_of headers.now reduce)
+            × IsArea area.now × (reduce ≤ 10) × (number < 64) × AreDecoded bytes.now decoded }
+        ensures exact { Answers (λ _. tt) result
+            (seen_parts_tested bytes.entry.now headers.entry.now reduce (stripe_of area.entry.now cut number)
+            (tile_count headers.entry.now.siz)) }
+        ensures planes { IfOk result
+            (λ v. lists_of v.items
+            ≡ planes_of_tiles bytes.entry.now headers.entry.now reduce (stripe_of area.entry.now cut number)) }
+    {
+        told_planes::<G>(
+            alloc, gate, headers, bytes, packets, reduce, area, cut, number, &decoded,
+        )
+    };
+    let stripes = thread::map_indices(rt, alloc, cut.count, &planes_of)?;
+    drop(decoded);
+    match collected(alloc, stripes) {
+        Ok(stripes) => join(alloc, headers.siz().components, area, stripes),
+        Err(Fault::Memory(refused)) => Err(Fault::Memory(refused)),
+        Err(_) => all_planes(alloc, headers, bytes, packets, reduce, area),
+    }
+}
+
+/// The planes of the image: its code-blocks are decoded side by side, and then stripes of it are
+/// made of them side by side. Where a code-block has a fault, the image is decoded again by this
+/// thread alone, whose first fault is answered.
 fn planes_with<R: Threads + Sync, G: Gate + Sync>(
     rt: &R,
     alloc: Global,
@@ -95,26 +153,13 @@ fn planes_with<R: Threads + Sync, G: Gate + Sync>(
     ensures exact { Answers (λ _. tt) result (tiles_tested bytes.now headers.now reduce (tile_count headers.now.siz)) }
     ensures planes { IfOk result (λ v. lists_of v.items ≡ planes_of_tiles bytes.now headers.now reduce area.now) }
 {
-    let cut = cut_for(headers, reduce, area, workers);
-    let planes_of = |number: usize| -> Result<Vec<Vec<i32>>, Fault>
-        requires { IsSync G.row × AreHeaders (length bytes.now) headers.now
-            × AreRead bytes.now headers.now (tile_count headers.now.siz) packets.now
-            × HaveLevels headers.now reduce × (area.now ≡ frame_of headers.now reduce)
-            × IsArea area.now × (reduce ≤ 10) × (number < 64) }
-        ensures exact { Answers (λ _. tt) result
-            (seen_parts_tested bytes.entry.now headers.entry.now reduce (stripe_of area.entry.now cut number)
-            (tile_count headers.entry.now.siz)) }
-        ensures planes { IfOk result
-            (λ v. lists_of v.items
-            ≡ planes_of_tiles bytes.entry.now headers.entry.now reduce (stripe_of area.entry.now cut number)) }
-    {
-        told_planes::<G>(
-            alloc, gate, headers, bytes, packets, reduce, area, cut, number,
-        )
-    };
-    let stripes = thread::map_indices(rt, alloc, cut.count, &planes_of)?;
-    match collected(alloc, stripes) {
-        Ok(stripes) => join(alloc, headers.siz().components, area, stripes),
+    let decoded = decode_blocks_with::<R, Open>(
+        rt, alloc, workers, &Open, headers, bytes, packets, reduce,
+    );
+    match decoded {
+        Ok(decoded) => stripes_with::<R, G>(
+            rt, alloc, workers, gate, headers, bytes, packets, reduce, area, decoded,
+        ),
         Err(Fault::Memory(refused)) => Err(Fault::Memory(refused)),
         Err(_) => all_planes(alloc, headers, bytes, packets, reduce, area),
     }
@@ -198,10 +243,10 @@ fn meaning_with<R: Threads + Sync, G: Gate + Sync>(
 /// The image that a file means at a reduction, decoded by so many workers side by side as far as
 /// threads can be had: what [`decode`](crate::decode) gives, and its first fault.
 ///
-/// The reduced image is cut into a stripe of rows for each worker, which decodes its stripe alone;
-/// a code-block on which two of them depend is decoded by both. The gate is told of the stripes, from
-/// the first to the last, as jobs. A file with a fault in a code-block is decoded a second time, by
-/// one thread.
+/// All code-blocks but small ones are decoded first, each by the worker that is the next to have
+/// nothing to do. Then the reduced image is cut into a stripe of rows for each worker, which makes
+/// its stripe of them alone. The gate is told of the stripes, from the first to the last, as jobs. A
+/// file with a fault in a code-block is decoded a second time, by one thread.
 ///
 /// BadParameters, before all else: less than one worker or more than 64.
 pub fn decode_with<R: Threads + Sync, G: Gate + Sync>(

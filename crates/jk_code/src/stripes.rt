@@ -1,4 +1,5 @@
-//! An image in stripes of rows, one below the other, which are decoded each by itself.
+//! An image in stripes of rows, one below the other, which are made each by itself, of code-blocks
+//! that were decoded before or are decoded now.
 
 ghost use Rattle.std.specs.Prelude.{◌≡◌, ℕ, ◌+◌, ◌*◌, ◌-◌, ◌^◌, ◌<◌, ◌≤◌, ◌++◌, List, [], length, map, false};
 ghost use Rattle.std.specs.Prelude.{IfOk, IfErr, OnOk};
@@ -11,6 +12,7 @@ ghost use Rattle.jk_marks.specs.Siz.{tile_count};
 ghost use Rattle.jk_geom.specs.Rectangles.{IsArea, is_empty};
 ghost use Rattle.jk_params.specs.Headers.{AreHeaders};
 ghost use Rattle.jk_tile.specs.Filling.{IsPartOf};
+ghost use Rattle.jk_tile.specs.decoding.Decoded.{AreDecoded};
 ghost use Rattle.jk_window.specs.Views.{HaveLevels, frame_of};
 ghost use Rattle.jk_code.specs.MeaningReading.{planes_of_tiles};
 ghost use Rattle.jk_code.specs.Stripes.{bound_of, stripe_of, joined_planes};
@@ -22,7 +24,7 @@ use crate::viewing::{show_tile, shown};
 use jk_geom::{is_empty, touches};
 use jk_math::{Fault, Rect};
 use jk_params::Codestream;
-use jk_tile::decode_part;
+use jk_tile::{DecodedBlocks, decode_part_of};
 use jk_walk::TilePackets;
 use std::alloc::Global;
 
@@ -127,10 +129,12 @@ fn stripe_of_one(
     packets: &[TilePackets],
     reduce: u8,
     stripe: &Rect,
+    decoded: &DecodedBlocks,
 ) -> Result<Vec<Vec<i32>>, Fault>
     requires sound { AreHeaders (length bytes.now) headers.now }
     requires one { tile_count headers.now.siz ≡ 1 }
     requires packets { AreRead bytes.now headers.now (tile_count headers.now.siz) packets.now }
+    requires decoded { AreDecoded bytes.now decoded.now }
     requires levels { HaveLevels headers.now reduce }
     requires few { reduce ≤ 10 }
     requires some { is_empty stripe.now ≡ false }
@@ -139,7 +143,16 @@ fn stripe_of_one(
         (seen_parts_tested bytes.now headers.now reduce stripe.now (tile_count headers.now.siz)) }
     ensures planes { IfOk result (λ v. lists_of v.items ≡ planes_of_tiles bytes.now headers.now reduce stripe.now) }
 {
-    decode_part(alloc, headers, bytes, 0, &packets[0], reduce, stripe)
+    decode_part_of(
+        alloc,
+        headers,
+        bytes,
+        0,
+        &packets[0],
+        reduce,
+        stripe,
+        decoded,
+    )
 }
 
 /// The planes of a stripe, tile by tile.
@@ -150,9 +163,11 @@ fn stripe_of_tiles(
     packets: &[TilePackets],
     reduce: u8,
     stripe: &Rect,
+    decoded: &DecodedBlocks,
 ) -> Result<Vec<Vec<i32>>, Fault>
     requires sound { AreHeaders (length bytes.now) headers.now }
     requires packets { AreRead bytes.now headers.now (tile_count headers.now.siz) packets.now }
+    requires decoded { AreDecoded bytes.now decoded.now }
     requires levels { HaveLevels headers.now reduce }
     requires few { reduce ≤ 10 }
     requires stripe { IsArea stripe.now }
@@ -172,6 +187,7 @@ fn stripe_of_tiles(
                 number,
                 reduce,
                 stripe,
+                decoded,
                 &mut planes,
             )?;
         }
@@ -187,9 +203,11 @@ pub(crate) fn stripe_planes(
     packets: &[TilePackets],
     reduce: u8,
     stripe: &Rect,
+    decoded: &DecodedBlocks,
 ) -> Result<Vec<Vec<i32>>, Fault>
     requires sound { AreHeaders (length bytes.now) headers.now }
     requires packets { AreRead bytes.now headers.now (tile_count headers.now.siz) packets.now }
+    requires decoded { AreDecoded bytes.now decoded.now }
     requires levels { HaveLevels headers.now reduce }
     requires few { reduce ≤ 10 }
     requires stripe { IsArea stripe.now }
@@ -199,9 +217,9 @@ pub(crate) fn stripe_planes(
     ensures planes { IfOk result (λ v. lists_of v.items ≡ planes_of_tiles bytes.now headers.now reduce stripe.now) }
 {
     if headers.tile_count() == 1 && !is_empty(stripe) {
-        stripe_of_one(alloc, headers, bytes, packets, reduce, stripe)
+        stripe_of_one(alloc, headers, bytes, packets, reduce, stripe, decoded)
     } else {
-        stripe_of_tiles(alloc, headers, bytes, packets, reduce, stripe)
+        stripe_of_tiles(alloc, headers, bytes, packets, reduce, stripe, decoded)
     }
 }
 

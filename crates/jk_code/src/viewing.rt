@@ -10,6 +10,7 @@ ghost use Rattle.jk_params.specs.Headers.{AreHeaders};
 ghost use Rattle.jk_walk.specs.WalkReading.{packets_at};
 ghost use Rattle.jk_tile.specs.Filling.{IsPartOf};
 ghost use Rattle.jk_tile.specs.TileMeaning.{shown_area};
+ghost use Rattle.jk_tile.specs.decoding.Decoded.{AreDecoded};
 ghost use Rattle.jk_tile.specs.decoding.TileReading.{tested, part_planes_at};
 ghost use Rattle.jk_window.specs.Indexing.{IsIndexOf};
 ghost use Rattle.jk_window.specs.Views.{HaveLevels, frame_of};
@@ -26,7 +27,7 @@ use jk_boxes::open;
 use jk_geom::{meet, reduced, tile, touches};
 use jk_math::{Fault, Image, Rect};
 use jk_params::{Codestream, read_codestream};
-use jk_tile::decode_part;
+use jk_tile::{DecodedBlocks, decode_part_of};
 use jk_walk::{TilePackets, read_packets};
 use jk_window::{Index, View, window_area};
 use std::alloc::Global;
@@ -79,10 +80,12 @@ pub(crate) fn show_tile(
     number: usize,
     reduce: u8,
     window: &Rect,
+    decoded: &DecodedBlocks,
     planes: &mut Vec<Vec<i32>>,
 ) -> Result<(), Fault>
     requires sound { AreHeaders (length bytes.now) headers.now }
     requires number { number < tile_count headers.now.siz }
+    requires decoded { AreDecoded bytes.now decoded.now }
     requires packets { packets_at bytes.now headers.now number ≡ Ok packets.now }
     requires levels { HaveLevels headers.now reduce }
     requires few { reduce ≤ 10 }
@@ -97,7 +100,9 @@ pub(crate) fn show_tile(
         (ShowsTileAt bytes.now headers.now reduce window.now number headers.now.siz.components planes.new.items) }
 {
     let part = meet(window, &shown(headers, number, reduce));
-    let values = decode_part(alloc, headers, bytes, number, packets, reduce, &part)?;
+    let values = decode_part_of(
+        alloc, headers, bytes, number, packets, reduce, &part, decoded,
+    )?;
     put_tile(
         headers, bytes, packets, number, reduce, window, &part, &values, planes,
     );
@@ -123,6 +128,7 @@ fn window_planes(
         (seen_parts_tested bytes.now headers.now reduce window.now (tile_count headers.now.siz)) }
     ensures planes { IfOk result (λ v. lists_of v.items ≡ planes_of_tiles bytes.now headers.now reduce window.now) }
 {
+    let none = DecodedBlocks::none(alloc);
     let mut planes = blank_planes(alloc, headers.siz().components, window)?;
     for number in 0..headers.tile_count() {
         if let Some(packets) = &all[number] {
@@ -134,6 +140,7 @@ fn window_planes(
                 number,
                 reduce,
                 window,
+                &none,
                 &mut planes,
             )?;
         }

@@ -1,4 +1,3 @@
-pub mod Rounds
 pub mod Shares
 pub mod InOrder
 pub mod Laws

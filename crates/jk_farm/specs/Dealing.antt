@@ -1,17 +1,24 @@
--- Jobs that are dealt out to workers in turn: worker w of n does the jobs w, w + n, w + 2n and so
--- on.
-use Rattle.std.specs.Prelude.{◌≡◌, ℕ, ◌+◌, ◌-◌, ◌*◌, ◌<◌, List, length, All, Result, Ok, Err, slice_index_or}
+-- Jobs that workers take one after another, and what they give in the order of jobs.
+use Rattle.std.specs.Prelude.{◌≡◌, ℕ, ◌<◌, List, length, All, Result, Ok, Err, Option, None, Some, slice_index_or}
 use Rattle.jk_math.specs.declared.fault.Fault.{Fault}
+use Rattle.jk_farm.specs.declared.dealing.Taken.{Taken}
 
 module _ {J D : Type 0} (gives : J → Result D Fault → Type 0) (jobs : List J) where
   -- the job of this number gives this
   abbrev pub Gives : ℕ → Result D Fault → Type 0
   Gives i r = (j : J) → gives (slice_index_or jobs i j) r
 
-  -- What the jobs base, base + step and so on give is left, the last one first.
-  abbrev pub AreLeft : (step base : ℕ) → List (Result D Fault) → Type 0
-  AreLeft step base items = (k : ℕ) (d : Result D Fault) → base + k * step < length jobs
-      → (k < length items) × Gives (base + k * step) (slice_index_or items (length items - 1 - k) d)
+  -- a job that was done, and what it gave
+  pub record IsTaken (t : Taken D) : Type 0 where
+    pub is_job : t.job < length jobs
+    pub gives_it : Gives t.job t.given
+
+  abbrev pub AreTaken : List (Taken D) → Type 0
+  AreTaken items = All IsTaken items
+
+  -- in the slots of jobs stands what these give, where anything does
+  abbrev pub AreFilled : List (Option (Result D Fault)) → Type 0
+  AreFilled slots = (i : ℕ) (r : Result D Fault) → slice_index_or slots i None ≡ Some r → Gives i r
 
   -- Each of the first jobs gives what stands at its place.
   pub record AreGiven (count : ℕ) (items : List D) : Type 0 where

@@ -1,7 +1,8 @@
 -- The way of a tile that is read: packets are gathered by precinct along chains (Chaining) and
 -- bodies by code-block (Gathering); a code-block is read (Blocks) where a part meets it (MetBlocks).
 -- A part of a tile depends on these alone (LocalTiles, PartLaws), and the whole tile is one (WholeTile);
--- it is decoded where parts that have all of it are (Covered).
+-- it is decoded where parts that have all of it are (Covered). Code-blocks that workers decoded are
+-- those of the codestream (Decoding).
 pub mod Gathering
 pub mod Filled
 pub mod Unread
@@ -12,3 +13,4 @@ pub mod LocalTiles
 pub mod MetBlocks
 pub mod PartLaws
 pub mod Covered
+pub mod Decoding

@@ -4,3 +4,4 @@
 pub mod Gathered
 pub mod TileReading
 pub mod Source
+pub mod Decoded

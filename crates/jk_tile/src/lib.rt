@@ -8,6 +8,8 @@ mod decoding;
 mod encoding;
 mod samples;
 
-pub use decoding::{decode_part, decode_tile, put};
+pub use decoding::{
+    DecodedBlocks, decode_blocks_with, decode_part, decode_part_of, decode_tile, put,
+};
 pub use encoding::{encode_tile, encode_tile_with, exponents, tile_bands};
 pub use samples::level_shift;

@@ -16,7 +16,7 @@ use jk_walk::PacketPlace;
 use std::alloc::Global;
 
 /// What a packet has of a code-block, and where its bytes begin in the codestream.
-#[derive(Clone, Copy, Debug, Drop)]
+#[derive(Clone, Copy, Debug, PartialEq, Eq, Drop)]
 pub(crate) struct BodyPlace {
     pub(crate) part: BlockContribution,
     pub(crate) start: usize,

@@ -8,7 +8,9 @@ ghost use Rattle.jk_geom.specs.Rectangles.{resolution_area};
 ghost use Rattle.jk_tile.specs.TileMeaning.{values_of};
 ghost use Rattle.jk_tile.specs.decoding.TileReading.{component_tested};
 ghost use Rattle.jk_tile.specs.decoding.Source.{IsSource, source_bodies, source_coefficient};
+ghost use Rattle.jk_tile.specs.decoding.Decoded.{AreDecoded};
 
+use crate::decoding::decoded::DecodedBlocks;
 use jk_marks::Coding;
 use jk_math::Rect;
 use jk_walk::PacketPlace;
@@ -16,7 +18,8 @@ use jk_wave::Region;
 use std::marker::Model;
 
 /// A part of a component of a tile: the codestream, the part, the component's coding, the packets
-/// of the tile, and the number of the component.
+/// of the tile, and the number of the component. Beside these it has code-blocks of the codestream
+/// that were decoded before, of which nobody sees but how soon it is read.
 #[derive(Drop)]
 pub(crate) struct CodedComponent<'a> {
     bytes: &'a [u8],
@@ -24,10 +27,12 @@ pub(crate) struct CodedComponent<'a> {
     coding: &'a Coding,
     packets: &'a [PacketPlace],
     number: u8,
+    decoded: &'a DecodedBlocks,
 }
 
 impl<'a> Model for CodedComponent<'a> {
     ghost use Rattle.jk_tile.specs.decoding.Source.{Source, IsSource};
+    ghost use Rattle.jk_tile.specs.decoding.Decoded.{AreDecoded};
 
     ghost Value = { Source };
 
@@ -47,7 +52,7 @@ impl<'a> Model for CodedComponent<'a> {
           coding = c.coding.now;
           packets = c.packets.now;
           component = c.number;
-        }) };
+        }) × AreDecoded c.bytes.now c.decoded.now };
 }
 
 impl<'a> CodedComponent<'a> {
@@ -58,8 +63,9 @@ impl<'a> CodedComponent<'a> {
         coding: &'a Coding,
         packets: &'a [PacketPlace],
         number: u8,
+        decoded: &'a DecodedBlocks,
     ) -> CodedComponent<'a>
-        requires { IsSource
+        requires source { IsSource
             (record {
               bytes = bytes.now;
               region = region;
@@ -67,6 +73,7 @@ impl<'a> CodedComponent<'a> {
               packets = packets.now;
               component = number;
             }) }
+        requires decoded { AreDecoded bytes.now decoded.now }
         ensures { result
             ≡ record {
               bytes = bytes.now;
@@ -82,6 +89,7 @@ impl<'a> CodedComponent<'a> {
             coding,
             packets,
             number,
+            decoded,
         }
     }
 
@@ -128,5 +136,12 @@ impl<'a> CodedComponent<'a> {
         ensures { result ≡ self.now.component }
     {
         self.number
+    }
+
+    /// Code-blocks that were decoded before.
+    pub(crate) fn decoded(&self) -> &'a DecodedBlocks
+        ensures { AreDecoded self.now.bytes result.now }
+    {
+        self.decoded
     }
 }

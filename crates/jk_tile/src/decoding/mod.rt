@@ -9,9 +9,13 @@ mod bodies;
 mod chains;
 mod colour;
 mod component;
+mod decoded;
 mod filling;
+mod jobs;
 mod reading;
 mod tile;
 
+pub use decoded::DecodedBlocks;
 pub use filling::put;
-pub use tile::{decode_part, decode_tile};
+pub use jobs::decode_blocks_with;
+pub use tile::{decode_part, decode_part_of, decode_tile};

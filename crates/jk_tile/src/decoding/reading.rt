@@ -28,7 +28,8 @@ use jk_wave::{band_rows, begin_level, finish_level, part_area};
 use std::alloc::Global;
 
 /// Reads a code-block, number `j` of a part of a sub-band, and puts what is asked for of it into
-/// the list of the resolution. A code-block of which nothing is asked for is passed over.
+/// the list of the resolution. A code-block of which nothing is asked for is passed over, and one
+/// that was decoded before isn't decoded again.
 fn read_at(
     alloc: Global,
     source: &CodedComponent<'_>,
@@ -64,6 +65,10 @@ fn read_at(
     let orientation = orientation(part.resolution, part.band);
     let planes = band_planes(coding, part.resolution, part.band);
     let shape = shape_at(&place, orientation);
+    if let Some(values) = source.decoded().find(bodies, shape, planes) {
+        put_common(&lies, rows, &place, values);
+        return Ok(());
+    }
     let block = read_block(alloc, source.bytes(), bodies, shape, planes, segment)?;
     put_common(&lies, rows, &place, &block.values);
     Ok(())

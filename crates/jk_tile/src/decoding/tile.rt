@@ -14,9 +14,11 @@ ghost use Rattle.jk_tile.specs.Filling.{IsPartOf};
 ghost use Rattle.jk_tile.specs.TileMeaning.{shown_area};
 ghost use Rattle.jk_tile.specs.decoding.TileReading.{part_values_at, part_planes_at, tile_planes_at};
 ghost use Rattle.jk_tile.specs.decoding.Source.{source_values};
+ghost use Rattle.jk_tile.specs.decoding.Decoded.{AreDecoded};
 
 use crate::decoding::colour::uncolour;
 use crate::decoding::component::CodedComponent;
+use crate::decoding::decoded::DecodedBlocks;
 use crate::decoding::reading::read_resolution;
 use crate::samples::all_to_samples;
 use jk_geom::{resolution, tile};
@@ -52,9 +54,11 @@ fn read_components(
     packets: &[PacketPlace],
     reduce: u8,
     area: &Rect,
+    decoded: &DecodedBlocks,
 ) -> Result<Vec<Vec<i32>>, Fault>
     requires sound { AreHeaders (length bytes.now) headers.now }
     requires number { number < tile_count headers.now.siz }
+    requires decoded { AreDecoded bytes.now decoded.now }
     requires packets { AllByRecursion (λ w. place_end w ≤ length bytes.now) packets.now }
     requires few { length packets.now ≤ 2 ^ 24 }
     requires levels { AllByRecursion (λ k. reduce ≤ k.levels) (tile_in headers.now.tiles number).codings }
@@ -74,9 +78,42 @@ fn read_components(
             top: coding.levels - reduce,
             area: *area,
         };
-        let source = CodedComponent::new(bytes, region, coding, packets, c as u8);
+        let source = CodedComponent::new(bytes, region, coding, packets, c as u8, decoded);
         values.push(read_component(alloc, &source)?)?;
     }
+    Ok(values)
+}
+
+/// What [`decode_part`] gives, where a code-block among those that were decoded before, from the
+/// same codestream, isn't decoded again.
+#[tactic(auto, unfolding(crate::specs::decoding::TileReading::part_planes_at))]
+pub fn decode_part_of(
+    alloc: Global,
+    headers: &Codestream,
+    bytes: &[u8],
+    number: usize,
+    packets: &TilePackets,
+    reduce: u8,
+    area: &Rect,
+    decoded: &DecodedBlocks,
+) -> Result<Vec<Vec<i32>>, Fault>
+    requires sound { AreHeaders (length bytes.now) headers.now }
+    requires number { number < tile_count headers.now.siz }
+    requires decoded { AreDecoded bytes.now decoded.now }
+    requires packets { AllByRecursion (λ w. place_end w ≤ length bytes.now) packets.now }
+    requires levels { AllByRecursion (λ k. reduce ≤ k.levels) (tile_in headers.now.tiles number).codings }
+    requires inside { IsPartOf area.now (shown_area headers.now.siz number reduce) }
+    ensures exact { Answers (λ v. lists_of v.items) result
+        (part_planes_at bytes.now headers.now number reduce area.now packets.now) }
+{
+    let packets = packets.as_slice();
+    let mut values = read_components(
+        alloc, headers, bytes, number, packets, reduce, area, decoded,
+    )?;
+    if headers.cod(number).colour {
+        uncolour(alloc, &mut values);
+    }
+    all_to_samples(headers.siz(), &mut values);
     Ok(values)
 }
 
@@ -86,7 +123,6 @@ fn read_components(
 ///
 /// The faults of [`decode_tile`], of those code-blocks alone that have a coefficient on which a
 /// sample of the part depends. Others are not decoded.
-#[tactic(auto, unfolding(crate::specs::decoding::TileReading::part_planes_at))]
 pub fn decode_part(
     alloc: Global,
     headers: &Codestream,
@@ -104,13 +140,8 @@ pub fn decode_part(
     ensures exact { Answers (λ v. lists_of v.items) result
         (part_planes_at bytes.now headers.now number reduce area.now packets.now) }
 {
-    let packets = packets.as_slice();
-    let mut values = read_components(alloc, headers, bytes, number, packets, reduce, area)?;
-    if headers.cod(number).colour {
-        uncolour(alloc, &mut values);
-    }
-    all_to_samples(headers.siz(), &mut values);
-    Ok(values)
+    let none = DecodedBlocks::none(alloc);
+    decode_part_of(alloc, headers, bytes, number, packets, reduce, area, &none)
 }
 
 /// The samples of a tile at a reduction, component by component, each row by row, from its packets,

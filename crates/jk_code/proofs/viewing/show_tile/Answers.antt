@@ -12,13 +12,13 @@ use Rattle.jk_code.proofs.Placing.{ends_of}
 use Rattle.jk_code.proofs.ViewSteps.{part_seen}
 use Rattle.jk_code.proofs.viewing.show_tile.Goals as goal
 
-pub decode_part-requires-clause-packets : goal.decode_part-requires-clause-packets
-decode_part-requires-clause-packets c =
+pub decode_part_of-requires-clause-packets : goal.decode_part_of-requires-clause-packets
+decode_part_of-requires-clause-packets c =
     let bytes = c.args.bytes.now in
     ends_of (length bytes) _ c.args.packets.now (packets_within bytes c.args.headers.now c.args.number c.args.packets.now c.requires.sound c.requires.number c.requires.packets)
 
-pub decode_part-requires-clause-inside : goal.decode_part-requires-clause-inside
-decode_part-requires-clause-inside c =
+pub decode_part_of-requires-clause-inside : goal.decode_part_of-requires-clause-inside
+decode_part_of-requires-clause-inside c =
     let h = c.args.headers.now in
     let is = c.meet-part.ensures ∙ ap (meet c.args.window.now) c.shown.ensures.value in
     subst (λ (u : Rect). IsPartOf u (shown_area h.siz c.args.number c.args.reduce)) (sym is) (part_seen h c.args.reduce c.args.number c.args.window.now c.requires.seen).tile

@@ -1,12 +1,10 @@
-use Rattle.std.proofs.Common.{◌≡◌, ℕ, ◌<◌, length}
+use Rattle.std.proofs.Common.{◌≡◌, ◌+◌, drop, length}
 use Rattle.jk_farm.specs.Dealing.{AreGiven}
-use Rattle.jk_math.specs.Lists.{list_at}
-use Rattle.jk_farm.proofs.Shares.{IsRest}
 use Rattle.jk_farm.proofs.dealing.merged.Given as goal
 
-abbrev pub invariant-loop-job : goal.invariant-loop-job
-invariant-loop-job g l = record {
-  all : AreGiven g.W.Work.gives l.jobs l.job l.all.items;
-  count : length l.shares.items ≡ l.workers;
-  rests : (w : ℕ) → w < l.workers → IsRest g.W.Work.gives l.jobs l.workers l.job w (list_at l.shares.items w);
+abbrev pub invariant-loop-slot : goal.invariant-loop-slot
+invariant-loop-slot g l = record {
+  all : AreGiven g.W.Work.gives l.jobs (length l.all.items) l.all.items;
+  rest : l.slot-iterator.rest.items ≡ drop (length l.all.items) l.fn.slots.items;
+  long : length l.all.items + length l.slot-iterator.rest.items ≡ length l.jobs;
 }

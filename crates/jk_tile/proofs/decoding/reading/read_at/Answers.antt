@@ -62,6 +62,20 @@ put_common-requires-clause-fits c =
     let lies = lies_is s p.resolution p.band c.band_rows-lies.result c.region.result c.band_number.result c.band_rows-lies.ensures.value c.region.ensures.value c.band_number.ensures in
     subst (λ (v : BandRows). FitsIn v (length c.args.rows.now)) (sym lies) (part_lies s p.resolution p.band c.args.rows.now c.requires.part.band c.requires.filling.level)
 
+pub put_common-requires-2-clause-apart : goal.put_common-requires-2-clause-apart
+put_common-requires-2-clause-apart c =
+    let s = c.args.source.now in
+    let p = c.args.part in
+    let lies = lies_is s p.resolution p.band c.band_rows-lies.result c.region.result c.band_number.result c.band_rows-lies.ensures.value c.region.ensures.value c.band_number.ensures in
+    subst (λ (v : BandRows). columns_of v.area ≤ v.step) (sym lies) (has_rows s.region (band_number p.resolution p.band)).0
+
+pub put_common-requires-2-clause-fits : goal.put_common-requires-2-clause-fits
+put_common-requires-2-clause-fits c =
+    let s = c.args.source.now in
+    let p = c.args.part in
+    let lies = lies_is s p.resolution p.band c.band_rows-lies.result c.region.result c.band_number.result c.band_rows-lies.ensures.value c.region.ensures.value c.band_number.ensures in
+    subst (λ (v : BandRows). FitsIn v (length c.args.rows.now)) (sym lies) (part_lies s p.resolution p.band c.args.rows.now c.requires.part.band c.requires.filling.level)
+
 pub returns-clause-fills : goal.returns-clause-fills
 returns-clause-fills c =
     let s = c.args.source.now in
@@ -75,13 +89,13 @@ returns-clause-fills c =
     (map (body_of c.bytes.result.now) c.args.bodies.now) place c.orientation-orientation.ensures c.shape_at-shape.ensures planes bodies in
     let agrees = values_agree s p.resolution p.precinct p.band c.args.j c.block-place.result c.in_ok-block.block.values.items c.coding-coding.ensures.source
     (few_levels s p.resolution c.coding-coding.ensures.source c.requires.part.resolution) c.requires.part.precinct c.requires.part.band lt place (sym due ∙ c.in_ok-block.ensures.exact) in
-    let put = subst (λ (v : BandRows). IsPutInto v c.block-place.result c.args.rows.now c.put_common.new.rows c.in_ok-block.block.values.items) lies
-    (subst (λ vs. IsPutInto c.band_rows-lies.result c.block-place.result c.args.rows.now c.put_common.new.rows vs) c.deref.ensures.value c.put_common.ensures.value) in
-    put_fills s p.resolution p.band c.block-place.result c.in_ok-block.block.values.items c.args.rows.now c.put_common.new.rows c.requires.filling (record {
+    let put = subst (λ (v : BandRows). IsPutInto v c.block-place.result c.args.rows.now c.put_common-2.new.rows c.in_ok-block.block.values.items) lies
+    (subst (λ vs. IsPutInto c.band_rows-lies.result c.block-place.result c.args.rows.now c.put_common-2.new.rows vs) c.deref.ensures.value c.put_common-2.ensures.value) in
+    put_fills s p.resolution p.band c.block-place.result c.in_ok-block.block.values.items c.args.rows.now c.put_common-2.new.rows c.requires.filling (record {
       band = c.requires.part.band;
-      long = c.put_common.ensures.long;
+      long = c.put_common-2.ensures.long;
       put = put;
-      stays = subst (λ (v : BandRows). StaysOff v c.args.rows.now c.put_common.new.rows) lies c.put_common.ensures.others;
+      stays = subst (λ (v : BandRows). StaysOff v c.args.rows.now c.put_common-2.new.rows) lies c.put_common-2.ensures.others;
       agrees = agrees;
       small = c.in_ok-block.ensures.small;
     })
@@ -99,10 +113,52 @@ returns-clause-shows c = λ x y h inside.
     (map (body_of c.bytes.result.now) c.args.bodies.now) place c.orientation-orientation.ensures c.shape_at-shape.ensures planes bodies in
     let agrees = values_agree s p.resolution p.precinct p.band c.args.j c.block-place.result c.in_ok-block.block.values.items c.coding-coding.ensures.source
     (few_levels s p.resolution c.coding-coding.ensures.source c.requires.part.resolution) c.requires.part.precinct c.requires.part.band lt place (sym due ∙ c.in_ok-block.ensures.exact) in
-    let put = subst (λ (v : BandRows). IsPutInto v c.block-place.result c.args.rows.now c.put_common.new.rows c.in_ok-block.block.values.items) lies
-    (subst (λ vs. IsPutInto c.band_rows-lies.result c.block-place.result c.args.rows.now c.put_common.new.rows vs) c.deref.ensures.value c.put_common.ensures.value) in
+    let put = subst (λ (v : BandRows). IsPutInto v c.block-place.result c.args.rows.now c.put_common-2.new.rows c.in_ok-block.block.values.items) lies
+    (subst (λ vs. IsPutInto c.band_rows-lies.result c.block-place.result c.args.rows.now c.put_common-2.new.rows vs) c.deref.ensures.value c.put_common-2.ensures.value) in
     let here : IsWithin c.block-place.result x y = subst (λ (b : Rect). IsWithin b x y) (sym place) h in
-    put_at_place s p.resolution p.band x y c.block-place.result c.in_ok-block.block.values.items c.args.rows.now c.put_common.new.rows put agrees here inside
+    put_at_place s p.resolution p.band x y c.block-place.result c.in_ok-block.block.values.items c.args.rows.now c.put_common-2.new.rows put agrees here inside
+
+pub returns-in-Some-clause-fills : goal.returns-in-Some-clause-fills
+returns-in-Some-clause-fills c =
+    let s = c.args.source.now in
+    let p = c.args.part in
+    let place = place_is s p.resolution p.precinct p.band c.args.j c.args.grid.now c.block-place.result c.requires.grid c.block-place.ensures in
+    let lies = lies_is s p.resolution p.band c.band_rows-lies.result c.region.result c.band_number.result c.band_rows-lies.ensures.value c.region.ensures.value c.band_number.ensures in
+    let lt = few_is s p.resolution p.precinct p.band c.args.j c.args.grid.now c.requires.grid c.requires.j in
+    let planes = c.band_planes-planes.ensures.value ∙ ap (λ (k : Coding). planes_of k (band_number p.resolution p.band)) c.coding-coding.ensures.value in
+    let due = due_is s p.resolution p.precinct p.band c.args.j c.band_planes-planes.result c.block-place.result c.orientation-orientation.result c.shape_at-shape.result
+    (map (body_of s.bytes) c.args.bodies.now) place c.orientation-orientation.ensures c.shape_at-shape.ensures planes c.requires.bodies in
+    let found = c.in-Some.ensures s.bytes c.decoded.ensures in
+    let agrees = values_agree s p.resolution p.precinct p.band c.args.j c.block-place.result c.in-Some.values.now c.coding-coding.ensures.source
+    (few_levels s p.resolution c.coding-coding.ensures.source c.requires.part.resolution) c.requires.part.precinct c.requires.part.band lt place (sym due ∙ found.exact) in
+    let put = subst (λ (v : BandRows). IsPutInto v c.block-place.result c.args.rows.now c.put_common.new.rows c.in-Some.values.now) lies
+    c.put_common.ensures.value in
+    put_fills s p.resolution p.band c.block-place.result c.in-Some.values.now c.args.rows.now c.put_common.new.rows c.requires.filling (record {
+      band = c.requires.part.band;
+      long = c.put_common.ensures.long;
+      put = put;
+      stays = subst (λ (v : BandRows). StaysOff v c.args.rows.now c.put_common.new.rows) lies c.put_common.ensures.others;
+      agrees = agrees;
+      small = found.small;
+    })
+
+pub returns-in-Some-clause-shows : goal.returns-in-Some-clause-shows
+returns-in-Some-clause-shows c = λ x y h inside.
+    let s = c.args.source.now in
+    let p = c.args.part in
+    let place = place_is s p.resolution p.precinct p.band c.args.j c.args.grid.now c.block-place.result c.requires.grid c.block-place.ensures in
+    let lies = lies_is s p.resolution p.band c.band_rows-lies.result c.region.result c.band_number.result c.band_rows-lies.ensures.value c.region.ensures.value c.band_number.ensures in
+    let lt = few_is s p.resolution p.precinct p.band c.args.j c.args.grid.now c.requires.grid c.requires.j in
+    let planes = c.band_planes-planes.ensures.value ∙ ap (λ (k : Coding). planes_of k (band_number p.resolution p.band)) c.coding-coding.ensures.value in
+    let due = due_is s p.resolution p.precinct p.band c.args.j c.band_planes-planes.result c.block-place.result c.orientation-orientation.result c.shape_at-shape.result
+    (map (body_of s.bytes) c.args.bodies.now) place c.orientation-orientation.ensures c.shape_at-shape.ensures planes c.requires.bodies in
+    let found = c.in-Some.ensures s.bytes c.decoded.ensures in
+    let agrees = values_agree s p.resolution p.precinct p.band c.args.j c.block-place.result c.in-Some.values.now c.coding-coding.ensures.source
+    (few_levels s p.resolution c.coding-coding.ensures.source c.requires.part.resolution) c.requires.part.precinct c.requires.part.band lt place (sym due ∙ found.exact) in
+    let put = subst (λ (v : BandRows). IsPutInto v c.block-place.result c.args.rows.now c.put_common.new.rows c.in-Some.values.now) lies
+    c.put_common.ensures.value in
+    let here : IsWithin c.block-place.result x y = subst (λ (b : Rect). IsWithin b x y) (sym place) h in
+    put_at_place s p.resolution p.band x y c.block-place.result c.in-Some.values.now c.args.rows.now c.put_common.new.rows put agrees here inside
 
 pub returns-then-not-touches-clause-fills : goal.returns-then-not-touches-clause-fills
 returns-then-not-touches-clause-fills c = fills_same c.args.source.now c.args.part.resolution c.args.rows.now c.requires.filling

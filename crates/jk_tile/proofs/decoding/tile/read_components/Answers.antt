@@ -23,8 +23,8 @@ loop-c-init c = record {
   small = λ i. subst (λ (vs : List (Vec ℤ)). All (IsBelow (2 ^ 29)) (list_at vs i)) (sym c.new-values.ensures.items) (All-nil (IsBelow (2 ^ 29)));
 }
 
-pub new-source-requires : goal.new-source-requires
-new-source-requires c =
+pub new-source-requires-clause-source : goal.new-source-requires-clause-source
+new-source-requires-clause-source c =
     let h = c.args.headers.now in
     let slice = c.as_slice-codings.ensures ∙ c.codings.ensures in
     let lt : c.loop-c.c < length (tile_in h.tiles c.args.number).codings = omega (arith, c.loop-c-test.true, ap (λ (ks : List Coding). length ks) slice) in

@@ -9,8 +9,8 @@ use Rattle.jk_tile.specs.Samples.{sample_of}
 use Rattle.jk_tile.specs.decoding.TileReading.{component_values, component_samples, part_values_at, part_planes_at}
 use Rattle.jk_tile.proofs.Steps.{refuses_on}
 use Rattle.jk_tile.proofs.Colours.{rasters, count_is, list_long, lists_uncoloured, uncoloured_small, wider, planes_fine, planes_err, samples_coloured, samples_plain}
-use Rattle.jk_tile.proofs.decoding.tile.decode_part.Goals.{then-cod, else-cod}
-use Rattle.jk_tile.proofs.decoding.tile.decode_part.Goals as goal
+use Rattle.jk_tile.proofs.decoding.tile.decode_part_of.Goals.{then-cod, else-cod}
+use Rattle.jk_tile.proofs.decoding.tile.decode_part_of.Goals as goal
 
 pub returns-in_err-values : goal.returns-in_err-values
 returns-in_err-values c =

@@ -1,0 +1,14 @@
+use Rattle.std.proofs.Common.{All, subst, sym}
+use Rattle.jk_tile.specs.decoding.Decoded.{IsDecodedFrom, IsJobOf}
+use Rattle.jk_farm.proofs.Laws.{zipped}
+use Rattle.jk_tile.proofs.decoding.Decoding.{all_decoded, blocks_decoded}
+use Rattle.jk_tile.proofs.decoding.decoded.decode_segments.Goals as goal
+
+pub returns : goal.returns
+returns g c =
+    let jobs = c.deref.result.now in
+    let bytes = c.args.bytes.now in
+    let items = c.in_ok-blocks.blocks.items in
+    let all = subst (All (IsJobOf bytes)) (sym c.deref.ensures.value) c.in_ok-jobs.ensures.jobs in
+    blocks_decoded bytes items c.by_start.result c.by_start.ensures.blocks
+    (all_decoded bytes jobs items all (zipped IsDecodedFrom jobs items (c.in_ok-blocks.ensures.given c.requires.some c.requires.most)))

@@ -1,0 +1,37 @@
+use Rattle.std.proofs.Common.{rules, ◌≡◌, ◌<◌, ◌^◌, List, ℤ, length, map, All, Ok, ◌∙◌, ap, sym, subst, arith}
+use Rattle.std.specs.List.{range_with_len}
+use Rattle.std.proofs.lemmas.List.Elements.{All-nil}
+use Rattle.std.proofs.lemmas.Result.{err_from_is_err_and}
+use Rattle.std.specs.Global.{Vec}
+use Rattle.jk_math.specs.Lists.{lists_of, list_at}
+use Rattle.jk_math.specs.Raster.{raster}
+use Rattle.jk_math.specs.Signed.{IsBelow}
+use Rattle.jk_marks.specs.declared.coding.Coding.{Coding}
+use Rattle.jk_geom.specs.Rectangles.{tile_area}
+use Rattle.jk_geom.specs.TileShapes.{coding_of}
+use Rattle.jk_params.specs.Headers.{tile_in}
+use Rattle.jk_tile.specs.decoding.TileReading.{each, component_part_tested, bodies_of, component_values}
+use Rattle.jk_tile.specs.decoding.Source.{source_values}
+use Rattle.jk_tile.proofs.Steps.{each_none, each_more, each_fails, refuses_on}
+use Rattle.jk_tile.proofs.Components.{source_is, component_then, component_not, lists_push, small_push, values_fine, values_err, coding_read, levels_read}
+use Rattle.jk_tile.specs.decoding.Decoded.{AreSegments}
+use Rattle.jk_tile.specs.decoding.Source.{Source}
+use Rattle.jk_tile.proofs.decoding.jobs.add_tile_blocks.Goals as goal
+
+pub new-source-requires-clause-source : goal.new-source-requires-clause-source
+new-source-requires-clause-source c =
+    let h = c.args.headers.now in
+    let slice = c.as_slice-codings.ensures ∙ c.codings.ensures in
+    let lt : c.loop-c.c < length (tile_in h.tiles c.args.number).codings = omega (arith, c.loop-c-test.true, ap (λ (ks : List Coding). length ks) slice) in
+    let rect = c.tile-rect.ensures.value ∙ ap (λ s. tile_area s c.args.number) c.siz.ensures in
+    let coding = coding_read (tile_in h.tiles c.args.number).codings c.as_slice-codings.result.now c.loop-c.c c.index-codings-c.result slice lt c.index-codings-c.is in
+    let fits : length c.args.bytes.now < 2 ^ 64 = search rules in
+    let levels = levels_read (tile_in h.tiles c.args.number).codings c.loop-c.c c.args.reduce c.index-codings-c.result c.requires.levels lt coding in
+    source_is c.args.bytes.now h c.args.number c.loop-c.c c.args.reduce c.tile-rect.result c.args.area.now c.index-codings-c.result c.args.packets.now c.requires.sound c.requires.number lt c.tile-rect.ensures.area rect coding levels c.requires.inside fits c.requires.packets c.requires.few
+
+pub loop-c-preserved : goal.loop-c-preserved
+loop-c-preserved c = λ all.
+    let of = c.new-source.ensures in
+    let old = c.loop-c.segments.items in
+    let new = c.add_component_blocks.new.segments.items in
+    subst (λ (s : Source). AreSegments (length s.bytes) new) of (c.in_ok-add_component_blocks.ensures.segments (subst (λ (s : Source). AreSegments (length s.bytes) old) (sym of) (c.loop-c.invariant all)))

@@ -1,0 +1,206 @@
+//! Code-blocks that are decoded side by side by workers, before the parts that are made of them.
+
+ghost use Rattle.std.specs.Prelude.{◌≡◌, ℕ, List, ◌≤◌, All, IsTrue, IfSome, IfOk, IfErr, length};
+ghost use Rattle.jk_math.specs.Memory.{IsMemory};
+ghost use Rattle.jk_tile.specs.decoding.Decoded.{AreDecoded, IsDecoded, IsDecodedAs, IsBlockSegment, IsJobOf};
+
+use crate::decoding::block::read_block;
+use crate::decoding::bodies::BodyPlace;
+use jk_block::BlockShape;
+use jk_farm::{Gate, Work, map_jobs};
+use jk_math::Fault;
+use std::alloc::Global;
+use std::collections::BTreeMap;
+use std::marker::Sync;
+use std::thread::Threads;
+
+/// A code-block that is to be decoded: its shape, the bit-planes of its sub-band, and its bodies in
+/// the codestream.
+#[derive(Drop)]
+pub(crate) struct BlockSegment {
+    pub(crate) shape: BlockShape,
+    pub(crate) planes: u32,
+    pub(crate) bodies: Vec<BodyPlace>,
+}
+
+/// The codestream and a code-block of it.
+#[derive(Clone, Copy)]
+pub(crate) struct SegmentJob<'a> {
+    pub(crate) bytes: &'a [u8],
+    pub(crate) segment: &'a BlockSegment,
+}
+
+/// A code-block that was decoded: of which shape, in a sub-band of how many bit-planes, from which
+/// bodies; and its coefficients, row by row.
+#[derive(Drop)]
+pub(crate) struct DecodedBlock {
+    pub(crate) shape: BlockShape,
+    pub(crate) planes: u32,
+    pub(crate) bodies: Vec<BodyPlace>,
+    pub(crate) values: Vec<i32>,
+}
+
+/// Code-blocks that were decoded, which are found by where their bytes begin in the codestream.
+#[derive(Drop)]
+pub struct DecodedBlocks {
+    pub(crate) blocks: Vec<DecodedBlock>,
+    by_start: BTreeMap<usize, usize>,
+}
+
+/// A code-block is decoded.
+impl<'a> Work for SegmentJob<'a> {
+    ghost use Rattle.jk_tile.specs.decoding.Decoded.{IsSegmentJob, IsDecodedFrom};
+
+    type Job = SegmentJob<'a>;
+
+    type Done = DecodedBlock;
+
+    ghost accepts = { IsSegmentJob };
+
+    ghost gives = { IsDecodedFrom };
+
+    fn done(alloc: Global, job: &SegmentJob<'a>) -> Result<DecodedBlock, Fault> {
+        decode_segment(alloc, job.bytes, job.segment)
+    }
+}
+
+/// Decodes a code-block.
+fn decode_segment(
+    alloc: Global,
+    bytes: &[u8],
+    segment: &BlockSegment,
+) -> Result<DecodedBlock, Fault>
+    requires { IsBlockSegment (length bytes.now) segment.now }
+    ensures { IfOk result (IsDecoded bytes.now) }
+{
+    let (shape, planes) = (segment.shape, segment.planes);
+    let bodies = segment.bodies.to_vec(alloc)?;
+    let mut joined = Vec::new(alloc);
+    let block = read_block(alloc, bytes, &bodies, shape, planes, &mut joined)?;
+    Ok(DecodedBlock {
+        shape,
+        planes,
+        bodies,
+        values: block.values,
+    })
+}
+
+/// Whether two bodies are the same.
+fn is_same(one: &BodyPlace, other: &BodyPlace) -> bool
+    ensures { IsTrue result → one.now ≡ other.now }
+{
+    one == other
+}
+
+/// Whether bodies are the same.
+fn are_same(one: &[BodyPlace], other: &[BodyPlace]) -> bool
+    ensures { IsTrue result → one.now ≡ other.now }
+{
+    if one.len() != other.len() {
+        return false;
+    }
+    for index in 0..one.len() {
+        if !is_same(&one[index], &other[index]) {
+            return false;
+        }
+    }
+    true
+}
+
+/// Whether a block was decoded from these bodies, in this shape and a sub-band of so many
+/// bit-planes.
+fn is_decoded_from(
+    block: &DecodedBlock,
+    bodies: &[BodyPlace],
+    shape: BlockShape,
+    planes: u32,
+) -> bool
+    ensures bodies { IsTrue result → block.now.bodies.items ≡ bodies.now }
+    ensures shape { IsTrue result → block.now.shape ≡ shape }
+    ensures planes { IsTrue result → block.now.planes ≡ planes }
+{
+    block.planes == planes && block.shape == shape && are_same(&block.bodies, bodies)
+}
+
+/// Jobs of the code-blocks of a codestream.
+fn jobs_of<'a>(
+    alloc: Global,
+    bytes: &'a [u8],
+    segments: &'a [BlockSegment],
+) -> Result<Vec<SegmentJob<'a>>, Fault>
+    requires { All (IsBlockSegment (length bytes.now)) segments.now }
+    ensures jobs { IfOk result (λ v. All (IsJobOf bytes.now) v.items) }
+    ensures memory { IfErr result IsMemory }
+{
+    let mut jobs = Vec::with_capacity(alloc, segments.len())?;
+    for index in 0..segments.len() {
+        let segment = &segments[index];
+        jobs.push(SegmentJob { bytes, segment })?;
+    }
+    Ok(jobs)
+}
+
+/// Code-blocks that were decoded, by where their bytes begin.
+fn by_start(alloc: Global, blocks: Vec<DecodedBlock>) -> Result<DecodedBlocks, Fault>
+    ensures blocks { IfOk result (λ d. d.blocks.items ≡ blocks.items) }
+    ensures memory { IfErr result IsMemory }
+{
+    let mut by_start = BTreeMap::new(alloc);
+    for index in 0..blocks.len() {
+        if let Some(body) = blocks[index].bodies.first() {
+            by_start.insert(body.start, index)?;
+        }
+    }
+    Ok(DecodedBlocks { blocks, by_start })
+}
+
+/// Decodes code-blocks, so many workers side by side.
+pub(crate) fn decode_segments<R: Threads + Sync, G: Gate + Sync>(
+    rt: &R,
+    alloc: Global,
+    workers: usize,
+    gate: &G,
+    bytes: &[u8],
+    segments: &[BlockSegment],
+) -> Result<DecodedBlocks, Fault>
+    requires some { 1 ≤ workers }
+    requires most { workers ≤ 64 }
+    requires segments { All (IsBlockSegment (length bytes.now)) segments.now }
+    ensures { IfOk result (AreDecoded bytes.now) }
+{
+    let jobs = jobs_of(alloc, bytes, segments)?;
+    let blocks = map_jobs::<SegmentJob<'_>, R, G>(rt, alloc, workers, gate, &jobs)?;
+    by_start(alloc, blocks)
+}
+
+impl DecodedBlocks {
+    /// No block.
+    pub fn none(alloc: Global) -> DecodedBlocks
+        ensures { (bytes : List ℕ) → AreDecoded bytes result }
+    {
+        DecodedBlocks {
+            blocks: Vec::new(alloc),
+            by_start: BTreeMap::new(alloc),
+        }
+    }
+
+    /// The coefficients of a code-block that was decoded from these bodies, if one was.
+    pub(crate) fn find(
+        &self,
+        bodies: &[BodyPlace],
+        shape: BlockShape,
+        planes: u32,
+    ) -> Option<&[i32]>
+        ensures { (bytes : List ℕ) → AreDecoded bytes self.now
+            → IfSome result (λ v. IsDecodedAs bytes shape planes bodies.now v.now) }
+    {
+        let start = bodies.first()?.start;
+        let index = *self.by_start.get(&start)?;
+        let block = self.blocks.get(index)?;
+        if is_decoded_from(block, bodies, shape, planes) {
+            Some(&block.values)
+        } else {
+            None
+        }
+    }
+}
