@@ -1,15 +1,19 @@
 -- A tile of a codestream of which each precinct keeps its first layers: its packets, and how it is
 -- decoded.
-use Rattle.std.proofs.Common.{◌≡◌, ℕ, ◌<◌, List, map, ℤ, sym, subst}
+use Rattle.std.proofs.Common.{◌≡◌, ℕ, ◌<◌, Bool, cond, List, [], map, take, Option, Some, None, ℤ, refl, sym, ap, subst}
+use Rattle.std.specs.List.{flat_map}
+use Rattle.jk_math.specs.declared.rect.Rect.{Rect}
 use Rattle.jk_marks.specs.declared.siz.Siz.{Siz}
 use Rattle.jk_marks.specs.declared.segments.Cod.{Cod}
 use Rattle.jk_marks.specs.declared.coding.Coding.{Coding}
 use Rattle.jk_marks.specs.Siz.{tile_count}
 use Rattle.jk_params.specs.Headers.{Headers, TileFields, tile_in}
-use Rattle.jk_walk.specs.TilePackets.{slice_of, shape_in, Packet, IsTile}
-use Rattle.jk_tile.specs.TileMeaning.{DecodesTile}
+use Rattle.jk_walk.specs.TilePackets.{slice_of, shape_in, Body, Packet, of_precinct, IsTile}
+use Rattle.jk_tile.specs.TileMeaning.{below, DecodesTile}
 use Rattle.jk_window.specs.Emptied.{kept_packet, emptied_run, of_fronts}
 use Rattle.jk_window.specs.Indexing.{joined_runs, HasRuns}
+use Rattle.jk_window.specs.Views.{layers_in}
+use Rattle.jk_window.specs.Cutting.{needed_by}
 use Rattle.jk_window.specs.Again.{front_runs, AreAlike}
 use Rattle.jk_window.proofs.Laws.{runs_kept}
 
@@ -44,3 +48,18 @@ left_tile new g h t fronts runs alike lt again =
 pub decodes_alike : (new : List ℕ) (g h : Headers) (t d : ℕ) (samples : ℕ → ℕ → ℕ → ℤ) → AreAlike g h → t < tile_count h.siz → DecodesTile new (record g { siz = h.siz }) (fields_at g h t) t d samples → DecodesTile new g (tile_in g.tiles t) t d samples
 decodes_alike new g h t d samples alike lt is =
     subst (λ (s : Said). DecodesTile new (record g { siz = s.0 }) (record (tile_in g.tiles t) { cod = s.1; codings = s.2 }) t d samples) (sym (said_alike g h t alike lt)) is
+
+-- ---- the layers that a window keeps of the precincts that it needs
+
+abbrev pub seen_fronts : Headers → (w : Rect) → (d : ℕ) → Option ℕ → (t c r k : ℕ) → ℕ
+seen_fronts h w d layers t c r k = cond (needed_by h w d t c r k) (layers_in layers (tile_in h.tiles t).cod.layers) 0
+
+-- what the first layers of packets have of a precinct
+abbrev pub bodies_below : Option ℕ → List Packet → (c r n : ℕ) → List Body
+bodies_below layers packets c r n = flat_map (λ (p : Packet). p.bodies) (below layers (of_precinct c r n packets))
+
+-- A precinct that keeps its first layers, where those of all layers are all its packets, has their bodies.
+pub first_kept : (keep : Bool) (layers : Option ℕ) (all : ℕ) (own : List Packet) → take all own ≡ own
+    → cond keep (flat_map (λ (p : Packet). p.bodies) (take (layers_in layers all) own)) [] ≡ cond keep (flat_map (λ (p : Packet). p.bodies) (below layers own)) []
+first_kept keep None all own whole = ap (λ (ps : List Packet). cond keep (flat_map (λ (p : Packet). p.bodies) ps) []) whole
+first_kept keep (Some l) all own whole = refl

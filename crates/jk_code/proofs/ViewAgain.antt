@@ -1,8 +1,8 @@
 -- The decoded window of the file of a window is that of the stored file, whatever the file's code-blocks are: the precincts that
 -- the window needs have the same bodies.
-use Rattle.std.proofs.Common.{◌≡◌, ℕ, zero, suc, ◌+◌, ◌<◌, ◌≤◌, not, true, cond, if◌then◌else◌, List, [], ◌∷◌, length, map, Result, Ok, Err, ℤ, refl, sym, ap, ◌∙◌, subst, arith}
+use Rattle.std.proofs.Common.{◌≡◌, ℕ, zero, suc, ◌+◌, ◌<◌, ◌≤◌, not, true, cond, if◌then◌else◌, List, [], ◌∷◌, length, map, Option, None, Result, Ok, Err, ℤ, refl, sym, ap, ◌∙◌, subst, arith}
 use Rattle.std.specs.Prelude.{slice_range}
-use Rattle.std.specs.List.{flat_map, range_with_len}
+use Rattle.std.specs.List.{range_with_len}
 use Rattle.jk_math.specs.Answer.{◌>>=◌}
 use Rattle.jk_math.specs.Steps.{bind_then}
 use Rattle.jk_math.specs.declared.fault.Fault.{Fault}
@@ -36,16 +36,16 @@ use Rattle.jk_tile.specs.TileMeaning.{shown_area, values_of}
 use Rattle.jk_tile.specs.decoding.TileReading.{each, tested, bodies_of, coefficient_at, component_part_tested, part_planes_at}
 use Rattle.jk_tile.proofs.Laws.{fine, each_only, tested_ok, bind_ok, bodies_are, pixel_same, levels_read, is_band, each_alike, if_alike, component_alike, coefficient_alike}
 use Rattle.jk_window.specs.declared.view.View.{View}
-use Rattle.jk_window.specs.Views.{HasWindow, HaveLevels, frame_of, window_of, window_at}
-use Rattle.jk_window.specs.Again.{needed_by, kept_layers, kept_runs, AreAlike}
+use Rattle.jk_window.specs.Views.{HasArea, HaveLevels, frame_of, window_of, area_at, window_at}
+use Rattle.jk_window.specs.Again.{front_runs, AreAlike}
 use Rattle.jk_window.specs.Emptied.{kept_packet, of_fronts}
 use Rattle.jk_window.specs.Indexing.{IndexFields, IsIndexOf, joined_runs, HasRuns}
-use Rattle.jk_window.specs.Cutting.{HaveRuns, cut_tree}
-use Rattle.jk_window.proofs.Laws.{cut_again, runs_kept, kept_bodies, place_needs, window_found, window_only, window_refused}
+use Rattle.jk_window.specs.Cutting.{HaveRuns, needed_by, cut_tree}
+use Rattle.jk_window.proofs.Laws.{cut_again, runs_kept, kept_bodies, all_layers, place_needs, window_area_is, area_found, area_only, area_refused}
 use Rattle.jk_code.specs.MeaningReading.{places_or, places_at, packets_tested, sample_of_tiles, planes_of_tiles, picture_with}
 use Rattle.jk_code.specs.ViewReading.{seen_part, is_seen, seen_packets_tested, seen_parts_tested, view_at, image_view_at, meaning_view_at}
 use Rattle.jk_code.specs.Windows.{IsWindowKept}
-use Rattle.jk_code.proofs.EmptiedTiles.{Said, said_of, said_alike, left_of}
+use Rattle.jk_code.proofs.EmptiedTiles.{Said, said_of, said_alike, left_of, seen_fronts, bodies_below, first_kept}
 use Rattle.jk_code.proofs.HeaderFacts.{sides_of}
 use Rattle.jk_code.proofs.Tiling.{tile_value, tile_levels}
 use Rattle.jk_code.proofs.WindowBands.{seen, values_local}
@@ -144,20 +144,17 @@ record AreTwins (bytes new : List ℕ) (h g : Headers) (w : Rect) (d t : ℕ) : 
   second : packets_at new g t ≡ Ok (places_at new g t)
   same : AreSameNeeded h w d t (bodies_of bytes (places_at bytes h t)) (bodies_of new (places_at new g t))
 
-abbrev bodies_in : List Packet → (c r n : ℕ) → List Body
-bodies_in packets c r n = flat_map (λ (p : Packet). p.bodies) (of_precinct c r n packets)
-
 again_ok : (bytes : List ℕ) (h : Headers) (t : ℕ) (places : List PacketPlace) → packets_at bytes h t ≡ Ok places → places ≡ places_at bytes h t
 again_ok bytes h t places read = sym (ap places_or read)
 
 twins : (bytes new : List ℕ) (h g : Headers) (w : Rect) (d t : ℕ) (runs : ℕ → List (List Packet)) → AreHeaders (length bytes) h → AreHeaders (length new) g → AreAlike g h → t < tile_count h.siz
-    → HasRuns bytes h t (runs t) → HasRuns new g t (kept_runs h (needed_by h w d) runs t) → AreTwins bytes new h g w d t
+    → HasRuns bytes h t (runs t) → HasRuns new g t (front_runs h (seen_fronts h w d None) runs t) → AreTwins bytes new h g w d t
 twins bytes new h g w d t runs are sound alike lt has again =
     let f = tile_in h.tiles t in
     let keep = needed_by h w d t in
     let packets = joined_runs (runs t) in
-    let others = joined_runs (kept_runs h (needed_by h w d) runs t) in
-    let left = left_of h (kept_layers h (needed_by h w d)) runs t in
+    let others = joined_runs (front_runs h (seen_fronts h w d None) runs t) in
+    let left = left_of h (seen_fronts h w d None) runs t in
     let there : t < tile_count g.siz = subst (λ (s : Siz). t < tile_count s) (sym alike.siz) lt in
     let mine = packets_only bytes h t packets are lt has.packets in
     let theirs = packets_only new g t others sound there again.packets in
@@ -170,14 +167,16 @@ twins bytes new h g w d t runs are sound alike lt has again =
       first = mine.1 ∙ ap done one;
       second = theirs.1 ∙ ap done two;
       same = λ c r n few under precinct needed.
-          (let kept : bodies_in left c r n ≡ cond (keep c r n) (bodies_in packets c r n) [] =
-          kept_bodies (shape_in h.siz f t) keep f.cod.sop f.cod.eph packets c r n has.packets.order
-          (record { component = omega (arith, few, all); resolution = omega (arith, under); precinct = precinct }) in
+          (let kept : bodies_below None left c r n ≡ cond (keep c r n) (bodies_below None packets c r n) [] =
+          kept_bodies (shape_in h.siz f t) keep f.cod.layers f.cod.sop f.cod.eph packets c r n has.packets.order
+          (record { component = omega (arith, few, all); resolution = omega (arith, under); precinct = precinct })
+          ∙ first_kept (keep c r n) None f.cod.layers (of_precinct c r n packets)
+          (all_layers (shape_in h.siz f t) packets c r n has.packets.order (record { component = omega (arith, few, all); resolution = omega (arith, under); precinct = precinct })) in
           ap (λ (ws : List PacketPlace). bodies_of bytes ws c r n) (sym one)
           ∙ sym (bodies_are bytes packets mine.0 c r n mine.2)
-          ∙ sym (ap (λ b. cond b (bodies_in packets c r n) []) needed)
+          ∙ sym (ap (λ b. cond b (bodies_below None packets c r n) []) needed)
           ∙ sym kept
-          ∙ sym (ap (λ (ps : List Packet). bodies_in ps c r n) (runs_kept (kept_packet (of_fronts (kept_layers h (needed_by h w d) t)) f.cod.sop f.cod.eph) (runs t)))
+          ∙ sym (ap (λ (ps : List Packet). bodies_below None ps c r n) (runs_kept (kept_packet (of_fronts (seen_fronts h w d None t)) f.cod.sop f.cod.eph) (runs t)))
           ∙ bodies_are new others theirs.0 c r n theirs.2
           ∙ ap (λ (ws : List PacketPlace). bodies_of new ws c r n) two);
     }
@@ -236,21 +235,21 @@ shown_by bytes h d w =
     seen_packets_tested bytes h d w (tile_count h.siz) >>= λ _. seen_parts_tested bytes h d w (tile_count h.siz) >>= λ _. Ok (picture_with h.siz w (planes_of_tiles bytes h d w))
 
 view_again : (bytes new : List ℕ) (h g : Headers) (v : View) (w : Rect) (runs : ℕ → List (List Packet)) → AreHeaders (length bytes) h → AreHeaders (length new) g → AreAlike g h
-    → HaveRuns bytes h runs → HaveRuns new g (kept_runs h (needed_by h w v.reduce) runs) → window_at h v ≡ Ok w → view_at g new v ≡ view_at h bytes v
+    → HaveRuns bytes h runs → HaveRuns new g (front_runs h (seen_fronts h w v.reduce None) runs) → area_at h v ≡ Ok w → view_at g new v ≡ view_at h bytes v
 view_again bytes new h g v w runs are sound alike has again seen =
     let d = v.reduce in
     let n = tile_count h.siz in
     let count : tile_count g.siz ≡ n = ap tile_count alike.siz in
-    let found = window_found h v w are.tiles seen in
+    let found = area_found h v w are.tiles seen in
     let long = are.tiles in
     let many = sound.tiles in
     let levels : HaveLevels g d = levels_alike d g.tiles h.tiles found.0.levels (many ∙ count ∙ sym long) (λ t lt. alike.codings t (omega (arith, lt, many, count))) in
     let frame : frame_of h d ≡ frame_of g d = ap (λ (s : Siz). reduced_area (image_area s) d) (sym alike.siz) in
     let window : window_of h v ≡ window_of g v = ap (λ (s : Siz). let a = reduced_area (image_area s) d in meet a record { x0 = a.x0 + v.x; y0 = a.y0 + v.y; x1 = a.x0 + v.x + v.width; y1 = a.y0 + v.y + v.height }) (sym alike.siz) in
-    let there : window_at g v ≡ Ok (window_of g v) =
-    window_only g v many (record { levels = levels; image = ap is_empty (sym frame) ∙ found.0.image; window = ap is_empty (sym window) ∙ found.0.window }) in
+    let there : area_at g v ≡ Ok (window_of g v) =
+    area_only g v many (record { levels = levels; image = ap is_empty (sym frame) ∙ found.0.image; window = ap is_empty (sym window) ∙ found.0.window }) in
     let done : Rect → Result Rect Fault = λ x. Ok x in
-    let same : window_at g v ≡ Ok w = there ∙ ap done (sym window ∙ sym found.1) in
+    let same : area_at g v ≡ Ok w = there ∙ ap done (sym window ∙ sym found.1) in
     let twin : (t : ℕ) → t < n → AreTwins bytes new h g w d t = λ t lt. twins bytes new h g w d t runs are sound alike lt (has t lt) (again t (omega (arith, lt, count))) in
     let inside : (x y : ℕ) → IsWithin w x y → IsWithin (frame_of h d) x y = λ x y within.
     (let in_window = subst (λ (a : Rect). IsWithin a x y) found.1 within in
@@ -285,33 +284,34 @@ meaning_is bytes b v read = rw read refl
 
 -- The decoded windows of both are the same, and so is the first fault.
 pub window_kept : IsWindowKept
-window_kept bytes i is v reply due =
+window_kept bytes i is v reply none due =
     let h = i.headers in
     let d = v.reduce in
     bind_then (window_at h v) _ reply due (λ w found rest.
-    let new = codestream_text (cut_tree is w d) in
-    let again = cut_again bytes i is w d in
+    let new = codestream_text (cut_tree is w v) in
+    let again = cut_again bytes i is w v in
     let g = again.headers in
     let own = place_again bytes is.codestream i.place is.holds in
-    let o = boxes_again reply new (reply_holds bytes is.codestream i.place is.holds (cut_tree is w d) reply rest) in
+    let o = boxes_again reply new (reply_holds bytes is.codestream i.place is.holds (cut_tree is w v) reply rest) in
     meaning_is reply o.boxed v o.due
     ∙ ap (λ (c : List ℕ). image_view_at c v) (sym o.here)
     ∙ image_is new g v (only_headers new g again.says)
-    ∙ view_again is.codestream new h g v w is.runs (sound_headers is.codestream h is.says) (sound_headers new g again.says) again.alike is.tiles again.tiles found
+    ∙ view_again is.codestream new h g v w is.runs (sound_headers is.codestream h is.says) (sound_headers new g again.says) again.alike is.tiles
+    (subst (λ (l : Option ℕ). HaveRuns new g (front_runs h (seen_fronts h w d l) is.runs)) none again.tiles) (window_area_is h v w found)
     ∙ sym (image_is is.codestream h v (only_headers is.codestream h is.says))
     ∙ ap (λ (c : List ℕ). image_view_at c v) own.1
     ∙ sym (meaning_is bytes i.place v own.0))
 
 -- A view without a window is refused.
-view_unseen : (bytes : List ℕ) (h : Headers) (v : View) → AreHeaders (length bytes) h → (HasWindow h v → ⊥) → view_at h bytes v ≡ Err BadWindow
-view_unseen bytes h v are none = by (window_at h v) refl
+view_unseen : (bytes : List ℕ) (h : Headers) (v : View) → AreHeaders (length bytes) h → (HasArea h v → ⊥) → view_at h bytes v ≡ Err BadWindow
+view_unseen bytes h v are none = by (area_at h v) refl
   where
-    by : (r : Result Rect Fault) → window_at h v ≡ r → view_at h bytes v ≡ Err BadWindow
-    by (Ok w) e = absurd (none (window_found h v w are.tiles e).0)
+    by : (r : Result Rect Fault) → area_at h v ≡ r → view_at h bytes v ≡ Err BadWindow
+    by (Ok w) e = absurd (none (area_found h v w are.tiles e).0)
     by (Err e) is =
-        view_by bytes h v ∙ ap (λ (r : Result Rect Fault). r >>= shown_by bytes h v.reduce) is ∙ ap (λ (x : Fault). let r : Result Picture Fault = Err x in r) (window_refused h v e is)
+        view_by bytes h v ∙ ap (λ (r : Result Rect Fault). r >>= shown_by bytes h v.reduce) is ∙ ap (λ (x : Fault). let r : Result Picture Fault = Err x in r) (area_refused h v e is)
 
-pub window_unseen : (bytes : List ℕ) (i : IndexFields) → IsIndexOf bytes i → (v : View) → (HasWindow i.headers v → ⊥) → meaning_view_at bytes v ≡ Err BadWindow
+pub window_unseen : (bytes : List ℕ) (i : IndexFields) → IsIndexOf bytes i → (v : View) → (HasArea i.headers v → ⊥) → meaning_view_at bytes v ≡ Err BadWindow
 window_unseen bytes i is v none =
     let h = i.headers in
     let own = place_again bytes is.codestream i.place is.holds in
@@ -319,3 +319,8 @@ window_unseen bytes i is v none =
     ∙ ap (λ (c : List ℕ). image_view_at c v) (sym own.1)
     ∙ image_is is.codestream h v (only_headers is.codestream h is.says)
     ∙ view_unseen is.codestream h v (sound_headers is.codestream h is.says) none
+
+-- What is decoded of a window doesn't depend on the layers that its view asks for.
+pub all_shown : (bytes : List ℕ) (v : View) → meaning_view_at bytes (record v { layers = None }) ≡ meaning_view_at bytes v
+unfolding meaning_view_at image_view_at view_at area_at
+all_shown bytes v = refl

@@ -19,7 +19,7 @@ use Rattle.jk_params.specs.Headers.{Headers}
 use Rattle.jk_params.specs.HeadersReading.{headers_at}
 use Rattle.jk_walk.specs.WalkReading.{packets_at}
 use Rattle.jk_window.specs.declared.view.View.{View}
-use Rattle.jk_window.specs.Views.{have_levels, frame_of, window_in, window_of, window_at}
+use Rattle.jk_window.specs.Views.{have_levels, frame_of, window_in, window_of, area_at}
 use Rattle.jk_tile.specs.decoding.TileReading.{tested, tile_planes_at, part_planes_at}
 use Rattle.jk_tile.proofs.Laws.{fine, each_found, each_only, each_fewer, bind_ok, part_fine}
 use Rattle.jk_code.specs.MeaningReading.{places_at, packets_tested, tiles_tested, reduction_at, sample_of_tiles, picture_with, planes_of_tiles, picture_at, image_at, meaning_at}
@@ -44,12 +44,12 @@ reduced_by h d a e =
     record { levels = levels; some = some; area = ok_is (frame_of h d) a g }))
 
 window_by : (h : Headers) (v : View) → not (have_levels h v.reduce) ≡ false → is_empty (frame_of h v.reduce) ≡ false
-    → window_at h v ≡ (refuse (is_empty (window_of h v)) BadWindow >>= λ _. Ok (window_of h v))
-unfolding window_at
+    → area_at h v ≡ (refuse (is_empty (window_of h v)) BadWindow >>= λ _. Ok (window_of h v))
+unfolding area_at
 window_by h v levels some = rw (levels, some) refl
 
 pub view_by : (bytes : List ℕ) (h : Headers) (v : View) → view_at h bytes v
-    ≡ (window_at h v >>= λ w. seen_packets_tested bytes h v.reduce w (tile_count h.siz) >>= λ _. seen_parts_tested bytes h v.reduce w (tile_count h.siz) >>= λ _. Ok (picture_with h.siz w (planes_of_tiles bytes h v.reduce w)))
+    ≡ (area_at h v >>= λ w. seen_packets_tested bytes h v.reduce w (tile_count h.siz) >>= λ _. seen_parts_tested bytes h v.reduce w (tile_count h.siz) >>= λ _. Ok (picture_with h.siz w (planes_of_tiles bytes h v.reduce w)))
 unfolding view_at
 view_by bytes h v = refl
 

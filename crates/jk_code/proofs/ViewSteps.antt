@@ -9,8 +9,8 @@ use Rattle.jk_params.specs.Headers.{Headers, AreHeaders}
 use Rattle.jk_walk.specs.declared.places.PacketPlace.{PacketPlace}
 use Rattle.jk_walk.specs.WalkReading.{packets_at}
 use Rattle.jk_window.specs.declared.view.View.{View}
-use Rattle.jk_window.specs.Views.{HaveLevels, frame_of, window_of, window_at}
-use Rattle.jk_window.proofs.Laws.{window_found}
+use Rattle.jk_window.specs.Views.{HaveLevels, frame_of, window_of, area_at}
+use Rattle.jk_window.proofs.Laws.{area_found}
 use Rattle.jk_tile.specs.Filling.{IsPartOf, touches}
 use Rattle.jk_tile.specs.TileMeaning.{shown_area}
 use Rattle.jk_tile.specs.decoding.TileReading.{tested}
@@ -151,9 +151,9 @@ pub record IsViewed (h : Headers) (v : View) (w : Rect) : Type 0 where
   pub inside : IsPartOf w (frame_of h v.reduce)
   pub frame : HasFrame w
 
-pub is_viewed : (size : ℕ) (h : Headers) (v : View) (w : Rect) → AreHeaders size h → window_at h v ≡ Ok w → w.x1 < 2 ^ 31 → w.y1 < 2 ^ 31 → IsViewed h v w
+pub is_viewed : (size : ℕ) (h : Headers) (v : View) (w : Rect) → AreHeaders size h → area_at h v ≡ Ok w → w.x1 < 2 ^ 31 → w.y1 < 2 ^ 31 → IsViewed h v w
 is_viewed size h v w are e right lower =
-    let found = window_found h v w are.tiles e in
+    let found = area_found h v w are.tiles e in
     let a = frame_of h v.reduce in
     let image = sides_of a found.0.image in
     let some : is_empty w ≡ false = ap is_empty found.1 ∙ found.0.window in

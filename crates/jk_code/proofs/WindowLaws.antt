@@ -1,5 +1,5 @@
 -- The file of a window means a picture that is the stored one on the window.
-use Rattle.std.proofs.Common.{◌≡◌, ℕ, suc, ◌+◌, ◌-◌, ◌<◌, ◌≤◌, not, List, [], ◌∷◌, ◌++◌, length, Result, Ok, ℤ, refl, sym, ap, ◌∙◌, subst, inl, inr, arith}
+use Rattle.std.proofs.Common.{◌≡◌, ℕ, suc, ◌+◌, ◌-◌, ◌<◌, ◌≤◌, not, List, [], ◌∷◌, ◌++◌, length, Option, Result, Ok, ℤ, refl, sym, ap, ◌∙◌, subst, inl, inr, arith}
 use Rattle.std.specs.Prelude.{slice_range}
 use Rattle.std.specs.List.{flat_map, AllByRecursion}
 use Rattle.jk_math.specs.Answer.{◌>>=◌, refuse}
@@ -28,11 +28,11 @@ use Rattle.jk_tile.specs.TileMeaning.{shown_area, DecodesTile}
 use Rattle.jk_tile.specs.decoding.TileReading.{tested, tile_planes_at, component_samples}
 use Rattle.jk_tile.proofs.Laws.{tile_only, tested_ok}
 use Rattle.jk_window.specs.declared.view.View.{View}
-use Rattle.jk_window.specs.Views.{have_levels, window_of, window_at, HaveLevels, frame_of}
+use Rattle.jk_window.specs.Views.{have_levels, window_of, area_at, window_at, HaveLevels, frame_of}
 use Rattle.jk_window.specs.Indexing.{IndexFields, IsIndexOf}
 use Rattle.jk_window.specs.Cutting.{with_codestream, cut_tree}
-use Rattle.jk_window.proofs.Laws.{cut_again}
-use Rattle.jk_code.specs.Meaning.{IsFrameOf, ShowsTile, MeansPicture, Means}
+use Rattle.jk_window.proofs.Laws.{cut_again, window_area_is}
+use Rattle.jk_code.specs.Meaning.{IsFrameOf, ShowsLayers, ShowsTile, MeansPictureIn, MeansPicture, MeansLayers}
 use Rattle.jk_code.specs.MeaningReading.{places_or, places_at}
 use Rattle.jk_code.specs.Windows.{IsSameOnWindow, IsWindowMeant}
 use Rattle.jk_code.proofs.FrameLaws.{tiles_picture, tiles_frame, tiles_sample}
@@ -42,23 +42,23 @@ use Rattle.jk_code.proofs.WindowTile.{IsTileSeen, tile_seen}
 
 -- ---- the stored file
 
--- What a codestream of these headers means.
-record IsPictureOf (codestream : List ℕ) (h : Headers) (d : ℕ) (p : Picture) : Type 0 where
+-- What a codestream of these headers means, in these layers.
+record IsPictureOf (codestream : List ℕ) (h : Headers) (d : ℕ) (layers : Option ℕ) (p : Picture) : Type 0 where
   reduction : HaveLevels h d
   frame : IsFrameOf h d p
-  tiles : (t : ℕ) → t < tile_count h.siz → ShowsTile codestream h d p t
+  tiles : (t : ℕ) → t < tile_count h.siz → ShowsLayers codestream h d layers p t
 
 -- There is one reading of a file's codestream and headers.
-picture_of : (bytes : List ℕ) (i : IndexFields) (is : IsIndexOf bytes i) (d : ℕ) (p : Picture) → Means bytes d p → IsPictureOf is.codestream i.headers d p
-picture_of bytes i is d p m =
+picture_of : (bytes : List ℕ) (i : IndexFields) (is : IsIndexOf bytes i) (d : ℕ) (layers : Option ℕ) (p : Picture) → MeansLayers bytes d layers p → IsPictureOf is.codestream i.headers d layers p
+picture_of bytes i is d layers p m =
     let o = boxes_again bytes m.codestream m.holds in
     let own = place_again bytes is.codestream i.place is.holds in
     let place : o.boxed ≡ i.place = ok_is o.boxed i.place (sym o.due ∙ own.0) in
     let same : m.codestream ≡ is.codestream = o.here ∙ ap (λ (b : Boxed). slice_range bytes b.start b.end) place ∙ sym own.1 in
-    let picture : MeansPicture is.codestream d p = subst (λ (c : List ℕ). MeansPicture c d p) same m.picture in
+    let picture : MeansPictureIn is.codestream d layers p = subst (λ (c : List ℕ). MeansPictureIn c d layers p) same m.picture in
     let headers : picture.headers ≡ i.headers =
     ok_is picture.headers i.headers (sym (only_headers is.codestream picture.headers picture.says) ∙ only_headers is.codestream i.headers is.says) in
-    subst (λ (h : Headers). IsPictureOf is.codestream h d p) headers (record { reduction = picture.reduction; frame = picture.frame; tiles = picture.tiles })
+    subst (λ (h : Headers). IsPictureOf is.codestream h d layers p) headers (record { reduction = picture.reduction; frame = picture.frame; tiles = picture.tiles })
 
 -- ---- what is the same of alike headers
 
@@ -77,8 +77,9 @@ levels_alike d (f ∷ tiles) (g ∷ others) all long same = (
 -- ---- the window
 
 window_is : (h : Headers) (v : View) (w : Rect) → window_at h v ≡ Ok w → w ≡ window_of h v
-unfolding window_at
-window_is h v w e =
+unfolding area_at
+window_is h v w is =
+    let e = window_area_is h v w is in
     let last : Unit {0} → Result Rect Fault = λ u. Ok (window_of h v) in
     let second : Unit {0} → Result Rect Fault = λ u. refuse (is_empty (window_of h v)) BadWindow >>= last in
     let first : Unit {0} → Result Rect Fault = λ u. refuse (is_empty (frame_of h v.reduce)) BadWindow >>= second in
@@ -135,11 +136,12 @@ record IsReply (new : List ℕ) (h : Headers) (d : ℕ) (w : Rect) (p : Picture)
   count : length (tiles_picture new headers d).planes ≡ h.siz.components
   same : (c x y : ℕ) → c < h.siz.components → IsWithin (frame_of h d) x y → IsWithin w x y → sample_at (tiles_picture new headers d) c (x - (frame_of headers d).x0) (y - (frame_of headers d).y0) ≡ sample_at p c (x - p.x0) (y - p.y0)
 
-reply_is : (bytes : List ℕ) (i : IndexFields) (is : IsIndexOf bytes i) (w : Rect) (d : ℕ) (p : Picture) → IsPictureOf is.codestream i.headers d p → IsReply (codestream_text (cut_tree is w d)) i.headers d w p
-reply_is bytes i is w d p picture =
+reply_is : (bytes : List ℕ) (i : IndexFields) (is : IsIndexOf bytes i) (w : Rect) (v : View) (p : Picture) → IsPictureOf is.codestream i.headers v.reduce v.layers p → IsReply (codestream_text (cut_tree is w v)) i.headers v.reduce w p
+reply_is bytes i is w v p picture =
+    let d = v.reduce in
     let h = i.headers in
-    let new = codestream_text (cut_tree is w d) in
-    let again = cut_again bytes i is w d in
+    let new = codestream_text (cut_tree is w v) in
+    let again = cut_again bytes i is w v in
     let g = again.headers in
     let alike = again.alike in
     let stored = sound_headers is.codestream h is.says in
@@ -154,7 +156,7 @@ reply_is bytes i is w d p picture =
     let frame = tiles_frame new g d (subst (λ (a : Rect). a.x0 < a.x1) (sym some) (omega (arith, left, right, wide))) (subst (λ (a : Rect). a.y0 < a.y1) (sym some) (omega (arith, upper, lower, high))) in
     let levels : HaveLevels g d = levels_alike d g.tiles h.tiles picture.reduction (many ∙ count ∙ sym long) (λ t lt. alike.codings t (omega (arith, lt, many, count))) in
     let seen_at : (t : ℕ) (lt : t < tile_count h.siz) → IsTileSeen new g (tile_area h.siz t) t d w h.siz.components (picture.tiles t lt).samples = λ t lt.
-    tile_seen is.codestream new h g t d w is.runs (picture.tiles t lt).samples stored alike lt (tile_levels d h.tiles t picture.reduction (omega (arith, lt, long)))
+    tile_seen is.codestream new h g t d w v.layers is.runs (picture.tiles t lt).samples stored alike lt (tile_levels d h.tiles t picture.reduction (omega (arith, lt, long)))
     (is.tiles t lt) (again.tiles t (omega (arith, lt, count))) (picture.tiles t lt).decoded in
     let shown_at : (t : ℕ) (lt : t < tile_count h.siz) → IsShown new g d t (seen_at t lt).shown = λ t lt.
     tile_shown new g d t (seen_at t lt).shown sound (omega (arith, lt, count)) (tile_levels d g.tiles t levels (omega (arith, lt, count, many))) (seen_at t lt).decoded in
@@ -218,10 +220,10 @@ same_window new h v w p own frame r =
 -- What the file of a window means.
 pub window_meant : IsWindowMeant
 window_meant bytes i is v reply due p m =
-    let picture = picture_of bytes i is v.reduce p m in
+    let picture = picture_of bytes i is v.reduce v.layers p m in
     bind_then (window_at i.headers v) _ reply due (λ w found rest.
-    let r = reply_is bytes i is w v.reduce p picture in
-    let tree = cut_tree is w v.reduce in (
+    let r = reply_is bytes i is w v p picture in
+    let tree = cut_tree is w v in (
       tiles_picture (codestream_text tree) r.headers v.reduce,
       record { codestream = codestream_text tree; holds = reply_holds bytes is.codestream i.place is.holds tree reply rest; picture = r.means },
       same_window (codestream_text tree) i.headers v w p (window_is i.headers v w found) picture.frame r,

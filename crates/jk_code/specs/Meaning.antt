@@ -1,5 +1,5 @@
--- What a file means: the picture that decoding gives, at a reduction.
-use Rattle.std.specs.Prelude.{◌≡◌, ℕ, ◌+◌, ◌-◌, ◌*◌, ◌<◌, ◌≤◌, List, length, All, ℤ}
+-- What a file means: the picture that decoding gives, at a reduction, of all layers or the first.
+use Rattle.std.specs.Prelude.{◌≡◌, ℕ, ◌+◌, ◌-◌, ◌*◌, ◌<◌, ◌≤◌, List, length, All, Option, None, ℤ}
 use Rattle.std.specs.List.{AllByRecursion}
 use Rattle.jk_math.specs.Picture.{Picture, sample_at}
 use Rattle.jk_marks.specs.Siz.{tile_count}
@@ -7,7 +7,7 @@ use Rattle.jk_boxes.specs.Boxes.{HoldsCodestream}
 use Rattle.jk_geom.specs.Rectangles.{IsWithin}
 use Rattle.jk_geom.specs.Partitions.{image_area, reduced_area}
 use Rattle.jk_params.specs.Headers.{Headers, tile_in, IsHeaders}
-use Rattle.jk_tile.specs.TileMeaning.{shown_area, DecodesTile}
+use Rattle.jk_tile.specs.TileMeaning.{shown_area, DecodesLayers}
 
 -- the place, size, depth and sign of the reduced image, which isn't empty
 pub record IsFrameOf (h : Headers) (d : ℕ) (p : Picture) : Type 0 where
@@ -22,24 +22,37 @@ pub record IsFrameOf (h : Headers) (d : ℕ) (p : Picture) : Type 0 where
   pub components : length p.planes ≡ h.siz.components
   pub planes : All (λ plane. length plane ≡ p.width * p.height) p.planes
 
--- tile t of the picture is what the packets of the tile decode to
-pub record ShowsTile (codestream : List ℕ) (h : Headers) (d : ℕ) (p : Picture) (t : ℕ) : Type 0 where
+-- tile t of the picture is what the packets of the tile decode to, of which these layers are decoded
+pub record ShowsLayers (codestream : List ℕ) (h : Headers) (d : ℕ) (layers : Option ℕ) (p : Picture)
+    (t : ℕ) : Type 0 where
   pub samples : ℕ → ℕ → ℕ → ℤ
-  pub decoded : DecodesTile codestream h (tile_in h.tiles t) t d samples
+  pub decoded : DecodesLayers codestream h (tile_in h.tiles t) t d layers samples
   pub placed : (component x y : ℕ) → component < h.siz.components → IsWithin (shown_area h.siz t d) x y
       → sample_at p component (x - p.x0) (y - p.y0) ≡ samples component x y
 
--- The codestream means the picture at reduction d, which no tile-component's decomposition levels
--- fall short of.
-pub record MeansPicture (codestream : List ℕ) (d : ℕ) (p : Picture) : Type 0 where
+-- with all layers
+abbrev pub ShowsTile : List ℕ → Headers → (d : ℕ) → Picture → (t : ℕ) → Type 0
+ShowsTile codestream h d p t = ShowsLayers codestream h d None p t
+
+-- In these layers the codestream means the picture at reduction d, which no tile-component's
+-- decomposition levels fall short of.
+pub record MeansPictureIn (codestream : List ℕ) (d : ℕ) (layers : Option ℕ) (p : Picture) : Type 0 where
   pub headers : Headers
   pub says : IsHeaders codestream headers
   pub reduction : AllByRecursion (λ f. AllByRecursion (λ k. d ≤ k.levels) f.codings) headers.tiles
   pub frame : IsFrameOf headers d p
-  pub tiles : (t : ℕ) → t < tile_count headers.siz → ShowsTile codestream headers d p t
+  pub tiles : (t : ℕ) → t < tile_count headers.siz → ShowsLayers codestream headers d layers p t
 
--- The bytes are a file, bare or JP2, whose codestream means the picture at reduction d.
-pub record Means (bytes : List ℕ) (d : ℕ) (p : Picture) : Type 0 where
+abbrev pub MeansPicture : List ℕ → (d : ℕ) → Picture → Type 0
+MeansPicture codestream d p = MeansPictureIn codestream d None p
+
+-- The bytes are a file, bare or JP2, whose codestream means the picture at reduction d, in these
+-- layers.
+pub record MeansLayers (bytes : List ℕ) (d : ℕ) (layers : Option ℕ) (p : Picture) : Type 0 where
   pub codestream : List ℕ
   pub holds : HoldsCodestream bytes codestream
-  pub picture : MeansPicture codestream d p
+  pub picture : MeansPictureIn codestream d layers p
+
+-- with all its layers
+abbrev pub Means : List ℕ → (d : ℕ) → Picture → Type 0
+Means bytes d p = MeansLayers bytes d None p

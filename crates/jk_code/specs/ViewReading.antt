@@ -1,4 +1,5 @@
--- Decoding a window from front to back, with the first fault that is met.
+-- Decoding a window from front to back, with the first fault that is met. All layers are decoded,
+-- whatever layers the view asks for.
 use Rattle.std.specs.Prelude.{ℕ, Bool, not, List, slice_range, Result, Ok, if◌then◌else◌}
 use Rattle.jk_math.specs.Answer.{◌>>=◌}
 use Rattle.jk_math.specs.declared.fault.Fault.{Fault}
@@ -11,7 +12,7 @@ use Rattle.jk_params.specs.Headers.{Headers}
 use Rattle.jk_params.specs.HeadersReading.{headers_at}
 use Rattle.jk_walk.specs.WalkReading.{packets_at}
 use Rattle.jk_window.specs.declared.view.View.{View}
-use Rattle.jk_window.specs.Views.{window_at}
+use Rattle.jk_window.specs.Views.{area_at}
 use Rattle.jk_tile.specs.TileMeaning.{shown_area}
 use Rattle.jk_tile.specs.decoding.TileReading.{each, tested, part_planes_at}
 use Rattle.jk_code.specs.MeaningReading.{places_at, picture_with, planes_of_tiles}
@@ -38,7 +39,7 @@ seen_parts_tested bytes h d w n =
 -- are judged before the code-blocks of any; what the window doesn't depend on isn't judged.
 unfoldable pub view_at : Headers → List ℕ → View → Result Picture Fault
 view_at h bytes v = do
-  w ← window_at h v
+  w ← area_at h v
   _ ← seen_packets_tested bytes h v.reduce w (tile_count h.siz)
   _ ← seen_parts_tested bytes h v.reduce w (tile_count h.siz)
   Ok (picture_with h.siz w (planes_of_tiles bytes h v.reduce w))

@@ -1,10 +1,10 @@
 -- Windows of pictures: what the file of a window means.
-use Rattle.std.specs.Prelude.{◌≡◌, ℕ, ◌+◌, ◌<◌, ◌≤◌, List, length, Ok}
+use Rattle.std.specs.Prelude.{◌≡◌, ℕ, ◌+◌, ◌<◌, ◌≤◌, List, length, None, Ok}
 use Rattle.jk_math.specs.Picture.{Picture, sample_at}
 use Rattle.jk_window.specs.declared.view.View.{View}
 use Rattle.jk_window.specs.Indexing.{IndexFields, IsIndexOf}
 use Rattle.jk_window.specs.Cutting.{cut_file}
-use Rattle.jk_code.specs.Meaning.{Means}
+use Rattle.jk_code.specs.Meaning.{MeansLayers, Means}
 use Rattle.jk_code.specs.Viewing.{picture_of_view}
 use Rattle.jk_code.specs.ViewReading.{meaning_view_at}
 
@@ -26,23 +26,24 @@ pub record IsSameOnWindow (v : View) (p q : Picture) : Type 0 where
 abbrev pub IsWindowOf : View → Picture → List ℕ → Type 0
 IsWindowOf v p reply = (q : Picture) × Means reply v.reduce q × IsSameOnWindow v p q
 
--- What the file of a window means, where the stored file means a picture at the reduction.
+-- What the file of a window means, where the stored file means a picture at the reduction of its
+-- view, in the layers that the view asks for.
 abbrev pub IsWindowMeant : Type 0
 IsWindowMeant = (bytes : List ℕ) (i : IndexFields) (is : IsIndexOf bytes i) (v : View) (reply : List ℕ)
-    → cut_file is v ≡ Ok reply → (p : Picture) → Means bytes v.reduce p → IsWindowOf v p reply
+    → cut_file is v ≡ Ok reply → (p : Picture) → MeansLayers bytes v.reduce v.layers p → IsWindowOf v p reply
 
 -- The reply means a picture that on the window of the view is what p is there.
 abbrev pub ShowsWindow : View → Picture → List ℕ → Type 0
 ShowsWindow v p reply = (q : Picture) × Means reply v.reduce q × (picture_of_view v q ≡ picture_of_view v p)
 
--- Where the stored file means a picture at the reduction, the file of a window shows it on the
--- window.
+-- Where the stored file means a picture at the reduction, in the layers that the view asks for, the
+-- file of a window shows it on the window.
 abbrev pub IsWindowShown : Type 0
 IsWindowShown = (bytes : List ℕ) (i : IndexFields) (is : IsIndexOf bytes i) (v : View) (reply : List ℕ)
-    → cut_file is v ≡ Ok reply → (p : Picture) → Means bytes v.reduce p → ShowsWindow v p reply
+    → cut_file is v ≡ Ok reply → (p : Picture) → MeansLayers bytes v.reduce v.layers p → ShowsWindow v p reply
 
--- Decoding the window of the file of a window gives what decoding the window of the stored file
--- gives: the image, or the first fault of its code-blocks.
+-- Decoding the window of the file of a window with all layers gives what decoding the window of the
+-- stored file gives: the image, or the first fault of its code-blocks.
 abbrev pub IsWindowKept : Type 0
 IsWindowKept = (bytes : List ℕ) (i : IndexFields) (is : IsIndexOf bytes i) (v : View) (reply : List ℕ)
-    → cut_file is v ≡ Ok reply → meaning_view_at reply v ≡ meaning_view_at bytes v
+    → v.layers ≡ None → cut_file is v ≡ Ok reply → meaning_view_at reply v ≡ meaning_view_at bytes v

@@ -185,7 +185,7 @@ fn meaning_view(alloc: Global, bytes: &[u8], view: View) -> Result<Image, Fault>
 
 /// The window of a view of the image that a file, a bare codestream or a JP2 file, means: what
 /// `decode` gives at the view's reduction, on the rectangle of the view, cut with the reduced
-/// image. It takes the time and memory of the window, not of the image, but for the headers of the
+/// image. All layers are decoded, whatever layers the view asks for. It takes the time and memory of the window, not of the image, but for the headers of the
 /// packets of the tiles that it meets.
 ///
 /// The first of these faults: those of the boxes; those of `read_codestream`; BadWindow for a
@@ -205,7 +205,7 @@ pub fn decode_window(alloc: Global, bytes: &[u8], view: View) -> Result<Image, F
 }
 
 /// The window of a view of the image that a file means, by the file's index: what [`decode_window`]
-/// gives. Of the file's packets that the window doesn't need not one byte is read.
+/// gives, with all layers. Of the file's packets that the window doesn't need not one byte is read.
 ///
 /// With the index of these bytes the faults are those of `decode_window`; those of boxes, headers
 /// and packets don't come, as a file with an index has none. If the index isn't that of these
@@ -224,6 +224,10 @@ pub fn decode_window_by(
     ensures means { IsIndexOf bytes.now index.now → (p : Picture) → Means bytes.now view.reduce p
         → Answers (λ i. i) result (picture_of_view view p) }
 {
-    let file = window(alloc, bytes, index, view)?;
-    decode_window(alloc, &file, view)
+    let whole = View {
+        layers: None,
+        ..view
+    };
+    let file = window(alloc, bytes, index, whole)?;
+    decode_window(alloc, &file, whole)
 }

@@ -8,26 +8,27 @@ ghost use Rattle.jk_math.specs.declared.fault.Fault.TheVariants.{BadWindow, Chan
 ghost use Rattle.jk_window.specs.Views.{HasWindow};
 ghost use Rattle.jk_window.specs.Indexing.{IndexFields, IsIndexOf};
 ghost use Rattle.jk_window.specs.Cutting.{cut_file};
-ghost use Rattle.jk_code.specs.Meaning.{Means};
+ghost use Rattle.jk_code.specs.Meaning.{MeansLayers, Means};
 ghost use Rattle.jk_code.specs.Windows.{IsWindowOf, IsWindowMeant, IsWindowShown, IsWindowKept};
 
 use jk_math::Fault;
 use jk_window::{Index, View, cut};
 use std::alloc::Global;
 
-/// Where a file means a picture at a reduction, the file of a window of it means one of the same
-/// place, size, depth, sign and number of components, with the same samples in the window.
+/// Where a file means a picture at the reduction of a view, in the layers that it asks for, the
+/// file of the view's window means one of the same place, size, depth, sign and number of
+/// components, with the same samples in the window.
 pub fn windows_show_the_picture()
     ensures { IsWindowMeant }
 {}
 
-/// Where a file means a picture at the reduction of a view, the decoded window of the file of the
-/// view's window is the decoded window of the stored file: `decode_window` gives the same image of
-/// both.
+/// What `decode_window` gives of the file of a view's window: where the view asks for all layers,
+/// what it gives of the stored file; and where the stored file means a picture in the layers that
+/// the view asks for, that picture on the window.
 pub fn cut_files_show_the_window()
     // The file of the window means a picture that on the window is that of the stored file.
     ensures shown { IsWindowShown }
-    // What is decoded of both is the same.
+    // What is decoded of both is the same, where all layers are asked for.
     ensures kept { IsWindowKept }
 {}
 
@@ -37,10 +38,11 @@ pub fn pictures_have_indexes()
 {}
 
 /// The file of the window of a view, as `jk_window::cut` makes it: the stored file, in which the
-/// packets that the window doesn't need are empty.
+/// packets that the window doesn't need, and those of later layers than the view asks for, are
+/// empty.
 ///
-/// BadWindow: a tile-component has fewer decomposition levels than the reduction, or the reduced
-/// image or the window has no sample. Changed: the index isn't that of these bytes. If the index
+/// BadWindow: the view asks for no layer, a tile-component has fewer decomposition levels than the
+/// reduction, or the reduced image or the window has no sample. Changed: the index isn't that of these bytes. If the index
 /// isn't and another answer is given, nothing is known of it.
 pub fn window(alloc: Global, bytes: &[u8], index: &Index, view: View) -> Result<Vec<u8>, Fault>
     // With the index of these bytes it is the file of the window, or BadWindow.
@@ -50,8 +52,8 @@ pub fn window(alloc: Global, bytes: &[u8], index: &Index, view: View) -> Result<
     ensures changed { result ≡ Err Fault.Changed → IsIndexOf bytes.now index.now → ⊥ }
     // BadWindow is answered only where the view has no window, whichever index it is.
     ensures unseen { result ≡ Err Fault.BadWindow → HasWindow index.now.headers view → ⊥ }
-    // What the bytes mean, the reply means on the window.
-    ensures means { IsIndexOf bytes.now index.now → (p : Picture) → Means bytes.now view.reduce p
+    // What the bytes mean in the layers that are asked for, the reply means on the window.
+    ensures means { IsIndexOf bytes.now index.now → (p : Picture) → MeansLayers bytes.now view.reduce view.layers p
         → IfOk result (λ v. IsWindowOf view p v.items) }
 {
     cut(alloc, index, bytes, view)

@@ -6,7 +6,7 @@ ghost use Rattle.jk_math.specs.Picture.{Picture};
 ghost use Rattle.jk_math.specs.declared.fault.Fault.{Fault as FaultValue};
 ghost use Rattle.jk_window.specs.Indexing.{IndexFields, IsIndexOf, index_at};
 ghost use Rattle.jk_window.specs.Cutting.{cut_file};
-ghost use Rattle.jk_code.specs.Meaning.{Means};
+ghost use Rattle.jk_code.specs.Meaning.{MeansLayers};
 ghost use Rattle.jk_code.specs.Windows.{IsWindowOf};
 
 use jk_code::window;
@@ -24,8 +24,9 @@ pub fn cut_file(alloc: Global, bytes: &[u8], view: View) -> Result<Vec<u8>, Faul
     // Of a file with an index it is the file of the window, or BadWindow.
     ensures exact { (i : IndexFields) (is : IsIndexOf bytes.now i) → Answers (λ v. v.items) result (cut_file is view) }
     ensures indexed { IfOk result (λ _. (i : IndexFields) × IsIndexOf bytes.now i) }
-    // What the file means, the window means on its rectangle.
-    ensures means { (p : Picture) → Means bytes.now view.reduce p → IfOk result (λ v. IsWindowOf view p v.items) }
+    // What the file means in the layers that are asked for, the window means on its rectangle.
+    ensures means { (p : Picture) → MeansLayers bytes.now view.reduce view.layers p
+        → IfOk result (λ v. IsWindowOf view p v.items) }
 {
     let index = index(alloc, bytes)?;
     window(alloc, bytes, &index, view)

@@ -25,7 +25,7 @@ fn window_image(alloc: Global, bytes: Vec<u8>, view: View) -> Result<Image, Faul
 }
 
 /// What `jk decode` writes of a window of a file, a bare codestream or a JP2 file, at the reduction
-/// of the view.
+/// of the view and in all layers.
 ///
 /// The first of the faults that `jk_code::decode_window` names, BadWindow among them; then
 /// Unsupported for an image that has no PGM or PPM file. Packets and code-blocks on which no sample

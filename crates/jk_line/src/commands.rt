@@ -47,7 +47,8 @@ const CUT_WORDS: &str = "\
 Columns and rows are counted on the reduced image, from its upper left sample; what passes its edge
 is left out. The new file is the old one, in which the packets that the window doesn't need are
 empty: a decoder gives the whole image at any reduction up to the asked one, and on the window it is
-that of the old file.";
+that of the old file. With --layers K the packets of later layers are empty too: on the window it is
+what the first K layers of the old file give.";
 
 /// What `jk add` does.
 const ADD_WORDS: &str = "\
@@ -57,10 +58,11 @@ NAME.jp2; a name that is taken is refused. Nothing is printed.";
 /// What `jk serve` answers.
 const SERVE_WORDS: &str = "\
 GET /images lists the images, a line each: NAME WIDTH HEIGHT COMPONENTS DEPTH LEVELS.
-GET /images/NAME is the stored file. GET /images/NAME/window?x=N&y=N&w=N&h=N&r=D is a window of it,
-as `jk cut` makes it; without r it isn't reduced. Connections are answered one after another. What
-the folder holds when the server starts is listed; files that aren't JP2 files, files NAME.tmp of an
-adding that was broken off, and files that can't be opened are named on standard error.";
+GET /images/NAME is the stored file. GET /images/NAME/window?x=N&y=N&w=N&h=N&r=D&layers=K is a
+window of it, as `jk cut` makes it; without r it isn't reduced, and without layers it has all of
+them. Connections are answered one after another. What the folder holds when the server starts is
+listed; files that aren't JP2 files, files NAME.tmp of an adding that was broken off, and files that
+can't be opened are named on standard error.";
 
 /// What a word of a command line is.
 #[derive(Clone, Copy)]
@@ -344,6 +346,11 @@ fn cut<'a>(alloc: Global) -> Result<Command<'a>, AllocError> {
             "reduce",
             Form::Default("D", "0"),
             "How often to halve the image before, at most the LEVELS of `jk info`",
+        ),
+        Word(
+            "layers",
+            Form::Number("K"),
+            "How many layers to keep, all where there are fewer; without it all of them",
         ),
         EXPLAIN,
     ];

@@ -62,7 +62,7 @@ static CAUSES: [(Fault, &str); 21] = [
     ),
     (
         Fault::BadWindow,
-        "a reduction past the least number of levels, or a window or reduced image without a sample",
+        "a reduction past the least number of levels, no layer, or a window or reduced image without a sample",
     ),
     (Fault::NoSuchImage, "the name isn't listed"),
     (

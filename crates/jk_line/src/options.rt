@@ -54,21 +54,27 @@ pub(crate) fn reduction(line: &ArgMatches<'_>) -> u32 {
     number(line, "reduce", 0)
 }
 
-/// A window.
-pub(crate) fn view(line: &ArgMatches<'_>) -> View {
+/// A window, in so many layers.
+fn view(line: &ArgMatches<'_>, layers: Option<u32>) -> View {
     View {
         reduce: reduction(line),
         x: number(line, "x", 0),
         y: number(line, "y", 0),
         width: number(line, "w", 0),
         height: number(line, "h", 0),
+        layers,
     }
+}
+
+/// The window to cut out.
+pub(crate) fn cut(line: &ArgMatches<'_>) -> View {
+    view(line, line.get_one::<u32>("layers"))
 }
 
 /// The window to decode, where one is given: its four numbers come together.
 pub(crate) fn window(line: &ArgMatches<'_>) -> Option<View> {
     match line.get_one::<u32>("x") {
-        Some(_) => Some(view(line)),
+        Some(_) => Some(view(line, None)),
         None => None,
     }
 }

@@ -126,7 +126,7 @@ fn info<W: World>(alloc: Global, line: &ArgMatches<'_>, world: &mut W) -> Result
 /// `jk cut IN OUT`.
 fn cut<W: World>(alloc: Global, line: &ArgMatches<'_>, world: &mut W) -> Result<(), Failure> {
     let bytes = read(alloc, world, options::input(line))?;
-    match cut_file(alloc, &bytes, options::view(line)) {
+    match cut_file(alloc, &bytes, options::cut(line)) {
         Ok(file) => write(alloc, world, options::output(line), &file),
         Err(fault) => Err(of_file(alloc, fault, left_out(&bytes))),
     }

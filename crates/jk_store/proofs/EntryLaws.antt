@@ -13,14 +13,14 @@ use Rattle.jk_window.specs.Views.{HasWindow, window_at}
 use Rattle.jk_window.specs.Indexing.{IndexFields, IsIndexOf}
 use Rattle.jk_window.specs.Cutting.{cut_file}
 use Rattle.jk_window.proofs.Laws.{window_found, window_refused}
-use Rattle.jk_code.specs.Meaning.{Means}
+use Rattle.jk_code.specs.Meaning.{MeansLayers}
 use Rattle.jk_code.specs.Windows.{IsWindowOf}
 use Rattle.jk_store.specs.declared.entry.Entry.{Entry}
 use Rattle.jk_store.specs.Catalogue.{IsFileOf, IsCutFrom, IsWindowGiven}
 
 module _ {S X : Type 0} (items : X → List ℕ) (gave : S → List ℕ → List ℕ → S → Type 0) (e : Entry) (v : View) (old new : S) (file : List ℕ) (is_file : IsFileOf gave e old file new) where
   pub cut_given : (r : Result X Fault) → ((is : IsIndexOf file e.index) → Answers items r (cut_file is v))
-      → (IsIndexOf file e.index → (p : Picture) → Means file v.reduce p → IfOk r (λ w. IsWindowOf v p (items w)))
+      → (IsIndexOf file e.index → (p : Picture) → MeansLayers file v.reduce v.layers p → IfOk r (λ w. IsWindowOf v p (items w)))
       → IfOk r (λ w. (f : List ℕ) × IsFileOf gave e old f new × IsCutFrom e.index v f (items w))
   cut_given (Ok w) exact means = (file, is_file, record { cut = exact; means = means })
   cut_given (Err x) exact means = tt

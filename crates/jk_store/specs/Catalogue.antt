@@ -14,7 +14,7 @@ use Rattle.jk_boxes.specs.Reading.{boxes_at}
 use Rattle.jk_window.specs.declared.view.View.{View}
 use Rattle.jk_window.specs.Indexing.{IndexFields, IsIndexOf, index_at}
 use Rattle.jk_window.specs.Cutting.{cut_file}
-use Rattle.jk_code.specs.Meaning.{Means}
+use Rattle.jk_code.specs.Meaning.{MeansLayers}
 use Rattle.jk_code.specs.Windows.{IsWindowOf}
 use Rattle.jk_store.specs.Files.{Files}
 use Rattle.jk_store.specs.Names.{is_good_name, file_name}
@@ -91,7 +91,7 @@ IsOtherFile gave e old new = (file : List ℕ) × gave old (file_name (string_by
 -- it means there.
 pub record IsCutFrom (i : IndexFields) (v : View) (file reply : List ℕ) : Type 0 where
   pub cut : (is : IsIndexOf file i) → cut_file is v ≡ Ok reply
-  pub means : IsIndexOf file i → (p : Picture) → Means file v.reduce p → IsWindowOf v p reply
+  pub means : IsIndexOf file i → (p : Picture) → MeansLayers file v.reduce v.layers p → IsWindowOf v p reply
 
 -- What is given is the window that is due, and BadWindow is answered only where that is due.
 abbrev pub IsWindowGiven : Result (List ℕ) Fault → Result (Vec ℕ) Fault → Type 0

@@ -36,7 +36,7 @@ line_of e =
 
 -- the view that is asked for
 abbrev pub view_of : Asked → View
-view_of a = record { reduce = a.reduce; x = a.x; y = a.y; width = a.width; height = a.height }
+view_of a = record { reduce = a.reduce; x = a.x; y = a.y; width = a.width; height = a.height; layers = a.layers }
 
 -- what is given, if it isn't refused
 abbrev pub given_of : {A : Type 0} → Result A Fault → Option A

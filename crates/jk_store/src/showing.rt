@@ -63,6 +63,7 @@ fn view(asked: Asked) -> View
         y: asked.y,
         width: asked.width,
         height: asked.height,
+        layers: asked.layers,
     }
 }
 

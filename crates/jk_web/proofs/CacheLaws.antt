@@ -29,7 +29,8 @@ same_asked a b e =
     let y : a.y ≡ b.y = grind (arith, nat_tests) in
     let w : a.width ≡ b.width = grind (arith, nat_tests) in
     let h : a.height ≡ b.height = grind (arith, nat_tests) in
-    rw (r, x, y, w, h) refl
+    let l : a.layers ≡ b.layers = search (rules, nat_tests) in
+    rw (r, x, y, w, h, l) refl
 
 same_cut : (a b : CutKey) (v : List ℕ) → same_key a b ≡ true → kept_cut b.name.items (asked_of b) v ≡ kept_cut a.name.items (asked_of a) v
 same_cut a b v e = ap (λ (n : List ℕ). kept_cut n (asked_of b) v) (sym (same_name a b e)) ∙ ap (λ (q : Asked). kept_cut a.name.items q v) (sym (same_asked a b e))
@@ -79,6 +80,7 @@ same_of a b name asked =
     let y : b.y ≡ a.y = ap (λ (q : Asked). q.y) asked in
     let w : b.width ≡ a.width = ap (λ (q : Asked). q.width) asked in
     let h : b.height ≡ a.height = ap (λ (q : Asked). q.height) asked in
+    let l : b.layers ≡ a.layers = ap (λ (q : Asked). q.layers) asked in
     search (rules, bytes_eq-Decides)
 
 pub never_kept : (key : CutKey) (pairs : List (CutKey × Vec ℕ)) → lookup (same_key key) pairs ≡ None → (b : List ℕ) → Has (kept_in pairs) key.name.items (asked_of key) b → ⊥

@@ -7,7 +7,7 @@ use Rattle.jk_web.specs.Cuts.{KeptCut, kept_cut}
 
 -- the window of a key
 abbrev pub asked_of : CutKey → Asked
-asked_of k = record { reduce = k.reduce; x = k.x; y = k.y; width = k.width; height = k.height }
+asked_of k = record { reduce = k.reduce; x = k.x; y = k.y; width = k.width; height = k.height; layers = k.layers }
 
 -- what a pair keeps
 abbrev pub kept_of : CutKey × Vec ℕ → KeptCut

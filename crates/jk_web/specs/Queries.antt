@@ -28,9 +28,10 @@ is_number text =
 unfoldable pub number_of : List ℕ → Option ℕ
 number_of text = if is_number text then Some (digits_value 10 text) else None
 
--- the names of the left edge, the upper edge, the width, the height and the reduction
+-- the names of the left edge, the upper edge, the width, the height, the reduction and the number of
+-- layers
 abbrev pub keys : List (List ℕ)
-keys = codes "x" ∷ codes "y" ∷ codes "w" ∷ codes "h" ∷ codes "r" ∷ []
+keys = codes "x" ∷ codes "y" ∷ codes "w" ∷ codes "h" ∷ codes "r" ∷ codes "layers" ∷ []
 
 -- whether a pair has this name
 abbrev pub has_key : List ℕ → List ℕ × List ℕ → Bool
@@ -48,11 +49,12 @@ stands_once pairs key = nat_le (count_by (has_key key) pairs) 1
 abbrev pub number_at : List ℕ → List (List ℕ × List ℕ) → Option ℕ
 number_at key pairs = option_and_then (λ p. number_of p.1) (find (has_key key) pairs)
 
--- a window, where its four sides are given; the reduction is 0 where it isn't
-abbrev pub window_of : Option ℕ → Option ℕ → Option ℕ → Option ℕ → Option ℕ → Option Asked
-window_of (Some x) (Some y) (Some width) (Some height) reduce =
-    Some record { reduce = unwrap_or reduce 0; x = x; y = y; width = width; height = height }
-window_of _ _ _ _ _ = None
+-- a window, where its four sides are given; the reduction is 0 where it isn't, and all layers are
+-- asked for where no number of them is
+abbrev pub window_of : Option ℕ → Option ℕ → Option ℕ → Option ℕ → Option ℕ → Option ℕ → Option Asked
+window_of (Some x) (Some y) (Some width) (Some height) reduce layers =
+    Some record { reduce = unwrap_or reduce 0; x = x; y = y; width = width; height = height; layers = layers }
+window_of _ _ _ _ _ _ = None
 
 -- The window that pairs ask for: each pair has one of the names and a number, and no name stands
 -- twice.
@@ -60,5 +62,5 @@ abbrev pub asked_by : List (List ℕ × List ℕ) → Option Asked
 asked_by pairs =
     if list_all is_reading pairs && list_all (stands_once pairs) keys
     then window_of (number_at (codes "x") pairs) (number_at (codes "y") pairs) (number_at (codes "w") pairs)
-    (number_at (codes "h") pairs) (number_at (codes "r") pairs)
+    (number_at (codes "h") pairs) (number_at (codes "r") pairs) (number_at (codes "layers") pairs)
     else None

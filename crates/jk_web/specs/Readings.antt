@@ -10,7 +10,7 @@ use Rattle.jk_web.specs.Queries.{has_key, is_reading, number_at, window_of}
 -- what was read, by name
 abbrev pub slots : Readings → List (List ℕ × Option ℕ)
 slots r = (codes "x", r.x) ∷ (codes "y", r.y) ∷ (codes "w", r.width) ∷ (codes "h", r.height) ∷ (codes "r", r.reduce)
-    ∷ []
+    ∷ (codes "layers", r.layers) ∷ []
 
 -- whether a name stands once in all, what was read counted
 abbrev pub is_once : List (List ℕ × List ℕ) → List ℕ × Option ℕ → Bool
@@ -26,5 +26,5 @@ asked_with r pairs =
     if list_all is_reading pairs && list_all (is_once pairs) (slots r)
     then window_of (number_with r.x (codes "x") pairs) (number_with r.y (codes "y") pairs)
     (number_with r.width (codes "w") pairs) (number_with r.height (codes "h") pairs)
-    (number_with r.reduce (codes "r") pairs)
+    (number_with r.reduce (codes "r") pairs) (number_with r.layers (codes "layers") pairs)
     else None

@@ -26,6 +26,7 @@ struct CutKey {
     y: u32,
     width: u32,
     height: u32,
+    layers: Option<u32>,
 }
 
 /// The windows that were asked for last, so many at most and none of more than 2^20 bytes.
@@ -78,6 +79,7 @@ fn key_of(alloc: Global, name: &[u8], asked: Asked) -> Result<CutKey, AllocError
         y: asked.y,
         width: asked.width,
         height: asked.height,
+        layers: asked.layers,
     })
 }
 

@@ -16,7 +16,7 @@ use std::alloc::Global;
 const MOST_DIGITS: usize = 10;
 
 /// A window that a query asks for: a rectangle of an image at a reduction, counted from the upper
-/// left sample of the reduced image.
+/// left sample of the reduced image, in its first layers.
 #[derive(Clone, Copy, Debug, PartialEq, Eq)]
 pub struct Asked {
     /// How often the image is halved.
@@ -25,6 +25,8 @@ pub struct Asked {
     pub y: u32,
     pub width: u32,
     pub height: u32,
+    /// How many layers; `None`: all.
+    pub layers: Option<u32>,
 }
 
 /// The numbers of a query, as far as they were read.
@@ -35,6 +37,7 @@ struct Readings {
     width: Option<u32>,
     height: Option<u32>,
     reduce: Option<u32>,
+    layers: Option<u32>,
 }
 
 /// Whether each byte is a digit.
@@ -86,6 +89,7 @@ impl Readings {
             "w" => fill(&mut self.width, number),
             "h" => fill(&mut self.height, number),
             "r" => fill(&mut self.reduce, number),
+            "layers" => fill(&mut self.layers, number),
             _ => false,
         }
     }
@@ -94,7 +98,7 @@ impl Readings {
 impl Readings {
     /// The window, where its four sides were read.
     fn window(self) -> Option<Asked>
-        ensures { result ≡ window_of self.x self.y self.width self.height self.reduce }
+        ensures { result ≡ window_of self.x self.y self.width self.height self.reduce self.layers }
     {
         Some(Asked {
             reduce: self.reduce.unwrap_or(0),
@@ -102,12 +106,13 @@ impl Readings {
             y: self.y?,
             width: self.width?,
             height: self.height?,
+            layers: self.layers,
         })
     }
 }
 
-/// The window that a query asks for, by numbers `x`, `y`, `w` and `h`, and `r` where it isn't 0.
-/// None where one of them is missing or stands twice, another name stands there, or a value is no
+/// The window that a query asks for, by numbers `x`, `y`, `w` and `h`, and `r` where it isn't 0, and
+/// `layers` where not all are asked for. None where one of them is missing or stands twice, another name stands there, or a value is no
 /// number of 1 to 10 digits below 2^32.
 pub fn window_asked(alloc: Global, query: &[u8]) -> Result<Option<Asked>, Fault>
     ensures exact { IfOk result (λ window. window ≡ asked_by (pairs_of query.now)) }
@@ -119,6 +124,7 @@ pub fn window_asked(alloc: Global, query: &[u8]) -> Result<Option<Asked>, Fault>
         width: None,
         height: None,
         reduce: None,
+        layers: None,
     };
     for pair in parse(alloc, query) {
         let (key, value) = pair?;

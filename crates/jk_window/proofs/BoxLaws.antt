@@ -55,10 +55,10 @@ not_refused bytes i e is refused = let clash : Err e ≡ Ok i.place = refused �
 
 -- the file of a window, once the window is known
 pub due_is : (bytes : List ℕ) (i : IndexFields) (view : View) (h : Headers) (w : Rect) → (is : IsIndexOf bytes i) → h ≡ i.headers → Ok w ≡ window_at h view
-    → cut_file is view ≡ with_codestream is.holds (codestream_text (cut_tree is w view.reduce))
+    → cut_file is view ≡ with_codestream is.holds (codestream_text (cut_tree is w view))
 due_is bytes i view h w is same found =
     let due : window_at i.headers view ≡ Ok w = sym (ap (λ (x : Headers). window_at x view) same) ∙ sym found in
-    ap (λ (r : Result Rect Fault). r >>= λ v. with_codestream is.holds (codestream_text (cut_tree is v view.reduce))) due
+    ap (λ (r : Result Rect Fault). r >>= λ v. with_codestream is.holds (codestream_text (cut_tree is v view))) due
 
 pub match_answers : (r : Result (Vec ℕ) Fault) (due again : Result (List ℕ) Fault) → again ≡ due → MatchResult r (λ v. due ≡ Ok v.items) (λ e. IsMemory e) → Answers (λ v. v.items) r again
 match_answers (Ok v) due again same h = same ∙ h

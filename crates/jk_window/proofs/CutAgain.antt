@@ -18,10 +18,11 @@ use Rattle.jk_params.proofs.Laws.{contents_of, places_are, said_at}
 use Rattle.jk_walk.specs.TilePackets.{slice_of, shape_in, Packet, IsTile}
 use Rattle.jk_window.specs.Emptied.{kept_packet, emptied_run, run_text, of_fronts, emptied_part, emptied_tree}
 use Rattle.jk_window.specs.Indexing.{IndexFields, joined_runs, HasRuns, IsIndexOf}
-use Rattle.jk_window.specs.Cutting.{HaveRuns, content_of, cut_tree}
-use Rattle.jk_window.specs.Again.{needed_by, front_runs, front_content, kept_layers, kept_runs, AreAlike, IsAgain}
-use Rattle.jk_window.proofs.EmptiedLaws.{tile_layers, tile_short, run_of}
-use Rattle.jk_window.proofs.KeptPackets.{runs_kept, texts_of, run_kept}
+use Rattle.jk_window.specs.declared.view.View.{View}
+use Rattle.jk_window.specs.Cutting.{HaveRuns, front_content, fronts_of, cut_tree}
+use Rattle.jk_window.specs.Again.{front_runs, AreAlike, IsAgain}
+use Rattle.jk_window.proofs.EmptiedLaws.{tile_short}
+use Rattle.jk_window.proofs.KeptPackets.{runs_kept, texts_of}
 use Rattle.jk_window.proofs.KeptSegments.{main_kept, cod_same, coding_same, codings_same}
 use Rattle.jk_window.proofs.PartsAgain.{own_emptied, head_emptied, runs_are, contents_made, IsShort, parts_short, parts_again}
 use Rattle.jk_window.proofs.TileAgain.{tile_again}
@@ -169,10 +170,5 @@ pub front_again : (bytes : List ℕ) (h : Headers) (is : IsHeaders bytes h) (run
 front_again bytes h is runs have fronts = content_again bytes h is runs have fronts (front_content h fronts runs) (λ t n lt. refl)
 
 -- that of a window
-pub cut_again : (bytes : List ℕ) (i : IndexFields) (is : IsIndexOf bytes i) (w : Rect) (d : ℕ) → IsAgain (codestream_text (cut_tree is w d)) i.headers (kept_runs i.headers (needed_by i.headers w d) is.runs)
-cut_again bytes i is w d =
-    let h = i.headers in
-    content_again is.codestream h is.says is.runs is.tiles (kept_layers h (needed_by h w d)) (content_of h is.runs w d) (λ t n lt.
-    (let f = tile_in h.tiles t in
-    let below = tile_layers (shape_in h.siz f t) f.cod.sop f.cod.eph (joined_runs (is.runs t)) (map (slice_of is.codestream) f.data_places) (is.tiles t lt).packets in
-    ap run_text (run_kept (needed_by h w d t) f.cod.layers f.cod.sop f.cod.eph (get_or (is.runs t) n []) (run_of (λ (p : Packet). p.name.layer < f.cod.layers) (is.runs t) n below))))
+pub cut_again : (bytes : List ℕ) (i : IndexFields) (is : IsIndexOf bytes i) (w : Rect) (v : View) → IsAgain (codestream_text (cut_tree is w v)) i.headers (front_runs i.headers (fronts_of i.headers w v) is.runs)
+cut_again bytes i is w v = front_again is.codestream i.headers is.says is.runs is.tiles (fronts_of i.headers w v)

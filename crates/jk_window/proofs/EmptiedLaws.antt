@@ -9,7 +9,7 @@ use Rattle.jk_packet.specs.PacketText.{IsHeaderText, eph_text}
 use Rattle.jk_packet.proofs.Laws.{sop_only, zero_packs, some_packed}
 use Rattle.jk_walk.specs.TilePackets.{Packet, IsPacket, IsTile}
 use Rattle.jk_walk.proofs.Laws.{sop_by}
-pub use Rattle.jk_walk.proofs.Laws.{HasBit, no_packet, tile_layers, tile_bits}
+pub use Rattle.jk_walk.proofs.Laws.{HasBit, no_packet, tile_bits}
 use Rattle.jk_window.specs.Indexing.{joined_runs}
 use Rattle.jk_window.specs.Emptied.{begins_sop, sop_of, emptied_text, emptied_packet, kept_packet, emptied_run, run_text}
 

@@ -25,9 +25,10 @@ use Rattle.jk_boxes.proofs.Laws.{place_again, in_file, recoded_there}
 use Rattle.jk_params.specs.Headers.{Headers, tile_in, headers_of}
 use Rattle.jk_params.proofs.Laws.{part_text_length, part_placed}
 use Rattle.jk_walk.specs.TilePackets.{slice_of, shape_in}
+use Rattle.jk_window.specs.declared.view.View.{View}
 use Rattle.jk_window.specs.Emptied.{emptied_part}
 use Rattle.jk_window.specs.Indexing.{IndexFields, IsIndexOf}
-use Rattle.jk_window.specs.Cutting.{keeps, content_of, parts_text, cut_tree, with_codestream}
+use Rattle.jk_window.specs.Cutting.{keeps, front_content, fronts_of, parts_text, cut_tree, with_codestream}
 use Rattle.jk_window.specs.Planning.{part_from, part_size, framed, framed_size, around, headed, reboxed, front_of, made_of, Fits, IsHead, IsSound}
 use Rattle.jk_window.proofs.BoxLaws.{recoded_fits}
 use Rattle.jk_window.proofs.EmptiedLaws.{tile_short}
@@ -67,15 +68,15 @@ parts_same siz a b (p ∷ parts) same each =
 
 -- ---- the codestream
 
-pub codestream_is : (bytes : List ℕ) (i : IndexFields) (is : IsIndexOf bytes i) (w : Rect) (d : ℕ) → framed i.frame (part_from bytes i w d) ≡ codestream_text (cut_tree is w d)
-codestream_is bytes i is w d =
+pub codestream_is : (bytes : List ℕ) (i : IndexFields) (is : IsIndexOf bytes i) (w : Rect) (v : View) → framed i.frame (part_from bytes i w v) ≡ codestream_text (cut_tree is w v)
+codestream_is bytes i is w v =
     let tree = is.says.tree in
     let h = i.headers in
     let f = i.frame in
-    let content = part_from bytes i w d in
-    let due = content_of h is.runs w d in
+    let content = part_from bytes i w v in
+    let due = front_content h (fronts_of h w v) is.runs in
     let siz : h.siz ≡ tree.siz = ap (λ (x : Headers). x.siz) is.says.says ∙ headers_siz tree in
-    let same : (t n : ℕ) → t < tile_count tree.siz → content t n ≡ due t n = λ t n lt. part_is bytes i is w d t n (subst (λ (s : Siz). t < tile_count s) (sym siz) lt) in
+    let same : (t n : ℕ) → t < tile_count tree.siz → content t n ≡ due t n = λ t n lt. part_is bytes i is w v t n (subst (λ (s : Siz). t < tile_count s) (sym siz) lt) in
     ap (λ (xs : List ℕ). xs ++ (heads_text f.heads f.segments content ++ marker_text eoc)) is.frame.main
     ∙ ap (λ (hs : List PartHead). main_text tree.siz (kept_segments tlm tree.segments) ++ (heads_text hs f.segments content ++ marker_text eoc)) is.frame.heads
     ∙ ap (λ (xs : List ℕ). main_text tree.siz (kept_segments tlm tree.segments) ++ (heads_text (map head_of tree.parts) xs content ++ marker_text eoc)) is.frame.segments
@@ -127,10 +128,10 @@ reboxed_is {bytes} {codestream} {place} (inr jp2) form size new own e =
     ap (λ (f : Form). reboxed place f size bytes new) own ∙ jp2_reboxed jp2.0 size new jp2.1 e
 
 -- The file of a window.
-pub made_is : (bytes : List ℕ) (i : IndexFields) (is : IsIndexOf bytes i) (w : Rect) (d : ℕ) → made_of bytes i w d ≡ with_codestream is.holds (codestream_text (cut_tree is w d))
-made_is bytes i is w d =
-    ap (reboxed i.place i.frame.form i.frame.size bytes) (codestream_is bytes i is w d)
-    ∙ reboxed_is is.holds i.frame.form i.frame.size (codestream_text (cut_tree is w d)) is.frame.form is.frame.size
+pub made_is : (bytes : List ℕ) (i : IndexFields) (is : IsIndexOf bytes i) (w : Rect) (v : View) → made_of bytes i w v ≡ with_codestream is.holds (codestream_text (cut_tree is w v))
+made_is bytes i is w v =
+    ap (reboxed i.place i.frame.form i.frame.size bytes) (codestream_is bytes i is w v)
+    ∙ reboxed_is is.holds i.frame.form i.frame.size (codestream_text (cut_tree is w v)) is.frame.form is.frame.size
 
 -- ---- what a plan asks of an index, whatever the bytes are
 
@@ -203,19 +204,19 @@ box_fits (inl bare) new short = refl
 box_fits {bytes} {codestream} (inr jp2) new short = let r = recoded_fits bytes codestream new jp2.0 short in recoded_form bytes codestream new r.0 jp2.0 r.1
 
 -- the sizes of the data, by the index alone
-sizes_are : (bytes : List ℕ) (i : IndexFields) (is : IsIndexOf bytes i) (w : Rect) (d : ℕ) → (t n : ℕ) → t < tile_count is.says.tree.siz → part_size i w d t n ≡ length (content_of i.headers is.runs w d t n)
-sizes_are bytes i is w d t n lt =
+sizes_are : (bytes : List ℕ) (i : IndexFields) (is : IsIndexOf bytes i) (w : Rect) (v : View) → (t n : ℕ) → t < tile_count is.says.tree.siz → part_size i w v t n ≡ length (front_content i.headers (fronts_of i.headers w v) is.runs t n)
+sizes_are bytes i is w v t n lt =
     let siz : i.headers.siz ≡ is.says.tree.siz = ap (λ (x : Headers). x.siz) is.says.says ∙ headers_siz is.says.tree in
-    part_sized bytes i is w d t n (subst (λ (s : Siz). t < tile_count s) (sym siz) lt)
+    part_sized bytes i is w v t n (subst (λ (s : Siz). t < tile_count s) (sym siz) lt)
 
 -- How long the codestream is.
-pub size_is : (bytes : List ℕ) (i : IndexFields) (is : IsIndexOf bytes i) (w : Rect) (d : ℕ) → length (codestream_text (cut_tree is w d)) ≡ framed_size i.frame (part_size i w d)
-size_is bytes i is w d =
+pub size_is : (bytes : List ℕ) (i : IndexFields) (is : IsIndexOf bytes i) (w : Rect) (v : View) → length (codestream_text (cut_tree is w v)) ≡ framed_size i.frame (part_size i w v)
+size_is bytes i is w v =
     let tree = is.says.tree in
-    let content = content_of i.headers is.runs w d in
+    let content = front_content i.headers (fronts_of i.headers w v) is.runs in
     let main = main_text tree.siz (kept_segments tlm tree.segments) in
-    let size = part_size i w d in
-    let all = parts_sized tree.siz size content tree.parts (sizes_are bytes i is w d) is.says.spelled.parts.each in
+    let size = part_size i w v in
+    let all = parts_sized tree.siz size content tree.parts (sizes_are bytes i is w v) is.says.spelled.parts.each in
     let heads = ap (λ (hs : List PartHead). sum_by (head_size_with size) hs) is.frame.heads in
     let long = ap (λ (xs : List ℕ). length xs) is.frame.main in
     let text = ap (λ (xs : List ℕ). length xs) (emptied_text_is content tree) in
@@ -223,54 +224,54 @@ size_is bytes i is w d =
     omega (arith, all, heads, long, text, length-append main (parts ++ marker_text eoc), length-append parts (marker_text eoc))
 
 -- All lengths have their places.
-pub fits : (bytes : List ℕ) (i : IndexFields) (is : IsIndexOf bytes i) (w : Rect) (d : ℕ) → Fits i w d
-fits bytes i is w d =
+pub fits : (bytes : List ℕ) (i : IndexFields) (is : IsIndexOf bytes i) (w : Rect) (v : View) → Fits i w v
+fits bytes i is w v =
     let tree = is.says.tree in
     let h = i.headers in
     let f = i.frame in
     let c = is.codestream in
-    let content = content_of h is.runs w d in
-    let size = part_size i w d in
+    let content = front_content h (fronts_of h w v) is.runs in
+    let size = part_size i w v in
     let short = parts_short c h is.says is.runs content is.tiles (λ t n lt.
-    (let x = tile_in h.tiles t in tile_short (keeps h w d t) (shape_in h.siz x t) x.cod.sop x.cod.eph (is.runs t) (map (slice_of c) x.data_places) n (is.tiles t lt).packets)) in
-    let new = codestream_text (cut_tree is w d) in
+    (let x = tile_in h.tiles t in tile_short (keeps h w v t) (shape_in h.siz x t) x.cod.sop x.cod.eph (is.runs t) (map (slice_of c) x.data_places) n (is.tiles t lt).packets)) in
+    let new = codestream_text (cut_tree is w v) in
     let shorter = text_shorter c h is.says content (short_parts content tree.parts short) in
     let box = box_fits is.holds new shorter in
     let here = (place_again bytes c i.place is.holds).1 in
     let own : length c ≤ i.place.end - i.place.start =
     subst (λ (x : List ℕ). length x ≤ i.place.end - i.place.start) (sym here) (take_front (i.place.end - i.place.start) (drop i.place.start bytes)) in
     record {
-      parts = subst (AllByRecursion (λ (x : PartHead). psot_for x (size x.tile x.number) < 2 ^ 32)) (sym is.frame.heads) (parts_fit tree.siz size content tree.parts (sizes_are bytes i is w d) is.says.spelled.parts.each short);
+      parts = subst (AllByRecursion (λ (x : PartHead). psot_for x (size x.tile x.number) < 2 ^ 32)) (sym is.frame.heads) (parts_fit tree.siz size content tree.parts (sizes_are bytes i is w v) is.says.spelled.parts.each short);
       box =
           ap (λ (k : Form). fits_form k (head_size k + framed_size f size)) is.frame.form
-          ∙ ap (λ n. fits_form (form_of is.holds) (head_size (form_of is.holds) + n)) (sym (size_is bytes i is w d))
+          ∙ ap (λ n. fits_form (form_of is.holds) (head_size (form_of is.holds) + n)) (sym (size_is bytes i is w v))
           ∙ box;
-      short = omega (arith, shorter, own, size_is bytes i is w d);
+      short = omega (arith, shorter, own, size_is bytes i is w v);
     }
 
 -- ---- the whole
 
 -- how long the codestream of a window is that an index makes
-framed_long : (bytes : List ℕ) (i : IndexFields) (is : IsIndexOf bytes i) (w : Rect) (d : ℕ) → length (framed i.frame (part_from bytes i w d)) ≡ framed_size i.frame (part_size i w d)
-framed_long bytes i is w d = ap (λ (xs : List ℕ). length xs) (codestream_is bytes i is w d) ∙ size_is bytes i is w d
+framed_long : (bytes : List ℕ) (i : IndexFields) (is : IsIndexOf bytes i) (w : Rect) (v : View) → length (framed i.frame (part_from bytes i w v)) ≡ framed_size i.frame (part_size i w v)
+framed_long bytes i is w v = ap (λ (xs : List ℕ). length xs) (codestream_is bytes i is w v) ∙ size_is bytes i is w v
 
 -- The file of a window, in its order.
-pub made_by : (bytes : List ℕ) (i : IndexFields) (is : IsIndexOf bytes i) (w : Rect) (d n : ℕ) → n ≡ framed_size i.frame (part_size i w d)
-    → made_of bytes i w d ≡ Ok (front_of i n bytes ++ (framed i.frame (part_from bytes i w d) ++ slice_of bytes (i.place.end, i.frame.size)))
-made_by bytes i is w d n e =
-    let new = framed i.frame (part_from bytes i w d) in
+pub made_by : (bytes : List ℕ) (i : IndexFields) (is : IsIndexOf bytes i) (w : Rect) (v : View) (n : ℕ) → n ≡ framed_size i.frame (part_size i w v)
+    → made_of bytes i w v ≡ Ok (front_of i n bytes ++ (framed i.frame (part_from bytes i w v) ++ slice_of bytes (i.place.end, i.frame.size)))
+made_by bytes i is w v n e =
+    let new = framed i.frame (part_from bytes i w v) in
     let form = i.frame.form in
     let behind = new ++ slice_of bytes (i.place.end, i.frame.size) in
-    let long : length new ≡ n = framed_long bytes i is w d ∙ sym e in
-    let fit : fits_form form (head_size form + n) ≡ true = ap (λ k. fits_form form (head_size form + k)) e ∙ (fits bytes i is w d).box in
+    let long : length new ≡ n = framed_long bytes i is w v ∙ sym e in
+    let fit : fits_form form (head_size form + n) ≡ true = ap (λ k. fits_form form (head_size form + k)) e ∙ (fits bytes i is w v).box in
     reboxed_by i.place form i.frame.size bytes new
     ∙ ap (λ k. cond i.place.jp2 (cond (fits_form form (head_size form + k)) (Ok (slice_of bytes (0, i.place.start - head_size form) ++ (head_text form code_kind (head_size form + k) ++ behind))) (Err Limit)) (Ok (around i.place i.frame.size bytes new))) long
     ∙ ap (λ b. cond i.place.jp2 (cond b (Ok (slice_of bytes (0, i.place.start - head_size form) ++ (head_text form code_kind (head_size form + n) ++ behind))) (Err Limit)) (Ok (around i.place i.frame.size bytes new))) fit
     ∙ by i.place.jp2
   where
     by : (b : Bool)
-        → cond {A = Result (List ℕ) Fault} b (Ok (slice_of bytes (0, i.place.start - head_size i.frame.form) ++ (head_text i.frame.form code_kind (head_size i.frame.form + n) ++ (framed i.frame (part_from bytes i w d) ++ slice_of bytes (i.place.end, i.frame.size)))))
-        (Ok (around i.place i.frame.size bytes (framed i.frame (part_from bytes i w d))))
-        ≡ Ok (cond b (slice_of bytes (0, i.place.start - head_size i.frame.form) ++ head_text i.frame.form code_kind (head_size i.frame.form + n)) (slice_of bytes (0, i.place.start)) ++ (framed i.frame (part_from bytes i w d) ++ slice_of bytes (i.place.end, i.frame.size)))
-    by true = ap (λ (xs : List ℕ). Ok xs) (sym (append_assoc (slice_of bytes (0, i.place.start - head_size i.frame.form)) (head_text i.frame.form code_kind (head_size i.frame.form + n)) (framed i.frame (part_from bytes i w d) ++ slice_of bytes (i.place.end, i.frame.size))))
+        → cond {A = Result (List ℕ) Fault} b (Ok (slice_of bytes (0, i.place.start - head_size i.frame.form) ++ (head_text i.frame.form code_kind (head_size i.frame.form + n) ++ (framed i.frame (part_from bytes i w v) ++ slice_of bytes (i.place.end, i.frame.size)))))
+        (Ok (around i.place i.frame.size bytes (framed i.frame (part_from bytes i w v))))
+        ≡ Ok (cond b (slice_of bytes (0, i.place.start - head_size i.frame.form) ++ head_text i.frame.form code_kind (head_size i.frame.form + n)) (slice_of bytes (0, i.place.start)) ++ (framed i.frame (part_from bytes i w v) ++ slice_of bytes (i.place.end, i.frame.size)))
+    by true = ap (λ (xs : List ℕ). Ok xs) (sym (append_assoc (slice_of bytes (0, i.place.start - head_size i.frame.form)) (head_text i.frame.form code_kind (head_size i.frame.form + n)) (framed i.frame (part_from bytes i w v) ++ slice_of bytes (i.place.end, i.frame.size))))
     by false = refl

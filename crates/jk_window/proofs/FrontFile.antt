@@ -7,8 +7,7 @@ use Rattle.jk_boxes.specs.Boxes.{HoldsAt}
 use Rattle.jk_params.proofs.Laws.{part_text_length}
 use Rattle.jk_window.specs.Emptied.{emptied_part}
 use Rattle.jk_window.specs.Indexing.{IndexFields, IsIndexOf}
-use Rattle.jk_window.specs.Cutting.{with_codestream, parts_text}
-use Rattle.jk_window.specs.Again.{front_content}
+use Rattle.jk_window.specs.Cutting.{front_content, with_codestream, parts_text}
 use Rattle.jk_window.specs.Fronts.{front_file}
 use Rattle.jk_window.proofs.BoxLaws.{recoded_fits}
 use Rattle.jk_window.proofs.Lengths.{part_shorter}

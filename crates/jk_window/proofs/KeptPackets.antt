@@ -1,13 +1,12 @@
 -- Packets some of which are emptied: they have their names, they are packets, and they stand in
 -- their runs and precincts.
-use Rattle.std.proofs.Common.{◌≡◌, ℕ, ◌<◌, nat_lt, Bool, true, false, cond, List, [], ◌∷◌, ◌++◌, map, filter, refl, sym, ap, ◌∙◌, arith}
+use Rattle.std.proofs.Common.{◌≡◌, ℕ, Bool, true, false, cond, List, [], ◌∷◌, ◌++◌, map, filter, refl, sym, ap, ◌∙◌}
 use Rattle.std.specs.List.{AllByRecursion}
-use Rattle.std.proofs.lemmas.Bool.{lt-ltb, le-ltb}
 use Rattle.std.proofs.lemmas.List.{map-append}
 use Rattle.jk_geom.specs.declared.shape.PacketName.{PacketName}
 use Rattle.jk_order.specs.PacketOrder.{is_of}
 use Rattle.jk_walk.specs.TilePackets.{Packet, IsPacket, of_precinct}
-use Rattle.jk_window.specs.Emptied.{emptied_packet, kept_packet, emptied_run, run_text, of_fronts}
+use Rattle.jk_window.specs.Emptied.{emptied_packet, kept_packet, emptied_run, run_text}
 use Rattle.jk_window.specs.Indexing.{joined_runs}
 use Rattle.jk_window.proofs.EmptiedLaws.{HasBit, emptied_is}
 
@@ -55,16 +54,3 @@ runs_kept f (run ∷ runs) = ap (λ (ps : List Packet). map f run ++ ps) (runs_k
 pub texts_of : (f : Packet → Packet) (runs : List (List Packet)) → map run_text (map (map f) runs) ≡ map (λ run. run_text (map f run)) runs
 texts_of f [] = refl
 texts_of f (run ∷ runs) = ap (λ (xs : List (List ℕ)). run_text (map f run) ∷ xs) (texts_of f runs)
-
--- Where no packet is of a layer beyond these, a precinct that keeps all layers keeps all packets.
-pub run_kept : (keep : ℕ → ℕ → ℕ → Bool) (layers : ℕ) (sop eph : Bool) (run : List Packet) → AllByRecursion (λ (p : Packet). p.name.layer < layers) run
-    → emptied_run (λ n. keep n.component n.resolution n.precinct) sop eph run ≡ emptied_run (of_fronts (λ c r k. cond (keep c r k) layers 0)) sop eph run
-run_kept keep layers sop eph [] all = refl
-run_kept keep layers sop eph (p ∷ run) all =
-    let own = by (keep p.name.component p.name.resolution p.name.precinct) in
-    let more = run_kept keep layers sop eph run all.1 in
-    λ i. cond (own i) p (emptied_packet sop eph p) ∷ more i
-  where
-    by : (b : Bool) → b ≡ nat_lt p.name.layer (cond b layers 0)
-    by true = sym (lt-ltb p.name.layer layers all.0)
-    by false = sym (le-ltb p.name.layer 0 (omega arith))

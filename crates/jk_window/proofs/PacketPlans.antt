@@ -23,8 +23,9 @@ use Rattle.jk_walk.specs.Entries.{entry_span, IsEntered, EnterAt}
 use Rattle.jk_walk.proofs.Laws.{spans_laid, tile_parts, kept_spans, entries_only}
 use Rattle.jk_walk.specs.Sop.{sop_written}
 use Rattle.jk_window.specs.Emptied.{emptied_packet, kept_packet, emptied_run, run_text}
+use Rattle.jk_window.specs.declared.view.View.{View}
 use Rattle.jk_window.specs.Indexing.{IndexFields, IsIndexOf, entries_of, joined_runs}
-use Rattle.jk_window.specs.Cutting.{Entered, keeps, content_of}
+use Rattle.jk_window.specs.Cutting.{Entered, keeps, front_content, fronts_of}
 use Rattle.jk_window.specs.Planning.{packet_from, packet_size, entered_in, part_packets, part_from, part_size}
 use Rattle.jk_window.proofs.RunMatching.{IsStored, runs_match}
 
@@ -143,11 +144,11 @@ pub stands_in : (bytes : List ℕ) (i : IndexFields) (is : IsIndexOf bytes i) �
 stands_in bytes i is = (place_again bytes is.codestream i.place is.holds).1
 
 -- The data of a part, from the file.
-pub part_is : (bytes : List ℕ) (i : IndexFields) (is : IsIndexOf bytes i) (w : Rect) (d t n : ℕ) → t < tile_count i.headers.siz → part_from bytes i w d t n ≡ content_of i.headers is.runs w d t n
-part_is bytes i is w d t n less =
+pub part_is : (bytes : List ℕ) (i : IndexFields) (is : IsIndexOf bytes i) (w : Rect) (v : View) (t n : ℕ) → t < tile_count i.headers.siz → part_from bytes i w v t n ≡ front_content i.headers (fronts_of i.headers w v) is.runs t n
+part_is bytes i is w v t n less =
     let h = i.headers in
     let f = tile_in h.tiles t in
-    packets_are bytes is.codestream i.place.start i.place.end (keeps h w d t) f.cod.sop f.cod.eph (get_or (is.runs t) n []) (part_packets i t n) (stands_in bytes i is) (matched bytes i is t n less)
+    packets_are bytes is.codestream i.place.start i.place.end (keeps h w v t) f.cod.sop f.cod.eph (get_or (is.runs t) n []) (part_packets i t n) (stands_in bytes i is) (matched bytes i is t n less)
 
 -- ---- lengths
 
@@ -175,9 +176,9 @@ packets_sized file codestream s e keep sop eph (p ∷ run) (v ∷ vs) own all =
     length-append (f v) (flat_map f vs) ∙ ap (λ k. k + length (flat_map f vs)) here ∙ ap (λ k. packet_size keep eph v + k) more ∙ sym sum
 
 -- How long the data of a part are.
-pub part_sized : (bytes : List ℕ) (i : IndexFields) (is : IsIndexOf bytes i) (w : Rect) (d t n : ℕ) → t < tile_count i.headers.siz → part_size i w d t n ≡ length (content_of i.headers is.runs w d t n)
-part_sized bytes i is w d t n less =
+pub part_sized : (bytes : List ℕ) (i : IndexFields) (is : IsIndexOf bytes i) (w : Rect) (v : View) (t n : ℕ) → t < tile_count i.headers.siz → part_size i w v t n ≡ length (front_content i.headers (fronts_of i.headers w v) is.runs t n)
+part_sized bytes i is w v t n less =
     let h = i.headers in
     let f = tile_in h.tiles t in
-    sym (packets_sized bytes is.codestream i.place.start i.place.end (keeps h w d t) f.cod.sop f.cod.eph (get_or (is.runs t) n []) (part_packets i t n) (stands_in bytes i is) (matched bytes i is t n less))
-    ∙ ap (λ (xs : List ℕ). length xs) (part_is bytes i is w d t n less)
+    sym (packets_sized bytes is.codestream i.place.start i.place.end (keeps h w v t) f.cod.sop f.cod.eph (get_or (is.runs t) n []) (part_packets i t n) (stands_in bytes i is) (matched bytes i is t n less))
+    ∙ ap (λ (xs : List ℕ). length xs) (part_is bytes i is w v t n less)

@@ -161,17 +161,17 @@ front_bodies s sop eph packets fronts c r k order precinct =
     ap (λ (ps : List Packet). flat_map (λ (p : Packet). p.bodies) ps) (front_left s sop eph packets fronts c r k order precinct) ∙ front_has sop eph (fronts c r k) (of_precinct c r k packets)
 
 -- all its layers are all its packets
-all_layers : (s : TileShape) (packets : List Packet) (c r k : ℕ) → IsPacketOrder s (map (λ (p : Packet). p.name) packets) → IsPrecinct s c r k → take s.layers (of_precinct c r k packets) ≡ of_precinct c r k packets
+pub all_layers : (s : TileShape) (packets : List Packet) (c r k : ℕ) → IsPacketOrder s (map (λ (p : Packet). p.name) packets) → IsPrecinct s c r k → take s.layers (of_precinct c r k packets) ≡ of_precinct c r k packets
 all_layers s packets c r k order precinct =
     let own = of_precinct c r k packets in
     let names = ap (λ (ns : List PacketName). length ns) (names_are s packets c r k order precinct) in
     take_all s.layers own (omega (arith, names, length-map own (λ (p : Packet). p.name), length-map-range_with_len (layer_name c r k) 0 s.layers))
 
--- Where precincts are kept or not, it has the bodies of one that is kept, and none of any other.
-pub kept_bodies : (s : TileShape) (keep : ℕ → ℕ → ℕ → Bool) (sop eph : Bool) (packets : List Packet) (c r k : ℕ) → IsPacketOrder s (map (λ (p : Packet). p.name) packets) → IsPrecinct s c r k
-    → flat_map (λ (p : Packet). p.bodies) (of_precinct c r k (emptied_run (of_fronts (λ c r k. cond (keep c r k) s.layers 0)) sop eph packets)) ≡ cond (keep c r k) (flat_map (λ (p : Packet). p.bodies) (of_precinct c r k packets)) []
-kept_bodies s keep sop eph packets c r k order precinct = front_bodies s sop eph packets (λ c r k. cond (keep c r k) s.layers 0) c r k order precinct ∙ by (keep c r k)
+-- Where precincts keep their first l layers or nothing, it has the bodies of these layers of one that keeps them, and none of any other.
+pub kept_bodies : (s : TileShape) (keep : ℕ → ℕ → ℕ → Bool) (l : ℕ) (sop eph : Bool) (packets : List Packet) (c r k : ℕ) → IsPacketOrder s (map (λ (p : Packet). p.name) packets) → IsPrecinct s c r k
+    → flat_map (λ (p : Packet). p.bodies) (of_precinct c r k (emptied_run (of_fronts (λ c r k. cond (keep c r k) l 0)) sop eph packets)) ≡ cond (keep c r k) (flat_map (λ (p : Packet). p.bodies) (take l (of_precinct c r k packets))) []
+kept_bodies s keep l sop eph packets c r k order precinct = front_bodies s sop eph packets (λ c r k. cond (keep c r k) l 0) c r k order precinct ∙ by (keep c r k)
   where
-    by : (b : Bool) → flat_map (λ (p : Packet). p.bodies) (take (cond b s.layers 0) (of_precinct c r k packets)) ≡ cond b (flat_map (λ (p : Packet). p.bodies) (of_precinct c r k packets)) []
-    by true = ap (λ (ps : List Packet). flat_map (λ (p : Packet). p.bodies) ps) (all_layers s packets c r k order precinct)
+    by : (b : Bool) → flat_map (λ (p : Packet). p.bodies) (take (cond b l 0) (of_precinct c r k packets)) ≡ cond b (flat_map (λ (p : Packet). p.bodies) (take l (of_precinct c r k packets))) []
+    by true = refl
     by false = refl

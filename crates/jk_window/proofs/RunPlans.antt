@@ -15,6 +15,8 @@ use Rattle.jk_params.specs.Headers.{tile_in}
 use Rattle.jk_walk.specs.declared.entries.PacketEntry.{PacketEntry}
 use Rattle.jk_walk.specs.TilePackets.{shape_in}
 use Rattle.jk_window.specs.declared.contents.TileCut.{TileCut}
+use Rattle.jk_window.specs.declared.view.View.{View}
+use Rattle.jk_window.specs.Views.{layers_in}
 use Rattle.jk_window.specs.Indexing.{IndexFields, entries_of}
 use Rattle.jk_window.specs.Cutting.{Entered, run_at, runs_at, wanted}
 use Rattle.jk_window.specs.Planning.{PlanFields, plan_text, plan_length, IsBehind, tile_packet, tile_packet_size, run_from, IsRunPlan, AreTilePlans, ArePlansUpto, packet_from, packet_size, no_plan}
@@ -152,10 +154,10 @@ runs_end n c names parts plans k next r le =
     subst (λ (xs : List (List Entered)). AllZip (IsRunPlan n c) xs plans) (sym (append-nil r.done) ∙ ap (λ (xs : List (List Entered)). r.done ++ xs) (sym over) ∙ r.goes) r.planned_so
 
 -- The plans of a tile's parts are those of the index's.
-pub tile_plans : (i : IndexFields) (w : Rect) (d t n : ℕ) (c : TileCut) (names : List PacketName) (parts : List (ℕ × ℕ)) (plans : List PlanFields) → AllZip (IsRunPlan n c) (runs_at (entered_by c names) parts) plans → n ≡ i.frame.size
+pub tile_plans : (i : IndexFields) (w : Rect) (v : View) (t n : ℕ) (c : TileCut) (names : List PacketName) (parts : List (ℕ × ℕ)) (plans : List PlanFields) → AllZip (IsRunPlan n c) (runs_at (entered_by c names) parts) plans → n ≡ i.frame.size
     → c.shape.now ≡ shape_in i.headers.siz (tile_in i.headers.tiles t) t → names ≡ order c.shape.now → c.entries.now ≡ entries_of i.packets t → c.eph ≡ (tile_in i.headers.tiles t).cod.eph → c.start ≡ i.place.start
-    → c.top ≡ meet w (reduced_area (tile_area i.headers.siz t) d) → c.reduce ≡ d → parts ≡ (tile_in i.headers.tiles t).data_places → AreTilePlans i w d t plans
-tile_plans i w d t n c names parts plans all size shape named entries eph start top reduce places =
+    → c.top ≡ meet w (reduced_area (tile_area i.headers.siz t) v.reduce) → c.reduce ≡ v.reduce → c.layers ≡ layers_in v.layers (tile_in i.headers.tiles t).cod.layers → parts ≡ (tile_in i.headers.tiles t).data_places → AreTilePlans i w v t plans
+tile_plans i w v t n c names parts plans all size shape named entries eph start top reduce layers places =
     let own_names : names ≡ order (shape_in i.headers.siz (tile_in i.headers.tiles t) t) = named ∙ ap order shape in
     let count = zip_length (IsRunPlan n c) (runs_at (entered_by c names) parts) plans all in
     let long = runs_length (entered_by c names) parts in
@@ -166,19 +168,19 @@ tile_plans i w d t n c names parts plans all size shape named entries eph start 
           let one = zip_get (IsRunPlan n c) (runs_at (entered_by c names) parts) plans k [] no_plan all lt in
           record {
             size = one.size ∙ size;
-            text = λ file. one.text file ∙ (λ j. flat_map (packet_from file (start j) (wanted (shape j) (top j) (reduce j)) (eph j)) (get_or (runs_at (zip (own_names j) (entries j)) (places j)) k []));
-            long = one.long ∙ (λ j. sum_by (packet_size (wanted (shape j) (top j) (reduce j)) (eph j)) (get_or (runs_at (zip (own_names j) (entries j)) (places j)) k []));
+            text = λ file. one.text file ∙ (λ j. flat_map (packet_from file (start j) (wanted (shape j) (top j) (reduce j) (layers j)) (eph j)) (get_or (runs_at (zip (own_names j) (entries j)) (places j)) k []));
+            long = one.long ∙ (λ j. sum_by (packet_size (wanted (shape j) (top j) (reduce j) (layers j)) (eph j)) (get_or (runs_at (zip (own_names j) (entries j)) (places j)) k []));
           };
     }
 
 -- ---- all tiles
 
-pub plans_push : (i : IndexFields) (w : Rect) (d n : ℕ) (all new : List (List PlanFields)) (x : List PlanFields) → ArePlansUpto i w d n all → AreTilePlans i w d n x → new ≡ all ++ x ∷ [] → ArePlansUpto i w d (n + 1) new
-plans_push i w d n all new x before here pushed = subst (ArePlansUpto i w d (n + 1)) (sym pushed) record {
+pub plans_push : (i : IndexFields) (w : Rect) (v : View) (n : ℕ) (all new : List (List PlanFields)) (x : List PlanFields) → ArePlansUpto i w v n all → AreTilePlans i w v n x → new ≡ all ++ x ∷ [] → ArePlansUpto i w v (n + 1) new
+plans_push i w v n all new x before here pushed = subst (ArePlansUpto i w v (n + 1)) (sym pushed) record {
   count = (let count = before.count in omega (arith, count, length-append all (x ∷ [])));
   each = λ t lt. elim (cases_lt t n) [
-    | inl less ↦ subst (AreTilePlans i w d t) (sym (get_or_append_left all (x ∷ []) [] t (omega (arith, less, before.count)))) (before.each t less)
+    | inl less ↦ subst (AreTilePlans i w v t) (sym (get_or_append_left all (x ∷ []) [] t (omega (arith, less, before.count)))) (before.each t less)
     | inr none ↦ (let same : n ≡ t = omega (arith, lt, none) in
-        subst (AreTilePlans i w d t) (sym (get_or_push all x [] t (before.count ∙ same))) (subst (λ k. AreTilePlans i w d k x) same here))
+        subst (AreTilePlans i w v t) (sym (get_or_push all x [] t (before.count ∙ same))) (subst (λ k. AreTilePlans i w v k x) same here))
   ];
 }

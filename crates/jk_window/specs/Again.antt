@@ -1,41 +1,21 @@
 -- A codestream in which packets are empty is a codestream again: what it says, and what its packets
 -- are.
-use Rattle.std.specs.Prelude.{◌≡◌, ℕ, ◌<◌, Bool, if◌then◌else◌, List, [], map, slice_index_or}
+use Rattle.std.specs.Prelude.{◌≡◌, ℕ, ◌<◌, List, map}
 use Rattle.jk_math.specs.declared.rect.Rect.{Rect}
 use Rattle.jk_marks.specs.Siz.{tile_count}
 use Rattle.jk_marks.specs.Codestream.{codestream_text}
-use Rattle.jk_geom.specs.Rectangles.{tile_area}
 use Rattle.jk_params.specs.Headers.{Headers, tile_in, IsHeaders}
 use Rattle.jk_walk.specs.TilePackets.{Packet}
-use Rattle.jk_window.specs.Needs.{is_needed}
-use Rattle.jk_window.specs.Emptied.{emptied_run, run_text, of_fronts, emptied_tree}
+use Rattle.jk_window.specs.declared.view.View.{View}
+use Rattle.jk_window.specs.Emptied.{emptied_run, of_fronts, emptied_tree}
 use Rattle.jk_window.specs.Indexing.{IndexFields, IsIndexOf}
-use Rattle.jk_window.specs.Cutting.{HaveRuns, cut_tree}
-
--- the precincts that a window w at reduction d needs, by tile, component, resolution and number
-abbrev pub needed_by : Headers → (w : Rect) → (d : ℕ) → (t c r k : ℕ) → Bool
-needed_by h w d t c r k = is_needed (tile_area h.siz t) (tile_in h.tiles t).codings w d c r k
+use Rattle.jk_window.specs.Cutting.{HaveRuns, front_content, fronts_of, cut_tree}
 
 -- The runs of tile t, in which each precinct keeps the packets of its first layers, and all others
 -- are empty. How many layers these are the fronts say, by tile, component, resolution and number.
 abbrev pub front_runs : Headers → (fronts : ℕ → ℕ → ℕ → ℕ → ℕ) → (ℕ → List (List Packet)) → ℕ → List (List Packet)
 front_runs h fronts runs t = let f =
     tile_in h.tiles t in map (emptied_run (of_fronts (fronts t)) f.cod.sop f.cod.eph) (runs t)
-
--- the data of its part n
-abbrev pub front_content : Headers → (fronts : ℕ → ℕ → ℕ → ℕ → ℕ) → (ℕ → List (List Packet)) → (t n : ℕ) → List ℕ
-front_content h fronts runs t n =
-    let f = tile_in h.tiles t in
-    run_text (emptied_run (of_fronts (fronts t)) f.cod.sop f.cod.eph (slice_index_or (runs t) n []))
-
--- All layers of a precinct that is kept, and none of any other. Each packet of a tile is of a layer
--- below their number.
-abbrev pub kept_layers : Headers → (keep : ℕ → ℕ → ℕ → ℕ → Bool) → (t c r k : ℕ) → ℕ
-kept_layers h keep t c r k = if keep t c r k then (tile_in h.tiles t).cod.layers else 0
-
--- the runs of tile t, in which the packets of all precincts that aren't kept are empty
-abbrev pub kept_runs : Headers → (keep : ℕ → ℕ → ℕ → ℕ → Bool) → (ℕ → List (List Packet)) → ℕ → List (List Packet)
-kept_runs h keep runs t = front_runs h (kept_layers h keep) runs t
 
 -- Headers say the same of an image and its tiles, but for the places of the data.
 pub record AreAlike (g h : Headers) : Type 0 where
@@ -59,5 +39,5 @@ IsCodestreamAgain = (bytes : List ℕ) (h : Headers) (is : IsHeaders bytes h) (r
 
 -- That of a window.
 abbrev pub IsCutAgain : Type 0
-IsCutAgain = (bytes : List ℕ) (i : IndexFields) (is : IsIndexOf bytes i) (w : Rect) (d : ℕ)
-    → IsAgain (codestream_text (cut_tree is w d)) i.headers (kept_runs i.headers (needed_by i.headers w d) is.runs)
+IsCutAgain = (bytes : List ℕ) (i : IndexFields) (is : IsIndexOf bytes i) (w : Rect) (v : View)
+    → IsAgain (codestream_text (cut_tree is w v)) i.headers (front_runs i.headers (fronts_of i.headers w v) is.runs)

@@ -1,5 +1,5 @@
 -- Examples: what is kept of a tile of two layers and two precincts, by the definitions alone.
-use Rattle.std.specs.Prelude.{◌≡◌, ℕ, ◌-◌, true, ◌&&◌, cond, List, [], ◌∷◌, ◌++◌, map, None, refl}
+use Rattle.std.specs.Prelude.{◌≡◌, ℕ, ◌-◌, true, ◌&&◌, cond, List, [], ◌∷◌, ◌++◌, map, Some, None, refl}
 use Rattle.std.specs.Prelude.{◌==◌}
 use Rattle.jk_marks.specs.declared.siz.Siz.{Siz}
 use Rattle.jk_marks.specs.declared.segments.Order.{Order}
@@ -8,7 +8,9 @@ use Rattle.jk_order.specs.PacketOrder.{layer_name}
 use Rattle.jk_params.specs.Headers.{Headers, TileFields}
 use Rattle.jk_walk.specs.TilePackets.{Packet}
 use Rattle.jk_window.specs.Emptied.{run_text}
-use Rattle.jk_window.specs.Again.{front_runs, front_content, kept_runs}
+use Rattle.jk_window.specs.Views.{layers_in}
+use Rattle.jk_window.specs.Cutting.{front_content}
+use Rattle.jk_window.specs.Again.{front_runs}
 
 -- Two tiles of two layers, with SOP and EPH.
 abbrev tile : Order → CodingStyle → TileFields
@@ -63,6 +65,17 @@ first_layer siz order style = refl
 
 -- a precinct that is kept, with all its layers, and another that isn't
 second_precinct : (siz : Siz) (order : Order) (style : CodingStyle)
-    → map run_text (kept_runs (headers siz order style) (λ t c r k. k == 1) runs 1)
+    → map run_text (front_runs (headers siz order style) (λ _ _ _ k. cond (k == 1) (layers_in None 2) 0) runs 1)
     ≡ (empty 0 ++ whole 1) ∷ ((empty 2 ++ whole 3) ∷ [])
 second_precinct siz order style = refl
+
+-- the same with its first layer alone, and with more layers than there are
+first_of_second : (siz : Siz) (order : Order) (style : CodingStyle)
+    → map run_text (front_runs (headers siz order style) (λ _ _ _ k. cond (k == 1) (layers_in (Some 1) 2) 0) runs 1)
+    ≡ (empty 0 ++ whole 1) ∷ ((empty 2 ++ empty 3) ∷ [])
+first_of_second siz order style = refl
+
+more_of_second : (siz : Siz) (order : Order) (style : CodingStyle)
+    → map run_text (front_runs (headers siz order style) (λ _ _ _ k. cond (k == 1) (layers_in (Some 3) 2) 0) runs 1)
+    ≡ (empty 0 ++ whole 1) ∷ ((empty 2 ++ whole 3) ∷ [])
+more_of_second siz order style = refl

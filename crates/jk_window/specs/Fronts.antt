@@ -4,8 +4,7 @@ use Rattle.jk_math.specs.declared.fault.Fault.{Fault}
 use Rattle.jk_marks.specs.Codestream.{Tree, codestream_text}
 use Rattle.jk_window.specs.Emptied.{emptied_tree}
 use Rattle.jk_window.specs.Indexing.{IndexFields, IsIndexOf}
-use Rattle.jk_window.specs.Cutting.{with_codestream}
-use Rattle.jk_window.specs.Again.{front_content}
+use Rattle.jk_window.specs.Cutting.{front_content, with_codestream}
 
 -- what its codestream spells, where k layers of each precinct are kept
 abbrev pub front_tree : {bytes : List ℕ} {i : IndexFields} → IsIndexOf bytes i → (k : ℕ) → Tree

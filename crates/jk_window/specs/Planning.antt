@@ -24,6 +24,7 @@ use Rattle.jk_walk.specs.Sop.{sop_written}
 use Rattle.jk_walk.specs.TilePackets.{slice_of, shape_in}
 use Rattle.jk_window.specs.declared.steps.CutStep.{CutStep}
 use Rattle.jk_window.specs.declared.contents.TileCut.{TileCut}
+use Rattle.jk_window.specs.declared.view.View.{View}
 use Rattle.jk_window.specs.Framing.{Frame}
 use Rattle.jk_window.specs.Indexing.{IndexFields, entries_of}
 use Rattle.jk_window.specs.Cutting.{Entered, keeps, wanted, run_at, runs_at}
@@ -99,15 +100,15 @@ abbrev pub part_packets : IndexFields → (t n : ℕ) → List Entered
 part_packets i t n = slice_index_or (runs_at (entered_in i t) (tile_in i.headers.tiles t).data_places) n []
 
 -- its data
-abbrev pub part_from : (file : List ℕ) → IndexFields → (w : Rect) → (d t n : ℕ) → List ℕ
-part_from file i w d t n =
-    flat_map (packet_from file i.place.start (keeps i.headers w d t) (tile_in i.headers.tiles t).cod.eph)
+abbrev pub part_from : (file : List ℕ) → IndexFields → (w : Rect) → View → (t n : ℕ) → List ℕ
+part_from file i w v t n =
+    flat_map (packet_from file i.place.start (keeps i.headers w v t) (tile_in i.headers.tiles t).cod.eph)
     (part_packets i t n)
 
 -- how many bytes these are, by the index alone
-abbrev pub part_size : IndexFields → (w : Rect) → (d t n : ℕ) → ℕ
-part_size i w d t n =
-    sum_by (packet_size (keeps i.headers w d t) (tile_in i.headers.tiles t).cod.eph) (part_packets i t n)
+abbrev pub part_size : IndexFields → (w : Rect) → View → (t n : ℕ) → ℕ
+part_size i w v t n =
+    sum_by (packet_size (keeps i.headers w v t) (tile_in i.headers.tiles t).cod.eph) (part_packets i t n)
 
 -- ---- a tile, by what is kept of it
 
@@ -124,10 +125,10 @@ pub record IsTileCut (file : ℕ) (c : TileCut) : Type 0 where
 
 -- what is made of a packet of it, and how many bytes that are
 abbrev pub tile_packet : TileCut → (file : List ℕ) → Entered → List ℕ
-tile_packet c file v = packet_from file c.start (wanted c.shape.now c.top c.reduce) c.eph v
+tile_packet c file v = packet_from file c.start (wanted c.shape.now c.top c.reduce c.layers) c.eph v
 
 abbrev pub tile_packet_size : TileCut → Entered → ℕ
-tile_packet_size c v = packet_size (wanted c.shape.now c.top c.reduce) c.eph v
+tile_packet_size c v = packet_size (wanted c.shape.now c.top c.reduce c.layers) c.eph v
 
 -- its packets from the `next`-th on that stand in a part
 abbrev pub run_from : TileCut → List PacketName → (next : ℕ) → ℕ × ℕ → List Entered
@@ -145,20 +146,20 @@ abbrev pub no_plan : PlanFields
 no_plan = record { steps = []; written = []; size = 0 }
 
 -- the plan of the data of part n of tile t
-pub record IsPartPlan (i : IndexFields) (w : Rect) (d t n : ℕ) (p : PlanFields) : Type 0 where
+pub record IsPartPlan (i : IndexFields) (w : Rect) (v : View) (t n : ℕ) (p : PlanFields) : Type 0 where
   pub size : p.size ≡ i.frame.size
-  pub text : (file : List ℕ) → plan_text file p ≡ part_from file i w d t n
-  pub long : plan_length p ≡ part_size i w d t n
+  pub text : (file : List ℕ) → plan_text file p ≡ part_from file i w v t n
+  pub long : plan_length p ≡ part_size i w v t n
 
 -- the plans of all parts of tile t
-pub record AreTilePlans (i : IndexFields) (w : Rect) (d t : ℕ) (plans : List PlanFields) : Type 0 where
+pub record AreTilePlans (i : IndexFields) (w : Rect) (v : View) (t : ℕ) (plans : List PlanFields) : Type 0 where
   pub count : length plans ≡ length (tile_in i.headers.tiles t).data_places
-  pub each : (n : ℕ) → n < length plans → IsPartPlan i w d t n (slice_index_or plans n no_plan)
+  pub each : (n : ℕ) → n < length plans → IsPartPlan i w v t n (slice_index_or plans n no_plan)
 
 -- the plans of the first n tiles
-pub record ArePlansUpto (i : IndexFields) (w : Rect) (d n : ℕ) (all : List (List PlanFields)) : Type 0 where
+pub record ArePlansUpto (i : IndexFields) (w : Rect) (v : View) (n : ℕ) (all : List (List PlanFields)) : Type 0 where
   pub count : length all ≡ n
-  pub each : (t : ℕ) → t < n → AreTilePlans i w d t (slice_index_or all t [])
+  pub each : (t : ℕ) → t < n → AreTilePlans i w v t (slice_index_or all t [])
 
 -- ---- the file
 
@@ -194,17 +195,17 @@ reboxed place form size file new =
     else Err Limit)
     else Ok (around place size file new)
 
--- the file of the window w at reduction d
-abbrev pub made_of : List ℕ → IndexFields → (w : Rect) → (d : ℕ) → Result (List ℕ) Fault
-made_of file i w d = reboxed i.place i.frame.form i.frame.size file (framed i.frame (part_from file i w d))
+-- the file of the window w of a view
+abbrev pub made_of : List ℕ → IndexFields → (w : Rect) → View → Result (List ℕ) Fault
+made_of file i w v = reboxed i.place i.frame.form i.frame.size file (framed i.frame (part_from file i w v))
 
 -- ---- what an index gives for it
 
 -- each length has its place: Psot of each part its four bytes, the length of the box its form
-pub record Fits (i : IndexFields) (w : Rect) (d : ℕ) : Type 0 where
-  pub parts : AllByRecursion (λ h. psot_for h (part_size i w d h.tile h.number) < 2 ^ 32) i.frame.heads
-  pub box : fits_form i.frame.form (head_size i.frame.form + framed_size i.frame (part_size i w d)) ≡ true
-  pub short : framed_size i.frame (part_size i w d) ≤ i.place.end - i.place.start
+pub record Fits (i : IndexFields) (w : Rect) (v : View) : Type 0 where
+  pub parts : AllByRecursion (λ h. psot_for h (part_size i w v h.tile h.number) < 2 ^ 32) i.frame.heads
+  pub box : fits_form i.frame.form (head_size i.frame.form + framed_size i.frame (part_size i w v)) ≡ true
+  pub short : framed_size i.frame (part_size i w v) ≤ i.place.end - i.place.start
 
 -- a head of a part that the headers know
 pub record IsHead (headers : Headers) (h : PartHead) : Type 0 where

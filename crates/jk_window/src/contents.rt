@@ -1,12 +1,15 @@
 //! What a plan takes of the packets of a tile.
 
-ghost use Rattle.std.specs.Prelude.{◌≡◌, ◌+◌, ◌-◌, ◌≤◌, ◌++◌, ◌∷◌, ℕ, List, length, IfOk, IfErr, OnOk};
+ghost use Rattle.std.specs.Prelude.{◌≡◌, ◌+◌, ◌-◌, ◌≤◌, ◌++◌, ◌∷◌, ℕ, List, length, IfOk, IfErr, OnOk, not, ◌&&◌};
 ghost use Rattle.std.specs.List.{AllByRecursion, AllZip, zip};
 ghost use Rattle.jk_math.specs.Memory.{IsMemory};
+ghost use Rattle.jk_geom.specs.Rectangles.{is_empty};
+ghost use Rattle.jk_geom.specs.TileShapes.{coding_of};
 ghost use Rattle.jk_order.specs.PacketOrder.{IsName};
 ghost use Rattle.jk_packet.specs.PacketText.{eph_text};
 ghost use Rattle.jk_walk.specs.Entries.{IsEntry};
 ghost use Rattle.jk_walk.specs.Sop.{sop_written};
+ghost use Rattle.jk_window.specs.Needs.{needs};
 ghost use Rattle.jk_window.specs.Cutting.{runs_at, wanted};
 ghost use Rattle.jk_window.specs.Planning.{IsTileCut, IsRunPlan, IsBehind, tile_packet, tile_packet_size, run_from};
 
@@ -29,13 +32,17 @@ pub(crate) struct TileCut<'a> {
     /// The window, as far as the reduced tile has it.
     pub(crate) top: Rect,
     pub(crate) reduce: u8,
+    /// How many layers are kept of a precinct that the window needs.
+    pub(crate) layers: u32,
 }
 
-/// Whether the window needs a packet.
-fn is_wanted(tile: &TileCut<'_>, name: PacketName) -> bool
+/// Whether the window needs the precinct of a packet.
+fn is_needed(tile: &TileCut<'_>, name: PacketName) -> bool
     requires cut { (file : ℕ) × IsTileCut file tile.now }
     requires name { IsName tile.now.shape.now name }
-    ensures { result ≡ wanted tile.now.shape.now tile.now.top tile.now.reduce name }
+    ensures { result ≡ (not (is_empty tile.now.top) && needs tile.now.shape.now.rect
+        (coding_of tile.now.shape.now.codings name.component) tile.now.top tile.now.reduce name.resolution
+        name.precinct) }
 {
     let shape = tile.shape;
     if is_empty(&tile.top) {
@@ -50,6 +57,15 @@ fn is_wanted(tile: &TileCut<'_>, name: PacketName) -> bool
         name.resolution,
         name.precinct,
     )
+}
+
+/// Whether a packet is kept: its layer is one of the first, and the window needs its precinct.
+fn is_wanted(tile: &TileCut<'_>, name: PacketName) -> bool
+    requires cut { (file : ℕ) × IsTileCut file tile.now }
+    requires name { IsName tile.now.shape.now name }
+    ensures { result ≡ wanted tile.now.shape.now tile.now.top tile.now.reduce tile.now.layers name }
+{
+    (name.layer as u32) < tile.layers && is_needed(tile, name)
 }
 
 /// Writes the SOP marker segment of this counter (T.800 A.8.1), if there is one.
@@ -78,7 +94,7 @@ fn put_emptied(plan: &mut CutPlan, counter: Option<(u8, u8)>, eph: bool) -> Resu
     }
 }
 
-/// Plans a packet: all of it, where the window needs it, and else an empty one.
+/// Plans a packet: all of it, where it is kept, and else an empty one.
 fn plan_packet(
     tile: &TileCut<'_>,
     name: PacketName,

@@ -10,6 +10,7 @@ ghost use Rattle.jk_params.specs.Headers.{AreHeaders, tile_in, packets_of};
 ghost use Rattle.jk_walk.specs.TilePackets.{shape_in};
 ghost use Rattle.jk_walk.specs.Entries.{AreEntries};
 ghost use Rattle.jk_math.specs.declared.rect.Rect.{Rect as Area};
+ghost use Rattle.jk_window.specs.declared.view.View.{View as Sight};
 ghost use Rattle.jk_window.specs.Views.{HasWindow};
 ghost use Rattle.jk_window.specs.Planning.{IsSound, Fits};
 ghost use Rattle.jk_window.specs.Indexing.{IndexFields, IsIndex, entries_of, least_in, least_levels};
@@ -122,7 +123,7 @@ impl Index {
     pub(crate) fn around(&self) -> &Around
         ensures value { result.now ≡ self.now.frame }
         ensures sound { IsSound self.now }
-        ensures fits { (w : Area) (d : ℕ) → Fits self.now w d }
+        ensures fits { (w : Area) (v : Sight) → Fits self.now w v }
     {
         &self.around
     }
@@ -225,8 +226,8 @@ impl Index {
 
     /// Whether a view has a window.
     ///
-    /// BadWindow: a tile-component has fewer decomposition levels than the reduction, or the
-    /// reduced image or the window has no sample.
+    /// BadWindow: the view asks for no layer, a tile-component has fewer decomposition levels than
+    /// the reduction, or the reduced image or the window has no sample.
     pub fn sees(&self, view: View) -> Result<(), Fault>
         ensures { MatchResult result
             (λ _. HasWindow self.now.headers view) (λ e. (e ≡ BadWindow) × (HasWindow self.now.headers view → ⊥)) }

@@ -25,4 +25,4 @@ pub use theorems::{
     what_can_be_read_has_an_index,
 };
 pub use view::View;
-pub use window::window as window_area;
+pub use window::area as window_area;

@@ -15,7 +15,7 @@ ghost use Rattle.jk_geom.specs.TileShapes.{IsTileShape};
 ghost use Rattle.jk_params.specs.Headers.{tile_in};
 ghost use Rattle.jk_walk.specs.Entries.{AreEntries};
 ghost use Rattle.jk_walk.specs.TilePackets.{shape_in};
-ghost use Rattle.jk_window.specs.Views.{HasWindow};
+ghost use Rattle.jk_window.specs.Views.{HasWindow, layers_in};
 ghost use Rattle.jk_window.specs.Indexing.{IsIndexOf, entries_of};
 ghost use Rattle.jk_window.specs.Cutting.{cut_file};
 ghost use Rattle.jk_window.specs.Planning.{plan_text, plan_length, AreTilePlans, ArePlansUpto, part_from, front_of};
@@ -63,30 +63,42 @@ impl TilePlans {
     }
 }
 
+/// How many layers a view keeps of a tile that has so many.
+fn layers_in(view: View, all: u16) -> u32
+    ensures { result ≡ layers_in view.layers all }
+{
+    match view.layers {
+        Some(count) => count,
+        None => all as u32,
+    }
+}
+
 /// A tile of the index, of this shape, and what of it is in a window.
 fn tile_cut<'a>(
     index: &'a Index,
     shape: &'a TileShape,
     window: &Rect,
-    reduce: u8,
+    view: View,
     tile: usize,
 ) -> TileCut<'a>
     requires tile { tile < tile_count index.now.headers.siz }
     requires shape { IsTileShape shape.now }
     requires right { window.now.x1 < 2 ^ 31 }
     requires lower { window.now.y1 < 2 ^ 31 }
-    requires few { reduce ≤ 10 }
+    requires few { view.reduce ≤ 10 }
     ensures shape { result.shape.now ≡ shape.now }
     ensures entries { result.entries.now ≡ entries_of index.now.packets tile }
     ensures within { AreEntries (index.now.place.end - index.now.place.start)
         (shape_in index.now.headers.siz (tile_in index.now.headers.tiles tile) tile) result.entries.now }
     ensures eph { result.eph ≡ (tile_in index.now.headers.tiles tile).cod.eph }
     ensures start { result.start ≡ index.now.place.start }
-    ensures top { result.top ≡ meet window.now (reduced_area shape.now.rect reduce) }
+    ensures top { result.top ≡ meet window.now (reduced_area shape.now.rect view.reduce) }
     ensures right { result.top.x1 < 2 ^ 31 }
     ensures lower { result.top.y1 < 2 ^ 31 }
-    ensures reduce { result.reduce ≡ reduce }
+    ensures reduce { result.reduce ≡ view.reduce }
+    ensures layers { result.layers ≡ layers_in view.layers shape.now.layers }
 {
+    let reduce = view.reduce as u8;
     TileCut {
         shape,
         entries: index.entries(tile),
@@ -94,6 +106,7 @@ fn tile_cut<'a>(
         start: index.place().start,
         top: meet(window, &reduced(&shape.rect, reduce)),
         reduce,
+        layers: layers_in(view, shape.layers),
     }
 }
 
@@ -102,20 +115,20 @@ fn plan_tile(
     alloc: Global,
     index: &Index,
     window: &Rect,
-    reduce: u8,
+    view: View,
     tile: usize,
 ) -> Result<TilePlans, Fault>
     requires tile { tile < tile_count index.now.headers.siz }
     requires right { window.now.x1 < 2 ^ 31 }
     requires lower { window.now.y1 < 2 ^ 31 }
-    requires few { reduce ≤ 10 }
-    ensures plans { IfOk result (AreTilePlans index.now window.now reduce tile) }
+    requires few { view.reduce ≤ 10 }
+    ensures plans { IfOk result (AreTilePlans index.now window.now view tile) }
     ensures err { IfErr result IsMemory }
 {
     let headers = index.headers();
     let shape = shape_of(headers, tile);
     let names = packet_names(alloc, &shape)?;
-    let cut = tile_cut(index, &shape, window, reduce, tile);
+    let cut = tile_cut(index, &shape, window, view, tile);
     let places = headers.data_places(tile);
     let around = index.around();
     let parts = plan_runs(alloc, &cut, &names, places, around.size)?;
@@ -127,28 +140,28 @@ fn plan_tiles(
     alloc: Global,
     index: &Index,
     window: &Rect,
-    reduce: u8,
+    view: View,
 ) -> Result<Vec<TilePlans>, Fault>
     requires right { window.now.x1 < 2 ^ 31 }
     requires lower { window.now.y1 < 2 ^ 31 }
-    requires few { reduce ≤ 10 }
+    requires few { view.reduce ≤ 10 }
     ensures plans { IfOk result
-        (λ v. ArePlansUpto index.now window.now reduce (tile_count index.now.headers.siz) v.items) }
+        (λ v. ArePlansUpto index.now window.now view (tile_count index.now.headers.siz) v.items) }
     ensures err { IfErr result IsMemory }
 {
     let count = index.tiles();
     let mut all = Vec::with_capacity(alloc, count)?;
     for tile in 0..count {
-        all.push(plan_tile(alloc, index, window, reduce, tile)?)?;
+        all.push(plan_tile(alloc, index, window, view, tile)?)?;
     }
     Ok(all)
 }
 
 /// How many bytes the codestream of a window has, where its parts have these data, and 2^64 - 1
 /// where there are more.
-fn codestream_length(index: &Index, window: &Rect, reduce: u8, tiles: &[TilePlans]) -> usize
-    requires plans { ArePlansUpto index.now window.now reduce (tile_count index.now.headers.siz) tiles.now }
-    ensures { result ≡ min (framed_size index.now.frame (part_size index.now window.now reduce)) (2 ^ 64 - 1) }
+fn codestream_length(index: &Index, window: &Rect, view: View, tiles: &[TilePlans]) -> usize
+    requires plans { ArePlansUpto index.now window.now view (tile_count index.now.headers.siz) tiles.now }
+    ensures { result ≡ min (framed_size index.now.frame (part_size index.now window.now view)) (2 ^ 64 - 1) }
 {
     let around = index.around();
     let mut length = around.main.len() as u64;
@@ -209,15 +222,15 @@ fn plan_parts(
     alloc: Global,
     index: &Index,
     window: &Rect,
-    reduce: u8,
+    view: View,
     tiles: &[TilePlans],
     plan: &mut CutPlan,
 ) -> Result<(), Fault>
-    requires plans { ArePlansUpto index.now window.now reduce (tile_count index.now.headers.siz) tiles.now }
+    requires plans { ArePlansUpto index.now window.now view (tile_count index.now.headers.siz) tiles.now }
     requires size { plan.old.size ≡ index.now.frame.size }
     ensures text { OnOk result ((file : List ℕ) → IsIndexOf file index.now → plan_text file plan.new
         ≡ plan_text file plan.old
-        ++ heads_text index.now.frame.heads index.now.frame.segments (part_from file index.now window.now reduce)) }
+        ++ heads_text index.now.frame.heads index.now.frame.segments (part_from file index.now window.now view)) }
     ensures size { OnOk result (plan.new.size ≡ plan.old.size) }
     ensures err { IfErr result IsMemory }
 {
@@ -233,35 +246,35 @@ fn plan_parts(
 }
 
 /// Plans the file of a window.
-fn plan_file(alloc: Global, index: &Index, window: &Rect, reduce: u8) -> Result<CutPlan, Fault>
+fn plan_file(alloc: Global, index: &Index, window: &Rect, view: View) -> Result<CutPlan, Fault>
     requires right { window.now.x1 < 2 ^ 31 }
     requires lower { window.now.y1 < 2 ^ 31 }
-    requires few { reduce ≤ 10 }
+    requires few { view.reduce ≤ 10 }
     ensures plan { IfOk result (λ p. (file : List ℕ) → IsIndexOf file index.now
-        → made_of file index.now window.now reduce ≡ Ok (plan_text file p)) }
+        → made_of file index.now window.now view ≡ Ok (plan_text file p)) }
     ensures size { IfOk result (λ p. p.size ≡ index.now.frame.size) }
     ensures err { IfErr result IsMemory }
 {
-    let tiles = plan_tiles(alloc, index, window, reduce)?;
+    let tiles = plan_tiles(alloc, index, window, view)?;
     let place = index.place();
     let around = index.around();
     let mut plan = CutPlan::new(alloc, around.size);
-    let length = codestream_length(index, window, reduce, &tiles);
+    let length = codestream_length(index, window, view, &tiles);
     plan_front(alloc, index, length, &mut plan)?;
     plan.write(&around.main)?;
-    plan_parts(alloc, index, window, reduce, &tiles, &mut plan)?;
+    plan_parts(alloc, index, window, view, &tiles, &mut plan)?;
     plan.write(&[0xFF, 0xD9])?;
     plan.copy(place.end, around.size)?;
     Ok(plan)
 }
 
 /// The plan of the file of a view's window (T.800 B.10.3): the stored file, in which the packets
-/// that the window doesn't need are empty and keep their SOP and EPH. TLM and PLT are left out, and
-/// Psot and the length of the codestream box are as they must be; all else stays. It is made of the
-/// index alone.
+/// that the window doesn't need, and those of later layers than the view asks for, are empty and
+/// keep their SOP and EPH. TLM and PLT are left out, and Psot and the length of the codestream box
+/// are as they must be; all else stays. It is made of the index alone.
 ///
-/// BadWindow: a tile-component has fewer decomposition levels than the reduction, or the reduced
-/// image or the window has no sample.
+/// BadWindow: the view asks for no layer, a tile-component has fewer decomposition levels than the
+/// reduction, or the reduced image or the window has no sample.
 pub fn plan(alloc: Global, index: &Index, view: View) -> Result<CutPlan, Fault>
     // Of each file that has the index it makes the file of the window.
     ensures exact { (file : List ℕ) (is : IsIndexOf file index.now) → MatchResult result
@@ -273,5 +286,5 @@ pub fn plan(alloc: Global, index: &Index, view: View) -> Result<CutPlan, Fault>
     ensures faults { IfErr result (λ e. IsMemory e ⊎ (e ≡ BadWindow)) }
 {
     let window = window(index.headers(), view)?;
-    plan_file(alloc, index, &window, view.reduce as u8)
+    plan_file(alloc, index, &window, view)
 }

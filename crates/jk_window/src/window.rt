@@ -4,7 +4,7 @@ ghost use Rattle.std.specs.Prelude.{◌≡◌, ◌≤◌, ◌<◌, ◌^◌, ℕ,
 ghost use Rattle.jk_math.specs.declared.fault.Fault.TheVariants.{BadWindow};
 ghost use Rattle.jk_geom.specs.Rectangles.{IsArea, is_empty};
 ghost use Rattle.jk_params.specs.Headers.{AreHeaders};
-ghost use Rattle.jk_window.specs.Views.{HasWindow, window_in, window_at};
+ghost use Rattle.jk_window.specs.Views.{HasWindow, window_in, has_layer, area_at, window_at};
 
 use crate::view::View;
 use jk_geom::{is_empty, reduced_image};
@@ -41,14 +41,14 @@ fn clipped(area: &Rect, view: View) -> Rect
     }
 }
 
-/// The window of a view: its rectangle, cut with the reduced image.
+/// The rectangle of a view, cut with the reduced image, whatever layers the view asks for.
 ///
 /// BadWindow: a tile-component has fewer decomposition levels than the reduction, or the reduced
-/// image or the window has no sample.
-#[tactic(auto, unfolding(crate::specs::Views::window_at))]
-pub fn window(headers: &Codestream, view: View) -> Result<Rect, Fault>
+/// image or the rectangle has no sample.
+#[tactic(auto, unfolding(crate::specs::Views::area_at))]
+pub fn area(headers: &Codestream, view: View) -> Result<Rect, Fault>
     requires { (size : ℕ) × AreHeaders size headers.now }
-    ensures exact { result ≡ window_at headers.now view }
+    ensures exact { result ≡ area_at headers.now view }
     ensures right { IfOk result (λ w. w.x1 < 2 ^ 31) }
     ensures lower { IfOk result (λ w. w.y1 < 2 ^ 31) }
     ensures few { IfOk result (λ w. view.reduce ≤ 10) }
@@ -65,6 +65,33 @@ pub fn window(headers: &Codestream, view: View) -> Result<Rect, Fault>
         return Err(Fault::BadWindow);
     }
     Ok(window)
+}
+
+/// Whether a view asks for a layer.
+fn has_layer(view: View) -> bool
+    ensures { result ≡ has_layer view.layers }
+{
+    match view.layers {
+        Some(count) => count != 0,
+        None => true,
+    }
+}
+
+/// The window of a view: its rectangle, cut with the reduced image.
+///
+/// BadWindow: the view asks for no layer, or as `area`.
+#[tactic(auto, unfolding(crate::specs::Views::window_at))]
+pub(crate) fn window(headers: &Codestream, view: View) -> Result<Rect, Fault>
+    requires { (size : ℕ) × AreHeaders size headers.now }
+    ensures exact { result ≡ window_at headers.now view }
+    ensures right { IfOk result (λ w. w.x1 < 2 ^ 31) }
+    ensures lower { IfOk result (λ w. w.y1 < 2 ^ 31) }
+    ensures few { IfOk result (λ w. view.reduce ≤ 10) }
+{
+    if !has_layer(view) {
+        return Err(Fault::BadWindow);
+    }
+    area(headers, view)
 }
 
 /// Whether a view has a window, with the same fault.

@@ -51,6 +51,15 @@ static FOUR_PART: &str = "FF90 000A 0000 00000018 00 01 FF93 C0 21 03 C0 10 A0 0
 
 static WINDOW_PART: &str = "FF90 000A 0000 00000012 00 01 FF93 C0 21 03 00 FFD9";
 
+/// One grey sample, 255, in eight layers, and the file in which four of them are kept; up to Psot
+/// they are alike.
+static LAYERED: &str =
+    "FF4F FF51 0029 0000 00000001 00000001 00000000 00000000 00000001 00000001 00000000 00000000 0001 07 01 01 FF52 000C 00 00 0008 00 00 04 04 00 01 FF5C 0004 40 40 FF90 000A 0000";
+
+static ALL_LAYERS: &str = "0000001E 00 01 FF93 00 A42000 F000 F000 F000 F000 F000 F000 FFD9";
+
+static FOUR_LAYERS: &str = "0000001A 00 01 FF93 00 A42000 F000 F000 00 00 00 00 FFD9";
+
 /// The beginning of a codestream with the irreversible transform.
 static NINE_SEVEN: &str =
     "FF4F FF51 0029 0000 00000001 00000001 00000000 00000000 00000001 00000001 \
@@ -228,7 +237,17 @@ fn commands_write_their_output(rt: HostRuntime) -> Result<(), Fail> {
         "cut - - --x 0 --y 0 --w 1 --h 1 --reduce 1",
         &[FOUR, FOUR_PART],
         &[FOUR, WINDOW_PART],
-    )
+    )?;
+    for (options, rest) in [
+        ("", ALL_LAYERS),
+        ("--layers 4", FOUR_LAYERS),
+        ("--layers 9", ALL_LAYERS),
+    ] {
+        let line = format!(in alloc; "cut - - --x 0 --y 0 --w 1 --h 1 {options}")?;
+        let file = [LAYERED, ALL_LAYERS];
+        check_output(&rt, alloc, line.as_str(), &file, &[LAYERED, rest])?;
+    }
+    Ok(())
 }
 
 /// Windows are decoded alone: rows of the column, as its file has them, and what passes the edge is
@@ -284,6 +303,8 @@ info no --all||F20 Shelf
 info - --all|FF4F|F2 Truncated
 cut - a/b --x 1 --y 0 --w 1 --h 1|FF4F|F2 Truncated
 cut - a/b --x 1 --y 0 --w 1 --h 1|column|F16 BadWindow
+cut - a/b --x 0 --y 0 --w 1 --h 1 --layers 0|column|F16 BadWindow
+cut - a/b --x 0 --y 0 --w 1 --h 1 --layers 1|column|F20 Shelf
 add no A no --layers 65536||F15 BadParameters
 add no A no||F20 Shelf
 add no A -|5035|F14 BadPnm
@@ -307,9 +328,9 @@ add d A - --explain||F19 BadName|A isn't 1 to 64 of the characters a to z, 0 to 
 add d c - --explain||F18 NameTaken|d has a file c.jp2
 info no --explain||F20 Shelf|no can't be read: entity not found
 decode - - --explain --reduce 2|column|F16 BadWindow|\
-a reduction past the least number of levels, or a window or reduced image without a sample
+a reduction past the least number of levels, no layer, or a window or reduced image without a sample
 decode - - --explain --x 0 --y 9 --w 1 --h 1|column|F16 BadWindow|\
-a reduction past the least number of levels, or a window or reduced image without a sample
+a reduction past the least number of levels, no layer, or a window or reduced image without a sample
 decode - - --explain|nine|F6 Unsupported|the file has the irreversible transform 9/7";
 
 /// The bytes of an input, by its name or as they are.

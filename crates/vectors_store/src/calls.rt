@@ -68,6 +68,7 @@ pub(crate) fn square(corner: u32, side: u32) -> View {
         y: corner,
         width: side,
         height: side,
+        layers: None,
     }
 }
 
@@ -78,6 +79,7 @@ pub(crate) fn view(x: u32, width: u32) -> View {
         y: 0,
         width,
         height: 1,
+        layers: None,
     }
 }
 
@@ -135,6 +137,18 @@ pub(crate) fn add_noise<S: Shelf>(
     let image = noise(alloc)?;
     let mut parameters = with_levels(alloc, 2);
     parameters.tile = Some((64, 64));
+    archive.add(alloc, name, &image, &parameters)
+}
+
+/// Adds a grey sample of 255 in eight layers.
+pub(crate) fn add_layered<S: Shelf>(
+    archive: &mut Archive<S>,
+    alloc: Global,
+    name: &str,
+) -> Result<Arc<Entry>, Fault> {
+    let image = pixel(alloc, 255)?;
+    let mut parameters = plain(alloc, Container::Jp2);
+    parameters.layers = 8;
     archive.add(alloc, name, &image, &parameters)
 }
 

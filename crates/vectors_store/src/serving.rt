@@ -1,7 +1,7 @@
 //! An archive in memory, asked over HTTP.
 
 use crate::asserts::{equal, equal_at};
-use crate::calls::{archive_of, open, shelf_of};
+use crate::calls::{add_layered, archive_of, open, shelf_of};
 use crate::contents::Content;
 use crate::shelves::{Act, Acting, act_at};
 use jk_math::Fault;
@@ -12,6 +12,7 @@ use std::io;
 use std::io::Read;
 use std::process::Abort;
 use std::test::Fail;
+use vectors::bytes_of;
 
 /// Gives at most so many bytes a read.
 #[derive(Drop)]
@@ -235,5 +236,73 @@ fn a_window_that_is_kept(rt: HostRuntime) -> Result<(), Fail> {
     let (bytes, end) = replied_with_cache(alloc, TWICE, 2)?;
     equal(&rt, bytes.as_slice(), kept.as_slice());
     equal(&rt, end, End::Closed);
+    Ok(())
+}
+
+/// The boxes of a JP2 file of one grey sample up to the length of its codestream box, and from the
+/// kind of that box on its codestream up to Psot: the sample is 255, in eight layers.
+static LAYERED_BOXES: &str =
+    "0000000C 6A502020 0D0A870A 00000014 66747970 6A703220 00000000 6A703220 0000002D 6A703268 00000016 69686472 00000001 00000001 0001 07 07 00 00 0000000F 636F6C72 01 00 00 00000011";
+
+static LAYERED: &str =
+    "6A703263 FF4F FF51 0029 0000 00000001 00000001 00000000 00000000 00000001 00000001 00000000 00000000 0001 07 01 01 FF52 000C 00 00 0008 00 00 04 04 00 01 FF5C 0004 40 40 FF90 000A 0000";
+
+static ALL_LAYERS: &str = "0000001E 00 01 FF93 00 A42000 F000 F000 F000 F000 F000 F000 FFD9";
+
+static FOUR_LAYERS: &str = "0000001A 00 01 FF93 00 A42000 F000 F000 00 00 00 00 FFD9";
+
+/// Four of the layers, all of them, none, and four again.
+static IN_LAYERS: &[u8] =
+    b"GET /images/q/window?x=0&y=0&w=1&h=1&layers=4 HTTP/1.1\r\n\r\nGET /images/q/window?x=0&y=0&w=1&h=1 HTTP/1.1\r\n\r\nGET /images/q/window?x=0&y=0&w=1&h=1&layers=0 HTTP/1.1\r\n\r\nGET /images/q/window?x=0&y=0&w=1&h=1&layers=4 HTTP/1.1\r\n\r\n";
+
+/// The reply that is a file of 178 or 182 bytes.
+fn layered_reply(alloc: Global, out: &mut Vec<u8>, all: bool) -> Result<(), Fail> {
+    let (head, parts): (&[u8], [&str; 4]) = if all {
+        (
+            b"HTTP/1.1 200 OK\r\nContent-Type: image/jp2\r\nContent-Length: 182\r\n\r\n",
+            [LAYERED_BOXES, "00000069", LAYERED, ALL_LAYERS],
+        )
+    } else {
+        (
+            b"HTTP/1.1 200 OK\r\nContent-Type: image/jp2\r\nContent-Length: 178\r\n\r\n",
+            [LAYERED_BOXES, "00000065", LAYERED, FOUR_LAYERS],
+        )
+    };
+    out.extend_from_slice(head)?;
+    out.extend_from_slice(&bytes_of(alloc, &parts)?)?;
+    Ok(())
+}
+
+/// With no cache, and with one that keeps one window or two.
+#[test]
+fn windows_in_layers(rt: HostRuntime) -> Result<(), Fail> {
+    let alloc = rt.alloc();
+    let mut want = Vec::new(alloc);
+    layered_reply(alloc, &mut want, false)?;
+    layered_reply(alloc, &mut want, true)?;
+    want.extend_from_slice(
+        b"HTTP/1.1 400 Bad Request\r\nContent-Type: text/plain\r\nContent-Length: 16\r\n\r\n400 Bad Request\n",
+    )?;
+    layered_reply(alloc, &mut want, false)?;
+    let mut archive = open(alloc, MemoryShelf::new(alloc))?;
+    add_layered(&mut archive, alloc, "q")?;
+    let mut out = Vec::new(alloc);
+    let mut reader = requests(alloc, IN_LAYERS, 1000)?;
+    run(alloc, &mut reader, &mut out, &mut archive, 1000)?;
+    equal(&rt, out.as_slice(), want.as_slice());
+    for capacity in [1, 2] {
+        let mut kept = Vec::new(alloc);
+        let mut reader = requests(alloc, IN_LAYERS, 1000)?;
+        let mut cache = Cache::new(alloc, capacity)?;
+        run_with(
+            alloc,
+            &mut reader,
+            &mut kept,
+            &mut archive,
+            &mut cache,
+            1000,
+        )?;
+        equal_at(&rt, capacity, kept.as_slice(), want.as_slice());
+    }
     Ok(())
 }

@@ -51,6 +51,10 @@ impl Catalogue for Counting {
             cut.push(b' ')?;
             cut.extend_from_slice(number.to_string(alloc)?.as_bytes())?;
         }
+        if let Some(layers) = asked.layers {
+            cut.push(b' ')?;
+            cut.extend_from_slice(layers.to_string(alloc)?.as_bytes())?;
+        }
         if asked.height >= LONG {
             for _ in cut.len()..asked.height as usize {
                 cut.push(b'.')?;

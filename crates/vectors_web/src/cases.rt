@@ -112,6 +112,27 @@ pub static QUERIES: [(&[u8], Option<(u32, u32, u32, u32, u32)>); 26] = [
     (b"", None),
 ];
 
+/// Ends of queries for a window, and how many layers they ask for: a number, `all`, or `none` where
+/// they ask for no window.
+pub static LAYERS: &str = "\
+|all
+&layers=1|1
+&layers=0|0
+&layers=4294967295|4294967295
+&layers=0000000007|7
+&%6Cayers=%37|7
+&layers=4294967296|none
+&layers=00000000001|none
+&layers=|none
+&layers|none
+&layers=all|none
+&layers=-1|none
+&layers=1&layers=1|none
+&Layers=1|none
+&layer=1|none
+&layersr=1|none
+&l=1|none";
+
 /// Paths, and what they name: `list`, a name behind `whole` or `window`, or `none`.
 pub static PATHS: [(&[u8], &[u8]); 16] = [
     (b"/images", b"list"),
@@ -289,7 +310,7 @@ pub static CACHED: [(usize, &[u8], u64); 10] = [
           GET /images/a/window?x=0&y=0&w=1&h=1 HTTP/1.1\r\n\r\n",
         2,
     ),
-    // Each of name, reduction, left edge, upper edge, width and height makes it another one.
+    // Each of name, reduction, left edge, upper edge, width, height and layers makes it another one.
     (
         16,
         b"GET /images/a/window?x=0&y=0&w=1&h=1 HTTP/1.1\r\n\r\n\
@@ -299,14 +320,18 @@ pub static CACHED: [(usize, &[u8], u64); 10] = [
           GET /images/a/window?x=0&y=1&w=1&h=1 HTTP/1.1\r\n\r\n\
           GET /images/a/window?x=0&y=0&w=2&h=1 HTTP/1.1\r\n\r\n\
           GET /images/a/window?x=0&y=0&w=1&h=2 HTTP/1.1\r\n\r\n\
+          GET /images/a/window?x=0&y=0&w=1&h=1&layers=1 HTTP/1.1\r\n\r\n\
+          GET /images/a/window?x=0&y=0&w=1&h=1&layers=2 HTTP/1.1\r\n\r\n\
           GET /images/a/window?x=0&y=0&w=1&h=1 HTTP/1.1\r\n\r\n\
           GET /images/b/window?x=0&y=0&w=1&h=1 HTTP/1.1\r\n\r\n\
           GET /images/a/window?x=0&y=0&w=1&h=1&r=1 HTTP/1.1\r\n\r\n\
           GET /images/a/window?x=1&y=0&w=1&h=1 HTTP/1.1\r\n\r\n\
           GET /images/a/window?x=0&y=1&w=1&h=1 HTTP/1.1\r\n\r\n\
           GET /images/a/window?x=0&y=0&w=2&h=1 HTTP/1.1\r\n\r\n\
-          GET /images/a/window?x=0&y=0&w=1&h=2 HTTP/1.1\r\n\r\n",
-        7,
+          GET /images/a/window?x=0&y=0&w=1&h=2 HTTP/1.1\r\n\r\n\
+          GET /images/a/window?x=0&y=0&w=1&h=1&layers=1 HTTP/1.1\r\n\r\n\
+          GET /images/a/window?x=0&y=0&w=1&h=1&layers=2 HTTP/1.1\r\n\r\n",
+        9,
     ),
     // However it is spelled.
     (

@@ -1,4 +1,4 @@
-use crate::cases::{BAD, PATHS, QUERIES, STREAMS};
+use crate::cases::{BAD, LAYERS, PATHS, QUERIES, STREAMS};
 use jk_web::{Asked, NamedResource, Next, Request, Session, bad, resource_of, window_asked};
 use std::alloc::Global;
 use std::process::Abort;
@@ -141,12 +141,30 @@ fn replies_to_bad_requests(rt: HostRuntime) -> Result<(), Fail> {
     Ok(())
 }
 
+/// How many layers a query with such an end asks for.
+fn layers_told(alloc: Global, end: &str) -> Result<String, Fail> {
+    let query = format!(in alloc; "x=0&y=0&w=1&h=1{end}")?;
+    let Some(asked) = window_asked(alloc, query.as_bytes())? else {
+        return Ok(String::from_str(alloc, "none")?);
+    };
+    match asked.layers {
+        Some(count) => Ok(count.to_string(alloc)?),
+        None => Ok(String::from_str(alloc, "all")?),
+    }
+}
+
 #[test]
 fn queries(rt: HostRuntime) -> Result<(), Fail> {
     for (query, want) in &QUERIES {
         let asked = window_asked(rt.alloc(), query)?;
         let got = asked.map(|a: Asked| (a.reduce, a.x, a.y, a.width, a.height));
         assert_eq!(rt; got, *want);
+    }
+    for row in LAYERS.split('\n') {
+        let mut fields = row.split('|');
+        let end = fields.next().unwrap_or("");
+        let told = layers_told(rt.alloc(), end)?;
+        assert_eq!(rt; told.as_str(), fields.next().unwrap_or(""), "{end}");
     }
     Ok(())
 }

@@ -2,6 +2,7 @@
 
 use crate::asserts::equal;
 use crate::many::MANY;
+use jk_code::decode;
 use jk_marks::Order;
 use jk_math::Fault;
 use jk_window::{Index, View, cut, index};
@@ -29,6 +30,22 @@ const PASSED: &str =
 const BOXES: &str =
     "0000000C 6A502020 0D0A870A 00000014 66747970 6A703220 00000000 6A703220 0000002D 6A703268 00000016 69686472 00000002 00000002 0001 07 07 00 00 0000000F 636F6C72 01 00 00 00000011";
 
+/// One grey sample, 255, in eight layers, of which the first has no bit; up to Psot.
+const LAYERED: &str =
+    "FF4F FF51 0029 0000 00000001 00000001 00000000 00000000 00000001 00000001 00000000 00000000 0001 07 01 01 FF52 000C 00 00 0008 00 00 04 04 00 01 FF5C 0004 40 40 FF90 000A 0000";
+
+const ALL_LAYERS: &str = "0000001E 00 01 FF93 00 A42000 F000 F000 F000 F000 F000 F000 FFD9";
+
+/// How many of its layers are kept, the rest of its file then, how many bytes the file has, and its
+/// sample (T.800 B.10.3).
+static LAYERS: &str = "\
+1|00000016 00 01 FF93 00 00 00 00 00 00 00 00 FFD9|89 128
+4|0000001A 00 01 FF93 00 A42000 F000 F000 00 00 00 00 FFD9|93 240
+7|0000001D 00 01 FF93 00 A42000 F000 F000 F000 F000 F000 00 FFD9|96 254
+8|0000001E 00 01 FF93 00 A42000 F000 F000 F000 F000 F000 F000 FFD9|97 255
+9|0000001E 00 01 FF93 00 A42000 F000 F000 F000 F000 F000 F000 FFD9|97 255
+4294967295|0000001E 00 01 FF93 00 A42000 F000 F000 F000 F000 F000 F000 FFD9|97 255";
+
 fn view(reduce: u32, x: u32, y: u32, width: u32, height: u32) -> View {
     View {
         reduce,
@@ -36,6 +53,7 @@ fn view(reduce: u32, x: u32, y: u32, width: u32, height: u32) -> View {
         y,
         width,
         height,
+        layers: None,
     }
 }
 
@@ -89,6 +107,38 @@ fn a_packet_emptied(rt: HostRuntime) -> Result<(), Fail> {
         bytes_of(alloc, &[SMALL, new])?.as_slice(),
     );
     equal(&rt, reply.len(), 88);
+    Ok(())
+}
+
+/// How many bytes the file of the first layers has, and its sample, if it has the rest that is due.
+fn layers_kept(alloc: Global, count: Option<u32>, rest: &str) -> Result<String, Fail> {
+    let file = bytes_of(alloc, &[LAYERED, ALL_LAYERS])?;
+    let asked = View {
+        layers: count,
+        ..view(0, 0, 0, 1, 1)
+    };
+    let reply = cut_of(alloc, &file, asked)??;
+    if reply.as_slice() != bytes_of(alloc, &[LAYERED, rest])?.as_slice() {
+        return Ok(String::new(alloc));
+    }
+    let image = decode(alloc, &reply, 0)?;
+    Ok(format!(in alloc; "{} {}", reply.len(), image.sample(0, 0, 0))?)
+}
+
+#[test]
+fn layers_emptied(rt: HostRuntime) -> Result<(), Fail> {
+    let alloc = rt.alloc();
+    for row in LAYERS.split('\n') {
+        let mut fields = row.split('|');
+        let count = fields.next().unwrap_or("").parse::<u32>().ok();
+        let kept = layers_kept(alloc, count, fields.next().unwrap_or(""))?;
+        equal(&rt, kept.as_str(), fields.next().unwrap_or(""));
+    }
+    equal(
+        &rt,
+        layers_kept(alloc, None, ALL_LAYERS)?.as_str(),
+        "97 255",
+    );
     Ok(())
 }
 

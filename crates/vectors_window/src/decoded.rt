@@ -73,6 +73,7 @@ fn view(reduce: u32, x: u32, y: u32, width: u32, height: u32) -> View {
         y,
         width,
         height,
+        layers: None,
     }
 }
 

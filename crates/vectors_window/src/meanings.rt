@@ -48,6 +48,7 @@ fn shown(alloc: Global, view: View) -> Result<(u32, u32), Fail> {
         y: 0,
         width: 64,
         height: 64,
+        layers: None,
     };
     Ok((
         same_samples(view, &whole, &part),
@@ -62,6 +63,7 @@ fn view(reduce: u32, x: u32, y: u32, width: u32, height: u32) -> View {
         y,
         width,
         height,
+        layers: None,
     }
 }
 

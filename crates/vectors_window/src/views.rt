@@ -113,12 +113,34 @@ static COLOUR_VIEWS: &str = "\
 1 1 1 2 1|2 2 2 1 208 147 83 73 91 109
 2 0 0 1 1|F16 BadWindow";
 
-/// The next number of a text.
-fn number(words: &mut Split<'_, char>) -> u32 {
+/// Views of the tiled one that ask for layers, which are the last number, and what its first layers
+/// show there, by another decoder.
+static LAYERED_VIEWS: &str = "\
+0 3 3 1 1 1|8 6 1 1 85 17
+0 2 2 5 4 1|7 5 5 4 -21 -15 -41 -41 21 57 85 -42 -53 8 28 117 31 -35 118 84 57 63 -123 104 51 14 47 81 50 115 \
+17 -89 83 -42 -15 -36 -105 114 -14 -109 83 110 51 65
+0 9 8 4294967295 9 1|14 11 4 3 -54 -99 -111 125 -51 -96 88 23 112 80 -51 -70 125 22 117 66 31 123 18 -55 -120 \
+116 12 -5
+1 1 1 4 3 1|4 3 4 3 75 -40 -17 -6 119 -9 -3 -42 -42 52 -25 -54 38 37 52 17 -12 63 -81 23 58 -45 105 -52
+2 0 0 2 2 1|2 1 2 2 -10 -16 42 -34 50 26 26 2
+0 3 3 1 1 2|8 6 1 1 84 16
+1 3 2 1 1 3|6 4 1 1 -4 -81
+2 1 1 9 9 4294967295|3 2 2 2 -35 2 33 -15 2 -30 24 40
+0 0 0 1 1 0|F16 BadWindow
+3 0 0 1 1 0|F16 BadWindow
+0 13 0 1 1 1|F16 BadWindow";
+
+/// The next number of a text, if there is one.
+fn next_number(words: &mut Split<'_, char>) -> Option<u32> {
     match words.next() {
-        Some(word) => word.parse::<u32>().unwrap_or(0),
-        None => 0,
+        Some(word) => Some(word.parse::<u32>().unwrap_or(0)),
+        None => None,
     }
+}
+
+/// The next number of a text, or 0.
+fn number(words: &mut Split<'_, char>) -> u32 {
+    next_number(words).unwrap_or(0)
 }
 
 /// The view of a text.
@@ -130,6 +152,7 @@ fn view_of(text: &str) -> View {
         y: number(&mut words),
         width: number(&mut words),
         height: number(&mut words),
+        layers: next_number(&mut words),
     }
 }
 
@@ -200,12 +223,28 @@ fn alike(alloc: Global, file: &str, views: &str) -> Result<(u32, u32, u32, u32),
     Ok((count, same, again, indexed))
 }
 
+/// How many views there are, and how many files of their windows decode to what is due.
+fn layered(alloc: Global, file: &str, views: &str) -> Result<(u32, u32), Fail> {
+    let file = bytes_of(alloc, &[file])?;
+    let (mut count, mut same) = (0u32, 0u32);
+    for row in views.split('\n') {
+        let mut fields = row.split('|');
+        let view = view_of(fields.next().unwrap_or(""));
+        count = count.saturating_add(1);
+        if shown_of_reply(alloc, &file, view)?.as_str() == fields.next().unwrap_or("") {
+            same = same.saturating_add(1);
+        }
+    }
+    Ok((count, same))
+}
+
 /// One sample, each border, windows over all tiles, odd places, reductions, what passes the edge,
-/// and views without a window.
+/// and views without a window; the same in fewer layers, in all of them, and in more.
 #[test]
 fn windows_have_the_samples_of_another_decoder(rt: HostRuntime) -> Result<(), Fail> {
     let alloc = rt.alloc();
     equal(&rt, alike(alloc, TILED, TILED_VIEWS)?, (19, 19, 19, 19));
     equal(&rt, alike(alloc, COLOUR, COLOUR_VIEWS)?, (4, 4, 4, 4));
+    equal(&rt, layered(alloc, TILED, LAYERED_VIEWS)?, (11, 11));
     Ok(())
 }

@@ -142,15 +142,15 @@ front_is p q l t c r n i j is by few tile some le lt less =
 -- ---- a tile
 
 -- The first layers of a tile that is written decode to the samples of the coefficients without their lowest bit-planes.
-pub front_decodes : (p : Picture) (q : Parameters) (k t : ℕ) (codestream : List ℕ) (h : Headers) (places : List (ℕ × ℕ)) → IsPicture p → IsWrittenBy q p → 1 ≤ k → k ≤ q.layers → t < tile_count (siz_of p q) → h.siz ≡ siz_of p q
+pub front_decodes : (p : Picture) (q : Parameters) (k d t : ℕ) (codestream : List ℕ) (h : Headers) (places : List (ℕ × ℕ)) → IsPicture p → IsWrittenBy q p → 1 ≤ k → k ≤ q.layers → t < tile_count (siz_of p q) → h.siz ≡ siz_of p q
     → map (slice_of codestream) places ≡ tile_text p q t ∷ []
-    → DecodesLayers codestream h (record { cod = cod_of q; codings = replicate (length p.planes) (written_coding p q); data_places = places }) t 0 (Some k) (front_sample p q k t)
+    → DecodesLayers codestream h (record { cod = cod_of q; codings = replicate (length p.planes) (written_coding p q); data_places = places }) t d (Some k) (front_sample p q k d t)
 unfolding tile_text
-front_decodes p q zero t codestream h places is by some few tile siz content = absurd (omega (arith, some))
-front_decodes p q (suc l) t codestream h places is by some few tile siz content =
+front_decodes p q zero d t codestream h places is by some few tile siz content = absurd (omega (arith, some))
+front_decodes p q (suc l) d t codestream h places is by some few tile siz content =
     let fields : List (ℕ × ℕ) → TileFields = λ ps. record { cod = cod_of q; codings = replicate (length p.planes) (written_coding p q); data_places = ps } in
     let own : (c : ℕ) → c < length p.planes → coding_of (replicate (length p.planes) (written_coding p q)) c ≡ written_coding p q = λ c lt. coding_at p q c lt in
-    subst (λ (s : Siz). DecodesLayers codestream (record h { siz = s }) (fields places) t 0 (Some (suc l)) (front_sample p q (suc l) t)) (sym siz) (record {
+    subst (λ (s : Siz). DecodesLayers codestream (record h { siz = s }) (fields places) t d (Some (suc l)) (front_sample p q (suc l) d t)) (sym siz) (record {
       packets = tile_packets p q t;
       tile = subst (IsTile (written_shape p q t) q.sop q.eph (tile_packets p q t)) (sym content) (tile_is (written_shape p q t) q.sop q.eph (tile_tables p q t) (tables_have p q t is by tile));
       coefficients = front_coefficient p q (suc l) t;
@@ -165,7 +165,7 @@ front_decodes p q (suc l) t codestream h places is by some few tile siz content 
           (subst (λ (bs : List Body). IsBlockAt (tile_area (siz_of p q) t) (written_coding p q) bs (front_coefficient p q (suc l) t c) r n i j) (sym (precinct_front (written_shape p q t) q.sop q.eph (tile_tables p q t) (suc l) c r n few precinct))
           (front_is p q l t c r n i j is by (omega (arith, few)) tile there low band less)));
       shown = λ c x y there within.
-          pixel_same (cod_of q) (siz_of p q) (λ i. values_of (tile_area (siz_of p q) t) (written_coding p q) 0 (front_coefficient p q (suc l) t i) x y)
-          (λ i. values_of (tile_area (siz_of p q) t) (coding_of (replicate (length p.planes) (written_coding p q)) i) 0 (front_coefficient p q (suc l) t i) x y) (length p.planes) c ((by.cod).colour) there
-          (λ i lt. ap (λ (k : Coding). values_of (tile_area (siz_of p q) t) k 0 (front_coefficient p q (suc l) t i) x y) (sym (own i lt)));
+          pixel_same (cod_of q) (siz_of p q) (λ i. values_of (tile_area (siz_of p q) t) (written_coding p q) d (front_coefficient p q (suc l) t i) x y)
+          (λ i. values_of (tile_area (siz_of p q) t) (coding_of (replicate (length p.planes) (written_coding p q)) i) d (front_coefficient p q (suc l) t i) x y) (length p.planes) c ((by.cod).colour) there
+          (λ i lt. ap (λ (k : Coding). values_of (tile_area (siz_of p q) t) k d (front_coefficient p q (suc l) t i) x y) (sym (own i lt)));
     })

@@ -21,8 +21,8 @@ without_planes n v = with_sign (is_negative v) (above n (unsigned_abs v))
 abbrev pub front_coefficient : Picture → Parameters → (k t c b : ℕ) → ℕ → ℕ → ℤ
 front_coefficient p q k t c b x y = without_planes (q.layers - k) (written_coefficient p q t c b x y)
 
--- the sample of component c at a place of tile t
-abbrev pub front_sample : Picture → Parameters → (k t c x y : ℕ) → ℤ
-front_sample p q k t c x y =
+-- the sample of component c at a place of tile t, at reduction d
+abbrev pub front_sample : Picture → Parameters → (k d t c x y : ℕ) → ℤ
+front_sample p q k d t c x y =
     tile_sample (cod_of q) (siz_of p q)
-    (λ i. values_of (tile_area (siz_of p q) t) (written_coding p q) 0 (front_coefficient p q k t i) x y) c
+    (λ i. values_of (tile_area (siz_of p q) t) (written_coding p q) d (front_coefficient p q k t i) x y) c

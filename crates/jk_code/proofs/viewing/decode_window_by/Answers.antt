@@ -1,4 +1,4 @@
-use Rattle.std.proofs.Common.{◌≡◌, ◌⊎◌, inl, inr, ℕ, List, Result, Err, ap, sym, ◌∙◌, arith}
+use Rattle.std.proofs.Common.{◌≡◌, ◌⊎◌, inl, inr, ℕ, List, None, Result, Err, refl, ap, sym, ◌∙◌, arith}
 use Rattle.std.proofs.lemmas.Result.{err_from_is_err_and}
 use Rattle.jk_math.specs.Answer.{Refuses}
 use Rattle.jk_math.specs.Memory.{IsMemory}
@@ -6,11 +6,13 @@ use Rattle.jk_math.specs.Steps.{answers_same, refuses_due}
 use Rattle.jk_math.specs.Picture.{Picture}
 use Rattle.jk_math.specs.declared.fault.Fault.{Fault}
 use Rattle.jk_math.specs.declared.fault.Fault.TheVariants.{Memory, BadWindow, Changed}
+use Rattle.jk_window.specs.declared.view.View.{View}
+use Rattle.jk_window.specs.Views.{HasArea}
 use Rattle.jk_code.specs.Viewing.{picture_of_view}
 use Rattle.jk_code.specs.ViewReading.{meaning_view_at}
 use Rattle.jk_code.proofs.MeaningLaws.{only_meaning}
 use Rattle.jk_code.proofs.ViewLaws.{meaning_shows}
-use Rattle.jk_code.proofs.ViewAgain.{window_kept, window_unseen}
+use Rattle.jk_code.proofs.ViewAgain.{window_kept, window_unseen, all_shown}
 use Rattle.jk_code.proofs.viewing.decode_window_by.Goals as goal
 
 memory_refused : {A : Type 0} (e : Fault) (due : Result A Fault) → IsMemory e → Refuses e due
@@ -35,7 +37,8 @@ returns-in_err-file-clause-exact c = λ is.
     let e = c.in_err-file.field-0.0 in
     let q = err_from_is_err_and c.from_residual.result c.from_residual.ensures.1 in
     rw (q.1, q.2) (refused e (meaning_view_at bytes v) c.in_err-file.ensures.faults
-    (λ bad. window_unseen bytes i is v (c.in_err-file.ensures.unseen (ap Err bad)) ∙ ap Err (sym bad))
+    (λ bad. window_unseen bytes i is v (λ (a : HasArea i.headers v). c.in_err-file.ensures.unseen (ap Err bad)
+    (record { layers = refl; area = record { levels = a.levels; image = a.image; window = a.window } })) ∙ ap Err (sym bad))
     (λ other. c.in_err-file.ensures.changed (ap Err other) is))
 
 pub returns-in_err-file-clause-means : goal.returns-in_err-file-clause-means
@@ -49,8 +52,10 @@ pub returns-clause-exact : goal.returns-clause-exact
 returns-clause-exact c = λ is.
     let bytes = c.args.bytes.now in
     let v = c.args.view in
-    answers_same (λ i. i) c.decode_window.result (meaning_view_at c.deref.result.now v) (meaning_view_at bytes v) c.decode_window.ensures.exact
-    (ap (λ (file : List ℕ). meaning_view_at file v) c.deref.ensures.value ∙ window_kept bytes c.args.index.now is v c.in_ok-file.file.items (c.in_ok-file.ensures.exact is))
+    let whole : View = record v { layers = None } in
+    answers_same (λ i. i) c.decode_window.result (meaning_view_at c.deref.result.now whole) (meaning_view_at bytes v) c.decode_window.ensures.exact
+    (ap (λ (file : List ℕ). meaning_view_at file whole) c.deref.ensures.value ∙ window_kept bytes c.args.index.now is whole c.in_ok-file.file.items refl (c.in_ok-file.ensures.exact is)
+    ∙ all_shown bytes v)
 
 pub returns-clause-means : goal.returns-clause-means
 returns-clause-means c = λ is p m.

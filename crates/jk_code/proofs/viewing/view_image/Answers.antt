@@ -4,7 +4,7 @@ use Rattle.jk_math.specs.Lists.{lists_of}
 use Rattle.jk_math.specs.Steps.{answers_same, answers_due}
 use Rattle.jk_marks.specs.declared.siz.Siz.{Siz}
 use Rattle.jk_marks.specs.Siz.{tile_count}
-use Rattle.jk_window.specs.Views.{window_at}
+use Rattle.jk_window.specs.Views.{area_at}
 use Rattle.jk_tile.proofs.Laws.{bind_ok}
 use Rattle.jk_code.specs.MeaningReading.{picture_with, planes_of_tiles}
 use Rattle.jk_code.specs.ViewReading.{seen_packets_tested, seen_parts_tested, view_at}
@@ -44,7 +44,7 @@ returns c =
     let viewed = is_viewed (length bytes) h v w c.requires (sym c.in_ok-window.ensures.exact) c.in_ok-window.ensures.right c.in_ok-window.ensures.lower in
     let picture = picture_with h.siz w (planes_of_tiles bytes h v.reduce w) in
     let due : view_at h bytes v ≡ Ok picture =
-    view_by bytes h v ∙ bind_ok (window_at h v) _ w (sym c.in_ok-window.ensures.exact) ∙ bind_ok (seen_packets_tested bytes h v.reduce w (tile_count h.siz)) _ tt c.in_ok-packets.ensures.exact
+    view_by bytes h v ∙ bind_ok (area_at h v) _ w (sym c.in_ok-window.ensures.exact) ∙ bind_ok (seen_packets_tested bytes h v.reduce w (tile_count h.siz)) _ tt c.in_ok-packets.ensures.exact
     ∙ bind_ok (seen_parts_tested bytes h v.reduce w (tile_count h.siz)) _ tt c.in_ok-planes.ensures.exact in
     let same = ap (λ (s : Siz). picture_with s w (lists_of c.in_ok-planes.planes.items)) c.siz-siz.ensures ∙ ap (picture_with h.siz w) c.in_ok-planes.ensures.planes in
     let is = subst IsPicture (sym same) (tiles_are_picture bytes h v.reduce w c.requires.siz viewed.frame) in

@@ -8,11 +8,11 @@ use Rattle.jk_web.proofs.query.window_asked.Goals as goal
 
 pub loop-pair-init : goal.loop-pair-init
 loop-pair-init c =
-    let start : Readings = record { x = None; y = None; width = None; height = None; reduce = None } in (
+    let start : Readings = record { x = None; y = None; width = None; height = None; reduce = None; layers = None } in (
       tt,
       tt,
       ap (λ ps. asked_with start (map decoded ps)) (ap pairs_left c.into_iter-pair-iterator.ensures.into_iter_gives ∙ c.parse-pair-items.ensures.value)
-          ∙ asked_with-start start (pairs_of c.args.query.now) refl refl refl refl refl,
+          ∙ asked_with-start start (pairs_of c.args.query.now) refl refl refl refl refl refl,
     )
 
 pub returns-clause-exact : goal.returns-clause-exact

@@ -11,7 +11,7 @@ pub returns : goal.returns
 returns c =
     let i = c.args.index.now in
     let items = c.deref-head-items.result.now in
-    let f = head_size_with (part_size i c.args.window.now c.args.reduce) in
+    let f = head_size_with (part_size i c.args.window.now c.args.view) in
     let none = ap (sum_by f) (drop_all c.loop-head.head-index items c.loop-head-test.false) in
     let own : items ≡ i.frame.heads = c.deref-head-items.ensures.value ∙ ap (λ (x : Frame). x.heads) (c.around.view_is ∙ c.around-around.ensures.value) in
     let all = ap (λ (hs : List PartHead). sum_by f hs) own in

@@ -21,7 +21,7 @@ returns-in_err-window-clause-exact c = λ file is.
     let v = c.args.view in
     let q = err_from_is_err_and c.from_residual.result c.from_residual.ensures.1 in
     let due : window_at c.args.index.now.headers v ≡ Err c.in_err-window.field-0.0 = sym (ap (λ (x : Headers). window_at x v) c.headers.ensures.value) ∙ sym c.in_err-window.ensures.exact in
-    rw (q.1, q.2) (inr (ap (λ (r : Result Rect Fault). r >>= λ w. with_codestream is.holds (codestream_text (cut_tree is w v.reduce))) due))
+    rw (q.1, q.2) (inr (ap (λ (r : Result Rect Fault). r >>= λ w. with_codestream is.holds (codestream_text (cut_tree is w v))) due))
 
 pub returns-in_err-window-clause-unseen : goal.returns-in_err-window-clause-unseen
 returns-in_err-window-clause-unseen c = λ unseen.
@@ -51,7 +51,7 @@ returns-clause-exact c = λ file is.
     let v = c.args.view in
     let w = c.in_ok-window.window in
     let due = due_is file i v c.headers.result.now w is c.headers.ensures.value c.in_ok-window.ensures.exact in
-    planned_due c.plan_file.result file (made_of file i w v.reduce) (cut_file is v) (due ∙ sym (made_is file i is w v.reduce)) (if_ok c.plan_file.result (λ p made. made file is) c.plan_file.ensures.plan) c.plan_file.ensures.err
+    planned_due c.plan_file.result file (made_of file i w v) (cut_file is v) (due ∙ sym (made_is file i is w v)) (if_ok c.plan_file.result (λ p made. made file is) c.plan_file.ensures.plan) c.plan_file.ensures.err
 
 pub returns-clause-seen : goal.returns-clause-seen
 returns-clause-seen c =

@@ -14,15 +14,15 @@ use Rattle.jk_window.proofs.planning.plan_file.Goals as goal
 pub plan_front-requires-clause-fits : goal.plan_front-requires-clause-fits
 plan_front-requires-clause-fits c =
     let i = c.args.index.now in
-    let fits = c.around-around.ensures.fits c.args.window.now c.args.reduce in
+    let fits = c.around-around.ensures.fits c.args.window.now c.args.view in
     let short = fits.short in
     let end : i.place.end < 2 ^ 64 = subst (λ (b : Boxed). b.end < 2 ^ 64) c.place-place.ensures (omega (arith, c.place-place.type_inv)) in
-    let same : c.codestream_length-length.result ≡ framed_size i.frame (part_size i c.args.window.now c.args.reduce) = omega (arith, c.codestream_length-length.ensures, short, end) in
+    let same : c.codestream_length-length.result ≡ framed_size i.frame (part_size i c.args.window.now c.args.view) = omega (arith, c.codestream_length-length.ensures, short, end) in
     ap (λ n. fits_form i.frame.form (head_size i.frame.form + n)) same ∙ fits.box
 
 pub plan_front-requires-clause-short : goal.plan_front-requires-clause-short
 plan_front-requires-clause-short c =
-    let fits = c.around-around.ensures.fits c.args.window.now c.args.reduce in
+    let fits = c.around-around.ensures.fits c.args.window.now c.args.view in
     let short = fits.short in
     omega (arith, c.codestream_length-length.ensures, short)
 
@@ -30,13 +30,13 @@ pub returns-clause-plan : goal.returns-clause-plan
 returns-clause-plan c = λ file is.
     let i = c.args.index.now in
     let w = c.args.window.now in
-    let d = c.args.reduce in
-    let fits = c.around-around.ensures.fits w d in
+    let v = c.args.view in
+    let fits = c.around-around.ensures.fits w v in
     let short = fits.short in
     let n = c.codestream_length-length.result in
     let end : i.place.end < 2 ^ 64 = subst (λ (b : Boxed). b.end < 2 ^ 64) c.place-place.ensures (omega (arith, c.place-place.type_inv)) in
-    let same : n ≡ framed_size i.frame (part_size i w d) = omega (arith, c.codestream_length-length.ensures, short, end) in
-    let content = part_from file i w d in
+    let same : n ≡ framed_size i.frame (part_size i w v) = omega (arith, c.codestream_length-length.ensures, short, end) in
+    let content = part_from file i w v in
     let own = c.around.view_is ∙ c.around-around.ensures.value in
     let front = front_of i n file in
     let heads = heads_text i.frame.heads i.frame.segments content in
@@ -49,7 +49,7 @@ returns-clause-plan c = λ file is.
     let three : plan_text file c.plan_parts.new.plan ≡ (front ++ i.frame.main) ++ heads = c.in_ok-plan_parts.ensures.text file is ∙ ap (λ (xs : List ℕ). xs ++ heads) two in
     let four : plan_text file c.write-2.new.self ≡ ((front ++ i.frame.main) ++ heads) ++ marker_text eoc = c.in_ok-write-2.ensures.ok.made file ∙ ap (λ (xs : List ℕ). xs ++ marker_text eoc) three in
     let all : plan_text file c.copy.new.self ≡ ((((front ++ i.frame.main) ++ heads) ++ marker_text eoc) ++ last) = c.in_ok-copy.ensures.ok.made file ∙ (λ j. four j ++ behind j) in
-    made_by file i is w d n same ∙ ap (λ (xs : List ℕ). Ok xs) (joined front i.frame.main heads (marker_text eoc) last ∙ sym all)
+    made_by file i is w v n same ∙ ap (λ (xs : List ℕ). Ok xs) (joined front i.frame.main heads (marker_text eoc) last ∙ sym all)
   where
     joined : (a b c d e : List ℕ) → a ++ ((b ++ (c ++ d)) ++ e) ≡ (((a ++ b) ++ c) ++ d) ++ e
     joined a b c d e = simp append_assoc

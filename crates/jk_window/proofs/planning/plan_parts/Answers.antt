@@ -16,17 +16,17 @@ loop-head-init c =
     let items = c.deref-head-items.result.now in
     let own : items ≡ i.frame.heads = c.deref-head-items.ensures.value ∙ ap (λ (x : Frame). x.heads) (c.around.view_is ∙ c.around-around.ensures.value) in
     let sound = c.around-around.ensures.sound in
-    let fits = c.around-around.ensures.fits c.args.window.now c.args.reduce in
-    going_starts i c.args.window.now c.args.reduce c.args.plan.now items
+    let fits = c.around-around.ensures.fits c.args.window.now c.args.view in
+    going_starts i c.args.window.now c.args.view c.args.plan.now items
     (subst (AllByRecursion (IsHead i.headers)) (sym own) sound.heads)
-    (subst (AllByRecursion (PsotFits i c.args.window.now c.args.reduce)) (sym own) fits.parts)
+    (subst (AllByRecursion (PsotFits i c.args.window.now c.args.view)) (sym own) fits.parts)
     (ap (λ (hs : List PartHead). sum_by size_of hs) own ∙ sound.segments)
 
 pub loop-head-preserved : goal.loop-head-preserved
 loop-head-preserved c =
     let i = c.args.index.now in
     let w = c.args.window.now in
-    let d = c.args.reduce in
+    let v = c.args.view in
     let items = c.deref-head-items.result.now in
     let k = c.loop-head.head-index in
     let at = c.loop-head.at in
@@ -42,13 +42,13 @@ loop-head-preserved c =
     let number = head.number in
     let plan = tile.each h.number (omega (arith, count, number)) in
     let there : get_or (get_or c.args.tiles.now h.tile []) h.number no_plan ≡ c.part-content.result.now = sym (c.part-content.ensures ∙ ap (λ (ps : List PlanFields). get_or ps h.number no_plan) (c.index-tiles-head.is ∙ get_same c.args.tiles.now h.tile c.index-tiles-head.result [] (omega (arith, tiles, head.tile)))) in
-    going_more i w d c.args.plan.now c.loop-head.plan c.plan_part.new.plan c.part-content.result.now items k at none h _ c.loop-head.invariant c.loop-head-test.true refl piece
-    (subst (IsPartPlan i w d h.tile h.number) there plan) c.in_ok-plan_part.ensures.size c.in_ok-plan_part.ensures.text
+    going_more i w v c.args.plan.now c.loop-head.plan c.plan_part.new.plan c.part-content.result.now items k at none h _ c.loop-head.invariant c.loop-head-test.true refl piece
+    (subst (IsPartPlan i w v h.tile h.number) there plan) c.in_ok-plan_part.ensures.size c.in_ok-plan_part.ensures.text
 
 pub returns-clause-text : goal.returns-clause-text
 returns-clause-text c = λ file index.
     let i = c.args.index.now in
     let items = c.deref-head-items.result.now in
     let own : items ≡ i.frame.heads = c.deref-head-items.ensures.value ∙ ap (λ (x : Frame). x.heads) (c.around.view_is ∙ c.around-around.ensures.value) in
-    going_over i c.args.window.now c.args.reduce c.args.plan.now c.loop-head.plan items c.loop-head.head-index c.loop-head.at c.loop-head.invariant c.loop-head-test.false file index
-    ∙ ap (λ (hs : List PartHead). plan_text file c.args.plan.now ++ heads_text hs i.frame.segments (part_from file i c.args.window.now c.args.reduce)) own
+    going_over i c.args.window.now c.args.view c.args.plan.now c.loop-head.plan items c.loop-head.head-index c.loop-head.at c.loop-head.invariant c.loop-head-test.false file index
+    ∙ ap (λ (hs : List PartHead). plan_text file c.args.plan.now ++ heads_text hs i.frame.segments (part_from file i c.args.window.now c.args.view)) own

@@ -1,5 +1,5 @@
 use Rattle.std.proofs.Common.{sym, ◌∙◌}
-use Rattle.jk_web.proofs.ReadingLaws.{no_number, no_name, keeps_x, keeps_y, keeps_w, keeps_h, keeps_r}
+use Rattle.jk_web.proofs.ReadingLaws.{no_number, no_name, keeps_x, keeps_y, keeps_w, keeps_h, keeps_r, keeps_l}
 use Rattle.jk_web.proofs.query.Readings.keep.Goals as goal
 
 pub returns-in_default : goal.returns-in_default
@@ -31,7 +31,12 @@ returns-in-r c =
     λ rest. keeps_r c.args.self.now c.args.key.now c.args.value.now c.in-Some.number rest c.fill-in-r.result c.fill-in-r.new.place c.in-r.is
     (sym c.number.ensures ∙ c.in-Some.is) c.fill-in-r.ensures.free c.fill-in-r.ensures.new
 
+pub returns-in-layers : goal.returns-in-layers
+returns-in-layers c =
+    λ rest. keeps_l c.args.self.now c.args.key.now c.args.value.now c.in-Some.number rest c.fill-in-layers.result c.fill-in-layers.new.place c.in-layers.is
+    (sym c.number.ensures ∙ c.in-Some.is) c.fill-in-layers.ensures.free c.fill-in-layers.ensures.new
+
 pub returns-in_default-key : goal.returns-in_default-key
 returns-in_default-key c =
     λ rest. no_name c.args.self.now c.args.key.now c.args.value.now rest c.in_default-key.not-x c.in_default-key.not-y c.in_default-key.not-w
-    c.in_default-key.not-h c.in_default-key.not-r
+    c.in_default-key.not-h c.in_default-key.not-r c.in_default-key.not-layers

@@ -8,4 +8,4 @@ pub returns-clause-sound : goal.returns-clause-sound
 returns-clause-sound c = subst (λ (i : IndexFields). IsSound i) c.self.view_is (sound c.self.invariant.bytes _ c.self.invariant.indexes)
 
 pub returns-clause-fits : goal.returns-clause-fits
-returns-clause-fits c = λ w d. subst (λ (i : IndexFields). Fits i w d) c.self.view_is (fits c.self.invariant.bytes _ c.self.invariant.indexes w d)
+returns-clause-fits c = λ w v. subst (λ (i : IndexFields). Fits i w v) c.self.view_is (fits c.self.invariant.bytes _ c.self.invariant.indexes w v)
