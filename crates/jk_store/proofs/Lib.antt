@@ -13,3 +13,4 @@ pub mod GivenLaws
 pub mod ReadingLaws
 pub mod ByPartsLaws
 pub mod KnownParts
+pub mod Laws

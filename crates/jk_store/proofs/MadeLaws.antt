@@ -8,7 +8,7 @@ use Rattle.jk_store.specs.Showing.{MayBeMade}
 use Rattle.jk_store.specs.declared.entry.Entry.{Entry}
 use Rattle.jk_store.proofs.AddLaws.{map_more}
 
-found_on : (entries more : List Entry) (n : List ℕ) (e : Entry) → entry_of entries n ≡ Some e → entry_of (entries ++ more) n ≡ Some e
+pub found_on : (entries more : List Entry) (n : List ℕ) (e : Entry) → entry_of entries n ≡ Some e → entry_of (entries ++ more) n ≡ Some e
 found_on [] more n e h = absurd (cc)
 found_on (x ∷ entries) more n e h = at_first (bytes_eq (string_bytes x.name) n) (found_on entries more n e) h
   where
@@ -17,7 +17,7 @@ found_on (x ∷ entries) more n e h = at_first (bytes_eq (string_bytes x.name) n
     at_first true k h = h
     at_first false k h = k h
 
-made_on : (entries more : List Entry) → Within (MayBeMade entries) (MayBeMade (entries ++ more))
+pub made_on : (entries more : List Entry) → Within (MayBeMade entries) (MayBeMade (entries ++ more))
 made_on entries more n a b h = (h.0, h.1, found_on entries more n h.0 h.2, h.3, h.4)
 
 pub same_made : {X : Type 0} (value : X → Entry) (old new : List X) → new ≡ old → Within (MayBeMade (map value old)) (MayBeMade (map value new))

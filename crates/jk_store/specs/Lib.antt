@@ -12,3 +12,4 @@ pub mod Adding
 pub mod Opening
 pub mod Judging
 pub mod Showing
+pub mod ShownSteps

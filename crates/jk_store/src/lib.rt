@@ -15,6 +15,7 @@ mod parts;
 mod reading;
 mod shelf;
 mod showing;
+mod shown;
 mod skipped;
 
 pub use archive::Archive;
@@ -26,4 +27,5 @@ pub use memory::MemoryShelf;
 pub use names::is_good_name;
 pub use opening::Images;
 pub use shelf::Shelf;
+pub use shown::ShownEntries;
 pub use skipped::Skipped;

@@ -7,6 +7,7 @@ ghost use Rattle.jk_math.specs.Memory.{IsMemory};
 ghost use Rattle.jk_web.specs.Images.{Image, image_of, IsFileOf, IsCutOf, IsFileGiven, IsCutGiven, HasNoCut, MayRefuse};
 ghost use Rattle.jk_store.specs.Showing.{line_of, number_text, view_of, ShowImages, AreKept, Broke, Reads, Cuts};
 ghost use Rattle.jk_store.specs.Showing.{MayBeMade};
+ghost use Rattle.jk_store.specs.Files.{Files};
 
 use crate::archive::{Archive, find};
 use crate::entry::Entry;
@@ -42,7 +43,7 @@ fn put_line(alloc: Global, out: &mut Vec<u8>, entry: &Entry) -> Result<(), Alloc
 }
 
 /// The lines of images.
-fn lines_of(alloc: Global, entries: &[Arc<Entry>]) -> Result<Vec<u8>, Fault>
+pub(crate) fn lines_of(alloc: Global, entries: &[Arc<Entry>]) -> Result<Vec<u8>, Fault>
     ensures lines { IfOk result (λ v. v.items ≡ flat_map line_of (map arc_value entries.now)) }
     ensures memory { IfErr result (λ e. IsMemory e) }
 {
@@ -68,7 +69,7 @@ fn view(asked: Asked) -> View
 }
 
 /// The file of the image of a name.
-fn whole_of<S: Shelf>(
+pub(crate) fn whole_of<S: Shelf>(
     alloc: Global,
     entries: &[Arc<Entry>],
     shelf: &mut S,
@@ -83,6 +84,7 @@ fn whole_of<S: Shelf>(
         → AreKept S.keeps shelf.old images
         → IfOk result (λ v. IsFileOf (image_of name.now images) v.items) }
     ensures keeps { (images : List Image) → AreKept S.keeps shelf.old images → AreKept S.keeps shelf.new images }
+    ensures kept { (files : Files) → S.keeps shelf.old files → S.keeps shelf.new files }
 {
     match find(entries, name) {
         Some(entry) => entry.whole(alloc, shelf),
@@ -91,7 +93,7 @@ fn whole_of<S: Shelf>(
 }
 
 /// The file of a window of the image of a name.
-fn window_of<S: Shelf>(
+pub(crate) fn window_of<S: Shelf>(
     alloc: Global,
     entries: &[Arc<Entry>],
     shelf: &mut S,
@@ -109,6 +111,7 @@ fn window_of<S: Shelf>(
         → IfOk result (λ v. IsCutOf (image_of name.now images) asked v.items) }
     ensures made { IfOk result (λ v. MayBeMade (map arc_value entries.now) name.now asked v.items) }
     ensures keeps { (images : List Image) → AreKept S.keeps shelf.old images → AreKept S.keeps shelf.new images }
+    ensures kept { (files : Files) → S.keeps shelf.old files → S.keeps shelf.new files }
 {
     match find(entries, name) {
         Some(entry) => entry.window_by_parts(alloc, shelf, view(asked)),
@@ -134,6 +137,8 @@ impl<S: Shelf> Catalogue for Archive<S> {
 
     ghost made = { λ a. MayBeMade (map arc_value a.entries.items) };
 
+    ghost steps = { λ a b. Unit {0} };
+
     fn lines(&self, alloc: Global) -> Result<Vec<u8>, Fault> {
         lines_of(alloc, &self.entries)
     }
@@ -149,4 +154,6 @@ impl<S: Shelf> Catalogue for Archive<S> {
     fn window(&mut self, alloc: Global, name: &[u8], asked: Asked) -> Result<Vec<u8>, Fault> {
         window_of(alloc, &self.entries, &mut self.shelf, name, asked)
     }
+
+    ghost stays = { λ a. tt };
 }

@@ -7,7 +7,9 @@ pub mod ResourceLaws
 pub mod KnownLaws
 pub mod ServingLaws
 pub mod ImageLaws
+pub mod EndLaws
 pub mod RunLaws
 pub mod ReplyLaws
 pub mod CacheLaws
 pub mod BehindLaws
+pub mod Laws

@@ -71,6 +71,7 @@ fn answer_whole<C: Catalogue>(
     ensures stands { (images : List Image) → C.stands catalogue.old images → C.stands catalogue.new images }
     ensures keeps { (images : List Image) → C.keeps catalogue.old images → C.keeps catalogue.new images }
     ensures lasts { Within (C.made catalogue.old) (C.made catalogue.new) }
+    ensures steps { C.steps catalogue.old catalogue.new }
     ensures memory { IfErr result (λ e. IsMemory e) }
 {
     if !catalogue.has(name) {
@@ -105,6 +106,7 @@ fn answer_window<C: Catalogue, W: Windows<C>>(
     ensures stands { (images : List Image) → C.stands catalogue.old images → C.stands catalogue.new images }
     ensures keeps { (images : List Image) → C.keeps catalogue.old images → C.keeps catalogue.new images }
     ensures lasts { Within (C.made catalogue.old) (C.made catalogue.new) }
+    ensures steps { C.steps catalogue.old catalogue.new }
     ensures knows { (images : List Image) → C.stands catalogue.old images → C.keeps catalogue.old images
         → AreOf (W.has windows.old) images → AreOf (W.has windows.new) images }
     ensures holds { Within (W.has windows.old) (C.made catalogue.old)
@@ -142,6 +144,7 @@ pub(crate) fn answer_by<C: Catalogue, W: Windows<C>>(
     ensures stands { (images : List Image) → C.stands catalogue.old images → C.stands catalogue.new images }
     ensures keeps { (images : List Image) → C.keeps catalogue.old images → C.keeps catalogue.new images }
     ensures lasts { Within (C.made catalogue.old) (C.made catalogue.new) }
+    ensures steps { C.steps catalogue.old catalogue.new }
     ensures knows { (images : List Image) → C.stands catalogue.old images → C.keeps catalogue.old images
         → AreOf (W.has windows.old) images → AreOf (W.has windows.new) images }
     ensures holds { Within (W.has windows.old) (C.made catalogue.old)
@@ -179,6 +182,7 @@ pub fn answer<C: Catalogue>(
     ensures stands { (images : List Image) → C.stands catalogue.old images → C.stands catalogue.new images }
     ensures keeps { (images : List Image) → C.keeps catalogue.old images → C.keeps catalogue.new images }
     ensures lasts { Within (C.made catalogue.old) (C.made catalogue.new) }
+    ensures steps { C.steps catalogue.old catalogue.new }
     ensures memory { IfErr result (λ e. IsMemory e) }
 {
     let mut direct = Direct;
@@ -205,6 +209,7 @@ pub fn answer_with<C: Catalogue>(
     ensures stands { (images : List Image) → C.stands catalogue.old images → C.stands catalogue.new images }
     ensures keeps { (images : List Image) → C.keeps catalogue.old images → C.keeps catalogue.new images }
     ensures lasts { Within (C.made catalogue.old) (C.made catalogue.new) }
+    ensures steps { C.steps catalogue.old catalogue.new }
     // A window that is kept is given without a look at the catalogue's files.
     ensures unread { (names : List (List ℕ)) → All IsSegment names → IsHit (Has cache.old) names request.now
         → catalogue.new ≡ catalogue.old }

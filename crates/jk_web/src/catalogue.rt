@@ -34,6 +34,9 @@ pub trait Catalogue {
     // For the image of this name such a cut may have been made, of what was taken for the image's.
     ghost made: { Self → List ℕ → Asked → List ℕ → Type 0 };
 
+    // From the first state it may come to the second.
+    ghost steps: { Self → Self → Type 0 };
+
     /// The lines of all images, in order.
     fn lines(&self, alloc: Global) -> Result<Vec<u8>, Fault>
         ensures lines { (images : List Image) → stands self.now images
@@ -54,7 +57,8 @@ pub trait Catalogue {
             → IfOk result (λ v. IsFileOf (image_of name.now images) v.items) }
         ensures stands { (images : List Image) → stands self.old images → stands self.new images }
         ensures keeps { (images : List Image) → keeps self.old images → keeps self.new images }
-        ensures lasts { Within (made self.old) (made self.new) };
+        ensures lasts { Within (made self.old) (made self.new) }
+        ensures steps { steps self.old self.new };
 
     /// The file of a window of an image.
     fn window(&mut self, alloc: Global, name: &[u8], asked: Asked) -> Result<Vec<u8>, Fault>
@@ -68,5 +72,9 @@ pub trait Catalogue {
         ensures made { IfOk result (λ v. made self.new name.now asked v.items) }
         ensures stands { (images : List Image) → stands self.old images → stands self.new images }
         ensures keeps { (images : List Image) → keeps self.old images → keeps self.new images }
-        ensures lasts { Within (made self.old) (made self.new) };
+        ensures lasts { Within (made self.old) (made self.new) }
+        ensures steps { steps self.old self.new };
+
+    // It may stay where it is.
+    ghost stays: { (s : Self) → steps s s };
 }

@@ -48,7 +48,8 @@ pub(crate) trait Windows<C: Catalogue> {
             → has self.old n a b ⊎ IsGiven result name.now asked n a b }
         ensures stands { (images : List Image) → C.stands catalogue.old images → C.stands catalogue.new images }
         ensures keeps { (images : List Image) → C.keeps catalogue.old images → C.keeps catalogue.new images }
-        ensures lasts { Within (C.made catalogue.old) (C.made catalogue.new) };
+        ensures lasts { Within (C.made catalogue.old) (C.made catalogue.new) }
+        ensures steps { C.steps catalogue.old catalogue.new };
 }
 
 /// Windows as the catalogue makes them: none is kept.

@@ -29,6 +29,8 @@ impl Catalogue for Gallery {
 
     ghost made = { λ _ n asked cut. IsCutOf (image_of n (only ∷ [])) asked cut };
 
+    ghost steps = { λ _ _. Unit {0} };
+
     fn lines(&self, alloc: Global) -> Result<Vec<u8>, Fault> {
         Ok(Vec::from_slice(alloc, b"a 1 1 1 8 0\n")?)
     }
@@ -59,6 +61,8 @@ impl Catalogue for Gallery {
         }
         Ok(Vec::from_slice(alloc, b"cut")?)
     }
+
+    ghost stays = { λ _. tt };
 }
 
 /// The reply to the request at the front of a stream.

@@ -29,6 +29,8 @@ impl Catalogue for Counting {
 
     ghost made = { λ _ _ _ _. Unit {0} };
 
+    ghost steps = { λ _ _. Unit {0} };
+
     fn lines(&self, alloc: Global) -> Result<Vec<u8>, Fault> {
         Ok(Vec::from_slice(alloc, b"a\nb\n")?)
     }
@@ -62,6 +64,8 @@ impl Catalogue for Counting {
         }
         Ok(cut)
     }
+
+    ghost stays = { λ _. tt };
 }
 
 /// Answers the requests of a stream through a cache with room for so many windows: each reply is
