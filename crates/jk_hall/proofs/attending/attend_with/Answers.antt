@@ -1,0 +1,24 @@
+use Rattle.jk_hall.specs.Behind.{GivesBehind, RefusesBehind}
+use Rattle.jk_hall.proofs.Attended.{attended, ends_cause}
+use Rattle.jk_hall.proofs.attending.attend_with.Goals as goal
+
+pub returns-clause-same : goal.returns-clause-same
+returns-clause-same g c =
+    let e = c.serve.ensures in
+    (attended g.S.Shelf.keeps g.S.Shelf.failed g.S.Shelf.gave g.S.Shelf.gave_at c.args.service.now c.serve.new.service e.0 e.1 _ _ c.serve.result e.4).0
+
+pub returns-clause-goes : goal.returns-clause-goes
+returns-clause-goes g c =
+    let e = c.serve.ensures in
+    (attended g.S.Shelf.keeps g.S.Shelf.failed g.S.Shelf.gave g.S.Shelf.gave_at c.args.service.now c.serve.new.service e.0 e.1 _ _ c.serve.result e.4).1
+
+pub returns-clause-text : goal.returns-clause-text
+returns-clause-text g c =
+    let e = c.serve.ensures in
+    (e.0, e.1, e.2, e.3, (attended g.S.Shelf.keeps g.S.Shelf.failed g.S.Shelf.gave g.S.Shelf.gave_at c.args.service.now c.serve.new.service e.0 e.1 _ _ c.serve.result e.4).2)
+
+pub returns-clause-cause : goal.returns-clause-cause
+returns-clause-cause g c =
+    let e = c.serve.ensures in
+    ends_cause (GivesBehind g.S.Shelf.keeps g.S.Shelf.failed g.S.Shelf.gave g.S.Shelf.gave_at) (RefusesBehind g.S.Shelf.keeps)
+    c.args.service.now e.0 e.1 _ _ c.serve.new.service c.serve.result (λ s q f u refused. refused.1.0) e.4

@@ -1,0 +1,7 @@
+use Rattle.std.proofs.Common.{◌≡◌, map, take}
+use Rattle.std.specs.Arc.{arc_value}
+use Rattle.jk_hall.proofs.hall.copied.Given as goal
+
+-- those before are copied
+abbrev pub invariant-loop-entry : goal.invariant-loop-entry
+invariant-loop-entry l = map arc_value l.all.items ≡ map arc_value (take l.entry-index l.entries)

@@ -1,0 +1,33 @@
+-- A reader and a shelf that are borrowed.
+use Rattle.std.specs.Prelude.{◌≡◌, ℕ, List}
+use mathlib.Core.List.{IsPrefix}
+use Rattle.jk_math.specs.declared.fault.Fault.{Fault}
+use Rattle.jk_web.specs.declared.reply.Reply.{Reply}
+use Rattle.jk_web.specs.declared.request.Request.{Request}
+use Rattle.jk_store.specs.Files.{Files}
+use Rattle.jk_store.specs.declared.entry.Entry.{Entry}
+use Rattle.jk_hall.specs.Reading.{seen}
+use Rattle.jk_hall.specs.Replying.{Gives, Refuses}
+use Rattle.jk_hall.specs.declared.reader.Reader.{Reader}
+use Rattle.jk_hall.specs.declared.attending.Attending.{Attending}
+
+-- what stands behind both references
+abbrev pub behind : {S : Type 0} → Attending S → Reader × S
+behind a = (a.reader.now, a.shelf.now)
+
+-- Both references are the same.
+abbrev pub AreSame : {S : Type 0} → Attending S → Attending S → Type 0
+AreSame s t = (t.reader.ghost_name ≡ s.reader.ghost_name) × (t.shelf.ghost_name ≡ s.shelf.ghost_name)
+
+module _ {S : Type 0} (keeps : S → Files → Type 0) where
+  abbrev pub RefusesBehind : Attending S → Request → Fault → Attending S → Type 0
+  RefusesBehind s q e t = AreSame s t × Refuses keeps (behind s) q e (behind t)
+
+  module _ (failed : S → ℕ) (gave : S → List ℕ → List ℕ → S → Type 0)
+      (gave_at : S → List ℕ → ℕ → ℕ → List ℕ → S → Type 0) where
+    abbrev pub GivesBehind : Attending S → Request → Reply → Attending S → Type 0
+    GivesBehind s q r t = AreSame s t × Gives keeps failed gave gave_at (behind s) q r (behind t)
+
+    -- A request is answered from a list that begins this one.
+    abbrev pub GivesUpTo : List Entry → Reader × S → Request → Reply → Reader × S → Type 0
+    GivesUpTo last s q r t = Gives keeps failed gave gave_at s q r t × IsPrefix (seen t.0) last

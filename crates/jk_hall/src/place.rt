@@ -1,0 +1,12 @@
+//! The place of a reader.
+
+use crate::rule::{Prefixes, Sight};
+use crate::shown::Shown;
+use jk_web::Cache;
+
+/// From where a reader sees what is shown, and the cuts that it keeps.
+#[derive(Drop)]
+pub struct Place {
+    pub(crate) inner: left_right::reader::Reader<Shown, Sight, Prefixes>,
+    pub(crate) cache: Cache,
+}
