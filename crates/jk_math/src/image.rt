@@ -75,14 +75,38 @@ fn is_frame(x0: u32, y0: u32, width: u32, height: u32) -> bool
         && width as u64 * height as u64 <= 1 << 28
 }
 
+/// Whether a sample lies within the range of its depth.
+#[inline(always)]
+fn is_within(sample: &i32, depth: u8, signed: bool) -> bool
+    requires some { 1 ≤ depth }
+    requires few { depth ≤ 16 }
+    ensures { IsTrue result ↔ (lowest depth signed ≤ℤ sample.now) × (sample.now ≤ℤ greatest depth signed) }
+{
+    let (lowest, greatest) = sample_range(depth, signed);
+    lowest <= *sample && *sample <= greatest
+}
+
+/// Whether all of these samples lie within the range of their depth. Every one is looked at, so
+/// that several are looked at together.
+fn are_within(samples: &[i32], depth: u8, signed: bool) -> bool
+    requires some { 1 ≤ depth }
+    requires few { depth ≤ 16 }
+    ensures { IsTrue result ↔ All (λ s. (lowest depth signed ≤ℤ s) × (s ≤ℤ greatest depth signed)) samples.now }
+{
+    let mut within = true;
+    for sample in samples {
+        within &= is_within(sample, depth, signed);
+    }
+    within
+}
+
 /// Whether these are all the samples of a component, each within the range of its depth.
 fn is_plane(samples: &[i32], area: usize, depth: u8, signed: bool) -> bool
     requires some { 1 ≤ depth }
     requires few { depth ≤ 16 }
     ensures { IsTrue result ↔ IsPlane area depth signed samples.now }
 {
-    let (lowest, greatest) = sample_range(depth, signed);
-    samples.len() == area && samples.iter().all(|s| lowest <= *s && *s <= greatest)
+    samples.len() == area && are_within(samples, depth, signed)
 }
 
 /// Whether each plane has all its samples, each within the range of its depth.
