@@ -14,8 +14,8 @@ use Rattle.jk_scan.specs.Moments.{stripes}
 use Rattle.jk_scan.specs.Words.{Truths, of_rows, bordered}
 use Rattle.jk_scan.specs.WordPlaces.{column, row}
 use Rattle.jk_scan.specs.Flags.{IsSized, IsDrawn, across, word_at, flag_at}
-use Rattle.jk_scan.proofs.Laws.{inside_parts, rows_between, word_fits, on_or, drawn_none}
-use Rattle.jk_block.specs.Fields.{is_in_word, own_bit, with_word, words_of, AreSameWords, plane_bit}
+use Rattle.jk_scan.proofs.Laws.{inside_parts, rows_between, word_fits, on_or, on_zero, drawn_none, same_field}
+use Rattle.jk_block.specs.Fields.{flagged, is_in_word, own_bit, with_word, words_of, AreSameWords, plane_bit}
 use Rattle.jk_block.proofs.WordBits.{bordered_at, drawn_bit}
 
 -- a word is written
@@ -176,6 +176,16 @@ one_word s j i j' i' h h' e = same_from_place i j i' j' (across s + 2) h h' e
 -- a place of a block in its word
 inside_word : (s : BlockShape) (x y : ℕ) → is_inside s x y ≡ true → (x / 8 < across s) × (y / 4 < stripes s)
 inside_word s x y h = let p = inside_parts s x y h in let p0 = p.0 in let p1 = p.1 in (omega arith, omega arith)
+
+-- such words flag no place
+pub flagged_dark : (s : BlockShape) (words : List ℕ) → ((k : ℕ) → k < words_of s → get_or words k 0 ≡ 0) → flagged s words ≡ (λ _ _. false)
+flagged_dark s words h = same_field (flagged s words) (λ _ _. false) (λ x y. at x y (is_inside s x y) refl)
+  where
+    at : (x y : ℕ) (b : Bool) → is_inside s x y ≡ b → (b && flag_at s words x y) ≡ false
+    at x y true e =
+        let w = inside_word s x y e in
+        ap (λ n. on n (own_bit x y)) (h (word_at s (x / 8 + 1) (y / 4 + 1)) (word_room s (x / 8 + 1) (y / 4 + 1) (let a = w.0 in omega (arith, a)) (let b = w.1 in omega (arith, b)))) ∙ on_zero (own_bit x y)
+    at x y false e = refl
 
 by_word : {R : Type 0} (j i x y : ℕ) → (is_in_word j i x y ≡ true → x / 8 ≡ j → y / 4 ≡ i → R) → (is_in_word j i x y ≡ false → (x / 8 ≡ j → y / 4 ≡ i → ⊥) → R) → R
 by_word {R} j i x y f g = by (is_in_word j i x y) refl

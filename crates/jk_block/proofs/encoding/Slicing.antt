@@ -1,6 +1,6 @@
 -- Slices filled and read.
 use Rattle.std.proofs.Common.{◌≡◌, ℕ, zero, suc, ◌+◌, ◌-◌, ◌*◌, ◌/◌, ◌%◌, ◌^◌, ◌<◌, ◌≤◌, Bool, true, false, cond, min, ◌⊎◌, List, length, get_or, set, replicate, refl, sym, ap, ◌∙◌, subst, inl, inr, pos, ℤ, unsigned_abs, arith}
-use Rattle.std.specs.Prelude.{◌&&◌, ◌||◌, nat_eq, nat_lt, nat_le, slice_index_or, ◌≢◌}
+use Rattle.std.specs.Prelude.{◌&&◌, ◌||◌, nat_eq, nat_lt, nat_le, slice_index_or}
 use Rattle.std.specs.Int.{is_negative, trailing_zeros, w64}
 use Rattle.std.specs.Int.RustNames.{bit_or, bit_and}
 use Rattle.std.proofs.lemmas.Bool.{cases_lt, and_parts}

@@ -109,9 +109,9 @@ fn coefficient(eight: Eight, c: usize) -> i32
     }
 }
 
-/// Appends the first of eight coefficients, for which there is room.
+/// Appends the first of eight coefficients, by a loop over them.
 #[inline(always)]
-fn append_eight(values: &mut Vec<i32>, eight: Eight, count: usize)
+fn append_by(values: &mut Vec<i32>, eight: Eight, count: usize)
     requires few { count ≤ 8 }
     requires room { vec_len values.old + count ≤ vec_capacity values.old }
     ensures items { values.new.items ≡ values.old.items ++ map (value_of eight) (range_with_len 0 count) }
@@ -120,6 +120,23 @@ fn append_eight(values: &mut Vec<i32>, eight: Eight, count: usize)
 {
     for c in 0..count {
         values.push_reserved(coefficient(eight, c));
+    }
+}
+
+/// Appends the first of eight coefficients, for which there is room. Mostly these are all eight,
+/// for which the loop is laid out in full.
+#[inline(always)]
+fn append_eight(values: &mut Vec<i32>, eight: Eight, count: usize)
+    requires few { count ≤ 8 }
+    requires room { vec_len values.old + count ≤ vec_capacity values.old }
+    ensures items { values.new.items ≡ values.old.items ++ map (value_of eight) (range_with_len 0 count) }
+    ensures len { vec_len values.new ≡ vec_len values.old + count }
+    ensures capacity { vec_capacity values.new ≡ vec_capacity values.old }
+{
+    if count == 8 {
+        append_by(values, eight, 8);
+    } else {
+        append_by(values, eight, count);
     }
 }
 

@@ -13,7 +13,7 @@ ghost use Rattle.jk_block.specs.Fields.{lit_of, flagged, words_of, magnitude_of,
 ghost use Rattle.jk_block.specs.Steps.{IsSpot};
 
 use super::sight::Sight;
-use crate::ages::{unmarked, words_of};
+use crate::ages::{unmark, unmarked, words_of};
 use crate::spot::Spot;
 use jk_math::Fault;
 use jk_scan::{BlockShape, WORDS, word_place};
@@ -77,7 +77,7 @@ impl Sketch {
         ensures planes { self.new.planes ≡ self.old.planes }
         ensures begun { (c : State) → progress (draft_of self.new) c ≡ begun 0 (progress (draft_of self.old) c) }
     {
-        self.visited = unmarked();
+        unmark(self.shape, &mut self.visited);
     }
 
     /// Marks these places of a word as coded by the significance propagation pass.

@@ -1,11 +1,12 @@
-use Rattle.std.proofs.Common.{false, refl, ap, ◌∙◌}
+use Rattle.std.proofs.Common.{false, refl}
 use Rattle.jk_block.specs.Fields.{flagged, magnitude_of}
-use Rattle.jk_block.proofs.Drawing.{progress_same, flagged_none}
+use Rattle.jk_block.proofs.Drawing.{progress_same}
+use Rattle.jk_block.proofs.WordDrawing.{flagged_dark}
 use Rattle.jk_block.proofs.decoding.sketch.Sketch.begin.Goals as goal
 
 pub returns-clause-begun : goal.returns-clause-begun
 returns-clause-begun c = λ coder.
     let k = c.args.self.now in
     let s = k.shape in
-    progress_same (magnitude_of s k.planes k.bits.items) (magnitude_of s k.planes k.bits.items) (flagged s k.negative) (flagged s k.negative) (flagged s c.unmarked-self.result) (λ _ _. false) coder
-    refl refl (ap (flagged s) c.unmarked-self.ensures ∙ flagged_none s 774)
+    progress_same (magnitude_of s k.planes k.bits.items) (magnitude_of s k.planes k.bits.items) (flagged s k.negative) (flagged s k.negative) (flagged s c.unmark.new.words) (λ _ _. false) coder
+    refl refl (flagged_dark s c.unmark.new.words c.unmark.ensures)

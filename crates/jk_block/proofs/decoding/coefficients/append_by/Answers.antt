@@ -3,7 +3,7 @@ use Rattle.std.specs.List.{range_with_len}
 use Rattle.std.proofs.lemmas.List.FromFn.{map-range_with_len_more}
 use Rattle.jk_block.specs.decoding.Eights.{value_of}
 use Rattle.jk_block.proofs.decoding.Eights.{value_back}
-use Rattle.jk_block.proofs.decoding.coefficients.append_eight.Goals as goal
+use Rattle.jk_block.proofs.decoding.coefficients.append_by.Goals as goal
 
 pub loop-c-preserved : goal.loop-c-preserved
 loop-c-preserved c =

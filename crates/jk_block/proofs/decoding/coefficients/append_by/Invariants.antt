@@ -2,7 +2,7 @@ use Rattle.std.proofs.Common.{◌≡◌, ◌+◌, ◌++◌, map}
 use Rattle.std.specs.Vec.{vec_len, vec_capacity}
 use Rattle.std.specs.List.{range_with_len}
 use Rattle.jk_block.specs.decoding.Eights.{value_of}
-use Rattle.jk_block.proofs.decoding.coefficients.append_eight.Given as goal
+use Rattle.jk_block.proofs.decoding.coefficients.append_by.Given as goal
 
 abbrev pub invariant-loop-c : goal.invariant-loop-c
 invariant-loop-c l =
