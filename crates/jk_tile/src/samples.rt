@@ -1,6 +1,6 @@
 //! From the values of a tile to its samples.
 
-ghost use Rattle.std.specs.Prelude.{◌≡◌, ℕ, ◌+◌, ◌<◌, ◌≤◌, ◌^◌, length, map, All, pos, neg_ℤ, ◌≤ℤ◌};
+ghost use Rattle.std.specs.Prelude.{◌≡◌, ℕ, ◌+◌, ◌<◌, ◌≤◌, ◌^◌, length, map, All, pos, neg_ℤ, ◌≤ℤ◌, ◌+ℤ◌};
 ghost use Rattle.jk_math.specs.Signed.{IsBelow, signed_at};
 ghost use Rattle.jk_marks.specs.Siz.{IsSiz};
 ghost use Rattle.jk_math.specs.Lists.{lists_of, list_at};
@@ -23,6 +23,7 @@ pub fn level_shift(depth: u8, signed: bool) -> i32
 }
 
 /// The nearest sample of the range.
+#[inline(always)]
 fn clamp(depth: u8, signed: bool, value: i32) -> i32
     requires some { 1 ≤ depth }
     requires few { depth ≤ 16 }
@@ -33,18 +34,15 @@ fn clamp(depth: u8, signed: bool, value: i32) -> i32
 }
 
 /// The sample of a value of the highest resolution.
-fn sample(siz: &Siz, value: i32) -> i32
-    requires some { 1 ≤ siz.now.depth }
-    requires few { siz.now.depth ≤ 16 }
+#[inline(always)]
+fn sample(depth: u8, signed: bool, value: i32) -> i32
+    requires some { 1 ≤ depth }
+    requires few { depth ≤ 16 }
     requires low { neg_ℤ (pos (2 ^ 30)) ≤ℤ value }
     requires high { value ≤ℤ pos (2 ^ 30) }
-    ensures { result ≡ sample_of siz.now value }
+    ensures { result ≡ clamped depth signed (value +ℤ shift depth signed) }
 {
-    clamp(
-        siz.depth,
-        siz.signed,
-        value + level_shift(siz.depth, siz.signed),
-    )
+    clamp(depth, signed, value + level_shift(depth, signed))
 }
 
 /// Puts the samples in the places of values.
@@ -53,8 +51,9 @@ pub(crate) fn to_samples(siz: &Siz, values: &mut [i32])
     requires small { All (IsBelow (2 ^ 30)) values.old }
     ensures { values.new ≡ map (sample_of siz.now) values.old }
 {
+    let (depth, signed) = (siz.depth, siz.signed);
     for k in 0..values.len() {
-        values[k] = sample(siz, values[k]);
+        values[k] = sample(depth, signed, values[k]);
     }
 }
 
