@@ -59,9 +59,9 @@ row_place state k mps less small =
     ∙ ap (λ (c : Context). get_or (moves_of c) k 0) (context_place state mps less)
 
 -- a context and its entry
-low_part : (qe state : ℕ) (mps : Bool) → state < 47 → ((qe * 2 ^ 49 + (6 * state + cond mps (2 ^ 16 + 3) 0)) % 2 ^ 16 / 6 ≡ state) × (((qe * 2 ^ 49 + (6 * state + cond mps (2 ^ 16 + 3) 0)) / 2 ^ 16 % 2 == 1) ≡ mps)
-low_part qe state true less = (omega (arith, less), ap (λ d. d == 1) (let e : (qe * 2 ^ 49 + (6 * state + (2 ^ 16 + 3))) / 2 ^ 16 % 2 ≡ 1 = omega (arith, less) in e))
-low_part qe state false less = (omega (arith, less), ap (λ d. d == 1) (let e : (qe * 2 ^ 49 + (6 * state + 0)) / 2 ^ 16 % 2 ≡ 0 = omega (arith, less) in e))
+low_part : (qe state : ℕ) (mps : Bool) → state < 47 → ((qe * 2 ^ 49 + (6 * state + cond mps (2 ^ 31 + 3) 0)) % 2 ^ 16 / 6 ≡ state) × (((qe * 2 ^ 49 + (6 * state + cond mps (2 ^ 31 + 3) 0)) / 2 ^ 31 % 2 == 1) ≡ mps)
+low_part qe state true less = (omega (arith, less), ap (λ d. d == 1) (let e : (qe * 2 ^ 49 + (6 * state + (2 ^ 31 + 3))) / 2 ^ 31 % 2 ≡ 1 = omega (arith, less) in e))
+low_part qe state false less = (omega (arith, less), ap (λ d. d == 1) (let e : (qe * 2 ^ 49 + (6 * state + 0)) / 2 ^ 31 % 2 ≡ 0 = omega (arith, less) in e))
 
 pub context_back : (c : Context) → c.state < 47 → context_of (entry_of c) ≡ c
 context_back c less =
@@ -101,7 +101,7 @@ digits_small false true = omega arith
 digits_small false false = omega arith
 
 -- the parts of an entry
-symbol_is : (mps : Bool) → cond mps (2 ^ 16 + 3) 0 ≡ 2 ^ 16 * which mps + cond mps 3 0
+symbol_is : (mps : Bool) → cond mps (2 ^ 31 + 3) 0 ≡ 2 ^ 31 * which mps + cond mps 3 0
 unfolding which
 symbol_is true = refl
 symbol_is false = refl
@@ -119,7 +119,7 @@ row_at e is =
     let state = is.state in
     omega (arith, same, symbol, place, state)
 
-low_end : (mps : Bool) → cond mps (2 ^ 16 + 3) 0 < 2 ^ 17
+low_end : (mps : Bool) → cond mps (2 ^ 31 + 3) 0 < 2 ^ 31 + 4
 low_end true = omega arith
 low_end false = omega arith
 
@@ -162,7 +162,7 @@ pub scaled_is : (e top : ℕ) → IsEntry e → 15 ≤ top → top < 64 → rota
 scaled_is e top is least most =
     let c = context_of e in
     let q = (row_of c.state).qe in
-    let low = 6 * c.state + cond c.mps (2 ^ 16 + 3) 0 in
+    let low = 6 * c.state + cond c.mps (2 ^ 31 + 3) 0 in
     let largest = (size_sound e is).1 in
     let fits : q < 2 ^ 15 = omega (arith, largest) in
     let small : low < 2 ^ 32 = (let end = low_end c.mps in let state = is.state in omega (arith, end, state)) in

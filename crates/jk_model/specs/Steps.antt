@@ -4,14 +4,14 @@ use Rattle.std.specs.Prelude.{◌∷◌}
 use Rattle.std.specs.List.{flat_map, range_with_len}
 use Rattle.jk_model.specs.Contexts.{Context, row_of, moved}
 
--- the entry of a context: Qe in the upper fifteen bits, the more probable symbol in bit 16, and the
+-- the entry of a context: Qe in the upper fifteen bits, the more probable symbol in bit 31, and the
 -- place of its row in the lower sixteen bits
 abbrev pub entry_of : Context → ℕ
-entry_of c = (row_of c.state).qe * 2 ^ 49 + (6 * c.state + (if c.mps then 2 ^ 16 + 3 else 0))
+entry_of c = (row_of c.state).qe * 2 ^ 49 + (6 * c.state + (if c.mps then 2 ^ 31 + 3 else 0))
 
 -- the context of an entry
 abbrev pub context_of : ℕ → Context
-context_of e = record { state = e % 2 ^ 16 / 6; mps = e / 2 ^ 16 % 2 == 1 }
+context_of e = record { state = e % 2 ^ 16 / 6; mps = e / 2 ^ 31 % 2 == 1 }
 
 -- a number is the entry of a context
 pub record IsEntry (e : ℕ) : Type 0 where
