@@ -273,3 +273,8 @@ row_more f g a (suc n) e =
     ∙ ap (λ (v : ℤ). map f (range_with_len 0 (a + n)) ++ v ∷ []) (sym (e n (omega arith)))
     ∙ sym (map-range_with_len_more f 0 (a + n) (a + n) (omega arith))
     ∙ ap (λ k. map f (range_with_len 0 k)) (let q : a + n + 1 ≡ a + suc n = omega arith in q)
+
+-- eight coefficients whose magnitudes are one byte each
+pub bytes_alone : (e : Eight) → e.middle ≡ 0 → e.high ≡ 0 → (let b : Eight = record { low = e.low; middle = 0; high = 0; negative = e.negative } in b) ≡ e
+bytes_alone e m h =
+    ap (λ x. record { low = e.low; middle = x; high = 0; negative = e.negative }) (sym m) ∙ ap (λ x. record { low = e.low; middle = e.middle; high = x; negative = e.negative }) (sym h)

@@ -124,7 +124,7 @@ fn append_by(values: &mut Vec<i32>, eight: Eight, count: usize)
 }
 
 /// Appends the first of eight coefficients, for which there is room. Mostly these are all eight,
-/// for which the loop is laid out in full.
+/// with magnitudes of one byte, for which the loop is laid out in full.
 #[inline(always)]
 fn append_eight(values: &mut Vec<i32>, eight: Eight, count: usize)
     requires few { count ≤ 8 }
@@ -133,7 +133,14 @@ fn append_eight(values: &mut Vec<i32>, eight: Eight, count: usize)
     ensures len { vec_len values.new ≡ vec_len values.old + count }
     ensures capacity { vec_capacity values.new ≡ vec_capacity values.old }
 {
-    if count == 8 {
+    if count == 8 && eight.middle == 0 && eight.high == 0 {
+        let bytes = Eight {
+            middle: 0,
+            high: 0,
+            ..eight
+        };
+        append_by(values, bytes, 8);
+    } else if count == 8 {
         append_by(values, eight, 8);
     } else {
         append_by(values, eight, count);
