@@ -38,6 +38,33 @@ fn put_sample(out: &mut Vec<u8>, maxval: u32, sample: i32) -> Result<(), Fault>
     Ok(())
 }
 
+/// The byte of a sample where maxval is at most 255.
+#[inline(always)]
+fn byte_of(maxval: u32, sample: i32) -> u8
+    requires natural { pos 0 ≤ℤ sample }
+    requires below { sample ≤ℤ pos maxval }
+    requires maxval { maxval ≤ 255 }
+    ensures { result ∷ [] ≡ sample_text maxval sample }
+{
+    sample as u8
+}
+
+/// Appends the raster of one component, of samples of one byte: room for all of them is made first.
+fn put_bytes(out: Vec<u8>, maxval: u32, samples: &[i32]) -> Result<Vec<u8>, Fault>
+    requires samples { All (λ s. (pos 0 ≤ℤ s) × (s ≤ℤ pos maxval)) samples.now }
+    requires maxval { maxval ≤ 255 }
+    ensures ok { IfOk result
+        (λ v. v.items ≡ out.items ++ raster_text maxval (samples.now ∷ []) (length samples.now)) }
+    ensures err { IfErr result (λ e. IsMemory e) }
+{
+    let mut out = out;
+    out.reserve(samples.len())?;
+    for sample in samples {
+        out.push_reserved(byte_of(maxval, *sample));
+    }
+    Ok(out)
+}
+
 /// Appends the raster of one component.
 #[inline(never)]
 fn put_grey(out: &mut Vec<u8>, maxval: u32, samples: &[i32]) -> Result<(), Fault>
@@ -51,6 +78,36 @@ fn put_grey(out: &mut Vec<u8>, maxval: u32, samples: &[i32]) -> Result<(), Fault
         put_sample(out, maxval, *sample)?;
     }
     Ok(())
+}
+
+/// Appends the raster of three components, of samples of one byte: room for all of them is made
+/// first.
+fn put_pixels(
+    out: Vec<u8>,
+    maxval: u32,
+    red: &[i32],
+    green: &[i32],
+    blue: &[i32],
+) -> Result<Vec<u8>, Fault>
+    requires red { All (λ s. (pos 0 ≤ℤ s) × (s ≤ℤ pos maxval)) red.now }
+    requires green { All (λ s. (pos 0 ≤ℤ s) × (s ≤ℤ pos maxval)) green.now }
+    requires blue { All (λ s. (pos 0 ≤ℤ s) × (s ≤ℤ pos maxval)) blue.now }
+    requires greens { length green.now ≡ length red.now }
+    requires blues { length blue.now ≡ length red.now }
+    requires few { length red.now ≤ 2 ^ 28 }
+    requires maxval { maxval ≤ 255 }
+    ensures ok { IfOk result (λ v. v.items
+        ≡ out.items ++ raster_text maxval (red.now ∷ green.now ∷ blue.now ∷ []) (length red.now)) }
+    ensures err { IfErr result (λ e. IsMemory e) }
+{
+    let mut out = out;
+    out.reserve(3 * red.len())?;
+    for pixel in 0..red.len() {
+        out.push_reserved(byte_of(maxval, red[pixel]));
+        out.push_reserved(byte_of(maxval, green[pixel]));
+        out.push_reserved(byte_of(maxval, blue[pixel]));
+    }
+    Ok(out)
 }
 
 /// Appends the raster of three components.
@@ -110,20 +167,63 @@ fn header(
     Ok(out)
 }
 
-/// Appends the raster of one component or of three.
-fn put_raster(out: &mut Vec<u8>, image: &Image, maxval: u32) -> Result<(), Fault>
+/// The raster of one component behind what stands before it.
+fn put_one(out: Vec<u8>, maxval: u32, samples: &[i32]) -> Result<Vec<u8>, Fault>
+    requires samples { All (λ s. (pos 0 ≤ℤ s) × (s ≤ℤ pos maxval)) samples.now }
+    requires maxval { maxval < 2 ^ 16 }
+    ensures ok { IfOk result
+        (λ v. v.items ≡ out.items ++ raster_text maxval (samples.now ∷ []) (length samples.now)) }
+    ensures err { IfErr result (λ e. IsMemory e) }
+{
+    if maxval <= 255 {
+        return put_bytes(out, maxval, samples);
+    }
+    let mut out = out;
+    put_grey(&mut out, maxval, samples)?;
+    Ok(out)
+}
+
+/// The raster of three components behind what stands before it.
+fn put_three(
+    out: Vec<u8>,
+    maxval: u32,
+    red: &[i32],
+    green: &[i32],
+    blue: &[i32],
+) -> Result<Vec<u8>, Fault>
+    requires red { All (λ s. (pos 0 ≤ℤ s) × (s ≤ℤ pos maxval)) red.now }
+    requires green { All (λ s. (pos 0 ≤ℤ s) × (s ≤ℤ pos maxval)) green.now }
+    requires blue { All (λ s. (pos 0 ≤ℤ s) × (s ≤ℤ pos maxval)) blue.now }
+    requires greens { length green.now ≡ length red.now }
+    requires blues { length blue.now ≡ length red.now }
+    requires few { length red.now ≤ 2 ^ 28 }
+    requires maxval { maxval < 2 ^ 16 }
+    ensures ok { IfOk result (λ v. v.items
+        ≡ out.items ++ raster_text maxval (red.now ∷ green.now ∷ blue.now ∷ []) (length red.now)) }
+    ensures err { IfErr result (λ e. IsMemory e) }
+{
+    if maxval <= 255 {
+        return put_pixels(out, maxval, red, green, blue);
+    }
+    let mut out = out;
+    put_colour(&mut out, maxval, red, green, blue)?;
+    Ok(out)
+}
+
+/// The raster of one component or of three behind what stands before it.
+fn put_raster(out: Vec<u8>, image: &Image, maxval: u32) -> Result<Vec<u8>, Fault>
     requires written { is_written image.now ≡ true }
     requires profile { IsPicture image.now }
     requires maxval { maxval ≡ maxval_of image.now.depth }
-    ensures ok { OnOk result
-        (out.new.items ≡ out.old.items ++ raster_text maxval image.now.planes (image.now.width * image.now.height)) }
+    ensures ok { IfOk result
+        (λ v. v.items ≡ out.items ++ raster_text maxval image.now.planes (image.now.width * image.now.height)) }
     ensures err { IfErr result (λ e. IsMemory e) }
 {
     let planes = image.planes();
     if planes.len() == 1 {
-        put_grey(out, maxval, planes.plane(0))
+        put_one(out, maxval, planes.plane(0))
     } else {
-        put_colour(
+        put_three(
             out,
             maxval,
             planes.plane(0),
@@ -146,8 +246,8 @@ fn file(alloc: Global, image: &Image) -> Result<Vec<u8>, Fault>
     let maxval = (1u32 << image.depth()) - 1;
     let components = image.planes().len();
     let size = width as usize * height as usize * components * (if maxval > 255 { 2 } else { 1 });
-    let mut out = header(alloc, size, components == 3, width, height, maxval)?;
-    put_raster(&mut out, image, maxval)?;
+    let head = header(alloc, size, components == 3, width, height, maxval)?;
+    let out = put_raster(head, image, maxval)?;
     Ok(out)
 }
 

@@ -6,5 +6,5 @@ use Rattle.jk_pnm.proofs.writing.file.Goals as goal
 pub returns-clause-means : goal.returns-clause-means
 unfolding file_text
 returns-clause-means c =
-    let text : c.put_raster.new.out.items ≡ file_text c.args.image.now = search rules in
-    written_means c.args.image.now c.put_raster.new.out.items c.width-width.ensures.profile c.requires.written text
+    let text : c.in_ok-out.out.items ≡ file_text c.args.image.now = search rules in
+    written_means c.args.image.now c.in_ok-out.out.items c.width-width.ensures.profile c.requires.written text
