@@ -21,8 +21,8 @@ use Rattle.jk_code.specs.Windows.{IsWindowOf}
 abbrev pub reduced_place : Picture → Parameters → (d : ℕ) → Rect
 reduced_place p q d = reduced_area (image_area (siz_of p q)) d
 
--- The image at reduction d that the inverse transforms give from the coefficients of a picture, each
--- without as many of its lowest bit-planes as there are layers behind the first k.
+-- The image at reduction d that the inverse transforms give from the coefficients of a picture,
+-- each without as many of its lowest bit-planes as there are layers behind the first k.
 abbrev pub front_picture : Picture → Parameters → (k d : ℕ) → Picture
 front_picture p q k d =
     record {
@@ -43,9 +43,9 @@ pub record HasReduction (p : Picture) (q : Parameters) (d : ℕ) : Type 0 where
   pub levels : d ≤ q.levels
   pub some : is_empty (reduced_place p q d) ≡ false
 
--- The first k layers of the bytes mean that image, for each k and each reduction. The bytes with all
--- other layers empty, which are a file, mean it too; and so, on its window, does the file of a view
--- that asks for k layers.
+-- The first k layers of the bytes mean that image, for each k and each reduction. The bytes with
+-- all other layers empty, which are a file, mean it too; and so, on its window, does the file of a
+-- view that asks for k layers.
 pub record HasFronts (p : Picture) (q : Parameters) (bytes : List ℕ) : Type 0 where
   pub layers : (k d : ℕ) → 1 ≤ k → k ≤ q.layers → HasReduction p q d
       → MeansLayers bytes d (Some k) (front_picture p q k d)

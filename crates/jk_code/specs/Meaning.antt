@@ -22,7 +22,8 @@ pub record IsFrameOf (h : Headers) (d : ℕ) (p : Picture) : Type 0 where
   pub components : length p.planes ≡ h.siz.components
   pub planes : All (λ plane. length plane ≡ p.width * p.height) p.planes
 
--- tile t of the picture is what the packets of the tile decode to, of which these layers are decoded
+-- tile t of the picture is what the packets of the tile decode to, of which these layers are
+-- decoded
 pub record ShowsLayers (codestream : List ℕ) (h : Headers) (d : ℕ) (layers : Option ℕ) (p : Picture)
     (t : ℕ) : Type 0 where
   pub samples : ℕ → ℕ → ℕ → ℤ

@@ -185,8 +185,8 @@ fn meaning_view(alloc: Global, bytes: &[u8], view: View) -> Result<Image, Fault>
 
 /// The window of a view of the image that a file, a bare codestream or a JP2 file, means: what
 /// `decode` gives at the view's reduction, on the rectangle of the view, cut with the reduced
-/// image. All layers are decoded, whatever layers the view asks for. It takes the time and memory of the window, not of the image, but for the headers of the
-/// packets of the tiles that it meets.
+/// image. All layers are decoded, whatever layers the view asks for. It takes the time and memory of
+/// the window, not of the image, but for the headers of the packets of the tiles that it meets.
 ///
 /// The first of these faults: those of the boxes; those of `read_codestream`; BadWindow for a
 /// reduction past the least number of decomposition levels, or where the reduced image or the

@@ -42,8 +42,8 @@ pub fn pictures_have_indexes()
 /// empty.
 ///
 /// BadWindow: the view asks for no layer, a tile-component has fewer decomposition levels than the
-/// reduction, or the reduced image or the window has no sample. Changed: the index isn't that of these bytes. If the index
-/// isn't and another answer is given, nothing is known of it.
+/// reduction, or the reduced image or the window has no sample. Changed: the index isn't that of
+/// these bytes. If the index isn't and another answer is given, nothing is known of it.
 pub fn window(alloc: Global, bytes: &[u8], index: &Index, view: View) -> Result<Vec<u8>, Fault>
     // With the index of these bytes it is the file of the window, or BadWindow.
     ensures exact { (is : IsIndexOf bytes.now index.now) → Answers (λ v. v.items) result (cut_file is view) }

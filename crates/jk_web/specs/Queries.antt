@@ -28,8 +28,8 @@ is_number text =
 unfoldable pub number_of : List ℕ → Option ℕ
 number_of text = if is_number text then Some (digits_value 10 text) else None
 
--- the names of the left edge, the upper edge, the width, the height, the reduction and the number of
--- layers
+-- the names of the left edge, the upper edge, the width, the height, the reduction and the number
+-- of layers
 abbrev pub keys : List (List ℕ)
 keys = codes "x" ∷ codes "y" ∷ codes "w" ∷ codes "h" ∷ codes "r" ∷ codes "layers" ∷ []
 

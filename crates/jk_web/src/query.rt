@@ -111,9 +111,9 @@ impl Readings {
     }
 }
 
-/// The window that a query asks for, by numbers `x`, `y`, `w` and `h`, and `r` where it isn't 0, and
-/// `layers` where not all are asked for. None where one of them is missing or stands twice, another name stands there, or a value is no
-/// number of 1 to 10 digits below 2^32.
+/// The window that a query asks for, by numbers `x`, `y`, `w` and `h`, by `r` where it isn't 0, and
+/// by `layers` where not all are asked for. None where one of the four is missing, one of the six
+/// stands twice, another name stands there, or a value is no number of 1 to 10 digits below 2^32.
 pub fn window_asked(alloc: Global, query: &[u8]) -> Result<Option<Asked>, Fault>
     ensures exact { IfOk result (λ window. window ≡ asked_by (pairs_of query.now)) }
     ensures memory { IfErr result (λ e. IsMemory e) }

@@ -310,7 +310,7 @@ pub static CACHED: [(usize, &[u8], u64); 10] = [
           GET /images/a/window?x=0&y=0&w=1&h=1 HTTP/1.1\r\n\r\n",
         2,
     ),
-    // Each of name, reduction, left edge, upper edge, width, height and layers makes it another one.
+    // Each of name, reduction, left and upper edge, width, height and layers makes it another one.
     (
         16,
         b"GET /images/a/window?x=0&y=0&w=1&h=1 HTTP/1.1\r\n\r\n\
