@@ -17,7 +17,7 @@ use Rattle.jk_hall.specs.declared.attending.Attending.{Attending}
 use Rattle.jk_hall.specs.declared.reader.Reader.{Reader}
 use Rattle.jk_hall.specs.Reading.{seen, cuts}
 use Rattle.jk_hall.specs.Replying.{IsCause, KeepsOn, KeptOn, Goes, Refuses}
-use Rattle.jk_hall.specs.Behind.{behind, AreSame, GivesBehind, RefusesBehind, GivesUpTo}
+use Rattle.jk_hall.specs.Behind.{behind, AreSame, GivesBehind, RefusesBehind, GivesUpTo, RefusesUpTo}
 use Rattle.jk_hall.proofs.Fronts.{prefix_self, prefix_trans}
 use Rattle.jk_hall.proofs.Fronting.{shown_front, cuts_front, cuts_all, kept_front, kept_on}
 use Rattle.jk_hall.proofs.Keeping.{cuts_on, kept_same}
@@ -70,20 +70,20 @@ module _ {S : Type 0} (keeps : S → Files → Type 0) where
     )
 
     refused : (s : Attending S) (q : Request) (e : Fault) (t : Attending S) → Went s → RefusesBehind keeps s q e t
-        → Went t × (Begins t → Refuses keeps (behind s) q e (behind t) × Begins s)
+        → Went t × (Begins t → RefusesUpTo keeps (seen end.reader.now) (behind s) q e (behind t) × Begins s)
     unfolding Begins
     refused s q e t p g = (
       went_on s t p g.0 g.1.1,
-      λ b. (g.1, prefix_trans (seen s.reader.now) (seen t.reader.now) (seen end.reader.now) g.1.1.grown b),
+      λ b. ((g.1, b), prefix_trans (seen s.reader.now) (seen t.reader.now) (seen end.reader.now) g.1.1.grown b),
     )
 
     pub attended : (stream text : List ℕ) (over spent : Type 0) (r : Result End Fault)
         → Ends (GivesBehind keeps failed gave gave_at) (RefusesBehind keeps) start stream text over spent end r
         → AreSame start end × Goes keeps (behind start) (behind end)
-        × Ends (GivesUpTo keeps failed gave gave_at (seen end.reader.now)) (Refuses keeps) (behind start) stream text over spent (behind end) r
+        × Ends (GivesUpTo keeps failed gave gave_at (seen end.reader.now)) (RefusesUpTo keeps (seen end.reader.now)) (behind start) stream text over spent (behind end) r
     unfolding Went Begins
     attended stream text over spent r k =
-        let e = ends_by (GivesBehind keeps failed gave gave_at) (RefusesBehind keeps) (GivesUpTo keeps failed gave gave_at (seen end.reader.now)) (Refuses keeps)
+        let e = ends_by (GivesBehind keeps failed gave gave_at) (RefusesBehind keeps) (GivesUpTo keeps failed gave gave_at (seen end.reader.now)) (RefusesUpTo keeps (seen end.reader.now))
         behind Went Begins given refused start stream text over spent end r ((refl, refl), goes_nowhere (behind start)) k in
         (e.0.0, e.0.1, (e.1 (prefix_self (seen end.reader.now))).0)
 

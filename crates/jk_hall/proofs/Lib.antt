@@ -6,3 +6,4 @@ pub mod Keeping
 pub mod RunLaws
 pub mod Fronting
 pub mod Attended
+pub mod FirstLaws

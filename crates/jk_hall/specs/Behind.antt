@@ -1,13 +1,15 @@
 -- A reader and a shelf that are borrowed.
-use Rattle.std.specs.Prelude.{◌≡◌, ℕ, List}
+use Rattle.std.specs.Prelude.{◌≡◌, ℕ, List, length, take}
 use mathlib.Core.List.{IsPrefix}
 use Rattle.jk_math.specs.declared.fault.Fault.{Fault}
 use Rattle.jk_web.specs.declared.reply.Reply.{Reply}
 use Rattle.jk_web.specs.declared.request.Request.{Request}
+use Rattle.jk_web.specs.Images.{Image, IsCachedReply, IsKeptReply}
 use Rattle.jk_store.specs.Files.{Files}
+use Rattle.jk_store.specs.Showing.{Broke, Reads, MayBeMade}
 use Rattle.jk_store.specs.declared.entry.Entry.{Entry}
 use Rattle.jk_hall.specs.Reading.{seen}
-use Rattle.jk_hall.specs.Replying.{Gives, Refuses}
+use Rattle.jk_hall.specs.Replying.{IsCause, Gives, Refuses}
 use Rattle.jk_hall.specs.declared.reader.Reader.{Reader}
 use Rattle.jk_hall.specs.declared.attending.Attending.{Attending}
 
@@ -23,6 +25,10 @@ module _ {S : Type 0} (keeps : S → Files → Type 0) where
   abbrev pub RefusesBehind : Attending S → Request → Fault → Attending S → Type 0
   RefusesBehind s q e t = AreSame s t × Refuses keeps (behind s) q e (behind t)
 
+  -- A request is refused, and what is seen begins this list.
+  abbrev pub RefusesUpTo : List Entry → Reader × S → Request → Fault → Reader × S → Type 0
+  RefusesUpTo last s q e t = Refuses keeps s q e t × IsPrefix (seen t.0) last
+
   module _ (failed : S → ℕ) (gave : S → List ℕ → List ℕ → S → Type 0)
       (gave_at : S → List ℕ → ℕ → ℕ → List ℕ → S → Type 0) where
     abbrev pub GivesBehind : Attending S → Request → Reply → Attending S → Type 0
@@ -31,3 +37,26 @@ module _ {S : Type 0} (keeps : S → Files → Type 0) where
     -- A request is answered from a list that begins this one.
     abbrev pub GivesUpTo : List Entry → Reader × S → Request → Reply → Reader × S → Type 0
     GivesUpTo last s q r t = Gives keeps failed gave gave_at s q r t × IsPrefix (seen t.0) last
+
+-- Of a list of images, a request is answered from the first, as many as entries are seen
+-- afterwards, which are those that were seen and perhaps more.
+module _ {S : Type 0} (failed : S → ℕ) (gave : S → List ℕ → List ℕ → S → Type 0)
+    (gave_at : S → List ℕ → ℕ → ℕ → List ℕ → S → Type 0) (images : List Image) where
+  -- whatever the files hold by now
+  abbrev pub GivesFirst : Reader × S → Request → Reply → Reader × S → Type 0
+  GivesFirst s q r t =
+      let entries = seen t.0 in
+      IsPrefix (seen s.0) entries
+      × IsCachedReply (Broke failed gave gave_at entries) (Reads gave entries) (λ (x : S). MayBeMade entries)
+      (take (length entries) images) q s.1 t.1 r
+
+  -- where they are kept
+  abbrev pub GivesFirstKept : Reader × S → Request → Reply → Reader × S → Type 0
+  GivesFirstKept s q r t =
+      let entries = seen t.0 in
+      IsPrefix (seen s.0) entries
+      × IsKeptReply (Broke failed gave gave_at entries) (take (length entries) images) q s.1 t.1 r
+
+-- why a request is refused
+abbrev pub RefusesFor : {S : Type 0} → Reader × S → Request → Fault → Reader × S → Type 0
+RefusesFor s q e t = IsCause e

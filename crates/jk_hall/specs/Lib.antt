@@ -6,3 +6,4 @@ pub mod Reading
 pub mod Replying
 pub mod Runs
 pub mod Behind
+pub mod Connections

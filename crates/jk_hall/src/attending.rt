@@ -3,9 +3,10 @@
 ghost use Rattle.std.specs.Prelude.{◌≤◌, List, ℕ, length, IfErr};
 ghost use Rattle.std.specs.Io.KnownBytes.{Appends, Consumes, IsAtEnd};
 ghost use Rattle.jk_web.specs.Serving.{Ends};
-ghost use Rattle.jk_hall.specs.Replying.{IsCause, Goes, Refuses};
+ghost use Rattle.jk_hall.specs.Replying.{IsCause, Goes};
 ghost use Rattle.jk_hall.specs.Reading.{seen};
-ghost use Rattle.jk_hall.specs.Behind.{behind, AreSame, GivesUpTo};
+ghost use Rattle.jk_hall.specs.Behind.{behind, AreSame, GivesUpTo, RefusesUpTo};
+ghost use Rattle.jk_hall.specs.Connections.{Attends};
 
 use crate::reader::Reader;
 use jk_math::Fault;
@@ -46,9 +47,13 @@ fn attend_with<'a, I: Read, O: Write, S: Shelf>(
     ensures text { (stream : List ℕ) × (text : List ℕ)
         × Consumes (I.remaining input.old) (I.remaining input.new) stream
         × Appends (O.contents output.old) (O.contents output.new) text
-        × Ends (GivesUpTo S.keeps S.failed S.gave S.gave_at (seen service.new.reader.now)) (Refuses S.keeps)
+        × Ends (GivesUpTo S.keeps S.failed S.gave S.gave_at (seen service.new.reader.now))
+        (RefusesUpTo S.keeps (seen service.new.reader.now))
         (behind service.old) stream text (IsAtEnd (I.remaining input.new)) (turns ≤ length stream)
         (behind service.new) result }
+    ensures images { Attends S.keeps S.failed S.gave S.gave_at (Consumes (I.remaining input.old) (I.remaining input.new))
+        (Appends (O.contents output.old) (O.contents output.new)) (IsAtEnd (I.remaining input.new)) turns
+        (behind service.old) (behind service.new) result }
     ensures cause { IfErr result (λ e. IsCause e) }
 {
     serve(alloc, input, output, service, turns)
@@ -71,9 +76,15 @@ impl Reader {
         ensures text { (stream : List ℕ) × (text : List ℕ)
             × Consumes (I.remaining input.old) (I.remaining input.new) stream
             × Appends (O.contents output.old) (O.contents output.new) text
-            × Ends (GivesUpTo S.keeps S.failed S.gave S.gave_at (seen self.new)) (Refuses S.keeps)
+            × Ends (GivesUpTo S.keeps S.failed S.gave S.gave_at (seen self.new))
+            (RefusesUpTo S.keeps (seen self.new))
             (self.old, shelf.old) stream text (IsAtEnd (I.remaining input.new)) (turns ≤ length stream)
             (self.new, shelf.new) result }
+        // The same of images.
+        ensures images { Attends S.keeps S.failed S.gave S.gave_at
+            (Consumes (I.remaining input.old) (I.remaining input.new))
+            (Appends (O.contents output.old) (O.contents output.new)) (IsAtEnd (I.remaining input.new)) turns
+            (self.old, shelf.old) (self.new, shelf.new) result }
         ensures cause { IfErr result (λ e. IsCause e) }
     {
         let mut service = Attending {

@@ -1,5 +1,7 @@
-use Rattle.jk_hall.specs.Behind.{GivesBehind, RefusesBehind}
+use Rattle.jk_hall.specs.Reading.{seen}
+use Rattle.jk_hall.specs.Behind.{behind, GivesBehind, RefusesBehind}
 use Rattle.jk_hall.proofs.Attended.{attended, ends_cause}
+use Rattle.jk_hall.proofs.FirstLaws.{shown, same}
 use Rattle.jk_hall.proofs.attending.attend_with.Goals as goal
 
 pub returns-clause-same : goal.returns-clause-same
@@ -22,3 +24,26 @@ returns-clause-cause g c =
     let e = c.serve.ensures in
     ends_cause (GivesBehind g.S.Shelf.keeps g.S.Shelf.failed g.S.Shelf.gave g.S.Shelf.gave_at) (RefusesBehind g.S.Shelf.keeps)
     c.args.service.now e.0 e.1 _ _ c.serve.new.service c.serve.result (λ s q f u refused. refused.1.0) e.4
+
+pub returns-clause-images : goal.returns-clause-images
+returns-clause-images g c =
+    let e = c.serve.ensures in
+    let start = behind c.args.service.now in
+    let end = behind c.serve.new.service in
+    let told = (attended g.S.Shelf.keeps g.S.Shelf.failed g.S.Shelf.gave g.S.Shelf.gave_at c.args.service.now c.serve.new.service e.0 e.1 _ _ c.serve.result e.4).2 in
+    record {
+      any = λ images shows held segments. (
+        e.0,
+        e.1,
+        e.2,
+        e.3,
+        shown g.S.Shelf.keeps g.S.Shelf.failed g.S.Shelf.gave g.S.Shelf.gave_at (seen end.0) images shows segments start end e.0 e.1 _ _ c.serve.result held told,
+      );
+      same = λ images shows held kept of segments. (
+        e.0,
+        e.1,
+        e.2,
+        e.3,
+        same g.S.Shelf.keeps g.S.Shelf.failed g.S.Shelf.gave g.S.Shelf.gave_at (seen end.0) images shows segments start end e.0 e.1 _ _ c.serve.result (held, kept, of) told,
+      );
+    }
