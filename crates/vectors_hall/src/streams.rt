@@ -1,0 +1,103 @@
+//! A source of connections in memory.
+
+use jk_hall::Source;
+use jk_web::End;
+use std::alloc::Global;
+use std::io::Read;
+use std::sync::atomic::{AtomicUsize, Ordering};
+use std::{io, thread};
+
+/// How often something is waited for at most.
+pub(crate) const TURNS: usize = 1_000_000;
+
+/// The bytes of a connection, with its number.
+#[derive(Drop)]
+pub(crate) struct Stream {
+    number: usize,
+    bytes: &'static [u8],
+    at: usize,
+}
+
+impl Read for Stream {
+    fn read(&mut self, buf: &mut [u8]) -> io::Result<usize> {
+        let left = self.bytes.len().saturating_sub(self.at);
+        let count = left.min(7).min(buf.len());
+        for i in 0..count {
+            if self.at < self.bytes.len() && i < buf.len() {
+                buf[i] = self.bytes[self.at];
+                self.at = self.at.saturating_add(1);
+            }
+        }
+        Ok(count)
+    }
+}
+
+/// Connections, and what is due on each. From the second one on they come once `open` isn't 0.
+#[derive(Drop)]
+pub(crate) struct Streams {
+    pub(crate) alloc: Global,
+    pub(crate) cases: &'static [(&'static [u8], &'static [u8])],
+    pub(crate) taken: AtomicUsize,
+    pub(crate) open: AtomicUsize,
+    pub(crate) ended: AtomicUsize,
+    pub(crate) right: AtomicUsize,
+}
+
+impl Streams {
+    pub(crate) fn new(
+        alloc: Global,
+        cases: &'static [(&'static [u8], &'static [u8])],
+        open: usize,
+    ) -> Streams {
+        Streams {
+            alloc,
+            cases,
+            taken: AtomicUsize::new(0),
+            open: AtomicUsize::new(open),
+            ended: AtomicUsize::new(0),
+            right: AtomicUsize::new(0),
+        }
+    }
+}
+
+/// Waits until a number isn't 0, so many turns at most.
+pub(crate) fn wait_for(number: &AtomicUsize) {
+    for _ in 0..TURNS {
+        if number.load(Ordering::SeqCst) > 0 {
+            return;
+        }
+        thread::yield_now();
+    }
+}
+
+impl Source for Streams {
+    type In = Stream;
+
+    type Out = Vec<u8>;
+
+    fn take(&self) -> Option<(Stream, Vec<u8>)> {
+        let number = self.taken.fetch_add(1, Ordering::SeqCst);
+        if number >= self.cases.len() {
+            return None;
+        }
+        if number > 0 {
+            wait_for(&self.open);
+        }
+        let stream = Stream {
+            number,
+            bytes: self.cases[number].0,
+            at: 0,
+        };
+        Some((stream, Vec::new(self.alloc)))
+    }
+
+    fn ended(&self, input: Stream, output: Vec<u8>, end: Option<End>) {
+        if input.number < self.cases.len()
+            && output.as_slice() == self.cases[input.number].1
+            && end == Some(End::Closed)
+        {
+            self.right.fetch_add(1, Ordering::SeqCst);
+        }
+        self.ended.fetch_add(1, Ordering::SeqCst);
+    }
+}

@@ -1,0 +1,113 @@
+//! Connections that several readers attend to.
+
+use crate::calls::{equal, opened, shelves};
+use crate::streams::{Streams, TURNS, wait_for};
+use jk_farm::{Gate, Open};
+use jk_hall::{Writer, serve_all};
+use jk_store::Entry;
+use std::sync::atomic::{AtomicUsize, Ordering};
+use std::sync::{Arc, Wait};
+use std::test::Fail;
+use std::thread;
+
+/// Two connections that ask for the list.
+static LISTS: [(&[u8], &[u8]); 2] = [
+    (
+        b"GET /images HTTP/1.1\r\nHost: x\r\n\r\n",
+        b"HTTP/1.1 200 OK\r\nContent-Type: text/plain\r\nContent-Length: 12\r\n\r\na 1 1 1 8 0\n",
+    ),
+    (
+        b"GET /images HTTP/1.0\r\n\r\nGET /b HTTP/1.1\r\n\r\n",
+        b"HTTP/1.1 200 OK\r\nContent-Type: text/plain\r\nContent-Length: 12\r\nConnection: close\r\n\r\na 1 1 1 8 0\n",
+    ),
+];
+
+/// Two connections, between which `b` is published.
+static BETWEEN: [(&[u8], &[u8]); 2] = [
+    (
+        b"GET /images HTTP/1.1\r\nHost: x\r\n\r\n",
+        b"HTTP/1.1 200 OK\r\nContent-Type: text/plain\r\nContent-Length: 12\r\n\r\na 1 1 1 8 0\n",
+    ),
+    (
+        b"GET /images HTTP/1.1\r\nHost: x\r\n\r\n",
+        b"HTTP/1.1 200 OK\r\nContent-Type: text/plain\r\nContent-Length: 24\r\n\r\na 1 1 1 8 0\nb 1 1 1 8 0\n",
+    ),
+];
+
+/// The first connection waits until another one has begun, so many turns at most.
+#[derive(Drop)]
+struct Meeting {
+    begun: AtomicUsize,
+    waited: AtomicUsize,
+}
+
+impl Gate for Meeting {
+    fn began(&self, job: usize) {
+        self.begun.fetch_add(1, Ordering::SeqCst);
+        if job > 0 {
+            return;
+        }
+        for turn in 0..TURNS {
+            if self.begun.load(Ordering::SeqCst) > 1 {
+                return;
+            }
+            self.waited.store(turn + 1, Ordering::SeqCst);
+            thread::yield_now();
+        }
+    }
+
+    fn ended(&self, _job: usize) {}
+}
+
+#[test]
+fn two_connections_at_a_time(rt: HostRuntime) -> Result<(), Fail> {
+    let alloc = rt.alloc();
+    let files = shelves(alloc, 2)?;
+    let streams = Streams::new(alloc, &LISTS, 1);
+    let meeting = Meeting {
+        begun: AtomicUsize::new(0),
+        waited: AtomicUsize::new(0),
+    };
+    let (writer, readers, _) = opened(&rt, alloc, 2)?;
+    let ended = serve_all(&rt, alloc, readers, files, &meeting, &streams);
+    writer.close(&rt);
+    equal(&rt, ended?, 2);
+    equal(&rt, streams.right.load(Ordering::SeqCst), 2);
+    assert!(rt; meeting.waited.load(Ordering::SeqCst) < TURNS);
+    Ok(())
+}
+
+/// Publishes an entry once a connection has ended, and lets the next one come.
+fn publish_behind<R: Wait>(
+    rt: &R,
+    writer: &mut Writer,
+    entry: Arc<Entry>,
+    streams: &Streams,
+) -> bool {
+    wait_for(&streams.ended);
+    let published = writer.publish(rt, entry).is_ok();
+    streams.open.store(1, Ordering::SeqCst);
+    published
+}
+
+#[test]
+fn published_between_two_connections(rt: HostRuntime) -> Result<(), Fail> {
+    let alloc = rt.alloc();
+    let files = shelves(alloc, 1)?;
+    let streams = Streams::new(alloc, &BETWEEN, 0);
+    let (mut writer, readers, entry) = opened(&rt, alloc, 1)?;
+    let Some(entry) = entry else {
+        writer.close(&rt);
+        return Err("no entry".into());
+    };
+    let (ended, published) = thread::join(
+        &rt,
+        || serve_all(&rt, alloc, readers, files, &Open, &streams),
+        || publish_behind(&rt, &mut writer, entry, &streams),
+    );
+    writer.close(&rt);
+    equal(&rt, published, true);
+    equal(&rt, ended?, 2);
+    equal(&rt, streams.right.load(Ordering::SeqCst), 2);
+    Ok(())
+}
