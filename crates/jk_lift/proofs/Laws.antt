@@ -3,3 +3,5 @@ pub use Rattle.jk_lift.proofs.Undoing.{undoes_line, undoes_plane, undoes_line_of
 pub use Rattle.jk_lift.proofs.Growth.{grows_line, grows_plane, bounds_plane, bounds_ten_levels}
 pub use Rattle.jk_lift.proofs.Congruence.{lifted_same}
 pub use Rattle.jk_lift.proofs.Pieces.{is_piece_of_line, is_piece_of_plane}
+pub use Rattle.jk_lift.proofs.Equations.{high_at_is, lifted_odd, lifted_even}
+pub use Rattle.jk_lift.proofs.Neighbours.{before_inside, before_first, after_inside, after_last}

@@ -6,6 +6,7 @@ pub mod Analysis
 pub mod Synthesis
 pub mod Sweeping
 pub mod Columns
+pub mod RowsBetween
 pub mod Undoing
 pub mod Growth
 pub mod Congruence

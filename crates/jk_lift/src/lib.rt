@@ -6,9 +6,11 @@
 #![tactic(auto)]
 
 mod line;
+mod row;
 mod rows;
 mod steps;
 pub mod theorems;
 
 pub use line::{analyse_line, synthesise_line};
+pub use row::{high_pass_row, low_pass_row};
 pub use rows::{analyse_rows, synthesise_rows};

@@ -10,7 +10,7 @@ ghost use Rattle.jk_lift.specs.Sweep.{row_before, row_after, first_step, both_st
 use crate::steps;
 
 /// A lifting step.
-trait Step {
+pub(crate) trait Step {
     /// What becomes of a number between two others.
     ghost formula: { ℤ → ℤ → ℤ → ℤ };
 
@@ -22,7 +22,7 @@ trait Step {
 }
 
 /// Samples at odd places become high-pass coefficients.
-struct HighPass;
+pub(crate) struct HighPass;
 
 impl Step for HighPass {
     ghost formula = { high_pass };
@@ -34,7 +34,7 @@ impl Step for HighPass {
 }
 
 /// Samples at even places become low-pass coefficients.
-struct LowPass;
+pub(crate) struct LowPass;
 
 impl Step for LowPass {
     ghost formula = { low_pass };

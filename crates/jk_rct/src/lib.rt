@@ -51,9 +51,9 @@ pub fn inverse(a: &mut [i32], b: &mut [i32], c: &mut [i32])
     }
 }
 
-/// Y0, Y1 and Y2 of one pixel.
+/// Y0, Y1 and Y2 of one pixel, by the samples of components 0, 1 and 2.
 #[inline(always)]
-fn forward_pixel(i0: i32, i1: i32, i2: i32) -> (i32, i32, i32)
+pub fn forward_pixel(i0: i32, i1: i32, i2: i32) -> (i32, i32, i32)
     requires i0 { IsBelow (2 ^ 29) i0 }
     requires i1 { IsBelow (2 ^ 29) i1 }
     requires i2 { IsBelow (2 ^ 29) i2 }

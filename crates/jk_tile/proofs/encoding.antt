@@ -7,6 +7,7 @@
 -- (FrontsMeant).
 pub mod Copying
 pub mod Forwards
+pub mod WrittenRows
 pub mod Needing
 pub mod WrittenBlocks
 pub mod LayerTables

@@ -3,6 +3,7 @@ use Rattle.std.proofs.Common.{◌≡◌, ℕ, ◌+◌, ◌-◌, ◌*◌, ◌/◌
 use Rattle.std.specs.List.{All}
 use Rattle.std.specs.Prelude.{reverse}
 use Rattle.std.proofs.lemmas.Bool.{cases_eq, cases_lt}
+use Rattle.std.proofs.lemmas.Int.{ints}
 use Rattle.std.proofs.lemmas.List.{get_or_append_left, get_or-append_right, get_or-reverse, get_or_past, length-reverse, map-append, reverse-append}
 use Rattle.std.proofs.lemmas.List.FromFn.{fill_by_all, length-map-range_with_len, get_or-map-range_with_len}
 use Rattle.std.proofs.lemmas.List.Elements.{All-from_get_or, All-nil}
@@ -11,17 +12,18 @@ use Rattle.std.specs.Global.{Vec}
 use Rattle.jk_math.specs.Lists.{lists_of}
 use Rattle.jk_math.specs.Signed.{IsBelow, signed_at}
 use Rattle.jk_math.specs.Raster.{columns_of, places_of, raster, plane_at}
-use Rattle.jk_math.proofs.Laws.{raster_length, raster_entry, entry_place, raster_at, raster_is, raster_same}
+use Rattle.jk_math.proofs.Laws.{raster_length, raster_entry, entry_place, raster_at, raster_same}
 use Rattle.jk_geom.specs.Rectangles.{IsWithin, resolution_area}
 use Rattle.jk_lift.specs.Lifting.{lifted}
 use Rattle.jk_lift.proofs.Laws.{lifted_same}
 use Rattle.jk_wave.specs.Analysis.{reduced, analysed, analysed_bands}
 use Rattle.jk_wave.specs.Bands.{numbered_area}
+use Rattle.jk_wave.specs.SourceRows.{AreBelow}
 use Rattle.jk_wave.specs.Levels.{half_area, lifted_over, part_of}
 use Rattle.jk_wave.proofs.Equations.{reduced_none, reduced_more, analysed_lowest, analysed_more}
 use Rattle.jk_wave.proofs.Halves.{half_within, below_half, lowest_area, number_area, resolution_top}
 use Rattle.jk_wave.proofs.Growth.{reduced_small, has_width}
-use Rattle.jk_wave.proofs.Synthesis.{entry_size, size_below}
+use Rattle.jk_wave.proofs.Synthesis.{size_below}
 use Rattle.jk_wave.proofs.Within.{place_within, within_place}
 
 -- a level of functions that agree on the rectangle
@@ -33,6 +35,9 @@ lifted_agree area f g same x y h =
 part_agree : (area : Rect) (f g : ℕ → ℕ → ℤ) (o : ℕ) → o < 4 → ((x y : ℕ) → IsWithin area x y → f x y ≡ g x y) → raster (half_area area o) (part_of area f o) ≡ raster (half_area area o) (part_of area g o)
 part_agree area f g o few same = raster_same (half_area area o) (part_of area f o) (part_of area g o) (λ x y h.
     lifted_agree area f g same (2 * x + o % 2) (2 * y + o / 2) ((half_within area o x y few).0 (place_within (half_area area o) x y h)))
+
+top_area : (a : Rect) (levels : ℕ) → resolution_area a levels (levels - 0) ≡ a
+top_area a levels = let top : levels - 0 ≡ levels = omega arith in ap (resolution_area a levels) top ∙ resolution_top a levels
 
 -- after n levels this is left
 abbrev pub IsLeft : Rect → (levels n : ℕ) → (ℕ → ℕ → ℤ) → List ℤ → Type 0
@@ -110,16 +115,37 @@ aside_more a levels n f left area old new less is was made before =
           ];
     }
 
--- what is left before the first level, and how large it is
-pub left_none : (a : Rect) (levels : ℕ) (samples : List ℤ) → length samples ≡ places_of a → IsLeft a levels 0 (plane_at a samples) samples
-left_none a levels samples long =
-    let top : levels - 0 ≡ levels = omega arith in
-    let whole : resolution_area a levels (levels - 0) ≡ a = ap (resolution_area a levels) top ∙ resolution_top a levels in
-    raster_is a samples (reduced a levels (plane_at a samples) 0) long (λ x y h. sym (reduced_none a levels (plane_at a samples) x y))
-    ∙ ap (λ s. raster s (reduced a levels (plane_at a samples) 0)) (sym whole)
+-- what is left before the first level
+pub left_all : (a : Rect) (levels : ℕ) (f : ℕ → ℕ → ℤ) → IsLeft a levels 0 f (raster a f)
+left_all a levels f =
+    raster_same a f (reduced a levels f 0) (λ x y h. sym (reduced_none a levels f x y)) ∙ ap (λ s. raster s (reduced a levels f 0)) (sym (top_area a levels))
 
-sample_size : (a : Rect) (samples : List ℤ) → All (IsBelow (2 ^ 17)) samples → (u v : ℕ) → IsWithin a u v → unsigned_abs (plane_at a samples u v) < 2 ^ 17
-sample_size a samples small u v h = entry_size (2 ^ 17) samples (omega arith) small ((v - a.y0) * columns_of a + (u - a.x0))
+plane_back : (a : Rect) (f : ℕ → ℕ → ℤ) (x y : ℕ) → IsWithin a x y → f x y ≡ plane_at a (raster a f) x y
+plane_back a f x y h = sym (raster_at a f x y (within_place a x y h))
+
+-- what is left behind the first level, and the sub-bands that were put aside
+pub left_first : (a : Rect) (levels : ℕ) (f : ℕ → ℕ → ℤ) (left : List ℤ) → 0 < levels → left ≡ raster (half_area a 0) (part_of a f 0) → IsLeft a levels 1 f left
+left_first a levels f left some is =
+    is ∙ part_agree a f (plane_at a (raster a f)) 0 (omega arith) (plane_back a f) ∙ left_more a levels 0 f (raster a f) a some (sym (top_area a levels)) (left_all a levels f)
+
+pub aside_first : (a : Rect) (levels : ℕ) (f : ℕ → ℕ → ℤ) (old new : List (List ℤ)) → 0 < levels → old ≡ [] →
+    new ≡ old ++ (raster (half_area a 3) (part_of a f 3) ∷ raster (half_area a 2) (part_of a f 2) ∷ raster (half_area a 1) (part_of a f 1) ∷ []) → AreAside a levels 1 f new
+aside_first a levels f old new some none made =
+    let g : ℕ → ℕ → ℤ = plane_at a (raster a f) in
+    let same : (o : ℕ) → o < 4 → raster (half_area a o) (part_of a f o) ≡ raster (half_area a o) (part_of a g o) = λ o few. part_agree a f g o few (plane_back a f) in
+    aside_more a levels 0 f (raster a f) a old new some (sym (top_area a levels)) (left_all a levels f)
+    (made
+    ∙ ap (λ l. old ++ (l ∷ raster (half_area a 2) (part_of a f 2) ∷ raster (half_area a 1) (part_of a f 1) ∷ [])) (same 3 (omega arith))
+    ∙ ap (λ l. old ++ (raster (half_area a 3) (part_of a g 3) ∷ l ∷ raster (half_area a 1) (part_of a f 1) ∷ [])) (same 2 (omega arith))
+    ∙ ap (λ l. old ++ (raster (half_area a 3) (part_of a g 3) ∷ raster (half_area a 2) (part_of a g 2) ∷ l ∷ [])) (same 1 (omega arith)))
+    (aside_none a levels f old none)
+
+-- how large the values are
+value_size : (a : Rect) (f : ℕ → ℕ → ℤ) → AreBelow (2 ^ 17) a f → (u v : ℕ) → IsWithin a u v → unsigned_abs (f u v) < 2 ^ 17
+value_size a f small u v h = let s = small u v h in let low = s.0 in let high = s.1 in omega (arith, ints, low, high)
+
+pub source_small : (a : Rect) (f : ℕ → ℕ → ℤ) → AreBelow (2 ^ 17) a f → AreBelow (2 ^ 28 - 1) a f
+source_small a f small x y h = let s = small x y h in let low = s.0 in let high = s.1 in (omega (arith, ints, low), omega (arith, ints, high))
 
 -- each entry of a raster below a limit
 raster_below : (m : ℕ) (a : Rect) (f : ℕ → ℕ → ℤ) (values : List ℤ) → values ≡ raster a f → ((x y : ℕ) → IsWithin a x y → unsigned_abs (f x y) < m) → All (IsBelow m) values
@@ -132,10 +158,12 @@ raster_below m a f values was small =
     let at : signed_at values k ≡ f x y = ap (λ l. signed_at l k) was ∙ raster_entry a f k fits in
     subst (IsBelow m) (sym at) (size_below m (f x y) (small x y (place_within a x y (entry_place a k fits)))))
 
-pub left_small : (a : Rect) (levels n : ℕ) (samples left : List ℤ) → n < levels → levels ≤ 10 → All (IsBelow (2 ^ 17)) samples → IsLeft a levels n (plane_at a samples) left → All (IsBelow (2 ^ 28 - 1)) left
-left_small a levels n samples left less ten small was =
-    raster_below (2 ^ 28 - 1) (resolution_area a levels (levels - n)) (reduced a levels (plane_at a samples) n) left was
-    (λ x y h. let s = reduced_small a levels (plane_at a samples) n x y (omega arith) (omega arith) (sample_size a samples small) h in omega arith)
+pub left_small : (a : Rect) (levels n : ℕ) (f : ℕ → ℕ → ℤ) (left : List ℤ) (area : Rect) → n < levels → levels ≤ 10 → AreBelow (2 ^ 17) a f →
+    area ≡ resolution_area a levels (levels - n) → IsLeft a levels n f left → AreBelow (2 ^ 28 - 1) area (plane_at area left)
+left_small a levels n f left area less ten small is was x y h =
+    let there : IsWithin (resolution_area a levels (levels - n)) x y = subst (λ s. IsWithin s x y) is h in
+    let s = reduced_small a levels f n x y (omega arith) (omega arith) (value_size a f small) there in
+    subst (IsBelow (2 ^ 28 - 1)) (sym (left_plane a levels n f left area is was x y h)) (size_below (2 ^ 28 - 1) (reduced a levels f n x y) (omega arith))
 
 pub left_length : (a : Rect) (levels n : ℕ) (f : ℕ → ℕ → ℤ) (left : List ℤ) (area : Rect) → area ≡ resolution_area a levels (levels - n) → IsLeft a levels n f left → length left ≡ places_of area
 left_length a levels n f left area is was = ap length was ∙ raster_length (resolution_area a levels (levels - n)) (reduced a levels f n) ∙ ap places_of (sym is)
@@ -165,19 +193,23 @@ all_bands a levels f aside left h was =
           ∙ ap g (sym none)
     ])
 
-pub bands_small : (a : Rect) (levels : ℕ) (samples : List ℤ) (bands : List (List ℤ)) → levels ≤ 10 → All (IsBelow (2 ^ 17)) samples → bands ≡ analysed_bands a levels (plane_at a samples) →
+pub bands_small : (a : Rect) (levels : ℕ) (f : ℕ → ℕ → ℤ) (bands : List (List ℤ)) → levels ≤ 10 → AreBelow (2 ^ 17) a f → bands ≡ analysed_bands a levels f →
     (n : ℕ) → All (IsBelow (2 ^ 30)) (get_or bands n [])
 unfolding analysed_bands
-bands_small a levels samples bands ten small is n =
-    let f = plane_at a samples in
+bands_small a levels f bands ten small is n =
     let g : ℕ → List ℤ = λ b. raster (numbered_area a levels b) (analysed a levels f b) in
     let long : length bands ≡ 3 * levels + 1 = ap length is ∙ length-map-range_with_len g 0 (3 * levels + 1) in
     elim (cases_lt n (3 * levels + 1)) [
       | inl lt ↦
           raster_below (2 ^ 30) (numbered_area a levels n) (analysed a levels f n) (get_or bands n []) (ap (λ l. get_or l n []) is ∙ get_or-map-range_with_len g 0 (3 * levels + 1) n n [] lt (omega arith))
-          (λ x y h. has_width a levels f n x y ten (omega arith) (sample_size a samples small) h)
+          (λ x y h. has_width a levels f n x y ten (omega arith) (value_size a f small) h)
       | inr ge ↦ subst (All (IsBelow (2 ^ 30))) (sym (get_or_past bands n [] (omega arith))) (All-nil (IsBelow (2 ^ 30)))
     ]
+
+-- the only sub-band where there is no level
+pub band_alone : (a : Rect) (f : ℕ → ℕ → ℤ) (lists : List (List ℤ)) (values : List ℤ) → lists ≡ values ∷ [] → values ≡ raster a f → lists ≡ analysed_bands a 0 f
+band_alone a f lists values made is =
+    made ∙ all_bands a 0 f [] values (aside_none a 0 f [] refl) (is ∙ left_all a 0 f)
 
 map_reverse : (f : Vec ℤ → List ℤ) (items : List (Vec ℤ)) → map f (reverse items) ≡ reverse (map f items)
 map_reverse f [] = refl

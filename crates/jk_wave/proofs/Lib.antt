@@ -8,6 +8,8 @@ pub mod PartRows
 pub mod Synthesis
 pub mod Within
 pub mod Descending
+pub mod ColumnRows
+pub mod GatheredRows
 pub mod Leaving
 pub mod Agreeing
 pub mod RegionAreas

@@ -3,7 +3,7 @@ use Rattle.std.specs.Prelude.{◌≡◌, ℕ, zero, suc, ◌+◌, ◌-◌, ◌*�
 use Rattle.jk_math.specs.declared.rect.Rect.{Rect}
 use Rattle.jk_math.specs.Raster.{columns_of, plane_at}
 use Rattle.jk_geom.specs.Rectangles.{IsWithin}
-use Rattle.jk_wave.specs.declared.forward.LevelParts.{LevelParts}
+use Rattle.jk_wave.specs.declared.parts.LevelParts.{LevelParts}
 use Rattle.jk_lift.specs.Lifting.{lifted}
 use Rattle.jk_lift.specs.Planes.{lifted_plane, unlifted_plane}
 
@@ -36,17 +36,15 @@ row_of width v values = take width (drop (v * width) values)
 abbrev pub part_of : Rect → (ℕ → ℕ → ℤ) → ℕ → ℕ → ℕ → ℤ
 part_of area f o x y = lifted_over area f (2 * x + o % 2) (2 * y + o / 2)
 
--- A list has part o of the rows below this one, of a plane whose columns are analysed.
-abbrev pub part_below : Rect → (o row : ℕ) → (plane part : List ℤ) → Type 0
-part_below area o row plane part = (x y : ℕ) → IsWithin (half_area area o) x y → 2 * y + o / 2 < area.y0 + row →
-    plane_at (half_area area o) part x y
-    ≡ lifted area.x0 area.x1 (λ i. plane_at area plane i (2 * y + o / 2)) (2 * x + o % 2)
+-- A list has part o of the rows above place y, where f has the columns analysed already.
+abbrev pub part_below : Rect → (o y : ℕ) → (f : ℕ → ℕ → ℤ) → (part : List ℤ) → Type 0
+part_below area o y f part = (u v : ℕ) → IsWithin (half_area area o) u v → 2 * v + o / 2 < y →
+    plane_at (half_area area o) part u v ≡ lifted area.x0 area.x1 (λ i. f i (2 * v + o / 2)) (2 * u + o % 2)
 
 -- and it is as long as its rows
-pub record IsPartUpto (area : Rect) (o row : ℕ) (plane part : List ℤ) : Type 0 where
-  pub long : length part
-      ≡ (half_bound (area.y0 + row) (o / 2) - half_bound area.y0 (o / 2)) * columns_of (half_area area o)
-  pub below : part_below area o row plane part
+pub record IsPartUpto (area : Rect) (o y : ℕ) (f : ℕ → ℕ → ℤ) (part : List ℤ) : Type 0 where
+  pub long : length part ≡ (half_bound y (o / 2) - half_bound area.y0 (o / 2)) * columns_of (half_area area o)
+  pub below : part_below area o y f part
 
 -- part o of a level
 abbrev pub part_list : LevelParts → (o : ℕ) → List ℤ

@@ -1,5 +1,7 @@
 pub mod Resolutions
 pub mod Levels
+pub mod SourceRows
+pub mod Sweeping
 pub mod LevelRows
 pub mod Bands
 pub mod Analysis

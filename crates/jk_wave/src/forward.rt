@@ -1,137 +1,158 @@
 //! From samples to sub-bands.
 
-ghost use Rattle.std.specs.Prelude.{◌≡◌, ℕ, ℤ, [], ◌∷◌, ◌++◌, Ok, IfOk, IfErr, OnOk, ◌+◌, ◌-◌, ◌*◌, ◌^◌, ◌<◌, ◌≤◌};
+ghost use Rattle.std.specs.Prelude.{◌≡◌, ℕ, [], ◌∷◌, ◌++◌, Ok, IfOk, IfErr, OnOk, ◌-◌, ◌*◌, ◌^◌, ◌<◌, ◌≤◌};
 ghost use Rattle.std.specs.Prelude.{length, All, slice_index_or};
 ghost use Rattle.jk_math.specs.Answer.{Answers};
 ghost use Rattle.jk_math.specs.Memory.{IsMemory};
 ghost use Rattle.jk_math.specs.Lists.{lists_of};
-ghost use Rattle.jk_math.specs.Raster.{columns_of, rows_of, places_of, plane_at, raster};
+ghost use Rattle.jk_math.specs.Raster.{places_of, plane_at, raster};
 ghost use Rattle.jk_math.specs.Signed.{IsBelow};
 ghost use Rattle.jk_geom.specs.Rectangles.{IsArea};
 ghost use Rattle.jk_wave.specs.Analysis.{analysed_bands};
-ghost use Rattle.jk_wave.specs.Levels.{half_area, part_of, part_list, IsPartUpto};
+ghost use Rattle.jk_wave.specs.Levels.{half_area, part_of};
+ghost use Rattle.jk_wave.specs.SourceRows.{AreBelow};
 
 use crate::bands::Bands;
-use crate::places::low_width;
-use crate::region::half_area;
+use crate::columns::put_samples;
+use crate::parts::LevelParts;
+use crate::source::{PlaneRows, RowSource};
+use crate::sweep::analyse_plane;
 use jk_geom::resolution;
-use jk_lift::{analyse_line, analyse_rows};
 use jk_math::{Fault, Planes, Rect};
 use std::alloc::Global;
 
-/// The parts of a level, of which the rows are made one behind another.
-#[derive(Drop)]
-struct LevelParts {
-    ll: Vec<i32>,
-    hl: Vec<i32>,
-    lh: Vec<i32>,
-    hh: Vec<i32>,
-}
-
-/// Room for the part of a level whose places are odd across, or down.
-fn room(alloc: Global, area: &Rect, across: bool, down: bool) -> Result<Vec<i32>, Fault>
-    requires { IsArea area.now }
-    ensures none { IfOk result (λ v. v.items ≡ []) }
-    ensures err { IfErr result (λ e. IsMemory e) }
-{
-    let part = half_area(area, across, down);
-    let width = (part.x1 - part.x0) as usize;
-    let height = (part.y1 - part.y0) as usize;
-    Ok(Vec::with_capacity(alloc, height * width)?)
-}
-
-/// Puts the coefficients of row `row` of a plane whose columns are analysed behind the rows of its
-/// parts. `line` is room for a row.
-fn analyse_row(
-    area: &Rect,
-    plane: &[i32],
-    row: usize,
-    line: &mut [i32],
-    parts: &mut LevelParts,
-) -> Result<(), Fault>
-    requires area { IsArea area.now }
-    requires row { row < rows_of area.now }
-    requires whole { length plane.now ≡ places_of area.now }
-    requires line { length line.old ≡ columns_of area.now }
-    requires small { All (IsBelow (2 ^ 29)) plane.now }
-    ensures parts { OnOk result ((o : ℕ) → o < 4 →
-        IsPartUpto area.now o row plane.now (part_list parts.old o)
-        → IsPartUpto area.now o (row + 1) plane.now (part_list parts.new o)) }
-    ensures err { IfErr result (λ e. IsMemory e) }
-{
-    let width = (area.x1 - area.x0) as usize;
-    let samples = &plane[row * width..row * width + width];
-    let (low, high) = line.split_at_mut(low_width(area));
-    analyse_line(area.x0, samples, low, high);
-    if (area.y0 as usize + row) % 2 == 0 {
-        parts.ll.extend_from_slice(low)?;
-        parts.hl.extend_from_slice(high)?;
-    } else {
-        parts.lh.extend_from_slice(low)?;
-        parts.hh.extend_from_slice(high)?;
-    }
-    Ok(())
-}
-
-/// One level forwards over a rectangle: columns first, then rows (2D_SD, T.800 F.4.2).
-fn analyse_plane(
-    area: &Rect,
-    plane: &mut [i32],
-    line: &mut [i32],
-    parts: &mut LevelParts,
-) -> Result<(), Fault>
-    requires area { IsArea area.now }
-    requires whole { length plane.old ≡ places_of area.now }
-    requires line { length line.old ≡ columns_of area.now }
-    requires parts { (o : ℕ) → o < 4 → part_list parts.old o ≡ [] }
-    requires small { All (IsBelow (2 ^ 28 - 1)) plane.old }
-    ensures parts { OnOk result ((o : ℕ) → o < 4 →
-        part_list parts.new o ≡ raster (half_area area.now o) (part_of area.now (plane_at area.now plane.old) o)) }
-    ensures err { IfErr result (λ e. IsMemory e) }
-{
-    let width = (area.x1 - area.x0) as usize;
-    let height = (area.y1 - area.y0) as usize;
-    if !plane.is_empty() {
-        analyse_rows(area.y0, width, plane);
-        for row in 0..height {
-            analyse_row(area, plane, row, line, parts)?;
-        }
-    }
-    Ok(())
-}
-
 /// One level forwards: gives the low-pass part, and puts HH, LH and HL behind the bands.
-fn analyse_level(
+fn analyse_level<S: RowSource>(
     alloc: Global,
+    source: &S,
     area: &Rect,
-    plane: Vec<i32>,
     bands: &mut Vec<Vec<i32>>,
 ) -> Result<Vec<i32>, Fault>
     requires area { IsArea area.now }
-    requires whole { length plane.items ≡ places_of area.now }
-    requires small { All (IsBelow (2 ^ 28 - 1)) plane.items }
-    ensures ll { IfOk result
-        (λ v. v.items ≡ raster (half_area area.now 0) (part_of area.now (plane_at area.now plane.items) 0)) }
+    requires stands { S.stands source.now }
+    requires is { S.area_of source.now ≡ area.now }
+    requires small { AreBelow (2 ^ 28 - 1) area.now (S.value_at source.now) }
+    ensures ll { IfOk result (λ v. v.items ≡ raster (half_area area.now 0) (part_of area.now (S.value_at source.now) 0)) }
     ensures high { OnOk result (lists_of bands.new.items ≡ lists_of bands.old.items ++
-        (raster (half_area area.now 3) (part_of area.now (plane_at area.now plane.items) 3)
-        ∷ raster (half_area area.now 2) (part_of area.now (plane_at area.now plane.items) 2)
-        ∷ raster (half_area area.now 1) (part_of area.now (plane_at area.now plane.items) 1) ∷ [])) }
+        (raster (half_area area.now 3) (part_of area.now (S.value_at source.now) 3)
+        ∷ raster (half_area area.now 2) (part_of area.now (S.value_at source.now) 2)
+        ∷ raster (half_area area.now 1) (part_of area.now (S.value_at source.now) 1) ∷ [])) }
     ensures err { IfErr result (λ e. IsMemory e) }
 {
-    let mut plane = plane;
-    let mut line = vec![in alloc; 0; (area.x1 - area.x0) as usize]?;
-    let mut parts = LevelParts {
-        ll: room(alloc, area, false, false)?,
-        hl: room(alloc, area, true, false)?,
-        lh: room(alloc, area, false, true)?,
-        hh: room(alloc, area, true, true)?,
-    };
-    analyse_plane(area, &mut plane, &mut line, &mut parts)?;
-    let LevelParts { ll, hl, lh, hh } = parts;
+    let LevelParts { ll, hl, lh, hh } = analyse_plane(alloc, source, area)?;
     bands.push(hh)?;
     bands.push(lh)?;
     bands.push(hl)?;
     Ok(ll)
+}
+
+/// All values, row by row.
+fn all_rows<S: RowSource>(alloc: Global, source: &S, area: &Rect) -> Result<Vec<i32>, Fault>
+    requires area { IsArea area.now }
+    requires stands { S.stands source.now }
+    requires is { S.area_of source.now ≡ area.now }
+    ensures value { IfOk result (λ v. v.items ≡ raster area.now (S.value_at source.now)) }
+    ensures err { IfErr result (λ e. IsMemory e) }
+{
+    let width = (area.x1 - area.x0) as usize;
+    let height = (area.y1 - area.y0) as usize;
+    let mut row = vec![in alloc; 0; width]?;
+    let mut values = Vec::with_capacity(alloc, height * width)?;
+    for y in area.y0..area.y1 {
+        put_samples(source, area, y, &mut row);
+        values.extend_from_slice(&row)?;
+    }
+    Ok(values)
+}
+
+/// The only sub-band where there is no level.
+fn only_band<S: RowSource>(alloc: Global, source: &S, rect: &Rect) -> Result<Vec<Vec<i32>>, Fault>
+    requires area { IsArea rect.now }
+    requires stands { S.stands source.now }
+    requires is { S.area_of source.now ≡ rect.now }
+    ensures exact { IfOk result (λ v. lists_of v.items ≡ analysed_bands rect.now 0 (S.value_at source.now)) }
+    ensures err { IfErr result (λ e. IsMemory e) }
+{
+    let mut bands = Vec::new(alloc);
+    bands.push(all_rows(alloc, source, rect)?)?;
+    Ok(bands)
+}
+
+/// The sub-bands of one level or more, in the order of QCD.
+fn level_bands<S: RowSource>(
+    alloc: Global,
+    source: &S,
+    rect: &Rect,
+    levels: u8,
+) -> Result<Vec<Vec<i32>>, Fault>
+    requires area { IsArea rect.now }
+    requires stands { S.stands source.now }
+    requires is { S.area_of source.now ≡ rect.now }
+    requires some { 0 < levels }
+    requires levels { levels ≤ 10 }
+    requires small { AreBelow (2 ^ 17) rect.now (S.value_at source.now) }
+    ensures exact { IfOk result (λ v. lists_of v.items ≡ analysed_bands rect.now levels (S.value_at source.now)) }
+    ensures err { IfErr result (λ e. IsMemory e) }
+{
+    let mut bands = Vec::new(alloc);
+    let mut left = analyse_level(alloc, source, rect, &mut bands)?;
+    for n in 1..levels {
+        let area = resolution(rect, levels, levels - n);
+        let rows = PlaneRows {
+            area,
+            values: &left,
+        };
+        left = analyse_level(alloc, &rows, &area, &mut bands)?;
+    }
+    bands.push(left)?;
+    bands.reverse();
+    Ok(bands)
+}
+
+/// The sub-bands in the order of QCD.
+fn all_bands<S: RowSource>(
+    alloc: Global,
+    source: &S,
+    rect: &Rect,
+    levels: u8,
+) -> Result<Vec<Vec<i32>>, Fault>
+    requires area { IsArea rect.now }
+    requires stands { S.stands source.now }
+    requires is { S.area_of source.now ≡ rect.now }
+    requires levels { levels ≤ 10 }
+    requires small { AreBelow (2 ^ 17) rect.now (S.value_at source.now) }
+    ensures exact { IfOk result (λ v. lists_of v.items ≡ analysed_bands rect.now levels (S.value_at source.now)) }
+    ensures err { IfErr result (λ e. IsMemory e) }
+{
+    if levels == 0 {
+        return only_band(alloc, source, rect);
+    }
+    level_bands(alloc, source, rect, levels)
+}
+
+/// The sub-bands of a tile-component from its samples, which a source gives row by row (FDWT,
+/// T.800 F.4.1).
+pub fn analyse_source<S: RowSource>(
+    alloc: Global,
+    rect: &Rect,
+    levels: u8,
+    source: &S,
+) -> Result<Bands, Fault>
+    requires area { IsArea rect.now }
+    requires stands { S.stands source.now }
+    requires is { S.area_of source.now ≡ rect.now }
+    requires levels { levels ≤ 10 }
+    requires small { AreBelow (2 ^ 17) rect.now (S.value_at source.now) }
+    ensures exact { Answers (λ b. b.bands) result (Ok (analysed_bands rect.now levels (S.value_at source.now))) }
+    ensures given { IfOk result (λ b. (b.rect ≡ rect.now) × (b.levels ≡ levels)) }
+    ensures small { IfOk result (λ b. (n : ℕ) → All (IsBelow (2 ^ 30)) (slice_index_or b.bands n [])) }
+{
+    let bands = all_bands(alloc, source, rect, levels)?;
+    Ok(Bands {
+        rect: *rect,
+        levels,
+        bands: Planes::new(bands),
+    })
 }
 
 /// The sub-bands of a tile-component from its samples row by row (FDWT, T.800 F.4.1).
@@ -145,17 +166,9 @@ pub fn analyse(alloc: Global, rect: &Rect, levels: u8, samples: Vec<i32>) -> Res
     ensures given { IfOk result (λ b. (b.rect ≡ rect.now) × (b.levels ≡ levels)) }
     ensures small { IfOk result (λ b. (n : ℕ) → All (IsBelow (2 ^ 30)) (slice_index_or b.bands n [])) }
 {
-    let mut bands = Vec::new(alloc);
-    let mut left = samples;
-    for n in 0..levels {
-        let area = resolution(rect, levels, levels - n);
-        left = analyse_level(alloc, &area, left, &mut bands)?;
-    }
-    bands.push(left)?;
-    bands.reverse();
-    Ok(Bands {
-        rect: *rect,
-        levels,
-        bands: Planes::new(bands),
-    })
+    let rows = PlaneRows {
+        area: *rect,
+        values: &samples,
+    };
+    analyse_source(alloc, rect, levels, &rows)
 }

@@ -4,16 +4,21 @@
 
 mod backward;
 mod bands;
+mod columns;
 mod cropping;
 mod forward;
 mod level;
+mod parts;
 mod places;
 mod region;
+mod source;
+mod sweep;
 pub mod theorems;
 
 pub use backward::{synthesise, synthesise_part};
 pub use bands::{BandParts, Bands};
-pub use forward::analyse;
+pub use forward::{analyse, analyse_source};
 pub use level::{begin_level, finish_level};
 pub use places::{BandRows, band_rows};
 pub use region::{Region, part_area};
+pub use source::RowSource;

@@ -12,7 +12,7 @@ use Rattle.jk_math.specs.declared.rect.Rect.{Rect}
 use Rattle.jk_math.specs.Picture.{Picture, IsPicture, IsPlane, lowest, greatest, sample_at}
 use Rattle.jk_math.specs.Raster.{places_of, plane_at, raster}
 use Rattle.jk_math.specs.Signed.{IsBelow, signed_at}
-use Rattle.jk_math.proofs.Laws.{IsPlaceOf, raster_length, raster_entry, raster_same, raster_at, entry_place}
+use Rattle.jk_math.proofs.Laws.{IsPlaceOf, raster_length, raster_entry, entry_place}
 use Rattle.jk_rct.specs.Colour.{y0_of, y1_of, y2_of}
 use Rattle.jk_rct.proofs.Laws.{keeps_range}
 use Rattle.std.proofs.lemmas.List.FromFn.{length-map-range_with_len, get_or-map-range_with_len, map-range_with_len_more}
@@ -21,12 +21,13 @@ use Rattle.jk_geom.specs.Rectangles.{IsArea, IsWithin, tile_area}
 use Rattle.jk_params.specs.declared.parameters.Parameters.{Parameters}
 use Rattle.jk_params.specs.Profile.{siz_of}
 use Rattle.jk_wave.specs.Analysis.{analysed, analysed_bands}
+use Rattle.jk_wave.specs.SourceRows.{AreBelow}
 use Rattle.jk_wave.specs.Bands.{numbered_area}
-use Rattle.jk_wave.proofs.Laws.{bands_agree, has_planes}
+use Rattle.jk_wave.proofs.Laws.{has_planes}
 use Rattle.jk_tile.specs.Samples.{shift}
 use Rattle.jk_tile.specs.Filling.{IsPartOf}
-use Rattle.jk_tile.specs.encoding.Forward.{picture_area, levelled, coloured, tile_value, value_lists}
-use Rattle.jk_tile.proofs.Colours.{IsTransform, rasters, raster_map}
+use Rattle.jk_tile.specs.encoding.Forward.{picture_area, levelled, coloured, tile_value}
+use Rattle.jk_tile.proofs.Colours.{IsTransform}
 
 -- ---- one component
 
@@ -36,14 +37,6 @@ same_columns x w = omega arith
 -- the samples of a component by the reference grid
 pub plane_of : (p : Picture) (c x y : ℕ) → plane_at (picture_area p) (get_or p.planes c []) x y ≡ sample_at p c (x - p.x0) (y - p.y0)
 plane_of p c x y = ap (λ w. signed_at (get_or p.planes c []) ((y - p.y0) * w + (x - p.x0))) (same_columns p.x0 p.width)
-
-pub shifted_is : (p : Picture) (c depth : ℕ) (signed : Bool) (a : Rect) (old new : List ℤ) → old ≡ raster a (plane_at (picture_area p) (get_or p.planes c [])) → depth ≡ p.depth → signed ≡ p.signed
-    → new ≡ map (λ s. s -ℤ shift depth signed) old → new ≡ raster a (levelled p c)
-shifted_is p c depth signed a old new eo ed es en =
-    let z = shift depth signed in
-    let ez : z ≡ shift p.depth p.signed = ap (λ n. shift n signed) ed ∙ ap (shift p.depth) es in
-    en ∙ ap (map (λ s. s -ℤ z)) eo ∙ raster_map a (λ s. s -ℤ z) (plane_at (picture_area p) (get_or p.planes c []))
-    ∙ raster_same a (λ x y. plane_at (picture_area p) (get_or p.planes c []) x y -ℤ z) (levelled p c) (λ x y h. ap (λ s. s -ℤ z) (plane_of p c x y) ∙ ap (λ s. sample_at p c (x - p.x0) (y - p.y0) -ℤ s) ez)
 
 -- ---- how great samples are
 
@@ -97,6 +90,29 @@ pub value_coloured : (p : Picture) (c x y : ℕ) → tile_value p true c x y ≡
 unfolding tile_value
 value_coloured p c x y = refl
 
+-- the value of a component, by those of the first three where it is one of these
+pub plain_is : (p : Picture) (colour : Bool) (c x y : ℕ) → colour ≡ false → levelled p c x y ≡ tile_value p colour c x y
+plain_is p colour c x y e = sym (value_plain p c x y) ∙ ap (λ (b : Bool). tile_value p b c x y) (sym e)
+
+pub first_is : (p : Picture) (colour : Bool) (c x y : ℕ) → colour ≡ true → c ≡ 0 → y0_of (levelled p 0 x y) (levelled p 1 x y) (levelled p 2 x y) ≡ tile_value p colour c x y
+first_is p colour c x y e at =
+    sym (value_coloured p 0 x y ∙ coloured_at.first (λ i. levelled p i x y)) ∙ ap (λ (n : ℕ). tile_value p true n x y) (sym at) ∙ ap (λ (b : Bool). tile_value p b c x y) (sym e)
+
+pub second_is : (p : Picture) (colour : Bool) (c x y : ℕ) → colour ≡ true → c ≡ 1 → y1_of (levelled p 0 x y) (levelled p 1 x y) (levelled p 2 x y) ≡ tile_value p colour c x y
+second_is p colour c x y e at =
+    sym (value_coloured p 1 x y ∙ coloured_at.second (λ i. levelled p i x y)) ∙ ap (λ (n : ℕ). tile_value p true n x y) (sym at) ∙ ap (λ (b : Bool). tile_value p b c x y) (sym e)
+
+pub third_is : (p : Picture) (colour : Bool) (c x y : ℕ) → colour ≡ true → c ≡ 2 → y2_of (levelled p 0 x y) (levelled p 1 x y) (levelled p 2 x y) ≡ tile_value p colour c x y
+third_is p colour c x y e at =
+    sym (value_coloured p 2 x y ∙ coloured_at.third (λ i. levelled p i x y)) ∙ ap (λ (n : ℕ). tile_value p true n x y) (sym at) ∙ ap (λ (b : Bool). tile_value p b c x y) (sym e)
+
+pub other_is : (p : Picture) (colour : Bool) (c x y : ℕ) → colour ≡ true → 3 ≤ c → levelled p c x y ≡ tile_value p colour c x y
+other_is p colour c x y e from =
+    let n : ℕ = c - 3 in
+    let at : suc (suc (suc n)) ≡ c = omega (arith, from) in
+    sym (value_coloured p (suc (suc (suc n))) x y ∙ coloured_at.others (λ i. levelled p i x y) n ∙ ap (λ (k : ℕ). levelled p k x y) at)
+    ∙ ap (λ (k : ℕ). tile_value p true k x y) at ∙ ap (λ (b : Bool). tile_value p b c x y) (sym e)
+
 coloured_small : (v : ℕ → ℤ) (n c : ℕ) → 3 ≤ n → c < n → ((i : ℕ) → i < n → IsLevelled (v i)) → unsigned_abs (coloured v c) ≤ 65535
 coloured_small v n c three lt small = by c lt
   where
@@ -132,63 +148,28 @@ part_within part area x y is h =
     let hl = h.left in let hr = h.right in let hu = h.upper in let hd = h.lower in
     record { left = omega (arith, left, hl); right = omega (arith, right, hr); upper = omega (arith, upper, hu); lower = omega (arith, lower, hd) }
 
-below_wide : (z : ℤ) → IsLevelled z → IsBelow (2 ^ 29) z
-below_wide z h = (omega (arith, ints, h.0), omega (arith, ints, h.1))
-
-pub levelled_below : (p : Picture) (c : ℕ) (a : Rect) → IsPicture p → c < length p.planes → IsPartOf a (picture_area p) → All (IsBelow (2 ^ 29)) (raster a (levelled p c))
-levelled_below p c a is lt part = raster_small (2 ^ 29) a (levelled p c) (λ x y h. below_wide (levelled p c x y) (levelled_small p c x y is lt (part_within a (picture_area p) x y part h)))
-
 abs_below : (z : ℤ) → unsigned_abs z ≤ 65535 → IsBelow (2 ^ 17) z
 abs_below z h = (omega (arith, ints, h), omega (arith, ints, h))
 
-pub values_below : (p : Picture) (colour : Bool) (c : ℕ) (a : Rect) → IsPicture p → (colour ≡ true → 3 ≤ length p.planes) → c < length p.planes → IsPartOf a (picture_area p) → All (IsBelow (2 ^ 17)) (raster a (tile_value p colour c))
-values_below p colour c a is three lt part = raster_small (2 ^ 17) a (tile_value p colour c) (λ x y h. abs_below (tile_value p colour c x y) (value_small p colour c x y is three lt (part_within a (picture_area p) x y part h)))
+pub values_small : (p : Picture) (colour : Bool) (c : ℕ) (a : Rect) → IsPicture p → (colour ≡ true → 3 ≤ length p.planes) → c < length p.planes → IsPartOf a (picture_area p) → AreBelow (2 ^ 17) a (tile_value p colour c)
+values_small p colour c a is three lt part x y h =
+    abs_below (tile_value p colour c x y) (value_small p colour c x y is three lt (part_within a (picture_area p) x y part (record { left = h.left; right = h.right; upper = h.upper; lower = h.lower })))
 
 pub shift_range : (depth : ℕ) (signed : Bool) → 1 ≤ depth → depth ≤ 16 → (pos 0 ≤ℤ shift depth signed) × (shift depth signed ≤ℤ pos 32768)
 shift_range depth true some few = (omega (arith, ints), omega (arith, ints))
 shift_range depth false some few = let half : 2 ^ (depth - 1) ≤ 2 ^ 15 = pow_mono {i = depth - 1} {j = 15} (omega (arith, few)) in (omega (arith, ints), omega (arith, ints, half))
 
 -- a sample of the image before the level shift
-sample_small : (p : Picture) (c x y : ℕ) → IsPicture p → c < length p.planes → IsWithin (picture_area p) x y → IsBelow (2 ^ 30) (plane_at (picture_area p) (get_or p.planes c []) x y)
-sample_small p c x y is lt h =
-    let levels = levelled_small p c x y is lt h in
-    let s = shift_range p.depth p.signed is.components.some_bits is.components.few_bits in
-    subst (IsBelow (2 ^ 30)) (sym (plane_of p c x y)) (omega (arith, ints, levels.0, levels.1, s.0, s.1), omega (arith, ints, levels.0, levels.1, s.0, s.1))
-
-pub samples_below : (p : Picture) (c : ℕ) (a : Rect) → IsPicture p → c < length p.planes → IsPartOf a (picture_area p) → All (IsBelow (2 ^ 30)) (raster a (plane_at (picture_area p) (get_or p.planes c [])))
-samples_below p c a is lt part = raster_small (2 ^ 30) a (plane_at (picture_area p) (get_or p.planes c [])) (λ x y h. sample_small p c x y is lt (part_within a (picture_area p) x y part h))
-
--- ---- all components
-
-pub lists_plain : (p : Picture) (a : Rect) (n : ℕ) → rasters a (levelled p) n ≡ value_lists p false a n
-lists_plain p a n = same (range_with_len 0 n)
-  where
-    same : (cs : List ℕ) → map (λ c. raster a (levelled p c)) cs ≡ map (λ c. raster a (tile_value p false c)) cs
-    same [] = refl
-    same (c ∷ cs) = ap (λ (l : List ℤ). l ∷ map (λ i. raster a (levelled p i)) cs) (raster_same a (levelled p c) (tile_value p false c) (λ x y h. sym (value_plain p c x y))) ∙ ap (λ (ls : List (List ℤ)). raster a (tile_value p false c) ∷ ls) (same cs)
-
-pub lists_coloured : (p : Picture) (a : Rect) (n : ℕ) → rasters a (λ c x y. coloured (λ i. levelled p i x y) c) n ≡ value_lists p true a n
-lists_coloured p a n = same (range_with_len 0 n)
-  where
-    same : (cs : List ℕ) → map (λ c. raster a (λ x y. coloured (λ i. levelled p i x y) c)) cs ≡ map (λ c. raster a (tile_value p true c)) cs
-    same [] = refl
-    same (c ∷ cs) = ap (λ (l : List ℤ). l ∷ map (λ k. raster a (λ x y. coloured (λ i. levelled p i x y) k)) cs) (raster_same a (λ x y. coloured (λ i. levelled p i x y) c) (tile_value p true c) (λ x y h. sym (value_coloured p c x y))) ∙ ap (λ (ls : List (List ℤ)). raster a (tile_value p true c) ∷ ls) (same cs)
-
--- the samples of a component on a part of the image
-pub cut_is : (p : Picture) (c : ℕ) (a area : Rect) (plane values : List ℤ) → area ≡ picture_area p → plane ≡ get_or p.planes c [] → values ≡ raster a (plane_at area plane) → values ≡ raster a (plane_at (picture_area p) (get_or p.planes c []))
-cut_is p c a area plane values ea ep e = e ∙ ap (λ (b : Rect). raster a (plane_at b plane)) ea ∙ ap (λ (xs : List ℤ). raster a (plane_at (picture_area p) xs)) ep
-
-pub lists_either : (p : Picture) (colour : Bool) (a : Rect) (lists : List (List ℤ)) (n : ℕ) (b : Bool) → colour ≡ b → lists ≡ value_lists p b a n → lists ≡ value_lists p colour a n
-lists_either p colour a lists n b e is = is ∙ ap (λ (t : Bool). value_lists p t a n) (sym e)
+pub plane_below : (p : Picture) (c : ℕ) → IsPicture p → c < length p.planes → All (IsBelow (2 ^ 28)) (get_or p.planes c [])
+plane_below p c is lt =
+    let plane = plane_is p c is lt in
+    let z = shift_range p.depth p.signed is.components.some_bits is.components.few_bits in
+    All-from_get_or (IsBelow (2 ^ 28)) (get_or p.planes c []) (pos 0) (λ k less.
+    let s = list_in_range p.depth p.signed (get_or p.planes c []) k is.components.some_bits is.components.few_bits less plane.range in
+    let low = s.0 in let high = s.1 in let zl = z.0 in let zh = z.1 in
+    (omega (arith, ints, low, high, zl, zh), omega (arith, ints, low, high, zl, zh)))
 
 -- ---- the sub-bands
-
-pub value_list : (p : Picture) (colour : Bool) (a : Rect) (n c : ℕ) → c < n → get_or (value_lists p colour a n) c [] ≡ raster a (tile_value p colour c)
-value_list p colour a n c lt = get_or-map-range_with_len (λ i. raster a (tile_value p colour i)) 0 n c c [] lt (omega arith)
-
--- those of a list of samples are those of the samples
-pub bands_of_samples : (a : Rect) (levels : ℕ) (f : ℕ → ℕ → ℤ) (samples : List ℤ) → samples ≡ raster a f → analysed_bands a levels (plane_at a samples) ≡ analysed_bands a levels f
-bands_of_samples a levels f samples e = bands_agree a levels (plane_at a samples) f (λ x y h. ap (λ (l : List ℤ). plane_at a l x y) e ∙ raster_at a f x y (record { left = h.left; right = h.right; upper = h.upper; lower = h.lower }))
 
 pub bands_push : (f : ℕ → List (List ℤ)) (n : ℕ) (old new : List (List (List ℤ))) (v : List (List ℤ)) → old ≡ map f (range_with_len 0 n) → new ≡ old ++ v ∷ [] → v ≡ f n → new ≡ map f (range_with_len 0 (n + 1))
 bands_push f n old new v eo e ev = e ∙ ap (λ (ls : List (List (List ℤ))). ls ++ v ∷ []) eo ∙ ap (λ (l : List (List ℤ)). map f (range_with_len 0 n) ++ l ∷ []) ev ∙ sym (map-range_with_len_more f 0 n n (omega arith))

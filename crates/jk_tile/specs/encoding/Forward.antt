@@ -1,10 +1,8 @@
 -- From the samples of a tile to what the wavelet takes: the level shift and the component transform
 -- (T.800 G.1.1, G.2.1).
-use Rattle.std.specs.Prelude.{ℕ, zero, suc, ◌+◌, ◌-◌, Bool, if◌then◌else◌, List, map, ℤ, ◌-ℤ◌}
-use Rattle.std.specs.List.{range_with_len}
+use Rattle.std.specs.Prelude.{ℕ, zero, suc, ◌+◌, ◌-◌, Bool, if◌then◌else◌, ℤ, ◌-ℤ◌}
 use Rattle.jk_math.specs.declared.rect.Rect.{Rect}
 use Rattle.jk_math.specs.Picture.{Picture, sample_at}
-use Rattle.jk_math.specs.Raster.{raster}
 use Rattle.jk_rct.specs.Colour.{y0_of, y1_of, y2_of}
 use Rattle.jk_tile.specs.Samples.{shift}
 
@@ -27,7 +25,3 @@ coloured v c = v c
 -- the value of a component at a place, with the component transform where it is asked for
 unfoldable pub tile_value : Picture → Bool → ℕ → ℕ → ℕ → ℤ
 tile_value p colour c x y = if colour then coloured (λ i. levelled p i x y) c else levelled p c x y
-
--- lists over one rectangle, one for each of n components
-abbrev pub value_lists : Picture → Bool → Rect → ℕ → List (List ℤ)
-value_lists p colour a n = map (λ c. raster a (tile_value p colour c)) (range_with_len 0 n)

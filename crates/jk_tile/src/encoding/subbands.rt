@@ -12,13 +12,12 @@ ghost use Rattle.jk_tile.specs.Filling.{IsPartOf};
 ghost use Rattle.jk_tile.specs.encoding.Forward.{picture_area, tile_value};
 ghost use Rattle.jk_tile.specs.encoding.Needs.{written_bands};
 
-use crate::encoding::values::tile_values;
+use crate::encoding::values::ComponentRows;
 use jk_geom::tile;
 use jk_math::{Fault, Image, Planes, Rect};
 use jk_params::{Parameters, siz_of};
-use jk_wave::analyse;
+use jk_wave::analyse_source;
 use std::alloc::Global;
-use std::mem;
 
 /// The sub-bands of each component of a tile on this rectangle, in the order of QCD, each row by
 /// row.
@@ -39,11 +38,15 @@ fn bands_on(
         (range_with_len 0 (length image.now.planes))) }
     ensures memory { IfErr result IsMemory }
 {
-    let mut values = tile_values(alloc, image, colours, rect)?;
     let mut all = Vec::new(alloc);
-    for c in 0..values.len() {
-        let samples = mem::replace(&mut values[c], Vec::new(alloc));
-        let bands = analyse(alloc, rect, levels, samples)?;
+    for component in 0..image.planes().len() {
+        let rows = ComponentRows {
+            image,
+            component,
+            colours,
+            rect: *rect,
+        };
+        let bands = analyse_source(alloc, rect, levels, &rows)?;
         all.push(bands.bands)?;
     }
     Ok(all)

@@ -1,139 +1,202 @@
-//! From the samples of a tile to what the wavelet takes (T.800 G.1.1, G.2.1).
+//! From the samples of a tile to what the wavelet takes (T.800 G.1.1, G.2.1), a row at a time.
 
-ghost use Rattle.std.specs.Prelude.{◌≡◌, ℕ, ◌+◌, ◌<◌, ◌≤◌, ◌^◌, length, map, All, IfOk, IfErr, true, ◌-ℤ◌, ◌≤ℤ◌, pos};
-ghost use Rattle.std.specs.Prelude.{neg_ℤ};
-ghost use Rattle.std.specs.List.{range_with_len};
-ghost use Rattle.jk_math.specs.Memory.{IsMemory};
-ghost use Rattle.jk_math.specs.Picture.{IsPicture};
-ghost use Rattle.jk_math.specs.Lists.{lists_of, list_at};
-ghost use Rattle.jk_math.specs.Raster.{raster};
+ghost use Rattle.std.specs.Prelude.{◌≡◌, ℕ, ℤ, ◌+◌, ◌-◌, ◌<◌, ◌≤◌, ◌^◌, length, All, true, ◌-ℤ◌};
+ghost use Rattle.jk_math.specs.Picture.{IsPicture, sample_at};
+ghost use Rattle.jk_math.specs.Raster.{columns_of};
 ghost use Rattle.jk_math.specs.Signed.{IsBelow, signed_at};
 ghost use Rattle.jk_rct.specs.Colour.{y0_of, y1_of, y2_of};
 ghost use Rattle.jk_geom.specs.Rectangles.{IsArea};
 ghost use Rattle.jk_tile.specs.Filling.{IsPartOf};
-ghost use Rattle.jk_tile.specs.encoding.Forward.{picture_area, levelled, tile_value, value_lists};
+ghost use Rattle.jk_tile.specs.encoding.Forward.{picture_area, levelled, tile_value};
 ghost use Rattle.jk_tile.specs.Samples.{shift};
 
-use crate::encoding::cutting::cut_out;
 use crate::samples::level_shift;
-use jk_math::{Fault, Image, Rect};
-use jk_rct::forward;
-use std::alloc::Global;
-use std::mem;
+use jk_math::{Image, Rect};
+use jk_rct::forward_pixel;
+use jk_wave::RowSource;
 
-/// The rectangle of an image on the reference grid.
-fn picture_area(image: &Image) -> Rect
-    ensures value { result ≡ picture_area image.now }
-    ensures area { IsArea result }
+/// The samples of a component on the row at place `y` of a rectangle.
+fn row_of<'a>(image: &'a Image, component: usize, rect: &Rect, y: u32) -> &'a [i32]
+    requires picture { IsPicture image.now }
+    requires component { component < length image.now.planes }
+    requires rect { IsPartOf rect.now (picture_area image.now) }
+    requires inside { (rect.now.y0 ≤ y) × (y < rect.now.y1) }
+    ensures long { length result.now ≡ columns_of rect.now }
+    ensures small { All (IsBelow (2 ^ 28)) result.now }
+    ensures value { (k : ℕ) → k < columns_of rect.now → signed_at result.now k
+        ≡ sample_at image.now component (rect.now.x0 + k - image.now.x0) (y - image.now.y0) }
 {
-    let (x0, y0) = (image.x0(), image.y0());
-    Rect {
-        x0,
-        y0,
-        x1: x0 + image.width(),
-        y1: y0 + image.height(),
-    }
+    let row = (y - image.y0()) as usize * image.width() as usize;
+    let at = row + (rect.x0 - image.x0()) as usize;
+    &image.planes().plane(component)[at..at + (rect.x1 - rect.x0) as usize]
 }
 
 /// A sample less the level shift.
 #[inline(always)]
 #[tactic(auto, using(crate::proofs::encoding::Forwards::shift_range))]
 fn lowered(sample: i32, depth: u8, signed: bool) -> i32
-    requires sample { IsBelow (2 ^ 30) sample }
+    requires sample { IsBelow (2 ^ 28) sample }
     requires some { 1 ≤ depth }
     requires few { depth ≤ 16 }
-    ensures { result ≡ sample -ℤ shift depth signed }
+    ensures value { result ≡ sample -ℤ shift depth signed }
+    ensures small { IsBelow (2 ^ 29) result }
 {
     sample - level_shift(depth, signed)
 }
 
-/// Takes the level shift off samples.
-fn shift_down(samples: &mut [i32], depth: u8, signed: bool)
-    requires samples { All (IsBelow (2 ^ 30)) samples.old }
+/// Puts samples less the level shift into a row.
+fn put_lowered(row: &mut [i32], samples: &[i32], depth: u8, signed: bool)
+    requires long { length samples.now ≡ length row.old }
+    requires small { All (IsBelow (2 ^ 28)) samples.now }
     requires some { 1 ≤ depth }
     requires few { depth ≤ 16 }
-    ensures { samples.new ≡ map (λ z. z -ℤ shift depth signed) samples.old }
+    ensures { (k : ℕ) → k < length row.old → signed_at row.new k ≡ signed_at samples.now k -ℤ shift depth signed }
 {
-    for k in 0..samples.len() {
-        samples[k] = lowered(samples[k], depth, signed);
+    for k in 0..row.len() {
+        row[k] = lowered(samples[k], depth, signed);
     }
 }
 
-/// The samples of a component on a rectangle, less the level shift.
-fn shifted(alloc: Global, image: &Image, component: usize, rect: &Rect) -> Result<Vec<i32>, Fault>
-    requires picture { IsPicture image.now }
-    requires component { component < length image.now.planes }
-    requires rect { IsPartOf rect.now (picture_area image.now) }
-    ensures value { IfOk result (λ v. v.items ≡ raster rect.now (levelled image.now component)) }
-    ensures memory { IfErr result IsMemory }
-{
-    let area = picture_area(image);
-    let mut values = cut_out(alloc, &area, image.planes().plane(component), rect)?;
-    shift_down(&mut values, image.depth(), image.signed());
-    Ok(values)
+/// One of the three components that the component transform makes of a pixel (T.800 G.2.1).
+trait Transformed {
+    /// What it is by the samples of components 0, 1 and 2.
+    ghost formula: { ℤ → ℤ → ℤ → ℤ };
+
+    fn of(first: i32, second: i32, third: i32) -> i32
+        requires first { IsBelow (2 ^ 29) first }
+        requires second { IsBelow (2 ^ 29) second }
+        requires third { IsBelow (2 ^ 29) third }
+        ensures { result ≡ formula first second third };
 }
 
-/// The samples of all components on a rectangle, less the level shift.
-fn all_shifted(alloc: Global, image: &Image, rect: &Rect) -> Result<Vec<Vec<i32>>, Fault>
-    requires picture { IsPicture image.now }
-    requires rect { IsPartOf rect.now (picture_area image.now) }
-    ensures value { IfOk result
-        (λ v. lists_of v.items
-        ≡ map (λ c. raster rect.now (levelled image.now c)) (range_with_len 0 (length image.now.planes))) }
-    ensures memory { IfErr result IsMemory }
-{
-    let mut all = Vec::new(alloc);
-    for component in 0..image.planes().len() {
-        all.push(shifted(alloc, image, component, rect)?)?;
+/// Y0, which stands for component 0.
+struct Y0;
+
+impl Transformed for Y0 {
+    ghost formula = { y0_of };
+
+    #[inline(always)]
+    fn of(first: i32, second: i32, third: i32) -> i32 {
+        forward_pixel(first, second, third).0
     }
-    Ok(all)
 }
 
-/// Puts Y0, Y1 and Y2 in the places of components 0, 1 and 2 (T.800 G.2.1).
-fn colour(alloc: Global, values: &mut Vec<Vec<i32>>)
-    requires three { 3 ≤ length values.old.items }
-    requires same_b { length (list_at values.old.items 1) ≡ length (list_at values.old.items 0) }
-    requires same_c { length (list_at values.old.items 2) ≡ length (list_at values.old.items 0) }
-    requires small { (c : ℕ) → c < 3 → All (IsBelow (2 ^ 29)) (list_at values.old.items c) }
-    ensures count { length values.new.items ≡ length values.old.items }
-    ensures long { (c : ℕ) → length (list_at values.new.items c) ≡ length (list_at values.old.items c) }
-    ensures y0 { (k : ℕ) → k < length (list_at values.old.items 0) → signed_at (list_at values.new.items 0) k
-        ≡ y0_of (signed_at (list_at values.old.items 0) k) (signed_at (list_at values.old.items 1) k)
-        (signed_at (list_at values.old.items 2) k) }
-    ensures y1 { (k : ℕ) → k < length (list_at values.old.items 0) → signed_at (list_at values.new.items 1) k
-        ≡ y1_of (signed_at (list_at values.old.items 0) k) (signed_at (list_at values.old.items 1) k)
-        (signed_at (list_at values.old.items 2) k) }
-    ensures y2 { (k : ℕ) → k < length (list_at values.old.items 0) → signed_at (list_at values.new.items 2) k
-        ≡ y2_of (signed_at (list_at values.old.items 0) k) (signed_at (list_at values.old.items 1) k)
-        (signed_at (list_at values.old.items 2) k) }
-    ensures others { (c : ℕ) → 3 ≤ c → list_at values.new.items c ≡ list_at values.old.items c }
-{
-    let mut first = mem::replace(&mut values[0], Vec::new(alloc));
-    let mut second = mem::replace(&mut values[1], Vec::new(alloc));
-    let mut third = mem::replace(&mut values[2], Vec::new(alloc));
-    forward(&mut first, &mut second, &mut third);
-    values[0] = first;
-    values[1] = second;
-    values[2] = third;
-}
+/// Y1, which stands for component 1.
+struct Y1;
 
-/// What the wavelet takes of a tile on this rectangle, component by component, each row by row.
-pub(crate) fn tile_values(
-    alloc: Global,
-    image: &Image,
-    colours: bool,
-    rect: &Rect,
-) -> Result<Vec<Vec<i32>>, Fault>
-    requires picture { IsPicture image.now }
-    requires rect { IsPartOf rect.now (picture_area image.now) }
-    requires colours { colours ≡ true → 3 ≤ length image.now.planes }
-    ensures value { IfOk result
-        (λ v. lists_of v.items ≡ value_lists image.now colours rect.now (length image.now.planes)) }
-    ensures memory { IfErr result IsMemory }
-{
-    let mut values = all_shifted(alloc, image, rect)?;
-    if colours {
-        colour(alloc, &mut values);
+impl Transformed for Y1 {
+    ghost formula = { y1_of };
+
+    #[inline(always)]
+    fn of(first: i32, second: i32, third: i32) -> i32 {
+        forward_pixel(first, second, third).1
     }
-    Ok(values)
+}
+
+/// Y2, which stands for component 2.
+struct Y2;
+
+impl Transformed for Y2 {
+    ghost formula = { y2_of };
+
+    #[inline(always)]
+    fn of(first: i32, second: i32, third: i32) -> i32 {
+        forward_pixel(first, second, third).2
+    }
+}
+
+/// Puts what the component transform makes of samples less the level shift into a row.
+fn put_transformed<T: Transformed>(
+    row: &mut [i32],
+    first: &[i32],
+    second: &[i32],
+    third: &[i32],
+    depth: u8,
+    signed: bool,
+)
+    requires first_long { length first.now ≡ length row.old }
+    requires second_long { length second.now ≡ length row.old }
+    requires third_long { length third.now ≡ length row.old }
+    requires first_small { All (IsBelow (2 ^ 28)) first.now }
+    requires second_small { All (IsBelow (2 ^ 28)) second.now }
+    requires third_small { All (IsBelow (2 ^ 28)) third.now }
+    requires some { 1 ≤ depth }
+    requires few { depth ≤ 16 }
+    ensures { (k : ℕ) → k < length row.old → signed_at row.new k
+        ≡ T.formula (signed_at first.now k -ℤ shift depth signed) (signed_at second.now k -ℤ shift depth signed)
+        (signed_at third.now k -ℤ shift depth signed) }
+{
+    for k in 0..row.len() {
+        row[k] = T::of(
+            lowered(first[k], depth, signed),
+            lowered(second[k], depth, signed),
+            lowered(third[k], depth, signed),
+        );
+    }
+}
+
+/// A component of an image on a rectangle as the wavelet takes it: less the level shift, and behind
+/// the component transform where that is asked for.
+#[derive(Drop)]
+pub(crate) struct ComponentRows<'a> {
+    pub(crate) image: &'a Image,
+    pub(crate) component: usize,
+    pub(crate) colours: bool,
+    pub(crate) rect: Rect,
+}
+
+impl<'a> ComponentRows<'a> {
+    /// Puts the row at place `y` of the component into a row, less the level shift.
+    fn put_plain(&self, y: u32, row: &mut [i32])
+        requires picture { IsPicture self.now.image.now }
+        requires component { self.now.component < length self.now.image.now.planes }
+        requires rect { IsPartOf self.now.rect (picture_area self.now.image.now) }
+        requires inside { (self.now.rect.y0 ≤ y) × (y < self.now.rect.y1) }
+        requires long { length row.old ≡ columns_of self.now.rect }
+        ensures { (k : ℕ) → k < columns_of self.now.rect → signed_at row.new k
+            ≡ levelled self.now.image.now self.now.component (self.now.rect.x0 + k) y }
+    {
+        let samples = row_of(self.image, self.component, &self.rect, y);
+        put_lowered(row, samples, self.image.depth(), self.image.signed());
+    }
+
+    /// Puts the row at place `y` of a transformed component into a row.
+    fn put_coloured<T: Transformed>(&self, y: u32, row: &mut [i32])
+        requires picture { IsPicture self.now.image.now }
+        requires three { 3 ≤ length self.now.image.now.planes }
+        requires rect { IsPartOf self.now.rect (picture_area self.now.image.now) }
+        requires inside { (self.now.rect.y0 ≤ y) × (y < self.now.rect.y1) }
+        requires long { length row.old ≡ columns_of self.now.rect }
+        ensures { (k : ℕ) → k < columns_of self.now.rect → signed_at row.new k
+            ≡ T.formula (levelled self.now.image.now 0 (self.now.rect.x0 + k) y)
+            (levelled self.now.image.now 1 (self.now.rect.x0 + k) y)
+            (levelled self.now.image.now 2 (self.now.rect.x0 + k) y) }
+    {
+        let image = self.image;
+        let first = row_of(image, 0, &self.rect, y);
+        let second = row_of(image, 1, &self.rect, y);
+        let third = row_of(image, 2, &self.rect, y);
+        put_transformed::<T>(row, first, second, third, image.depth(), image.signed());
+    }
+}
+
+impl<'a> RowSource for ComponentRows<'a> {
+    ghost stands = { λ s. IsPicture s.image.now × (s.component < length s.image.now.planes)
+        × IsPartOf s.rect (picture_area s.image.now) × (s.colours ≡ true → 3 ≤ length s.image.now.planes) };
+
+    ghost area_of = { λ s. s.rect };
+
+    ghost value_at = { λ s. tile_value s.image.now s.colours s.component };
+
+    fn put_row(&self, y: u32, row: &mut [i32]) {
+        if !self.colours {
+            return self.put_plain(y, row);
+        }
+        match self.component {
+            0 => self.put_coloured::<Y0>(y, row),
+            1 => self.put_coloured::<Y1>(y, row),
+            2 => self.put_coloured::<Y2>(y, row),
+            _ => self.put_plain(y, row),
+        }
+    }
 }

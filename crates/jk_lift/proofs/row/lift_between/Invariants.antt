@@ -1,0 +1,5 @@
+use Rattle.jk_lift.proofs.RowsBetween.{IsLiftedUpto}
+use Rattle.jk_lift.proofs.row.lift_between.Given as goal
+
+abbrev pub invariant-loop-k : goal.invariant-loop-k
+invariant-loop-k g l = IsLiftedUpto g.S.Step.formula l.before l.after l.k l.fn.row l.row

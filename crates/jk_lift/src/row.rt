@@ -1,0 +1,50 @@
+//! One row of columns, lifted between the rows next to it.
+
+ghost use Rattle.std.specs.Prelude.{◌≡◌, ℕ, ℤ, ◌-◌, ◌^◌, ◌<◌, length, All};
+ghost use Rattle.jk_lift.specs.Lifting.{high_pass, low_pass};
+ghost use Rattle.jk_math.specs.Signed.{IsBelow, signed_at};
+
+use crate::rows::{HighPass, LowPass, Step};
+
+/// Lifts each number of a row between those of the rows next to it.
+fn lift_between<S: Step>(row: &mut [i32], before: &[i32], after: &[i32])
+    requires before_long { length before.now ≡ length row.old }
+    requires after_long { length after.now ≡ length row.old }
+    requires numbers { All (IsBelow (2 ^ 29)) row.old }
+    requires befores { All (IsBelow (2 ^ 30 - 1)) before.now }
+    requires afters { All (IsBelow (2 ^ 30 - 1)) after.now }
+    ensures { (k : ℕ) → k < length row.old → signed_at row.new k
+        ≡ S.formula (signed_at row.old k) (signed_at before.now k) (signed_at after.now k) }
+{
+    for k in 0..row.len() {
+        row[k] = S::lifted(row[k], before[k], after[k]);
+    }
+}
+
+/// Puts high-pass coefficients in the places of a row's samples, of which `before` and `after` are the rows next to it
+/// (1D_FILTD of every column, T.800 F.4.8).
+pub fn high_pass_row(row: &mut [i32], before: &[i32], after: &[i32])
+    requires before_long { length before.now ≡ length row.old }
+    requires after_long { length after.now ≡ length row.old }
+    requires numbers { All (IsBelow (2 ^ 29)) row.old }
+    requires befores { All (IsBelow (2 ^ 29)) before.now }
+    requires afters { All (IsBelow (2 ^ 29)) after.now }
+    ensures { (k : ℕ) → k < length row.old → signed_at row.new k
+        ≡ high_pass (signed_at row.old k) (signed_at before.now k) (signed_at after.now k) }
+{
+    lift_between::<HighPass>(row, before, after);
+}
+
+/// Puts low-pass coefficients in the places of a row's samples, where `before` and `after` are the high-pass
+/// coefficients of the rows next to it (1D_FILTD of every column, T.800 F.4.8).
+pub fn low_pass_row(row: &mut [i32], before: &[i32], after: &[i32])
+    requires before_long { length before.now ≡ length row.old }
+    requires after_long { length after.now ≡ length row.old }
+    requires numbers { All (IsBelow (2 ^ 29)) row.old }
+    requires befores { All (IsBelow (2 ^ 30 - 1)) before.now }
+    requires afters { All (IsBelow (2 ^ 30 - 1)) after.now }
+    ensures { (k : ℕ) → k < length row.old → signed_at row.new k
+        ≡ low_pass (signed_at row.old k) (signed_at before.now k) (signed_at after.now k) }
+{
+    lift_between::<LowPass>(row, before, after);
+}
