@@ -46,6 +46,12 @@ order_for (Some order) windows = order
 order_for None true = Rpcl
 order_for None false = Lrcp
 
+-- The layers: the given number; else 8 in a file for windows, and one in another.
+abbrev pub layers_for : Option ℕ → (windows : Bool) → ℕ
+layers_for (Some layers) windows = layers
+layers_for None true = 8
+layers_for None false = 1
+
 -- The precinct sizes: the given ones; else 128 by 128 (2^7) at each resolution of a file for
 -- windows, and none in another.
 abbrev pub precincts_for : (text : List ℕ) (windows : Bool) (levels : ℕ) → Result (List (ℕ × ℕ)) Fault
@@ -59,7 +65,7 @@ container_for raw = if raw then Raw else Jp2
 unfoldable pub wishes_at : EncodeOptions → Result Wishes Fault
 wishes_at o = do
   levels ← field_at o.levels (2 ^ 8)
-  layers ← field_at o.layers (2 ^ 16)
+  layers ← field_at (layers_for o.layers o.windows) (2 ^ 16)
   tile ← tile_at o.tile_width o.tile_height
   xcb ← field_at o.block_x (2 ^ 8)
   ycb ← field_at o.block_y (2 ^ 8)

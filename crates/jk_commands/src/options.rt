@@ -2,18 +2,22 @@
 
 ghost use Rattle.std.specs.Prelude.{◌≡◌, [], None, false};
 ghost use Rattle.std.specs.String.{string_bytes};
-ghost use Rattle.jk_commands.specs.Options.{order_for};
+ghost use Rattle.jk_commands.specs.Options.{layers_for, order_for};
 
 use jk_marks::Order;
 use std::alloc::Global;
+
+/// How many layers a file has out of which windows are cut. They cost less than 1 % of the file,
+/// and a window in the first of them is a small part of its bytes.
+const WINDOW_LAYERS: u32 = 8;
 
 /// The options of an encoding, as they are given: no number of them is judged yet.
 #[derive(Debug, Drop)]
 pub struct EncodeOptions {
     /// Decomposition levels.
     pub levels: u32,
-    /// Layers.
-    pub layers: u32,
+    /// Layers, where their number is given.
+    pub layers: Option<u32>,
     /// The progression order, where one is given.
     pub order: Option<Order>,
     /// The width of a tile.
@@ -28,7 +32,7 @@ pub struct EncodeOptions {
     /// of the height, and that of the width. Without a digit none are given.
     pub precincts: String,
     /// Whether the file is one out of which windows are cut: where they aren't given, the order is
-    /// RPCL, and precincts are 128 by 128 at each resolution.
+    /// RPCL, there are 8 layers, and precincts are 128 by 128 at each resolution.
     pub windows: bool,
     /// The column of the upper left sample on the reference grid.
     pub x0: u32,
@@ -48,7 +52,7 @@ impl EncodeOptions {
     /// The options that stand where none is given.
     pub fn new(alloc: Global) -> EncodeOptions
         ensures levels { result.levels ≡ 5 }
-        ensures layers { result.layers ≡ 1 }
+        ensures layers { result.layers ≡ None }
         ensures order { result.order ≡ None }
         ensures tile { (result.tile_width ≡ None) × (result.tile_height ≡ None) }
         ensures blocks { (result.block_x ≡ 6) × (result.block_y ≡ 6) }
@@ -59,7 +63,7 @@ impl EncodeOptions {
     {
         EncodeOptions {
             levels: 5,
-            layers: 1,
+            layers: None,
             order: None,
             tile_width: None,
             tile_height: None,
@@ -73,6 +77,17 @@ impl EncodeOptions {
             sop: false,
             eph: false,
             raw: false,
+        }
+    }
+
+    /// The number of layers: the given one, or the one that stands where none is given.
+    pub fn layers(&self) -> u32
+        ensures { result ≡ layers_for self.now.layers self.now.windows }
+    {
+        match self.layers {
+            Some(layers) => layers,
+            None if self.windows => WINDOW_LAYERS,
+            None => 1,
         }
     }
 

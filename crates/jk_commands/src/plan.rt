@@ -98,7 +98,7 @@ pub fn judge(alloc: Global, options: &EncodeOptions) -> Result<Plan, Fault>
     ensures exact { Answers wishes_of result (wishes_at options.now) }
 {
     let levels = byte(options.levels)?;
-    let layers = two_bytes(options.layers)?;
+    let layers = two_bytes(options.layers())?;
     let tile = tile(options.tile_width, options.tile_height)?;
     let xcb = byte(options.block_x)?;
     let ycb = byte(options.block_y)?;

@@ -238,7 +238,7 @@ fn coding<'a>(
         Word(
             "windows",
             Form::Flag,
-            "Make windows of the file small: --order RPCL, and precincts of 128 by 128 at each resolution, unless these are given",
+            "Make windows of the file small: --order RPCL, 8 layers, and precincts of 128 by 128 at each resolution, unless these are given",
         ),
         Word(
             "no-colour",

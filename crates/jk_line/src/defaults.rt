@@ -21,7 +21,7 @@ impl Defaults {
         let options = EncodeOptions::new(alloc);
         Ok(Defaults {
             levels: options.levels.to_string(alloc)?,
-            layers: options.layers.to_string(alloc)?,
+            layers: options.layers().to_string(alloc)?,
             order: order_name(options.order()),
             block_x: options.block_x.to_string(alloc)?,
             block_y: options.block_y.to_string(alloc)?,

@@ -103,7 +103,7 @@ fn first_bad(alloc: Global, options: &EncodeOptions) -> Result<Option<String>, A
     if words.is_some() {
         return Ok(words);
     }
-    let words = outside(alloc, "--layers", options.layers, 1, 32)?;
+    let words = outside(alloc, "--layers", options.layers(), 1, 32)?;
     if words.is_some() {
         return Ok(words);
     }

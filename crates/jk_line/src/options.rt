@@ -14,6 +14,14 @@ fn number(line: &ArgMatches<'_>, name: &str, default: u32) -> u32 {
     line.get_one::<u32>(name).unwrap_or(default)
 }
 
+/// A number, where the command line gives it.
+fn given_number(line: &ArgMatches<'_>, name: &str) -> Option<u32> {
+    match line.value_source(name) {
+        Some(ValueSource::CommandLine) => line.get_one::<u32>(name),
+        _ => None,
+    }
+}
+
 /// The order of the packets, where it is given.
 fn order(line: &ArgMatches<'_>) -> Option<Order> {
     match line.value_source("order") {
@@ -27,7 +35,7 @@ pub(crate) fn encoding(alloc: Global, line: &ArgMatches<'_>) -> Result<EncodeOpt
     let given = EncodeOptions::new(alloc);
     Ok(EncodeOptions {
         levels: number(line, "levels", given.levels),
-        layers: number(line, "layers", given.layers),
+        layers: given_number(line, "layers"),
         order: order(line),
         tile_width: line.get_one::<u32>("tile-width"),
         tile_height: line.get_one::<u32>("tile-height"),
