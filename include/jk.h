@@ -1,8 +1,8 @@
 /* jk: lossless JPEG 2000 Part 1 (ITU-T T.800) on its reversible path, for C and C++.
  *
  * Every call works over the caller's memory and answers a number: JK_DONE, or why it was refused. It keeps nothing, so
- * calls may run in several threads at once, as long as none writes to what another has. docs/proved.md says what of
- * this is proved.
+ * calls may run in several threads at once, as long as none writes to what another has. docs/library.md has examples,
+ * and what of this is proved.
  *
  * No pointer may be null, not even that of an empty list, and what a call writes may not overlap what it reads.
  * Samples lie row by row and pixel by pixel, the components of a pixel side by side. */

@@ -1,4 +1,4 @@
-/* The calls of the C library over files, for tools/try-c.
+/* The calls of the C library over files, for tools/try-c and tools/library.
  *
  * convert encode IN.ppm OUT.jp2 [LEVELS LAYERS ORDER TILE_W TILE_H BLOCK_X BLOCK_Y COLOUR SOP EPH RAW [PRECINCT ..]]
  * convert decode IN.jp2 OUT.ppm [REDUCE]
