@@ -3,6 +3,7 @@ pub mod HeaderFacts
 pub mod Tiling
 pub mod FrameLaws
 pub mod MeaningLaws
+pub mod FrameHeaders
 pub mod Placing
 pub mod LoopLaws
 pub mod HeaderLaws

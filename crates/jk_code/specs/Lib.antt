@@ -9,6 +9,7 @@ pub mod Tiles
 pub mod Written
 pub mod Windows
 pub mod Fronts
+pub mod Frames
 pub mod Viewing
 pub mod ViewReading
 pub mod Stripes

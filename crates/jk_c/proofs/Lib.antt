@@ -1,0 +1,4 @@
+mod Answering
+mod Handing
+mod Pixels
+mod Spreading

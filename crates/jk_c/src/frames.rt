@@ -1,0 +1,48 @@
+//! What an image is, as C programs tell it and are told.
+
+ghost use Rattle.std.specs.Prelude.{◌≡◌, ◌↔◌, ◌*◌, IsTrue};
+ghost use Rattle.jk_c.specs.Frames.{IsKnownFrame, Fills};
+
+/// Where an image lies at a reduction, how large it is, and what its samples are.
+#[repr(C)]
+#[derive(Clone, Copy, Debug, PartialEq, Eq)]
+pub struct CallerFrame {
+    /// The column of the upper left sample on the reference grid.
+    pub x0: u32,
+    /// The row of the upper left sample on the reference grid.
+    pub y0: u32,
+    /// Samples in a row.
+    pub width: u32,
+    /// Rows.
+    pub height: u32,
+    /// 1 to 4.
+    pub components: u32,
+    /// Bits of a sample, the sign counted.
+    pub depth: u32,
+    /// 1 where samples may be negative, else 0.
+    pub is_signed: u32,
+    /// So often the image can be halved. It is told, and isn't read.
+    pub levels: u32,
+    /// Zeros.
+    pub reserved: [u32; 4],
+}
+
+/// Whether a frame is one of unsigned samples for which a list can be counted.
+pub(crate) fn is_known(frame: &CallerFrame) -> bool
+    ensures { IsTrue result ↔ IsKnownFrame frame.now }
+{
+    1 <= frame.components
+        && frame.components <= 4
+        && frame.depth <= 16
+        && frame.is_signed == 0
+        && frame.width as u64 * frame.height as u64 <= 1 << 28
+        && frame.reserved == [0; 4]
+}
+
+/// Whether a list has a sample for each component of each pixel.
+pub(crate) fn fills(frame: &CallerFrame, count: usize) -> bool
+    requires { IsKnownFrame frame.now }
+    ensures { IsTrue result ↔ Fills frame.now count }
+{
+    frame.width as usize * frame.height as usize * frame.components as usize == count
+}

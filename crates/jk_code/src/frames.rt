@@ -1,0 +1,125 @@
+//! What boxes and headers say of an image.
+
+ghost use Rattle.std.specs.Prelude.{◌≡◌, ℕ, length, IfOk, IfErr};
+ghost use Rattle.jk_math.specs.Answer.{Answers};
+ghost use Rattle.jk_math.specs.Memory.{IsMemory};
+ghost use Rattle.jk_math.specs.Picture.{Picture};
+ghost use Rattle.jk_marks.specs.Siz.{tile_count};
+ghost use Rattle.jk_geom.specs.TileShapes.{AreCodings};
+ghost use Rattle.jk_params.specs.Headers.{AreHeaders};
+ghost use Rattle.jk_window.specs.Indexing.{least_in, least_levels};
+ghost use Rattle.jk_code.specs.Meaning.{Means};
+ghost use Rattle.jk_code.specs.Frames.{headers_frame_at, codestream_frame_at, frame_at, IsFrameOfPicture};
+
+use crate::reduction::check_reduction;
+use jk_boxes::open;
+use jk_geom::Codings;
+use jk_math::Fault;
+use jk_params::{Codestream, read_codestream};
+use std::alloc::Global;
+
+/// The most decomposition levels that a tile-component may have.
+const MOST_LEVELS: u8 = 10;
+
+/// Where an image lies at a reduction, how large it is, and what its samples are.
+#[derive(Clone, Copy, Debug, PartialEq, Eq)]
+pub struct ImageFrame {
+    /// The column of the upper left sample on the reduced reference grid.
+    pub x0: u32,
+    /// The row of the upper left sample on the reduced reference grid.
+    pub y0: u32,
+    /// Samples in a row.
+    pub width: u32,
+    /// Rows.
+    pub height: u32,
+    /// How many components there are.
+    pub components: u16,
+    /// Bits of a sample, the sign counted.
+    pub depth: u8,
+    /// Whether samples may be negative.
+    pub signed: bool,
+    /// The least number of decomposition levels of a component of a tile: so often the image can be
+    /// halved.
+    pub levels: u8,
+}
+
+/// The least number of decomposition levels of components, and 10 where there are none.
+#[tactic(auto, using(crate::proofs::FrameHeaders::least_none, crate::proofs::FrameHeaders::least_more))]
+fn least_in(codings: &Codings) -> u8
+    ensures { result ≡ least_in codings.now (length codings.now) }
+{
+    let codings = codings.as_slice();
+    let mut least = MOST_LEVELS;
+    for i in 0..codings.len() {
+        least = least.min(codings[i].levels);
+    }
+    least
+}
+
+/// The least number of decomposition levels of the components of all tiles.
+#[tactic(auto, using(crate::proofs::FrameHeaders::levels_none, crate::proofs::FrameHeaders::levels_more))]
+fn least_levels(headers: &Codestream) -> u8
+    requires { (size : ℕ) × AreHeaders size headers.now }
+    ensures { result ≡ least_levels headers.now.tiles (tile_count headers.now.siz) }
+{
+    let mut least = MOST_LEVELS;
+    for number in 0..headers.tile_count() {
+        least = least.min(least_in(headers.codings(number)));
+    }
+    least
+}
+
+/// What headers say of the image at a reduction.
+#[tactic(auto, unfolding(crate::specs::Frames::headers_frame_at))]
+fn headers_frame(headers: &Codestream, reduce: u32) -> Result<ImageFrame, Fault>
+    requires { (size : ℕ) × AreHeaders size headers.now }
+    ensures { result ≡ headers_frame_at headers.now reduce }
+{
+    let area = check_reduction(headers, reduce)?;
+    let siz = headers.siz();
+    Ok(ImageFrame {
+        x0: area.x0,
+        y0: area.y0,
+        width: area.x1 - area.x0,
+        height: area.y1 - area.y0,
+        components: siz.components,
+        depth: siz.depth,
+        signed: siz.signed,
+        levels: least_levels(headers),
+    })
+}
+
+/// What the headers of a codestream say of the image at a reduction.
+#[tactic(auto, unfolding(crate::specs::Frames::codestream_frame_at))]
+fn codestream_frame(alloc: Global, bytes: &[u8], reduce: u32) -> Result<ImageFrame, Fault>
+    ensures { Answers (λ f. f) result (codestream_frame_at bytes.now reduce) }
+{
+    let headers = read_codestream(alloc, bytes)?;
+    headers_frame(&headers, reduce)
+}
+
+/// What boxes and headers of a file say of the image at a reduction.
+#[tactic(auto, unfolding(crate::specs::Frames::frame_at))]
+fn file_frame(alloc: Global, bytes: &[u8], reduce: u32) -> Result<ImageFrame, Fault>
+    ensures { Answers (λ f. f) result (frame_at bytes.now reduce) }
+{
+    let boxed = open(bytes)?;
+    codestream_frame(alloc, &bytes[boxed.start..boxed.end], reduce)
+}
+
+/// What boxes and headers of a file, a bare codestream or a JP2 file, say of the image at a
+/// reduction: of the packets none is read.
+///
+/// The first of these faults: those of the boxes; those of `read_codestream`; BadWindow for a
+/// reduction past the least number of decomposition levels, or one that leaves no sample. A file
+/// that `decode` refuses for its packets or code-blocks may have a frame.
+pub fn frame(alloc: Global, bytes: &[u8], reduce: u32) -> Result<ImageFrame, Fault>
+    // Which frame, or which fault is the first.
+    ensures exact { Answers (λ f. f) result (frame_at bytes.now reduce) }
+    // A picture that the file means at the reduction has the frame.
+    ensures means { (p : Picture) → Means bytes.now reduce p → IfOk result (λ f. IsFrameOfPicture f p) }
+    // A file that means a picture at the reduction has a frame.
+    ensures given { (p : Picture) → Means bytes.now reduce p → IfErr result IsMemory }
+{
+    file_frame(alloc, bytes, reduce)
+}

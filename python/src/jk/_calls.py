@@ -1,0 +1,61 @@
+"""The calls of the library, as include/jk.h declares them."""
+import ctypes
+import os
+from ctypes import POINTER, c_size_t, c_uint8, c_uint32, c_void_p
+
+VERSION = 100
+SHORT = 64
+
+
+class Frame(ctypes.Structure):
+    """An image: `jk_frame`."""
+
+    _fields_ = [
+        *[(name, c_uint32) for name in ("x0", "y0", "width", "height", "components", "depth", "is_signed", "levels")],
+        ("reserved", c_uint32 * 4),
+    ]
+
+
+class Coding(ctypes.Structure):
+    """How an image is encoded: `jk_coding`."""
+
+    _fields_ = [
+        *[(name, c_uint32) for name in ("levels", "layers", "order", "tile_width", "tile_height")],
+        *[(name, c_uint32) for name in ("block_width", "block_height", "precinct_count")],
+        ("precincts", c_uint8 * 8),
+        *[(name, c_uint32) for name in ("colour", "sop", "eph", "raw")],
+        ("reserved", c_uint32 * 4),
+    ]
+
+
+def _load() -> ctypes.CDLL:
+    path = os.environ.get("JK_LIBRARY") or os.path.join(os.path.dirname(os.path.abspath(__file__)), "libjk.so.0")
+    if not os.path.exists(path):
+        raise ImportError(f"{path} isn't there: tools/build-c of the repository makes it, and JK_LIBRARY names another")
+    library = ctypes.CDLL(path)
+    if library.jk_version() // 100 != VERSION // 100:
+        raise ImportError(f"{path} is version {library.jk_version()}, and this package is for {VERSION}")
+    return library
+
+
+_library = _load()
+
+
+def _call(name, *kinds):
+    call = getattr(_library, name)
+    call.argtypes, call.restype = kinds, c_uint32
+    return call
+
+
+_LIST = (c_void_p, c_size_t)
+_VIEW = (c_uint32,) * 5
+_OUT = (*_LIST, POINTER(c_size_t))
+
+info = _call("jk_info", *_LIST, c_uint32, POINTER(Frame))
+decode_u8 = _call("jk_decode_u8", *_LIST, c_uint32, *_LIST)
+decode_u16 = _call("jk_decode_u16", *_LIST, c_uint32, *_LIST)
+decode_window_u8 = _call("jk_decode_window_u8", *_LIST, *_VIEW, *_LIST)
+decode_window_u16 = _call("jk_decode_window_u16", *_LIST, *_VIEW, *_LIST)
+encode_u8 = _call("jk_encode_u8", POINTER(Frame), *_LIST, POINTER(Coding), *_OUT)
+encode_u16 = _call("jk_encode_u16", POINTER(Frame), *_LIST, POINTER(Coding), *_OUT)
+cut = _call("jk_cut", *_LIST, *_VIEW, *_OUT)

@@ -1,0 +1,122 @@
+"""What calls refuse: an exception for each fault of `jk faults`, and two for lists that don't fit."""
+from __future__ import annotations
+
+from typing import Dict, Type
+
+
+class Fault(ValueError):
+    """What a call refused, as `jk faults` lists it."""
+
+    #: The fault's number.
+    number: int = 0
+    #: What it means, in words.
+    cause: str = "an unknown fault"
+
+    @property
+    def name(self) -> str:
+        """The fault's name."""
+        return type(self).__name__
+
+    def __init__(self, cause: str = "") -> None:
+        super().__init__(f"F{self.number} {self.name}: {cause or self.cause}")
+
+
+class Memory(Fault, MemoryError):
+    number, cause = 1, "a growth of memory was refused"
+
+
+class Truncated(Fault):
+    number = 2
+    cause = "the file, a box or a tile-part ends inside something that was begun, or EOC is missing at the end"
+
+
+class BadMarker(Fault):
+    number = 3
+    cause = "a marker that can't stand here, a second one where one is allowed, or a required one absent"
+
+
+class BadLength(Fault):
+    number = 4
+    cause = "a segment's length contradicts its contents; Psot from 1 to 13; a length of SOP other than 4"
+
+
+class BadValue(Fault):
+    number, cause = 5, "a field has a value that T.800 doesn't allow"
+
+
+class Unsupported(Fault):
+    number, cause = 6, "T.800 allows it, and jk leaves it out"
+
+
+class Limit(Fault):
+    number = 7
+    cause = (
+        "past a limit of jk, as on samples, coordinates, levels, bit-planes, packets or the length of a tile-part"
+    )
+
+
+class PacketHeader(Fault):
+    number = 8
+    cause = (
+        "a stuffed bit is 1, the zero bit-planes pass Mb, a length field is wider than 32 bits, "
+        "or other bytes stand where EPH must"
+    )
+
+
+class TooManyPasses(Fault):
+    number, cause = 9, "more coding passes of a code-block than its bit-planes have"
+
+
+class CodeOutOfInterval(Fault):
+    number, cause = 10, "the code value leaves the interval of the MQ coder"
+
+
+class MissingPackets(Fault):
+    number, cause = 11, "the tile-parts of a tile end with packets left, or a tile has no tile-part"
+
+
+class SurplusBytes(Fault):
+    number, cause = 12, "bytes stand after a tile's last packet, or after EOC"
+
+
+class BadBox(Fault):
+    number, cause = 13, "the structure of the JP2 boxes is broken"
+
+
+class BadParameters(Fault):
+    number, cause = 15, "the image or a parameter is outside the profile"
+
+
+class BadWindow(Fault):
+    number = 16
+    cause = "a reduction past the least number of levels, no layer, or a window or reduced image without a sample"
+
+
+class NoSuchImage(Fault):
+    number, cause = 17, "the name isn't listed"
+
+
+class Shelf(Fault):
+    number, cause = 20, "a file can't be read or written, or a call of the shelf failed"
+
+
+class Changed(Fault):
+    number, cause = 21, "the file isn't the one that was indexed"
+
+
+class Short(Fault):
+    number, cause = 64, "the room for the result is too small"
+
+
+class Misfit(Fault):
+    number, cause = 65, "the samples are signed or wider than the array's, or the array has another length"
+
+
+#: The exceptions by number.
+BY_NUMBER: Dict[int, Type[Fault]] = {kind.number: kind for kind in Fault.__subclasses__()}
+
+
+def check(result: int) -> None:
+    """Raises the exception of what a call answered, unless it was done."""
+    if result:
+        raise BY_NUMBER.get(result, Fault)()

@@ -1,0 +1,207 @@
+"""Files as arrays, and arrays as files."""
+from __future__ import annotations
+
+import ctypes
+import os
+from dataclasses import dataclass
+from typing import Any, Optional, Sequence, Tuple, Union
+
+import numpy as np
+
+from . import _calls
+from .faults import check
+
+#: A file by its path, or its bytes.
+File = Union[str, "os.PathLike[str]", bytes, bytearray, memoryview, np.ndarray]
+#: A rectangle, counted from the upper left sample: x, y, width, height.
+Window = Tuple[int, int, int, int]
+
+ORDERS = ("LRCP", "RLCP", "RPCL", "PCRL", "CPRL")
+
+
+@dataclass(frozen=True)
+class Info:
+    """What boxes and headers of a file say of its image at a reduction."""
+
+    x0: int
+    y0: int
+    width: int
+    height: int
+    components: int
+    #: Bits of a sample, the sign counted.
+    depth: int
+    signed: bool
+    #: So often the image can be halved.
+    levels: int
+
+    @property
+    def shape(self) -> Tuple[int, ...]:
+        """The shape of the array that `read` gives."""
+        return _shape(self.height, self.width, self.components)
+
+    @property
+    def dtype(self) -> np.dtype:
+        """The type of its elements."""
+        return np.dtype(np.uint8 if self.depth <= 8 else np.uint16)
+
+
+def _shape(height: int, width: int, components: int) -> Tuple[int, ...]:
+    return (height, width) if components == 1 else (height, width, components)
+
+
+def _bytes_of(file: File) -> np.ndarray:
+    """The bytes of a file: read, or seen where they lie."""
+    if isinstance(file, (str, os.PathLike)):
+        return np.fromfile(file, np.uint8)
+    if isinstance(file, np.ndarray):
+        return np.ascontiguousarray(file).reshape(-1).view(np.uint8)
+    return np.frombuffer(file, np.uint8)
+
+
+def _list(array: np.ndarray) -> Tuple[int, int]:
+    """Where the elements lie, and how many they are."""
+    return array.ctypes.data, array.size
+
+
+def _word(number: int) -> int:
+    """A number that the library takes as it is."""
+    number = int(number)
+    if not 0 <= number < 1 << 32:
+        raise ValueError(f"{number} isn't a number from 0 to 2^32 - 1")
+    return number
+
+
+def info(file: File, reduce: int = 0) -> Info:
+    """What boxes and headers of a file say of its image, `reduce` times halved. No sample is decoded."""
+    return _info(_bytes_of(file), reduce)
+
+
+def _info(data: np.ndarray, reduce: int) -> Info:
+    frame = _calls.Frame()
+    check(_calls.info(*_list(data), _word(reduce), ctypes.byref(frame)))
+    return Info(
+        frame.x0, frame.y0, frame.width, frame.height,
+        frame.components, frame.depth, bool(frame.is_signed), frame.levels,
+    )
+
+
+def _room(told: Info, shape: Tuple[int, ...], out: Optional[np.ndarray]) -> np.ndarray:
+    if out is None:
+        return np.empty(shape, told.dtype)
+    if out.shape != shape or out.dtype != told.dtype or not out.flags.c_contiguous or not out.flags.writeable:
+        raise ValueError(f"out isn't a writable array in C order, of shape {shape} and type {told.dtype}")
+    return out
+
+
+def read(
+    file: File, reduce: int = 0, window: Optional[Window] = None, out: Optional[np.ndarray] = None
+) -> np.ndarray:
+    """The image of a file, by its path or its bytes, `reduce` times halved, or a window of it.
+
+    The array is (height, width), or (height, width, components) where there are 2 to 4 of them, of uint8 for samples
+    of at most 8 bits, else of uint16. A window (x, y, width, height) is counted on the halved image and cut with it,
+    and the rest isn't decoded. With `out`, an array of that shape and type, the samples are written there.
+    """
+    data = _bytes_of(file)
+    told = _info(data, reduce)
+    if window is None:
+        array = _room(told, told.shape, out)
+        call = _calls.decode_u8 if array.dtype == np.uint8 else _calls.decode_u16
+        check(call(*_list(data), _word(reduce), *_list(array)))
+        return array
+    x, y, width, height = (_word(number) for number in window)
+    across = max(0, min(x + width, told.width) - x)
+    down = max(0, min(y + height, told.height) - y)
+    array = _room(told, _shape(down, across, told.components), out)
+    call = _calls.decode_window_u8 if array.dtype == np.uint8 else _calls.decode_window_u16
+    check(call(*_list(data), _word(reduce), x, y, width, height, *_list(array)))
+    return array
+
+
+def cut(file: File, window: Window, reduce: int = 0) -> bytes:
+    """The file of a window (x, y, width, height) of a file, cut out without decoding: it means on the window what the
+    stored file means there, `reduce` times halved."""
+    data = _bytes_of(file)
+    view = [_word(number) for number in (reduce, *window)]
+    return _handed_out(lambda *out: _calls.cut(*_list(data), *view, *out), data.size)
+
+
+def _handed_out(call: Any, room: int) -> bytes:
+    """The bytes that a call hands out; it is asked again where the room was too small."""
+    length = ctypes.c_size_t()
+    while True:
+        out = np.empty(room, np.uint8)
+        result = call(*_list(out), ctypes.byref(length))
+        if result != _calls.SHORT:
+            check(result)
+            return out[: length.value].tobytes()
+        room = length.value
+
+
+def _coding(components: int, parameters: dict) -> _calls.Coding:
+    def taken(name: str, default: Any) -> Any:
+        return parameters.pop(name, default)
+
+    coding = _calls.Coding(levels=_word(taken("levels", 5)), layers=_word(taken("layers", 1)))
+    order = taken("order", "LRCP")
+    if order not in ORDERS:
+        raise ValueError(f"{order!r} isn't one of {', '.join(ORDERS)}")
+    coding.order = ORDERS.index(order)
+    coding.tile_width, coding.tile_height = map(_word, taken("tile", None) or (0, 0))
+    coding.block_width, coding.block_height = map(_word, taken("block", (6, 6)))
+    precincts: Sequence[Tuple[int, int]] = taken("precincts", ())
+    if len(precincts) > 8 or not all(0 <= e < 16 for pair in precincts for e in pair):
+        raise ValueError("precincts aren't at most 8 pairs of exponents from 0 to 15")
+    coding.precinct_count = len(precincts)
+    for place, (wide, high) in enumerate(precincts):
+        coding.precincts[place] = wide | high << 4
+    colour = taken("colour", None)
+    coding.colour = components == 3 if colour is None else bool(colour)
+    coding.sop, coding.eph = bool(taken("sop", False)), bool(taken("eph", False))
+    raw = taken("raw", None)
+    coding.raw = components not in (1, 3) if raw is None else bool(raw)
+    if parameters:
+        raise TypeError(f"unknown parameters: {', '.join(sorted(parameters))}")
+    return coding
+
+
+def encode(array: np.ndarray, **parameters: Any) -> bytes:
+    """The file of an array (height, width) or (height, width, components) of uint8 or uint16.
+
+    Parameters: `depth`, bits of a sample (8 or 16 by the array's type); `place`, the upper left sample's (x, y) on the
+    reference grid; `levels` (5), `layers` (1), `order` ("LRCP"), `tile` (width, height), `block` and `precincts` by
+    exponents ((6, 6), none), `colour` (with three components), `sop`, `eph`, and `raw` for a bare codestream (with 2
+    and 4 components, which JP2 doesn't hold).
+    """
+    image = np.asarray(array)
+    if image.dtype not in (np.uint8, np.uint16) or image.ndim not in (2, 3):
+        raise TypeError(f"not an image of uint8 or uint16: {image.dtype} with {image.ndim} axes")
+    image = np.ascontiguousarray(image)
+    components = 1 if image.ndim == 2 else image.shape[2]
+    depth = parameters.pop("depth", None) or 8 * image.dtype.itemsize
+    x0, y0 = parameters.pop("place", (0, 0))
+    frame = _calls.Frame(
+        x0=_word(x0), y0=_word(y0), width=image.shape[1], height=image.shape[0],
+        components=components, depth=_word(depth),
+    )
+    coding = _coding(components, parameters)
+    call = _calls.encode_u8 if image.dtype == np.uint8 else _calls.encode_u16
+    told, asked = ctypes.byref(frame), ctypes.byref(coding)
+    return _handed_out(lambda *out: call(told, *_list(image), asked, *out), image.nbytes + image.nbytes // 4 + 65536)
+
+
+def write(path: Union[str, "os.PathLike[str]"], array: np.ndarray, **parameters: Any) -> None:
+    """Writes the file of an array, with the parameters of `encode`: beside its place, and then renamed, so that a file
+    that stands there is whole."""
+    file = encode(array, **parameters)
+    part = f"{os.fspath(path)}.{os.getpid()}.tmp"
+    try:
+        with open(part, "xb") as out:
+            out.write(file)
+            out.flush()
+            os.fsync(out.fileno())
+        os.replace(part, path)
+    except BaseException:
+        if os.path.exists(part):
+            os.unlink(part)
+        raise
