@@ -7,6 +7,7 @@ pub mod Places
 pub mod Rows
 pub mod Runs
 pub mod Columns
+pub mod Closing
 pub mod Whole
 pub mod Meanings
 pub mod Laws

@@ -13,7 +13,8 @@ use Rattle.jk_math.specs.declared.fault.Fault.{Fault}
 use Rattle.jk_math.specs.declared.fault.Fault.TheVariants.{TooManyPasses}
 use Rattle.jk_math.specs.Answer.{◌>>=◌}
 use Rattle.jk_math.specs.Steps.{bind_then, refuse_then, done, ok_is}
-use Rattle.jk_model.specs.Decisions.{initial, SpellsFrom}
+use Rattle.jk_model.specs.Decisions.{initial}
+use Rattle.jk_model.specs.CodingPasses.{SpellsPassesFrom}
 use Rattle.jk_scan.specs.declared.shape.BlockShape.{BlockShape}
 use Rattle.jk_scan.specs.Neighbours.{Field, is_inside}
 use Rattle.jk_scan.specs.Moments.{number, visits, pass_of, moment, is_coded}
@@ -237,7 +238,7 @@ held_like s planes (suc n) z q h d l x y i =
     shown : (i : Bool) (m : ℕ) → i ≡ true → 0 < m → (i && nat_lt 0 m) ≡ true
     shown i m e h = grind (arith, nat_tests)
 
-spelled_all : (s : BlockShape) (planes passes : ℕ) (bytes : List ℕ) (q : Field ℤ) → IsBlockMeaning s planes passes bytes q → SpellsFrom bytes initial (flat_map (λ ds. ds) (pass_decisions s planes passes q))
+spelled_all : (s : BlockShape) (planes passes : ℕ) (bytes : List ℕ) (q : Field ℤ) → IsBlockMeaning s planes passes bytes q → SpellsPassesFrom s.style.reset bytes initial (pass_decisions s planes passes q)
 unfolding pass_decisions
 spelled_all s planes zero bytes q m = tt
 spelled_all s planes (suc n) bytes q m = m.spelled (omega arith)

@@ -1,5 +1,5 @@
 -- What the bytes of a block mean, and what their first parts mean.
-use Rattle.std.proofs.Common.{◌≡◌, ℕ, zero, suc, ◌+◌, ◌-◌, ◌*◌, ◌/◌, ◌%◌, ◌^◌, ◌<◌, ◌≤◌, Bool, true, false, cond, List, [], ◌++◌, length, get_or, take, min, ℤ, pos, negsuc, unsigned_abs, refl, sym, ap, ◌∙◌, subst, inl, inr, map, append_assoc, Ok, arith}
+use Rattle.std.proofs.Common.{◌≡◌, ℕ, zero, suc, ◌+◌, ◌-◌, ◌*◌, ◌/◌, ◌%◌, ◌^◌, ◌<◌, ◌≤◌, Bool, true, false, cond, List, [], ◌∷◌, ◌++◌, length, get_or, take, min, ℤ, pos, negsuc, unsigned_abs, refl, sym, ap, ◌∙◌, subst, inl, inr, map, append_assoc, Ok, arith}
 use Rattle.std.specs.Prelude.{◌&&◌, nat_eq, nat_lt, nat_le}
 use Rattle.std.specs.Int.{is_negative}
 use Rattle.std.specs.List.{range_with_len}
@@ -10,18 +10,19 @@ use Rattle.std.proofs.lemmas.List.FromFn.{get_or-map-range_with_len, length-map-
 use Rattle.std.proofs.lemmas.Nat.{pow_pos, div-add-mod'}
 use Rattle.jk_math.specs.Steps.{done}
 use Rattle.jk_model.specs.Code.{byte_at, is_last}
-use Rattle.jk_model.specs.Decisions.{initial, Spells}
-use Rattle.jk_model.proofs.Laws.{spells-split, is_last-is}
+use Rattle.jk_model.specs.Decisions.{initial}
+use Rattle.jk_model.specs.CodingPasses.{SpellsPasses}
+use Rattle.jk_model.proofs.Laws.{passes-split, is_last-is}
 use Rattle.jk_mqenc.specs.Encoded.{written_by, finished}
 use Rattle.jk_mqenc.proofs.Laws.{finished-spells, finished-prefix, finished-shorter, finished-unmarked, written-grows}
 use Rattle.jk_scan.specs.declared.shape.BlockShape.{BlockShape}
 use Rattle.jk_scan.specs.Neighbours.{Field, is_inside}
 use Rattle.jk_scan.specs.Moments.{visits, pass_of, is_coded}
-use Rattle.jk_scan.specs.Passes.{Decided, plane_decisions}
+use Rattle.jk_scan.specs.Passes.{Decided}
 use Rattle.jk_scan.proofs.Laws.{agree_coded, cases_of}
-use Rattle.jk_block.specs.Meaning.{plane_of, kind_of, plane_at, pass_decisions, with_sign, above, cut, IsBlockMeaning, values_of, value_in}
+use Rattle.jk_block.specs.Meaning.{plane_of, kind_of, plane_at, whole_decisions, pass_decisions, with_sign, above, cut, IsBlockMeaning, values_of, value_in}
 use Rattle.jk_block.specs.Reading.{Progress, block_at}
-use Rattle.jk_block.specs.BlockWritten.{greatest, pass_count, decisions_upto, marks_upto, bytes_of, Coded, coded}
+use Rattle.jk_block.specs.BlockWritten.{greatest, pass_count, marks_upto, bytes_of, Coded, coded}
 use Rattle.jk_block.proofs.Stages.{mags}
 use Rattle.jk_block.proofs.Seeing.{lit_is}
 use Rattle.jk_block.proofs.Whole.{plane_negative, Done, DoneLike, passes_more, passes_onward, passes_back, passes_only}
@@ -69,7 +70,7 @@ cut_held_of s planes (suc n) z q d l = record {
 
 -- Bytes that spell the decisions of the first passes mean what these passes code of the block.
 pub spelled_means : (s : BlockShape) (planes n : ℕ) (bytes : List ℕ) (q : Field ℤ) → n ≤ 3 * planes - 2 → ((x y : ℕ) → is_inside s x y ≡ true → unsigned_abs (q x y) < 2 ^ planes)
-    → Spells bytes (decisions_upto s planes n q) → IsBlockMeaning s planes n bytes (cut s planes n q)
+    → SpellsPasses s.style.reset bytes (pass_decisions s planes n q) → IsBlockMeaning s planes n bytes (cut s planes n q)
 spelled_means s planes n bytes q few small spelled =
     let all = passes_only bytes s planes n q few small spelled in
     let z = all.last in
@@ -106,35 +107,35 @@ cut_whole s (suc p) q small x y i =
 
 -- the decisions of some passes, and the others
 pub record Split (s : BlockShape) (planes n m : ℕ) (q : Field ℤ) : Type 0 where
-  pub rest : Decided
-  pub is : decisions_upto s planes m q ≡ decisions_upto s planes n q ++ rest
+  pub rest : List Decided
+  pub is : pass_decisions s planes m q ≡ pass_decisions s planes n q ++ rest
 
 pub split_at : (s : BlockShape) (planes n k m : ℕ) (q : Field ℤ) → n + k ≡ m → Split s planes n m q
 split_at s planes n zero m q e = record {
   rest = [];
-  is = ap (λ m. decisions_upto s planes m q) (let f : m ≡ n = omega arith in f) ∙ sym (append-nil (decisions_upto s planes n q));
+  is = ap (λ m. pass_decisions s planes m q) (let f : m ≡ n = omega arith in f) ∙ sym (append-nil (pass_decisions s planes n q));
 }
 split_at s planes n (suc k) m q e =
     let before = split_at s planes n k (n + k) q refl in
-    let last = plane_decisions s (plane_at s (plane_of planes (n + k)) q) (kind_of (n + k)) in
+    let last = whole_decisions s (plane_at s (plane_of planes (n + k)) q) (kind_of (n + k)) in
     record {
-      rest = before.rest ++ last;
-      is = ap (λ m. decisions_upto s planes m q) (let f : m ≡ suc (n + k) = omega arith in f) ∙ passes_more s planes (n + k) q ∙ ap (λ (ds : Decided). ds ++ last) before.is ∙ append_assoc (decisions_upto s planes n q) before.rest last;
+      rest = before.rest ++ last ∷ [];
+      is = ap (λ m. pass_decisions s planes m q) (let f : m ≡ suc (n + k) = omega arith in f) ∙ passes_more s planes (n + k) q ∙ ap (λ (dss : List Decided). dss ++ last ∷ []) before.is ∙ append_assoc (pass_decisions s planes n q) before.rest (last ∷ []);
     }
 
 pub splits : (s : BlockShape) (planes n m : ℕ) (q : Field ℤ) → n ≤ m → Split s planes n m q
 splits s planes n m q h = split_at s planes n (m - n) m q (omega arith)
 
 -- the mark after the n-th pass
-pub mark_is : (s : BlockShape) (planes passes n : ℕ) (q : Field ℤ) → 1 ≤ n → n ≤ passes → get_or (marks_upto s planes passes q) (n - 1) 0 ≡ written_by (decisions_upto s planes n q)
+pub mark_is : (s : BlockShape) (planes passes n : ℕ) (q : Field ℤ) → 1 ≤ n → n ≤ passes → get_or (marks_upto s planes passes q) (n - 1) 0 ≡ written_by s.style.reset (pass_decisions s planes n q)
 unfolding marks_upto
 mark_is s planes passes n q l h =
-    get_or-map-range_with_len (λ n. written_by (decisions_upto s planes (n + 1) q)) 0 passes (n - 1) (n - 1) 0 (omega arith) (omega arith)
-    ∙ ap (λ n. written_by (decisions_upto s planes n q)) (let e : n - 1 + 1 ≡ n = omega arith in e)
+    get_or-map-range_with_len (λ n. written_by s.style.reset (pass_decisions s planes (n + 1) q)) 0 passes (n - 1) (n - 1) 0 (omega arith) (omega arith)
+    ∙ ap (λ n. written_by s.style.reset (pass_decisions s planes n q)) (let e : n - 1 + 1 ≡ n = omega arith in e)
 
 pub marks_length : (s : BlockShape) (planes passes : ℕ) (q : Field ℤ) → length (marks_upto s planes passes q) ≡ passes
 unfolding marks_upto
-marks_length s planes passes q = length-map-range_with_len (λ n. written_by (decisions_upto s planes (n + 1) q)) 0 passes
+marks_length s planes passes q = length-map-range_with_len (λ n. written_by s.style.reset (pass_decisions s planes (n + 1) q)) 0 passes
 
 -- marks don't decrease
 pub marks_rise : (s : BlockShape) (planes passes i j : ℕ) (q : Field ℤ) → i ≤ j → j < passes → get_or (marks_upto s planes passes q) i 0 ≤ get_or (marks_upto s planes passes q) j 0
@@ -143,54 +144,54 @@ marks_rise s planes passes i j q h l =
     let n = mark_is s planes passes (j + 1) q (omega arith) (omega arith) in
     let at : (k : ℕ) → get_or (marks_upto s planes passes q) (k + 1 - 1) 0 ≡ get_or (marks_upto s planes passes q) k 0 = λ k. ap (λ k. get_or (marks_upto s planes passes q) k 0) (omega arith) in
     let p = splits s planes (i + 1) (j + 1) q (omega arith) in
-    let g = written-grows (decisions_upto s planes (i + 1) q) p.rest in
-    let e = ap written_by p.is in
+    let g = written-grows s.style.reset (pass_decisions s planes (i + 1) q) p.rest in
+    let e = ap (written_by s.style.reset) p.is in
     omega (arith, m, n, at i, at j, g, e)
 
-pub bytes_some : (s : BlockShape) (planes passes : ℕ) (q : Field ℤ) → 0 < passes → bytes_of s planes passes q ≡ finished (decisions_upto s planes passes q)
+pub bytes_some : (s : BlockShape) (planes passes : ℕ) (q : Field ℤ) → 0 < passes → bytes_of s planes passes q ≡ finished s.style.reset (pass_decisions s planes passes q)
 unfolding bytes_of
-bytes_some s planes passes q h = ap (λ b. cond b [] (finished (decisions_upto s planes passes q))) (let e : nat_eq passes 0 ≡ false = grind (arith, nat_tests) in e)
+bytes_some s planes passes q h = ap (λ b. cond b [] (finished s.style.reset (pass_decisions s planes passes q))) (let e : nat_eq passes 0 ≡ false = grind (arith, nat_tests) in e)
 
 pub bytes_none : (s : BlockShape) (planes : ℕ) (q : Field ℤ) → bytes_of s planes 0 q ≡ []
 unfolding bytes_of
 bytes_none s planes q = refl
 
 -- all bytes spell the decisions of all passes
-pub all_spell : (s : BlockShape) (planes passes : ℕ) (q : Field ℤ) → 0 < passes → Spells (bytes_of s planes passes q) (decisions_upto s planes passes q)
-all_spell s planes passes q h = subst (λ (b : List ℕ). Spells b (decisions_upto s planes passes q)) (sym (bytes_some s planes passes q h)) (finished-spells (decisions_upto s planes passes q))
+pub all_spell : (s : BlockShape) (planes passes : ℕ) (q : Field ℤ) → 0 < passes → SpellsPasses s.style.reset (bytes_of s planes passes q) (pass_decisions s planes passes q)
+all_spell s planes passes q h = subst (λ (b : List ℕ). SpellsPasses s.style.reset b (pass_decisions s planes passes q)) (sym (bytes_some s planes passes q h)) (finished-spells s.style.reset (pass_decisions s planes passes q))
 
 -- and those of the first ones
-pub all_spell_first : (s : BlockShape) (planes passes n : ℕ) (q : Field ℤ) → 1 ≤ n → n ≤ passes → Spells (bytes_of s planes passes q) (decisions_upto s planes n q)
+pub all_spell_first : (s : BlockShape) (planes passes n : ℕ) (q : Field ℤ) → 1 ≤ n → n ≤ passes → SpellsPasses s.style.reset (bytes_of s planes passes q) (pass_decisions s planes n q)
 all_spell_first s planes passes n q l h =
     let p = splits s planes n passes q h in
     let b = bytes_of s planes passes q in
-    (spells-split b initial (decisions_upto s planes n q) p.rest (subst (λ (ds : Decided). Spells b ds) p.is (all_spell s planes passes q (omega arith)))).0
+    (passes-split s.style.reset b initial (pass_decisions s planes n q) p.rest (subst (λ (dss : List Decided). SpellsPasses s.style.reset b dss) p.is (all_spell s planes passes q (omega arith)))).0
 
 -- What is long enough spells the decisions of the first passes.
 pub part_spells : (s : BlockShape) (planes passes n z : ℕ) (q : Field ℤ) → 1 ≤ n → n ≤ passes → min (length (bytes_of s planes passes q)) (get_or (marks_upto s planes passes q) (n - 1) 0 + 4) ≤ z
-    → Spells (take z (bytes_of s planes passes q)) (decisions_upto s planes n q)
+    → SpellsPasses s.style.reset (take z (bytes_of s planes passes q)) (pass_decisions s planes n q)
 part_spells s planes passes n z q l h long =
     let b = bytes_of s planes passes q in
-    let ds = decisions_upto s planes n q in
+    let ds = pass_decisions s planes n q in
     let m = mark_is s planes passes n q l h in
     elim (cases_lt z (length b)) [
       | inl less ↦
           let p = splits s planes n passes q h in
-          let same : b ≡ finished (ds ++ p.rest) = bytes_some s planes passes q (omega arith) ∙ ap finished p.is in
-          subst (λ (b : List ℕ). Spells (take z b) ds) (sym same) (finished-prefix ds p.rest z (omega (arith, m, less, long)))
-      | inr all ↦ subst (λ (b : List ℕ). Spells b ds) (sym (take_all z b all)) (all_spell_first s planes passes n q l h)
+          let same : b ≡ finished s.style.reset (ds ++ p.rest) = bytes_some s planes passes q (omega arith) ∙ ap (finished s.style.reset) p.is in
+          subst (λ (b : List ℕ). SpellsPasses s.style.reset (take z b) ds) (sym same) (finished-prefix s.style.reset ds p.rest z (omega (arith, m, less, long)))
+      | inr all ↦ subst (λ (b : List ℕ). SpellsPasses s.style.reset b ds) (sym (take_all z b all)) (all_spell_first s planes passes n q l h)
     ]
 
 -- the last byte isn't FF
-last_other : (ds : Decided) (z : ℕ) → length (finished ds) ≤ z → get_or (finished ds) (z - 1) 0 ≡ 255 → ⊥
-last_other ds z h e =
-    let b = finished ds in
+last_other : (r : Bool) (dss : List Decided) (z : ℕ) → length (finished r dss) ≤ z → get_or (finished r dss) (z - 1) 0 ≡ 255 → ⊥
+last_other r dss z h e =
+    let b = finished r dss in
     elim (cases_lt (z - 1) (length b)) [
       | inl less ↦
           let here : byte_at b (z - 1) ≡ 255 = get_or_default b (z - 1) 255 0 less ∙ e in
           let after : byte_at b (z - 1 + 1) ≡ 255 = get_or_past b (z - 1 + 1) 255 (omega (arith, less, h)) in
           let last : is_last b (z - 1) ≡ true = is_last-is b (z - 1) ∙ both (byte_at b (z - 1)) (byte_at b (z - 1 + 1)) here after in
-          let no = finished-unmarked ds (z - 1) less in
+          let no = finished-unmarked r dss (z - 1) less in
           let c : true ≡ false = sym last ∙ no in absurd cc
       | inr past ↦ let g = get_or_past b (z - 1) 0 past in omega (arith, g, e)
     ]
@@ -200,16 +201,16 @@ last_other ds z h e =
 
 -- So does such a part without its last byte, if that is FF.
 pub shorter_spells : (s : BlockShape) (planes passes n z : ℕ) (q : Field ℤ) → 1 ≤ n → n ≤ passes → min (length (bytes_of s planes passes q)) (get_or (marks_upto s planes passes q) (n - 1) 0 + 4) ≤ z
-    → get_or (bytes_of s planes passes q) (z - 1) 0 ≡ 255 → Spells (take (z - 1) (bytes_of s planes passes q)) (decisions_upto s planes n q)
+    → get_or (bytes_of s planes passes q) (z - 1) 0 ≡ 255 → SpellsPasses s.style.reset (take (z - 1) (bytes_of s planes passes q)) (pass_decisions s planes n q)
 shorter_spells s planes passes n z q l h long e =
     let b = bytes_of s planes passes q in
-    let ds = decisions_upto s planes n q in
+    let ds = pass_decisions s planes n q in
     let m = mark_is s planes passes n q l h in
     let p = splits s planes n passes q h in
-    let same : b ≡ finished (ds ++ p.rest) = bytes_some s planes passes q (omega arith) ∙ ap finished p.is in
+    let same : b ≡ finished s.style.reset (ds ++ p.rest) = bytes_some s planes passes q (omega arith) ∙ ap (finished s.style.reset) p.is in
     elim (cases_lt z (length b)) [
-      | inl less ↦ subst (λ (b : List ℕ). Spells (take (z - 1) b) ds) (sym same) (finished-shorter ds p.rest z (omega (arith, m, less, long)) (subst (λ (b : List ℕ). get_or b (z - 1) 0 ≡ 255) same e))
-      | inr all ↦ absurd (last_other (ds ++ p.rest) z (subst (λ (b : List ℕ). length b ≤ z) same all) (subst (λ (b : List ℕ). get_or b (z - 1) 0 ≡ 255) same e))
+      | inl less ↦ subst (λ (b : List ℕ). SpellsPasses s.style.reset (take (z - 1) b) ds) (sym same) (finished-shorter s.style.reset ds p.rest z (omega (arith, m, less, long)) (subst (λ (b : List ℕ). get_or b (z - 1) 0 ≡ 255) same e))
+      | inr all ↦ absurd (last_other s.style.reset (ds ++ p.rest) z (subst (λ (b : List ℕ). length b ≤ z) same all) (subst (λ (b : List ℕ). get_or b (z - 1) 0 ≡ 255) same e))
     ]
 
 -- The block's planes hold its magnitudes.
@@ -297,7 +298,7 @@ pub marks_none : (s : BlockShape) (planes : ℕ) (q : Field ℤ) → marks_upto 
 unfolding marks_upto
 marks_none s planes q = refl
 
-pub decisions_none : (s : BlockShape) (planes : ℕ) (q : Field ℤ) → decisions_upto s planes 0 q ≡ []
+pub decisions_none : (s : BlockShape) (planes : ℕ) (q : Field ℤ) → pass_decisions s planes 0 q ≡ []
 unfolding pass_decisions
 decisions_none s planes q = refl
 

@@ -7,6 +7,8 @@ use Rattle.jk_math.specs.declared.fault.Fault.TheVariants.{CodeOutOfInterval}
 use Rattle.jk_math.specs.Answer.{◌>>=◌}
 use Rattle.jk_math.specs.Steps.{done, ok_is}
 use Rattle.jk_model.specs.Decisions.{State, Decision, IsWithin, is_within, bit_at, after, state_after, SpellsFrom}
+use Rattle.jk_model.specs.CodingPasses.{begun_by, state_after_passes, SpellsPassesFrom}
+use Rattle.jk_model.proofs.Laws.{passes-join, state_after_passes-joined}
 use Rattle.jk_mqdec.specs.Answers.{answer, next}
 use Rattle.jk_block.specs.Reading.{decide}
 
@@ -34,6 +36,17 @@ pub told_join : (bytes : List ℕ) (s s' s'' : State) (ds es : List Decision) �
 told_join bytes s s' s'' ds es h g = record {
   spelled = spells_join bytes s ds es h.spelled (subst (λ (x : State). SpellsFrom bytes x es) h.state g.spelled);
   state = g.state ∙ ap (λ (x : State). state_after bytes x es) h.state ∙ sym (state_join bytes s ds es);
+}
+
+-- The same pass by pass.
+pub record ToldPasses (reset : Bool) (bytes : List ℕ) (s : State) (dss : List (List Decision)) (s' : State) : Type 0 where
+  pub spelled : SpellsPassesFrom reset bytes s dss
+  pub state : s' ≡ state_after_passes reset bytes s dss
+
+pub told_more : (r : Bool) (bytes : List ℕ) (s s' s'' : State) (dss : List (List Decision)) (ds : List Decision) → ToldPasses r bytes s dss s' → Told bytes (begun_by r s') ds s'' → ToldPasses r bytes s (dss ++ ds ∷ []) s''
+told_more r bytes s s' s'' dss ds h g = record {
+  spelled = passes-join r bytes s dss (ds ∷ []) h.spelled (subst (λ (x : State). SpellsFrom bytes (begun_by r x) ds) h.state g.spelled, tt);
+  state = g.state ∙ ap (λ (x : State). state_after bytes (begun_by r x) ds) h.state ∙ sym (state_after_passes-joined r bytes s dss (ds ∷ []));
 }
 
 within : (bytes : List ℕ) (s : State) → is_within bytes s ≡ true → IsWithin bytes s

@@ -1,8 +1,7 @@
 -- Whole passes, bit-planes and blocks.
-use Rattle.std.proofs.Common.{◌≡◌, ℕ, zero, suc, ◌+◌, ◌-◌, ◌*◌, ◌/◌, ◌%◌, ◌^◌, ◌<◌, ◌≤◌, Bool, true, false, cond, List, [], ◌∷◌, ◌++◌, Result, Ok, ℤ, unsigned_abs, refl, sym, ap, ◌∙◌, subst, inl, inr, append_assoc, append-nil, arith}
+use Rattle.std.proofs.Common.{◌≡◌, ℕ, zero, suc, ◌+◌, ◌-◌, ◌*◌, ◌/◌, ◌%◌, ◌^◌, ◌<◌, ◌≤◌, Bool, true, false, cond, List, [], ◌∷◌, ◌++◌, Result, Ok, ℤ, unsigned_abs, refl, sym, ap, ◌∙◌, subst, inl, inr, arith}
 use Rattle.std.specs.Prelude.{◌&&◌, ◌||◌, nat_eq, nat_lt, nat_le}
 use Rattle.std.specs.Int.{is_negative}
-use Rattle.std.specs.List.{flat_map}
 use Rattle.std.proofs.lemmas.Bool.{cases_lt}
 use Rattle.std.proofs.lemmas.Bool.Decides.{nat_tests}
 use Rattle.std.proofs.lemmas.Nat.{pow_pos, div-mul-add}
@@ -12,19 +11,23 @@ use Rattle.jk_math.specs.declared.fault.Fault.{Fault}
 use Rattle.jk_math.specs.Answer.{◌>>=◌}
 use Rattle.jk_math.specs.Steps.{bind_then, ok_is}
 use Rattle.jk_model.specs.Decisions.{State, initial, state_after, SpellsFrom}
+use Rattle.jk_model.specs.CodingPasses.{begun_by, state_after_passes, SpellsPassesFrom}
+use Rattle.jk_model.proofs.Laws.{passes-split, state_after_passes-joined}
 use Rattle.jk_scan.specs.declared.shape.BlockShape.{BlockShape}
 use Rattle.jk_scan.specs.Neighbours.{Field, is_inside}
 use Rattle.jk_scan.specs.Moments.{number, stripes, visits, spread, moment, is_coded}
 use Rattle.jk_scan.specs.Passes.{Decided, joined, column_decisions, plane_decisions}
 use Rattle.jk_scan.proofs.Laws.{significant_is, cases_of, number_below, empty_spread}
-use Rattle.jk_block.specs.Meaning.{plane_of, kind_of, plane_at, pass_decisions}
-use Rattle.jk_block.specs.Reading.{Progress, blank, times, column_at, stripe_at, plane_pass_at, begun, pass_at}
-use Rattle.jk_block.proofs.Spelling.{Told, told_none, told_join, spells_parts, state_join}
-use Rattle.jk_block.proofs.Stages.{mags, Cut, Like, Stage, stage_times, stage_at}
+use Rattle.jk_block.specs.Symbols.{closing_decisions}
+use Rattle.jk_block.specs.Meaning.{plane_of, kind_of, plane_at, whole_decisions, pass_decisions}
+use Rattle.jk_block.specs.Reading.{Progress, blank, times, column_at, stripe_at, plane_pass_at, begun, with_coder, with_contexts, closing_at, pass_at}
+use Rattle.jk_block.proofs.Spelling.{ToldPasses, told_more}
+use Rattle.jk_block.proofs.Stages.{mags, Cut, Like, Stage, stage_then, stage_times, stage_at}
 use Rattle.jk_block.proofs.Changes.{mags_inside, mags_outside}
 use Rattle.jk_block.proofs.Coding.{with_visited}
 use Rattle.jk_block.proofs.Rows.{start}
 use Rattle.jk_block.proofs.Columns.{stage_column}
+use Rattle.jk_block.proofs.Closing.{stage_closing}
 
 -- a pass over a bit-plane
 pub stage_plane : (bytes : List ℕ) (s : BlockShape) (b pass : ℕ) → pass < 3 → Stage bytes s b (pass * visits s) (pass * visits s + visits s) (plane_pass_at bytes s b pass) (λ p. plane_decisions s p pass)
@@ -43,6 +46,14 @@ stage_plane bytes s b pass few =
     stage_at bytes s b (u x) (u x + 4) (u x) (u (suc x)) (column_at bytes s b pass x i) (λ p. column_decisions s p pass x i) refl
     (let e : pass * (4 * (s.width * stripes s)) + 4 * (s.width * i + x) + 4 ≡ pass * (4 * (s.width * stripes s)) + 4 * (s.width * i + suc x) = omega arith in e)
     (stage_column bytes s b pass x i l h few)))))
+
+-- a pass with what ends it
+pub stage_pass : (bytes : List ℕ) (s : BlockShape) (b pass : ℕ) → pass < 3
+    → Stage bytes s b (pass * visits s) (pass * visits s + visits s) (λ z. plane_pass_at bytes s b pass z >>= closing_at bytes s.style pass) (λ p. whole_decisions s p pass)
+stage_pass bytes s b pass few =
+    let t = pass * visits s in
+    stage_then bytes s b t (t + visits s) (t + visits s) (plane_pass_at bytes s b pass) (closing_at bytes s.style pass) (λ p. plane_decisions s p pass) (λ p. closing_decisions s.style pass)
+    (stage_plane bytes s b pass few) (stage_closing bytes s b (t + visits s) pass)
 
 inside_or : {R : Type 0} (b : Bool) → (b ≡ true → R) → (b ≡ false → R) → R
 inside_or true f g = f refl
@@ -304,14 +315,30 @@ ready_back s planes (suc n) z q h d l =
     moment_same : (k : ℕ) → kind_of n ≡ k → kind_of n * visits s + visits s ≡ suc k * visits s
     moment_same k e = ap (λ k. k * visits s + visits s) e ∙ (let g : k * visits s + visits s ≡ suc k * visits s = omega arith in g)
 
--- the lists of the passes, joined
-flat_more : (xs : List Decided) (ds : Decided) → flat_map (λ ds. ds) (xs ++ ds ∷ []) ≡ flat_map (λ ds. ds) xs ++ ds
-flat_more [] ds = append-nil ds
-flat_more (x ∷ xs) ds = ap (λ (r : Decided). x ++ r) (flat_more xs ds) ∙ sym (append_assoc x (flat_map (λ ds. ds) xs) ds)
-
-pub passes_more : (s : BlockShape) (planes n : ℕ) (q : Field ℤ) → flat_map (λ ds. ds) (pass_decisions s planes (suc n) q) ≡ flat_map (λ ds. ds) (pass_decisions s planes n q) ++ plane_decisions s (plane_at s (plane_of planes n) q) (kind_of n)
+-- the passes, and one more
+pub passes_more : (s : BlockShape) (planes n : ℕ) (q : Field ℤ) → pass_decisions s planes (suc n) q ≡ pass_decisions s planes n q ++ whole_decisions s (plane_at s (plane_of planes n) q) (kind_of n) ∷ []
 unfolding pass_decisions
-passes_more s planes n q = flat_more (pass_decisions s planes n q) (plane_decisions s (plane_at s (plane_of planes n) q) (kind_of n))
+passes_more s planes n q = refl
+
+-- what is held doesn't hang on the contexts
+pub contexts_done : (s : BlockShape) (planes n : ℕ) (z : Progress) → Done s planes n z → Done s planes n (with_contexts s z)
+unfolding Done
+contexts_done s planes zero z d = ap (λ (w : Progress). with_contexts s w) d ∙ first s.style.reset
+  where
+    first : (r : Bool) → with_coder blank (begun_by r blank.coder) ≡ blank
+    first true = refl
+    first false = refl
+contexts_done s planes (suc n) z d = record { whole = d.whole; even = d.even; visited = d.visited }
+
+pub contexts_like : (s : BlockShape) (planes n : ℕ) (z : Progress) (q : Field ℤ) → DoneLike s planes n z q → DoneLike s planes n (with_contexts s z) q
+unfolding DoneLike
+contexts_like s planes zero z q l = l
+contexts_like s planes (suc n) z q l = record { agree = l.agree; outside = l.outside; signs = l.signs }
+
+like_contexts : (s : BlockShape) (planes n : ℕ) (z : Progress) (q : Field ℤ) → DoneLike s planes n (with_contexts s z) q → DoneLike s planes n z q
+unfolding DoneLike
+like_contexts s planes zero z q l = l
+like_contexts s planes (suc n) z q l = record { agree = l.agree; outside = l.outside; signs = l.signs }
 
 -- passes one after another
 pub passes_onward : (bytes : List ℕ) (s : BlockShape) (planes n : ℕ) (z : Progress) → n ≤ 3 * planes - 2 → times n (pass_at bytes s planes) blank ≡ Ok z → Done s planes n z
@@ -319,49 +346,52 @@ unfolding times Done pass_at
 passes_onward bytes s planes zero z h e = sym (ok_is blank z e)
 passes_onward bytes s planes (suc n) z h e =
     bind_then (times n (pass_at bytes s planes) blank) (pass_at bytes s planes n) z e (λ m a r.
-    (stage_plane bytes s (plane_of planes n) (kind_of n) (kind_few n)).onward (begun (kind_of n) m) z (ready s planes n m (omega arith) (passes_onward bytes s planes n m (omega arith) a)) r)
+    (stage_pass bytes s (plane_of planes n) (kind_of n) (kind_few n)).onward (begun (kind_of n) (with_contexts s m)) z
+    (ready s planes n (with_contexts s m) (omega arith) (contexts_done s planes n m (passes_onward bytes s planes n m (omega arith) a))) r)
 
 pub record AllTold (bytes : List ℕ) (s : BlockShape) (planes n : ℕ) (z : Progress) (q : Field ℤ) : Type 0 where
   pub small : (x y : ℕ) → is_inside s x y ≡ true → unsigned_abs (q x y) < 2 ^ planes
-  pub told : Told bytes initial (flat_map (λ ds. ds) (pass_decisions s planes n q)) z.coder
+  pub told : ToldPasses s.style.reset bytes initial (pass_decisions s planes n q) z.coder
 
 pub passes_back : (bytes : List ℕ) (s : BlockShape) (planes n : ℕ) (z : Progress) (q : Field ℤ) → n ≤ 3 * planes - 2 → times n (pass_at bytes s planes) blank ≡ Ok z → DoneLike s planes n z q → AllTold bytes s planes n z q
 unfolding times Done DoneLike pass_at pass_decisions
-passes_back bytes s planes zero z q h e l = record { small = l; told = subst (λ (w : Progress). Told bytes initial [] w.coder) (ok_is blank z e) (told_none bytes initial) }
+passes_back bytes s planes zero z q h e l = record { small = l; told = subst (λ (w : Progress). ToldPasses s.style.reset bytes initial [] w.coder) (ok_is blank z e) (record { spelled = tt; state = refl }) }
 passes_back bytes s planes (suc n) z q h e l =
     bind_then (times n (pass_at bytes s planes) blank) (pass_at bytes s planes n) z e (λ m a r.
-    let before = passes_onward bytes s planes n m (omega arith) a in
+    let w = with_contexts s m in
+    let before = contexts_done s planes n m (passes_onward bytes s planes n m (omega arith) a) in
     let p = plane_at s (plane_of planes n) q in
-    let back = (stage_plane bytes s (plane_of planes n) (kind_of n) (kind_few n)).back (begun (kind_of n) m) z (ready s planes n m (omega arith) before) r p l in
-    let earlier = passes_back bytes s planes n m q (omega arith) a (ready_back s planes n m q (omega arith) before back.0) in
+    let back = (stage_pass bytes s (plane_of planes n) (kind_of n) (kind_few n)).back (begun (kind_of n) w) z (ready s planes n w (omega arith) before) r p l in
+    let earlier = passes_back bytes s planes n m q (omega arith) a (like_contexts s planes n m q (ready_back s planes n w q (omega arith) before back.0)) in
     record {
       small = earlier.small;
-      told = subst (λ (ds : Decided). Told bytes initial ds z.coder) (sym (passes_more s planes n q))
-          (told_join bytes initial m.coder z.coder (flat_map (λ ds. ds) (pass_decisions s planes n q)) (plane_decisions s p (kind_of n)) earlier.told back.1);
+      told = told_more s.style.reset bytes initial m.coder z.coder (pass_decisions s planes n q) (whole_decisions s p (kind_of n)) earlier.told back.1;
     })
 
 pub record AllGo (bytes : List ℕ) (s : BlockShape) (planes n : ℕ) (q : Field ℤ) : Type 0 where
   pub last : Progress
   pub is : times n (pass_at bytes s planes) blank ≡ Ok last
   pub like : DoneLike s planes n last q
-  pub coder_is : last.coder ≡ state_after bytes initial (flat_map (λ ds. ds) (pass_decisions s planes n q))
+  pub coder_is : last.coder ≡ state_after_passes s.style.reset bytes initial (pass_decisions s planes n q)
 
 pub passes_only : (bytes : List ℕ) (s : BlockShape) (planes n : ℕ) (q : Field ℤ) → n ≤ 3 * planes - 2 → ((x y : ℕ) → is_inside s x y ≡ true → unsigned_abs (q x y) < 2 ^ planes)
-    → SpellsFrom bytes initial (flat_map (λ ds. ds) (pass_decisions s planes n q)) → AllGo bytes s planes n q
+    → SpellsPassesFrom s.style.reset bytes initial (pass_decisions s planes n q) → AllGo bytes s planes n q
 unfolding times Done DoneLike pass_at pass_decisions
 passes_only bytes s planes zero q h small spelled = record { last = blank; is = refl; like = small; coder_is = refl }
 passes_only bytes s planes (suc n) q h small spelled =
+    let reset = s.style.reset in
     let p = plane_at s (plane_of planes n) q in
-    let lists = flat_map (λ ds. ds) (pass_decisions s planes n q) in
-    let parts = spells_parts bytes initial lists (plane_decisions s p (kind_of n)) (subst (λ (ds : Decided). SpellsFrom bytes initial ds) (passes_more s planes n q) spelled) in
+    let ds = whole_decisions s p (kind_of n) in
+    let lists = pass_decisions s planes n q in
+    let parts = passes-split reset bytes initial lists (ds ∷ []) spelled in
     let before = passes_only bytes s planes n q (omega arith) small parts.0 in
-    let cut = passes_onward bytes s planes n before.last (omega arith) before.is in
-    let g = (stage_plane bytes s (plane_of planes n) (kind_of n) (kind_few n)).only (begun (kind_of n) before.last) p (ready s planes n before.last (omega arith) cut)
-    (ready_like s planes n before.last q (omega arith) cut before.like) (subst (λ (w : State). SpellsFrom bytes w (plane_decisions s p (kind_of n))) (sym before.coder_is) parts.1) in
+    let w = with_contexts s before.last in
+    let cut = contexts_done s planes n before.last (passes_onward bytes s planes n before.last (omega arith) before.is) in
+    let g = (stage_pass bytes s (plane_of planes n) (kind_of n) (kind_few n)).only (begun (kind_of n) w) p (ready s planes n w (omega arith) cut)
+    (ready_like s planes n w q (omega arith) cut (contexts_like s planes n before.last q before.like)) (subst (λ (t : State). SpellsFrom bytes (begun_by reset t) ds) (sym before.coder_is) parts.1.0) in
     record {
       last = g.next;
       is = ap (λ (r : Result Progress Fault). r >>= pass_at bytes s planes n) before.is ∙ g.is;
       like = g.like;
-      coder_is = g.coder_is ∙ ap (λ (w : State). state_after bytes w (plane_decisions s p (kind_of n))) before.coder_is ∙ sym (state_join bytes initial lists (plane_decisions s p (kind_of n)))
-          ∙ ap (λ (ds : Decided). state_after bytes initial ds) (sym (passes_more s planes n q));
+      coder_is = g.coder_is ∙ ap (λ (t : State). state_after bytes (begun_by reset t) ds) before.coder_is ∙ sym (state_after_passes-joined reset bytes initial lists (ds ∷ []));
     }

@@ -1,11 +1,10 @@
 -- What is written of a block: all its coding passes, by the MQ encoder (T.800 Annexes C and D).
 use Rattle.std.specs.Prelude.{ℕ, ◌+◌, ◌-◌, ◌*◌, List, [], ◌∷◌, ◌==◌, if◌then◌else◌, map, max, ℤ, unsigned_abs}
-use Rattle.std.specs.List.{flat_map, range_with_len}
+use Rattle.std.specs.List.{range_with_len}
 use Rattle.jk_math.specs.BitLength.{bit_length}
 use Rattle.jk_mqenc.specs.Encoded.{written_by, finished}
 use Rattle.jk_scan.specs.declared.shape.BlockShape.{BlockShape}
 use Rattle.jk_scan.specs.Neighbours.{Field}
-use Rattle.jk_scan.specs.Passes.{Decided}
 use Rattle.jk_block.specs.Meaning.{pass_decisions, value_in}
 
 -- the greatest magnitude
@@ -18,17 +17,14 @@ greatest (v ∷ vs) = max (unsigned_abs v) (greatest vs)
 abbrev pub pass_count : ℕ → ℕ
 pass_count planes = 3 * planes - 2
 
--- the decisions of the first passes, one pass behind another
-abbrev pub decisions_upto : BlockShape → (planes passes : ℕ) → Field ℤ → Decided
-decisions_upto s planes passes q = flat_map (λ ds. ds) (pass_decisions s planes passes q)
-
 -- how many bytes are placed after each pass
 unfoldable pub marks_upto : BlockShape → (planes passes : ℕ) → Field ℤ → List ℕ
-marks_upto s planes passes q = map (λ n. written_by (decisions_upto s planes (n + 1) q)) (range_with_len 0 passes)
+marks_upto s planes passes q =
+    map (λ n. written_by s.style.reset (pass_decisions s planes (n + 1) q)) (range_with_len 0 passes)
 
 -- The bytes of the first passes. Without a pass there are none.
 unfoldable pub bytes_of : BlockShape → (planes passes : ℕ) → Field ℤ → List ℕ
-bytes_of s planes passes q = if passes == 0 then [] else finished (decisions_upto s planes passes q)
+bytes_of s planes passes q = if passes == 0 then [] else finished s.style.reset (pass_decisions s planes passes q)
 
 -- a block as it is written
 pub record Coded : Type 0 where

@@ -1,5 +1,6 @@
 -- Examples: the second code-block of the image of T.800 J.10, of one column and four rows in LH.
 use Rattle.std.specs.Prelude.{◌≡◌, ℤ, refl, true, false, List, [], ◌∷◌, Ok, pos}
+use Rattle.jk_math.specs.Styles.{plain_style}
 use Rattle.jk_math.specs.BitLength.{digits, bit_length}
 use Rattle.jk_model.specs.Placed.{gap}
 use Rattle.jk_model.specs.Deciding.{takes_lower, taken, contexts_taken, made}
@@ -21,10 +22,10 @@ use Rattle.jk_block.specs.Meaning.{plane_at, pass_decisions, value_in, values_of
 use Rattle.jk_block.specs.BlockWritten.{marks_upto, bytes_of, coded}
 use Rattle.jk_block.specs.Layers.{passes_upto}
 use Rattle.jk_block.specs.Reading.{times, decide, read_sign, read_new, read_refined, place_at, is_quiet, read_run}
-use Rattle.jk_block.specs.Reading.{column_at, stripe_at, plane_pass_at, pass_at, block_at}
+use Rattle.jk_block.specs.Reading.{column_at, stripe_at, plane_pass_at, closing_at, pass_at, block_at}
 
 abbrev shape : BlockShape
-shape = record { width = 1; height = 4; orientation = LH }
+shape = record { width = 1; height = 4; orientation = LH; style = plain_style }
 
 abbrev values : List ℤ
 values = pos 1 ∷ pos 5 ∷ pos 1 ∷ pos 0 ∷ []
@@ -44,7 +45,7 @@ read : block_at shape 3 7 (0x0F ∷ 0xB1 ∷ 0x76 ∷ []) ≡ Ok values
 unfolding is_last is_past fed places start wanted share shares code_value rows moved first_contexts is_lower
     is_exchanged bit_at divided renormalised contexts_after after answer next zero_context_of contribution_of
     sign_context_of refine_context_of touched zero_at sign_at flipped values_of times decide read_sign read_new
-    read_refined place_at is_quiet read_run column_at stripe_at plane_pass_at pass_at block_at
+    read_refined place_at is_quiet read_run column_at stripe_at plane_pass_at closing_at pass_at block_at
 read = refl
 
 -- as an independent encoder writes it: planes, passes, bytes, and how many are placed after each

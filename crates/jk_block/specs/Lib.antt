@@ -1,3 +1,4 @@
+pub mod Symbols
 pub mod Meaning
 pub mod Reading
 pub mod Fields

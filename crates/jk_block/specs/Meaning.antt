@@ -2,12 +2,13 @@
 use Rattle.std.specs.Prelude.{◌≡◌, ℕ, zero, suc, ◌+◌, ◌-◌, ◌*◌, ◌/◌, ◌%◌, ◌^◌, ◌<◌, ◌≤◌, Bool, true, List, [], ◌∷◌}
 use Rattle.std.specs.Prelude.{◌++◌, slice_index_or, nat_le, if◌then◌else◌, map, ℤ, pos, neg_ℤ, unsigned_abs}
 use Rattle.std.specs.Int.{is_negative}
-use Rattle.std.specs.List.{flat_map, range_with_len}
-use Rattle.jk_model.specs.Decisions.{Spells}
+use Rattle.std.specs.List.{range_with_len}
+use Rattle.jk_model.specs.CodingPasses.{SpellsPasses}
 use Rattle.jk_scan.specs.declared.shape.BlockShape.{BlockShape}
 use Rattle.jk_scan.specs.Neighbours.{Field, is_inside}
 use Rattle.jk_scan.specs.Moments.{pass_of}
 use Rattle.jk_scan.specs.Passes.{Plane, Decided, plane_decisions}
+use Rattle.jk_block.specs.Symbols.{closing_decisions}
 
 -- The coding passes of a block of so many bit-planes, from 0 on: the highest plane has a cleanup
 -- pass alone, each lower one has all three (D.3). So pass n is the (n + 2)-th of all, were the
@@ -25,11 +26,15 @@ plane_at s b q = record {
   negative = λ x y. is_negative (q x y);
 }
 
+-- what a pass decides of its bit-plane, and what ends it
+abbrev pub whole_decisions : BlockShape → Plane → (pass : ℕ) → Decided
+whole_decisions s p pass = plane_decisions s p pass ++ closing_decisions s.style pass
+
 -- what the first passes decide, each a list of its own
 unfoldable pub pass_decisions : BlockShape → (planes passes : ℕ) → Field ℤ → List Decided
 pass_decisions s planes zero q = []
 pass_decisions s planes (suc n) q =
-    pass_decisions s planes n q ++ plane_decisions s (plane_at s (plane_of planes n) q) (kind_of n) ∷ []
+    pass_decisions s planes n q ++ whole_decisions s (plane_at s (plane_of planes n) q) (kind_of n) ∷ []
 
 abbrev pub with_sign : Bool → ℕ → ℤ
 with_sign negative m = if negative then neg_ℤ (pos m) else pos m
@@ -53,7 +58,7 @@ pub record IsBlockMeaning (s : BlockShape) (planes passes : ℕ) (segment : List
   pub few : passes ≤ 3 * planes - 2
   pub small : (x y : ℕ) → is_inside s x y ≡ true → unsigned_abs (q x y) < 2 ^ planes
   pub coded : (x y : ℕ) → is_inside s x y ≡ true → cut s planes passes q x y ≡ q x y
-  pub spelled : 0 < passes → Spells segment (flat_map (λ ds. ds) (pass_decisions s planes passes q))
+  pub spelled : 0 < passes → SpellsPasses s.style.reset segment (pass_decisions s planes passes q)
 
 -- the coefficients of a block row by row, and back
 unfoldable pub values_of : BlockShape → Field ℤ → List ℤ

@@ -3,15 +3,18 @@
 use Rattle.std.specs.Prelude.{ℕ, zero, suc, ◌+◌, ◌-◌, ◌*◌, ◌/◌, ◌^◌, Bool, true, false, not, ◌&&◌, List, Result, Ok}
 use Rattle.std.specs.Prelude.{nat_eq, nat_lt, nat_le, if◌then◌else◌, ℤ}
 use Rattle.jk_math.specs.declared.fault.Fault.{Fault}
-use Rattle.jk_math.specs.declared.fault.Fault.TheVariants.{TooManyPasses}
+use Rattle.jk_math.specs.declared.fault.Fault.TheVariants.{TooManyPasses, BadValue}
 use Rattle.jk_math.specs.Answer.{◌>>=◌, refuse}
+use Rattle.jk_math.specs.declared.style.Style.{Style}
 use Rattle.jk_model.specs.Decisions.{State, initial}
+use Rattle.jk_model.specs.CodingPasses.{begun_by}
 use Rattle.jk_mqdec.specs.Answers.{answer, next}
 use Rattle.jk_scan.specs.declared.shape.BlockShape.{BlockShape}
 use Rattle.jk_scan.specs.Contexts.{refine_context_of, run_length, uniform}
 use Rattle.jk_scan.specs.Neighbours.{Field, is_inside, touched, zero_at, sign_at}
 use Rattle.jk_scan.specs.Moments.{stripes, propagation, cleanup}
 use Rattle.jk_scan.specs.Passes.{flipped}
+use Rattle.jk_block.specs.Symbols.{is_symbol, ends_with_symbol}
 use Rattle.jk_block.specs.Meaning.{plane_of, kind_of, with_sign, above, values_of}
 
 -- How far a block is read: the magnitudes and the signs so far, which places the significance
@@ -124,8 +127,25 @@ plane_pass_at bytes s b pass z = times (stripes s) (λ i. stripe_at bytes s b pa
 abbrev pub begun : (pass : ℕ) → Progress → Progress
 begun pass z = record z { visited = if nat_eq pass propagation then (λ _ _. false) else z.visited }
 
+-- with context reset a pass begins with the first contexts
+abbrev pub with_contexts : BlockShape → Progress → Progress
+with_contexts s z = with_coder z (begun_by s.style.reset z.coder)
+
+-- the segmentation symbol: all four decisions are read before they are compared
+unfoldable pub symbol_at : List ℕ → Progress → Result Progress Fault
+symbol_at bytes z =
+    decide bytes uniform z.coder >>= λ a. decide bytes uniform a.1 >>= λ b. decide bytes uniform b.1
+    >>= λ c. decide bytes uniform c.1 >>= λ d. refuse (not (is_symbol a.0 b.0 c.0 d.0)) BadValue
+    >>= λ _. Ok (with_coder z d.1)
+
+-- what ends a pass
+unfoldable pub closing_at : List ℕ → Style → (pass : ℕ) → Progress → Result Progress Fault
+closing_at bytes style pass z = if ends_with_symbol style pass then symbol_at bytes z else Ok z
+
 unfoldable pub pass_at : List ℕ → BlockShape → (planes n : ℕ) → Progress → Result Progress Fault
-pass_at bytes s planes n z = plane_pass_at bytes s (plane_of planes n) (kind_of n) (begun (kind_of n) z)
+pass_at bytes s planes n z =
+    plane_pass_at bytes s (plane_of planes n) (kind_of n) (begun (kind_of n) (with_contexts s z))
+    >>= closing_at bytes s.style (kind_of n)
 
 -- what is read
 abbrev pub coefficients : Progress → Field ℤ

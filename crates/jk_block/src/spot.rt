@@ -3,6 +3,9 @@
 ghost use Rattle.std.specs.Prelude.{◌≡◌, ◌<◌};
 ghost use Rattle.jk_block.specs.Meaning.{kind_of};
 ghost use Rattle.jk_block.specs.Steps.{number_of};
+ghost use Rattle.jk_block.specs.Symbols.{ends_with_symbol};
+
+use jk_math::Style;
 
 /// The three passes of a bit-plane.
 #[derive(Clone, Copy, Debug, PartialEq, Eq)]
@@ -24,6 +27,16 @@ pub fn pass_of(n: usize) -> Pass
         0 => Pass::Propagation,
         1 => Pass::Refinement,
         _ => Pass::Cleanup,
+    }
+}
+
+/// Whether a segmentation symbol ends a pass of this style (T.800 D.5).
+pub fn ends_with_symbol(style: Style, pass: Pass) -> bool
+    ensures { result ≡ ends_with_symbol style (number_of pass) }
+{
+    match pass {
+        Pass::Cleanup => style.segments,
+        _ => false,
     }
 }
 

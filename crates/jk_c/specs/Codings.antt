@@ -1,6 +1,7 @@
 -- How an image is encoded, as C programs tell it.
 use Rattle.std.specs.Prelude.{◌≡◌, ℕ, ◌/◌, ◌%◌, ◌^◌, ◌<◌, ◌≤◌, Bool, not, ◌==◌, ◌&&◌, [], ◌∷◌, map}
 use Rattle.std.specs.Prelude.{take, Option, Some, None, if◌then◌else◌}
+use Rattle.jk_math.specs.Styles.{plain_style}
 use Rattle.jk_marks.specs.OrderCode.{order_code}
 use Rattle.jk_params.specs.declared.parameters.Parameters.{Parameters}
 use Rattle.jk_params.specs.declared.parameters.Container.{Container}
@@ -39,6 +40,7 @@ pub record AreParameters (k : CallerCoding) (q : Parameters) : Type 0 where
   pub tile : q.tile ≡ tile_of k.tile_width k.tile_height
   pub block_width : q.xcb ≡ k.block_width
   pub block_height : q.ycb ≡ k.block_height
+  pub style : q.style ≡ plain_style
   pub precincts : q.precincts.items ≡ map exponents_of (take k.precinct_count k.precincts)
   pub colour : q.colour ≡ is_set k.colour
   pub sop : q.sop ≡ is_set k.sop

@@ -7,7 +7,7 @@ ghost use Rattle.jk_marks.specs.OrderCode.{order_code};
 ghost use Rattle.jk_c.specs.Codings.{IsKnownCoding, AreParameters, exponents_of, tile_of, container_of, is_set};
 
 use jk_marks::Order;
-use jk_math::Fault;
+use jk_math::{Fault, Style};
 use jk_params::{Container, Parameters};
 use std::alloc::Global;
 
@@ -126,6 +126,7 @@ pub(crate) fn parameters(alloc: Global, coding: &CallerCoding) -> Result<Paramet
         tile: tile(coding.tile_width, coding.tile_height),
         xcb: coding.block_width as u8,
         ycb: coding.block_height as u8,
+        style: Style::plain(),
         precincts,
         colour: coding.colour != 0,
         sop: coding.sop != 0,

@@ -65,6 +65,11 @@ five_joined a b c d e p q r s t u f g h i j =
     ∙ ap (λ (x : List ℕ). x ++ e) (i ∙ ap (λ (x : List ℕ). x ++ d) (h ∙ ap (λ (x : List ℕ). x ++ c) (g ∙ ap (λ (x : List ℕ). x ++ b) f)))
     ∙ simp append_assoc
 
+-- six
+pub six_joined : (a b c d e f p q r s t u v : List ℕ) → q ≡ p ++ a → r ≡ q ++ b → s ≡ r ++ c → t ≡ s ++ d → u ≡ t ++ e → v ≡ u ++ f → v ≡ p ++ (a ++ (b ++ (c ++ (d ++ (e ++ f)))))
+six_joined a b c d e f p q r s t u v g h i j k l =
+    five_joined b c d e f q r s t u v h i j k l ∙ ap (λ (x : List ℕ). x ++ (b ++ (c ++ (d ++ (e ++ f))))) g ∙ append_assoc p a (b ++ (c ++ (d ++ (e ++ f))))
+
 -- ---- codings
 
 -- the coding of a component of a tile

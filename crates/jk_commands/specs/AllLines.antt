@@ -1,9 +1,10 @@
 -- The lines that `jk info --all` writes: that of `jk info`, and below it what decides how small
 -- windows get, and what the file carries. Those of a JP2 file of 3 by 2 pixels in two tiles, with
 -- SOP, EPH and precincts, are these: 3 2 3 8 1 1 LRCP 2 12 boxes: jP%20%20=12 ftyp=20 jp2h=45
--- jp2c=251 tile-parts: 2 code-blocks: 32x16 precincts: 32x16 64x32 SOP: yes EPH: yes
+-- jp2c=251 tile-parts: 2 code-blocks: 32x16 block-style: none precincts: 32x16 64x32 SOP: yes EPH: yes
 -- colour-transform: reversible passed-over: none sizes: 3x2 2x1
 use Rattle.std.specs.Prelude.{ℕ, ◌+◌, ◌-◌, ◌^◌, Bool, not, ◌&&◌, ◌||◌, ◌==◌, if◌then◌else◌, List, [], ◌++◌, length}
+use Rattle.std.specs.Bool.{beq}
 use Rattle.std.specs.Prelude.{slice_range, Result, Ok, codes}
 use Rattle.std.specs.List.{flat_map, list_all, count_by}
 use Rattle.std.specs.Fmt.{decimal}
@@ -11,6 +12,7 @@ use Rattle.std.specs.Cmp.Lexicographic.{pointwise}
 use Rattle.jk_math.specs.Answer.{◌>>=◌}
 use Rattle.jk_math.specs.declared.fault.Fault.{Fault}
 use Rattle.jk_math.specs.declared.rect.Rect.{Rect}
+use Rattle.jk_math.specs.declared.style.Style.{Style}
 use Rattle.jk_marks.specs.declared.coding.Coding.{Coding}
 use Rattle.jk_marks.specs.declared.segments.Cod.{Cod}
 use Rattle.jk_marks.specs.Siz.{tile_count}
@@ -60,6 +62,21 @@ unfoldable pub block_values : Headers → List ℕ
 block_values h =
     let k = first_coding h in
     if hold_of_codings (has_blocks k) h then size_value (2 ^ k.xcb) (2 ^ k.ycb) else differ
+
+-- the style of the code-blocks (table A.19)
+abbrev pub has_style : Style → Coding → Bool
+has_style s k =
+    beq k.style.reset s.reset && beq k.style.causal s.causal && beq k.style.segments s.segments
+
+abbrev pub word_if : Bool → List ℕ → List ℕ
+word_if has word = if has then value word else []
+
+abbrev pub style_text : Style → List ℕ
+style_text s =
+    word_if s.reset (codes "reset") ++ (word_if s.causal (codes "causal") ++ word_if s.segments (codes "segments"))
+
+unfoldable pub style_values : Headers → List ℕ
+style_values h = let s = (first_coding h).style in if hold_of_codings (has_style s) h then style_text s else differ
 
 -- the size of the precincts of each resolution, from the lowest on (table A.21)
 abbrev pub are_alike : List (ℕ × ℕ) → List (ℕ × ℕ) → Bool
@@ -112,10 +129,11 @@ frame_values h = texts_below (λ d. frame_value (frame_of h d)) (least_levels h.
 unfoldable pub coding_lines : Headers → List ℕ
 coding_lines h =
     labelled (codes "code-blocks") (block_values h)
+    ++ (labelled (codes "block-style") (style_values h)
     ++ (labelled (codes "precincts") (precinct_values h)
     ++ (labelled (codes "SOP") (flag_values Sop (codes "yes") (codes "no") h)
     ++ (labelled (codes "EPH") (flag_values Eph (codes "yes") (codes "no") h)
-    ++ labelled (codes "colour-transform") (flag_values Colour (codes "reversible") (codes "none") h))))
+    ++ labelled (codes "colour-transform") (flag_values Colour (codes "reversible") (codes "none") h)))))
 
 -- the lines below the first: what the boxes are, how many tile-parts there are, how often each
 -- marker is passed over, and what all headers say

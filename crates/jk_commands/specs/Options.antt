@@ -7,6 +7,7 @@ use Rattle.jk_math.specs.declared.fault.Fault.{Fault}
 use Rattle.jk_math.specs.declared.fault.Fault.TheVariants.{BadParameters}
 use Rattle.jk_marks.specs.declared.segments.Order.{Order}
 use Rattle.jk_marks.specs.declared.segments.Order.TheVariants.{Lrcp, Rpcl}
+use Rattle.jk_math.specs.declared.style.Style.{Style}
 use Rattle.jk_params.specs.declared.parameters.Container.{Container}
 use Rattle.jk_params.specs.declared.parameters.Container.TheVariants.{Raw, Jp2}
 use Rattle.jk_commands.specs.declared.options.EncodeOptions.{EncodeOptions}
@@ -21,6 +22,7 @@ pub record Wishes : Type 0 where
   pub tile : Option (ℕ × ℕ)
   pub xcb : ℕ
   pub ycb : ℕ
+  pub style : Style
   pub precincts : List (ℕ × ℕ)
   pub sop : Bool
   pub eph : Bool
@@ -77,6 +79,7 @@ wishes_at o = do
     tile = tile;
     xcb = xcb;
     ycb = ycb;
+    style = o.style;
     precincts = precincts;
     sop = o.sop;
     eph = o.eph;

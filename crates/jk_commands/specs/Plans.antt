@@ -18,6 +18,7 @@ wishes_of plan = record {
   tile = plan.parameters.tile;
   xcb = plan.parameters.xcb;
   ycb = plan.parameters.ycb;
+  style = plan.parameters.style;
   precincts = plan.parameters.precincts.items;
   sop = plan.parameters.sop;
   eph = plan.parameters.eph;

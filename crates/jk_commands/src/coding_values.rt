@@ -6,11 +6,13 @@ ghost use Rattle.std.specs.String.{string_bytes};
 ghost use Rattle.jk_marks.specs.Coding.{IsCoding};
 ghost use Rattle.jk_params.specs.Headers.{AreHeaders};
 ghost use Rattle.jk_commands.specs.AllLines.{are_alike, hold_of_codings, hold_of_styles, first_coding, block_values};
+ghost use Rattle.jk_commands.specs.AllLines.{has_style, word_if, style_text, style_values};
 ghost use Rattle.jk_commands.specs.AllLines.{precincts_text, precinct_values, flag_in, flag_values};
 
 use crate::values::{put_size, put_value};
 use jk_geom::Codings;
 use jk_marks::{Cod, Coding};
+use jk_math::Style;
 use jk_params::Codestream;
 use std::alloc::{AllocError, Global};
 
@@ -64,6 +66,30 @@ fn all_have_blocks(headers: &Codestream, xcb: u8, ycb: u8) -> bool
 {
     for number in 0..headers.tile_count() {
         if !have_blocks(headers.codings(number), xcb, ycb) {
+            return false;
+        }
+    }
+    true
+}
+
+/// Whether each of these codings has code-blocks of this style.
+fn have_style(codings: &Codings, style: Style) -> bool
+    ensures { result ≡ list_all (has_style style) codings.now }
+{
+    codings.as_slice().iter().all(|coding| {
+        coding.style.reset == style.reset
+            && coding.style.causal == style.causal
+            && coding.style.segments == style.segments
+    })
+}
+
+/// Whether each component of each tile has code-blocks of this style.
+#[tactic(auto, using(jk_params::proofs::Laws::below_none, jk_params::proofs::Laws::below_more, jk_params::proofs::Laws::below_fails))]
+fn all_have_style(headers: &Codestream, style: Style) -> bool
+    ensures { result ≡ hold_of_codings (has_style style) headers.now }
+{
+    for number in 0..headers.tile_count() {
+        if !have_style(headers.codings(number), style) {
             return false;
         }
     }
@@ -137,6 +163,42 @@ pub(crate) fn block_values(alloc: Global, headers: &Codestream) -> Result<String
     let coding = first_coding(headers);
     if all_have_blocks(headers, coding.xcb, coding.ycb) {
         put_size(alloc, &mut values, power(coding.xcb), power(coding.ycb))?;
+        return Ok(values);
+    }
+    put_value(&mut values, "differ")?;
+    Ok(values)
+}
+
+/// Appends a word, if it holds.
+fn put_word(values: &mut String, holds: bool, word: &str) -> Result<(), AllocError>
+    ensures { OnOk result (string_bytes values.new ≡ string_bytes values.old ++ word_if holds word.now) }
+{
+    if holds {
+        put_value(values, word)?;
+    }
+    Ok(())
+}
+
+/// Appends what is coded otherwise in a style.
+fn put_style(values: &mut String, style: Style) -> Result<(), AllocError>
+    ensures { OnOk result (string_bytes values.new ≡ string_bytes values.old ++ style_text style) }
+{
+    put_word(values, style.reset, "reset")?;
+    put_word(values, style.causal, "causal")?;
+    put_word(values, style.segments, "segments")?;
+    Ok(())
+}
+
+/// The style of the code-blocks, or `differ`.
+#[tactic(auto, unfolding(crate::specs::AllLines::style_values))]
+pub(crate) fn style_values(alloc: Global, headers: &Codestream) -> Result<String, AllocError>
+    requires { (size : ℕ) × AreHeaders size headers.now }
+    ensures { IfOk result (λ s. string_bytes s ≡ style_values headers.now) }
+{
+    let mut values = String::new(alloc);
+    let style = first_coding(headers).style;
+    if all_have_style(headers, style) {
+        put_style(&mut values, style)?;
         return Ok(values);
     }
     put_value(&mut values, "differ")?;

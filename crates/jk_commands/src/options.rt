@@ -2,9 +2,11 @@
 
 ghost use Rattle.std.specs.Prelude.{◌≡◌, [], None, false};
 ghost use Rattle.std.specs.String.{string_bytes};
+ghost use Rattle.jk_math.specs.Styles.{plain_style};
 ghost use Rattle.jk_commands.specs.Options.{layers_for, order_for};
 
 use jk_marks::Order;
+use jk_math::Style;
 use std::alloc::Global;
 
 /// How many layers a file has out of which windows are cut. They cost less than 1 % of the file,
@@ -28,6 +30,8 @@ pub struct EncodeOptions {
     pub block_x: u32,
     /// The exponent of a code-block's height.
     pub block_y: u32,
+    /// The style of code-blocks.
+    pub style: Style,
     /// Precinct sizes, two hexadecimal digits for each resolution from the lowest on: the exponent
     /// of the height, and that of the width. Without a digit none are given.
     pub precincts: String,
@@ -56,6 +60,7 @@ impl EncodeOptions {
         ensures order { result.order ≡ None }
         ensures tile { (result.tile_width ≡ None) × (result.tile_height ≡ None) }
         ensures blocks { (result.block_x ≡ 6) × (result.block_y ≡ 6) }
+        ensures style { result.style ≡ plain_style }
         ensures precincts { string_bytes result.precincts ≡ [] }
         ensures place { (result.x0 ≡ 0) × (result.y0 ≡ 0) }
         ensures flags { (result.windows ≡ false) × (result.no_colour ≡ false) × (result.sop ≡ false)
@@ -69,6 +74,7 @@ impl EncodeOptions {
             tile_height: None,
             block_x: 6,
             block_y: 6,
+            style: Style::plain(),
             precincts: String::new(alloc),
             windows: false,
             x0: 0,

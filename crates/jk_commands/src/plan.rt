@@ -116,6 +116,7 @@ pub fn judge(alloc: Global, options: &EncodeOptions) -> Result<Plan, Fault>
             tile,
             xcb,
             ycb,
+            style: options.style,
             precincts,
             colour: false,
             sop: options.sop,

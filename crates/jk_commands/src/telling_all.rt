@@ -17,7 +17,7 @@ ghost use Rattle.jk_commands.specs.AllLines.{box_values, boxes_in, marker_value,
 ghost use Rattle.jk_commands.specs.AllLines.{frame_values, coding_lines, lines_below, lines_of, all_at};
 
 use crate::box_list::boxes;
-use crate::coding_values::{Flag, block_values, flag_values, precinct_values};
+use crate::coding_values::{Flag, block_values, flag_values, precinct_values, style_values};
 use crate::markers::header_markers;
 use crate::telling::line;
 use crate::values::{kind_name, name_of_marker, put_line, put_number, put_pair, put_size};
@@ -144,6 +144,8 @@ fn put_coding(alloc: Global, lines: &mut String, headers: &Codestream) -> Result
 {
     let blocks = block_values(alloc, headers)?;
     put_line(lines, "code-blocks", blocks.as_str())?;
+    let style = style_values(alloc, headers)?;
+    put_line(lines, "block-style", style.as_str())?;
     let precincts = precinct_values(alloc, headers)?;
     put_line(lines, "precincts", precincts.as_str())?;
     let sop = flag_values(alloc, headers, Flag::Sop, "yes", "no")?;
@@ -195,6 +197,7 @@ fn lines(
 ///   kind stands as % and two hexadecimal digits. `none` for a bare codestream.
 /// - `tile-parts`: how many there are.
 /// - `code-blocks`: WIDTHxHEIGHT.
+/// - `block-style`: `reset`, `causal` and `segments`, those that the code-blocks have, or `none`.
 /// - `precincts`: WIDTHxHEIGHT of each resolution, from the lowest on.
 /// - `SOP`, `EPH`: `yes` or `no`.
 /// - `colour-transform`: `reversible` or `none`.

@@ -2,6 +2,7 @@
 -- 2 and 4 by 4.
 use Rattle.std.specs.Prelude.{◌≡◌, ℕ, [], ◌∷◌, false, refl}
 use Rattle.jk_math.specs.declared.rect.Rect.{Rect}
+use Rattle.jk_math.specs.Styles.{plain_style}
 use Rattle.jk_marks.specs.declared.siz.Siz.{Siz}
 use Rattle.jk_marks.specs.declared.coding.Coding.{Coding}
 use Rattle.jk_marks.specs.Siz.{tile_count}
@@ -27,7 +28,15 @@ image = record {
 }
 
 abbrev small : Coding
-small = record { levels = 1; xcb = 6; ycb = 6; precincts = (1, 1) ∷ (2, 2) ∷ []; style = 0; guard = 2; exponents = [] }
+small = record {
+  levels = 1;
+  xcb = 6;
+  ycb = 6;
+  precincts = (1, 1) ∷ (2, 2) ∷ [];
+  style = plain_style;
+  guard = 2;
+  exponents = [];
+}
 
 abbrev rect : (x0 y0 x1 y1 : ℕ) → Rect
 rect x0 y0 x1 y1 = record { x0 = x0; y0 = y0; x1 = x1; y1 = y1 }

@@ -1,5 +1,6 @@
 -- What the packets of a tile depend on.
 use Rattle.std.specs.Prelude.{ℕ, ◌<◌, ◌≤◌, ◌^◌, List, [], length, slice_index_or}
+use Rattle.jk_math.specs.Styles.{plain_style}
 use Rattle.jk_marks.specs.declared.coding.Coding.{Coding}
 use Rattle.jk_marks.specs.Coding.{IsCoding}
 use Rattle.jk_geom.specs.declared.shape.TileShape.{TileShape}
@@ -7,7 +8,7 @@ use Rattle.jk_geom.specs.Rectangles.{IsArea}
 
 -- stands where a component isn't
 abbrev pub no_coding : Coding
-no_coding = record { levels = 0; xcb = 2; ycb = 2; precincts = []; style = 0; guard = 0; exponents = [] }
+no_coding = record { levels = 0; xcb = 2; ycb = 2; precincts = []; style = plain_style; guard = 0; exponents = [] }
 
 -- the coding of component c
 abbrev pub coding_of : List Coding → ℕ → Coding

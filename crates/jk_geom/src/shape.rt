@@ -7,7 +7,7 @@ ghost use Rattle.jk_geom.specs.TileShapes.{AreCodings, IsTileShape};
 
 use crate::tiling;
 use jk_marks::{Coding, Exponents, Order, Precincts, Siz};
-use jk_math::Rect;
+use jk_math::{Rect, Style};
 use std::marker::Model;
 
 /// The codings of a tile's components, at most 4.
@@ -35,7 +35,7 @@ fn blank() -> Coding {
         xcb: 2,
         ycb: 2,
         precincts: Precincts::none(),
-        style: 0,
+        style: Style::plain(),
         guard: 0,
         exponents: Exponents::new(&[]),
     }

@@ -26,6 +26,7 @@ With --all these lines follow, each a LABEL, a colon and values, each behind a s
 boxes: KIND=LENGTH of each box; what isn't a letter or a digit of a kind stands as in a URL
 tile-parts: how many there are
 code-blocks: WIDTHxHEIGHT
+block-style: reset, causal and segments, those that the code-blocks have
 precincts: WIDTHxHEIGHT of each resolution, from the lowest on
 SOP: yes or no
 EPH: yes or no
@@ -244,6 +245,16 @@ fn coding<'a>(
             "no-colour",
             Form::Flag,
             "Leave the components of a colour image as they are",
+        ),
+        Word(
+            "reset",
+            Form::Flag,
+            "Let the contexts of code-blocks begin anew with each coding pass: a pass hangs less on those before it",
+        ),
+        Word(
+            "segments",
+            Form::Flag,
+            "End each cleanup pass of code-blocks with a segmentation symbol, by which damage is seen",
         ),
         Word("sop", Form::Flag, "Write SOP before each packet"),
         Word("eph", Form::Flag, "Write EPH after each packet header"),

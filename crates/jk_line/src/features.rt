@@ -72,15 +72,18 @@ fn in_size(bytes: &[u8], at: usize) -> Option<&'static str> {
     None
 }
 
+/// The styles of code-blocks that are read: context reset and segmentation symbols.
+const READ_STYLES: u8 = 0x22;
+
 /// What the last two bytes of a coding style ask for: the style of code-blocks and the transform
 /// (T.800 A.6.1, tables A.19 and A.20).
 fn in_style(bytes: &[u8], at: usize) -> Option<&'static str> {
     if byte(bytes, at.saturating_add(1)) == 0 {
         return Some("the irreversible transform 9/7");
     }
-    if byte(bytes, at) != 0 {
+    if byte(bytes, at) & !READ_STYLES != 0 {
         return Some(
-            "a style of code-blocks (bypass, reset, termination, causal contexts or segmentation symbols)",
+            "a style of code-blocks (bypass, termination, causal contexts or predictable termination)",
         );
     }
     None

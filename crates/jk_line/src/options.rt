@@ -5,7 +5,7 @@ use clap::ArgMatches;
 use clap::parser::ValueSource;
 use jk_commands::{EncodeOptions, order_named};
 use jk_marks::Order;
-use jk_math::Fault;
+use jk_math::{Fault, Style};
 use jk_window::View;
 use std::alloc::Global;
 
@@ -41,6 +41,11 @@ pub(crate) fn encoding(alloc: Global, line: &ArgMatches<'_>) -> Result<EncodeOpt
         tile_height: line.get_one::<u32>("tile-height"),
         block_x: number(line, "block-x", given.block_x),
         block_y: number(line, "block-y", given.block_y),
+        style: Style {
+            reset: line.get_flag("reset"),
+            causal: false,
+            segments: line.get_flag("segments"),
+        },
         precincts: String::from_str(alloc, line.get_str("precincts").unwrap_or(""))?,
         windows: line.get_flag("windows"),
         x0: number(line, "x0", given.x0),

@@ -7,7 +7,8 @@ use Rattle.jk_math.specs.declared.fault.Fault.TheVariants.{BadMarker, BadLength,
 use Rattle.jk_marks.specs.declared.segments.CodingStyle.{CodingStyle}
 use Rattle.jk_marks.specs.declared.segments.Quantisation.{Quantisation}
 use Rattle.jk_marks.specs.Place.{Place}
-use Rattle.jk_marks.specs.Segments.{CocSegment, QcdSegment, QccSegment, Passed, StepSizes, AreSteps, IsStyle, segment_body, contents, style_text, bit_of, given_bit, quantisation_of}
+use Rattle.jk_marks.specs.BlockStyle.{bit_of}
+use Rattle.jk_marks.specs.Segments.{CocSegment, QcdSegment, QccSegment, Passed, StepSizes, AreSteps, IsStyle, segment_body, contents, style_text, given_bit, quantisation_of}
 use Rattle.jk_marks.specs.Reading.{number, segment_length, style_at, component_at, coc_at, steps_at, qcd_at, qcc_at, passed_at, passing, has}
 use Rattle.jk_math.proofs.Laws.{AreBytes}
 use Rattle.jk_marks.proofs.Steps.{Goes, ahead, entered, goes_then, goes_as, byte_goes, byte_again, length_goes, length_again, passing_goes, passing_again}

@@ -12,7 +12,8 @@ use Rattle.jk_marks.specs.declared.segments.Order.TheVariants.{Lrcp, Rlcp, Rpcl,
 use Rattle.jk_marks.specs.Place.{Place}
 use Rattle.jk_marks.specs.Precincts.{precinct_byte}
 use Rattle.jk_marks.specs.OrderCode.{order_code, order_with}
-use Rattle.jk_marks.specs.Segments.{CodSegment, CocSegment, IsCod, IsStyle, segment_body, contents, style_text, scod, bit_of, given_bit}
+use Rattle.jk_marks.specs.BlockStyle.{bit_of}
+use Rattle.jk_marks.specs.Segments.{CodSegment, CocSegment, IsCod, IsStyle, segment_body, contents, style_text, scod, given_bit}
 use Rattle.jk_marks.specs.Reading.{number, segment_length, style_at, cod_at}
 use Rattle.jk_math.proofs.Laws.{AreBytes}
 use Rattle.jk_marks.proofs.Steps.{Goes, ahead, entered, goes_then, goes_as, number_goes, number_again, byte_goes, byte_again, length_goes, length_again}

@@ -1,6 +1,6 @@
 -- Coding styles: what is read is spelled so, and what is spelled so is read.
 use Rattle.std.proofs.Common.{◌≡◌, ℕ, zero, suc, ◌+◌, ◌-◌, ◌/◌, ◌%◌, ◌<◌, ◌≤◌, Bool, true, false, not, ◌&&◌, ◌||◌, cond, eqb, ltb, leb, List, [], ◌∷◌, ◌++◌, length, map, drop, Ok, refl, sym, ap, subst, ◌∙◌, ◌⊎◌, inl, inr, append_assoc, arith}
-use Rattle.std.proofs.lemmas.Bool.{true≢false, ltb-false, le-ltb, eqb-true, eq-eqb, ne_eqb, not-false, or_parts, or_from}
+use Rattle.std.proofs.lemmas.Bool.{true≢false, ltb-false, le-ltb, lt-leb, eqb-true, eq-eqb, ne_eqb, not-false, or_parts, or_from}
 use Rattle.std.proofs.lemmas.List.{length-append, append-nil}
 use Rattle.std.proofs.Math.Nat.{mod-lt, mod-add-div}
 use Rattle.std.specs.List.{AllByRecursion}
@@ -9,8 +9,11 @@ use Rattle.jk_math.specs.declared.fault.Fault.TheVariants.{BadLength, BadValue, 
 use Rattle.jk_marks.specs.declared.segments.CodingStyle.{CodingStyle}
 use Rattle.jk_marks.specs.Place.{Place}
 use Rattle.jk_marks.specs.Precincts.{precinct_byte}
-use Rattle.jk_marks.specs.Segments.{IsStyle, ArePrecincts, style_text, bit_of, given_bit}
-use Rattle.jk_marks.specs.Reading.{number, precinct_at, precincts_at, given_precincts_at, levels_at, block_at, transform_at, style_at}
+use Rattle.jk_math.specs.declared.style.Style.{Style}
+use Rattle.jk_math.specs.Styles.{plain_style}
+use Rattle.jk_marks.specs.BlockStyle.{bit_of, style_byte, style_of, is_read}
+use Rattle.jk_marks.specs.Segments.{IsStyle, ArePrecincts, style_text, given_bit}
+use Rattle.jk_marks.specs.Reading.{number, precinct_at, precincts_at, given_precincts_at, levels_at, block_at, block_style_at, transform_at, style_at}
 use Rattle.jk_math.proofs.Laws.{AreBytes}
 use Rattle.jk_marks.proofs.Steps.{Goes, ahead, ahead_twice, goes_none, goes_then, goes_as, byte_goes, byte_again}
 
@@ -220,37 +223,70 @@ block_again x y p rest e s room =
     again ∙ ap (λ a. Ok ((a, y - 2 + 2), ahead 1 rest (ahead 1 ((y - 2) ∷ rest) p))) ex ∙ ap (λ b. Ok ((x, b), ahead 1 rest (ahead 1 ((y - 2) ∷ rest) p))) ey
     ∙ ap (λ (q : Place). Ok ((x, y), q)) (ahead_twice 1 1 2 rest ((y - 2) ∷ rest) p refl)
 
-pub transform_goes : (u : Unit {0}) (p q : Place) → AreBytes p.rest → transform_at p ≡ Ok (u, q) → Goes p (0 ∷ 1 ∷ []) q
+pub block_style_goes : (s : Style) (p q : Place) → AreBytes p.rest → block_style_at p ≡ Ok (s, q) → Goes p (style_byte s ∷ []) q × (is_read s ≡ true)
+unfolding block_style_at
+block_style_goes s p q fits e =
+    let t : Style × Place = (s, q) in
+    bind_then (number 1 p) _ t e (λ byte s1 e.
+    refuse_then (leb 128 byte.0) BadValue _ t e (λ legal e.
+    refuse_then (not (eqb (style_byte (style_of byte.0)) byte.0)) Unsupported _ t e (λ known e.
+    refuse_then (not (is_read (style_of byte.0))) Unsupported _ t e (λ read e.
+    let g1 = byte_goes byte.0 p byte.1 fits s1 in
+    let text : byte.0 ∷ [] ≡ style_byte (style_of byte.0) ∷ [] = ap (λ a. a ∷ []) (sym (eqb-true _ _ (not-false _ known))) in
+    let gone = goes_as p (byte.0 ∷ []) (style_byte (style_of byte.0) ∷ []) byte.1 g1.0 text in
+    subst (λ (r : Style × Place). Goes p (style_byte r.0 ∷ []) r.1 × (is_read r.0 ≡ true)) (ok_is (style_of byte.0, byte.1) t e) (gone, not-false _ read)))))
+
+-- a style has its byte
+pub style_back : (reset causal segments : Bool) → let s : Style = record { reset = reset; causal = causal; segments = segments } in style_of (style_byte s) ≡ s
+style_back false false false = refl
+style_back false false true = refl
+style_back false true false = refl
+style_back false true true = refl
+style_back true false false = refl
+style_back true false true = refl
+style_back true true false = refl
+style_back true true true = refl
+
+-- where nothing is coded otherwise, it is read
+pub plain_read : is_read plain_style ≡ true
+unfolding is_read
+plain_read = refl
+
+bit_few : (b : Bool) → bit_of b ≤ 1
+bit_few true = omega arith
+bit_few false = omega arith
+
+pub block_style_again : (s : Style) (p : Place) (rest : List ℕ) → p.rest ≡ style_byte s ∷ rest → is_read s ≡ true → 1 ≤ p.room → block_style_at p ≡ Ok (s, ahead 1 rest p)
+unfolding block_style_at
+block_style_again s p rest e read room =
+    let few : style_byte s ≤ 42 = omega (arith, bit_few s.reset, bit_few s.causal, bit_few s.segments) in
+    let s1 = byte_again (style_byte s) p rest e (omega (arith, few)) room in
+    let legal : leb 128 (style_byte s) ≡ false = lt-leb _ _ (omega (arith, few)) in
+    let back = style_back s.reset s.causal s.segments in
+    let known : eqb (style_byte (style_of (style_byte s))) (style_byte s) ≡ true = eq-eqb _ _ (ap style_byte back) in
+    let again : block_style_at p ≡ Ok (style_of (style_byte s), ahead 1 rest p) = rw (s1, legal, known, ap is_read back ∙ read) refl in
+    again ∙ ap (λ (k : Style). Ok (k, ahead 1 rest p)) back
+
+pub transform_goes : (u : Unit {0}) (p q : Place) → AreBytes p.rest → transform_at p ≡ Ok (u, q) → Goes p (1 ∷ []) q
 unfolding transform_at
 transform_goes u p q fits e =
     let t : Unit {0} × Place = (u, q) in
-    bind_then (number 1 p) _ t e (λ style s1 e.
-    refuse_then (leb 128 style.0) BadValue _ t e (λ legal e.
-    refuse_then (ltb 0 style.0) Unsupported _ t e (λ plain e.
-    bind_then (number 1 style.1) _ t e (λ transform s2 e.
+    bind_then (number 1 p) _ t e (λ transform s1 e.
     refuse_then (ltb 1 transform.0) BadValue _ t e (λ low e.
     refuse_then (ltb transform.0 1) Unsupported _ t e (λ high e.
-    let g1 = byte_goes style.0 p style.1 fits s1 in
-    let g2 = byte_goes transform.0 style.1 transform.1 g1.0.bytes s2 in
-    let h1 = ltb-false _ _ plain in
-    let h2 = ltb-false _ _ low in
-    let h3 = ltb-false _ _ high in
-    let e1 : style.0 ≡ 0 = omega (arith, h1) in
-    let e2 : transform.0 ≡ 1 = omega (arith, h2, h3) in
-    let text : style.0 ∷ transform.0 ∷ [] ≡ 0 ∷ 1 ∷ [] = ap (λ a. a ∷ transform.0 ∷ []) e1 ∙ ap (λ b. 0 ∷ b ∷ []) e2 in
-    let gone = goes_as p (style.0 ∷ transform.0 ∷ []) (0 ∷ 1 ∷ []) transform.1 (goes_then p (style.0 ∷ []) style.1 (transform.0 ∷ []) transform.1 g1.0 g2.0) text in
-    subst (λ (r : Unit {0} × Place). Goes p (0 ∷ 1 ∷ []) r.1) (ok_is (tt, transform.1) t e) gone))))))
+    let g1 = byte_goes transform.0 p transform.1 fits s1 in
+    let h1 = ltb-false _ _ low in
+    let h2 = ltb-false _ _ high in
+    let e1 : transform.0 ≡ 1 = omega (arith, h1, h2) in
+    let gone = goes_as p (transform.0 ∷ []) (1 ∷ []) transform.1 g1.0 (ap (λ a. a ∷ []) e1) in
+    subst (λ (r : Unit {0} × Place). Goes p (1 ∷ []) r.1) (ok_is (tt, transform.1) t e) gone)))
 
-pub transform_again : (p : Place) (rest : List ℕ) → p.rest ≡ 0 ∷ 1 ∷ rest → 2 ≤ p.room → transform_at p ≡ Ok (tt, ahead 2 rest p)
+pub transform_again : (p : Place) (rest : List ℕ) → p.rest ≡ 1 ∷ rest → 1 ≤ p.room → transform_at p ≡ Ok (tt, ahead 1 rest p)
 unfolding transform_at
-transform_again p rest e room =
-    let s1 = byte_again 0 p (1 ∷ rest) e (omega arith) (omega (arith, room)) in
-    let s2 = byte_again 1 (ahead 1 (1 ∷ rest) p) rest refl (omega arith) (omega (arith, room)) in
-    let again : transform_at p ≡ Ok (tt, ahead 1 rest (ahead 1 (1 ∷ rest) p)) = rw (s1, s2) refl in
-    again ∙ ap (λ (q : Place). Ok (tt, q)) (ahead_twice 1 1 2 rest (1 ∷ rest) p refl)
+transform_again p rest e room = let s1 = byte_again 1 p rest e (omega arith) room in rw s1 refl
 
 -- a coding style that was read
-pub record Style (size fixed : ℕ) (given : Bool) (k : CodingStyle) (p q : Place) : Type 0 where
+pub record IsRead (size fixed : ℕ) (given : Bool) (k : CodingStyle) (p q : Place) : Type 0 where
   pub gone : Goes p (style_text k) q
   pub is : IsStyle k
   pub size-is : size ≡ fixed + length k.precincts
@@ -270,35 +306,39 @@ given_goes false levels all p q fits e =
     let here : Goes p [] p × ArePrecincts levels [] × (0 ≡ 0) × (0 ≡ 0) = (goes_none p fits, record { count = inl refl; small = tt; whole = tt }, refl, refl) in
     subst (λ (r : List (ℕ × ℕ) × Place). Goes p (map precinct_byte r.0) r.1 × ArePrecincts levels r.0 × (length r.0 ≡ 0) × (given_bit r.0 ≡ 0)) same here
 
-pub style_goes : (size fixed : ℕ) (given : Bool) (k : CodingStyle) (p q : Place) → AreBytes p.rest → style_at size fixed given p ≡ Ok (k, q) → Style size fixed given k p q
+pub style_goes : (size fixed : ℕ) (given : Bool) (k : CodingStyle) (p q : Place) → AreBytes p.rest → style_at size fixed given p ≡ Ok (k, q) → IsRead size fixed given k p q
 unfolding style_at style_text
 style_goes size fixed given k p q fits e =
     let t : CodingStyle × Place = (k, q) in
     bind_then (levels_at size fixed given p) _ t e (λ levels s1 e.
     bind_then (block_at levels.1) _ t e (λ block s2 e.
-    bind_then (transform_at block.1) _ t e (λ transform s3 e.
-    bind_then (given_precincts_at given (levels.0 + 1) transform.1) _ t e (λ all s4 e.
+    bind_then (block_style_at block.1) _ t e (λ style s3 e.
+    bind_then (transform_at style.1) _ t e (λ transform s4 e.
+    bind_then (given_precincts_at given (levels.0 + 1) transform.1) _ t e (λ all s5 e.
     let g1 = levels_goes size fixed given levels.0 p levels.1 fits s1 in
     let g2 = block_goes block.0 levels.1 block.1 g1.gone.bytes s2 in
-    let g3 = transform_goes transform.0 block.1 transform.1 g2.0.bytes s3 in
-    let g4 = given_goes given levels.0 all.0 transform.1 all.1 g3.bytes s4 in
+    let g3 = block_style_goes style.0 block.1 style.1 g2.0.bytes s3 in
+    let g4 = transform_goes transform.0 style.1 transform.1 g3.0.bytes s4 in
+    let g5 = given_goes given levels.0 all.0 transform.1 all.1 g4.bytes s5 in
     let sides : List ℕ = (block.0.0 - 2) ∷ (block.0.1 - 2) ∷ [] in
     let sizes = map precinct_byte all.0 in
-    let gone = goes_then p (levels.0 ∷ []) levels.1 (sides ++ (0 ∷ 1 ∷ sizes)) all.1 g1.gone
-    (goes_then levels.1 sides block.1 (0 ∷ 1 ∷ sizes) all.1 g2.0 (goes_then block.1 (0 ∷ 1 ∷ []) transform.1 sizes all.1 g3 g4.0)) in
-    let style : CodingStyle = record { levels = levels.0; xcb = block.0.0; ycb = block.0.1; style = 0; precincts = all.0 } in
-    let is : IsStyle style = record {
+    let byte = style_byte style.0 in
+    let gone = goes_then p (levels.0 ∷ []) levels.1 (sides ++ (byte ∷ 1 ∷ sizes)) all.1 g1.gone
+    (goes_then levels.1 sides block.1 (byte ∷ 1 ∷ sizes) all.1 g2.0
+    (goes_then block.1 (byte ∷ []) style.1 (1 ∷ sizes) all.1 g3.0 (goes_then style.1 (1 ∷ []) transform.1 sizes all.1 g4 g5.0))) in
+    let coding : CodingStyle = record { levels = levels.0; xcb = block.0.0; ycb = block.0.1; style = style.0; precincts = all.0 } in
+    let is : IsStyle coding = record {
       levels = g1.few;
       narrow = g2.1.narrow;
       wide = g2.1.wide;
       low = g2.1.low;
       high = g2.1.high;
       area = g2.1.area;
-      plain = refl;
-      precincts = g4.1;
+      read = g3.1;
+      precincts = g5.1;
     } in
-    let here : Style size fixed given style p all.1 = record { gone = gone; is = is; size-is = g1.size-is ∙ ap (λ n. fixed + n) (sym g4.2); given-is = g4.3 } in
-    subst (λ (r : CodingStyle × Place). Style size fixed given r.0 p r.1) (ok_is (style, all.1) t e) here))))
+    let here : IsRead size fixed given coding p all.1 = record { gone = gone; is = is; size-is = g1.size-is ∙ ap (λ n. fixed + n) (sym g5.2); given-is = g5.3 } in
+    subst (λ (r : CodingStyle × Place). IsRead size fixed given r.0 p r.1) (ok_is (coding, all.1) t e) here)))))
 
 none_given : (given : Bool) (levels : ℕ) (p : Place) → 0 ≡ bit_of given → given_precincts_at given (levels + 1) p ≡ Ok ([], p)
 none_given true levels p e = absurd cc
@@ -333,20 +373,21 @@ unfolding style_at style_text
 style_again size fixed given k p rest e is same size-is room =
     let n = length k.precincts in
     let r4 = map precinct_byte k.precincts ++ rest in
-    let r3 = 0 ∷ 1 ∷ r4 in
-    let r2 = (k.xcb - 2) ∷ (k.ycb - 2) ∷ r3 in
-    let e1 : p.rest ≡ k.levels ∷ r2 = e ∙ ap (λ z. k.levels ∷ (k.xcb - 2) ∷ (k.ycb - 2) ∷ z ∷ 1 ∷ r4) is.plain in
-    let p1 = ahead 1 r2 p in
-    let p2 = ahead 2 r3 p1 in
-    let p3 = ahead 2 r4 p2 in
+    let r3 = 1 ∷ r4 in
+    let r2 = style_byte k.style ∷ r3 in
+    let r1 = (k.xcb - 2) ∷ (k.ycb - 2) ∷ r2 in
+    let p1 = ahead 1 r1 p in
+    let p2 = ahead 2 r2 p1 in
+    let p3 = ahead 1 r3 p2 in
+    let p4 = ahead 1 r4 p3 in
     let size-of = size_of given k.levels k.precincts is.precincts.count same in
-    let s1 = levels_again size fixed given k.levels p r2 e1 is.levels (size-is ∙ ap (λ m. fixed + m) size-of) (omega (arith, room)) in
-    let s2 = block_again k.xcb k.ycb p1 r3 refl (record { narrow = is.narrow; wide = is.wide; low = is.low; high = is.high; area = is.area }) (omega (arith, room)) in
-    let s3 = transform_again p2 r4 refl (omega (arith, room)) in
-    let s4 = given_again given k.levels k.precincts p3 rest refl is.precincts same (omega (arith, room)) in
-    let plain : CodingStyle = record { levels = k.levels; xcb = k.xcb; ycb = k.ycb; style = 0; precincts = k.precincts } in
-    let again : style_at size fixed given p ≡ Ok (plain, ahead n rest p3) = rw (s1, s2, s3, s4) refl in
-    let place : ahead n rest p3 ≡ ahead (5 + n) rest p =
-    ahead_twice 2 n (2 + n) rest r4 p2 refl ∙ ahead_twice 2 (2 + n) (4 + n) rest r3 p1 (omega arith) ∙ ahead_twice 1 (4 + n) (5 + n) rest r2 p (omega arith) in
-    again ∙ ap (λ (q : Place). Ok (plain, q)) place
-    ∙ ap (λ z. Ok (record { levels = k.levels; xcb = k.xcb; ycb = k.ycb; style = z; precincts = k.precincts }, ahead (5 + n) rest p)) (sym is.plain)
+    let s1 = levels_again size fixed given k.levels p r1 e is.levels (size-is ∙ ap (λ m. fixed + m) size-of) (omega (arith, room)) in
+    let s2 = block_again k.xcb k.ycb p1 r2 refl (record { narrow = is.narrow; wide = is.wide; low = is.low; high = is.high; area = is.area }) (omega (arith, room)) in
+    let s3 = block_style_again k.style p2 r3 refl is.read (omega (arith, room)) in
+    let s4 = transform_again p3 r4 refl (omega (arith, room)) in
+    let s5 = given_again given k.levels k.precincts p4 rest refl is.precincts same (omega (arith, room)) in
+    let again : style_at size fixed given p ≡ Ok (k, ahead n rest p4) = rw (s1, s2, s3, s4, s5) refl in
+    let place : ahead n rest p4 ≡ ahead (5 + n) rest p =
+    ahead_twice 1 n (1 + n) rest r4 p3 refl ∙ ahead_twice 1 (1 + n) (2 + n) rest r3 p2 (omega arith)
+    ∙ ahead_twice 2 (2 + n) (4 + n) rest r2 p1 (omega arith) ∙ ahead_twice 1 (4 + n) (5 + n) rest r1 p (omega arith) in
+    again ∙ ap (λ (q : Place). Ok (k, q)) place

@@ -11,7 +11,8 @@ use Rattle.jk_marks.specs.declared.segments.CodingStyle.{CodingStyle}
 use Rattle.jk_marks.specs.Markers.{cod, coc, marker_text}
 use Rattle.jk_marks.specs.OrderCode.{order_code}
 use Rattle.jk_marks.specs.Precincts.{precinct_byte}
-use Rattle.jk_marks.specs.Segments.{CodSegment, CocSegment, QcdSegment, written_steps, given_bit, scod, bit_of, style_text, contents, segment_body, segment_text}
+use Rattle.jk_marks.specs.BlockStyle.{bit_of}
+use Rattle.jk_marks.specs.Segments.{CodSegment, CocSegment, QcdSegment, written_steps, given_bit, scod, style_text, contents, segment_body, segment_text}
 
 pub cod_text : (c : Cod) → segment_text (CodSegment c)
     ≡ marker_text cod ++ (big_bytes 2 (12 + length c.style.precincts) ++ (scod c ∷ order_code c.order ∷ (big_bytes 2 c.layers ++ (bit_of c.colour ∷ style_text c.style))))

@@ -4,6 +4,7 @@ use Rattle.std.specs.Prelude.{filter, slice_index_or, Option, None, Some, if◌t
 use Rattle.std.specs.List.{flat_map, AllByRecursion, range_with_len}
 use Rattle.byteorder.specs.Endian.{big_bytes}
 use Rattle.jk_marks.specs.declared.segments.Order.TheVariants.{Lrcp}
+use Rattle.jk_math.specs.Styles.{plain_style}
 use Rattle.jk_marks.specs.declared.segments.CodingStyle.{CodingStyle}
 use Rattle.jk_marks.specs.declared.segments.Cod.{Cod}
 use Rattle.jk_marks.specs.declared.segments.Quantisation.{Quantisation}
@@ -107,7 +108,7 @@ no_coding = record {
   order = Lrcp;
   layers = 1;
   colour = false;
-  style = record { levels = 0; xcb = 6; ycb = 6; style = 0; precincts = [] };
+  style = record { levels = 0; xcb = 6; ycb = 6; style = plain_style; precincts = [] };
 }
 
 abbrev pub no_quantisation : Quantisation

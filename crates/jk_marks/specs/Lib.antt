@@ -6,6 +6,7 @@ pub mod Siz
 pub mod OrderCode
 pub mod Precincts
 pub mod Exponents
+pub mod BlockStyle
 pub mod Segments
 pub mod Coding
 pub mod Codestream

@@ -5,6 +5,7 @@ use Rattle.std.specs.Prelude.{Ok, Err, slice_index_or, slice_set}
 use Rattle.byteorder.specs.Endian.{big_number}
 use Rattle.jk_math.specs.Answer.{◌>>=◌, refuse}
 use Rattle.jk_math.specs.declared.fault.Fault.{Fault}
+use Rattle.jk_math.specs.declared.style.Style.{Style}
 use Rattle.jk_math.specs.declared.fault.Fault.TheVariants.{Truncated, BadMarker, BadLength, BadValue, Unsupported}
 use Rattle.jk_math.specs.declared.fault.Fault.TheVariants.{Limit}
 use Rattle.jk_marks.specs.declared.segments.CodingStyle.{CodingStyle}
@@ -17,6 +18,7 @@ use Rattle.jk_marks.specs.Place.{Place, past, outside}
 use Rattle.jk_marks.specs.Segments.{is_coded, is_passed}
 use Rattle.jk_marks.specs.Codestream.{head_of}
 use Rattle.jk_marks.specs.Exponents.{exponents_of}
+use Rattle.jk_marks.specs.BlockStyle.{style_byte, style_of, is_read}
 use Rattle.jk_marks.specs.OrderCode.{order_with}
 
 -- a number of n bytes
@@ -71,14 +73,19 @@ block_at p = do
   _ ← refuse (nat_lt 8 ycb.0 || nat_lt 8 (xcb.0 + ycb.0)) BadValue
   Ok ((xcb.0 + 2, ycb.0 + 2), ycb.1)
 
--- the code-block style, of which none is read (table A.19), and the transform, which is the
--- reversible 5-3 filter (table A.20)
+-- the code-block style (table A.19)
+unfoldable pub block_style_at : Place → Result (Style × Place) Fault
+block_style_at p = do
+  byte ← number 1 p
+  _ ← refuse (nat_le 128 byte.0) BadValue
+  _ ← refuse (not (style_byte (style_of byte.0) == byte.0)) Unsupported
+  _ ← refuse (not (is_read (style_of byte.0))) Unsupported
+  Ok (style_of byte.0, byte.1)
+
+-- the transform, which is the reversible 5-3 filter (table A.20)
 unfoldable pub transform_at : Place → Result (Unit {0} × Place) Fault
 transform_at p = do
-  style ← number 1 p
-  _ ← refuse (nat_le 128 style.0) BadValue
-  _ ← refuse (nat_lt 0 style.0) Unsupported
-  transform ← number 1 style.1
+  transform ← number 1 p
   _ ← refuse (nat_lt 1 transform.0) BadValue
   _ ← refuse (nat_lt transform.0 1) Unsupported
   Ok (tt, transform.1)
@@ -88,9 +95,19 @@ unfoldable pub style_at : (size fixed : ℕ) → Bool → Place → Result (Codi
 style_at size fixed given p = do
   levels ← levels_at size fixed given p
   block ← block_at levels.1
-  transform ← transform_at block.1
+  style ← block_style_at block.1
+  transform ← transform_at style.1
   precincts ← given_precincts_at given (levels.0 + 1) transform.1
-  Ok (record { levels = levels.0; xcb = block.0.0; ycb = block.0.1; style = 0; precincts = precincts.0 }, precincts.1)
+  Ok (
+    record {
+      levels = levels.0;
+      xcb = block.0.0;
+      ycb = block.0.1;
+      style = style.0;
+      precincts = precincts.0;
+    },
+    precincts.1,
+  )
 
 -- COD, from its length on (A.6.1), in a codestream of n components
 unfoldable pub cod_at : ℕ → Place → Result (Cod × Place) Fault

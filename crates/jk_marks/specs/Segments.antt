@@ -10,6 +10,7 @@ use Rattle.jk_marks.specs.declared.segments.Quantisation.{Quantisation}
 use Rattle.jk_marks.specs.declared.head.Heading.{Heading}
 use Rattle.jk_marks.specs.declared.head.Heading.TheVariants.{MainHeader, FirstPart, LaterPart}
 use Rattle.jk_marks.specs.OrderCode.{order_code}
+use Rattle.jk_marks.specs.BlockStyle.{bit_of, style_byte, is_read}
 use Rattle.jk_marks.specs.Precincts.{precinct_byte}
 use Rattle.jk_marks.specs.Exponents.{exponents_of}
 use Rattle.jk_marks.specs.Markers.{cod, coc, qcd, qcc, tlm, plt, crg, comment, marker_text, is_listed, is_alone}
@@ -28,10 +29,6 @@ pub data Segment : Type 0 where
   Passed : ℕ → List ℕ → Segment
   Alone : ℕ → Segment
 
-abbrev pub bit_of : Bool → ℕ
-bit_of true = 1
-bit_of false = 0
-
 -- whether precinct sizes are given: Scoc (table A.23), and a bit of Scod
 abbrev pub given_bit : List (ℕ × ℕ) → ℕ
 given_bit [] = 0
@@ -44,7 +41,7 @@ scod c = given_bit c.style.precincts + 2 * bit_of c.sop + 4 * bit_of c.eph
 -- SPcod or SPcoc from the number of decomposition levels on (table A.15); the transform is the
 -- reversible 5-3 filter
 unfoldable pub style_text : CodingStyle → List ℕ
-style_text k = k.levels ∷ (k.xcb - 2) ∷ (k.ycb - 2) ∷ k.style ∷ 1 ∷ map precinct_byte k.precincts
+style_text k = k.levels ∷ (k.xcb - 2) ∷ (k.ycb - 2) ∷ style_byte k.style ∷ 1 ∷ map precinct_byte k.precincts
 
 -- precinct sizes: none, or a pair for each resolution, with 0 only at the lowest
 pub record ArePrecincts (levels : ℕ) (precincts : List (ℕ × ℕ)) : Type 0 where
@@ -60,7 +57,7 @@ pub record IsStyle (k : CodingStyle) : Type 0 where
   pub low : 2 ≤ k.ycb
   pub high : k.ycb ≤ 10
   pub area : k.xcb + k.ycb ≤ 12
-  pub plain : k.style ≡ 0
+  pub read : is_read k.style ≡ true
   pub precincts : ArePrecincts k.levels k.precincts
 
 -- the same of COD, with the number of components

@@ -3,6 +3,7 @@
 ghost use Rattle.std.specs.Prelude.{◌≡◌};
 
 use crate::segments::{Exponents, Precincts};
+use jk_math::Style;
 
 /// How one component of one tile is coded: what the segments that go before others say of it
 /// (T.800 A.6).
@@ -17,7 +18,7 @@ pub struct Coding {
     /// The precinct sizes: a pair for each resolution, from the lowest on.
     pub precincts: Precincts,
     /// The code-block style.
-    pub style: u8,
+    pub style: Style,
     /// How many guard bits there are.
     pub guard: u8,
     /// The exponents: one for each sub-band.

@@ -3,11 +3,12 @@
 ghost use Rattle.std.specs.Prelude.{◌≡◌, ◌≤◌, ◌<◌, length, [], IfOk};
 ghost use Rattle.jk_math.specs.Answer.{Reads};
 ghost use Rattle.jk_marks.specs.Reading.{precinct_at, precincts_at, given_precincts_at, levels_at, block_at};
-ghost use Rattle.jk_marks.specs.Reading.{transform_at, style_at, cod_at, component_at, coc_at};
+ghost use Rattle.jk_marks.specs.Reading.{block_style_at, transform_at, style_at, cod_at, component_at, coc_at};
 
+use crate::block_style::{is_read, style_byte, style_of};
 use crate::cursor::Cursor;
 use crate::segments::{Cod, CodingStyle, Order, Precincts};
-use jk_math::Fault;
+use jk_math::{Fault, Style};
 
 /// One precinct size (T.800 table A.21); only the first may have an exponent 0.
 #[tactic(auto, unfolding(crate::specs::Reading::precinct_at))]
@@ -73,18 +74,30 @@ fn read_block_size(cursor: &mut Cursor<'_>) -> Result<(u8, u8), Fault>
     Ok((width + 2, height + 2))
 }
 
-/// The code-block style and the transform (T.800 tables A.19 and A.20): none, and the 5-3 filter.
+/// The code-block style (T.800 table A.19).
+#[tactic(auto, unfolding(crate::specs::Reading::block_style_at))]
+fn read_block_style(cursor: &mut Cursor<'_>) -> Result<Style, Fault>
+    ensures { Reads block_style_at cursor.old cursor.new result }
+{
+    let byte = cursor.byte()?;
+    if byte >= 128 {
+        return Err(Fault::BadValue);
+    }
+    let style = style_of(byte);
+    if style_byte(style) != byte {
+        return Err(Fault::Unsupported);
+    }
+    if !is_read(style) {
+        return Err(Fault::Unsupported);
+    }
+    Ok(style)
+}
+
+/// The transform (T.800 table A.20), which is the 5-3 filter.
 #[tactic(auto, unfolding(crate::specs::Reading::transform_at))]
 fn pass_transform(cursor: &mut Cursor<'_>) -> Result<(), Fault>
     ensures { Reads transform_at cursor.old cursor.new result }
 {
-    let style = cursor.byte()?;
-    if style >= 128 {
-        return Err(Fault::BadValue);
-    }
-    if style > 0 {
-        return Err(Fault::Unsupported);
-    }
     let transform = cursor.byte()?;
     if transform > 1 {
         return Err(Fault::BadValue);
@@ -120,13 +133,14 @@ fn read_style(
 {
     let levels = read_levels(cursor, size, fixed, given)?;
     let (xcb, ycb) = read_block_size(cursor)?;
+    let style = read_block_style(cursor)?;
     pass_transform(cursor)?;
     let precincts = read_given_precincts(cursor, given, levels + 1)?;
     Ok(CodingStyle {
         levels,
         xcb,
         ycb,
-        style: 0,
+        style,
         precincts,
     })
 }

@@ -1,6 +1,7 @@
 //! The marker segments of a codestream.
 #![tactic(auto)]
 
+mod block_style;
 mod coding;
 mod coding_segments;
 mod copying;
@@ -17,6 +18,7 @@ mod spelling;
 mod tile_part;
 mod write;
 
+pub use block_style::is_read;
 pub use coding::Coding;
 pub use copying::copy_main;
 pub use cursor::Cursor;

@@ -9,7 +9,7 @@ ghost use Rattle.jk_marks.specs.Precincts.{precinct_byte};
 ghost use Rattle.jk_marks.specs.Exponents.{exponents_of};
 ghost use Rattle.jk_marks.specs.OrderCode.{order_code, order_with};
 
-use jk_math::Fault;
+use jk_math::{Fault, Style};
 use std::marker::Model;
 
 /// The order of packets (T.800 A.6.1, table A.16).
@@ -293,7 +293,7 @@ pub struct CodingStyle {
     /// The exponent of a code-block's height.
     pub ycb: u8,
     /// The code-block style (table A.19).
-    pub style: u8,
+    pub style: Style,
     /// The precinct sizes, where they are given.
     pub precincts: Precincts,
 }

@@ -9,12 +9,13 @@ ghost use Rattle.jk_math.specs.Front.{IsFront};
 ghost use Rattle.jk_marks.specs.Markers.{marker_text, eoc};
 ghost use Rattle.jk_marks.specs.declared.siz.Siz.{Siz};
 ghost use Rattle.jk_marks.specs.Siz.{siz_text, grid_text, ssiz, component_text, tile_count, IsSiz};
-ghost use Rattle.jk_marks.specs.Segments.{segment_text, given_bit, scod, bit_of, style_text, CodSegment, CocSegment};
+ghost use Rattle.jk_marks.specs.Segments.{segment_text, given_bit, scod, style_text, CodSegment, CocSegment};
 ghost use Rattle.jk_marks.specs.Segments.{QcdSegment, written_steps, IsStyle, IsQuantisation};
 ghost use Rattle.jk_marks.specs.Codestream.{main_text, own_style, own_steps, style_segments, step_segments, given_for};
 ghost use Rattle.jk_marks.specs.Codestream.{segments_of, main_of, sot_text, part_text, only_part_of, ForGiven};
 ghost use Rattle.jk_marks.specs.Codestream.{IsWritten, IsMain, IsPart};
 
+use crate::block_style::{bit, style_byte};
 use crate::main_header::Main;
 use crate::marker;
 use crate::segments::{Cod, CodingStyle, Quantisation};
@@ -112,15 +113,14 @@ fn put_style(out: &mut Vec<u8>, style: &CodingStyle) -> Result<(), Fault>
     ensures err { IfErr result (λ e. IsMemory e) }
     ensures front { IsFront out.old.items out.new.items }
 {
-    out.extend_from_slice(&[style.levels, style.xcb - 2, style.ycb - 2, style.style, 1])?;
+    out.extend_from_slice(&[
+        style.levels,
+        style.xcb - 2,
+        style.ycb - 2,
+        style_byte(style.style),
+        1,
+    ])?;
     style.precincts.put(out)
-}
-
-/// 1 or 0.
-fn bit(value: bool) -> u8
-    ensures { result ≡ bit_of value }
-{
-    if value { 1 } else { 0 }
 }
 
 /// Whether precinct sizes are given, as a bit of Scod and Scoc.

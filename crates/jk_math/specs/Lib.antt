@@ -8,3 +8,4 @@ pub mod Picture
 pub mod Raster
 pub mod Signed
 pub mod Steps
+pub mod Styles

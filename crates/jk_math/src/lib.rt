@@ -8,6 +8,7 @@ mod image;
 mod orientation;
 mod planes;
 mod rect;
+mod style;
 mod writing;
 
 pub use division::{ceil_div, floor_div, reflect};
@@ -16,4 +17,5 @@ pub use image::{Image, sample_range};
 pub use orientation::Orientation;
 pub use planes::Planes;
 pub use rect::Rect;
+pub use style::Style;
 pub use writing::write_out;

@@ -5,6 +5,7 @@ pub mod StepLaws
 pub mod Spelling
 pub mod Deciding
 pub mod Alike
+pub mod CodingPasses
 pub mod Placed
 pub mod Join
 pub mod Tail

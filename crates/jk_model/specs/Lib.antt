@@ -3,4 +3,5 @@ pub mod Contexts
 pub mod Steps
 pub mod Decisions
 pub mod Deciding
+pub mod CodingPasses
 pub mod Placed

@@ -13,5 +13,6 @@ pub use context::{Cx, first_contexts, next_state};
 pub use steps::{Step, first_steps};
 pub use table::{Row, STATES};
 pub use theorems::{
-    alike_spelling, given_decisions, joined_spelling, one_spelling, placed_value, standard_states,
+    alike_spelling, given_decisions, joined_spelling, one_spelling, one_spelling_by_passes,
+    placed_value, spelling_by_passes, standard_states,
 };

@@ -1,12 +1,16 @@
 //! What holds of the table and of the definitions. None of these functions does anything at run
 //! time.
 
-ghost use Rattle.std.specs.Prelude.{◌≡◌, ◌↔◌, ℕ, ◌+◌, ◌*◌, ◌^◌, ◌<◌, ◌≤◌, List, [], ◌∷◌, ◌++◌, Bool, length};
+ghost use Rattle.std.specs.Prelude.{◌≡◌, ◌↔◌, ℕ, ◌+◌, ◌*◌, ◌^◌, ◌<◌, ◌≤◌, List, [], ◌∷◌, ◌++◌, length, map};
+ghost use Rattle.std.specs.Prelude.{Bool, false};
 ghost use Rattle.jk_model.specs.Code.{code_value};
 ghost use Rattle.jk_model.specs.Contexts.{rows};
 ghost use Rattle.jk_model.specs.Deciding.{state_by, Follows, Alike};
 ghost use Rattle.jk_model.specs.Placed.{placed_number, end, Clean, onto};
 ghost use Rattle.jk_model.specs.Decisions.{State, Decision, SpellsFrom, Spells, state_after, chosen};
+ghost use Rattle.jk_model.specs.CodingPasses.{SpellsPassesFrom, SpellsPasses, state_after_passes, state_by_passes};
+ghost use Rattle.jk_model.specs.CodingPasses.{chosen_passes};
+ghost use Rattle.std.specs.List.{flat_map};
 
 use crate::table::STATES;
 
@@ -28,6 +32,26 @@ pub fn joined_spelling()
         ↔ (SpellsFrom bytes s xs × SpellsFrom bytes (state_after bytes s xs) ys) }
     ensures state { (bytes : List ℕ) (s : State) (xs ys : List Decision)
         → state_after bytes s (xs ++ ys) ≡ state_after bytes (state_after bytes s xs) ys }
+{}
+
+/// A segment spells at most one list of bits of each length in each pass, with context reset or
+/// without, also where each context is chosen by the bits before it.
+pub fn one_spelling_by_passes()
+    ensures { (reset : Bool) (bytes : List ℕ) (choose : List (List Bool) → List Bool → ℕ) (xss yss : List (List Bool))
+        → map length xss ≡ map length yss → SpellsPasses reset bytes (chosen_passes choose [] xss)
+        → SpellsPasses reset bytes (chosen_passes choose [] yss) → xss ≡ yss }
+{}
+
+/// The decisions of passes are spelled pass by pass. Without context reset they are one list.
+pub fn spelling_by_passes()
+    ensures spelled { (reset : Bool) (bytes : List ℕ) (s : State) (xss yss : List (List Decision))
+        → SpellsPassesFrom reset bytes s (xss ++ yss) ↔ (SpellsPassesFrom reset bytes s xss
+        × SpellsPassesFrom reset bytes (state_after_passes reset bytes s xss) yss) }
+    ensures state { (reset : Bool) (bytes : List ℕ) (s : State) (dss : List (List Decision))
+        → SpellsPassesFrom reset bytes s dss
+        → state_after_passes reset bytes s dss ≡ state_by_passes reset s dss }
+    ensures flat { (bytes : List ℕ) (dss : List (List Decision))
+        → SpellsPasses false bytes dss ↔ Spells bytes (flat_map (λ ds. ds) dss) }
 {}
 
 /// The states that decisions lead to need no bytes: they are those of all bytes that spell the

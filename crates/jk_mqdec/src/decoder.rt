@@ -4,6 +4,7 @@ ghost use Rattle.std.specs.Prelude.{◌≡◌, ℕ, Bool, suc, ◌+◌, ◌*◌,
 ghost use Rattle.std.specs.Prelude.{IfErr, OnOk, OnErr, MatchResult, Ok, Err};
 ghost use Rattle.jk_math.specs.declared.fault.Fault.TheVariants.{CodeOutOfInterval};
 ghost use Rattle.jk_model.specs.Decisions.{State, Decision, initial, Spells};
+ghost use Rattle.jk_model.specs.CodingPasses.{restarted};
 ghost use Rattle.jk_mqdec.specs.Standing.{View, Stands, HasFailed, Reached};
 ghost use Rattle.jk_mqdec.specs.Answers.{answer, next};
 
@@ -43,6 +44,18 @@ impl<'a> Decoder<'a> {
             bytes,
             registers: widened(loaded(bytes)),
             contexts: first_steps(),
+        }
+    }
+
+    /// The contexts take their first states again (T.800 Table D.7). The interval goes on, and a
+    /// decoder that has failed stays as it is.
+    pub fn reset(&mut self)
+        ensures bytes { self.new.bytes ≡ self.old.bytes }
+        ensures stands { (s : State) → Stands self.old s → Stands self.new (restarted s) }
+        ensures stays { HasFailed self.old → self.new ≡ self.old }
+    {
+        if self.registers.code < self.registers.width {
+            self.contexts = first_steps();
         }
     }
 

@@ -4,13 +4,14 @@
 ghost use Rattle.std.specs.Prelude.{◌≡◌, ◌<◌, OnOk};
 ghost use Rattle.jk_model.specs.Contexts.{first_contexts as start};
 ghost use Rattle.jk_model.specs.Decisions.{State, initial};
+ghost use Rattle.jk_model.specs.CodingPasses.{restarted};
 ghost use Rattle.jk_mqdec.specs.Standing.{View, Stands};
 ghost use Rattle.jk_mqdec.specs.Answers.{answer, next};
 
 use crate::deferred::{DeferredRegisters, caught_up, deferred};
 use crate::wide::{Subinterval, begun, divided};
 use jk_math::Fault;
-use jk_model::{Step, highest_bit};
+use jk_model::{Step, first_steps, highest_bit};
 use std::marker::Model;
 
 /// The MQ decoder over the bytes of a segment (T.800 Annex C), up to its first fault.
@@ -48,6 +49,14 @@ impl<'a> PassDecoder<'a> {
             registers: deferred(begun(bytes)),
             contexts,
         }
+    }
+
+    /// The contexts take their first states again (T.800 Table D.7). The interval goes on.
+    pub fn reset(&mut self)
+        ensures bytes { self.new.bytes ≡ self.old.bytes }
+        ensures stands { (s : State) → Stands self.old s → Stands self.new (restarted s) }
+    {
+        *self.contexts = first_steps();
     }
 
     /// The bit of the next decision, in the context of this number (DECODE, T.800 C.3.2), or

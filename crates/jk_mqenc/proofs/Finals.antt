@@ -2,17 +2,17 @@
 use Rattle.std.proofs.Common.{◌≡◌, ◌∙◌, ap, sym, subst, refl, ℕ, zero, suc, ◌+◌, ◌-◌, ◌≤◌, inl, inr, Bool, true, false, cond, List, [], ◌∷◌, ◌++◌, length, take, drop, get_or, eqb, arith}
 use Rattle.std.proofs.lemmas.Bool.{cases_lt}
 use Rattle.std.proofs.lemmas.List.{take_all}
-use Rattle.jk_model.specs.Decisions.{Decision, initial, Spells}
-use Rattle.jk_model.specs.Deciding.{state_by}
-use Rattle.jk_model.proofs.Laws.{spells-split, spells-alike, alike-ff}
+use Rattle.jk_model.specs.Decisions.{Decision, initial}
+use Rattle.jk_model.specs.CodingPasses.{state_by_passes, SpellsPasses}
+use Rattle.jk_model.proofs.Laws.{passes-split, passes-alike, alike-ff}
 use Rattle.jk_mqenc.specs.Machine.{Machine}
 use Rattle.jk_model.specs.Placed.{onto}
 use Rattle.jk_mqenc.specs.Coding.{flushed}
-use Rattle.jk_mqenc.specs.Deciding.{machine_by}
+use Rattle.jk_mqenc.specs.Deciding.{machine_by_passes}
 use Rattle.jk_mqenc.specs.Encoded.{started, written_by, without_last_ff, finished}
 use Rattle.jk_mqenc.proofs.Machine.{holds-started}
 use Rattle.jk_mqenc.proofs.Prefix.{spelled-part, take-part, length-onto}
-use Rattle.jk_mqenc.proofs.Encoding.{between-started, machine_by-more, finished-is, written_by-is, finished-spells}
+use Rattle.jk_mqenc.proofs.Encoding.{between-started, machine_by_passes-more, finished-is, written_by-is, finished-spells}
 
 -- ---- a last FF that is left off
 
@@ -34,31 +34,31 @@ without-shorter (b ∷ o) = either-length b o (eqb b 255)
 
 -- ---- parts
 
-abbrev whole : List Decision → List Decision → List ℕ
-whole ds rest = (flushed (machine_by (machine_by started initial ds) (state_by initial ds) rest)).placed
+abbrev whole : Bool → (dss rest : List (List Decision)) → List ℕ
+whole r dss rest = (flushed (machine_by_passes r (machine_by_passes r started initial dss) (state_by_passes r initial dss) rest)).placed
 
-finished-whole : (ds rest : List Decision) → finished (ds ++ rest) ≡ onto (without_last_ff (whole ds rest)) []
-finished-whole ds rest =
-    finished-is (ds ++ rest) ∙ ap (λ (m : Machine). onto (without_last_ff (flushed m).placed) []) (machine_by-more started initial ds rest)
+finished-whole : (r : Bool) (dss rest : List (List Decision)) → finished r (dss ++ rest) ≡ onto (without_last_ff (whole r dss rest)) []
+finished-whole r dss rest =
+    finished-is r (dss ++ rest) ∙ ap (λ (m : Machine). onto (without_last_ff (flushed m).placed) []) (machine_by_passes-more r started initial dss rest)
 
 -- a part shorter than the whole
-part-spells : (ds rest : List Decision) (z : ℕ) → written_by ds + 4 ≤ z → z ≤ length (without_last_ff (whole ds rest)) → Spells (take z (onto (without_last_ff (whole ds rest)) [])) ds
-part-spells ds rest z h k =
-    let f = whole ds rest in
+part-spells : (r : Bool) (dss rest : List (List Decision)) (z : ℕ) → written_by r dss + 4 ≤ z → z ≤ length (without_last_ff (whole r dss rest)) → SpellsPasses r (take z (onto (without_last_ff (whole r dss rest)) [])) dss
+part-spells r dss rest z h k =
+    let f = whole r dss rest in
     let part = take-part (without_last_ff f) z k ∙ ap (λ (x : List ℕ). onto x []) (same-part f z k) in
-    subst (λ (b : List ℕ). Spells b ds) (sym part) (spelled-part started initial ds rest z (onto (drop (length f - z) f) []) holds-started between-started (omega (arith, h, written_by-is ds)) (omega (arith, k, without-shorter f)) (λ i. refl))
+    subst (λ (b : List ℕ). SpellsPasses r b dss) (sym part) (spelled-part r started initial dss rest z (onto (drop (length f - z) f) []) holds-started between-started (omega (arith, h, written_by-is r dss)) (omega (arith, k, without-shorter f)) (λ i. refl))
 
--- What is four bytes longer than was written after some decisions spells these, whatever was coded
+-- What is four bytes longer than was written after some passes spells these, whatever was coded
 -- after them.
-pub finished-prefix : (ds rest : List Decision) (z : ℕ) → written_by ds + 4 ≤ z → Spells (take z (finished (ds ++ rest))) ds
-finished-prefix ds rest z h =
-    let g = without_last_ff (whole ds rest) in
-    let same = finished-whole ds rest in
-    subst (λ (b : List ℕ). Spells (take z b) ds) (sym same) (elim (cases_lt z (length g)) [
-      | inl l ↦ part-spells ds rest z h (omega (arith, l))
+pub finished-prefix : (r : Bool) (dss rest : List (List Decision)) (z : ℕ) → written_by r dss + 4 ≤ z → SpellsPasses r (take z (finished r (dss ++ rest))) dss
+finished-prefix r dss rest z h =
+    let g = without_last_ff (whole r dss rest) in
+    let same = finished-whole r dss rest in
+    subst (λ (b : List ℕ). SpellsPasses r (take z b) dss) (sym same) (elim (cases_lt z (length g)) [
+      | inl l ↦ part-spells r dss rest z h (omega (arith, l))
       | inr l ↦
-          let all = (spells-split (onto g []) initial ds rest (subst (λ (b : List ℕ). Spells b (ds ++ rest)) same (finished-spells (ds ++ rest)))).0 in
-          subst (λ (b : List ℕ). Spells b ds) (sym (take_all z (onto g []) (omega (arith, l, length-onto g [])))) all
+          let all = (passes-split r (onto g []) initial dss rest (subst (λ (b : List ℕ). SpellsPasses r b (dss ++ rest)) same (finished-spells r (dss ++ rest)))).0 in
+          subst (λ (b : List ℕ). SpellsPasses r b dss) (sym (take_all z (onto g []) (omega (arith, l, length-onto g [])))) all
     ])
 
 take-next : (v : List ℕ) (i : ℕ) → get_or v i 0 ≡ 255 → take (suc i) v ≡ take i v ++ 255 ∷ []
@@ -67,9 +67,9 @@ take-next (x ∷ xs) zero h = ap (λ (y : ℕ). y ∷ []) h
 take-next (x ∷ xs) (suc i) h = ap (λ (ys : List ℕ). x ∷ ys) (take-next xs i h)
 
 -- A last FF of the part can be left off.
-pub finished-shorter : (ds rest : List Decision) (z : ℕ) → written_by ds + 4 ≤ z → get_or (finished (ds ++ rest)) (z - 1) 0 ≡ 255 → Spells (take (z - 1) (finished (ds ++ rest))) ds
-finished-shorter ds rest z h k =
-    let v = finished (ds ++ rest) in
+pub finished-shorter : (r : Bool) (dss rest : List (List Decision)) (z : ℕ) → written_by r dss + 4 ≤ z → get_or (finished r (dss ++ rest)) (z - 1) 0 ≡ 255 → SpellsPasses r (take (z - 1) (finished r (dss ++ rest))) dss
+finished-shorter r dss rest z h k =
+    let v = finished r (dss ++ rest) in
     let one : z ≡ suc (z - 1) = omega (arith, h) in
     let e = ap (λ i. take i v) one ∙ take-next v (z - 1) k in
-    spells-alike (take (z - 1) v ++ 255 ∷ []) (take (z - 1) v) (alike-ff (take (z - 1) v)) initial ds (subst (λ (b : List ℕ). Spells b ds) e (finished-prefix ds rest z h))
+    passes-alike r (take (z - 1) v ++ 255 ∷ []) (take (z - 1) v) (alike-ff (take (z - 1) v)) initial dss (subst (λ (b : List ℕ). SpellsPasses r b dss) e (finished-prefix r dss rest z h))

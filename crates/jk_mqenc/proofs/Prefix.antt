@@ -1,17 +1,18 @@
 -- A long enough first part of the bytes spells what came before.
-use Rattle.std.proofs.Common.{◌≡◌, ◌∙◌, ap, sym, refl, ℕ, zero, suc, ◌+◌, ◌-◌, ◌≤◌, List, [], ◌∷◌, ◌++◌, length, drop, arith}
+use Rattle.std.proofs.Common.{◌≡◌, ◌∙◌, ap, sym, refl, ℕ, Bool, zero, suc, ◌+◌, ◌-◌, ◌≤◌, List, [], ◌∷◌, ◌++◌, length, drop, arith}
 use Rattle.std.proofs.Common.{append_assoc, length-drop, ◌++◌, take}
 use Rattle.std.proofs.lemmas.List.{take_at}
 use Rattle.jk_model.specs.Code.{code_value}
-use Rattle.jk_model.specs.Decisions.{State, Decision, SpellsFrom}
+use Rattle.jk_model.specs.Decisions.{State, Decision}
+use Rattle.jk_model.specs.CodingPasses.{state_by_passes, SpellsPassesFrom}
 use Rattle.jk_model.proofs.Laws.{value-alike}
 use Rattle.jk_model.specs.Placed.{end, Clean, onto}
-use Rattle.jk_model.specs.Deciding.{Alike, state_by}
+use Rattle.jk_model.specs.Deciding.{Alike}
 use Rattle.jk_mqenc.specs.Machine.{Machine, Holds}
 use Rattle.jk_mqenc.specs.Coding.{flushed}
-use Rattle.jk_mqenc.specs.Deciding.{machine_by, Closed, Between}
+use Rattle.jk_mqenc.specs.Deciding.{machine_by_passes, Closed, Between}
 use Rattle.jk_mqenc.proofs.Ending.{ends-last, end-of_more}
-use Rattle.jk_mqenc.proofs.Spelled.{leads_by, spelled, closed-flushed}
+use Rattle.jk_mqenc.proofs.Spelled.{leads_by_passes, spelled-passes, closed-flushed}
 use Rattle.jk_mqenc.proofs.Closing.{bytes_of}
 use Rattle.jk_mqenc.proofs.Flush.{closes}
 use Rattle.jk_model.proofs.Laws.{value-kept}
@@ -39,30 +40,31 @@ closed-same a b t e c = record { least = omega (arith, c.least); below = omega (
 
 -- Four bytes more than were placed after the first decisions spell these, whatever was coded after
 -- them.
-pub spelled-part : (m : Machine) (s : State) (ds rest : List Decision) (z : ℕ) (b : List ℕ) → Holds m s → Between m s
-    → let f = (flushed (machine_by (machine_by m s ds) (state_by s ds) rest)).placed in
-    length (machine_by m s ds).placed + 4 ≤ z → z ≤ length f → Alike b (onto (drop (length f - z) f) []) → SpellsFrom b s ds
-spelled-part m s ds rest z b i w h k same =
-    let first = leads_by m s ds i w in
-    let m1 = machine_by m s ds in
-    let s1 = state_by s ds in
-    let second = leads_by m1 s1 rest first.leads.holds first.between in
-    let m2 = machine_by m1 s1 rest in
-    let s2 = state_by s1 rest in
+pub spelled-part : (r : Bool) (m : Machine) (s : State) (dss rest : List (List Decision)) (z : ℕ) (b : List ℕ) → Holds m s → Between m s
+    → let f = (flushed (machine_by_passes r (machine_by_passes r m s dss) (state_by_passes r s dss) rest)).placed in
+    length (machine_by_passes r m s dss).placed + 4 ≤ z → z ≤ length f → Alike b (onto (drop (length f - z) f) []) → SpellsPassesFrom r b s dss
+spelled-part r m s dss rest z b i w h k same =
+    let first = leads_by_passes r m s dss i w in
+    let m1 = machine_by_passes r m s dss in
+    let s1 = state_by_passes r s dss in
+    let second = leads_by_passes r m1 s1 rest first.leads.holds first.between in
+    let m2 = machine_by_passes r m1 s1 rest in
+    let s2 = state_by_passes r s1 rest in
     let f = (flushed m2).placed in
     let c = closes m2 s2 second.between.count (omega (arith, second.between.wide, second.leads.holds.width)) second.leads.holds in
     let long = end-of_more (length m1.placed) (end m1.placed) z f (c.leads.ends (length m1.placed) (end m1.placed) (second.leads.ends (length m1.placed) (end m1.placed) (ends-last m1.placed))) h k in
     let part = onto (drop (length f - z) f) [] in
-    spelled b m s ds i w (λ t since.
+    spelled-passes r b m s dss i w (λ t since.
     let whole = closed-flushed m2 s2 second.leads.holds second.between t (second.leads.since t since) in
     let decided : t.doublings + 15 ≤ end (drop (length f - z) f) = omega (arith, long, since.clock, first.leads.holds.clock, first.between.count) in
     closed-same (bytes_of (flushed m2)) b t (value-alike b part same t.doublings ∙ value-part f (length f - z) t.doublings c.leads.holds.clean decided) whole)
 
--- The finished bytes, or bytes that read alike, spell all decisions.
-pub spelled-all : (m : Machine) (s : State) (ds : List Decision) (b : List ℕ) → Holds m s → Between m s → Alike b (bytes_of (flushed (machine_by m s ds))) → SpellsFrom b s ds
-spelled-all m s ds b i w same =
-    let r = leads_by m s ds i w in
-    spelled b m s ds i w (λ t since. closed-same (bytes_of (flushed (machine_by m s ds))) b t (value-alike b (bytes_of (flushed (machine_by m s ds))) same t.doublings) (closed-flushed (machine_by m s ds) (state_by s ds) r.leads.holds r.between t since))
+-- The finished bytes, or bytes that read alike, spell all passes.
+pub spelled-all : (r : Bool) (m : Machine) (s : State) (dss : List (List Decision)) (b : List ℕ) → Holds m s → Between m s → Alike b (bytes_of (flushed (machine_by_passes r m s dss))) → SpellsPassesFrom r b s dss
+spelled-all r m s dss b i w same =
+    let by = leads_by_passes r m s dss i w in
+    let n = machine_by_passes r m s dss in
+    spelled-passes r b m s dss i w (λ t since. closed-same (bytes_of (flushed n)) b t (value-alike b (bytes_of (flushed n)) same t.doublings) (closed-flushed n (state_by_passes r s dss) by.leads.holds by.between t since))
 
 -- ---- a first part, in order
 

@@ -1,19 +1,21 @@
 -- The finished bytes spell the decisions.
 use Rattle.std.proofs.Common.{◌≡◌, ◌∙◌, ap, sym, subst, refl, ℕ, zero, suc, ◌+◌, ◌-◌, ◌*◌, ◌^◌, ◌<◌, ◌≤◌, inl, inr, Bool, true, false, not, cond, List, [], ◌∷◌, length, get_or, set, ltb, arith}
 use Rattle.std.specs.Bool.{beq}
+use Rattle.std.specs.List.{list_all}
 use Rattle.std.proofs.Math.Nat.{pow-succ'}
-use Rattle.std.proofs.lemmas.Bool.{cases_lt, cases_eq, lt-ltb, le-ltb}
+use Rattle.std.proofs.lemmas.Bool.{cases_lt, cases_eq, lt-ltb, le-ltb, ltb-true, and_parts}
 use Rattle.std.proofs.lemmas.List.{get_or-set_same, get_or-set_other, set_past}
 use Rattle.jk_model.specs.Code.{code_value}
-use Rattle.jk_model.specs.Contexts.{Context, begins, moved, row_of}
-use Rattle.jk_model.specs.Decisions.{State, Decision, context_at, qe_at, is_lower, doubled, renormalised, IsWithin, SpellsFrom}
+use Rattle.jk_model.specs.Contexts.{Context, begins, moved, row_of, first_contexts}
+use Rattle.jk_model.specs.Decisions.{State, Decision, initial, context_at, qe_at, is_lower, doubled, renormalised, IsWithin, SpellsFrom}
 use Rattle.jk_model.specs.Deciding.{takes_lower, taken, contexts_taken, made, decided, state_by}
-use Rattle.jk_model.proofs.Laws.{row-sound, bit-taken, after-decided}
+use Rattle.jk_model.specs.CodingPasses.{begun_by, state_by_passes, SpellsPassesFrom}
+use Rattle.jk_model.proofs.Laws.{row-sound, bit-taken, after-decided, state_after-by}
 use Rattle.jk_mqenc.specs.Machine.{Machine, Holds}
 use Rattle.jk_mqenc.specs.Since.{Since}
 use Rattle.jk_mqenc.specs.Leads.{Leads}
 use Rattle.jk_mqenc.specs.Coding.{subinterval, renorme, flushed}
-use Rattle.jk_mqenc.specs.Deciding.{machine_decided, machine_by, Closed, Between}
+use Rattle.jk_mqenc.specs.Deciding.{machine_decided, machine_by, machine_by_passes, Closed, Between}
 use Rattle.jk_mqenc.proofs.Since.{since-now}
 use Rattle.jk_mqenc.proofs.AtomicSteps.{leads-self, leads-then, leads-narrow, goes-renorme, renormalised-suc, renormalised-zero}
 use Rattle.jk_mqenc.proofs.Flush.{closes}
@@ -21,7 +23,7 @@ use Rattle.jk_mqenc.proofs.Closing.{bytes_of, closed-above, closed-below}
 
 -- ---- one decision
 
-holds-contexts : (m : Machine) (s : State) (c : List Context) → Holds m s → Holds m (record s { contexts = c })
+pub holds-contexts : (m : Machine) (s : State) (c : List Context) → Holds m s → Holds m (record s { contexts = c })
 holds-contexts m s c h = record {
   low = h.low;
   clock = h.clock;
@@ -233,3 +235,58 @@ pub closed-flushed : (m : Machine) (s : State) → Holds m s → Between m s →
 closed-flushed m s i b t since =
     let c = closes m s b.count (omega (arith, b.wide, i.width)) i in
     record { least = closed-below t m s (flushed m) c since; below = closed-above t m s (flushed m) c since }
+
+-- ---- pass by pass
+
+-- a pass begins
+pub record Begins (r : Bool) (m : Machine) (s : State) : Type 0 where
+  pub leads : Leads m s m (begun_by r s)
+  pub between : Between m (begun_by r s)
+
+states-in : (xs : List Context) (i : ℕ) → list_all (λ c. ltb c.state 47) xs ≡ true → (get_or xs i (begins 0)).state < 47
+states-in [] i h = omega arith
+states-in (x ∷ xs) zero h = ltb-true x.state 47 (and_parts (ltb x.state 47) (list_all (λ c. ltb c.state 47) xs) h).0
+states-in (x ∷ xs) (suc i) h = states-in xs i (and_parts (ltb x.state 47) (list_all (λ c. ltb c.state 47) xs) h).1
+
+pub first-states : (i : ℕ) → (context_at initial i).state < 47
+unfolding first_contexts
+first-states i = states-in first_contexts i refl
+
+pub begins-by : (r : Bool) (m : Machine) (s : State) → Holds m s → Between m s → Begins r m s
+begins-by true m s i b = record {
+  leads = leads-contexts m s m s first_contexts (leads-self m s i);
+  between = record { count = b.count; wide = b.wide; states = first-states };
+}
+begins-by false m s i b = record { leads = leads-self m s i; between = b }
+
+pub record LeadsByPasses (r : Bool) (m : Machine) (s : State) (dss : List (List Decision)) : Type 0 where
+  pub leads : Leads m s (machine_by_passes r m s dss) (state_by_passes r s dss)
+  pub between : Between (machine_by_passes r m s dss) (state_by_passes r s dss)
+
+pub leads_by_passes : (r : Bool) (m : Machine) (s : State) (dss : List (List Decision)) → Holds m s → Between m s → LeadsByPasses r m s dss
+leads_by_passes r m s [] i b = record { leads = leads-self m s i; between = b }
+leads_by_passes r m s (ds ∷ dss) i b =
+    let n = begun_by r s in
+    let first = begins-by r m s i b in
+    let pass = leads_by m n ds first.leads.holds first.between in
+    let m1 = machine_by m n ds in
+    let s1 = state_by n ds in
+    let rest = leads_by_passes r m1 s1 dss pass.leads.holds pass.between in
+    record {
+      leads = leads-then m m1 (machine_by_passes r m1 s1 dss) s s1 (state_by_passes r s1 dss) (leads-then m m m1 s n s1 first.leads pass.leads) rest.leads;
+      between = rest.between;
+    }
+
+-- Bytes that lie within each interval that the registers remember spell the passes.
+pub spelled-passes : (r : Bool) (b : List ℕ) (m : Machine) (s : State) (dss : List (List Decision)) → Holds m s → Between m s
+    → ((t : State) → Since t (machine_by_passes r m s dss) (state_by_passes r s dss) → Closed b t) → SpellsPassesFrom r b s dss
+spelled-passes r b m s [] i w c = tt
+spelled-passes r b m s (ds ∷ dss) i w c =
+    let n = begun_by r s in
+    let first = begins-by r m s i w in
+    let pass = leads_by m n ds first.leads.holds first.between in
+    let m1 = machine_by m n ds in
+    let s1 = state_by n ds in
+    let rest = leads_by_passes r m1 s1 dss pass.leads.holds pass.between in
+    let here = spelled b m n ds first.leads.holds first.between (λ t since. c t (rest.leads.since t since)) in
+    (here, subst (λ (u : State). SpellsPassesFrom r b u dss) (sym (state_after-by b n ds here)) (spelled-passes r b m1 s1 dss pass.leads.holds pass.between c))

@@ -2,22 +2,22 @@
 use Rattle.std.proofs.Common.{◌≡◌, ◌∙◌, ap, sym, subst, refl, ℕ, zero, suc, ◌+◌, ◌<◌, ◌≤◌, inl, inr, Bool, true, false, ◌||◌, cond, List, [], ◌∷◌, ◌++◌, length, eqb, ltb, arith}
 use Rattle.std.proofs.lemmas.Bool.{cases_lt, cases_eq, eq-eqb, ne_eqb, and_left}
 use Rattle.jk_model.specs.Code.{byte_at, is_last, is_past}
-use Rattle.jk_model.specs.Decisions.{Decision, initial}
-use Rattle.jk_model.specs.Deciding.{state_by}
+use Rattle.jk_model.specs.Decisions.{State, Decision, initial}
+use Rattle.jk_model.specs.CodingPasses.{state_by_passes}
 use Rattle.jk_model.proofs.Laws.{is_last-is, is_past-suc}
-use Rattle.jk_mqenc.specs.Machine.{Machine}
+use Rattle.jk_mqenc.specs.Machine.{Machine, Holds}
 use Rattle.jk_model.specs.Placed.{end, Clean, onto}
 use Rattle.jk_mqenc.specs.Coding.{flushed}
-use Rattle.jk_mqenc.specs.Deciding.{machine_by}
+use Rattle.jk_mqenc.specs.Deciding.{machine_by_passes, Between}
 use Rattle.jk_mqenc.specs.Encoded.{started, written_by, without_last_ff, finished}
 use Rattle.jk_mqenc.proofs.Machine.{holds-started}
 use Rattle.jk_model.proofs.Laws.{top-ff}
 use Rattle.jk_model.proofs.Laws.{byte-onto, at-placed}
 use Rattle.jk_mqenc.proofs.Flush.{closes}
-use Rattle.jk_mqenc.proofs.Spelled.{leads_by}
+use Rattle.jk_mqenc.proofs.Spelled.{leads_by_passes}
 use Rattle.jk_mqenc.proofs.Ending.{ends-last}
 use Rattle.jk_mqenc.proofs.Prefix.{length-onto}
-use Rattle.jk_mqenc.proofs.Encoding.{between-started, machine_by-more, finished-is, written_by-is}
+use Rattle.jk_mqenc.proofs.Encoding.{between-started, machine_by_passes-more, finished-is, written_by-is}
 
 neither-left : (x y : Bool) → (x || y) ≡ false → x ≡ false
 neither-left true y h = h
@@ -70,21 +70,26 @@ without-unmarked [] c i h = absurd (omega arith)
 without-unmarked (b ∷ o) c i h = either-unmarked b o c i h
 
 -- No byte above 8F follows an FF, and the last byte isn't FF.
-pub finished-unmarked : (ds : List Decision) (i : ℕ) → i < length (finished ds) → is_last (finished ds) i ≡ false
-finished-unmarked ds i h =
-    let r = leads_by started initial ds holds-started between-started in
-    let m = machine_by started initial ds in
-    let c = closes m (state_by initial ds) r.between.count (omega (arith, r.between.wide, r.leads.holds.width)) r.leads.holds in
+pub flushed-unmarked : (m : Machine) (s : State) → Holds m s → Between m s → (i : ℕ) → let b = onto (without_last_ff (flushed m).placed) [] in i < length b → is_last b i ≡ false
+flushed-unmarked m s holds between i h =
     let f = (flushed m).placed in
-    let size : i < length (without_last_ff f) = omega (arith, h, ap (λ (x : List ℕ). length x) (finished-is ds), length-onto (without_last_ff f) []) in
-    ap (λ (x : List ℕ). is_last x i) (finished-is ds) ∙ without-unmarked f c.leads.holds.clean i size
+    let c = closes m s between.count (omega (arith, between.wide, holds.width)) holds in
+    let size : i < length (without_last_ff f) = omega (arith, h, length-onto (without_last_ff f) []) in
+    without-unmarked f c.leads.holds.clean i size
+
+pub finished-unmarked : (r : Bool) (dss : List (List Decision)) (i : ℕ) → i < length (finished r dss) → is_last (finished r dss) i ≡ false
+finished-unmarked r dss i h =
+    let by = leads_by_passes r started initial dss holds-started between-started in
+    let m = machine_by_passes r started initial dss in
+    ap (λ (x : List ℕ). is_last x i) (finished-is r dss)
+    ∙ flushed-unmarked m (state_by_passes r initial dss) by.leads.holds by.between i (subst (λ (x : List ℕ). i < length x) (finished-is r dss) h)
 
 -- What is placed stays placed.
-pub written-grows : (ds rest : List Decision) → written_by ds ≤ written_by (ds ++ rest)
-written-grows ds rest =
-    let first = leads_by started initial ds holds-started between-started in
-    let m = machine_by started initial ds in
-    let s = state_by initial ds in
-    let second = leads_by m s rest first.leads.holds first.between in
+pub written-grows : (r : Bool) (dss rest : List (List Decision)) → written_by r dss ≤ written_by r (dss ++ rest)
+written-grows r dss rest =
+    let first = leads_by_passes r started initial dss holds-started between-started in
+    let m = machine_by_passes r started initial dss in
+    let s = state_by_passes r initial dss in
+    let second = leads_by_passes r m s rest first.leads.holds first.between in
     let more = second.leads.ends (length m.placed) (end m.placed) (ends-last m.placed) in
-    omega (arith, written_by-is ds, written_by-is (ds ++ rest), ap (λ (n : Machine). length n.placed) (machine_by-more started initial ds rest), more.enough)
+    omega (arith, written_by-is r dss, written_by-is r (dss ++ rest), ap (λ (n : Machine). length n.placed) (machine_by_passes-more r started initial dss rest), more.enough)

@@ -1,11 +1,14 @@
 //! The encoder: registers, placed bytes, and the contexts.
 
-ghost use Rattle.std.specs.Prelude.{◌≡◌, ℕ, ◌+◌, ◌-◌, ◌/◌, ◌%◌, ◌<◌, ◌≤◌, List, [], ◌∷◌, ◌++◌, All, IfOk, MatchResult};
-ghost use Rattle.std.specs.Prelude.{false, true, map, take, get_or, length};
+ghost use Rattle.std.specs.Prelude.{◌≡◌, ℕ, Bool, ◌+◌, ◌-◌, ◌/◌, ◌%◌, ◌<◌, ◌≤◌, List, [], ◌∷◌, ◌++◌, All, IfOk};
+ghost use Rattle.std.specs.Prelude.{MatchResult, false, true, map, take, get_or, length};
 ghost use Rattle.jk_math.specs.Memory.{IsMemory};
 ghost use Rattle.jk_model.specs.Code.{is_last};
-ghost use Rattle.jk_model.specs.Decisions.{Decision, Spells};
-ghost use Rattle.jk_mqenc.specs.Encoded.{Codes, decision_of, written_by, finished, with_registers, lasting};
+ghost use Rattle.jk_model.specs.Decisions.{State, Decision};
+ghost use Rattle.jk_model.specs.CodingPasses.{SpellsPasses};
+ghost use Rattle.jk_mqenc.specs.Machine.{Machine};
+ghost use Rattle.jk_mqenc.specs.Encoded.{CodesFrom, Codes, HasCodedFrom, decision_of, written_by, finished};
+ghost use Rattle.jk_mqenc.specs.Encoded.{with_registers, lasting};
 
 use crate::coder::Coder;
 use crate::registers::DeferredRegisters;
@@ -46,10 +49,10 @@ fn encode_one(
     bit: bool,
 ) -> Result<DeferredRegisters, Refused>
     requires cx { cx < 19 }
-    requires coded { (ds : List Decision) × Codes (lasting (with_registers coder.old registers) contexts.old) ds }
-    ensures codes { IfOk result (λ r. (ds : List Decision)
-        → Codes (lasting (with_registers coder.old registers) contexts.old) ds
-        → Codes (lasting (with_registers coder.new r) contexts.new) (ds ++ (cx, bit) ∷ [])) }
+    requires coded { HasCodedFrom (lasting (with_registers coder.old registers) contexts.old) }
+    ensures codes { IfOk result (λ r. (m : Machine) (s : State) (ds : List Decision)
+        → CodesFrom m s (lasting (with_registers coder.old registers) contexts.old) ds
+        → CodesFrom m s (lasting (with_registers coder.new r) contexts.new) (ds ++ (cx, bit) ∷ [])) }
 {
     let context = contexts[cx];
     let less = bit != context.mps();
@@ -66,9 +69,10 @@ fn encode_list(
     decisions: &[u8],
 ) -> Result<(), Refused>
     requires decisions { All (λ byte. byte / 2 < 19) decisions.now }
-    requires coded { (ds : List Decision) × Codes (lasting coder.old contexts.old) ds }
-    ensures codes { IfOk result (λ _. (ds : List Decision) → Codes (lasting coder.old contexts.old) ds
-        → Codes (lasting coder.new contexts.new) (ds ++ map decision_of decisions.now)) }
+    requires coded { HasCodedFrom (lasting coder.old contexts.old) }
+    ensures codes { IfOk result (λ _. (m : Machine) (s : State) (ds : List Decision)
+        → CodesFrom m s (lasting coder.old contexts.old) ds
+        → CodesFrom m s (lasting coder.new contexts.new) (ds ++ map decision_of decisions.now)) }
 {
     let mut registers = DeferredRegisters::new(coder.registers());
     for byte in decisions {
@@ -85,9 +89,9 @@ fn encode_list(
 }
 
 impl Encoder {
-    /// An encoder of no decisions yet.
+    /// An encoder of no passes yet.
     pub fn new(alloc: Global) -> Encoder
-        ensures { Codes result [] }
+        ensures { (reset : Bool) → Codes result reset [] }
     {
         Encoder {
             coder: Coder::new(alloc),
@@ -99,16 +103,30 @@ impl Encoder {
     /// How many bytes are placed by now. A carry may still reach the last of them, which is
     /// counted.
     pub fn written(&self) -> usize
-        ensures { (ds : List Decision) → Codes self.now ds → result ≡ written_by ds }
+        ensures { (reset : Bool) (dss : List (List Decision))
+            → Codes self.now reset dss → result ≡ written_by reset dss }
     {
         self.coder.written()
     }
 
-    /// Codes a decision in the context of this number (ENCODE, T.800 C.2.2).
+    /// With context reset a pass begins: the contexts take their first states again (T.800 Table
+    /// D.7), and the interval goes on. An encoder that has failed stays as it is.
+    pub fn reset(&mut self)
+        ensures codes { (dss : List (List Decision)) → Codes self.old true dss → Codes self.new true (dss ++ [] ∷ []) }
+        ensures failed { self.new.failed ≡ self.old.failed }
+        ensures stays { self.old.failed ≡ true → self.new ≡ self.old }
+    {
+        if self.refused.is_none() {
+            self.contexts = first_steps();
+        }
+    }
+
+    /// Codes a decision of the last pass, in the context of this number (ENCODE, T.800 C.2.2).
     pub fn encode(&mut self, cx: usize, bit: bool) -> Result<(), Fault>
         requires { cx < 19 }
-        ensures codes { IfOk result (λ _. (ds : List Decision)
-            → Codes self.old ds → Codes self.new (ds ++ (cx, bit) ∷ [])) }
+        ensures codes { IfOk result (λ _. (reset : Bool) (before : List (List Decision)) (ds : List Decision)
+            → Codes self.old reset (before ++ ds ∷ [])
+            → Codes self.new reset (before ++ (ds ++ (cx, bit) ∷ []) ∷ [])) }
         ensures fault { MatchResult result
             (λ _. self.old.failed ≡ false) (λ e. IsMemory e × (self.new.failed ≡ true)) }
         ensures stays { self.old.failed ≡ true → self.new ≡ self.old }
@@ -129,12 +147,13 @@ impl Encoder {
         }
     }
 
-    /// Codes these decisions, each in one byte: its lowest bit is the decision's, those above it
-    /// are the number of its context.
+    /// Codes these decisions of the last pass, each in one byte: its lowest bit is the decision's,
+    /// those above it are the number of its context.
     pub fn encode_all(&mut self, decisions: &[u8]) -> Result<(), Fault>
         requires { All (λ byte. byte / 2 < 19) decisions.now }
-        ensures codes { IfOk result (λ _. (ds : List Decision)
-            → Codes self.old ds → Codes self.new (ds ++ map decision_of decisions.now)) }
+        ensures codes { IfOk result (λ _. (reset : Bool) (before : List (List Decision)) (ds : List Decision)
+            → Codes self.old reset (before ++ ds ∷ [])
+            → Codes self.new reset (before ++ (ds ++ map decision_of decisions.now) ∷ [])) }
         ensures fault { MatchResult result
             (λ _. self.old.failed ≡ false) (λ e. IsMemory e × (self.new.failed ≡ true)) }
         ensures stays { self.old.failed ≡ true → self.new ≡ self.old }
@@ -151,19 +170,20 @@ impl Encoder {
         }
     }
 
-    /// The bytes of the decisions (FLUSH, T.800 C.2.9). They spell the decisions, and what is four
-    /// bytes longer than was [`written`](Encoder::written) at an earlier time spells those made by
-    /// then.
+    /// The bytes of the passes (FLUSH, T.800 C.2.9). They spell the passes, and what is four bytes
+    /// longer than was [`written`](Encoder::written) after an earlier pass spells those up to it.
     pub fn finish(self) -> Result<Vec<u8>, Fault>
-        ensures exact { IfOk result (λ v. (ds : List Decision) → Codes self ds → v.items ≡ finished ds) }
-        ensures spells { IfOk result (λ v. (ds : List Decision) → Codes self ds → Spells v.items ds) }
+        ensures exact { IfOk result (λ v. (reset : Bool) (dss : List (List Decision))
+            → Codes self reset dss → v.items ≡ finished reset dss) }
+        ensures spells { IfOk result (λ v. (reset : Bool) (dss : List (List Decision))
+            → Codes self reset dss → SpellsPasses reset v.items dss) }
 
         // So does such a part without its last byte, if that is FF.
-        ensures prefix { IfOk result (λ v. (ds rest : List Decision) (z : ℕ)
-            → Codes self (ds ++ rest) → written_by ds + 4 ≤ z → Spells (take z v.items) ds) }
-        ensures shorter { IfOk result (λ v. (ds rest : List Decision) (z : ℕ)
-            → Codes self (ds ++ rest) → written_by ds + 4 ≤ z → get_or v.items (z - 1) 0 ≡ 255
-            → Spells (take (z - 1) v.items) ds) }
+        ensures prefix { IfOk result (λ v. (reset : Bool) (dss rest : List (List Decision)) (z : ℕ)
+            → Codes self reset (dss ++ rest) → written_by reset dss + 4 ≤ z → SpellsPasses reset (take z v.items) dss) }
+        ensures shorter { IfOk result (λ v. (reset : Bool) (dss rest : List (List Decision)) (z : ℕ)
+            → Codes self reset (dss ++ rest) → written_by reset dss + 4 ≤ z → get_or v.items (z - 1) 0 ≡ 255
+            → SpellsPasses reset (take (z - 1) v.items) dss) }
 
         // No byte above 8F follows an FF, and the last byte isn't FF.
         ensures unmarked { IfOk result (λ v. (i : ℕ) → i < length v.items → is_last v.items i ≡ false) }

@@ -1,6 +1,7 @@
 -- Examples: the tile from (3, 5) to (8, 8) with one level and precincts of 2 by 2 and 4 by 4, in
 -- each order.
 use Rattle.std.specs.Prelude.{◌≡◌, ℕ, [], ◌∷◌, refl}
+use Rattle.jk_math.specs.Styles.{plain_style}
 use Rattle.jk_marks.specs.declared.segments.Order.{Order}
 use Rattle.jk_marks.specs.declared.segments.Order.TheVariants.{Lrcp, Rlcp, Rpcl, Pcrl, Cprl}
 use Rattle.jk_marks.specs.declared.coding.Coding.{Coding}
@@ -12,7 +13,15 @@ use Rattle.jk_geom.specs.Counts.{precincts_below, packet_number}
 use Rattle.jk_order.specs.PacketOrder.{key, packet_count, joined, all_names, inserted, sorted, order}
 
 abbrev small : Coding
-small = record { levels = 1; xcb = 6; ycb = 6; precincts = (1, 1) ∷ (2, 2) ∷ []; style = 0; guard = 2; exponents = [] }
+small = record {
+  levels = 1;
+  xcb = 6;
+  ycb = 6;
+  precincts = (1, 1) ∷ (2, 2) ∷ [];
+  style = plain_style;
+  guard = 2;
+  exponents = [];
+}
 
 abbrev tile : Order → TileShape
 tile o = record { rect = record { x0 = 3; y0 = 5; x1 = 8; y1 = 8 }; layers = 1; order = o; codings = small ∷ [] }

@@ -23,6 +23,7 @@ use Rattle.jk_marks.specs.HeaderReading.{part_at}
 use Rattle.jk_math.proofs.Laws.{AreBytes, are_bytes_after}
 use Rattle.jk_marks.proofs.Laws.{found_part}
 use Rattle.jk_geom.specs.TileShapes.{AreCodings}
+use Rattle.jk_marks.proofs.StyleLaws.{plain_read}
 use Rattle.jk_params.specs.Coding.{coding_with}
 use Rattle.jk_params.specs.CodingReading.{style_in as own_style, quantisation_in, coding_at, codings_from, codings_at, HaveStyles}
 use Rattle.jk_params.specs.Headers.{TileFields, tile_in, no_fields}
@@ -92,7 +93,7 @@ no_style = record {
   low = lit≤ tt;
   high = lit≤ tt;
   area = lit≤ tt;
-  plain = refl;
+  read = plain_read;
   precincts = record { count = inl refl; small = tt; whole = tt };
 }
 

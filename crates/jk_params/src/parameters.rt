@@ -1,6 +1,7 @@
 //! The parameters of an encoding.
 
 use jk_marks::Order;
+use jk_math::Style;
 
 /// What holds the codestream.
 #[derive(Clone, Copy, Debug, PartialEq, Eq)]
@@ -26,6 +27,8 @@ pub struct Parameters {
     pub xcb: u8,
     /// The exponent of a code-block's height, 2 to 10.
     pub ycb: u8,
+    /// The style of code-blocks; vertically causal contexts aren't written.
+    pub style: Style,
     /// Pairs of exponents PPx and PPy of precinct sizes, 0 to 15, one for each resolution from the
     /// lowest on, with 0 only there; none where they aren't given.
     pub precincts: Vec<(u8, u8)>,

@@ -1,5 +1,6 @@
 -- Examples: contexts of Tables D.1, D.3 and D.4 of T.800, and the passes of a column of four rows.
 use Rattle.std.specs.Prelude.{◌≡◌, ℕ, ◌^◌, ◌/◌, true, false, refl, [], ◌∷◌, get_or}
+use Rattle.jk_math.specs.Styles.{plain_style}
 use Rattle.jk_math.specs.declared.orientation.Orientation.TheVariants.{LL, HL, LH, HH}
 use Rattle.jk_scan.specs.declared.shape.BlockShape.{BlockShape}
 use Rattle.jk_scan.specs.declared.contexts.Contribution.TheVariants.{Negative, Balanced, Positive}
@@ -48,7 +49,7 @@ refined_again = refl
 
 -- a column of four rows in LH
 abbrev shape : BlockShape
-shape = record { width = 1; height = 4; orientation = LH }
+shape = record { width = 1; height = 4; orientation = LH; style = plain_style }
 
 -- The magnitudes 1, 5, 1, 0, all positive, without the b lowest bit-planes (the second code-block of
 -- the image of T.800 J.10).

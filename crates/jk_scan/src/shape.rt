@@ -1,8 +1,8 @@
 //! Which code-block it is.
 
-use jk_math::Orientation;
+use jk_math::{Orientation, Style};
 
-/// The size of a code-block in coefficients, and the sub-band that it lies in.
+/// The size of a code-block in coefficients, the sub-band that it lies in, and its style.
 #[derive(Clone, Copy, Debug, PartialEq, Eq)]
 pub struct BlockShape {
     /// How many columns it has.
@@ -11,4 +11,6 @@ pub struct BlockShape {
     pub height: usize,
     /// Its sub-band.
     pub orientation: Orientation,
+    /// Its style.
+    pub style: Style,
 }

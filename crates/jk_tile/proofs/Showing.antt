@@ -13,6 +13,7 @@ use Rattle.jk_math.proofs.Laws.{raster_is}
 use Rattle.jk_geom.specs.Precincts.{precinct_number, precincts_across, precincts_down}
 use Rattle.jk_marks.specs.declared.coding.Coding.{Coding}
 use Rattle.jk_math.specs.declared.orientation.Orientation.{Orientation}
+use Rattle.jk_math.specs.declared.style.Style.{Style}
 use Rattle.jk_geom.specs.declared.grid.BlockGrid.{BlockGrid}
 use Rattle.jk_geom.specs.Rectangles.{IsWithin, band_area, meet, cell}
 use Rattle.jk_geom.specs.Blocks.{block_area, block_grid}
@@ -21,7 +22,7 @@ use Rattle.jk_scan.specs.declared.shape.BlockShape.{BlockShape}
 use Rattle.jk_walk.specs.declared.places.PacketPlace.{PacketPlace}
 use Rattle.jk_walk.specs.TilePackets.{Body, orientations, band_number, planes_of}
 use Rattle.jk_walk.specs.WalkReading.{place_end}
-use Rattle.jk_tile.specs.TileBlocks.{orientation_at, grid_at, block_at_place, shape_of_area, block_bodies, IsBlockShape}
+use Rattle.jk_tile.specs.TileBlocks.{orientation_at, grid_at, block_at_place, shape_of_area, block_shape, block_bodies, IsBlockShape}
 use Rattle.jk_tile.specs.decoding.TileReading.{each, tested, is_met, met_tested, precinct_part_tested, resolution_part_tested, bodies_of, bodies_values, block_values, values_or, block_with}
 use Rattle.jk_tile.specs.declared.decoding.bodies.BodyPlace.{BodyPlace}
 use Rattle.jk_tile.specs.declared.decoding.chains.PacketChains.{PacketChains}
@@ -85,22 +86,24 @@ pub few_is : (s : Source) (r n i j : ℕ) (grid : BlockGrid) → grid ≡ grid_a
 few_is s r n i j grid e lt = subst (λ (g : BlockGrid). j < block_number g) e lt
 
 -- its shape
-pub shape_is : (s : Source) (r n i j : ℕ) (place : Rect) (o : Orientation) (shape : BlockShape) → IsSource s → place ≡ block_at_place s.region.rect s.coding r n i j → o ≡ orientation_at r i
-    → shape ≡ shape_of_area place o → j < block_number (grid_at s.region.rect s.coding r n i) → IsBlockShape shape
-shape_is s r n i j place o shape is ep eo e lt =
-    let same : shape ≡ shape_of_area (block_at_place s.region.rect s.coding r n i j) (orientation_at r i) =
-    e ∙ ap (λ (p : Rect). shape_of_area p o) ep ∙ ap (shape_of_area (block_at_place s.region.rect s.coding r n i j)) eo in
+pub shape_is : (s : Source) (r n i j : ℕ) (place : Rect) (o : Orientation) (t : Style) (shape : BlockShape) → IsSource s → place ≡ block_at_place s.region.rect s.coding r n i j → o ≡ orientation_at r i
+    → t ≡ s.coding.style → shape ≡ shape_of_area place o t → j < block_number (grid_at s.region.rect s.coding r n i) → IsBlockShape shape
+shape_is s r n i j place o t shape is ep eo et e lt =
+    let same : shape ≡ shape_of_area (block_at_place s.region.rect s.coding r n i j) (orientation_at r i) s.coding.style =
+    e ∙ ap (λ (p : Rect). shape_of_area p o t) ep ∙ ap (λ (q : Orientation). shape_of_area (block_at_place s.region.rect s.coding r n i j) q t) eo
+    ∙ ap (λ (u : Style). shape_of_area (block_at_place s.region.rect s.coding r n i j) (orientation_at r i) u) et in
     subst IsBlockShape (sym same) (block_is_shape s.region.rect s.coding r n i j is.coding lt)
 
 -- what is due
-pub due_is : (s : Source) (r n i j planes : ℕ) (place : Rect) (o : Orientation) (shape : BlockShape) (bodies : List Body) → place ≡ block_at_place s.region.rect s.coding r n i j → o ≡ orientation_at r i
-    → shape ≡ shape_of_area place o → planes ≡ planes_of s.coding (band_number r i) → bodies ≡ block_bodies i j (source_bodies s r n)
+pub due_is : (s : Source) (r n i j planes : ℕ) (place : Rect) (o : Orientation) (t : Style) (shape : BlockShape) (bodies : List Body) → place ≡ block_at_place s.region.rect s.coding r n i j → o ≡ orientation_at r i
+    → t ≡ s.coding.style → shape ≡ shape_of_area place o t → planes ≡ planes_of s.coding (band_number r i) → bodies ≡ block_bodies i j (source_bodies s r n)
     → bodies_values shape planes bodies ≡ block_values s.region.rect s.coding r n i j (source_bodies s r n)
-due_is s r n i j planes place o shape bodies ep eo e en eb =
-    let same : shape ≡ shape_of_area (block_at_place s.region.rect s.coding r n i j) (orientation_at r i) =
-    e ∙ ap (λ (p : Rect). shape_of_area p o) ep ∙ ap (shape_of_area (block_at_place s.region.rect s.coding r n i j)) eo in
-    ap (λ (x : BlockShape). bodies_values x planes bodies) same ∙ ap (λ m. bodies_values (shape_of_area (block_at_place s.region.rect s.coding r n i j) (orientation_at r i)) m bodies) en
-    ∙ ap (bodies_values (shape_of_area (block_at_place s.region.rect s.coding r n i j) (orientation_at r i)) (planes_of s.coding (band_number r i))) eb
+due_is s r n i j planes place o t shape bodies ep eo et e en eb =
+    let same : shape ≡ shape_of_area (block_at_place s.region.rect s.coding r n i j) (orientation_at r i) s.coding.style =
+    e ∙ ap (λ (p : Rect). shape_of_area p o t) ep ∙ ap (λ (q : Orientation). shape_of_area (block_at_place s.region.rect s.coding r n i j) q t) eo
+    ∙ ap (λ (u : Style). shape_of_area (block_at_place s.region.rect s.coding r n i j) (orientation_at r i) u) et in
+    ap (λ (x : BlockShape). bodies_values x planes bodies) same ∙ ap (λ m. bodies_values (block_shape s.region.rect s.coding r n i j) m bodies) en
+    ∙ ap (bodies_values (block_shape s.region.rect s.coding r n i j) (planes_of s.coding (band_number r i))) eb
 
 -- values that are due are the coefficients
 pub values_agree : (s : Source) (r n i j : ℕ) (place : Rect) (values : List ℤ) → IsSource s → r ≤ s.coding.levels → n < precinct_number s.region.rect s.coding r → i < length (orientations r) → j < block_number (grid_at s.region.rect s.coding r n i)

@@ -19,6 +19,7 @@ use Rattle.jk_geom.specs.TileShapes.{coding_of}
 use Rattle.jk_order.specs.PacketOrder.{is_of}
 use Rattle.jk_params.specs.Headers.{Headers, tile_in, AreHeaders}
 use Rattle.jk_math.specs.declared.orientation.Orientation.{Orientation}
+use Rattle.jk_math.specs.declared.style.Style.{Style}
 use Rattle.jk_scan.specs.declared.shape.BlockShape.{BlockShape}
 use Rattle.jk_scan.specs.Neighbours.{is_inside}
 use Rattle.jk_block.specs.Meaning.{value_in, values_of as block_list}
@@ -30,7 +31,7 @@ use Rattle.jk_walk.specs.declared.places.PacketPlace.{PacketPlace}
 use Rattle.jk_walk.specs.TilePackets.{Body, Packet, orientations, band_number, planes_of, of_precinct}
 use Rattle.jk_walk.specs.WalkReading.{packets_at, bodies_at, IsPlaced}
 use Rattle.jk_walk.proofs.Laws.{packets_found, packets_only}
-use Rattle.jk_tile.specs.TileBlocks.{orientation_at, grid_at, block_at_place, block_shape, block_bodies, segment_of, passes_in, zeros_in, band_resolution, band_index}
+use Rattle.jk_tile.specs.TileBlocks.{orientation_at, grid_at, block_at_place, shape_of_area, block_shape, block_bodies, segment_of, passes_in, zeros_in, band_resolution, band_index}
 use Rattle.jk_tile.specs.TileMeaning.{shown_area, values_of, IsBlockAt, DecodesTile}
 use Rattle.jk_tile.specs.decoding.TileReading.{bodies_of, each, tested, bodies_values, block_values, block_value, block_with, values_or, coefficient_at, band_tested, precinct_tested, resolution_tested, component_tested, component_values, component_samples, tile_planes_at}
 use Rattle.jk_tile.specs.Pixels.{uncoloured, tile_sample}
@@ -77,21 +78,21 @@ unfolding bodies_values
 values_by s planes bodies = refl
 
 -- a place of a code-block, from its upper left corner on
-inside_is : (b : Rect) (x y : ℕ) (o : Orientation) → is_inside (record { width = columns_of b; height = rows_of b; orientation = o }) x y ≡ true → IsWithin b (b.x0 + x) (b.y0 + y)
-inside_is b x y o e =
+inside_is : (b : Rect) (x y : ℕ) (o : Orientation) (style : Style) → is_inside (shape_of_area b o style) x y ≡ true → IsWithin b (b.x0 + x) (b.y0 + y)
+inside_is b x y o style e =
     let parts = and_parts (nat_lt x (columns_of b)) (nat_lt y (rows_of b)) e in
     let across = ltb-true _ _ parts.0 in
     let down = ltb-true _ _ parts.1 in
     record { left = omega arith; right = omega (arith, across); upper = omega arith; lower = omega (arith, down) }
 
-is_inside_from : (b : Rect) (x y : ℕ) (o : Orientation) → IsWithin b x y → is_inside (record { width = columns_of b; height = rows_of b; orientation = o }) (x - b.x0) (y - b.y0) ≡ true
-is_inside_from b x y o h =
+is_inside_from : (b : Rect) (x y : ℕ) (o : Orientation) (style : Style) → IsWithin b x y → is_inside (shape_of_area b o style) (x - b.x0) (y - b.y0) ≡ true
+is_inside_from b x y o style h =
     let hl = h.left in let hr = h.right in let hu = h.upper in let hd = h.lower in
     ap (λ t. t && nat_lt (y - b.y0) (rows_of b)) (lt-ltb _ _ (omega (arith, hl, hr))) ∙ lt-ltb _ _ (omega (arith, hu, hd))
 
 -- the value of the list at a place is that at the same place of the rectangle
-value_there : (b : Rect) (x y : ℕ) (o : Orientation) (values : List ℤ) → plane_at b values (b.x0 + x) (b.y0 + y) ≡ value_in (record { width = columns_of b; height = rows_of b; orientation = o }) values x y
-value_there b x y o values =
+value_there : (b : Rect) (x y : ℕ) (o : Orientation) (style : Style) (values : List ℤ) → plane_at b values (b.x0 + x) (b.y0 + y) ≡ value_in (shape_of_area b o style) values x y
+value_there b x y o style values =
     let across : b.x0 + x - b.x0 ≡ x = omega arith in
     let down : b.y0 + y - b.y0 ≡ y = omega arith in
     ap (λ k. get_or values (k * columns_of b + (b.x0 + x - b.x0)) (pos 0)) down ∙ ap (λ k. get_or values (y * columns_of b + k) (pos 0)) across
@@ -105,8 +106,8 @@ block_means a k bodies mine r n i j values coding few band precinct block same e
       means = block_found (block_shape a k r n i j) _ _ _ values (sym (values_by (block_shape a k r n i j) (planes_of k (band_number r i)) (block_bodies i j (bodies r n))) ∙ e);
       placed = λ x y is.
           let b = block_at_place a k r n i j in
-          coefficient_is a k bodies r n i j (b.x0 + x) (b.y0 + y) coding few band precinct block (inside_is b x y (orientation_at r i) is)
-          ∙ ap (λ d. plane_at b (values_or d) (b.x0 + x) (b.y0 + y)) e ∙ value_there b x y (orientation_at r i) values;
+          coefficient_is a k bodies r n i j (b.x0 + x) (b.y0 + y) coding few band precinct block (inside_is b x y (orientation_at r i) k.style is)
+          ∙ ap (λ d. plane_at b (values_or d) (b.x0 + x) (b.y0 + y)) e ∙ value_there b x y (orientation_at r i) k.style values;
     })
 
 -- what the bodies of a code-block mean is read
@@ -123,7 +124,7 @@ block_coefficients a k mine coefficients r n i j bodies same is x y h =
     let hl = h.left in let hu = h.upper in
     let across : b.x0 + (x - b.x0) ≡ x = omega (arith, hl) in
     let down : b.y0 + (y - b.y0) ≡ y = omega (arith, hu) in
-    let inside = is_inside_from b x y (orientation_at r i) h in
+    let inside = is_inside_from b x y (orientation_at r i) k.style h in
     ap (λ d. plane_at b (values_or d) x y) (block_read a k mine coefficients r n i j bodies same is)
     ∙ value_at (block_shape a k r n i j) is.values (x - b.x0) (y - b.y0) inside ∙ sym (is.placed (x - b.x0) (y - b.y0) inside)
     ∙ ap (λ u. coefficients (band_number r i) u (b.y0 + (y - b.y0))) across ∙ ap (coefficients (band_number r i) x) down

@@ -7,6 +7,7 @@ use Rattle.jk_math.specs.Raster.{columns_of, rows_of}
 use Rattle.jk_marks.specs.declared.coding.Coding.{Coding}
 use Rattle.jk_math.specs.declared.orientation.Orientation.{Orientation}
 use Rattle.jk_math.specs.declared.orientation.Orientation.TheVariants.{LL}
+use Rattle.jk_math.specs.declared.style.Style.{Style}
 use Rattle.jk_geom.specs.declared.grid.BlockGrid.{BlockGrid}
 use Rattle.jk_geom.specs.Blocks.{block_grid, block_area}
 use Rattle.jk_scan.specs.declared.shape.BlockShape.{BlockShape}
@@ -24,8 +25,9 @@ grid_at a k r n i = block_grid a k r n (orientation_at r i)
 abbrev pub block_at_place : Rect → Coding → (r n i j : ℕ) → Rect
 block_at_place a k r n i j = block_area (grid_at a k r n i) j
 
-abbrev pub shape_of_area : Rect → Orientation → BlockShape
-shape_of_area b orientation = record { width = columns_of b; height = rows_of b; orientation = orientation }
+abbrev pub shape_of_area : Rect → Orientation → Style → BlockShape
+shape_of_area b orientation style =
+    record { width = columns_of b; height = rows_of b; orientation = orientation; style = style }
 
 -- the shape of a code-block of the profile
 pub record IsBlockShape (s : BlockShape) : Type 0 where
@@ -36,7 +38,7 @@ pub record IsBlockShape (s : BlockShape) : Type 0 where
   pub area : s.width * s.height ≤ 4096
 
 abbrev pub block_shape : Rect → Coding → (r n i j : ℕ) → BlockShape
-block_shape a k r n i j = shape_of_area (block_at_place a k r n i j) (orientation_at r i)
+block_shape a k r n i j = shape_of_area (block_at_place a k r n i j) (orientation_at r i) k.style
 
 -- what packets have of code-block j of sub-band i
 abbrev pub block_bodies : (i j : ℕ) → List Body → List Body

@@ -7,7 +7,7 @@ ghost use Rattle.jk_tile.specs.TileBlocks.{orientation_at, shape_of_area};
 
 use jk_block::BlockShape;
 use jk_marks::Coding;
-use jk_math::{Orientation, Rect};
+use jk_math::{Orientation, Rect, Style};
 
 /// Which part of a sub-band it is: sub-band `band` of a resolution, in a precinct.
 #[derive(Clone, Copy)]
@@ -63,15 +63,16 @@ pub(crate) fn band_planes(coding: &Coding, r: u8, i: u8) -> u32
     coding.guard as u32 + coding.exponents.as_slice()[number] as u32 - 1
 }
 
-/// The shape of the code-block at a place of a sub-band.
-pub(crate) fn shape_at(place: &Rect, orientation: Orientation) -> BlockShape
+/// The shape of the code-block at a place of a sub-band, in a style.
+pub(crate) fn shape_at(place: &Rect, orientation: Orientation, style: Style) -> BlockShape
     requires left { place.now.x0 ≤ place.now.x1 }
     requires upper { place.now.y0 ≤ place.now.y1 }
-    ensures { result ≡ shape_of_area place.now orientation }
+    ensures { result ≡ shape_of_area place.now orientation style }
 {
     BlockShape {
         width: (place.x1 - place.x0) as usize,
         height: (place.y1 - place.y0) as usize,
         orientation,
+        style,
     }
 }

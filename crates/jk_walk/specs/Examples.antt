@@ -1,5 +1,6 @@
 -- Examples: the sub-bands of the image of T.800 J.10, one column of nine rows with one level.
 use Rattle.std.specs.Prelude.{◌≡◌, ℕ, refl, [], ◌∷◌}
+use Rattle.jk_math.specs.Styles.{plain_style}
 use Rattle.jk_math.specs.declared.rect.Rect.{Rect}
 use Rattle.jk_marks.specs.declared.coding.Coding.{Coding}
 use Rattle.jk_packet.specs.declared.shape.BandShape.{BandShape}
@@ -17,7 +18,7 @@ coding = record {
   xcb = 6;
   ycb = 6;
   precincts = (15, 15) ∷ (15, 15) ∷ [];
-  style = 0;
+  style = plain_style;
   guard = 2;
   exponents = 8 ∷ 9 ∷ 9 ∷ 10 ∷ [];
 }

@@ -1,6 +1,8 @@
+ghost use Rattle.std.specs.Prelude.{◌≤◌};
+
 use crate::cases::CASES;
 use jk_block::{Block, BlockShape, decode, one_meaning, read_is_meant};
-use jk_math::{Fault, Orientation};
+use jk_math::{Fault, Orientation, Style};
 use jk_mqdec::Decoder;
 use jk_scan::{
     Around, Contribution, contributed, gather, members, neighbourhood, nine, quiet, quiet_behind,
@@ -73,6 +75,7 @@ fn reads(rt: &impl Abort, alloc: Global, line: &str) -> Result<(), Fail> {
         width,
         height,
         orientation,
+        style: Style::plain(),
     };
     let answer = decode(alloc, &segment, shape, planes, passes);
     let text = told(alloc, answer, area)?;
@@ -114,6 +117,45 @@ fn worked_blocks(rt: HostRuntime) -> Result<(), Fail> {
     Ok(())
 }
 
+/// What a segment means in a style, of one coefficient.
+fn read_in(
+    alloc: Global,
+    style: Style,
+    text: &str,
+    planes: u32,
+    passes: usize,
+) -> Result<Result<Block, Fault>, Fail>
+    requires { planes ≤ 23 }
+{
+    let segment = bytes_of(alloc, &[text])?;
+    let shape = BlockShape {
+        width: 1,
+        height: 1,
+        orientation: Orientation::LL,
+        style,
+    };
+    Ok(decode(alloc, &segment, shape, planes, passes))
+}
+
+/// The same segment means another coefficient with context reset, and none where a segmentation
+/// symbol is due and another one stands.
+#[test]
+fn styled_blocks(rt: HostRuntime) -> Result<(), Fail> {
+    let mut reset = Style::plain();
+    reset.reset = true;
+    let mut symbols = Style::plain();
+    symbols.segments = true;
+    let anew = read_in(rt.alloc(), reset, "00", 4, 10)??;
+    assert_eq!(rt; anew.values.as_slice(), [14].as_slice());
+    let whole = read_in(rt.alloc(), reset, "007F", 4, 10)??;
+    assert_eq!(rt; whole.values.as_slice(), [15].as_slice());
+    let marked = read_in(rt.alloc(), symbols, "01", 1, 1)??;
+    assert_eq!(rt; marked.values.as_slice(), [1].as_slice());
+    let other = read_in(rt.alloc(), symbols, "03", 1, 1)?;
+    assert!(rt; matches!(other, Err(Fault::BadValue)));
+    Ok(())
+}
+
 /// A decoder whose code value has left the interval answers so from then on.
 #[test]
 fn fails_for_ever(rt: HostRuntime) -> Result<(), Fail> {
@@ -139,6 +181,7 @@ fn contexts(rt: HostRuntime) -> Result<(), Fail> {
         width: 2,
         height: 3,
         orientation: Orientation::HL,
+        style: Style::plain(),
     };
     let block = decode(rt.alloc(), b"", shape, 0, 0)?;
     assert_eq!(rt; block.width, 2);

@@ -5,7 +5,7 @@ use jk_block::{
     Block, BlockShape, CodedBlock, code, decode, layers_have_bytes, layers_have_passes,
     written_is_read,
 };
-use jk_math::Orientation;
+use jk_math::{Orientation, Style};
 use std::alloc::Global;
 use std::process::Abort;
 use std::test::Fail;
@@ -72,6 +72,7 @@ fn block_of(
         width,
         height,
         orientation,
+        style: Style::plain(),
         values,
     })
 }
@@ -99,6 +100,7 @@ fn codes(rt: &impl Abort, alloc: Global, block: &Block) -> Result<CodedBlock, Fa
         width: block.width,
         height: block.height,
         orientation: block.orientation,
+        style: block.style,
     };
     let again = decode(alloc, &coded.bytes, shape, coded.planes, coded.passes)?;
     assert_eq!(rt; again.values.as_slice(), block.values.as_slice());
@@ -155,6 +157,7 @@ fn gives(
         width,
         height: values.len() / width,
         orientation,
+        style: Style::plain(),
         values: values.to_vec(alloc)?,
     };
     let coded = codes(rt, alloc, &block)?;
@@ -162,6 +165,38 @@ fn gives(
     assert_eq!(rt; coded.marks.as_slice(), marks);
     assert_eq!(rt; coded.passes, marks.len());
     Ok(())
+}
+
+/// A block of one coefficient in a style has these bytes.
+fn in_style(
+    rt: &impl Abort,
+    alloc: Global,
+    style: Style,
+    value: i32,
+    bytes: &[u8],
+) -> Result<(), Fail> {
+    let block = Block {
+        width: 1,
+        height: 1,
+        orientation: Orientation::LL,
+        style,
+        values: [value].to_vec(alloc)?,
+    };
+    let coded = codes(rt, alloc, &block)?;
+    assert_eq!(rt; coded.bytes.as_slice(), bytes);
+    Ok(())
+}
+
+/// With context reset each pass begins anew; a segmentation symbol ends the one cleanup pass.
+#[test]
+fn styled_blocks(rt: HostRuntime) -> Result<(), Fail> {
+    let alloc = rt.alloc();
+    let mut reset = Style::plain();
+    reset.reset = true;
+    let mut symbols = Style::plain();
+    symbols.segments = true;
+    in_style(&rt, alloc, reset, 15, &[0x00, 0x7F])?;
+    in_style(&rt, alloc, symbols, 1, &[0x01])
 }
 
 /// Worked blocks: single coefficients, none, a column of five, a column in run mode.

@@ -3,7 +3,7 @@
 
 use jk_farm::Gate;
 use jk_marks::Order;
-use jk_math::{Fault, Image};
+use jk_math::{Fault, Image, Style};
 use jk_params::{Container, Parameters};
 use std::alloc::Global;
 use std::io::Write;
@@ -20,6 +20,7 @@ pub(crate) fn plain(alloc: Global, levels: u8) -> Parameters {
         tile: None,
         xcb: 6,
         ycb: 6,
+        style: Style::plain(),
         precincts: Vec::new(alloc),
         colour: false,
         sop: false,

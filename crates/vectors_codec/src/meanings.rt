@@ -199,7 +199,39 @@ fn blocks_and_precincts(rt: HostRuntime) -> Result<(), Fail> {
     Ok(())
 }
 
-static REFUSED_BLOCKS: [Refusal; 8] = [
+static STYLES: [Meaning; 3] = [
+    (
+        Headers::Symbols,
+        "FF90 000A 0000 00000011 00 01 FF93 C0 21 01 FFD9",
+        0,
+        "P5\n1 1\n255\n",
+        "81",
+    ),
+    (
+        Headers::Reset,
+        "FF90 000A 0000 00000013 00 01 FF93 C1 F2 02 00 7F FFD9",
+        0,
+        "P5\n1 1\n255\n",
+        "8F",
+    ),
+    (
+        Headers::Reset,
+        "FF90 000A 0000 00000012 00 01 FF93 C1 F2 01 00 FFD9",
+        0,
+        "P5\n1 1\n255\n",
+        "8E",
+    ),
+];
+
+#[test]
+fn styles(rt: HostRuntime) -> Result<(), Fail> {
+    for case in &STYLES {
+        means(&rt, rt.alloc(), case)?;
+    }
+    Ok(())
+}
+
+static REFUSED_BLOCKS: [Refusal; 9] = [
     (
         Headers::Pixel,
         "FF90 000A 0000 00000012 00 01 FF93 C0 22 FF 8F FFD9",
@@ -247,6 +279,12 @@ static REFUSED_BLOCKS: [Refusal; 8] = [
         "FF90 000A 0000 0000000E 00 01 FF93 FFD9",
         0,
         Fault::MissingPackets,
+    ),
+    (
+        Headers::Symbols,
+        "FF90 000A 0000 00000011 00 01 FF93 C0 21 03 FFD9",
+        0,
+        Fault::BadValue,
     ),
 ];
 

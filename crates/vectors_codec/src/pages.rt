@@ -162,10 +162,15 @@ fn passed_segments(rt: HostRuntime) -> Result<(), Fail> {
 
 /// Main headers of which one number is another, and why they are refused. In the last one it is a
 /// second component, which SIZ doesn't have room for.
-static REFUSED_HEADERS: [(usize, u8, Fault); 6] = [
+static REFUSED_HEADERS: [(usize, u8, Fault); 11] = [
     (3, 0x52, Fault::BadMarker),
     (5, 0x28, Fault::BadLength),
     (19, 1, Fault::BadValue),
+    (57, 0x01, Fault::Unsupported),
+    (57, 0x04, Fault::Unsupported),
+    (57, 0x10, Fault::Unsupported),
+    (57, 0x40, Fault::Unsupported),
+    (57, 0x80, Fault::BadValue),
     (58, 0, Fault::Unsupported),
     (8, 0x80, Fault::Limit),
     (41, 2, Fault::BadLength),

@@ -29,6 +29,10 @@ pub(crate) enum Headers {
     Layers,
     /// A pixel of 16 bits in colour.
     Deep,
+    /// One sample, with context reset.
+    Reset,
+    /// One sample, with segmentation symbols.
+    Symbols,
 }
 
 impl Headers {
@@ -62,6 +66,12 @@ impl Headers {
             },
             Headers::Deep => {
                 "FF4F FF51 002F 0000 00000001 00000001 00000000 00000000 00000001 00000001 00000000 00000000 0003 0F 01 01 0F 01 01 0F 01 01 FF52 000C 00 00 0001 01 00 04 04 00 01 FF5C 0004 40 80"
+            },
+            Headers::Reset => {
+                "FF4F FF51 0029 0000 00000001 00000001 00000000 00000000 00000001 00000001 00000000 00000000 0001 07 01 01 FF52 000C 00 00 0001 00 00 04 04 02 01 FF5C 0004 40 40"
+            },
+            Headers::Symbols => {
+                "FF4F FF51 0029 0000 00000001 00000001 00000000 00000000 00000001 00000001 00000000 00000000 0001 07 01 01 FF52 000C 00 00 0001 00 00 04 04 20 01 FF5C 0004 40 40"
             },
         }
     }

@@ -3,7 +3,7 @@ ghost use Rattle.jk_farm.specs.Blocks.{IsBlock, IsSegment};
 
 use jk_block::{Block, BlockShape};
 use jk_farm::{Gate, Open, Segment, map_blocks, map_segments};
-use jk_math::{Fault, Orientation};
+use jk_math::{Fault, Orientation, Style};
 use std::alloc::Global;
 use std::process::Abort;
 use std::sync::atomic::{AtomicUsize, Ordering};
@@ -64,6 +64,7 @@ fn segments(alloc: Global, texts: &[(&str, usize)]) -> Result<Vec<Segment>, Fail
                 width: 1,
                 height: 1,
                 orientation: Orientation::LL,
+                style: Style::plain(),
             },
             planes: 1,
             passes: *passes,
@@ -106,6 +107,7 @@ fn blocks(alloc: Global, samples: &[i32]) -> Result<Vec<Block>, Fail>
             width: 1,
             height: 1,
             orientation: Orientation::LL,
+            style: Style::plain(),
             values,
         })?;
     }

@@ -15,6 +15,7 @@ static PIXEL_LINES: &str = "\
 boxes: jP%20%20=12 ftyp=20 jp2h=45 jp2c=90
 tile-parts: 1
 code-blocks: 64x64
+block-style: none
 precincts: 32768x32768
 SOP: no
 EPH: no
@@ -29,6 +30,7 @@ static COLUMN_LINES: &str = "\
 boxes: none
 tile-parts: 1
 code-blocks: 64x64
+block-style: none
 precincts: 32768x32768 32768x32768
 SOP: no
 EPH: no
@@ -64,6 +66,7 @@ static PASSED_LINES: &str = "\
 boxes: none
 tile-parts: 2
 code-blocks: 64x64
+block-style: none
 precincts: 32768x32768
 SOP: no
 EPH: no
@@ -85,6 +88,7 @@ static UNLIKE_LINES: &str = "\
 boxes: none
 tile-parts: 2
 code-blocks: differ
+block-style: none
 precincts: differ
 SOP: differ
 EPH: differ
@@ -185,6 +189,7 @@ fn what_was_asked_for_is_told(rt: HostRuntime) -> Result<(), Fail> {
 boxes: jP%20%20=12 ftyp=20 jp2h=45 jp2c={size}
 tile-parts: 2
 code-blocks: 32x16
+block-style: none
 precincts: 32x16 64x32
 SOP: yes
 EPH: yes

@@ -7,7 +7,7 @@ ghost use Rattle.jk_geom.specs.TileShapes.{AreCodings, IsTileShape};
 
 use jk_geom::{Codings, TileShape};
 use jk_marks::{Coding, Exponents, Order, Precincts};
-use jk_math::Rect;
+use jk_math::{Rect, Style};
 
 /// Numbers by chance, by a linear congruence modulo 2^64.
 #[derive(Drop)]
@@ -64,7 +64,7 @@ pub(crate) fn coding(levels: u8, xcb: u8, ycb: u8, sizes: &[(u8, u8)]) -> Coding
         xcb,
         ycb,
         precincts: Precincts::new(sizes),
-        style: 0,
+        style: Style::plain(),
         guard: 0,
         exponents: Exponents::new(&[]),
     }

@@ -3,7 +3,7 @@
 
 use crate::contents::Content;
 use jk_marks::Order;
-use jk_math::{Fault, Image};
+use jk_math::{Fault, Image, Style};
 use jk_params::{Container, Parameters};
 use jk_store::{Archive, Entry, MemoryShelf, Shelf};
 use jk_window::View;
@@ -52,6 +52,7 @@ fn parameters(alloc: Global, levels: u8, container: Container) -> Parameters {
         tile: None,
         xcb: 6,
         ycb: 6,
+        style: Style::plain(),
         precincts: Vec::new(alloc),
         colour: false,
         sop: false,

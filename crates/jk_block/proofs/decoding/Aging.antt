@@ -17,14 +17,14 @@ use Rattle.jk_scan.specs.WordPlaces.{column, row}
 use Rattle.jk_scan.proofs.Laws.{inside_parts, flag_none}
 use Rattle.jk_model.specs.Decisions.{State}
 use Rattle.jk_block.specs.Meaning.{plane_of, kind_of, above}
-use Rattle.jk_block.specs.Reading.{Progress, put, times, blank, begun, pass_at}
+use Rattle.jk_block.specs.Reading.{Progress, put, times, blank, begun, with_contexts, pass_at}
 use Rattle.jk_block.specs.Fields.{AreSameWords}
 use Rattle.jk_block.specs.decoding.Sketches.{Draft, progress, lit_in, IsFresh}
 use Rattle.jk_block.specs.declared.spot.Spot.{Spot}
 use Rattle.jk_block.specs.Steps.{IsPlace}
 use Rattle.jk_block.proofs.Changes.{mags_inside, mags_outside}
 use Rattle.jk_block.proofs.Stages.{mags, Cut, Like}
-use Rattle.jk_block.proofs.Whole.{ready, passes_onward, stage_plane}
+use Rattle.jk_block.proofs.Whole.{ready, contexts_done, passes_onward, stage_pass}
 use Rattle.jk_block.proofs.WordBits.{drawn_bit, on_rows}
 use Rattle.jk_block.proofs.WordDrawing.{drawn_alike}
 
@@ -179,16 +179,17 @@ kept bytes s planes n z z' h is more x y i =
     let b = plane_of planes n in
     let k = kind_of n in
     let few : k < 3 = omega arith in
-    let stage = stage_plane bytes s b k few in
-    let cut = ready s planes n z h (passes_onward bytes s planes n z (omega arith) is) in
+    let stage = stage_pass bytes s b k few in
+    let w = with_contexts s z in
+    let cut = ready s planes n w h (contexts_done s planes n z (passes_onward bytes s planes n z (omega arith) is)) in
     let like : Like s b (k * visits s + visits s) z' (record { magnitude = mags s b z'; negative = z'.negative }) = record {
       agree = record { halves = λ u v. refl; coded = λ u v e. refl };
       outside = λ u v o. mags_outside s b z' u v o;
       signs = λ u v e. refl;
     } in
-    let back = (stage.back (begun k z) z' cut more (record { magnitude = mags s b z'; negative = z'.negative }) like).0 in
+    let back = (stage.back (begun k w) z' cut more (record { magnitude = mags s b z'; negative = z'.negative }) like).0 in
     let halves = back.agree.halves x y in
-    ap (λ m. m / 2) (sym (mags_inside s b z' x y i)) ∙ sym halves ∙ ap (λ m. m / 2) (mags_inside s b (begun k z) x y i)
+    ap (λ m. m / 2) (sym (mags_inside s b z' x y i)) ∙ sym halves ∙ ap (λ m. m / 2) (mags_inside s b (begun k w) x y i)
 
 -- ---- words that were noted
 

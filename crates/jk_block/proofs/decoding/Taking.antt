@@ -84,6 +84,23 @@ pub takes_through : {A : Type 0} (step other : Progress → Result Progress Faul
 takes_through step other k k' new v v' (Ok u) same t = λ coder st. let a = t coder st in record { next = a.next; stands = a.stands; is = same coder ∙ a.is }
 takes_through step other k k' new v v' (Err e) same t = λ coder st. same coder ∙ t coder st
 
+-- the same where the decoder begins anew
+pub takes_begun : {A : Type 0} (step other : Progress → Result Progress Fault) (start : State → State) (k k' new : Draft) (v w v' : View) (r : Result A Fault) → ((coder : State) → Stands v coder → Stands w (start coder))
+    → ((coder : State) → step (progress k coder) ≡ other (progress k' (start coder))) → Takes other k' new w v' r → Takes step k new v v' r
+takes_begun step other start k k' new v w v' (Ok u) stands same t = λ coder st. let a = t (start coder) (stands coder st) in record { next = a.next; stands = a.stands; is = same coder ∙ a.is }
+takes_begun step other start k k' new v w v' (Err e) stands same t = λ coder st. same coder ∙ t (start coder) (stands coder st)
+
+-- a step, and another one that keeps the draft
+pub takes_then : {A : Type 0} (step other : Progress → Result Progress Fault) (k k' : Draft) (v w v' : View) (r : Result A Fault) → ((coder : State) → Stands v coder → Advanced step k k' w coder) → Takes other k' k' w v' r
+    → Takes (λ z. step z >>= other) k k' v v' r
+takes_then step other k k' v w v' (Ok u) first t = λ coder st.
+    let a = first coder st in
+    let b = t a.next a.stands in
+    record { next = b.next; stands = b.stands; is = ap (λ (r : Result Progress Fault). r >>= other) a.is ∙ b.is }
+takes_then step other k k' v w v' (Err e) first t = λ coder st.
+    let a = first coder st in
+    ap (λ (r : Result Progress Fault). r >>= other) a.is ∙ t a.next a.stands
+
 -- steps one after another
 pub advanced_none : (f : ℕ → Progress → Result Progress Fault) (k : Draft) (v : View) (coder : State) → Stands v coder → Advanced (times 0 f) k k v coder
 unfolding times

@@ -1,21 +1,24 @@
 -- How many bytes a block may have.
-use Rattle.std.proofs.Common.{◌≡◌, ℕ, zero, suc, ◌+◌, ◌-◌, ◌*◌, ◌^◌, ◌<◌, ◌≤◌, Bool, true, false, cond, List, [], ◌∷◌, ◌++◌, length, ℤ, refl, ap, length-append, arith}
+use Rattle.std.proofs.Common.{◌≡◌, ℕ, zero, suc, ◌+◌, ◌-◌, ◌*◌, ◌^◌, ◌<◌, ◌≤◌, Bool, true, false, cond, List, [], ◌∷◌, ◌++◌, length, ℤ, refl, sym, ap, ◌∙◌, append_assoc, append-nil, length-append, lit≤, arith}
+use Rattle.std.specs.List.{flat_map}
 use Rattle.std.specs.Prelude.{◌&&◌, nat_eq, nat_lt, nat_le}
 use Rattle.jk_model.specs.Decisions.{State, Decision, initial, qe_at}
-use Rattle.jk_model.specs.Deciding.{decided, takes_lower}
+use Rattle.jk_model.specs.Deciding.{decided, takes_lower, state_by}
+use Rattle.jk_model.specs.CodingPasses.{begun_by}
 use Rattle.jk_model.specs.Placed.{onto}
 use Rattle.jk_mqenc.specs.Machine.{Machine, with_byte, placed_after, byte_out}
 use Rattle.jk_mqenc.specs.Coding.{shifted, twice, renorme, subinterval, set_bits, shifted_by, pushed_out, flushed}
-use Rattle.jk_mqenc.specs.Deciding.{machine_decided, machine_by}
+use Rattle.jk_mqenc.specs.Deciding.{machine_decided, machine_by, machine_by_passes}
 use Rattle.jk_mqenc.specs.Encoded.{started, without_last_ff, finished}
+use Rattle.jk_math.specs.declared.style.Style.{Style}
 use Rattle.jk_scan.specs.declared.shape.BlockShape.{BlockShape}
 use Rattle.jk_scan.specs.Neighbours.{Field, is_inside}
 use Rattle.jk_scan.specs.Moments.{number, visits, stripes, pass_of}
 use Rattle.jk_scan.specs.Contexts.{run_length, uniform}
 use Rattle.jk_scan.specs.Passes.{Plane, Decided, is_one, joined, sign_decision, new_decisions, own_decisions, place_decisions, rows_decisions, runs, first_one, run_decisions, column_decisions, plane_decisions}
-use Rattle.jk_block.specs.Meaning.{plane_of, kind_of, plane_at, pass_decisions}
-use Rattle.jk_block.specs.BlockWritten.{decisions_upto, bytes_of}
-use Rattle.jk_block.proofs.Whole.{passes_more}
+use Rattle.jk_block.specs.Symbols.{segmentation_symbol, ends_with_symbol, closing_decisions}
+use Rattle.jk_block.specs.Meaning.{plane_of, kind_of, plane_at, whole_decisions, pass_decisions}
+use Rattle.jk_block.specs.BlockWritten.{bytes_of}
 use Rattle.jk_block.proofs.encoding.Timing.{visits_small, visits_is}
 use Rattle.jk_block.proofs.Parts.{bytes_some, bytes_none}
 
@@ -96,15 +99,28 @@ onto_length : (xs q : List ℕ) → length (onto xs q) ≡ length xs + length q
 onto_length [] q = omega arith
 onto_length (x ∷ xs) q = let r = onto_length xs (x ∷ q) in omega (arith, r)
 
-pub finished_short : (ds : List Decision) → length (finished ds) ≤ 15 * length ds + 2
+-- all decisions of passes
+abbrev all_of : List (List Decision) → List Decision
+all_of dss = flat_map (λ ds. ds) dss
+
+passes_short : (r : Bool) (m : Machine) (s : State) (dss : List (List Decision)) → length (machine_by_passes r m s dss).placed ≤ length m.placed + 15 * length (all_of dss)
+passes_short r m s [] = omega arith
+passes_short r m s (ds ∷ dss) =
+    let n = begun_by r s in
+    let here = machine_short m n ds in
+    let rest = passes_short r (machine_by m n ds) (state_by n ds) dss in
+    let both = length-append ds (all_of dss) in
+    omega (arith, here, rest, both)
+
+pub finished_short : (r : Bool) (dss : List (List Decision)) → length (finished r dss) ≤ 15 * length (all_of dss) + 2
 unfolding finished
-finished_short ds =
-    let m = machine_by started initial ds in
+finished_short r dss =
+    let m = machine_by_passes r started initial dss in
     let f = (flushed m).placed in
     let a = onto_length (without_last_ff f) [] in
     let b = without_short f in
     let c = flushed_short m in
-    let d = machine_short started initial ds in
+    let d = passes_short r started initial dss in
     omega (arith, a, b, c, d)
 
 -- ---- decisions by places
@@ -163,28 +179,42 @@ plane_few : (s : BlockShape) (p : Plane) (pass : ℕ) → length (plane_decision
 unfolding plane_decisions
 plane_few s p pass = joined_few (stripes s) (s.width * 10) (λ i. joined s.width (λ x. column_decisions s p pass x i)) (λ i. joined_few s.width 10 (λ x. column_decisions s p pass x i) (λ x. column_few s p pass x i))
 
-pub pass_small : (s : BlockShape) (p : Plane) (pass : ℕ) → s.width ≤ 1024 → s.width * s.height ≤ 4096 → length (plane_decisions s p pass) ≤ 17920
+closing_few : (style : Style) (pass : ℕ) → length (closing_decisions style pass) ≤ 4
+closing_few style pass = by (ends_with_symbol style pass)
+  where
+    by : (e : Bool) → length (cond e segmentation_symbol []) ≤ 4
+    by true = lit≤ tt
+    by false = omega arith
+
+pub pass_small : (s : BlockShape) (p : Plane) (pass : ℕ) → s.width ≤ 1024 → s.width * s.height ≤ 4096 → length (whole_decisions s p pass) ≤ 17924
 pass_small s p pass narrow area =
+    let both = length-append (plane_decisions s p pass) (closing_decisions s.style pass) in
+    let four = closing_few s.style pass in
     let l = plane_few s p pass in
     let v = visits_small s narrow area in
     let e = visits_is s in
     let c : stripes s * (s.width * 10) ≡ 10 * (s.width * stripes s) = grind arith in
-    omega (arith, l, v, e, c)
+    omega (arith, l, v, e, c, both, four)
 
-pub passes_small : (s : BlockShape) (planes n : ℕ) (q : Field ℤ) → s.width ≤ 1024 → s.width * s.height ≤ 4096 → length (decisions_upto s planes n q) ≤ n * 17920
+all_more : (dss : List Decided) (ds : Decided) → all_of (dss ++ ds ∷ []) ≡ all_of dss ++ ds
+all_more [] ds = append-nil ds
+all_more (x ∷ dss) ds = ap (λ (r : Decided). x ++ r) (all_more dss ds) ∙ sym (append_assoc x (all_of dss) ds)
+
+pub passes_small : (s : BlockShape) (planes n : ℕ) (q : Field ℤ) → s.width ≤ 1024 → s.width * s.height ≤ 4096 → length (all_of (pass_decisions s planes n q)) ≤ n * 17924
 unfolding pass_decisions
 passes_small s planes zero q narrow area = omega arith
 passes_small s planes (suc n) q narrow area =
     let r = passes_small s planes n q narrow area in
     let l = pass_small s (plane_at s (plane_of planes n) q) (kind_of n) narrow area in
-    let e = ap (λ (ds : Decided). length ds) (passes_more s planes n q) in
-    let a = length-append (decisions_upto s planes n q) (plane_decisions s (plane_at s (plane_of planes n) q) (kind_of n)) in
+    let last = whole_decisions s (plane_at s (plane_of planes n) q) (kind_of n) in
+    let e = ap (λ (ds : Decided). length ds) (all_more (pass_decisions s planes n q) last) in
+    let a = length-append (all_of (pass_decisions s planes n q)) last in
     omega (arith, r, l, e, a)
 
 pub bytes_small : (s : BlockShape) (planes passes : ℕ) (q : Field ℤ) → s.width ≤ 1024 → s.width * s.height ≤ 4096 → passes ≤ 67 → length (bytes_of s planes passes q) < 2 ^ 25
 bytes_small s planes zero q narrow area few = let e = ap (λ (b : List ℕ). length b) (bytes_none s planes q) in omega (arith, e)
 bytes_small s planes (suc n) q narrow area few =
     let e = ap (λ (b : List ℕ). length b) (bytes_some s planes (suc n) q (omega arith)) in
-    let f = finished_short (decisions_upto s planes (suc n) q) in
+    let f = finished_short s.style.reset (pass_decisions s planes (suc n) q) in
     let d = passes_small s planes (suc n) q narrow area in
     omega (arith, e, f, d)

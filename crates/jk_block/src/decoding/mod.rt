@@ -9,6 +9,7 @@ ghost use Rattle.std.specs.Prelude.{◌≤◌, All, IfOk, MatchResult, unsigned_
 ghost use Rattle.jk_math.specs.Answer.{Answers};
 ghost use Rattle.jk_math.specs.Memory.{IsMemory};
 ghost use Rattle.jk_model.specs.Decisions.{State};
+ghost use Rattle.jk_model.specs.CodingPasses.{begun_by};
 ghost use Rattle.jk_mqdec.specs.Standing.{Stands};
 ghost use Rattle.jk_scan.specs.Flags.{IsSized};
 ghost use Rattle.jk_scan.specs.Neighbours.{Field};
@@ -23,18 +24,20 @@ mod passes;
 mod places;
 mod sight;
 mod sketch;
+mod symbols;
 mod words;
 
 use crate::ages::Ages;
 use crate::spot::{Pass, pass_of};
 use coefficients::values;
-use jk_math::{Fault, Orientation};
+use jk_math::{Fault, Orientation, Style};
 use jk_model::first_steps;
 use jk_mqdec::PassDecoder;
 use jk_scan::{BlockShape, WORDS};
 use passes::read_bit_plane;
 use sketch::{Sketch, no_bits};
 use std::alloc::Global;
+use symbols::end_pass;
 
 /// A code-block: the coefficients of its place in a sub-band.
 #[derive(Drop)]
@@ -45,6 +48,8 @@ pub struct Block {
     pub height: usize,
     /// Its sub-band.
     pub orientation: Orientation,
+    /// Its style.
+    pub style: Style,
     /// The coefficients, row by row.
     pub values: Vec<i32>,
 }
@@ -61,6 +66,16 @@ fn begin(sketch: &mut Sketch, pass: Pass)
     match pass {
         Pass::Propagation => sketch.begin(),
         _ => {}
+    }
+}
+
+/// With context reset a pass begins with the first contexts.
+fn begin_contexts(decoder: &mut PassDecoder, style: Style)
+    ensures bytes { decoder.new.bytes ≡ decoder.old.bytes }
+    ensures stands { (c : State) → Stands decoder.old c → Stands decoder.new (begun_by style.reset c) }
+{
+    if style.reset {
+        decoder.reset();
     }
 }
 
@@ -99,7 +114,9 @@ fn read_pass(
     let plane = planes - 1 - (n as u32 + 2) / 3;
     let pass = pass_of(n);
     begin(sketch, pass);
-    read_bit_plane(sketch, decoder, refined, plane, pass)
+    begin_contexts(decoder, sketch.shape.style);
+    read_bit_plane(sketch, decoder, refined, plane, pass)?;
+    end_pass(decoder, sketch.shape.style, pass)
 }
 
 /// Reads the passes of a block.
@@ -129,7 +146,8 @@ fn read_passes(
 }
 
 /// Reads a code-block of so many bit-planes from the segment of its coding passes (T.800 Annex D),
-/// or [`Fault::Memory`], [`Fault::TooManyPasses`] or [`Fault::CodeOutOfInterval`]. Without a pass
+/// or [`Fault::Memory`], [`Fault::TooManyPasses`], [`Fault::CodeOutOfInterval`], or
+/// [`Fault::BadValue`] where a segmentation symbol is due and another one stands. Without a pass
 /// all coefficients are 0.
 pub fn decode(
     alloc: Global,
@@ -153,6 +171,7 @@ pub fn decode(
     ensures width { IfOk result (λ b. b.width ≡ shape.width) }
     ensures height { IfOk result (λ b. b.height ≡ shape.height) }
     ensures orientation { IfOk result (λ b. b.orientation ≡ shape.orientation) }
+    ensures style { IfOk result (λ b. b.style ≡ shape.style) }
 {
     if passes > (3 * planes as usize).saturating_sub(2) {
         return Err(Fault::TooManyPasses);
@@ -165,6 +184,7 @@ pub fn decode(
         width: shape.width,
         height: shape.height,
         orientation: shape.orientation,
+        style: shape.style,
         values: values(alloc, &sketch)?,
     })
 }

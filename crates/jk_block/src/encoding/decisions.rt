@@ -1,6 +1,6 @@
 //! The decisions of a pass.
 
-ghost use Rattle.std.specs.Prelude.{◌≡◌, ℕ, [], ◌∷◌, ◌+◌, ◌++◌, List, ◌/◌, ◌<◌, ◌≤◌, IfOk, IfErr, if◌then◌else◌};
+ghost use Rattle.std.specs.Prelude.{◌≡◌, ℕ, Bool, [], ◌∷◌, ◌+◌, ◌++◌, List, ◌/◌, ◌<◌, ◌≤◌, IfOk, IfErr, if◌then◌else◌};
 ghost use Rattle.std.specs.Prelude.{◌%◌, ◌==◌, replicate};
 ghost use Rattle.jk_math.specs.Memory.{IsMemory};
 ghost use Rattle.jk_model.specs.Decisions.{Decision};
@@ -136,10 +136,11 @@ impl DecisionList {
         self.count = 0;
     }
 
-    /// Codes all decisions.
+    /// Codes all decisions, in the last pass.
     pub fn encode(&self, encoder: &mut Encoder) -> Result<(), Fault>
-        ensures codes { IfOk result (λ _. (ds : List Decision)
-            → Codes encoder.old ds → Codes encoder.new (ds ++ self.now)) }
+        ensures codes { IfOk result (λ _. (reset : Bool) (before : List (List Decision)) (ds : List Decision)
+            → Codes encoder.old reset (before ++ ds ∷ [])
+            → Codes encoder.new reset (before ++ (ds ++ self.now) ∷ [])) }
         ensures memory { IfErr result IsMemory }
     {
         encoder.encode_all(&self.bytes[..self.count])

@@ -3,14 +3,14 @@
 //! codes (`places`), and puts `decisions` into a list, of which the MQ encoder makes the bytes of
 //! the pass.
 
-ghost use Rattle.std.specs.Prelude.{◌≡◌, ℕ, true, false, List, ◌+◌, ◌-◌, ◌*◌, ◌^◌, ◌<◌, ◌≤◌, ◌++◌, ◌∷◌, [], All, IfOk};
-ghost use Rattle.std.specs.Prelude.{IfErr, Ok, get_or, length, min, take, unsigned_abs};
+ghost use Rattle.std.specs.Prelude.{◌≡◌, ℕ, Bool, true, false, List, ◌+◌, ◌-◌, ◌*◌, ◌^◌, ◌<◌, ◌≤◌, ◌++◌, ◌∷◌, []};
+ghost use Rattle.std.specs.Prelude.{All, IfOk, IfErr, Ok, get_or, length, min, take, unsigned_abs};
 ghost use Rattle.jk_math.specs.BitLength.{bit_length};
 ghost use Rattle.jk_math.specs.Memory.{IsMemory};
 ghost use Rattle.jk_model.specs.Decisions.{Decision};
 ghost use Rattle.jk_mqenc.specs.Encoded.{Codes, written_by};
-ghost use Rattle.jk_scan.specs.Passes.{plane_decisions};
-ghost use Rattle.jk_block.specs.Meaning.{IsBlockMeaning, cut, value_in};
+ghost use Rattle.jk_block.specs.Symbols.{segmentation_symbol, closing_decisions};
+ghost use Rattle.jk_block.specs.Meaning.{IsBlockMeaning, cut, value_in, whole_decisions};
 ghost use Rattle.jk_block.specs.Reading.{block_at};
 ghost use Rattle.jk_block.specs.BlockWritten.{greatest, coded};
 ghost use Rattle.jk_block.specs.CodedBlocks.{shape_of, coefficients_of, contents, HasCodedPasses};
@@ -31,16 +31,19 @@ mod words;
 
 use crate::ages::Ages;
 use crate::decoding::Block;
-use crate::spot::{Pass, pass_of};
+use crate::spot::{Pass, ends_with_symbol, pass_of};
 use decisions::DecisionList;
 use flags::Flags;
-use jk_math::Fault;
+use jk_math::{Fault, Style};
 use jk_mqenc::Encoder;
 use jk_scan::BlockShape;
 use passes::write_pass;
 use plane::BlockPlane;
 use slices::{blank, negative_places, slice_all};
 use std::alloc::Global;
+
+/// The context of a segmentation symbol (T.800 D.5, Table D.5).
+const UNIFORM: usize = 18;
 
 /// A code-block as it is written.
 #[derive(Drop)]
@@ -72,6 +75,43 @@ pub fn top_bits(values: &[i32]) -> u32
     32 - most.leading_zeros()
 }
 
+/// Begins a pass: with context reset the contexts take their first states again.
+fn begin_pass(encoder: &mut Encoder, style: Style)
+    ensures { (dss : List (List Decision))
+        → Codes encoder.old style.reset dss → Codes encoder.new style.reset (dss ++ [] ∷ []) }
+{
+    if style.reset {
+        encoder.reset();
+    }
+}
+
+/// Codes a segmentation symbol (T.800 D.5).
+fn write_symbol(encoder: &mut Encoder) -> Result<(), Fault>
+    ensures codes { IfOk result (λ _. (reset : Bool) (before : List (List Decision)) (ds : List Decision)
+        → Codes encoder.old reset (before ++ ds ∷ [])
+        → Codes encoder.new reset (before ++ (ds ++ segmentation_symbol) ∷ [])) }
+    ensures memory { IfErr result IsMemory }
+{
+    encoder.encode(UNIFORM, true)?;
+    encoder.encode(UNIFORM, false)?;
+    encoder.encode(UNIFORM, true)?;
+    encoder.encode(UNIFORM, false)?;
+    Ok(())
+}
+
+/// Codes what ends a pass.
+fn end_pass(encoder: &mut Encoder, style: Style, pass: Pass) -> Result<(), Fault>
+    ensures codes { IfOk result (λ _. (reset : Bool) (before : List (List Decision)) (ds : List Decision)
+        → Codes encoder.old reset (before ++ ds ∷ [])
+        → Codes encoder.new reset (before ++ (ds ++ closing_decisions style (number_of pass)) ∷ [])) }
+    ensures memory { IfErr result IsMemory }
+{
+    if ends_with_symbol(style, pass) {
+        return write_symbol(encoder);
+    }
+    Ok(())
+}
+
 /// Codes a pass, and marks how many bytes are placed then.
 fn code_pass(
     block: &BlockPlane<'_>,
@@ -83,16 +123,19 @@ fn code_pass(
 ) -> Result<(), Fault>
     requires flagged { IsFlagged block.now (number_of pass * visits block.now.shape) flags.old }
     ensures flagged { IfOk result (λ _. IsFlagged block.now ((number_of pass + 1) * visits block.now.shape) flags.new) }
-    ensures codes { IfOk result (λ _. (ds : List Decision) → Codes encoder.old ds
-        → Codes encoder.new (ds ++ plane_decisions block.now.shape (seen block.now) (number_of pass))) }
-    ensures marks { IfOk result (λ _. (ds : List Decision) → Codes encoder.old ds
-        → marks.new.items ≡ marks.old.items
-        ++ written_by (ds ++ plane_decisions block.now.shape (seen block.now) (number_of pass)) ∷ []) }
+    ensures codes { IfOk result (λ _. (dss : List (List Decision)) → Codes encoder.old block.now.shape.style.reset dss
+        → Codes encoder.new block.now.shape.style.reset
+        (dss ++ whole_decisions block.now.shape (seen block.now) (number_of pass) ∷ [])) }
+    ensures marks { IfOk result (λ _. (dss : List (List Decision)) → Codes encoder.old block.now.shape.style.reset dss
+        → marks.new.items ≡ marks.old.items ++ written_by block.now.shape.style.reset
+        (dss ++ whole_decisions block.now.shape (seen block.now) (number_of pass) ∷ []) ∷ []) }
     ensures memory { IfErr result IsMemory }
 {
     list.clear();
     write_pass(block, flags, pass, list)?;
+    begin_pass(encoder, block.shape.style);
     list.encode(encoder)?;
+    end_pass(encoder, block.shape.style, pass)?;
     marks.push(encoder.written())?;
     Ok(())
 }
@@ -221,6 +264,7 @@ pub fn code(alloc: Global, block: &Block) -> Result<CodedBlock, Fault>
         width: block.width,
         height: block.height,
         orientation: block.orientation,
+        style: block.style,
     };
     let mut list = DecisionList::new(alloc);
     let mut encoder = Encoder::new(alloc);

@@ -12,6 +12,7 @@ use Rattle.jk_math.specs.BitLength.{bit_length}
 use Rattle.jk_math.proofs.Laws.{raster_length, index_below, bit_length_room, bit_length_few}
 use Rattle.jk_marks.specs.declared.coding.Coding.{Coding}
 use Rattle.jk_math.specs.declared.orientation.Orientation.{Orientation}
+use Rattle.jk_math.specs.declared.style.Style.{Style}
 use Rattle.jk_geom.specs.declared.grid.BlockGrid.{BlockGrid}
 use Rattle.jk_geom.specs.Rectangles.{band_area}
 use Rattle.jk_geom.specs.Blocks.{block_area, block_grid}
@@ -77,9 +78,11 @@ values_are s r n i j area place plane values ea ep el e =
     e ∙ ap (λ (b : Rect). raster b (plane_at area plane)) ep ∙ ap (λ (a : Rect). raster (block_at_place s.rect s.coding r n i j) (plane_at a plane)) ea
     ∙ ap (λ (l : List ℤ). raster (block_at_place s.rect s.coding r n i j) (plane_at (numbered_area s.rect s.coding.levels (band_number r i)) l)) el
 
-pub shape_of_block : (s : WrittenBands) (r n i j : ℕ) (place : Rect) (o : Orientation) (shape : BlockShape) → place ≡ block_at_place s.rect s.coding r n i j → o ≡ orientation_at r i → shape ≡ shape_of_area place o
+pub shape_of_block : (s : WrittenBands) (r n i j : ℕ) (place : Rect) (o : Orientation) (t : Style) (shape : BlockShape) → place ≡ block_at_place s.rect s.coding r n i j → o ≡ orientation_at r i → t ≡ s.coding.style → shape ≡ shape_of_area place o t
     → shape ≡ block_shape s.rect s.coding r n i j
-shape_of_block s r n i j place o shape ep eo e = e ∙ ap (λ (b : Rect). shape_of_area b o) ep ∙ ap (shape_of_area (block_at_place s.rect s.coding r n i j)) eo
+shape_of_block s r n i j place o t shape ep eo et e =
+    e ∙ ap (λ (b : Rect). shape_of_area b o t) ep ∙ ap (λ (q : Orientation). shape_of_area (block_at_place s.rect s.coding r n i j) q t) eo
+    ∙ ap (shape_of_area (block_at_place s.rect s.coding r n i j) (orientation_at r i)) et
 
 pub shape_fits : (s : WrittenBands) (r n i j : ℕ) → AreWrittenBands s → j < block_number (grid_at s.rect s.coding r n i) → IsBlockShape (block_shape s.rect s.coding r n i j)
 shape_fits s r n i j are lt = block_is_shape s.rect s.coding r n i j are.coding lt
@@ -91,8 +94,8 @@ cut_few m area place plane part long small = raster_few m place (plane_at area p
     let lt = index_below area x y (record { left = within.left; right = within.right; upper = within.upper; lower = within.lower }) in
     All-get_or (λ v. unsigned_abs v < m) plane ((y - area.y0) * columns_of area + (x - area.x0)) (pos 0) (omega (arith, lt, long)) small)
 
-pub block_long : (place : Rect) (f : ℕ → ℕ → ℤ) (values : List ℤ) (o : Orientation) (shape : BlockShape) → values ≡ raster place f → shape ≡ shape_of_area place o → length values ≡ shape.width * shape.height
-block_long place f values o shape e is =
+pub block_long : (place : Rect) (f : ℕ → ℕ → ℤ) (values : List ℤ) (o : Orientation) (t : Style) (shape : BlockShape) → values ≡ raster place f → shape ≡ shape_of_area place o t → length values ≡ shape.width * shape.height
+block_long place f values o t shape e is =
     ap (λ (l : List ℤ). length l) e ∙ raster_length place f ∙ (let turned : rows_of place * columns_of place ≡ columns_of place * rows_of place = omega arith in turned) ∙ ap (λ (b : BlockShape). b.width * b.height) (sym is)
 
 pub block_small : (area place : Rect) (plane band values : List ℤ) → IsPartOf place area → length plane ≡ places_of area → plane ≡ band → All (λ v. unsigned_abs v < 2 ^ 23) band → values ≡ raster place (plane_at area plane)

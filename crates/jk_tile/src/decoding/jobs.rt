@@ -59,7 +59,7 @@ fn add_block(
     let place = grid.block(j);
     let orientation = orientation(part.resolution, part.band);
     let planes = band_planes(coding, part.resolution, part.band);
-    let shape = shape_at(&place, orientation);
+    let shape = shape_at(&place, orientation, coding.style);
     if bodies.is_empty() || shape.width * shape.height < LEAST {
         return Ok(());
     }

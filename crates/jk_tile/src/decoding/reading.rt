@@ -64,7 +64,7 @@ fn read_at(
     }
     let orientation = orientation(part.resolution, part.band);
     let planes = band_planes(coding, part.resolution, part.band);
-    let shape = shape_at(&place, orientation);
+    let shape = shape_at(&place, orientation, coding.style);
     if let Some(values) = source.decoded().find(bodies, shape, planes) {
         put_common(&lies, rows, &place, values);
         return Ok(());

@@ -131,16 +131,18 @@ fn block_at(
     ensures memory { IfErr result IsMemory }
 {
     let rect = source.rect();
+    let coding = source.coding();
     let orientation = orientation(part.resolution, part.band);
-    let area = band(&rect, source.coding().levels, part.resolution, orientation);
+    let area = band(&rect, coding.levels, part.resolution, orientation);
     let place = grid.block(j);
     let plane = source.bands().plane(number_of(part.resolution, part.band));
     let values = cut_out(alloc, &area, plane, &place)?;
-    let shape = shape_at(&place, orientation);
+    let shape = shape_at(&place, orientation, coding.style);
     Ok(Block {
         width: shape.width,
         height: shape.height,
         orientation: shape.orientation,
+        style: shape.style,
         values,
     })
 }

@@ -51,7 +51,7 @@ code_planes-requires-clause-before c =
     let p = c.top_bits-planes.result in
     let q = value_in s c.deref-2.result.now in
     record {
-      codes = subst (λ (ds : Decided). Codes c.new-encoder.result ds) (sym (decisions_none s p q)) c.new-encoder.ensures;
+      codes = subst (λ (dss : List Decided). Codes c.new-encoder.result s.style.reset dss) (sym (decisions_none s p q)) (c.new-encoder.ensures s.style.reset);
       marked = c.new-marks.ensures.items ∙ sym (marks_none s p q);
     }
 
@@ -64,7 +64,7 @@ returns-clause-exact c =
     let same = c.deref-2.ensures.value in
     coded_from s b.values.items p (3 * p - 2) c.in_ok-finish.field-0.items c.code_planes.new.marks.items
     (c.top_bits-planes.ensures.planes ∙ ap (λ (vs : List ℤ). bit_length (greatest vs)) c.deref.ensures.value) refl
-    (c.in_ok-finish.ensures.exact _ after.codes ∙ sym (bytes_some s p (3 * p - 2) (value_in s c.deref-2.result.now) (let z = c.if-planes-eq0.false in omega arith)) ∙ ap (λ (vs : List ℤ). bytes_of s p (3 * p - 2) (value_in s vs)) same)
+    (c.in_ok-finish.ensures.exact _ _ after.codes ∙ sym (bytes_some s p (3 * p - 2) (value_in s c.deref-2.result.now) (let z = c.if-planes-eq0.false in omega arith)) ∙ ap (λ (vs : List ℤ). bytes_of s p (3 * p - 2) (value_in s vs)) same)
     (after.marked ∙ ap (λ (vs : List ℤ). marks_upto s p (3 * p - 2) (value_in s vs)) same)
 
 pub returns-clause-means : goal.returns-clause-means
@@ -111,4 +111,4 @@ returns-clause-short c =
     let p = c.top_bits-planes.result in
     let few = c.top_bits-planes.ensures.few in
     let small = bytes_small s p (3 * p - 2) (value_in s c.deref-2.result.now) c.requires.narrow c.requires.area (omega (arith, few)) in
-    subst (λ (b : List ℕ). length b < 2 ^ 25) (bytes_some s p (3 * p - 2) (value_in s c.deref-2.result.now) (let z = c.if-planes-eq0.false in omega arith) ∙ sym (c.in_ok-finish.ensures.exact _ c.in_ok-code_planes.ensures.after.codes)) small
+    subst (λ (b : List ℕ). length b < 2 ^ 25) (bytes_some s p (3 * p - 2) (value_in s c.deref-2.result.now) (let z = c.if-planes-eq0.false in omega arith) ∙ sym (c.in_ok-finish.ensures.exact _ _ c.in_ok-code_planes.ensures.after.codes)) small

@@ -16,5 +16,5 @@ caught_up-requires c =
     let l = c.loop-byte in
     let done = c.requires.coded in
     let m = with_registers l.coder l.registers in
-    let bound = held-bound m (held-of (lasting m l.contexts) (λ _. (_, l.invariant done.0 done.1)) refl) in
+    let bound = held-bound m (held-of (lasting m l.contexts) (λ _. (done.0, done.1, _, l.invariant done.0 done.1 done.2 done.3)) refl) in
     omega (arith, bound)

@@ -3,11 +3,11 @@ use Rattle.std.specs.Bool.{beq}
 use Rattle.std.proofs.lemmas.List.{get_or_default}
 use Rattle.jk_math.specs.Steps.{if_ok}
 use Rattle.jk_model.specs.Contexts.{begins, moved, row_of}
-use Rattle.jk_model.specs.Decisions.{Decision}
+use Rattle.jk_model.specs.Decisions.{State, Decision}
 use Rattle.jk_mqenc.specs.declared.registers.Registers.{Registers}
 use Rattle.jk_mqenc.specs.Machine.{Machine}
 use Rattle.jk_mqenc.specs.Coding.{subinterval, renorme}
-use Rattle.jk_mqenc.specs.Encoded.{Codes, with_registers, lasting}
+use Rattle.jk_mqenc.specs.Encoded.{CodesFrom, with_registers, lasting}
 use Rattle.jk_mqenc.proofs.Encoding.{held-of, codes-step}
 use Rattle.jk_mqenc.proofs.Settling.{taken-is, held-taken, digit-back, ready-coded}
 use Rattle.jk_mqenc.proofs.encoder.encode_one.Goals as goal
@@ -39,8 +39,8 @@ returns c = record {
       let size = c.taken-taken.result.width in
       let moves : eqb c.wide.result 0 ≡ ltb size (2 ^ 15) = ap (λ x. eqb x 0) c.wide.ensures ∙ digit-back (ltb size (2 ^ 15)) in
       let coded : (r : Registers) → with_registers c.code.new.self r ≡ renorme 15 (subinterval m q lower)
-      → (ds : List Decision) → Codes (lasting m cs) ds → Codes (lasting (with_registers c.code.new.self r) (set cs c.args.cx c.followed.result)) (ds ++ (c.args.cx, c.args.bit) ∷ []) =
-      λ r done ds codes. codes-step (lasting m cs) (lasting (with_registers c.code.new.self r) (set cs c.args.cx c.followed.result)) c.args.cx q size c.args.bit c.mps.result at c.followed.result ds
+      → (from : Machine) (start : State) (ds : List Decision) → CodesFrom from start (lasting m cs) ds → CodesFrom from start (lasting (with_registers c.code.new.self r) (set cs c.args.cx c.followed.result)) (ds ++ (c.args.cx, c.args.bit) ∷ []) =
+      λ r done from start ds codes. codes-step from start (lasting m cs) (lasting (with_registers c.code.new.self r) (set cs c.args.cx c.followed.result)) c.args.cx q size c.args.bit c.mps.result at c.followed.result ds
       (get_or_default cs c.args.cx c.index-contexts-cx.result (begins 0) (omega arith)) c.mps.ensures refl
       taken.width
       (c.followed.ensures ∙ ap (λ (t : Bool). cond t (moved at (cond less (not at.mps) at.mps)) at) moves) done refl refl codes in

@@ -4,4 +4,4 @@ use Rattle.jk_mqenc.proofs.Encoding.{codes-written}
 use Rattle.jk_mqenc.proofs.encoder.Encoder.written.Goals as goal
 
 pub returns : goal.returns
-returns c = λ ds codes. c.written.ensures ∙ codes-written _ ds (subst (λ (v : View). Codes v ds) (sym c.self.view_is) codes)
+returns c = λ r dss codes. c.written.ensures ∙ codes-written _ r dss (subst (λ (v : View). Codes v r dss) (sym c.self.view_is) codes)

@@ -1,6 +1,7 @@
-use Rattle.std.proofs.Common.{rules, ◌≤◌, length, sym, subst}
+use Rattle.std.proofs.Common.{rules, ◌≤◌, length, sym, subst, ap}
 use Rattle.std.proofs.lemmas.List.Elements.{All-push, All-same}
 use Rattle.jk_math.specs.declared.rect.Rect.{Rect}
+use Rattle.jk_marks.specs.declared.coding.Coding.{Coding}
 use Rattle.jk_tile.specs.decoding.Decoded.{IsBlockSegment}
 use Rattle.jk_tile.specs.decoding.Gathered.{IsInside}
 use Rattle.jk_tile.proofs.Places.{block_is_part}
@@ -27,7 +28,7 @@ returns-clause-segments c = λ all.
     let p = c.args.part in
     let size = length s.bytes in
     let place = place_is s p.resolution p.precinct p.band c.args.j c.args.grid.now c.block-place.result c.requires.grid c.block-place.ensures in
-    let shape = shape_is s p.resolution p.precinct p.band c.args.j c.block-place.result c.orientation-orientation.result c.shape_at-shape.result c.coding-coding.ensures.source place c.orientation-orientation.ensures
+    let shape = shape_is s p.resolution p.precinct p.band c.args.j c.block-place.result c.orientation-orientation.result c.coding-coding.result.now.style c.shape_at-shape.result c.coding-coding.ensures.source place c.orientation-orientation.ensures (ap (λ (k : Coding). k.style) c.coding-coding.ensures.value)
     c.shape_at-shape.ensures (few_is s p.resolution p.precinct p.band c.args.j c.args.grid.now c.requires.grid c.requires.j) in
     All-same (IsBlockSegment size) c.push.new.self.items _ c.in_ok-push.ensures.items (All-push (IsBlockSegment size) c.args.segments.now.items _ all (record {
       shape = shape;

@@ -41,7 +41,7 @@ read_block-requires-clause-shape c =
     let s = c.args.source.now in
     let p = c.args.part in
     let place = place_is s p.resolution p.precinct p.band c.args.j c.args.grid.now c.block-place.result c.requires.grid c.block-place.ensures in
-    shape_is s p.resolution p.precinct p.band c.args.j c.block-place.result c.orientation-orientation.result c.shape_at-shape.result c.coding-coding.ensures.source place c.orientation-orientation.ensures
+    shape_is s p.resolution p.precinct p.band c.args.j c.block-place.result c.orientation-orientation.result c.coding-coding.result.now.style c.shape_at-shape.result c.coding-coding.ensures.source place c.orientation-orientation.ensures (ap (λ (k : Coding). k.style) c.coding-coding.ensures.value)
     c.shape_at-shape.ensures (few_is s p.resolution p.precinct p.band c.args.j c.args.grid.now c.requires.grid c.requires.j)
 
 -- where the part lies
@@ -85,8 +85,8 @@ returns-clause-fills c =
     let lt = few_is s p.resolution p.precinct p.band c.args.j c.args.grid.now c.requires.grid c.requires.j in
     let bodies = ap (λ bs. map (body_of bs) c.args.bodies.now) c.bytes.ensures ∙ c.requires.bodies in
     let planes = c.band_planes-planes.ensures.value ∙ ap (λ (k : Coding). planes_of k (band_number p.resolution p.band)) c.coding-coding.ensures.value in
-    let due = due_is s p.resolution p.precinct p.band c.args.j c.band_planes-planes.result c.block-place.result c.orientation-orientation.result c.shape_at-shape.result
-    (map (body_of c.bytes.result.now) c.args.bodies.now) place c.orientation-orientation.ensures c.shape_at-shape.ensures planes bodies in
+    let due = due_is s p.resolution p.precinct p.band c.args.j c.band_planes-planes.result c.block-place.result c.orientation-orientation.result c.coding-coding.result.now.style c.shape_at-shape.result
+    (map (body_of c.bytes.result.now) c.args.bodies.now) place c.orientation-orientation.ensures (ap (λ (k : Coding). k.style) c.coding-coding.ensures.value) c.shape_at-shape.ensures planes bodies in
     let agrees = values_agree s p.resolution p.precinct p.band c.args.j c.block-place.result c.in_ok-block.block.values.items c.coding-coding.ensures.source
     (few_levels s p.resolution c.coding-coding.ensures.source c.requires.part.resolution) c.requires.part.precinct c.requires.part.band lt place (sym due ∙ c.in_ok-block.ensures.exact) in
     let put = subst (λ (v : BandRows). IsPutInto v c.block-place.result c.args.rows.now c.put_common-2.new.rows c.in_ok-block.block.values.items) lies
@@ -109,8 +109,8 @@ returns-clause-shows c = λ x y h inside.
     let lt = few_is s p.resolution p.precinct p.band c.args.j c.args.grid.now c.requires.grid c.requires.j in
     let bodies = ap (λ bs. map (body_of bs) c.args.bodies.now) c.bytes.ensures ∙ c.requires.bodies in
     let planes = c.band_planes-planes.ensures.value ∙ ap (λ (k : Coding). planes_of k (band_number p.resolution p.band)) c.coding-coding.ensures.value in
-    let due = due_is s p.resolution p.precinct p.band c.args.j c.band_planes-planes.result c.block-place.result c.orientation-orientation.result c.shape_at-shape.result
-    (map (body_of c.bytes.result.now) c.args.bodies.now) place c.orientation-orientation.ensures c.shape_at-shape.ensures planes bodies in
+    let due = due_is s p.resolution p.precinct p.band c.args.j c.band_planes-planes.result c.block-place.result c.orientation-orientation.result c.coding-coding.result.now.style c.shape_at-shape.result
+    (map (body_of c.bytes.result.now) c.args.bodies.now) place c.orientation-orientation.ensures (ap (λ (k : Coding). k.style) c.coding-coding.ensures.value) c.shape_at-shape.ensures planes bodies in
     let agrees = values_agree s p.resolution p.precinct p.band c.args.j c.block-place.result c.in_ok-block.block.values.items c.coding-coding.ensures.source
     (few_levels s p.resolution c.coding-coding.ensures.source c.requires.part.resolution) c.requires.part.precinct c.requires.part.band lt place (sym due ∙ c.in_ok-block.ensures.exact) in
     let put = subst (λ (v : BandRows). IsPutInto v c.block-place.result c.args.rows.now c.put_common-2.new.rows c.in_ok-block.block.values.items) lies
@@ -126,8 +126,8 @@ returns-in-Some-clause-fills c =
     let lies = lies_is s p.resolution p.band c.band_rows-lies.result c.region.result c.band_number.result c.band_rows-lies.ensures.value c.region.ensures.value c.band_number.ensures in
     let lt = few_is s p.resolution p.precinct p.band c.args.j c.args.grid.now c.requires.grid c.requires.j in
     let planes = c.band_planes-planes.ensures.value ∙ ap (λ (k : Coding). planes_of k (band_number p.resolution p.band)) c.coding-coding.ensures.value in
-    let due = due_is s p.resolution p.precinct p.band c.args.j c.band_planes-planes.result c.block-place.result c.orientation-orientation.result c.shape_at-shape.result
-    (map (body_of s.bytes) c.args.bodies.now) place c.orientation-orientation.ensures c.shape_at-shape.ensures planes c.requires.bodies in
+    let due = due_is s p.resolution p.precinct p.band c.args.j c.band_planes-planes.result c.block-place.result c.orientation-orientation.result c.coding-coding.result.now.style c.shape_at-shape.result
+    (map (body_of s.bytes) c.args.bodies.now) place c.orientation-orientation.ensures (ap (λ (k : Coding). k.style) c.coding-coding.ensures.value) c.shape_at-shape.ensures planes c.requires.bodies in
     let found = c.in-Some.ensures s.bytes c.decoded.ensures in
     let agrees = values_agree s p.resolution p.precinct p.band c.args.j c.block-place.result c.in-Some.values.now c.coding-coding.ensures.source
     (few_levels s p.resolution c.coding-coding.ensures.source c.requires.part.resolution) c.requires.part.precinct c.requires.part.band lt place (sym due ∙ found.exact) in
@@ -150,8 +150,8 @@ returns-in-Some-clause-shows c = λ x y h inside.
     let lies = lies_is s p.resolution p.band c.band_rows-lies.result c.region.result c.band_number.result c.band_rows-lies.ensures.value c.region.ensures.value c.band_number.ensures in
     let lt = few_is s p.resolution p.precinct p.band c.args.j c.args.grid.now c.requires.grid c.requires.j in
     let planes = c.band_planes-planes.ensures.value ∙ ap (λ (k : Coding). planes_of k (band_number p.resolution p.band)) c.coding-coding.ensures.value in
-    let due = due_is s p.resolution p.precinct p.band c.args.j c.band_planes-planes.result c.block-place.result c.orientation-orientation.result c.shape_at-shape.result
-    (map (body_of s.bytes) c.args.bodies.now) place c.orientation-orientation.ensures c.shape_at-shape.ensures planes c.requires.bodies in
+    let due = due_is s p.resolution p.precinct p.band c.args.j c.band_planes-planes.result c.block-place.result c.orientation-orientation.result c.coding-coding.result.now.style c.shape_at-shape.result
+    (map (body_of s.bytes) c.args.bodies.now) place c.orientation-orientation.ensures (ap (λ (k : Coding). k.style) c.coding-coding.ensures.value) c.shape_at-shape.ensures planes c.requires.bodies in
     let found = c.in-Some.ensures s.bytes c.decoded.ensures in
     let agrees = values_agree s p.resolution p.precinct p.band c.args.j c.block-place.result c.in-Some.values.now c.coding-coding.ensures.source
     (few_levels s p.resolution c.coding-coding.ensures.source c.requires.part.resolution) c.requires.part.precinct c.requires.part.band lt place (sym due ∙ found.exact) in

@@ -1,0 +1,48 @@
+//! The segmentation symbol.
+
+ghost use Rattle.std.specs.Prelude.{◌≡◌};
+ghost use Rattle.jk_block.specs.Reading.{symbol_at, closing_at};
+ghost use Rattle.jk_block.specs.Steps.{number_of};
+ghost use Rattle.jk_block.specs.Symbols.{is_symbol};
+ghost use Rattle.jk_block.specs.decoding.Sketches.{Draft, Takes};
+
+use crate::spot::{Pass, ends_with_symbol};
+use jk_math::{Fault, Style};
+use jk_mqdec::PassDecoder;
+
+/// The context of the symbol's decisions (T.800 Table D.5).
+const UNIFORM: usize = 18;
+
+/// Whether four bits are those of the symbol.
+fn is_symbol(first: bool, second: bool, third: bool, fourth: bool) -> bool
+    ensures { result ≡ is_symbol first second third fourth }
+{
+    first && !second && third && !fourth
+}
+
+/// Reads a segmentation symbol (T.800 D.5). All of its decisions are read before they are compared.
+fn read_symbol(decoder: &mut PassDecoder) -> Result<(), Fault>
+    ensures bytes { decoder.new.bytes ≡ decoder.old.bytes }
+    ensures takes { (d : Draft) → Takes (symbol_at decoder.old.bytes) d d decoder.old decoder.new result }
+{
+    let first = decoder.decode(UNIFORM)?;
+    let second = decoder.decode(UNIFORM)?;
+    let third = decoder.decode(UNIFORM)?;
+    let fourth = decoder.decode(UNIFORM)?;
+    if !is_symbol(first, second, third, fourth) {
+        return Err(Fault::BadValue);
+    }
+    Ok(())
+}
+
+/// Reads what ends a pass.
+pub fn end_pass(decoder: &mut PassDecoder, style: Style, pass: Pass) -> Result<(), Fault>
+    ensures bytes { decoder.new.bytes ≡ decoder.old.bytes }
+    ensures takes { (d : Draft)
+        → Takes (closing_at decoder.old.bytes style (number_of pass)) d d decoder.old decoder.new result }
+{
+    if ends_with_symbol(style, pass) {
+        return read_symbol(decoder);
+    }
+    Ok(())
+}
