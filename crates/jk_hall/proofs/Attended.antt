@@ -50,18 +50,18 @@ module _ {S : Type 0} (keeps : S → Files → Type 0) where
     cuts_on = kept_twice (seen s.0) (seen t.0) (seen u.0) s.1 t.1 (cuts s.0) (cuts t.0) (cuts u.0) a.grown b.grown a.keeps_on a.cuts_on b.cuts_on;
   }
 
-  module _ (failed : S → ℕ) (gave : S → List ℕ → List ℕ → S → Type 0) (gave_at : S → List ℕ → ℕ → ℕ → List ℕ → S → Type 0) (start end : Attending S) where
-    Went : Attending S → Type 0
+  module _ (failed : S → ℕ) (gave : S → List ℕ → List ℕ → S → Type 0) (gave_at : S → List ℕ → ℕ → ℕ → List ℕ → S → Type 0) {W : Type 0} (start end : Attending S W) where
+    Went : Attending S W → Type 0
     Went a = AreSame start a × Goes keeps (behind start) (behind a)
 
-    went_on : (s t : Attending S) → Went s → AreSame s t → Goes keeps (behind s) (behind t) → Went t
+    went_on : (s t : Attending S W) → Went s → AreSame s t → Goes keeps (behind s) (behind t) → Went t
     unfolding Went
     went_on s t p same goes = ((same.0 ∙ p.0.0, same.1 ∙ p.0.1), goes_on (behind start) (behind s) (behind t) p.1 goes)
 
-    Begins : Attending S → Type 0
+    Begins : Attending S W → Type 0
     Begins a = IsPrefix (seen a.reader.now) (seen end.reader.now)
 
-    given : (s : Attending S) (q : Request) (r : Reply) (t : Attending S) → Went s → GivesBehind keeps failed gave gave_at s q r t
+    given : (s : Attending S W) (q : Request) (r : Reply) (t : Attending S W) → Went s → GivesBehind keeps failed gave gave_at s q r t
         → Went t × (Begins t → GivesUpTo keeps failed gave gave_at (seen end.reader.now) (behind s) q r (behind t) × Begins s)
     unfolding Begins
     given s q r t p g = (
@@ -69,7 +69,7 @@ module _ {S : Type 0} (keeps : S → Files → Type 0) where
       λ b. ((g.1, b), prefix_trans (seen s.reader.now) (seen t.reader.now) (seen end.reader.now) g.1.goes.grown b),
     )
 
-    refused : (s : Attending S) (q : Request) (e : Fault) (t : Attending S) → Went s → RefusesBehind keeps s q e t
+    refused : (s : Attending S W) (q : Request) (e : Fault) (t : Attending S W) → Went s → RefusesBehind keeps s q e t
         → Went t × (Begins t → RefusesUpTo keeps (seen end.reader.now) (behind s) q e (behind t) × Begins s)
     unfolding Begins
     refused s q e t p g = (

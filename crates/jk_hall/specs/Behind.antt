@@ -14,15 +14,15 @@ use Rattle.jk_hall.specs.declared.reader.Reader.{Reader}
 use Rattle.jk_hall.specs.declared.attending.Attending.{Attending}
 
 -- what stands behind both references
-abbrev pub behind : {S : Type 0} → Attending S → Reader × S
+abbrev pub behind : {S W : Type 0} → Attending S W → Reader × S
 behind a = (a.reader.now, a.shelf.now)
 
 -- Both references are the same.
-abbrev pub AreSame : {S : Type 0} → Attending S → Attending S → Type 0
+abbrev pub AreSame : {S W : Type 0} → Attending S W → Attending S W → Type 0
 AreSame s t = (t.reader.ghost_name ≡ s.reader.ghost_name) × (t.shelf.ghost_name ≡ s.shelf.ghost_name)
 
 module _ {S : Type 0} (keeps : S → Files → Type 0) where
-  abbrev pub RefusesBehind : Attending S → Request → Fault → Attending S → Type 0
+  abbrev pub RefusesBehind : {W : Type 0} → Attending S W → Request → Fault → Attending S W → Type 0
   RefusesBehind s q e t = AreSame s t × Refuses keeps (behind s) q e (behind t)
 
   -- A request is refused, and what is seen begins this list.
@@ -31,7 +31,7 @@ module _ {S : Type 0} (keeps : S → Files → Type 0) where
 
   module _ (failed : S → ℕ) (gave : S → List ℕ → List ℕ → S → Type 0)
       (gave_at : S → List ℕ → ℕ → ℕ → List ℕ → S → Type 0) where
-    abbrev pub GivesBehind : Attending S → Request → Reply → Attending S → Type 0
+    abbrev pub GivesBehind : {W : Type 0} → Attending S W → Request → Reply → Attending S W → Type 0
     GivesBehind s q r t = AreSame s t × Gives keeps failed gave gave_at (behind s) q r (behind t)
 
     -- A request is answered from a list that begins this one.

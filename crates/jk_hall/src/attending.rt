@@ -9,20 +9,22 @@ ghost use Rattle.jk_hall.specs.Behind.{behind, AreSame, GivesUpTo, RefusesUpTo};
 ghost use Rattle.jk_hall.specs.Connections.{Attends};
 
 use crate::reader::Reader;
+use crate::witness::Witness;
 use jk_math::Fault;
 use jk_store::Shelf;
 use jk_web::{End, Reply, Request, Service, serve};
 use std::alloc::Global;
 use std::io::{Read, Write};
 
-/// A reader and a shelf, for a connection.
+/// A reader and a shelf, for a connection, and who is told of its requests.
 #[derive(Drop)]
-pub(crate) struct Attending<'a, S> {
+pub(crate) struct Attending<'a, S, W> {
     pub(crate) reader: &'a mut Reader,
     pub(crate) shelf: &'a mut S,
+    pub(crate) witness: &'a W,
 }
 
-impl<'a, S: Shelf> Service for Attending<'a, S> {
+impl<'a, S: Shelf, W: Witness> Service for Attending<'a, S, W> {
     ghost use Rattle.jk_hall.specs.Behind.{GivesBehind, RefusesBehind};
 
     ghost gives = { GivesBehind S.keeps S.failed S.gave S.gave_at };
@@ -30,16 +32,22 @@ impl<'a, S: Shelf> Service for Attending<'a, S> {
     ghost refuses = { RefusesBehind S.keeps };
 
     fn answer(&mut self, alloc: Global, request: &Request) -> Result<Reply, Fault> {
-        self.reader.serve(alloc, self.shelf, request)
+        match self.reader.serve(alloc, self.shelf, request) {
+            Ok(reply) => {
+                self.witness.answered(request, &reply);
+                Ok(reply)
+            }
+            Err(fault) => Err(fault),
+        }
     }
 }
 
 /// Answers the requests of a connection one after another, in at most so many reads.
-fn attend_with<'a, I: Read, O: Write, S: Shelf>(
+fn attend_with<'a, I: Read, O: Write, S: Shelf, W: Witness>(
     alloc: Global,
     input: &mut I,
     output: &mut O,
-    service: &mut Attending<'a, S>,
+    service: &mut Attending<'a, S, W>,
     turns: u64,
 ) -> Result<End, Fault>
     ensures same { AreSame service.old service.new }
@@ -64,12 +72,14 @@ impl Reader {
     /// reads, as `jk_web::run` does. TurnsSpent: so many reads were made, and each gave a byte.
     ///
     /// Each reply is given by one list. The lists are longer and longer beginnings of the last one.
-    pub fn attend<I: Read, O: Write, S: Shelf>(
+    /// The witness is told of each reply before it is sent.
+    pub fn attend<I: Read, O: Write, S: Shelf, W: Witness>(
         &mut self,
         alloc: Global,
         shelf: &mut S,
         input: &mut I,
         output: &mut O,
+        witness: &W,
         turns: u64,
     ) -> Result<End, Fault>
         ensures goes { Goes S.keeps (self.old, shelf.old) (self.new, shelf.new) }
@@ -90,6 +100,7 @@ impl Reader {
         let mut service = Attending {
             reader: self,
             shelf,
+            witness,
         };
         attend_with(alloc, input, output, &mut service, turns)
     }

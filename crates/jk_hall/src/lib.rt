@@ -15,6 +15,7 @@ mod serving;
 mod shown;
 mod source;
 mod told;
+mod witness;
 mod writer;
 
 pub use hall::Hall;
@@ -22,6 +23,7 @@ pub use law::lists_looked_at_grow;
 pub use place::Place;
 pub use reader::Reader;
 pub use serving::serve_all;
-pub use source::Source;
+pub use source::{Connection, Source};
 pub use told::Told;
+pub use witness::{Nobody, Witness};
 pub use writer::Writer;

@@ -3,11 +3,14 @@
 ghost use Rattle.std.specs.Prelude.{◌≡◌, ◌<◌, vec_len};
 
 use crate::reader::Reader;
-use crate::source::Source;
+use crate::source::{Connection, Source};
+use crate::witness::Witness;
 use jk_farm::Gate;
 use jk_math::Fault;
 use jk_store::Shelf;
+use jk_web::End;
 use std::alloc::Global;
+use std::io::{Read, Write};
 use std::sync::Wait;
 use std::sync::atomic::{AtomicUsize, Ordering};
 use std::thread;
@@ -15,6 +18,24 @@ use std::thread::Threads;
 
 /// The most reads of a connection.
 const TURNS: u64 = 65536;
+
+/// Attends to a connection, and tells why it has ended, or None where a request was refused.
+fn attend<S: Shelf, I: Read, O: Write, W: Witness>(
+    alloc: Global,
+    reader: &mut Reader,
+    shelf: &mut S,
+    connection: &mut Connection<I, O, W>,
+) -> Option<End> {
+    let Connection {
+        input,
+        output,
+        witness,
+    } = connection;
+    let witness: &W = witness;
+    reader
+        .attend(alloc, shelf, input, output, witness, TURNS)
+        .ok()
+}
 
 /// Attends to connections until no more come, and tells how many have ended.
 fn work<W: Wait, S: Shelf + Drop, G: Gate, C: Source>(
@@ -28,17 +49,14 @@ fn work<W: Wait, S: Shelf + Drop, G: Gate, C: Source>(
     let (mut reader, mut shelf) = worker;
     let mut ended: u64 = 0;
     for _ in rt.forever() {
-        let Some((mut input, mut output)) = source.take() else {
+        let Some(mut connection) = source.take() else {
             break;
         };
         let number = taken.fetch_add(1, Ordering::SeqCst);
         gate.began(number);
-        let end = match reader.attend(alloc, &mut shelf, &mut input, &mut output, TURNS) {
-            Ok(end) => Some(end),
-            Err(_) => None,
-        };
+        let end = attend(alloc, &mut reader, &mut shelf, &mut connection);
         gate.ended(number);
-        source.ended(input, output, end);
+        source.ended(connection, end);
         ended = ended.saturating_add(1);
     }
     ended

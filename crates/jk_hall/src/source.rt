@@ -1,7 +1,16 @@
 //! Where connections come from.
 
+use crate::witness::Witness;
 use jk_web::End;
 use std::io::{Read, Write};
+
+/// A connection: what is read of it, where replies are written, and who is told of its requests.
+#[derive(Drop)]
+pub struct Connection<I, O, W> {
+    pub input: I,
+    pub output: O,
+    pub witness: W,
+}
 
 /// Where connections come from.
 pub trait Source {
@@ -9,11 +18,13 @@ pub trait Source {
 
     type Out: Write + Drop + Send;
 
+    type Told: Witness + Drop + Send;
+
     /// The next connection, or None where no more come.
-    fn take(&self) -> Option<(Self::In, Self::Out)>;
+    fn take(&self) -> Option<Connection<Self::In, Self::Out, Self::Told>>;
 
     /// Is given back a connection that has ended: why, or None where a request was refused.
-    fn ended(&self, input: Self::In, output: Self::Out, end: Option<End>) {
-        let _ = (input, output, end);
+    fn ended(&self, connection: Connection<Self::In, Self::Out, Self::Told>, end: Option<End>) {
+        let _ = (connection, end);
     }
 }

@@ -3,7 +3,8 @@
 use crate::failure::{Failure, of_options, of_world, with_words};
 use crate::options;
 use crate::streams::read;
-use crate::world::World;
+use crate::workers::workers;
+use crate::world::{Serving, World};
 use clap::ArgMatches;
 use jk_commands::{EncodeOptions, Plan, judge, read_image};
 use jk_math::{Fault, Image};
@@ -205,29 +206,51 @@ fn tell_skipped<W: World>(
     Ok(())
 }
 
-/// `jk serve DIR`: the folder, what of it isn't listed, and the connections.
+/// How long a read or a write may wait at most, in seconds.
+const MOST_TIMEOUT: u32 = 3600;
+
+/// How an archive is served, if the options are within their limits.
+fn serving(alloc: Global, line: &ArgMatches<'_>) -> Result<Serving, Failure> {
+    let workers = workers(alloc, line)?;
+    let timeout = options::timeout(line);
+    if timeout < 1 || MOST_TIMEOUT < timeout {
+        return Err(with_words(
+            Fault::BadParameters,
+            format!(in alloc; "--timeout is {timeout}, and may be 1 to {MOST_TIMEOUT}"),
+        ));
+    }
+    Ok(options::serving(line, workers))
+}
+
+/// `jk serve DIR`: the options, the folder, what of it isn't listed, and the connections.
 pub(crate) fn serve<W: World>(
     alloc: Global,
     line: &ArgMatches<'_>,
     world: &mut W,
 ) -> Result<(), Failure> {
+    let serving = serving(alloc, line)?;
     let folder = options::folder(line);
     if let Err(fault) = world.share(alloc, folder) {
         return Err(of_world(alloc, world, fault, folder, "locked"));
     }
     let opened = open(alloc, world, folder);
     world.release();
-    let mut archive = opened?;
+    let archive = opened?;
     tell_skipped(alloc, world, &archive)?;
     world.tell_left(archive.shelf());
-    let serving = options::serving(line);
-    match world.serve(alloc, &mut archive, serving) {
+    match world.serve(alloc, folder, archive, serving) {
         Ok(()) => Ok(()),
         Err(fault) => {
             let subject = format!(in alloc; "port {}", serving.port)?;
             Err(of_world(alloc, world, fault, subject.as_str(), "served"))
         }
     }
+}
+
+/// The line that says how many connections were served at the end.
+pub fn served(alloc: Global, connections: u64) -> Result<String, Fault> {
+    let line = format!(in alloc; "jk: served {connections} connections\n")?;
+    Ok(line)
 }
 
 /// The line that says where an archive is served.

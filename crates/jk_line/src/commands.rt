@@ -61,9 +61,11 @@ const SERVE_WORDS: &str = "\
 GET /images lists the images, a line each: NAME WIDTH HEIGHT COMPONENTS DEPTH LEVELS.
 GET /images/NAME is the stored file. GET /images/NAME/window?x=N&y=N&w=N&h=N&r=D&layers=K is a
 window of it, as `jk cut` makes it; without r it isn't reduced, and without layers it has all of
-them. Connections are answered one after another. What the folder holds when the server starts is
-listed; files that aren't JP2 files, files NAME.tmp of an adding that was broken off, and files that
-can't be opened are named on standard error.";
+them. What the folder holds when the server starts is listed; files that aren't JP2 files, files
+NAME.tmp of an adding that was broken off, and files that can't be opened are named on standard
+error. A line `add NAME PATH` on standard input adds a PGM or PPM file, which is served from then on,
+and is answered by `added NAME` or `refused NAME FAULT`. It ends when so many connections and
+standard input have ended.";
 
 /// What a word of a command line is.
 #[derive(Clone, Copy)]
@@ -402,6 +404,21 @@ fn serve<'a>(alloc: Global) -> Result<Command<'a>, AllocError> {
             "connections",
             Form::Number("K"),
             "How many connections to take before the end; without it there is none",
+        ),
+        Word(
+            "workers",
+            Form::Default("N", "1"),
+            "How many connections to serve at a time, 1 to 64",
+        ),
+        Word(
+            "timeout",
+            Form::Default("SECONDS", "10"),
+            "How long to wait for a client, 1 to 3600; six times as long for a request or a reply",
+        ),
+        Word(
+            "log",
+            Form::Flag,
+            "Tell each request and why a connection failed on standard error",
         ),
         EXPLAIN,
     ];

@@ -12,9 +12,10 @@ mod options;
 mod running;
 mod status;
 mod streams;
+mod workers;
 mod world;
 
-pub use archive::listening;
+pub use archive::{listening, served};
 pub use faults::FaultLine;
 pub use running::run;
 pub use status::Status;

@@ -92,11 +92,19 @@ pub(crate) fn window(line: &ArgMatches<'_>) -> Option<View> {
     }
 }
 
-/// How an archive is served.
-pub(crate) fn serving(line: &ArgMatches<'_>) -> Serving {
+/// How long a read or a write on a connection may wait, in seconds.
+pub(crate) fn timeout(line: &ArgMatches<'_>) -> u32 {
+    number(line, "timeout", 10)
+}
+
+/// How an archive is served, with so many workers.
+pub(crate) fn serving(line: &ArgMatches<'_>, workers: usize) -> Serving {
     Serving {
         port: line.get_one::<u16>("port").unwrap_or(0),
         connections: line.get_one::<u32>("connections"),
+        workers,
+        timeout: timeout(line),
+        log: line.get_flag("log"),
     }
 }
 

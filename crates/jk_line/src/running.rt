@@ -2,34 +2,23 @@
 
 use crate::commands::command;
 use crate::defaults::Defaults;
-use crate::failure::{Failure, of_file, of_options, of_world, with_words};
+use crate::failure::{Failure, of_file, of_options, of_world};
 use crate::faults::{self, FaultLine, cause_of};
 use crate::features::left_out;
 use crate::status::Status;
 use crate::streams::{create, finish, read, write};
+use crate::workers::workers;
 use crate::world::World;
 use crate::{archive, options};
 use clap::ArgMatches;
 use clap::error::ErrorKind;
 use jk_commands::{
-    EncodeOptions, Plan, check_workers, cut_file, decode_file, decode_file_with,
-    decode_window_file, encode_file_into, encode_file_with, info_all_file, info_file, judge,
+    EncodeOptions, Plan, cut_file, decode_file, decode_file_with, decode_window_file,
+    encode_file_into, encode_file_with, info_all_file, info_file, judge,
 };
 use jk_farm::Open;
 use jk_math::Fault;
 use std::alloc::Global;
-
-/// How many workers are asked for, with words where there may not be so many.
-fn workers(alloc: Global, line: &ArgMatches<'_>) -> Result<usize, Failure> {
-    let asked = options::workers(line);
-    match check_workers(asked) {
-        Ok(workers) => Ok(workers),
-        Err(fault) => Err(with_words(
-            fault,
-            format!(in alloc; "--workers is {asked}, and may be 1 to 64"),
-        )),
-    }
-}
 
 /// The whole file of an image, coded by several workers, and then written.
 fn encode_by<W: World>(

@@ -14,6 +14,12 @@ pub struct Serving {
     pub port: u16,
     /// How many connections are taken before the end; without a number there is none.
     pub connections: Option<u32>,
+    /// How many connections are served at a time, 1 to 64.
+    pub workers: usize,
+    /// How long a read or a write on a connection may wait, in seconds, 1 to 3,600.
+    pub timeout: u32,
+    /// Whether each request is told on standard error.
+    pub log: bool,
 }
 
 /// The files, the streams and the archives that a command line works on.
@@ -98,11 +104,13 @@ pub trait World {
     /// broken off.
     fn tell_left(&mut self, folder: &Self::Folder);
 
-    /// Answers the requests of connections, one after another.
+    /// Answers the requests of connections, and meanwhile follows the lines of standard input, which
+    /// add images to the archive of this folder.
     fn serve(
         &mut self,
         alloc: Global,
-        archive: &mut Archive<Self::Folder>,
+        folder: &str,
+        archive: Archive<Self::Folder>,
         serving: Serving,
     ) -> Result<(), Fault>;
 }

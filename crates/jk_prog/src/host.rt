@@ -1,11 +1,14 @@
 //! The world of the program: the system's files, streams and sockets.
 
+use crate::files;
+use crate::keeper::{FolderKeeper, is_other, tell_waiting};
 use crate::opening::Watched;
 use crate::output::Late;
-use crate::{files, serving};
+use crate::serving::{Asked, shelves};
 use jk_files::{Lock, Lockable, Refusal, SharedLock, wait_exclusive, wait_shared};
 use jk_line::{Serving, World};
 use jk_math::Fault;
+use jk_serve::{Desk, Paths, bind};
 use jk_store::{Archive, Folder};
 use std::alloc::Global;
 use std::fmt::Display;
@@ -15,14 +18,15 @@ use std::rt::Files;
 use std::thread::Threads;
 use std::time::Clock;
 
-/// The world of the program: a runtime, the lock that is held, and what the system said where it
-/// refused the last call.
+/// The world of the program: a runtime, the lock that is held, what the system said where it
+/// refused the last call, and what is to be served.
 #[derive(Drop)]
 pub(crate) struct Host<R: Files> {
     rt: R,
     is_terminal: bool,
     lock: Option<Lock<R::File>>,
     said: Option<io::Error>,
+    asked: Option<Asked<R>>,
 }
 
 impl<R: Files + Drop> Host<R> {
@@ -33,7 +37,14 @@ impl<R: Files + Drop> Host<R> {
             is_terminal,
             lock: None,
             said: None,
+            asked: None,
         }
+    }
+
+    /// What is to be served, if the line that was run asks for it.
+    pub(crate) fn into_asked(self) -> Option<Asked<R>> {
+        let Host { asked, .. } = self;
+        asked
     }
 
     /// An answer of the system, of which a refusal is kept.
@@ -53,15 +64,6 @@ impl<R: Files + Drop> Host<R> {
             Ok(value) => Ok(value),
             Err(said) => self.kept(Err(Refusal::System(said))),
         }
-    }
-}
-
-/// Says that a folder's lock is waited for, where somebody reads along.
-fn tell_waiting<R: Eprint>(rt: &R, is_terminal: bool, folder: &str) {
-    if is_terminal {
-        let _ = eprintln!(rt;
-            "jk: another jk works on {folder}; waiting for it, up to ten seconds"
-        );
     }
 }
 
@@ -186,12 +188,7 @@ where
     }
 
     fn has_other(&self, folder: &Watched<Folder<R>, R>, name: &str) -> bool {
-        for other in folder.shelf().others() {
-            if other.name.strip_suffix(".jp2") == Some(name) {
-                return true;
-            }
-        }
-        false
+        is_other(folder.shelf(), name)
     }
 
     fn tell_others(&mut self, folder: &Watched<Folder<R>, R>) {
@@ -211,13 +208,26 @@ where
     fn serve(
         &mut self,
         alloc: Global,
-        archive: &mut Archive<Watched<Folder<R>, R>>,
+        folder: &str,
+        archive: Archive<Watched<Folder<R>, R>>,
         serving: Serving,
     ) -> Result<(), Fault> {
-        let port = match serving::bind(&self.rt, serving.port) {
-            Ok(listener) => listener,
+        let port = match bind(&self.rt, serving.port) {
+            Ok(port) => port,
             Err(said) => return self.kept(Err(Refusal::System(said))),
         };
-        serving::serve(&self.rt, alloc, &port, archive, serving)
+        let desk = Desk {
+            archive,
+            keeper: FolderKeeper::new(self.rt.clone()?, alloc, folder, self.is_terminal)?,
+            paths: Paths::new(self.rt.clone()?),
+        };
+        let shelves = shelves(&self.rt, alloc, folder, serving.workers)?;
+        self.asked = Some(Asked {
+            port,
+            desk,
+            shelves,
+            serving,
+        });
+        Ok(())
     }
 }

@@ -3,12 +3,15 @@
 
 mod files;
 mod host;
+mod keeper;
 mod opening;
 mod output;
 mod serving;
 
 use crate::host::Host;
-use jk_line::{Status, run};
+use crate::serving::{Asked, serve};
+use jk_line::{FaultLine, Status, run};
+use jk_math::Fault;
 use std::alloc::Global;
 use std::env;
 use std::io::{self, ErrorKind, IsTerminal};
@@ -46,15 +49,41 @@ fn keep_freed_memory(alloc: Global) {
     let _ = Vec::<u8>::with_capacity(alloc, KEPT);
 }
 
+/// Writes the fault with which serving ended, if it did.
+fn ended<R: Eprint>(rt: &R, served: Result<(), Fault>) -> Status {
+    match served {
+        Ok(()) => Status::Done,
+        Err(fault) => {
+            let _ = rt.eprint(&FaultLine { fault });
+            Status::Refused
+        }
+    }
+}
+
 fn main(rt: HostRuntime) -> ExitCode {
     let alloc = rt.alloc();
     keep_freed_memory(alloc);
-    let status = match words(&rt, alloc) {
-        Ok(words) => {
+    let own: Result<HostRuntime, _> = rt.clone();
+    let status = match (words(&rt, alloc), own) {
+        (Ok(words), Ok(own)) => {
             let is_terminal = rt.stderr().is_terminal();
-            run(alloc, &words, &mut Host::new(rt, is_terminal))
+            let mut host = Host::new(own, is_terminal);
+            let status = run(alloc, &words, &mut host);
+            match host.into_asked() {
+                Some(asked) => {
+                    let Asked {
+                        port,
+                        mut desk,
+                        shelves,
+                        serving,
+                    } = asked;
+                    ended(&rt, serve(&rt, alloc, port, &mut desk, shelves, serving))
+                }
+                None => status,
+            }
         }
-        Err(said) => refused(&rt, said),
+        (Err(said), _) => refused(&rt, said),
+        (_, Err(_)) => refused(&rt, io::Error::from(ErrorKind::OutOfMemory)),
     };
     ExitCode::from(status.code())
 }

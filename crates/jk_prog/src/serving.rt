@@ -1,127 +1,16 @@
-//! Serving an archive over sockets.
+//! Serving the archive of a folder.
 
-use jk_line::{Serving, listening};
+use crate::keeper::FolderKeeper;
+use crate::opening::Watched;
+use jk_line::{Serving, listening, served};
 use jk_math::Fault;
-use jk_store::{Archive, Shelf};
-use jk_web::{Cache, End, run_with};
+use jk_serve::{Arriving, Desk, Keeper, Log, Paths, Port};
+use jk_store::{Folder, Shelf};
 use std::alloc::Global;
-use std::io::{self, Read};
-use std::net::{Net, OpenListener, Shutdown, TcpListener, TcpStream};
-use std::thread;
-use std::time::{Clock, Duration, Instant};
-
-/// The most reads of a connection.
-const TURNS: u64 = 65_536;
-
-/// How many windows are kept.
-const WINDOWS: usize = 16;
-
-/// How long is waited after the first failure to take a connection, in milliseconds.
-const FIRST_PAUSE: u64 = 10;
-
-/// How long is waited at most.
-const LAST_PAUSE: u64 = 1000;
-
-/// How long what follows the last reply is read, in seconds.
-const LAST_WAIT: u64 = 2;
-
-/// How many reads are made of it at most.
-const LAST_READS: u64 = 1 << 16;
-
-/// A port that is listened on, and its address.
-#[derive(Drop)]
-pub(crate) struct Port {
-    listener: TcpListener,
-    number: u16,
-}
-
-/// Listens on a port of 127.0.0.1.
-pub(crate) fn bind<R: Net<Listener = TcpListener, Stream = TcpStream>>(
-    rt: &R,
-    port: u16,
-) -> io::Result<Port> {
-    let listener = TcpListener::bind(rt, ("127.0.0.1", port))?;
-    let number = listener.local_addr()?.port();
-    Ok(Port { listener, number })
-}
-
-/// Reads what follows the last reply, up to the client's end, for so long. A connection that is
-/// closed with bytes unread is reset, and the client might lose the reply.
-fn read_out<R: Clock>(rt: &R, stream: &TcpStream) -> io::Result<()> {
-    let mut rest = [0u8; 4096];
-    let start = Instant::now(rt)?;
-    let whole = Duration::from_secs(LAST_WAIT);
-    stream.shutdown(Shutdown::Write)?;
-    for _read in 0..LAST_READS {
-        let left = whole.saturating_sub(start.elapsed(rt)?);
-        if left.is_zero() {
-            break;
-        }
-        stream.set_read_timeout(Some(left))?;
-        if (&*stream).read(&mut rest)? == 0 {
-            break;
-        }
-    }
-    Ok(())
-}
-
-/// Answers the requests of a connection. However it ends, the next one is taken.
-fn attend<R: Clock, S: Shelf>(
-    rt: &R,
-    alloc: Global,
-    stream: &TcpStream,
-    archive: &mut Archive<S>,
-    cache: &mut Cache,
-) {
-    match run_with(alloc, &mut &*stream, &mut &*stream, archive, cache, TURNS) {
-        Ok(End::Bad) | Ok(End::Closed) => {
-            let _ = read_out(rt, stream);
-        }
-        _ => {}
-    }
-}
-
-/// The failures to take a connection, in a row.
-#[derive(Drop)]
-struct Row {
-    count: u64,
-    last: Option<io::Error>,
-}
-
-impl Row {
-    /// No failure.
-    fn none() -> Row {
-        Row {
-            count: 0,
-            last: None,
-        }
-    }
-
-    /// One more failure: the first of a row is told, and then some time is waited.
-    fn add<R: Eprint + Clock>(&mut self, rt: &R, said: io::Error) {
-        if self.count == 0 {
-            let _ = eprintln!(rt; "jk: a connection can't be taken: {said}");
-        }
-        let pause = FIRST_PAUSE << self.count.min(7);
-        thread::sleep(rt, Duration::from_millis(pause.min(LAST_PAUSE)));
-        self.count = self.count.saturating_add(1);
-        self.last = Some(said);
-    }
-
-    /// The end of the row: the last failure of several is told.
-    fn end<R: Eprint>(&mut self, rt: &R) {
-        if let Some(said) = self.last {
-            if self.count > 1 {
-                let _ = eprintln!(rt;
-                    "jk: {} connections couldn't be taken, the last: {said}",
-                    self.count
-                );
-            }
-        }
-        self.count = 0;
-        self.last = None;
-    }
-}
+use std::rt::Files;
+use std::sync::{Arc, Wait};
+use std::thread::Threads;
+use std::time::Clock;
 
 /// How many connections are taken.
 fn connections(serving: Serving) -> u64 {
@@ -131,28 +20,53 @@ fn connections(serving: Serving) -> u64 {
     }
 }
 
-/// Answers the requests of so many connections, one after another. One that can't be taken counts
-/// as one of them.
-pub(crate) fn serve<R: Eprint + Clock, S: Shelf>(
+/// What a command line asks to serve. It is served by `main`, where it is known of the runtime that
+/// its workers may be given it: a bound says of `Files` what holds of one thread.
+#[derive(Drop)]
+pub(crate) struct Asked<R: Files> {
+    pub(crate) port: Port,
+    pub(crate) desk: Desk<Watched<Folder<R>, R>, FolderKeeper<R>, Paths<R>>,
+    pub(crate) shelves: Vec<Folder<R>>,
+    pub(crate) serving: Serving,
+}
+
+/// A shelf of the folder for each worker.
+pub(crate) fn shelves<R: Files + Clone + Drop>(
     rt: &R,
     alloc: Global,
-    port: &Port,
-    archive: &mut Archive<S>,
-    serving: Serving,
-) -> Result<(), Fault> {
-    let mut cache = Cache::new(alloc, WINDOWS)?;
-    let line = listening(alloc, archive.list().len(), port.number)?;
-    let _ = rt.eprint(line.as_str());
-    let mut row = Row::none();
-    for _connection in 0..connections(serving) {
-        match port.listener.accept() {
-            Ok((stream, _)) => {
-                row.end(rt);
-                attend(rt, alloc, &stream, archive, &mut cache);
-            }
-            Err(said) => row.add(rt, said),
-        }
+    folder: &str,
+    workers: usize,
+) -> Result<Vec<Folder<R>>, Fault> {
+    let mut shelves = Vec::new(alloc);
+    for _ in 0..workers {
+        let shelf = Folder::new(rt.clone()?, alloc, folder)?;
+        shelves.push(shelf)?;
     }
-    row.end(rt);
+    Ok(shelves)
+}
+
+/// Serves an archive on a port, with a worker for each shelf, and tells when it begins and ends.
+pub(crate) fn serve<R, S: Shelf, K: Keeper<S>, P: Shelf, F: Shelf + Drop + Send>(
+    rt: &R,
+    alloc: Global,
+    port: Port,
+    desk: &mut Desk<S, K, P>,
+    shelves: Vec<F>,
+    serving: Serving,
+) -> Result<(), Fault>
+where
+    R: Input + Print + Eprint + Clock + Clone + Drop + Threads + Wait + Send + Sync + 'static,
+{
+    let started = listening(alloc, desk.archive.list().len(), port.number)?;
+    let log = if serving.log {
+        Some(Arc::new(alloc, Log::new(alloc))?)
+    } else {
+        None
+    };
+    let wait = serving.timeout.saturating_mul(1000);
+    let arriving = Arriving::new(rt.clone()?, alloc, port, connections(serving), wait, log);
+    let all = jk_serve::serve(rt, alloc, desk, shelves, &arriving, started.as_str())?;
+    let ended = served(alloc, all.connections)?;
+    let _ = rt.eprint(ended.as_str());
     Ok(())
 }

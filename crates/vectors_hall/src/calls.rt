@@ -14,7 +14,7 @@ use std::sync::{Arc, Wait};
 use vectors::bytes_of;
 
 /// The JP2 file of one grey sample, 128, without levels, as a hexadecimal text.
-static PAGE: &str =
+pub(crate) static PAGE: &str =
     "0000000C 6A502020 0D0A870A 00000014 66747970 6A703220 00000000 6A703220 0000002D 6A703268 00000016 69686472 00000001 00000001 0001 07 07 00 00 0000000F 636F6C72 01 00 00 00000011 0000005A 6A703263 FF4F FF51 0029 0000 00000001 00000001 00000000 00000000 00000001 00000001 00000000 00000000 0001 07 01 01 FF52 000C 00 00 0001 00 00 04 04 00 01 FF5C 0004 40 40 FF90 000A 0000 0000000F 00 01 FF93 00 FFD9";
 
 /// Two values are equal.
@@ -22,13 +22,20 @@ pub(crate) fn equal<T: PartialEq + Debug + Copy>(rt: &impl Abort, found: T, due:
     assert_eq!(rt; found, due);
 }
 
-/// A shelf in memory with the images `a` and `b`.
-pub(crate) fn shelf(alloc: Global) -> Result<MemoryShelf, Fault> {
+/// A shelf in memory on which images of these names have the file of one grey sample.
+pub(crate) fn page_shelf(alloc: Global, names: &[&str]) -> Result<MemoryShelf, Fault> {
     let mut shelf = MemoryShelf::new(alloc);
     let page = bytes_of(alloc, &[PAGE])?;
-    shelf.write(alloc, "a.jp2", &page)?;
-    shelf.write(alloc, "b.jp2", &page)?;
+    for name in names {
+        let file = format!(in alloc; "{name}.jp2")?;
+        shelf.write(alloc, file.as_str(), &page)?;
+    }
     Ok(shelf)
+}
+
+/// A shelf in memory with the images `a` and `b`.
+pub(crate) fn shelf(alloc: Global) -> Result<MemoryShelf, Fault> {
+    page_shelf(alloc, &["a", "b"])
 }
 
 /// So many of these.
@@ -43,9 +50,9 @@ pub(crate) fn shelves(alloc: Global, count: usize) -> Result<Vec<MemoryShelf>, F
     Ok(all)
 }
 
-/// The entries of these images, in order.
-pub(crate) fn entries(alloc: Global) -> Result<Vec<Arc<Entry>>, Fault> {
-    let archive = Archive::open(alloc, shelf(alloc)?)?;
+/// The entries of images of these names, in order.
+pub(crate) fn page_entries(alloc: Global, names: &[&str]) -> Result<Vec<Arc<Entry>>, Fault> {
+    let archive = Archive::open(alloc, page_shelf(alloc, names)?)?;
     let mut all = Vec::new(alloc);
     for entry in archive.list() {
         all.push(Arc::try_clone(entry)?)?;
@@ -61,7 +68,7 @@ pub(crate) fn opened<R: Wait>(
 ) -> Result<(Writer, Vec<Reader>, Option<Arc<Entry>>), Fault>
     ensures { IfOk result (λ h. vec_len h.1 ≡ workers) }
 {
-    let mut listed = entries(alloc)?;
+    let mut listed = page_entries(alloc, &["a", "b"])?;
     let last = listed.pop();
     let (writer, readers) = Hall::new(rt, alloc, workers, listed)?;
     Ok((writer, readers, last))

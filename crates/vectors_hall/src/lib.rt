@@ -4,6 +4,12 @@
 #[cfg(test)]
 mod calls;
 #[cfg(test)]
+mod crowd;
+#[cfg(test)]
+mod idle;
+#[cfg(test)]
+mod operating;
+#[cfg(test)]
 mod publishing;
 #[cfg(test)]
 mod streams;

@@ -1,6 +1,6 @@
 //! A source of connections in memory.
 
-use jk_hall::Source;
+use jk_hall::{Connection, Nobody, Source};
 use jk_web::End;
 use std::alloc::Global;
 use std::io::Read;
@@ -75,7 +75,9 @@ impl Source for Streams {
 
     type Out = Vec<u8>;
 
-    fn take(&self) -> Option<(Stream, Vec<u8>)> {
+    type Told = Nobody;
+
+    fn take(&self) -> Option<Connection<Stream, Vec<u8>, Nobody>> {
         let number = self.taken.fetch_add(1, Ordering::SeqCst);
         if number >= self.cases.len() {
             return None;
@@ -88,10 +90,15 @@ impl Source for Streams {
             bytes: self.cases[number].0,
             at: 0,
         };
-        Some((stream, Vec::new(self.alloc)))
+        Some(Connection {
+            input: stream,
+            output: Vec::new(self.alloc),
+            witness: Nobody,
+        })
     }
 
-    fn ended(&self, input: Stream, output: Vec<u8>, end: Option<End>) {
+    fn ended(&self, connection: Connection<Stream, Vec<u8>, Nobody>, end: Option<End>) {
+        let Connection { input, output, .. } = connection;
         if input.number < self.cases.len()
             && output.as_slice() == self.cases[input.number].1
             && end == Some(End::Closed)

@@ -315,7 +315,10 @@ add d A - --x0 2147483647||F19 BadName
 add d c - --x0 2147483647||F18 NameTaken
 add d b - --x0 2147483647||F15 BadParameters
 add d b - --levels 6||F15 BadParameters
-serve no --port 0||F20 Shelf";
+serve no --port 0 --workers 0||F15 BadParameters
+serve no --port 0 --workers 65||F15 BadParameters
+serve no --port 0 --timeout 0||F15 BadParameters
+serve no --port 0 --workers 64||F20 Shelf";
 
 /// The same of lines that ask for the cause, which stands behind the fault.
 static CAUSES: &str = "\
@@ -328,6 +331,7 @@ encode - - --explain --precincts 1x||F15 BadParameters|\
 --precincts is 1x, and may have pairs of hexadecimal digits
 add d A - --explain||F19 BadName|A isn't 1 to 64 of the characters a to z, 0 to 9, - and _
 add d c - --explain||F18 NameTaken|d has a file c.jp2
+serve no --port 0 --explain --timeout 3601||F15 BadParameters|--timeout is 3601, and may be 1 to 3600
 info no --explain||F20 Shelf|no can't be read: entity not found
 decode - - --explain --reduce 2|column|F16 BadWindow|\
 a reduction past the least number of levels, no layer, or a window or reduced image without a sample
@@ -411,7 +415,7 @@ fn archives_grow(rt: HostRuntime) -> Result<(), Fail> {
     );
     assert!(rt;
         world.error.as_str()
-            == "jk: c.jp2 isn't listed: F13 BadBox\njk: 1 images on http://127.0.0.1:8080/images\nNone",
+            == "jk: c.jp2 isn't listed: F13 BadBox\njk: 1 images on http://127.0.0.1:8080/images\nNone 1 10 false",
         "{}",
         world.error
     );

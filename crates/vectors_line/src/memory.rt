@@ -186,7 +186,8 @@ impl<'a, R: Threads + Sync> World for Memory<'a, R> {
     fn serve(
         &mut self,
         alloc: Global,
-        archive: &mut Archive<MemoryShelf>,
+        _folder: &str,
+        archive: Archive<MemoryShelf>,
         serving: Serving,
     ) -> Result<(), Fault> {
         if serving.port == 1 {
@@ -194,7 +195,10 @@ impl<'a, R: Threads + Sync> World for Memory<'a, R> {
         }
         let line = listening(alloc, archive.list().len(), serving.port)?;
         self.append(&line)?;
-        let connections = format!(in alloc; "{:?}", serving.connections)?;
-        self.append(&connections)
+        let how = format!(in alloc;
+            "{:?} {} {} {}",
+            serving.connections, serving.workers, serving.timeout, serving.log
+        )?;
+        self.append(&how)
     }
 }

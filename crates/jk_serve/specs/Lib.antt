@@ -1,0 +1,3 @@
+pub mod OperatorLines
+pub mod Records
+pub mod Operating

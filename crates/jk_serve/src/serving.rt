@@ -1,0 +1,138 @@
+//! Serving an archive over sockets.
+
+ghost use Rattle.std.specs.Prelude.{◌≡◌, ◌<◌, vec_len};
+
+use crate::desk::{Desk, Keeper};
+use crate::operating::operate;
+use crate::port::Arriving;
+use jk_farm::Open;
+use jk_hall::{Hall, Reader, Writer, serve_all};
+use jk_math::Fault;
+use jk_store::{Entry, Shelf};
+use std::alloc::{AllocError, Global};
+use std::sync::{Arc, Wait};
+use std::thread::{JoinHandle, Threads};
+use std::time::Clock;
+use std::{io, thread};
+
+/// What was served.
+#[derive(Clone, Copy, Debug, PartialEq, Eq)]
+pub struct Served {
+    /// How many connections were attended to.
+    pub connections: u64,
+}
+
+/// Follows the lines of standard input, and answers them on standard output. Where that ends before
+/// the input does, it is told.
+fn operate_here<R: Wait + Input + Print + Eprint, S: Shelf, K: Keeper<S>, P: Shelf>(
+    rt: &R,
+    alloc: Global,
+    desk: &mut Desk<S, K, P>,
+    writer: &mut Writer,
+) -> Result<(), Fault> {
+    let mut input = rt.reader();
+    let mut output = io::writer(rt);
+    let operated = operate(rt, alloc, desk, writer, &mut input, &mut output);
+    if let Err(fault) = &operated {
+        let _ = eprintln!(rt; "jk: no more images are added: {fault}");
+    }
+    operated
+}
+
+/// Attends to the connections of a port by these readers, and meanwhile follows the operator.
+fn attend<R, S: Shelf, K: Keeper<S>, P: Shelf, F: Shelf + Drop + Send>(
+    rt: &R,
+    alloc: Global,
+    desk: &mut Desk<S, K, P>,
+    writer: &mut Writer,
+    workers: (Vec<Reader>, Vec<F>),
+    source: &Arriving<R>,
+) -> Result<Served, Fault>
+where
+    R: Threads + Wait + Clock + Input + Print + Eprint + Clone + Drop + Send + Sync,
+    requires { (0 < vec_len workers.0) × (vec_len workers.0 ≡ vec_len workers.1) }
+{
+    let (readers, shelves) = workers;
+    let (served, operated) = thread::join(
+        rt,
+        || -> Result<u64, Fault>
+            requires { (0 < vec_len readers) × (vec_len readers ≡ vec_len shelves) }
+        { serve_all(rt, alloc, readers, shelves, &Open, source) },
+        || operate_here(rt, alloc, desk, writer),
+    );
+    source.end();
+    let connections = served?;
+    operated?;
+    Ok(Served { connections })
+}
+
+/// Starts the thread that writes the log, if there is one. Where it can't be started that is told,
+/// and no line of the log is written.
+fn start_log<R>(rt: &R, alloc: Global, source: &Arriving<R>) -> Option<JoinHandle<()>>
+where
+    R: Threads + Wait + Clock + Eprint + Clone + Drop + Send + Sync + 'static,
+{
+    let log = Arc::try_clone(source.log()?).ok()?;
+    let own = rt.clone().ok()?;
+    match thread::spawn(rt, move || log.write_all(&own, alloc)) {
+        Ok(writing) => Some(writing),
+        Err(_) => {
+            let _ = eprintln!(rt; "jk: the log isn't written, since no thread can be started");
+            None
+        }
+    }
+}
+
+/// Lets the log be written to its end.
+fn end_log<R>(rt: &R, source: &Arriving<R>, writing: Option<JoinHandle<()>>)
+where
+    R: Threads + Wait + Clock + Eprint + Clone + Drop,
+{
+    if let Some(log) = source.log() {
+        log.close(rt);
+    }
+    if let Some(writing) = writing {
+        writing.join(rt);
+    }
+}
+
+/// The entries of an archive.
+fn entries<S: Shelf, K, P>(
+    alloc: Global,
+    desk: &Desk<S, K, P>,
+) -> Result<Vec<Arc<Entry>>, AllocError> {
+    let mut entries = Vec::new(alloc);
+    for entry in desk.archive.list() {
+        entries.push(Arc::try_clone(entry)?)?;
+    }
+    Ok(entries)
+}
+
+/// Serves the images of an archive on a port, with a worker for each of the shelves, until so many
+/// connections have come and standard input has ended. Lines of standard input are followed
+/// meanwhile (`operate`). A text is written to standard error when it begins.
+///
+/// BadParameters: other than 1 to 64 shelves. WorkerFailed: a worker can't have its place.
+pub fn serve<R, S: Shelf, K: Keeper<S>, P: Shelf, F: Shelf + Drop + Send>(
+    rt: &R,
+    alloc: Global,
+    desk: &mut Desk<S, K, P>,
+    shelves: Vec<F>,
+    source: &Arriving<R>,
+    started: &str,
+) -> Result<Served, Fault>
+where
+    R: Threads + Wait + Clock + Input + Print + Eprint + Clone + Drop + Send + Sync + 'static,
+{
+    let entries = entries(alloc, desk)?;
+    if shelves.is_empty() {
+        return Err(Fault::BadParameters);
+    }
+    let (mut writer, readers) = Hall::new(rt, alloc, shelves.len(), entries)?;
+    let _ = rt.eprint(started);
+    let writing = start_log(rt, alloc, source);
+    let served = attend(rt, alloc, desk, &mut writer, (readers, shelves), source);
+    end_log(rt, source, writing);
+    writer.close(rt);
+    served
+}
