@@ -104,8 +104,9 @@ pub trait World {
     /// broken off.
     fn tell_left(&mut self, folder: &Self::Folder);
 
-    /// Answers the requests of connections, and meanwhile follows the lines of standard input, which
-    /// add images to the archive of this folder.
+    /// Listens on the port, and keeps the archive of this folder and how it is to be served for the
+    /// time when the line is done: then the requests of connections are answered, and the lines of
+    /// standard input followed, which add images.
     fn serve(
         &mut self,
         alloc: Global,
