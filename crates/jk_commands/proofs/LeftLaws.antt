@@ -1,19 +1,26 @@
--- What encoding a file into a writer has written, by how far it came.
-use Rattle.std.proofs.Common.{◌≡◌, ℕ, List, [], Option, Result, Ok, Err, OnOk, refl, ◌∙◌, inl, inr}
+-- What encoding or decoding a file into a writer has written, by how far it came.
+use Rattle.std.proofs.Common.{◌≡◌, ℕ, List, [], Option, Result, Ok, Err, OnOk, refl, sym, subst, ◌∙◌, inl, inr, ◌≤◌, arith}
+use Rattle.std.proofs.lemmas.Bool.{cases_lt}
 use Rattle.std.specs.Bool.{⊤}
 use Rattle.std.specs.Io.KnownBytes.{Appends}
 use Rattle.jk_math.specs.Answer.{Refuses}
 use Rattle.jk_math.specs.Picture.{Picture}
 use Rattle.jk_math.specs.declared.fault.Fault.{Fault}
-use Rattle.jk_math.specs.declared.fault.Fault.TheVariants.{Memory}
+use Rattle.jk_math.specs.declared.fault.Fault.TheVariants.{Memory, BadParameters}
 use Rattle.jk_math.proofs.Laws.{appends_none}
 use Rattle.jk_pnm.specs.Reading.{pnm_at}
+use Rattle.jk_pnm.specs.Written.{written as pnm_of}
+use Rattle.jk_pnm.specs.Sending.{IsLeft}
+use Rattle.jk_window.specs.declared.view.View.{View}
+use Rattle.jk_code.specs.MeaningReading.{meaning_at}
+use Rattle.jk_code.specs.Viewing.{picture_of_view}
+use Rattle.jk_code.specs.ViewReading.{meaning_view_at}
 use Rattle.jk_code.specs.Written.{written as file_of}
 use Rattle.jk_code.specs.Beginnings.{Left}
 use Rattle.jk_commands.specs.declared.plan.Plan.{Plan}
 use Rattle.jk_commands.specs.declared.plan.Placed.{Placed}
 use Rattle.jk_commands.specs.Plans.{placing}
-use Rattle.jk_commands.specs.Commands.{encoded}
+use Rattle.jk_commands.specs.Commands.{encoded, decoded, window_decoded, window_given}
 use Rattle.jk_commands.specs.Written.{LeftOf}
 
 -- this was written between two states of a writer
@@ -60,3 +67,54 @@ on_ok (Err e) f h = tt
 pub on_ok_all : {P : Type 0} (r : Result ⊤ Fault) → P → OnOk r P
 on_ok_all (Ok done) h = h
 on_ok_all (Err e) h = tt
+
+-- ---- decoding
+
+-- nothing is written where the file that is due is refused
+pub left_nothing : (a : Option (List ℕ)) (due : Result (List ℕ) Fault) (e : Fault) → Refuses e due → Wrote a a (λ text. IsLeft due text (Err e))
+left_nothing a due (Memory r) h = ([], appends_none a, inl (tt, refl))
+left_nothing a due e h = ([], appends_none a, inr (inl (h, refl)))
+
+-- the file that is due is this one
+pub left_as : (a b : Option (List ℕ)) (x y : Result (List ℕ) Fault) (r : Result ⊤ Fault) → x ≡ y → Wrote a b (λ text. IsLeft x text r) → Wrote a b (λ text. IsLeft y text r)
+left_as a b x y r same left = subst (λ (due : Result (List ℕ) Fault). Wrote a b (λ text. IsLeft due text r)) same left
+
+pub decoded_is : (bytes : List ℕ) (reduce : ℕ) (p : Picture) → meaning_at bytes reduce ≡ Ok p → decoded bytes reduce ≡ pnm_of p
+unfolding decoded
+decoded_is bytes reduce p is = rw is refl
+
+pub decoded_refused : (bytes : List ℕ) (reduce : ℕ) (e : Fault) → Refuses e (meaning_at bytes reduce) → Refuses e (decoded bytes reduce)
+unfolding decoded
+decoded_refused bytes reduce (Memory r) h = tt
+decoded_refused bytes reduce e h = rw h refl
+
+pub window_is : (bytes : List ℕ) (v : View) (p : Picture) → meaning_view_at bytes v ≡ Ok p → window_decoded bytes v ≡ pnm_of p
+unfolding window_decoded
+window_is bytes v p is = rw is refl
+
+pub window_refused : (bytes : List ℕ) (v : View) (e : Fault) → Refuses e (meaning_view_at bytes v) → Refuses e (window_decoded bytes v)
+unfolding window_decoded
+window_refused bytes v (Memory r) h = tt
+window_refused bytes v e h = rw h refl
+
+pub given_is : (v : View) (p q : Picture) → picture_of_view v p ≡ Ok q → window_given v p ≡ pnm_of q
+given_is v p q is = rw is refl
+
+pub given_refused : (v : View) (p : Picture) (e : Fault) → Refuses e (picture_of_view v p) → Refuses e (window_given v p)
+given_refused v p (Memory r) h = tt
+given_refused v p e h = rw h refl
+
+-- so many workers as are asked for are in range where the answer isn't refused
+pub in_range : {A : Type 0} (workers : ℕ) (r : Result A Fault) (x : A) → r ≡ Ok x → ((1 ≤ workers → workers ≤ 64 → ⊥) → r ≡ Err BadParameters) → (1 ≤ workers) × (workers ≤ 64)
+in_range workers r x is range = elim (cases_lt workers 1) [
+  | inl none ↦ absurd (let e : r ≡ Err BadParameters = range (λ some few. omega (arith, none, some)) in let both : Ok x ≡ Err BadParameters = sym is ∙ e in cc)
+  | inr some ↦ elim (cases_lt 64 workers) [
+    | inl more ↦ absurd (let e : r ≡ Err BadParameters = range (λ one few. omega (arith, more, few)) in let both : Ok x ≡ Err BadParameters = sym is ∙ e in cc)
+    | inr few ↦ (some, few)
+  ]
+]
+
+-- the fault of an answer that is refused for them
+pub fault_is : {A : Type 0} (r : Result A Fault) (e : Fault) → r ≡ Err e → r ≡ Err BadParameters → e ≡ BadParameters
+fault_is (Ok x) e was due = absurd cc
+fault_is (Err d) e was due = cc

@@ -1,10 +1,12 @@
 //! Decoding to a PGM or PPM file.
 
-ghost use Rattle.std.specs.Prelude.{◌≡◌, ◌≤◌, Ok, Err, IfOk};
+ghost use Rattle.std.specs.Prelude.{◌≡◌, ◌≤◌, ℕ, List, [], Ok, Err, IfOk, OnOk};
+ghost use Rattle.std.specs.Io.KnownBytes.{Appends};
 ghost use Rattle.jk_math.specs.Answer.{Answers};
 ghost use Rattle.jk_math.specs.Picture.{Picture};
 ghost use Rattle.jk_math.specs.declared.fault.Fault.TheVariants.{BadParameters};
 ghost use Rattle.jk_pnm.specs.Pnm.{IsPnm};
+ghost use Rattle.jk_pnm.specs.Sending.{IsLeft};
 ghost use Rattle.jk_pnm.specs.Written.{written as pnm_of};
 ghost use Rattle.jk_code.specs.Meaning.{Means};
 ghost use Rattle.jk_code.specs.MeaningReading.{meaning_at};
@@ -14,7 +16,9 @@ ghost use Rattle.jk_commands.specs.Commands.{decoded};
 use jk_code::{decode, decode_with};
 use jk_farm::Gate;
 use jk_math::{Fault, Image};
+use jk_pnm::write_into;
 use std::alloc::Global;
+use std::io::Write;
 use std::thread::Threads;
 
 /// The image that a file means. The file is let go of.
@@ -61,30 +65,59 @@ fn decode_image_with<R: Threads + Sync, G: Gate + Sync>(
     decode_with::<R, G>(rt, alloc, workers, gate, &bytes, reduce)
 }
 
-/// What `jk decode` writes of a file at a reduction, decoded by so many workers side by side: what
-/// [`decode_file`] gives, and its first fault.
+/// Writes what `jk decode` makes of a file, a few rows at a time: the bytes that [`decode_file`]
+/// gives.
 ///
-/// BadParameters, before all else: less than one worker or more than 64.
-#[tactic(auto, unfolding(crate::specs::Commands::decoded))]
-pub fn decode_file_with<R: Threads + Sync, G: Gate + Sync>(
+/// The faults are those of [`decode_file`] in their order, and Shelf: a write failed or took
+/// nothing. Nothing is written before the image is whole. Before that, the file is let go of.
+pub fn decode_file_into<W: Write>(
+    alloc: Global,
+    bytes: Vec<u8>,
+    reduce: u32,
+    writer: &mut W,
+) -> Result<(), Fault>
+    // What was written, however it ended.
+    ensures exact { (text : List ℕ) × Appends (W.contents writer.old) (W.contents writer.new) text
+        × IsLeft (decoded bytes.items reduce) text result }
+    // A whole file is one of the picture that the file means.
+    ensures found { OnOk result ((p : Picture) × Means bytes.items reduce p
+        × ((file : List ℕ) → decoded bytes.items reduce ≡ Ok file → IsPnm file (at_place p 0 0))) }
+    // Of a file that means a picture, the picture's file is written.
+    ensures only { (p : Picture) → Means bytes.items reduce p
+        → (text : List ℕ) × Appends (W.contents writer.old) (W.contents writer.new) text × IsLeft (pnm_of p) text result }
+{
+    let image = decode_image(alloc, bytes, reduce)?;
+    write_into(alloc, &image, writer)
+}
+
+/// Writes what `jk decode` makes of a file, decoded by so many workers side by side: what
+/// [`decode_file_into`] writes, and its first fault.
+///
+/// BadParameters, before all else: less than one worker or more than 64; nothing is written.
+pub fn decode_file_into_with<R: Threads + Sync, G: Gate + Sync, W: Write>(
     rt: &R,
     alloc: Global,
     workers: usize,
     gate: &G,
     bytes: Vec<u8>,
     reduce: u32,
-) -> Result<Vec<u8>, Fault>
-    ensures range { (1 ≤ workers → workers ≤ 64 → ⊥) → result ≡ Err BadParameters }
-    // Which bytes, or which fault is the first.
-    ensures exact { 1 ≤ workers → workers ≤ 64 → Answers (λ v. v.items) result (decoded bytes.items reduce) }
-    // What is written is a PGM or PPM file of the picture that the file means.
-    ensures found { IfOk result (λ v. (p : Picture) × Means bytes.items reduce p × IsPnm v.items (at_place p 0 0)) }
+    writer: &mut W,
+) -> Result<(), Fault>
+    ensures range { (1 ≤ workers → workers ≤ 64 → ⊥) → (result ≡ Err BadParameters)
+        × Appends (W.contents writer.old) (W.contents writer.new) [] }
+    // What was written, however it ended.
+    ensures exact { 1 ≤ workers → workers ≤ 64
+        → (text : List ℕ) × Appends (W.contents writer.old) (W.contents writer.new) text
+        × IsLeft (decoded bytes.items reduce) text result }
+    // A whole file is one of the picture that the file means.
+    ensures found { OnOk result ((p : Picture) × Means bytes.items reduce p
+        × ((file : List ℕ) → decoded bytes.items reduce ≡ Ok file → IsPnm file (at_place p 0 0))) }
     // Of a file that means a picture, the picture's file is written.
     ensures only { 1 ≤ workers → workers ≤ 64 → (p : Picture) → Means bytes.items reduce p
-        → Answers (λ v. v.items) result (pnm_of p) }
+        → (text : List ℕ) × Appends (W.contents writer.old) (W.contents writer.new) text × IsLeft (pnm_of p) text result }
 {
     let image = decode_image_with::<R, G>(rt, alloc, workers, gate, bytes, reduce)?;
-    jk_pnm::write(alloc, &image)
+    write_into(alloc, &image, writer)
 }
 
 /// How many workers are asked for. BadParameters: none, or more than 64.

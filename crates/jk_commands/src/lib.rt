@@ -18,7 +18,7 @@ mod values;
 mod viewing;
 
 pub use cutting::cut_file;
-pub use decoding::{check_workers, decode_file, decode_file_with};
+pub use decoding::{check_workers, decode_file, decode_file_into, decode_file_into_with};
 pub use encoding::{encode_file, encode_file_into, encode_file_with, read_image};
 pub use options::EncodeOptions;
 pub use orders::{order_name, order_named};
@@ -26,4 +26,4 @@ pub use plan::{Placed, Plan, judge};
 pub use telling::info_file;
 pub use telling_all::info_all_file;
 pub use theorems::encode_and_decode;
-pub use viewing::decode_window_file;
+pub use viewing::decode_window_file_into;

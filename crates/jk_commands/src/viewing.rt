@@ -1,9 +1,11 @@
 //! Decoding a window to a PGM or PPM file.
 
-ghost use Rattle.std.specs.Prelude.{◌≡◌, Ok, IfOk};
+ghost use Rattle.std.specs.Prelude.{◌≡◌, ℕ, List, Ok, IfOk, OnOk};
+ghost use Rattle.std.specs.Io.KnownBytes.{Appends};
 ghost use Rattle.jk_math.specs.Answer.{Answers};
 ghost use Rattle.jk_math.specs.Picture.{Picture};
 ghost use Rattle.jk_pnm.specs.Pnm.{IsPnm};
+ghost use Rattle.jk_pnm.specs.Sending.{IsLeft};
 ghost use Rattle.jk_code.specs.Meaning.{Means};
 ghost use Rattle.jk_code.specs.Viewing.{picture_of_view};
 ghost use Rattle.jk_code.specs.ViewReading.{meaning_view_at};
@@ -12,8 +14,10 @@ ghost use Rattle.jk_commands.specs.Commands.{window_decoded, window_given};
 
 use jk_code::decode_window;
 use jk_math::{Fault, Image};
+use jk_pnm::write_into;
 use jk_window::View;
 use std::alloc::Global;
+use std::io::Write;
 
 /// The image of a window of a file. The file is let go of.
 fn window_image(alloc: Global, bytes: Vec<u8>, view: View) -> Result<Image, Fault>
@@ -24,24 +28,31 @@ fn window_image(alloc: Global, bytes: Vec<u8>, view: View) -> Result<Image, Faul
     decode_window(alloc, &bytes, view)
 }
 
-/// What `jk decode` writes of a window of a file, a bare codestream or a JP2 file, at the reduction
-/// of the view and in all layers.
+/// Writes what `jk decode` makes of a window of a file, a bare codestream or a JP2 file, at the
+/// reduction of the view and in all layers, a few rows at a time.
 ///
 /// The first of the faults that `jk_code::decode_window` names, BadWindow among them; then
-/// Unsupported for an image that has no PGM or PPM file. Packets and code-blocks on which no sample
-/// of the window depends aren't judged. Before the output is made, the file is let go of.
-#[tactic(auto, unfolding(crate::specs::Commands::window_decoded))]
-pub fn decode_window_file(alloc: Global, bytes: Vec<u8>, view: View) -> Result<Vec<u8>, Fault>
-    // Which bytes, or which fault is the first.
-    ensures exact { Answers (λ v. v.items) result (window_decoded bytes.items view) }
-    // What is written is a PGM or PPM file of the picture that the window shows.
-    ensures found { IfOk result
-        (λ v. (p : Picture) × (meaning_view_at bytes.items view ≡ Ok p) × IsPnm v.items (at_place p 0 0)) }
+/// Unsupported for an image that has no PGM or PPM file; and Shelf: a write failed or took nothing.
+/// Packets and code-blocks on which no sample of the window depends aren't judged. Nothing is
+/// written before the window is whole. Before that, the file is let go of.
+pub fn decode_window_file_into<W: Write>(
+    alloc: Global,
+    bytes: Vec<u8>,
+    view: View,
+    writer: &mut W,
+) -> Result<(), Fault>
+    // What was written, however it ended.
+    ensures exact { (text : List ℕ) × Appends (W.contents writer.old) (W.contents writer.new) text
+        × IsLeft (window_decoded bytes.items view) text result }
+    // A whole file is one of the picture that the window shows.
+    ensures found { OnOk result ((p : Picture) × (meaning_view_at bytes.items view ≡ Ok p)
+        × ((file : List ℕ) → window_decoded bytes.items view ≡ Ok file → IsPnm file (at_place p 0 0))) }
     // Of a file that means a picture, the file of that picture on the window is written, or
     // BadWindow is answered where the window has no sample.
     ensures means { (p : Picture) → Means bytes.items view.reduce p
-        → Answers (λ v. v.items) result (window_given view p) }
+        → (text : List ℕ) × Appends (W.contents writer.old) (W.contents writer.new) text
+        × IsLeft (window_given view p) text result }
 {
     let image = window_image(alloc, bytes, view)?;
-    jk_pnm::write(alloc, &image)
+    write_into(alloc, &image, writer)
 }

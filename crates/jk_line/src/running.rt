@@ -13,8 +13,8 @@ use crate::{archive, options};
 use clap::ArgMatches;
 use clap::error::ErrorKind;
 use jk_commands::{
-    EncodeOptions, Plan, cut_file, decode_file, decode_file_with, decode_window_file,
-    encode_file_into, encode_file_with, info_all_file, info_file, judge,
+    EncodeOptions, Plan, cut_file, decode_file_into, decode_file_into_with,
+    decode_window_file_into, encode_file_into, encode_file_with, info_all_file, info_file, judge,
 };
 use jk_farm::Open;
 use jk_math::Fault;
@@ -68,19 +68,22 @@ fn encode<W: World>(alloc: Global, line: &ArgMatches<'_>, world: &mut W) -> Resu
     }
 }
 
-/// The image of a file, decoded by this thread or by several workers.
+/// Writes the image of a file, decoded by this thread or by several workers.
 fn decode_image<W: World>(
     alloc: Global,
     world: &W,
     workers: usize,
     bytes: Vec<u8>,
     reduce: u32,
-) -> Result<Vec<u8>, Fault> {
+    output: &mut W::Output,
+) -> Result<(), Fault> {
     if workers == 1 {
-        decode_file(alloc, bytes, reduce)
-    } else {
-        decode_file_with::<W::Runtime, Open>(world.runtime(), alloc, workers, &Open, bytes, reduce)
+        return decode_file_into(alloc, bytes, reduce, output);
     }
+    let runtime = world.runtime();
+    decode_file_into_with::<W::Runtime, Open, W::Output>(
+        runtime, alloc, workers, &Open, bytes, reduce, output,
+    )
 }
 
 /// `jk decode IN OUT`: the image, or a window of it. How many workers there are is judged first.
@@ -88,12 +91,19 @@ fn decode<W: World>(alloc: Global, line: &ArgMatches<'_>, world: &mut W) -> Resu
     let workers = workers(alloc, line)?;
     let bytes = read(alloc, world, options::input(line))?;
     let left_out = left_out(&bytes);
+    let name = options::output(line);
+    let mut output = create(alloc, world, name)?;
     let decoded = match options::window(line) {
-        Some(view) => decode_window_file(alloc, bytes, view),
-        None => decode_image(alloc, world, workers, bytes, options::reduction(line)),
+        Some(view) => decode_window_file_into(alloc, bytes, view, &mut output),
+        None => {
+            let reduce = options::reduction(line);
+            decode_image(alloc, world, workers, bytes, reduce, &mut output)
+        }
     };
+    let finished = finish(alloc, world, name, output, decoded.is_ok());
     match decoded {
-        Ok(text) => write(alloc, world, options::output(line), &text),
+        Ok(()) => finished,
+        Err(Fault::Shelf) => finished.and(Err(Failure::from(Fault::Shelf))),
         Err(fault) => Err(of_file(alloc, fault, left_out)),
     }
 }

@@ -7,3 +7,4 @@ pub mod FileLaws
 pub mod Tails
 pub mod RasterLaws
 pub mod WrittenLaws
+pub mod SendingLaws

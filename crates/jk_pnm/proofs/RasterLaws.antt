@@ -1,17 +1,17 @@
 -- The raster that is written has the samples of the planes.
-use Rattle.std.proofs.Common.{◌≡◌, ℕ, zero, suc, ◌+◌, ◌*◌, ◌/◌, ◌%◌, ◌^◌, ◌<◌, ◌≤◌, false, cond, ltb, List, [], ◌∷◌, ◌++◌, length, map, get_or, take, All, ℤ, pos, negsuc, ◌≤ℤ◌, to_z, of_z, w32, refl, sym, ap, ◌∙◌, append_assoc, length-append, arith, inl, inr}
+use Rattle.std.proofs.Common.{◌≡◌, ℕ, zero, suc, ◌+◌, ◌-◌, ◌*◌, ◌/◌, ◌%◌, ◌^◌, ◌<◌, ◌≤◌, false, cond, ltb, List, [], ◌∷◌, ◌++◌, length, map, get_or, take, drop, All, ℤ, pos, negsuc, ◌≤ℤ◌, to_z, of_z, w32, refl, sym, ap, ◌∙◌, append_assoc, length-append, arith, inl, inr}
 use mir.Val.{SFits}
 use Rattle.std.specs.List.{flat_map, range_with_len}
 use Rattle.std.proofs.Math.Nat.{mul-le-mul_left}
 use Rattle.std.proofs.lemmas.Bool.{cases_Bool}
 use Rattle.std.proofs.lemmas.Int.{ints, to_z-of_z}
-use Rattle.std.proofs.lemmas.List.{append-nil, length-take-le}
+use Rattle.std.proofs.lemmas.List.{append-nil, length-take-le, length-drop, get_or-take, get_or-drop}
 use Rattle.std.proofs.lemmas.List.Concat.{flat_map-append, get_or-flat_map}
 use Rattle.std.proofs.lemmas.List.FromFn.{length-range_with_len, get_or-range_with_len, fill_by_all}
 use Rattle.std.proofs.lemmas.Simd.{map-map}
 use Rattle.jk_math.specs.Picture.{IsPlane, lowest, greatest}
 use Rattle.jk_pnm.specs.Pnm.{sample_size, sample_from, plane_from, planes_from}
-use Rattle.jk_pnm.specs.Written.{natural, sample_text, pixel_text, raster_text}
+use Rattle.jk_pnm.specs.Written.{natural, sample_text, pixel_text, raster_part, raster_text}
 use Rattle.jk_pnm.proofs.PlaneLaws.{planes_are}
 
 range_more : (n a : ℕ) → range_with_len a (n + 1) ≡ range_with_len a n ++ ((a + n) ∷ [])
@@ -20,6 +20,89 @@ range_more (suc n) a =
     let one : suc n + 1 ≡ suc (n + 1) = omega arith in
     let last : (a + 1) + n ≡ a + suc n = omega arith in
     ap (range_with_len a) one ∙ ap (λ (ks : List ℕ). a ∷ ks) (range_more n (a + 1) ∙ ap (λ (k : ℕ). range_with_len (a + 1) n ++ (k ∷ [])) last)
+
+range_joined : (n m a : ℕ) → range_with_len a (n + m) ≡ range_with_len a n ++ range_with_len (a + n) m
+range_joined zero m a = let same : a ≡ a + 0 = omega arith in let none : zero + m ≡ m = omega arith in ap (range_with_len a) none ∙ ap (λ (k : ℕ). range_with_len k m) same
+range_joined (suc n) m a =
+    let one : suc n + m ≡ suc (n + m) = omega arith in
+    let last : (a + 1) + n ≡ a + suc n = omega arith in
+    ap (range_with_len a) one ∙ ap (λ (ks : List ℕ). a ∷ ks) (range_joined n m (a + 1) ∙ ap (λ (k : ℕ). range_with_len (a + 1) n ++ range_with_len k m) last)
+
+-- the pixels before one, and those from it on up to another
+pub raster_joined : (m : ℕ) (planes : List (List ℤ)) (from to : ℕ) → from ≤ to → raster_text m planes to ≡ raster_text m planes from ++ raster_part m planes from (to - from)
+raster_joined m planes from to before =
+    let f : ℕ → List ℕ = pixel_text m planes in
+    let all : to ≡ from + (to - from) = omega (arith, before) in
+    let first : 0 + from ≡ from = omega arith in
+    ap (λ (k : ℕ). raster_text m planes k) all
+    ∙ ap (λ (ks : List ℕ). flat_map f ks) (range_joined from (to - from) 0 ∙ ap (λ (k : ℕ). range_with_len 0 from ++ range_with_len k (to - from)) first)
+    ∙ flat_map-append f (range_with_len 0 from) (range_with_len from (to - from))
+
+-- so many samples of a plane from one on
+abbrev pub part_of : ℕ → ℕ → List ℤ → List ℤ
+part_of from n plane = take n (drop from plane)
+
+-- the raster of parts of planes is that of the pixels there
+pixels_alike : (m : ℕ) (parts planes : List (List ℤ)) (n i from : ℕ) → ((k : ℕ) → k < i + n → pixel_text m parts k ≡ pixel_text m planes (from + k)) → flat_map (pixel_text m parts) (range_with_len i n) ≡ flat_map (pixel_text m planes) (range_with_len (from + i) n)
+pixels_alike m parts planes zero i from each = refl
+pixels_alike m parts planes (suc n) i from each =
+    let here : i < i + suc n = omega arith in
+    let next : (from + i) + 1 ≡ from + (i + 1) = omega arith in
+    let rest = pixels_alike m parts planes n (i + 1) from (λ k within. each k (omega (arith, within))) in
+    ap (λ (ys : List ℕ). ys ++ flat_map (pixel_text m parts) (range_with_len (i + 1) n)) (each i here)
+    ∙ ap (λ (ys : List ℕ). pixel_text m planes (from + i) ++ ys) (rest ∙ ap (λ (k : ℕ). flat_map (pixel_text m planes) (range_with_len k n)) (sym next))
+
+sample_alike : (plane : List ℤ) (from n k : ℕ) → k < n → get_or (part_of from n plane) k (pos 0) ≡ get_or plane (from + k) (pos 0)
+sample_alike plane from n k within = get_or-take n (drop from plane) k (pos 0) within ∙ get_or-drop from plane k (pos 0)
+
+texts_alike : (m from n k : ℕ) → k < n → (planes : List (List ℤ)) → pixel_text m (map (part_of from n) planes) k ≡ pixel_text m planes (from + k)
+texts_alike m from n k within [] = refl
+texts_alike m from n k within (plane ∷ planes) =
+    ap (λ (s : ℤ). sample_text m s ++ pixel_text m (map (part_of from n) planes) k) (sample_alike plane from n k within)
+    ∙ ap (λ (ys : List ℕ). sample_text m (get_or plane (from + k) (pos 0)) ++ ys) (texts_alike m from n k within planes)
+
+pub raster_of_parts : (m : ℕ) (planes : List (List ℤ)) (from n : ℕ) → raster_text m (map (part_of from n) planes) n ≡ raster_part m planes from n
+raster_of_parts m planes from n =
+    let none : from + 0 ≡ from = omega arith in
+    pixels_alike m (map (part_of from n) planes) planes n 0 from (λ k within. texts_alike m from n k (omega (arith, within)) planes)
+    ∙ ap (λ (k : ℕ). raster_part m planes k n) none
+
+part_length : (from to : ℕ) (plane : List ℤ) → to ≤ length plane → length (part_of from (to - from) plane) ≡ to - from
+part_length from to plane within = length-take-le (to - from) (drop from plane) (omega (arith, within, length-drop from plane))
+
+one_plane : (planes : List (List ℤ)) → length planes ≡ 1 → planes ≡ get_or planes 0 [] ∷ []
+one_plane [] one = absurd (omega (arith, one))
+one_plane (a ∷ []) one = refl
+one_plane (a ∷ (b ∷ planes)) one = absurd (omega (arith, one))
+
+three_planes : (planes : List (List ℤ)) → length planes ≡ 3 → planes ≡ get_or planes 0 [] ∷ (get_or planes 1 [] ∷ (get_or planes 2 [] ∷ []))
+three_planes [] three = absurd (omega (arith, three))
+three_planes (a ∷ []) three = absurd (omega (arith, three))
+three_planes (a ∷ (b ∷ [])) three = absurd (omega (arith, three))
+three_planes (a ∷ (b ∷ (d ∷ []))) three = refl
+three_planes (a ∷ (b ∷ (d ∷ (e ∷ planes)))) three = absurd (omega (arith, three))
+
+-- what was written of the one plane
+pub grey_part : (m from to : ℕ) (planes : List (List ℤ)) (p : List ℤ) (out now : List ℕ) → length planes ≡ 1 → p ≡ get_or planes 0 [] → to ≤ length p
+    → now ≡ out ++ raster_text m (part_of from (to - from) p ∷ []) (length (part_of from (to - from) p)) → now ≡ out ++ raster_part m planes from (to - from)
+grey_part m from to planes p out now one is within text =
+    let n : ℕ = to - from in
+    let same : map (part_of from n) planes ≡ part_of from n p ∷ [] = ap (λ (ps : List (List ℤ)). map (part_of from n) ps) (one_plane planes one ∙ ap (λ (q : List ℤ). q ∷ []) (sym is)) in
+    text
+    ∙ ap (λ (k : ℕ). out ++ raster_text m (part_of from n p ∷ []) k) (part_length from to p within)
+    ∙ ap (λ (ys : List ℕ). out ++ ys) (ap (λ (ps : List (List ℤ)). raster_text m ps n) (sym same) ∙ raster_of_parts m planes from n)
+
+-- what was written of the three planes
+pub colour_part : (m from to : ℕ) (planes : List (List ℤ)) (p q r : List ℤ) (out now : List ℕ) → length planes ≡ 3 → p ≡ get_or planes 0 [] → q ≡ get_or planes 1 [] → r ≡ get_or planes 2 [] → to ≤ length p
+    → now ≡ out ++ raster_text m (part_of from (to - from) p ∷ (part_of from (to - from) q ∷ (part_of from (to - from) r ∷ []))) (length (part_of from (to - from) p)) → now ≡ out ++ raster_part m planes from (to - from)
+colour_part m from to planes p q r out now three is is-2 is-3 within text =
+    let n : ℕ = to - from in
+    let parts : List (List ℤ) = part_of from n p ∷ (part_of from n q ∷ (part_of from n r ∷ [])) in
+    let named : get_or planes 0 [] ∷ (get_or planes 1 [] ∷ (get_or planes 2 [] ∷ [])) ≡ p ∷ (q ∷ (r ∷ [])) = rw (sym is, sym is-2, sym is-3) refl in
+    let same : map (part_of from n) planes ≡ parts = ap (λ (ps : List (List ℤ)). map (part_of from n) ps) (three_planes planes three ∙ named) in
+    text
+    ∙ ap (λ (k : ℕ). out ++ raster_text m parts k) (part_length from to p within)
+    ∙ ap (λ (ys : List ℕ). out ++ ys) (ap (λ (ps : List (List ℤ)). raster_text m ps n) (sym same) ∙ raster_of_parts m planes from n)
 
 -- one more pixel
 raster_more : (m : ℕ) (planes : List (List ℤ)) (i : ℕ) → raster_text m planes (i + 1) ≡ raster_text m planes i ++ pixel_text m planes i

@@ -1,12 +1,12 @@
 -- What is written is a PNM file of the picture.
-use Rattle.std.proofs.Common.{◌≡◌, ℕ, ◌+◌, ◌*◌, ◌^◌, ◌≤◌, Bool, true, false, not, ◌||◌, eqb, List, [], ◌∷◌, length, map, All, ℤ, pos, refl, sym, ap, subst, ◌∙◌, append_assoc, inl, inr, arith, lit<}
+use Rattle.std.proofs.Common.{◌≡◌, ℕ, ◌+◌, ◌-◌, ◌*◌, ◌^◌, ◌≤◌, Bool, true, false, not, ◌||◌, eqb, List, [], ◌∷◌, ◌++◌, length, map, All, ℤ, pos, refl, sym, ap, subst, ◌∙◌, append_assoc, inl, inr, arith, lit<}
 use Rattle.std.specs.List.{range_with_len, AllByRecursion}
 use Rattle.std.specs.Fmt.{decimal}
 use Rattle.std.proofs.Math.Nat.{pow-le-pow_right}
 use Rattle.std.proofs.lemmas.Bool.{eqb-true, and_parts, not-true, or_cases}
 use Rattle.jk_math.specs.Picture.{Picture, IsPicture, IsPlane}
 use Rattle.jk_pnm.specs.Pnm.{Space, number_of, Text, pnm_text, components_of, sample_size, plane_from, planes_from, IsPnm}
-use Rattle.jk_pnm.specs.Written.{is_written, maxval_of, raster_text, file_text}
+use Rattle.jk_pnm.specs.Written.{is_written, maxval_of, header_text, raster_part, raster_text, file_text}
 use Rattle.jk_pnm.proofs.NumberLaws.{decimal_value, decimal_number}
 use Rattle.jk_pnm.proofs.PictureLaws.{planes_below}
 use Rattle.jk_pnm.proofs.FileLaws.{below_told}
@@ -22,6 +22,15 @@ written_parts p e =
         | inr three ↦ ap components_of three ∙ sym (eqb-true (length p.planes) 3 three)
       ],
     )
+
+-- a picture with a file that hasn't one component has three
+pub three_components : (p : Picture) → is_written p ≡ true → (length p.planes ≡ 1 → ⊥) → length p.planes ≡ 3
+three_components p e other =
+    let both = and_parts (not p.signed) (eqb (length p.planes) 1 || eqb (length p.planes) 3) e in
+    elim (or_cases (eqb (length p.planes) 1) (eqb (length p.planes) 3) both.1) [
+      | inl one ↦ absurd (other (eqb-true (length p.planes) 1 one))
+      | inr three ↦ eqb-true (length p.planes) 3 three
+    ]
 
 -- what the file of a picture says
 told_of : Picture → Text
@@ -99,3 +108,15 @@ written_means p bytes is written text =
             (subst (λ (ps : List (List ℕ)). AllByRecursion (AllByRecursion (λ s. s ≤ m)) ps) named below);
       };
     }
+
+-- what the file of a picture is: its head, and the raster behind it
+pub file_joined : (p : Picture) (head : List ℕ) → head ≡ header_text (eqb (length p.planes) 3) p.width p.height (maxval_of p.depth)
+    → head ++ raster_text (maxval_of p.depth) p.planes (p.width * p.height) ≡ file_text p
+unfolding file_text
+file_joined p head is = ap (λ (ys : List ℕ). ys ++ raster_text (maxval_of p.depth) p.planes (p.width * p.height)) is
+
+pub file_of : (p : Picture) (head now : List ℕ) (m pixels : ℕ) → head ≡ header_text (eqb (length p.planes) 3) p.width p.height (maxval_of p.depth) → m ≡ maxval_of p.depth → pixels ≡ p.width * p.height
+    → now ≡ head ++ raster_part m p.planes 0 (pixels - 0) → now ≡ file_text p
+file_of p head now m pixels is most all text =
+    let none : pixels - 0 ≡ p.width * p.height = omega (arith, all) in
+    text ∙ ap (λ (k : ℕ). head ++ raster_part k p.planes 0 (pixels - 0)) most ∙ ap (λ (k : ℕ). head ++ raster_part (maxval_of p.depth) p.planes 0 k) none ∙ file_joined p head is

@@ -3,4 +3,5 @@ pub use Rattle.jk_math.specs.Picture
 pub mod Pnm
 pub mod Reading
 pub mod Written
+pub mod Sending
 pub mod Examples

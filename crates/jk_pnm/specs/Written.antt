@@ -28,8 +28,12 @@ sample_text maxval s = if nat_lt 255 maxval then (natural s / 256) ∷ (natural 
 abbrev pub pixel_text : ℕ → List (List ℤ) → ℕ → List ℕ
 pixel_text maxval planes pixel = flat_map (λ plane. sample_text maxval (slice_index_or plane pixel (pos 0))) planes
 
+-- the samples of so many pixels from one on
+abbrev pub raster_part : ℕ → List (List ℤ) → (from : ℕ) → (pixels : ℕ) → List ℕ
+raster_part maxval planes from pixels = flat_map (pixel_text maxval planes) (range_with_len from pixels)
+
 abbrev pub raster_text : ℕ → List (List ℤ) → ℕ → List ℕ
-raster_text maxval planes pixels = flat_map (pixel_text maxval planes) (range_with_len 0 pixels)
+raster_text maxval planes pixels = raster_part maxval planes 0 pixels
 
 abbrev pub header_text : Bool → ℕ → ℕ → ℕ → List ℕ
 header_text colour width height maxval = magic_text colour

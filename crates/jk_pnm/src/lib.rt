@@ -2,10 +2,12 @@
 #![tactic(auto)]
 
 mod header;
+mod pieces;
 mod reading;
 mod theorems;
 mod writing;
 
+pub use pieces::write_into;
 pub use reading::{read, read_owned};
 pub use theorems::one_picture;
 pub use writing::write;

@@ -1,6 +1,6 @@
 use crate::cases::{Case, OTHERS, REFUSED, WRITTEN};
 use jk_math::{Fault, Image};
-use jk_pnm::{read, read_owned, write};
+use jk_pnm::{read, read_owned, write, write_into};
 use std::alloc::Global;
 use std::process::Abort;
 use std::test::Fail;
@@ -36,6 +36,22 @@ fn reads(rt: &impl Abort, alloc: Global, case: &Case<'_>) -> Result<Image, Fail>
     Ok(image)
 }
 
+/// Samples of 12 bits, and how they are written.
+const FIVE: [(i32, [u8; 2]); 5] = [
+    (0, [0, 0]),
+    (255, [0, 255]),
+    (256, [1, 0]),
+    (2748, [10, 188]),
+    (4095, [15, 255]),
+];
+
+/// What is written of an image into a writer.
+fn sent(alloc: Global, image: &Image) -> Result<Vec<u8>, Fail> {
+    let mut written = Vec::new(alloc);
+    write_into(alloc, image, &mut written)?;
+    Ok(written)
+}
+
 /// An image of black samples.
 fn black(alloc: Global, signed: bool, components: usize) -> Result<Image, Fail> {
     let mut planes = Vec::new(alloc);
@@ -61,7 +77,27 @@ fn written_files(rt: HostRuntime) -> Result<(), Fail> {
     for case in &WRITTEN {
         let image = reads(&rt, alloc, case)?;
         assert_eq!(rt; write(alloc, &image)?.as_slice(), case.0);
+        assert_eq!(rt; sent(alloc, &image)?.as_slice(), case.0);
     }
+    Ok(())
+}
+
+/// Samples of 12 bits, more of them than are put together at a time.
+#[test]
+fn several_pieces(rt: HostRuntime) -> Result<(), Fail> {
+    let alloc = rt.alloc();
+    let mut samples = Vec::new(alloc);
+    let mut file = Vec::from_slice(alloc, b"P5\n300 200\n4095\n")?;
+    for _ in 0..12_000 {
+        for (sample, bytes) in &FIVE {
+            samples.push(*sample)?;
+            file.extend_from_slice(bytes.as_slice())?;
+        }
+    }
+    let mut planes = Vec::new(alloc);
+    planes.push(samples)?;
+    let image = Image::new(0, 0, 300, 200, 12, false, planes)?;
+    assert_eq!(rt; sent(alloc, &image)?.as_slice(), file.as_slice());
     Ok(())
 }
 
@@ -103,6 +139,9 @@ fn unwritten_images(rt: HostRuntime) -> Result<(), Fail> {
     for (signed, components) in [(false, 2), (false, 4), (true, 1), (true, 3)] {
         let image = black(alloc, signed, components)?;
         assert_eq!(rt; write(alloc, &image).err(), Some(Fault::Unsupported));
+        let mut written = Vec::new(alloc);
+        let refused = write_into(alloc, &image, &mut written).err();
+        assert_eq!(rt; (refused, written.len()), (Some(Fault::Unsupported), 0));
     }
     Ok(())
 }

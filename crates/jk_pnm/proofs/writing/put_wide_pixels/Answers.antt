@@ -1,7 +1,7 @@
 use Rattle.std.proofs.Common.{◌∷◌, [], ◌++◌, ◌∙◌, ℕ, List, ℤ, ap, pos, get_or, arith}
 use Rattle.jk_pnm.specs.Written.{sample_text}
 use Rattle.jk_pnm.proofs.RasterLaws.{passed_on, written_more, three_samples}
-use Rattle.jk_pnm.proofs.writing.put_colour.Goals as goal
+use Rattle.jk_pnm.proofs.writing.put_wide_pixels.Goals as goal
 
 pub loop-pixel-preserved : goal.loop-pixel-preserved
 loop-pixel-preserved c =
@@ -19,9 +19,20 @@ loop-pixel-preserved c =
     let second = passed_on m (get_or green i (pos 0)) (c.requires.green i (pos 0) (omega (arith, row, c.requires.greens))) c.requires.maxval in
     let third = passed_on m (get_or blue i (pos 0)) (c.requires.blue i (pos 0) (omega (arith, row, c.requires.blues))) c.requires.maxval in
     let more =
-    c.in_ok-put_sample-3.ensures.ok
-    ∙ ap (λ (z : ℤ). c.put_sample-in-loop-pixel.new.out.items ++ sample_text m z) third
-    ∙ ap (λ (ys : List ℕ). ys ++ d) (c.in_ok-put_sample-2.ensures.ok ∙ ap (λ (z : ℤ). c.put_sample.new.out.items ++ sample_text m z) second)
-    ∙ ap (λ (ys : List ℕ). (ys ++ b) ++ d) (c.in_ok-put_sample.ensures.ok ∙ ap (λ (z : ℤ). start ++ sample_text m z) first)
+    c.put_wide-in-loop-pixel-2.ensures.items
+    ∙ ap (λ (z : ℤ). c.put_wide-in-loop-pixel.new.out.items ++ sample_text m z) third
+    ∙ ap (λ (ys : List ℕ). ys ++ d) (c.put_wide-in-loop-pixel.ensures.items ∙ ap (λ (z : ℤ). c.put_wide.new.out.items ++ sample_text m z) second)
+    ∙ ap (λ (ys : List ℕ). (ys ++ b) ++ d) (c.put_wide.ensures.items ∙ ap (λ (z : ℤ). start ++ sample_text m z) first)
     ∙ three_samples start a b d in
-    written_more m (red ∷ green ∷ blue ∷ []) i c.put_sample-in-loop-pixel-2.new.out.items c.args.out.now.items c.loop-pixel.out.items c.loop-pixel.invariant more
+    record {
+      items = written_more m (red ∷ green ∷ blue ∷ []) i c.put_wide-in-loop-pixel-2.new.out.items c.args.out.items start c.loop-pixel.invariant.items more;
+      room =
+          let l1 = c.put_wide.ensures.len in
+          let l2 = c.put_wide-in-loop-pixel.ensures.len in
+          let l3 = c.put_wide-in-loop-pixel-2.ensures.len in
+          let k1 = c.put_wide.ensures.capacity in
+          let k2 = c.put_wide-in-loop-pixel.ensures.capacity in
+          let k3 = c.put_wide-in-loop-pixel-2.ensures.capacity in
+          let r = c.loop-pixel.invariant.room in
+          omega (arith, l1, l2, l3, k1, k2, k3, r, row);
+    }
