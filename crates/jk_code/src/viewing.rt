@@ -95,7 +95,8 @@ pub(crate) fn show_tile(
     ensures exact { Answers (λ _. tt) result (tested (part_planes_at bytes.now headers.now number reduce
         (seen_part headers.now reduce window.now number) packets.now)) }
     ensures planes { OnOk result (ArePlanes headers.now window.now planes.new.items) }
-    ensures keeps { OnOk result (KeepsSamples bytes.now headers.now reduce window.now planes.old.items planes.new.items) }
+    ensures keeps { OnOk result
+        (KeepsSamples bytes.now headers.now reduce window.now planes.old.items planes.new.items) }
     ensures shows { OnOk result
         (ShowsTileAt bytes.now headers.now reduce window.now number headers.now.siz.components planes.new.items) }
 {

@@ -11,8 +11,8 @@ use Rattle.jk_lift.proofs.Neighbours.{before_at, after_at}
 use Rattle.jk_lift.proofs.Equations.{lifted_odd, lifted_one_even, lifted_one_odd, line_of_at}
 use Rattle.jk_lift.proofs.Places.{read, passed, passed_is, high_read, low_read, filled_more, at_inside, at_last, woven_low, woven_high}
 
--- The first k low-pass coefficients are written, and the high-pass ones around them; last is the high-pass coefficient
--- before the next even place.
+-- The first k low-pass coefficients are written, and the high-pass ones around them; last is the
+-- high-pass coefficient before the next even place.
 pub record IsAnalysed (start k : ℕ) (line low high : List ℤ) (last : ℤ) : Type 0 where
   pub lows : (u : ℕ) → u < k → get_or low u (pos 0) ≡ lifted start (start + length line) (line_of start line) (start + (2 * u + start % 2))
   pub highs : (u : ℕ) → u < k + start % 2 → get_or high u (pos 0) ≡ high_at start (start + length line) (line_of start line) (start + (2 * u + 1 - start % 2))

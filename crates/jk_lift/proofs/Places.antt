@@ -1,5 +1,5 @@
--- The formulas at place i0 + j of a line of n places from i0 on, whose neighbours stand at i0 + b and i0 + a, and the
--- values that the code reads there.
+-- The formulas at place i0 + j of a line of n places from i0 on, whose neighbours stand at i0 + b
+-- and i0 + a, and the values that the code reads there.
 use Rattle.std.proofs.Common.{◌≡◌, ℕ, ℤ, List, ◌+◌, ◌-◌, ◌*◌, ◌/◌, ◌%◌, ◌^◌, ◌<◌, ◌≤◌, ◌≢◌, length, get_or, set, pos, inl, inr, refl, ◌∙◌, arith, w32, to_z, of_z}
 use Rattle.std.specs.List.{All}
 use Rattle.std.proofs.lemmas.Bool.{cases_lt}

@@ -34,8 +34,8 @@ IsLocalPlane = (x0 x1 y0 y1 u0 u1 v0 v1 : ℕ) (c d : ℕ → ℕ → ℤ) →
     (x y : ℕ) → x0 ≤ x → x < x1 → y0 ≤ y → y < y1 → u0 ≤ x → x < u1 → v0 ≤ y → y < v1 →
     unlifted_plane x0 x1 y0 y1 c x y ≡ unlifted_plane x0 x1 y0 y1 d x y
 
--- One line forwards: a magnitude and 2 grow to at most twice as much in the high-pass part, and to one and a half times
--- as much in the low-pass part.
+-- One line forwards: a magnitude and 2 grow to at most twice as much in the high-pass part, and to
+-- one and a half times as much in the low-pass part.
 abbrev pub GrowsLine : Type 0
 GrowsLine = (i0 i1 b : ℕ) (x : ℕ → ℤ) → ((j : ℕ) → i0 ≤ j → j < i1 → unsigned_abs (x j) + 2 ≤ b) →
     (i : ℕ) → i0 ≤ i → i < i1 →
@@ -51,8 +51,9 @@ GrowsPlane = (x0 x1 y0 y1 b : ℕ) (f : ℕ → ℕ → ℤ) →
     × (x % 2 ≡ 0 → y % 2 ≡ 1 → unsigned_abs (lifted_plane x0 x1 y0 y1 f x y) + 2 ≤ 3 * b)
     × (x % 2 ≡ 1 → y % 2 ≡ 1 → unsigned_abs (lifted_plane x0 x1 y0 y1 f x y) + 2 ≤ 4 * b)
 
--- One level backwards. Where the lower resolution, which stands at the places even in both directions, is within b / 4,
--- and the other coefficients are within m, the rows' results and the level's are within (b + 21 m + 7) / 4.
+-- One level backwards. Where the lower resolution, which stands at the places even in both
+-- directions, is within b / 4, and the other coefficients are within m, the rows' results and the
+-- level's are within (b + 21 m + 7) / 4.
 abbrev pub BoundsPlane : Type 0
 BoundsPlane = (x0 x1 y0 y1 b m : ℕ) (c : ℕ → ℕ → ℤ) →
     ((i j : ℕ) → x0 ≤ i → i < x1 → y0 ≤ j → j < y1 → i % 2 ≡ 0 → j % 2 ≡ 0 → 4 * unsigned_abs (c i j) ≤ b) →
@@ -61,9 +62,9 @@ BoundsPlane = (x0 x1 y0 y1 b m : ℕ) (c : ℕ → ℕ → ℤ) →
     (4 * unsigned_abs (unlifted x0 x1 (λ i. c i y) x) ≤ b + 21 * m + 7)
     × (4 * unsigned_abs (unlifted_plane x0 x1 y0 y1 c x y) ≤ b + 21 * m + 7)
 
--- The resolutions of a tile-component up to the tenth: each is one level back from the coefficients c of its level, whose
--- places even in both directions hold the resolution below. With all coefficients within 2^23, each resolution, and what
--- the rows of its level give, stays below 2^29.
+-- The resolutions of a tile-component up to the tenth: each is one level back from the coefficients
+-- c of its level, whose places even in both directions hold the resolution below. With all
+-- coefficients within 2^23, each resolution, and what the rows of its level give, stays below 2^29.
 abbrev pub BoundsTenLevels : Type 0
 BoundsTenLevels = (x0 x1 y0 y1 : ℕ → ℕ) (c s : ℕ → ℕ → ℕ → ℤ) →
     ((x y : ℕ) → x0 0 ≤ x → x < x1 0 → y0 0 ≤ y → y < y1 0 → unsigned_abs (s 0 x y) ≤ 2 ^ 23) →

@@ -4,3 +4,4 @@ pub mod Sweep
 pub mod Planes
 pub mod Laws
 pub mod Pieces
+pub mod Examples

@@ -14,8 +14,9 @@ low_length start n = (start + n + 1) / 2 - (start + 1) / 2
 abbrev pub high_length : ℕ → ℕ → ℕ
 high_length start n = (start + n) / 2 - start / 2
 
--- The line of coefficients from start on, whose low-pass part stands at the even places and whose high-pass part at
--- the odd ones (2D_INTERLEAVE in one direction, T.800 F.3.3). The coefficient u of a part is at place 2u or 2u + 1.
+-- The line of coefficients from start on, whose low-pass part stands at the even places and whose
+-- high-pass part at the odd ones (2D_INTERLEAVE in one direction, T.800 F.3.3). The coefficient u
+-- of a part is at place 2u or 2u + 1.
 abbrev pub woven : ℕ → List ℤ → List ℤ → ℕ → ℤ
 woven start low high i = if i % 2 == 0 then signed_at low (i / 2 - (start + 1) / 2) else signed_at high (i / 2 - start / 2)
 

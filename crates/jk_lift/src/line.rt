@@ -7,8 +7,9 @@ ghost use Rattle.jk_lift.specs.Samples.{line_of, woven, low_length, high_length,
 
 use crate::steps::{even_sample, high_pass, low_pass, odd_sample};
 
-/// The coefficients of the line whose first sample is at place `start`: the low-pass ones, of its even places, and the
-/// high-pass ones, of its odd places (1D_SD, and 2D_DEINTERLEAVE in one direction: T.800 F.4.6, F.4.5).
+/// The coefficients of the line whose first sample is at place `start`: the low-pass ones, of its
+/// even places, and the high-pass ones, of its odd places (1D_SD, and 2D_DEINTERLEAVE in one
+/// direction: T.800 F.4.6, F.4.5).
 pub fn analyse_line(start: u32, line: &[i32], low: &mut [i32], high: &mut [i32])
     requires low_length { length low.old ≡ low_length start (length line.now) }
     requires high_length { length high.old ≡ high_length start (length line.now) }
@@ -26,8 +27,9 @@ pub fn analyse_line(start: u32, line: &[i32], low: &mut [i32], high: &mut [i32])
     }
 }
 
-/// The samples of the line whose first place is `start`, from its low-pass coefficients, of the even places, and its
-/// high-pass ones, of the odd places (2D_INTERLEAVE in one direction, and 1D_SR: T.800 F.3.3, F.3.6).
+/// The samples of the line whose first place is `start`, from its low-pass coefficients, of the
+/// even places, and its high-pass ones, of the odd places (2D_INTERLEAVE in one direction, and
+/// 1D_SR: T.800 F.3.3, F.3.6).
 pub fn synthesise_line(start: u32, low: &[i32], high: &[i32], line: &mut [i32])
     requires low_length { length low.now ≡ low_length start (length line.old) }
     requires high_length { length high.now ≡ high_length start (length line.old) }
@@ -46,8 +48,8 @@ pub fn synthesise_line(start: u32, low: &[i32], high: &[i32], line: &mut [i32])
     }
 }
 
-/// Writes the high-pass coefficient at the start where that is an odd place, and gives the one before the first even
-/// place of the extended signal.
+/// Writes the high-pass coefficient at the start where that is an odd place, and gives the one
+/// before the first even place of the extended signal.
 fn first_coefficient(start: u32, line: &[i32], high: &mut [i32]) -> i32
     requires long { 2 ≤ length line.now }
     requires room { 0 < length high.old }
@@ -96,8 +98,8 @@ fn analyse_long(start: u32, line: &[i32], low: &mut [i32], high: &mut [i32])
     }
 }
 
-/// Writes the sample at the start where that is an even place, and gives the one before the first odd place of the
-/// extended signal.
+/// Writes the sample at the start where that is an even place, and gives the one before the first
+/// odd place of the extended signal.
 fn first_sample(start: u32, low: &[i32], high: &[i32], line: &mut [i32]) -> i32
     requires long { 2 ≤ length line.old }
     requires low_length { length low.now ≡ low_length start (length line.old) }

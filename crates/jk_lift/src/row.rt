@@ -21,8 +21,8 @@ fn lift_between<S: Step>(row: &mut [i32], before: &[i32], after: &[i32])
     }
 }
 
-/// Puts high-pass coefficients in the places of a row's samples, of which `before` and `after` are the rows next to it
-/// (1D_FILTD of every column, T.800 F.4.8).
+/// Puts high-pass coefficients in the places of a row's samples, of which `before` and `after` are
+/// the rows next to it (1D_FILTD of every column, T.800 F.4.8).
 pub fn high_pass_row(row: &mut [i32], before: &[i32], after: &[i32])
     requires before_long { length before.now ≡ length row.old }
     requires after_long { length after.now ≡ length row.old }
@@ -35,8 +35,8 @@ pub fn high_pass_row(row: &mut [i32], before: &[i32], after: &[i32])
     lift_between::<HighPass>(row, before, after);
 }
 
-/// Puts low-pass coefficients in the places of a row's samples, where `before` and `after` are the high-pass
-/// coefficients of the rows next to it (1D_FILTD of every column, T.800 F.4.8).
+/// Puts low-pass coefficients in the places of a row's samples, where `before` and `after` are the
+/// high-pass coefficients of the rows next to it (1D_FILTD of every column, T.800 F.4.8).
 pub fn low_pass_row(row: &mut [i32], before: &[i32], after: &[i32])
     requires before_long { length before.now ≡ length row.old }
     requires after_long { length after.now ≡ length row.old }

@@ -84,9 +84,9 @@ fn row_after(height: usize, row: usize) -> usize
     if row + 1 == height { row - 1 } else { row + 1 }
 }
 
-/// The coefficients of every column of a plane, in place. `rows` holds whole rows of `width` samples, one after another,
-/// and the first is at place `start`, so each row becomes low-pass or high-pass by the parity of its own place (VER_SD,
-/// T.800 F.4.3).
+/// The coefficients of every column of a plane, in place. `rows` holds whole rows of `width`
+/// samples, one after another, and the first is at place `start`, so each row becomes low-pass or
+/// high-pass by the parity of its own place (VER_SD, T.800 F.4.3).
 pub fn analyse_rows(start: u32, width: usize, rows: &mut [i32])
     requires whole { length rows.old % width ≡ 0 }
     requires small { All (IsBelow (2 ^ 29)) rows.old }
@@ -102,8 +102,9 @@ pub fn analyse_rows(start: u32, width: usize, rows: &mut [i32])
     }
 }
 
-/// The samples of every column of a plane, in place: `rows` holds whole rows of `width` coefficients, low-pass where the
-/// row's place is even and high-pass where it is odd, and the first is at place `start` (VER_SR, T.800 F.3.5).
+/// The samples of every column of a plane, in place: `rows` holds whole rows of `width`
+/// coefficients, low-pass where the row's place is even and high-pass where it is odd, and the
+/// first is at place `start` (VER_SR, T.800 F.3.5).
 pub fn synthesise_rows(start: u32, width: usize, rows: &mut [i32])
     requires whole { length rows.old % width ≡ 0 }
     requires small { All (IsBelow (2 ^ 29)) rows.old }
@@ -139,8 +140,8 @@ fn halve(row: &mut [i32])
     }
 }
 
-/// Lifts one row with the two rows next to it. A call of its own for each row keeps the test that the rows are apart,
-/// which vector code needs, out of the loop over rows, where it would fail.
+/// Lifts one row with the two rows next to it. A call of its own for each row keeps the test that
+/// the rows are apart, which vector code needs, out of the loop over rows, where it would fail.
 #[inline(never)]
 fn lift_row<S: Step>(rows: &mut [i32], width: usize, row: usize, before: usize, after: usize)
     requires inside { row * width + width ≤ length rows.old }
@@ -182,7 +183,8 @@ fn lift_inside<S: Step>(rows: &mut [i32], width: usize, height: usize, row: usiz
     }
 }
 
-/// Lifts the rows from `second` on, every second one, by the step `G`, between rows that were lifted by `F` just before.
+/// Lifts the rows from `second` on, every second one, by the step `G`, between rows that were
+/// lifted by `F` just before.
 fn lift_rows<F: Step, G: Step>(second: usize, height: usize, width: usize, rows: &mut [i32])
     requires tall { 2 ≤ height }
     requires wide { 0 < width }

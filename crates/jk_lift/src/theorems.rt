@@ -1,6 +1,7 @@
 //! Laws of the transform's formulas. Each is the contract of a function that does nothing.
 
-ghost use Rattle.jk_lift.specs.Laws.{UndoesLine, UndoesPlane, UndoesLineOfSamples, UndoesRows, IsLocalLine, IsLocalPlane, GrowsLine, GrowsPlane, BoundsPlane, BoundsTenLevels};
+ghost use Rattle.jk_lift.specs.Laws.{UndoesLine, UndoesPlane, UndoesLineOfSamples, UndoesRows, IsLocalLine};
+ghost use Rattle.jk_lift.specs.Laws.{IsLocalPlane, GrowsLine, GrowsPlane, BoundsPlane, BoundsTenLevels};
 ghost use Rattle.jk_lift.specs.Pieces.{IsPieceOfLine, IsPieceOfPlane};
 
 /// Inverse lifting undoes forward lifting at each place of a line.
@@ -13,13 +14,14 @@ pub fn plane_undone()
     ensures { UndoesPlane }
 {}
 
-/// What [`synthesise_line`](crate::synthesise_line) makes of the parts that [`analyse_line`](crate::analyse_line) gave is
-/// the line.
+/// What [`synthesise_line`](crate::synthesise_line) makes of the parts that
+/// [`analyse_line`](crate::analyse_line) gave is the line.
 pub fn samples_undone()
     ensures { UndoesLineOfSamples }
 {}
 
-/// What [`synthesise_rows`](crate::synthesise_rows) makes of what [`analyse_rows`](crate::analyse_rows) left is the rows.
+/// What [`synthesise_rows`](crate::synthesise_rows) makes of what
+/// [`analyse_rows`](crate::analyse_rows) left is the rows.
 pub fn rows_undone()
     ensures { UndoesRows }
 {}

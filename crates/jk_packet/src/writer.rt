@@ -228,7 +228,8 @@ fn push_packet(
     ensures stand { IfOk result
         (λ _. BandsStand (bands_of shape.now) (banded (bands_of shape.now) tables.now) (layer + 1) bands.new.items) }
     ensures ok { OnOk result (out.new.items ≡ out.old.items
-        ++ packet_in (bands_of shape.now) shape.now.sop shape.now.eph (banded (bands_of shape.now) tables.now) layer number) }
+        ++ packet_in (bands_of shape.now) shape.now.sop shape.now.eph (banded (bands_of shape.now) tables.now)
+        layer number) }
     ensures front { IsFront out.old.items out.new.items }
     ensures memory { IfErr result (λ e. IsMemory e) }
 {

@@ -1,1 +1,2 @@
 pub mod Colour
+pub mod Examples

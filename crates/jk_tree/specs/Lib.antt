@@ -1,3 +1,4 @@
 pub mod TagTree
 pub mod Asking
 pub mod Telling
+pub mod Examples

@@ -7,7 +7,8 @@ ghost use Rattle.jk_math.specs.Memory.{IsMemory};
 ghost use Rattle.jk_bits.specs.Reading.{ahead};
 ghost use Rattle.jk_bits.specs.Giving.{Stops};
 ghost use Rattle.jk_tree.specs.TagTree.{shape_of, query_of, Values, IsTree, Query, count, top, told};
-ghost use Rattle.jk_tree.specs.Asking.{IsAnswer, AreToldBySome, AreTold, ask_at, blank_tree, climb, node_at, visit, walk};
+ghost use Rattle.jk_tree.specs.Asking.{IsAnswer, AreToldBySome, AreTold, ask_at, blank_tree, climb, node_at, visit};
+ghost use Rattle.jk_tree.specs.Asking.{walk};
 
 use crate::levels::{Levels, node_count, node_over, root_level};
 use crate::node::{Node, blank_nodes, is_below};

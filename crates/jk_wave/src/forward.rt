@@ -32,7 +32,8 @@ fn analyse_level<S: RowSource>(
     requires stands { S.stands source.now }
     requires is { S.area_of source.now ≡ area.now }
     requires small { AreBelow (2 ^ 28 - 1) area.now (S.value_at source.now) }
-    ensures ll { IfOk result (λ v. v.items ≡ raster (half_area area.now 0) (part_of area.now (S.value_at source.now) 0)) }
+    ensures ll { IfOk result
+        (λ v. v.items ≡ raster (half_area area.now 0) (part_of area.now (S.value_at source.now) 0)) }
     ensures high { OnOk result (lists_of bands.new.items ≡ lists_of bands.old.items ++
         (raster (half_area area.now 3) (part_of area.now (S.value_at source.now) 3)
         ∷ raster (half_area area.now 2) (part_of area.now (S.value_at source.now) 2)

@@ -96,7 +96,8 @@ impl Sweep {
         requires small { AreBelow (2 ^ 28 - 1) area.now (S.value_at source.now) }
         requires tall { area.now.y0 + 1 < area.now.y1 }
         requires long { AreLong area.now self.old }
-        ensures first { IsRow area.now (column_high area.now (S.value_at source.now) area.now.y0) self.new.before.items }
+        ensures first { IsRow area.now (column_high area.now (S.value_at source.now) area.now.y0)
+            self.new.before.items }
         ensures next { IsSweep area.now (S.value_at source.now) (area.now.y0 + 1) self.new }
     {
         let y = area.y0;
@@ -124,8 +125,10 @@ impl Sweep {
         requires sweep { IsSweep area.now (S.value_at source.now) y self.old }
         ensures sweep { OnOk result (IsSweep area.now (S.value_at source.now) (y + 2) self.new) }
         ensures parts { OnOk result ((o : ℕ) → o < 4
-            → IsPartUpto area.now o y (λ x v. column_lifted area.now (S.value_at source.now) v x) (part_list parts.old o)
-            → IsPartUpto area.now o (y + 2) (λ x v. column_lifted area.now (S.value_at source.now) v x) (part_list parts.new o)) }
+            → IsPartUpto area.now o y (λ x v. column_lifted area.now (S.value_at source.now) v x)
+            (part_list parts.old o)
+            → IsPartUpto area.now o (y + 2) (λ x v. column_lifted area.now (S.value_at source.now) v x)
+            (part_list parts.new o)) }
         ensures err { IfErr result (λ e. IsMemory e) }
     {
         self.read_odd(source, area, y + 1);
@@ -154,7 +157,8 @@ impl Sweep {
         ensures even { IfOk result (λ y. (y % 2 ≡ 0) × (area.now.y0 ≤ y) × (y ≤ area.now.y0 + 1)) }
         ensures sweep { IfOk result (λ y. IsSweep area.now (S.value_at source.now) y self.new) }
         ensures parts { IfOk result (λ y. (o : ℕ) → o < 4
-            → IsPartUpto area.now o y (λ x v. column_lifted area.now (S.value_at source.now) v x) (part_list parts.new o)) }
+            → IsPartUpto area.now o y (λ x v. column_lifted area.now (S.value_at source.now) v x)
+            (part_list parts.new o)) }
         ensures err { IfErr result (λ e. IsMemory e) }
     {
         if area.y0 % 2 == 0 {
@@ -181,7 +185,8 @@ impl Sweep {
         requires long { AreLong area.now self.old }
         requires parts { (o : ℕ) → o < 4 → part_list parts.old o ≡ [] }
         ensures parts { OnOk result ((o : ℕ) → o < 4
-            → IsPartUpto area.now o area.now.y1 (λ x v. column_lifted area.now (S.value_at source.now) v x) (part_list parts.new o)) }
+            → IsPartUpto area.now o area.now.y1 (λ x v. column_lifted area.now (S.value_at source.now) v x)
+            (part_list parts.new o)) }
         ensures err { IfErr result (λ e. IsMemory e) }
     {
         let mut y = self.begin(source, area, parts)?;
@@ -212,7 +217,8 @@ impl Sweep {
         requires long { AreLong area.now self.old }
         requires parts { (o : ℕ) → o < 4 → part_list parts.old o ≡ [] }
         ensures parts { OnOk result ((o : ℕ) → o < 4
-            → IsPartUpto area.now o area.now.y1 (λ x v. column_lifted area.now (S.value_at source.now) v x) (part_list parts.new o)) }
+            → IsPartUpto area.now o area.now.y1 (λ x v. column_lifted area.now (S.value_at source.now) v x)
+            (part_list parts.new o)) }
         ensures err { IfErr result (λ e. IsMemory e) }
     {
         put_only(source, area, &mut self.even);
@@ -233,7 +239,8 @@ fn fill<S: RowSource>(
     requires small { AreBelow (2 ^ 28 - 1) area.now (S.value_at source.now) }
     requires parts { (o : ℕ) → o < 4 → part_list parts.old o ≡ [] }
     ensures parts { OnOk result ((o : ℕ) → o < 4
-        → IsPartUpto area.now o area.now.y1 (λ x v. column_lifted area.now (S.value_at source.now) v x) (part_list parts.new o)) }
+        → IsPartUpto area.now o area.now.y1 (λ x v. column_lifted area.now (S.value_at source.now) v x)
+        (part_list parts.new o)) }
     ensures err { IfErr result (λ e. IsMemory e) }
 {
     if area.x0 >= area.x1 || area.y0 >= area.y1 {
