@@ -57,6 +57,11 @@ typedef struct jk_frame {
     uint32_t reserved[4]; /* zeros */
 } jk_frame;
 
+/* Styles of code-blocks, which may be added. With JK_RESET contexts begin anew with each coding pass; with JK_CAUSAL no
+ * stripe depends on the stripe below it; with JK_SEGMENTS each cleanup pass ends with a symbol, by which damage is
+ * seen. */
+enum { JK_RESET = 2, JK_CAUSAL = 8, JK_SEGMENTS = 32 };
+
 /* How an image is encoded: begin with jk_coding_for. */
 typedef struct jk_coding {
     uint32_t levels;                    /* decomposition levels, 0 to 5 */
@@ -69,14 +74,15 @@ typedef struct jk_coding {
     uint32_t colour;                    /* 1: components 0 to 2 go through the colour transform */
     uint32_t sop, eph;                  /* 1: SOP before each packet, EPH behind each packet header */
     uint32_t raw;                       /* 1: a bare codestream; 0: a JP2 file, which holds 1 or 3 components */
-    uint32_t reserved[4];               /* zeros */
+    uint32_t style;                     /* 0, or JK_RESET, JK_CAUSAL and JK_SEGMENTS added */
+    uint32_t reserved[3];               /* zeros */
 } jk_coding;
 
 /* 5 levels, 1 layer, LRCP, one tile, code-blocks of 64 by 64, no precincts; the colour transform where there are three
- * components; JP2 where it holds the image, else a bare codestream. */
+ * components; JP2 where it holds the image, else a bare codestream; no style. */
 static inline jk_coding jk_coding_for(const jk_frame *frame)
 {
-    jk_coding coding = {5, 1, JK_LRCP, 0, 0, 6, 6, 0, {0, 0, 0, 0, 0, 0, 0, 0}, 0, 0, 0, 0, {0, 0, 0, 0}};
+    jk_coding coding = {5, 1, JK_LRCP, 0, 0, 6, 6, 0, {0, 0, 0, 0, 0, 0, 0, 0}, 0, 0, 0, 0, 0, {0, 0, 0}};
     coding.colour = frame->components == 3;
     coding.raw = frame->components != 1 && frame->components != 3;
     return coding;

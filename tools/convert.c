@@ -1,6 +1,6 @@
 /* The calls of the C library over files, for tools/try-c and tools/library.
  *
- * convert encode IN.ppm OUT.jp2 [LEVELS LAYERS ORDER TILE_W TILE_H BLOCK_X BLOCK_Y COLOUR SOP EPH RAW [PRECINCT ..]]
+ * convert encode IN.ppm OUT.jp2 [LEVELS LAYERS ORDER TILE_W TILE_H BLOCK_X BLOCK_Y COLOUR SOP EPH RAW STYLE [PRECINCT ..]]
  * convert decode IN.jp2 OUT.ppm [REDUCE]
  * convert window IN.jp2 OUT.ppm REDUCE X Y W H
  * convert cut IN.jp2 OUT.jp2 REDUCE X Y W H
@@ -125,8 +125,8 @@ static void encode(int count, char **words)
     coding.block_width = number(count, words, 9, 6), coding.block_height = number(count, words, 10, 6);
     coding.colour = number(count, words, 11, coding.colour);
     coding.sop = number(count, words, 12, 0), coding.eph = number(count, words, 13, 0);
-    coding.raw = number(count, words, 14, 0);
-    for (int i = 15; i < count && coding.precinct_count < 8; i++)
+    coding.raw = number(count, words, 14, 0), coding.style = number(count, words, 15, 0);
+    for (int i = 16; i < count && coding.precinct_count < 8; i++)
         coding.precincts[coding.precinct_count++] = (uint8_t)number(count, words, i, 0);
     uint16_t *wide = (uint16_t *)room_for(2 * samples);
     if (maxval > 255) turn(file + at + 1, wide, samples, 0);

@@ -67,10 +67,11 @@ def test_parameters():
     image = noise((40, 50, 3))
     file = jk.encode(
         image, levels=1, layers=3, order="RPCL", tile=(16, 32), block=(2, 3), precincts=[(5, 5), (6, 6)],
-        colour=False, sop=True, eph=True, raw=True, place=(7, 9),
+        colour=False, sop=True, eph=True, raw=True, reset=True, causal=True, segments=True, place=(7, 9),
     )
     assert file[:4] == b"\xff\x4f\xff\x51"
     assert file.count(b"\xff\x91\x00\x04") > 0
+    assert file[file.index(b"\xff\x52") + 12] == 0x2A
     told = jk.info(file)
     assert (told.x0, told.y0, told.width, told.height, told.levels) == (7, 9, 50, 40, 1)
     assert np.array_equal(jk.read(file), image)

@@ -21,7 +21,7 @@ pub record Kept (z z' : Progress) (x y : ℕ) : Type 0 where
 -- At the moment t a place is coded, in its pass.
 pub record Due (s : BlockShape) (b t pass x y : ℕ) (z : Progress) : Type 0 where
   pub inside : is_inside s x y ≡ true
-  pub pass_is : pass_of s.width (mags s b z) x y ≡ pass
+  pub pass_is : pass_of s (mags s b z) x y ≡ pass
   pub now : t ≡ pass * visits s + number s.width x y
 
 -- a place takes a bit
@@ -81,7 +81,7 @@ due_moment s b t pass x y z due = moment_is s (mags s b z) x y ∙ ap (λ p. p *
 -- no other place is
 others : (s : BlockShape) (b t pass x y : ℕ) (z : Progress) → Due s b t pass x y z → (a : Field ℕ) (x' y' : ℕ) → is_inside s x' y' ≡ true → (nat_eq x' x && nat_eq y' y) ≡ false → moment s a x' y' ≡ t → ⊥
 others s b t pass x y z due a x' y' i apart e =
-    let one = place_one s (pass_of s.width a x' y') pass x' y' x y i due.inside (sym (moment_is s a x' y') ∙ e ∙ due.now) in
+    let one = place_one s (pass_of s a x' y') pass x' y' x y i due.inside (sym (moment_is s a x' y') ∙ e ∙ due.now) in
     let o1 = one.1 in let o2 = one.2 in
     let same : (nat_eq x' x && nat_eq y' y) ≡ true = grind (arith, nat_tests) in
     let c : true ≡ false = sym same ∙ apart in absurd cc
@@ -157,9 +157,9 @@ change_cut s b t pass x y z z' bit cut due c =
           (λ i e. absurd (let d = due_coded s b t pass x y z due in let f : true ≡ false = sym d ∙ agree_coded s (mags s b z) (mags s b z') t (t + 1) x y agree (omega arith) ∙ e in cc))
           (λ a i e. ap (λ m. m % 2) (mags_away s b pass x y z z' bit c x' y' a)
           ∙ cut.even x' y' i (sym (others_coded s b t pass x y z due (mags s b z) x' y' i a) ∙ agree_coded s (mags s b z) (mags s b z') t (t + 1) x' y' agree (omega arith) ∙ e));
-      visited = λ x' y'. at_place (λ u v. is_inside s u v ≡ true → z'.visited u v ≡ (spread s.width (mags s b z') u v && nat_lt (number s.width u v) (t + 1))) x y x' y'
+      visited = λ x' y'. at_place (λ u v. is_inside s u v ≡ true → z'.visited u v ≡ (spread s (mags s b z') u v && nat_lt (number s.width u v) (t + 1))) x y x' y'
           (λ i. visited_here i agree)
-          (λ a i. visited_away (number s.width x' y') (z'.visited x' y') (z.visited x' y') (spread s.width (mags s b z) x' y') (spread s.width (mags s b z') x' y')
+          (λ a i. visited_away (number s.width x' y') (z'.visited x' y') (z.visited x' y') (spread s (mags s b z) x' y') (spread s (mags s b z') x' y')
           (c.away x' y' a).visited (cut.visited x' y' i) (others_numbered s b t pass x y z due x' y' i a) (agree_spread s (mags s b z) (mags s b z') t x' y' agree));
     }
   where
@@ -176,12 +176,12 @@ change_cut s b t pass x y z z' bit cut due c =
     by_pass n zero v' v p p' e f g h k l = let k0 = k refl in grind (arith, nat_tests)
     by_pass n (suc q) v' v p p' e f g h k l = let l0 = l (let r : nat_eq (suc q) 0 ≡ false = grind (arith, nat_tests) in r) in grind (arith, nat_tests)
 
-    visited_here : is_inside s x y ≡ true → Agree s (mags s b z) (mags s b z') t → z'.visited x y ≡ (spread s.width (mags s b z') x y && nat_lt (number s.width x y) (t + 1))
+    visited_here : is_inside s x y ≡ true → Agree s (mags s b z) (mags s b z') t → z'.visited x y ≡ (spread s (mags s b z') x y && nat_lt (number s.width x y) (t + 1))
     visited_here i agree =
         let n = number_first s (mags s b z) x y in
         let m = due_moment s b t pass x y z due in
         let p = due.pass_is in
-        by_pass (number s.width x y) pass (z'.visited x y) (z.visited x y) (spread s.width (mags s b z) x y) (spread s.width (mags s b z') x y)
+        by_pass (number s.width x y) pass (z'.visited x y) (z.visited x y) (spread s (mags s b z) x y) (spread s (mags s b z') x y)
         c.visited (cut.visited x y i) due.now (agree_spread s (mags s b z) (mags s b z') t x y agree (omega arith))
         (λ e. cases_of s (mags s b z) x y (λ w. absurd (let q = w.pass_is in omega arith)) (λ w. w.spread_is) (λ w. absurd (let q = w.pass_is in omega arith)))
         (λ e. cases_of s (mags s b z) x y (λ w. w.spread_is) (λ w. absurd (let q = w.pass_is in grind (arith, nat_tests))) (λ w. w.spread_is))
@@ -284,7 +284,7 @@ unfolding Idle
 idle_cut s b t z idle cut = record {
   whole = cut.whole;
   even = λ x y i e. cut.even x y i (earlier (moment s (mags s b z) x y) e);
-  visited = λ x y i. cut.visited x y i ∙ gate (number s.width x y) (spread s.width (mags s b z) x y) (λ p e. idle x y i (moment_spread s (mags s b z) x y p ∙ e));
+  visited = λ x y i. cut.visited x y i ∙ gate (number s.width x y) (spread s (mags s b z) x y) (λ p e. idle x y i (moment_spread s (mags s b z) x y p ∙ e));
 }
   where
     earlier : (m : ℕ) → nat_lt m (t + 1) ≡ false → nat_lt m t ≡ false

@@ -1,9 +1,8 @@
 -- What ends a pass: it is read where it is spelled, and changes nothing of a block.
 use Rattle.std.proofs.Common.{◌≡◌, ℕ, Bool, true, false, cond, List, [], ◌∷◌, Result, Ok, refl, sym, ap, ◌∙◌, subst}
-use Rattle.std.specs.Prelude.{◌&&◌, not}
+use Rattle.std.specs.Prelude.{not}
 use Rattle.jk_math.specs.declared.fault.Fault.{Fault}
 use Rattle.jk_math.specs.declared.fault.Fault.TheVariants.{BadValue}
-use Rattle.jk_math.specs.declared.style.Style.{Style}
 use Rattle.jk_math.specs.Answer.{◌>>=◌, refuse}
 use Rattle.jk_math.specs.Steps.{bind_then, refuse_then, done, ok_is}
 use Rattle.jk_model.specs.Decisions.{State, after, state_after, SpellsFrom}
@@ -13,7 +12,7 @@ use Rattle.jk_scan.specs.Passes.{Plane}
 use Rattle.jk_block.specs.Symbols.{segmentation_symbol, is_symbol, ends_with_symbol, closing_decisions}
 use Rattle.jk_block.specs.Reading.{Progress, decide, with_coder, symbol_at, closing_at}
 use Rattle.jk_block.proofs.Spelling.{Told, told_join, decide_told, told_decide}
-use Rattle.jk_block.proofs.Stages.{Cut, Like, Goes, Stage, stage_none}
+use Rattle.jk_block.proofs.Stages.{Cut, Like, Stage, stage_none}
 
 -- the rest of a symbol, decision by decision
 pub symbol_end : Progress → (a b c d : Bool) → State → Result Progress Fault

@@ -8,7 +8,7 @@ use Rattle.jk_math.specs.Steps.{bind_then, done, ok_is}
 use Rattle.jk_model.specs.Decisions.{State, Decision, after, state_after, SpellsFrom}
 use Rattle.jk_scan.specs.declared.shape.BlockShape.{BlockShape}
 use Rattle.jk_scan.specs.declared.contexts.SignContext.{SignContext}
-use Rattle.jk_scan.specs.Neighbours.{Field, is_inside, zero_at, sign_at}
+use Rattle.jk_scan.specs.Neighbours.{Field, is_inside, zero_in, sign_in}
 use Rattle.jk_scan.specs.Moments.{is_coded, significant}
 use Rattle.jk_scan.specs.Passes.{Plane, Decided, is_one, flipped, sign_decision, new_decisions}
 use Rattle.jk_scan.proofs.Laws.{significant_is}
@@ -74,25 +74,25 @@ twice_flipped false b = refl
 
 -- the sign of a place that becomes significant
 pub sign_context : BlockShape → Progress → (x y : ℕ) → SignContext
-sign_context s z x y = sign_at (lit s z) z.negative x y
+sign_context s z x y = sign_in s (lit s z) z.negative x y
 
 pub record SignRead (bytes : List ℕ) (s : BlockShape) (b x y : ℕ) (z z' : Progress) : Type 0 where
   pub bit : Bool
   pub coder : State
-  pub is : decide bytes (sign_at (lit s z) z.negative x y).context z.coder ≡ Ok (bit, coder)
-  pub then_is : with_coder (coded_as b x y true (flipped (sign_at (lit s z) z.negative x y).flip bit) z) coder ≡ z'
+  pub is : decide bytes (sign_in s (lit s z) z.negative x y).context z.coder ≡ Ok (bit, coder)
+  pub then_is : with_coder (coded_as b x y true (flipped (sign_in s (lit s z) z.negative x y).flip bit) z) coder ≡ z'
 
 pub sign_read : (bytes : List ℕ) (s : BlockShape) (b x y : ℕ) (z z' : Progress) → read_sign bytes s b x y z ≡ Ok z' → SignRead bytes s b x y z z'
 unfolding read_sign
 sign_read bytes s b x y z z' e =
-    bind_then (decide bytes (sign_at (lit s z) z.negative x y).context z.coder) (λ d. Ok (with_coder (coded_as b x y true (flipped (sign_at (lit s z) z.negative x y).flip d.0) z) d.1)) z' e
-    (λ d i r. record { bit = d.0; coder = d.1; is = i; then_is = ok_is (with_coder (coded_as b x y true (flipped (sign_at (lit s z) z.negative x y).flip d.0) z) d.1) z' r })
+    bind_then (decide bytes (sign_in s (lit s z) z.negative x y).context z.coder) (λ d. Ok (with_coder (coded_as b x y true (flipped (sign_in s (lit s z) z.negative x y).flip d.0) z) d.1)) z' e
+    (λ d i r. record { bit = d.0; coder = d.1; is = i; then_is = ok_is (with_coder (coded_as b x y true (flipped (sign_in s (lit s z) z.negative x y).flip d.0) z) d.1) z' r })
 
 -- A sign that is read is the block's, where the contexts are.
-pub sign_told : (bytes : List ℕ) (s : BlockShape) (b t x y : ℕ) (z z' : Progress) (p : Plane) → (r : SignRead bytes s b x y z z') → sign_at (lit s z) z.negative x y ≡ sign_at (significant s p.magnitude t) p.negative x y
+pub sign_told : (bytes : List ℕ) (s : BlockShape) (b t x y : ℕ) (z z' : Progress) (p : Plane) → (r : SignRead bytes s b x y z z') → sign_in s (lit s z) z.negative x y ≡ sign_in s (significant s p.magnitude t) p.negative x y
     → z'.negative x y ≡ p.negative x y → Told bytes z.coder (sign_decision s p t x y ∷ []) z'.coder
 sign_told bytes s b t x y z z' p r e n =
-    let c = sign_at (lit s z) z.negative x y in
+    let c = sign_in s (lit s z) z.negative x y in
     let own : p.negative x y ≡ flipped c.flip r.bit = sym n ∙ ap (λ (w : Progress). w.negative x y) (sym r.then_is) ∙ put_here z.negative x y (flipped c.flip r.bit) in
     let bit : r.bit ≡ flipped c.flip (p.negative x y) = sym (twice_flipped c.flip r.bit) ∙ ap (flipped c.flip) (sym own) in
     let d : (c.context, r.bit) ≡ sign_decision s p t x y =
@@ -101,11 +101,11 @@ sign_told bytes s b t x y z z' p r e n =
     (subst (λ (d : Decision). Told bytes z.coder (d ∷ []) r.coder) d (decide_told bytes c.context z.coder r.coder r.bit r.is))
 
 -- A sign that is spelled is read.
-pub sign_goes : (bytes : List ℕ) (s : BlockShape) (b t x y : ℕ) (z : Progress) (p : Plane) → sign_at (lit s z) z.negative x y ≡ sign_at (significant s p.magnitude t) p.negative x y
+pub sign_goes : (bytes : List ℕ) (s : BlockShape) (b t x y : ℕ) (z : Progress) (p : Plane) → sign_in s (lit s z) z.negative x y ≡ sign_in s (significant s p.magnitude t) p.negative x y
     → SpellsFrom bytes z.coder (sign_decision s p t x y ∷ []) → read_sign bytes s b x y z ≡ Ok (with_coder (coded_as b x y true (p.negative x y) z) (state_after bytes z.coder (sign_decision s p t x y ∷ [])))
 unfolding read_sign
 sign_goes bytes s b t x y z p e h =
-    let c = sign_at (lit s z) z.negative x y in
+    let c = sign_in s (lit s z) z.negative x y in
     let d : (c.context, flipped c.flip (p.negative x y)) ≡ sign_decision s p t x y = ap (λ (c : SignContext). (c.context, flipped c.flip (p.negative x y))) e in
     let i = told_decide bytes c.context z.coder (flipped c.flip (p.negative x y)) (subst (λ (d : Decision). SpellsFrom bytes z.coder (d ∷ [])) (sym d) h) in
     ap (λ (r : Result (Bool × State) Fault). r >>= λ d. done (with_coder (coded_as b x y true (flipped c.flip d.0) z) d.1)) i
@@ -113,11 +113,11 @@ sign_goes bytes s b t x y z p e h =
     ∙ ap (λ (d : Decision). done (with_coder (coded_as b x y true (p.negative x y) z) (state_after bytes z.coder (d ∷ [])))) d
 
 -- the decisions of a place that isn't significant, in terms of what is held
-pub new_list : (s : BlockShape) (t x y cx : ℕ) (bit : Bool) (p : Plane) → cx ≡ zero_at s.orientation (significant s p.magnitude t) x y → bit ≡ is_one (p.magnitude x y)
+pub new_list : (s : BlockShape) (t x y cx : ℕ) (bit : Bool) (p : Plane) → cx ≡ zero_in s (significant s p.magnitude t) x y → bit ≡ is_one (p.magnitude x y)
     → ((cx, bit) ∷ cond bit (sign_decision s p t x y ∷ []) []) ≡ new_decisions s p t x y
 unfolding new_decisions
 new_list s t x y cx bit p e h =
-    ap (λ (c : ℕ). (c, bit) ∷ cond bit (sign_decision s p t x y ∷ []) []) e ∙ ap (λ (b : Bool). (zero_at s.orientation (significant s p.magnitude t) x y, b) ∷ cond b (sign_decision s p t x y ∷ []) []) h
+    ap (λ (c : ℕ). (c, bit) ∷ cond bit (sign_decision s p t x y ∷ []) []) e ∙ ap (λ (b : Bool). (zero_in s (significant s p.magnitude t) x y, b) ∷ cond b (sign_decision s p t x y ∷ []) []) h
 
 pub read_sign_if : List ℕ → BlockShape → (b x y : ℕ) → Progress → Bool × State → Result Progress Fault
 read_sign_if bytes s b x y z d = cond d.0 (read_sign bytes s b x y (with_coder z d.1)) (done (with_coder z d.1))
@@ -126,13 +126,13 @@ read_sign_if bytes s b x y z d = cond d.0 (read_sign bytes s b x y (with_coder z
 pub record NewRead (bytes : List ℕ) (s : BlockShape) (b x y : ℕ) (z z' : Progress) : Type 0 where
   pub bit : Bool
   pub coder : State
-  pub is : decide bytes (zero_at s.orientation (lit s z) x y) z.coder ≡ Ok (bit, coder)
+  pub is : decide bytes (zero_in s (lit s z) x y) z.coder ≡ Ok (bit, coder)
   pub then_is : read_sign_if bytes s b x y z (bit, coder) ≡ Ok z'
 
 pub new_read : (bytes : List ℕ) (s : BlockShape) (b x y : ℕ) (z z' : Progress) → read_new bytes s b x y z ≡ Ok z' → NewRead bytes s b x y z z'
 unfolding read_new read_sign_if
 new_read bytes s b x y z z' e =
-    bind_then (decide bytes (zero_at s.orientation (lit s z) x y) z.coder) (read_sign_if bytes s b x y z) z' e (λ d i r. record { bit = d.0; coder = d.1; is = i; then_is = r })
+    bind_then (decide bytes (zero_in s (lit s z) x y) z.coder) (read_sign_if bytes s b x y z) z' e (λ d i r. record { bit = d.0; coder = d.1; is = i; then_is = r })
 
 pub new_change : (bytes : List ℕ) (s : BlockShape) (b pass x y : ℕ) (z z' : Progress) (v : Field Bool) → Visits pass x y z.visited v → nat_lt 0 (z.magnitude x y) ≡ false
     → (bit : Bool) (coder : State) → read_sign_if bytes s b x y (with_visited z v) (bit, coder) ≡ Ok z' → Change s b pass x y z z' bit
@@ -140,7 +140,7 @@ unfolding read_sign_if with_visited
 new_change bytes s b pass x y z z' v h dark true coder e =
     let r = sign_read bytes s b x y (with_coder (with_visited z v) coder) z' e in
     subst (λ (w : Progress). Change s b pass x y z w true) r.then_is
-    (put_change s b pass x y true (flipped (sign_at (lit s z) z.negative x y).flip r.bit) z v r.coder h (λ lit. absurd (let c : true ≡ false = sym lit ∙ dark in cc)) (above_dark b (z.magnitude x y) dark))
+    (put_change s b pass x y true (flipped (sign_in s (lit s z) z.negative x y).flip r.bit) z v r.coder h (λ lit. absurd (let c : true ≡ false = sym lit ∙ dark in cc)) (above_dark b (z.magnitude x y) dark))
 new_change bytes s b pass x y z z' v h dark false coder e =
     subst (λ (w : Progress). Change s b pass x y z w false) (ok_is (with_coder (with_visited z v) coder) z' e) (zero_change s b pass x y z v coder h)
 
@@ -184,7 +184,7 @@ new_goes bytes s b t pass x y z v p cut due h dark l false coder e spelled =
     none_lit : (m : ℕ) (d : Bool) → m ≡ 0 → (nat_le 2 m || (nat_eq m 1 && d)) ≡ true → ⊥
     none_lit m d e h = grind (arith, nat_tests)
 
-pub new_goes_by : (bytes : List ℕ) (s : BlockShape) (b t x y : ℕ) (z : Progress) (p : Plane) (cx : ℕ) (bit : Bool) → decide bytes (zero_at s.orientation (lit s z) x y) z.coder ≡ Ok (bit, after bytes z.coder cx)
+pub new_goes_by : (bytes : List ℕ) (s : BlockShape) (b t x y : ℕ) (z : Progress) (p : Plane) (cx : ℕ) (bit : Bool) → decide bytes (zero_in s (lit s z) x y) z.coder ≡ Ok (bit, after bytes z.coder cx)
     → ((cx, bit) ∷ cond bit (sign_decision s p t x y ∷ []) []) ≡ new_decisions s p t x y
     → Goes s b (t + 1) (read_sign_if bytes s b x y z (bit, after bytes z.coder cx)) p (state_after bytes (after bytes z.coder cx) (cond bit (sign_decision s p t x y ∷ []) []))
     → Goes s b (t + 1) (read_new bytes s b x y z) p (state_after bytes z.coder (new_decisions s p t x y))
@@ -204,12 +204,12 @@ new_codes bytes s b t pass x y z v cut due h dark = record {
   told = λ z' e p l l'.
       let r = new_read bytes s b x y (with_visited z v) z' e in
       let c = new_change bytes s b pass x y z z' v h dark r.bit r.coder r.then_is in
-      let cx = zero_at s.orientation (lit s z) x y in
+      let cx = zero_in s (lit s z) x y in
       subst (λ (ds : Decided). Told bytes z.coder ds z'.coder) (new_list s t x y cx r.bit p (zero_like s b t z p cut l x y) (sym (change_bit s b t pass x y z z' r.bit p cut due c l')))
       (told_join bytes z.coder r.coder z'.coder ((cx, r.bit) ∷ []) (cond r.bit (sign_decision s p t x y ∷ []) []) (decide_told bytes cx z.coder r.coder r.bit r.is)
       (new_told bytes s b t pass x y z z' v p cut due l l' r.bit r.coder r.then_is c));
   goes = λ p l spelled.
-      let cx = zero_at s.orientation (lit s z) x y in
+      let cx = zero_in s (lit s z) x y in
       let bit = is_one (p.magnitude x y) in
       let list = new_list s t x y cx bit p (zero_like s b t z p cut l x y) refl in
       let parts = spells_parts bytes z.coder ((cx, bit) ∷ []) (cond bit (sign_decision s p t x y ∷ []) []) (subst (λ (ds : Decided). SpellsFrom bytes z.coder ds) (sym list) spelled) in

@@ -5,10 +5,10 @@ use Rattle.std.proofs.lemmas.Bool.{and_parts}
 use Rattle.std.proofs.lemmas.Bool.Decides.{nat_tests}
 use Rattle.jk_model.specs.Decisions.{state_after, SpellsFrom}
 use Rattle.jk_scan.specs.declared.shape.BlockShape.{BlockShape}
-use Rattle.jk_scan.specs.Neighbours.{Field, is_inside, touched}
+use Rattle.jk_scan.specs.Neighbours.{Field, is_inside, touched_in}
 use Rattle.jk_scan.specs.Moments.{number, stripes, visits, old, spread, pass_of, moment, is_coded, significant}
 use Rattle.jk_scan.specs.Passes.{Plane, Decided, rows_decisions, runs, first_one, run_decisions, column_decisions}
-use Rattle.jk_scan.proofs.Laws.{number_row, number_room, touched_same, touched_grows, so_far, spread_is, significant_early, significant_later, significant_is, cases_of, agree_pass, agree_significant, number_below}
+use Rattle.jk_scan.proofs.Laws.{number_row, number_room, touched_same, touched_more, so_far, spread_is, significant_early, significant_later, significant_is, cases_of, agree_pass, agree_significant, number_below}
 use Rattle.jk_block.specs.Reading.{Progress, lit, rows_at, is_quiet, read_run, column_at}
 use Rattle.jk_block.proofs.Spelling.{Told}
 use Rattle.jk_block.proofs.Stages.{mags, Cut, Like, Stage, stage_at}
@@ -22,11 +22,11 @@ neither true false = refl
 neither false true = refl
 neither false false = refl
 
-pub spread_touches : (s : BlockShape) (a : Field ℕ) (t x y : ℕ) → number s.width x y ≤ visits s → number s.width x y ≤ t → spread s.width a x y ≡ true → touched (significant s a t) x y ≡ false → ⊥
+pub spread_touches : (s : BlockShape) (a : Field ℕ) (t x y : ℕ) → number s.width x y ≤ visits s → number s.width x y ≤ t → spread s a x y ≡ true → touched_in s (significant s a t) x y ≡ false → ⊥
 spread_touches s a t x y room early e quiet =
     let n = number s.width x y in
-    let u : touched (so_far s.width a n) x y ≡ true = second (old a x y) (touched (so_far s.width a n) x y) (sym (spread_is s.width a x y) ∙ e) in
-    let g = touched_grows (so_far s.width a n) (significant s a t) x y (λ x' y' f. significant_later s a n t x' y' early (significant_early s a n x' y' room ∙ f)) u in
+    let u : touched_in s (so_far s a n) x y ≡ true = second (old a x y) (touched_in s (so_far s a n) x y) (sym (spread_is s a x y) ∙ e) in
+    let g = touched_more s (so_far s a n) (significant s a t) x y (λ x' y' f. significant_later s a n t x' y' early (significant_early s a n x' y' room ∙ f)) u in
     let c : true ≡ false = sym g ∙ quiet in absurd cc
   where
     second : (o u : Bool) → (not o && u) ≡ true → u ≡ true
@@ -34,13 +34,13 @@ spread_touches s a t x y room early e quiet =
 
 -- a row of a quiet column is left to the cleanup pass, and the other way round
 pub row_test : (s : BlockShape) (b x i k : ℕ) (z : Progress) → x < s.width → k < 4 → 4 * i + 4 ≤ s.height → Cut s b (start s 2 x i) z
-    → (not (lit s z x (4 * i + k)) && not (touched (lit s z) x (4 * i + k))) ≡ (nat_eq (pass_of s.width (mags s b z) x (4 * i + k)) 2 && not (touched (significant s (mags s b z) (start s 2 x i)) x (4 * i + k)))
+    → (not (lit s z x (4 * i + k)) && not (touched_in s (lit s z) x (4 * i + k))) ≡ (nat_eq (pass_of s (mags s b z) x (4 * i + k)) 2 && not (touched_in s (significant s (mags s b z) (start s 2 x i)) x (4 * i + k)))
 unfolding start
 row_test s b x i k z narrow l high cut =
     let a = mags s b z in
     let y = 4 * i + k in
     let t = start s 2 x i in
-    let same : touched (lit s z) x y ≡ touched (significant s a t) x y = touched_same (lit s z) (significant s a t) x y (lit_is s b t z cut) in
+    let same : touched_in s (lit s z) x y ≡ touched_in s (significant s a t) x y = touched_same s (lit s z) (significant s a t) x y (lit_is s b t z cut) in
     let inside : is_inside s x y ≡ true = both (nat_lt x s.width) (nat_lt y s.height) (grind (arith, nat_tests)) (grind (arith, nat_tests)) in
     let n = number_row s.width x i k l in
     let below = number_below s x y inside in
@@ -48,11 +48,11 @@ row_test s b x i k z narrow l high cut =
     let late : 2 * visits s + 4 * (s.width * i + x) ≤ 2 * visits s + number s.width x y = omega (arith, n) in
     let room : number s.width x y ≤ visits s = omega arith in
     ap (λ u. not (lit s z x y) && not u) same
-    ∙ gate (touched (significant s a t) x y) (lit s z x y) (pass_of s.width a x y) (λ quiet.
+    ∙ gate (touched_in s (significant s a t) x y) (lit s z x y) (pass_of s a x y) (λ quiet.
     cases_of s a x y
-    (λ w. let q = w.pass_is in at (lit s z x y) true (pass_of s.width a x y) 1 (lit_is s b t z cut x y ∙ significant_is s a t x y ∙ ap (λ o. o || (nat_eq (a x y) 1 && is_coded s a t x y)) w.old_is) q refl)
+    (λ w. let q = w.pass_is in at (lit s z x y) true (pass_of s a x y) 1 (lit_is s b t z cut x y ∙ significant_is s a t x y ∙ ap (λ o. o || (nat_eq (a x y) 1 && is_coded s a t x y)) w.old_is) q refl)
     (λ w. absurd (spread_touches s a t x y room early w.spread_is quiet))
-    (λ w. at (lit s z x y) false (pass_of s.width a x y) 2 (lit_is s b t z cut x y ∙ significant_is s a t x y ∙ not_yet (a x y) (moment s a x y) (2 * visits s + number s.width x y) w.old_is w.moment_is late) w.pass_is refl))
+    (λ w. at (lit s z x y) false (pass_of s a x y) 2 (lit_is s b t z cut x y ∙ significant_is s a t x y ∙ not_yet (a x y) (moment s a x y) (2 * visits s + number s.width x y) w.old_is w.moment_is late) w.pass_is refl))
   where
     both : (p q : Bool) → p ≡ true → q ≡ true → (p && q) ≡ true
     both p q e g = cc
@@ -69,7 +69,7 @@ row_test s b x i k z narrow l high cut =
 
 -- the test of a row in run mode
 unfoldable pub row_left : BlockShape → Field ℕ → (t x y : ℕ) → Bool
-row_left s a t x y = nat_eq (pass_of s.width a x y) 2 && not (touched (significant s a t) x y)
+row_left s a t x y = nat_eq (pass_of s a x y) 2 && not (touched_in s (significant s a t) x y)
 
 pub start_number : (s : BlockShape) (x i : ℕ) → 2 * visits s + number s.width x (4 * i) ≡ start s 2 x i
 unfolding start
@@ -96,7 +96,7 @@ quiet_is s b x i z narrow cut =
     (λ h. row_test s b x i 0 z narrow (omega arith) (high h) cut) (λ h. row_test s b x i 1 z narrow (omega arith) (high h) cut) (λ h. row_test s b x i 2 z narrow (omega arith) (high h) cut) (λ h. row_test s b x i 3 z narrow (omega arith) (high h) cut)
   where
     q : ℕ → Bool
-    q j = not (lit s z x (4 * i + j)) && not (touched (lit s z) x (4 * i + j))
+    q j = not (lit s z x (4 * i + j)) && not (touched_in s (lit s z) x (4 * i + j))
 
     high : nat_le (4 * i + 4) s.height ≡ true → 4 * i + 4 ≤ s.height
     high h = grind (arith, nat_tests)
@@ -121,8 +121,8 @@ runs_like s b x i z p narrow stripe like =
     row j h =
         let y = 4 * i + j in
         let early = number_early s x i j narrow stripe h in
-        ap (λ n. nat_eq n 2 && not (touched (significant s (mags s b z) (start s 2 x i)) x y)) (agree_pass s (mags s b z) p.magnitude (start s 2 x i) x y like.agree early)
-        ∙ ap (λ u. nat_eq (pass_of s.width p.magnitude x y) 2 && not u) (touched_same (significant s (mags s b z) (start s 2 x i)) (significant s p.magnitude (start s 2 x i)) x y (λ u v. agree_significant s (mags s b z) p.magnitude (start s 2 x i) u v like.agree))
+        ap (λ n. nat_eq n 2 && not (touched_in s (significant s (mags s b z) (start s 2 x i)) x y)) (agree_pass s (mags s b z) p.magnitude (start s 2 x i) x y like.agree early)
+        ∙ ap (λ u. nat_eq (pass_of s p.magnitude x y) 2 && not u) (touched_same s (significant s (mags s b z) (start s 2 x i)) (significant s p.magnitude (start s 2 x i)) x y (λ u v. agree_significant s (mags s b z) p.magnitude (start s 2 x i) u v like.agree))
 
 pub still_from : (s : BlockShape) (b x i : ℕ) (z : Progress) → x < s.width → i < stripes s → Cut s b (start s 2 x i) z → is_quiet s (lit s z) x i ≡ true → Still s b x i z
 unfolding is_quiet rows_left row_left
@@ -141,11 +141,11 @@ still_from s b x i z narrow stripe cut quiet =
       stripe = stripe;
       inside = within height;
       left = λ k c. pass_at k (of_four l k c l01.0 l01.1 l23.0 l23.1);
-      empty = λ k c. dark (is_inside s x (4 * i + k)) (z.magnitude x (4 * i + k)) (touched (lit s z) x (4 * i + k)) (within height k c) (of_four q k c q01.0 q01.1 q23.0 q23.1);
+      empty = λ k c. dark (is_inside s x (4 * i + k)) (z.magnitude x (4 * i + k)) (touched_in s (lit s z) x (4 * i + k)) (within height k c) (of_four q k c q01.0 q01.1 q23.0 q23.1);
     }
   where
     q : ℕ → Bool
-    q j = not (lit s z x (4 * i + j)) && not (touched (lit s z) x (4 * i + j))
+    q j = not (lit s z x (4 * i + j)) && not (touched_in s (lit s z) x (4 * i + j))
 
     l : ℕ → Bool
     l j = row_left s (mags s b z) (start s 2 x i) x (4 * i + j)
@@ -166,8 +166,8 @@ still_from s b x i z narrow stripe cut quiet =
     two : (n : ℕ) (u : Bool) → (nat_eq n 2 && u) ≡ true → n ≡ 2
     two n u e = grind (arith, nat_tests)
 
-    pass_at : (k : ℕ) → row_left s (mags s b z) (start s 2 x i) x (4 * i + k) ≡ true → pass_of s.width (mags s b z) x (4 * i + k) ≡ 2
-    pass_at k e = two (pass_of s.width (mags s b z) x (4 * i + k)) (not (touched (significant s (mags s b z) (start s 2 x i)) x (4 * i + k))) e
+    pass_at : (k : ℕ) → row_left s (mags s b z) (start s 2 x i) x (4 * i + k) ≡ true → pass_of s (mags s b z) x (4 * i + k) ≡ 2
+    pass_at k e = two (pass_of s (mags s b z) x (4 * i + k)) (not (touched_in s (significant s (mags s b z) (start s 2 x i)) x (4 * i + k))) e
 
     dark : (i : Bool) (m : ℕ) (u : Bool) → i ≡ true → (not (i && nat_lt 0 m) && not u) ≡ true → m ≡ 0
     dark i m u e g = grind (arith, nat_tests)

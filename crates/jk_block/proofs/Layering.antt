@@ -181,16 +181,16 @@ no_sign false = refl
 pub cut_plane : (s : BlockShape) (e d : ℕ) (q : Field ℤ) (x y : ℕ) → cut s (e + suc d) (suc (3 * d)) q x y ≡ with_sign (is_negative (q x y)) (above e (unsigned_abs (q x y)))
 unfolding cut
 cut_plane s e d q x y =
-    ap (λ b. with_sign (is_negative (q x y)) (cond (nat_le (pass_of s.width (plane_at s b q).magnitude x y) (kind_of (3 * d))) (above b (unsigned_abs (q x y))) (above (b + 1) (unsigned_abs (q x y))))) (let g : e + suc d - 1 - (3 * d + 2) / 3 ≡ e = omega arith in g)
+    ap (λ b. with_sign (is_negative (q x y)) (cond (nat_le (pass_of s (plane_at s b q).magnitude x y) (kind_of (3 * d))) (above b (unsigned_abs (q x y))) (above (b + 1) (unsigned_abs (q x y))))) (let g : e + suc d - 1 - (3 * d + 2) / 3 ≡ e = omega arith in g)
     ∙ ap (λ k. with_sign (is_negative (q x y)) (cond k (above e (unsigned_abs (q x y))) (above (e + 1) (unsigned_abs (q x y))))) last
   where
     by : (n k : ℕ) → k ≡ 2 → n ≤ 2 → nat_le n k ≡ true
     by n k e h = grind (arith, nat_tests)
 
-    last : nat_le (pass_of s.width (plane_at s e q).magnitude x y) (kind_of (3 * d)) ≡ true
+    last : nat_le (pass_of s (plane_at s e q).magnitude x y) (kind_of (3 * d)) ≡ true
     last =
         let k : (3 * d + 2) % 3 ≡ 2 = omega arith in
-        let n = pass_of s.width (plane_at s e q).magnitude x y in
+        let n = pass_of s (plane_at s e q).magnitude x y in
         cases_of s (plane_at s e q).magnitude x y
         (λ w. let e = w.pass_is in by n ((3 * d + 2) % 3) k (omega arith))
         (λ w. let e = w.pass_is in by n ((3 * d + 2) % 3) k (omega arith))

@@ -2,7 +2,7 @@
 use Rattle.std.proofs.Common.{◌≡◌, ℕ, zero, suc, ◌+◌, ◌-◌, ◌*◌, ◌/◌, ◌%◌, ◌^◌, ◌<◌, ◌≤◌, Bool, true, false, cond, List, map, Result, Ok, Err, ℤ, pos, negsuc, unsigned_abs, refl, sym, ap, ◌∙◌, subst, inl, inr, get_or, length, arith}
 use Rattle.std.specs.Prelude.{◌&&◌, nat_lt, nat_le}
 use Rattle.std.specs.Int.{is_negative}
-use Rattle.std.specs.List.{flat_map, range_with_len}
+use Rattle.std.specs.List.{range_with_len}
 use Rattle.std.proofs.lemmas.Bool.{and_parts, cases_lt}
 use Rattle.std.proofs.lemmas.Bool.Decides.{nat_tests}
 use Rattle.std.proofs.lemmas.Nat.{pow_pos, div-mul-add, mod-mul-add, mul-add-lt, div_below}
@@ -88,7 +88,7 @@ inside_or true f g = f refl
 inside_or false f g = g refl
 
 -- a pass up to the last one is one whose places are all coded by then
-pub coded_by : (s : BlockShape) (a : Field ℕ) (k x y : ℕ) → is_inside s x y ≡ true → is_coded s a (k * visits s + visits s) x y ≡ nat_le (pass_of s.width a x y) k
+pub coded_by : (s : BlockShape) (a : Field ℕ) (k x y : ℕ) → is_inside s x y ≡ true → is_coded s a (k * visits s + visits s) x y ≡ nat_le (pass_of s a x y) k
 coded_by s a k x y i =
     let n = number_below s x y i in
     cases_of s a x y (λ w. at 1 w.moment_is w.pass_is n) (λ w. at 0 w.moment_is w.pass_is n) (λ w. at 2 w.moment_is w.pass_is n)
@@ -107,14 +107,14 @@ coded_by s a k x y i =
           let b : nat_le p k ≡ true = grind (arith, nat_tests) in a ∙ sym b
     ]
 
-    at : (p : ℕ) → moment s a x y ≡ p * visits s + number s.width x y → pass_of s.width a x y ≡ p → number s.width x y < visits s → nat_lt (moment s a x y) (k * visits s + visits s) ≡ nat_le (pass_of s.width a x y) k
+    at : (p : ℕ) → moment s a x y ≡ p * visits s + number s.width x y → pass_of s a x y ≡ p → number s.width x y < visits s → nat_lt (moment s a x y) (k * visits s + visits s) ≡ nat_le (pass_of s a x y) k
     at p e g h = by (moment s a x y) p e h ∙ ap (λ p. nat_le p k) (sym g)
 
 -- What is held at the end is what the passes code of a magnitude.
 pub held_is : (s : BlockShape) (b k : ℕ) (z : Progress) (x y : ℕ) → is_inside s x y ≡ true → Cut s b (k * visits s + visits s) z
-    → z.magnitude x y ≡ cond (nat_le (pass_of s.width (mags s b z) x y) k) (above b (z.magnitude x y)) (above (b + 1) (z.magnitude x y))
+    → z.magnitude x y ≡ cond (nat_le (pass_of s (mags s b z) x y) k) (above b (z.magnitude x y)) (above (b + 1) (z.magnitude x y))
 held_is s b k z x y i c =
-    by (nat_le (pass_of s.width (mags s b z) x y) k) (coded_by s (mags s b z) k x y i)
+    by (nat_le (pass_of s (mags s b z) x y) k) (coded_by s (mags s b z) k x y i)
   where
     whole : z.magnitude x y ≡ above b (z.magnitude x y)
     whole = c.whole x y i ∙ ap (λ a. a * 2 ^ b) (mags_inside s b z x y i)
@@ -170,8 +170,8 @@ cut_held s planes (suc n) z q d h x y i =
     let b = plane_of planes n in
     let same = same_field (mags s b z) (plane_at s b q).magnitude (holds_mags s b z q h) in
     let m = h.magnitude x y i in
-    ap (λ (a : Field ℕ). with_sign (is_negative (q x y)) (cond (nat_le (pass_of s.width a x y) (kind_of n)) (above b (unsigned_abs (q x y))) (above (b + 1) (unsigned_abs (q x y))))) (sym same)
-    ∙ ap (λ (m : ℕ). with_sign (is_negative (q x y)) (cond (nat_le (pass_of s.width (mags s b z) x y) (kind_of n)) (above b m) (above (b + 1) m))) m
+    ap (λ (a : Field ℕ). with_sign (is_negative (q x y)) (cond (nat_le (pass_of s a x y) (kind_of n)) (above b (unsigned_abs (q x y))) (above (b + 1) (unsigned_abs (q x y))))) (sym same)
+    ∙ ap (λ (m : ℕ). with_sign (is_negative (q x y)) (cond (nat_le (pass_of s (mags s b z) x y) (kind_of n)) (above b m) (above (b + 1) m))) m
     ∙ ap (with_sign (is_negative (q x y))) (sym (held_is s b (kind_of n) z x y i d) ∙ sym m)
     ∙ with_sign_self (q x y)
 
@@ -216,14 +216,14 @@ held_like s planes (suc n) z q h d l x y i =
     let b = plane_of planes n in
     let k = kind_of n in
     let t = k * visits s + visits s in
-    let code : is_coded s (mags s b z) t x y ≡ nat_le (pass_of s.width (mags s b z) x y) k = coded_by s (mags s b z) k x y i in
-    let pass : is_coded s (mags s b z) t x y ≡ nat_le (pass_of s.width (plane_at s b q).magnitude x y) k = agree_coded s (mags s b z) (plane_at s b q).magnitude t t x y l.agree (omega arith) ∙ coded_by s (plane_at s b q).magnitude k x y i in
-    let size : z.magnitude x y ≡ cond (nat_le (pass_of s.width (plane_at s b q).magnitude x y) k) (above b (unsigned_abs (q x y))) (above (b + 1) (unsigned_abs (q x y))) =
+    let code : is_coded s (mags s b z) t x y ≡ nat_le (pass_of s (mags s b z) x y) k = coded_by s (mags s b z) k x y i in
+    let pass : is_coded s (mags s b z) t x y ≡ nat_le (pass_of s (plane_at s b q).magnitude x y) k = agree_coded s (mags s b z) (plane_at s b q).magnitude t t x y l.agree (omega arith) ∙ coded_by s (plane_at s b q).magnitude k x y i in
+    let size : z.magnitude x y ≡ cond (nat_le (pass_of s (plane_at s b q).magnitude x y) k) (above b (unsigned_abs (q x y))) (above (b + 1) (unsigned_abs (q x y))) =
     held_is s b k z x y i d ∙ ap (λ c. cond c (above b (z.magnitude x y)) (above (b + 1) (z.magnitude x y))) (sym code)
     ∙ by_code s b t z q x y i l (is_coded s (mags s b z) t x y) refl
     ∙ ap (λ c. cond c (above b (unsigned_abs (q x y))) (above (b + 1) (unsigned_abs (q x y)))) pass in
-    let own : unsigned_abs (q x y) ≡ cond (nat_le (pass_of s.width (plane_at s b q).magnitude x y) k) (above b (unsigned_abs (q x y))) (above (b + 1) (unsigned_abs (q x y))) =
-    ap unsigned_abs (sym (h x y i)) ∙ abs_with_sign (is_negative (q x y)) (cond (nat_le (pass_of s.width (plane_at s b q).magnitude x y) k) (above b (unsigned_abs (q x y))) (above (b + 1) (unsigned_abs (q x y)))) in
+    let own : unsigned_abs (q x y) ≡ cond (nat_le (pass_of s (plane_at s b q).magnitude x y) k) (above b (unsigned_abs (q x y))) (above (b + 1) (unsigned_abs (q x y))) =
+    ap unsigned_abs (sym (h x y i)) ∙ abs_with_sign (is_negative (q x y)) (cond (nat_le (pass_of s (plane_at s b q).magnitude x y) k) (above b (unsigned_abs (q x y))) (above (b + 1) (unsigned_abs (q x y)))) in
     let same : z.magnitude x y ≡ unsigned_abs (q x y) = size ∙ sym own in
     ap (with_sign (z.negative x y)) same ∙ signed (unsigned_abs (q x y)) (z.negative x y) (is_negative (q x y)) (λ m. l.signs x y (sym (lit_is s b t z d x y) ∙ shown (is_inside s x y) (z.magnitude x y) i (subst (λ n. 0 < n) (sym same) m)) ∙ plane_negative s b q x y)
     ∙ with_sign_self (q x y)

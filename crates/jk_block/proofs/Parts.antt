@@ -55,12 +55,12 @@ cut_held_of s planes (suc n) z q d l = record {
     t = k * visits s + visits s
 
     size : ℕ → ℕ → ℕ
-    size x y = cond (nat_le (pass_of s.width (plane_at s b q).magnitude x y) k) (above b (unsigned_abs (q x y))) (above (b + 1) (unsigned_abs (q x y)))
+    size x y = cond (nat_le (pass_of s (plane_at s b q).magnitude x y) k) (above b (unsigned_abs (q x y))) (above (b + 1) (unsigned_abs (q x y)))
 
     held : (x y : ℕ) → is_inside s x y ≡ true → z.magnitude x y ≡ size x y
     held x y i =
-        let code : is_coded s (mags s b z) t x y ≡ nat_le (pass_of s.width (mags s b z) x y) k = coded_by s (mags s b z) k x y i in
-        let pass : is_coded s (mags s b z) t x y ≡ nat_le (pass_of s.width (plane_at s b q).magnitude x y) k = agree_coded s (mags s b z) (plane_at s b q).magnitude t t x y l.agree (omega arith) ∙ coded_by s (plane_at s b q).magnitude k x y i in
+        let code : is_coded s (mags s b z) t x y ≡ nat_le (pass_of s (mags s b z) x y) k = coded_by s (mags s b z) k x y i in
+        let pass : is_coded s (mags s b z) t x y ≡ nat_le (pass_of s (plane_at s b q).magnitude x y) k = agree_coded s (mags s b z) (plane_at s b q).magnitude t t x y l.agree (omega arith) ∙ coded_by s (plane_at s b q).magnitude k x y i in
         held_is s b k z x y i d ∙ ap (λ c. cond c (above b (z.magnitude x y)) (above (b + 1) (z.magnitude x y))) (sym code)
         ∙ by_code s b t z q x y i l (is_coded s (mags s b z) t x y) refl
         ∙ ap (λ c. cond c (above b (unsigned_abs (q x y))) (above (b + 1) (unsigned_abs (q x y)))) pass
@@ -89,18 +89,18 @@ unfolding cut
 cut_whole s zero q small x y i = no_magnitude (q x y) (let h = small x y i in omega (arith, h))
 cut_whole s (suc p) q small x y i =
     ap (λ n. cut s (suc p) n q x y) (let e : 3 * suc p - 2 ≡ suc (3 * p) = omega arith in e)
-    ∙ ap (λ b. with_sign (is_negative (q x y)) (cond (nat_le (pass_of s.width (plane_at s b q).magnitude x y) (kind_of (3 * p))) (above b (unsigned_abs (q x y))) (above (b + 1) (unsigned_abs (q x y))))) (let e : suc p - 1 - (3 * p + 2) / 3 ≡ 0 = omega arith in e)
+    ∙ ap (λ b. with_sign (is_negative (q x y)) (cond (nat_le (pass_of s (plane_at s b q).magnitude x y) (kind_of (3 * p))) (above b (unsigned_abs (q x y))) (above (b + 1) (unsigned_abs (q x y))))) (let e : suc p - 1 - (3 * p + 2) / 3 ≡ 0 = omega arith in e)
     ∙ ap (λ k. with_sign (is_negative (q x y)) (cond k (above 0 (unsigned_abs (q x y))) (above (0 + 1) (unsigned_abs (q x y))))) last
     ∙ ap (λ m. with_sign (is_negative (q x y)) m) (let e : unsigned_abs (q x y) / 2 ^ 0 * 2 ^ 0 ≡ unsigned_abs (q x y) = omega arith in e)
     ∙ with_sign_self (q x y)
   where
-    last : nat_le (pass_of s.width (plane_at s 0 q).magnitude x y) (kind_of (3 * p)) ≡ true
+    last : nat_le (pass_of s (plane_at s 0 q).magnitude x y) (kind_of (3 * p)) ≡ true
     last =
         let k : (3 * p + 2) % 3 ≡ 2 = omega arith in
         cases_of s (plane_at s 0 q).magnitude x y
-        (λ w. let e = w.pass_is in by (pass_of s.width (plane_at s 0 q).magnitude x y) ((3 * p + 2) % 3) k (omega arith))
-        (λ w. let e = w.pass_is in by (pass_of s.width (plane_at s 0 q).magnitude x y) ((3 * p + 2) % 3) k (omega arith))
-        (λ w. let e = w.pass_is in by (pass_of s.width (plane_at s 0 q).magnitude x y) ((3 * p + 2) % 3) k (omega arith))
+        (λ w. let e = w.pass_is in by (pass_of s (plane_at s 0 q).magnitude x y) ((3 * p + 2) % 3) k (omega arith))
+        (λ w. let e = w.pass_is in by (pass_of s (plane_at s 0 q).magnitude x y) ((3 * p + 2) % 3) k (omega arith))
+        (λ w. let e = w.pass_is in by (pass_of s (plane_at s 0 q).magnitude x y) ((3 * p + 2) % 3) k (omega arith))
       where
         by : (n k : ℕ) → k ≡ 2 → n ≤ 2 → nat_le n k ≡ true
         by n k e h = grind (arith, nat_tests)

@@ -11,7 +11,7 @@ use Rattle.jk_math.specs.Steps.{bind_then, done, ok_is}
 use Rattle.jk_model.specs.Decisions.{State, Decision, after, state_after, SpellsFrom}
 use Rattle.jk_scan.specs.declared.shape.BlockShape.{BlockShape}
 use Rattle.jk_scan.specs.Contexts.{refine_context_of}
-use Rattle.jk_scan.specs.Neighbours.{Field, is_inside, touched}
+use Rattle.jk_scan.specs.Neighbours.{Field, is_inside, touched_in}
 use Rattle.jk_scan.specs.Moments.{number, visits, old, pass_of, moment, is_coded, significant}
 use Rattle.jk_scan.specs.Passes.{Plane, Decided, is_one, new_decisions, refining_decision, place_decisions}
 use Rattle.jk_scan.proofs.Laws.{significant_is, cases_of, agree_pass, moment_is, place_any}
@@ -25,14 +25,14 @@ use Rattle.jk_block.proofs.Coding.{Codes, put_here, put_away, Visits, with_visit
 
 -- the decision of a place that was significant, in terms of what is held
 pub next_list : (s : BlockShape) (b t x y : ℕ) (bit : Bool) (z : Progress) (p : Plane) → Cut s b t z → Like s b t z p → is_inside s x y ≡ true → bit ≡ is_one (p.magnitude x y)
-    → (refine_context_of (nat_le 4 (z.magnitude x y / 2 ^ b)) (touched (lit s z) x y), bit) ≡ refining_decision s p t x y
+    → (refine_context_of (nat_le 4 (z.magnitude x y / 2 ^ b)) (touched_in s (lit s z) x y), bit) ≡ refining_decision s p t x y
 unfolding refining_decision
 next_list s b t x y bit z p cut l i e =
     let four : nat_le 4 (z.magnitude x y / 2 ^ b) ≡ nat_le 4 (p.magnitude x y) =
     ap (nat_le 4) (sym (mags_inside s b z x y i)) ∙ by_half (mags s b z x y) (p.magnitude x y) (l.agree.halves x y) in
-    ap (λ (r : Bool). (refine_context_of r (touched (lit s z) x y), bit)) four
+    ap (λ (r : Bool). (refine_context_of r (touched_in s (lit s z) x y), bit)) four
     ∙ ap (λ (u : Bool). (refine_context_of (nat_le 4 (p.magnitude x y)) u, bit)) (touched_like s b t z p cut l x y)
-    ∙ ap (λ (d : Bool). (refine_context_of (nat_le 4 (p.magnitude x y)) (touched (significant s p.magnitude t) x y), d)) e
+    ∙ ap (λ (d : Bool). (refine_context_of (nat_le 4 (p.magnitude x y)) (touched_in s (significant s p.magnitude t) x y), d)) e
   where
     by_half : (m n : ℕ) → m / 2 ≡ n / 2 → nat_le 4 m ≡ nat_le 4 n
     by_half m n e = grind (arith, nat_tests)
@@ -50,7 +50,7 @@ pub next_codes : (bytes : List ℕ) (s : BlockShape) (b t x y : ℕ) (z : Progre
     → Codes bytes s b t 1 x y z (read_refined bytes s b x y z) (λ p. refining_decision s p t x y ∷ [])
 unfolding read_refined refined with_visited
 next_codes bytes s b t x y z cut due =
-    let cx = refine_context_of (nat_le 4 (z.magnitude x y / 2 ^ b)) (touched (lit s z) x y) in
+    let cx = refine_context_of (nat_le 4 (z.magnitude x y / 2 ^ b)) (touched_in s (lit s z) x y) in
     record {
       changes = λ z' e. bind_then (decide bytes cx z.coder) (λ d. done (refined b x y z d)) z' e (λ d i r. (d.0, made d z' r));
       told = λ z' e p l l'. bind_then (decide bytes cx z.coder) (λ d. done (refined b x y z d)) z' e (λ d i r.
@@ -99,10 +99,10 @@ next_codes bytes s b t x y z cut due =
 pub not_due : (s : BlockShape) (b t pass x y : ℕ) (z : Progress) → x < s.width → number s.width x y < visits s → t ≡ pass * visits s + number s.width x y → is_due s (mags s b z) pass x y ≡ false → Idle s b t z
 unfolding Idle is_due
 not_due s b t pass x y z narrow room now d x' y' i e =
-    let one = place_any s (pass_of s.width (mags s b z) x' y') pass x' y' x y i narrow room (sym (moment_is s (mags s b z) x' y') ∙ e ∙ now) in
+    let one = place_any s (pass_of s (mags s b z) x' y') pass x' y' x y i narrow room (sym (moment_is s (mags s b z) x' y') ∙ e ∙ now) in
     let here : is_inside s x y ≡ true = ap (λ (u : ℕ). is_inside s u y) (sym one.1) ∙ ap (λ (u : ℕ). is_inside s x' u) (sym one.2) ∙ i in
-    let pass_here : pass_of s.width (mags s b z) x y ≡ pass = ap (λ (u : ℕ). pass_of s.width (mags s b z) u y) (sym one.1) ∙ ap (λ (u : ℕ). pass_of s.width (mags s b z) x' u) (sym one.2) ∙ one.0 in
-    both (is_inside s x y) (pass_of s.width (mags s b z) x y) here pass_here d
+    let pass_here : pass_of s (mags s b z) x y ≡ pass = ap (λ (u : ℕ). pass_of s (mags s b z) u y) (sym one.1) ∙ ap (λ (u : ℕ). pass_of s (mags s b z) x' u) (sym one.2) ∙ one.0 in
+    both (is_inside s x y) (pass_of s (mags s b z) x y) here pass_here d
   where
     both : (i : Bool) (n : ℕ) → i ≡ true → n ≡ pass → (i && nat_eq n pass) ≡ false → ⊥
     both i n e g h = grind (arith, nat_tests)
@@ -155,7 +155,7 @@ stage_by_test bytes s b t pass x y part own decisions own_ones narrow room now p
 
     due_is : (z : Progress) → is_due s (mags s b z) pass x y ≡ true → Due s b t pass x y z
     due_is z d =
-        let both = and_parts (is_inside s x y) (nat_eq (pass_of s.width (mags s b z) x y) pass) d in
+        let both = and_parts (is_inside s x y) (nat_eq (pass_of s (mags s b z) x y) pass) d in
         let b1 = both.1 in
         record { inside = both.0; pass_is = grind (arith, nat_tests); now = now }
 

@@ -36,7 +36,7 @@ pub record Still (s : BlockShape) (b x i : ℕ) (z : Progress) : Type 0 where
   pub narrow : x < s.width
   pub stripe : i < stripes s
   pub inside : (k : ℕ) → k < 4 → is_inside s x (4 * i + k) ≡ true
-  pub left : (k : ℕ) → k < 4 → pass_of s.width (mags s b z) x (4 * i + k) ≡ 2
+  pub left : (k : ℕ) → k < 4 → pass_of s (mags s b z) x (4 * i + k) ≡ 2
   pub empty : (k : ℕ) → k < 4 → z.magnitude x (4 * i + k) ≡ 0
 
 pub due_row : (s : BlockShape) (b x i k : ℕ) (z : Progress) → Still s b x i z → k < 4 → Due s b (start s 2 x i + k) 2 x (4 * i + k) z

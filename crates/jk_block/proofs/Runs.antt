@@ -9,7 +9,7 @@ use Rattle.jk_math.specs.Steps.{bind_then, done, ok_is}
 use Rattle.jk_model.specs.Decisions.{State, after, state_after, SpellsFrom}
 use Rattle.jk_scan.specs.declared.shape.BlockShape.{BlockShape}
 use Rattle.jk_scan.specs.Contexts.{run_length, uniform}
-use Rattle.jk_scan.specs.Neighbours.{sign_at}
+use Rattle.jk_scan.specs.Neighbours.{sign_in}
 use Rattle.jk_scan.specs.Moments.{number, stripes, visits}
 use Rattle.jk_scan.specs.Passes.{Plane, Decided, is_one, flipped, sign_decision, rows_decisions, first_one, run_decisions}
 use Rattle.jk_block.specs.Reading.{Progress, lit, decide, with_coder, coded_as, read_sign, rows_at, row_named, read_from, read_run}
@@ -52,7 +52,7 @@ from_read bytes s b x i f z z' still l e =
     bind_then (read_sign bytes s b x (4 * i + f) z) (rows_at bytes s b 2 x i (f + 1) (3 - f)) z' e
     (λ m h r.
     let sr = sign_read bytes s b x (4 * i + f) z m h in
-    let negative = flipped (sign_at (lit s z) z.negative x (4 * i + f)).flip sr.bit in
+    let negative = flipped (sign_in s (lit s z) z.negative x (4 * i + f)).flip sr.bit in
     record {
       middle = m;
       sign = sr;

@@ -22,7 +22,7 @@ mags s b z x y = cond (is_inside s x y) (z.magnitude x y / 2 ^ b) 0
 pub record Cut (s : BlockShape) (b t : ℕ) (z : Progress) : Type 0 where
   pub whole : (x y : ℕ) → is_inside s x y ≡ true → z.magnitude x y ≡ mags s b z x y * 2 ^ b
   pub even : (x y : ℕ) → is_inside s x y ≡ true → is_coded s (mags s b z) t x y ≡ false → mags s b z x y % 2 ≡ 0
-  pub visited : (x y : ℕ) → is_inside s x y ≡ true → z.visited x y ≡ (spread s.width (mags s b z) x y && nat_lt (number s.width x y) t)
+  pub visited : (x y : ℕ) → is_inside s x y ≡ true → z.visited x y ≡ (spread s (mags s b z) x y && nat_lt (number s.width x y) t)
 
 -- What is held is what is coded of a block at plane b before the moment t.
 pub record Like (s : BlockShape) (b t : ℕ) (z : Progress) (p : Plane) : Type 0 where

@@ -6,7 +6,7 @@ use Rattle.std.proofs.lemmas.Bool.{cases_lt}
 use Rattle.std.proofs.lemmas.Bool.Decides.{nat_tests}
 use Rattle.jk_scan.specs.declared.shape.BlockShape.{BlockShape}
 use Rattle.jk_scan.specs.Bits.{on}
-use Rattle.jk_scan.specs.Neighbours.{Field}
+use Rattle.jk_scan.specs.Neighbours.{Field, seen_from}
 use Rattle.jk_scan.specs.Words.{Truths, of_rows, bordered, IsQuietFrom}
 use Rattle.jk_scan.specs.WordPlaces.{column, row, also}
 use Rattle.jk_scan.proofs.Laws.{same_field, rest_by, on_and, high_ones}
@@ -84,7 +84,7 @@ bits_behind s s' f g j i w w' z y shape on_row same lit behind fewer b = record 
   other = λ m l e. fewer m (b.other m l e);
   early = λ c a l. fewer (8 * c + 1) (b.early c a l);
   late = λ c a l.
-      still_behind s f g j i y (y / 8 + 1) w w' on_row lit (behind (is_whole s j i) (bordered f) j i on_row)
+      still_behind s f g j i y (y / 8 + 1) w w' on_row lit (behind (is_whole s j i) (bordered (seen_from s i f)) j i on_row)
       (λ c a l. b.late c (omega (arith, same)) l) c (omega (arith, same)) l
       ∙ sym (ap (λ (s : BlockShape). is_still s g j i c) shape);
 }

@@ -16,7 +16,7 @@ use Rattle.jk_model.proofs.Laws.{passes-split, state_after_passes-joined}
 use Rattle.jk_scan.specs.declared.shape.BlockShape.{BlockShape}
 use Rattle.jk_scan.specs.Neighbours.{Field, is_inside}
 use Rattle.jk_scan.specs.Moments.{number, stripes, visits, spread, moment, is_coded}
-use Rattle.jk_scan.specs.Passes.{Decided, joined, column_decisions, plane_decisions}
+use Rattle.jk_scan.specs.Passes.{joined, column_decisions, plane_decisions}
 use Rattle.jk_scan.proofs.Laws.{significant_is, cases_of, number_below, empty_spread}
 use Rattle.jk_block.specs.Symbols.{closing_decisions}
 use Rattle.jk_block.specs.Meaning.{plane_of, kind_of, plane_at, whole_decisions, pass_decisions}
@@ -103,7 +103,7 @@ pub lower_cut : (s : BlockShape) (b t : ℕ) (z : Progress) → Cut s (b + 1) t 
 lower_cut s b t z c = record {
   whole = λ x y i. c.whole x y i ∙ parts (mags s (b + 1) z x y) (mags s b z x y) (doubled_mags s b t z c x y i);
   even = λ x y i e. let d = doubled_mags s b t z c x y i in ap (λ m. m % 2) d ∙ (let g : 2 * mags s (b + 1) z x y % 2 ≡ 0 = omega arith in g);
-  visited = λ x y i. none (number s.width x y) (spread s.width (mags s b z) x y);
+  visited = λ x y i. none (number s.width x y) (spread s (mags s b z) x y);
 }
   where
     parts : (a d : ℕ) → d ≡ 2 * a → a * 2 ^ (b + 1) ≡ d * 2 ^ b
@@ -181,7 +181,7 @@ blank_cut : (s : BlockShape) (b t : ℕ) → Cut s b t blank
 blank_cut s b t = record {
   whole = λ x y i. (let e : 0 ≡ 0 * 2 ^ b = omega arith in e) ∙ ap (λ m. m * 2 ^ b) (sym (blank_mags s b x y));
   even = λ x y i e. ap (λ m. m % 2) (blank_mags s b x y);
-  visited = λ x y i. ap (λ p. p && nat_lt (number s.width x y) t) (sym (empty_spread s.width (mags s b blank) x y (blank_mags s b)));
+  visited = λ x y i. ap (λ p. p && nat_lt (number s.width x y) t) (sym (empty_spread s (mags s b blank) x y (blank_mags s b)));
 }
 
 blank_like : (s : BlockShape) (b : ℕ) (q : Field ℤ) → ((x y : ℕ) → is_inside s x y ≡ true → unsigned_abs (q x y) < 2 ^ (b + 1)) → Like s b (2 * visits s) blank (plane_at s b q)
@@ -211,7 +211,7 @@ blank_like s b q small = record {
     uncoded : (x y : ℕ) → is_coded s (mags s b blank) (2 * visits s) x y ≡ true → ⊥
     uncoded x y e = cases_of s (mags s b blank) x y
         (λ w. empty (mags s b blank x y) (blank_mags s b x y) w.old_is)
-        (λ w. let f = empty_spread s.width (mags s b blank) x y (blank_mags s b) in let c : true ≡ false = sym w.spread_is ∙ f in absurd cc)
+        (λ w. let f = empty_spread s (mags s b blank) x y (blank_mags s b) in let c : true ≡ false = sym w.spread_is ∙ f in absurd cc)
         (λ w. late (moment s (mags s b blank) x y) (number s.width x y) w.moment_is e)
 
 blank_back : (s : BlockShape) (b : ℕ) (q : Field ℤ) → Like s b (2 * visits s) blank (plane_at s b q) → (x y : ℕ) → is_inside s x y ≡ true → unsigned_abs (q x y) < 2 ^ (b + 1)

@@ -6,11 +6,11 @@ use Rattle.std.proofs.lemmas.Bool.Decides.{nat_tests}
 use Rattle.jk_scan.specs.declared.shape.BlockShape.{BlockShape}
 use Rattle.jk_scan.specs.declared.around.Around.{Around}
 use Rattle.jk_scan.specs.Bits.{on}
-use Rattle.jk_scan.specs.Neighbours.{Field, is_inside, touched}
+use Rattle.jk_scan.specs.Neighbours.{Field, is_inside, touched, seen_from, touched_in}
 use Rattle.jk_scan.specs.Words.{Truths, of_rows, of_gathered, Shows, up_down, aside, bordered, is_member}
 use Rattle.jk_scan.specs.WordPlaces.{column, row, also}
 use Rattle.jk_scan.specs.Surroundings.{IsAround}
-use Rattle.jk_scan.proofs.Laws.{same_field, touched_is, rows_between, set_shows, on_and, on_shr_at, firsts}
+use Rattle.jk_scan.proofs.Laws.{same_field, seen_own, seen_also, row_stripe, touched_seen, touched_is, rows_between, set_shows, on_and, on_shr_at, firsts}
 use Rattle.jk_scan.specs.Moments.{stripes}
 use Rattle.jk_scan.specs.Flags.{IsDrawn, across, word_at, flag_at}
 
@@ -36,15 +36,16 @@ pub around_same : (f g : Truths) (j i : ℕ) (seen : Around) → ((x y : ℕ) �
 around_same f g j i seen e h = subst (λ (f : Truths). IsAround (bordered f) j i seen) (sym (same_field g f e)) h
 
 -- one more place
-pub around_also : (f g : Truths) (j i z : ℕ) (seen : Around) → z < 64 → of_rows (z % 8) ≡ true → ((x y : ℕ) → g x y ≡ also f (column j z) (row i z) x y) → IsAround (bordered f) j i seen
-    → IsAround (bordered g) j i record { centre = bit_or seen.centre (1 * 2 ^ z % 2 ^ 64); west = seen.west; east = seen.east }
-around_also f g j i z seen lim on_row e h =
+pub around_also : (s : BlockShape) (f g : Truths) (j i z : ℕ) (seen : Around) → z < 64 → of_rows (z % 8) ≡ true → ((x y : ℕ) → g x y ≡ also f (column j z) (row i z) x y) → IsAround (bordered (seen_from s i f)) j i seen
+    → IsAround (bordered (seen_from s i g)) j i record { centre = bit_or seen.centre (1 * 2 ^ z % 2 ^ 64); west = seen.west; east = seen.east }
+around_also s f g j i z seen lim on_row e h =
+    let old = seen_from s i f in
     subst (λ (g : Truths). IsAround g j i record { centre = bit_or seen.centre (1 * 2 ^ z % 2 ^ 64); west = seen.west; east = seen.east })
-    (sym (ap (λ (g : Truths). bordered g) (same_field g (also f (column j z) (row i z)) e) ∙ bordered_also f j i z on_row))
+    (sym (ap (λ (g : Truths). bordered g) (same_field (seen_from s i g) (also old (column j z) (row i z)) (seen_also s f g j i z on_row e)) ∙ bordered_also old j i z on_row))
     record {
-      centre = set_shows (bordered f) j i seen.centre z lim on_row h.centre;
-      west = λ c b p q. h.west c b p q ∙ away (of_gathered b) (bordered f (8 * j + c) (4 * (i + 1) + b - 1)) (nat_eq (8 * j + c) (column (j + 1) z)) (nat_eq (4 * (i + 1) + b - 1) (row (i + 1) z)) (grind (arith, nat_tests));
-      east = λ c b p q. h.east c b p q ∙ away (of_gathered b) (bordered f (8 * (j + 2) + c) (4 * (i + 1) + b - 1)) (nat_eq (8 * (j + 2) + c) (column (j + 1) z)) (nat_eq (4 * (i + 1) + b - 1) (row (i + 1) z)) (grind (arith, nat_tests));
+      centre = set_shows (bordered old) j i seen.centre z lim on_row h.centre;
+      west = λ c b p q. h.west c b p q ∙ away (of_gathered b) (bordered old (8 * j + c) (4 * (i + 1) + b - 1)) (nat_eq (8 * j + c) (column (j + 1) z)) (nat_eq (4 * (i + 1) + b - 1) (row (i + 1) z)) (grind (arith, nat_tests));
+      east = λ c b p q. h.east c b p q ∙ away (of_gathered b) (bordered old (8 * (j + 2) + c) (4 * (i + 1) + b - 1)) (nat_eq (8 * (j + 2) + c) (column (j + 1) z)) (nat_eq (4 * (i + 1) + b - 1) (row (i + 1) z)) (grind (arith, nat_tests));
     }
   where
     away : (g v p q : Bool) → p ≡ false → (g && v) ≡ (g && (v || (p && q)))
@@ -52,7 +53,7 @@ around_also f g j i z seen lim on_row e h =
 
 -- the place at a bit is a member of the pass
 abbrev pub is_spread : BlockShape → Field Bool → (j i m : ℕ) → Bool
-is_spread s f j i m = of_rows (m % 8) && (is_inside s (column j m) (row i m) && (not (f (column j m) (row i m)) && touched f (column j m) (row i m)))
+is_spread s f j i m = of_rows (m % 8) && (is_inside s (column j m) (row i m) && (not (f (column j m) (row i m)) && touched_in s f (column j m) (row i m)))
 
 pub bordered_at : (f : Truths) (x y : ℕ) → bordered f (x + 8) (y + 4) ≡ f x y
 bordered_at f x y =
@@ -71,16 +72,20 @@ member_at m f x y =
 pub place_shifted : (j i m : ℕ) → of_rows (m % 8) ≡ true → (column (j + 1) m ≡ column j m + 8) × (row (i + 1) m ≡ row i m + 4)
 place_shifted j i m e = let between = rows_between (m % 8) e in let b0 = between.0 in (omega arith, omega arith)
 
-pub spread_is_member : (s : BlockShape) (f : Field Bool) (j i m : ℕ) → (of_rows (m % 8) && is_member (bordered (is_inside s)) (bordered f) (column (j + 1) m) (row (i + 1) m)) ≡ is_spread s f j i m
+pub spread_is_member : (s : BlockShape) (f : Field Bool) (j i m : ℕ) → (of_rows (m % 8) && is_member (bordered (is_inside s)) (bordered (seen_from s i f)) (column (j + 1) m) (row (i + 1) m)) ≡ is_spread s f j i m
 spread_is_member s f j i m = by (of_rows (m % 8)) refl
   where
-    by : (b : Bool) → of_rows (m % 8) ≡ b → (of_rows (m % 8) && is_member (bordered (is_inside s)) (bordered f) (column (j + 1) m) (row (i + 1) m)) ≡ is_spread s f j i m
-    by false e = ap (λ b. b && is_member (bordered (is_inside s)) (bordered f) (column (j + 1) m) (row (i + 1) m)) e ∙ sym (ap (λ b. b && (is_inside s (column j m) (row i m) && (not (f (column j m) (row i m)) && touched f (column j m) (row i m)))) e)
+    by : (b : Bool) → of_rows (m % 8) ≡ b → (of_rows (m % 8) && is_member (bordered (is_inside s)) (bordered (seen_from s i f)) (column (j + 1) m) (row (i + 1) m)) ≡ is_spread s f j i m
+    by false e = ap (λ b. b && is_member (bordered (is_inside s)) (bordered (seen_from s i f)) (column (j + 1) m) (row (i + 1) m)) e ∙ sym (ap (λ b. b && (is_inside s (column j m) (row i m) && (not (f (column j m) (row i m)) && touched_in s f (column j m) (row i m)))) e)
     by true e =
         let shifted = place_shifted j i m e in
-        ap (λ c. of_rows (m % 8) && is_member (bordered (is_inside s)) (bordered f) c (row (i + 1) m)) shifted.0
-        ∙ ap (λ r. of_rows (m % 8) && is_member (bordered (is_inside s)) (bordered f) (column j m + 8) r) shifted.1
-        ∙ ap (λ b. of_rows (m % 8) && b) (member_at (is_inside s) f (column j m) (row i m))
+        let own = row_stripe i m e in
+        let seen = seen_own s i f (column j m) (row i m) (omega (arith, own)) in
+        ap (λ c. of_rows (m % 8) && is_member (bordered (is_inside s)) (bordered (seen_from s i f)) c (row (i + 1) m)) shifted.0
+        ∙ ap (λ r. of_rows (m % 8) && is_member (bordered (is_inside s)) (bordered (seen_from s i f)) (column j m + 8) r) shifted.1
+        ∙ ap (λ b. of_rows (m % 8) && b) (member_at (is_inside s) (seen_from s i f) (column j m) (row i m))
+        ∙ ap (λ b. of_rows (m % 8) && (is_inside s (column j m) (row i m) && (not b && touched (seen_from s i f) (column j m) (row i m)))) seen
+        ∙ ap (λ b. of_rows (m % 8) && (is_inside s (column j m) (row i m) && (not (f (column j m) (row i m)) && b))) (touched_seen s i f (column j m) (row i m) own)
 
 -- the bit of a place in a word that shows a field
 pub drawn_bit : (s : BlockShape) (f : Field Bool) (words : List ℕ) (j i m : ℕ) → IsDrawn s f words → j < across s → i < stripes s → m < 64

@@ -50,7 +50,7 @@ cut s planes zero q x y = pos 0
 cut s planes (suc n) q x y =
     let b = plane_of planes n in
     with_sign (is_negative (q x y))
-    (if nat_le (pass_of s.width (plane_at s b q).magnitude x y) (kind_of n) then above b (unsigned_abs (q x y))
+    (if nat_le (pass_of s (plane_at s b q).magnitude x y) (kind_of n) then above b (unsigned_abs (q x y))
     else above (b + 1) (unsigned_abs (q x y)))
 
 -- The segment, of which so many passes are coded over so many bit-planes, means these coefficients.

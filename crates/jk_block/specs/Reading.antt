@@ -11,7 +11,7 @@ use Rattle.jk_model.specs.CodingPasses.{begun_by}
 use Rattle.jk_mqdec.specs.Answers.{answer, next}
 use Rattle.jk_scan.specs.declared.shape.BlockShape.{BlockShape}
 use Rattle.jk_scan.specs.Contexts.{refine_context_of, run_length, uniform}
-use Rattle.jk_scan.specs.Neighbours.{Field, is_inside, touched, zero_at, sign_at}
+use Rattle.jk_scan.specs.Neighbours.{Field, is_inside, touched_in, zero_in, sign_in}
 use Rattle.jk_scan.specs.Moments.{stripes, propagation, cleanup}
 use Rattle.jk_scan.specs.Passes.{flipped}
 use Rattle.jk_block.specs.Symbols.{is_symbol, ends_with_symbol}
@@ -59,19 +59,19 @@ coded_as b x y bit negative z =
 -- a place becomes significant
 unfoldable pub read_sign : List ℕ → BlockShape → (b x y : ℕ) → Progress → Result Progress Fault
 read_sign bytes s b x y z =
-    let c = sign_at (lit s z) z.negative x y in
+    let c = sign_in s (lit s z) z.negative x y in
     decide bytes c.context z.coder >>= λ d. Ok (with_coder (coded_as b x y true (flipped c.flip d.0) z) d.1)
 
 -- a place that isn't significant
 unfoldable pub read_new : List ℕ → BlockShape → (b x y : ℕ) → Progress → Result Progress Fault
 read_new bytes s b x y z =
-    decide bytes (zero_at s.orientation (lit s z) x y) z.coder
+    decide bytes (zero_in s (lit s z) x y) z.coder
     >>= λ d. if d.0 then read_sign bytes s b x y (with_coder z d.1) else Ok (with_coder z d.1)
 
 -- a place that was significant before this plane
 unfoldable pub read_refined : List ℕ → BlockShape → (b x y : ℕ) → Progress → Result Progress Fault
 read_refined bytes s b x y z =
-    decide bytes (refine_context_of (nat_le 4 (z.magnitude x y / 2 ^ b)) (touched (lit s z) x y)) z.coder
+    decide bytes (refine_context_of (nat_le 4 (z.magnitude x y / 2 ^ b)) (touched_in s (lit s z) x y)) z.coder
     >>= λ d. Ok (with_coder (coded_as b x y d.0 (z.negative x y) z) d.1)
 
 abbrev pub visit : (x y : ℕ) → Progress → Progress
@@ -80,7 +80,7 @@ visit x y z = record z { visited = put z.visited x y true }
 -- a place in a pass: coded there, or passed over
 unfoldable pub place_at : List ℕ → BlockShape → (b pass x y : ℕ) → Progress → Result Progress Fault
 place_at bytes s b zero x y z =
-    if is_inside s x y && (not (lit s z x y) && touched (lit s z) x y) then read_new bytes s b x y (visit x y z)
+    if is_inside s x y && (not (lit s z x y) && touched_in s (lit s z) x y) then read_new bytes s b x y (visit x y z)
     else Ok z
 place_at bytes s b (suc zero) x y z = if lit s z x y && not (z.visited x y) then read_refined bytes s b x y z else Ok z
 place_at bytes s b (suc (suc n)) x y z =
@@ -93,7 +93,7 @@ rows_at bytes s b pass x i j n z = times n (λ k. place_at bytes s b pass x (4 *
 -- four rows without a significant place in them or around them
 unfoldable pub is_quiet : BlockShape → Field Bool → (x i : ℕ) → Bool
 is_quiet s significant x i =
-    let quiet : ℕ → Bool = λ j. not (significant x (4 * i + j)) && not (touched significant x (4 * i + j)) in
+    let quiet : ℕ → Bool = λ j. not (significant x (4 * i + j)) && not (touched_in s significant x (4 * i + j)) in
     nat_le (4 * i + 4) s.height && ((quiet 0 && quiet 1) && (quiet 2 && quiet 3))
 
 -- the row of a stripe that two bits name, high bit first

@@ -4,6 +4,7 @@
 #![tactic(auto)]
 
 mod ages;
+mod contexts;
 mod decoding;
 mod encoding;
 mod promises;

@@ -1,7 +1,7 @@
 -- How an image is encoded, as C programs tell it.
 use Rattle.std.specs.Prelude.{◌≡◌, ℕ, ◌/◌, ◌%◌, ◌^◌, ◌<◌, ◌≤◌, Bool, not, ◌==◌, ◌&&◌, [], ◌∷◌, map}
 use Rattle.std.specs.Prelude.{take, Option, Some, None, if◌then◌else◌}
-use Rattle.jk_math.specs.Styles.{plain_style}
+use Rattle.jk_marks.specs.BlockStyle.{style_byte, style_of}
 use Rattle.jk_marks.specs.OrderCode.{order_code}
 use Rattle.jk_params.specs.declared.parameters.Parameters.{Parameters}
 use Rattle.jk_params.specs.declared.parameters.Container.{Container}
@@ -16,7 +16,8 @@ pub record IsKnownCoding (k : CallerCoding) : Type 0 where
   pub width : k.block_width < 2 ^ 8
   pub height : k.block_height < 2 ^ 8
   pub precincts : k.precinct_count ≤ 8
-  pub reserved : k.reserved ≡ 0 ∷ 0 ∷ 0 ∷ 0 ∷ []
+  pub style : style_byte (style_of k.style) ≡ k.style
+  pub reserved : k.reserved ≡ 0 ∷ 0 ∷ 0 ∷ []
 
 -- PPx and PPy
 abbrev pub exponents_of : ℕ → ℕ × ℕ
@@ -40,7 +41,7 @@ pub record AreParameters (k : CallerCoding) (q : Parameters) : Type 0 where
   pub tile : q.tile ≡ tile_of k.tile_width k.tile_height
   pub block_width : q.xcb ≡ k.block_width
   pub block_height : q.ycb ≡ k.block_height
-  pub style : q.style ≡ plain_style
+  pub style : q.style ≡ style_of k.style
   pub precincts : q.precincts.items ≡ map exponents_of (take k.precinct_count k.precincts)
   pub colour : q.colour ≡ is_set k.colour
   pub sop : q.sop ≡ is_set k.sop

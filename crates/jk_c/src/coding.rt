@@ -6,8 +6,8 @@ ghost use Rattle.jk_math.specs.declared.fault.Fault.TheVariants.{BadParameters};
 ghost use Rattle.jk_marks.specs.OrderCode.{order_code};
 ghost use Rattle.jk_c.specs.Codings.{IsKnownCoding, AreParameters, exponents_of, tile_of, container_of, is_set};
 
-use jk_marks::Order;
-use jk_math::{Fault, Style};
+use jk_marks::{Order, style_byte, style_of};
+use jk_math::Fault;
 use jk_params::{Container, Parameters};
 use std::alloc::Global;
 
@@ -41,8 +41,11 @@ pub struct CallerCoding {
     pub eph: u32,
     /// Whether a bare codestream is written, and no JP2 file.
     pub raw: u32,
+    /// The style of code-blocks: 2, context reset, 8, vertically causal contexts, and 32,
+    /// segmentation symbols, added (T.800 Table A.19).
+    pub style: u32,
     /// Zeros.
-    pub reserved: [u32; 4],
+    pub reserved: [u32; 3],
 }
 
 /// Whether what a coding says has a place in parameters.
@@ -55,7 +58,8 @@ fn is_known(coding: &CallerCoding) -> bool
         && coding.block_width <= 255
         && coding.block_height <= 255
         && coding.precinct_count <= 8
-        && coding.reserved == [0; 4]
+        && style_byte(style_of(coding.style)) as u32 == coding.style
+        && coding.reserved == [0; 3]
 }
 
 /// The order of a number.
@@ -126,7 +130,7 @@ pub(crate) fn parameters(alloc: Global, coding: &CallerCoding) -> Result<Paramet
         tile: tile(coding.tile_width, coding.tile_height),
         xcb: coding.block_width as u8,
         ycb: coding.block_height as u8,
-        style: Style::plain(),
+        style: style_of(coding.style),
         precincts,
         colour: coding.colour != 0,
         sop: coding.sop != 0,

@@ -254,6 +254,11 @@ fn coding<'a>(
             "Let the contexts of code-blocks begin anew with each coding pass: a pass hangs less on those before it",
         ),
         Word(
+            "causal",
+            Form::Flag,
+            "Let no stripe of a code-block depend on the stripe of four rows below it, as some hardware asks",
+        ),
+        Word(
             "segments",
             Form::Flag,
             "End each cleanup pass of code-blocks with a segmentation symbol, by which damage is seen",

@@ -72,8 +72,9 @@ fn in_size(bytes: &[u8], at: usize) -> Option<&'static str> {
     None
 }
 
-/// The styles of code-blocks that are read: context reset and segmentation symbols.
-const READ_STYLES: u8 = 0x22;
+/// The styles of code-blocks that are read: context reset, vertically causal contexts and
+/// segmentation symbols.
+const READ_STYLES: u8 = 0x2A;
 
 /// What the last two bytes of a coding style ask for: the style of code-blocks and the transform
 /// (T.800 A.6.1, tables A.19 and A.20).
@@ -82,9 +83,7 @@ fn in_style(bytes: &[u8], at: usize) -> Option<&'static str> {
         return Some("the irreversible transform 9/7");
     }
     if byte(bytes, at) & !READ_STYLES != 0 {
-        return Some(
-            "a style of code-blocks (bypass, termination, causal contexts or predictable termination)",
-        );
+        return Some("a style of code-blocks (bypass, termination or predictable termination)");
     }
     None
 }

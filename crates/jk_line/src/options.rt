@@ -43,7 +43,7 @@ pub(crate) fn encoding(alloc: Global, line: &ArgMatches<'_>) -> Result<EncodeOpt
         block_y: number(line, "block-y", given.block_y),
         style: Style {
             reset: line.get_flag("reset"),
-            causal: false,
+            causal: line.get_flag("causal"),
             segments: line.get_flag("segments"),
         },
         precincts: String::from_str(alloc, line.get_str("precincts").unwrap_or(""))?,

@@ -1,9 +1,8 @@
 -- Headers are copied without the segments of a marker.
-use Rattle.std.proofs.Common.{◌≡◌, ℕ, zero, suc, ◌+◌, ◌-◌, ◌^◌, ◌<◌, ◌≤◌, Bool, true, false, not, ◌||◌, cond, eqb, ltb, List, [], ◌∷◌, ◌++◌, length, take, drop, get_or, replicate, Some, None, refl, sym, ap, ◌∙◌, inl, inr, append_assoc, length-append, lit<, arith}
+use Rattle.std.proofs.Common.{◌≡◌, ℕ, zero, suc, ◌+◌, ◌-◌, ◌^◌, ◌<◌, ◌≤◌, Bool, true, false, not, ◌||◌, cond, eqb, ltb, List, [], ◌∷◌, ◌++◌, length, take, drop, replicate, refl, sym, ap, ◌∙◌, append_assoc, length-append, lit<, arith}
 use Rattle.std.specs.List.{flat_map, concat, AllByRecursion}
-use Rattle.std.proofs.lemmas.Bool.{true≢false, false_from_ne_true, or_from, and_right, eq-eqb, ne_eqb, le-ltb, cases_Bool}
+use Rattle.std.proofs.lemmas.Bool.{true≢false, false_from_ne_true, or_from, and_right, eq-eqb, ne_eqb, le-ltb}
 use Rattle.std.specs.Prelude.{Result, Ok, Err, OnOk}
-use Rattle.std.proofs.Math.Nat.{mod-eq_of_lt}
 use Rattle.jk_math.specs.declared.fault.Fault.{Fault}
 use Rattle.std.proofs.lemmas.List.{drop_at, take_at}
 use Rattle.byteorder.specs.Endian.{big_number, big_bytes}
@@ -13,11 +12,11 @@ use Rattle.jk_marks.specs.declared.segments.Cod.{Cod}
 use Rattle.jk_marks.specs.declared.segments.CodingStyle.{CodingStyle}
 use Rattle.jk_marks.specs.declared.head.Heading.{Heading}
 use Rattle.jk_marks.specs.declared.head.Heading.TheVariants.{MainHeader}
-use Rattle.jk_marks.specs.Markers.{soc, siz, cod, coc, qcd, qcc, tlm, plt, sot, sod, eoc, marker_text, is_listed, is_alone}
+use Rattle.jk_marks.specs.Markers.{soc, siz, cod, coc, qcd, qcc, tlm, plt, sot, sod, marker_text, is_listed, is_alone}
 use Rattle.jk_marks.specs.Siz.{siz_text, siz_length, grid_text, component_text}
 use Rattle.jk_marks.specs.Segments.{Segment, CodSegment, CocSegment, QcdSegment, QccSegment, Passed, Alone, IsSegment, contents, segment_body, segment_text, marker_of, is_passed, is_foreign}
-use Rattle.jk_marks.specs.Codestream.{Part, main_text, sot_text, part_text, part_length, psot, heading_of, IsMain, IsPart, BeginsMain, BeginsWith}
-use Rattle.jk_marks.specs.Copying.{is_passed_as, kept_segments, part_with, segment_size, kept_front, kept_at, size_at, main_kept_at, main_size_at, part_kept_at}
+use Rattle.jk_marks.specs.Codestream.{Part, main_text, sot_text, part_text, psot, heading_of, IsMain, IsPart, BeginsMain, BeginsWith}
+use Rattle.jk_marks.specs.Copying.{is_passed_as, kept_segments, segment_size, kept_front, kept_at, size_at, main_kept_at, main_size_at, part_kept_at}
 use Rattle.jk_marks.proofs.SegmentLaws.{coc_length, style_length, precincts_few}
 use Rattle.jk_marks.proofs.HeadLaws.{apart}
 use Rattle.jk_marks.proofs.HeadAgain.{EndsHeader, alone_not_passed, not_last, narrow_marker}

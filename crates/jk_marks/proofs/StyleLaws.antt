@@ -10,8 +10,7 @@ use Rattle.jk_marks.specs.declared.segments.CodingStyle.{CodingStyle}
 use Rattle.jk_marks.specs.Place.{Place}
 use Rattle.jk_marks.specs.Precincts.{precinct_byte}
 use Rattle.jk_math.specs.declared.style.Style.{Style}
-use Rattle.jk_math.specs.Styles.{plain_style}
-use Rattle.jk_marks.specs.BlockStyle.{bit_of, style_byte, style_of, is_read}
+use Rattle.jk_marks.specs.BlockStyle.{bit_of, style_byte, style_of}
 use Rattle.jk_marks.specs.Segments.{IsStyle, ArePrecincts, style_text, given_bit}
 use Rattle.jk_marks.specs.Reading.{number, precinct_at, precincts_at, given_precincts_at, levels_at, block_at, block_style_at, transform_at, style_at}
 use Rattle.jk_math.proofs.Laws.{AreBytes}
@@ -223,18 +222,17 @@ block_again x y p rest e s room =
     again ∙ ap (λ a. Ok ((a, y - 2 + 2), ahead 1 rest (ahead 1 ((y - 2) ∷ rest) p))) ex ∙ ap (λ b. Ok ((x, b), ahead 1 rest (ahead 1 ((y - 2) ∷ rest) p))) ey
     ∙ ap (λ (q : Place). Ok ((x, y), q)) (ahead_twice 1 1 2 rest ((y - 2) ∷ rest) p refl)
 
-pub block_style_goes : (s : Style) (p q : Place) → AreBytes p.rest → block_style_at p ≡ Ok (s, q) → Goes p (style_byte s ∷ []) q × (is_read s ≡ true)
+pub block_style_goes : (s : Style) (p q : Place) → AreBytes p.rest → block_style_at p ≡ Ok (s, q) → Goes p (style_byte s ∷ []) q
 unfolding block_style_at
 block_style_goes s p q fits e =
     let t : Style × Place = (s, q) in
     bind_then (number 1 p) _ t e (λ byte s1 e.
     refuse_then (leb 128 byte.0) BadValue _ t e (λ legal e.
     refuse_then (not (eqb (style_byte (style_of byte.0)) byte.0)) Unsupported _ t e (λ known e.
-    refuse_then (not (is_read (style_of byte.0))) Unsupported _ t e (λ read e.
     let g1 = byte_goes byte.0 p byte.1 fits s1 in
     let text : byte.0 ∷ [] ≡ style_byte (style_of byte.0) ∷ [] = ap (λ a. a ∷ []) (sym (eqb-true _ _ (not-false _ known))) in
     let gone = goes_as p (byte.0 ∷ []) (style_byte (style_of byte.0) ∷ []) byte.1 g1.0 text in
-    subst (λ (r : Style × Place). Goes p (style_byte r.0 ∷ []) r.1 × (is_read r.0 ≡ true)) (ok_is (style_of byte.0, byte.1) t e) (gone, not-false _ read)))))
+    subst (λ (r : Style × Place). Goes p (style_byte r.0 ∷ []) r.1) (ok_is (style_of byte.0, byte.1) t e) gone)))
 
 -- a style has its byte
 pub style_back : (reset causal segments : Bool) → let s : Style = record { reset = reset; causal = causal; segments = segments } in style_of (style_byte s) ≡ s
@@ -247,24 +245,19 @@ style_back true false true = refl
 style_back true true false = refl
 style_back true true true = refl
 
--- where nothing is coded otherwise, it is read
-pub plain_read : is_read plain_style ≡ true
-unfolding is_read
-plain_read = refl
-
 bit_few : (b : Bool) → bit_of b ≤ 1
 bit_few true = omega arith
 bit_few false = omega arith
 
-pub block_style_again : (s : Style) (p : Place) (rest : List ℕ) → p.rest ≡ style_byte s ∷ rest → is_read s ≡ true → 1 ≤ p.room → block_style_at p ≡ Ok (s, ahead 1 rest p)
+pub block_style_again : (s : Style) (p : Place) (rest : List ℕ) → p.rest ≡ style_byte s ∷ rest → 1 ≤ p.room → block_style_at p ≡ Ok (s, ahead 1 rest p)
 unfolding block_style_at
-block_style_again s p rest e read room =
+block_style_again s p rest e room =
     let few : style_byte s ≤ 42 = omega (arith, bit_few s.reset, bit_few s.causal, bit_few s.segments) in
     let s1 = byte_again (style_byte s) p rest e (omega (arith, few)) room in
     let legal : leb 128 (style_byte s) ≡ false = lt-leb _ _ (omega (arith, few)) in
     let back = style_back s.reset s.causal s.segments in
     let known : eqb (style_byte (style_of (style_byte s))) (style_byte s) ≡ true = eq-eqb _ _ (ap style_byte back) in
-    let again : block_style_at p ≡ Ok (style_of (style_byte s), ahead 1 rest p) = rw (s1, legal, known, ap is_read back ∙ read) refl in
+    let again : block_style_at p ≡ Ok (style_of (style_byte s), ahead 1 rest p) = rw (s1, legal, known) refl in
     again ∙ ap (λ (k : Style). Ok (k, ahead 1 rest p)) back
 
 pub transform_goes : (u : Unit {0}) (p q : Place) → AreBytes p.rest → transform_at p ≡ Ok (u, q) → Goes p (1 ∷ []) q
@@ -318,14 +311,14 @@ style_goes size fixed given k p q fits e =
     let g1 = levels_goes size fixed given levels.0 p levels.1 fits s1 in
     let g2 = block_goes block.0 levels.1 block.1 g1.gone.bytes s2 in
     let g3 = block_style_goes style.0 block.1 style.1 g2.0.bytes s3 in
-    let g4 = transform_goes transform.0 style.1 transform.1 g3.0.bytes s4 in
+    let g4 = transform_goes transform.0 style.1 transform.1 g3.bytes s4 in
     let g5 = given_goes given levels.0 all.0 transform.1 all.1 g4.bytes s5 in
     let sides : List ℕ = (block.0.0 - 2) ∷ (block.0.1 - 2) ∷ [] in
     let sizes = map precinct_byte all.0 in
     let byte = style_byte style.0 in
     let gone = goes_then p (levels.0 ∷ []) levels.1 (sides ++ (byte ∷ 1 ∷ sizes)) all.1 g1.gone
     (goes_then levels.1 sides block.1 (byte ∷ 1 ∷ sizes) all.1 g2.0
-    (goes_then block.1 (byte ∷ []) style.1 (1 ∷ sizes) all.1 g3.0 (goes_then style.1 (1 ∷ []) transform.1 sizes all.1 g4 g5.0))) in
+    (goes_then block.1 (byte ∷ []) style.1 (1 ∷ sizes) all.1 g3 (goes_then style.1 (1 ∷ []) transform.1 sizes all.1 g4 g5.0))) in
     let coding : CodingStyle = record { levels = levels.0; xcb = block.0.0; ycb = block.0.1; style = style.0; precincts = all.0 } in
     let is : IsStyle coding = record {
       levels = g1.few;
@@ -334,7 +327,6 @@ style_goes size fixed given k p q fits e =
       low = g2.1.low;
       high = g2.1.high;
       area = g2.1.area;
-      read = g3.1;
       precincts = g5.1;
     } in
     let here : IsRead size fixed given coding p all.1 = record { gone = gone; is = is; size-is = g1.size-is ∙ ap (λ n. fixed + n) (sym g5.2); given-is = g5.3 } in
@@ -383,7 +375,7 @@ style_again size fixed given k p rest e is same size-is room =
     let size-of = size_of given k.levels k.precincts is.precincts.count same in
     let s1 = levels_again size fixed given k.levels p r1 e is.levels (size-is ∙ ap (λ m. fixed + m) size-of) (omega (arith, room)) in
     let s2 = block_again k.xcb k.ycb p1 r2 refl (record { narrow = is.narrow; wide = is.wide; low = is.low; high = is.high; area = is.area }) (omega (arith, room)) in
-    let s3 = block_style_again k.style p2 r3 refl is.read (omega (arith, room)) in
+    let s3 = block_style_again k.style p2 r3 refl (omega (arith, room)) in
     let s4 = transform_again p3 r4 refl (omega (arith, room)) in
     let s5 = given_again given k.levels k.precincts p4 rest refl is.precincts same (omega (arith, room)) in
     let again : style_at size fixed given p ≡ Ok (k, ahead n rest p4) = rw (s1, s2, s3, s4, s5) refl in

@@ -1,5 +1,5 @@
 -- The byte of a code-block style (T.800 table A.19).
-use Rattle.std.specs.Prelude.{ℕ, ◌+◌, ◌*◌, ◌/◌, ◌%◌, ◌==◌, Bool, not, true, false}
+use Rattle.std.specs.Prelude.{ℕ, ◌+◌, ◌*◌, ◌/◌, ◌%◌, ◌==◌, Bool, true, false}
 use Rattle.jk_math.specs.declared.style.Style.{Style}
 
 abbrev pub bit_of : Bool → ℕ
@@ -13,7 +13,3 @@ style_byte s = 2 * bit_of s.reset + 8 * bit_of s.causal + 32 * bit_of s.segments
 -- what these bits of a byte say
 abbrev pub style_of : ℕ → Style
 style_of byte = record { reset = byte / 2 % 2 == 1; causal = byte / 8 % 2 == 1; segments = byte / 32 % 2 == 1 }
-
--- The styles that are read: not those with vertically causal contexts.
-unfoldable pub is_read : Style → Bool
-is_read s = not s.causal

@@ -1,5 +1,5 @@
 -- The head of a tile-part, SOT to SOD (T.800 A.4.2), without PLT (A.7.3), apart from its data.
-use Rattle.std.specs.Prelude.{ℕ, ◌+◌, Bool, ◌==◌, nat_lt, is_some, if◌then◌else◌, List, [], ◌∷◌, ◌++◌, length, take}
+use Rattle.std.specs.Prelude.{ℕ, ◌+◌, ◌==◌, nat_lt, is_some, if◌then◌else◌, List, [], ◌∷◌, ◌++◌, length, take}
 use Rattle.std.specs.Prelude.{drop, slice_index, Option, Some, None}
 use Rattle.std.specs.List.{flat_map}
 use Rattle.byteorder.specs.Endian.{big_number}

@@ -18,7 +18,7 @@ use Rattle.jk_marks.specs.Place.{Place, past, outside}
 use Rattle.jk_marks.specs.Segments.{is_coded, is_passed}
 use Rattle.jk_marks.specs.Codestream.{head_of}
 use Rattle.jk_marks.specs.Exponents.{exponents_of}
-use Rattle.jk_marks.specs.BlockStyle.{style_byte, style_of, is_read}
+use Rattle.jk_marks.specs.BlockStyle.{style_byte, style_of}
 use Rattle.jk_marks.specs.OrderCode.{order_with}
 
 -- a number of n bytes
@@ -79,7 +79,6 @@ block_style_at p = do
   byte ← number 1 p
   _ ← refuse (nat_le 128 byte.0) BadValue
   _ ← refuse (not (style_byte (style_of byte.0) == byte.0)) Unsupported
-  _ ← refuse (not (is_read (style_of byte.0))) Unsupported
   Ok (style_of byte.0, byte.1)
 
 -- the transform, which is the reversible 5-3 filter (table A.20)

@@ -10,7 +10,7 @@ use Rattle.jk_marks.specs.declared.segments.Quantisation.{Quantisation}
 use Rattle.jk_marks.specs.declared.head.Heading.{Heading}
 use Rattle.jk_marks.specs.declared.head.Heading.TheVariants.{MainHeader, FirstPart, LaterPart}
 use Rattle.jk_marks.specs.OrderCode.{order_code}
-use Rattle.jk_marks.specs.BlockStyle.{bit_of, style_byte, is_read}
+use Rattle.jk_marks.specs.BlockStyle.{bit_of, style_byte}
 use Rattle.jk_marks.specs.Precincts.{precinct_byte}
 use Rattle.jk_marks.specs.Exponents.{exponents_of}
 use Rattle.jk_marks.specs.Markers.{cod, coc, qcd, qcc, tlm, plt, crg, comment, marker_text, is_listed, is_alone}
@@ -57,7 +57,6 @@ pub record IsStyle (k : CodingStyle) : Type 0 where
   pub low : 2 ≤ k.ycb
   pub high : k.ycb ≤ 10
   pub area : k.xcb + k.ycb ≤ 12
-  pub read : is_read k.style ≡ true
   pub precincts : ArePrecincts k.levels k.precincts
 
 -- the same of COD, with the number of components

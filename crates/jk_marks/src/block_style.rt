@@ -1,7 +1,7 @@
 //! The byte of a code-block style.
 
 ghost use Rattle.std.specs.Prelude.{◌≡◌};
-ghost use Rattle.jk_marks.specs.BlockStyle.{bit_of, style_byte, style_of, is_read};
+ghost use Rattle.jk_marks.specs.BlockStyle.{bit_of, style_byte, style_of};
 
 use jk_math::Style;
 
@@ -13,14 +13,14 @@ pub(crate) fn bit(value: bool) -> u8
 }
 
 /// The byte of a style.
-pub(crate) fn style_byte(style: Style) -> u8
+pub fn style_byte(style: Style) -> u8
     ensures { result ≡ style_byte style }
 {
     2 * bit(style.reset) + 8 * bit(style.causal) + 32 * bit(style.segments)
 }
 
 /// The style that a byte says.
-pub(crate) fn style_of(byte: u8) -> Style
+pub fn style_of(byte: u32) -> Style
     ensures { result ≡ style_of byte }
 {
     Style {
@@ -28,12 +28,4 @@ pub(crate) fn style_of(byte: u8) -> Style
         causal: byte / 8 % 2 == 1,
         segments: byte / 32 % 2 == 1,
     }
-}
-
-/// Whether code-blocks of a style are read.
-#[tactic(auto, unfolding(crate::specs::BlockStyle::is_read))]
-pub fn is_read(style: Style) -> bool
-    ensures { result ≡ is_read style }
-{
-    !style.causal
 }

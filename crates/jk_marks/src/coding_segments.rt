@@ -5,7 +5,7 @@ ghost use Rattle.jk_math.specs.Answer.{Reads};
 ghost use Rattle.jk_marks.specs.Reading.{precinct_at, precincts_at, given_precincts_at, levels_at, block_at};
 ghost use Rattle.jk_marks.specs.Reading.{block_style_at, transform_at, style_at, cod_at, component_at, coc_at};
 
-use crate::block_style::{is_read, style_byte, style_of};
+use crate::block_style::{style_byte, style_of};
 use crate::cursor::Cursor;
 use crate::segments::{Cod, CodingStyle, Order, Precincts};
 use jk_math::{Fault, Style};
@@ -83,11 +83,8 @@ fn read_block_style(cursor: &mut Cursor<'_>) -> Result<Style, Fault>
     if byte >= 128 {
         return Err(Fault::BadValue);
     }
-    let style = style_of(byte);
+    let style = style_of(byte as u32);
     if style_byte(style) != byte {
-        return Err(Fault::Unsupported);
-    }
-    if !is_read(style) {
         return Err(Fault::Unsupported);
     }
     Ok(style)

@@ -18,7 +18,7 @@ mod spelling;
 mod tile_part;
 mod write;
 
-pub use block_style::is_read;
+pub use block_style::{style_byte, style_of};
 pub use coding::Coding;
 pub use copying::copy_main;
 pub use cursor::Cursor;

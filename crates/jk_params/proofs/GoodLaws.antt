@@ -23,7 +23,6 @@ use Rattle.jk_marks.specs.HeaderReading.{part_at}
 use Rattle.jk_math.proofs.Laws.{AreBytes, are_bytes_after}
 use Rattle.jk_marks.proofs.Laws.{found_part}
 use Rattle.jk_geom.specs.TileShapes.{AreCodings}
-use Rattle.jk_marks.proofs.StyleLaws.{plain_read}
 use Rattle.jk_params.specs.Coding.{coding_with}
 use Rattle.jk_params.specs.CodingReading.{style_in as own_style, quantisation_in, coding_at, codings_from, codings_at, HaveStyles}
 use Rattle.jk_params.specs.Headers.{TileFields, tile_in, no_fields}
@@ -93,7 +92,6 @@ no_style = record {
   low = lit≤ tt;
   high = lit≤ tt;
   area = lit≤ tt;
-  read = plain_read;
   precincts = record { count = inl refl; small = tt; whole = tt };
 }
 

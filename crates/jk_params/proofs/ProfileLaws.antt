@@ -19,7 +19,6 @@ use Rattle.jk_geom.specs.Rectangles.{tile_area}
 use Rattle.jk_geom.specs.Precincts.{precincts_across, precincts_down, precinct_number}
 use Rattle.jk_geom.specs.Counts.{precincts_below, packet_number}
 use Rattle.jk_geom.specs.TileShapes.{no_coding, AreCodings}
-use Rattle.jk_marks.specs.BlockStyle.{is_read}
 use Rattle.jk_params.specs.declared.parameters.Parameters.{Parameters}
 use Rattle.jk_params.specs.Tiling.{first_tile, tile_side}
 use Rattle.jk_params.specs.Coding.{coding_with}
@@ -69,7 +68,6 @@ record AreSizes (q : Parameters) : Type 0 where
   low : 2 ≤ q.ycb
   high : q.ycb ≤ 10
   area : q.xcb + q.ycb ≤ 12
-  style : is_read q.style ≡ true
 
 sizes_are : (q : Parameters) → are_sizes q ≡ true → AreSizes q
 sizes_are q e =
@@ -80,9 +78,7 @@ sizes_are q e =
     let a5 = a4 && leb q.xcb 10 in
     let a6 = a5 && leb 2 q.ycb in
     let a7 = a6 && leb q.ycb 10 in
-    let a8 = a7 && leb (q.xcb + q.ycb) 12 in
-    let t9 = and_parts a8 (is_read q.style) e in
-    let t8 = and_parts a7 (leb (q.xcb + q.ycb) 12) t9.0 in
+    let t8 = and_parts a7 (leb (q.xcb + q.ycb) 12) e in
     let t7 = and_parts a6 (leb q.ycb 10) t8.0 in
     let t6 = and_parts a5 (leb 2 q.ycb) t7.0 in
     let t5 = and_parts a4 (leb q.xcb 10) t6.0 in
@@ -98,7 +94,6 @@ sizes_are q e =
       low = leb-true 2 q.ycb t6.1;
       high = leb-true q.ycb 10 t7.1;
       area = leb-true (q.xcb + q.ycb) 12 t8.1;
-      style = t9.1;
     }
 
 -- exponents of which each passes a test
@@ -141,7 +136,6 @@ style_fits q sizes precincts =
       low = s.low;
       high = s.high;
       area = s.area;
-      read = s.style;
       precincts = precincts_are q.levels q.precincts.items precincts;
     }
 

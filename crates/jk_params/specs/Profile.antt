@@ -6,7 +6,6 @@ use Rattle.jk_math.specs.Picture.{Picture, is_grey_or_rgb}
 use Rattle.jk_marks.specs.declared.siz.Siz.{Siz}
 use Rattle.jk_marks.specs.declared.segments.Cod.{Cod}
 use Rattle.jk_marks.specs.declared.coding.Coding.{Coding}
-use Rattle.jk_marks.specs.BlockStyle.{is_read}
 use Rattle.jk_marks.specs.Siz.{IsSiz}
 use Rattle.jk_marks.specs.Coding.{IsCoding}
 use Rattle.jk_marks.specs.Segments.{IsCod}
@@ -52,12 +51,11 @@ cod_of q = record {
   style = record { levels = q.levels; xcb = q.xcb; ycb = q.ycb; style = q.style; precincts = q.precincts.items };
 }
 
--- 1 to 32 layers, up to 5 levels, code-blocks of at most 4096 coefficients, in a style that is read
+-- 1 to 32 layers, up to 5 levels, code-blocks of at most 4096 coefficients
 abbrev pub are_sizes : Parameters → Bool
 are_sizes q =
     nat_le q.levels 5 && nat_le 1 q.layers && nat_le q.layers 32
     && nat_le 2 q.xcb && nat_le q.xcb 10 && nat_le 2 q.ycb && nat_le q.ycb 10 && nat_le (q.xcb + q.ycb) 12
-    && is_read q.style
 
 -- no precinct sizes, or one for each resolution, with 0 only at the lowest
 abbrev pub are_precincts : ℕ → List (ℕ × ℕ) → Bool

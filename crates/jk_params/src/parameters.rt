@@ -27,7 +27,7 @@ pub struct Parameters {
     pub xcb: u8,
     /// The exponent of a code-block's height, 2 to 10.
     pub ycb: u8,
-    /// The style of code-blocks; vertically causal contexts aren't written.
+    /// The style of code-blocks.
     pub style: Style,
     /// Pairs of exponents PPx and PPy of precinct sizes, 0 to 15, one for each resolution from the
     /// lowest on, with 0 only there; none where they aren't given.

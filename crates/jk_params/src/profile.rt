@@ -17,10 +17,10 @@ use crate::coding::coding;
 use crate::count::count_alike;
 use crate::parameters::{Container, Parameters};
 use jk_geom::Codings;
-use jk_marks::{Cod, Coding, CodingStyle, Exponents, Precincts, Quantisation, Siz, is_read};
+use jk_marks::{Cod, Coding, CodingStyle, Exponents, Precincts, Quantisation, Siz};
 use jk_math::{Fault, Image};
 
-/// Whether levels, layers, code-block sizes and the style of code-blocks are within the profile.
+/// Whether levels, layers and code-block sizes are within the profile.
 fn sizes(parameters: &Parameters) -> bool
     ensures { result ≡ are_sizes parameters.now }
 {
@@ -32,7 +32,6 @@ fn sizes(parameters: &Parameters) -> bool
         && 2 <= parameters.ycb
         && parameters.ycb <= 10
         && parameters.xcb + parameters.ycb <= 12
-        && is_read(parameters.style)
 }
 
 /// Whether each exponent is at most 15.

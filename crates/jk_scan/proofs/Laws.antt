@@ -1,7 +1,7 @@
 -- What crates above may cite.
 pub use Rattle.jk_scan.proofs.Numbers.{number_row, number_room, inside_parts, number_same, number_below}
 pub use Rattle.jk_scan.proofs.Moments.{same_field, touched_same, so_far, spread_is, found_is, pass_is, not_old, moment_old, moment_spread, moment_left, Case, cases_of, significant_early, Agree, agree_old, agree_found, agree_spread, agree_pass, agree_moment, number_first, agree_coded, agree_turned, agree_significant, agree_before, agree_joined, number_one, place_any, moment_is, significant_is, place_one, significant_later}
-pub use Rattle.jk_scan.proofs.Signs.{sign_same, touched_grows, touched_none, empty_spread}
+pub use Rattle.jk_scan.proofs.Stripes.{seen_is, seen_agrees, seen_own, seen_also, row_stripe, touched_seen, zero_seen_in, sign_seen_in, touched_more, touched_nothing, sign_alike, empty_spread}
 pub use Rattle.jk_scan.proofs.BitLaws.{on_or, on_and, on_not, on_zero, on_one, on_set, on_mod, on_above, on_shl_any, on_shl_low, on_shr, on_shr_at}
 pub use Rattle.jk_scan.proofs.Patterns.{firsts}
 pub use Rattle.jk_scan.proofs.Neighbours.{touched_is, near_is, shown_at}

@@ -1,6 +1,7 @@
 pub mod Numbers
 pub mod Moments
 pub mod Signs
+pub mod Stripes
 pub mod Laws
 pub mod ZeroContexts
 pub mod BitLaws

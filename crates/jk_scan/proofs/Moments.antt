@@ -6,7 +6,7 @@ use Rattle.std.proofs.lemmas.Nat.{same_from_place}
 use Rattle.std.proofs.lemmas.Bool.{cases_lt}
 use Rattle.std.proofs.lemmas.Bool.Decides.{nat_tests}
 use Rattle.jk_scan.specs.declared.shape.BlockShape.{BlockShape}
-use Rattle.jk_scan.specs.Neighbours.{Field, is_inside, touched}
+use Rattle.jk_scan.specs.Neighbours.{Field, is_inside, touched_in}
 use Rattle.jk_scan.specs.Moments.{number, visits, old, found, spread, pass_of, moment, is_coded, significant}
 use Rattle.jk_scan.proofs.Numbers.{inside_parts, number_same, number_below}
 
@@ -14,35 +14,35 @@ use Rattle.jk_scan.proofs.Numbers.{inside_parts, number_same, number_below}
 pub same_field : {X : Type 0} (f g : Field X) → ((x y : ℕ) → f x y ≡ g x y) → f ≡ g
 same_field f g h = fun_ext (λ x. fun_ext (λ y. h x y))
 
-pub touched_same : (f g : Field Bool) (x y : ℕ) → ((x y : ℕ) → f x y ≡ g x y) → touched f x y ≡ touched g x y
-touched_same f g x y h = ap (λ f. touched f x y) (same_field f g h)
+pub touched_same : (s : BlockShape) (f g : Field Bool) (x y : ℕ) → ((x y : ℕ) → f x y ≡ g x y) → touched_in s f x y ≡ touched_in s g x y
+touched_same s f g x y h = ap (λ f. touched_in s f x y) (same_field f g h)
 
 -- What is significant while the significance propagation pass stands at the number k.
-abbrev pub so_far : ℕ → Field ℕ → ℕ → Field Bool
-so_far w a k x y = old a x y || found w a k x y
+abbrev pub so_far : BlockShape → Field ℕ → ℕ → Field Bool
+so_far s a k x y = old a x y || found s a k x y
 
-pub spread_is : (w : ℕ) (a : Field ℕ) (x y : ℕ) → spread w a x y ≡ (not (old a x y) && touched (so_far w a (number w x y)) x y)
+pub spread_is : (s : BlockShape) (a : Field ℕ) (x y : ℕ) → spread s a x y ≡ (not (old a x y) && touched_in s (so_far s a (number s.width x y)) x y)
 unfolding spread
-spread_is w a x y = refl
+spread_is s a x y = refl
 
-pub found_is : (w : ℕ) (a : Field ℕ) (k x y : ℕ) → found w a k x y ≡ (nat_eq (a x y) 1 && (spread w a x y && nat_lt (number w x y) k))
+pub found_is : (s : BlockShape) (a : Field ℕ) (k x y : ℕ) → found s a k x y ≡ (nat_eq (a x y) 1 && (spread s a x y && nat_lt (number s.width x y) k))
 unfolding found
-found_is w a zero x y = let e : false ≡ (nat_eq (a x y) 1 && (spread w a x y && nat_lt (number w x y) 0)) = grind (arith, nat_tests) in e
-found_is w a (suc k) x y =
-    one_more (a x y) (number w x y) (found w a k x y) (spread w a x y) (touched (so_far w a k) x y) (touched (so_far w a (number w x y)) x y) (found_is w a k x y) (spread_is w a x y)
-    (λ e. ap (λ k. touched (so_far w a k) x y) (sym e))
+found_is s a zero x y = let e : false ≡ (nat_eq (a x y) 1 && (spread s a x y && nat_lt (number s.width x y) 0)) = grind (arith, nat_tests) in e
+found_is s a (suc k) x y =
+    one_more (a x y) (number s.width x y) (found s a k x y) (spread s a x y) (touched_in s (so_far s a k) x y) (touched_in s (so_far s a (number s.width x y)) x y) (found_is s a k x y) (spread_is s a x y)
+    (λ e. ap (λ k. touched_in s (so_far s a k) x y) (sym e))
   where
     one_more : (m n : ℕ) (f s t u : Bool) → f ≡ (nat_eq m 1 && (s && nat_lt n k)) → s ≡ (not (nat_le 2 m) && u) → (n ≡ k → t ≡ u)
         → (f || (nat_eq n k && (nat_eq m 1 && t))) ≡ (nat_eq m 1 && (s && nat_lt n (suc k)))
     one_more m n f s t u e g h = grind (arith, nat_tests)
 
 -- the pass of a place, by cases
-pub pass_is : (w : ℕ) (a : Field ℕ) (x y : ℕ) → pass_of w a x y ≡ cond (old a x y) 1 (cond (spread w a x y) 0 2)
+pub pass_is : (s : BlockShape) (a : Field ℕ) (x y : ℕ) → pass_of s a x y ≡ cond (old a x y) 1 (cond (spread s a x y) 0 2)
 unfolding pass_of
-pass_is w a x y = refl
+pass_is s a x y = refl
 
-pub not_old : (w : ℕ) (a : Field ℕ) (x y : ℕ) → spread w a x y ≡ true → old a x y ≡ false
-not_old w a x y h = let e = spread_is w a x y in gate (old a x y) (spread w a x y) (touched (so_far w a (number w x y)) x y) e h
+pub not_old : (s : BlockShape) (a : Field ℕ) (x y : ℕ) → spread s a x y ≡ true → old a x y ≡ false
+not_old s a x y h = let e = spread_is s a x y in gate (old a x y) (spread s a x y) (touched_in s (so_far s a (number s.width x y)) x y) e h
   where
     gate : (o s t : Bool) → s ≡ (not o && t) → s ≡ true → o ≡ false
     gate true s t e h = let c : false ≡ true = sym e ∙ h in absurd cc
@@ -50,21 +50,21 @@ not_old w a x y h = let e = spread_is w a x y in gate (old a x y) (spread w a x 
 
 pub moment_old : (s : BlockShape) (a : Field ℕ) (x y : ℕ) → old a x y ≡ true → moment s a x y ≡ visits s + number s.width x y
 unfolding moment
-moment_old s a x y h = ap (λ p. p * visits s + number s.width x y) (pass_is s.width a x y ∙ ap (λ o. cond o 1 (cond (spread s.width a x y) 0 2)) h) ∙ (let e : 1 * visits s + number s.width x y ≡ visits s + number s.width x y = omega arith in e)
+moment_old s a x y h = ap (λ p. p * visits s + number s.width x y) (pass_is s a x y ∙ ap (λ o. cond o 1 (cond (spread s a x y) 0 2)) h) ∙ (let e : 1 * visits s + number s.width x y ≡ visits s + number s.width x y = omega arith in e)
 
-pub moment_spread : (s : BlockShape) (a : Field ℕ) (x y : ℕ) → spread s.width a x y ≡ true → moment s a x y ≡ number s.width x y
+pub moment_spread : (s : BlockShape) (a : Field ℕ) (x y : ℕ) → spread s a x y ≡ true → moment s a x y ≡ number s.width x y
 unfolding moment
 moment_spread s a x y h =
     ap (λ p. p * visits s + number s.width x y)
-    (pass_is s.width a x y ∙ ap (λ o. cond o 1 (cond (spread s.width a x y) 0 2)) (not_old s.width a x y h) ∙ ap (λ b. cond b 0 2) h)
+    (pass_is s a x y ∙ ap (λ o. cond o 1 (cond (spread s a x y) 0 2)) (not_old s a x y h) ∙ ap (λ b. cond b 0 2) h)
     ∙ (let e : 0 * visits s + number s.width x y ≡ number s.width x y = omega arith in e)
 
-pub moment_left : (s : BlockShape) (a : Field ℕ) (x y : ℕ) → old a x y ≡ false → spread s.width a x y ≡ false → moment s a x y ≡ 2 * visits s + number s.width x y
+pub moment_left : (s : BlockShape) (a : Field ℕ) (x y : ℕ) → old a x y ≡ false → spread s a x y ≡ false → moment s a x y ≡ 2 * visits s + number s.width x y
 unfolding moment
 moment_left s a x y o h =
-    ap (λ p. p * visits s + number s.width x y) (pass_is s.width a x y ∙ ap (λ o. cond o 1 (cond (spread s.width a x y) 0 2)) o ∙ ap (λ b. cond b 0 2) h)
+    ap (λ p. p * visits s + number s.width x y) (pass_is s a x y ∙ ap (λ o. cond o 1 (cond (spread s a x y) 0 2)) o ∙ ap (λ b. cond b 0 2) h)
 
-pub moment_is : (s : BlockShape) (a : Field ℕ) (x y : ℕ) → moment s a x y ≡ pass_of s.width a x y * visits s + number s.width x y
+pub moment_is : (s : BlockShape) (a : Field ℕ) (x y : ℕ) → moment s a x y ≡ pass_of s a x y * visits s + number s.width x y
 unfolding moment
 moment_is s a x y = refl
 
@@ -75,36 +75,36 @@ significant_is s a t x y = refl
 -- the three cases of a place
 pub record Case (s : BlockShape) (a : Field ℕ) (x y : ℕ) (o p : Bool) (m : ℕ) : Type 0 where
   pub old_is : old a x y ≡ o
-  pub spread_is : spread s.width a x y ≡ p
-  pub pass_is : pass_of s.width a x y ≡ m
+  pub spread_is : spread s a x y ≡ p
+  pub pass_is : pass_of s a x y ≡ m
   pub moment_is : moment s a x y ≡ m * visits s + number s.width x y
 
 pub cases_of : {R : Type 0} (s : BlockShape) (a : Field ℕ) (x y : ℕ) → (Case s a x y true false 1 → R) → (Case s a x y false true 0 → R) → (Case s a x y false false 2 → R) → R
 unfolding moment
-cases_of {R} s a x y f g h = by_old (old a x y) (spread s.width a x y) refl refl
+cases_of {R} s a x y f g h = by_old (old a x y) (spread s a x y) refl refl
   where
-    pass : (o p : Bool) → old a x y ≡ o → spread s.width a x y ≡ p → pass_of s.width a x y ≡ cond o 1 (cond p 0 2)
-    pass o p e k = pass_is s.width a x y ∙ ap (λ o. cond o 1 (cond (spread s.width a x y) 0 2)) e ∙ ap (λ p. cond o 1 (cond p 0 2)) k
+    pass : (o p : Bool) → old a x y ≡ o → spread s a x y ≡ p → pass_of s a x y ≡ cond o 1 (cond p 0 2)
+    pass o p e k = pass_is s a x y ∙ ap (λ o. cond o 1 (cond (spread s a x y) 0 2)) e ∙ ap (λ p. cond o 1 (cond p 0 2)) k
 
-    made : (o p : Bool) (m : ℕ) → old a x y ≡ o → spread s.width a x y ≡ p → cond o 1 (cond p 0 2) ≡ m → Case s a x y o p m
-    made o p m e k c = let q : pass_of s.width a x y ≡ m = pass o p e k ∙ c in record { old_is = e; spread_is = k; pass_is = q; moment_is = ap (λ p. p * visits s + number s.width x y) q }
+    made : (o p : Bool) (m : ℕ) → old a x y ≡ o → spread s a x y ≡ p → cond o 1 (cond p 0 2) ≡ m → Case s a x y o p m
+    made o p m e k c = let q : pass_of s a x y ≡ m = pass o p e k ∙ c in record { old_is = e; spread_is = k; pass_is = q; moment_is = ap (λ p. p * visits s + number s.width x y) q }
 
-    by_old : (o p : Bool) → old a x y ≡ o → spread s.width a x y ≡ p → R
-    by_old true true e k = absurd (let n = not_old s.width a x y k in let c : true ≡ false = sym e ∙ n in cc)
+    by_old : (o p : Bool) → old a x y ≡ o → spread s a x y ≡ p → R
+    by_old true true e k = absurd (let n = not_old s a x y k in let c : true ≡ false = sym e ∙ n in cc)
     by_old true false e k = f (made true false 1 e k refl)
     by_old false true e k = g (made false true 0 e k refl)
     by_old false false e k = h (made false false 2 e k refl)
 
 -- significant in the significance propagation pass
-pub significant_early : (s : BlockShape) (a : Field ℕ) (t x y : ℕ) → t ≤ visits s → significant s a t x y ≡ so_far s.width a t x y
+pub significant_early : (s : BlockShape) (a : Field ℕ) (t x y : ℕ) → t ≤ visits s → significant s a t x y ≡ so_far s a t x y
 unfolding significant
 significant_early s a t x y h =
-    let f = found_is s.width a t x y in
+    let f = found_is s a t x y in
     ap (λ b. old a x y || b)
     (cases_of s a x y
-    (λ c. at_old (a x y) (moment s a x y) (found s.width a t x y) (spread s.width a x y) c.old_is f)
-    (λ c. at_spread (a x y) (moment s a x y) (found s.width a t x y) (spread s.width a x y) c.moment_is c.spread_is f)
-    (λ c. at_left (a x y) (moment s a x y) (found s.width a t x y) (spread s.width a x y) c.moment_is c.spread_is f))
+    (λ c. at_old (a x y) (moment s a x y) (found s a t x y) (spread s a x y) c.old_is f)
+    (λ c. at_spread (a x y) (moment s a x y) (found s a t x y) (spread s a x y) c.moment_is c.spread_is f)
+    (λ c. at_left (a x y) (moment s a x y) (found s a t x y) (spread s a x y) c.moment_is c.spread_is f))
   where
     at_old : (m p : ℕ) (f q : Bool) → nat_le 2 m ≡ true → f ≡ (nat_eq m 1 && (q && nat_lt (number s.width x y) t)) → (nat_eq m 1 && nat_lt p t) ≡ f
     at_old m p f q o e = grind (arith, nat_tests)
@@ -132,39 +132,39 @@ found_step : (n k : ℕ) (f f' : Bool) (m m' : ℕ) (u u' : Bool) → f ≡ f' �
     → (f || (nat_eq n k && (nat_eq m 1 && u))) ≡ (f' || (nat_eq n k && (nat_eq m' 1 && u')))
 found_step n k f f' m m' u u' e g o q = grind (arith, nat_tests)
 
-found_more : (s : BlockShape) (a a' : Field ℕ) (t k x y : ℕ) → Agree s a a' t → suc k ≤ t → ((x y : ℕ) → found s.width a k x y ≡ found s.width a' k x y)
-    → (found s.width a k x y || (nat_eq (number s.width x y) k && (nat_eq (a x y) 1 && touched (so_far s.width a k) x y)))
-    ≡ (found s.width a' k x y || (nat_eq (number s.width x y) k && (nat_eq (a' x y) 1 && touched (so_far s.width a' k) x y)))
+found_more : (s : BlockShape) (a a' : Field ℕ) (t k x y : ℕ) → Agree s a a' t → suc k ≤ t → ((x y : ℕ) → found s a k x y ≡ found s a' k x y)
+    → (found s a k x y || (nat_eq (number s.width x y) k && (nat_eq (a x y) 1 && touched_in s (so_far s a k) x y)))
+    ≡ (found s a' k x y || (nat_eq (number s.width x y) k && (nat_eq (a' x y) 1 && touched_in s (so_far s a' k) x y)))
 found_more s a a' t k x y h l earlier =
-    found_step (number s.width x y) k (found s.width a k x y) (found s.width a' k x y) (a x y) (a' x y) (touched (so_far s.width a k) x y) (touched (so_far s.width a' k) x y)
+    found_step (number s.width x y) k (found s a k x y) (found s a' k x y) (a x y) (a' x y) (touched_in s (so_far s a k) x y) (touched_in s (so_far s a' k) x y)
     (earlier x y) same_touched (agree_old s a a' t x y h) here
   where
-    same_touched : touched (so_far s.width a k) x y ≡ touched (so_far s.width a' k) x y
-    same_touched = touched_same (so_far s.width a k) (so_far s.width a' k) x y (λ x y. let o = agree_old s a a' t x y h in let f = earlier x y in cc)
+    same_touched : touched_in s (so_far s a k) x y ≡ touched_in s (so_far s a' k) x y
+    same_touched = touched_same s (so_far s a k) (so_far s a' k) x y (λ x y. let o = agree_old s a a' t x y h in let f = earlier x y in cc)
 
-    here : number s.width x y ≡ k → touched (so_far s.width a k) x y ≡ true → old a x y ≡ false → a x y ≡ a' x y
+    here : number s.width x y ≡ k → touched_in s (so_far s a k) x y ≡ true → old a x y ≡ false → a x y ≡ a' x y
     here e u o =
-        let q : spread s.width a x y ≡ true = spread_is s.width a x y ∙ ap (λ k. not (old a x y) && touched (so_far s.width a k) x y) e ∙ ap (λ b. not (old a x y) && b) u ∙ ap (λ b. not b && true) o in
+        let q : spread s a x y ≡ true = spread_is s a x y ∙ ap (λ k. not (old a x y) && touched_in s (so_far s a k) x y) e ∙ ap (λ b. not (old a x y) && b) u ∙ ap (λ b. not b && true) o in
         h.coded x y (let m = moment_spread s a x y q in grind (arith, nat_tests))
 
-pub agree_found : (s : BlockShape) (a a' : Field ℕ) (t k x y : ℕ) → Agree s a a' t → k ≤ t → found s.width a k x y ≡ found s.width a' k x y
+pub agree_found : (s : BlockShape) (a a' : Field ℕ) (t k x y : ℕ) → Agree s a a' t → k ≤ t → found s a k x y ≡ found s a' k x y
 unfolding found
 agree_found s a a' t zero x y h l = refl
 agree_found s a a' t (suc k) x y h l = found_more s a a' t k x y h l (λ x y. agree_found s a a' t k x y h (omega arith))
 
 -- what is coded in the significance propagation pass, up to the moment
-pub agree_spread : (s : BlockShape) (a a' : Field ℕ) (t x y : ℕ) → Agree s a a' t → number s.width x y ≤ t → spread s.width a x y ≡ spread s.width a' x y
+pub agree_spread : (s : BlockShape) (a a' : Field ℕ) (t x y : ℕ) → Agree s a a' t → number s.width x y ≤ t → spread s a x y ≡ spread s a' x y
 agree_spread s a a' t x y h l =
     let k = number s.width x y in
     let o = agree_old s a a' t x y h in
-    let u = touched_same (so_far s.width a k) (so_far s.width a' k) x y (λ x y. let o = agree_old s a a' t x y h in let f = agree_found s a a' t k x y h l in cc) in
-    spread_is s.width a x y ∙ (let e : (not (old a x y) && touched (so_far s.width a k) x y) ≡ (not (old a' x y) && touched (so_far s.width a' k) x y) = cc in e) ∙ sym (spread_is s.width a' x y)
+    let u = touched_same s (so_far s a k) (so_far s a' k) x y (λ x y. let o = agree_old s a a' t x y h in let f = agree_found s a a' t k x y h l in cc) in
+    spread_is s a x y ∙ (let e : (not (old a x y) && touched_in s (so_far s a k) x y) ≡ (not (old a' x y) && touched_in s (so_far s a' k) x y) = cc in e) ∙ sym (spread_is s a' x y)
 
-pub agree_pass : (s : BlockShape) (a a' : Field ℕ) (t x y : ℕ) → Agree s a a' t → number s.width x y ≤ t → pass_of s.width a x y ≡ pass_of s.width a' x y
+pub agree_pass : (s : BlockShape) (a a' : Field ℕ) (t x y : ℕ) → Agree s a a' t → number s.width x y ≤ t → pass_of s a x y ≡ pass_of s a' x y
 agree_pass s a a' t x y h l =
     let o = agree_old s a a' t x y h in
     let p = agree_spread s a a' t x y h l in
-    pass_is s.width a x y ∙ (let e : cond (old a x y) 1 (cond (spread s.width a x y) 0 2) ≡ cond (old a' x y) 1 (cond (spread s.width a' x y) 0 2) = cc in e) ∙ sym (pass_is s.width a' x y)
+    pass_is s a x y ∙ (let e : cond (old a x y) 1 (cond (spread s a x y) 0 2) ≡ cond (old a' x y) 1 (cond (spread s a' x y) 0 2) = cc in e) ∙ sym (pass_is s a' x y)
 
 pub agree_moment : (s : BlockShape) (a a' : Field ℕ) (t x y : ℕ) → Agree s a a' t → number s.width x y ≤ t → moment s a x y ≡ moment s a' x y
 unfolding moment

@@ -1,12 +1,10 @@
 -- Contexts of equal fields are equal.
-use Rattle.std.proofs.Common.{◌≡◌, ℕ, ◌+◌, ◌-◌, Bool, true, false, not, refl, ap, ◌∙◌, arith}
-use Rattle.std.specs.Prelude.{◌&&◌, ◌||◌, nat_eq, nat_lt, nat_le}
+use Rattle.std.proofs.Common.{◌≡◌, ℕ, ◌+◌, ◌-◌, Bool, true, false, not, refl, ap, ◌∙◌}
+use Rattle.std.specs.Prelude.{◌&&◌, ◌||◌, nat_le}
 use Rattle.jk_scan.specs.declared.contexts.SignContext.{SignContext}
 use Rattle.jk_scan.specs.Contexts.{contribution_of, sign_context_of}
 use Rattle.jk_scan.specs.Neighbours.{Field, west, east, north, south, horizontal, vertical, touched, sign_at}
-use Rattle.std.proofs.lemmas.Bool.Decides.{nat_tests}
-use Rattle.jk_scan.specs.Moments.{number, old, found, spread}
-use Rattle.jk_scan.proofs.Moments.{same_field, touched_same, so_far, spread_is, found_is}
+use Rattle.jk_scan.proofs.Moments.{same_field}
 
 by_fields : (plus minus : Field Bool) → ℕ → ℕ → SignContext
 by_fields plus minus x y = sign_context_of (contribution_of (horizontal plus x y) (horizontal minus x y)) (contribution_of (vertical plus x y) (vertical minus x y))
@@ -66,22 +64,8 @@ never x y e = by (nat_le 1 x) (nat_le 1 y) e
 
 -- no place touches nothing
 pub touched_none : (f : Field Bool) (x y : ℕ) → ((x y : ℕ) → f x y ≡ false) → touched f x y ≡ false
-touched_none f x y h = touched_same f (λ _ _. false) x y h ∙ none (touched (λ _ _. false) x y) refl
+touched_none f x y h = ap (λ f. touched f x y) (same_field f (λ _ _. false) h) ∙ none (touched (λ _ _. false) x y) refl
   where
     none : (b : Bool) → touched (λ _ _. false) x y ≡ b → b ≡ false
     none true e = absurd (never x y e)
     none false e = refl
-
--- A block without a 1 has nothing that spreads.
-pub empty_spread : (w : ℕ) (a : Field ℕ) (x y : ℕ) → ((x y : ℕ) → a x y ≡ 0) → spread w a x y ≡ false
-empty_spread w a x y h =
-    spread_is w a x y
-    ∙ ap (λ u. not (old a x y) && u) (touched_none (so_far w a (number w x y)) x y (λ u v. none (a u v) (found w a (number w x y) u v) (spread w a u v && nat_lt (number w u v) (number w x y)) (h u v) (found_is w a (number w x y) u v)))
-    ∙ and_false (not (old a x y))
-  where
-    none : (m : ℕ) (f g : Bool) → m ≡ 0 → f ≡ (nat_eq m 1 && g) → (nat_le 2 m || f) ≡ false
-    none m f g e k = grind (arith, nat_tests)
-
-    and_false : (b : Bool) → (b && false) ≡ false
-    and_false true = refl
-    and_false false = refl

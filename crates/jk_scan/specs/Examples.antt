@@ -5,7 +5,7 @@ use Rattle.jk_math.specs.declared.orientation.Orientation.TheVariants.{LL, HL, L
 use Rattle.jk_scan.specs.declared.shape.BlockShape.{BlockShape}
 use Rattle.jk_scan.specs.declared.contexts.Contribution.TheVariants.{Negative, Balanced, Positive}
 use Rattle.jk_scan.specs.Contexts.{zero_context_of, contribution_of, sign_context_of, refine_context_of, sign}
-use Rattle.jk_scan.specs.Neighbours.{touched, zero_at, sign_at}
+use Rattle.jk_scan.specs.Neighbours.{touched, zero_at, sign_at, seen_from, touched_in, zero_in, sign_in}
 use Rattle.jk_scan.specs.Moments.{number, visits, found, spread, pass_of, moment, significant}
 use Rattle.jk_scan.specs.Moments.{propagation, refinement, cleanup}
 use Rattle.jk_scan.specs.Passes.{Plane, joined, flipped, new_decisions, refining_decision, place_decisions, runs}
@@ -62,21 +62,21 @@ column b = record {
 -- the highest bit-plane, in run mode: the second row is the first with a 1
 highest : plane_decisions shape (column 2) cleanup
     ≡ (17, true) ∷ (18, false) ∷ (18, true) ∷ (9, false) ∷ (3, false) ∷ (0, false) ∷ []
-unfolding zero_context_of contribution_of sign_context_of refine_context_of touched zero_at sign_at number visits found
-    spread pass_of moment significant joined flipped new_decisions refining_decision place_decisions runs first_one
+unfolding zero_context_of contribution_of sign_context_of refine_context_of touched zero_at sign_at seen_from touched_in
+    zero_in sign_in number visits found spread pass_of moment significant joined flipped new_decisions refining_decision place_decisions runs first_one
     run_decisions column_decisions plane_decisions
 highest = refl
 
 -- the lowest: the rows above and below become significant, and the last one has a neighbour then
 lowest : plane_decisions shape (column 0) propagation
     ≡ (3, true) ∷ (10, false) ∷ (3, true) ∷ (10, false) ∷ (3, false) ∷ []
-unfolding zero_context_of contribution_of sign_context_of refine_context_of touched zero_at sign_at number visits found
-    spread pass_of moment significant joined flipped new_decisions refining_decision place_decisions runs first_one
+unfolding zero_context_of contribution_of sign_context_of refine_context_of touched zero_at sign_at seen_from touched_in
+    zero_in sign_in number visits found spread pass_of moment significant joined flipped new_decisions refining_decision place_decisions runs first_one
     run_decisions column_decisions plane_decisions
 lowest = refl
 
 lowest_refined : plane_decisions shape (column 0) refinement ≡ (16, true) ∷ []
-unfolding zero_context_of contribution_of sign_context_of refine_context_of touched zero_at sign_at number visits found
-    spread pass_of moment significant joined flipped new_decisions refining_decision place_decisions runs first_one
+unfolding zero_context_of contribution_of sign_context_of refine_context_of touched zero_at sign_at seen_from touched_in
+    zero_in sign_in number visits found spread pass_of moment significant joined flipped new_decisions refining_decision place_decisions runs first_one
     run_decisions column_decisions plane_decisions
 lowest_refined = refl

@@ -5,7 +5,7 @@
 use Rattle.std.specs.Prelude.{ℕ, zero, suc, ◌+◌, ◌*◌, ◌/◌, ◌%◌, Bool, false, not, ◌&&◌, ◌||◌, nat_eq, nat_lt, nat_le}
 use Rattle.std.specs.Prelude.{if◌then◌else◌}
 use Rattle.jk_scan.specs.declared.shape.BlockShape.{BlockShape}
-use Rattle.jk_scan.specs.Neighbours.{Field, touched}
+use Rattle.jk_scan.specs.Neighbours.{Field, touched_in}
 
 -- The number of a place in the order of a pass: stripes of four rows, in a stripe the columns from
 -- left to right, each downwards (D.1).
@@ -25,16 +25,16 @@ old a x y = nat_le 2 (a x y)
 
 -- Found by the significance propagation pass among the numbers below k: the places that become
 -- significant there.
-unfoldable pub found : ℕ → Field ℕ → ℕ → Field Bool
-found width a zero x y = false
-found width a (suc k) x y =
-    found width a k x y || (nat_eq (number width x y) k
-    && (nat_eq (a x y) 1 && touched (λ x y. old a x y || found width a k x y) x y))
+unfoldable pub found : BlockShape → Field ℕ → ℕ → Field Bool
+found s a zero x y = false
+found s a (suc k) x y =
+    found s a k x y || (nat_eq (number s.width x y) k
+    && (nat_eq (a x y) 1 && touched_in s (λ x y. old a x y || found s a k x y) x y))
 
 -- Coded in the significance propagation pass: not significant before, and a neighbour is
 -- significant at that moment (D.3.1).
-unfoldable pub spread : ℕ → Field ℕ → Field Bool
-spread width a x y = not (old a x y) && touched (λ x' y'. old a x' y' || found width a (number width x y) x' y') x y
+unfoldable pub spread : BlockShape → Field ℕ → Field Bool
+spread s a x y = not (old a x y) && touched_in s (λ x' y'. old a x' y' || found s a (number s.width x y) x' y') x y
 
 -- the three passes of a bit-plane, in their order
 abbrev pub propagation : ℕ
@@ -47,13 +47,13 @@ abbrev pub cleanup : ℕ
 cleanup = 2
 
 -- the pass that codes the bit of a place
-unfoldable pub pass_of : ℕ → Field ℕ → Field ℕ
-pass_of width a x y = if old a x y then refinement else (if spread width a x y then propagation else cleanup)
+unfoldable pub pass_of : BlockShape → Field ℕ → Field ℕ
+pass_of s a x y = if old a x y then refinement else (if spread s a x y then propagation else cleanup)
 
 -- The moment at which the bit of a place is coded. A moment counts the visits in a bit-plane over
 -- its three passes.
 unfoldable pub moment : BlockShape → Field ℕ → Field ℕ
-moment s a x y = pass_of s.width a x y * visits s + number s.width x y
+moment s a x y = pass_of s a x y * visits s + number s.width x y
 
 -- the bit of a place is coded before a moment
 abbrev pub is_coded : BlockShape → Field ℕ → ℕ → Field Bool

@@ -1,5 +1,5 @@
 -- The places of a block and their neighbours (T.800 D.2, D.3.1 and D.3.2).
-use Rattle.std.specs.Prelude.{ℕ, ◌+◌, ◌-◌, Bool, not, ◌&&◌, ◌||◌, nat_lt, nat_le, if◌then◌else◌}
+use Rattle.std.specs.Prelude.{ℕ, ◌+◌, ◌-◌, ◌/◌, Bool, not, ◌&&◌, ◌||◌, nat_lt, nat_le, if◌then◌else◌}
 use Rattle.jk_math.specs.declared.orientation.Orientation.{Orientation}
 use Rattle.jk_scan.specs.declared.shape.BlockShape.{BlockShape}
 use Rattle.jk_scan.specs.declared.contexts.SignContext.{SignContext}
@@ -58,3 +58,18 @@ sign_at significant negative x y =
     let minus : Field Bool = λ x y. significant x y && negative x y in
     sign_context_of (contribution_of (horizontal plus x y) (horizontal minus x y))
     (contribution_of (vertical plus x y) (vertical minus x y))
+
+-- What a stripe sees of a field. With vertically causal contexts nothing below the stripe counts as
+-- significant (D.7).
+unfoldable pub seen_from : BlockShape → (stripe : ℕ) → Field Bool → Field Bool
+seen_from s stripe f x y = f x y && (not s.style.causal || nat_le (y / 4) stripe)
+
+-- The same three, each by what the place's own stripe sees.
+unfoldable pub touched_in : BlockShape → Field Bool → Field Bool
+touched_in s f x y = touched (seen_from s (y / 4) f) x y
+
+unfoldable pub zero_in : BlockShape → (significant : Field Bool) → Field ℕ
+zero_in s significant x y = zero_at s.orientation (seen_from s (y / 4) significant) x y
+
+unfoldable pub sign_in : BlockShape → (significant negative : Field Bool) → Field SignContext
+sign_in s significant negative x y = sign_at (seen_from s (y / 4) significant) negative x y

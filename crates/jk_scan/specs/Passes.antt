@@ -4,7 +4,7 @@ use Rattle.std.specs.Prelude.{ℕ, zero, suc, ◌+◌, ◌-◌, ◌*◌, ◌%◌
 use Rattle.std.specs.Prelude.{nat_eq, nat_le, if◌then◌else◌}
 use Rattle.jk_scan.specs.declared.shape.BlockShape.{BlockShape}
 use Rattle.jk_scan.specs.Contexts.{refine_context_of, run_length, uniform}
-use Rattle.jk_scan.specs.Neighbours.{Field, is_inside, touched, zero_at, sign_at}
+use Rattle.jk_scan.specs.Neighbours.{Field, is_inside, touched_in, zero_in, sign_in}
 use Rattle.jk_scan.specs.Moments.{number, stripes, visits, cleanup, pass_of, significant}
 
 -- The block at a bit-plane: each magnitude without the planes below, and the signs.
@@ -31,19 +31,19 @@ flipped flip bit = if flip then not bit else bit
 -- the sign of a place that has become significant (D.3.2)
 abbrev pub sign_decision : BlockShape → Plane → ℕ → Field (ℕ × Bool)
 sign_decision s p t x y =
-    let c = sign_at (significant s p.magnitude t) p.negative x y in (c.context, flipped c.flip (p.negative x y))
+    let c = sign_in s (significant s p.magnitude t) p.negative x y in (c.context, flipped c.flip (p.negative x y))
 
 -- the bit of a place that isn't significant, and its sign where the bit is 1 (D.3.1 and D.3.4)
 unfoldable pub new_decisions : BlockShape → Plane → ℕ → Field Decided
 new_decisions s p t x y =
-    (zero_at s.orientation (significant s p.magnitude t) x y, is_one (p.magnitude x y))
+    (zero_in s (significant s p.magnitude t) x y, is_one (p.magnitude x y))
     ∷ (if is_one (p.magnitude x y) then sign_decision s p t x y ∷ [] else [])
 
 -- The bit of a place that was significant before (D.3.3). The bit after its highest 1 is the first
 -- to be refined.
 unfoldable pub refining_decision : BlockShape → Plane → ℕ → Field (ℕ × Bool)
 refining_decision s p t x y = (
-  refine_context_of (nat_le 4 (p.magnitude x y)) (touched (significant s p.magnitude t) x y),
+  refine_context_of (nat_le 4 (p.magnitude x y)) (touched_in s (significant s p.magnitude t) x y),
   is_one (p.magnitude x y),
 )
 
@@ -56,7 +56,7 @@ own_decisions s p (suc (suc n)) t x y = new_decisions s p t x y
 -- the decisions of a place in a pass
 unfoldable pub place_decisions : BlockShape → Plane → (pass : ℕ) → Field Decided
 place_decisions s p pass x y =
-    if is_inside s x y && nat_eq (pass_of s.width p.magnitude x y) pass
+    if is_inside s x y && nat_eq (pass_of s p.magnitude x y) pass
     then own_decisions s p pass (pass * visits s + number s.width x y) x y
     else []
 
@@ -69,8 +69,8 @@ rows_decisions s p pass x i j n = joined n (λ k. place_decisions s p pass x (4 
 unfoldable pub runs : BlockShape → Field ℕ → (x i : ℕ) → Bool
 runs s a x i =
     let t = cleanup * visits s + number s.width x (4 * i) in
-    let left : ℕ → Bool = λ j. nat_eq (pass_of s.width a x (4 * i + j)) cleanup
-    && not (touched (significant s a t) x (4 * i + j)) in
+    let left : ℕ → Bool = λ j. nat_eq (pass_of s a x (4 * i + j)) cleanup
+    && not (touched_in s (significant s a t) x (4 * i + j)) in
     nat_le (4 * i + 4) s.height && ((left 0 && left 1) && (left 2 && left 3))
 
 -- the first row of a column with the bit 1, or 4

@@ -3,7 +3,7 @@
 
 ghost use Rattle.std.specs.Prelude.{◌≡◌, ℕ, ◌+◌, ◌-◌, ◌*◌, ◌<◌, ◌≤◌, nat_le, ◌&&◌};
 ghost use Rattle.jk_scan.specs.Bits.{on};
-ghost use Rattle.jk_scan.specs.Neighbours.{is_inside};
+ghost use Rattle.jk_scan.specs.Neighbours.{is_inside, seen_from};
 ghost use Rattle.jk_scan.specs.Moments.{stripes};
 ghost use Rattle.jk_scan.specs.Words.{Truths, of_rows, of_gathered, Shows, bordered};
 ghost use Rattle.jk_scan.specs.Surroundings.{IsAround};
@@ -35,26 +35,46 @@ pub fn word_place(shape: BlockShape, word: usize, stripe: usize) -> usize
     stripe * (words_across(shape) + 2) + word
 }
 
-/// A word of a stripe with the rows above and below it. The word is counted with the border.
+/// The word below a word of a stripe, as the stripe sees it: with vertically causal contexts it
+/// shows nothing (T.800 D.7).
+#[inline(always)]
+fn seen_below(words: &[u64; WORDS], shape: BlockShape, word: usize, stripe: usize) -> u64
+    requires sized { IsSized shape }
+    requires word { word < across shape + 2 }
+    requires stripe { stripe < stripes shape }
+    ensures { (f : Truths) → IsDrawn shape f words.now
+        → Shows of_rows (bordered (seen_from shape stripe f)) word (stripe + 2) result }
+{
+    if shape.style.causal {
+        0
+    } else {
+        words[word_place(shape, word, stripe + 2)]
+    }
+}
+
+/// A word of a stripe with the rows above and below it, as the stripe sees them. The word is
+/// counted with the border.
 fn gathered(words: &[u64; WORDS], shape: BlockShape, word: usize, stripe: usize) -> u64
     requires sized { IsSized shape }
     requires word { word < across shape + 2 }
     requires stripe { stripe < stripes shape }
-    ensures { (f : Truths) → IsDrawn shape f words.now → Shows of_gathered (bordered f) word (stripe + 1) result }
+    ensures { (f : Truths) → IsDrawn shape f words.now
+        → Shows of_gathered (bordered (seen_from shape stripe f)) word (stripe + 1) result }
 {
     let centre = words[word_place(shape, word, stripe + 1)];
     let above = words[word_place(shape, word, stripe)];
-    let below = words[word_place(shape, word, stripe + 2)];
-    gather(centre, above, below)
+    gather(centre, above, seen_below(words, shape, word, stripe))
 }
 
-/// A word of a stripe and those beside it, each with the rows above and below.
+/// A word of a stripe and those beside it, each with the rows above and below as the stripe sees
+/// them.
 #[inline(always)]
 pub fn seen_around(words: &[u64; WORDS], shape: BlockShape, word: usize, stripe: usize) -> Around
     requires sized { IsSized shape }
     requires word { word < across shape }
     requires stripe { stripe < stripes shape }
-    ensures { (f : Truths) → IsDrawn shape f words.now → IsAround (bordered f) word stripe result }
+    ensures { (f : Truths) → IsDrawn shape f words.now
+        → IsAround (bordered (seen_from shape stripe f)) word stripe result }
 {
     Around {
         centre: gathered(words, shape, word + 1, stripe),

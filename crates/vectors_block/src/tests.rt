@@ -117,20 +117,23 @@ fn worked_blocks(rt: HostRuntime) -> Result<(), Fail> {
     Ok(())
 }
 
-/// What a segment means in a style, of one coefficient.
+/// What a segment means in a style, of a column of this height.
 fn read_in(
     alloc: Global,
     style: Style,
+    height: usize,
     text: &str,
     planes: u32,
     passes: usize,
 ) -> Result<Result<Block, Fault>, Fail>
-    requires { planes ≤ 23 }
+    requires planes { planes ≤ 23 }
+    requires some { 1 ≤ height }
+    requires few { height ≤ 1024 }
 {
     let segment = bytes_of(alloc, &[text])?;
     let shape = BlockShape {
         width: 1,
-        height: 1,
+        height,
         orientation: Orientation::LL,
         style,
     };
@@ -138,21 +141,28 @@ fn read_in(
 }
 
 /// The same segment means another coefficient with context reset, and none where a segmentation
-/// symbol is due and another one stands.
+/// symbol is due and another one stands. Vertically causal contexts make another segment of a
+/// column whose second stripe is significant before the first.
 #[test]
 fn styled_blocks(rt: HostRuntime) -> Result<(), Fail> {
     let mut reset = Style::plain();
     reset.reset = true;
     let mut symbols = Style::plain();
     symbols.segments = true;
-    let anew = read_in(rt.alloc(), reset, "00", 4, 10)??;
+    let mut causal = Style::plain();
+    causal.causal = true;
+    let anew = read_in(rt.alloc(), reset, 1, "00", 4, 10)??;
     assert_eq!(rt; anew.values.as_slice(), [14].as_slice());
-    let whole = read_in(rt.alloc(), reset, "007F", 4, 10)??;
+    let whole = read_in(rt.alloc(), reset, 1, "007F", 4, 10)??;
     assert_eq!(rt; whole.values.as_slice(), [15].as_slice());
-    let marked = read_in(rt.alloc(), symbols, "01", 1, 1)??;
+    let marked = read_in(rt.alloc(), symbols, 1, "01", 1, 1)??;
     assert_eq!(rt; marked.values.as_slice(), [1].as_slice());
-    let other = read_in(rt.alloc(), symbols, "03", 1, 1)?;
+    let other = read_in(rt.alloc(), symbols, 1, "03", 1, 1)?;
     assert!(rt; matches!(other, Err(Fault::BadValue)));
+    let seen = read_in(rt.alloc(), Style::plain(), 5, "169F", 2, 4)??;
+    assert_eq!(rt; seen.values.as_slice(), [0, 0, 0, 1, 2].as_slice());
+    let unseen = read_in(rt.alloc(), causal, 5, "16E3", 2, 4)??;
+    assert_eq!(rt; unseen.values.as_slice(), [0, 0, 0, 1, 2].as_slice());
     Ok(())
 }
 

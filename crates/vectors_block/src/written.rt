@@ -167,27 +167,28 @@ fn gives(
     Ok(())
 }
 
-/// A block of one coefficient in a style has these bytes.
+/// A column in a style has these bytes.
 fn in_style(
     rt: &impl Abort,
     alloc: Global,
     style: Style,
-    value: i32,
+    values: &[i32],
     bytes: &[u8],
 ) -> Result<(), Fail> {
     let block = Block {
         width: 1,
-        height: 1,
+        height: values.len(),
         orientation: Orientation::LL,
         style,
-        values: [value].to_vec(alloc)?,
+        values: values.to_vec(alloc)?,
     };
     let coded = codes(rt, alloc, &block)?;
     assert_eq!(rt; coded.bytes.as_slice(), bytes);
     Ok(())
 }
 
-/// With context reset each pass begins anew; a segmentation symbol ends the one cleanup pass.
+/// With context reset each pass begins anew; a segmentation symbol ends the one cleanup pass; with
+/// vertically causal contexts the first stripe doesn't see the second.
 #[test]
 fn styled_blocks(rt: HostRuntime) -> Result<(), Fail> {
     let alloc = rt.alloc();
@@ -195,8 +196,13 @@ fn styled_blocks(rt: HostRuntime) -> Result<(), Fail> {
     reset.reset = true;
     let mut symbols = Style::plain();
     symbols.segments = true;
-    in_style(&rt, alloc, reset, 15, &[0x00, 0x7F])?;
-    in_style(&rt, alloc, symbols, 1, &[0x01])
+    let mut causal = Style::plain();
+    causal.causal = true;
+    let column = [0, 0, 0, 1, 2];
+    in_style(&rt, alloc, reset, &[15], &[0x00, 0x7F])?;
+    in_style(&rt, alloc, symbols, &[1], &[0x01])?;
+    in_style(&rt, alloc, Style::plain(), &column, &[0x16, 0x9F])?;
+    in_style(&rt, alloc, causal, &column, &[0x16, 0xE3])
 }
 
 /// Worked blocks: single coefficients, none, a column of five, a column in run mode.

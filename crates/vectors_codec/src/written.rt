@@ -4,7 +4,7 @@ use crate::asserts::{equal, equal_at};
 use crate::calls::{self, decode, encode, plain};
 use crate::small::{Headers, file_of};
 use crate::texts::pnm_of;
-use jk_marks::Order;
+use jk_marks::{Order, style_of};
 use jk_params::{Container, Parameters};
 use std::alloc::Global;
 use std::process::Abort;
@@ -246,6 +246,48 @@ fn precincts_and_layers(rt: HostRuntime) -> Result<(), Fail> {
         .extend_from_slice(&[(3, 3), (3, 3), (3, 3)])?;
     let found = measure(alloc, &pnm, (0, 0), &asked)?;
     equal(&rt, found, (7342, 105381393));
+    Ok(())
+}
+
+/// The byte of a style, and the length and the checksum of an image in tiles and of one in layers,
+/// as an independent encoder writes them.
+static STYLED: [(u32, (usize, u32), (usize, u32)); 8] = [
+    (0x00, (320, 3460973), (3109, 49662954)),
+    (0x02, (326, 3700269), (3077, 47826558)),
+    (0x08, (321, 3553384), (3124, 49056072)),
+    (0x0A, (327, 3821487), (3091, 49195343)),
+    (0x20, (377, 4343873), (3129, 48573273)),
+    (0x22, (386, 4517901), (3097, 48218430)),
+    (0x28, (378, 4384972), (3139, 49164741)),
+    (0x2A, (387, 4558659), (3112, 48874225)),
+];
+
+#[test]
+fn each_style(rt: HostRuntime) -> Result<(), Fail> {
+    let alloc = rt.alloc();
+    let tiled = pnm_of(alloc, "P5\n17 13\n255\n", &tiled_samples(alloc)?)?;
+    let layered = pnm_of(alloc, "P5\n64 64\n255\n", &precinct_samples(alloc)?)?;
+    for (byte, in_tiles, in_layers) in &STYLED {
+        let mut asked = plain(alloc, 1);
+        asked.style = style_of(*byte);
+        asked.tile = Some((16, 16));
+        equal_at(
+            &rt,
+            *byte,
+            measure(alloc, &tiled, (3, 5), &asked)?,
+            *in_tiles,
+        );
+        asked.tile = None;
+        asked.layers = 3;
+        asked.sop = true;
+        asked.eph = true;
+        equal_at(
+            &rt,
+            *byte,
+            measure(alloc, &layered, (0, 0), &asked)?,
+            *in_layers,
+        );
+    }
     Ok(())
 }
 

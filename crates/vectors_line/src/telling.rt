@@ -102,7 +102,7 @@ static SIX: &str = "50360A 332032 0A 323535 0A 010203 040506 070809 0A0B0C 0D0E0
 
 /// What `jk info --all` writes of it, encoded with many options; the codestream box is so long.
 static SIX_OPTIONS: &str =
-    "--levels 1 --sop --eph --precincts 4556 --tile-width 2 --tile-height 4 --block-x 5 --block-y 4";
+    "--levels 1 --sop --eph --reset --causal --segments --precincts 4556 --tile-width 2 --tile-height 4 --block-x 5 --block-y 4";
 
 /// What a command line writes of an input.
 fn written<R: Abort + Threads + Sync>(
@@ -176,7 +176,7 @@ fn boxes_are_told(rt: HostRuntime) -> Result<(), Fail> {
     Ok(())
 }
 
-/// A file that was encoded with tiles, precincts, SOP and EPH.
+/// A file that was encoded with tiles, precincts, SOP, EPH and styles of code-blocks.
 #[test]
 fn what_was_asked_for_is_told(rt: HostRuntime) -> Result<(), Fail> {
     let alloc = rt.alloc();
@@ -189,7 +189,7 @@ fn what_was_asked_for_is_told(rt: HostRuntime) -> Result<(), Fail> {
 boxes: jP%20%20=12 ftyp=20 jp2h=45 jp2c={size}
 tile-parts: 2
 code-blocks: 32x16
-block-style: none
+block-style: reset causal segments
 precincts: 32x16 64x32
 SOP: yes
 EPH: yes

@@ -23,8 +23,8 @@ class Coding(ctypes.Structure):
         *[(name, c_uint32) for name in ("levels", "layers", "order", "tile_width", "tile_height")],
         *[(name, c_uint32) for name in ("block_width", "block_height", "precinct_count")],
         ("precincts", c_uint8 * 8),
-        *[(name, c_uint32) for name in ("colour", "sop", "eph", "raw")],
-        ("reserved", c_uint32 * 4),
+        *[(name, c_uint32) for name in ("colour", "sop", "eph", "raw", "style")],
+        ("reserved", c_uint32 * 3),
     ]
 
 

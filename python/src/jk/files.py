@@ -17,6 +17,7 @@ File = Union[str, "os.PathLike[str]", bytes, bytearray, memoryview, np.ndarray]
 Window = Tuple[int, int, int, int]
 
 ORDERS = ("LRCP", "RLCP", "RPCL", "PCRL", "CPRL")
+STYLES = {"reset": 2, "causal": 8, "segments": 32}
 
 
 @dataclass(frozen=True)
@@ -160,6 +161,7 @@ def _coding(components: int, parameters: dict) -> _calls.Coding:
     coding.sop, coding.eph = bool(taken("sop", False)), bool(taken("eph", False))
     raw = taken("raw", None)
     coding.raw = components not in (1, 3) if raw is None else bool(raw)
+    coding.style = sum(bit for style, bit in STYLES.items() if taken(style, False))
     if parameters:
         raise TypeError(f"unknown parameters: {', '.join(sorted(parameters))}")
     return coding
@@ -170,8 +172,8 @@ def encode(array: np.ndarray, **parameters: Any) -> bytes:
 
     Parameters: `depth`, bits of a sample (8 or 16 by the array's type); `place`, the upper left sample's (x, y) on the
     reference grid; `levels` (5), `layers` (1), `order` ("LRCP"), `tile` (width, height), `block` and `precincts` by
-    exponents ((6, 6), none), `colour` (with three components), `sop`, `eph`, and `raw` for a bare codestream (with 2
-    and 4 components, which JP2 doesn't hold).
+    exponents ((6, 6), none), `colour` (with three components), `sop`, `eph`, `reset`, `causal` and `segments` for the
+    styles of code-blocks, and `raw` for a bare codestream (with 2 and 4 components, which JP2 doesn't hold).
     """
     image = np.asarray(array)
     if image.dtype not in (np.uint8, np.uint16) or image.ndim not in (2, 3):

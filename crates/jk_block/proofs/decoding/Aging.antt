@@ -10,7 +10,7 @@ use Rattle.std.proofs.Math.Nat.{mul-le-mul_right, lt-div-mul-add, div-mul-le_sel
 use Rattle.jk_scan.specs.declared.shape.BlockShape.{BlockShape}
 use Rattle.jk_scan.specs.Bits.{on}
 use Rattle.jk_scan.specs.Contexts.{refine_context_of}
-use Rattle.jk_scan.specs.Neighbours.{Field, is_inside, touched}
+use Rattle.jk_scan.specs.Neighbours.{Field, is_inside, touched_in}
 use Rattle.jk_scan.specs.Moments.{visits, moment}
 use Rattle.jk_scan.specs.Flags.{IsDrawn, across, flag_at}
 use Rattle.jk_scan.specs.WordPlaces.{column, row}
@@ -250,9 +250,9 @@ aged_passed bytes k k' planes n coder coder' refined older h is more shape aged 
     })
 
 -- the context of a place of the pass
-pub next_context : (at : Spot) (refined : List ℕ) (k : Draft) (again seen z context : ℕ) (a b : Bool) → IsFresh at.plane refined k → IsPlace k.shape at z → on again z ≡ flag_at k.shape refined (column at.word z) (row at.stripe z) → on seen z ≡ touched (lit_in k) (column at.word z) (row at.stripe z)
+pub next_context : (at : Spot) (refined : List ℕ) (k : Draft) (again seen z context : ℕ) (a b : Bool) → IsFresh at.plane refined k → IsPlace k.shape at z → on again z ≡ flag_at k.shape refined (column at.word z) (row at.stripe z) → on seen z ≡ touched_in k.shape (lit_in k) (column at.word z) (row at.stripe z)
     → a ≡ on again z → b ≡ on seen z → context ≡ refine_context_of a b
-    → context ≡ refine_context_of (nat_le 4 (k.magnitude (column at.word z) (row at.stripe z) / 2 ^ at.plane)) (touched (lit_in k) (column at.word z) (row at.stripe z))
+    → context ≡ refine_context_of (nat_le 4 (k.magnitude (column at.word z) (row at.stripe z) / 2 ^ at.plane)) (touched_in k.shape (lit_in k) (column at.word z) (row at.stripe z))
 next_context at refined k again seen z context a b fresh place shown near a_is b_is is =
     let x = column at.word z in
     let y = row at.stripe z in

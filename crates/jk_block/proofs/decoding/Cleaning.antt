@@ -12,7 +12,7 @@ use Rattle.jk_mqdec.specs.Standing.{View, Stands}
 use Rattle.jk_scan.specs.declared.shape.BlockShape.{BlockShape}
 use Rattle.jk_scan.specs.declared.around.Around.{Around}
 use Rattle.jk_scan.specs.Bits.{on}
-use Rattle.jk_scan.specs.Neighbours.{Field, is_inside, touched}
+use Rattle.jk_scan.specs.Neighbours.{Field, is_inside, touched_in}
 use Rattle.jk_scan.specs.Words.{of_rows, bordered}
 use Rattle.jk_scan.specs.WordPlaces.{column, row, also}
 use Rattle.jk_scan.specs.Surroundings.{IsAround}
@@ -20,7 +20,7 @@ use Rattle.jk_scan.proofs.Laws.{rows_between, lowest, on_or, on_zero, later_lowe
 use Rattle.jk_block.specs.declared.spot.Spot.{Spot}
 use Rattle.jk_block.specs.Reading.{is_quiet, place_at, rows_at, read_new, read_run}
 use Rattle.jk_block.specs.decoding.Sketches.{Draft, progress, lit_in, coded_in, Advanced, Takes, Onward}
-use Rattle.jk_block.specs.decoding.Sights.{Sees, Held, lit_at, sign_seen}
+use Rattle.jk_block.specs.decoding.Sights.{Sees, Held, lit_at, sign_seen, seen_in}
 use Rattle.jk_block.specs.declared.decoding.sight.Sight.{Sight}
 use Rattle.jk_block.specs.Meaning.{above}
 use Rattle.jk_block.proofs.Drawing.{lit_put}
@@ -36,7 +36,7 @@ use Rattle.jk_block.proofs.WordBits.{le_true, true_le, on_rows, is_one_number, n
 -- Words show the pass at bit n: what is around, the places that are left, and the still columns
 -- that have not begun.
 pub record Cleans (at : Spot) (n : ℕ) (k : Draft) (seen : Around) (left still : ℕ) : Type 0 where
-  pub around : IsAround (bordered (lit_in k)) at.word at.stripe seen
+  pub around : IsAround (bordered (seen_in k at.stripe)) at.word at.stripe seen
   pub left_is : (m : ℕ) → m < 64 → on left m ≡ (nat_le n m && is_left k at.word at.stripe m)
   pub still_is : (m : ℕ) → m < 64 → on still m ≡ (nat_eq (m % 8) 1 && (nat_le n (m - 1) && is_still k.shape (lit_in k) at.word at.stripe (m / 8)))
 
@@ -45,7 +45,7 @@ pub record CleaningAt (at : Spot) (k0 k : Draft) (v0 v : View) (seen : Around) (
   pub going : Going 2 at n k0 k v0 v
   pub cleans : Cleans at n k seen left still
 
-at_none : (at : Spot) (k : Draft) (v : View) (seen : Around) (left still : ℕ) → IsAround (bordered (lit_in k)) at.word at.stripe seen
+at_none : (at : Spot) (k : Draft) (v : View) (seen : Around) (left still : ℕ) → IsAround (bordered (seen_in k at.stripe)) at.word at.stripe seen
     → ((m : ℕ) → m < 64 → on left m ≡ is_left k at.word at.stripe m) → ((m : ℕ) → m < 64 → on still m ≡ (nat_eq (m % 8) 1 && is_still k.shape (lit_in k) at.word at.stripe (m / 8)))
     → CleaningAt at k k v v seen left still
 at_none at k v seen left still around left_is still_is = record {
@@ -134,7 +134,7 @@ pub record NextRun (at : Spot) (k0 k : Draft) (v0 v : View) (z : ℕ) : Type 0 w
 high_enough : (s : BlockShape) (f : Field Bool) (x i : ℕ) → is_quiet s f x i ≡ true → 4 * i + 4 ≤ s.height
 unfolding is_quiet
 high_enough s f x i h =
-    let q : ℕ → Bool = λ j. not (f x (4 * i + j)) && not (touched f x (4 * i + j)) in
+    let q : ℕ → Bool = λ j. not (f x (4 * i + j)) && not (touched_in s f x (4 * i + j)) in
     true_le (4 * i + 4) s.height (and_parts (nat_le (4 * i + 4) s.height) ((q 0 && q 1) && (q 2 && q 3)) h).0
 
 both_true : (a b : Bool) → a ≡ true → b ≡ true → (a && b) ≡ true
@@ -174,7 +174,7 @@ none_until at k0 k v0 v seen left still st z within row clear off m h = elim (ca
 at_zero : {A : Type 0} (at : Spot) (k0 k k' : Draft) (v0 v v' : View) (seen seen' : Around) (left still : ℕ) (u : A) (st : CleaningAt at k0 k v0 v seen left still) → 0 < bit_or left still → bit_or left still < 2 ^ 64
     → on still (trailing_zeros w64 (bit_or left still)) ≡ false
     → Takes (place_at v.bytes k.shape at.plane 2 (column at.word (trailing_zeros w64 (bit_or left still))) (row at.stripe (trailing_zeros w64 (bit_or left still)))) k k' v v' (Ok u) → k'.shape ≡ k.shape → v'.bytes ≡ v.bytes
-    → k'.visited ≡ k.visited → ((x y : ℕ) → lit_in k' x y ≡ lit_in k x y) → IsAround (bordered (lit_in k')) at.word at.stripe seen' → CleaningAt at k0 k' v0 v' seen' (bit_and left (left - 1)) still
+    → k'.visited ≡ k.visited → ((x y : ℕ) → lit_in k' x y ≡ lit_in k x y) → IsAround (bordered (seen_in k' at.stripe)) at.word at.stripe seen' → CleaningAt at k0 k' v0 v' seen' (bit_and left (left - 1)) still
 at_zero at k0 k k' v0 v v' seen seen' left still u st p q off takes shape bytes visited lit around =
     let z = trailing_zeros w64 (bit_or left still) in
     let next = left_at_next at k0 k v0 v seen left still st p q off in
@@ -205,7 +205,7 @@ at_one : {A : Type 0} (at : Spot) (k0 k k' : Draft) (v0 v v' : View) (seen seen'
     → Takes (place_at v.bytes k.shape at.plane 2 (column at.word (trailing_zeros w64 (bit_or left still))) (row at.stripe (trailing_zeros w64 (bit_or left still)))) k k' v v' (Ok u) → k'.shape ≡ k.shape → v'.bytes ≡ v.bytes
     → k'.visited ≡ k.visited → ((x y : ℕ) → lit_in k' x y ≡ also (lit_in k) (column at.word (trailing_zeros w64 (bit_or left still))) (row at.stripe (trailing_zeros w64 (bit_or left still))) x y)
     → Behind still still' (trailing_zeros w64 (bit_or left still)) → ((m : ℕ) → on still m ≡ false → on still' m ≡ false)
-    → IsAround (bordered (lit_in k')) at.word at.stripe seen' → CleaningAt at k0 k' v0 v' seen' (bit_and left (left - 1)) still'
+    → IsAround (bordered (seen_in k' at.stripe)) at.word at.stripe seen' → CleaningAt at k0 k' v0 v' seen' (bit_and left (left - 1)) still'
 at_one at k0 k k' v0 v v' seen seen' left still still' u st p q off takes shape bytes visited lit behind fewer around =
     let z = trailing_zeros w64 (bit_or left still) in
     let l = lowest (bit_or left still) p q in
@@ -249,7 +249,7 @@ from_run at k0 k v0 v seen left still st p q set =
 -- a column in run mode has no 1
 at_run : (at : Spot) (k0 k k' : Draft) (v0 v v' : View) (seen seen' : Around) (left still f : ℕ) (st : CleaningAt at k0 k v0 v seen left still) → 0 < bit_or left still → bit_or left still < 2 ^ 64
     → on still (trailing_zeros w64 (bit_or left still)) ≡ true → f ≤ 4 → RunTaken at k k' v v' (trailing_zeros w64 (bit_or left still)) f → k'.shape ≡ k.shape → v'.bytes ≡ v.bytes → k'.visited ≡ k.visited → ((x y : ℕ) → lit_in k' x y ≡ lit_in k x y)
-    → IsAround (bordered (lit_in k')) at.word at.stripe seen' → CleaningAt at k0 k' v0 v' seen' (bit_and left (0xFFFF_FFFF_FFFF_FFFE * 2 ^ (trailing_zeros w64 (bit_or left still) + f) % 2 ^ 64)) (bit_and still (still - 1))
+    → IsAround (bordered (seen_in k' at.stripe)) at.word at.stripe seen' → CleaningAt at k0 k' v0 v' seen' (bit_and left (0xFFFF_FFFF_FFFF_FFFE * 2 ^ (trailing_zeros w64 (bit_or left still) + f) % 2 ^ 64)) (bit_and still (still - 1))
 at_run at k0 k k' v0 v v' seen seen' left still f st p q set few takes shape bytes visited lit around =
     let z = trailing_zeros w64 (bit_or left still) in
     let l = lowest (bit_or left still) p q in
@@ -274,7 +274,7 @@ at_run_one : (at : Spot) (k0 k k' : Draft) (v0 v v' : View) (seen seen' : Around
     → on still (trailing_zeros w64 (bit_or left still)) ≡ true → f < 4 → RunTaken at k k' v v' (trailing_zeros w64 (bit_or left still)) f → k'.shape ≡ k.shape → v'.bytes ≡ v.bytes → k'.visited ≡ k.visited
     → ((x y : ℕ) → lit_in k' x y ≡ also (lit_in k) (column at.word (trailing_zeros w64 (bit_or left still) + f)) (row at.stripe (trailing_zeros w64 (bit_or left still) + f)) x y)
     → Behind (bit_and still (still - 1)) still' (trailing_zeros w64 (bit_or left still) + f) → ((m : ℕ) → on (bit_and still (still - 1)) m ≡ false → on still' m ≡ false)
-    → IsAround (bordered (lit_in k')) at.word at.stripe seen' → CleaningAt at k0 k' v0 v' seen'
+    → IsAround (bordered (seen_in k' at.stripe)) at.word at.stripe seen' → CleaningAt at k0 k' v0 v' seen'
     (bit_and left (0xFFFF_FFFF_FFFF_FFFE * 2 ^ (trailing_zeros w64 (bit_or left still) + f) % 2 ^ 64)) still'
 at_run_one at k0 k k' v0 v v' seen seen' left still still' f st p q set few takes shape bytes visited lit behind fewer around =
     let z = trailing_zeros w64 (bit_or left still) in
@@ -374,7 +374,7 @@ cleaning_none at k v sight left still sees left_is still_is = record {
 }
 
 -- nothing is left
-pub cleaning_idle : (at : Spot) (k : Draft) (v : View) (seen : Around) (left still : ℕ) → IsAround (bordered (lit_in k)) at.word at.stripe seen
+pub cleaning_idle : (at : Spot) (k : Draft) (v : View) (seen : Around) (left still : ℕ) → IsAround (bordered (seen_in k at.stripe)) at.word at.stripe seen
     → ((m : ℕ) → m < 64 → on left m ≡ is_left k at.word at.stripe m) → ((m : ℕ) → m < 64 → on still m ≡ (nat_eq (m % 8) 1 && is_still k.shape (lit_in k) at.word at.stripe (m / 8)))
     → bit_or left still ≡ 0 → Going 2 at 64 k k v v
 cleaning_idle at k v seen left still around left_is still_is empty = at_all at k k v v seen left still (at_none at k v seen left still around left_is still_is) empty
@@ -469,7 +469,7 @@ still_dark s f j i z r few within first e =
     x = 8 * j + z / 8
 
     quiet : ℕ → Bool
-    quiet r = not (f (8 * j + z / 8) (4 * i + r)) && not (touched f (8 * j + z / 8) (4 * i + r))
+    quiet r = not (f (8 * j + z / 8) (4 * i + r)) && not (touched_in s f (8 * j + z / 8) (4 * i + r))
 
     all : ((quiet 0 && quiet 1) && (quiet 2 && quiet 3)) ≡ true
     all = (and_parts (nat_le (4 * i + 4) s.height) ((quiet 0 && quiet 1) && (quiet 2 && quiet 3)) (and_parts (nat_lt (8 * j + z / 8) s.width) (nat_le (4 * i + 4) s.height && ((quiet 0 && quiet 1) && (quiet 2 && quiet 3))) e).1).1
@@ -479,10 +479,10 @@ still_dark s f j i z r few within first e =
     dark false b e = refl
 
     row_of : (r : ℕ) → r < 4 → f (8 * j + z / 8) (4 * i + r) ≡ false
-    row_of zero h = dark (f (8 * j + z / 8) (4 * i + 0)) (not (touched f (8 * j + z / 8) (4 * i + 0))) (and_parts (quiet 0) (quiet 1) (and_parts (quiet 0 && quiet 1) (quiet 2 && quiet 3) all).0).0
-    row_of (suc zero) h = dark (f (8 * j + z / 8) (4 * i + 1)) (not (touched f (8 * j + z / 8) (4 * i + 1))) (and_parts (quiet 0) (quiet 1) (and_parts (quiet 0 && quiet 1) (quiet 2 && quiet 3) all).0).1
-    row_of (suc (suc zero)) h = dark (f (8 * j + z / 8) (4 * i + 2)) (not (touched f (8 * j + z / 8) (4 * i + 2))) (and_parts (quiet 2) (quiet 3) (and_parts (quiet 0 && quiet 1) (quiet 2 && quiet 3) all).1).0
-    row_of (suc (suc (suc zero))) h = dark (f (8 * j + z / 8) (4 * i + 3)) (not (touched f (8 * j + z / 8) (4 * i + 3))) (and_parts (quiet 2) (quiet 3) (and_parts (quiet 0 && quiet 1) (quiet 2 && quiet 3) all).1).1
+    row_of zero h = dark (f (8 * j + z / 8) (4 * i + 0)) (not (touched_in s f (8 * j + z / 8) (4 * i + 0))) (and_parts (quiet 0) (quiet 1) (and_parts (quiet 0 && quiet 1) (quiet 2 && quiet 3) all).0).0
+    row_of (suc zero) h = dark (f (8 * j + z / 8) (4 * i + 1)) (not (touched_in s f (8 * j + z / 8) (4 * i + 1))) (and_parts (quiet 0) (quiet 1) (and_parts (quiet 0 && quiet 1) (quiet 2 && quiet 3) all).0).1
+    row_of (suc (suc zero)) h = dark (f (8 * j + z / 8) (4 * i + 2)) (not (touched_in s f (8 * j + z / 8) (4 * i + 2))) (and_parts (quiet 2) (quiet 3) (and_parts (quiet 0 && quiet 1) (quiet 2 && quiet 3) all).1).0
+    row_of (suc (suc (suc zero))) h = dark (f (8 * j + z / 8) (4 * i + 3)) (not (touched_in s f (8 * j + z / 8) (4 * i + 3))) (and_parts (quiet 2) (quiet 3) (and_parts (quiet 0 && quiet 1) (quiet 2 && quiet 3) all).1).1
     row_of (suc (suc (suc (suc n)))) h = absurd (omega arith)
 
 -- a row of a column in run mode is a place

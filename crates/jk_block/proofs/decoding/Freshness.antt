@@ -29,7 +29,7 @@ fresh_at s b z cut x y is_lit unseen =
     let below = number_below s x y parts.0 in
     cases_of s (mags s b z) x y
     (λ w. twice (mags s b z x y) b (z.magnitude x y) whole (large (mags s b z x y) w.old_is))
-    (λ w. absurd (seen (spread s.width (mags s b z) x y) (number s.width x y) w.spread_is (omega arith) (sym (cut.visited x y parts.0) ∙ unseen)))
+    (λ w. absurd (seen (spread s (mags s b z) x y) (number s.width x y) w.spread_is (omega arith) (sym (cut.visited x y parts.0) ∙ unseen)))
     (λ w. absurd (nothing (mags s b z x y) (2 ^ b) (z.magnitude x y) whole
     (small (mags s b z x y) w.old_is (cut.even x y parts.0 (late (moment s (mags s b z) x y) (number s.width x y) w.moment_is))) parts.1))
   where

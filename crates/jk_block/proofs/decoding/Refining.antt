@@ -11,18 +11,18 @@ use Rattle.std.proofs.Math.Nat.{mul_assoc, mod-lt}
 use Rattle.jk_mqdec.specs.Standing.{View}
 use Rattle.jk_scan.specs.declared.shape.BlockShape.{BlockShape}
 use Rattle.jk_scan.specs.Bits.{on}
-use Rattle.jk_scan.specs.Neighbours.{Field, is_inside, touched}
+use Rattle.jk_scan.specs.Neighbours.{Field, is_inside, touched_in}
 use Rattle.jk_scan.specs.Moments.{stripes}
 use Rattle.jk_scan.specs.Words.{of_rows, ShowsAt, near, bordered}
 use Rattle.jk_scan.specs.WordPlaces.{column, row}
 use Rattle.jk_scan.specs.Flags.{IsDrawn, across, word_at, flag_at}
-use Rattle.jk_scan.proofs.Laws.{same_field, near_is, lowest, rest_at, on_or, on_and, on_not, on_zero, on_one, on_above, on_shl_any}
+use Rattle.jk_scan.proofs.Laws.{same_field, near_is, lowest, rest_at, on_or, on_and, on_not, on_zero, on_one, on_above, on_shl_any, row_stripe, touched_seen}
 use Rattle.jk_block.specs.declared.spot.Spot.{Spot}
 use Rattle.jk_block.specs.Fields.{lit_of, flagged, is_in_word, own_bit}
 use Rattle.jk_block.specs.Meaning.{above}
 use Rattle.jk_block.specs.Reading.{place_at}
 use Rattle.jk_block.specs.decoding.Sketches.{Draft, lit_in, coded_in, IsFresh, Takes}
-use Rattle.jk_block.specs.decoding.Sights.{refined_in, IsRefined}
+use Rattle.jk_block.specs.decoding.Sights.{refined_in, IsRefined, seen_in}
 use Rattle.jk_block.specs.Steps.{IsPlace}
 use Rattle.jk_block.proofs.Drawing.{draft_same, stays_large, stays_lit, put_or, put_self}
 use Rattle.jk_block.proofs.WordDrawing.{bit_place, bit_within, place_bit, same_place}
@@ -62,13 +62,13 @@ pub record Refining (at : Spot) (refined : List ℕ) (k : Draft) (v0 v : View) (
   pub draft : Draft
   pub going : Going 1 at n k draft v0 v
   pub fresh : IsFresh at.plane refined draft
-  pub near : (m : ℕ) → m < 64 → of_rows (m % 8) ≡ true → on seen m ≡ touched (lit_in draft) (column at.word m) (row at.stripe m)
+  pub near : (m : ℕ) → m < 64 → of_rows (m % 8) ≡ true → on seen m ≡ touched_in draft.shape (lit_in draft) (column at.word m) (row at.stripe m)
   pub older : (m : ℕ) → m < 64 → on places m ≡ is_older draft at.word at.stripe m
   pub awaits : (m : ℕ) → m < 64 → on candidates m ≡ (nat_le n m && on places m)
   pub bits : Bits at k draft places candidates ones
 
 pub refining_none : (at : Spot) (refined : List ℕ) (k : Draft) (v : View) (seen places : ℕ) → IsFresh at.plane refined k
-    → ShowsAt of_rows (near (bordered (lit_in k))) (at.word + 1) (at.stripe + 1) seen → ((m : ℕ) → m < 64 → on places m ≡ is_older k at.word at.stripe m) → Refining at refined k v v seen places places 0
+    → ShowsAt of_rows (near (bordered (seen_in k at.stripe))) (at.word + 1) (at.stripe + 1) seen → ((m : ℕ) → m < 64 → on places m ≡ is_older k at.word at.stripe m) → Refining at refined k v v seen places places 0
 refining_none at refined k v seen places fresh shown older = record {
   n = 0;
   draft = k;
@@ -77,8 +77,8 @@ refining_none at refined k v seen places fresh shown older = record {
   near = λ m l e.
       let shifted = place_shifted at.word at.stripe m e in
       ap (on seen) (let g : m ≡ 8 * (m / 8) + m % 8 = omega arith in g) ∙ shown (m / 8) (m % 8) (omega arith) (omega arith) e
-      ∙ ap (λ c. near (bordered (lit_in k)) c (row (at.stripe + 1) m)) shifted.0 ∙ ap (λ r. near (bordered (lit_in k)) (column at.word m + 8) r) shifted.1
-      ∙ near_is (lit_in k) (column at.word m) (row at.stripe m);
+      ∙ ap (λ c. near (bordered (seen_in k at.stripe)) c (row (at.stripe + 1) m)) shifted.0 ∙ ap (λ r. near (bordered (seen_in k at.stripe)) (column at.word m + 8) r) shifted.1
+      ∙ near_is (seen_in k at.stripe) (column at.word m) (row at.stripe m) ∙ touched_seen k.shape at.stripe (lit_in k) (column at.word m) (row at.stripe m) (row_stripe at.stripe m e);
   older = older;
   awaits = λ m l. ap (λ b. b && on places m) (let e : true ≡ nat_le 0 m = grind (arith, nat_tests) in e);
   bits = record {
@@ -365,7 +365,7 @@ refining_one at refined k v0 v v' seen places n ones bit u st p q lim limo takes
       draft = d';
       going = going_place 1 at z k d d' v0 v v' u next.going next.place takes refl bytes;
       fresh = fresh_once at refined d z bit st.fresh next.lit large;
-      near = λ m l e. st.near m l e ∙ ap (λ (f : Field Bool). touched f (column at.word m) (row at.stripe m)) (sym (same_field (lit_in d') (lit_in d) lit));
+      near = λ m l e. st.near m l e ∙ ap (λ (f : Field Bool). touched_in d.shape f (column at.word m) (row at.stripe m)) (sym (same_field (lit_in d') (lit_in d) lit));
       older = λ m h. st.older m h ∙ ap (λ b. of_rows (m % 8) && (b && not (d.visited (column at.word m) (row at.stripe m)))) (sym (lit (column at.word m) (row at.stripe m)));
       awaits = λ m h. step_on z m (on (bit_and n (n - 1)) m) (on n m) true (on places m) st.n onward (rest_at n p q m) (st.awaits m h);
       bits = bits_more at k d places n ones bit p q st.bits both.1 next.place lim limo;

@@ -1,6 +1,6 @@
 -- What is seen of a word where one of its places becomes significant.
-use Rattle.std.proofs.Common.{◌≡◌, ℕ, ◌+◌, ◌-◌, ◌*◌, ◌/◌, ◌%◌, ◌^◌, ◌<◌, ◌≤◌, Bool, true, false, cond, refl, sym, ap, ◌∙◌, arith}
-use Rattle.std.specs.Prelude.{◌&&◌, nat_eq, nat_le}
+use Rattle.std.proofs.Common.{◌≡◌, ℕ, ◌+◌, ◌-◌, ◌*◌, ◌/◌, ◌%◌, ◌^◌, ◌<◌, ◌≤◌, Bool, true, false, not, cond, refl, sym, ap, ◌∙◌, subst, arith}
+use Rattle.std.specs.Prelude.{◌&&◌, ◌||◌, nat_eq, nat_le}
 use Rattle.std.specs.Int.RustNames.{bit_or}
 use Rattle.std.proofs.lemmas.Bool.Decides.{nat_tests}
 use Rattle.std.proofs.lemmas.Nat.{pow_pos}
@@ -8,7 +8,9 @@ use Rattle.jk_scan.specs.declared.around.Around.{Around}
 use Rattle.jk_scan.specs.Words.{Truths, of_rows, of_gathered, bordered}
 use Rattle.jk_scan.specs.WordPlaces.{column, row}
 use Rattle.jk_scan.specs.Surroundings.{IsAround}
-use Rattle.jk_scan.proofs.Laws.{rows_between, IsPut}
+use Rattle.jk_scan.specs.declared.shape.BlockShape.{BlockShape}
+use Rattle.jk_scan.specs.Neighbours.{seen_from}
+use Rattle.jk_scan.proofs.Laws.{same_field, seen_is, row_stripe, rows_between, IsPut}
 use Rattle.jk_block.specs.declared.spot.Spot.{Spot}
 use Rattle.jk_block.specs.declared.decoding.sight.Sight.{Sight}
 use Rattle.jk_block.specs.Meaning.{above}
@@ -20,9 +22,9 @@ use Rattle.jk_block.proofs.Drawing.{lit_put}
 use Rattle.jk_block.proofs.WordBits.{around_also}
 
 -- a place has another value
-around_put : (f : Truths) (j i z new : ℕ) (bit : Bool) (seen : Around) → z < 64 → of_rows (z % 8) ≡ true → IsPut seen.centre new z bit → IsAround (bordered f) j i seen
+put_seen : (f : Truths) (j i z new : ℕ) (bit : Bool) (seen : Around) → z < 64 → of_rows (z % 8) ≡ true → IsPut seen.centre new z bit → IsAround (bordered f) j i seen
     → IsAround (bordered (put f (column j z) (row i z) bit)) j i record { centre = new; west = seen.west; east = seen.east }
-around_put f j i z new bit seen lim on_row is_put h =
+put_seen f j i z new bit seen lim on_row is_put h =
     let between = rows_between (z % 8) on_row in
     record {
       centre = λ c b p q. is_put (8 * c + b) (omega arith) ∙ ap (λ v. cond (nat_eq (8 * c + b) z) bit v) (h.centre c b p q)
@@ -57,6 +59,35 @@ around_put f j i z new bit seen lim on_row is_put h =
     here true false v w false place a d = refl
     here true true false w false place a d = refl
 
+-- a stripe sees a value that is put into one of its own places
+seen_put : (s : BlockShape) (f : Truths) (j i z : ℕ) (bit : Bool) → of_rows (z % 8) ≡ true → (x y : ℕ) → seen_from s i (put f (column j z) (row i z) bit) x y ≡ put (seen_from s i f) (column j z) (row i z) bit x y
+seen_put s f j i z bit on_row x y =
+    let own = row_stripe i z on_row in
+    seen_is s i (put f (column j z) (row i z) bit) x y
+    ∙ gate (nat_eq x (column j z)) (nat_eq y (row i z)) (f x y) (not s.style.causal) (nat_le (y / 4) i) (λ e. within own (same y (row i z) e))
+    ∙ ap (λ v. cond (nat_eq x (column j z) && nat_eq y (row i z)) bit v) (sym (seen_is s i f x y))
+  where
+    same : (a b : ℕ) → nat_eq a b ≡ true → a ≡ b
+    same a b e = grind (arith, nat_tests)
+
+    within : row i z / 4 ≡ i → y ≡ row i z → nat_le (y / 4) i ≡ true
+    within own e = let g : y / 4 ≡ i = ap (λ n. n / 4) e ∙ own in grind (arith, nat_tests)
+
+    seen_whole : (b c v : Bool) → v ≡ true → (b && (c || v)) ≡ b
+    seen_whole b c v e = grind (arith, nat_tests)
+
+    gate : (p q a c v : Bool) → (q ≡ true → v ≡ true) → (cond (p && q) bit a && (c || v)) ≡ cond (p && q) bit (a && (c || v))
+    gate true true a c v h = seen_whole bit c v (h refl)
+    gate true false a c v h = refl
+    gate false q a c v h = refl
+
+around_put : (s : BlockShape) (f : Truths) (j i z new : ℕ) (bit : Bool) (seen : Around) → z < 64 → of_rows (z % 8) ≡ true → IsPut seen.centre new z bit → IsAround (bordered (seen_from s i f)) j i seen
+    → IsAround (bordered (seen_from s i (put f (column j z) (row i z) bit))) j i record { centre = new; west = seen.west; east = seen.east }
+around_put s f j i z new bit seen lim on_row is_put h =
+    subst (λ (g : Truths). IsAround (bordered g) j i record { centre = new; west = seen.west; east = seen.east })
+    (sym (same_field (seen_from s i (put f (column j z) (row i z) bit)) (put (seen_from s i f) (column j z) (row i z) bit) (seen_put s f j i z bit on_row)))
+    (put_seen (seen_from s i f) j i z new bit seen lim on_row is_put h)
+
 -- the place becomes significant, with its sign
 pub sees_lit : (at : Spot) (d : Draft) (sight : Sight) (k new : ℕ) (negative : Bool) → IsPlace d.shape at k → IsPut sight.negative.centre new k negative → Sees at d sight
     → Sees at (coded_in at.plane (column at.word k) (row at.stripe k) true negative d)
@@ -66,7 +97,7 @@ sees_lit at d sight k new negative place is_put s =
     let y = row at.stripe k in
     let d' = coded_in at.plane x y true negative d in
     record {
-      significant = around_also (lit_in d) (lit_in d') at.word at.stripe k sight.significant place.within place.on_row
+      significant = around_also d.shape (lit_in d) (lit_in d') at.word at.stripe k sight.significant place.within place.on_row
           (λ u v. lit_put d.shape d.magnitude x y (above (at.plane + 1) (d.magnitude x y) + 2 ^ at.plane) place.inside (let p = pow_pos at.plane in omega (arith, p)) u v) s.significant;
-      negative = around_put d.negative at.word at.stripe k new negative sight.negative place.within place.on_row is_put s.negative;
+      negative = around_put d.shape d.negative at.word at.stripe k new negative sight.negative place.within place.on_row is_put s.negative;
     }

@@ -13,18 +13,18 @@ use Rattle.jk_mqdec.specs.Standing.{View, Stands}
 use Rattle.jk_scan.specs.declared.shape.BlockShape.{BlockShape}
 use Rattle.jk_scan.specs.declared.around.Around.{Around}
 use Rattle.jk_scan.specs.Bits.{on}
-use Rattle.jk_scan.specs.Neighbours.{Field, is_inside, touched}
+use Rattle.jk_scan.specs.Neighbours.{Field, is_inside, touched_in}
 use Rattle.jk_scan.specs.Words.{Truths, of_rows, of_gathered, Shows, bordered, is_member}
 use Rattle.jk_scan.specs.WordPlaces.{column, row, also}
 use Rattle.jk_scan.specs.Surroundings.{IsAround}
-use Rattle.jk_scan.proofs.Laws.{same_field, added_at, lowest, rest_at, taken, taken_low, on_or, on_and, on_zero}
+use Rattle.jk_scan.proofs.Laws.{same_field, seen_also, added_at, lowest, rest_at, taken, taken_low, on_or, on_and, on_zero}
 use Rattle.jk_block.specs.declared.spot.Spot.{Spot}
 use Rattle.jk_block.specs.declared.decoding.sight.Sight.{Sight}
 use Rattle.jk_block.specs.Fields.{is_in_word, own_bit, with_word}
 use Rattle.jk_block.specs.Meaning.{above}
 use Rattle.jk_block.specs.Reading.{put, place_at, read_new}
 use Rattle.jk_block.specs.decoding.Sketches.{Draft, progress, lit_in, coded_in, visited_in, Advanced, Takes}
-use Rattle.jk_block.specs.decoding.Sights.{Sees, Held, lit_at, sign_seen}
+use Rattle.jk_block.specs.decoding.Sights.{seen_in, Sees, Held, lit_at, sign_seen}
 use Rattle.jk_block.specs.Steps.{IsPlace}
 use Rattle.jk_block.proofs.Drawing.{lit_put}
 use Rattle.jk_block.proofs.WordDrawing.{bit_within, place_bit, same_place}
@@ -35,7 +35,7 @@ use Rattle.jk_block.proofs.WordBits.{bordered_also, is_spread, spread_is_member,
 
 -- Words show the pass at bit n: what is around, and the members from there on.
 pub record Spreads (at : Spot) (n : ℕ) (d : Draft) (seen : Around) (inside candidates : ℕ) : Type 0 where
-  pub around : IsAround (bordered (lit_in d)) at.word at.stripe seen
+  pub around : IsAround (bordered (seen_in d at.stripe)) at.word at.stripe seen
   pub limits : Shows of_rows (bordered (is_inside d.shape)) (at.word + 1) (at.stripe + 1) inside
   pub awaits : (m : ℕ) → m < 64 → on candidates m ≡ (nat_le n m && is_spread d.shape (lit_in d) at.word at.stripe m)
 
@@ -89,14 +89,14 @@ le_zero m = grind (arith, nat_tests)
 lt_zero : (m : ℕ) → nat_lt m 0 ≡ false
 lt_zero m = grind (arith, nat_tests)
 
-members_are : (at : Spot) (k : Draft) (candidates : ℕ) → Shows of_rows (is_member (bordered (is_inside k.shape)) (bordered (lit_in k))) (at.word + 1) (at.stripe + 1) candidates
+members_are : (at : Spot) (k : Draft) (candidates : ℕ) → Shows of_rows (is_member (bordered (is_inside k.shape)) (bordered (seen_in k at.stripe))) (at.word + 1) (at.stripe + 1) candidates
     → (m : ℕ) → m < 64 → on candidates m ≡ is_spread k.shape (lit_in k) at.word at.stripe m
 members_are at k candidates members m l =
     ap (on candidates) (let e : m ≡ 8 * (m / 8) + m % 8 = omega arith in e) ∙ members (m / 8) (m % 8) (omega arith) (omega arith)
     ∙ spread_is_member k.shape (lit_in k) at.word at.stripe m
 
 spread_inside : (s : BlockShape) (f : Field Bool) (j i m : ℕ) → is_spread s f j i m ≡ true → (of_rows (m % 8) && is_inside s (column j m) (row i m)) ≡ true
-spread_inside s f j i m e = by (of_rows (m % 8)) (is_inside s (column j m) (row i m)) (not (f (column j m) (row i m)) && touched f (column j m) (row i m)) e
+spread_inside s f j i m e = by (of_rows (m % 8)) (is_inside s (column j m) (row i m)) (not (f (column j m) (row i m)) && touched_in s f (column j m) (row i m)) e
   where
     by : (a b c : Bool) → (a && (b && c)) ≡ true → (a && b) ≡ true
     by true true c e = refl
@@ -104,7 +104,7 @@ spread_inside s f j i m e = by (of_rows (m % 8)) (is_inside s (column j m) (row 
     by false b c e = e
 
 pub spreading_none : (at : Spot) (k : Draft) (v : View) (sight : Sight) (inside candidates : ℕ) → Sees at k sight → Shows of_rows (bordered (is_inside k.shape)) (at.word + 1) (at.stripe + 1) inside
-    → Shows of_rows (is_member (bordered (is_inside k.shape)) (bordered (lit_in k))) (at.word + 1) (at.stripe + 1) candidates → Spreading at k v v sight inside candidates candidates
+    → Shows of_rows (is_member (bordered (is_inside k.shape)) (bordered (seen_in k at.stripe))) (at.word + 1) (at.stripe + 1) candidates → Spreading at k v v sight inside candidates candidates
 spreading_none at k v sight inside candidates sees limits members = record {
   n = 0;
   draft = k;
@@ -124,7 +124,7 @@ spreading_none at k v sight inside candidates sees limits members = record {
 }
 
 -- no place is a member
-pub spreading_idle : (at : Spot) (k : Draft) (v : View) (candidates : ℕ) → Shows of_rows (is_member (bordered (is_inside k.shape)) (bordered (lit_in k))) (at.word + 1) (at.stripe + 1) candidates
+pub spreading_idle : (at : Spot) (k : Draft) (v : View) (candidates : ℕ) → Shows of_rows (is_member (bordered (is_inside k.shape)) (bordered (seen_in k at.stripe))) (at.word + 1) (at.stripe + 1) candidates
     → candidates ≡ 0 → Going 0 at 64 k k v v
 spreading_idle at k v candidates members empty =
     going_skip 0 at 0 64 k k v v (going_none 0 at k k v refl (λ coder. refl)) (omega arith) (omega arith) (λ coder m a b. record { plain = λ _. none (nat_lt (8 * at.word + m / 8) k.shape.width); idle = λ c d. idle m a b c d })
@@ -134,15 +134,15 @@ spreading_idle at k v candidates members empty =
     none false = refl
 
     idle : (m : ℕ) → 0 ≤ m → m < 64 → 1 ≤ m % 8 → m % 8 < 5
-        → (is_inside k.shape (8 * at.word + m / 8) (4 * at.stripe + m % 8 - 1) && (not (lit_in k (8 * at.word + m / 8) (4 * at.stripe + m % 8 - 1)) && touched (lit_in k) (8 * at.word + m / 8) (4 * at.stripe + m % 8 - 1))) ≡ false
+        → (is_inside k.shape (8 * at.word + m / 8) (4 * at.stripe + m % 8 - 1) && (not (lit_in k (8 * at.word + m / 8) (4 * at.stripe + m % 8 - 1)) && touched_in k.shape (lit_in k) (8 * at.word + m / 8) (4 * at.stripe + m % 8 - 1))) ≡ false
     idle m a b c d =
-        second (of_rows (m % 8)) (is_inside k.shape (column at.word m) (row at.stripe m) && (not (lit_in k (column at.word m) (row at.stripe m)) && touched (lit_in k) (column at.word m) (row at.stripe m)))
+        second (of_rows (m % 8)) (is_inside k.shape (column at.word m) (row at.stripe m) && (not (lit_in k (column at.word m) (row at.stripe m)) && touched_in k.shape (lit_in k) (column at.word m) (row at.stripe m)))
         (sym (members_are at k candidates members m b) ∙ ap (λ w. on w m) empty ∙ on_zero m) (on_rows (m % 8) c d)
 
 -- the next place that is coded
 pub record NextMember (at : Spot) (k d : Draft) (v0 v : View) (z : ℕ) : Type 0 where
   pub place : IsPlace d.shape at z
-  pub due : (not (lit_in d (column at.word z) (row at.stripe z)) && touched (lit_in d) (column at.word z) (row at.stripe z)) ≡ true
+  pub due : (not (lit_in d (column at.word z) (row at.stripe z)) && touched_in d.shape (lit_in d) (column at.word z) (row at.stripe z)) ≡ true
   pub going : Going 0 at z k d v0 v
 
 not_lit : (a b : Bool) → (not a && b) ≡ true → a ≡ false
@@ -163,8 +163,8 @@ spreading_next at k v0 v sight inside n visited st p q =
     let l = lowest n p q in
     let both = and_parts (nat_le st.n z) (is_spread d.shape (lit_in d) at.word at.stripe z) (sym (st.spreads.awaits z l.0) ∙ l.1) in
     let onward = reached at k v0 v sight inside n visited st p q in
-    let parts = and_parts (of_rows (z % 8)) (is_inside d.shape (column at.word z) (row at.stripe z) && (not (lit_in d (column at.word z) (row at.stripe z)) && touched (lit_in d) (column at.word z) (row at.stripe z))) both.1 in
-    let due = and_parts (is_inside d.shape (column at.word z) (row at.stripe z)) (not (lit_in d (column at.word z) (row at.stripe z)) && touched (lit_in d) (column at.word z) (row at.stripe z)) parts.1 in
+    let parts = and_parts (of_rows (z % 8)) (is_inside d.shape (column at.word z) (row at.stripe z) && (not (lit_in d (column at.word z) (row at.stripe z)) && touched_in d.shape (lit_in d) (column at.word z) (row at.stripe z))) both.1 in
+    let due = and_parts (is_inside d.shape (column at.word z) (row at.stripe z)) (not (lit_in d (column at.word z) (row at.stripe z)) && touched_in d.shape (lit_in d) (column at.word z) (row at.stripe z)) parts.1 in
     let within = l.0 in
     record {
       place = record { within = l.0; on_row = parts.0; inside = due.0 };
@@ -183,11 +183,11 @@ spreading_next at k v0 v sight inside n visited st p q =
         none_before (on n m) (nat_le st.n m) (is_spread st.draft.shape (lit_in st.draft) at.word at.stripe m) (l.2 m b) (st.spreads.awaits m (omega (arith, w, b))) (le_true st.n m a)
 
     idle : (m : ℕ) → st.n ≤ m → m < trailing_zeros w64 n → 1 ≤ m % 8 → m % 8 < 5
-        → (is_inside st.draft.shape (8 * at.word + m / 8) (4 * at.stripe + m % 8 - 1) && (not (lit_in st.draft (8 * at.word + m / 8) (4 * at.stripe + m % 8 - 1)) && touched (lit_in st.draft) (8 * at.word + m / 8) (4 * at.stripe + m % 8 - 1))) ≡ false
-    idle m a b c d = second (of_rows (m % 8)) (is_inside st.draft.shape (column at.word m) (row at.stripe m) && (not (lit_in st.draft (column at.word m) (row at.stripe m)) && touched (lit_in st.draft) (column at.word m) (row at.stripe m))) (spreads m a b) (on_rows (m % 8) c d)
+        → (is_inside st.draft.shape (8 * at.word + m / 8) (4 * at.stripe + m % 8 - 1) && (not (lit_in st.draft (8 * at.word + m / 8) (4 * at.stripe + m % 8 - 1)) && touched_in st.draft.shape (lit_in st.draft) (8 * at.word + m / 8) (4 * at.stripe + m % 8 - 1))) ≡ false
+    idle m a b c d = second (of_rows (m % 8)) (is_inside st.draft.shape (column at.word m) (row at.stripe m) && (not (lit_in st.draft (column at.word m) (row at.stripe m)) && touched_in st.draft.shape (lit_in st.draft) (column at.word m) (row at.stripe m))) (spreads m a b) (on_rows (m % 8) c d)
 
 -- a place is coded: what the call that reads it takes
-pub member_takes : {A : Type 0} (at : Spot) (d d' : Draft) (v v' : View) (z : ℕ) (u : A) → IsPlace d.shape at z → (not (lit_in d (column at.word z) (row at.stripe z)) && touched (lit_in d) (column at.word z) (row at.stripe z)) ≡ true
+pub member_takes : {A : Type 0} (at : Spot) (d d' : Draft) (v v' : View) (z : ℕ) (u : A) → IsPlace d.shape at z → (not (lit_in d (column at.word z) (row at.stripe z)) && touched_in d.shape (lit_in d) (column at.word z) (row at.stripe z)) ≡ true
     → ((coder : State) → Stands v coder → Advanced (read_new v.bytes d.shape at.plane (column at.word z) (row at.stripe z)) (visited_in (column at.word z) (row at.stripe z) d) d' v' coder)
     → Takes (place_at v.bytes d.shape at.plane 0 (column at.word z) (row at.stripe z)) d d' v v' (Ok u)
 member_takes at d d' v v' z u place due takes = λ coder st.
@@ -324,7 +324,7 @@ spreading_zero at k v0 v v' sight sight' inside n visited u st p q takes bytes s
     plain false = refl
 
 lit_off : (at : Spot) (k d : Draft) (v0 v : View) (z : ℕ) → NextMember at k d v0 v z → lit_in d (column at.word z) (row at.stripe z) ≡ false
-lit_off at k d v0 v z next = not_lit (lit_in d (column at.word z) (row at.stripe z)) (touched (lit_in d) (column at.word z) (row at.stripe z)) next.due
+lit_off at k d v0 v z next = not_lit (lit_in d (column at.word z) (row at.stripe z)) (touched_in d.shape (lit_in d) (column at.word z) (row at.stripe z)) next.due
 
 -- what a place that became significant takes in lies inside
 taken_inside : (s : BlockShape) (j i inside x z m : ℕ) → Shows of_rows (bordered (is_inside s)) (j + 1) (i + 1) inside → m < 64 → on (taken inside x z) m ≡ true → (of_rows (m % 8) && is_inside s (column j m) (row i m)) ≡ true
@@ -357,9 +357,9 @@ spreading_one at k v0 v v' sight sight' inside n visited u st p q xb takes bytes
     let onward = reached at k v0 v sight inside n visited st p q in
     let centre = sight'.significant.centre in
     let ins = bordered (is_inside d.shape) in
-    let old = bordered (lit_in d) in
+    let old = bordered (seen_in d at.stripe) in
     let lit = grown at d z (sign_seen sight' z) next.place in
-    let own = subst (λ (f : Truths). Shows of_gathered f (j + 1) (i + 1) centre) (ap (λ (g : Truths). bordered g) (same_field (lit_in d') (also (lit_in d) x y) lit) ∙ bordered_also (lit_in d) j i z next.place.on_row) sees.significant.centre in
+    let own = subst (λ (f : Truths). Shows of_gathered f (j + 1) (i + 1) centre) (ap (λ (g : Truths). bordered g) (same_field (seen_in d' i) (also (seen_in d i) x y) (seen_also d.shape (lit_in d) (lit_in d') j i z next.place.on_row lit)) ∙ bordered_also (seen_in d i) j i z next.place.on_row) sees.significant.centre in
     record {
       n = z + 1;
       draft = d';
@@ -384,7 +384,7 @@ spreading_one at k v0 v v' sight sight' inside n visited u st p q xb takes bytes
     grown : (at : Spot) (d : Draft) (z : ℕ) (negative : Bool) → IsPlace d.shape at z → (u v : ℕ) → lit_in (coded_in at.plane (column at.word z) (row at.stripe z) true negative d) u v ≡ also (lit_in d) (column at.word z) (row at.stripe z) u v
     grown at d z negative place u v = lit_put d.shape d.magnitude (column at.word z) (row at.stripe z) (above (at.plane + 1) (d.magnitude (column at.word z) (row at.stripe z)) + 2 ^ at.plane) place.inside (let p = pow_pos at.plane in omega (arith, p)) u v
 
-    later : (m : ℕ) → (of_rows (m % 8) && is_member (bordered (is_inside st.draft.shape)) (also (bordered (lit_in st.draft)) (column (at.word + 1) (trailing_zeros w64 n)) (row (at.stripe + 1) (trailing_zeros w64 n))) (column (at.word + 1) m) (row (at.stripe + 1) m))
+    later : (m : ℕ) → (of_rows (m % 8) && is_member (bordered (is_inside st.draft.shape)) (also (bordered (seen_in st.draft at.stripe)) (column (at.word + 1) (trailing_zeros w64 n)) (row (at.stripe + 1) (trailing_zeros w64 n))) (column (at.word + 1) m) (row (at.stripe + 1) m))
         ≡ is_spread st.draft.shape (lit_in (lit_at at (trailing_zeros w64 n) sight' (visited_in (column at.word (trailing_zeros w64 n)) (row at.stripe (trailing_zeros w64 n)) st.draft))) at.word at.stripe m
     later m =
         let d = st.draft in
@@ -392,7 +392,8 @@ spreading_one at k v0 v v' sight sight' inside n visited u st p q xb takes bytes
         let next = spreading_next at k v0 v sight inside n visited st p q in
         let d' = lit_at at z sight' (visited_in (column at.word z) (row at.stripe z) d) in
         ap (λ (g : Truths). of_rows (m % 8) && is_member (bordered (is_inside d.shape)) g (column (at.word + 1) m) (row (at.stripe + 1) m))
-        (sym (bordered_also (lit_in d) at.word at.stripe z next.place.on_row) ∙ sym (ap (λ (g : Truths). bordered g) (same_field (lit_in d') (also (lit_in d) (column at.word z) (row at.stripe z)) (grown at d z (sign_seen sight' z) next.place))))
+        (sym (bordered_also (seen_in d at.stripe) at.word at.stripe z next.place.on_row)
+        ∙ sym (ap (λ (g : Truths). bordered g) (same_field (seen_in d' at.stripe) (also (seen_in d at.stripe) (column at.word z) (row at.stripe z)) (seen_also d.shape (lit_in d) (lit_in d') at.word at.stripe z next.place.on_row (grown at d z (sign_seen sight' z) next.place)))))
         ∙ spread_is_member d.shape (lit_in d') at.word at.stripe m
 
 pub spreading_all : (at : Spot) (k : Draft) (v0 v : View) (sight : Sight) (inside n visited : ℕ) (st : Spreading at k v0 v sight inside n visited) → n ≡ 0 → Going 0 at 64 k st.draft v0 v
@@ -404,9 +405,9 @@ spreading_all at k v0 v sight inside n visited st empty =
     none false = refl
 
     idle : (m : ℕ) → st.n ≤ m → m < 64 → 1 ≤ m % 8 → m % 8 < 5
-        → (is_inside st.draft.shape (8 * at.word + m / 8) (4 * at.stripe + m % 8 - 1) && (not (lit_in st.draft (8 * at.word + m / 8) (4 * at.stripe + m % 8 - 1)) && touched (lit_in st.draft) (8 * at.word + m / 8) (4 * at.stripe + m % 8 - 1))) ≡ false
+        → (is_inside st.draft.shape (8 * at.word + m / 8) (4 * at.stripe + m % 8 - 1) && (not (lit_in st.draft (8 * at.word + m / 8) (4 * at.stripe + m % 8 - 1)) && touched_in st.draft.shape (lit_in st.draft) (8 * at.word + m / 8) (4 * at.stripe + m % 8 - 1))) ≡ false
     idle m a b c d =
-        second (of_rows (m % 8)) (is_inside st.draft.shape (column at.word m) (row at.stripe m) && (not (lit_in st.draft (column at.word m) (row at.stripe m)) && touched (lit_in st.draft) (column at.word m) (row at.stripe m)))
+        second (of_rows (m % 8)) (is_inside st.draft.shape (column at.word m) (row at.stripe m) && (not (lit_in st.draft (column at.word m) (row at.stripe m)) && touched_in st.draft.shape (lit_in st.draft) (column at.word m) (row at.stripe m)))
         (none_before (on n m) (nat_le st.n m) (is_spread st.draft.shape (lit_in st.draft) at.word at.stripe m) (ap (λ w. on w m) empty ∙ on_zero m) (st.spreads.awaits m b) (le_true st.n m a))
         (on_rows (m % 8) c d)
 
@@ -431,7 +432,7 @@ marked_all at k v0 v sight inside n visited st empty = same_field st.draft.visit
       | inr more ↦ off m (on visited m) (st.marks.ahead m l more ∙ ap (λ w. on w m) empty ∙ on_zero m)
     ]
 
-pub member_fault : (at : Spot) (d : Draft) (v : View) (z : ℕ) (e : Fault) → IsPlace d.shape at z → (not (lit_in d (column at.word z) (row at.stripe z)) && touched (lit_in d) (column at.word z) (row at.stripe z)) ≡ true
+pub member_fault : (at : Spot) (d : Draft) (v : View) (z : ℕ) (e : Fault) → IsPlace d.shape at z → (not (lit_in d (column at.word z) (row at.stripe z)) && touched_in d.shape (lit_in d) (column at.word z) (row at.stripe z)) ≡ true
     → ((coder : State) → Stands v coder → read_new v.bytes d.shape at.plane (column at.word z) (row at.stripe z) (progress (visited_in (column at.word z) (row at.stripe z) d) coder) ≡ Err e)
     → (coder : State) → Stands v coder → place_at v.bytes d.shape at.plane 0 (column at.word z) (row at.stripe z) (progress d coder) ≡ Err e
 member_fault at d v z e place due takes coder st = member_due v.bytes d.shape at.plane (column at.word z) (row at.stripe z) (progress d coder) place.inside due ∙ takes coder st

@@ -11,7 +11,7 @@ use Rattle.jk_mqdec.specs.Standing.{View, Stands}
 use Rattle.jk_scan.specs.declared.shape.BlockShape.{BlockShape}
 use Rattle.jk_scan.specs.declared.contexts.SignContext.{SignContext}
 use Rattle.jk_scan.specs.Contexts.{refine_context_of, run_length, uniform}
-use Rattle.jk_scan.specs.Neighbours.{touched, zero_at, sign_at}
+use Rattle.jk_scan.specs.Neighbours.{touched_in, zero_in, sign_in}
 use Rattle.jk_scan.specs.Passes.{flipped}
 use Rattle.jk_block.specs.Reading.{Progress, lit, times, decide, with_coder, coded_as, place_at, read_sign, read_new, read_refined, rows_at, row_named, read_from, read_run, pass_at, blank}
 use Rattle.jk_block.specs.decoding.Sketches.{Draft, progress, lit_in, coded_in, Advanced, TakesTo, Takes}
@@ -39,40 +39,40 @@ unfolding decide bit_err
 decide_err bytes cx s e h = ap (λ (r : Result Bool Fault). r >>= λ bit. done (bit, next bytes s cx)) (sym h)
 
 -- the steps of a place, where the decoder gave a bit or a fault
-pub sign_takes : (bytes : List ℕ) (s : BlockShape) (b x y : ℕ) (z : Progress) (c : SignContext) (bit : Bool) (n : State) → c ≡ sign_at (lit s z) z.negative x y → decide bytes c.context z.coder ≡ Ok (bit, n)
+pub sign_takes : (bytes : List ℕ) (s : BlockShape) (b x y : ℕ) (z : Progress) (c : SignContext) (bit : Bool) (n : State) → c ≡ sign_in s (lit s z) z.negative x y → decide bytes c.context z.coder ≡ Ok (bit, n)
     → read_sign bytes s b x y z ≡ Ok (with_coder (coded_as b x y true (flipped c.flip bit) z) n)
 unfolding read_sign
 sign_takes bytes s b x y z c bit n e d =
     ap (λ (c : SignContext). decide bytes c.context z.coder >>= λ d. done (with_coder (coded_as b x y true (flipped c.flip d.0) z) d.1)) (sym e)
     ∙ ap (λ (r : Result (Bool × State) Fault). r >>= λ d. done (with_coder (coded_as b x y true (flipped c.flip d.0) z) d.1)) d
 
-pub sign_faults : (bytes : List ℕ) (s : BlockShape) (b x y : ℕ) (z : Progress) (c : SignContext) (f : Fault) → c ≡ sign_at (lit s z) z.negative x y → decide bytes c.context z.coder ≡ Err f → read_sign bytes s b x y z ≡ Err f
+pub sign_faults : (bytes : List ℕ) (s : BlockShape) (b x y : ℕ) (z : Progress) (c : SignContext) (f : Fault) → c ≡ sign_in s (lit s z) z.negative x y → decide bytes c.context z.coder ≡ Err f → read_sign bytes s b x y z ≡ Err f
 unfolding read_sign
 sign_faults bytes s b x y z c f e d =
     ap (λ (c : SignContext). decide bytes c.context z.coder >>= λ d. done (with_coder (coded_as b x y true (flipped c.flip d.0) z) d.1)) (sym e)
     ∙ ap (λ (r : Result (Bool × State) Fault). r >>= λ d. done (with_coder (coded_as b x y true (flipped c.flip d.0) z) d.1)) d
 
-pub new_takes : (bytes : List ℕ) (s : BlockShape) (b x y : ℕ) (z : Progress) (cx : ℕ) (bit : Bool) (n : State) (r : Result Progress Fault) → cx ≡ zero_at s.orientation (lit s z) x y → decide bytes cx z.coder ≡ Ok (bit, n)
+pub new_takes : (bytes : List ℕ) (s : BlockShape) (b x y : ℕ) (z : Progress) (cx : ℕ) (bit : Bool) (n : State) (r : Result Progress Fault) → cx ≡ zero_in s (lit s z) x y → decide bytes cx z.coder ≡ Ok (bit, n)
     → cond bit (read_sign bytes s b x y (with_coder z n)) (Ok (with_coder z n)) ≡ r → read_new bytes s b x y z ≡ r
 unfolding read_new
 new_takes bytes s b x y z cx bit n r e d h =
     ap (λ (c : ℕ). decide bytes c z.coder >>= λ d. cond d.0 (read_sign bytes s b x y (with_coder z d.1)) (done (with_coder z d.1))) (sym e)
     ∙ ap (λ (r : Result (Bool × State) Fault). r >>= λ d. cond d.0 (read_sign bytes s b x y (with_coder z d.1)) (done (with_coder z d.1))) d ∙ h
 
-pub new_faults : (bytes : List ℕ) (s : BlockShape) (b x y : ℕ) (z : Progress) (cx : ℕ) (f : Fault) → cx ≡ zero_at s.orientation (lit s z) x y → decide bytes cx z.coder ≡ Err f → read_new bytes s b x y z ≡ Err f
+pub new_faults : (bytes : List ℕ) (s : BlockShape) (b x y : ℕ) (z : Progress) (cx : ℕ) (f : Fault) → cx ≡ zero_in s (lit s z) x y → decide bytes cx z.coder ≡ Err f → read_new bytes s b x y z ≡ Err f
 unfolding read_new
 new_faults bytes s b x y z cx f e d =
     ap (λ (c : ℕ). decide bytes c z.coder >>= λ d. cond d.0 (read_sign bytes s b x y (with_coder z d.1)) (done (with_coder z d.1))) (sym e)
     ∙ ap (λ (r : Result (Bool × State) Fault). r >>= λ d. cond d.0 (read_sign bytes s b x y (with_coder z d.1)) (done (with_coder z d.1))) d
 
-pub next_takes : (bytes : List ℕ) (s : BlockShape) (b x y : ℕ) (z : Progress) (cx : ℕ) (bit : Bool) (n : State) → cx ≡ refine_context_of (nat_le 4 (z.magnitude x y / 2 ^ b)) (touched (lit s z) x y) → decide bytes cx z.coder ≡ Ok (bit, n)
+pub next_takes : (bytes : List ℕ) (s : BlockShape) (b x y : ℕ) (z : Progress) (cx : ℕ) (bit : Bool) (n : State) → cx ≡ refine_context_of (nat_le 4 (z.magnitude x y / 2 ^ b)) (touched_in s (lit s z) x y) → decide bytes cx z.coder ≡ Ok (bit, n)
     → read_refined bytes s b x y z ≡ Ok (with_coder (coded_as b x y bit (z.negative x y) z) n)
 unfolding read_refined
 next_takes bytes s b x y z cx bit n e d =
     ap (λ (c : ℕ). decide bytes c z.coder >>= λ d. done (with_coder (coded_as b x y d.0 (z.negative x y) z) d.1)) (sym e)
     ∙ ap (λ (r : Result (Bool × State) Fault). r >>= λ d. done (with_coder (coded_as b x y d.0 (z.negative x y) z) d.1)) d
 
-pub next_faults : (bytes : List ℕ) (s : BlockShape) (b x y : ℕ) (z : Progress) (cx : ℕ) (f : Fault) → cx ≡ refine_context_of (nat_le 4 (z.magnitude x y / 2 ^ b)) (touched (lit s z) x y) → decide bytes cx z.coder ≡ Err f
+pub next_faults : (bytes : List ℕ) (s : BlockShape) (b x y : ℕ) (z : Progress) (cx : ℕ) (f : Fault) → cx ≡ refine_context_of (nat_le 4 (z.magnitude x y / 2 ^ b)) (touched_in s (lit s z) x y) → decide bytes cx z.coder ≡ Err f
     → read_refined bytes s b x y z ≡ Err f
 unfolding read_refined
 next_faults bytes s b x y z cx f e d =
@@ -218,7 +218,7 @@ no_rows bytes s b x i j z = refl
 
 -- a place that was significant before this plane
 pub refined_takes : (at : Spot) (d : Draft) (x y : ℕ) (bytes : List ℕ) (cx : ℕ) (v v' : View) (r : Result Bool Fault) → lit_in d x y ≡ true → d.visited x y ≡ false
-    → cx ≡ refine_context_of (nat_le 4 (d.magnitude x y / 2 ^ at.plane)) (touched (lit_in d) x y) → ((s : State) → Stands v s → r ≡ answer bytes s cx) → OnOk r ((s : State) → Stands v s → Stands v' (next bytes s cx))
+    → cx ≡ refine_context_of (nat_le 4 (d.magnitude x y / 2 ^ at.plane)) (touched_in d.shape (lit_in d) x y) → ((s : State) → Stands v s → r ≡ answer bytes s cx) → OnOk r ((s : State) → Stands v s → Stands v' (next bytes s cx))
     → TakesTo (place_at bytes d.shape at.plane 1 x y) d (λ bit. coded_in at.plane x y bit (d.negative x y) d) v v' r
 refined_takes at d x y bytes cx v v' (Ok bit) lit uncoded is answers goes = λ coder st. record {
   next = next bytes coder cx;

@@ -8,12 +8,12 @@ use Rattle.std.proofs.lemmas.Bool.Decides.{nat_tests}
 use Rattle.std.proofs.lemmas.Nat.{pow_pos}
 use Rattle.jk_scan.specs.declared.shape.BlockShape.{BlockShape}
 use Rattle.jk_scan.specs.Bits.{on}
-use Rattle.jk_scan.specs.Neighbours.{Field, is_inside}
+use Rattle.jk_scan.specs.Neighbours.{Field, is_inside, seen_from}
 use Rattle.jk_scan.specs.Moments.{stripes}
 use Rattle.jk_scan.specs.Words.{Truths, of_rows, of_gathered, Shows, bordered}
 use Rattle.jk_scan.specs.WordPlaces.{column, row}
 use Rattle.jk_scan.specs.Flags.{IsDrawn, across, word_at, flag_at}
-use Rattle.jk_scan.proofs.Laws.{same_field, on_or, on_and, on_not}
+use Rattle.jk_scan.proofs.Laws.{same_field, on_or, on_and, on_not, seen_own, row_stripe}
 use Rattle.jk_block.specs.declared.spot.Spot.{Spot}
 use Rattle.jk_block.specs.declared.decoding.sight.Sight.{Sight}
 use Rattle.jk_block.specs.declared.decoding.sketch.Sketch.{Sketch}
@@ -33,9 +33,9 @@ same_or true f g = f refl
 same_or false f g = g refl
 
 -- the own places of a gathered word
-own_bits : (s : BlockShape) (f : Truths) (j i word limits m : ℕ) → Shows of_gathered (bordered f) (j + 1) (i + 1) word → Shows of_rows (bordered (is_inside s)) (j + 1) (i + 1) limits → m < 64
+own_bits : (s r : BlockShape) (f : Truths) (j i word limits m : ℕ) → Shows of_gathered (bordered (seen_from r i f)) (j + 1) (i + 1) word → Shows of_rows (bordered (is_inside s)) (j + 1) (i + 1) limits → m < 64
     → on (bit_and word limits) m ≡ (of_rows (m % 8) && (is_inside s (column j m) (row i m) && f (column j m) (row i m)))
-own_bits s f j i word limits m shows lim l =
+own_bits s r f j i word limits m shows lim l =
     on_and word limits m ∙ ap (λ b. on word m && b) (limit_bit s j i m limits lim l)
     ∙ same_or (of_rows (m % 8))
     (λ e. ap (λ b. b && (of_rows (m % 8) && is_inside s (column j m) (row i m))) (own e) ∙ turned (of_rows (m % 8)) (is_inside s (column j m) (row i m)) (f (column j m) (row i m)) e)
@@ -54,14 +54,15 @@ own_bits s f j i word limits m shows lim l =
     own e =
         let shifted = place_shifted j i m e in
         ap (on word) (let g : m ≡ 8 * (m / 8) + m % 8 = omega arith in g) ∙ shows (m / 8) (m % 8) (omega arith) (omega arith)
-        ∙ ap (λ b. b && bordered f (column (j + 1) m) (row (i + 1) m)) (gathered (m % 8) e)
-        ∙ ap (λ c. bordered f c (row (i + 1) m)) shifted.0 ∙ ap (λ r. bordered f (column j m + 8) r) shifted.1 ∙ bordered_at f (column j m) (row i m)
+        ∙ ap (λ b. b && bordered (seen_from r i f) (column (j + 1) m) (row (i + 1) m)) (gathered (m % 8) e)
+        ∙ ap (λ c. bordered (seen_from r i f) c (row (i + 1) m)) shifted.0 ∙ ap (λ y. bordered (seen_from r i f) (column j m + 8) y) shifted.1 ∙ bordered_at (seen_from r i f) (column j m) (row i m)
+        ∙ seen_own r i f (column j m) (row i m) (let own = row_stripe i m e in omega (arith, own))
 
-own_place : (s : BlockShape) (f : Truths) (j i word limits x y : ℕ) → Shows of_gathered (bordered f) (j + 1) (i + 1) word → Shows of_rows (bordered (is_inside s)) (j + 1) (i + 1) limits → is_in_word j i x y ≡ true
+own_place : (s r : BlockShape) (f : Truths) (j i word limits x y : ℕ) → Shows of_gathered (bordered (seen_from r i f)) (j + 1) (i + 1) word → Shows of_rows (bordered (is_inside s)) (j + 1) (i + 1) limits → is_in_word j i x y ≡ true
     → on (bit_and word limits) (own_bit x y) ≡ (is_inside s x y && f x y)
-own_place s f j i word limits x y shows lim w =
+own_place s r f j i word limits x y shows lim w =
     let b = bit_place j i x y w in
-    own_bits s f j i word limits (own_bit x y) shows lim (bit_within x y) ∙ ap (λ r. r && (is_inside s (column j (own_bit x y)) (row i (own_bit x y)) && f (column j (own_bit x y)) (row i (own_bit x y)))) (bit_on_row x y)
+    own_bits s r f j i word limits (own_bit x y) shows lim (bit_within x y) ∙ ap (λ r. r && (is_inside s (column j (own_bit x y)) (row i (own_bit x y)) && f (column j (own_bit x y)) (row i (own_bit x y)))) (bit_on_row x y)
     ∙ ap (λ u. is_inside s u (row i (own_bit x y)) && f u (row i (own_bit x y))) b.0 ∙ ap (λ v. is_inside s x v && f x v) b.1
 
 drawn_place : (s : BlockShape) (f : Truths) (words : List ℕ) (j i x y : ℕ) → IsDrawn s f words → j < across s → i < stripes s → is_in_word j i x y ≡ true → on (get_or words (word_at s (j + 1) (i + 1)) 0) (own_bit x y) ≡ f x y
@@ -126,7 +127,7 @@ new_bit : (at : Spot) (w : Sketch) (sight : Sight) (d : Draft) (limits p q x y :
 new_bit at w sight d limits p q x y a lim h room word =
     on_and (lit_word sight limits) (bit_not w64 (get_or w.significant p 0)) (own_bit x y)
     ∙ ap (λ b. b && on (bit_not w64 (get_or w.significant p 0)) (own_bit x y))
-    (own_place w.shape (lit_in d) at.word at.stripe sight.significant.centre limits x y h.sees.significant.centre lim word ∙ ap (λ b. is_inside w.shape x y && b) (module_lit at w d h.shape x y) ∙ absorbed (is_inside w.shape x y) (nat_lt 0 (d.magnitude x y)))
+    (own_place w.shape d.shape (lit_in d) at.word at.stripe sight.significant.centre limits x y h.sees.significant.centre lim word ∙ ap (λ b. is_inside w.shape x y && b) (module_lit at w d h.shape x y) ∙ absorbed (is_inside w.shape x y) (nat_lt 0 (d.magnitude x y)))
     ∙ ap (λ b. lit_of w.shape d.magnitude x y && b) (on_not w64 (get_or w.significant p 0) (own_bit x y) room (bit_within x y) ∙ ap (λ p. not (on (get_or w.significant p 0) (own_bit x y))) a.place
     ∙ ap not (drawn_place w.shape (lit_in (draft_of w)) w.significant at.word at.stripe x y w.lit a.word a.stripe word))
 
@@ -252,7 +253,7 @@ lit_signs at w sight d limits p q a len lim h = same_field (flagged w.shape (sig
         ∙ flag_word w.shape w.negative at.word at.stripe p (bit_and sight.negative.centre limits) x y w.sized len a.word a.stripe a.place i
         ∙ same_or (is_in_word at.word at.stripe x y)
         (λ word. ap (λ t. cond t (on (bit_and sight.negative.centre limits) (own_bit x y)) (flag_at w.shape w.negative x y)) word
-        ∙ own_place w.shape d.negative at.word at.stripe sight.negative.centre limits x y h.sees.negative.centre lim word ∙ sign_inside at w sight d h x y)
+        ∙ own_place w.shape d.shape d.negative at.word at.stripe sight.negative.centre limits x y h.sees.negative.centre lim word ∙ sign_inside at w sight d h x y)
         (λ away. ap (λ t. cond t (on (bit_and sight.negative.centre limits) (own_bit x y)) (flag_at w.shape w.negative x y)) away
         ∙ elim (h.changed x y) [
           | inl same ↦ sym (same.negative ∙ ap (λ b. b && flag_at w.shape w.negative x y) i)
@@ -269,7 +270,7 @@ signs_drawn at w sight d limits p q a len lim h =
     subst (λ (f : Truths). IsDrawn w.shape f (sign_words w sight limits p)) (sym (lit_signs at w sight d limits p q a len lim h))
     (subst (λ p. IsDrawn w.shape d.negative (set w.negative p (bit_and sight.negative.centre limits))) (sym a.place)
     (word_drawn w.shape (flagged w.shape w.negative) d.negative w.negative at.word at.stripe (bit_and sight.negative.centre limits) w.sized len a.word a.stripe w.signs
-    (λ m l. own_bits w.shape d.negative at.word at.stripe sight.negative.centre limits m h.sees.negative.centre lim l ∙ ap (λ b. of_rows (m % 8) && b) (sign_inside at w sight d h (column at.word m) (row at.stripe m)))
+    (λ m l. own_bits w.shape d.shape d.negative at.word at.stripe sight.negative.centre limits m h.sees.negative.centre lim l ∙ ap (λ b. of_rows (m % 8) && b) (sign_inside at w sight d h (column at.word m) (row at.stripe m)))
     (λ x y away. elim (h.changed x y) [ inl same ↦ same.negative | inr new ↦ absurd (apart_word at.word at.stripe x y away new.word) ])))
 
 pub lit_drawn : (at : Spot) (w : Sketch) (sight : Sight) (d : Draft) (limits p q : ℕ) → Puts at w p q → 774 ≤ length w.significant → Shows of_rows (bordered (is_inside w.shape)) (at.word + 1) (at.stripe + 1) limits → Held at (draft_of w) sight d → get_or w.significant p 0 < 2 ^ 64
@@ -278,7 +279,7 @@ lit_drawn at w sight d limits p q a len lim h room =
     subst (λ (m : Field ℕ). IsDrawn w.shape (lit_of w.shape m) (set w.significant p (lit_word sight limits))) (sym (lit_magnitude at w sight d limits p q a lim h room))
     (subst (λ p. IsDrawn w.shape (lit_of w.shape d.magnitude) (set w.significant p (lit_word sight limits))) (sym a.place)
     (word_drawn w.shape (lit_in (draft_of w)) (lit_of w.shape d.magnitude) w.significant at.word at.stripe (lit_word sight limits) w.sized len a.word a.stripe w.lit
-    (λ m l. own_bits w.shape (lit_in d) at.word at.stripe sight.significant.centre limits m h.sees.significant.centre lim l
+    (λ m l. own_bits w.shape d.shape (lit_in d) at.word at.stripe sight.significant.centre limits m h.sees.significant.centre lim l
     ∙ ap (λ b. of_rows (m % 8) && b) (ap (λ b. is_inside w.shape (column at.word m) (row at.stripe m) && b) (module_lit at w d h.shape (column at.word m) (row at.stripe m)) ∙ absorbed (is_inside w.shape (column at.word m) (row at.stripe m)) (nat_lt 0 (d.magnitude (column at.word m) (row at.stripe m)))))
     (λ x y away. elim (h.changed x y) [ inl same ↦ ap (λ m. is_inside w.shape x y && nat_lt 0 m) same.magnitude | inr new ↦ absurd (apart_word at.word at.stripe x y away new.word) ])))
 

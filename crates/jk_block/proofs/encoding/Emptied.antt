@@ -4,7 +4,7 @@ use Rattle.std.specs.Prelude.{◌&&◌, nat_eq, nat_le, nat_lt}
 use Rattle.std.proofs.lemmas.Bool.{and_parts}
 use Rattle.std.proofs.lemmas.Bool.Decides.{nat_tests}
 use Rattle.jk_scan.specs.Bits.{on}
-use Rattle.jk_scan.specs.Neighbours.{is_inside, touched}
+use Rattle.jk_scan.specs.Neighbours.{is_inside, touched_in}
 use Rattle.jk_scan.specs.Moments.{stripes, pass_of, significant}
 use Rattle.jk_scan.specs.Passes.{Decided, runs}
 use Rattle.jk_scan.specs.Words.{of_rows}
@@ -34,17 +34,17 @@ run_codes v j i c e =
     let high = and_parts (nat_le (4 * i + 4) s.height) ((l t 0 && l t 1) && (l t 2 && l t 3)) run in
     let both = and_parts (l t 0 && l t 1) (l t 2 && l t 3) high.1 in
     let first = and_parts (l t 0) (l t 1) both.0 in
-    let pass = and_parts (nat_eq (pass_of s.width (mag v) x (4 * i + 0)) 2) (not (touched (significant s (mag v) t) x (4 * i + 0))) first.0 in
+    let pass = and_parts (nat_eq (pass_of s (mag v) x (4 * i + 0)) 2) (not (touched_in s (significant s (mag v) t) x (4 * i + 0))) first.0 in
     at (8 * c + 1) (column j (8 * c + 1)) x (row i (8 * c + 1)) (4 * i + 0) (grind (arith, nat_tests)) (omega arith) (omega arith) narrow.0 (lower s.height high.0) pass.0
   where
     l : ℕ → ℕ → Bool
-    l t k = nat_eq (pass_of v.shape.width (mag v) (8 * j + c) (4 * i + k)) 2 && not (touched (significant v.shape (mag v) t) (8 * j + c) (4 * i + k))
+    l t k = nat_eq (pass_of v.shape (mag v) (8 * j + c) (4 * i + k)) 2 && not (touched_in v.shape (significant v.shape (mag v) t) (8 * j + c) (4 * i + k))
 
     lower : (h : ℕ) → nat_le (4 * i + 4) h ≡ true → nat_lt (4 * i + 0) h ≡ true
     lower h e = grind (arith, nat_tests)
 
-    at : (k x x' y y' : ℕ) → of_rows (k % 8) ≡ true → x ≡ x' → y ≡ y' → nat_lt x' v.shape.width ≡ true → nat_lt y' v.shape.height ≡ true → nat_eq (pass_of v.shape.width (mag v) x' y') 2 ≡ true
-        → (of_rows (k % 8) && ((nat_lt x v.shape.width && nat_lt y v.shape.height) && nat_eq (pass_of v.shape.width (mag v) x y) 2)) ≡ true
+    at : (k x x' y y' : ℕ) → of_rows (k % 8) ≡ true → x ≡ x' → y ≡ y' → nat_lt x' v.shape.width ≡ true → nat_lt y' v.shape.height ≡ true → nat_eq (pass_of v.shape (mag v) x' y') 2 ≡ true
+        → (of_rows (k % 8) && ((nat_lt x v.shape.width && nat_lt y v.shape.height) && nat_eq (pass_of v.shape (mag v) x y) 2)) ≡ true
     at k x x' y y' r ex ey w h p = cc
 
 pub no_run : (v : BlockPlane) (j i c : ℕ) → codes v.shape (mag v) 2 j i (8 * c + 1) ≡ false → is_run v.shape (mag v) 2 j i c ≡ false

@@ -10,7 +10,7 @@ use Rattle.std.proofs.lemmas.Nat.{or_lt, and_le_l, and_le_r, pow_pos}
 use Rattle.std.proofs.Math.Nat.{mod-lt}
 use Rattle.jk_scan.specs.declared.around.Around.{Around}
 use Rattle.jk_scan.specs.Bits.{on}
-use Rattle.jk_scan.specs.Neighbours.{Field, is_inside}
+use Rattle.jk_scan.specs.Neighbours.{Field, is_inside, seen_from}
 use Rattle.jk_scan.specs.Moments.{stripes}
 use Rattle.jk_scan.specs.Passes.{Decided, is_one, new_decisions}
 use Rattle.jk_scan.specs.Words.{Truths, of_rows, Shows, bordered, is_member}
@@ -22,7 +22,7 @@ use Rattle.jk_block.specs.encoding.Reached.{is_reached}
 use Rattle.jk_block.specs.Steps.{IsPlace}
 use Rattle.jk_block.specs.declared.encoding.plane.BlockPlane.{BlockPlane}
 use Rattle.jk_block.specs.declared.spot.Spot.{Spot}
-use Rattle.jk_block.specs.encoding.Viewed.{seen, lit_at, moment_at, SpellsBit, SpellsSign}
+use Rattle.jk_block.specs.encoding.Viewed.{seen, lit_at, moment_at, SpellsBit, SpellsSign, seen_at}
 use Rattle.jk_block.proofs.encoding.Coming.{mag, Told, told_none}
 use Rattle.jk_block.proofs.encoding.Propagated.{Awaits, awaits_all, awaits_rest, awaits_more, Propagated, propagated_to, NextSpread, propagated_next, propagated_place, lit_place, one_is}
 use Rattle.jk_block.proofs.encoding.Timing.{codes}
@@ -103,7 +103,7 @@ pub record Foreseen (v : BlockPlane) (at : Spot) (old list : Decided) (around : 
   pub centre_fits : centre < 2 ^ 64
   pub fits : candidates < 2 ^ 64
   pub coming : Told v 0 at n old list
-  pub shown : IsAround (bordered (lit_at v (moment_at v.shape 0 at.word at.stripe n))) at.word at.stripe (with_centre centre around)
+  pub shown : IsAround (bordered (seen_at v (moment_at v.shape 0 at.word at.stripe n) at.stripe)) at.word at.stripe (with_centre centre around)
   pub awaits : Awaits v.shape (lit_at v (moment_at v.shape 0 at.word at.stripe n)) at.word at.stripe n candidates
   pub known : (m : ℕ) → m < n → on all m ≡ codes v.shape (mag v) 0 at.word at.stripe m
   pub turns : Turns centre (bit_or around.centre (bit_and all ones)) around.centre n
@@ -114,8 +114,8 @@ abbrev propagated_of : (v : BlockPlane) (at : Spot) (old list : Decided) (around
 propagated_of v at old list around inside ones all rest h = record { n = h.n; coming = h.coming; shown = h.shown; awaits = h.awaits }
 
 pub foreseen_none : (v : BlockPlane) (at : Spot) (list : Decided) (around : Around) (inside ones all candidates : ℕ) → at.stripe < stripes v.shape → around.centre < 2 ^ 64 → candidates < 2 ^ 64
-    → IsAround (bordered (lit_at v (moment_at v.shape 0 at.word at.stripe 0))) at.word at.stripe around
-    → Shows of_rows (is_member (bordered (is_inside v.shape)) (bordered (lit_at v (moment_at v.shape 0 at.word at.stripe 0)))) (at.word + 1) (at.stripe + 1) candidates
+    → IsAround (bordered (seen_at v (moment_at v.shape 0 at.word at.stripe 0) at.stripe)) at.word at.stripe around
+    → Shows of_rows (is_member (bordered (is_inside v.shape)) (bordered (seen_at v (moment_at v.shape 0 at.word at.stripe 0) at.stripe))) (at.word + 1) (at.stripe + 1) candidates
     → ((m : ℕ) → m < 64 → on all m ≡ (on candidates m || (on (bit_and inside (bit_not w64 around.centre)) m && is_reached (λ k. on all k && on ones k) m)))
     → Foreseen v at list list around inside ones all all
 foreseen_none v at list around inside ones all candidates stripe centre_fits fits shown members all_is = record {
@@ -246,7 +246,7 @@ step_on z m rest n due k h a b = grind (arith, nat_tests)
 pub foreseen_place : (v : BlockPlane) (at : Spot) (old list list' : Decided) (around : Around) (inside ones all rest : ℕ) (h : Foreseen v at old list around inside ones all rest) → 0 < rest → rest < 2 ^ 64
     → inside < 2 ^ 64 → around.centre < 2 ^ 64 → Shows of_rows (bordered (is_inside v.shape)) (at.word + 1) (at.stripe + 1) inside
     → on ones (trailing_zeros w64 rest) ≡ is_one (mag v (column at.word (trailing_zeros w64 rest)) (row at.stripe (trailing_zeros w64 rest)))
-    → ((t : ℕ) → IsAround (bordered (lit_at v t)) at.word at.stripe (with_centre h.centre around) → list' ≡ list ++ new_decisions v.shape (seen v) t (column at.word (trailing_zeros w64 rest)) (row at.stripe (trailing_zeros w64 rest)))
+    → ((t : ℕ) → IsAround (bordered (seen_at v t at.stripe)) at.word at.stripe (with_centre h.centre around) → list' ≡ list ++ new_decisions v.shape (seen v) t (column at.word (trailing_zeros w64 rest)) (row at.stripe (trailing_zeros w64 rest)))
     → Foreseen v at old list' around inside ones all (bit_and rest (rest - 1))
 foreseen_place v at old list list' around inside ones all rest h p q inside_fits centre_fits limits one listed =
     by (on ones z) refl
@@ -299,7 +299,7 @@ foreseen_place v at old list list' around inside ones all rest h p q inside_fits
     coming' : Told v 0 at (z + 1) old list'
     coming' =
         propagated_place v at old list list' (with_centre h.centre around) h.n z next
-        (subst (λ z. (t : ℕ) → IsAround (bordered (lit_at v t)) at.word at.stripe (with_centre h.centre around) → list' ≡ list ++ new_decisions v.shape (seen v) t (column j z) (row i z)) (sym same) listed)
+        (subst (λ z. (t : ℕ) → IsAround (bordered (seen_at v t at.stripe)) at.word at.stripe (with_centre h.centre around) → list' ≡ list ++ new_decisions v.shape (seen v) t (column j z) (row i z)) (sym same) listed)
 
     known' : (m : ℕ) → m < z + 1 → on all m ≡ codes v.shape (mag v) 0 j i m
     known' m less = elim (cases_lt m h.n) [
@@ -358,7 +358,7 @@ foreseen_place v at old list list' around inside ones all rest h p q inside_fits
       fits = (let e = and_le_l w (w - 1) in let f = h.fits in omega (arith, e, f));
       coming = coming';
       known = known';
-      shown = subst (λ (f : Field Bool). IsAround (bordered f) j i (with_centre h.centre around)) (sym unlit) h.shown;
+      shown = subst (λ (f : Field Bool). IsAround (bordered (seen_from v.shape i f)) j i (with_centre h.centre around)) (sym unlit) h.shown;
       awaits = awaits_rest v.shape (lit_at v (moment_at v.shape 0 j i h.n)) (lit_at v u) j i h.n w low.some h.fits onward unlit h.awaits;
       turns = record {
         before = λ m less. elim (cases_lt m z) [
@@ -387,7 +387,7 @@ foreseen_place v at old list list' around inside ones all rest h p q inside_fits
           (let e = and_le_l (bit_and (0x382 * 2 ^ z % 2 ^ 64) inside) (bit_not w64 centre') in let g = and_le_r (0x382 * 2 ^ z % 2 ^ 64) inside in omega (arith, e, g, inside_fits));
       coming = coming';
       known = known';
-      shown = around_also (lit_at v t) (lit_at v u) j i z (with_centre h.centre around) within next.place.on_row lit next.shown;
+      shown = around_also v.shape (lit_at v t) (lit_at v u) j i z (with_centre h.centre around) within next.place.on_row lit next.shown;
       awaits = awaits_more v.shape (lit_at v (moment_at v.shape 0 j i h.n)) (lit_at v u) j i h.n w inside h.centre low.some h.fits h.centre_fits within next.place.on_row onward lit_n limits h.shown.centre h.awaits;
       turns = record {
         before = λ m less. on_set h.centre z 64 m (let w = within in omega (arith, less, w)) ∙ elim (cases_lt m z) [
@@ -447,12 +447,12 @@ foreseen_all v at old list around inside ones all rest h empty =
 -- their signs.
 abbrev pub HasBits : BlockPlane → Spot → Around → (new : ℕ) → List ℕ → Type 0
 HasBits v at around new bits =
-    (t centre k : ℕ) → IsPlace v.shape at k → centre < 2 ^ 64 → Turns centre new around.centre k → IsAround (bordered (lit_at v t)) at.word at.stripe (with_centre centre around)
+    (t centre k : ℕ) → IsPlace v.shape at k → centre < 2 ^ 64 → Turns centre new around.centre k → IsAround (bordered (seen_at v t at.stripe)) at.word at.stripe (with_centre centre around)
     → SpellsBit v t (column at.word k) (row at.stripe k) (byte_at bits k)
 
 abbrev pub HasSigns : BlockPlane → Spot → Around → (new : ℕ) → List ℕ → Type 0
 HasSigns v at around new signs =
-    (t centre k : ℕ) → IsPlace v.shape at k → centre < 2 ^ 64 → Turns centre new around.centre k → IsAround (bordered (lit_at v t)) at.word at.stripe (with_centre centre around)
+    (t centre k : ℕ) → IsPlace v.shape at k → centre < 2 ^ 64 → Turns centre new around.centre k → IsAround (bordered (seen_at v t at.stripe)) at.word at.stripe (with_centre centre around)
     → SpellsSign v t (column at.word k) (row at.stripe k) (byte_at signs k)
 
 pub record Listing (v : BlockPlane) (at : Spot) (old list : Decided) (inside ones all : ℕ) (bits signs : List ℕ) (rest : ℕ) : Type 0 where

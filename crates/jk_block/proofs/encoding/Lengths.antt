@@ -145,7 +145,7 @@ new_few s p t x y = by (is_one (p.magnitude x y))
 
 place_few : (s : BlockShape) (p : Plane) (pass x y : ℕ) → length (place_decisions s p pass x y) ≤ 2
 unfolding place_decisions
-place_few s p pass x y = by (is_inside s x y && nat_eq (pass_of s.width p.magnitude x y) pass)
+place_few s p pass x y = by (is_inside s x y && nat_eq (pass_of s p.magnitude x y) pass)
   where
     own : (pass t : ℕ) → length (own_decisions s p pass t x y) ≤ 2
     own zero t = new_few s p t x y

@@ -8,13 +8,13 @@ use Rattle.std.proofs.lemmas.Nat.{same_from_place, mul-add-lt}
 use Rattle.jk_scan.specs.declared.shape.BlockShape.{BlockShape}
 use Rattle.jk_scan.specs.declared.around.Around.{Around}
 use Rattle.jk_scan.specs.Bits.{on}
-use Rattle.jk_scan.specs.Neighbours.{Field, is_inside}
+use Rattle.jk_scan.specs.Neighbours.{Field, is_inside, seen_from}
 use Rattle.jk_scan.specs.Moments.{stripes}
 use Rattle.jk_scan.specs.Surroundings.{IsAround}
 use Rattle.jk_scan.specs.Words.{of_rows, of_gathered, bordered}
 use Rattle.jk_scan.specs.WordPlaces.{column, row}
 use Rattle.jk_scan.specs.Flags.{IsSized, IsDrawn, across, word_at}
-use Rattle.jk_scan.proofs.Laws.{drawn_same, drawn_none, inside_parts, rows_between}
+use Rattle.jk_scan.proofs.Laws.{seen_own, row_stripe, drawn_same, drawn_none, inside_parts, rows_between}
 use Rattle.jk_block.specs.Meaning.{plane_at, value_in}
 use Rattle.jk_block.specs.Steps.{IsPlace}
 use Rattle.jk_block.specs.declared.encoding.plane.BlockPlane.{BlockPlane}
@@ -88,16 +88,17 @@ negative_all s q n words e = drawn_same s (negative_to s q n) (negative_of s q) 
         turned b = grind (arith, nat_tests)
 
 -- the sign of a place
-pub sign_bit : (v : BlockPlane) (at : Spot) (k : ℕ) (signs : Around) → IsPlace v.shape at k → IsAround (bordered (negative_in v)) at.word at.stripe signs → on signs.centre k ≡ (seen v).negative (column at.word k) (row at.stripe k)
+pub sign_bit : (v : BlockPlane) (at : Spot) (k : ℕ) (signs : Around) → IsPlace v.shape at k → IsAround (bordered (seen_from v.shape at.stripe (negative_in v))) at.word at.stripe signs → on signs.centre k ≡ (seen v).negative (column at.word k) (row at.stripe k)
 unfolding plane_at
 sign_bit v at k signs place h =
     let shifted = place_shifted at.word at.stripe k place.on_row in
     let between = rows_between (k % 8) place.on_row in
     ap (on signs.centre) (let e : k ≡ 8 * (k / 8) + k % 8 = omega arith in e)
     ∙ h.centre (k / 8) (k % 8) (let w = place.within in omega (arith, w)) (omega arith)
-    ∙ ap (λ g. g && bordered (negative_in v) (column (at.word + 1) k) (row (at.stripe + 1) k)) (gathered between.1)
-    ∙ ap (λ x. bordered (negative_in v) x (row (at.stripe + 1) k)) shifted.0 ∙ ap (λ y. bordered (negative_in v) (column at.word k + 8) y) shifted.1
-    ∙ bordered_at (negative_in v) (column at.word k) (row at.stripe k)
+    ∙ ap (λ g. g && bordered (seen_from v.shape at.stripe (negative_in v)) (column (at.word + 1) k) (row (at.stripe + 1) k)) (gathered between.1)
+    ∙ ap (λ x. bordered (seen_from v.shape at.stripe (negative_in v)) x (row (at.stripe + 1) k)) shifted.0 ∙ ap (λ y. bordered (seen_from v.shape at.stripe (negative_in v)) (column at.word k + 8) y) shifted.1
+    ∙ bordered_at (seen_from v.shape at.stripe (negative_in v)) (column at.word k) (row at.stripe k)
+    ∙ seen_own v.shape at.stripe (negative_in v) (column at.word k) (row at.stripe k) (let own = row_stripe at.stripe k place.on_row in omega (arith, own))
     ∙ ap (λ b. b && is_negative (value_in v.shape v.values.now (column at.word k) (row at.stripe k))) place.inside
   where
     gathered : {b : ℕ} → b < 5 → of_gathered b ≡ true

@@ -6,10 +6,10 @@ use Rattle.std.proofs.lemmas.Nat.{div-mul-add, pow-add, pow_pos}
 use Rattle.std.proofs.Math.Nat.{mul-le-mul_right}
 use Rattle.std.proofs.lemmas.Grind.{pow_more}
 use Rattle.jk_scan.specs.declared.shape.BlockShape.{BlockShape}
-use Rattle.jk_scan.specs.Neighbours.{Field, is_inside, touched}
+use Rattle.jk_scan.specs.Neighbours.{Field, is_inside, touched_in}
 use Rattle.jk_scan.specs.Moments.{number, visits, old, found, spread, moment, is_coded}
 use Rattle.jk_scan.specs.Flags.{IsDrawn}
-use Rattle.jk_scan.proofs.Laws.{number_below, significant_is, spread_is, so_far, cases_of, drawn_same, drawn_none, touched_none}
+use Rattle.jk_scan.proofs.Laws.{number_below, significant_is, spread_is, so_far, cases_of, drawn_same, drawn_none, touched_nothing}
 use Rattle.jk_math.specs.BitLength.{bit_length}
 use Rattle.jk_math.proofs.Laws.{bit_length_none}
 use Rattle.jk_block.specs.BlockWritten.{greatest}
@@ -49,12 +49,12 @@ refined_drawn s b c q words e h =
     (λ x y. ap (λ c. nat_lt 0 ((plane_at s c q).magnitude x y)) e ∙ sym (refined_plane s b q x y)) h
 
 -- Nothing is found where nothing was significant.
-unfound : (w : ℕ) (a : Field ℕ) (k : ℕ) → ((x y : ℕ) → old a x y ≡ false) → (x y : ℕ) → found w a k x y ≡ false
+unfound : (s : BlockShape) (a : Field ℕ) (k : ℕ) → ((x y : ℕ) → old a x y ≡ false) → (x y : ℕ) → found s a k x y ≡ false
 unfolding found
-unfound w a zero h x y = refl
-unfound w a (suc k) h x y =
-    gate (found w a k x y) (nat_eq (number w x y) k) (nat_eq (a x y) 1) (touched (so_far w a k) x y) (unfound w a k h x y)
-    (touched_none (so_far w a k) x y (λ u v. neither (old a u v) (found w a k u v) (h u v) (unfound w a k h u v)))
+unfound s a zero h x y = refl
+unfound s a (suc k) h x y =
+    gate (found s a k x y) (nat_eq (number s.width x y) k) (nat_eq (a x y) 1) (touched_in s (so_far s a k) x y) (unfound s a k h x y)
+    (touched_nothing s (so_far s a k) x y (λ u v. neither (old a u v) (found s a k u v) (h u v) (unfound s a k h u v)))
   where
     neither : (a b : Bool) → a ≡ false → b ≡ false → (a || b) ≡ false
     neither a b e g = cc
@@ -62,9 +62,9 @@ unfound w a (suc k) h x y =
     gate : (f n m t : Bool) → f ≡ false → t ≡ false → (f || (n && (m && t))) ≡ false
     gate f n m t e g = grind (arith, nat_tests)
 
-unspread : (w : ℕ) (a : Field ℕ) → ((x y : ℕ) → old a x y ≡ false) → (x y : ℕ) → spread w a x y ≡ false
-unspread w a h x y =
-    spread_is w a x y ∙ ap (λ t. not (old a x y) && t) (touched_none (so_far w a (number w x y)) x y (λ u v. neither (old a u v) (found w a (number w x y) u v) (h u v) (unfound w a (number w x y) h u v)))
+unspread : (s : BlockShape) (a : Field ℕ) → ((x y : ℕ) → old a x y ≡ false) → (x y : ℕ) → spread s a x y ≡ false
+unspread s a h x y =
+    spread_is s a x y ∙ ap (λ t. not (old a x y) && t) (touched_nothing s (so_far s a (number s.width x y)) x y (λ u v. neither (old a u v) (found s a (number s.width x y) u v) (h u v) (unfound s a (number s.width x y) h u v)))
     ∙ none (not (old a x y))
   where
     neither : (a b : Bool) → a ≡ false → b ≡ false → (a || b) ≡ false
@@ -96,7 +96,7 @@ pub begun_plane : (v : BlockPlane) (flags flags' : Flags) → IsLitUpto v.shape 
 begun_plane v flags flags' h e k =
     begun_at v (0 * visits v.shape) flags flags' h e k
     (λ x y. significant_is v.shape (mag v) (0 * visits v.shape) x y ∙ early (old (mag v) x y) (nat_eq (mag v x y) 1) (moment v.shape (mag v) x y) (0 * visits v.shape) (omega arith))
-    (λ x y. ap (λ b. is_inside v.shape x y && (spread v.shape.width (mag v) x y && b)) (let z : nat_lt (number v.shape.width x y) (0 * visits v.shape) ≡ false = never (number v.shape.width x y) (0 * visits v.shape) (omega arith) in z) ∙ and_none (is_inside v.shape x y) (spread v.shape.width (mag v) x y))
+    (λ x y. ap (λ b. is_inside v.shape x y && (spread v.shape (mag v) x y && b)) (let z : nat_lt (number v.shape.width x y) (0 * visits v.shape) ≡ false = never (number v.shape.width x y) (0 * visits v.shape) (omega arith) in z) ∙ and_none (is_inside v.shape x y) (spread v.shape (mag v) x y))
   where
     never : (n t : ℕ) → t ≡ 0 → nat_lt n t ≡ false
     never n t e = grind (arith, nat_tests)
@@ -112,9 +112,9 @@ begun_top v flags flags' h e k top =
     (λ x y. significant_is v.shape (mag v) (2 * visits v.shape) x y
     ∙ cases_of v.shape (mag v) x y
     (λ w. absurd (let o = w.old_is in let c : true ≡ false = sym o ∙ top x y in cc))
-    (λ w. absurd (let o = w.spread_is in let c : true ≡ false = sym o ∙ unspread v.shape.width (mag v) top x y in cc))
+    (λ w. absurd (let o = w.spread_is in let c : true ≡ false = sym o ∙ unspread v.shape (mag v) top x y in cc))
     (λ w. late (old (mag v) x y) (nat_eq (mag v x y) 1) (moment v.shape (mag v) x y) (2 * visits v.shape) (let m = w.moment_is in omega (arith, m))))
-    (λ x y. ap (λ b. is_inside v.shape x y && (b && nat_lt (number v.shape.width x y) (2 * visits v.shape))) (unspread v.shape.width (mag v) top x y) ∙ none (is_inside v.shape x y))
+    (λ x y. ap (λ b. is_inside v.shape x y && (b && nat_lt (number v.shape.width x y) (2 * visits v.shape))) (unspread v.shape (mag v) top x y) ∙ none (is_inside v.shape x y))
   where
     none : (b : Bool) → (b && false) ≡ false
     none true = refl

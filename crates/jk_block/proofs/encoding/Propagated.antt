@@ -8,18 +8,18 @@ use Rattle.std.proofs.lemmas.Bool.Decides.{nat_tests}
 use Rattle.jk_scan.specs.declared.shape.BlockShape.{BlockShape}
 use Rattle.jk_scan.specs.declared.around.Around.{Around}
 use Rattle.jk_scan.specs.Bits.{on}
-use Rattle.jk_scan.specs.Neighbours.{Field, is_inside}
+use Rattle.jk_scan.specs.Neighbours.{Field, is_inside, seen_from}
 use Rattle.jk_scan.specs.Moments.{stripes, pass_of}
 use Rattle.jk_scan.specs.Passes.{Decided, is_one, new_decisions, place_decisions}
 use Rattle.jk_scan.specs.Words.{Truths, of_rows, of_gathered, Shows, bordered, is_member}
 use Rattle.jk_scan.specs.WordPlaces.{column, row, also}
 use Rattle.jk_scan.specs.Surroundings.{IsAround}
-use Rattle.jk_scan.proofs.Laws.{same_field, set_shows, added_at, lowest, rest_at, taken, taken_low, set_below, on_or, on_zero, inside_parts, cases_of}
+use Rattle.jk_scan.proofs.Laws.{same_field, set_shows, added_at, lowest, rest_at, taken, taken_low, set_below, on_or, on_zero, inside_parts, cases_of, seen_also}
 use Rattle.jk_block.specs.Steps.{IsPlace}
 use Rattle.jk_block.specs.declared.encoding.flags.Flags.{Flags}
 use Rattle.jk_block.specs.declared.encoding.plane.BlockPlane.{BlockPlane}
 use Rattle.jk_block.specs.declared.spot.Spot.{Spot}
-use Rattle.jk_block.specs.encoding.Viewed.{seen, lit_at, IsFlagged, moment_at}
+use Rattle.jk_block.specs.encoding.Viewed.{seen, lit_at, IsFlagged, moment_at, seen_at}
 use Rattle.jk_block.proofs.encoding.Coming.{mag, mag_outside, Same, same_flags, same_lit, idle_none, idle_until, idle_to, Told, told_none, told_skip, told_place}
 use Rattle.jk_block.proofs.encoding.Listed.{place_new}
 use Rattle.jk_block.proofs.encoding.Remaining.{is_run}
@@ -42,7 +42,7 @@ awaits_rest s f g j i n w p q le e h m l =
 
 -- and the later ones that it touches are taken in
 pub awaits_more : (s : BlockShape) (f g : Field Bool) (j i n w inside own : ℕ) → 0 < w → w < 2 ^ 64 → own < 2 ^ 64 → trailing_zeros w64 w < 64 → of_rows (trailing_zeros w64 w % 8) ≡ true → n ≤ trailing_zeros w64 w
-    → ((x y : ℕ) → g x y ≡ also f (column j (trailing_zeros w64 w)) (row i (trailing_zeros w64 w)) x y) → Shows of_rows (bordered (is_inside s)) (j + 1) (i + 1) inside → Shows of_gathered (bordered f) (j + 1) (i + 1) own → Awaits s f j i n w
+    → ((x y : ℕ) → g x y ≡ also f (column j (trailing_zeros w64 w)) (row i (trailing_zeros w64 w)) x y) → Shows of_rows (bordered (is_inside s)) (j + 1) (i + 1) inside → Shows of_gathered (bordered (seen_from s i f)) (j + 1) (i + 1) own → Awaits s f j i n w
     → Awaits s g j i (trailing_zeros w64 w + 1) (bit_or (bit_and w (w - 1)) (taken inside (bit_or own (1 * 2 ^ trailing_zeros w64 w % 2 ^ 64)) (trailing_zeros w64 w)))
 awaits_more s f g j i n w inside own p q xb within on_row le lit limits shown h m l =
     let z = trailing_zeros w64 w in
@@ -51,9 +51,9 @@ awaits_more s f g j i n w inside own p q xb within on_row le lit limits shown h 
     ∙ gate z m (nat_le n m) (on (bit_and w (w - 1)) m) (on w m) (on (taken inside x' z) m) (is_spread s f j i m) (is_spread s g j i m)
     (rest_at w p q m) (h m l) (λ later. from n z m le later) (λ low. taken_low inside x' z m l low)
     (λ later. ap (λ b. b || on (taken inside x' z) m) (sym (spread_is_member s f j i m))
-    ∙ added_at (bordered f) (bordered (is_inside s)) j i x' inside z m (set_below own z xb) later l on_row (set_shows (bordered f) j i own z within on_row shown) limits
+    ∙ added_at (bordered (seen_from s i f)) (bordered (is_inside s)) j i x' inside z m (set_below own z xb) later l on_row (set_shows (bordered (seen_from s i f)) j i own z within on_row shown) limits
     ∙ ap (λ (g : Truths). of_rows (m % 8) && is_member (bordered (is_inside s)) g (column (j + 1) m) (row (i + 1) m))
-    (sym (bordered_also f j i z on_row) ∙ sym (ap (λ (g : Truths). bordered g) (same_field g (also f (column j z) (row i z)) lit)))
+    (sym (bordered_also (seen_from s i f) j i z on_row) ∙ sym (ap (λ (g : Truths). bordered g) (same_field (seen_from s i g) (also (seen_from s i f) (column j z) (row i z)) (seen_also s f g j i z on_row lit))))
     ∙ spread_is_member s g j i m)
   where
     from : (n z m : ℕ) → n ≤ z → z < m → nat_le n m ≡ true
@@ -66,7 +66,7 @@ awaits_more s f g j i n w inside own p q xb within on_row le lit limits shown h 
     ]
 
 -- at the beginning
-pub awaits_all : (s : BlockShape) (f : Field Bool) (j i w : ℕ) → Shows of_rows (is_member (bordered (is_inside s)) (bordered f)) (j + 1) (i + 1) w → Awaits s f j i 0 w
+pub awaits_all : (s : BlockShape) (f : Field Bool) (j i w : ℕ) → Shows of_rows (is_member (bordered (is_inside s)) (bordered (seen_from s i f))) (j + 1) (i + 1) w → Awaits s f j i 0 w
 awaits_all s f j i w members m l =
     ap (on w) (let e : m ≡ 8 * (m / 8) + m % 8 = omega arith in e) ∙ members (m / 8) (m % 8) (omega arith) (omega arith)
     ∙ spread_is_member s f j i m ∙ ap (λ b. b && is_spread s f j i m) (let e : true ≡ nat_le 0 m = grind (arith, nat_tests) in e)
@@ -74,7 +74,7 @@ awaits_all s f j i w members m l =
 pub record Propagated (v : BlockPlane) (at : Spot) (old list : Decided) (around : Around) (candidates : ℕ) : Type 0 where
   pub n : ℕ
   pub coming : Told v 0 at n old list
-  pub shown : IsAround (bordered (lit_at v (moment_at v.shape 0 at.word at.stripe n))) at.word at.stripe around
+  pub shown : IsAround (bordered (seen_at v (moment_at v.shape 0 at.word at.stripe n) at.stripe)) at.word at.stripe around
   pub awaits : Awaits v.shape (lit_at v (moment_at v.shape 0 at.word at.stripe n)) at.word at.stripe n candidates
 
 -- nothing is coded where there is no member
@@ -128,7 +128,7 @@ pub record NextSpread (v : BlockPlane) (at : Spot) (old list : Decided) (around 
   pub coming : Told v 0 at z old list
   pub idle : (m : ℕ) → n ≤ m → m < z → codes v.shape (mag v) 0 at.word at.stripe m ≡ false
   pub lit : lit_at v (moment_at v.shape 0 at.word at.stripe z) ≡ lit_at v (moment_at v.shape 0 at.word at.stripe n)
-  pub shown : IsAround (bordered (lit_at v (moment_at v.shape 0 at.word at.stripe z))) at.word at.stripe around
+  pub shown : IsAround (bordered (seen_at v (moment_at v.shape 0 at.word at.stripe z) at.stripe)) at.word at.stripe around
 
 pub propagated_next : (v : BlockPlane) (at : Spot) (old list : Decided) (around : Around) (w : ℕ) (st : Propagated v at old list around w) → 0 < w → w < 2 ^ 64
     → NextSpread v at old list around st.n (trailing_zeros w64 w)
@@ -151,12 +151,12 @@ propagated_next v at old list around w st p q =
       coming = on.0;
       idle = on.2;
       lit = on.1;
-      shown = subst (λ (f : Field Bool). IsAround (bordered f) j i around) (sym on.1) st.shown;
+      shown = subst (λ (f : Field Bool). IsAround (bordered (seen_from v.shape i f)) j i around) (sym on.1) st.shown;
     }
 
 -- a word in which the pass has no member as it comes to it
-pub propagated_empty : (v : BlockPlane) (at : Spot) (list : Decided) (around : Around) (w : ℕ) → at.stripe < stripes v.shape → IsAround (bordered (lit_at v (moment_at v.shape 0 at.word at.stripe 0))) at.word at.stripe around
-    → Shows of_rows (is_member (bordered (is_inside v.shape)) (bordered (lit_at v (moment_at v.shape 0 at.word at.stripe 0)))) (at.word + 1) (at.stripe + 1) w → w ≡ 0
+pub propagated_empty : (v : BlockPlane) (at : Spot) (list : Decided) (around : Around) (w : ℕ) → at.stripe < stripes v.shape → IsAround (bordered (seen_at v (moment_at v.shape 0 at.word at.stripe 0) at.stripe)) at.word at.stripe around
+    → Shows of_rows (is_member (bordered (is_inside v.shape)) (bordered (seen_at v (moment_at v.shape 0 at.word at.stripe 0) at.stripe))) (at.word + 1) (at.stripe + 1) w → w ≡ 0
     → Told v 0 at 64 list list × ((flags : Flags) → IsFlagged v (moment_at v.shape 0 at.word at.stripe 0) flags → IsFlagged v (moment_at v.shape 0 at.word at.stripe 64) flags)
 propagated_empty v at list around w stripe shown members empty =
     let st : Propagated v at list list around w = record { n = 0; coming = told_none v 0 at list stripe; shown = shown; awaits = awaits_all v.shape (lit_at v (moment_at v.shape 0 at.word at.stripe 0)) at.word at.stripe w members } in
@@ -203,13 +203,13 @@ pub new_place : (v : BlockPlane) (pass j i z : ℕ) (list list' : Decided) → c
     → list' ≡ list ++ place_decisions v.shape (seen v) pass (column j z) (row i z)
 unfolding is_due
 new_place v pass j i z list list' due other h =
-    let parts = and_parts (of_rows (z % 8)) (is_inside v.shape (column j z) (row i z) && nat_eq (pass_of v.shape.width (mag v) (column j z) (row i z)) pass) due in
-    let inside = (and_parts (is_inside v.shape (column j z) (row i z)) (nat_eq (pass_of v.shape.width (mag v) (column j z) (row i z)) pass) parts.1).0 in
+    let parts = and_parts (of_rows (z % 8)) (is_inside v.shape (column j z) (row i z) && nat_eq (pass_of v.shape (mag v) (column j z) (row i z)) pass) due in
+    let inside = (and_parts (is_inside v.shape (column j z) (row i z)) (nat_eq (pass_of v.shape (mag v) (column j z) (row i z)) pass) parts.1).0 in
     h ∙ ap (λ (ds : Decided). list ++ ds) (sym (place_new v.shape (seen v) pass (column j z) (row i z) (moment_at v.shape pass j i z) parts.1 (moment_place v.shape pass j i z parts.0 (inside_parts v.shape (column j z) (row i z) inside).0) other))
 
 -- a place was listed
 pub propagated_place : (v : BlockPlane) (at : Spot) (old list list' : Decided) (around : Around) (n z : ℕ) → NextSpread v at old list around n z
-    → ((t : ℕ) → IsAround (bordered (lit_at v t)) at.word at.stripe around → list' ≡ list ++ new_decisions v.shape (seen v) t (column at.word z) (row at.stripe z)) → Told v 0 at (z + 1) old list'
+    → ((t : ℕ) → IsAround (bordered (seen_at v t at.stripe)) at.word at.stripe around → list' ≡ list ++ new_decisions v.shape (seen v) t (column at.word z) (row at.stripe z)) → Told v 0 at (z + 1) old list'
 propagated_place v at old list list' around n z next listed =
     told_place v 0 at z old list list' next.coming next.place
     (new_place v 0 at.word at.stripe z list list' next.due (λ e. absurd (omega (arith, e))) (listed (moment_at v.shape 0 at.word at.stripe z) next.shown))

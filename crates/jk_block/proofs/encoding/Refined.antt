@@ -7,17 +7,17 @@ use Rattle.std.proofs.lemmas.Bool.{and_parts}
 use Rattle.std.proofs.lemmas.Bool.Decides.{nat_tests}
 use Rattle.jk_scan.specs.declared.shape.BlockShape.{BlockShape}
 use Rattle.jk_scan.specs.Bits.{on}
-use Rattle.jk_scan.specs.Neighbours.{Field, is_inside, touched}
+use Rattle.jk_scan.specs.Neighbours.{Field, is_inside, touched_in}
 use Rattle.jk_scan.specs.Moments.{stripes, pass_of}
 use Rattle.jk_scan.specs.Passes.{Decided, refining_decision, place_decisions}
 use Rattle.jk_scan.specs.Words.{of_rows, ShowsAt, near, bordered}
 use Rattle.jk_scan.specs.WordPlaces.{column, row}
-use Rattle.jk_scan.proofs.Laws.{near_is, lowest, rest_at, on_zero, inside_parts, cases_of}
+use Rattle.jk_scan.proofs.Laws.{near_is, lowest, rest_at, on_zero, inside_parts, cases_of, row_stripe, touched_seen}
 use Rattle.jk_block.specs.Steps.{IsPlace}
 use Rattle.jk_block.specs.declared.encoding.flags.Flags.{Flags}
 use Rattle.jk_block.specs.declared.encoding.plane.BlockPlane.{BlockPlane}
 use Rattle.jk_block.specs.declared.spot.Spot.{Spot}
-use Rattle.jk_block.specs.encoding.Viewed.{seen, lit_at, spread_at, IsFlagged, moment_at}
+use Rattle.jk_block.specs.encoding.Viewed.{seen, lit_at, spread_at, IsFlagged, moment_at, seen_at}
 use Rattle.jk_block.proofs.encoding.Coming.{mag, mag_outside, Idle, Same, same_flags, same_lit, idle_to, Told, told_none, told_skip, told_place}
 use Rattle.jk_block.proofs.encoding.Listed.{place_next}
 use Rattle.jk_block.proofs.encoding.Remaining.{is_run}
@@ -29,7 +29,7 @@ use Rattle.jk_block.proofs.WordBits.{place_shifted, none_before}
 pub record Refined (v : BlockPlane) (at : Spot) (old list : Decided) (seen_near candidates : ℕ) : Type 0 where
   pub n : ℕ
   pub coming : Told v 1 at n old list
-  pub near : (m : ℕ) → m < 64 → of_rows (m % 8) ≡ true → on seen_near m ≡ touched (lit_at v (moment_at v.shape 1 at.word at.stripe n)) (column at.word m) (row at.stripe m)
+  pub near : (m : ℕ) → m < 64 → of_rows (m % 8) ≡ true → on seen_near m ≡ touched_in v.shape (lit_at v (moment_at v.shape 1 at.word at.stripe n)) (column at.word m) (row at.stripe m)
   pub awaits : (m : ℕ) → m < 64 → on candidates m ≡ (nat_le n m && codes v.shape (mag v) 1 at.word at.stripe m)
 
 -- The word shows the places that were significant before this plane and are not coded in it yet.
@@ -42,17 +42,18 @@ older_is v j i word narrow stripe older m l =
     let b = moment_range v.shape 1 j i narrow stripe in
     older m l ∙ older_codes v.shape (mag v) (moment_at v.shape 1 j i 0) j i m (mag_outside v) (let b0 = b.0 in omega (arith, b0)) (let b1 = b.1 in omega (arith, b1))
 
-pub refined_none : (v : BlockPlane) (at : Spot) (list : Decided) (w candidates : ℕ) → 8 * at.word < v.shape.width → at.stripe < stripes v.shape → ShowsAt of_rows (near (bordered (lit_at v (moment_at v.shape 1 at.word at.stripe 0)))) (at.word + 1) (at.stripe + 1) w
+pub refined_none : (v : BlockPlane) (at : Spot) (list : Decided) (w candidates : ℕ) → 8 * at.word < v.shape.width → at.stripe < stripes v.shape → ShowsAt of_rows (near (bordered (seen_at v (moment_at v.shape 1 at.word at.stripe 0) at.stripe))) (at.word + 1) (at.stripe + 1) w
     → ShowsOlder v at.word at.stripe (moment_at v.shape 1 at.word at.stripe 0) candidates → Refined v at list list w candidates
 refined_none v at list w candidates narrow stripe shown older = record {
   n = 0;
   coming = told_none v 1 at list stripe;
   near = λ m l e.
-      let f = lit_at v (moment_at v.shape 1 at.word at.stripe 0) in
+      let f = seen_at v (moment_at v.shape 1 at.word at.stripe 0) at.stripe in
       let shifted = place_shifted at.word at.stripe m e in
       ap (on w) (let g : m ≡ 8 * (m / 8) + m % 8 = omega arith in g) ∙ shown (m / 8) (m % 8) (omega arith) (omega arith) e
       ∙ ap (λ c. near (bordered f) c (row (at.stripe + 1) m)) shifted.0 ∙ ap (λ r. near (bordered f) (column at.word m + 8) r) shifted.1
-      ∙ near_is f (column at.word m) (row at.stripe m);
+      ∙ near_is f (column at.word m) (row at.stripe m)
+      ∙ touched_seen v.shape at.stripe (lit_at v (moment_at v.shape 1 at.word at.stripe 0)) (column at.word m) (row at.stripe m) (row_stripe at.stripe m e);
   awaits = λ m l. older_is v at.word at.stripe candidates narrow stripe older m l ∙ ap (λ b. b && codes v.shape (mag v) 1 at.word at.stripe m) (let e : true ≡ nat_le 0 m = grind (arith, nat_tests) in e);
 }
 
@@ -139,15 +140,15 @@ next_place : (v : BlockPlane) (j i z : ℕ) (list list' : Decided) → codes v.s
     → list' ≡ list ++ place_decisions v.shape (seen v) 1 (column j z) (row i z)
 unfolding is_due
 next_place v j i z list list' due h =
-    let parts = and_parts (of_rows (z % 8)) (is_inside v.shape (column j z) (row i z) && nat_eq (pass_of v.shape.width (mag v) (column j z) (row i z)) 1) due in
-    let inside = (and_parts (is_inside v.shape (column j z) (row i z)) (nat_eq (pass_of v.shape.width (mag v) (column j z) (row i z)) 1) parts.1).0 in
+    let parts = and_parts (of_rows (z % 8)) (is_inside v.shape (column j z) (row i z) && nat_eq (pass_of v.shape (mag v) (column j z) (row i z)) 1) due in
+    let inside = (and_parts (is_inside v.shape (column j z) (row i z)) (nat_eq (pass_of v.shape (mag v) (column j z) (row i z)) 1) parts.1).0 in
     h ∙ ap (λ (ds : Decided). list ++ ds) (sym (place_next v.shape (seen v) 1 (column j z) (row i z) (moment_at v.shape 1 j i z) parts.1 (moment_place v.shape 1 j i z parts.0 (inside_parts v.shape (column j z) (row i z) inside).0) refl))
 
 step_on : (z m : ℕ) (rest n due : Bool) (k : ℕ) → k ≤ z → rest ≡ (nat_le (z + 1) m && n) → n ≡ (nat_le k m && due) → rest ≡ (nat_le (z + 1) m && due)
 step_on z m rest n due k h a b = grind (arith, nat_tests)
 
 pub refined_one : (v : BlockPlane) (at : Spot) (old list list' : Decided) (s w : ℕ) (st : Refined v at old list s w) → 0 < w → w < 2 ^ 64
-    → ((t : ℕ) → on s (trailing_zeros w64 w) ≡ touched (lit_at v t) (column at.word (trailing_zeros w64 w)) (row at.stripe (trailing_zeros w64 w))
+    → ((t : ℕ) → on s (trailing_zeros w64 w) ≡ touched_in v.shape (lit_at v t) (column at.word (trailing_zeros w64 w)) (row at.stripe (trailing_zeros w64 w))
     → list' ≡ list ++ refining_decision v.shape (seen v) t (column at.word (trailing_zeros w64 w)) (row at.stripe (trailing_zeros w64 w)) ∷ []) → Refined v at old list' s (bit_and w (w - 1))
 refined_one v at old list list' s w st p q listed =
     let z = trailing_zeros w64 w in
@@ -155,8 +156,8 @@ refined_one v at old list list' s w st p q listed =
     let i = at.stripe in
     let next = refined_next v at old list s w st p q in
     let stripe = next.coming.stripe in
-    let near : (n : ℕ) → st.n ≤ n → (m : ℕ) → m < 64 → of_rows (m % 8) ≡ true → on s m ≡ touched (lit_at v (moment_at v.shape 1 j i n)) (column j m) (row i m) = λ n le m l e.
-    st.near m l e ∙ sym (ap (λ (f : Field Bool). touched f (column j m) (row i m)) (same_lit v (moment_at v.shape 1 j i st.n) (moment_at v.shape 1 j i n) (still_lit v j i st.n n stripe le))) in
+    let near : (n : ℕ) → st.n ≤ n → (m : ℕ) → m < 64 → of_rows (m % 8) ≡ true → on s m ≡ touched_in v.shape (lit_at v (moment_at v.shape 1 j i n)) (column j m) (row i m) = λ n le m l e.
+    st.near m l e ∙ sym (ap (λ (f : Field Bool). touched_in v.shape f (column j m) (row i m)) (same_lit v (moment_at v.shape 1 j i st.n) (moment_at v.shape 1 j i n) (still_lit v j i st.n n stripe le))) in
     let onward = next.onward in
     record {
       n = z + 1;

@@ -4,7 +4,7 @@ use Rattle.std.specs.Prelude.{◌&&◌, ◌||◌, nat_eq, nat_lt, nat_le}
 use Rattle.std.proofs.lemmas.Bool.{and_parts}
 use Rattle.std.proofs.lemmas.Bool.Decides.{nat_tests}
 use Rattle.jk_scan.specs.declared.shape.BlockShape.{BlockShape}
-use Rattle.jk_scan.specs.Neighbours.{Field, is_inside, touched}
+use Rattle.jk_scan.specs.Neighbours.{Field, is_inside, touched_in}
 use Rattle.jk_scan.specs.Moments.{number, visits, old, spread, pass_of, moment, is_coded, significant}
 use Rattle.jk_scan.specs.Passes.{runs}
 use Rattle.jk_scan.specs.Words.{of_rows}
@@ -25,11 +25,11 @@ by_place : (s : BlockShape) (x y : ℕ) (a b : Bool) → (is_inside s x y ≡ tr
 by_place s x y a b f g h = by_test (is_inside s x y) f (λ i. g i ∙ sym (h i))
 
 -- significance propagation
-spread_due : (s : BlockShape) (a : Field ℕ) (t x y : ℕ) → t ≡ 0 * visits s + number s.width x y → (is_inside s x y && (not (significant s a t x y) && touched (significant s a t) x y)) ≡ is_due s a 0 x y
+spread_due : (s : BlockShape) (a : Field ℕ) (t x y : ℕ) → t ≡ 0 * visits s + number s.width x y → (is_inside s x y && (not (significant s a t x y) && touched_in s (significant s a t) x y)) ≡ is_due s a 0 x y
 unfolding is_due
 spread_due s a t x y now = by_test (is_inside s x y)
-    (λ i. ap (λ q. q && (not (significant s a t x y) && touched (significant s a t) x y)) i ∙ at i ∙ sym (ap (λ q. q && nat_eq (pass_of s.width a x y) 0) i))
-    (λ i. ap (λ q. q && (not (significant s a t x y) && touched (significant s a t) x y)) i ∙ sym (ap (λ q. q && nat_eq (pass_of s.width a x y) 0) i))
+    (λ i. ap (λ q. q && (not (significant s a t x y) && touched_in s (significant s a t) x y)) i ∙ at i ∙ sym (ap (λ q. q && nat_eq (pass_of s a x y) 0) i))
+    (λ i. ap (λ q. q && (not (significant s a t x y) && touched_in s (significant s a t) x y)) i ∙ sym (ap (λ q. q && nat_eq (pass_of s a x y) 0) i))
   where
     own : (m q : ℕ) (l : Bool) → l ≡ (nat_le 2 m || (nat_eq m 1 && nat_lt q t)) → t ≤ q → l ≡ nat_le 2 m
     own m q l e h = grind (arith, nat_tests)
@@ -40,26 +40,26 @@ spread_due s a t x y now = by_test (is_inside s x y)
     at_new : (o u p : Bool) (n : ℕ) → p ≡ (not o && u) → p ≡ nat_eq n 0 → (true && (not o && u)) ≡ (true && nat_eq n 0)
     at_new o u p n e f = ap (λ q. true && q) (sym e ∙ f)
 
-    at : is_inside s x y ≡ true → (true && (not (significant s a t x y) && touched (significant s a t) x y)) ≡ (true && nat_eq (pass_of s.width a x y) 0)
+    at : is_inside s x y ≡ true → (true && (not (significant s a t x y) && touched_in s (significant s a t) x y)) ≡ (true && nat_eq (pass_of s a x y) 0)
     at i =
         let below = number_below s x y i in
         let k : t ≡ number s.width x y = omega (arith, now) in
-        let seen : touched (significant s a t) x y ≡ touched (so_far s.width a (number s.width x y)) x y =
-        touched_same (significant s a t) (so_far s.width a (number s.width x y)) x y (λ u v. significant_early s a t u v (omega (arith, k, below)) ∙ ap (λ k. so_far s.width a k u v) k) in
+        let seen : touched_in s (significant s a t) x y ≡ touched_in s (so_far s a (number s.width x y)) x y =
+        touched_same s (significant s a t) (so_far s a (number s.width x y)) x y (λ u v. significant_early s a t u v (omega (arith, k, below)) ∙ ap (λ k. so_far s a k u v) k) in
         let o : significant s a t x y ≡ old a x y =
         own (a x y) (moment s a x y) (significant s a t x y) (significant_is s a t x y) (let f = number_first s a x y in omega (arith, k, f)) in
-        ap (λ l. true && (not l && touched (significant s a t) x y)) o ∙ ap (λ u. true && (not (old a x y) && u)) seen
-        ∙ at_new (old a x y) (touched (so_far s.width a (number s.width x y)) x y) (spread s.width a x y) (pass_of s.width a x y) (spread_is s.width a x y)
+        ap (λ l. true && (not l && touched_in s (significant s a t) x y)) o ∙ ap (λ u. true && (not (old a x y) && u)) seen
+        ∙ at_new (old a x y) (touched_in s (so_far s a (number s.width x y)) x y) (spread s a x y) (pass_of s a x y) (spread_is s a x y)
         (cases_of s a x y (λ w. w.spread_is ∙ ap (λ n. nat_eq n 0) (sym w.pass_is)) (λ w. w.spread_is ∙ ap (λ n. nat_eq n 0) (sym w.pass_is)) (λ w. w.spread_is ∙ ap (λ n. nat_eq n 0) (sym w.pass_is)))
 
 -- what is outside isn't due
 due_outside : (s : BlockShape) (a : Field ℕ) (pass x y : ℕ) → is_inside s x y ≡ false → is_due s a pass x y ≡ false
 unfolding is_due
-due_outside s a pass x y i = ap (λ q. q && nat_eq (pass_of s.width a x y) pass) i
+due_outside s a pass x y i = ap (λ q. q && nat_eq (pass_of s a x y) pass) i
 
-pub due_inside : (s : BlockShape) (a : Field ℕ) (pass x y : ℕ) → is_due s a pass x y ≡ true → (is_inside s x y ≡ true) × (pass_of s.width a x y ≡ pass)
+pub due_inside : (s : BlockShape) (a : Field ℕ) (pass x y : ℕ) → is_due s a pass x y ≡ true → (is_inside s x y ≡ true) × (pass_of s a x y ≡ pass)
 unfolding is_due
-due_inside s a pass x y e = let p = and_parts (is_inside s x y) (nat_eq (pass_of s.width a x y) pass) e in (p.0, same (pass_of s.width a x y) p.1)
+due_inside s a pass x y e = let p = and_parts (is_inside s x y) (nat_eq (pass_of s a x y) pass) e in (p.0, same (pass_of s a x y) p.1)
   where
     same : (n : ℕ) → nat_eq n pass ≡ true → n ≡ pass
     same n e = grind (arith, nat_tests)
@@ -70,23 +70,23 @@ gated false a b h = refl
 
 pub spread_codes : (s : BlockShape) (a : Field ℕ) (j i k : ℕ) → is_spread s (significant s a (moment_at s 0 j i k)) j i k ≡ codes s a 0 j i k
 spread_codes s a j i k =
-    gated (of_rows (k % 8)) (is_inside s (column j k) (row i k) && (not (significant s a (moment_at s 0 j i k) (column j k) (row i k)) && touched (significant s a (moment_at s 0 j i k)) (column j k) (row i k))) (is_due s a 0 (column j k) (row i k))
-    (λ on_row. by_place s (column j k) (row i k) (is_inside s (column j k) (row i k) && (not (significant s a (moment_at s 0 j i k) (column j k) (row i k)) && touched (significant s a (moment_at s 0 j i k)) (column j k) (row i k))) (is_due s a 0 (column j k) (row i k))
+    gated (of_rows (k % 8)) (is_inside s (column j k) (row i k) && (not (significant s a (moment_at s 0 j i k) (column j k) (row i k)) && touched_in s (significant s a (moment_at s 0 j i k)) (column j k) (row i k))) (is_due s a 0 (column j k) (row i k))
+    (λ on_row. by_place s (column j k) (row i k) (is_inside s (column j k) (row i k) && (not (significant s a (moment_at s 0 j i k) (column j k) (row i k)) && touched_in s (significant s a (moment_at s 0 j i k)) (column j k) (row i k))) (is_due s a 0 (column j k) (row i k))
     (λ inside. spread_due s a (moment_at s 0 j i k) (column j k) (row i k) (moment_place s 0 j i k on_row (inside_parts s (column j k) (row i k) inside).0))
-    (λ out. ap (λ q. q && (not (significant s a (moment_at s 0 j i k) (column j k) (row i k)) && touched (significant s a (moment_at s 0 j i k)) (column j k) (row i k))) out)
+    (λ out. ap (λ q. q && (not (significant s a (moment_at s 0 j i k) (column j k) (row i k)) && touched_in s (significant s a (moment_at s 0 j i k)) (column j k) (row i k))) out)
     (due_outside s a 0 (column j k) (row i k)))
 
 -- In the two later passes, a place is significant where it was before, or was found.
 later_due : (s : BlockShape) (a : Field ℕ) (t x y : ℕ) → is_inside s x y ≡ true → visits s ≤ t → t ≤ 2 * visits s + number s.width x y
-    → (significant s a t x y ≡ (old a x y || (nat_eq (a x y) 1 && spread s.width a x y))) × (spread_before s a t x y ≡ spread s.width a x y)
+    → (significant s a t x y ≡ (old a x y || (nat_eq (a x y) 1 && spread s a x y))) × (spread_before s a t x y ≡ spread s a x y)
 later_due s a t x y i h l =
     let below = number_below s x y i in (
       significant_is s a t x y
           ∙ cases_of s a x y
-          (λ w. at_old (a x y) (nat_lt (moment s a x y) t) (spread s.width a x y) w.old_is)
-          (λ w. at_spread (a x y) (moment s a x y) (spread s.width a x y) w.spread_is (let m = w.moment_is in omega (arith, m, below, h)))
-          (λ w. at_left (a x y) (moment s a x y) (spread s.width a x y) w.spread_is (let m = w.moment_is in omega (arith, m, l))),
-      at_inside (is_inside s x y) (spread s.width a x y) (number s.width x y) i (omega (arith, below, h)),
+          (λ w. at_old (a x y) (nat_lt (moment s a x y) t) (spread s a x y) w.old_is)
+          (λ w. at_spread (a x y) (moment s a x y) (spread s a x y) w.spread_is (let m = w.moment_is in omega (arith, m, below, h)))
+          (λ w. at_left (a x y) (moment s a x y) (spread s a x y) w.spread_is (let m = w.moment_is in omega (arith, m, l))),
+      at_inside (is_inside s x y) (spread s a x y) (number s.width x y) i (omega (arith, below, h)),
     )
   where
     at_old : (m : ℕ) (c p : Bool) → nat_le 2 m ≡ true → (nat_le 2 m || (nat_eq m 1 && c)) ≡ (nat_le 2 m || (nat_eq m 1 && p))
@@ -116,10 +116,10 @@ older_codes s a t j i k none h l = ap (λ q. of_rows (k % 8) && q) (at (column j
     at : (x y : ℕ) → (significant s a t x y && not (spread_before s a t x y)) ≡ is_due s a 1 x y
     at x y = by_test (is_inside s x y)
         (λ i. let d = later_due s a t x y i h (omega (arith, l)) in
-        gate (a x y) (significant s a t x y) (spread_before s a t x y) (spread s.width a x y) (is_inside s x y) (pass_of s.width a x y) d.0 d.1 i
+        gate (a x y) (significant s a t x y) (spread_before s a t x y) (spread s a x y) (is_inside s x y) (pass_of s a x y) d.0 d.1 i
         (λ o. cases_of s a x y (λ w. w.spread_is) (λ w. absurd (let f = w.old_is in let c : true ≡ false = sym o ∙ f in cc)) (λ w. w.spread_is))
         (cases_of s a x y (λ w. w.old_is ∙ ap (λ n. nat_eq n 1) (sym w.pass_is)) (λ w. w.old_is ∙ ap (λ n. nat_eq n 1) (sym w.pass_is)) (λ w. w.old_is ∙ ap (λ n. nat_eq n 1) (sym w.pass_is))))
-        (λ i. dark (a x y) (significant s a t x y) (is_coded s a t x y) (not (spread_before s a t x y)) (none x y i) (significant_is s a t x y) ∙ sym (ap (λ q. q && nat_eq (pass_of s.width a x y) 1) i))
+        (λ i. dark (a x y) (significant s a t x y) (is_coded s a t x y) (not (spread_before s a t x y)) (none x y i) (significant_is s a t x y) ∙ sym (ap (λ q. q && nat_eq (pass_of s a x y) 1) i))
 
 pub left_codes : (s : BlockShape) (a : Field ℕ) (j i k : ℕ) → k < 64
     → (of_rows (k % 8) && (is_inside s (column j k) (row i k) && (not (significant s a (moment_at s 2 j i 0) (column j k) (row i k)) && not (spread_before s a (moment_at s 2 j i 0) (column j k) (row i k))))) ≡ codes s a 2 j i k
@@ -129,11 +129,11 @@ left_codes s a j i k within =
     (λ on_row. by_test (is_inside s x y)
     (λ i. let b = moment_bound s 2 j row_of k on_row (inside_parts s x y i).0 in
     let d = later_due s a t x y i (omega (arith, b)) b.1 in
-    gate (a x y) (significant s a t x y) (spread_before s a t x y) (spread s.width a x y) (is_inside s x y) (pass_of s.width a x y) d.0 d.1 i
+    gate (a x y) (significant s a t x y) (spread_before s a t x y) (spread s a x y) (is_inside s x y) (pass_of s a x y) d.0 d.1 i
     (λ o. cases_of s a x y (λ w. w.pass_is) (λ w. absurd (let f = w.old_is in let c : true ≡ false = sym o ∙ f in cc)) (λ w. absurd (let f = w.old_is in let c : true ≡ false = sym o ∙ f in cc)))
     (λ p. cases_of s a x y (λ w. absurd (let f = w.spread_is in let c : true ≡ false = sym p ∙ f in cc)) (λ w. w.pass_is) (λ w. absurd (let f = w.spread_is in let c : true ≡ false = sym p ∙ f in cc)))
     (λ o p. cases_of s a x y (λ w. absurd (let f = w.old_is in let c : true ≡ false = sym f ∙ o in cc)) (λ w. absurd (let f = w.spread_is in let c : true ≡ false = sym f ∙ p in cc)) (λ w. w.pass_is)))
-    (λ i. ap (λ q. q && (not (significant s a t x y) && not (spread_before s a t x y))) i ∙ sym (ap (λ q. q && nat_eq (pass_of s.width a x y) 2) i)))
+    (λ i. ap (λ q. q && (not (significant s a t x y) && not (spread_before s a t x y))) i ∙ sym (ap (λ q. q && nat_eq (pass_of s a x y) 2) i)))
   where
     x : ℕ
     x = column j k
@@ -155,7 +155,7 @@ left_codes s a j i k within =
 
 -- a row of a quiet column is left to the cleanup pass, and the other way round
 row_test : (s : BlockShape) (a : Field ℕ) (x i k : ℕ) → x < s.width → k < 4 → 4 * i + 4 ≤ s.height
-    → (not (significant s a (start s 2 x i) x (4 * i + k)) && not (touched (significant s a (start s 2 x i)) x (4 * i + k))) ≡ row_left s a (start s 2 x i) x (4 * i + k)
+    → (not (significant s a (start s 2 x i) x (4 * i + k)) && not (touched_in s (significant s a (start s 2 x i)) x (4 * i + k))) ≡ row_left s a (start s 2 x i) x (4 * i + k)
 unfolding start row_left
 row_test s a x i k narrow l high =
     let y = 4 * i + k in
@@ -166,11 +166,11 @@ row_test s a x i k narrow l high =
     let early : number s.width x y ≤ 2 * visits s + 4 * (s.width * i + x) = omega (arith, n, below) in
     let late : 2 * visits s + 4 * (s.width * i + x) ≤ 2 * visits s + number s.width x y = omega (arith, n) in
     let room : number s.width x y ≤ visits s = omega (arith, below) in
-    gate (touched (significant s a t) x y) (significant s a t x y) (pass_of s.width a x y) (λ quiet.
+    gate (touched_in s (significant s a t) x y) (significant s a t x y) (pass_of s a x y) (λ quiet.
     cases_of s a x y
-    (λ w. at (significant s a t x y) true (pass_of s.width a x y) 1 (significant_is s a t x y ∙ ap (λ o. o || (nat_eq (a x y) 1 && is_coded s a t x y)) w.old_is) w.pass_is refl)
+    (λ w. at (significant s a t x y) true (pass_of s a x y) 1 (significant_is s a t x y ∙ ap (λ o. o || (nat_eq (a x y) 1 && is_coded s a t x y)) w.old_is) w.pass_is refl)
     (λ w. absurd (spread_touches s a t x y room early w.spread_is quiet))
-    (λ w. at (significant s a t x y) false (pass_of s.width a x y) 2 (significant_is s a t x y ∙ not_yet (a x y) (moment s a x y) (2 * visits s + number s.width x y) w.old_is w.moment_is late) w.pass_is refl))
+    (λ w. at (significant s a t x y) false (pass_of s a x y) 2 (significant_is s a t x y ∙ not_yet (a x y) (moment s a x y) (2 * visits s + number s.width x y) w.old_is w.moment_is late) w.pass_is refl))
   where
     both : (p q : Bool) → p ≡ true → q ≡ true → (p && q) ≡ true
     both p q e g = cc
@@ -196,7 +196,7 @@ quiet_runs s a x i narrow =
     t = start s 2 x i
 
     q : ℕ → Bool
-    q j = not (significant s a t x (4 * i + j)) && not (touched (significant s a t) x (4 * i + j))
+    q j = not (significant s a t x (4 * i + j)) && not (touched_in s (significant s a t) x (4 * i + j))
 
     high : nat_le (4 * i + 4) s.height ≡ true → 4 * i + 4 ≤ s.height
     high h = grind (arith, nat_tests)

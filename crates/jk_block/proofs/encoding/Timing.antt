@@ -162,13 +162,13 @@ unfolding here is_due significant
 lit_next s a pass x y t none narrow room now u w =
     at_place (λ u w. significant s a (t + 1) u w ≡ (significant s a t u w || ((is_due s a pass x y && nat_eq (a x y) 1) && here x y u w))) x y u w
     (by_test (is_inside s x y)
-    (λ i. by_test (nat_eq (pass_of s.width a x y) pass)
-    (λ p. at_now (a x y) (moment s a x y) (is_inside s x y) (nat_eq (pass_of s.width a x y) pass) (here x y x y) (moment_is s a x y ∙ ap (λ p. p * visits s + number s.width x y) (same_number (pass_of s.width a x y) pass p) ∙ sym now) i p (same_place x y))
-    (λ p. at_other (a x y) (moment s a x y) (is_inside s x y) (nat_eq (pass_of s.width a x y) pass) (here x y x y) p
-    (λ e. let one = place_any s (pass_of s.width a x y) pass x y x y i narrow room (sym (moment_is s a x y) ∙ e ∙ now) in let o = one.0 in let c : nat_eq (pass_of s.width a x y) pass ≡ true = grind (arith, nat_tests) in let d : true ≡ false = sym c ∙ p in absurd cc)))
-    (λ i. at_none (a x y) (moment s a x y) (is_inside s x y && nat_eq (pass_of s.width a x y) pass) (nat_eq (a x y) 1) (here x y x y) (none x y i) (none x y i)))
+    (λ i. by_test (nat_eq (pass_of s a x y) pass)
+    (λ p. at_now (a x y) (moment s a x y) (is_inside s x y) (nat_eq (pass_of s a x y) pass) (here x y x y) (moment_is s a x y ∙ ap (λ p. p * visits s + number s.width x y) (same_number (pass_of s a x y) pass p) ∙ sym now) i p (same_place x y))
+    (λ p. at_other (a x y) (moment s a x y) (is_inside s x y) (nat_eq (pass_of s a x y) pass) (here x y x y) p
+    (λ e. let one = place_any s (pass_of s a x y) pass x y x y i narrow room (sym (moment_is s a x y) ∙ e ∙ now) in let o = one.0 in let c : nat_eq (pass_of s a x y) pass ≡ true = grind (arith, nat_tests) in let d : true ≡ false = sym c ∙ p in absurd cc)))
+    (λ i. at_none (a x y) (moment s a x y) (is_inside s x y && nat_eq (pass_of s a x y) pass) (nat_eq (a x y) 1) (here x y x y) (none x y i) (none x y i)))
     (λ apart. by_test (is_inside s u w)
-    (λ i. apart_is (a u w) (moment s a u w) (is_due s a pass x y && nat_eq (a x y) 1) (here x y u w) apart (λ e. other_place s (pass_of s.width a u w) pass x y u w i narrow room apart (sym (moment_is s a u w) ∙ e ∙ now)))
+    (λ i. apart_is (a u w) (moment s a u w) (is_due s a pass x y && nat_eq (a x y) 1) (here x y u w) apart (λ e. other_place s (pass_of s a u w) pass x y u w i narrow room apart (sym (moment_is s a u w) ∙ e ∙ now)))
     (λ i. none_is (a u w) (moment s a u w) (is_due s a pass x y && nat_eq (a x y) 1) (here x y u w) (none u w i) apart))
   where
     same_number : (p q : ℕ) → nat_eq p q ≡ true → p ≡ q
@@ -189,12 +189,12 @@ lit_next s a pass x y t none narrow room now u w =
     none_is : (m q : ℕ) (d h : Bool) → m ≡ 0 → h ≡ false → (nat_le 2 m || (nat_eq m 1 && nat_lt q (t + 1))) ≡ ((nat_le 2 m || (nat_eq m 1 && nat_lt q t)) || (d && h))
     none_is m q d h e g = grind (arith, nat_tests)
 
-spread_pass : (s : BlockShape) (a : Field ℕ) (x y : ℕ) → spread s.width a x y ≡ nat_eq (pass_of s.width a x y) 0
+spread_pass : (s : BlockShape) (a : Field ℕ) (x y : ℕ) → spread s a x y ≡ nat_eq (pass_of s a x y) 0
 spread_pass s a x y = cases_of s a x y (λ w. w.spread_is ∙ ap (λ n. nat_eq n 0) (sym w.pass_is)) (λ w. w.spread_is ∙ ap (λ n. nat_eq n 0) (sym w.pass_is)) (λ w. w.spread_is ∙ ap (λ n. nat_eq n 0) (sym w.pass_is))
 
 -- coded by the significance propagation pass before a moment
 abbrev pub spread_before : BlockShape → Field ℕ → ℕ → Field Bool
-spread_before s a t x y = is_inside s x y && (spread s.width a x y && nat_lt (number s.width x y) t)
+spread_before s a t x y = is_inside s x y && (spread s a x y && nat_lt (number s.width x y) t)
 
 -- The place is coded by the significance propagation pass where this is that pass.
 pub spread_next : (s : BlockShape) (a : Field ℕ) (pass x y t : ℕ) → x < s.width → number s.width x y < visits s → t ≡ pass * visits s + number s.width x y
@@ -202,11 +202,11 @@ pub spread_next : (s : BlockShape) (a : Field ℕ) (pass x y t : ℕ) → x < s.
 unfolding here is_due
 spread_next s a zero x y t narrow room now u w =
     at_place (λ u w. spread_before s a (t + 1) u w ≡ (spread_before s a t u w || ((is_due s a 0 x y && nat_eq 0 0) && here x y u w))) x y u w
-    (at_now (is_inside s x y) (spread s.width a x y) (nat_eq (pass_of s.width a x y) 0) (here x y x y) (number s.width x y) (spread_pass s a x y) (same_place x y) (let e : t ≡ number s.width x y = omega (arith, now) in e))
+    (at_now (is_inside s x y) (spread s a x y) (nat_eq (pass_of s a x y) 0) (here x y x y) (number s.width x y) (spread_pass s a x y) (same_place x y) (let e : t ≡ number s.width x y = omega (arith, now) in e))
     (λ apart. by_test (is_inside s u w)
-    (λ i. apart_is (is_inside s u w) (spread s.width a u w) (is_due s a 0 x y && nat_eq 0 0) (here x y u w) (number s.width u w) apart
+    (λ i. apart_is (is_inside s u w) (spread s a u w) (is_due s a 0 x y && nat_eq 0 0) (here x y u w) (number s.width u w) apart
     (λ e. other_place s 0 0 x y u w i narrow room apart (let f : 0 * visits s + number s.width u w ≡ 0 * visits s + number s.width x y = omega (arith, e, now) in f)))
-    (λ i. outside (is_inside s u w) (spread s.width a u w) (is_due s a 0 x y && nat_eq 0 0) (here x y u w) (number s.width u w) i apart))
+    (λ i. outside (is_inside s u w) (spread s a u w) (is_due s a 0 x y && nat_eq 0 0) (here x y u w) (number s.width u w) i apart))
   where
     at_now : (i p q h : Bool) (n : ℕ) → p ≡ q → h ≡ true → t ≡ n → (i && (p && nat_lt n (t + 1))) ≡ ((i && (p && nat_lt n t)) || (((i && q) && true) && h))
     at_now i p q h n e g k = grind (arith, nat_tests)
@@ -217,8 +217,8 @@ spread_next s a zero x y t narrow room now u w =
     outside : (i p d h : Bool) (n : ℕ) → i ≡ false → h ≡ false → (i && (p && nat_lt n (t + 1))) ≡ ((i && (p && nat_lt n t)) || (d && h))
     outside i p d h n e g = grind (arith, nat_tests)
 spread_next s a (suc pass) x y t narrow room now u w = by_test (is_inside s u w)
-    (λ i. let b = number_below s u w i in later (is_inside s u w) (spread s.width a u w) (is_due s a (suc pass) x y) (here x y u w) (number s.width u w) (early (visits s) (number s.width x y) (number s.width u w) now b))
-    (λ i. outside (is_inside s u w) (spread s.width a u w) (is_due s a (suc pass) x y) (here x y u w) (number s.width u w) i)
+    (λ i. let b = number_below s u w i in later (is_inside s u w) (spread s a u w) (is_due s a (suc pass) x y) (here x y u w) (number s.width u w) (early (visits s) (number s.width x y) (number s.width u w) now b))
+    (λ i. outside (is_inside s u w) (spread s a u w) (is_due s a (suc pass) x y) (here x y u w) (number s.width u w) i)
   where
     early : (v m n : ℕ) → t ≡ suc pass * v + m → n < v → n < t
     early v m n e h = let g : suc pass * v ≡ pass * v + v = omega arith in omega (arith, e, h, g)
@@ -238,7 +238,7 @@ codes s a pass j i k = of_rows (k % 8) && is_due s a pass (column j k) (row i k)
 
 outside_due : (s : BlockShape) (a : Field ℕ) (pass x y : ℕ) → s.width ≤ x → is_due s a pass x y ≡ false
 unfolding is_due
-outside_due s a pass x y h = gate (nat_lt x s.width) (nat_lt y s.height) (nat_eq (pass_of s.width a x y) pass) (grind (arith, nat_tests))
+outside_due s a pass x y h = gate (nat_lt x s.width) (nat_lt y s.height) (nat_eq (pass_of s a x y) pass) (grind (arith, nat_tests))
   where
     gate : (p q r : Bool) → p ≡ false → ((p && q) && r) ≡ false
     gate p q r e = grind (arith, nat_tests)

@@ -9,7 +9,7 @@ use Rattle.std.proofs.lemmas.Nat.{or_lt, pow_pos}
 use Rattle.std.proofs.Math.Nat.{mod-lt}
 use Rattle.jk_scan.specs.declared.around.Around.{Around}
 use Rattle.jk_scan.specs.Bits.{on}
-use Rattle.jk_scan.specs.Neighbours.{Field}
+use Rattle.jk_scan.specs.Neighbours.{Field, seen_from}
 use Rattle.jk_scan.specs.Moments.{stripes}
 use Rattle.jk_scan.specs.Words.{bordered}
 use Rattle.jk_scan.specs.WordPlaces.{column, row}
@@ -19,7 +19,7 @@ use Rattle.jk_scan.proofs.Laws.{same_field, on_or, on_set}
 use Rattle.jk_block.specs.declared.encoding.plane.BlockPlane.{BlockPlane}
 use Rattle.jk_block.specs.declared.spot.Spot.{Spot}
 use Rattle.jk_block.specs.Steps.{IsPlace}
-use Rattle.jk_block.specs.encoding.Viewed.{lit_at, moment_at, SpellsBit, SpellsSign}
+use Rattle.jk_block.specs.encoding.Viewed.{lit_at, moment_at, SpellsBit, SpellsSign, seen_at}
 use Rattle.jk_block.proofs.encoding.Behind.{becomes, becoming_row}
 use Rattle.jk_block.proofs.encoding.Coming.{mag, mag_outside}
 use Rattle.jk_block.proofs.encoding.Foreseen.{with_centre, HasBits, HasSigns}
@@ -33,7 +33,7 @@ use Rattle.jk_block.proofs.WordBits.{around_also}
 pub record Turned (v : BlockPlane) (at : Spot) (around : Around) (new n : ℕ) : Type 0 where
   pub centre : ℕ
   pub fits : centre < 2 ^ 64
-  pub shown : IsAround (bordered (lit_at v (moment_at v.shape 2 at.word at.stripe n))) at.word at.stripe (with_centre centre around)
+  pub shown : IsAround (bordered (seen_at v (moment_at v.shape 2 at.word at.stripe n) at.stripe)) at.word at.stripe (with_centre centre around)
   pub turns : Turns centre (bit_or around.centre new) around.centre n
 
 -- one bit on
@@ -78,7 +78,7 @@ turn v at around new n stripe within new_is h = by (becomes v 2 j i n) refl
     by false e = record {
       centre = h.centre;
       fits = h.fits;
-      shown = subst (λ (f : Field Bool). IsAround (bordered f) j i (with_centre h.centre around))
+      shown = subst (λ (f : Field Bool). IsAround (bordered (seen_from v.shape i f)) j i (with_centre h.centre around))
           (sym (same_field (lit_at v u) (lit_at v t) (λ x y. next x y ∙ off (lit_at v t x y) (becomes v 2 j i n) (nat_eq x (column j n) && nat_eq y (row i n)) e))) h.shown;
       turns = record {
         before = λ m less. elim (cases_lt m n) [
@@ -95,7 +95,7 @@ turn v at around new n stripe within new_is h = by (becomes v 2 j i n) refl
         record {
           centre = bit_or h.centre (1 * 2 ^ n % 2 ^ 64);
           fits = or_lt 64 h.centre (1 * 2 ^ n % 2 ^ 64) h.fits (mod-lt (1 * 2 ^ n) (pow_pos 64));
-          shown = around_also (lit_at v t) (lit_at v u) j i n (with_centre h.centre around) within on_row
+          shown = around_also v.shape (lit_at v t) (lit_at v u) j i n (with_centre h.centre around) within on_row
               (λ x y. next x y ∙ lit_up (lit_at v t x y) (becomes v 2 j i n) (nat_eq x (column j n) && nat_eq y (row i n)) e) h.shown;
           turns = record {
             before = λ m less. on_set h.centre n 64 m (omega (arith, less, within)) ∙ elim (cases_lt m n) [
@@ -110,7 +110,7 @@ turn v at around new n stripe within new_is h = by (becomes v 2 j i n) refl
         }
 
 pub turned : (v : BlockPlane) (at : Spot) (around : Around) (new : ℕ) → at.stripe < stripes v.shape → around.centre < 2 ^ 64
-    → IsAround (bordered (lit_at v (moment_at v.shape 2 at.word at.stripe 0))) at.word at.stripe around → ((m : ℕ) → m < 64 → on new m ≡ becomes v 2 at.word at.stripe m)
+    → IsAround (bordered (seen_at v (moment_at v.shape 2 at.word at.stripe 0) at.stripe)) at.word at.stripe around → ((m : ℕ) → m < 64 → on new m ≡ becomes v 2 at.word at.stripe m)
     → (n : ℕ) → n ≤ 64 → Turned v at around new n
 turned v at around new stripe fits shown new_is zero most = record {
   centre = around.centre;
@@ -132,7 +132,7 @@ pub record Prepared (v : BlockPlane) (at : Spot) (bits signs : List ℕ) (still 
 -- the columns in run mode, each in its turn
 abbrev pub HasRuns : BlockPlane → Spot → Around → (new still : ℕ) → Type 0
 HasRuns v at around new still =
-    (f : Field Bool) (centre m : ℕ) → m < 64 → centre < 2 ^ 64 → Turns centre new around.centre (8 * (m / 8)) → IsAround (bordered f) at.word at.stripe (with_centre centre around)
+    (f : Field Bool) (centre m : ℕ) → m < 64 → centre < 2 ^ 64 → Turns centre new around.centre (8 * (m / 8)) → IsAround (bordered (seen_from v.shape at.stripe f)) at.word at.stripe (with_centre centre around)
     → on still m ≡ (nat_eq (m % 8) 1 && is_still v.shape f at.word at.stripe (m / 8))
 
 pub prepared : (v : BlockPlane) (at : Spot) (around : Around) (new : ℕ) (bits signs : List ℕ) (still : ℕ) → ((n : ℕ) → n ≤ 64 → Turned v at around new n)

@@ -1,7 +1,7 @@
 -- What words show of a draft while a word is read, and what they make of it behind the word.
 use Rattle.std.specs.Prelude.{◌≡◌, ℕ, ◌+◌, ◌^◌, ◌<◌, ◌≤◌, Bool, true, ◌&&◌, ◌⊎◌, nat_lt, if◌then◌else◌}
 use Rattle.jk_scan.specs.Bits.{on}
-use Rattle.jk_scan.specs.Neighbours.{is_inside}
+use Rattle.jk_scan.specs.Neighbours.{Field, is_inside, seen_from}
 use Rattle.jk_scan.specs.Words.{bordered}
 use Rattle.jk_scan.specs.WordPlaces.{column, row}
 use Rattle.jk_scan.specs.Surroundings.{IsAround}
@@ -11,10 +11,15 @@ use Rattle.jk_block.specs.Fields.{is_in_word, own_bit}
 use Rattle.jk_block.specs.Meaning.{above}
 use Rattle.jk_block.specs.decoding.Sketches.{Draft, lit_in, coded_in}
 
--- The words show the significant places and the negative ones, in a word and around it.
+-- the significant places, as a stripe sees them
+abbrev pub seen_in : Draft → (stripe : ℕ) → Field Bool
+seen_in d stripe = seen_from d.shape stripe (lit_in d)
+
+-- The words show the significant places and the negative ones, in a word and around it, as the
+-- word's stripe sees them.
 pub record Sees (at : Spot) (d : Draft) (sight : Sight) : Type 0 where
-  pub significant : IsAround (bordered (lit_in d)) at.word at.stripe sight.significant
-  pub negative : IsAround (bordered d.negative) at.word at.stripe sight.negative
+  pub significant : IsAround (bordered (seen_in d at.stripe)) at.word at.stripe sight.significant
+  pub negative : IsAround (bordered (seen_from d.shape at.stripe d.negative)) at.word at.stripe sight.negative
 
 -- Two drafts have the same of a place.
 pub record IsSame (k d : Draft) (x y : ℕ) : Type 0 where

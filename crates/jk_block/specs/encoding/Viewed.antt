@@ -3,7 +3,7 @@ use Rattle.std.specs.Prelude.{◌≡◌, ◌<◌, ℕ, ◌+◌, ◌-◌, ◌*◌
 use Rattle.std.specs.Prelude.{nat_le, [], ◌∷◌, ℤ, if◌then◌else◌}
 use Rattle.jk_scan.specs.declared.shape.BlockShape.{BlockShape}
 use Rattle.jk_scan.specs.Contexts.{run_length, uniform}
-use Rattle.jk_scan.specs.Neighbours.{Field, is_inside, zero_at}
+use Rattle.jk_scan.specs.Neighbours.{Field, is_inside, seen_from, zero_in}
 use Rattle.jk_scan.specs.Moments.{number, visits, spread, significant}
 use Rattle.jk_scan.specs.Passes.{Plane, Decided, is_one, joined, sign_decision, column_decisions}
 use Rattle.jk_scan.specs.Bits.{on}
@@ -29,6 +29,10 @@ ShowsOnes v j i word =
 abbrev pub lit_at : BlockPlane → ℕ → Field Bool
 lit_at v t = significant v.shape (seen v).magnitude t
 
+-- the same, as a stripe sees it
+abbrev pub seen_at : BlockPlane → (t stripe : ℕ) → Field Bool
+seen_at v t stripe = seen_from v.shape stripe (lit_at v t)
+
 -- the negative places
 abbrev pub negative_in : BlockPlane → Field Bool
 negative_in v = negative_of v.shape (value_in v.shape v.values.now)
@@ -36,7 +40,7 @@ negative_in v = negative_of v.shape (value_in v.shape v.values.now)
 -- coded by the significance propagation pass before a moment
 abbrev pub spread_at : BlockPlane → ℕ → Field Bool
 spread_at v t x y =
-    is_inside v.shape x y && (spread v.shape.width (seen v).magnitude x y && nat_lt (number v.shape.width x y) t)
+    is_inside v.shape x y && (spread v.shape (seen v).magnitude x y && nat_lt (number v.shape.width x y) t)
 
 -- The words show what is so at a moment.
 pub record IsFlagged (v : BlockPlane) (t : ℕ) (flags : Flags) : Type 0 where
@@ -51,7 +55,7 @@ pub record IsLitUpto (s : BlockShape) (b : ℕ) (q : Field ℤ) (flags : Flags) 
 -- of its sign.
 abbrev pub SpellsBit : BlockPlane → (t x y byte : ℕ) → Type 0
 SpellsBit v t x y byte =
-    decision_of byte ≡ (zero_at v.shape.orientation (lit_at v t) x y, is_one ((seen v).magnitude x y))
+    decision_of byte ≡ (zero_in v.shape (lit_at v t) x y, is_one ((seen v).magnitude x y))
 
 abbrev pub SpellsSign : BlockPlane → (t x y byte : ℕ) → Type 0
 SpellsSign v t x y byte = decision_of byte ≡ sign_decision v.shape (seen v) t x y

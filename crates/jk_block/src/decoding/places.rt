@@ -4,7 +4,7 @@ ghost use Rattle.std.specs.Prelude.{◌≡◌, ℕ, true, false, nat_le, ◌+◌
 ghost use Rattle.std.specs.Prelude.{◌<◌, ◌≤◌, IfOk, if◌then◌else◌};
 ghost use Rattle.jk_math.specs.declared.orientation.Orientation.{Orientation};
 ghost use Rattle.jk_scan.specs.Contexts.{refine_context_of};
-ghost use Rattle.jk_scan.specs.Neighbours.{touched};
+ghost use Rattle.jk_scan.specs.Neighbours.{touched_in};
 ghost use Rattle.jk_scan.specs.Moments.{cleanup};
 ghost use Rattle.jk_scan.specs.Passes.{flipped};
 ghost use Rattle.jk_scan.specs.Words.{of_rows};
@@ -16,14 +16,10 @@ ghost use Rattle.jk_block.specs.decoding.Sketches.{Draft, TakesTo, TakesUpTo, li
 ghost use Rattle.jk_block.specs.decoding.Sights.{Sees, new_in, run_in};
 
 use super::sight::Sight;
+use crate::contexts::{RUN_LENGTH, UNIFORM};
 use jk_math::{Fault, Orientation};
 use jk_mqdec::PassDecoder;
 use jk_scan::{sign_context_at, zero_context_at};
-
-/// The contexts of run mode (T.800 D.3.4, Table D.5).
-const RUN_LENGTH: usize = 17;
-
-const UNIFORM: usize = 18;
 
 /// The other bit, if it is to be flipped.
 #[tactic(auto, unfolding(jk_scan::specs::Passes::flipped))]
@@ -83,7 +79,7 @@ pub fn read_refined(decoder: &mut PassDecoder, context: u8) -> Result<bool, Faul
     requires { context < 19 }
     ensures bytes { decoder.new.bytes ≡ decoder.old.bytes }
     ensures takes { (at : Spot) (d : Draft) (x y : ℕ) → lit_in d x y ≡ true → d.visited x y ≡ false
-        → context ≡ refine_context_of (nat_le 4 (d.magnitude x y / 2 ^ at.plane)) (touched (lit_in d) x y)
+        → context ≡ refine_context_of (nat_le 4 (d.magnitude x y / 2 ^ at.plane)) (touched_in d.shape (lit_in d) x y)
         → TakesTo (place_at decoder.old.bytes d.shape at.plane 1 x y)
         d (λ bit. coded_in at.plane x y bit (d.negative x y) d) decoder.old decoder.new result }
 {
@@ -116,12 +112,12 @@ pub fn read_run(sight: &mut Sight, decoder: &mut PassDecoder, k: u32) -> Result<
         (λ f. rows_at decoder.old.bytes d.shape at.plane cleanup (column at.word k) at.stripe (f + 1) (3 - f))
         d (λ f. run_in at k f sight.new d) decoder.old decoder.new result }
 {
-    let some = decoder.decode(RUN_LENGTH)?;
+    let some = decoder.decode(RUN_LENGTH as usize)?;
     if !some {
         return Ok(4);
     }
-    let high = decoder.decode(UNIFORM)?;
-    let low = decoder.decode(UNIFORM)?;
+    let high = decoder.decode(UNIFORM as usize)?;
+    let low = decoder.decode(UNIFORM as usize)?;
     let row = row_named(high, low);
     let negative = read_sign(*sight, decoder, k + row)?;
     sight.light(k + row, negative);

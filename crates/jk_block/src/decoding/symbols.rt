@@ -6,12 +6,10 @@ ghost use Rattle.jk_block.specs.Steps.{number_of};
 ghost use Rattle.jk_block.specs.Symbols.{is_symbol};
 ghost use Rattle.jk_block.specs.decoding.Sketches.{Draft, Takes};
 
+use crate::contexts::UNIFORM;
 use crate::spot::{Pass, ends_with_symbol};
 use jk_math::{Fault, Style};
 use jk_mqdec::PassDecoder;
-
-/// The context of the symbol's decisions (T.800 Table D.5).
-const UNIFORM: usize = 18;
 
 /// Whether four bits are those of the symbol.
 fn is_symbol(first: bool, second: bool, third: bool, fourth: bool) -> bool
@@ -25,10 +23,10 @@ fn read_symbol(decoder: &mut PassDecoder) -> Result<(), Fault>
     ensures bytes { decoder.new.bytes ≡ decoder.old.bytes }
     ensures takes { (d : Draft) → Takes (symbol_at decoder.old.bytes) d d decoder.old decoder.new result }
 {
-    let first = decoder.decode(UNIFORM)?;
-    let second = decoder.decode(UNIFORM)?;
-    let third = decoder.decode(UNIFORM)?;
-    let fourth = decoder.decode(UNIFORM)?;
+    let first = decoder.decode(UNIFORM as usize)?;
+    let second = decoder.decode(UNIFORM as usize)?;
+    let third = decoder.decode(UNIFORM as usize)?;
+    let fourth = decoder.decode(UNIFORM as usize)?;
     if !is_symbol(first, second, third, fourth) {
         return Err(Fault::BadValue);
     }

@@ -6,7 +6,7 @@ ghost use Rattle.std.specs.Prelude.{◌≡◌, ℕ, Bool, true, not, nat_eq, nat
 ghost use Rattle.std.specs.Prelude.{bit_and};
 ghost use Rattle.std.specs.Int.{bit_not, w64};
 ghost use Rattle.jk_scan.specs.Bits.{on};
-ghost use Rattle.jk_scan.specs.Neighbours.{Field, is_inside};
+ghost use Rattle.jk_scan.specs.Neighbours.{Field, is_inside, seen_from};
 ghost use Rattle.jk_scan.specs.Words.{of_rows, bordered, Shows};
 ghost use Rattle.jk_scan.specs.WordPlaces.{column, row};
 ghost use Rattle.jk_scan.specs.Surroundings.{IsAround};
@@ -165,7 +165,7 @@ fn still_columns(shape: BlockShape, spot: Spot, seen: Around, limits: u64) -> u6
     requires sized { IsSized shape }
     requires spot { IsSpot shape spot }
     requires limits { Shows of_rows (bordered (is_inside shape)) (spot.word + 1) (spot.stripe + 1) limits }
-    ensures { (f : Field Bool) → IsAround (bordered f) spot.word spot.stripe seen
+    ensures { (f : Field Bool) → IsAround (bordered (seen_from shape spot.stripe f)) spot.word spot.stripe seen
         → (m : ℕ) → m < 64 → on result m ≡ (nat_eq (m % 8) 1 && (nat_lt (8 * spot.word + m / 8) shape.width
         && is_quiet shape f (8 * spot.word + m / 8) spot.stripe)) }
 {

@@ -30,6 +30,7 @@ mod slices;
 mod words;
 
 use crate::ages::Ages;
+use crate::contexts::UNIFORM;
 use crate::decoding::Block;
 use crate::spot::{Pass, ends_with_symbol, pass_of};
 use decisions::DecisionList;
@@ -41,9 +42,6 @@ use passes::write_pass;
 use plane::BlockPlane;
 use slices::{blank, negative_places, slice_all};
 use std::alloc::Global;
-
-/// The context of a segmentation symbol (T.800 D.5, Table D.5).
-const UNIFORM: usize = 18;
 
 /// A code-block as it is written.
 #[derive(Drop)]
@@ -92,10 +90,10 @@ fn write_symbol(encoder: &mut Encoder) -> Result<(), Fault>
         → Codes encoder.new reset (before ++ (ds ++ segmentation_symbol) ∷ [])) }
     ensures memory { IfErr result IsMemory }
 {
-    encoder.encode(UNIFORM, true)?;
-    encoder.encode(UNIFORM, false)?;
-    encoder.encode(UNIFORM, true)?;
-    encoder.encode(UNIFORM, false)?;
+    encoder.encode(UNIFORM as usize, true)?;
+    encoder.encode(UNIFORM as usize, false)?;
+    encoder.encode(UNIFORM as usize, true)?;
+    encoder.encode(UNIFORM as usize, false)?;
     Ok(())
 }
 

@@ -4,7 +4,7 @@ ghost use Rattle.std.specs.Prelude.{◌≡◌, ℕ, true, nat_le, ◌+◌, ◌*�
 ghost use Rattle.jk_mqenc.specs.Encoded.{decision_of};
 ghost use Rattle.jk_scan.specs.Bits.{on};
 ghost use Rattle.jk_scan.specs.Moments.{significant};
-ghost use Rattle.jk_scan.specs.Neighbours.{Field, touched, zero_at};
+ghost use Rattle.jk_scan.specs.Neighbours.{Field, touched_in, zero_in};
 ghost use Rattle.jk_scan.specs.Words.{of_rows};
 ghost use Rattle.jk_scan.specs.WordNumbers.{byte_at};
 ghost use Rattle.jk_scan.specs.Passes.{Plane, is_one, sign_decision, new_decisions, refining_decision, first_one};
@@ -12,12 +12,8 @@ ghost use Rattle.jk_block.specs.encoding.Sheets.{IsSheet, told};
 ghost use Rattle.jk_block.specs.encoding.Viewed.{run_head};
 
 use super::decisions::{put_byte, put_new, put_one};
+use crate::contexts::{RUN_LENGTH, UNIFORM};
 use jk_scan::{BlockShape, byte_in, refine_context};
-
-/// The contexts of run mode (T.800 D.3.4, Table D.5).
-const RUN_LENGTH: u8 = 17;
-
-const UNIFORM: u8 = 18;
 
 /// Bit k of a word.
 #[inline(always)]
@@ -36,7 +32,7 @@ pub fn write_new(bit: u8, sign: u8, bytes: &mut [u8], count: usize) -> usize
     requires sign { sign / 2 < 19 }
     requires room { IsSheet bytes.old (count + 2) }
     ensures listed { (s : BlockShape) (p : Plane) (t x y : ℕ)
-        → decision_of bit ≡ (zero_at s.orientation (significant s p.magnitude t) x y, is_one (p.magnitude x y))
+        → decision_of bit ≡ (zero_in s (significant s p.magnitude t) x y, is_one (p.magnitude x y))
         → decision_of sign ≡ sign_decision s p t x y
         → told bytes.new result ≡ told bytes.old count ++ new_decisions s p t x y }
     ensures few { result ≤ count + 2 }
@@ -57,7 +53,7 @@ pub fn write_refined(
 ) -> usize
     requires { IsSheet bytes.old (count + 1) }
     ensures listed { (s : BlockShape) (p : Plane) (t x y : ℕ) → refined ≡ nat_le 4 (p.magnitude x y)
-        → is_touched ≡ touched (significant s p.magnitude t) x y → bit ≡ is_one (p.magnitude x y)
+        → is_touched ≡ touched_in s (significant s p.magnitude t) x y → bit ≡ is_one (p.magnitude x y)
         → told bytes.new result ≡ told bytes.old count ++ refining_decision s p t x y ∷ [] }
     ensures one { result ≡ count + 1 }
     ensures sheet { (n : ℕ) → IsSheet bytes.old n → IsSheet bytes.new n }

@@ -5,7 +5,7 @@ ghost use Rattle.std.specs.Prelude.{◌≡◌, ℕ, Bool, not, nat_eq, nat_lt, �
 ghost use Rattle.std.specs.Prelude.{IfErr};
 ghost use Rattle.jk_math.specs.Memory.{IsMemory};
 ghost use Rattle.jk_scan.specs.Bits.{on};
-ghost use Rattle.jk_scan.specs.Neighbours.{Field, is_inside};
+ghost use Rattle.jk_scan.specs.Neighbours.{Field, is_inside, seen_from};
 ghost use Rattle.jk_scan.specs.Words.{of_rows, bordered, Shows};
 ghost use Rattle.jk_scan.specs.WordPlaces.{column, row};
 ghost use Rattle.jk_scan.specs.Surroundings.{IsAround, Turns};
@@ -158,7 +158,8 @@ fn run_columns(shape: BlockShape, spot: Spot, seen: Around, old: u64, limits: u6
     requires spot { IsSpot shape spot }
     requires limits { Shows of_rows (bordered (is_inside shape)) (spot.word + 1) (spot.stripe + 1) limits }
     ensures { (f : Field Bool) (own m : ℕ) → m < 64 → own < 2 ^ 64 → Turns own seen.centre old (8 * (m / 8))
-        → IsAround (bordered f) spot.word spot.stripe (record { centre = own; west = seen.west; east = seen.east })
+        → IsAround (bordered (seen_from shape spot.stripe f)) spot.word spot.stripe
+        (record { centre = own; west = seen.west; east = seen.east })
         → on result m ≡ (nat_eq (m % 8) 1
         && (nat_lt (8 * spot.word + m / 8) shape.width && is_quiet shape f (8 * spot.word + m / 8) spot.stripe)) }
 {

@@ -1,4 +1,4 @@
-use Rattle.std.proofs.Common.{◌≡◌, ◌+◌, arith, refl, ◌∙◌}
+use Rattle.std.proofs.Common.{arith, refl, ◌∙◌}
 use Rattle.jk_marks.proofs.WrittenMeans.{part_written}
 use Rattle.jk_marks.proofs.write.write_tile_part.Goals as goal
 

@@ -1,5 +1,4 @@
-use Rattle.std.proofs.Common.{◌≡◌, ℕ, Bool, if◌then◌else◌, true, false, List, Result, refl, sym, ap, ◌∙◌}
-use Rattle.jk_math.specs.declared.fault.Fault.{Fault}
+use Rattle.std.proofs.Common.{◌≡◌, ℕ, Bool, if◌then◌else◌, true, false, List, sym, ap, ◌∙◌}
 use Rattle.jk_math.specs.declared.style.Style.{Style}
 use Rattle.jk_math.specs.Steps.{done}
 use Rattle.jk_block.specs.Symbols.{ends_with_symbol}

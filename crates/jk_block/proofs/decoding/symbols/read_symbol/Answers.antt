@@ -1,4 +1,4 @@
-use Rattle.std.proofs.Common.{◌≡◌, Bool, List, Result, Ok, Err, sym, ◌∙◌}
+use Rattle.std.proofs.Common.{Bool, Result, Ok, Err, sym, ◌∙◌}
 use Rattle.std.proofs.lemmas.Result.{err_from_is_err_and}
 use Rattle.jk_math.specs.declared.fault.Fault.{Fault}
 use Rattle.jk_model.specs.Decisions.{State}

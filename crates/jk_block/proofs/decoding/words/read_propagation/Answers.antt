@@ -11,7 +11,7 @@ use Rattle.jk_scan.proofs.Laws.{sooner_zero, sooner_one}
 use Rattle.jk_block.specs.Fields.{with_word}
 use Rattle.jk_block.specs.Steps.{word_pass}
 use Rattle.jk_block.specs.decoding.Sketches.{Draft, Advanced, draft_of, lit_in, visited_in}
-use Rattle.jk_block.specs.decoding.Sights.{Sees, Held, IsHeld, new_in}
+use Rattle.jk_block.specs.decoding.Sights.{Sees, Held, IsHeld, new_in, seen_in}
 use Rattle.jk_block.proofs.decoding.Going.{going_fault, going_all}
 use Rattle.jk_block.proofs.decoding.Holding.{sees_visited}
 use Rattle.jk_block.proofs.decoding.Spreading.{Spreading, spreading_none, spreading_idle, spreading_next, spreading_zero, spreading_one, spreading_all, member_fault, held_behind, draft_behind}
@@ -23,7 +23,7 @@ returns-then-candidates-eq0-clause-takes c =
     let at = c.args.spot in
     let around = c.seen_around-significant.ensures (lit_in (draft_of k)) k.lit in
     going_all 0 at (draft_of k) (draft_of k) c.args.decoder.now c.args.decoder.now
-    (spreading_idle at (draft_of k) c.args.decoder.now c.members-candidates.result (c.members-candidates.ensures (bordered (lit_in (draft_of k))) (bordered (is_inside k.shape)) at.word at.stripe around c.inside-limits.ensures) (omega arith))
+    (spreading_idle at (draft_of k) c.args.decoder.now c.members-candidates.result (c.members-candidates.ensures (bordered (seen_in (draft_of k) at.stripe)) (bordered (is_inside k.shape)) at.word at.stripe around c.inside-limits.ensures) (omega arith))
 
 pub loop-candidates-init : goal.loop-candidates-init
 loop-candidates-init c =
@@ -32,7 +32,7 @@ loop-candidates-init c =
     let around = c.seen_around-significant.ensures (lit_in (draft_of k)) k.lit in
     spreading_none at (draft_of k) c.args.decoder.now _ c.inside-limits.result c.members-candidates.result
     record { significant = around; negative = c.seen_around-negative.ensures (draft_of k).negative k.signs } c.inside-limits.ensures
-    (c.members-candidates.ensures (bordered (lit_in (draft_of k))) (bordered (is_inside k.shape)) at.word at.stripe around c.inside-limits.ensures)
+    (c.members-candidates.ensures (bordered (seen_in (draft_of k) at.stripe)) (bordered (is_inside k.shape)) at.word at.stripe around c.inside-limits.ensures)
 
 pub read_new-requires-clause-on_row : goal.read_new-requires-clause-on_row
 read_new-requires-clause-on_row c =

@@ -2,6 +2,7 @@ use Rattle.std.proofs.Common.{ℕ, ◌-◌, ◌*◌, ◌^◌, ◌%◌, ◌∙◌
 use Rattle.std.specs.Int.RustNames.{bit_or, bit_and}
 use Rattle.std.specs.Int.{trailing_zeros, w64}
 use Rattle.std.proofs.lemmas.Result.{err_from_is_err_and}
+use Rattle.jk_block.specs.decoding.Sights.{seen_in}
 use Rattle.jk_scan.specs.declared.shape.BlockShape.{BlockShape}
 use Rattle.jk_scan.specs.Words.{bordered}
 use Rattle.jk_scan.specs.WordPlaces.{column, row}
@@ -26,7 +27,7 @@ loop-candidates-init c =
     let at = c.args.spot in
     let around = c.seen_around-significant.ensures (lit_in (draft_of k)) k.lit in
     refining_none at c.args.refined.now (draft_of k) c.args.decoder.now c.touched_places-touched.result c.older-places.result c.requires.fresh
-    (c.touched_places-touched.ensures (bordered (lit_in (draft_of k))) at.word at.stripe around) c.older-places.ensures
+    (c.touched_places-touched.ensures (bordered (seen_in (draft_of k) at.stripe)) at.word at.stripe around) c.older-places.ensures
 
 pub returns-in_err-bit-clause-takes : goal.returns-in_err-bit-clause-takes
 returns-in_err-bit-clause-takes c =

@@ -5,7 +5,7 @@ use Rattle.std.specs.Int.RustNames.{bit_and, bit_or}
 use Rattle.jk_mqenc.specs.Encoded.{decision_of}
 use Rattle.jk_scan.specs.WordPlaces.{column, row}
 use Rattle.jk_scan.specs.Bits.{on}
-use Rattle.jk_scan.specs.Neighbours.{is_inside}
+use Rattle.jk_scan.specs.Neighbours.{is_inside, seen_from}
 use Rattle.jk_scan.specs.Words.{bordered, is_member}
 use Rattle.jk_scan.specs.Flags.{IsDrawn}
 use Rattle.jk_scan.proofs.Laws.{sooner_zero}
@@ -29,7 +29,7 @@ returns-then-candidates-eq0-clause-flagged c =
     let f = lit_at v (moment_at v.shape 0 at.word at.stripe 0) in
     let around = c.seen_around-around.ensures f c.requires.flagged.lit in
     (propagated_empty v at c.args.list.now c.seen_around-around.result c.members-candidates.result c.requires.spot.stripe around
-    (c.members-candidates.ensures (bordered f) (bordered (is_inside v.shape)) at.word at.stripe around c.inside-limits.ensures) c.if-candidates-eq0.true).1
+    (c.members-candidates.ensures (bordered (seen_from v.shape at.stripe f)) (bordered (is_inside v.shape)) at.word at.stripe around c.inside-limits.ensures) c.if-candidates-eq0.true).1
     c.args.flags.now c.requires.flagged
 
 pub returns-then-candidates-eq0-clause-listed : goal.returns-then-candidates-eq0-clause-listed
@@ -40,7 +40,7 @@ returns-then-candidates-eq0-clause-listed c =
     let around = c.seen_around-around.ensures f c.requires.flagged.lit in
     told_all v 0 at c.args.list.now c.args.list.now
     (propagated_empty v at c.args.list.now c.seen_around-around.result c.members-candidates.result c.requires.spot.stripe around
-    (c.members-candidates.ensures (bordered f) (bordered (is_inside v.shape)) at.word at.stripe around c.inside-limits.ensures) c.if-candidates-eq0.true).0
+    (c.members-candidates.ensures (bordered (seen_from v.shape at.stripe f)) (bordered (is_inside v.shape)) at.word at.stripe around c.inside-limits.ensures) c.if-candidates-eq0.true).0
 
 pub visit_all-requires-clause-rows : goal.visit_all-requires-clause-rows
 visit_all-requires-clause-rows c =
@@ -50,9 +50,9 @@ visit_all-requires-clause-rows c =
     let around = c.seen_around-around.ensures f c.requires.flagged.lit in
     let all = c.with_reached-all.result in
     let ones = c.ones-ones.result in
-    all_rows (is_member (bordered (is_inside v.shape)) (bordered f)) (bordered (is_inside v.shape)) (at.word + 1) (at.stripe + 1) c.inside-limits.result (bit_not w64 c.seen_around-around.result.centre) c.members-candidates.result all
+    all_rows (is_member (bordered (is_inside v.shape)) (bordered (seen_from v.shape at.stripe f))) (bordered (is_inside v.shape)) (at.word + 1) (at.stripe + 1) c.inside-limits.result (bit_not w64 c.seen_around-around.result.centre) c.members-candidates.result all
     (is_reached (λ k. on all k && on ones k))
-    (c.members-candidates.ensures (bordered f) (bordered (is_inside v.shape)) at.word at.stripe around c.inside-limits.ensures) c.inside-limits.ensures c.with_reached-all.ensures
+    (c.members-candidates.ensures (bordered (seen_from v.shape at.stripe f)) (bordered (is_inside v.shape)) at.word at.stripe around c.inside-limits.ensures) c.inside-limits.ensures c.with_reached-all.ensures
 
 pub light_all-requires-clause-rows : goal.light_all-requires-clause-rows
 light_all-requires-clause-rows c =
@@ -63,9 +63,9 @@ light_all-requires-clause-rows c =
     let all = c.with_reached-all.result in
     let ones = c.ones-ones.result in
     some_rows all ones
-    (all_rows (is_member (bordered (is_inside v.shape)) (bordered f)) (bordered (is_inside v.shape)) (at.word + 1) (at.stripe + 1) c.inside-limits.result (bit_not w64 c.seen_around-around.result.centre) c.members-candidates.result all
+    (all_rows (is_member (bordered (is_inside v.shape)) (bordered (seen_from v.shape at.stripe f))) (bordered (is_inside v.shape)) (at.word + 1) (at.stripe + 1) c.inside-limits.result (bit_not w64 c.seen_around-around.result.centre) c.members-candidates.result all
     (is_reached (λ k. on all k && on ones k))
-    (c.members-candidates.ensures (bordered f) (bordered (is_inside v.shape)) at.word at.stripe around c.inside-limits.ensures) c.inside-limits.ensures c.with_reached-all.ensures)
+    (c.members-candidates.ensures (bordered (seen_from v.shape at.stripe f)) (bordered (is_inside v.shape)) at.word at.stripe around c.inside-limits.ensures) c.inside-limits.ensures c.with_reached-all.ensures)
 
 pub loop-left-init : goal.loop-left-init
 loop-left-init c =
@@ -86,7 +86,7 @@ loop-left-init c =
             fits = omega arith;
             foreseen = foreseen_none v at c.args.list.now c.seen_around-around.result c.inside-limits.result c.ones-ones.result all c.members-candidates.result c.requires.spot.stripe
                 (omega arith) (omega arith) around
-                (c.members-candidates.ensures (bordered f) (bordered (is_inside v.shape)) at.word at.stripe around c.inside-limits.ensures)
+                (c.members-candidates.ensures (bordered (seen_from v.shape at.stripe f)) (bordered (is_inside v.shape)) at.word at.stripe around c.inside-limits.ensures)
                 c.with_reached-all.ensures;
             bits_are = bits_spelled v at c.seen_around-around.result (bit_or c.seen_around-around.result.centre (bit_and all c.ones-ones.result)) c.ones-ones.result c.decision_bytes-told.result.bits c.ones-ones.ensures c.decision_bytes-told.ensures.bits;
             signs_are = signs_spelled v at c.seen_around-around.result c.seen_around-signs.result (bit_or c.seen_around-around.result.centre (bit_and all c.ones-ones.result)) c.decision_bytes-told.result.signs

@@ -2,6 +2,7 @@ use Rattle.std.proofs.Common.{◌+◌, ◌-◌, sym, ap, ◌∙◌, subst, arith
 use Rattle.std.specs.Prelude.{◌&&◌, nat_le}
 use Rattle.std.specs.Int.{trailing_zeros, w64}
 use Rattle.std.specs.Int.RustNames.{bit_and}
+use Rattle.jk_scan.specs.Neighbours.{seen_from}
 use Rattle.jk_scan.specs.Words.{bordered}
 use Rattle.jk_scan.specs.WordPlaces.{column, row}
 use Rattle.jk_scan.proofs.Laws.{sooner_zero}
@@ -42,7 +43,7 @@ loop-candidates-init c =
       refined = subst (λ ds. Refined v at c.args.list.now ds c.touched_places-touched.result c.older-candidates.result)
           (sym (told_at old bytes slice n c.args.list.now c.list.view_is made.told c.deref_mut.ensures.value))
           (refined_none v at c.args.list.now c.touched_places-touched.result c.older-candidates.result (omega (arith, word)) c.requires.spot.stripe
-          (c.touched_places-touched.ensures (bordered f) at.word at.stripe around) (c.older-candidates.ensures t c.requires.flagged));
+          (c.touched_places-touched.ensures (bordered (seen_from v.shape at.stripe f)) at.word at.stripe around) (c.older-candidates.ensures t c.requires.flagged));
       room = sheet_at bytes slice (n + 136) (n + (64 - trailing_zeros w64 c.older-candidates.result)) c.deref_mut.ensures.value made.room (omega arith);
     }
 
