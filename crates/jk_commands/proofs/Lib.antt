@@ -5,3 +5,4 @@ pub mod WalkLoops
 pub mod MarkerLaws
 pub mod BoxLaws
 pub mod AllLaws
+pub mod SumLaws

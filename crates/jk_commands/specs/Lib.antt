@@ -9,5 +9,6 @@ pub mod Lines
 pub mod BoxList
 pub mod HeaderMarkers
 pub mod Values
+pub mod Sums
 pub mod AllLines
 pub mod Examples

@@ -3,6 +3,7 @@
 
 mod box_list;
 mod coding_values;
+mod comparing;
 mod cutting;
 mod decoding;
 mod encoding;
@@ -11,18 +12,21 @@ mod options;
 mod orders;
 mod plan;
 mod sizes;
+mod sums;
 mod telling;
 mod telling_all;
 mod theorems;
 mod values;
 mod viewing;
 
+pub use comparing::{Change, Difference, differences, differences_text};
 pub use cutting::cut_file;
 pub use decoding::{check_workers, decode_file, decode_file_into, decode_file_into_with};
 pub use encoding::{encode_file, encode_file_into, encode_file_with, read_image};
 pub use options::EncodeOptions;
 pub use orders::{order_name, order_named};
 pub use plan::{Placed, Plan, judge};
+pub use sums::{BadList, Sum, read_sums, sums_text};
 pub use telling::info_file;
 pub use telling_all::info_all_file;
 pub use theorems::encode_and_decode;

@@ -1,5 +1,6 @@
 pub mod MemoryLaws
 pub mod EntryLaws
+pub mod CheckLaws
 pub mod Indexed
 pub mod AddLaws
 pub mod NameLaws

@@ -11,5 +11,6 @@ pub mod Readings
 pub mod Adding
 pub mod Opening
 pub mod Judging
+pub mod Checking
 pub mod Showing
 pub mod ShownSteps

@@ -4,6 +4,8 @@
 mod adding;
 mod archive;
 mod assembling;
+mod checked;
+mod checking;
 mod entry;
 mod failures;
 mod folder;
@@ -19,6 +21,8 @@ mod shown;
 mod skipped;
 
 pub use archive::Archive;
+pub use checked::{Checked, Finding};
+pub use checking::check;
 pub use entry::Entry;
 pub use failures::Failures;
 pub use folder::Folder;
