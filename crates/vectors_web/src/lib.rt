@@ -9,6 +9,8 @@ mod caching;
 #[cfg(test)]
 mod cases;
 #[cfg(test)]
+mod lengthy;
+#[cfg(test)]
 mod serving;
 #[cfg(test)]
 mod tests;

@@ -9,7 +9,7 @@ use std::test::Fail;
 
 /// Answers with the method and the target.
 #[derive(Drop)]
-struct Echo {}
+pub(crate) struct Echo {}
 
 impl Service for Echo {
     ghost gives = { λ _ _ _ _. Unit {0} };
@@ -138,37 +138,50 @@ fn in_any_pieces(rt: HostRuntime) -> Result<(), Fail> {
     Ok(())
 }
 
+/// Two requests, and the replies to them.
+static TWO: (&[u8], &[u8]) = (
+    b"GET /a HTTP/1.1\r\n\r\nGET /b HTTP/1.1\r\n\r\n",
+    b"GET /a\nGET /b\n",
+);
+
+/// The replies to the requests that stand whole in the first bytes of two: each request has 19
+/// bytes, and each reply 7.
+fn replies_of(count: usize) -> &'static [u8] {
+    if count < 19 {
+        &[]
+    } else if count < 38 {
+        &TWO.1[..7]
+    } else {
+        TWO.1
+    }
+}
+
+/// A reader fails behind each byte, a byte at a time and all at once.
 #[test]
 fn reads_that_fail(rt: HostRuntime) -> Result<(), Fail> {
     let alloc = rt.alloc();
-    let stream = b"GET /a HTTP/1.1\r\n\r\nGET /b HTTP/1.1\r\n";
-    let reader = read_from(alloc, stream, 10, true)?;
-    let writer = write_to(alloc, 100, 1000, false);
-    serves(
-        &rt,
-        alloc,
-        reader,
-        writer,
-        1000,
-        (b"GET /a\n", End::ReadFailed),
-    )
+    for count in 0..39 {
+        for most in [1, 10, 100] {
+            let reader = read_from(alloc, &TWO.0[..count], most, true)?;
+            let writer = write_to(alloc, 100, 1000, false);
+            let want = (replies_of(count), End::ReadFailed);
+            serves(&rt, alloc, reader, writer, 1000, want)?;
+        }
+    }
+    Ok(())
 }
 
+/// A writer fails behind each byte, or takes none there.
 #[test]
 fn writes_that_fail(rt: HostRuntime) -> Result<(), Fail> {
     let alloc = rt.alloc();
-    let stream = b"GET /a HTTP/1.1\r\n\r\nGET /b HTTP/1.1\r\n\r\n";
-    for fails in [false, true] {
-        let reader = read_from(alloc, stream, 1000, false)?;
-        let writer = write_to(alloc, 3, 10, fails);
-        serves(
-            &rt,
-            alloc,
-            reader,
-            writer,
-            1000,
-            (b"GET /a\nGET", End::WriteFailed),
-        )?;
+    for room in 0..14 {
+        for fails in [false, true] {
+            let reader = read_from(alloc, TWO.0, 1000, false)?;
+            let writer = write_to(alloc, 3, room, fails);
+            let want = (&TWO.1[..room], End::WriteFailed);
+            serves(&rt, alloc, reader, writer, 1000, want)?;
+        }
     }
     Ok(())
 }

@@ -102,20 +102,26 @@ fn is_request(
 
 #[test]
 fn the_longest_head(rt: HostRuntime) -> Result<(), Fail> {
-    let longest = long_head(rt.alloc(), 8192 - 18)?;
-    assert_eq!(rt; longest.len(), 8192);
-    assert!(rt; is_request(&rt, rt.alloc(), &longest, 4096, b"431\n")?);
-    let longer = long_head(rt.alloc(), 8193 - 18)?;
-    assert!(rt; !is_request(&rt, rt.alloc(), &longer, 4096, b"431\n")?);
-    assert!(rt; !is_request(&rt, rt.alloc(), &longer, 8193, b"431\n")?);
+    for length in [8191, 8192, 8193] {
+        for size in [4096, 8191, 8192, 8193] {
+            let head = long_head(rt.alloc(), length - 18)?;
+            assert_eq!(rt; head.len(), length);
+            let asked = is_request(&rt, rt.alloc(), &head, size, b"431\n")?;
+            assert_eq!(rt; asked, length <= 8192, "{length} bytes");
+        }
+    }
     Ok(())
 }
 
 #[test]
 fn the_most_fields(rt: HostRuntime) -> Result<(), Fail> {
-    assert!(rt; is_request(&rt, rt.alloc(), &wide_head(rt.alloc(), 64)?, 100, b"431\n")?);
-    assert!(rt; !is_request(&rt, rt.alloc(), &wide_head(rt.alloc(), 65)?, 100, b"431\n")?);
-    assert!(rt; !is_request(&rt, rt.alloc(), &wide_head(rt.alloc(), 65)?, 1000, b"431\n")?);
+    for fields in [63, 64, 65, 66] {
+        for size in [100, 1000] {
+            let head = wide_head(rt.alloc(), fields)?;
+            let asked = is_request(&rt, rt.alloc(), &head, size, b"431\n")?;
+            assert_eq!(rt; asked, fields <= 64, "{fields} fields");
+        }
+    }
     Ok(())
 }
 

@@ -8,3 +8,13 @@ use std::process::Abort;
 pub(crate) fn equal<T: PartialEq + Debug + Copy>(rt: &impl Abort, found: T, due: T) {
     assert_eq!(rt; found, due);
 }
+
+/// Two values are equal, in this case of several.
+pub(crate) fn equal_at<C: Debug + Copy, T: PartialEq + Debug + Copy>(
+    rt: &impl Abort,
+    case: C,
+    found: T,
+    due: T,
+) {
+    assert_eq!(rt; found, due, "{case:?}");
+}

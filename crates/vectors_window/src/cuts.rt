@@ -11,19 +11,19 @@ use std::test::Fail;
 use vectors::bytes_of;
 
 /// One grey sample, 128, without levels.
-const PAGE: &str =
+pub(crate) const PAGE: &str =
     "FF4F FF51 0029 0000 00000001 00000001 00000000 00000000 00000001 00000001 00000000 00000000 0001 07 01 01 FF52 000C 00 00 0001 00 00 04 04 00 01 FF5C 0004 40 40 FF90 000A 0000 0000000F 00 01 FF93 00 FFD9";
 
 /// 2 by 2 grey samples with one level, up to the tile-part.
-const SMALL: &str =
+pub(crate) const SMALL: &str =
     "FF4F FF51 0029 0000 00000002 00000002 00000000 00000000 00000002 00000002 00000000 00000000 0001 07 01 01 FF52 000C 00 00 0001 00 01 04 04 00 01 FF5C 0007 40 40 48 48 50";
 
 /// One column of 9 samples with one level.
-const COLUMN: &str =
+pub(crate) const COLUMN: &str =
     "FF4F FF51 0029 0000 00000001 00000009 00000000 00000000 00000001 00000009 00000000 00000000 0001 07 01 01 FF52 000C 00 00 0001 00 01 04 04 00 01 FF5C 0007 40 40 48 48 50 FF90 000A 0000 0000001E 00 01 FF93 C7 D4 0C 01 8F 0D C8 75 7F C0 7C 21 80 0F B1 7F FFD9";
 
 /// One grey sample, 129, with QCC and COM, up to TLM.
-const PASSED: &str =
+pub(crate) const PASSED: &str =
     "FF4F FF51 0029 0000 00000001 00000001 00000000 00000000 00000001 00000001 00000000 00000000 0001 07 01 01 FF52 000C 00 00 0001 00 00 04 04 00 01 FF5C 0004 40 40 FF5D 0005 00 40 40 FF64 0006 0001 4142";
 
 /// The signature box, the file type box and the JP2 header box of a grey image of 2 by 2.
@@ -46,7 +46,7 @@ static LAYERS: &str = "\
 9|0000001E 00 01 FF93 00 A42000 F000 F000 F000 F000 F000 F000 FFD9|97 255
 4294967295|0000001E 00 01 FF93 00 A42000 F000 F000 F000 F000 F000 F000 FFD9|97 255";
 
-fn view(reduce: u32, x: u32, y: u32, width: u32, height: u32) -> View {
+pub(crate) fn view(reduce: u32, x: u32, y: u32, width: u32, height: u32) -> View {
     View {
         reduce,
         x,

@@ -8,6 +8,10 @@ mod cuts;
 #[cfg(test)]
 mod decoded;
 #[cfg(test)]
+mod fronts;
+#[cfg(test)]
+mod limits;
+#[cfg(test)]
 mod many;
 #[cfg(test)]
 mod meanings;
