@@ -15,7 +15,7 @@ use std::alloc::Global;
 const MOST_IMAGES: usize = 4096;
 
 /// Why the folder of an archive can't be read: with the file that can't be, where it is one.
-fn of_folder<W: World>(
+pub(crate) fn of_folder<W: World>(
     alloc: Global,
     world: &mut W,
     fault: Fault,
@@ -42,7 +42,7 @@ fn open<W: World>(alloc: Global, world: &mut W, name: &str) -> Result<Archive<W:
     world.end_opening(&mut folder);
     match read {
         Ok(images) => {
-            world.tell_others(&folder);
+            let _ = world.tell_others(&folder);
             Ok(Archive::with(folder, images))
         }
         Err(fault) => Err(of_folder(alloc, world, fault, name, &folder)),
@@ -183,9 +183,11 @@ pub(crate) fn add<W: World>(
             return Err(failure);
         }
     };
-    world.tell_others(&shelf);
+    let _ = world.tell_others(&shelf);
     let mut archive = Archive::with(shelf, images);
+    world.begin_work(alloc, "encoding");
     let added = add_to(alloc, &mut archive, options::name(line), image, plan);
+    world.end_work();
     let kept = world.give_back(alloc, folder, archive.into_shelf());
     match added {
         Ok(()) => Ok(kept?),

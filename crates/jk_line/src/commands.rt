@@ -56,6 +56,16 @@ const ADD_WORDS: &str = "\
 The archive is a folder that exists. The image is written there as NAME.tmp, which then becomes
 NAME.jp2; a name that is taken is refused. Nothing is printed.";
 
+/// What `jk check` writes.
+const CHECK_WORDS: &str = "\
+Each file NAME.jp2 of the folder is read and judged as `jk info` judges it, by its boxes, headers and
+packets; with --decode it is decoded too. For each that is an image a line is written, its SHA-256 and
+its name as `sha256sum` writes them, in the order of the names. With --against FILE, such a list, a
+line is written for each file that differs from it, `changed NAME.jp2`, `missing NAME.jp2` or
+`new NAME.jp2`, and for no other. What isn't an image, or can't be read, is named on standard error.
+The status is 0 where all files are images and none differs, 1 where one isn't or does or the folder
+can't be read, and 2 where the command line is wrong or FILE isn't a list.";
+
 /// What `jk serve` answers.
 const SERVE_WORDS: &str = "\
 GET /images lists the images, a line each: NAME WIDTH HEIGHT COMPONENTS DEPTH LEVELS.
@@ -86,6 +96,8 @@ enum Form<'a> {
     Order(&'a str),
     /// Bytes of hexadecimal digits.
     Bytes,
+    /// The name of a file.
+    File,
     /// A port, which is required.
     Port,
 }
@@ -99,6 +111,13 @@ const EXPLAIN: Word<'static> = Word(
     "explain",
     Form::Flag,
     "Say the cause of a fault in words, behind its line; on a terminal they are there anyway",
+);
+
+/// That nothing is told of how far work is.
+const QUIET: Word<'static> = Word(
+    "quiet",
+    Form::Flag,
+    "Don't tell on a terminal how far long work is",
 );
 
 /// How many workers there are.
@@ -144,6 +163,7 @@ pub(crate) fn command<'a>(
     let command = with_command(command, info(alloc))?;
     let command = with_command(command, cut(alloc))?;
     let command = with_command(command, add(alloc, defaults))?;
+    let command = with_command(command, check(alloc))?;
     let command = with_command(command, serve(alloc))?;
     with_command(command, faults(alloc))
 }
@@ -198,7 +218,7 @@ fn with_encoding<'a>(
 ) -> Result<Command<'a>, AllocError> {
     let command = coding(alloc, command, defaults)?;
     let command = tiling(alloc, command, defaults)?;
-    with_words(alloc, command, &[EXPLAIN])
+    with_words(alloc, command, &[QUIET, EXPLAIN])
 }
 
 /// The options of how each tile is coded.
@@ -322,6 +342,7 @@ fn decode<'a>(alloc: Global) -> Result<Command<'a>, AllocError> {
             "How often to halve the image, at most the LEVELS of `jk info`",
         ),
         WORKERS,
+        QUIET,
         EXPLAIN,
     ];
     with_words(alloc, command, &words)
@@ -393,6 +414,30 @@ fn add<'a>(alloc: Global, defaults: &'a Defaults) -> Result<Command<'a>, AllocEr
     with_encoding(alloc, command, defaults)
 }
 
+/// `jk check DIR`.
+fn check<'a>(alloc: Global) -> Result<Command<'a>, AllocError> {
+    let command = Command::new(alloc, "check")
+        .about("Checks that the files of an archive are images, and as they were")
+        .after_help(CHECK_WORDS);
+    let words = [
+        FOLDER,
+        Word(
+            "against",
+            Form::File,
+            "A list that was written before, to compare with, or - for standard input",
+        ),
+        Word("decode", Form::Flag, "Judge the code-blocks too"),
+        Word(
+            "workers",
+            Form::Default("N", "1"),
+            "How many files to judge at a time, 1 to 64",
+        ),
+        QUIET,
+        EXPLAIN,
+    ];
+    with_words(alloc, command, &words)
+}
+
 /// `jk serve DIR`.
 fn serve<'a>(alloc: Global) -> Result<Command<'a>, AllocError> {
     let command = Command::new(alloc, "serve")
@@ -425,6 +470,7 @@ fn serve<'a>(alloc: Global) -> Result<Command<'a>, AllocError> {
             Form::Flag,
             "Tell each request and why a connection failed on standard error",
         ),
+        QUIET,
         EXPLAIN,
     ];
     with_words(alloc, command, &words)
@@ -450,6 +496,7 @@ fn arg<'a>(alloc: Global, word: Word<'a>) -> Result<Arg<'a>, AllocError> {
         Form::Default(letter, value) => number(alloc, name, letter).default_value(value),
         Form::Order(value) => order(alloc, name, value),
         Form::Bytes => option(alloc, name, "HEX"),
+        Form::File => Arg::new(alloc, name).long(name).value_name("FILE"),
         Form::Port => port(alloc, name),
     };
     Ok(arg.help(help))

@@ -2,6 +2,7 @@
 #![tactic(auto)]
 
 mod archive;
+mod checking;
 mod commands;
 mod defaults;
 mod failure;

@@ -118,6 +118,11 @@ pub(crate) fn output<'a>(line: &ArgMatches<'a>) -> &'a str {
     line.get_str("OUT").unwrap_or("-")
 }
 
+/// The list with which an archive is compared, where one is given.
+pub(crate) fn against<'a>(line: &ArgMatches<'a>) -> Option<&'a str> {
+    line.get_str("against")
+}
+
 /// The folder of an archive.
 pub(crate) fn folder<'a>(line: &ArgMatches<'a>) -> &'a str {
     line.get_str("DIR").unwrap_or(".")

@@ -9,14 +9,13 @@ use crate::status::Status;
 use crate::streams::{create, finish, read, write};
 use crate::workers::workers;
 use crate::world::World;
-use crate::{archive, options};
+use crate::{archive, checking, options};
 use clap::ArgMatches;
 use clap::error::ErrorKind;
 use jk_commands::{
     EncodeOptions, Plan, cut_file, decode_file_into, decode_file_into_with,
     decode_window_file_into, encode_file_into, encode_file_with, info_all_file, info_file, judge,
 };
-use jk_farm::Open;
 use jk_math::Fault;
 use std::alloc::Global;
 
@@ -30,14 +29,16 @@ fn encode_by<W: World>(
     plan: Plan,
 ) -> Result<(), Failure> {
     let bytes = read(alloc, world, options::input(line))?;
-    let encoded = encode_file_with::<W::Runtime, Open>(
+    world.begin_work(alloc, "encoding");
+    let encoded = encode_file_with::<W::Runtime, W::Gate>(
         world.runtime(),
         alloc,
         workers,
-        &Open,
+        world.gate(),
         bytes,
         plan,
     );
+    world.end_work();
     match encoded {
         Ok(file) => write(alloc, world, options::output(line), &file),
         Err(fault) => Err(of_options(alloc, fault, options)),
@@ -59,7 +60,9 @@ fn encode<W: World>(alloc: Global, line: &ArgMatches<'_>, world: &mut W) -> Resu
     let bytes = read(alloc, world, options::input(line))?;
     let name = options::output(line);
     let mut output = create(alloc, world, name)?;
+    world.begin_work(alloc, "encoding");
     let encoded = encode_file_into(alloc, bytes, plan, &mut output);
+    world.end_work();
     let finished = finish(alloc, world, name, output, encoded.is_ok());
     match encoded {
         Ok(()) => finished,
@@ -80,9 +83,14 @@ fn decode_image<W: World>(
     if workers == 1 {
         return decode_file_into(alloc, bytes, reduce, output);
     }
-    let runtime = world.runtime();
-    decode_file_into_with::<W::Runtime, Open, W::Output>(
-        runtime, alloc, workers, &Open, bytes, reduce, output,
+    decode_file_into_with::<W::Runtime, W::Gate, W::Output>(
+        world.runtime(),
+        alloc,
+        workers,
+        world.gate(),
+        bytes,
+        reduce,
+        output,
     )
 }
 
@@ -93,6 +101,7 @@ fn decode<W: World>(alloc: Global, line: &ArgMatches<'_>, world: &mut W) -> Resu
     let left_out = left_out(&bytes);
     let name = options::output(line);
     let mut output = create(alloc, world, name)?;
+    world.begin_work(alloc, "decoding");
     let decoded = match options::window(line) {
         Some(view) => decode_window_file_into(alloc, bytes, view, &mut output),
         None => {
@@ -100,6 +109,7 @@ fn decode<W: World>(alloc: Global, line: &ArgMatches<'_>, world: &mut W) -> Resu
             decode_image(alloc, world, workers, bytes, reduce, &mut output)
         }
     };
+    world.end_work();
     let finished = finish(alloc, world, name, output, decoded.is_ok());
     match decoded {
         Ok(()) => finished,
@@ -143,8 +153,9 @@ fn perform<W: World>(
     name: &str,
     line: &ArgMatches<'_>,
     world: &mut W,
-) -> Result<(), Failure> {
+) -> Result<Status, Failure> {
     match name {
+        "check" => return checking::check(alloc, line, world),
         "encode" => encode(alloc, line, world),
         "decode" => decode(alloc, line, world),
         "info" => info(alloc, line, world),
@@ -152,7 +163,8 @@ fn perform<W: World>(
         "add" => archive::add(alloc, line, world),
         "serve" => archive::serve(alloc, line, world),
         _ => list_faults(alloc, world),
-    }
+    }?;
+    Ok(Status::Done)
 }
 
 /// Writes a fault to standard error, and its cause in words where they are asked for or somebody
@@ -175,8 +187,11 @@ fn follow<W: World>(alloc: Global, matches: &ArgMatches<'_>, world: &mut W) -> S
     let Some((name, line)) = matches.subcommand() else {
         return Status::WrongLine;
     };
+    if line.get_flag("quiet") {
+        world.be_quiet();
+    }
     match perform(alloc, name, line, world) {
-        Ok(()) => Status::Done,
+        Ok(status) => status,
         Err(failure) => tell(world, failure, line.get_flag("explain")),
     }
 }

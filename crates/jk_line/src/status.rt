@@ -5,9 +5,9 @@
 pub enum Status {
     /// It did what was asked.
     Done,
-    /// It answered a fault.
+    /// It answered a fault, or what it checked isn't as it should be.
     Refused,
-    /// The command line is wrong.
+    /// The command line is wrong, or a file that it names to compare with.
     WrongLine,
 }
 

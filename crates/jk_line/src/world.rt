@@ -1,10 +1,12 @@
 //! What a command line works on.
 
+use jk_farm::Gate;
 use jk_math::Fault;
 use jk_store::{Archive, Shelf};
 use std::alloc::Global;
 use std::fmt::Display;
 use std::io::{self, Write};
+use std::marker::Sync;
 use std::thread::Threads;
 
 /// How an archive is served.
@@ -35,8 +37,23 @@ pub trait World {
     /// What starts threads.
     type Runtime: Threads + Sync;
 
+    /// What is told of each code-block that several workers have done.
+    type Gate: Gate + Sync;
+
     /// What starts the threads of workers.
     fn runtime(&self) -> &Self::Runtime;
+
+    /// What is told of each code-block.
+    fn gate(&self) -> &Self::Gate;
+
+    /// From now on nothing is told of how far work is.
+    fn be_quiet(&mut self);
+
+    /// From now on it is told, where standard error is a terminal, that this work goes on.
+    fn begin_work(&mut self, alloc: Global, what: &'static str);
+
+    /// Ends that, and takes away what is told of it.
+    fn end_work(&mut self);
 
     /// All bytes of a file, or of standard input for `-`.
     fn read(&mut self, alloc: Global, name: &str) -> Result<Vec<u8>, Fault>;
@@ -81,8 +98,9 @@ pub trait World {
     /// Takes the folder of an archive back.
     fn give_back(&mut self, alloc: Global, name: &str, folder: Self::Folder) -> Result<(), Fault>;
 
-    /// From now on it is told how many files of an archive's folder were read, where standard error
-    /// is a terminal: they are read one after another, which takes a while where there are many.
+    /// From now on it is told how many files of an archive's folder were read and how long the
+    /// others may take, where standard error is a terminal: they are read one after another, which
+    /// takes a while where there are many.
     fn begin_opening(&mut self, folder: &mut Self::Folder);
 
     /// Ends that, and takes away what is told of it.
@@ -97,8 +115,8 @@ pub trait World {
     fn has_other(&self, folder: &Self::Folder, name: &str) -> bool;
 
     /// Writes to standard error what stands in an archive's folder under the name of an image and
-    /// can't be opened as a file.
-    fn tell_others(&mut self, folder: &Self::Folder);
+    /// can't be opened as a file, and answers whether there is any.
+    fn tell_others(&mut self, folder: &Self::Folder) -> bool;
 
     /// Writes to standard error which files of an archive's folder are left from an adding that was
     /// broken off.

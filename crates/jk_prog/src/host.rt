@@ -4,6 +4,7 @@ use crate::files;
 use crate::keeper::{FolderKeeper, is_other, tell_waiting};
 use crate::opening::Watched;
 use crate::output::Late;
+use crate::progress::{Counter, Telling};
 use crate::serving::{Asked, shelves};
 use jk_files::{Lock, Lockable, Refusal, SharedLock, wait_exclusive, wait_shared};
 use jk_line::{Serving, World};
@@ -24,6 +25,8 @@ use std::time::Clock;
 pub(crate) struct Host<R: Files> {
     rt: R,
     is_terminal: bool,
+    is_quiet: bool,
+    telling: Telling,
     lock: Option<Lock<R::File>>,
     said: Option<io::Error>,
     asked: Option<Asked<R>>,
@@ -35,6 +38,8 @@ impl<R: Files + Drop> Host<R> {
         Host {
             rt,
             is_terminal,
+            is_quiet: false,
+            telling: Telling::none(),
             lock: None,
             said: None,
             asked: None,
@@ -77,8 +82,10 @@ impl<
         + Clone
         + Drop
         + Threads
+        + Send
         + Sync
-        + Net<Listener = TcpListener, Stream = TcpStream>,
+        + Net<Listener = TcpListener, Stream = TcpStream>
+        + 'static,
 > World for Host<R>
 where
     R::File: Lockable,
@@ -89,8 +96,28 @@ where
 
     type Runtime = R;
 
+    type Gate = Counter;
+
     fn runtime(&self) -> &R {
         &self.rt
+    }
+
+    fn gate(&self) -> &Counter {
+        self.telling.counter()
+    }
+
+    fn be_quiet(&mut self) {
+        self.is_quiet = true;
+    }
+
+    fn begin_work(&mut self, alloc: Global, what: &'static str) {
+        if self.is_terminal && !self.is_quiet {
+            self.telling.begin(&self.rt, alloc, what);
+        }
+    }
+
+    fn end_work(&mut self) {
+        self.telling.end(&self.rt);
     }
 
     fn read(&mut self, alloc: Global, name: &str) -> Result<Vec<u8>, Fault> {
@@ -169,7 +196,7 @@ where
     }
 
     fn begin_opening(&mut self, folder: &mut Watched<Folder<R>, R>) {
-        if self.is_terminal {
+        if self.is_terminal && !self.is_quiet {
             folder.begin();
         }
     }
@@ -191,11 +218,12 @@ where
         is_other(folder.shelf(), name)
     }
 
-    fn tell_others(&mut self, folder: &Watched<Folder<R>, R>) {
+    fn tell_others(&mut self, folder: &Watched<Folder<R>, R>) -> bool {
         let rt = &self.rt;
         for other in folder.shelf().others() {
             let _ = eprintln!(rt; "jk: {} isn't listed: {}", other.name, other.said);
         }
+        !folder.shelf().others().is_empty()
     }
 
     fn tell_left(&mut self, folder: &Watched<Folder<R>, R>) {

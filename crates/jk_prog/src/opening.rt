@@ -5,13 +5,15 @@ ghost use Rattle.std.specs.Prelude.{◌≡◌};
 use jk_math::Fault;
 use jk_store::Shelf;
 use std::alloc::Global;
-use std::time::{Clock, Duration, Instant};
+use std::time::{Clock, Instant};
 
-/// How long it takes between two lines, in milliseconds.
+/// How long nothing is told, and how long it takes between two lines, in milliseconds.
+const FIRST: u64 = 1000;
+
 const PAUSE: u64 = 200;
 
 /// What the line is overwritten with at the end.
-const BLANK: &str = "                                        ";
+const BLANK: &str = "                                                                ";
 
 /// A shelf of which it can be told how many of its files were read.
 #[derive(Drop)]
@@ -22,8 +24,10 @@ pub(crate) struct Watched<S, R> {
     files: usize,
     /// How many of them were read.
     read: usize,
-    /// When the last line was told, or when the telling began; none where nothing is told.
-    last: Option<Instant>,
+    /// When the telling began; none where nothing is told.
+    begun: Option<Instant>,
+    /// After how many milliseconds from then on the next line is due.
+    due: u64,
     /// Whether a line stands there.
     is_told: bool,
 }
@@ -36,7 +40,8 @@ impl<S, R> Watched<S, R> {
             rt,
             files: 0,
             read: 0,
-            last: None,
+            begun: None,
+            due: FIRST,
             is_told: false,
         }
     }
@@ -50,27 +55,31 @@ impl<S, R> Watched<S, R> {
 impl<S, R: Eprint + Clock> Watched<S, R> {
     /// Tells from now on how many files were read.
     pub(crate) fn begin(&mut self) {
-        self.last = Instant::now(&self.rt).ok();
+        self.begun = Instant::now(&self.rt).ok();
+        self.due = FIRST;
     }
 
     /// Tells no more, and takes away the line.
     pub(crate) fn end(&mut self) {
-        self.last = None;
+        self.begun = None;
         if self.is_told {
             let _ = eprint!(&self.rt; "\r{BLANK}\r");
             self.is_told = false;
         }
     }
 
-    /// Whether it is time for a line.
-    fn is_due(&self) -> bool {
-        let Some(last) = self.last else {
-            return false;
-        };
-        match last.elapsed(&self.rt) {
-            Ok(passed) => Duration::from_millis(PAUSE) <= passed,
-            Err(_) => false,
-        }
+    /// How many milliseconds have passed since the telling began, if it is told.
+    fn passed(&self) -> Option<u64> {
+        let passed = self.begun?.elapsed(&self.rt).ok()?;
+        u64::try_from(passed.as_millis()).ok()
+    }
+
+    /// How many seconds the files that are left may take, if they take as long as those that were
+    /// read.
+    fn left(&self, passed: u64) -> u64 {
+        let (read, files) = (self.read as u64, self.files as u64);
+        let left = files.saturating_sub(read);
+        passed.saturating_mul(left) / read.max(1) / 1000
     }
 
     /// Tells in the place of the last line how many files were read, if it is time for that. The
@@ -78,9 +87,16 @@ impl<S, R: Eprint + Clock> Watched<S, R> {
     fn tell(&mut self)
         ensures { self.new.shelf ≡ self.old.shelf }
     {
-        if self.is_due() {
-            let _ = eprint!(&self.rt; "\rjk: read {} of {} files", self.read, self.files);
-            self.last = Instant::now(&self.rt).ok();
+        let Some(passed) = self.passed() else {
+            return;
+        };
+        if self.due <= passed {
+            let left = self.left(passed);
+            let _ = eprint!(&self.rt;
+                "\rjk: read {} of {} files, some {left} s left ",
+                self.read, self.files
+            );
+            self.due = passed.saturating_add(PAUSE);
             self.is_told = true;
         }
     }

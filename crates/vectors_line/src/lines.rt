@@ -318,7 +318,9 @@ add d b - --levels 6||F15 BadParameters
 serve no --port 0 --workers 0||F15 BadParameters
 serve no --port 0 --workers 65||F15 BadParameters
 serve no --port 0 --timeout 0||F15 BadParameters
-serve no --port 0 --workers 64||F20 Shelf";
+serve no --port 0 --workers 64||F20 Shelf
+check no --workers 65||F15 BadParameters
+check no||F20 Shelf";
 
 /// The same of lines that ask for the cause, which stands behind the fault.
 static CAUSES: &str = "\
@@ -422,6 +424,85 @@ fn archives_grow(rt: HostRuntime) -> Result<(), Fail> {
     Ok(())
 }
 
+/// What `jk check` writes of a folder with the file of the grey pixel, `a.jp2`, and a bare
+/// codestream, `c.jp2`, a line for each: the command, standard input, what is written, standard
+/// error, and the status. A slash ends a line; `$` and `%` stand for the digests of the two files, as sha256sum
+/// writes them, `^` for what is said of `c.jp2`, and `&` for what a line of a list has.
+static CHECKS: &str = "\
+check d||$  a.jp2/|^|1
+check d --workers 3 --decode --quiet||$  a.jp2/|^|1
+check d --against -|$  a.jp2/% *c.jp2||^|1
+check d --against -|%  c.jp2/%  a.jp2/|changed a.jp2/|^|1
+check d --against -|$  b.jp2/%  c.jp2|new a.jp2/missing b.jp2/|^|1
+check d --against -||new a.jp2/new c.jp2/|^|1
+check d --against -|$  a.jp2/$||jk: standard input: line 2 isn't &/|2
+check d --against -|$  a.jp2//||jk: standard input: line 2 isn't &/|2
+check d --against -|$ a.jp2||jk: standard input: line 1 isn't &/|2
+check d --against -|0$  a.jp2||jk: standard input: line 1 isn't &/|2
+check d --against -|$  A.jp2||jk: standard input: line 1 isn't &/|2
+check d --against -|$  a.jp2/%  a.jp2||jk: standard input: line 2 has the name of a line before it/|2
+check d --against no|||jk: no can't be read: entity not found/|2";
+
+static PAGE_DIGEST: &str = "0c980b2cd988a155ed2a9ca52d24efe48b56c47ba02a9a45c8042c8c9c61f5f3";
+
+static COLUMN_DIGEST: &str = "60203eb8feef0d28927895135da094a63f5c6940482cabdc3049432a2cf801d3";
+
+/// A field of these lines as it stands in files.
+fn spelled(alloc: Global, field: &str) -> Result<String, Fail> {
+    let mut text = String::new(alloc);
+    for letter in field.chars() {
+        match letter {
+            '$' => text.push_str(PAGE_DIGEST)?,
+            '%' => text.push_str(COLUMN_DIGEST)?,
+            '^' => text.push_str("jk: c.jp2 isn't an image: F13 BadBox\n")?,
+            '&' => {
+                text.push_str("64 hexadecimal digits, two spaces and the name of an image's file")?;
+            }
+            '/' => text.push('\n')?,
+            _ => text.push(letter)?,
+        }
+    }
+    Ok(text)
+}
+
+/// An archive is checked, and compared with lists.
+#[test]
+fn archives_are_checked(rt: HostRuntime) -> Result<(), Fail> {
+    let alloc = rt.alloc();
+    let pixel = [
+        BOXES,
+        "FF4F",
+        SIZE,
+        CODING,
+        STEPS,
+        "FF90 000A 0000 0000000F 00 01 FF93 00 FFD9",
+    ];
+    let page = bytes_of(alloc, &pixel)?;
+    let column = bytes_of(alloc, &[COLUMN])?;
+    for row in CHECKS.split('\n') {
+        let mut fields = row.split('|');
+        let line = field(&mut fields, "");
+        let input = spelled(alloc, field(&mut fields, ""))?;
+        let output = spelled(alloc, field(&mut fields, ""))?;
+        let error = spelled(alloc, field(&mut fields, ""))?;
+        let status = field(&mut fields, "0");
+        let mut world = Memory::new(&rt, alloc, Vec::from_slice(alloc, input.as_bytes())?);
+        let mut shelf = MemoryShelf::new(alloc);
+        shelf.write(alloc, "c.jp2", &column)?;
+        shelf.write(alloc, "a.jp2", &page)?;
+        world.folders.insert(String::from_str(alloc, "d")?, shelf)?;
+        let code = run_line(alloc, &mut world, line)?.code();
+        assert!(rt; code.to_string(alloc)?.as_str() == status, "{row}: {code}");
+        assert!(rt; world.output.as_slice() == output.as_bytes(), "{row}");
+        assert!(rt;
+            world.error.as_str() == error.as_str(),
+            "{row}: {}",
+            world.error
+        );
+    }
+    Ok(())
+}
+
 /// Wrong command lines, the first of them empty.
 static WRONG: &str = "
 copy a b
@@ -440,6 +521,9 @@ decode - - --y 0 --w 1 --h 1 --reduce 1
 decode - - --x 0 --y 0 --w 1 --h 1 --h 1
 decode - - --x 0 --y 0 --w 1 --h -1
 cut - - --x 0 --y 0 --w 1
+check
+check d --against
+check d --against a --against b
 serve d
 serve d --port 65536
 faults x

@@ -1,5 +1,6 @@
 //! A world in memory.
 
+use jk_farm::Open;
 use jk_line::{Serving, World, listening};
 use jk_math::Fault;
 use jk_store::{Archive, MemoryShelf};
@@ -88,9 +89,21 @@ impl<'a, R: Threads + Sync> World for Memory<'a, R> {
 
     type Runtime = R;
 
+    type Gate = Open;
+
     fn runtime(&self) -> &R {
         self.rt
     }
+
+    fn gate(&self) -> &Open {
+        &Open
+    }
+
+    fn be_quiet(&mut self) {}
+
+    fn begin_work(&mut self, _alloc: Global, _what: &'static str) {}
+
+    fn end_work(&mut self) {}
 
     fn read(&mut self, alloc: Global, name: &str) -> Result<Vec<u8>, Fault> {
         if name == "-" {
@@ -179,7 +192,9 @@ impl<'a, R: Threads + Sync> World for Memory<'a, R> {
         false
     }
 
-    fn tell_others(&mut self, _folder: &MemoryShelf) {}
+    fn tell_others(&mut self, _folder: &MemoryShelf) -> bool {
+        false
+    }
 
     fn tell_left(&mut self, _folder: &MemoryShelf) {}
 

@@ -7,9 +7,10 @@ use crate::calls::{
 use crate::contents::Content;
 use crate::shelves::{Act, Acting, act_at};
 use jk_math::Fault;
-use jk_store::{Archive, MemoryShelf, Shelf};
+use jk_store::{Archive, Finding, MemoryShelf, Shelf, check};
 use std::alloc::Global;
 use std::test::Fail;
+use std::thread::Threads;
 
 /// The archive of two images and another file on a shelf that fails at a call, if it can be opened.
 fn opened(alloc: Global, call: u64) -> Result<Archive<Acting>, Fault> {
@@ -54,6 +55,57 @@ fn adding(rt: HostRuntime) -> Result<(), Fail> {
         let (answer, names, failures) = adding_at(rt.alloc(), call)?;
         equal_at(&rt, call, names.as_str(), "a c |a c d |");
         equal_at(&rt, call, (answer, failures), (Some(Fault::Shelf), 1));
+    }
+    Ok(())
+}
+
+/// What is found of three files by so many workers, where the shelf fails at a call: whether each is
+/// whole, broken or unread.
+fn checked_at<R: Threads + Sync>(
+    rt: &R,
+    alloc: Global,
+    workers: usize,
+    call: u64,
+) -> Result<String, Fault> {
+    let files = [
+        ("c.jp2", Content::Page),
+        ("b.jp2", Content::Bare),
+        ("a.jp2", Content::Page),
+    ];
+    let mut shelf = act_at(shelf_of(alloc, &files)?, call, Act::Fail);
+    let mut text = String::new(alloc);
+    for file in check(rt, alloc, workers, &mut shelf, call % 2 == 0)? {
+        text.push_str(file.name.as_str())?;
+        text.push_str(match file.finding {
+            Finding::Whole(_) => " whole ",
+            Finding::Broken(_, Fault::BadBox) => " broken ",
+            Finding::Unread(Fault::Shelf) => " unread ",
+            _ => " ? ",
+        })?;
+    }
+    Ok(text)
+}
+
+/// A file that can't be read keeps no other from being checked.
+#[test]
+fn checking(rt: HostRuntime) -> Result<(), Fail> {
+    let alloc = rt.alloc();
+    for workers in [1, 2] {
+        for (call, found) in [
+            (2, "a unread b broken c whole "),
+            (3, "a whole b unread c whole "),
+            (4, "a whole b broken c unread "),
+            (5, "a whole b broken c whole "),
+        ] {
+            let answer = checked_at(&rt, alloc, workers, call)?;
+            equal_at(&rt, call, answer.as_str(), found);
+        }
+        let unlisted = checked_at(&rt, alloc, workers, 1).err();
+        equal(&rt, unlisted, Some(Fault::Shelf));
+    }
+    for workers in [0, 65] {
+        let refused = checked_at(&rt, alloc, workers, 1).err();
+        equal(&rt, refused, Some(Fault::BadParameters));
     }
     Ok(())
 }
