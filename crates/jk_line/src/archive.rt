@@ -185,9 +185,7 @@ pub(crate) fn add<W: World>(
     };
     let _ = world.tell_others(&shelf);
     let mut archive = Archive::with(shelf, images);
-    world.begin_work(alloc, "encoding");
     let added = add_to(alloc, &mut archive, options::name(line), image, plan);
-    world.end_work();
     let kept = world.give_back(alloc, folder, archive.into_shelf());
     match added {
         Ok(()) => Ok(kept?),

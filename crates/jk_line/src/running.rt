@@ -16,6 +16,7 @@ use jk_commands::{
     EncodeOptions, Plan, cut_file, decode_file_into, decode_file_into_with,
     decode_window_file_into, encode_file_into, encode_file_with, info_all_file, info_file, judge,
 };
+use jk_farm::Open;
 use jk_math::Fault;
 use std::alloc::Global;
 
@@ -29,16 +30,14 @@ fn encode_by<W: World>(
     plan: Plan,
 ) -> Result<(), Failure> {
     let bytes = read(alloc, world, options::input(line))?;
-    world.begin_work(alloc, "encoding");
-    let encoded = encode_file_with::<W::Runtime, W::Gate>(
+    let encoded = encode_file_with::<W::Runtime, Open>(
         world.runtime(),
         alloc,
         workers,
-        world.gate(),
+        &Open,
         bytes,
         plan,
     );
-    world.end_work();
     match encoded {
         Ok(file) => write(alloc, world, options::output(line), &file),
         Err(fault) => Err(of_options(alloc, fault, options)),
@@ -60,9 +59,7 @@ fn encode<W: World>(alloc: Global, line: &ArgMatches<'_>, world: &mut W) -> Resu
     let bytes = read(alloc, world, options::input(line))?;
     let name = options::output(line);
     let mut output = create(alloc, world, name)?;
-    world.begin_work(alloc, "encoding");
     let encoded = encode_file_into(alloc, bytes, plan, &mut output);
-    world.end_work();
     let finished = finish(alloc, world, name, output, encoded.is_ok());
     match encoded {
         Ok(()) => finished,
@@ -83,11 +80,11 @@ fn decode_image<W: World>(
     if workers == 1 {
         return decode_file_into(alloc, bytes, reduce, output);
     }
-    decode_file_into_with::<W::Runtime, W::Gate, W::Output>(
+    decode_file_into_with::<W::Runtime, Open, W::Output>(
         world.runtime(),
         alloc,
         workers,
-        world.gate(),
+        &Open,
         bytes,
         reduce,
         output,
@@ -101,7 +98,6 @@ fn decode<W: World>(alloc: Global, line: &ArgMatches<'_>, world: &mut W) -> Resu
     let left_out = left_out(&bytes);
     let name = options::output(line);
     let mut output = create(alloc, world, name)?;
-    world.begin_work(alloc, "decoding");
     let decoded = match options::window(line) {
         Some(view) => decode_window_file_into(alloc, bytes, view, &mut output),
         None => {
@@ -109,7 +105,6 @@ fn decode<W: World>(alloc: Global, line: &ArgMatches<'_>, world: &mut W) -> Resu
             decode_image(alloc, world, workers, bytes, reduce, &mut output)
         }
     };
-    world.end_work();
     let finished = finish(alloc, world, name, output, decoded.is_ok());
     match decoded {
         Ok(()) => finished,

@@ -1,12 +1,10 @@
 //! What a command line works on.
 
-use jk_farm::Gate;
 use jk_math::Fault;
 use jk_store::{Archive, Shelf};
 use std::alloc::Global;
 use std::fmt::Display;
 use std::io::{self, Write};
-use std::marker::Sync;
 use std::thread::Threads;
 
 /// How an archive is served.
@@ -37,23 +35,11 @@ pub trait World {
     /// What starts threads.
     type Runtime: Threads + Sync;
 
-    /// What is told of each code-block that several workers have done.
-    type Gate: Gate + Sync;
-
     /// What starts the threads of workers.
     fn runtime(&self) -> &Self::Runtime;
 
-    /// What is told of each code-block.
-    fn gate(&self) -> &Self::Gate;
-
     /// From now on nothing is told of how far work is.
     fn be_quiet(&mut self);
-
-    /// From now on it is told, where standard error is a terminal, that this work goes on.
-    fn begin_work(&mut self, alloc: Global, what: &'static str);
-
-    /// Ends that, and takes away what is told of it.
-    fn end_work(&mut self);
 
     /// All bytes of a file, or of standard input for `-`.
     fn read(&mut self, alloc: Global, name: &str) -> Result<Vec<u8>, Fault>;

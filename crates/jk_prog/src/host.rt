@@ -4,7 +4,6 @@ use crate::files;
 use crate::keeper::{FolderKeeper, is_other, tell_waiting};
 use crate::opening::Watched;
 use crate::output::Late;
-use crate::progress::{Counter, Telling};
 use crate::serving::{Asked, shelves};
 use jk_files::{Lock, Lockable, Refusal, SharedLock, wait_exclusive, wait_shared};
 use jk_line::{Serving, World};
@@ -26,7 +25,6 @@ pub(crate) struct Host<R: Files> {
     rt: R,
     is_terminal: bool,
     is_quiet: bool,
-    telling: Telling,
     lock: Option<Lock<R::File>>,
     said: Option<io::Error>,
     asked: Option<Asked<R>>,
@@ -39,7 +37,6 @@ impl<R: Files + Drop> Host<R> {
             rt,
             is_terminal,
             is_quiet: false,
-            telling: Telling::none(),
             lock: None,
             said: None,
             asked: None,
@@ -96,28 +93,12 @@ where
 
     type Runtime = R;
 
-    type Gate = Counter;
-
     fn runtime(&self) -> &R {
         &self.rt
     }
 
-    fn gate(&self) -> &Counter {
-        self.telling.counter()
-    }
-
     fn be_quiet(&mut self) {
         self.is_quiet = true;
-    }
-
-    fn begin_work(&mut self, alloc: Global, what: &'static str) {
-        if self.is_terminal && !self.is_quiet {
-            self.telling.begin(&self.rt, alloc, what);
-        }
-    }
-
-    fn end_work(&mut self) {
-        self.telling.end(&self.rt);
     }
 
     fn read(&mut self, alloc: Global, name: &str) -> Result<Vec<u8>, Fault> {

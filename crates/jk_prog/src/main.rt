@@ -6,7 +6,6 @@ mod host;
 mod keeper;
 mod opening;
 mod output;
-mod progress;
 mod serving;
 
 use crate::host::Host;

@@ -1,6 +1,5 @@
 //! A world in memory.
 
-use jk_farm::Open;
 use jk_line::{Serving, World, listening};
 use jk_math::Fault;
 use jk_store::{Archive, MemoryShelf};
@@ -89,21 +88,11 @@ impl<'a, R: Threads + Sync> World for Memory<'a, R> {
 
     type Runtime = R;
 
-    type Gate = Open;
-
     fn runtime(&self) -> &R {
         self.rt
     }
 
-    fn gate(&self) -> &Open {
-        &Open
-    }
-
     fn be_quiet(&mut self) {}
-
-    fn begin_work(&mut self, _alloc: Global, _what: &'static str) {}
-
-    fn end_work(&mut self) {}
 
     fn read(&mut self, alloc: Global, name: &str) -> Result<Vec<u8>, Fault> {
         if name == "-" {
