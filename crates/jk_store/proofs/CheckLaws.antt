@@ -58,7 +58,7 @@ pub waits_more : (blocks : Bool) (given front : List GivenFile) (batch more : Li
     → given ≡ front ++ map given_file batch → All (λ j. j.blocks ≡ blocks) batch → (given ++ given_file f ∷ [] ≡ front ++ map given_file more) × All (λ j. j.blocks ≡ blocks) more
 waits_more blocks given front batch more f is longer split all = (
   ap (λ g. g ++ given_file f ∷ []) split ∙ (append_assoc front (map given_file batch) (given_file f ∷ [])
-  ∙ ap (λ l. front ++ l) (sym (ap (map given_file) longer ∙ map-append given_file batch (f ∷ [])))),
+      ∙ ap (λ l. front ++ l) (sym (ap (map given_file) longer ∙ map-append given_file batch (f ∷ [])))),
   subst (All (λ j. j.blocks ≡ blocks)) (sym longer) (All-append (λ j. j.blocks ≡ blocks) batch (f ∷ []) all (one_of is)),
 ) where
   one_of : f.blocks ≡ blocks → All (λ j. j.blocks ≡ blocks) (f ∷ [])
@@ -81,7 +81,7 @@ module _ {S : Type 0} (keeps : S → Files → Type 0) (gave : S → List ℕ �
       → WasAsked keeps gave unread old n (given_bytes r) new
   asked_of old new n m before after (Ok v) is given kept same held cause counts = gives keeps gave old new m (file_name n) v.items is given same kept held
   asked_of old new n m before after (Err e) is given kept same held cause counts =
-      (elim counts [ | inl memory ↦ inl memory.0 | inr failed ↦ inr (failed.0, subst (λ x. unread old x new) is (cause failed.0)) ], kept)
+      (elim counts [ inl memory ↦ inl memory.0 | inr failed ↦ inr (failed.0, subst (λ x. unread old x new) is (cause failed.0)) ], kept)
 
   pub asked_more : (n : List ℕ) (bytes : Result (List ℕ) Fault) (mid new : S) → WasAsked keeps gave unread mid n bytes new
       → (names : List (List ℕ)) (old : S) (given : List GivenFile) → AskedInTurn keeps gave unread names old given mid
