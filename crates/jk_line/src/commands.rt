@@ -113,11 +113,11 @@ const EXPLAIN: Word<'static> = Word(
     "Say the cause of a fault in words, behind its line; on a terminal they are there anyway",
 );
 
-/// That nothing is told of how far work is.
+/// That it isn't told how many files of an archive were read.
 const QUIET: Word<'static> = Word(
     "quiet",
     Form::Flag,
-    "Don't tell on a terminal how far long work is",
+    "Don't tell on a terminal how many files of the archive were read",
 );
 
 /// How many workers there are.
@@ -218,7 +218,7 @@ fn with_encoding<'a>(
 ) -> Result<Command<'a>, AllocError> {
     let command = coding(alloc, command, defaults)?;
     let command = tiling(alloc, command, defaults)?;
-    with_words(alloc, command, &[QUIET, EXPLAIN])
+    with_words(alloc, command, &[EXPLAIN])
 }
 
 /// The options of how each tile is coded.
@@ -342,7 +342,6 @@ fn decode<'a>(alloc: Global) -> Result<Command<'a>, AllocError> {
             "How often to halve the image, at most the LEVELS of `jk info`",
         ),
         WORKERS,
-        QUIET,
         EXPLAIN,
     ];
     with_words(alloc, command, &words)
@@ -409,6 +408,7 @@ fn add<'a>(alloc: Global, defaults: &'a Defaults) -> Result<Command<'a>, AllocEr
             "The name of the image: 1 to 64 of a to z, 0 to 9, - and _",
         ),
         PIXELS,
+        QUIET,
     ];
     let command = with_words(alloc, command, &words)?;
     with_encoding(alloc, command, defaults)
