@@ -7,7 +7,7 @@ use Rattle.jk_math.specs.Answer.{◌>>=◌, refuse}
 use Rattle.jk_math.specs.Steps.{bind_then, refuse_then}
 use Rattle.jk_math.specs.declared.fault.Fault.TheVariants.{PacketHeader}
 use Rattle.jk_bits.specs.Reading.{Bits, ahead, bit_at}
-use Rattle.jk_tree.specs.TagTree.{Shape, Values, Query, query_of, told, leaf_of}
+use Rattle.jk_tree.specs.TagTree.{Shape, count, Values, Query, query_of, told, leaf_of}
 use Rattle.jk_tree.specs.Asking.{node_at, AreTold, AreToldBySome, Tree, ask_at, IsOpen}
 use Rattle.jk_bits.specs.Giving.{Gives, advance, gives_none, gives_bit, bit_ahead}
 use Rattle.jk_tree.proofs.Laws.{ask_only, ask_found, told_same, stands_same, low_is, value_is, low_below}
@@ -173,7 +173,8 @@ module _ (s : Shape) (layers : List BandLayer) (front : List (Option Contributio
       let qs = queries_before asks_zeros layers front in
       let f = ask_found s qs (query_of i (planes + 1)) tree r a less can reached e in
       let low = (node_at a.1.0.nodes i).low in
-      let below : low < planes + 1 = low_below (query_of i (planes + 1)) tree r a e known in
+      let is_known = low_below (query_of i (planes + 1)) tree r a (subst (λ (x : Shape). i < x.width * x.height) (sym can.shape) less) (can.long ∙ ap count (sym can.shape)) e known in
+      let below : low < planes + 1 = is_known.1 in
       let low_o : low ≡ o.0 = ap (λ (p : ℕ × (Tree × Bits)). p.0) is in
       let zero_is : c.zero_planes ≡ low = value ∙ sym low_o in
       let next : queries_before asks_zeros layers (front ++ Some c ∷ []) ≡ qs ++ query_of i (low + 1) ∷ [] = zeros_new layers front c new ∙ ap (λ n. qs ++ query_of i (n + 1) ∷ []) zero_is in
@@ -182,13 +183,13 @@ module _ (s : Shape) (layers : List BandLayer) (front : List (Option Contributio
         reached =
             let v = f.reached.0 in
             let st = f.reached.1 in
-            let leaf = value_is s v qs i (planes + 1) a.1.0.nodes less below st in
+            let leaf = value_is s v (qs ++ query_of i (planes + 1) ∷ []) i a.1.0.nodes less is_known.0 st in
             (v, subst (λ (ks : List Query). AreTold s v ks a.1.0.nodes) (sym next) (stands_same s v qs i (planes + 1) (low + 1) a.1.0.nodes less (omega (arith, leaf, below)) (omega (arith, leaf)) st));
         later = λ old. absurd (let clash : true ≡ false = sym old ∙ new in cc);
         within = λ _. omega (arith, below);
         each = λ v st.
             let here : AreTold s v (qs ++ query_of i (low + 1) ∷ []) a.1.0.nodes = subst (λ (ks : List Query). AreTold s v ks a.1.0.nodes) next st in
-            let leaf = value_is s v qs i (low + 1) a.1.0.nodes less (omega arith) here in
+            let leaf = value_is s v (qs ++ query_of i (low + 1) ∷ []) i a.1.0.nodes less is_known.0 here in
             let wide = stands_same s v qs i (low + 1) (planes + 1) a.1.0.nodes less (omega (arith, leaf)) (omega (arith, leaf, below)) here in
             let g = f.each v wide in
             let same = told_same s v qs i (low + 1) (planes + 1) less st.tree (omega (arith, leaf)) (omega (arith, below)) in (

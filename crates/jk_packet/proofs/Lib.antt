@@ -24,3 +24,4 @@ pub mod BandWriting
 pub mod PrecinctWriting
 pub mod BodyLaws
 pub mod Laws
+pub mod KnownLaws

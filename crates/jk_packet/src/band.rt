@@ -1,8 +1,10 @@
 //! A sub-band of a precinct, as far as packet headers have told of it.
 
-ghost use Rattle.std.specs.Prelude.{◌≡◌, ℕ, ◌+◌, ◌*◌, ◌<◌, ◌≤◌, length, IfOk, MatchResult};
+ghost use Rattle.std.specs.Prelude.{◌≡◌, ℕ, ◌+◌, ◌*◌, ◌<◌, ◌≤◌, List, length, Ok, IfOk, MatchResult};
 ghost use Rattle.jk_math.specs.Answer.{Answers};
 ghost use Rattle.jk_math.specs.Memory.{IsMemory};
+ghost use Rattle.jk_bits.specs.Reading.{Bits};
+ghost use Rattle.jk_packet.specs.declared.header.BlockContribution.{BlockContribution};
 ghost use Rattle.jk_packet.specs.Reading.{BandWalk, blank_band, band_at, block_at};
 
 use crate::block::{Block, blank_blocks, read_inclusion, read_zero_planes};
@@ -25,9 +27,10 @@ pub(crate) struct Band {
 }
 
 impl Model for Band {
-    ghost use Rattle.std.specs.Prelude.{◌≡◌, ◌*◌, length};
+    ghost use Rattle.std.specs.Prelude.{◌≡◌, ℕ, ◌*◌, ◌<◌, true, length};
     ghost use Rattle.jk_tree.specs.TagTree.{shape_of};
-    ghost use Rattle.jk_packet.specs.Reading.{BandState};
+    ghost use Rattle.jk_tree.specs.Asking.{IsKnown};
+    ghost use Rattle.jk_packet.specs.Reading.{BandState, block_in};
 
     ghost Value = { BandState };
 
@@ -41,7 +44,9 @@ impl Model for Band {
 
     ghost invariant = { λ b. (length b.blocks.items ≡ b.shape.across * b.shape.down)
         × (b.inclusion.shape ≡ shape_of b.shape.across b.shape.down)
-        × (b.zeros.shape ≡ shape_of b.shape.across b.shape.down) };
+        × (b.zeros.shape ≡ shape_of b.shape.across b.shape.down)
+        × ((j : ℕ) → j < b.shape.across * b.shape.down → (block_in b.blocks.items j).included ≡ true
+        → IsKnown (shape_of b.shape.across b.shape.down) b.inclusion.nodes j) };
 }
 
 impl Band {
@@ -112,7 +117,27 @@ impl Band {
         Ok(())
     }
 
+    /// The next block from `index` on of which the packet of a layer may say something.
+    fn next_told(&self, index: u32, layer: u16) -> u32
+        requires index { index ≤ self.now.shape.width * self.now.shape.height }
+        requires layer { layer < 65535 }
+        ensures from { index ≤ result }
+        ensures within { result ≤ self.now.shape.width * self.now.shape.height }
+        ensures silent { (j : ℕ) → index ≤ j → j < result
+            → (number : ℕ) (bits : Bits) (parts : List BlockContribution)
+            → block_at number layer j record { band = self.now; bits = bits; parts = parts }
+            ≡ Ok (record { band = self.now; bits = bits; parts = parts }) }
+    {
+        if index as usize >= self.blocks.len() || self.blocks[index as usize].included {
+            return index;
+        }
+        self.inclusion.next_open(index, layer + 1)
+    }
+
     /// What the packet of a layer has of the blocks, in raster order.
+    ///
+    /// It takes the time of what the packet tells: blocks that a node above them leaves out
+    /// together are passed over together.
     pub(crate) fn read(
         &mut self,
         number: u8,
@@ -125,8 +150,11 @@ impl Band {
             (λ _. record { band = self.new; bits = reader.new; parts = parts.new.items }) result
             (band_at number layer record { band = self.old; bits = reader.old; parts = parts.old.items }) }
     {
-        for index in 0..self.shape.across as u32 * self.shape.down as u32 {
+        let count = self.shape.across as u32 * self.shape.down as u32;
+        let mut index = self.next_told(0, layer);
+        while index < count {
             self.read_block(number, index, layer, reader, parts)?;
+            index = self.next_told(index + 1, layer);
         }
         Ok(())
     }

@@ -1,9 +1,10 @@
 //! What is known of a code-block, and what a packet tells of it first: inclusion and zero
 //! bit-planes.
 
-ghost use Rattle.std.specs.Prelude.{◌≡◌, ℕ, ◌+◌, ◌*◌, ◌<◌, replicate, MatchResult};
+ghost use Rattle.std.specs.Prelude.{◌≡◌, ℕ, ◌+◌, ◌*◌, ◌<◌, false, true, replicate, IfOk, MatchResult};
 ghost use Rattle.jk_math.specs.Answer.{Reads};
 ghost use Rattle.jk_math.specs.Memory.{IsMemory};
+ghost use Rattle.jk_tree.specs.Asking.{IsKnown};
 ghost use Rattle.jk_packet.specs.Reading.{blank_block, included_at, zero_planes_at};
 
 use jk_bits::BitReader;
@@ -48,6 +49,10 @@ pub(crate) fn read_inclusion(
     requires layer { layer < 65535 }
     ensures exact { Reads (included_at layer leaf block) (tree.old, reader.old) (tree.new, reader.new) result }
     ensures kept { tree.new.shape ≡ tree.old.shape }
+    ensures known { IfOk result (λ b. b ≡ true → block.included ≡ false
+        → IsKnown tree.new.shape tree.new.nodes leaf) }
+    ensures still { (j : ℕ) → IsKnown tree.old.shape tree.old.nodes j
+        → IsKnown tree.new.shape tree.new.nodes j }
 {
     if block.included {
         reader.bit()

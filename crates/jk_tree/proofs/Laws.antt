@@ -2,63 +2,64 @@
 -- known; the values of a written tree.
 use Rattle.std.proofs.Common.{◌≡◌, ℕ, zero, suc, ◌+◌, ◌-◌, ◌*◌, ◌<◌, ◌≤◌, min, max, Bool, true, false, cond, List, [], ◌∷◌, ◌++◌, length, set, drop, replicate, Result, Option, Some, None, Ok, Err, refl, sym, ap, ◌∙◌, subst, inl, inr, arith}
 use Rattle.std.specs.Prelude.{nat_lt}
-use Rattle.std.proofs.lemmas.Bool.{cases_lt, and_parts}
+use Rattle.std.proofs.lemmas.Bool.{cases_lt}
 use Rattle.std.proofs.lemmas.Bool.Decides.{nat_tests}
 use Rattle.std.proofs.lemmas.List.{length-set, length-replicate}
 use Rattle.jk_math.specs.Answer.{◌>>=◌}
 use Rattle.jk_math.specs.declared.fault.Fault.{Fault}
 use Rattle.jk_bits.specs.Reading.{Bits, ahead}
-use Rattle.jk_tree.specs.TagTree.{Shape, top, count, column, row, IsNode, Values, above, IsTree, Query, query_of, passes, asked, word, piece, told_below, told, leaf_of}
+use Rattle.jk_tree.specs.TagTree.{Shape, top, place, count, column, row, IsNode, Values, above, IsTree, Query, query_of, passes, asked, word, piece, told_below, told, leaf_of}
 use Rattle.jk_tree.specs.declared.node.Node.{Node}
-use Rattle.jk_tree.specs.Asking.{told_node, node_at, AreTold, AreToldBySome, walk, is_below, Tree, IsOpen, unless_failed, blank_tree, ask_at}
+use Rattle.jk_tree.specs.Asking.{HasTold, node_at, AreTold, AreToldBySome, walk, Tree, IsOpen, unless_failed, blank_tree, ask_at}
 use Rattle.jk_bits.specs.Giving.{Gives, advance, Moves}
 use Rattle.jk_tree.proofs.Moving.{walk_moves}
-use Rattle.jk_tree.proofs.Visits.{piece_asked, piece_known, node_same}
+use Rattle.jk_tree.proofs.Visits.{piece_asked, piece_known}
 use Rattle.jk_tree.proofs.Places.{path_node, passes_at, passes_own, place_leaf}
 use Rattle.jk_tree.proofs.Walks.{asked_push, above_way, below-suc, told_none}
-use Rattle.jk_tree.proofs.Finds.{way, steps, walk_end}
+use Rattle.jk_tree.proofs.Finds.{way, steps, walk_end, walk_through}
 use Rattle.jk_tree.proofs.Speeches.{told_all}
 use Rattle.jk_tree.proofs.Asks.{fresh}
 use Rattle.jk_tree.proofs.Answering.{only_law, found_law}
 pub use Rattle.jk_tree.proofs.Written.{written_tree, written_leaf}
 
-pub asked_then : (f : Option Fault) (q : Query) (t : Tree) (w : Result (List Node × Bits) Fault) (out : Bool × (Tree × Bits)) → unless_failed f (w >>= λ o. Ok (is_below q o.0, (record t { nodes = o.0 }, o.1))) ≡ Ok out
-    → (f ≡ None) × (o : List Node × Bits) × (w ≡ Ok o) × ((is_below q o.0, (record t { nodes = o.0 }, o.1)) ≡ out)
-asked_then (Some e) q t w out h = absurd (cc)
-asked_then None q t (Err e) out h = absurd (cc)
-asked_then None q t (Ok o) out h = (refl, o, refl, cc)
+pub asked_then : (f : Option Fault) (t : Tree) (w : Result (Bool × (List Node × Bits)) Fault) (out : Bool × (Tree × Bits)) → unless_failed f (w >>= λ o. Ok (o.0, (record t { nodes = o.1.0 }, o.1.1))) ≡ Ok out
+    → (f ≡ None) × (o : Bool × (List Node × Bits)) × (w ≡ Ok o) × ((o.0, (record t { nodes = o.1.0 }, o.1.1)) ≡ out)
+asked_then (Some e) t w out h = absurd (cc)
+asked_then None t (Err e) out h = absurd (cc)
+asked_then None t (Ok o) out h = (refl, o, refl, cc)
 
--- What an answer says of the nodes after it.
-pub asked_below : (q : Query) (t : Tree) (r : Bits) (out : Bool × (Tree × Bits)) → ask_at q (t, r) ≡ Ok out → out.0 ≡ is_below q out.1.0.nodes
+-- A leaf that is below a threshold is known, and has a low below it.
+pub low_below : (q : Query) (t : Tree) (r : Bits) (out : Bool × (Tree × Bits)) → q.leaf < t.shape.width * t.shape.height → length t.nodes ≡ count t.shape → ask_at q (t, r) ≡ Ok out → out.0 ≡ true
+    → ((node_at out.1.0.nodes q.leaf).known ≡ true) × ((node_at out.1.0.nodes q.leaf).low < q.threshold)
 unfolding ask_at
-asked_below q t r out h =
-    let a = asked_then t.failed q t (walk t.shape q (top t.shape + 1) 0 t.nodes r) out h in
-    subst (λ (x : Bool × (Tree × Bits)). x.0 ≡ is_below q x.1.0.nodes) a.3 refl
-
--- A leaf that is below a threshold has a low below it.
-pub low_below : (q : Query) (t : Tree) (r : Bits) (out : Bool × (Tree × Bits)) → ask_at q (t, r) ≡ Ok out → out.0 ≡ true → (node_at out.1.0.nodes q.leaf).low < q.threshold
-low_below q t r out h known =
-    let node = node_at out.1.0.nodes q.leaf in
-    let both = and_parts node.known (nat_lt node.low q.threshold) (sym (asked_below q t r out h) ∙ known) in
-    grind (arith, nat_tests)
+low_below q t r out less long h goes =
+    let a = asked_then t.failed t (walk t.shape q (top t.shape + 1) 0 t.nodes r) out h in
+    let o = a.1 in
+    let w = walk_through t.shape q less (top t.shape + 1) 0 t.nodes r o (omega arith) long a.2 (ap (λ (x : Bool × (Tree × Bits)). x.0) a.3 ∙ goes) 0 (omega arith) in
+    let same : node_at o.1.0 (way t.shape q 0) ≡ node_at out.1.0.nodes q.leaf = ap (node_at o.1.0) (place_leaf t.shape q.leaf) ∙ ap (λ (x : Bool × (Tree × Bits)). node_at x.1.0.nodes q.leaf) a.3 in
+    subst (λ (z : Node). (z.known ≡ true) × (z.low < q.threshold)) same w
 
 pub ask_moves : (q : Query) (t : Tree) (r : Bits) (o : Bool × (Tree × Bits)) → ask_at q (t, r) ≡ Ok o → Moves r o.1.1
 unfolding ask_at
 ask_moves q t r o h =
-    let a = asked_then t.failed q t (walk t.shape q (top t.shape + 1) 0 t.nodes r) o h in
+    let a = asked_then t.failed t (walk t.shape q (top t.shape + 1) 0 t.nodes r) o h in
     subst (λ (x : Bool × (Tree × Bits)). Moves r x.1.1) a.3 (walk_moves t.shape q (top t.shape + 1) 0 t.nodes r a.1 a.2)
 
-walk_long : (s : Shape) (q : Query) (i over : ℕ) (nodes : List Node) (r : Bits) (o : List Node × Bits) → walk s q i over nodes r ≡ Ok o → length o.0 ≡ length nodes
-walk_long s q zero over nodes r o h = ap (λ (p : List Node × Bits). length p.0) (sym (walk_end s q over nodes r o h))
+walk_long : (s : Shape) (q : Query) (i over : ℕ) (nodes : List Node) (r : Bits) (o : Bool × (List Node × Bits)) → walk s q i over nodes r ≡ Ok o → length o.1.0 ≡ length nodes
+walk_long s q zero over nodes r o h = ap (λ (p : Bool × (List Node × Bits)). length p.1.0) (sym (walk_end s q over nodes r o h))
 walk_long s q (suc i) over nodes r o h =
     let t = steps s q i over nodes r o h in
-    walk_long s q i (min t.node.low q.threshold) (set nodes (way s q i) t.node) t.mid o t.walked ∙ length-set nodes (way s q i) t.node
+    let new = set nodes (way s q i) t.node in
+    elim t.next [
+      | inl on ↦ walk_long s q i t.node.low new t.mid o on.1 ∙ length-set nodes (way s q i) t.node
+      | inr stop ↦ ap (λ (p : Bool × (List Node × Bits)). length p.1.0) (sym stop.1) ∙ length-set nodes (way s q i) t.node
+    ]
 
 -- a tree that was asked can be asked again
 asked_open : (s : Shape) (q : Query) (t : Tree) (r : Bits) (o : Bool × (Tree × Bits)) → IsOpen s t → ask_at q (t, r) ≡ Ok o → IsOpen s o.1.0
 unfolding ask_at
 asked_open s q t r o w h =
-    let a = asked_then t.failed q t (walk t.shape q (top t.shape + 1) 0 t.nodes r) o h in
+    let a = asked_then t.failed t (walk t.shape q (top t.shape + 1) 0 t.nodes r) o h in
     subst (λ (x : Bool × (Tree × Bits)). IsOpen s x.1.0) a.3 record {
       shape = w.shape;
       sound = w.sound;
@@ -102,7 +103,7 @@ found_here : (queries : List Query) (q : Query) (t : Tree) (r : Bits) (o : Bool 
     → ask_at q (t, r) ≡ Ok o → AskFound t.shape queries q t r o
 unfolding ask_at
 found_here queries q t r o less w reached h =
-    let a = asked_then t.failed q t (walk t.shape q (top t.shape + 1) 0 t.nodes r) o h in
+    let a = asked_then t.failed t (walk t.shape q (top t.shape + 1) 0 t.nodes r) o h in
     let law = found_law q t r a.1 queries less w.long w.sound a.2 reached in
     record {
       can = asked_open t.shape q t r o w h;
@@ -165,49 +166,54 @@ pub told_same : (s : Shape) (v : Values) (queries : List Query) (leaf t t' : ℕ
 told_same s v queries leaf t t' less tree low more =
     told_all s v queries (query_of leaf t) ∙ told_below_same s v queries leaf t t' (suc (top s)) less tree low more (omega arith) ∙ sym (told_all s v queries (query_of leaf t'))
 
-asked_same : (s : Shape) (v : Values) (queries : List Query) (leaf t t' j x y : ℕ) → leaf < s.width * s.height → IsTree s v → leaf_of s v leaf < t → leaf_of s v leaf < t' → IsNode s j x y
-    → told_node (v j x y) (asked s (queries ++ query_of leaf t ∷ []) j x y) ≡ told_node (v j x y) (asked s (queries ++ query_of leaf t' ∷ []) j x y)
-asked_same s v queries leaf t t' j x y less tree low low' n =
-    ap (told_node (v j x y)) (asked_push s queries (query_of leaf t) j x y)
-    ∙ by_way (passes s leaf j x y) (passes_at s leaf j x y)
-    ∙ ap (told_node (v j x y)) (sym (asked_push s queries (query_of leaf t') j x y))
+-- a value below two thresholds is told alike by both
+has_same : (u w a t t' : ℕ) (z : Node) → w < t → w < t' → HasTold u w (max a t) z → HasTold u w (max a t') z
+has_same u w a t t' z low low' h =
+    let one : nat_lt w (max a t) ≡ true = grind (arith, nat_tests) in
+    let two : nat_lt w (max a t') ≡ true = grind (arith, nat_tests) in
+    record {
+      known = h.known ∙ one ∙ sym two;
+      value = h.value;
+      least = λ k. absurd (let f : false ≡ true = sym k ∙ h.known ∙ one in cc);
+    }
+
+asked_same : (s : Shape) (v : Values) (queries : List Query) (leaf t t' j x y : ℕ) (z : Node) → leaf < s.width * s.height → IsTree s v → leaf_of s v leaf < t → leaf_of s v leaf < t' → IsNode s j x y
+    → HasTold (above s v j x y) (v j x y) (asked s (queries ++ query_of leaf t ∷ []) j x y) z → HasTold (above s v j x y) (v j x y) (asked s (queries ++ query_of leaf t' ∷ []) j x y) z
+asked_same s v queries leaf t t' j x y z less tree low low' n h =
+    subst (λ a. HasTold (above s v j x y) (v j x y) a z) (sym (asked_push s queries (query_of leaf t') j x y))
+    (by_way (passes s leaf j x y) (passes_at s leaf j x y) (subst (λ a. HasTold (above s v j x y) (v j x y) a z) (asked_push s queries (query_of leaf t) j x y) h))
   where
     by_way : (b : Bool) → (b ≡ true → (column s leaf j ≡ x) × (row s leaf j ≡ y))
-        → told_node (v j x y) (max (asked s queries j x y) (cond b t 0)) ≡ told_node (v j x y) (max (asked s queries j x y) (cond b t' 0))
-    by_way false on = refl
-    by_way true on =
+        → HasTold (above s v j x y) (v j x y) (max (asked s queries j x y) (cond b t 0)) z → HasTold (above s v j x y) (v j x y) (max (asked s queries j x y) (cond b t' 0)) z
+    by_way false on has = has
+    by_way true on has =
         let e = on refl in
-        let a = asked s queries j x y in
         let here : v j x y ≤ leaf_of s v leaf = subst (λ y'. v j x y' ≤ leaf_of s v leaf) e.1 (subst (λ x'. v j x' (row s leaf j) ≤ leaf_of s v leaf) e.0 (over_leaf s v leaf j less tree n.level)) in
-        let one : nat_lt (v j x y) (max a t) ≡ true = grind (arith, nat_tests) in
-        let two : nat_lt (v j x y) (max a t') ≡ true = grind (arith, nat_tests) in
-        node_same (min (v j x y) (max a t)) (min (v j x y) (max a t')) (nat_lt (v j x y) (max a t)) (nat_lt (v j x y) (max a t')) (omega (arith, here, low, low')) (one ∙ sym two)
+        has_same (above s v j x y) (v j x y) (asked s queries j x y) t t' z (omega (arith, here, low)) (omega (arith, here, low')) has
 
 pub stands_same : (s : Shape) (v : Values) (queries : List Query) (leaf t t' : ℕ) (nodes : List Node) → leaf < s.width * s.height → leaf_of s v leaf < t → leaf_of s v leaf < t' → AreTold s v (queries ++ query_of leaf t ∷ []) nodes
     → AreTold s v (queries ++ query_of leaf t' ∷ []) nodes
 stands_same s v queries leaf t t' nodes less low low' st = record {
   tree = st.tree;
-  each = λ j x y n. st.each j x y n ∙ asked_same s v queries leaf t t' j x y less st.tree low low' n;
+  each = λ j x y n. asked_same s v queries leaf t t' j x y (node_at nodes (place s j x y)) less st.tree low low' n (st.each j x y n);
 }
 
--- What is known of a leaf, where it is less than was asked, is its value.
-leaf_known : (s : Shape) (v : Values) (queries : List Query) (leaf t : ℕ) (nodes : List Node) → leaf < s.width * s.height → AreTold s v (queries ++ query_of leaf t ∷ []) nodes
-    → (m : ℕ) × (t ≤ m) × ((node_at nodes leaf).low ≡ min (leaf_of s v leaf) m)
-leaf_known s v queries leaf t nodes less st =
+-- What is known of a leaf is its value.
+pub value_is : (s : Shape) (v : Values) (queries : List Query) (leaf : ℕ) (nodes : List Node) → leaf < s.width * s.height → (node_at nodes leaf).known ≡ true → AreTold s v queries nodes → leaf_of s v leaf ≡ (node_at nodes leaf).low
+value_is s v queries leaf nodes less known st =
+    let own = st.each 0 (column s leaf 0) (row s leaf 0) (path_node s leaf 0 less (omega arith)) in
+    let at = place_leaf s leaf in
+    sym (own.value (ap (λ p. (node_at nodes p).known) at ∙ known)) ∙ ap (λ p. (node_at nodes p).low) at
+
+-- and it is known where it is less than was asked
+pub low_is : (s : Shape) (v : Values) (queries : List Query) (leaf t : ℕ) (nodes : List Node) → leaf < s.width * s.height → leaf_of s v leaf < t → AreTold s v (queries ++ query_of leaf t ∷ []) nodes → (node_at nodes leaf).low ≡ leaf_of s v leaf
+low_is s v queries leaf t nodes less low st =
     let x = column s leaf 0 in
     let y = row s leaf 0 in
     let own = st.each 0 x y (path_node s leaf 0 less (omega arith)) in
-    let more : asked s (queries ++ query_of leaf t ∷ []) 0 x y ≡ max (asked s queries 0 x y) t = asked_push s queries (query_of leaf t) 0 x y ∙ ap (λ (b : Bool). max (asked s queries 0 x y) (cond b t 0)) (passes_own s leaf 0) in (
-      asked s (queries ++ query_of leaf t ∷ []) 0 x y,
-      omega (arith, more),
-      ap (λ p. (node_at nodes p).low) (sym (place_leaf s leaf)) ∙ ap (λ (n : Node). n.low) own,
-    )
-
-pub low_is : (s : Shape) (v : Values) (queries : List Query) (leaf t : ℕ) (nodes : List Node) → leaf < s.width * s.height → leaf_of s v leaf < t → AreTold s v (queries ++ query_of leaf t ∷ []) nodes → (node_at nodes leaf).low ≡ leaf_of s v leaf
-low_is s v queries leaf t nodes less low st = let k = leaf_known s v queries leaf t nodes less st in let a = k.1 in let e = k.2 in omega (arith, a, e, low)
-
-pub value_is : (s : Shape) (v : Values) (queries : List Query) (leaf t : ℕ) (nodes : List Node) → leaf < s.width * s.height → (node_at nodes leaf).low < t → AreTold s v (queries ++ query_of leaf t ∷ []) nodes → leaf_of s v leaf ≡ (node_at nodes leaf).low
-value_is s v queries leaf t nodes less low st = let k = leaf_known s v queries leaf t nodes less st in let a = k.1 in let e = k.2 in omega (arith, a, e, low)
+    let more : asked s (queries ++ query_of leaf t ∷ []) 0 x y ≡ max (asked s queries 0 x y) t = asked_push s queries (query_of leaf t) 0 x y ∙ ap (λ (b : Bool). max (asked s queries 0 x y) (cond b t 0)) (passes_own s leaf 0) in
+    let yes : nat_lt (v 0 x y) (asked s (queries ++ query_of leaf t ∷ []) 0 x y) ≡ true = grind (arith, nat_tests) in
+    sym (value_is s v (queries ++ query_of leaf t ∷ []) leaf nodes less (ap (λ p. (node_at nodes p).known) (sym (place_leaf s leaf)) ∙ own.known ∙ yes) st)
 
 -- A tree of which nothing is known.
 pub blank_open : (s : Shape) → IsOpen s (blank_tree s)

@@ -3,6 +3,7 @@ pub mod Places
 pub mod Walks
 pub mod Finds
 pub mod Least
+pub mod Finding
 pub mod Asks
 pub mod Heights
 pub mod Answering
@@ -11,3 +12,4 @@ pub mod Ways
 pub mod Speeches
 pub mod Written
 pub mod Laws
+pub mod Closing

@@ -1,7 +1,7 @@
 -- One node: what it tells when it is visited, and what is known of it then.
 use Rattle.std.proofs.Common.{◌≡◌, ℕ, zero, suc, ◌+◌, ◌-◌, ◌<◌, ◌≤◌, min, max, Bool, true, false, cond, List, [], ◌∷◌, ◌++◌, length, drop, replicate, Result, Ok, Err, refl, sym, ap, ◌∙◌, subst, inl, inr, arith, append_assoc, length-append, add-zero}
 use Rattle.std.specs.Prelude.{◌||◌, ◌⊎◌, nat_lt, nat_le}
-use Rattle.std.proofs.lemmas.Bool.{cases_lt}
+use Rattle.std.proofs.lemmas.Bool.{cases_Bool, cases_lt}
 use Rattle.std.proofs.lemmas.Bool.Decides.{nat_tests}
 use Rattle.std.proofs.lemmas.List.{length-replicate, drop-append-le, drop_all, drop-replicate}
 use Rattle.jk_math.specs.Answer.{◌>>=◌}
@@ -9,7 +9,7 @@ use Rattle.jk_math.specs.declared.fault.Fault.{Fault}
 use Rattle.jk_bits.specs.Reading.{Bits, ahead, bit_at}
 use Rattle.jk_tree.specs.TagTree.{word, piece}
 use Rattle.jk_tree.specs.declared.node.Node.{Node}
-use Rattle.jk_tree.specs.Asking.{told_node, climb, visit}
+use Rattle.jk_tree.specs.Asking.{HasTold, climb, visit}
 use Rattle.jk_bits.specs.Giving.{Gives, advance, ahead_on, gives_none, gives_join, gives_bit, bit_ahead}
 
 -- the one that ends a word, where there is one
@@ -149,18 +149,44 @@ or_high : (known b : Bool) → b ≡ true → (known || b) ≡ true
 or_high true b h = refl
 or_high false b h = h
 
--- the piece is empty, and the node stays
-told_kept : (u w a t : ℕ) (r : Bits) → (told_node w a).known ≡ true ⊎ t ≤ min w a → told_node w (max a t) ≡ told_node w a → piece u w a t ≡ [] → visit (told_node w a) (min u t) t r ≡ Ok (told_node w (max a t), advance r (length (piece u w a t)))
-told_kept u w a t r stays same none =
-    let test : ((told_node w a).known || nat_le t (told_node w a).low) ≡ true =
-    elim stays [
-      | inl h ↦ or_known (told_node w a).known (nat_le t (min w a)) h
-      | inr h ↦ or_high (told_node w a).known (nat_le t (min w a)) (grind (arith, nat_tests))
-    ] in
-    visit_kept (told_node w a) (min u t) t r test
-    ∙ ap (λ (n : Node). Ok (n, r)) (sym same)
-    ∙ ap (λ k. Ok (told_node w (max a t), record r { read = k })) (sym (add-zero r.read))
-    ∙ ap (λ (xs : List Bool). Ok (told_node w (max a t), advance r (length xs))) (sym none)
+-- the steps of a climb
+module _ (low threshold : ℕ) (r : Bits) where
+  climb_from : low < threshold → climb low (threshold - low) r ≡ (bit_at r >>= (λ b. cond b.0 (Ok (record { low = low; known = true }, b.1)) (climb (low + 1) (threshold - (low + 1)) b.1)))
+  unfolding climb
+  climb_from less = ap (λ k. climb low k r) (let e : threshold - low ≡ suc (threshold - (low + 1)) = omega (arith, less) in e)
+
+  pub climb_err : (e : Fault) → low < threshold → bit_at r ≡ Err e → climb low (threshold - low) r ≡ Err e
+  climb_err e less h = climb_from less ∙ ap (λ (o : Result (Bool × Bits) Fault). o >>= (λ b. cond b.0 (Ok (record { low = low; known = true }, b.1)) (climb (low + 1) (threshold - (low + 1)) b.1))) h
+
+  pub climb_bit : (bit : Bool) (r' : Bits) → low < threshold → bit_at r ≡ Ok (bit, r') → climb low (threshold - low) r ≡ cond bit (Ok (record { low = low; known = true }, r')) (climb (low + 1) (threshold - (low + 1)) r')
+  climb_bit bit r' less h = climb_from less ∙ ap (λ (o : Result (Bool × Bits) Fault). o >>= (λ b. cond b.0 (Ok (record { low = low; known = true }, b.1)) (climb (low + 1) (threshold - (low + 1)) b.1))) h
+
+  pub climb_done : threshold ≤ low → climb low (threshold - low) r ≡ Ok (record { low = low; known = false }, r)
+  unfolding climb
+  climb_done high = ap (λ k. climb low k r) (let e : threshold - low ≡ 0 = omega (arith, high) in e)
+
+-- the two cases of a visit
+module _ (node : Node) (over threshold : ℕ) (r : Bits) where
+  pub visit_stays : ((node.known ≡ true) ⊎ (threshold ≤ node.low)) → visit node over threshold r ≡ Ok (node, r)
+  visit_stays (inl k) = visit_kept node over threshold r (or_known node.known (nat_le threshold node.low) k)
+  visit_stays (inr high) = visit_kept node over threshold r (or_high node.known (nat_le threshold node.low) (test node.low threshold high))
+    where
+      test : (a b : ℕ) → b ≤ a → nat_le b a ≡ true
+      test a b h = grind (arith, nat_tests)
+
+  pub visit_goes_on : node.known ≡ false → node.low < threshold → visit node over threshold r ≡ climb (max node.low over) (threshold - max node.low over) r
+  visit_goes_on k less = visit_open node over threshold r k less
+
+-- what a node of that value tells by itself after a threshold
+abbrev told_node : (value before : ℕ) → Node
+told_node value before = record { low = min value before; known = nat_lt value before }
+
+pub told_has : (u w m : ℕ) → HasTold u w m (told_node w m)
+told_has u w m = record {
+  known = refl;
+  value = λ k. (let less : w < m = grind (arith, nat_tests) in omega (arith, less));
+  least = λ n. (let more : m ≤ w = grind (arith, nat_tests) in (omega (arith, more), omega (arith, more)));
+}
 
 told_climbed : (u w a t : ℕ) (r : Bits) (rest : List Bool) → u ≤ w → a < t → a ≤ w → ahead r ≡ piece u w a t ++ rest → visit (told_node w a) (min u t) t r ≡ Ok (told_node w (max a t), advance r (length (piece u w a t)))
 unfolding climb
@@ -198,169 +224,271 @@ told_climbed u w a t r rest tree less open_value h =
           ∙ ap (λ n. Ok (told_node w (max a t), advance r n)) (sym (long ∙ ap (λ (b : Bool). zeros + length (ending b)) not_known ∙ add-zero zeros))
     ]
 
+not_less : (a b : ℕ) → b ≤ a → nat_lt a b ≡ false
+not_less a b h = grind (arith, nat_tests)
+
+-- What a visit gives at a node whose piece is ahead.
+pub record VisitTold (u w a t : ℕ) (node : Node) (r : Bits) : Type 0 where
+  pub after : Node
+  pub is : visit node (min u t) t r ≡ Ok (after, advance r (length (piece u w a t)))
+  pub told : HasTold u w (max a t) after
+  pub below : after.low < t → after.low ≡ w
+  pub high : t ≤ after.low → t ≤ w
+
+-- nothing is told, and the node stays
+told_kept : (u w a t : ℕ) (node : Node) (r : Bits) → (node.known ≡ true) ⊎ (t ≤ node.low) → piece u w a t ≡ [] → visit node (min u t) t r ≡ Ok (node, advance r (length (piece u w a t)))
+told_kept u w a t node r stays none =
+    visit_stays node (min u t) t r stays
+    ∙ ap (λ k. Ok (node, record r { read = k })) (sym (add-zero r.read))
+    ∙ ap (λ (xs : List Bool). Ok (node, advance r (length xs))) (sym none)
+
+told_known : (u w a t : ℕ) (node : Node) (r : Bits) → u ≤ w → HasTold u w a node → w < a → VisitTold u w a t node r
+told_known u w a t node r tree h less =
+    let one : nat_lt w a ≡ true = grind (arith, nat_tests) in
+    let later : nat_lt w (max a t) ≡ true = grind (arith, nat_tests) in
+    let is_known : node.known ≡ true = h.known ∙ one in
+    let value : node.low ≡ w = h.value is_known in
+    let none : piece u w a t ≡ [] = elim (cases_lt a t) [ inl more ↦ piece_known u w a t tree less more | inr enough ↦ piece_asked u w a t enough ] in
+    record {
+      after = node;
+      is = told_kept u w a t node r (inl is_known) none;
+      told = record { known = is_known ∙ sym later; value = λ _. value; least = λ n. absurd (let f : true ≡ false = sym is_known ∙ n in cc) };
+      below = λ _. value;
+      high = λ high. omega (arith, high, value);
+    }
+
+told_high : (u w a t : ℕ) (node : Node) (r : Bits) → HasTold u w a node → a ≤ w → node.known ≡ false → t ≤ node.low → VisitTold u w a t node r
+told_high u w a t node r h open_value unknown high =
+    let l = h.least unknown in
+    let low = l.0 in
+    let enough : t ≤ a = omega (arith, high, low) in
+    record {
+      after = node;
+      is = told_kept u w a t node r (inr high) (piece_asked u w a t enough);
+      told = subst (λ m. HasTold u w m node) (let e : a ≡ max a t = omega (arith, enough) in e) h;
+      below = λ less. absurd (omega (arith, less, high));
+      high = λ _. omega (arith, enough, open_value);
+    }
+
+-- the node above told it
+told_over : (u w a t : ℕ) (node : Node) (r : Bits) → HasTold u w a node → a ≤ w → node.known ≡ false → node.low < t → t ≤ a → VisitTold u w a t node r
+told_over u w a t node r h open_value unknown less enough =
+    let l = h.least unknown in
+    let over = l.1 in
+    let from : max node.low (min u t) ≡ t = omega (arith, over, less, enough) in
+    let none : piece u w a t ≡ [] = piece_asked u w a t enough in
+    let not_below : nat_lt w (max a t) ≡ false = grind (arith, nat_tests) in
+    record {
+      after = record { low = t; known = false };
+      is =
+          visit_open node (min u t) t r unknown less
+          ∙ ap (λ n. climb n (t - n) r) from
+          ∙ climb_done t t r (omega arith)
+          ∙ ap (λ k. Ok (record { low = t; known = false }, record r { read = k })) (sym (add-zero r.read))
+          ∙ ap (λ (xs : List Bool). Ok (record { low = t; known = false }, advance r (length xs))) (sym none);
+      told = record { known = sym not_below; value = λ k. absurd (cc); least = λ _. (omega arith, omega (arith, over, less, enough)) };
+      below = λ under. absurd (omega (arith, under));
+      high = λ _. omega (arith, enough, open_value);
+    }
+
+told_open : (u w a t : ℕ) (node : Node) (r : Bits) (rest : List Bool) → u ≤ w → HasTold u w a node → a ≤ w → node.known ≡ false → node.low < t → a < t → ahead r ≡ piece u w a t ++ rest → VisitTold u w a t node r
+told_open u w a t node r rest tree h open_value unknown low less first =
+    let l = h.least unknown in
+    let own = l.0 in
+    let over = l.1 in
+    let not_known : nat_lt w a ≡ false = grind (arith, nat_tests) in
+    let from : max node.low (min u t) ≡ max (min w a) (min u t) = omega (arith, own, over, open_value, less) in
+    record {
+      after = told_node w (max a t);
+      is =
+          visit_open node (min u t) t r unknown low
+          ∙ ap (λ n. climb n (t - n) r) from
+          ∙ sym (visit_open (told_node w a) (min u t) t r not_known (omega (arith, less)))
+          ∙ told_climbed u w a t r rest tree less open_value first;
+      told = told_has u w (max a t);
+      below = λ under. omega (arith, under);
+      high = λ high. omega (arith, high);
+    }
+
 -- A node whose piece is ahead tells it.
-pub visit_told : (u w a t : ℕ) (r : Bits) (rest : List Bool) → u ≤ w → ahead r ≡ piece u w a t ++ rest → visit (told_node w a) (min u t) t r ≡ Ok (told_node w (max a t), advance r (length (piece u w a t)))
-visit_told u w a t r rest tree h =
-    elim (cases_lt a t) [
-      | inr enough ↦
-          let stays : ((told_node w a).known ≡ true) ⊎ (t ≤ min w a) = elim (cases_lt w a) [ inl known ↦ inl (grind (arith, nat_tests)) | inr open_value ↦ inr (omega arith) ] in
-          told_kept u w a t r stays (ap (told_node w) (let e : max a t ≡ a = omega arith in e)) (piece_asked u w a t enough)
-      | inl less ↦ elim (cases_lt w a) [
-        | inl known ↦
-            let one : nat_lt w a ≡ true = grind (arith, nat_tests) in
-            let later : nat_lt w (max a t) ≡ true = grind (arith, nat_tests) in
-            told_kept u w a t r (inl one) (node_same (min w (max a t)) (min w a) (nat_lt w (max a t)) (nat_lt w a) (omega arith) (later ∙ sym one)) (piece_known u w a t tree known less)
-        | inr open_value ↦ told_climbed u w a t r rest tree less open_value h
-      ]
+pub visit_told : (u w a t : ℕ) (node : Node) (r : Bits) (rest : List Bool) → u ≤ w → HasTold u w a node → ahead r ≡ piece u w a t ++ rest → VisitTold u w a t node r
+visit_told u w a t node r rest tree h first =
+    elim (cases_lt w a) [
+      | inl less ↦ told_known u w a t node r tree h less
+      | inr open_value ↦ (let unknown : node.known ≡ false = h.known ∙ not_less w a open_value in
+          elim (cases_lt node.low t) [
+            | inr high ↦ told_high u w a t node r h open_value unknown high
+            | inl low ↦ elim (cases_lt a t) [
+              | inr enough ↦ told_over u w a t node r h open_value unknown low enough
+              | inl less ↦ told_open u w a t node r rest tree h open_value unknown low less first
+            ]
+          ])
     ]
 
--- What is known of a node after it was asked for a threshold.
-pub record IsAsked (node : Node) (before : ℕ) : Type 0 where
+-- What is known of a node after it was asked for a threshold, under nodes of which none is above `over`.
+pub record IsAsked (node : Node) (before over : ℕ) : Type 0 where
   pub closed : node.known ≡ true → node.low < before
-  pub still_open : node.known ≡ false → node.low ≡ before
-
-pub asked_told : (w a : ℕ) → IsAsked (told_node w a) a
-asked_told w a = record {
-  closed = λ h. (let below : w < a = grind (arith, nat_tests) in omega (arith, below));
-  still_open = λ h. (let above_it : a ≤ w = grind (arith, nat_tests) in omega (arith, above_it));
-}
+  pub still_open : node.known ≡ false → (node.low ≤ before) × (before ≤ max node.low over)
 
 -- What a visit gives.
 pub record Visited (u w a t : ℕ) (node : Node) (old new : Bits) : Type 0 where
-  pub was : node ≡ told_node w a
+  pub was : HasTold u w a node
   pub given : Gives old (piece u w a t) new
-
-known_low : (w m low : ℕ) (known : Bool) → ◌≡◌ {A = Node} (record { low = low; known = known }) (told_node w m) → (low ≡ min w m) × (known ≡ nat_lt w m)
-known_low w m low known e = (ap (λ (n : Node). n.low) e, ap (λ (n : Node). n.known) e)
-
-found_kept : (u w a t : ℕ) (node : Node) (r : Bits) → u ≤ w → IsAsked node a → (known : Bool) → node.known ≡ known → (known ≡ true) ⊎ (t ≤ a) → node ≡ told_node w (max a t) → Visited u w a t node r r
-found_kept u w a t node r tree i true k stays e =
-    let low_is : node.low ≡ min w (max a t) = ap (λ (n : Node). n.low) e in
-    let known_is : nat_lt w (max a t) ≡ true = sym (ap (λ (n : Node). n.known) e) ∙ k in
-    let below : w < max a t = grind (arith, nat_tests) in
-    let low_below : node.low < a = i.closed k in
-    let value_below : w < a = omega arith in
-    let one : nat_lt w a ≡ true = grind (arith, nat_tests) in
-    let none : piece u w a t ≡ [] = elim (cases_lt a t) [ inl less ↦ piece_known u w a t tree value_below less | inr enough ↦ piece_asked u w a t enough ] in
-    record {
-      was = e ∙ node_same (min w (max a t)) (min w a) (nat_lt w (max a t)) (nat_lt w a) (omega arith) (known_is ∙ sym one);
-      given = subst (λ (bs : List Bool). Gives r bs r) (sym none) (gives_none r);
-    }
-found_kept u w a t node r tree i false k (inl h) e = absurd (cc)
-found_kept u w a t node r tree i false k (inr enough) e = record {
-  was = e ∙ ap (told_node w) (let m : max a t ≡ a = omega arith in m);
-  given = subst (λ (bs : List Bool). Gives r bs r) (sym (piece_asked u w a t enough)) (gives_none r);
-}
-
-found_climbed : (u w a t : ℕ) (node : Node) (r : Bits) (out : Node × Bits) → u ≤ w → IsAsked node a → node.known ≡ false → a < t → Climbed (max node.low (min u t)) (t - max node.low (min u t)) out.0 r out.1 → out.0 ≡ told_node w (max a t) → Visited u w a t node r out.1
-found_climbed u w a t node r out tree i k less c e =
-    let low_a : node.low ≡ a = i.still_open k in
-    let low_is : out.0.low ≡ min w (max a t) = ap (λ (n : Node). n.low) e in
-    let top_is : max a t ≡ t = omega arith in
-    let known_is : out.0.known ≡ nat_lt w t = ap (λ (n : Node). n.known) e ∙ ap (nat_lt w) top_is in
-    let climbed : out.0.low ≡ max node.low (min u t) + c.zeros = c.low_is in
-    let open_value : a ≤ w = omega arith in
-    let unknown : nat_lt w a ≡ false = grind (arith, nat_tests) in
-    let zeros_are : c.zeros ≡ min w t - max a (min u t) = omega arith in
-    record {
-      was = node_same node.low (min w a) node.known (nat_lt w a) (omega arith) (k ∙ sym unknown);
-      given = subst (λ (bs : List Bool). Gives r bs out.1)
-          (ap (λ n. replicate n false ++ ending out.0.known) zeros_are
-          ∙ ap (λ (b : Bool). replicate (min w t - max a (min u t)) false ++ ending b) known_is
-          ∙ sym (piece-form u w a t tree less open_value)) c.given;
-    }
 
 -- the outcome of a visit: the node stays, or is climbed
 visit_kept_is : (node : Node) (over threshold : ℕ) (r : Bits) (out : Node × Bits) → (node.known ≡ true) ⊎ (threshold ≤ node.low) → visit node over threshold r ≡ Ok out → (out.0 ≡ node) × (out.1 ≡ r)
 visit_kept_is node over threshold r out stays h =
-    let test : (node.known || nat_le threshold node.low) ≡ true =
-    elim stays [
-      | inl k ↦ or_known node.known (nat_le threshold node.low) k
-      | inr high ↦ or_high node.known (nat_le threshold node.low) (grind (arith, nat_tests))
-    ] in
-    let same : Ok out ≡ Ok (node, r) = sym h ∙ visit_kept node over threshold r test in
+    let same : Ok out ≡ Ok (node, r) = sym h ∙ visit_stays node over threshold r stays in
     (ap (λ (p : Node × Bits). p.0) (let e : out ≡ (node, r) = cc in e), ap (λ (p : Node × Bits). p.1) (let e : out ≡ (node, r) = cc in e))
 
 visit_climbs : (node : Node) (over threshold : ℕ) (r : Bits) (out : Node × Bits) → node.known ≡ false → node.low < threshold → visit node over threshold r ≡ Ok out
     → Climbed (max node.low over) (threshold - max node.low over) out.0 r out.1
 visit_climbs node over threshold r out k less h = climb_out (max node.low over) (threshold - max node.low over) r out (sym (visit_open node over threshold r k less) ∙ h)
 
--- What was told before a visit, and in it, is that of any value that fits afterwards.
-pub visit_found : (u w a t : ℕ) (node : Node) (r : Bits) (out : Node × Bits) → u ≤ w → IsAsked node a → visit node (min u t) t r ≡ Ok out → out.0 ≡ told_node w (max a t) → Visited u w a t node r out.1
-visit_found u w a t node r out tree i h e = found_cases node.known refl (cases_lt node.low t)
-  where
-    kept : (known : Bool) → node.known ≡ known → (known ≡ true) ⊎ (t ≤ node.low) → (known ≡ true) ⊎ (t ≤ a) → Visited u w a t node r out.1
-    kept known k stays enough =
-        let s = visit_kept_is node (min u t) t r out (elim stays [ inl y ↦ inl (k ∙ y) | inr y ↦ inr y ]) h in
-        subst (λ (b : Bits). Visited u w a t node r b) (sym s.1) (found_kept u w a t node r tree i known k enough (sym s.0 ∙ e))
+found_known : (u w a t : ℕ) (node : Node) (r : Bits) → u ≤ w → IsAsked node a u → node.known ≡ true → HasTold u w (max a t) node → Visited u w a t node r r
+found_known u w a t node r tree i k now =
+    let value : node.low ≡ w = now.value k in
+    let low_below : node.low < a = i.closed k in
+    let below : w < a = omega (arith, value, low_below) in
+    let one : nat_lt w a ≡ true = grind (arith, nat_tests) in
+    let none : piece u w a t ≡ [] = elim (cases_lt a t) [ inl less ↦ piece_known u w a t tree below less | inr enough ↦ piece_asked u w a t enough ] in
+    record {
+      was = record { known = k ∙ sym one; value = λ _. value; least = λ n. absurd (let f : true ≡ false = sym k ∙ n in cc) };
+      given = subst (λ (bs : List Bool). Gives r bs r) (sym none) (gives_none r);
+    }
 
-    found_cases : (known : Bool) → node.known ≡ known → (node.low < t) ⊎ (t ≤ node.low) → Visited u w a t node r out.1
-    found_cases true k order = kept true k (inl refl) (inl refl)
-    found_cases false k (inr high) = kept false k (inr high) (inr (let low_a = i.still_open k in omega (arith, low_a, high)))
-    found_cases false k (inl less) = found_climbed u w a t node r out tree i k (let low_a = i.still_open k in omega (arith, low_a, less)) (visit_climbs node (min u t) t r out k less h) e
+found_high : (u w a t : ℕ) (node : Node) (r : Bits) → t ≤ a → HasTold u w (max a t) node → Visited u w a t node r r
+found_high u w a t node r enough now = record {
+  was = subst (λ m. HasTold u w m node) (let e : max a t ≡ a = omega (arith, enough) in e) now;
+  given = subst (λ (bs : List Bool). Gives r bs r) (sym (piece_asked u w a t enough)) (gives_none r);
+}
+
+-- the node above told it
+found_over : (u w a t : ℕ) (node : Node) (r : Bits) (out : Node × Bits) → IsAsked node a u → node.known ≡ false → node.low < t → t ≤ a
+    → Climbed (max node.low (min u t)) (t - max node.low (min u t)) out.0 r out.1 → HasTold u w (max a t) out.0 → Visited u w a t node r out.1
+found_over u w a t node r out i unknown less enough c now =
+    let s = i.still_open unknown in
+    let over = s.1 in
+    let from : max node.low (min u t) ≡ t = omega (arith, over, less, enough) in
+    let still : out.0.known ≡ false = elim (cases_Bool out.0.known) [ inl k ↦ absurd (let p = c.part k in omega (arith, p, from)) | inr n ↦ n ] in
+    let none : c.zeros ≡ 0 = (let e = c.whole still in omega (arith, e, from)) in
+    let top_is : max a t ≡ a = omega (arith, enough) in
+    record {
+      was = record {
+        known = unknown ∙ sym still ∙ now.known ∙ ap (nat_lt w) top_is;
+        value = λ k. absurd (let f : true ≡ false = sym k ∙ unknown in cc);
+        least = λ _. s;
+      };
+      given = subst (λ (bs : List Bool). Gives r bs out.1)
+          (ap (λ n. replicate n false ++ ending out.0.known) none ∙ ap ending still ∙ sym (piece_asked u w a t enough)) c.given;
+    }
+
+found_climbed : (u w a t : ℕ) (node : Node) (r : Bits) (out : Node × Bits) → u ≤ w → IsAsked node a u → node.known ≡ false → node.low < t → a < t
+    → Climbed (max node.low (min u t)) (t - max node.low (min u t)) out.0 r out.1 → HasTold u w (max a t) out.0 → Visited u w a t node r out.1
+found_climbed u w a t node r out tree i unknown low less c now =
+    let s = i.still_open unknown in
+    let own = s.0 in
+    let over = s.1 in
+    let from : max node.low (min u t) ≡ max a (min u t) = omega (arith, own, over, less) in
+    let climbed : out.0.low ≡ max node.low (min u t) + c.zeros = c.low_is in
+    let top_is : max a t ≡ t = omega (arith, less) in
+    let known_is : out.0.known ≡ nat_lt w t = now.known ∙ ap (nat_lt w) top_is in
+    let both : (a ≤ w) × (c.zeros ≡ min w t - max a (min u t)) = elim (cases_lt w t) [
+      | inl below ↦
+          let one : nat_lt w t ≡ true = grind (arith, nat_tests) in
+          let value = now.value (known_is ∙ one) in
+          (omega (arith, value, climbed, from), omega (arith, value, climbed, from, below))
+      | inr high ↦
+          let none : nat_lt w t ≡ false = grind (arith, nat_tests) in
+          let whole = c.whole (known_is ∙ none) in
+          (omega (arith, high, less), omega (arith, whole, from, high, low))
+    ] in
+    let open_value = both.0 in
+    let not_below : nat_lt w a ≡ false = grind (arith, nat_tests) in
+    record {
+      was = record {
+        known = unknown ∙ sym not_below;
+        value = λ k. absurd (let f : true ≡ false = sym k ∙ unknown in cc);
+        least = λ _. s;
+      };
+      given = subst (λ (bs : List Bool). Gives r bs out.1)
+          (ap (λ n. replicate n false ++ ending out.0.known) both.1
+          ∙ ap (λ (b : Bool). replicate (min w t - max a (min u t)) false ++ ending b) known_is
+          ∙ sym (piece-form u w a t tree less open_value)) c.given;
+    }
+
+-- What was told before a visit, and in it, is that of any value that fits afterwards.
+pub visit_found : (u w a t : ℕ) (node : Node) (r : Bits) (out : Node × Bits) → u ≤ w → IsAsked node a u → visit node (min u t) t r ≡ Ok out → HasTold u w (max a t) out.0 → Visited u w a t node r out.1
+visit_found u w a t node r out tree i h now = by_known (cases_Bool node.known) (cases_lt node.low t)
+  where
+    by_known : (node.known ≡ true) ⊎ (node.known ≡ false) → (node.low < t) ⊎ (t ≤ node.low) → Visited u w a t node r out.1
+    by_known (inl k) order =
+        let s = visit_kept_is node (min u t) t r out (inl k) h in
+        subst (λ (b : Bits). Visited u w a t node r b) (sym s.1) (found_known u w a t node r tree i k (subst (λ (n : Node). HasTold u w (max a t) n) s.0 now))
+    by_known (inr n) (inr high) =
+        let s = visit_kept_is node (min u t) t r out (inr high) h in
+        let low = (i.still_open n).0 in
+        subst (λ (b : Bits). Visited u w a t node r b) (sym s.1) (found_high u w a t node r (omega (arith, high, low)) (subst (λ (n : Node). HasTold u w (max a t) n) s.0 now))
+    by_known (inr n) (inl less) =
+        let c = visit_climbs node (min u t) t r out n less h in
+        elim (cases_lt a t) [
+          | inl more ↦ found_climbed u w a t node r out tree i n less more c now
+          | inr enough ↦ found_over u w a t node r out i n less enough c now
+        ]
 
 -- What is known after a visit.
 pub record Knows (over a t : ℕ) (node out : Node) : Type 0 where
-  pub is_asked : IsAsked out (max a t)
+  pub closed : out.known ≡ true → out.low < max a t
+  pub still_open : out.known ≡ false → (out.low ≤ max a t) × (t ≤ out.low)
   pub keeps : node.known ≡ true → out ≡ node
+  pub lows : node.low ≤ out.low
   pub grows : node.known ≡ false → out.known ≡ true → (over ≤ out.low) × (out.low < t)
 
-pub visit_knows : (over a t : ℕ) (node : Node) (r : Bits) (out : Node × Bits) → over ≤ t → IsAsked node a → visit node over t r ≡ Ok out → Knows over a t node out.0
-visit_knows over a t node r out within i h = knows_cases node.known refl (cases_lt node.low t)
+pub visit_knows : (over a t bound : ℕ) (node : Node) (r : Bits) (out : Node × Bits) → over ≤ t → IsAsked node a bound → visit node over t r ≡ Ok out → Knows over a t node out.0
+visit_knows over a t bound node r out within i h = by_known (cases_Bool node.known) (cases_lt node.low t)
   where
-    knows_cases : (known : Bool) → node.known ≡ known → (node.low < t) ⊎ (t ≤ node.low) → Knows over a t node out.0
-    knows_cases true k order =
+    by_known : (node.known ≡ true) ⊎ (node.known ≡ false) → (node.low < t) ⊎ (t ≤ node.low) → Knows over a t node out.0
+    by_known (inl k) order =
         let s = visit_kept_is node over t r out (inl k) h in
         subst (λ (n : Node). Knows over a t node n) (sym s.0) record {
-          is_asked = record { closed = λ y. (let low_below = i.closed k in omega (arith, low_below)); still_open = λ n. absurd (let f : true ≡ false = sym k ∙ n in cc) };
+          closed = λ _. (let low_below = i.closed k in omega (arith, low_below));
+          still_open = λ n. absurd (let f : true ≡ false = sym k ∙ n in cc);
           keeps = λ _. refl;
-          grows = λ n y. absurd (let f : true ≡ false = sym k ∙ n in cc);
+          lows = omega arith;
+          grows = λ n _. absurd (let f : true ≡ false = sym k ∙ n in cc);
         }
-    knows_cases false k (inr high) =
+    by_known (inr n) (inr high) =
         let s = visit_kept_is node over t r out (inr high) h in
-        let low_a = i.still_open k in
-        subst (λ (n : Node). Knows over a t node n) (sym s.0) record {
-          is_asked = record { closed = λ y. absurd (let f : false ≡ true = sym k ∙ y in cc); still_open = λ n. omega (arith, low_a, high) };
-          keeps = λ _. refl;
-          grows = λ n y. absurd (let f : false ≡ true = sym k ∙ y in cc);
+        let low = (i.still_open n).0 in
+        subst (λ (m : Node). Knows over a t node m) (sym s.0) record {
+          closed = λ k. absurd (let f : true ≡ false = sym k ∙ n in cc);
+          still_open = λ _. (omega (arith, low), high);
+          keeps = λ k. absurd (let f : true ≡ false = sym k ∙ n in cc);
+          lows = omega arith;
+          grows = λ _ k. absurd (let f : true ≡ false = sym k ∙ n in cc);
         }
-    knows_cases false k (inl less) =
-        let c = visit_climbs node over t r out k less h in
-        let low_a = i.still_open k in
+    by_known (inr n) (inl less) =
+        let c = visit_climbs node over t r out n less h in
         let climbed : out.0.low ≡ max node.low over + c.zeros = c.low_is in
         record {
-          is_asked = record {
-            closed = λ y. (let p = c.part y in omega (arith, p, climbed));
-            still_open = λ n. (let p = c.whole n in omega (arith, p, climbed, low_a, less, within));
-          };
-          keeps = λ y. absurd (let f : true ≡ false = sym y ∙ k in cc);
-          grows = λ n y. (omega (arith, climbed), (let p = c.part y in omega (arith, p, climbed)));
+          closed = λ k. (let p = c.part k in omega (arith, p, climbed));
+          still_open = λ u. (let p = c.whole u in (omega (arith, p, climbed, less, within), omega (arith, p, climbed, less, within)));
+          keeps = λ k. absurd (let f : true ≡ false = sym k ∙ n in cc);
+          lows = omega (arith, climbed);
+          grows = λ _ k. (omega (arith, climbed), (let p = c.part k in omega (arith, p, climbed)));
         }
 
--- the steps of a climb
-module _ (low threshold : ℕ) (r : Bits) where
-  climb_from : low < threshold → climb low (threshold - low) r ≡ (bit_at r >>= (λ b. cond b.0 (Ok (record { low = low; known = true }, b.1)) (climb (low + 1) (threshold - (low + 1)) b.1)))
-  unfolding climb
-  climb_from less = ap (λ k. climb low k r) (let e : threshold - low ≡ suc (threshold - (low + 1)) = omega (arith, less) in e)
+-- A visit that leaves a node below the threshold knows it.
+pub below_known : (over a t : ℕ) (node out : Node) → Knows over a t node out → out.low < t → out.known ≡ true
+below_known over a t node out k less = elim (cases_Bool out.known) [ inl is ↦ is | inr n ↦ absurd (let high = (k.still_open n).1 in omega (arith, high, less)) ]
 
-  pub climb_err : (e : Fault) → low < threshold → bit_at r ≡ Err e → climb low (threshold - low) r ≡ Err e
-  climb_err e less h = climb_from less ∙ ap (λ (o : Result (Bool × Bits) Fault). o >>= (λ b. cond b.0 (Ok (record { low = low; known = true }, b.1)) (climb (low + 1) (threshold - (low + 1)) b.1))) h
-
-  pub climb_bit : (bit : Bool) (r' : Bits) → low < threshold → bit_at r ≡ Ok (bit, r') → climb low (threshold - low) r ≡ cond bit (Ok (record { low = low; known = true }, r')) (climb (low + 1) (threshold - (low + 1)) r')
-  climb_bit bit r' less h = climb_from less ∙ ap (λ (o : Result (Bool × Bits) Fault). o >>= (λ b. cond b.0 (Ok (record { low = low; known = true }, b.1)) (climb (low + 1) (threshold - (low + 1)) b.1))) h
-
-  pub climb_done : threshold ≤ low → climb low (threshold - low) r ≡ Ok (record { low = low; known = false }, r)
-  unfolding climb
-  climb_done high = ap (λ k. climb low k r) (let e : threshold - low ≡ 0 = omega (arith, high) in e)
-
--- the two cases of a visit
-module _ (node : Node) (over threshold : ℕ) (r : Bits) where
-  pub visit_stays : ((node.known ≡ true) ⊎ (threshold ≤ node.low)) → visit node over threshold r ≡ Ok (node, r)
-  visit_stays (inl k) = visit_kept node over threshold r (or_known node.known (nat_le threshold node.low) k)
-  visit_stays (inr high) = visit_kept node over threshold r (or_high node.known (nat_le threshold node.low) (test node.low threshold high))
-    where
-      test : (a b : ℕ) → b ≤ a → nat_le b a ≡ true
-      test a b h = grind (arith, nat_tests)
-
-  pub visit_goes_on : node.known ≡ false → node.low < threshold → visit node over threshold r ≡ climb (max node.low over) (threshold - max node.low over) r
-  visit_goes_on k less = visit_open node over threshold r k less
+pub visit_known : (node : Node) (over t : ℕ) (r : Bits) (out : Node × Bits) → visit node over t r ≡ Ok out → out.0.low < t → out.0.known ≡ true
+visit_known node over t r out h under = by_known (cases_Bool node.known) (cases_lt node.low t)
+  where
+    by_known : (node.known ≡ true) ⊎ (node.known ≡ false) → (node.low < t) ⊎ (t ≤ node.low) → out.0.known ≡ true
+    by_known (inl k) order = ap (λ (z : Node). z.known) (visit_kept_is node over t r out (inl k) h).0 ∙ k
+    by_known (inr n) (inr high) = absurd (let e = ap (λ (z : Node). z.low) (visit_kept_is node over t r out (inr high) h).0 in omega (arith, e, high, under))
+    by_known (inr n) (inl less) =
+        let c = visit_climbs node over t r out n less h in
+        let climbed : out.0.low ≡ max node.low over + c.zeros = c.low_is in
+        elim (cases_Bool out.0.known) [ inl is ↦ is | inr not_known ↦ absurd (let p = c.whole not_known in omega (arith, p, climbed, under)) ]

@@ -1,7 +1,7 @@
 -- The tag tree of T.800 B.10.2: six leaves across, three down.
 use Rattle.std.specs.Prelude.{◌≡◌, ℕ, zero, suc, true, false, List, [], ◌∷◌, slice_index, ◌*◌, ◌+◌, refl}
-use Rattle.jk_tree.specs.TagTree.{Shape, shape_of, wide, level_from, top, start, place, count, Values}
-use Rattle.jk_tree.specs.TagTree.{Query, query_of, asked, told_below, told}
+use Rattle.jk_tree.specs.TagTree.{Shape, shape_of, wide, level_from, top, start, count, Values}
+use Rattle.jk_tree.specs.TagTree.{query_of, asked, told_below, told}
 
 shape : Shape
 shape = shape_of 6 3

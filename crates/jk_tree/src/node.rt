@@ -1,6 +1,6 @@
 //! What is known of a node of a tag tree.
 
-ghost use Rattle.std.specs.Prelude.{◌≡◌, ◌&&◌, false, nat_lt, replicate, MatchResult};
+ghost use Rattle.std.specs.Prelude.{◌≡◌, false, replicate, MatchResult};
 ghost use Rattle.jk_math.specs.Memory.{IsMemory};
 
 use jk_math::Fault;
@@ -11,13 +11,6 @@ use std::alloc::Global;
 pub(crate) struct Node {
     pub(crate) low: u16,
     pub(crate) known: bool,
-}
-
-/// Whether the node is known to be below `threshold`.
-pub(crate) fn is_below(node: Node, threshold: u16) -> bool
-    ensures { result ≡ (node.known && nat_lt node.low threshold) }
-{
-    node.known && node.low < threshold
 }
 
 /// Nodes of which nothing is known.

@@ -1,17 +1,18 @@
 //! Tag trees that are read (T.800 B.10.2).
 
-ghost use Rattle.std.specs.Prelude.{◌≡◌, ℕ, ◌+◌, ◌-◌, ◌*◌, ◌<◌, ◌≤◌, min, ◌++◌, [], ◌∷◌, List, Bool, length, Ok, Err};
+ghost use Rattle.std.specs.Prelude.{◌≡◌, ℕ, ◌+◌, ◌-◌, ◌*◌, ◌<◌, ◌≤◌, min, ◌++◌, [], ◌∷◌, List, Bool, false, true, length, Ok, Err};
 ghost use Rattle.std.specs.Prelude.{None, Some, IfOk, IfErr, OnErr, IfSome, IsOkAnd, MatchResult};
 ghost use Rattle.jk_math.specs.Answer.{Reads};
 ghost use Rattle.jk_math.specs.Memory.{IsMemory};
-ghost use Rattle.jk_bits.specs.Reading.{ahead};
+ghost use Rattle.jk_bits.specs.Reading.{Bits, ahead};
 ghost use Rattle.jk_bits.specs.Giving.{Stops};
 ghost use Rattle.jk_tree.specs.TagTree.{shape_of, query_of, Values, IsTree, Query, count, top, told};
 ghost use Rattle.jk_tree.specs.Asking.{IsAnswer, AreToldBySome, AreTold, ask_at, blank_tree, climb, node_at, visit};
-ghost use Rattle.jk_tree.specs.Asking.{walk};
+ghost use Rattle.jk_tree.specs.Asking.{walk, IsKnown};
 
+use crate::closed::closed_run;
 use crate::levels::{Levels, node_count, node_over, root_level};
-use crate::node::{Node, blank_nodes, is_below};
+use crate::node::{Node, blank_nodes};
 use jk_bits::BitReader;
 use jk_math::Fault;
 use std::alloc::Global;
@@ -72,25 +73,27 @@ fn visit(node: Node, over: u16, threshold: u16, reader: &mut BitReader<'_>) -> R
     climb(node.low.max(over), threshold, reader)
 }
 
-/// The nodes over a leaf, from the root down.
+/// The nodes over a leaf, from the root down, as far as they are below the threshold: whether all are.
 fn walk(
     nodes: &mut Vec<Node>,
     levels: Levels,
     leaf: u32,
     threshold: u16,
     reader: &mut BitReader<'_>,
-) -> Result<(), Fault>
+) -> Result<bool, Fault>
     requires leaf { leaf < levels.width * levels.height }
     requires root { levels.root ≡ top (shape_of levels.width levels.height) }
     requires small { levels.root ≤ 16 }
     requires long { length nodes.old.items ≡ count (shape_of levels.width levels.height) }
     ensures exact { MatchResult result
-        (λ _. walk (shape_of levels.width levels.height) (query_of leaf threshold)
+        (λ b. walk (shape_of levels.width levels.height) (query_of leaf threshold)
         (levels.root + 1) 0 nodes.old.items reader.old
-        ≡ Ok (nodes.new.items, reader.new))
+        ≡ Ok (b, (nodes.new.items, reader.new)))
         (λ e. walk (shape_of levels.width levels.height) (query_of leaf threshold)
         (levels.root + 1) 0 nodes.old.items reader.old ≡ Err e) }
     ensures kept { length nodes.new.items ≡ length nodes.old.items }
+    ensures still { (p : ℕ) → (node_at nodes.old.items p).known ≡ true
+        → node_at nodes.new.items p ≡ node_at nodes.old.items p }
     ensures stops { OnErr result (Stops reader.old reader.new) }
 {
     let column = leaf % levels.width as u32;
@@ -104,9 +107,12 @@ fn walk(
         start = from;
         let node = visit(nodes[place], over, threshold, reader)?;
         nodes[place] = node;
-        over = node.low.min(threshold);
+        if node.low >= threshold {
+            return Ok(false);
+        }
+        over = node.low;
     }
-    Ok(())
+    Ok(true)
 }
 
 impl ReadTree {
@@ -132,7 +138,7 @@ impl ReadTree {
     }
 
     /// What is known of the value of a leaf: the value itself, where an answer was that it is below
-    /// the threshold, and otherwise the greatest threshold asked.
+    /// the threshold, and otherwise no more than the greatest threshold asked.
     pub fn low(&self, leaf: u32) -> u16
         requires { leaf < self.now.shape.width * self.now.shape.height }
         ensures { result ≡ (node_at self.now.nodes leaf).low }
@@ -154,6 +160,12 @@ impl ReadTree {
             (self.old, reader.old) (self.new, reader.new) result }
         ensures kept { self.new.shape ≡ self.old.shape }
         ensures failed { IfErr result (λ e. self.new.failed ≡ Some e) }
+
+        // A leaf below the threshold is known with all nodes over it, and what is known stays so.
+        ensures below { IfOk result (λ b. b ≡ true → IsKnown self.new.shape self.new.nodes leaf
+            × ((node_at self.new.nodes leaf).low < threshold)) }
+        ensures still { (j : ℕ) → IsKnown self.old.shape self.old.nodes j
+            → IsKnown self.new.shape self.new.nodes j }
 
         // With the tree's first fault the reader fails too, some bits on. What has failed stays as
         // it is.
@@ -181,11 +193,42 @@ impl ReadTree {
             return Err(fault);
         }
         match walk(&mut self.nodes, self.levels, leaf, threshold, reader) {
-            Ok(()) => Ok(is_below(self.nodes[leaf as usize], threshold)),
+            Ok(below) => Ok(below),
             Err(fault) => {
                 self.failed = Some(fault);
                 Err(fault)
             }
         }
+    }
+
+    /// The first leaf from `from` on, in raster order, about which a query at this threshold may
+    /// read a bit, or the number of leaves; a little before it where that is quicker to tell.
+    ///
+    /// Whole squares of leaves are passed over under a node that isn't below the threshold.
+    pub fn next_open(&self, from: u32, threshold: u16) -> u32
+        requires { from ≤ self.now.shape.width * self.now.shape.height }
+        ensures from { from ≤ result }
+        ensures within { result ≤ self.now.shape.width * self.now.shape.height }
+        ensures silent { (leaf : ℕ) → from ≤ leaf → leaf < result → (bits : Bits)
+            → ask_at (query_of leaf threshold) (self.now, bits) ≡ Ok (false, (self.now, bits)) }
+        ensures unknown { (leaf : ℕ) → from ≤ leaf → leaf < result
+            → IsKnown self.now.shape self.now.nodes leaf → ⊥ }
+    {
+        let width = self.levels.width as u32;
+        let height = self.levels.height as u32;
+        if self.failed.is_some() || from >= width * height {
+            return from;
+        }
+        let mut row = from / width;
+        let mut column = from % width;
+        while row < height {
+            let run = closed_run(&self.nodes, self.levels, column, row, threshold);
+            if run.end < width {
+                return row * width + run.end;
+            }
+            row = if column == 0 { run.below } else { row + 1 };
+            column = 0;
+        }
+        width * height
     }
 }

@@ -1,6 +1,5 @@
-use Rattle.std.proofs.Common.{◌+◌, sym, ap, ◌∙◌, Ok, arith}
+use Rattle.std.proofs.Common.{sym, ap, ◌∙◌, Ok, arith}
 use Rattle.std.proofs.lemmas.Result.{err_from_is_err_and}
-use Rattle.jk_tree.proofs.Laws.{low_below}
 use Rattle.jk_packet.proofs.ReadLaws.{zeros_known, zeros_err, zeros_none, zeros_ok}
 use Rattle.jk_packet.proofs.block.read_zero_planes.Goals as goal
 
@@ -18,7 +17,7 @@ returns-then-not-known-clause-exact c =
 
 pub overflow_cast-result : goal.overflow_cast-result
 overflow_cast-result c =
-    let below = low_below record { leaf = c.args.leaf; threshold = c.args.planes + 1 } c.args.tree.now c.args.reader.now (c.in_ok-known.known, (c.ask.new.self, c.ask.new.reader)) c.in_ok-known.ensures.exact c.if-not-known.false in
+    let below = (c.in_ok-known.ensures.below c.if-not-known.false).1 in
     let is = c.low.ensures in
     let range = c.ranges.planes in
     omega (arith, below, is, range)

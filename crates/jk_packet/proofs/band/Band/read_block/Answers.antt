@@ -1,9 +1,9 @@
-use Rattle.std.proofs.Common.{◌≡◌, ℕ, ◌*◌, ◌<◌, List, ◌∷◌, [], ◌++◌, length, get_or, set, refl, Ok, Err, sym, ap, ◌∙◌, subst, arith}
+use Rattle.std.proofs.Common.{◌≡◌, ℕ, ◌*◌, ◌<◌, false, List, ◌∷◌, [], ◌++◌, length, get_or, set, refl, Ok, Err, sym, ap, ◌∙◌, subst, arith}
 use Rattle.std.proofs.lemmas.Result.{err_from_is_err_and}
-use Rattle.std.proofs.lemmas.List.{get_or_read}
+use Rattle.std.proofs.lemmas.List.{get_or_read, length-set}
 use Rattle.jk_math.specs.Steps.{refuses_due}
 use Rattle.jk_bits.specs.Reading.{Bits}
-use Rattle.jk_tree.specs.Asking.{Tree}
+use Rattle.jk_tree.specs.Asking.{Tree, IsKnown}
 use Rattle.jk_tree.specs.TagTree.{shape_of}
 use Rattle.jk_packet.specs.declared.shape.BandShape.{BandShape}
 use Rattle.jk_packet.specs.declared.block.Block.{Block}
@@ -11,6 +11,7 @@ use Rattle.jk_packet.specs.declared.header.BlockContribution.{BlockContribution}
 use Rattle.jk_packet.specs.Words.{most_passes}
 use Rattle.jk_packet.specs.Reading.{BandState, BandWalk, block_in, grown, part_of, included_at, zero_planes_at, piece_at, with_inclusion, block_at}
 use Rattle.jk_packet.proofs.BandLaws.{block_err, block_left, block_taken, taken_zeros_err, taken_piece_err, taken_ok}
+use Rattle.jk_packet.proofs.KnownLaws.{AreKnown, known_still, known_set, known_read}
 use Rattle.jk_packet.proofs.band.Band.read_block.Goals as goal
 
 abbrev walk_at : BandShape → List Block → Tree → Tree → Bits → List BlockContribution → BandWalk
@@ -101,3 +102,41 @@ returns-clause-exact c =
       bits = c.read_piece.new.reader;
       parts = ps;
     })) (sym c.in_ok-push.ensures.items)
+
+-- the blocks after one was read are known as far as packets have something of them
+known_after : (shape : BandShape) (items : List Block) (old new : Tree) (i : ℕ) (x b : Block) → length items ≡ shape.across * shape.down → old.shape ≡ shape_of shape.across shape.down → new.shape ≡ old.shape
+    → AreKnown (shape_of shape.across shape.down) old.nodes (shape.across * shape.down) items → i < shape.across * shape.down → x ≡ block_in items i
+    → ((j : ℕ) → IsKnown old.shape old.nodes j → IsKnown new.shape new.nodes j) → (x.included ≡ false → IsKnown new.shape new.nodes i)
+    → AreKnown (shape_of shape.across shape.down) new.nodes (shape.across * shape.down) (set items i b)
+known_after shape items old new i x b long was kept known less e still first =
+    let s = shape_of shape.across shape.down in
+    let n = shape.across * shape.down in
+    known_set s new.nodes n i items b (omega (arith, less, long)) (known_still s old new n items was (kept ∙ was) still known) (known_read s old new n i items x was (kept ∙ was) still known less e first)
+
+pub invariant_of-self-in_err-push : goal.invariant_of-self-in_err-push
+invariant_of-self-in_err-push c =
+    let s = c.self.inside in
+    let inv = c.self.invariant in
+    let less : c.args.index < s.shape.across * s.shape.down = subst (λ (b : BandState). c.args.index < b.shape.width * b.shape.height) (sym c.self.view_is) c.requires.index in
+    let w = walk_at s.shape s.blocks.items s.inclusion s.zeros c.args.reader.now c.args.parts.now.items in
+    let block : c.index-block.result.now ≡ block_in s.blocks.items c.args.index = block_is w.band s.blocks.items c.args.index (s.shape.across * s.shape.down) c.index-block.result.now refl less inv.0 c.index-block.ensures in (
+      length-set s.blocks.items c.args.index _ ∙ inv.0,
+      c.read_inclusion.ensures.kept ∙ inv.1,
+      c.read_zero_planes.ensures.kept ∙ inv.2,
+      known_after s.shape s.blocks.items s.inclusion c.read_inclusion.new.tree c.args.index c.index-block.result.now _ inv.0 inv.1 c.read_inclusion.ensures.kept inv.3 less block c.read_inclusion.ensures.still
+          (λ no_included. c.in_ok-included.ensures.known c.if-not-included.false no_included),
+    )
+
+pub invariant_of-self-2 : goal.invariant_of-self-2
+invariant_of-self-2 c =
+    let s = c.self.inside in
+    let inv = c.self.invariant in
+    let less : c.args.index < s.shape.across * s.shape.down = subst (λ (b : BandState). c.args.index < b.shape.width * b.shape.height) (sym c.self.view_is) c.requires.index in
+    let w = walk_at s.shape s.blocks.items s.inclusion s.zeros c.args.reader.now c.args.parts.now.items in
+    let block : c.index-block.result.now ≡ block_in s.blocks.items c.args.index = block_is w.band s.blocks.items c.args.index (s.shape.across * s.shape.down) c.index-block.result.now refl less inv.0 c.index-block.ensures in (
+      length-set s.blocks.items c.args.index _ ∙ inv.0,
+      c.read_inclusion.ensures.kept ∙ inv.1,
+      c.read_zero_planes.ensures.kept ∙ inv.2,
+      known_after s.shape s.blocks.items s.inclusion c.read_inclusion.new.tree c.args.index c.index-block.result.now _ inv.0 inv.1 c.read_inclusion.ensures.kept inv.3 less block c.read_inclusion.ensures.still
+          (λ no_included. c.in_ok-included.ensures.known c.if-not-included.false no_included),
+    )

@@ -1,13 +1,12 @@
-use Rattle.std.proofs.Common.{◌≡◌, ◌+◌, ◌*◌, ◌<◌, ◌&&◌, Bool, length, Ok, Err, refl, sym, ap, ◌∙◌, subst, arith}
-use Rattle.std.specs.Prelude.{nat_lt}
-use Rattle.std.proofs.lemmas.List.{get_or_read}
-use Rattle.jk_tree.specs.TagTree.{Query, top, count}
+use Rattle.std.proofs.Common.{◌≡◌, ℕ, ◌+◌, ◌*◌, ◌<◌, true, List, length, Ok, Err, refl, sym, ap, ◌∙◌, subst, arith}
+use Rattle.jk_tree.specs.TagTree.{Shape, Query, place, column, row, top, count}
 use Rattle.jk_tree.specs.declared.node.Node.{Node}
-use Rattle.jk_tree.specs.Asking.{node_at, Tree, AreToldBySome, walk, is_below, ask_at, IsAnswer}
-use Rattle.jk_tree.proofs.Places.{leaf_counted}
+use Rattle.jk_tree.specs.Asking.{node_at, Tree, AreToldBySome, walk, ask_at, IsAnswer, IsKnown}
+use Rattle.jk_tree.proofs.Places.{place_leaf}
+use Rattle.jk_tree.proofs.Finds.{walk_through}
 use Rattle.jk_tree.proofs.Answering.{ask_at-some, ask_at-ok, ask_at-err, only_law, found_law, answer_same}
 use Rattle.jk_tree.proofs.read.ReadTree.ask.Goals as goal
-use Rattle.jk_tree.proofs.read.ReadTree.ask.Goals.{After-is_below}
+use Rattle.jk_tree.proofs.read.ReadTree.ask.Goals.{In-Ok}
 
 pub returns-in-Some-clause-exact : goal.returns-in-Some-clause-exact
 returns-in-Some-clause-exact c =
@@ -16,47 +15,57 @@ returns-in-Some-clause-exact c =
     let t : Tree = record { shape = record { width = s.levels.width; height = s.levels.height }; nodes = s.nodes.items; failed = s.failed } in
     ap (λ (x : Tree). ask_at q (x, c.args.reader.now)) (sym c.self.view_is) ∙ ask_at-some q t c.args.reader.now c.in-Some.fault c.in-Some.is
 
-pub index-requires : goal.index-requires
-index-requires c =
-    let s = c.self.inside in
-    let t : Tree = record { shape = record { width = s.levels.width; height = s.levels.height }; nodes = s.nodes.items; failed = s.failed } in
-    let less : c.args.leaf < t.shape.width * t.shape.height = subst (λ (x : Tree). c.args.leaf < x.shape.width * x.shape.height) (sym c.self.view_is) c.requires in
-    let counted = leaf_counted t.shape c.args.leaf less in
-    let long = c.self.invariant.2 in
-    let kept = c.walk.ensures.kept in
-    let is_long = c.walk.new.nodes.ok.0 in
-    omega (arith, counted, long, kept, is_long)
-
 -- the walk, from the tree as it was
-walked : (c : After-is_below) → walk record { width = c.self.inside.levels.width; height = c.self.inside.levels.height } record { leaf = c.args.leaf; threshold = c.args.threshold }
-    (top record { width = c.self.inside.levels.width; height = c.self.inside.levels.height } + 1) 0 c.self.inside.nodes.items c.args.reader.now ≡ Ok (c.walk.new.nodes.items, c.walk.new.reader)
+walked : (c : In-Ok) → walk record { width = c.self.inside.levels.width; height = c.self.inside.levels.height } record { leaf = c.args.leaf; threshold = c.args.threshold }
+    (top record { width = c.self.inside.levels.width; height = c.self.inside.levels.height } + 1) 0 c.self.inside.nodes.items c.args.reader.now ≡ Ok (c.in-Ok.below, (c.walk.new.nodes.items, c.walk.new.reader))
 walked c =
     let s = c.self.inside in
     ap (λ k. walk record { width = s.levels.width; height = s.levels.height } record { leaf = c.args.leaf; threshold = c.args.threshold } (k + 1) 0 s.nodes.items c.args.reader.now) (sym c.self.invariant.0) ∙ c.in-Ok.ensures.exact
 
--- the answer, from the nodes as they are
-answer : (c : After-is_below) → is_below record { leaf = c.args.leaf; threshold = c.args.threshold } c.walk.new.nodes.items ≡ c.is_below.result
-answer c =
-    let s = c.self.inside in
-    let t : Tree = record { shape = record { width = s.levels.width; height = s.levels.height }; nodes = s.nodes.items; failed = s.failed } in
-    let less : c.args.leaf < t.shape.width * t.shape.height = subst (λ (x : Tree). c.args.leaf < x.shape.width * x.shape.height) (sym c.self.view_is) c.requires in
-    let counted = leaf_counted t.shape c.args.leaf less in
-    let within : c.args.leaf < length c.walk.new.nodes.items = (let long = c.self.invariant.2 in let kept = c.walk.ensures.kept in omega (arith, counted, long, kept)) in
-    let node : c.index.result.now ≡ node_at c.walk.new.nodes.items c.args.leaf = get_or_read c.walk.new.nodes.items c.args.leaf c.index.result.now within c.index.ensures _ in
-    ap (λ (n : Node). n.known && nat_lt n.low c.args.threshold) (sym node) ∙ sym c.is_below.ensures
-
-exact_ok : (c : After-is_below) → ask_at record { leaf = c.args.leaf; threshold = c.args.threshold } (c.args.self.now, c.args.reader.now)
-    ≡ Ok (c.is_below.result, (record { shape = record { width = c.self.inside.levels.width; height = c.self.inside.levels.height }; nodes = c.walk.new.nodes.items; failed = c.self.inside.failed }, c.walk.new.reader))
+exact_ok : (c : In-Ok) → ask_at record { leaf = c.args.leaf; threshold = c.args.threshold } (c.args.self.now, c.args.reader.now)
+    ≡ Ok (c.in-Ok.below, (record { shape = record { width = c.self.inside.levels.width; height = c.self.inside.levels.height }; nodes = c.walk.new.nodes.items; failed = c.self.inside.failed }, c.walk.new.reader))
 exact_ok c =
     let s = c.self.inside in
     let q : Query = record { leaf = c.args.leaf; threshold = c.args.threshold } in
     let t : Tree = record { shape = record { width = s.levels.width; height = s.levels.height }; nodes = s.nodes.items; failed = s.failed } in
-    ap (λ (x : Tree). ask_at q (x, c.args.reader.now)) (sym c.self.view_is)
-    ∙ ask_at-ok q t c.args.reader.now (c.walk.new.nodes.items, c.walk.new.reader) c.in_default.is (walked c)
-    ∙ ap (λ (b : Bool). Ok (b, (record t { nodes = c.walk.new.nodes.items }, c.walk.new.reader))) (answer c)
+    ap (λ (x : Tree). ask_at q (x, c.args.reader.now)) (sym c.self.view_is) ∙ ask_at-ok q t c.args.reader.now (c.in-Ok.below, (c.walk.new.nodes.items, c.walk.new.reader)) c.in_default.is (walked c)
 
 pub returns-in-Ok-clause-exact : goal.returns-in-Ok-clause-exact
 returns-in-Ok-clause-exact c = exact_ok c
+
+pub returns-in-Ok-clause-below : goal.returns-in-Ok-clause-below
+returns-in-Ok-clause-below c = λ goes.
+    let s = c.self.inside in
+    let q : Query = record { leaf = c.args.leaf; threshold = c.args.threshold } in
+    let sh : Shape = record { width = s.levels.width; height = s.levels.height } in
+    let less : c.args.leaf < sh.width * sh.height = subst (λ (x : Tree). c.args.leaf < x.shape.width * x.shape.height) (sym c.self.view_is) c.requires in
+    let through : (k : ℕ) → k < top sh + 1 → ((node_at c.walk.new.nodes.items (place sh k (column sh c.args.leaf k) (row sh c.args.leaf k))).known ≡ true) × ((node_at c.walk.new.nodes.items (place sh k (column sh c.args.leaf k) (row sh c.args.leaf k))).low < c.args.threshold) =
+    walk_through sh q less (top sh + 1) 0 s.nodes.items c.args.reader.now (c.in-Ok.below, (c.walk.new.nodes.items, c.walk.new.reader)) (omega arith) c.self.invariant.2 (walked c) goes in (
+      λ i level. (through i (omega (arith, level))).0,
+      subst (λ p. (node_at c.walk.new.nodes.items p).low < c.args.threshold) (place_leaf sh c.args.leaf) (through 0 (omega arith)).1,
+    )
+
+-- what was known before is known after
+known_on : (t : Tree) (old : Tree) (new : List Node) (j : ℕ) → t ≡ old → ((p : ℕ) → (node_at t.nodes p).known ≡ true → node_at new p ≡ node_at t.nodes p) → IsKnown old.shape old.nodes j → IsKnown t.shape new j
+known_on t old new j same still known i level =
+    let p = place t.shape i (column t.shape j i) (row t.shape j i) in
+    let was = (subst (λ (x : Tree). IsKnown x.shape x.nodes j) (sym same) known) i level in
+    ap (λ (n : Node). n.known) (still p was) ∙ was
+
+pub returns-in-Ok-clause-still : goal.returns-in-Ok-clause-still
+returns-in-Ok-clause-still c = λ j known.
+    let s = c.self.inside in
+    let t : Tree = record { shape = record { width = s.levels.width; height = s.levels.height }; nodes = s.nodes.items; failed = s.failed } in
+    known_on t c.args.self.now c.walk.new.nodes.items j c.self.view_is c.walk.ensures.still known
+
+pub returns-in-Err-clause-still : goal.returns-in-Err-clause-still
+returns-in-Err-clause-still c = λ j known.
+    let s = c.self.inside in
+    let t : Tree = record { shape = record { width = s.levels.width; height = s.levels.height }; nodes = s.nodes.items; failed = s.failed } in
+    known_on t c.args.self.now c.walk.new.nodes.items j c.self.view_is c.walk.ensures.still known
+
+pub returns-in-Some-clause-still : goal.returns-in-Some-clause-still
+returns-in-Some-clause-still c = λ j known. known
 
 pub returns-in-Ok-clause-only : goal.returns-in-Ok-clause-only
 returns-in-Ok-clause-only c = λ v queries rest none st first.
@@ -73,11 +82,9 @@ returns-in-Ok-clause-found c = λ queries reached.
     let t : Tree = record { shape = record { width = s.levels.width; height = s.levels.height }; nodes = s.nodes.items; failed = s.failed } in
     let less : c.args.leaf < t.shape.width * t.shape.height = subst (λ (x : Tree). c.args.leaf < x.shape.width * x.shape.height) (sym c.self.view_is) c.requires in
     let was = subst (λ (x : Tree). AreToldBySome x.shape queries x.nodes) (sym c.self.view_is) reached in
-    let law = found_law q t c.args.reader.now (c.walk.new.nodes.items, c.walk.new.reader) queries less c.self.invariant.2 c.in_default.is (walked c) was in (
+    let law = found_law q t c.args.reader.now (c.in-Ok.below, (c.walk.new.nodes.items, c.walk.new.reader)) queries less c.self.invariant.2 c.in_default.is (walked c) was in (
       law.0,
-      λ v st.
-          subst (λ (b : Bool). IsAnswer c.args.self.now v queries q c.args.reader.now (record t { nodes = c.walk.new.nodes.items }) c.walk.new.reader b) (answer c)
-          (subst (λ (x : Tree). IsAnswer x v queries q c.args.reader.now (record t { nodes = c.walk.new.nodes.items }) c.walk.new.reader (is_below q c.walk.new.nodes.items)) c.self.view_is (law.1 v st)),
+      λ v st. subst (λ (x : Tree). IsAnswer x v queries q c.args.reader.now (record t { nodes = c.walk.new.nodes.items }) c.walk.new.reader c.in-Ok.below) c.self.view_is (law.1 v st),
     )
 
 pub returns-in-Err-clause-exact : goal.returns-in-Err-clause-exact
