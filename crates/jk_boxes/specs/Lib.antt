@@ -5,3 +5,4 @@ pub mod Boxes
 pub mod Reading
 pub mod Written
 pub mod Replacing
+pub mod Examples

@@ -14,3 +14,4 @@ pub mod Reading
 pub mod HeaderReading
 pub mod Copying
 pub mod PartHeads
+pub mod Examples

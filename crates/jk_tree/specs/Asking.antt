@@ -1,12 +1,14 @@
 -- Queries of a tree that is read: what is known of each node, and the answer or the first fault.
-use Rattle.std.specs.Prelude.{◌≡◌, ℕ, zero, suc, ◌+◌, ◌-◌, ◌/◌, ◌^◌, ◌<◌, ◌≤◌, max, Bool, true, false, ◌||◌, nat_lt, nat_le}
+use Rattle.std.specs.Prelude.{◌≡◌, ℕ, zero, suc, ◌+◌, ◌-◌, ◌/◌, ◌^◌, ◌<◌, ◌≤◌, max, Bool, true, false, ◌||◌, nat_lt}
+use Rattle.std.specs.Prelude.{nat_le}
 use Rattle.std.specs.Prelude.{if◌then◌else◌, List, [], ◌∷◌, ◌++◌, length, slice_index_or, slice_set, replicate, Option}
 use Rattle.std.specs.Prelude.{Some, None, Result, Ok, Err}
 use Rattle.jk_math.specs.Answer.{◌>>=◌}
 use Rattle.jk_math.specs.declared.fault.Fault.{Fault}
 use Rattle.jk_bits.specs.Reading.{Bits, bit_at}
 use Rattle.jk_bits.specs.Giving.{Gives}
-use Rattle.jk_tree.specs.TagTree.{Shape, top, count, place, column, row, IsNode, Values, above, IsTree, Query, asked, told}
+use Rattle.jk_tree.specs.TagTree.{Shape, top, count, place, column, row, IsNode, Values, above, IsTree, Query, asked}
+use Rattle.jk_tree.specs.TagTree.{told}
 use Rattle.jk_tree.specs.declared.node.Node.{Node}
 
 -- What a node has told after a threshold, where `over` is the value of the node above it: its value, if that is below

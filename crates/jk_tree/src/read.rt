@@ -1,6 +1,7 @@
 //! Tag trees that are read (T.800 B.10.2).
 
-ghost use Rattle.std.specs.Prelude.{◌≡◌, ℕ, ◌+◌, ◌-◌, ◌*◌, ◌<◌, ◌≤◌, min, ◌++◌, [], ◌∷◌, List, Bool, false, true, length, Ok, Err};
+ghost use Rattle.std.specs.Prelude.{◌≡◌, ℕ, ◌+◌, ◌-◌, ◌*◌, ◌<◌, ◌≤◌, ◌++◌, [], ◌∷◌, List, Bool, false, true, length};
+ghost use Rattle.std.specs.Prelude.{Ok, Err};
 ghost use Rattle.std.specs.Prelude.{None, Some, IfOk, IfErr, OnErr, IfSome, IsOkAnd, MatchResult};
 ghost use Rattle.jk_math.specs.Answer.{Reads};
 ghost use Rattle.jk_math.specs.Memory.{IsMemory};
