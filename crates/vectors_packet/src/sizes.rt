@@ -46,3 +46,20 @@ fn a_million_blocks(rt: HostRuntime) -> Result<(), Fail> {
     assert_eq!(rt; (header.length, header.parts.len()), (1, 0));
     Ok(())
 }
+
+/// The same in each of 65,535 layers. Asked leaf by leaf these would be 2^36 questions.
+#[test]
+fn a_million_blocks_in_all_layers(rt: HostRuntime) -> Result<(), Fail> {
+    let alloc = rt.alloc();
+    let band = BandShape {
+        across: 8192,
+        down: 128,
+        planes: 9,
+    };
+    let mut precinct = Precinct::new(alloc, &PrecinctShape::lowest(band, false, false))?;
+    for layer in 0..65535u16 {
+        let header = precinct.read_header(&[0x80], layer)?;
+        assert_eq!(rt; (header.length, header.parts.len()), (1, 0));
+    }
+    Ok(())
+}
