@@ -2,6 +2,7 @@
 
 use crate::failure::{Failure, of_options, of_world, with_words};
 use crate::options;
+use crate::progress::Work;
 use crate::streams::read;
 use crate::workers::workers;
 use crate::world::{Serving, World};
@@ -163,7 +164,9 @@ pub(crate) fn add<W: World>(
         Ok(plan) => plan,
         Err(fault) => return Err(of_options(alloc, fault, &options)),
     };
-    let image = read_image(alloc, read(alloc, world, options::input(line))?)?;
+    let bytes = read(alloc, world, options::input(line))?;
+    let size = bytes.len() as u64;
+    let image = read_image(alloc, bytes)?;
     let folder = options::folder(line);
     if let Err(fault) = world.lock(alloc, folder) {
         return Err(of_world(alloc, world, fault, folder, "locked"));
@@ -185,7 +188,9 @@ pub(crate) fn add<W: World>(
     };
     let _ = world.tell_others(&shelf);
     let mut archive = Archive::with(shelf, images);
+    world.begin_work(Work::Encoding, size);
     let added = add_to(alloc, &mut archive, options::name(line), image, plan);
+    world.end_work();
     let kept = world.give_back(alloc, folder, archive.into_shelf());
     match added {
         Ok(()) => Ok(kept?),

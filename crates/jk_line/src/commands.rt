@@ -113,11 +113,11 @@ const EXPLAIN: Word<'static> = Word(
     "Say the cause of a fault in words, behind its line; on a terminal they are there anyway",
 );
 
-/// That it isn't told how many files of an archive were read.
+/// That it isn't told how far work is.
 const QUIET: Word<'static> = Word(
     "quiet",
     Form::Flag,
-    "Don't tell on a terminal how many files of the archive were read",
+    "Don't tell on a terminal how far the work is, as is done where it takes longer than a second",
 );
 
 /// How many workers there are.
@@ -205,6 +205,7 @@ fn encode<'a>(alloc: Global, defaults: &'a Defaults) -> Result<Command<'a>, Allo
             "Write a bare codestream, and no JP2 file",
         ),
         WORKERS,
+        QUIET,
     ];
     let command = with_words(alloc, command, &words)?;
     with_encoding(alloc, command, defaults)
@@ -342,6 +343,7 @@ fn decode<'a>(alloc: Global) -> Result<Command<'a>, AllocError> {
             "How often to halve the image, at most the LEVELS of `jk info`",
         ),
         WORKERS,
+        QUIET,
         EXPLAIN,
     ];
     with_words(alloc, command, &words)

@@ -10,6 +10,7 @@ mod faults;
 mod features;
 mod limits;
 mod options;
+mod progress;
 mod running;
 mod status;
 mod streams;
@@ -18,6 +19,7 @@ mod world;
 
 pub use archive::{listening, served};
 pub use faults::FaultLine;
+pub use progress::{Progress, Work};
 pub use running::run;
 pub use status::Status;
 pub use world::{Serving, World};

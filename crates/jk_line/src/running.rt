@@ -5,6 +5,7 @@ use crate::defaults::Defaults;
 use crate::failure::{Failure, of_file, of_options, of_world};
 use crate::faults::{self, FaultLine, cause_of};
 use crate::features::left_out;
+use crate::progress::Work;
 use crate::status::Status;
 use crate::streams::{create, finish, read, write};
 use crate::workers::workers;
@@ -30,14 +31,16 @@ fn encode_by<W: World>(
     plan: Plan,
 ) -> Result<(), Failure> {
     let bytes = read(alloc, world, options::input(line))?;
-    let encoded = encode_file_with::<W::Runtime, Open>(
+    world.begin_work(Work::Encoding, bytes.len() as u64);
+    let encoded = encode_file_with::<W::Runtime, W::Counter>(
         world.runtime(),
         alloc,
         workers,
-        &Open,
+        world.counter(),
         bytes,
         plan,
     );
+    world.end_work();
     match encoded {
         Ok(file) => write(alloc, world, options::output(line), &file),
         Err(fault) => Err(of_options(alloc, fault, options)),
@@ -59,7 +62,9 @@ fn encode<W: World>(alloc: Global, line: &ArgMatches<'_>, world: &mut W) -> Resu
     let bytes = read(alloc, world, options::input(line))?;
     let name = options::output(line);
     let mut output = create(alloc, world, name)?;
+    world.begin_work(Work::Encoding, bytes.len() as u64);
     let encoded = encode_file_into(alloc, bytes, plan, &mut output);
+    world.end_work();
     let finished = finish(alloc, world, name, output, encoded.is_ok());
     match encoded {
         Ok(()) => finished,
@@ -98,6 +103,7 @@ fn decode<W: World>(alloc: Global, line: &ArgMatches<'_>, world: &mut W) -> Resu
     let left_out = left_out(&bytes);
     let name = options::output(line);
     let mut output = create(alloc, world, name)?;
+    world.begin_work(Work::Decoding, bytes.len() as u64);
     let decoded = match options::window(line) {
         Some(view) => decode_window_file_into(alloc, bytes, view, &mut output),
         None => {
@@ -105,6 +111,7 @@ fn decode<W: World>(alloc: Global, line: &ArgMatches<'_>, world: &mut W) -> Resu
             decode_image(alloc, world, workers, bytes, reduce, &mut output)
         }
     };
+    world.end_work();
     let finished = finish(alloc, world, name, output, decoded.is_ok());
     match decoded {
         Ok(()) => finished,

@@ -1,5 +1,7 @@
 //! What a command line works on.
 
+use crate::progress::Work;
+use jk_farm::Gate;
 use jk_math::Fault;
 use jk_store::{Archive, Shelf};
 use std::alloc::Global;
@@ -35,11 +37,24 @@ pub trait World {
     /// What starts threads.
     type Runtime: Threads + Sync;
 
+    /// Who is told of the code-blocks that workers code.
+    type Counter: Gate + Sync;
+
     /// What starts the threads of workers.
     fn runtime(&self) -> &Self::Runtime;
 
+    /// Who is told of the code-blocks that workers code.
+    fn counter(&self) -> &Self::Counter;
+
     /// From now on nothing is told of how far work is.
     fn be_quiet(&mut self);
+
+    /// From now on it is told how far this work is, on the image of a file of so many bytes, where
+    /// standard error is a terminal.
+    fn begin_work(&mut self, work: Work, size: u64);
+
+    /// Ends that, and takes away what is told of it.
+    fn end_work(&mut self);
 
     /// All bytes of a file, or of standard input for `-`.
     fn read(&mut self, alloc: Global, name: &str) -> Result<Vec<u8>, Fault>;

@@ -5,8 +5,9 @@ use crate::keeper::{FolderKeeper, is_other, tell_waiting};
 use crate::opening::Watched;
 use crate::output::Late;
 use crate::serving::{Asked, shelves};
+use crate::telling::Counted;
 use jk_files::{Lock, Lockable, Refusal, SharedLock, wait_exclusive, wait_shared};
-use jk_line::{Serving, World};
+use jk_line::{Serving, Work, World};
 use jk_math::Fault;
 use jk_serve::{Desk, Paths, bind};
 use jk_store::{Archive, Folder};
@@ -15,28 +16,31 @@ use std::fmt::Display;
 use std::io::{self, BufWriter};
 use std::net::{Net, TcpListener, TcpStream};
 use std::rt::Files;
+use std::sync::Wait;
 use std::thread::Threads;
 use std::time::Clock;
 
-/// The world of the program: a runtime, the lock that is held, what the system said where it
-/// refused the last call, and what is to be served.
+/// The world of the program: a runtime, who is told of work, the lock that is held, what the system
+/// said where it refused the last call, and what is to be served.
 #[derive(Drop)]
 pub(crate) struct Host<R: Files> {
     rt: R,
     is_terminal: bool,
     is_quiet: bool,
+    counted: Counted,
     lock: Option<Lock<R::File>>,
     said: Option<io::Error>,
     asked: Option<Asked<R>>,
 }
 
 impl<R: Files + Drop> Host<R> {
-    /// The world of a runtime, and whether its standard error is a terminal.
-    pub(crate) fn new(rt: R, is_terminal: bool) -> Host<R> {
+    /// The world of a runtime, whether its standard error is a terminal, and who is told of work.
+    pub(crate) fn new(rt: R, is_terminal: bool, counted: Counted) -> Host<R> {
         Host {
             rt,
             is_terminal,
             is_quiet: false,
+            counted,
             lock: None,
             said: None,
             asked: None,
@@ -79,6 +83,7 @@ impl<
         + Clone
         + Drop
         + Threads
+        + Wait
         + Send
         + Sync
         + Net<Listener = TcpListener, Stream = TcpStream>
@@ -93,12 +98,33 @@ where
 
     type Runtime = R;
 
+    type Counter = Counted;
+
     fn runtime(&self) -> &R {
         &self.rt
     }
 
+    fn counter(&self) -> &Counted {
+        &self.counted
+    }
+
     fn be_quiet(&mut self) {
         self.is_quiet = true;
+    }
+
+    fn begin_work(&mut self, work: Work, size: u64) {
+        if self.is_quiet {
+            return;
+        }
+        if let Some(telling) = self.counted.telling() {
+            telling.begin(&self.rt, work, size);
+        }
+    }
+
+    fn end_work(&mut self) {
+        if let Some(telling) = self.counted.telling() {
+            telling.end(&self.rt);
+        }
     }
 
     fn read(&mut self, alloc: Global, name: &str) -> Result<Vec<u8>, Fault> {
@@ -113,7 +139,7 @@ where
 
     fn create(&mut self, alloc: Global, name: &str) -> Result<BufWriter<Late<R>, Global>, Fault> {
         let name = String::from_str(alloc, name)?;
-        let late = Late::new(self.rt.clone()?, alloc, name);
+        let late = Late::new(self.rt.clone()?, alloc, name, self.counted.again());
         let answer = BufWriter::new(alloc, late);
         self.kept_of_system(answer)
     }

@@ -7,9 +7,11 @@ mod keeper;
 mod opening;
 mod output;
 mod serving;
+mod telling;
 
 use crate::host::Host;
 use crate::serving::{Asked, serve};
+use crate::telling::Teller;
 use jk_line::{FaultLine, Status, run};
 use jk_math::Fault;
 use std::alloc::Global;
@@ -67,8 +69,10 @@ fn main(rt: HostRuntime) -> ExitCode {
     let status = match (words(&rt, alloc), own) {
         (Ok(words), Ok(own)) => {
             let is_terminal = rt.stderr().is_terminal();
-            let mut host = Host::new(own, is_terminal);
+            let teller = Teller::start(&rt, alloc, is_terminal);
+            let mut host = Host::new(own, is_terminal, teller.counted.again());
             let status = run(alloc, &words, &mut host);
+            teller.end(&rt);
             match host.into_asked() {
                 Some(asked) => {
                     let Asked {

@@ -1,5 +1,6 @@
 //! The program's output that is written in parts.
 
+use crate::telling::Counted;
 use jk_files::{Output, Refusal, abandon_output, create_output, finish_output};
 use std::alloc::Global;
 use std::io::{self, ErrorKind, Write};
@@ -13,17 +14,19 @@ pub(crate) struct Late<R: Files> {
     name: String,
     opened: Option<Output<R::File>>,
     refusal: Option<Refusal>,
+    counted: Counted,
 }
 
 impl<R: Files + Print + Drop> Late<R> {
-    /// The output of a name.
-    pub(crate) fn new(rt: R, alloc: Global, name: String) -> Late<R> {
+    /// The output of a name, and who is told how much is written.
+    pub(crate) fn new(rt: R, alloc: Global, name: String, counted: Counted) -> Late<R> {
         Late {
             rt,
             alloc,
             name,
             opened: None,
             refusal: None,
+            counted,
         }
     }
 
@@ -74,7 +77,12 @@ impl<R: Files + Print + Drop> Late<R> {
 impl<R: Files + Print + Drop> Write for Late<R> {
     fn write(&mut self, bytes: &[u8]) -> io::Result<usize> {
         match self.put(bytes) {
-            Ok(()) => Ok(bytes.len()),
+            Ok(()) => {
+                if let Some(telling) = self.counted.telling() {
+                    telling.wrote(bytes.len());
+                }
+                Ok(bytes.len())
+            }
             Err(refusal) => {
                 self.refusal = Some(refusal);
                 Err(match refusal {

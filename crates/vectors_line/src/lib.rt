@@ -8,4 +8,6 @@ mod memory;
 #[cfg(test)]
 mod numbers;
 #[cfg(test)]
+mod progress;
+#[cfg(test)]
 mod telling;

@@ -1,13 +1,29 @@
 //! A world in memory.
 
-use jk_line::{Serving, World, listening};
+use jk_farm::Gate;
+use jk_line::{Serving, Work, World, listening};
 use jk_math::Fault;
 use jk_store::{Archive, MemoryShelf};
 use std::alloc::Global;
 use std::collections::BTreeMap;
 use std::fmt::Display;
 use std::io::{self, ErrorKind, Write};
+use std::sync::atomic::{AtomicU64, Ordering};
 use std::thread::Threads;
+
+/// How many code-blocks workers have coded.
+#[derive(Drop)]
+pub(crate) struct Counter {
+    pub(crate) coded: AtomicU64,
+}
+
+impl Gate for Counter {
+    fn began(&self, _job: usize) {}
+
+    fn ended(&self, _job: usize) {
+        self.coded.fetch_add(1, Ordering::SeqCst);
+    }
+}
 
 /// Files, folders and streams in memory.
 #[derive(Drop)]
@@ -21,6 +37,10 @@ pub(crate) struct Memory<'a, R> {
     pub(crate) error: String,
     pub(crate) is_terminal: bool,
     pub(crate) is_full: bool,
+    pub(crate) is_quiet: bool,
+    pub(crate) counter: Counter,
+    pub(crate) begun: Vec<(Work, u64)>,
+    pub(crate) ended: usize,
     said: Option<io::Error>,
 }
 
@@ -37,6 +57,12 @@ impl<'a, R> Memory<'a, R> {
             error: String::new(alloc),
             is_terminal: false,
             is_full: false,
+            is_quiet: false,
+            counter: Counter {
+                coded: AtomicU64::new(0),
+            },
+            begun: Vec::new(alloc),
+            ended: 0,
             said: None,
         }
     }
@@ -88,11 +114,27 @@ impl<'a, R: Threads + Sync> World for Memory<'a, R> {
 
     type Runtime = R;
 
+    type Counter = Counter;
+
     fn runtime(&self) -> &R {
         self.rt
     }
 
-    fn be_quiet(&mut self) {}
+    fn counter(&self) -> &Counter {
+        &self.counter
+    }
+
+    fn be_quiet(&mut self) {
+        self.is_quiet = true;
+    }
+
+    fn begin_work(&mut self, work: Work, size: u64) {
+        let _ = self.begun.push((work, size));
+    }
+
+    fn end_work(&mut self) {
+        self.ended = self.ended.saturating_add(1);
+    }
 
     fn read(&mut self, alloc: Global, name: &str) -> Result<Vec<u8>, Fault> {
         if name == "-" {
