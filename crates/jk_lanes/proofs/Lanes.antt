@@ -207,6 +207,11 @@ vector_long m f v h = length-map v (to_z w32) ∙ h.long
 pub vector_below : (m : ℕ) (f : ℕ → ℤ) (v : List ℕ) → HasLanes m f v → (j : ℕ) → j < 8 → IsBelow m (signed_at (map (to_z w32) v) j)
 vector_below m f v h j l = rw (lane_is m f v h j l) (h.below j l)
 
+-- a vector that is passed on
+pub HasLanes-passed : (m : ℕ) (f : ℕ → ℤ) (v : List ℕ) → m ≤ 2 ^ 31 → HasLanes m f v → HasLanes m f (bits_of (map (to_z w32) v))
+HasLanes-passed m f v few h =
+    HasLanes-same m (λ j. signed_at (map (to_z w32) v) j) f _ (HasLanes-given m (map (to_z w32) v) few (vector_long m f v h) (vector_below m f v h)) (λ j l. lane_is m f v h j l)
+
 pub stored : (m : ℕ) (f : ℕ → ℤ) (v : List ℕ) (i : ℕ) (xs : List ℤ) → HasLanes m f v → i + 8 ≤ length xs → HasEight f i xs (put_chunk i xs (map (to_z w32) v))
 stored m f v i xs h room =
     let eight : length (map (to_z w32) v) ≡ 8 = length-map v (to_z w32) ∙ h.long in (
