@@ -88,7 +88,8 @@ fn analyse_eight(
     requires high_room { k + shift + 8 ≤ length high.old }
     requires small { All (IsBelow (2 ^ 29)) line.now }
     requires before { IsBelow (2 ^ 30 - 1) before }
-    ensures coefficients { AreCoefficients line.now (2 * k + shift) before low.old low.new k high.old high.new (k + shift) }
+    ensures coefficients { AreCoefficients line.now (2 * k + shift) before
+        low.old low.new k high.old high.new (k + shift) }
     ensures last { result ≡ signed_at high.new (k + shift + 7) }
 {
     let at = 2 * k + shift;
