@@ -1,5 +1,5 @@
 -- A coefficient depends on the line alone.
-use Rattle.std.proofs.Common.{◌≡◌, ℕ, ℤ, ◌+◌, ◌%◌, ◌<◌, ◌≤◌, ◌+ℤ◌, inl, inr, sym, ◌∙◌, arith}
+use Rattle.std.proofs.Common.{◌≡◌, ℕ, ℤ, ◌+◌, ◌%◌, ◌<◌, ◌≤◌, inl, inr, sym, ◌∙◌, arith}
 use Rattle.std.proofs.lemmas.Bool.{cases_eq, cases_lt}
 use Rattle.jk_lift.specs.Lifting.{before, after, high_at, lifted}
 use Rattle.jk_lift.proofs.Equations.{high_at_is, lifted_even, lifted_odd, lifted_one_even, lifted_one_odd}

@@ -7,7 +7,7 @@ use mir.Val.{to_z, of_z}
 use Rattle.jk_math.specs.Division.{floor_of}
 use Rattle.jk_math.specs.Signed.{IsBelow}
 use Rattle.jk_math.proofs.Laws.{shr-floor_of, half_high, half_low, quarter_high, quarter_low}
-use Rattle.jk_lift.specs.Lifting.{even_sample}
+use Rattle.jk_lift.specs.Lifting.{high_pass, even_sample}
 
 pub half_within : (m : ℕ) (a b : ℤ) → IsBelow m a → IsBelow m b → IsBelow m (floor_of (a +ℤ b) 2)
 half_within m a b la lb =
@@ -58,4 +58,9 @@ total_is x r h lx lr e =
 pub even_sample-within : (y a b : ℤ) → IsBelow (2 ^ 29) y → IsBelow (2 ^ 29) a → IsBelow (2 ^ 29) b → IsBelow (2 ^ 30 - 1) (even_sample y a b)
 even_sample-within y a b ly la lb =
     let near = quarter_within (2 ^ 28) a b la lb in
+    (omega (arith, ints, near), omega (arith, ints, near))
+
+pub high_pass-within : (x a b : ℤ) → IsBelow (2 ^ 29) x → IsBelow (2 ^ 29) a → IsBelow (2 ^ 29) b → IsBelow (2 ^ 30 - 1) (high_pass x a b)
+high_pass-within x a b lx la lb =
+    let near = half_within (2 ^ 29) a b la lb in
     (omega (arith, ints, near), omega (arith, ints, near))

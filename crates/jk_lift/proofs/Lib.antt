@@ -1,5 +1,7 @@
 pub mod Neighbours
 pub mod Halving
+pub mod EightSteps
+pub mod EightPairs
 pub mod Equations
 pub mod Places
 pub mod Analysis

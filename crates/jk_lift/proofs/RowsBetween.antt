@@ -1,10 +1,13 @@
 -- One row lifted between two others.
-use Rattle.std.proofs.Common.{◌≡◌, ◌≢◌, ℕ, ℤ, List, ◌+◌, ◌-◌, ◌^◌, ◌<◌, ◌≤◌, length, set, refl, ◌∙◌, ap, arith, w32}
+use Rattle.std.proofs.Common.{◌≡◌, ◌≢◌, ℕ, ℤ, List, ◌+◌, ◌-◌, ◌^◌, ◌<◌, ◌≤◌, length, set, pos, inl, inr, refl, ◌∙◌, ap, subst, arith, w32}
 use Rattle.std.specs.List.{All}
 use Rattle.std.proofs.lemmas.Int.{ints, to_z-of_z}
+use Rattle.std.proofs.lemmas.Bool.{cases_lt}
 use Rattle.std.proofs.lemmas.List.{get_or-set_same, get_or-set_other}
 use borrow.Author.Count.{below_more}
 use Rattle.jk_math.specs.Signed.{IsBelow, signed_at}
+use Rattle.jk_lanes.specs.Eights.{HasEight}
+use Rattle.jk_lanes.proofs.Laws.{HasLanes, loaded, HasLanes-load}
 use Rattle.jk_lift.proofs.Places.{passed, entry_below}
 
 -- The first k numbers of a row are lifted, and the others are as they were.
@@ -41,3 +44,32 @@ lifted_of f before after k old new v so_far small befores afters is =
     is ∙ ap (λ z. f z (passed (signed_at before k)) (passed (signed_at after k))) here
     ∙ ap (λ z. f (signed_at old k) z (passed (signed_at after k))) left
     ∙ ap (λ z. f (signed_at old k) (signed_at before k) z) right
+
+-- eight numbers more
+pub lifted_eight : (f : ℤ → ℤ → ℤ → ℤ) (before after : List ℤ) (k : ℕ) (old new new' : List ℤ) (g : ℕ → ℤ) → IsLiftedUpto f before after k old new →
+    HasEight g k new new' → ((j : ℕ) → j < 8 → g j ≡ f (signed_at new (k + j)) (signed_at before (k + j)) (signed_at after (k + j))) →
+    IsLiftedUpto f before after (k + 8) old new'
+lifted_eight f before after k old new new' g so_far eight here = record {
+  done = λ x l. elim (cases_lt x k) [
+    | inl lt ↦ eight.1 x lt ∙ so_far.done x lt
+    | inr ge ↦
+        let j : ℕ = x - k in
+        let e : k + j ≡ x = omega arith in
+        subst (λ x. signed_at new' x ≡ f (signed_at old x) (signed_at before x) (signed_at after x)) e
+        (eight.0 j (omega arith) ∙ here j (omega arith) ∙ ap (λ z. f z (signed_at before (k + j)) (signed_at after (k + j))) (so_far.rest (k + j) (omega arith)))
+  ];
+  rest = λ x l. eight.2 x l ∙ so_far.rest x (omega arith);
+}
+
+-- a formula of three numbers that are others
+pub three : (f : ℤ → ℤ → ℤ → ℤ) {x y z x' y' z' : ℤ} → x ≡ x' → y ≡ y' → z ≡ z' → f x y z ≡ f x' y' z'
+three f {x} {y} {z} {x'} {y'} {z'} a b c = ap (λ t. f t y z) a ∙ ap (λ t. f x' t z) b ∙ ap (λ t. f x' y' t) c
+
+-- eight numbers of a row next to it, and eight of what is left of a row
+pub all_lanes : (m k : ℕ) (xs : List ℤ) → m ≤ 2 ^ 31 → k + 8 ≤ length xs → All (IsBelow m) xs → HasLanes m (λ j. signed_at xs (k + j)) (loaded k xs)
+all_lanes m k xs few room small = HasLanes-load m xs k few room (λ j l. small (k + j) (pos 0) (omega arith))
+
+pub rest_lanes : (f : ℤ → ℤ → ℤ → ℤ) (before after : List ℤ) (k : ℕ) (old new : List ℤ) → IsLiftedUpto f before after k old new → k + 8 ≤ length old → k + 8 ≤ length new → All (IsBelow (2 ^ 29)) old →
+    HasLanes (2 ^ 29) (λ j. signed_at new (k + j)) (loaded k new)
+rest_lanes f before after k old new so_far room room' small =
+    HasLanes-load (2 ^ 29) new k (omega arith) room' (λ j l. rw (so_far.rest (k + j) (omega arith)) (small (k + j) (pos 0) (omega arith)))

@@ -1,6 +1,8 @@
 -- Rows lifted in place, one after another.
 use Rattle.std.proofs.Common.{◌≡◌, ◌≢◌, ℕ, ℤ, List, ◌+◌, ◌-◌, ◌*◌, ◌%◌, ◌^◌, ◌<◌, ◌≤◌, true, false, eqb, ◌⊎◌, length, set, inl, inr, refl, sym, ◌∙◌, ap, subst, arith, w32}
 use Rattle.jk_math.specs.Signed.{IsBelow, signed_at}
+use Rattle.jk_lanes.specs.Eights.{HasEight}
+use Rattle.jk_lanes.proofs.Laws.{HasLanes, loaded, HasLanes-load}
 use Rattle.jk_lift.specs.Sweep.{row_before, row_after, first_step, both_steps}
 use Rattle.jk_lift.proofs.Places.{passed, entry_below}
 use Rattle.std.specs.List.{All}
@@ -47,6 +49,49 @@ IsLifted-more f width row before after k old new v so_far l room here =
       rest = λ x lt w. let ne : row * width + x ≢ row * width + k = omega arith in rw get_or-set_other (so_far.rest x (omega arith) w);
       others = λ r x other w. let ne : r * width + x ≢ row * width + k = rows_apart r row width x k other w l in rw get_or-set_other (so_far.others r x other w);
     }
+
+-- eight entries more
+pub IsLifted-eight : (f : ℤ → ℤ → ℤ → ℤ) (width row before after k : ℕ) (old new new' : List ℤ) (g : ℕ → ℤ) → IsLifted f width row before after k old new →
+    k + 8 ≤ width → row ≢ before → row ≢ after → HasEight g (row * width + k) new new' →
+    ((j : ℕ) → j < 8 → g j ≡ f (signed_at new (row * width + k + j)) (signed_at new (before * width + k + j)) (signed_at new (after * width + k + j))) →
+    IsLifted f width row before after (k + 8) old new'
+IsLifted-eight f width row before after k old new new' g so_far room apart_before apart_after eight here =
+    let value : ℕ → ℤ = λ x. f (signed_at old (row * width + x)) (signed_at old (before * width + x)) (signed_at old (after * width + x)) in
+    let kept : (r x : ℕ) → row ≢ r → x < width → signed_at new (r * width + x) ≡ signed_at old (r * width + x) = λ r x ne w. so_far.others r x (λ e. ne (sym e)) w in
+    let read : (j : ℕ) → j < 8 → g j ≡ value (k + j) = λ j l.
+    here j l
+    ∙ ap (λ z. f z (signed_at new (before * width + k + j)) (signed_at new (after * width + k + j))) (ap (signed_at new) (omega arith) ∙ so_far.rest (k + j) (omega arith) (omega arith))
+    ∙ ap (λ z. f (signed_at old (row * width + (k + j))) z (signed_at new (after * width + k + j))) (ap (signed_at new) (omega arith) ∙ kept before (k + j) apart_before (omega arith))
+    ∙ ap (λ z. f (signed_at old (row * width + (k + j))) (signed_at old (before * width + (k + j))) z) (ap (signed_at new) (omega arith) ∙ kept after (k + j) apart_after (omega arith)) in
+    record {
+      done = λ x l. elim (cases_lt x k) [
+        | inl lt ↦ eight.1 (row * width + x) (omega arith) ∙ so_far.done x lt
+        | inr ge ↦
+            let j : ℕ = x - k in
+            let e : k + j ≡ x = omega arith in
+            let place : row * width + (k + j) ≡ row * width + k + j = omega arith in
+            subst (λ x. signed_at new' (row * width + x) ≡ value x) e (ap (signed_at new') place ∙ eight.0 j (omega arith) ∙ read j (omega arith))
+      ];
+      rest = λ x l w. eight.2 (row * width + x) (omega arith) ∙ so_far.rest x (omega arith) w;
+      others = λ r x other w. elim (cases_lt r row) [
+        | inl lt ↦ let m = mul-le-mul_left width (let l : r + 1 ≤ row = omega arith in l) in eight.1 (r * width + x) (omega (arith, m)) ∙ so_far.others r x other w
+        | inr ge ↦ let m = mul-le-mul_left width (let l : row + 1 ≤ r = omega arith in l) in eight.2 (r * width + x) (omega (arith, m)) ∙ so_far.others r x other w
+      ];
+    }
+
+-- eight entries of a row that isn't lifted yet, or of one next to it
+pub row_lanes : (f : ℤ → ℤ → ℤ → ℤ) (width row before after k m r : ℕ) (old new : List ℤ) → IsLifted f width row before after k old new → m ≤ 2 ^ 31 → k + 8 ≤ width → r * width + width ≤ length new →
+    ((x : ℕ) → x < width → IsBelow m (signed_at old (r * width + x))) → HasLanes m (λ j. signed_at new (r * width + k + j)) (loaded (r * width + k) new)
+row_lanes f width row before after k m r old new so_far few room inside small =
+    HasLanes-load m new (r * width + k) few (omega arith)
+    (λ j l.
+    let place : r * width + (k + j) ≡ r * width + k + j = omega arith in
+    let kept : signed_at new (r * width + (k + j)) ≡ signed_at old (r * width + (k + j)) = elim (cases_eq r row) [
+      | inl same ↦
+          subst (λ r. signed_at new (r * width + (k + j)) ≡ signed_at old (r * width + (k + j))) (sym same) (so_far.rest (k + j) (omega arith) (omega arith))
+      | inr other ↦ so_far.others r (k + j) other (omega arith)
+    ] in
+    subst (IsBelow m) (sym kept ∙ ap (signed_at new) place) (small (k + j) (omega arith)))
 
 -- what the code reads is still what was given
 pub lifted_value : (f : ℤ → ℤ → ℤ → ℤ) (width row before after k : ℕ) (old new : List ℤ) (v : ℤ) → IsLifted f width row before after k old new →

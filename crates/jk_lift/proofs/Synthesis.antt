@@ -1,5 +1,5 @@
 -- How far the synthesis of a line has come.
-use Rattle.std.proofs.Common.{◌≡◌, ℕ, ℤ, List, ◌+◌, ◌-◌, ◌*◌, ◌%◌, ◌^◌, ◌<◌, ◌≤◌, length, get_or, set, pos, refl, sym, ◌∙◌, ap, subst, arith, w32}
+use Rattle.std.proofs.Common.{◌≡◌, ℕ, ℤ, List, ◌+◌, ◌-◌, ◌*◌, ◌%◌, ◌^◌, ◌<◌, ◌≤◌, length, get_or, set, pos, zero, suc, refl, sym, ◌∙◌, ap, subst, arith, w32}
 use mir.Val.{SFits}
 use lib.Signed.{shr_z}
 use Rattle.std.specs.List.{All}
@@ -9,10 +9,13 @@ use Rattle.jk_math.specs.Division.{floor_of}
 use Rattle.jk_lift.specs.Lifting.{before, after, even_sample, odd_sample, even_at, unlifted}
 use Rattle.jk_math.specs.Signed.{IsBelow}
 use Rattle.jk_lift.specs.Samples.{line_of, woven, SynthesisesLine}
+use Rattle.jk_lift.specs.Pairs.{AreSamples}
+use borrow.Author.Count.{below_more}
 use Rattle.jk_math.proofs.Laws.{half_high, half_low, shr-floor_of}
 use Rattle.jk_lift.proofs.Neighbours.{before_at, after_at}
 use Rattle.jk_lift.proofs.Equations.{unlifted_even, unlifted_one_even, unlifted_one_odd, line_of_at}
-use Rattle.jk_lift.proofs.Places.{read, passed, passed_is, even_read, odd_read, filled_more, at_inside, at_last, woven_low, woven_high}
+use Rattle.jk_lift.proofs.Halving.{even_sample-within}
+use Rattle.jk_lift.proofs.Places.{read, read_is, entry_below, passed, passed_is, even_read, odd_read, filled_more, at_inside, at_last, woven_low, woven_high}
 
 -- The samples before the odd place k are written, of n; last is the sample before that place.
 pub record IsSynthesised (start n k : ℕ) (low high line : List ℤ) (last : ℤ) : Type 0 where
@@ -72,6 +75,84 @@ IsSynthesised-more start n k low high line last next value so_far small_low smal
       before_next = passed_is next small_next ∙ at_next ∙ ap sample (sym left);
       within = rw (passed_is next small_next) small_next;
     }
+
+-- the next pair, where its samples stand on the line
+synthesised_pair : (start n k : ℕ) (low high line : List ℤ) (last : ℤ) →
+    IsSynthesised start n k low high line last → All (IsBelow (2 ^ 29)) low → All (IsBelow (2 ^ 29)) high →
+    2 * k + (1 - start % 2) + 2 < n → (next : ℤ) →
+    next ≡ even_sample (get_or low (k + (1 - start % 2)) (pos 0)) (get_or high k (pos 0)) (get_or high (k + 1) (pos 0)) →
+    get_or line (2 * k + (1 - start % 2)) (pos 0) ≡ odd_sample (get_or high k (pos 0)) last next →
+    get_or line (2 * k + (1 - start % 2) + 1) (pos 0) ≡ next →
+    IsSynthesised start n (k + 1) low high line next
+synthesised_pair start n k low high line last so_far small_low small_high room next is_next at_odd at_even =
+    let t : ℕ = 1 - start % 2 in
+    let j : ℕ = 2 * k + t in
+    let as_read : even_sample (read low (k + t)) (read high k) (read high (k + 1)) ≡ even_sample (get_or low (k + t) (pos 0)) (get_or high k (pos 0)) (get_or high (k + 1) (pos 0)) =
+    rw (read_is low small_low (k + t), read_is high small_high k, read_is high small_high (k + 1)) refl in
+    let odd_as_read : odd_sample (read high k) last next ≡ odd_sample (get_or high k (pos 0)) last next = rw (read_is high small_high k) refl in
+    let at_next = even_read start n low high (k + t) k (k + 1) (j + 1) j (j + 2) (start + (j + 1)) next small_low small_high
+    (at_inside n (j + 1) j (j + 2) refl (omega arith) room) (omega arith) (omega arith) (omega arith) refl (is_next ∙ sym as_read) in
+    let right : after start (start + n) (start + j) ≡ start + (j + 1) = after_at start n j (j + 1) (omega arith) (omega arith) (λ h. refl) (λ h. omega arith) in
+    let left : before start (start + n) (start + (2 * (k + 1) + t)) ≡ start + (j + 1) =
+    before_at start n (2 * (k + 1) + t) (j + 1) (omega arith) (omega arith) (λ h. omega arith) (λ h. omega arith) in
+    let sample = even_at start (start + n) (woven start low high) in
+    let whole = unlifted start (start + n) (woven start low high) in
+    let at_value = odd_read start n low high k j last next (get_or line j (pos 0)) small_high (omega arith) (omega arith) so_far.before_next
+    (at_next ∙ ap sample (sym right)) (at_odd ∙ sym odd_as_read) in
+    let P : ℕ → Type 0 = λ u. get_or line u (pos 0) ≡ whole (start + u) in
+    let first = below_more P j so_far.samples at_value in
+    let both = below_more P (j + 1) first
+    (at_even ∙ at_next ∙ sym (unlifted_even start (start + n) (woven start low high) (start + (j + 1)) (omega arith) (omega arith))) in
+    record {
+      samples = λ u l. both u (omega arith);
+      before_next = at_next ∙ ap sample (sym left);
+      within = rw is_next (even_sample-within _ _ _ (entry_below (2 ^ 29) low (omega arith) small_low (k + t)) (entry_below (2 ^ 29) high (omega arith) small_high k)
+          (entry_below (2 ^ 29) high (omega arith) small_high (k + 1)));
+    }
+
+-- the pairs up to the c-th of eight
+synthesised_pairs : (start n k : ℕ) (low high old new : List ℤ) (last : ℤ) →
+    IsSynthesised start n k low high old last → All (IsBelow (2 ^ 29)) low → All (IsBelow (2 ^ 29)) high →
+    2 * k + (1 - start % 2) + 16 < n → AreSamples low (k + (1 - start % 2)) high k last old new (2 * k + (1 - start % 2)) →
+    (c : ℕ) → c < 8 → IsSynthesised start n (k + (c + 1)) low high new (get_or new (2 * k + (1 - start % 2) + (2 * c + 1)) (pos 0))
+synthesised_pairs start n k low high old new last so_far small_low small_high room pairs zero l =
+    let kept : IsSynthesised start n k low high new last = record {
+      samples = λ j l. pairs.front j l ∙ so_far.samples j l;
+      before_next = so_far.before_next;
+      within = so_far.within;
+    } in
+    let t : ℕ = 1 - start % 2 in
+    let low_place : k + t + 0 ≡ k + t = omega arith in
+    let high_place : k + 0 ≡ k = omega arith in
+    synthesised_pair start n k low high new last kept small_low small_high (omega arith) (get_or new (2 * k + t + (2 * 0 + 1)) (pos 0))
+    (pairs.evens 0 (omega arith) ∙ ap (λ u. even_sample (get_or low u (pos 0)) (get_or high (k + 0) (pos 0)) (get_or high (k + (0 + 1)) (pos 0))) low_place
+    ∙ ap (λ u. even_sample (get_or low (k + t) (pos 0)) (get_or high u (pos 0)) (get_or high (k + (0 + 1)) (pos 0))) high_place)
+    pairs.first refl
+synthesised_pairs start n k low high old new last so_far small_low small_high room pairs (suc c) l =
+    let t : ℕ = 1 - start % 2 in
+    let i : ℕ = 2 * k + t in
+    let before = synthesised_pairs start n k low high old new last so_far small_low small_high room pairs c (omega arith) in
+    let place : 2 * (k + (c + 1)) + t ≡ i + 2 * (c + 1) = omega arith in
+    let behind : 2 * (k + (c + 1)) + t + 1 ≡ i + (2 * (c + 1) + 1) = omega arith in
+    let low_place : k + t + (c + 1) ≡ k + (c + 1) + t = omega arith in
+    let high_place : k + (c + 1 + 1) ≡ k + (c + 1) + 1 = omega arith in
+    let here : ℤ = get_or high (k + (c + 1)) (pos 0) in
+    let next : k + (c + 1) + 1 ≡ k + (suc c + 1) = omega arith in
+    let last_place : i + (2 * (c + 1) + 1) ≡ i + (2 * suc c + 1) = omega arith in
+    subst (λ m. IsSynthesised start n m low high new (get_or new (i + (2 * suc c + 1)) (pos 0))) next
+    (subst (λ m. IsSynthesised start n (k + (c + 1) + 1) low high new (get_or new m (pos 0))) last_place
+    (synthesised_pair start n (k + (c + 1)) low high new _ before small_low small_high (omega arith) (get_or new (i + (2 * (c + 1) + 1)) (pos 0))
+    (pairs.evens (c + 1) (omega arith) ∙ ap (λ u. even_sample (get_or low u (pos 0)) here (get_or high (k + (c + 1 + 1)) (pos 0))) low_place
+    ∙ ap (λ u. even_sample (get_or low (k + (c + 1) + t) (pos 0)) here (get_or high u (pos 0))) high_place)
+    (ap (λ u. get_or new u (pos 0)) place ∙ pairs.odds c (omega arith))
+    (ap (λ u. get_or new u (pos 0)) behind)))
+
+pub IsSynthesised-eight : (start n k : ℕ) (low high old new : List ℤ) (last : ℤ) →
+    IsSynthesised start n k low high old last → All (IsBelow (2 ^ 29)) low → All (IsBelow (2 ^ 29)) high →
+    2 * k + (1 - start % 2) + 16 < n → AreSamples low (k + (1 - start % 2)) high k last old new (2 * k + (1 - start % 2)) →
+    IsSynthesised start n (k + 8) low high new (get_or new (2 * k + (1 - start % 2) + 15) (pos 0))
+IsSynthesised-eight start n k low high old new last so_far small_low small_high room pairs =
+    synthesised_pairs start n k low high old new last so_far small_low small_high room pairs 7 (omega arith)
 
 -- an odd place and an even one are left
 pub SynthesisesLine-pair : (start n k : ℕ) (low high line : List ℤ) (last next value : ℤ) →

@@ -5,3 +5,4 @@ pub mod Planes
 pub mod Laws
 pub mod Pieces
 pub mod Examples
+pub mod Pairs

@@ -5,8 +5,10 @@ ghost use Rattle.jk_lift.specs.Lifting.{high_pass, low_pass};
 ghost use Rattle.jk_math.specs.Signed.{IsBelow, signed_at};
 
 use crate::rows::{HighPass, LowPass, Step};
+use std::simd::prelude::*;
 
-/// Lifts each number of a row between those of the rows next to it.
+/// Lifts each number of a row between those of the rows next to it, eight at once, and what is left
+/// one by one.
 fn lift_between<S: Step>(row: &mut [i32], before: &[i32], after: &[i32])
     requires before_long { length before.now ≡ length row.old }
     requires after_long { length after.now ≡ length row.old }
@@ -16,7 +18,17 @@ fn lift_between<S: Step>(row: &mut [i32], before: &[i32], after: &[i32])
     ensures { (k : ℕ) → k < length row.old → signed_at row.new k
         ≡ S.formula (signed_at row.old k) (signed_at before.now k) (signed_at after.now k) }
 {
-    for k in 0..row.len() {
+    let whole = row.len() / 8;
+    for eight in 0..whole {
+        let at = 8 * eight;
+        let lifted = S::lifted_eight(
+            i32x8::from_slice(&row[at..]),
+            i32x8::from_slice(&before[at..]),
+            i32x8::from_slice(&after[at..]),
+        );
+        lifted.copy_to_slice(&mut row[at..]);
+    }
+    for k in 8 * whole..row.len() {
         row[k] = S::lifted(row[k], before[k], after[k]);
     }
 }

@@ -8,6 +8,7 @@ ghost use Rattle.jk_lift.specs.Samples.{AnalysesRows, SynthesisesRows};
 ghost use Rattle.jk_lift.specs.Sweep.{row_before, row_after, first_step, both_steps};
 
 use crate::steps;
+use std::simd::prelude::*;
 
 /// A lifting step.
 pub(crate) trait Step {
@@ -19,6 +20,17 @@ pub(crate) trait Step {
         requires before { IsBelow (2 ^ 30 - 1) before }
         requires after { IsBelow (2 ^ 30 - 1) after }
         ensures value { result ≡ formula number before after };
+
+    /// The same of eight numbers at once.
+    fn lifted_eight(number: i32x8, before: i32x8, after: i32x8) -> i32x8
+        requires lanes { (length number ≡ 8) × (length before ≡ 8) × (length after ≡ 8) }
+        requires number { (j : ℕ) → j < 8 → IsBelow (2 ^ 29) (signed_at number j) }
+        requires before { (j : ℕ) → j < 8 → IsBelow (2 ^ 30 - 1) (signed_at before j) }
+        requires after { (j : ℕ) → j < 8 → IsBelow (2 ^ 30 - 1) (signed_at after j) }
+        ensures lanes { length result ≡ 8 }
+        ensures value { (j : ℕ) → j < 8 → signed_at result j
+            ≡ formula (signed_at number j) (signed_at before j) (signed_at after j) }
+        ensures within { (j : ℕ) → j < 8 → IsBelow (2 ^ 31) (signed_at result j) };
 }
 
 /// Samples at odd places become high-pass coefficients.
@@ -30,6 +42,11 @@ impl Step for HighPass {
     #[inline(always)]
     fn lifted(number: i32, before: i32, after: i32) -> i32 {
         steps::high_pass(number, before, after)
+    }
+
+    #[inline(always)]
+    fn lifted_eight(number: i32x8, before: i32x8, after: i32x8) -> i32x8 {
+        number.strict_sub(before.strict_add(after) >> 1)
     }
 }
 
@@ -43,6 +60,11 @@ impl Step for LowPass {
     fn lifted(number: i32, before: i32, after: i32) -> i32 {
         steps::low_pass(number, before, after)
     }
+
+    #[inline(always)]
+    fn lifted_eight(number: i32x8, before: i32x8, after: i32x8) -> i32x8 {
+        number.strict_add(before.strict_add(after).strict_add(i32x8::splat(2)) >> 2)
+    }
 }
 
 /// Low-pass coefficients become samples.
@@ -55,6 +77,11 @@ impl Step for EvenSample {
     fn lifted(number: i32, before: i32, after: i32) -> i32 {
         steps::even_sample(number, before, after)
     }
+
+    #[inline(always)]
+    fn lifted_eight(number: i32x8, before: i32x8, after: i32x8) -> i32x8 {
+        number.strict_sub(before.strict_add(after).strict_add(i32x8::splat(2)) >> 2)
+    }
 }
 
 /// High-pass coefficients become samples.
@@ -66,6 +93,11 @@ impl Step for OddSample {
     #[inline(always)]
     fn lifted(number: i32, before: i32, after: i32) -> i32 {
         steps::odd_sample(number, before, after)
+    }
+
+    #[inline(always)]
+    fn lifted_eight(number: i32x8, before: i32x8, after: i32x8) -> i32x8 {
+        number.strict_add(before.strict_add(after) >> 1)
     }
 }
 
@@ -140,8 +172,7 @@ fn halve(row: &mut [i32])
     }
 }
 
-/// Lifts one row with the two rows next to it. A call of its own for each row keeps the test that
-/// the rows are apart, which vector code needs, out of the loop over rows, where it would fail.
+/// Lifts one row with the two rows next to it, eight numbers at once, and what is left one by one.
 #[inline(never)]
 fn lift_row<S: Step>(rows: &mut [i32], width: usize, row: usize, before: usize, after: usize)
     requires inside { row * width + width ≤ length rows.old }
@@ -159,7 +190,17 @@ fn lift_row<S: Step>(rows: &mut [i32], width: usize, row: usize, before: usize, 
         signed_at rows.new (r * width + x) ≡ signed_at rows.old (r * width + x) }
 {
     let (at, left, right) = (row * width, before * width, after * width);
-    for x in 0..width {
+    let whole = width / 8;
+    for eight in 0..whole {
+        let x = 8 * eight;
+        let lifted = S::lifted_eight(
+            i32x8::from_slice(&rows[at + x..]),
+            i32x8::from_slice(&rows[left + x..]),
+            i32x8::from_slice(&rows[right + x..]),
+        );
+        lifted.copy_to_slice(&mut rows[at + x..]);
+    }
+    for x in 8 * whole..width {
         rows[at + x] = S::lifted(rows[at + x], rows[left + x], rows[right + x]);
     }
 }

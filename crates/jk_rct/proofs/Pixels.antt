@@ -1,14 +1,16 @@
 -- The transform of one pixel.
 use borrow.Author.Count.{below_more}
 use Rattle.std.proofs.lemmas.List.{get_or-set_same, get_or-set_other}
-use Rattle.std.proofs.Common.{◌≡◌, ◌≢◌, ℕ, ℤ, List, ◌+◌, ◌^◌, ◌<◌, ◌≤◌, pos, negsuc, ◌+ℤ◌, ◌-ℤ◌, ◌*ℤ◌, ◌≤ℤ◌, length, set, refl, ◌∙◌, arith, w32, to_z, of_z}
+use Rattle.std.proofs.Common.{◌≡◌, ◌≢◌, ℕ, ℤ, List, ◌+◌, ◌-◌, ◌^◌, ◌<◌, ◌≤◌, pos, ◌+ℤ◌, ◌-ℤ◌, ◌*ℤ◌, length, set, inl, inr, refl, ◌∙◌, subst, arith, w32, to_z, of_z}
 use Rattle.std.proofs.lemmas.Int.{ints, to_z-of_z}
 use mir.Val.{SFits}
 use Rattle.std.specs.List.{All}
+use Rattle.std.proofs.lemmas.Bool.{cases_lt}
 use Rattle.jk_math.specs.Division.{floor_of}
 use Rattle.jk_math.specs.Signed.{IsBelow, signed_at}
 use Rattle.jk_math.proofs.Laws.{fourfold, quarter_high, quarter_low}
-use Rattle.jk_rct.specs.Colour.{y0_of, y1_of, y2_of, i0_of, i1_of, i2_of, UndoesColour, UndoesInverse, KeepsRange, InverseBounds}
+use Rattle.jk_lanes.specs.Eights.{HasEight}
+use Rattle.jk_rct.specs.Colour.{y0_of, y1_of, y2_of, i1_of, UndoesColour, UndoesInverse, KeepsRange, InverseBounds}
 
 -- a quarter less four times g is g less, and so for the quarter of a sum
 quarter_less : (s t g : ℤ) → s ≡ t +ℤ fourfold g → floor_of s 4 ≡ floor_of t 4 +ℤ g
@@ -140,3 +142,37 @@ IsMapped-written f0 f1 f2 k a b c a' b' c' v0 v1 v2 so_far sa sb sc la lb lc ra 
     let ec = read_is c c' k sc lc (so_far.rest2 k (omega arith)) in
     IsMapped-more f0 f1 f2 k a b c a' b' c' (passed v0) (passed v1) (passed v2) so_far ra rb rc
     (to_z-of_z w32 v0 t0 ∙ e0 ∙ rw (ea, eb, ec) refl) (to_z-of_z w32 v1 t1 ∙ e1 ∙ rw (ea, eb, ec) refl) (to_z-of_z w32 v2 t2 ∙ e2 ∙ rw (ea, eb, ec) refl)
+
+-- eight pixels more
+eight_more : (f : ℤ → ℤ → ℤ → ℤ) (k : ℕ) (a b c a' b' c' old new : List ℤ) →
+    ((j : ℕ) → j < k → signed_at old j ≡ f (signed_at a j) (signed_at b j) (signed_at c j)) →
+    ((j : ℕ) → k ≤ j → signed_at a' j ≡ signed_at a j) → ((j : ℕ) → k ≤ j → signed_at b' j ≡ signed_at b j) → ((j : ℕ) → k ≤ j → signed_at c' j ≡ signed_at c j) →
+    HasEight (λ j. f (signed_at a' (k + j)) (signed_at b' (k + j)) (signed_at c' (k + j))) k old new →
+    (j : ℕ) → j < k + 8 → signed_at new j ≡ f (signed_at a j) (signed_at b j) (signed_at c j)
+eight_more f k a b c a' b' c' old new done ra rb rc eight j l = elim (cases_lt j k) [
+  | inl lt ↦ eight.1 j lt ∙ done j lt
+  | inr ge ↦
+      let i : ℕ = j - k in
+      let e : k + i ≡ j = omega arith in
+      subst (λ j. signed_at new j ≡ f (signed_at a j) (signed_at b j) (signed_at c j)) e
+      (eight.0 i (omega arith) ∙ rw (ra (k + i) (omega arith), rb (k + i) (omega arith), rc (k + i) (omega arith)) refl)
+]
+
+pub IsMapped-eight : (f0 f1 f2 : ℤ → ℤ → ℤ → ℤ) (k : ℕ) (a b c a' b' c' a'' b'' c'' : List ℤ) → IsMapped f0 f1 f2 k a b c a' b' c' →
+    HasEight (λ j. f0 (signed_at a' (k + j)) (signed_at b' (k + j)) (signed_at c' (k + j))) k a' a'' →
+    HasEight (λ j. f1 (signed_at a' (k + j)) (signed_at b' (k + j)) (signed_at c' (k + j))) k b' b'' →
+    HasEight (λ j. f2 (signed_at a' (k + j)) (signed_at b' (k + j)) (signed_at c' (k + j))) k c' c'' →
+    IsMapped f0 f1 f2 (k + 8) a b c a'' b'' c''
+IsMapped-eight f0 f1 f2 k a b c a' b' c' a'' b'' c'' so_far e0 e1 e2 = record {
+  done0 = eight_more f0 k a b c a' b' c' a' a'' so_far.done0 so_far.rest0 so_far.rest1 so_far.rest2 e0;
+  done1 = eight_more f1 k a b c a' b' c' b' b'' so_far.done1 so_far.rest0 so_far.rest1 so_far.rest2 e1;
+  done2 = eight_more f2 k a b c a' b' c' c' c'' so_far.done2 so_far.rest0 so_far.rest1 so_far.rest2 e2;
+  rest0 = λ j l. e0.2 j l ∙ so_far.rest0 j (omega arith);
+  rest1 = λ j l. e1.2 j l ∙ so_far.rest1 j (omega arith);
+  rest2 = λ j l. e2.2 j l ∙ so_far.rest2 j (omega arith);
+}
+
+-- what is left to be transformed is as small as it was
+pub rest_below : (k : ℕ) (xs xs' : List ℤ) → All (IsBelow (2 ^ 29)) xs → k + 8 ≤ length xs → ((j : ℕ) → k ≤ j → signed_at xs' j ≡ signed_at xs j) →
+    (j : ℕ) → j < 8 → IsBelow (2 ^ 29) (signed_at xs' (k + j))
+rest_below k xs xs' small room same j l = rw (same (k + j) (omega arith)) (small (k + j) (pos 0) (omega arith))

@@ -1,11 +1,14 @@
 //! The reversible component transform (T.800 G.2), forwards and backwards, over whole components.
 #![tactic(auto)]
 
-ghost use Rattle.std.specs.Prelude.{◌≡◌, ℕ, ◌^◌, ◌<◌, pos, ◌+ℤ◌, length, All};
+ghost use Rattle.std.specs.Prelude.{◌≡◌, ℕ, ◌+◌, ◌^◌, ◌<◌, ◌≤◌, pos, ◌+ℤ◌, length, All};
 ghost use Rattle.jk_math.specs.Division.{floor_of};
 ghost use Rattle.jk_math.specs.Signed.{IsBelow, signed_at};
 ghost use Rattle.jk_rct.specs.Colour.{y0_of, y1_of, y2_of, i0_of, i1_of, i2_of, UndoesColour, UndoesInverse};
 ghost use Rattle.jk_rct.specs.Colour.{KeepsRange, InverseBounds};
+ghost use Rattle.jk_lanes.specs.Eights.{HasEight};
+
+use std::simd::prelude::*;
 
 /// Puts Y0, Y1 and Y2 in the places of the samples of components 0, 1 and 2.
 pub fn forward(a: &mut [i32], b: &mut [i32], c: &mut [i32])
@@ -21,7 +24,11 @@ pub fn forward(a: &mut [i32], b: &mut [i32], c: &mut [i32])
     ensures y2 { (k : ℕ) → k < length a.old →
         signed_at c.new k ≡ y2_of (signed_at a.old k) (signed_at b.old k) (signed_at c.old k) }
 {
-    for k in 0..a.len() {
+    let whole = a.len() / 8;
+    for eight in 0..whole {
+        forward_eight(a, b, c, 8 * eight);
+    }
+    for k in 8 * whole..a.len() {
         let (y0, y1, y2) = forward_pixel(a[k], b[k], c[k]);
         a[k] = y0;
         b[k] = y1;
@@ -43,12 +50,72 @@ pub fn inverse(a: &mut [i32], b: &mut [i32], c: &mut [i32])
     ensures i2 { (k : ℕ) → k < length a.old →
         signed_at c.new k ≡ i2_of (signed_at a.old k) (signed_at b.old k) (signed_at c.old k) }
 {
-    for k in 0..a.len() {
+    let whole = a.len() / 8;
+    for eight in 0..whole {
+        inverse_eight(a, b, c, 8 * eight);
+    }
+    for k in 8 * whole..a.len() {
         let (i0, i1, i2) = inverse_pixel(a[k], b[k], c[k]);
         a[k] = i0;
         b[k] = i1;
         c[k] = i2;
     }
+}
+
+/// Puts Y0, Y1 and Y2 of eight pixels, from one on, in the places of their samples.
+#[inline(always)]
+fn forward_eight(a: &mut [i32], b: &mut [i32], c: &mut [i32], at: usize)
+    requires inside { at + 8 ≤ length a.old }
+    requires same_b { length b.old ≡ length a.old }
+    requires same_c { length c.old ≡ length a.old }
+    requires small_a { (j : ℕ) → j < 8 → IsBelow (2 ^ 29) (signed_at a.old (at + j)) }
+    requires small_b { (j : ℕ) → j < 8 → IsBelow (2 ^ 29) (signed_at b.old (at + j)) }
+    requires small_c { (j : ℕ) → j < 8 → IsBelow (2 ^ 29) (signed_at c.old (at + j)) }
+    ensures y0 { HasEight
+        (λ j. y0_of (signed_at a.old (at + j)) (signed_at b.old (at + j)) (signed_at c.old (at + j)))
+        at a.old a.new }
+    ensures y1 { HasEight
+        (λ j. y1_of (signed_at a.old (at + j)) (signed_at b.old (at + j)) (signed_at c.old (at + j)))
+        at b.old b.new }
+    ensures y2 { HasEight
+        (λ j. y2_of (signed_at a.old (at + j)) (signed_at b.old (at + j)) (signed_at c.old (at + j)))
+        at c.old c.new }
+{
+    let i0 = i32x8::from_slice(&a[at..]);
+    let i1 = i32x8::from_slice(&b[at..]);
+    let i2 = i32x8::from_slice(&c[at..]);
+    let sum = i0.strict_add(i1.strict_add(i1)).strict_add(i2);
+    (sum >> 2).copy_to_slice(&mut a[at..]);
+    i2.strict_sub(i1).copy_to_slice(&mut b[at..]);
+    i0.strict_sub(i1).copy_to_slice(&mut c[at..]);
+}
+
+/// Puts the samples of eight pixels, from one on, in the places of Y0, Y1 and Y2.
+#[inline(always)]
+fn inverse_eight(a: &mut [i32], b: &mut [i32], c: &mut [i32], at: usize)
+    requires inside { at + 8 ≤ length a.old }
+    requires same_b { length b.old ≡ length a.old }
+    requires same_c { length c.old ≡ length a.old }
+    requires small_a { (j : ℕ) → j < 8 → IsBelow (2 ^ 29) (signed_at a.old (at + j)) }
+    requires small_b { (j : ℕ) → j < 8 → IsBelow (2 ^ 29) (signed_at b.old (at + j)) }
+    requires small_c { (j : ℕ) → j < 8 → IsBelow (2 ^ 29) (signed_at c.old (at + j)) }
+    ensures i0 { HasEight
+        (λ j. i0_of (signed_at a.old (at + j)) (signed_at b.old (at + j)) (signed_at c.old (at + j)))
+        at a.old a.new }
+    ensures i1 { HasEight
+        (λ j. i1_of (signed_at a.old (at + j)) (signed_at b.old (at + j)) (signed_at c.old (at + j)))
+        at b.old b.new }
+    ensures i2 { HasEight
+        (λ j. i2_of (signed_at a.old (at + j)) (signed_at b.old (at + j)) (signed_at c.old (at + j)))
+        at c.old c.new }
+{
+    let y0 = i32x8::from_slice(&a[at..]);
+    let y1 = i32x8::from_slice(&b[at..]);
+    let y2 = i32x8::from_slice(&c[at..]);
+    let i1 = y0.strict_sub(y1.strict_add(y2) >> 2);
+    y2.strict_add(i1).copy_to_slice(&mut a[at..]);
+    i1.copy_to_slice(&mut b[at..]);
+    y1.strict_add(i1).copy_to_slice(&mut c[at..]);
 }
 
 /// Y0, Y1 and Y2 of one pixel, by the samples of components 0, 1 and 2.

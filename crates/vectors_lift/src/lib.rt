@@ -7,6 +7,8 @@ mod bands;
 #[cfg(test)]
 mod formula;
 #[cfg(test)]
+mod lanes;
+#[cfg(test)]
 mod regions;
 #[cfg(test)]
 mod tests;

@@ -1,14 +1,26 @@
-use Rattle.std.proofs.Common.{◌≡◌, ℕ, ◌-◌, ◌/◌, ◌%◌, length, subst, arith, rules, w32, to_z}
+use Rattle.std.proofs.Common.{◌≡◌, ℕ, ◌+◌, ◌*◌, ◌-◌, ◌/◌, ◌%◌, ◌∙◌, length, sym, subst, arith, rules, w32, to_z, of_z}
 use mir.Val.{SFits}
 use Rattle.jk_lift.proofs.Places.{read_below, passed_is}
-use Rattle.jk_lift.proofs.Analysis.{IsAnalysed, IsAnalysed-none, IsAnalysed-more, AnalysesLine-pair, AnalysesLine-even}
+use Rattle.jk_lift.proofs.Analysis.{IsAnalysed, IsAnalysed-none, IsAnalysed-more, IsAnalysed-eight, AnalysesLine-pair, AnalysesLine-even}
 use Rattle.jk_lift.proofs.line.analyse_long.Goals as goal
 
-pub loop-k-init : goal.loop-k-init
-loop-k-init c =
+pub loop-eight-init : goal.loop-eight-init
+loop-eight-init c =
     let same = passed_is c.first_coefficient-before.result c.first_coefficient-before.ensures.within in
     rw same (IsAnalysed-none c.args.start c.args.line.now _ _ c.first_coefficient-before.result c.requires.long c.first_coefficient-before.ensures.value
     c.first_coefficient-before.ensures.within c.first_coefficient-before.ensures.written)
+
+pub loop-eight-preserved : goal.loop-eight-preserved
+loop-eight-preserved c =
+    let line = c.args.line.now in
+    let k : ℕ = 8 * c.loop-eight.eight in
+    let next : k + 8 ≡ 8 * (c.loop-eight.eight + 1) = omega arith in
+    let made = c.analyse_eight-before in
+    let whole = IsAnalysed-eight c.args.start k line c.loop-eight.low made.new.low c.loop-eight.high made.new.high (to_z w32 c.loop-eight.before-bits) c.loop-eight.invariant c.requires.small (omega arith)
+    made.ensures.coefficients in
+    let same = passed_is made.result (rw made.ensures.last whole.within) ∙ made.ensures.last in
+    subst (λ n. IsAnalysed c.args.start n line made.new.low made.new.high (to_z w32 (of_z w32 made.result))) next
+    (subst (IsAnalysed c.args.start (k + 8) line made.new.low made.new.high) (sym same) whole)
 
 pub low_pass-requires-clause-after : goal.low_pass-requires-clause-after
 low_pass-requires-clause-after c =

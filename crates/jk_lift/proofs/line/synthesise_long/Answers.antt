@@ -1,14 +1,28 @@
-use Rattle.std.proofs.Common.{◌≡◌, ℕ, ◌-◌, ◌/◌, ◌%◌, length, subst, arith, rules, w32, to_z}
+use Rattle.std.proofs.Common.{◌≡◌, ℕ, ◌+◌, ◌*◌, ◌-◌, ◌/◌, ◌%◌, ◌∙◌, length, sym, subst, arith, rules, w32, to_z, of_z}
 use mir.Val.{SFits}
 use Rattle.jk_lift.proofs.Places.{read_below, passed_is}
-use Rattle.jk_lift.proofs.Synthesis.{IsSynthesised, IsSynthesised-none, IsSynthesised-more, SynthesisesLine-pair, SynthesisesLine-odd}
+use Rattle.jk_lift.proofs.Synthesis.{IsSynthesised, IsSynthesised-none, IsSynthesised-more, IsSynthesised-eight, SynthesisesLine-pair, SynthesisesLine-odd}
 use Rattle.jk_lift.proofs.line.synthesise_long.Goals as goal
 
-pub loop-k-init : goal.loop-k-init
-loop-k-init c =
+pub loop-eight-init : goal.loop-eight-init
+loop-eight-init c =
     let same = passed_is c.first_sample-before.result c.first_sample-before.ensures.within in
     rw same (IsSynthesised-none c.args.start (length c.args.line.now) c.args.low.now c.args.high.now _ c.first_sample-before.result c.requires.long
     c.first_sample-before.ensures.value c.first_sample-before.ensures.within c.first_sample-before.ensures.written)
+
+pub loop-eight-preserved : goal.loop-eight-preserved
+loop-eight-preserved c =
+    let n = length c.args.line.now in
+    let low = c.args.low.now in
+    let high = c.args.high.now in
+    let k : ℕ = 8 * c.loop-eight.eight in
+    let next : k + 8 ≡ 8 * (c.loop-eight.eight + 1) = omega arith in
+    let made = c.synthesise_eight-before in
+    let whole = IsSynthesised-eight c.args.start n k low high c.loop-eight.line made.new.line (to_z w32 c.loop-eight.before-bits) c.loop-eight.invariant c.requires.small_low c.requires.small_high (omega arith)
+    made.ensures.samples in
+    let same = passed_is made.result (rw made.ensures.last whole.within) ∙ made.ensures.last in
+    subst (λ m. IsSynthesised c.args.start n m low high made.new.line (to_z w32 (of_z w32 made.result))) next
+    (subst (IsSynthesised c.args.start n (k + 8) low high made.new.line) (sym same) whole)
 
 pub odd_sample-requires-clause-after : goal.odd_sample-requires-clause-after
 odd_sample-requires-clause-after c =
