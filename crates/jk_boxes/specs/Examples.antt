@@ -19,7 +19,8 @@ row_colour : box_text (record { form = Short; kind = colour_kind; contents = 1 �
 unfolding box_text
 row_colour = refl
 
--- A codestream box whose length stands in XLBox: LBox is 1, and XLBox counts the 16 bytes before the contents.
+-- A codestream box whose length stands in XLBox: LBox is 1, and XLBox counts the 16 bytes before
+-- the contents.
 row_long : box_text (record { form = Long; kind = code_kind; contents = soc })
     ≡ 0 ∷ 0 ∷ 0 ∷ 1 ∷ 0x6A ∷ 0x70 ∷ 0x32 ∷ 0x63 ∷ 0 ∷ 0 ∷ 0 ∷ 0 ∷ 0 ∷ 0 ∷ 0 ∷ 0x12 ∷ 0xFF ∷ 0x4F ∷ []
 unfolding box_text

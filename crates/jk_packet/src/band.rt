@@ -136,8 +136,7 @@ impl Band {
 
     /// What the packet of a layer has of the blocks, in raster order.
     ///
-    /// It takes the time of what the packet tells: blocks that a node above them leaves out
-    /// together are passed over together.
+    /// Blocks that a node above them leaves out together are passed over together.
     pub(crate) fn read(
         &mut self,
         number: u8,

@@ -11,8 +11,9 @@ use Rattle.jk_tree.specs.TagTree.{Shape, top, count, place, column, row, IsNode,
 use Rattle.jk_tree.specs.TagTree.{told}
 use Rattle.jk_tree.specs.declared.node.Node.{Node}
 
--- What a node has told after a threshold, where `over` is the value of the node above it: its value, if that is below
--- the threshold; and if not, that it isn't: by its own zeros, or by the node above, which isn't either.
+-- What a node has told after a threshold, where `over` is the value of the node above it: its
+-- value, if that is below the threshold; and if not, that it isn't: by its own zeros, or by the
+-- node above, which isn't either.
 pub record HasTold (over own before : ℕ) (node : Node) : Type 0 where
   pub known : node.known ≡ nat_lt own before
   pub value : node.known ≡ true → node.low ≡ own
@@ -44,8 +45,8 @@ visit node over threshold bits =
     if node.known || nat_le threshold node.low then Ok (node, bits)
     else climb (max node.low over) (threshold - max node.low over) bits
 
--- The nodes of the levels below i, from the top down: whether all are below the threshold. Under one that isn't, none
--- is, and none tells anything.
+-- The nodes of the levels below i, from the top down: whether all are below the threshold. Under
+-- one that isn't, none is, and none tells anything.
 unfoldable pub walk : Shape → Query → ℕ → ℕ → List Node → Bits → Result (Bool × (List Node × Bits)) Fault
 walk s q zero over nodes bits = Ok (true, (nodes, bits))
 walk s q (suc i) over nodes bits =
@@ -63,8 +64,8 @@ IsKnown s nodes leaf = (i : ℕ) → i ≤ top s
 abbrev pub over_leaf : Shape → List Node → (i x y : ℕ) → Node
 over_leaf s nodes i x y = node_at nodes (place s i (x / 2 ^ i) (y / 2 ^ i))
 
--- Leaf (x, y) is under a node of level i that isn't below the threshold, and of which no more is known; those above
--- that node are below the threshold.
+-- Leaf (x, y) is under a node of level i that isn't below the threshold, and of which no more is
+-- known; those above that node are below the threshold.
 pub record IsClosed (s : Shape) (nodes : List Node) (threshold i x y : ℕ) : Type 0 where
   pub level : i ≤ top s
   pub above : (j : ℕ) → i < j → j ≤ top s

@@ -1,6 +1,6 @@
 //! Leaves of which a query says nothing, since a node over them isn't below the threshold.
 
-ghost use Rattle.std.specs.Prelude.{◌≡◌, ℕ, ◌+◌, ◌*◌, ◌/◌, ◌^◌, ◌<◌, ◌≤◌, length, IfSome};
+ghost use Rattle.std.specs.Prelude.{◌≡◌, ℕ, ◌+◌, ◌*◌, ◌/◌, ◌^◌, ◌<◌, ◌≤◌, length, IfSome, None};
 ghost use Rattle.jk_tree.specs.TagTree.{shape_of, count, top};
 ghost use Rattle.jk_tree.specs.Asking.{IsClosed};
 
@@ -39,8 +39,10 @@ fn closed_level(
     requires root { levels.root ≡ top (shape_of levels.width levels.height) }
     requires small { levels.root ≤ 16 }
     requires long { length nodes.now ≡ count (shape_of levels.width levels.height) }
-    ensures { IfSome result
+    ensures closed { IfSome result
         (λ i. IsClosed (shape_of levels.width levels.height) nodes.now threshold i column row) }
+    ensures open { result ≡ None → (i : ℕ)
+        → IsClosed (shape_of levels.width levels.height) nodes.now threshold i column row → ⊥ }
 {
     let mut start = nodes.len();
     let mut level = levels.root + 1;
@@ -76,6 +78,8 @@ pub(crate) fn closed_run(
     ensures below { (row < result.below) × (result.below ≤ levels.height) }
     ensures closed { (x y : ℕ) → column ≤ x → x < result.end → row ≤ y → y < result.below
         → (i : ℕ) × IsClosed (shape_of levels.width levels.height) nodes.now threshold i x y }
+    ensures open { result.end < levels.width → (i : ℕ)
+        → IsClosed (shape_of levels.width levels.height) nodes.now threshold i result.end row → ⊥ }
 {
     let width = levels.width as u32;
     let mut end = column;

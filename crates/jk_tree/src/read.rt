@@ -1,6 +1,7 @@
 //! Tag trees that are read (T.800 B.10.2).
 
-ghost use Rattle.std.specs.Prelude.{◌≡◌, ℕ, ◌+◌, ◌-◌, ◌*◌, ◌<◌, ◌≤◌, ◌++◌, [], ◌∷◌, List, Bool, false, true, length};
+ghost use Rattle.std.specs.Prelude.{◌≡◌, ℕ, ◌+◌, ◌-◌, ◌*◌, ◌/◌, ◌%◌, ◌<◌, ◌≤◌, ◌++◌, [], ◌∷◌, List, Bool, false, true};
+ghost use Rattle.std.specs.Prelude.{length};
 ghost use Rattle.std.specs.Prelude.{Ok, Err};
 ghost use Rattle.std.specs.Prelude.{None, Some, IfOk, IfErr, OnErr, IfSome, IsOkAnd, MatchResult};
 ghost use Rattle.jk_math.specs.Answer.{Reads};
@@ -9,7 +10,7 @@ ghost use Rattle.jk_bits.specs.Reading.{Bits, ahead};
 ghost use Rattle.jk_bits.specs.Giving.{Stops};
 ghost use Rattle.jk_tree.specs.TagTree.{shape_of, query_of, Values, IsTree, Query, count, top, told};
 ghost use Rattle.jk_tree.specs.Asking.{IsAnswer, AreToldBySome, AreTold, ask_at, blank_tree, climb, node_at, visit};
-ghost use Rattle.jk_tree.specs.Asking.{walk, IsKnown};
+ghost use Rattle.jk_tree.specs.Asking.{walk, IsKnown, IsClosed};
 
 use crate::closed::closed_run;
 use crate::levels::{Levels, node_count, node_over, root_level};
@@ -74,7 +75,8 @@ fn visit(node: Node, over: u16, threshold: u16, reader: &mut BitReader<'_>) -> R
     climb(node.low.max(over), threshold, reader)
 }
 
-/// The nodes over a leaf, from the root down, as far as they are below the threshold: whether all are.
+/// The nodes over a leaf, from the root down, as far as they are below the threshold: whether all
+/// are.
 fn walk(
     nodes: &mut Vec<Node>,
     levels: Levels,
@@ -202,10 +204,11 @@ impl ReadTree {
         }
     }
 
-    /// The first leaf from `from` on, in raster order, about which a query at this threshold may
-    /// read a bit, or the number of leaves; a little before it where that is quicker to tell.
+    /// The first leaf from `from` on, in raster order, that isn't under a node of which it is known
+    /// that it isn't below this threshold, and no more; or the number of leaves. A tree that has
+    /// failed passes over none.
     ///
-    /// Whole squares of leaves are passed over under a node that isn't below the threshold.
+    /// The leaves under such a node are passed over together.
     pub fn next_open(&self, from: u32, threshold: u16) -> u32
         requires { from ≤ self.now.shape.width * self.now.shape.height }
         ensures from { from ≤ result }
@@ -214,6 +217,10 @@ impl ReadTree {
             → ask_at (query_of leaf threshold) (self.now, bits) ≡ Ok (false, (self.now, bits)) }
         ensures unknown { (leaf : ℕ) → from ≤ leaf → leaf < result
             → IsKnown self.now.shape self.now.nodes leaf → ⊥ }
+        ensures open { self.now.failed ≡ None
+            → result < self.now.shape.width * self.now.shape.height
+            → (i : ℕ) → IsClosed self.now.shape self.now.nodes threshold i
+            (result % self.now.shape.width) (result / self.now.shape.width) → ⊥ }
     {
         let width = self.levels.width as u32;
         let height = self.levels.height as u32;

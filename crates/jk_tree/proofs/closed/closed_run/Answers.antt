@@ -22,6 +22,6 @@ loop-end-preserved c =
       deep = (let d = i.deep in omega (arith, d, below_is));
       closed = λ x y from to down upto. elim (cases_lt x end) [
         | inl before ↦ i.closed x y from before down (omega (arith, upto, below_is))
-        | inr behind ↦ (level, closed_with s c.args.nodes.now c.args.threshold level end c.args.row x y c.in-Some.ensures (c.behind.ensures.same x behind (omega (arith, to, end_is))) (c.behind-in-loop-end.ensures.same y down (omega (arith, upto, below_is))))
+        | inr behind ↦ (level, closed_with s c.args.nodes.now c.args.threshold level end c.args.row x y c.in-Some.ensures.closed (c.behind.ensures.same x behind (omega (arith, to, end_is))) (c.behind-in-loop-end.ensures.same y down (omega (arith, upto, below_is))))
       ];
     }
