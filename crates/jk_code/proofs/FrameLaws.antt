@@ -45,7 +45,7 @@ tiles_sample bytes h d c x y lt is =
     ap (λ (plane : List ℤ). plane_at a plane x y) (get_or-map-range_with_len f 0 h.siz.components c c [] lt (omega arith))
     ∙ raster_at a (sample_of_tiles bytes h d c) x y (record { left = is.left; right = is.right; upper = is.upper; lower = is.lower })
 
-fields_from : (p : Picture) (x0 y0 width height depth : ℕ) (signed : Bool) (planes : List (List ℤ)) → p.x0 ≡ x0 → p.y0 ≡ y0 → p.width ≡ width → p.height ≡ height → p.depth ≡ depth → p.signed ≡ signed → p.planes ≡ planes
+pub fields_from : (p : Picture) (x0 y0 width height depth : ℕ) (signed : Bool) (planes : List (List ℤ)) → p.x0 ≡ x0 → p.y0 ≡ y0 → p.width ≡ width → p.height ≡ height → p.depth ≡ depth → p.signed ≡ signed → p.planes ≡ planes
     → p ≡ record { x0 = x0; y0 = y0; width = width; height = height; depth = depth; signed = signed; planes = planes }
 fields_from p x0 y0 width height depth signed planes a b c d e f g =
     ap (λ k. record p { x0 = k }) a ∙ ap (λ k. record p { x0 = x0; y0 = k }) b ∙ ap (λ k. record p { x0 = x0; y0 = y0; width = k }) c

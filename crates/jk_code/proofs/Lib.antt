@@ -23,3 +23,4 @@ pub mod ViewSteps
 pub mod ViewAgain
 pub mod OneTile
 pub mod StripeLaws
+pub mod MadeLaws

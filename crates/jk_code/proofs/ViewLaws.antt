@@ -14,7 +14,7 @@ use Rattle.jk_math.specs.Raster.{raster}
 use Rattle.jk_math.proofs.Laws.{raster_same}
 use Rattle.jk_marks.specs.Siz.{tile_count}
 use Rattle.jk_boxes.specs.Reading.{boxes_at}
-use Rattle.jk_geom.specs.Rectangles.{is_empty}
+use Rattle.jk_geom.specs.Rectangles.{is_empty, IsWithin}
 use Rattle.jk_params.specs.Headers.{Headers}
 use Rattle.jk_params.specs.HeadersReading.{headers_at}
 use Rattle.jk_walk.specs.WalkReading.{packets_at}
@@ -73,13 +73,11 @@ tiles_rect bytes h d some =
     let high = sides.1 in
     same_rect (rect_of (tiles_picture bytes h d)) a refl refl (omega (arith, wide)) (omega (arith, high))
 
--- What all tiles show on a window is their picture there.
-tiles_on : (bytes : List ℕ) (h : Headers) (v : View)
-    → picture_with h.siz (window_of h v) (planes_of_tiles bytes h v.reduce (window_of h v)) ≡ picture_on (window_of h v) (tiles_picture bytes h v.reduce)
-tiles_on bytes h v =
-    let d = v.reduce in
+-- What all tiles show on a part of the image is their picture there.
+pub seen_on : (bytes : List ℕ) (h : Headers) (d : ℕ) (w : Rect) → ((x y : ℕ) → IsWithin w x y → IsWithin (frame_of h d) x y)
+    → picture_with h.siz w (planes_of_tiles bytes h d w) ≡ picture_on w (tiles_picture bytes h d)
+seen_on bytes h d w inside =
     let a = frame_of h d in
-    let w = window_of h v in
     let n = h.siz.components in
     let all = tiles_picture bytes h d in
     let f : ℕ → List ℤ = λ c. raster w (sample_of_tiles bytes h d c) in
@@ -92,12 +90,19 @@ tiles_on bytes h v =
     let within : c < length all.planes = omega (arith, less, count) in
     get_or-map-range_with_len f 0 n c c [] less (omega arith)
     ∙ raster_same w (sample_of_tiles bytes h d c) (λ x y. sample_at all c (x - a.x0) (y - a.y0)) (λ x y is.
+    sym (tiles_sample bytes h d c x y less (inside x y (record { left = is.left; right = is.right; upper = is.upper; lower = is.lower }))))
+    ∙ sym (get_or-map-range_with_len g 0 (length all.planes) c c [] within (omega arith))))
+
+-- on a window
+tiles_on : (bytes : List ℕ) (h : Headers) (v : View)
+    → picture_with h.siz (window_of h v) (planes_of_tiles bytes h v.reduce (window_of h v)) ≡ picture_on (window_of h v) (tiles_picture bytes h v.reduce)
+tiles_on bytes h v =
+    seen_on bytes h v.reduce (window_of h v) (λ x y is.
     let left = is.left in
     let right = is.right in
     let upper = is.upper in
     let lower = is.lower in
-    sym (tiles_sample bytes h d c x y less (record { left = omega (arith, left); right = omega (arith, right); upper = omega (arith, upper); lower = omega (arith, lower) })))
-    ∙ sym (get_or-map-range_with_len g 0 (length all.planes) c c [] within (omega arith))))
+    record { left = omega (arith, left); right = omega (arith, right); upper = omega (arith, upper); lower = omega (arith, lower) })
 
 -- ---- what is tested
 

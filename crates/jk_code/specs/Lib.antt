@@ -13,6 +13,7 @@ pub mod Frames
 pub mod Viewing
 pub mod ViewReading
 pub mod Stripes
+pub mod Made
 pub mod Beginnings
 pub mod Sending
 pub mod Examples

@@ -21,7 +21,7 @@ use jk_geom::tile_count;
 use jk_marks::{Exponents, write_end, write_main, write_tile_part};
 use jk_math::{Fault, Image, Planes};
 use jk_params::{Parameters, siz_of};
-use jk_tile::{encode_tile_with, exponents, tile_bands};
+use jk_tile::{encode_tile_with, exponents_with, tile_bands_with};
 use std::alloc::Global;
 use std::marker::Sync;
 use std::thread::Threads;
@@ -84,7 +84,7 @@ fn put_tiles_with<R: Threads + Sync, G: Gate + Sync>(
         rt, alloc, workers, gate, out, image, parameters, exponents, 0, first,
     )?;
     for number in 1..tile_count(&siz) {
-        let bands = tile_bands(alloc, image, parameters, number)?;
+        let bands = tile_bands_with(rt, alloc, workers, image, parameters, number)?;
         put_tile_with(
             rt, alloc, workers, gate, out, image, parameters, exponents, number, bands,
         )?;
@@ -114,7 +114,7 @@ fn codestream_with<R: Threads + Sync, G: Gate + Sync>(
         (λ v. (bytes : List ℕ) → HoldsCodestream bytes v.items → HasFronts image.now parameters.now bytes) }
     ensures err { IfErr result (λ e. IsMemory e ⊎ ((e ≡ Limit) × (parts_fit image.now parameters.now ≡ false))) }
 {
-    let (exponents, first) = exponents(alloc, image, parameters)?;
+    let (exponents, first) = exponents_with(rt, alloc, workers, image, parameters)?;
     let mut out = Vec::new(alloc);
     write_main(&main_header(image, parameters, &exponents), &mut out)?;
     put_tiles_with(

@@ -71,7 +71,7 @@ fn least_levels(headers: &Codestream) -> u8
 
 /// What headers say of the image at a reduction.
 #[tactic(auto, unfolding(crate::specs::Frames::headers_frame_at))]
-fn headers_frame(headers: &Codestream, reduce: u32) -> Result<ImageFrame, Fault>
+pub(crate) fn headers_frame(headers: &Codestream, reduce: u32) -> Result<ImageFrame, Fault>
     requires { (size : ℕ) × AreHeaders size headers.now }
     ensures { result ≡ headers_frame_at headers.now reduce }
 {

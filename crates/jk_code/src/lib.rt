@@ -6,6 +6,8 @@ mod decoding_with;
 mod encoding;
 mod encoding_with;
 mod frames;
+mod joining;
+mod making;
 mod reduction;
 mod stripes;
 mod viewing;
@@ -17,6 +19,7 @@ pub use decoding_with::decode_with;
 pub use encoding::encode;
 pub use encoding_with::encode_with;
 pub use frames::{ImageFrame, frame};
+pub use making::{MadeStripes, StripeWork, make_with};
 pub use viewing::{decode_window, decode_window_by};
 pub use windows::{
     cut_files_show_the_window, pictures_have_indexes, window, windows_show_the_picture,

@@ -1,7 +1,7 @@
 //! An image in stripes of rows, one below the other, which are made each by itself, of code-blocks
 //! that were decoded before or are decoded now.
 
-ghost use Rattle.std.specs.Prelude.{◌≡◌, ℕ, ◌+◌, ◌*◌, ◌-◌, ◌^◌, ◌<◌, ◌≤◌, ◌++◌, List, [], length, map, false};
+ghost use Rattle.std.specs.Prelude.{◌≡◌, ℕ, suc, ◌+◌, ◌*◌, ◌-◌, ◌^◌, ◌<◌, ◌≤◌, length, map, false};
 ghost use Rattle.std.specs.Prelude.{IfOk, IfErr, OnOk};
 ghost use Rattle.std.specs.List.{range_with_len};
 ghost use Rattle.jk_math.specs.Answer.{Answers};
@@ -15,7 +15,7 @@ ghost use Rattle.jk_tile.specs.Filling.{IsPartOf};
 ghost use Rattle.jk_tile.specs.decoding.Decoded.{AreDecoded};
 ghost use Rattle.jk_window.specs.Views.{HaveLevels, frame_of};
 ghost use Rattle.jk_code.specs.MeaningReading.{planes_of_tiles};
-ghost use Rattle.jk_code.specs.Stripes.{bound_of, stripe_of, joined_planes};
+ghost use Rattle.jk_code.specs.Stripes.{bound_of, stripe_of};
 ghost use Rattle.jk_code.specs.Tiles.{AreRead, plane_in};
 ghost use Rattle.jk_code.specs.ViewReading.{seen_parts_tested};
 
@@ -37,53 +37,79 @@ pub(crate) struct Cut {
     pub(crate) count: usize,
 }
 
+/// How many stripes of `step` rows each a rectangle has behind its first one.
+fn stripes_behind(height: u32, first: u32, step: u32) -> usize
+    requires { 1 ≤ step }
+    ensures { (n : ℕ) → n < result → first + n * step < height }
+{
+    if height <= first {
+        return 0;
+    }
+    ((height - first - 1) / step + 1) as usize
+}
+
+/// How many rows the first stripe has and each further one, where they end a multiple of `unit` rows
+/// away from row `phase`, and are as near as that to `part` rows each.
+fn first_and_step(top: u32, part: u32, unit: u32, phase: u32) -> (u32, u32)
+    requires part { 1 ≤ part }
+    requires low { part < 2 ^ 31 }
+    requires unit { 1 ≤ unit }
+    requires high { unit < 2 ^ 31 }
+    requires phase { phase < unit }
+    ensures first { 1 ≤ result.0 }
+    ensures step { 1 ≤ result.1 }
+{
+    let near = (part + unit / 2) / unit * unit;
+    if near == 0 {
+        return (part, part);
+    }
+    let past = (phase + unit - top % unit) % unit;
+    if past > unit / 2 {
+        (near + past - unit, near)
+    } else {
+        (near + past, near)
+    }
+}
+
 /// Stripes that end, but for the last one, a multiple of `unit` rows away from row `phase`, of so
-/// many rows each as come near to equal parts.
+/// many rows each as come near to equal parts; as many as have a row, and `count` at most.
 fn cut_at(area: &Rect, count: usize, unit: u32, phase: u32) -> Cut
     requires area { IsArea area.now }
     requires some { 1 ≤ count }
     requires few { count ≤ 64 }
+    requires rows { count ≤ area.now.y1 - area.now.y0 }
     requires unit { 1 ≤ unit }
     requires high { unit < 2 ^ 31 }
     requires phase { phase < unit }
-    ensures { result.count ≡ count }
+    ensures some { 1 ≤ result.count }
+    ensures few { result.count ≤ count }
+    ensures rows { (n : ℕ) → n < result.count → bound_of area.now result n < bound_of area.now result (suc n) }
 {
     let height = area.y1 - area.y0;
-    let part = height / count as u32;
-    let step = (part + unit / 2) / unit * unit;
-    if step == 0 {
-        return Cut {
-            first: part,
-            step: part,
-            count,
-        };
-    }
-    let past = (phase + unit - area.y0 % unit) % unit;
-    let first = if past > unit / 2 {
-        step + past - unit
-    } else {
-        step + past
-    };
+    let (first, step) = first_and_step(area.y0, height / count as u32, unit, phase);
+    let count = count.min(stripes_behind(height, first, step) + 1);
     Cut { first, step, count }
 }
 
 /// How the rows of the reduced image are cut for so many workers: between tiles, where their rows
 /// can be dealt out in equal parts; otherwise through the middle of code-blocks, so that those at
-/// a cut are the fewest.
+/// a cut are the fewest. Each stripe has a row.
 pub(crate) fn cut_for(headers: &Codestream, reduce: u8, area: &Rect, workers: usize) -> Cut
     requires sound { (size : ℕ) × AreHeaders size headers.now }
     requires reduce { reduce ≤ 10 }
     requires area { IsArea area.now }
+    requires high { area.now.y0 < area.now.y1 }
     requires some { 1 ≤ workers }
     requires few { workers ≤ 64 }
     ensures some { 1 ≤ result.count }
     ensures few { result.count ≤ workers }
+    ensures rows { (n : ℕ) → n < result.count → bound_of area.now result n < bound_of area.now result (suc n) }
 {
     let height = area.y1 - area.y0;
-    let count = workers.min(height as usize).max(1);
+    let count = workers.min(height as usize);
     let siz = headers.siz();
     let tile = (siz.tile_height >> reduce).min(area.y1).max(1);
-    let rows = height.saturating_sub(1) / tile + 1;
+    let rows = (height - 1) / tile + 1;
     if rows as usize % count == 0 {
         return cut_at(area, count, tile, (siz.tile_y0 >> reduce) % tile);
     }
@@ -221,53 +247,4 @@ pub(crate) fn stripe_planes(
     } else {
         stripe_of_tiles(alloc, headers, bytes, packets, reduce, stripe, decoded)
     }
-}
-
-/// Room for the planes of so many components over a rectangle.
-fn room_for(alloc: Global, components: u16, area: &Rect) -> Result<Vec<Vec<i32>>, Fault>
-    requires area { IsArea area.now }
-    ensures count { IfOk result (λ v. length v.items ≡ components) }
-    ensures empty { IfOk result (λ v. (c : ℕ) → plane_in v.items c ≡ []) }
-    ensures memory { IfErr result IsMemory }
-{
-    let places = (area.x1 - area.x0) as usize * (area.y1 - area.y0) as usize;
-    let mut planes = Vec::new(alloc);
-    for _ in 0..components {
-        planes.push(Vec::with_capacity(alloc, places)?)?;
-    }
-    Ok(planes)
-}
-
-/// Puts the rows of a stripe behind those of the planes.
-fn append(planes: &mut Vec<Vec<i32>>, stripe: &[Vec<i32>]) -> Result<(), Fault>
-    requires { length stripe.now ≡ length planes.old.items }
-    ensures count { OnOk result (length planes.new.items ≡ length planes.old.items) }
-    ensures rows { OnOk result
-        ((c : ℕ) → plane_in planes.new.items c ≡ plane_in planes.old.items c ++ plane_in stripe.now c) }
-    ensures memory { IfErr result IsMemory }
-{
-    for c in 0..planes.len() {
-        planes[c].extend_from_slice(&stripe[c])?;
-    }
-    Ok(())
-}
-
-/// The planes of so many components over a rectangle from those of its stripes, which are let go
-/// of one after another.
-pub(crate) fn join(
-    alloc: Global,
-    components: u16,
-    area: &Rect,
-    stripes: Vec<Vec<Vec<i32>>>,
-) -> Result<Vec<Vec<i32>>, Fault>
-    requires area { IsArea area.now }
-    requires stripes { (w : ℕ) → w < length stripes.items → length (list_at stripes.items w) ≡ components }
-    ensures planes { IfOk result (λ v. lists_of v.items ≡ joined_planes components stripes.items) }
-    ensures memory { IfErr result IsMemory }
-{
-    let mut planes = room_for(alloc, components, area)?;
-    for stripe in stripes {
-        append(&mut planes, &stripe)?;
-    }
-    Ok(planes)
 }

@@ -1,6 +1,7 @@
 pub mod SizeLaws
 pub mod CommandLaws
 pub mod LeftLaws
+pub mod RasterLaws
 pub mod WalkLoops
 pub mod MarkerLaws
 pub mod BoxLaws

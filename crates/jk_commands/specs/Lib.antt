@@ -4,6 +4,7 @@ pub mod Sizes
 pub mod Options
 pub mod Plans
 pub mod Commands
+pub mod Rasters
 pub mod Written
 pub mod Lines
 pub mod BoxList

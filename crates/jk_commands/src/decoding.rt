@@ -1,6 +1,6 @@
 //! Decoding to a PGM or PPM file.
 
-ghost use Rattle.std.specs.Prelude.{◌≡◌, ◌≤◌, ℕ, List, [], Ok, Err, IfOk, OnOk};
+ghost use Rattle.std.specs.Prelude.{◌≡◌, ◌≤◌, ℕ, List, Ok, Err, IfOk, OnOk};
 ghost use Rattle.std.specs.Io.KnownBytes.{Appends};
 ghost use Rattle.jk_math.specs.Answer.{Answers};
 ghost use Rattle.jk_math.specs.Picture.{Picture};
@@ -13,13 +13,11 @@ ghost use Rattle.jk_code.specs.MeaningReading.{meaning_at};
 ghost use Rattle.jk_commands.specs.Plans.{at_place};
 ghost use Rattle.jk_commands.specs.Commands.{decoded};
 
-use jk_code::{decode, decode_with};
-use jk_farm::Gate;
+use jk_code::decode;
 use jk_math::{Fault, Image};
 use jk_pnm::write_into;
 use std::alloc::Global;
 use std::io::Write;
-use std::thread::Threads;
 
 /// The image that a file means. The file is let go of.
 fn decode_image(alloc: Global, bytes: Vec<u8>, reduce: u32) -> Result<Image, Fault>
@@ -47,24 +45,6 @@ pub fn decode_file(alloc: Global, bytes: Vec<u8>, reduce: u32) -> Result<Vec<u8>
     jk_pnm::write(alloc, &image)
 }
 
-/// The image that a file means, decoded by so many workers. The file is let go of.
-fn decode_image_with<R: Threads + Sync, G: Gate + Sync>(
-    rt: &R,
-    alloc: Global,
-    workers: usize,
-    gate: &G,
-    bytes: Vec<u8>,
-    reduce: u32,
-) -> Result<Image, Fault>
-    ensures range { (1 ≤ workers → workers ≤ 64 → ⊥) → result ≡ Err BadParameters }
-    ensures exact { 1 ≤ workers → workers ≤ 64 → Answers (λ i. i) result (meaning_at bytes.items reduce) }
-    ensures found { IfOk result (λ i. Means bytes.items reduce i) }
-    ensures only { 1 ≤ workers → workers ≤ 64 → (p : Picture) → Means bytes.items reduce p
-        → Answers (λ i. i) result (Ok p) }
-{
-    decode_with::<R, G>(rt, alloc, workers, gate, &bytes, reduce)
-}
-
 /// Writes what `jk decode` makes of a file, a few rows at a time: the bytes that [`decode_file`]
 /// gives.
 ///
@@ -87,36 +67,6 @@ pub fn decode_file_into<W: Write>(
         → (text : List ℕ) × Appends (W.contents writer.old) (W.contents writer.new) text × IsLeft (pnm_of p) text result }
 {
     let image = decode_image(alloc, bytes, reduce)?;
-    write_into(alloc, &image, writer)
-}
-
-/// Writes what `jk decode` makes of a file, decoded by so many workers side by side: what
-/// [`decode_file_into`] writes, and its first fault.
-///
-/// BadParameters, before all else: less than one worker or more than 64; nothing is written.
-pub fn decode_file_into_with<R: Threads + Sync, G: Gate + Sync, W: Write>(
-    rt: &R,
-    alloc: Global,
-    workers: usize,
-    gate: &G,
-    bytes: Vec<u8>,
-    reduce: u32,
-    writer: &mut W,
-) -> Result<(), Fault>
-    ensures range { (1 ≤ workers → workers ≤ 64 → ⊥) → (result ≡ Err BadParameters)
-        × Appends (W.contents writer.old) (W.contents writer.new) [] }
-    // What was written, however it ended.
-    ensures exact { 1 ≤ workers → workers ≤ 64
-        → (text : List ℕ) × Appends (W.contents writer.old) (W.contents writer.new) text
-        × IsLeft (decoded bytes.items reduce) text result }
-    // A whole file is one of the picture that the file means.
-    ensures found { OnOk result ((p : Picture) × Means bytes.items reduce p
-        × ((file : List ℕ) → decoded bytes.items reduce ≡ Ok file → IsPnm file (at_place p 0 0))) }
-    // Of a file that means a picture, the picture's file is written.
-    ensures only { 1 ≤ workers → workers ≤ 64 → (p : Picture) → Means bytes.items reduce p
-        → (text : List ℕ) × Appends (W.contents writer.old) (W.contents writer.new) text × IsLeft (pnm_of p) text result }
-{
-    let image = decode_image_with::<R, G>(rt, alloc, workers, gate, bytes, reduce)?;
     write_into(alloc, &image, writer)
 }
 

@@ -6,6 +6,7 @@ mod coding_values;
 mod comparing;
 mod cutting;
 mod decoding;
+mod decoding_with;
 mod encoding;
 mod markers;
 mod options;
@@ -21,7 +22,8 @@ mod viewing;
 
 pub use comparing::{Change, Difference, differences, differences_text};
 pub use cutting::cut_file;
-pub use decoding::{check_workers, decode_file, decode_file_into, decode_file_into_with};
+pub use decoding::{check_workers, decode_file, decode_file_into};
+pub use decoding_with::decode_file_into_with;
 pub use encoding::{encode_file, encode_file_into, encode_file_with, read_image};
 pub use options::EncodeOptions;
 pub use orders::{order_name, order_named};

@@ -1,15 +1,19 @@
 -- Laws of what was written so far, and of what one step more writes.
-use Rattle.std.proofs.Common.{◌≡◌, ℕ, ◌-◌, ◌≤◌, inl, inr, true, false, cond, ℤ, List, [], ◌++◌, Option, Result, Ok, Err, OnOk, refl, ap, sym, ◌∙◌, subst, append_assoc}
+use Rattle.std.proofs.Common.{◌≡◌, ℕ, zero, suc, ◌+◌, ◌-◌, ◌<◌, ◌≤◌, eqb, inl, inr, Bool, true, false, cond, ℤ, List, [], ◌∷◌, ◌++◌, length, take, drop, get_or, Option, Result, Ok, Err, OnOk, refl, ap, sym, ◌∙◌, subst, append_assoc, arith}
+use Rattle.std.specs.Global.{Vec}
+use Rattle.std.proofs.lemmas.List.{append-nil}
 use Rattle.std.specs.Bool.{⊤}
 use Rattle.std.specs.Io.KnownBytes.{Appends}
 use Rattle.jk_math.specs.Front.{IsFront}
 use Rattle.jk_math.specs.Memory.{IsMemory}
-use Rattle.jk_math.specs.Picture.{Picture}
+use Rattle.jk_math.specs.Picture.{Picture, is_grey_or_rgb}
 use Rattle.jk_math.specs.declared.fault.Fault.{Fault}
 use Rattle.jk_math.specs.declared.fault.Fault.TheVariants.{Unsupported}
 use Rattle.jk_math.proofs.Laws.{appends_none, appends_join}
 use Rattle.jk_math.specs.Steps.{ok_is}
-use Rattle.jk_pnm.specs.Written.{is_written, raster_part, raster_text, file_text, written}
+use Rattle.jk_pnm.specs.Written.{is_written, maxval_of, header_text, raster_part, raster_text, file_text, written}
+use Rattle.jk_pnm.specs.declared.rasters.RasterFrame.{RasterFrame}
+use Rattle.jk_pnm.specs.Rasters.{pieces_text, AreRastersOf}
 use Rattle.jk_pnm.specs.Sending.{IsSent, IsLeft}
 use Rattle.jk_pnm.proofs.RasterLaws.{raster_joined}
 
@@ -97,3 +101,57 @@ means_of P p (Err e) holds is = tt
 pub on_ok_all : {P : Type 0} (r : Result ⊤ Fault) → P → OnOk r P
 on_ok_all (Ok done) h = h
 on_ok_all (Err e) h = tt
+
+-- ---- pieces
+
+-- the pieces before one and that one
+pieces_next : (i : ℕ) (pieces : List (Vec ℕ)) (piece : Vec ℕ) → i < length pieces → get_or pieces i piece ≡ piece → pieces_text (take (suc i) pieces) ≡ pieces_text (take i pieces) ++ piece.items
+pieces_next i [] piece lt is = absurd (omega (arith, lt))
+pieces_next zero (p ∷ pieces) piece lt is = append-nil p.items ∙ ap (λ (v : Vec ℕ). v.items) is
+pieces_next (suc i) (p ∷ pieces) piece lt is =
+    ap (λ (xs : List ℕ). p.items ++ xs) (pieces_next i pieces piece (omega (arith, lt)) is) ∙ sym (append_assoc p.items (pieces_text (take i pieces)) piece.items)
+
+pieces_more : (i : ℕ) (pieces : List (Vec ℕ)) (piece : Vec ℕ) → i < length pieces → get_or pieces i piece ≡ piece → pieces_text (take (i + 1) pieces) ≡ pieces_text (take i pieces) ++ piece.items
+pieces_more i pieces piece lt is = ap (λ n. pieces_text (take n pieces)) (let e : i + 1 ≡ suc i = omega arith in e) ∙ pieces_next i pieces piece lt is
+
+-- the pieces before one and all others
+pieces_split : (i : ℕ) (pieces : List (Vec ℕ)) → pieces_text pieces ≡ pieces_text (take i pieces) ++ pieces_text (drop i pieces)
+pieces_split zero pieces = refl
+pieces_split (suc i) [] = refl
+pieces_split (suc i) (p ∷ pieces) = ap (λ (xs : List ℕ). p.items ++ xs) (pieces_split i pieces) ∙ sym (append_assoc p.items (pieces_text (take i pieces)) (pieces_text (drop i pieces)))
+
+pub pieces_sent : (i : ℕ) (pieces : List (Vec ℕ)) (piece : Vec ℕ) (a b c : Option (List ℕ)) → i < length pieces → get_or pieces i piece ≡ piece
+    → Wrote a b (λ part. part ≡ pieces_text (take i pieces)) → Wrote b c (λ part. part ≡ piece.items) → Wrote a c (λ part. part ≡ pieces_text (take (i + 1) pieces))
+pieces_sent i pieces piece a b c lt is first second =
+    let both = sent_both a b c (pieces_text (take i pieces)) piece.items (Ok tt) first second in
+    (both.0, both.1, both.2 ∙ sym (pieces_more i pieces piece lt is))
+
+pub pieces_stopped : (i : ℕ) (pieces : List (Vec ℕ)) (piece : Vec ℕ) (a b c : Option (List ℕ)) (e : Fault) → i < length pieces → get_or pieces i piece ≡ piece
+    → Wrote a b (λ part. part ≡ pieces_text (take i pieces)) → Wrote b c (λ part. IsSent piece.items part (Err e)) → Wrote a c (λ part. IsSent (pieces_text pieces) part (Err e))
+pieces_stopped i pieces piece a b c e lt is first second =
+    sent_as a c (pieces_text (take (i + 1) pieces) ++ pieces_text (drop (i + 1) pieces)) (pieces_text pieces) (Err e) (sym (pieces_split (i + 1) pieces))
+    (sent_first a c (pieces_text (take (i + 1) pieces)) (pieces_text (drop (i + 1) pieces)) e
+    (sent_as a c (pieces_text (take i pieces) ++ piece.items) (pieces_text (take (i + 1) pieces)) (Err e) (sym (pieces_more i pieces piece lt is))
+    (sent_both a b c (pieces_text (take i pieces)) piece.items (Err e) first second)))
+
+pub pieces_all : (pieces : List (Vec ℕ)) (n : ℕ) → length pieces ≤ n → take n pieces ≡ pieces
+pieces_all [] zero le = refl
+pieces_all [] (suc n) le = refl
+pieces_all (p ∷ pieces) zero le = absurd (omega (arith, le))
+pieces_all (p ∷ pieces) (suc n) le = ap (λ (ps : List (Vec ℕ)). p ∷ ps) (pieces_all pieces n (omega (arith, le)))
+
+-- the file whose head and raster are sent
+pub file_sent : (a b : Option (List ℕ)) (f : RasterFrame) (pieces : List (Vec ℕ)) (p : Picture) (r : Result ⊤ Fault) → AreRastersOf f pieces p → is_written p ≡ true
+    → Wrote a b (λ part. IsSent (header_text (eqb f.components 3) f.width f.height (maxval_of f.depth) ++ pieces_text pieces) part r) → Wrote a b (λ part. IsSent (file_text p) part r)
+unfolding file_text
+file_sent a b f pieces p r are is sent =
+    sent_as a b (header_text (eqb f.components 3) f.width f.height (maxval_of f.depth) ++ pieces_text pieces) (file_text p) r
+    (ap (λ n. header_text (eqb n 3) f.width f.height (maxval_of f.depth) ++ pieces_text pieces) are.components
+    ∙ ap (λ n. header_text (eqb (length p.planes) 3) n f.height (maxval_of f.depth) ++ pieces_text pieces) are.width
+    ∙ ap (λ n. header_text (eqb (length p.planes) 3) p.width n (maxval_of f.depth) ++ pieces_text pieces) are.height
+    ∙ ap (λ n. header_text (eqb (length p.planes) 3) p.width p.height (maxval_of n) ++ pieces_text pieces) are.depth
+    ∙ ap (λ (xs : List ℕ). header_text (eqb (length p.planes) 3) p.width p.height (maxval_of p.depth) ++ xs) (are.raster is)) sent
+
+-- whether there is a file
+pub file_is : (f : RasterFrame) (pieces : List (Vec ℕ)) (p : Picture) → AreRastersOf f pieces p → is_grey_or_rgb f.components f.signed ≡ is_written p
+file_is f pieces p are = ap (λ n. is_grey_or_rgb n f.signed) are.components ∙ ap (λ (s : Bool). is_grey_or_rgb (length p.planes) s) are.signed

@@ -4,4 +4,5 @@ pub mod Pnm
 pub mod Reading
 pub mod Written
 pub mod Sending
+pub mod Rasters
 pub mod Examples

@@ -3,11 +3,13 @@
 
 mod header;
 mod pieces;
+mod rasters;
 mod reading;
 mod theorems;
 mod writing;
 
 pub use pieces::write_into;
+pub use rasters::{RasterFrame, raster, write_rasters_into};
 pub use reading::{read, read_owned};
 pub use theorems::one_picture;
 pub use writing::write;

@@ -18,7 +18,7 @@ const PIXELS: usize = 1 << 15;
 /// Writes a text.
 ///
 /// Shelf: a write failed or took nothing. A beginning of the text was written.
-fn send<W: Write>(writer: &mut W, text: &[u8]) -> Result<(), Fault>
+pub(crate) fn send<W: Write>(writer: &mut W, text: &[u8]) -> Result<(), Fault>
     ensures { (part : List ℕ) × Appends (W.contents writer.old) (W.contents writer.new) part
         × IsSent text.now part result }
 {

@@ -5,7 +5,7 @@ ghost use Rattle.std.specs.Prelude.{pos, All, ◌≤ℤ◌, ◌<ℤ◌, ◌/◌,
 ghost use Rattle.std.specs.Vec.{vec_len, vec_capacity};
 ghost use Rattle.jk_math.specs.Memory.{IsMemory};
 ghost use Rattle.jk_math.specs.Answer.{Answers};
-ghost use Rattle.jk_math.specs.Picture.{IsPicture};
+ghost use Rattle.jk_math.specs.Picture.{IsPicture, is_grey_or_rgb};
 ghost use Rattle.jk_pnm.specs.Pnm.{IsPnm, magic_text};
 ghost use Rattle.jk_pnm.specs.Written.{is_written, maxval_of, natural, sample_text, raster_part, raster_text, header_text, file_text};
 ghost use Rattle.jk_pnm.specs.Written.{written};
@@ -13,12 +13,18 @@ ghost use Rattle.jk_pnm.specs.Written.{written};
 use jk_math::{Fault, Image};
 use std::alloc::Global;
 
+/// Whether so many components are one or three unsigned ones.
+pub(crate) fn is_grey_or_rgb(components: usize, signed: bool) -> bool
+    ensures { result ≡ is_grey_or_rgb components signed }
+{
+    !signed && (components == 1 || components == 3)
+}
+
 /// Whether the image has one or three unsigned components.
 pub(crate) fn is_written(image: &Image) -> bool
     ensures { result ≡ is_written image.now }
 {
-    let components = image.planes().len();
-    !image.signed() && (components == 1 || components == 3)
+    is_grey_or_rgb(image.planes().len(), image.signed())
 }
 
 /// The byte of a sample where maxval is at most 255.
@@ -172,7 +178,7 @@ fn magic(colour: bool) -> &'static [u8]
 }
 
 /// What stands before the raster.
-fn header(
+pub(crate) fn header(
     alloc: Global,
     size: usize,
     colour: bool,

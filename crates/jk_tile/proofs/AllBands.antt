@@ -1,21 +1,14 @@
 -- All sub-bands of a tile-component, by their numbers.
-use Rattle.std.proofs.Common.{◌≡◌, ℕ, zero, suc, ◌+◌, ◌-◌, ◌*◌, ◌/◌, ◌%◌, ◌^◌, ◌<◌, ◌≤◌, List, [], ◌∷◌, ◌++◌, length, map, get_or, All, Result, Ok, Err, IfOk, IfErr, MatchResult, ℤ, refl, sym, ap, subst, ◌∙◌, inl, inr, arith}
+use Rattle.std.proofs.Common.{◌≡◌, ℕ, zero, suc, ◌+◌, ◌-◌, ◌*◌, ◌/◌, ◌%◌, ◌<◌, List, ◌∷◌, ◌++◌, Result, Ok, Err, IfOk, IfErr, MatchResult, ℤ, refl, sym, ap, ◌∙◌, arith}
 use Rattle.std.specs.Global.{Vec}
 use Rattle.std.specs.List.{range_with_len}
-use Rattle.std.proofs.lemmas.Bool.{cases_lt}
-use Rattle.std.proofs.lemmas.List.{map-append, length-map, get_or_past}
-use Rattle.std.proofs.lemmas.List.Elements.{All-nil}
-use Rattle.std.proofs.lemmas.List.FromFn.{length-map-range_with_len, get_or-map-range_with_len}
 use Rattle.jk_math.specs.Answer.{◌>>=◌, Refuses, Answers}
 use Rattle.jk_math.specs.Memory.{IsMemory}
 use Rattle.jk_math.specs.declared.fault.Fault.TheVariants.{Memory}
 use Rattle.jk_math.specs.Steps.{ok_is}
 use Rattle.jk_math.specs.declared.fault.Fault.{Fault}
 use Rattle.jk_math.specs.declared.rect.Rect.{Rect}
-use Rattle.jk_math.specs.Raster.{raster, plane_at}
-use Rattle.jk_math.specs.Lists.{lists_of, list_at}
-use Rattle.jk_math.specs.Signed.{IsBelow}
-use Rattle.jk_math.proofs.Laws.{raster_length, raster_at}
+use Rattle.jk_math.specs.Raster.{raster}
 use Rattle.jk_geom.specs.Rectangles.{band_area}
 use Rattle.jk_wave.specs.Bands.{high_orientation, numbered_area}
 use Rattle.jk_wave.specs.Regions.{held}

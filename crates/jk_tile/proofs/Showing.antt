@@ -1,15 +1,13 @@
 -- A code-block put into the list of its sub-band.
-use Rattle.std.proofs.Common.{◌≡◌, ℕ, zero, suc, ◌+◌, ◌*◌, ◌/◌, ◌%◌, ◌<◌, ◌≤◌, Bool, true, false, ◌&&◌, leb, ltb, if◌then◌else◌, List, [], ◌∷◌, ◌++◌, take, drop, length, map, get_or, set, All, Result, Ok, Err, ℤ, refl, sym, ap, subst, ◌∙◌, inl, inr, arith}
+use Rattle.std.proofs.Common.{◌≡◌, ℕ, zero, suc, ◌+◌, ◌*◌, ◌/◌, ◌%◌, ◌<◌, ◌≤◌, Bool, true, false, ◌&&◌, leb, ltb, if◌then◌else◌, List, [], ◌∷◌, ◌++◌, take, drop, length, map, get_or, set, All, Result, Ok, Err, ℤ, refl, sym, ap, subst, ◌∙◌, arith}
 use Rattle.std.specs.List.{AllByRecursion}
 use Rattle.std.specs.Global.{Vec}
 use Rattle.std.specs.Vec.{with_items}
-use Rattle.std.proofs.lemmas.List.{get_or-map, map-set, get_or-set_same, get_or-set_other, length-set, length-map, ext_get_or}
-use Rattle.std.proofs.lemmas.List.FromFn.{length-map-range_with_len, get_or-map-range_with_len}
-use Rattle.std.proofs.lemmas.Bool.{cases_eq, and_parts, leb-true, ltb-true, le-leb, lt-ltb}
+use Rattle.std.proofs.lemmas.List.{get_or-map, map-set, get_or-set_same, get_or-set_other, length-set}
+use Rattle.std.proofs.lemmas.Bool.{and_parts, leb-true, ltb-true, le-leb, lt-ltb}
 use Rattle.jk_math.specs.declared.rect.Rect.{Rect}
-use Rattle.jk_math.specs.Raster.{plane_at, raster}
-use Rattle.jk_math.specs.Lists.{lists_of, list_at}
-use Rattle.jk_math.proofs.Laws.{raster_is}
+use Rattle.jk_math.specs.Raster.{plane_at}
+use Rattle.jk_math.specs.Lists.{list_at}
 use Rattle.jk_geom.specs.Precincts.{precinct_number, precincts_across, precincts_down}
 use Rattle.jk_marks.specs.declared.coding.Coding.{Coding}
 use Rattle.jk_math.specs.declared.orientation.Orientation.{Orientation}
@@ -17,13 +15,13 @@ use Rattle.jk_math.specs.declared.style.Style.{Style}
 use Rattle.jk_geom.specs.declared.grid.BlockGrid.{BlockGrid}
 use Rattle.jk_geom.specs.Rectangles.{IsWithin, band_area, meet, cell}
 use Rattle.jk_geom.specs.Blocks.{block_area, block_grid}
-use Rattle.jk_geom.specs.Partitions.{block_number, precinct_of}
+use Rattle.jk_geom.specs.Partitions.{block_number}
 use Rattle.jk_scan.specs.declared.shape.BlockShape.{BlockShape}
 use Rattle.jk_walk.specs.declared.places.PacketPlace.{PacketPlace}
 use Rattle.jk_walk.specs.TilePackets.{Body, orientations, band_number, planes_of}
 use Rattle.jk_walk.specs.WalkReading.{place_end}
 use Rattle.jk_tile.specs.TileBlocks.{orientation_at, grid_at, block_at_place, shape_of_area, block_shape, block_bodies, IsBlockShape}
-use Rattle.jk_tile.specs.decoding.TileReading.{each, tested, is_met, met_tested, precinct_part_tested, resolution_part_tested, bodies_of, bodies_values, block_values, values_or, block_with}
+use Rattle.jk_tile.specs.decoding.TileReading.{each, tested, is_met, met_tested, precinct_part_tested, resolution_part_tested, bodies_of, bodies_values, block_values, values_or}
 use Rattle.jk_tile.specs.declared.decoding.bodies.BodyPlace.{BodyPlace}
 use Rattle.jk_tile.specs.declared.decoding.chains.PacketChains.{PacketChains}
 use Rattle.jk_tile.specs.decoding.Gathered.{place_in, AreNumbers, IsChain, AreByPrecinct, AreByBlock, bodies_in, body_of, IsInside}
@@ -35,7 +33,7 @@ use Rattle.jk_wave.proofs.Laws.{part_inside, part_within}
 use Rattle.jk_tile.proofs.Fillings.{touches_at, none_touched}
 use Rattle.jk_tile.proofs.Steps.{fine, each_only, bind_ok, bind_err, met_by, resolution_part_by}
 use Rattle.jk_tile.proofs.AllBands.{numbered_low, numbered_high}
-use Rattle.jk_tile.proofs.Places.{block_is_shape, block_found, coefficient_is}
+use Rattle.jk_tile.proofs.Places.{block_is_shape, coefficient_is}
 
 -- a place that a rectangle has
 pub has_within : (a : Rect) (x y : ℕ) → has a x y ≡ true → IsWithin a x y

@@ -1,12 +1,10 @@
 -- Parts of a tile that together have all its samples: where each is decoded, the tile is.
-use Rattle.std.proofs.Common.{◌≡◌, ℕ, ◌+◌, ◌-◌, ◌*◌, ◌<◌, ◌≤◌, not, Bool, true, false, if◌then◌else◌, List, length, map, Result, Ok, refl, sym, ap, subst, ◌∙◌, arith}
-use Rattle.std.specs.List.{range_with_len}
+use Rattle.std.proofs.Common.{◌≡◌, ℕ, ◌+◌, ◌-◌, ◌*◌, ◌<◌, ◌≤◌, not, Bool, true, false, if◌then◌else◌, List, length, Result, Ok, sym, ap, subst, ◌∙◌, arith}
 use Rattle.jk_math.specs.Steps.{bind_then}
 use Rattle.jk_math.specs.declared.fault.Fault.{Fault}
 use Rattle.jk_math.specs.declared.rect.Rect.{Rect}
-use Rattle.jk_math.specs.Raster.{raster}
 use Rattle.jk_marks.specs.declared.coding.Coding.{Coding}
-use Rattle.jk_geom.specs.Rectangles.{IsWithin, is_empty, meet, tile_area, resolution_area, band_area}
+use Rattle.jk_geom.specs.Rectangles.{IsWithin, meet, tile_area, resolution_area, band_area}
 use Rattle.jk_geom.specs.Precincts.{precinct_number}
 use Rattle.jk_geom.specs.Partitions.{block_number}
 use Rattle.jk_geom.specs.TileShapes.{coding_of}
@@ -20,7 +18,7 @@ use Rattle.jk_wave.proofs.Laws.{column_above, row_above, sample_above, part_has}
 use Rattle.jk_tile.specs.Filling.{touches}
 use Rattle.jk_tile.specs.TileBlocks.{orientation_at, grid_at, block_at_place}
 use Rattle.jk_tile.specs.TileMeaning.{shown_area}
-use Rattle.jk_tile.specs.decoding.TileReading.{bodies_of, each, tested, block_values, component_tested, region_of, is_met, component_part_tested, component_samples, tile_planes_at, part_planes_at}
+use Rattle.jk_tile.specs.decoding.TileReading.{bodies_of, each, tested, block_values, component_tested, region_of, is_met, component_part_tested, tile_planes_at, part_planes_at}
 use Rattle.jk_tile.proofs.Steps.{fine, each_found, each_only, bind_ok, tested_then, tested_ok, band_by, precinct_by, resolution_by, component_by, met_by, precinct_part_by, resolution_part_by, component_part_by}
 use Rattle.jk_tile.proofs.Places.{block_place}
 use Rattle.jk_tile.proofs.Showing.{number_under, numbered_band}

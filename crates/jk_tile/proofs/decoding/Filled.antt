@@ -1,27 +1,25 @@
 -- The list of a resolution as code-blocks are put into it.
-use Rattle.std.proofs.Common.{◌≡◌, ◌≢◌, ℕ, zero, suc, ◌+◌, ◌-◌, ◌*◌, ◌/◌, ◌^◌, ◌<◌, ◌≤◌, ◌⊎◌, Bool, true, false, if◌then◌else◌, List, [], length, All, Result, Ok, Err, ℤ, pos, refl, sym, ap, subst, ◌∙◌, inl, inr, arith}
+use Rattle.std.proofs.Common.{◌≡◌, ◌≢◌, ℕ, zero, suc, ◌+◌, ◌-◌, ◌*◌, ◌^◌, ◌<◌, ◌≤◌, ◌⊎◌, Bool, true, false, if◌then◌else◌, List, length, All, ℤ, pos, refl, sym, ap, subst, ◌∙◌, inl, inr, arith}
 use Rattle.std.proofs.lemmas.Int.{ints}
 use Rattle.std.proofs.lemmas.Bool.{cases_lt, cases_eq}
 use Rattle.std.proofs.lemmas.List.{get_or_past}
 use Rattle.std.proofs.lemmas.List.Elements.{All-get_or}
-use Rattle.jk_math.specs.declared.fault.Fault.{Fault}
 use Rattle.jk_math.specs.declared.rect.Rect.{Rect}
 use Rattle.jk_math.specs.Raster.{plane_at}
 use Rattle.jk_math.specs.Signed.{IsBelow, signed_at}
 use Rattle.jk_geom.specs.Rectangles.{IsWithin}
 use Rattle.jk_geom.specs.Precincts.{precinct_number}
-use Rattle.jk_geom.specs.Partitions.{block_number, precinct_of}
+use Rattle.jk_geom.specs.Partitions.{precinct_of}
 use Rattle.jk_walk.specs.TilePackets.{orientations, band_number}
 use Rattle.jk_wave.specs.declared.places.BandRows.{BandRows}
 use Rattle.jk_wave.specs.LevelRows.{index_in, coefficient_of, FitsIn}
-use Rattle.jk_wave.specs.Regions.{IsRegion, part_area}
+use Rattle.jk_wave.specs.Regions.{part_area}
 use Rattle.jk_wave.specs.RegionRows.{resolution_with, level_places, band_rows, low_rows, ShowsLow, ShowsBands, ShowsLevel, IsLevel, IsMadeSmall, IsBegunLevel}
 use Rattle.jk_wave.specs.Resolutions.{resolution_of}
 use Rattle.jk_wave.proofs.Laws.{lies_apart, lies_off_low, has_rows, stays_level}
 use Rattle.jk_tile.specs.Filling.{has}
-use Rattle.jk_tile.specs.TileBlocks.{orientation_at, block_at_place}
 use Rattle.jk_tile.specs.decoding.TileReading.{block_with}
-use Rattle.jk_tile.specs.decoding.Source.{Source, IsSource, source_bodies, source_coefficient, source_part, source_rows, ShowsCoefficient, KeepsCoefficients, ShowsBlock, ShowsBlocks, ShowsPrecinct, block_count, IsFilling, Fills, resolution_values}
+use Rattle.jk_tile.specs.decoding.Source.{Source, IsSource, source_coefficient, source_part, source_rows, ShowsCoefficient, ShowsBlocks, ShowsPrecinct, IsFilling, Fills, resolution_values}
 use Rattle.jk_tile.proofs.Places.{block_found}
 use Rattle.jk_tile.proofs.Showing.{has_within, within_has, Agrees, few_levels, part_in_band}
 

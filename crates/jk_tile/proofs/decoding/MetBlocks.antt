@@ -12,7 +12,7 @@ use Rattle.jk_geom.specs.Partitions.{block_number, precinct_of}
 use Rattle.jk_walk.specs.TilePackets.{Body, orientations, band_number}
 use Rattle.jk_wave.specs.Regions.{part_area}
 use Rattle.jk_tile.specs.Filling.{touches}
-use Rattle.jk_tile.specs.TileBlocks.{orientation_at, grid_at, block_at_place, band_resolution, band_index}
+use Rattle.jk_tile.specs.TileBlocks.{orientation_at, grid_at, band_resolution, band_index}
 use Rattle.jk_tile.specs.decoding.TileReading.{each, tested, block_values, block_value, block_with, coefficient_at, region_of, is_met, met_tested, precinct_part_tested, resolution_part_tested, component_part_tested}
 use Rattle.jk_tile.proofs.Steps.{Step, each_none, each_suc}
 use Rattle.jk_tile.proofs.Places.{coefficient_by, resolution_is, grid_is, grid_area}

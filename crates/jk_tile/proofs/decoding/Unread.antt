@@ -1,7 +1,7 @@
 -- A precinct of which no packet tells: its code-blocks have no coding pass, and their coefficients
 -- are zero.
 use Rattle.std.specs.Prelude.{◌==◌}
-use Rattle.std.proofs.Common.{◌≡◌, ◌&&◌, ◌∷◌, nat_lt, ℕ, ◌+◌, ◌-◌, ◌*◌, ◌<◌, ◌≤◌, Bool, true, false, if◌then◌else◌, List, [], map, length, Ok, ℤ, pos, refl, sym, ap, subst, ◌∙◌, inl, inr, arith}
+use Rattle.std.proofs.Common.{◌≡◌, ◌&&◌, ◌∷◌, nat_lt, ℕ, ◌+◌, ◌-◌, ◌*◌, ◌<◌, ◌≤◌, Bool, true, false, if◌then◌else◌, List, [], map, length, Ok, ℤ, pos, refl, sym, ap, ◌∙◌, inl, inr, arith}
 use Rattle.std.proofs.lemmas.Bool.{lt-ltb, eqb-true}
 use Rattle.jk_math.specs.declared.rect.Rect.{Rect}
 use Rattle.jk_math.specs.Signed.{signed_at}
@@ -11,15 +11,15 @@ use Rattle.jk_math.specs.Raster.{columns_of, rows_of, plane_at}
 use Rattle.jk_geom.specs.Rectangles.{IsWithin}
 use Rattle.jk_geom.specs.Precincts.{precinct_number}
 use Rattle.jk_geom.specs.Partitions.{block_number}
-use Rattle.jk_walk.specs.TilePackets.{Body, orientations, band_number, planes_of}
+use Rattle.jk_walk.specs.TilePackets.{orientations, band_number, planes_of}
 use Rattle.jk_scan.specs.Neighbours.{Field, is_inside}
 use Rattle.jk_block.specs.Meaning.{cut, values_of, value_in}
 use Rattle.jk_block.specs.Reading.{block_at}
 use Rattle.jk_block.proofs.Laws.{none_means, block_only, value_at}
-use Rattle.jk_tile.specs.TileBlocks.{block_shape, block_at_place, grid_at, block_bodies}
+use Rattle.jk_tile.specs.TileBlocks.{block_shape, block_at_place, grid_at}
 use Rattle.jk_tile.specs.decoding.TileReading.{bodies_values, block_values, values_or, tested, is_met, met_tested, precinct_part_tested}
 use Rattle.jk_tile.specs.decoding.Gathered.{AreNumbers, place_in, bodies_in}
-use Rattle.jk_tile.specs.decoding.Source.{Source, IsSource, source_bodies, source_coefficient, source_part, source_rows, ShowsCoefficient, ShowsPrecinct, IsFilling}
+use Rattle.jk_tile.specs.decoding.Source.{Source, IsSource, source_bodies, source_coefficient, ShowsPrecinct, IsFilling}
 use Rattle.jk_tile.proofs.Steps.{fine, each_only, met_by, precinct_part_by}
 use Rattle.jk_tile.proofs.Places.{coefficient_is}
 use Rattle.jk_tile.proofs.Showing.{few_levels, block_tested, numbered_bodies}

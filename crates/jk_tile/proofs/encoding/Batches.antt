@@ -1,5 +1,7 @@
--- The code-blocks of a component as jobs, what these give, and how it is cut apart.
-use Rattle.std.proofs.Common.{◌≡◌, ◌⊎◌, ℕ, ◌+◌, ◌<◌, ◌≤◌, List, [], ◌∷◌, ◌++◌, append_assoc, length, map, take, drop, get_or, All, Ok, refl, sym, ap, ◌∙◌, inl, inr, arith}
+-- Components, and the code-blocks of a component, as jobs, what these give, and how it is cut apart.
+use Rattle.std.proofs.Common.{◌≡◌, ◌⊎◌, ℕ, ◌+◌, ◌<◌, ◌≤◌, List, [], ◌∷◌, ◌++◌, append_assoc, length, map, take, drop, get_or, All, Result, Ok, Err, IfOk, IfErr, ℤ, refl, sym, ap, ◌∙◌, inl, inr, arith}
+use Rattle.std.specs.Prelude.{MatchResult}
+use Rattle.std.specs.Global.{Vec}
 use Rattle.std.specs.List.{AllZip, flat_map, range_with_len}
 use Rattle.std.proofs.lemmas.List.{append-nil, map_push, length-append, length-map, take_at, drop_at, drop_more, take_more, get_or-map}
 use Rattle.std.proofs.lemmas.List.Concat.{flat_map-append, flat_map-cons}
@@ -10,7 +12,8 @@ use Rattle.jk_farm.specs.Dealing.{AreGiven, IsFirstFault}
 use Rattle.jk_farm.proofs.Laws.{zipped}
 use Rattle.jk_tile.specs.declared.encoding.jobs.BlockJob.{BlockJob}
 use Rattle.jk_tile.specs.declared.encoding.jobs.Batch.{Batch}
-use Rattle.jk_tile.specs.encoding.Jobs.{IsBlockJob, table_of_job, IsTabled, IsBatch}
+use Rattle.jk_tile.specs.declared.encoding.transforms.ComponentJob.{ComponentJob}
+use Rattle.jk_tile.specs.encoding.Jobs.{IsBlockJob, table_of_job, IsTabled, IsBatch, bands_of_job, IsTransformed}
 use Rattle.jk_tile.proofs.encoding.WrittenBlocks.{bands_more}
 
 -- ---- jobs
@@ -64,6 +67,27 @@ jobs_memory jobs e h = elim h [
   | inl memory ↦ memory
   | inr first ↦ (first.fails (some_job jobs first.job first.is_job)).memory
 ]
+
+-- ---- components
+
+pub bands_given : (jobs : List ComponentJob) (items : List (List (List ℤ))) → AllZip (λ j d. IsTransformed j (Ok d)) jobs items → items ≡ map bands_of_job jobs
+bands_given [] [] h = refl
+bands_given [] (d ∷ items) h = absurd h
+bands_given (j ∷ jobs) [] h = absurd h
+bands_given (j ∷ jobs) (d ∷ items) h = ap (λ (b : List (List ℤ)). b ∷ items) h.0.bands ∙ ap (λ (bs : List (List (List ℤ))). bands_of_job j ∷ bs) (bands_given jobs items h.1)
+
+some_component : (jobs : List ComponentJob) (n : ℕ) → n < length jobs → ComponentJob
+some_component [] n lt = absurd (omega (arith, lt))
+some_component (j ∷ jobs) n lt = j
+
+-- what all components give
+pub components_given : (jobs own : List ComponentJob) (r : Result (Vec (List (List ℤ))) Fault) → jobs ≡ own → MatchResult r (λ v. AreGiven IsTransformed jobs (length jobs) v.items) (λ e. IsMemory e ⊎ IsFirstFault IsTransformed jobs e)
+    → IfOk r (λ v. v.items ≡ map bands_of_job own) × IfErr r IsMemory
+components_given jobs own (Ok v) e given = (bands_given jobs v.items (zipped IsTransformed jobs v.items given) ∙ ap (map bands_of_job) e, tt)
+components_given jobs own (Err f) e given = (tt, elim given [
+  | inl memory ↦ memory
+  | inr first ↦ (first.fails (some_component jobs first.job first.is_job)).memory
+])
 
 -- ---- cut apart
 

@@ -1,6 +1,6 @@
 //! The exponents that the sub-bands of an image need (T.800 E.1).
 
-ghost use Rattle.std.specs.Prelude.{◌≡◌, ℕ, ◌+◌, ◌*◌, ◌<◌, ◌≤◌, ◌^◌, [], length, max, All, IfOk, IfErr, OnOk};
+ghost use Rattle.std.specs.Prelude.{◌≡◌, ℕ, ◌+◌, ◌*◌, ◌<◌, ◌≤◌, ◌^◌, [], length, max, All, IfOk, IfErr};
 ghost use Rattle.std.specs.Prelude.{slice_index, slice_index_or, unsigned_abs};
 ghost use Rattle.jk_math.specs.Memory.{IsMemory};
 ghost use Rattle.jk_math.specs.Picture.{IsPicture};
@@ -12,12 +12,15 @@ ghost use Rattle.jk_block.specs.BlockWritten.{greatest};
 ghost use Rattle.jk_tile.specs.encoding.Needs.{most, tile_need, need, gain, exponents_for, written_bands};
 
 use crate::encoding::subbands::tile_bands;
+use crate::encoding::transforms::tile_bands_with;
 use jk_block::top_bits;
 use jk_geom::tile_count;
 use jk_marks::Exponents;
 use jk_math::{Fault, Image, Planes};
 use jk_params::{Parameters, siz_of};
 use std::alloc::Global;
+use std::marker::Sync;
+use std::thread::Threads;
 
 /// Raises what sub-bands need by those of a component of a tile.
 fn raise(needs: &mut [u8; 16], bands: &Planes)
@@ -34,27 +37,24 @@ fn raise(needs: &mut [u8; 16], bands: &Planes)
     }
 }
 
-/// Raises what sub-bands need by a tile, and gives the sub-bands of the tile.
-fn raise_by_tile(
-    alloc: Global,
+/// Raises what sub-bands need by a tile that has these.
+fn raise_by_bands(
     image: &Image,
     parameters: &Parameters,
     number: u32,
+    bands: &[Planes],
     needs: &mut [u8; 16],
-) -> Result<Vec<Planes>, Fault>
+)
     requires picture { IsPicture image.now }
     requires written { IsWrittenBy parameters.now image.now }
     requires number { number < tile_count (siz_of image.now parameters.now) }
-    ensures bands { IfOk result (λ v. v.items ≡ written_bands image.now parameters.now number) }
-    ensures needs { OnOk result ((b : ℕ) → b < band_count parameters.now.levels → slice_index needs.new b
-        ≡ max (slice_index needs.old b) (tile_need image.now parameters.now number b)) }
-    ensures memory { IfErr result IsMemory }
+    requires bands { bands.now ≡ written_bands image.now parameters.now number }
+    ensures { (b : ℕ) → b < band_count parameters.now.levels → slice_index needs.new b
+        ≡ max (slice_index needs.old b) (tile_need image.now parameters.now number b) }
 {
-    let bands = tile_bands(alloc, image, parameters, number)?;
     for c in 0..bands.len() {
         raise(needs, &bands[c]);
     }
-    Ok(bands)
 }
 
 /// How many bits the greatest magnitude of each sub-band has, and the sub-bands of the first tile,
@@ -73,9 +73,38 @@ fn all_needs(
     let siz = siz_of(image, parameters);
     let mut needs = [0; 16];
     for number in 1..tile_count(&siz) {
-        raise_by_tile(alloc, image, parameters, number, &mut needs)?;
+        let bands = tile_bands(alloc, image, parameters, number)?;
+        raise_by_bands(image, parameters, number, &bands, &mut needs);
     }
-    let first = raise_by_tile(alloc, image, parameters, 0, &mut needs)?;
+    let first = tile_bands(alloc, image, parameters, 0)?;
+    raise_by_bands(image, parameters, 0, &first, &mut needs);
+    Ok((needs, first))
+}
+
+/// The same, with the components of a tile transformed side by side by so many workers.
+fn all_needs_with<R: Threads + Sync>(
+    rt: &R,
+    alloc: Global,
+    workers: usize,
+    image: &Image,
+    parameters: &Parameters,
+) -> Result<([u8; 16], Vec<Planes>), Fault>
+    requires some { 1 ≤ workers }
+    requires most { workers ≤ 64 }
+    requires written { IsWrittenBy parameters.now image.now }
+    ensures needs { IfOk result
+        (λ v. (b : ℕ) → b < band_count parameters.now.levels → slice_index v.0 b ≡ need image.now parameters.now b) }
+    ensures first { IfOk result (λ v. v.1.items ≡ written_bands image.now parameters.now 0) }
+    ensures memory { IfErr result IsMemory }
+{
+    let siz = siz_of(image, parameters);
+    let mut needs = [0; 16];
+    for number in 1..tile_count(&siz) {
+        let bands = tile_bands_with(rt, alloc, workers, image, parameters, number)?;
+        raise_by_bands(image, parameters, number, &bands, &mut needs);
+    }
+    let first = tile_bands_with(rt, alloc, workers, image, parameters, 0)?;
+    raise_by_bands(image, parameters, 0, &first, &mut needs);
     Ok((needs, first))
 }
 
@@ -91,6 +120,21 @@ fn gain(band: usize) -> u8
     } else {
         1
     }
+}
+
+/// The exponents of the sub-bands of an image, whose greatest magnitudes have so many bits.
+fn exponents_of(image: &Image, parameters: &Parameters, needs: &[u8; 16]) -> Exponents
+    requires written { IsWrittenBy parameters.now image.now }
+    requires needs { (b : ℕ) → b < band_count parameters.now.levels
+        → slice_index needs.now b ≡ need image.now parameters.now b }
+    ensures { result ≡ exponents_for image.now parameters.now }
+{
+    let count = 3 * parameters.levels as usize + 1;
+    let mut exponents = [0; 16];
+    for band in 0..count {
+        exponents[band] = (image.depth() + gain(band)).max(needs[band].saturating_sub(1));
+    }
+    Exponents::new(&exponents[..count])
 }
 
 /// The exponents of the sub-bands of an image, in the order of QCD, where there are two guard bits:
@@ -110,10 +154,25 @@ pub fn exponents(
     ensures memory { IfErr result IsMemory }
 {
     let (needs, first) = all_needs(alloc, image, parameters)?;
-    let count = 3 * parameters.levels as usize + 1;
-    let mut exponents = [0; 16];
-    for band in 0..count {
-        exponents[band] = (image.depth() + gain(band)).max(needs[band].saturating_sub(1));
-    }
-    Ok((Exponents::new(&exponents[..count]), first))
+    Ok((exponents_of(image, parameters, &needs), first))
+}
+
+/// What [`exponents`] gives, with the components of a tile transformed side by side by so many
+/// workers, as far as threads can be had.
+pub fn exponents_with<R: Threads + Sync>(
+    rt: &R,
+    alloc: Global,
+    workers: usize,
+    image: &Image,
+    parameters: &Parameters,
+) -> Result<(Exponents, Vec<Planes>), Fault>
+    requires some { 1 ≤ workers }
+    requires most { workers ≤ 64 }
+    requires written { IsWrittenBy parameters.now image.now }
+    ensures value { IfOk result (λ v. v.0 ≡ exponents_for image.now parameters.now) }
+    ensures first { IfOk result (λ v. v.1.items ≡ written_bands image.now parameters.now 0) }
+    ensures memory { IfErr result IsMemory }
+{
+    let (needs, first) = all_needs_with(rt, alloc, workers, image, parameters)?;
+    Ok((exponents_of(image, parameters, &needs), first))
 }

@@ -19,8 +19,35 @@ use jk_params::{Parameters, siz_of};
 use jk_wave::analyse_source;
 use std::alloc::Global;
 
-/// The sub-bands of each component of a tile on this rectangle, in the order of QCD, each row by
-/// row.
+/// The sub-bands of a component of a part of an image, in the order of QCD, each row by row.
+pub(crate) fn component_bands(
+    alloc: Global,
+    image: &Image,
+    component: usize,
+    colours: bool,
+    rect: &Rect,
+    levels: u8,
+) -> Result<Planes, Fault>
+    requires picture { IsPicture image.now }
+    requires component { component < length image.now.planes }
+    requires area { IsArea rect.now }
+    requires rect { IsPartOf rect.now (picture_area image.now) }
+    requires levels { levels ≤ 10 }
+    requires colours { colours ≡ true → 3 ≤ length image.now.planes }
+    ensures value { IfOk result (λ b. b ≡ analysed_bands rect.now levels (tile_value image.now colours component)) }
+    ensures memory { IfErr result IsMemory }
+{
+    let rows = ComponentRows {
+        image,
+        component,
+        colours,
+        rect: *rect,
+    };
+    let bands = analyse_source(alloc, rect, levels, &rows)?;
+    Ok(bands.bands)
+}
+
+/// The sub-bands of each component of a part of an image, in the order of QCD, each row by row.
 fn bands_on(
     alloc: Global,
     image: &Image,
@@ -40,14 +67,7 @@ fn bands_on(
 {
     let mut all = Vec::new(alloc);
     for component in 0..image.planes().len() {
-        let rows = ComponentRows {
-            image,
-            component,
-            colours,
-            rect: *rect,
-        };
-        let bands = analyse_source(alloc, rect, levels, &rows)?;
-        all.push(bands.bands)?;
+        all.push(component_bands(alloc, image, component, colours, rect, levels)?)?;
     }
     Ok(all)
 }

@@ -1,5 +1,4 @@
-use Rattle.std.proofs.Common.{length, subst, sym, ◌∙◌, refl}
-use Rattle.std.proofs.lemmas.List.{get_or_default}
+use Rattle.std.proofs.Common.{length, subst, sym, refl}
 use Rattle.std.proofs.lemmas.List.Elements.{All-push, All-same, All-get_or}
 use Rattle.jk_tile.specs.decoding.Decoded.{IsJobOf, IsBlockSegment}
 use Rattle.jk_tile.proofs.decoding.decoded.jobs_of.Goals as goal

@@ -1,7 +1,6 @@
-use Rattle.std.proofs.Common.{◌≡◌, ◌+◌, ℕ, true, length, refl, sym, ap, subst, ◌∙◌, arith}
+use Rattle.std.proofs.Common.{◌≡◌, ◌+◌, true, length, refl, sym, subst, ◌∙◌, arith}
 use Rattle.jk_math.specs.declared.rect.Rect.{Rect}
 use Rattle.jk_geom.specs.Rectangles.{meet}
-use Rattle.jk_wave.specs.LevelRows.{FitsIn}
 use Rattle.jk_tile.specs.Filling.{IsPartOf, touches}
 use Rattle.jk_tile.proofs.Fillings.{AreCommonRows, common_part, common_fits, common_length, common_more, row_inside}
 use Rattle.jk_tile.proofs.decoding.filling.put_common.Goals as goal

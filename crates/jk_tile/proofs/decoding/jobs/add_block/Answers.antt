@@ -3,7 +3,6 @@ use Rattle.std.proofs.lemmas.List.Elements.{All-push, All-same}
 use Rattle.jk_math.specs.declared.rect.Rect.{Rect}
 use Rattle.jk_marks.specs.declared.coding.Coding.{Coding}
 use Rattle.jk_tile.specs.decoding.Decoded.{IsBlockSegment}
-use Rattle.jk_tile.specs.decoding.Gathered.{IsInside}
 use Rattle.jk_tile.proofs.Places.{block_is_part}
 use Rattle.jk_tile.proofs.Showing.{place_is, few_is, shape_is}
 use Rattle.jk_tile.proofs.decoding.jobs.add_block.Goals as goal

@@ -1,19 +1,8 @@
-use Rattle.std.proofs.Common.{rules, ◌≡◌, ◌<◌, ◌^◌, List, ℤ, length, map, All, Ok, ◌∙◌, ap, sym, subst, arith}
-use Rattle.std.specs.List.{range_with_len}
-use Rattle.std.proofs.lemmas.List.Elements.{All-nil}
-use Rattle.std.proofs.lemmas.Result.{err_from_is_err_and}
-use Rattle.std.specs.Global.{Vec}
-use Rattle.jk_math.specs.Lists.{lists_of, list_at}
-use Rattle.jk_math.specs.Raster.{raster}
-use Rattle.jk_math.specs.Signed.{IsBelow}
+use Rattle.std.proofs.Common.{rules, ◌<◌, ◌^◌, List, length, ◌∙◌, ap, sym, subst, arith}
 use Rattle.jk_marks.specs.declared.coding.Coding.{Coding}
 use Rattle.jk_geom.specs.Rectangles.{tile_area}
-use Rattle.jk_geom.specs.TileShapes.{coding_of}
 use Rattle.jk_params.specs.Headers.{tile_in}
-use Rattle.jk_tile.specs.decoding.TileReading.{each, component_part_tested, bodies_of, component_values}
-use Rattle.jk_tile.specs.decoding.Source.{source_values}
-use Rattle.jk_tile.proofs.Steps.{each_none, each_more, each_fails, refuses_on}
-use Rattle.jk_tile.proofs.Components.{source_is, component_then, component_not, lists_push, small_push, values_fine, values_err, coding_read, levels_read}
+use Rattle.jk_tile.proofs.Components.{source_is, coding_read, levels_read}
 use Rattle.jk_tile.specs.decoding.Decoded.{AreSegments}
 use Rattle.jk_tile.specs.decoding.Source.{Source}
 use Rattle.jk_tile.proofs.decoding.jobs.add_tile_blocks.Goals as goal

@@ -1,4 +1,4 @@
-use Rattle.std.proofs.Common.{[], ◌<◌, ◌≤◌, ◌≡◌, length, subst, sym, ◌∙◌, arith}
+use Rattle.std.proofs.Common.{[], ◌≤◌, length, subst, sym, ◌∙◌, arith}
 use Rattle.std.specs.List.{AllByRecursion}
 use Rattle.std.proofs.lemmas.List.{get_or_default}
 use Rattle.jk_walk.specs.WalkReading.{place_end}

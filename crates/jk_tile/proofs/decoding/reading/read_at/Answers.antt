@@ -1,13 +1,11 @@
-use Rattle.std.proofs.Common.{◌≤◌, ◌≡◌, ℕ, Bool, true, false, if◌then◌else◌, Ok, All, map, length, ◌∙◌, ap, sym, subst}
+use Rattle.std.proofs.Common.{◌≤◌, ◌≡◌, ℕ, Bool, true, false, if◌then◌else◌, Ok, map, length, ◌∙◌, ap, sym, subst}
 use Rattle.jk_math.specs.declared.rect.Rect.{Rect}
 use Rattle.jk_marks.specs.declared.coding.Coding.{Coding}
 use Rattle.jk_walk.specs.TilePackets.{band_number, planes_of}
-use Rattle.jk_math.specs.Signed.{IsBelow}
 use Rattle.jk_geom.specs.Rectangles.{IsWithin}
 use Rattle.jk_wave.specs.declared.region.Region.{Region}
-use Rattle.jk_wave.specs.Regions.{part_area}
 use Rattle.jk_tile.specs.decoding.Gathered.{body_of}
-use Rattle.jk_tile.specs.decoding.Source.{Source, source_bodies, source_part, source_rows, source_coefficient}
+use Rattle.jk_tile.specs.decoding.Source.{Source, source_bodies, source_part, source_rows}
 use Rattle.jk_wave.specs.declared.places.BandRows.{BandRows}
 use Rattle.jk_wave.specs.LevelRows.{FitsIn}
 use Rattle.jk_wave.specs.RegionRows.{band_rows}

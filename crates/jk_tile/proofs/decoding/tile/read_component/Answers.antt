@@ -5,7 +5,7 @@ use Rattle.jk_math.specs.Signed.{IsBelow}
 use Rattle.jk_wave.specs.RegionRows.{IsMadeSmall}
 use Rattle.jk_wave.specs.declared.region.Region.{Region}
 use Rattle.jk_tile.specs.decoding.TileReading.{each, resolution_part_tested}
-use Rattle.jk_tile.specs.decoding.Source.{source_bodies, resolution_at, resolution_values, source_values}
+use Rattle.jk_tile.specs.decoding.Source.{source_bodies, resolution_at, resolution_values}
 use Rattle.jk_tile.proofs.Steps.{each_none, each_more, each_fails, refuses_on}
 use Rattle.jk_tile.proofs.AllBands.{resolution_then, resolution_fails, source_fine, source_err, highest_values}
 use Rattle.jk_tile.proofs.decoding.tile.read_component.Goals as goal

@@ -1,0 +1,143 @@
+-- The rasters of stripes, one behind another, are the raster of the picture.
+use Rattle.std.proofs.Common.{◌≡◌, ℕ, zero, suc, ◌+◌, ◌-◌, ◌*◌, ◌/◌, ◌%◌, ◌<◌, ◌≤◌, true, List, [], ◌∷◌, ◌++◌, length, get_or, ℤ, pos, refl, sym, ap, subst, ◌∙◌, arith}
+use Rattle.std.specs.List.{flat_map, range_with_len}
+use Rattle.std.specs.Global.{Vec}
+use Rattle.std.proofs.lemmas.List.Concat.{flat_map-append}
+use Rattle.std.proofs.lemmas.List.FromFn.{length-map-range_with_len, get_or-map-range_with_len}
+use Rattle.std.proofs.lemmas.Nat.{div-add-mod'}
+use Rattle.jk_math.specs.declared.rect.Rect.{Rect}
+use Rattle.jk_math.specs.Picture.{Picture, sample_at, is_grey_or_rgb}
+use Rattle.jk_math.specs.Raster.{raster}
+use Rattle.jk_math.proofs.Laws.{raster_entry}
+use Rattle.jk_pnm.specs.Written.{is_written, maxval_of, sample_text, pixel_text, raster_part, raster_text}
+use Rattle.jk_pnm.specs.Rasters.{AreRastersOf, pieces_text}
+use Rattle.jk_code.specs.declared.making.MadeStripes.{MadeStripes}
+use Rattle.jk_code.specs.Made.{rows_of, AreMade, IsMadeOf}
+use Rattle.jk_commands.specs.Rasters.{IsRasterOf}
+
+range_joined : (n m a : ℕ) → range_with_len a (n + m) ≡ range_with_len a n ++ range_with_len (a + n) m
+range_joined zero m a = let same : a ≡ a + 0 = omega arith in let none : zero + m ≡ m = omega arith in ap (range_with_len a) none ∙ ap (λ (k : ℕ). range_with_len k m) same
+range_joined (suc n) m a =
+    let one : suc n + m ≡ suc (n + m) = omega arith in
+    let last : (a + 1) + n ≡ a + suc n = omega arith in
+    ap (range_with_len a) one ∙ ap (λ (ks : List ℕ). a ∷ ks) (range_joined n m (a + 1) ∙ ap (λ (k : ℕ). range_with_len (a + 1) n ++ range_with_len k m) last)
+
+part_joined : (m : ℕ) (planes : List (List ℤ)) (from n k : ℕ) → raster_part m planes from (n + k) ≡ raster_part m planes from n ++ raster_part m planes (from + n) k
+part_joined m planes from n k =
+    let f : ℕ → List ℕ = pixel_text m planes in
+    ap (λ (ks : List ℕ). flat_map f ks) (range_joined n k from) ∙ flat_map-append f (range_with_len from n) (range_with_len (from + n) k)
+
+-- the same pixels elsewhere
+pixels_alike : (m : ℕ) (parts planes : List (List ℤ)) (n i from : ℕ) → ((k : ℕ) → k < i + n → pixel_text m parts k ≡ pixel_text m planes (from + k)) → flat_map (pixel_text m parts) (range_with_len i n) ≡ flat_map (pixel_text m planes) (range_with_len (from + i) n)
+pixels_alike m parts planes zero i from each = refl
+pixels_alike m parts planes (suc n) i from each =
+    let here : i < i + suc n = omega arith in
+    let next : (from + i) + 1 ≡ from + (i + 1) = omega arith in
+    let rest = pixels_alike m parts planes n (i + 1) from (λ k within. each k (omega (arith, within))) in
+    ap (λ (ys : List ℕ). ys ++ flat_map (pixel_text m parts) (range_with_len (i + 1) n)) (each i here)
+    ∙ ap (λ (ys : List ℕ). pixel_text m planes (from + i) ++ ys) (rest ∙ ap (λ (k : ℕ). flat_map (pixel_text m planes) (range_with_len k n)) (sym next))
+
+-- the texts of planes that have the same samples at two pixels
+planes_alike : (m k j : ℕ) (parts planes : List (List ℤ)) → length parts ≡ length planes
+    → ((c : ℕ) → c < length planes → get_or (get_or parts c []) k (pos 0) ≡ get_or (get_or planes c []) j (pos 0)) → pixel_text m parts k ≡ pixel_text m planes j
+planes_alike m k j [] [] long each = refl
+planes_alike m k j [] (plane ∷ planes) long each = absurd (omega (arith, long))
+planes_alike m k j (part ∷ parts) [] long each = absurd (omega (arith, long))
+planes_alike m k j (part ∷ parts) (plane ∷ planes) long each =
+    ap (λ (s : ℤ). sample_text m s ++ pixel_text m parts k) (each 0 (omega arith))
+    ∙ ap (λ (ys : List ℕ). sample_text m (get_or plane j (pos 0)) ++ ys) (planes_alike m k j parts planes (omega (arith, long)) (λ c lt. each (suc c) (omega (arith, lt))))
+
+-- ---- rows of a picture
+
+some_row : (k w n : ℕ) → k < n * w → 0 < w
+some_row k w n lt = grind arith
+
+-- a pixel of the rows from y on is one of the picture
+row_pixel : (m : ℕ) (p : Picture) (y z k : ℕ) → p.y0 ≤ y → y ≤ z → k < (z - y) * p.width → pixel_text m (rows_of p y z).planes k ≡ pixel_text m p.planes ((y - p.y0) * p.width + k)
+row_pixel m p y z k low order lt =
+    let w = p.width in
+    let a : Rect = record { x0 = p.x0; y0 = y; x1 = p.x0 + w; y1 = z } in
+    let n = length p.planes in
+    let f : ℕ → List ℤ = λ c. raster a (λ u v. sample_at p c (u - p.x0) (v - p.y0)) in
+    let wide : (p.x0 + w) - p.x0 ≡ w = omega arith in
+    let places : (z - y) * w ≡ (z - y) * ((p.x0 + w) - p.x0) = ap (λ t. (z - y) * t) (sym wide) in
+    planes_alike m k ((y - p.y0) * w + k) (rows_of p y z).planes p.planes (length-map-range_with_len f 0 n) (λ c less.
+    ap (λ (plane : List ℤ). get_or plane k (pos 0)) (get_or-map-range_with_len f 0 n c c [] less (omega arith))
+    ∙ raster_entry a (λ u v. sample_at p c (u - p.x0) (v - p.y0)) k (omega (arith, lt, places))
+    ∙ ap (λ t. get_or (get_or p.planes c []) ((y + k / t - p.y0) * w + ((p.x0 + k % t) - p.x0)) (pos 0)) wide
+    ∙ ap (λ t. get_or (get_or p.planes c []) t (pos 0)) (place_of p.x0 p.y0 y w k low))
+  where
+    place_of : (x0 y0 y w k : ℕ) → y0 ≤ y → (y + k / w - y0) * w + ((x0 + k % w) - x0) ≡ (y - y0) * w + k
+    place_of x0 y0 y w k low =
+        let q : ℕ = k / w in
+        let r : ℕ = k % w in
+        let split : q * w + r ≡ k = div-add-mod' k w in
+        let down : y + q - y0 ≡ (y - y0) + q = omega (arith, low) in
+        let spread : ((y - y0) + q) * w ≡ (y - y0) * w + q * w = grind arith in
+        let across : (x0 + r) - x0 ≡ r = omega arith in
+        ap (λ t. t * w + ((x0 + r) - x0)) down ∙ (let e : ((y - y0) + q) * w + ((x0 + r) - x0) ≡ (y - y0) * w + k = omega (arith, spread, across, split) in e)
+
+-- their raster is a part of the picture's
+rows_raster : (m : ℕ) (p : Picture) (y z : ℕ) → p.y0 ≤ y → y ≤ z → raster_text m (rows_of p y z).planes ((z - y) * p.width) ≡ raster_part m p.planes ((y - p.y0) * p.width) ((z - y) * p.width)
+rows_raster m p y z low order =
+    let from = (y - p.y0) * p.width in
+    let none : from + 0 ≡ from = omega arith in
+    pixels_alike m (rows_of p y z).planes p.planes ((z - y) * p.width) 0 from (λ k lt. row_pixel m p y z k low order (omega (arith, lt)))
+    ∙ ap (λ (t : ℕ). flat_map (pixel_text m p.planes) (range_with_len t ((z - y) * p.width))) none
+
+-- a stripe has a file where the picture has one
+rows_written : (p : Picture) (y z : ℕ) → is_written p ≡ true → is_written (rows_of p y z) ≡ true
+rows_written p y z is =
+    let f : ℕ → List ℤ = λ c. raster (record { x0 = p.x0; y0 = y; x1 = p.x0 + p.width; y1 = z }) (λ u v. sample_at p c (u - p.x0) (v - p.y0)) in
+    let count : length (rows_of p y z).planes ≡ length p.planes = length-map-range_with_len f 0 (length p.planes) in
+    subst (λ (n : ℕ). is_grey_or_rgb n p.signed ≡ true) (sym count) is
+
+-- ---- all stripes
+
+rest_of : (x y z end w : ℕ) → x ≤ y → y ≤ z → z ≤ end → (end - y) * w ≡ (z - y) * w + (end - z) * w
+rest_of x y z end w low order high =
+    let e : end - y ≡ (z - y) + (end - z) = omega (arith, order, high) in
+    ap (λ t. t * w) e ∙ (let s : ((z - y) + (end - z)) * w ≡ (z - y) * w + (end - z) * w = grind arith in s)
+
+next_of : (x y z w : ℕ) → x ≤ y → y ≤ z → (y - x) * w + (z - y) * w ≡ (z - x) * w
+next_of x y z w low order =
+    let e : z - x ≡ (y - x) + (z - y) = omega (arith, low, order) in
+    (let s : (y - x) * w + (z - y) * w ≡ ((y - x) + (z - y)) * w = grind arith in s) ∙ ap (λ t. t * w) (sym e)
+
+rasters_from : (p : Picture) (y : ℕ) (made : List (Vec ℕ)) → is_written p ≡ true → p.y0 ≤ y → AreMade IsRasterOf p y made
+    → pieces_text made ≡ raster_part (maxval_of p.depth) p.planes ((y - p.y0) * p.width) ((p.y0 + p.height - y) * p.width)
+rasters_from p y [] is low e =
+    let none : (p.y0 + p.height - y) * p.width ≡ 0 = ap (λ t. t * p.width) (let z : p.y0 + p.height - y ≡ 0 = omega (arith, e) in z) ∙ (let z : 0 * p.width ≡ 0 = omega arith in z) in
+    sym (ap (raster_part (maxval_of p.depth) p.planes ((y - p.y0) * p.width)) none)
+rasters_from p y (m ∷ made) is low are =
+    let z = are.0 in
+    let order : y ≤ z = (let lt = are.1 in omega (arith, lt)) in
+    let high = are.2 in
+    let top = maxval_of p.depth in
+    let w = p.width in
+    let wide : p.x0 + w - p.x0 ≡ w = omega arith in
+    let size : (rows_of p y z).width * (rows_of p y z).height ≡ (z - y) * w = ap (λ t. t * (z - y)) wide ∙ (let turned : w * (z - y) ≡ (z - y) * w = grind arith in turned) in
+    let here : m.items ≡ raster_part top p.planes ((y - p.y0) * w) ((z - y) * w) = are.3 (rows_written p y z is) ∙ ap (raster_text top (rows_of p y z).planes) size ∙ rows_raster top p y z low order in
+    let more = rasters_from p z made is (omega (arith, low, order)) are.4 in
+    ap (λ (xs : List ℕ). xs ++ pieces_text made) here
+    ∙ ap (λ (xs : List ℕ). raster_part top p.planes ((y - p.y0) * w) ((z - y) * w) ++ xs) (more ∙ ap (λ (t : ℕ). raster_part top p.planes t ((p.y0 + p.height - z) * w)) (sym (next_of p.y0 y z w low order)))
+    ∙ sym (part_joined top p.planes ((y - p.y0) * w) ((z - y) * w) ((p.y0 + p.height - z) * w))
+    ∙ ap (raster_part top p.planes ((y - p.y0) * w)) (sym (rest_of p.y0 y z (p.y0 + p.height) w low order high))
+
+-- What is made of all stripes is the raster of the picture.
+pub all_rasters : (p : Picture) (made : List (Vec ℕ)) → is_written p ≡ true → AreMade IsRasterOf p p.y0 made → pieces_text made ≡ raster_text (maxval_of p.depth) p.planes (p.width * p.height)
+all_rasters p made is are =
+    let from : (p.y0 - p.y0) * p.width ≡ 0 = ap (λ t. t * p.width) (let z : p.y0 - p.y0 ≡ 0 = omega arith in z) ∙ (let z : 0 * p.width ≡ 0 = omega arith in z) in
+    let all : (p.y0 + p.height - p.y0) * p.width ≡ p.width * p.height = ap (λ t. t * p.width) (let z : p.y0 + p.height - p.y0 ≡ p.height = omega arith in z) ∙ (let z : p.height * p.width ≡ p.width * p.height = grind arith in z) in
+    rasters_from p p.y0 made is (omega arith) are ∙ ap (λ (t : ℕ). raster_part (maxval_of p.depth) p.planes t ((p.y0 + p.height - p.y0) * p.width)) from ∙ ap (raster_part (maxval_of p.depth) p.planes 0) all
+
+pub made_rasters : (p : Picture) (m : MadeStripes (Vec ℕ)) (pieces : List (Vec ℕ)) → IsMadeOf IsRasterOf p m → pieces ≡ m.made.items
+    → AreRastersOf (record { components = m.frame.components; signed = m.frame.signed; width = m.frame.width; height = m.frame.height; depth = m.frame.depth }) pieces p
+made_rasters p m pieces is same = record {
+  components = is.frame.components;
+  signed = is.frame.signed;
+  width = is.frame.width;
+  height = is.frame.height;
+  depth = is.frame.depth;
+  raster = λ written. ap pieces_text same ∙ all_rasters p m.made.items written is.made;
+}
