@@ -2,6 +2,7 @@ pub mod Answers
 pub mod Codes
 pub mod Codings
 pub mod Encodings
+pub mod Examples
 pub mod Frames
 pub mod Pixels
 pub mod Telling

@@ -24,3 +24,4 @@ pub mod ViewAgain
 pub mod OneTile
 pub mod StripeLaws
 pub mod MadeLaws
+pub mod Laws

@@ -21,7 +21,7 @@ use Rattle.jk_boxes.specs.declared.place.Boxed.{Boxed}
 use Rattle.jk_boxes.specs.Boxes.{HoldsAt}
 use Rattle.jk_boxes.proofs.Laws.{place_again}
 use Rattle.jk_geom.specs.TileShapes.{coding_of, no_coding}
-use Rattle.jk_geom.proofs.TileLaws.{some_tile}
+use Rattle.jk_geom.proofs.Laws.{some_tile}
 use Rattle.jk_params.specs.Headers.{Headers, TileFields, tile_in, IsHeaders, AreHeaders}
 use Rattle.jk_window.specs.Indexing.{IndexFields, IsIndexOf, least_levels, index_at}
 use Rattle.jk_window.proofs.Laws.{index_only}

@@ -4,7 +4,7 @@ use Rattle.jk_boxes.specs.declared.boxes.Form.{Form}
 use Rattle.jk_boxes.specs.declared.boxes.Form.TheVariants.{Short, Long, Open}
 use Rattle.jk_boxes.specs.Boxes.{Box, IsBox, AreBoxes, IsJp2, signature, head_size, box_text, boxes_text}
 use Rattle.jk_boxes.specs.Reading.{box_at}
-use Rattle.jk_boxes.proofs.Heads.{head_of, box_again, box_length, after_box}
+use Rattle.jk_boxes.proofs.Laws.{head_of, box_again, box_length, after_box}
 use Rattle.jk_commands.specs.BoxList.{signature_box, all_boxes, kind_and_length, named, box_named, boxes_from}
 use Rattle.jk_commands.proofs.WalkLoops.{boxes_next, boxes_stop}
 

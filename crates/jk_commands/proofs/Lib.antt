@@ -7,3 +7,4 @@ pub mod MarkerLaws
 pub mod BoxLaws
 pub mod AllLaws
 pub mod SumLaws
+pub mod SumLists

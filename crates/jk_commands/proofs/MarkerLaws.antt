@@ -17,13 +17,8 @@ use Rattle.jk_marks.specs.Siz.{siz_text, siz_length, grid_text, component_text}
 use Rattle.jk_marks.specs.Segments.{Segment, CodSegment, CocSegment, QcdSegment, QccSegment, Passed, Alone, IsSegment, contents, segment_body, segment_text, marker_of, is_passed, is_foreign}
 use Rattle.jk_marks.specs.Codestream.{Part, Tree, main_text, sot_text, part_text, part_length, psot, codestream_text, heading_of, IsMain, IsPart, AreParts, AreClosedBeforeLast, IsCodestream, BeginsMain, BeginsWith}
 use Rattle.jk_marks.specs.Copying.{segment_size, main_size_at}
-use Rattle.jk_marks.proofs.SegmentLaws.{coc_length, style_length, precincts_few}
-use Rattle.jk_marks.proofs.HeadAgain.{EndsHeader, alone_not_passed, not_last, narrow_marker}
-use Rattle.jk_marks.proofs.SizLaws.{siz_body, siz_parts, body_length}
-use Rattle.jk_marks.proofs.MainLaws.{ends_main, many_bytes}
-use Rattle.jk_marks.proofs.PartLaws.{ends_part}
-use Rattle.jk_marks.proofs.CopyingLaws.{main_sized}
-use Rattle.jk_marks.proofs.Laws.{begins_main}
+use Rattle.jk_marks.proofs.Laws.{coc_length, style_length, precincts_few, siz_body, siz_parts, body_length}
+use Rattle.jk_marks.proofs.Laws.{EndsHeader, alone_not_passed, not_last, narrow_marker, ends_main, many_bytes, ends_part, main_sized, begins_main}
 use Rattle.jk_commands.specs.HeaderMarkers.{all_segments, is_passed_over, markers_from, part_size, parts_from, part_markers, main_markers, parts_in, markers_in, is_read}
 use Rattle.jk_commands.proofs.WalkLoops.{markers_stop, markers_next, parts_stop, parts_next}
 

@@ -1,12 +1,11 @@
 -- Lists of digests, line by line, and what differs between two, name by name.
-use Rattle.std.proofs.Common.{◌≡◌, ◌≢◌, ℕ, ◌+◌, ◌<◌, Bool, true, false, ◌||◌, cond, ◌⊎◌, List, [], ◌∷◌, ◌++◌, map, length, get_or, All, Bor, Option, Some, None, Result, Ok, Err, IfOk, inl, inr, refl, sym, ap, subst, ◌∙◌, arith, append_assoc, append-nil, drop, drop-cons, add-one, zero, suc}
+use Rattle.std.proofs.Common.{◌≡◌, ◌≢◌, ℕ, ◌+◌, ◌<◌, Bool, true, false, ◌||◌, cond, List, [], ◌∷◌, ◌++◌, map, length, get_or, All, Bor, Option, Some, None, Result, Ok, Err, IfOk, inl, inr, refl, sym, ap, subst, ◌∙◌, drop, drop-cons, add-one, suc}
 use Rattle.std.specs.Option.{is_some, option_map, option_copied}
 use Rattle.std.specs.Result.{result_ok}
 use Rattle.std.specs.Global.{Vec}
 use Rattle.jk_math.specs.declared.fault.Fault.{Fault}
-use Rattle.std.specs.List.{AllZip, AllByRecursion, flat_map, filter_map, cons_option, list_any}
-use Rattle.std.proofs.lemmas.Grind.{flat_map-append}
-use Rattle.std.proofs.lemmas.List.Elements.{All-append, filter_map-append}
+use Rattle.std.specs.List.{AllByRecursion, filter_map, cons_option, list_any}
+use Rattle.std.proofs.lemmas.List.Elements.{filter_map-append}
 use Rattle.std.proofs.lemmas.List.{get_or_default}
 use Rattle.std.specs.Str.{bytes_eq}
 use Rattle.std.specs.String.{string_bytes, string_cmp}
@@ -23,17 +22,7 @@ use Rattle.std.proofs.lemmas.Map.Text.{is_eq-slice_cmp}
 use Rattle.jk_commands.specs.declared.sums.Sum.{Sum}
 use Rattle.jk_commands.specs.declared.comparing.Change.{Change}
 use Rattle.jk_commands.specs.declared.comparing.Difference.{Difference}
-use Rattle.jk_commands.specs.Sums.{or_else, digest_of, told, told_of, pair_of, change_of, AreDifferences, ended, IsOneLine, IsSumLine}
-
-zip_more : {A B : Type 0} (P : A → B → Type 0) (xs : List A) (ys : List B) (x : A) (y : B) → AllZip P xs ys → P x y → AllZip P (xs ++ x ∷ []) (ys ++ y ∷ [])
-zip_more P [] [] x y h p = (p, tt)
-zip_more P [] (z ∷ ys) x y h p = absurd h
-zip_more P (z ∷ xs) [] x y h p = absurd h
-zip_more P (z ∷ xs) (w ∷ ys) x y h p = (h.0, zip_more P xs ys x y h.1 p)
-
-only_one : {A : Type 0} (P : A → Type 0) (x : A) → P x → All P (x ∷ [])
-only_one P x p zero d lt = p
-only_one P x p (suc k) d lt = absurd (omega (arith, lt))
+use Rattle.jk_commands.specs.Sums.{or_else, digest_of, told, told_of, pair_of, change_of, AreDifferences}
 
 -- a text without a line's end is one line
 pub one_line : (xs : List ℕ) → ((i : ℕ) → i < length xs → get_or xs i 0 ≢ 10) → All (λ b. b ≢ 10) xs
@@ -78,36 +67,6 @@ name_more sums i s n old new due lt is step before =
     ap (λ b. is_some (digest_of (drop (i + 1) sums) n) || b) step
     ∙ (sym (some_later (digest_of (drop (i + 1) sums) n) (bytes_eq (string_bytes s.name) n) s.digest old)
     ∙ (sym (ap (λ l. is_some (digest_of l n) || old) (from_place sums i s lt is)) ∙ before))
-
--- The text is these files and what stands behind them.
-pub record ReadSoFar (text rest : List ℕ) (sums : List Sum) : Type 0 where
-  pub lines : List (List ℕ)
-  pub each : AllZip (λ line s. IsSumLine line s.digest (string_bytes s.name)) lines sums
-  pub whole : All IsOneLine lines
-  pub text_is : (text ≡ flat_map ended lines ++ rest) ⊎ ((ended text ≡ flat_map ended lines) × (rest ≡ []))
-
-lines_more : (lines : List (List ℕ)) (line rest : List ℕ) → flat_map ended lines ++ (ended line ++ rest) ≡ flat_map ended (lines ++ line ∷ []) ++ rest
-lines_more lines line rest =
-    rw (flat_map-append ended lines (line ∷ []), append-nil (ended line)) (sym (append_assoc (flat_map ended lines) (ended line) rest))
-
-pub read_more : (text rest line behind : List ℕ) (sums : List Sum) (s : Sum) → (rest ≡ [] → ⊥) → (rest ≡ ended line ++ behind) ⊎ ((rest ≡ line) × (behind ≡ []))
-    → IsOneLine line → IsSumLine line s.digest (string_bytes s.name) → ReadSoFar text rest sums → ReadSoFar text behind (sums ++ s ∷ [])
-read_more text rest line behind sums s some cut one says so_far = record {
-  lines = so_far.lines ++ line ∷ [];
-  each = zip_more (λ l t. IsSumLine l t.digest (string_bytes t.name)) so_far.lines sums line s so_far.each says;
-  whole = All-append IsOneLine so_far.lines (line ∷ []) so_far.whole (only_one IsOneLine line one);
-  text_is = elim so_far.text_is [
-    | inl more ↦ elim cut [
-      | inl ends ↦ inl (more ∙ (ap (λ r. flat_map ended so_far.lines ++ r) ends ∙ lines_more so_far.lines line behind))
-      | inr last ↦ inr (
-        ap ended more ∙ (append_assoc (flat_map ended so_far.lines) rest (10 ∷ []) ∙ (ap (λ r. flat_map ended so_far.lines ++ (r ++ 10 ∷ [])) last.0
-            ∙ (ap (λ r. flat_map ended so_far.lines ++ r) (sym (append-nil (ended line))) ∙ (lines_more so_far.lines line [] ∙ append-nil (flat_map ended (so_far.lines ++ line ∷ [])))))),
-        last.1,
-      )
-    ]
-    | inr done ↦ absurd (some done.1)
-  ];
-}
 
 -- ---- a list of pairs, by name
 

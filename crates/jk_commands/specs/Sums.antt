@@ -1,7 +1,7 @@
 -- Lists of the digests of files, in the form of sha256sum, and what differs between two of them.
 use Rattle.std.specs.Prelude.{◌≡◌, ◌≢◌, ℕ, cond, ◌⊎◌, List, [], ◌∷◌, ◌++◌, map, All, Option, Some, None, Ok, codes}
 use Rattle.std.specs.Option.{option_map}
-use Rattle.std.specs.List.{AllZip, flat_map}
+use Rattle.std.specs.List.{AllZip, IsDistinct, flat_map}
 use Rattle.std.specs.List.Sorted.{IsStrictlySortedBy}
 use Rattle.std.specs.Ordering.{nat_cmp}
 use Rattle.std.specs.Cmp.Lexicographic.{slice_cmp}
@@ -9,6 +9,8 @@ use Rattle.std.specs.Str.{bytes_eq}
 use Rattle.std.specs.String.{string_bytes}
 use Rattle.hex.specs.Hex.{encode_lower, decode_sized}
 use Rattle.jk_commands.specs.declared.sums.Sum.{Sum}
+use Rattle.jk_commands.specs.declared.sums.BadList.{BadList}
+use Rattle.jk_commands.specs.declared.sums.BadList.TheVariants.{Memory}
 use Rattle.jk_commands.specs.declared.comparing.Change.{Change}
 use Rattle.jk_commands.specs.declared.comparing.Change.TheVariants.{Changed, Missing, New}
 use Rattle.jk_commands.specs.declared.comparing.Difference.{Difference}
@@ -34,12 +36,27 @@ pub record IsSumLine (line digest name : List ℕ) : Type 0 where
 abbrev pub IsOneLine : List ℕ → Type 0
 IsOneLine line = All (λ b. b ≢ 10) line
 
--- A text is a list of these files, a line each, of which the last may lack its end.
-pub record IsSumList (text : List ℕ) (sums : List Sum) : Type 0 where
+-- what a list says of a file
+pub record SumFields : Type 0 where
+  pub name : List ℕ
+  pub digest : List ℕ
+
+abbrev pub sum_fields : Sum → SumFields
+sum_fields s = record { name = string_bytes s.name; digest = s.digest }
+
+-- A text is a list of these files, a line each, of which the last may lack its end, and no name
+-- stands twice.
+pub record IsSumList (text : List ℕ) (sums : List SumFields) : Type 0 where
   pub lines : List (List ℕ)
-  pub each : AllZip (λ line s. IsSumLine line s.digest (string_bytes s.name)) lines sums
+  pub each : AllZip (λ line s. IsSumLine line s.digest s.name) lines sums
   pub whole : All IsOneLine lines
   pub text_is : (text ≡ flat_map ended lines) ⊎ (ended text ≡ flat_map ended lines)
+  pub once : IsDistinct bytes_eq (map (λ (s : SumFields). s.name) sums)
+
+-- A growth of memory was refused.
+abbrev pub IsOutOfMemory : BadList → Type 0
+IsOutOfMemory (Memory refused) = Unit {0}
+IsOutOfMemory e = ⊥
 
 -- the first if there is one, else the second
 abbrev pub or_else : {A : Type 0} → Option A → Option A → Option A

@@ -1,9 +1,11 @@
 //! Lists of the digests of files, in the form of `sha256sum`.
 
-ghost use Rattle.std.specs.Prelude.{◌≡◌, ◌≢◌, ◌⊎◌, ◌++◌, ◌∷◌, ◌<◌, [], ℕ, List, All, length, IfOk, IfErr, IfSome, OnOk};
+ghost use Rattle.std.specs.Prelude.{◌≡◌, ◌≢◌, ◌⊎◌, ◌++◌, ◌∷◌, ◌<◌, [], ℕ, List, All, length, map, IfOk, IfErr, IfSome};
+ghost use Rattle.std.specs.Prelude.{IfNone, OnOk, MatchResult};
 ghost use Rattle.std.specs.List.{flat_map};
 ghost use Rattle.std.specs.String.{string_bytes};
-ghost use Rattle.jk_commands.specs.Sums.{ended, sum_text, IsOneLine, IsSumLine, IsSumList};
+ghost use Rattle.jk_commands.specs.Sums.{ended, sum_text, IsOneLine, IsSumLine, SumFields, sum_fields, IsSumList};
+ghost use Rattle.jk_commands.specs.Sums.{IsOutOfMemory};
 
 use hex::FromHex;
 use jk_math::Refused;
@@ -51,12 +53,16 @@ pub enum BadList {
 }
 
 impl From<AllocError> for BadList {
+    ghost from_gives = { λ _ e. IsOutOfMemory e };
+
     fn from(error: AllocError) -> BadList {
         BadList::Memory(Refused::from(error))
     }
 }
 
 impl<T: Drop> From<AllocFailed<T>> for BadList {
+    ghost from_gives = { λ _ e. IsOutOfMemory e };
+
     fn from(error: AllocFailed<T>) -> BadList {
         BadList::Memory(Refused::from(error))
     }
@@ -71,7 +77,8 @@ struct SumLine<'a> {
 
 /// What stands behind the mark of how a file was read, a space or an asterisk.
 fn behind_mark(text: &str) -> Option<&str>
-    ensures { IfSome result (λ name. (mark : ℕ) × (text.now ≡ mark ∷ name.now) × ((mark ≡ 32) ⊎ (mark ≡ 42))) }
+    ensures found { IfSome result (λ name. (mark : ℕ) × (text.now ≡ mark ∷ name.now) × ((mark ≡ 32) ⊎ (mark ≡ 42))) }
+    ensures only { IfNone result ((mark : ℕ) (name : List ℕ) → text.now ≡ mark ∷ name → (mark ≡ 32) ⊎ (mark ≡ 42) → ⊥) }
 {
     match text.strip_prefix(' ') {
         Some(name) => Some(name),
@@ -82,7 +89,8 @@ fn behind_mark(text: &str) -> Option<&str>
 /// What a line says: a digest of 64 hexadecimal digits, two spaces or a space and an asterisk, and
 /// the name of a file.
 fn line_of(line: &str) -> Option<SumLine<'_>>
-    ensures { IfSome result (λ l. IsSumLine line.now l.digest l.name.now) }
+    ensures found { IfSome result (λ l. IsSumLine line.now l.digest l.name.now) }
+    ensures only { IfNone result ((digest name : List ℕ) → IsSumLine line.now digest name → ⊥) }
 {
     let (digits, rest) = line.split_once(' ')?;
     let name = behind_mark(rest)?;
@@ -107,7 +115,9 @@ fn first_line(text: &str) -> (&str, &str)
 ///
 /// The first line that isn't one of a list is refused, or that has a name again.
 pub fn read_sums(alloc: Global, text: &str) -> Result<Vec<Sum>, BadList>
-    ensures found { IfOk result (λ v. IsSumList text.now v.items) }
+    ensures found { IfOk result (λ v. IsSumList text.now (map sum_fields v.items)) }
+    ensures only { (sums : List SumFields) → IsSumList text.now sums
+        → MatchResult result (λ v. map sum_fields v.items ≡ sums) IsOutOfMemory }
 {
     let mut sums = Vec::new(alloc);
     let mut names = BTreeSet::new(alloc);

@@ -1,2 +1,3 @@
 pub mod Dealing
 pub mod Blocks
+pub mod Examples

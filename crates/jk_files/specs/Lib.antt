@@ -1,3 +1,4 @@
 pub mod Names
 pub mod Refusals
 pub mod Listings
+pub mod Examples

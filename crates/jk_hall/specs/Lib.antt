@@ -7,3 +7,4 @@ pub mod Replying
 pub mod Runs
 pub mod Behind
 pub mod Connections
+pub mod Examples

@@ -19,7 +19,7 @@ mod witness;
 mod writer;
 
 pub use hall::Hall;
-pub use law::lists_looked_at_grow;
+pub use law::{cut_texts_begin_whole_ones, lists_looked_at_grow};
 pub use place::Place;
 pub use reader::Reader;
 pub use serving::serve_all;

@@ -1,6 +1,7 @@
 pub mod Answer
 pub mod BitLength
 pub mod Division
+pub mod Examples
 pub mod Front
 pub mod Lists
 pub mod Memory

@@ -5,3 +5,4 @@ pub mod Decisions
 pub mod Deciding
 pub mod CodingPasses
 pub mod Placed
+pub mod Examples

@@ -4,6 +4,7 @@ pub use Rattle.jk_marks.specs.Siz
 pub use Rattle.jk_marks.specs.Codestream
 pub use Rattle.jk_geom.specs.TileShapes
 pub mod Coding
+pub mod Examples
 pub mod CodingReading
 pub mod Headers
 pub mod Tables

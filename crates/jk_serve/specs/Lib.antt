@@ -1,3 +1,4 @@
 pub mod OperatorLines
 pub mod Records
 pub mod Operating
+pub mod Examples

@@ -8,7 +8,7 @@ use Rattle.jk_math.specs.Memory.{IsMemory}
 use Rattle.jk_window.specs.declared.view.View.{View}
 use Rattle.jk_window.specs.Indexing.{IndexFields, IsIndexOf}
 use Rattle.jk_window.specs.Cutting.{cut_file}
-use Rattle.jk_code.proofs.WindowLaws.{window_meant}
+use Rattle.jk_code.proofs.Laws.{window_meant}
 use Rattle.jk_store.specs.Files.{Files}
 use Rattle.jk_store.specs.Parts.{part_digests}
 use Rattle.jk_store.specs.Catalogue.{IsCutFrom, IsWindowGiven, Passes}

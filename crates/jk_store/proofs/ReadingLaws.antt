@@ -3,7 +3,7 @@ use Rattle.std.proofs.Common.{◌≡◌, ℕ, ◌+◌, ◌-◌, ◌*◌, ◌/◌
 use Rattle.std.specs.List.{AllByRecursion, sum_by}
 use Rattle.std.proofs.lemmas.List.Sums.{sum_by-cons}
 use Rattle.jk_walk.specs.TilePackets.{slice_of}
-use Rattle.jk_walk.proofs.Slices.{slice_join}
+use Rattle.jk_walk.proofs.Laws.{slice_join}
 use Rattle.jk_store.specs.Files.{Files}
 use Rattle.jk_store.specs.Parts.{part_size, part, part_length, part_count}
 use Rattle.jk_store.specs.PartsGiven.{size_of, GivenPart, HasParts, PartsRead}

@@ -14,3 +14,4 @@ pub mod Judging
 pub mod Checking
 pub mod Showing
 pub mod ShownSteps
+pub mod Examples

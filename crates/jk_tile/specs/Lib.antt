@@ -5,3 +5,4 @@ pub mod TileMeaning
 pub mod Filling
 pub mod decoding
 pub mod encoding
+pub mod Examples

@@ -1,6 +1,6 @@
 -- The texts of a connection, as they are seen by another relation over other states: one fact goes forward along the
 -- answers, another comes back from the end.
-use Rattle.std.proofs.Common.{◌≡◌, ℕ, ◌⊎◌, inl, inr, List, Result, Ok, Err, sym, ap, subst}
+use Rattle.std.proofs.Common.{◌≡◌, ℕ, ◌⊎◌, inl, inr, List, Option, Result, Ok, Err, sym, ap, subst}
 use Rattle.jk_math.specs.declared.fault.Fault.{Fault}
 use Rattle.jk_math.specs.Memory.{IsMemory}
 use Rattle.jk_web.specs.declared.reply.Reply.{Reply}
@@ -69,16 +69,17 @@ module _ {S T : Type 0} (gives : S → Request → Reply → S → Type 0) (refu
             (record { before = k.before; rest = k.rest; answered = first.0; status = k.status; bad = k.bad; ends = k.ends }, first.1),
       )
 
-  due_by : (s : S) (rest : List ℕ) (reply : Reply) (t : S) → P s → IsDue gives s rest reply t → P t × (Q t → IsDue plain (f s) rest reply (f t) × Q s)
-  due_by s rest reply t p (inl k) =
+  due_by : (s : S) (rest : List ℕ) (reply : Reply) (t : S) (left : Option (List ℕ)) → P s → IsDue gives s rest reply t left
+      → P t × (Q t → IsDue plain (f s) rest reply (f t) left × Q s)
+  due_by s rest reply t left p (inl k) =
       let now = step s (request_of k.0) reply t p k.4 in
-      (now.0, λ b. let last = now.1 b in (inl (k.0, k.1, k.2, k.3, last.0), last.1))
-  due_by s rest reply t p (inr k) = (subst P (sym k.3) p, λ b. (inr (k.0, k.1, k.2, ap f k.3), subst Q k.3 b))
+      (now.0, λ b. let last = now.1 b in (inl (k.0, k.1, k.2, k.3, last.0, k.5), last.1))
+  due_by s rest reply t left p (inr k) = (subst P (sym k.3) p, λ b. (inr (k.0, k.1, k.2, ap f k.3, k.4), subst Q k.3 b))
 
   cut_by : (s : S) (stream text : List ℕ) (t : S) → P s → IsCutText gives s stream text t → P t × (Q t → IsCutText plain (f s) stream text (f t) × Q s)
   cut_by s stream text t p k =
       let a = answered_by s stream k.before k.rest k.state p k.answered in
-      let d = due_by k.state k.rest k.reply t a.0 k.due in (
+      let d = due_by k.state k.rest k.reply t k.left a.0 k.due in (
         d.0,
         λ b.
             let last = d.1 b in
@@ -89,7 +90,9 @@ module _ {S T : Type 0} (gives : S → Request → Reply → S → Type 0) (refu
                 state = f k.state;
                 answered = first.0;
                 reply = k.reply;
+                left = k.left;
                 due = last.0;
+                whole = k.whole;
                 part = k.part;
                 cut = k.cut;
                 ends = k.ends;

@@ -6,6 +6,7 @@ pub mod Texts
 pub mod ResourceLaws
 pub mod KnownLaws
 pub mod ServingLaws
+pub mod RequestLaws
 pub mod ImageLaws
 pub mod EndLaws
 pub mod RunLaws

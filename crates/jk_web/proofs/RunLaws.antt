@@ -1,17 +1,17 @@
 -- The texts of a connection, where more is known of what answers.
-use Rattle.std.proofs.Common.{◌≡◌, ℕ, ◌≤◌, ◌<◌, ◌⊎◌, inl, inr, List, length, Option, Some, None, IfSome, Result, Ok, Err, IfErr, sym, ap, subst, arith, length-append}
+use Rattle.std.proofs.Common.{◌≡◌, ℕ, ◌≤◌, ◌<◌, ◌⊎◌, inl, inr, List, length, Option, Some, None, IfSome, Result, Ok, Err, IfErr, ap, subst, arith, length-append}
 use Rattle.std.specs.Io.KnownBytes.{Consumes}
 use Rattle.jk_math.specs.declared.fault.Fault.{Fault}
 use Rattle.jk_math.specs.Memory.{IsMemory}
 use Rattle.jk_web.specs.declared.reply.Reply.{Reply}
 use Rattle.jk_web.specs.declared.request.Request.{Request}
 use Rattle.jk_web.specs.declared.serving.End.{End}
-use Rattle.jk_web.specs.declared.serving.End.TheVariants.{Closed, Bad, ReadFailed, WriteFailed, TurnsSpent}
+use Rattle.jk_web.specs.declared.serving.End.TheVariants.{TurnsSpent}
 use Rattle.httparse.specs.Grammar.{RequestHead}
 use Rattle.jk_web.specs.Heads.{IsWhole, IsGood, request_of}
 use Rattle.jk_web.specs.Images.{refuses_memory}
 use Rattle.jk_web.proofs.EndLaws.{ends_by}
-use Rattle.jk_web.specs.Serving.{Answered, nothing, one_more, IsOpenText, IsClosedText, IsBadText, IsCutText, IsDue, IsRefusedText, Ends}
+use Rattle.jk_web.specs.Serving.{Ends}
 
 -- One fact goes forward along the answers, and only memory is refused.
 pub ends_as : {S T : Type 0} (gives : S → Request → Reply → S → Type 0) (plain : T → Request → Reply → T → Type 0) (refuses : S → Request → Fault → S → Type 0)

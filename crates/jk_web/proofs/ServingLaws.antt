@@ -1,5 +1,5 @@
 -- Requests that are answered one after another.
-use Rattle.std.proofs.Common.{◌≡◌, ℕ, ◌<◌, ◌⊎◌, inl, inr, true, false, List, [], ◌∷◌, ◌++◌, length, Option, None, Some, refl, sym, ap, ◌∙◌, subst, arith, append_assoc, append-nil, length-append, Ok}
+use Rattle.std.proofs.Common.{◌≡◌, ℕ, ◌<◌, ◌⊎◌, inl, inr, Bool, true, false, if◌then◌else◌, List, [], ◌∷◌, ◌++◌, length, Option, None, Some, IfSome, refl, sym, ap, ◌∙◌, subst, arith, append_assoc, append-nil, length-append, Ok}
 use Rattle.std.specs.Io.KnownBytes.{Appends, Consumes}
 use Rattle.httparse.specs.Grammar.{lf, IsField, is_token_byte, is_uri_byte, RequestHead, IsRequestHead, print_request, print_blank, print_version, print_end, print_section}
 use Rattle.httparse.proofs.GrammarLemmas.{print_request-append, ReadsRequest-append}
@@ -12,12 +12,13 @@ use Rattle.jk_web.specs.declared.serving.End.TheVariants.{Closed, Bad, ReadFaile
 use Rattle.jk_math.specs.declared.fault.Fault.{Fault}
 use Rattle.jk_web.specs.declared.reply.Reply.{Reply}
 use Rattle.jk_web.specs.declared.request.Request.{Request}
+use Rattle.jk_web.specs.Fields.{closes}
 use Rattle.jk_web.specs.Heads.{IsWhole, IsBad, IsQuiet, request_of}
 use Rattle.jk_math.specs.Front.{IsFront}
 use Rattle.jk_web.specs.Replies.{bad_reply}
 use Rattle.jk_web.specs.Sessions.{Takes}
 use Rattle.jk_web.specs.Unread.{Unread, bad}
-use Rattle.jk_web.specs.Serving.{Answered, nothing, one_more, IsClosedText, IsBadText, IsCutText, IsRefusedText, Tells, Ends}
+use Rattle.jk_web.specs.Serving.{Answered, nothing, one_more, IsClosedText, IsBadText, IsCutText, IsRefusedText, HasRequests, Tells, Ends}
 use Rattle.jk_math.proofs.Laws.{appends_join}
 use Rattle.jk_web.proofs.KnownLaws.{consumes_join}
 
@@ -46,10 +47,13 @@ first_valid = record {
   fields = All-nil IsField;
 }
 
+-- A whole head takes bytes.
+pub whole_less : (rest tail : List ℕ) (h : RequestHead) → IsWhole rest h tail → length tail < length rest
+whole_less rest tail h w = omega (arith, head_some h w.reads.0, ap length w.reads.1, length-append (print_request h) tail)
+
 -- A request takes bytes.
 pub takes_less : (old new : Unread) (q : Request) → Takes old new q → length new.rest < length old.rest
-takes_less old new q k =
-    omega (arith, head_some k.head k.whole.reads.0, ap length k.whole.reads.1, length-append (print_request k.head) new.rest)
+takes_less old new q k = whole_less old.rest new.rest k.head k.whole
 
 module _ {S : Type 0} (gives : S → Request → Reply → S → Type 0) (refuses : S → Request → Fault → S → Type 0) where
   -- the reply to the head is that to the request that was made of it
@@ -88,11 +92,15 @@ module _ {S : Type 0} (gives : S → Request → Reply → S → Type 0) (refuse
     },
   )
 
+  left_unless : (closing : Bool) (rest : List ℕ) → HasRequests rest → IfSome (if closing then None else Some rest) HasRequests
+  left_unless true rest k = tt
+  left_unless false rest k = k
+
   pub cut_here : (a b c : Option (List ℕ)) (s t u : S) (stream text sent : List ℕ) (old new : Unread) (q : Request) (reply : Reply)
       → Appends a b text → ((part : List ℕ) × Appends b c part × IsFront part sent) → sent ≡ reply.bytes
-      → Answered gives s stream text old.rest t → Takes old new q → gives t q reply u
+      → Answered gives s stream text old.rest t → Takes old new q → gives t q reply u → HasRequests new.rest
       → (x : List ℕ) × Appends a c x × IsCutText gives s stream x u
-  cut_here a b c s t u stream text sent old new q reply before some same answered k g = (
+  cut_here a b c s t u stream text sent old new q reply before some same answered k g more = (
     text ++ some.0,
     appends_join a b c text some.0 before some.1,
     record {
@@ -101,7 +109,9 @@ module _ {S : Type 0} (gives : S → Request → Reply → S → Type 0) (refuse
       state = t;
       answered = answered;
       reply = reply;
-      due = inl (k.head, new.rest, k.whole, k.good, given_head old new t u q reply k g);
+      left = if closes k.head then None else Some new.rest;
+      due = inl (k.head, new.rest, k.whole, k.good, given_head old new t u q reply k g, refl);
+      whole = left_unless (closes k.head) new.rest more;
       part = some.0;
       cut = subst (IsFront some.0) same some.2;
       ends = refl;
@@ -137,7 +147,9 @@ module _ {S : Type 0} (gives : S → Request → Reply → S → Type 0) (refuse
       state = t;
       answered = answered;
       reply = reply;
-      due = inr (status, wrong, due, refl);
+      left = None;
+      due = inr (status, wrong, due, refl, refl);
+      whole = tt;
       part = some.0;
       cut = subst (IsFront some.0) same some.2;
       ends = refl;
@@ -217,7 +229,9 @@ module _ {S : Type 0} (gives : S → Request → Reply → S → Type 0) (refuse
         state = k.state;
         answered = answered_join s stream text rest t k.before k.rest k.state a k.answered;
         reply = k.reply;
+        left = k.left;
         due = k.due;
+        whole = k.whole;
         part = k.part;
         cut = k.cut;
         ends = ap (λ (v : List ℕ). text ++ v) k.ends ∙ sym (append_assoc text k.before k.part);

@@ -15,3 +15,4 @@ pub mod Running
 pub mod Cuts
 pub mod Keys
 pub mod Behind
+pub mod Examples

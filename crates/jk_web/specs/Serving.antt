@@ -1,5 +1,6 @@
 -- What is written on a connection whose requests are answered one after another.
-use Rattle.std.specs.Prelude.{◌≡◌, ℕ, ◌⊎◌, true, false, List, [], ◌++◌, Option, Some, None, Result, Ok, Err}
+use Rattle.std.specs.Prelude.{◌≡◌, ℕ, ◌⊎◌, true, false, if◌then◌else◌, List, [], ◌++◌, Option, Some, None, IfSome}
+use Rattle.std.specs.Prelude.{Result, Ok, Err}
 use Rattle.httparse.specs.Grammar.{RequestHead}
 use Rattle.jk_math.specs.declared.fault.Fault.{Fault}
 use Rattle.jk_math.specs.Memory.{IsMemory}
@@ -12,6 +13,22 @@ use Rattle.jk_web.specs.Heads.{IsWhole, IsGood, IsQuiet, IsBad, request_of}
 use Rattle.jk_math.specs.Front.{IsFront}
 use Rattle.jk_web.specs.Unread.{Unread}
 use Rattle.jk_web.specs.Replies.{bad_reply}
+
+-- Requests stand at the front of a rest, one behind another, and none of them closes the connection;
+-- this is left behind them.
+pub data Requests (rest : List ℕ) : List ℕ → Type 0 where
+  no_request : Requests rest rest
+  another : (middle : List ℕ) (h : RequestHead) (tail : List ℕ)
+      → Requests rest middle → IsWhole middle h tail → IsGood h → closes h ≡ false → Requests rest tail
+
+-- All requests of a rest: behind those that don't close there is no further one yet, one that
+-- closes, or a bad one.
+pub record HasRequests (rest : List ℕ) : Type 0 where
+  pub last : List ℕ
+  pub requests : Requests rest last
+  pub ends : IsQuiet last
+      ⊎ ((h : RequestHead) × (tail : List ℕ) × IsWhole last h tail × IsGood h × (closes h ≡ true))
+      ⊎ ((status : ℕ) × IsBad last status)
 
 module _ {S : Type 0} (gives : S → Request → Reply → S → Type 0) where
   -- The requests at the front of a stream were answered in turn, and none of them closes the
@@ -54,20 +71,37 @@ module _ {S : Type 0} (gives : S → Request → Reply → S → Type 0) where
     pub bad : IsBad rest status
     pub ends : text ≡ before ++ (bad_reply status).bytes
 
-  -- The reply that comes next: to a request, or to what is bad.
-  abbrev pub IsDue : S → List ℕ → Reply → S → Type 0
-  IsDue s rest reply t =
-      ((h : RequestHead) × (tail : List ℕ) × IsWhole rest h tail × IsGood h × gives s (request_of h) reply t)
-      ⊎ ((status : ℕ) × IsBad rest status × (reply ≡ bad_reply status) × (t ≡ s))
+  -- The text of all that is due: up to where no further request has come yet, to a request that
+  -- closes, or to a bad one.
+  abbrev pub IsWholeText : S → List ℕ → List ℕ → S → Type 0
+  IsWholeText s stream text t = IsOpenText s stream text t ⊎ IsClosedText s stream text t ⊎ IsBadText s stream text t
 
-  -- The text that was cut off in the reply that was due.
+  -- The text is the beginning of such a text.
+  pub record BeginsText (s : S) (stream text : List ℕ) : Type 0 where
+    pub all : List ℕ
+    pub state : S
+    pub whole : IsWholeText s stream all state
+    pub front : IsFront text all
+
+  -- The reply that comes next: to a request, or to what is bad. Behind it this is left of the
+  -- stream, if it doesn't close the connection.
+  abbrev pub IsDue : S → List ℕ → Reply → S → Option (List ℕ) → Type 0
+  IsDue s rest reply t left =
+      ((h : RequestHead) × (tail : List ℕ) × IsWhole rest h tail × IsGood h × gives s (request_of h) reply t
+      × (left ≡ (if closes h then None else Some tail)))
+      ⊎ ((status : ℕ) × IsBad rest status × (reply ≡ bad_reply status) × (t ≡ s) × (left ≡ None))
+
+  -- The text that was cut off in the reply that was due. Whole: the requests behind it are known,
+  -- so that it is the beginning of a text of all that is due (`cut_texts_begin_whole_ones`).
   pub record IsCutText (s : S) (stream text : List ℕ) (t : S) : Type 0 where
     pub before : List ℕ
     pub rest : List ℕ
     pub state : S
     pub answered : Answered s stream before rest state
     pub reply : Reply
-    pub due : IsDue state rest reply t
+    pub left : Option (List ℕ)
+    pub due : IsDue state rest reply t left
+    pub whole : IfSome left HasRequests
     pub part : List ℕ
     pub cut : IsFront part reply.bytes
     pub ends : text ≡ before ++ part

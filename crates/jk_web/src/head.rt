@@ -4,6 +4,7 @@ ghost use Rattle.std.specs.Prelude.{◌≡◌, ℕ, List};
 ghost use Rattle.httparse.specs.Grammar.{RequestHead};
 ghost use Rattle.httparse.specs.Spans.{IsRequestWithin, IsRequestAt};
 ghost use Rattle.jk_web.specs.Heads.{IsWhole, IsGood, IsQuiet, IsBad};
+ghost use Rattle.jk_web.specs.Serving.{HasRequests};
 ghost use Rattle.jk_web.specs.Judging.{IfHead, IsHead, OnMoreNeeded, IfStatus, IsHeadAt, IsHeadWithin, judged};
 
 use crate::fields::{announce_body, ask_close};
@@ -76,5 +77,26 @@ pub(crate) fn judge(rest: &[u8]) -> Verdict
             Error::TooManyHeaders => Verdict::Bad(431),
             _ => Verdict::Bad(400),
         },
+    }
+}
+
+/// Judges the requests that bytes hold, up to the first that closes or to the first bad one.
+///
+/// It tells nothing: with it a contract may say that there are such requests.
+pub(crate) fn judge_all(rest: &[u8])
+    ensures { HasRequests rest.now }
+{
+    let mut start = 0;
+    'requests: loop {
+        match judge(&rest[start..]) {
+            Verdict::Whole(head) => {
+                if head.closes {
+                    return;
+                }
+                start += head.length;
+            }
+            Verdict::More => return,
+            Verdict::Bad(_) => return,
+        }
     }
 }

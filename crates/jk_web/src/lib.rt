@@ -17,6 +17,7 @@ mod running;
 mod service;
 mod serving;
 mod session;
+mod theorems;
 mod windows;
 
 pub use answering::{answer, answer_with};
@@ -31,3 +32,4 @@ pub use running::{run, run_with};
 pub use service::Service;
 pub use serving::{End, serve};
 pub use session::{Next, Session};
+pub use theorems::cut_texts_begin_whole_ones;

@@ -50,6 +50,7 @@ fn answer_all<O: Write, S: Service>(
                     Err(fault) => return Err(fault),
                 };
                 if !write_out(writer, reply.bytes.as_slice()) {
+                    session.judge_left();
                     return Ok(Some(End::WriteFailed));
                 }
                 if request.closes {

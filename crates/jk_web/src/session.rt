@@ -7,9 +7,10 @@ ghost use Rattle.jk_web.specs.Heads.{IsWhole, IsGood, IsQuiet, IsBad};
 ghost use Rattle.jk_web.specs.Judging.{IsHeadWithin};
 ghost use Rattle.httparse.specs.Spans.{span_bytes};
 ghost use Rattle.jk_web.specs.Unread.{Unread, out_of_memory, bad};
+ghost use Rattle.jk_web.specs.Serving.{HasRequests};
 ghost use Rattle.jk_web.specs.Sessions.{Takes, IfRequest, IsRequestUnlessMemory, OnMore, IfBad};
 
-use crate::head::{Head, Verdict, judge};
+use crate::head::{Head, Verdict, judge, judge_all};
 use crate::octets::Octets;
 use crate::request::Request;
 use jk_math::{Fault, Refused};
@@ -164,5 +165,12 @@ impl Session {
                 Ok(Next::Bad(status))
             }
         }
+    }
+
+    /// Judges the requests that are left, and gives none of them.
+    pub(crate) fn judge_left(&self)
+        ensures { HasRequests self.now.rest }
+    {
+        judge_all(&self.bytes[self.start..]);
     }
 }

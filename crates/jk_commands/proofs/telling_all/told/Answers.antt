@@ -2,7 +2,7 @@ use Rattle.std.proofs.Common.{sym, ◌∙◌}
 use Rattle.std.proofs.lemmas.Result.{err_from_is_err_and}
 use Rattle.std.specs.String.{string_bytes}
 use Rattle.jk_math.specs.Steps.{ok_is}
-use Rattle.jk_marks.proofs.CopyingLaws.{main_sized}
+use Rattle.jk_marks.proofs.Laws.{main_sized}
 use Rattle.jk_commands.specs.AllLines.{all_at}
 use Rattle.jk_commands.proofs.CommandLaws.{refuses_other}
 use Rattle.jk_commands.proofs.AllLaws.{memory_answers, opened, all_told}

@@ -14,6 +14,7 @@ returns-then-not-write_out g c =
     cut_here g.S.Service.gives g.S.Service.refuses (g.O.Write.contents c.args.writer.now) (g.O.Write.contents c.requests.writer) (g.O.Write.contents c.write_out.new.writer) c.args.service.now c.requests.service c.answer.new.self c.args.session.now.rest c.requests.invariant.1.0
     c.as_slice.result.now c.requests.session c.next.new.self c.in-Request.request c.in-Ok.reply
     c.requests.invariant.1.1 (when_false _ _ c.if-not-write_out.true c.write_out.ensures) c.as_slice.ensures c.requests.invariant.1.2 made c.in-Ok.ensures.ok
+    c.judge_left.ensures
 
 pub returns-then-request : goal.returns-then-request
 returns-then-request g c =
