@@ -6,9 +6,9 @@ use Rattle.jk_math.specs.declared.fault.Fault.{Fault}
 use Rattle.jk_math.specs.declared.fault.Fault.TheVariants.{Memory, BadParameters}
 use Rattle.jk_math.specs.Picture.{Picture}
 use Rattle.jk_pnm.specs.Written.{written as pnm_of, file_text}
-use Rattle.jk_commands.specs.declared.plan.Plan.{Plan}
-use Rattle.jk_commands.specs.declared.plan.Placed.{Placed}
-use Rattle.jk_commands.specs.Plans.{at_place, is_frame, parameters_for, placing}
+use Rattle.jk_options.specs.declared.plan.Plan.{Plan}
+use Rattle.jk_options.specs.declared.plan.Placed.{Placed}
+use Rattle.jk_options.specs.Plans.{at_place, is_frame, parameters_for, placing}
 
 -- Where a value is due, nothing but Memory is refused.
 pub refuses_other : {A B : Type 0} (e : Fault) (x : A) (due : Result B Fault) → Refuses e (Ok x) → Refuses e due

@@ -17,9 +17,9 @@ use Rattle.jk_code.specs.Viewing.{picture_of_view}
 use Rattle.jk_code.specs.ViewReading.{meaning_view_at}
 use Rattle.jk_code.specs.Written.{written as file_of}
 use Rattle.jk_code.specs.Beginnings.{Left}
-use Rattle.jk_commands.specs.declared.plan.Plan.{Plan}
-use Rattle.jk_commands.specs.declared.plan.Placed.{Placed}
-use Rattle.jk_commands.specs.Plans.{placing}
+use Rattle.jk_options.specs.declared.plan.Plan.{Plan}
+use Rattle.jk_options.specs.declared.plan.Placed.{Placed}
+use Rattle.jk_options.specs.Plans.{placing}
 use Rattle.jk_commands.specs.Commands.{encoded, decoded, window_decoded, window_given}
 use Rattle.jk_commands.specs.Written.{LeftOf}
 

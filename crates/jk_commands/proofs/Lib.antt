@@ -1,4 +1,3 @@
-pub mod SizeLaws
 pub mod CommandLaws
 pub mod LeftLaws
 pub mod RasterLaws

@@ -10,8 +10,8 @@ use Rattle.jk_code.specs.MeaningReading.{meaning_at}
 use Rattle.jk_code.specs.Viewing.{picture_of_view}
 use Rattle.jk_code.specs.ViewReading.{meaning_view_at}
 use Rattle.jk_code.specs.Written.{written as file_of}
-use Rattle.jk_commands.specs.declared.plan.Plan.{Plan}
-use Rattle.jk_commands.specs.Plans.{placing}
+use Rattle.jk_options.specs.declared.plan.Plan.{Plan}
+use Rattle.jk_options.specs.Plans.{placing}
 
 -- `jk encode`: the picture of a PGM or PPM file, placed and then encoded
 unfoldable pub encoded : List ℕ → Plan → Result (List ℕ) Fault

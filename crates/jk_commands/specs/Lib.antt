@@ -1,8 +1,5 @@
 pub use Rattle.jk_math.specs.Answer
 pub use Rattle.jk_math.specs.Picture
-pub mod Sizes
-pub mod Options
-pub mod Plans
 pub mod Commands
 pub mod Rasters
 pub mod Written

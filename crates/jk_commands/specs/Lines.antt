@@ -1,25 +1,12 @@
 -- The line that `jk info` writes.
-use Rattle.std.specs.Prelude.{◌≡◌, ℕ, ◌-◌, List, [], ◌∷◌, ◌++◌, Result, Ok, codes}
+use Rattle.std.specs.Prelude.{ℕ, ◌-◌, List, [], ◌∷◌, ◌++◌, Result, Ok}
 use Rattle.std.specs.Fmt.{decimal}
 use Rattle.jk_math.specs.Answer.{◌>>=◌}
 use Rattle.jk_math.specs.declared.fault.Fault.{Fault}
-use Rattle.jk_marks.specs.declared.segments.Order.{Order}
-use Rattle.jk_marks.specs.declared.segments.Order.TheVariants.{Lrcp, Rlcp, Rpcl, Pcrl, Cprl}
 use Rattle.jk_marks.specs.Siz.{tile_count}
 use Rattle.jk_params.specs.Headers.{packets_of}
+use Rattle.jk_options.specs.Orders.{order_text}
 use Rattle.jk_window.specs.Indexing.{IndexFields, least_levels, index_at}
-
--- the name of an order of packets (T.800 A.6.1, table A.16)
-abbrev pub order_text : Order → List ℕ
-order_text Lrcp = codes "LRCP"
-order_text Rlcp = codes "RLCP"
-order_text Rpcl = codes "RPCL"
-order_text Pcrl = codes "PCRL"
-order_text Cprl = codes "CPRL"
-
--- no order has this name
-abbrev pub IsNoOrder : List ℕ → Type 0
-IsNoOrder name = (order : Order) → order_text order ≡ name → ⊥
 
 -- a number and a space
 abbrev pub spaced : ℕ → List ℕ

@@ -5,9 +5,9 @@ use Rattle.jk_math.specs.Picture.{Picture}
 use Rattle.jk_math.specs.declared.fault.Fault.{Fault}
 use Rattle.jk_pnm.specs.Reading.{pnm_at}
 use Rattle.jk_code.specs.Beginnings.{IsLeft}
-use Rattle.jk_commands.specs.declared.plan.Plan.{Plan}
-use Rattle.jk_commands.specs.declared.plan.Placed.{Placed}
-use Rattle.jk_commands.specs.Plans.{placing}
+use Rattle.jk_options.specs.declared.plan.Plan.{Plan}
+use Rattle.jk_options.specs.declared.plan.Placed.{Placed}
+use Rattle.jk_options.specs.Plans.{placing}
 use Rattle.jk_commands.specs.Commands.{encoded}
 
 -- What was written: the whole file where it wasn't refused. Else nothing, where memory was refused,

@@ -10,7 +10,7 @@ ghost use Rattle.jk_pnm.specs.Sending.{IsLeft};
 ghost use Rattle.jk_pnm.specs.Written.{written as pnm_of};
 ghost use Rattle.jk_code.specs.Meaning.{Means};
 ghost use Rattle.jk_code.specs.MeaningReading.{meaning_at};
-ghost use Rattle.jk_commands.specs.Plans.{at_place};
+ghost use Rattle.jk_options.specs.Plans.{at_place};
 ghost use Rattle.jk_commands.specs.Commands.{decoded};
 
 use jk_code::decode;

@@ -10,8 +10,8 @@ ghost use Rattle.jk_pnm.specs.Written.{written as pnm_of};
 ghost use Rattle.jk_code.specs.Made.{IsMadeOf, Makes};
 ghost use Rattle.jk_code.specs.Meaning.{Means};
 ghost use Rattle.jk_code.specs.MeaningReading.{meaning_at};
+ghost use Rattle.jk_options.specs.Plans.{at_place};
 ghost use Rattle.jk_commands.specs.Commands.{decoded};
-ghost use Rattle.jk_commands.specs.Plans.{at_place};
 ghost use Rattle.jk_commands.specs.Rasters.{IsRasterOf};
 
 use jk_code::{MadeStripes, StripeWork, make_with};

@@ -8,14 +8,14 @@ ghost use Rattle.jk_math.specs.declared.fault.Fault.TheVariants.{BadParameters};
 ghost use Rattle.jk_pnm.specs.Pnm.{IsPnm};
 ghost use Rattle.jk_pnm.specs.Reading.{pnm_at};
 ghost use Rattle.jk_code.specs.Meaning.{Means};
-ghost use Rattle.jk_commands.specs.Plans.{at_place};
+ghost use Rattle.jk_options.specs.Plans.{at_place};
 ghost use Rattle.jk_commands.specs.Commands.{encoded};
 ghost use Rattle.jk_commands.specs.Written.{LeftOf};
 
-use crate::plan::Plan;
 use jk_code::{encode, encode_into, encode_with};
 use jk_farm::Gate;
 use jk_math::{Fault, Image};
+use jk_options::Plan;
 use std::alloc::Global;
 use std::io::Write;
 use std::thread::Threads;
@@ -37,7 +37,7 @@ pub fn read_image(alloc: Global, bytes: Vec<u8>) -> Result<Image, Fault>
 /// The first of these faults: BadPnm, as `jk_pnm::read` names it; BadParameters where the image may
 /// not stand at its place, and where image and parameters aren't in the profile; Limit. Before the
 /// image is encoded, the file is let go of.
-#[tactic(auto, unfolding(crate::specs::Commands::encoded, crate::specs::Plans::placing))]
+#[tactic(auto, unfolding(crate::specs::Commands::encoded, jk_options::specs::Plans::placing))]
 pub fn encode_file(alloc: Global, bytes: Vec<u8>, plan: Plan) -> Result<Vec<u8>, Fault>
     // Which bytes, or which fault is the first.
     ensures exact { Answers (λ v. v.items) result (encoded bytes.items plan) }
@@ -58,7 +58,7 @@ pub fn encode_file(alloc: Global, bytes: Vec<u8>, plan: Plan) -> Result<Vec<u8>,
 /// [`encode_file`] gives, and its first fault.
 ///
 /// BadParameters, before all else: less than one worker or more than 64.
-#[tactic(auto, unfolding(crate::specs::Commands::encoded, crate::specs::Plans::placing))]
+#[tactic(auto, unfolding(crate::specs::Commands::encoded, jk_options::specs::Plans::placing))]
 pub fn encode_file_with<R: Threads + Sync, G: Gate + Sync>(
     rt: &R,
     alloc: Global,

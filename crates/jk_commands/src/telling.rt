@@ -5,8 +5,8 @@ ghost use Rattle.std.specs.String.{string_bytes};
 ghost use Rattle.jk_math.specs.Answer.{Answers};
 ghost use Rattle.jk_commands.specs.Lines.{spaced, image_text, coding_text, counts_text, line_of, info_at};
 
-use crate::orders::order_name;
 use jk_math::Fault;
+use jk_options::order_name;
 use jk_window::{Index, index};
 use std::alloc::{AllocError, Global};
 

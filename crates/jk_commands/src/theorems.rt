@@ -7,8 +7,8 @@ ghost use Rattle.jk_commands.specs.Commands.{encoded_and_decoded, encoded_and_gi
 
 use crate::decoding::decode_file;
 use crate::encoding::encode_file;
-use crate::plan::Plan;
 use jk_math::Fault;
+use jk_options::Plan;
 use std::alloc::Global;
 
 /// What `jk decode` writes of what `jk encode` writes of a PGM or PPM file.

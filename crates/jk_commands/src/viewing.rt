@@ -9,7 +9,7 @@ ghost use Rattle.jk_pnm.specs.Sending.{IsLeft};
 ghost use Rattle.jk_code.specs.Meaning.{Means};
 ghost use Rattle.jk_code.specs.Viewing.{picture_of_view};
 ghost use Rattle.jk_code.specs.ViewReading.{meaning_view_at};
-ghost use Rattle.jk_commands.specs.Plans.{at_place};
+ghost use Rattle.jk_options.specs.Plans.{at_place};
 ghost use Rattle.jk_commands.specs.Commands.{window_decoded, window_given};
 
 use jk_code::decode_window;

@@ -18,7 +18,7 @@ pub use locking::{
 };
 pub use output::{Output, abandon_output, create_output, finish_output};
 pub use place::is_file_name;
-pub use reading::{read_all, read_file, read_inside, read_inside_at};
+pub use reading::{read_all, read_file, read_inside, read_inside_at, read_path};
 pub use refusal::Refusal;
 pub use replacing::replace_file;
 pub use writing::{rename, write_new};

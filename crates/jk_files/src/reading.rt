@@ -9,6 +9,7 @@ use crate::place::place;
 use crate::refusal::Refusal;
 use jk_math::Refused;
 use std::alloc::Global;
+use std::fs::File;
 use std::io::{self, ErrorKind, Read, Seek, SeekFrom};
 use std::rt::Files;
 
@@ -122,6 +123,29 @@ fn read_front<S: Read + Drop>(alloc: Global, source: S, most: usize) -> Result<V
 pub fn read_file<R: Files>(rt: &R, alloc: Global, path: &str) -> Result<Vec<u8>, Refusal> {
     let opened = open_to_read(rt, path)?;
     read_front(alloc, opened.file, opened.length as usize)
+}
+
+/// Whether a path is that of a regular file whose length is told: some files of the system tell
+/// none.
+fn has_length<R: Files>(rt: &R, path: &str) -> bool {
+    match rt.metadata(path) {
+        Ok(metadata) => metadata.is_file() && 0 < metadata.len(),
+        Err(_) => false,
+    }
+}
+
+/// All bytes of what stands at a path: of a regular file whose length is told as `read_file` reads
+/// them, of a pipe or a device to its end.
+///
+/// System: as `read_file` or `read_all`, and where it can't be opened.
+pub fn read_path<R: Files>(rt: &R, alloc: Global, path: &str) -> Result<Vec<u8>, Refusal> {
+    if has_length(rt, path) {
+        return read_file(rt, alloc, path);
+    }
+    match File::open(rt, path) {
+        Ok(file) => read_all(alloc, file),
+        Err(said) => Err(Refusal::System(said)),
+    }
 }
 
 /// The bytes of a regular file of a folder, as `read_file` reads them.

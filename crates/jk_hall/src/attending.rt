@@ -9,10 +9,9 @@ ghost use Rattle.jk_hall.specs.Behind.{behind, AreSame, GivesUpTo, RefusesUpTo};
 ghost use Rattle.jk_hall.specs.Connections.{Attends};
 
 use crate::reader::Reader;
-use crate::witness::Witness;
 use jk_math::Fault;
 use jk_store::Shelf;
-use jk_web::{End, Reply, Request, Service, serve};
+use jk_web::{End, Reply, Request, Service, Witness, serve};
 use std::alloc::Global;
 use std::io::{Read, Write};
 

@@ -13,17 +13,14 @@ mod reader;
 mod rule;
 mod serving;
 mod shown;
-mod source;
 mod told;
-mod witness;
 mod writer;
 
 pub use hall::Hall;
+pub use jk_web::{Connection, Nobody, Source, Witness};
 pub use law::{cut_texts_begin_whole_ones, lists_looked_at_grow};
 pub use place::Place;
 pub use reader::Reader;
 pub use serving::serve_all;
-pub use source::{Connection, Source};
 pub use told::Told;
-pub use witness::{Nobody, Witness};
 pub use writer::Writer;

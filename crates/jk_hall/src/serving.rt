@@ -3,12 +3,10 @@
 ghost use Rattle.std.specs.Prelude.{◌≡◌, ◌<◌, vec_len};
 
 use crate::reader::Reader;
-use crate::source::{Connection, Source};
-use crate::witness::Witness;
 use jk_farm::Gate;
 use jk_math::Fault;
 use jk_store::Shelf;
-use jk_web::End;
+use jk_web::{Connection, End, Source, Witness};
 use std::alloc::Global;
 use std::io::{Read, Write};
 use std::sync::Wait;

@@ -1,15 +1,14 @@
 //! The commands that work on an archive.
 
 use crate::failure::{Failure, of_options, of_world, with_words};
-use crate::options;
-use crate::progress::Work;
 use crate::streams::read;
 use crate::workers::workers;
-use crate::world::{Serving, World};
+use crate::world::World;
 use clap::ArgMatches;
 use jk_commands::{EncodeOptions, Plan, judge, read_image};
 use jk_math::{Fault, Image};
 use jk_store::{Archive, Images, Shelf, is_good_name, judge_name};
+use jk_words::{Serving, Work};
 use std::alloc::Global;
 
 /// How many images an archive has at most.
@@ -125,7 +124,7 @@ fn of_adding(
     options: &EncodeOptions,
     line: &ArgMatches<'_>,
 ) -> Failure {
-    let (folder, name) = (options::folder(line), options::name(line));
+    let (folder, name) = (jk_words::folder(line), jk_words::name(line));
     match fault {
         Fault::BadParameters => of_options(alloc, fault, options),
         Fault::BadName => with_words(
@@ -148,7 +147,7 @@ fn of_beside<W: World>(
 ) -> Failure {
     match fault {
         Fault::BadName | Fault::NameTaken => of_adding(alloc, fault, options, line),
-        _ => of_folder(alloc, world, fault, options::folder(line), shelf),
+        _ => of_folder(alloc, world, fault, jk_words::folder(line), shelf),
     }
 }
 
@@ -159,15 +158,15 @@ pub(crate) fn add<W: World>(
     line: &ArgMatches<'_>,
     world: &mut W,
 ) -> Result<(), Failure> {
-    let options = options::encoding(alloc, line)?;
+    let options = jk_words::encoding(alloc, line)?;
     let plan = match judge(alloc, &options) {
         Ok(plan) => plan,
         Err(fault) => return Err(of_options(alloc, fault, &options)),
     };
-    let bytes = read(alloc, world, options::input(line))?;
+    let bytes = read(alloc, world, jk_words::input(line))?;
     let size = bytes.len() as u64;
     let image = read_image(alloc, bytes)?;
-    let folder = options::folder(line);
+    let folder = jk_words::folder(line);
     if let Err(fault) = world.lock(alloc, folder) {
         return Err(of_world(alloc, world, fault, folder, "locked"));
     }
@@ -176,7 +175,7 @@ pub(crate) fn add<W: World>(
         Err(fault) => return Err(of_world(alloc, world, fault, folder, "opened")),
     };
     world.begin_opening(&mut shelf);
-    let beside = beside(alloc, world, &mut shelf, options::name(line));
+    let beside = beside(alloc, world, &mut shelf, jk_words::name(line));
     world.end_opening(&mut shelf);
     let images = match beside {
         Ok(images) => images,
@@ -189,7 +188,7 @@ pub(crate) fn add<W: World>(
     let _ = world.tell_others(&shelf);
     let mut archive = Archive::with(shelf, images);
     world.begin_work(Work::Encoding, size);
-    let added = add_to(alloc, &mut archive, options::name(line), image, plan);
+    let added = add_to(alloc, &mut archive, jk_words::name(line), image, plan);
     world.end_work();
     let kept = world.give_back(alloc, folder, archive.into_shelf());
     match added {
@@ -217,14 +216,14 @@ const MOST_TIMEOUT: u32 = 3600;
 /// How an archive is served, if the options are within their limits.
 fn serving(alloc: Global, line: &ArgMatches<'_>) -> Result<Serving, Failure> {
     let workers = workers(alloc, line)?;
-    let timeout = options::timeout(line);
+    let timeout = jk_words::timeout(line);
     if timeout < 1 || MOST_TIMEOUT < timeout {
         return Err(with_words(
             Fault::BadParameters,
             format!(in alloc; "--timeout is {timeout}, and may be 1 to {MOST_TIMEOUT}"),
         ));
     }
-    Ok(options::serving(line, workers))
+    Ok(jk_words::serving_with(line, workers))
 }
 
 /// `jk serve DIR`: the options, the folder, what of it isn't listed, and the connections.
@@ -234,7 +233,7 @@ pub(crate) fn serve<W: World>(
     world: &mut W,
 ) -> Result<(), Failure> {
     let serving = serving(alloc, line)?;
-    let folder = options::folder(line);
+    let folder = jk_words::folder(line);
     if let Err(fault) = world.share(alloc, folder) {
         return Err(of_world(alloc, world, fault, folder, "locked"));
     }

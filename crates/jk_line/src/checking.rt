@@ -2,8 +2,6 @@
 
 use crate::archive::of_folder;
 use crate::failure::{Failure, of_world};
-use crate::faults::cause_of;
-use crate::options;
 use crate::status::Status;
 use crate::streams::write;
 use crate::workers::workers;
@@ -11,19 +9,12 @@ use crate::world::World;
 use clap::ArgMatches;
 use jk_commands::{BadList, Sum, differences, differences_text, read_sums, sums_text};
 use jk_math::Fault;
-use jk_store::{Checked, Finding, check as check_files, is_good_name};
+use jk_store::{Checked, Finding, check as check_files, is_image_file};
+use jk_words::cause_of;
 use std::alloc::{AllocError, Global};
 
 /// What a line of a list has.
 const LINE_WORDS: &str = "64 hexadecimal digits, two spaces and the name of an image's file";
-
-/// Whether a file of an archive may have a name.
-fn is_file_name(name: &str) -> bool {
-    match name.strip_suffix(".jp2") {
-        Some(name) => is_good_name(name),
-        None => false,
-    }
-}
 
 /// The files of a list, or the words for why it isn't one.
 fn read_list(alloc: Global, bytes: &[u8]) -> Result<Result<Vec<Sum>, String>, Failure> {
@@ -44,7 +35,7 @@ fn read_list(alloc: Global, bytes: &[u8]) -> Result<Result<Vec<Sum>, String>, Fa
     let mut number = 0u64;
     for sum in &sums {
         number = number.saturating_add(1);
-        if !is_file_name(sum.name.as_str()) {
+        if !is_image_file(sum.name.as_str()) {
             return Ok(Err(format!(in alloc; "line {number} isn't {LINE_WORDS}")?));
         }
     }
@@ -180,7 +171,7 @@ pub(crate) fn check<W: World>(
     world: &mut W,
 ) -> Result<Status, Failure> {
     let workers = workers(alloc, line)?;
-    let before = match options::against(line) {
+    let before = match jk_words::against(line) {
         None => None,
         Some(name) => match list(alloc, world, name)? {
             Some(sums) => Some(sums),
@@ -188,7 +179,7 @@ pub(crate) fn check<W: World>(
         },
     };
     let blocks = line.get_flag("decode");
-    let (found, has_others) = checked(alloc, world, workers, options::folder(line), blocks)?;
+    let (found, has_others) = checked(alloc, world, workers, jk_words::folder(line), blocks)?;
     let in_words = line.get_flag("explain") || world.is_terminal();
     let mut is_bad = has_others;
     for file in &found {

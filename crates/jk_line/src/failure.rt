@@ -1,9 +1,9 @@
 //! Why a command was refused, with words for people.
 
-use crate::limits::bad_option;
 use crate::world::World;
 use jk_commands::EncodeOptions;
 use jk_math::Fault;
+use jk_words::bad_option;
 use std::alloc::{AllocError, AllocFailed, Global};
 
 /// A fault, and its cause in words where it is known closer than by the fault's name.
@@ -39,10 +39,11 @@ impl<T: Drop> From<AllocFailed<T>> for Failure {
 
 /// A fault with words, if there is memory for them.
 pub(crate) fn with_words(fault: Fault, words: Result<String, AllocError>) -> Failure {
-    Failure {
-        fault,
-        words: words.ok(),
-    }
+    let words = match words {
+        Ok(text) => Some(text),
+        Err(_) => None,
+    };
+    Failure { fault, words }
 }
 
 /// A fault of a file, with the words for what the file has that jk leaves out.

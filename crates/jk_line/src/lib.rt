@@ -3,14 +3,7 @@
 
 mod archive;
 mod checking;
-mod commands;
-mod defaults;
 mod failure;
-mod faults;
-mod features;
-mod limits;
-mod options;
-mod progress;
 mod running;
 mod status;
 mod streams;
@@ -18,8 +11,7 @@ mod workers;
 mod world;
 
 pub use archive::{listening, served};
-pub use faults::FaultLine;
-pub use progress::{Progress, Work};
+pub use jk_words::{FaultLine, Progress, Serving, Work};
 pub use running::run;
 pub use status::Status;
-pub use world::{Serving, World};
+pub use world::World;

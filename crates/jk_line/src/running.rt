@@ -1,16 +1,11 @@
 //! Running a command line.
 
-use crate::commands::command;
-use crate::defaults::Defaults;
 use crate::failure::{Failure, of_file, of_options, of_world};
-use crate::faults::{self, FaultLine, cause_of};
-use crate::features::left_out;
-use crate::progress::Work;
 use crate::status::Status;
 use crate::streams::{create, finish, read, write};
 use crate::workers::workers;
 use crate::world::World;
-use crate::{archive, checking, options};
+use crate::{archive, checking};
 use clap::ArgMatches;
 use clap::error::ErrorKind;
 use jk_commands::{
@@ -19,6 +14,7 @@ use jk_commands::{
 };
 use jk_farm::Open;
 use jk_math::Fault;
+use jk_words::{Defaults, FaultLine, Work, cause_of, command, fault_lines, left_out};
 use std::alloc::Global;
 
 /// The whole file of an image, coded by several workers, and then written.
@@ -30,7 +26,7 @@ fn encode_by<W: World>(
     options: &EncodeOptions,
     plan: Plan,
 ) -> Result<(), Failure> {
-    let bytes = read(alloc, world, options::input(line))?;
+    let bytes = read(alloc, world, jk_words::input(line))?;
     world.begin_work(Work::Encoding, bytes.len() as u64);
     let encoded = encode_file_with::<W::Runtime, W::Counter>(
         world.runtime(),
@@ -42,7 +38,7 @@ fn encode_by<W: World>(
     );
     world.end_work();
     match encoded {
-        Ok(file) => write(alloc, world, options::output(line), &file),
+        Ok(file) => write(alloc, world, jk_words::output(line), &file),
         Err(fault) => Err(of_options(alloc, fault, options)),
     }
 }
@@ -51,7 +47,7 @@ fn encode_by<W: World>(
 /// encoding, which one thread writes to the output tile by tile.
 fn encode<W: World>(alloc: Global, line: &ArgMatches<'_>, world: &mut W) -> Result<(), Failure> {
     let workers = workers(alloc, line)?;
-    let options = options::encoding(alloc, line)?;
+    let options = jk_words::encoding(alloc, line)?;
     let plan = match judge(alloc, &options) {
         Ok(plan) => plan,
         Err(fault) => return Err(of_options(alloc, fault, &options)),
@@ -59,8 +55,8 @@ fn encode<W: World>(alloc: Global, line: &ArgMatches<'_>, world: &mut W) -> Resu
     if workers > 1 {
         return encode_by(alloc, line, world, workers, &options, plan);
     }
-    let bytes = read(alloc, world, options::input(line))?;
-    let name = options::output(line);
+    let bytes = read(alloc, world, jk_words::input(line))?;
+    let name = jk_words::output(line);
     let mut output = create(alloc, world, name)?;
     world.begin_work(Work::Encoding, bytes.len() as u64);
     let encoded = encode_file_into(alloc, bytes, plan, &mut output);
@@ -99,15 +95,15 @@ fn decode_image<W: World>(
 /// `jk decode IN OUT`: the image, or a window of it. How many workers there are is judged first.
 fn decode<W: World>(alloc: Global, line: &ArgMatches<'_>, world: &mut W) -> Result<(), Failure> {
     let workers = workers(alloc, line)?;
-    let bytes = read(alloc, world, options::input(line))?;
+    let bytes = read(alloc, world, jk_words::input(line))?;
     let left_out = left_out(&bytes);
-    let name = options::output(line);
+    let name = jk_words::output(line);
     let mut output = create(alloc, world, name)?;
     world.begin_work(Work::Decoding, bytes.len() as u64);
-    let decoded = match options::window(line) {
+    let decoded = match jk_words::window(line) {
         Some(view) => decode_window_file_into(alloc, bytes, view, &mut output),
         None => {
-            let reduce = options::reduction(line);
+            let reduce = jk_words::reduction(line);
             decode_image(alloc, world, workers, bytes, reduce, &mut output)
         }
     };
@@ -122,7 +118,7 @@ fn decode<W: World>(alloc: Global, line: &ArgMatches<'_>, world: &mut W) -> Resu
 
 /// `jk info IN`.
 fn info<W: World>(alloc: Global, line: &ArgMatches<'_>, world: &mut W) -> Result<(), Failure> {
-    let bytes = read(alloc, world, options::input(line))?;
+    let bytes = read(alloc, world, jk_words::input(line))?;
     let told = if line.get_flag("all") {
         info_all_file(alloc, &bytes)
     } else {
@@ -136,16 +132,16 @@ fn info<W: World>(alloc: Global, line: &ArgMatches<'_>, world: &mut W) -> Result
 
 /// `jk cut IN OUT`.
 fn cut<W: World>(alloc: Global, line: &ArgMatches<'_>, world: &mut W) -> Result<(), Failure> {
-    let bytes = read(alloc, world, options::input(line))?;
-    match cut_file(alloc, &bytes, options::cut(line)) {
-        Ok(file) => write(alloc, world, options::output(line), &file),
+    let bytes = read(alloc, world, jk_words::input(line))?;
+    match cut_file(alloc, &bytes, jk_words::cut(line)) {
+        Ok(file) => write(alloc, world, jk_words::output(line), &file),
         Err(fault) => Err(of_file(alloc, fault, left_out(&bytes))),
     }
 }
 
 /// `jk faults`.
 fn list_faults<W: World>(alloc: Global, world: &mut W) -> Result<(), Failure> {
-    let text = faults::list(alloc)?;
+    let text = fault_lines(alloc)?;
     write(alloc, world, "-", text.as_bytes())
 }
 

@@ -1,28 +1,13 @@
 //! What a command line works on.
 
-use crate::progress::Work;
 use jk_farm::Gate;
 use jk_math::Fault;
 use jk_store::{Archive, Shelf};
+use jk_words::{Serving, Work};
 use std::alloc::Global;
 use std::fmt::Display;
 use std::io::{self, Write};
 use std::thread::Threads;
-
-/// How an archive is served.
-#[derive(Clone, Copy, Debug, PartialEq, Eq)]
-pub struct Serving {
-    /// The port on 127.0.0.1, or 0 for one that is free.
-    pub port: u16,
-    /// How many connections are taken before the end; without a number there is none.
-    pub connections: Option<u32>,
-    /// How many connections are served at a time, 1 to 64.
-    pub workers: usize,
-    /// How long a read or a write on a connection may wait, in seconds, 1 to 3,600.
-    pub timeout: u32,
-    /// Whether each request is told on standard error.
-    pub log: bool,
-}
 
 /// The files, the streams and the archives that a command line works on.
 ///

@@ -1,21 +1,11 @@
 //! The program's files and standard streams, read and written as a whole.
 
-use jk_files::{Refusal, read_all, read_file, replace_file};
+use jk_files::{Refusal, read_all, read_path, replace_file};
 use std::alloc::Global;
-use std::fs::File;
 use std::io::{self, Write};
 use std::rt::Files;
 
-/// Whether a name is that of a regular file whose length is known: some of the system tell none.
-fn has_length<R: Files>(rt: &R, name: &str) -> bool {
-    match rt.metadata(name) {
-        Ok(metadata) => metadata.is_file() && 0 < metadata.len(),
-        Err(_) => false,
-    }
-}
-
-/// All bytes of a file, or of standard input for `-`. A regular file is read into room of its
-/// length; a pipe or a device to its end.
+/// All bytes of a file, or of standard input for `-`.
 pub(crate) fn read<R: Files + Input + AllocGlobal>(
     rt: &R,
     alloc: Global,
@@ -24,13 +14,7 @@ pub(crate) fn read<R: Files + Input + AllocGlobal>(
     if name == "-" {
         return read_all(alloc, rt.reader());
     }
-    if has_length(rt, name) {
-        return read_file(rt, alloc, name);
-    }
-    match File::open(rt, name) {
-        Ok(file) => read_all(alloc, file),
-        Err(said) => Err(Refusal::System(said)),
-    }
+    read_path(rt, alloc, name)
 }
 
 /// Writes all bytes to a file, which is replaced as a whole, or to standard output for `-`.

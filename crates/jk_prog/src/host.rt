@@ -1,16 +1,14 @@
 //! The world of the program: the system's files, streams and sockets.
 
 use crate::files;
-use crate::keeper::{FolderKeeper, is_other, tell_waiting};
-use crate::opening::Watched;
-use crate::output::Late;
+use crate::keeper::{FolderKeeper, tell_waiting};
 use crate::serving::{Asked, shelves};
-use crate::telling::Counted;
 use jk_files::{Lock, Lockable, Refusal, SharedLock, wait_exclusive, wait_shared};
 use jk_line::{Serving, Work, World};
 use jk_math::Fault;
 use jk_serve::{Desk, Paths, bind};
 use jk_store::{Archive, Folder};
+use jk_terminal::{Counted, Late, Watched};
 use std::alloc::Global;
 use std::fmt::Display;
 use std::io::{self, BufWriter};
@@ -222,7 +220,7 @@ where
     }
 
     fn has_other(&self, folder: &Watched<Folder<R>, R>, name: &str) -> bool {
-        is_other(folder.shelf(), name)
+        folder.shelf().has_other(name)
     }
 
     fn tell_others(&mut self, folder: &Watched<Folder<R>, R>) -> bool {

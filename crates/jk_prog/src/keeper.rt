@@ -1,10 +1,10 @@
 //! The folder of an archive that is served, and its lock.
 
-use crate::opening::Watched;
 use jk_files::{Lock, Lockable, wait_exclusive};
 use jk_math::Fault;
 use jk_serve::Keeper;
 use jk_store::Folder;
+use jk_terminal::Watched;
 use std::alloc::Global;
 use std::rt::Files;
 use std::time::Clock;
@@ -16,17 +16,6 @@ pub(crate) fn tell_waiting<R: Eprint>(rt: &R, is_terminal: bool, folder: &str) {
             "jk: another jk works on {folder}; waiting for it, up to ten seconds"
         );
     }
-}
-
-/// Whether the last listing of a folder found something under the name of an image that can't be
-/// opened as a file.
-pub(crate) fn is_other<R: Files + Drop>(folder: &Folder<R>, name: &str) -> bool {
-    for other in folder.others() {
-        if other.name.strip_suffix(".jp2") == Some(name) {
-            return true;
-        }
-    }
-    false
 }
 
 /// Who takes the lock of a folder while an image is added to it.
@@ -74,6 +63,6 @@ where
     }
 
     fn has_other(&self, shelf: &Watched<Folder<R>, R>, name: &str) -> bool {
-        is_other(shelf.shelf(), name)
+        shelf.shelf().has_other(name)
     }
 }

@@ -4,16 +4,13 @@
 mod files;
 mod host;
 mod keeper;
-mod opening;
-mod output;
 mod serving;
-mod telling;
 
 use crate::host::Host;
 use crate::serving::{Asked, serve};
-use crate::telling::Teller;
 use jk_line::{FaultLine, Status, run};
 use jk_math::Fault;
+use jk_terminal::Teller;
 use std::alloc::Global;
 use std::env;
 use std::io::{self, ErrorKind, IsTerminal};

@@ -1,11 +1,11 @@
 //! Serving the archive of a folder.
 
 use crate::keeper::FolderKeeper;
-use crate::opening::Watched;
 use jk_line::{Serving, listening, served};
 use jk_math::Fault;
 use jk_serve::{Arriving, Desk, Keeper, Log, Paths, Port};
 use jk_store::{Folder, Shelf};
+use jk_terminal::Watched;
 use std::alloc::Global;
 use std::rt::Files;
 use std::sync::{Arc, Wait};

@@ -1,2 +1,1 @@
-pub mod RecordLaws
 pub mod OperatingLaws

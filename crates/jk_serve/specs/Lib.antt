@@ -1,4 +1,3 @@
 pub mod OperatorLines
-pub mod Records
 pub mod Operating
 pub mod Examples

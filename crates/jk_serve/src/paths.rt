@@ -3,11 +3,10 @@
 ghost use Rattle.std.specs.Prelude.{◌≡◌, ◌<◌};
 ghost use Rattle.jk_store.specs.Counting.{last_count, Counts};
 
-use jk_files::{Refusal, read_all, read_file};
+use jk_files::{Refusal, read_path};
 use jk_math::Fault;
 use jk_store::{Failures, Shelf};
 use std::alloc::Global;
-use std::fs::File;
 use std::rt::Files;
 
 /// The files of the system, each by its path, which are read alone: other calls fail.
@@ -39,20 +38,6 @@ impl<R: Files> Paths<R> {
             Err(Refusal::System(_)) => Err(self.failures.fail()),
         }
     }
-
-    /// All bytes of a file: a regular file whose length is known is read into room of its length,
-    /// a pipe or a device to its end.
-    fn bytes(&self, alloc: Global, path: &str) -> Result<Vec<u8>, Refusal> {
-        if let Ok(metadata) = self.rt.metadata(path) {
-            if metadata.is_file() && 0 < metadata.len() {
-                return read_file(&self.rt, alloc, path);
-            }
-        }
-        match File::open(&self.rt, path) {
-            Ok(file) => read_all(alloc, file),
-            Err(said) => Err(Refusal::System(said)),
-        }
-    }
 }
 
 // What the system's files hold and give can't be said.
@@ -74,7 +59,7 @@ impl<R: Files + Drop> Shelf for Paths<R> {
 
     fn read(&mut self, alloc: Global, name: &str) -> Result<Vec<u8>, Fault> {
         self.failures.ready()?;
-        let answer = self.bytes(alloc, name);
+        let answer = read_path(&self.rt, alloc, name);
         self.answered(answer)
     }
 

@@ -4,10 +4,10 @@ ghost use Rattle.std.specs.Prelude.{◌≡◌, ◌<◌, vec_len};
 
 use crate::desk::{Desk, Keeper};
 use crate::operating::operate;
-use crate::port::Arriving;
 use jk_farm::Open;
 use jk_hall::{Hall, Reader, Writer, serve_all};
 use jk_math::Fault;
+use jk_port::Arriving;
 use jk_store::{Entry, Shelf};
 use std::alloc::{AllocError, Global};
 use std::sync::{Arc, Wait};

@@ -6,7 +6,7 @@ ghost use Rattle.jk_math.specs.Memory.{IsMemory};
 ghost use Rattle.jk_store.specs.Counting.{last_count, Counts};
 
 use crate::failures::Failures;
-use crate::names::{is_image_file, is_left_file};
+use crate::names::{is_image_file, is_left_file, name_of};
 use crate::shelf::Shelf;
 use jk_files::{Other, Refusal};
 use jk_math::Fault;
@@ -71,6 +71,16 @@ impl<R: Files + Drop> Folder<R> {
     /// opened as a file, each with what the system said.
     pub fn others(&self) -> &[Other] {
         &self.others
+    }
+
+    /// Whether the last listing left out something under the name of an image.
+    pub fn has_other(&self, name: &str) -> bool {
+        for other in &self.others {
+            if name_of(other.name.as_str()) == Some(name) {
+                return true;
+            }
+        }
+        false
     }
 
     /// The temporary files that the last listing saw.

@@ -28,7 +28,7 @@ pub use failures::Failures;
 pub use folder::Folder;
 pub use judging::judge_name;
 pub use memory::MemoryShelf;
-pub use names::is_good_name;
+pub use names::{is_good_name, is_image_file};
 pub use opening::Images;
 pub use shelf::Shelf;
 pub use shown::ShownEntries;

@@ -61,7 +61,7 @@ pub(crate) fn temporary_name(alloc: Global, name: &str) -> Result<String, Fault>
 }
 
 /// The name of the image of which a file is, if it has a good one.
-fn name_of(file: &str) -> Option<&str>
+pub(crate) fn name_of(file: &str) -> Option<&str>
     ensures { MatchOption result
         ((n : List ℕ) → is_file_of n file.now ≡ false) (λ m. (n : List ℕ) → is_file_of n file.now ≡ bytes_eq m.now n) }
 {
@@ -70,7 +70,7 @@ fn name_of(file: &str) -> Option<&str>
 }
 
 /// Whether a file is that of an image with a good name.
-pub(crate) fn is_image_file(file: &str) -> bool {
+pub fn is_image_file(file: &str) -> bool {
     name_of(file).is_some()
 }
 

@@ -17,8 +17,10 @@ mod running;
 mod service;
 mod serving;
 mod session;
+mod source;
 mod theorems;
 mod windows;
+mod witness;
 
 pub use answering::{answer, answer_with};
 pub use cache::Cache;
@@ -32,4 +34,6 @@ pub use running::{run, run_with};
 pub use service::Service;
 pub use serving::{End, serve};
 pub use session::{Next, Session};
+pub use source::{Connection, Source};
 pub use theorems::cut_texts_begin_whole_ones;
+pub use witness::{Nobody, Witness};

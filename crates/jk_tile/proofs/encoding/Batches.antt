@@ -84,10 +84,13 @@ some_component (j ∷ jobs) n lt = j
 pub components_given : (jobs own : List ComponentJob) (r : Result (Vec (List (List ℤ))) Fault) → jobs ≡ own → MatchResult r (λ v. AreGiven IsTransformed jobs (length jobs) v.items) (λ e. IsMemory e ⊎ IsFirstFault IsTransformed jobs e)
     → IfOk r (λ v. v.items ≡ map bands_of_job own) × IfErr r IsMemory
 components_given jobs own (Ok v) e given = (bands_given jobs v.items (zipped IsTransformed jobs v.items given) ∙ ap (map bands_of_job) e, tt)
-components_given jobs own (Err f) e given = (tt, elim given [
-  | inl memory ↦ memory
-  | inr first ↦ (first.fails (some_component jobs first.job first.is_job)).memory
-])
+components_given jobs own (Err f) e given = (
+  tt,
+  elim given [
+    | inl memory ↦ memory
+    | inr first ↦ (first.fails (some_component jobs first.job first.is_job)).memory
+  ],
+)
 
 -- ---- cut apart
 

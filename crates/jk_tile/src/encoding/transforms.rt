@@ -45,7 +45,14 @@ impl<'a> Work for ComponentJob<'a> {
     ghost gives = { IsTransformed };
 
     fn done(alloc: Global, job: &ComponentJob<'a>) -> Result<Planes, Fault> {
-        component_bands(alloc, job.image, job.component, job.colours, &job.rect, job.levels)
+        component_bands(
+            alloc,
+            job.image,
+            job.component,
+            job.colours,
+            &job.rect,
+            job.levels,
+        )
     }
 }
 

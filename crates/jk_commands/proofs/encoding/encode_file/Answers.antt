@@ -2,7 +2,7 @@ use Rattle.std.proofs.Common.{◌≡◌, ap, sym, subst, ◌∙◌}
 use Rattle.jk_math.specs.Picture.{Picture}
 use Rattle.jk_math.specs.Steps.{if_ok, ok_is}
 use Rattle.jk_code.specs.Meaning.{Means}
-use Rattle.jk_commands.specs.Plans.{at_place}
+use Rattle.jk_options.specs.Plans.{at_place}
 use Rattle.jk_commands.proofs.CommandLaws.{placed_there}
 use Rattle.jk_commands.proofs.encoding.encode_file.Goals as goal
 

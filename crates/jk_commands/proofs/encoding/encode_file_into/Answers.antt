@@ -3,7 +3,7 @@ use Rattle.std.proofs.lemmas.Result.{err_from_is_err_and}
 use Rattle.jk_math.specs.Picture.{Picture}
 use Rattle.jk_math.specs.Steps.{ok_is}
 use Rattle.jk_code.specs.Meaning.{Means}
-use Rattle.jk_commands.specs.Plans.{at_place}
+use Rattle.jk_options.specs.Plans.{at_place}
 use Rattle.jk_commands.proofs.CommandLaws.{placed_there}
 use Rattle.jk_commands.proofs.LeftLaws.{encoded_is, left_unread, left_unplaced, left_of, left_whole, on_ok, on_ok_all}
 use Rattle.jk_commands.proofs.encoding.encode_file_into.Goals as goal

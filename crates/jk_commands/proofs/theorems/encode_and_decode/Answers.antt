@@ -4,7 +4,7 @@ use Rattle.jk_math.specs.Answer.{◌>>=◌}
 use Rattle.jk_math.specs.Steps.{answers_same}
 use Rattle.jk_math.specs.declared.fault.Fault.{Fault}
 use Rattle.jk_pnm.specs.Written.{written as pnm_of}
-use Rattle.jk_commands.specs.Plans.{at_place}
+use Rattle.jk_options.specs.Plans.{at_place}
 use Rattle.jk_commands.specs.Commands.{encoded_and_given}
 use Rattle.jk_commands.proofs.CommandLaws.{placed_alike}
 use Rattle.jk_commands.proofs.theorems.encode_and_decode.Goals as goal

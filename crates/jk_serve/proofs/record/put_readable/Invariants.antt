@@ -1,6 +1,0 @@
-use Rattle.std.specs.String.{string_bytes}
-use Rattle.jk_serve.specs.Records.{Spells}
-use Rattle.jk_serve.proofs.record.put_readable.Given as goal
-
-abbrev pub invariant-loop-byte : goal.invariant-loop-byte
-invariant-loop-byte l = Spells (string_bytes l.initial.text) (string_bytes l.text)

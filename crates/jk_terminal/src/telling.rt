@@ -1,0 +1,243 @@
+//! How far work on an image is, told on a terminal by a thread beside it.
+
+use crate::line::{BLANK, FIRST, PAUSE};
+use jk_farm::Gate;
+use jk_words::{Progress, Work};
+use std::alloc::Global;
+use std::sync::atomic::{AtomicU64, Ordering};
+use std::sync::{Arc, Condvar, Mutex, Wait};
+use std::thread;
+use std::thread::{JoinHandle, Threads};
+use std::time::{Clock, Duration, Instant};
+
+/// The work that goes on.
+#[derive(Clone, Copy)]
+struct Begun {
+    work: Work,
+    size: u64,
+    at: Instant,
+}
+
+/// What is told of.
+#[derive(Drop)]
+struct Told {
+    begun: Option<Begun>,
+    /// Whether a line stands there.
+    is_shown: bool,
+    /// Whether no more work comes.
+    is_over: bool,
+}
+
+impl Told {
+    /// Whether there is nothing to tell, and work may come.
+    fn is_idle(&self) -> bool {
+        self.begun.is_none() && !self.is_over
+    }
+}
+
+/// What the thread that works and the one that tells share.
+#[derive(Drop)]
+pub struct Telling {
+    told: Mutex<Told>,
+    changed: Condvar,
+    /// How many code-blocks workers have coded since work began.
+    coded: AtomicU64,
+    /// How many bytes were written since then.
+    written: AtomicU64,
+}
+
+impl Telling {
+    /// Of no work yet.
+    fn new() -> Telling {
+        Telling {
+            told: Mutex::new(Told {
+                begun: None,
+                is_shown: false,
+                is_over: false,
+            }),
+            changed: Condvar::new(),
+            coded: AtomicU64::new(0),
+            written: AtomicU64::new(0),
+        }
+    }
+
+    /// Work begins, on the image of a file of so many bytes.
+    pub fn begin<R: Wait + Clock>(&self, rt: &R, work: Work, size: u64) {
+        let Ok(at) = Instant::now(rt) else {
+            return;
+        };
+        self.coded.store(0, Ordering::SeqCst);
+        self.written.store(0, Ordering::SeqCst);
+        let mut told = self.told.lock(rt);
+        told.begun = Some(Begun { work, size, at });
+        drop(told);
+        self.changed.notify_one();
+    }
+
+    /// Work has ended, and the line is taken away.
+    pub fn end<R: Wait + Eprint>(&self, rt: &R) {
+        let mut told = self.told.lock(rt);
+        told.begun = None;
+        if told.is_shown {
+            let _ = eprint!(rt; "\r{BLANK}\r");
+            told.is_shown = false;
+        }
+    }
+
+    /// So many bytes were written.
+    pub(crate) fn wrote(&self, count: usize) {
+        self.written.fetch_add(count as u64, Ordering::SeqCst);
+    }
+
+    /// No more work comes.
+    fn close<R: Wait>(&self, rt: &R) {
+        let mut told = self.told.lock(rt);
+        told.is_over = true;
+        drop(told);
+        self.changed.notify_one();
+    }
+
+    /// Tells how far work is, if it has gone on for a while. Whether a line stands there then.
+    fn tell<R: Clock + Eprint>(&self, rt: &R, begun: Begun) -> bool {
+        let Ok(passed) = begun.at.elapsed(rt) else {
+            return false;
+        };
+        if passed < Duration::from_millis(FIRST) {
+            return false;
+        }
+        let progress = Progress {
+            work: begun.work,
+            size: begun.size,
+            seconds: passed.as_secs(),
+            coded: self.coded.load(Ordering::SeqCst),
+            written: self.written.load(Ordering::SeqCst),
+        };
+        let _ = eprint!(rt; "\r{progress} ");
+        true
+    }
+
+    /// Waits for work, tells how far it is, and waits for a moment. Whether more may come.
+    fn tell_once<R: Wait + Clock + Eprint>(&self, rt: &R) -> bool {
+        let mut told = self
+            .changed
+            .wait_while(rt, self.told.lock(rt), |told| told.is_idle());
+        if told.is_over {
+            return false;
+        }
+        if let Some(begun) = told.begun {
+            if self.tell(rt, begun) {
+                told.is_shown = true;
+            }
+        }
+        let (told, _) = self
+            .changed
+            .wait_timeout(rt, told, Duration::from_millis(PAUSE));
+        drop(told);
+        true
+    }
+
+    /// Tells how far work is until no more comes.
+    fn tell_all<R: Wait + Clock + Eprint>(&self, rt: &R) {
+        for _ in rt.forever() {
+            if !self.tell_once(rt) {
+                break;
+            }
+        }
+    }
+}
+
+/// Who is told of work, if anybody is.
+#[derive(Drop)]
+pub struct Counted {
+    telling: Option<Arc<Telling>>,
+}
+
+impl Counted {
+    /// What is shared, if anything is told.
+    pub fn telling(&self) -> Option<&Telling> {
+        match &self.telling {
+            Some(telling) => Some(&**telling),
+            None => None,
+        }
+    }
+
+    /// The same again. Without memory for it nobody is told.
+    pub fn again(&self) -> Counted {
+        Counted {
+            telling: shared(&self.telling),
+        }
+    }
+}
+
+impl Gate for Counted {
+    fn began(&self, _job: usize) {}
+
+    fn ended(&self, _job: usize) {
+        if let Some(telling) = self.telling() {
+            telling.coded.fetch_add(1, Ordering::SeqCst);
+        }
+    }
+}
+
+/// The same, shared once more if it can be.
+fn shared(telling: &Option<Arc<Telling>>) -> Option<Arc<Telling>> {
+    match telling {
+        Some(telling) => Arc::try_clone(telling).ok(),
+        None => None,
+    }
+}
+
+/// A thread that tells how far work is, and who is told of it.
+#[derive(Drop)]
+pub struct Teller {
+    pub counted: Counted,
+    thread: Option<JoinHandle<()>>,
+}
+
+impl Teller {
+    /// Nothing is told.
+    fn none() -> Teller {
+        Teller {
+            counted: Counted { telling: None },
+            thread: None,
+        }
+    }
+
+    /// Begins to tell on a terminal. Where there is no memory for it, or no thread can be started,
+    /// nothing is told.
+    pub fn start<R>(rt: &R, alloc: Global, is_terminal: bool) -> Teller
+    where
+        R: Threads + Wait + Clock + Eprint + Clone + Drop + Send + Sync + 'static,
+    {
+        if !is_terminal {
+            return Teller::none();
+        }
+        let own: Result<R, _> = rt.clone();
+        let (Ok(telling), Ok(own)) = (Arc::new(alloc, Telling::new()), own) else {
+            return Teller::none();
+        };
+        let Ok(theirs) = Arc::try_clone(&telling) else {
+            return Teller::none();
+        };
+        match thread::spawn(rt, move || theirs.tell_all(&own)) {
+            Ok(thread) => Teller {
+                counted: Counted {
+                    telling: Some(telling),
+                },
+                thread: Some(thread),
+            },
+            Err(_) => Teller::none(),
+        }
+    }
+
+    /// Ends it.
+    pub fn end<R: Threads + Wait>(self, rt: &R) {
+        let Teller { counted, thread } = self;
+        if let Some(telling) = counted.telling() {
+            telling.close(rt);
+        }
+        if let Some(thread) = thread {
+            thread.join(rt);
+        }
+    }
+}

@@ -1,0 +1,602 @@
+//! What the command line may say.
+
+use crate::defaults::Defaults;
+use clap::{Arg, ArgAction, Command, value_parser};
+use std::alloc::{AllocError, Global};
+
+/// The version, and the line by which the kit names itself (`rt version`) that proves and builds
+/// the program.
+const VERSION: &str = "0.1.0\nrattle-kit-13f logic dac8208d650f15bf";
+
+/// What is told under the list of commands.
+const STATUSES: &str = "\
+A file is judged from front to back. Its first fault is a line such as `jk: F2 Truncated` on
+standard error, with the status 1; `jk faults` lists all of them, and with `--explain` a second line
+has its cause in words. A wrong command line has the status 2. `jk COMMAND --help` tells the options
+of a command.";
+
+/// What the words of the line of `jk info` are.
+const INFO_HELP: &str = "\
+The line is WIDTH HEIGHT COMPONENTS DEPTH LEVELS LAYERS ORDER TILES PACKETS. LEVELS is the least
+number of decomposition levels of a component of a tile: the image can't be halved more often.
+LAYERS and ORDER are those of the main header. The boxes, all headers and all packets are read, and
+what is wrong with them is a fault; code-blocks aren't decoded.
+
+With --all these lines follow, each a LABEL, a colon and values, each behind a space:
+boxes: KIND=LENGTH of each box; what isn't a letter or a digit of a kind stands as in a URL
+tile-parts: how many there are
+code-blocks: WIDTHxHEIGHT
+block-style: reset, causal and segments, those that the code-blocks have
+precincts: WIDTHxHEIGHT of each resolution, from the lowest on
+SOP: yes or no
+EPH: yes or no
+colour-transform: reversible or none
+passed-over: NAME=COUNT of the marker segments in headers that say nothing of the image
+sizes: WIDTHxHEIGHT of the image at each reduction, from 0 on
+The value is `differ` where tiles or components aren't alike, and `none` where there is nothing.";
+
+/// What `jk decode` does with a window.
+const DECODE_HELP: &str = "\
+With --x, --y, --w and --h a window alone is decoded, in the time and memory of a window. Columns
+and rows are counted on the reduced image, from its upper left sample; what passes its edge is left
+out. Packets and code-blocks on which the window doesn't depend aren't judged. IN may be the file of
+a window (`jk cut`), on which columns and rows are counted as on the old file. A window is decoded by
+one thread, whatever --workers says.";
+
+/// What `jk cut` gives.
+const CUT_HELP: &str = "\
+Columns and rows are counted on the reduced image, from its upper left sample; what passes its edge
+is left out. The new file is the old one, in which the packets that the window doesn't need are
+empty: a decoder gives the whole image at any reduction up to the asked one, and on the window it is
+that of the old file. With --layers K the packets of later layers are empty too: on the window it is
+what the first K layers of the old file give.";
+
+/// What `jk add` does.
+const ADD_HELP: &str = "\
+The archive is a folder that exists. The image is written there as NAME.tmp, which then becomes
+NAME.jp2; a name that is taken is refused. Nothing is printed.";
+
+/// What `jk check` writes.
+const CHECK_HELP: &str = "\
+Each file NAME.jp2 of the folder is read and judged as `jk info` judges it, by its boxes, headers and
+packets; with --decode it is decoded too. For each that is an image a line is written, its SHA-256 and
+its name as `sha256sum` writes them, in the order of the names. With --against FILE, such a list, a
+line is written for each file that differs from it, `changed NAME.jp2`, `missing NAME.jp2` or
+`new NAME.jp2`, and for no other. What isn't an image, or can't be read, is named on standard error.
+The status is 0 where all files are images and none differs, 1 where one isn't or does or the folder
+can't be read, and 2 where the command line is wrong or FILE isn't a list.";
+
+/// What `jk serve` answers.
+const SERVE_HELP: &str = "\
+GET /images lists the images, a line each: NAME WIDTH HEIGHT COMPONENTS DEPTH LEVELS.
+GET /images/NAME is the stored file. GET /images/NAME/window?x=N&y=N&w=N&h=N&r=D&layers=K is a
+window of it, as `jk cut` makes it; without r it isn't reduced, and without layers it has all of
+them. What the folder holds when the server starts is listed; files that aren't JP2 files, files
+NAME.tmp of an adding that was broken off, and files that can't be opened are named on standard
+error. A line `add NAME PATH` on standard input adds a PGM or PPM file, which is served from then on,
+and is answered by `added NAME` or `refused NAME FAULT`. It ends when so many connections and
+standard input have ended.";
+
+/// What a word of a command line is.
+#[derive(Clone, Copy)]
+enum Form<'a> {
+    /// A word that is required, by its place.
+    Place,
+    /// An option without a value.
+    Flag,
+    /// An option with a number, and the letter for it.
+    Number(&'a str),
+    /// An option with a number that is required.
+    Required,
+    /// One of the four numbers of a window, which are given together.
+    Window,
+    /// An option with a number, the letter for it, and what stands where it isn't given.
+    Default(&'a str, &'a str),
+    /// An order of packets, and what stands where it isn't given.
+    Order(&'a str),
+    /// Bytes of hexadecimal digits.
+    Bytes,
+    /// The name of a file.
+    File,
+    /// A port, which is required.
+    Port,
+}
+
+/// A word of a command line: its name, what it is, and what it is for.
+#[derive(Clone, Copy)]
+struct Word<'a>(&'a str, Form<'a>, &'a str);
+
+/// That a fault is explained.
+const EXPLAIN: Word<'static> = Word(
+    "explain",
+    Form::Flag,
+    "Say the cause of a fault in words, behind its line; on a terminal they are there anyway",
+);
+
+/// That it isn't told how far work is.
+const QUIET: Word<'static> = Word(
+    "quiet",
+    Form::Flag,
+    "Don't tell on a terminal how far the work is, as is done where it takes longer than a second",
+);
+
+/// How many workers there are.
+const WORKERS: Word<'static> = Word(
+    "workers",
+    Form::Default("N", "1"),
+    "How many threads to work on the image with, 1 to 64; what is written is the same",
+);
+
+/// The numbers of a window.
+static WINDOW: [&str; 4] = ["x", "y", "w", "h"];
+
+/// The folder of an archive.
+const FOLDER: Word<'static> = Word("DIR", Form::Place, "The folder of the archive");
+
+/// The image to encode.
+const PIXELS: Word<'static> = Word(
+    "IN",
+    Form::Place,
+    "The PGM or PPM file, or - for standard input",
+);
+
+/// The file to read.
+const CODED: Word<'static> = Word(
+    "IN",
+    Form::Place,
+    "The JPEG 2000 file, or - for standard input",
+);
+
+/// The command line of `jk`.
+pub fn command<'a>(alloc: Global, defaults: &'a Defaults) -> Result<Command<'a>, AllocError> {
+    let command = Command::new(alloc, "jk")
+        .version(VERSION)
+        .about("A lossless image archive for JPEG 2000, on its reversible path")
+        .after_help(STATUSES)
+        .subcommand_required(true)
+        .arg_required_else_help(true);
+    let command = with_command(command, encode(alloc, defaults))?;
+    let command = with_command(command, decode(alloc))?;
+    let command = with_command(command, info(alloc))?;
+    let command = with_command(command, cut(alloc))?;
+    let command = with_command(command, add(alloc, defaults))?;
+    let command = with_command(command, check(alloc))?;
+    let command = with_command(command, serve(alloc))?;
+    with_command(command, faults(alloc))
+}
+
+/// A command line with one more command, if that was made.
+fn with_command<'a>(
+    command: Command<'a>,
+    made: Result<Command<'a>, AllocError>,
+) -> Result<Command<'a>, AllocError> {
+    command.subcommand(made?)
+}
+
+/// A command with more words.
+fn with_words<'a>(
+    alloc: Global,
+    command: Command<'a>,
+    words: &[Word<'a>],
+) -> Result<Command<'a>, AllocError> {
+    let mut command = command;
+    for word in words {
+        command = command.arg(arg(alloc, *word)?)?;
+    }
+    Ok(command)
+}
+
+/// A command of a name, and what it does.
+fn named_command<'a>(alloc: Global, name: &'a str, about: &'a str) -> Command<'a> {
+    Command::new(alloc, name).about(about)
+}
+
+/// A command of a name, what it does, and what is told under its options.
+fn explained<'a>(alloc: Global, name: &'a str, about: &'a str, after: &'a str) -> Command<'a> {
+    named_command(alloc, name, about).after_help(after)
+}
+
+/// The words of `jk encode` before its options.
+static ENCODE_WORDS: [Word<'static>; 5] = [
+    PIXELS,
+    Word(
+        "OUT",
+        Form::Place,
+        "The file to write, or - for standard output",
+    ),
+    Word(
+        "raw",
+        Form::Flag,
+        "Write a bare codestream, and no JP2 file",
+    ),
+    WORKERS,
+    QUIET,
+];
+
+/// `jk encode IN OUT`.
+fn encode<'a>(alloc: Global, defaults: &'a Defaults) -> Result<Command<'a>, AllocError> {
+    let command = named_command(alloc, "encode", "Encodes a PGM or PPM file");
+    let command = with_words(alloc, command, &ENCODE_WORDS)?;
+    with_encoding(alloc, command, defaults)
+}
+
+/// The options of how and where an image is encoded.
+fn with_encoding<'a>(
+    alloc: Global,
+    command: Command<'a>,
+    defaults: &'a Defaults,
+) -> Result<Command<'a>, AllocError> {
+    let command = with_levels(alloc, command, defaults)?;
+    let command = with_blocks(alloc, command, defaults)?;
+    let command = with_words(alloc, command, &CODING_WORDS)?;
+    let command = with_words(alloc, command, &TILE_WORDS)?;
+    let command = with_origin(alloc, command, defaults)?;
+    with_words(alloc, command, &[EXPLAIN])
+}
+
+/// The options of the levels, the layers and the order of a tile.
+fn with_levels<'a>(
+    alloc: Global,
+    command: Command<'a>,
+    defaults: &'a Defaults,
+) -> Result<Command<'a>, AllocError> {
+    let words = [
+        Word(
+            "levels",
+            Form::Default("N", defaults.levels.as_str()),
+            "Decomposition levels, 0 to 5",
+        ),
+        Word(
+            "layers",
+            Form::Default("N", defaults.layers.as_str()),
+            "Layers, 1 to 32",
+        ),
+        Word(
+            "order",
+            Form::Order(defaults.order),
+            "The order of the packets",
+        ),
+    ];
+    with_words(alloc, command, &words)
+}
+
+/// The options of how large code-blocks are.
+fn with_blocks<'a>(
+    alloc: Global,
+    command: Command<'a>,
+    defaults: &'a Defaults,
+) -> Result<Command<'a>, AllocError> {
+    let words = [
+        Word(
+            "block-x",
+            Form::Default("N", defaults.block_x.as_str()),
+            "The width of a code-block is 2^N, N from 2 to 10",
+        ),
+        Word(
+            "block-y",
+            Form::Default("N", defaults.block_y.as_str()),
+            "The height of a code-block is 2^N; both N are 12 at most in all",
+        ),
+    ];
+    with_words(alloc, command, &words)
+}
+
+/// The other options of how each tile is coded.
+static CODING_WORDS: [Word<'static>; 8] = [
+    Word(
+        "precincts",
+        Form::Bytes,
+        "Precinct sizes, a byte for each resolution from the lowest on, as in COD: two digits, the exponent of the height and that of the width",
+    ),
+    Word(
+        "windows",
+        Form::Flag,
+        "Make windows of the file small: --order RPCL, 8 layers, and precincts of 128 by 128 at each resolution, unless these are given",
+    ),
+    Word(
+        "no-colour",
+        Form::Flag,
+        "Leave the components of a colour image as they are",
+    ),
+    Word(
+        "reset",
+        Form::Flag,
+        "Let the contexts of code-blocks begin anew with each coding pass: a pass hangs less on those before it",
+    ),
+    Word(
+        "causal",
+        Form::Flag,
+        "Let no stripe of a code-block depend on the stripe of four rows below it, as some hardware asks",
+    ),
+    Word(
+        "segments",
+        Form::Flag,
+        "End each cleanup pass of code-blocks with a segmentation symbol, by which damage is seen",
+    ),
+    Word("sop", Form::Flag, "Write SOP before each packet"),
+    Word("eph", Form::Flag, "Write EPH after each packet header"),
+];
+
+/// The options of how large tiles are.
+static TILE_WORDS: [Word<'static>; 2] = [
+    Word(
+        "tile-width",
+        Form::Number("N"),
+        "The width of a tile; with --tile-height",
+    ),
+    Word("tile-height", Form::Number("N"), "The height of a tile"),
+];
+
+/// The options of where the image lies.
+fn with_origin<'a>(
+    alloc: Global,
+    command: Command<'a>,
+    defaults: &'a Defaults,
+) -> Result<Command<'a>, AllocError> {
+    let words = [
+        Word(
+            "x0",
+            Form::Default("N", defaults.x0.as_str()),
+            "The column of the upper left sample on the reference grid",
+        ),
+        Word(
+            "y0",
+            Form::Default("N", defaults.y0.as_str()),
+            "The row of the upper left sample",
+        ),
+    ];
+    with_words(alloc, command, &words)
+}
+
+/// The words of `jk decode`.
+static DECODE_WORDS: [Word<'static>; 10] = [
+    CODED,
+    Word(
+        "OUT",
+        Form::Place,
+        "The PGM or PPM file to write, or - for standard output",
+    ),
+    Word(
+        "x",
+        Form::Window,
+        "The left column of a window; with --y, --w and --h",
+    ),
+    Word("y", Form::Window, "The upper row of the window"),
+    Word("w", Form::Window, "How many columns it has"),
+    Word("h", Form::Window, "How many rows it has"),
+    Word(
+        "reduce",
+        Form::Default("D", "0"),
+        "How often to halve the image, at most the LEVELS of `jk info`",
+    ),
+    WORKERS,
+    QUIET,
+    EXPLAIN,
+];
+
+/// `jk decode IN OUT`.
+fn decode<'a>(alloc: Global) -> Result<Command<'a>, AllocError> {
+    let command = explained(
+        alloc,
+        "decode",
+        "Decodes a JPEG 2000 file, or a window of it, to PGM or PPM",
+        DECODE_HELP,
+    );
+    with_words(alloc, command, &DECODE_WORDS)
+}
+
+/// The words of `jk info`.
+static INFO_WORDS: [Word<'static>; 3] = [
+    CODED,
+    Word(
+        "all",
+        Form::Flag,
+        "Tell in more lines what decides how small windows get, and what the file carries",
+    ),
+    EXPLAIN,
+];
+
+/// `jk info IN`.
+fn info<'a>(alloc: Global) -> Result<Command<'a>, AllocError> {
+    let command = explained(
+        alloc,
+        "info",
+        "Tells in one line what a JPEG 2000 file holds",
+        INFO_HELP,
+    );
+    with_words(alloc, command, &INFO_WORDS)
+}
+
+/// The words of `jk cut`.
+static CUT_WORDS: [Word<'static>; 9] = [
+    CODED,
+    Word(
+        "OUT",
+        Form::Place,
+        "The JPEG 2000 file to write, or - for standard output",
+    ),
+    Word("x", Form::Required, "The left column of the window"),
+    Word("y", Form::Required, "The upper row of the window"),
+    Word("w", Form::Required, "How many columns it has"),
+    Word("h", Form::Required, "How many rows it has"),
+    Word(
+        "reduce",
+        Form::Default("D", "0"),
+        "How often to halve the image before, at most the LEVELS of `jk info`",
+    ),
+    Word(
+        "layers",
+        Form::Number("K"),
+        "How many layers to keep, all where there are fewer; without it all of them",
+    ),
+    EXPLAIN,
+];
+
+/// `jk cut IN OUT`.
+fn cut<'a>(alloc: Global) -> Result<Command<'a>, AllocError> {
+    let command = explained(
+        alloc,
+        "cut",
+        "Cuts a window out of a JPEG 2000 file, without decoding it",
+        CUT_HELP,
+    );
+    with_words(alloc, command, &CUT_WORDS)
+}
+
+/// The words of `jk add` before its options.
+static ADD_WORDS: [Word<'static>; 4] = [
+    FOLDER,
+    Word(
+        "NAME",
+        Form::Place,
+        "The name of the image: 1 to 64 of a to z, 0 to 9, - and _",
+    ),
+    PIXELS,
+    QUIET,
+];
+
+/// `jk add DIR NAME IN`.
+fn add<'a>(alloc: Global, defaults: &'a Defaults) -> Result<Command<'a>, AllocError> {
+    let command = explained(
+        alloc,
+        "add",
+        "Adds a PGM or PPM file to an archive",
+        ADD_HELP,
+    );
+    let command = with_words(alloc, command, &ADD_WORDS)?;
+    with_encoding(alloc, command, defaults)
+}
+
+/// The words of `jk check`.
+static CHECK_WORDS: [Word<'static>; 6] = [
+    FOLDER,
+    Word(
+        "against",
+        Form::File,
+        "A list that was written before, to compare with, or - for standard input",
+    ),
+    Word("decode", Form::Flag, "Judge the code-blocks too"),
+    Word(
+        "workers",
+        Form::Default("N", "1"),
+        "How many files to judge at a time, 1 to 64",
+    ),
+    QUIET,
+    EXPLAIN,
+];
+
+/// `jk check DIR`.
+fn check<'a>(alloc: Global) -> Result<Command<'a>, AllocError> {
+    let command = explained(
+        alloc,
+        "check",
+        "Checks that the files of an archive are images, and as they were",
+        CHECK_HELP,
+    );
+    with_words(alloc, command, &CHECK_WORDS)
+}
+
+/// The words of `jk serve`.
+static SERVE_WORDS: [Word<'static>; 8] = [
+    FOLDER,
+    Word(
+        "port",
+        Form::Port,
+        "The port on 127.0.0.1, or 0 for one that is free",
+    ),
+    Word(
+        "connections",
+        Form::Number("K"),
+        "How many connections to take before the end; without it there is none",
+    ),
+    Word(
+        "workers",
+        Form::Default("N", "1"),
+        "How many connections to serve at a time, 1 to 64",
+    ),
+    Word(
+        "timeout",
+        Form::Default("SECONDS", "10"),
+        "How long to wait for a client, 1 to 3600; six times as long for a request or a reply",
+    ),
+    Word(
+        "log",
+        Form::Flag,
+        "Tell each request and why a connection failed on standard error",
+    ),
+    QUIET,
+    EXPLAIN,
+];
+
+/// `jk serve DIR`.
+fn serve<'a>(alloc: Global) -> Result<Command<'a>, AllocError> {
+    let command = explained(
+        alloc,
+        "serve",
+        "Serves the images of an archive and windows of them over HTTP/1.1",
+        SERVE_HELP,
+    );
+    with_words(alloc, command, &SERVE_WORDS)
+}
+
+/// `jk faults`.
+fn faults<'a>(alloc: Global) -> Result<Command<'a>, AllocError> {
+    let command = named_command(
+        alloc,
+        "faults",
+        "Lists all faults, each with its number, name and cause",
+    );
+    with_words(alloc, command, &[EXPLAIN])
+}
+
+/// What clap is told of a word.
+fn arg<'a>(alloc: Global, word: Word<'a>) -> Result<Arg<'a>, AllocError> {
+    let Word(name, form, help) = word;
+    let arg = match form {
+        Form::Place => Arg::new(alloc, name).required(true),
+        Form::Flag => named(alloc, name).action(ArgAction::SetTrue),
+        Form::Number(letter) => number(alloc, name, letter),
+        Form::Required => number(alloc, name, "N").required(true),
+        Form::Window => number(alloc, name, "N").requires_all(&WINDOW)?,
+        Form::Default(letter, value) => number(alloc, name, letter).default_value(value),
+        Form::Order(value) => order(alloc, name, value),
+        Form::Bytes => option(alloc, name, "HEX"),
+        Form::File => valued(alloc, name, "FILE"),
+        Form::Port => port(alloc, name),
+    };
+    Ok(arg.help(help))
+}
+
+/// An option of a name.
+fn named<'a>(alloc: Global, name: &'a str) -> Arg<'a> {
+    Arg::new(alloc, name).long(name)
+}
+
+/// An option with a value.
+fn valued<'a>(alloc: Global, name: &'a str, value: &'a str) -> Arg<'a> {
+    named(alloc, name).value_name(value)
+}
+
+/// An option with a value that may begin with a minus: a negative number is judged as others are.
+fn option<'a>(alloc: Global, name: &'a str, value: &'a str) -> Arg<'a> {
+    valued(alloc, name, value).allow_negative_numbers(true)
+}
+
+/// An option with a number.
+fn number<'a>(alloc: Global, name: &'a str, letter: &'a str) -> Arg<'a> {
+    option(alloc, name, letter).value_parser(value_parser!(u32))
+}
+
+/// The order of packets.
+fn order<'a>(alloc: Global, name: &'a str, value: &'a str) -> Arg<'a> {
+    option(alloc, name, "ORDER")
+        .value_parser(["LRCP", "RLCP", "RPCL", "PCRL", "CPRL"].as_slice())
+        .default_value(value)
+}
+
+/// A port, which is required.
+fn port<'a>(alloc: Global, name: &'a str) -> Arg<'a> {
+    option(alloc, name, "P")
+        .value_parser(value_parser!(u16))
+        .required(true)
+}

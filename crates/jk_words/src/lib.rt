@@ -1,0 +1,23 @@
+//! The words of the command line of `jk`: which commands and options there are, what a line asks
+//! for, and what is told about it: limits of options, faults, what of a file is left out, and how
+//! far work is.
+#![tactic(auto)]
+
+mod asked;
+mod commands;
+mod defaults;
+mod faults;
+mod features;
+mod limits;
+mod progress;
+
+pub use asked::{
+    Serving, against, cut, encoding, folder, input, name, output, reduction, serving_with, timeout,
+    window, workers,
+};
+pub use commands::command;
+pub use defaults::Defaults;
+pub use faults::{FaultLine, cause_of, fault_lines};
+pub use features::left_out;
+pub use limits::bad_option;
+pub use progress::{Progress, Work};
