@@ -16,6 +16,8 @@ mod layers;
 #[cfg(test)]
 mod meanings;
 #[cfg(test)]
+mod memory;
+#[cfg(test)]
 mod mixed;
 #[cfg(test)]
 mod pages;
