@@ -19,3 +19,4 @@ pub mod Parts
 pub mod Layering
 pub mod Stills
 pub mod StillBits
+pub mod Sizes

@@ -14,12 +14,12 @@ use Rattle.jk_scan.specs.Moments.{stripes}
 use Rattle.jk_scan.specs.Words.{Truths, of_rows, bordered}
 use Rattle.jk_scan.specs.WordPlaces.{column, row}
 use Rattle.jk_scan.specs.Flags.{IsSized, IsDrawn, across, word_at, flag_at}
-use Rattle.jk_scan.proofs.Laws.{inside_parts, rows_between, word_fits, on_or, on_zero, drawn_none, same_field}
+use Rattle.jk_scan.proofs.Laws.{inside_parts, rows_between, word_within, on_or, on_zero, drawn_none, same_field}
 use Rattle.jk_block.specs.Fields.{flagged, is_in_word, own_bit, with_word, words_of, AreSameWords, plane_bit}
 use Rattle.jk_block.proofs.WordBits.{bordered_at, drawn_bit}
 
 -- a word is written
-pub word_drawn : (s : BlockShape) (g h : Truths) (words : List ℕ) (j i new : ℕ) → IsSized s → 774 ≤ length words → j < across s → i < stripes s → IsDrawn s g words
+pub word_drawn : (s : BlockShape) (g h : Truths) (words : List ℕ) (j i new : ℕ) → IsSized s → words_of s ≤ length words → j < across s → i < stripes s → IsDrawn s g words
     → ((m : ℕ) → m < 64 → on new m ≡ (of_rows (m % 8) && h (column j m) (row i m))) → ((x y : ℕ) → (x / 8 ≡ j → y / 4 ≡ i → ⊥) → h x y ≡ g x y) → IsDrawn s h (set words (word_at s (j + 1) (i + 1)) new)
 unfolding word_at
 word_drawn s g h words j i new z len hj hi drawn own other j' i' hj' hi' c b p q = elim (cases_lt j' (j + 1)) [
@@ -40,7 +40,7 @@ word_drawn s g h words j i new z len hj hi drawn own other j' i' hj' hi' c b p q
     place = (i + 1) * (across s + 2) + (j + 1)
 
     room : place < length words
-    room = let f = word_fits s (j + 1) (i + 1) z (omega arith) (omega arith) in omega (arith, f, len)
+    room = let f = word_within s (j + 1) (i + 1) (omega arith) (omega arith) in omega (arith, f, len)
 
     kept : (j' ≡ j + 1 → i' ≡ i + 1 → ⊥) → on (get_or (set words place new) (i' * (across s + 2) + j') 0) (8 * c + b) ≡ (of_rows b && bordered g (8 * j' + c) (4 * i' + b - 1))
     kept away =
@@ -88,7 +88,7 @@ word_drawn s g h words j i new z len hj hi drawn own other j' i' hj' hi' c b p q
             ∙ bordered_at h (column j (8 * c + b)) (row i (8 * c + b))))
 
 -- places of a word written at once
-pub word_lit : (s : BlockShape) (f : Field Bool) (words : List ℕ) (j i places p : ℕ) → IsSized s → 774 ≤ length words → j < across s → i < stripes s → p ≡ word_at s (j + 1) (i + 1)
+pub word_lit : (s : BlockShape) (f : Field Bool) (words : List ℕ) (j i places p : ℕ) → IsSized s → words_of s ≤ length words → j < across s → i < stripes s → p ≡ word_at s (j + 1) (i + 1)
     → ((m : ℕ) → m < 64 → on places m ≡ true → of_rows (m % 8) ≡ true) → IsDrawn s f words → IsDrawn s (with_word f j i places) (set words p (bit_or (get_or words p 0) places))
 word_lit s f words j i places p z len hj hi ep rows drawn =
     subst (λ p. IsDrawn s (with_word f j i places) (set words p (bit_or (get_or words p 0) places))) (sym ep)
@@ -198,7 +198,7 @@ by_word {R} j i x y f g = by (is_in_word j i x y) refl
     by false e = g e (λ ex ey. let both : is_in_word j i x y ≡ true = same (x / 8) j (y / 4) i ex ey in let c : true ≡ false = sym both ∙ e in absurd cc)
 
 -- the truth value of a place where a word was written
-pub flag_word : (s : BlockShape) (words : List ℕ) (j i p new x y : ℕ) → IsSized s → 774 ≤ length words → j < across s → i < stripes s → p ≡ word_at s (j + 1) (i + 1) → is_inside s x y ≡ true
+pub flag_word : (s : BlockShape) (words : List ℕ) (j i p new x y : ℕ) → IsSized s → words_of s ≤ length words → j < across s → i < stripes s → p ≡ word_at s (j + 1) (i + 1) → is_inside s x y ≡ true
     → flag_at s (set words p new) x y ≡ cond (is_in_word j i x y) (on new (own_bit x y)) (flag_at s words x y)
 flag_word s words j i p new x y z len hj hi ep inside =
     let w = inside_word s x y inside in
@@ -206,7 +206,7 @@ flag_word s words j i p new x y z len hj hi ep inside =
     ap (λ p. flag_at s (set words p new) x y) ep
     ∙ by_word j i x y
     (λ e ex ey. ap (λ q. on (get_or (set words (word_at s (j + 1) (i + 1)) new) q 0) (own_bit x y)) (ap (λ a. word_at s (a + 1) (y / 4 + 1)) ex ∙ ap (λ a. word_at s (j + 1) (a + 1)) ey)
-    ∙ ap (λ w. on w (own_bit x y)) (get_or-set_same words (word_at s (j + 1) (i + 1)) new 0 (let f = word_fits s (j + 1) (i + 1) z (omega arith) (omega arith) in omega (arith, f, len)))
+    ∙ ap (λ w. on w (own_bit x y)) (get_or-set_same words (word_at s (j + 1) (i + 1)) new 0 (let f = word_within s (j + 1) (i + 1) (omega arith) (omega arith) in omega (arith, f, len)))
     ∙ sym (ap (λ b. cond b (on new (own_bit x y)) (flag_at s words x y)) e))
     (λ e away. ap (λ w. on w (own_bit x y)) (get_or-set_other words (word_at s (j + 1) (i + 1)) (word_at s (x / 8 + 1) (y / 4 + 1)) new 0
     (λ g. let o = one_word s (x / 8 + 1) (y / 4 + 1) (j + 1) (i + 1) (omega (arith, w0)) (omega arith) g in let o0 = o.0 in let o1 = o.1 in away (omega (arith, o1)) (omega (arith, o0))))

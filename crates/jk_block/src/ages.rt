@@ -4,14 +4,14 @@ ghost use Rattle.std.specs.Prelude.{◌≡◌, ℕ, ◌<◌, ◌≤◌, replicat
 ghost use Rattle.jk_scan.specs.Flags.{IsSized};
 ghost use Rattle.jk_block.specs.Fields.{words_of, AreSameWords};
 
-use jk_scan::{BlockShape, WORDS, words_across};
+use jk_scan::{BlockShape, words_across};
 use std::marker::Model;
 
 /// No place is marked.
-pub fn unmarked() -> [u64; WORDS]
-    ensures { result ≡ replicate 774 0 }
+pub fn unmarked<const N: usize>() -> [u64; N]
+    ensures { result ≡ replicate N 0 }
 {
-    [0; WORDS]
+    [0; N]
 }
 
 /// How many words show a block once, with their border.
@@ -24,8 +24,9 @@ pub fn words_of(shape: BlockShape) -> usize
 }
 
 /// No place of a block is marked any more.
-pub fn unmark(shape: BlockShape, words: &mut [u64; WORDS])
-    requires { IsSized shape }
+pub fn unmark<const N: usize>(shape: BlockShape, words: &mut [u64; N])
+    requires sized { IsSized shape }
+    requires room { words_of shape ≤ N }
     ensures { (k : ℕ) → k < words_of shape → get_or words.new k 0 ≡ 0 }
 {
     for at in 0..words_of(shape) {
@@ -34,8 +35,9 @@ pub fn unmark(shape: BlockShape, words: &mut [u64; WORDS])
 }
 
 /// Copies the words that show a block.
-fn copy(shape: BlockShape, from: &[u64; WORDS], to: &mut [u64; WORDS])
-    requires { IsSized shape }
+fn copy<const N: usize>(shape: BlockShape, from: &[u64; N], to: &mut [u64; N])
+    requires sized { IsSized shape }
+    requires room { words_of shape ≤ N }
     ensures { AreSameWords shape from.now to.new }
 {
     for at in 0..words_of(shape) {
@@ -46,13 +48,13 @@ fn copy(shape: BlockShape, from: &[u64; WORDS], to: &mut [u64; WORDS])
 /// What was significant before a plane, and what was so before the plane above. The two change
 /// places with each plane.
 #[derive(Drop)]
-pub struct Ages {
-    even: [u64; WORDS],
-    odd: [u64; WORDS],
+pub struct Ages<const N: usize> {
+    even: [u64; N],
+    odd: [u64; N],
     is_odd: bool,
 }
 
-impl Model for Ages {
+impl<const N: usize> Model for Ages<N> {
     ghost use Rattle.std.specs.Prelude.{if◌then◌else◌};
     ghost use Rattle.jk_block.specs.Ages.{AgesView};
 
@@ -64,12 +66,12 @@ impl Model for Ages {
     } };
 }
 
-impl Ages {
+impl<const N: usize> Ages<N> {
     /// Nothing was significant.
     #[inline(always)]
-    pub fn none() -> Ages
-        ensures refined { result.refined ≡ replicate 774 0 }
-        ensures older { result.older ≡ replicate 774 0 }
+    pub fn none() -> Ages<N>
+        ensures refined { result.refined ≡ replicate N 0 }
+        ensures older { result.older ≡ replicate N 0 }
     {
         Ages {
             even: unmarked(),
@@ -80,15 +82,16 @@ impl Ages {
 
     /// What was significant before the plane above.
     #[inline(always)]
-    pub fn refined(&self) -> &[u64; WORDS]
+    pub fn refined(&self) -> &[u64; N]
         ensures { result.now ≡ self.now.refined }
     {
         if self.is_odd { &self.odd } else { &self.even }
     }
 
     /// Notes what is significant as a plane begins.
-    pub fn note(&mut self, shape: BlockShape, significant: &[u64; WORDS])
-        requires { IsSized shape }
+    pub fn note(&mut self, shape: BlockShape, significant: &[u64; N])
+        requires sized { IsSized shape }
+        requires room { words_of shape ≤ N }
         ensures refined { self.new.refined ≡ self.old.older }
         ensures older { AreSameWords shape significant.now self.new.older }
     {

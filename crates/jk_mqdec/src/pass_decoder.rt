@@ -39,6 +39,7 @@ impl<'a> Model for PassDecoder<'a> {
 
 impl<'a> PassDecoder<'a> {
     /// A decoder at the start of a segment (INITDEC, T.800 C.3.5).
+    #[inline(always)]
     pub fn new(bytes: &'a [u8], contexts: &'a mut [Step; 19]) -> PassDecoder<'a>
         requires { contexts.old ≡ start }
         ensures bytes { result.bytes ≡ bytes.now }
@@ -52,6 +53,7 @@ impl<'a> PassDecoder<'a> {
     }
 
     /// The contexts take their first states again (T.800 Table D.7). The interval goes on.
+    #[inline(always)]
     pub fn reset(&mut self)
         ensures bytes { self.new.bytes ≡ self.old.bytes }
         ensures stands { (s : State) → Stands self.old s → Stands self.new (restarted s) }

@@ -11,7 +11,7 @@ use Rattle.jk_scan.specs.Bits.{on}
 use Rattle.jk_scan.specs.Neighbours.{is_inside}
 use Rattle.jk_scan.specs.Moments.{stripes}
 use Rattle.jk_scan.specs.Words.{of_rows, bordered}
-use Rattle.jk_scan.specs.Flags.{IsSized, across, word_at}
+use Rattle.jk_scan.specs.Flags.{IsSized, across, word_at, words_shown}
 use Rattle.jk_scan.proofs.BitLaws.{on_and, on_shl_any, on_shr_at, on_above}
 use Rattle.jk_scan.proofs.Patterns.{all_below, all_at, same, same_is}
 
@@ -43,6 +43,13 @@ word_fits s j i z hj hi =
     let c = mul_comm (across s + 2) (stripes s + 2) in
     let f = words_fit s z in
     omega (arith, m, c, f)
+
+pub word_within : (s : BlockShape) (j i : ℕ) → j < across s + 2 → i < stripes s + 2 → word_at s j i < words_shown s
+unfolding word_at
+word_within s j i hj hi =
+    let m = mul-add-lt i (across s + 2) j (stripes s + 2) hi hj in
+    let c = mul_comm (across s + 2) (stripes s + 2) in
+    omega (arith, m, c)
 
 pub one_word : (s : BlockShape) (j i j' i' : ℕ) → j < across s + 2 → j' < across s + 2 → word_at s j i ≡ word_at s j' i' → (i ≡ i') × (j ≡ j')
 unfolding word_at

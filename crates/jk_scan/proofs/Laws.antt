@@ -7,7 +7,7 @@ pub use Rattle.jk_scan.proofs.Patterns.{firsts}
 pub use Rattle.jk_scan.proofs.Neighbours.{touched_is, near_is, shown_at}
 pub use Rattle.jk_scan.proofs.Adding.{rows_between, set_shows, added_at}
 pub use Rattle.jk_scan.proofs.Candidates.{lowest, rest_by, rest_at, lowest_or_rest, later_lowest, taken, taken_low, set_below, sooner_zero, sooner_one, bit_true, bit_false, bit_is}
-pub use Rattle.jk_scan.proofs.Geometry.{word_fits, high_ones}
+pub use Rattle.jk_scan.proofs.Geometry.{words_fit, word_fits, word_within, high_ones}
 pub use Rattle.jk_scan.proofs.Marking.{IsPut, put_one, put_bit, with_place, drawn_same, drawn_none, flag_none, drawn_put, flag_put}
 pub use Rattle.jk_scan.proofs.BitLaws.{same_from_on}
 pub use Rattle.jk_scan.proofs.Adding.{step_is}

@@ -22,6 +22,10 @@ across s = (s.width + 7) / 8
 unfoldable pub word_at : BlockShape → (j i : ℕ) → ℕ
 word_at s j i = i * (across s + 2) + j
 
+-- how many words show a block, with their border
+abbrev pub words_shown : BlockShape → ℕ
+words_shown s = (across s + 2) * (stripes s + 2)
+
 -- The words show a field.
 abbrev pub IsDrawn : BlockShape → Truths → List ℕ → Type 0
 IsDrawn s f words =

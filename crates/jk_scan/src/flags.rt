@@ -1,13 +1,13 @@
 //! Truth values of the places of a block in an array of words, with a border of words that show
 //! nothing.
 
-ghost use Rattle.std.specs.Prelude.{◌≡◌, ℕ, ◌+◌, ◌-◌, ◌*◌, ◌<◌, ◌≤◌, nat_le, ◌&&◌};
+ghost use Rattle.std.specs.Prelude.{◌≡◌, ℕ, ◌+◌, ◌-◌, ◌*◌, ◌<◌, ◌≤◌, nat_le, ◌&&◌, length};
 ghost use Rattle.jk_scan.specs.Bits.{on};
 ghost use Rattle.jk_scan.specs.Neighbours.{is_inside, seen_from};
 ghost use Rattle.jk_scan.specs.Moments.{stripes};
 ghost use Rattle.jk_scan.specs.Words.{Truths, of_rows, of_gathered, Shows, bordered};
 ghost use Rattle.jk_scan.specs.Surroundings.{IsAround};
-ghost use Rattle.jk_scan.specs.Flags.{IsSized, IsDrawn, across, word_at};
+ghost use Rattle.jk_scan.specs.Flags.{IsSized, IsDrawn, across, word_at, words_shown};
 
 use crate::around::Around;
 use crate::shape::BlockShape;
@@ -31,6 +31,7 @@ pub fn word_place(shape: BlockShape, word: usize, stripe: usize) -> usize
     requires stripe { stripe < stripes shape + 2 }
     ensures place { result ≡ word_at shape word stripe }
     ensures fits { result < 774 }
+    ensures within { result < words_shown shape }
 {
     stripe * (words_across(shape) + 2) + word
 }
@@ -38,8 +39,9 @@ pub fn word_place(shape: BlockShape, word: usize, stripe: usize) -> usize
 /// The word below a word of a stripe, as the stripe sees it: with vertically causal contexts it
 /// shows nothing (T.800 D.7).
 #[inline(always)]
-fn seen_below(words: &[u64; WORDS], shape: BlockShape, word: usize, stripe: usize) -> u64
+fn seen_below(words: &[u64], shape: BlockShape, word: usize, stripe: usize) -> u64
     requires sized { IsSized shape }
+    requires room { words_shown shape ≤ length words.now }
     requires word { word < across shape + 2 }
     requires stripe { stripe < stripes shape }
     ensures { (f : Truths) → IsDrawn shape f words.now
@@ -54,8 +56,9 @@ fn seen_below(words: &[u64; WORDS], shape: BlockShape, word: usize, stripe: usiz
 
 /// A word of a stripe with the rows above and below it, as the stripe sees them. The word is
 /// counted with the border.
-fn gathered(words: &[u64; WORDS], shape: BlockShape, word: usize, stripe: usize) -> u64
+fn gathered(words: &[u64], shape: BlockShape, word: usize, stripe: usize) -> u64
     requires sized { IsSized shape }
+    requires room { words_shown shape ≤ length words.now }
     requires word { word < across shape + 2 }
     requires stripe { stripe < stripes shape }
     ensures { (f : Truths) → IsDrawn shape f words.now
@@ -64,6 +67,24 @@ fn gathered(words: &[u64; WORDS], shape: BlockShape, word: usize, stripe: usize)
     let centre = words[word_place(shape, word, stripe + 1)];
     let above = words[word_place(shape, word, stripe)];
     gather(centre, above, seen_below(words, shape, word, stripe))
+}
+
+/// A word of a stripe and those beside it, each with the rows above and below as the stripe sees
+/// them, out of as many words as the block needs or more.
+#[inline(always)]
+pub fn seen_among(words: &[u64], shape: BlockShape, word: usize, stripe: usize) -> Around
+    requires sized { IsSized shape }
+    requires room { words_shown shape ≤ length words.now }
+    requires word { word < across shape }
+    requires stripe { stripe < stripes shape }
+    ensures { (f : Truths) → IsDrawn shape f words.now
+        → IsAround (bordered (seen_from shape stripe f)) word stripe result }
+{
+    Around {
+        centre: gathered(words, shape, word + 1, stripe),
+        west: gathered(words, shape, word, stripe),
+        east: gathered(words, shape, word + 2, stripe),
+    }
 }
 
 /// A word of a stripe and those beside it, each with the rows above and below as the stripe sees
@@ -76,11 +97,7 @@ pub fn seen_around(words: &[u64; WORDS], shape: BlockShape, word: usize, stripe:
     ensures { (f : Truths) → IsDrawn shape f words.now
         → IsAround (bordered (seen_from shape stripe f)) word stripe result }
 {
-    Around {
-        centre: gathered(words, shape, word + 1, stripe),
-        west: gathered(words, shape, word, stripe),
-        east: gathered(words, shape, word + 2, stripe),
-    }
+    seen_among(words, shape, word, stripe)
 }
 
 /// The first rows of each column.

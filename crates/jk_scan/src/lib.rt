@@ -22,7 +22,7 @@ pub use bytes::{DecisionBytes, byte_in, decision_bytes};
 pub use contexts::{
     Contribution, SignContext, contributed, refine_context, sign_context, zero_context,
 };
-pub use flags::{WORDS, inside, seen_around, word_place, words_across};
+pub use flags::{WORDS, inside, seen_among, seen_around, word_place, words_across};
 pub use shape::BlockShape;
 pub use tables::{sign_context_of_eight, zero_context_of_nine};
 pub use theorems::untouched_context;

@@ -139,14 +139,14 @@ value_back eight c v e =
 -- ---- bits put together, the highest first
 
 -- So many of them, below plane top.
-abbrev pub HasBitsTo : (sketch : Sketch) (at k top n bytes : ℕ) → Type 0
+abbrev pub HasBitsTo : {size : ℕ} (sketch : Sketch size) (at k top n bytes : ℕ) → Type 0
 HasBitsTo sketch at k top n bytes =
     (c i : ℕ) → c < 8 → i < 8 → on bytes (8 * c + i) ≡ (nat_lt i n && on (get_or sketch.bits.items ((top - n + i) * words_of sketch.shape + at) 0) (8 * c + k))
 
-pub bits_none : (sketch : Sketch) (at k top : ℕ) → HasBitsTo sketch at k top 0 0
+pub bits_none : {size : ℕ} (sketch : Sketch size) (at k top : ℕ) → HasBitsTo sketch at k top 0 0
 bits_none sketch at k top c i p q = on_zero (8 * c + i) ∙ sym (ap (λ t. t && on (get_or sketch.bits.items ((top - 0 + i) * words_of sketch.shape + at) 0) (8 * c + k)) (lt_false i 0 (omega arith)))
 
-pub bits_more : (sketch : Sketch) (at k top n bytes word new : ℕ) → n < 8 → n < top → word ≡ get_or sketch.bits.items ((top - (n + 1)) * words_of sketch.shape + at) 0 → ((c i : ℕ) → c < 8 → i < 8 → on new (8 * c + i) ≡ (nat_eq i 0 && on word (8 * c + k)))
+pub bits_more : {size : ℕ} (sketch : Sketch size) (at k top n bytes word new : ℕ) → n < 8 → n < top → word ≡ get_or sketch.bits.items ((top - (n + 1)) * words_of sketch.shape + at) 0 → ((c i : ℕ) → c < 8 → i < 8 → on new (8 * c + i) ≡ (nat_eq i 0 && on word (8 * c + k)))
     → HasBitsTo sketch at k top n bytes → HasBitsTo sketch at k top (n + 1) (bit_or (bytes * 2 ^ 1 % 2 ^ 64) new)
 bits_more sketch at k top n bytes word new few less word_is new_is h c i p q =
     on_or (bytes * 2 ^ 1 % 2 ^ 64) new (8 * c + i) ∙ ap (λ t. on (bytes * 2 ^ 1 % 2 ^ 64) (8 * c + i) || t) (new_is c i p q) ∙ by i q
@@ -183,7 +183,7 @@ bits_more sketch at k top n bytes word new few less word_is new_is h c i p q =
         ∙ on_shl bytes 1 64 (8 * c + i) (8 * c + suc i) (omega arith) (omega arith) ∙ h c i p (omega arith)
         ∙ ap (λ b. nat_lt i n && plane b) (let e : top - n + i ≡ top - (n + 1) + suc i = omega (arith, less) in e) ∙ ap (λ t. t && plane (top - (n + 1) + suc i)) (suc_lt i n)
 
-pub bits_all : (sketch : Sketch) (at k first count n bytes : ℕ) → n ≡ count → count ≡ min (sketch.planes - first) 8 → HasBitsTo sketch at k (first + count) n bytes → HasBits sketch at k first bytes
+pub bits_all : {size : ℕ} (sketch : Sketch size) (at k first count n bytes : ℕ) → n ≡ count → count ≡ min (sketch.planes - first) 8 → HasBitsTo sketch at k (first + count) n bytes → HasBits sketch at k first bytes
 bits_all sketch at k first count n bytes all is h c i p q =
     h c i p q
     ∙ ap (λ b. nat_lt i n && on (get_or sketch.bits.items (b * words_of sketch.shape + at) 0) (8 * c + k)) (let e : first + count - n + i ≡ first + i = omega (arith, all) in e)
@@ -196,7 +196,7 @@ bits_all sketch at k first count n bytes all is h c i p q =
     ]
 
 -- a word of a plane that the sketch has
-pub plane_item : (sketch : Sketch) (at b n q : ℕ) → n ≡ words_of sketch.shape → q ≡ b * n + at → at < words_of sketch.shape → b < sketch.planes → q < length sketch.bits.items
+pub plane_item : {size : ℕ} (sketch : Sketch size) (at b n q : ℕ) → n ≡ words_of sketch.shape → q ≡ b * n + at → at < words_of sketch.shape → b < sketch.planes → q < length sketch.bits.items
 plane_item sketch at b n q n_is q_is h l =
     let m = mul-add-lt b (words_of sketch.shape) at sketch.planes l h in
     let c = mul_comm (words_of sketch.shape) sketch.planes in
@@ -205,13 +205,13 @@ plane_item sketch at b n q n_is q_is h l =
     omega (arith, m, c, e, r)
 
 -- the places of a word in a row
-pub byte_places : (sketch : Sketch) (j y at k first bytes : ℕ) → at ≡ word_at sketch.shape (j + 1) (y / 4 + 1) → k ≡ y % 4 + 1 → HasBits sketch at k first bytes → HasByte sketch first j y bytes
+pub byte_places : {size : ℕ} (sketch : Sketch size) (j y at k first bytes : ℕ) → at ≡ word_at sketch.shape (j + 1) (y / 4 + 1) → k ≡ y % 4 + 1 → HasBits sketch at k first bytes → HasByte sketch first j y bytes
 byte_places sketch j y at k first bytes at_is k_is h c i p q =
     h c i p q
     ∙ ap (λ a. nat_lt (first + i) sketch.planes && on (get_or sketch.bits.items ((first + i) * words_of sketch.shape + a) 0) (8 * c + k)) (at_is ∙ ap (λ n. word_at sketch.shape (n + 1) (y / 4 + 1)) (let e : j ≡ (8 * j + c) / 8 = omega arith in e))
     ∙ ap (λ m. nat_lt (first + i) sketch.planes && on (get_or sketch.bits.items ((first + i) * words_of sketch.shape + word_at sketch.shape ((8 * j + c) / 8 + 1) (y / 4 + 1)) 0) m) (let e : 8 * c + k ≡ 8 * ((8 * j + c) % 8) + (y % 4 + 1) = omega (arith, k_is) in e)
 
-pub sign_places : (sketch : Sketch) (j y at k word : ℕ) → at ≡ word_at sketch.shape (j + 1) (y / 4 + 1) → k ≡ y % 4 + 1 → ((c i : ℕ) → c < 8 → i < 8 → on word (8 * c + i) ≡ (nat_eq i 0 && on (get_or sketch.negative at 0) (8 * c + k)))
+pub sign_places : {size : ℕ} (sketch : Sketch size) (j y at k word : ℕ) → at ≡ word_at sketch.shape (j + 1) (y / 4 + 1) → k ≡ y % 4 + 1 → ((c i : ℕ) → c < 8 → i < 8 → on word (8 * c + i) ≡ (nat_eq i 0 && on (get_or sketch.negative at 0) (8 * c + k)))
     → (c : ℕ) → c < 8 → on word (8 * c) ≡ flag_at sketch.shape sketch.negative (8 * j + c) y
 sign_places sketch j y at k word at_is k_is h c p =
     ap (on word) (let e : 8 * c ≡ 8 * c + 0 = omega arith in e) ∙ h c 0 p (omega arith)
@@ -219,7 +219,7 @@ sign_places sketch j y at k word at_is k_is h c p =
     ∙ ap (on (get_or sketch.negative (word_at sketch.shape ((8 * j + c) / 8 + 1) (y / 4 + 1)) 0)) (let e : 8 * c + k ≡ 8 * ((8 * j + c) % 8) + (y % 4 + 1) = omega (arith, k_is) in e)
 
 -- a coefficient of eight is that of its place
-pub value_at : (sketch : Sketch) (j y : ℕ) (eight : Eight) (c : ℕ) → IsEight sketch j y eight → c < 8 → is_inside sketch.shape (8 * j + c) y ≡ true → sketch.planes ≤ 23
+pub value_at : {size : ℕ} (sketch : Sketch size) (j y : ℕ) (eight : Eight) (c : ℕ) → IsEight sketch j y eight → c < 8 → is_inside sketch.shape (8 * j + c) y ≡ true → sketch.planes ≤ 23
     → value_of eight c ≡ with_sign ((draft_of sketch).negative (8 * j + c) y) ((draft_of sketch).magnitude (8 * j + c) y)
 value_at sketch j y eight c e p inside few =
     let s = sketch.shape in
@@ -253,7 +253,7 @@ value_at sketch j y eight c e p inside few =
         ∙ (let q : number_from g 0 n + 2 ^ n * 0 ≡ number_from g 0 n = omega arith in q)
         ∙ number_same g f 0 n (λ b l m. ap (λ t. t && f b) (lt_true b n (omega (arith, m))))
 
-pub value_in_row : (sketch : Sketch) (j y : ℕ) (eight : Eight) (c a : ℕ) → IsEight sketch j y eight → a ≡ 8 * j → 8 * j + c < sketch.shape.width → y < sketch.shape.height → c < 8
+pub value_in_row : {size : ℕ} (sketch : Sketch size) (j y : ℕ) (eight : Eight) (c a : ℕ) → IsEight sketch j y eight → a ≡ 8 * j → 8 * j + c < sketch.shape.width → y < sketch.shape.height → c < 8
     → with_sign ((draft_of sketch).negative (a + c) y) ((draft_of sketch).magnitude (a + c) y) ≡ value_of eight c
 value_in_row sketch j y eight c a e a_is column row p =
     ap (λ a. with_sign ((draft_of sketch).negative (a + c) y) ((draft_of sketch).magnitude (a + c) y)) a_is

@@ -92,7 +92,7 @@ equal_self a = grind (arith, nat_tests)
 -- ---- places that have become significant
 
 -- What is known where words are put back.
-pub record Puts (at : Spot) (w : Sketch) (p q : ℕ) : Type 0 where
+pub record Puts (at : Spot) {size : ℕ} (w : Sketch size) (p q : ℕ) : Type 0 where
   pub word : at.word < across w.shape
   pub stripe : at.stripe < stripes w.shape
   pub plane : at.plane < w.planes
@@ -102,27 +102,27 @@ pub record Puts (at : Spot) (w : Sketch) (p q : ℕ) : Type 0 where
 abbrev pub lit_word : (sight : Sight) (limits : ℕ) → ℕ
 lit_word sight limits = bit_and sight.significant.centre limits
 
-abbrev pub new_word : (w : Sketch) (sight : Sight) (limits p : ℕ) → ℕ
+abbrev pub new_word : {size : ℕ} (w : Sketch size) (sight : Sight) (limits p : ℕ) → ℕ
 new_word w sight limits p = bit_and (lit_word sight limits) (bit_not w64 (get_or w.significant p 0))
 
-abbrev pub lit_bits : (w : Sketch) (sight : Sight) (limits p q : ℕ) → List ℕ
+abbrev pub lit_bits : {size : ℕ} (w : Sketch size) (sight : Sight) (limits p q : ℕ) → List ℕ
 lit_bits w sight limits p q = set w.bits.items q (bit_or (get_or w.bits.items q 0) (new_word w sight limits p))
 
-plane_index : (at : Spot) (w : Sketch) (p q : ℕ) → Puts at w p q → q ≡ at.plane * words_of w.shape + word_at w.shape (at.word + 1) (at.stripe + 1)
+plane_index : (at : Spot) {size : ℕ} (w : Sketch size) (p q : ℕ) → Puts at w p q → q ≡ at.plane * words_of w.shape + word_at w.shape (at.word + 1) (at.stripe + 1)
 plane_index at w p q a = a.plane_place ∙ ap (λ p. at.plane * words_of w.shape + p) a.place
 
-pub plane_room : (at : Spot) (w : Sketch) (p q : ℕ) → Puts at w p q → q < length w.bits.items
+pub plane_room : (at : Spot) {size : ℕ} (w : Sketch size) (p q : ℕ) → Puts at w p q → q < length w.bits.items
 plane_room at w p q a = let i = index_of w.shape w.planes at.plane (at.word + 1) (at.stripe + 1) a.plane (let h = a.word in omega (arith, h)) (let h = a.stripe in omega (arith, h)) in let e = plane_index at w p q a in let r = w.room in omega (arith, i, e, r)
 
 absorbed : (a b : Bool) → (a && (a && b)) ≡ (a && b)
 absorbed true b = refl
 absorbed false b = refl
 
-module_lit : (at : Spot) (w : Sketch) (d : Draft) → d.shape ≡ w.shape → (x y : ℕ) → lit_in d x y ≡ lit_of w.shape d.magnitude x y
+module_lit : (at : Spot) {size : ℕ} (w : Sketch size) (d : Draft) → d.shape ≡ w.shape → (x y : ℕ) → lit_in d x y ≡ lit_of w.shape d.magnitude x y
 module_lit at w d e x y = ap (λ (s : BlockShape). lit_of s d.magnitude x y) e
 
 -- which places of the word are new
-new_bit : (at : Spot) (w : Sketch) (sight : Sight) (d : Draft) (limits p q x y : ℕ) → Puts at w p q → Shows of_rows (bordered (is_inside w.shape)) (at.word + 1) (at.stripe + 1) limits → Held at (draft_of w) sight d → get_or w.significant p 0 < 2 ^ 64
+new_bit : (at : Spot) {size : ℕ} (w : Sketch size) (sight : Sight) (d : Draft) (limits p q x y : ℕ) → Puts at w p q → Shows of_rows (bordered (is_inside w.shape)) (at.word + 1) (at.stripe + 1) limits → Held at (draft_of w) sight d → get_or w.significant p 0 < 2 ^ 64
     → is_in_word at.word at.stripe x y ≡ true → on (new_word w sight limits p) (own_bit x y) ≡ (lit_of w.shape d.magnitude x y && not (lit_in (draft_of w) x y))
 new_bit at w sight d limits p q x y a lim h room word =
     on_and (lit_word sight limits) (bit_not w64 (get_or w.significant p 0)) (own_bit x y)
@@ -132,7 +132,7 @@ new_bit at w sight d limits p q x y a lim h room word =
     ∙ ap not (drawn_place w.shape (lit_in (draft_of w)) w.significant at.word at.stripe x y w.lit a.word a.stripe word))
 
 -- which bits a plane has behind it
-lit_bit : (at : Spot) (w : Sketch) (sight : Sight) (limits p q c x y : ℕ) → Puts at w p q → is_inside w.shape x y ≡ true
+lit_bit : (at : Spot) {size : ℕ} (w : Sketch size) (sight : Sight) (limits p q c x y : ℕ) → Puts at w p q → is_inside w.shape x y ≡ true
     → plane_bit w.shape (lit_bits w sight limits p q) c x y ≡ (plane_bit w.shape w.bits.items c x y || ((nat_eq c at.plane && is_in_word at.word at.stripe x y) && on (new_word w sight limits p) (own_bit x y)))
 lit_bit at w sight limits p q c x y a inside =
     let new = new_word w sight limits p in
@@ -151,7 +151,7 @@ lit_bit at w sight limits p q c x y a inside =
     or_false true = refl
     or_false false = refl
 
-pub lit_magnitude : (at : Spot) (w : Sketch) (sight : Sight) (d : Draft) (limits p q : ℕ) → Puts at w p q → Shows of_rows (bordered (is_inside w.shape)) (at.word + 1) (at.stripe + 1) limits → Held at (draft_of w) sight d → get_or w.significant p 0 < 2 ^ 64
+pub lit_magnitude : (at : Spot) {size : ℕ} (w : Sketch size) (sight : Sight) (d : Draft) (limits p q : ℕ) → Puts at w p q → Shows of_rows (bordered (is_inside w.shape)) (at.word + 1) (at.stripe + 1) limits → Held at (draft_of w) sight d → get_or w.significant p 0 < 2 ^ 64
     → magnitude_of w.shape w.planes (lit_bits w sight limits p q) ≡ d.magnitude
 lit_magnitude at w sight d limits p q a lim h room = same_field (magnitude_of w.shape w.planes (lit_bits w sight limits p q)) d.magnitude (λ x y. same_or (is_inside w.shape x y) (inside x y) (outside x y))
   where
@@ -230,11 +230,11 @@ lit_magnitude at w sight d limits p q a lim h room = same_field (magnitude_of w.
         or_true false = refl
 
 -- the signs
-abbrev pub sign_words : (w : Sketch) (sight : Sight) (limits p : ℕ) → List ℕ
+abbrev pub sign_words : {size : ℕ} (w : Sketch size) (sight : Sight) (limits p : ℕ) → List ℕ
 sign_words w sight limits p = set w.negative p (bit_and sight.negative.centre limits)
 
 -- nothing outside is negative
-sign_inside : (at : Spot) (w : Sketch) (sight : Sight) (d : Draft) → Held at (draft_of w) sight d → (x y : ℕ) → (is_inside w.shape x y && d.negative x y) ≡ d.negative x y
+sign_inside : (at : Spot) {size : ℕ} (w : Sketch size) (sight : Sight) (d : Draft) → Held at (draft_of w) sight d → (x y : ℕ) → (is_inside w.shape x y && d.negative x y) ≡ d.negative x y
 sign_inside at w sight d h x y = same_or (is_inside w.shape x y)
     (λ i. ap (λ b. b && d.negative x y) i)
     (λ o. ap (λ b. b && d.negative x y) o ∙ elim (h.changed x y) [
@@ -242,7 +242,7 @@ sign_inside at w sight d h x y = same_or (is_inside w.shape x y)
       | inr new ↦ absurd (let i : is_inside w.shape x y ≡ true = ap (λ (s : BlockShape). is_inside s x y) (sym h.shape) ∙ new.inside in let c : true ≡ false = sym i ∙ o in cc)
     ])
 
-pub lit_signs : (at : Spot) (w : Sketch) (sight : Sight) (d : Draft) (limits p q : ℕ) → Puts at w p q → 774 ≤ length w.negative → Shows of_rows (bordered (is_inside w.shape)) (at.word + 1) (at.stripe + 1) limits → Held at (draft_of w) sight d
+pub lit_signs : (at : Spot) {size : ℕ} (w : Sketch size) (sight : Sight) (d : Draft) (limits p q : ℕ) → Puts at w p q → words_of w.shape ≤ length w.negative → Shows of_rows (bordered (is_inside w.shape)) (at.word + 1) (at.stripe + 1) limits → Held at (draft_of w) sight d
     → flagged w.shape (sign_words w sight limits p) ≡ d.negative
 lit_signs at w sight d limits p q a len lim h = same_field (flagged w.shape (sign_words w sight limits p)) d.negative (λ x y. same_or (is_inside w.shape x y) (inside x y)
     (λ o. ap (λ b. b && flag_at w.shape (sign_words w sight limits p) x y) o ∙ sym (sym (sign_inside at w sight d h x y) ∙ ap (λ b. b && d.negative x y) o)))
@@ -264,7 +264,7 @@ apart_word : (j i x y : ℕ) → (x / 8 ≡ j → y / 4 ≡ i → ⊥) → is_in
 apart_word j i x y away word =
     let p = and_parts (nat_eq (x / 8) j) (nat_eq (y / 4) i) word in away (equal_true (x / 8) j p.0) (equal_true (y / 4) i p.1)
 
-pub signs_drawn : (at : Spot) (w : Sketch) (sight : Sight) (d : Draft) (limits p q : ℕ) → Puts at w p q → 774 ≤ length w.negative → Shows of_rows (bordered (is_inside w.shape)) (at.word + 1) (at.stripe + 1) limits → Held at (draft_of w) sight d
+pub signs_drawn : (at : Spot) {size : ℕ} (w : Sketch size) (sight : Sight) (d : Draft) (limits p q : ℕ) → Puts at w p q → words_of w.shape ≤ length w.negative → Shows of_rows (bordered (is_inside w.shape)) (at.word + 1) (at.stripe + 1) limits → Held at (draft_of w) sight d
     → IsDrawn w.shape (flagged w.shape (sign_words w sight limits p)) (sign_words w sight limits p)
 signs_drawn at w sight d limits p q a len lim h =
     subst (λ (f : Truths). IsDrawn w.shape f (sign_words w sight limits p)) (sym (lit_signs at w sight d limits p q a len lim h))
@@ -273,7 +273,7 @@ signs_drawn at w sight d limits p q a len lim h =
     (λ m l. own_bits w.shape d.shape d.negative at.word at.stripe sight.negative.centre limits m h.sees.negative.centre lim l ∙ ap (λ b. of_rows (m % 8) && b) (sign_inside at w sight d h (column at.word m) (row at.stripe m)))
     (λ x y away. elim (h.changed x y) [ inl same ↦ same.negative | inr new ↦ absurd (apart_word at.word at.stripe x y away new.word) ])))
 
-pub lit_drawn : (at : Spot) (w : Sketch) (sight : Sight) (d : Draft) (limits p q : ℕ) → Puts at w p q → 774 ≤ length w.significant → Shows of_rows (bordered (is_inside w.shape)) (at.word + 1) (at.stripe + 1) limits → Held at (draft_of w) sight d → get_or w.significant p 0 < 2 ^ 64
+pub lit_drawn : (at : Spot) {size : ℕ} (w : Sketch size) (sight : Sight) (d : Draft) (limits p q : ℕ) → Puts at w p q → words_of w.shape ≤ length w.significant → Shows of_rows (bordered (is_inside w.shape)) (at.word + 1) (at.stripe + 1) limits → Held at (draft_of w) sight d → get_or w.significant p 0 < 2 ^ 64
     → IsDrawn w.shape (lit_of w.shape (magnitude_of w.shape w.planes (lit_bits w sight limits p q))) (set w.significant p (lit_word sight limits))
 lit_drawn at w sight d limits p q a len lim h room =
     subst (λ (m : Field ℕ). IsDrawn w.shape (lit_of w.shape m) (set w.significant p (lit_word sight limits))) (sym (lit_magnitude at w sight d limits p q a lim h room))
@@ -285,10 +285,10 @@ lit_drawn at w sight d limits p q a len lim h room =
 
 -- ---- places that were significant before
 
-abbrev pub refined_bits : (w : Sketch) (places ones q : ℕ) → List ℕ
+abbrev pub refined_bits : {size : ℕ} (w : Sketch size) (places ones q : ℕ) → List ℕ
 refined_bits w places ones q = set w.bits.items q (bit_or (bit_and (get_or w.bits.items q 0) (bit_not w64 places)) ones)
 
-refined_bit : (at : Spot) (w : Sketch) (places ones p q c x y : ℕ) → Puts at w p q → places < 2 ^ 64 → is_inside w.shape x y ≡ true
+refined_bit : (at : Spot) {size : ℕ} (w : Sketch size) (places ones p q c x y : ℕ) → Puts at w p q → places < 2 ^ 64 → is_inside w.shape x y ≡ true
     → plane_bit w.shape (refined_bits w places ones q) c x y ≡ cond (nat_eq c at.plane && is_in_word at.word at.stripe x y) ((plane_bit w.shape w.bits.items c x y && not (on places (own_bit x y))) || on ones (own_bit x y)) (plane_bit w.shape w.bits.items c x y)
 refined_bit at w places ones p q c x y a lim inside =
     let bits = w.bits.items in
@@ -304,7 +304,7 @@ refined_bit at w places ones p q c x y a lim inside =
     (λ e. ap (λ t. cond t (on new (own_bit x y)) (plane_bit w.shape bits c x y)) e
     ∙ sym (ap (λ t. cond t ((plane_bit w.shape bits c x y && not (on places (own_bit x y))) || on ones (own_bit x y)) (plane_bit w.shape bits c x y)) e))
 
-pub refined_magnitude : (at : Spot) (w : Sketch) (places ones p q : ℕ) → Puts at w p q → places < 2 ^ 64 → IsRefined at places ones (draft_of w) → magnitude_of w.shape w.planes (refined_bits w places ones q) ≡ (refined_in at places ones (draft_of w)).magnitude
+pub refined_magnitude : (at : Spot) {size : ℕ} (w : Sketch size) (places ones p q : ℕ) → Puts at w p q → places < 2 ^ 64 → IsRefined at places ones (draft_of w) → magnitude_of w.shape w.planes (refined_bits w places ones q) ≡ (refined_in at places ones (draft_of w)).magnitude
 refined_magnitude at w places ones p q a lim r = same_field (magnitude_of w.shape w.planes (refined_bits w places ones q)) (refined_in at places ones (draft_of w)).magnitude (λ x y. same_or (is_inside w.shape x y) (inside x y) (outside x y))
   where
     outside : (x y : ℕ) → is_inside w.shape x y ≡ false → magnitude_of w.shape w.planes (refined_bits w places ones q) x y ≡ (refined_in at places ones (draft_of w)).magnitude x y
@@ -356,7 +356,7 @@ refined_magnitude at w places ones p q a lim r = same_field (magnitude_of w.shap
             by false t p b e f = refl
 
 -- what is significant stays so
-pub refined_drawn : (at : Spot) (w : Sketch) (places ones p q : ℕ) → Puts at w p q → places < 2 ^ 64 → IsRefined at places ones (draft_of w) → IsDrawn w.shape (lit_of w.shape (magnitude_of w.shape w.planes (refined_bits w places ones q))) w.significant
+pub refined_drawn : (at : Spot) {size : ℕ} (w : Sketch size) (places ones p q : ℕ) → Puts at w p q → places < 2 ^ 64 → IsRefined at places ones (draft_of w) → IsDrawn w.shape (lit_of w.shape (magnitude_of w.shape w.planes (refined_bits w places ones q))) w.significant
 refined_drawn at w places ones p q a lim r =
     subst (λ (m : Field ℕ). IsDrawn w.shape (lit_of w.shape m) w.significant) (sym (refined_magnitude at w places ones p q a lim r))
     (subst (λ (f : Truths). IsDrawn w.shape f w.significant) (same_field (lit_in (draft_of w)) (lit_of w.shape (refined_in at places ones (draft_of w)).magnitude) same) w.lit)
@@ -379,7 +379,7 @@ refined_drawn at w places ones p q a lim r =
 
 -- ---- places that were coded in the significance propagation pass
 
-pub marked_words : (at : Spot) (w : Sketch) (places p q : ℕ) → at.word < across w.shape → at.stripe < stripes w.shape → p ≡ word_at w.shape (at.word + 1) (at.stripe + 1) → 774 ≤ length w.visited
+pub marked_words : (at : Spot) {size : ℕ} (w : Sketch size) (places p q : ℕ) → at.word < across w.shape → at.stripe < stripes w.shape → p ≡ word_at w.shape (at.word + 1) (at.stripe + 1) → words_of w.shape ≤ length w.visited
     → ((m : ℕ) → m < 64 → on places m ≡ true → (of_rows (m % 8) && is_inside w.shape (column at.word m) (row at.stripe m)) ≡ true)
     → flagged w.shape (set w.visited p (bit_or (get_or w.visited p 0) places)) ≡ with_word (flagged w.shape w.visited) at.word at.stripe places
 marked_words at w places p q hj hi place len within = same_field (flagged w.shape (set w.visited p (bit_or (get_or w.visited p 0) places))) (with_word (flagged w.shape w.visited) at.word at.stripe places) (λ x y. same_or (is_inside w.shape x y) (inside x y) (outside x y))

@@ -110,7 +110,7 @@ pub becoming_row : (v : BlockPlane) (pass j i k : ℕ) → becomes v pass j i k 
 becoming_row v pass j i k e = first_two (of_rows (k % 8)) (is_due v.shape (mag v) pass (column j k) (row i k)) (nat_eq (mag v (column j k) (row i k)) 1) e
 
 -- the flags behind the significance propagation pass
-pub flagged_spread : (v : BlockPlane) (at : Spot) (places ones : ℕ) (old new : Flags) → at.stripe < stripes v.shape → ((m : ℕ) → m < 64 → on places m ≡ codes v.shape (mag v) 0 at.word at.stripe m) → ShowsOnes v at.word at.stripe ones
+pub flagged_spread : (v : BlockPlane) (at : Spot) (places ones : ℕ) {size : ℕ} (old new : Flags size) → at.stripe < stripes v.shape → ((m : ℕ) → m < 64 → on places m ≡ codes v.shape (mag v) 0 at.word at.stripe m) → ShowsOnes v at.word at.stripe ones
     → IsFlagged v (moment_at v.shape 0 at.word at.stripe 0) old
     → ((f : Field Bool) → IsDrawn v.shape f old.significant → IsDrawn v.shape (with_word f at.word at.stripe (bit_and places ones)) new.significant)
     → ((f : Field Bool) → IsDrawn v.shape f old.visited → IsDrawn v.shape (with_word f at.word at.stripe places) new.visited)
@@ -151,7 +151,7 @@ spread_kept v at stripe x y (suc n) =
     kept f c h = grind (arith, nat_tests)
 
 -- the flags behind the cleanup pass
-pub flagged_left : (v : BlockPlane) (at : Spot) (places ones : ℕ) (old new : Flags) → at.stripe < stripes v.shape → ((m : ℕ) → m < 64 → on places m ≡ codes v.shape (mag v) 2 at.word at.stripe m) → ShowsOnes v at.word at.stripe ones
+pub flagged_left : (v : BlockPlane) (at : Spot) (places ones : ℕ) {size : ℕ} (old new : Flags size) → at.stripe < stripes v.shape → ((m : ℕ) → m < 64 → on places m ≡ codes v.shape (mag v) 2 at.word at.stripe m) → ShowsOnes v at.word at.stripe ones
     → IsFlagged v (moment_at v.shape 2 at.word at.stripe 0) old
     → ((f : Field Bool) → IsDrawn v.shape f old.significant → IsDrawn v.shape (with_word f at.word at.stripe (bit_and places ones)) new.significant) → new.visited ≡ old.visited
     → IsFlagged v (moment_at v.shape 2 at.word at.stripe 64) new

@@ -19,6 +19,7 @@ use Rattle.jk_block.specs.Meaning.{plane_at, value_in}
 use Rattle.jk_block.specs.Steps.{IsPlace}
 use Rattle.jk_block.specs.declared.encoding.plane.BlockPlane.{BlockPlane}
 use Rattle.jk_block.specs.declared.spot.Spot.{Spot}
+use Rattle.jk_block.specs.Fields.{words_of}
 use Rattle.jk_block.specs.encoding.Viewed.{seen, negative_in}
 use Rattle.jk_block.specs.encoding.Slices.{signed, bit_in, negative_of, negative_to, IsShort, IsPlaneWord}
 use Rattle.jk_block.proofs.encoding.Slicing.{on_sign}
@@ -26,7 +27,7 @@ use Rattle.jk_block.proofs.WordBits.{bordered_at, place_shifted}
 use Rattle.jk_block.proofs.WordDrawing.{word_drawn}
 
 -- The next word is written.
-pub negative_more : (s : BlockShape) (q : Field ℤ) (words : List ℕ) (j i p w : ℕ) → IsSized s → 774 ≤ length words → j < across s → i < stripes s → p ≡ word_at s (j + 1) (i + 1) → IsShort s q → IsPlaneWord s 31 q j i w
+pub negative_more : (s : BlockShape) (q : Field ℤ) (words : List ℕ) (j i p w : ℕ) → IsSized s → words_of s ≤ length words → j < across s → i < stripes s → p ≡ word_at s (j + 1) (i + 1) → IsShort s q → IsPlaneWord s 31 q j i w
     → IsDrawn s (negative_to s q (i * across s + j)) words → IsDrawn s (negative_to s q (i * across s + (j + 1))) (set words p w)
 negative_more s q words j i p w z len hj hi ep short shows drawn =
     subst (λ p. IsDrawn s (negative_to s q (i * across s + (j + 1))) (set words p w)) (sym ep)
@@ -66,8 +67,8 @@ negative_more s q words j i p w z len hj hi ep short shows drawn =
         (ap (nat_lt (y / 4 * across s + x / 8)) (let e : n ≡ i * across s + j + 1 = omega arith in e)
         ∙ apart (y / 4 * across s + x / 8) (i * across s + j) (λ g. let one = same_from_place (y / 4) (x / 8) i j (across s) (omega (arith, p0)) hj g in away one.1 one.0))
 
-pub negative_none : (s : BlockShape) (q : Field ℤ) → IsDrawn s (negative_to s q 0) (replicate 774 0)
-negative_none s q = drawn_none s (negative_to s q 0) 774 (λ x y. gate (negative_of s q x y) (y / 4 * across s + x / 8))
+pub negative_none : (s : BlockShape) (q : Field ℤ) (size : ℕ) → IsDrawn s (negative_to s q 0) (replicate size 0)
+negative_none s q size = drawn_none s (negative_to s q 0) size (λ x y. gate (negative_of s q x y) (y / 4 * across s + x / 8))
   where
     gate : (b : Bool) (n : ℕ) → (b && nat_lt n 0) ≡ false
     gate b n = grind (arith, nat_tests)

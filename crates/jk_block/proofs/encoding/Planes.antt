@@ -79,7 +79,7 @@ abbrev IsDark : BlockShape → List ℕ → Type 0
 IsDark s words = (f : Field Bool) → ((x y : ℕ) → f x y ≡ false) → IsDrawn s f words
 
 -- a plane begins, where what is significant is what was before, and nothing is coded
-begun_at : (v : BlockPlane) (t : ℕ) (flags flags' : Flags) → IsLitUpto v.shape (v.plane + 1) (value_of v) flags → flags'.significant ≡ flags.significant → IsDark v.shape flags'.visited
+begun_at : (v : BlockPlane) (t : ℕ) {size : ℕ} (flags flags' : Flags size) → IsLitUpto v.shape (v.plane + 1) (value_of v) flags → flags'.significant ≡ flags.significant → IsDark v.shape flags'.visited
     → ((x y : ℕ) → lit_at v t x y ≡ old (mag v) x y) → ((x y : ℕ) → spread_at v t x y ≡ false) → IsFlagged v t flags'
 begun_at v t flags flags' h e k lit none = record {
   lit = subst (λ ws. IsDrawn v.shape (lit_at v t) ws) (sym e)
@@ -92,7 +92,7 @@ and_none true true = refl
 and_none true false = refl
 and_none false b = refl
 
-pub begun_plane : (v : BlockPlane) (flags flags' : Flags) → IsLitUpto v.shape (v.plane + 1) (value_of v) flags → flags'.significant ≡ flags.significant → IsDark v.shape flags'.visited → IsFlagged v (0 * visits v.shape) flags'
+pub begun_plane : (v : BlockPlane) {size : ℕ} (flags flags' : Flags size) → IsLitUpto v.shape (v.plane + 1) (value_of v) flags → flags'.significant ≡ flags.significant → IsDark v.shape flags'.visited → IsFlagged v (0 * visits v.shape) flags'
 begun_plane v flags flags' h e k =
     begun_at v (0 * visits v.shape) flags flags' h e k
     (λ x y. significant_is v.shape (mag v) (0 * visits v.shape) x y ∙ early (old (mag v) x y) (nat_eq (mag v x y) 1) (moment v.shape (mag v) x y) (0 * visits v.shape) (omega arith))
@@ -105,7 +105,7 @@ begun_plane v flags flags' h e k =
     early o e m t z = grind (arith, nat_tests)
 
 -- the highest plane has a cleanup pass alone
-pub begun_top : (v : BlockPlane) (flags flags' : Flags) → IsLitUpto v.shape (v.plane + 1) (value_of v) flags → flags'.significant ≡ flags.significant → IsDark v.shape flags'.visited
+pub begun_top : (v : BlockPlane) {size : ℕ} (flags flags' : Flags size) → IsLitUpto v.shape (v.plane + 1) (value_of v) flags → flags'.significant ≡ flags.significant → IsDark v.shape flags'.visited
     → ((x y : ℕ) → old (mag v) x y ≡ false) → IsFlagged v (2 * visits v.shape) flags'
 begun_top v flags flags' h e k top =
     begun_at v (2 * visits v.shape) flags flags' h e k
@@ -124,7 +124,7 @@ begun_top v flags flags' h e k top =
     late o e m t h = grind (arith, nat_tests)
 
 -- a plane ends
-pub ended_plane : (v : BlockPlane) (flags : Flags) → IsFlagged v (3 * visits v.shape) flags → IsLitUpto v.shape v.plane (value_of v) flags
+pub ended_plane : (v : BlockPlane) {size : ℕ} (flags : Flags size) → IsFlagged v (3 * visits v.shape) flags → IsLitUpto v.shape v.plane (value_of v) flags
 ended_plane v flags h = record {
   lit = drawn_same v.shape (lit_at v (3 * visits v.shape)) (λ x y. nat_lt 0 (mag v x y)) flags.significant all h.lit;
 }
@@ -155,10 +155,10 @@ short_of m planes h few =
     more m a b h l = let e = mul-le-mul_right a l in omega (arith, e, h)
 
 -- no place has a bit above the planes
-pub none_refined : (s : BlockShape) (planes : ℕ) (q : Field ℤ) (words : List ℕ) → ((x y : ℕ) → is_inside s x y ≡ true → unsigned_abs (q x y) < 2 ^ planes) → words ≡ replicate 774 0
+pub none_refined : (s : BlockShape) (planes : ℕ) (q : Field ℤ) (size : ℕ) (words : List ℕ) → ((x y : ℕ) → is_inside s x y ≡ true → unsigned_abs (q x y) < 2 ^ planes) → words ≡ replicate size 0
     → IsDrawn s (λ x y. nat_lt 0 ((plane_at s (planes + 1) q).magnitude x y)) words
-none_refined s planes q words h e =
-    subst (λ ws. IsDrawn s (λ x y. nat_lt 0 ((plane_at s (planes + 1) q).magnitude x y)) ws) (sym e) (drawn_none s (λ x y. nat_lt 0 ((plane_at s (planes + 1) q).magnitude x y)) 774 dark)
+none_refined s planes q size words h e =
+    subst (λ ws. IsDrawn s (λ x y. nat_lt 0 ((plane_at s (planes + 1) q).magnitude x y)) ws) (sym e) (drawn_none s (λ x y. nat_lt 0 ((plane_at s (planes + 1) q).magnitude x y)) size dark)
   where
     zero_not : (m : ℕ) → m ≡ 0 → nat_lt 0 m ≡ false
     zero_not m e = grind (arith, nat_tests)
@@ -172,9 +172,9 @@ none_refined s planes q words h e =
         (λ i. zero_not ((plane_at s (planes + 1) q).magnitude x y) (plane_outside s (planes + 1) q x y i))
 
 -- nothing is significant at first
-pub lit_none : (s : BlockShape) (planes : ℕ) (q : Field ℤ) (flags : Flags) → ((x y : ℕ) → is_inside s x y ≡ true → unsigned_abs (q x y) < 2 ^ planes) → flags.significant ≡ replicate 774 0 → IsLitUpto s planes q flags
-lit_none s planes q flags h e = record {
-  lit = subst (λ ws. IsDrawn s (λ x y. nat_lt 0 ((plane_at s planes q).magnitude x y)) ws) (sym e) (drawn_none s (λ x y. nat_lt 0 ((plane_at s planes q).magnitude x y)) 774 dark);
+pub lit_none : (s : BlockShape) (planes : ℕ) (q : Field ℤ) {size : ℕ} (flags : Flags size) → ((x y : ℕ) → is_inside s x y ≡ true → unsigned_abs (q x y) < 2 ^ planes) → flags.significant ≡ replicate size 0 → IsLitUpto s planes q flags
+lit_none s planes q {size} flags h e = record {
+  lit = subst (λ ws. IsDrawn s (λ x y. nat_lt 0 ((plane_at s planes q).magnitude x y)) ws) (sym e) (drawn_none s (λ x y. nat_lt 0 ((plane_at s planes q).magnitude x y)) size dark);
 }
   where
     zero_not : (m : ℕ) → m ≡ 0 → nat_lt 0 m ≡ false

@@ -86,7 +86,7 @@ idle v j i m = record {
 pub still_lit : (v : BlockPlane) (j i n m : ℕ) → i < stripes v.shape → n ≤ m → Same v (moment_at v.shape 1 j i n) (moment_at v.shape 1 j i m)
 still_lit v j i n m stripe le = idle_to v 1 j i n m stripe le (λ l a b. idle v j i l)
 
-pub still_flagged : (v : BlockPlane) (at : Spot) (flags : Flags) → at.stripe < stripes v.shape → IsFlagged v (moment_at v.shape 1 at.word at.stripe 0) flags → IsFlagged v (moment_at v.shape 1 at.word at.stripe 64) flags
+pub still_flagged : (v : BlockPlane) (at : Spot) {size : ℕ} (flags : Flags size) → at.stripe < stripes v.shape → IsFlagged v (moment_at v.shape 1 at.word at.stripe 0) flags → IsFlagged v (moment_at v.shape 1 at.word at.stripe 64) flags
 still_flagged v at flags stripe h = same_flags v (moment_at v.shape 1 at.word at.stripe 0) (moment_at v.shape 1 at.word at.stripe 64) flags (still_lit v at.word at.stripe 0 64 stripe (omega arith)) h
 
 no_run : (s : BlockShape) (a : Field ℕ) (j i c : ℕ) → is_run s a 1 j i c ≡ false

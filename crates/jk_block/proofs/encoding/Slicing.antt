@@ -7,7 +7,7 @@ use Rattle.std.proofs.lemmas.Bool.{cases_lt, and_parts}
 use Rattle.std.proofs.lemmas.Bool.Decides.{nat_tests}
 use Rattle.std.proofs.lemmas.List.{get_or-replicate, get_or_past, get_or-set_same, get_or-set_other, length-replicate}
 use Rattle.std.proofs.lemmas.Nat.{same_from_place, mul-add-lt, or_lt, and_le_r}
-use Rattle.std.proofs.Math.Nat.{mul-le-mul_left, mul-le-mul_right}
+use Rattle.std.proofs.Math.Nat.{mul_comm, mul-le-mul_left, mul-le-mul_right}
 use Rattle.jk_scan.specs.declared.shape.BlockShape.{BlockShape}
 use Rattle.jk_scan.specs.Bits.{on}
 use Rattle.jk_scan.specs.Neighbours.{Field, is_inside}
@@ -17,6 +17,7 @@ use Rattle.jk_scan.specs.WordPlaces.{column, row}
 use Rattle.jk_scan.specs.Flags.{IsSized, across}
 use Rattle.jk_scan.proofs.Laws.{on_mod, on_above, on_shl_low, lowest}
 use Rattle.jk_scan.proofs.Laws.{on_or, on_and, on_zero, on_shl_any, on_shr_at, rows_between}
+use Rattle.jk_block.specs.Fields.{words_of}
 use Rattle.jk_block.specs.Meaning.{value_in}
 use Rattle.jk_block.specs.Meaning.{plane_at}
 use Rattle.jk_scan.specs.Passes.{is_one, first_one}
@@ -25,7 +26,7 @@ use Rattle.jk_block.specs.declared.spot.Spot.{Spot}
 use Rattle.jk_block.specs.encoding.Viewed.{seen, ShowsOnes}
 use Rattle.jk_block.specs.Steps.{IsPlace}
 use Rattle.jk_block.proofs.Rows.{first_is}
-use Rattle.jk_block.specs.encoding.Slices.{signed, bit_in, IsSliced, IsClearBehind, IsSlicedTo, IsPlaneWord}
+use Rattle.jk_block.specs.encoding.Slices.{signed, bit_in, IsSliced, IsClearBehind, IsSlicedTo, IsPlaneWord, slices_of}
 
 -- a byte of a magnitude
 on_byte : (a s k : ℕ) → on (a / 2 ^ s % 2 ^ 8) k ≡ (nat_lt k 8 && on a (s + k))
@@ -175,8 +176,8 @@ rows_of f (suc (suc (suc (suc (suc i))))) h = more i (f 1) (f 2) (f 3) (f 4) (f 
 product : (a b c d : ℕ) → a ≤ c → b ≤ d → a * b ≤ c * d
 product a b c d h g = let e = mul-le-mul_right b h in let f = mul-le-mul_left c g in omega (arith, e, f)
 
-slices_fit : (w h a t : ℕ) → w ≤ 1024 → h ≤ 1024 → w * h ≤ 4096 → 8 * a ≤ w + 7 → 4 * t ≤ h + 3 → 4 * t * a ≤ 1032
-slices_fit w h a t wl hl area across down = elim (cases_lt a 2) [
+slices_fit_by : (w h a t : ℕ) → w ≤ 1024 → h ≤ 1024 → w * h ≤ 4096 → 8 * a ≤ w + 7 → 4 * t ≤ h + 3 → 4 * t * a ≤ 1032
+slices_fit_by w h a t wl hl area across down = elim (cases_lt a 2) [
   | inl one ↦ let m = product (4 * t) a 1027 1 (omega arith) (omega arith) in omega (arith, m)
   | inr more ↦
       let both = product (8 * a) (4 * t) (w + 7) (h + 3) across down in
@@ -190,20 +191,26 @@ slices_fit w h a t wl hl area across down = elim (cases_lt a 2) [
       ]
 ]
 
-pub slice_room : (s : BlockShape) (j i r a : ℕ) → a ≡ across s → IsSized s → j < across s → i < stripes s → r < 4 → 4 * i * a + j + r * a < 1032
-slice_room s j i r a e z hj hi hr =
-    let fits = slices_fit s.width s.height (across s) (stripes s) z.narrow z.low z.area (omega arith) (omega arith) in
-    subst (λ a. 4 * i * a + j + r * a < 1032) (sym e) (room (across s) (stripes s) j i r fits hj hi hr)
-  where
-    room : (a t j i r : ℕ) → 4 * t * a ≤ 1032 → j < a → i < t → r < 4 → 4 * i * a + j + r * a < 1032
-    room a t j i r h hj hi hr =
-        let m = mul-add-lt (4 * i + r) a j (4 * t) (omega arith) hj in
-        omega (arith, m, h)
+pub slices_fit : (s : BlockShape) → IsSized s → slices_of s ≤ 1032
+slices_fit s z = slices_fit_by s.width s.height (across s) (stripes s) z.narrow z.low z.area (omega arith) (omega arith)
 
-pub row_room : (s : BlockShape) (j y a : ℕ) → a ≡ across s → IsSized s → j < across s → y < s.height → y * a + j < 1032
-row_room s j y a e z hj hy =
-    let room = slice_room s j (y / 4) (y % 4) a e z hj (omega arith) (omega arith) in
-    subst (λ n. n * a + j < 1032) (let e : 4 * (y / 4) + y % 4 ≡ y = omega arith in e) (omega (arith, room))
+-- as many as four for each word
+pub slices_few : (s : BlockShape) → slices_of s ≤ 4 * words_of s
+slices_few s = let m = product (stripes s) (across s) (stripes s + 2) (across s + 2) (omega arith) (omega arith) in let c = mul_comm (across s + 2) (stripes s + 2) in let d : 4 * stripes s * across s ≡ 4 * (stripes s * across s) = omega arith in omega (arith, m, c, d)
+
+pub slice_room : (s : BlockShape) (j i r a : ℕ) → a ≡ across s → j < across s → i < stripes s → r < 4 → 4 * i * a + j + r * a < slices_of s
+slice_room s j i r a e hj hi hr =
+    subst (λ a. 4 * i * a + j + r * a < slices_of s) (sym e) (room (across s) (stripes s) j i r hj hi hr)
+  where
+    room : (a t j i r : ℕ) → j < a → i < t → r < 4 → 4 * i * a + j + r * a < 4 * t * a
+    room a t j i r hj hi hr =
+        let m = mul-add-lt (4 * i + r) a j (4 * t) (omega arith) hj in
+        omega (arith, m)
+
+pub row_room : (s : BlockShape) (j y a : ℕ) → a ≡ across s → j < across s → y < s.height → y * a + j < slices_of s
+row_room s j y a e hj hy =
+    let room = slice_room s j (y / 4) (y % 4) a e hj (omega arith) (omega arith) in
+    subst (λ n. n * a + j < slices_of s) (let e : 4 * (y / 4) + y % 4 ≡ y = omega arith in e) (omega (arith, room))
 
 pub ones_at : (s : BlockShape) (slices : List ℕ) (j i bit shift : ℕ) (q : Field ℤ) (z1 z2 z3 z4 a f : ℕ) → a ≡ across s → f ≡ 4 * i * a + j → j < across s → i < stripes s → bit < 8
     → ((n k : ℕ) → n < 8 → k < 8 → on z1 (8 * n + k) ≡ (nat_eq k 0 && on (get_or slices f 0) (8 * n + bit)))

@@ -9,21 +9,21 @@ use Rattle.jk_block.specs.Fields.{words_of, plane_bit, number_from}
 
 -- Bit i of byte c is bit k of that byte in the word of plane first + i at a place, or 0 where the
 -- sketch has no such plane.
-abbrev pub HasBits : (sketch : Sketch) (at k first bytes : ℕ) → Type 0
+abbrev pub HasBits : {size : ℕ} (sketch : Sketch size) (at k first bytes : ℕ) → Type 0
 HasBits sketch at k first bytes =
     (c i : ℕ) → c < 8 → i < 8
     → on bytes (8 * c + i) ≡ (nat_lt (first + i) sketch.planes
     && on (get_or sketch.bits.items ((first + i) * words_of sketch.shape + at) 0) (8 * c + k))
 
 -- Bit i of byte c is bit first + i of the magnitude in column 8j + c of row y.
-abbrev pub HasByte : (sketch : Sketch) (first j y bytes : ℕ) → Type 0
+abbrev pub HasByte : {size : ℕ} (sketch : Sketch size) (first j y bytes : ℕ) → Type 0
 HasByte sketch first j y bytes =
     (c i : ℕ) → c < 8 → i < 8
     → on bytes (8 * c + i) ≡ (nat_lt (first + i) sketch.planes
     && plane_bit sketch.shape sketch.bits.items (first + i) (8 * j + c) y)
 
 -- The numbers have the coefficients in columns 8j to 8j + 7 of row y.
-pub record IsEight (sketch : Sketch) (j y : ℕ) (eight : Eight) : Type 0 where
+pub record IsEight {size : ℕ} (sketch : Sketch size) (j y : ℕ) (eight : Eight) : Type 0 where
   pub low : HasByte sketch 0 j y eight.low
   pub middle : HasByte sketch 8 j y eight.middle
   pub high : HasByte sketch 16 j y eight.high

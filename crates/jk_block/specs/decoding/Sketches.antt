@@ -20,7 +20,7 @@ pub record Draft : Type 0 where
   pub visited : Field Bool
 
 -- what a sketch shows
-abbrev pub draft_of : Sketch → Draft
+abbrev pub draft_of : {size : ℕ} → Sketch size → Draft
 draft_of k = record {
   shape = k.shape;
   magnitude = magnitude_of k.shape k.planes k.bits.items;

@@ -32,6 +32,10 @@ negative_to s q n x y = negative_of s q x y && nat_lt (y / 4 * across s + x / 8)
 abbrev pub IsShort : BlockShape → Field ℤ → Type 0
 IsShort s q = (x y : ℕ) → is_inside s x y ≡ true → unsigned_abs (q x y) < 2 ^ 31
 
+-- how many slices a block has, with the rows behind its last one up to a whole stripe
+abbrev pub slices_of : BlockShape → ℕ
+slices_of s = 4 * stripes s * across s
+
 -- Bit i of byte c of the slice j of row y is bit shift + i of the magnitude in column 8j + c. The
 -- slices of a row stand one behind another, and those of a row before those of the next one. The
 -- rows go on to the end of the last stripe, there with zeros.

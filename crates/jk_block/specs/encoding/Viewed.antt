@@ -43,12 +43,12 @@ spread_at v t x y =
     is_inside v.shape x y && (spread v.shape (seen v).magnitude x y && nat_lt (number v.shape.width x y) t)
 
 -- The words show what is so at a moment.
-pub record IsFlagged (v : BlockPlane) (t : ℕ) (flags : Flags) : Type 0 where
+pub record IsFlagged (v : BlockPlane) (t : ℕ) {size : ℕ} (flags : Flags size) : Type 0 where
   pub lit : IsDrawn v.shape (lit_at v t) flags.significant
   pub coded : IsDrawn v.shape (spread_at v t) flags.visited
 
 -- Between planes the words show what has a bit in plane b or above it.
-pub record IsLitUpto (s : BlockShape) (b : ℕ) (q : Field ℤ) (flags : Flags) : Type 0 where
+pub record IsLitUpto (s : BlockShape) (b : ℕ) (q : Field ℤ) {size : ℕ} (flags : Flags size) : Type 0 where
   pub lit : IsDrawn s (λ x y. nat_lt 0 ((plane_at s b q).magnitude x y)) flags.significant
 
 -- The byte spells the decision of the bit of a place that isn't significant at a moment, or that

@@ -46,7 +46,7 @@ fn row_bits(word: u64, k: u32) -> u64
 /// A byte of the magnitudes of a row's eight places: their bits in eight planes from the first one
 /// on.
 #[inline(always)]
-fn row_bytes(sketch: &Sketch, at: usize, k: u32, first: u32) -> u64
+fn row_bytes<const N: usize>(sketch: &Sketch<N>, at: usize, k: u32, first: u32) -> u64
     requires at { at < words_of sketch.now.shape }
     requires k { k < 8 }
     requires first { first ≤ 16 }
@@ -65,7 +65,7 @@ fn row_bytes(sketch: &Sketch, at: usize, k: u32, first: u32) -> u64
 
 /// The coefficients of a word of eight places in a row.
 #[inline(always)]
-fn eight_at(sketch: &Sketch, word: usize, y: usize) -> Eight
+fn eight_at<const N: usize>(sketch: &Sketch<N>, word: usize, y: usize) -> Eight
     requires word { word < across sketch.now.shape }
     requires y { y < sketch.now.shape.height }
     ensures { IsEight sketch.now word y result }
@@ -148,7 +148,7 @@ fn append_eight(values: &mut Vec<i32>, eight: Eight, count: usize)
 }
 
 /// Appends the coefficients of a row, for which there is room.
-fn append_row(values: &mut Vec<i32>, sketch: &Sketch, y: usize)
+fn append_row<const N: usize>(values: &mut Vec<i32>, sketch: &Sketch<N>, y: usize)
     requires row { y < sketch.now.shape.height }
     requires room { vec_len values.old + sketch.now.shape.width ≤ vec_capacity values.old }
     ensures items { values.new.items ≡ values.old.items
@@ -165,7 +165,7 @@ fn append_row(values: &mut Vec<i32>, sketch: &Sketch, y: usize)
 }
 
 /// The coefficients of a sketch.
-pub fn values(alloc: Global, sketch: &Sketch) -> Result<Vec<i32>, Fault>
+pub fn values<const N: usize>(alloc: Global, sketch: &Sketch<N>) -> Result<Vec<i32>, Fault>
     ensures values { (c : State) → IfOk result
         (λ v. v.items ≡ values_of sketch.now.shape (coefficients (progress (draft_of sketch.now) c))) }
     ensures memory { IfErr result IsMemory }

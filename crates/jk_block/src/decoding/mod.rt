@@ -13,7 +13,7 @@ ghost use Rattle.jk_model.specs.CodingPasses.{begun_by};
 ghost use Rattle.jk_mqdec.specs.Standing.{Stands};
 ghost use Rattle.jk_scan.specs.Flags.{IsSized};
 ghost use Rattle.jk_scan.specs.Neighbours.{Field};
-ghost use Rattle.jk_block.specs.Fields.{AreSameWords};
+ghost use Rattle.jk_block.specs.Fields.{AreSameWords, words_of};
 ghost use Rattle.jk_block.specs.Meaning.{IsBlockMeaning, plane_of, kind_of, value_in, values_of};
 ghost use Rattle.jk_block.specs.Reading.{times, blank, begun, pass_at, block_at};
 ghost use Rattle.jk_block.specs.Steps.{number_of};
@@ -27,7 +27,7 @@ mod sketch;
 mod symbols;
 mod words;
 
-use crate::ages::Ages;
+use crate::ages::{Ages, words_of};
 use crate::spot::{Pass, pass_of};
 use coefficients::values;
 use jk_math::{Fault, Orientation, Style};
@@ -55,7 +55,8 @@ pub struct Block {
 }
 
 /// Begins a pass: with significance propagation a plane begins.
-fn begin(sketch: &mut Sketch, pass: Pass)
+#[inline(always)]
+fn begin<const N: usize>(sketch: &mut Sketch<N>, pass: Pass)
     ensures shape { sketch.new.shape ≡ sketch.old.shape }
     ensures planes { sketch.new.planes ≡ sketch.old.planes }
     ensures begun { (c : State) → progress (draft_of sketch.new) c
@@ -70,6 +71,7 @@ fn begin(sketch: &mut Sketch, pass: Pass)
 }
 
 /// With context reset a pass begins with the first contexts.
+#[inline(always)]
 fn begin_contexts(decoder: &mut PassDecoder, style: Style)
     ensures bytes { decoder.new.bytes ≡ decoder.old.bytes }
     ensures stands { (c : State) → Stands decoder.old c → Stands decoder.new (begun_by style.reset c) }
@@ -80,9 +82,11 @@ fn begin_contexts(decoder: &mut PassDecoder, style: Style)
 }
 
 /// Notes what is significant as the n-th pass begins, if with it a plane begins.
-fn note(ages: &mut Ages, shape: BlockShape, significant: &[u64; WORDS], n: usize)
+#[inline(always)]
+fn note<const N: usize>(ages: &mut Ages<N>, shape: BlockShape, significant: &[u64; N], n: usize)
     requires few { n < 100 }
     requires sized { IsSized shape }
+    requires room { words_of shape ≤ N }
     ensures refined { kind_of n ≡ 0 → ages.new.refined ≡ ages.old.older }
     ensures older { kind_of n ≡ 0 → AreSameWords shape significant.now ages.new.older }
     ensures kept { (kind_of n ≡ 0 → ⊥) → ages.new ≡ ages.old }
@@ -94,10 +98,11 @@ fn note(ages: &mut Ages, shape: BlockShape, significant: &[u64; WORDS], n: usize
 }
 
 /// Reads the n-th pass of a block.
-fn read_pass(
-    sketch: &mut Sketch,
+#[inline(always)]
+fn read_pass<const N: usize>(
+    sketch: &mut Sketch<N>,
     decoder: &mut PassDecoder,
-    refined: &[u64; WORDS],
+    refined: &[u64; N],
     planes: u32,
     n: usize,
 ) -> Result<(), Fault>
@@ -120,8 +125,9 @@ fn read_pass(
 }
 
 /// Reads the passes of a block.
-fn read_passes(
-    sketch: &mut Sketch,
+#[inline(always)]
+fn read_passes<const N: usize>(
+    sketch: &mut Sketch<N>,
     decoder: &mut PassDecoder,
     planes: u32,
     passes: usize,
@@ -137,12 +143,56 @@ fn read_passes(
     ensures takes { Takes (times passes (pass_at decoder.old.bytes sketch.old.shape planes))
         (draft_of sketch.old) (draft_of sketch.new) decoder.old decoder.new result }
 {
-    let mut ages = Ages::none();
+    let mut ages = Ages::<N>::none();
     for n in 0..passes {
         note(&mut ages, sketch.shape, &sketch.significant, n);
         read_pass(sketch, decoder, ages.refined(), planes, n)?;
     }
     Ok(())
+}
+
+/// Reads a code-block as [`decode`] does, in arrays of so many words.
+#[inline(never)]
+fn decode_among<const N: usize>(
+    alloc: Global,
+    segment: &[u8],
+    shape: BlockShape,
+    planes: u32,
+    passes: usize,
+) -> Result<Block, Fault>
+    requires wide { 1 ≤ shape.width }
+    requires narrow { shape.width ≤ 1024 }
+    requires high { 1 ≤ shape.height }
+    requires low { shape.height ≤ 1024 }
+    requires area { shape.width * shape.height ≤ 4096 }
+    requires planes { planes ≤ 23 }
+    requires room { words_of shape ≤ N }
+    requires small { N ≤ 774 }
+    ensures exact { Answers (λ b. b.values.items) result (block_at shape planes passes segment.now) }
+    ensures found { IfOk result
+        (λ b. IsBlockMeaning shape planes passes segment.now (value_in shape b.values.items)) }
+    ensures only { (q : Field ℤ) → IsBlockMeaning shape planes passes segment.now q
+        → MatchResult result (λ b. b.values.items ≡ values_of shape q) IsMemory }
+    ensures small { IfOk result (λ b. All (λ v. unsigned_abs v < 2 ^ planes) b.values.items) }
+    ensures width { IfOk result (λ b. b.width ≡ shape.width) }
+    ensures height { IfOk result (λ b. b.height ≡ shape.height) }
+    ensures orientation { IfOk result (λ b. b.orientation ≡ shape.orientation) }
+    ensures style { IfOk result (λ b. b.style ≡ shape.style) }
+{
+    if passes > (3 * planes as usize).saturating_sub(2) {
+        return Err(Fault::TooManyPasses);
+    }
+    let mut sketch = Sketch::<N>::new(shape, planes, no_bits(alloc, shape, planes)?);
+    let mut contexts = first_steps();
+    let mut decoder = PassDecoder::new(segment, &mut contexts);
+    read_passes(&mut sketch, &mut decoder, planes, passes)?;
+    Ok(Block {
+        width: shape.width,
+        height: shape.height,
+        orientation: shape.orientation,
+        style: shape.style,
+        values: values(alloc, &sketch)?,
+    })
 }
 
 /// Reads a code-block of so many bit-planes from the segment of its coding passes (T.800 Annex D),
@@ -173,18 +223,10 @@ pub fn decode(
     ensures orientation { IfOk result (λ b. b.orientation ≡ shape.orientation) }
     ensures style { IfOk result (λ b. b.style ≡ shape.style) }
 {
-    if passes > (3 * planes as usize).saturating_sub(2) {
-        return Err(Fault::TooManyPasses);
+    match words_of(shape) {
+        0..=16 => decode_among::<16>(alloc, segment, shape, planes, passes),
+        17..=64 => decode_among::<64>(alloc, segment, shape, planes, passes),
+        65..=192 => decode_among::<192>(alloc, segment, shape, planes, passes),
+        _ => decode_among::<WORDS>(alloc, segment, shape, planes, passes),
     }
-    let mut sketch = Sketch::new(shape, planes, no_bits(alloc, shape, planes)?);
-    let mut contexts = first_steps();
-    let mut decoder = PassDecoder::new(segment, &mut contexts);
-    read_passes(&mut sketch, &mut decoder, planes, passes)?;
-    Ok(Block {
-        width: shape.width,
-        height: shape.height,
-        orientation: shape.orientation,
-        style: shape.style,
-        values: values(alloc, &sketch)?,
-    })
 }

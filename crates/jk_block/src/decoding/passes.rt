@@ -11,13 +11,14 @@ use super::words::{read_cleanup, read_propagation, read_refinement};
 use crate::spot::{Pass, Spot};
 use jk_math::Fault;
 use jk_mqdec::PassDecoder;
-use jk_scan::{WORDS, words_across};
+use jk_scan::words_across;
 
 /// Reads a word in a pass.
-fn read_word(
-    sketch: &mut Sketch,
+#[inline(always)]
+fn read_word<const N: usize>(
+    sketch: &mut Sketch<N>,
     decoder: &mut PassDecoder,
-    refined: &[u64; WORDS],
+    refined: &[u64; N],
     spot: Spot,
     pass: Pass,
 ) -> Result<(), Fault>
@@ -40,10 +41,11 @@ fn read_word(
 }
 
 /// Reads a stripe in a pass.
-fn read_stripe(
-    sketch: &mut Sketch,
+#[inline(always)]
+fn read_stripe<const N: usize>(
+    sketch: &mut Sketch<N>,
     decoder: &mut PassDecoder,
-    refined: &[u64; WORDS],
+    refined: &[u64; N],
     plane: u32,
     pass: Pass,
     stripe: usize,
@@ -70,10 +72,11 @@ fn read_stripe(
 }
 
 /// Reads all places in a pass of a bit-plane.
-pub fn read_bit_plane(
-    sketch: &mut Sketch,
+#[inline(always)]
+pub fn read_bit_plane<const N: usize>(
+    sketch: &mut Sketch<N>,
     decoder: &mut PassDecoder,
-    refined: &[u64; WORDS],
+    refined: &[u64; N],
     plane: u32,
     pass: Pass,
 ) -> Result<(), Fault>

@@ -23,6 +23,7 @@ use jk_scan::{sign_context_at, zero_context_at};
 
 /// The other bit, if it is to be flipped.
 #[tactic(auto, unfolding(jk_scan::specs::Passes::flipped))]
+#[inline(always)]
 fn flipped(flip: bool, bit: bool) -> bool
     ensures { result ≡ flipped flip bit }
 {
@@ -87,6 +88,7 @@ pub fn read_refined(decoder: &mut PassDecoder, context: u8) -> Result<bool, Faul
 }
 
 /// The row that two bits name, high bit first.
+#[inline(always)]
 fn row_named(high: bool, low: bool) -> u32
     ensures row { result ≡ row_named high low }
     ensures few { result < 4 }

@@ -16,21 +16,23 @@ use super::sight::Sight;
 use crate::ages::{unmark, unmarked, words_of};
 use crate::spot::Spot;
 use jk_math::Fault;
-use jk_scan::{BlockShape, WORDS, word_place};
+use jk_scan::{BlockShape, word_place};
 use std::alloc::Global;
 
 /// A block as far as it is read, in words of 32 places: which are significant, which are negative,
 /// which the significance propagation pass of this plane has coded, and plane by plane which have a
 /// 1 there.
 #[derive(Drop)]
-pub struct Sketch {
+pub struct Sketch<const N: usize> {
     pub shape: BlockShape,
     pub planes: u32,
-    pub significant: [u64; WORDS],
-    pub negative: [u64; WORDS],
-    pub visited: [u64; WORDS],
+    pub significant: [u64; N],
+    pub negative: [u64; N],
+    pub visited: [u64; N],
     pub bits: Vec<u64>,
     ghost sized: { IsSized shape },
+    ghost wide: { words_of shape ≤ N },
+    ghost small: { N ≤ 774 },
     ghost few: { planes ≤ 23 },
     ghost room: { length bits.items ≡ planes * words_of shape },
     ghost lit: { IsDrawn shape (lit_of shape (magnitude_of shape planes bits.items)) significant },
@@ -47,14 +49,16 @@ pub fn no_bits(alloc: Global, shape: BlockShape, planes: u32) -> Result<Vec<u64>
     Ok(vec![in alloc; 0; planes as usize * words_of(shape)]?)
 }
 
-impl Sketch {
+impl<const N: usize> Sketch<N> {
     ghost use Rattle.jk_block.specs.declared.decoding.sight.Sight.{Sight};
     ghost use Rattle.jk_block.specs.decoding.Sketches.{Draft, draft_of, progress, lit_in};
     ghost use Rattle.jk_block.specs.decoding.Sights.{IsHeld, Held, IsRefined, refined_in};
 
     /// A block of which nothing is read.
-    pub fn new(shape: BlockShape, planes: u32, bits: Vec<u64>) -> Sketch
+    pub fn new(shape: BlockShape, planes: u32, bits: Vec<u64>) -> Sketch<N>
         requires sized { IsSized shape }
+        requires wide { words_of shape ≤ N }
+        requires small { N ≤ 774 }
         requires few { planes ≤ 23 }
         requires bits { bits.items ≡ replicate (planes * words_of shape) 0 }
         ensures shape { result.shape ≡ shape }

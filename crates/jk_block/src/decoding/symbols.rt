@@ -12,6 +12,7 @@ use jk_math::{Fault, Style};
 use jk_mqdec::PassDecoder;
 
 /// Whether four bits are those of the symbol.
+#[inline(always)]
 fn is_symbol(first: bool, second: bool, third: bool, fourth: bool) -> bool
     ensures { result ≡ is_symbol first second third fourth }
 {
@@ -19,6 +20,7 @@ fn is_symbol(first: bool, second: bool, third: bool, fourth: bool) -> bool
 }
 
 /// Reads a segmentation symbol (T.800 D.5). All of its decisions are read before they are compared.
+#[inline(always)]
 fn read_symbol(decoder: &mut PassDecoder) -> Result<(), Fault>
     ensures bytes { decoder.new.bytes ≡ decoder.old.bytes }
     ensures takes { (d : Draft) → Takes (symbol_at decoder.old.bytes) d d decoder.old decoder.new result }
@@ -34,6 +36,7 @@ fn read_symbol(decoder: &mut PassDecoder) -> Result<(), Fault>
 }
 
 /// Reads what ends a pass.
+#[inline(always)]
 pub fn end_pass(decoder: &mut PassDecoder, style: Style, pass: Pass) -> Result<(), Fault>
     ensures bytes { decoder.new.bytes ≡ decoder.old.bytes }
     ensures takes { (d : Draft)

@@ -2,7 +2,7 @@
 //! on. Between two of them nothing happens. What the places of the word become stands in locals,
 //! and is put back into the sketch behind the last.
 
-ghost use Rattle.std.specs.Prelude.{◌≡◌, ℕ, Bool, true, not, nat_eq, nat_lt, ◌&&◌, ◌+◌, ◌*◌, ◌/◌, ◌%◌, ◌^◌, ◌<◌};
+ghost use Rattle.std.specs.Prelude.{◌≡◌, ℕ, Bool, true, not, nat_eq, nat_lt, ◌&&◌, ◌+◌, ◌*◌, ◌/◌, ◌%◌, ◌^◌, ◌<◌, ◌≤◌};
 ghost use Rattle.std.specs.Prelude.{bit_and};
 ghost use Rattle.std.specs.Int.{bit_not, w64};
 ghost use Rattle.jk_scan.specs.Bits.{on};
@@ -12,6 +12,7 @@ ghost use Rattle.jk_scan.specs.WordPlaces.{column, row};
 ghost use Rattle.jk_scan.specs.Surroundings.{IsAround};
 ghost use Rattle.jk_scan.specs.Flags.{IsSized, flag_at};
 ghost use Rattle.jk_block.specs.Reading.{is_quiet};
+ghost use Rattle.jk_block.specs.Fields.{words_of};
 ghost use Rattle.jk_block.specs.Steps.{IsSpot, word_pass};
 ghost use Rattle.jk_block.specs.decoding.Sketches.{Takes, IsFresh, draft_of, lit_in};
 
@@ -22,8 +23,8 @@ use crate::spot::Spot;
 use jk_math::Fault;
 use jk_mqdec::PassDecoder;
 use jk_scan::{
-    Around, BlockShape, WORDS, inside, members, quiet_behind, quiet_columns, refine_context,
-    seen_around, touched_places, word_place,
+    Around, BlockShape, inside, members, quiet_behind, quiet_columns, refine_context, seen_among,
+    touched_places, word_place,
 };
 
 /// The later places of a word that the place at bit k touches and that aren't significant.
@@ -38,8 +39,9 @@ fn later_touched(significant: u64, limits: u64, k: u32) -> u64
 
 /// Reads a word in the significance propagation pass (T.800 D.3.1). A place that becomes
 /// significant takes in the later ones of its word that it touches.
-pub fn read_propagation(
-    sketch: &mut Sketch,
+#[inline(always)]
+pub fn read_propagation<const N: usize>(
+    sketch: &mut Sketch<N>,
     decoder: &mut PassDecoder,
     spot: Spot,
 ) -> Result<(), Fault>
@@ -53,12 +55,12 @@ pub fn read_propagation(
 {
     let shape = sketch.shape;
     let limits = inside(shape, spot.word, spot.stripe);
-    let significant = seen_around(&sketch.significant, shape, spot.word, spot.stripe);
+    let significant = seen_among(&sketch.significant, shape, spot.word, spot.stripe);
     let mut candidates = members(significant, limits);
     if candidates == 0 {
         return Ok(());
     }
-    let negative = seen_around(&sketch.negative, shape, spot.word, spot.stripe);
+    let negative = seen_among(&sketch.negative, shape, spot.word, spot.stripe);
     let mut sight = Sight {
         significant,
         negative,
@@ -81,7 +83,7 @@ pub fn read_propagation(
 
 /// The places of a word that were significant before this plane.
 #[inline(always)]
-fn older(sketch: &Sketch, spot: Spot) -> u64
+fn older<const N: usize>(sketch: &Sketch<N>, spot: Spot) -> u64
     requires { IsSpot sketch.now.shape spot }
     ensures { (m : ℕ) → m < 64 → on result m ≡ (of_rows (m % 8)
         && (lit_in (draft_of sketch.now) (column spot.word m) (row spot.stripe m)
@@ -95,8 +97,9 @@ fn older(sketch: &Sketch, spot: Spot) -> u64
 
 /// The places of a word that the words show.
 #[inline(always)]
-fn refined_places(refined: &[u64; WORDS], shape: BlockShape, spot: Spot) -> u64
+fn refined_places<const N: usize>(refined: &[u64; N], shape: BlockShape, spot: Spot) -> u64
     requires sized { IsSized shape }
+    requires room { words_of shape ≤ N }
     requires spot { IsSpot shape spot }
     ensures { (m : ℕ) → m < 64 → of_rows (m % 8) ≡ true
         → on result m ≡ flag_at shape refined.now (column spot.word m) (row spot.stripe m) }
@@ -105,10 +108,11 @@ fn refined_places(refined: &[u64; WORDS], shape: BlockShape, spot: Spot) -> u64
 }
 
 /// Reads a word in the magnitude refinement pass (T.800 D.3.3).
-pub fn read_refinement(
-    sketch: &mut Sketch,
+#[inline(always)]
+pub fn read_refinement<const N: usize>(
+    sketch: &mut Sketch<N>,
     decoder: &mut PassDecoder,
-    refined: &[u64; WORDS],
+    refined: &[u64; N],
     spot: Spot,
 ) -> Result<(), Fault>
     requires spot { IsSpot sketch.old.shape spot }
@@ -126,7 +130,7 @@ pub fn read_refinement(
     if places == 0 {
         return Ok(());
     }
-    let significant = seen_around(&sketch.significant, shape, spot.word, spot.stripe);
+    let significant = seen_among(&sketch.significant, shape, spot.word, spot.stripe);
     let touched = touched_places(significant);
     let again = refined_places(refined, shape, spot);
     let mut candidates = places;
@@ -144,7 +148,7 @@ pub fn read_refinement(
 
 /// The places of a word that no pass has coded yet.
 #[inline(always)]
-fn uncoded(sketch: &Sketch, spot: Spot, limits: u64) -> u64
+fn uncoded<const N: usize>(sketch: &Sketch<N>, spot: Spot, limits: u64) -> u64
     requires spot { IsSpot sketch.now.shape spot }
     requires limits { Shows of_rows (bordered (is_inside sketch.now.shape)) (spot.word + 1) (spot.stripe + 1) limits }
     ensures { (m : ℕ) → m < 64
@@ -178,7 +182,12 @@ fn still_columns(shape: BlockShape, spot: Spot, seen: Around, limits: u64) -> u6
 
 /// Reads a word in the cleanup pass (T.800 D.3.4): the places that are left, and columns in run
 /// mode.
-pub fn read_cleanup(sketch: &mut Sketch, decoder: &mut PassDecoder, spot: Spot) -> Result<(), Fault>
+#[inline(always)]
+pub fn read_cleanup<const N: usize>(
+    sketch: &mut Sketch<N>,
+    decoder: &mut PassDecoder,
+    spot: Spot,
+) -> Result<(), Fault>
     requires spot { IsSpot sketch.old.shape spot }
     requires plane { spot.plane < sketch.old.planes }
     ensures shape { sketch.new.shape ≡ sketch.old.shape }
@@ -189,13 +198,13 @@ pub fn read_cleanup(sketch: &mut Sketch, decoder: &mut PassDecoder, spot: Spot) 
 {
     let shape = sketch.shape;
     let limits = inside(shape, spot.word, spot.stripe);
-    let significant = seen_around(&sketch.significant, shape, spot.word, spot.stripe);
+    let significant = seen_among(&sketch.significant, shape, spot.word, spot.stripe);
     let mut left = uncoded(sketch, spot, limits);
     let mut still = still_columns(shape, spot, significant, limits);
     if left | still == 0 {
         return Ok(());
     }
-    let negative = seen_around(&sketch.negative, shape, spot.word, spot.stripe);
+    let negative = seen_among(&sketch.negative, shape, spot.word, spot.stripe);
     let mut sight = Sight {
         significant,
         negative,

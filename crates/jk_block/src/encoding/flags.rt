@@ -1,6 +1,6 @@
 //! What is known of the places of a block while it is written.
 
-ghost use Rattle.std.specs.Prelude.{◌≡◌, ℕ, ◌%◌, ◌<◌, true, false, replicate};
+ghost use Rattle.std.specs.Prelude.{◌≡◌, ℕ, ◌%◌, ◌<◌, ◌≤◌, true, false, replicate};
 ghost use Rattle.jk_scan.specs.Bits.{on};
 ghost use Rattle.jk_scan.specs.Neighbours.{Field};
 ghost use Rattle.jk_scan.specs.Words.{of_rows};
@@ -9,23 +9,25 @@ ghost use Rattle.jk_block.specs.Steps.{IsSpot};
 
 use crate::ages::{unmark, unmarked};
 use crate::spot::Spot;
-use jk_scan::{BlockShape, WORDS, word_place};
+use jk_scan::{BlockShape, word_place};
 
 /// Words of 32 places: which are significant, and which the significance propagation pass of this
 /// plane has coded.
 #[derive(Drop)]
-pub struct Flags {
-    pub significant: [u64; WORDS],
-    pub visited: [u64; WORDS],
+pub struct Flags<const N: usize> {
+    pub significant: [u64; N],
+    pub visited: [u64; N],
+    ghost small: { N ≤ 774 },
 }
 
-impl Flags {
+impl<const N: usize> Flags<N> {
     ghost use Rattle.std.specs.Prelude.{Bool};
-    ghost use Rattle.jk_block.specs.Fields.{with_word};
+    ghost use Rattle.jk_block.specs.Fields.{with_word, words_of};
 
     /// No place is significant.
-    pub fn new() -> Flags
-        ensures significant { result.significant ≡ replicate 774 0 }
+    pub fn new() -> Flags<N>
+        requires { N ≤ 774 }
+        ensures significant { result.significant ≡ replicate N 0 }
     {
         Flags {
             significant: unmarked(),
@@ -35,7 +37,8 @@ impl Flags {
 
     /// Begins a plane: no place is coded.
     pub fn begin(&mut self, shape: BlockShape)
-        requires { IsSized shape }
+        requires sized { IsSized shape }
+        requires room { words_of shape ≤ N }
         ensures significant { self.new.significant ≡ self.old.significant }
         ensures visited { (f : Field Bool) → ((x y : ℕ) → f x y ≡ false) → IsDrawn shape f self.new.visited }
     {
@@ -46,6 +49,7 @@ impl Flags {
     #[inline(always)]
     pub fn visit_all(&mut self, shape: BlockShape, spot: Spot, places: u64)
         requires sized { IsSized shape }
+        requires room { words_of shape ≤ N }
         requires spot { IsSpot shape spot }
         requires rows { (m : ℕ) → m < 64 → on places m ≡ true → of_rows (m % 8) ≡ true }
         ensures significant { self.new.significant ≡ self.old.significant }
@@ -61,6 +65,7 @@ impl Flags {
     #[inline(always)]
     pub fn light_all(&mut self, shape: BlockShape, spot: Spot, places: u64)
         requires sized { IsSized shape }
+        requires room { words_of shape ≤ N }
         requires spot { IsSpot shape spot }
         requires rows { (m : ℕ) → m < 64 → on places m ≡ true → of_rows (m % 8) ≡ true }
         ensures lit { (f : Field Bool) → IsDrawn shape f self.old.significant

@@ -17,7 +17,9 @@ ghost use Rattle.jk_block.specs.CodedBlocks.{shape_of, coefficients_of, contents
 ghost use Rattle.jk_scan.specs.Flags.{IsSized};
 ghost use Rattle.jk_scan.specs.Moments.{old, visits};
 ghost use Rattle.jk_scan.specs.Neighbours.{is_inside};
+ghost use Rattle.jk_block.specs.Fields.{words_of};
 ghost use Rattle.jk_block.specs.Steps.{number_of};
+ghost use Rattle.jk_block.specs.encoding.Slices.{slices_of};
 ghost use Rattle.jk_block.specs.encoding.Viewed.{seen, IsFlagged, IsLitUpto};
 
 mod ahead;
@@ -29,7 +31,7 @@ mod plane;
 mod slices;
 mod words;
 
-use crate::ages::Ages;
+use crate::ages::{Ages, words_of};
 use crate::contexts::UNIFORM;
 use crate::decoding::Block;
 use crate::spot::{Pass, ends_with_symbol, pass_of};
@@ -37,10 +39,10 @@ use decisions::DecisionList;
 use flags::Flags;
 use jk_math::{Fault, Style};
 use jk_mqenc::Encoder;
-use jk_scan::BlockShape;
+use jk_scan::{BlockShape, WORDS};
 use passes::write_pass;
 use plane::BlockPlane;
-use slices::{blank, negative_places, slice_all};
+use slices::{SLICES, blank, negative_places, slice_all};
 use std::alloc::Global;
 
 /// A code-block as it is written.
@@ -111,14 +113,15 @@ fn end_pass(encoder: &mut Encoder, style: Style, pass: Pass) -> Result<(), Fault
 }
 
 /// Codes a pass, and marks how many bytes are placed then.
-fn code_pass(
+fn code_pass<const N: usize>(
     block: &BlockPlane<'_>,
-    flags: &mut Flags,
+    flags: &mut Flags<N>,
     pass: Pass,
     list: &mut DecisionList,
     encoder: &mut Encoder,
     marks: &mut Vec<usize>,
 ) -> Result<(), Fault>
+    requires room { words_of block.now.shape ≤ N }
     requires flagged { IsFlagged block.now (number_of pass * visits block.now.shape) flags.old }
     ensures flagged { IfOk result (λ _. IsFlagged block.now ((number_of pass + 1) * visits block.now.shape) flags.new) }
     ensures codes { IfOk result (λ _. (dss : List (List Decision)) → Codes encoder.old block.now.shape.style.reset dss
@@ -139,15 +142,16 @@ fn code_pass(
 }
 
 /// Codes the passes of the plane that has so many planes above it.
-fn code_plane(
+fn code_plane<const N: usize>(
     block: &BlockPlane<'_>,
     planes: u32,
     above: u32,
-    flags: &mut Flags,
+    flags: &mut Flags<N>,
     list: &mut DecisionList,
     encoder: &mut Encoder,
     marks: &mut Vec<usize>,
 ) -> Result<(), Fault>
+    requires room { words_of block.now.shape ≤ N }
     requires planes { planes ≤ 23 }
     requires above { above < planes }
     requires plane { block.now.plane ≡ planes - 1 - above }
@@ -171,8 +175,9 @@ fn code_plane(
     Ok(())
 }
 
-/// Codes all passes of a block.
-fn code_planes(
+/// Codes all passes of a block, with arrays of so many words and slices.
+#[inline(never)]
+fn code_planes<const N: usize, const S: usize>(
     shape: BlockShape,
     values: &[i32],
     planes: u32,
@@ -181,6 +186,10 @@ fn code_planes(
     marks: &mut Vec<usize>,
 ) -> Result<(), Fault>
     requires sized { IsSized shape }
+    requires room { words_of shape ≤ N }
+    requires space { slices_of shape ≤ S }
+    requires few { N ≤ 774 }
+    requires short { S ≤ 1032 }
     requires whole { length values.now ≡ shape.width * shape.height }
     requires planes { planes ≤ 23 }
     requires small { (x y : ℕ) → is_inside shape x y ≡ true
@@ -190,11 +199,11 @@ fn code_planes(
         encoder.new marks.new.items) }
     ensures memory { IfErr result IsMemory }
 {
-    let mut flags = Flags::new();
-    let mut ages = Ages::none();
-    let mut slices = blank();
+    let mut flags = Flags::<N>::new();
+    let mut ages = Ages::<N>::none();
+    let mut slices = blank::<S>();
     slice_all(&mut slices, shape, values, 24);
-    let negative = negative_places(&slices, shape);
+    let negative = negative_places::<N>(&slices, shape);
     slice_all(&mut slices, shape, values, planes / 8 * 8);
     for above in 0..planes {
         let plane = planes - 1 - above;
@@ -213,6 +222,33 @@ fn code_planes(
         code_plane(&block, planes, above, &mut flags, list, encoder, marks)?;
     }
     Ok(())
+}
+
+/// Codes all passes of a block, with arrays that are large enough for it.
+fn code_all(
+    shape: BlockShape,
+    values: &[i32],
+    planes: u32,
+    list: &mut DecisionList,
+    encoder: &mut Encoder,
+    marks: &mut Vec<usize>,
+) -> Result<(), Fault>
+    requires sized { IsSized shape }
+    requires whole { length values.now ≡ shape.width * shape.height }
+    requires planes { planes ≤ 23 }
+    requires small { (x y : ℕ) → is_inside shape x y ≡ true
+        → unsigned_abs (value_in shape values.now x y) < 2 ^ planes }
+    requires before { HasCodedPasses shape planes 0 (value_in shape values.now) encoder.old marks.old.items }
+    ensures after { IfOk result (λ _. HasCodedPasses shape planes (3 * planes - 2) (value_in shape values.now)
+        encoder.new marks.new.items) }
+    ensures memory { IfErr result IsMemory }
+{
+    match words_of(shape) {
+        0..=16 => code_planes::<16, 64>(shape, values, planes, list, encoder, marks),
+        17..=64 => code_planes::<64, 256>(shape, values, planes, list, encoder, marks),
+        65..=192 => code_planes::<192, 768>(shape, values, planes, list, encoder, marks),
+        _ => code_planes::<WORDS, SLICES>(shape, values, planes, list, encoder, marks),
+    }
 }
 
 /// Codes a block (T.800 Annexes C and D), or [`Fault::Memory`]. A block of zeros has no pass and no
@@ -266,7 +302,7 @@ pub fn code(alloc: Global, block: &Block) -> Result<CodedBlock, Fault>
     };
     let mut list = DecisionList::new(alloc);
     let mut encoder = Encoder::new(alloc);
-    code_planes(
+    code_all(
         shape,
         &block.values,
         planes,

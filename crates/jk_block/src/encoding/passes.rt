@@ -1,9 +1,10 @@
 //! The decisions of the coding passes, listed (T.800 D.3).
 
-ghost use Rattle.std.specs.Prelude.{◌≡◌, ◌+◌, ◌*◌, ◌<◌, ◌++◌, IfOk, IfErr};
+ghost use Rattle.std.specs.Prelude.{◌≡◌, ◌+◌, ◌*◌, ◌<◌, ◌≤◌, ◌++◌, IfOk, IfErr};
 ghost use Rattle.jk_math.specs.Memory.{IsMemory};
 ghost use Rattle.jk_scan.specs.Moments.{visits, stripes};
 ghost use Rattle.jk_scan.specs.Passes.{joined, column_decisions, plane_decisions};
+ghost use Rattle.jk_block.specs.Fields.{words_of};
 ghost use Rattle.jk_block.specs.Steps.{IsSpot, number_of};
 ghost use Rattle.jk_block.specs.encoding.Viewed.{seen, IsFlagged, moment_at, word_decisions};
 
@@ -17,13 +18,14 @@ use jk_scan::words_across;
 
 /// A word in a pass.
 #[inline(always)]
-fn write_word(
+fn write_word<const N: usize>(
     block: &BlockPlane<'_>,
-    flags: &mut Flags,
+    flags: &mut Flags<N>,
     pass: Pass,
     spot: Spot,
     list: &mut DecisionList,
 ) -> Result<(), Fault>
+    requires room { words_of block.now.shape ≤ N }
     requires spot { IsSpot block.now.shape spot }
     requires flagged { IsFlagged block.now
         (moment_at block.now.shape (number_of pass) spot.word spot.stripe 0) flags.old }
@@ -43,13 +45,14 @@ fn write_word(
 
 /// A stripe.
 #[inline(never)]
-fn write_stripe(
+fn write_stripe<const N: usize>(
     block: &BlockPlane<'_>,
-    flags: &mut Flags,
+    flags: &mut Flags<N>,
     pass: Pass,
     stripe: usize,
     list: &mut DecisionList,
 ) -> Result<(), Fault>
+    requires room { words_of block.now.shape ≤ N }
     requires stripe { stripe < stripes block.now.shape }
     requires flagged { IsFlagged block.now (moment_at block.now.shape (number_of pass) 0 stripe 0) flags.old }
     ensures flagged { IfOk result
@@ -71,12 +74,13 @@ fn write_stripe(
 }
 
 /// All decisions of a pass, stripe by stripe.
-pub fn write_pass(
+pub fn write_pass<const N: usize>(
     block: &BlockPlane<'_>,
-    flags: &mut Flags,
+    flags: &mut Flags<N>,
     pass: Pass,
     list: &mut DecisionList,
 ) -> Result<(), Fault>
+    requires room { words_of block.now.shape ≤ N }
     requires flagged { IsFlagged block.now (number_of pass * visits block.now.shape) flags.old }
     ensures flagged { IfOk result (λ _. IsFlagged block.now ((number_of pass + 1) * visits block.now.shape) flags.new) }
     ensures listed { IfOk result

@@ -1,17 +1,18 @@
 //! A block as it is seen at a bit-plane.
 
-ghost use Rattle.std.specs.Prelude.{◌≡◌, ℕ, nat_le, ◌&&◌, ◌+◌, ◌*◌, ◌/◌, ◌%◌, ◌<◌, length};
+ghost use Rattle.std.specs.Prelude.{◌≡◌, ℕ, nat_le, ◌&&◌, ◌+◌, ◌*◌, ◌/◌, ◌%◌, ◌<◌, ◌≤◌, length};
 ghost use Rattle.jk_scan.specs.Bits.{on};
 ghost use Rattle.jk_scan.specs.Flags.{IsSized, IsDrawn};
 ghost use Rattle.jk_scan.specs.Words.{of_rows};
 ghost use Rattle.jk_scan.specs.WordPlaces.{column, row};
 ghost use Rattle.jk_block.specs.Meaning.{value_in, plane_at};
-ghost use Rattle.jk_block.specs.encoding.Slices.{IsSliced, negative_of};
+ghost use Rattle.jk_block.specs.Fields.{words_of};
+ghost use Rattle.jk_block.specs.encoding.Slices.{IsSliced, negative_of, slices_of};
 ghost use Rattle.jk_block.specs.Steps.{IsSpot};
 
-use super::slices::{SLICES, ones};
+use super::slices::ones;
 use crate::spot::Spot;
-use jk_scan::{BlockShape, WORDS, word_place};
+use jk_scan::{BlockShape, word_place};
 
 /// A block at a bit-plane, with its coefficients row by row.
 #[derive(Clone, Copy)]
@@ -20,12 +21,15 @@ pub struct BlockPlane<'a> {
     pub values: &'a [i32],
     pub plane: u32,
     /// The slices with the bits of this plane.
-    pub slices: &'a [u64; SLICES],
+    pub slices: &'a [u64],
     /// Words of the places that have a bit more than one plane above this one.
-    pub refined: &'a [u64; WORDS],
+    pub refined: &'a [u64],
     /// Words of the negative places.
-    pub negative: &'a [u64; WORDS],
+    pub negative: &'a [u64],
     ghost sized: { IsSized shape },
+    ghost space: { slices_of shape ≤ length slices.now },
+    ghost room: { words_of shape ≤ length refined.now },
+    ghost wide: { words_of shape ≤ length negative.now },
     ghost whole: { length values.now ≡ shape.width * shape.height },
     ghost shallow: { plane < 23 },
     ghost sliced: { IsSliced shape (plane / 8 * 8) (value_in shape values.now) slices.now },

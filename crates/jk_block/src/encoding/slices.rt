@@ -7,15 +7,16 @@ ghost use Rattle.jk_scan.specs.Bits.{on};
 ghost use Rattle.jk_scan.specs.Flags.{IsSized, IsDrawn, across};
 ghost use Rattle.jk_scan.specs.Moments.{stripes};
 ghost use Rattle.jk_scan.specs.Neighbours.{Field};
+ghost use Rattle.jk_block.specs.Fields.{words_of};
 ghost use Rattle.jk_block.specs.Meaning.{value_in};
 ghost use Rattle.jk_block.specs.encoding.Slices.{signed, negative_of, negative_to, IsShort, IsSliced, IsSlicedTo};
-ghost use Rattle.jk_block.specs.encoding.Slices.{IsClearBehind};
+ghost use Rattle.jk_block.specs.encoding.Slices.{IsClearBehind, slices_of};
 ghost use Rattle.jk_block.specs.encoding.Slices.{IsPlaneWord};
 ghost use Rattle.jk_block.specs.Steps.{IsSpot};
 
 use crate::ages::unmarked;
 use crate::spot::Spot;
-use jk_scan::{BlockShape, WORDS, word_place, words_across};
+use jk_scan::{BlockShape, word_place, words_across};
 
 /// How many slices are kept, enough for each block with the rows behind its last one up to a whole
 /// stripe.
@@ -66,8 +67,15 @@ fn slice(values: &[i32], start: usize, count: usize, shift: u32) -> u64
 }
 
 /// The slices of a row.
-fn slice_row(slices: &mut [u64; SLICES], shape: BlockShape, values: &[i32], row: usize, shift: u32)
+fn slice_row<const S: usize>(
+    slices: &mut [u64; S],
+    shape: BlockShape,
+    values: &[i32],
+    row: usize,
+    shift: u32,
+)
     requires sized { IsSized shape }
+    requires room { slices_of shape ≤ S }
     requires whole { length values.now ≡ shape.width * shape.height }
     requires row { row < shape.height }
     requires shift { shift < 32 }
@@ -83,15 +91,21 @@ fn slice_row(slices: &mut [u64; SLICES], shape: BlockShape, values: &[i32], row:
 }
 
 /// No magnitude has a bit.
-pub fn blank() -> [u64; SLICES]
-    ensures { result ≡ replicate 1032 0 }
+pub fn blank<const S: usize>() -> [u64; S]
+    ensures { result ≡ replicate S 0 }
 {
-    [0; SLICES]
+    [0; S]
 }
 
 /// Makes the slices of a block, of the bytes of its magnitudes from a bit on.
-pub fn slice_all(slices: &mut [u64; SLICES], shape: BlockShape, values: &[i32], shift: u32)
+pub fn slice_all<const S: usize>(
+    slices: &mut [u64; S],
+    shape: BlockShape,
+    values: &[i32],
+    shift: u32,
+)
     requires sized { IsSized shape }
+    requires room { slices_of shape ≤ S }
     requires whole { length values.now ≡ shape.width * shape.height }
     requires shift { shift < 32 }
     requires clear { IsClearBehind shape slices.old }
@@ -113,8 +127,9 @@ fn plane_of(slice: u64, bit: u32) -> u64
 
 /// The places of a word that have a 1 in this bit of their bytes.
 #[inline(always)]
-pub fn ones(slices: &[u64; SLICES], shape: BlockShape, spot: Spot, bit: u32) -> u64
+pub fn ones(slices: &[u64], shape: BlockShape, spot: Spot, bit: u32) -> u64
     requires sized { IsSized shape }
+    requires room { slices_of shape ≤ length slices.now }
     requires spot { IsSpot shape spot }
     requires bit { bit < 8 }
     ensures { (shift : ℕ) (q : Field ℤ) → IsSliced shape shift q slices.now
@@ -129,8 +144,15 @@ pub fn ones(slices: &[u64; SLICES], shape: BlockShape, spot: Spot, bit: u32) -> 
 }
 
 /// Marks the negative places of a stripe.
-fn mark_negative(slices: &[u64; SLICES], shape: BlockShape, stripe: usize, words: &mut [u64; WORDS])
+fn mark_negative<const N: usize>(
+    slices: &[u64],
+    shape: BlockShape,
+    stripe: usize,
+    words: &mut [u64; N],
+)
     requires sized { IsSized shape }
+    requires space { slices_of shape ≤ length slices.now }
+    requires room { words_of shape ≤ N }
     requires stripe { stripe < stripes shape }
     ensures { (q : Field ℤ) → IsShort shape q → IsSliced shape 24 q slices.now
         → IsDrawn shape (negative_to shape q (stripe * across shape)) words.old
@@ -147,8 +169,10 @@ fn mark_negative(slices: &[u64; SLICES], shape: BlockShape, stripe: usize, words
 }
 
 /// The negative places of a block, by the slices of its highest bytes.
-pub fn negative_places(slices: &[u64; SLICES], shape: BlockShape) -> [u64; WORDS]
-    requires { IsSized shape }
+pub fn negative_places<const N: usize>(slices: &[u64], shape: BlockShape) -> [u64; N]
+    requires sized { IsSized shape }
+    requires space { slices_of shape ≤ length slices.now }
+    requires room { words_of shape ≤ N }
     ensures { (q : Field ℤ) → IsShort shape q → IsSliced shape 24 q slices.now
         → IsDrawn shape (negative_of shape q) result }
 {

@@ -1,7 +1,7 @@
 //! The decisions of a word of 32 places in each pass: loops over the places that the pass codes,
 //! from the lowest bit on. Between two of them nothing is decided.
 
-ghost use Rattle.std.specs.Prelude.{◌≡◌, ℕ, Bool, not, nat_eq, nat_lt, ◌&&◌, ◌+◌, ◌*◌, ◌/◌, ◌%◌, ◌^◌, ◌<◌, ◌++◌, IfOk};
+ghost use Rattle.std.specs.Prelude.{◌≡◌, ℕ, Bool, not, nat_eq, nat_lt, ◌&&◌, ◌+◌, ◌*◌, ◌/◌, ◌%◌, ◌^◌, ◌<◌, ◌≤◌, ◌++◌, IfOk};
 ghost use Rattle.std.specs.Prelude.{IfErr};
 ghost use Rattle.jk_math.specs.Memory.{IsMemory};
 ghost use Rattle.jk_scan.specs.Bits.{on};
@@ -11,6 +11,7 @@ ghost use Rattle.jk_scan.specs.WordPlaces.{column, row};
 ghost use Rattle.jk_scan.specs.Surroundings.{IsAround, Turns};
 ghost use Rattle.jk_scan.specs.Flags.{IsSized};
 ghost use Rattle.jk_block.specs.Reading.{is_quiet};
+ghost use Rattle.jk_block.specs.Fields.{words_of};
 ghost use Rattle.jk_block.specs.Steps.{IsSpot};
 ghost use Rattle.jk_block.specs.encoding.Viewed.{seen, lit_at, spread_at, IsFlagged, moment_at, word_decisions};
 
@@ -22,7 +23,7 @@ use super::plane::BlockPlane;
 use crate::spot::Spot;
 use jk_math::Fault;
 use jk_scan::{
-    Around, BlockShape, byte_in, decision_bytes, inside, members, quiet_in_turn, seen_around,
+    Around, BlockShape, byte_in, decision_bytes, inside, members, quiet_in_turn, seen_among,
     touched_places, word_place,
 };
 
@@ -30,12 +31,13 @@ use jk_scan::{
 /// is what each of them has around it: of the places before it those that are significant behind
 /// this pass, of the others those that are so before it.
 #[inline(always)]
-pub fn write_propagation(
+pub fn write_propagation<const N: usize>(
     block: &BlockPlane<'_>,
-    flags: &mut Flags,
+    flags: &mut Flags<N>,
     spot: Spot,
     list: &mut DecisionList,
 ) -> Result<(), Fault>
+    requires room { words_of block.now.shape ≤ N }
     requires spot { IsSpot block.now.shape spot }
     requires flagged { IsFlagged block.now (moment_at block.now.shape 0 spot.word spot.stripe 0) flags.old }
     ensures flagged { IfOk result
@@ -46,7 +48,7 @@ pub fn write_propagation(
 {
     let own = *block;
     let limits = inside(own.shape, spot.word, spot.stripe);
-    let around = seen_around(&flags.significant, own.shape, spot.word, spot.stripe);
+    let around = seen_among(&flags.significant, own.shape, spot.word, spot.stripe);
     let candidates = members(around, limits);
     if candidates == 0 {
         return Ok(());
@@ -58,7 +60,7 @@ pub fn write_propagation(
         west: around.west,
         east: around.east,
     };
-    let signs = seen_around(own.negative, own.shape, spot.word, spot.stripe);
+    let signs = seen_among(own.negative, own.shape, spot.word, spot.stripe);
     let told = decision_bytes(own.shape.orientation, seen, around.centre, signs, ones);
     flags.visit_all(own.shape, spot, all);
     flags.light_all(own.shape, spot, all & ones);
@@ -79,8 +81,9 @@ pub fn write_propagation(
 
 /// The places of a word that were significant before this plane.
 #[inline(always)]
-fn older(block: &BlockPlane<'_>, flags: &Flags, spot: Spot) -> u64
-    requires { IsSpot block.now.shape spot }
+fn older<const N: usize>(block: &BlockPlane<'_>, flags: &Flags<N>, spot: Spot) -> u64
+    requires room { words_of block.now.shape ≤ N }
+    requires spot { IsSpot block.now.shape spot }
     ensures { (t : ℕ) → IsFlagged block.now t flags.now → (m : ℕ) → m < 64 → on result m ≡ (of_rows (m % 8)
         && (lit_at block.now t (column spot.word m) (row spot.stripe m)
         && not (spread_at block.now t (column spot.word m) (row spot.stripe m)))) }
@@ -93,12 +96,13 @@ fn older(block: &BlockPlane<'_>, flags: &Flags, spot: Spot) -> u64
 
 /// A word in the magnitude refinement pass (T.800 D.3.3).
 #[inline(always)]
-pub fn write_refinement(
+pub fn write_refinement<const N: usize>(
     block: &BlockPlane<'_>,
-    flags: &Flags,
+    flags: &Flags<N>,
     spot: Spot,
     list: &mut DecisionList,
 ) -> Result<(), Fault>
+    requires room { words_of block.now.shape ≤ N }
     requires spot { IsSpot block.now.shape spot }
     requires flagged { IsFlagged block.now (moment_at block.now.shape 1 spot.word spot.stripe 0) flags.now }
     ensures flagged { IfOk result
@@ -112,7 +116,7 @@ pub fn write_refinement(
     if candidates == 0 {
         return Ok(());
     }
-    let around = seen_around(&flags.significant, own.shape, spot.word, spot.stripe);
+    let around = seen_among(&flags.significant, own.shape, spot.word, spot.stripe);
     let touched = touched_places(around);
     let refined = own.refined_places(spot);
     let ones = own.ones(spot);
@@ -136,7 +140,8 @@ pub fn write_refinement(
 
 /// The places of a word that no pass has coded yet.
 #[inline(always)]
-fn uncoded(block: &BlockPlane<'_>, flags: &Flags, spot: Spot, limits: u64) -> u64
+fn uncoded<const N: usize>(block: &BlockPlane<'_>, flags: &Flags<N>, spot: Spot, limits: u64) -> u64
+    requires room { words_of block.now.shape ≤ N }
     requires spot { IsSpot block.now.shape spot }
     requires limits { Shows of_rows (bordered (is_inside block.now.shape)) (spot.word + 1) (spot.stripe + 1) limits }
     ensures { (t : ℕ) → IsFlagged block.now t flags.now → (m : ℕ) → m < 64 → on result m ≡ (of_rows (m % 8)
@@ -173,12 +178,13 @@ fn run_columns(shape: BlockShape, spot: Spot, seen: Around, old: u64, limits: u6
 /// A word in the cleanup pass (T.800 D.3.4): all places that are left, and columns in run mode.
 /// What each place has around it is known at once, as in the significance propagation pass.
 #[inline(always)]
-pub fn write_cleanup(
+pub fn write_cleanup<const N: usize>(
     block: &BlockPlane<'_>,
-    flags: &mut Flags,
+    flags: &mut Flags<N>,
     spot: Spot,
     list: &mut DecisionList,
 ) -> Result<(), Fault>
+    requires room { words_of block.now.shape ≤ N }
     requires spot { IsSpot block.now.shape spot }
     requires flagged { IsFlagged block.now (moment_at block.now.shape 2 spot.word spot.stripe 0) flags.old }
     ensures flagged { IfOk result
@@ -193,7 +199,7 @@ pub fn write_cleanup(
     if left == 0 {
         return Ok(());
     }
-    let around = seen_around(&flags.significant, own.shape, spot.word, spot.stripe);
+    let around = seen_among(&flags.significant, own.shape, spot.word, spot.stripe);
     let before = around.centre;
     let ones = own.ones(spot);
     let new = left & ones;
@@ -202,7 +208,7 @@ pub fn write_cleanup(
         west: around.west,
         east: around.east,
     };
-    let signs = seen_around(own.negative, own.shape, spot.word, spot.stripe);
+    let signs = seen_among(own.negative, own.shape, spot.word, spot.stripe);
     let told = decision_bytes(own.shape.orientation, seen, before, signs, ones);
     let still = run_columns(own.shape, spot, seen, before, limits);
     flags.light_all(own.shape, spot, new);

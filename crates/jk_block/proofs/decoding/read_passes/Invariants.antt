@@ -6,7 +6,7 @@ use Rattle.jk_block.specs.decoding.Sketches.{draft_of}
 use Rattle.jk_block.proofs.decoding.read_passes.Given as goal
 
 abbrev pub invariant-loop-n : goal.invariant-loop-n
-invariant-loop-n l =
+invariant-loop-n g l =
     Taken (λ bytes s n z. pass_at bytes s l.planes n z) l.n (draft_of l.fn.sketch) (draft_of l.sketch) l.fn.decoder l.decoder
     × Aged l.sketch.shape (draft_of l.sketch).magnitude (plane_before l.planes l.n) l.ages.refined l.ages.older
     × (l.planes ≡ l.sketch.planes)

@@ -10,7 +10,7 @@ use Rattle.jk_block.proofs.encoding.Written.{coded_pass}
 use Rattle.jk_block.proofs.encoding.code_plane.Goals as goal
 
 pub loop-n-init : goal.loop-n-init
-loop-n-init c =
+loop-n-init g c =
     let v = c.args.block.now in
     let flags = c.args.flags.now in
     let new = c.begin.new.self in
@@ -26,14 +26,8 @@ loop-n-init c =
 kind : (n above : ℕ) → 3 * above - 2 ≤ n → n ≤ 3 * above → kind_of n ≡ n + 2 - 3 * above
 kind n above low high = omega (arith, low, high)
 
-pub code_pass-requires : goal.code_pass-requires
-code_pass-requires c =
-    let v = c.args.block.now in
-    let l = c.loop-n in
-    record { flagged = subst (λ k. IsFlagged v (k * visits v.shape) l.flags) (sym (c.pass_of.ensures ∙ kind l.n c.args.above (omega arith) (omega arith))) l.invariant.1 }
-
 pub loop-n-preserved : goal.loop-n-preserved
-loop-n-preserved c =
+loop-n-preserved g c =
     let b = c.args.block.now in
     let r = c.requires.plane in
     let l = c.loop-n in
@@ -47,7 +41,7 @@ loop-n-preserved c =
     )
 
 pub returns-clause-lit : goal.returns-clause-lit
-returns-clause-lit c =
+returns-clause-lit g c =
     let v = c.args.block.now in
     let l = c.loop-n in
     ended_plane v l.flags (subst (λ k. IsFlagged v (k * visits v.shape) l.flags) (omega arith) l.invariant.1)

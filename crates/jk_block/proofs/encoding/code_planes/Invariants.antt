@@ -8,7 +8,7 @@ use Rattle.jk_block.specs.encoding.Viewed.{IsLitUpto}
 use Rattle.jk_block.proofs.encoding.code_planes.Given as goal
 
 abbrev pub invariant-loop-above : goal.invariant-loop-above
-invariant-loop-above l = record {
+invariant-loop-above g l = record {
   coded : HasCodedPasses l.fn.shape l.fn.planes (3 * l.above - 2) (value_in l.fn.shape l.values) l.encoder l.marks.items;
   lit : IsLitUpto l.fn.shape (l.fn.planes - l.above) (value_in l.fn.shape l.values) l.flags;
   sliced : IsSliced l.fn.shape ((l.fn.planes - l.above) / 8 * 8) (value_in l.fn.shape l.values) l.slices;

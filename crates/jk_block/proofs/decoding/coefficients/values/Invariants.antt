@@ -6,6 +6,6 @@ use Rattle.jk_block.proofs.decoding.Listing.{rows_of}
 use Rattle.jk_block.proofs.decoding.coefficients.values.Given as goal
 
 abbrev pub invariant-loop-y : goal.invariant-loop-y
-invariant-loop-y l =
+invariant-loop-y g l =
     (l.values.items ≡ rows_of (λ x y. with_sign ((draft_of l.sketch).negative x y) ((draft_of l.sketch).magnitude x y)) l.sketch.shape.width l.y)
     × (vec_len l.values ≡ l.y * l.sketch.shape.width) × (l.sketch.shape.width * l.sketch.shape.height ≤ vec_capacity l.values)

@@ -13,24 +13,25 @@ use Rattle.jk_block.specs.decoding.Sketches.{Draft, Advanced, IsFresh, draft_of,
 use Rattle.jk_block.proofs.decoding.Aging.{next_context}
 use Rattle.jk_block.proofs.decoding.Going.{going_fault, going_all}
 use Rattle.jk_block.proofs.decoding.Refining.{Refining, refining_none, refining_idle, refining_next, refining_one, refining_all, refined_all, may_refine}
+use Rattle.jk_block.proofs.Sizes.{sketch_fits}
 use Rattle.jk_block.proofs.decoding.words.read_refinement.Goals as goal
 
 pub returns-then-places-eq0-clause-takes : goal.returns-then-places-eq0-clause-takes
-returns-then-places-eq0-clause-takes c =
+returns-then-places-eq0-clause-takes g c =
     let k = draft_of c.args.sketch.now in
     let v = c.args.decoder.now in
     going_all 1 c.args.spot k k v v (refining_idle c.args.spot k v c.older-places.result c.older-places.ensures (omega arith))
 
 pub loop-candidates-init : goal.loop-candidates-init
-loop-candidates-init c =
+loop-candidates-init g c =
     let k = c.args.sketch.now in
     let at = c.args.spot in
-    let around = c.seen_around-significant.ensures (lit_in (draft_of k)) k.lit in
+    let around = c.seen_among-significant.ensures (lit_in (draft_of k)) k.lit in
     refining_none at c.args.refined.now (draft_of k) c.args.decoder.now c.touched_places-touched.result c.older-places.result c.requires.fresh
     (c.touched_places-touched.ensures (bordered (seen_in (draft_of k) at.stripe)) at.word at.stripe around) c.older-places.ensures
 
 pub returns-in_err-bit-clause-takes : goal.returns-in_err-bit-clause-takes
-returns-in_err-bit-clause-takes c =
+returns-in_err-bit-clause-takes g c =
     let p = err_from_is_err_and c.from_residual.result c.from_residual.ensures.1 in
     let l = c.loop-candidates in
     let k = draft_of c.args.sketch.now in
@@ -48,10 +49,10 @@ returns-in_err-bit-clause-takes c =
     (c.in_err-bit.ensures.takes at d (column at.word z) (row at.stripe z) next.lit next.uncoded context))
 
 pub loop-candidates-smaller : goal.loop-candidates-smaller
-loop-candidates-smaller c = sooner_zero c.loop-candidates.candidates (omega arith) (omega arith)
+loop-candidates-smaller g c = sooner_zero c.loop-candidates.candidates (omega arith) (omega arith)
 
 pub loop-candidates-preserved : goal.loop-candidates-preserved
-loop-candidates-preserved c =
+loop-candidates-preserved g c =
     let l = c.loop-candidates in
     let k = draft_of c.args.sketch.now in
     let at = c.args.spot in
@@ -68,19 +69,15 @@ loop-candidates-preserved c =
     (refining_one at c.args.refined.now k v l.decoder c.read_refined.new.decoder seen c.older-places.result l.candidates l.ones c.in_ok-bit.bit c.in_ok-bit.bit l.invariant (omega arith) (omega arith) (omega arith) (omega arith)
     (c.in_ok-bit.ensures.takes at d (column at.word z) (row at.stripe z) next.lit next.uncoded context) c.in_ok-bit.ensures.bytes)
 
-pub refine_all-requires-clause-refined : goal.refine_all-requires-clause-refined
-refine_all-requires-clause-refined c =
-    may_refine c.args.spot c.args.refined.now (draft_of c.args.sketch.now) c.older-places.result c.loop-candidates.ones c.requires.fresh c.older-places.ensures c.loop-candidates.invariant.bits.only
-
 pub returns-clause-fresh : goal.returns-clause-fresh
-returns-clause-fresh c =
+returns-clause-fresh g c =
     let l = c.loop-candidates in
     let at = c.args.spot in
     let behind = refined_all at c.args.refined.now (draft_of c.args.sketch.now) c.args.decoder.now l.decoder c.touched_places-touched.result c.older-places.result l.candidates l.ones l.invariant (omega arith) in
     subst (λ (d : Draft). IsFresh at.plane c.args.refined.now d) (behind ∙ sym c.refine_all.ensures.refined) l.invariant.fresh
 
 pub returns-clause-takes : goal.returns-clause-takes
-returns-clause-takes c = λ coder st.
+returns-clause-takes g c = λ coder st.
     let l = c.loop-candidates in
     let k = draft_of c.args.sketch.now in
     let at = c.args.spot in
@@ -89,3 +86,15 @@ returns-clause-takes c = λ coder st.
     let behind = refined_all at c.args.refined.now k v l.decoder seen c.older-places.result l.candidates l.ones l.invariant (omega arith) in
     subst (λ (n : Draft). Advanced (word_pass v.bytes k.shape at.plane 1 at.word at.stripe) k n l.decoder coder) (behind ∙ sym c.refine_all.ensures.refined)
     (going_all 1 at k l.invariant.draft v l.decoder (refining_all at c.args.refined.now k v l.decoder seen c.older-places.result l.candidates l.ones l.invariant (omega arith)) coder st)
+
+pub refine_all-requires : goal.refine_all-requires
+refine_all-requires g c = (
+  sketch_fits g.row.N c.args.sketch.now.small,
+  (
+    c.requires.spot,
+    (
+      c.requires.plane,
+      may_refine c.args.spot c.args.refined.now (draft_of c.args.sketch.now) c.older-places.result c.loop-candidates.ones c.requires.fresh c.older-places.ensures c.loop-candidates.invariant.bits.only,
+    ),
+  ),
+)

@@ -5,7 +5,7 @@ use Rattle.jk_block.proofs.decoding.Leaving.{left_at}
 use Rattle.jk_block.proofs.decoding.words.uncoded.Goals as goal
 
 pub returns : goal.returns
-returns c = λ m l.
+returns g c = λ m l.
     let k = c.args.sketch.now in
     let p = c.word_place-place.result in
     left_at k.shape (magnitude_of k.shape k.planes k.bits.items) k.significant k.visited c.args.spot.word c.args.spot.stripe m p c.args.limits k.lit c.requires.spot.word c.requires.spot.stripe c.word_place-place.ensures.place

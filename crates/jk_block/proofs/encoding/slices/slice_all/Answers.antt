@@ -5,12 +5,12 @@ use Rattle.jk_block.proofs.encoding.Slicing.{sliced_none, sliced_all}
 use Rattle.jk_block.proofs.encoding.slices.slice_all.Goals as goal
 
 pub loop-row-init : goal.loop-row-init
-loop-row-init c =
+loop-row-init g c =
     let s = c.args.shape in
     sliced_none s c.args.shift (0 * across s) (value_in s c.args.values.now) c.args.slices.now (omega arith) c.requires.clear
 
 pub returns : goal.returns
-returns c =
+returns g c =
     let s = c.args.shape in
     let row = c.loop-row.row in
     sliced_all s c.args.shift (row * across s) (value_in s c.args.values.now) c.loop-row.slices (let e : row ≡ s.height = omega arith in ap (λ n. n * across s) e) c.loop-row.invariant

@@ -5,4 +5,4 @@ use Rattle.jk_block.specs.encoding.Slices.{IsSlicedTo}
 use Rattle.jk_block.proofs.encoding.slices.slice_all.Given as goal
 
 abbrev pub invariant-loop-row : goal.invariant-loop-row
-invariant-loop-row l = IsSlicedTo l.shape l.shift (value_in l.shape l.values) (l.row * across l.shape) l.slices
+invariant-loop-row g l = IsSlicedTo l.shape l.shift (value_in l.shape l.values) (l.row * across l.shape) l.slices

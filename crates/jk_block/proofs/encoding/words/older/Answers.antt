@@ -15,7 +15,7 @@ gate true l s = refl
 gate false l s = refl
 
 pub returns : goal.returns
-returns c = λ t flagged m within.
+returns g c = λ t flagged m within.
     let v = c.args.block.now in
     let s = v.shape in
     let at = c.args.spot in
@@ -27,6 +27,6 @@ returns c = λ t flagged m within.
     let lim : vis < 2 ^ 64 = omega arith in
     on_and sig (bit_not w64 vis) m ∙ ap (λ b. on sig m && b) (on_not w64 vis m lim within)
     ∙ ap (λ p. on (get_or c.args.flags.now.significant p 0) m && not (on (get_or c.args.flags.now.visited p 0) m)) c.word_place-place.ensures.place
-    ∙ ap (λ b. b && not (on (get_or c.args.flags.now.visited (word_at s (at.word + 1) (at.stripe + 1)) 0) m)) (drawn_bit s (lit_at v t) c.args.flags.now.significant at.word at.stripe m flagged.lit c.requires.word c.requires.stripe within)
-    ∙ ap (λ b. (of_rows (m % 8) && lit_at v t x y) && not b) (drawn_bit s (spread_at v t) c.args.flags.now.visited at.word at.stripe m flagged.coded c.requires.word c.requires.stripe within)
+    ∙ ap (λ b. b && not (on (get_or c.args.flags.now.visited (word_at s (at.word + 1) (at.stripe + 1)) 0) m)) (drawn_bit s (lit_at v t) c.args.flags.now.significant at.word at.stripe m flagged.lit c.requires.spot.word c.requires.spot.stripe within)
+    ∙ ap (λ b. (of_rows (m % 8) && lit_at v t x y) && not b) (drawn_bit s (spread_at v t) c.args.flags.now.visited at.word at.stripe m flagged.coded c.requires.spot.word c.requires.spot.stripe within)
     ∙ gate (of_rows (m % 8)) (lit_at v t x y) (spread_at v t x y)

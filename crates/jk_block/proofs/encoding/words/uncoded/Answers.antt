@@ -19,7 +19,7 @@ gate true i false s = refl
 gate false i l s = refl
 
 pub returns : goal.returns
-returns c = λ t flagged m within.
+returns g c = λ t flagged m within.
     let v = c.args.block.now in
     let s = v.shape in
     let at = c.args.spot in

@@ -20,59 +20,35 @@ use Rattle.jk_block.proofs.encoding.Propagated.{propagated_empty}
 use Rattle.jk_block.proofs.encoding.Sheeted.{sheet_at, sheet_less, sheet_whole, told_at, told_whole}
 use Rattle.jk_block.proofs.encoding.Slicing.{one_at}
 use Rattle.jk_block.proofs.encoding.Spelled.{bits_spelled, signs_spelled}
+use Rattle.jk_block.proofs.Sizes.{flags_fit}
 use Rattle.jk_block.proofs.encoding.words.write_propagation.Goals as goal
 
 pub returns-then-candidates-eq0-clause-flagged : goal.returns-then-candidates-eq0-clause-flagged
-returns-then-candidates-eq0-clause-flagged c =
+returns-then-candidates-eq0-clause-flagged g c =
     let v = c.args.block.now in
     let at = c.args.spot in
     let f = lit_at v (moment_at v.shape 0 at.word at.stripe 0) in
-    let around = c.seen_around-around.ensures f c.requires.flagged.lit in
-    (propagated_empty v at c.args.list.now c.seen_around-around.result c.members-candidates.result c.requires.spot.stripe around
+    let around = c.seen_among-around.ensures f c.requires.flagged.lit in
+    (propagated_empty v at c.args.list.now c.seen_among-around.result c.members-candidates.result c.requires.spot.stripe around
     (c.members-candidates.ensures (bordered (seen_from v.shape at.stripe f)) (bordered (is_inside v.shape)) at.word at.stripe around c.inside-limits.ensures) c.if-candidates-eq0.true).1
-    c.args.flags.now c.requires.flagged
+    g.row.N c.args.flags.now c.requires.flagged
 
 pub returns-then-candidates-eq0-clause-listed : goal.returns-then-candidates-eq0-clause-listed
-returns-then-candidates-eq0-clause-listed c =
+returns-then-candidates-eq0-clause-listed g c =
     let v = c.args.block.now in
     let at = c.args.spot in
     let f = lit_at v (moment_at v.shape 0 at.word at.stripe 0) in
-    let around = c.seen_around-around.ensures f c.requires.flagged.lit in
+    let around = c.seen_among-around.ensures f c.requires.flagged.lit in
     told_all v 0 at c.args.list.now c.args.list.now
-    (propagated_empty v at c.args.list.now c.seen_around-around.result c.members-candidates.result c.requires.spot.stripe around
+    (propagated_empty v at c.args.list.now c.seen_among-around.result c.members-candidates.result c.requires.spot.stripe around
     (c.members-candidates.ensures (bordered (seen_from v.shape at.stripe f)) (bordered (is_inside v.shape)) at.word at.stripe around c.inside-limits.ensures) c.if-candidates-eq0.true).0
 
-pub visit_all-requires-clause-rows : goal.visit_all-requires-clause-rows
-visit_all-requires-clause-rows c =
-    let v = c.args.block.now in
-    let at = c.args.spot in
-    let f = lit_at v (moment_at v.shape 0 at.word at.stripe 0) in
-    let around = c.seen_around-around.ensures f c.requires.flagged.lit in
-    let all = c.with_reached-all.result in
-    let ones = c.ones-ones.result in
-    all_rows (is_member (bordered (is_inside v.shape)) (bordered (seen_from v.shape at.stripe f))) (bordered (is_inside v.shape)) (at.word + 1) (at.stripe + 1) c.inside-limits.result (bit_not w64 c.seen_around-around.result.centre) c.members-candidates.result all
-    (is_reached (λ k. on all k && on ones k))
-    (c.members-candidates.ensures (bordered (seen_from v.shape at.stripe f)) (bordered (is_inside v.shape)) at.word at.stripe around c.inside-limits.ensures) c.inside-limits.ensures c.with_reached-all.ensures
-
-pub light_all-requires-clause-rows : goal.light_all-requires-clause-rows
-light_all-requires-clause-rows c =
-    let v = c.args.block.now in
-    let at = c.args.spot in
-    let f = lit_at v (moment_at v.shape 0 at.word at.stripe 0) in
-    let around = c.seen_around-around.ensures f c.requires.flagged.lit in
-    let all = c.with_reached-all.result in
-    let ones = c.ones-ones.result in
-    some_rows all ones
-    (all_rows (is_member (bordered (is_inside v.shape)) (bordered (seen_from v.shape at.stripe f))) (bordered (is_inside v.shape)) (at.word + 1) (at.stripe + 1) c.inside-limits.result (bit_not w64 c.seen_around-around.result.centre) c.members-candidates.result all
-    (is_reached (λ k. on all k && on ones k))
-    (c.members-candidates.ensures (bordered (seen_from v.shape at.stripe f)) (bordered (is_inside v.shape)) at.word at.stripe around c.inside-limits.ensures) c.inside-limits.ensures c.with_reached-all.ensures)
-
 pub loop-left-init : goal.loop-left-init
-loop-left-init c =
+loop-left-init g c =
     let v = c.args.block.now in
     let at = c.args.spot in
     let f = lit_at v (moment_at v.shape 0 at.word at.stripe 0) in
-    let around = c.seen_around-around.ensures f c.requires.flagged.lit in
+    let around = c.seen_among-around.ensures f c.requires.flagged.lit in
     let all = c.with_reached-all.result in
     let n = c.list.inside.count in
     let made = c.in_ok-make_room.ensures in
@@ -82,39 +58,39 @@ loop-left-init c =
       listing = subst (λ ds. Listing v at c.args.list.now ds c.inside-limits.result c.ones-ones.result all c.decision_bytes-told.result.bits c.decision_bytes-told.result.signs all)
           (sym (told_at c.list.inside.bytes.items bytes slice n c.args.list.now c.list.view_is made.told c.deref_mut.ensures.value))
           (record {
-            around = c.seen_around-around.result;
+            around = c.seen_among-around.result;
             fits = omega arith;
-            foreseen = foreseen_none v at c.args.list.now c.seen_around-around.result c.inside-limits.result c.ones-ones.result all c.members-candidates.result c.requires.spot.stripe
+            foreseen = foreseen_none v at c.args.list.now c.seen_among-around.result c.inside-limits.result c.ones-ones.result all c.members-candidates.result c.requires.spot.stripe
                 (omega arith) (omega arith) around
                 (c.members-candidates.ensures (bordered (seen_from v.shape at.stripe f)) (bordered (is_inside v.shape)) at.word at.stripe around c.inside-limits.ensures)
                 c.with_reached-all.ensures;
-            bits_are = bits_spelled v at c.seen_around-around.result (bit_or c.seen_around-around.result.centre (bit_and all c.ones-ones.result)) c.ones-ones.result c.decision_bytes-told.result.bits c.ones-ones.ensures c.decision_bytes-told.ensures.bits;
-            signs_are = signs_spelled v at c.seen_around-around.result c.seen_around-signs.result (bit_or c.seen_around-around.result.centre (bit_and all c.ones-ones.result)) c.decision_bytes-told.result.signs
-                (c.seen_around-signs.ensures (negative_in v) v.signs) c.decision_bytes-told.ensures.signs;
+            bits_are = bits_spelled v at c.seen_among-around.result (bit_or c.seen_among-around.result.centre (bit_and all c.ones-ones.result)) c.ones-ones.result c.decision_bytes-told.result.bits c.ones-ones.ensures c.decision_bytes-told.ensures.bits;
+            signs_are = signs_spelled v at c.seen_among-around.result c.seen_among-signs.result (bit_or c.seen_among-around.result.centre (bit_and all c.ones-ones.result)) c.decision_bytes-told.result.signs
+                (c.seen_among-signs.ensures (negative_in v) v.signs) c.decision_bytes-told.ensures.signs;
           });
       room = sheet_at bytes slice (n + 136) (n + 2 * (64 - trailing_zeros w64 all)) c.deref_mut.ensures.value made.room (omega arith);
     }
 
 pub loop-left-smaller : goal.loop-left-smaller
-loop-left-smaller c = sooner_zero c.loop-left.left (omega arith) (omega arith)
+loop-left-smaller g c = sooner_zero c.loop-left.left (omega arith) (omega arith)
 
 pub byte_in-bit-requires-clause-within : goal.byte_in-bit-requires-clause-within
-byte_in-bit-requires-clause-within c =
+byte_in-bit-requires-clause-within g c =
     let l = c.loop-left in
     (listing_next c.args.block.now c.args.spot c.args.list.now (told l.bytes l.count) c.inside-limits.result c.ones-ones.result c.with_reached-all.result c.decision_bytes-told.result.bits c.decision_bytes-told.result.signs l.left l.invariant.listing (omega arith) (omega arith)).within
 
 pub byte_in-bit-requires-clause-on_row : goal.byte_in-bit-requires-clause-on_row
-byte_in-bit-requires-clause-on_row c =
+byte_in-bit-requires-clause-on_row g c =
     let l = c.loop-left in
     (listing_next c.args.block.now c.args.spot c.args.list.now (told l.bytes l.count) c.inside-limits.result c.ones-ones.result c.with_reached-all.result c.decision_bytes-told.result.bits c.decision_bytes-told.result.signs l.left l.invariant.listing (omega arith) (omega arith)).on_row
 
 pub byte_in-sign-requires-clause-on_row : goal.byte_in-sign-requires-clause-on_row
-byte_in-sign-requires-clause-on_row c =
+byte_in-sign-requires-clause-on_row g c =
     let l = c.loop-left in
     (listing_next c.args.block.now c.args.spot c.args.list.now (told l.bytes l.count) c.inside-limits.result c.ones-ones.result c.with_reached-all.result c.decision_bytes-told.result.bits c.decision_bytes-told.result.signs l.left l.invariant.listing (omega arith) (omega arith)).on_row
 
 pub write_new-count-requires-clause-bit : goal.write_new-count-requires-clause-bit
-write_new-count-requires-clause-bit c =
+write_new-count-requires-clause-bit g c =
     let l = c.loop-left in
     let place = listing_next c.args.block.now c.args.spot c.args.list.now (told l.bytes l.count) c.inside-limits.result c.ones-ones.result c.with_reached-all.result c.decision_bytes-told.result.bits c.decision_bytes-told.result.signs l.left l.invariant.listing (omega arith) (omega arith) in
     let e = c.byte_in-bit.ensures in
@@ -122,7 +98,7 @@ write_new-count-requires-clause-bit c =
     omega (arith, e, small)
 
 pub write_new-count-requires-clause-sign : goal.write_new-count-requires-clause-sign
-write_new-count-requires-clause-sign c =
+write_new-count-requires-clause-sign g c =
     let l = c.loop-left in
     let place = listing_next c.args.block.now c.args.spot c.args.list.now (told l.bytes l.count) c.inside-limits.result c.ones-ones.result c.with_reached-all.result c.decision_bytes-told.result.bits c.decision_bytes-told.result.signs l.left l.invariant.listing (omega arith) (omega arith) in
     let e = c.byte_in-sign.ensures in
@@ -130,13 +106,13 @@ write_new-count-requires-clause-sign c =
     omega (arith, e, small)
 
 pub write_new-count-requires-clause-room : goal.write_new-count-requires-clause-room
-write_new-count-requires-clause-room c =
+write_new-count-requires-clause-room g c =
     let l = c.loop-left in
     let less = sooner_zero l.left (omega arith) (omega arith) in
     sheet_less l.bytes (l.count + 2 * (64 - trailing_zeros w64 l.left)) (l.count + 2) l.invariant.room (omega (arith, less))
 
 pub loop-left-preserved : goal.loop-left-preserved
-loop-left-preserved c =
+loop-left-preserved g c =
     let l = c.loop-left in
     let v = c.args.block.now in
     let at = c.args.spot in
@@ -154,13 +130,13 @@ loop-left-preserved c =
     }
 
 pub invariant_of-list-2 : goal.invariant_of-list-2
-invariant_of-list-2 c =
+invariant_of-list-2 g c =
     let l = c.loop-left in
     let vector = c.make_room.new.bytes in
     sheet_whole vector.items l.bytes vector.len l.count (sheet_less l.bytes (l.count + 2 * (64 - trailing_zeros w64 l.left)) l.count l.invariant.room (omega arith)) (omega arith)
 
 pub returns-clause-flagged : goal.returns-clause-flagged
-returns-clause-flagged c =
+returns-clause-flagged g c =
     let l = c.loop-left in
     let v = c.args.block.now in
     let end = listing_all v c.args.spot c.args.list.now (told l.bytes l.count) c.inside-limits.result c.ones-ones.result c.with_reached-all.result c.decision_bytes-told.result.bits c.decision_bytes-told.result.signs l.left l.invariant.listing (omega arith) in
@@ -169,9 +145,56 @@ returns-clause-flagged c =
     (λ f drawn. subst (λ ws. IsDrawn v.shape (with_word f c.args.spot.word c.args.spot.stripe c.with_reached-all.result) ws) (sym c.light_all.ensures.visited) (c.visit_all.ensures.visited f drawn))
 
 pub returns-clause-listed : goal.returns-clause-listed
-returns-clause-listed c =
+returns-clause-listed g c =
     let l = c.loop-left in
     let vector = c.make_room.new.bytes in
     told_whole vector.items l.bytes vector.len l.count (omega arith)
     ∙ told_all c.args.block.now 0 c.args.spot c.args.list.now (told l.bytes l.count)
     (listing_all c.args.block.now c.args.spot c.args.list.now (told l.bytes l.count) c.inside-limits.result c.ones-ones.result c.with_reached-all.result c.decision_bytes-told.result.bits c.decision_bytes-told.result.signs l.left l.invariant.listing (omega arith)).0
+
+pub visit_all-requires : goal.visit_all-requires
+visit_all-requires g c = (
+  flags_fit g.row.N c.args.flags.now.small,
+  (
+    c.args.block.now.sized,
+    (
+      c.requires.room,
+      (
+        c.requires.spot,
+        let v = c.args.block.now in
+            let at = c.args.spot in
+            let f = lit_at v (moment_at v.shape 0 at.word at.stripe 0) in
+            let around = c.seen_among-around.ensures f c.requires.flagged.lit in
+            let all = c.with_reached-all.result in
+            let ones = c.ones-ones.result in
+            all_rows (is_member (bordered (is_inside v.shape)) (bordered (seen_from v.shape at.stripe f))) (bordered (is_inside v.shape)) (at.word + 1) (at.stripe + 1) c.inside-limits.result (bit_not w64 c.seen_among-around.result.centre) c.members-candidates.result all
+            (is_reached (λ k. on all k && on ones k))
+            (c.members-candidates.ensures (bordered (seen_from v.shape at.stripe f)) (bordered (is_inside v.shape)) at.word at.stripe around c.inside-limits.ensures) c.inside-limits.ensures c.with_reached-all.ensures,
+      ),
+    ),
+  ),
+)
+
+pub light_all-requires : goal.light_all-requires
+light_all-requires g c = (
+  flags_fit g.row.N c.args.flags.now.small,
+  (
+    c.args.block.now.sized,
+    (
+      c.requires.room,
+      (
+        c.requires.spot,
+        let v = c.args.block.now in
+            let at = c.args.spot in
+            let f = lit_at v (moment_at v.shape 0 at.word at.stripe 0) in
+            let around = c.seen_among-around.ensures f c.requires.flagged.lit in
+            let all = c.with_reached-all.result in
+            let ones = c.ones-ones.result in
+            some_rows all ones
+            (all_rows (is_member (bordered (is_inside v.shape)) (bordered (seen_from v.shape at.stripe f))) (bordered (is_inside v.shape)) (at.word + 1) (at.stripe + 1) c.inside-limits.result (bit_not w64 c.seen_among-around.result.centre) c.members-candidates.result all
+            (is_reached (λ k. on all k && on ones k))
+            (c.members-candidates.ensures (bordered (seen_from v.shape at.stripe f)) (bordered (is_inside v.shape)) at.word at.stripe around c.inside-limits.ensures) c.inside-limits.ensures c.with_reached-all.ensures),
+      ),
+    ),
+  ),
+)

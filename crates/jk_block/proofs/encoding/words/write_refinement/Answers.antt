@@ -15,10 +15,10 @@ use Rattle.jk_block.proofs.encoding.Slicing.{one_at}
 use Rattle.jk_block.proofs.encoding.words.write_refinement.Goals as goal
 
 pub returns-then-candidates-eq0-clause-flagged : goal.returns-then-candidates-eq0-clause-flagged
-returns-then-candidates-eq0-clause-flagged c = still_flagged c.args.block.now c.args.spot c.args.flags.now c.requires.spot.stripe c.requires.flagged
+returns-then-candidates-eq0-clause-flagged g c = still_flagged c.args.block.now c.args.spot c.args.flags.now c.requires.spot.stripe c.requires.flagged
 
 pub returns-then-candidates-eq0-clause-listed : goal.returns-then-candidates-eq0-clause-listed
-returns-then-candidates-eq0-clause-listed c =
+returns-then-candidates-eq0-clause-listed g c =
     let v = c.args.block.now in
     let at = c.args.spot in
     let word = c.requires.spot.word in
@@ -27,12 +27,12 @@ returns-then-candidates-eq0-clause-listed c =
     (c.older-candidates.ensures (moment_at v.shape 1 at.word at.stripe 0) c.requires.flagged) c.if-candidates-eq0.true)
 
 pub loop-candidates-init : goal.loop-candidates-init
-loop-candidates-init c =
+loop-candidates-init g c =
     let v = c.args.block.now in
     let at = c.args.spot in
     let t = moment_at v.shape 1 at.word at.stripe 0 in
     let f = lit_at v t in
-    let around = c.seen_around-around.ensures f c.requires.flagged.lit in
+    let around = c.seen_among-around.ensures f c.requires.flagged.lit in
     let word = c.requires.spot.word in
     let n = c.list.inside.count in
     let made = c.in_ok-make_room.ensures in
@@ -48,10 +48,10 @@ loop-candidates-init c =
     }
 
 pub loop-candidates-smaller : goal.loop-candidates-smaller
-loop-candidates-smaller c = sooner_zero c.loop-candidates.candidates (omega arith) (omega arith)
+loop-candidates-smaller g c = sooner_zero c.loop-candidates.candidates (omega arith) (omega arith)
 
 pub loop-candidates-preserved : goal.loop-candidates-preserved
-loop-candidates-preserved c =
+loop-candidates-preserved g c =
     let l = c.loop-candidates in
     let v = c.args.block.now in
     let at = c.args.spot in
@@ -70,10 +70,10 @@ loop-candidates-preserved c =
     }
 
 pub returns-clause-flagged : goal.returns-clause-flagged
-returns-clause-flagged c = still_flagged c.args.block.now c.args.spot c.args.flags.now c.requires.spot.stripe c.requires.flagged
+returns-clause-flagged g c = still_flagged c.args.block.now c.args.spot c.args.flags.now c.requires.spot.stripe c.requires.flagged
 
 pub returns-clause-listed : goal.returns-clause-listed
-returns-clause-listed c =
+returns-clause-listed g c =
     let l = c.loop-candidates in
     let vector = c.make_room.new.bytes in
     told_whole vector.items l.bytes vector.len l.count (omega arith)

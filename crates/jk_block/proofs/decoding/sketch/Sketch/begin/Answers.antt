@@ -5,7 +5,7 @@ use Rattle.jk_block.proofs.WordDrawing.{flagged_dark}
 use Rattle.jk_block.proofs.decoding.sketch.Sketch.begin.Goals as goal
 
 pub returns-clause-begun : goal.returns-clause-begun
-returns-clause-begun c = λ coder.
+returns-clause-begun g c = λ coder.
     let k = c.args.self.now in
     let s = k.shape in
     progress_same (magnitude_of s k.planes k.bits.items) (magnitude_of s k.planes k.bits.items) (flagged s k.negative) (flagged s k.negative) (flagged s c.unmark.new.words) (λ _ _. false) coder

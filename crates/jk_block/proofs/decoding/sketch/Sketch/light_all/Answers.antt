@@ -8,7 +8,7 @@ use Rattle.jk_block.proofs.decoding.Writing.{Puts, plane_room, new_word, lit_wor
 use Rattle.jk_block.proofs.decoding.sketch.Sketch.light_all.Goals as goal
 
 pub index_mut-requires : goal.index_mut-requires
-index_mut-requires c =
+index_mut-requires g c =
     let k = c.args.self.now in
     let at = c.args.spot in
     let p = c.word_place-at.result in
@@ -18,7 +18,7 @@ index_mut-requires c =
     omega (arith, room)
 
 pub invariant_of-self : goal.invariant_of-self
-invariant_of-self c =
+invariant_of-self g c =
     let k = c.args.self.now in
     let s = k.shape in
     let at = c.args.spot in
@@ -33,6 +33,8 @@ invariant_of-self c =
     let h = c.requires.held.held in
     record {
       sized = k.sized;
+      wide = k.wide;
+      small = k.small;
       few = k.few;
       room = length-set k.bits.items q (bit_or c.index_mut.result.now (new_word k sight limits p)) ∙ k.room;
       lit = subst (λ (old : ℕ). IsDrawn s (lit_of s (magnitude_of s k.planes (set k.bits.items q (bit_or old (new_word k sight limits p))))) (set k.significant p (lit_word sight limits))) (sym read)
@@ -41,7 +43,7 @@ invariant_of-self c =
     }
 
 pub returns-clause-lit : goal.returns-clause-lit
-returns-clause-lit c = λ d h.
+returns-clause-lit g c = λ d h.
     let k = c.args.self.now in
     let s = k.shape in
     let at = c.args.spot in

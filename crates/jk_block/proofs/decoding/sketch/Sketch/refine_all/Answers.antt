@@ -11,7 +11,7 @@ use Rattle.jk_block.proofs.decoding.Writing.{Puts, plane_room, refined_magnitude
 use Rattle.jk_block.proofs.decoding.sketch.Sketch.refine_all.Goals as goal
 
 pub index-requires : goal.index-requires
-index-requires c =
+index-requires g c =
     let k = c.args.self.now in
     let at = c.args.spot in
     let p = c.word_place-at.result in
@@ -21,7 +21,7 @@ index-requires c =
     omega (arith, room)
 
 pub index_mut-requires : goal.index_mut-requires
-index_mut-requires c =
+index_mut-requires g c =
     let k = c.args.self.now in
     let at = c.args.spot in
     let p = c.word_place-at.result in
@@ -31,7 +31,7 @@ index_mut-requires c =
     omega (arith, room)
 
 pub invariant_of-self : goal.invariant_of-self
-invariant_of-self c =
+invariant_of-self g c =
     let k = c.args.self.now in
     let s = k.shape in
     let at = c.args.spot in
@@ -44,6 +44,8 @@ invariant_of-self c =
     let read : c.index.result.now ≡ get_or k.bits.items q 0 = get_or_read_under k.bits.items q (length k.bits.items) c.index.result.now 0 c.index.ensures room refl in
     record {
       sized = k.sized;
+      wide = k.wide;
+      small = k.small;
       few = k.few;
       room = length-set k.bits.items q (bit_or (bit_and c.index.result.now (bit_not w64 places)) ones) ∙ k.room;
       lit = subst (λ (old : ℕ). IsDrawn s (lit_of s (magnitude_of s k.planes (set k.bits.items q (bit_or (bit_and old (bit_not w64 places)) ones)))) k.significant) (sym read)
@@ -52,7 +54,7 @@ invariant_of-self c =
     }
 
 pub returns-clause-refined : goal.returns-clause-refined
-returns-clause-refined c =
+returns-clause-refined g c =
     let k = c.args.self.now in
     let s = k.shape in
     let at = c.args.spot in

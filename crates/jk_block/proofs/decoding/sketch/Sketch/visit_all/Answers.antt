@@ -6,7 +6,7 @@ use Rattle.jk_block.proofs.decoding.Writing.{marked_words}
 use Rattle.jk_block.proofs.decoding.sketch.Sketch.visit_all.Goals as goal
 
 pub returns-clause-visited : goal.returns-clause-visited
-returns-clause-visited c =
+returns-clause-visited g c =
     let k = c.args.self.now in
     let s = k.shape in
     let at = c.args.spot in

@@ -9,10 +9,11 @@ use Rattle.jk_block.specs.Reading.{Progress, coefficients, block_at}
 use Rattle.jk_block.specs.decoding.Sketches.{draft_of, progress}
 use Rattle.jk_block.proofs.decoding.Taking.{from_blank}
 use Rattle.jk_block.proofs.Meanings.{block_found, block_only, block_is, block_faults, block_refused, values_small, passes_small}
-use Rattle.jk_block.proofs.decoding.decode.Goals as goal
+use Rattle.jk_block.proofs.Sizes.{sketch_fits}
+use Rattle.jk_block.proofs.decoding.decode_among.Goals as goal
 
 pub returns-then-passes-saturating_sub-clause-exact : goal.returns-then-passes-saturating_sub-clause-exact
-returns-then-passes-saturating_sub-clause-exact c = block_refused c.args.shape c.args.planes c.args.passes c.args.segment.now (omega arith)
+returns-then-passes-saturating_sub-clause-exact g c = block_refused c.args.shape c.args.planes c.args.passes c.args.segment.now (omega arith)
 
 refused : Fault → Result Progress Fault
 refused e = Err e
@@ -22,7 +23,7 @@ listed e = Err e
 
 pub returns-in_err-read_passes-clause-exact : goal.returns-in_err-read_passes-clause-exact
 unfolding refused
-returns-in_err-read_passes-clause-exact c =
+returns-in_err-read_passes-clause-exact g c =
     let p = err_from_is_err_and c.from_residual-in_err-read_passes.result c.from_residual-in_err-read_passes.ensures.1 in
     let s = c.args.shape in
     let k = draft_of c.new-sketch.result in
@@ -41,7 +42,7 @@ differ vs e r f g = let h : done vs ≡ listed e = sym f ∙ g in apart vs e h
 
 pub returns-in_err-read_passes-clause-only : goal.returns-in_err-read_passes-clause-only
 unfolding refused
-returns-in_err-read_passes-clause-only c =
+returns-in_err-read_passes-clause-only g c =
     let s = c.args.shape in
     let k = draft_of c.new-sketch.result in
     let bytes = c.args.segment.now in
@@ -51,7 +52,7 @@ returns-in_err-read_passes-clause-only c =
     λ q m. absurd (let f = block_only s c.args.planes c.args.passes bytes q m in differ (values_of s q) e (block_at s c.args.planes c.args.passes bytes) f is)
 
 pub returns-clause-exact : goal.returns-clause-exact
-returns-clause-exact c =
+returns-clause-exact g c =
     let s = c.args.shape in
     let k = draft_of c.new-sketch.result in
     let bytes = c.args.segment.now in
@@ -63,7 +64,7 @@ returns-clause-exact c =
     ∙ ap (λ (vs : List ℤ). done vs) (ap (λ (s : BlockShape). values_of s (coefficients z)) (sym shape) ∙ sym (c.in_ok-values.ensures.values a.next))
 
 pub returns-clause-found : goal.returns-clause-found
-returns-clause-found c =
+returns-clause-found g c =
     let s = c.args.shape in
     let k = draft_of c.new-sketch.result in
     let bytes = c.args.segment.now in
@@ -77,7 +78,7 @@ returns-clause-found c =
     block_found s c.args.planes c.args.passes bytes c.in_ok-values.field-0.items exact
 
 pub returns-clause-only : goal.returns-clause-only
-returns-clause-only c =
+returns-clause-only g c =
     let s = c.args.shape in
     let k = draft_of c.new-sketch.result in
     let bytes = c.args.segment.now in
@@ -91,7 +92,7 @@ returns-clause-only c =
     λ q m. ok_is c.in_ok-values.field-0.items (values_of s q) (sym exact ∙ block_only s c.args.planes c.args.passes bytes q m)
 
 pub returns-clause-small : goal.returns-clause-small
-returns-clause-small c =
+returns-clause-small g c =
     let s = c.args.shape in
     let k = draft_of c.new-sketch.result in
     let bytes = c.args.segment.now in
@@ -102,3 +103,12 @@ returns-clause-small c =
     let items : c.in_ok-values.field-0.items ≡ values_of s (coefficients z) = c.in_ok-values.ensures.values a.next ∙ ap (λ (s : BlockShape). values_of s (coefficients z)) shape in
     subst (λ (vs : List ℤ). (k : ℕ) (d : ℤ) → k < length vs → unsigned_abs (get_or vs k d) < 2 ^ c.args.planes) (sym items)
     (λ k d l. values_small s z (2 ^ c.args.planes) k d (passes_small bytes s c.args.planes c.args.passes z (omega arith) is) l)
+
+pub new-sketch-requires : goal.new-sketch-requires
+new-sketch-requires g c = (
+  sketch_fits g.row.N c.requires.small,
+  (
+    record { wide = c.requires.wide; narrow = c.requires.narrow; high = c.requires.high; low = c.requires.low; area = c.requires.area },
+    (c.requires.room, (c.requires.small, (c.requires.planes, c.in_ok-no_bits.ensures.items))),
+  ),
+)
