@@ -1,17 +1,26 @@
 -- The least of the streams' next packets is the next packet of all, and what is left without it.
-use Rattle.std.proofs.Common.{◌≡◌, ℕ, ◌+◌, ◌*◌, ◌^◌, ◌<◌, ◌≤◌, ◌⊎◌, inl, inr, List, [], ◌∷◌, map, length, drop, take, set, get_or, length-set, refl, ap, sym, ◌∙◌, subst, arith}
+use Rattle.std.proofs.Common.{◌≡◌, ℕ, ◌+◌, ◌*◌, ◌^◌, ◌<◌, ◌≤◌, ◌⊎◌, inl, inr, List, [], ◌∷◌, map, length, drop, set, get_or, length-set, refl, ap, sym, ◌∙◌, subst, arith}
 use Rattle.std.specs.Prelude.{Contains, Some, None, slice_get}
 use Rattle.std.specs.Ordering.{nat_cmp}
 use Rattle.std.specs.List.Sorted.{IsStrictlySortedBy}
-use Rattle.std.proofs.lemmas.Bool.{cases_eq, cases_lt}
-use Rattle.std.proofs.lemmas.List.{get_or-set_same, get_or-set_other, get_or-take, length-take, length-take-le}
+use Rattle.std.proofs.lemmas.Bool.{cases_eq}
+use Rattle.std.proofs.lemmas.List.{get_or-set_same, get_or-set_other}
 use Rattle.jk_geom.specs.declared.shape.PacketName.{PacketName}
 use Rattle.jk_order.specs.declared.stream.Stream.{Stream}
 use Rattle.jk_order.specs.declared.stream.Frame.{Frame}
 use Rattle.jk_order.specs.Streams.{rank, finished, IsStream, IsLive, IsWalk, walk, Awaits, Left, rank_of, index_of, stream_at, no_stream, next_name}
+use Rattle.jk_order.specs.Leading.{Leads}
 use Rattle.jk_order.proofs.Growth.{rank_below}
 use Rattle.jk_order.proofs.Successors.{IsNext, IsLast, next_stream}
 use Rattle.jk_order.proofs.Ascending.{less_than, first_in, later_in, in_cases, first_below, rest_up, least_first}
+
+-- the rank of the stream that leads is the least
+pub all_least : (hs : List ℕ) (i others : ℕ) {n : ℕ} → Leads n hs i others → (j : ℕ) → j < 44 → get_or hs i 0 ≤ get_or hs j 0
+all_least hs i others l j low = by (cases_eq j i)
+  where
+    by : (j ≡ i) ⊎ (j ≡ i → ⊥) → get_or hs i 0 ≤ get_or hs j 0
+    by (inl e) = subst (λ j. get_or hs i 0 ≤ get_or hs j 0) (sym e) (omega arith)
+    by (inr ne) = let a = l.least in let b = l.rest j low ne in omega (arith, a, b)
 
 -- The stream i moves on: to the least rank above its head, and the others stay.
 pub record MovesOn (f : Frame) (ss : List Stream) (hs : List ℕ) (ts : List Stream) (gs : List ℕ) (i : ℕ) : Type 0 where
@@ -174,27 +183,6 @@ left_none f ss hs i w end least (n ∷ ns) l =
     let first = least (index_of n) j in
     let due = a.due in
     absurd (omega arith)
-
--- the least of the streams that are looked at is the least of all
-pub least_near : (hs : List ℕ) (n i : ℕ) → i < length (take n hs) → i < n
-least_near hs n i h = let m = length-take n hs in omega arith
-
-pub least_all : (hs : List ℕ) (n i : ℕ) → length hs ≡ 44 → n ≤ 44 → i < length (take n hs) → get_or hs i 0 < 2 ^ 128
-    → ((j : ℕ) → n ≤ j → j < 44 → get_or hs j 0 ≡ finished)
-    → ((j : ℕ) → j < length (take n hs) → get_or (take n hs) i 0 ≤ get_or (take n hs) j 0)
-    → (j : ℕ) → j < 44 → get_or hs i 0 ≤ get_or hs j 0
-least_all hs n i whole few h top beyond least j low = by (cases_lt j n)
-  where
-    long : length (take n hs) ≡ n
-    long = length-take-le n hs (omega arith)
-
-    by : (j < n) ⊎ (n ≤ j) → get_or hs i 0 ≤ get_or hs j 0
-    by (inl close) =
-        let at_i : get_or (take n hs) i 0 ≡ get_or hs i 0 = get_or-take n hs i 0 (let l = long in omega arith) in
-        let at_j : get_or (take n hs) j 0 ≡ get_or hs j 0 = get_or-take n hs j 0 close in
-        let first = least j (let l = long in omega arith) in
-        omega arith
-    by (inr far) = let end = beyond j far low in omega arith
 
 -- the streams where one of them moved on
 module _ (f : Frame) (ss : List Stream) (hs : List ℕ) (i : ℕ) (w : IsWalk (walk f ss hs)) (low : i < 44) (near : i < f.streams) (some : get_or hs i 0 ≡ finished → ⊥) where

@@ -3,3 +3,4 @@ pub use Rattle.jk_geom.specs.Precincts
 pub mod PacketOrder
 pub mod Streams
 pub mod Examples
+pub mod Leading

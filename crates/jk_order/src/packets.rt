@@ -6,6 +6,7 @@ ghost use Rattle.jk_math.specs.declared.fault.Fault.TheVariants.{Limit};
 ghost use Rattle.jk_geom.specs.TileShapes.{IsTileShape};
 ghost use Rattle.jk_order.specs.PacketOrder.{packet_count, order};
 ghost use Rattle.jk_order.specs.Streams.{IsWalk, Left, walk};
+ghost use Rattle.jk_order.specs.Leading.{Leads};
 
 use crate::count::packet_count;
 use crate::opening::{first_rank, shared, stream_number, without_packets};
@@ -17,12 +18,21 @@ use std::marker::Model;
 /// Stands for the rank of a stream's next packet where it has none.
 const FINISHED: u128 = u128::MAX;
 
+/// The stream whose next packet has the least rank, and the least rank of the others. While its
+/// ranks stay below that, no other stream is looked at.
+#[derive(Clone, Copy, Debug)]
+struct Leader {
+    stream: usize,
+    others: u128,
+}
+
 /// The packets of a tile that are still to come.
 #[derive(Debug, Drop)]
 pub struct Packets {
     frame: Frame,
     streams: [Stream; 44],
     heads: [u128; 44],
+    leader: Leader,
 }
 
 impl Model for Packets {
@@ -32,47 +42,79 @@ impl Model for Packets {
 
     ghost view = { λ p. walk p.frame p.streams p.heads };
 
-    ghost invariant = { λ p. IsWalk (walk p.frame p.streams p.heads) };
+    ghost use Rattle.jk_order.specs.Leading.{Leads};
+
+    ghost invariant = { λ p. IsWalk (walk p.frame p.streams p.heads)
+        × Leads p.frame.streams p.heads p.leader.stream p.leader.others };
 }
 
-/// The place of the least number.
-fn least_of(heads: &[u128]) -> usize
+/// The place of the least number, and the least of the others.
+fn least_of(heads: &[u128]) -> Leader
     requires { 0 < length heads.now }
-    ensures within { result < length heads.now }
-    ensures least { (i : ℕ) → i < length heads.now → slice_index heads.now result ≤ slice_index heads.now i }
+    ensures within { result.stream < length heads.now }
+    ensures least { slice_index heads.now result.stream ≤ result.others }
+    ensures others { (i : ℕ) → i < length heads.now → (i ≡ result.stream → ⊥)
+        → result.others ≤ slice_index heads.now i }
 {
     let mut least = 0;
     let mut best = heads[0];
+    let mut others = FINISHED;
     for i in 1..heads.len() {
         if heads[i] < best {
+            others = best;
             best = heads[i];
             least = i;
+        } else if heads[i] < others {
+            others = heads[i];
         }
     }
-    least
+    Leader {
+        stream: least,
+        others,
+    }
 }
 
 /// The stream with the least rank of a next packet, where only the first `streams` have packets.
-#[tactic(auto, using(crate::proofs::Leaving::least_near, crate::proofs::Leaving::least_all))]
-fn least(heads: &[u128; 44], streams: usize) -> usize
+fn least(heads: &[u128; 44], streams: usize) -> Leader
     requires some { 0 < streams }
     requires few { streams ≤ 44 }
     requires beyond { (i : ℕ) → streams ≤ i → i < 44 → slice_index heads.now i ≡ 2 ^ 128 - 1 }
-    ensures near { result < streams }
-    ensures within { result < 44 }
-    ensures least { (i : ℕ) → i < 44 → slice_index heads.now result ≤ slice_index heads.now i }
+    ensures { Leads streams heads.now result.stream result.others }
 {
     least_of(&heads[..streams])
 }
 
+/// The stream that leads where one has moved on that has led.
+fn leading(leader: Leader, heads: &[u128; 44], streams: usize) -> Leader
+    requires some { 0 < streams }
+    requires few { streams ≤ 44 }
+    requires beyond { (i : ℕ) → streams ≤ i → i < 44 → slice_index heads.now i ≡ 2 ^ 128 - 1 }
+    requires near { leader.stream < streams }
+    requires others { (i : ℕ) → i < 44 → (i ≡ leader.stream → ⊥) → leader.others ≤ slice_index heads.now i }
+    ensures { Leads streams heads.now result.stream result.others }
+{
+    if heads[leader.stream] <= leader.others {
+        leader
+    } else {
+        least(heads, streams)
+    }
+}
+
 /// The next packet of all streams, which its stream then has passed.
-fn take(frame: &Frame, streams: &mut [Stream; 44], heads: &mut [u128; 44]) -> Option<PacketName>
-    requires { IsWalk (walk frame.now streams.old heads.old) }
+fn take(
+    frame: &Frame,
+    streams: &mut [Stream; 44],
+    heads: &mut [u128; 44],
+    leader: &mut Leader,
+) -> Option<PacketName>
+    requires walk { IsWalk (walk frame.now streams.old heads.old) }
+    requires leads { Leads frame.now.streams heads.old leader.old.stream leader.old.others }
     ensures kept { IsWalk (walk frame.now streams.new heads.new) }
+    ensures leads { Leads frame.now.streams heads.new leader.new.stream leader.new.others }
     ensures gives { (names : List PacketName) → Left (walk frame.now streams.old heads.old) names
         → (result ≡ slice_get names 0) × Left (walk frame.now streams.new heads.new) (drop 1 names) }
 {
-    let first = least(heads, frame.streams);
+    let first = leader.stream;
     if heads[first] == FINISHED {
         return None;
     }
@@ -81,8 +123,12 @@ fn take(frame: &Frame, streams: &mut [Stream; 44], heads: &mut [u128; 44]) -> Op
         Some(next) => {
             streams[first] = next;
             heads[first] = next.rank(frame);
+            *leader = leading(*leader, heads, frame.streams);
         }
-        None => heads[first] = FINISHED,
+        None => {
+            heads[first] = FINISHED;
+            *leader = leading(*leader, heads, frame.streams);
+        }
     }
     Some(PacketName {
         layer: stream.layer,
@@ -113,10 +159,12 @@ impl Packets {
             heads[i] = first_rank(&frame, &stream, i);
             streams[i] = stream;
         }
+        let leader = least(&heads, frame.streams);
         Ok(Packets {
             frame,
             streams,
             heads,
+            leader,
         })
     }
 
@@ -125,6 +173,11 @@ impl Packets {
         ensures { (names : List PacketName) → Left self.old names
             → (result ≡ slice_get names 0) × Left self.new (drop 1 names) }
     {
-        take(&self.frame, &mut self.streams, &mut self.heads)
+        take(
+            &self.frame,
+            &mut self.streams,
+            &mut self.heads,
+            &mut self.leader,
+        )
     }
 }
