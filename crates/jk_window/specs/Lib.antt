@@ -8,3 +8,4 @@ pub mod Planning
 pub mod Again
 pub mod Fronts
 pub mod Examples
+pub mod Judging

@@ -1,16 +1,15 @@
 //! What a plan takes of the packets of a tile.
 
-ghost use Rattle.std.specs.Prelude.{◌≡◌, ◌+◌, ◌-◌, ◌≤◌, ◌++◌, ◌∷◌, ℕ, List, length, IfOk, IfErr, OnOk, not, ◌&&◌};
+ghost use Rattle.std.specs.Prelude.{◌≡◌, ◌+◌, ◌-◌, ◌≤◌, ◌++◌, ◌∷◌, ℕ, List, length, IfOk, IfErr, OnOk};
+ghost use Rattle.std.specs.Prelude.{IfSome, IsTrue, ◌↔◌};
 ghost use Rattle.std.specs.List.{AllByRecursion, AllZip, zip};
 ghost use Rattle.jk_math.specs.Memory.{IsMemory};
-ghost use Rattle.jk_geom.specs.Rectangles.{is_empty};
-ghost use Rattle.jk_geom.specs.TileShapes.{coding_of};
 ghost use Rattle.jk_order.specs.PacketOrder.{IsName};
 ghost use Rattle.jk_packet.specs.PacketText.{eph_text};
 ghost use Rattle.jk_walk.specs.Entries.{IsEntry};
 ghost use Rattle.jk_walk.specs.Sop.{sop_written};
-ghost use Rattle.jk_window.specs.Needs.{needs};
 ghost use Rattle.jk_window.specs.Cutting.{runs_at, wanted};
+ghost use Rattle.jk_window.specs.Judging.{is_needed_in, IsJudged};
 ghost use Rattle.jk_window.specs.Planning.{IsTileCut, IsRunPlan, IsBehind, tile_packet, tile_packet_size, run_from};
 
 use crate::need::needs;
@@ -40,9 +39,7 @@ pub(crate) struct TileCut<'a> {
 fn is_needed(tile: &TileCut<'_>, name: PacketName) -> bool
     requires cut { (file : ℕ) × IsTileCut file tile.now }
     requires name { IsName tile.now.shape.now name }
-    ensures { result ≡ (not (is_empty tile.now.top) && needs tile.now.shape.now.rect
-        (coding_of tile.now.shape.now.codings name.component) tile.now.top tile.now.reduce name.resolution
-        name.precinct) }
+    ensures { result ≡ is_needed_in tile.now name.component name.resolution name.precinct }
 {
     let shape = tile.shape;
     if is_empty(&tile.top) {
@@ -59,13 +56,67 @@ fn is_needed(tile: &TileCut<'_>, name: PacketName) -> bool
     )
 }
 
-/// Whether a packet is kept: its layer is one of the first, and the window needs its precinct.
-fn is_wanted(tile: &TileCut<'_>, name: PacketName) -> bool
+/// A precinct that was looked at, and whether the window needs it.
+#[derive(Clone, Copy)]
+pub(crate) struct Judged {
+    pub(crate) component: u8,
+    pub(crate) resolution: u8,
+    pub(crate) precinct: u32,
+    pub(crate) is_needed: bool,
+}
+
+/// Whether it is the precinct of a packet.
+fn is_of(judged: Judged, name: PacketName) -> bool
+    ensures { IsTrue result ↔ ((judged.component ≡ name.component) × (judged.resolution ≡ name.resolution)
+        × (judged.precinct ≡ name.precinct)) }
+{
+    judged.component == name.component
+        && judged.resolution == name.resolution
+        && judged.precinct == name.precinct
+}
+
+/// The precinct of a packet, which is the one that was looked at last for most packets.
+fn judge(tile: &TileCut<'_>, name: PacketName, last: Option<Judged>) -> Judged
     requires cut { (file : ℕ) × IsTileCut file tile.now }
     requires name { IsName tile.now.shape.now name }
-    ensures { result ≡ wanted tile.now.shape.now tile.now.top tile.now.reduce tile.now.layers name }
+    requires last { IfSome last (IsJudged tile.now) }
+    ensures judged { IsJudged tile.now result }
+    ensures own { result.is_needed ≡ is_needed_in tile.now name.component name.resolution name.precinct }
 {
-    (name.layer as u32) < tile.layers && is_needed(tile, name)
+    match last {
+        Some(judged) if is_of(judged, name) => judged,
+        _ => Judged {
+            component: name.component,
+            resolution: name.resolution,
+            precinct: name.precinct,
+            is_needed: is_needed(tile, name),
+        },
+    }
+}
+
+/// Whether the window needs the precinct of a packet, which is then the one that was looked at
+/// last.
+fn is_due(tile: &TileCut<'_>, name: PacketName, last: &mut Option<Judged>) -> bool
+    requires cut { (file : ℕ) × IsTileCut file tile.now }
+    requires name { IsName tile.now.shape.now name }
+    requires last { IfSome last.old (IsJudged tile.now) }
+    ensures last { IfSome last.new (IsJudged tile.now) }
+    ensures is { result ≡ is_needed_in tile.now name.component name.resolution name.precinct }
+{
+    let judged = judge(tile, name, *last);
+    *last = Some(judged);
+    judged.is_needed
+}
+
+/// Whether a packet is kept: its layer is one of the first, and the window needs its precinct.
+fn is_wanted(tile: &TileCut<'_>, name: PacketName, last: &mut Option<Judged>) -> bool
+    requires cut { (file : ℕ) × IsTileCut file tile.now }
+    requires name { IsName tile.now.shape.now name }
+    requires last { IfSome last.old (IsJudged tile.now) }
+    ensures last { IfSome last.new (IsJudged tile.now) }
+    ensures is { result ≡ wanted tile.now.shape.now tile.now.top tile.now.reduce tile.now.layers name }
+{
+    (name.layer as u32) < tile.layers && is_due(tile, name, last)
 }
 
 /// Writes the SOP marker segment of this counter (T.800 A.8.1), if there is one.
@@ -90,7 +141,7 @@ fn put_emptied(plan: &mut CutPlan, counter: Option<(u8, u8)>, eph: bool) -> Resu
     if eph {
         plan.write(&[0, 0xFF, 0x92])
     } else {
-        plan.write(&[0])
+        plan.write_byte(0)
     }
 }
 
@@ -99,16 +150,19 @@ fn plan_packet(
     tile: &TileCut<'_>,
     name: PacketName,
     entry: PacketEntry,
+    last: &mut Option<Judged>,
     plan: &mut CutPlan,
 ) -> Result<(), Fault>
     requires cut { IsTileCut plan.old.size tile.now }
+    requires last { IfSome last.old (IsJudged tile.now) }
     requires name { IsName tile.now.shape.now name }
     requires entry { IsEntry (plan.old.size - tile.now.start) entry }
     ensures ok { OnOk result (IsBehind plan.old plan.new
         (λ file. tile_packet tile.now file (name, entry)) (tile_packet_size tile.now (name, entry))) }
+    ensures last { IfSome last.new (IsJudged tile.now) }
     ensures err { IfErr result IsMemory }
 {
-    if is_wanted(tile, name) {
+    if is_wanted(tile, name, last) {
         plan.copy(tile.start + entry.start, tile.start + entry.end)
     } else {
         put_emptied(plan, entry.counter, tile.eph)
@@ -137,9 +191,10 @@ fn plan_run(
     let mut plan = CutPlan::new(alloc, size);
     let mut at = start;
     let mut i = next;
+    let mut last = None;
     while at < end && i < names.len() {
         let entry = entries[i];
-        plan_packet(tile, names[i], entry, &mut plan)?;
+        plan_packet(tile, names[i], entry, &mut last, &mut plan)?;
         at = entry.end;
         i += 1;
     }

@@ -1,6 +1,6 @@
 //! What the file of a window is made of.
 
-ghost use Rattle.std.specs.Prelude.{◌≡◌, ◌+◌, ◌-◌, ◌<◌, ◌≤◌, ◌^◌, ◌++◌, ℕ, List, [], length, min, OnOk, IfErr};
+ghost use Rattle.std.specs.Prelude.{◌≡◌, ◌+◌, ◌-◌, ◌<◌, ◌≤◌, ◌^◌, ◌++◌, ◌∷◌, ℕ, List, [], length, min, OnOk, IfErr};
 ghost use Rattle.std.specs.Prelude.{MatchOption};
 ghost use Rattle.jk_math.specs.Memory.{IsMemory};
 ghost use Rattle.jk_walk.specs.TilePackets.{slice_of};
@@ -158,6 +158,33 @@ impl CutPlan {
             self.push(0, 0)?;
         }
         self.write_last(bytes)
+    }
+
+    /// Writes a byte behind the last step.
+    fn write_byte_last(&mut self, byte: u8) -> Result<(), Fault>
+        requires some { 0 < length self.old.steps }
+        ensures ok { OnOk result (IsBehind self.old self.new (λ _. byte ∷ []) 1) }
+        ensures err { IfErr result IsMemory }
+    {
+        let last = self.steps.len() - 1;
+        let step = self.steps[last];
+        self.written.push(byte)?;
+        self.steps[last] = CutStep {
+            written: step.written + 1,
+            ..step
+        };
+        Ok(())
+    }
+
+    /// Writes a byte behind what is there.
+    pub(crate) fn write_byte(&mut self, byte: u8) -> Result<(), Fault>
+        ensures ok { OnOk result (IsBehind self.old self.new (λ _. byte ∷ []) 1) }
+        ensures err { IfErr result IsMemory }
+    {
+        if self.steps.is_empty() {
+            self.push(0, 0)?;
+        }
+        self.write_byte_last(byte)
     }
 
     /// Copies a stretch of the file behind what is there.

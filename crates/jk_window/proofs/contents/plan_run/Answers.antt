@@ -7,12 +7,14 @@ use Rattle.jk_window.proofs.contents.plan_run.Goals as goal
 use Rattle.jk_window.proofs.contents.plan_run.Goals.{then-loop-at-test+else-i-names, else-loop-at-test}
 
 pub loop-at-init : goal.loop-at-init
-loop-at-init c = running_starts c.args.size c.args.tile.now c.args.names.now c.args.next c.args.part.0 c.args.part.1 c.new-plan.result c.new-plan.ensures
+loop-at-init c = (running_starts c.args.size c.args.tile.now c.args.names.now c.args.next c.args.part.0 c.args.part.1 c.new-plan.result c.new-plan.ensures, tt)
 
 pub loop-at-preserved : goal.loop-at-preserved
-loop-at-preserved c =
-    running_more c.args.size c.args.tile.now c.args.names.now c.as_slice-entries.result.now c.args.next c.args.part.0 c.args.part.1 c.loop-at.plan c.plan_packet.new.plan c.loop-at.i c.loop-at.at _ _
-    c.loop-at.invariant c.as_slice-entries.ensures c.requires.all c.if-i-names.true c.loop-at-test.true c.in_ok-plan_packet.ensures.ok
+loop-at-preserved c = (
+  running_more c.args.size c.args.tile.now c.args.names.now c.as_slice-entries.result.now c.args.next c.args.part.0 c.args.part.1 c.loop-at.plan c.plan_packet.new.plan c.loop-at.i c.loop-at.at _ _
+      c.loop-at.invariant.0 c.as_slice-entries.ensures c.requires.all c.if-i-names.true c.loop-at-test.true c.in_ok-plan_packet.ensures.ok,
+  c.in_ok-plan_packet.ensures.last,
+)
 
 pub returns-clause-plan : goal.returns-clause-plan
 returns-clause-plan c =
@@ -22,7 +24,7 @@ returns-clause-plan c =
       | then-loop-at-test+else-i-names w ↦ run_over packets c.loop-at.i c.loop-at.at c.args.part.1 (omega (arith, w.if-i-names.false, long))
       | else-loop-at-test w ↦ run_ended (drop c.loop-at.i packets) c.loop-at.at c.args.part.1 w.loop-at-test.false
     ] in
-    (running_over c.args.size c.args.tile.now c.args.names.now c.args.next c.args.part.0 c.args.part.1 c.loop-at.plan c.loop-at.i c.loop-at.at c.loop-at.invariant none).0
+    (running_over c.args.size c.args.tile.now c.args.names.now c.args.next c.args.part.0 c.args.part.1 c.loop-at.plan c.loop-at.i c.loop-at.at c.loop-at.invariant.0 none).0
 
 pub returns-clause-next : goal.returns-clause-next
 returns-clause-next c =
@@ -32,4 +34,4 @@ returns-clause-next c =
       | then-loop-at-test+else-i-names w ↦ run_over packets c.loop-at.i c.loop-at.at c.args.part.1 (omega (arith, w.if-i-names.false, long))
       | else-loop-at-test w ↦ run_ended (drop c.loop-at.i packets) c.loop-at.at c.args.part.1 w.loop-at-test.false
     ] in
-    (running_over c.args.size c.args.tile.now c.args.names.now c.args.next c.args.part.0 c.args.part.1 c.loop-at.plan c.loop-at.i c.loop-at.at c.loop-at.invariant none).1
+    (running_over c.args.size c.args.tile.now c.args.names.now c.args.next c.args.part.0 c.args.part.1 c.loop-at.plan c.loop-at.i c.loop-at.at c.loop-at.invariant.0 none).1
