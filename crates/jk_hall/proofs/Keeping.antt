@@ -11,7 +11,7 @@ use Rattle.jk_web.specs.Images.{Image, names_of, IsCachedReply, IsKeptReply}
 use Rattle.jk_store.specs.Files.{Files}
 use Rattle.jk_store.specs.Showing.{ShowImages, AreKept, Broke, Reads, MayBeMade}
 use Rattle.jk_store.specs.declared.entry.Entry.{Entry}
-use Rattle.jk_store.specs.declared.shown.ShownEntries.{ShownEntries}
+use Rattle.jk_store.specs.declared.shown.ShownWithParts.{ShownWithParts}
 use Rattle.jk_store.proofs.Laws.{made_on}
 use Rattle.jk_hall.specs.Kept.{KeepsCuts}
 use Rattle.jk_hall.specs.Replying.{KeptOn, Replies}
@@ -29,15 +29,15 @@ module _ {S : Type 0} (keeps : S → Files → Type 0) where
   kept_same before after shelf kept p = record { held = cuts_on before after p kept; known = λ h images shows kept of. of }
 
   module _ (failed : S → ℕ) (gave : S → List ℕ → List ℕ → S → Type 0) (gave_at : S → List ℕ → ℕ → ℕ → List ℕ → S → Type 0)
-      (s t : ShownEntries S) (same : t.entries.now ≡ s.entries.now) (kept : List KeptCut) (q : Request) where
+      (s t : ShownWithParts S) (same : t.entries.now ≡ s.entries.now) (kept : List KeptCut) (q : Request) where
     -- The replies of entries over a shelf that is borrowed are those over the shelf.
     pub replies_as : (r : Result Reply Fault)
         → ((images : List Image) → ShowImages (map arc_value s.entries.now) images → KeepsCuts (map arc_value s.entries.now) kept → All IsSegment (names_of images)
-        → IfOk r (IsCachedReply (λ (a : ShownEntries S) n (b : ShownEntries S). Broke failed gave gave_at (map arc_value a.entries.now) a.shelf.now n b.shelf.now)
-        (λ (a : ShownEntries S) n file (b : ShownEntries S). Reads gave (map arc_value a.entries.now) a.shelf.now n file b.shelf.now)
-        (λ (a : ShownEntries S). MayBeMade (map arc_value a.entries.now)) images q s t))
+        → IfOk r (IsCachedReply (λ (a : ShownWithParts S) n (b : ShownWithParts S). Broke failed gave gave_at (map arc_value a.entries.now) a.shelf.now n b.shelf.now)
+        (λ (a : ShownWithParts S) n file (b : ShownWithParts S). Reads gave (map arc_value a.entries.now) a.shelf.now n file b.shelf.now)
+        (λ (a : ShownWithParts S). MayBeMade (map arc_value a.entries.now)) images q s t))
         → ((images : List Image) → ShowImages (map arc_value s.entries.now) images → AreKept keeps s.shelf.now images → AreOf (Has kept) images → All IsSegment (names_of images)
-        → IfOk r (IsKeptReply (λ (a : ShownEntries S) n (b : ShownEntries S). Broke failed gave gave_at (map arc_value a.entries.now) a.shelf.now n b.shelf.now) images q s t))
+        → IfOk r (IsKeptReply (λ (a : ShownWithParts S) n (b : ShownWithParts S). Broke failed gave gave_at (map arc_value a.entries.now) a.shelf.now n b.shelf.now) images q s t))
         → IfOk r (λ y. Replies keeps failed gave gave_at (map arc_value s.entries.now) s.shelf.now t.shelf.now kept q y)
     replies_as (Err e) any own = tt
     replies_as (Ok y) any own = record {

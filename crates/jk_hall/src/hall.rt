@@ -14,7 +14,7 @@ use crate::rule::{Opens as Opening, Prefixes, Sight};
 use crate::shown::{Change, Shown};
 use crate::writer::{Writer, show};
 use jk_math::Fault;
-use jk_store::Entry;
+use jk_store::{Entry, HashedParts};
 use jk_web::Cache;
 use std::alloc::{AllocError, Global};
 use std::sync::{Arc, Wait};
@@ -106,7 +106,11 @@ fn reader_of(writer: &mut Writer, alloc: Global) -> Result<Reader, Fault>
     inner.learn::<Opening>(writer.inner.tell::<Opening>());
     let told = writer.tell().front;
     Ok(Reader {
-        place: Place { inner, cache },
+        place: Place {
+            inner,
+            cache,
+            hashed: HashedParts::new(alloc),
+        },
         told,
     })
 }

@@ -11,7 +11,7 @@ use crate::place::Place;
 use crate::rule::Sees;
 use crate::shown::Shown;
 use jk_math::Fault;
-use jk_store::{Shelf, ShownEntries};
+use jk_store::{HashedParts, Shelf, ShownWithParts};
 use jk_web::{Cache, Reply, Request, answer_with};
 use std::alloc::Global;
 
@@ -24,6 +24,7 @@ fn answer_shown<S: Shelf>(
     shown: &Shown,
     request: &Request,
     shelf: &mut S,
+    hashed: &mut HashedParts,
     cache: &mut Cache,
 ) -> Result<Reply, Fault>
     requires { shown.now.front.seen.book ≡ told.now.seen.book }
@@ -37,9 +38,10 @@ fn answer_shown<S: Shelf>(
     if !told.begins(&shown.front) {
         return Err(Fault::WorkerFailed);
     }
-    let mut images = ShownEntries {
+    let mut images = ShownWithParts {
         entries: shown.entries.as_slice(),
         shelf,
+        hashed,
     };
     answer_with(alloc, request, &mut images, cache)
 }
@@ -79,13 +81,30 @@ pub(crate) fn look<'a, S: Shelf>(
         request,
         shelf,
     } = ask;
-    let Place { inner, mut cache } = place;
+    let Place {
+        inner,
+        mut cache,
+        mut hashed,
+    } = place;
     match inner.enter_as::<Sees>() {
         Ok(reading) => {
-            let reply = answer_shown(alloc, told, reading.get(), request, shelf, &mut cache);
+            let shown = reading.get();
+            let reply = answer_shown(alloc, told, shown, request, shelf, &mut hashed, &mut cache);
             let inner = reading.leave();
-            (Place { inner, cache }, (reply, shelf))
+            let place = Place {
+                inner,
+                cache,
+                hashed,
+            };
+            (place, (reply, shelf))
         }
-        Err(inner) => (Place { inner, cache }, (Err(Fault::WorkerFailed), shelf)),
+        Err(inner) => {
+            let place = Place {
+                inner,
+                cache,
+                hashed,
+            };
+            (place, (Err(Fault::WorkerFailed), shelf))
+        }
     }
 }

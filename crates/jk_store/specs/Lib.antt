@@ -14,4 +14,5 @@ pub mod Judging
 pub mod Checking
 pub mod Showing
 pub mod ShownSteps
+pub mod PartsSteps
 pub mod Examples

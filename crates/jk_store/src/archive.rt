@@ -17,6 +17,7 @@ ghost use Rattle.jk_store.specs.Catalogue.{IsWindowGiven, WasForeign, Passes};
 ghost use Rattle.jk_store.specs.declared.entry.Entry.{Entry as EntryFields};
 
 use crate::entry::Entry;
+use crate::hashed::HashedParts;
 use crate::shelf::Shelf;
 use crate::skipped::Skipped;
 use jk_math::Fault;
@@ -30,6 +31,8 @@ pub struct Archive<S> {
     pub(crate) shelf: S,
     pub(crate) entries: Vec<Arc<Entry>>,
     pub(crate) skipped: Vec<Skipped>,
+    // Parts that were read, so that they needn't be hashed again.
+    pub(crate) hashed: HashedParts,
     // Names are good, and none stands twice.
     ghost named: { are_named (map arc_value entries.items) ≡ true },
     ghost few: { length entries.items ≤ most_entries },
@@ -84,6 +87,7 @@ impl<S: Shelf> Archive<S> {
             shelf,
             entries: _,
             skipped: _,
+            hashed: _,
         } = self;
         shelf
     }

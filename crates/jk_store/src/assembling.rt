@@ -5,6 +5,7 @@ ghost use Rattle.jk_window.specs.Planning.{plan_text};
 ghost use Rattle.jk_store.specs.PartsGiven.{size_of, GivenPart, HasParts, PartsRead, PartsRefused};
 
 use crate::entry::Entry;
+use crate::hashed::HashedParts;
 use crate::reading::{Reading, put_stretch};
 use crate::shelf::Shelf;
 use jk_math::Fault;
@@ -16,6 +17,7 @@ pub(crate) fn assemble<S: Shelf>(
     alloc: Global,
     entry: &Entry,
     shelf: &mut S,
+    hashed: &mut HashedParts,
     plan: &CutPlan,
 ) -> Result<Vec<u8>, Fault>
     requires { plan.now.size ≡ size_of entry.now }
@@ -34,6 +36,7 @@ pub(crate) fn assemble<S: Shelf>(
             alloc,
             entry,
             shelf,
+            hashed,
             &mut reading,
             step.start,
             step.end,

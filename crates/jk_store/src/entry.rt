@@ -15,6 +15,7 @@ ghost use Rattle.jk_store.specs.Catalogue.{StandsFor, stored};
 ghost use Rattle.jk_store.specs.PartsGiven.{GivenPart, ReadsParts, IsOtherPart, IsCutOfParts, AreKnownByDigest};
 
 use crate::assembling::assemble;
+use crate::hashed::HashedParts;
 use crate::names;
 use crate::shelf::Shelf;
 use jk_math::Fault;
@@ -138,7 +139,49 @@ impl Entry {
         ensures counts { Passes (λ e. IsMemory e ⊎ (e ≡ BadWindow) ⊎ (e ≡ Changed)) result (S.failed shelf.old)
             (S.failed shelf.new) }
     {
+        self.window_by_parts_with(alloc, shelf, &mut HashedParts::none(alloc), view)
+    }
+
+    /// The same, where parts that were read before are known, and those that are read are known then.
+    /// Each part is read, and isn't hashed where it is the same as one that is known.
+    pub fn window_by_parts_with<S: Shelf>(
+        &self,
+        alloc: Global,
+        shelf: &mut S,
+        hashed: &mut HashedParts,
+        view: View,
+    ) -> Result<Vec<u8>, Fault>
+        // The shelf gave parts, each with its digest; and of each file that has these parts, and of
+        // which the index is, it is the window.
+        ensures given { IfOk result
+            (λ w. (given : List GivenPart) × ReadsParts S.gave_at self.now shelf.old given shelf.new
+            × IsCutOfParts self.now.index view given w.items) }
+        // It is the window of the file of which the entry was made, if each part that was given and
+        // has the digest of that file's part is that part.
+        ensures judged { (f : List ℕ) → StandsFor self.now (stored (string_bytes self.now.name) f)
+            → (is : IsIndexOf f self.now.index)
+            → IfOk result (λ w. (given : List GivenPart) × ReadsParts S.gave_at self.now shelf.old given shelf.new
+            × (AreKnownByDigest f given → cut_file is view ≡ Ok w.items)) }
+        ensures seen { OnOk result (HasWindow self.now.index.headers view) }
+        // Of a file that the shelf keeps under the name it is the window.
+        ensures same { (files : Files) (b : List ℕ) → S.keeps shelf.old files
+            → files (file_name (string_bytes self.now.name)) ≡ Some b
+            → (is : IsIndexOf b self.now.index) → IsWindowGiven (cut_file is view) result }
+        // Where that is the file of which the entry was made, it isn't told to have changed.
+        ensures steady { (files : Files) (b : List ℕ) → S.keeps shelf.old files
+            → files (file_name (string_bytes self.now.name)) ≡ Some b
+            → StandsFor self.now (stored (string_bytes self.now.name) b) → result ≡ Err Fault.Changed → ⊥ }
+        // Where the view has no window, that is the answer, and the shelf isn't read.
+        ensures unseen { (HasWindow self.now.index.headers view → ⊥)
+            → (result ≡ Err Fault.BadWindow) × (shelf.new ≡ shelf.old) }
+        // No other BadWindow is answered.
+        ensures bad { result ≡ Err Fault.BadWindow → HasWindow self.now.index.headers view → ⊥ }
+        ensures changed { result ≡ Err Fault.Changed → IsOtherPart S.gave_at self.now shelf.old shelf.new }
+        ensures kept { (files : Files) → S.keeps shelf.old files → S.keeps shelf.new files }
+        ensures counts { Passes (λ e. IsMemory e ⊎ (e ≡ BadWindow) ⊎ (e ≡ Changed)) result (S.failed shelf.old)
+            (S.failed shelf.new) }
+    {
         let plan = plan(alloc, &self.index, view)?;
-        assemble(alloc, self, shelf, &plan)
+        assemble(alloc, self, shelf, hashed, &plan)
     }
 }

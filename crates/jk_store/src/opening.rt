@@ -26,6 +26,7 @@ ghost use Rattle.jk_store.specs.declared.entry.Entry.{Entry as EntryFields};
 use crate::adding::MOST_ENTRIES;
 use crate::archive::Archive;
 use crate::entry::Entry;
+use crate::hashed::HashedParts;
 use crate::names;
 use crate::parts::part_digests;
 use crate::shelf::Shelf;
@@ -243,10 +244,12 @@ impl<S> Archive<S> {
         ensures skipped { result.skipped ≡ images.skipped }
     {
         let Images { entries, skipped } = images;
+        let hashed = HashedParts::new(*entries.allocator());
         Archive {
             shelf,
             entries,
             skipped,
+            hashed,
         }
     }
 }

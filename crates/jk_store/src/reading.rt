@@ -7,7 +7,8 @@ ghost use Rattle.jk_store.specs.Parts.{part_length, part_count};
 ghost use Rattle.jk_store.specs.PartsGiven.{file_of, size_of, GivenPart, IsPartOfFile, HasParts, PartsRead, PartsRefused};
 ghost use Rattle.jk_store.specs.Readings.{IsReading, HoldsOf};
 
-use crate::entry::{Entry, has_digest};
+use crate::entry::Entry;
+use crate::hashed::HashedParts;
 use crate::names;
 use crate::parts::PART_SIZE;
 use crate::shelf::Shelf;
@@ -42,13 +43,19 @@ impl Reading {
 }
 
 /// Whether bytes pass for a part of an entry's file, which has so many.
-fn is_part(entry: &Entry, number: usize, length: usize, bytes: &[u8]) -> bool
+fn is_part(
+    entry: &Entry,
+    hashed: &mut HashedParts,
+    number: usize,
+    length: usize,
+    bytes: &[u8],
+) -> bool
     requires { length ≡ part_length (size_of entry.now) number }
     ensures yes { result ≡ true → IsPartOfFile entry.now number bytes.now }
     ensures no { result ≡ false → IsPartOfFile entry.now number bytes.now → ⊥ }
 {
     match entry.parts.get(number) {
-        Some(digest) => bytes.len() == length && has_digest(bytes, digest),
+        Some(digest) => bytes.len() == length && hashed.judge(bytes, digest),
         None => false,
     }
 }
@@ -60,6 +67,7 @@ fn read_part<S: Shelf>(
     alloc: Global,
     entry: &Entry,
     shelf: &mut S,
+    hashed: &mut HashedParts,
     reading: &Reading,
     number: usize,
 ) -> Result<Vec<u8>, Fault>
@@ -74,7 +82,7 @@ fn read_part<S: Shelf>(
     let start = number * PART_SIZE;
     let most = PART_SIZE.min(size - start);
     let bytes = shelf.read_at(alloc, reading.name.as_str(), start as u64, most)?;
-    if !is_part(entry, number, most, &bytes) {
+    if !is_part(entry, hashed, number, most, &bytes) {
         return Err(Fault::Changed);
     }
     Ok(bytes)
@@ -85,6 +93,7 @@ fn hold<S: Shelf>(
     alloc: Global,
     entry: &Entry,
     shelf: &mut S,
+    hashed: &mut HashedParts,
     reading: &mut Reading,
     number: usize,
 ) -> Result<(), Fault>
@@ -103,7 +112,7 @@ fn hold<S: Shelf>(
     if !reading.part.is_empty() && reading.number == number {
         return Ok(());
     }
-    reading.part = read_part(alloc, entry, shelf, &*reading, number)?;
+    reading.part = read_part(alloc, entry, shelf, hashed, &*reading, number)?;
     reading.number = number;
     Ok(())
 }
@@ -113,6 +122,7 @@ pub(crate) fn put_stretch<S: Shelf>(
     alloc: Global,
     entry: &Entry,
     shelf: &mut S,
+    hashed: &mut HashedParts,
     reading: &mut Reading,
     start: usize,
     end: usize,
@@ -132,7 +142,7 @@ pub(crate) fn put_stretch<S: Shelf>(
     while at < end {
         let number = at / PART_SIZE;
         let first = number * PART_SIZE;
-        hold(alloc, entry, shelf, reading, number)?;
+        hold(alloc, entry, shelf, hashed, reading, number)?;
         let stop = first + PART_SIZE.min(end - first);
         out.extend_from_slice(&reading.part[at - first..stop - first])?;
         at = stop;

@@ -11,6 +11,7 @@ ghost use Rattle.jk_store.specs.Files.{Files};
 
 use crate::archive::{Archive, find};
 use crate::entry::Entry;
+use crate::hashed::HashedParts;
 use crate::shelf::Shelf;
 use jk_math::Fault;
 use jk_web::{Asked, Catalogue};
@@ -97,6 +98,7 @@ pub(crate) fn window_of<S: Shelf>(
     alloc: Global,
     entries: &[Arc<Entry>],
     shelf: &mut S,
+    hashed: &mut HashedParts,
     name: &[u8],
     asked: Asked,
 ) -> Result<Vec<u8>, Fault>
@@ -114,7 +116,7 @@ pub(crate) fn window_of<S: Shelf>(
     ensures kept { (files : Files) → S.keeps shelf.old files → S.keeps shelf.new files }
 {
     match find(entries, name) {
-        Some(entry) => entry.window_by_parts(alloc, shelf, view(asked)),
+        Some(entry) => entry.window_by_parts_with(alloc, shelf, hashed, view(asked)),
         None => Err(Fault::NoSuchImage),
     }
 }
@@ -152,7 +154,8 @@ impl<S: Shelf> Catalogue for Archive<S> {
     }
 
     fn window(&mut self, alloc: Global, name: &[u8], asked: Asked) -> Result<Vec<u8>, Fault> {
-        window_of(alloc, &self.entries, &mut self.shelf, name, asked)
+        let hashed = &mut self.hashed;
+        window_of(alloc, &self.entries, &mut self.shelf, hashed, name, asked)
     }
 
     ghost stays = { λ a. tt };

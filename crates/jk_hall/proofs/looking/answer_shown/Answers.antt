@@ -2,7 +2,7 @@ use Rattle.std.proofs.Common.{◌≡◌, map, IfOk, sym, subst, ◌∙◌, rules
 use Rattle.std.specs.Arc.{arc_value}
 use Rattle.jk_web.specs.Cuts.{Within, Has}
 use Rattle.jk_store.specs.Showing.{ShowImages, MayBeMade}
-use Rattle.jk_store.specs.declared.shown.ShownEntries.{ShownEntries}
+use Rattle.jk_store.specs.declared.shown.ShownWithParts.{ShownWithParts}
 use Rattle.jk_hall.specs.Sights.{listed}
 use Rattle.jk_hall.specs.Replying.{Replies}
 use Rattle.jk_hall.proofs.Keeping.{replies_as}
@@ -10,7 +10,7 @@ use Rattle.jk_hall.proofs.looking.answer_shown.Goals as goal
 
 pub returns-clause-reply : goal.returns-clause-reply
 returns-clause-reply g c =
-    let s : ShownEntries g.row.S.Denot = record { entries = c.as_slice.result; shelf = c.args.shelf } in
+    let s : ShownWithParts g.row.S.Denot = record { entries = c.as_slice.result; shelf = c.args.shelf; hashed = c.args.hashed } in
     let end = c.answer_with.new.catalogue in
     let shelf : c.shelf-1.given.0 ≡ end.shelf.now = search rules in
     let by = replies_as g.S.Shelf.keeps g.S.Shelf.failed g.S.Shelf.gave g.S.Shelf.gave_at s end c.answer_with.ensures.steps.0 c.args.cache.now c.args.request.now

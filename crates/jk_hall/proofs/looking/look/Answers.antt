@@ -17,7 +17,7 @@ pub returns-in-Ok-clause-cuts : goal.returns-in-Ok-clause-cuts
 returns-in-Ok-clause-cuts g c =
     let before = (view c.args.place.inner.place).seen in
     let after = (view c.leave-inner.result.place).seen in
-    let entries : after ≡ listed c.get.result.now = search rules in
+    let entries : after ≡ listed c.get-shown.result.now = search rules in
     let p : IsPrefix before after = search rules in
     kept_longer g.S.Shelf.keeps before after c.args.ask.shelf.now c.args.place.cache c.answer_shown-reply.new.cache p
     (subst (λ (es : List Entry). KeptOn g.S.Shelf.keeps es es c.args.ask.shelf.now c.args.place.cache c.answer_shown-reply.new.cache) (sym entries) c.answer_shown-reply.ensures.cuts)

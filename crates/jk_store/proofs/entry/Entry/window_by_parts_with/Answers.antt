@@ -3,7 +3,7 @@ use Rattle.jk_window.specs.Views.{HasWindow}
 use Rattle.jk_window.specs.Planning.{plan_text}
 use Rattle.jk_store.proofs.ByPartsLaws.{index_size, refused_given, not_changed, seen_there, given_parts, never_bad, changed_parts, steady_parts, kept_parts, counts_parts, same_parts}
 use Rattle.jk_store.proofs.KnownParts.{judged_parts}
-use Rattle.jk_store.proofs.entry.Entry.window_by_parts.Goals as goal
+use Rattle.jk_store.proofs.entry.Entry.window_by_parts_with.Goals as goal
 
 pub returns-in_err-plan-clause-same : goal.returns-in_err-plan-clause-same
 returns-in_err-plan-clause-same g c = λ files b keeps has is.
