@@ -93,3 +93,29 @@ pub(crate) fn view_at(
     }
     view
 }
+
+/// The windows that were asked for, with the numbers of their images.
+#[derive(Drop)]
+pub(crate) struct Asked {
+    views: Vec<(usize, View)>,
+}
+
+impl Asked {
+    /// No window.
+    pub(crate) fn new(alloc: Global) -> Asked {
+        Asked {
+            views: Vec::new(alloc),
+        }
+    }
+
+    /// Whether a window is asked for the first time.
+    pub(crate) fn first(&mut self, image: usize, view: View) -> Result<bool, Fault> {
+        for asked in &self.views {
+            if asked.0 == image && asked.1 == view {
+                return Ok(false);
+            }
+        }
+        self.views.push((image, view))?;
+        Ok(true)
+    }
+}

@@ -1,6 +1,6 @@
 //! The same at the server: windows that are not kept, each time another.
 
-use crate::calls::{encoded, view_at, with_windows};
+use crate::calls::{Asked, encoded, view_at, with_windows};
 use crate::chance::Chance;
 use crate::digest::Digest;
 use crate::drawing::{Slide, grey, photograph};
@@ -101,16 +101,21 @@ pub(crate) fn server(alloc: Global, seed: u64, scale: Scale) -> Result<Digest, F
     } = Shown::new(alloc, seed, scale)?;
     let mut cache = Cache::new(alloc, 16)?;
     let mut chance = Chance::new(seed, 21);
-    for number in 0..scale.count(800) {
-        let (kept, places) = match chance.below(8) {
-            6 => (&CATALOGUE[1], &places[..0]),
-            7 => (&CATALOGUE[2], &places[..0]),
-            _ => (&CATALOGUE[0], &places[..]),
+    let mut asked = Asked::new(alloc);
+    for number in 0..scale.count(960) {
+        let (image, places) = match chance.below(8) {
+            6 => (1, &places[..0]),
+            7 => (2, &places[..0]),
+            _ => (0, &places[..]),
         };
+        let kept = &CATALOGUE[image];
         let size = scale.size(kept.width, kept.height);
         let side = if chance.below(3) == 0 { 512 } else { 256 };
         let layers = if number % 3 == 2 { None } else { Some(2) };
         let view = view_at(&mut chance, places, size, number % 4, side, layers);
+        if !asked.first(image, view)? {
+            continue;
+        }
         let request = request(alloc, kept.name, view)?;
         let reply = answer_with(alloc, &request, &mut archive, &mut cache)?;
         digest.take(reply.bytes.as_slice());

@@ -1,4 +1,4 @@
-//! A hospital's night: slices of 12 and of 16 bits are encoded and decoded.
+//! A hospital's night: slices of 12 and of 15 bits are encoded and decoded.
 
 use crate::calls::{decoded, encoded, plain};
 use crate::digest::Digest;

@@ -1,6 +1,6 @@
 //! The eye at a viewer: windows of a large image, decoded.
 
-use crate::calls::{cut_of, encoded, view_at, window_of, with_windows};
+use crate::calls::{Asked, cut_of, encoded, view_at, window_of, with_windows};
 use crate::chance::Chance;
 use crate::digest::Digest;
 use crate::drawing::Slide;
@@ -24,15 +24,20 @@ pub(crate) fn viewer(alloc: Global, seed: u64, scale: Scale) -> Result<Digest, F
     let file = encoded(alloc, bytes, with_windows(alloc))?;
     digest.take(&file);
     let mut chance = Chance::new(seed, 20);
-    for number in 0..scale.count(40) {
+    let mut asked = Asked::new(alloc);
+    for number in 0..scale.count(44) {
         let side = if number % 2 == 0 { 512 } else { 256 };
         let view = view_at(&mut chance, &cells, size, number % 5, side, None);
-        take_image(&mut digest, &window_of(alloc, &file, view)?);
+        if asked.first(0, view)? {
+            take_image(&mut digest, &window_of(alloc, &file, view)?);
+        }
         let layers = if number % 4 == 1 { None } else { Some(4) };
         let view = view_at(&mut chance, &cells, size, number % 3, side, layers);
-        let cut = cut_of(alloc, &file, view)?;
-        digest.take(&cut);
-        take_image(&mut digest, &window_of(alloc, &cut, view)?);
+        if asked.first(1, view)? {
+            let cut = cut_of(alloc, &file, view)?;
+            digest.take(&cut);
+            take_image(&mut digest, &window_of(alloc, &cut, view)?);
+        }
     }
     Ok(digest)
 }
