@@ -141,6 +141,29 @@ pub outside_more : (f : Frame) (s : Stream) (l k j : ℕ) → is_inside f.order 
 unfolding rank
 outside_more f s l k j i h = outside_precinct f.order l s.resolution s.component k j (column_x f s (k % s.across)) (column_x f s (j % s.across)) (row_y f s (k / s.across)) (row_y f s (j / s.across)) i h
 
+-- the ranks of what comes inside are one after another
+next_inside : (o : Order) (l r c k x y : ℕ) → is_inside o ≡ true → rank_at o (l + 1) r c k x y ≡ rank_at o l r c k x y + 1
+next_inside Lrcp l r c k x y i = absurd cc
+next_inside Rlcp l r c k x y i = absurd cc
+next_inside Rpcl l r c k x y i = omega arith
+next_inside Pcrl l r c k x y i = omega arith
+next_inside Cprl l r c k x y i = omega arith
+
+next_outside : (o : Order) (l r c k x y u v : ℕ) → is_inside o ≡ false → rank_at o l r c (k + 1) u v ≡ rank_at o l r c k x y + 1
+next_outside Lrcp l r c k x y u v i = omega arith
+next_outside Rlcp l r c k x y u v i = omega arith
+next_outside Rpcl l r c k x y u v i = absurd cc
+next_outside Pcrl l r c k x y u v i = absurd cc
+next_outside Cprl l r c k x y u v i = absurd cc
+
+pub inside_one : (f : Frame) (s : Stream) (l k : ℕ) → is_inside f.order ≡ true → rank f s (l + 1) k ≡ rank f s l k + 1
+unfolding rank
+inside_one f s l k i = next_inside f.order l s.resolution s.component k (column_x f s (k % s.across)) (row_y f s (k / s.across)) i
+
+pub outside_one : (f : Frame) (s : Stream) (l k : ℕ) → is_inside f.order ≡ false → rank f s l (k + 1) ≡ rank f s l k + 1
+unfolding rank
+outside_one f s l k i = next_outside f.order l s.resolution s.component k (column_x f s (k % s.across)) (row_y f s (k / s.across)) (column_x f s ((k + 1) % s.across)) (row_y f s ((k + 1) / s.across)) i
+
 -- no rank is that of a finished stream
 pub rank_below : (f : Frame) (s : Stream) (l k : ℕ) → IsFrame f → IsStream f s → l < f.layers → k < s.precincts → rank f s l k < 2 ^ 128 - 1
 unfolding rank

@@ -1,21 +1,22 @@
 -- The least of the streams' next packets is the next packet of all, and what is left without it.
-use Rattle.std.proofs.Common.{◌≡◌, ℕ, ◌+◌, ◌*◌, ◌^◌, ◌<◌, ◌≤◌, ◌⊎◌, inl, inr, List, [], ◌∷◌, map, length, drop, set, get_or, length-set, refl, ap, sym, ◌∙◌, subst, arith}
-use Rattle.std.specs.Prelude.{Contains, Some, None, slice_get}
+use Rattle.std.proofs.Common.{◌≡◌, ℕ, ◌+◌, ◌*◌, ◌<◌, ◌≤◌, ◌⊎◌, inl, inr, List, [], ◌∷◌, map, length, drop, set, get_or, length-set, refl, ap, sym, ◌∙◌, subst, arith}
+use Rattle.std.specs.Prelude.{Contains, Option, Some, None, MatchOption, slice_get}
 use Rattle.std.specs.Ordering.{nat_cmp}
 use Rattle.std.specs.List.Sorted.{IsStrictlySortedBy}
 use Rattle.std.proofs.lemmas.Bool.{cases_eq}
-use Rattle.std.proofs.lemmas.List.{get_or-set_same, get_or-set_other}
+use Rattle.std.proofs.lemmas.List.{get_or-set_same, get_or-set_other, set-get_or}
 use Rattle.jk_geom.specs.declared.shape.PacketName.{PacketName}
 use Rattle.jk_order.specs.declared.stream.Stream.{Stream}
 use Rattle.jk_order.specs.declared.stream.Frame.{Frame}
-use Rattle.jk_order.specs.Streams.{rank, finished, IsStream, IsLive, IsWalk, walk, Awaits, Left, rank_of, index_of, stream_at, no_stream, next_name}
-use Rattle.jk_order.specs.Leading.{Leads}
+use Rattle.jk_order.specs.Streams.{rank, finished, IsStream, IsLive, IsWalk, walk, Awaits, Left, rank_of, index_of, stream_at, no_stream, next_name, successor}
+use Rattle.jk_order.specs.Leading.{IsLeader}
+use Rattle.jk_order.specs.Advancing.{Advances}
 use Rattle.jk_order.proofs.Growth.{rank_below}
-use Rattle.jk_order.proofs.Successors.{IsNext, IsLast, next_stream}
+use Rattle.jk_order.proofs.Successors.{IsNext, IsLast, next_stream, successor_is}
 use Rattle.jk_order.proofs.Ascending.{less_than, first_in, later_in, in_cases, first_below, rest_up, least_first}
 
 -- the rank of the stream that leads is the least
-pub all_least : (hs : List ℕ) (i others : ℕ) {n : ℕ} → Leads n hs i others → (j : ℕ) → j < 44 → get_or hs i 0 ≤ get_or hs j 0
+pub all_least : (hs : List ℕ) (i others : ℕ) {n : ℕ} → IsLeader n hs i others → (j : ℕ) → j < 44 → get_or hs i 0 ≤ get_or hs j 0
 all_least hs i others l j low = by (cases_eq j i)
   where
     by : (j ≡ i) ⊎ (j ≡ i → ⊥) → get_or hs i 0 ≤ get_or hs j 0
@@ -289,3 +290,26 @@ module _ (f : Frame) (ss : List Stream) (hs : List ℕ) (i : ℕ) (w : IsWalk (w
         lives j h ne (inr far) =
             let stays = get_or-set_other hs i j finished 0 far in
             subst (λ k. IsLive f (stream_at ss j) k) (sym stays) (w.live j h (λ end. ne (stays ∙ end)))
+
+  -- what a stream that advances leaves of a walk
+  abbrev Goes : Stream → ℕ → Type 0
+  Goes t g = IsWalk (walk f (set ss i t) (set hs i g)) × MovesOn f ss hs (set ss i t) (set hs i g) i
+
+  goes_on : (u t : Stream) (g : ℕ) → IsNext f (stream_at ss i) u → t ≡ u → g ≡ rank f u u.layer u.precinct → Goes t g
+  goes_on u t g n same head = subst (λ (x : Stream). Goes x g) (sym same) (next_walk u g n head, next_moves u g n head)
+
+  ends_there : (t : Stream) (g : ℕ) → IsLast f (stream_at ss i) → t ≡ stream_at ss i → g ≡ finished → Goes t g
+  ends_there t g last same head =
+      let stays : set ss i t ≡ ss = ap (λ (x : Stream). set ss i x) same ∙ set-get_or ss i no_stream in
+      subst (λ (k : ℕ). Goes t k) (sym head) (subst (λ (ts : List Stream). IsWalk (walk f ts (set hs i finished)) × MovesOn f ss hs ts (set hs i finished) i) (sym stays) (last_walk last, last_moves last))
+
+  pub advanced : (t : Stream) (g : ℕ) → Advances f (stream_at ss i) t g → Goes t g
+  advanced t g a = by (successor f (stream_at ss i)) (successor_is f (stream_at ss i) w.frame (w.stream i low) live.layer live.placed) a
+    where
+      live : IsLive f (stream_at ss i) (get_or hs i 0)
+      live = w.live i low some
+
+      by : (o : Option Stream) → MatchOption o (IsLast f (stream_at ss i)) (IsNext f (stream_at ss i))
+          → MatchOption o ((t ≡ stream_at ss i) × (g ≡ finished)) (λ u. (t ≡ u) × (g ≡ rank f u u.layer u.precinct)) → Goes t g
+      by (Some u) n b = goes_on u t g n b.0 b.1
+      by None last b = ends_there t g last b.0 b.1

@@ -1,6 +1,7 @@
 pub mod Ranks
 pub mod Growth
 pub mod Successors
+pub mod Advancing
 pub mod Ascending
 pub mod Leaving
 pub mod Counts

@@ -1,6 +1,6 @@
 -- The packet behind a stream's next one has the least rank above it.
 use Rattle.std.proofs.Common.{◌≡◌, ℕ, ◌+◌, ◌*◌, ◌<◌, ◌≤◌, ◌⊎◌, inl, inr, Bool, true, false, nat_lt, refl, ap, sym, ◌∙◌, subst, arith}
-use Rattle.std.specs.Prelude.{Option, Some, None, MatchOption}
+use Rattle.std.specs.Prelude.{Some, None, MatchOption}
 use Rattle.std.proofs.lemmas.Bool.{cond_both, cases_order, cases_lt, ltb-true, ltb-false}
 use Rattle.jk_order.specs.declared.stream.Stream.{Stream}
 use Rattle.jk_order.specs.declared.stream.Frame.{Frame}
@@ -219,13 +219,7 @@ module _ (f : Frame) (s : Stream) (fr : IsFrame f) (st : IsStream f s) (layer : 
       (λ d. outside_second i (ltb-false _ _ e) (ltb-true _ _ d))
       (λ d. outside_last i (ltb-false _ _ e) (ltb-false _ _ d))))
 
--- the same of a call that answered
-pub next_from : (f : Frame) (s t : Stream) → IsFrame f → IsStream f s → s.layer < f.layers → IsPlaced s → Some t ≡ successor f s → IsNext f s t
-next_from f s t fr st layer p e = subst (λ (o : Option Stream). MatchOption o (IsLast f s) (IsNext f s)) (sym e) (successor_is f s fr st layer p)
-
-pub last_from : (f : Frame) (s : Stream) → IsFrame f → IsStream f s → s.layer < f.layers → IsPlaced s → None ≡ successor f s → IsLast f s
-last_from f s fr st layer p e = subst (λ (o : Option Stream). MatchOption o (IsLast f s) (IsNext f s)) (sym e) (successor_is f s fr st layer p)
-
+-- it is a stream
 pub next_stream : (f : Frame) (s t : Stream) → IsStream f s → IsNext f s t → IsStream f t
 next_stream f s t st n = subst (λ (x : Stream). IsStream f x) (sym n.same) (record {
   component = st.component;

@@ -4,3 +4,4 @@ pub mod PacketOrder
 pub mod Streams
 pub mod Examples
 pub mod Leading
+pub mod Advancing

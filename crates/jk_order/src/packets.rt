@@ -6,20 +6,17 @@ ghost use Rattle.jk_math.specs.declared.fault.Fault.TheVariants.{Limit};
 ghost use Rattle.jk_geom.specs.TileShapes.{IsTileShape};
 ghost use Rattle.jk_order.specs.PacketOrder.{packet_count, order};
 ghost use Rattle.jk_order.specs.Streams.{IsWalk, Left, walk};
-ghost use Rattle.jk_order.specs.Leading.{Leads};
+ghost use Rattle.jk_order.specs.Leading.{IsLeader};
 
 use crate::count::packet_count;
 use crate::opening::{first_rank, shared, stream_number, without_packets};
-use crate::stream::{Frame, Stream};
+use crate::stream::{FINISHED, Frame, Stream};
 use jk_geom::{PacketName, TileShape};
 use jk_math::Fault;
 use std::marker::Model;
 
-/// Stands for the rank of a stream's next packet where it has none.
-const FINISHED: u128 = u128::MAX;
-
 /// The stream whose next packet has the least rank, and the least rank of the others. While its
-/// ranks stay below that, no other stream is looked at.
+/// ranks don't pass that, no other stream is looked at.
 #[derive(Clone, Copy, Debug)]
 struct Leader {
     stream: usize,
@@ -42,10 +39,10 @@ impl Model for Packets {
 
     ghost view = { λ p. walk p.frame p.streams p.heads };
 
-    ghost use Rattle.jk_order.specs.Leading.{Leads};
+    ghost use Rattle.jk_order.specs.Leading.{IsLeader};
 
     ghost invariant = { λ p. IsWalk (walk p.frame p.streams p.heads)
-        × Leads p.frame.streams p.heads p.leader.stream p.leader.others };
+        × IsLeader p.frame.streams p.heads p.leader.stream p.leader.others };
 }
 
 /// The place of the least number, and the least of the others.
@@ -79,7 +76,7 @@ fn least(heads: &[u128; 44], streams: usize) -> Leader
     requires some { 0 < streams }
     requires few { streams ≤ 44 }
     requires beyond { (i : ℕ) → streams ≤ i → i < 44 → slice_index heads.now i ≡ 2 ^ 128 - 1 }
-    ensures { Leads streams heads.now result.stream result.others }
+    ensures { IsLeader streams heads.now result.stream result.others }
 {
     least_of(&heads[..streams])
 }
@@ -91,7 +88,7 @@ fn leading(leader: Leader, heads: &[u128; 44], streams: usize) -> Leader
     requires beyond { (i : ℕ) → streams ≤ i → i < 44 → slice_index heads.now i ≡ 2 ^ 128 - 1 }
     requires near { leader.stream < streams }
     requires others { (i : ℕ) → i < 44 → (i ≡ leader.stream → ⊥) → leader.others ≤ slice_index heads.now i }
-    ensures { Leads streams heads.now result.stream result.others }
+    ensures { IsLeader streams heads.now result.stream result.others }
 {
     if heads[leader.stream] <= leader.others {
         leader
@@ -108,34 +105,27 @@ fn take(
     leader: &mut Leader,
 ) -> Option<PacketName>
     requires walk { IsWalk (walk frame.now streams.old heads.old) }
-    requires leads { Leads frame.now.streams heads.old leader.old.stream leader.old.others }
+    requires leads { IsLeader frame.now.streams heads.old leader.old.stream leader.old.others }
     ensures kept { IsWalk (walk frame.now streams.new heads.new) }
-    ensures leads { Leads frame.now.streams heads.new leader.new.stream leader.new.others }
+    ensures leads { IsLeader frame.now.streams heads.new leader.new.stream leader.new.others }
     ensures gives { (names : List PacketName) → Left (walk frame.now streams.old heads.old) names
         → (result ≡ slice_get names 0) × Left (walk frame.now streams.new heads.new) (drop 1 names) }
 {
     let first = leader.stream;
-    if heads[first] == FINISHED {
+    let head = heads[first];
+    if head == FINISHED {
         return None;
     }
-    let stream = streams[first];
-    match stream.successor(frame) {
-        Some(next) => {
-            streams[first] = next;
-            heads[first] = next.rank(frame);
-            *leader = leading(*leader, heads, frame.streams);
-        }
-        None => {
-            heads[first] = FINISHED;
-            *leader = leading(*leader, heads, frame.streams);
-        }
-    }
-    Some(PacketName {
+    let stream = &streams[first];
+    let name = PacketName {
         layer: stream.layer,
         resolution: stream.resolution,
         component: stream.component,
         precinct: stream.precinct,
-    })
+    };
+    heads[first] = streams[first].advance(frame, head);
+    *leader = leading(*leader, heads, frame.streams);
+    Some(name)
 }
 
 impl Packets {

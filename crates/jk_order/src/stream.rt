@@ -1,10 +1,13 @@
 //! The packets of one resolution of one component.
 
-ghost use Rattle.std.specs.Prelude.{◌≡◌, ◌+◌, ◌*◌, ◌<◌, ◌≤◌, ◌^◌, nat_lt, if◌then◌else◌, Some, None};
-ghost use Rattle.jk_order.specs.Streams.{IsFrame, IsPlaced, IsStream, column_x, row_y, packed, rank, next_precinct};
-ghost use Rattle.jk_order.specs.Streams.{next_layer, successor};
+ghost use Rattle.std.specs.Prelude.{◌≡◌, ◌+◌, ◌*◌, ◌<◌, ◌≤◌, ◌^◌, nat_lt};
+ghost use Rattle.jk_order.specs.Streams.{IsFrame, IsLive, IsPlaced, IsStream, column_x, row_y, packed, rank, stepped};
+ghost use Rattle.jk_order.specs.Advancing.{Advances};
 
 use jk_marks::Order;
+
+/// Stands for the rank of a stream's next packet where it has none.
+pub(crate) const FINISHED: u128 = u128::MAX;
 
 /// What all packets of a tile share.
 #[derive(Clone, Copy, Debug)]
@@ -116,58 +119,63 @@ impl Stream {
         }
     }
 
-    /// The same layer of the next precinct.
-    fn next_precinct(self) -> Option<Stream>
-        requires { IsPlaced self }
-        ensures { result ≡ next_precinct self }
+    /// Moves to the same layer of the next precinct.
+    fn next_precinct(&mut self)
+        requires placed { IsPlaced self.old }
+        requires more { self.old.precinct + 1 < self.old.precincts }
+        ensures { self.new ≡ stepped self.old }
     {
-        if self.precinct + 1 >= self.precincts {
-            return None;
+        self.precinct += 1;
+        if self.column + 1 < self.across {
+            self.column += 1;
+        } else {
+            self.column = 0;
+            self.row += 1;
         }
-        let whole = self.column + 1 < self.across;
-        Some(Stream {
-            precinct: self.precinct + 1,
-            column: if whole { self.column + 1 } else { 0 },
-            row: if whole { self.row } else { self.row + 1 },
-            ..self
-        })
     }
 
-    /// The next layer of the same precinct.
-    fn next_layer(self, layers: u16) -> Option<Stream>
-        ensures { result
-            ≡ (if nat_lt (self.layer + 1) layers then Some (record self { layer = self.layer + 1 }) else None) }
+    /// Whether the next packet's precinct has one of a later layer.
+    fn has_later_layer(&self, frame: &Frame) -> bool
+        ensures { result ≡ nat_lt (self.now.layer + 1) frame.now.layers }
     {
-        if self.layer as u32 + 1 >= layers as u32 {
-            return None;
-        }
-        Some(Stream {
-            layer: self.layer + 1,
-            ..self
-        })
+        self.layer as u32 + 1 < frame.layers as u32
     }
 
-    /// The stream behind its next packet, unless that is the last.
-    #[tactic(auto, unfolding(crate::specs::Streams::successor))]
-    pub(crate) fn successor(self, frame: &Frame) -> Option<Stream>
-        requires { IsPlaced self }
-        ensures { result ≡ successor frame.now self }
+    /// Passes the next packet, whose rank is `head`, and gives the rank of the one behind it. Behind
+    /// the last one that is `FINISHED`, and the stream stays as it is.
+    pub(crate) fn advance(&mut self, frame: &Frame, head: u128) -> u128
+        requires frame { IsFrame frame.now }
+        requires stream { IsStream frame.now self.old }
+        requires live { IsLive frame.now self.old head }
+        ensures { Advances frame.now self.old self.new result }
     {
         match frame.order {
-            Order::Lrcp | Order::Rlcp => match self.next_precinct() {
-                Some(stream) => Some(stream),
-                None => Stream {
-                    precinct: 0,
-                    column: 0,
-                    row: 0,
-                    ..self
+            Order::Lrcp | Order::Rlcp => {
+                if self.precinct + 1 < self.precincts {
+                    self.next_precinct();
+                    head + 1
+                } else if self.has_later_layer(frame) {
+                    self.precinct = 0;
+                    self.column = 0;
+                    self.row = 0;
+                    self.layer += 1;
+                    self.rank(frame)
+                } else {
+                    FINISHED
                 }
-                .next_layer(frame.layers),
-            },
-            Order::Rpcl | Order::Pcrl | Order::Cprl => match self.next_layer(frame.layers) {
-                Some(stream) => Some(stream),
-                None => Stream { layer: 0, ..self }.next_precinct(),
-            },
+            }
+            Order::Rpcl | Order::Pcrl | Order::Cprl => {
+                if self.has_later_layer(frame) {
+                    self.layer += 1;
+                    head + 1
+                } else if self.precinct + 1 < self.precincts {
+                    self.layer = 0;
+                    self.next_precinct();
+                    self.rank(frame)
+                } else {
+                    FINISHED
+                }
+            }
         }
     }
 }
