@@ -17,7 +17,7 @@ pub(crate) struct HashedPart {
     ghost right: { sha256 bytes.items ≡ digest },
 }
 
-/// Parts of files with their digests, so many at most: those that were read last. Bytes that are the
+/// Parts of files with their digests, so many at most: those that were hashed last. Bytes that are the
 /// same as such a part have its digest, which isn't made again.
 #[derive(Drop)]
 pub struct HashedParts {
@@ -71,7 +71,7 @@ impl HashedParts {
         }
     }
 
-    /// Keeps a part in place of the oldest one.
+    /// Keeps a part, in place of the oldest one where there are as many as may be kept.
     fn put(&mut self, part: HashedPart) {
         if self.parts.len() < self.most {
             let _ = self.parts.push(part);
@@ -79,7 +79,8 @@ impl HashedParts {
         }
         if let Some(place) = self.parts.get_mut(self.oldest) {
             *place = part;
-            self.oldest = self.oldest.wrapping_add(1) % MOST;
+            let next = self.oldest.wrapping_add(1);
+            self.oldest = if next < self.most { next } else { 0 };
         }
     }
 

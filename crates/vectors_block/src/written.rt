@@ -56,8 +56,8 @@ fn block_of(
     orientation: Orientation,
     pattern: &str,
 ) -> Result<Block, Fail>
-    requires narrow { width ≤ 9 }
-    requires low { height ≤ 9 }
+    requires narrow { width ≤ 1024 }
+    requires low { height ≤ 1024 }
     ensures width { IfOk result (λ b. b.width ≡ width) }
     ensures height { IfOk result (λ b. b.height ≡ height) }
     ensures orientation { IfOk result (λ b. b.orientation ≡ orientation) }
@@ -138,6 +138,31 @@ fn patterns(rt: HostRuntime) -> Result<(), Fail> {
         count = count.saturating_add(1);
     }
     assert_eq!(rt; count, 162);
+    Ok(())
+}
+
+/// Shapes of 16, 18, 64, 65, 192, 195, 774 and 390 words with their borders: on both sides of each
+/// length of the arrays that hold them.
+const SHAPES: [(usize, usize); 8] = [
+    (9, 5),
+    (1, 13),
+    (48, 24),
+    (24, 41),
+    (73, 53),
+    (81, 49),
+    (4, 1024),
+    (1024, 4),
+];
+
+#[test]
+fn lengths_of_arrays(rt: HostRuntime) -> Result<(), Fail> {
+    for (width, height) in SHAPES {
+        for pattern in ["extreme", "alternating"] {
+            let block = block_of(rt.alloc(), width, height, Orientation::HL, pattern)?;
+            let coded = codes(&rt, rt.alloc(), &block)?;
+            assert!(rt; coded.passes > 0);
+        }
+    }
     Ok(())
 }
 

@@ -7,7 +7,7 @@ use Rattle.std.proofs.lemmas.Bool.{cases_lt, and_parts}
 use Rattle.std.proofs.lemmas.Bool.Decides.{nat_tests}
 use Rattle.std.proofs.lemmas.List.{get_or-replicate, get_or_past, get_or-set_same, get_or-set_other, length-replicate}
 use Rattle.std.proofs.lemmas.Nat.{same_from_place, mul-add-lt, or_lt, and_le_r}
-use Rattle.std.proofs.Math.Nat.{mul_comm, mul-le-mul_left, mul-le-mul_right}
+use Rattle.std.proofs.Math.Nat.{mul-le-mul_left, mul-le-mul_right}
 use Rattle.jk_scan.specs.declared.shape.BlockShape.{BlockShape}
 use Rattle.jk_scan.specs.Bits.{on}
 use Rattle.jk_scan.specs.Neighbours.{Field, is_inside}
@@ -17,7 +17,6 @@ use Rattle.jk_scan.specs.WordPlaces.{column, row}
 use Rattle.jk_scan.specs.Flags.{IsSized, across}
 use Rattle.jk_scan.proofs.Laws.{on_mod, on_above, on_shl_low, lowest}
 use Rattle.jk_scan.proofs.Laws.{on_or, on_and, on_zero, on_shl_any, on_shr_at, rows_between}
-use Rattle.jk_block.specs.Fields.{words_of}
 use Rattle.jk_block.specs.Meaning.{value_in}
 use Rattle.jk_block.specs.Meaning.{plane_at}
 use Rattle.jk_scan.specs.Passes.{is_one, first_one}
@@ -193,10 +192,6 @@ slices_fit_by w h a t wl hl area across down = elim (cases_lt a 2) [
 
 pub slices_fit : (s : BlockShape) → IsSized s → slices_of s ≤ 1032
 slices_fit s z = slices_fit_by s.width s.height (across s) (stripes s) z.narrow z.low z.area (omega arith) (omega arith)
-
--- as many as four for each word
-pub slices_few : (s : BlockShape) → slices_of s ≤ 4 * words_of s
-slices_few s = let m = product (stripes s) (across s) (stripes s + 2) (across s + 2) (omega arith) (omega arith) in let c = mul_comm (across s + 2) (stripes s + 2) in let d : 4 * stripes s * across s ≡ 4 * (stripes s * across s) = omega arith in omega (arith, m, c, d)
 
 pub slice_room : (s : BlockShape) (j i r a : ℕ) → a ≡ across s → j < across s → i < stripes s → r < 4 → 4 * i * a + j + r * a < slices_of s
 slice_room s j i r a e hj hi hr =

@@ -223,6 +223,7 @@ pub fn decode(
     ensures orientation { IfOk result (λ b. b.orientation ≡ shape.orientation) }
     ensures style { IfOk result (λ b. b.style ≡ shape.style) }
 {
+    // A block of 8 by 8 has 12 words with their border, one of 32 by 32 has 60, of 64 by 64 180.
     match words_of(shape) {
         0..=16 => decode_among::<16>(alloc, segment, shape, planes, passes),
         17..=64 => decode_among::<64>(alloc, segment, shape, planes, passes),

@@ -243,6 +243,7 @@ fn code_all(
         encoder.new marks.new.items) }
     ensures memory { IfErr result IsMemory }
 {
+    // The lengths of `decode`, with the four slices of a word.
     match words_of(shape) {
         0..=16 => code_planes::<16, 64>(shape, values, planes, list, encoder, marks),
         17..=64 => code_planes::<64, 256>(shape, values, planes, list, encoder, marks),

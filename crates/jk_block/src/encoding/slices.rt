@@ -18,8 +18,8 @@ use crate::ages::unmarked;
 use crate::spot::Spot;
 use jk_scan::{BlockShape, word_place, words_across};
 
-/// How many slices are kept, enough for each block with the rows behind its last one up to a whole
-/// stripe.
+/// How many slices are kept of the largest blocks, enough for each with the rows behind its last one
+/// up to a whole stripe.
 pub const SLICES: usize = 1032;
 
 /// The byte of a magnitude from a bit on. Bit 31 is the sign.
