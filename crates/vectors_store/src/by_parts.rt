@@ -1,10 +1,12 @@
 //! Windows of a large file, of which only the parts are read that they need.
 
 use crate::asserts::{equal, equal_at};
-use crate::calls::{add_noise, by_parts, entry_whole, entry_window, open, read, square, write};
+use crate::calls::{
+    add_noise, by_kept_parts, by_parts, entry_whole, entry_window, open, read, square, write,
+};
 use crate::shelves::{Act, act_at};
 use jk_math::Fault;
-use jk_store::{Archive, Entry, MemoryShelf, Shelf};
+use jk_store::{Archive, Entry, HashedParts, MemoryShelf, Shelf};
 use jk_window::View;
 use std::alloc::Global;
 use std::test::Fail;
@@ -125,6 +127,50 @@ fn where_a_part_has_changed(rt: HostRuntime) -> Result<(), Fail> {
         let counts = with_each_turned(rt.alloc(), &noise, asked)?;
         let due = (parts.saturating_sub(stretches), stretches, parts);
         equal_at(&rt, *corner, counts, due);
+    }
+    Ok(())
+}
+
+/// Whether the window is given, by parts that are kept from then on; what it is where a part has
+/// changed; whether it is given where that part is as it was; and how many stretches were read for
+/// the last one.
+fn with_one_turned(
+    alloc: Global,
+    noise: &Noise,
+    part: usize,
+) -> Result<(bool, Option<Fault>, bool, u64), Fault> {
+    let entry = noise.entry()?;
+    let asked = square(0, 448);
+    let window = due(alloc, noise, asked)?;
+    let mut kept = HashedParts::new(alloc);
+    let mut shelf = with_file(alloc, "n.jp2", &noise.file)?;
+    let first = by_kept_parts(entry, alloc, &mut shelf, &mut kept, asked)?;
+    let mut other = with_file(alloc, "n.jp2", &turned(alloc, &noise.file, part)?)?;
+    let changed = by_kept_parts(entry, alloc, &mut other, &mut kept, asked).err();
+    let mut shelf = act_at(shelf, 0, Act::Fail);
+    let again = by_kept_parts(entry, alloc, &mut shelf, &mut kept, asked)?;
+    Ok((
+        first.as_slice() == window.as_slice(),
+        changed,
+        again.as_slice() == window.as_slice(),
+        shelf.stretches,
+    ))
+}
+
+/// Parts that were hashed before are read again: each that has changed since is told, and the
+/// window is given again where the file is as it was.
+#[test]
+fn where_a_kept_part_has_changed(rt: HostRuntime) -> Result<(), Fail> {
+    let noise = made(rt.alloc())?;
+    let (_same, stretches, _bytes) = compared(rt.alloc(), &noise, square(0, 448))?;
+    for part in 0..noise.entry()?.parts.len() {
+        let answer = with_one_turned(rt.alloc(), &noise, part)?;
+        equal_at(
+            &rt,
+            part,
+            answer,
+            (true, Some(Fault::Changed), true, stretches),
+        );
     }
     Ok(())
 }

@@ -5,7 +5,7 @@ use crate::contents::Content;
 use jk_marks::Order;
 use jk_math::{Fault, Image, Style};
 use jk_params::{Container, Parameters};
-use jk_store::{Archive, Entry, MemoryShelf, Shelf};
+use jk_store::{Archive, Entry, HashedParts, MemoryShelf, Shelf};
 use jk_window::View;
 use std::alloc::Global;
 use std::sync::Arc;
@@ -224,6 +224,16 @@ pub(crate) fn by_parts<S: Shelf>(
     view: View,
 ) -> Result<Vec<u8>, Fault> {
     entry.window_by_parts(alloc, shelf, view)
+}
+
+pub(crate) fn by_kept_parts<S: Shelf>(
+    entry: &Entry,
+    alloc: Global,
+    shelf: &mut S,
+    kept: &mut HashedParts,
+    view: View,
+) -> Result<Vec<u8>, Fault> {
+    entry.window_by_parts_with(alloc, shelf, kept, view)
 }
 
 /// The names that are listed, with a space behind each.
