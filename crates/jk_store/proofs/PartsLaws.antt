@@ -1,12 +1,12 @@
 -- Parts of a file: their lengths and digests, and a stretch of one.
-use Rattle.std.proofs.Common.{◌≡◌, ℕ, ◌+◌, ◌-◌, ◌*◌, ◌<◌, ◌≤◌, min, List, [], ◌∷◌, ◌++◌, length, take, drop, map, slice_get, Some, sym, ap, ◌∙◌, subst, arith, length-drop}
+use Rattle.std.proofs.Common.{◌≡◌, ℕ, ◌+◌, ◌-◌, ◌*◌, ◌<◌, ◌≤◌, min, List, [], ◌∷◌, ◌++◌, length, take, drop, map, slice_get, Some, refl, sym, ap, ◌∙◌, subst, arith, length-drop}
 use Rattle.std.specs.List.{range_with_len}
-use Rattle.std.proofs.lemmas.List.{length-take, take_min, take_rest, drop-take, take-take, drop-drop}
+use Rattle.std.proofs.lemmas.List.{length-take, take_min, take_rest, drop-take, take-take, drop-drop, append_assoc}
 use Rattle.std.proofs.lemmas.List.FromFn.{length-map-range_with_len, get_or-map-range_with_len, map-range_with_len_more}
 use Rattle.std.proofs.lemmas.Option.{slice_get-get_or}
 use Rattle.sha2.specs.Sha256.{sha256}
 use Rattle.jk_walk.specs.TilePackets.{slice_of}
-use Rattle.jk_store.specs.Parts.{part_size, part, part_length, part_count, part_digests}
+use Rattle.jk_store.specs.Parts.{part_size, part, part_length, part_count, part_digests, first_digests}
 
 pub part_is_long : (i : ℕ) (file : List ℕ) → length (part i file) ≡ part_length (length file) i
 part_is_long i file = length-take part_size (drop (i * part_size) file) ∙ ap (min part_size) (length-drop (i * part_size) file)
@@ -34,6 +34,20 @@ digests_more file n old new b digest before is of_part pushed =
     ∙ ap (λ (l : List (List ℕ)). l ++ digest ∷ []) before
     ∙ ap (λ (d : List ℕ). map f (range_with_len 0 n) ++ d ∷ []) (of_part ∙ ap sha256 is)
     ∙ sym (map-range_with_len_more f 0 n n (let at : 0 + n ≡ n = omega arith in at))
+
+-- the digests of four parts more
+pub digests_four_more : (file : List ℕ) (n : ℕ) (old new : List (List ℕ)) (a b c d : List ℕ) → old ≡ first_digests n file
+    → a ≡ part n file → b ≡ part (n + 1) file → c ≡ part (n + 2) file → d ≡ part (n + 3) file
+    → new ≡ old ++ sha256 a ∷ sha256 b ∷ sha256 c ∷ sha256 d ∷ [] → new ≡ first_digests (n + 4) file
+digests_four_more file n old new a b c d before pa pb pc pd is =
+    let one = digests_more file n old (old ++ sha256 a ∷ []) a (sha256 a) before pa refl refl in
+    let two = digests_more file (n + 1) (old ++ sha256 a ∷ []) (old ++ sha256 a ∷ sha256 b ∷ []) b (sha256 b) one pb refl (sym (append_assoc old (sha256 a ∷ []) (sha256 b ∷ []))) in
+    let three = digests_more file (n + 2) (old ++ sha256 a ∷ sha256 b ∷ []) (old ++ sha256 a ∷ sha256 b ∷ sha256 c ∷ []) c (sha256 c) (two ∙ up 1 2 (omega arith)) pc refl (sym (append_assoc old (sha256 a ∷ sha256 b ∷ []) (sha256 c ∷ []))) in
+    let four = digests_more file (n + 3) (old ++ sha256 a ∷ sha256 b ∷ sha256 c ∷ []) (old ++ sha256 a ∷ sha256 b ∷ sha256 c ∷ sha256 d ∷ []) d (sha256 d) (three ∙ up 2 3 (omega arith)) pd refl (sym (append_assoc old (sha256 a ∷ sha256 b ∷ sha256 c ∷ []) (sha256 d ∷ []))) in
+    is ∙ four ∙ up 3 4 (omega arith)
+  where
+    up : (i j : ℕ) → i + 1 ≡ j → first_digests (n + i + 1) file ≡ first_digests (n + j) file
+    up i j e = ap (λ k. first_digests k file) (let more : n + i + 1 ≡ n + j = omega (arith, e) in more)
 
 pub digest_is : (i : ℕ) (file : List ℕ) → i < part_count (length file) → slice_get (part_digests file) i ≡ Some (sha256 (part i file))
 digest_is i file there =

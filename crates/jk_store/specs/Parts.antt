@@ -19,6 +19,10 @@ part_count size = (size + (part_size - 1)) / part_size
 abbrev pub part_length : (size i : ℕ) → ℕ
 part_length size i = min part_size (size - i * part_size)
 
+-- the digests of the first n parts, in order
+abbrev pub first_digests : ℕ → List ℕ → List (List ℕ)
+first_digests n file = map (λ i. sha256 (part i file)) (range_with_len 0 n)
+
 -- the digests of all parts, in order
 abbrev pub part_digests : List ℕ → List (List ℕ)
 part_digests file = map (λ i. sha256 (part i file)) (range_with_len 0 (part_count (length file)))

@@ -29,9 +29,9 @@ use crate::opening::image_index;
 use crate::parts::part_digests;
 use crate::shelf::Shelf;
 use jk_code::encode;
+use jk_digest::sha256;
 use jk_math::{Fault, Image};
 use jk_params::{Container, Parameters};
-use sha2::{Digest, Sha256};
 use std::alloc::Global;
 use std::sync::Arc;
 
@@ -102,7 +102,7 @@ fn entry_of(alloc: Global, name: &str, bytes: &[u8]) -> Result<Entry, Fault>
     let index = image_index(alloc, bytes)?;
     Ok(Entry {
         name: String::from_str(alloc, name)?,
-        digest: Sha256::digest(bytes),
+        digest: sha256(bytes),
         parts: part_digests(alloc, bytes)?,
         index,
     })

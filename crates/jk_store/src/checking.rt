@@ -22,9 +22,9 @@ use crate::names;
 use crate::opening::image_index;
 use crate::shelf::Shelf;
 use jk_code::decode;
+use jk_digest::sha256;
 use jk_farm::{Open, Work, map_jobs};
 use jk_math::Fault;
-use sha2::{Digest, Sha256};
 use std::alloc::Global;
 use std::collections::BTreeSet;
 use std::mem;
@@ -56,7 +56,7 @@ fn judge_file(alloc: Global, bytes: &[u8], blocks: bool) -> Result<(), Fault>
 fn finding(alloc: Global, bytes: &[u8], blocks: bool) -> Finding
     ensures { IsFindingOf blocks (Ok bytes.now) result }
 {
-    let digest = Sha256::digest(bytes);
+    let digest = sha256(bytes);
     match judge_file(alloc, bytes, blocks) {
         Ok(()) => Finding::Whole(digest),
         Err(fault) => Finding::Broken(digest, fault),

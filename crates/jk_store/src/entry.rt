@@ -18,9 +18,9 @@ use crate::assembling::assemble;
 use crate::hashed::HashedParts;
 use crate::names;
 use crate::shelf::Shelf;
+use jk_digest::sha256;
 use jk_math::Fault;
 use jk_window::{Index, View, plan};
-use sha2::{Digest, Sha256};
 use std::alloc::Global;
 
 /// An image of an archive: its name, and of its file the SHA-256, the SHA-256 of each 2^14 bytes
@@ -38,7 +38,7 @@ pub(crate) fn has_digest(bytes: &[u8], digest: &[u8; 32]) -> bool
     ensures yes { result ≡ true → sha256 bytes.now ≡ digest.now }
     ensures no { result ≡ false → sha256 bytes.now ≡ digest.now → ⊥ }
 {
-    Sha256::digest(bytes).as_slice() == digest.as_slice()
+    sha256(bytes).as_slice() == digest.as_slice()
 }
 
 impl Entry {

@@ -32,9 +32,9 @@ use crate::parts::part_digests;
 use crate::shelf::Shelf;
 use crate::skipped::Skipped;
 use jk_boxes::open;
+use jk_digest::sha256;
 use jk_math::Fault;
 use jk_window::{Index, index};
-use sha2::{Digest, Sha256};
 use std::alloc::Global;
 use std::collections::BTreeSet;
 use std::sync::Arc;
@@ -87,7 +87,7 @@ fn look<S: Shelf>(alloc: Global, shelf: &mut S, name: &str) -> Result<Looked, Fa
     match image_index(alloc, &bytes) {
         Ok(index) => Ok(Looked::Listed(Entry {
             name,
-            digest: Sha256::digest(&bytes),
+            digest: sha256(&bytes),
             parts: part_digests(alloc, &bytes)?,
             index,
         })),

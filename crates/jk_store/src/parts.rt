@@ -1,11 +1,11 @@
 //! The parts of a file, and their digests.
 
-ghost use Rattle.std.specs.Prelude.{◌≡◌, ◌<◌, length, IfOk, IfErr};
+ghost use Rattle.std.specs.Prelude.{◌≡◌, ◌+◌, ◌<◌, ◌≤◌, length, IfOk, IfErr, OnOk};
 ghost use Rattle.jk_math.specs.Memory.{IsMemory};
-ghost use Rattle.jk_store.specs.Parts.{part, part_count, part_digests};
+ghost use Rattle.jk_store.specs.Parts.{first_digests, part, part_count, part_digests};
 
+use jk_digest::{sha256, sha256_of_four};
 use jk_math::Fault;
-use sha2::{Digest, Sha256};
 use std::alloc::Global;
 
 /// How many bytes a part of a file has; the last one may have fewer.
@@ -20,6 +20,23 @@ fn part(bytes: &[u8], number: usize) -> &[u8]
     &rest[..PART_SIZE.min(rest.len())]
 }
 
+/// Puts the digests of four parts behind those of the parts before them.
+fn push_four(digests: &mut Vec<[u8; 32]>, bytes: &[u8], first: usize) -> Result<(), Fault>
+    requires within { first + 4 ≤ part_count (length bytes.now) }
+    ensures ok { digests.old.items ≡ first_digests first bytes.now
+        → OnOk result (digests.new.items ≡ first_digests (first + 4) bytes.now) }
+    ensures err { IfErr result IsMemory }
+{
+    let four = sha256_of_four(
+        part(bytes, first),
+        part(bytes, first + 1),
+        part(bytes, first + 2),
+        part(bytes, first + 3),
+    );
+    digests.extend_from_slice(&four)?;
+    Ok(())
+}
+
 /// The digests of the parts of a file, in order.
 pub(crate) fn part_digests(alloc: Global, bytes: &[u8]) -> Result<Vec<[u8; 32]>, Fault>
     ensures ok { IfOk result (λ v. v.items ≡ part_digests bytes.now) }
@@ -27,8 +44,12 @@ pub(crate) fn part_digests(alloc: Global, bytes: &[u8]) -> Result<Vec<[u8; 32]>,
 {
     let count = bytes.len().div_ceil(PART_SIZE);
     let mut digests = Vec::with_capacity(alloc, count)?;
-    for number in 0..count {
-        digests.push(Sha256::digest(part(bytes, number)))?;
+    let fours = bytes.len() / (4 * PART_SIZE);
+    for four in 0..fours {
+        push_four(&mut digests, bytes, 4 * four)?;
+    }
+    for number in 4 * fours..count {
+        digests.push(sha256(part(bytes, number)))?;
     }
     Ok(digests)
 }

@@ -1,0 +1,9 @@
+pub mod ScheduleVectors
+pub mod Words
+pub mod Storing
+pub mod OneRound
+pub mod Absorbing
+pub mod Rotations
+pub mod Choices
+pub mod Ending
+pub mod RoundVectors

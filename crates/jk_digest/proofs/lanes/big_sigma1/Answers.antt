@@ -1,0 +1,6 @@
+-- Lane by lane.
+use Rattle.jk_digest.proofs.RoundVectors.{sigma1_quads}
+use Rattle.jk_digest.proofs.lanes.big_sigma1.Goals as goal
+
+pub returns : goal.returns
+returns c = rw (c.rotated.ensures, c.rotated-2.ensures, c.rotated-3.ensures) (sigma1_quads c.args.x c.requires)

@@ -1,0 +1,8 @@
+-- Word by word.
+use Rattle.std.proofs.Common.{refl}
+use Rattle.sha2.specs.Sha256.{digest_bytes}
+use Rattle.jk_digest.proofs.message.bytes_of.Goals as goal
+
+pub returns : goal.returns
+unfolding digest_bytes
+returns c = rw (c.to_be_bytes.ensures, c.to_be_bytes-2.ensures, c.to_be_bytes-3.ensures, c.to_be_bytes-4.ensures, c.to_be_bytes-5.ensures, c.to_be_bytes-6.ensures, c.to_be_bytes-7.ensures, c.to_be_bytes-8.ensures) refl

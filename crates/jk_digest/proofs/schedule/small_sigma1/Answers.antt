@@ -1,0 +1,6 @@
+-- Each lane by itself.
+use Rattle.jk_digest.proofs.ScheduleVectors.{sigma1_lanes}
+use Rattle.jk_digest.proofs.schedule.small_sigma1.Goals as goal
+
+pub returns : goal.returns
+returns c = rw (c.rotated.ensures, c.rotated-2.ensures) (sigma1_lanes c.args.x c.requires)
