@@ -1,5 +1,4 @@
 pub mod ScheduleVectors
-pub mod Words
 pub mod Storing
 pub mod OneRound
 pub mod Absorbing
