@@ -9,6 +9,7 @@ pub mod Catalogue
 pub mod PartsGiven
 pub mod Readings
 pub mod Adding
+pub mod Digesting
 pub mod Opening
 pub mod Judging
 pub mod Checking

@@ -7,10 +7,11 @@ use Rattle.std.specs.String.{string_bytes}
 use Rattle.jk_store.specs.Files.{Files, with_file, is_among}
 use Rattle.jk_store.specs.Names.{file_name, is_image}
 use Rattle.jk_store.specs.Catalogue.{StandsFor, stored, image_at, most_entries}
+use Rattle.jk_store.specs.Digesting.{entry_due}
 use Rattle.jk_store.specs.declared.entry.Entry.{Entry}
 use Rattle.jk_store.specs.declared.skipped.Skipped.{Skipped}
 use Rattle.jk_store.specs.declared.opening.Looked.{Looked}
-use Rattle.jk_store.specs.declared.opening.Looked.TheVariants.{Listed, Passed}
+use Rattle.jk_store.specs.declared.opening.Looked.TheVariants.{Due, Passed}
 
 -- The bytes under a name were skipped.
 pub record IsSkippedOf (n bytes : List ℕ) (k : Skipped) : Type 0 where
@@ -18,7 +19,7 @@ pub record IsSkippedOf (n bytes : List ℕ) (k : Skipped) : Type 0 where
   pub fault : image_at bytes ≡ Err k.fault
 
 abbrev pub IsLookedOf : List ℕ → List ℕ → Looked → Type 0
-IsLookedOf name bytes (Listed e) = StandsFor e (stored name bytes)
+IsLookedOf name bytes (Due f) = StandsFor (entry_due f) (stored name bytes)
 IsLookedOf name bytes (Passed k) = IsSkippedOf name bytes k
 
 -- The shelf gave these bytes under a name. A file that it keeps is what it gives; and it keeps what

@@ -6,6 +6,7 @@ mod archive;
 mod assembling;
 mod checked;
 mod checking;
+mod digesting;
 mod entry;
 mod failures;
 mod folder;

@@ -21,10 +21,11 @@ ghost use Rattle.jk_store.specs.Catalogue.{Passes};
 ghost use Rattle.jk_store.specs.Showing.{ShowImages, StandForImages};
 ghost use Rattle.jk_store.specs.Opening.{IsLookedOf, Gives, Enters, Opened, ReadsPast, ReadsUpTo, OpensAs, OpensPast};
 ghost use Rattle.jk_store.specs.Opening.{OpensUpTo};
+ghost use Rattle.jk_store.specs.Digesting.{all_entries};
 ghost use Rattle.jk_store.specs.declared.entry.Entry.{Entry as EntryFields};
 
-use crate::adding::MOST_ENTRIES;
 use crate::archive::Archive;
+use crate::digesting::{Digesting, Undigested};
 use crate::entry::Entry;
 use crate::hashed::HashedParts;
 use crate::names;
@@ -32,7 +33,6 @@ use crate::parts::part_digests;
 use crate::shelf::Shelf;
 use crate::skipped::Skipped;
 use jk_boxes::open;
-use jk_digest::sha256;
 use jk_math::Fault;
 use jk_window::{Index, index};
 use std::alloc::Global;
@@ -42,7 +42,7 @@ use std::sync::Arc;
 /// What becomes of a file.
 #[derive(Drop)]
 enum Looked {
-    Listed(Entry),
+    Due(Undigested),
     Passed(Skipped),
 }
 
@@ -85,12 +85,15 @@ fn look<S: Shelf>(alloc: Global, shelf: &mut S, name: &str) -> Result<Looked, Fa
     let bytes = shelf.read(alloc, file.as_str())?;
     let name = String::from_str(alloc, name)?;
     match image_index(alloc, &bytes) {
-        Ok(index) => Ok(Looked::Listed(Entry {
-            name,
-            digest: sha256(&bytes),
-            parts: part_digests(alloc, &bytes)?,
-            index,
-        })),
+        Ok(index) => {
+            let parts = part_digests(alloc, &bytes)?;
+            Ok(Looked::Due(Undigested {
+                name,
+                bytes,
+                parts,
+                index,
+            }))
+        }
         Err(fault) => {
             if is_memory(&fault) {
                 return Err(fault);
@@ -108,14 +111,15 @@ fn enter<S: Shelf>(
     alloc: Global,
     shelf: &mut S,
     name: &str,
-    entries: &mut Vec<Arc<Entry>>,
+    listed: &mut Digesting,
     skipped: &mut Vec<Skipped>,
 ) -> Result<(), Fault>
     ensures given { OnOk result ((bytes : List ℕ) × Gives S.keeps S.gave shelf.old (file_name name.now) bytes shelf.new
-        × Enters name.now bytes (map arc_value entries.old.items)
-        (map arc_value entries.new.items) skipped.old.items skipped.new.items) }
-    ensures few { length entries.old.items ≤ most_entries → OnOk result (length entries.new.items ≤ most_entries) }
-    ensures full { result ≡ Err Limit → (most_entries ≤ length entries.old.items)
+        × Enters name.now bytes (all_entries listed.old) (all_entries listed.new) skipped.old.items
+        skipped.new.items) }
+    ensures few { length (all_entries listed.old) ≤ most_entries
+        → OnOk result (length (all_entries listed.new) ≤ most_entries) }
+    ensures full { result ≡ Err Limit → (most_entries ≤ length (all_entries listed.old))
         × ((bytes : List ℕ) × (e : EntryFields) × Gives S.keeps S.gave shelf.old (file_name name.now) bytes shelf.new
         × StandsFor e (stored name.now bytes)) }
     ensures cause { IfErr result (λ e. e ≡ ShelfFault → S.unread shelf.old (file_name name.now) shelf.new) }
@@ -123,11 +127,11 @@ fn enter<S: Shelf>(
     ensures counts { Passes (λ e. IsMemory e ⊎ (e ≡ Limit)) result (S.failed shelf.old) (S.failed shelf.new) }
 {
     match look(alloc, shelf, name)? {
-        Looked::Listed(entry) => {
-            if MOST_ENTRIES <= entries.len() {
+        Looked::Due(file) => {
+            if listed.is_full() {
                 return Err(Fault::Limit);
             }
-            entries.push(Arc::new(alloc, entry)?)?;
+            listed.take(alloc, file)?;
         }
         Looked::Passed(file) => skipped.push(file)?,
     }
@@ -161,12 +165,15 @@ fn read_images<S: Shelf>(
     ensures kept { (files : Files) → S.keeps shelf.old files → S.keeps shelf.new files }
     ensures counts { Passes (λ e. IsMemory e ⊎ (e ≡ Limit)) result (S.failed shelf.old) (S.failed shelf.new) }
 {
-    let mut entries = Vec::new(alloc);
+    let mut listed = Digesting::new(alloc);
     let mut skipped = Vec::new(alloc);
     for name in names.iter() {
-        enter(alloc, shelf, name.as_str(), &mut entries, &mut skipped)?;
+        enter(alloc, shelf, name.as_str(), &mut listed, &mut skipped)?;
     }
-    Ok(Made { entries, skipped })
+    Ok(Made {
+        entries: listed.finish(alloc)?,
+        skipped,
+    })
 }
 
 /// The images of a shelf, and the files that aren't listed.

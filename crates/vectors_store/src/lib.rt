@@ -12,6 +12,8 @@ mod calls;
 #[cfg(test)]
 mod contents;
 #[cfg(test)]
+mod digested;
+#[cfg(test)]
 mod digests;
 #[cfg(test)]
 mod directories;
