@@ -18,7 +18,7 @@ extern "C" {
 
 /* The version of this header: 10,000 times the major number, 100 times the minor one, and the patch. jk_version()
  * answers that of the library. */
-#define JK_VERSION 100u
+#define JK_VERSION 200u
 
 /* What calls answer. But for the last two these are the faults of `jk faults`. */
 enum {
@@ -73,18 +73,19 @@ typedef struct jk_coding {
     uint8_t precincts[8];               /* exponents PPx + 16 * PPy of precinct sizes, the lowest resolution first */
     uint32_t colour;                    /* 1: components 0 to 2 go through the colour transform */
     uint32_t sop, eph;                  /* 1: SOP before each packet, EPH behind each packet header */
-    uint32_t raw;                       /* 1: a bare codestream; 0: a JP2 file, which holds 1 or 3 components */
+    uint32_t raw;                       /* 1: a bare codestream; 0: a JP2 file, for 1 or 3 unsigned components */
     uint32_t style;                     /* 0, or JK_RESET, JK_CAUSAL and JK_SEGMENTS added */
     uint32_t reserved[3];               /* zeros */
 } jk_coding;
 
 /* 5 levels, 1 layer, LRCP, one tile, code-blocks of 64 by 64, no precincts; the colour transform where there are three
- * components; JP2 where it holds the image, else a bare codestream; no style. */
+ * components; JP2 where it holds the image, which has 1 or 3 components of unsigned samples then, else a bare codestream;
+ * no style. */
 static inline jk_coding jk_coding_for(const jk_frame *frame)
 {
     jk_coding coding = {5, 1, JK_LRCP, 0, 0, 6, 6, 0, {0, 0, 0, 0, 0, 0, 0, 0}, 0, 0, 0, 0, 0, {0, 0, 0}};
     coding.colour = frame->components == 3;
-    coding.raw = frame->components != 1 && frame->components != 3;
+    coding.raw = (frame->components != 1 && frame->components != 3) || frame->is_signed;
     return coding;
 }
 
@@ -95,10 +96,12 @@ uint32_t jk_version(void);
  * for its samples has width * height * components elements. JK_BAD_WINDOW: it can't be halved so often. */
 uint32_t jk_info(const uint8_t *file, size_t file_length, uint32_t reduce, jk_frame *frame);
 
-/* The samples of the image at a reduction. The first takes images of at most 8 bits, and both take unsigned ones alone:
- * else JK_MISFIT, as where count isn't width * height * components. */
+/* The samples of the image at a reduction. u8 and u16 take unsigned samples alone, i8 and i16 signed ones, u8 and i8 those
+ * of at most 8 bits: else JK_MISFIT, as where count isn't width * height * components. */
 uint32_t jk_decode_u8(const uint8_t *file, size_t file_length, uint32_t reduce, uint8_t *samples, size_t count);
 uint32_t jk_decode_u16(const uint8_t *file, size_t file_length, uint32_t reduce, uint16_t *samples, size_t count);
+uint32_t jk_decode_i8(const uint8_t *file, size_t file_length, uint32_t reduce, int8_t *samples, size_t count);
+uint32_t jk_decode_i16(const uint8_t *file, size_t file_length, uint32_t reduce, int16_t *samples, size_t count);
 
 /* The samples of a window of the image at a reduction, without decoding the rest. The window is counted from the upper
  * left sample of the reduced image and cut with it: count is the cut window's. JK_BAD_WINDOW: it has no sample. */
@@ -106,13 +109,22 @@ uint32_t jk_decode_window_u8(const uint8_t *file, size_t file_length, uint32_t r
                              uint32_t width, uint32_t height, uint8_t *samples, size_t count);
 uint32_t jk_decode_window_u16(const uint8_t *file, size_t file_length, uint32_t reduce, uint32_t x, uint32_t y,
                               uint32_t width, uint32_t height, uint16_t *samples, size_t count);
+uint32_t jk_decode_window_i8(const uint8_t *file, size_t file_length, uint32_t reduce, uint32_t x, uint32_t y,
+                             uint32_t width, uint32_t height, int8_t *samples, size_t count);
+uint32_t jk_decode_window_i16(const uint8_t *file, size_t file_length, uint32_t reduce, uint32_t x, uint32_t y,
+                              uint32_t width, uint32_t height, int16_t *samples, size_t count);
 
 /* The file of an image. With JK_DONE its bytes stand at the beginning of the room, and *length tells how many they are.
  * With JK_SHORT *length tells how much room is needed. Room of 1.25 times the samples' bytes and 64 KiB is enough but
- * for small tiles, code-blocks and precincts. */
+ * for small tiles, code-blocks and precincts. u8 and u16 ask for a frame with is_signed 0, i8 and i16 for one with 1, and
+ * for a bare codestream: else JK_BAD_PARAMETERS. */
 uint32_t jk_encode_u8(const jk_frame *frame, const uint8_t *samples, size_t count, const jk_coding *coding,
                       uint8_t *file, size_t room, size_t *length);
 uint32_t jk_encode_u16(const jk_frame *frame, const uint16_t *samples, size_t count, const jk_coding *coding,
+                       uint8_t *file, size_t room, size_t *length);
+uint32_t jk_encode_i8(const jk_frame *frame, const int8_t *samples, size_t count, const jk_coding *coding,
+                      uint8_t *file, size_t room, size_t *length);
+uint32_t jk_encode_i16(const jk_frame *frame, const int16_t *samples, size_t count, const jk_coding *coding,
                        uint8_t *file, size_t room, size_t *length);
 
 /* The file of a window, counted as above: the stored file, in which the packets that the window doesn't need are empty.

@@ -10,7 +10,8 @@ import pytest
 
 def noise(shape, dtype=np.uint8, depth=None, seed=1):
     top = 1 << (depth or np.dtype(dtype).itemsize * 8)
-    return np.random.default_rng(seed).integers(0, top, shape).astype(dtype)
+    low = -(top >> 1) if np.dtype(dtype).kind == "i" else 0
+    return np.random.default_rng(seed).integers(low, low + top, shape).astype(dtype)
 
 
 def stored(image, **parameters):

@@ -29,11 +29,14 @@ def test_the_photograph_has_the_commands_length_and_comes_back(tmp_path):
 
 
 @pytest.mark.parametrize("components", [1, 2, 3, 4])
-@pytest.mark.parametrize("dtype, depth", [(np.uint8, 8), (np.uint8, 5), (np.uint16, 16), (np.uint16, 12)])
+@pytest.mark.parametrize("dtype, depth", [
+    (np.uint8, 8), (np.uint8, 5), (np.uint16, 16), (np.uint16, 12), (np.int8, 8), (np.int8, 5), (np.int16, 16), (np.int16, 9),
+])
 def test_arrays_come_back(components, dtype, depth):
     shape = (19, 23) if components == 1 else (19, 23, components)
     image = noise(shape, dtype, depth)
     file = jk.encode(image, depth=depth, levels=2)
+    assert (jk.info(file).signed, jk.info(file).dtype) == (dtype in (np.int8, np.int16), dtype)
     back = jk.read(file)
     assert (back.dtype, back.shape) == (image.dtype, image.shape)
     assert np.array_equal(back, image)
@@ -77,10 +80,9 @@ def test_parameters():
     assert np.array_equal(jk.read(file), image)
     with pytest.raises(TypeError):
         jk.encode(image, level=1)
-    with pytest.raises(TypeError):
-        jk.encode(image.astype(np.int16))
-    with pytest.raises(TypeError):
-        jk.encode(image.astype(">u2"))
+    for other in (np.int32, np.float32, bool, ">u2", ">i2"):
+        with pytest.raises(TypeError):
+            jk.encode(image.astype(other))
 
 
 def faulty():
@@ -140,12 +142,30 @@ def test_faults_of_calls():
         jk.read(file, reduce=-1)
 
 
-def test_signed_samples_are_refused():
-    file = bytearray(jk.encode(noise((16, 16)), raw=True))
-    file[42] |= 128  # Ssiz of the only component
-    assert jk.info(bytes(file)).signed
-    with pytest.raises(jk.Misfit):
-        jk.read(bytes(file))
+def test_signed_samples_at_their_bounds():
+    image = np.array([[-32768, 32767, 0, -1], [1, -32767, 32766, -2]], np.int16)
+    file = jk.encode(image, levels=1)
+    assert file[:4] == b"\xff\x4f\xff\x51"
+    assert file[42] == 128 + 15  # Ssiz of the only component
+    assert np.array_equal(jk.read(file), image)
+    assert np.array_equal(jk.read(file, window=(1, 1, 2, 1)), image[1:, 1:3])
+    slice_ = np.array([[-1024, 3071], [0, -1]], np.int16)
+    assert np.array_equal(jk.read(jk.encode(slice_, depth=13)), slice_)
+    with pytest.raises(jk.BadParameters):
+        jk.encode(slice_, depth=12)
+    with pytest.raises(jk.BadParameters):
+        jk.encode(slice_, depth=13, raw=False)
+
+
+def test_the_sign_of_a_codestream_decides():
+    image = noise((16, 16), np.int8)
+    signed = jk.encode(image)
+    unsigned = bytearray(signed)
+    unsigned[42] &= 127
+    # The level shift, of 128, is all that differs (T.800 G.1).
+    assert np.array_equal(jk.read(bytes(unsigned)).astype(np.int16), image.astype(np.int16) + 128)
+    with pytest.raises(ValueError):
+        jk.read(signed, out=np.empty((16, 16), np.uint8))
 
 
 def test_faults_are_value_errors():

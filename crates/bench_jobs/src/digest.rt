@@ -1,5 +1,7 @@
 //! A digest of results.
 
+use jk_math::Image;
+
 /// The digest of what was taken so far (FNV-1a, by 64 bits).
 #[derive(Clone, Copy)]
 pub(crate) struct Digest {
@@ -32,5 +34,13 @@ impl Digest {
             self.take_number(sample.unsigned_abs() as u64);
         }
         self.take_number(samples.len() as u64);
+    }
+
+    /// Takes the samples of an image, none of which is negative.
+    pub(crate) fn take_image(&mut self, image: &Image) {
+        let planes = image.planes();
+        for at in 0..planes.len() {
+            self.take_samples(planes.plane(at));
+        }
     }
 }

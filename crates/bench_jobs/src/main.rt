@@ -1,7 +1,8 @@
 //! Jobs that users of jk wait for, through its public calls, on images that a seed gives. What a
 //! job gives is told as a digest.
 //!
-//! The words are a job, or `every`, a seed below 2^32, and `trial` where the job is to be small.
+//! The words are a job, or `every`, a seed below 2^32, and `trial` where the job is to be small. The
+//! word `orders` alone tells how long a packet takes in each order.
 #![tactic(auto)]
 
 mod archive;
@@ -11,6 +12,8 @@ mod chance;
 mod digest;
 mod drawing;
 mod noise;
+mod orders;
+mod others;
 mod scale;
 mod scan;
 mod server;
@@ -26,7 +29,9 @@ use std::process::ExitCode;
 use std::thread::Threads;
 
 /// The jobs, by their names.
-static JOBS: [&str; 6] = ["scan", "slices", "viewer", "server", "archive", "awkward"];
+static JOBS: [&str; 7] = [
+    "scan", "slices", "viewer", "server", "archive", "awkward", "others",
+];
 
 /// What a job gives. `None`: there is none of that name.
 fn done<R: Threads + Sync>(
@@ -43,6 +48,7 @@ fn done<R: Threads + Sync>(
         "server" => Some(server::server(alloc, seed, scale)),
         "archive" => Some(archive::archive(rt, alloc, seed, scale)),
         "awkward" => Some(awkward::awkward(alloc, seed, scale)),
+        "others" => Some(others::others(alloc, seed, scale)),
         _ => None,
     }
 }
@@ -109,6 +115,9 @@ fn main(rt: HostRuntime) -> ExitCode {
     let _ = Vec::<u8>::with_capacity(alloc, KEPT);
     match words(&rt, alloc) {
         Ok(words) => {
+            if words.len() == 1 && words[0].as_str() == "orders" {
+                return ExitCode::from(orders::tell(&rt).is_err() as u8);
+            }
             if run(&rt, alloc, &words) {
                 return ExitCode::SUCCESS;
             }
@@ -116,7 +125,7 @@ fn main(rt: HostRuntime) -> ExitCode {
         Err(_) => {}
     }
     let _ = rt.eprint(
-        "bench_jobs JOB SEED [trial]; JOB: scan slices viewer server archive awkward every\n",
+        "bench_jobs JOB SEED [trial]; JOB: scan slices viewer server archive awkward others every\n",
     );
     ExitCode::FAILURE
 }

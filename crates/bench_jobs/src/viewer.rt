@@ -5,15 +5,8 @@ use crate::chance::Chance;
 use crate::digest::Digest;
 use crate::drawing::Slide;
 use crate::scale::Scale;
-use jk_math::{Fault, Image};
+use jk_math::Fault;
 use std::alloc::Global;
-
-fn take_image(digest: &mut Digest, image: &Image) {
-    let planes = image.planes();
-    for at in 0..planes.len() {
-        digest.take_samples(planes.plane(at));
-    }
-}
 
 /// A slide is encoded with windows. Windows of it are decoded at all reductions, out of the stored
 /// file and out of files that were cut.
@@ -29,14 +22,14 @@ pub(crate) fn viewer(alloc: Global, seed: u64, scale: Scale) -> Result<Digest, F
         let side = if number % 2 == 0 { 512 } else { 256 };
         let view = view_at(&mut chance, &cells, size, number % 5, side, None);
         if asked.first(0, view)? {
-            take_image(&mut digest, &window_of(alloc, &file, view)?);
+            digest.take_image(&window_of(alloc, &file, view)?);
         }
         let layers = if number % 4 == 1 { None } else { Some(4) };
         let view = view_at(&mut chance, &cells, size, number % 3, side, layers);
         if asked.first(1, view)? {
             let cut = cut_of(alloc, &file, view)?;
             digest.take(&cut);
-            take_image(&mut digest, &window_of(alloc, &cut, view)?);
+            digest.take_image(&window_of(alloc, &cut, view)?);
         }
     }
     Ok(digest)

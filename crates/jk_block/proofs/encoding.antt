@@ -1,16 +1,18 @@
 -- The way of a block that is written: its planes (Slicing, Negatives), the moment of each bit of a
 -- word (Timing), what is listed of a word (Coming, Remaining) in significance propagation
--- (Foreseen), magnitude refinement (Refined) and cleanup (Turned, Cleaned), and one pass and plane
+-- (Foreseen), magnitude refinement (Refined) and cleanup (Turned, Columned), and one pass and plane
 -- after another (Planes, Written).
 pub mod Behind
-pub mod Cleaned
+pub mod Columned
 pub mod Coming
+pub mod Each
 pub mod Emptied
 pub mod Foreseen
 pub mod Lengths
 pub mod Lighting
 pub mod Listed
 pub mod Negatives
+pub mod Older
 pub mod Planes
 pub mod Propagated
 pub mod Reaching

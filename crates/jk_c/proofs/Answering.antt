@@ -1,5 +1,5 @@
 -- What is answered where something is due.
-use Rattle.std.proofs.Common.{◌≡◌, ◌⊎◌, inl, inr, ℕ, List, take, Ok, Err, Result, refl, sym, ap, subst, ◌∙◌, arith}
+use Rattle.std.proofs.Common.{◌≡◌, ◌⊎◌, inl, inr, ℕ, ℤ, List, take, Ok, Err, Result, refl, sym, ap, subst, ◌∙◌, arith}
 use Rattle.std.specs.Global.{Vec}
 use Rattle.std.specs.Prelude.{IfOk}
 use Rattle.jk_math.specs.Answer.{Refuses, Answers}
@@ -10,6 +10,7 @@ use Rattle.jk_math.specs.Picture.{Picture}
 use Rattle.jk_c.specs.Answers.{GivesPixels, GivesPixelsOrMemory, Room, HandsOut, HandsOutOrMemory, bytes_of}
 use Rattle.jk_c.specs.Codes.{code_of}
 use Rattle.jk_c.specs.Pixels.{ArePixels}
+use Rattle.jk_c.specs.Signed.{GivesSigned, GivesSignedOrMemory, AreSignedPixels}
 
 -- a fault that is answered is Memory, or it is due
 pub refused_is : {X : Type 0} (e : Fault) (due : Result X Fault) → Refuses e due → (code_of e ≡ 1) ⊎ (due ≡ Err e)
@@ -47,6 +48,23 @@ pixels_found bits (Ok p) P before after code has given done = elim given [
   | inr misfit ↦ absurd (omega (arith, misfit.0, done))
 ]
 pixels_found bits (Err e) P before after code has given done = absurd (no_fault e (sym given.0 ∙ done))
+
+-- the same of signed samples
+pub signed_due : (bits : ℕ) (r due : Result Picture Fault) (before after : List ℤ) (code : ℕ) → Answers (λ (p : Picture). p) r due
+    → GivesSigned bits r before code after → GivesSignedOrMemory bits due before code after
+signed_due bits (Ok p) due before after code a given = inr (subst (λ (d : Result Picture Fault). GivesSigned bits d before code after) (sym a) given)
+signed_due bits (Err e) due before after code a given = elim (refused_is e due a) [
+  | inl memory ↦ inl (given.0 ∙ memory, given.1)
+  | inr is ↦ inr (subst (λ (d : Result Picture Fault). GivesSigned bits d before code after) (sym is) given)
+]
+
+pub signed_found : (bits : ℕ) (r : Result Picture Fault) (P : Picture → Type 0) (before after : List ℤ) (code : ℕ) → IfOk r P
+    → GivesSigned bits r before code after → code ≡ 0 → (p : Picture) × P p × AreSignedPixels p after
+signed_found bits (Ok p) P before after code has given done = elim given [
+  | inl put ↦ (p, has, put.2)
+  | inr misfit ↦ absurd (omega (arith, misfit.0, done))
+]
+signed_found bits (Err e) P before after code has given done = absurd (no_fault e (sym given.0 ∙ done))
 
 -- the same of bytes
 pub bytes_due : (r : Result (Vec ℕ) Fault) (due : Result (List ℕ) Fault) (before after : Room) (code : ℕ) → Answers (λ (v : Vec ℕ). v.items) r due

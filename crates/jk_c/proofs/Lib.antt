@@ -1,4 +1,5 @@
 mod Answering
 mod Handing
-mod Pixels
+mod Passing
+mod Planes
 mod Spreading

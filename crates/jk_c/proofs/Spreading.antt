@@ -23,24 +23,25 @@ places_apart i j k c e l m apart same =
       ]
     ]
 
--- the samples of the first pixels lie at their places, and the other components are as before
-pub record IsSpread (n k c : ℕ) (samples : List ℤ) (before pixels : List ℕ) : Type 0 where
+-- The samples of the first pixels lie at their places, as the values of elements, and the other
+-- components are as before.
+pub record IsSpread {X : Type 0} (value : X → ℤ) (none : X) (n k c : ℕ) (samples : List ℤ) (before pixels : List X) : Type 0 where
   pub long : length pixels ≡ length before
-  pub put : (i : ℕ) → i < n → pos (get_or pixels (i * k + c) 0) ≡ get_or samples i (pos 0)
-  pub keeps : (e i : ℕ) → e < k → (e ≡ c → ⊥) → get_or pixels (i * k + e) 0 ≡ get_or before (i * k + e) 0
+  pub put : (i : ℕ) → i < n → value (get_or pixels (i * k + c) none) ≡ get_or samples i (pos 0)
+  pub keeps : (e i : ℕ) → e < k → (e ≡ c → ⊥) → get_or pixels (i * k + e) none ≡ get_or before (i * k + e) none
 
 -- one more of them
-pub spread_more : (n k c b : ℕ) (samples : List ℤ) (before pixels : List ℕ) → n < length samples → c < k → length before ≡ length samples * k
-    → pos b ≡ get_or samples n (pos 0) → IsSpread n k c samples before pixels → IsSpread (n + 1) k c samples before (set pixels (n * k + c) b)
-spread_more n k c b samples before pixels l m room is p =
+pub spread_more : {X : Type 0} (value : X → ℤ) (none : X) (n k c : ℕ) (b : X) (samples : List ℤ) (before pixels : List X) → n < length samples → c < k → length before ≡ length samples * k
+    → value b ≡ get_or samples n (pos 0) → IsSpread value none n k c samples before pixels → IsSpread value none (n + 1) k c samples before (set pixels (n * k + c) b)
+spread_more {X} value none n k c b samples before pixels l m room is p =
     let long = p.long in
     let place = place_below n (length samples) k c l m in
     let within : n * k + c < length pixels = omega (arith, place, long, room) in
     record {
       long = rw length-set long;
-      put = below_more (λ i. pos (get_or (set pixels (n * k + c) b) (i * k + c) 0) ≡ get_or samples i (pos 0)) n
-          (λ i less. ap pos (get_or-set_other pixels (n * k + c) (i * k + c) b 0 (places_apart n i k c c m m (λ same e. omega (arith, less, same)))) ∙ p.put i less)
-          (ap pos (get_or-set_same pixels (n * k + c) b 0 within) ∙ is);
+      put = below_more (λ i. value (get_or (set pixels (n * k + c) b) (i * k + c) none) ≡ get_or samples i (pos 0)) n
+          (λ i less. ap value (get_or-set_other pixels (n * k + c) (i * k + c) b none (places_apart n i k c c m m (λ same e. omega (arith, less, same)))) ∙ p.put i less)
+          (ap value (get_or-set_same pixels (n * k + c) b none within) ∙ is);
       keeps = λ e i few other.
-          get_or-set_other pixels (n * k + c) (i * k + e) b 0 (places_apart n i k c e m few (λ same is. other is)) ∙ p.keeps e i few other;
+          get_or-set_other pixels (n * k + c) (i * k + e) b none (places_apart n i k c e m few (λ same is. other is)) ∙ p.keeps e i few other;
     }

@@ -1,5 +1,5 @@
 -- What an image is, as C programs tell it and are told.
-use Rattle.std.specs.Prelude.{◌≡◌, ◌⊎◌, Result, Ok, Err, ℕ, ◌*◌, ◌^◌, ◌≤◌, false, List, [], ◌∷◌, map}
+use Rattle.std.specs.Prelude.{◌≡◌, ◌⊎◌, Result, Ok, Err, ℕ, ◌*◌, ◌^◌, ◌≤◌, false, Bool, ℤ, List, [], ◌∷◌, map}
 use Rattle.std.specs.List.{range_with_len}
 use Rattle.jk_math.specs.declared.fault.Fault.{Fault}
 use Rattle.jk_math.specs.declared.fault.Fault.TheVariants.{BadParameters}
@@ -15,6 +15,14 @@ pub record IsKnownFrame (f : CallerFrame) : Type 0 where
   pub few : f.components ≤ 4
   pub bits : f.depth ≤ 16
   pub plain : f.is_signed ≡ 0
+  pub area : f.width * f.height ≤ 2 ^ 28
+  pub reserved : f.reserved ≡ 0 ∷ 0 ∷ 0 ∷ 0 ∷ []
+
+-- The same of samples with a sign or without.
+pub record IsCountable (f : CallerFrame) : Type 0 where
+  pub some : 1 ≤ f.components
+  pub few : f.components ≤ 4
+  pub bits : f.depth ≤ 16
   pub area : f.width * f.height ≤ 2 ^ 28
   pub reserved : f.reserved ≡ 0 ∷ 0 ∷ 0 ∷ 0 ∷ []
 
@@ -34,8 +42,20 @@ picture_from f pixels = record {
   planes = map (plane_in pixels (f.width * f.height) f.components) (range_with_len 0 f.components);
 }
 
--- What is answered where the image of a frame with these samples is due: that image, or
--- BadParameters where it isn't one of the profile, or Memory.
-abbrev pub IsImageOf : CallerFrame → List ℕ → Result Picture Fault → Type 0
-IsImageOf f pixels (Ok p) = (p ≡ picture_from f pixels) × IsPicture p
-IsImageOf f pixels (Err e) = IsMemory e ⊎ ((e ≡ BadParameters) × (IsPicture (picture_from f pixels) → ⊥))
+-- the picture of a frame with these planes
+abbrev pub framed : CallerFrame → Bool → List (List ℤ) → Picture
+framed f signed planes = record {
+  x0 = f.x0;
+  y0 = f.y0;
+  width = f.width;
+  height = f.height;
+  depth = f.depth;
+  signed = signed;
+  planes = planes;
+}
+
+-- What is answered where a picture is due as an image: that, or BadParameters where it isn't one of
+-- the profile, or Memory.
+abbrev pub IsImageOf : Picture → Result Picture Fault → Type 0
+IsImageOf due (Ok p) = (p ≡ due) × IsPicture p
+IsImageOf due (Err e) = IsMemory e ⊎ ((e ≡ BadParameters) × (IsPicture due → ⊥))

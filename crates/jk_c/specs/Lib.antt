@@ -5,5 +5,6 @@ pub mod Encodings
 pub mod Examples
 pub mod Frames
 pub mod Pixels
+pub mod Signed
 pub mod Telling
 pub mod Views

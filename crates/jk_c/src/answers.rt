@@ -2,9 +2,11 @@
 
 ghost use Rattle.std.specs.Prelude.{◌≡◌, Ok};
 ghost use Rattle.jk_c.specs.Answers.{GivesPixels, HandsOut, bytes_of, room};
+ghost use Rattle.jk_c.specs.Signed.{GivesSigned};
 
 use crate::codes::{DONE, MISFIT, SHORT, code};
 use crate::samples::{put_image_bytes, put_image_words};
+use crate::signed::{put_image_shorts, put_image_tinies};
 use jk_math::{Fault, Image};
 
 /// Gives the pixels of an image as bytes, or tells the fault that stands in its place.
@@ -30,6 +32,39 @@ pub(crate) fn give_words(image: Result<Image, Fault>, pixels: &mut [u16]) -> u32
     match image {
         Ok(image) => {
             if put_image_words(&image, pixels) {
+                DONE
+            } else {
+                MISFIT
+            }
+        }
+        Err(fault) => code(fault),
+    }
+}
+
+/// Gives the pixels of an image as signed bytes, or tells the fault that stands in its place.
+pub(crate) fn give_tinies(image: Result<Image, Fault>, pixels: &mut [i8]) -> u32
+    ensures { GivesSigned 8 image pixels.old result pixels.new }
+{
+    match image {
+        Ok(image) => {
+            if put_image_tinies(&image, pixels) {
+                DONE
+            } else {
+                MISFIT
+            }
+        }
+        Err(fault) => code(fault),
+    }
+}
+
+/// Gives the pixels of an image as signed words of two bytes, or tells the fault that stands in its
+/// place.
+pub(crate) fn give_shorts(image: Result<Image, Fault>, pixels: &mut [i16]) -> u32
+    ensures { GivesSigned 16 image pixels.old result pixels.new }
+{
+    match image {
+        Ok(image) => {
+            if put_image_shorts(&image, pixels) {
                 DONE
             } else {
                 MISFIT

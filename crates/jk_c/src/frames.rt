@@ -1,7 +1,8 @@
 //! What an image is, as C programs tell it and are told.
 
-ghost use Rattle.std.specs.Prelude.{◌≡◌, ◌↔◌, ◌*◌, IsTrue};
-ghost use Rattle.jk_c.specs.Frames.{IsKnownFrame, Fills};
+ghost use Rattle.std.specs.Prelude.{◌≡◌, ◌≤◌, ◌^◌, ◌↔◌, ◌*◌, IsTrue};
+ghost use Rattle.jk_c.specs.Frames.{IsKnownFrame, IsCountable, Fills};
+ghost use Rattle.jk_c.specs.Signed.{IsKnownSignedFrame};
 
 /// Where an image lies at a reduction, how large it is, and what its samples are.
 #[repr(C)]
@@ -27,21 +28,35 @@ pub struct CallerFrame {
     pub reserved: [u32; 4],
 }
 
-/// Whether a frame is one of unsigned samples for which a list can be counted.
-pub(crate) fn is_known(frame: &CallerFrame) -> bool
-    ensures { IsTrue result ↔ IsKnownFrame frame.now }
+/// Whether a list can be counted for the samples of a frame.
+fn is_countable(frame: &CallerFrame) -> bool
+    ensures { IsTrue result ↔ IsCountable frame.now }
 {
     1 <= frame.components
         && frame.components <= 4
         && frame.depth <= 16
-        && frame.is_signed == 0
         && frame.width as u64 * frame.height as u64 <= 1 << 28
         && frame.reserved == [0; 4]
 }
 
+/// Whether a frame is one of unsigned samples for which a list can be counted.
+pub(crate) fn is_known(frame: &CallerFrame) -> bool
+    ensures { IsTrue result ↔ IsKnownFrame frame.now }
+{
+    frame.is_signed == 0 && is_countable(frame)
+}
+
+/// Whether a frame is one of signed samples for which a list can be counted.
+pub(crate) fn is_known_signed(frame: &CallerFrame) -> bool
+    ensures { IsTrue result ↔ IsKnownSignedFrame frame.now }
+{
+    frame.is_signed == 1 && is_countable(frame)
+}
+
 /// Whether a list has a sample for each component of each pixel.
 pub(crate) fn fills(frame: &CallerFrame, count: usize) -> bool
-    requires { IsKnownFrame frame.now }
+    requires few { frame.now.components ≤ 4 }
+    requires area { frame.now.width * frame.now.height ≤ 2 ^ 28 }
     ensures { IsTrue result ↔ Fills frame.now count }
 {
     frame.width as usize * frame.height as usize * frame.components as usize == count

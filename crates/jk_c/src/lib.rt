@@ -13,13 +13,16 @@ mod frames;
 mod images;
 mod info;
 mod samples;
+mod signed;
 mod version;
 mod windows;
 
 pub use coding::CallerCoding;
-pub use decoding::{jk_decode_u8, jk_decode_u16};
-pub use encoding::{jk_encode_u8, jk_encode_u16};
+pub use decoding::{jk_decode_i8, jk_decode_i16, jk_decode_u8, jk_decode_u16};
+pub use encoding::{jk_encode_i8, jk_encode_i16, jk_encode_u8, jk_encode_u16};
 pub use frames::CallerFrame;
 pub use info::jk_info;
 pub use version::jk_version;
-pub use windows::{jk_cut, jk_decode_window_u8, jk_decode_window_u16};
+pub use windows::{
+    jk_cut, jk_decode_window_i8, jk_decode_window_i16, jk_decode_window_u8, jk_decode_window_u16,
+};

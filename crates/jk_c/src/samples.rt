@@ -66,13 +66,22 @@ fn put_words(samples: &[i32], component: usize, components: usize, pixels: &mut 
     }
 }
 
+/// Whether an image has so many samples, each of at most so many bits.
+pub(crate) fn has_samples(image: &Image, bits: u8, count: usize) -> bool
+    ensures value { IsTrue result ↔ ((image.now.depth ≤ bits)
+        × (count ≡ image.now.width * image.now.height * length image.now.planes)) }
+    ensures profile { IsPicture image.now }
+{
+    let area = image.width() as usize * image.height() as usize;
+    image.depth() <= bits && area * image.planes().len() == count
+}
+
 /// Whether an image has so many unsigned samples, each of at most so many bits.
 fn fits(image: &Image, bits: u8, count: usize) -> bool
     ensures value { IsTrue result ↔ Fits bits image.now count }
     ensures profile { IsPicture image.now }
 {
-    let area = image.width() as usize * image.height() as usize;
-    !image.signed() && image.depth() <= bits && area * image.planes().len() == count
+    has_samples(image, bits, count) && !image.signed()
 }
 
 /// Writes the pixels of an image of unsigned samples of at most 8 bits, if the list has room for

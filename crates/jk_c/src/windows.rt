@@ -12,9 +12,10 @@ ghost use Rattle.jk_code.specs.ViewReading.{meaning_view_at};
 ghost use Rattle.jk_code.specs.Windows.{IsWindowOf};
 ghost use Rattle.jk_c.specs.Answers.{GivesPixelsOrMemory, HandsOutOrMemory, room};
 ghost use Rattle.jk_c.specs.Codes.{done_code};
+ghost use Rattle.jk_c.specs.Signed.{GivesSignedOrMemory};
 ghost use Rattle.jk_c.specs.Views.{view_of};
 
-use crate::answers::{give_bytes, give_words, hand_out};
+use crate::answers::{give_bytes, give_shorts, give_tinies, give_words, hand_out};
 use jk_code::{decode_window, window};
 use jk_math::Fault;
 use jk_window::{View, index};
@@ -86,6 +87,60 @@ pub extern "C" fn jk_decode_window_u16(
 {
     let image = decode_window(alloc, file, view(reduce, x, y, width, height));
     give_words(image, pixels)
+}
+
+/// The window of a rectangle of the image that a file means at a reduction, counted from its upper
+/// left sample and cut with it, pixel by pixel, as signed bytes: for signed samples of at most 8 bits.
+/// The faults are those of `jk_code::decode_window`; Misfit: the image has other samples, or the
+/// list another length than the cut window.
+#[unsafe(no_mangle)]
+pub extern "C" fn jk_decode_window_i8(
+    alloc: Global,
+    file: &[u8],
+    reduce: u32,
+    x: u32,
+    y: u32,
+    width: u32,
+    height: u32,
+    pixels: &mut [i8],
+) -> u32
+    // Which pixels, or which fault is the first.
+    ensures exact { GivesSignedOrMemory 8 (meaning_view_at file.now (view_of reduce x y width height))
+        pixels.old result pixels.new }
+    // Where the file means a picture, the pixels are those of the picture on the window; or
+    // BadWindow is answered, where the window has no sample.
+    ensures means { (p : Picture) → Means file.now reduce p
+        → GivesSignedOrMemory 8 (picture_of_view (view_of reduce x y width height) p) pixels.old result pixels.new }
+{
+    let image = decode_window(alloc, file, view(reduce, x, y, width, height));
+    give_tinies(image, pixels)
+}
+
+/// The window of a rectangle of the image that a file means at a reduction, counted from its upper
+/// left sample and cut with it, pixel by pixel, as signed words of two bytes: for signed samples.
+/// The faults are those of `jk_code::decode_window`; Misfit: the image has other samples, or the
+/// list another length than the cut window.
+#[unsafe(no_mangle)]
+pub extern "C" fn jk_decode_window_i16(
+    alloc: Global,
+    file: &[u8],
+    reduce: u32,
+    x: u32,
+    y: u32,
+    width: u32,
+    height: u32,
+    pixels: &mut [i16],
+) -> u32
+    // Which pixels, or which fault is the first.
+    ensures exact { GivesSignedOrMemory 16 (meaning_view_at file.now (view_of reduce x y width height))
+        pixels.old result pixels.new }
+    // Where the file means a picture, the pixels are those of the picture on the window; or
+    // BadWindow is answered, where the window has no sample.
+    ensures means { (p : Picture) → Means file.now reduce p
+        → GivesSignedOrMemory 16 (picture_of_view (view_of reduce x y width height) p) pixels.old result pixels.new }
+{
+    let image = decode_window(alloc, file, view(reduce, x, y, width, height));
+    give_shorts(image, pixels)
 }
 
 /// The file of the window of a view.

@@ -2,6 +2,7 @@
 use Rattle.std.proofs.Common.{◌≡◌, ℕ, List, length, take, Result, Ok, Err, IfErr, ◌⊎◌, inl, inr, refl, ◌∙◌}
 use mathlib.Core.List.{IsPrefix}
 use Rattle.jk_math.specs.declared.fault.Fault.{Fault}
+use Rattle.jk_math.specs.declared.fault.Fault.TheVariants.{WorkerFailed}
 use Rattle.jk_math.specs.Memory.{IsMemory}
 use Rattle.jk_web.specs.declared.reply.Reply.{Reply}
 use Rattle.jk_web.specs.declared.request.Request.{Request}
@@ -16,7 +17,7 @@ use Rattle.jk_store.specs.declared.entry.Entry.{Entry}
 use Rattle.jk_hall.specs.declared.attending.Attending.{Attending}
 use Rattle.jk_hall.specs.declared.reader.Reader.{Reader}
 use Rattle.jk_hall.specs.Reading.{seen, cuts}
-use Rattle.jk_hall.specs.Replying.{IsCause, KeepsOn, KeptOn, Goes, Refuses}
+use Rattle.jk_hall.specs.Replying.{IsCause, KeepsOn, KeptOn, Goes}
 use Rattle.jk_hall.specs.Behind.{behind, AreSame, GivesBehind, RefusesBehind, GivesUpTo, RefusesUpTo}
 use Rattle.jk_hall.proofs.Fronts.{prefix_self, prefix_trans}
 use Rattle.jk_hall.proofs.Fronting.{shown_front, cuts_front, cuts_all, kept_front, kept_on}
@@ -86,6 +87,11 @@ module _ {S : Type 0} (keeps : S → Files → Type 0) where
         let e = ends_by (GivesBehind keeps failed gave gave_at) (RefusesBehind keeps) (GivesUpTo keeps failed gave gave_at (seen end.reader.now)) (RefusesUpTo keeps (seen end.reader.now))
         behind Went Begins given refused start stream text over spent end r ((refl, refl), goes_nowhere (behind start)) k in
         (e.0.0, e.0.1, (e.1 (prefix_self (seen end.reader.now))).0)
+
+-- A refusal has one of the two causes.
+pub cause_is : (e : Fault) (InVain : Type 0) → IsMemory e ⊎ ((e ≡ WorkerFailed) × InVain) → IsCause e
+cause_is e InVain (inl memory) = inl memory
+cause_is e InVain (inr failed) = inr failed.0
 
 -- Why a connection ends, where no answer is given.
 cause_of : {T : Type 0} (refuses : T → Request → Fault → T → Type 0) (state : T) (rest : List ℕ) (e : Fault) (t : T)

@@ -1,5 +1,5 @@
 -- What was answered from beginnings of a list was answered from the first of its images.
-use Rattle.std.proofs.Common.{◌≡◌, ℕ, List, length, take, All, Result, subst}
+use Rattle.std.proofs.Common.{ℕ, List, length, take, All, Result, subst}
 use Rattle.std.proofs.lemmas.List.{take-map}
 use Rattle.std.proofs.lemmas.List.Elements.{All-take}
 use mathlib.Core.List.{IsPrefix}
@@ -20,6 +20,7 @@ use Rattle.jk_hall.specs.Replying.{Goes}
 use Rattle.jk_hall.specs.Behind.{GivesUpTo, RefusesUpTo, GivesFirst, GivesFirstKept, RefusesFor}
 use Rattle.jk_hall.proofs.Fronting.{shown_front, cuts_front, cuts_all, kept_front, kept_on}
 use Rattle.jk_hall.proofs.Keeping.{cuts_on}
+use Rattle.jk_hall.proofs.Attended.{cause_is}
 
 segments_front : (n : ℕ) (images : List Image) → All IsSegment (names_of images) → All IsSegment (names_of (take n images))
 segments_front n images a =
@@ -44,7 +45,7 @@ module _ {S : Type 0} (keeps : S → Files → Type 0) (failed : S → ℕ) (gav
           tt,
         ),
       ))
-      (λ s q e t h g. (g.0.1.cuts_on.held h, λ b. (g.0.0, tt)))
+      (λ s q e t h g. (g.0.1.cuts_on.held h, λ b. (cause_is e _ g.0.0, tt)))
       start stream text over spent end r held k).1 tt).0
 
   Known : Reader × S → Type 0
@@ -84,5 +85,5 @@ module _ {S : Type 0} (keeps : S → Files → Type 0) (failed : S → ℕ) (gav
               tt,
             ),
       ))
-      (λ s q e t known g. (known_on s t g.0.1 g.1 known, λ b. (g.0.0, tt)))
+      (λ s q e t known g. (known_on s t g.0.1 g.1 known, λ b. (cause_is e _ g.0.0, tt)))
       start stream text over spent end r known k).1 tt).0

@@ -5,5 +5,6 @@ pub mod Names
 pub mod Keeping
 pub mod RunLaws
 pub mod Fronting
+pub mod Served
 pub mod Attended
 pub mod FirstLaws

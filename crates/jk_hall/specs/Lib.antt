@@ -1,6 +1,7 @@
 pub mod Rules
 pub mod Sights
 pub mod Writing
+pub mod Looking
 pub mod Kept
 pub mod Reading
 pub mod Replying

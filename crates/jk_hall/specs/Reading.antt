@@ -4,6 +4,7 @@ use Rattle.logbook.specs.Pages.{Book}
 use Rattle.left_right.specs.Sides.{view}
 use Rattle.jk_web.specs.Cuts.{KeptCut}
 use Rattle.jk_store.specs.declared.entry.Entry.{Entry}
+use Rattle.jk_hall.specs.declared.looks.Looks.{Looks}
 use Rattle.jk_hall.specs.declared.reader.Reader.{Reader}
 
 -- the list that a reader has seen, and the longest that it was told
@@ -16,6 +17,10 @@ told r = r.told.seen.log
 -- of which hall it is
 abbrev pub hall_of_reader : Reader → Book
 hall_of_reader r = r.told.seen.book
+
+-- how often it has looked at the published list, and how often it was refused a look
+abbrev pub look_counts : Reader → Looks
+look_counts r = r.place.looks
 
 -- the cuts that it keeps
 abbrev pub cuts : Reader → List KeptCut

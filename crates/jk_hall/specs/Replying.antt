@@ -7,18 +7,28 @@ use Rattle.jk_math.specs.Memory.{IsMemory}
 use Rattle.jk_web.specs.declared.reply.Reply.{Reply}
 use Rattle.jk_web.specs.declared.request.Request.{Request}
 use Rattle.jk_web.specs.Resources.{IsSegment}
-use Rattle.jk_web.specs.Cuts.{AreOf, Has, KeptCut}
+use Rattle.jk_web.specs.Cuts.{AreOf, Has, IsHit, KeptCut}
 use Rattle.jk_web.specs.Images.{Image, names_of, IsCachedReply, IsKeptReply}
 use Rattle.jk_store.specs.Files.{Files}
 use Rattle.jk_store.specs.Showing.{ShowImages, AreKept, Broke, Reads, MayBeMade}
 use Rattle.jk_store.specs.declared.entry.Entry.{Entry}
 use Rattle.jk_hall.specs.declared.reader.Reader.{Reader}
 use Rattle.jk_hall.specs.Kept.{KeepsCuts}
-use Rattle.jk_hall.specs.Reading.{seen, told, cuts}
+use Rattle.jk_hall.specs.Looking.{IsLook, IsInVain}
+use Rattle.jk_hall.specs.Reading.{seen, told, cuts, look_counts}
 
 -- Memory was refused; or the list couldn't be looked at, or was shorter than one that was told.
 abbrev pub IsCause : Fault → Type 0
 IsCause e = IsMemory e ⊎ (e ≡ WorkerFailed)
+
+-- Why a request is refused between two states: memory was refused; or the list was
+-- looked at in vain.
+abbrev pub IsRefusal : Reader → Fault → Reader → Type 0
+IsRefusal s e t = IsMemory e ⊎ ((e ≡ WorkerFailed) × IsInVain (look_counts s) (told s) (seen t) (look_counts t))
+
+-- A window that is kept is given, or refused, without a call of the shelf.
+abbrev pub IsUnread : {S : Type 0} → Reader × S → Request → Reader × S → Type 0
+IsUnread s q t = (names : List (List ℕ)) → All IsSegment names → IsHit (Has (cuts s.0)) names q → t.1 ≡ s.1
 
 -- What a shelf keeps it goes on to keep.
 abbrev pub KeepsOn : {S : Type 0} → (S → Files → Type 0) → S → S → Type 0
@@ -43,7 +53,7 @@ module _ {S : Type 0} (keeps : S → Files → Type 0) where
 
   -- A request is refused.
   abbrev pub Refuses : Reader × S → Request → Fault → Reader × S → Type 0
-  Refuses s q e t = IsCause e × Goes s t
+  Refuses s q e t = IsRefusal s.0 e t.0 × Goes s t × IsUnread s q t
 
   module _ (failed : S → ℕ) (gave : S → List ℕ → List ℕ → S → Type 0)
       (gave_at : S → List ℕ → ℕ → ℕ → List ℕ → S → Type 0) where
@@ -64,5 +74,7 @@ module _ {S : Type 0} (keeps : S → Files → Type 0) where
     -- that was seen and with all that was told.
     pub record Gives (s : Reader × S) (q : Request) (r : Reply) (t : Reader × S) : Type 0 where
       pub goes : Goes s t
+      pub look : IsLook (look_counts s.0) (look_counts t.0)
+      pub unread : IsUnread s q t
       pub begins : IsPrefix (told s.0) (seen t.0)
       pub reply : Replies (seen t.0) s.1 t.1 (cuts s.0) q r

@@ -3,6 +3,7 @@
 ghost use Rattle.std.specs.Prelude.{◌≤◌, List, ℕ, length, IfErr};
 ghost use Rattle.std.specs.Io.KnownBytes.{Appends, Consumes, IsAtEnd};
 ghost use Rattle.jk_web.specs.Serving.{Ends};
+ghost use Rattle.jk_web.specs.Turns.{IsReadIn};
 ghost use Rattle.jk_hall.specs.Replying.{IsCause, Goes};
 ghost use Rattle.jk_hall.specs.Reading.{seen};
 ghost use Rattle.jk_hall.specs.Behind.{behind, AreSame, GivesUpTo, RefusesUpTo};
@@ -57,7 +58,8 @@ fn attend_with<'a, I: Read, O: Write, S: Shelf, W: Witness>(
         × Ends (GivesUpTo S.keeps S.failed S.gave S.gave_at (seen service.new.reader.now))
         (RefusesUpTo S.keeps (seen service.new.reader.now))
         (behind service.old) stream text (IsAtEnd (I.remaining input.new)) (turns ≤ length stream)
-        (behind service.new) result }
+        (behind service.new) result
+        × IsReadIn turns stream result }
     ensures images { Attends S.keeps S.failed S.gave S.gave_at (Consumes (I.remaining input.old) (I.remaining input.new))
         (Appends (O.contents output.old) (O.contents output.new)) (IsAtEnd (I.remaining input.new)) turns
         (behind service.old) (behind service.new) result }
@@ -88,7 +90,8 @@ impl Reader {
             × Ends (GivesUpTo S.keeps S.failed S.gave S.gave_at (seen self.new))
             (RefusesUpTo S.keeps (seen self.new))
             (self.old, shelf.old) stream text (IsAtEnd (I.remaining input.new)) (turns ≤ length stream)
-            (self.new, shelf.new) result }
+            (self.new, shelf.new) result
+            × IsReadIn turns stream result }
         // The same of images.
         ensures images { Attends S.keeps S.failed S.gave S.gave_at
             (Consumes (I.remaining input.old) (I.remaining input.new))

@@ -8,6 +8,7 @@ ghost use Rattle.jk_hall.specs.Writing.{list, waits, hall_of};
 ghost use Rattle.jk_hall.specs.Reading.{Opens};
 
 use crate::history::History;
+use crate::looks::Looks;
 use crate::place::Place;
 use crate::reader::Reader;
 use crate::rule::{Opens as Opening, Prefixes, Sight};
@@ -110,6 +111,7 @@ fn reader_of(writer: &mut Writer, alloc: Global) -> Result<Reader, Fault>
             inner,
             cache,
             hashed: HashedParts::new(alloc),
+            looks: Looks::none(),
         },
         told,
     })

@@ -1,5 +1,5 @@
 //! The one history of all entries, published or waiting, and the beginnings of it that are known.
-ghost use Rattle.std.specs.Prelude.{◌≡◌, ◌-◌, ◌^◌, ◌<◌, ◌⊎◌, [], ◌∷◌, ◌++◌, length, IsTrue};
+ghost use Rattle.std.specs.Prelude.{◌≡◌, ◌-◌, ◌^◌, ◌<◌, ◌⊎◌, [], ◌∷◌, ◌++◌, length, IsTrue, MatchBool};
 ghost use Rattle.std.specs.Arc.{arc_value};
 ghost use mathlib.Core.List.{IsPrefix};
 ghost use Rattle.jk_hall.specs.Rules.{head_of};
@@ -101,7 +101,8 @@ impl Front {
     /// Whether the other front of one history begins with this one. It does where it is no shorter.
     pub fn begins(&self, other: &Front) -> bool
         requires { other.now.seen.book ≡ self.now.seen.book }
-        ensures { IsTrue result → IsPrefix self.now.seen.log other.now.seen.log }
+        ensures { MatchBool result (IsPrefix self.now.seen.log other.now.seen.log)
+            (length other.now.seen.log < length self.now.seen.log) }
     {
         let both = self.longer(other);
         both.len() == other.len()

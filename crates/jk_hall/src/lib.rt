@@ -8,6 +8,7 @@ mod hall;
 mod history;
 mod law;
 mod looking;
+mod looks;
 mod place;
 mod reader;
 mod rule;

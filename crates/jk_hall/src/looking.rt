@@ -1,14 +1,18 @@
 //! A look at what is shown.
 
-ghost use Rattle.std.specs.Prelude.{◌≡◌, true, IfOk, IfErr, OnOk};
+ghost use Rattle.std.specs.Prelude.{◌≡◌, ◌<◌, ◌⊎◌, true, List, ℕ, All, length, IfOk, OnOk, IfErr};
 ghost use Rattle.left_right.specs.Sides.{view};
 ghost use mathlib.Core.List.{IsPrefix};
 ghost use Rattle.jk_hall.specs.Sights.{stamp_of, listed};
-ghost use Rattle.jk_hall.specs.Replying.{IsCause, KeepsOn, KeptOn, Replies};
+ghost use Rattle.jk_math.specs.Memory.{IsMemory};
+ghost use Rattle.jk_math.specs.declared.fault.Fault.TheVariants.{WorkerFailed};
+ghost use Rattle.jk_web.specs.Resources.{IsSegment};
+ghost use Rattle.jk_web.specs.Cuts.{IsHit, Has};
+ghost use Rattle.jk_hall.specs.Looking.{IsLook, IsInVain};
+ghost use Rattle.jk_hall.specs.Replying.{KeepsOn, KeptOn, Replies};
 
 use crate::history::Front;
 use crate::place::Place;
-use crate::rule::Sees;
 use crate::shown::Shown;
 use jk_math::Fault;
 use jk_store::{HashedParts, Shelf, ShownWithParts};
@@ -31,9 +35,12 @@ fn answer_shown<S: Shelf>(
     ensures begins { OnOk result (IsPrefix told.now.seen.log shown.now.front.seen.log) }
     ensures reply { IfOk result (λ r. Replies S.keeps S.failed S.gave S.gave_at (listed shown.now) shelf.old shelf.new
         cache.old request.now r) }
-    ensures err { IfErr result (λ e. IsCause e) }
+    ensures err { IfErr result (λ e. IsMemory e
+        ⊎ ((e ≡ WorkerFailed) × (length shown.now.front.seen.log < length told.now.seen.log))) }
     ensures keeps { KeepsOn S.keeps shelf.old shelf.new }
     ensures cuts { KeptOn S.keeps (listed shown.now) (listed shown.now) shelf.old cache.old cache.new }
+    ensures unread { (names : List (List ℕ)) → All IsSegment names → IsHit (Has cache.old) names request.now
+        → shelf.new ≡ shelf.old }
 {
     if !told.begins(&shown.front) {
         return Err(Fault::WorkerFailed);
@@ -66,7 +73,9 @@ pub(crate) fn look<'a, S: Shelf>(
     ensures begins { IfOk result.1.0 (λ r. IsPrefix ask.entry.told.now.seen.log (view result.0.inner.place).seen) }
     ensures reply { IfOk result.1.0 (λ r. Replies S.keeps S.failed S.gave S.gave_at (view result.0.inner.place).seen
         ask.entry.shelf.now result.1.1.now place.cache ask.entry.request.now r) }
-    ensures err { IfErr result.1.0 (λ e. IsCause e) }
+    ensures looks { IfOk result.1.0 (λ r. IsLook place.looks result.0.looks) }
+    ensures err { IfErr result.1.0 (λ e. IsMemory e ⊎ ((e ≡ WorkerFailed)
+        × IsInVain place.looks ask.entry.told.now.seen.log (view result.0.inner.place).seen result.0.looks)) }
     ensures seen { IsPrefix (view place.inner.place).seen (view result.0.inner.place).seen }
     ensures known { (view result.0.inner.place).known ≡ true }
     ensures stamped { (view result.0.inner.place).stamp ≡ (view place.inner.place).stamp }
@@ -74,6 +83,8 @@ pub(crate) fn look<'a, S: Shelf>(
     ensures keeps { KeepsOn S.keeps ask.entry.shelf.now result.1.1.now }
     ensures cuts { KeptOn S.keeps (view place.inner.place).seen (view result.0.inner.place).seen ask.entry.shelf.now
         place.cache result.0.cache }
+    ensures unread { (names : List (List ℕ)) → All IsSegment names → IsHit (Has place.cache) names ask.entry.request.now
+        → result.1.1.now ≡ ask.entry.shelf.now }
 {
     let Ask {
         alloc,
@@ -85,8 +96,9 @@ pub(crate) fn look<'a, S: Shelf>(
         inner,
         mut cache,
         mut hashed,
+        mut looks,
     } = place;
-    match inner.enter_as::<Sees>() {
+    match looks.look(inner) {
         Ok(reading) => {
             let shown = reading.get();
             let reply = answer_shown(alloc, told, shown, request, shelf, &mut hashed, &mut cache);
@@ -95,6 +107,7 @@ pub(crate) fn look<'a, S: Shelf>(
                 inner,
                 cache,
                 hashed,
+                looks,
             };
             (place, (reply, shelf))
         }
@@ -103,6 +116,7 @@ pub(crate) fn look<'a, S: Shelf>(
                 inner,
                 cache,
                 hashed,
+                looks,
             };
             (place, (Err(Fault::WorkerFailed), shelf))
         }

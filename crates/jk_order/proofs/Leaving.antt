@@ -9,19 +9,10 @@ use Rattle.jk_geom.specs.declared.shape.PacketName.{PacketName}
 use Rattle.jk_order.specs.declared.stream.Stream.{Stream}
 use Rattle.jk_order.specs.declared.stream.Frame.{Frame}
 use Rattle.jk_order.specs.Streams.{rank, finished, IsStream, IsLive, IsWalk, walk, Awaits, Left, rank_of, index_of, stream_at, no_stream, next_name, successor}
-use Rattle.jk_order.specs.Leading.{IsLeader}
 use Rattle.jk_order.specs.Advancing.{Advances}
 use Rattle.jk_order.proofs.Growth.{rank_below}
 use Rattle.jk_order.proofs.Successors.{IsNext, IsLast, next_stream, successor_is}
 use Rattle.jk_order.proofs.Ascending.{less_than, first_in, later_in, in_cases, first_below, rest_up, least_first}
-
--- the rank of the stream that leads is the least
-pub all_least : (hs : List ℕ) (i others : ℕ) {n : ℕ} → IsLeader n hs i others → (j : ℕ) → j < 44 → get_or hs i 0 ≤ get_or hs j 0
-all_least hs i others l j low = by (cases_eq j i)
-  where
-    by : (j ≡ i) ⊎ (j ≡ i → ⊥) → get_or hs i 0 ≤ get_or hs j 0
-    by (inl e) = subst (λ j. get_or hs i 0 ≤ get_or hs j 0) (sym e) (omega arith)
-    by (inr ne) = let a = l.least in let b = l.rest j low ne in omega (arith, a, b)
 
 -- The stream i moves on: to the least rank above its head, and the others stay.
 pub record MovesOn (f : Frame) (ss : List Stream) (hs : List ℕ) (ts : List Stream) (gs : List ℕ) (i : ℕ) : Type 0 where
@@ -174,19 +165,19 @@ module _ (f : Frame) (ss : List Stream) (hs : List ℕ) (i : ℕ) (w : IsWalk (w
         (refl, rest_left first.0 (subst (λ (xs : List PacketName). Left (walk f ss hs) xs) first.1 l))
 
 -- where no stream has a packet, none is left
-pub left_none : (f : Frame) (ss : List Stream) (hs : List ℕ) (i : ℕ) → IsWalk (walk f ss hs) → get_or hs i 0 ≡ finished → ((j : ℕ) → j < 44 → get_or hs i 0 ≤ get_or hs j 0)
+pub left_none : (f : Frame) (ss : List Stream) (hs : List ℕ) → IsWalk (walk f ss hs) → ((j : ℕ) → j < 44 → finished ≤ get_or hs j 0)
     → (names : List PacketName) → Left (walk f ss hs) names → (None ≡ slice_get names 0) × Left (walk f ss hs) (drop 1 names)
-left_none f ss hs i w end least [] l = (refl, l)
-left_none f ss hs i w end least (n ∷ ns) l =
+left_none f ss hs w end [] l = (refl, l)
+left_none f ss hs w end (n ∷ ns) l =
     let a = (l.members n).0 (first_in n ns) in
     let j = index_small n a.component a.resolution in
     let below = rank_below f (stream_at ss (index_of n)) n.layer n.precinct w.frame (w.stream (index_of n) j) a.layer a.precinct in
-    let first = least (index_of n) j in
+    let none = end (index_of n) j in
     let due = a.due in
     absurd (omega arith)
 
 -- the streams where one of them moved on
-module _ (f : Frame) (ss : List Stream) (hs : List ℕ) (i : ℕ) (w : IsWalk (walk f ss hs)) (low : i < 44) (near : i < f.streams) (some : get_or hs i 0 ≡ finished → ⊥) where
+module _ (f : Frame) (ss : List Stream) (hs : List ℕ) (i : ℕ) (w : IsWalk (walk f ss hs)) (low : i < 44) (some : get_or hs i 0 ≡ finished → ⊥) where
   in_streams : i < length ss
   in_streams = let h = w.streams in omega arith
 
@@ -226,9 +217,6 @@ module _ (f : Frame) (ss : List Stream) (hs : List ℕ) (i : ℕ) (w : IsWalk (w
     place_new : 11 * t.component + t.resolution ≡ i
     place_new = ap (λ (s : Stream). 11 * s.component + s.resolution) n.same ∙ w.place i low
 
-    beyond_new : (j : ℕ) → f.streams ≤ j → j < 44 → get_or (set hs i g) j 0 ≡ finished
-    beyond_new j far h = get_or-set_other hs i j g 0 (let n = near in omega arith) ∙ w.beyond j far h
-
     pub next_walk : IsWalk (walk f (set ss i t) (set hs i g))
     next_walk = record {
       frame = w.frame;
@@ -236,7 +224,6 @@ module _ (f : Frame) (ss : List Stream) (hs : List ℕ) (i : ℕ) (w : IsWalk (w
       heads = length-set hs i g ∙ w.heads;
       stream = λ j h. stream j h (cases_eq j i);
       place = λ j h. place j h (cases_eq j i);
-      beyond = beyond_new;
       live = λ j h ne. lives j h ne (cases_eq j i);
     }
       where
@@ -281,7 +268,6 @@ module _ (f : Frame) (ss : List Stream) (hs : List ℕ) (i : ℕ) (w : IsWalk (w
       heads = length-set hs i finished ∙ w.heads;
       stream = w.stream;
       place = w.place;
-      beyond = λ j far h. (get_or-set_other hs i j finished 0 (let n = near in omega arith) ∙ w.beyond j far h);
       live = λ j h ne. lives j h ne (cases_eq j i);
     }
       where

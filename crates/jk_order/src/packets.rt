@@ -6,7 +6,7 @@ ghost use Rattle.jk_math.specs.declared.fault.Fault.TheVariants.{Limit};
 ghost use Rattle.jk_geom.specs.TileShapes.{IsTileShape};
 ghost use Rattle.jk_order.specs.PacketOrder.{packet_count, order};
 ghost use Rattle.jk_order.specs.Streams.{IsWalk, Left, walk};
-ghost use Rattle.jk_order.specs.Leading.{IsLeader};
+ghost use Rattle.jk_order.specs.Queue.{IsQueue, queued};
 
 use crate::count::packet_count;
 use crate::opening::{first_rank, shared, stream_number, without_packets};
@@ -15,12 +15,12 @@ use jk_geom::{PacketName, TileShape};
 use jk_math::Fault;
 use std::marker::Model;
 
-/// The stream whose next packet has the least rank, and the least rank of the others. While its
-/// ranks don't pass that, no other stream is looked at.
-#[derive(Clone, Copy, Debug)]
-struct Leader {
-    stream: usize,
-    others: u128,
+/// The numbers of the streams that have packets, from `first` on, by the ranks of their next ones.
+/// Streams without a next packet stand at the end.
+#[derive(Debug, Drop)]
+struct Queue {
+    numbers: [u8; 44],
+    first: usize,
 }
 
 /// The packets of a tile that are still to come.
@@ -29,91 +29,78 @@ pub struct Packets {
     frame: Frame,
     streams: [Stream; 44],
     heads: [u128; 44],
-    leader: Leader,
+    queue: Queue,
 }
 
 impl Model for Packets {
+    ghost use Rattle.std.specs.Prelude.{◌≤◌, drop};
     ghost use Rattle.jk_order.specs.Streams.{Walk, IsWalk, walk};
 
     ghost Value = { Walk };
 
     ghost view = { λ p. walk p.frame p.streams p.heads };
 
-    ghost use Rattle.jk_order.specs.Leading.{IsLeader};
+    ghost use Rattle.jk_order.specs.Queue.{IsQueue};
 
-    ghost invariant = { λ p. IsWalk (walk p.frame p.streams p.heads)
-        × IsLeader p.frame.streams p.heads p.leader.stream p.leader.others };
+    ghost invariant = { λ p. IsWalk (walk p.frame p.streams p.heads) × (p.queue.first ≤ 44)
+        × IsQueue 0 p.heads (drop p.queue.first p.queue.numbers) };
 }
 
-/// The place of the least number, and the least of the others.
-fn least_of(heads: &[u128]) -> Leader
-    requires { 0 < length heads.now }
-    ensures within { result.stream < length heads.now }
-    ensures least { slice_index heads.now result.stream ≤ result.others }
-    ensures others { (i : ℕ) → i < length heads.now → (i ≡ result.stream → ⊥)
-        → result.others ≤ slice_index heads.now i }
+/// Puts the first of some streams behind those whose next packets come before its own.
+fn put_back(queue: &mut [u8], heads: &[u128; 44])
+    requires some { 0 < length queue.old }
+    requires numbers { (k : ℕ) → k < length queue.old → slice_index queue.old k < 44 }
+    ensures { queue.new ≡ queued heads.now (slice_index queue.old 0) (drop 1 queue.old) }
 {
-    let mut least = 0;
-    let mut best = heads[0];
-    let mut others = FINISHED;
-    for i in 1..heads.len() {
-        if heads[i] < best {
-            others = best;
-            best = heads[i];
-            least = i;
-        } else if heads[i] < others {
-            others = heads[i];
+    let first = queue[0];
+    let head = heads[first as usize];
+    let mut place = 0;
+    while place + 1 < queue.len() && heads[queue[place + 1] as usize] < head {
+        queue[place] = queue[place + 1];
+        place += 1;
+    }
+    queue[place] = first;
+}
+
+/// The streams that have packets.
+fn queue_of(heads: &[u128; 44]) -> Queue
+    ensures within { result.first ≤ 44 }
+    ensures queue { IsQueue 0 heads.now (drop result.first result.numbers) }
+{
+    let mut numbers = [0; 44];
+    let mut first = 44;
+    for k in 0..44 {
+        let i = 43 - k;
+        if heads[i] < FINISHED {
+            first -= 1;
+            numbers[first] = i as u8;
+            put_back(&mut numbers[first..], heads);
         }
     }
-    Leader {
-        stream: least,
-        others,
-    }
-}
-
-/// The stream with the least rank of a next packet, where only the first `streams` have packets.
-fn least(heads: &[u128; 44], streams: usize) -> Leader
-    requires some { 0 < streams }
-    requires few { streams ≤ 44 }
-    requires beyond { (i : ℕ) → streams ≤ i → i < 44 → slice_index heads.now i ≡ 2 ^ 128 - 1 }
-    ensures { IsLeader streams heads.now result.stream result.others }
-{
-    least_of(&heads[..streams])
-}
-
-/// The stream that leads where one has moved on that has led.
-fn leading(leader: Leader, heads: &[u128; 44], streams: usize) -> Leader
-    requires some { 0 < streams }
-    requires few { streams ≤ 44 }
-    requires beyond { (i : ℕ) → streams ≤ i → i < 44 → slice_index heads.now i ≡ 2 ^ 128 - 1 }
-    requires near { leader.stream < streams }
-    requires others { (i : ℕ) → i < 44 → (i ≡ leader.stream → ⊥) → leader.others ≤ slice_index heads.now i }
-    ensures { IsLeader streams heads.now result.stream result.others }
-{
-    if heads[leader.stream] <= leader.others {
-        leader
-    } else {
-        least(heads, streams)
-    }
+    Queue { numbers, first }
 }
 
 /// The next packet of all streams, which its stream then has passed.
+#[tactic(auto, using(crate::proofs::Queueing::queue_numbers))]
 fn take(
     frame: &Frame,
     streams: &mut [Stream; 44],
     heads: &mut [u128; 44],
-    leader: &mut Leader,
+    queue: &mut [u8],
 ) -> Option<PacketName>
     requires walk { IsWalk (walk frame.now streams.old heads.old) }
-    requires leads { IsLeader frame.now.streams heads.old leader.old.stream leader.old.others }
+    requires queue { IsQueue 0 heads.old queue.old }
     ensures kept { IsWalk (walk frame.now streams.new heads.new) }
-    ensures leads { IsLeader frame.now.streams heads.new leader.new.stream leader.new.others }
+    ensures queue { IsQueue 0 heads.new queue.new }
     ensures gives { (names : List PacketName) → Left (walk frame.now streams.old heads.old) names
         → (result ≡ slice_get names 0) × Left (walk frame.now streams.new heads.new) (drop 1 names) }
 {
-    let first = leader.stream;
+    if queue.is_empty() {
+        return None;
+    }
+    let first = queue[0] as usize;
     let head = heads[first];
-    if head == FINISHED {
+    if head >= FINISHED {
         return None;
     }
     let stream = &streams[first];
@@ -124,7 +111,7 @@ fn take(
         precinct: stream.precinct,
     };
     heads[first] = streams[first].advance(frame, head);
-    *leader = leading(*leader, heads, frame.streams);
+    put_back(queue, heads);
     Some(name)
 }
 
@@ -149,12 +136,12 @@ impl Packets {
             heads[i] = first_rank(&frame, &stream, i);
             streams[i] = stream;
         }
-        let leader = least(&heads, frame.streams);
+        let queue = queue_of(&heads);
         Ok(Packets {
             frame,
             streams,
             heads,
-            leader,
+            queue,
         })
     }
 
@@ -167,7 +154,7 @@ impl Packets {
             &self.frame,
             &mut self.streams,
             &mut self.heads,
-            &mut self.leader,
+            &mut self.queue.numbers[self.queue.first..],
         )
     }
 }

@@ -88,7 +88,7 @@ pub fn seen_among(words: &[u64], shape: BlockShape, word: usize, stripe: usize) 
 }
 
 /// A word of a stripe and those beside it, each with the rows above and below as the stripe sees
-/// them.
+/// them. The older form of `seen_among`, over an array of the greatest length; no crate calls it.
 #[inline(always)]
 pub fn seen_around(words: &[u64; WORDS], shape: BlockShape, word: usize, stripe: usize) -> Around
     requires sized { IsSized shape }

@@ -206,7 +206,7 @@ impl Digesting {
     }
 
     /// Lists the files that wait.
-    fn settle(&mut self, alloc: Global) -> Result<(), Fault>
+    pub(crate) fn settle(&mut self, alloc: Global) -> Result<(), Fault>
         ensures same { OnOk result (map arc_value self.new.entries.items ≡ all_entries self.old) }
         ensures none { self.new.waiting ≡ NoFile }
         ensures err { IfErr result IsMemory }

@@ -1,6 +1,6 @@
 //! Parts of files whose digests were made before.
 
-ghost use Rattle.std.specs.Prelude.{◌≡◌, true, false, IfSome};
+ghost use Rattle.std.specs.Prelude.{◌≡◌, ◌≤◌, length, true, false, IfSome};
 ghost use Rattle.sha2.specs.Sha256.{sha256};
 
 use crate::entry::has_digest;
@@ -26,11 +26,15 @@ pub struct HashedParts {
     parts: Vec<HashedPart>,
     /// Which is replaced next.
     oldest: usize,
+    ghost bound: { most ≤ 256 },
+    ghost few: { length parts.items ≤ most },
 }
 
 impl HashedParts {
     /// No part, where up to 256 are kept: four mebibytes.
-    pub fn new(alloc: Global) -> HashedParts {
+    pub fn new(alloc: Global) -> HashedParts
+        ensures { result.most ≡ 256 }
+    {
         HashedParts {
             alloc,
             most: MOST,
@@ -40,7 +44,9 @@ impl HashedParts {
     }
 
     /// No part, where none is kept.
-    pub fn none(alloc: Global) -> HashedParts {
+    pub fn none(alloc: Global) -> HashedParts
+        ensures { result.most ≡ 0 }
+    {
         HashedParts {
             alloc,
             most: 0,

@@ -129,6 +129,8 @@ fn enter<S: Shelf>(
     match look(alloc, shelf, name)? {
         Looked::Due(file) => {
             if listed.is_full() {
+                // Memory that is refused for a file before this one is told first.
+                listed.settle(alloc)?;
                 return Err(Fault::Limit);
             }
             listed.take(alloc, file)?;

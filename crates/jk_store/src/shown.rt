@@ -10,7 +10,8 @@ use jk_web::{Asked, Catalogue};
 use std::alloc::Global;
 use std::sync::Arc;
 
-/// Entries, and the shelf that has their files.
+/// Entries, and the shelf that has their files. The older form of `ShownWithParts`, which keeps no
+/// part that was hashed; no crate shows entries by it.
 #[derive(Drop)]
 pub struct ShownEntries<'a, S> {
     pub entries: &'a [Arc<Entry>],

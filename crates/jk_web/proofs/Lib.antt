@@ -9,6 +9,7 @@ pub mod ServingLaws
 pub mod RequestLaws
 pub mod ImageLaws
 pub mod EndLaws
+pub mod TurnLaws
 pub mod RunLaws
 pub mod ReplyLaws
 pub mod CacheLaws

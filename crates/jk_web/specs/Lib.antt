@@ -9,6 +9,7 @@ pub mod Queries
 pub mod Readings
 pub mod Resources
 pub mod Serving
+pub mod Turns
 pub mod Pairs
 pub mod Images
 pub mod Running

@@ -7,6 +7,7 @@ ghost use Rattle.jk_web.specs.Resources.{IsSegment};
 ghost use Rattle.jk_web.specs.Images.{Image, names_of, gives_reply, gives_with, gives_cached, gives_kept};
 ghost use Rattle.jk_web.specs.Images.{refuses_memory};
 ghost use Rattle.jk_web.specs.Serving.{Ends};
+ghost use Rattle.jk_web.specs.Turns.{IsReadIn};
 ghost use Rattle.jk_web.specs.Cuts.{Within, AreOf, Has};
 ghost use Rattle.jk_web.specs.Behind.{AreSame, HoldsBehind, KnowsBehind};
 
@@ -56,7 +57,8 @@ pub fn run<I: Read, O: Write, C: Catalogue>(
         × Consumes (I.remaining reader.old) (I.remaining reader.new) stream
         × Appends (O.contents writer.old) (O.contents writer.new) text
         × Ends (gives_reply C.broke C.reads C.cuts images) refuses_memory catalogue.old stream text
-        (IsAtEnd (I.remaining reader.new)) (turns ≤ length stream) catalogue.new result }
+        (IsAtEnd (I.remaining reader.new)) (turns ≤ length stream) catalogue.new result
+        × IsReadIn turns stream result }
     // Where they are kept, no other file is sent.
     ensures same { (images : List Image) → C.stands catalogue.old images → C.keeps catalogue.old images
         → All IsSegment (names_of images)
@@ -64,7 +66,8 @@ pub fn run<I: Read, O: Write, C: Catalogue>(
         × Consumes (I.remaining reader.old) (I.remaining reader.new) stream
         × Appends (O.contents writer.old) (O.contents writer.new) text
         × Ends (gives_kept C.broke images) refuses_memory catalogue.old stream text (IsAtEnd (I.remaining reader.new))
-        (turns ≤ length stream) catalogue.new result }
+        (turns ≤ length stream) catalogue.new result
+        × IsReadIn turns stream result }
     ensures stands { (images : List Image) → C.stands catalogue.old images → C.stands catalogue.new images }
     ensures keeps { (images : List Image) → C.keeps catalogue.old images → C.keeps catalogue.new images }
     ensures lasts { Within (C.made catalogue.old) (C.made catalogue.new) }
@@ -109,14 +112,16 @@ fn run_behind<'a, I: Read, O: Write, C: Catalogue, W: Windows<C>>(
         × Consumes (I.remaining reader.old) (I.remaining reader.new) stream
         × Appends (O.contents writer.old) (O.contents writer.new) text
         × Ends (gives_with C.broke C.reads W.others images) refuses_memory service.old.catalogue.now stream text
-        (IsAtEnd (I.remaining reader.new)) (turns ≤ length stream) service.new.catalogue.now result }
+        (IsAtEnd (I.remaining reader.new)) (turns ≤ length stream) service.new.catalogue.now result
+        × IsReadIn turns stream result }
     ensures same { (images : List Image) → KnowsBehind C.stands C.keeps W.has images service.old
         → All IsSegment (names_of images)
         → (stream : List ℕ) × (text : List ℕ)
         × Consumes (I.remaining reader.old) (I.remaining reader.new) stream
         × Appends (O.contents writer.old) (O.contents writer.new) text
         × Ends (gives_kept C.broke images) refuses_memory service.old.catalogue.now stream text
-        (IsAtEnd (I.remaining reader.new)) (turns ≤ length stream) service.new.catalogue.now result }
+        (IsAtEnd (I.remaining reader.new)) (turns ≤ length stream) service.new.catalogue.now result
+        × IsReadIn turns stream result }
     ensures stands { (images : List Image) → C.stands service.old.catalogue.now images
         → C.stands service.new.catalogue.now images }
     ensures keeps { (images : List Image) → C.keeps service.old.catalogue.now images
@@ -151,7 +156,8 @@ pub fn run_with<I: Read, O: Write, C: Catalogue>(
         × Consumes (I.remaining reader.old) (I.remaining reader.new) stream
         × Appends (O.contents writer.old) (O.contents writer.new) text
         × Ends (gives_cached C.broke C.reads C.made images) refuses_memory catalogue.old stream text
-        (IsAtEnd (I.remaining reader.new)) (turns ≤ length stream) catalogue.new result }
+        (IsAtEnd (I.remaining reader.new)) (turns ≤ length stream) catalogue.new result
+        × IsReadIn turns stream result }
     // Where they are kept, and each kept cut is an image's, no other file is sent.
     ensures same { (images : List Image) → C.stands catalogue.old images → C.keeps catalogue.old images
         → AreOf (Has cache.old) images → All IsSegment (names_of images)
@@ -159,7 +165,8 @@ pub fn run_with<I: Read, O: Write, C: Catalogue>(
         × Consumes (I.remaining reader.old) (I.remaining reader.new) stream
         × Appends (O.contents writer.old) (O.contents writer.new) text
         × Ends (gives_kept C.broke images) refuses_memory catalogue.old stream text
-        (IsAtEnd (I.remaining reader.new)) (turns ≤ length stream) catalogue.new result }
+        (IsAtEnd (I.remaining reader.new)) (turns ≤ length stream) catalogue.new result
+        × IsReadIn turns stream result }
     ensures stands { (images : List Image) → C.stands catalogue.old images → C.stands catalogue.new images }
     ensures keeps { (images : List Image) → C.keeps catalogue.old images → C.keeps catalogue.new images }
     ensures lasts { Within (C.made catalogue.old) (C.made catalogue.new) }

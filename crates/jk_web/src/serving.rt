@@ -3,6 +3,7 @@
 ghost use Rattle.std.specs.Prelude.{◌≡◌, ◌≤◌, List, ℕ, None, Ok, MatchBool, length};
 ghost use Rattle.std.specs.Io.KnownBytes.{Appends, Consumes, IsAtEnd};
 ghost use Rattle.jk_web.specs.Serving.{Tells, Ends};
+ghost use Rattle.jk_web.specs.Turns.{IsReadIn};
 
 use crate::budget::{Budget, Last};
 use crate::reply::bad;
@@ -85,7 +86,8 @@ fn serve_turns<'a, I: Read, O: Write, S: Service>(
         × Consumes (I.remaining budget.old.reader.now) (I.remaining budget.new.reader.now) stream
         × Appends (O.contents writer.old) (O.contents writer.new) text
         × Ends S.gives S.refuses service.old stream text (IsAtEnd (I.remaining budget.new.reader.now))
-        (turns ≤ length stream) service.new result }
+        (turns ≤ length stream) service.new result
+        × IsReadIn turns stream result }
 {
     let mut session = Session::new(alloc);
     let mut piece = [0; PIECE];
@@ -123,7 +125,8 @@ pub fn serve<I: Read, O: Write, S: Service>(
         × Consumes (I.remaining reader.old) (I.remaining reader.new) stream
         × Appends (O.contents writer.old) (O.contents writer.new) text
         × Ends S.gives S.refuses service.old stream text (IsAtEnd (I.remaining reader.new))
-        (turns ≤ length stream) service.new result }
+        (turns ≤ length stream) service.new result
+        × IsReadIn turns stream result }
 {
     let mut budget = Budget::new(reader, turns);
     serve_turns(alloc, &mut budget, writer, service, turns)

@@ -56,7 +56,9 @@ fn is_needed(tile: &TileCut<'_>, name: PacketName) -> bool
     )
 }
 
-/// A precinct that was looked at, and whether the window needs it.
+/// A precinct that was looked at, and whether the window needs it. It is kept for the packets behind
+/// it that are of the same precinct: the other layers, where these come inside and are several. Of
+/// one layer, and where layers come outside, each packet is of another precinct than the last one.
 #[derive(Clone, Copy)]
 pub(crate) struct Judged {
     pub(crate) component: u8,

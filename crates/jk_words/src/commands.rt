@@ -4,9 +4,10 @@ use crate::defaults::Defaults;
 use clap::{Arg, ArgAction, Command, value_parser};
 use std::alloc::{AllocError, Global};
 
-/// The version, and the line by which the kit names itself (`rt version`) that proves and builds
-/// the program.
-const VERSION: &str = "0.1.0\nrattle-kit-13f logic dac8208d650f15bf";
+/// The version. Over what stands behind it a release writes, into the built program, the line of
+/// the kit that proved it (`rt version`) and the processors that it is for, and then spaces
+/// (tools/release).
+const VERSION: &str = "0.2.0\nnot a release: `rt version` names the kit that proved it";
 
 /// What is told under the list of commands.
 const STATUSES: &str = "\

@@ -1,6 +1,12 @@
-//! What the tests against outside values share: bytes as hexadecimal texts.
+//! What the tests against outside values share: bytes as hexadecimal texts, what a gate is told of
+//! jobs, and a reader that counts its reads.
 #![tactic(auto)]
 
+mod meeting;
+mod pieces;
+
+pub use meeting::Meeting;
+pub use pieces::Pieces;
 use std::alloc::{AllocError, Global};
 
 /// The bytes of hexadecimal texts, one text behind the other. What is no digit is passed over.

@@ -141,7 +141,8 @@ fn read_in(
 }
 
 /// The same segment means another coefficient with context reset, and none where a segmentation
-/// symbol is due and another one stands. Vertically causal contexts make another segment of a
+/// symbol is due and another one stands. A code value that leaves the interval at the fourth of the
+/// symbols, behind 1 1 0, is told before these. Vertically causal contexts make another segment of a
 /// column whose second stripe is significant before the first.
 #[test]
 fn styled_blocks(rt: HostRuntime) -> Result<(), Fail> {
@@ -159,6 +160,8 @@ fn styled_blocks(rt: HostRuntime) -> Result<(), Fail> {
     assert_eq!(rt; marked.values.as_slice(), [1].as_slice());
     let other = read_in(rt.alloc(), symbols, 1, "03", 1, 1)?;
     assert!(rt; matches!(other, Err(Fault::BadValue)));
+    let left = read_in(rt.alloc(), symbols, 1, "0A41FF8F", 1, 1)?;
+    assert!(rt; matches!(left, Err(Fault::CodeOutOfInterval)));
     let seen = read_in(rt.alloc(), Style::plain(), 5, "169F", 2, 4)??;
     assert_eq!(rt; seen.values.as_slice(), [0, 0, 0, 1, 2].as_slice());
     let unseen = read_in(rt.alloc(), causal, 5, "16E3", 2, 4)??;

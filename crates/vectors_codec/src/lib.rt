@@ -30,6 +30,8 @@ mod sizes;
 #[cfg(test)]
 mod small;
 #[cfg(test)]
+mod styles;
+#[cfg(test)]
 mod texts;
 #[cfg(test)]
 mod values;

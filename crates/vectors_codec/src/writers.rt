@@ -38,6 +38,37 @@ impl Write for Slow {
     }
 }
 
+/// Takes what it is given, but at one of its calls, counted from 1, it fails, or takes nothing.
+#[derive(Drop)]
+struct Refusing {
+    bytes: Vec<u8>,
+    call: u64,
+    fails: bool,
+    calls: u64,
+    refused: u64,
+}
+
+impl Write for Refusing {
+    fn write(&mut self, buf: &[u8]) -> io::Result<usize> {
+        self.calls = self.calls.saturating_add(1);
+        if self.calls == self.call {
+            self.refused = self.refused.saturating_add(1);
+            if self.fails {
+                return Err(io::Error::from(ErrorKind::BrokenPipe));
+            }
+            return Ok(0);
+        }
+        match self.bytes.extend_from_slice(buf) {
+            Ok(()) => Ok(buf.len()),
+            Err(_) => Err(io::Error::from(ErrorKind::OutOfMemory)),
+        }
+    }
+
+    fn flush(&mut self) -> io::Result<()> {
+        Ok(())
+    }
+}
+
 /// Encodes into a writer that takes so many bytes, and gives the answer and what was written.
 fn written(
     alloc: Global,
@@ -129,6 +160,64 @@ fn larger_tiles(rt: HostRuntime) -> Result<(), Fail> {
     let wide = grey(alloc, "P5\n90 70\n255\n", 6300)?;
     let boxed = parameters(alloc, 2, Some(32), Container::Jp2);
     check(alloc, &wide, &boxed, 701)
+}
+
+/// Whether a file is written whole by a writer that refuses a call. Shelf is answered only where it
+/// did: then that was the last call, and what it took before stands.
+fn is_whole(
+    alloc: Global,
+    image: &Image,
+    parameters: &Parameters,
+    file: &[u8],
+    refusal: (u64, bool),
+) -> Result<bool, Fail> {
+    let mut writer = Refusing {
+        bytes: Vec::new(alloc),
+        call: refusal.0,
+        fails: refusal.1,
+        calls: 0,
+        refused: 0,
+    };
+    let answer = encode_into(alloc, image, parameters, &mut writer);
+    let bytes = writer.bytes.as_slice();
+    if writer.refused == 0 && answer.is_ok() && bytes == file {
+        return Ok(true);
+    }
+    let stands = bytes.len() < file.len() && file.starts_with(bytes);
+    if answer == Err(Fault::Shelf) && writer.calls == refusal.0 && stands {
+        return Ok(false);
+    }
+    Err("another answer".into())
+}
+
+/// At how many calls in turn a writer refused.
+fn refused(
+    alloc: Global,
+    image: &Image,
+    parameters: &Parameters,
+    fails: bool,
+) -> Result<u64, Fail> {
+    let file = encode(alloc, image, parameters)?;
+    for call in 1..1000 {
+        if is_whole(alloc, image, parameters, &file, (call, fails))? {
+            return Ok(call.saturating_sub(1));
+        }
+    }
+    Err("no end".into())
+}
+
+/// Each call of a writer fails, or takes nothing, once.
+#[test]
+fn at_each_call(rt: HostRuntime) -> Result<(), Fail> {
+    let alloc = rt.alloc();
+    let image = grey(alloc, "P5\n5 7\n255\n", 35)?;
+    for container in [Container::Raw, Container::Jp2] {
+        let asked = parameters(alloc, 1, Some(3), container);
+        let failed = refused(alloc, &image, &asked, true)?;
+        equal(&rt, failed > 0, true);
+        equal(&rt, refused(alloc, &image, &asked, false)?, failed);
+    }
+    Ok(())
 }
 
 #[test]

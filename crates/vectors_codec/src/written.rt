@@ -53,8 +53,8 @@ fn writes(
     Ok(())
 }
 
-/// The length of the file of an image, and its checksum.
-fn measure(
+/// The length of the file of an image, and its checksum; it is read as the image.
+pub(crate) fn measure(
     alloc: Global,
     pnm: &[u8],
     place: (u32, u32),

@@ -11,46 +11,38 @@ use jk_params::Parameters;
 use std::alloc::Global;
 use std::marker::Sync;
 use std::process::Abort;
-use std::sync::atomic::{AtomicUsize, Ordering};
 use std::test::Fail;
-use std::thread;
 use std::thread::Threads;
+use vectors::Meeting;
 
-/// How many turns a code-block waits for another one at most.
-const TURNS: usize = 1_000_000;
-
-/// The first code-block waits until another one has begun, so many turns at most.
+/// A gate at which the first code-block meets the second.
 #[derive(Drop)]
-struct Meeting {
-    begun: AtomicUsize,
-    waited: AtomicUsize,
+struct Held {
+    meeting: Meeting,
 }
 
-impl Gate for Meeting {
+impl Gate for Held {
     fn began(&self, job: usize) {
-        self.begun.fetch_add(1, Ordering::SeqCst);
-        if job > 0 {
-            return;
-        }
-        for turn in 0..TURNS {
-            if self.begun.load(Ordering::SeqCst) > 1 {
-                return;
-            }
-            self.waited.store(turn + 1, Ordering::SeqCst);
-            thread::yield_now();
-        }
+        self.meeting.began(job);
     }
 
-    fn ended(&self, _job: usize) {}
+    fn ended(&self, job: usize) {
+        self.meeting.ended(job);
+    }
 }
 
-/// 3 by 5 samples of one colour, in two code-blocks.
-fn in_two_blocks(alloc: Global) -> Result<Image, Fail> {
+/// The PPM file of 3 by 5 samples of one colour.
+pub(crate) fn two_blocks(alloc: Global) -> Result<Vec<u8>, Fail> {
     let mut samples = Vec::new(alloc);
     for _ in 0..15 {
         samples.extend_from_slice(&[200, 100, 50])?;
     }
-    Ok(calls::read(alloc, &pnm_of(alloc, "P6\n3 5\n255\n", &samples)?)?)
+    pnm_of(alloc, "P6\n3 5\n255\n", &samples)
+}
+
+/// Its image, in two code-blocks where these are of 4 by 4.
+fn in_two_blocks(alloc: Global) -> Result<Image, Fail> {
+    Ok(calls::read(alloc, &two_blocks(alloc)?)?)
 }
 
 /// One worker, two and five write what one thread writes.
@@ -94,17 +86,22 @@ fn workers_out_of_range(rt: HostRuntime) -> Result<(), Fail> {
     Ok(())
 }
 
-/// Two workers code at the same time: the first code-block is coded only because the second has
-/// begun.
+/// Both code-blocks of each of three components are told once when they begin and once when they
+/// have ended, and the first one is coded only because the second has begun; the bytes are those of
+/// one thread.
 #[test]
 fn two_code_at_a_time(rt: HostRuntime) -> Result<(), Fail> {
     let alloc = rt.alloc();
-    let meeting = Meeting {
-        begun: AtomicUsize::new(0),
-        waited: AtomicUsize::new(0),
-    };
     let image = in_two_blocks(alloc)?;
-    encode_with(&rt, alloc, 2, &meeting, &image, &in_colour(alloc, 2))?;
-    assert!(rt; meeting.waited.load(Ordering::SeqCst) < TURNS);
+    let asked = in_colour(alloc, 2);
+    let due = encode(alloc, &image, &asked)?;
+    for workers in [2, 3] {
+        let held = Held {
+            meeting: Meeting::new(alloc, 2)?,
+        };
+        let file = encode_with(&rt, alloc, workers, &held, &image, &asked)?;
+        equal_at(&rt, workers, file.as_slice(), due.as_slice());
+        equal_at(&rt, workers, held.meeting.was_met(3), true);
+    }
     Ok(())
 }

@@ -1,42 +1,30 @@
 ghost use Rattle.std.specs.Prelude.{◌^◌, ◌<◌, All, IfOk, IsTrue, unsigned_abs};
 ghost use Rattle.jk_farm.specs.Blocks.{IsBlock, IsSegment};
 
-use jk_block::{Block, BlockShape};
+use crate::cases::BLOCKS;
+use jk_block::{Block, BlockShape, CodedBlock};
 use jk_farm::{Gate, Open, Segment, map_blocks, map_segments};
 use jk_math::{Fault, Orientation, Style};
 use std::alloc::Global;
 use std::process::Abort;
-use std::sync::atomic::{AtomicUsize, Ordering};
 use std::test::Fail;
-use std::thread;
-use vectors::bytes_of;
+use std::thread::Threads;
+use vectors::{Meeting, bytes_of};
 
-/// How many turns a job waits for another one at most.
-const TURNS: usize = 1_000_000;
-
-/// The first job waits until another one has begun, so many turns at most.
+/// A gate at which the first job meets the second.
 #[derive(Drop)]
-struct Meeting {
-    begun: AtomicUsize,
-    waited: AtomicUsize,
+struct Held {
+    meeting: Meeting,
 }
 
-impl Gate for Meeting {
+impl Gate for Held {
     fn began(&self, job: usize) {
-        self.begun.fetch_add(1, Ordering::SeqCst);
-        if job > 0 {
-            return;
-        }
-        for turn in 0..TURNS {
-            if self.begun.load(Ordering::SeqCst) > 1 {
-                return;
-            }
-            self.waited.store(turn + 1, Ordering::SeqCst);
-            thread::yield_now();
-        }
+        self.meeting.began(job);
     }
 
-    fn ended(&self, _job: usize) {}
+    fn ended(&self, job: usize) {
+        self.meeting.ended(job);
+    }
 }
 
 /// Is this a segment of the profile?
@@ -95,27 +83,91 @@ fn is_block(block: &Block) -> bool
         && is_small(&block.values)
 }
 
-/// Code-blocks of one sample each.
-fn blocks(alloc: Global, samples: &[i32]) -> Result<Vec<Block>, Fail>
+/// The number of a word, or 0.
+fn number(word: &str) -> usize {
+    word.parse::<u16>().unwrap_or(0) as usize
+}
+
+/// The numbers of a word with commas, or none where it is `-`.
+fn numbers(alloc: Global, word: &str) -> Result<Vec<i32>, Fail> {
+    let mut all = Vec::new(alloc);
+    if word != "-" {
+        for part in word.split(',') {
+            all.push(part.parse::<i32>()?)?;
+        }
+    }
+    Ok(all)
+}
+
+/// A sub-band by its name.
+fn orientation_of(text: &str) -> Orientation {
+    match text {
+        "HL" => Orientation::HL,
+        "LH" => Orientation::LH,
+        "HH" => Orientation::HH,
+        _ => Orientation::LL,
+    }
+}
+
+/// The code-block of a line.
+fn block_of(alloc: Global, line: &str) -> Result<Block, Fail> {
+    let mut words = line.split(' ');
+    let width = number(words.next().unwrap_or(""));
+    let height = number(words.next().unwrap_or(""));
+    let orientation = orientation_of(words.next().unwrap_or(""));
+    let values = numbers(alloc, words.next().unwrap_or(""))?;
+    Ok(Block {
+        width,
+        height,
+        orientation,
+        style: Style::plain(),
+        values,
+    })
+}
+
+/// The code-blocks of all lines.
+fn blocks(alloc: Global) -> Result<Vec<Block>, Fail>
     ensures { IfOk result (λ v. All IsBlock v.items) }
 {
     let mut made = Vec::new(alloc);
-    for sample in samples {
-        let mut values = Vec::new(alloc);
-        values.push(*sample)?;
-        made.push(Block {
-            width: 1,
-            height: 1,
-            orientation: Orientation::LL,
-            style: Style::plain(),
-            values,
-        })?;
+    for line in BLOCKS.split('\n') {
+        made.push(block_of(alloc, line)?)?;
     }
     let blocks = made;
     if !blocks.iter().all(|block| is_block(block)) {
         return Err("a code-block outside the profile".into());
     }
     Ok(blocks)
+}
+
+/// Whether a mark for each pass is these numbers.
+fn are_marks(marks: &[usize], due: &[i32]) -> bool {
+    if marks.len() != due.len() {
+        return false;
+    }
+    for (mark, number) in marks.iter().zip(due) {
+        if *mark != number.unsigned_abs() as usize {
+            return false;
+        }
+    }
+    true
+}
+
+/// Whether a code-block is coded as its line says.
+fn is_due(alloc: Global, coded: &CodedBlock, line: &str) -> Result<bool, Fail> {
+    let mut words = line.split(' ');
+    for _ in 0..4 {
+        let _ = words.next();
+    }
+    let planes = number(words.next().unwrap_or(""));
+    let bytes = bytes_of(alloc, &[words.next().unwrap_or("")])?;
+    let marks = numbers(alloc, words.next().unwrap_or(""))?;
+    Ok(
+        coded.planes as usize == planes
+            && coded.passes == marks.len()
+            && coded.bytes.as_slice() == bytes.as_slice()
+            && are_marks(&coded.marks, &marks),
+    )
 }
 
 /// `03` means 1 and `07` means -1, by one thread, two and five.
@@ -149,18 +201,32 @@ fn fault_of_the_least_job(rt: HostRuntime) -> Result<(), Fail> {
     Ok(())
 }
 
-/// What is written by one thread, two and five.
+/// How many code-blocks there are.
+const COUNT: usize = 78;
+
+/// How many code-blocks so many workers write as they are due, and how many in all.
+fn written<R: Threads + Sync, G: Gate + Sync>(
+    rt: &R,
+    alloc: Global,
+    workers: usize,
+    gate: &G,
+) -> Result<(usize, usize), Fail> {
+    let coded = map_blocks(rt, alloc, workers, gate, &blocks(alloc)?)?;
+    let mut right: usize = 0;
+    for (one, line) in coded.iter().zip(BLOCKS.split('\n')) {
+        if is_due(alloc, one, line)? {
+            right = right.saturating_add(1);
+        }
+    }
+    Ok((right, coded.len()))
+}
+
+/// What is written by one thread, two and five, bytes and marks.
 #[test]
 fn blocks_written(rt: HostRuntime) -> Result<(), Fail> {
-    let alloc = rt.alloc();
-    let blocks = blocks(alloc, &[1, -1, 0, 1])?;
     for workers in [1, 2, 5] {
-        let coded = map_blocks(&rt, alloc, workers, &Open, &blocks)?;
-        assert_eq!(rt; coded.len(), 4, "{workers}");
-        for (one, due) in coded.iter().zip([1, 1, 0, 1]) {
-            assert_eq!(rt; one.planes, due, "{workers}");
-            assert_eq!(rt; one.passes, due as usize, "{workers}");
-        }
+        let found = written(&rt, rt.alloc(), workers, &Open)?;
+        assert_eq!(rt; found, (COUNT, COUNT), "{workers}");
     }
     Ok(())
 }
@@ -179,16 +245,33 @@ fn workers_out_of_range(rt: HostRuntime) -> Result<(), Fail> {
     Ok(())
 }
 
-/// Two workers do jobs at the same time: the first job ends only because the second has begun.
+/// So many workers read segments: each is told once when it begins and once when it has ended, and
+/// the first one ends only because the second has begun.
 #[test]
-fn two_at_a_time(rt: HostRuntime) -> Result<(), Fail> {
+fn two_are_read_at_a_time(rt: HostRuntime) -> Result<(), Fail> {
     let alloc = rt.alloc();
-    let jobs = segments(alloc, &[("03", 1), ("03", 1)])?;
-    let meeting = Meeting {
-        begun: AtomicUsize::new(0),
-        waited: AtomicUsize::new(0),
-    };
-    map_segments(&rt, alloc, 2, &meeting, &jobs)?;
-    assert!(rt; meeting.waited.load(Ordering::SeqCst) < TURNS);
+    let jobs = segments(alloc, &[("03", 1), ("07", 1), ("03", 1)])?;
+    for workers in [2, 3] {
+        let held = Held {
+            meeting: Meeting::new(alloc, 3)?,
+        };
+        map_segments(&rt, alloc, workers, &held, &jobs)?;
+        assert!(rt; held.meeting.was_met(1), "{workers}");
+    }
+    Ok(())
+}
+
+/// So it is where code-blocks are written, and what is written is the same.
+#[test]
+fn two_are_written_at_a_time(rt: HostRuntime) -> Result<(), Fail> {
+    let alloc = rt.alloc();
+    for workers in [2, 3] {
+        let held = Held {
+            meeting: Meeting::new(alloc, COUNT)?,
+        };
+        let found = written(&rt, alloc, workers, &held)?;
+        assert_eq!(rt; found, (COUNT, COUNT), "{workers}");
+        assert!(rt; held.meeting.was_met(1), "{workers}");
+    }
     Ok(())
 }

@@ -1,7 +1,10 @@
 //! What the tests share: a catalogue of images of one grey sample of 128, and the calls that they
 //! make, without their contracts.
 
-ghost use Rattle.std.specs.Prelude.{◌≡◌, IfOk, vec_len};
+ghost use Rattle.std.specs.Prelude.{◌≡◌, List, All, IfOk, vec_len};
+ghost use Rattle.jk_store.specs.declared.entry.Entry.{Entry};
+ghost use Rattle.jk_hall.specs.Writing.{hall_of};
+ghost use Rattle.jk_hall.specs.Reading.{Opens};
 
 use jk_hall::{Hall, Reader, Writer};
 use jk_math::Fault;
@@ -66,7 +69,8 @@ pub(crate) fn opened<R: Wait>(
     alloc: Global,
     workers: usize,
 ) -> Result<(Writer, Vec<Reader>, Option<Arc<Entry>>), Fault>
-    ensures { IfOk result (λ h. vec_len h.1 ≡ workers) }
+    ensures count { IfOk result (λ h. vec_len h.1 ≡ workers) }
+    ensures readers { IfOk result (λ h. (list : List Entry) × All (Opens (hall_of h.0) list) h.1.items) }
 {
     let mut listed = page_entries(alloc, &["a", "b"])?;
     let last = listed.pop();

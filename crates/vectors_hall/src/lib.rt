@@ -2,16 +2,26 @@
 #![tactic(auto)]
 
 #[cfg(test)]
+mod attended;
+#[cfg(test)]
 mod calls;
+#[cfg(test)]
+mod counted;
 #[cfg(test)]
 mod crowd;
 #[cfg(test)]
 mod idle;
 #[cfg(test)]
+mod keeping;
+#[cfg(test)]
 mod operating;
 #[cfg(test)]
 mod publishing;
 #[cfg(test)]
+mod readers;
+#[cfg(test)]
 mod streams;
 #[cfg(test)]
 mod threads;
+#[cfg(test)]
+mod ways;

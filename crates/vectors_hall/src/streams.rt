@@ -1,14 +1,32 @@
-//! A source of connections in memory.
+//! A source of connections in memory, and a gate.
 
+use jk_farm::Gate;
 use jk_hall::{Connection, Nobody, Source};
 use jk_web::End;
 use std::alloc::Global;
 use std::io::Read;
 use std::sync::atomic::{AtomicUsize, Ordering};
 use std::{io, thread};
+use vectors::Meeting;
 
 /// How often something is waited for at most.
 pub(crate) const TURNS: usize = 1_000_000;
+
+/// A gate at which the first connection meets the second.
+#[derive(Drop)]
+pub(crate) struct Held {
+    pub(crate) meeting: Meeting,
+}
+
+impl Gate for Held {
+    fn began(&self, job: usize) {
+        self.meeting.began(job);
+    }
+
+    fn ended(&self, job: usize) {
+        self.meeting.ended(job);
+    }
+}
 
 /// The bytes of a connection, with its number.
 #[derive(Drop)]

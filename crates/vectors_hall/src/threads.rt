@@ -1,14 +1,15 @@
 //! Connections that several readers attend to.
 
 use crate::calls::{equal, opened, shelves};
-use crate::streams::{Streams, TURNS, wait_for};
-use jk_farm::{Gate, Open};
+use crate::streams::{Held, Streams, wait_for};
+use jk_farm::Open;
 use jk_hall::{Writer, serve_all};
 use jk_store::Entry;
-use std::sync::atomic::{AtomicUsize, Ordering};
+use std::sync::atomic::Ordering;
 use std::sync::{Arc, Wait};
 use std::test::Fail;
 use std::thread;
+use vectors::Meeting;
 
 /// Two connections that ask for the list.
 static LISTS: [(&[u8], &[u8]); 2] = [
@@ -34,46 +35,20 @@ static BETWEEN: [(&[u8], &[u8]); 2] = [
     ),
 ];
 
-/// The first connection waits until another one has begun, so many turns at most.
-#[derive(Drop)]
-struct Meeting {
-    begun: AtomicUsize,
-    waited: AtomicUsize,
-}
-
-impl Gate for Meeting {
-    fn began(&self, job: usize) {
-        self.begun.fetch_add(1, Ordering::SeqCst);
-        if job > 0 {
-            return;
-        }
-        for turn in 0..TURNS {
-            if self.begun.load(Ordering::SeqCst) > 1 {
-                return;
-            }
-            self.waited.store(turn + 1, Ordering::SeqCst);
-            thread::yield_now();
-        }
-    }
-
-    fn ended(&self, _job: usize) {}
-}
-
 #[test]
 fn two_connections_at_a_time(rt: HostRuntime) -> Result<(), Fail> {
     let alloc = rt.alloc();
     let files = shelves(alloc, 2)?;
     let streams = Streams::new(alloc, &LISTS, 1);
-    let meeting = Meeting {
-        begun: AtomicUsize::new(0),
-        waited: AtomicUsize::new(0),
+    let held = Held {
+        meeting: Meeting::new(alloc, 2)?,
     };
     let (writer, readers, _) = opened(&rt, alloc, 2)?;
-    let ended = serve_all(&rt, alloc, readers, files, &meeting, &streams);
+    let ended = serve_all(&rt, alloc, readers, files, &held, &streams);
     writer.close(&rt);
     equal(&rt, ended?, 2);
     equal(&rt, streams.right.load(Ordering::SeqCst), 2);
-    assert!(rt; meeting.waited.load(Ordering::SeqCst) < TURNS);
+    equal(&rt, held.meeting.was_met(1), true);
     Ok(())
 }
 

@@ -9,6 +9,7 @@ use crate::contents::Content;
 use crate::shelves::{Act, act_at};
 use jk_math::Fault;
 use jk_params::Container;
+use jk_store::Shelf;
 use std::alloc::Global;
 use std::test::Fail;
 
@@ -158,5 +159,45 @@ fn renamed(alloc: Global) -> Result<(Option<Fault>, usize, usize), Fault> {
 fn a_rename_that_fails(rt: HostRuntime) -> Result<(), Fail> {
     let answer = renamed(rt.alloc())?;
     equal(&rt, answer, (Some(Fault::Shelf), 0, 1));
+    Ok(())
+}
+
+/// Why an image isn't added with these parameters under a name beside an image `a`, where the shelf
+/// fails at a call behind the opening, counted from 1; whether it is listed then; and how many calls
+/// failed.
+fn added_at(
+    alloc: Global,
+    name: &str,
+    levels: u8,
+    call: u64,
+) -> Result<(Option<Fault>, bool, u64), Fault> {
+    // The calls of the opening are: list, read.
+    let shelf = shelf_of(alloc, &[("a.jp2", Content::Page)])?;
+    let mut archive = open(alloc, act_at(shelf, call.saturating_add(2), Act::Fail))?;
+    let answer = refusal_with(&mut archive, alloc, name, &with_levels(alloc, levels));
+    let is_listed = archive.list().len() == 2;
+    Ok((answer, is_listed, archive.into_shelf().failures()))
+}
+
+/// A name, levels, the call that fails, and what comes of it: the name, whether it is taken, and the
+/// parameters are judged before the shelf is called; then it is called twice, to write and to rename,
+/// and no third time.
+static IN_ORDER: [(&str, u8, u64, Option<Fault>, bool, u64); 8] = [
+    ("A", 6, 1, Some(Fault::BadName), false, 0),
+    ("", 6, 1, Some(Fault::BadName), false, 0),
+    ("a", 6, 1, Some(Fault::NameTaken), false, 0),
+    ("b", 6, 1, Some(Fault::BadParameters), false, 0),
+    ("b", 0, 1, Some(Fault::Shelf), false, 1),
+    ("b", 0, 2, Some(Fault::Shelf), false, 1),
+    ("b", 0, 3, None, true, 0),
+    ("b", 0, 4, None, true, 0),
+];
+
+#[test]
+fn faults_in_order(rt: HostRuntime) -> Result<(), Fail> {
+    for (name, levels, call, due, is_listed, failures) in &IN_ORDER {
+        let found = added_at(rt.alloc(), name, *levels, *call)?;
+        equal_at(&rt, (*name, *call), found, (*due, *is_listed, *failures));
+    }
     Ok(())
 }

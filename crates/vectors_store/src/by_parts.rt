@@ -175,6 +175,96 @@ fn where_a_kept_part_has_changed(rt: HostRuntime) -> Result<(), Fail> {
     Ok(())
 }
 
+/// The file with a box before its codestream that has so many bytes of text (T.800 I.7.1): all its
+/// parts are others then.
+fn moved(alloc: Global, file: &[u8], by: u32) -> Result<Vec<u8>, Fault> {
+    // Behind the signature, the file type and the header of an image of one component.
+    let (front, behind) = file.split_at(file.len().min(77));
+    let mut moved = Vec::from_slice(alloc, front)?;
+    moved.extend_from_slice(&by.saturating_add(8).to_be_bytes())?;
+    moved.extend_from_slice(b"xml ")?;
+    for _ in 0..by {
+        moved.push(b' ')?;
+    }
+    moved.extend_from_slice(behind)?;
+    Ok(moved)
+}
+
+/// A shelf of 24 such files.
+fn all_moved(alloc: Global, file: &[u8]) -> Result<MemoryShelf, Fault> {
+    let mut shelf = MemoryShelf::new(alloc);
+    for by in 0..24 {
+        let name = format!(in alloc; "{by:02}.jp2")?;
+        write(&mut shelf, alloc, name.as_str(), &moved(alloc, file, by)?)?;
+    }
+    Ok(shelf)
+}
+
+/// Whether the whole image of an entry is what is cut of the whole file.
+fn is_whole(
+    alloc: Global,
+    entry: &Entry,
+    shelf: &mut MemoryShelf,
+    kept: &mut HashedParts,
+) -> Result<bool, Fault> {
+    let asked = square(0, 448);
+    let window = by_kept_parts(entry, alloc, shelf, kept, asked)?;
+    let due = entry_window(entry, alloc, shelf, asked)?;
+    Ok(window.as_slice() == due.as_slice())
+}
+
+/// Why the whole image of a moved file isn't given, where a byte in the middle of a part has
+/// changed.
+fn with_moved_turned(
+    alloc: Global,
+    entry: &Entry,
+    file: &[u8],
+    part: usize,
+    kept: &mut HashedParts,
+) -> Result<Option<Fault>, Fault> {
+    let name = format!(in alloc; "{}.jp2", entry.name.as_str())?;
+    let mut shelf = with_file(alloc, name.as_str(), &turned(alloc, file, part)?)?;
+    Ok(by_kept_parts(entry, alloc, &mut shelf, kept, square(0, 448)).err())
+}
+
+/// More parts are asked for than are kept, so that new ones take the places of old ones: each window
+/// is what is due, and a part that has changed since is told, whether it is still kept or not.
+#[test]
+fn more_parts_than_are_kept(rt: HostRuntime) -> Result<(), Fail> {
+    let alloc = rt.alloc();
+    let file = made(alloc)?.file;
+    let archive = open(alloc, all_moved(alloc, &file)?)?;
+    let mut shelf = all_moved(alloc, &file)?;
+    let mut kept = HashedParts::new(alloc);
+    let mut parts = 0u64;
+    for entry in archive.list() {
+        parts = parts.saturating_add(entry.parts.len() as u64);
+        equal_at(
+            &rt,
+            parts,
+            is_whole(alloc, entry, &mut shelf, &mut kept)?,
+            true,
+        );
+    }
+    equal_at(&rt, parts, 300 <= parts, true);
+    for (entry, by) in archive.list().iter().zip(0..24) {
+        if by % 23 == 0 {
+            let file = moved(alloc, &file, by)?;
+            for part in 0..entry.parts.len() {
+                let answer = with_moved_turned(alloc, entry, &file, part, &mut kept)?;
+                equal_at(&rt, (by, part), answer, Some(Fault::Changed));
+            }
+            equal_at(
+                &rt,
+                by,
+                is_whole(alloc, entry, &mut shelf, &mut kept)?,
+                true,
+            );
+        }
+    }
+    Ok(())
+}
+
 /// Whether a window of a file without its last bytes, or with so many zeros behind it, is that of
 /// the file; what is said of the whole; and the failures.
 fn of_length(

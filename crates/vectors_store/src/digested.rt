@@ -1,6 +1,6 @@
 //! The digests of the files of an archive that is opened, three or four of which are made at once.
 
-use crate::asserts::{equal, equal_at};
+use crate::asserts::equal_at;
 use crate::calls::{open, write};
 use crate::contents::Content;
 use jk_math::Fault;
@@ -12,7 +12,7 @@ use std::process::Abort;
 use std::test::Fail;
 
 /// The JP2 file of one sample, and behind it a box of so many bytes of text (T.800 I.7.1).
-fn noted(alloc: Global, size: u32) -> Result<Vec<u8>, Fault> {
+pub(crate) fn noted(alloc: Global, size: u32) -> Result<Vec<u8>, Fault> {
     let page = Content::Page.bytes(alloc)?;
     let mut file = Vec::with_capacity(alloc, page.len().saturating_add(8 + size as usize))?;
     file.extend_from_slice(&page)?;
@@ -86,24 +86,39 @@ fn kilobytes(rt: &HostRuntime, word: &str) -> Result<u64, Fail> {
     Err("the system doesn't tell it".into())
 }
 
-/// A shelf of three files with texts of 33 MiB, each of more bytes than wait.
-fn large(alloc: Global) -> Result<MemoryShelf, Fault> {
+/// A shelf of so many files with texts of so many MiB.
+fn large(alloc: Global, count: u32, size: u32) -> Result<MemoryShelf, Fault> {
     let mut shelf = MemoryShelf::new(alloc);
-    for name in &["a.jp2", "b.jp2", "c.jp2"] {
-        write(&mut shelf, alloc, name, &noted(alloc, 33 << 20)?)?;
+    for number in 0..count {
+        let name = format!(in alloc; "{number}.jp2")?;
+        let file = noted(alloc, size.saturating_mul(1 << 20))?;
+        write(&mut shelf, alloc, name.as_str(), &file)?;
     }
     Ok(shelf)
 }
 
-/// While it is opened, one of its files is held at a time beside those of the shelf.
+/// How many images an archive of such files lists, and how many kilobytes it takes while it is opened,
+/// beside the files of its shelf.
+fn taken(rt: &HostRuntime, count: u32, size: u32) -> Result<(usize, u64), Fail> {
+    let shelf = large(rt.alloc(), count, size)?;
+    let first = kilobytes(rt, "VmSize:")?;
+    let archive = open(rt.alloc(), shelf)?;
+    let more = kilobytes(rt, "VmPeak:")?.saturating_sub(first);
+    Ok((archive.list().len(), more))
+}
+
+/// Of files that have more bytes each than wait, one is held at a time.
 #[test]
-fn little_waits(rt: HostRuntime) -> Result<(), Fail> {
-    let alloc = rt.alloc();
-    let shelf = large(alloc)?;
-    let first = kilobytes(&rt, "VmSize:")?;
-    let archive = open(alloc, shelf)?;
-    equal(&rt, archive.list().len(), 3);
-    let more = kilobytes(&rt, "VmPeak:")?.saturating_sub(first);
-    equal_at(&rt, more, more < 50 << 10, true);
+fn no_large_file_waits(rt: HostRuntime) -> Result<(), Fail> {
+    let (listed, more) = taken(&rt, 3, 33)?;
+    equal_at(&rt, more, (listed, more < 50 << 10), (3, true));
+    Ok(())
+}
+
+/// Of files that have more bytes together than wait, though none has by itself, two are held.
+#[test]
+fn few_bytes_wait(rt: HostRuntime) -> Result<(), Fail> {
+    let (listed, more) = taken(&rt, 4, 20)?;
+    equal_at(&rt, more, (listed, more < 60 << 10), (4, true));
     Ok(())
 }

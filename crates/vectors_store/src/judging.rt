@@ -4,7 +4,7 @@
 use crate::asserts::{equal, equal_at};
 use crate::calls::{add, listed, open, shelf_of};
 use crate::contents::Content;
-use crate::shelves::{Act, Many, act_at};
+use crate::shelves::{Act, act_at, alike};
 use jk_math::Fault;
 use jk_store::{Archive, Images, judge_name};
 use std::alloc::Global;
@@ -45,8 +45,8 @@ fn names_beside_files(rt: HostRuntime) -> Result<(), Fail> {
 
 /// What is said of a name beside so many files `0000.jp2`, `0001.jp2` and so on.
 fn beside(alloc: Global, name: &str, count: u16) -> Result<bool, Fault> {
-    let bytes = Vec::new(alloc);
-    judge_name(alloc, &mut Many { count, bytes }, name)
+    let mut shelf = alike(count, Vec::new(alloc))?;
+    judge_name(alloc, &mut shelf, name)
 }
 
 #[test]
@@ -54,8 +54,8 @@ fn names_beside_many(rt: HostRuntime) -> Result<(), Fail> {
     let alloc = rt.alloc();
     let few = [beside(alloc, "4095", 4095), beside(alloc, "4094", 4095)];
     equal(&rt, few, [Ok(true), Err(Fault::NameTaken)]);
-    let many = [beside(alloc, "4096", 4096), beside(alloc, "D", 4096)];
-    equal(&rt, many, [Ok(false), Ok(false)]);
+    let full = [beside(alloc, "4096", 4096), beside(alloc, "D", 4096)];
+    equal(&rt, full, [Ok(false), Ok(false)]);
     Ok(())
 }
 

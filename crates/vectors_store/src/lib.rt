@@ -20,6 +20,8 @@ mod directories;
 #[cfg(test)]
 mod failing;
 #[cfg(test)]
+mod first_faults;
+#[cfg(test)]
 mod judging;
 #[cfg(test)]
 mod limits;

@@ -141,12 +141,23 @@ impl Shelf for Acting {
     }
 }
 
-/// A shelf of so many files `0000.jp2`, `0001.jp2` and so on, that all have the same bytes. It
-/// takes no other.
+/// A shelf of so many files `0000.jp2`, `0001.jp2` and so on, of which all but the first have the
+/// same bytes. It takes no other.
 #[derive(Drop)]
 pub(crate) struct Many {
     pub(crate) count: u16,
+    pub(crate) first: Vec<u8>,
     pub(crate) bytes: Vec<u8>,
+}
+
+/// A shelf of so many files that all have the same bytes.
+pub(crate) fn alike(count: u16, bytes: Vec<u8>) -> Result<Many, Fault> {
+    let first = bytes.clone()?;
+    Ok(Many {
+        count,
+        first,
+        bytes,
+    })
 }
 
 impl Shelf for Many {
@@ -168,7 +179,10 @@ impl Shelf for Many {
         Ok(names)
     }
 
-    fn read(&mut self, alloc: Global, _name: &str) -> Result<Vec<u8>, Fault> {
+    fn read(&mut self, alloc: Global, name: &str) -> Result<Vec<u8>, Fault> {
+        if name == "0000.jp2" {
+            return Ok(Vec::from_slice(alloc, &self.first)?);
+        }
         Ok(Vec::from_slice(alloc, &self.bytes)?)
     }
 

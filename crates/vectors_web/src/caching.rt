@@ -12,8 +12,8 @@ const LONG: u32 = 1000000;
 /// The images `a` and `b`, whose windows say what was asked for. It counts the windows that it
 /// makes; nothing is claimed of it.
 #[derive(Drop)]
-struct Counting {
-    made: u64,
+pub(crate) struct Counting {
+    pub(crate) made: u64,
 }
 
 impl Catalogue for Counting {

@@ -14,3 +14,5 @@ mod lengthy;
 mod serving;
 #[cfg(test)]
 mod tests;
+#[cfg(test)]
+mod turns;

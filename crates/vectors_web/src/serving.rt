@@ -3,9 +3,10 @@ use jk_math::Fault;
 use jk_web::{End, Octets, Reply, Request, Service, serve};
 use std::alloc::Global;
 use std::io;
-use std::io::{ErrorKind, Read, Write};
+use std::io::{ErrorKind, Write};
 use std::process::Abort;
 use std::test::Fail;
+use vectors::Pieces;
 
 /// Answers with the method and the target.
 #[derive(Drop)]
@@ -27,32 +28,6 @@ impl Service for Echo {
             close: request.closes,
             bytes: Octets::new(bytes),
         })
-    }
-}
-
-/// Gives at most so many bytes a read, and fails behind the last one or is at its end.
-#[derive(Drop)]
-pub(crate) struct Source {
-    bytes: Vec<u8>,
-    at: usize,
-    most: usize,
-    fails: bool,
-}
-
-impl Read for Source {
-    fn read(&mut self, buf: &mut [u8]) -> io::Result<usize> {
-        let left = self.bytes.len().saturating_sub(self.at);
-        if left == 0 && self.fails {
-            return Err(io::Error::from(ErrorKind::ConnectionReset));
-        }
-        let count = left.min(self.most).min(buf.len());
-        for i in 0..count {
-            if self.at < self.bytes.len() && i < buf.len() {
-                buf[i] = self.bytes[self.at];
-                self.at = self.at.saturating_add(1);
-            }
-        }
-        Ok(count)
     }
 }
 
@@ -88,13 +63,9 @@ pub(crate) fn read_from(
     bytes: &[u8],
     most: usize,
     fails: bool,
-) -> Result<Source, Fail> {
-    Ok(Source {
-        bytes: Vec::from_slice(alloc, bytes)?,
-        at: 0,
-        most,
-        fails,
-    })
+) -> Result<Pieces, Fail> {
+    let bytes = Vec::from_slice(alloc, bytes)?;
+    Ok(Pieces::new(bytes, most, fails))
 }
 
 pub(crate) fn write_to(alloc: Global, most: usize, room: usize, fails: bool) -> Sink {
@@ -110,7 +81,7 @@ pub(crate) fn write_to(alloc: Global, most: usize, room: usize, fails: bool) -> 
 fn serves(
     rt: &impl Abort,
     alloc: Global,
-    mut reader: Source,
+    mut reader: Pieces,
     mut writer: Sink,
     turns: u64,
     want: (&[u8], End),

@@ -2,9 +2,9 @@
 
 use crate::asserts::equal;
 use crate::many::MANY;
-use jk_code::decode;
+use jk_code::{decode, decode_window, decode_window_by};
 use jk_marks::Order;
-use jk_math::Fault;
+use jk_math::{Fault, Image};
 use jk_window::{Index, View, cut, index};
 use std::alloc::Global;
 use std::test::Fail;
@@ -139,6 +139,44 @@ fn layers_emptied(rt: HostRuntime) -> Result<(), Fail> {
         layers_kept(alloc, None, ALL_LAYERS)?.as_str(),
         "97 255",
     );
+    Ok(())
+}
+
+/// The sample of a decoded window, if there is one.
+fn sample_of(answer: Result<Image, Fault>) -> Result<i32, Fault> {
+    Ok(answer?.sample(0, 0, 0))
+}
+
+/// Of a view in so many layers: how many bytes its cut has, and the sample that is decoded of it, by
+/// the bytes and by the index.
+fn in_layers(
+    alloc: Global,
+    count: u32,
+) -> Result<(Result<usize, Fault>, [Result<i32, Fault>; 2]), Fail> {
+    let file = bytes_of(alloc, &[LAYERED, ALL_LAYERS])?;
+    let kept = index(alloc, &file)?;
+    let asked = View {
+        layers: Some(count),
+        ..view(0, 0, 0, 1, 1)
+    };
+    let size = match cut(alloc, &kept, &file, asked) {
+        Ok(reply) => Ok(reply.len()),
+        Err(fault) => Err(fault),
+    };
+    let decoded = [
+        sample_of(decode_window(alloc, &file, asked)),
+        sample_of(decode_window_by(alloc, &file, &kept, asked)),
+    ];
+    Ok((size, decoded))
+}
+
+/// A view in no layer has no cut. What is decoded has all layers, whatever layers the view asks for.
+#[test]
+fn no_layer(rt: HostRuntime) -> Result<(), Fail> {
+    let alloc = rt.alloc();
+    let refused = in_layers(alloc, 0)?;
+    equal(&rt, refused, (Err(Fault::BadWindow), [Ok(255), Ok(255)]));
+    equal(&rt, in_layers(alloc, 1)?, (Ok(89), [Ok(255), Ok(255)]));
     Ok(())
 }
 

@@ -1,6 +1,6 @@
 //! Files decoded by one worker, two and five, and by more than there are rows.
 
-use crate::meeting::Meeting;
+use crate::meeting::Held;
 use jk_code::decode_with;
 use jk_farm::{Gate, Open};
 use jk_math::{Fault, Image};
@@ -8,7 +8,7 @@ use std::alloc::Global;
 use std::process::Abort;
 use std::test::Fail;
 use std::thread::Threads;
-use vectors::bytes_of;
+use vectors::{Meeting, bytes_of};
 
 /// How many workers a file is decoded by.
 static WORKERS: [usize; 5] = [1, 2, 3, 5, 64];
@@ -154,13 +154,22 @@ fn workers_out_of_range(rt: HostRuntime) -> Result<(), Fail> {
     Ok(())
 }
 
-/// Two stripes are decoded at the same time: the first ends only because the second has begun.
+/// The stripe of each worker is told once when it begins and once when it has ended, and the first
+/// ends only because the second has begun; what they make is the image.
 #[test]
 fn two_stripes_at_a_time(rt: HostRuntime) -> Result<(), Fail> {
-    let bytes = bytes_of(rt.alloc(), &[COLOUR])?;
-    let meeting = Meeting::new();
-    let image = decoded(&rt, rt.alloc(), 2, &meeting, &bytes, 0)?;
-    assert!(rt; has(&image, &COLOURS));
-    assert!(rt; meeting.was_met());
+    let alloc = rt.alloc();
+    let rows: [(&str, &[i32]); 2] = [(COLOUR, &COLOURS), (TILES, &WHOLE)];
+    for (text, samples) in rows {
+        let bytes = bytes_of(alloc, &[text])?;
+        for workers in [2, 3] {
+            let held = Held {
+                meeting: Meeting::new(alloc, workers)?,
+            };
+            let image = decoded(&rt, alloc, workers, &held, &bytes, 0)?;
+            assert!(rt; has(&image, samples), "{workers} {text}");
+            assert!(rt; held.meeting.was_met(1), "{workers} {text}");
+        }
+    }
     Ok(())
 }

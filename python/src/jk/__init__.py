@@ -16,7 +16,7 @@ from .faults import (
 )
 from .files import Info, cut, encode, info, read, write
 
-__version__ = "0.1.0"
+__version__ = "0.2.0"
 __all__ = [
     "Archive", "BadBox", "BadLength", "BadMarker", "BadParameters", "BadValue", "BadWindow", "Changed",
     "CodeOutOfInterval", "Fault", "Info", "Limit", "Listed", "Memory", "Misfit", "MissingPackets", "NoSuchImage",

@@ -3,7 +3,7 @@ import ctypes
 import os
 from ctypes import POINTER, c_size_t, c_uint8, c_uint32, c_void_p
 
-VERSION = 100
+VERSION = 200
 SHORT = 64
 
 
@@ -52,10 +52,11 @@ _VIEW = (c_uint32,) * 5
 _OUT = (*_LIST, POINTER(c_size_t))
 
 info = _call("jk_info", *_LIST, c_uint32, POINTER(Frame))
-decode_u8 = _call("jk_decode_u8", *_LIST, c_uint32, *_LIST)
-decode_u16 = _call("jk_decode_u16", *_LIST, c_uint32, *_LIST)
-decode_window_u8 = _call("jk_decode_window_u8", *_LIST, *_VIEW, *_LIST)
-decode_window_u16 = _call("jk_decode_window_u16", *_LIST, *_VIEW, *_LIST)
-encode_u8 = _call("jk_encode_u8", POINTER(Frame), *_LIST, POINTER(Coding), *_OUT)
-encode_u16 = _call("jk_encode_u16", POINTER(Frame), *_LIST, POINTER(Coding), *_OUT)
+#: By the name of numpy's type of a sample.
+_TYPES = {"uint8": "u8", "uint16": "u16", "int8": "i8", "int16": "i16"}
+decode = {kind: _call(f"jk_decode_{short}", *_LIST, c_uint32, *_LIST) for kind, short in _TYPES.items()}
+decode_window = {kind: _call(f"jk_decode_window_{short}", *_LIST, *_VIEW, *_LIST) for kind, short in _TYPES.items()}
+encode = {
+    kind: _call(f"jk_encode_{short}", POINTER(Frame), *_LIST, POINTER(Coding), *_OUT) for kind, short in _TYPES.items()
+}
 cut = _call("jk_cut", *_LIST, *_VIEW, *_OUT)

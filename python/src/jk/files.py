@@ -43,6 +43,8 @@ class Info:
     @property
     def dtype(self) -> np.dtype:
         """The type of its elements."""
+        if self.signed:
+            return np.dtype(np.int8 if self.depth <= 8 else np.int16)
         return np.dtype(np.uint8 if self.depth <= 8 else np.uint16)
 
 
@@ -100,22 +102,20 @@ def read(
     """The image of a file, by its path or its bytes, `reduce` times halved, or a window of it.
 
     The array is (height, width), or (height, width, components) where there are 2 to 4 of them, of uint8 for samples
-    of at most 8 bits, else of uint16. A window (x, y, width, height) is counted on the halved image and cut with it,
+    of at most 8 bits, else of uint16; of int8 and int16 for signed samples. A window (x, y, width, height) is counted on the halved image and cut with it,
     and the rest isn't decoded. With `out`, an array of that shape and type, the samples are written there.
     """
     data = _bytes_of(file)
     told = _info(data, reduce)
     if window is None:
         array = _room(told, told.shape, out)
-        call = _calls.decode_u8 if array.dtype == np.uint8 else _calls.decode_u16
-        check(call(*_list(data), _word(reduce), *_list(array)))
+        check(_calls.decode[array.dtype.name](*_list(data), _word(reduce), *_list(array)))
         return array
     x, y, width, height = (_word(number) for number in window)
     across = max(0, min(x + width, told.width) - x)
     down = max(0, min(y + height, told.height) - y)
     array = _room(told, _shape(down, across, told.components), out)
-    call = _calls.decode_window_u8 if array.dtype == np.uint8 else _calls.decode_window_u16
-    check(call(*_list(data), _word(reduce), x, y, width, height, *_list(array)))
+    check(_calls.decode_window[array.dtype.name](*_list(data), _word(reduce), x, y, width, height, *_list(array)))
     return array
 
 
@@ -139,7 +139,7 @@ def _handed_out(call: Any, room: int) -> bytes:
         room = length.value
 
 
-def _coding(components: int, parameters: dict) -> _calls.Coding:
+def _coding(components: int, signed: bool, parameters: dict) -> _calls.Coding:
     def taken(name: str, default: Any) -> Any:
         return parameters.pop(name, default)
 
@@ -160,7 +160,7 @@ def _coding(components: int, parameters: dict) -> _calls.Coding:
     coding.colour = components == 3 if colour is None else bool(colour)
     coding.sop, coding.eph = bool(taken("sop", False)), bool(taken("eph", False))
     raw = taken("raw", None)
-    coding.raw = components not in (1, 3) if raw is None else bool(raw)
+    coding.raw = signed or components not in (1, 3) if raw is None else bool(raw)
     coding.style = sum(bit for style, bit in STYLES.items() if taken(style, False))
     if parameters:
         raise TypeError(f"unknown parameters: {', '.join(sorted(parameters))}")
@@ -168,26 +168,27 @@ def _coding(components: int, parameters: dict) -> _calls.Coding:
 
 
 def encode(array: np.ndarray, **parameters: Any) -> bytes:
-    """The file of an array (height, width) or (height, width, components) of uint8 or uint16.
+    """The file of an array (height, width) or (height, width, components) of uint8, uint16, int8 or int16.
 
-    Parameters: `depth`, bits of a sample (8 or 16 by the array's type); `place`, the upper left sample's (x, y) on the
+    Parameters: `depth`, bits of a sample, the sign counted (8 or 16 by the array's type); `place`, the upper left sample's (x, y) on the
     reference grid; `levels` (5), `layers` (1), `order` ("LRCP"), `tile` (width, height), `block` and `precincts` by
     exponents ((6, 6), none), `colour` (with three components), `sop`, `eph`, `reset`, `causal` and `segments` for the
-    styles of code-blocks, and `raw` for a bare codestream (with 2 and 4 components, which JP2 doesn't hold).
+    styles of code-blocks, and `raw` for a bare codestream (with 2 and 4 components, and signed samples, which JP2 doesn't hold).
     """
     image = np.asarray(array)
-    if image.dtype not in (np.uint8, np.uint16) or image.ndim not in (2, 3):
-        raise TypeError(f"not an image of uint8 or uint16: {image.dtype} with {image.ndim} axes")
+    if not image.dtype.isnative or image.dtype.name not in _calls.encode or image.ndim not in (2, 3):
+        kinds = ", ".join(_calls.encode)
+        raise TypeError(f"not an image of one of {kinds} in this machine's order: {image.dtype} with {image.ndim} axes")
     image = np.ascontiguousarray(image)
     components = 1 if image.ndim == 2 else image.shape[2]
     depth = parameters.pop("depth", None) or 8 * image.dtype.itemsize
     x0, y0 = parameters.pop("place", (0, 0))
     frame = _calls.Frame(
         x0=_word(x0), y0=_word(y0), width=image.shape[1], height=image.shape[0],
-        components=components, depth=_word(depth),
+        components=components, depth=_word(depth), is_signed=image.dtype.kind == "i",
     )
-    coding = _coding(components, parameters)
-    call = _calls.encode_u8 if image.dtype == np.uint8 else _calls.encode_u16
+    coding = _coding(components, image.dtype.kind == "i", parameters)
+    call = _calls.encode[image.dtype.name]
     told, asked = ctypes.byref(frame), ctypes.byref(coding)
     return _handed_out(lambda *out: call(told, *_list(image), asked, *out), image.nbytes + image.nbytes // 4 + 65536)
 

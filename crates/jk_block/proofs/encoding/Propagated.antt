@@ -97,7 +97,7 @@ quiet_until v j i n z stripe off (suc d) h =
       clear,
     )
 
-no_run : (s : BlockShape) (a : Field ℕ) (j i c : ℕ) → is_run s a 0 j i c ≡ false
+pub no_run : (s : BlockShape) (a : Field ℕ) (j i c : ℕ) → is_run s a 0 j i c ≡ false
 no_run s a j i c = none (nat_lt (8 * j + c) s.width)
   where
     none : (b : Bool) → (b && false) ≡ false

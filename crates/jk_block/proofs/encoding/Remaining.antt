@@ -74,7 +74,7 @@ head s p pass j i c h =
 abbrev pub is_run : BlockShape → Field ℕ → (pass j i c : ℕ) → Bool
 is_run s a pass j i c = nat_lt (8 * j + c) s.width && (nat_eq pass 2 && runs s a (8 * j + c) i)
 
-plain_column : (s : BlockShape) (p : Plane) (pass j i c : ℕ) → is_run s p.magnitude pass j i c ≡ false → column_if s p pass j i c ≡ rows_left s p pass j i c 0
+pub plain_column : (s : BlockShape) (p : Plane) (pass j i c : ℕ) → is_run s p.magnitude pass j i c ≡ false → column_if s p pass j i c ≡ rows_left s p pass j i c 0
 unfolding column_if column_decisions
 plain_column s p pass j i c e = by (nat_lt (8 * j + c) s.width) (nat_eq pass 2 && runs s p.magnitude (8 * j + c) i) e
   where
@@ -83,7 +83,7 @@ plain_column s p pass j i c e = by (nat_lt (8 * j + c) s.width) (nat_eq pass 2 &
     by true q e = ap (λ q. cond q (run_decisions s p (8 * j + c) i (first_one p.magnitude (8 * j + c) i)) (rows_decisions s p pass (8 * j + c) i 0 4)) e
     by false q e = refl
 
-run_column : (s : BlockShape) (p : Plane) (pass j i c : ℕ) → is_run s p.magnitude pass j i c ≡ true → column_if s p pass j i c ≡ run_decisions s p (8 * j + c) i (first_one p.magnitude (8 * j + c) i)
+pub run_column : (s : BlockShape) (p : Plane) (pass j i c : ℕ) → is_run s p.magnitude pass j i c ≡ true → column_if s p pass j i c ≡ run_decisions s p (8 * j + c) i (first_one p.magnitude (8 * j + c) i)
 unfolding column_if column_decisions
 run_column s p pass j i c e = by (nat_lt (8 * j + c) s.width) (nat_eq pass 2 && runs s p.magnitude (8 * j + c) i) e
   where

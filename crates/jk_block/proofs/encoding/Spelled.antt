@@ -20,13 +20,13 @@ use Rattle.jk_block.proofs.encoding.Listed.{sign_is}
 use Rattle.jk_block.proofs.encoding.Negatives.{sign_bit}
 use Rattle.jk_block.proofs.encoding.Slicing.{one_at}
 
-abbrev decided : ℕ → Bool → ℕ × Bool
+abbrev pub decided : ℕ → Bool → ℕ × Bool
 decided cx bit = (cx, bit)
 
 two : {m n : ℕ} {a b : Bool} → m ≡ n → a ≡ b → decided m a ≡ decided n b
 two e g = cc
 
-spelled : (byte cx : ℕ) (b : Bool) → byte ≡ 2 * cx + cond b 1 0 → decision_of byte ≡ decided cx b
+pub spelled : (byte cx : ℕ) (b : Bool) → byte ≡ 2 * cx + cond b 1 0 → decision_of byte ≡ decided cx b
 spelled byte cx true h = two (omega (arith, h)) (let e : byte % 2 ≡ 1 = omega (arith, h) in let g : (byte % 2 == 1) ≡ true = grind (arith, nat_tests) in g)
 spelled byte cx false h = two (omega (arith, h)) (let e : byte % 2 ≡ 0 = omega (arith, h) in let g : (byte % 2 == 1) ≡ false = grind (arith, nat_tests) in g)
 

@@ -40,16 +40,6 @@ impl Model for DecisionList {
     ghost invariant = { λ l. IsSheet l.bytes.items l.count };
 }
 
-/// A decision in one byte.
-#[inline(always)]
-fn spelled(context: u8, bit: bool) -> u8
-    requires { context < 19 }
-    ensures value { decision_of result ≡ (context, bit) }
-    ensures small { result / 2 < 19 }
-{
-    if bit { 2 * context + 1 } else { 2 * context }
-}
-
 /// More bytes.
 #[inline(never)]
 fn widen(bytes: &mut Vec<u8>) -> Result<(), Fault>
@@ -74,48 +64,6 @@ pub fn make_room(bytes: &mut Vec<u8>, count: usize) -> Result<(), Fault>
         widen(bytes)?;
     }
     Ok(())
-}
-
-/// Puts a decision in one byte behind those that are there, and gives how many they are then.
-#[inline(always)]
-pub fn put_byte(bytes: &mut [u8], count: usize, byte: u8) -> usize
-    requires room { IsSheet bytes.old (count + 1) }
-    requires small { byte / 2 < 19 }
-    ensures told { told bytes.new result ≡ told bytes.old count ++ decision_of byte ∷ [] }
-    ensures one { result ≡ count + 1 }
-    ensures sheet { (n : ℕ) → IsSheet bytes.old n → IsSheet bytes.new n }
-{
-    bytes[count] = byte;
-    count + 1
-}
-
-/// Puts a decision behind those that are there, and gives how many they are then.
-#[inline(always)]
-pub fn put_one(bytes: &mut [u8], count: usize, context: u8, bit: bool) -> usize
-    requires room { IsSheet bytes.old (count + 1) }
-    requires context { context < 19 }
-    ensures told { told bytes.new result ≡ told bytes.old count ++ (context, bit) ∷ [] }
-    ensures one { result ≡ count + 1 }
-    ensures sheet { (n : ℕ) → IsSheet bytes.old n → IsSheet bytes.new n }
-{
-    bytes[count] = spelled(context, bit);
-    count + 1
-}
-
-/// Puts a decision behind those that are there, and another one behind it where its bit is 1.
-#[inline(always)]
-pub fn put_new(bytes: &mut [u8], count: usize, byte: u8, next: u8) -> usize
-    requires room { IsSheet bytes.old (count + 2) }
-    requires small { byte / 2 < 19 }
-    requires next { next / 2 < 19 }
-    ensures told { told bytes.new result
-        ≡ told bytes.old count ++ decision_of byte ∷ (if byte % 2 == 1 then decision_of next ∷ [] else []) }
-    ensures few { result ≤ count + 2 }
-    ensures sheet { (n : ℕ) → IsSheet bytes.old n → IsSheet bytes.new n }
-{
-    bytes[count] = byte;
-    bytes[count + 1] = next;
-    count + 1 + (byte % 2 == 1) as usize
 }
 
 impl DecisionList {

@@ -26,7 +26,6 @@ mod ahead;
 mod decisions;
 mod flags;
 mod passes;
-mod places;
 mod plane;
 mod slices;
 mod words;

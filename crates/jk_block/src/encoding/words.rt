@@ -18,13 +18,13 @@ ghost use Rattle.jk_block.specs.encoding.Viewed.{seen, lit_at, spread_at, IsFlag
 use super::ahead::with_reached;
 use super::decisions::{DecisionList, make_room};
 use super::flags::Flags;
-use super::places::{bit_of, first_row, write_new, write_refined, write_run};
 use super::plane::BlockPlane;
 use crate::spot::Spot;
+use jk_columns::{put_columns, put_pairs, refining_rows};
 use jk_math::Fault;
 use jk_scan::{
-    Around, BlockShape, byte_in, decision_bytes, inside, members, quiet_in_turn, seen_among,
-    touched_places, word_place,
+    Around, BlockShape, decision_bytes, inside, members, quiet_in_turn, seen_among, touched_places,
+    word_place,
 };
 
 /// A word in the significance propagation pass (T.800 D.3.1). Its places are known at once, and so
@@ -65,17 +65,7 @@ pub fn write_propagation<const N: usize>(
     flags.visit_all(own.shape, spot, all);
     flags.light_all(own.shape, spot, all & ones);
     make_room(&mut list.bytes, list.count)?;
-    let bytes = &mut list.bytes[..];
-    let mut count = list.count;
-    let mut left = all;
-    while left != 0 {
-        let k = left.trailing_zeros();
-        left &= left - 1;
-        let bit = byte_in(&told.bits, k);
-        let sign = byte_in(&told.signs, k);
-        count = write_new(bit, sign, bytes, count);
-    }
-    list.count = count;
+    list.count = put_columns(&told, all, ones, 0, &mut list.bytes[..], list.count);
     Ok(())
 }
 
@@ -112,7 +102,7 @@ pub fn write_refinement<const N: usize>(
     ensures memory { IfErr result IsMemory }
 {
     let own = *block;
-    let mut candidates = older(&own, flags, spot);
+    let candidates = older(&own, flags, spot);
     if candidates == 0 {
         return Ok(());
     }
@@ -121,20 +111,8 @@ pub fn write_refinement<const N: usize>(
     let refined = own.refined_places(spot);
     let ones = own.ones(spot);
     make_room(&mut list.bytes, list.count)?;
-    let bytes = &mut list.bytes[..];
-    let mut count = list.count;
-    while candidates != 0 {
-        let k = candidates.trailing_zeros();
-        candidates &= candidates - 1;
-        count = write_refined(
-            bit_of(refined, k),
-            bit_of(touched, k),
-            bit_of(ones, k),
-            bytes,
-            count,
-        );
-    }
-    list.count = count;
+    let rows = refining_rows(refined, touched, ones);
+    list.count = put_pairs(&rows, candidates, &mut list.bytes[..], list.count);
     Ok(())
 }
 
@@ -195,7 +173,7 @@ pub fn write_cleanup<const N: usize>(
 {
     let own = *block;
     let limits = inside(own.shape, spot.word, spot.stripe);
-    let mut left = uncoded(&own, flags, spot, limits);
+    let left = uncoded(&own, flags, spot, limits);
     if left == 0 {
         return Ok(());
     }
@@ -213,21 +191,6 @@ pub fn write_cleanup<const N: usize>(
     let still = run_columns(own.shape, spot, seen, before, limits);
     flags.light_all(own.shape, spot, new);
     make_room(&mut list.bytes, list.count)?;
-    let bytes = &mut list.bytes[..];
-    let mut count = list.count;
-    while left != 0 {
-        let k = left.trailing_zeros();
-        if bit_of(still, k) {
-            let found = first_row(ones, k);
-            left &= 0xFFFF_FFFF_FFFF_FFFE << (k + found);
-            count = write_run(k, found, &told.signs, bytes, count);
-        } else {
-            left &= left - 1;
-            let bit = byte_in(&told.bits, k);
-            let sign = byte_in(&told.signs, k);
-            count = write_new(bit, sign, bytes, count);
-        }
-    }
-    list.count = count;
+    list.count = put_columns(&told, left, ones, still, &mut list.bytes[..], list.count);
     Ok(())
 }

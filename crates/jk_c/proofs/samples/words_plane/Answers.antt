@@ -1,5 +1,5 @@
 use Rattle.std.proofs.Common.{◌*◌, ◌+◌, ◌<◌, ◌^◌, get_or, arith}
-use Rattle.jk_c.proofs.Pixels.{plane_more}
+use Rattle.jk_c.proofs.Planes.{plane_more}
 use Rattle.jk_c.proofs.samples.words_plane.Goals as goal
 
 pub loop-i-preserved : goal.loop-i-preserved

@@ -1,6 +1,6 @@
 use Rattle.jk_hall.specs.Reading.{seen}
 use Rattle.jk_hall.specs.Behind.{behind, GivesBehind, RefusesBehind}
-use Rattle.jk_hall.proofs.Attended.{attended, ends_cause}
+use Rattle.jk_hall.proofs.Attended.{attended, cause_is, ends_cause}
 use Rattle.jk_hall.proofs.FirstLaws.{shown, same}
 use Rattle.jk_hall.proofs.attending.attend_with.Goals as goal
 
@@ -17,13 +17,13 @@ returns-clause-goes g c =
 pub returns-clause-text : goal.returns-clause-text
 returns-clause-text g c =
     let e = c.serve.ensures in
-    (e.0, e.1, e.2, e.3, (attended g.S.Shelf.keeps g.S.Shelf.failed g.S.Shelf.gave g.S.Shelf.gave_at c.args.service.now c.serve.new.service e.0 e.1 _ _ c.serve.result e.4).2)
+    (e.0, e.1, e.2, e.3, (attended g.S.Shelf.keeps g.S.Shelf.failed g.S.Shelf.gave g.S.Shelf.gave_at c.args.service.now c.serve.new.service e.0 e.1 _ _ c.serve.result e.4).2, e.5)
 
 pub returns-clause-cause : goal.returns-clause-cause
 returns-clause-cause g c =
     let e = c.serve.ensures in
     ends_cause (GivesBehind g.S.Shelf.keeps g.S.Shelf.failed g.S.Shelf.gave g.S.Shelf.gave_at) (RefusesBehind g.S.Shelf.keeps)
-    c.args.service.now e.0 e.1 _ _ c.serve.new.service c.serve.result (λ s q f u refused. refused.1.0) e.4
+    c.args.service.now e.0 e.1 _ _ c.serve.new.service c.serve.result (λ s q f u refused. cause_is f _ refused.1.0) e.4
 
 pub returns-clause-images : goal.returns-clause-images
 returns-clause-images g c =
@@ -38,6 +38,7 @@ returns-clause-images g c =
         e.2,
         e.3,
         shown g.S.Shelf.keeps g.S.Shelf.failed g.S.Shelf.gave g.S.Shelf.gave_at (seen end.0) images shows segments start end e.0 e.1 _ _ c.serve.result held told,
+        e.5,
       );
       same = λ images shows held kept of segments. (
         e.0,
@@ -45,5 +46,6 @@ returns-clause-images g c =
         e.2,
         e.3,
         same g.S.Shelf.keeps g.S.Shelf.failed g.S.Shelf.gave g.S.Shelf.gave_at (seen end.0) images shows segments start end e.0 e.1 _ _ c.serve.result (held, kept, of) told,
+        e.5,
       );
     }

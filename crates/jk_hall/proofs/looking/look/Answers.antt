@@ -7,11 +7,7 @@ use Rattle.jk_hall.specs.Sights.{listed}
 use Rattle.jk_hall.specs.Replying.{KeptOn}
 use Rattle.jk_hall.proofs.Fronts.{prefix_self}
 use Rattle.jk_hall.proofs.Keeping.{kept_longer, kept_same}
-use Rattle.jk_hall.proofs.Steps.{stays}
 use Rattle.jk_hall.proofs.looking.look.Goals as goal
-
-pub enter_as-requires : goal.enter_as-requires
-enter_as-requires g c x = stays _ _ x
 
 pub returns-in-Ok-clause-cuts : goal.returns-in-Ok-clause-cuts
 returns-in-Ok-clause-cuts g c =
@@ -26,4 +22,4 @@ pub returns-in-Err-clause-cuts : goal.returns-in-Err-clause-cuts
 returns-in-Err-clause-cuts g c =
     let before = (view c.args.place.inner.place).seen in
     kept_same g.S.Shelf.keeps before (view c.in-Err.inner.place).seen c.args.ask.shelf.now c.args.place.cache
-    (subst (λ (v : Sight). IsPrefix before v.seen) (sym c.in-Err.ensures.1) (prefix_self before))
+    (subst (λ (v : Sight). IsPrefix before v.seen) (sym c.in-Err.ensures.sight) (prefix_self before))

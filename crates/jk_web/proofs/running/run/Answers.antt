@@ -18,6 +18,7 @@ returns-clause-text g c =
           (λ s q r t p given. (given.reply images p segments, given.lasts.stands_on images p))
           (λ s q f t p refused. (refused.memory, refused.lasts.stands_on images p))
           c.args.catalogue.now e.0 e.1 _ _ c.serve.new.service c.serve.result held e.4).0,
+      e.5,
     )
 
 pub returns-clause-same : goal.returns-clause-same
@@ -34,6 +35,7 @@ returns-clause-same g c =
           (λ s q r t p given. (given.kept images p.0 p.1 segments, (given.lasts.stands_on images p.0, given.lasts.keeps_on images p.1)))
           (λ s q f t p refused. (refused.memory, (refused.lasts.stands_on images p.0, refused.lasts.keeps_on images p.1)))
           c.args.catalogue.now e.0 e.1 _ _ c.serve.new.service c.serve.result (held, kept) e.4).0,
+      e.5,
     )
 
 pub returns-clause-stands : goal.returns-clause-stands

@@ -36,12 +36,12 @@ returns-clause-knows g c =
 pub returns-clause-text : goal.returns-clause-text
 returns-clause-text g c =
     let e = c.serve.ensures in
-    λ images stand held segments. (e.0, e.1, e.2, e.3, shown g.C.Catalogue.stands g.C.Catalogue.keeps g.C.Catalogue.made g.W.Windows.has g.C.Catalogue.broke g.C.Catalogue.reads g.W.Windows.others c.args.service.now c.serve.new.service e.0 e.1 _ _ c.serve.result e.4 images stand held segments)
+    λ images stand held segments. (e.0, e.1, e.2, e.3, shown g.C.Catalogue.stands g.C.Catalogue.keeps g.C.Catalogue.made g.W.Windows.has g.C.Catalogue.broke g.C.Catalogue.reads g.W.Windows.others c.args.service.now c.serve.new.service e.0 e.1 _ _ c.serve.result e.4 images stand held segments, e.5)
 
 pub returns-clause-same : goal.returns-clause-same
 returns-clause-same g c =
     let e = c.serve.ensures in
-    λ images known segments. (e.0, e.1, e.2, e.3, kept g.C.Catalogue.stands g.C.Catalogue.keeps g.C.Catalogue.made g.W.Windows.has g.C.Catalogue.broke g.C.Catalogue.reads g.W.Windows.others c.args.service.now c.serve.new.service e.0 e.1 _ _ c.serve.result e.4 images known segments)
+    λ images known segments. (e.0, e.1, e.2, e.3, kept g.C.Catalogue.stands g.C.Catalogue.keeps g.C.Catalogue.made g.W.Windows.has g.C.Catalogue.broke g.C.Catalogue.reads g.W.Windows.others c.args.service.now c.serve.new.service e.0 e.1 _ _ c.serve.result e.4 images known segments, e.5)
 
 pub returns-clause-memory : goal.returns-clause-memory
 returns-clause-memory g c =

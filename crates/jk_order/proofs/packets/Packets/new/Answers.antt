@@ -42,7 +42,8 @@ invariant_of-result c =
       subst (λ (f : Frame). IsWalk (walk f c.loop-i.streams c.loop-i.heads)) (sym c.shared-frame.ensures)
           (start_walk c.args.shape.now c.loop-i.streams c.loop-i.heads c.requires few
           (λ j h. c.loop-i.invariant.2 j (omega arith)) (λ j h. c.loop-i.invariant.3 j (omega arith)) c.loop-i.invariant.0 c.loop-i.invariant.1),
-      c.least-leader.ensures,
+      c.queue_of-queue.ensures.within,
+      c.queue_of-queue.ensures.queue,
     )
 
 pub returns-clause-starts : goal.returns-clause-starts
@@ -52,12 +53,3 @@ returns-clause-starts c =
     subst (λ (f : Frame). Left (walk f c.loop-i.streams c.loop-i.heads) (order c.args.shape.now)) (sym c.shared-frame.ensures)
     (start_left c.args.shape.now c.loop-i.streams c.loop-i.heads c.requires few
     (λ j h. c.loop-i.invariant.2 j (omega arith)) (λ j h. c.loop-i.invariant.3 j (omega arith)))
-
-pub least-leader-requires-clause-beyond : goal.least-leader-requires-clause-beyond
-least-leader-requires-clause-beyond c =
-    let few = count_fits c.args.shape.now c.packet_count.result c.packet_count.ensures c.if-packet_count.false in
-    let end = c.loop-i-test.false in
-    let is = subst (λ (f : Frame). IsWalk (walk f c.loop-i.streams c.loop-i.heads)) (sym c.shared-frame.ensures)
-    (start_walk c.args.shape.now c.loop-i.streams c.loop-i.heads c.requires few
-    (λ j h. c.loop-i.invariant.2 j (omega arith)) (λ j h. c.loop-i.invariant.3 j (omega arith)) c.loop-i.invariant.0 c.loop-i.invariant.1) in
-    is.beyond

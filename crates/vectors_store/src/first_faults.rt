@@ -1,0 +1,55 @@
+//! Which fault ends the opening of an archive where files wait for their digests.
+
+use crate::asserts::{equal, equal_at};
+use crate::calls::{open, write};
+use crate::contents::Content;
+use crate::digested::noted;
+use crate::shelves::{Act, Many, act_at};
+use jk_math::Fault;
+use jk_store::MemoryShelf;
+use std::alloc::Global;
+use std::test::Fail;
+
+/// Why an archive isn't opened whose first so many files can be read, and the one behind them can't.
+fn unread_behind(alloc: Global, count: u64) -> Result<Option<Fault>, Fault> {
+    let page = Content::Page.bytes(alloc)?;
+    let mut shelf = MemoryShelf::new(alloc);
+    for number in 0..count.saturating_add(1) {
+        let name = format!(in alloc; "{number}.jp2")?;
+        write(&mut shelf, alloc, name.as_str(), &page)?;
+    }
+    // Behind the listing and as many reads.
+    let failing = act_at(shelf, count.saturating_add(2), Act::Fail);
+    Ok(open(alloc, failing).err())
+}
+
+#[test]
+fn a_file_that_cant_be_read(rt: HostRuntime) -> Result<(), Fail> {
+    for count in 0..6 {
+        equal_at(
+            &rt,
+            count,
+            unread_behind(rt.alloc(), count)?,
+            Some(Fault::Shelf),
+        );
+    }
+    Ok(())
+}
+
+/// Why an archive of 4,097 files isn't opened, three of which wait when the last one is read: the
+/// first is so large that it doesn't wait. Wherever a growth is refused, Memory is told, and not
+/// Limit: a script beside the proofs refuses them in turn.
+fn too_many(alloc: Global) -> Result<Option<Fault>, Fault> {
+    let shelf = Many {
+        count: 4097,
+        first: noted(alloc, 1 << 25)?,
+        bytes: Content::Page.bytes(alloc)?,
+    };
+    Ok(open(alloc, shelf).err())
+}
+
+#[test]
+fn one_file_too_many(rt: HostRuntime) -> Result<(), Fail> {
+    equal(&rt, too_many(rt.alloc())?, Some(Fault::Limit));
+    Ok(())
+}

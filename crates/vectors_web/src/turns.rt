@@ -1,0 +1,90 @@
+//! How often a connection is read, and why it ends.
+
+use crate::caching::Counting;
+use jk_math::Fault;
+use jk_web::{Cache, End, run, run_with};
+use std::alloc::Global;
+use std::process::Abort;
+use std::test::Fail;
+use vectors::Pieces;
+
+/// Two requests of 24 bytes each, one that closes before another, and one before a bad one.
+const TWO: &[u8] = b"GET /images HTTP/1.1\r\n\r\nGET /images HTTP/1.1\r\n\r\n";
+
+const CLOSING: &[u8] = b"GET /images HTTP/1.0\r\n\r\nGET /images HTTP/1.1\r\n\r\n";
+
+const BAD: &[u8] = b"GET /images HTTP/1.1\r\n\r\n\0\0\0\0\0\0\0\0\0\0\0\0\0\0\0\0\0\0\0\0\0\0\0\0";
+
+/// What comes, 12 bytes a read, whether a read fails behind it, and how many reads there may be at
+/// most; then how many are made, how many replies are written, and why it ends.
+static TURNS: [(&[u8], bool, u64, u64, usize, End); 14] = [
+    (TWO, false, 0, 0, 0, End::TurnsSpent),
+    (TWO, true, 0, 0, 0, End::TurnsSpent),
+    (TWO, true, 1, 1, 0, End::TurnsSpent),
+    (TWO, true, 2, 2, 1, End::TurnsSpent),
+    (TWO, false, 3, 3, 1, End::TurnsSpent),
+    (TWO, false, 4, 4, 2, End::TurnsSpent),
+    (TWO, true, 4, 4, 2, End::TurnsSpent),
+    (TWO, false, 5, 5, 2, End::Closed),
+    (TWO, true, 5, 5, 2, End::ReadFailed),
+    (TWO, false, 9, 5, 2, End::Closed),
+    (TWO, true, 9, 5, 2, End::ReadFailed),
+    (CLOSING, true, 9, 2, 1, End::Closed),
+    (BAD, true, 9, 3, 2, End::Bad),
+    (b"", true, 9, 1, 0, End::ReadFailed),
+];
+
+/// How many replies a text has.
+fn count_of(text: &[u8]) -> usize {
+    let mut count: usize = 0;
+    for at in 0..text.len() {
+        if text[at..].starts_with(b"HTTP/1.1 ") {
+            count = count.saturating_add(1);
+        }
+    }
+    count
+}
+
+/// How many reads are made of a stream, at most so many, how many replies are written, and why it
+/// ends, without a cache or with one.
+fn ended(
+    alloc: Global,
+    stream: (&[u8], bool),
+    turns: u64,
+    cached: bool,
+) -> Result<(u64, usize, End), Fault> {
+    let mut input = Pieces::new(Vec::from_slice(alloc, stream.0)?, 12, stream.1);
+    let mut output = Vec::new(alloc);
+    let mut images = Counting { made: 0 };
+    let end = if cached {
+        let mut cache = Cache::new(alloc, 2)?;
+        run_with(
+            alloc,
+            &mut input,
+            &mut output,
+            &mut images,
+            &mut cache,
+            turns,
+        )?
+    } else {
+        run(alloc, &mut input, &mut output, &mut images, turns)?
+    };
+    Ok((input.reads(), count_of(&output), end))
+}
+
+/// The reads, the replies and the end are these.
+fn ends_so(rt: &impl Abort, found: (u64, usize, End), due: (u64, usize, End), turns: u64) {
+    assert_eq!(rt; found, due, "{turns}");
+}
+
+/// No more reads are made than there may be, and it ends as by a failed read only where one failed.
+#[test]
+fn reads_are_counted(rt: HostRuntime) -> Result<(), Fail> {
+    for (bytes, fails, turns, reads, replies, end) in &TURNS {
+        for cached in [false, true] {
+            let found = ended(rt.alloc(), (bytes, *fails), *turns, cached)?;
+            ends_so(&rt, found, (*reads, *replies, *end), *turns);
+        }
+    }
+    Ok(())
+}
