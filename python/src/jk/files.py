@@ -1,10 +1,11 @@
 """Files as arrays, and arrays as files."""
 from __future__ import annotations
 
+import contextlib
 import ctypes
 import os
 from dataclasses import dataclass
-from typing import Any, Optional, Sequence, Tuple, Union
+from typing import Any, BinaryIO, Iterator, Optional, Sequence, Tuple, Union
 
 import numpy as np
 
@@ -102,8 +103,9 @@ def read(
     """The image of a file, by its path or its bytes, `reduce` times halved, or a window of it.
 
     The array is (height, width), or (height, width, components) where there are 2 to 4 of them, of uint8 for samples
-    of at most 8 bits, else of uint16; of int8 and int16 for signed samples. A window (x, y, width, height) is counted on the halved image and cut with it,
-    and the rest isn't decoded. With `out`, an array of that shape and type, the samples are written there.
+    of at most 8 bits, else of uint16; of int8 and int16 for signed samples. A window (x, y, width, height) is counted
+    on the halved image and cut with it, and the rest isn't decoded. With `out`, an array of that shape and type, the
+    samples are written there.
     """
     data = _bytes_of(file)
     told = _info(data, reduce)
@@ -170,10 +172,11 @@ def _coding(components: int, signed: bool, parameters: dict) -> _calls.Coding:
 def encode(array: np.ndarray, **parameters: Any) -> bytes:
     """The file of an array (height, width) or (height, width, components) of uint8, uint16, int8 or int16.
 
-    Parameters: `depth`, bits of a sample, the sign counted (8 or 16 by the array's type); `place`, the upper left sample's (x, y) on the
-    reference grid; `levels` (5), `layers` (1), `order` ("LRCP"), `tile` (width, height), `block` and `precincts` by
-    exponents ((6, 6), none), `colour` (with three components), `sop`, `eph`, `reset`, `causal` and `segments` for the
-    styles of code-blocks, and `raw` for a bare codestream (with 2 and 4 components, and signed samples, which JP2 doesn't hold).
+    Parameters: `depth`, bits of a sample, the sign counted (8 or 16 by the array's type); `place`, the upper left
+    sample's (x, y) on the reference grid; `levels` (5), `layers` (1), `order` ("LRCP"), `tile` (width, height),
+    `block` and `precincts` by exponents ((6, 6), none), `colour` (with three components), `sop`, `eph`, `reset`,
+    `causal` and `segments` for the styles of code-blocks, and `raw` for a bare codestream (with 2 and 4 components,
+    and signed samples, which JP2 doesn't hold).
     """
     image = np.asarray(array)
     if not image.dtype.isnative or image.dtype.name not in _calls.encode or image.ndim not in (2, 3):
@@ -197,10 +200,17 @@ def write(path: Union[str, "os.PathLike[str]"], array: np.ndarray, **parameters:
     """Writes the file of an array, with the parameters of `encode`: beside its place, and then renamed, so that a file
     that stands there is whole."""
     file = encode(array, **parameters)
+    with placed(path) as out:
+        out.write(file)
+
+
+@contextlib.contextmanager
+def placed(path: Union[str, "os.PathLike[str]"]) -> Iterator[BinaryIO]:
+    """A file to write to, beside its place; it is renamed when all went well, and else removed."""
     part = f"{os.fspath(path)}.{os.getpid()}.tmp"
     try:
         with open(part, "xb") as out:
-            out.write(file)
+            yield out
             out.flush()
             os.fsync(out.fileno())
         os.replace(part, path)
