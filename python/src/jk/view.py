@@ -1,0 +1,285 @@
+"""A look at images: `python -m jk.view ARCHIVE`, or `python -m jk.view FILE..`.
+
+It starts `jk serve` on a free port, and before it, on this machine alone, a server of the viewer's page, which passes
+what is asked of the archive on. It prints the page's address and opens it in the browser. Both servers end at Ctrl-C,
+or when `jk serve` ends. Files are shown through a folder of links, which goes again.
+
+The page is for this machine: what is asked under another name than 127.0.0.1 or localhost is refused.
+"""
+from __future__ import annotations
+
+import argparse
+import http.client
+import http.server
+import os
+import re
+import shutil
+import signal
+import subprocess
+import sys
+import tempfile
+import threading
+import webbrowser
+from typing import IO, Dict, Optional, Sequence
+
+HERE = os.path.dirname(os.path.abspath(__file__))
+REPOSITORY = os.path.dirname(os.path.dirname(os.path.dirname(HERE)))
+#: Where the page may lie: in the package, and where the package lies in its repository.
+PAGES = (os.path.join(HERE, "viewer"), os.path.join(REPOSITORY, "viewer"))
+MODULES = (*(os.path.join(page, "jk.wasm") for page in PAGES),
+           os.path.join(REPOSITORY, "dist", "x86_64-linux", "viewer", "jk.wasm"))
+LEAFLET = "/usr/share/javascript/leaflet"
+#: What the page may load; the same as examples/viewer.conf has it.
+POLICY = "default-src 'self'; script-src 'self' 'wasm-unsafe-eval'"
+TYPES = {
+    ".css": "text/css", ".html": "text/html; charset=utf-8", ".js": "text/javascript", ".png": "image/png",
+    ".svg": "image/svg+xml", ".wasm": "application/wasm",
+}
+#: How long `jk serve` has to end, in seconds.
+PATIENCE = 10
+
+
+class CannotShow(Exception):
+    """Something that is needed isn't there; the text says what to do."""
+
+
+def first_of(paths: Sequence[str], what: str) -> str:
+    """The first of these paths that is there."""
+    for path in paths:
+        if os.path.exists(path):
+            return path
+    raise CannotShow(what)
+
+
+def files_of_page(leaflet: str) -> Dict[str, str]:
+    """The files of the page, by the paths under which they are asked for."""
+    page = first_of(PAGES, "the viewer's page isn't there: the package was installed without it")
+    module = first_of(MODULES, "the viewer's module jk.wasm isn't there: tools/build-wasm of the repository makes it")
+    if not os.path.isfile(os.path.join(leaflet, "leaflet.css")):
+        raise CannotShow(f"Leaflet isn't in {leaflet}: `apt install libjs-leaflet` puts it there, and with "
+                         "--leaflet DIR the folder dist/ of Leaflet from elsewhere is taken")
+    found = {f"/{name}": os.path.join(page, name) for name in os.listdir(page)}
+    for at, _, names in os.walk(leaflet):
+        for name in names:
+            path = os.path.join(at, name)
+            found[f"/leaflet/{os.path.relpath(path, leaflet)}"] = path
+    found["/"], found["/jk.wasm"] = os.path.join(page, "index.html"), module
+    return found
+
+
+def name_of(path: str, taken: Dict[str, str]) -> str:
+    """A name for a file that an archive may have and that no other has."""
+    stem = re.sub(r"[^a-z0-9_-]", "-", os.path.splitext(os.path.basename(path))[0].lower())[:48] or "image"
+    name, number = stem, 1
+    while name in taken:
+        number += 1
+        name = f"{stem}-{number}"
+    return name
+
+
+def linked(paths: Sequence[str], folder: str) -> None:
+    """Makes an archive of links to these files."""
+    taken: Dict[str, str] = {}
+    for path in paths:
+        if not os.path.isfile(path):
+            raise CannotShow(f"{path}: there is no such file")
+        name = name_of(path, taken)
+        taken[name] = path
+        os.symlink(os.path.abspath(path), os.path.join(folder, f"{name}.jp2"))
+
+
+class Served:
+    """`jk serve` over a folder, and the port that it listens at. What it tells goes on to standard error."""
+
+    def __init__(self, program: str, folder: str, workers: int) -> None:
+        words = [program, "serve", folder, "--port", "0", "--workers", str(workers)]
+        try:
+            # Its standard input stays open, since it would end without. Ctrl-C ends this process, which ends it.
+            self.child = subprocess.Popen(words, stdin=subprocess.PIPE, stderr=subprocess.PIPE, text=True,
+                                          start_new_session=True)
+        except OSError as error:
+            raise CannotShow(f"{program}: {error.strerror}") from error
+        self.port = self.started(self.lines())
+        threading.Thread(target=self.tell, daemon=True).start()
+
+    def lines(self) -> IO[str]:
+        assert self.child.stderr is not None
+        return self.child.stderr
+
+    def started(self, lines: IO[str]) -> int:
+        for line in lines:
+            found = re.search(r"http://127\.0\.0\.1:(\d+)/", line)
+            if found:
+                return int(found[1])
+            sys.stderr.write(line)
+        raise CannotShow(f"jk serve ended with the status {self.child.wait()}")
+
+    def tell(self) -> None:
+        for line in self.lines():
+            sys.stderr.write(line)
+
+    def end(self) -> None:
+        if self.child.poll() is None:
+            self.child.terminate()
+        try:
+            self.child.wait(PATIENCE)
+        except subprocess.TimeoutExpired:
+            self.child.kill()
+            self.child.wait()
+
+
+class Asked(http.server.BaseHTTPRequestHandler):
+    """What the browser asks for: a file of the page, or what the archive has."""
+
+    protocol_version = "HTTP/1.1"
+    #: A browser that asks nothing for so many seconds is left.
+    timeout = 60
+    server: "Page"
+    behind: Optional[http.client.HTTPConnection] = None
+
+    def do_GET(self) -> None:
+        if self.headers.get("Host") not in self.server.hosts:
+            return self.reply(403, "text/plain", b"this page is for the machine that it runs on\n")
+        path = self.path.partition("?")[0]
+        if path == "/images" or path.startswith("/images/"):
+            return self.pass_on()
+        file = self.server.files.get(path)
+        if file is None:
+            return self.reply(404, "text/plain", b"404 Not Found\n")
+        with open(file, "rb") as opened:
+            body = opened.read()
+        return self.reply(200, TYPES.get(os.path.splitext(file)[1], "application/octet-stream"), body)
+
+    do_HEAD = do_GET
+
+    def reply(self, status: int, kind: str, body: bytes) -> None:
+        self.send_response(status)
+        self.send_header("Content-Type", kind)
+        self.send_header("Content-Length", str(len(body)))
+        self.send_header("Content-Security-Policy", POLICY)
+        self.end_headers()
+        if self.command != "HEAD":
+            self.wfile.write(body)
+
+    def pass_on(self) -> None:
+        """What `jk serve` replies, over a connection that this browser's requests share."""
+        for turn in range(2):
+            if self.behind is None:
+                self.behind = http.client.HTTPConnection("127.0.0.1", self.server.archive, timeout=self.timeout)
+            try:
+                self.behind.request("GET", self.path)
+                got = self.behind.getresponse()
+                body = got.read()
+                return self.reply(got.status, got.getheader("Content-Type", "text/plain"), body)
+            except (OSError, http.client.HTTPException):
+                # `jk serve` leaves a connection on which nothing is asked for.
+                self.leave()
+        return self.reply(502, "text/plain", b"jk serve doesn't reply\n")
+
+    def leave(self) -> None:
+        if self.behind is not None:
+            self.behind.close()
+            self.behind = None
+
+    def finish(self) -> None:
+        self.leave()
+        super().finish()
+
+    def log_message(self, *words: object) -> None:
+        pass
+
+
+class Page(http.server.ThreadingHTTPServer):
+    """The server of the page, on this machine alone."""
+
+    daemon_threads = True
+    allow_reuse_address = False
+
+    def __init__(self, port: int, files: Dict[str, str], archive: int) -> None:
+        super().__init__(("127.0.0.1", port), Asked)
+        self.files, self.archive = files, archive
+        self.address = f"http://127.0.0.1:{self.server_port}/"
+        self.hosts = {f"{name}:{self.server_port}" for name in ("127.0.0.1", "localhost")}
+
+    def handle_error(self, request: object, client_address: object) -> None:
+        # A browser that has gone is no fault of the page.
+        if not isinstance(sys.exc_info()[1], (ConnectionError, TimeoutError)):
+            super().handle_error(request, client_address)  # type: ignore[arg-type]
+
+
+def program_of(asked: Optional[str]) -> str:
+    """The program `jk`: what was asked for, or what is on the PATH, or the repository's own."""
+    if asked:
+        return asked
+    found = shutil.which("jk") or shutil.which(os.path.join(REPOSITORY, "jk"))
+    if found is None:
+        raise CannotShow("the program jk isn't on the PATH: --jk PROGRAM says where it is")
+    return found
+
+
+def folder_of(paths: Sequence[str], links: str) -> str:
+    """The archive that is shown: a folder that is one, or one of links to files."""
+    if len(paths) == 1 and os.path.isdir(paths[0]):
+        return paths[0]
+    for path in paths:
+        if os.path.isdir(path):
+            raise CannotShow(f"{path} is a folder: one archive alone is shown, or files")
+    linked(paths, links)
+    return links
+
+
+def show(asked: argparse.Namespace, links: str) -> int:
+    """Serves the page until `jk serve` ends, whose status it gives."""
+    files, program = files_of_page(asked.leaflet), program_of(asked.jk)
+    served = Served(program, folder_of(asked.paths, links), asked.workers)
+    try:
+        page = Page(asked.port, files, served.port)
+    except OSError as error:
+        served.end()
+        raise CannotShow(f"port {asked.port}: {error.strerror}") from error
+    except BaseException:
+        served.end()
+        raise
+    threading.Thread(target=page.serve_forever, args=(0.1,), daemon=True).start()
+    try:
+        print(f"{page.address}  (Ctrl-C ends it)", flush=True)
+        if not asked.no_browser:
+            webbrowser.open(page.address)
+        return served.child.wait()
+    finally:
+        page.shutdown()
+        page.server_close()
+        served.end()
+
+
+def words_of(line: Optional[Sequence[str]]) -> argparse.Namespace:
+    words = argparse.ArgumentParser(prog="python -m jk.view", description=(__doc__ or "").split("\n\n", 1)[1],
+                                    formatter_class=argparse.RawDescriptionHelpFormatter)
+    words.add_argument("paths", nargs="+", metavar="ARCHIVE or FILE",
+                       help="a folder that `jk serve` takes, or JP2 files")
+    words.add_argument("--port", type=int, default=0, help="the port of the page; without it a free one")
+    words.add_argument("--workers", type=int, default=4, help="how many threads jk serve answers with (4)")
+    words.add_argument("--no-browser", action="store_true", help="print the address and open nothing")
+    words.add_argument("--leaflet", default=LEAFLET, metavar="DIR", help=f"where Leaflet is ({LEAFLET})")
+    words.add_argument("--jk", metavar="PROGRAM", help="the program jk; without it the one on the PATH")
+    return words.parse_args(line)
+
+
+def main(line: Optional[Sequence[str]] = None) -> int:
+    asked = words_of(line)
+    # A request to end is taken as Ctrl-C, so that nothing is left running and no folder stays.
+    signal.signal(signal.SIGTERM, signal.default_int_handler)
+    links = tempfile.mkdtemp(prefix="jk-view-")
+    try:
+        return show(asked, links)
+    except KeyboardInterrupt:
+        return 0
+    except CannotShow as error:
+        print(f"jk.view: {error}", file=sys.stderr)
+        return 2
+    finally:
+        shutil.rmtree(links, ignore_errors=True)
+
+
+if __name__ == "__main__":
+    sys.exit(main())

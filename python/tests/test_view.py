@@ -1,0 +1,166 @@
+"""A look at images, over a stand-in for `jk serve` that replies as the server of the other tests does."""
+import http.client
+import os
+import re
+import signal
+import subprocess
+import sys
+import time
+
+import pytest
+
+# It lists the files of its folder, replies to what is asked of them with the words of the request, and ends where it
+# is asked for /images/end.
+STAND_IN = f"""#!{sys.executable}
+import http.server, os, sys
+folder = sys.argv[2]
+assert sys.argv[1] == "serve" and sys.argv[3:5] == ["--port", "0"], sys.argv
+
+class Replies(http.server.BaseHTTPRequestHandler):
+    protocol_version = "HTTP/1.1"
+
+    def do_GET(self):
+        if self.path == "/images/end":
+            os._exit(3)
+        names = sorted(os.listdir(folder))
+        body = "".join(name + "\\n" for name in names) if self.path == "/images" else self.path
+        self.send_response(404 if self.path.endswith("missing") else 200)
+        self.send_header("Content-Type", "image/jp2" if self.path != "/images" else "text/plain")
+        self.send_header("Content-Length", str(len(body)))
+        self.end_headers()
+        self.wfile.write(body.encode())
+
+    def log_message(self, *words):
+        pass
+
+server = http.server.ThreadingHTTPServer(("127.0.0.1", 0), Replies)
+print("jk: odd.jp2 isn't listed: F2 Truncated", file=sys.stderr)
+print(f"jk: serving http://127.0.0.1:{{server.server_port}}/", file=sys.stderr, flush=True)
+server.serve_forever()
+"""
+
+
+@pytest.fixture
+def site(tmp_path):
+    """A page, Leaflet, two files and the stand-in, and what runs them."""
+    program = tmp_path / "jk"
+    program.write_text(STAND_IN)
+    program.chmod(0o755)
+    leaflet = tmp_path / "leaflet"
+    leaflet.mkdir()
+    (leaflet / "leaflet.css").write_text("css of Leaflet")
+    for name in ("One Page.jp2", "one_page.jp2"):
+        (tmp_path / name).write_bytes(b"jp2")
+    return tmp_path
+
+
+class Shown:
+    """`python -m jk.view`, as it runs."""
+
+    def __init__(self, site, *words):
+        room = site / "room"
+        room.mkdir(exist_ok=True)
+        command = [sys.executable, "-m", "jk.view", "--no-browser", "--jk", str(site / "jk"), "--leaflet",
+                   str(site / "leaflet"), *map(str, words)]
+        self.child = subprocess.Popen(command, stdout=subprocess.PIPE, stderr=subprocess.PIPE, text=True,
+                                      env={**os.environ, "TMPDIR": str(room)})
+        self.said, self.room = self.child.stdout.readline(), room
+        found = re.match(r"http://127\.0\.0\.1:(\d+)/", self.said)
+        self.port = int(found[1]) if found else None
+
+    def get(self, path, host=None):
+        asked = http.client.HTTPConnection("127.0.0.1", self.port, timeout=10)
+        asked.request("GET", path, headers={"Host": host} if host else {})
+        got = asked.getresponse()
+        body = got.read()
+        asked.close()
+        return got.status, got.getheader("Content-Type"), body
+
+    def end(self, number=signal.SIGINT):
+        self.child.send_signal(number)
+        _, told = self.child.communicate(timeout=20)
+        return self.child.returncode, told
+
+
+def running(site):
+    """The stand-ins of this site that still run."""
+    done = subprocess.run(["pgrep", "-f", str(site / "jk")], capture_output=True, text=True)
+    return [number for number in done.stdout.split() if int(number) != os.getpid()]
+
+
+def ended(site, shown):
+    """Nothing is left of it: no process, no port, no folder."""
+    with pytest.raises(OSError):
+        shown.get("/")
+    assert running(site) == []
+    assert os.listdir(shown.room) == []
+
+
+def test_files_are_shown(site):
+    shown = Shown(site, site / "One Page.jp2", site / "one_page.jp2", site / "One Page.jp2")
+    try:
+        assert shown.get("/images")[2] == b"one-page-2.jp2\none-page.jp2\none_page.jp2\n"
+        status, kind, body = shown.get("/images/one-page/window?x=0&y=0&w=4&h=4&r=0")
+        assert (status, kind, body) == (200, "image/jp2", b"/images/one-page/window?x=0&y=0&w=4&h=4&r=0")
+        assert shown.get("/images/missing")[0] == 404
+    finally:
+        status, told = shown.end()
+    assert status == 0
+    assert told == "jk: odd.jp2 isn't listed: F2 Truncated\n"
+    ended(site, shown)
+
+
+def test_the_page_is_served(site):
+    shown = Shown(site, site)
+    try:
+        status, kind, body = shown.get("/")
+        assert (status, kind) == (200, "text/html; charset=utf-8") and b"<title>Images of an archive</title>" in body
+        assert shown.get("/viewer.js")[:2] == (200, "text/javascript")
+        assert shown.get("/leaflet/leaflet.css") == (200, "text/css", b"css of Leaflet")
+        assert shown.get("/jk.wasm")[1] == "application/wasm"
+        for path in ("/../setup.py", "/%2e%2e/setup.py", "/leaflet/../jk", "/nothing"):
+            assert shown.get(path)[0] == 404, path
+    finally:
+        shown.end()
+    ended(site, shown)
+
+
+def test_other_hosts_are_refused(site):
+    shown = Shown(site, site)
+    try:
+        for host in ("example.org", f"example.org:{shown.port}", "127.0.0.1", f"127.0.0.1:{shown.port + 1}"):
+            for path in ("/", "/images", "/jk.wasm"):
+                assert shown.get(path, host)[0] == 403, (host, path)
+        assert shown.get("/images", f"localhost:{shown.port}")[0] == 200
+    finally:
+        shown.end()
+
+
+def test_it_ends_when_the_server_ends(site):
+    shown = Shown(site, site)
+    assert shown.get("/images/end")[0] == 502
+    shown.child.communicate(timeout=20)
+    assert shown.child.returncode == 3
+    ended(site, shown)
+
+
+def test_it_ends_when_it_is_asked_to(site):
+    for number in (signal.SIGINT, signal.SIGTERM):
+        for wait in (0, 0.05, 0.3):
+            shown = Shown(site, site)
+            time.sleep(wait)
+            assert shown.end(number)[0] == 0
+            ended(site, shown)
+
+
+@pytest.mark.parametrize("words, told", [
+    (["absent.jp2"], "jk.view: absent.jp2: there is no such file\n"),
+    (["One Page.jp2", "."], "jk.view: . is a folder: one archive alone is shown, or files\n"),
+    ([".", "--leaflet", "/nowhere"], "jk.view: Leaflet isn't in /nowhere: "),
+    ([".", "--jk", "/nowhere"], "jk.view: /nowhere: No such file or directory\n"),
+])
+def test_what_cant_be_shown_is_told(site, words, told):
+    shown = Shown(site, *[str(site / word) if word[:3] in ("One",) else word for word in words])
+    _, said = shown.child.communicate(timeout=20)
+    assert shown.child.returncode == 2 and said.startswith(told), said
+    assert os.listdir(shown.room) == [] and running(site) == []
