@@ -3,7 +3,8 @@
  *
  * REFUSE_AT      the number of the growth or start that is refused, from 1 on; none: nothing is
  * REFUSE_ON      1: all behind it are refused too
- * REFUSE_COUNT   a file that is told, when the program ends, how many there were */
+ * REFUSE_COUNT   a file that is told, when the program ends, how many there were; and what was refused: `growth`,
+ *                `thread` or `none`, as soon as something is */
 #define _GNU_SOURCE
 #include <errno.h>
 #include <link.h>
@@ -26,6 +27,7 @@ static atomic_long seen;
 static long refused = -1;
 static int on;
 static char told[4096];
+static const char *_Atomic what = "none";
 
 static int look(struct dl_phdr_info *info, size_t size, void *unused)
 {
@@ -55,7 +57,7 @@ __attribute__((destructor)) static void tell(void)
 {
     if (!*told) return;
     char line[32];
-    int length = snprintf(line, sizeof line, "%ld\n", atomic_load(&seen));
+    int length = snprintf(line, sizeof line, "%ld %s\n", atomic_load(&seen), what);
     int file = open(told, O_WRONLY | O_CREAT | O_TRUNC, 0600);
     if (file < 0 || write(file, line, (size_t)length) != length) abort();
     close(file);
@@ -68,17 +70,23 @@ void _exit(int status)
     for (;;) syscall(SYS_exit_group, status);
 }
 
-static int is_refused(void *caller)
+static int is_refused(void *caller, const char *kind)
 {
     uintptr_t place = (uintptr_t)caller;
     if (place < first || end <= place) return 0;
     long number = atomic_fetch_add(&seen, 1) + 1;
-    return refused > 0 && (number == refused || (on && number > refused));
+    if (refused <= 0 || number < refused || (number > refused && !on)) return 0;
+    if (number == refused) {
+        /* At once, since the program may be killed. */
+        what = kind;
+        tell();
+    }
+    return 1;
 }
 
 void *malloc(size_t size)
 {
-    if (is_refused(__builtin_return_address(0))) {
+    if (is_refused(__builtin_return_address(0), "growth")) {
         errno = ENOMEM;
         return NULL;
     }
@@ -87,7 +95,7 @@ void *malloc(size_t size)
 
 void *realloc(void *old, size_t size)
 {
-    if (is_refused(__builtin_return_address(0))) {
+    if (is_refused(__builtin_return_address(0), "growth")) {
         errno = ENOMEM;
         return NULL;
     }
@@ -98,6 +106,6 @@ int pthread_create(pthread_t *thread, const pthread_attr_t *attributes, void *(*
 {
     static int (*next)(pthread_t *, const pthread_attr_t *, void *(*)(void *), void *);
     if (!next) *(void **)&next = dlsym(RTLD_NEXT, "pthread_create");
-    if (is_refused(__builtin_return_address(0))) return EAGAIN;
+    if (is_refused(__builtin_return_address(0), "thread")) return EAGAIN;
     return next(thread, attributes, run, given);
 }

@@ -4,6 +4,10 @@
 #[cfg(test)]
 mod cases;
 #[cfg(test)]
+mod model;
+#[cfg(test)]
+mod modelled;
+#[cfg(test)]
 mod tests;
 #[cfg(test)]
 mod written;

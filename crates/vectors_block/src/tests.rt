@@ -39,7 +39,7 @@ fn told(alloc: Global, answer: Result<Block, Fault>, area: usize) -> Result<Stri
         Ok(block) => block,
         Err(Fault::TooManyPasses) => return String::from_str(alloc, "F9"),
         Err(Fault::CodeOutOfInterval) => return String::from_str(alloc, "F10"),
-        Err(_) => return String::from_str(alloc, "?"),
+        Err(fault) => return format!(in alloc; "{fault}"),
     };
     if area > 12 {
         let sum = checksum(&block.values);
@@ -159,9 +159,9 @@ fn styled_blocks(rt: HostRuntime) -> Result<(), Fail> {
     let marked = read_in(rt.alloc(), symbols, 1, "01", 1, 1)??;
     assert_eq!(rt; marked.values.as_slice(), [1].as_slice());
     let other = read_in(rt.alloc(), symbols, 1, "03", 1, 1)?;
-    assert!(rt; matches!(other, Err(Fault::BadValue)));
+    assert_eq!(rt; other.err(), Some(Fault::BadValue));
     let left = read_in(rt.alloc(), symbols, 1, "0A41FF8F", 1, 1)?;
-    assert!(rt; matches!(left, Err(Fault::CodeOutOfInterval)));
+    assert_eq!(rt; left.err(), Some(Fault::CodeOutOfInterval));
     let seen = read_in(rt.alloc(), Style::plain(), 5, "169F", 2, 4)??;
     assert_eq!(rt; seen.values.as_slice(), [0, 0, 0, 1, 2].as_slice());
     let unseen = read_in(rt.alloc(), causal, 5, "16E3", 2, 4)??;
@@ -177,6 +177,26 @@ fn fails_for_ever(rt: HostRuntime) -> Result<(), Fail> {
     for cx in [0, 9, 17, 18, 0] {
         let answer = decoder.decode(cx);
         assert!(rt; matches!(answer, Err(Fault::CodeOutOfInterval)), "in {cx}");
+    }
+    Ok(())
+}
+
+/// One that leaves the interval at its sixth decision stays so where its contexts are to take their
+/// first states again.
+#[test]
+fn fails_behind_a_reset(rt: HostRuntime) -> Result<(), Fail> {
+    let segment = bytes_of(rt.alloc(), &["0A41FF8F"])?;
+    let mut decoder = Decoder::new(&segment);
+    for cx in [0, 9, 18, 18, 18] {
+        assert!(rt; decoder.decode(cx).is_ok(), "in {cx}");
+    }
+    for cx in [18, 0, 9] {
+        assert_eq!(rt;
+            decoder.decode(cx).err(),
+            Some(Fault::CodeOutOfInterval),
+            "in {cx}"
+        );
+        decoder.reset();
     }
     Ok(())
 }

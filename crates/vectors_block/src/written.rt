@@ -85,7 +85,7 @@ fn is_small(values: &[i32]) -> bool
 }
 
 /// Codes a block, and reads it back.
-fn codes(rt: &impl Abort, alloc: Global, block: &Block) -> Result<CodedBlock, Fail> {
+pub(crate) fn codes(rt: &impl Abort, alloc: Global, block: &Block) -> Result<CodedBlock, Fail> {
     if block.width < 1 || block.width > 1024 || block.height < 1 || block.height > 1024 {
         return Err("a shape".into());
     }
@@ -143,7 +143,7 @@ fn patterns(rt: HostRuntime) -> Result<(), Fail> {
 
 /// Shapes of 16, 18, 64, 65, 192, 195, 774 and 390 words with their borders: on both sides of each
 /// length of the arrays that hold them.
-const SHAPES: [(usize, usize); 8] = [
+pub(crate) static SHAPES: [(usize, usize); 8] = [
     (9, 5),
     (1, 13),
     (48, 24),
@@ -156,9 +156,9 @@ const SHAPES: [(usize, usize); 8] = [
 
 #[test]
 fn lengths_of_arrays(rt: HostRuntime) -> Result<(), Fail> {
-    for (width, height) in SHAPES {
+    for (width, height) in &SHAPES {
         for pattern in ["extreme", "alternating"] {
-            let block = block_of(rt.alloc(), width, height, Orientation::HL, pattern)?;
+            let block = block_of(rt.alloc(), *width, *height, Orientation::HL, pattern)?;
             let coded = codes(&rt, rt.alloc(), &block)?;
             assert!(rt; coded.passes > 0);
         }

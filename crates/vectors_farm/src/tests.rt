@@ -201,6 +201,43 @@ fn fault_of_the_least_job(rt: HostRuntime) -> Result<(), Fail> {
     Ok(())
 }
 
+/// The same segments, each ended by a segmentation symbol.
+fn marked(alloc: Global, texts: &[(&str, usize)]) -> Result<Vec<Segment>, Fail>
+    ensures { IfOk result (λ v. All IsSegment v.items) }
+{
+    let mut made = Vec::new(alloc);
+    for segment in segments(alloc, texts)? {
+        let mut marked = segment;
+        marked.shape.style.segments = true;
+        made.push(marked)?;
+    }
+    let segments = made;
+    if !segments.iter().all(|segment| is_segment(segment)) {
+        return Err("a segment outside the profile".into());
+    }
+    Ok(segments)
+}
+
+/// A segmentation symbol that isn't the one due is the fault of its job, unless one before it has
+/// another.
+#[test]
+fn symbols_of_each_job(rt: HostRuntime) -> Result<(), Fail> {
+    let alloc = rt.alloc();
+    let right = marked(alloc, &[("01", 1), ("01", 1)])?;
+    let wrong = marked(alloc, &[("01", 1), ("03", 1), ("FF8F", 1)])?;
+    let turned = marked(alloc, &[("FF8F", 1), ("03", 1)])?;
+    for workers in [1, 2, 5] {
+        for block in map_segments(&rt, alloc, workers, &Open, &right)? {
+            assert_eq!(rt; block.values.as_slice(), [1].as_slice(), "{workers}");
+        }
+        let found = map_segments(&rt, alloc, workers, &Open, &wrong).err();
+        assert_eq!(rt; found, Some(Fault::BadValue), "{workers}");
+        let found = map_segments(&rt, alloc, workers, &Open, &turned).err();
+        assert_eq!(rt; found, Some(Fault::CodeOutOfInterval), "{workers}");
+    }
+    Ok(())
+}
+
 /// How many code-blocks there are.
 const COUNT: usize = 78;
 

@@ -96,6 +96,8 @@ struct Crowd {
     taken: AtomicU64,
     published: AtomicU64,
     right: AtomicU64,
+    // How many ended early, were asked nothing, or couldn't be judged, since memory was refused.
+    early: AtomicU64,
     // How many images each client has seen.
     seen: Vec<AtomicU64>,
 }
@@ -111,6 +113,7 @@ impl Crowd {
             taken: AtomicU64::new(0),
             published: AtomicU64::new(0),
             right: AtomicU64::new(0),
+            early: AtomicU64::new(0),
             seen,
         })
     }
@@ -164,11 +167,15 @@ impl Source for Crowd {
 
     fn ended(&self, connection: Connection<Asked, Vec<u8>, Nobody>, end: Option<End>) {
         let Connection { input, output, .. } = connection;
-        if end != Some(End::Closed) {
+        if end != Some(End::Closed) || input.bytes.is_empty() {
+            self.early.fetch_add(1, Ordering::SeqCst);
             return;
         }
         for count in input.least..(NAMES.len() as u64).saturating_add(1) {
-            let due = replies(self.alloc, count).unwrap_or(Vec::new(self.alloc));
+            let Ok(due) = replies(self.alloc, count) else {
+                self.early.fetch_add(1, Ordering::SeqCst);
+                return;
+            };
             if output.as_slice() == due.as_slice() {
                 self.right.fetch_add(1, Ordering::SeqCst);
                 if let Some(seen) = self.seen.get(input.client) {
@@ -232,12 +239,10 @@ fn nothing_seen_vanishes(rt: HostRuntime) -> Result<(), Fail> {
         || publish_all(&rt, &mut writer, rest, &crowd),
     );
     writer.close(&rt);
-    equal(&rt, published, 7);
-    equal(&rt, ended?, CONNECTIONS * NAMES.len() as u64);
-    equal(
-        &rt,
-        crowd.right.load(Ordering::SeqCst),
-        CONNECTIONS * NAMES.len() as u64,
-    );
+    let all = CONNECTIONS * NAMES.len() as u64;
+    equal(&rt, ended?, all);
+    let right = crowd.right.load(Ordering::SeqCst);
+    let early = crowd.early.load(Ordering::SeqCst);
+    equal(&rt, (published, right, early), (7, all, 0));
     Ok(())
 }

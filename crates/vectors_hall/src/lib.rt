@@ -14,11 +14,15 @@ mod idle;
 #[cfg(test)]
 mod keeping;
 #[cfg(test)]
+mod limits;
+#[cfg(test)]
 mod operating;
 #[cfg(test)]
 mod publishing;
 #[cfg(test)]
 mod readers;
+#[cfg(test)]
+mod refusals;
 #[cfg(test)]
 mod streams;
 #[cfg(test)]

@@ -154,7 +154,11 @@ fn lines_are_answered(rt: HostRuntime) -> Result<(), Fail> {
         let waiting = writer.waiting();
         writer.close(&rt);
         let (output, end) = found?;
-        assert!(rt; output.as_slice() == answers, "{:?}", output.as_slice());
+        assert!(rt;
+            output.as_slice() == answers,
+            "{end:?} {:?}",
+            output.as_slice()
+        );
         equal(&rt, end, if fails { Err(Fault::Shelf) } else { Ok(()) });
         equal(&rt, waiting, 0);
         let list: &[u8] = if answers.starts_with(b"added d") {

@@ -58,7 +58,9 @@ pub(crate) struct Streams {
     pub(crate) taken: AtomicUsize,
     pub(crate) open: AtomicUsize,
     pub(crate) ended: AtomicUsize,
-    pub(crate) right: AtomicUsize,
+    right: AtomicUsize,
+    // How many ended otherwise than by their requests.
+    early: AtomicUsize,
 }
 
 impl Streams {
@@ -74,7 +76,16 @@ impl Streams {
             open: AtomicUsize::new(open),
             ended: AtomicUsize::new(0),
             right: AtomicUsize::new(0),
+            early: AtomicUsize::new(0),
         }
+    }
+
+    /// How many connections had the replies that are due, and how many ended early.
+    pub(crate) fn counts(&self) -> (usize, usize) {
+        (
+            self.right.load(Ordering::SeqCst),
+            self.early.load(Ordering::SeqCst),
+        )
     }
 }
 
@@ -117,9 +128,10 @@ impl Source for Streams {
 
     fn ended(&self, connection: Connection<Stream, Vec<u8>, Nobody>, end: Option<End>) {
         let Connection { input, output, .. } = connection;
-        if input.number < self.cases.len()
+        if end != Some(End::Closed) {
+            self.early.fetch_add(1, Ordering::SeqCst);
+        } else if input.number < self.cases.len()
             && output.as_slice() == self.cases[input.number].1
-            && end == Some(End::Closed)
         {
             self.right.fetch_add(1, Ordering::SeqCst);
         }

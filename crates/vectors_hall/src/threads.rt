@@ -23,15 +23,16 @@ static LISTS: [(&[u8], &[u8]); 2] = [
     ),
 ];
 
-/// Two connections, between which `b` is published.
+/// Two connections, between which `b` is published: the list and its file. The file is that of one
+/// grey sample, 128, without levels.
 static BETWEEN: [(&[u8], &[u8]); 2] = [
     (
-        b"GET /images HTTP/1.1\r\nHost: x\r\n\r\n",
-        b"HTTP/1.1 200 OK\r\nContent-Type: text/plain\r\nContent-Length: 12\r\n\r\na 1 1 1 8 0\n",
+        b"GET /images HTTP/1.1\r\nHost: x\r\n\r\nGET /images/b HTTP/1.1\r\n\r\n",
+        b"HTTP/1.1 200 OK\r\nContent-Type: text/plain\r\nContent-Length: 12\r\n\r\na 1 1 1 8 0\nHTTP/1.1 404 Not Found\r\nContent-Type: text/plain\r\nContent-Length: 14\r\n\r\n404 Not Found\n",
     ),
     (
-        b"GET /images HTTP/1.1\r\nHost: x\r\n\r\n",
-        b"HTTP/1.1 200 OK\r\nContent-Type: text/plain\r\nContent-Length: 24\r\n\r\na 1 1 1 8 0\nb 1 1 1 8 0\n",
+        b"GET /images HTTP/1.1\r\nHost: x\r\n\r\nGET /images/b HTTP/1.1\r\n\r\n",
+        b"HTTP/1.1 200 OK\r\nContent-Type: text/plain\r\nContent-Length: 24\r\n\r\na 1 1 1 8 0\nb 1 1 1 8 0\nHTTP/1.1 200 OK\r\nContent-Type: image/jp2\r\nContent-Length: 167\r\n\r\n\0\0\0\x0CjP  \r\n\x87\n\0\0\0\x14ftypjp2 \0\0\0\0jp2 \0\0\0-jp2h\0\0\0\x16ihdr\0\0\0\x01\0\0\0\x01\0\x01\x07\x07\0\0\0\0\0\x0Fcolr\x01\0\0\0\0\0\x11\0\0\0Zjp2c\xFFO\xFFQ\0)\0\0\0\0\0\x01\0\0\0\x01\0\0\0\0\0\0\0\0\0\0\0\x01\0\0\0\x01\0\0\0\0\0\0\0\0\0\x01\x07\x01\x01\xFFR\0\x0C\0\0\0\x01\0\0\x04\x04\0\x01\xFF\x5C\0\x04@@\xFF\x90\0\n\0\0\0\0\0\x0F\0\x01\xFF\x93\0\xFF\xD9",
     ),
 ];
 
@@ -47,7 +48,7 @@ fn two_connections_at_a_time(rt: HostRuntime) -> Result<(), Fail> {
     let ended = serve_all(&rt, alloc, readers, files, &held, &streams);
     writer.close(&rt);
     equal(&rt, ended?, 2);
-    equal(&rt, streams.right.load(Ordering::SeqCst), 2);
+    equal(&rt, streams.counts(), (2, 0));
     equal(&rt, held.meeting.was_met(1), true);
     Ok(())
 }
@@ -83,6 +84,6 @@ fn published_between_two_connections(rt: HostRuntime) -> Result<(), Fail> {
     writer.close(&rt);
     equal(&rt, published, true);
     equal(&rt, ended?, 2);
-    equal(&rt, streams.right.load(Ordering::SeqCst), 2);
+    equal(&rt, streams.counts(), (2, 0));
     Ok(())
 }

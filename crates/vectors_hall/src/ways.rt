@@ -101,6 +101,7 @@ impl Write for Room {
 #[derive(Drop)]
 struct Told {
     number: usize,
+    is_asked: bool,
     answered: AtomicUsize,
 }
 
@@ -118,6 +119,8 @@ struct Ways {
     taken: AtomicUsize,
     ended: Vec<AtomicUsize>,
     right: AtomicUsize,
+    // How many ended otherwise than is due, or were asked nothing.
+    early: AtomicUsize,
 }
 
 impl Ways {
@@ -131,6 +134,7 @@ impl Ways {
             taken: AtomicUsize::new(0),
             ended,
             right: AtomicUsize::new(0),
+            early: AtomicUsize::new(0),
         })
     }
 
@@ -157,6 +161,7 @@ impl Source for Ways {
         let number = self.taken.fetch_add(1, Ordering::SeqCst);
         let (asked, fails, room, ..) = WAYS.get(number)?;
         let bytes = Vec::from_slice(self.alloc, asked).unwrap_or(Vec::new(self.alloc));
+        let is_asked = bytes.len() == asked.len();
         Some(Connection {
             input: Pieces::new(bytes, 7, *fails),
             output: Room {
@@ -165,6 +170,7 @@ impl Source for Ways {
             },
             witness: Told {
                 number,
+                is_asked,
                 answered: AtomicUsize::new(0),
             },
         })
@@ -177,9 +183,10 @@ impl Source for Ways {
             ..
         } = connection;
         if let Some((_, _, _, replied, told, due)) = WAYS.get(witness.number) {
-            if output.bytes.as_slice() == *replied
+            if end != Some(*due) || !witness.is_asked {
+                self.early.fetch_add(1, Ordering::SeqCst);
+            } else if output.bytes.as_slice() == *replied
                 && witness.answered.load(Ordering::SeqCst) == *told
-                && end == Some(*due)
             {
                 self.right.fetch_add(1, Ordering::SeqCst);
             }
@@ -208,7 +215,8 @@ where
     let ended = serve_all(rt, alloc, readers, files, &held, &ways);
     writer.close(rt);
     equal(rt, ended?, 10);
-    equal(rt, ways.right.load(Ordering::SeqCst), 10);
+    let right = ways.right.load(Ordering::SeqCst);
+    equal(rt, (right, ways.early.load(Ordering::SeqCst)), (10, 0));
     equal(rt, ways.ended_once(), 10);
     equal(
         rt,

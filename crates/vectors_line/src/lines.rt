@@ -97,7 +97,7 @@ pub(crate) fn check_output<R: Abort + Threads + Sync>(
 ) -> Result<(), Fail> {
     let mut world = Memory::new(rt, alloc, bytes_of(alloc, input)?);
     let status = run_line(alloc, &mut world, line)?;
-    assert_eq!(rt; status, Status::Done, "{line}");
+    assert_eq!(rt; status, Status::Done, "{line}: {}", world.error);
     let wanted = bytes_of(alloc, output)?;
     assert!(rt; world.output.as_slice() == wanted.as_slice(), "{line}");
     assert_eq!(rt; world.error.len(), 0, "{line}");
@@ -389,13 +389,15 @@ fn archives_grow(rt: HostRuntime) -> Result<(), Fail> {
     let bare = bytes_of(alloc, &[COLUMN])?;
     shelf.write(alloc, "c.jp2", &bare)?;
     world.folders.insert(String::from_str(alloc, "d")?, shelf)?;
-    assert_eq!(rt;
-        run_line(alloc, &mut world, "add d a - --levels 0")?,
-        Status::Done
-    );
+    let status = run_line(alloc, &mut world, "add d a - --levels 0")?;
+    assert_eq!(rt; status, Status::Done, "{}", world.error);
     assert_eq!(rt; run_line(alloc, &mut world, "add d a -")?, Status::Refused);
     assert_eq!(rt; run_line(alloc, &mut world, "add d c -")?, Status::Refused);
-    assert!(rt; world.error.as_str() == "jk: F18 NameTaken\njk: F18 NameTaken\n");
+    assert!(rt;
+        world.error.as_str() == "jk: F18 NameTaken\njk: F18 NameTaken\n",
+        "{}",
+        world.error
+    );
     assert_eq!(rt; world.output.len(), 0);
     let mut shelf = world.folders.remove("d").ok_or("the folder is given back")?;
     let wanted = bytes_of(
@@ -414,16 +416,55 @@ fn archives_grow(rt: HostRuntime) -> Result<(), Fail> {
     assert_eq!(rt; shelf.list(alloc)?.len(), 2);
     world.folders.insert(String::from_str(alloc, "d")?, shelf)?;
     world.error.clear();
-    assert_eq!(rt;
-        run_line(alloc, &mut world, "serve d --port 8080")?,
-        Status::Done
-    );
+    let status = run_line(alloc, &mut world, "serve d --port 8080")?;
+    assert_eq!(rt; status, Status::Done, "{}", world.error);
     assert!(rt;
         world.error.as_str()
             == "jk: c.jp2 isn't listed: F13 BadBox\njk: 1 images on http://127.0.0.1:8080/images\nNone 1 10 false",
         "{}",
         world.error
     );
+    Ok(())
+}
+
+/// Options for the style of code-blocks, and the style's byte in COD (T.800 table A.19).
+static ADDED_STYLES: [(&str, &str); 4] = [
+    ("--reset", "02"),
+    ("--causal", "08"),
+    ("--segments", "20"),
+    ("--reset --causal --segments", "2A"),
+];
+
+/// What is added has the style of code-blocks that was asked for.
+#[test]
+fn styles_are_added(rt: HostRuntime) -> Result<(), Fail> {
+    let alloc = rt.alloc();
+    for (options, style) in ADDED_STYLES {
+        let mut world = Memory::new(&rt, alloc, bytes_of(alloc, &[GREY])?);
+        let folder = MemoryShelf::new(alloc);
+        world.folders.insert(String::from_str(alloc, "d")?, folder)?;
+        let line = format!(in alloc; "add d a - --levels 0 {options}")?;
+        let status = run_line(alloc, &mut world, line.as_str())?;
+        assert_eq!(rt; status, Status::Done, "{options}: {}", world.error);
+        let mut folder = world.folders.remove("d").ok_or("the folder is given back")?;
+        let wanted = bytes_of(
+            alloc,
+            &[
+                BOXES,
+                "FF4F",
+                SIZE,
+                "FF52 000C 00 00 0001 00 00 04 04",
+                style,
+                "01",
+                STEPS,
+                "FF90 000A 0000 0000000F 00 01 FF93 00 FFD9",
+            ],
+        )?;
+        assert!(rt;
+            folder.read(alloc, "a.jp2")?.as_slice() == wanted.as_slice(),
+            "{options}"
+        );
+    }
     Ok(())
 }
 
@@ -495,8 +536,16 @@ fn archives_are_checked(rt: HostRuntime) -> Result<(), Fail> {
         shelf.write(alloc, "a.jp2", &page)?;
         world.folders.insert(String::from_str(alloc, "d")?, shelf)?;
         let code = run_line(alloc, &mut world, line)?.code();
-        assert!(rt; code.to_string(alloc)?.as_str() == status, "{row}: {code}");
-        assert!(rt; world.output.as_slice() == output.as_bytes(), "{row}");
+        assert!(rt;
+            code.to_string(alloc)?.as_str() == status,
+            "{row}: {code}: {}",
+            world.error
+        );
+        assert!(rt;
+            world.output.as_slice() == output.as_bytes(),
+            "{row}: {}",
+            world.error
+        );
         assert!(rt;
             world.error.as_str() == error.as_str(),
             "{row}: {}",
@@ -544,13 +593,14 @@ fn lines_are_judged(rt: HostRuntime) -> Result<(), Fail> {
     for line in WRONG.split('\n') {
         let mut world = Memory::new(&rt, alloc, bytes_of(alloc, &[GREY])?);
         let status = run_line(alloc, &mut world, line)?;
-        assert_eq!(rt; status, Status::WrongLine, "{line}");
+        assert_eq!(rt; status, Status::WrongLine, "{line}: {}", world.error);
         assert_eq!(rt; world.output.len(), 0, "{line}");
         assert!(rt; !world.error.is_empty(), "{line}");
     }
     for line in ["--help", "--version", "encode --help", "faults"] {
         let mut world = Memory::new(&rt, alloc, bytes_of(alloc, &[GREY])?);
-        assert_eq!(rt; run_line(alloc, &mut world, line)?, Status::Done, "{line}");
+        let status = run_line(alloc, &mut world, line)?;
+        assert_eq!(rt; status, Status::Done, "{line}: {}", world.error);
         assert!(rt; !world.output.is_empty(), "{line}");
         assert_eq!(rt; world.error.len(), 0, "{line}");
         world.is_full = true;
@@ -559,7 +609,11 @@ fn lines_are_judged(rt: HostRuntime) -> Result<(), Fail> {
             Status::Refused,
             "{line}"
         );
-        assert!(rt; world.error.as_str() == "jk: F20 Shelf\n", "{line}");
+        assert!(rt;
+            world.error.as_str() == "jk: F20 Shelf\n",
+            "{line}: {}",
+            world.error
+        );
     }
     assert_eq!(rt; Status::Done.code(), 0);
     assert_eq!(rt; Status::Refused.code(), 1);

@@ -30,7 +30,7 @@ fn negative_numbers_are_values(rt: HostRuntime) -> Result<(), Fail> {
         };
         let mut world = Memory::new(&rt, alloc, bytes_of(alloc, &[GREY])?);
         let status = run_line(alloc, &mut world, line)?;
-        assert_eq!(rt; status, Status::WrongLine, "{line}");
+        assert_eq!(rt; status, Status::WrongLine, "{line}: {}", world.error);
         assert_eq!(rt; world.output.len(), 0, "{line}");
         assert!(rt;
             world.error.as_str().contains(wanted),

@@ -63,10 +63,12 @@ fn check_told<R: Abort + Threads + Sync>(
     let mut world = Memory::new(rt, alloc, bytes_of(alloc, &[input])?);
     let name = String::from_str(alloc, "d")?;
     world.folders.insert(name, MemoryShelf::new(alloc))?;
-    assert_eq!(rt; run_line(alloc, &mut world, line)?, status, "{line}");
+    let found = run_line(alloc, &mut world, line)?;
+    assert_eq!(rt; found, status, "{line}: {}", world.error);
     assert!(rt;
         world.begun.as_slice() == [(work, size)].as_slice(),
-        "{line}"
+        "{line}: {}",
+        world.error
     );
     assert_eq!(rt; world.ended, 1, "{line}");
     assert_eq!(rt; world.is_quiet, line.contains("--quiet"), "{line}");
@@ -134,7 +136,8 @@ fn code_blocks_are_counted(rt: HostRuntime) -> Result<(), Fail> {
         let mut input = bytes_of(alloc, &["50350A 313330 20 3730 0A 323535 0A"])?;
         input.resize(input.len() + 130 * 70, 7)?;
         let mut world = Memory::new(&rt, alloc, input);
-        assert_eq!(rt; run_line(alloc, &mut world, line)?, Status::Done, "{line}");
+        let status = run_line(alloc, &mut world, line)?;
+        assert_eq!(rt; status, Status::Done, "{line}: {}", world.error);
         assert_eq!(rt; world.counter.coded.load(Ordering::SeqCst), coded, "{line}");
     }
     Ok(())

@@ -9,4 +9,6 @@ mod encoded;
 #[cfg(test)]
 mod encoding;
 #[cfg(test)]
+mod refusals;
+#[cfg(test)]
 mod tests;

@@ -34,6 +34,8 @@ mod parts;
 #[cfg(test)]
 mod reading;
 #[cfg(test)]
+mod refusals;
+#[cfg(test)]
 mod serving;
 #[cfg(test)]
 mod shelves;

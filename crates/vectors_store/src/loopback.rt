@@ -35,9 +35,12 @@ fn asked(rt: &HostRuntime, port: u16, requests: &str) -> io::Result<Vec<u8>> {
     Ok(replies)
 }
 
-/// What is replied on two connections, one after the other.
+/// What is replied on two connections, one after the other. The second is made in any case, since
+/// it is waited for.
 fn asked_twice(rt: &HostRuntime, port: u16) -> io::Result<(Vec<u8>, Vec<u8>)> {
-    Ok((asked(rt, port, FIRST)?, asked(rt, port, SECOND)?))
+    let first = asked(rt, port, FIRST);
+    let second = asked(rt, port, SECOND);
+    Ok((first?, second?))
 }
 
 /// Serves a connection, and says how it ended.

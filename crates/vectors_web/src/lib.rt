@@ -11,6 +11,8 @@ mod cases;
 #[cfg(test)]
 mod lengthy;
 #[cfg(test)]
+mod refusals;
+#[cfg(test)]
 mod serving;
 #[cfg(test)]
 mod tests;

@@ -47,6 +47,12 @@ const OUTSIDE: &str =
     "FF4FFF5100290000000000010000000100000000000000000000000100000001000000000000000000010701\
 01FF52000C00000001000004040001FF5C00044040FF90000A0000000000120001FF93C022FF8FFFD9";
 
+/// The column of nine samples, of which the code-block of LH has a code value outside its interval.
+const OUTSIDE_ABOVE: &str =
+    "FF4FFF5100290000000000010000000900000000000000000000000100000009000000000000000000010701\
+01FF52000C00000001000104040001FF5C00074040484850FF90000A00000000001E0001FF93C7D40C018F0DC8757FC07C21\
+80FF8F7FFFD9";
+
 /// The samples of the colours, component by component.
 static COLOURS: [i32; 45] = [
     200, 200, 200, 200, 200, 200, 200, 200, 200, 200, 200, 200, 200, 200, 200, 100, 100, 100, 100,
@@ -78,8 +84,9 @@ static HALF: [i32; 48] = [
 
 /// A file, a reduction, and the fault of one thread: of a code-block, of the reduction, and of a
 /// file that ends too soon.
-static REFUSED: [(&str, u32, Fault); 3] = [
+static REFUSED: [(&str, u32, Fault); 4] = [
     (OUTSIDE, 0, Fault::CodeOutOfInterval),
+    (OUTSIDE_ABOVE, 0, Fault::CodeOutOfInterval),
     (TILES, 2, Fault::BadWindow),
     ("FF4FFF51", 0, Fault::Truncated),
 ];
@@ -109,13 +116,14 @@ fn has(image: &Image, samples: &[i32]) -> bool {
     rest.is_empty()
 }
 
-/// What a file means, whoever decodes it.
+/// What a file means, whoever decodes it. A code-block above the asked resolution isn't looked at.
 #[test]
 fn files(rt: HostRuntime) -> Result<(), Fail> {
     let alloc = rt.alloc();
-    let rows: [(&str, u32, &[i32]); 5] = [
+    let rows: [(&str, u32, &[i32]); 6] = [
         (COLUMN, 0, &[101, 103, 104, 105, 96, 97, 96, 102, 109]),
         (COLUMN, 1, &[102, 106, 98, 96, 109]),
+        (OUTSIDE_ABOVE, 1, &[102, 106, 98, 96, 109]),
         (COLOUR, 0, &COLOURS),
         (TILES, 0, &WHOLE),
         (TILES, 1, &HALF),

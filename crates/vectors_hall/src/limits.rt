@@ -1,0 +1,88 @@
+//! How often a connection is read at most.
+
+use crate::calls::{equal, opened, shelves};
+use jk_farm::Open;
+use jk_hall::{Connection, Nobody, Source, serve_all};
+use jk_web::End;
+use std::alloc::Global;
+use std::sync::atomic::{AtomicU64, Ordering};
+use std::test::Fail;
+use vectors::Pieces;
+
+/// A request of 19 bytes, for what there isn't.
+static ASKED: &[u8] = b"GET /b HTTP/1.1\r\n\r\n";
+
+/// One connection that comes a byte at a time, so often this request; how often it was read, and
+/// whether that is why it ended.
+#[derive(Drop)]
+struct Long {
+    alloc: Global,
+    often: usize,
+    taken: AtomicU64,
+    reads: AtomicU64,
+    spent: AtomicU64,
+}
+
+/// So many of the request, or as many as there is memory for.
+fn requests(alloc: Global, often: usize) -> Vec<u8> {
+    let mut bytes = Vec::new(alloc);
+    for _ in 0..often {
+        if bytes.extend_from_slice(ASKED).is_err() {
+            return bytes;
+        }
+    }
+    bytes
+}
+
+impl Source for Long {
+    type In = Pieces;
+
+    type Out = Vec<u8>;
+
+    type Told = Nobody;
+
+    fn take(&self) -> Option<Connection<Pieces, Vec<u8>, Nobody>> {
+        if self.taken.fetch_add(1, Ordering::SeqCst) > 0 {
+            return None;
+        }
+        Some(Connection {
+            input: Pieces::new(requests(self.alloc, self.often), 1, false),
+            output: Vec::new(self.alloc),
+            witness: Nobody,
+        })
+    }
+
+    fn ended(&self, connection: Connection<Pieces, Vec<u8>, Nobody>, end: Option<End>) {
+        self.reads.store(connection.input.reads(), Ordering::SeqCst);
+        if end == Some(End::TurnsSpent) {
+            self.spent.store(1, Ordering::SeqCst);
+        }
+    }
+}
+
+/// How often a connection of so many requests is read, and whether that was as often as it may be:
+/// 3,449 of them have 65,531 bytes, behind which one read finds the end.
+#[test]
+fn no_connection_is_read_for_ever(rt: HostRuntime) -> Result<(), Fail> {
+    let alloc = rt.alloc();
+    for (often, reads, spent) in [(3449, 65_532, 0), (3450, 65_536, 1)] {
+        let long = Long {
+            alloc,
+            often,
+            taken: AtomicU64::new(0),
+            reads: AtomicU64::new(0),
+            spent: AtomicU64::new(0),
+        };
+        let files = shelves(alloc, 1)?;
+        let (writer, readers, _) = opened(&rt, alloc, 1)?;
+        let ended = serve_all(&rt, alloc, readers, files, &Open, &long);
+        writer.close(&rt);
+        equal(&rt, ended?, 1);
+        let found = (
+            long.reads.load(Ordering::SeqCst),
+            long.spent.load(Ordering::SeqCst),
+        );
+        equal(&rt, found, (reads, spent));
+    }
+    Ok(())
+}

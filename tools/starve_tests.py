@@ -1,0 +1,330 @@
+"""Refuses growths of memory in the tests, for tools/starve, and judges what each test answers then."""
+import glob
+import os
+import re
+import resource
+import shutil
+import subprocess
+from collections import Counter, namedtuple
+from concurrent.futures import ProcessPoolExecutor
+
+from common import ROOT, crate_in, crates, text_of
+
+# A test, and the program that has it.
+Test = namedtuple("Test", "crate name program")
+# What its run with all memory takes: growths, and seconds.
+Counted = namedtuple("Counted", "test count seconds wrong")
+# What came of it: how many growths there were and were refused, how often it ended how, and what isn't right.
+Starved = namedtuple("Starved", "test count refused ends wrong")
+
+# How a test may end where a growth is refused.
+MEMORY, FAILED, ON, BEHIND = "F1", "F23", "goes on", "goes on behind F1"
+
+# Tests that may end otherwise than with Memory where a growth is refused: how the test's name begins, what it says
+# then, and why that is as it is to be. PASSES says nothing; FRONT compares what was written with what is due, which it
+# begins; LESS compares counts, of which one is one less than is due.
+PASSES, FRONT, LESS = "passes", "front", "less"
+KEPT = "a window, or a part of a file, isn't kept"
+OWN = "the test itself had no memory"
+WRITER = "the test's own writer has no memory: a failed write"
+EARLY = "one connection ends early"
+FEWER = "one worker fewer"
+DISK = "the test's disk in memory can't note a call, or copy bytes: a call of the system fails"
+IN_MEMORY = "vectors_files (?!.*(of_the_system|device))"
+OTHERWISE = (
+    # Replies, wherever they are made.
+    ("vectors_(hall|store|web) ", r"left: .*WriteFailed", WRITER),
+    ("vectors_(hall attended|store serving|web serving|web caching)::", FRONT, WRITER),
+    # Halls.
+    ("vectors_hall attended::", PASSES, KEPT),
+    ("vectors_hall keeping::", r'error: "other replies"', WRITER),
+    ("vectors_hall crowd::", r"left: \(7, 239, 1\)\n right: \(7, 240, 0\)", EARLY),
+    ("vectors_hall crowd::", r"left: \([0-6], 240, 0\)\n right: \(7, 240, 0\)", "a publish is refused"),
+    ("vectors_hall crowd::", PASSES, FEWER),
+    ("vectors_hall idle::", r"at src/idle\.rt:\d+:\d+\n\[\]$", EARLY),
+    ("vectors_hall idle::", r"can't be taken: out of memory\n.*\n  left: 1\n right: 2", "one connection isn't taken"),
+    ("vectors_hall idle::trickling", PASSES, "the client that is left in any case is left sooner"),
+    ("vectors_hall keeping::", r"left: \[1[67], 1[67], 1[78], 1[78], (1[89]|20)\]", KEPT),
+    ("vectors_hall keeping::", PASSES, KEPT),
+    ("vectors_hall operating::lines", r'error: "no list"', OWN),
+    ("vectors_hall operating::lines", r"at src/operating\.rt:\d+:\d+\nErr\(Shelf\) ", WRITER),
+    ("vectors_hall operating::unwritten", PASSES, "the answer, F1 or not, can't be written"),
+    ("vectors_hall operating::unwritten", r"left: 0\n right: 1", "the answer, F1 or not, can't be written"),
+    ("vectors_hall threads::", r"left: \(1, 1\)\n right: \(2, 0\)", EARLY),
+    ("vectors_hall threads::published", r"left: false\n right: true", "a publish is refused"),
+    ("vectors_hall threads::published", r"left: \(1, 0\)\n right: \(2, 0\)", "it is published behind both connections"),
+    ("vectors_hall threads::two", r"left: false\n right: true", FEWER),
+    ("vectors_hall ways::", r"left: \(9, 1\)\n right: \(10, 0\)", EARLY),
+    ("vectors_hall ways::", r"left: \(9, 0\)\n right: \(10, 0\)", WRITER),
+    ("vectors_hall ways::", r"left: false\n right: true", FEWER),
+    ("vectors_hall ways::", PASSES, FEWER),
+    ("vectors_hall limits::", r"left: \(\d+, 0\)\n right: \(655\d\d, [01]\)", EARLY),
+    # Archives.
+    ("vectors_store adding::a_rename_that_fails", "error: Shelf", "the call that fails comes in the next try"),
+    ("vectors_store failing::adding", "error: Shelf", "the call that fails comes in the next try"),
+    ("vectors_store failing::checking", r'left: "(.* )?\?( .*)?"\n right: "a (whole|unread) b ', "F1 is written as ?"),
+    ("vectors_store by_parts::where_a_part_has_changed", LESS, "the test counts F1 as no answer"),
+    ("vectors_store directories::files_of_a_directory", PASSES, OWN),
+    ("vectors_store directories::files_of_a_directory", r'left: "(\.\./b)?"\n right: "(c\.jp2)?"', OWN),
+    ("vectors_store serving::", PASSES, KEPT),
+    # Requests and replies.
+    ("vectors_web caching::", r"left: \d+\n right: \d+", KEPT),
+    ("vectors_web caching::", PASSES, KEPT),
+    ("vectors_web tests::queries", PASSES, OWN),
+    # Files.
+    (IN_MEMORY, PASSES, DISK),
+    ("vectors_files locking::", r'left: .*"refused"', "F1 is written as refused"),
+    (IN_MEMORY, r"left: (Err|Some)\(Shelf\)\n right: (Ok\(true\)|None)", DISK),
+    (IN_MEMORY, r"left: (Ok\()?false\)?\n right: ((Ok\()?true|Err\(Shelf)", DISK),
+    (IN_MEMORY, FRONT, DISK),
+    ("vectors_files locking::waiting", r"left: \([01], \d+\)\n right: \(1, 200\)", DISK),
+    ("vectors_files (output|replacing)::failing_at_each_call", r"left: 2\n right: 1", DISK),
+    ("vectors_files (output::a_pipe|replacing::as_it_is)", r'left: "look d/pipe;.*write d/pipe;"', DISK),
+    ("vectors_files listing::one_of_each", r'left: "file.jp2 last.jp2 .*gone.jp2 NotFound', DISK),
+    ("vectors_pnm ", PASSES, "a list isn't shortened"),
+    ("vectors_pnm ", "error: Shelf", WRITER),
+    # Files written and read.
+    ("vectors_codec (pages|written|sizes|writers)::", PASSES, "a list isn't shortened"),
+    ("vectors_codec writers::", r'error: "(the first bytes of the file|the file|another answer)"', "F1 isn't told"),
+    ("vectors_codec writers::a_known_file", r"left: \(?Err\(Shelf\)", WRITER),
+    # Windows and code-blocks.
+    ("vectors_window decoded::windows_by_the_index", PASSES, "of two answers one is looked at"),
+    ("vectors_window decoded::windows_by_the_index", r"left: false\n right: true", "F1 is another answer"),
+    ("vectors_window views::", LESS, "the test counts a refused window as none"),
+    ("vectors_farm ", PASSES, FEWER),
+    ("vectors_codec written_with::", PASSES, FEWER),
+    ("vectors_codec written_with::two_code", r"left: false\n right: true", FEWER),
+    ("vectors_workers ", PASSES, FEWER),
+    ("vectors_workers decoded::two_stripes", r"at src/decoded\.rt:\d+:\d+\n[23] FF4F", FEWER),
+    ("vectors_farm tests::two_are", r"test stopped at src/tests\.rt:\d+:\d+\n[23]$", FEWER),
+)
+
+# Tests that go on behind a refusal, and what each is to say at one growth at least.
+WAITED = ("it waited and was shown", "it didn't wait and was published again")
+BEHINDS = (
+    ("vectors_hall refusals::what_waits_is_settled", *WAITED),
+    ("vectors_hall refusals::what_waits_is_published_with_the_next", *WAITED),
+    ("vectors_store refusals::a_refused_addition_changes_nothing", "it wasn't added and was added again"),
+    ("vectors_web refusals::a_refused_session_stays_so", "it stayed refused"),
+    ("vectors_mq refusals::a_refused_encoder_stays_so", "it stayed refused"),
+)
+
+# Tests in which the last growths are refused in any case: behind them is a fault that mustn't be told first.
+ENDINGS, LAST = ("vectors_store first_faults::one_file_too_many",), 40
+# The tests that the gate takes, by how their names begin: they run in one thread, make few growths or go on behind a
+# refusal, and so the same growths are refused at each run.
+GATE = ("vectors_mq ", "vectors_block ", "vectors_lift ", "vectors_packet ", "vectors_order ", "vectors_boxes ",
+        *(it[0] for it in BEHINDS), *ENDINGS)
+
+# How many growths of a test are refused at least, and how long a run takes at least, in seconds.
+LEAST, SHORTEST = 3, 0.004
+
+
+def known_programs(folder):
+    """The test programs that stand there, by the names of their crates."""
+    found = glob.glob(os.path.join(folder, "vectors_*", "out", "vectors_*_tests"))
+    return {os.path.basename(it).removesuffix("_tests"): it for it in sorted(found)}
+
+
+def tests_in_sources(crate):
+    folder = os.path.join(crate_in(ROOT, crate), "src")
+    sources = [os.path.join(at, file) for at, _, files in os.walk(folder) for file in files]
+    return sum(len(re.findall(r"^ *#\[test\]", text_of(it), re.MULTILINE)) for it in sources)
+
+
+def tests_of(crate, program):
+    told = subprocess.run([program, "--list"], capture_output=True, check=True, text=True).stdout
+    return [Test(crate, it, program) for it in re.findall(r"^(.*): test$", told, re.M)]
+
+
+# What a test answers.
+
+def spelled(said):
+    """What a test says, with lists of bytes as the text that they spell."""
+    def text(found):
+        numbers = [int(it) for it in found[0].strip("[]").split(",")]
+        letters = [it for it in numbers if 32 <= it < 127 or it in (10, 13)]
+        return bytes(letters).decode("ascii") if len(letters) > 3 and len(letters) * 2 > len(numbers) else found[0]
+    return re.sub(r"\[\d+(?:, \d+)*\]", text, said)
+
+
+def sides(said):
+    """What was found and what was due, where two values were compared."""
+    found = re.search(r"^  left: (.*?)\n right: (.*?)\n?\Z", said, re.M | re.S)
+    return found.groups() if found else (said, "")
+
+
+def says_memory(said):
+    return re.search(r'Memory|OutOfMemory|AllocError|AllocFailed|error: "memory"', said)
+
+
+def is_front(said):
+    """Whether what was found is the beginning of what was due."""
+    left, right = ("" if it == "[]" else it for it in sides(said))
+    return len(left) < len(right) and right.startswith(left)
+
+
+def is_less(said):
+    """Whether of the numbers found one is one less than was due, and all others are as due."""
+    left, right = ([int(it) for it in re.findall(r"\d+", side)] for side in sides(said))
+    differences = [b - a for a, b in zip(left, right) if a != b]
+    return len(left) == len(right) and differences == [1]
+
+
+def is_so(said, text):
+    if text == PASSES:
+        return not said
+    return said and (is_front(said) if text == FRONT else is_less(said) if text == LESS else re.search(text, said))
+
+
+def otherwise(test, said):
+    """Why a test may end so, if it is known to; where nothing is said it has passed."""
+    name = f"{test.crate} {test.name}"
+    return next((why for begin, text, why in OTHERWISE if re.match(begin, name) and is_so(said, text)), None)
+
+
+def answer_of(test, run):
+    """How a test ended, or what isn't right."""
+    if run.status is None:
+        return "WRONG: it doesn't end"
+    if run.status == 0:
+        return ON if otherwise(test, "") else "WRONG: it passes, as if nothing had been refused"
+    said = spelled((run.out + run.told).decode(errors="replace"))
+    if run.status not in (101, -6):
+        return f"WRONG: status {run.status}, {said[-160:]!r}"
+    behind = next((text for name, *texts in BEHINDS if f"{test.crate} {test.name}" == name
+                   for text in texts if f'error: "{text}"' in said), None)
+    if behind:
+        return BEHIND
+    left, right = sides(said)
+    if says_memory(left) and not says_memory(right):
+        return MEMORY
+    if re.search(r"WorkerFailed|SpawnError", left) and not re.search(r"WorkerFailed|SpawnError", right):
+        return FAILED
+    return ON if otherwise(test, said) else f"WRONG: {said.strip()[-300:]!r}"
+
+
+# Running.
+
+def emptied(folder):
+    """A folder of this process, with nothing in it."""
+    shutil.rmtree(folder, ignore_errors=True)
+    os.makedirs(folder)
+    return folder
+
+
+def run_of(refuser, test, number, seconds):
+    return refuser.run([test.program, test.name], number, seconds=seconds,
+                       folder=emptied(os.path.join(refuser.work, f"room.{os.getpid()}")))
+
+
+def processor_time():
+    used = resource.getrusage(resource.RUSAGE_CHILDREN)
+    return used.ru_utime + used.ru_stime
+
+
+def counted(refuser, test):
+    """How many growths a test makes, and how long it takes: a test that waits mostly counts by a fourth."""
+    before = processor_time()
+    run = run_of(refuser, test, None, 300)
+    took = max(processor_time() - before, run.seconds / 4, SHORTEST)
+    wrong = None if run.status == 0 else f"with all its memory it ends with {run.status}: {run.told[-200:]!r}"
+    return Counted(test, run.count, took, wrong)
+
+
+def starve_test(refuser, known, numbers):
+    """Refuses these growths of a test in turn. One that doesn't end isn't tried further."""
+    ends, wrong, refused = Counter(), {}, 0
+    said = set()
+    for number in numbers:
+        run = run_of(refuser, known.test, number, max(60, 20 * known.seconds))
+        # Threads may make a growth less than when they were counted.
+        if run.refused == "none" and run.status == 0:
+            continue
+        refused += 1
+        end = answer_of(known.test, run)
+        if end == BEHIND:
+            said.update(re.findall(r'error: "(.*)"', (run.out + run.told).decode(errors="replace")))
+        if end.startswith("WRONG"):
+            wrong.setdefault(end, number)
+            end = "WRONG"
+        ends[end] += 1
+        if run.status is None:
+            break
+    for name, *texts in BEHINDS:
+        if f"{known.test.crate} {known.test.name}" == name:
+            wrong.update({f"WRONG: at no growth it says {it!r}": 0 for it in texts if it not in said})
+    return Starved(known.test, known.count, refused, ends, wrong)
+
+
+def spread(count, few):
+    """So few of so many numbers from 1 on, evenly."""
+    return {1 + at * count // few for at in range(few)} if few else set()
+
+
+def chosen(known, most, seconds):
+    """The growths of each test that are refused: all of the small ones, of the others as many as there is time for."""
+    numbers, waiting = {it.test: set() for it in known}, []
+    for it in sorted(known, key=lambda it: it.count * it.seconds):
+        name = f"{it.test.crate} {it.test.name}"
+        if name in ENDINGS:
+            numbers[it.test].update(range(max(1, it.count - LAST + 1), it.count + 1))
+        if name in (behind[0] for behind in BEHINDS):
+            # One growth alone may be that behind which it goes on.
+            numbers[it.test].update(range(1, it.count + 1))
+        else:
+            waiting.append(it)
+        seconds -= len(numbers[it.test]) * it.seconds
+    for at, it in enumerate(waiting):
+        share = max(0, seconds) / (len(waiting) - at)
+        few = min(it.count, most, max(LEAST, int(share / it.seconds)))
+        seconds -= few * it.seconds
+        numbers[it.test].update(spread(it.count, few))
+    return {test: sorted(found) for test, found in numbers.items()}
+
+
+def tell_crate(crate, found):
+    """A line of a crate, and what isn't right there."""
+    ends = sum((it.ends for it in found), Counter())
+    kinds = ", ".join(f"{ends[it]} {it}" for it in (MEMORY, FAILED, ON, BEHIND, "WRONG") if ends[it])
+    each = sum(it.count <= it.refused for it in found)
+    print(f"{crate}: {len(found)} tests, {sum(it.count for it in found)} growths, {sum(it.refused for it in found)} "
+          f"refused, each one in {each} tests; {kinds or 'none'}", flush=True)
+    for it in found:
+        for end, number in list(it.wrong.items())[:6]:
+            print(f"    {it.test.name}, growth {number}: {end}")
+
+
+def starve_tests(refuser, folder, only, most, minutes, jobs, names=("",)):
+    """Runs the tests of the programs that stand there whose names begin so: how many were right, wrong and passed over."""
+    tests, skipped = [], 0
+    programs = known_programs(folder)
+    for crate in crates():
+        due = tests_in_sources(crate)
+        is_named = any(crate.startswith(it.split(" ")[0]) for it in names)
+        if not due or not is_named or only not in crate and only.split(" ")[0] != crate:
+            continue
+        found = tests_of(crate, programs[crate]) if crate in programs else []
+        if len(found) != due:
+            skipped += due
+            print(f"not run {crate}: " + (f"its program has {len(found)} tests, and its sources {due}" if found else
+                                          f"there is no program of its {due} tests"), flush=True)
+        else:
+            tests += [it for it in found if only in f"{crate} {it.name}" and f"{crate} {it.name}".startswith(tuple(names))]
+    with ProcessPoolExecutor(jobs) as pool:
+        try:
+            known = list(pool.map(counted, [refuser] * len(tests), tests))
+            right, used = [it for it in known if not it.wrong], sum(it.seconds for it in known)
+            numbers = chosen(right, most, max(0, 60 * minutes - used))
+            running = [pool.submit(starve_test, refuser, it, numbers[it.test]) for it in right]
+            found = [it.result() for it in running]
+        except BaseException:
+            # Where it is ended, what waits isn't begun.
+            pool.shutdown(wait=False, cancel_futures=True)
+            raise
+    found += [Starved(it.test, it.count, 0, Counter(), {f"WRONG: {it.wrong}": 0}) for it in known if it.wrong]
+    for crate in dict.fromkeys(it.crate for it in tests):
+        tell_crate(crate, [it for it in found if it.test.crate == crate])
+    print(f"{processor_time() / 60:.1f} minutes of processor time")
+    failed = sum(bool(it.wrong) for it in found)
+    return len(found) - failed, failed, skipped
