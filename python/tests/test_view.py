@@ -10,9 +10,9 @@ import time
 import pytest
 
 # It lists the files of its folder, replies to what is asked of them with the words of the request, and ends where it
-# is asked for /images/end.
+# is asked for /images/end. In a folder with a file `slow` it is long in starting.
 STAND_IN = f"""#!{sys.executable}
-import http.server, os, sys
+import http.server, os, sys, time
 folder = sys.argv[2]
 assert sys.argv[1] == "serve" and sys.argv[3:5] == ["--port", "0"], sys.argv
 
@@ -33,6 +33,9 @@ class Replies(http.server.BaseHTTPRequestHandler):
     def log_message(self, *words):
         pass
 
+if os.path.exists(os.path.join(folder, "slow")):
+    print("jk: opening", file=sys.stderr, flush=True)
+    time.sleep(60)
 server = http.server.ThreadingHTTPServer(("127.0.0.1", 0), Replies)
 print("jk: odd.jp2 isn't listed: F2 Truncated", file=sys.stderr)
 print(f"jk: serving http://127.0.0.1:{{server.server_port}}/", file=sys.stderr, flush=True)
@@ -54,17 +57,22 @@ def site(tmp_path):
     return tmp_path
 
 
+def begun(site, *words):
+    """A look that begins."""
+    room = site / "room"
+    room.mkdir(exist_ok=True)
+    command = [sys.executable, "-m", "jk.view", "--no-browser", "--jk", str(site / "jk"), "--leaflet",
+               str(site / "leaflet"), *map(str, words)]
+    return subprocess.Popen(command, stdout=subprocess.PIPE, stderr=subprocess.PIPE, text=True,
+                            env={**os.environ, "TMPDIR": str(room)})
+
+
 class Shown:
     """`python -m jk.view`, as it runs."""
 
     def __init__(self, site, *words):
-        room = site / "room"
-        room.mkdir(exist_ok=True)
-        command = [sys.executable, "-m", "jk.view", "--no-browser", "--jk", str(site / "jk"), "--leaflet",
-                   str(site / "leaflet"), *map(str, words)]
-        self.child = subprocess.Popen(command, stdout=subprocess.PIPE, stderr=subprocess.PIPE, text=True,
-                                      env={**os.environ, "TMPDIR": str(room)})
-        self.said, self.room = self.child.stdout.readline(), room
+        self.child, self.room = begun(site, *words), site / "room"
+        self.said = self.child.stdout.readline()
         found = re.match(r"http://127\.0\.0\.1:(\d+)/", self.said)
         self.port = int(found[1]) if found else None
 
@@ -151,6 +159,17 @@ def test_it_ends_when_it_is_asked_to(site):
             time.sleep(wait)
             assert shown.end(number)[0] == 0
             ended(site, shown)
+
+
+def test_it_ends_while_the_server_starts(site):
+    (site / "slow").touch()
+    for number in (signal.SIGINT, signal.SIGTERM):
+        child = begun(site, site)
+        assert child.stderr.readline() == "jk: opening\n"
+        child.send_signal(number)
+        child.communicate(timeout=20)
+        assert child.returncode == 0
+        assert running(site) == [] and os.listdir(site / "room") == []
 
 
 @pytest.mark.parametrize("words, told", [

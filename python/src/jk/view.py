@@ -99,8 +99,12 @@ class Served:
                                           start_new_session=True)
         except OSError as error:
             raise CannotShow(f"{program}: {error.strerror}") from error
-        self.port = self.started(self.lines())
-        threading.Thread(target=self.tell, daemon=True).start()
+        try:
+            self.port = self.started(self.lines())
+            threading.Thread(target=self.tell, daemon=True).start()
+        except BaseException:
+            self.end()
+            raise
 
     def lines(self) -> IO[str]:
         assert self.child.stderr is not None
@@ -233,22 +237,20 @@ def show(asked: argparse.Namespace, links: str) -> int:
     files, program = files_of_page(asked.leaflet), program_of(asked.jk)
     served = Served(program, folder_of(asked.paths, links), asked.workers)
     try:
-        page = Page(asked.port, files, served.port)
-    except OSError as error:
-        served.end()
-        raise CannotShow(f"port {asked.port}: {error.strerror}") from error
-    except BaseException:
-        served.end()
-        raise
-    threading.Thread(target=page.serve_forever, args=(0.1,), daemon=True).start()
-    try:
-        print(f"{page.address}  (Ctrl-C ends it)", flush=True)
-        if not asked.no_browser:
-            webbrowser.open(page.address)
-        return served.child.wait()
+        try:
+            page = Page(asked.port, files, served.port)
+        except OSError as error:
+            raise CannotShow(f"port {asked.port}: {error.strerror}") from error
+        with page:
+            threading.Thread(target=page.serve_forever, args=(0.1,), daemon=True).start()
+            try:
+                print(f"{page.address}  (Ctrl-C ends it)", flush=True)
+                if not asked.no_browser:
+                    webbrowser.open(page.address)
+                return served.child.wait()
+            finally:
+                page.shutdown()
     finally:
-        page.shutdown()
-        page.server_close()
         served.end()
 
 
