@@ -14,7 +14,7 @@ use Rattle.jk_mqenc.specs.Deferred.{registers_at, scale_of, IsScaled, IsDeferred
 power : (i j k : ℕ) → i + j ≡ k → 2 ^ i * 2 ^ j ≡ 2 ^ k
 power i j k e = sym (pow-add 2 i j) ∙ ap (λ x. 2 ^ x) e
 
-times-power : (a i j k : ℕ) → i + j ≡ k → a * 2 ^ i * 2 ^ j ≡ a * 2 ^ k
+pub times-power : (a i j k : ℕ) → i + j ≡ k → a * 2 ^ i * 2 ^ j ≡ a * 2 ^ k
 times-power a i j k e = let p = ap (λ x. a * x) (power i j k e) in let same : a * 2 ^ i * 2 ^ j ≡ a * (2 ^ i * 2 ^ j) = grind arith in same ∙ p
 
 less-times : (a b n : ℕ) → a < b → a * 2 ^ n < b * 2 ^ n

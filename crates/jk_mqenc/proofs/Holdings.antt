@@ -15,7 +15,7 @@ before-placed : (items : List ℕ) (held : Option ℕ) → placed_of items held 
 before-placed items None = refl
 before-placed items (Some b) = refl
 
-byte_out-is : (m : Machine) → byte_out m ≡ placed_after m.placed m.code m.width
+pub byte_out-is : (m : Machine) → byte_out m ≡ placed_after m.placed m.code m.width
 unfolding byte_out
 byte_out-is m = refl
 
@@ -31,10 +31,9 @@ pub none-begun : (items : List ℕ) (held : Option ℕ) → held ≡ None → Is
 none-begun items None h k = k
 none-begun items (Some b) h k = absurd (cc)
 
-pub placed-more : (items new : List ℕ) (held out : Option ℕ) (code width count byte c n : ℕ) (now : Machine) → record { code = code; width = width; count = count; placed = placed_of items held } ≡ now → ((o : List ℕ) (w : ℕ) → placed_after (before held o) code w ≡ made_of byte c n (before out o) w) → reverse new ≡ before out (reverse items) → made_of byte c n (reverse new) width ≡ byte_out now
-placed-more items new held out code width count byte c n now v p e =
-    let m : Machine = record { code = code; width = width; count = count; placed = placed_of items held } in
-    ap (λ (x : List ℕ). made_of byte c n x width) e ∙ sym (p (reverse items) width) ∙ ap (λ (x : List ℕ). placed_after x code width) (sym (before-placed items held)) ∙ sym (byte_out-is m) ∙ ap (λ (x : Machine). byte_out x) v
+pub placed-more : (items new bs : List ℕ) (held out : Option ℕ) (code byte c n : ℕ) → placed_of items held ≡ bs → ((o : List ℕ) (w : ℕ) → placed_after (before held o) code w ≡ made_of byte c n (before out o) w) → reverse new ≡ before out (reverse items) → (w : ℕ) → placed_after bs code w ≡ made_of byte c n (reverse new) w
+placed-more items new bs held out code byte c n v p e w =
+    ap (λ (x : List ℕ). placed_after x code w) (sym v ∙ before-placed items held) ∙ p (reverse items) w ∙ sym (ap (λ (x : List ℕ). made_of byte c n x w) e)
 
 -- ---- doublings
 

@@ -1,35 +1,25 @@
 -- Several doublings at once.
-use Rattle.std.proofs.Common.{◌≡◌, ◌∙◌, ap, sym, subst, refl, ℕ, zero, suc, ◌+◌, ◌-◌, ◌*◌, ◌%◌, ◌^◌, ◌<◌, ◌≤◌, inl, inr, Bool, cond, eqb, List, arith}
-use Rattle.std.specs.Int.Count.{count_leading_zeros}
-use Rattle.std.proofs.Math.Nat.{pow-succ', mul-lt-mul_of_pos_right}
+use Rattle.std.proofs.Common.{◌≡◌, ◌∙◌, ap, sym, subst, refl, ℕ, zero, suc, ◌+◌, ◌-◌, ◌*◌, ◌^◌, ◌<◌, ◌≤◌, inl, inr, Bool, cond, eqb, arith}
+use Rattle.std.proofs.Math.Nat.{pow-succ'}
 use Rattle.std.proofs.Math.Pow.{pow_mono}
 use Rattle.std.proofs.lemmas.Bool.{cases_eq, cases_lt, eq-eqb, ne_eqb, lt-ltb}
-use Rattle.std.proofs.lemmas.Nat.{pow-add, mul-le, pow_pos, leading_top}
+use Rattle.std.proofs.lemmas.Nat.{pow-add, mul-le, pow_pos}
 use Rattle.jk_model.specs.Decisions.{State, doubled_by}
 use Rattle.jk_mqenc.specs.Machine.{Machine, byte_out, Holds}
-use Rattle.jk_mqenc.specs.Coding.{shifted, shifted_by, twice, leapt, renorme}
+use Rattle.jk_mqenc.specs.Coding.{shifted, shifted_by, twice, renorme}
 use Rattle.jk_mqenc.proofs.Holdings.{IsHeld, twice-more}
-use Rattle.jk_mqenc.proofs.Finishing.{at_of, shifted_by-is, code-small}
+use Rattle.jk_mqenc.proofs.Finishing.{shifted_by-is, code-small}
 use Rattle.jk_mqenc.proofs.AtomicSteps.{Goes, twice-is, renorme-suc, below-half, leads-then, leads-shifts, leads-byte_out, byte_out-count, shifts-count}
 use Rattle.jk_mqenc.proofs.Renorming.{Comes, comes-first, comes-last}
 
--- ---- the code against the pure function
+-- k doublings, where k is at most CT, and BYTEOUT where it is CT
+pub leapt : ℕ → Machine → Machine
+leapt k m = cond (eqb (m.count - k) 0) (byte_out (shifted_by k m)) (shifted_by k m)
 
 shift-small : (m : Machine) (k : ℕ) → k ≤ m.count → IsHeld m → m.code * 2 ^ k < 4294967296
 shift-small m k h i =
     let p = mul-le m.code (2 ^ k) m.code (2 ^ m.count) (omega arith) (pow_mono h) in
     omega (arith, p, code-small m i)
-
-wrapped : (a : ℕ) → a < 4294967296 → a % 4294967296 ≡ a
-wrapped a h = omega arith
-
-leap-is : (m : Machine) (k : ℕ) → k ≤ m.count → m.width * 2 ^ k < 65536 → IsHeld m → at_of (m.code * 2 ^ k % 4294967296) (m.width * 2 ^ k % 4294967296) (m.count - k) m.placed ≡ shifted_by k m
-leap-is m k h w i =
-    ap (λ x. at_of x (m.width * 2 ^ k % 4294967296) (m.count - k) m.placed) (wrapped (m.code * 2 ^ k) (shift-small m k h i)) ∙ ap (λ x. at_of (m.code * 2 ^ k) x (m.count - k) m.placed) (wrapped (m.width * 2 ^ k) (omega (arith, w))) ∙ sym (shifted_by-is k m)
-
-pub leap-view : (code width count : ℕ) (bs : List ℕ) (now : Machine) (k : ℕ) → at_of code width count bs ≡ now → k ≤ now.count → now.width * 2 ^ k < 65536 → IsHeld now → at_of (code * 2 ^ k % 4294967296) (width * 2 ^ k % 4294967296) (count - k) bs ≡ shifted_by k now
-leap-view code width count bs now k v h w i =
-    ap (λ (m : Machine). at_of (m.code * 2 ^ k % 4294967296) (m.width * 2 ^ k % 4294967296) (m.count - k) m.placed) v ∙ leap-is now k h w i
 
 pub held-shifted_by : (m : Machine) (k : ℕ) → k ≤ m.count → m.width * 2 ^ k < 65536 → IsHeld m → IsHeld (shifted_by k m)
 held-shifted_by m k h w i = (doubled_by k i.0, (leads-shifts k m i.0 h w i.1).holds)
@@ -41,7 +31,7 @@ leapt-is k m = refl
 pub leapt-last : (k : ℕ) (m : Machine) → m.count - k ≡ 0 → leapt k m ≡ byte_out (shifted_by k m)
 leapt-last k m e = leapt-is k m ∙ ap (λ (t : Bool). cond t (byte_out (shifted_by k m)) (shifted_by k m)) (eq-eqb (m.count - k) 0 e)
 
-pub leapt-more : (k : ℕ) (m : Machine) → (m.count - k ≡ 0 → ⊥) → leapt k m ≡ shifted_by k m
+leapt-more : (k : ℕ) (m : Machine) → (m.count - k ≡ 0 → ⊥) → leapt k m ≡ shifted_by k m
 leapt-more k m n = leapt-is k m ∙ ap (λ (t : Bool). cond t (byte_out (shifted_by k m)) (shifted_by k m)) (ne_eqb (m.count - k) 0 n)
 
 -- ---- a leap is that many doublings
@@ -135,26 +125,6 @@ comes-leap now next first (suc k) o h w e c = comes-leap-suc now next first k h 
 pub fewer-shift : (w k n : ℕ) → k ≤ n → w * 2 ^ n < 65536 → w * 2 ^ k < 65536
 fewer-shift w k n h l = let p = mul-le w (2 ^ k) w (2 ^ n) (omega arith) (pow_mono h) in omega (arith, p, l)
 
--- the same of any width
-pub zeros-all : (w : ℕ) → 1 ≤ w → w < 65536 → (16 ≤ count_leading_zeros 32 w) × (w * 2 ^ (count_leading_zeros 32 w - 16) < 65536) × (32768 ≤ w * 2 ^ (count_leading_zeros 32 w - 16))
-zeros-all w some small =
-    let t = leading_top 32 w some (omega (arith, small)) in
-    let n = count_leading_zeros 32 w in
-    let j = t.0 in
-    let all : n + suc j ≡ 32 = t.1 in
-    let low : j ≤ 15 = elim (cases_lt 15 j) [
-      | inl more ↦ (let p : 2 ^ 16 ≤ 2 ^ j = pow_mono more in
-          let least = t.2 in
-          absurd (omega (arith, p, least, small)))
-      | inr few ↦ few
-    ] in
-    let below : w * 2 ^ (n - 16) < 2 ^ suc j * 2 ^ (n - 16) = mul-lt-mul_of_pos_right t.3 (pow_pos (n - 16)) in
-    let sum : suc j + (n - 16) ≡ 16 = omega (arith, all, low) in
-    let top : 2 ^ suc j * 2 ^ (n - 16) ≡ 2 ^ 16 = sym (pow-add 2 (suc j) (n - 16)) ∙ ap (λ k. 2 ^ k) sum in
-    let least : 2 ^ j * 2 ^ (n - 16) ≤ w * 2 ^ (n - 16) = mul-le (2 ^ j) (2 ^ (n - 16)) w (2 ^ (n - 16)) t.2 (omega arith) in
-    let half : 2 ^ j * 2 ^ (n - 16) ≡ 2 ^ 15 = sym (pow-add 2 j (n - 16)) ∙ ap (λ k. 2 ^ k) (let e : j + (n - 16) ≡ 15 = omega (arith, all, low) in e) in
-    (omega (arith, all, low), omega (arith, below, top), omega (arith, least, half))
-
 -- All doublings at once, where no byte goes out.
 pub leap-all : (now next : Machine) (k : ℕ) → k < now.count → now.width * 2 ^ k < 65536 → 32768 ≤ now.width * 2 ^ k → IsHeld now → next ≡ shifted_by k now → next ≡ renorme 15 now
 leap-all now next zero h w l i e = e ∙ comes-last now now (omega (arith, l)) (comes-first now (omega (arith, h)) i)
@@ -170,34 +140,3 @@ leap-rest now next first (suc k) h w l e c =
     let same : next ≡ leapt (suc k) now = e ∙ sym (leapt-more (suc k) now (λ z. omega (arith, h, z))) in
     let width : next.width ≡ now.width * 2 ^ suc k = ap (λ (m : Machine). m.width) (e ∙ shifted_by-is (suc k) now) in
     comes-last next first (omega (arith, width, l)) (comes-leap now next first (suc k) (omega arith) (omega (arith, h)) w same c)
-
--- So many doublings are due, CT of them at least: a byte goes out.
-pub record Through (now first : Machine) (due : ℕ) : Type 0 where
-  pub comes : Comes now first
-  pub many : now.count ≤ due
-  pub fits : now.width * 2 ^ due < 65536
-  pub wide : 32768 ≤ now.width * 2 ^ due
-
--- behind it fewer are due
-pub record Passed (now next first : Machine) (due : ℕ) : Type 0 where
-  pub comes : Comes next first
-  pub fits : next.width * 2 ^ (due - now.count) < 65536
-  pub wide : 32768 ≤ next.width * 2 ^ (due - now.count)
-
-pub through-next : (now next first : Machine) (k due : ℕ) → k ≡ now.count → next ≡ leapt k now → Through now first due → Passed now next first due
-through-next now next first k due e l t =
-    let count = t.comes.count in
-    let many = t.many in
-    let some : 1 ≤ k = omega (arith, e, count) in
-    let most : k ≤ now.count = omega (arith, e) in
-    let fits : now.width * 2 ^ k < 65536 = fewer-shift now.width k due (omega (arith, e, many)) t.fits in
-    let width = ap (λ (m : Machine). m.width) l ∙ leapt-width k now t.comes.at most fits t.comes.holds in
-    let left = due - now.count in
-    let split : due ≡ k + left = omega (arith, e, many) in
-    let same : next.width * 2 ^ left ≡ now.width * 2 ^ due =
-    ap (λ w. w * 2 ^ left) width ∙ sym (ap (λ x. now.width * x) (ap (λ i. 2 ^ i) split ∙ pow-add 2 k left) ∙ grind arith) in
-    record {
-      comes = comes-leap now next first k some most fits l t.comes;
-      fits = subst (λ x. x < 65536) (sym same) t.fits;
-      wide = subst (λ x. 32768 ≤ x) (sym same) t.wide;
-    }

@@ -1,5 +1,6 @@
 pub mod ByteOut
 pub mod Deferring
+pub mod Behind
 pub mod Settling
 pub mod Machine
 pub mod Since
@@ -19,4 +20,5 @@ pub mod Encoding
 pub mod Finals
 pub mod Unmarked
 pub mod Leaping
+pub mod Passing
 pub mod Laws

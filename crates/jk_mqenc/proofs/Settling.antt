@@ -1,9 +1,6 @@
 -- A subinterval, renormalised: its doublings put off, or made.
-use Rattle.std.proofs.Common.{◌≡◌, ◌∙◌, ap, sym, subst, ℕ, suc, ◌+◌, ◌-◌, ◌*◌, ◌^◌, ◌<◌, ◌≤◌, inl, inr, Bool, true, false, cond, eqb, refl, arith}
-use Rattle.std.proofs.Math.Nat.{pow-succ'}
+use Rattle.std.proofs.Common.{◌≡◌, ◌∙◌, ap, sym, subst, ℕ, ◌+◌, ◌-◌, ◌*◌, ◌^◌, ◌<◌, ◌≤◌, Bool, true, false, cond, eqb, refl, arith}
 use Rattle.std.proofs.Math.Pow.{pow_mono}
-use Rattle.std.proofs.lemmas.Bool.{cases_lt}
-use Rattle.std.proofs.lemmas.Nat.{mul-le}
 use Rattle.jk_mqenc.specs.declared.registers.Registers.{Registers}
 use Rattle.jk_mqenc.specs.Machine.{Machine}
 use Rattle.jk_mqenc.specs.Coding.{renorme, subinterval}
@@ -29,16 +26,6 @@ doubled-once m old new held d =
     ∙ ap (λ x. at_of (p.code * 2 ^ k) x new.count m.placed) d.width
     ∙ ap (λ x. at_of (p.code * 2 ^ k) (p.width * 2 ^ k) x m.placed) (let e : new.count ≡ p.count - k = omega (arith, count) in e) in
     leap-all p (with_registers m new) k d.before d.fits d.wide held (same ∙ sym (shifted_by-is k p))
-
--- CT doublings at least
-pub many-due : (w n t : ℕ) → w * 2 ^ n < 2 ^ 16 → 2 ^ 15 ≤ w * 2 ^ t → n ≤ t
-many-due w n t small wide = elim (cases_lt t n) [
-  | inl less ↦
-      let grows = mul-le w (2 ^ suc t) w (2 ^ n) (omega arith) (pow_mono (let h : suc t ≤ n = omega (arith, less) in h)) in
-      let twice : w * 2 ^ suc t ≡ 2 * (w * 2 ^ t) = ap (λ x. w * x) (pow-succ' 2 t) ∙ grind arith in
-      absurd (omega (arith, grows, twice, small, wide))
-  | inr more ↦ more
-]
 
 -- the subinterval of a decision
 pub taken-is : (m : Machine) (old taken : Registers) (q : ℕ) (lower : Bool) → taken.code ≡ old.code + cond lower 0 q → taken.width ≡ cond lower q (old.width - q) → taken.count ≡ old.count → with_registers m taken ≡ subinterval (with_registers m old) q lower

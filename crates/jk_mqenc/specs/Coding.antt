@@ -30,10 +30,6 @@ abbrev pub shifted_by : ℕ → Machine → Machine
 shifted_by zero m = m
 shifted_by (suc k) m = shifted_by k (shifted m)
 
--- k doublings, where k is at most CT, and BYTEOUT where it is CT
-unfoldable pub leapt : ℕ → Machine → Machine
-leapt k m = if m.count - k == 0 then byte_out (shifted_by k m) else shifted_by k m
-
 -- C <<= CT, BYTEOUT
 unfoldable pub pushed_out : Machine → Machine
 pushed_out m = byte_out (shifted_by m.count (record m { width = 1 }))

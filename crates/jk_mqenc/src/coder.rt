@@ -7,9 +7,9 @@ ghost use Rattle.jk_mqenc.specs.Machine.{Machine, Holds, byte_out, placed_after}
 ghost use Rattle.jk_mqenc.specs.Holding.{before};
 ghost use Rattle.jk_model.specs.Placed.{onto};
 ghost use Rattle.jk_mqenc.specs.Encoded.{started, without_last_ff, with_registers};
-ghost use Rattle.jk_mqenc.specs.Coding.{shifted_by, leapt, renorme, set_bits, pushed_out, flushed};
+ghost use Rattle.jk_mqenc.specs.Coding.{renorme, set_bits, pushed_out, flushed};
 
-use crate::registers::{DeferredRegisters, Registers, Subinterval, doublings};
+use crate::registers::{DeferredRegisters, Registers, Subinterval};
 use jk_math::Refused;
 use std::alloc::Global;
 use std::marker::Model;
@@ -133,6 +133,23 @@ impl Coder {
         }
     }
 
+    /// BYTEOUT (T.800 C.2.7) of this C. The registers that are kept here stay as they are.
+    #[inline(always)]
+    fn put(&mut self, code: u32) -> Result<Placement, Refused>
+        requires room { code < 150994944 }
+        requires first { self.old.placed ≡ [] → code < 2 ^ 27 }
+        ensures rest { IfOk result (λ _. self.new ≡ record self.old { placed = self.new.placed }) }
+        ensures placed { IfOk result (λ p. (w : ℕ) → placed_after self.old.placed code w
+            ≡ record { code = p.code; width = w; count = p.count; placed = self.new.placed }) }
+    {
+        let placement = placing(self.held, code);
+        if let Some(byte) = placement.out {
+            self.out.push(byte)?;
+        }
+        self.held = Some(placement.byte);
+        Ok(placement)
+    }
+
     /// BYTEOUT (T.800 C.2.7).
     #[inline(always)]
     fn place(&mut self) -> Result<(), Refused>
@@ -140,66 +157,10 @@ impl Coder {
         requires first { self.old.placed ≡ [] → self.old.code < 2 ^ 27 }
         ensures done { IfOk result (λ _. self.new ≡ byte_out self.old) }
     {
-        let placement = placing(self.held, self.code);
-        if let Some(byte) = placement.out {
-            self.out.push(byte)?;
-        }
-        self.held = Some(placement.byte);
+        let placement = self.put(self.code)?;
         self.code = placement.code;
         self.count = placement.count;
         Ok(())
-    }
-
-    /// So many doublings at once, at most CT, and BYTEOUT where they are CT.
-    #[inline(always)]
-    fn double(&mut self, times: u32) -> Result<(), Refused>
-        requires count { times ≤ self.old.count }
-        requires width { self.old.width * 2 ^ times < 2 ^ 16 }
-        requires holds { (s : State) × Holds self.old s }
-        ensures done { IfOk result (λ _. self.new ≡ leapt times self.old) }
-    {
-        self.code <<= times;
-        self.width <<= times;
-        self.count -= times;
-        if self.count == 0 {
-            self.place()?;
-        }
-        Ok(())
-    }
-
-    /// So many doublings at once, fewer than CT.
-    #[inline(always)]
-    fn shift(&mut self, times: u32)
-        requires count { times < self.old.count }
-        requires width { self.old.width * 2 ^ times < 2 ^ 16 }
-        requires holds { (s : State) × Holds self.old s }
-        ensures done { self.new ≡ shifted_by times self.old }
-    {
-        self.code <<= times;
-        self.width <<= times;
-        self.count -= times;
-    }
-
-    /// RENORME by so many doublings, CT of them at least: bytes go out.
-    #[inline(always)]
-    fn renormalise_through(&mut self, times: u32) -> Result<(), Refused>
-        requires count { 1 ≤ self.old.count }
-        requires many { self.old.count ≤ times }
-        requires fits { self.old.width * 2 ^ times < 2 ^ 16 }
-        requires wide { 2 ^ 15 ≤ self.old.width * 2 ^ times }
-        requires holds { (s : State) × Holds self.old s }
-        ensures done { IfOk result (λ _. self.new ≡ renorme 15 self.old) }
-    {
-        let mut due = times;
-        loop {
-            let count = self.count;
-            self.double(count)?;
-            due -= count;
-            if due < self.count {
-                self.shift(due);
-                return Ok(());
-            }
-        }
     }
 
     /// The registers.
@@ -224,19 +185,23 @@ impl Coder {
         self.count = registers.count;
     }
 
-    /// RENORME of these registers by so many doublings, CT of them at least.
+    /// RENORME of a subinterval of which a byte is due. C and CT don't go through those that are kept
+    /// here.
     #[inline(always)]
-    fn through(&mut self, registers: Registers, times: u32) -> Result<Registers, Refused>
-        requires count { 1 ≤ registers.count }
-        requires many { registers.count ≤ times }
-        requires fits { registers.width * 2 ^ times < 2 ^ 16 }
-        requires wide { 2 ^ 15 ≤ registers.width * 2 ^ times }
-        requires holds { (s : State) × Holds (with_registers self.old registers) s }
-        ensures done { IfOk result (λ r. with_registers self.new r ≡ renorme 15 (with_registers self.old registers)) }
+    fn through(&mut self, taken: Subinterval) -> Result<DeferredRegisters, Refused>
+        requires count { 1 ≤ taken.count }
+        requires due { taken.width * 2 ^ taken.count < 2 ^ 16 }
+        requires holds { (s : State) × Holds (with_registers self.old taken) s }
+        ensures done { IfOk result (λ r. with_registers self.new r
+            ≡ renorme 15 (with_registers self.old taken)) }
     {
-        self.restore(registers);
-        self.renormalise_through(times)?;
-        Ok(self.registers())
+        let mut due = taken.doublings_behind_byte();
+        let mut placed = self.put(taken.code_at_byte())?;
+        while due >= placed.count {
+            due -= placed.count;
+            placed = self.put(placed.code << placed.count)?;
+        }
+        Ok(taken.renormalised(placed.code << due, placed.count - due))
     }
 
     /// A subinterval, renormalised (RENORME, T.800 C.2.6). These are the registers over the bytes,
@@ -251,10 +216,7 @@ impl Coder {
         if let Some(registers) = taken.deferred() {
             return Ok(registers);
         }
-        let narrow = taken.registers();
-        let times = doublings(narrow.width);
-        let ready = self.through(narrow, times)?;
-        Ok(DeferredRegisters::new(ready))
+        self.through(taken)
     }
 
     /// `C <<= CT`, and BYTEOUT.

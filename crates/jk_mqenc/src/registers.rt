@@ -1,8 +1,8 @@
 //! The registers of the encoder: as T.800 has them, and with their doublings put off until a byte
 //! is due. No branch hangs on a decision: half of them can't be foreseen.
 
-ghost use Rattle.std.specs.Prelude.{◌≡◌, ◌+◌, ◌-◌, ◌*◌, ◌^◌, ◌<◌, ◌≤◌, true, not, nat_lt, if◌then◌else◌, IfSome};
-ghost use Rattle.std.specs.Prelude.{IsNone};
+ghost use Rattle.std.specs.Prelude.{◌≡◌, ℕ, ◌+◌, ◌-◌, ◌*◌, ◌/◌, ◌^◌, ◌<◌, ◌≤◌, true, not, nat_lt, if◌then◌else◌};
+ghost use Rattle.std.specs.Prelude.{IfSome, IsNone};
 ghost use Rattle.std.specs.Bool.{beq};
 ghost use Rattle.jk_model.specs.Contexts.{row_of};
 ghost use Rattle.jk_mqenc.specs.Deferred.{IsDoubled};
@@ -67,21 +67,29 @@ impl Model for Subinterval {
     ghost invariant = { λ r. IsTaken (r.top - 15) r.code r.width r.count r.least };
 }
 
-/// How many doublings bring a width to 2^15.
-#[inline(always)]
-pub fn doublings(width: u32) -> u32
-    requires some { 1 ≤ width }
-    requires small { width < 2 ^ 16 }
-    ensures fits { width * 2 ^ result < 2 ^ 16 }
-    ensures wide { 2 ^ 15 ≤ width * 2 ^ result }
-{
-    width.leading_zeros() - 16
-}
-
 /// What the width of a whole interval stays below.
 const LIMIT: u64 = 0x10_0000_0000_0000;
 
 impl DeferredRegisters {
+    /// Registers of which no doubling is put off, the width at the scale of those that put them off.
+    #[inline(always)]
+    fn begun(code: u32, width: u64, count: u32) -> DeferredRegisters
+        requires code { code < 2 ^ 28 }
+        requires whole { width ≡ width / 2 ^ 36 * 2 ^ 36 }
+        requires wide { 2 ^ 51 ≤ width }
+        requires fits { width < 2 ^ 52 }
+        requires some { 1 ≤ count }
+        requires few { count ≤ 12 }
+        ensures { result ≡ record { code = code; width = width / 2 ^ 36; count = count } }
+    {
+        DeferredRegisters {
+            code: (code as u64) << 36,
+            width,
+            count,
+            least: LIMIT >> count,
+        }
+    }
+
     /// Registers of which no doubling is put off.
     #[inline(always)]
     pub fn new(registers: Registers) -> DeferredRegisters
@@ -92,12 +100,11 @@ impl DeferredRegisters {
         requires few { registers.count ≤ 12 }
         ensures { result ≡ registers }
     {
-        DeferredRegisters {
-            code: (registers.code as u64) << 36,
-            width: (registers.width as u64) << 36,
-            count: registers.count,
-            least: LIMIT >> registers.count,
-        }
+        DeferredRegisters::begun(
+            registers.code,
+            (registers.width as u64) << 36,
+            registers.count,
+        )
     }
 
     /// The registers after the doublings that are put off.
@@ -171,17 +178,34 @@ impl Subinterval {
         })
     }
 
-    /// The registers of the subinterval.
+    /// C where the next byte goes out: after CT doublings.
     #[inline(always)]
-    pub fn registers(self) -> Registers
-        requires { self.code < 2 ^ 32 }
-        ensures { result ≡ self }
+    pub fn code_at_byte(&self) -> u32
+        requires { self.now.code * 2 ^ self.now.count < 2 ^ 32 }
+        ensures { result ≡ self.now.code * 2 ^ self.now.count }
     {
-        let scale = self.top - 15;
-        Registers {
-            code: (self.code >> scale) as u32,
-            width: (self.width >> scale) as u32,
-            count: self.count + scale - 36,
-        }
+        (self.code >> (36 - self.count)) as u32
+    }
+
+    /// How many doublings are due behind the next byte, if it is due.
+    #[inline(always)]
+    pub fn doublings_behind_byte(&self) -> u32
+        requires { self.now.width * 2 ^ self.now.count < 2 ^ 16 }
+        ensures fits { self.now.width * 2 ^ (self.now.count + result) < 2 ^ 16 }
+        ensures wide { 2 ^ 15 ≤ self.now.width * 2 ^ (self.now.count + result) }
+    {
+        self.width.leading_zeros() - 12 - self.count
+    }
+
+    /// The registers after all doublings that are due, with what C and CT are then.
+    #[inline(always)]
+    pub fn renormalised(self, code: u32, count: u32) -> DeferredRegisters
+        requires code { code < 2 ^ 28 }
+        requires some { 1 ≤ count }
+        requires few { count ≤ 12 }
+        ensures { (times : ℕ) → self.width * 2 ^ times < 2 ^ 16 → 2 ^ 15 ≤ self.width * 2 ^ times
+            → result ≡ record { code = code; width = self.width * 2 ^ times; count = count } }
+    {
+        DeferredRegisters::begun(code, self.width << (self.width.leading_zeros() - 12), count)
     }
 }

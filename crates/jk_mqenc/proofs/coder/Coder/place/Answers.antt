@@ -1,21 +1,19 @@
-use Rattle.std.proofs.Common.{◌∙◌, ap, reverse}
-use Rattle.jk_mqenc.specs.declared.coder.Coder.TheInside.{Inside}
-use Rattle.jk_mqenc.proofs.Placements.{made_of}
-use Rattle.jk_mqenc.proofs.Holdings.{pushed-items, kept-items, none-begun, placed-more}
+use Rattle.std.proofs.Common.{◌∙◌, ap, sym}
+use Rattle.jk_mqenc.specs.Machine.{Machine, placed_after}
+use Rattle.jk_mqenc.proofs.Holdings.{byte_out-is}
+use Rattle.jk_mqenc.proofs.Finishing.{at_of}
 use Rattle.jk_mqenc.proofs.coder.Coder.place.Goals as goal
-use Rattle.jk_mqenc.proofs.coder.Coder.place.Goals.{in-Some+in_ok-push, in_default}
 
 pub returns : goal.returns
 returns c = record {
   done =
-      let old = c.self.inside in
-      let new = c.match-placement.self-inside in
-      let p = c.placing-placement.result in
-      let e = c.placing-placement.ensures in
-      elim c.match-placement.branch [
-        | in-Some+in_ok-push w ↦
-            ap (λ x. made_of p.byte p.code p.count (reverse new.out.items) x) (ap (λ (i : Inside). i.width) w.self-inside-is) ∙ placed-more old.out.items new.out.items old.held p.out old.code old.width old.count p.byte p.code p.count c.args.self.now c.self.view_is e.placed (pushed-items old.out.items new.out.items p.out w.in-Some.byte w.in-Some.is (ap (λ (i : Inside). i.out.items) w.self-inside-is ∙ w.in_ok-push.ensures.items))
-        | in_default w ↦
-            ap (λ x. made_of p.byte p.code p.count (reverse new.out.items) x) (ap (λ (i : Inside). i.width) w.self-inside-is) ∙ placed-more old.out.items new.out.items old.held p.out old.code old.width old.count p.byte p.code p.count c.args.self.now c.self.view_is e.placed (kept-items old.out.items new.out.items p.out w.in_default.is (ap (λ (i : Inside). i.out.items) w.self-inside-is) (none-begun old.out.items old.held (e.kept w.in_default.is) c.self.invariant))
-      ];
+      let old = c.args.self.now in
+      let new = c.put-2.new.self in
+      let p = c.in_ok-placement.placement in
+      let e = c.in_ok-placement.ensures in
+      ap (λ (m : Machine). at_of p.code m.width p.count m.placed) c.self.view_is
+      ∙ ap (λ x. at_of p.code x p.count new.placed) (ap (λ (m : Machine). m.width) e.rest)
+      ∙ sym (e.placed old.width)
+      ∙ ap (λ (m : Machine). placed_after old.placed m.code old.width) c.put.view_is
+      ∙ sym (byte_out-is old);
 }
