@@ -4,8 +4,8 @@
 ghost use Rattle.std.specs.Prelude.{◌≡◌, ℕ, ◌*◌, ◌^◌, ◌<◌, ◌≤◌, length, List, IfSome, MatchOption};
 ghost use Rattle.jk_model.specs.Decisions.{State, renormalised};
 ghost use Rattle.jk_mqdec.specs.Registers.{IsOutside};
-ghost use Rattle.jk_mqdec.specs.Wide.{HoldsWide};
-ghost use Rattle.jk_mqdec.specs.Deferred.{doubled_wide, caught_up, IsDeferred};
+ghost use Rattle.jk_mqdec.specs.Wide.{HoldsWide, HasLeftWide};
+ghost use Rattle.jk_mqdec.specs.Deferred.{doubled_wide, caught_up, IsDeferred, IsSteadyDeferred};
 
 use crate::wide::{WideRegisters, refilled, shifted};
 
@@ -35,6 +35,23 @@ pub fn deferred(registers: WideRegisters) -> DeferredRegisters
     DeferredRegisters {
         registers,
         least: HALF >> registers.count,
+    }
+}
+
+/// Registers whose code value has left the interval, as that of a segment may at its start.
+#[inline(always)]
+pub fn left() -> DeferredRegisters
+    ensures steady { (bytes : List ℕ) → IsSteadyDeferred bytes result }
+    ensures left { HasLeftWide (caught_up result.registers) }
+{
+    DeferredRegisters {
+        registers: WideRegisters {
+            code: u64::MAX,
+            width: HALF,
+            count: 0,
+            place: 0,
+        },
+        least: HALF,
     }
 }
 

@@ -1,14 +1,15 @@
 //! A decoder that is used up to its first fault: the contexts lie with the caller, and whether the
 //! code value has left the interval is asked only where a byte is due.
 
-ghost use Rattle.std.specs.Prelude.{◌≡◌, ◌<◌, OnOk};
+ghost use Rattle.std.specs.Prelude.{◌≡◌, ◌<◌, Err, OnOk, OnErr};
+ghost use Rattle.jk_math.specs.declared.fault.Fault.TheVariants.{CodeOutOfInterval};
 ghost use Rattle.jk_model.specs.Contexts.{first_contexts as start};
 ghost use Rattle.jk_model.specs.Decisions.{State, initial};
 ghost use Rattle.jk_model.specs.CodingPasses.{restarted};
-ghost use Rattle.jk_mqdec.specs.Standing.{View, Stands};
+ghost use Rattle.jk_mqdec.specs.Standing.{View, Stands, HasFailed};
 ghost use Rattle.jk_mqdec.specs.Answers.{answer, next};
 
-use crate::deferred::{DeferredRegisters, caught_up, deferred};
+use crate::deferred::{DeferredRegisters, caught_up, deferred, left};
 use crate::wide::{Subinterval, begun, divided};
 use jk_math::Fault;
 use jk_model::{Step, first_steps, highest_bit};
@@ -52,11 +53,13 @@ impl<'a> PassDecoder<'a> {
         }
     }
 
-    /// The contexts take their first states again (T.800 Table D.7). The interval goes on.
+    /// The contexts take their first states again (T.800 Table D.7). The interval goes on, and a
+    /// decoder that has failed stays so.
     #[inline(always)]
     pub fn reset(&mut self)
         ensures bytes { self.new.bytes ≡ self.old.bytes }
         ensures stands { (s : State) → Stands self.old s → Stands self.new (restarted s) }
+        ensures stays { HasFailed self.old → HasFailed self.new }
     {
         *self.contexts = first_steps();
     }
@@ -69,6 +72,10 @@ impl<'a> PassDecoder<'a> {
         ensures bytes { self.new.bytes ≡ self.old.bytes }
         ensures answer { (s : State) → Stands self.old s → result ≡ answer self.old.bytes s cx }
         ensures next { OnOk result ((s : State) → Stands self.old s → Stands self.new (next self.old.bytes s cx)) }
+
+        // A decoder that has failed answers the same again.
+        ensures failed { OnErr result (HasFailed self.new) }
+        ensures stays { HasFailed self.old → (result ≡ Err CodeOutOfInterval) × HasFailed self.new }
     {
         let now = self.registers.registers;
         let top = highest_bit(now.width);
@@ -91,7 +98,10 @@ impl<'a> PassDecoder<'a> {
                 self.registers = registers;
                 Ok(bit)
             }
-            None => Err(Fault::CodeOutOfInterval),
+            None => {
+                self.registers = left();
+                Err(Fault::CodeOutOfInterval)
+            }
         }
     }
 }

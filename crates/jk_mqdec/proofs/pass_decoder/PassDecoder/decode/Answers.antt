@@ -18,7 +18,6 @@ use Rattle.jk_mqdec.proofs.Deciding.{Decides, Settles, decides-settled, divides,
 use Rattle.jk_mqdec.proofs.Staying.{whole-inside, subinterval-inside}
 use Rattle.jk_mqdec.proofs.Deferring.{behind, rises, rests, none-due, wide-settled, as-taken, stays-inside, ready-wide, less-back, lower-doubled, upper-doubled, symbol-doubled, size-doubled, taken-of, taken-fits, taken-wide, digit-small, digit-doubled}
 use Rattle.jk_mqdec.proofs.pass_decoder.PassDecoder.decode.Goals as goal
-use Rattle.jk_mqdec.proofs.pass_decoder.PassDecoder.decode.Goals.{In-None}
 
 pub highest_bit-top-requires : goal.highest_bit-top-requires
 highest_bit-top-requires c =
@@ -89,7 +88,7 @@ caught_up-requires-clause-fits c =
 -- no byte is due
 pub returns-then-registers-self : goal.returns-then-registers-self
 returns-then-registers-self c =
-    let d : Decides c.args.self.now (record { bytes = c.self.inside.bytes.now; registers = caught_up (record c.self.inside.registers.registers { code = c.divided-less.result.registers.code; width = c.divided-less.result.registers.width }); contexts = set c.self.inside.contexts.now c.args.cx c.followed.result }) c.args.cx (Ok (not (beq c.mps.result c.divided-less.result.less))) =
+    let d : Decides c.args.self.now (record { bytes = c.self.inside.bytes.now; registers = caught_up (record c.self.inside.registers.registers { code = c.divided-less.result.registers.code; width = c.divided-less.result.registers.width }); contexts = set c.self.inside.contexts.now c.args.cx c.followed.result }) c.args.cx (Ok (not (beq c.mps.result c.divided-less.result.less))) × (c.args.self.now.registers.code < c.args.self.now.registers.width) =
     let old = c.args.self.now in
     let s = c.self.inside in
     let r = s.registers.registers in
@@ -139,13 +138,20 @@ returns-then-registers-self c =
     (subst (λ (x : WideRegisters). x.code < q * 2 ^ n → doubled_wide n subinterval ≡ record x { width = q * 2 ^ n }) registers low)
     (subst (λ (x : WideRegisters). q * 2 ^ n ≤ x.code → doubled_wide n subinterval ≡ record x { code = x.code - q * 2 ^ n; width = x.width - q * 2 ^ n }) registers high)
     (subst (λ (x : WideRegisters). less ≡ not (beq (ltb x.code (q * 2 ^ n)) (ltb (x.width - q * 2 ^ n) (q * 2 ^ n)))) registers (symbol-doubled n q r less c.divided-less.ensures.less)) in
-    decides-settled old new (doubled_wide n subinterval) c.args.cx context less result settles divide in
-    record { bytes = ap (λ (v : View). v.bytes) c.self.view_is; answer = d.answers; next = d.goes_on }
+    (decides-settled old new (doubled_wide n subinterval) c.args.cx context less result settles divide, inside) in
+    let inside = d.1 in
+    record {
+      bytes = ap (λ (v : View). v.bytes) c.self.view_is;
+      answer = d.0.answers;
+      next = d.0.goes_on;
+      failed = tt;
+      stays = λ left. absurd (omega (arith, inside, left));
+    }
 
 -- the decision is settled
 pub returns-in-Some : goal.returns-in-Some
 returns-in-Some c =
-    let d : Decides c.args.self.now (record { bytes = c.self.inside.bytes.now; registers = caught_up c.in-Some.registers.registers; contexts = set c.self.inside.contexts.now c.args.cx c.followed.result }) c.args.cx (Ok (not (beq c.mps.result c.divided-less.result.less))) =
+    let d : Decides c.args.self.now (record { bytes = c.self.inside.bytes.now; registers = caught_up c.in-Some.registers.registers; contexts = set c.self.inside.contexts.now c.args.cx c.followed.result }) c.args.cx (Ok (not (beq c.mps.result c.divided-less.result.less))) × (c.args.self.now.registers.code < c.args.self.now.registers.width) =
     let old = c.args.self.now in
     let s = c.self.inside in
     let r = s.registers.registers in
@@ -186,59 +192,66 @@ returns-in-Some c =
     (subst (λ (x : WideRegisters). x.code < q * 2 ^ n → doubled_wide n subinterval ≡ record x { width = q * 2 ^ n }) registers low)
     (subst (λ (x : WideRegisters). q * 2 ^ n ≤ x.code → doubled_wide n subinterval ≡ record x { code = x.code - q * 2 ^ n; width = x.width - q * 2 ^ n }) registers high)
     (subst (λ (x : WideRegisters). less ≡ not (beq (ltb x.code (q * 2 ^ n)) (ltb (x.width - q * 2 ^ n) (q * 2 ^ n)))) registers (symbol-doubled n q r less c.divided-less.ensures.less)) in
-    decides-settled old new (doubled_wide n subinterval) c.args.cx context less result settles divide in
-    record { bytes = ap (λ (v : View). v.bytes) c.self.view_is; answer = d.answers; next = d.goes_on }
+    (decides-settled old new (doubled_wide n subinterval) c.args.cx context less result settles divide, inside) in
+    let inside = d.1 in
+    record {
+      bytes = ap (λ (v : View). v.bytes) c.self.view_is;
+      answer = d.0.answers;
+      next = d.0.goes_on;
+      failed = tt;
+      stays = λ left. absurd (omega (arith, inside, left));
+    }
 
 -- the code value leaves the interval, or has left it before
-none : (c : In-None) → c.args.self.now.registers.code < c.args.self.now.registers.width → Decides c.args.self.now (record { bytes = c.self.inside.bytes.now; registers = record (doubled_wide 0 c.divided-less.result.registers) { width = 0 }; contexts = set c.self.inside.contexts.now c.args.cx c.followed.result }) c.args.cx
-    (Err CodeOutOfInterval)
-none c inside =
-    let old = c.args.self.now in
-    let s = c.self.inside in
-    let r = s.registers.registers in
-    let n = count_leading_zeros 64 r.width in
-    let q = c.scaled.result in
-    let subinterval = c.divided-less.result.registers in
-    let less = c.divided-less.result.less in
-    let context = get_or s.contexts.now c.args.cx c.index-contexts-cx.result in
-    let i = behind s.bytes.now s.registers (omega arith) c.self.invariant.bounds in
-    let bytes : s.bytes.now ≡ old.bytes = ap (λ (v : View). v.bytes) c.self.view_is in
-    let registers : doubled_wide n r ≡ old.registers = ap (λ (v : View). v.registers) c.self.view_is in
-    let here : c.args.cx < length s.contexts.now = omega arith in
-    let top_is : c.highest_bit-top.result ≡ 63 - n = (let place = c.highest_bit-top.ensures in omega (arith, place)) in
-    let before_is : 63 - c.highest_bit-top.result ≡ n = (let place = c.highest_bit-top.ensures in omega (arith, place)) in
-    let moves : eqb (subinterval.width / 2 ^ c.highest_bit-top.result) 0 ≡ ltb (subinterval.width * 2 ^ n) (2 ^ 63) = ap (λ t. eqb (subinterval.width / 2 ^ t) 0) top_is ∙ digit-doubled subinterval.width n i.rise.few in
-    let contexts : set s.contexts.now c.args.cx c.followed.result ≡ set old.contexts c.args.cx (cond (ltb (subinterval.width * 2 ^ n) (2 ^ 63)) (moved context (cond less (not context.mps) context.mps)) context) =
-    ap (λ (x : Context). set s.contexts.now c.args.cx x) (c.followed.ensures ∙ ap (λ (t : Bool). cond t (moved context (cond less (not context.mps) context.mps)) context) moves)
-    ∙ ap (λ (v : View). set v.contexts c.args.cx (cond (ltb (subinterval.width * 2 ^ n) (2 ^ 63)) (moved context (cond less (not context.mps) context.mps)) context)) c.self.view_is in
-    let new : View = record { bytes = s.bytes.now; registers = record (doubled_wide 0 subinterval) { width = 0 }; contexts = set s.contexts.now c.args.cx c.followed.result } in
-    let result : Result Bool Fault = Err CodeOutOfInterval in
-    let low = lower-doubled n q r subinterval c.divided-less.ensures.lower in
-    let high = upper-doubled n q r subinterval c.divided-less.ensures.upper in
-    let whole : r.code < r.width = less-back r.code r.width n (subst (λ (x : WideRegisters). x.code < x.width) (sym registers) inside) in
-    let settles : Settles old new (doubled_wide n subinterval) c.args.cx context less result = record {
-      bytes = bytes;
-      contexts = contexts;
-      bit_is = tt;
-      fault = refl;
-      ready = tt;
-      left = omega arith;
-      holds = λ t. subst (λ b. HoldsWide b (doubled_wide n subinterval) t → IsOutside b (renormalised 15 t)) bytes
-          (subst (λ k. HoldsWide s.bytes.now (doubled_wide k subinterval) t → IsOutside s.bytes.now (renormalised 15 t)) before_is (c.in-None.ensures.holds t (subinterval-inside r subinterval q c.divided-less.ensures.lower c.divided-less.ensures.upper whole)));
-    } in
-    let divide = divides old (doubled_wide n subinterval) c.args.cx context (q * 2 ^ n) less
-    inside
-    (get_or_default s.contexts.now c.args.cx c.index-contexts-cx.result (begins 0) here ∙ ap (λ (v : View). get_or v.contexts c.args.cx (begins 0)) c.self.view_is)
-    (ap (λ k. k * 2 ^ n) (c.scaled.ensures.value ∙ ap (λ t. (row_of context.state).qe * 2 ^ (t - 15)) top_is) ∙ size-doubled (row_of context.state).qe n i.small)
-    (subst (λ (x : WideRegisters). x.code < q * 2 ^ n → doubled_wide n subinterval ≡ record x { width = q * 2 ^ n }) registers low)
-    (subst (λ (x : WideRegisters). q * 2 ^ n ≤ x.code → doubled_wide n subinterval ≡ record x { code = x.code - q * 2 ^ n; width = x.width - q * 2 ^ n }) registers high)
-    (subst (λ (x : WideRegisters). less ≡ not (beq (ltb x.code (q * 2 ^ n)) (ltb (x.width - q * 2 ^ n) (q * 2 ^ n)))) registers (symbol-doubled n q r less c.divided-less.ensures.less)) in
-    decides-settled old new (doubled_wide n subinterval) c.args.cx context less result settles divide
-
 pub returns-in-None-clause-answer : goal.returns-in-None-clause-answer
 returns-in-None-clause-answer c s st =
-    let old = c.args.self.now in
-    elim (cases_lt old.registers.code old.registers.width) [
-      | inl inside ↦ (none c inside).answers s st
-      | inr left ↦ sym (answer-failed old.bytes s c.args.cx (is-outside old s left st))
+    let first = c.args.self.now in
+    elim (cases_lt first.registers.code first.registers.width) [
+      | inl inside ↦ (none inside).answers s st
+      | inr left ↦ sym (answer-failed first.bytes s c.args.cx (is-outside first s left st))
     ]
+  where
+    none : c.args.self.now.registers.code < c.args.self.now.registers.width → Decides c.args.self.now (record { bytes = c.self.inside.bytes.now; registers = record (doubled_wide 0 c.divided-less.result.registers) { width = 0 }; contexts = set c.self.inside.contexts.now c.args.cx c.followed.result }) c.args.cx
+        (Err CodeOutOfInterval)
+    none inside =
+        let old = c.args.self.now in
+        let s = c.self.inside in
+        let r = s.registers.registers in
+        let n = count_leading_zeros 64 r.width in
+        let q = c.scaled.result in
+        let subinterval = c.divided-less.result.registers in
+        let less = c.divided-less.result.less in
+        let context = get_or s.contexts.now c.args.cx c.index-contexts-cx.result in
+        let i = behind s.bytes.now s.registers (omega arith) c.self.invariant.bounds in
+        let bytes : s.bytes.now ≡ old.bytes = ap (λ (v : View). v.bytes) c.self.view_is in
+        let registers : doubled_wide n r ≡ old.registers = ap (λ (v : View). v.registers) c.self.view_is in
+        let here : c.args.cx < length s.contexts.now = omega arith in
+        let top_is : c.highest_bit-top.result ≡ 63 - n = (let place = c.highest_bit-top.ensures in omega (arith, place)) in
+        let before_is : 63 - c.highest_bit-top.result ≡ n = (let place = c.highest_bit-top.ensures in omega (arith, place)) in
+        let moves : eqb (subinterval.width / 2 ^ c.highest_bit-top.result) 0 ≡ ltb (subinterval.width * 2 ^ n) (2 ^ 63) = ap (λ t. eqb (subinterval.width / 2 ^ t) 0) top_is ∙ digit-doubled subinterval.width n i.rise.few in
+        let contexts : set s.contexts.now c.args.cx c.followed.result ≡ set old.contexts c.args.cx (cond (ltb (subinterval.width * 2 ^ n) (2 ^ 63)) (moved context (cond less (not context.mps) context.mps)) context) =
+        ap (λ (x : Context). set s.contexts.now c.args.cx x) (c.followed.ensures ∙ ap (λ (t : Bool). cond t (moved context (cond less (not context.mps) context.mps)) context) moves)
+        ∙ ap (λ (v : View). set v.contexts c.args.cx (cond (ltb (subinterval.width * 2 ^ n) (2 ^ 63)) (moved context (cond less (not context.mps) context.mps)) context)) c.self.view_is in
+        let new : View = record { bytes = s.bytes.now; registers = record (doubled_wide 0 subinterval) { width = 0 }; contexts = set s.contexts.now c.args.cx c.followed.result } in
+        let result : Result Bool Fault = Err CodeOutOfInterval in
+        let low = lower-doubled n q r subinterval c.divided-less.ensures.lower in
+        let high = upper-doubled n q r subinterval c.divided-less.ensures.upper in
+        let whole : r.code < r.width = less-back r.code r.width n (subst (λ (x : WideRegisters). x.code < x.width) (sym registers) inside) in
+        let settles : Settles old new (doubled_wide n subinterval) c.args.cx context less result = record {
+          bytes = bytes;
+          contexts = contexts;
+          bit_is = tt;
+          fault = refl;
+          ready = tt;
+          left = omega arith;
+          holds = λ t. subst (λ b. HoldsWide b (doubled_wide n subinterval) t → IsOutside b (renormalised 15 t)) bytes
+              (subst (λ k. HoldsWide s.bytes.now (doubled_wide k subinterval) t → IsOutside s.bytes.now (renormalised 15 t)) before_is (c.in-None.ensures.holds t (subinterval-inside r subinterval q c.divided-less.ensures.lower c.divided-less.ensures.upper whole)));
+        } in
+        let divide = divides old (doubled_wide n subinterval) c.args.cx context (q * 2 ^ n) less
+        inside
+        (get_or_default s.contexts.now c.args.cx c.index-contexts-cx.result (begins 0) here ∙ ap (λ (v : View). get_or v.contexts c.args.cx (begins 0)) c.self.view_is)
+        (ap (λ k. k * 2 ^ n) (c.scaled.ensures.value ∙ ap (λ t. (row_of context.state).qe * 2 ^ (t - 15)) top_is) ∙ size-doubled (row_of context.state).qe n i.small)
+        (subst (λ (x : WideRegisters). x.code < q * 2 ^ n → doubled_wide n subinterval ≡ record x { width = q * 2 ^ n }) registers low)
+        (subst (λ (x : WideRegisters). q * 2 ^ n ≤ x.code → doubled_wide n subinterval ≡ record x { code = x.code - q * 2 ^ n; width = x.width - q * 2 ^ n }) registers high)
+        (subst (λ (x : WideRegisters). less ≡ not (beq (ltb x.code (q * 2 ^ n)) (ltb (x.width - q * 2 ^ n) (q * 2 ^ n)))) registers (symbol-doubled n q r less c.divided-less.ensures.less)) in
+        decides-settled old new (doubled_wide n subinterval) c.args.cx context less result settles divide
