@@ -1,9 +1,9 @@
 -- The streams by the ranks of their next packets: which is the first, and where one is put that has moved on.
-use Rattle.std.proofs.Common.{◌≡◌, ℕ, ◌+◌, ◌-◌, ◌<◌, ◌≤◌, ◌⊎◌, inl, inr, List, [], ◌∷◌, ◌++◌, length, take, drop, set, get_or, length-set, append_assoc, refl, ap, sym, ◌∙◌, subst, arith, rules}
+use Rattle.std.proofs.Common.{◌≡◌, ℕ, zero, suc, ◌+◌, ◌-◌, ◌<◌, ◌≤◌, ◌⊎◌, inl, inr, List, [], ◌∷◌, ◌++◌, length, take, drop, set, get_or, length-set, append_assoc, refl, ap, sym, ◌∙◌, subst, arith, rules}
 use Rattle.std.specs.Prelude.{Contains}
 use Rattle.std.specs.List.{AllByRecursion}
 use Rattle.std.specs.List.Sorted.{IsPermutation}
-use Rattle.std.proofs.lemmas.List.{get_or-set_other, take_more_set, take-set, take-append-drop, length-drop, drop-set, drop-set-lt, drop_more, drop_all}
+use Rattle.std.proofs.lemmas.List.{get_or-set_other, get_or-take, length-take-le, ext_get_or, set_split, take_more_set, take-set, take-append-drop, length-drop, drop-set, drop-set-lt, drop_more, drop_all}
 use Rattle.std.proofs.lemmas.List.Elements.{Contains-get_or}
 use Rattle.std.proofs.lemmas.List.Sorted.{IsPermutation-refl, IsPermutation-sym, IsPermutation-trans, IsPermutation-cons, IsPermutation-swap, Contains-permutation}
 use Rattle.std.proofs.lemmas.Slice.{between_to_end, between-put_mid, overwrites}
@@ -71,6 +71,18 @@ queued_ascends hs i (j ∷ js) apart up =
         (all_of (Follows hs j) (queued hs i js) (λ y c. behind less y (in_cases i js y (Contains-permutation (queued hs i js) (i ∷ js) y (IsPermutation-sym (i ∷ js) (queued hs i js) (queued_moves hs i js)) c))), rest)
     by rest (inr stop) = subst (Ascends hs) (sym (queued_here hs i j js stop)) (all_of (Follows hs i) (j ∷ js) (λ y c. (apart y c, ahead stop y (in_cases j js y c))), up)
 
+-- behind all of them, where its next packet comes behind that of the last
+queued_last : (hs : List ℕ) (i n : ℕ) (js : List ℕ) → length js ≡ suc n → Ascends hs js → get_or hs (get_or js n 0) 0 < get_or hs i 0
+    → queued hs i js ≡ js ++ i ∷ []
+queued_last hs i n [] long up less = absurd (omega arith)
+queued_last hs i zero (j ∷ []) long up less = queued_behind hs i j [] less ∙ ap (λ (xs : List ℕ). j ∷ xs) (queued_none hs i)
+queued_last hs i zero (j ∷ k ∷ ks) long up less = absurd (omega arith)
+queued_last hs i (suc n) (j ∷ []) long up less = absurd (omega arith)
+queued_last hs i (suc n) (j ∷ k ∷ ks) long up less =
+    let follows = each_of (Follows hs j) (k ∷ ks) (get_or (k ∷ ks) n 0) up.0 (Contains-get_or (k ∷ ks) n 0 (omega arith)) in
+    queued_behind hs i j (k ∷ ks) (omega (arith, follows.1, less))
+    ∙ ap (λ (xs : List ℕ). j ∷ xs) (queued_last hs i n (k ∷ ks) (omega arith) up.1 less)
+
 -- a stream put among later ones
 put_queue : (low i : ℕ) (hs is : List ℕ) → ((y : ℕ) → Contains is y → y ≡ i → ⊥) → Ascends hs is → ((j : ℕ) → Contains (i ∷ is) j → (low ≤ j) × (j < 44))
     → ((j : ℕ) → low ≤ j → j < 44 → get_or hs j 0 < finished → Contains (i ∷ is) j) → IsQueue low hs (queued hs i is)
@@ -123,6 +135,10 @@ ascends_other hs i g (j ∷ js) apart up = (
   ascends_other hs i g js (λ y c. apart y (later_in j js y c)) up.1,
 )
 
+pub moved_ascends : (hs queue : List ℕ) (g : ℕ) → 0 < length queue → IsQueue 0 hs queue → Ascends (set hs (get_or queue 0 0) g) (drop 1 queue)
+moved_ascends hs [] g some q = absurd (omega arith)
+moved_ascends hs (i ∷ is) g some q = ascends_other hs i g is (λ y c. (each_of (Follows hs i) is y q.ascending.0 c).0) q.ascending.1
+
 pub moved_queue : (hs queue : List ℕ) (g : ℕ) → 0 < length queue → IsQueue 0 hs queue
     → IsQueue 0 (set hs (get_or queue 0 0) g) (queued (set hs (get_or queue 0 0) g) (get_or queue 0 0) (drop 1 queue))
 moved_queue hs [] g some q = absurd (omega arith)
@@ -152,6 +168,20 @@ place_found hs n p q r low stop is =
     ends : (p + 1 < length q) ⊎ (length q ≤ p + 1) → queued hs n (drop (p + 1) q) ≡ n ∷ drop (p + 1) q
     ends (inl h) = rw (drop_more q (p + 1) 0 h) (queued_here hs n (get_or q (p + 1) 0) (drop (p + 1 + 1) q) (stop h))
     ends (inr h) = rw (drop_all (p + 1) q h) (queued_none hs n)
+
+-- the others move up, and the first goes behind them
+pub placed_last : (hs : List ℕ) (n : ℕ) (q moved : List ℕ) → length q ≡ suc n → length moved ≡ suc n → ((k : ℕ) → k < n → get_or moved k 0 ≡ get_or q (suc k) 0)
+    → Ascends hs (drop 1 q) → get_or hs (get_or q n 0) 0 < get_or hs (get_or q 0 0) 0
+    → set moved n (get_or q 0 0) ≡ queued hs (get_or q 0 0) (drop 1 q)
+placed_last hs n [] moved long same are up less = absurd (omega arith)
+placed_last hs zero (i ∷ is) moved long same are up less = absurd (omega arith)
+placed_last hs (suc n) (i ∷ is) moved long same are up less =
+    set_split moved (suc n) i (omega arith)
+    ∙ rw (drop_all (suc (suc n)) moved (omega arith), front) (sym (queued_last hs i n is (omega arith) up less))
+  where
+    front : take (suc n) moved ≡ is
+    front = ext_get_or 0 (take (suc n) moved) is (omega (arith, length-take-le (suc n) moved))
+        (λ k low. get_or-take (suc n) moved k 0 (omega (arith, length-take-le (suc n) moved)) ∙ are k (omega (arith, length-take-le (suc n) moved)))
 
 -- the numbers of a queue are those of streams
 numbers_at : (queue : List ℕ) → ((j : ℕ) → Contains queue j → j < 44) → (k : ℕ) → k < length queue → get_or queue k 0 < 44
@@ -184,6 +214,9 @@ module _ (i p : ℕ) (hs q : List ℕ) (low : i < 44) (near : p < 44) (long : le
 
   pub grown_numbers : (k : ℕ) → k < length part → get_or part k 0 < 44
   grown_numbers = subst (λ (xs : List ℕ). (k : ℕ) → k < length xs → get_or xs k 0 < 44) (sym part_is) (numbers_at (i ∷ drop (p + 1) q) (λ j c. (grown j c).1))
+
+  pub grown_ascends : Ascends hs (drop 1 part)
+  grown_ascends = subst (λ (xs : List ℕ). Ascends hs (drop 1 xs)) (sym part_is) later.ascending
 
   pub grown_queue : (new : List ℕ) → length new ≡ length part → new ≡ queued hs (get_or part 0 0) (drop 1 part) → IsQueue i hs (drop p (put_mid p (44 - p) (set q p i) new))
   grown_queue new same is =

@@ -6,7 +6,7 @@ ghost use Rattle.jk_math.specs.declared.fault.Fault.TheVariants.{Limit};
 ghost use Rattle.jk_geom.specs.TileShapes.{IsTileShape};
 ghost use Rattle.jk_order.specs.PacketOrder.{packet_count, order};
 ghost use Rattle.jk_order.specs.Streams.{IsWalk, Left, walk};
-ghost use Rattle.jk_order.specs.Queue.{IsQueue, queued};
+ghost use Rattle.jk_order.specs.Queue.{Ascends, IsQueue, queued};
 
 use crate::count::packet_count;
 use crate::opening::{first_rank, shared, stream_number, without_packets};
@@ -46,14 +46,23 @@ impl Model for Packets {
         × IsQueue 0 p.heads (drop p.queue.first p.queue.numbers) };
 }
 
-/// Puts the first of some streams behind those whose next packets come before its own.
+/// Puts the first of some streams behind those whose next packets come before its own. Where
+/// layers come outside, that is behind all of them again and again.
 fn put_back(queue: &mut [u8], heads: &[u128; 44])
     requires some { 0 < length queue.old }
     requires numbers { (k : ℕ) → k < length queue.old → slice_index queue.old k < 44 }
+    requires ascends { Ascends heads.now (drop 1 queue.old) }
     ensures { queue.new ≡ queued heads.now (slice_index queue.old 0) (drop 1 queue.old) }
 {
     let first = queue[0];
     let head = heads[first as usize];
+    let last = queue.len() - 1;
+    let furthest = heads[queue[last] as usize];
+    if furthest < head {
+        queue.copy_within(1.., 0);
+        queue[last] = first;
+        return;
+    }
     let mut place = 0;
     while place + 1 < queue.len() && heads[queue[place + 1] as usize] < head {
         queue[place] = queue[place + 1];

@@ -1,5 +1,5 @@
 use Rattle.std.proofs.Common.{◌-◌, refl, arith}
-use Rattle.jk_order.proofs.Queueing.{none_queue, grown_numbers, later, same_queue, put_queue_state, passed_queue_state}
+use Rattle.jk_order.proofs.Queueing.{none_queue, grown_ascends, grown_numbers, later, same_queue, put_queue_state, passed_queue_state}
 use Rattle.jk_order.proofs.packets.queue_of.Goals as goal
 use Rattle.jk_order.proofs.packets.queue_of.Goals.{then-heads-i-lt-FINISHED, else-heads-i-lt-FINISHED}
 
@@ -21,4 +21,12 @@ put_back-requires-clause-numbers c =
     let p = c.loop-k.first in
     let q = c.loop-k.numbers in
     grown_numbers (43 - k) (p - 1) c.args.heads.now q (omega arith) (omega arith) c.loop-k.invariant.0
+    (later k p c.args.heads.now q c.loop-k-test.true (omega arith) c.loop-k.invariant.3)
+
+pub put_back-requires-clause-ascends : goal.put_back-requires-clause-ascends
+put_back-requires-clause-ascends c =
+    let k = c.loop-k.k in
+    let p = c.loop-k.first in
+    let q = c.loop-k.numbers in
+    grown_ascends (43 - k) (p - 1) c.args.heads.now q (omega arith) (omega arith) c.loop-k.invariant.0
     (later k p c.args.heads.now q c.loop-k-test.true (omega arith) c.loop-k.invariant.3)

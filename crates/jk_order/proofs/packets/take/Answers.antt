@@ -4,7 +4,7 @@ use Rattle.std.specs.Prelude.{◌==◌}
 use Rattle.std.proofs.lemmas.Bool.{eqb-true, eqb-false}
 use Rattle.jk_order.specs.Queue.{IsQueue}
 use Rattle.jk_order.proofs.Leaving.{left_none, left_next, advanced}
-use Rattle.jk_order.proofs.Queueing.{first_least, none_next, moved_queue, queue_numbers}
+use Rattle.jk_order.proofs.Queueing.{first_least, none_next, moved_ascends, moved_queue, queue_numbers}
 use Rattle.jk_order.proofs.packets.take.Goals as goal
 
 is_some : (queue : List ℕ) (b : Bool) → b ≡ (length queue == 0) → 0 < length queue → b ≡ true → ⊥
@@ -26,6 +26,10 @@ returns-then-head-ge-FINISHED-clause-gives c =
 pub returns-clause-kept : goal.returns-clause-kept
 returns-clause-kept c =
     (advanced c.args.frame.now c.args.streams.now c.args.heads.now (get_or c.args.queue.now 0 0) c.requires.walk (queue_numbers c.args.heads.now c.args.queue.now 0 c.requires.queue (some_of c.args.queue.now c.is_empty.result c.is_empty.ensures c.if-is_empty.false)) (λ e. omega arith) _ _ c.advance.ensures).0
+
+pub put_back-requires-clause-ascends : goal.put_back-requires-clause-ascends
+put_back-requires-clause-ascends c =
+    moved_ascends c.args.heads.now c.args.queue.now c.advance.result (some_of c.args.queue.now c.is_empty.result c.is_empty.ensures c.if-is_empty.false) c.requires.queue
 
 pub returns-clause-queue : goal.returns-clause-queue
 returns-clause-queue c =
