@@ -1,9 +1,14 @@
 -- Windows of pictures: what the file of a window means.
-use Rattle.std.specs.Prelude.{◌≡◌, ℕ, ◌+◌, ◌<◌, ◌≤◌, List, length, None, Ok}
+use Rattle.std.specs.Prelude.{◌≡◌, ◌⊎◌, ℕ, ◌+◌, ◌<◌, ◌≤◌, List, length, None, Result, Ok, Err}
+use Rattle.jk_math.specs.Answer.{Answers}
+use Rattle.jk_math.specs.Memory.{IsMemory}
 use Rattle.jk_math.specs.Picture.{Picture, sample_at}
+use Rattle.jk_math.specs.declared.fault.Fault.{Fault}
+use Rattle.jk_math.specs.declared.fault.Fault.TheVariants.{BadWindow, Changed}
 use Rattle.jk_window.specs.declared.view.View.{View}
 use Rattle.jk_window.specs.Indexing.{IndexFields, IsIndexOf}
 use Rattle.jk_window.specs.Cutting.{cut_file}
+use Rattle.jk_window.specs.Planning.{IsPlanned}
 use Rattle.jk_code.specs.Meaning.{MeansLayers, Means}
 use Rattle.jk_code.specs.Viewing.{picture_of_view}
 use Rattle.jk_code.specs.ViewReading.{meaning_view_at}
@@ -47,3 +52,15 @@ IsWindowShown = (bytes : List ℕ) (i : IndexFields) (is : IsIndexOf bytes i) (v
 abbrev pub IsWindowKept : Type 0
 IsWindowKept = (bytes : List ℕ) (i : IndexFields) (is : IsIndexOf bytes i) (v : View) (reply : List ℕ)
     → v.layers ≡ None → cut_file is v ≡ Ok reply → meaning_view_at reply v ≡ meaning_view_at bytes v
+
+-- the view, with all layers
+abbrev pub in_all_layers : View → View
+in_all_layers v = record v { layers = None }
+
+-- A window was asked for by an index, be it that of these bytes or not: it was refused with Memory,
+-- BadWindow or Changed, or it is answered as it is due of the file that the index's plan makes of
+-- the bytes.
+abbrev pub IsViewByPlan : (bytes : List ℕ) → IndexFields → View → Result Picture Fault → Type 0
+IsViewByPlan bytes i v answer = ((e : Fault) × (answer ≡ Err e) × (IsMemory e ⊎ ((e ≡ BadWindow) ⊎ (e ≡ Changed))))
+    ⊎ ((file : List ℕ) × IsPlanned bytes i (in_all_layers v) file
+    × Answers (λ p. p) answer (meaning_view_at file (in_all_layers v)))

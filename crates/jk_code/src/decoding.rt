@@ -232,8 +232,9 @@ fn meaning(alloc: Global, bytes: &[u8], reduce: u32) -> Result<Image, Fault>
 /// The first of these faults: those of the boxes; those of `read_codestream`; BadWindow for a
 /// reduction past the least number of decomposition levels, or one that leaves no sample; then,
 /// tile by tile, those of its packets, as `read_packets` names them, with TooManyPasses among them,
-/// as the headers of packets tell the passes; then, tile by tile, CodeOutOfInterval of its
-/// code-blocks up to the resolution that is asked for.
+/// as the headers of packets tell the passes; then, tile by tile, CodeOutOfInterval and BadValue of
+/// its code-blocks up to the resolution that is asked for: BadValue where another segmentation
+/// symbol stands than is due.
 pub fn decode(alloc: Global, bytes: &[u8], reduce: u32) -> Result<Image, Fault>
     // Which image, or which fault is the first.
     ensures exact { Answers (λ i. i) result (meaning_at bytes.now reduce) }

@@ -20,6 +20,7 @@ ghost use Rattle.jk_code.specs.Tiles.{AreSeen, ArePlanes, KeepsSamples, ShowsTil
 ghost use Rattle.jk_code.specs.Viewing.{picture_of_view};
 ghost use Rattle.jk_code.specs.ViewReading.{seen_part, is_seen, seen_packets_tested, seen_parts_tested, view_at};
 ghost use Rattle.jk_code.specs.ViewReading.{image_view_at, meaning_view_at};
+ghost use Rattle.jk_code.specs.Windows.{IsViewByPlan};
 
 use crate::decoding::{blank_planes, put_tile};
 use crate::windows::window;
@@ -192,9 +193,10 @@ fn meaning_view(alloc: Global, bytes: &[u8], view: View) -> Result<Image, Fault>
 /// The first of these faults: those of the boxes; those of `read_codestream`; BadWindow for a
 /// reduction past the least number of decomposition levels, or where the reduced image or the
 /// window has no sample; then, of the tiles of which the window has samples, those of their
-/// packets, as `read_packets` names them, tile by tile; then, tile by tile, CodeOutOfInterval of
-/// the code-blocks that have a coefficient on which a sample of the window depends. The packets of
-/// other tiles and other code-blocks aren't judged: a file that `decode` refuses may have a window.
+/// packets, as `read_packets` names them, tile by tile; then, tile by tile, CodeOutOfInterval and
+/// BadValue of the code-blocks that have a coefficient on which a sample of the window depends:
+/// BadValue where another segmentation symbol stands than is due. The packets of other tiles and
+/// other code-blocks aren't judged: a file that `decode` refuses may have a window.
 pub fn decode_window(alloc: Global, bytes: &[u8], view: View) -> Result<Image, Fault>
     // Which image, or which fault is the first.
     ensures exact { Answers (λ i. i) result (meaning_view_at bytes.now view) }
@@ -210,7 +212,8 @@ pub fn decode_window(alloc: Global, bytes: &[u8], view: View) -> Result<Image, F
 ///
 /// With the index of these bytes the faults are those of `decode_window`; those of boxes, headers
 /// and packets don't come, as a file with an index has none. If the index isn't that of these
-/// bytes, the answer may be Changed, and of any other answer nothing is known.
+/// bytes, the answer may be Changed, and any other is that of the file that the index's plan makes
+/// of these bytes.
 pub fn decode_window_by(
     alloc: Global,
     bytes: &[u8],
@@ -224,6 +227,9 @@ pub fn decode_window_by(
     // BadWindow where the window has no sample.
     ensures means { IsIndexOf bytes.now index.now → (p : Picture) → Means bytes.now view.reduce p
         → Answers (λ i. i) result (picture_of_view view p) }
+    // Whichever index it is: Memory, BadWindow, Changed, or what `decode_window` gives of the file
+    // that the index's plan makes of these bytes.
+    ensures planned { IsViewByPlan bytes.now index.now view result }
 {
     let whole = View {
         layers: None,

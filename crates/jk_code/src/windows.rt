@@ -8,6 +8,7 @@ ghost use Rattle.jk_math.specs.declared.fault.Fault.TheVariants.{BadWindow, Chan
 ghost use Rattle.jk_window.specs.Views.{HasWindow};
 ghost use Rattle.jk_window.specs.Indexing.{IndexFields, IsIndexOf};
 ghost use Rattle.jk_window.specs.Cutting.{cut_file};
+ghost use Rattle.jk_window.specs.Planning.{IsPlanned};
 ghost use Rattle.jk_code.specs.Meaning.{MeansLayers, Means};
 ghost use Rattle.jk_code.specs.Windows.{IsWindowOf, IsWindowMeant, IsWindowShown, IsWindowKept};
 
@@ -43,7 +44,8 @@ pub fn pictures_have_indexes()
 ///
 /// BadWindow: the view asks for no layer, a tile-component has fewer decomposition levels than the
 /// reduction, or the reduced image or the window has no sample. Changed: the index isn't that of
-/// these bytes. If the index isn't and another answer is given, nothing is known of it.
+/// these bytes. If the index isn't and a file is given, it is what the index's plan makes of the
+/// bytes.
 pub fn window(alloc: Global, bytes: &[u8], index: &Index, view: View) -> Result<Vec<u8>, Fault>
     // With the index of these bytes it is the file of the window, or BadWindow.
     ensures exact { (is : IsIndexOf bytes.now index.now) → Answers (λ v. v.items) result (cut_file is view) }
@@ -52,6 +54,8 @@ pub fn window(alloc: Global, bytes: &[u8], index: &Index, view: View) -> Result<
     ensures changed { result ≡ Err Fault.Changed → IsIndexOf bytes.now index.now → ⊥ }
     // BadWindow is answered only where the view has no window, whichever index it is.
     ensures unseen { result ≡ Err Fault.BadWindow → HasWindow index.now.headers view → ⊥ }
+    // And whichever it is, a plan of the index makes the file of these bytes.
+    ensures planned { IfOk result (λ v. IsPlanned bytes.now index.now view v.items) }
     // What the bytes mean in the layers that are asked for, the reply means on the window.
     ensures means { IsIndexOf bytes.now index.now → (p : Picture) → MeansLayers bytes.now view.reduce view.layers p
         → IfOk result (λ v. IsWindowOf view p v.items) }

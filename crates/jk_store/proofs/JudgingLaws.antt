@@ -15,7 +15,7 @@ use Rattle.jk_store.specs.Names.{is_good_name}
 use Rattle.jk_store.specs.Catalogue.{is_listed, most_entries}
 use Rattle.jk_store.specs.Adding.{judged, is_raw}
 use Rattle.jk_store.specs.Opening.{Opened, AreNamesIn}
-use Rattle.jk_store.specs.Judging.{IsFree, IsFull, JudgedAlone}
+use Rattle.jk_store.specs.Judging.{IsFew, IsFree, IsFull, JudgedAlone}
 use Rattle.jk_store.specs.declared.entry.Entry.{Entry}
 use Rattle.jk_store.specs.declared.skipped.Skipped.{Skipped}
 use Rattle.jk_store.proofs.OpenLaws.{unlisted, among_keys}
@@ -60,6 +60,11 @@ is_free lists old new files taken name listed are good other few = record {
   good = good;
   free = among_keys name taken ∙ other;
 }
+
+pub is_few : {S Y : Type 0} (lists : S → List (List ℕ) → S → Type 0) (old new : S) (files : List (List ℕ)) (taken : BTreeSet (String Y)) → lists old files new
+    → AreNamesIn files (map string_bytes (keys taken)) → length (keys taken) < most_entries → IsFew lists old new
+is_few lists old new files taken listed are few =
+    record { files = files; names = map string_bytes (keys taken); listed = listed; are = are; few = omega (arith, few, length-map (keys taken) string_bytes) }
 
 -- what a set of many names says
 pub is_full : {S Y : Type 0} (lists : S → List (List ℕ) → S → Type 0) (old new : S) (files : List (List ℕ)) (taken : BTreeSet (String Y)) → lists old files new

@@ -22,6 +22,14 @@ pub record IsFree {S : Type 0} (lists : S → List (List ℕ) → S → Type 0) 
   pub good : is_good_name name ≡ true
   pub free : is_among name names ≡ false
 
+-- The shelf listed these files, which are those of fewer images than an archive may have.
+pub record IsFew {S : Type 0} (lists : S → List (List ℕ) → S → Type 0) (old new : S) : Type 0 where
+  pub files : List (List ℕ)
+  pub names : List (List ℕ)
+  pub listed : lists old files new
+  pub are : AreNamesIn files names
+  pub few : length names < most_entries
+
 -- The shelf listed these files, which may be those of as many images as an archive may have.
 pub record IsFull {S : Type 0} (lists : S → List (List ℕ) → S → Type 0) (old new : S) : Type 0 where
   pub files : List (List ℕ)

@@ -204,6 +204,14 @@ impl<S: Shelf> Archive<S> {
         // After a refusal the list is as before, and of files all but the temporary one of this
         // name are.
         ensures err { OnErr result (self.new.entries.items ≡ self.old.entries.items) }
+        // Shelf comes behind all that is judged and encoded, where the file couldn't be written
+        // under its temporary name, or that couldn't become its own.
+        ensures cause { IfErr result (λ e. IsMemory e
+            ⊎ (judged (map arc_value self.old.entries.items) name.now image.now parameters.now ≡ Err e)
+            ⊎ (written image.now parameters.now ≡ Err e)
+            ⊎ ((e ≡ ShelfFault) × ((file : List ℕ) × (written image.now parameters.now ≡ Ok file))
+            × IsUnstored S.unwritten S.unrenamed (temporary_name name.now) (file_name name.now)
+            self.old.shelf self.new.shelf)) }
         ensures left { (files : Files) → S.keeps self.old.shelf files
             → IfErr result (λ e. (left : Files) × S.keeps self.new.shelf left
             × IsLeft (temporary_name name.now) (file_name name.now) (written image.now parameters.now) e files left) }

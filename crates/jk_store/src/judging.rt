@@ -6,7 +6,7 @@ ghost use Rattle.jk_math.specs.declared.fault.Fault.TheVariants.{BadName, Limit,
 ghost use Rattle.jk_store.specs.Files.{Files};
 ghost use Rattle.jk_store.specs.Names.{is_good_name, is_image};
 ghost use Rattle.jk_store.specs.Catalogue.{Passes};
-ghost use Rattle.jk_store.specs.Judging.{IsFree, IsFull, JudgedAlone};
+ghost use Rattle.jk_store.specs.Judging.{IsFew, IsFree, IsFull, JudgedAlone};
 
 use crate::adding::MOST_ENTRIES;
 use crate::archive::Archive;
@@ -30,6 +30,8 @@ pub fn judge_name<S: Shelf>(alloc: Global, shelf: &mut S, name: &str) -> Result<
         (λ few. few ≡ true
         → (is : IsFree S.lists shelf.old name.now shelf.new) × JudgedAlone S.gave is.names name.now) }
     ensures full { IfOk result (λ few. few ≡ false → IsFull S.lists shelf.old shelf.new) }
+    // The name is judged behind the listing and the number of images.
+    ensures listed { result ≡ Err Fault.BadName → IsFew S.lists shelf.old shelf.new }
     ensures err { IfErr result (λ e. IsMemory e
         ⊎ ((e ≡ ShelfFault) × S.unlisted shelf.old shelf.new)
         ⊎ ((e ≡ BadName) × (is_good_name name.now ≡ false))
@@ -61,6 +63,7 @@ pub fn judge_name<S: Shelf>(alloc: Global, shelf: &mut S, name: &str) -> Result<
 fn judge_among<S: Shelf>(alloc: Global, shelf: &mut S, name: &str) -> Result<(), Fault>
     ensures free { OnOk result (IsFree S.lists shelf.old name.now shelf.new) }
     ensures full { result ≡ Err Fault.Limit → IsFull S.lists shelf.old shelf.new }
+    ensures listed { result ≡ Err Fault.BadName → (files : List (List ℕ)) × S.lists shelf.old files shelf.new }
     ensures err { IfErr result (λ e. IsMemory e
         ⊎ ((e ≡ ShelfFault) × S.unlisted shelf.old shelf.new)
         ⊎ ((e ≡ BadName) × (is_good_name name.now ≡ false))
@@ -95,6 +98,9 @@ impl<S: Shelf> Archive<S> {
     pub fn judge_name(&mut self, alloc: Global, name: &str) -> Result<(), Fault>
         ensures free { OnOk result (IsFree S.lists self.old.shelf name.now self.new.shelf) }
         ensures full { result ≡ Err Fault.Limit → IsFull S.lists self.old.shelf self.new.shelf }
+        // The name is judged behind the listing.
+        ensures listed { result ≡ Err Fault.BadName
+            → (files : List (List ℕ)) × S.lists self.old.shelf files self.new.shelf }
         ensures err { IfErr result (λ e. IsMemory e
             ⊎ ((e ≡ ShelfFault) × S.unlisted self.old.shelf self.new.shelf)
             ⊎ ((e ≡ BadName) × (is_good_name name.now ≡ false))

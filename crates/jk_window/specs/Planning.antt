@@ -26,8 +26,8 @@ use Rattle.jk_window.specs.declared.steps.CutStep.{CutStep}
 use Rattle.jk_window.specs.declared.contents.TileCut.{TileCut}
 use Rattle.jk_window.specs.declared.view.View.{View}
 use Rattle.jk_window.specs.Framing.{Frame}
-use Rattle.jk_window.specs.Indexing.{IndexFields, entries_of}
-use Rattle.jk_window.specs.Cutting.{Entered, keeps, wanted, run_at, runs_at}
+use Rattle.jk_window.specs.Indexing.{IndexFields, IsIndexOf, entries_of}
+use Rattle.jk_window.specs.Cutting.{Entered, keeps, wanted, run_at, runs_at, cut_file}
 
 -- ---- a plan
 
@@ -46,6 +46,14 @@ planned file (s ∷ steps) written = slice_of file (s.start, s.end)
 
 abbrev pub plan_text : List ℕ → PlanFields → List ℕ
 plan_text file p = planned file p.steps p.written
+
+-- A plan that makes the file of the view's window of each file that has the index.
+abbrev pub IsPlanOf : IndexFields → View → PlanFields → Type 0
+IsPlanOf i v p = (file : List ℕ) (is : IsIndexOf file i) → cut_file is v ≡ Ok (plan_text file p)
+
+-- what such a plan makes of these bytes, whether they have the index or not
+abbrev pub IsPlanned : (bytes : List ℕ) → IndexFields → View → List ℕ → Type 0
+IsPlanned bytes i v made = (p : PlanFields) × IsPlanOf i v p × (made ≡ plan_text bytes p)
 
 -- how many bytes that are
 abbrev pub step_length : CutStep → ℕ

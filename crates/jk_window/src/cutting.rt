@@ -1,13 +1,13 @@
 //! Cutting a window out of a file.
 
-ghost use Rattle.std.specs.Prelude.{◌≡◌, true, false, ◌+◌, ◌≤◌, ◌⊎◌, ◌++◌, List, length, IfErr, OnOk, MatchResult, Err};
+ghost use Rattle.std.specs.Prelude.{◌≡◌, true, false, ◌+◌, ◌≤◌, ◌⊎◌, ◌++◌, List, length, IfOk, IfErr, OnOk, MatchResult, Err};
 ghost use Rattle.jk_math.specs.Answer.{Answers};
 ghost use Rattle.jk_math.specs.Memory.{IsMemory};
 ghost use Rattle.jk_math.specs.declared.fault.Fault.TheVariants.{BadWindow, Changed};
 ghost use Rattle.jk_window.specs.Views.{HasWindow};
 ghost use Rattle.jk_window.specs.Indexing.{IsIndexOf};
 ghost use Rattle.jk_window.specs.Cutting.{cut_file};
-ghost use Rattle.jk_window.specs.Planning.{plan_text};
+ghost use Rattle.jk_window.specs.Planning.{plan_text, IsPlanned};
 
 use crate::kept::Index;
 use crate::planning::plan;
@@ -50,8 +50,8 @@ fn may_be(index: &Index, bytes: &[u8]) -> bool
 
 /// The file of the window of a view, as `plan` says it.
 ///
-/// BadWindow: as `plan`. Changed: the index isn't that of these bytes. If the index isn't and
-/// another answer is given, nothing is known of it.
+/// BadWindow: as `plan`. Changed: the index isn't that of these bytes. If the index isn't and a file
+/// is given, it is what the index's plan makes of the bytes.
 pub fn cut(alloc: Global, index: &Index, bytes: &[u8], view: View) -> Result<Vec<u8>, Fault>
     // With the index of these bytes it is the file of the window, or BadWindow.
     ensures exact { (is : IsIndexOf bytes.now index.now) → Answers (λ v. v.items) result (cut_file is view) }
@@ -60,6 +60,8 @@ pub fn cut(alloc: Global, index: &Index, bytes: &[u8], view: View) -> Result<Vec
     ensures changed { result ≡ Err Fault.Changed → IsIndexOf bytes.now index.now → ⊥ }
     // BadWindow is answered only where the view has no window, whichever index it is.
     ensures unseen { result ≡ Err Fault.BadWindow → HasWindow index.now.headers view → ⊥ }
+    // And whichever it is, a plan of the index makes the file of these bytes.
+    ensures planned { IfOk result (λ v. IsPlanned bytes.now index.now view v.items) }
 {
     let plan = plan(alloc, index, view)?;
     if !may_be(index, bytes) {

@@ -48,6 +48,16 @@ returns-in_err-file-clause-means c = λ is p m.
     answers_same (λ i. i) c.from_residual.result (meaning_view_at bytes v) (picture_of_view v p) (returns-in_err-file-clause-exact c is)
     (meaning_shows bytes v p (only_meaning bytes v.reduce p (λ i. omega (arith, c.type_inv.bytes i)) m))
 
+pub returns-in_err-file-clause-planned : goal.returns-in_err-file-clause-planned
+returns-in_err-file-clause-planned c =
+    let q = err_from_is_err_and c.from_residual.result c.from_residual.ensures.1 in
+    inl (q.0, q.1, rw (q.2) c.in_err-file.ensures.faults)
+
+pub returns-clause-planned : goal.returns-clause-planned
+returns-clause-planned c =
+    let whole : View = record c.args.view { layers = None } in
+    inr (c.in_ok-file.file.items, c.in_ok-file.ensures.planned, rw c.deref.ensures.value at c.decode_window.ensures.exact)
+
 pub returns-clause-exact : goal.returns-clause-exact
 returns-clause-exact c = λ is.
     let bytes = c.args.bytes.now in

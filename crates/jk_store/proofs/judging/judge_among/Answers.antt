@@ -22,3 +22,6 @@ returns-then-len-ge-MOST_ENTRIES-clause-full g c = λ _.
     let are = names_are files there (sorted_bytes (keys there) c.len.ensures.ordered) (rw c.deref.ensures.value at c.in_ok-there.ensures.ok) in
     let many : most_entries ≤ length (keys there) = omega arith in
     is_full g.S.Shelf.lists c.args.shelf.now c.list.new.self (map string_bytes files) there c.in_ok-files.ensures.given are many
+
+pub returns-then-not-is_good_name-clause-listed : goal.returns-then-not-is_good_name-clause-listed
+returns-then-not-is_good_name-clause-listed g c = λ _. (map string_bytes c.in_ok-files.files.items, c.in_ok-files.ensures.given)

@@ -3,7 +3,7 @@ use Rattle.std.specs.BTreeSet.{keys, contains_text}
 use Rattle.std.specs.String.{string_bytes}
 use Rattle.jk_store.specs.Catalogue.{most_entries}
 use Rattle.jk_store.proofs.OpenLaws.{names_are, sorted_bytes}
-use Rattle.jk_store.proofs.JudgingLaws.{is_free, is_full, all_alone}
+use Rattle.jk_store.proofs.JudgingLaws.{is_few, is_free, is_full, all_alone}
 use Rattle.jk_store.proofs.judging.judge_name.Goals as goal
 
 pub returns-clause-free : goal.returns-clause-free
@@ -27,3 +27,11 @@ returns-then-len-ge-MOST_ENTRIES-clause-full g c = λ _.
     let are = names_are files taken (sorted_bytes (keys taken) c.len.ensures.ordered) (rw c.deref.ensures.value at c.in_ok-taken.ensures.ok) in
     let many : most_entries ≤ length (keys taken) = omega arith in
     is_full g.S.Shelf.lists c.args.shelf.now c.list.new.self (map string_bytes files) taken c.in_ok-files.ensures.given are many
+
+pub returns-then-not-is_good_name-clause-listed : goal.returns-then-not-is_good_name-clause-listed
+returns-then-not-is_good_name-clause-listed g c = λ _.
+    let files = c.in_ok-files.files.items in
+    let taken = c.in_ok-taken.taken in
+    let are = names_are files taken (sorted_bytes (keys taken) c.len.ensures.ordered) (rw c.deref.ensures.value at c.in_ok-taken.ensures.ok) in
+    let few : length (keys taken) < most_entries = omega arith in
+    is_few g.S.Shelf.lists c.args.shelf.now c.list.new.self (map string_bytes files) taken c.in_ok-files.ensures.given are few

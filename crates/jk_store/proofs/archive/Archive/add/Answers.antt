@@ -1,9 +1,11 @@
-use Rattle.std.proofs.Common.{map, refl}
+use Rattle.std.proofs.Common.{◌≡◌, ◌⊎◌, inl, inr, ℕ, List, map, Ok, Err, refl}
 use Rattle.std.specs.Arc.{arc_value}
+use Rattle.jk_math.specs.Memory.{IsMemory}
+use Rattle.jk_math.specs.declared.fault.Fault.TheVariants.{Shelf}
 use Rattle.jk_code.specs.Written.{written}
 use Rattle.jk_store.specs.Files.{Files}
 use Rattle.jk_store.specs.Names.{temporary_name, file_name}
-use Rattle.jk_store.specs.Adding.{IsLeft}
+use Rattle.jk_store.specs.Adding.{judged, IsLeft, IsUnstored}
 use Rattle.jk_store.proofs.OpenLaws.{fault_is}
 use Rattle.jk_store.proofs.AddedLaws.{archive_shows, archive_keeps, added}
 use Rattle.jk_store.proofs.AddLaws.{archive_named, archive_few, names_apart}
@@ -27,6 +29,19 @@ returns-in_err-store-clause-left g c = λ files kept.
     let left = (rw (made.temporary, made.file, ← made.written) at c.in_err-store.ensures.left) (names_apart name name) files kept in
     fault_is c.from_residual-in_err-store.result c.in_err-store.field-0.0 c.from_residual-in_err-store.ensures.1
     (λ e. (left : Files) × g.S.Shelf.keeps c.store.new.shelf left × IsLeft (temporary_name name) (file_name name) (written c.args.image.now c.args.parameters.now) e files left) left
+
+pub returns-in_err-store-clause-cause : goal.returns-in_err-store-clause-cause
+returns-in_err-store-clause-cause g c =
+    let made = c.in_ok-made.ensures in
+    let name = c.args.name.now in
+    let cause = rw (made.temporary, made.file) at c.in_err-store.ensures.cause in
+    fault_is c.from_residual-in_err-store.result c.in_err-store.field-0.0 c.from_residual-in_err-store.ensures.1
+    (λ e. IsMemory e ⊎ ((judged (map arc_value c.args.self.now.entries.items) name c.args.image.now c.args.parameters.now ≡ Err e) ⊎ ((written c.args.image.now c.args.parameters.now ≡ Err e)
+    ⊎ ((e ≡ Shelf) × ((file : List ℕ) × (written c.args.image.now c.args.parameters.now ≡ Ok file)) × IsUnstored g.S.Shelf.unwritten g.S.Shelf.unrenamed (temporary_name name) (file_name name) c.args.self.now.shelf c.store.new.shelf))))
+    (elim c.in_err-store.ensures.counts [
+      | inl memory ↦ inl memory.0
+      | inr failed ↦ inr (inr (inr (failed.0, (c.in_ok-made.made.bytes.items, made.written), cause failed.0)))
+    ])
 
 pub returns-clause-shows : goal.returns-clause-shows
 returns-clause-shows g c = λ images shows.
