@@ -25,11 +25,12 @@ pub struct Reader {
 }
 
 impl Reader {
-    ghost use Rattle.std.specs.Prelude.{◌⊎◌, IfOk, IfErr};
+    ghost use Rattle.std.specs.Prelude.{◌⊎◌, IfOk, IfErr, OnOk};
     ghost use mathlib.Core.List.{IsPrefix};
     ghost use Rattle.jk_hall.specs.Writing.{note, hall_of_note};
     ghost use Rattle.jk_hall.specs.Reading.{seen, told, hall_of_reader, cuts};
     ghost use Rattle.jk_hall.specs.Replying.{Gives, Refuses};
+    ghost use Rattle.jk_hall.specs.Runs.{LooksNext};
 
     /// Takes up a list that was told by the writer of its hall: from now on it answers from no
     /// shorter one.
@@ -59,6 +60,10 @@ impl Reader {
         ensures ok { IfOk result (λ r. Gives S.keeps S.failed S.gave S.gave_at (self.old, shelf.old) request.now r
             (self.new, shelf.new)) }
         ensures err { IfErr result (λ e. Refuses S.keeps (self.old, shelf.old) request.now e (self.new, shelf.new)) }
+
+        // In a run of events that has published what was seen, more is published, and then its look
+        // at the list is the next event.
+        ensures step { OnOk result (LooksNext (seen self.old) (seen self.new)) }
     {
         let told = self.told.again();
         let ask = Ask {

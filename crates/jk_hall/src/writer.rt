@@ -89,15 +89,18 @@ pub(crate) fn show<R: Wait>(
 }
 
 impl Writer {
-    ghost use Rattle.std.specs.Prelude.{◌⊎◌, ◌∷◌, length, Err, ◌↔◌};
+    ghost use Rattle.std.specs.Prelude.{◌⊎◌, ◌∷◌, List, length, Err, ◌↔◌};
     ghost use Rattle.std.specs.String.{string_bytes};
     ghost use Rattle.jk_math.specs.declared.fault.Fault.TheVariants.{NameTaken};
+    ghost use Rattle.jk_store.specs.declared.entry.Entry.{Entry};
     ghost use Rattle.jk_hall.specs.Writing.{list, waits, hall_of, note, hall_of_note};
+    ghost use Rattle.jk_hall.specs.Runs.{Event, publishing, HasPublished};
 
     /// Publishes the entries that wait and then this one, each once.
     ///
     /// NameTaken: an entry of this name is published or waits. After Memory nothing more is
     /// published, and this one may wait behind the others.
+    #[tactic(auto, using(crate::proofs::RunLaws::publishes_on))]
     pub fn publish<R: Wait>(&mut self, rt: &R, entry: Arc<Entry>) -> Result<(), Fault>
         ensures taken { (result ≡ Err Fault.NameTaken)
             ↔ (is_listed (list self.old ++ waits self.old) (string_bytes (arc_value entry).name) ≡ true) }
@@ -109,6 +112,13 @@ impl Writer {
         ensures same { result ≡ Err Fault.NameTaken → waits self.new ≡ waits self.old }
         ensures cause { IfErr result (λ e. IsMemory e ⊎ (e ≡ NameTaken)) }
         ensures hall { hall_of self.new ≡ hall_of self.old }
+
+        // These are events of the hall's history; an `Err` is none.
+        ensures step { OnOk result ((opening : List Entry) (events : List Event)
+            → HasPublished opening events (list self.old) → HasPublished opening
+            (events ++ publishing (waits self.old ++ arc_value entry ∷ [])) (list self.new)) }
+        ensures stays { OnErr result ((opening : List Entry) (events : List Event)
+            → HasPublished opening events (list self.old) → HasPublished opening events (list self.new)) }
     {
         if self.has(entry.name.as_str()) {
             return Err(Fault::NameTaken);
@@ -142,6 +152,7 @@ impl Writer {
     }
 
     /// Publishes the entries that wait. An `Err` publishes nothing.
+    #[tactic(auto, using(crate::proofs::RunLaws::publishes_on))]
     pub fn settle<R: Wait>(&mut self, rt: &R) -> Result<(), Fault>
         ensures ok { OnOk result (list self.new ≡ list self.old ++ waits self.old) }
         ensures none_waits { OnOk result (self.new.waiting.items ≡ []) }
@@ -149,6 +160,11 @@ impl Writer {
         ensures still_wait { OnErr result (self.new.waiting.items ≡ self.old.waiting.items) }
         ensures memory { IfErr result (λ e. IsMemory e) }
         ensures hall { hall_of self.new ≡ hall_of self.old }
+        ensures step { OnOk result ((opening : List Entry) (events : List Event)
+            → HasPublished opening events (list self.old)
+            → HasPublished opening (events ++ publishing (waits self.old)) (list self.new)) }
+        ensures stays { OnErr result ((opening : List Entry) (events : List Event)
+            → HasPublished opening events (list self.old) → HasPublished opening events (list self.new)) }
     {
         if !self.sealed {
             let front = self.history.front.again();
