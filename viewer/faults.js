@@ -5,7 +5,7 @@ const FAULTS = {
   2: ['Truncated', 'the file, a box or a tile-part ends inside something that was begun, or EOC is missing at the end'],
   3: ['BadMarker', "a marker that can't stand here, a second one where one is allowed, or a required one absent"],
   4: ['BadLength', "a segment's length contradicts its contents; Psot from 1 to 13; a length of SOP other than 4"],
-  5: ['BadValue', "a field has a value that T.800 doesn't allow"],
+  5: ['BadValue', "a field has a value that T.800 doesn't allow, or another segmentation symbol stands than is due"],
   6: ['Unsupported', 'T.800 allows it, and jk leaves it out'],
   7: ['Limit', 'past a limit of jk, as on samples, coordinates, levels, bit-planes, packets or the length of '
     + 'a tile-part'],

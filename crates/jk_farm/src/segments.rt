@@ -48,7 +48,8 @@ impl Work for Reading {
 
 /// The code-blocks of segments, read side by side by so many workers: what one thread reads, with
 /// the fault of the first segment that has one ([`Fault::TooManyPasses`],
-/// [`Fault::CodeOutOfInterval`]).
+/// [`Fault::CodeOutOfInterval`], or [`Fault::BadValue`] where another segmentation symbol stands
+/// than is due).
 ///
 /// [`Fault::BadParameters`], before all else: less than one worker or more than 64.
 pub fn map_segments<R: Threads + Sync, G: Gate + Sync>(

@@ -29,7 +29,8 @@ pub enum Fault {
     /// 4.
     #[error("F4 BadLength")]
     BadLength,
-    /// A field has a value that T.800 doesn't allow.
+    /// A field has a value that T.800 doesn't allow, or another segmentation symbol stands than is
+    /// due.
     #[error("F5 BadValue")]
     BadValue,
     /// T.800 allows it, and jk leaves it out.

@@ -24,7 +24,7 @@ static CAUSES: [(Fault, &str); 21] = [
     ),
     (
         Fault::BadValue,
-        "a field has a value that T.800 doesn't allow",
+        "a field has a value that T.800 doesn't allow, or another segmentation symbol stands than is due",
     ),
     (Fault::Unsupported, "T.800 allows it, and jk leaves it out"),
     (

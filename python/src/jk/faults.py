@@ -41,7 +41,8 @@ class BadLength(Fault):
 
 
 class BadValue(Fault):
-    number, cause = 5, "a field has a value that T.800 doesn't allow"
+    number = 5
+    cause = "a field has a value that T.800 doesn't allow, or another segmentation symbol stands than is due"
 
 
 class Unsupported(Fault):

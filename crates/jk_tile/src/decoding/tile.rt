@@ -148,8 +148,9 @@ pub fn decode_part(
 /// which [`jk_walk::read_packets`] reads.
 ///
 /// The first of these faults, by component, resolution, precinct, sub-band and code-block:
-/// [`Fault::TooManyPasses`] and [`Fault::CodeOutOfInterval`]. Code-blocks of resolutions that
-/// aren't asked for are not decoded.
+/// [`Fault::TooManyPasses`], [`Fault::CodeOutOfInterval`], and [`Fault::BadValue`] where another
+/// segmentation symbol stands than is due. Code-blocks of resolutions that aren't asked for are not
+/// decoded.
 pub fn decode_tile(
     alloc: Global,
     headers: &Codestream,
