@@ -6,7 +6,7 @@ mod head;
 mod place;
 mod writing;
 
-pub use boxes::Form;
+pub use boxes::{BoxHead, COLOUR, Form, HEADER, read_box};
 pub use head::{code_form, code_head};
 pub use place::{Boxed, open};
 pub use writing::{box_front, replace_codestream, wrap};

@@ -1,0 +1,17 @@
+pub use Rattle.jk_math.specs.Answer
+pub use Rattle.byteorder.specs.Endian
+pub mod Passing
+pub mod Grids
+pub mod Header
+pub mod Finding
+pub mod Reading
+pub mod Inches
+pub mod Profiles
+pub mod Extras
+pub mod Placing
+pub mod Dressed
+pub mod Said
+pub mod Given
+pub mod Boxed
+pub mod Texts
+pub mod Examples
