@@ -19,16 +19,16 @@ pub record OthersLeft (file known : List ℕ) (at : ℕ) (due : Result (List ℕ
 pub others_start : (file known : List ℕ) (at : ℕ) → OthersLeft file known at (others_from (length file) known at file)
 others_start file known at = record { most = length file; enough = omega arith; same = refl }
 
-copy_step : (file known : List ℕ) (n at : ℕ) (f : Option Found) → found_at Others at file ≡ Ok f
+pub copy_step : (file known : List ℕ) (n at : ℕ) (f : Option Found) → found_at Others at file ≡ Ok f
     → others_from (suc n) known at file ≡ if_found f (Ok known) (λ g. other_told g >>= λ _. others_from n (known ++ slice_range file g.at (g.at + g.head.size)) (g.at + g.head.size) file)
 unfolding others_from
 copy_step file known n at f found = rw found refl
 
-copy_fault : (file known : List ℕ) (n at : ℕ) (d : Fault) → found_at Others at file ≡ Err d → others_from (suc n) known at file ≡ Err d
+pub copy_fault : (file known : List ℕ) (n at : ℕ) (d : Fault) → found_at Others at file ≡ Err d → others_from (suc n) known at file ≡ Err d
 unfolding others_from
 copy_fault file known n at d found = rw found refl
 
-copy_nothing : (file known : List ℕ) (at : ℕ) → others_from zero known at file ≡ Ok known
+pub copy_nothing : (file known : List ℕ) (at : ℕ) → others_from zero known at file ≡ Ok known
 unfolding others_from
 copy_nothing file known at = refl
 

@@ -1,5 +1,5 @@
 -- A file with extras is told where the file was.
-use Rattle.std.proofs.Common.{◌≡◌, ℕ, ◌+◌, ◌≤◌, Bool, true, false, ◌&&◌, not, cond, eqb, ltb, leb, List, [], ◌∷◌, ◌++◌, length, drop, get_or, Option, Some, None, Result, Ok, Err, refl, sym, ap, ◌∙◌, arith, inl, inr}
+use Rattle.std.proofs.Common.{◌≡◌, ℕ, suc, ◌<◌, ◌+◌, ◌≤◌, Bool, true, false, ◌&&◌, not, cond, eqb, ltb, leb, List, [], ◌∷◌, ◌++◌, length, drop, get_or, Option, Some, None, Result, Ok, Err, refl, sym, ap, ◌∙◌, arith, inl, inr}
 use Rattle.std.specs.Prelude.{is_some}
 use Rattle.std.specs.List.{AllByRecursion, filter}
 use Rattle.std.proofs.lemmas.Bool.{eqb-true, and_parts, leb-true, le-ltb, ne_eqb}
@@ -9,7 +9,7 @@ use Rattle.jk_math.specs.Steps.{bind_then, chosen, ok_is}
 use Rattle.jk_math.specs.declared.fault.Fault.{Fault}
 use Rattle.jk_math.specs.declared.fault.Fault.TheVariants.{BadBox}
 use Rattle.jk_boxes.specs.Boxes.{Box, IsInner, box_text, boxes_text, box_size, head_size, is_open, colour_kind, palette_kind}
-use Rattle.jk_boxes.specs.Reading.{contents_of}
+use Rattle.jk_boxes.specs.Reading.{box_at, contents_of}
 use Rattle.jk_boxes.proofs.Heads.{head_of, box_again, after_box, contents_again, box_some}
 use Rattle.jk_extras.specs.declared.grids.Grids.{Grids}
 use Rattle.jk_extras.specs.declared.header.ToldColour.{ToldColour}
@@ -175,6 +175,13 @@ goes_on met at b after bs due =
       | inr w ↦ goes_by met at b after bs due w.0
     ]
 
+passes_on : (met next last : Met) (n m at : ℕ) (b : Box) (after : List ℕ) → n ≡ suc m → 0 < length (box_text b ++ after) → box_at false (box_text b ++ after) ≡ Ok (head_of b)
+    → met_passed met at (head_of b) (box_text b ++ after) ≡ Ok next → passed_by met_passed false m next (at + box_size b) after ≡ Ok last
+    → passed_by met_passed false n met at (box_text b ++ after) ≡ Ok last
+passes_on met next last n m at b after is some read pass more =
+    let behind = after_box b after in
+    ap (λ k. passed_by met_passed false k met at (box_text b ++ after)) is ∙ pass_step met_passed false m met at (box_text b ++ after) some ∙ rw (read, pass, behind) more
+
 -- what is due is told
 pub told_by_due : (bs : List Box) (n at : ℕ) (met : Met) → AllByRecursion (IsInner palette_kind) bs → length (boxes_text bs) ≤ n → IsDue met bs
     → (last : Met) × (passed_by met_passed false n met at (boxes_text bs) ≡ Ok last)
@@ -187,11 +194,9 @@ told_by_due (b ∷ bs) n at met plain enough due =
     let m = some_left n (length rest) (omega (arith, size, box_some b)) enough in
     let end : is_open b.form ≡ true → (false ≡ true) × (after ≡ []) = λ o. let c = inner.closed in absurd cc in
     let read = box_again false b after inner.box end in
-    let behind = after_box b after in
     let step = goes_on met at b after bs due in
-    let pass = step.pass in
     let more = told_by_due bs m.0 (at + box_size b) step.next plain.1 (omega (arith, size, box_some b, m.1, enough)) step.due in
-    (more.0, ap (λ k. passed_by met_passed false k met at rest) m.1 ∙ pass_step met_passed false m.0 met at rest (omega (arith, size, box_some b)) ∙ rw (read, pass, behind) more.1)
+    (more.0, passes_on met step.next more.0 n m.0 at b after m.1 (omega (arith, size, box_some b)) read step.pass more.1)
 
 -- what is told was due
 last_due : (b : Box) (bs : List Box) (x : Bool) → eqb b.kind colour_kind ≡ false → colour_due bs ≡ Ok x → colour_due (b ∷ bs) ≡ Ok x

@@ -15,4 +15,7 @@ pub mod Again
 pub mod Plainly
 pub mod Copying
 pub mod Cuts
+pub mod Widths
+pub mod NextOther
+pub mod Copies
 pub mod Laws

@@ -26,7 +26,7 @@ pub one_step : (wanted : Wanted) (n at : ℕ) (rest : List ℕ) → 0 < length r
 unfolding found_by
 one_step wanted n at rest some = let e : eqb (length rest) 0 ≡ false = ne_eqb (length rest) 0 (omega arith) in rw e refl
 
-no_step : (wanted : Wanted) (n at : ℕ) (rest : List ℕ) → length rest ≡ 0 → found_by wanted n at rest ≡ Ok None
+pub no_step : (wanted : Wanted) (n at : ℕ) (rest : List ℕ) → length rest ≡ 0 → found_by wanted n at rest ≡ Ok None
 unfolding found_by
 no_step wanted zero at rest none = refl
 no_step wanted (suc n) at rest none = let e : eqb (length rest) 0 ≡ true = eq-eqb (length rest) 0 none in rw e refl

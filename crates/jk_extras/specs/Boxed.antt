@@ -1,5 +1,6 @@
 -- What a file is to keep, as boxes one after another, with the first fault that is met.
-use Rattle.std.specs.Prelude.{ℕ, ◌==◌, ◌||◌, not, nat_lt, Bool, true, false, if◌then◌else◌, List, [], ◌∷◌, ◌++◌, length, take, drop, map}
+use Rattle.std.specs.Prelude.{ℕ, ◌==◌, ◌||◌, not, nat_lt, Bool, true, false}
+use Rattle.std.specs.Prelude.{if◌then◌else◌, List, [], ◌∷◌, ◌++◌, length, take, drop, map}
 use Rattle.std.specs.Prelude.{slice_index, Option, None, is_some, Result, Ok, Err}
 use Rattle.byteorder.specs.Endian.{big_number}
 use Rattle.jk_math.specs.Answer.{◌>>=◌, refuse}
@@ -65,8 +66,10 @@ colour_read contents =
     if nat_lt (length contents) 3 then Err BadBox
     else (if slice_index contents 0 == 1
     then (if not (length contents == 7) then Err BadBox
-    else (if (big_number 4 (drop 3 contents) == 16) || (big_number 4 (drop 3 contents) == 17) then Ok ByNumber else Err BadParameters))
-    else (if slice_index contents 0 == 2 then (if length contents == 3 then Err BadBox else Ok (ByProfile (drop 3 contents)))
+    else (if (big_number 4 (drop 3 contents) == 16) || (big_number 4 (drop 3 contents) == 17)
+    then Ok ByNumber else Err BadParameters))
+    else (if slice_index contents 0 == 2
+    then (if length contents == 3 then Err BadBox else Ok (ByProfile (drop 3 contents)))
     else Err BadParameters))
 
 unfoldable pub other_read : ℕ → List ℕ → Result PlainOther Fault
@@ -85,7 +88,12 @@ read_step known box rest =
     then (refuse (is_some known.capture || is_some known.display) BadBox >>= λ _. grids_at (contents_of box rest)
     >>= λ g. Ok (record { colour = known.colour; capture = g.capture; display = g.display; others = known.others }))
     else (other_read box.kind (contents_of box rest)
-    >>= λ o. Ok (record { colour = known.colour; capture = known.capture; display = known.display; others = known.others ++ o ∷ [] })))
+    >>= λ o. Ok (record {
+      colour = known.colour;
+      capture = known.capture;
+      display = known.display;
+      others = known.others ++ o ∷ [];
+    })))
 
 -- wherever the box stands
 abbrev pub read_step_at : Plain → ℕ → BoxHead → List ℕ → Result Plain Fault

@@ -37,15 +37,17 @@ dressed j e =
     else Err Limit)
     else Err BadParameters
 
--- The text is the file with extras: it holds the same codestream. Of its boxes all but the first JP2
--- header box are those of the file, in their order, and those that are given. The codestream moves by
--- as much as the file grows.
-pub record IsDressed {bytes codestream : List ℕ} (j : IsJp2 bytes codestream) (e : Extras) (text : List ℕ) : Type 0 where
+-- The text is the file with extras: it holds the same codestream. Of its boxes all but the first
+-- JP2 header box are those of the file, in their order, and those that are given. The codestream
+-- moves by as much as the file grows.
+pub record IsDressed {bytes codestream : List ℕ} (j : IsJp2 bytes codestream) (e : Extras)
+    (text : List ℕ) : Type 0 where
   pub is : IsJp2 text codestream
   pub file_type : is.file_type ≡ j.file_type
   pub early : is.early ≡ j.early
   pub header : is.header ≡ dressed_header j e
-  pub header_boxes_are : is.header_next.1.others ≡ header_boxes (components_of j.header_next.1.image) e j.header_next.1.others
+  pub header_boxes_are : is.header_next.1.others
+      ≡ header_boxes (components_of j.header_next.1.image) e j.header_next.1.others
   pub middle : is.middle ≡ j.middle ++ others_boxes e
   pub code : is.code ≡ j.code
   pub after : is.after ≡ j.after

@@ -13,7 +13,8 @@ use Rattle.jk_extras.specs.Profiles.{tags_in, has_tag, lie_within, has_curves}
 use Rattle.jk_extras.specs.Extras.{profile_box, grid_boxes}
 use Rattle.jk_extras.specs.Said.{IccProfile, first_colour}
 
-row_exponents : (signed_byte 0 ≡ pos 0) × (signed_byte 127 ≡ pos 127) × (signed_byte 128 ≡ negsuc 127) × (signed_byte 255 ≡ negsuc 0)
+row_exponents : (signed_byte 0 ≡ pos 0) × (signed_byte 127 ≡ pos 127)
+    × (signed_byte 128 ≡ negsuc 127) × (signed_byte 255 ≡ negsuc 0)
 row_exponents = (refl, refl, refl, refl)
 
 -- 300 samples per inch, down and across: 15000 / 127 * 10^2 per metre
@@ -42,7 +43,8 @@ unfolding colour_at
 row_colours = (refl, refl, refl, refl, refl)
 
 -- a box of a profile of two bytes, and sRGB
-row_profile : boxes_text (profile_box (7 ∷ 9 ∷ []) ∷ []) ≡ 0 ∷ 0 ∷ 0 ∷ 13 ∷ 0x63 ∷ 0x6F ∷ 0x6C ∷ 0x72 ∷ 2 ∷ 0 ∷ 0 ∷ 7 ∷ 9 ∷ []
+row_profile : boxes_text (profile_box (7 ∷ 9 ∷ []) ∷ [])
+    ≡ 0 ∷ 0 ∷ 0 ∷ 13 ∷ 0x63 ∷ 0x6F ∷ 0x6C ∷ 0x72 ∷ 2 ∷ 0 ∷ 0 ∷ 7 ∷ 9 ∷ []
 unfolding box_text
 row_profile = refl
 
@@ -56,9 +58,11 @@ row_resolution = refl
 
 -- a table of two tags: `kTRC` at 156, 14 bytes long, and `wtpt` at 170, 20 bytes long
 abbrev two_tags : List ℕ
-two_tags = 0x6B ∷ 0x54 ∷ 0x52 ∷ 0x43 ∷ 0 ∷ 0 ∷ 0 ∷ 156 ∷ 0 ∷ 0 ∷ 0 ∷ 14 ∷ 0x77 ∷ 0x74 ∷ 0x70 ∷ 0x74 ∷ 0 ∷ 0 ∷ 0 ∷ 170 ∷ 0 ∷ 0 ∷ 0 ∷ 20 ∷ []
+two_tags = 0x6B ∷ 0x54 ∷ 0x52 ∷ 0x43 ∷ 0 ∷ 0 ∷ 0 ∷ 156 ∷ 0 ∷ 0 ∷ 0 ∷ 14
+    ∷ 0x77 ∷ 0x74 ∷ 0x70 ∷ 0x74 ∷ 0 ∷ 0 ∷ 0 ∷ 170 ∷ 0 ∷ 0 ∷ 0 ∷ 20 ∷ []
 
-row_tags : (has_tag 0x6B545243 2 two_tags ≡ true) × (has_tag 0x41324230 2 two_tags ≡ false) × (lie_within 190 2 two_tags ≡ true) × (lie_within 189 2 two_tags ≡ false)
+row_tags : (has_tag 0x6B545243 2 two_tags ≡ true) × (has_tag 0x41324230 2 two_tags ≡ false)
+    × (lie_within 190 2 two_tags ≡ true) × (lie_within 189 2 two_tags ≡ false)
 unfolding tags_in
 row_tags = (refl, refl, refl, refl)
 
@@ -71,6 +75,7 @@ row_per_inch : IsPerInch 300 1 (record { numerator = 15000; denominator = 127; e
 row_per_inch = record { power = 2; exponent = refl; numerator = lit< tt; denominator = lit< tt; same = refl }
 
 -- what boxes say: the first method that T.800 has counts
-row_said : first_colour (record { form = Short; kind = colour_kind; contents = 3 ∷ 0 ∷ 0 ∷ 9 ∷ [] } ∷ profile_box (7 ∷ 9 ∷ []) ∷ colour_box 3 ∷ [])
+row_said : first_colour (record { form = Short; kind = colour_kind; contents = 3 ∷ 0 ∷ 0 ∷ 9 ∷ [] }
+    ∷ profile_box (7 ∷ 9 ∷ []) ∷ colour_box 3 ∷ [])
     ≡ IccProfile (7 ∷ 9 ∷ [])
 row_said = refl

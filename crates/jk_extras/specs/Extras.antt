@@ -1,5 +1,6 @@
 -- What a file is to keep beside the samples, and the boxes in which it does (T.800 Annex I).
-use Rattle.std.specs.Prelude.{◌≡◌, ℕ, ℤ, pos, negsuc, ◌-◌, ◌^◌, ◌==◌, ◌&&◌, ◌||◌, not, nat_le, Bool, true, false, if◌then◌else◌}
+use Rattle.std.specs.Prelude.{◌≡◌, ℕ, ℤ, pos, negsuc, ◌-◌, ◌^◌, ◌==◌}
+use Rattle.std.specs.Prelude.{◌&&◌, ◌||◌, not, nat_le, Bool, true, false, if◌then◌else◌}
 use Rattle.std.specs.Prelude.{List, [], ◌∷◌, ◌++◌, length, map, Option, Some, None, is_some}
 use Rattle.byteorder.specs.Endian.{big_bytes}
 use Rattle.jk_boxes.specs.declared.boxes.Form.TheVariants.{Short}
@@ -70,7 +71,8 @@ grid_boxes kind (Some g) = short_box kind (grid_text g) ∷ []
 
 -- the resolution box: the capture resolution box, the default display resolution box
 abbrev pub grids_box : Option Grid → Option Grid → Box
-grids_box capture display = short_box resolution_kind (boxes_text (grid_boxes capture_kind capture ++ grid_boxes display_kind display))
+grids_box capture display = short_box resolution_kind
+    (boxes_text (grid_boxes capture_kind capture ++ grid_boxes display_kind display))
 
 abbrev pub resolution_box : Extras → Box
 resolution_box e = grids_box e.capture e.display

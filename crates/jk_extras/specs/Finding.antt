@@ -1,10 +1,12 @@
 -- Boxes of a file that are looked for.
-use Rattle.std.specs.Prelude.{ℕ, zero, suc, ◌+◌, ◌-◌, ◌==◌, ◌||◌, nat_lt, Bool, true, if◌then◌else◌, List, length, drop}
+use Rattle.std.specs.Prelude.{◌≡◌, ℕ, zero, suc, ◌+◌, ◌-◌, ◌==◌, ◌||◌, nat_lt}
+use Rattle.std.specs.Prelude.{Bool, true, false, if◌then◌else◌, List, [], ◌∷◌, ◌++◌, length, drop}
 use Rattle.std.specs.Prelude.{Option, Some, None, Result, Ok, Err}
 use Rattle.jk_math.specs.Answer.{◌>>=◌}
 use Rattle.jk_math.specs.declared.fault.Fault.{Fault}
 use Rattle.jk_math.specs.declared.fault.Fault.TheVariants.{BadBox}
-use Rattle.jk_boxes.specs.Boxes.{head_size, header_kind, code_kind}
+use Rattle.jk_boxes.specs.Boxes.{Box, AreBoxes, head_size, box_size, boxes_text, header_kind, code_kind}
+use Rattle.std.specs.List.{AllByRecursion}
 use Rattle.jk_boxes.specs.Reading.{box_at}
 use Rattle.jk_extras.specs.declared.finding.Wanted.{Wanted}
 use Rattle.jk_extras.specs.declared.finding.Wanted.TheVariants.{Header, Code, Others}
@@ -69,3 +71,23 @@ told_or_none (Some f) = other_told f >>= λ t. Ok (Some t)
 -- the first box of XML or under a UUID from a place on
 unfoldable pub other_at : ℕ → List ℕ → Result (Option ToldOther) Fault
 other_at from file = found_at Others from file >>= λ f. told_or_none f
+
+-- a box at a place
+abbrev pub placed_box : ℕ → Box → Found
+placed_box at b = record { at = at; head = record { form = b.form; kind = b.kind; size = box_size b } }
+
+-- Boxes stand from a place on, and none of those that are passed is of XML or under a UUID.
+pub record ArePassed (from : ℕ) (file : List ℕ) (passed behind : List Box) : Type 0 where
+  pub text : drop from file ≡ boxes_text (passed ++ behind)
+  pub boxes : AreBoxes (passed ++ behind)
+  pub others : AllByRecursion (λ (b : Box). is_wanted Others b.kind ≡ false) passed
+
+-- the first box of XML or under a UUID is told, where it stands
+abbrev pub TellsNext : ℕ → List ℕ → Result (Option ToldOther) Fault → Type 0
+TellsNext from file told = (passed : List Box) (b : Box) (behind : List Box) → ArePassed from file passed (b ∷ behind)
+    → is_wanted Others b.kind ≡ true
+    → told ≡ (other_told (placed_box (from + length (boxes_text passed)) b) >>= λ t. Ok (Some t))
+
+-- and nothing where there is none
+abbrev pub TellsNone : ℕ → List ℕ → Result (Option ToldOther) Fault → Type 0
+TellsNone from file told = (passed : List Box) → ArePassed from file passed [] → told ≡ Ok None

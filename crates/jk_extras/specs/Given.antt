@@ -1,5 +1,6 @@
 -- What is read of a file with extras.
-use Rattle.std.specs.Prelude.{◌≡◌, ℕ, ℤ, pos, negsuc, ◌-◌, ◌<◌, ◌^◌, if◌then◌else◌, List, [], ◌∷◌, ◌++◌, length, slice_range, IfSome, Some, Result, Ok}
+use Rattle.std.specs.Prelude.{◌≡◌, ℕ, ℤ, pos, negsuc, ◌-◌, ◌<◌, ◌^◌, if◌then◌else◌}
+use Rattle.std.specs.Prelude.{List, [], ◌∷◌, ◌++◌, length, slice_range, IfSome, Some, Result, Ok}
 use Rattle.std.specs.List.{AllByRecursion}
 use Rattle.jk_math.specs.declared.fault.Fault.{Fault}
 use Rattle.jk_boxes.specs.Boxes.{Box, IsJp2, boxes_text, signature}
@@ -19,7 +20,8 @@ use Rattle.jk_extras.specs.Finding.{other_at}
 use Rattle.jk_extras.specs.Extras.{has_grids}
 use Rattle.jk_extras.specs.Dressed.{components_of, dressed_header, dressed}
 use Rattle.jk_extras.specs.Reading.{extras_at}
-use Rattle.jk_extras.specs.Said.{SaidColour, Number, IccProfile, colour_told, first_colour, first_resolution, resolutions_said}
+use Rattle.jk_extras.specs.Said.{SaidColour, Number, IccProfile}
+use Rattle.jk_extras.specs.Said.{colour_told, first_colour, first_resolution, resolutions_said}
 
 -- numbers of 16 bits, an exponent of 8 bits in two's complement
 abbrev pub FitsByte : ℤ → Type 0
@@ -43,7 +45,8 @@ colour_given components (Profile p) before = IccProfile p.items
 -- and so do resolutions
 abbrev pub resolutions_given : Extras → List Box → Result Grids Fault
 resolutions_given e before =
-    if has_grids e then Ok (record { capture = e.capture; display = e.display }) else resolutions_said (first_resolution before)
+    if has_grids e then Ok (record { capture = e.capture; display = e.display })
+    else resolutions_said (first_resolution before)
 
 -- What is told is what was given, and where nothing was, what the boxes said before.
 pub record IsReadBack (components : ℕ) (e : Extras) (before : List Box) (text : List ℕ) (t : Told) : Type 0 where
@@ -84,9 +87,17 @@ abbrev pub HasUuid : Other → Type 0
 HasUuid (Xml x) = Unit {0}
 HasUuid (Uuid id x) = length id ≡ 16
 
+-- what is given holds numbers of their widths
+pub record FitsExtras (e : Extras) : Type 0 where
+  pub capture_fits : IfSome e.capture FitsGrid
+  pub display_fits : IfSome e.display FitsGrid
+  pub uuids_fit : AllByRecursion HasUuid e.others.items
+
 -- boxes that are given are read, from the place behind all others that stand before the codestream
 -- box
 abbrev pub OthersAreRead : Type 0
-OthersAreRead = (file codestream : List ℕ) (j : IsJp2 file codestream) (e : Extras) (text : List ℕ) → AllByRecursion HasUuid e.others.items
+OthersAreRead = (file codestream : List ℕ) (j : IsJp2 file codestream) (e : Extras) (text : List ℕ)
+    → AllByRecursion HasUuid e.others.items
     → dressed j e ≡ Ok text
-    → AreTold text (length (signature ++ boxes_text (j.file_type ∷ (j.early ++ (dressed_header j e ∷ j.middle))))) e.others.items
+    → AreTold text (length (signature ++ boxes_text (j.file_type ∷ (j.early ++ (dressed_header j e ∷ j.middle)))))
+    e.others.items

@@ -1,5 +1,6 @@
 -- Resolutions (T.800 I.5.3.7).
-use Rattle.std.specs.Prelude.{ℕ, ℤ, pos, negsuc, ◌+◌, ◌-◌, ◌==◌, ◌&&◌, ◌||◌, not, nat_lt, Bool, false, if◌then◌else◌, List, length, drop}
+use Rattle.std.specs.Prelude.{ℕ, ℤ, pos, negsuc, ◌+◌, ◌-◌, ◌==◌, ◌&&◌}
+use Rattle.std.specs.Prelude.{◌||◌, not, nat_lt, Bool, false, if◌then◌else◌, List, length, drop}
 use Rattle.std.specs.Prelude.{slice_index, Some, None, is_some, Result, Ok}
 use Rattle.byteorder.specs.Endian.{big_number}
 use Rattle.jk_math.specs.Answer.{◌>>=◌, refuse}
@@ -33,7 +34,8 @@ ratio_of at exponent contents =
     }
 
 abbrev pub has_zero : Grid → Bool
-has_zero g = (g.down.numerator == 0) || (g.down.denominator == 0) || (g.across.numerator == 0) || (g.across.denominator == 0)
+has_zero g =
+    (g.down.numerator == 0) || (g.down.denominator == 0) || (g.across.numerator == 0) || (g.across.denominator == 0)
 
 -- the vertical ratio, the horizontal one, and their exponents
 abbrev pub grid_of : List ℕ → Grid

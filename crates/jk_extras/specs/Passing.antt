@@ -7,7 +7,8 @@ use Rattle.jk_boxes.specs.Reading.{box_at}
 
 -- What is known at the end of the boxes, of which there are n at most; `ends`: the file ends with
 -- them.
-unfoldable pub passed_by : {T : Type 0} → (T → ℕ → BoxHead → List ℕ → Result T Fault) → Bool → ℕ → T → ℕ → List ℕ → Result T Fault
+unfoldable pub passed_by : {T : Type 0}
+    → (T → ℕ → BoxHead → List ℕ → Result T Fault) → Bool → ℕ → T → ℕ → List ℕ → Result T Fault
 passed_by step ends zero known at rest = Ok known
 passed_by step ends (suc n) known at rest =
     if length rest == 0 then Ok known

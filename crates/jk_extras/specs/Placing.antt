@@ -25,12 +25,17 @@ kept_step e known at box rest = if goes e box.kind then Ok known else Ok (known 
 abbrev pub kept_after : Extras → List ℕ → List ℕ → Result (List ℕ) Fault
 kept_after e known boxes = passed_by (kept_step e) false (length boxes) known 0 boxes
 
--- the contents of the JP2 header box: its image header box, of which NC is at 8 of the contents
+-- how the contents of the JP2 header box begin: the image header box, of whose contents NC is at 8,
+-- and the colour that is given
+abbrev pub header_begun : Extras → List ℕ → List ℕ
+header_begun e contents = take 22 contents ++ boxes_text (colour_boxes (big_number 2 (drop 16 contents)) e.colour)
+
+-- the contents of the JP2 header box
 unfoldable pub header_dressed : Extras → List ℕ → Result (List ℕ) Fault
 header_dressed e contents = do
   _ ← refuse (nat_lt (length contents) 22) BadBox
   _ ← refuse (not (is_extras (big_number 2 (drop 16 contents)) e)) BadParameters
-  text ← kept_after e (take 22 contents ++ boxes_text (colour_boxes (big_number 2 (drop 16 contents)) e.colour)) (drop 22 contents)
+  text ← kept_after e (header_begun e contents) (drop 22 contents)
   Ok (text ++ boxes_text (resolution_boxes e))
 
 -- the file, with other contents in the JP2 header box and boxes before the codestream box

@@ -1,6 +1,7 @@
 -- Restricted ICC profiles (T.800 I.5.3.3), by the fields of the header of an ICC profile and by its
 -- table of tags. Fields are numbers, the highest byte first.
-use Rattle.std.specs.Prelude.{ℕ, zero, suc, ◌+◌, ◌*◌, ◌^◌, ◌==◌, ◌&&◌, ◌||◌, not, nat_le, Bool, if◌then◌else◌, List, [], ◌∷◌, length, drop}
+use Rattle.std.specs.Prelude.{ℕ, zero, suc, ◌+◌, ◌*◌, ◌^◌, ◌==◌, ◌&&◌, ◌||◌}
+use Rattle.std.specs.Prelude.{not, nat_le, Bool, if◌then◌else◌, List, [], ◌∷◌, length, drop}
 use Rattle.std.specs.Prelude.{slice_index}
 use Rattle.std.specs.List.{list_any, list_all}
 use Rattle.byteorder.specs.Endian.{big_number}
@@ -12,7 +13,8 @@ pub record Tag : Type 0 where
   pub size : ℕ
 
 abbrev pub tag_of : List ℕ → Tag
-tag_of entry = record { signature = big_number 4 entry; start = big_number 4 (drop 4 entry); size = big_number 4 (drop 8 entry) }
+tag_of entry =
+    record { signature = big_number 4 entry; start = big_number 4 (drop 4 entry); size = big_number 4 (drop 8 entry) }
 
 -- a table of n entries of 12 bytes each
 unfoldable pub tags_in : ℕ → List ℕ → List Tag

@@ -1,5 +1,5 @@
--- What the boxes of a JP2 header box say of colour and resolution (T.800 I.5.3), and what is told of
--- it.
+-- What the boxes of a JP2 header box say of colour and resolution (T.800 I.5.3), and what is told
+-- of it.
 use Rattle.std.specs.Prelude.{◌≡◌, ℕ, ◌==◌, if◌then◌else◌, List, [], ◌∷◌, drop, slice_index, slice_range}
 use Rattle.std.specs.Prelude.{Option, Some, None, Result, Ok}
 use Rattle.byteorder.specs.Endian.{big_number}
@@ -55,4 +55,5 @@ colour_told bytes (Profile start end) = IccProfile (slice_range bytes start end)
 -- It is told what the boxes say.
 pub record IsTold (bytes : List ℕ) (told : Told) (boxes : List Box) : Type 0 where
   pub colour_is : colour_told bytes told.colour ≡ first_colour boxes
-  pub resolutions_are : resolutions_said (first_resolution boxes) ≡ Ok (record { capture = told.capture; display = told.display })
+  pub resolutions_are : resolutions_said (first_resolution boxes)
+      ≡ Ok (record { capture = told.capture; display = told.display })

@@ -1,16 +1,19 @@
 -- What a file keeps, as boxes one after another, with the first fault that is met.
-use Rattle.std.specs.Prelude.{ℕ, zero, suc, ◌+◌, ◌^◌, ◌||◌, nat_lt, if◌then◌else◌, List, [], ◌∷◌, ◌++◌, length, slice_range}
+use Rattle.std.specs.Prelude.{◌≡◌, ℕ, zero, suc, ◌+◌, ◌^◌, ◌||◌}
+use Rattle.std.specs.Prelude.{nat_lt, if◌then◌else◌, List, [], ◌∷◌, ◌++◌, length, slice_range}
 use Rattle.std.specs.Prelude.{Option, Some, None, is_some, Result, Ok, Err}
 use Rattle.jk_math.specs.Answer.{◌>>=◌}
 use Rattle.jk_math.specs.declared.fault.Fault.{Fault}
 use Rattle.jk_math.specs.declared.fault.Fault.TheVariants.{BadBox, Limit}
-use Rattle.jk_boxes.specs.Boxes.{boxes_text}
+use Rattle.jk_boxes.specs.Boxes.{Box, IsJp2, boxes_text}
+use Rattle.std.specs.List.{filter}
+use Rattle.jk_extras.specs.declared.told.Told.{Told}
 use Rattle.jk_extras.specs.declared.finding.Found.{Found}
 use Rattle.jk_extras.specs.declared.finding.Wanted.TheVariants.{Others}
 use Rattle.jk_extras.specs.declared.header.ToldColour.{ToldColour}
 use Rattle.jk_extras.specs.declared.header.ToldColour.TheVariants.{Nothing, Enumerated, Profile}
 use Rattle.jk_extras.specs.declared.grids.Grid.{Grid}
-use Rattle.jk_extras.specs.Finding.{found_at, other_told}
+use Rattle.jk_extras.specs.Finding.{is_wanted, found_at, other_told}
 use Rattle.jk_extras.specs.Reading.{extras_at}
 use Rattle.jk_extras.specs.Extras.{space_box, profile_box, grids_box}
 
@@ -44,6 +47,21 @@ others_from zero known at file = Ok known
 others_from (suc n) known at file = found_at Others at file
     >>= λ f. if_found f (Ok known) (λ g. other_told g
     >>= λ _. others_from n (known ++ slice_range file g.at (g.at + g.head.size)) (g.at + g.head.size) file)
+
+-- the boxes of a JP2 file
+abbrev pub all_boxes : {bytes codestream : List ℕ} → IsJp2 bytes codestream → List Box
+all_boxes j = j.file_type ∷ (j.early ++ (j.header ∷ (j.middle ++ (j.code ∷ j.after))))
+
+-- The text has the boxes of what is told, and all boxes of XML and under UUIDs of the file, in
+-- their order.
+pub record HasTold {bytes codestream : List ℕ} (j : IsJp2 bytes codestream) (written : List ℕ) : Type 0 where
+  pub told : Told
+  pub is : extras_at bytes ≡ Ok told
+  pub colour : List ℕ
+  pub colour_is : colour_text bytes told.colour ≡ Ok colour
+  pub written_is : written ≡ colour
+      ++ (resolution_text told.capture told.display
+      ++ boxes_text (filter (λ (b : Box). is_wanted Others b.kind) (all_boxes j)))
 
 unfoldable pub extras_text : List ℕ → Result (List ℕ) Fault
 extras_text file = do

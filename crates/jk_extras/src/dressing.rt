@@ -112,10 +112,10 @@ fn dressing(alloc: Global, file: &[u8], extras: &Extras) -> Result<Vec<u8>, Faul
     dress(alloc, file, &header, code.at, &contents, extras)
 }
 
-/// A JP2 file with what it is to keep: in its JP2 header box the colour and the resolutions that are
-/// given, in the place of those that it has (T.800 I.5.3.3, I.5.3.7), and right before its
-/// codestream box the boxes of XML and under UUIDs that are given (I.7). All other boxes stay as they
-/// are.
+/// A JP2 file with what it is to keep: in its JP2 header box the colour and the resolutions that
+/// are given, in the place of those that it has (T.800 I.5.3.3, I.5.3.7), and right before its
+/// codestream box the boxes of XML and under UUIDs that are given (I.7). All other boxes stay as
+/// they are.
 ///
 /// The first of these: the faults of `open`; BadParameters, a bare codestream, and what `judge`
 /// refuses by the number of components of the image header box; Limit, a JP2 header box that is too

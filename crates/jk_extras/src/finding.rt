@@ -3,6 +3,7 @@
 ghost use Rattle.std.specs.Prelude.{◌≡◌, ◌+◌, ◌≤◌, ◌<◌, length, drop, IfOk, IfSome};
 ghost use Rattle.jk_boxes.specs.Boxes.{head_size};
 ghost use Rattle.jk_extras.specs.Finding.{is_wanted, found_at, one_found, header_found, other_told, other_at};
+ghost use Rattle.jk_extras.specs.Finding.{TellsNext, TellsNone};
 
 use jk_boxes::{BoxHead, HEADER, read_box};
 use jk_math::Fault;
@@ -136,12 +137,8 @@ pub(crate) fn tell(found: Found) -> Result<ToldOther, Fault>
     })
 }
 
-/// The first box of XML or under a UUID of a JP2 file, from a place on at which a box begins: from
-/// `others` of what `extras_at` tells, and then from the `end` of the last one.
-///
-/// Truncated, BadBox: as `open` has them, of a box up to it; BadBox: a UUID of fewer than 16 bytes.
 #[tactic(auto, unfolding(crate::specs::Finding::other_at))]
-pub fn other_after(file: &[u8], from: usize) -> Result<Option<ToldOther>, Fault>
+fn next_other(file: &[u8], from: usize) -> Result<Option<ToldOther>, Fault>
     ensures { result ≡ other_at from file.now }
 {
     match find(file, from, Wanted::Others)? {
@@ -151,4 +148,17 @@ pub fn other_after(file: &[u8], from: usize) -> Result<Option<ToldOther>, Fault>
         }
         None => Ok(None),
     }
+}
+
+/// The first box of XML or under a UUID of a JP2 file, from a place on at which a box begins: from
+/// `others` of what `extras_at` tells, and then from the `end` of the last one.
+///
+/// Truncated, BadBox: as `open` has them, of a box up to it; BadBox: a UUID of fewer than 16 bytes.
+pub fn other_after(file: &[u8], from: usize) -> Result<Option<ToldOther>, Fault>
+    ensures exact { result ≡ other_at from file.now }
+    // It is the first of the boxes from there on that is of XML or under a UUID.
+    ensures next { TellsNext from file.now result }
+    ensures last { TellsNone from file.now result }
+{
+    next_other(file, from)
 }

@@ -34,11 +34,11 @@ fn reduced(above: u64, below: u64) -> Option<(u16, u16)>
     Some((numerator as u16, denominator as u16))
 }
 
-/// Samples per metre by samples per inch, exactly: `n / d` samples stand on an inch. The exponent is
-/// 2, or else 3, or else 4.
+/// Samples per metre by samples per inch, exactly: `n / d` samples stand on an inch. The exponent
+/// is 2, or else 3, or else 4.
 ///
-/// Nothing, where `n` or `d` is 0, and where no numerator and denominator of 16 bits have this value
-/// with one of these exponents. Every whole number of 1 to 65,535 has one.
+/// Nothing, where `n` or `d` is 0, and where no numerator and denominator of 16 bits have this
+/// value with one of these exponents. Every whole number of 1 to 65,535 has one.
 pub fn per_inch(n: u32, d: u32) -> Option<Ratio>
     ensures exact { IfSome result (λ r. IsPerInch n d r) }
     ensures whole { 1 ≤ n → n < 2 ^ 16 → d ≡ 1 → IsSome result }

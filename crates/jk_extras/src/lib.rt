@@ -1,5 +1,5 @@
-//! What a JP2 file keeps beside the samples of its image (T.800 Annex I): its colour, its
-//! resolution, and boxes of XML or under a UUID.
+//! What a JP2 file keeps beside the samples of its image (T.800 Annex I), read and given: its
+//! colour, its resolution, and boxes of XML or under a UUID.
 #![tactic(auto)]
 
 mod dressing;

@@ -1,10 +1,11 @@
 //! What a file is to keep, as boxes one after another.
 
-ghost use Rattle.std.specs.Prelude.{◌≡◌, ◌≤◌, length};
+ghost use Rattle.std.specs.Prelude.{◌≡◌, ◌≤◌, length, IfOk};
 ghost use Rattle.jk_math.specs.Answer.{Answers};
 ghost use Rattle.jk_boxes.specs.Boxes.{head_size};
 ghost use Rattle.jk_extras.specs.Boxed.{plain, plain_colour, plain_other, colour_read, other_read, read_step};
 ghost use Rattle.jk_extras.specs.Boxed.{extras_read};
+ghost use Rattle.jk_extras.specs.Given.{FitsExtras};
 
 use crate::finding::{UUID, XML};
 use crate::grids::read_grids;
@@ -90,16 +91,7 @@ fn add(alloc: Global, extras: &mut Extras, head: &BoxHead, rest: &[u8]) -> Resul
     Ok(())
 }
 
-/// What a file is to keep, from boxes one after another: one colour specification box (T.800
-/// I.5.3.3) and one resolution box (I.5.3.7) at most, and boxes of XML and under UUIDs (I.7). It isn't
-/// judged (`judge`).
-///
-/// The first of these from left to right: Truncated and BadBox, a box, and one within the resolution
-/// box; BadBox, a second box of these, one of another kind, a colour specification of fewer than 3
-/// bytes, an enumerated one of other than 7, a profile of none, a resolution of other than 10, a UUID
-/// of fewer than 16; BadParameters, a number other than those of sRGB and greyscale, and a method
-/// other than 1 and 2; BadValue, a numerator or a denominator of 0.
-pub fn read_extras(alloc: Global, boxes: &[u8]) -> Result<Extras, Fault>
+fn read_all(alloc: Global, boxes: &[u8]) -> Result<Extras, Fault>
     ensures { Answers plain result (extras_read boxes.now) }
 {
     let mut extras = Extras::none(alloc);
@@ -111,4 +103,21 @@ pub fn read_extras(alloc: Global, boxes: &[u8]) -> Result<Extras, Fault>
         at += head.size;
     }
     Ok(extras)
+}
+
+/// What a file is to keep, from boxes one after another: one colour specification box (T.800
+/// I.5.3.3) and one resolution box (I.5.3.7) at most, and boxes of XML and under UUIDs (I.7). It
+/// isn't judged (`judge`).
+///
+/// The first of these from left to right: Truncated and BadBox, a box, and one within the
+/// resolution box; BadBox, a second box of these, one of another kind, a colour specification of
+/// fewer than 3 bytes, an enumerated one of other than 7, a profile of none, a resolution of other
+/// than 10, a UUID of fewer than 16; BadParameters, a number other than those of sRGB and
+/// greyscale, and a method other than 1 and 2; BadValue, a numerator or a denominator of 0.
+pub fn read_extras(alloc: Global, boxes: &[u8]) -> Result<Extras, Fault>
+    ensures exact { Answers plain result (extras_read boxes.now) }
+    // Its numbers have the widths of their fields.
+    ensures fits { IfOk result FitsExtras }
+{
+    read_all(alloc, boxes)
 }

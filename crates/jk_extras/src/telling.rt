@@ -1,9 +1,10 @@
 //! What a file keeps, as boxes one after another.
 
-ghost use Rattle.std.specs.Prelude.{◌≡◌, ◌++◌, length, OnOk, IfErr};
+ghost use Rattle.std.specs.Prelude.{◌≡◌, ◌++◌, List, ℕ, length, IfOk, OnOk, IfErr};
 ghost use Rattle.jk_math.specs.Answer.{Answers};
 ghost use Rattle.jk_math.specs.Memory.{IsMemory};
-ghost use Rattle.jk_extras.specs.Texts.{colour_after, resolution_text, others_from, extras_text};
+ghost use Rattle.jk_boxes.specs.Boxes.{IsJp2};
+ghost use Rattle.jk_extras.specs.Texts.{HasTold, colour_after, resolution_text, others_from, extras_text};
 
 use crate::finding::{Wanted, find, tell};
 use crate::grids::Grid;
@@ -69,14 +70,8 @@ fn put_others(out: &mut Vec<u8>, file: &[u8], from: usize) -> Result<(), Fault>
     Ok(())
 }
 
-/// What a file keeps beside the samples, as boxes one after another: the colour specification that
-/// is told, the resolutions that are told, and the boxes of XML and under UUIDs in their order. It is
-/// what `read_extras` takes.
-///
-/// The first of these: the faults of `extras_at`; Limit, a profile of more than 2^24 bytes; the
-/// faults of `other_after`.
 #[tactic(auto, unfolding(crate::specs::Texts::extras_text))]
-pub fn extras_text(alloc: Global, file: &[u8]) -> Result<Vec<u8>, Fault>
+fn text(alloc: Global, file: &[u8]) -> Result<Vec<u8>, Fault>
     ensures { Answers (λ v. v.items) result (extras_text file.now) }
 {
     let told = extras_at(file)?;
@@ -85,4 +80,18 @@ pub fn extras_text(alloc: Global, file: &[u8]) -> Result<Vec<u8>, Fault>
     put_resolution(&mut out, &told.capture, &told.display)?;
     put_others(&mut out, file, told.others)?;
     Ok(out)
+}
+
+/// What a file keeps beside the samples, as boxes one after another: the colour specification that
+/// is told, the resolutions that are told, and the boxes of XML and under UUIDs in their order. It
+/// is what `read_extras` takes.
+///
+/// The first of these: the faults of `extras_at`; Limit, a profile of more than 2^24 bytes; the
+/// faults of `other_after`.
+pub fn extras_text(alloc: Global, file: &[u8]) -> Result<Vec<u8>, Fault>
+    ensures exact { Answers (λ v. v.items) result (extras_text file.now) }
+    // It has what is told, and all boxes of XML and under UUIDs.
+    ensures found { (codestream : List ℕ) (j : IsJp2 file.now codestream) → IfOk result (λ v. HasTold j v.items) }
+{
+    text(alloc, file)
 }

@@ -32,8 +32,8 @@ pub enum Other {
 #[derive(Debug, Drop)]
 pub struct Extras {
     pub colour: Colour,
-    /// The resolution at which the image was captured. With this or the next, what the file tells of
-    /// resolutions gives way to both.
+    /// The resolution at which the image was captured. With this or the next, what the file tells
+    /// of resolutions gives way to both.
     pub capture: Option<Grid>,
     /// The resolution at which it is to be displayed.
     pub display: Option<Grid>,

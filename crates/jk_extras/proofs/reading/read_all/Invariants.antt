@@ -1,7 +1,7 @@
 use Rattle.std.proofs.Common.{◌≤◌, ◌-◌, length, drop, true}
 use Rattle.jk_extras.specs.Boxed.{plain, read_step_at, extras_read}
 use Rattle.jk_extras.proofs.Passing.{Left}
-use Rattle.jk_extras.proofs.reading.read_extras.Given as goal
+use Rattle.jk_extras.proofs.reading.read_all.Given as goal
 
 abbrev pub invariant-loop-at : goal.invariant-loop-at
 invariant-loop-at l = record {
