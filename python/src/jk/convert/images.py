@@ -1,0 +1,75 @@
+"""What an image is between two files, and what isn't taken."""
+from __future__ import annotations
+
+import contextlib
+import os
+from dataclasses import dataclass
+from typing import Iterator, Optional, Tuple
+
+import numpy as np
+
+from .._beside import Kept
+
+#: What a file is, by the bytes that it begins with.
+BEGINNINGS = (
+    ("tiff", b"II*\0"), ("tiff", b"MM\0*"), ("tiff", b"II+\0"), ("tiff", b"MM\0+"), ("png", b"\x89PNG\r\n\x1a\n"),
+    ("pnm", b"P5"), ("pnm", b"P6"), ("jp2", b"\0\0\0\x0cjP  \r\n\x87\n"), ("jp2", b"\xff\x4f\xff\x51"),
+)
+#: The endings of files that are looked for in a folder, and what they are.
+ENDINGS = {
+    ".tif": "tiff", ".tiff": "tiff", ".png": "png", ".pgm": "pnm", ".ppm": "pnm", ".pnm": "pnm", ".jp2": "jp2",
+    ".j2k": "jp2", ".j2c": "jp2", ".jpc": "jp2",
+}
+
+
+class Refused(ValueError):
+    """A file that isn't taken, and why."""
+
+
+@dataclass(frozen=True)
+class Picture:
+    """An image, and what is known of it."""
+
+    #: (height, width), or (height, width, 3).
+    samples: np.ndarray
+    #: Bits of a sample, the sign counted.
+    depth: int
+    kept: Kept = Kept()
+    #: What stands beside the samples and isn't in `kept`.
+    lost: Tuple[str, ...] = ()
+    notes: Tuple[str, ...] = ()
+    #: Opacity, (height, width), of the depth of the samples.
+    alpha: Optional[np.ndarray] = None
+    #: Which image of its file it is, from 0 on.
+    number: int = 0
+
+
+def kind_of(path: str) -> str:
+    """What a file is: tiff, png, pnm or jp2."""
+    with open(path, "rb") as file:
+        head = file.read(16)
+    for kind, beginning in BEGINNINGS:
+        if head.startswith(beginning):
+            return kind
+    if not head:
+        raise Refused("the file is empty")
+    raise Refused("this is no TIFF, PNG, PGM, PPM or JPEG 2000 file, by its first bytes")
+
+
+def type_of(depth: int, signed: bool = False) -> np.dtype:
+    """The type of samples of so many bits."""
+    return np.dtype(f"{'i' if signed else 'u'}{1 if depth <= 8 else 2}")
+
+
+@contextlib.contextmanager
+def unchanged(path: str) -> Iterator[None]:
+    """Refuses a file that another program writes meanwhile."""
+    before = _state(path)
+    yield
+    if _state(path) != before:
+        raise Refused("the file changed while it was read")
+
+
+def _state(path: str) -> Tuple[int, ...]:
+    told = os.stat(path)
+    return told.st_dev, told.st_ino, told.st_size, told.st_mtime_ns, told.st_ctime_ns

@@ -1,0 +1,177 @@
+"""One file: read, written, read back from the disk and compared, and read a second time."""
+from __future__ import annotations
+
+import hashlib
+import os
+import time
+from dataclasses import dataclass, field, replace
+from typing import Any, BinaryIO, Callable, Dict, Iterator, List, Tuple, Union
+
+import numpy as np
+
+from ..faults import Fault
+from . import jp2, png, pnm, tiff, tiff_writing
+from .again import agreed
+from .images import Picture, Refused, kind_of, unchanged
+from .into import Adding
+from .placing import Placing, digest_of
+from .rows import Row
+
+READERS: Dict[str, Callable[[str], Iterator[Picture]]] = {
+    "tiff": tiff.pictures, "png": png.pictures, "pnm": pnm.pictures, "jp2": jp2.pictures,
+}
+WRITERS: Dict[str, Callable[[BinaryIO, Picture], List[str]]] = {
+    "tiff": tiff_writing.write, "png": png.write, "pnm": pnm.write,
+}
+
+
+@dataclass(frozen=True)
+class Asked:
+    """How files are converted."""
+
+    #: What is written: tiff, png, pnm or jp2.
+    to: str = "jp2"
+    #: Whether a file is refused of which something isn't carried.
+    strict: bool = False
+    raw: bool = False
+    #: The parameters of `jk.encode`.
+    parameters: Dict[str, Any] = field(default_factory=dict)
+    #: An archive that files are added to, by a program `jk`.
+    into: str = ""
+    program: str = "jk"
+
+
+@dataclass(frozen=True)
+class Job:
+    """A file to convert."""
+
+    name: str
+    source: str
+    #: Where OUT goes, without its ending.
+    stem: str
+    #: The ending of OUT; nothing where it follows from the image.
+    ending: str
+    #: The folder from which the table counts.
+    base: str
+    asked: Asked
+    #: The rows that stand of it.
+    rows: Tuple[Row, ...] = ()
+
+
+@dataclass(frozen=True)
+class Done:
+    """What became of a file."""
+
+    job: Job
+    rows: Tuple[Row, ...] = ()
+    refused: str = ""
+    #: Whether it had been converted before.
+    is_passed: bool = False
+
+
+def done(job: Job) -> Done:
+    """Converts a file, or tells why it isn't."""
+    try:
+        if job.rows and stands(job):
+            return Done(job, job.rows, is_passed=True)
+        return Done(job, tuple(converted(job)))
+    except (Fault, Refused, OSError, MemoryError) as why:
+        return Done(job, refused=str(why) or type(why).__name__)
+
+
+def stands(job: Job) -> bool:
+    """Whether all that its rows tell is so."""
+    for row in job.rows:
+        out = os.path.join(job.base, row.out)
+        if os.path.getsize(job.source) != row.size or not os.path.isfile(out) or digest_of(out) != row.sha256_of_out:
+            return False
+    return True
+
+
+def converted(job: Job) -> List[Row]:
+    """Converts a file. Its rows are to be written when its files are in their places, as they are then."""
+    begun, asked = time.monotonic(), job.asked
+    made: List[Tuple[str, Dict[str, str]]] = []
+    with Adding(asked.into, asked.program, asked.parameters) if asked.into else Placing() as placing:
+        with unchanged(job.source):
+            size, kind = os.path.getsize(job.source), kind_of(job.source)
+            judge_kinds(kind, asked.to)
+            count = len(tiff.directories_of(job.source)) if kind == "tiff" else 1
+            for number, picture in enumerate(READERS[kind](job.source), 1):
+                reader = agreed(job.source, kind, picture)
+                notes = [*picture.notes, f"read again by {reader}" if reader else "read by one reader alone"]
+                stem = f"{job.stem}-{number:04}" if count > 1 else job.stem
+                made.append(written(job, stem, picture, notes, placing))
+                if picture.alpha is not None:
+                    opacity = Picture(picture.alpha, picture.depth)
+                    made.append(written(job, f"{stem}-alpha", opacity, ["of the image before"], placing))
+        placing.place()
+    seconds = f"{time.monotonic() - begun:.3f}"
+    return [Row(job.name, size, out=os.path.relpath(out, job.base), part=f"{number}/{len(made)}", seconds=seconds,
+                sha256_of_out=digest_of(out), **told)
+            for number, (out, told) in enumerate(made, 1)]
+
+
+def judge_kinds(kind: str, to: str) -> None:
+    """Either what is read or what is written is JPEG 2000."""
+    if kind == to == "jp2":
+        raise Refused("it is JPEG 2000 already")
+    if "jp2" not in (kind, to):
+        raise Refused(f"it is no JPEG 2000 file, of which {to} is made")
+
+
+def ending_of(job: Job, picture: Picture) -> str:
+    """The ending of OUT, which may be told and must fit then."""
+    is_grey, is_raw = picture.samples.ndim == 2, job.asked.raw or picture.samples.dtype.kind == "i"
+    due = {"tiff": ".tif", "png": ".png", "pnm": ".pgm" if is_grey else ".ppm", "jp2": ".j2k" if is_raw else ".jp2"}
+    if job.ending.lower() in (".pgm", ".ppm") and job.ending.lower() != due["pnm"]:
+        raise Refused(f"OUT ends with {job.ending}, and the image is {'grey' if is_grey else 'RGB'}")
+    return job.ending or due[job.asked.to]
+
+
+def written(
+    job: Job, stem: str, picture: Picture, notes: List[str], placing: Union[Placing, Adding]
+) -> Tuple[str, Dict[str, str]]:
+    """Writes an image beside its place and reads it back; where it goes, and what its row tells."""
+    out, kind = stem + ending_of(job, picture), "pnm" if job.asked.into else job.asked.to
+    if job.asked.into and picture.samples.dtype.kind == "i":
+        raise Refused("samples are signed, and an archive holds none")
+    with placing.part(out) as (path, file):
+        if kind == "jp2":
+            left = jp2.write(file, picture, not out.lower().endswith(".jp2"), job.asked.parameters)
+        else:
+            left = WRITERS[kind](file, picture)
+    lost = [*picture.lost, *left]
+    if lost and job.asked.strict:
+        raise Refused(f"not carried: {', '.join(lost)}")
+    notes = notes + read_back(path, kind, picture) + [f"not carried: {', '.join(lost)}"] * bool(lost)
+    carried = ", ".join(name for name in picture.kept.names() if name not in left)
+    return out, {"image": image_of(picture), "sha256_of_samples": digest_of_samples(picture.samples),
+                 "carried": carried, "notes": "; ".join(notes)}
+
+
+def read_back(path: str, kind: str, picture: Picture) -> List[str]:
+    """Compares what stands on the disk with an image; notes."""
+    back, = READERS[kind](path)
+    if back.samples.dtype != picture.samples.dtype or not np.array_equal(back.samples, picture.samples):
+        raise Refused("what was written reads back with other samples")
+    # PNG has no place for IPTC, and PGM and PPM for nothing.
+    due = replace(picture.kept, iptc=b"") if kind == "png" else picture.kept
+    if kind in ("tiff", "png") and not back.kept.tells_the_same(due):
+        raise Refused("what was written reads back with other things beside the samples")
+    agreed(path, kind, back)
+    if back.depth == picture.depth:
+        return []
+    return [f"samples of {picture.depth} bits stand in {back.depth}, as they are"]
+
+
+def image_of(picture: Picture) -> str:
+    """Width, height, components and bits of a sample."""
+    height, width, *components = picture.samples.shape
+    return f"{width} {height} {(components or [1])[0]} {picture.depth}"
+
+
+def digest_of_samples(samples: np.ndarray) -> str:
+    """SHA-256 of samples, as a row tells it."""
+    little = samples.astype(samples.dtype.newbyteorder("<"), copy=False)
+    return hashlib.sha256(np.ascontiguousarray(little).data).hexdigest()
