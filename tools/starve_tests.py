@@ -82,7 +82,7 @@ OTHERWISE = (
     ("vectors_files (output::a_pipe|replacing::as_it_is)", r'left: "look d/pipe;.*write d/pipe;"', DISK),
     ("vectors_files listing::one_of_each", r'left: "file.jp2 last.jp2 .*gone.jp2 NotFound', DISK),
     ("vectors_pnm ", PASSES, "a list isn't shortened"),
-    ("vectors_pnm ", "error: Shelf", WRITER),
+    ("vectors_pnm ", "a file: Shelf", WRITER),
     # Files written and read.
     ("vectors_codec (pages|written|sizes|writers)::", PASSES, "a list isn't shortened"),
     ("vectors_codec writers::", r'error: "(the first bytes of the file|the file|another answer)"', "F1 isn't told"),
@@ -114,7 +114,7 @@ ENDINGS, LAST = ("vectors_store first_faults::one_file_too_many",), 40
 # The tests that the gate takes, by how their names begin: they run in one thread, make few growths or go on behind a
 # refusal, and so the same growths are refused at each run.
 GATE = ("vectors_mq ", "vectors_block ", "vectors_lift ", "vectors_packet ", "vectors_order ", "vectors_boxes ",
-        *(it[0] for it in BEHINDS), *ENDINGS)
+        "vectors_extras ", *(it[0] for it in BEHINDS), *ENDINGS)
 
 # How many growths of a test are refused at least, and how long a run takes at least, in seconds.
 LEAST, SHORTEST = 3, 0.004

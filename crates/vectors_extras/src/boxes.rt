@@ -1,0 +1,171 @@
+//! Boxes of JP2 files as T.800 Annex I lays them out, ICC profiles, and bytes by their names.
+
+use jk_extras::{Grid, Ratio, ToldColour};
+use std::alloc::{AllocError, Global};
+use vectors::bytes_of;
+
+/// A resolution: the numerator, the denominator and the exponent of its columns, and of its rows.
+pub type Numbers = ((u16, u16, i8), (u16, u16, i8));
+/// A colour, a resolution of capture and one of display.
+pub type Row = (ToldColour, Option<Numbers>, Option<Numbers>);
+
+pub const FINE: Numbers = ((15_000, 127, 2), (300, 254, 4));
+
+pub const WIDE: Numbers = ((1, 65_535, -128), (65_535, 1, 127));
+
+pub const NEAR: Numbers = ((258, 772, -1), (1286, 1800, -2));
+
+/// Boxes and parts of them by names.
+static BOXES: [&str; 75] = [
+    // The signature box and the file type box.
+    "front: 0000000c 6a502020 0d0a870a 00000014 66747970 6a703220 00000000 6a703220",
+    // The image header box of a grey image of one sample; of two components; of three.
+    "one: 00000016 69686472 00000001 00000001 0001 07 07 00 00",
+    "two: 00000016 69686472 00000001 00000001 0002 07 07 00 00",
+    "three: 00000016 69686472 00000001 00000001 0003 07 07 00 00",
+    // A JP2 header box with that alone.
+    "header: 0000001e 6a703268 00000016 69686472 00000001 00000001 0001 07 07 00 00",
+    // The codestream box, of two bytes.
+    "code: 0000000a 6a703263 ff4f",
+    // A box of another kind, and one with a resolution box in it.
+    "free: 0000000a 66726565 6162",
+    "asoc: 00000022 61736f63 0000001a 72657320 00000012 72657363 0001 0001 0001 0001 00 00",
+    // Colours: METH, PREC, APPROX, and EnumCS or a profile.
+    "grey: 0000000f 636f6c72 01 00 00 00000011",
+    "srgb: 0000000f 636f6c72 01 00 00 00000010",
+    "ycc: 0000000f 636f6c72 01 00 00 00000012",
+    "precedent: 0000000f 636f6c72 01 ff 01 00000010",
+    "large: 0000000f 636f6c72 01 00 00 ffffffff",
+    "long_grey: 00000001 636f6c72 0000000000000017 01 00 00 00000011",
+    "profile: 0000000e 636f6c72 02 00 00 616263",
+    "long_profile: 00000001 636f6c72 0000000000000016 02 05 00 616263",
+    "vendor: 0000000e 636f6c72 03 00 00 616263",
+    "method_0: 0000000f 636f6c72 00 00 00 00000011",
+    "method_255: 0000000b 636f6c72 ff 00 00",
+    // Wrong ones: too short for a method; EnumCS of three bytes, and of five; no profile.
+    "no_method: 00000008 636f6c72",
+    "two_bytes: 0000000a 636f6c72 01 00",
+    "short: 0000000e 636f6c72 01 00 00 000011",
+    "long: 00000010 636f6c72 01 00 00 0000001100",
+    "no_profile: 0000000b 636f6c72 02 00 00",
+    // Resolutions: of capture, of display, both, and both the other way round.
+    "capture: 0000001a 72657320 00000012 72657363 3a98 007f 012c 00fe 02 04",
+    "display: 0000001a 72657320 00000012 72657364 0001 ffff ffff 0001 80 7f",
+    "both: 0000002c 72657320 00000012 72657363 3a98 007f 012c 00fe 02 04 00000012 72657364 0001 ffff ffff 0001 80 7f",
+    "turned: 0000002c 72657320 00000012 72657364 0102 0304 0506 0708 ff fe 00000012 72657363 0001 ffff ffff 0001 80 7f",
+    // The first of two of a kind; one in the long form behind another box; none.
+    "twice: 0000002c 72657320 00000012 72657363 0102 0304 0506 0708 ff fe 00000012 72657363 3a98 007f 012c 00fe 02 04",
+    "long_display: 00000001 72657320 0000000000000034 0000000a 66726565 6162 00000001 72657364 000000000000001a 0102 0304 0506 0708 ff fe",
+    "no_grid: 00000008 72657320",
+    // Wrong ones: nine bytes, eleven; each number 0; boxes that don't end within.
+    "nine: 00000019 72657320 00000011 72657363 3a98 007f 012c 00fe 02",
+    "eleven: 0000001b 72657320 00000013 72657364 3a98 007f 012c 00fe 02 04 00",
+    "zero_1: 0000001a 72657320 00000012 72657363 0000 007f 012c 00fe 02 04",
+    "zero_2: 0000001a 72657320 00000012 72657363 3a98 0000 012c 00fe 02 04",
+    "zero_3: 0000001a 72657320 00000012 72657364 3a98 007f 0000 00fe 02 04",
+    "zero_4: 0000001a 72657320 00000012 72657364 3a98 007f 012c 0000 02 04",
+    "cut: 00000019 72657320 00000012 72657363 3a98 007f 012c 00fe 02",
+    "cut_head: 0000000f 72657320 00000012 726573",
+    "open_grid: 0000001a 72657320 00000000 72657363 3a98 007f 012c 00fe 02 04",
+    "seven: 0000001a 72657320 00000007 72657363 3a98 007f 012c 00fe 02 04",
+    "xl_of_15: 0000001a 72657320 00000001 72657363 000000000000000f 0204",
+    // Boxes of XML and under a UUID; in the long form; to the end of the file; of no contents.
+    "xml: 0000000c 786d6c20 3c612f3e",
+    "uuid: 0000001b 75756964 00112233 44556677 8899aabb ccddeeff 616263",
+    "long_xml: 00000001 786d6c20 0000000000000014 3c612f3e",
+    "long_uuid: 00000001 75756964 0000000000000022 00112233 44556677 8899aabb ccddeeff 6162",
+    "open_xml: 00000000 786d6c20 3c622f3e",
+    "open_uuid: 00000000 75756964 00112233 44556677 8899aabb ccddeeff 64",
+    "no_xml: 00000008 786d6c20",
+    "no_uuid: 00000018 75756964 00112233 44556677 8899aabb ccddeeff",
+    // A UUID of fifteen bytes.
+    "fifteen: 00000017 75756964 00112233 44556677 8899aabb ccddee",
+    // Restricted profiles: version 2, a grey input device, a curve; version 4, a display, RGB.
+    "grey_icc: 000000a0000000000200000073636e724752415958595a200000000000000000000000006163737000000000000000000000000000000000000000000000000000000000000000000000000000000000000000000000000000000000000000000000000000000000000000000000000000000000000000000000000000000000000000016b545243000000900000000e63757276000000000000000101000000",
+    "rgb_icc: 000000fc00000000040000006d6e74725247422058595a200000000000000000000000006163737000000000000000000000000000000000000000000000000000000000000000000000000000000000000000000000000000000000000000000000000000000000000000000000000000000000000000000000000000000000000000067258595a000000d8000000146758595a000000d8000000146258595a000000d80000001472545243000000ec0000000e67545243000000ec0000000e62545243000000ec0000000e00000000000000000000000058595a200000000000005555000055550000555563757276000000000000000101000000",
+    // Kinds.
+    "jp2h: 6a703268",
+    "uuid_: 75756964",
+    "xml_: 786d6c20",
+    // The UUID of these boxes; those of XMP, EXIF, IPTC, GeoJP2, Photoshop's resources, its EXIF.
+    "id: 00112233445566778899aabbccddeeff",
+    "xmp_id: be7acfcb97a942e89c71999491e3afac",
+    "exif_id: 4a706754696666457869662d3e4a5032",
+    "iptc_id: 33c7a4d2b81d4723a0baf1a3e097ad38",
+    "geo_id: b14bf8bd083d4b43a5ae8cd7d5a6ce03",
+    "psir_id: 2c4c0100850440b9a03e562148d6dfeb",
+    "psexif_id: 0537cdab9d0c4431a72afa561f2a113e",
+    // What stands behind them: a packet; an orientation, in both orders of bytes; a city; a scale.
+    "xmp_text: 3c783a786d706d65746120786d6c6e733a783d2761646f62653a6e733a6d6574612f272f3e",
+    "exif_ii: 49492a0008000000010012010300010000000100000000000000",
+    "exif_mm: 4d4d002a00000008000101120003000000010001000000000000",
+    "iim: 1c025a00044265726e",
+    "psir: 3842494d04040000000000091c025a00044265726e00",
+    "geotiff: 49492a000800000001000e830c00000000000800000000000000",
+    // F13 BadBox, as it is told.
+    "bad_box: 46313320426164426f78",
+    // Colour specification boxes of the profiles; both resolutions as they are written.
+    "given: 000000ab 636f6c72 02 00 00 000000a0000000000200000073636e724752415958595a200000000000000000000000006163737000000000000000000000000000000000000000000000000000000000000000000000000000000000000000000000000000000000000000000000000000000000000000000000000000000000000000000000000000000000000000016b545243000000900000000e63757276000000000000000101000000",
+    "given_rgb: 00000107 636f6c72 02 00 00 000000fc00000000040000006d6e74725247422058595a200000000000000000000000006163737000000000000000000000000000000000000000000000000000000000000000000000000000000000000000000000000000000000000000000000000000000000000000000000000000000000000000000000000000000000000000067258595a000000d8000000146758595a000000d8000000146258595a000000d80000001472545243000000ec0000000e67545243000000ec0000000e62545243000000ec0000000e00000000000000000000000058595a200000000000005555000055550000555563757276000000000000000101000000",
+    "returned: 0000002c 72657320 00000012 72657363 0001ffffffff0001807f 00000012 72657364 0102030405060708fffe",
+    // Files: a grey one, and one that keeps something already.
+    "plain: 0000000c6a5020200d0a870a00000014667479706a703220000000006a7032200000002d6a703268000000166968647200000001000000010001070700000000000f636f6c72010000000000110000000a6a703263ff4f",
+    "full: 0000000c6a5020200d0a870a00000014667479706a703220000000006a7032200000000c786d6c203c612f3e0000005f6a703268000000166968647200000001000000010001070700000000001a7265732000000012726573640001ffffffff0001807f0000000f636f6c72010000000000110000000e636f6c720300006162630000000a6672656561620000001b7575696400112233445566778899aabbccddeeff6162630000000a6a703263ff4f0000000c786d6c203c612f3e",
+];
+
+/// What a word says in hexadecimal digits: what it names, or itself.
+fn digits<'a>(word: &'a str) -> &'a str {
+    for line in &BOXES {
+        match line.split_once(':') {
+            Some((name, digits)) if name == word => return digits,
+            _ => (),
+        }
+    }
+    word
+}
+
+/// The bytes of words.
+pub fn bytes(alloc: Global, words: &str) -> Result<Vec<u8>, AllocError> {
+    let mut out = Vec::new(alloc);
+    for word in words.split_whitespace() {
+        out.extend_from_slice(&bytes_of(alloc, &[digits(word)])?)?;
+    }
+    Ok(out)
+}
+
+/// The bytes of the parts of a row.
+pub fn parts(alloc: Global, row: &str) -> Result<[Vec<u8>; 3], AllocError> {
+    let mut words = row.split('|');
+    let first = bytes(alloc, words.next().unwrap_or(""))?;
+    let second = bytes(alloc, words.next().unwrap_or(""))?;
+    let third = bytes(alloc, words.next().unwrap_or(""))?;
+    Ok([first, second, third])
+}
+
+/// Puts other bytes in the place of some.
+pub fn put(bytes: &mut [u8], at: usize, new: &[u8]) {
+    for (k, byte) in new.iter().enumerate() {
+        let place = at.wrapping_add(k);
+        if place < bytes.len() {
+            bytes[place] = *byte;
+        }
+    }
+}
+
+fn ratio(numbers: (u16, u16, i8)) -> Ratio {
+    let (numerator, denominator, exponent) = numbers;
+    Ratio {
+        numerator,
+        denominator,
+        exponent,
+    }
+}
+
+/// A resolution of six numbers.
+pub fn grid(numbers: Option<Numbers>) -> Option<Grid> {
+    let (down, across) = numbers?;
+    Some(Grid {
+        down: ratio(down),
+        across: ratio(across),
+    })
+}

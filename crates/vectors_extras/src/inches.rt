@@ -1,0 +1,71 @@
+use crate::asserts::equal_at;
+use jk_extras::{Ratio, per_inch};
+use std::test::Fail;
+
+/// Samples on so many inches, and the numerator, the denominator and the exponent of samples per
+/// metre: by `50 n / 127 d` times 10^2, `5 n / 127 d` times 10^3, or `n / 254 d` times 10^4.
+static INCHES: [(u32, u32, Option<(u16, u16, i8)>); 17] = [
+    (300, 1, Some((15_000, 127, 2))),
+    (1, 1, Some((50, 127, 2))),
+    (1310, 1, Some((65_500, 127, 2))),
+    (1311, 1, Some((6555, 127, 3))),
+    (13_107, 1, Some((65_535, 127, 3))),
+    (13_108, 1, Some((6554, 127, 4))),
+    (65_535, 1, Some((65_535, 254, 4))),
+    (65_536, 1, Some((32_768, 127, 4))),
+    (65_537, 1, None),
+    (601, 2, Some((15_025, 127, 2))),
+    (30_001, 100, Some((30_001, 254, 2))),
+    (3_000_001, 10_000, None),
+    (254, 100, Some((1, 1, 2))),
+    (u32::MAX, u32::MAX, Some((50, 127, 2))),
+    (1, u32::MAX, None),
+    (0, 1, None),
+    (300, 0, None),
+];
+
+fn ratio_of(n: u32, d: u32) -> Option<(u16, u16, i8)> {
+    let ratio = per_inch(n, d)?;
+    Some((ratio.numerator, ratio.denominator, ratio.exponent))
+}
+
+#[test]
+fn by_the_inch(rt: HostRuntime) -> Result<(), Fail> {
+    for (n, d, want) in &INCHES {
+        equal_at(&rt, (*n, *d), ratio_of(*n, *d), *want);
+    }
+    Ok(())
+}
+
+/// Whether this many samples stand on an inch, which is 127 of 5,000 parts of a metre.
+fn is_of(ratio: Ratio, n: u64) -> bool {
+    let power = match ratio.exponent {
+        2 => 100u64,
+        3 => 1000,
+        4 => 10_000,
+        _ => 0,
+    };
+    let found = (ratio.numerator as u64)
+        .wrapping_mul(power)
+        .wrapping_mul(127);
+    found > 0
+        && found
+            == (ratio.denominator as u64)
+                .wrapping_mul(n)
+                .wrapping_mul(5000)
+}
+
+/// Each whole number is told exactly.
+#[test]
+fn whole_numbers_by_the_inch(rt: HostRuntime) -> Result<(), Fail> {
+    let mut exact = 0u32;
+    for n in 1..65_536u32 {
+        if let Some(ratio) = per_inch(n, 1)
+            && is_of(ratio, n as u64)
+        {
+            exact = exact.wrapping_add(1);
+        }
+    }
+    equal_at(&rt, "exact", exact, 65_535);
+    Ok(())
+}
