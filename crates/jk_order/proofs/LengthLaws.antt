@@ -48,7 +48,7 @@ up_joined {A} f g (suc n) each cross =
 
 -- ---- all packets, by component, resolution, precinct and layer
 
-abbrev spot : PacketName → List ℕ
+abbrev pub spot : PacketName → List ℕ
 spot n = n.component ∷ n.resolution ∷ n.precinct ∷ n.layer ∷ []
 
 same_then : (a : ℕ) (o : Ordering) → ordering_then (nat_cmp a a) o ≡ o
@@ -57,16 +57,16 @@ same_then a o = ap (λ r. ordering_then r o) (sym (nat_cmp_is a a Equal refl))
 less_then : (a b : ℕ) (o : Ordering) → a < b → ordering_then (nat_cmp a b) o ≡ Less
 less_then a b o h = ap (λ r. ordering_then r o) (sym (nat_cmp_is a b Less h))
 
-abbrev at_precinct : TileShape → (c r k : ℕ) → List PacketName
+abbrev pub at_precinct : TileShape → (c r k : ℕ) → List PacketName
 at_precinct s c r k = joined (λ l. layer_name c r k l ∷ []) s.layers
 
-abbrev at_resolution : TileShape → (c r : ℕ) → List PacketName
+abbrev pub at_resolution : TileShape → (c r : ℕ) → List PacketName
 at_resolution s c r = joined (at_precinct s c r) (precinct_number s.rect (coding_of s.codings c) r)
 
-abbrev at_component : TileShape → ℕ → List PacketName
+abbrev pub at_component : TileShape → ℕ → List PacketName
 at_component s c = joined (at_resolution s c) ((coding_of s.codings c).levels + 1)
 
-all_is : (s : TileShape) → all_names s ≡ joined (at_component s) (length s.codings)
+pub all_is : (s : TileShape) → all_names s ≡ joined (at_component s) (length s.codings)
 unfolding all_names
 all_is s = refl
 
@@ -131,7 +131,7 @@ component_up s c =
     (λ i j x y less a b. (let p = of_resolution s c i x a in let q = of_resolution s c j y b in
     resolution_second x y (p.0 ∙ sym q.0) (subst (λ n. n < y.resolution) (sym p.1) (subst (λ n. i < n) (sym q.1) less))))
 
-all_up : (s : TileShape) → IsStrictlySortedBy key_cmp (map spot (all_names s))
+pub all_up : (s : TileShape) → IsStrictlySortedBy key_cmp (map spot (all_names s))
 all_up s =
     subst (λ (xs : List PacketName). IsStrictlySortedBy key_cmp (map spot xs)) (sym (all_is s))
     (up_joined spot (at_component s) (length s.codings) (component_up s)

@@ -12,6 +12,7 @@ use crate::count::packet_count;
 use crate::opening::{first_rank, shared, stream_number, without_packets};
 use crate::stream::{FINISHED, Frame, Stream};
 use jk_geom::{PacketName, TileShape};
+use jk_marks::Order;
 use jk_math::Fault;
 use std::marker::Model;
 
@@ -46,9 +47,9 @@ impl Model for Packets {
         × IsQueue 0 p.heads (drop p.queue.first p.queue.numbers) };
 }
 
-/// Puts the first of some streams behind those whose next packets come before its own. Where
-/// layers come outside, that is behind all of them again and again.
-fn put_back(queue: &mut [u8], heads: &[u128; 44])
+/// Puts the first of some streams behind those whose next packets come before its own. The last
+/// one is looked at first where that is often behind all of them.
+fn put_back(queue: &mut [u8], heads: &[u128; 44], often_last: bool)
     requires some { 0 < length queue.old }
     requires numbers { (k : ℕ) → k < length queue.old → slice_index queue.old k < 44 }
     requires ascends { Ascends heads.now (drop 1 queue.old) }
@@ -57,8 +58,7 @@ fn put_back(queue: &mut [u8], heads: &[u128; 44])
     let first = queue[0];
     let head = heads[first as usize];
     let last = queue.len() - 1;
-    let furthest = heads[queue[last] as usize];
-    if furthest < head {
+    if often_last && heads[queue[last] as usize] < head {
         queue.copy_within(1.., 0);
         queue[last] = first;
         return;
@@ -83,7 +83,7 @@ fn queue_of(heads: &[u128; 44]) -> Queue
         if heads[i] < FINISHED {
             first -= 1;
             numbers[first] = i as u8;
-            put_back(&mut numbers[first..], heads);
+            put_back(&mut numbers[first..], heads, false);
         }
     }
     Queue { numbers, first }
@@ -120,7 +120,7 @@ fn take(
         precinct: stream.precinct,
     };
     heads[first] = streams[first].advance(frame, head);
-    put_back(queue, heads);
+    put_back(queue, heads, matches!(frame.order, Order::Lrcp));
     Some(name)
 }
 

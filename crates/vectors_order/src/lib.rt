@@ -6,6 +6,8 @@ mod limits;
 #[cfg(test)]
 mod nine_tiles;
 #[cfg(test)]
+mod numbers;
+#[cfg(test)]
 mod random;
 #[cfg(test)]
 mod random_tiles;

@@ -8,7 +8,7 @@ use jk_geom::{Codings, TileShape};
 use jk_marks::Order;
 use jk_math::{Fault, Rect};
 use jk_order::{Packets, packet_count};
-use std::test::Fail;
+use vectors::equal;
 
 /// Precincts of one place each.
 fn codings() -> Codings
@@ -38,24 +38,20 @@ fn wide_tile(precincts: u32) -> TileShape
 }
 
 #[test]
-fn nearly_too_many(rt: HostRuntime) -> Result<(), Fail> {
+fn nearly_too_many(rt: HostRuntime) {
     let most = wide_tile(256);
-    assert_eq!(rt; packet_count(&most), 16_776_960);
-    assert!(rt; Packets::new(&most).is_ok());
+    equal(packet_count(&most), 16_776_960).expect(&rt, "packets");
+    equal(Packets::new(&most).is_ok(), true).expect(&rt, "an order");
     let over = wide_tile(257);
-    assert_eq!(rt; packet_count(&over), 16_842_495);
-    assert_eq!(rt; Packets::new(&over).err(), Some(Fault::Limit));
-    Ok(())
+    equal(packet_count(&over), 16_842_495).expect(&rt, "packets");
+    equal(Packets::new(&over).err(), Some(Fault::Limit)).expect(&rt, "a fault");
 }
 
 #[test]
-fn no_precincts(rt: HostRuntime) -> Result<(), Fail> {
+fn no_precincts(rt: HostRuntime) {
     let none = wide_tile(0);
-    assert_eq!(rt; packet_count(&none), 0);
-    let Ok(mut packets) = Packets::new(&none) else {
-        return Err("an order without packets".into());
-    };
-    assert_eq!(rt; packets.next(), None);
-    assert_eq!(rt; packets.next(), None);
-    Ok(())
+    equal(packet_count(&none), 0).expect(&rt, "packets");
+    let mut packets = Packets::new(&none).expect(&rt, "an order without packets");
+    equal(packets.next(), None).expect(&rt, "a packet");
+    equal(packets.next(), None).expect(&rt, "a packet");
 }

@@ -10,7 +10,7 @@ use jk_marks::{Order, Siz};
 use jk_math::Rect;
 use jk_order::{Packets, packet_count};
 use std::process::Abort;
-use std::test::Fail;
+use vectors::{equal, equal_at};
 
 /// The image, grey.
 fn siz() -> Siz
@@ -42,65 +42,47 @@ fn codings() -> Codings
     codings
 }
 
-/// The names of tile 0 in an order: resolution and precinct, in digits.
-fn tile_names(rt: &impl Abort, order: Order) -> [(u8, u32); 4] {
-    let shape = tile_shape(&siz(), 0, 1, order, codings());
-    assert_eq!(rt; packet_count(&shape), 3);
+/// The names of a tile's packets in their order: resolution and precinct, or (99, 99) behind the last.
+fn names_of(rt: &impl Abort, mut packets: Packets) -> [(u8, u32); 4] {
     let mut names = [(99, 99); 4];
-    if let Ok(packets) = Packets::new(&shape) {
-        let mut packets = packets;
-        for i in 0..4 {
-            if let Some(name) = packets.next() {
-                assert_eq!(rt; (name.layer, name.component), (0, 0));
-                names[i] = (name.resolution, name.precinct);
-            }
+    for place in names.iter_mut() {
+        if let Some(name) = packets.next() {
+            equal((name.layer, name.component), (0, 0)).expect(rt, "a layer and a component");
+            *place = (name.resolution, name.precinct);
         }
     }
     names
 }
 
-#[test]
-fn nine_tiles(rt: HostRuntime) -> Result<(), Fail> {
-    let siz = siz();
-    assert_eq!(rt; tile_count(&siz), 9);
-    assert_eq!(rt;
-        tile(&siz, 0),
-        Rect {
-            x0: 3,
-            y0: 5,
-            x1: 8,
-            y1: 8
-        }
-    );
-    assert_eq!(rt;
-        tile(&siz, 4),
-        Rect {
-            x0: 8,
-            y0: 8,
-            x1: 16,
-            y1: 16
-        }
-    );
-    assert_eq!(rt;
-        tile(&siz, 8),
-        Rect {
-            x0: 16,
-            y0: 16,
-            x1: 20,
-            y1: 18
-        }
-    );
-    Ok(())
+/// The names of tile 0 in an order.
+fn tile_names(rt: &impl Abort, order: Order, due: [(u8, u32); 4]) {
+    let shape = tile_shape(&siz(), 0, 1, order, codings());
+    equal_at(order, packet_count(&shape), 3).expect(rt, "packets");
+    let packets = Packets::new(&shape).expect(rt, "packets");
+    equal_at(order, names_of(rt, packets), due).expect(rt, "names");
 }
 
 #[test]
-fn orders_of_tile_0(rt: HostRuntime) -> Result<(), Fail> {
+fn nine_tiles(rt: HostRuntime) {
+    let siz = siz();
+    equal(tile_count(&siz), 9).expect(&rt, "tiles");
+    equal(bounds(tile(&siz, 0)), [3, 5, 8, 8]).expect(&rt, "the first tile");
+    equal(bounds(tile(&siz, 4)), [8, 8, 16, 16]).expect(&rt, "the fifth tile");
+    equal(bounds(tile(&siz, 8)), [16, 16, 20, 18]).expect(&rt, "the last tile");
+}
+
+/// The bounds of a rectangle: left, upper, right, lower.
+fn bounds(rect: Rect) -> [u32; 4] {
+    [rect.x0, rect.y0, rect.x1, rect.y1]
+}
+
+#[test]
+fn orders_of_tile_0(rt: HostRuntime) {
     let rising = [(0, 0), (1, 0), (1, 1), (99, 99)];
     let by_place = [(1, 0), (0, 0), (1, 1), (99, 99)];
-    assert_eq!(rt; tile_names(&rt, Order::Lrcp), rising);
-    assert_eq!(rt; tile_names(&rt, Order::Rlcp), rising);
-    assert_eq!(rt; tile_names(&rt, Order::Rpcl), rising);
-    assert_eq!(rt; tile_names(&rt, Order::Pcrl), by_place);
-    assert_eq!(rt; tile_names(&rt, Order::Cprl), by_place);
-    Ok(())
+    tile_names(&rt, Order::Lrcp, rising);
+    tile_names(&rt, Order::Rlcp, rising);
+    tile_names(&rt, Order::Rpcl, rising);
+    tile_names(&rt, Order::Pcrl, by_place);
+    tile_names(&rt, Order::Cprl, by_place);
 }

@@ -8,11 +8,11 @@ ghost use Rattle.jk_geom.specs.TileShapes.{IsTileShape};
 
 use crate::random::{Random, any_tile};
 use crate::sums::{BLOCKS, NAMES};
-use jk_geom::{BlockGrid, TileShape, band, blocks, precinct_count, resolution};
+use jk_geom::{BlockGrid, PacketName, TileShape, band, blocks, precinct_count, resolution};
 use jk_marks::Coding;
 use jk_math::{Orientation, Rect};
 use jk_order::{Packets, packet_count};
-use std::test::Fail;
+use vectors::equal_at;
 
 /// The seed of the tiles.
 const SEED: u64 = 20_261_122;
@@ -28,26 +28,31 @@ fn mixed_rect(sum: u64, rect: Rect) -> u64 {
     mixed(mixed(sum, rect.x1 as u64), rect.y1 as u64)
 }
 
+/// A sum of a packet's name.
+fn mixed_name(sum: u64, name: PacketName) -> u64 {
+    let sum = mixed(mixed(sum, name.layer as u64), name.resolution as u64);
+    mixed(mixed(sum, name.component as u64), name.precinct as u64)
+}
+
+/// A sum of the names of packets, or 0 where they don't end with None for ever.
+fn mixed_names(sum: u64, mut packets: Packets) -> u64 {
+    let mut sum = sum;
+    for _name in 0..100_000 {
+        match packets.next() {
+            Some(name) => sum = mixed_name(sum, name),
+            None => break,
+        }
+    }
+    if packets.next().is_none() { sum } else { 0 }
+}
+
 /// The packets of a tile in one number, or 0 where they don't end with None for ever.
 fn names_of(shape: &TileShape) -> u64
     requires { IsTileShape shape.now }
 {
-    let mut sum = packet_count(shape);
     match Packets::new(shape) {
         Err(_) => 0,
-        Ok(packets) => {
-            let mut packets = packets;
-            for _name in 0..100_000 {
-                match packets.next() {
-                    Some(name) => {
-                        sum = mixed(mixed(sum, name.layer as u64), name.resolution as u64);
-                        sum = mixed(mixed(sum, name.component as u64), name.precinct as u64);
-                    }
-                    None => break,
-                }
-            }
-            if packets.next().is_none() { sum } else { 0 }
-        }
+        Ok(packets) => mixed_names(packet_count(shape), packets),
     }
 }
 
@@ -113,21 +118,19 @@ fn blocks_of(shape: &TileShape) -> u64
 }
 
 #[test]
-fn names_of_random_tiles(rt: HostRuntime) -> Result<(), Fail> {
+fn names_of_random_tiles(rt: HostRuntime) {
     let mut random = Random::new(SEED);
     for sum in &NAMES {
         let shape = any_tile(&mut random);
-        assert_eq!(rt; names_of(&shape), *sum, "{shape:?}");
+        equal_at(&shape, names_of(&shape), *sum).expect(&rt, "names");
     }
-    Ok(())
 }
 
 #[test]
-fn blocks_of_random_tiles(rt: HostRuntime) -> Result<(), Fail> {
+fn blocks_of_random_tiles(rt: HostRuntime) {
     let mut random = Random::new(SEED);
     for sum in &BLOCKS {
         let shape = any_tile(&mut random);
-        assert_eq!(rt; blocks_of(&shape), *sum, "{shape:?}");
+        equal_at(&shape, blocks_of(&shape), *sum).expect(&rt, "code-blocks");
     }
-    Ok(())
 }
