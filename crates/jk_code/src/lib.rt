@@ -4,7 +4,6 @@
 mod decoding;
 mod decoding_with;
 mod encoding;
-mod encoding_with;
 mod frames;
 mod joining;
 mod making;
@@ -16,8 +15,7 @@ mod writing;
 
 pub use decoding::decode;
 pub use decoding_with::decode_with;
-pub use encoding::encode;
-pub use encoding_with::encode_with;
+pub use encoding::{encode, encode_with};
 pub use frames::{ImageFrame, frame};
 pub use making::{MadeStripes, StripeWork, make_with};
 pub use viewing::{decode_window, decode_window_by};

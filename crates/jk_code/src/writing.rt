@@ -22,7 +22,7 @@ use jk_geom::tile_count;
 use jk_marks::{Exponents, write_main, write_part_head};
 use jk_math::{Fault, Image, Planes, write_out};
 use jk_params::{Container, Parameters, siz_of};
-use jk_tile::{encode_tile, exponents, tile_bands};
+use jk_tile::{Sequential, encode_tile, exponents, tile_bands};
 use std::alloc::Global;
 use std::io::Write;
 
@@ -57,8 +57,16 @@ fn tile_content(
     ensures value { IfOk result (λ v. v.items ≡ tile_text image.now parameters.now number) }
     ensures memory { IfErr result IsMemory }
 {
-    let bands = tile_bands(alloc, image, parameters, number)?;
-    encode_tile(alloc, image, parameters, exponents, number, bands)
+    let bands = tile_bands(&Sequential, alloc, image, parameters, number)?;
+    encode_tile(
+        &Sequential,
+        alloc,
+        image,
+        parameters,
+        exponents,
+        number,
+        bands,
+    )
 }
 
 /// How long the tile-parts behind the first are, all together.
@@ -157,7 +165,7 @@ fn first_part(
     ensures err { IfErr result (λ e. IsMemory e ⊎ ((e ≡ Limit) × IsTooLongAhead image.now parameters.now)) }
 {
     let rest = size_ahead(alloc, image, parameters, exponents)?;
-    let content = encode_tile(alloc, image, parameters, exponents, 0, first)?;
+    let content = encode_tile(&Sequential, alloc, image, parameters, exponents, 0, first)?;
     let head = part_head(alloc, 0, &content)?;
     let mut main = Vec::new(alloc);
     write_main(&main_header(image, parameters, exponents), &mut main)?;
@@ -257,7 +265,7 @@ fn put_file<W: Write>(
     ensures part { (text : List ℕ) × Appends (W.contents writer.old) (W.contents writer.new) text
         × Left image.now parameters.now text result }
 {
-    let (exponents, first) = exponents(alloc, image, parameters)?;
+    let (exponents, first) = exponents(&Sequential, alloc, image, parameters)?;
     let start = first_part(alloc, image, parameters, &exponents, first)?;
     put_start(writer, start)?;
     put_rest(alloc, writer, image, parameters, &exponents)?;

@@ -11,7 +11,5 @@ mod samples;
 pub use decoding::{
     DecodedBlocks, decode_blocks_with, decode_part, decode_part_of, decode_tile, put,
 };
-pub use encoding::{
-    encode_tile, encode_tile_with, exponents, exponents_with, tile_bands, tile_bands_with,
-};
+pub use encoding::{BlockJob, Executor, Parallel, Sequential, encode_tile, exponents, tile_bands};
 pub use samples::level_shift;

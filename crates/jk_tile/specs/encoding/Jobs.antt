@@ -1,12 +1,14 @@
 -- What is done side by side of a tile: the transforms of its components (T.800 Annexes F, G), and the
 -- code-blocks of a component (B.7, Annex D).
-use Rattle.std.specs.Prelude.{◌≡◌, ◌<◌, ◌≤◌, true, List, length, map, All, Result, IfOk, IfErr, ℤ}
+use Rattle.std.specs.Prelude.{◌≡◌, ◌⊎◌, ◌<◌, ◌≤◌, true, List, length, map, All, Result, MatchResult, IfOk, IfErr, ℤ}
+use Rattle.std.specs.Global.{Vec}
 use Rattle.std.specs.List.{flat_map}
 use Rattle.jk_math.specs.Memory.{IsMemory}
 use Rattle.jk_math.specs.declared.fault.Fault.{Fault}
 use Rattle.jk_math.specs.Picture.{IsPicture}
 use Rattle.jk_geom.specs.Partitions.{block_number}
 use Rattle.jk_geom.specs.Rectangles.{IsArea}
+use Rattle.jk_farm.specs.Dealing.{AreGiven, IsFirstFault}
 use Rattle.jk_packet.specs.Written.{Table}
 use Rattle.jk_wave.specs.Analysis.{analysed_bands}
 use Rattle.jk_tile.specs.Filling.{IsPartOf}
@@ -32,6 +34,10 @@ table_of_job b = block_table b.source.now b.part b.block
 pub record IsTabled (b : BlockJob) (r : Result Table Fault) : Type 0 where
   pub table : IfOk r (λ t. t ≡ table_of_job b)
   pub memory : IfErr r IsMemory
+
+-- what jobs give
+abbrev pub AreTabled : List BlockJob → Result (Vec Table) Fault → Type 0
+AreTabled jobs r = MatchResult r (λ v. AreGiven IsTabled jobs (length jobs) v.items) (λ e. IsMemory e ⊎ IsFirstFault IsTabled jobs e)
 
 -- The code-blocks of precincts, one precinct behind another, and how many each has: they have these
 -- lists of tables.

@@ -1,7 +1,10 @@
-//! The code-blocks of a tile-component as jobs, each of which is done by itself.
+//! The code-blocks of a tile-component as jobs, each of which is done by itself, and what the jobs
+//! give, cut apart into precincts.
 
-ghost use Rattle.std.specs.Prelude.{◌≡◌, ℕ, ◌^◌, ◌<◌, ◌≤◌, ◌++◌, List, [], ◌∷◌, map, All, IfOk, IfErr, OnOk};
+ghost use Rattle.std.specs.Prelude.{◌≡◌, ℕ, ◌^◌, ◌<◌, ◌≤◌, ◌++◌, List, [], ◌∷◌, length, map, reverse, All, IfOk};
+ghost use Rattle.std.specs.Prelude.{IfErr, OnOk};
 ghost use Rattle.std.specs.List.{flat_map};
+ghost use Rattle.jk_math.specs.Lists.{lists_of};
 ghost use Rattle.jk_math.specs.Memory.{IsMemory};
 ghost use Rattle.jk_geom.specs.Precincts.{precinct_number};
 ghost use Rattle.jk_packet.specs.Written.{Table};
@@ -20,7 +23,7 @@ use std::alloc::Global;
 
 /// A code-block of a part of a sub-band: its number there in raster order.
 #[derive(Clone, Copy)]
-pub(crate) struct BlockJob<'a> {
+pub struct BlockJob<'a> {
     pub(crate) source: &'a BandSource<'a>,
     pub(crate) part: BandPart,
     pub(crate) block: u32,
@@ -154,4 +157,44 @@ pub(crate) fn batch_of<'a>(alloc: Global, source: &'a BandSource<'a>) -> Result<
         add_resolution(source, r, &mut batch)?;
     }
     Ok(batch)
+}
+
+/// Takes so many tables off a list that is turned round, the last one of it first.
+fn take_tables(
+    alloc: Global,
+    rest: &mut Vec<BlockTable>,
+    count: usize,
+) -> Result<Vec<BlockTable>, Fault>
+    ensures taken { IfOk result (λ v. v.items ++ reverse rest.new.items ≡ reverse rest.old.items) }
+    ensures count { count ≤ length rest.old.items → IfOk result (λ v. length v.items ≡ count) }
+    ensures memory { IfErr result IsMemory }
+{
+    let mut taken = Vec::with_capacity(alloc, count)?;
+    for _ in 0..count {
+        match rest.pop() {
+            Some(table) => taken.push(table)?,
+            None => break,
+        }
+    }
+    Ok(taken)
+}
+
+/// Appends the lists that stand one behind another in a list and have so many tables each.
+pub(crate) fn cut_apart(
+    alloc: Global,
+    tables: Vec<BlockTable>,
+    counts: &[usize],
+    lists: &mut Vec<Vec<BlockTable>>,
+) -> Result<(), Fault>
+    ensures lists { (own : List (List Table)) → tables.items ≡ flat_map (λ ts. ts) own
+        → counts.now ≡ map (λ ts. length ts) own
+        → OnOk result (lists_of lists.new.items ≡ lists_of lists.old.items ++ own) }
+    ensures memory { IfErr result IsMemory }
+{
+    let mut rest = tables;
+    rest.reverse();
+    for count in counts {
+        lists.push(take_tables(alloc, &mut rest, *count)?)?;
+    }
+    Ok(())
 }

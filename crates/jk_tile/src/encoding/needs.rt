@@ -11,16 +11,14 @@ ghost use Rattle.jk_math.specs.BitLength.{bit_length};
 ghost use Rattle.jk_block.specs.BlockWritten.{greatest};
 ghost use Rattle.jk_tile.specs.encoding.Needs.{most, tile_need, need, gain, exponents_for, written_bands};
 
+use crate::encoding::executor::Executor;
 use crate::encoding::subbands::tile_bands;
-use crate::encoding::transforms::tile_bands_with;
 use jk_block::top_bits;
 use jk_geom::tile_count;
 use jk_marks::Exponents;
 use jk_math::{Fault, Image, Planes};
 use jk_params::{Parameters, siz_of};
 use std::alloc::Global;
-use std::marker::Sync;
-use std::thread::Threads;
 
 /// Raises what sub-bands need by those of a component of a tile.
 fn raise(needs: &mut [u8; 16], bands: &Planes)
@@ -59,11 +57,13 @@ fn raise_by_bands(
 
 /// How many bits the greatest magnitude of each sub-band has, and the sub-bands of the first tile,
 /// with which the walk ends.
-fn all_needs(
+fn all_needs<E: Executor>(
+    executor: &E,
     alloc: Global,
     image: &Image,
     parameters: &Parameters,
 ) -> Result<([u8; 16], Vec<Planes>), Fault>
+    requires ready { E.ready executor.now }
     requires written { IsWrittenBy parameters.now image.now }
     ensures needs { IfOk result
         (λ v. (b : ℕ) → b < band_count parameters.now.levels → slice_index v.0 b ≡ need image.now parameters.now b) }
@@ -73,37 +73,10 @@ fn all_needs(
     let siz = siz_of(image, parameters);
     let mut needs = [0; 16];
     for number in 1..tile_count(&siz) {
-        let bands = tile_bands(alloc, image, parameters, number)?;
+        let bands = tile_bands(executor, alloc, image, parameters, number)?;
         raise_by_bands(image, parameters, number, &bands, &mut needs);
     }
-    let first = tile_bands(alloc, image, parameters, 0)?;
-    raise_by_bands(image, parameters, 0, &first, &mut needs);
-    Ok((needs, first))
-}
-
-/// The same, with the components of a tile transformed side by side by so many workers.
-fn all_needs_with<R: Threads + Sync>(
-    rt: &R,
-    alloc: Global,
-    workers: usize,
-    image: &Image,
-    parameters: &Parameters,
-) -> Result<([u8; 16], Vec<Planes>), Fault>
-    requires some { 1 ≤ workers }
-    requires most { workers ≤ 64 }
-    requires written { IsWrittenBy parameters.now image.now }
-    ensures needs { IfOk result
-        (λ v. (b : ℕ) → b < band_count parameters.now.levels → slice_index v.0 b ≡ need image.now parameters.now b) }
-    ensures first { IfOk result (λ v. v.1.items ≡ written_bands image.now parameters.now 0) }
-    ensures memory { IfErr result IsMemory }
-{
-    let siz = siz_of(image, parameters);
-    let mut needs = [0; 16];
-    for number in 1..tile_count(&siz) {
-        let bands = tile_bands_with(rt, alloc, workers, image, parameters, number)?;
-        raise_by_bands(image, parameters, number, &bands, &mut needs);
-    }
-    let first = tile_bands_with(rt, alloc, workers, image, parameters, 0)?;
+    let first = tile_bands(executor, alloc, image, parameters, 0)?;
     raise_by_bands(image, parameters, 0, &first, &mut needs);
     Ok((needs, first))
 }
@@ -143,36 +116,18 @@ fn exponents_of(image: &Image, parameters: &Parameters, needs: &[u8; 16]) -> Exp
 /// It walks all tiles through the component and wavelet transforms, one after another and the first
 /// one last, whose sub-bands it gives as well, so that the transforms of the tile that is written
 /// first aren't made again.
-pub fn exponents(
+pub fn exponents<E: Executor>(
+    executor: &E,
     alloc: Global,
     image: &Image,
     parameters: &Parameters,
 ) -> Result<(Exponents, Vec<Planes>), Fault>
+    requires ready { E.ready executor.now }
     requires written { IsWrittenBy parameters.now image.now }
     ensures value { IfOk result (λ v. v.0 ≡ exponents_for image.now parameters.now) }
     ensures first { IfOk result (λ v. v.1.items ≡ written_bands image.now parameters.now 0) }
     ensures memory { IfErr result IsMemory }
 {
-    let (needs, first) = all_needs(alloc, image, parameters)?;
-    Ok((exponents_of(image, parameters, &needs), first))
-}
-
-/// What [`exponents`] gives, with the components of a tile transformed side by side by so many
-/// workers, as far as threads can be had.
-pub fn exponents_with<R: Threads + Sync>(
-    rt: &R,
-    alloc: Global,
-    workers: usize,
-    image: &Image,
-    parameters: &Parameters,
-) -> Result<(Exponents, Vec<Planes>), Fault>
-    requires some { 1 ≤ workers }
-    requires most { workers ≤ 64 }
-    requires written { IsWrittenBy parameters.now image.now }
-    ensures value { IfOk result (λ v. v.0 ≡ exponents_for image.now parameters.now) }
-    ensures first { IfOk result (λ v. v.1.items ≡ written_bands image.now parameters.now 0) }
-    ensures memory { IfErr result IsMemory }
-{
-    let (needs, first) = all_needs_with(rt, alloc, workers, image, parameters)?;
+    let (needs, first) = all_needs(executor, alloc, image, parameters)?;
     Ok((exponents_of(image, parameters, &needs), first))
 }

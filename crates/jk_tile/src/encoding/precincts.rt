@@ -13,6 +13,7 @@ ghost use Rattle.jk_tile.specs.encoding.TileWritten.{AreWrittenBands};
 ghost use Rattle.jk_tile.specs.encoding.TileWriters.{resolution_lists, component_lists};
 ghost use Rattle.jk_math.specs.Lists.{lists_of};
 
+use crate::encoding::executor::Executor;
 use crate::encoding::writing::{BandSource, precinct_tables};
 use jk_geom::precinct_count;
 use jk_marks::Coding;
@@ -42,7 +43,7 @@ fn add_resolution(
 }
 
 /// Appends the tables of each precinct of a component.
-fn add_component(
+pub(crate) fn add_component(
     alloc: Global,
     source: &BandSource<'_>,
     tables: &mut Vec<Vec<BlockTable>>,
@@ -59,13 +60,15 @@ fn add_component(
 }
 
 /// The tables of all precincts of a tile whose components have these sub-bands.
-pub(crate) fn tile_tables(
+pub(crate) fn tile_tables<E: Executor>(
+    executor: &E,
     alloc: Global,
     rect: &Rect,
     coding: &Coding,
     layers: u16,
     bands: &[Planes],
 ) -> Result<Vec<Vec<BlockTable>>, Fault>
+    requires ready { E.ready executor.now }
     requires bands { (c : ℕ) → c < length bands.now
         → AreWrittenBands
         (record { rect = rect.now; coding = coding.now; layers = layers; bands = slice_index_or bands.now c [] }) }
@@ -80,7 +83,7 @@ pub(crate) fn tile_tables(
     let mut tables = Vec::new(alloc);
     for c in 0..bands.len() {
         let source = BandSource::new(*rect, coding, layers, &bands[c]);
-        add_component(alloc, &source, &mut tables)?;
+        executor.code(alloc, &source, &mut tables)?;
     }
     Ok(tables)
 }

@@ -12,6 +12,7 @@ ghost use Rattle.jk_tile.specs.Filling.{IsPartOf};
 ghost use Rattle.jk_tile.specs.encoding.Forward.{picture_area, tile_value};
 ghost use Rattle.jk_tile.specs.encoding.Needs.{written_bands};
 
+use crate::encoding::executor::Executor;
 use crate::encoding::values::ComponentRows;
 use jk_geom::tile;
 use jk_math::{Fault, Image, Planes, Rect};
@@ -48,7 +49,7 @@ pub(crate) fn component_bands(
 }
 
 /// The sub-bands of each component of a part of an image, in the order of QCD, each row by row.
-fn bands_on(
+pub(crate) fn bands_on(
     alloc: Global,
     image: &Image,
     levels: u8,
@@ -74,17 +75,19 @@ fn bands_on(
 
 /// The sub-bands of each component of tile `number`, in the order of QCD, each row by row: its
 /// samples through the component and wavelet transforms (T.800 G.1, G.2, F.4).
-pub fn tile_bands(
+pub fn tile_bands<E: Executor>(
+    executor: &E,
     alloc: Global,
     image: &Image,
     parameters: &Parameters,
     number: u32,
 ) -> Result<Vec<Planes>, Fault>
+    requires ready { E.ready executor.now }
     requires written { IsWrittenBy parameters.now image.now }
     requires number { number < tile_count (siz_of image.now parameters.now) }
     ensures bands { IfOk result (λ v. v.items ≡ written_bands image.now parameters.now number) }
     ensures memory { IfErr result IsMemory }
 {
     let rect = tile(&siz_of(image, parameters), number);
-    bands_on(alloc, image, parameters.levels, parameters.colour, &rect)
+    executor.transform(alloc, image, parameters.levels, parameters.colour, &rect)
 }

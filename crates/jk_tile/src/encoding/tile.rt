@@ -15,6 +15,7 @@ ghost use Rattle.jk_tile.specs.TileMeaning.{DecodesTile};
 ghost use Rattle.jk_tile.specs.encoding.TileWriters.{tables_in, AreLists};
 ghost use Rattle.jk_math.specs.Lists.{lists_of};
 
+use crate::encoding::executor::Executor;
 use crate::encoding::packets::{TileFrame, write_packets};
 use crate::encoding::precincts::tile_tables;
 use jk_geom::{Codings, TileShape, tile};
@@ -25,7 +26,7 @@ use jk_params::{PacketMarkers, Parameters, coding_with, siz_of};
 use std::alloc::Global;
 
 /// How each component of an image is coded, with two guard bits.
-pub(crate) fn coding_of(image: &Image, parameters: &Parameters, exponents: &Exponents) -> Coding
+fn coding_of(image: &Image, parameters: &Parameters, exponents: &Exponents) -> Coding
     requires written { IsWrittenBy parameters.now image.now }
     requires exponents { exponents.now ≡ exponents_for image.now parameters.now }
     ensures { result ≡ written_coding image.now parameters.now }
@@ -51,7 +52,8 @@ fn codings_alike(coding: &Coding, components: usize) -> Codings
 
 /// The tables of all precincts of a tile on this rectangle: each code-block of its sub-bands, coded
 /// and cut into layers.
-fn code_tile(
+fn code_tile<E: Executor>(
+    executor: &E,
     alloc: Global,
     image: &Image,
     parameters: &Parameters,
@@ -60,6 +62,7 @@ fn code_tile(
     rect: &Rect,
     bands: Vec<Planes>,
 ) -> Result<Vec<Vec<BlockTable>>, Fault>
+    requires ready { E.ready executor.now }
     requires picture { IsPicture image.now }
     requires written { IsWrittenBy parameters.now image.now }
     requires coding { coding.now ≡ written_coding image.now parameters.now }
@@ -72,11 +75,11 @@ fn code_tile(
         → tables_in rect.now coding.now (lists_of v.items) c r n ≡ tile_tables image.now parameters.now number c r n) }
     ensures memory { IfErr result IsMemory }
 {
-    tile_tables(alloc, rect, coding, parameters.layers, &bands)
+    tile_tables(executor, alloc, rect, coding, parameters.layers, &bands)
 }
 
 /// The packets of a tile on this rectangle in their order, from the tables of its precincts.
-pub(crate) fn packets_of(
+fn packets_of(
     alloc: Global,
     image: &Image,
     parameters: &Parameters,
@@ -130,7 +133,8 @@ pub(crate) fn packets_of(
 ///
 /// `exponents` are those of [`crate::exponents`], and `bands` the sub-bands of the tile, which
 /// [`crate::tile_bands`] gives.
-pub fn encode_tile(
+pub fn encode_tile<E: Executor>(
+    executor: &E,
     alloc: Global,
     image: &Image,
     parameters: &Parameters,
@@ -138,6 +142,7 @@ pub fn encode_tile(
     number: u32,
     bands: Vec<Planes>,
 ) -> Result<Vec<u8>, Fault>
+    requires ready { E.ready executor.now }
     requires written { IsWrittenBy parameters.now image.now }
     requires exponents { exponents.now ≡ exponents_for image.now parameters.now }
     requires number { number < tile_count (siz_of image.now parameters.now) }
@@ -159,6 +164,8 @@ pub fn encode_tile(
 {
     let coding = coding_of(image, parameters, exponents);
     let rect = tile(&siz_of(image, parameters), number);
-    let tables = code_tile(alloc, image, parameters, &coding, number, &rect, bands)?;
+    let tables = code_tile(
+        executor, alloc, image, parameters, &coding, number, &rect, bands,
+    )?;
     packets_of(alloc, image, parameters, &coding, number, &rect, &tables)
 }

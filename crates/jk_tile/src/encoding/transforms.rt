@@ -4,20 +4,15 @@ ghost use Rattle.std.specs.Prelude.{◌≡◌, ℕ, ◌<◌, ◌≤◌, true, le
 ghost use Rattle.std.specs.List.{range_with_len};
 ghost use Rattle.jk_math.specs.Memory.{IsMemory};
 ghost use Rattle.jk_math.specs.Picture.{IsPicture};
-ghost use Rattle.jk_marks.specs.Siz.{tile_count};
-ghost use Rattle.jk_params.specs.Profile.{siz_of, IsWrittenBy};
 ghost use Rattle.jk_wave.specs.Analysis.{analysed_bands};
 ghost use Rattle.jk_geom.specs.Rectangles.{IsArea};
 ghost use Rattle.jk_tile.specs.Filling.{IsPartOf};
 ghost use Rattle.jk_tile.specs.encoding.Forward.{picture_area, tile_value};
 ghost use Rattle.jk_tile.specs.encoding.Jobs.{IsComponentJob, bands_of_job};
-ghost use Rattle.jk_tile.specs.encoding.Needs.{written_bands};
 
 use crate::encoding::subbands::component_bands;
 use jk_farm::{Open, Work, map_jobs};
-use jk_geom::tile;
 use jk_math::{Fault, Image, Planes, Rect};
-use jk_params::{Parameters, siz_of};
 use std::alloc::Global;
 use std::marker::Sync;
 use std::thread::Threads;
@@ -89,7 +84,7 @@ fn component_jobs<'a>(
 }
 
 /// The sub-bands of each component of a part of an image, in the order of QCD, each row by row.
-fn bands_with<R: Threads + Sync>(
+pub(crate) fn bands_with<R: Threads + Sync>(
     rt: &R,
     alloc: Global,
     workers: usize,
@@ -112,33 +107,4 @@ fn bands_with<R: Threads + Sync>(
 {
     let jobs = component_jobs(alloc, image, levels, colours, rect)?;
     map_jobs::<ComponentJob<'_>, R, Open>(rt, alloc, workers, &Open, &jobs)
-}
-
-/// What [`crate::tile_bands`] gives, with the components transformed side by side by so many
-/// workers, as far as threads can be had.
-pub fn tile_bands_with<R: Threads + Sync>(
-    rt: &R,
-    alloc: Global,
-    workers: usize,
-    image: &Image,
-    parameters: &Parameters,
-    number: u32,
-) -> Result<Vec<Planes>, Fault>
-    requires some { 1 ≤ workers }
-    requires most { workers ≤ 64 }
-    requires written { IsWrittenBy parameters.now image.now }
-    requires number { number < tile_count (siz_of image.now parameters.now) }
-    ensures bands { IfOk result (λ v. v.items ≡ written_bands image.now parameters.now number) }
-    ensures memory { IfErr result IsMemory }
-{
-    let rect = tile(&siz_of(image, parameters), number);
-    bands_with(
-        rt,
-        alloc,
-        workers,
-        image,
-        parameters.levels,
-        parameters.colour,
-        &rect,
-    )
 }

@@ -27,7 +27,7 @@ use std::marker::Model;
 /// A component of a tile that is written: the tile's rectangle, the component's coding, the number
 /// of layers, and its sub-bands in the order of QCD.
 #[derive(Drop)]
-pub(crate) struct BandSource<'a> {
+pub struct BandSource<'a> {
     rect: Rect,
     coding: &'a Coding,
     layers: u16,

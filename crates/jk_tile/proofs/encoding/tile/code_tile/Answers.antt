@@ -9,18 +9,18 @@ use Rattle.jk_tile.proofs.encoding.EncodingTile.{precincts_few, bands_written, l
 use Rattle.jk_tile.proofs.encoding.tile.code_tile.Goals as goal
 
 pub tile_tables-requires-clause-bands : goal.tile_tables-requires-clause-bands
-tile_tables-requires-clause-bands c =
+tile_tables-requires-clause-bands g c =
     let p = c.args.image.now in
     let q = c.args.parameters.now in
     let is = c.requires.bands ∙ ap (λ (a : Rect). map (λ i. analysed_bands a q.levels (tile_value p q.colour i)) (range_with_len 0 (length p.planes))) (sym c.requires.rect) in
     bands_written p q c.args.number c.args.rect.now c.args.coding.now c.args.bands.items c.deref.result.now c.requires.picture c.requires.written c.requires.number c.requires.rect c.requires.coding is c.deref.ensures.value
 
 pub tile_tables-requires-clause-few : goal.tile_tables-requires-clause-few
-tile_tables-requires-clause-few c =
+tile_tables-requires-clause-few g c =
     precincts_few c.args.image.now c.args.parameters.now c.args.number c.args.rect.now c.args.coding.now c.requires.picture c.requires.written c.requires.number c.requires.rect c.requires.coding
 
 pub returns-clause-lists : goal.returns-clause-lists
-returns-clause-lists c =
+returns-clause-lists g c =
     let p = c.args.image.now in
     let q = c.args.parameters.now in
     let is = c.requires.bands ∙ ap (λ (a : Rect). map (λ i. analysed_bands a q.levels (tile_value p q.colour i)) (range_with_len 0 (length p.planes))) (sym c.requires.rect) in
@@ -29,7 +29,7 @@ returns-clause-lists c =
     c.requires.rect c.requires.coding is c.deref.ensures.value e).are) c.tile_tables.ensures.tables
 
 pub returns-clause-tables : goal.returns-clause-tables
-returns-clause-tables c =
+returns-clause-tables g c =
     let p = c.args.image.now in
     let q = c.args.parameters.now in
     let is = c.requires.bands ∙ ap (λ (a : Rect). map (λ i. analysed_bands a q.levels (tile_value p q.colour i)) (range_with_len 0 (length p.planes))) (sym c.requires.rect) in

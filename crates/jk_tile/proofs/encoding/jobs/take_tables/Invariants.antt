@@ -1,5 +1,5 @@
 use Rattle.std.proofs.Common.{◌≡◌, ◌++◌, length, reverse}
-use Rattle.jk_tile.proofs.encoding.workers.take_tables.Given as goal
+use Rattle.jk_tile.proofs.encoding.jobs.take_tables.Given as goal
 
 abbrev pub invariant-loop : goal.invariant-loop
 invariant-loop l = record {

@@ -3,7 +3,7 @@ use Rattle.std.specs.List.{flat_map}
 use Rattle.jk_math.specs.Lists.{lists_of}
 use Rattle.jk_packet.specs.Written.{Table}
 use Rattle.jk_tile.proofs.encoding.Batches.{IsLeft}
-use Rattle.jk_tile.proofs.encoding.workers.cut_apart.Given as goal
+use Rattle.jk_tile.proofs.encoding.jobs.cut_apart.Given as goal
 
 abbrev pub invariant-loop-count : goal.invariant-loop-count
 invariant-loop-count l = (own : List (List Table)) → l.fn.tables.items ≡ flat_map (λ ts. ts) own → l.counts ≡ map (λ ts. length ts) own

@@ -4,7 +4,7 @@ use Rattle.std.specs.Global.{Vec}
 use Rattle.jk_math.specs.Lists.{lists_of}
 use Rattle.jk_packet.specs.Written.{Table}
 use Rattle.jk_tile.proofs.encoding.Batches.{IsLeft, next_few, left_more}
-use Rattle.jk_tile.proofs.encoding.workers.cut_apart.Goals as goal
+use Rattle.jk_tile.proofs.encoding.jobs.cut_apart.Goals as goal
 
 pub loop-count-preserved : goal.loop-count-preserved
 loop-count-preserved c own joined counts =
