@@ -1,13 +1,25 @@
-//! What the tests against outside values share: bytes as hexadecimal texts, what a gate is told of
-//! jobs, and a reader that counts its reads.
+//! What the tests against outside values share: bytes as hexadecimal texts, the lines of tables,
+//! texts, comparisons, checksums and numbers by chance, how much memory the process has, what a
+//! gate is told of jobs, and a reader that counts its reads. Nothing here ends a test: what fails
+//! is told by a result that a test can't let go but by `expect`.
 #![tactic(auto)]
 
+mod claims;
+mod lines;
 mod meeting;
 mod pieces;
+mod status;
+mod sums;
+mod texts;
 
+pub use claims::{Different, DifferentAt, equal, equal_at};
+pub use lines::{Line, Unread};
 pub use meeting::Meeting;
 pub use pieces::Pieces;
+pub use status::kilobytes;
 use std::alloc::{AllocError, Global};
+pub use sums::{drawn, folded, sum_of};
+pub use texts::Told;
 
 /// The bytes of hexadecimal texts, one text behind the other. What is no digit is passed over.
 pub fn bytes_of(alloc: Global, texts: &[&str]) -> Result<Vec<u8>, AllocError> {

@@ -2,7 +2,7 @@
 //! independent decoder answered: the values, or for a larger block `#` and a checksum of them, or a
 //! fault.
 
-pub const CASES: &str = "\
+pub static CASES: &str = "\
 1 1 LL 1 1 07 -1
 1 2 HL 7 19 0B9F8F 33,-98
 2 1 LH 1 1 08 -1,-1

@@ -54,8 +54,8 @@ impl Places {
     }
 
     fn clear(&mut self) {
-        for place in 0..self.marks.len() {
-            self.marks[place] = false;
+        for mark in self.marks.iter_mut() {
+            *mark = false;
         }
     }
 }

@@ -1,12 +1,13 @@
 //! Blocks of all shapes and styles, against a plain encoder.
 
+use crate::calls::codes;
 use crate::model::Model;
-use crate::written::{SHAPES, codes};
+use crate::written::SHAPES;
 use jk_block::Block;
 use jk_math::{Orientation, Style};
 use std::alloc::Global;
 use std::process::Abort;
-use std::test::Fail;
+use vectors::equal_at;
 
 /// Small shapes: one place, columns and rows of a stripe and beside it, and words of eight columns.
 static SMALL: [(usize, usize); 12] = [
@@ -46,19 +47,23 @@ static ORIENTATIONS: [Orientation; 4] = [
     Orientation::HH,
 ];
 
-/// The next of a chain of numbers (xorshift).
-fn next(state: &mut u32) -> u32 {
-    let mut value = *state;
-    value ^= value.wrapping_shl(13);
-    value ^= value.wrapping_shr(17);
-    value ^= value.wrapping_shl(5);
-    *state = value;
-    value
+/// A number and itself, so many places to the left.
+fn to_left(value: u32, places: u32) -> u32 {
+    value ^ value.wrapping_shl(places)
 }
 
-/// A coefficient of its kind, in a column.
-fn coefficient(kind: Kind, state: &mut u32, x: usize) -> i32 {
-    let chance = next(state);
+/// A number and itself, so many places to the right.
+fn to_right(value: u32, places: u32) -> u32 {
+    value ^ value.wrapping_shr(places)
+}
+
+/// The next of a chain of numbers (xorshift).
+fn next(number: u32) -> u32 {
+    to_left(to_right(to_left(number, 13), 17), 5)
+}
+
+/// A coefficient of its kind, in a column, by chance.
+fn coefficient(kind: Kind, chance: u32, x: usize) -> i32 {
     let sign = if chance & 1 == 0 { 1 } else { -1 };
     let magnitude = match kind {
         Kind::Noise => chance >> 4 & 0x1FFF,
@@ -84,70 +89,69 @@ fn style_of(number: usize) -> Style {
     style
 }
 
-/// A block is written as the plain encoder writes it, byte for byte and mark for mark.
-fn agrees(
+/// The coefficients of a made block.
+fn values_of(rt: &impl Abort, alloc: Global, width: usize, height: usize, kind: Kind) -> Vec<i32> {
+    let mut chance = 2_463_534_242;
+    let mut values = Vec::new(alloc);
+    for _ in 0..height {
+        for x in 0..width {
+            chance = next(chance);
+            values
+                .push(coefficient(kind, chance, x))
+                .expect(rt, "a coefficient");
+        }
+    }
+    values
+}
+
+/// A made block.
+fn block_of(
     rt: &impl Abort,
     alloc: Global,
     shape: (usize, usize),
     style: usize,
     kind: usize,
-) -> Result<(), Fail> {
+) -> Block {
     let (width, height) = shape;
-    let mut state = 2463534242;
-    let mut values = Vec::new(alloc);
-    for _ in 0..height {
-        for x in 0..width {
-            values.push(coefficient(KINDS[kind % 4], &mut state, x))?;
-        }
-    }
-    let block = Block {
+    Block {
         width,
         height,
         orientation: ORIENTATIONS[style.wrapping_add(kind) % 4],
         style: style_of(style),
-        values,
-    };
-    let coded = codes(rt, alloc, &block)?;
-    let (bytes, marks) = Model::new(alloc, &block)?.code(alloc, coded.planes)?;
-    assert_eq!(rt;
-        coded.bytes.as_slice(),
-        bytes.as_slice(),
-        "{width} {height} {style} {kind}"
-    );
-    assert_eq!(rt;
-        coded.marks.as_slice(),
-        marks.as_slice(),
-        "{width} {height} {style} {kind}"
-    );
-    Ok(())
+        values: values_of(rt, alloc, width, height, KINDS[kind % 4]),
+    }
+}
+
+/// A block is written as the plain encoder writes it, byte for byte and mark for mark.
+fn agrees(rt: &impl Abort, alloc: Global, shape: (usize, usize), style: usize, kind: usize) {
+    let block = block_of(rt, alloc, shape, style, kind);
+    let coded = codes(rt, alloc, &block);
+    let model = Model::new(alloc, &block).expect(rt, "a model");
+    let (bytes, marks) = model.code(alloc, coded.planes).expect(rt, "a model");
+    let case = (shape, style, kind);
+    equal_at(case, coded.bytes.as_slice(), bytes.as_slice()).expect(rt, "bytes");
+    equal_at(case, coded.marks.as_slice(), marks.as_slice()).expect(rt, "marks");
 }
 
 /// Small blocks of each kind in each style.
 #[test]
-fn small_blocks(rt: HostRuntime) -> Result<(), Fail> {
+fn small_blocks(rt: HostRuntime) {
     for shape in &SMALL {
         for style in 0..8 {
             for kind in 0..4 {
-                agrees(&rt, rt.alloc(), *shape, style, kind)?;
+                agrees(&rt, rt.alloc(), *shape, style, kind);
             }
         }
     }
-    Ok(())
 }
 
 /// Blocks on both sides of each length of the arrays, in each style.
 #[test]
-fn large_blocks(rt: HostRuntime) -> Result<(), Fail> {
+fn large_blocks(rt: HostRuntime) {
     for (number, shape) in SHAPES.iter().enumerate() {
         for style in 0..8 {
-            agrees(
-                &rt,
-                rt.alloc(),
-                *shape,
-                style,
-                (number % 4).wrapping_add(style),
-            )?;
+            let kind = (number % 4).wrapping_add(style);
+            agrees(&rt, rt.alloc(), *shape, style, kind);
         }
     }
-    Ok(())
 }

@@ -2,7 +2,7 @@
 //! encoder writes them: width, height, orientation, pattern, bit-planes, passes, how many bytes, and a
 //! checksum of bytes and marks.
 
-pub const WRITTEN: &str = "\
+pub static WRITTEN: &str = "\
 1 1 LL extreme 23 67 2 1885514466
 1 1 HL alternating 0 0 0 0
 2 1 HH extreme 23 67 2 1020309925

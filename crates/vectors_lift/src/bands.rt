@@ -11,7 +11,7 @@ use jk_math::{Orientation, Planes, Rect};
 use jk_wave::{Bands, analyse, synthesise};
 use std::alloc::Global;
 use std::process::Abort;
-use std::test::Fail;
+use vectors::equal;
 
 /// A tile-component: its samples row by row, and the coefficients of all sub-bands in the order of QCD.
 struct Row {
@@ -299,12 +299,13 @@ fn is_band(bands: &Bands, b: u8) -> bool
 }
 
 /// All coefficients in the order of QCD.
-fn listed(alloc: Global, bands: &Planes) -> Result<Vec<i32>, Fail> {
+fn listed(rt: &impl Abort, alloc: Global, bands: &Planes) -> Vec<i32> {
     let mut all = Vec::new(alloc);
     for b in 0..bands.len() {
-        all.extend_from_slice(bands.plane(b))?;
+        all.extend_from_slice(bands.plane(b))
+            .expect(rt, "coefficients");
     }
-    Ok(all)
+    all
 }
 
 /// Is a list of samples as long as the rectangle, and below 2^17 in magnitude?
@@ -317,24 +318,35 @@ fn are_samples(rect: &Rect, samples: &[i32]) -> bool
     samples.len() == places && are_small(samples)
 }
 
-/// Analyses the samples of a row, and synthesises them again.
-fn there_and_back(rt: &impl Abort, alloc: Global, row: &Row) -> Result<(), Fail> {
+/// The sub-bands of samples.
+fn analysed(rt: &impl Abort, alloc: Global, row: &Row) -> Bands {
     let (rect, levels) = (row.rect, row.levels);
     assert!(rt; is_area(&rect) && levels <= 10);
     assert!(rt; are_samples(&rect, row.samples));
-    let samples = Vec::from_slice(alloc, row.samples)?;
-    let bands = analyse(alloc, &rect, levels, samples)?;
-    assert_eq!(rt; listed(alloc, &bands.bands)?.as_slice(), row.coefficients);
-    assert!(rt; are_bands(&bands, levels));
-    let back = synthesise(alloc, &bands, levels)?;
-    assert_eq!(rt; back.as_slice(), row.samples);
-    Ok(())
+    let samples = Vec::from_slice(alloc, row.samples).expect(rt, "samples");
+    analyse(alloc, &rect, levels, samples).expect(rt, "sub-bands")
+}
+
+/// The samples of sub-bands.
+fn synthesised(rt: &impl Abort, alloc: Global, bands: &Bands) -> Vec<i32> {
+    assert!(rt; is_area(&bands.rect) && bands.levels <= 10);
+    assert!(rt; are_bands(bands, bands.levels));
+    synthesise(alloc, bands, bands.levels).expect(rt, "samples")
+}
+
+/// Analyses the samples of a row, and synthesises them again.
+fn there_and_back(rt: &impl Abort, alloc: Global, row: &Row) {
+    let bands = analysed(rt, alloc, row);
+    equal((bands.rect, bands.levels), (row.rect, row.levels)).expect(rt, "a tile-component");
+    let found = listed(rt, alloc, &bands.bands);
+    equal(found.as_slice(), row.coefficients).expect(rt, "coefficients");
+    let back = synthesised(rt, alloc, &bands);
+    equal(back.as_slice(), row.samples).expect(rt, "samples");
 }
 
 #[test]
-fn outside_values(rt: HostRuntime) -> Result<(), Fail> {
+fn outside_values(rt: HostRuntime) {
     for row in &ROWS {
-        there_and_back(&rt, rt.alloc(), row)?;
+        there_and_back(&rt, rt.alloc(), row);
     }
-    Ok(())
 }

@@ -1,6 +1,9 @@
 //! The transform of one sample, from the formula alone: an index is reflected by remainders where it is used, and halves
 //! and quarters are divisions.
 
+use std::process::Abort;
+use vectors::equal_at;
+
 /// The index that stands for index `j` of the extension of a line of `n` entries.
 fn reflected(j: i64, n: i64) -> i64 {
     let period = n.wrapping_sub(1).wrapping_mul(2);
@@ -33,7 +36,7 @@ fn high(line: &[i32], j: i64) -> i64 {
 }
 
 /// The coefficient at index `j` of the line of samples whose first place is `start`.
-pub(crate) fn coefficient(start: u32, line: &[i32], j: i64) -> i64 {
+fn coefficient(start: u32, line: &[i32], j: i64) -> i64 {
     let sample = entry(line, j);
     if line.len() == 1 {
         return if is_even(start, j) {
@@ -56,7 +59,7 @@ fn even(line: &[i32], j: i64) -> i64 {
 }
 
 /// The sample at index `j` of the line of coefficients whose first place is `start`.
-pub(crate) fn sample(start: u32, line: &[i32], j: i64) -> i64 {
+fn sample(start: u32, line: &[i32], j: i64) -> i64 {
     let coefficient = entry(line, j);
     if line.len() == 1 {
         return if is_even(start, j) {
@@ -70,4 +73,83 @@ pub(crate) fn sample(start: u32, line: &[i32], j: i64) -> i64 {
     }
     let around = even(line, j.wrapping_sub(1)).wrapping_add(even(line, j.wrapping_add(1)));
     coefficient.wrapping_add(around.div_euclid(2))
+}
+
+/// Numbers are the coefficients of a line of samples: of this column of so many, from a place on.
+pub(crate) fn has_coefficients(
+    rt: &impl Abort,
+    column: (usize, usize),
+    start: u32,
+    line: &[i32],
+    numbers: &[i32],
+) {
+    equal_at((column, start), numbers.len(), line.len()).expect(rt, "coefficients");
+    for (j, number) in numbers.iter().enumerate() {
+        let due = coefficient(start, line, j as i64);
+        let case = (column, start, line.len(), j);
+        equal_at(case, i64::from(*number), due).expect(rt, "a coefficient");
+    }
+}
+
+/// Numbers are the samples of a line of coefficients.
+pub(crate) fn has_samples(
+    rt: &impl Abort,
+    column: (usize, usize),
+    start: u32,
+    line: &[i32],
+    numbers: &[i32],
+) {
+    equal_at((column, start), numbers.len(), line.len()).expect(rt, "samples");
+    for (j, number) in numbers.iter().enumerate() {
+        let due = sample(start, line, j as i64);
+        let case = (column, start, line.len(), j);
+        equal_at(case, i64::from(*number), due).expect(rt, "a sample");
+    }
+}
+
+/// Column `x` of rows of this width.
+fn column_of(rows: &[i32], width: usize, x: usize, column: &mut [i32]) {
+    let mut at = x;
+    for number in column.iter_mut() {
+        *number = rows.get(at).copied().unwrap_or(0);
+        at = at.wrapping_add(width);
+    }
+}
+
+/// Each column of rows, of so many columns and rows, has the coefficients of that column of samples.
+pub(crate) fn columns_are_coefficients(
+    rt: &impl Abort,
+    start: u32,
+    size: (usize, usize),
+    samples: &[i32],
+    rows: &[i32],
+) {
+    let (width, height) = size;
+    assert!(rt; height < 34);
+    let (mut column, mut made) = ([0; 33], [0; 33]);
+    let (column, made) = (&mut column[..height], &mut made[..height]);
+    for x in 0..width {
+        column_of(samples, width, x, column);
+        column_of(rows, width, x, made);
+        has_coefficients(rt, (x, width), start, column, made);
+    }
+}
+
+/// Each column of rows has the samples of that column of coefficients.
+pub(crate) fn columns_are_samples(
+    rt: &impl Abort,
+    start: u32,
+    size: (usize, usize),
+    coefficients: &[i32],
+    rows: &[i32],
+) {
+    let (width, height) = size;
+    assert!(rt; height < 34);
+    let (mut column, mut made) = ([0; 33], [0; 33]);
+    let (column, made) = (&mut column[..height], &mut made[..height]);
+    for x in 0..width {
+        column_of(coefficients, width, x, column);
+        column_of(rows, width, x, made);
+        has_samples(rt, (x, width), start, column, made);
+    }
 }

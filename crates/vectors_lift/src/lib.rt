@@ -5,6 +5,8 @@
 #[cfg(test)]
 mod bands;
 #[cfg(test)]
+mod calls;
+#[cfg(test)]
 mod formula;
 #[cfg(test)]
 mod lanes;

@@ -11,7 +11,7 @@ use jk_math::{Planes, Rect};
 use jk_wave::{BandParts, Region, part_area, synthesise_part};
 use std::alloc::Global;
 use std::process::Abort;
-use std::test::Fail;
+use vectors::{Line, equal_at};
 
 /// A tile-component: the coefficients of all sub-bands in the order of QCD, and regions, each with
 /// the number of its resolution, its rectangle and its samples.
@@ -174,49 +174,59 @@ fn are_parts(parts: &BandParts) -> bool
 }
 
 /// The numbers of a text.
-fn numbers(alloc: Global, text: &str) -> Result<Vec<i32>, Fail> {
-    let mut all = Vec::new(alloc);
-    for word in text.split(' ') {
-        all.push(word.parse::<i32>()?)?;
-    }
-    Ok(all)
+fn numbers(rt: &impl Abort, alloc: Global, text: &str) -> Vec<i32> {
+    let mut line = Line::new(text, '|');
+    let numbers = line.numbers(alloc, ' ');
+    line.end().expect(rt, "numbers");
+    numbers
+}
+
+/// The place of a row and a column of a rectangle in the list of its values.
+fn place(area: &Rect, x: u32, y: u32) -> usize {
+    let width = area.x1.saturating_sub(area.x0) as usize;
+    let row = y.saturating_sub(area.y0) as usize;
+    let column = x.saturating_sub(area.x0) as usize;
+    row.saturating_mul(width).saturating_add(column)
 }
 
 /// What a list of the values of a rectangle has of a part of it.
-fn cut(alloc: Global, values: &[i32], area: &Rect, part: &Rect) -> Result<Vec<i32>, Fail> {
+fn cut(rt: &impl Abort, alloc: Global, values: &[i32], area: &Rect, part: &Rect) -> Vec<i32> {
     let mut all = Vec::new(alloc);
-    let width = area.x1.saturating_sub(area.x0) as usize;
     for y in part.y0..part.y1 {
         for x in part.x0..part.x1 {
-            let row = y.saturating_sub(area.y0) as usize;
-            let place = row.saturating_mul(width);
-            let place = place.saturating_add(x.saturating_sub(area.x0) as usize);
-            all.push(*values.get(place).ok_or("a coefficient")?)?;
+            let value = values.get(place(area, x, y)).expect(rt, "a coefficient");
+            all.push(*value).expect(rt, "a coefficient");
         }
     }
-    Ok(all)
+    all
 }
 
-/// The region that a line begins with, and where its samples begin.
-fn region(plane: &Plane, line: &[i32]) -> Result<Region, Fail> {
-    if let [top, x0, y0, x1, y1, ..] = line {
-        return Ok(Region {
-            rect: plane.rect,
-            levels: plane.levels,
-            top: u8::try_from(*top)?,
-            area: Rect {
-                x0: u32::try_from(*x0)?,
-                y0: u32::try_from(*y0)?,
-                x1: u32::try_from(*x1)?,
-                y1: u32::try_from(*y1)?,
-            },
-        });
+/// Number k of a line, which isn't below 0.
+fn number(rt: &impl Abort, line: &[i32], k: usize) -> u32 {
+    let number = line.get(k).copied().unwrap_or(-1);
+    assert!(rt; number >= 0);
+    number.unsigned_abs()
+}
+
+/// The region that a line begins with.
+fn region(rt: &impl Abort, plane: &Plane, line: &[i32]) -> Region {
+    let top = number(rt, line, 0);
+    assert!(rt; top < 256);
+    Region {
+        rect: plane.rect,
+        levels: plane.levels,
+        top: top as u8,
+        area: Rect {
+            x0: number(rt, line, 1),
+            y0: number(rt, line, 2),
+            x1: number(rt, line, 3),
+            y1: number(rt, line, 4),
+        },
     }
-    Err("a region".into())
 }
 
 /// The parts of the sub-bands that a region depends on, of all coefficients.
-fn parts(alloc: Global, region: Region, coefficients: &[i32]) -> Result<BandParts, Fail>
+fn parts(rt: &impl Abort, alloc: Global, region: Region, coefficients: &[i32]) -> BandParts
     requires { IsRegion region }
 {
     let mut bands = Vec::new(alloc);
@@ -225,36 +235,42 @@ fn parts(alloc: Global, region: Region, coefficients: &[i32]) -> Result<BandPart
         let area = numbered(&region.rect, region.levels, b);
         let places = (area.y1 - area.y0) as usize * (area.x1 - area.x0) as usize;
         let end = from.saturating_add(places);
-        let values = coefficients.get(from..end).ok_or("a sub-band")?;
-        bands.push(cut(alloc, values, &area, &part_area(&region, b as usize))?)?;
+        let values = coefficients.get(from..end).expect(rt, "a sub-band");
+        let part = part_area(&region, b as usize);
+        bands
+            .push(cut(rt, alloc, values, &area, &part))
+            .expect(rt, "a sub-band");
         from = end;
     }
-    Ok(BandParts {
+    BandParts {
         region,
         bands: Planes::new(bands),
-    })
+    }
+}
+
+/// The samples of a region, of the parts that it depends on alone.
+fn synthesised(rt: &impl Abort, alloc: Global, region: Region, coefficients: &[i32]) -> Vec<i32> {
+    assert!(rt; is_region(&region));
+    let parts = parts(rt, alloc, region, coefficients);
+    assert!(rt; is_region(&parts.region) && are_parts(&parts));
+    synthesise_part(alloc, &parts).expect(rt, "samples")
 }
 
 /// Makes a region of the parts that it depends on alone.
-fn synthesised(rt: &impl Abort, alloc: Global, plane: &Plane, line: &str) -> Result<(), Fail> {
-    let line = numbers(alloc, line)?;
-    let coefficients = numbers(alloc, plane.coefficients)?;
-    let region = region(plane, &line)?;
-    assert!(rt; is_region(&region));
-    let parts = parts(alloc, region, &coefficients)?;
-    assert!(rt; is_region(&parts.region) && are_parts(&parts));
-    let samples = synthesise_part(alloc, &parts)?;
-    assert!(rt; line.len() >= 5);
-    assert_eq!(rt; samples.as_slice(), &line[5..]);
-    Ok(())
+fn has_samples(rt: &impl Abort, alloc: Global, plane: &Plane, text: &str) {
+    let line = numbers(rt, alloc, text);
+    let coefficients = numbers(rt, alloc, plane.coefficients);
+    let region = region(rt, plane, &line);
+    let samples = synthesised(rt, alloc, region, &coefficients);
+    let due = line.get(5..).expect(rt, "samples");
+    equal_at(text, samples.as_slice(), due).expect(rt, "samples");
 }
 
 #[test]
-fn regions_of_resolutions(rt: HostRuntime) -> Result<(), Fail> {
+fn regions_of_resolutions(rt: HostRuntime) {
     for plane in &PLANES {
         for line in plane.regions {
-            synthesised(&rt, rt.alloc(), plane, line)?;
+            has_samples(&rt, rt.alloc(), plane, *line);
         }
     }
-    Ok(())
 }

@@ -1,40 +1,21 @@
-ghost use Rattle.std.specs.Prelude.{◌≡◌, ◌+◌, ◌-◌, ◌*◌, ◌^◌, ◌<◌, ◌≤◌, IsTrue, length, All};
-ghost use Rattle.jk_math.specs.Signed.{IsBelow};
-ghost use Rattle.jk_lift.specs.Samples.{low_length};
+ghost use Rattle.std.specs.Prelude.{◌<◌};
 
-use crate::formula::{coefficient, sample};
-use jk_lift::{analyse_line, analyse_rows, synthesise_line, synthesise_rows};
+use crate::calls::{
+    analyse_line, analyse_rows, even_places, forward, inverse, synthesise_line, synthesise_rows,
+};
+use crate::formula::{
+    columns_are_coefficients, columns_are_samples, has_coefficients, has_samples,
+};
 use std::process::Abort;
-
-/// Are all numbers below 2^29 in magnitude?
-fn are_small(numbers: &[i32]) -> bool
-    ensures { IsTrue result → All (IsBelow (2 ^ 29)) numbers.now }
-{
-    for number in numbers {
-        if *number >= 536870912 || *number <= -536870912 {
-            return false;
-        }
-    }
-    true
-}
+use vectors::{drawn, equal};
 
 /// Fills a line with numbers of twenty bits and a sign.
-fn fill(seed: u32, line: &mut [i32])
-    ensures { All (IsBelow (2 ^ 29)) line.new }
-{
+fn fill(seed: u32, line: &mut [i32]) {
     let mut state = seed;
     for number in line.iter_mut() {
-        state = state.wrapping_mul(1664525).wrapping_add(1013904223);
+        state = drawn(state);
         *number = (state >> 11) as i32 - 1048576;
     }
-}
-
-/// How many even places the `n` places from `start` on have.
-fn even_places(start: u32, n: usize) -> usize
-    requires { n < 34 }
-    ensures { result ≡ low_length start n }
-{
-    (start as usize + n + 1) / 2 - (start as usize + 1) / 2
 }
 
 /// The numbers of both parts by their places: `low` stands at the even places, `high` at the odd ones.
@@ -50,40 +31,38 @@ fn weave(start: u32, low: &[i32], high: &[i32], line: &mut [i32]) {
 
 const STARTS: [u32; 4] = [0, 1, u32::MAX - 1, u32::MAX];
 
+/// A line that is worked by hand.
+const LINE: [i32; 9] = [1, 2, 3, 4, 5, 6, 7, 8, 9];
+
+/// The worked line has these parts from a place on, and they give it back.
+fn parts_are(rt: &impl Abort, start: u32, low: &[i32], high: &[i32]) {
+    let (mut lows, mut highs, mut back) = ([0; 5], [0; 5], [0; 9]);
+    assert!(rt; low.len() <= 5 && high.len() <= 5);
+    let (lows, highs) = (&mut lows[..low.len()], &mut highs[..high.len()]);
+    analyse_line(rt, start, &LINE, lows, highs);
+    equal(&*lows, low).expect(rt, "low-pass coefficients");
+    equal(&*highs, high).expect(rt, "high-pass coefficients");
+    synthesise_line(rt, start, low, high, &mut back);
+    equal(back, LINE).expect(rt, "the line again");
+}
+
 #[test]
 fn worked_lines(rt: HostRuntime) {
-    let line = [1, 2, 3, 4, 5, 6, 7, 8, 9];
-    let mut back = [0; 9];
-    let (mut low, mut high) = ([0; 5], [0; 4]);
-    assert!(rt; are_small(&line));
-    analyse_line(0, &line, &mut low, &mut high);
-    assert_eq!(rt; low, [1, 3, 5, 7, 9]);
-    assert_eq!(rt; high, [0; 4]);
-    assert!(rt; are_small(&low) && are_small(&high));
-    synthesise_line(0, &low, &high, &mut back);
-    assert_eq!(rt; back, line);
-    let (mut low, mut high) = ([0; 4], [0; 5]);
-    analyse_line(1, &line, &mut low, &mut high);
-    assert_eq!(rt; low, [2, 4, 6, 8]);
-    assert_eq!(rt; high, [-1, 0, 0, 0, 1]);
-    assert!(rt; are_small(&low) && are_small(&high));
-    synthesise_line(1, &low, &high, &mut back);
-    assert_eq!(rt; back, line);
+    parts_are(&rt, 0, &[1, 3, 5, 7, 9], &[0; 4]);
+    parts_are(&rt, 1, &[2, 4, 6, 8], &[-1, 0, 0, 0, 1]);
 }
 
 #[test]
 fn worked_colour(rt: HostRuntime) {
     let (mut a, mut b, mut c) = ([32767], [-32768], [32767]);
-    assert!(rt; are_small(&a) && are_small(&b) && are_small(&c));
-    jk_rct::forward(&mut a, &mut b, &mut c);
-    assert_eq!(rt; (a, b, c), ([-1], [65535], [65535]));
-    assert!(rt; are_small(&a) && are_small(&b) && are_small(&c));
-    jk_rct::inverse(&mut a, &mut b, &mut c);
-    assert_eq!(rt; (a, b, c), ([32767], [-32768], [32767]));
+    forward(&rt, &mut a, &mut b, &mut c);
+    equal((a, b, c), ([-1], [65535], [65535])).expect(&rt, "forward");
+    inverse(&rt, &mut a, &mut b, &mut c);
+    equal((a, b, c), ([32767], [-32768], [32767])).expect(&rt, "inverse");
 }
 
-/// One line both ways, against the formula of each sample.
-fn check_line(rt: &impl Abort, start: u32, n: usize)
+/// One line is analysed, against the formula of each coefficient.
+fn analyses_line(rt: &impl Abort, start: u32, n: usize)
     requires { n < 34 }
 {
     let (mut line, mut low, mut high, mut woven) = ([0; 33], [0; 33], [0; 33], [0; 33]);
@@ -91,37 +70,24 @@ fn check_line(rt: &impl Abort, start: u32, n: usize)
     let (line, woven) = (&mut line[..n], &mut woven[..n]);
     let (low, high) = (&mut low[..lows], &mut high[..n - lows]);
     fill(start.wrapping_add(n as u32), line);
-    analyse_line(start, line, low, high);
+    analyse_line(rt, start, line, low, high);
     weave(start, low, high, woven);
-    for (j, number) in woven.iter().enumerate() {
-        let wanted = coefficient(start, line, j as i64);
-        assert_eq!(rt;
-            i64::from(*number),
-            wanted,
-            "coefficient {j} of {n} from {start}"
-        );
-    }
+    has_coefficients(rt, (0, 1), start, line, woven);
+}
+
+/// One line is synthesised, against the formula of each sample.
+fn synthesises_line(rt: &impl Abort, start: u32, n: usize)
+    requires { n < 34 }
+{
+    let (mut line, mut low, mut high, mut woven) = ([0; 33], [0; 33], [0; 33], [0; 33]);
+    let lows = even_places(start, n);
+    let (line, woven) = (&mut line[..n], &mut woven[..n]);
+    let (low, high) = (&mut low[..lows], &mut high[..n - lows]);
     fill(start.wrapping_mul(7).wrapping_add(n as u32), low);
     fill(start.wrapping_mul(5).wrapping_add(n as u32), high);
     weave(start, low, high, woven);
-    synthesise_line(start, low, high, line);
-    for (j, number) in line.iter().enumerate() {
-        let wanted = sample(start, woven, j as i64);
-        assert_eq!(rt;
-            i64::from(*number),
-            wanted,
-            "sample {j} of {n} from {start}"
-        );
-    }
-}
-
-/// Column `x` of rows of this width.
-fn column_of(rows: &[i32], width: usize, x: usize, column: &mut [i32]) {
-    let mut at = x;
-    for number in column.iter_mut() {
-        *number = rows.get(at).copied().unwrap_or(0);
-        at = at.wrapping_add(width);
-    }
+    synthesise_line(rt, start, low, high, line);
+    has_samples(rt, (0, 1), start, woven, line);
 }
 
 /// Rows of columns both ways, against the formula of each sample of each column.
@@ -130,46 +96,23 @@ fn check_rows(rt: &impl Abort, start: u32, height: usize, width: usize)
     requires wide { width < 10 }
 {
     let (mut given, mut rows) = ([0; 297], [0; 297]);
-    let (mut column, mut made) = ([0; 33], [0; 33]);
     let size = height * width;
     let (given, rows) = (&mut given[..size], &mut rows[..size]);
-    let (column, made) = (&mut column[..height], &mut made[..height]);
     fill(start.wrapping_add(height as u32), given);
     rows.copy_from_slice(given);
-    analyse_rows(start, width, rows);
-    for x in 0..width {
-        column_of(given, width, x, column);
-        column_of(rows, width, x, made);
-        for (j, number) in made.iter().enumerate() {
-            let wanted = coefficient(start, column, j as i64);
-            assert_eq!(rt;
-                i64::from(*number),
-                wanted,
-                "row {j} of {height}, {x} of {width}, from {start}"
-            );
-        }
-    }
+    analyse_rows(rt, start, width, rows);
+    columns_are_coefficients(rt, start, (width, height), given, rows);
     rows.copy_from_slice(given);
-    synthesise_rows(start, width, rows);
-    for x in 0..width {
-        column_of(given, width, x, column);
-        column_of(rows, width, x, made);
-        for (j, number) in made.iter().enumerate() {
-            let wanted = sample(start, column, j as i64);
-            assert_eq!(rt;
-                i64::from(*number),
-                wanted,
-                "row {j} of {height}, {x} of {width}, from {start}"
-            );
-        }
-    }
+    synthesise_rows(rt, start, width, rows);
+    columns_are_samples(rt, start, (width, height), given, rows);
 }
 
 #[test]
 fn every_length(rt: HostRuntime) {
     for start in STARTS {
         for n in 0..34 {
-            check_line(&rt, start, n);
+            analyses_line(&rt, start, n);
+            synthesises_line(&rt, start, n);
             check_rows(&rt, start, n, 1);
             check_rows(&rt, start, n, 7);
             check_rows(&rt, start, n, 8);

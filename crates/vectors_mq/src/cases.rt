@@ -1,7 +1,7 @@
 //! Segments in hexadecimal, the number of the first context, and the bits that an independent
 //! decoder by the code value gave. `!` stands where the code value had left the interval.
 
-pub const CASES: &str = "\
+pub static CASES: &str = "\
 4D01E5 5 01011001100110010000010110100001
 FE7F7F8F 1 11101010100001010110100001100110
 010000F800 10 01110000010010110101101101101000

@@ -2,7 +2,7 @@
 //! stands in the others), a number of them, how many bytes an independent encoder of the registers
 //! had placed after so many, and its bytes at the end. `-` has none.
 
-pub const ENCODED: &str = "\
+pub static ENCODED: &str = "\
 - 0 0 FF7F
 8009 2 0 03
 8089 1 0 07

@@ -1,11 +1,37 @@
+ghost use Rattle.std.specs.Prelude.{◌<◌};
+
 use crate::encoded::ENCODED;
 use jk_model::{alike_spelling, given_decisions, placed_value};
 use jk_mqdec::Decoder;
 use jk_mqenc::{Encoder, written_grows};
 use std::alloc::Global;
 use std::process::Abort;
-use std::test::Fail;
-use vectors::bytes_of;
+use vectors::{Line, drawn, equal, equal_at, sum_of};
+
+/// The number of the context of a decision that a byte tells.
+fn context(byte: u8) -> usize
+    ensures { result < 19 }
+{
+    (byte & 0x7F) as usize % 19
+}
+
+/// Codes the decisions.
+fn encode(rt: &impl Abort, encoder: &mut Encoder, decisions: &[u8]) {
+    for byte in decisions {
+        encoder
+            .encode(context(*byte), *byte >= 0x80)
+            .expect(rt, "a decision");
+    }
+}
+
+/// A decoder finds the decisions in the bytes.
+fn decodes(rt: &impl Abort, bytes: &[u8], decisions: &[u8]) {
+    let mut decoder = Decoder::new(bytes);
+    for byte in decisions {
+        let bit = decoder.decode(context(*byte)).expect(rt, "a bit");
+        equal_at(decisions, bit, *byte >= 0x80).expect(rt, "a decision");
+    }
+}
 
 /// Codes the decisions and finishes; `written` is asked for before the decision of this number, or
 /// at the end. A decoder then finds the decisions in the bytes.
@@ -16,96 +42,84 @@ fn encodes(
     number: usize,
     written: usize,
     wanted: &[u8],
-) -> Result<(), Fail> {
+) {
+    assert!(rt; number <= decisions.len());
+    let (before, after) = decisions.split_at(number);
     let mut encoder = Encoder::new(alloc);
-    for (at, byte) in decisions.iter().enumerate() {
-        if at == number {
-            assert_eq!(rt;
-                encoder.written(),
-                written,
-                "before {number} of {decisions:?}"
-            );
-        }
-        let cx = (byte & 0x7F) as usize % 19;
-        encoder.encode(cx, *byte >= 0x80).ok().ok_or("memory")?;
-    }
-    if decisions.len() == number {
-        assert_eq!(rt; encoder.written(), written, "after {decisions:?}");
-    }
-    let bytes = encoder.finish().ok().ok_or("memory")?;
-    assert_eq!(rt; bytes.as_slice(), wanted, "of {decisions:?}");
-    let mut decoder = Decoder::new(&bytes);
-    for byte in decisions {
-        let cx = (byte & 0x7F) as usize % 19;
-        let bit = decoder.decode(cx).ok().ok_or("a bit")?;
-        assert_eq!(rt; bit, *byte >= 0x80, "in {decisions:?}");
-    }
-    Ok(())
+    encode(rt, &mut encoder, before);
+    equal_at(decisions, encoder.written(), written).expect(rt, "bytes placed");
+    encode(rt, &mut encoder, after);
+    let bytes = encoder.finish().expect(rt, "bytes");
+    equal_at(decisions, bytes.as_slice(), wanted).expect(rt, "bytes");
+    decodes(rt, &bytes, decisions);
+}
+
+/// Codes the decisions of a line.
+fn encodes_line(rt: &impl Abort, alloc: Global, text: &str) {
+    let mut line = Line::new(text, ' ');
+    let decisions = line.bytes(alloc);
+    let number = line.number(0, 255) as usize;
+    let written = line.number(0, 255) as usize;
+    let wanted = line.bytes(alloc);
+    line.end().expect(rt, "a line");
+    encodes(rt, alloc, &decisions, number, written, &wanted);
 }
 
 #[test]
-fn random_decisions(rt: HostRuntime) -> Result<(), Fail> {
+fn random_decisions(rt: HostRuntime) {
     let mut count = 0u32;
     for line in ENCODED.lines() {
-        let mut words = line.split(' ');
-        let decisions = bytes_of(rt.alloc(), &[words.next().ok_or("decisions")?])?;
-        let number = words.next().ok_or("a number")?.parse::<u8>()? as usize;
-        let written = words.next().ok_or("a count")?.parse::<u8>()? as usize;
-        let wanted = bytes_of(rt.alloc(), &[words.next().ok_or("bytes")?])?;
-        encodes(&rt, rt.alloc(), &decisions, number, written, &wanted)?;
+        encodes_line(&rt, rt.alloc(), line);
         count = count.saturating_add(1);
     }
-    assert_eq!(rt; count, 125);
+    equal(count, 125).expect(&rt, "lines");
     given_decisions();
     alike_spelling();
     placed_value();
     written_grows();
-    Ok(())
+}
+
+/// Two decisions in one call have these bytes, none of which is placed before the end.
+fn lists(rt: &impl Abort, alloc: Global, first: u8, second: u8, wanted: u8) {
+    assert!(rt; first / 2 < 19 && second / 2 < 19);
+    let mut encoder = Encoder::new(alloc);
+    encoder.encode_all(&[first, second]).expect(rt, "decisions");
+    equal(encoder.written(), 0).expect(rt, "bytes placed");
+    let bytes = encoder.finish().expect(rt, "bytes");
+    equal(bytes.as_slice(), [wanted].as_slice()).expect(rt, "bytes");
 }
 
 /// The decisions of the one cleanup pass of a block of 1 by 1 in LL, in one call.
 #[test]
-fn listed_decisions(rt: HostRuntime) -> Result<(), Fail> {
-    let mut plus = Encoder::new(rt.alloc());
-    plus.encode_all(&[0x01, 0x12]).ok().ok_or("memory")?;
-    assert_eq!(rt; plus.written(), 0);
-    assert_eq!(rt;
-        plus.finish().ok().ok_or("memory")?.as_slice(),
-        &[0x03u8][..]
-    );
-    let mut minus = Encoder::new(rt.alloc());
-    minus.encode_all(&[0x01, 0x13]).ok().ok_or("memory")?;
-    assert_eq!(rt; minus.written(), 0);
-    assert_eq!(rt;
-        minus.finish().ok().ok_or("memory")?.as_slice(),
-        &[0x07u8][..]
-    );
-    Ok(())
+fn listed_decisions(rt: HostRuntime) {
+    lists(&rt, rt.alloc(), 0x01, 0x12, 0x03);
+    lists(&rt, rt.alloc(), 0x01, 0x13, 0x07);
+}
+
+/// Whether a decision by chance is 1.
+fn is_one(cx: usize, chance: u32) -> bool {
+    if cx % 2 == 0 {
+        (chance >> 24) & 7 == 0
+    } else {
+        (chance >> 28) & 1 == 1
+    }
 }
 
 /// A million decisions, drawn by a linear congruence; the bytes are those of an independent encoder
 /// by their number, the first and the last, and a sum.
 #[test]
-fn long_run(rt: HostRuntime) -> Result<(), Fail> {
+fn long_run(rt: HostRuntime) {
     let mut encoder = Encoder::new(rt.alloc());
-    let mut drawn = 1u32;
+    let mut chance = 1;
     for _ in 0..1_048_576 {
-        drawn = drawn.wrapping_mul(1_664_525).wrapping_add(1_013_904_223);
-        let cx = (drawn >> 16) as usize % 19;
-        let bit = if cx % 2 == 0 {
-            (drawn >> 24) & 7 == 0
-        } else {
-            (drawn >> 28) & 1 == 1
-        };
-        encoder.encode(cx, bit).ok().ok_or("memory")?;
+        chance = drawn(chance);
+        let cx = (chance >> 16) as usize % 19;
+        encoder
+            .encode(cx, is_one(cx, chance))
+            .expect(&rt, "a decision");
     }
-    assert_eq!(rt; encoder.written(), 106_551);
-    let bytes = encoder.finish().ok().ok_or("memory")?;
-    let mut sum = 0u32;
-    for byte in &bytes {
-        sum = sum.wrapping_mul(31).wrapping_add(*byte as u32);
-    }
-    assert_eq!(rt; bytes.len(), 106_552);
-    assert_eq!(rt; sum, 0xB1EE_57A7);
-    Ok(())
+    equal(encoder.written(), 106_551).expect(&rt, "bytes placed");
+    let bytes = encoder.finish().expect(&rt, "bytes");
+    equal(bytes.len(), 106_552).expect(&rt, "bytes");
+    equal(sum_of(&bytes), 0xB1EE_57A7).expect(&rt, "a sum");
 }

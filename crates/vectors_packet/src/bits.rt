@@ -2,8 +2,9 @@
 
 use jk_bits::{BitReader, BitWriter};
 use jk_math::Fault;
+use std::alloc::Global;
 use std::process::Abort;
-use std::test::Fail;
+use vectors::{equal, equal_at};
 
 /// Bits as `0` and `1`, and the bytes that an independent program in Python makes of them; the
 /// first rows of ones are also worked by hand.
@@ -63,39 +64,42 @@ static TEXTS: [(&str, &[u8]); 32] = [
     ("0111111111111111111111", &[0x7F, 0xFF, 0x7E]),
 ];
 
+/// A reader has these bits, and no more than these bytes.
+fn reads(rt: &impl Abort, text: &[u8], bits: &str) {
+    let mut reader = BitReader::new(text);
+    for bit in bits.as_bytes() {
+        equal_at(bits, reader.bit(), Ok(*bit == b'1')).expect(rt, "a bit");
+    }
+    equal_at(bits, reader.finish(), Ok(text.len())).expect(rt, "the end");
+}
+
 /// Writes the bits and reads them back.
-fn goes_round(rt: &impl Abort, writer: BitWriter, bits: &str, bytes: &[u8]) -> Result<(), Fault> {
-    let mut writer = writer;
+fn goes_round(rt: &impl Abort, alloc: Global, bits: &str, bytes: &[u8]) {
+    let mut writer = BitWriter::new(alloc);
     for bit in bits.as_bytes() {
-        writer.push(*bit == b'1')?;
+        writer.push(*bit == b'1').expect(rt, "a bit");
     }
-    let text = writer.finish()?;
-    assert_eq!(rt; text.as_slice(), bytes);
-    let mut reader = BitReader::new(&text);
-    for bit in bits.as_bytes() {
-        assert_eq!(rt; reader.bit()?, *bit == b'1');
-    }
-    assert_eq!(rt; reader.finish()?, bytes.len());
-    Ok(())
+    let text = writer.finish().expect(rt, "bytes");
+    equal_at(bits, text.as_slice(), bytes).expect(rt, "bytes");
+    reads(rt, &text, bits);
 }
 
 /// Reads to the first fault, which is then the answer to each later call.
 fn ends(rt: &impl Abort, bytes: &[u8], count: usize, fault: Fault) {
     let mut reader = BitReader::new(bytes);
-    for _ in 0..count {
-        assert!(rt; reader.bit().is_ok());
+    for place in 0..count {
+        equal_at(place, reader.bit().is_ok(), true).expect(rt, "a bit");
     }
-    assert_eq!(rt; reader.bit().err(), Some(fault));
-    assert_eq!(rt; reader.bit().err(), Some(fault));
-    assert_eq!(rt; reader.finish().err(), Some(fault));
+    equal_at(bytes, reader.bit(), Err(fault)).expect(rt, "the first fault");
+    equal_at(bytes, reader.bit(), Err(fault)).expect(rt, "again");
+    equal_at(bytes, reader.finish(), Err(fault)).expect(rt, "the end");
 }
 
 #[test]
-fn texts(rt: HostRuntime) -> Result<(), Fail> {
-    for (bits, bytes) in TEXTS {
-        goes_round(&rt, BitWriter::new(rt.alloc()), bits, bytes)?;
+fn texts(rt: HostRuntime) {
+    for (bits, bytes) in &TEXTS {
+        goes_round(&rt, rt.alloc(), *bits, *bytes);
     }
-    Ok(())
 }
 
 #[test]
@@ -107,9 +111,8 @@ fn faults(rt: HostRuntime) {
 }
 
 #[test]
-fn unclosed(rt: HostRuntime) -> Result<(), Fail> {
+fn unclosed(rt: HostRuntime) {
     let mut reader = BitReader::new(&[0xFF]);
-    assert!(rt; reader.bit()?);
-    assert_eq!(rt; reader.finish().err(), Some(Fault::Truncated));
-    Ok(())
+    equal(reader.bit(), Ok(true)).expect(&rt, "a bit");
+    equal(reader.finish(), Err(Fault::Truncated)).expect(&rt, "the end");
 }

@@ -3,7 +3,7 @@
 //! then, layer by layer, the bytes and what is read of them. That is the length of the header and
 //! `:band.block.zero_planes.passes.length` for each part, or the fault, which ends the line.
 
-pub const PRECINCTS: &str = "\
+pub static PRECINCTS: &str = "\
 00 1x1x14 a1=1 bc=1
 01 1x1x3,1x1x0,2x1x23 16ff92=3 d39203ff3f274bff92=9:0.0.1.1.7:2.1.7.36.5029 d801ff92=4:0.0.1.1.0 8cff63ff92=5:2.1.7.2.1023
 01 2x5x9 ff1f362f80efee104423a7760f77fea8ff92=18:0.0.2.12.47:0.1.7.4.1800:0.7.7.4.14:0.8.6.5.255:0.9.1.1.10 56ff92b16b4a=3 fc38d07e6bf88ef4fd1b19f33fc0ff92=16:0.0.2.7.104:0.2.0.12.127:0.4.7.4.159:0.5.5.1.3:0.6.4.1.3:0.9.1.12.127 9f3c62621bf2b53df87916ff92=13:0.2.0.13.49:0.5.5.2.4:0.8.6.2.2772:0.9.1.5.484
@@ -251,7 +251,7 @@ pub const PRECINCTS: &str = "\
 /// packet in front, which asks no tree. Then SOP: before an empty packet, in the second packet
 /// alone, cut, of another length, cut again, and where it isn't allowed. EPH: behind an empty
 /// packet, cut, and other bytes. Both, with a byte too many before EPH, and without.
-pub const WORKED: &str = "\
+pub static WORKED: &str = "\
 00 1x1x9 C02103=2:0.0.8.1.1
 00 1x1x9 C000=PacketHeader
 00 1x1x9 C0304003=TooManyPasses

@@ -7,7 +7,7 @@ use jk_math::Fault;
 use jk_tree::{ReadTree, WriteTree};
 use std::alloc::Global;
 use std::process::Abort;
-use std::test::Fail;
+use vectors::{equal, equal_at};
 
 /// The values of the leaves in raster order; the queries (leaf, threshold, whether the leaf is
 /// below); the bytes that an independent program in Python makes of them.
@@ -391,83 +391,74 @@ static CASES: [Case; 24] = [
 ];
 
 /// Tells the queries one after another.
-fn tell_all(
-    rt: &impl Abort,
-    tree: &mut WriteTree,
-    case: &Case,
-    writer: &mut BitWriter,
-) -> Result<(), Fault>
+fn tell_all(rt: &impl Abort, tree: &mut WriteTree, case: &Case, writer: &mut BitWriter)
     requires { tree.old.shape ≡ record { width = case.now.width; height = case.now.height } }
 {
     let leaves = case.width as u32 * case.height as u32;
     for (leaf, threshold, _) in case.queries {
         assert!(rt; *leaf < leaves);
-        tree.tell(*leaf, *threshold, writer)?;
+        tree.tell(*leaf, *threshold, writer).expect(rt, "a leaf");
     }
-    Ok(())
 }
 
 /// Asks them one after another.
-fn ask_all(
-    rt: &impl Abort,
-    tree: &mut ReadTree,
-    case: &Case,
-    reader: &mut BitReader<'_>,
-) -> Result<(), Fault>
+fn ask_all(rt: &impl Abort, tree: &mut ReadTree, case: &Case, reader: &mut BitReader<'_>)
     requires { tree.old.shape ≡ record { width = case.now.width; height = case.now.height } }
 {
     let leaves = case.width as u32 * case.height as u32;
     for (leaf, threshold, below) in case.queries {
         assert!(rt; *leaf < leaves);
-        assert_eq!(rt; tree.ask(*leaf, *threshold, reader)?, *below);
+        let answer = tree.ask(*leaf, *threshold, reader);
+        equal_at((*leaf, *threshold), answer, Ok(*below)).expect(rt, "a leaf");
     }
-    Ok(())
 }
 
-fn goes_round(rt: &impl Abort, alloc: Global, case: &Case) -> Result<(), Fault> {
-    assert_eq!(rt;
-        case.values.len(),
-        case.width as usize * case.height as usize
-    );
+/// What is written of the leaves.
+fn written(rt: &impl Abort, alloc: Global, case: &Case) -> Vec<u8> {
+    let leaves = case.width as usize * case.height as usize;
+    assert!(rt; case.values.len() == leaves);
     let mut writer = BitWriter::new(alloc);
-    let mut written = WriteTree::new(alloc, case.width, case.height, case.values)?;
-    tell_all(rt, &mut written, case, &mut writer)?;
-    let text = writer.finish()?;
-    assert_eq!(rt; text.as_slice(), case.bytes);
+    let tree = WriteTree::new(alloc, case.width, case.height, case.values);
+    let mut tree = tree.expect(rt, "a tree");
+    tell_all(rt, &mut tree, case, &mut writer);
+    writer.finish().expect(rt, "bytes")
+}
+
+/// The leaves are read of what is written of them.
+fn goes_round(rt: &impl Abort, alloc: Global, case: &Case) {
+    let text = written(rt, alloc, case);
+    equal_at(case.values, text.as_slice(), case.bytes).expect(rt, "bytes");
     let mut reader = BitReader::new(&text);
-    let mut read = ReadTree::new(alloc, case.width, case.height)?;
-    ask_all(rt, &mut read, case, &mut reader)?;
-    assert_eq!(rt; reader.finish()?, case.bytes.len());
-    Ok(())
+    let mut tree = ReadTree::new(alloc, case.width, case.height).expect(rt, "a tree");
+    ask_all(rt, &mut tree, case, &mut reader);
+    equal_at(case.values, reader.finish(), Ok(case.bytes.len())).expect(rt, "the end");
 }
 
 #[test]
-fn trees(rt: HostRuntime) -> Result<(), Fail> {
+fn trees(rt: HostRuntime) {
     for case in &CASES {
-        goes_round(&rt, rt.alloc(), case)?;
+        goes_round(&rt, rt.alloc(), case);
     }
-    Ok(())
 }
 
 /// A node above its leaves is told as 2, and the leaves as 3 and 3: no written tree does that, and
 /// it is read.
 #[test]
-fn loose_tree(rt: HostRuntime) -> Result<(), Fail> {
+fn loose_tree(rt: HostRuntime) {
     let mut reader = BitReader::new(&[0b0010_1010]);
-    let mut tree = ReadTree::new(rt.alloc(), 2, 1)?;
-    assert!(rt; tree.ask(0, 4, &mut reader)?);
-    assert!(rt; tree.ask(1, 4, &mut reader)?);
-    assert!(rt; !tree.ask(1, 3, &mut reader)?);
-    Ok(())
+    let mut tree = ReadTree::new(rt.alloc(), 2, 1).expect(&rt, "a tree");
+    equal(tree.ask(0, 4, &mut reader), Ok(true)).expect(&rt, "the first leaf");
+    equal(tree.ask(1, 4, &mut reader), Ok(true)).expect(&rt, "the second leaf");
+    equal(tree.ask(1, 3, &mut reader), Ok(false)).expect(&rt, "the second leaf");
 }
 
 /// A tree that ran out of bits answers so for ever.
 #[test]
-fn failed_tree(rt: HostRuntime) -> Result<(), Fail> {
+fn failed_tree(rt: HostRuntime) {
+    let due = Err(Fault::Truncated);
     let mut reader = BitReader::new(&[0x00]);
-    let mut tree = ReadTree::new(rt.alloc(), 1, 1)?;
-    assert_eq!(rt; tree.ask(0, 9, &mut reader).err(), Some(Fault::Truncated));
+    let mut tree = ReadTree::new(rt.alloc(), 1, 1).expect(&rt, "a tree");
+    equal(tree.ask(0, 9, &mut reader), due).expect(&rt, "a leaf");
     let mut more = BitReader::new(&[0xFF, 0x00]);
-    assert_eq!(rt; tree.ask(0, 1, &mut more).err(), Some(Fault::Truncated));
-    Ok(())
+    equal(tree.ask(0, 1, &mut more), due).expect(&rt, "a leaf");
 }

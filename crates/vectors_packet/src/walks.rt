@@ -4,86 +4,84 @@ ghost use Rattle.std.specs.Prelude.{◌≡◌, ◌<◌, length};
 ghost use Rattle.jk_marks.specs.Siz.{tile_count};
 ghost use Rattle.jk_params.specs.Headers.{AreHeaders};
 
+use crate::headers::tell_parts;
 use crate::walk_cases::{CASES, WORKED};
 use jk_params::{Codestream, read_codestream};
 use jk_walk::{PacketPlace, read_packets};
 use std::alloc::Global;
 use std::process::Abort;
-use std::test::Fail;
-use vectors::bytes_of;
+use vectors::{Line, Told, equal, equal_at};
 
-/// A packet, as a line of the cases tells it.
-fn packet_text(alloc: Global, place: &PacketPlace) -> Result<String, Fail> {
-    let name = place.name;
-    let mut text = format!(in alloc;
-        "{}.{}.{}.{}@{}-{}",
-        name.layer, name.resolution, name.component, name.precinct, place.start, place.body
-    )?;
-    for part in place.parts.as_slice() {
-        let piece = format!(in alloc;
-            ":{}.{}.{}.{}.{}",
-            part.band, part.block, part.zero_planes, part.passes, part.length
-        )?;
-        text.push_str(&piece)?;
-    }
-    Ok(text)
+/// Tells a packet as a line of the cases does.
+fn tell_packet(told: &mut Told, place: &PacketPlace) {
+    let name = &place.name;
+    let numbers = [
+        name.layer as u64,
+        name.resolution as u64,
+        name.component as u64,
+        name.precinct as u64,
+    ];
+    told.numbers(&numbers, ".");
+    told.word("@");
+    told.numbers(&[place.start as u64, place.body as u64], "-");
+    tell_parts(told, place.parts.as_slice());
 }
 
-/// The packets of a tile, or why it is refused.
-fn tile_text(alloc: Global, headers: &Codestream, bytes: &[u8], tile: usize) -> Result<String, Fail>
+/// Tells the packets of a tile.
+fn tell_packets(told: &mut Told, packets: &[PacketPlace]) {
+    for (number, place) in packets.iter().enumerate() {
+        if number > 0 {
+            told.word(";");
+        }
+        tell_packet(told, place);
+    }
+}
+
+/// Tells the packets of a tile, or why it is refused.
+fn tell_tile(told: &mut Told, alloc: Global, headers: &Codestream, bytes: &[u8], tile: usize)
     requires sound { AreHeaders (length bytes.now) headers.now }
     requires tile { tile < tile_count headers.now.siz }
 {
     match read_packets(alloc, headers, bytes, tile) {
-        Err(fault) => Ok(format!(in alloc; "{fault:?}")?),
-        Ok(packets) => {
-            let mut text = String::new(alloc);
-            for place in packets.as_slice() {
-                if !text.is_empty() {
-                    text.push(';')?;
-                }
-                text.push_str(&packet_text(alloc, place)?)?;
-            }
-            Ok(text)
-        }
+        Err(fault) => told.shown(&fault),
+        Ok(packets) => tell_packets(told, packets.as_slice()),
     }
 }
 
 /// The packets of all tiles of a codestream.
-fn tiles_text(alloc: Global, bytes: &[u8]) -> Result<String, Fail> {
-    let headers = read_codestream(alloc, bytes)?;
-    let mut text = String::new(alloc);
+fn tiles_text(rt: &impl Abort, alloc: Global, bytes: &[u8]) -> String {
+    let headers = read_codestream(alloc, bytes).expect(rt, "headers");
+    let mut told = Told::new(alloc);
     for tile in 0..headers.tile_count() {
         if tile > 0 {
-            text.push(' ')?;
+            told.word(" ");
         }
-        text.push_str(&tile_text(alloc, &headers, bytes, tile)?)?;
+        tell_tile(&mut told, alloc, &headers, bytes, tile);
     }
-    Ok(text)
+    told.end().expect(rt, "a text")
 }
 
 /// Reads the codestreams of lines, and counts them.
-fn read_lines(rt: &impl Abort, alloc: Global, lines: &str) -> Result<u32, Fail> {
+fn read_lines(rt: &impl Abort, alloc: Global, lines: &str) -> u32 {
     let mut count = 0u32;
-    for line in lines.lines() {
-        let (file, wanted) = line.split_once(' ').ok_or("a codestream")?;
-        let bytes = bytes_of(alloc, &[file])?;
-        let got = tiles_text(alloc, &bytes)?;
-        assert_eq!(rt; got.as_str(), wanted, "{file}");
+    for text in lines.lines() {
+        let mut line = Line::new(text, ' ');
+        let (bytes, wanted) = (line.bytes(alloc), line.rest());
+        line.end().expect(rt, "a line");
+        let got = tiles_text(rt, alloc, &bytes);
+        equal_at(text, got.as_str(), wanted).expect(rt, "packets");
         count = count.saturating_add(1);
     }
-    Ok(count)
+    count
 }
 
 #[test]
-fn random_tiles(rt: HostRuntime) -> Result<(), Fail> {
-    assert_eq!(rt; read_lines(&rt, rt.alloc(), CASES)?, 104);
-    Ok(())
+fn random_tiles(rt: HostRuntime) {
+    equal(read_lines(&rt, rt.alloc(), CASES), 104).expect(&rt, "lines");
 }
 
 /// Parts that are empty, packets that would go on in the next part, bytes too few and too many.
 #[test]
-fn worked_tiles(rt: HostRuntime) -> Result<(), Fail> {
-    assert_eq!(rt; read_lines(&rt, rt.alloc(), WORKED)?, 34);
-    Ok(())
+fn worked_tiles(rt: HostRuntime) {
+    equal(read_lines(&rt, rt.alloc(), WORKED), 34).expect(&rt, "lines");
 }

@@ -11,7 +11,7 @@ use jk_packet::{BandShape, BlockTable, LayerPart, PrecinctShape, PrecinctWriter}
 use std::alloc::Global;
 use std::process::Abort;
 use std::test::Fail;
-use vectors::bytes_of;
+use vectors::{Line, bytes_of, equal, equal_at};
 
 /// One part more of a code-block, if its bytes are fewer than 2^32.
 fn push_part(
@@ -33,34 +33,52 @@ fn push_part(
     Ok(())
 }
 
-/// The table of a text as `3:0.,2.a1b2`: the zero bit-planes, and the passes and the bytes of each
-/// layer.
-fn table_of(alloc: Global, text: &str) -> Result<BlockTable, Fail> {
-    let (planes, layers) = text.split_once(':').ok_or("zero bit-planes")?;
-    let planes = planes.parse::<u8>()?;
+/// The coding passes and the bytes of a part `2.a1b2`.
+fn part_of(rt: &impl Abort, alloc: Global, text: &str) -> (u8, Vec<u8>) {
+    let mut line = Line::new(text, '.');
+    let part = (line.number(0, 255) as u8, line.bytes(alloc));
+    line.end().expect(rt, "a part");
+    part
+}
+
+/// The table of so many zero bit-planes, and of parts that commas part.
+fn table_with(
+    rt: &impl Abort,
+    alloc: Global,
+    planes: u8,
+    layers: &str,
+) -> Result<BlockTable, Fail> {
     let mut parts = Vec::new(alloc);
     let mut bytes = Vec::new(alloc);
     let mut skipped: u16 = 0;
     for part in layers.split(',') {
-        let (passes, body) = part.split_once('.').ok_or("passes")?;
-        let passes = passes.parse::<u8>()?;
+        let (passes, body) = part_of(rt, alloc, part);
         if passes == 0 && parts.is_empty() {
             skipped = skipped.saturating_add(1);
         } else {
-            push_part(&mut parts, &mut bytes, passes, &bytes_of(alloc, &[body])?)?;
+            push_part(&mut parts, &mut bytes, passes, &body)?;
         }
     }
     Ok(BlockTable::new(planes, skipped, parts, bytes))
 }
 
+/// The table of a text as `3:0.,2.a1b2`: the zero bit-planes, and the passes and the bytes of each
+/// layer.
+fn table_of(rt: &impl Abort, alloc: Global, text: &str) -> Result<BlockTable, Fail> {
+    let mut line = Line::new(text, ':');
+    let (planes, layers) = (line.number(0, 255) as u8, line.rest());
+    line.end().expect(rt, "a table");
+    table_with(rt, alloc, planes, layers)
+}
+
 /// The tables of a text.
-fn tables_of(alloc: Global, text: &str) -> Result<Vec<BlockTable>, Fail> {
+fn tables_of(rt: &impl Abort, alloc: Global, text: &str) -> Result<Vec<BlockTable>, Fail> {
     let mut tables = Vec::new(alloc);
     if text == "-" {
         return Ok(tables);
     }
     for table in text.split('/') {
-        tables.push(table_of(alloc, table)?)?;
+        tables.push(table_of(rt, alloc, table)?)?;
     }
     Ok(tables)
 }
@@ -161,24 +179,35 @@ fn writes(
     number: u32,
     tables: &[BlockTable],
     packets: &str,
-) -> Result<(), Fail> {
+) {
     let layers = packets.split(' ').count();
     assert!(rt; layers < 65536);
     let layers = layers as u16;
     assert!(rt; are_tables(shape, layers, tables), "tables of {packets}");
-    let mut writer = PrecinctWriter::new(alloc, shape, layers, tables)?;
+    let writer = PrecinctWriter::new(alloc, shape, layers, tables);
+    let mut writer = writer.expect(rt, "a writer");
     let mut layer: u16 = 0;
     for packet in packets.split(' ') {
         assert!(rt; layer < layers);
+        let due = bytes_of(alloc, &[packet]).expect(rt, "a packet");
         let mut out = Vec::new(alloc);
-        writer.write_packet(number.saturating_add(layer as u32), &mut out)?;
-        assert_eq!(rt;
-            out.as_slice(),
-            bytes_of(alloc, &[packet])?.as_slice(),
-            "layer {layer} of {packets}"
-        );
+        let number = number.saturating_add(layer as u32);
+        writer.write_packet(number, &mut out).expect(rt, "a packet");
+        equal_at((layer, packets), out.as_slice(), due.as_slice()).expect(rt, "a packet");
         layer += 1;
     }
+}
+
+/// Writes the precinct of a line.
+fn write_line(rt: &impl Abort, alloc: Global, text: &str) -> Result<(), Fail> {
+    let mut line = Line::new(text, ' ');
+    let (marks, bands) = (line.word(), line.word());
+    let number = line.number(0, 0xFFFF_FFFF) as u32;
+    let (tables, packets) = (line.word(), line.rest());
+    line.end().expect(rt, "a line");
+    let shape = shape_of(rt, marks, bands);
+    let tables = tables_of(rt, alloc, tables)?;
+    writes(rt, alloc, &shape, number, &tables, packets);
     Ok(())
 }
 
@@ -186,13 +215,7 @@ fn writes(
 fn write_lines(rt: &impl Abort, alloc: Global, lines: &str) -> Result<u32, Fail> {
     let mut count = 0u32;
     for line in lines.lines() {
-        let (marks, rest) = line.split_once(' ').ok_or("markers")?;
-        let (bands, rest) = rest.split_once(' ').ok_or("sub-bands")?;
-        let (number, rest) = rest.split_once(' ').ok_or("a number")?;
-        let (tables, packets) = rest.split_once(' ').ok_or("tables")?;
-        let shape = shape_of(marks, bands)?;
-        let tables = tables_of(alloc, tables)?;
-        writes(rt, alloc, &shape, number.parse::<u32>()?, &tables, packets)?;
+        write_line(rt, alloc, line)?;
         count = count.saturating_add(1);
     }
     Ok(count)
@@ -200,12 +223,12 @@ fn write_lines(rt: &impl Abort, alloc: Global, lines: &str) -> Result<u32, Fail>
 
 #[test]
 fn random_tables(rt: HostRuntime) -> Result<(), Fail> {
-    assert_eq!(rt; write_lines(&rt, rt.alloc(), WRITTEN)?, 96);
+    equal(write_lines(&rt, rt.alloc(), WRITTEN)?, 96).expect(&rt, "lines");
     Ok(())
 }
 
 #[test]
 fn worked_tables(rt: HostRuntime) -> Result<(), Fail> {
-    assert_eq!(rt; write_lines(&rt, rt.alloc(), WORKED_WRITTEN)?, 5);
+    equal(write_lines(&rt, rt.alloc(), WORKED_WRITTEN)?, 5).expect(&rt, "lines");
     Ok(())
 }

@@ -4,7 +4,7 @@
 //! packets, layer by layer. A table is `zero_planes:part,part,..` with a part for each layer, its
 //! coding passes and its bytes; `-` where there are no code-blocks.
 
-pub const WRITTEN: &str = "\
+pub static WRITTEN: &str = "\
 00 2x4x1 65536 0:0.,1.,0.,0./0:1.,0.,0.,0./0:0.,0.,1.ff18ff00ffffffffef9900ffff00843edbff53ffff5fff6bff000000ffff00ff65,0./0:1.ffe9,0.,0.,0./1:0.,0.,0.,0./0:0.,1.a6,0.,0./0:0.,1.ffff38ffdd6b00ff0000e14aff72ffffffcace00ffff2d00004fd6ff33,0.,0./0:1.,0.,0.,0. ef03147000ffe9 e00c3b74a6ffff38ffdd6b00ff0000e14aff72ffffffcace00ffff2d00004fd6ff33 9ba100ff18ff00ffffffffef9900ffff00843edbff53ffff5fff6bff000000ffff00ff65 00
 11 0x1x37,2x3x2,4x1x37 9524617 2:0.,0.,0.,0./1:1.3affff4ece00,0.,0.,0./1:1.00,0.,0.,0./2:0.,0.,0.,0./0:0.,1.,0.,0./1:0.,1.4300,0.,0./4:0.,0.,5.,72./37:0.,0.,0.,0./29:3.,1.a400,0.,0./33:0.,2.7c,0.,0. ff9100045589ed9b09610000007800ff923affff4ece0000 ff910004558a878289143040ff924300a4007c ff910004558b81fc00ff92 ff910004558c81ff518000ff92
 00 1x1x1 12338099 0:0.,0.,0. 00 00 00
@@ -104,7 +104,7 @@ pub const WRITTEN: &str = "\
 
 /// Precincts of one code-block, worked by hand: 25 passes with a byte FF in the header, 164 passes
 /// between markers, and lengths of three and four digits.
-pub const WORKED_WRITTEN: &str = "\
+pub static WORKED_WRITTEN: &str = "\
 00 1x1x9 0 0:25.aabbcc ff1818aabbcc
 11 1x1x60 0 2:164.01 ff9100040000cfff7c0080ff9201
 00 1x1x5 0 4:1.80808080808080 c27080808080808080

@@ -3,37 +3,41 @@ use jk_math::{Fault, Image};
 use jk_pnm::{read, read_owned, write, write_into};
 use std::alloc::Global;
 use std::process::Abort;
-use std::test::Fail;
+use vectors::{equal, equal_at};
 
 /// The samples of all components, one component behind the other.
-fn samples(alloc: Global, image: &Image) -> Result<Vec<i32>, Fail> {
+fn samples(rt: &impl Abort, alloc: Global, image: &Image) -> Vec<i32> {
     let planes = image.planes();
     let mut all = Vec::new(alloc);
     for component in 0..planes.len() {
-        all.extend_from_slice(planes.plane(component))?;
+        all.extend_from_slice(planes.plane(component))
+            .expect(rt, "samples");
     }
-    Ok(all)
+    all
+}
+
+/// An image has this picture.
+fn shows(rt: &impl Abort, alloc: Global, image: &Image, case: &Case<'_>) {
+    let (file, width, height, depth, wanted) = *case;
+    let frame = [image.x0(), image.y0(), image.width(), image.height()];
+    equal_at(file, frame, [0, 0, width, height]).expect(rt, "a frame");
+    equal_at(file, (image.depth(), image.signed()), (depth, false)).expect(rt, "a depth");
+    let found = samples(rt, alloc, image);
+    equal_at(file, found.as_slice(), wanted).expect(rt, "samples");
+}
+
+/// The same bytes, of their own.
+fn owned(rt: &impl Abort, alloc: Global, bytes: &[u8]) -> Vec<u8> {
+    Vec::from_slice(alloc, bytes).expect(rt, "bytes")
 }
 
 /// Reads a file, which must have this picture.
-fn reads(rt: &impl Abort, alloc: Global, case: &Case<'_>) -> Result<Image, Fail> {
-    let (file, width, height, depth, wanted) = case;
-    let image = read(alloc, file)?;
-    assert_eq!(rt; (image.x0(), image.y0()), (0, 0));
-    assert_eq!(rt;
-        (image.width(), image.height()),
-        (*width, *height),
-        "{file:?}"
-    );
-    assert_eq!(rt;
-        (image.depth(), image.signed()),
-        (*depth, false),
-        "{file:?}"
-    );
-    assert_eq!(rt; samples(alloc, &image)?.as_slice(), *wanted, "{file:?}");
-    let owned = read_owned(alloc, Vec::from_slice(alloc, file)?)?;
-    assert_eq!(rt; samples(alloc, &owned)?.as_slice(), *wanted, "{file:?}");
-    Ok(image)
+fn reads(rt: &impl Abort, alloc: Global, case: &Case<'_>) -> Image {
+    let image = read(alloc, case.0).expect(rt, "an image");
+    shows(rt, alloc, &image, case);
+    let again = read_owned(alloc, owned(rt, alloc, case.0)).expect(rt, "an image");
+    shows(rt, alloc, &again, case);
+    image
 }
 
 /// Samples of 12 bits, and how they are written.
@@ -46,111 +50,140 @@ const FIVE: [(i32, [u8; 2]); 5] = [
 ];
 
 /// What is written of an image into a writer.
-fn sent(alloc: Global, image: &Image) -> Result<Vec<u8>, Fail> {
+fn sent(rt: &impl Abort, alloc: Global, image: &Image) -> Vec<u8> {
     let mut written = Vec::new(alloc);
-    write_into(alloc, image, &mut written)?;
-    Ok(written)
+    write_into(alloc, image, &mut written).expect(rt, "a file");
+    written
+}
+
+/// What is written of an image.
+fn file_of(rt: &impl Abort, alloc: Global, image: &Image) -> Vec<u8> {
+    write(alloc, image).expect(rt, "a file")
 }
 
 /// An image of black samples.
-fn black(alloc: Global, signed: bool, components: usize) -> Result<Image, Fail> {
+fn black(rt: &impl Abort, alloc: Global, signed: bool, components: usize) -> Image {
     let mut planes = Vec::new(alloc);
     for _ in 0..components {
-        planes.push(vec![in alloc; 0; 6]?)?;
+        let plane = vec![in alloc; 0; 6].expect(rt, "samples");
+        planes.push(plane).expect(rt, "samples");
     }
-    Ok(Image::new(0, 0, 3, 2, 8, signed, planes)?)
+    Image::new(0, 0, 3, 2, 8, signed, planes).expect(rt, "an image")
 }
 
 #[test]
-fn one_sample(rt: HostRuntime) -> Result<(), Fail> {
-    let alloc = rt.alloc();
+fn one_sample(rt: HostRuntime) {
     let file = b"P5\n1 1\n255\n\x80";
-    assert_eq!(rt; file.len(), 12);
-    let image = reads(&rt, alloc, &(file, 1, 1, 8, &[128]))?;
-    assert_eq!(rt; write(alloc, &image)?.as_slice(), file.as_slice());
-    Ok(())
+    equal(file.len(), 12).expect(&rt, "bytes");
+    let image = reads(&rt, rt.alloc(), &(file, 1, 1, 8, &[128]));
+    let written = file_of(&rt, rt.alloc(), &image);
+    equal(written.as_slice(), file.as_slice()).expect(&rt, "a file");
+}
+
+/// A file is read, and written as it was.
+fn there_and_back(rt: &impl Abort, alloc: Global, case: &Case<'_>) {
+    let image = reads(rt, alloc, case);
+    let written = file_of(rt, alloc, &image);
+    equal(written.as_slice(), case.0).expect(rt, "a file");
+    let sent = sent(rt, alloc, &image);
+    equal(sent.as_slice(), case.0).expect(rt, "a file that is sent");
 }
 
 #[test]
-fn written_files(rt: HostRuntime) -> Result<(), Fail> {
-    let alloc = rt.alloc();
+fn written_files(rt: HostRuntime) {
     for case in &WRITTEN {
-        let image = reads(&rt, alloc, case)?;
-        assert_eq!(rt; write(alloc, &image)?.as_slice(), case.0);
-        assert_eq!(rt; sent(alloc, &image)?.as_slice(), case.0);
+        there_and_back(&rt, rt.alloc(), case);
     }
-    Ok(())
+}
+
+/// Puts five samples behind others, and their bytes behind the others'.
+fn put_five(rt: &impl Abort, samples: &mut Vec<i32>, file: &mut Vec<u8>) {
+    for (sample, bytes) in &FIVE {
+        samples.push(*sample).expect(rt, "a sample");
+        file.extend_from_slice(bytes.as_slice()).expect(rt, "bytes");
+    }
+}
+
+/// The image of so many grey samples of 12 bits.
+fn grey(rt: &impl Abort, alloc: Global, width: u32, height: u32, samples: Vec<i32>) -> Image {
+    let mut planes = Vec::new(alloc);
+    planes.push(samples).expect(rt, "samples");
+    Image::new(0, 0, width, height, 12, false, planes).expect(rt, "an image")
 }
 
 /// Samples of 12 bits, more of them than are put together at a time.
 #[test]
-fn several_pieces(rt: HostRuntime) -> Result<(), Fail> {
-    let alloc = rt.alloc();
-    let mut samples = Vec::new(alloc);
-    let mut file = Vec::from_slice(alloc, b"P5\n300 200\n4095\n")?;
+fn several_pieces(rt: HostRuntime) {
+    let mut samples = Vec::new(rt.alloc());
+    let mut file = owned(&rt, rt.alloc(), b"P5\n300 200\n4095\n");
     for _ in 0..12_000 {
-        for (sample, bytes) in &FIVE {
-            samples.push(*sample)?;
-            file.extend_from_slice(bytes.as_slice())?;
-        }
+        put_five(&rt, &mut samples, &mut file);
     }
-    let mut planes = Vec::new(alloc);
-    planes.push(samples)?;
-    let image = Image::new(0, 0, 300, 200, 12, false, planes)?;
-    assert_eq!(rt; sent(alloc, &image)?.as_slice(), file.as_slice());
-    Ok(())
+    let image = grey(&rt, rt.alloc(), 300, 200, samples);
+    let found = sent(&rt, rt.alloc(), &image);
+    equal(found.len(), file.len()).expect(&rt, "bytes");
+    equal(found.as_slice() == file.as_slice(), true).expect(&rt, "a file");
+}
+
+/// A file is read, and written in another form, which is read as the same.
+fn in_another_form(rt: &impl Abort, alloc: Global, case: &Case<'_>) {
+    let image = reads(rt, alloc, case);
+    let file = file_of(rt, alloc, &image);
+    equal_at(case.0, file.as_slice() == case.0, false).expect(rt, "the same form");
+    let (_, width, height, depth, wanted) = *case;
+    reads(rt, alloc, &(&file, width, height, depth, wanted));
 }
 
 #[test]
-fn other_files(rt: HostRuntime) -> Result<(), Fail> {
-    let alloc = rt.alloc();
+fn other_files(rt: HostRuntime) {
     for case in &OTHERS {
-        let image = reads(&rt, alloc, case)?;
-        let file = write(alloc, &image)?;
-        assert!(rt; file.as_slice() != case.0);
-        let (_, width, height, depth, wanted) = case;
-        reads(&rt, alloc, &(&file, *width, *height, *depth, *wanted))?;
+        in_another_form(&rt, rt.alloc(), case);
     }
-    Ok(())
+}
+
+/// A file is refused.
+fn refused(rt: &impl Abort, alloc: Global, file: &[u8]) {
+    equal_at(file, read(alloc, file).err(), Some(Fault::BadPnm)).expect(rt, "a fault");
 }
 
 #[test]
-fn no_files(rt: HostRuntime) -> Result<(), Fail> {
-    let alloc = rt.alloc();
+fn no_files(rt: HostRuntime) {
     for file in &REFUSED {
-        assert_eq!(rt; read(alloc, file).err(), Some(Fault::BadPnm), "{file:?}");
+        refused(&rt, rt.alloc(), *file);
     }
-    Ok(())
 }
 
 #[test]
-fn fronts(rt: HostRuntime) -> Result<(), Fail> {
+fn fronts(rt: HostRuntime) {
     let file = b"P5\n1 1\n255\n\x80";
     for length in 0..file.len() {
-        let front = read(rt.alloc(), &file[..length]);
-        assert_eq!(rt; front.err(), Some(Fault::BadPnm), "{length}");
+        refused(&rt, rt.alloc(), &file[..length]);
     }
-    Ok(())
+}
+
+/// An image has no file.
+fn unwritten(rt: &impl Abort, alloc: Global, signed: bool, components: usize) {
+    let due = Some(Fault::Unsupported);
+    let image = black(rt, alloc, signed, components);
+    equal_at(components, write(alloc, &image).err(), due).expect(rt, "a fault");
+    let mut written = Vec::new(alloc);
+    let refused = write_into(alloc, &image, &mut written).err();
+    equal_at(components, (refused, written.len()), (due, 0)).expect(rt, "a fault");
 }
 
 #[test]
-fn unwritten_images(rt: HostRuntime) -> Result<(), Fail> {
-    let alloc = rt.alloc();
-    for (signed, components) in [(false, 2), (false, 4), (true, 1), (true, 3)] {
-        let image = black(alloc, signed, components)?;
-        assert_eq!(rt; write(alloc, &image).err(), Some(Fault::Unsupported));
-        let mut written = Vec::new(alloc);
-        let refused = write_into(alloc, &image, &mut written).err();
-        assert_eq!(rt; (refused, written.len()), (Some(Fault::Unsupported), 0));
-    }
-    Ok(())
+fn unwritten_images(rt: HostRuntime) {
+    unwritten(&rt, rt.alloc(), false, 2);
+    unwritten(&rt, rt.alloc(), false, 4);
+    unwritten(&rt, rt.alloc(), true, 1);
+    unwritten(&rt, rt.alloc(), true, 3);
 }
 
 #[test]
-fn another_place(rt: HostRuntime) -> Result<(), Fail> {
-    let alloc = rt.alloc();
-    let file = write(alloc, &black(alloc, false, 1)?.place(7, 9)?)?;
-    assert_eq!(rt; file.as_slice(), b"P5\n3 2\n255\n\0\0\0\0\0\0".as_slice());
-    reads(&rt, alloc, &(&file, 3, 2, 8, &[0, 0, 0, 0, 0, 0]))?;
-    Ok(())
+fn another_place(rt: HostRuntime) {
+    let image = black(&rt, rt.alloc(), false, 1).place(7, 9);
+    let file = file_of(&rt, rt.alloc(), &image.expect(&rt, "an image"));
+    let due = b"P5\n3 2\n255\n\0\0\0\0\0\0".as_slice();
+    equal(file.as_slice(), due).expect(&rt, "a file");
+    reads(&rt, rt.alloc(), &(&file, 3, 2, 8, &[0, 0, 0, 0, 0, 0]));
 }
