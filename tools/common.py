@@ -5,6 +5,7 @@ import importlib.util
 import os
 import re
 import shutil
+import socket
 import subprocess
 import sys
 
@@ -35,6 +36,13 @@ def put(made, out):
     finally:
         if os.path.exists(part):
             os.remove(part)
+
+
+def help_first(text):
+    """Prints what a script says of itself, where that is asked for, before it needs what a machine may lack."""
+    if {"-h", "--help"} & set(sys.argv[1:]):
+        print(text.strip())
+        sys.exit(0)
 
 
 def module(path, name):
@@ -87,6 +95,12 @@ def available_memory():
     """How many bytes of memory processes may take that are begun now; none where the system doesn't tell."""
     found = re.search(r"^MemAvailable: +(\d+) kB$", text_of("/proc/meminfo"), re.MULTILINE)
     return int(found[1]) * 1024 if found else 0
+
+
+def free_port():
+    with socket.socket() as one:
+        one.bind(("127.0.0.1", 0))
+        return one.getsockname()[1]
 
 
 # The kit.

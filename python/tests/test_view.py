@@ -1,4 +1,6 @@
 """A look at images, over a stand-in for `jk serve` that replies as the server of the other tests does."""
+import contextlib
+import glob
 import http.client
 import os
 import re
@@ -92,8 +94,12 @@ class Shown:
 
 def running(site):
     """The stand-ins of this site that still run."""
-    done = subprocess.run(["pgrep", "-f", str(site / "jk")], capture_output=True, text=True)
-    return [number for number in done.stdout.split() if int(number) != os.getpid()]
+    found = []
+    for at in glob.glob("/proc/[0-9]*/cmdline"):
+        with contextlib.suppress(OSError), open(at, "rb") as file:
+            if os.fsencode(site / "jk") in file.read() and int(at.split("/")[2]) != os.getpid():
+                found.append(at)
+    return found
 
 
 def ended(site, shown):
