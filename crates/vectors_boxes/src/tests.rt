@@ -1,119 +1,146 @@
-use crate::asserts::{equal, equal_at};
 use crate::cases::{CHANGED, CODESTREAM, COLOUR, FILES, LONGER, RECODED, REPLACED, ROW, WHOLE};
-use jk_boxes::{open, replace_codestream, wrap};
+use jk_boxes::{Boxed, open, replace_codestream, wrap};
 use jk_math::{Fault, Image};
 use std::alloc::Global;
 use std::process::Abort;
-use std::test::Fail;
-use vectors::bytes_of;
+use vectors::{bytes_of, equal, equal_at};
 
-/// An image of black samples.
-fn image(
-    alloc: Global,
+/// Black samples.
+fn black(rt: &impl Abort, alloc: Global, count: usize) -> Vec<i32> {
+    vec![in alloc; 0; count].expect(rt, "samples")
+}
+
+/// What an image is.
+#[derive(Clone, Copy)]
+struct Kind {
     width: u32,
     height: u32,
     depth: u8,
     signed: bool,
     components: usize,
-) -> Result<Image, Fail> {
+}
+
+/// An image of black samples.
+fn image(rt: &impl Abort, alloc: Global, kind: Kind) -> Image {
+    let count = (kind.width as usize).saturating_mul(kind.height as usize);
     let mut planes = Vec::new(alloc);
-    for _ in 0..components {
-        let mut plane = Vec::new(alloc);
-        for _ in 0..width as u64 * height as u64 {
-            plane.push(0)?;
-        }
-        planes.push(plane)?;
+    for _ in 0..kind.components {
+        planes.push(black(rt, alloc, count)).expect(rt, "samples");
     }
-    Ok(Image::new(0, 0, width, height, depth, signed, planes)?)
+    let (width, height) = (kind.width, kind.height);
+    Image::new(0, 0, width, height, kind.depth, kind.signed, planes).expect(rt, "an image")
+}
+
+/// The bytes of a text.
+fn file(rt: &impl Abort, alloc: Global, text: &str) -> Vec<u8> {
+    bytes_of(alloc, &[text]).expect(rt, "a file")
+}
+
+/// What is read of the boxes of a file.
+fn boxed(file: &[u8]) -> Result<Boxed, Fault> {
+    open(file)
 }
 
 /// Replaces the codestream of a file.
-fn replaces(
-    rt: &impl Abort,
-    alloc: Global,
-    file: &[u8],
-    codestream: &[u8],
-    want: &[u8],
-) -> Result<(), Fail> {
-    let boxed = open(file)?;
-    let replaced = replace_codestream(alloc, file, &boxed, codestream)?;
-    equal(rt, replaced.as_slice(), want);
-    Ok(())
+fn replaces(rt: &impl Abort, alloc: Global, file: &[u8], codestream: &[u8], want: &[u8]) {
+    let boxed = open(file).expect(rt, "boxes");
+    let replaced = replace_codestream(alloc, file, &boxed, codestream).expect(rt, "a file");
+    equal(replaced.as_slice(), want).expect(rt, "a file");
 }
 
 #[test]
-fn an_unchanged_file(rt: HostRuntime) -> Result<(), Fail> {
-    let file = bytes_of(rt.alloc(), &[ROW])?;
-    equal(&rt, file.len(), 167);
-    equal(&rt, open(&file), WHOLE);
-    Ok(())
+fn an_unchanged_file(rt: HostRuntime) {
+    let file = file(&rt, rt.alloc(), ROW);
+    equal(file.len(), 167).expect(&rt, "bytes");
+    equal(boxed(&file), WHOLE).expect(&rt, "boxes");
+}
+
+/// What is read where a byte of the first file is another one.
+fn changed(rt: &impl Abort, alloc: Global, at: usize, byte: u8, want: Result<Boxed, Fault>) {
+    let mut file = file(rt, alloc, ROW);
+    if at < file.len() {
+        file[at] = byte;
+    }
+    equal_at((byte, at), boxed(&file), want).expect(rt, "boxes");
 }
 
 #[test]
-fn a_changed_byte(rt: HostRuntime) -> Result<(), Fail> {
+fn a_changed_byte(rt: HostRuntime) {
     for (at, byte, want) in &CHANGED {
-        let mut file = bytes_of(rt.alloc(), &[ROW])?;
-        if *at < file.len() {
-            file[*at] = *byte;
-        }
-        equal_at(&rt, (byte, at), open(&file), *want);
+        changed(&rt, rt.alloc(), *at, *byte, *want);
     }
-    Ok(())
 }
 
 #[test]
-fn files(rt: HostRuntime) -> Result<(), Fail> {
+fn files(rt: HostRuntime) {
     for (text, want) in &FILES {
-        let file = bytes_of(rt.alloc(), &[text])?;
-        equal(&rt, open(&file), *want);
+        let file = file(&rt, rt.alloc(), *text);
+        equal_at(*text, boxed(&file), *want).expect(&rt, "boxes");
     }
-    Ok(())
 }
 
-#[test]
-fn wrapped(rt: HostRuntime) -> Result<(), Fail> {
-    let codestream = bytes_of(rt.alloc(), &[CODESTREAM])?;
-    let grey = image(rt.alloc(), 1, 1, 8, false, 1)?;
-    let want = bytes_of(rt.alloc(), &[ROW])?;
-    equal(
-        &rt,
-        wrap(rt.alloc(), &grey, &codestream)?.as_slice(),
-        want.as_slice(),
-    );
-    let colour = image(rt.alloc(), 3, 2, 12, false, 3)?;
-    let want = bytes_of(rt.alloc(), &[COLOUR])?;
-    equal(
-        &rt,
-        wrap(rt.alloc(), &colour, &[0xFF, 0x4F])?.as_slice(),
-        want.as_slice(),
-    );
-    Ok(())
+/// An image's codestream has this file.
+fn wraps(rt: &impl Abort, alloc: Global, kind: Kind, codestream: &[u8], want: &str) {
+    let image = image(rt, alloc, kind);
+    let found = wrap(alloc, &image, codestream).expect(rt, "a file");
+    let due = file(rt, alloc, want);
+    equal(found.as_slice(), due.as_slice()).expect(rt, "a file");
 }
 
-#[test]
-fn not_wrapped(rt: HostRuntime) -> Result<(), Fail> {
-    for (signed, components) in [(true, 1), (false, 2), (false, 4)] {
-        let image = image(rt.alloc(), 1, 1, 8, signed, components)?;
-        let refused = match wrap(rt.alloc(), &image, &[]) {
-            Err(fault) => fault == Fault::Unsupported,
-            Ok(_) => false,
-        };
-        assert!(rt; refused);
+/// A grey image of one sample, with or without a sign, of so many components.
+fn small(signed: bool, components: usize) -> Kind {
+    Kind {
+        width: 1,
+        height: 1,
+        depth: 8,
+        signed,
+        components,
     }
-    Ok(())
 }
 
 #[test]
-fn replaced(rt: HostRuntime) -> Result<(), Fail> {
-    let file = bytes_of(rt.alloc(), &[ROW])?;
-    let longer = bytes_of(rt.alloc(), &[LONGER])?;
-    let want = bytes_of(rt.alloc(), &[REPLACED])?;
-    equal(&rt, want.len(), 169);
-    replaces(&rt, rt.alloc(), &file, &longer, &want)?;
+fn wrapped(rt: HostRuntime) {
+    let codestream = file(&rt, rt.alloc(), CODESTREAM);
+    wraps(&rt, rt.alloc(), small(false, 1), &codestream, ROW);
+    let colour = Kind {
+        width: 3,
+        height: 2,
+        depth: 12,
+        signed: false,
+        components: 3,
+    };
+    wraps(&rt, rt.alloc(), colour, &[0xFF, 0x4F], COLOUR);
+}
+
+/// An image has no file.
+fn refused(rt: &impl Abort, alloc: Global, signed: bool, components: usize) {
+    let image = image(rt, alloc, small(signed, components));
+    let fault = wrap(alloc, &image, &[]).err();
+    equal_at((signed, components), fault, Some(Fault::Unsupported)).expect(rt, "a fault");
+}
+
+#[test]
+fn not_wrapped(rt: HostRuntime) {
+    refused(&rt, rt.alloc(), true, 1);
+    refused(&rt, rt.alloc(), false, 2);
+    refused(&rt, rt.alloc(), false, 4);
+}
+
+/// A file with another codestream is this one.
+fn recodes(rt: &impl Abort, alloc: Global, before: &str, after: &str) {
+    let before = file(rt, alloc, before);
+    let after = file(rt, alloc, after);
+    replaces(rt, alloc, &before, &[0xFF, 0x4F, 1, 2, 3], &after);
+}
+
+#[test]
+fn replaced(rt: HostRuntime) {
+    let row = file(&rt, rt.alloc(), ROW);
+    let longer = file(&rt, rt.alloc(), LONGER);
+    let want = file(&rt, rt.alloc(), REPLACED);
+    equal(want.len(), 169).expect(&rt, "bytes");
+    replaces(&rt, rt.alloc(), &row, &longer, &want);
     for (before, after) in &RECODED {
-        let before = bytes_of(rt.alloc(), &[before])?;
-        let after = bytes_of(rt.alloc(), &[after])?;
-        replaces(&rt, rt.alloc(), &before, &[0xFF, 0x4F, 1, 2, 3], &after)?;
+        recodes(&rt, rt.alloc(), *before, *after);
     }
-    Ok(())
 }

@@ -1,22 +1,11 @@
 //! What the files of windows mean, beside the whole image.
 
-use crate::asserts::equal;
-use crate::many::MANY;
-use jk_code::{decode, window};
+use crate::calls::{decode, many, sample, view, window_of};
 use jk_math::Image;
-use jk_window::{View, index};
+use jk_window::View;
 use std::alloc::Global;
-use std::test::Fail;
-use vectors::bytes_of;
-
-/// The sample of the first component at a place, if the image has the place.
-fn sample(image: &Image, x: u32, y: u32) -> Option<i32> {
-    if 0 < image.planes().len() && x < image.width() && y < image.height() {
-        Some(image.sample(0, x, y))
-    } else {
-        None
-    }
-}
+use std::process::Abort;
+use vectors::equal_at;
 
 /// How many places of a view two images have, with the same sample.
 fn same_samples(view: View, whole: &Image, part: &Image) -> u32 {
@@ -34,53 +23,36 @@ fn same_samples(view: View, whole: &Image, part: &Image) -> u32 {
     count
 }
 
-/// How many samples of a view the file of its window shows as the whole file does, and how many of
-/// all.
-fn shown(alloc: Global, view: View) -> Result<(u32, u32), Fail> {
-    let file = bytes_of(alloc, &[MANY])?;
-    let kept = index(alloc, &file)?;
-    let reply = window(alloc, &file, &kept, view)?;
-    let whole = decode(alloc, &file, view.reduce)?;
-    let part = decode(alloc, &reply, view.reduce)?;
-    let all = View {
-        reduce: view.reduce,
-        x: 0,
-        y: 0,
-        width: 64,
-        height: 64,
-        layers: None,
-    };
-    Ok((
-        same_samples(view, &whole, &part),
-        same_samples(all, &whole, &part),
-    ))
+/// What a file means at a reduction.
+fn image_of(rt: &impl Abort, alloc: Global, file: &[u8], reduce: u32) -> Image {
+    decode(alloc, file, reduce).expect(rt, "an image")
 }
 
-fn view(reduce: u32, x: u32, y: u32, width: u32, height: u32) -> View {
-    View {
-        reduce,
-        x,
-        y,
-        width,
-        height,
-        layers: None,
-    }
+/// So many samples of a view are shown by the file of its window as by the whole file; and how many
+/// of all are.
+fn shows(rt: &impl Abort, alloc: Global, view: View, due: u32) -> u32 {
+    let file = many(rt, alloc);
+    let reply = window_of(rt, alloc, &file, view);
+    let whole = image_of(rt, alloc, &file, view.reduce);
+    let part = image_of(rt, alloc, &reply, view.reduce);
+    equal_at(view, same_samples(view, &whole, &part), due).expect(rt, "samples");
+    same_samples(all_of(view.reduce), &whole, &part)
+}
+
+/// The view of all at a reduction.
+fn all_of(reduce: u32) -> View {
+    view(reduce, 0, 0, 64, 64)
 }
 
 #[test]
-fn windows_are_those_of_the_image(rt: HostRuntime) -> Result<(), Fail> {
+fn windows_are_those_of_the_image(rt: HostRuntime) {
     let alloc = rt.alloc();
-    let corner = shown(alloc, view(0, 0, 0, 3, 3))?;
-    equal(&rt, corner.0, 9);
-    let inner = shown(alloc, view(0, 8, 8, 3, 3))?;
-    equal(&rt, inner.0, 9);
-    let strip = shown(alloc, view(0, 17, 41, 40, 2))?;
-    equal(&rt, strip.0, 80);
-    let reduced = shown(alloc, view(1, 5, 7, 10, 4))?;
-    equal(&rt, reduced.0, 40);
-    let smallest = shown(alloc, view(2, 1, 0, 3, 16))?;
-    equal(&rt, smallest.0, 48);
+    let corner = shows(&rt, alloc, view(0, 0, 0, 3, 3), 9);
+    let inner = shows(&rt, alloc, view(0, 8, 8, 3, 3), 9);
+    let strip = shows(&rt, alloc, view(0, 17, 41, 40, 2), 80);
+    shows(&rt, alloc, view(1, 5, 7, 10, 4), 40);
+    shows(&rt, alloc, view(2, 1, 0, 3, 16), 48);
     // The rest isn't that of the image.
-    assert!(rt; corner.1 < 4096 && inner.1 < 4096 && strip.1 < 4096);
-    Ok(())
+    let fewer = [corner < 4096, inner < 4096, strip < 4096];
+    equal_at([corner, inner, strip], fewer, [true; 3]).expect(&rt, "the rest");
 }

@@ -1,13 +1,11 @@
 //! Decoded windows, with samples from another codec.
 
-use crate::asserts::equal;
-use jk_code::{decode_window, decode_window_by, window};
-use jk_math::Image;
-use jk_window::{View, index};
+use crate::calls::{decode_window, decode_window_by, file_of, index_of, window};
+use jk_math::{Fault, Image};
+use jk_window::{Index, View};
 use std::alloc::Global;
-use std::str::Split;
-use std::test::Fail;
-use vectors::bytes_of;
+use std::process::Abort;
+use vectors::{Line, Told, equal, equal_at};
 
 /// A codestream of 13 by 11 samples of two signed components at (5, 3), in four tiles of 9 by 7,
 /// with two levels, code-blocks of 4 by 4, precincts, two layers, SOP and EPH, in the order PCRL,
@@ -130,121 +128,102 @@ static LAYERED_VIEWS: &str = "\
 3 0 0 1 1 0|F16 BadWindow
 0 13 0 1 1 1|F16 BadWindow";
 
-/// The next number of a text, if there is one.
-fn next_number(words: &mut Split<'_, char>) -> Option<u32> {
-    match words.next() {
-        Some(word) => Some(word.parse::<u32>().unwrap_or(0)),
-        None => None,
-    }
+/// The view of a text: five numbers, and the number of layers where that is asked for.
+fn view_of(rt: &impl Abort, text: &str) -> View {
+    let in_layers = text.split(' ').count() > 5;
+    let most = 0xFFFF_FFFF;
+    let mut line = Line::new(text, ' ');
+    let view = View {
+        reduce: line.number(0, most) as u32,
+        x: line.number(0, most) as u32,
+        y: line.number(0, most) as u32,
+        width: line.number(0, most) as u32,
+        height: line.number(0, most) as u32,
+        layers: if in_layers {
+            Some(line.number(0, most) as u32)
+        } else {
+            None
+        },
+    };
+    line.end().expect(rt, "a view");
+    view
 }
 
-/// The next number of a text, or 0.
-fn number(words: &mut Split<'_, char>) -> u32 {
-    next_number(words).unwrap_or(0)
-}
-
-/// The view of a text.
-fn view_of(text: &str) -> View {
-    let mut words = text.split(' ');
-    View {
-        reduce: number(&mut words),
-        x: number(&mut words),
-        y: number(&mut words),
-        width: number(&mut words),
-        height: number(&mut words),
-        layers: next_number(&mut words),
-    }
-}
-
-/// An image as text: where it lies, its width and height, and its samples.
-fn text_of(alloc: Global, image: &Image) -> Result<String, Fail> {
-    let mut text = format!(in alloc;
-        "{} {} {} {}",
-        image.x0(),
-        image.y0(),
-        image.width(),
-        image.height()
-    )?;
+/// Tells an image: where it lies, its width and height, and its samples.
+fn tell_image(told: &mut Told, image: &Image) {
+    let frame = [
+        image.x0() as u64,
+        image.y0() as u64,
+        image.width() as u64,
+        image.height() as u64,
+    ];
+    told.numbers(&frame, " ");
     for component in 0..image.planes().len() {
         for sample in image.planes().plane(component) {
-            let more = format!(in alloc; " {sample}")?;
-            text.push_str(&more)?;
+            told.word(" ");
+            told.shown(sample);
         }
     }
-    Ok(text)
 }
 
-/// What the window of a view decodes to, as text.
-fn shown(alloc: Global, file: &[u8], view: View) -> Result<String, Fail> {
-    match decode_window(alloc, file, view) {
-        Ok(image) => text_of(alloc, &image),
-        Err(fault) => Ok(format!(in alloc; "{fault}")?),
+/// What a window decodes to is told so.
+fn shows(rt: &impl Abort, alloc: Global, row: &str, answer: Result<Image, Fault>, due: &str) {
+    let mut told = Told::new(alloc);
+    match answer {
+        Ok(image) => tell_image(&mut told, &image),
+        Err(fault) => told.said(&fault),
     }
+    let told = told.end().expect(rt, "a text");
+    equal_at(row, told.as_str(), due).expect(rt, "a window");
 }
 
-/// What it decodes to in the file of the window.
-fn shown_of_reply(alloc: Global, file: &[u8], view: View) -> Result<String, Fail> {
-    let kept = index(alloc, file)?;
-    match window(alloc, file, &kept, view) {
-        Ok(reply) => shown(alloc, &reply, view),
-        Err(fault) => Ok(format!(in alloc; "{fault}")?),
-    }
+/// What the window of a view decodes to in the file of the window.
+fn of_reply(alloc: Global, file: &[u8], kept: &Index, view: View) -> Result<Image, Fault> {
+    decode_window(alloc, &window(alloc, file, kept, view)?, view)
 }
 
-/// What it decodes to by the index of the file.
-fn shown_by_index(alloc: Global, file: &[u8], view: View) -> Result<String, Fail> {
-    let kept = index(alloc, file)?;
-    match decode_window_by(alloc, file, &kept, view) {
-        Ok(image) => text_of(alloc, &image),
-        Err(fault) => Ok(format!(in alloc; "{fault}")?),
-    }
+/// The view of a row of two fields, and what is due.
+fn row_of<'a>(rt: &impl Abort, row: &'a str) -> (View, &'a str) {
+    let mut line = Line::new(row, '|');
+    let (view, due) = (line.word(), line.word());
+    line.end().expect(rt, "a row");
+    (view_of(rt, view), due)
 }
 
-/// How many views there are, and how many of them decode to what is due: in the file, in the file
-/// of the window, and by the index.
-fn alike(alloc: Global, file: &str, views: &str) -> Result<(u32, u32, u32, u32), Fail> {
-    let file = bytes_of(alloc, &[file])?;
-    let (mut count, mut same, mut again, mut indexed) = (0u32, 0u32, 0u32, 0u32);
+/// So many views decode to what is due: in the file, in the file of the window, and by the index.
+fn alike(rt: &impl Abort, alloc: Global, file: &str, views: &str, due: u32) {
+    let file = file_of(rt, alloc, &[file]);
+    let kept = index_of(rt, alloc, &file);
+    let mut count = 0u32;
     for row in views.split('\n') {
-        let mut fields = row.split('|');
-        let view = view_of(fields.next().unwrap_or(""));
-        let due = fields.next().unwrap_or("");
+        let (view, due) = row_of(rt, row);
+        shows(rt, alloc, row, decode_window(alloc, &file, view), due);
+        shows(rt, alloc, row, of_reply(alloc, &file, &kept, view), due);
+        let by_index = decode_window_by(alloc, &file, &kept, view);
+        shows(rt, alloc, row, by_index, due);
         count = count.saturating_add(1);
-        if shown(alloc, &file, view)?.as_str() == due {
-            same = same.saturating_add(1);
-        }
-        if shown_of_reply(alloc, &file, view)?.as_str() == due {
-            again = again.saturating_add(1);
-        }
-        if shown_by_index(alloc, &file, view)?.as_str() == due {
-            indexed = indexed.saturating_add(1);
-        }
     }
-    Ok((count, same, again, indexed))
+    equal(count, due).expect(rt, "views");
 }
 
-/// How many views there are, and how many files of their windows decode to what is due.
-fn layered(alloc: Global, file: &str, views: &str) -> Result<(u32, u32), Fail> {
-    let file = bytes_of(alloc, &[file])?;
-    let (mut count, mut same) = (0u32, 0u32);
+/// So many files of windows of views decode to what is due.
+fn layered(rt: &impl Abort, alloc: Global, file: &str, views: &str, due: u32) {
+    let file = file_of(rt, alloc, &[file]);
+    let kept = index_of(rt, alloc, &file);
+    let mut count = 0u32;
     for row in views.split('\n') {
-        let mut fields = row.split('|');
-        let view = view_of(fields.next().unwrap_or(""));
+        let (view, due) = row_of(rt, row);
+        shows(rt, alloc, row, of_reply(alloc, &file, &kept, view), due);
         count = count.saturating_add(1);
-        if shown_of_reply(alloc, &file, view)?.as_str() == fields.next().unwrap_or("") {
-            same = same.saturating_add(1);
-        }
     }
-    Ok((count, same))
+    equal(count, due).expect(rt, "views");
 }
 
 /// One sample, each border, windows over all tiles, odd places, reductions, what passes the edge,
 /// and views without a window; the same in fewer layers, in all of them, and in more.
 #[test]
-fn windows_have_the_samples_of_another_decoder(rt: HostRuntime) -> Result<(), Fail> {
-    let alloc = rt.alloc();
-    equal(&rt, alike(alloc, TILED, TILED_VIEWS)?, (19, 19, 19, 19));
-    equal(&rt, alike(alloc, COLOUR, COLOUR_VIEWS)?, (4, 4, 4, 4));
-    equal(&rt, layered(alloc, TILED, LAYERED_VIEWS)?, (11, 11));
-    Ok(())
+fn windows_have_the_samples_of_another_decoder(rt: HostRuntime) {
+    alike(&rt, rt.alloc(), TILED, TILED_VIEWS, 19);
+    alike(&rt, rt.alloc(), COLOUR, COLOUR_VIEWS, 4);
+    layered(&rt, rt.alloc(), TILED, LAYERED_VIEWS, 11);
 }
