@@ -53,3 +53,61 @@ pub fn equal_at<C: Debug + Copy, T: PartialEq + Debug + Copy>(
         Err(DifferentAt { case, found, due })
     }
 }
+
+#[cfg(test)]
+mod tests {
+    use super::{Different, DifferentAt, equal, equal_at};
+
+    /// Whether two numbers are told to differ, with and without a case.
+    fn told(found: u32, due: u32) -> (bool, bool) {
+        let plainly = match equal(found, due) {
+            Ok(()) => false,
+            Err(
+                Different {
+                    found: left,
+                    due: right,
+                },
+            ) => left == found && right == due,
+        };
+        let in_a_case = match equal_at("a case", found, due) {
+            Ok(()) => false,
+            Err(
+                DifferentAt {
+                    case,
+                    found: left,
+                    due: right,
+                },
+            ) => case == "a case" && left == found && right == due,
+        };
+        (plainly, in_a_case)
+    }
+
+    #[test]
+    fn what_differs_is_told(rt: HostRuntime) {
+        assert!(rt; told(1, 2) == (true, true));
+        assert!(rt; told(2, 1) == (true, true));
+        assert!(rt; told(2, 2) == (false, false));
+    }
+
+    /// Whether two lists are told to differ.
+    fn lists_told(found: &[u32], due: &[u32]) -> bool {
+        match equal(found, due) {
+            Ok(()) => false,
+            Err(
+                Different {
+                    found: _found,
+                    due: _due,
+                },
+            ) => true,
+        }
+    }
+
+    #[test]
+    fn lists_that_differ_are_told(rt: HostRuntime) {
+        assert!(rt; !lists_told(&[1, 2], &[1, 2]));
+        assert!(rt; lists_told(&[1, 2], &[1, 3]));
+        assert!(rt; lists_told(&[0, 2], &[1, 2]));
+        assert!(rt; lists_told(&[1, 2], &[1]));
+        assert!(rt; lists_told(&[], &[1]));
+    }
+}

@@ -157,3 +157,63 @@ impl<'a> Line<'a> {
         }
     }
 }
+
+#[cfg(test)]
+mod tests {
+    use super::{Line, Unread};
+    use std::alloc::Global;
+
+    /// Whether a line is told as one that isn't as it was read.
+    fn is_unread(line: Line<'_>) -> bool {
+        match line.end() {
+            Ok(()) => false,
+            Err(
+                Unread {
+                    line: _line,
+                    count: _count,
+                    lack: _lack,
+                },
+            ) => true,
+        }
+    }
+
+    /// A number from 3 to 9 and a word, and whether the line is told.
+    fn read(text: &str) -> (u64, &str, bool) {
+        let mut line = Line::new(text, ' ');
+        let number = line.number(3, 9);
+        let word = line.word();
+        (number, word, is_unread(line))
+    }
+
+    /// How many numbers a field has, and whether the line is told.
+    fn count(alloc: Global, text: &str) -> (usize, bool) {
+        let mut line = Line::new(text, ' ');
+        let numbers = line.numbers(alloc, ',');
+        (numbers.len(), is_unread(line))
+    }
+
+    #[test]
+    fn fields_are_read(rt: HostRuntime) {
+        assert!(rt; read("3 ab") == (3, "ab", false));
+        assert!(rt; read("9 ") == (9, "", false));
+        assert!(rt; count(rt.alloc(), "-") == (0, false));
+        assert!(rt; count(rt.alloc(), "5,-6,7") == (3, false));
+        let mut line = Line::new("0Aff x y", ' ');
+        assert!(rt; line.bytes(rt.alloc()).as_slice() == [0x0A, 0xFF].as_slice());
+        assert!(rt; line.rest() == "x y");
+        assert!(rt; !is_unread(line));
+    }
+
+    #[test]
+    fn what_a_line_lacks_is_told(rt: HostRuntime) {
+        for text in ["2 ab", "10 ab", "-4 ab", "x ab", " ab", "", "3", "3 ab c"] {
+            let (_number, _word, told) = read(text);
+            assert!(rt; told, "{text}");
+        }
+        for text in ["5,x", "", "5,,6", "5 6"] {
+            let (_count, told) = count(rt.alloc(), text);
+            assert!(rt; told, "{text}");
+        }
+        assert!(rt; is_unread(Line::new("a", ' ')));
+    }
+}
