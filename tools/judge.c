@@ -6,8 +6,8 @@
  *
  * A line: the fault's number; width, height, components, depth and sign, 0 where the headers are refused; the CRC-32
  * of the samples, two bytes each, the least first; the greatest memory of the calls beside the samples' list, and the
- * microseconds of processor time. After the decode the file is cut, and a window of it decoded: with what the headers
- * allow, these must end too. Where calls disagree, or memory stays taken, words stand in front of the line. A call of
+ * microseconds of processor time. After the decode the file is cut, a window of it decoded, and what it keeps beside the
+ * samples is told and given to it again: with what the headers allow, these must end too. Where calls disagree, or memory stays taken, words stand in front of the line. A call of
  * more than SECONDS ends the program: its file's line is missing. */
 #include <jk.h>
 #include <malloc.h>
@@ -115,7 +115,17 @@ int main(int words, char **names)
             counting = 1;
             uint32_t cuts = jk_cut(file, length, 0, x, y, 5, 5, cut, length + 64, &made);
             jk_decode_window_u16(file, length, reduce, x >> reduce, y >> reduce, 1, 1, window, frame.components);
+            uint8_t *kept = __libc_malloc(length + 1), *dressed = __libc_malloc(2 * length + 1);
+            if (!kept || !dressed) return 3;
+            size_t told = 0;
+            uint32_t tells = jk_extras(file, length, kept, length, &told);
+            uint32_t gives = tells ? 0 : jk_with_extras(file, length, kept, told, dressed, length + told, &made);
             counting = 0;
+            /* What is told fits, and is refused alone where a profile or a colour space may not be written, or the file is
+             * bare. */
+            if (tells == JK_SHORT || (gives && gives != JK_BAD_PARAMETERS && gives != JK_LIMIT))
+                printf("what is kept is told with %u and given with %u: ", tells, gives);
+            __libc_free(kept), __libc_free(dressed);
             /* What decodes can be cut, and only a block's fault decodes to a fault where it can be cut: that of its
              * segmentation symbols is BadValue. */
             int is_blocks = answer == JK_TOO_MANY_PASSES || answer == JK_CODE_OUT_OF_INTERVAL || answer == JK_BAD_VALUE;

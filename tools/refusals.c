@@ -42,6 +42,12 @@ void free(void *old)
 
 static uint8_t file[1 << 20], samples[1 << 20], out[1 << 21], before[1 << 21];
 static size_t length, count, made;
+/* The file with a resolution, XML and a box under a UUID. */
+static const uint8_t boxes[] = {0, 0, 0, 26, 'r', 'e', 's', ' ', 0, 0, 0, 18, 'r', 'e', 's', 'c', 0, 1, 0, 1, 0, 1, 0, 1, 2,
+    2, 0, 0, 0, 12, 'x', 'm', 'l', ' ', '<', 'a', '/', '>', 0, 0, 0, 25, 'u', 'u', 'i', 'd', 1, 2, 3, 4, 5, 6, 7, 8, 9,
+    10, 11, 12, 13, 14, 15, 16, 'a'};
+static uint8_t dressed[(1 << 20) + sizeof boxes];
+static size_t dressed_length;
 static jk_frame frame;
 
 static uint32_t call(int which)
@@ -53,6 +59,8 @@ static uint32_t call(int which)
     case 1: return jk_decode_u8(file, length, 0, out, count);
     case 2: return jk_decode_window_u8(file, length, 0, 0, 0, frame.width, frame.height, out, count);
     case 3: return jk_encode_u8(&frame, samples, count, &coding, out, sizeof out, &made);
+    case 4: return jk_extras(dressed, dressed_length, out, sizeof out, &made);
+    case 5: return jk_with_extras(file, length, boxes, sizeof boxes, out, sizeof out, &made);
     default: return jk_cut(file, length, 0, 0, 0, 8, 8, out, sizeof out, &made);
     }
 }
@@ -66,7 +74,8 @@ int main(int words, char **names)
     if (jk_info(file, length, 0, &frame)) return 1;
     count = (size_t)frame.width * frame.height * frame.components;
     if (jk_decode_u8(file, length, 0, samples, count)) return 1;
-    for (int which = 0; which < 5; which++) {
+    if (jk_with_extras(file, length, boxes, sizeof boxes, dressed, sizeof dressed, &dressed_length)) return 1;
+    for (int which = 0; which < 7; which++) {
         refused = -1, seen = 0, taken = 0, counting = 1;
         uint32_t answer = call(which);
         counting = 0;

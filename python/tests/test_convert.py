@@ -12,12 +12,14 @@ import subprocess
 import sys
 import time
 import zlib
+from fractions import Fraction
 
 import jk
 import numpy as np
 import pytest
 import tiffs
 from conftest import noise
+from profiles import icc
 
 tifffile = pytest.importorskip("tifffile")
 Image = pytest.importorskip("PIL.Image")
@@ -26,6 +28,7 @@ from jk.convert import (  # noqa: E402
     CannotConvert, convert, jp2, one, placing, png, png_filters, rows, tiff, tiff_writing, workers,
 )
 from jk.convert.images import Picture  # noqa: E402
+from jk.convert.jp2 import IN_EXIF  # noqa: E402
 
 U8, U16, I8, I16 = np.uint8, np.uint16, np.int8, np.int16
 needs_tiffcp = pytest.mark.skipif(not shutil.which("tiffcp"), reason="libtiff-tools isn't there")
@@ -130,9 +133,10 @@ def test_black_and_white(tmp_path, scheme, white):
     row, = converted(tmp_path / "a.tif", tmp_path / "a.jp2")
     assert (row.image, jk.info(tmp_path / "a.jp2").depth) == ("41 37 1 1", 1)
     assert np.array_equal(jk.read(tmp_path / "a.jp2"), samples)
-    assert "read again by Pillow" in row.notes and ("the least sample is white" in row.notes) == (white == 0)
+    assert "read again by Pillow" in row.notes and row.carried == "that the least sample is white" * (white == 0)
     converted(tmp_path / "a.jp2", tmp_path / "back.tif")
-    assert np.array_equal(np.asarray(Image.open(tmp_path / "back.tif")), samples)
+    # It comes back as it was, and Pillow turns samples of which the least is white.
+    assert np.array_equal(np.asarray(Image.open(tmp_path / "back.tif")), samples ^ (white == 0))
     assert (tmp_path / "back.tif").stat().st_size < 600
 
 
@@ -181,7 +185,7 @@ def test_white_that_is_0_stays_so(tmp_path):
     samples = noise((9, 11), U8)
     row, = converted(tiffs.tiff(tmp_path / "a.tif", samples, fields={262: (3, [0])}), tmp_path / "a.jp2")
     assert np.array_equal(jk.read(tmp_path / "a.jp2"), samples)
-    assert row.notes == "read again by Pillow; not carried: that the least sample is white"
+    assert (row.carried, row.notes) == ("that the least sample is white", "read again by Pillow")
 
 
 @pytest.mark.parametrize("turned", range(1, 9))
@@ -189,7 +193,7 @@ def test_samples_are_not_turned(tmp_path, turned):
     samples = noise((9, 11, 3), U8)
     row, = converted(tiffs.tiff(tmp_path / "a.tif", samples, fields={274: (3, [turned])}), tmp_path / "a.jp2")
     assert np.array_equal(jk.read(tmp_path / "a.jp2"), samples)
-    assert row.notes == "read again by Pillow" + "; not carried: orientation" * (turned > 1)
+    assert (row.carried, row.notes) == ("orientation" * (turned > 1), "read again by Pillow")
 
 
 @pytest.mark.parametrize("extra, word", [(0, "not told"), (1, "multiplied"), (2, "opacity")])
@@ -250,7 +254,7 @@ def test_what_tifffile_complains_of_counts_where_it_is_of_samples(tmp_path, monk
     """In BigTIFF it takes the place of EXIF for one of 8 bytes where it has 4, in a field that is read here."""
     fields = {34665: (4, {33434: (5, [(1, 9)])})}
     source = tiffs.tiff(tmp_path / "a.tif", noise((9, 11)), order=">", big=True, fields=fields)
-    assert converted(source, tmp_path / "a.jp2")[0].notes.endswith("not carried: EXIF")
+    assert converted(source, tmp_path / "a.jp2")[0].carried == "EXIF"
 
     def warn(page, real=tifffile.TiffPage.asarray, **how):
         tiff.logging.getLogger("tifffile").warning("corrupted strip cannot be reshaped")
@@ -335,7 +339,8 @@ def test_what_stands_beside_the_samples_of_a_png(tmp_path):
                                         orientation=8)
     assert picture.lost == ("gAMA", "tEXt Title", "tRNS")
     row, = converted(source, tmp_path / "a.jp2")
-    assert row.notes.endswith("not carried: gAMA, tEXt Title, tRNS, profile, resolution, XMP, orientation")
+    assert row.notes.endswith(f"not carried: gAMA, tEXt Title, tRNS, {IN_EXIF}")
+    assert row.carried == "profile, resolution, XMP, orientation"
     chunks[1] = (b"pHYs", struct.pack(">LLB", 2835, 2835, 1))
     picture, = png.pictures(str(tiffs.png(tmp_path / "b.png", noise((9, 11)), chunks=chunks)))
     assert picture.kept.resolution == _beside.Resolution((2835, 1), (2835, 1), "metre")
@@ -444,17 +449,27 @@ def boxed(*boxes, space=17):
     return data[:32] + struct.pack(">L", 45 + len(inner)) + header[4:] + inner + outer + data[77:]
 
 
-@pytest.mark.parametrize("boxes, told", [
-    ([], []), ([(b"res ", bytes(18), True)], ["resolution"]), ([(b"colr", b"\2\0\0" + bytes(9), True)], ["profile"]),
-    ([(b"uuid", bytes.fromhex("be7acfcb97a942e89c71999491e3afac") + b"<x/>", False), (b"xml ", b"<x/>", False)],
-     ["XMP", "a box xml"]), ([(b"uuid", bytes(20), False)], ["a uuid box"]),
+GRID = struct.pack(">L4sHHHHbb", 18, b"resc", 15000, 127, 15000, 127, 2, 2)
+XMP_BOX = bytes.fromhex("be7acfcb97a942e89c71999491e3afac") + b"<x/>"
+
+
+@pytest.mark.parametrize("boxes, carried, told", [
+    ([], "", []), ([(b"res ", GRID, True)], "resolution", []),
+    ([(b"res ", GRID + GRID.replace(b"resc", b"resd"), True)], "resolution", ["display resolution"]),
+    ([(b"res ", bytes(18), True)], "", ["what stands there: F2 Truncated: the file, a box or a tile-part ends inside something that "
+                                        "was begun, or EOC is missing at the end"]),
+    ([(b"colr", b"\2\0\0" + bytes(9), True)], "", ["further colours"]),
+    ([(b"uuid", XMP_BOX, False), (b"xml ", b"<x/>", False)], "XMP", ["a box xml"]),
+    ([(b"uuid", bytes(20), False)], "", ["a uuid box"]), ([(b"uinf", bytes(4), False)], "", ["a box uinf"]),
+    ([(b"uuid", b"JpgTiffExif->JP2II", False)], "", ["EXIF that can't be read"]),
 ])
-def test_what_a_jp2_has_beside_its_samples_is_told(tmp_path, boxes, told):
+def test_what_a_jp2_has_beside_its_samples_is_told(tmp_path, boxes, carried, told):
     (tmp_path / "a.jp2").write_bytes(boxed(*boxes))
     row, = converted(tmp_path / "a.jp2", tmp_path / "a.tif")
     assert row.notes == "; ".join(["read by one reader alone", *[f"not carried: {', '.join(told)}"] * bool(told)])
+    assert row.carried == carried
     if told:
-        refused(tmp_path / "a.jp2", tmp_path / "b.tif", f"not carried: {', '.join(told)}", strict=True)
+        refused(tmp_path / "a.jp2", tmp_path / "b.tif", f"not carried: {told[0]}", strict=True)
 
 
 def test_a_place_on_the_reference_grid_is_told(tmp_path):
@@ -504,10 +519,49 @@ def test_a_tiff_to_a_tiff_keeps_what_stands_beside(tmp_path, order):
 
 def test_what_is_not_carried_is_told_and_refused_where_it_is_asked(tmp_path):
     source = tiffs.tiff(tmp_path / "a.tif", noise((9, 11)), fields={**FIELDS, 65000: (3, [1])})
-    refused(source, tmp_path / "a.jp2", "not carried: tag 65000, profile, resolution, XMP, orientation", strict=True)
+    refused(source, tmp_path / "a.jp2", f"not carried: tag 65000, {IN_EXIF}", strict=True)
     row, = converted(source, tmp_path / "a.jp2")
     assert (row.carried, row.notes) == \
+        ("profile, resolution, XMP, orientation", f"read again by Pillow; not carried: tag 65000, {IN_EXIF}")
+    # A profile that JP2 doesn't take comes back all the same.
+    assert jk.extras(tmp_path / "a.jp2").profile is None
+    converted(tmp_path / "a.jp2", tmp_path / "b.tif")
+    assert next(tiff.pictures(str(tmp_path / "b.tif"))).kept.profile == b"profile!!"
+    row, = converted(source, tmp_path / "a.j2k")
+    assert (row.carried, row.notes) == \
         ("", "read again by Pillow; not carried: tag 65000, profile, resolution, XMP, orientation")
+
+
+@pytest.mark.parametrize("ratio, unit, inches", [
+    ((3005, 10), 2, (Fraction(601, 2), Fraction(601, 2))), ((118, 1), 3, (Fraction(14986, 50), Fraction(14986, 50))),
+    ((3000001, 10000), 2, None), ((2, 1), 1, None),
+])
+def test_all_goes_to_a_jp2_and_comes_back(tmp_path, ratio, unit, inches):
+    """What a resolution box hasn't exactly stands in EXIF, and in the box the nearest to it."""
+    exif = {33434: (5, [(1, 125)]), 37500: (7, b"a maker's note"), 40965: (4, {1: (2, b"R98\0")})}
+    down = (1, 1) if unit == 1 else ratio
+    fields = {270: (2, b"a page\0"), 274: (3, [6]), 282: (5, [ratio]), 283: (5, [down]), 296: (3, [unit]), 700: (1, b"<x/>"),
+              33723: (7, b"\x1c\2\5\0\1x"), 34665: (4, exif), 34853: (4, {0: (1, b"\2\3\0\0")}), 34675: (7, icc())}
+    source = tiffs.tiff(tmp_path / "a.tif", noise((9, 11, 3)), fields=fields)
+    row, = converted(source, tmp_path / "a.jp2", strict=True)
+    assert row.carried == "profile, resolution, XMP, IPTC, EXIF, orientation"
+    told = jk.extras(tmp_path / "a.jp2")
+    assert (told.profile, told.xmp, told.iptc) == (icc(), b"<x/>", b"\x1c\2\5\0\1x")
+    if unit == 1:
+        assert told.resolution is None
+    elif inches is not None:
+        assert told.resolution == inches
+    else:
+        assert told.resolution[0] != Fraction(*ratio) and abs(told.resolution[0] / Fraction(*ratio) - 1) < Fraction(1, 10 ** 9)
+    converted(tmp_path / "a.jp2", tmp_path / "b.tif", strict=True)
+    (one_way,), (other,) = (list(tiff.pictures(str(tmp_path / name))) for name in ("a.tif", "b.tif"))
+    assert one_way.kept == other.kept and np.array_equal(one_way.samples, other.samples)
+
+
+def test_a_jp2_that_loses_what_stands_beside_is_found(tmp_path, monkeypatch):
+    source = tiffs.tiff(tmp_path / "a.tif", noise((9, 11)), fields=FIELDS)
+    monkeypatch.setattr(jp2, "with_extras", lambda file, extras: file)
+    refused(source, tmp_path / "a.jp2", "other things beside the samples")
 
 
 # Checks.
@@ -535,7 +589,6 @@ def test_a_writer_that_loses_bits_is_found(tmp_path, monkeypatch, ending, module
 
 
 def test_a_writer_that_loses_what_stands_beside_is_found(tmp_path, monkeypatch):
-    """Of JPEG 2000 nothing stands beside yet, so a reader that has a resolution stands for one."""
     (tmp_path / "a.jp2").write_bytes(jk.encode(noise((9, 11))))
     kept = _beside.Kept(resolution=_beside.Resolution((11811, 1), (11811, 1), "metre"))
     monkeypatch.setitem(one.READERS, "jp2", lambda path: iter([Picture(jk.read(path), 8, kept)]))

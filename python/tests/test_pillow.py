@@ -3,11 +3,13 @@ import io
 import subprocess
 import sys
 import warnings
+from fractions import Fraction
 
 import jk
 import numpy as np
 import pytest
 from conftest import noise
+from profiles import icc
 
 Image = pytest.importorskip("PIL.Image")
 import jk.pillow  # noqa: E402
@@ -79,8 +81,8 @@ def test_other_modes_are_not_written(tmp_path, mode):
 @pytest.mark.parametrize("option, kind, word", [
     ({"irreversible": True}, ValueError, "lossless"), ({"quality_layers": [20, 5]}, ValueError, "lossless"),
     ({"quality_mode": "dB"}, TypeError, "no such"), ({"num_resolutions": 3}, TypeError, "no such"),
-    ({"icc_profile": b"profile"}, ValueError, "profile isn't carried"), ({"dpi": (300, 300)}, ValueError, "resolution"),
-    ({"xmp": b"<x/>"}, ValueError, "XMP"), ({"exif": b"II*\0"}, ValueError, "EXIF"),
+    ({"icc_profile": b"profile"}, ValueError, "profile isn't carried"), ({"dpi": (0, 300)}, ValueError, "resolution"),
+    ({"xmp": b"<x/>", "raw": True}, ValueError, "XMP isn't carried"), ({"exif": 5, "raw": True}, ValueError, "EXIF"),
 ])
 def test_options_of_save_that_lose_something_raise(tmp_path, option, kind, word):
     with pytest.raises(kind, match=word):
@@ -99,13 +101,43 @@ def test_options_that_lose_nothing(tmp_path):
         image.save(tmp_path / "c.jp2", levels=9)
 
 
-def test_what_an_image_has_beside_its_samples_is_warned_of(tmp_path):
+def test_what_stands_beside_the_samples_comes_back(tmp_path):
+    exif = Image.Exif()
+    exif[274] = 6
+    image = Image.fromarray(noise((9, 11)))
+    image.save(tmp_path / "a.jp2", icc_profile=icc(b"GRAY"), dpi=(300, 600.5), xmp=b"<x/>", exif=exif)
+    told = jk.extras(tmp_path / "a.jp2")
+    assert (told.profile, told.resolution, told.xmp, told.exif) == (icc(b"GRAY"), (300, 600.5), b"<x/>", exif.tobytes()[6:])
+    with Image.open(tmp_path / "a.jp2") as again:
+        assert (again.info["icc_profile"], again.info["dpi"], again.info["xmp"]) == (icc(b"GRAY"), (300, 600.5), b"<x/>")
+        assert again.getexif()[274] == 6
+        again.save(tmp_path / "b.jp2")
+        again.save(tmp_path / "c.jp2", icc_profile=None, exif=None)
+    assert jk.extras(tmp_path / "b.jp2") == told
+    assert jk.extras(tmp_path / "c.jp2") == jk.Extras(resolution=(300, 600.5), xmp=b"<x/>", space="grey")
+    image.save(tmp_path / "d.jp2", dpi=(299.9994, 72))
+    across, down = jk.extras(tmp_path / "d.jp2").resolution
+    assert down == 72 and across != 299.9994 and abs(across - Fraction(299.9994)) < 1e-6
+
+
+def test_what_an_image_has_and_is_not_carried_is_warned_of(tmp_path):
     image = Image.fromarray(noise((9, 11)))
     image.info.update(icc_profile=b"profile", dpi=(300, 300))
     with pytest.warns(UserWarning) as told:
         image.save(tmp_path / "a.jp2")
-    assert [str(it.message) for it in told] == ["the profile of the image isn't carried",
-                                                "the resolution of the image isn't carried"]
+    assert [str(it.message).partition(": ")[0] for it in told] == ["the profile of the image isn't carried"]
+    assert jk.extras(tmp_path / "a.jp2").resolution == (300, 300)
+    with pytest.warns(UserWarning) as told:
+        image.save(tmp_path / "a.j2k")
+    assert [str(it.message).partition(": ")[0] for it in told] == \
+        [f"the {what} of the image isn't carried" for what in ("profile", "resolution")]
+
+
+def test_what_stands_there_and_is_broken_is_warned_of(tmp_path):
+    file = jk.encode(noise((9, 11)), extras=jk.Extras(resolution=300))
+    (tmp_path / "a.jp2").write_bytes(file.replace(b"\x3a\x98\0\x7f", bytes(4)))
+    with pytest.warns(UserWarning, match="can't be read: F5"):
+        assert np.array_equal(np.asarray(Image.open(tmp_path / "a.jp2")), noise((9, 11)))
 
 
 def test_a_depth_that_does_not_fit_is_not_taken(tmp_path):

@@ -1,4 +1,5 @@
 mod Answering
+mod Giving
 mod Handing
 mod Passing
 mod Planes

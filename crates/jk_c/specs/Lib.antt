@@ -4,6 +4,7 @@ pub mod Codings
 pub mod Encodings
 pub mod Examples
 pub mod Frames
+pub mod Keeping
 pub mod Pixels
 pub mod Signed
 pub mod Telling

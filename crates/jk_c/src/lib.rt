@@ -12,6 +12,7 @@ mod encoding;
 mod frames;
 mod images;
 mod info;
+mod keeping;
 mod samples;
 mod signed;
 mod version;
@@ -22,6 +23,7 @@ pub use decoding::{jk_decode_i8, jk_decode_i16, jk_decode_u8, jk_decode_u16};
 pub use encoding::{jk_encode_i8, jk_encode_i16, jk_encode_u8, jk_encode_u16};
 pub use frames::CallerFrame;
 pub use info::jk_info;
+pub use keeping::{jk_extras, jk_with_extras};
 pub use version::jk_version;
 pub use windows::{
     jk_cut, jk_decode_window_i8, jk_decode_window_i16, jk_decode_window_u8, jk_decode_window_u16,

@@ -1,5 +1,5 @@
 -- The frame that headers tell is that of the picture that the file means.
-use Rattle.std.proofs.Common.{◌≡◌, ℕ, ◌+◌, ◌-◌, min, List, length, Result, Ok, Err, add-one, refl, sym, ap, subst, ◌∙◌}
+use Rattle.std.proofs.Common.{◌≡◌, ℕ, ◌-◌, List, Result, Ok, Err, refl, sym, subst, ◌∙◌}
 use Rattle.std.specs.Prelude.{slice_range, IfErr}
 use Rattle.std.proofs.lemmas.List.FromFn.{length-map-range_with_len}
 use Rattle.jk_math.specs.Answer.{Refuses, Answers}
@@ -9,38 +9,16 @@ use Rattle.jk_math.specs.declared.fault.Fault.TheVariants.{Memory}
 use Rattle.jk_math.specs.Memory.{IsMemory}
 use Rattle.jk_math.specs.Picture.{Picture}
 use Rattle.jk_math.specs.Raster.{raster}
-use Rattle.jk_marks.specs.declared.coding.Coding.{Coding}
 use Rattle.jk_marks.specs.Siz.{tile_count}
 use Rattle.jk_boxes.specs.Reading.{boxes_at}
-use Rattle.jk_geom.specs.TileShapes.{coding_of}
-use Rattle.jk_params.specs.Headers.{Headers, TileFields, tile_in}
+use Rattle.jk_params.specs.Headers.{Headers}
 use Rattle.jk_params.specs.HeadersReading.{headers_at}
 use Rattle.jk_tile.proofs.Laws.{bind_ok}
-use Rattle.jk_window.specs.Indexing.{least_in, least_levels}
+use Rattle.jk_params.specs.Levels.{least_levels}
 use Rattle.jk_code.specs.declared.frames.ImageFrame.{ImageFrame}
 use Rattle.jk_code.specs.MeaningReading.{packets_tested, tiles_tested, sample_of_tiles, reduction_at, picture_with, planes_of_tiles, picture_at, image_at, meaning_at}
 use Rattle.jk_code.specs.Frames.{headers_frame_at, codestream_frame_at, frame_at, IsFrameOfPicture}
 use Rattle.jk_code.proofs.MeaningLaws.{picture_by}
-
--- ---- the least number of levels
-
-pub least_none : (ks : List Coding) → 10 ≡ least_in ks 0
-unfolding least_in
-least_none ks = refl
-
-pub least_more : (ks : List Coding) (n : ℕ) → least_in ks (n + 1) ≡ min (least_in ks n) (coding_of ks n).levels
-unfolding least_in
-least_more ks n = ap (least_in ks) (add-one n) ∙ refl
-
-pub levels_none : (tiles : List TileFields) → 10 ≡ least_levels tiles 0
-unfolding least_levels
-levels_none tiles = refl
-
-pub levels_more : (tiles : List TileFields) (n : ℕ) → least_levels tiles (n + 1) ≡ min (least_levels tiles n) (least_in (tile_in tiles n).codings (length (tile_in tiles n).codings))
-unfolding least_levels
-levels_more tiles n = ap (least_levels tiles) (add-one n) ∙ refl
-
--- ---- frames
 
 -- A frame is due, and it is that of the picture.
 pub record IsFramed (due : Result ImageFrame Fault) (p : Picture) : Type 0 where

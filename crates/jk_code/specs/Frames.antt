@@ -8,7 +8,7 @@ use Rattle.jk_marks.specs.Siz.{tile_count}
 use Rattle.jk_boxes.specs.Reading.{boxes_at}
 use Rattle.jk_params.specs.Headers.{Headers}
 use Rattle.jk_params.specs.HeadersReading.{headers_at}
-use Rattle.jk_window.specs.Indexing.{least_levels}
+use Rattle.jk_params.specs.Levels.{least_levels}
 use Rattle.jk_code.specs.declared.frames.ImageFrame.{ImageFrame}
 use Rattle.jk_code.specs.MeaningReading.{reduction_at}
 

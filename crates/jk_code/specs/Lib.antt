@@ -6,6 +6,7 @@ pub use Rattle.jk_params.specs.Profile
 pub mod Meaning
 pub mod MeaningReading
 pub mod Tiles
+pub mod Sources
 pub mod Written
 pub mod Windows
 pub mod Fronts

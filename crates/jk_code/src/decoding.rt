@@ -21,12 +21,13 @@ ghost use Rattle.jk_math.specs.Raster.{places_of};
 ghost use Rattle.jk_code.specs.Tiles.{AreRead, ArePlanes, KeepsSamples, ShowsTileAt, IsPartSeen, part_lists, plane_in};
 ghost use Rattle.jk_window.specs.Views.{HaveLevels, frame_of};
 
+use crate::coded::CodedImage;
 use crate::reduction::check_reduction;
 use jk_boxes::open;
 use jk_geom::{reduced, tile};
 use jk_math::{Fault, Image, Rect};
 use jk_params::{Codestream, read_codestream};
-use jk_tile::{decode_tile, put};
+use jk_tile::{CodedTile, decode_tile, put};
 use jk_walk::{TilePackets, read_packets};
 use std::alloc::Global;
 
@@ -50,27 +51,25 @@ pub(crate) fn all_packets(
 /// Puts the planes of a part of a tile into those of a rectangle of the reduced image. The part has
 /// all that the rectangle has of the tile.
 pub(crate) fn put_tile(
-    headers: &Codestream,
-    bytes: &[u8],
-    packets: &TilePackets,
-    number: usize,
-    reduce: u8,
+    tile: &CodedTile<'_>,
     area: &Rect,
     part: &Rect,
     shown: &[Vec<i32>],
     planes: &mut Vec<Vec<i32>>,
 )
-    requires sound { AreHeaders (length bytes.now) headers.now }
-    requires number { number < tile_count headers.now.siz }
-    requires packets { packets_at bytes.now headers.now number ≡ Ok packets.now }
+    requires sound { AreHeaders (length tile.now.bytes) tile.now.headers }
+    requires number { tile.now.number < tile_count tile.now.headers.siz }
+    requires packets { packets_at tile.now.bytes tile.now.headers tile.now.number ≡ Ok tile.now.packets }
     requires area { IsArea area.now }
-    requires part { IsPartSeen headers.now reduce number area.now part.now }
-    requires shown { lists_of shown.now ≡ part_lists bytes.now headers.now number reduce part.now packets.now }
-    requires planes { ArePlanes headers.now area.now planes.old.items }
-    ensures planes { ArePlanes headers.now area.now planes.new.items }
-    ensures keeps { KeepsSamples bytes.now headers.now reduce area.now planes.old.items planes.new.items }
-    ensures shows { ShowsTileAt bytes.now headers.now reduce area.now number headers.now.siz.components
-        planes.new.items }
+    requires part { IsPartSeen tile.now.headers tile.now.reduce tile.now.number area.now part.now }
+    requires shown { lists_of shown.now
+        ≡ part_lists tile.now.bytes tile.now.headers tile.now.number tile.now.reduce part.now tile.now.packets }
+    requires planes { ArePlanes tile.now.headers area.now planes.old.items }
+    ensures planes { ArePlanes tile.now.headers area.now planes.new.items }
+    ensures keeps { KeepsSamples tile.now.bytes tile.now.headers tile.now.reduce area.now
+        planes.old.items planes.new.items }
+    ensures shows { ShowsTileAt tile.now.bytes tile.now.headers tile.now.reduce area.now tile.now.number
+        tile.now.headers.siz.components planes.new.items }
 {
     for c in 0..planes.len() {
         put(area, &mut planes[c], part, &shown[c]);
@@ -78,85 +77,63 @@ pub(crate) fn put_tile(
 }
 
 /// The planes of an image that is one tile.
-fn planes_of_one(
-    alloc: Global,
-    headers: &Codestream,
-    bytes: &[u8],
-    packets: &[TilePackets],
-    reduce: u8,
-) -> Result<Vec<Vec<i32>>, Fault>
-    requires sound { AreHeaders (length bytes.now) headers.now }
-    requires one { tile_count headers.now.siz ≡ 1 }
-    requires packets { AreRead bytes.now headers.now 1 packets.now }
-    requires levels { HaveLevels headers.now reduce }
-    requires few { reduce ≤ 10 }
-    ensures exact { Answers (λ _. tt) result (tiles_tested bytes.now headers.now reduce 1) }
-    ensures planes { IfOk result
-        (λ v. lists_of v.items ≡ planes_of_tiles bytes.now headers.now reduce (frame_of headers.now reduce)) }
+fn planes_of_one(alloc: Global, coded: &CodedImage<'_>) -> Result<Vec<Vec<i32>>, Fault>
+    requires { tile_count coded.now.headers.siz ≡ 1 }
+    ensures exact { Answers (λ _. tt) result
+        (tiles_tested coded.now.bytes coded.now.headers coded.now.reduce (tile_count coded.now.headers.siz)) }
+    ensures planes { IfOk result (λ v. lists_of v.items
+        ≡ planes_of_tiles coded.now.bytes coded.now.headers coded.now.reduce coded.now.area) }
 {
-    decode_tile(alloc, headers, bytes, 0, &packets[0], reduce)
+    let all = coded.packets;
+    let only = CodedTile {
+        headers: coded.headers,
+        bytes: coded.bytes,
+        number: 0,
+        packets: &all[0],
+        reduce: coded.reduce,
+    };
+    decode_tile(alloc, &only)
 }
 
 /// The planes of an image, tile by tile.
-fn planes_of_all(
-    alloc: Global,
-    headers: &Codestream,
-    bytes: &[u8],
-    packets: &[TilePackets],
-    reduce: u8,
-    area: &Rect,
-) -> Result<Vec<Vec<i32>>, Fault>
-    requires sound { AreHeaders (length bytes.now) headers.now }
-    requires packets { AreRead bytes.now headers.now (tile_count headers.now.siz) packets.now }
-    requires levels { HaveLevels headers.now reduce }
-    requires area { area.now ≡ frame_of headers.now reduce }
-    requires frame { IsArea area.now }
-    requires few { reduce ≤ 10 }
-    ensures exact { Answers (λ _. tt) result (tiles_tested bytes.now headers.now reduce (tile_count headers.now.siz)) }
-    ensures planes { IfOk result (λ v. lists_of v.items ≡ planes_of_tiles bytes.now headers.now reduce area.now) }
+fn planes_of_all(alloc: Global, coded: &CodedImage<'_>) -> Result<Vec<Vec<i32>>, Fault>
+    ensures exact { Answers (λ _. tt) result
+        (tiles_tested coded.now.bytes coded.now.headers coded.now.reduce (tile_count coded.now.headers.siz)) }
+    ensures planes { IfOk result (λ v. lists_of v.items
+        ≡ planes_of_tiles coded.now.bytes coded.now.headers coded.now.reduce coded.now.area) }
 {
-    let mut planes = blank_planes(alloc, headers.siz().components, area)?;
+    let headers = coded.headers;
+    let bytes = coded.bytes;
+    let all = coded.packets;
+    let reduce = coded.reduce;
+    let area = coded.area;
+    let mut planes = blank_planes(alloc, headers.siz().components, &area)?;
     for number in 0..headers.tile_count() {
-        let packets = &packets[number];
-        let part = reduced(&tile(headers.siz(), number as u32), reduce);
-        let shown = decode_tile(alloc, headers, bytes, number, packets, reduce)?;
-        put_tile(
+        let next = CodedTile {
             headers,
             bytes,
-            packets,
             number,
+            packets: &all[number],
             reduce,
-            area,
-            &part,
-            &shown,
-            &mut planes,
-        );
+        };
+        let part = reduced(&tile(headers.siz(), number as u32), reduce);
+        let shown = decode_tile(alloc, &next)?;
+        put_tile(&next, &area, &part, &shown, &mut planes);
     }
     Ok(planes)
 }
 
 /// The planes of the image. Those of a tile that is alone are the image's, and aren't put anywhere.
-pub(crate) fn all_planes(
-    alloc: Global,
-    headers: &Codestream,
-    bytes: &[u8],
-    packets: &[TilePackets],
-    reduce: u8,
-    area: &Rect,
-) -> Result<Vec<Vec<i32>>, Fault>
-    requires sound { AreHeaders (length bytes.now) headers.now }
-    requires packets { AreRead bytes.now headers.now (tile_count headers.now.siz) packets.now }
-    requires levels { HaveLevels headers.now reduce }
-    requires area { area.now ≡ frame_of headers.now reduce }
-    requires frame { IsArea area.now }
-    requires few { reduce ≤ 10 }
-    ensures exact { Answers (λ _. tt) result (tiles_tested bytes.now headers.now reduce (tile_count headers.now.siz)) }
-    ensures planes { IfOk result (λ v. lists_of v.items ≡ planes_of_tiles bytes.now headers.now reduce area.now) }
+pub(crate) fn all_planes(alloc: Global, coded: &CodedImage<'_>) -> Result<Vec<Vec<i32>>, Fault>
+    ensures exact { Answers (λ _. tt) result
+        (tiles_tested coded.now.bytes coded.now.headers coded.now.reduce (tile_count coded.now.headers.siz)) }
+    ensures planes { IfOk result (λ v. lists_of v.items
+        ≡ planes_of_tiles coded.now.bytes coded.now.headers coded.now.reduce coded.now.area) }
 {
-    if headers.tile_count() == 1 {
-        planes_of_one(alloc, headers, bytes, packets, reduce)
+    if coded.headers.tile_count() == 1 {
+        planes_of_one(alloc, coded)
     } else {
-        planes_of_all(alloc, headers, bytes, packets, reduce, area)
+        planes_of_all(alloc, coded)
     }
 }
 
@@ -204,7 +181,14 @@ fn picture(alloc: Global, headers: &Codestream, bytes: &[u8], reduce: u32) -> Re
 {
     let area = check_reduction(headers, reduce)?;
     let packets = all_packets(alloc, headers, bytes)?;
-    let planes = all_planes(alloc, headers, bytes, &packets, reduce as u8, &area)?;
+    let coded = CodedImage {
+        headers,
+        bytes,
+        packets: &packets,
+        reduce: reduce as u8,
+        area,
+    };
+    let planes = all_planes(alloc, &coded)?;
     image_of(headers, &area, planes)
 }
 

@@ -9,7 +9,7 @@ ghost use Rattle.jk_code.specs.MeaningReading.{meaning_at};
 
 use crate::joining::{Whole, join};
 use crate::making::make_with;
-use jk_farm::Gate;
+use jk_jobs::Gate;
 use jk_math::{Fault, Image};
 use std::alloc::Global;
 use std::thread::Threads;

@@ -19,32 +19,33 @@ ghost use Rattle.jk_code.specs.Written.{main_for, part_for, part_fits, parts_fit
 ghost use Rattle.jk_code.specs.Fronts.{HasFronts};
 
 use jk_boxes::wrap;
-use jk_farm::{Gate, map_jobs};
 use jk_geom::tile_count;
-use jk_marks::{Exponents, Main, Quantisation, write_end, write_main, write_tile_part};
+use jk_jobs::{Gate, map_jobs};
+use jk_marks::{Main, Quantisation, write_end, write_main, write_tile_part};
 use jk_math::{Fault, Image, Planes};
 use jk_packet::BlockTable;
 use jk_params::{Container, Parameters, cod_of, siz_of};
-use jk_tile::{BlockJob, Executor, Parallel, Sequential, encode_tile, exponents, tile_bands};
+use jk_tile::{
+    BlockJob, Executor, Parallel, Sequential, Workers, WrittenImage, encode_tile, exponents,
+    tile_bands,
+};
 use std::alloc::Global;
 use std::marker::Sync;
 use std::thread::Threads;
 
 /// The main header of an image.
 #[tactic(auto, using(crate::proofs::HeaderLaws::main_written))]
-pub(crate) fn main_header(image: &Image, parameters: &Parameters, exponents: &Exponents) -> Main
-    requires written { IsWrittenBy parameters.now image.now }
-    requires exponents { exponents.now ≡ exponents_for image.now parameters.now }
-    ensures value { result ≡ main_for image.now parameters.now }
+pub(crate) fn main_header(source: &WrittenImage<'_>) -> Main
+    ensures value { result ≡ main_for source.now.image.now source.now.parameters.now }
     ensures written { IsWritten result }
-    ensures picture { IsPicture image.now }
+    ensures picture { IsPicture source.now.image.now }
 {
     Main {
-        siz: siz_of(image, parameters),
-        cod: cod_of(parameters),
+        siz: siz_of(source.image, source.parameters),
+        cod: cod_of(source.parameters),
         qcd: Quantisation {
             guard: 2,
-            exponents: exponents.copy(),
+            exponents: source.exponents.copy(),
         },
         coc: [None, None, None, None],
         qcc: [None, None, None, None],
@@ -58,22 +59,20 @@ fn put_tile<E: Executor>(
     executor: &E,
     alloc: Global,
     out: &mut Vec<u8>,
-    image: &Image,
-    parameters: &Parameters,
-    exponents: &Exponents,
+    source: &WrittenImage<'_>,
     number: u32,
     bands: Vec<Planes>,
 ) -> Result<(), Fault>
     requires ready { E.ready executor.now }
-    requires written { IsWrittenBy parameters.now image.now }
-    requires exponents { exponents.now ≡ exponents_for image.now parameters.now }
-    requires number { number < tile_count (siz_of image.now parameters.now) }
-    requires bands { bands.items ≡ written_bands image.now parameters.now number }
-    ensures ok { OnOk result (out.new.items ≡ out.old.items ++ part_text (part_for image.now parameters.now number)) }
-    ensures fits { OnOk result (part_fits image.now parameters.now number ≡ true) }
-    ensures err { IfErr result (λ e. IsMemory e ⊎ ((e ≡ Limit) × (part_fits image.now parameters.now number ≡ false))) }
+    requires number { number < tile_count (siz_of source.now.image.now source.now.parameters.now) }
+    requires bands { bands.items ≡ written_bands source.now.image.now source.now.parameters.now number }
+    ensures ok { OnOk result (out.new.items ≡ out.old.items ++ part_text
+        (part_for source.now.image.now source.now.parameters.now number)) }
+    ensures fits { OnOk result (part_fits source.now.image.now source.now.parameters.now number ≡ true) }
+    ensures err { IfErr result (λ e. IsMemory e ⊎ ((e ≡ Limit)
+        × (part_fits source.now.image.now source.now.parameters.now number ≡ false))) }
 {
-    let content = encode_tile(executor, alloc, image, parameters, exponents, number, bands)?;
+    let content = encode_tile(executor, alloc, source, number, bands)?;
     write_tile_part(number as u16, &content, out)
 }
 
@@ -82,27 +81,23 @@ fn put_tiles<E: Executor>(
     executor: &E,
     alloc: Global,
     out: &mut Vec<u8>,
-    image: &Image,
-    parameters: &Parameters,
-    exponents: &Exponents,
+    source: &WrittenImage<'_>,
     first: Vec<Planes>,
 ) -> Result<(), Fault>
     requires ready { E.ready executor.now }
-    requires written { IsWrittenBy parameters.now image.now }
-    requires exponents { exponents.now ≡ exponents_for image.now parameters.now }
-    requires first { first.items ≡ written_bands image.now parameters.now 0 }
+    requires first { first.items ≡ written_bands source.now.image.now source.now.parameters.now 0 }
     ensures ok { OnOk result
-        (out.new.items ≡ out.old.items ++ flat_map part_text (tree_for image.now parameters.now).parts) }
-    ensures fits { OnOk result (parts_fit image.now parameters.now ≡ true) }
-    ensures err { IfErr result (λ e. IsMemory e ⊎ ((e ≡ Limit) × (parts_fit image.now parameters.now ≡ false))) }
+        (out.new.items ≡ out.old.items ++ flat_map part_text
+        (tree_for source.now.image.now source.now.parameters.now).parts) }
+    ensures fits { OnOk result (parts_fit source.now.image.now source.now.parameters.now ≡ true) }
+    ensures err { IfErr result (λ e. IsMemory e ⊎ ((e ≡ Limit)
+        × (parts_fit source.now.image.now source.now.parameters.now ≡ false))) }
 {
-    let siz = siz_of(image, parameters);
-    put_tile(executor, alloc, out, image, parameters, exponents, 0, first)?;
+    let siz = siz_of(source.image, source.parameters);
+    put_tile(executor, alloc, out, source, 0, first)?;
     for number in 1..tile_count(&siz) {
-        let bands = tile_bands(executor, alloc, image, parameters, number)?;
-        put_tile(
-            executor, alloc, out, image, parameters, exponents, number, bands,
-        )?;
+        let bands = tile_bands(executor, alloc, source.image, source.parameters, number)?;
+        put_tile(executor, alloc, out, source, number, bands)?;
     }
     Ok(())
 }
@@ -127,11 +122,14 @@ fn codestream<E: Executor>(
     ensures err { IfErr result (λ e. IsMemory e ⊎ ((e ≡ Limit) × (parts_fit image.now parameters.now ≡ false))) }
 {
     let (exponents, first) = exponents(executor, alloc, image, parameters)?;
+    let source = WrittenImage {
+        image,
+        parameters,
+        exponents: &exponents,
+    };
     let mut out = Vec::new(alloc);
-    write_main(&main_header(image, parameters, &exponents), &mut out)?;
-    put_tiles(
-        executor, alloc, &mut out, image, parameters, &exponents, first,
-    )?;
+    write_main(&main_header(&source), &mut out)?;
+    put_tiles(executor, alloc, &mut out, &source, first)?;
     write_end(&mut out)?;
     Ok(out)
 }
@@ -243,6 +241,10 @@ pub fn encode_with<R: Threads + Sync, G: Gate + Sync>(
         requires { 1 ≤ workers × workers ≤ 64 × IsSync R.row × IsSync G.row × All IsBlockJob jobs.now }
         ensures { AreTabled jobs.now result }
     { map_jobs::<BlockJob<'_>, R, G>(rt, alloc, workers, gate, jobs) };
-    let executor = Parallel { rt, workers, code };
+    let team = Workers { rt, count: workers };
+    let executor = Parallel {
+        workers: &team,
+        code,
+    };
     encoded(&executor, alloc, image, parameters)
 }

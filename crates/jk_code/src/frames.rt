@@ -4,22 +4,15 @@ ghost use Rattle.std.specs.Prelude.{◌≡◌, ℕ, length, IfOk, IfErr};
 ghost use Rattle.jk_math.specs.Answer.{Answers};
 ghost use Rattle.jk_math.specs.Memory.{IsMemory};
 ghost use Rattle.jk_math.specs.Picture.{Picture};
-ghost use Rattle.jk_marks.specs.Siz.{tile_count};
-ghost use Rattle.jk_geom.specs.TileShapes.{AreCodings};
 ghost use Rattle.jk_params.specs.Headers.{AreHeaders};
-ghost use Rattle.jk_window.specs.Indexing.{least_in, least_levels};
 ghost use Rattle.jk_code.specs.Meaning.{Means};
 ghost use Rattle.jk_code.specs.Frames.{headers_frame_at, codestream_frame_at, frame_at, IsFrameOfPicture};
 
 use crate::reduction::check_reduction;
 use jk_boxes::open;
-use jk_geom::Codings;
 use jk_math::Fault;
 use jk_params::{Codestream, read_codestream};
 use std::alloc::Global;
-
-/// The most decomposition levels that a tile-component may have.
-const MOST_LEVELS: u8 = 10;
 
 /// Where an image lies at a reduction, how large it is, and what its samples are.
 #[derive(Clone, Copy, Debug, PartialEq, Eq)]
@@ -43,32 +36,6 @@ pub struct ImageFrame {
     pub levels: u8,
 }
 
-/// The least number of decomposition levels of components, and 10 where there are none.
-#[tactic(auto, using(crate::proofs::FrameHeaders::least_none, crate::proofs::FrameHeaders::least_more))]
-fn least_in(codings: &Codings) -> u8
-    ensures { result ≡ least_in codings.now (length codings.now) }
-{
-    let codings = codings.as_slice();
-    let mut least = MOST_LEVELS;
-    for i in 0..codings.len() {
-        least = least.min(codings[i].levels);
-    }
-    least
-}
-
-/// The least number of decomposition levels of the components of all tiles.
-#[tactic(auto, using(crate::proofs::FrameHeaders::levels_none, crate::proofs::FrameHeaders::levels_more))]
-fn least_levels(headers: &Codestream) -> u8
-    requires { (size : ℕ) × AreHeaders size headers.now }
-    ensures { result ≡ least_levels headers.now.tiles (tile_count headers.now.siz) }
-{
-    let mut least = MOST_LEVELS;
-    for number in 0..headers.tile_count() {
-        least = least.min(least_in(headers.codings(number)));
-    }
-    least
-}
-
 /// What headers say of the image at a reduction.
 #[tactic(auto, unfolding(crate::specs::Frames::headers_frame_at))]
 pub(crate) fn headers_frame(headers: &Codestream, reduce: u32) -> Result<ImageFrame, Fault>
@@ -85,7 +52,7 @@ pub(crate) fn headers_frame(headers: &Codestream, reduce: u32) -> Result<ImageFr
         components: siz.components,
         depth: siz.depth,
         signed: siz.signed,
-        levels: least_levels(headers),
+        levels: headers.least_levels(),
     })
 }
 

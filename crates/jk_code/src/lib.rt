@@ -1,6 +1,7 @@
 //! Encoding and decoding: what a file means.
 #![tactic(auto)]
 
+mod coded;
 mod decoding;
 mod decoding_with;
 mod encoding;

@@ -21,16 +21,16 @@ ghost use Rattle.jk_code.specs.Stripes.{stripe_of};
 ghost use Rattle.jk_code.specs.Tiles.{AreRead};
 ghost use Rattle.jk_code.specs.ViewReading.{seen_parts_tested};
 
+use crate::coded::CodedImage;
 use crate::decoding::{all_packets, all_planes, image_of};
 use crate::frames::{ImageFrame, headers_frame};
 use crate::reduction::check_reduction;
 use crate::stripes::{Cut, cut_for, stripe, stripe_planes};
 use jk_boxes::open;
-use jk_farm::{Gate, Open};
+use jk_jobs::{Gate, Open};
 use jk_math::{Fault, Image, Rect};
 use jk_params::{Codestream, read_codestream};
-use jk_tile::{DecodedBlocks, decode_blocks_with};
-use jk_walk::TilePackets;
+use jk_tile::{DecodedBlocks, Workers, decode_blocks_with};
 use std::alloc::Global;
 use std::marker::{Send, Sync};
 use std::thread;
@@ -62,29 +62,23 @@ pub struct MadeStripes<M> {
 /// What is made of a stripe.
 fn made_stripe<S: StripeWork>(
     alloc: Global,
-    headers: &Codestream,
-    bytes: &[u8],
-    packets: &[TilePackets],
-    reduce: u8,
+    coded: &CodedImage<'_>,
     stripe: &Rect,
     decoded: &DecodedBlocks,
 ) -> Result<S::Made, Fault>
-    requires sound { AreHeaders (length bytes.now) headers.now }
-    requires packets { AreRead bytes.now headers.now (tile_count headers.now.siz) packets.now }
-    requires decoded { AreDecoded bytes.now decoded.now }
-    requires levels { HaveLevels headers.now reduce }
-    requires few { reduce ≤ 10 }
+    requires decoded { AreDecoded coded.now.bytes decoded.now }
     requires stripe { IsArea stripe.now }
-    requires inside { IsPartOf stripe.now (frame_of headers.now reduce) }
+    requires inside { IsPartOf stripe.now coded.now.area }
     requires frame { IsFrame stripe.now.x0 stripe.now.y0
         (stripe.now.x1 - stripe.now.x0) (stripe.now.y1 - stripe.now.y0) }
     ensures exact { Answers (λ _. tt) result
-        (seen_parts_tested bytes.now headers.now reduce stripe.now (tile_count headers.now.siz)) }
-    ensures made { IfOk result (S.gives
-        (picture_with headers.now.siz stripe.now (planes_of_tiles bytes.now headers.now reduce stripe.now))) }
+        (seen_parts_tested coded.now.bytes coded.now.headers coded.now.reduce stripe.now
+        (tile_count coded.now.headers.siz)) }
+    ensures made { IfOk result (S.gives (picture_with coded.now.headers.siz stripe.now
+        (planes_of_tiles coded.now.bytes coded.now.headers coded.now.reduce stripe.now))) }
 {
-    let planes = stripe_planes(alloc, headers, bytes, packets, reduce, stripe, decoded)?;
-    let image = image_of(headers, stripe, planes)?;
+    let planes = stripe_planes(alloc, coded, stripe, decoded)?;
+    let image = image_of(coded.headers, stripe, planes)?;
     S::make(alloc, image)
 }
 
@@ -103,60 +97,37 @@ fn collected<X: Drop>(alloc: Global, parts: Vec<Result<X, Fault>>) -> Result<Vec
 fn told_stripe<G: Gate, S: StripeWork>(
     alloc: Global,
     gate: &G,
-    headers: &Codestream,
-    bytes: &[u8],
-    packets: &[TilePackets],
-    reduce: u8,
-    area: &Rect,
+    coded: &CodedImage<'_>,
     cut: Cut,
     number: usize,
     decoded: &DecodedBlocks,
 ) -> Result<S::Made, Fault>
-    requires sound { AreHeaders (length bytes.now) headers.now }
-    requires packets { AreRead bytes.now headers.now (tile_count headers.now.siz) packets.now }
-    requires levels { HaveLevels headers.now reduce }
-    requires area { area.now ≡ frame_of headers.now reduce }
-    requires is_area { IsArea area.now }
-    requires frame { IsFrame area.now.x0 area.now.y0 (area.now.x1 - area.now.x0) (area.now.y1 - area.now.y0) }
-    requires few { reduce ≤ 10 }
     requires number { number < 64 }
-    requires some { is_empty (stripe_of area.now cut number) ≡ false }
-    requires decoded { AreDecoded bytes.now decoded.now }
+    requires some { is_empty (stripe_of coded.now.area cut number) ≡ false }
+    requires decoded { AreDecoded coded.now.bytes decoded.now }
     ensures exact { Answers (λ _. tt) result
-        (seen_parts_tested bytes.now headers.now reduce (stripe_of area.now cut number) (tile_count headers.now.siz)) }
-    ensures made { IfOk result (S.gives (picture_with headers.now.siz (stripe_of area.now cut number)
-        (planes_of_tiles bytes.now headers.now reduce (stripe_of area.now cut number)))) }
+        (seen_parts_tested coded.now.bytes coded.now.headers coded.now.reduce (stripe_of coded.now.area cut number)
+        (tile_count coded.now.headers.siz)) }
+    ensures made { IfOk result (S.gives (picture_with coded.now.headers.siz (stripe_of coded.now.area cut number)
+        (planes_of_tiles coded.now.bytes coded.now.headers coded.now.reduce (stripe_of coded.now.area cut number)))) }
 {
     gate.began(number);
-    let stripe = stripe(area, cut, number);
-    let made = made_stripe::<S>(alloc, headers, bytes, packets, reduce, &stripe, decoded);
+    let stripe = stripe(&coded.area, cut, number);
+    let made = made_stripe::<S>(alloc, coded, &stripe, decoded);
     gate.ended(number);
     made
 }
 
 /// What is made of the image as one stripe, by this thread alone.
-fn made_alone<S: StripeWork>(
-    alloc: Global,
-    headers: &Codestream,
-    bytes: &[u8],
-    packets: &[TilePackets],
-    reduce: u8,
-    area: &Rect,
-) -> Result<Vec<S::Made>, Fault>
-    requires sound { AreHeaders (length bytes.now) headers.now }
-    requires packets { AreRead bytes.now headers.now (tile_count headers.now.siz) packets.now }
-    requires levels { HaveLevels headers.now reduce }
-    requires area { area.now ≡ frame_of headers.now reduce }
-    requires is_area { IsArea area.now }
-    requires frame { IsFrame area.now.x0 area.now.y0 (area.now.x1 - area.now.x0) (area.now.y1 - area.now.y0) }
-    requires few { reduce ≤ 10 }
-    ensures exact { Answers (λ _. tt) result (tiles_tested bytes.now headers.now reduce (tile_count headers.now.siz)) }
-    ensures made { IfOk result (λ v. AreMade S.gives
-        (picture_with headers.now.siz area.now (planes_of_tiles bytes.now headers.now reduce area.now))
-        area.now.y0 v.items) }
+fn made_alone<S: StripeWork>(alloc: Global, coded: &CodedImage<'_>) -> Result<Vec<S::Made>, Fault>
+    ensures exact { Answers (λ _. tt) result
+        (tiles_tested coded.now.bytes coded.now.headers coded.now.reduce (tile_count coded.now.headers.siz)) }
+    ensures made { IfOk result (λ v. AreMade S.gives (picture_with coded.now.headers.siz coded.now.area
+        (planes_of_tiles coded.now.bytes coded.now.headers coded.now.reduce coded.now.area))
+        coded.now.area.y0 v.items) }
 {
-    let planes = all_planes(alloc, headers, bytes, packets, reduce, area)?;
-    let image = image_of(headers, area, planes)?;
+    let planes = all_planes(alloc, coded)?;
+    let image = image_of(coded.headers, &coded.area, planes)?;
     let mut made = Vec::new(alloc);
     made.push(S::make(alloc, image)?)?;
     Ok(made)
@@ -166,57 +137,37 @@ fn made_alone<S: StripeWork>(
 /// of small ones. Where one of them has a fault, the image is decoded again by this thread alone,
 /// whose first fault is answered.
 fn made_of_stripes<R: Threads + Sync, G: Gate + Sync, S: StripeWork + Sync>(
-    rt: &R,
+    workers: &Workers<'_, R>,
     alloc: Global,
-    workers: usize,
     gate: &G,
-    headers: &Codestream,
-    bytes: &[u8],
-    packets: &[TilePackets],
-    reduce: u8,
-    area: &Rect,
+    coded: &CodedImage<'_>,
     decoded: DecodedBlocks,
 ) -> Result<Vec<S::Made>, Fault>
-    requires some { 1 ≤ workers }
-    requires few_workers { workers ≤ 64 }
-    requires sound { AreHeaders (length bytes.now) headers.now }
-    requires packets { AreRead bytes.now headers.now (tile_count headers.now.siz) packets.now }
-    requires levels { HaveLevels headers.now reduce }
-    requires area { area.now ≡ frame_of headers.now reduce }
-    requires is_area { IsArea area.now }
-    requires frame { IsFrame area.now.x0 area.now.y0 (area.now.x1 - area.now.x0) (area.now.y1 - area.now.y0) }
-    requires few { reduce ≤ 10 }
-    requires decoded { AreDecoded bytes.now decoded }
-    ensures exact { Answers (λ _. tt) result (tiles_tested bytes.now headers.now reduce (tile_count headers.now.siz)) }
-    ensures made { IfOk result (λ v. AreMade S.gives
-        (picture_with headers.now.siz area.now (planes_of_tiles bytes.now headers.now reduce area.now))
-        area.now.y0 v.items) }
+    requires { AreDecoded coded.now.bytes decoded }
+    ensures exact { Answers (λ _. tt) result
+        (tiles_tested coded.now.bytes coded.now.headers coded.now.reduce (tile_count coded.now.headers.siz)) }
+    ensures made { IfOk result (λ v. AreMade S.gives (picture_with coded.now.headers.siz coded.now.area
+        (planes_of_tiles coded.now.bytes coded.now.headers coded.now.reduce coded.now.area))
+        coded.now.area.y0 v.items) }
 {
-    let cut = cut_for(headers, reduce, area, workers);
+    let cut = cut_for(coded, workers.count);
     let made_of = |number: usize| -> Result<S::Made, Fault>
-        requires { IsSync G.row × IsSend S.Made.row × AreHeaders (length bytes.now) headers.now
-            × AreRead bytes.now headers.now (tile_count headers.now.siz) packets.now
-            × HaveLevels headers.now reduce × (area.now ≡ frame_of headers.now reduce)
-            × IsArea area.now
-            × IsFrame area.now.x0 area.now.y0 (area.now.x1 - area.now.x0) (area.now.y1 - area.now.y0)
-            × (reduce ≤ 10) × (number < 64) × (is_empty (stripe_of area.now cut number) ≡ false)
-            × AreDecoded bytes.now decoded }
+        requires { IsSync G.row × IsSend S.Made.row × (number < 64)
+            × (is_empty (stripe_of coded.now.area cut number) ≡ false) × AreDecoded coded.now.bytes decoded }
         ensures exact { Answers (λ _. tt) result
-            (seen_parts_tested bytes.entry.now headers.entry.now reduce (stripe_of area.entry.now cut number)
-            (tile_count headers.entry.now.siz)) }
-        ensures made { IfOk result (S.gives (picture_with headers.entry.now.siz (stripe_of area.entry.now cut number)
-            (planes_of_tiles bytes.entry.now headers.entry.now reduce (stripe_of area.entry.now cut number)))) }
-    {
-        told_stripe::<G, S>(
-            alloc, gate, headers, bytes, packets, reduce, area, cut, number, &decoded,
-        )
-    };
-    let made = thread::map_indices(rt, alloc, cut.count, &made_of)?;
+            (seen_parts_tested coded.entry.now.bytes coded.entry.now.headers coded.entry.now.reduce
+            (stripe_of coded.entry.now.area cut number) (tile_count coded.entry.now.headers.siz)) }
+        ensures made { IfOk result
+            (S.gives (picture_with coded.entry.now.headers.siz (stripe_of coded.entry.now.area cut number)
+            (planes_of_tiles coded.entry.now.bytes coded.entry.now.headers coded.entry.now.reduce
+            (stripe_of coded.entry.now.area cut number)))) }
+    { told_stripe::<G, S>(alloc, gate, coded, cut, number, &decoded) };
+    let made = thread::map_indices(workers.rt, alloc, cut.count, &made_of)?;
     drop(decoded);
     match collected(alloc, made) {
         Ok(made) => Ok(made),
         Err(Fault::Memory(refused)) => Err(Fault::Memory(refused)),
-        Err(_) => made_alone::<S>(alloc, headers, bytes, packets, reduce, area),
+        Err(_) => made_alone::<S>(alloc, coded),
     }
 }
 
@@ -224,113 +175,85 @@ fn made_of_stripes<R: Threads + Sync, G: Gate + Sync, S: StripeWork + Sync>(
 /// its stripes is made side by side. Where a code-block has a fault, the image is decoded again by
 /// this thread alone, whose first fault is answered.
 fn made_with<R: Threads + Sync, G: Gate + Sync, S: StripeWork + Sync>(
-    rt: &R,
+    workers: &Workers<'_, R>,
     alloc: Global,
-    workers: usize,
     gate: &G,
-    headers: &Codestream,
-    bytes: &[u8],
-    packets: &[TilePackets],
-    reduce: u8,
-    area: &Rect,
+    coded: &CodedImage<'_>,
 ) -> Result<Vec<S::Made>, Fault>
-    requires some { 1 ≤ workers }
-    requires few_workers { workers ≤ 64 }
-    requires sound { AreHeaders (length bytes.now) headers.now }
-    requires packets { AreRead bytes.now headers.now (tile_count headers.now.siz) packets.now }
-    requires levels { HaveLevels headers.now reduce }
-    requires area { area.now ≡ frame_of headers.now reduce }
-    requires is_area { IsArea area.now }
-    requires frame { IsFrame area.now.x0 area.now.y0 (area.now.x1 - area.now.x0) (area.now.y1 - area.now.y0) }
-    requires few { reduce ≤ 10 }
-    ensures exact { Answers (λ _. tt) result (tiles_tested bytes.now headers.now reduce (tile_count headers.now.siz)) }
-    ensures made { IfOk result (λ v. AreMade S.gives
-        (picture_with headers.now.siz area.now (planes_of_tiles bytes.now headers.now reduce area.now))
-        area.now.y0 v.items) }
+    ensures exact { Answers (λ _. tt) result
+        (tiles_tested coded.now.bytes coded.now.headers coded.now.reduce (tile_count coded.now.headers.siz)) }
+    ensures made { IfOk result (λ v. AreMade S.gives (picture_with coded.now.headers.siz coded.now.area
+        (planes_of_tiles coded.now.bytes coded.now.headers coded.now.reduce coded.now.area))
+        coded.now.area.y0 v.items) }
 {
     let decoded = decode_blocks_with::<R, Open>(
-        rt, alloc, workers, &Open, headers, bytes, packets, reduce,
+        workers,
+        alloc,
+        &Open,
+        coded.headers,
+        coded.bytes,
+        coded.packets,
+        coded.reduce,
     );
     match decoded {
-        Ok(decoded) => made_of_stripes::<R, G, S>(
-            rt, alloc, workers, gate, headers, bytes, packets, reduce, area, decoded,
-        ),
+        Ok(decoded) => made_of_stripes::<R, G, S>(workers, alloc, gate, coded, decoded),
         Err(Fault::Memory(refused)) => Err(Fault::Memory(refused)),
-        Err(_) => made_alone::<S>(alloc, headers, bytes, packets, reduce, area),
+        Err(_) => made_alone::<S>(alloc, coded),
     }
 }
 
 /// What is made of the image of a codestream with these headers at a reduction.
 fn made_of_picture<R: Threads + Sync, G: Gate + Sync, S: StripeWork + Sync>(
-    rt: &R,
+    workers: &Workers<'_, R>,
     alloc: Global,
-    workers: usize,
     gate: &G,
     headers: &Codestream,
     bytes: &[u8],
     reduce: u32,
 ) -> Result<MadeStripes<S::Made>, Fault>
-    requires some { 1 ≤ workers }
-    requires few { workers ≤ 64 }
-    requires sound { AreHeaders (length bytes.now) headers.now }
+    requires { AreHeaders (length bytes.now) headers.now }
     ensures { Makes S.gives result (picture_at headers.now bytes.now reduce) }
 {
     let frame = headers_frame(headers, reduce)?;
     let area = check_reduction(headers, reduce)?;
     let packets = all_packets(alloc, headers, bytes)?;
-    let made = made_with::<R, G, S>(
-        rt,
-        alloc,
-        workers,
-        gate,
+    let coded = CodedImage {
         headers,
         bytes,
-        &packets,
-        reduce as u8,
-        &area,
-    )?;
+        packets: &packets,
+        reduce: reduce as u8,
+        area,
+    };
+    let made = made_with::<R, G, S>(workers, alloc, gate, &coded)?;
     Ok(MadeStripes { frame, made })
 }
 
 /// What is made of the image that a codestream means.
 fn made_of_codestream<R: Threads + Sync, G: Gate + Sync, S: StripeWork + Sync>(
-    rt: &R,
+    workers: &Workers<'_, R>,
     alloc: Global,
-    workers: usize,
     gate: &G,
     bytes: &[u8],
     reduce: u32,
 ) -> Result<MadeStripes<S::Made>, Fault>
-    requires some { 1 ≤ workers }
-    requires few { workers ≤ 64 }
     ensures { Makes S.gives result (image_at bytes.now reduce) }
 {
     let headers = read_codestream(alloc, bytes)?;
-    made_of_picture::<R, G, S>(rt, alloc, workers, gate, &headers, bytes, reduce)
+    made_of_picture::<R, G, S>(workers, alloc, gate, &headers, bytes, reduce)
 }
 
 /// What is made of the image that a file means.
 fn made_of_file<R: Threads + Sync, G: Gate + Sync, S: StripeWork + Sync>(
-    rt: &R,
+    workers: &Workers<'_, R>,
     alloc: Global,
-    workers: usize,
     gate: &G,
     bytes: &[u8],
     reduce: u32,
 ) -> Result<MadeStripes<S::Made>, Fault>
-    requires some { 1 ≤ workers }
-    requires few { workers ≤ 64 }
     ensures { Makes S.gives result (meaning_at bytes.now reduce) }
 {
     let boxed = open(bytes)?;
-    made_of_codestream::<R, G, S>(
-        rt,
-        alloc,
-        workers,
-        gate,
-        &bytes[boxed.start..boxed.end],
-        reduce,
-    )
+    made_of_codestream::<R, G, S>(workers, alloc, gate, &bytes[boxed.start..boxed.end], reduce)
 }
 
 /// What is made of the image that a file means at a reduction, in stripes of rows: of each stripe by
@@ -362,5 +285,6 @@ pub fn make_with<R: Threads + Sync, G: Gate + Sync, S: StripeWork + Sync>(
     if workers < 1 || 64 < workers {
         return Err(Fault::BadParameters);
     }
-    made_of_file::<R, G, S>(rt, alloc, workers, gate, bytes, reduce)
+    let workers = Workers { rt, count: workers };
+    made_of_file::<R, G, S>(&workers, alloc, gate, bytes, reduce)
 }

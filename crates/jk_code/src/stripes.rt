@@ -15,17 +15,17 @@ ghost use Rattle.jk_tile.specs.Filling.{IsPartOf};
 ghost use Rattle.jk_tile.specs.decoding.Decoded.{AreDecoded};
 ghost use Rattle.jk_window.specs.Views.{HaveLevels, frame_of};
 ghost use Rattle.jk_code.specs.MeaningReading.{planes_of_tiles};
+ghost use Rattle.jk_code.specs.Sources.{IsImageSource};
 ghost use Rattle.jk_code.specs.Stripes.{bound_of, stripe_of};
 ghost use Rattle.jk_code.specs.Tiles.{AreRead, plane_in};
 ghost use Rattle.jk_code.specs.ViewReading.{seen_parts_tested};
 
+use crate::coded::CodedImage;
 use crate::decoding::blank_planes;
 use crate::viewing::{show_tile, shown};
 use jk_geom::{is_empty, touches};
 use jk_math::{Fault, Rect};
-use jk_params::Codestream;
-use jk_tile::{DecodedBlocks, decode_part_of};
-use jk_walk::TilePackets;
+use jk_tile::{CodedTile, DecodedBlocks, decode_part_of};
 use std::alloc::Global;
 
 /// How a rectangle is cut into stripes of rows: how many rows the first one has and each further
@@ -94,26 +94,26 @@ fn cut_at(area: &Rect, count: usize, unit: u32, phase: u32) -> Cut
 /// How the rows of the reduced image are cut for so many workers: between tiles, where their rows
 /// can be dealt out in equal parts; otherwise through the middle of code-blocks, so that those at
 /// a cut are the fewest. Each stripe has a row.
-pub(crate) fn cut_for(headers: &Codestream, reduce: u8, area: &Rect, workers: usize) -> Cut
-    requires sound { (size : ℕ) × AreHeaders size headers.now }
-    requires reduce { reduce ≤ 10 }
-    requires area { IsArea area.now }
-    requires high { area.now.y0 < area.now.y1 }
+pub(crate) fn cut_for(coded: &CodedImage<'_>, workers: usize) -> Cut
     requires some { 1 ≤ workers }
     requires few { workers ≤ 64 }
+    ensures source { IsImageSource coded.now }
     ensures some { 1 ≤ result.count }
     ensures few { result.count ≤ workers }
-    ensures rows { (n : ℕ) → n < result.count → bound_of area.now result n < bound_of area.now result (suc n) }
+    ensures rows { (n : ℕ) → n < result.count
+        → bound_of coded.now.area result n < bound_of coded.now.area result (suc n) }
 {
+    let area = coded.area;
+    let reduce = coded.reduce;
     let height = area.y1 - area.y0;
     let count = workers.min(height as usize);
-    let siz = headers.siz();
+    let siz = coded.headers.siz();
     let tile = (siz.tile_height >> reduce).min(area.y1).max(1);
     let rows = (height - 1) / tile + 1;
     if rows as usize % count == 0 {
-        return cut_at(area, count, tile, (siz.tile_y0 >> reduce) % tile);
+        return cut_at(&area, count, tile, (siz.tile_y0 >> reduce) % tile);
     }
-    cut_at(area, count, 128, 64)
+    cut_at(&area, count, 128, 64)
 }
 
 /// The row at which stripe `number` begins, and the end of the last one behind that.
@@ -150,72 +150,62 @@ pub(crate) fn stripe(area: &Rect, cut: Cut, number: usize) -> Rect
 /// tile, and isn't put anywhere.
 fn stripe_of_one(
     alloc: Global,
-    headers: &Codestream,
-    bytes: &[u8],
-    packets: &[TilePackets],
-    reduce: u8,
+    coded: &CodedImage<'_>,
     stripe: &Rect,
     decoded: &DecodedBlocks,
 ) -> Result<Vec<Vec<i32>>, Fault>
-    requires sound { AreHeaders (length bytes.now) headers.now }
-    requires one { tile_count headers.now.siz ≡ 1 }
-    requires packets { AreRead bytes.now headers.now (tile_count headers.now.siz) packets.now }
-    requires decoded { AreDecoded bytes.now decoded.now }
-    requires levels { HaveLevels headers.now reduce }
-    requires few { reduce ≤ 10 }
+    requires one { tile_count coded.now.headers.siz ≡ 1 }
+    requires decoded { AreDecoded coded.now.bytes decoded.now }
     requires some { is_empty stripe.now ≡ false }
-    requires inside { IsPartOf stripe.now (frame_of headers.now reduce) }
+    requires inside { IsPartOf stripe.now coded.now.area }
     ensures exact { Answers (λ _. tt) result
-        (seen_parts_tested bytes.now headers.now reduce stripe.now (tile_count headers.now.siz)) }
-    ensures planes { IfOk result (λ v. lists_of v.items ≡ planes_of_tiles bytes.now headers.now reduce stripe.now) }
+        (seen_parts_tested coded.now.bytes coded.now.headers coded.now.reduce stripe.now
+        (tile_count coded.now.headers.siz)) }
+    ensures planes { IfOk result (λ v. lists_of v.items
+        ≡ planes_of_tiles coded.now.bytes coded.now.headers coded.now.reduce stripe.now) }
 {
-    decode_part_of(
-        alloc,
-        headers,
-        bytes,
-        0,
-        &packets[0],
-        reduce,
-        stripe,
-        decoded,
-    )
+    let packets = coded.packets;
+    let only = CodedTile {
+        headers: coded.headers,
+        bytes: coded.bytes,
+        number: 0,
+        packets: &packets[0],
+        reduce: coded.reduce,
+    };
+    decode_part_of(alloc, &only, stripe, decoded)
 }
 
 /// The planes of a stripe, tile by tile.
 fn stripe_of_tiles(
     alloc: Global,
-    headers: &Codestream,
-    bytes: &[u8],
-    packets: &[TilePackets],
-    reduce: u8,
+    coded: &CodedImage<'_>,
     stripe: &Rect,
     decoded: &DecodedBlocks,
 ) -> Result<Vec<Vec<i32>>, Fault>
-    requires sound { AreHeaders (length bytes.now) headers.now }
-    requires packets { AreRead bytes.now headers.now (tile_count headers.now.siz) packets.now }
-    requires decoded { AreDecoded bytes.now decoded.now }
-    requires levels { HaveLevels headers.now reduce }
-    requires few { reduce ≤ 10 }
+    requires decoded { AreDecoded coded.now.bytes decoded.now }
     requires stripe { IsArea stripe.now }
-    requires inside { IsPartOf stripe.now (frame_of headers.now reduce) }
+    requires inside { IsPartOf stripe.now coded.now.area }
     ensures exact { Answers (λ _. tt) result
-        (seen_parts_tested bytes.now headers.now reduce stripe.now (tile_count headers.now.siz)) }
-    ensures planes { IfOk result (λ v. lists_of v.items ≡ planes_of_tiles bytes.now headers.now reduce stripe.now) }
+        (seen_parts_tested coded.now.bytes coded.now.headers coded.now.reduce stripe.now
+        (tile_count coded.now.headers.siz)) }
+    ensures planes { IfOk result (λ v. lists_of v.items
+        ≡ planes_of_tiles coded.now.bytes coded.now.headers coded.now.reduce stripe.now) }
 {
+    let headers = coded.headers;
+    let bytes = coded.bytes;
+    let packets = coded.packets;
+    let reduce = coded.reduce;
     let mut planes = blank_planes(alloc, headers.siz().components, stripe)?;
     for number in 0..headers.tile_count() {
         if touches(stripe, &shown(headers, number, reduce)) {
-            show_tile(
-                alloc,
+            let next = CodedTile {
                 headers,
                 bytes,
-                &packets[number],
                 number,
+                packets: &packets[number],
                 reduce,
-                stripe,
-                decoded,
-                &mut planes,
-            )?;
+            };
+            show_tile(alloc, &next, stripe, decoded, &mut planes)?;
         }
     }
     Ok(planes)
@@ -224,27 +214,22 @@ fn stripe_of_tiles(
 /// The planes of a stripe.
 pub(crate) fn stripe_planes(
     alloc: Global,
-    headers: &Codestream,
-    bytes: &[u8],
-    packets: &[TilePackets],
-    reduce: u8,
+    coded: &CodedImage<'_>,
     stripe: &Rect,
     decoded: &DecodedBlocks,
 ) -> Result<Vec<Vec<i32>>, Fault>
-    requires sound { AreHeaders (length bytes.now) headers.now }
-    requires packets { AreRead bytes.now headers.now (tile_count headers.now.siz) packets.now }
-    requires decoded { AreDecoded bytes.now decoded.now }
-    requires levels { HaveLevels headers.now reduce }
-    requires few { reduce ≤ 10 }
+    requires decoded { AreDecoded coded.now.bytes decoded.now }
     requires stripe { IsArea stripe.now }
-    requires inside { IsPartOf stripe.now (frame_of headers.now reduce) }
+    requires inside { IsPartOf stripe.now coded.now.area }
     ensures exact { Answers (λ _. tt) result
-        (seen_parts_tested bytes.now headers.now reduce stripe.now (tile_count headers.now.siz)) }
-    ensures planes { IfOk result (λ v. lists_of v.items ≡ planes_of_tiles bytes.now headers.now reduce stripe.now) }
+        (seen_parts_tested coded.now.bytes coded.now.headers coded.now.reduce stripe.now
+        (tile_count coded.now.headers.siz)) }
+    ensures planes { IfOk result (λ v. lists_of v.items
+        ≡ planes_of_tiles coded.now.bytes coded.now.headers coded.now.reduce stripe.now) }
 {
-    if headers.tile_count() == 1 && !is_empty(stripe) {
-        stripe_of_one(alloc, headers, bytes, packets, reduce, stripe, decoded)
+    if coded.headers.tile_count() == 1 && !is_empty(stripe) {
+        stripe_of_one(alloc, coded, stripe, decoded)
     } else {
-        stripe_of_tiles(alloc, headers, bytes, packets, reduce, stripe, decoded)
+        stripe_of_tiles(alloc, coded, stripe, decoded)
     }
 }

@@ -28,7 +28,7 @@ use jk_boxes::open;
 use jk_geom::{meet, reduced, tile, touches};
 use jk_math::{Fault, Image, Rect};
 use jk_params::{Codestream, read_codestream};
-use jk_tile::{DecodedBlocks, decode_part_of};
+use jk_tile::{CodedTile, DecodedBlocks, decode_part_of};
 use jk_walk::{TilePackets, read_packets};
 use jk_window::{Index, View, window_area};
 use std::alloc::Global;
@@ -75,39 +75,29 @@ fn seen_packets(
 /// Puts what a window has of a tile into its planes. It has a sample of the tile.
 pub(crate) fn show_tile(
     alloc: Global,
-    headers: &Codestream,
-    bytes: &[u8],
-    packets: &TilePackets,
-    number: usize,
-    reduce: u8,
+    tile: &CodedTile<'_>,
     window: &Rect,
     decoded: &DecodedBlocks,
     planes: &mut Vec<Vec<i32>>,
 ) -> Result<(), Fault>
-    requires sound { AreHeaders (length bytes.now) headers.now }
-    requires number { number < tile_count headers.now.siz }
-    requires decoded { AreDecoded bytes.now decoded.now }
-    requires packets { packets_at bytes.now headers.now number ≡ Ok packets.now }
-    requires levels { HaveLevels headers.now reduce }
-    requires few { reduce ≤ 10 }
+    requires decoded { AreDecoded tile.now.bytes decoded.now }
+    requires packets { packets_at tile.now.bytes tile.now.headers tile.now.number ≡ Ok tile.now.packets }
+    requires few { tile.now.reduce ≤ 10 }
     requires window { IsArea window.now }
-    requires seen { is_seen headers.now reduce window.now number ≡ true }
-    requires planes { ArePlanes headers.now window.now planes.old.items }
-    ensures exact { Answers (λ _. tt) result (tested (part_planes_at bytes.now headers.now number reduce
-        (seen_part headers.now reduce window.now number) packets.now)) }
-    ensures planes { OnOk result (ArePlanes headers.now window.now planes.new.items) }
-    ensures keeps { OnOk result
-        (KeepsSamples bytes.now headers.now reduce window.now planes.old.items planes.new.items) }
-    ensures shows { OnOk result
-        (ShowsTileAt bytes.now headers.now reduce window.now number headers.now.siz.components planes.new.items) }
+    requires seen { is_seen tile.now.headers tile.now.reduce window.now tile.now.number ≡ true }
+    requires planes { ArePlanes tile.now.headers window.now planes.old.items }
+    ensures exact { Answers (λ _. tt) result
+        (tested (part_planes_at tile.now.bytes tile.now.headers tile.now.number tile.now.reduce
+        (seen_part tile.now.headers tile.now.reduce window.now tile.now.number) tile.now.packets)) }
+    ensures planes { OnOk result (ArePlanes tile.now.headers window.now planes.new.items) }
+    ensures keeps { OnOk result (KeepsSamples tile.now.bytes tile.now.headers tile.now.reduce window.now
+        planes.old.items planes.new.items) }
+    ensures shows { OnOk result (ShowsTileAt tile.now.bytes tile.now.headers tile.now.reduce window.now
+        tile.now.number tile.now.headers.siz.components planes.new.items) }
 {
-    let part = meet(window, &shown(headers, number, reduce));
-    let values = decode_part_of(
-        alloc, headers, bytes, number, packets, reduce, &part, decoded,
-    )?;
-    put_tile(
-        headers, bytes, packets, number, reduce, window, &part, &values, planes,
-    );
+    let part = meet(window, &shown(tile.headers, tile.number, tile.reduce));
+    let values = decode_part_of(alloc, tile, &part, decoded)?;
+    put_tile(tile, window, &part, &values, planes);
     Ok(())
 }
 
@@ -134,17 +124,14 @@ fn window_planes(
     let mut planes = blank_planes(alloc, headers.siz().components, window)?;
     for number in 0..headers.tile_count() {
         if let Some(packets) = &all[number] {
-            show_tile(
-                alloc,
+            let next = CodedTile {
                 headers,
                 bytes,
-                packets,
                 number,
+                packets,
                 reduce,
-                window,
-                &none,
-                &mut planes,
-            )?;
+            };
+            show_tile(alloc, &next, window, &none, &mut planes)?;
         }
     }
     Ok(planes)

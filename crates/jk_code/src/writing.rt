@@ -19,10 +19,10 @@ ghost use Rattle.jk_code.specs.Sending.{IsTooLong, IsTooLongAhead, IsSent, IsPar
 use crate::encoding::main_header;
 use jk_boxes::box_front;
 use jk_geom::tile_count;
-use jk_marks::{Exponents, write_main, write_part_head};
+use jk_marks::{write_main, write_part_head};
 use jk_math::{Fault, Image, Planes, write_out};
 use jk_params::{Container, Parameters, siz_of};
-use jk_tile::{Sequential, encode_tile, exponents, tile_bands};
+use jk_tile::{Sequential, WrittenImage, encode_tile, exponents, tile_bands};
 use std::alloc::Global;
 use std::io::Write;
 
@@ -44,52 +44,32 @@ fn part_head(alloc: Global, tile: u16, content: &[u8]) -> Result<Vec<u8>, Fault>
 }
 
 /// The data of the only part of a tile.
-fn tile_content(
-    alloc: Global,
-    image: &Image,
-    parameters: &Parameters,
-    exponents: &Exponents,
-    number: u32,
-) -> Result<Vec<u8>, Fault>
-    requires written { IsWrittenBy parameters.now image.now }
-    requires exponents { exponents.now ≡ exponents_for image.now parameters.now }
-    requires number { number < tile_count (siz_of image.now parameters.now) }
-    ensures value { IfOk result (λ v. v.items ≡ tile_text image.now parameters.now number) }
+fn tile_content(alloc: Global, source: &WrittenImage<'_>, number: u32) -> Result<Vec<u8>, Fault>
+    requires number { number < tile_count (siz_of source.now.image.now source.now.parameters.now) }
+    ensures value { IfOk result (λ v. v.items ≡ tile_text source.now.image.now source.now.parameters.now number) }
     ensures memory { IfErr result IsMemory }
 {
-    let bands = tile_bands(&Sequential, alloc, image, parameters, number)?;
-    encode_tile(
-        &Sequential,
-        alloc,
-        image,
-        parameters,
-        exponents,
-        number,
-        bands,
-    )
+    let bands = tile_bands(&Sequential, alloc, source.image, source.parameters, number)?;
+    encode_tile(&Sequential, alloc, source, number, bands)
 }
 
 /// How long the tile-parts behind the first are, all together.
 ///
 /// Limit: one would be longer than 2^32 - 1 bytes.
-fn rest_size(
-    alloc: Global,
-    image: &Image,
-    parameters: &Parameters,
-    exponents: &Exponents,
-) -> Result<u64, Fault>
-    requires written { IsWrittenBy parameters.now image.now }
-    requires exponents { exponents.now ≡ exponents_for image.now parameters.now }
-    ensures size { IfOk result (λ size. length (parts_upto image.now parameters.now 1) + size
-        ≡ length (parts_upto image.now parameters.now (tile_count (siz_of image.now parameters.now)))) }
+fn rest_size(alloc: Global, source: &WrittenImage<'_>) -> Result<u64, Fault>
+    ensures size { IfOk result (λ size. length (parts_upto source.now.image.now source.now.parameters.now 1) + size
+        ≡ length (parts_upto source.now.image.now source.now.parameters.now
+        (tile_count (siz_of source.now.image.now source.now.parameters.now)))) }
     ensures small { IfOk result (λ size. size < 2 ^ 48) }
     ensures fits { IfOk result
-        (λ _. part_fits image.now parameters.now 0 ≡ true → parts_fit image.now parameters.now ≡ true) }
-    ensures err { IfErr result (λ e. IsMemory e ⊎ ((e ≡ Limit) × IsTooLong image.now parameters.now)) }
+        (λ _. part_fits source.now.image.now source.now.parameters.now 0 ≡ true
+        → parts_fit source.now.image.now source.now.parameters.now ≡ true) }
+    ensures err { IfErr result
+        (λ e. IsMemory e ⊎ ((e ≡ Limit) × IsTooLong source.now.image.now source.now.parameters.now)) }
 {
     let mut size = 0;
-    for number in 1..tile_count(&siz_of(image, parameters)) {
-        let content = tile_content(alloc, image, parameters, exponents, number)?;
+    for number in 1..tile_count(&siz_of(source.image, source.parameters)) {
+        let content = tile_content(alloc, source, number)?;
         let head = part_head(alloc, number as u16, &content)?;
         size += (head.len() + content.len()) as u64;
     }
@@ -97,27 +77,24 @@ fn rest_size(
 }
 
 /// How long the tile-parts behind the first are where that is told before them: in a JP2 file.
-fn size_ahead(
-    alloc: Global,
-    image: &Image,
-    parameters: &Parameters,
-    exponents: &Exponents,
-) -> Result<u64, Fault>
-    requires written { IsWrittenBy parameters.now image.now }
-    requires exponents { exponents.now ≡ exponents_for image.now parameters.now }
+fn size_ahead(alloc: Global, source: &WrittenImage<'_>) -> Result<u64, Fault>
     ensures size { IfOk result
-        (λ size. parameters.now.container ≡ Container.Jp2 → length (parts_upto image.now parameters.now 1) + size
-        ≡ length (parts_upto image.now parameters.now (tile_count (siz_of image.now parameters.now)))) }
+        (λ size. source.now.parameters.now.container ≡ Container.Jp2
+        → length (parts_upto source.now.image.now source.now.parameters.now 1) + size
+        ≡ length (parts_upto source.now.image.now source.now.parameters.now
+        (tile_count (siz_of source.now.image.now source.now.parameters.now)))) }
     ensures small { IfOk result (λ size. size < 2 ^ 48) }
     ensures fits { IfOk result
-        (λ _. parameters.now.container ≡ Container.Jp2 → part_fits image.now parameters.now 0 ≡ true
-        → parts_fit image.now parameters.now ≡ true) }
+        (λ _. source.now.parameters.now.container ≡ Container.Jp2
+        → part_fits source.now.image.now source.now.parameters.now 0 ≡ true
+        → parts_fit source.now.image.now source.now.parameters.now ≡ true) }
     ensures err { IfErr result (λ e. IsMemory e
-        ⊎ ((e ≡ Limit) × (parameters.now.container ≡ Container.Jp2) × IsTooLong image.now parameters.now)) }
+        ⊎ ((e ≡ Limit) × (source.now.parameters.now.container ≡ Container.Jp2)
+        × IsTooLong source.now.image.now source.now.parameters.now)) }
 {
-    match parameters.container {
+    match source.parameters.container {
         Container::Raw => Ok(0),
-        Container::Jp2 => rest_size(alloc, image, parameters, exponents),
+        Container::Jp2 => rest_size(alloc, source),
     }
 }
 
@@ -146,32 +123,27 @@ struct Start {
 /// The file up to the end of its first tile-part, whose tile has these sub-bands.
 ///
 /// Limit: that tile-part would be longer than 2^32 - 1 bytes; in a JP2 file also any other.
-fn first_part(
-    alloc: Global,
-    image: &Image,
-    parameters: &Parameters,
-    exponents: &Exponents,
-    first: Vec<Planes>,
-) -> Result<Start, Fault>
-    requires written { IsWrittenBy parameters.now image.now }
-    requires exponents { exponents.now ≡ exponents_for image.now parameters.now }
-    requires first { first.items ≡ written_bands image.now parameters.now 0 }
-    ensures text { IfOk result (λ s. s.before.items ++ s.content.items ≡ text_upto image.now parameters.now 1) }
-    ensures fits { IfOk result (λ _. part_fits image.now parameters.now 0 ≡ true) }
+fn first_part(alloc: Global, source: &WrittenImage<'_>, first: Vec<Planes>) -> Result<Start, Fault>
+    requires first { first.items ≡ written_bands source.now.image.now source.now.parameters.now 0 }
+    ensures text { IfOk result (λ s. s.before.items ++ s.content.items
+        ≡ text_upto source.now.image.now source.now.parameters.now 1) }
+    ensures fits { IfOk result (λ _. part_fits source.now.image.now source.now.parameters.now 0 ≡ true) }
     ensures all { IfOk result
-        (λ _. parameters.now.container ≡ Container.Jp2 → parts_fit image.now parameters.now ≡ true) }
-    ensures means { IfOk result (λ _. (file : List ℕ) → written image.now parameters.now ≡ Ok file
-        → Means file 0 image.now × HasFronts image.now parameters.now file) }
-    ensures err { IfErr result (λ e. IsMemory e ⊎ ((e ≡ Limit) × IsTooLongAhead image.now parameters.now)) }
+        (λ _. source.now.parameters.now.container ≡ Container.Jp2
+        → parts_fit source.now.image.now source.now.parameters.now ≡ true) }
+    ensures means { IfOk result (λ _. (file : List ℕ) → written source.now.image.now source.now.parameters.now ≡ Ok file
+        → Means file 0 source.now.image.now × HasFronts source.now.image.now source.now.parameters.now file) }
+    ensures err { IfErr result
+        (λ e. IsMemory e ⊎ ((e ≡ Limit) × IsTooLongAhead source.now.image.now source.now.parameters.now)) }
 {
-    let rest = size_ahead(alloc, image, parameters, exponents)?;
-    let content = encode_tile(&Sequential, alloc, image, parameters, exponents, 0, first)?;
+    let rest = size_ahead(alloc, source)?;
+    let content = encode_tile(&Sequential, alloc, source, 0, first)?;
     let head = part_head(alloc, 0, &content)?;
     let mut main = Vec::new(alloc);
-    write_main(&main_header(image, parameters, exponents), &mut main)?;
+    write_main(&main_header(source), &mut main)?;
     let part = (head.len() + content.len()) as u64;
     let size = main.len() as u64 + part + rest + EOC.len() as u64;
-    let mut before = front(alloc, image, parameters, size)?;
+    let mut before = front(alloc, source.image, source.parameters, size)?;
     before.extend_from_slice(&main)?;
     before.extend_from_slice(&head)?;
     Ok(Start { before, content })
@@ -215,38 +187,26 @@ fn put_part<W: Write>(alloc: Global, writer: &mut W, tile: u16, content: &[u8]) 
 fn put_tile<W: Write>(
     alloc: Global,
     writer: &mut W,
-    image: &Image,
-    parameters: &Parameters,
-    exponents: &Exponents,
+    source: &WrittenImage<'_>,
     number: u32,
 ) -> Result<(), Fault>
-    requires written { IsWrittenBy parameters.now image.now }
-    requires exponents { exponents.now ≡ exponents_for image.now parameters.now }
-    requires number { number < tile_count (siz_of image.now parameters.now) }
+    requires number { number < tile_count (siz_of source.now.image.now source.now.parameters.now) }
     ensures { (part : List ℕ) × Appends (W.contents writer.old) (W.contents writer.new) part
-        × IsPartSent (part_text (part_for image.now parameters.now number))
-        (part_fits image.now parameters.now number) part result }
+        × IsPartSent (part_text (part_for source.now.image.now source.now.parameters.now number))
+        (part_fits source.now.image.now source.now.parameters.now number) part result }
 {
-    let content = tile_content(alloc, image, parameters, exponents, number)?;
+    let content = tile_content(alloc, source, number)?;
     put_part(alloc, writer, number as u16, &content)
 }
 
 /// Codes the tiles behind the first one after another, and writes their tile-parts.
-fn put_rest<W: Write>(
-    alloc: Global,
-    writer: &mut W,
-    image: &Image,
-    parameters: &Parameters,
-    exponents: &Exponents,
-) -> Result<(), Fault>
-    requires written { IsWrittenBy parameters.now image.now }
-    requires exponents { exponents.now ≡ exponents_for image.now parameters.now }
-    requires first { part_fits image.now parameters.now 0 ≡ true }
+fn put_rest<W: Write>(alloc: Global, writer: &mut W, source: &WrittenImage<'_>) -> Result<(), Fault>
+    requires first { part_fits source.now.image.now source.now.parameters.now 0 ≡ true }
     ensures { (text : List ℕ) × Appends (W.contents writer.old) (W.contents writer.new) text
-        × IsRestSent image.now parameters.now text result }
+        × IsRestSent source.now.image.now source.now.parameters.now text result }
 {
-    for number in 1..tile_count(&siz_of(image, parameters)) {
-        put_tile(alloc, writer, image, parameters, exponents, number)?;
+    for number in 1..tile_count(&siz_of(source.image, source.parameters)) {
+        put_tile(alloc, writer, source, number)?;
     }
     Ok(())
 }
@@ -266,9 +226,14 @@ fn put_file<W: Write>(
         × Left image.now parameters.now text result }
 {
     let (exponents, first) = exponents(&Sequential, alloc, image, parameters)?;
-    let start = first_part(alloc, image, parameters, &exponents, first)?;
+    let source = WrittenImage {
+        image,
+        parameters,
+        exponents: &exponents,
+    };
+    let start = first_part(alloc, &source, first)?;
     put_start(writer, start)?;
-    put_rest(alloc, writer, image, parameters, &exponents)?;
+    put_rest(alloc, writer, &source)?;
     send(writer, &EOC)
 }
 

@@ -23,7 +23,8 @@ use Rattle.jk_boxes.proofs.Laws.{place_again}
 use Rattle.jk_geom.specs.TileShapes.{coding_of, no_coding}
 use Rattle.jk_geom.proofs.Laws.{some_tile}
 use Rattle.jk_params.specs.Headers.{Headers, TileFields, tile_in, IsHeaders, AreHeaders}
-use Rattle.jk_window.specs.Indexing.{IndexFields, IsIndexOf, least_levels, index_at}
+use Rattle.jk_window.specs.Indexing.{IndexFields, IsIndexOf, index_at}
+use Rattle.jk_params.specs.Levels.{least_levels}
 use Rattle.jk_window.proofs.Laws.{index_only}
 use Rattle.jk_commands.specs.BoxList.{listed}
 use Rattle.jk_commands.specs.HeaderMarkers.{all_segments, is_passed_over, parts_in, markers_in, is_read}

@@ -22,7 +22,8 @@ use Rattle.jk_geom.specs.TileShapes.{coding_of}
 use Rattle.jk_boxes.specs.declared.place.Boxed.{Boxed}
 use Rattle.jk_params.specs.Headers.{Headers, tile_in}
 use Rattle.jk_window.specs.Views.{frame_of, holds_below}
-use Rattle.jk_window.specs.Indexing.{IndexFields, IsIndexOf, least_levels, index_at}
+use Rattle.jk_window.specs.Indexing.{IndexFields, IsIndexOf, index_at}
+use Rattle.jk_params.specs.Levels.{least_levels}
 use Rattle.jk_commands.specs.declared.coding_values.Flag.{Flag}
 use Rattle.jk_commands.specs.declared.coding_values.Flag.TheVariants.{Sop, Eph, Colour}
 use Rattle.jk_commands.specs.BoxList.{listed, boxes_from}

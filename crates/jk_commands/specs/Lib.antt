@@ -1,6 +1,7 @@
 pub use Rattle.jk_math.specs.Answer
 pub use Rattle.jk_math.specs.Picture
 pub mod Commands
+pub mod Dressing
 pub mod Rasters
 pub mod Written
 pub mod Lines

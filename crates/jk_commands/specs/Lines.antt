@@ -6,7 +6,8 @@ use Rattle.jk_math.specs.declared.fault.Fault.{Fault}
 use Rattle.jk_marks.specs.Siz.{tile_count}
 use Rattle.jk_params.specs.Headers.{packets_of}
 use Rattle.jk_options.specs.Orders.{order_text}
-use Rattle.jk_window.specs.Indexing.{IndexFields, least_levels, index_at}
+use Rattle.jk_window.specs.Indexing.{IndexFields, index_at}
+use Rattle.jk_params.specs.Levels.{least_levels}
 
 -- a number and a space
 abbrev pub spaced : ℕ → List ℕ

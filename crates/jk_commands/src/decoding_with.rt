@@ -15,7 +15,7 @@ ghost use Rattle.jk_commands.specs.Commands.{decoded};
 ghost use Rattle.jk_commands.specs.Rasters.{IsRasterOf};
 
 use jk_code::{MadeStripes, StripeWork, make_with};
-use jk_farm::Gate;
+use jk_jobs::Gate;
 use jk_math::{Fault, Image};
 use jk_pnm::{RasterFrame, raster, write_rasters_into};
 use std::alloc::Global;

@@ -13,7 +13,7 @@ ghost use Rattle.jk_commands.specs.Commands.{encoded};
 ghost use Rattle.jk_commands.specs.Written.{LeftOf};
 
 use jk_code::{encode, encode_into, encode_with};
-use jk_farm::Gate;
+use jk_jobs::Gate;
 use jk_math::{Fault, Image};
 use jk_options::Plan;
 use std::alloc::Global;

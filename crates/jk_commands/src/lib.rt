@@ -7,7 +7,9 @@ mod comparing;
 mod cutting;
 mod decoding;
 mod decoding_with;
+mod dressing;
 mod encoding;
+mod layers;
 mod markers;
 mod sums;
 mod telling;
@@ -20,8 +22,12 @@ pub use comparing::{Change, Difference, differences, differences_text};
 pub use cutting::cut_file;
 pub use decoding::{check_workers, decode_file, decode_file_into};
 pub use decoding_with::decode_file_into_with;
+pub use dressing::{
+    components_of, dress_file, encode_file_dressed, encode_file_dressed_with, encode_image_dressed,
+};
 pub use encoding::{encode_file, encode_file_into, encode_file_with, read_image};
 pub use jk_options::{EncodeOptions, Placed, Plan, judge, order_name, order_named};
+pub use layers::first_layers;
 pub use sums::{BadList, Sum, read_sums, sums_text};
 pub use telling::info_file;
 pub use telling_all::info_all_file;

@@ -2,46 +2,12 @@
 
 ghost use Rattle.std.specs.Prelude.{◌≡◌, ◌≤◌, ◌<◌, ◌++◌, length, drop, OnOk, IfOk};
 ghost use Rattle.std.specs.List.{flat_map};
-ghost use Rattle.jk_marks.specs.Copying.{segment_size};
-ghost use Rattle.jk_marks.specs.Markers.{is_alone};
 ghost use Rattle.jk_commands.specs.HeaderMarkers.{markers_from, part_size, parts_from, part_markers, main_markers};
 ghost use Rattle.jk_commands.specs.HeaderMarkers.{parts_in, markers_in};
 
 use byteorder::{BigEndian, ByteOrder};
-use jk_marks::marker;
+use jk_marks::{marker, segment_size};
 use std::alloc::{AllocError, Global};
-
-/// Whether a marker stands alone, without a length (T.800 A.1.1).
-fn is_alone(marker: u16) -> bool
-    ensures { result ≡ is_alone marker }
-{
-    (0xFF30..=0xFF3F).contains(&marker)
-}
-
-/// How many bytes the marker segment at the front takes: 0 where the marker `last` stands there, or
-/// where the bytes end before the segment does.
-#[tactic(auto, unfolding(jk_marks::specs::Copying::segment_size))]
-fn segment_size(bytes: &[u8], last: u16) -> usize
-    ensures value { result ≡ segment_size last bytes.now }
-    ensures within { result ≤ length bytes.now }
-    ensures some { 0 < result → 2 ≤ result }
-{
-    if bytes.len() < 2 {
-        return 0;
-    }
-    let marker = BigEndian::read_u16(bytes);
-    if marker == last {
-        return 0;
-    }
-    if is_alone(marker) {
-        return 2;
-    }
-    if bytes.len() < 4 {
-        return 0;
-    }
-    let size = 2 + BigEndian::read_u16(&bytes[2..]) as usize;
-    if bytes.len() < size { 0 } else { size }
-}
 
 /// Appends the markers of the segments at the front, up to the marker `last`.
 fn put_markers(bytes: &[u8], last: u16, markers: &mut Vec<u16>) -> Result<(), AllocError>

@@ -10,6 +10,7 @@ use Rattle.jk_boxes.proofs.Heads.{head_of, box_again, box_length, after_box, box
 use Rattle.jk_extras.specs.declared.finding.Wanted.TheVariants.{Others}
 use Rattle.jk_extras.specs.declared.header.Met.{Met}
 use Rattle.jk_extras.specs.declared.told.Told.{Told}
+use Rattle.jk_extras.specs.declared.finding.ToldOther.{ToldOther}
 use Rattle.jk_extras.specs.Header.{met_passed, nothing_met}
 use Rattle.jk_extras.specs.Finding.{is_wanted, found_by, found_at, other_told, placed_box}
 use Rattle.jk_extras.specs.Passing.{passed_by}
@@ -22,8 +23,17 @@ use Rattle.jk_extras.proofs.Sizes.{text_size}
 use Rattle.jk_extras.proofs.Dressings.{found_again}
 use Rattle.jk_extras.proofs.HeaderTold.{at, boxes, extras_by}
 
-abbrev is_other : Box → Bool
+abbrev pub is_other : Box → Bool
 is_other b = is_wanted Others b.kind
+
+-- it was told, wherever it stands
+abbrev pub WasTold : Box → Type 0
+WasTold b = (at : ℕ) × ((t : ToldOther) × (other_told (placed_box at b) ≡ Ok t))
+
+-- All of these boxes stand behind what is known, and were told.
+record Copied (known text : List ℕ) (bs : List Box) : Type 0 where
+  text_is : text ≡ known ++ boxes_text (filter is_other bs)
+  told : AllByRecursion WasTold (filter is_other bs)
 
 bool_same : (b : Bool) → cond b true false ≡ b
 bool_same true = refl
@@ -81,8 +91,9 @@ copy_none file known zero at there = copy_nothing file known at
 copy_none file known (suc n) at there = copy_step file known n at None (found_from file at [] there ∙ no_step Others (length file) at [] refl)
 
 copied : (file : List ℕ) (bs : List Box) (n : ℕ) (known : List ℕ) (at : ℕ) (text : List ℕ) → AreBoxes bs → drop at file ≡ boxes_text bs → length file - at ≤ n
-    → others_from n known at file ≡ Ok text → text ≡ known ++ boxes_text (filter is_other bs)
-copied file [] n known at text are there enough e = sym (ok_is known text (sym (copy_none file known n at there) ∙ e)) ∙ sym (append-nil known)
+    → others_from n known at file ≡ Ok text → Copied known text bs
+copied file [] n known at text are there enough e =
+    record { text_is = sym (ok_is known text (sym (copy_none file known n at there) ∙ e)) ∙ sym (append-nil known); told = tt }
 copied file (b ∷ bs) n known at text are there enough e =
     let size = text_size b bs in
     let long = within file at (b ∷ bs) there in
@@ -98,13 +109,20 @@ copied file (b ∷ bs) n known at text are there enough e =
           let step = sym (ap (λ k. others_from k known at file) m.1 ∙ copy_step file known m.0 at (Some (placed_box at b)) found) ∙ e in
           bind_then (other_told (placed_box at b)) _ text step (λ t s f.
           let more = copied file bs m.0 (known ++ take ((at + box_size b) - at) (drop at file)) (at + box_size b) text are.2 next (omega (arith, size, box_some b, m.1, enough)) f in
-          more ∙ ap (λ (x : List ℕ). (known ++ x) ++ boxes_text (filter is_other bs)) slice ∙ append_assoc known (box_text b) (boxes_text (filter is_other bs))
-          ∙ ap (λ (x : Bool). known ++ boxes_text (cond x (b ∷ filter is_other bs) (filter is_other bs))) (sym is))
+          let this : Copied known text (b ∷ bs) = record {
+            text_is = more.text_is ∙ ap (λ (x : List ℕ). (known ++ x) ++ boxes_text (filter is_other bs)) slice ∙ append_assoc known (box_text b) (boxes_text (filter is_other bs))
+                ∙ ap (λ (x : Bool). known ++ boxes_text (cond x (b ∷ filter is_other bs) (filter is_other bs))) (sym is);
+            told = subst (λ (x : Bool). AllByRecursion WasTold (cond x (b ∷ filter is_other bs) (filter is_other bs))) (sym is) ((at, (t, s)), more.told);
+          } in
+          this)
       | inr w ↦
           let is : is_other b ≡ false = w.0 in
           let found : found_at Others at file ≡ found_at Others (at + box_size b) file = here ∙ ap (λ (x : Bool). cond x (Ok (Some (placed_box at b))) (found_at Others (at + box_size b) file)) is in
-          copied file bs n known (at + box_size b) text are.2 next (omega arith) (sym (copy_skip file known n at (at + box_size b) found) ∙ e)
-          ∙ ap (λ (x : Bool). known ++ boxes_text (cond x (b ∷ filter is_other bs) (filter is_other bs))) (sym is)
+          let more = copied file bs n known (at + box_size b) text are.2 next (omega arith) (sym (copy_skip file known n at (at + box_size b) found) ∙ e) in
+          record {
+            text_is = more.text_is ∙ ap (λ (x : Bool). known ++ boxes_text (cond x (b ∷ filter is_other bs) (filter is_other bs))) (sym is);
+            told = subst (λ (x : Bool). AllByRecursion WasTold (cond x (b ∷ filter is_other bs) (filter is_other bs))) (sym is) more.told;
+          }
     ]
   where
     sub_same : (a n : ℕ) → (a + n) - a ≡ n
@@ -117,9 +135,11 @@ told_others file codestream j t e =
     bind_then (passed_by met_passed false (length (boxes_text old)) nothing_met (at file codestream j) (boxes_text old)) _ t (sym (extras_by file codestream j) ∙ e)
     (λ met s f. ap (λ (x : Told). x.others) (sym (ok_is (told_of met) t f)))
 
-pub has_told : (file codestream : List ℕ) (j : IsJp2 file codestream) (text : List ℕ) → extras_text file ≡ Ok text → HasTold j text
+-- the text of what a file keeps, and that each of its boxes was told
+pub told_text : (file codestream : List ℕ) (j : IsJp2 file codestream) (text : List ℕ) → extras_text file ≡ Ok text
+    → HasTold j text × AllByRecursion WasTold (filter is_other (all_boxes j))
 unfolding extras_text
-has_told file codestream j text e =
+told_text file codestream j text e =
     bind_then (extras_at file) _ text e (λ t read f.
     bind_then (colour_text file t.colour) _ text f (λ c colour g.
     let r = resolution_text t.capture t.display in
@@ -131,6 +151,9 @@ has_told file codestream j text e =
       is = read;
       colour = c;
       colour_is = colour;
-      written_is = all ∙ append_assoc c r (boxes_text (filter is_other (all_boxes j)));
+      written_is = all.text_is ∙ append_assoc c r (boxes_text (filter is_other (all_boxes j)));
     } in
-    here))
+    (here, all.told)))
+
+pub has_told : (file codestream : List ℕ) (j : IsJp2 file codestream) (text : List ℕ) → extras_text file ≡ Ok text → HasTold j text
+has_told file codestream j text e = (told_text file codestream j text e).0

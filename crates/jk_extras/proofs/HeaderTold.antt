@@ -38,7 +38,7 @@ module _ (file codestream : List ℕ) (j : IsJp2 file codestream) where
   unfolding header_found
   header_spanned = rw (header_seen file codestream j) refl
 
-  contents_spanned : take ((head_at file codestream j + box_size j.header) - at) (drop at file) ≡ j.header.contents
+  pub contents_spanned : take ((head_at file codestream j + box_size j.header) - at) (drop at file) ≡ j.header.contents
   contents_spanned =
       let n = length j.header.contents in
       let wide : (head_at file codestream j + box_size j.header) - at ≡ n = omega arith in

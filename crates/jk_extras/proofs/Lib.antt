@@ -18,4 +18,6 @@ pub mod Cuts
 pub mod Widths
 pub mod NextOther
 pub mod Copies
+pub mod TextsRead
+pub mod Bare
 pub mod Laws

@@ -110,7 +110,7 @@ display_again n at c (Some g) fits is enough =
     not_true true e = absurd cc
     not_true false e = refl
 
-grids_again : (n at : ℕ) (c d : Option Grid) → IfSome c FitsGrid → IfSome d FitsGrid → is_grid c ≡ true → is_grid d ≡ true → length (boxes_text (grid_boxes capture_kind c ++ grid_boxes display_kind d)) ≤ n
+pub grids_again : (n at : ℕ) (c d : Option Grid) → IfSome c FitsGrid → IfSome d FitsGrid → is_grid c ≡ true → is_grid d ≡ true → length (boxes_text (grid_boxes capture_kind c ++ grid_boxes display_kind d)) ≤ n
     → passed_by grids_step false n no_grids at (boxes_text (grid_boxes capture_kind c ++ grid_boxes display_kind d)) ≡ Ok (record { capture = c; display = d })
 grids_again n at None d fits_c fits_d is_c is_d enough = display_again n at None d fits_d is_d enough
 grids_again n at (Some g) d fits_c fits_d is_c is_d enough =

@@ -27,7 +27,7 @@ use Rattle.jk_extras.specs.Given.{FitsByte, FitsRatio, FitsGrid, HasUuid, FitsEx
 use Rattle.jk_extras.specs.Boxed.{Plain, PlainOther, PlainXml, PlainUuid, plain, plain_other, stays, colour_read, other_read, read_step, read_step_at, nothing_read, extras_read}
 
 -- what each box keeps is kept by all
-passed_keeps : {T : Type 0} (P : T → Type 0) (step : T → ℕ → BoxHead → List ℕ → Result T Fault) (ends : Bool)
+pub passed_keeps : {T : Type 0} (P : T → Type 0) (step : T → ℕ → BoxHead → List ℕ → Result T Fault) (ends : Bool)
     → ((known next : T) (at : ℕ) (box : BoxHead) (rest : List ℕ) → AreBytes rest → P known → step known at box rest ≡ Ok next → P next)
     → (n : ℕ) (known last : T) (at : ℕ) (rest : List ℕ) → AreBytes rest → P known → passed_by step ends n known at rest ≡ Ok last → P last
 unfolding passed_by
@@ -65,10 +65,10 @@ grid_fits contents g fits e =
     ))
 
 -- the contents of a box
-inside : (box : BoxHead) (rest : List ℕ) → AreBytes rest → AreBytes (contents_of box rest)
+pub inside : (box : BoxHead) (rest : List ℕ) → AreBytes rest → AreBytes (contents_of box rest)
 inside box rest fits = are_bytes_taken (box.size - head_size box.form) (drop (head_size box.form) rest) (are_bytes_after (head_size box.form) rest fits)
 
-abbrev FitGrids : Grids → Type 0
+abbrev pub FitGrids : Grids → Type 0
 FitGrids g = IfSome g.capture FitsGrid × IfSome g.display FitsGrid
 
 grids_keep : (known next : Grids) (at : ℕ) (box : BoxHead) (rest : List ℕ) → AreBytes rest → FitGrids known → grids_step known at box rest ≡ Ok next → FitGrids next
@@ -88,7 +88,7 @@ grids_keep known next at box rest fits holds e =
       ]
     ]
 
-grids_fit : (contents : List ℕ) (g : Grids) → AreBytes contents → grids_at contents ≡ Ok g → FitGrids g
+pub grids_fit : (contents : List ℕ) (g : Grids) → AreBytes contents → grids_at contents ≡ Ok g → FitGrids g
 grids_fit contents g fits e = passed_keeps FitGrids grids_step false grids_keep (length contents) no_grids g 0 contents fits (tt, tt) e
 
 -- a UUID

@@ -14,4 +14,5 @@ pub mod Said
 pub mod Given
 pub mod Boxed
 pub mod Texts
+pub mod Taken
 pub mod Examples

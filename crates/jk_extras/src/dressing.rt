@@ -3,7 +3,7 @@
 ghost use Rattle.std.specs.Prelude.{◌≡◌, ◌+◌, ◌≤◌, ◌<◌, ◌^◌, List, ℕ, length, drop, OnOk, IfOk, IfErr, Ok};
 ghost use Rattle.jk_math.specs.Answer.{Answers};
 ghost use Rattle.jk_math.specs.Memory.{IsMemory};
-ghost use Rattle.jk_boxes.specs.Boxes.{IsJp2, head_size, boxes_text};
+ghost use Rattle.jk_boxes.specs.Boxes.{IsJp2, HoldsCodestream, head_size, boxes_text};
 ghost use Rattle.jk_boxes.specs.Reading.{contents_of};
 ghost use Rattle.jk_extras.specs.Extras.{IsNone, others_boxes};
 ghost use Rattle.jk_extras.specs.Placing.{kept_step, kept_after, header_dressed, dressed_at, with_extras_at};
@@ -128,6 +128,9 @@ pub fn with_extras(alloc: Global, file: &[u8], extras: &Extras) -> Result<Vec<u8
     // It holds the codestream as before, and all boxes but the JP2 header box as they were.
     ensures holds { (codestream : List ℕ) (j : IsJp2 file.now codestream)
         → IfOk result (λ v. IsDressed j extras.now v.items) }
+    // The file holds the codestream that it held.
+    ensures same { (codestream : List ℕ) → HoldsCodestream file.now codestream
+        → IfOk result (λ v. HoldsCodestream v.items codestream) }
     // With nothing it stays the same.
     ensures none { (codestream : List ℕ) → IsJp2 file.now codestream → IsNone extras.now
         → Answers (λ v. v.items) result (Ok file.now) }

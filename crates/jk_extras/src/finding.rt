@@ -11,9 +11,9 @@ use jk_math::Fault;
 /// The contiguous codestream box.
 const CODE: u32 = 0x6A70_3263;
 /// A box of XML (T.800 I.7.1).
-pub(crate) const XML: u32 = 0x786D_6C20;
+pub const XML: u32 = 0x786D_6C20;
 /// A box under a UUID (T.800 I.7.2).
-pub(crate) const UUID: u32 = 0x7575_6964;
+pub const UUID: u32 = 0x7575_6964;
 
 /// Which boxes are looked for.
 #[derive(Clone, Copy, Debug, PartialEq, Eq)]

@@ -9,31 +9,9 @@ use Rattle.jk_math.specs.declared.fault.Fault.TheVariants.{Memory}
 use Rattle.jk_block.specs.declared.decoding.Block.{Block}
 use Rattle.jk_block.specs.declared.encoding.CodedBlock.{CodedBlock}
 use Rattle.jk_farm.specs.declared.segments.Segment.{Segment}
-use Rattle.jk_farm.specs.Dealing.{AreGiven, IsFirstFault}
+use Rattle.jk_jobs.specs.Dealing.{AreGiven, IsFirstFault}
+use Rattle.jk_jobs.proofs.Laws.{zipped, mapped, given_rest}
 use Rattle.jk_farm.specs.Blocks.{segment_at, segments_at, IsRead, IsBlockOf, IsWritten, IsCodedAs}
-
-module _ {J D : Type 0} (gives : J → Result D Fault → Type 0) where
-  -- job by job
-  pub zipped : (jobs : List J) (items : List D) → AreGiven gives jobs (length jobs) items → AllZip (λ j d. gives j (Ok d)) jobs items
-  zipped [] [] h = tt
-  zipped [] (d ∷ items) h = absurd (let long = h.long in omega (arith, long))
-  zipped (j ∷ jobs) [] h = absurd (let long = h.long in omega (arith, long))
-  zipped (j ∷ jobs) (d ∷ items) h = (
-    h.each 0 d (omega arith) j,
-    zipped jobs items (record { long = (let long = h.long in omega (arith, long)); each = λ i e lt k. h.each (suc i) e (omega (arith, lt)) k }),
-  )
-
-  -- all but the first
-  pub given_rest : (j : J) (jobs : List J) (n : ℕ) (d : D) (items : List D) → AreGiven gives (j ∷ jobs) (suc n) (d ∷ items) → AreGiven gives jobs n items
-  given_rest j jobs n d items h = record { long = (let long = h.long in omega (arith, long)); each = λ i e lt k. h.each (suc i) e (omega (arith, lt)) k }
-
-pub mapped : {J D : Type 0} (P Q : J → D → Type 0) (jobs : List J) (items : List D) → ((j : J) (d : D) → P j d → Q j d) → AllZip P jobs items → AllZip Q jobs items
-mapped P Q [] [] f h = tt
-mapped P Q [] (d ∷ items) f h = h
-mapped P Q (j ∷ jobs) [] f h = h
-mapped P Q (j ∷ jobs) (d ∷ items) f h = (f j d h.0, mapped P Q jobs items f h.1)
-
--- ---- segments
 
 pub segments_found : (jobs : List Segment) (items : List Block) → AllZip (λ j d. IsRead j (Ok d)) jobs items → segments_at jobs ≡ Ok (map (λ b. b.values.items) items)
 unfolding segments_at

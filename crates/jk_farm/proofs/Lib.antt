@@ -1,3 +1,1 @@
-pub mod Shares
 pub mod InOrder
-pub mod Laws

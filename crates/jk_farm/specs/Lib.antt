@@ -1,3 +1,2 @@
-pub mod Dealing
 pub mod Blocks
 pub mod Examples

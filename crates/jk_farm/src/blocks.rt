@@ -6,10 +6,8 @@ ghost use Rattle.jk_math.specs.Memory.{IsMemory};
 ghost use Rattle.jk_math.specs.declared.fault.Fault.TheVariants.{BadParameters};
 ghost use Rattle.jk_farm.specs.Blocks.{IsBlock, IsCodedAs};
 
-use crate::dealing::{are_allowed, dealt};
-use crate::gate::Gate;
-use crate::work::Work;
 use jk_block::{Block, CodedBlock, code};
+use jk_jobs::{Gate, Work, map_jobs};
 use jk_math::Fault;
 use std::alloc::Global;
 use std::thread::Threads;
@@ -49,8 +47,5 @@ pub fn map_blocks<R: Threads + Sync, G: Gate + Sync>(
     ensures exact { IfOk result (λ v. AllZip IsCodedAs blocks.now v.items) }
     ensures memory { 1 ≤ workers → workers ≤ 64 → IfErr result IsMemory }
 {
-    if !are_allowed(workers) {
-        return Err(Fault::BadParameters);
-    }
-    dealt::<Writing, R, G>(rt, alloc, workers, gate, blocks)
+    map_jobs::<Writing, R, G>(rt, alloc, workers, gate, blocks)
 }

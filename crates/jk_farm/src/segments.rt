@@ -6,10 +6,8 @@ ghost use Rattle.jk_math.specs.Answer.{Answers};
 ghost use Rattle.jk_math.specs.declared.fault.Fault.TheVariants.{BadParameters};
 ghost use Rattle.jk_farm.specs.Blocks.{IsSegment, IsBlockOf, segments_at};
 
-use crate::dealing::{are_allowed, dealt};
-use crate::gate::Gate;
-use crate::work::Work;
 use jk_block::{Block, BlockShape, decode};
+use jk_jobs::{Gate, Work, map_jobs};
 use jk_math::Fault;
 use std::alloc::Global;
 use std::thread::Threads;
@@ -65,8 +63,5 @@ pub fn map_segments<R: Threads + Sync, G: Gate + Sync>(
         → Answers (λ v. map (λ b. b.values.items) v.items) result (segments_at jobs.now) }
     ensures sized { IfOk result (λ v. AllZip IsBlockOf jobs.now v.items) }
 {
-    if !are_allowed(workers) {
-        return Err(Fault::BadParameters);
-    }
-    dealt::<Reading, R, G>(rt, alloc, workers, gate, jobs)
+    map_jobs::<Reading, R, G>(rt, alloc, workers, gate, jobs)
 }

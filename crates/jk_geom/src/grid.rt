@@ -6,7 +6,7 @@ ghost use Rattle.jk_geom.specs.Rectangles.{IsArea};
 ghost use Rattle.jk_geom.specs.Precincts.{precinct_number};
 ghost use Rattle.jk_geom.specs.Blocks.{IsGrid, grid_of, block_grid, block_area};
 
-use crate::precincts::{part_size, precinct};
+use crate::precincts::{precinct, precinct_part_size};
 use crate::rounding::{part_of, shift_up};
 use jk_marks::Coding;
 use jk_math::{Orientation, Rect};
@@ -76,7 +76,7 @@ pub fn blocks(rect: &Rect, coding: &Coding, r: u8, k: u32, orientation: Orientat
     ensures grid { IsGrid result }
     ensures few { (result.across ≤ 2 ^ 13) × (result.down ≤ 2 ^ 13) }
 {
-    let (width, height) = part_size(coding, r);
+    let (width, height) = precinct_part_size(coding, r);
     let area = precinct(rect, coding, r, k, orientation);
     grid(area, width.min(coding.xcb), height.min(coding.ycb))
 }

@@ -12,7 +12,7 @@ use jk_marks::Coding;
 use jk_math::{Orientation, Rect};
 
 /// The exponents of the size of resolution `r`'s precincts.
-pub(crate) fn size(coding: &Coding, r: u8) -> (u8, u8)
+pub fn precinct_size(coding: &Coding, r: u8) -> (u8, u8)
     requires coding { IsCoding coding.now }
     requires r { r ≤ coding.now.levels }
     ensures value { result ≡ precinct_size coding.now r }
@@ -23,14 +23,14 @@ pub(crate) fn size(coding: &Coding, r: u8) -> (u8, u8)
 }
 
 /// The exponents of the size of a precinct's part of a sub-band of resolution `r`.
-pub(crate) fn part_size(coding: &Coding, r: u8) -> (u8, u8)
+pub fn precinct_part_size(coding: &Coding, r: u8) -> (u8, u8)
     requires coding { IsCoding coding.now }
     requires r { r ≤ coding.now.levels }
     ensures width { result.0 ≡ part_width coding.now r }
     ensures height { result.1 ≡ part_height coding.now r }
     ensures small { (result.0 < 16) × (result.1 < 16) }
 {
-    let (width, height) = size(coding, r);
+    let (width, height) = precinct_size(coding, r);
     if r > 0 {
         (width - 1, height - 1)
     } else {
@@ -63,7 +63,7 @@ pub fn precinct_count(rect: &Rect, coding: &Coding, r: u8) -> (u32, u32)
     ensures down { result.1 ≡ precincts_down rect.now coding.now r }
 {
     let area = resolution(rect, coding.levels, r);
-    let (width, height) = size(coding, r);
+    let (width, height) = precinct_size(coding, r);
     (
         cells(area.x0, area.x1, width),
         cells(area.y0, area.y1, height),
@@ -95,7 +95,7 @@ pub(crate) fn place(rect: &Rect, coding: &Coding, r: u8, k: u32) -> (u32, u32)
     ensures lower { (result.1 + 1) * 2 ^ (precinct_size coding.now r).1 < 2 ^ 32 }
 {
     let area = resolution(rect, coding.levels, r);
-    let (width, height) = size(coding, r);
+    let (width, height) = precinct_size(coding, r);
     let across = cells(area.x0, area.x1, width);
     (
         nth_cell(area.x0, area.x1, width, k % across),
@@ -116,7 +116,7 @@ pub fn precinct(rect: &Rect, coding: &Coding, r: u8, k: u32, orientation: Orient
     ensures lower { result.y1 < 2 ^ 31 }
 {
     let (column, row) = place(rect, coding, r, k);
-    let (width, height) = part_size(coding, r);
+    let (width, height) = precinct_part_size(coding, r);
     let area = band(rect, coding.levels, r, orientation);
     part_of(&area, column, row, width, height)
 }

@@ -6,7 +6,7 @@ ghost use Rattle.jk_geom.specs.Rectangles.{ceil_div, meet, cell};
 use jk_math::Rect;
 
 /// `value / 2^exponent`, rounded up.
-pub(crate) fn shift_up(value: u32, exponent: u8) -> u32
+pub fn shift_up(value: u32, exponent: u8) -> u32
     requires value { value < 2 ^ 31 }
     requires exponent { exponent ≤ 15 }
     ensures { result ≡ ceil_div value (2 ^ exponent) }

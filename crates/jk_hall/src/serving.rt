@@ -3,7 +3,7 @@
 ghost use Rattle.std.specs.Prelude.{◌≡◌, ◌<◌, vec_len};
 
 use crate::reader::Reader;
-use jk_farm::Gate;
+use jk_jobs::Gate;
 use jk_math::Fault;
 use jk_store::Shelf;
 use jk_web::{Connection, End, Source, Witness};

@@ -12,5 +12,5 @@ mod steps;
 pub mod theorems;
 
 pub use line::{analyse_line, synthesise_line};
-pub use row::{high_pass_row, low_pass_row};
+pub use row::{even_sample_row, high_pass_row, low_pass_row, odd_sample_row};
 pub use rows::{analyse_rows, synthesise_rows};

@@ -68,7 +68,7 @@ impl Step for LowPass {
 }
 
 /// Low-pass coefficients become samples.
-struct EvenSample;
+pub(crate) struct EvenSample;
 
 impl Step for EvenSample {
     ghost formula = { even_sample };
@@ -85,7 +85,7 @@ impl Step for EvenSample {
 }
 
 /// High-pass coefficients become samples.
-struct OddSample;
+pub(crate) struct OddSample;
 
 impl Step for OddSample {
     ghost formula = { odd_sample };

@@ -1,14 +1,16 @@
 //! The commands that work on an archive.
 
 use crate::failure::{Failure, of_options, of_world, with_words};
+use crate::keeping::{asked, of_encoding};
+use crate::serving::Serving;
 use crate::streams::read;
 use crate::workers::workers;
 use crate::world::World;
-use clap::ArgMatches;
-use jk_commands::{EncodeOptions, Plan, judge, read_image};
+use jk_beside::Extras;
+use jk_commands::{Plan, components_of, encode_image_dressed, judge, read_image};
 use jk_math::{Fault, Image};
 use jk_store::{Archive, Images, Shelf, is_good_name, judge_name};
-use jk_words::{Serving, Work};
+use jk_words::{Adding, Kept, Server, Work};
 use std::alloc::Global;
 
 /// How many images an archive has at most.
@@ -117,16 +119,80 @@ fn add_to<S: Shelf>(
     Ok(())
 }
 
-/// Why adding was refused.
-fn of_adding(
+/// Adds an image to an archive under a name, with what its file is to keep beside the samples: the
+/// name is judged, and then the image; its file is written under a temporary name, and that becomes
+/// its own.
+fn add_dressed_to<S: Shelf + Drop>(
     alloc: Global,
-    fault: Fault,
-    options: &EncodeOptions,
-    line: &ArgMatches<'_>,
-) -> Failure {
-    let (folder, name) = (jk_words::folder(line), jk_words::name(line));
+    archive: Archive<S>,
+    name: &str,
+    image: Image,
+    plan: Plan,
+    extras: &Extras,
+) -> (S, Result<(), Fault>) {
+    let checked = check_name(&archive, name);
+    let mut shelf = archive.into_shelf();
+    let stored = match checked {
+        Ok(()) => store_dressed(alloc, &mut shelf, name, image, plan, extras),
+        Err(fault) => Err(fault),
+    };
+    (shelf, stored)
+}
+
+/// Puts the file of an image on a shelf.
+fn store_dressed<S: Shelf>(
+    alloc: Global,
+    shelf: &mut S,
+    name: &str,
+    image: Image,
+    plan: Plan,
+    extras: &Extras,
+) -> Result<(), Fault> {
+    let file = encode_image_dressed(alloc, image, plan, extras)?;
+    let temporary = format!(in alloc; "{name}.tmp")?;
+    let own = format!(in alloc; "{name}.jp2")?;
+    shelf.write(alloc, temporary.as_str(), &file)?;
+    shelf.rename(alloc, temporary.as_str(), own.as_str())
+}
+
+/// Adds an image to an archive under a name, with what its file is to keep, if anything, and gives
+/// the shelf back.
+fn add_image<S: Shelf + Drop>(
+    alloc: Global,
+    archive: Archive<S>,
+    name: &str,
+    image: Image,
+    plan: Plan,
+    kept: &Option<Extras>,
+) -> (S, Result<(), Fault>) {
+    match kept {
+        Some(extras) => add_dressed_to(alloc, archive, name, image, plan, extras),
+        None => {
+            let mut archive = archive;
+            let added = add_to(alloc, &mut archive, name, image, plan);
+            (archive.into_shelf(), added)
+        }
+    }
+}
+
+/// What the file of an image is to keep beside the samples, where that is asked for.
+fn extras<W: World>(
+    alloc: Global,
+    world: &mut W,
+    kept: &Kept<'_>,
+) -> Result<Option<Extras>, Failure> {
+    if kept.is_none() {
+        return Ok(None);
+    }
+    let extras = asked(alloc, world, kept)?;
+    Ok(Some(extras))
+}
+
+/// Why adding was refused.
+fn of_adding(alloc: Global, fault: Fault, line: &Adding<'_>) -> Failure {
+    let (folder, name) = (line.folder, line.name);
     match fault {
-        Fault::BadParameters => of_options(alloc, fault, options),
+        Fault::BadParameters => of_options(alloc, fault, &line.options),
         Fault::BadName => with_words(
             fault,
             format!(in alloc; "{name} isn't 1 to 64 of the characters a to z, 0 to 9, - and _"),
@@ -141,59 +207,84 @@ fn of_beside<W: World>(
     alloc: Global,
     world: &mut W,
     fault: Fault,
-    options: &EncodeOptions,
-    line: &ArgMatches<'_>,
+    line: &Adding<'_>,
     shelf: &W::Folder,
 ) -> Failure {
     match fault {
-        Fault::BadName | Fault::NameTaken => of_adding(alloc, fault, options, line),
-        _ => of_folder(alloc, world, fault, jk_words::folder(line), shelf),
+        Fault::BadName | Fault::NameTaken => of_adding(alloc, fault, line),
+        _ => of_folder(alloc, world, fault, line.folder, shelf),
     }
 }
 
-/// `jk add DIR NAME IN`: the options first, then the input and its image, the folder, the name, and
-/// the adding.
-pub(crate) fn add<W: World>(
+/// The archive of the images beside which one is added, of a folder that is locked.
+fn archive_beside<W: World>(
     alloc: Global,
-    line: &ArgMatches<'_>,
     world: &mut W,
-) -> Result<(), Failure> {
-    let options = jk_words::encoding(alloc, line)?;
-    let plan = match judge(alloc, &options) {
-        Ok(plan) => plan,
-        Err(fault) => return Err(of_options(alloc, fault, &options)),
-    };
-    let bytes = read(alloc, world, jk_words::input(line))?;
-    let size = bytes.len() as u64;
-    let image = read_image(alloc, bytes)?;
-    let folder = jk_words::folder(line);
-    if let Err(fault) = world.lock(alloc, folder) {
-        return Err(of_world(alloc, world, fault, folder, "locked"));
-    }
-    let mut shelf = match world.folder(alloc, folder) {
+    line: &Adding<'_>,
+) -> Result<Archive<W::Folder>, Failure> {
+    let mut shelf = match world.folder(alloc, line.folder) {
         Ok(shelf) => shelf,
-        Err(fault) => return Err(of_world(alloc, world, fault, folder, "opened")),
+        Err(fault) => return Err(of_world(alloc, world, fault, line.folder, "opened")),
     };
     world.begin_opening(&mut shelf);
-    let beside = beside(alloc, world, &mut shelf, jk_words::name(line));
+    let beside = beside(alloc, world, &mut shelf, line.name);
     world.end_opening(&mut shelf);
-    let images = match beside {
-        Ok(images) => images,
-        Err(fault) => {
-            let failure = of_beside(alloc, world, fault, &options, line, &shelf);
-            world.give_back(alloc, folder, shelf)?;
-            return Err(failure);
+    match beside {
+        Ok(images) => {
+            let _ = world.tell_others(&shelf);
+            Ok(Archive::with(shelf, images))
         }
+        Err(fault) => {
+            let failure = of_beside(alloc, world, fault, line, &shelf);
+            world.give_back(alloc, line.folder, shelf)?;
+            Err(failure)
+        }
+    }
+}
+
+/// Why an image of so many components, whose file is to keep something, wasn't added.
+fn of_adding_with(
+    alloc: Global,
+    fault: Fault,
+    line: &Adding<'_>,
+    extras: &Option<Extras>,
+    components: u16,
+) -> Failure {
+    match extras {
+        Some(extras) if fault == Fault::BadParameters => {
+            of_encoding(alloc, fault, extras, components, &line.options)
+        }
+        _ => of_adding(alloc, fault, line),
+    }
+}
+
+/// `jk add DIR NAME IN`: the options first and what the file is to keep, then the input and its
+/// image, the folder, the name, and the adding.
+pub(crate) fn add<W: World>(
+    alloc: Global,
+    world: &mut W,
+    line: &Adding<'_>,
+) -> Result<(), Failure> {
+    let plan = match judge(alloc, &line.options) {
+        Ok(plan) => plan,
+        Err(fault) => return Err(of_options(alloc, fault, &line.options)),
     };
-    let _ = world.tell_others(&shelf);
-    let mut archive = Archive::with(shelf, images);
+    let extras = extras(alloc, world, &line.kept)?;
+    let bytes = read(alloc, world, line.input)?;
+    let size = bytes.len() as u64;
+    let image = read_image(alloc, bytes)?;
+    let components = components_of(&image);
+    if let Err(fault) = world.lock(alloc, line.folder) {
+        return Err(of_world(alloc, world, fault, line.folder, "locked"));
+    }
+    let archive = archive_beside(alloc, world, line)?;
     world.begin_work(Work::Encoding, size);
-    let added = add_to(alloc, &mut archive, jk_words::name(line), image, plan);
+    let (shelf, added) = add_image(alloc, archive, line.name, image, plan, &extras);
     world.end_work();
-    let kept = world.give_back(alloc, folder, archive.into_shelf());
+    let given_back = world.give_back(alloc, line.folder, shelf);
     match added {
-        Ok(()) => Ok(kept?),
-        Err(fault) => Err(of_adding(alloc, fault, &options, line)),
+        Ok(()) => Ok(given_back?),
+        Err(fault) => Err(of_adding_with(alloc, fault, line, &extras, components)),
     }
 }
 
@@ -214,26 +305,32 @@ fn tell_skipped<W: World>(
 const MOST_TIMEOUT: u32 = 3600;
 
 /// How an archive is served, if the options are within their limits.
-fn serving(alloc: Global, line: &ArgMatches<'_>) -> Result<Serving, Failure> {
-    let workers = workers(alloc, line)?;
-    let timeout = jk_words::timeout(line);
+fn serving(alloc: Global, line: &Server<'_>) -> Result<Serving, Failure> {
+    let workers = workers(alloc, line.workers)?;
+    let timeout = line.timeout;
     if timeout < 1 || MOST_TIMEOUT < timeout {
         return Err(with_words(
             Fault::BadParameters,
             format!(in alloc; "--timeout is {timeout}, and may be 1 to {MOST_TIMEOUT}"),
         ));
     }
-    Ok(jk_words::serving_with(line, workers))
+    Ok(Serving {
+        port: line.port,
+        connections: line.connections,
+        workers,
+        timeout,
+        log: line.log,
+    })
 }
 
 /// `jk serve DIR`: the options, the folder, what of it isn't listed, and the connections.
 pub(crate) fn serve<W: World>(
     alloc: Global,
-    line: &ArgMatches<'_>,
     world: &mut W,
+    line: &Server<'_>,
 ) -> Result<(), Failure> {
     let serving = serving(alloc, line)?;
-    let folder = jk_words::folder(line);
+    let folder = line.folder;
     if let Err(fault) = world.share(alloc, folder) {
         return Err(of_world(alloc, world, fault, folder, "locked"));
     }

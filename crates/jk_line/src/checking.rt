@@ -6,11 +6,10 @@ use crate::status::Status;
 use crate::streams::write;
 use crate::workers::workers;
 use crate::world::World;
-use clap::ArgMatches;
 use jk_commands::{BadList, Sum, differences, differences_text, read_sums, sums_text};
 use jk_math::Fault;
 use jk_store::{Checked, Finding, check as check_files, is_image_file};
-use jk_words::cause_of;
+use jk_words::{Checking, cause_of};
 use std::alloc::{AllocError, Global};
 
 /// What a line of a list has.
@@ -167,20 +166,20 @@ fn checked<W: World>(
 /// whether all of them are images and, where there is a list, are as it says.
 pub(crate) fn check<W: World>(
     alloc: Global,
-    line: &ArgMatches<'_>,
     world: &mut W,
+    line: &Checking<'_>,
+    explain: bool,
 ) -> Result<Status, Failure> {
-    let workers = workers(alloc, line)?;
-    let before = match jk_words::against(line) {
+    let workers = workers(alloc, line.workers)?;
+    let before = match line.against {
         None => None,
         Some(name) => match list(alloc, world, name)? {
             Some(sums) => Some(sums),
             None => return Ok(Status::WrongLine),
         },
     };
-    let blocks = line.get_flag("decode");
-    let (found, has_others) = checked(alloc, world, workers, jk_words::folder(line), blocks)?;
-    let in_words = line.get_flag("explain") || world.is_terminal();
+    let (found, has_others) = checked(alloc, world, workers, line.folder, line.decode)?;
+    let in_words = explain || world.is_terminal();
     let mut is_bad = has_others;
     for file in &found {
         if tell_file(alloc, world, file, in_words)? {

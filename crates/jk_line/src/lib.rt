@@ -4,14 +4,17 @@
 mod archive;
 mod checking;
 mod failure;
+mod keeping;
 mod running;
+mod serving;
 mod status;
 mod streams;
 mod workers;
 mod world;
 
 pub use archive::{listening, served};
-pub use jk_words::{FaultLine, Progress, Serving, Work};
+pub use jk_words::{FaultLine, Progress, Work};
 pub use running::run;
+pub use serving::Serving;
 pub use status::Status;
 pub use world::World;

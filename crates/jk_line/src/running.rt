@@ -5,28 +5,29 @@ use crate::status::Status;
 use crate::streams::{create, finish, read, write};
 use crate::workers::workers;
 use crate::world::World;
-use crate::{archive, checking};
-use clap::ArgMatches;
-use clap::error::ErrorKind;
+use crate::{archive, checking, keeping};
 use jk_commands::{
     EncodeOptions, Plan, cut_file, decode_file_into, decode_file_into_with,
-    decode_window_file_into, encode_file_into, encode_file_with, info_all_file, info_file, judge,
+    decode_window_file_into, encode_file_dressed, encode_file_dressed_with, encode_file_into,
+    encode_file_with, first_layers, info_all_file, info_file, judge,
 };
-use jk_farm::Open;
+use jk_jobs::Open;
 use jk_math::Fault;
-use jk_words::{Defaults, FaultLine, Work, cause_of, command, fault_lines, left_out};
+use jk_words::{
+    Command, Cutting, Decoding, Defaults, Encoding, FaultLine, Line, Telling, Unasked, Work,
+    cause_of, fault_lines, left_out, read_line,
+};
 use std::alloc::Global;
 
 /// The whole file of an image, coded by several workers, and then written.
 fn encode_by<W: World>(
     alloc: Global,
-    line: &ArgMatches<'_>,
     world: &mut W,
+    line: &Encoding<'_>,
     workers: usize,
-    options: &EncodeOptions,
     plan: Plan,
 ) -> Result<(), Failure> {
-    let bytes = read(alloc, world, jk_words::input(line))?;
+    let bytes = read(alloc, world, line.input)?;
     world.begin_work(Work::Encoding, bytes.len() as u64);
     let encoded = encode_file_with::<W::Runtime, W::Counter>(
         world.runtime(),
@@ -38,25 +39,66 @@ fn encode_by<W: World>(
     );
     world.end_work();
     match encoded {
-        Ok(file) => write(alloc, world, jk_words::output(line), &file),
-        Err(fault) => Err(of_options(alloc, fault, options)),
+        Ok(file) => write(alloc, world, line.output, &file),
+        Err(fault) => Err(of_options(alloc, fault, &line.options)),
     }
 }
 
-/// `jk encode IN OUT`: how many workers there are, the options, then the input, the image and its
-/// encoding, which one thread writes to the output tile by tile.
-fn encode<W: World>(alloc: Global, line: &ArgMatches<'_>, world: &mut W) -> Result<(), Failure> {
-    let workers = workers(alloc, line)?;
-    let options = jk_words::encoding(alloc, line)?;
-    let plan = match judge(alloc, &options) {
-        Ok(plan) => plan,
-        Err(fault) => return Err(of_options(alloc, fault, &options)),
+/// How many components the image of a PGM or PPM file has.
+fn components_in(pixels: &[u8]) -> u16 {
+    if pixels.starts_with(b"P6") { 3 } else { 1 }
+}
+
+/// The whole file of an image that is to keep something beside the samples, which is then written.
+fn encode_dressed<W: World>(
+    alloc: Global,
+    world: &mut W,
+    line: &Encoding<'_>,
+    workers: usize,
+    plan: Plan,
+) -> Result<(), Failure> {
+    keeping::check_container(alloc, &line.options)?;
+    let extras = keeping::asked(alloc, world, &line.kept)?;
+    let bytes = read(alloc, world, line.input)?;
+    let components = components_in(&bytes);
+    world.begin_work(Work::Encoding, bytes.len() as u64);
+    let encoded = if workers > 1 {
+        encode_file_dressed_with::<W::Runtime, W::Counter>(
+            world.runtime(),
+            alloc,
+            workers,
+            world.counter(),
+            bytes,
+            plan,
+            &extras,
+        )
+    } else {
+        encode_file_dressed(alloc, bytes, plan, &extras)
     };
-    if workers > 1 {
-        return encode_by(alloc, line, world, workers, &options, plan);
+    world.end_work();
+    match encoded {
+        Ok(file) => write(alloc, world, line.output, &file),
+        Err(fault) => Err(keeping::of_encoding(alloc, fault, &extras, components, &line.options)),
     }
-    let bytes = read(alloc, world, jk_words::input(line))?;
-    let name = jk_words::output(line);
+}
+
+/// `jk encode IN OUT`: how many workers there are, the options, what the file is to keep, then the
+/// input, the image and its encoding, which one thread writes to the output tile by tile where the
+/// file is to keep nothing.
+fn encode<W: World>(alloc: Global, world: &mut W, line: &Encoding<'_>) -> Result<(), Failure> {
+    let workers = workers(alloc, line.workers)?;
+    let plan = match judge(alloc, &line.options) {
+        Ok(plan) => plan,
+        Err(fault) => return Err(of_options(alloc, fault, &line.options)),
+    };
+    if !line.kept.is_none() {
+        return encode_dressed(alloc, world, line, workers, plan);
+    }
+    if workers > 1 {
+        return encode_by(alloc, world, line, workers, plan);
+    }
+    let bytes = read(alloc, world, line.input)?;
+    let name = line.output;
     let mut output = create(alloc, world, name)?;
     world.begin_work(Work::Encoding, bytes.len() as u64);
     let encoded = encode_file_into(alloc, bytes, plan, &mut output);
@@ -65,7 +107,7 @@ fn encode<W: World>(alloc: Global, line: &ArgMatches<'_>, world: &mut W) -> Resu
     match encoded {
         Ok(()) => finished,
         Err(Fault::Shelf) => finished.and(Err(Failure::from(Fault::Shelf))),
-        Err(fault) => Err(of_options(alloc, fault, &options)),
+        Err(fault) => Err(of_options(alloc, fault, &line.options)),
     }
 }
 
@@ -92,20 +134,34 @@ fn decode_image<W: World>(
     )
 }
 
-/// `jk decode IN OUT`: the image, or a window of it. How many workers there are is judged first.
-fn decode<W: World>(alloc: Global, line: &ArgMatches<'_>, world: &mut W) -> Result<(), Failure> {
-    let workers = workers(alloc, line)?;
-    let bytes = read(alloc, world, jk_words::input(line))?;
+/// The file that is decoded: the file itself, or what of it has the layers that are asked for, on the
+/// window that is.
+fn with_layers(alloc: Global, line: &Decoding<'_>, bytes: Vec<u8>) -> Result<Vec<u8>, Fault> {
+    let Some(layers) = line.layers else {
+        return Ok(bytes);
+    };
+    match line.window {
+        Some(view) => cut_file(alloc, &bytes, view),
+        None => first_layers(alloc, &bytes, line.reduce, layers),
+    }
+}
+
+/// `jk decode IN OUT`: the image, or a window of it, in all layers or the first. How many workers
+/// there are is judged first.
+fn decode<W: World>(alloc: Global, world: &mut W, line: &Decoding<'_>) -> Result<(), Failure> {
+    let workers = workers(alloc, line.workers)?;
+    let bytes = read(alloc, world, line.input)?;
     let left_out = left_out(&bytes);
-    let name = jk_words::output(line);
+    let bytes = match with_layers(alloc, line, bytes) {
+        Ok(bytes) => bytes,
+        Err(fault) => return Err(of_file(alloc, fault, left_out)),
+    };
+    let name = line.output;
     let mut output = create(alloc, world, name)?;
     world.begin_work(Work::Decoding, bytes.len() as u64);
-    let decoded = match jk_words::window(line) {
+    let decoded = match line.window {
         Some(view) => decode_window_file_into(alloc, bytes, view, &mut output),
-        None => {
-            let reduce = jk_words::reduction(line);
-            decode_image(alloc, world, workers, bytes, reduce, &mut output)
-        }
+        None => decode_image(alloc, world, workers, bytes, line.reduce, &mut output),
     };
     world.end_work();
     let finished = finish(alloc, world, name, output, decoded.is_ok());
@@ -117,9 +173,9 @@ fn decode<W: World>(alloc: Global, line: &ArgMatches<'_>, world: &mut W) -> Resu
 }
 
 /// `jk info IN`.
-fn info<W: World>(alloc: Global, line: &ArgMatches<'_>, world: &mut W) -> Result<(), Failure> {
-    let bytes = read(alloc, world, jk_words::input(line))?;
-    let told = if line.get_flag("all") {
+fn info<W: World>(alloc: Global, world: &mut W, line: &Telling<'_>) -> Result<(), Failure> {
+    let bytes = read(alloc, world, line.input)?;
+    let told = if line.all {
         info_all_file(alloc, &bytes)
     } else {
         info_file(alloc, &bytes)
@@ -131,10 +187,10 @@ fn info<W: World>(alloc: Global, line: &ArgMatches<'_>, world: &mut W) -> Result
 }
 
 /// `jk cut IN OUT`.
-fn cut<W: World>(alloc: Global, line: &ArgMatches<'_>, world: &mut W) -> Result<(), Failure> {
-    let bytes = read(alloc, world, jk_words::input(line))?;
-    match cut_file(alloc, &bytes, jk_words::cut(line)) {
-        Ok(file) => write(alloc, world, jk_words::output(line), &file),
+fn cut<W: World>(alloc: Global, world: &mut W, line: &Cutting<'_>) -> Result<(), Failure> {
+    let bytes = read(alloc, world, line.input)?;
+    match cut_file(alloc, &bytes, line.window) {
+        Ok(file) => write(alloc, world, line.output, &file),
         Err(fault) => Err(of_file(alloc, fault, left_out(&bytes))),
     }
 }
@@ -146,21 +202,20 @@ fn list_faults<W: World>(alloc: Global, world: &mut W) -> Result<(), Failure> {
 }
 
 /// Does what a command asks for.
-fn perform<W: World>(
-    alloc: Global,
-    name: &str,
-    line: &ArgMatches<'_>,
-    world: &mut W,
-) -> Result<Status, Failure> {
-    match name {
-        "check" => return checking::check(alloc, line, world),
-        "encode" => encode(alloc, line, world),
-        "decode" => decode(alloc, line, world),
-        "info" => info(alloc, line, world),
-        "cut" => cut(alloc, line, world),
-        "add" => archive::add(alloc, line, world),
-        "serve" => archive::serve(alloc, line, world),
-        _ => list_faults(alloc, world),
+fn perform<W: World>(alloc: Global, world: &mut W, line: &Line<'_>) -> Result<Status, Failure> {
+    match &line.command {
+        Command::Check(line_of) => {
+            return checking::check(alloc, world, line_of, line.explain);
+        }
+        Command::Extras(line) => return keeping::extras(alloc, world, line),
+        Command::Encode(line) => encode(alloc, world, line),
+        Command::Decode(line) => decode(alloc, world, line),
+        Command::Info(line) => info(alloc, world, line),
+        Command::Cut(line) => cut(alloc, world, line),
+        Command::Dress(line) => keeping::dress(alloc, world, line),
+        Command::Add(line) => archive::add(alloc, world, line),
+        Command::Serve(line) => archive::serve(alloc, world, line),
+        Command::Faults => list_faults(alloc, world),
     }?;
     Ok(Status::Done)
 }
@@ -180,43 +235,44 @@ fn tell<W: World>(world: &mut W, failure: Failure, in_words: bool) -> Status {
     Status::Refused
 }
 
-/// Does what the words ask for that were understood.
-fn follow<W: World>(alloc: Global, matches: &ArgMatches<'_>, world: &mut W) -> Status {
-    let Some((name, line)) = matches.subcommand() else {
-        return Status::WrongLine;
-    };
-    if line.get_flag("quiet") {
+/// Does what a line asks for.
+fn follow<W: World>(alloc: Global, world: &mut W, line: &Line<'_>) -> Status {
+    if line.quiet {
         world.be_quiet();
     }
-    match perform(alloc, name, line, world) {
+    match perform(alloc, world, line) {
         Ok(status) => status,
-        Err(failure) => tell(world, failure, line.get_flag("explain")),
+        Err(failure) => tell(world, failure, line.explain),
     }
 }
 
 /// Writes what was asked for, as `--help` does, or what is wrong with the words.
-fn show<W: World>(alloc: Global, error: &clap::Error, world: &mut W) -> Result<Status, Failure> {
-    if error.kind() == ErrorKind::OutOfMemory {
-        world.tell(&"jk: F1 Memory\n");
-        return Ok(Status::Refused);
-    }
-    if error.use_stderr() {
-        world.tell(error);
-        return Ok(Status::WrongLine);
-    }
-    match world.print(error) {
-        Ok(()) => Ok(Status::Done),
-        Err(fault) => Err(of_world(alloc, world, fault, "standard output", "written")),
+fn show<W: World>(alloc: Global, world: &mut W, unasked: &Unasked) -> Result<Status, Failure> {
+    match unasked {
+        Unasked::Memory => {
+            world.tell(&"jk: F1 Memory\n");
+            Ok(Status::Refused)
+        }
+        Unasked::Nothing => Ok(Status::WrongLine),
+        Unasked::IsWrong(text) => {
+            world.tell(text);
+            Ok(Status::WrongLine)
+        }
+        Unasked::Shows(text) => {
+            match world.print(text) {
+                Ok(()) => Ok(Status::Done),
+                Err(fault) => Err(of_world(alloc, world, fault, "standard output", "written")),
+            }
+        }
     }
 }
 
 /// Reads the words, and does what they ask for.
-fn answer<W: World>(alloc: Global, words: &[String], world: &mut W) -> Result<Status, Failure> {
+fn answer<W: World>(alloc: Global, world: &mut W, words: &[String]) -> Result<Status, Failure> {
     let defaults = Defaults::new(alloc)?;
-    let command = command(alloc, &defaults)?;
-    match command.try_get_matches_from(words) {
-        Ok(matches) => Ok(follow(alloc, &matches, world)),
-        Err(error) => show(alloc, &error, world),
+    match read_line(alloc, &defaults, words) {
+        Ok(line) => Ok(follow(alloc, world, &line)),
+        Err(unasked) => show(alloc, world, &unasked),
     }
 }
 
@@ -225,7 +281,7 @@ fn answer<W: World>(alloc: Global, words: &[String], world: &mut W) -> Result<St
 /// A fault is a line such as `jk: F2 Truncated` on standard error. Where standard error is a
 /// terminal, or with `--explain`, a second line has its cause in words.
 pub fn run<W: World>(alloc: Global, words: &[String], world: &mut W) -> Status {
-    match answer(alloc, words, world) {
+    match answer(alloc, world, words) {
         Ok(status) => status,
         Err(failure) => tell(world, failure, false),
     }

@@ -1,9 +1,10 @@
 //! What a command line works on.
 
-use jk_farm::Gate;
+use crate::serving::Serving;
+use jk_jobs::Gate;
 use jk_math::Fault;
 use jk_store::{Archive, Shelf};
-use jk_words::{Serving, Work};
+use jk_words::Work;
 use std::alloc::Global;
 use std::fmt::Display;
 use std::io::{self, Write};

@@ -15,10 +15,10 @@ use crate::marker;
 use byteorder::{BigEndian, ByteOrder};
 use jk_math::Fault;
 
-/// How many bytes the marker segment at the front takes: 0 where the marker `last` stands there, or
-/// where the bytes end before the segment does.
+/// How many bytes the marker segment at the front takes, its marker among them (T.800 A.1.3): 0 where
+/// the marker `last` stands there, or where the bytes end before the segment does.
 #[tactic(auto, unfolding(crate::specs::Copying::segment_size))]
-fn segment_size(bytes: &[u8], last: u16) -> usize
+pub fn segment_size(bytes: &[u8], last: u16) -> usize
     ensures value { result ≡ segment_size last bytes.now }
     ensures within { result ≤ length bytes.now }
     ensures some { 0 < result → 2 ≤ result }

@@ -20,7 +20,7 @@ mod write;
 
 pub use block_style::{style_byte, style_of};
 pub use coding::Coding;
-pub use copying::copy_main;
+pub use copying::{copy_main, segment_size};
 pub use cursor::Cursor;
 pub use head::{Heading, TileHead};
 pub use main_header::{Main, read_main};

@@ -15,4 +15,5 @@ pub mod ContentLaws
 pub mod PlaceLaws
 pub mod Below
 pub mod LevelLaws
+pub mod LeastLevels
 pub mod Laws

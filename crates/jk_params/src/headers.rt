@@ -3,10 +3,10 @@
 ghost use Rattle.std.specs.Prelude.{◌≡◌, ◌<◌, ℕ, length};
 ghost use Rattle.jk_marks.specs.Siz.{tile_count};
 ghost use Rattle.jk_params.specs.Headers.{tile_in, packets_of, AreHeaders};
-ghost use Rattle.jk_params.specs.Levels.{have_levels};
+ghost use Rattle.jk_params.specs.Levels.{have_levels, least_levels};
 
 use crate::count::count_own;
-use crate::levels::tiles_have_levels;
+use crate::levels::{least_of_tiles, tiles_have_levels};
 use crate::table::Table;
 use jk_geom::Codings;
 use jk_marks::{Cod, Siz};
@@ -80,6 +80,15 @@ impl Codestream {
         ensures { result ≡ have_levels self.now levels }
     {
         tiles_have_levels(self, levels)
+    }
+
+    /// The least number of decomposition levels of a component of a tile: so often the image can be
+    /// halved.
+    pub fn least_levels(&self) -> u8
+        requires { (size : ℕ) × AreHeaders size self.now }
+        ensures { result ≡ least_levels self.now.tiles (tile_count self.now.siz) }
+    {
+        least_of_tiles(self)
     }
 
     /// How many packets the tiles have.

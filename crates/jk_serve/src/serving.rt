@@ -4,8 +4,8 @@ ghost use Rattle.std.specs.Prelude.{◌≡◌, ◌<◌, vec_len};
 
 use crate::desk::{Desk, Keeper};
 use crate::operating::operate;
-use jk_farm::Open;
 use jk_hall::{Hall, Reader, Writer, serve_all};
+use jk_jobs::Open;
 use jk_math::Fault;
 use jk_port::Arriving;
 use jk_store::{Entry, Shelf};

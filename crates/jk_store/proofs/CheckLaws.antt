@@ -11,8 +11,8 @@ use Rattle.std.proofs.lemmas.List.{map-append}
 use Rattle.jk_math.specs.Memory.{IsMemory}
 use Rattle.jk_math.specs.declared.fault.Fault.{Fault}
 use Rattle.jk_math.specs.declared.fault.Fault.TheVariants.{Shelf}
-use Rattle.jk_farm.specs.Dealing.{AreGiven, IsFirstFault}
-use Rattle.jk_farm.proofs.Laws.{zipped}
+use Rattle.jk_jobs.specs.Dealing.{AreGiven, IsFirstFault}
+use Rattle.jk_jobs.proofs.Laws.{zipped}
 use Rattle.jk_store.specs.declared.checked.Checked.{Checked}
 use Rattle.jk_store.specs.declared.checked.Finding.{Finding}
 use Rattle.jk_store.specs.declared.checked.Finding.TheVariants.{Whole, Broken, Unread}

@@ -8,7 +8,7 @@ use Rattle.jk_math.specs.Styles.{plain_style}
 use Rattle.jk_marks.specs.Codestream.{no_coding}
 use Rattle.jk_params.specs.declared.parameters.Parameters.{Parameters}
 use Rattle.jk_params.specs.Headers.{TileFields, Headers}
-use Rattle.jk_window.specs.Indexing.{least_in, least_levels}
+use Rattle.jk_params.specs.Levels.{least_in, least_levels}
 use Rattle.jk_store.specs.Adding.{judged}
 use Rattle.jk_store.specs.Files.{Files, with_file, without}
 use Rattle.jk_store.specs.Names.{is_good_name, file_name, temporary_name, is_image}

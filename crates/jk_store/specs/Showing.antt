@@ -7,7 +7,8 @@ use Rattle.jk_math.specs.declared.fault.Fault.{Fault}
 use Rattle.jk_marks.specs.Siz.{tile_count}
 use Rattle.sha2.specs.Sha256.{sha256}
 use Rattle.jk_window.specs.declared.view.View.{View}
-use Rattle.jk_window.specs.Indexing.{IsIndexOf, least_levels}
+use Rattle.jk_window.specs.Indexing.{IsIndexOf}
+use Rattle.jk_params.specs.Levels.{least_levels}
 use Rattle.jk_window.specs.Cutting.{cut_file}
 use Rattle.jk_web.specs.declared.query.Asked.{Asked}
 use Rattle.jk_web.specs.Images.{Image}

@@ -23,7 +23,7 @@ use crate::opening::image_index;
 use crate::shelf::Shelf;
 use jk_code::decode;
 use jk_digest::sha256;
-use jk_farm::{Open, Work, map_jobs};
+use jk_jobs::{Open, Work, map_jobs};
 use jk_math::Fault;
 use std::alloc::Global;
 use std::collections::BTreeSet;

@@ -1,7 +1,7 @@
 //! How far work on an image is, told on a terminal by a thread beside it.
 
 use crate::line::{BLANK, FIRST, PAUSE};
-use jk_farm::Gate;
+use jk_jobs::Gate;
 use jk_words::{Progress, Work};
 use std::alloc::Global;
 use std::sync::atomic::{AtomicU64, Ordering};

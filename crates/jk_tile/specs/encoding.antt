@@ -4,6 +4,7 @@
 -- they are coded side by side. Fronts: what the first layers of it mean.
 pub mod Forward
 pub mod Needs
+pub mod Written
 pub mod TileWritten
 pub mod PacketsWritten
 pub mod TileWriters

@@ -6,6 +6,7 @@ ghost use Rattle.jk_walk.specs.TilePackets.{orientations, band_number, planes_of
 ghost use Rattle.jk_tile.specs.TileBlocks.{orientation_at, shape_of_area};
 
 use jk_block::BlockShape;
+use jk_geom::BlockGrid;
 use jk_marks::Coding;
 use jk_math::{Orientation, Rect, Style};
 
@@ -15,6 +16,14 @@ pub(crate) struct BandPart {
     pub(crate) resolution: u8,
     pub(crate) precinct: u32,
     pub(crate) band: u8,
+}
+
+/// A code-block of a part of a sub-band: its number there in raster order, on the grid of the part.
+#[derive(Clone, Copy)]
+pub(crate) struct BandBlock<'a> {
+    pub(crate) part: BandPart,
+    pub(crate) grid: &'a BlockGrid,
+    pub(crate) number: u32,
 }
 
 /// Sub-band `i` of a resolution, in the order of its packets.

@@ -7,9 +7,13 @@ mod bands;
 mod decoding;
 mod encoding;
 mod samples;
+mod workers;
 
 pub use decoding::{
-    DecodedBlocks, decode_blocks_with, decode_part, decode_part_of, decode_tile, put,
+    CodedTile, DecodedBlocks, decode_blocks_with, decode_part, decode_part_of, decode_tile, put,
 };
-pub use encoding::{BlockJob, Executor, Parallel, Sequential, encode_tile, exponents, tile_bands};
+pub use encoding::{
+    BlockJob, Executor, Parallel, Sequential, WrittenImage, encode_tile, exponents, tile_bands,
+};
 pub use samples::level_shift;
+pub use workers::Workers;

@@ -7,5 +7,6 @@ pub mod Bands
 pub mod Analysis
 pub mod Regions
 pub mod RegionRows
+pub mod climbing
 pub mod Laws
 pub mod Examples

@@ -4,6 +4,7 @@
 
 mod backward;
 mod bands;
+mod climbing;
 mod columns;
 mod cropping;
 mod forward;
@@ -17,6 +18,9 @@ pub mod theorems;
 
 pub use backward::{synthesise, synthesise_part};
 pub use bands::{BandParts, Bands};
+pub use climbing::{
+    ClimbingLevel, GivenRows, HighRows, rows_asked, rows_reached, rows_taken, synthesise_by_rows,
+};
 pub use forward::{analyse, analyse_source};
 pub use level::{begin_level, finish_level};
 pub use places::{BandRows, band_rows};

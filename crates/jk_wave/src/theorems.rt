@@ -3,6 +3,7 @@
 ghost use Rattle.jk_wave.specs.Laws.{IsLocalResolution, IsDecided, IsUndone, IsReduced, GrowsLevels, HasPlanes};
 ghost use Rattle.jk_wave.specs.Laws.{HasWidth, BoundsResolutions, IsClimbing, LiesInLevel, LiesApart, LiesOffLow};
 ghost use Rattle.jk_wave.specs.Laws.{HasRows, KeepsOthers, StaysLevel};
+ghost use Rattle.jk_wave.specs.climbing.Intervals.{MadeEnough, TakesNoMore, TakesInOrder, TakesWithin, TakesPairs, TakesAll, EndsInOrder};
 
 /// What a resolution shows of a rectangle depends on the sub-bands near it alone.
 pub fn resolutions_are_local()
@@ -46,4 +47,19 @@ pub fn levels_hold_bands()
 pub fn levels_stay()
     ensures others { KeepsOthers }
     ensures level { StaysLevel }
+{}
+
+/// How many rows of its coefficients a level takes for so many rows of samples.
+pub fn level_taken()
+    ensures enough { MadeEnough }
+    ensures no_more { TakesNoMore }
+    ensures order { TakesInOrder }
+    ensures within { TakesWithin }
+    ensures pairs { TakesPairs }
+{}
+
+/// How many rows of all levels are asked for.
+pub fn levels_taken()
+    ensures all { TakesAll }
+    ensures order { EndsInOrder }
 {}

@@ -1,38 +1,17 @@
--- The least number of levels, and the window of a view, by the test and by what it says.
-use Rattle.std.proofs.Common.{◌≡◌, ℕ, ◌+◌, min, Bool, true, false, not, List, length, Result, Ok, Err, add-one, refl, sym, ap, ◌∙◌}
+-- The window of a view, by the test and by what it says.
+use Rattle.std.proofs.Common.{◌≡◌, Bool, true, false, not, length, Result, Ok, Err, refl, sym, ◌∙◌}
 use Rattle.std.proofs.lemmas.Bool.{not-false}
 use Rattle.jk_math.specs.Answer.{◌>>=◌, refuse}
 use Rattle.jk_math.specs.Steps.{refuse_then, ok_is}
 use Rattle.jk_math.specs.declared.fault.Fault.{Fault}
 use Rattle.jk_math.specs.declared.fault.Fault.TheVariants.{BadWindow}
 use Rattle.jk_math.specs.declared.rect.Rect.{Rect}
-use Rattle.jk_marks.specs.declared.coding.Coding.{Coding}
 use Rattle.jk_marks.specs.Siz.{tile_count}
 use Rattle.jk_geom.specs.Rectangles.{is_empty}
-use Rattle.jk_geom.specs.TileShapes.{coding_of}
-use Rattle.jk_params.specs.Headers.{Headers, TileFields, tile_in}
+use Rattle.jk_params.specs.Headers.{Headers}
 use Rattle.jk_window.specs.declared.view.View.{View}
 use Rattle.jk_window.specs.Views.{frame_of, window_of, has_layer, HasArea, HasWindow, have_levels, area_at, window_at}
-use Rattle.jk_window.specs.Indexing.{least_in, least_levels}
 use Rattle.jk_params.proofs.Laws.{levels_found, levels_only}
-
-pub least_none : (ks : List Coding) → 10 ≡ least_in ks 0
-unfolding least_in
-least_none ks = refl
-
-pub least_more : (ks : List Coding) (n : ℕ) → least_in ks (n + 1) ≡ min (least_in ks n) (coding_of ks n).levels
-unfolding least_in
-least_more ks n = ap (least_in ks) (add-one n) ∙ refl
-
-pub levels_none : (tiles : List TileFields) → 10 ≡ least_levels tiles 0
-unfolding least_levels
-levels_none tiles = refl
-
-pub levels_more : (tiles : List TileFields) (n : ℕ) → least_levels tiles (n + 1) ≡ min (least_levels tiles n) (least_in (tile_in tiles n).codings (length (tile_in tiles n).codings))
-unfolding least_levels
-levels_more tiles n = ap (least_levels tiles) (add-one n) ∙ refl
-
--- ---- windows
 
 -- what is found is the rectangle
 pub area_found : (h : Headers) (v : View) (w : Rect) → length h.tiles ≡ tile_count h.siz → area_at h v ≡ Ok w → HasArea h v × (w ≡ window_of h v)

@@ -1,20 +1,18 @@
 -- What is kept of a file: where its codestream stands, what its headers say, and where each of its
 -- packets stands.
-use Rattle.std.specs.Prelude.{◌≡◌, ℕ, zero, suc, ◌-◌, ◌<◌, min, List, [], ◌∷◌, ◌++◌, length, map, slice_range}
+use Rattle.std.specs.Prelude.{◌≡◌, ℕ, zero, suc, ◌-◌, ◌<◌, List, [], ◌∷◌, ◌++◌, length, map, slice_range}
 use Rattle.std.specs.Prelude.{slice_index_or, Result, Ok}
 use Rattle.std.specs.List.{flat_map}
 use Rattle.jk_math.specs.Answer.{◌>>=◌}
 use Rattle.jk_math.specs.declared.fault.Fault.{Fault}
 use Rattle.jk_marks.specs.declared.segments.Order.{Order}
-use Rattle.jk_marks.specs.declared.coding.Coding.{Coding}
 use Rattle.jk_marks.specs.Siz.{tile_count}
 use Rattle.jk_marks.specs.HeaderReading.{main_at}
-use Rattle.jk_geom.specs.TileShapes.{coding_of}
 use Rattle.jk_boxes.specs.declared.place.Boxed.{Boxed}
 use Rattle.jk_boxes.specs.Boxes.{HoldsCodestream, HoldsAt}
 use Rattle.jk_boxes.specs.declared.boxes.Form.{Form}
 use Rattle.jk_boxes.specs.Reading.{boxes_at, form_at}
-use Rattle.jk_params.specs.Headers.{Headers, TileFields, tile_in, cod_for, IsHeaders, AreHeaders}
+use Rattle.jk_params.specs.Headers.{Headers, tile_in, cod_for, IsHeaders, AreHeaders}
 use Rattle.jk_params.specs.HeadersReading.{headers_at}
 use Rattle.jk_walk.specs.declared.entries.PacketEntry.{PacketEntry}
 use Rattle.jk_walk.specs.TilePackets.{slice_of, shape_in, Packet}
@@ -111,14 +109,3 @@ index_at bytes = do
   place ← boxes_at bytes
   form ← form_at bytes
   fields_at place form (length bytes) (slice_range bytes place.start place.end)
-
--- the least number of decomposition levels of the first n components, and of the components of the
--- first n tiles; 10 where there are none
-unfoldable pub least_in : List Coding → ℕ → ℕ
-least_in codings zero = 10
-least_in codings (suc n) = min (least_in codings n) (coding_of codings n).levels
-
-unfoldable pub least_levels : List TileFields → ℕ → ℕ
-least_levels tiles zero = 10
-least_levels tiles (suc n) =
-    min (least_levels tiles n) (least_in (tile_in tiles n).codings (length (tile_in tiles n).codings))

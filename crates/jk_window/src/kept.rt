@@ -1,11 +1,10 @@
 //! What is kept of a file.
 
-ghost use Rattle.std.specs.Prelude.{◌≡◌, ◌+◌, ◌-◌, ◌≤◌, ◌<◌, ◌^◌, ℕ, List, length, min, IfOk, IfErr, MatchResult, Ok};
+ghost use Rattle.std.specs.Prelude.{◌≡◌, ◌+◌, ◌-◌, ◌≤◌, ◌<◌, ◌^◌, ℕ, List, length, IfOk, IfErr, MatchResult, Ok};
 ghost use Rattle.jk_math.specs.Answer.{Answers};
 ghost use Rattle.jk_math.specs.Memory.{IsMemory};
 ghost use Rattle.jk_math.specs.declared.fault.Fault.TheVariants.{BadWindow};
 ghost use Rattle.jk_marks.specs.Siz.{tile_count};
-ghost use Rattle.jk_geom.specs.TileShapes.{AreCodings};
 ghost use Rattle.jk_params.specs.Headers.{AreHeaders, tile_in, packets_of};
 ghost use Rattle.jk_walk.specs.TilePackets.{shape_in};
 ghost use Rattle.jk_walk.specs.Entries.{AreEntries};
@@ -13,21 +12,18 @@ ghost use Rattle.jk_math.specs.declared.rect.Rect.{Rect as Area};
 ghost use Rattle.jk_window.specs.declared.view.View.{View as Sight};
 ghost use Rattle.jk_window.specs.Views.{HasWindow};
 ghost use Rattle.jk_window.specs.Planning.{IsSound, Fits};
-ghost use Rattle.jk_window.specs.Indexing.{IndexFields, IsIndex, entries_of, least_in, least_levels};
+ghost use Rattle.jk_window.specs.Indexing.{IndexFields, IsIndex, entries_of};
+ghost use Rattle.jk_params.specs.Levels.{least_levels};
 
 use crate::around::Around;
 use crate::view::View;
 use crate::window::sees;
 use jk_boxes::Boxed;
-use jk_geom::Codings;
 use jk_marks::Order;
 use jk_math::Fault;
 use jk_params::Codestream;
 use jk_walk::TileEntries;
 use std::marker::Model;
-
-/// The most decomposition levels that a tile-component may have.
-const MOST_LEVELS: u8 = 10;
 
 /// What is kept of a file: where its codestream stands, what its headers say, where each of its
 /// packets stands, in 32 bytes a packet, and what stands around them, in 16 bytes a tile-part and
@@ -65,19 +61,6 @@ impl Model for Index {
       packets = i.packets.items;
       frame = i.around;
     } };
-}
-
-/// The least number of decomposition levels of components, and 10 where there are none.
-#[tactic(auto, using(crate::proofs::Levels::least_none, crate::proofs::Levels::least_more))]
-fn least_in(codings: &Codings) -> u8
-    ensures { result ≡ least_in codings.now (length codings.now) }
-{
-    let codings = codings.as_slice();
-    let mut least = MOST_LEVELS;
-    for i in 0..codings.len() {
-        least = least.min(codings[i].levels);
-    }
-    least
 }
 
 impl Index {
@@ -185,15 +168,10 @@ impl Index {
 
     /// The least number of decomposition levels of a component of a tile: so often the image can be
     /// halved.
-    #[tactic(auto, using(crate::proofs::Levels::levels_none, crate::proofs::Levels::levels_more))]
     pub fn levels(&self) -> u8
         ensures { result ≡ least_levels self.now.headers.tiles (tile_count self.now.headers.siz) }
     {
-        let mut least = MOST_LEVELS;
-        for number in 0..self.headers.tile_count() {
-            least = least.min(least_in(self.headers.codings(number)));
-        }
-        least
+        self.headers.least_levels()
     }
 
     /// How many layers there are, by the main header.

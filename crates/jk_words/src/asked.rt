@@ -1,26 +1,190 @@
 //! What the words of a command line ask for.
 
+use crate::commands::{Name, command, name_of};
+use crate::defaults::Defaults;
 use clap::ArgMatches;
+use clap::error::ErrorKind;
 use clap::parser::ValueSource;
 use jk_marks::Order;
-use jk_math::{Fault, Style};
+use jk_math::Style;
 use jk_options::{EncodeOptions, order_named};
 use jk_window::View;
-use std::alloc::Global;
+use std::alloc::{AllocError, Global};
+use std::fmt::{self, Display, Formatter, Write};
 
-/// How an archive is served.
-#[derive(Clone, Copy, Debug, PartialEq, Eq)]
-pub struct Serving {
+/// What a file is to keep beside the samples, or what of it is to be taken out: the words for each,
+/// where it is given.
+#[derive(Drop)]
+pub struct Kept<'a> {
+    /// The file of an ICC profile.
+    pub profile: Option<&'a str>,
+    /// How many samples stand on an inch.
+    pub resolution: Option<&'a str>,
+    /// The file of XML.
+    pub xml: Option<&'a str>,
+    /// UUIDs, each with a file.
+    pub uuids: Vec<&'a str>,
+}
+
+impl Kept<'_> {
+    /// Whether nothing of it is given.
+    pub fn is_none(&self) -> bool {
+        self.profile.is_none()
+            && self.resolution.is_none()
+            && self.xml.is_none()
+            && self.uuids.is_empty()
+    }
+}
+
+/// `jk encode IN OUT`.
+#[derive(Drop)]
+pub struct Encoding<'a> {
+    pub input: &'a str,
+    pub output: &'a str,
+    /// How many workers there are to be.
+    pub workers: u32,
+    pub options: EncodeOptions,
+    pub kept: Kept<'a>,
+}
+
+/// `jk decode IN OUT`.
+#[derive(Drop)]
+pub struct Decoding<'a> {
+    pub input: &'a str,
+    pub output: &'a str,
+    /// How many workers there are to be.
+    pub workers: u32,
+    /// How often the image is halved.
+    pub reduce: u32,
+    /// How many layers to decode, where a number is given.
+    pub layers: Option<u32>,
+    /// The window to decode, where one is given.
+    pub window: Option<View>,
+}
+
+/// `jk info IN`.
+#[derive(Drop)]
+pub struct Telling<'a> {
+    pub input: &'a str,
+    /// Whether all lines are to be told.
+    pub all: bool,
+}
+
+/// `jk cut IN OUT`.
+#[derive(Drop)]
+pub struct Cutting<'a> {
+    pub input: &'a str,
+    pub output: &'a str,
+    pub window: View,
+}
+
+/// `jk dress IN OUT`.
+#[derive(Drop)]
+pub struct Dressing<'a> {
+    pub input: &'a str,
+    pub output: &'a str,
+    pub kept: Kept<'a>,
+}
+
+/// `jk extras IN`.
+#[derive(Drop)]
+pub struct Listing<'a> {
+    pub input: &'a str,
+    /// What is to be taken out, each with the file that it goes to.
+    pub taken: Kept<'a>,
+}
+
+/// `jk add DIR NAME IN`.
+#[derive(Drop)]
+pub struct Adding<'a> {
+    pub folder: &'a str,
+    /// The name of the image.
+    pub name: &'a str,
+    pub input: &'a str,
+    pub options: EncodeOptions,
+    pub kept: Kept<'a>,
+}
+
+/// `jk check DIR`.
+#[derive(Drop)]
+pub struct Checking<'a> {
+    pub folder: &'a str,
+    /// The list with which the archive is compared, where one is given.
+    pub against: Option<&'a str>,
+    /// Whether code-blocks are judged too.
+    pub decode: bool,
+    /// How many workers there are to be.
+    pub workers: u32,
+}
+
+/// `jk serve DIR`.
+#[derive(Drop)]
+pub struct Server<'a> {
+    pub folder: &'a str,
     /// The port on 127.0.0.1, or 0 for one that is free.
     pub port: u16,
     /// How many connections are taken before the end; without a number there is none.
     pub connections: Option<u32>,
-    /// How many connections are served at a time, 1 to 64.
-    pub workers: usize,
-    /// How long a read or a write on a connection may wait, in seconds, 1 to 3,600.
+    /// How many connections are to be served at a time.
+    pub workers: u32,
+    /// How long a read or a write on a connection may wait, in seconds.
     pub timeout: u32,
     /// Whether each request is told on standard error.
     pub log: bool,
+}
+
+/// What a command line asks for.
+#[derive(Drop)]
+pub enum Command<'a> {
+    Encode(Encoding<'a>),
+    Decode(Decoding<'a>),
+    Info(Telling<'a>),
+    Cut(Cutting<'a>),
+    Dress(Dressing<'a>),
+    Extras(Listing<'a>),
+    Add(Adding<'a>),
+    Check(Checking<'a>),
+    Serve(Server<'a>),
+    Faults,
+}
+
+/// A command, and what may be asked of each.
+#[derive(Drop)]
+pub struct Line<'a> {
+    pub command: Command<'a>,
+    /// Whether nothing is to be told of how far the work is.
+    pub quiet: bool,
+    /// Whether the cause of a fault is to be said in words.
+    pub explain: bool,
+}
+
+/// A text about the command line: its help, its version, or what is wrong with it.
+#[derive(Drop)]
+pub struct Text(clap::Error);
+
+impl Display for Text {
+    fn fmt<W: Write>(&self, f: &mut Formatter<W>) -> fmt::Result {
+        self.0.fmt(f)
+    }
+}
+
+/// Why a command line asks for no command.
+#[derive(Drop)]
+pub enum Unasked {
+    /// Memory for its words was refused.
+    Memory,
+    /// This text is asked for.
+    Shows(Text),
+    /// The line is wrong, as this text says.
+    IsWrong(Text),
+    /// No command is named.
+    Nothing,
+}
+
+impl From<AllocError> for Unasked {
+    fn from(_error: AllocError) -> Unasked {
+        Unasked::Memory
+    }
 }
 
 /// A number, or what stands for it where it isn't given.
@@ -36,6 +200,41 @@ fn given_number(line: &ArgMatches<'_>, name: &str) -> Option<u32> {
     }
 }
 
+/// A word, or what stands for it where it isn't given.
+fn word<'a>(line: &ArgMatches<'a>, name: &str, default: &'a str) -> &'a str {
+    line.get_str(name).unwrap_or(default)
+}
+
+/// The file to read.
+fn input<'a>(line: &ArgMatches<'a>) -> &'a str {
+    word(line, "IN", "-")
+}
+
+/// The file to write.
+fn output<'a>(line: &ArgMatches<'a>) -> &'a str {
+    word(line, "OUT", "-")
+}
+
+/// The folder of an archive.
+fn folder<'a>(line: &ArgMatches<'a>) -> &'a str {
+    word(line, "DIR", ".")
+}
+
+/// How many workers there are to be.
+fn workers(line: &ArgMatches<'_>) -> u32 {
+    number(line, "workers", 1)
+}
+
+/// How often the image is halved.
+fn reduction(line: &ArgMatches<'_>) -> u32 {
+    number(line, "reduce", 0)
+}
+
+/// How many layers, where a number is given.
+fn layers(line: &ArgMatches<'_>) -> Option<u32> {
+    line.get_one::<u32>("layers")
+}
+
 /// The order of the packets, where it is given.
 fn order(line: &ArgMatches<'_>) -> Option<Order> {
     match line.value_source("order") {
@@ -45,7 +244,7 @@ fn order(line: &ArgMatches<'_>) -> Option<Order> {
 }
 
 /// The options of an encoding.
-pub fn encoding(alloc: Global, line: &ArgMatches<'_>) -> Result<EncodeOptions, Fault> {
+fn options(alloc: Global, line: &ArgMatches<'_>) -> Result<EncodeOptions, AllocError> {
     let given = EncodeOptions::new(alloc);
     Ok(EncodeOptions {
         levels: number(line, "levels", given.levels),
@@ -60,7 +259,7 @@ pub fn encoding(alloc: Global, line: &ArgMatches<'_>) -> Result<EncodeOptions, F
             causal: line.get_flag("causal"),
             segments: line.get_flag("segments"),
         },
-        precincts: String::from_str(alloc, line.get_str("precincts").unwrap_or(""))?,
+        precincts: String::from_str(alloc, word(line, "precincts", ""))?,
         windows: line.get_flag("windows"),
         x0: number(line, "x0", given.x0),
         y0: number(line, "y0", given.y0),
@@ -71,78 +270,140 @@ pub fn encoding(alloc: Global, line: &ArgMatches<'_>) -> Result<EncodeOptions, F
     })
 }
 
-/// How many workers there are to be.
-pub fn workers(line: &ArgMatches<'_>) -> u32 {
-    number(line, "workers", 1)
-}
-
-/// How often the image is halved.
-pub fn reduction(line: &ArgMatches<'_>) -> u32 {
-    number(line, "reduce", 0)
-}
-
-/// A window, in so many layers.
-fn view(line: &ArgMatches<'_>, layers: Option<u32>) -> View {
+/// The window of a view.
+fn view(line: &ArgMatches<'_>) -> View {
     View {
         reduce: reduction(line),
         x: number(line, "x", 0),
         y: number(line, "y", 0),
         width: number(line, "w", 0),
         height: number(line, "h", 0),
-        layers,
+        layers: layers(line),
     }
 }
 
-/// The window to cut out.
-pub fn cut(line: &ArgMatches<'_>) -> View {
-    view(line, line.get_one::<u32>("layers"))
-}
-
 /// The window to decode, where one is given: its four numbers come together.
-pub fn window(line: &ArgMatches<'_>) -> Option<View> {
+fn window(line: &ArgMatches<'_>) -> Option<View> {
     match line.get_one::<u32>("x") {
-        Some(_) => Some(view(line, None)),
+        Some(_) => Some(view(line)),
         None => None,
     }
 }
 
-/// How long a read or a write on a connection may wait, in seconds.
-pub fn timeout(line: &ArgMatches<'_>) -> u32 {
-    number(line, "timeout", 10)
+/// What a file is to keep, or what is to be taken out of it.
+fn kept_words<'a>(alloc: Global, line: &ArgMatches<'a>) -> Result<Kept<'a>, AllocError> {
+    let mut uuids = Vec::new(alloc);
+    if let Some(given) = line.get_strs("uuid") {
+        uuids.extend_from_slice(given)?;
+    }
+    Ok(Kept {
+        profile: line.get_str("profile"),
+        resolution: line.get_str("resolution"),
+        xml: line.get_str("xml"),
+        uuids,
+    })
 }
 
-/// How an archive is served, with so many workers.
-pub fn serving_with(line: &ArgMatches<'_>, workers: usize) -> Serving {
-    Serving {
+/// What `jk serve` is asked.
+fn served<'a>(line: &ArgMatches<'a>) -> Server<'a> {
+    Server {
+        folder: folder(line),
         port: line.get_one::<u16>("port").unwrap_or(0),
         connections: line.get_one::<u32>("connections"),
-        workers,
-        timeout: timeout(line),
+        workers: workers(line),
+        timeout: number(line, "timeout", 10),
         log: line.get_flag("log"),
     }
 }
 
-/// The file to read.
-pub fn input<'a>(line: &ArgMatches<'a>) -> &'a str {
-    line.get_str("IN").unwrap_or("-")
+/// What the words of a command ask for.
+fn asked<'a>(alloc: Global, name: Name, line: &ArgMatches<'a>) -> Result<Command<'a>, AllocError> {
+    Ok(match name {
+        Name::Encode => Command::Encode(Encoding {
+            input: input(line),
+            output: output(line),
+            workers: workers(line),
+            options: options(alloc, line)?,
+            kept: kept_words(alloc, line)?,
+        }),
+        Name::Decode => Command::Decode(Decoding {
+            input: input(line),
+            output: output(line),
+            workers: workers(line),
+            reduce: reduction(line),
+            layers: layers(line),
+            window: window(line),
+        }),
+        Name::Info => Command::Info(Telling {
+            input: input(line),
+            all: line.get_flag("all"),
+        }),
+        Name::Cut => Command::Cut(Cutting {
+            input: input(line),
+            output: output(line),
+            window: view(line),
+        }),
+        Name::Dress => Command::Dress(Dressing {
+            input: input(line),
+            output: output(line),
+            kept: kept_words(alloc, line)?,
+        }),
+        Name::Extras => Command::Extras(Listing {
+            input: input(line),
+            taken: kept_words(alloc, line)?,
+        }),
+        Name::Add => Command::Add(Adding {
+            folder: folder(line),
+            name: word(line, "NAME", ""),
+            input: input(line),
+            options: options(alloc, line)?,
+            kept: kept_words(alloc, line)?,
+        }),
+        Name::Check => Command::Check(Checking {
+            folder: folder(line),
+            against: line.get_str("against"),
+            decode: line.get_flag("decode"),
+            workers: workers(line),
+        }),
+        Name::Serve => Command::Serve(served(line)),
+        Name::Faults => Command::Faults,
+    })
 }
 
-/// The file to write.
-pub fn output<'a>(line: &ArgMatches<'a>) -> &'a str {
-    line.get_str("OUT").unwrap_or("-")
+/// What words ask for that clap has understood.
+fn understood<'a>(alloc: Global, matches: &ArgMatches<'a>) -> Result<Line<'a>, Unasked> {
+    let Some((name, line)) = matches.subcommand() else {
+        return Err(Unasked::Nothing);
+    };
+    let Some(name) = name_of(name) else {
+        return Err(Unasked::Nothing);
+    };
+    Ok(Line {
+        command: asked(alloc, name, line)?,
+        quiet: line.get_flag("quiet"),
+        explain: line.get_flag("explain"),
+    })
 }
 
-/// The list with which an archive is compared, where one is given.
-pub fn against<'a>(line: &ArgMatches<'a>) -> Option<&'a str> {
-    line.get_str("against")
+/// Why clap has understood no words.
+fn misunderstood(error: clap::Error) -> Unasked {
+    if error.kind() == ErrorKind::OutOfMemory {
+        return Unasked::Memory;
+    }
+    if error.use_stderr() {
+        return Unasked::IsWrong(Text(error));
+    }
+    Unasked::Shows(Text(error))
 }
 
-/// The folder of an archive.
-pub fn folder<'a>(line: &ArgMatches<'a>) -> &'a str {
-    line.get_str("DIR").unwrap_or(".")
-}
-
-/// The name of an image.
-pub fn name<'a>(line: &ArgMatches<'a>) -> &'a str {
-    line.get_str("NAME").unwrap_or("")
+/// What the words of a command line ask for, of which the first is the program's name.
+pub fn read_line<'a>(
+    alloc: Global,
+    defaults: &'a Defaults,
+    words: &'a [String],
+) -> Result<Line<'a>, Unasked> {
+    match command(alloc, defaults)?.try_get_matches_from(words) {
+        Ok(matches) => understood(alloc, &matches),
+        Err(error) => Err(misunderstood(error)),
+    }
 }

@@ -1,13 +1,14 @@
 //! What the command line may say.
 
 use crate::defaults::Defaults;
+use crate::keeping::{KEPT_WORDS, dress, extras};
 use clap::{Arg, ArgAction, Command, value_parser};
 use std::alloc::{AllocError, Global};
 
 /// The version. Over what stands behind it a release writes, into the built program, the line of
 /// the kit that proved it (`rt version`) and the processors that it is for, and then spaces
 /// (tools/release).
-const VERSION: &str = "0.2.0\nnot a release: `rt version` names the kit that proved it";
+const VERSION: &str = "0.2.1\nnot a release: `rt version` names the kit that proved it";
 
 /// What is told under the list of commands.
 const STATUSES: &str = "\
@@ -42,7 +43,8 @@ With --x, --y, --w and --h a window alone is decoded, in the time and memory of 
 and rows are counted on the reduced image, from its upper left sample; what passes its edge is left
 out. Packets and code-blocks on which the window doesn't depend aren't judged. IN may be the file of
 a window (`jk cut`), on which columns and rows are counted as on the old file. A window is decoded by
-one thread, whatever --workers says.";
+one thread, whatever --workers says. With --layers K only the first K layers are decoded: what is
+written is what `jk cut` with this number and then `jk decode` write.";
 
 /// What `jk cut` gives.
 const CUT_HELP: &str = "\
@@ -80,7 +82,7 @@ standard input have ended.";
 
 /// What a word of a command line is.
 #[derive(Clone, Copy)]
-enum Form<'a> {
+pub(crate) enum Form<'a> {
     /// A word that is required, by its place.
     Place,
     /// An option without a value.
@@ -95,20 +97,22 @@ enum Form<'a> {
     Default(&'a str, &'a str),
     /// An order of packets, and what stands where it isn't given.
     Order(&'a str),
-    /// Bytes of hexadecimal digits.
-    Bytes,
-    /// The name of a file.
-    File,
+    /// The name of a file, by what stands for it.
+    File(&'a str),
+    /// A name and a file, by what stands for them, as often as they are given.
+    Files(&'a str),
+    /// A text that is judged later, by what stands for it.
+    Text(&'a str),
     /// A port, which is required.
     Port,
 }
 
 /// A word of a command line: its name, what it is, and what it is for.
 #[derive(Clone, Copy)]
-struct Word<'a>(&'a str, Form<'a>, &'a str);
+pub(crate) struct Word<'a>(pub(crate) &'a str, pub(crate) Form<'a>, pub(crate) &'a str);
 
 /// That a fault is explained.
-const EXPLAIN: Word<'static> = Word(
+pub(crate) const EXPLAIN: Word<'static> = Word(
     "explain",
     Form::Flag,
     "Say the cause of a fault in words, behind its line; on a terminal they are there anyway",
@@ -142,40 +146,86 @@ const PIXELS: Word<'static> = Word(
 );
 
 /// The file to read.
-const CODED: Word<'static> = Word(
+pub(crate) const CODED: Word<'static> = Word(
     "IN",
     Form::Place,
     "The JPEG 2000 file, or - for standard input",
 );
 
+/// Which command it is.
+#[derive(Clone, Copy)]
+pub(crate) enum Name {
+    Encode,
+    Decode,
+    Info,
+    Cut,
+    Dress,
+    Extras,
+    Add,
+    Check,
+    Serve,
+    Faults,
+}
+
+/// The commands by their names, in the order in which they are listed.
+static NAMES: [(&str, Name); 10] = [
+    ("encode", Name::Encode),
+    ("decode", Name::Decode),
+    ("info", Name::Info),
+    ("cut", Name::Cut),
+    ("dress", Name::Dress),
+    ("extras", Name::Extras),
+    ("add", Name::Add),
+    ("check", Name::Check),
+    ("serve", Name::Serve),
+    ("faults", Name::Faults),
+];
+
+/// The command of a name.
+pub(crate) fn name_of(text: &str) -> Option<Name> {
+    for (known, name) in &NAMES {
+        if *known == text {
+            return Some(*name);
+        }
+    }
+    None
+}
+
+/// What clap is told of a command.
+fn told<'a>(alloc: Global, defaults: &'a Defaults, name: Name) -> Result<Command<'a>, AllocError> {
+    match name {
+        Name::Encode => encode(alloc, defaults),
+        Name::Decode => decode(alloc),
+        Name::Info => info(alloc),
+        Name::Cut => cut(alloc),
+        Name::Dress => dress(alloc),
+        Name::Extras => extras(alloc),
+        Name::Add => add(alloc, defaults),
+        Name::Check => check(alloc),
+        Name::Serve => serve(alloc),
+        Name::Faults => faults(alloc),
+    }
+}
+
 /// The command line of `jk`.
-pub fn command<'a>(alloc: Global, defaults: &'a Defaults) -> Result<Command<'a>, AllocError> {
-    let command = Command::new(alloc, "jk")
+pub(crate) fn command<'a>(
+    alloc: Global,
+    defaults: &'a Defaults,
+) -> Result<Command<'a>, AllocError> {
+    let mut command = Command::new(alloc, "jk")
         .version(VERSION)
         .about("A lossless image archive for JPEG 2000, on its reversible path")
         .after_help(STATUSES)
         .subcommand_required(true)
         .arg_required_else_help(true);
-    let command = with_command(command, encode(alloc, defaults))?;
-    let command = with_command(command, decode(alloc))?;
-    let command = with_command(command, info(alloc))?;
-    let command = with_command(command, cut(alloc))?;
-    let command = with_command(command, add(alloc, defaults))?;
-    let command = with_command(command, check(alloc))?;
-    let command = with_command(command, serve(alloc))?;
-    with_command(command, faults(alloc))
-}
-
-/// A command line with one more command, if that was made.
-fn with_command<'a>(
-    command: Command<'a>,
-    made: Result<Command<'a>, AllocError>,
-) -> Result<Command<'a>, AllocError> {
-    command.subcommand(made?)
+    for (_text, name) in &NAMES {
+        command = command.subcommand(told(alloc, defaults, *name)?)?;
+    }
+    Ok(command)
 }
 
 /// A command with more words.
-fn with_words<'a>(
+pub(crate) fn with_words<'a>(
     alloc: Global,
     command: Command<'a>,
     words: &[Word<'a>],
@@ -193,7 +243,12 @@ fn named_command<'a>(alloc: Global, name: &'a str, about: &'a str) -> Command<'a
 }
 
 /// A command of a name, what it does, and what is told under its options.
-fn explained<'a>(alloc: Global, name: &'a str, about: &'a str, after: &'a str) -> Command<'a> {
+pub(crate) fn explained<'a>(
+    alloc: Global,
+    name: &'a str,
+    about: &'a str,
+    after: &'a str,
+) -> Command<'a> {
     named_command(alloc, name, about).after_help(after)
 }
 
@@ -232,6 +287,7 @@ fn with_encoding<'a>(
     let command = with_words(alloc, command, &CODING_WORDS)?;
     let command = with_words(alloc, command, &TILE_WORDS)?;
     let command = with_origin(alloc, command, defaults)?;
+    let command = with_words(alloc, command, &KEPT_WORDS)?;
     with_words(alloc, command, &[EXPLAIN])
 }
 
@@ -286,7 +342,7 @@ fn with_blocks<'a>(
 static CODING_WORDS: [Word<'static>; 8] = [
     Word(
         "precincts",
-        Form::Bytes,
+        Form::Text("HEX"),
         "Precinct sizes, a byte for each resolution from the lowest on, as in COD: two digits, the exponent of the height and that of the width",
     ),
     Word(
@@ -350,7 +406,7 @@ fn with_origin<'a>(
 }
 
 /// The words of `jk decode`.
-static DECODE_WORDS: [Word<'static>; 10] = [
+static DECODE_WORDS: [Word<'static>; 11] = [
     CODED,
     Word(
         "OUT",
@@ -369,6 +425,11 @@ static DECODE_WORDS: [Word<'static>; 10] = [
         "reduce",
         Form::Default("D", "0"),
         "How often to halve the image, at most the LEVELS of `jk info`",
+    ),
+    Word(
+        "layers",
+        Form::Number("K"),
+        "How many layers to decode, all where there are fewer; without it all of them",
     ),
     WORKERS,
     QUIET,
@@ -473,7 +534,7 @@ static CHECK_WORDS: [Word<'static>; 6] = [
     FOLDER,
     Word(
         "against",
-        Form::File,
+        Form::File("FILE"),
         "A list that was written before, to compare with, or - for standard input",
     ),
     Word("decode", Form::Flag, "Judge the code-blocks too"),
@@ -561,8 +622,9 @@ fn arg<'a>(alloc: Global, word: Word<'a>) -> Result<Arg<'a>, AllocError> {
         Form::Window => number(alloc, name, "N").requires_all(&WINDOW)?,
         Form::Default(letter, value) => number(alloc, name, letter).default_value(value),
         Form::Order(value) => order(alloc, name, value),
-        Form::Bytes => option(alloc, name, "HEX"),
-        Form::File => valued(alloc, name, "FILE"),
+        Form::Text(value) => option(alloc, name, value),
+        Form::File(value) => valued(alloc, name, value),
+        Form::Files(value) => repeated(alloc, name, value),
         Form::Port => port(alloc, name),
     };
     Ok(arg.help(help))
@@ -576,6 +638,11 @@ fn named<'a>(alloc: Global, name: &'a str) -> Arg<'a> {
 /// An option with a value.
 fn valued<'a>(alloc: Global, name: &'a str, value: &'a str) -> Arg<'a> {
     named(alloc, name).value_name(value)
+}
+
+/// An option with a value, which may be given again.
+fn repeated<'a>(alloc: Global, name: &'a str, value: &'a str) -> Arg<'a> {
+    valued(alloc, name, value).action(ArgAction::Append)
 }
 
 /// An option with a value that may begin with a minus: a negative number is judged as others are.

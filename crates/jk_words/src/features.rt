@@ -1,6 +1,8 @@
 //! What of a file jk leaves out. It is looked for where a file was refused, to explain it, and
 //! decides nothing.
 
+use jk_marks::{marker, segment_size};
+
 /// The byte at a place, and 0 behind the last one.
 fn byte(bytes: &[u8], at: usize) -> u8 {
     match bytes.get(at) {
@@ -10,12 +12,12 @@ fn byte(bytes: &[u8], at: usize) -> u8 {
 }
 
 /// The number of two bytes.
-fn pair(bytes: &[u8], at: usize) -> u16 {
+pub(crate) fn pair(bytes: &[u8], at: usize) -> u16 {
     byte(bytes, at) as u16 * 256 + byte(bytes, at.saturating_add(1)) as u16
 }
 
 /// The number of four bytes.
-fn quad(bytes: &[u8], at: usize) -> usize {
+pub(crate) fn quad(bytes: &[u8], at: usize) -> usize {
     pair(bytes, at) as usize * 65536 + pair(bytes, at.saturating_add(2)) as usize
 }
 
@@ -27,7 +29,7 @@ const SEGMENTS: usize = 1 << 20;
 
 /// Where the codestream begins: at the front, or in the box `jp2c` (T.800 I.5.4).
 fn codestream_start(bytes: &[u8]) -> Option<usize> {
-    if pair(bytes, 0) == 0xFF4F {
+    if pair(bytes, 0) == marker::SOC {
         return Some(0);
     }
     let mut at = 0usize;
@@ -50,19 +52,18 @@ fn codestream_start(bytes: &[u8]) -> Option<usize> {
     None
 }
 
-/// What the image and tile size segment at a place asks for (T.800 A.5.1).
-fn in_size(bytes: &[u8], at: usize) -> Option<&'static str> {
-    if pair(bytes, at.saturating_add(4)) >= 0x4000 {
+/// What the image and tile size segment at the front asks for (T.800 A.5.1).
+fn in_size(bytes: &[u8]) -> Option<&'static str> {
+    if pair(bytes, 4) >= 0x4000 {
         return Some("a capability beyond T.800 (Rsiz)");
     }
-    let components = pair(bytes, at.saturating_add(38)) as usize;
+    let components = pair(bytes, 38) as usize;
     if components > 4 {
         return Some("more than four components");
     }
-    let first = at.saturating_add(40);
     for component in 0..components {
-        let place = first.saturating_add(3 * component);
-        if byte(bytes, place) != byte(bytes, first) {
+        let place = 40 + 3 * component;
+        if byte(bytes, place) != byte(bytes, 40) {
             return Some("components of different depth or sign");
         }
         if pair(bytes, place.saturating_add(1)) != 0x0101 {
@@ -88,19 +89,19 @@ fn in_style(bytes: &[u8], at: usize) -> Option<&'static str> {
     None
 }
 
-/// What the marker segment at a place asks for.
-fn in_segment(bytes: &[u8], at: usize) -> Option<&'static str> {
-    match pair(bytes, at) {
-        0xFF51 => in_size(bytes, at),
-        0xFF52 => in_style(bytes, at.saturating_add(12)),
-        0xFF53 => in_style(bytes, at.saturating_add(9)),
-        0xFF57 => Some("the lengths of packets in the main header (PLM)"),
-        0xFF5C => in_steps(bytes, at.saturating_add(4)),
-        0xFF5D => in_steps(bytes, at.saturating_add(5)),
-        0xFF5E => Some("a region of interest (RGN)"),
-        0xFF5F => Some("a change of the progression order (POC)"),
-        0xFF60 => Some("packed packet headers (PPM)"),
-        0xFF61 => Some("packed packet headers (PPT)"),
+/// What the marker segment at the front asks for.
+fn in_segment(bytes: &[u8]) -> Option<&'static str> {
+    match pair(bytes, 0) {
+        marker::SIZ => in_size(bytes),
+        marker::COD => in_style(bytes, 12),
+        marker::COC => in_style(bytes, 9),
+        marker::PLM => Some("the lengths of packets in the main header (PLM)"),
+        marker::QCD => in_steps(bytes, 4),
+        marker::QCC => in_steps(bytes, 5),
+        marker::RGN => Some("a region of interest (RGN)"),
+        marker::POC => Some("a change of the progression order (POC)"),
+        marker::PPM => Some("packed packet headers (PPM)"),
+        marker::PPT => Some("packed packet headers (PPT)"),
         _ => None,
     }
 }
@@ -114,43 +115,45 @@ fn in_steps(bytes: &[u8], at: usize) -> Option<&'static str> {
     }
 }
 
-/// What the headers of a codestream ask for that jk leaves out.
-fn in_codestream(bytes: &[u8], start: usize) -> Option<&'static str> {
-    let mut at = start.saturating_add(2);
-    let mut part = at;
+/// What the segments of a header ask for, which begin these bytes, up to the marker `last`; and the
+/// bytes behind those that ask for nothing.
+fn in_header(bytes: &[u8], last: u16) -> (Option<&'static str>, &[u8]) {
+    let mut rest = bytes;
     for _segment in 0..SEGMENTS {
-        if bytes.len() <= at {
+        let found = in_segment(rest);
+        let size = segment_size(rest, last);
+        if found.is_some() || size == 0 {
+            return (found, rest);
+        }
+        rest = &rest[size..];
+    }
+    (None, rest)
+}
+
+/// What the headers of a codestream ask for that jk leaves out.
+fn in_codestream(bytes: &[u8]) -> Option<&'static str> {
+    let (found, mut part) = in_header(bytes.get(2..)?, marker::SOT);
+    if found.is_some() {
+        return found;
+    }
+    for _part in 0..SEGMENTS {
+        if pair(part, 0) != marker::SOT {
             return None;
         }
-        let found = in_segment(bytes, at);
-        if found.is_some() {
+        let (found, _data) = in_header(part.get(12..)?, marker::SOD);
+        let length = quad(part, 6);
+        if found.is_some() || length < 14 {
             return found;
         }
-        match pair(bytes, at) {
-            0xFFD9 => return None,
-            0xFF93 => {
-                let length = quad(bytes, part.saturating_add(6));
-                if length < 14 {
-                    return None;
-                }
-                at = part.saturating_add(length);
-            }
-            marker => {
-                if marker == 0xFF90 {
-                    part = at;
-                }
-                let length = pair(bytes, at.saturating_add(2)) as usize;
-                at = at.saturating_add(2).saturating_add(length);
-            }
-        }
+        part = part.get(length..)?;
     }
     None
 }
 
 /// What PGM and PPM files can't have, of an image of this size segment.
-fn beyond_pnm(bytes: &[u8], start: usize) -> Option<&'static str> {
-    let components = pair(bytes, start.saturating_add(40));
-    if byte(bytes, start.saturating_add(42)) >= 128 {
+fn beyond_pnm(codestream: &[u8]) -> Option<&'static str> {
+    let components = pair(codestream, 40);
+    if byte(codestream, 42) >= 128 {
         Some("signed samples, which PGM and PPM files can't have")
     } else if components == 2 || components == 4 {
         Some("two or four components, and PGM and PPM files have one or three")
@@ -163,13 +166,13 @@ fn beyond_pnm(bytes: &[u8], start: usize) -> Option<&'static str> {
 /// thing.
 pub fn left_out(bytes: &[u8]) -> Option<&'static str> {
     let start = codestream_start(bytes)?;
-    let front = &bytes[..start.min(bytes.len())];
+    let (front, codestream) = bytes.split_at(start.min(bytes.len()));
     if front.windows(4).any(|word| word == b"pclr".as_slice()) {
         return Some("a palette (pclr)");
     }
-    let found = in_codestream(bytes, start);
+    let found = in_codestream(codestream);
     if found.is_some() {
         return found;
     }
-    beyond_pnm(bytes, start)
+    beyond_pnm(codestream)
 }

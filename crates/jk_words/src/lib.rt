@@ -8,16 +8,18 @@ mod commands;
 mod defaults;
 mod faults;
 mod features;
+mod keeping;
 mod limits;
+mod profiles;
 mod progress;
 
 pub use asked::{
-    Serving, against, cut, encoding, folder, input, name, output, reduction, serving_with, timeout,
-    window, workers,
+    Adding, Checking, Command, Cutting, Decoding, Dressing, Encoding, Kept, Line, Listing, Server,
+    Telling, Text, Unasked, read_line,
 };
-pub use commands::command;
 pub use defaults::Defaults;
 pub use faults::{FaultLine, cause_of, fault_lines};
 pub use features::left_out;
 pub use limits::bad_option;
+pub use profiles::{bad_profile, components_told};
 pub use progress::{Progress, Work};

@@ -1,7 +1,7 @@
 //! The calls that the tests make, without their contracts: a test says what is answered, and proves
 //! nothing by it.
 
-use jk_farm::Gate;
+use jk_jobs::Gate;
 use jk_marks::Order;
 use jk_math::{Fault, Image, Style};
 use jk_params::{Container, Parameters};

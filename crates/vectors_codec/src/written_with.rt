@@ -4,7 +4,7 @@ use crate::asserts::equal_at;
 use crate::calls::{self, encode, encode_with};
 use crate::texts::pnm_of;
 use crate::written::{in_colour, in_tiles, tiled_samples};
-use jk_farm::{Gate, Open};
+use jk_jobs::{Gate, Open};
 use jk_marks::Order;
 use jk_math::{Fault, Image};
 use jk_params::Parameters;

@@ -1,4 +1,4 @@
-ghost use Rattle.std.specs.Prelude.{◌^◌, ◌<◌, All, IfOk, IsTrue, unsigned_abs};
+ghost use Rattle.std.specs.Prelude.{◌^◌, ◌<◌, All, IsTrue, unsigned_abs};
 ghost use Rattle.jk_farm.specs.Blocks.{IsBlock, IsSegment};
 
 use crate::cases::BLOCKS;
@@ -7,9 +7,8 @@ use jk_farm::{Gate, Open, Segment, map_blocks, map_segments};
 use jk_math::{Fault, Orientation, Style};
 use std::alloc::Global;
 use std::process::Abort;
-use std::test::Fail;
 use std::thread::Threads;
-use vectors::{Meeting, bytes_of};
+use vectors::{Line, Meeting, bytes_of, equal, equal_at};
 
 /// A gate at which the first job meets the second.
 #[derive(Drop)]
@@ -40,29 +39,46 @@ fn is_segment(segment: &Segment) -> bool
         && segment.planes <= 23
 }
 
-/// The segments of code-blocks of one sample with one bit-plane, by their bytes and passes.
-fn segments(alloc: Global, texts: &[(&str, usize)]) -> Result<Vec<Segment>, Fail>
-    ensures { IfOk result (λ v. All IsSegment v.items) }
+/// The segment of a code-block of one sample with one bit-plane, by its bytes and passes.
+fn segment_of(rt: &impl Abort, alloc: Global, text: &str, passes: usize, style: Style) -> Segment {
+    Segment {
+        bytes: bytes_of(alloc, &[text]).expect(rt, "a segment"),
+        shape: BlockShape {
+            width: 1,
+            height: 1,
+            orientation: Orientation::LL,
+            style,
+        },
+        planes: 1,
+        passes,
+    }
+}
+
+/// The segments of such code-blocks, in a style.
+fn segments_in(
+    rt: &impl Abort,
+    alloc: Global,
+    style: Style,
+    texts: &[(&str, usize)],
+) -> Vec<Segment>
+    ensures { All IsSegment result.items }
 {
     let mut made = Vec::new(alloc);
     for (text, passes) in texts {
-        made.push(Segment {
-            bytes: bytes_of(alloc, &[*text])?,
-            shape: BlockShape {
-                width: 1,
-                height: 1,
-                orientation: Orientation::LL,
-                style: Style::plain(),
-            },
-            planes: 1,
-            passes: *passes,
-        })?;
+        made.push(segment_of(rt, alloc, *text, *passes, style))
+            .expect(rt, "a segment");
     }
     let segments = made;
-    if !segments.iter().all(|segment| is_segment(segment)) {
-        return Err("a segment outside the profile".into());
-    }
-    Ok(segments)
+    let sound = segments.iter().all(|segment| is_segment(segment));
+    assert!(rt; sound);
+    segments
+}
+
+/// The segments of such code-blocks.
+fn segments(rt: &impl Abort, alloc: Global, texts: &[(&str, usize)]) -> Vec<Segment>
+    ensures { All IsSegment result.items }
+{
+    segments_in(rt, alloc, Style::plain(), texts)
 }
 
 /// Whether each magnitude is below 2^23.
@@ -83,22 +99,6 @@ fn is_block(block: &Block) -> bool
         && is_small(&block.values)
 }
 
-/// The number of a word, or 0.
-fn number(word: &str) -> usize {
-    word.parse::<u16>().unwrap_or(0) as usize
-}
-
-/// The numbers of a word with commas, or none where it is `-`.
-fn numbers(alloc: Global, word: &str) -> Result<Vec<i32>, Fail> {
-    let mut all = Vec::new(alloc);
-    if word != "-" {
-        for part in word.split(',') {
-            all.push(part.parse::<i32>()?)?;
-        }
-    }
-    Ok(all)
-}
-
 /// A sub-band by its name.
 fn orientation_of(text: &str) -> Orientation {
     match text {
@@ -109,35 +109,56 @@ fn orientation_of(text: &str) -> Orientation {
     }
 }
 
-/// The code-block of a line.
-fn block_of(alloc: Global, line: &str) -> Result<Block, Fail> {
-    let mut words = line.split(' ');
-    let width = number(words.next().unwrap_or(""));
-    let height = number(words.next().unwrap_or(""));
-    let orientation = orientation_of(words.next().unwrap_or(""));
-    let values = numbers(alloc, words.next().unwrap_or(""))?;
-    Ok(Block {
-        width,
-        height,
-        orientation,
+/// A line of the table: the code-block, and what is written of it.
+#[derive(Drop)]
+struct Row {
+    block: Block,
+    planes: u64,
+    bytes: Vec<u8>,
+    marks: Vec<i32>,
+}
+
+/// The row of a line.
+fn row_of(rt: &impl Abort, alloc: Global, text: &str) -> Row {
+    let mut line = Line::new(text, ' ');
+    let block = Block {
+        width: line.number(0, 1024) as usize,
+        height: line.number(0, 1024) as usize,
+        orientation: orientation_of(line.word()),
         style: Style::plain(),
-        values,
-    })
+        values: line.numbers(alloc, ','),
+    };
+    let planes = line.number(0, 23);
+    let bytes = line.bytes(alloc);
+    let marks = line.numbers(alloc, ',');
+    line.end().expect(rt, "a line");
+    Row {
+        block,
+        planes,
+        bytes,
+        marks,
+    }
+}
+
+/// The code-block of a line.
+fn block_of(rt: &impl Abort, alloc: Global, text: &str) -> Block {
+    let Row { block, .. } = row_of(rt, alloc, text);
+    block
 }
 
 /// The code-blocks of all lines.
-fn blocks(alloc: Global) -> Result<Vec<Block>, Fail>
-    ensures { IfOk result (λ v. All IsBlock v.items) }
+fn blocks(rt: &impl Abort, alloc: Global) -> Vec<Block>
+    ensures { All IsBlock result.items }
 {
     let mut made = Vec::new(alloc);
     for line in BLOCKS.split('\n') {
-        made.push(block_of(alloc, line)?)?;
+        made.push(block_of(rt, alloc, line))
+            .expect(rt, "a code-block");
     }
     let blocks = made;
-    if !blocks.iter().all(|block| is_block(block)) {
-        return Err("a code-block outside the profile".into());
-    }
-    Ok(blocks)
+    let sound = blocks.iter().all(|block| is_block(block));
+    assert!(rt; sound);
+    blocks
 }
 
 /// Whether a mark for each pass is these numbers.
@@ -153,162 +174,172 @@ fn are_marks(marks: &[usize], due: &[i32]) -> bool {
     true
 }
 
-/// Whether a code-block is coded as its line says.
-fn is_due(alloc: Global, coded: &CodedBlock, line: &str) -> Result<bool, Fail> {
-    let mut words = line.split(' ');
-    for _ in 0..4 {
-        let _ = words.next();
+/// Whether a code-block is coded as its row says.
+fn is_due(coded: &CodedBlock, row: &Row) -> bool {
+    coded.planes as u64 == row.planes
+        && coded.passes == row.marks.len()
+        && coded.bytes.as_slice() == row.bytes.as_slice()
+        && are_marks(&coded.marks, &row.marks)
+}
+
+/// What segments mean, by so many workers.
+fn read<R: Threads + Sync, G: Gate + Sync>(
+    rt: &R,
+    alloc: Global,
+    workers: usize,
+    gate: &G,
+    jobs: &[Segment],
+) -> Result<Vec<Block>, Fault>
+    requires { All IsSegment jobs.now }
+{
+    map_segments(rt, alloc, workers, gate, jobs)
+}
+
+/// Blocks have one coefficient each.
+fn have(rt: &impl Abort, workers: usize, blocks: &[Block], due: &[i32]) {
+    equal_at(workers, blocks.len(), due.len()).expect(rt, "code-blocks");
+    for (block, value) in blocks.iter().zip(due) {
+        let values = block.values.as_slice();
+        equal_at(workers, values, [*value].as_slice()).expect(rt, "a coefficient");
     }
-    let planes = number(words.next().unwrap_or(""));
-    let bytes = bytes_of(alloc, &[words.next().unwrap_or("")])?;
-    let marks = numbers(alloc, words.next().unwrap_or(""))?;
-    Ok(
-        coded.planes as usize == planes
-            && coded.passes == marks.len()
-            && coded.bytes.as_slice() == bytes.as_slice()
-            && are_marks(&coded.marks, &marks),
-    )
 }
 
 /// `03` means 1 and `07` means -1, by one thread, two and five.
 #[test]
-fn one_coefficient_each(rt: HostRuntime) -> Result<(), Fail> {
-    let alloc = rt.alloc();
-    let jobs = segments(alloc, &[("03", 1), ("07", 1), ("03", 1)])?;
+fn one_coefficient_each(rt: HostRuntime) {
+    let jobs = segments(&rt, rt.alloc(), &[("03", 1), ("07", 1), ("03", 1)]);
     for workers in [1, 2, 5, 64] {
-        let blocks = map_segments(&rt, alloc, workers, &Open, &jobs)?;
-        assert_eq!(rt; blocks.len(), 3, "{workers}");
-        for (block, due) in blocks.iter().zip([1, -1, 1]) {
-            assert_eq!(rt; block.values.as_slice(), [due].as_slice(), "{workers}");
-        }
+        let blocks = read(&rt, rt.alloc(), workers, &Open, &jobs);
+        have(
+            &rt,
+            workers,
+            &blocks.expect(&rt, "code-blocks"),
+            &[1, -1, 1],
+        );
     }
-    Ok(())
+}
+
+/// Segments have a fault, by one thread, two and five.
+fn refused<R: Threads + Sync + Abort>(rt: &R, alloc: Global, jobs: &[Segment], fault: Fault)
+    requires { All IsSegment jobs.now }
+{
+    for workers in [1, 2, 5] {
+        let found = read(rt, alloc, workers, &Open, jobs).err();
+        equal_at(workers, found, Some(fault)).expect(rt, "a fault");
+    }
 }
 
 /// The fault of the first job that has one: a code value outside the interval, and behind it a
 /// block of more passes than its one bit-plane has.
 #[test]
-fn fault_of_the_least_job(rt: HostRuntime) -> Result<(), Fail> {
-    let alloc = rt.alloc();
-    let jobs = segments(alloc, &[("FF8F", 1), ("03", 2)])?;
-    let turned = segments(alloc, &[("03", 2), ("FF8F", 1)])?;
-    for workers in [1, 2, 5] {
-        let found = map_segments(&rt, alloc, workers, &Open, &jobs).err();
-        assert_eq!(rt; found, Some(Fault::CodeOutOfInterval), "{workers}");
-        let found = map_segments(&rt, alloc, workers, &Open, &turned).err();
-        assert_eq!(rt; found, Some(Fault::TooManyPasses), "{workers}");
-    }
-    Ok(())
+fn fault_of_the_least_job(rt: HostRuntime) {
+    let jobs = segments(&rt, rt.alloc(), &[("FF8F", 1), ("03", 2)]);
+    refused(&rt, rt.alloc(), &jobs, Fault::CodeOutOfInterval);
+    let turned = segments(&rt, rt.alloc(), &[("03", 2), ("FF8F", 1)]);
+    refused(&rt, rt.alloc(), &turned, Fault::TooManyPasses);
 }
 
 /// The same segments, each ended by a segmentation symbol.
-fn marked(alloc: Global, texts: &[(&str, usize)]) -> Result<Vec<Segment>, Fail>
-    ensures { IfOk result (λ v. All IsSegment v.items) }
+fn marked(rt: &impl Abort, alloc: Global, texts: &[(&str, usize)]) -> Vec<Segment>
+    ensures { All IsSegment result.items }
 {
-    let mut made = Vec::new(alloc);
-    for segment in segments(alloc, texts)? {
-        let mut marked = segment;
-        marked.shape.style.segments = true;
-        made.push(marked)?;
-    }
-    let segments = made;
-    if !segments.iter().all(|segment| is_segment(segment)) {
-        return Err("a segment outside the profile".into());
-    }
-    Ok(segments)
+    let style = Style {
+        reset: false,
+        causal: false,
+        segments: true,
+    };
+    segments_in(rt, alloc, style, texts)
 }
 
 /// A segmentation symbol that isn't the one due is the fault of its job, unless one before it has
 /// another.
 #[test]
-fn symbols_of_each_job(rt: HostRuntime) -> Result<(), Fail> {
-    let alloc = rt.alloc();
-    let right = marked(alloc, &[("01", 1), ("01", 1)])?;
-    let wrong = marked(alloc, &[("01", 1), ("03", 1), ("FF8F", 1)])?;
-    let turned = marked(alloc, &[("FF8F", 1), ("03", 1)])?;
+fn symbols_of_each_job(rt: HostRuntime) {
+    let right = marked(&rt, rt.alloc(), &[("01", 1), ("01", 1)]);
     for workers in [1, 2, 5] {
-        for block in map_segments(&rt, alloc, workers, &Open, &right)? {
-            assert_eq!(rt; block.values.as_slice(), [1].as_slice(), "{workers}");
-        }
-        let found = map_segments(&rt, alloc, workers, &Open, &wrong).err();
-        assert_eq!(rt; found, Some(Fault::BadValue), "{workers}");
-        let found = map_segments(&rt, alloc, workers, &Open, &turned).err();
-        assert_eq!(rt; found, Some(Fault::CodeOutOfInterval), "{workers}");
+        let blocks = read(&rt, rt.alloc(), workers, &Open, &right);
+        have(&rt, workers, &blocks.expect(&rt, "code-blocks"), &[1, 1]);
     }
-    Ok(())
+    let wrong = marked(&rt, rt.alloc(), &[("01", 1), ("03", 1), ("FF8F", 1)]);
+    refused(&rt, rt.alloc(), &wrong, Fault::BadValue);
+    let turned = marked(&rt, rt.alloc(), &[("FF8F", 1), ("03", 1)]);
+    refused(&rt, rt.alloc(), &turned, Fault::CodeOutOfInterval);
 }
 
 /// How many code-blocks there are.
 const COUNT: usize = 78;
 
 /// How many code-blocks so many workers write as they are due, and how many in all.
-fn written<R: Threads + Sync, G: Gate + Sync>(
+fn written<R: Threads + Sync + Abort, G: Gate + Sync>(
     rt: &R,
     alloc: Global,
     workers: usize,
     gate: &G,
-) -> Result<(usize, usize), Fail> {
-    let coded = map_blocks(rt, alloc, workers, gate, &blocks(alloc)?)?;
+) -> (usize, usize) {
+    let coded = map_blocks(rt, alloc, workers, gate, &blocks(rt, alloc));
+    let coded = coded.expect(rt, "code-blocks");
     let mut right: usize = 0;
     for (one, line) in coded.iter().zip(BLOCKS.split('\n')) {
-        if is_due(alloc, one, line)? {
+        if is_due(one, &row_of(rt, alloc, line)) {
             right = right.saturating_add(1);
         }
     }
-    Ok((right, coded.len()))
+    (right, coded.len())
 }
 
 /// What is written by one thread, two and five, bytes and marks.
 #[test]
-fn blocks_written(rt: HostRuntime) -> Result<(), Fail> {
+fn blocks_written(rt: HostRuntime) {
     for workers in [1, 2, 5] {
-        let found = written(&rt, rt.alloc(), workers, &Open)?;
-        assert_eq!(rt; found, (COUNT, COUNT), "{workers}");
+        let found = written(&rt, rt.alloc(), workers, &Open);
+        equal_at(workers, found, (COUNT, COUNT)).expect(&rt, "code-blocks");
     }
-    Ok(())
+}
+
+/// So many workers are refused.
+fn too_many_or_none<R: Threads + Sync + Abort>(rt: &R, alloc: Global, workers: usize) {
+    let due = Some(Fault::BadParameters);
+    let read = map_segments(rt, alloc, workers, &Open, &[]).err();
+    equal_at(workers, read, due).expect(rt, "segments");
+    let written = map_blocks(rt, alloc, workers, &Open, &[]).err();
+    equal_at(workers, written, due).expect(rt, "code-blocks");
 }
 
 /// No worker, and one more than 64.
 #[test]
-fn workers_out_of_range(rt: HostRuntime) -> Result<(), Fail> {
-    let alloc = rt.alloc();
-    for workers in [0, 65] {
-        let read = map_segments(&rt, alloc, workers, &Open, &[]).err();
-        assert_eq!(rt; read, Some(Fault::BadParameters), "{workers}");
-        let written = map_blocks(&rt, alloc, workers, &Open, &[]).err();
-        assert_eq!(rt; written, Some(Fault::BadParameters), "{workers}");
+fn workers_out_of_range(rt: HostRuntime) {
+    too_many_or_none(&rt, rt.alloc(), 0);
+    too_many_or_none(&rt, rt.alloc(), 65);
+    let none = map_segments(&rt, rt.alloc(), 2, &Open, &[]);
+    equal(none.expect(&rt, "no segment").len(), 0).expect(&rt, "code-blocks");
+}
+
+/// A gate for so many jobs.
+fn gate_for(rt: &impl Abort, alloc: Global, jobs: usize) -> Held {
+    Held {
+        meeting: Meeting::new(alloc, jobs).expect(rt, "a gate"),
     }
-    assert_eq!(rt; map_segments(&rt, alloc, 2, &Open, &[])?.len(), 0);
-    Ok(())
 }
 
 /// So many workers read segments: each is told once when it begins and once when it has ended, and
 /// the first one ends only because the second has begun.
 #[test]
-fn two_are_read_at_a_time(rt: HostRuntime) -> Result<(), Fail> {
-    let alloc = rt.alloc();
-    let jobs = segments(alloc, &[("03", 1), ("07", 1), ("03", 1)])?;
+fn two_are_read_at_a_time(rt: HostRuntime) {
+    let jobs = segments(&rt, rt.alloc(), &[("03", 1), ("07", 1), ("03", 1)]);
     for workers in [2, 3] {
-        let held = Held {
-            meeting: Meeting::new(alloc, 3)?,
-        };
-        map_segments(&rt, alloc, workers, &held, &jobs)?;
+        let held = gate_for(&rt, rt.alloc(), 3);
+        read(&rt, rt.alloc(), workers, &held, &jobs).expect(&rt, "code-blocks");
         assert!(rt; held.meeting.was_met(1), "{workers}");
     }
-    Ok(())
 }
 
 /// So it is where code-blocks are written, and what is written is the same.
 #[test]
-fn two_are_written_at_a_time(rt: HostRuntime) -> Result<(), Fail> {
-    let alloc = rt.alloc();
+fn two_are_written_at_a_time(rt: HostRuntime) {
     for workers in [2, 3] {
-        let held = Held {
-            meeting: Meeting::new(alloc, COUNT)?,
-        };
-        let found = written(&rt, alloc, workers, &held)?;
-        assert_eq!(rt; found, (COUNT, COUNT), "{workers}");
+        let held = gate_for(&rt, rt.alloc(), COUNT);
+        let found = written(&rt, rt.alloc(), workers, &held);
+        equal_at(workers, found, (COUNT, COUNT)).expect(&rt, "code-blocks");
         assert!(rt; held.meeting.was_met(1), "{workers}");
     }
-    Ok(())
 }

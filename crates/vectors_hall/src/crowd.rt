@@ -2,8 +2,8 @@
 
 use crate::calls::{PAGE, equal, page_entries, page_shelf};
 use crate::streams::TURNS;
-use jk_farm::Open;
 use jk_hall::{Connection, Hall, Nobody, Source, Writer, serve_all};
+use jk_jobs::Open;
 use jk_math::Fault;
 use jk_store::{Entry, MemoryShelf};
 use jk_web::End;

@@ -3,8 +3,8 @@
 ghost use Rattle.std.specs.Prelude.{◌≡◌, ◌<◌, vec_len};
 
 use crate::calls::{equal, opened, shelves};
-use jk_farm::Open;
 use jk_hall::{Reader, serve_all};
+use jk_jobs::Open;
 use jk_math::Fault;
 use jk_serve::{Arriving, bind};
 use std::alloc::Global;

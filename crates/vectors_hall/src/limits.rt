@@ -1,8 +1,8 @@
 //! How often a connection is read at most.
 
 use crate::calls::{equal, opened, shelves};
-use jk_farm::Open;
 use jk_hall::{Connection, Nobody, Source, serve_all};
+use jk_jobs::Open;
 use jk_web::End;
 use std::alloc::Global;
 use std::sync::atomic::{AtomicU64, Ordering};

@@ -1,7 +1,7 @@
 //! A source of connections in memory, and a gate.
 
-use jk_farm::Gate;
 use jk_hall::{Connection, Nobody, Source};
+use jk_jobs::Gate;
 use jk_web::End;
 use std::alloc::Global;
 use std::io::Read;

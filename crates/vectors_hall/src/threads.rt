@@ -2,8 +2,8 @@
 
 use crate::calls::{equal, opened, shelves};
 use crate::streams::{Held, Streams, wait_for};
-use jk_farm::Open;
 use jk_hall::{Writer, serve_all};
+use jk_jobs::Open;
 use jk_store::Entry;
 use std::sync::atomic::Ordering;
 use std::sync::{Arc, Wait};

@@ -8,7 +8,7 @@ ghost use Rattle.jk_wave.specs.Bands.{AreBands, numbered_area};
 
 use jk_geom::band;
 use jk_math::{Orientation, Planes, Rect};
-use jk_wave::{Bands, analyse, synthesise};
+use jk_wave::{Bands, analyse, synthesise, synthesise_by_rows};
 use std::alloc::Global;
 use std::process::Abort;
 use vectors::equal;
@@ -334,7 +334,20 @@ fn synthesised(rt: &impl Abort, alloc: Global, bands: &Bands) -> Vec<i32> {
     synthesise(alloc, bands, bands.levels).expect(rt, "samples")
 }
 
-/// Analyses the samples of a row, and synthesises them again.
+/// Makes the samples of sub-bands in steps of so many rows.
+fn has_rows(rt: &impl Abort, alloc: Global, bands: &Bands, step: u32, samples: &[i32])
+    requires { 1 ≤ step }
+{
+    assert!(rt; is_area(&bands.rect) && bands.levels <= 10);
+    assert!(rt; are_bands(bands, bands.levels));
+    if bands.levels == 0 {
+        return;
+    }
+    let rows = synthesise_by_rows(alloc, bands, bands.levels, step).expect(rt, "samples");
+    equal(rows.as_slice(), samples).expect(rt, "samples by rows");
+}
+
+/// Analyses the samples of a row, and synthesises them again, at once and row by row.
 fn there_and_back(rt: &impl Abort, alloc: Global, row: &Row) {
     let bands = analysed(rt, alloc, row);
     equal((bands.rect, bands.levels), (row.rect, row.levels)).expect(rt, "a tile-component");
@@ -342,6 +355,9 @@ fn there_and_back(rt: &impl Abort, alloc: Global, row: &Row) {
     equal(found.as_slice(), row.coefficients).expect(rt, "coefficients");
     let back = synthesised(rt, alloc, &bands);
     equal(back.as_slice(), row.samples).expect(rt, "samples");
+    for step in [1u32, 2, 3, 64] {
+        has_rows(rt, alloc, &bands, step, row.samples);
+    }
 }
 
 #[test]

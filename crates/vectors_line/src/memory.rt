@@ -1,6 +1,6 @@
 //! A world in memory.
 
-use jk_farm::Gate;
+use jk_jobs::Gate;
 use jk_line::{Serving, Work, World, listening};
 use jk_math::Fault;
 use jk_store::{Archive, MemoryShelf};

@@ -1,10 +1,12 @@
 ghost use Rattle.std.specs.Prelude.{◌≡◌};
 
+use crate::calls::{feed, next};
 use crate::cases::ANSWERS;
 use jk_math::Fault;
-use jk_web::{Asked, Catalogue, Next, Session, answer};
+use jk_web::{Asked, Catalogue, Next, Reply, Request, Session, answer};
 use std::alloc::Global;
-use std::test::Fail;
+use std::process::Abort;
+use vectors::equal_at;
 
 /// The image `a`; broken where its file can't be read.
 #[derive(Drop)]
@@ -65,22 +67,27 @@ impl Catalogue for Gallery {
     ghost stays = { λ _. tt };
 }
 
-/// The reply to the request at the front of a stream.
-fn reply_to(alloc: Global, stream: &[u8], broken: bool) -> Result<Vec<u8>, Fail> {
-    let mut session = Session::new(alloc);
-    session.feed(stream)?;
+/// The reply to a request.
+fn reply_to(rt: &impl Abort, alloc: Global, request: &Request, broken: bool) -> Reply {
     let mut gallery = Gallery { broken };
-    let mut out = Vec::new(alloc);
-    if let Next::Request(request) = session.next()? {
-        out.extend_from_slice(answer(alloc, &request, &mut gallery)?.bytes.as_slice())?;
+    answer(alloc, request, &mut gallery).expect(rt, "a reply")
+}
+
+/// The reply to the request at the front of a stream, or none.
+fn replies(rt: &impl Abort, alloc: Global, stream: &[u8], broken: bool, want: &[u8]) {
+    let mut session = Session::new(alloc);
+    feed(rt, &mut session, stream);
+    if let Next::Request(request) = next(rt, &mut session) {
+        let reply = reply_to(rt, alloc, &request, broken);
+        equal_at(stream, reply.bytes.as_slice(), want).expect(rt, "a reply");
+    } else {
+        equal_at(stream, b"".as_slice(), want).expect(rt, "no reply");
     }
-    Ok(out)
 }
 
 #[test]
-fn answers(rt: HostRuntime) -> Result<(), Fail> {
+fn answers(rt: HostRuntime) {
     for (stream, broken, want) in &ANSWERS {
-        assert_eq!(rt; reply_to(rt.alloc(), stream, *broken)?.as_slice(), *want);
+        replies(&rt, rt.alloc(), *stream, *broken, *want);
     }
-    Ok(())
 }

@@ -1,10 +1,11 @@
+use crate::calls::{feed, next};
 use crate::cases::CACHED;
 use crate::serving::{read_from, write_to};
 use jk_math::Fault;
-use jk_web::{Asked, Cache, Catalogue, End, Next, Session, answer, answer_with, run_with};
+use jk_web::{Asked, Cache, Catalogue, End, Next, Request, Session, answer, answer_with, run_with};
 use std::alloc::Global;
 use std::process::Abort;
-use std::test::Fail;
+use vectors::{equal, equal_at};
 
 /// From here on the height of a window is the number of its bytes.
 const LONG: u32 = 1000000;
@@ -68,67 +69,69 @@ impl Catalogue for Counting {
     ghost stays = { λ _. tt };
 }
 
-/// Answers the requests of a stream through a cache with room for so many windows: each reply is
-/// the one that no cache gives, and so many windows are made.
-fn answers_alike(
+/// Answers a request through a cache, and without one: the replies are alike.
+fn answers_one(
     rt: &impl Abort,
     alloc: Global,
-    capacity: usize,
-    stream: &[u8],
-    made: u64,
-) -> Result<(), Fail> {
-    assert!(rt; capacity >= 1);
-    let mut cache = Cache::new(alloc, capacity)?;
-    let mut counting = Counting { made: 0 };
+    request: &Request,
+    counting: &mut Counting,
+    cache: &mut Cache,
+) {
     let mut plain = Counting { made: 0 };
+    let reply = answer_with(alloc, request, counting, cache).expect(rt, "a reply");
+    let want = answer(alloc, request, &mut plain).expect(rt, "a reply");
+    equal(reply.bytes.as_slice(), want.bytes.as_slice()).expect(rt, "a reply");
+}
+
+/// A cache with room for so many windows.
+fn cache_of(rt: &impl Abort, alloc: Global, capacity: usize) -> Cache {
+    assert!(rt; capacity >= 1);
+    Cache::new(alloc, capacity).expect(rt, "a cache")
+}
+
+/// Answers the requests of a stream through a cache with room for so many windows: each reply is
+/// the one that no cache gives, and so many windows are made.
+fn answers_alike(rt: &impl Abort, alloc: Global, capacity: usize, stream: &[u8], made: u64) {
+    let mut cache = cache_of(rt, alloc, capacity);
+    let mut counting = Counting { made: 0 };
     let mut session = Session::new(alloc);
-    session.feed(stream)?;
+    feed(rt, &mut session, stream);
     for _ in 0..100 {
-        if let Next::Request(request) = session.next()? {
-            let reply = answer_with(alloc, &request, &mut counting, &mut cache)?;
-            let want = answer(alloc, &request, &mut plain)?;
-            assert_eq!(rt; reply.bytes.as_slice(), want.bytes.as_slice());
+        if let Next::Request(request) = next(rt, &mut session) {
+            answers_one(rt, alloc, &request, &mut counting, &mut cache);
         }
     }
-    assert_eq!(rt; counting.made, made, "of {stream:?}");
-    Ok(())
+    equal_at(stream, counting.made, made).expect(rt, "windows");
 }
 
 #[test]
-fn kept_windows(rt: HostRuntime) -> Result<(), Fail> {
+fn kept_windows(rt: HostRuntime) {
     for (capacity, stream, made) in &CACHED {
-        answers_alike(&rt, rt.alloc(), *capacity, stream, *made)?;
+        answers_alike(&rt, rt.alloc(), *capacity, *stream, *made);
     }
-    Ok(())
+}
+
+/// Two requests for one window, and the replies to them.
+static ASKED: &[u8] =
+    b"GET /images/a/window?x=0&y=0&w=1&h=1 HTTP/1.1\r\n\r\nGET /images/a/window?x=0&y=0&w=1&h=1 HTTP/1.0\r\n\r\n";
+
+static REPLIED: &[u8] =
+    b"HTTP/1.1 200 OK\r\nContent-Type: image/jp2\r\nContent-Length: 11\r\n\r\na 0 0 0 1 1HTTP/1.1 200 OK\r\nContent-Type: image/jp2\r\nContent-Length: 11\r\nConnection: close\r\n\r\na 0 0 0 1 1";
+
+/// Two requests for one window are answered on a connection.
+fn is_served(rt: &impl Abort, alloc: Global, counting: &mut Counting, cache: &mut Cache) {
+    let mut reader = read_from(rt, alloc, ASKED, 7, false);
+    let mut writer = write_to(alloc, 5, 100000, false);
+    let end = run_with(alloc, &mut reader, &mut writer, counting, cache, 100000);
+    equal(end, Ok(End::Closed)).expect(rt, "an end");
+    equal(writer.bytes.as_slice(), REPLIED).expect(rt, "replies");
 }
 
 #[test]
-fn kept_on_a_connection(rt: HostRuntime) -> Result<(), Fail> {
-    let alloc = rt.alloc();
-    let mut cache = Cache::new(alloc, 1)?;
+fn kept_on_a_connection(rt: HostRuntime) {
+    let mut cache = cache_of(&rt, rt.alloc(), 1);
     let mut counting = Counting { made: 0 };
-    for _ in 0..2 {
-        let mut reader = read_from(
-            alloc,
-            b"GET /images/a/window?x=0&y=0&w=1&h=1 HTTP/1.1\r\n\r\nGET /images/a/window?x=0&y=0&w=1&h=1 HTTP/1.0\r\n\r\n",
-            7,
-            false,
-        )?;
-        let mut writer = write_to(alloc, 5, 100000, false);
-        let end = run_with(
-            alloc,
-            &mut reader,
-            &mut writer,
-            &mut counting,
-            &mut cache,
-            100000,
-        )?;
-        assert_eq!(rt; end, End::Closed);
-        assert_eq!(rt;
-            writer.bytes.as_slice(),
-            b"HTTP/1.1 200 OK\r\nContent-Type: image/jp2\r\nContent-Length: 11\r\n\r\na 0 0 0 1 1HTTP/1.1 200 OK\r\nContent-Type: image/jp2\r\nContent-Length: 11\r\nConnection: close\r\n\r\na 0 0 0 1 1".as_slice()
-        );
-    }
-    assert_eq!(rt; counting.made, 1);
-    Ok(())
+    is_served(&rt, rt.alloc(), &mut counting, &mut cache);
+    is_served(&rt, rt.alloc(), &mut counting, &mut cache);
+    equal(counting.made, 1).expect(&rt, "windows");
 }

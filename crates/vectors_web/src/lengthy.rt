@@ -2,9 +2,9 @@
 
 use crate::serving::Echo;
 use jk_web::{End, serve};
+use std::io;
 use std::io::{Read, Write};
-use std::test::Fail;
-use std::{fs, io};
+use vectors::{equal, equal_at, kilobytes};
 
 /// A request of 100 bytes.
 static REQUEST: &[u8] =
@@ -50,41 +50,29 @@ impl Write for Counting {
     }
 }
 
-/// How many kilobytes the process has or has had, by the word that the system tells it by.
-fn kilobytes(rt: &HostRuntime, word: &str) -> Result<u64, Fail> {
-    let state = fs::read_to_string(rt, "/proc/self/status")?;
-    for line in state.as_str().split('\n') {
-        let mut words = line.split_whitespace();
-        if words.next() == Some(word) {
-            return Ok(words.next().unwrap_or("").parse::<u64>().unwrap_or(0));
-        }
-    }
-    Err("the system doesn't tell it".into())
-}
-
 /// Nothing of the 50,000 requests, 5,000,000 bytes, is kept behind its reply, and as much is read at
 /// a time as comes.
 #[test]
-fn little_is_kept(rt: HostRuntime) -> Result<(), Fail> {
-    let alloc = rt.alloc();
-    let before = kilobytes(&rt, "VmSize:")?;
+fn little_is_kept(rt: HostRuntime) {
+    let before = kilobytes(&rt, rt.alloc(), "VmSize:").expect(&rt, "before");
     let mut reader = Asking {
         left: 5_000_000,
         at: 0,
         reads: 0,
     };
     let mut writer = Counting { bytes: 0 };
-    let mut echo = Echo {};
-    let end = serve(alloc, &mut reader, &mut writer, &mut echo, 1_000_000)?;
-    let after = kilobytes(&rt, "VmPeak:")?;
-    assert_eq!(rt;
-        (REQUEST.len(), writer.bytes, end),
-        (100, 350_000, End::Closed)
+    let end = serve(
+        rt.alloc(),
+        &mut reader,
+        &mut writer,
+        &mut Echo {},
+        1_000_000,
     );
-    assert!(rt;
-        after < before.saturating_add(1024),
-        "{before} and {after} kB"
-    );
-    assert!(rt; reader.reads <= 5_000_000 / 1000, "{} reads", reader.reads);
-    Ok(())
+    let after = kilobytes(&rt, rt.alloc(), "VmPeak:").expect(&rt, "after");
+    equal(end, Ok(End::Closed)).expect(&rt, "an end");
+    equal((REQUEST.len(), writer.bytes), (100, 350_000)).expect(&rt, "bytes");
+    let little = after < before.saturating_add(1024);
+    equal_at((before, after), little, true).expect(&rt, "kilobytes");
+    let few = reader.reads <= 5_000_000 / 1000;
+    equal_at(reader.reads, few, true).expect(&rt, "reads");
 }

@@ -7,6 +7,8 @@ mod answers;
 #[cfg(test)]
 mod caching;
 #[cfg(test)]
+mod calls;
+#[cfg(test)]
 mod cases;
 #[cfg(test)]
 mod lengthy;

@@ -5,8 +5,7 @@ use std::alloc::Global;
 use std::io;
 use std::io::{ErrorKind, Write};
 use std::process::Abort;
-use std::test::Fail;
-use vectors::Pieces;
+use vectors::{Pieces, equal};
 
 /// Answers with the method and the target.
 #[derive(Drop)]
@@ -59,13 +58,14 @@ impl Write for Sink {
 }
 
 pub(crate) fn read_from(
+    rt: &impl Abort,
     alloc: Global,
     bytes: &[u8],
     most: usize,
     fails: bool,
-) -> Result<Pieces, Fail> {
-    let bytes = Vec::from_slice(alloc, bytes)?;
-    Ok(Pieces::new(bytes, most, fails))
+) -> Pieces {
+    let bytes = Vec::from_slice(alloc, bytes).expect(rt, "bytes");
+    Pieces::new(bytes, most, fails)
 }
 
 pub(crate) fn write_to(alloc: Global, most: usize, room: usize, fails: bool) -> Sink {
@@ -85,28 +85,35 @@ fn serves(
     mut writer: Sink,
     turns: u64,
     want: (&[u8], End),
-) -> Result<(), Fail> {
+) {
     let mut echo = Echo {};
-    let end = serve(alloc, &mut reader, &mut writer, &mut echo, turns)?;
-    assert_eq!(rt; writer.bytes.as_slice(), want.0);
-    assert_eq!(rt; end, want.1);
-    Ok(())
+    let end = serve(alloc, &mut reader, &mut writer, &mut echo, turns);
+    equal(writer.bytes.as_slice(), want.0).expect(rt, "replies");
+    equal(end, Ok(want.1)).expect(rt, "an end");
+}
+
+/// A stream that comes in pieces of this size is served to a writer that takes so many bytes a write.
+fn in_pieces(
+    rt: &impl Abort,
+    alloc: Global,
+    stream: &[u8],
+    size: usize,
+    most: usize,
+    want: (&[u8], End),
+) {
+    let reader = read_from(rt, alloc, stream, size, false);
+    let writer = write_to(alloc, most, 100000, false);
+    serves(rt, alloc, reader, writer, 100000, want);
 }
 
 #[test]
-fn in_any_pieces(rt: HostRuntime) -> Result<(), Fail> {
-    let alloc = rt.alloc();
+fn in_any_pieces(rt: HostRuntime) {
     for (stream, text, end) in &SERVED {
         for size in [1, 2, 3, 7, 5000] {
-            let reader = read_from(alloc, stream, size, false)?;
-            let writer = write_to(alloc, 5000, 100000, false);
-            serves(&rt, alloc, reader, writer, 100000, (text, *end))?;
-            let reader = read_from(alloc, stream, size, false)?;
-            let writer = write_to(alloc, 1, 100000, false);
-            serves(&rt, alloc, reader, writer, 100000, (text, *end))?;
+            in_pieces(&rt, rt.alloc(), *stream, size, 5000, (*text, *end));
+            in_pieces(&rt, rt.alloc(), *stream, size, 1, (*text, *end));
         }
     }
-    Ok(())
 }
 
 /// Two requests, and the replies to them.
@@ -127,51 +134,51 @@ fn replies_of(count: usize) -> &'static [u8] {
     }
 }
 
+/// A reader fails behind so many bytes.
+fn read_fails(rt: &impl Abort, alloc: Global, count: usize, most: usize) {
+    let stream = TWO.0.get(..count).expect(rt, "bytes");
+    let reader = read_from(rt, alloc, stream, most, true);
+    let writer = write_to(alloc, 100, 1000, false);
+    let want = (replies_of(count), End::ReadFailed);
+    serves(rt, alloc, reader, writer, 1000, want);
+}
+
 /// A reader fails behind each byte, a byte at a time and all at once.
 #[test]
-fn reads_that_fail(rt: HostRuntime) -> Result<(), Fail> {
-    let alloc = rt.alloc();
+fn reads_that_fail(rt: HostRuntime) {
     for count in 0..39 {
         for most in [1, 10, 100] {
-            let reader = read_from(alloc, &TWO.0[..count], most, true)?;
-            let writer = write_to(alloc, 100, 1000, false);
-            let want = (replies_of(count), End::ReadFailed);
-            serves(&rt, alloc, reader, writer, 1000, want)?;
+            read_fails(&rt, rt.alloc(), count, most);
         }
     }
-    Ok(())
+}
+
+/// A writer fails behind so many bytes, or takes none there.
+fn write_fails(rt: &impl Abort, alloc: Global, room: usize, fails: bool) {
+    let replies = TWO.1.get(..room).expect(rt, "bytes");
+    let reader = read_from(rt, alloc, TWO.0, 1000, false);
+    let writer = write_to(alloc, 3, room, fails);
+    serves(rt, alloc, reader, writer, 1000, (replies, End::WriteFailed));
 }
 
 /// A writer fails behind each byte, or takes none there.
 #[test]
-fn writes_that_fail(rt: HostRuntime) -> Result<(), Fail> {
-    let alloc = rt.alloc();
+fn writes_that_fail(rt: HostRuntime) {
     for room in 0..14 {
-        for fails in [false, true] {
-            let reader = read_from(alloc, TWO.0, 1000, false)?;
-            let writer = write_to(alloc, 3, room, fails);
-            let want = (&TWO.1[..room], End::WriteFailed);
-            serves(&rt, alloc, reader, writer, 1000, want)?;
-        }
+        write_fails(&rt, rt.alloc(), room, false);
+        write_fails(&rt, rt.alloc(), room, true);
     }
-    Ok(())
+}
+
+/// Of two requests so much is answered in so many turns.
+fn spends(rt: &impl Abort, alloc: Global, turns: u64, replies: &[u8]) {
+    let reader = read_from(rt, alloc, TWO.0, 10, false);
+    let writer = write_to(alloc, 100, 1000, false);
+    serves(rt, alloc, reader, writer, turns, (replies, End::TurnsSpent));
 }
 
 #[test]
-fn turns_are_spent(rt: HostRuntime) -> Result<(), Fail> {
-    let alloc = rt.alloc();
-    let stream = b"GET /a HTTP/1.1\r\n\r\nGET /b HTTP/1.1\r\n\r\n";
-    let reader = read_from(alloc, stream, 10, false)?;
-    let writer = write_to(alloc, 100, 1000, false);
-    serves(
-        &rt,
-        alloc,
-        reader,
-        writer,
-        3,
-        (b"GET /a\n", End::TurnsSpent),
-    )?;
-    let reader = read_from(alloc, stream, 10, false)?;
-    let writer = write_to(alloc, 100, 1000, false);
-    serves(&rt, alloc, reader, writer, 0, (b"", End::TurnsSpent))
+fn turns_are_spent(rt: HostRuntime) {
+    spends(&rt, rt.alloc(), 3, b"GET /a\n");
+    spends(&rt, rt.alloc(), 0, b"");
 }

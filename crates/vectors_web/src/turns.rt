@@ -5,8 +5,7 @@ use jk_math::Fault;
 use jk_web::{Cache, End, run, run_with};
 use std::alloc::Global;
 use std::process::Abort;
-use std::test::Fail;
-use vectors::Pieces;
+use vectors::{Pieces, equal_at};
 
 /// Two requests of 24 bytes each, one that closes before another, and one before a bad one.
 const TWO: &[u8] = b"GET /images HTTP/1.1\r\n\r\nGET /images HTTP/1.1\r\n\r\n";
@@ -72,19 +71,25 @@ fn ended(
     Ok((input.reads(), count_of(&output), end))
 }
 
-/// The reads, the replies and the end are these.
-fn ends_so(rt: &impl Abort, found: (u64, usize, End), due: (u64, usize, End), turns: u64) {
-    assert_eq!(rt; found, due, "{turns}");
+/// The reads, the replies and the end of a stream, of which so many are made at most.
+fn ends_so(
+    rt: &impl Abort,
+    alloc: Global,
+    stream: (&[u8], bool),
+    turns: u64,
+    cached: bool,
+    due: (u64, usize, End),
+) {
+    let found = ended(alloc, stream, turns, cached);
+    equal_at((turns, cached), found, Ok(due)).expect(rt, "reads, replies and an end");
 }
 
 /// No more reads are made than there may be, and it ends as by a failed read only where one failed.
 #[test]
-fn reads_are_counted(rt: HostRuntime) -> Result<(), Fail> {
+fn reads_are_counted(rt: HostRuntime) {
     for (bytes, fails, turns, reads, replies, end) in &TURNS {
-        for cached in [false, true] {
-            let found = ended(rt.alloc(), (bytes, *fails), *turns, cached)?;
-            ends_so(&rt, found, (*reads, *replies, *end), *turns);
-        }
+        let due = (*reads, *replies, *end);
+        ends_so(&rt, rt.alloc(), (*bytes, *fails), *turns, false, due);
+        ends_so(&rt, rt.alloc(), (*bytes, *fails), *turns, true, due);
     }
-    Ok(())
 }

@@ -2,7 +2,7 @@
 
 use crate::meeting::Held;
 use jk_code::decode_with;
-use jk_farm::{Gate, Open};
+use jk_jobs::{Gate, Open};
 use jk_math::{Fault, Image};
 use std::alloc::Global;
 use std::process::Abort;

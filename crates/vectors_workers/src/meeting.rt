@@ -1,6 +1,6 @@
 //! A gate that shows whether two jobs are done at the same time.
 
-use jk_farm::Gate;
+use jk_jobs::Gate;
 use vectors::Meeting;
 
 /// A gate at which the first job meets the second.

@@ -4,22 +4,24 @@
 >>> image = jk.read("page.jp2")                                  # (height, width) or (height, width, 3)
 >>> half = jk.read("page.jp2", reduce=1)
 >>> part = jk.read("page.jp2", window=(1024, 0, 512, 512))       # x, y, width, height
->>> jk.write("again.jp2", image, levels=3)
+>>> jk.write("again.jp2", image, levels=3, extras=jk.Extras(resolution=300))
+>>> jk.extras("again.jp2").resolution                            # of a row and of a column, by the inch
 >>> jk.info("page.jp2").shape
 >>> jk.Archive("http://127.0.0.1:8080").window("page", 0, 0, 256, 256)
 """
+from ._extras import Extras
 from .archive import Archive, Listed
 from .faults import (
     BadBox, BadLength, BadMarker, BadParameters, BadValue, BadWindow, Changed, CodeOutOfInterval, Fault, Limit, Memory,
     Misfit, MissingPackets, NoSuchImage, PacketHeader, Shelf, Short, SurplusBytes, TooManyPasses, Truncated,
     Unsupported,
 )
-from .files import Info, cut, encode, info, read, write
+from .files import Info, cut, encode, extras, info, read, with_extras, write
 
-__version__ = "0.2.0"
+__version__ = "0.2.1"
 __all__ = [
     "Archive", "BadBox", "BadLength", "BadMarker", "BadParameters", "BadValue", "BadWindow", "Changed",
-    "CodeOutOfInterval", "Fault", "Info", "Limit", "Listed", "Memory", "Misfit", "MissingPackets", "NoSuchImage",
+    "CodeOutOfInterval", "Extras", "Fault", "Info", "Limit", "Listed", "Memory", "Misfit", "MissingPackets", "NoSuchImage",
     "PacketHeader", "Shelf", "Short", "SurplusBytes", "TooManyPasses", "Truncated", "Unsupported", "cut", "encode",
-    "info", "read", "write",
+    "extras", "info", "read", "with_extras", "write",
 ]

@@ -189,6 +189,11 @@ class Kept:
         values = [it.resolution and it.resolution.value() for it in (self, other)]
         return values[0] == values[1] and replace(self, resolution=None) == replace(other, resolution=None)
 
+    def that_says(self) -> "Kept":
+        """The same without what would say the same of any image."""
+        resolution = None if self.resolution is None or self.resolution.says_nothing() else self.resolution
+        return replace(self, resolution=resolution, orientation=None if self.orientation == 1 else self.orientation)
+
     def names(self) -> List[str]:
         """What of it says something."""
         told = {
@@ -293,9 +298,10 @@ def _of_units(resolution: Resolution) -> Tuple[List[Tuple[int, int]], int]:
     return [(it.numerator, it.denominator) for it in of_centimetre], 3
 
 
-def exif_of(kept: Kept) -> bytes:
-    """EXIF with orientation, resolution, and whether the least sample is white, by which these are told exactly."""
-    fields = fields_of(replace(kept, profile=b"", xmp=b"", iptc=b""))
+def exif_of(kept: Kept, with_profile: bool = False) -> bytes:
+    """EXIF with orientation, resolution, and whether the least sample is white, by which these are told exactly; and with
+    the profile, where nothing else has it."""
+    fields = fields_of(replace(kept, profile=kept.profile if with_profile else b"", xmp=b"", iptc=b""))
     if kept.white_is_zero:
         fields[WHITE] = Field(SHORT, 1, struct.pack(f"{order_of(kept)}H", 0))
     return _stream(order_of(kept), fields)

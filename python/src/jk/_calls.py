@@ -60,3 +60,5 @@ encode = {
     kind: _call(f"jk_encode_{short}", POINTER(Frame), *_LIST, POINTER(Coding), *_OUT) for kind, short in _TYPES.items()
 }
 cut = _call("jk_cut", *_LIST, *_VIEW, *_OUT)
+extras = _call("jk_extras", *_LIST, *_OUT)
+with_extras = _call("jk_with_extras", *_LIST, *_LIST, *_OUT)

@@ -10,7 +10,8 @@ from typing import Any, BinaryIO, Iterator, Optional, Sequence, Tuple, Union
 import numpy as np
 
 from . import _calls
-from .faults import check
+from ._extras import Extras, boxes_of, extras_of
+from .faults import BadParameters, check
 
 #: A file by its path, or its bytes.
 File = Union[str, "os.PathLike[str]", bytes, bytearray, memoryview, np.ndarray]
@@ -141,6 +142,24 @@ def _handed_out(call: Any, room: int) -> bytes:
         room = length.value
 
 
+def extras(file: File) -> Extras:
+    """What a file, by its path or its bytes, keeps beside the samples. No header of the codestream is read."""
+    data = _bytes_of(file)
+    return extras_of(_handed_out(lambda *out: _calls.extras(*_list(data), *out), data.size))
+
+
+def with_extras(file: File, extras: Extras) -> bytes:
+    """A JP2 file, by its path or its bytes, with what it is to keep beside the samples, without coding it anew.
+
+    A profile takes the place of what the file tells of colour, and a resolution, of capture or display, that of all that it
+    tells of resolutions; all else is put behind what it has. BadParameters: a bare codestream; a profile that isn't a
+    restricted one of grey or RGB (T.800 I.5.3.3), or is for other components; more than 2^24 bytes.
+    """
+    data = _bytes_of(file)
+    boxes = np.frombuffer(boxes_of(extras), np.uint8)
+    return _handed_out(lambda *out: _calls.with_extras(*_list(data), *_list(boxes), *out), data.size + boxes.size)
+
+
 def _coding(components: int, signed: bool, parameters: dict) -> _calls.Coding:
     def taken(name: str, default: Any) -> Any:
         return parameters.pop(name, default)
@@ -169,8 +188,9 @@ def _coding(components: int, signed: bool, parameters: dict) -> _calls.Coding:
     return coding
 
 
-def encode(array: np.ndarray, **parameters: Any) -> bytes:
-    """The file of an array (height, width) or (height, width, components) of uint8, uint16, int8 or int16.
+def encode(array: np.ndarray, *, extras: Optional[Extras] = None, **parameters: Any) -> bytes:
+    """The file of an array (height, width) or (height, width, components) of uint8, uint16, int8 or int16, with what it is
+    to keep beside the samples.
 
     Parameters: `depth`, bits of a sample, the sign counted (8 or 16 by the array's type); `place`, the upper left
     sample's (x, y) on the reference grid; `levels` (5), `layers` (1), `order` ("LRCP"), `tile` (width, height),
@@ -191,15 +211,22 @@ def encode(array: np.ndarray, **parameters: Any) -> bytes:
         components=components, depth=_word(depth), is_signed=image.dtype.kind == "i",
     )
     coding = _coding(components, image.dtype.kind == "i", parameters)
+    if extras is not None and coding.raw:
+        raise BadParameters("a bare codestream keeps nothing beside the samples, and JP2 has no signed ones and no 2 or 4 "
+                            "components")
     call = _calls.encode[image.dtype.name]
     told, asked = ctypes.byref(frame), ctypes.byref(coding)
-    return _handed_out(lambda *out: call(told, *_list(image), asked, *out), image.nbytes + image.nbytes // 4 + 65536)
+    room = image.nbytes + image.nbytes // 4 + 65536
+    file = _handed_out(lambda *out: call(told, *_list(image), asked, *out), room)
+    return file if extras is None else with_extras(file, extras)
 
 
-def write(path: Union[str, "os.PathLike[str]"], array: np.ndarray, **parameters: Any) -> None:
+def write(
+    path: Union[str, "os.PathLike[str]"], array: np.ndarray, *, extras: Optional[Extras] = None, **parameters: Any
+) -> None:
     """Writes the file of an array, with the parameters of `encode`: beside its place, and then renamed, so that a file
     that stands there is whole."""
-    file = encode(array, **parameters)
+    file = encode(array, extras=extras, **parameters)
     with placed(path) as out:
         out.write(file)
 

@@ -12,12 +12,15 @@ from __future__ import annotations
 
 import os
 import warnings
+from fractions import Fraction
 from typing import IO, Any, Dict, Union
 
 import numpy as np
 from PIL import Image, ImageFile
 
-from .files import Info, encode, info, read
+from ._extras import METRE, Extras, nearest, ratio
+from .faults import BadParameters, Fault
+from .files import Info, encode, extras, info, read, with_extras
 
 FORMAT = "JK"
 BEGINNINGS = (b"\0\0\0\x0cjP  \r\n\x87\n", b"\xff\x4f\xff\x51")
@@ -27,8 +30,9 @@ ENDINGS = {".jp2": False, ".j2k": True}
 MODES = {"L": "uint8", "RGB": "uint8", "I;16": "uint16"}
 PARAMETERS = ("depth", "levels", "layers", "order", "tile", "block", "precincts", "colour", "sop", "eph", "reset",
               "causal", "segments", "raw", "place")
-#: What stands beside the samples, as `save` takes it, and in `info` of an image.
-BESIDE = {"icc_profile": "profile", "dpi": "resolution", "xmp": "XMP", "exif": "EXIF"}
+#: What stands beside the samples, as `save` takes it, and in `info` of an image; what `Extras` calls it; and what it is.
+BESIDE = {"icc_profile": ("profile", "profile"), "dpi": ("resolution", "resolution"), "xmp": ("xmp", "XMP"),
+          "exif": ("exif", "EXIF")}
 
 
 class NoMode(ValueError):
@@ -47,7 +51,8 @@ def mode_of(told: Info) -> str:
 
 
 class File(ImageFile.ImageFile):
-    """A JPEG 2000 file; `info["depth"]` tells the bits of a sample."""
+    """A JPEG 2000 file; `info["depth"]` tells the bits of a sample, and `icc_profile`, `dpi`, `xmp` and `exif` what it keeps
+    beside them."""
 
     format = FORMAT
     format_description = "lossless JPEG 2000 by jk"
@@ -58,6 +63,7 @@ class File(ImageFile.ImageFile):
         told = info(self.data)
         self.mode, self._size = mode_of(told), (told.width, told.height)
         self.info["depth"] = told.depth
+        self.info.update(beside(self.data))
 
     def load(self) -> Any:
         if self.data is not None:
@@ -69,15 +75,66 @@ class File(ImageFile.ImageFile):
         return Image.Image.load(self)
 
 
+def beside(data: bytes) -> Dict[str, Any]:
+    """What a file keeps beside the samples, as Pillow has it in `info`; nothing where that can't be read."""
+    try:
+        found = extras(data)
+    except Fault as why:
+        warnings.warn(f"what stands beside the samples can't be read: {why}", stacklevel=4)
+        return {}
+    told: Dict[str, Any] = {"icc_profile": found.profile, "xmp": found.xmp}
+    if found.resolution is not None:
+        told["dpi"] = tuple(float(it) for it in found.resolution)
+    if found.exif is not None:
+        told["exif"] = b"Exif\0\0" + found.exif
+    return {name: value for name, value in told.items() if value is not None}
+
+
+def _value(option: str, told: Any) -> Any:
+    """What `Extras` takes for what Pillow has. A resolution is a number of samples by the inch, or the nearest to it that
+    JP2 holds."""
+    if option == "exif":
+        return told.tobytes() if isinstance(told, Image.Exif) else bytes(told)
+    if option != "dpi":
+        return bytes(told)
+    found = []
+    for number in told if isinstance(told, (tuple, list)) else (told, told):
+        value = Fraction(number) * METRE
+        if value <= 0:
+            raise ValueError(f"dpi: {number} samples by the inch")
+        above, below, exponent = ratio(value) or nearest(value)
+        found.append(Fraction(above, below) * Fraction(10) ** exponent / METRE)
+    return tuple(found)
+
+
+def _warn(what: str, why: object) -> None:
+    warnings.warn(f"the {what} of the image isn't carried: {why}", stacklevel=5)
+
+
+def _given(file: bytes, asked: Dict[str, Any], image: Image.Image) -> bytes:
+    """A JP2 file with what is asked for beside the samples, and with what the image has otherwise. What can't be carried of
+    the first raises, and is warned of of the second."""
+    for option, (name, what) in BESIDE.items():
+        told, is_asked = asked.get(option), bool(asked.get(option))
+        if option not in asked:
+            told = image.info.get(option)
+        if not told:
+            continue
+        try:
+            file = with_extras(file, Extras(**{name: _value(option, told)}))
+        except (BadParameters, ValueError, TypeError) as why:
+            if is_asked:
+                raise ValueError(f"{option}: the {what} isn't carried: {why}") from why
+            _warn(what, why)
+    return file
+
+
 def save(image: Image.Image, out: IO[bytes], name: Union[str, bytes]) -> None:
-    """Writes an image by the parameters of `jk.encode`, which `Image.save` passes on. The depth is that of `info` where
-    samples of that depth were read and none is named. What is lossy raises, and so does what isn't carried."""
+    """Writes an image by the parameters of `jk.encode`, which `Image.save` passes on, and `icc_profile`, `dpi`, `xmp` and
+    `exif`, which are those of `info` where none is named. The depth is that of `info` where samples of that depth were read
+    and none is named. What is lossy raises, and so does what is named and can't be carried."""
     asked: Dict[str, Any] = dict(getattr(image, "encoderinfo", {}))
-    for option, what in BESIDE.items():
-        if asked.pop(option, None):
-            raise ValueError(f"{option}: the {what} isn't carried")
-        if image.info.get(option):
-            warnings.warn(f"the {what} of the image isn't carried", stacklevel=3)
+    given = {option: asked.pop(option) for option in BESIDE if option in asked}
     for option in ("irreversible", "quality_layers"):
         if asked.pop(option, None):
             raise ValueError(f"{option}: jk writes lossless files alone")
@@ -91,7 +148,7 @@ def save(image: Image.Image, out: IO[bytes], name: Union[str, bytes]) -> None:
     asked.setdefault("raw", ENDINGS.get(ending, False))
     samples = np.asarray(image)
     asked.setdefault("depth", depth_for(samples, image))
-    out.write(encode(samples, **asked))
+    out.write(_given(encode(samples, **asked), given, image))
 
 
 def depth_for(samples: np.ndarray, image: Image.Image) -> int:

@@ -8,8 +8,8 @@ use Rattle.std.proofs.lemmas.List.Concat.{flat_map-append, flat_map-cons}
 use Rattle.jk_math.specs.Memory.{IsMemory}
 use Rattle.jk_math.specs.declared.fault.Fault.{Fault}
 use Rattle.jk_packet.specs.Written.{Table}
-use Rattle.jk_farm.specs.Dealing.{AreGiven, IsFirstFault}
-use Rattle.jk_farm.proofs.Laws.{zipped}
+use Rattle.jk_jobs.specs.Dealing.{AreGiven, IsFirstFault}
+use Rattle.jk_jobs.proofs.Laws.{zipped}
 use Rattle.jk_tile.specs.declared.encoding.jobs.BlockJob.{BlockJob}
 use Rattle.jk_tile.specs.declared.encoding.jobs.Batch.{Batch}
 use Rattle.jk_tile.specs.declared.encoding.transforms.ComponentJob.{ComponentJob}

@@ -8,7 +8,7 @@ use Rattle.jk_math.specs.declared.fault.Fault.{Fault}
 use Rattle.jk_math.specs.Picture.{IsPicture}
 use Rattle.jk_geom.specs.Partitions.{block_number}
 use Rattle.jk_geom.specs.Rectangles.{IsArea}
-use Rattle.jk_farm.specs.Dealing.{AreGiven, IsFirstFault}
+use Rattle.jk_jobs.specs.Dealing.{AreGiven, IsFirstFault}
 use Rattle.jk_packet.specs.Written.{Table}
 use Rattle.jk_wave.specs.Analysis.{analysed_bands}
 use Rattle.jk_tile.specs.Filling.{IsPartOf}

@@ -6,8 +6,9 @@ ghost use Rattle.jk_tile.specs.decoding.Decoded.{AreDecoded, IsDecoded, IsDecode
 
 use crate::decoding::block::read_block;
 use crate::decoding::bodies::BodyPlace;
+use crate::workers::Workers;
 use jk_block::BlockShape;
-use jk_farm::{Gate, Work, map_jobs};
+use jk_jobs::{Gate, Work, map_jobs};
 use jk_math::Fault;
 use std::alloc::Global;
 use std::collections::BTreeMap;
@@ -154,22 +155,19 @@ fn by_start(alloc: Global, blocks: Vec<DecodedBlock>) -> Result<DecodedBlocks, F
     Ok(DecodedBlocks { blocks, by_start })
 }
 
-/// Decodes code-blocks, so many workers side by side.
+/// Decodes code-blocks, side by side by workers.
 pub(crate) fn decode_segments<R: Threads + Sync, G: Gate + Sync>(
-    rt: &R,
+    workers: &Workers<'_, R>,
     alloc: Global,
-    workers: usize,
     gate: &G,
     bytes: &[u8],
     segments: &[BlockSegment],
 ) -> Result<DecodedBlocks, Fault>
-    requires some { 1 ≤ workers }
-    requires most { workers ≤ 64 }
     requires segments { All (IsBlockSegment (length bytes.now)) segments.now }
     ensures { IfOk result (AreDecoded bytes.now) }
 {
     let jobs = jobs_of(alloc, bytes, segments)?;
-    let blocks = map_jobs::<SegmentJob<'_>, R, G>(rt, alloc, workers, gate, &jobs)?;
+    let blocks = map_jobs::<SegmentJob<'_>, R, G>(workers.rt, alloc, workers.count, gate, &jobs)?;
     by_start(alloc, blocks)
 }
 

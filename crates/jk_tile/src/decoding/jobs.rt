@@ -16,16 +16,18 @@ ghost use Rattle.jk_tile.specs.decoding.Decoded.{AreDecoded, AreSegments};
 ghost use Rattle.jk_tile.specs.decoding.Gathered.{AreNumbers, IsInside};
 ghost use Rattle.jk_tile.specs.decoding.Source.{IsSource, IsBandPart};
 
-use crate::bands::{BandPart, band_count, band_planes, orientation, shape_at};
+use crate::bands::{BandBlock, BandPart, band_count, band_planes, orientation, shape_at};
 use crate::decoding::bodies::{BodyPlace, bodies_by_block};
 use crate::decoding::chains::{follow, packets_by_precinct};
+use crate::decoding::coded::CodedTile;
 use crate::decoding::component::CodedComponent;
 use crate::decoding::decoded::{BlockSegment, DecodedBlocks, decode_segments};
-use jk_farm::Gate;
-use jk_geom::{BlockGrid, blocks, precinct_count, resolution, tile};
+use crate::workers::Workers;
+use jk_geom::{blocks, precinct_count, resolution, tile};
+use jk_jobs::Gate;
 use jk_math::{Fault, Rect};
 use jk_params::Codestream;
-use jk_walk::{PacketPlace, TilePackets};
+use jk_walk::TilePackets;
 use jk_wave::Region;
 use std::alloc::Global;
 use std::marker::Sync;
@@ -34,29 +36,28 @@ use std::thread::Threads;
 /// The least number of coefficients of a code-block that is a job of its own.
 const LEAST: usize = 1024;
 
-/// Appends a code-block, number `j` of a part of a sub-band, that has these bodies, if it has any
-/// and isn't small.
+/// Appends a code-block of a part of a sub-band that has these bodies, if it has any and isn't
+/// small.
 fn add_block(
     alloc: Global,
     source: &CodedComponent<'_>,
-    part: BandPart,
-    grid: &BlockGrid,
-    j: u32,
+    block: BandBlock<'_>,
     bodies: &[BodyPlace],
     segments: &mut Vec<BlockSegment>,
 ) -> Result<(), Fault>
-    requires part { IsBandPart source.now part }
-    requires grid { grid.now
-        ≡ grid_at source.now.region.rect source.now.coding part.resolution part.precinct part.band }
-    requires sound { IsGrid grid.now }
-    requires j { j < grid.now.across * grid.now.down }
+    requires part { IsBandPart source.now block.part }
+    requires grid { block.grid.now ≡ grid_at source.now.region.rect source.now.coding
+        block.part.resolution block.part.precinct block.part.band }
+    requires sound { IsGrid block.grid.now }
+    requires number { block.number < block.grid.now.across * block.grid.now.down }
     requires inside { All (IsInside (length source.now.bytes)) bodies.now }
     ensures segments { AreSegments (length source.now.bytes) segments.old.items
         → OnOk result (AreSegments (length source.now.bytes) segments.new.items) }
     ensures memory { IfErr result IsMemory }
 {
+    let part = block.part;
     let coding = source.coding();
-    let place = grid.block(j);
+    let place = block.grid.block(block.number);
     let orientation = orientation(part.resolution, part.band);
     let planes = band_planes(coding, part.resolution, part.band);
     let shape = shape_at(&place, orientation, coding.style);
@@ -98,7 +99,12 @@ fn add_band_blocks(
     let count = grid.across * grid.down;
     let lists = bodies_by_block(alloc, source.packets(), numbers, part.band, count as usize)?;
     for j in 0..count {
-        add_block(alloc, source, part, &grid, j, &lists[j as usize], segments)?;
+        let block = BandBlock {
+            part,
+            grid: &grid,
+            number: j,
+        };
+        add_block(alloc, source, block, &lists[j as usize], segments)?;
     }
     Ok(())
 }
@@ -171,28 +177,23 @@ fn add_component_blocks(
     Ok(())
 }
 
-/// Appends the code-blocks of a tile, of the resolutions up to `reduce` below the highest, from its
-/// packets.
+/// Appends the code-blocks of a tile, of the resolutions up to its reduction below the highest.
 fn add_tile_blocks(
     alloc: Global,
-    headers: &Codestream,
-    bytes: &[u8],
-    number: usize,
-    packets: &[PacketPlace],
-    reduce: u8,
+    coded: &CodedTile<'_>,
     area: &Rect,
     segments: &mut Vec<BlockSegment>,
 ) -> Result<(), Fault>
-    requires sound { AreHeaders (length bytes.now) headers.now }
-    requires number { number < tile_count headers.now.siz }
-    requires packets { AllByRecursion (λ w. place_end w ≤ length bytes.now) packets.now }
-    requires few { length packets.now ≤ 2 ^ 24 }
-    requires levels { AllByRecursion (λ k. reduce ≤ k.levels) (tile_in headers.now.tiles number).codings }
-    requires inside { IsPartOf area.now (shown_area headers.now.siz number reduce) }
-    ensures segments { AreSegments (length bytes.now) segments.old.items
-        → OnOk result (AreSegments (length bytes.now) segments.new.items) }
+    requires { IsPartOf area.now (shown_area coded.now.headers.siz coded.now.number coded.now.reduce) }
+    ensures segments { AreSegments (length coded.now.bytes) segments.old.items
+        → OnOk result (AreSegments (length coded.now.bytes) segments.new.items) }
     ensures memory { IfErr result IsMemory }
 {
+    let headers = coded.headers;
+    let bytes = coded.bytes;
+    let number = coded.number;
+    let packets = coded.packets.as_slice();
+    let reduce = coded.reduce;
     let rect = tile(headers.siz(), number as u32);
     let codings = headers.codings(number).as_slice();
     let none = DecodedBlocks::none(alloc);
@@ -210,23 +211,19 @@ fn add_tile_blocks(
     Ok(())
 }
 
-/// The code-blocks of all tiles, of the resolutions up to `reduce` below the highest, decoded by so
-/// many workers side by side, as far as threads can be had; small ones are left out. The fault of
-/// one of them is answered, and not the first.
+/// The code-blocks of all tiles, of the resolutions up to `reduce` below the highest, decoded by workers
+/// side by side; small ones are left out. The fault of one of them is answered, and not the first.
 ///
 /// `gate` is told of each code-block, when it begins and when it has ended.
 pub fn decode_blocks_with<R: Threads + Sync, G: Gate + Sync>(
-    rt: &R,
+    workers: &Workers<'_, R>,
     alloc: Global,
-    workers: usize,
     gate: &G,
     headers: &Codestream,
     bytes: &[u8],
     packets: &[TilePackets],
     reduce: u8,
 ) -> Result<DecodedBlocks, Fault>
-    requires some { 1 ≤ workers }
-    requires most { workers ≤ 64 }
     requires sound { AreHeaders (length bytes.now) headers.now }
     requires few { reduce ≤ 10 }
     requires count { length packets.now ≡ tile_count headers.now.siz }
@@ -239,17 +236,14 @@ pub fn decode_blocks_with<R: Threads + Sync, G: Gate + Sync>(
     let mut segments = Vec::new(alloc);
     for number in 0..packets.len() {
         let area = resolution(&tile(headers.siz(), number as u32), reduce, 0);
-        let packets = packets[number].as_slice();
-        add_tile_blocks(
-            alloc,
+        let coded = CodedTile {
             headers,
             bytes,
             number,
-            packets,
+            packets: &packets[number],
             reduce,
-            &area,
-            &mut segments,
-        )?;
+        };
+        add_tile_blocks(alloc, &coded, &area, &mut segments)?;
     }
-    decode_segments(rt, alloc, workers, gate, bytes, &segments)
+    decode_segments(workers, alloc, gate, bytes, &segments)
 }

@@ -7,6 +7,7 @@
 mod block;
 mod bodies;
 mod chains;
+mod coded;
 mod colour;
 mod component;
 mod decoded;
@@ -15,6 +16,7 @@ mod jobs;
 mod reading;
 mod tile;
 
+pub use coded::CodedTile;
 pub use decoded::DecodedBlocks;
 pub use filling::put;
 pub use jobs::decode_blocks_with;

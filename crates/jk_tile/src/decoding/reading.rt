@@ -16,48 +16,53 @@ ghost use Rattle.jk_tile.specs.decoding.Source.{IsSource, source_bodies, IsBandP
 ghost use Rattle.jk_tile.specs.decoding.Source.{ShowsBlocks};
 ghost use Rattle.jk_tile.specs.decoding.Source.{ShowsPrecinct, block_count, resolution_values, resolution_at};
 
-use crate::bands::{BandPart, band_count, band_number, band_planes, orientation, shape_at};
+use crate::bands::{
+    BandBlock, BandPart, band_count, band_number, band_planes, orientation, shape_at,
+};
 use crate::decoding::block::read_block;
 use crate::decoding::bodies::{BodyPlace, bodies_by_block};
 use crate::decoding::chains::{follow, packets_by_precinct};
 use crate::decoding::component::CodedComponent;
 use crate::decoding::filling::put_common;
-use jk_geom::{BlockGrid, blocks, precinct_count, touches};
+use jk_geom::{blocks, precinct_count, touches};
 use jk_math::Fault;
 use jk_wave::{band_rows, begin_level, finish_level, part_area};
 use std::alloc::Global;
 
-/// Reads a code-block, number `j` of a part of a sub-band, and puts what is asked for of it into
-/// the list of the resolution. A code-block of which nothing is asked for is passed over, and one
-/// that was decoded before isn't decoded again.
+/// Reads a code-block of a part of a sub-band, and puts what is asked for of it into the list of the
+/// resolution. A code-block of which nothing is asked for is passed over, and one that was decoded
+/// before isn't decoded again.
 fn read_at(
     alloc: Global,
     source: &CodedComponent<'_>,
-    part: BandPart,
-    grid: &BlockGrid,
-    j: u32,
+    block: BandBlock<'_>,
     bodies: &[BodyPlace],
     rows: &mut [i32],
     segment: &mut Vec<u8>,
 ) -> Result<(), Fault>
-    requires part { IsBandPart source.now part }
-    requires grid { grid.now
-        ≡ grid_at source.now.region.rect source.now.coding part.resolution part.precinct part.band }
-    requires sound { IsGrid grid.now }
-    requires j { j < grid.now.across * grid.now.down }
+    requires part { IsBandPart source.now block.part }
+    requires grid { block.grid.now ≡ grid_at source.now.region.rect source.now.coding
+        block.part.resolution block.part.precinct block.part.band }
+    requires sound { IsGrid block.grid.now }
+    requires number { block.number < block.grid.now.across * block.grid.now.down }
     requires inside { All (IsInside (length source.now.bytes)) bodies.now }
     requires bodies { map (body_of source.now.bytes) bodies.now
-        ≡ block_bodies part.band j (source_bodies source.now part.resolution part.precinct) }
-    requires filling { IsFilling source.now part.resolution rows.old }
+        ≡ block_bodies block.part.band block.number
+        (source_bodies source.now block.part.resolution block.part.precinct) }
+    requires filling { IsFilling source.now block.part.resolution rows.old }
     ensures exact { Answers (λ u. u) result
-        (if is_met source.now.region source.now.coding part.resolution part.precinct part.band j
-        then tested (block_values source.now.region.rect source.now.coding part.resolution part.precinct part.band j
-        (source_bodies source.now part.resolution part.precinct)) else Ok tt) }
-    ensures fills { OnOk result (Fills source.now part.resolution rows.old rows.new) }
-    ensures shows { OnOk result (ShowsBlock source.now part.resolution part.precinct part.band j rows.new) }
+        (if is_met source.now.region source.now.coding block.entry.part.resolution block.entry.part.precinct
+        block.entry.part.band block.entry.number
+        then tested (block_values source.now.region.rect source.now.coding block.entry.part.resolution
+        block.entry.part.precinct block.entry.part.band block.entry.number
+        (source_bodies source.now block.entry.part.resolution block.entry.part.precinct)) else Ok tt) }
+    ensures fills { OnOk result (Fills source.now block.entry.part.resolution rows.old rows.new) }
+    ensures shows { OnOk result (ShowsBlock source.now block.entry.part.resolution block.entry.part.precinct
+        block.entry.part.band block.entry.number rows.new) }
 {
+    let part = block.part;
     let coding = source.coding();
-    let place = grid.block(j);
+    let place = block.grid.block(block.number);
     let lies = band_rows(&source.region(), band_number(part.resolution, part.band));
     if !touches(&place, &lies.area) {
         return Ok(());
@@ -69,8 +74,8 @@ fn read_at(
         put_common(&lies, rows, &place, values);
         return Ok(());
     }
-    let block = read_block(alloc, source.bytes(), bodies, shape, planes, segment)?;
-    put_common(&lies, rows, &place, &block.values);
+    let read = read_block(alloc, source.bytes(), bodies, shape, planes, segment)?;
+    put_common(&lies, rows, &place, &read.values);
     Ok(())
 }
 
@@ -111,16 +116,12 @@ fn read_band(
     let count = grid.across * grid.down;
     let lists = bodies_by_block(alloc, source.packets(), numbers, part.band, count as usize)?;
     for j in 0..count {
-        read_at(
-            alloc,
-            source,
+        let block = BandBlock {
             part,
-            &grid,
-            j,
-            &lists[j as usize],
-            rows,
-            segment,
-        )?;
+            grid: &grid,
+            number: j,
+        };
+        read_at(alloc, source, block, &lists[j as usize], rows, segment)?;
     }
     Ok(())
 }

@@ -16,6 +16,7 @@ ghost use Rattle.jk_tile.specs.decoding.TileReading.{part_values_at, part_planes
 ghost use Rattle.jk_tile.specs.decoding.Source.{source_values};
 ghost use Rattle.jk_tile.specs.decoding.Decoded.{AreDecoded};
 
+use crate::decoding::coded::CodedTile;
 use crate::decoding::colour::uncolour;
 use crate::decoding::component::CodedComponent;
 use crate::decoding::decoded::DecodedBlocks;
@@ -23,8 +24,6 @@ use crate::decoding::reading::read_resolution;
 use crate::samples::all_to_samples;
 use jk_geom::{resolution, tile};
 use jk_math::{Fault, Rect};
-use jk_params::Codestream;
-use jk_walk::{PacketPlace, TilePackets};
 use jk_wave::Region;
 use std::alloc::Global;
 
@@ -48,29 +47,26 @@ pub(crate) fn read_component(alloc: Global, source: &CodedComponent<'_>) -> Resu
 #[tactic(auto, unfolding(crate::specs::decoding::TileReading::part_values_at))]
 fn read_components(
     alloc: Global,
-    headers: &Codestream,
-    bytes: &[u8],
-    number: usize,
-    packets: &[PacketPlace],
-    reduce: u8,
+    coded: &CodedTile<'_>,
     area: &Rect,
     decoded: &DecodedBlocks,
 ) -> Result<Vec<Vec<i32>>, Fault>
-    requires sound { AreHeaders (length bytes.now) headers.now }
-    requires number { number < tile_count headers.now.siz }
-    requires decoded { AreDecoded bytes.now decoded.now }
-    requires packets { AllByRecursion (λ w. place_end w ≤ length bytes.now) packets.now }
-    requires few { length packets.now ≤ 2 ^ 24 }
-    requires levels { AllByRecursion (λ k. reduce ≤ k.levels) (tile_in headers.now.tiles number).codings }
-    requires inside { IsPartOf area.now (shown_area headers.now.siz number reduce) }
+    requires decoded { AreDecoded coded.now.bytes decoded.now }
+    requires inside { IsPartOf area.now (shown_area coded.now.headers.siz coded.now.number coded.now.reduce) }
     ensures exact { Answers (λ v. lists_of v.items) result
-        (part_values_at bytes.now headers.now number reduce area.now packets.now) }
+        (part_values_at coded.now.bytes coded.now.headers coded.now.number coded.now.reduce area.now
+        coded.now.packets) }
     ensures small { IfOk result (λ v. (c : ℕ) → All (IsBelow (2 ^ 29)) (list_at v.items c)) }
 {
-    let rect = tile(headers.siz(), number as u32);
+    let headers = coded.headers;
+    let bytes = coded.bytes;
+    let number = coded.number;
+    let packets = coded.packets.as_slice();
+    let reduce = coded.reduce;
     let codings = headers.codings(number).as_slice();
     let mut values = Vec::new(alloc);
     for c in 0..codings.len() {
+        let rect = tile(headers.siz(), number as u32);
         let coding = &codings[c];
         let region = Region {
             rect,
@@ -89,28 +85,19 @@ fn read_components(
 #[tactic(auto, unfolding(crate::specs::decoding::TileReading::part_planes_at))]
 pub fn decode_part_of(
     alloc: Global,
-    headers: &Codestream,
-    bytes: &[u8],
-    number: usize,
-    packets: &TilePackets,
-    reduce: u8,
+    coded: &CodedTile<'_>,
     area: &Rect,
     decoded: &DecodedBlocks,
 ) -> Result<Vec<Vec<i32>>, Fault>
-    requires sound { AreHeaders (length bytes.now) headers.now }
-    requires number { number < tile_count headers.now.siz }
-    requires decoded { AreDecoded bytes.now decoded.now }
-    requires packets { AllByRecursion (λ w. place_end w ≤ length bytes.now) packets.now }
-    requires levels { AllByRecursion (λ k. reduce ≤ k.levels) (tile_in headers.now.tiles number).codings }
-    requires inside { IsPartOf area.now (shown_area headers.now.siz number reduce) }
+    requires decoded { AreDecoded coded.now.bytes decoded.now }
+    requires inside { IsPartOf area.now (shown_area coded.now.headers.siz coded.now.number coded.now.reduce) }
     ensures exact { Answers (λ v. lists_of v.items) result
-        (part_planes_at bytes.now headers.now number reduce area.now packets.now) }
+        (part_planes_at coded.now.bytes coded.now.headers coded.now.number coded.now.reduce area.now
+        coded.now.packets) }
 {
-    let packets = packets.as_slice();
-    let mut values = read_components(
-        alloc, headers, bytes, number, packets, reduce, area, decoded,
-    )?;
-    if headers.cod(number).colour {
+    let mut values = read_components(alloc, coded, area, decoded)?;
+    let headers = coded.headers;
+    if headers.cod(coded.number).colour {
         uncolour(alloc, &mut values);
     }
     all_to_samples(headers.siz(), &mut values);
@@ -118,55 +105,35 @@ pub fn decode_part_of(
 }
 
 /// The samples of a part of a tile at a reduction, component by component, each row by row, from
-/// the tile's packets, which [`jk_walk::read_packets`] reads. The part is a rectangle of the
-/// reduced image.
+/// the tile's packets. The part is a rectangle of the reduced image.
 ///
 /// The faults of [`decode_tile`], of those code-blocks alone that have a coefficient on which a
 /// sample of the part depends. Others are not decoded.
 pub fn decode_part(
     alloc: Global,
-    headers: &Codestream,
-    bytes: &[u8],
-    number: usize,
-    packets: &TilePackets,
-    reduce: u8,
+    coded: &CodedTile<'_>,
     area: &Rect,
 ) -> Result<Vec<Vec<i32>>, Fault>
-    requires sound { AreHeaders (length bytes.now) headers.now }
-    requires number { number < tile_count headers.now.siz }
-    requires packets { AllByRecursion (λ w. place_end w ≤ length bytes.now) packets.now }
-    requires levels { AllByRecursion (λ k. reduce ≤ k.levels) (tile_in headers.now.tiles number).codings }
-    requires inside { IsPartOf area.now (shown_area headers.now.siz number reduce) }
+    requires inside { IsPartOf area.now (shown_area coded.now.headers.siz coded.now.number coded.now.reduce) }
     ensures exact { Answers (λ v. lists_of v.items) result
-        (part_planes_at bytes.now headers.now number reduce area.now packets.now) }
+        (part_planes_at coded.now.bytes coded.now.headers coded.now.number coded.now.reduce area.now
+        coded.now.packets) }
 {
     let none = DecodedBlocks::none(alloc);
-    decode_part_of(alloc, headers, bytes, number, packets, reduce, area, &none)
+    decode_part_of(alloc, coded, area, &none)
 }
 
-/// The samples of a tile at a reduction, component by component, each row by row, from its packets,
-/// which [`jk_walk::read_packets`] reads.
+/// The samples of a tile at a reduction, component by component, each row by row, from its packets.
 ///
 /// The first of these faults, by component, resolution, precinct, sub-band and code-block:
 /// [`Fault::TooManyPasses`], [`Fault::CodeOutOfInterval`], and [`Fault::BadValue`] where another
 /// segmentation symbol stands than is due. Code-blocks of resolutions that aren't asked for are not
 /// decoded.
-pub fn decode_tile(
-    alloc: Global,
-    headers: &Codestream,
-    bytes: &[u8],
-    number: usize,
-    packets: &TilePackets,
-    reduce: u8,
-) -> Result<Vec<Vec<i32>>, Fault>
-    requires sound { AreHeaders (length bytes.now) headers.now }
-    requires number { number < tile_count headers.now.siz }
-    requires packets { AllByRecursion (λ w. place_end w ≤ length bytes.now) packets.now }
-    requires levels { AllByRecursion (λ k. reduce ≤ k.levels) (tile_in headers.now.tiles number).codings }
+pub fn decode_tile(alloc: Global, coded: &CodedTile<'_>) -> Result<Vec<Vec<i32>>, Fault>
     ensures exact { Answers (λ v. lists_of v.items) result
-        (tile_planes_at bytes.now headers.now number reduce packets.now) }
+        (tile_planes_at coded.now.bytes coded.now.headers coded.now.number coded.now.reduce coded.now.packets) }
 {
-    let rect = tile(headers.siz(), number as u32);
-    let area = resolution(&rect, reduce, 0);
-    decode_part(alloc, headers, bytes, number, packets, reduce, &area)
+    let rect = tile(coded.headers.siz(), coded.number as u32);
+    let area = resolution(&rect, coded.reduce, 0);
+    decode_part(alloc, coded, &area)
 }

@@ -20,6 +20,7 @@ use crate::encoding::precincts::add_component;
 use crate::encoding::subbands::bands_on;
 use crate::encoding::transforms::bands_with;
 use crate::encoding::writing::BandSource;
+use crate::workers::Workers;
 use jk_math::{Fault, Image, Planes, Rect};
 use jk_packet::BlockTable;
 use std::alloc::Global;
@@ -98,17 +99,13 @@ impl Executor for Sequential {
     }
 }
 
-/// So many workers do it side by side, as far as threads can be had.
+/// Workers do it side by side.
 #[derive(Drop)]
 pub struct Parallel<'a, R, C> {
-    /// What gives threads.
-    pub rt: &'a R,
-    /// How many workers there are.
-    pub workers: usize,
+    /// Who they are.
+    pub workers: &'a Workers<'a, R>,
     /// Does jobs of code-blocks. It is made where the gate that is told of them is known.
     pub code: C,
-    ghost some: { 1 ≤ workers },
-    ghost most: { workers ≤ 64 },
 }
 
 impl<'a, R: Threads + Sync, C> Executor for Parallel<'a, R, C>
@@ -126,7 +123,7 @@ where
         colours: bool,
         rect: &Rect,
     ) -> Result<Vec<Planes>, Fault> {
-        bands_with(self.rt, alloc, self.workers, image, levels, colours, rect)
+        bands_with(self.workers, alloc, image, levels, colours, rect)
     }
 
     fn code(

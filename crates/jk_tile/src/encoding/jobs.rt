@@ -15,8 +15,8 @@ ghost use Rattle.jk_tile.specs.encoding.TileWritten.{coefficient_of, IsWrittenPa
 
 use crate::bands::{BandPart, band_count};
 use crate::encoding::writing::{BandSource, grid_of, table_at};
-use jk_farm::Work;
 use jk_geom::precinct_count;
+use jk_jobs::Work;
 use jk_math::Fault;
 use jk_packet::BlockTable;
 use std::alloc::Global;

@@ -16,9 +16,11 @@ mod tile;
 mod transforms;
 mod values;
 mod writing;
+mod written;
 
 pub use executor::{Executor, Parallel, Sequential};
 pub use jobs::BlockJob;
 pub use needs::exponents;
 pub use subbands::tile_bands;
 pub use tile::encode_tile;
+pub use written::WrittenImage;

@@ -152,47 +152,56 @@ fn keep<'a>(slots: &mut Vec<Slot<'a>>, place: usize, writer: Box<PrecinctWriter<
     slots[place] = Some(writer);
 }
 
-/// Appends the next packet of a precinct, which is packet `number` of the tile. Its writer is made
-/// with the first layer and let go of behind the last one.
+/// A packet that is to be written: its name, its number in the tile, and where the writer of its
+/// precinct stands.
+#[derive(Clone, Copy)]
+struct NextPacket {
+    name: PacketName,
+    number: u32,
+    place: usize,
+}
+
+/// Appends the next packet of a precinct. Its writer is made with the first layer and let go of
+/// behind the last one.
 fn write_at<'a>(
     alloc: Global,
     frame: &TileFrame<'_>,
-    name: PacketName,
+    packet: NextPacket,
     tables: &'a [BlockTable],
-    place: usize,
-    number: u32,
     slots: &mut Vec<Slot<'a>>,
     out: &mut Vec<u8>,
 ) -> Result<(), Fault>
     requires area { IsArea frame.now.shape.now.rect }
     requires coding { IsCoding frame.now.coding.now }
     requires planes { HasPlanes frame.now.coding.now }
-    requires resolution { name.resolution ≤ frame.now.coding.now.levels }
-    requires precinct { name.precinct < precinct_number frame.now.shape.now.rect frame.now.coding.now name.resolution }
+    requires resolution { packet.name.resolution ≤ frame.now.coding.now.levels }
+    requires precinct { packet.name.precinct
+        < precinct_number frame.now.shape.now.rect frame.now.coding.now packet.name.resolution }
     requires tables { IsPrecinctList frame.now.shape.now.rect frame.now.coding.now frame.now.shape.now.layers
-        name.resolution name.precinct tables.now }
-    requires place { place < length slots.old.items }
-    requires layer { name.layer < frame.now.shape.now.layers }
-    requires next { name.layer ≡ (writer_in frame.now.shape.now frame.now.coding.now frame.now.markers.sop
-        frame.now.markers.eph tables.now slots.old.items place name).written }
-    requires more { name.layer < (writer_in frame.now.shape.now frame.now.coding.now frame.now.markers.sop
-        frame.now.markers.eph tables.now slots.old.items place name).layers }
+        packet.name.resolution packet.name.precinct tables.now }
+    requires place { packet.place < length slots.old.items }
+    requires layer { packet.name.layer < frame.now.shape.now.layers }
+    requires next { packet.name.layer ≡ (writer_in frame.now.shape.now frame.now.coding.now frame.now.markers.sop
+        frame.now.markers.eph tables.now slots.old.items packet.place packet.name).written }
+    requires more { packet.name.layer < (writer_in frame.now.shape.now frame.now.coding.now frame.now.markers.sop
+        frame.now.markers.eph tables.now slots.old.items packet.place packet.name).layers }
     ensures long { length slots.new.items ≡ length slots.old.items }
-    ensures here { OnOk result (name.layer + 1 < frame.now.shape.now.layers → (blank : PrecinctTables)
-        → kept_writer slots.new.items place blank
+    ensures here { OnOk result (packet.name.layer + 1 < frame.now.shape.now.layers → (blank : PrecinctTables)
+        → kept_writer slots.new.items packet.place blank
         ≡ record (writer_in frame.now.shape.now frame.now.coding.now frame.now.markers.sop
-        frame.now.markers.eph tables.now slots.old.items place name) { written = name.layer + 1 }) }
-    ensures others { (blank : PrecinctTables) (i : ℕ) → i ≢ place
+        frame.now.markers.eph tables.now slots.old.items packet.place packet.name)
+        { written = packet.name.layer + 1 }) }
+    ensures others { (blank : PrecinctTables) (i : ℕ) → i ≢ packet.place
         → kept_writer slots.new.items i blank ≡ kept_writer slots.old.items i blank }
     ensures text { OnOk result (out.new.items ≡ out.old.items
         ++ text_by (writer_in frame.now.shape.now frame.now.coding.now frame.now.markers.sop
-        frame.now.markers.eph tables.now slots.old.items place name) number) }
+        frame.now.markers.eph tables.now slots.old.items packet.place packet.name) packet.number) }
     ensures memory { IfErr result IsMemory }
 {
-    let mut writer = take(alloc, frame, name, tables, place, slots)?;
-    writer.write_packet(number, out)?;
-    if name.layer + 1 < frame.shape.layers {
-        keep(slots, place, writer);
+    let mut writer = take(alloc, frame, packet.name, tables, packet.place, slots)?;
+    writer.write_packet(packet.number, out)?;
+    if packet.name.layer + 1 < frame.shape.layers {
+        keep(slots, packet.place, writer);
     }
     Ok(())
 }
@@ -226,16 +235,12 @@ pub(crate) fn write_packets(
         };
         let place = place_of(&firsts, frame.coding.levels, name);
         let own = &tables[place];
-        write_at(
-            alloc,
-            frame,
+        let packet = NextPacket {
             name,
-            own,
+            number: number as u32,
             place,
-            number as u32,
-            &mut slots,
-            &mut out,
-        )?;
+        };
+        write_at(alloc, frame, packet, own, &mut slots, &mut out)?;
     }
     Ok(out)
 }

@@ -11,7 +11,8 @@ ghost use Rattle.jk_tile.specs.encoding.Forward.{picture_area, tile_value};
 ghost use Rattle.jk_tile.specs.encoding.Jobs.{IsComponentJob, bands_of_job};
 
 use crate::encoding::subbands::component_bands;
-use jk_farm::{Open, Work, map_jobs};
+use crate::workers::Workers;
+use jk_jobs::{Open, Work, map_jobs};
 use jk_math::{Fault, Image, Planes, Rect};
 use std::alloc::Global;
 use std::marker::Sync;
@@ -85,16 +86,13 @@ fn component_jobs<'a>(
 
 /// The sub-bands of each component of a part of an image, in the order of QCD, each row by row.
 pub(crate) fn bands_with<R: Threads + Sync>(
-    rt: &R,
+    workers: &Workers<'_, R>,
     alloc: Global,
-    workers: usize,
     image: &Image,
     levels: u8,
     colours: bool,
     rect: &Rect,
 ) -> Result<Vec<Planes>, Fault>
-    requires some { 1 ≤ workers }
-    requires most { workers ≤ 64 }
     requires picture { IsPicture image.now }
     requires area { IsArea rect.now }
     requires rect { IsPartOf rect.now (picture_area image.now) }
@@ -106,5 +104,5 @@ pub(crate) fn bands_with<R: Threads + Sync>(
     ensures memory { IfErr result IsMemory }
 {
     let jobs = component_jobs(alloc, image, levels, colours, rect)?;
-    map_jobs::<ComponentJob<'_>, R, Open>(rt, alloc, workers, &Open, &jobs)
+    map_jobs::<ComponentJob<'_>, R, Open>(workers.rt, alloc, workers.count, &Open, &jobs)
 }

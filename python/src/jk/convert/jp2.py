@@ -1,20 +1,23 @@
 """JPEG 2000 files: what is read of them, and how images are handed to jk."""
 from __future__ import annotations
 
-from typing import Any, BinaryIO, Dict, Iterator, List, Tuple
+from dataclasses import replace
+from fractions import Fraction
+from typing import Any, BinaryIO, Dict, Iterator, List, Optional, Tuple
 
 import numpy as np
 
-from ..files import encode, info, read
+from .. import _beside, _extras
+from .._beside import Damaged, Kept, Resolution
+from ..faults import BadParameters, Fault
+from ..files import encode, extras, info, read, with_extras
 from .images import Picture, Refused
 
-#: The 16 bytes that say what a `uuid` box has.
-UUIDS = {
-    bytes.fromhex("be7acfcb97a942e89c71999491e3afac"): "XMP", b"JpgTiffExif->JP2": "EXIF",
-    bytes.fromhex("33c7a4d2b81d4723a0baf1a3e097ad38"): "IPTC",
-    bytes.fromhex("b14bf8bd083d4b43a5ae8cd7d5a6ce03"): "GeoJP2",
-}
-SRGB, GREY, SYCC = 16, 17, 18
+#: What isn't carried of a profile that JP2 doesn't take.
+IN_EXIF = "the profile outside EXIF (JP2 takes restricted ones alone)"
+GEO = bytes.fromhex("b14bf8bd083d4b43a5ae8cd7d5a6ce03")
+#: Colour spaces whose samples are grey or RGB.
+SPACES = ("sRGB", "grey", None)
 
 
 def pictures(path: str) -> Iterator[Picture]:
@@ -24,48 +27,74 @@ def pictures(path: str) -> Iterator[Picture]:
     if told.components not in (1, 3):
         raise Refused(f"the image has {told.components} components, and jk.convert takes 1 and 3")
     is_moved = (told.x0, told.y0) != (0, 0)
-    yield Picture(read(data), told.depth, lost=(*beside(data.data), *["place on the reference grid"] * is_moved))
+    kept, lost = beside(data)
+    yield Picture(read(data), told.depth, kept, (*lost, *["place on the reference grid"] * is_moved))
 
 
-def beside(file: memoryview) -> List[str]:
-    """What a JP2 file has beside its samples, by name."""
-    found: List[str] = []
-    for kind, contents in _boxes(file):
-        if kind == b"jp2h":
-            for inner, text in _boxes(contents):
-                found += _of_header(inner, text)
-        elif kind == b"uuid":
-            found.append(UUIDS.get(bytes(contents[:16]), "a uuid box"))
-        elif kind not in (b"jP  ", b"ftyp", b"jp2c"):
-            found.append(f"a box {kind.decode('latin-1').strip()}")
-    return list(dict.fromkeys(found))
-
-
-def _of_header(kind: bytes, text: memoryview) -> List[str]:
-    if kind == b"res ":
-        return ["resolution"]
-    if kind != b"colr" or len(text) < 3:
-        return []
-    if text[0] != 1:
-        return ["profile"]
-    space = int.from_bytes(text[3:7], "big")
-    if space == SYCC:
+def beside(data: np.ndarray) -> Tuple[Kept, List[str]]:
+    """What a file has beside its samples, and by name what of it isn't in that value."""
+    try:
+        found = extras(data)
+    except Fault as why:
+        return Kept(), [f"what stands there: {why}"]
+    if found.space == "sYCC":
         raise Refused("the colour space is sYCC: its samples are no RGB")
-    return [] if space in (SRGB, GREY) else [f"colour space {space}"]
+    lost = [] if found.space in SPACES else [f"colour space {found.space.partition('=')[2]}"]
+    kept = Kept()
+    if found.exif is not None:
+        try:
+            kept, of_exif = _beside.kept_of_exif(found.exif)
+            lost += of_exif
+        except Damaged:
+            lost.append("EXIF that can't be read")
+    if found.resolution is not None and not _is_rounded(kept.resolution, found.resolution):
+        kept = replace(kept, resolution=_of_inches(found.resolution))
+    kept = replace(kept, profile=found.profile or kept.profile, xmp=found.xmp or kept.xmp, iptc=found.iptc or kept.iptc)
+    return kept, list(dict.fromkeys([*lost, *_others(found), *_boxes(data.data)]))
 
 
-def _boxes(text: memoryview) -> Iterator[Tuple[bytes, memoryview]]:
-    """The boxes of a file that `info` has read; none of a bare codestream."""
-    at = 0
-    while at + 8 <= len(text) and bytes(text[at : at + 4]) != b"\xff\x4f\xff\x51":
-        size, head = int.from_bytes(text[at : at + 4], "big"), 8
-        if size == 1:
-            size, head = int.from_bytes(text[at + 8 : at + 16], "big"), 16
-        size = size or len(text) - at
-        if size < head:
-            raise Refused("a box is shorter than its head")
-        yield bytes(text[at + 4 : at + 8]), text[at + head : at + size]
-        at += size
+def _is_rounded(exact: Optional[Resolution], found: Tuple[Fraction, Fraction]) -> bool:
+    """Whether a resolution box tells what EXIF tells exactly, or the nearest to it that the box has."""
+    if exact is None or exact.unit == "none":
+        return False
+    return [_told(value) for value in exact.per_metre()] == [inches * _extras.METRE for inches in found]
+
+
+def _told(value: Fraction) -> Fraction:
+    """What the box tells where it is to tell so many samples by the metre."""
+    try:
+        above, below, exponent = _extras.ratio(value) or _extras.nearest(value)
+    except ValueError:
+        return Fraction(0)
+    return Fraction(above, below) * Fraction(10) ** exponent
+
+
+def _of_inches(found: Tuple[Fraction, Fraction]) -> Resolution:
+    across, down = found
+    if max(*across.as_integer_ratio(), *down.as_integer_ratio()) < 1 << 32:
+        return Resolution(across.as_integer_ratio(), down.as_integer_ratio(), "inch")
+    # By the metre these are ratios of 16 bits and a power of ten.
+    across, down = (it * _extras.METRE for it in found)
+    return Resolution(across.as_integer_ratio(), down.as_integer_ratio(), "metre")
+
+
+def _others(found: _extras.Extras) -> List[str]:
+    """What is told and has no place in `Kept`, by name."""
+    names = ["display resolution"] * (found.display is not None) + ["a box xml"] * bool(found.xml)
+    return names + ["GeoJP2" if name == GEO else "a uuid box" for name, _ in found.uuids]
+
+
+def _boxes(file: memoryview) -> List[str]:
+    """Boxes that are neither part of the image nor what `extras` tells, by name."""
+    if file[:2] == b"\xff\x4f":
+        return []
+    found = []
+    for kind, contents in _extras.boxes_in(file):
+        if kind == b"jp2h" and [inner for inner, _ in _extras.boxes_in(contents)].count(b"colr") > 1:
+            found.append("further colours")
+        if kind not in (b"jP  ", b"ftyp", b"jp2h", b"jp2c", b"xml ", b"uuid"):
+            found.append(f"a box {kind.decode('latin-1').strip()}")
+    return found
 
 
 def write(out: BinaryIO, picture: Picture, raw: bool, parameters: Dict[str, Any]) -> List[str]:
@@ -73,12 +102,34 @@ def write(out: BinaryIO, picture: Picture, raw: bool, parameters: Dict[str, Any]
     samples = picture.samples
     if samples.dtype.kind == "i" and not raw:
         raise Refused("samples are signed, and JP2 holds none: a bare codestream does (--raw, or OUT.j2k)")
-    file, left = handed(encode(samples, depth=picture.depth, raw=raw, **parameters), picture)
+    file, left = handed(encode(samples, depth=picture.depth, raw=raw, **parameters), picture, raw)
     out.write(file)
     return left
 
 
-def handed(file: bytes, picture: Picture) -> Tuple[bytes, List[str]]:
-    """A file with what stands beside the samples, and what of it isn't carried: all, as long as the package has no call
-    for it."""
-    return file, picture.kept.names()
+def handed(file: bytes, picture: Picture, raw: bool) -> Tuple[bytes, List[str]]:
+    """A file with what stands beside the samples, and what of it isn't carried: of a bare codestream all."""
+    kept = picture.kept.that_says()
+    if raw or kept == Kept():
+        return file, kept.names()
+    try:
+        return with_extras(file, extras_of(kept)), []
+    except BadParameters:
+        if not kept.profile:
+            raise
+    # EXIF holds any profile, where no reader of JP2 looks for it.
+    fields = replace(extras_of(replace(kept, profile=b"")), exif=_beside.exif_of(kept, with_profile=True))
+    return with_extras(file, fields), [IN_EXIF]
+
+
+def extras_of(kept: Kept) -> _extras.Extras:
+    """What a file is to keep: ratios of any size, orientation and texts stand in EXIF, and a resolution in the box too, as
+    near as that has it."""
+    resolution = None
+    if kept.resolution is not None and kept.resolution.unit != "none":
+        told = [_told(value) for value in kept.resolution.per_metre()]
+        resolution = tuple(it / _extras.METRE for it in told) if all(told) else None
+    return _extras.Extras(
+        profile=kept.profile or None, resolution=resolution, xmp=kept.xmp or None, iptc=kept.iptc or None,
+        exif=_beside.exif_of(kept) or None,
+    )

@@ -144,20 +144,21 @@ def written(
     lost = [*picture.lost, *left]
     if lost and job.asked.strict:
         raise Refused(f"not carried: {', '.join(lost)}")
-    notes = notes + read_back(path, kind, picture) + [f"not carried: {', '.join(lost)}"] * bool(lost)
+    notes = notes + read_back(path, kind, picture, out) + [f"not carried: {', '.join(lost)}"] * bool(lost)
     carried = ", ".join(name for name in picture.kept.names() if name not in left)
     return out, {"image": image_of(picture), "sha256_of_samples": digest_of_samples(picture.samples),
                  "carried": carried, "notes": "; ".join(notes)}
 
 
-def read_back(path: str, kind: str, picture: Picture) -> List[str]:
-    """Compares what stands on the disk with an image; notes."""
+def read_back(path: str, kind: str, picture: Picture, out: str) -> List[str]:
+    """Compares what stands on the disk, and is to go to OUT, with an image; notes."""
     back, = READERS[kind](path)
     if back.samples.dtype != picture.samples.dtype or not np.array_equal(back.samples, picture.samples):
         raise Refused("what was written reads back with other samples")
-    # PNG has no place for IPTC, and PGM and PPM for nothing.
+    # PNG has no place for IPTC, and PGM, PPM and a bare codestream for nothing.
     due = replace(picture.kept, iptc=b"") if kind == "png" else picture.kept
-    if kind in ("tiff", "png") and not back.kept.tells_the_same(due):
+    has_place = kind in ("tiff", "png") or kind == "jp2" and out.lower().endswith(".jp2")
+    if has_place and not back.kept.that_says().tells_the_same(due.that_says()):
         raise Refused("what was written reads back with other things beside the samples")
     agreed(path, kind, back)
     if back.depth == picture.depth:

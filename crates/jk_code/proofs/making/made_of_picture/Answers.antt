@@ -27,4 +27,4 @@ returns-in_err-made g c =
 pub returns : goal.returns
 returns g c =
     picture_made g.S.StripeWork.gives c.args.bytes.now c.args.headers.now c.args.reduce c.in_ok-area.area c.in_ok-frame.frame c.in_ok-made.made (sym c.in_ok-frame.ensures) (sym c.in_ok-area.ensures.exact)
-    c.in_ok-packets.ensures.exact c.in_ok-made.ensures.exact c.requires.sound.siz c.in_ok-area.ensures.frame c.in_ok-made.ensures.made
+    c.in_ok-packets.ensures.exact c.in_ok-made.ensures.exact c.requires.siz c.in_ok-area.ensures.frame c.in_ok-made.ensures.made

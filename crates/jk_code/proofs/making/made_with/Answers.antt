@@ -5,6 +5,6 @@ use Rattle.jk_code.proofs.making.made_with.Goals as goal
 
 pub decode_blocks_with-decoded-requires-clause-packets : goal.decode_blocks_with-decoded-requires-clause-packets
 decode_blocks_with-decoded-requires-clause-packets g c κs within = λ t lt.
-    let bytes = c.args.bytes.now in
-    let places = get_or c.args.packets.now t [] in
-    ends_of (length bytes) _ places (packets_within bytes c.args.headers.now t places c.requires.sound lt (c.requires.packets.each t lt))
+    let bytes = c.coded.inside.bytes.now in
+    let places = get_or c.coded.inside.packets.now t [] in
+    ends_of (length bytes) _ places (packets_within bytes c.coded.inside.headers.now t places c.coded.invariant.sound lt (c.coded.invariant.packets.each t lt))

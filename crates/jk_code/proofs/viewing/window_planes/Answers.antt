@@ -1,4 +1,4 @@
-use Rattle.std.proofs.Common.{◌≡◌, ◌<◌, ℕ, ℤ, if◌then◌else◌, List, Ok, ◌∙◌, ap, sym, subst, inl, inr, arith}
+use Rattle.std.proofs.Common.{◌≡◌, ◌<◌, ℕ, ℤ, if◌then◌else◌, List, length, Ok, ◌∙◌, ap, sym, subst, inl, inr, arith}
 use Rattle.std.specs.Global.{Vec}
 use Rattle.std.proofs.lemmas.Bool.{cases_eq}
 use Rattle.std.proofs.lemmas.Result.{err_from_is_err_and}
@@ -13,8 +13,10 @@ use Rattle.jk_window.specs.Views.{frame_of}
 use Rattle.jk_code.specs.MeaningReading.{places_or, places_at}
 use Rattle.jk_code.specs.Tiles.{ArePlanes, KeepsSamples, ShowsTileAt}
 use Rattle.jk_code.specs.ViewReading.{seen_part, is_seen, seen_parts_tested}
-use Rattle.jk_code.proofs.Placing.{within_part, planes_are}
+use Rattle.jk_walk.proofs.Laws.{packets_within}
+use Rattle.jk_code.proofs.Placing.{within_part, planes_are, ends_of}
 use Rattle.jk_code.proofs.ViewSteps.{if_true, if_false, some_kept, none_kept, none_seen}
+use Rattle.jk_code.proofs.Tiling.{tile_levels}
 use Rattle.jk_code.proofs.viewing.window_planes.Goals as goal
 use Rattle.jk_code.proofs.viewing.window_planes.Goals.{in-Some+in_ok-show_tile, in_default}
 
@@ -26,6 +28,21 @@ loop-number-init c =
       tested = each_none _;
       planes = record { count = c.in_ok-planes.ensures.count ∙ siz; each = λ i lt. c.in_ok-planes.ensures.each i (omega (arith, lt, siz)) };
       shows = λ t lt. absurd (omega (arith, lt));
+    }
+
+pub invariant_of-next : goal.invariant_of-next
+invariant_of-next c =
+    let bytes = c.args.bytes.now in
+    let h = c.args.headers.now in
+    let t = c.loop-number.number in
+    let lt : t < tile_count h.siz = omega (arith, c.loop-number-test.true, c.loop-number.invariant.end_is) in
+    let places = c.in-Some.packets in
+    let read = (some_kept bytes h c.args.reduce c.args.window.now (tile_count h.siz) t c.args.all.now c.index-all-number.result places c.requires.packets lt c.index-all-number.is c.in-Some.is).1 in
+    record {
+      sound = c.requires.sound;
+      is_tile = lt;
+      ends = ends_of (length bytes) _ places (packets_within bytes h t places c.requires.sound lt read);
+      levels = tile_levels c.args.reduce h.tiles t c.requires.levels (omega (arith, lt, c.requires.sound.tiles));
     }
 
 pub show_tile-requires-clause-packets : goal.show_tile-requires-clause-packets

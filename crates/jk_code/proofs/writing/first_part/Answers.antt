@@ -13,20 +13,20 @@ use Rattle.jk_code.proofs.writing.first_part.Goals as goal
 pub returns-in_err-rest-clause-err : goal.returns-in_err-rest-clause-err
 returns-in_err-rest-clause-err c =
     let same = err_from_is_err_and c.from_residual.result c.from_residual.ensures.1 in
-    rw (same.1, same.2) (ahead_any c.args.image.now c.args.parameters.now c.in_err-rest.field-0.0 c.in_err-rest.ensures.err)
+    rw (same.1, same.2) (ahead_any c.args.source.now.image.now c.args.source.now.parameters.now c.in_err-rest.field-0.0 c.in_err-rest.ensures.err)
 
 pub returns-in_err-head-clause-err : goal.returns-in_err-head-clause-err
 returns-in_err-head-clause-err c =
-    let p = c.args.image.now in
-    let q = c.args.parameters.now in
+    let p = c.args.source.now.image.now in
+    let q = c.args.source.now.parameters.now in
     let same = err_from_is_err_and c.from_residual-in_err-head.result c.from_residual-in_err-head.ensures.1 in
     rw (same.1, same.2)
-    (ahead_first p q c.in_err-head.field-0.0 c.deref.result.now (some_tile (siz_of p q) c.requires.written.siz) (c.deref.ensures.value ∙ c.in_ok-content.ensures.exact) c.in_err-head.ensures.err)
+    (ahead_first p q c.in_err-head.field-0.0 c.deref.result.now (some_tile (siz_of p q) c.args.source.now.profile.siz) (c.deref.ensures.value ∙ c.in_ok-content.ensures.exact) c.in_err-head.ensures.err)
 
 pub returns-clause-text : goal.returns-clause-text
 returns-clause-text c =
-    let p = c.args.image.now in
-    let q = c.args.parameters.now in
+    let p = c.args.source.now.image.now in
+    let q = c.args.source.now.parameters.now in
     let content = c.in_ok-content.content.items in
     let before = c.in_ok-before.before.items in
     let read = c.deref.result.now in
@@ -50,15 +50,15 @@ returns-clause-text c =
 
 pub returns-clause-all : goal.returns-clause-all
 returns-clause-all c jp2 =
-    let p = c.args.image.now in
-    let q = c.args.parameters.now in
+    let p = c.args.source.now.image.now in
+    let q = c.args.source.now.parameters.now in
     let read : length c.deref.result.now ≡ length (tile_text p q 0) = ap (λ (xs : List ℕ). length xs) (c.deref.ensures.value ∙ c.in_ok-content.ensures.exact) in
     c.in_ok-rest.ensures.fits jp2 (fits_said p q 0 (omega (arith, c.in_ok-head.ensures.fits, read)))
 
 pub returns-clause-means : goal.returns-clause-means
 returns-clause-means c = λ file e.
-    (let p = c.args.image.now in
-    let q = c.args.parameters.now in
+    (let p = c.args.source.now.image.now in
+    let q = c.args.source.now.parameters.now in
     let made : c.write_main.new.out.items ≡ main_text (siz_of p q) (segments_of (main_for p q)) =
     c.in_ok-write_main.ensures.ok ∙ ap (λ (xs : List ℕ). xs ++ main_text c.main_header.result.siz (segments_of c.main_header.result)) c.new-main.ensures.items
     ∙ ap (λ (x : Main). main_text x.siz (segments_of x)) c.main_header.ensures.value in
@@ -71,4 +71,4 @@ returns-clause-means c = λ file e.
     (let whole = size_said p q c.len-3.result c.len.result c.len-2.result c.in_ok-rest.rest long fourteen same (c.in_ok-rest.ensures.size jp2) in
     let read : length c.deref.result.now ≡ length (tile_text p q 0) = ap (λ (xs : List ℕ). length xs) (c.deref.ensures.value ∙ c.in_ok-content.ensures.exact) in
     omega (arith, whole, c.in_ok-rest.ensures.small, c.in_ok-head.ensures.fits, read)) in
-    file_means p q file c.main_header.ensures.picture c.requires.written small e)
+    file_means p q file c.main_header.ensures.picture c.args.source.now.profile small e)

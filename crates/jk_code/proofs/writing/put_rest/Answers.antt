@@ -15,8 +15,8 @@ use Rattle.jk_code.proofs.writing.put_rest.Goals as goal
 
 pub loop-number-init : goal.loop-number-init
 loop-number-init g c =
-    let p = c.args.image.now in
-    let q = c.args.parameters.now in
+    let p = c.args.source.now.image.now in
+    let q = c.args.source.now.parameters.now in
     record {
       written = ([], appends_none (g.W.Write.contents c.args.writer.now), append-nil (parts_upto p q 1));
       fit = below_more (part_fits p q) 0 (below_none (part_fits p q)) c.requires.first;
@@ -24,8 +24,8 @@ loop-number-init g c =
 
 pub returns-in_err-put_tile : goal.returns-in_err-put_tile
 returns-in_err-put_tile g c =
-    let p = c.args.image.now in
-    let q = c.args.parameters.now in
+    let p = c.args.source.now.image.now in
+    let q = c.args.source.now.parameters.now in
     let t = c.loop-number.number in
     let tiles = c.tile_count-number-end.ensures ∙ ap (λ (s : Siz). tile_count s) c.siz_of.ensures.value in
     let same = err_from_is_err_and c.from_residual.result c.from_residual.ensures.1 in
@@ -35,8 +35,8 @@ returns-in_err-put_tile g c =
 
 pub loop-number-preserved : goal.loop-number-preserved
 loop-number-preserved g c =
-    let p = c.args.image.now in
-    let q = c.args.parameters.now in
+    let p = c.args.source.now.image.now in
+    let q = c.args.source.now.parameters.now in
     let t = c.loop-number.number in
     record {
       written = rest_more p q (g.W.Write.contents c.args.writer.now) (g.W.Write.contents c.loop-number.writer) (g.W.Write.contents c.put_tile.new.writer) t c.loop-number.invariant.written c.in_ok-put_tile.ensures;
@@ -45,10 +45,10 @@ loop-number-preserved g c =
 
 pub returns : goal.returns
 returns g c =
-    let p = c.args.image.now in
-    let q = c.args.parameters.now in
+    let p = c.args.source.now.image.now in
+    let q = c.args.source.now.parameters.now in
     let tiles = c.tile_count-number-end.ensures ∙ ap (λ (s : Siz). tile_count s) c.siz_of.ensures.value in
-    let some = some_tile (siz_of p q) c.requires.written.siz in
+    let some = some_tile (siz_of p q) c.args.source.now.profile.siz in
     let all : c.loop-number.number ≡ tile_count (siz_of p q) = omega (arith, some, c.loop-number-test.false, c.loop-number.auto.number-end, tiles) in
     let written = c.loop-number.invariant.written in
     (written.0, written.1, (ap (holds_below (part_fits p q)) (sym all) ∙ c.loop-number.invariant.fit, written.2 ∙ ap (parts_upto p q) all))

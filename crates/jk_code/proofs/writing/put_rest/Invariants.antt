@@ -8,6 +8,6 @@ use Rattle.jk_code.proofs.writing.put_rest.Given as goal
 -- the parts of the tiles before, without the first, are written
 abbrev pub invariant-loop-number : goal.invariant-loop-number
 invariant-loop-number g l = record {
-  written : (text : List ℕ) × Appends (g.W.Write.contents l.initial.writer) (g.W.Write.contents l.writer) text × (parts_upto l.image l.parameters 1 ++ text ≡ parts_upto l.image l.parameters l.number);
-  fit : holds_below (part_fits l.image l.parameters) l.number ≡ true;
+  written : (text : List ℕ) × Appends (g.W.Write.contents l.initial.writer) (g.W.Write.contents l.writer) text × (parts_upto l.source.image.now l.source.parameters.now 1 ++ text ≡ parts_upto l.source.image.now l.source.parameters.now l.number);
+  fit : holds_below (part_fits l.source.image.now l.source.parameters.now) l.number ≡ true;
 }

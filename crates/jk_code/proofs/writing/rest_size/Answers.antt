@@ -10,8 +10,8 @@ use Rattle.jk_code.proofs.writing.rest_size.Goals as goal
 
 pub loop-number-preserved : goal.loop-number-preserved
 loop-number-preserved c =
-    let p = c.args.image.now in
-    let q = c.args.parameters.now in
+    let p = c.args.source.now.image.now in
+    let q = c.args.source.now.parameters.now in
     let t = c.loop-number.number in
     let inside = c.loop-number.invariant in
     let long : length c.in_ok-content.content.items ≡ length (tile_text p q t) = ap (λ (xs : List ℕ). length xs) c.in_ok-content.ensures.value in
@@ -25,18 +25,18 @@ loop-number-preserved c =
 
 pub returns-clause-size : goal.returns-clause-size
 returns-clause-size c =
-    let p = c.args.image.now in
-    let q = c.args.parameters.now in
+    let p = c.args.source.now.image.now in
+    let q = c.args.source.now.parameters.now in
     let tiles = c.tile_count-number-end.ensures ∙ ap (λ (s : Siz). tile_count s) c.siz_of.ensures.value in
-    let some = some_tile (siz_of p q) c.requires.written.siz in
+    let some = some_tile (siz_of p q) c.args.source.now.profile.siz in
     let all : c.loop-number.number ≡ tile_count (siz_of p q) = omega (arith, some, c.loop-number-test.false, c.loop-number.auto.number-end, tiles) in
     c.loop-number.invariant.size ∙ ap (λ n. length (parts_upto p q n)) all
 
 pub returns-clause-fits : goal.returns-clause-fits
 returns-clause-fits c first =
-    let p = c.args.image.now in
-    let q = c.args.parameters.now in
+    let p = c.args.source.now.image.now in
+    let q = c.args.source.now.parameters.now in
     let tiles = c.tile_count-number-end.ensures ∙ ap (λ (s : Siz). tile_count s) c.siz_of.ensures.value in
-    let some = some_tile (siz_of p q) c.requires.written.siz in
+    let some = some_tile (siz_of p q) c.args.source.now.profile.siz in
     let all : c.loop-number.number ≡ tile_count (siz_of p q) = omega (arith, some, c.loop-number-test.false, c.loop-number.auto.number-end, tiles) in
     fits_from p q (tile_count (siz_of p q)) (λ t low lt. c.loop-number.invariant.fit t low (omega (arith, lt, all))) first

@@ -11,8 +11,8 @@ unfolding block_grid
 returns-clause-few c =
     let k = c.args.coding.now in
     let part = precinct_area c.args.rect.now k c.args.r c.args.k c.args.orientation in
-    let width : c.min.result ≡ min k.xcb (part_width k c.args.r) = (let e = c.min.ensures in let w = c.part_size-width.ensures.width in omega (arith, e, w)) in
-    let height : c.min-2.result ≡ min k.ycb (part_height k c.args.r) = (let e = c.min-2.ensures in let h = c.part_size-width.ensures.height in omega (arith, e, h)) in
+    let width : c.min.result ≡ min k.xcb (part_width k c.args.r) = (let e = c.min.ensures in let w = c.precinct_part_size-width.ensures.width in omega (arith, e, w)) in
+    let height : c.min-2.result ≡ min k.ycb (part_height k c.args.r) = (let e = c.min-2.ensures in let h = c.precinct_part_size-width.ensures.height in omega (arith, e, h)) in
     let is : c.grid.result ≡ block_grid c.args.rect.now k c.args.r c.args.k c.args.orientation =
     c.grid.ensures.value
     ∙ (ap (λ (a : Rect). grid_of a c.min.result c.min-2.result) c.precinct-area.ensures.value

@@ -1,7 +1,7 @@
 use Rattle.std.proofs.Common.{◌≡◌, ◌++◌, All, map, ap, sym, subst, ◌∙◌}
 use Rattle.std.specs.List.{AllZip}
 use Rattle.jk_math.specs.Memory.{IsMemory}
-use Rattle.jk_farm.proofs.Laws.{zipped}
+use Rattle.jk_jobs.proofs.Laws.{zipped}
 use Rattle.jk_store.specs.Checking.{IsFoundOf, IsJudged, given_file}
 use Rattle.jk_store.proofs.CheckLaws.{judged_each, judging_memory, zip_more}
 use Rattle.jk_store.proofs.OpenLaws.{fault_is}

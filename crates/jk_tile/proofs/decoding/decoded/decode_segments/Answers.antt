@@ -1,6 +1,6 @@
 use Rattle.std.proofs.Common.{All, subst, sym}
 use Rattle.jk_tile.specs.decoding.Decoded.{IsDecodedFrom, IsJobOf}
-use Rattle.jk_farm.proofs.Laws.{zipped}
+use Rattle.jk_jobs.proofs.Laws.{zipped}
 use Rattle.jk_tile.proofs.decoding.Decoding.{all_decoded, blocks_decoded}
 use Rattle.jk_tile.proofs.decoding.decoded.decode_segments.Goals as goal
 
@@ -11,4 +11,4 @@ returns g c =
     let items = c.in_ok-blocks.blocks.items in
     let all = subst (All (IsJobOf bytes)) (sym c.deref.ensures.value) c.in_ok-jobs.ensures.jobs in
     blocks_decoded bytes items c.by_start.result c.by_start.ensures.blocks
-    (all_decoded bytes jobs items all (zipped IsDecodedFrom jobs items (c.in_ok-blocks.ensures.given c.requires.some c.requires.most)))
+    (all_decoded bytes jobs items all (zipped IsDecodedFrom jobs items (c.in_ok-blocks.ensures.given c.args.workers.now.some c.args.workers.now.few)))

@@ -27,43 +27,43 @@ shape_from p q t rect planes n coding codings by tile er ek en ep ec =
 
 pub write_packets-requires-clause-shape : goal.write_packets-requires-clause-shape
 write_packets-requires-clause-shape c =
-    let p = c.args.image.now in
-    let q = c.args.parameters.now in
+    let p = c.args.source.now.image.now in
+    let q = c.args.source.now.parameters.now in
     let t = c.args.number in
-    let same = shape_from p q t c.args.rect.now c.planes.result.now c.len.result c.args.coding.now c.codings_alike.result c.requires.written c.requires.number c.requires.rect c.codings_alike.ensures c.len.ensures c.planes.ensures c.requires.coding in
-    subst IsTileShape (sym same) (shape_asked p q t c.requires.picture c.requires.written c.requires.number).shape
+    let same = shape_from p q t c.args.rect.now c.planes.result.now c.len.result c.args.coding.now c.codings_alike.result c.args.source.now.profile c.requires.number c.requires.rect c.codings_alike.ensures c.len.ensures c.planes.ensures c.requires.coding in
+    subst IsTileShape (sym same) (shape_asked p q t c.requires.picture c.args.source.now.profile c.requires.number).shape
 
 pub write_packets-requires-clause-coding : goal.write_packets-requires-clause-coding
-write_packets-requires-clause-coding c = subst IsCoding (sym c.requires.coding) (coding_is c.args.image.now c.args.parameters.now c.requires.written)
+write_packets-requires-clause-coding c = subst IsCoding (sym c.requires.coding) (coding_is c.args.source.now.image.now c.args.source.now.parameters.now c.args.source.now.profile)
 
 pub write_packets-requires-clause-planes : goal.write_packets-requires-clause-planes
-write_packets-requires-clause-planes c = subst HasPlanes (sym c.requires.coding) (planes_have c.args.image.now c.args.parameters.now c.requires.picture c.requires.written)
+write_packets-requires-clause-planes c = subst HasPlanes (sym c.requires.coding) (planes_have c.args.source.now.image.now c.args.source.now.parameters.now c.requires.picture c.args.source.now.profile)
 
 pub write_packets-requires-clause-few : goal.write_packets-requires-clause-few
 write_packets-requires-clause-few c =
-    let p = c.args.image.now in
-    let q = c.args.parameters.now in
+    let p = c.args.source.now.image.now in
+    let q = c.args.source.now.parameters.now in
     let t = c.args.number in
-    let same = shape_from p q t c.args.rect.now c.planes.result.now c.len.result c.args.coding.now c.codings_alike.result c.requires.written c.requires.number c.requires.rect c.codings_alike.ensures c.len.ensures c.planes.ensures c.requires.coding in
-    subst (λ (s : TileShape). packet_count s ≤ 2 ^ 24) (sym same) (written_few p q t c.requires.written c.requires.number)
+    let same = shape_from p q t c.args.rect.now c.planes.result.now c.len.result c.args.coding.now c.codings_alike.result c.args.source.now.profile c.requires.number c.requires.rect c.codings_alike.ensures c.len.ensures c.planes.ensures c.requires.coding in
+    subst (λ (s : TileShape). packet_count s ≤ 2 ^ 24) (sym same) (written_few p q t c.args.source.now.profile c.requires.number)
 
 pub returns-clause-exact : goal.returns-clause-exact
 returns-clause-exact c =
-    let p = c.args.image.now in
-    let q = c.args.parameters.now in
+    let p = c.args.source.now.image.now in
+    let q = c.args.source.now.parameters.now in
     let t = c.args.number in
-    let same = shape_from p q t c.args.rect.now c.planes.result.now c.len.result c.args.coding.now c.codings_alike.result c.requires.written c.requires.number c.requires.rect c.codings_alike.ensures c.len.ensures c.planes.ensures c.requires.coding in
+    let same = shape_from p q t c.args.rect.now c.planes.result.now c.len.result c.args.coding.now c.codings_alike.result c.args.source.now.profile c.requires.number c.requires.rect c.codings_alike.ensures c.len.ensures c.planes.ensures c.requires.coding in
     let are : AreTileLists p q t c.args.rect.now c.args.coding.now (lists_of c.args.tables.now) = record { are = c.requires.lists; tables = c.requires.tables } in
     if_ok c.write_packets.result
     (λ v e. text_made p q t c.args.rect.now c.args.coding.now _ c.args.tables.now c.args.tables.now v.items same refl are e) c.write_packets.ensures.text
 
 pub returns-clause-means : goal.returns-clause-means
 returns-clause-means c =
-    let p = c.args.image.now in
-    let q = c.args.parameters.now in
+    let p = c.args.source.now.image.now in
+    let q = c.args.source.now.parameters.now in
     let t = c.args.number in
-    let same = shape_from p q t c.args.rect.now c.planes.result.now c.len.result c.args.coding.now c.codings_alike.result c.requires.written c.requires.number c.requires.rect c.codings_alike.ensures c.len.ensures c.planes.ensures c.requires.coding in
+    let same = shape_from p q t c.args.rect.now c.planes.result.now c.len.result c.args.coding.now c.codings_alike.result c.args.source.now.profile c.requires.number c.requires.rect c.codings_alike.ensures c.len.ensures c.planes.ensures c.requires.coding in
     let are : AreTileLists p q t c.args.rect.now c.args.coding.now (lists_of c.args.tables.now) = record { are = c.requires.lists; tables = c.requires.tables } in
     if_ok c.write_packets.result
-    (λ v e codestream h places siz content. written_decodes p q t codestream h places c.requires.picture c.requires.written c.requires.number siz
+    (λ v e codestream h places siz content. written_decodes p q t codestream h places c.requires.picture c.args.source.now.profile c.requires.number siz
     (content ∙ ap (λ (xs : List ℕ). xs ∷ []) (text_made p q t c.args.rect.now c.args.coding.now _ c.args.tables.now c.args.tables.now v.items same refl are e))) c.write_packets.ensures.text

@@ -1,0 +1,4 @@
+pub mod Digits
+pub mod Others
+pub mod Items
+pub mod Named

@@ -1,0 +1,4 @@
+pub use Rattle.jk_math.specs.Answer
+pub mod Words
+pub mod Listing
+pub mod Taking

@@ -1,0 +1,16 @@
+//! How an archive is served.
+
+/// How an archive is served.
+#[derive(Clone, Copy, Debug, PartialEq, Eq)]
+pub struct Serving {
+    /// The port on 127.0.0.1, or 0 for one that is free.
+    pub port: u16,
+    /// How many connections are taken before the end; without a number there is none.
+    pub connections: Option<u32>,
+    /// How many connections are served at a time, 1 to 64.
+    pub workers: usize,
+    /// How long a read or a write on a connection may wait, in seconds, 1 to 3,600.
+    pub timeout: u32,
+    /// Whether each request is told on standard error.
+    pub log: bool,
+}

@@ -1,0 +1,164 @@
+"""What a JP2 file keeps beside the samples: profile, resolution, XMP, EXIF, XML and boxes under UUIDs, as the library has
+them: boxes of T.800 Annex I, one after another."""
+from __future__ import annotations
+
+import struct
+import uuid
+from dataclasses import dataclass
+from fractions import Fraction
+from typing import Any, Iterator, List, Optional, Sequence, Tuple, Union
+
+Number = Union[int, float, Fraction, str]
+#: Samples by the inch, of a row and of a column.
+Inches = Tuple[Fraction, Fraction]
+
+XMP = bytes.fromhex("be7acfcb97a942e89c71999491e3afac")
+EXIF = b"JpgTiffExif->JP2"
+IPTC = bytes.fromhex("33c7a4d2b81d4723a0baf1a3e097ad38")
+#: What enumerated colour spaces are called.
+SPACES = {16: "sRGB", 17: "grey", 18: "sYCC"}
+#: The greatest numerator and denominator of a resolution.
+MOST = 65535
+#: Samples by the metre of one by the inch.
+METRE = Fraction(5000, 127)
+
+
+@dataclass(frozen=True)
+class Extras:
+    """What a JP2 file keeps beside the samples, or is to keep."""
+
+    #: An ICC profile; a restricted one of grey or RGB, where it is given to a file.
+    profile: Optional[bytes] = None
+    #: Samples by the inch when the image was captured: a number, or a pair for a row and a column. `jk.extras` tells a
+    #: pair of `Fraction`.
+    resolution: Union[None, Number, Sequence[Number]] = None
+    xmp: Optional[bytes] = None
+    #: A TIFF stream, with or without `Exif\\0\\0` in front.
+    exif: Optional[bytes] = None
+    iptc: Optional[bytes] = None
+    #: The same as `resolution`, of what the image is to be displayed at.
+    display: Union[None, Number, Sequence[Number]] = None
+    xml: Tuple[bytes, ...] = ()
+    #: Other boxes under UUIDs: their 16 bytes, and what stands behind them.
+    uuids: Tuple[Tuple[Union[bytes, uuid.UUID], bytes], ...] = ()
+    #: The enumerated colour space that a file tells, as sRGB; not written.
+    space: Optional[str] = None
+
+
+def ratio(value: Fraction) -> Optional[Tuple[int, int, int]]:
+    """The numerator, denominator and exponent of ten that are exactly so many samples by the metre. Of all that there
+    are, those whose exponent is nearest to 2, and of these the greater one."""
+    for exponent in sorted(range(-128, 128), key=lambda it: (abs(it - 2), -it)):
+        part = value / Fraction(10) ** exponent
+        if 0 < part.numerator <= MOST and part.denominator <= MOST:
+            return part.numerator, part.denominator, exponent
+    return None
+
+
+def nearest(value: Fraction) -> Tuple[int, int, int]:
+    """Those that are nearest to so many samples by the metre."""
+    found: List[Tuple[Fraction, int, int, Fraction]] = []
+    for exponent in range(-128, 128):
+        part = value / Fraction(10) ** exponent
+        if Fraction(1, MOST) <= part <= MOST:
+            near = part.limit_denominator(MOST) if part < 1 else 1 / (1 / part).limit_denominator(MOST)
+            if near.numerator <= MOST and near.denominator <= MOST:
+                error = abs(near - part) * Fraction(10) ** exponent
+                found.append((error, abs(exponent - 2), -exponent, near))
+    if not found:
+        raise ValueError(f"{value} samples by the metre are beyond what JP2 holds")
+    _, _, minus, near = min(found)
+    return near.numerator, near.denominator, -minus
+
+
+def _grid(told: Union[Number, Sequence[Number]]) -> bytes:
+    """A resolution as its box holds it: the samples of a column come first."""
+    pair = (told, told) if isinstance(told, (int, float, Fraction, str)) else tuple(told)
+    if len(pair) != 2:
+        raise ValueError("a resolution is a number, or one of a row and one of a column")
+    ratios = []
+    for number in (pair[1], pair[0]):
+        inches = Fraction(number)
+        found = ratio(inches * METRE) if inches > 0 else None
+        if found is None:
+            raise ValueError(f"{number} samples by the inch: JP2 holds ratios above 0 of 16 bits and a power of ten, as of "
+                             "each whole number to 65535")
+        ratios.append(found)
+    (down, under, high), (across, below, wide) = ratios
+    return struct.pack(">HHHHbb", down, under, across, below, high, wide)
+
+
+def box(kind: bytes, contents: bytes) -> bytes:
+    """A box."""
+    return struct.pack(">L4s", 8 + len(contents), kind) + contents
+
+
+def grids(capture: Optional[bytes], display: Optional[bytes]) -> bytes:
+    """The box of resolutions, where there is one."""
+    inner = b"".join(box(kind, grid) for kind, grid in ((b"resc", capture), (b"resd", display)) if grid is not None)
+    return box(b"res ", inner) if inner else b""
+
+
+def boxes_of(extras: Extras) -> bytes:
+    """The boxes that say what a file is to keep."""
+    told = [None if it is None else _grid(it) for it in (extras.resolution, extras.display)]
+    exif = extras.exif
+    if exif is not None and exif.startswith(b"Exif\0\0"):
+        exif = exif[6:]
+    others = [(XMP, extras.xmp), (EXIF, exif), (IPTC, extras.iptc), *extras.uuids]
+    made = [box(b"colr", b"\2\0\0" + bytes(extras.profile))] if extras.profile is not None else []
+    made.append(grids(*told))
+    made += [box(b"xml ", bytes(text)) for text in extras.xml]
+    for name, contents in others:
+        if contents is not None:
+            name = name.bytes if isinstance(name, uuid.UUID) else bytes(name)
+            if len(name) != 16:
+                raise ValueError(f"a UUID has 16 bytes, and not {len(name)}")
+            made.append(box(b"uuid", name + bytes(contents)))
+    return b"".join(made)
+
+
+def boxes_in(text: Any) -> Iterator[Tuple[bytes, Any]]:
+    """Boxes one after another, which the library has judged: their kinds and contents."""
+    at = 0
+    while at < len(text):
+        size, kind = struct.unpack(">L4s", text[at : at + 8])
+        head = 8
+        if size == 1:
+            size, head = int.from_bytes(text[at + 8 : at + 16], "big"), 16
+        size = size or len(text) - at
+        yield kind, text[at + head : at + size]
+        at += size
+
+
+def _inches(grid: bytes) -> Inches:
+    """Samples by the inch that the contents of a box tell."""
+    down, under, across, below, high, wide = struct.unpack(">HHHHbb", grid)
+    return (Fraction(across, below) * Fraction(10) ** wide / METRE, Fraction(down, under) * Fraction(10) ** high / METRE)
+
+
+def extras_of(text: bytes) -> Extras:
+    """What boxes tell. Of XMP, EXIF and IPTC the first has a name of its own, and others stand among the UUIDs."""
+    profile = space = None
+    told = {}
+    xml: List[bytes] = []
+    uuids: List[Tuple[bytes, bytes]] = []
+    named = {XMP: None, EXIF: None, IPTC: None}
+    for kind, contents in boxes_in(text):
+        if kind == b"colr" and contents[0] == 2:
+            profile = contents[3:]
+        elif kind == b"colr":
+            number = int.from_bytes(contents[3:7], "big")
+            space = SPACES.get(number, f"enumerated={number}")
+        elif kind == b"res ":
+            told = {inner: _inches(grid) for inner, grid in reversed(list(boxes_in(contents)))}
+        elif kind == b"xml ":
+            xml.append(contents)
+        elif named.get(contents[:16], b"") is None:
+            named[contents[:16]] = contents[16:]
+        else:
+            uuids.append((contents[:16], contents[16:]))
+    return Extras(
+        profile=profile, resolution=told.get(b"resc"), display=told.get(b"resd"), xmp=named[XMP], exif=named[EXIF],
+        iptc=named[IPTC], xml=tuple(xml), uuids=tuple(uuids), space=space,
+    )
