@@ -558,6 +558,53 @@ def test_all_goes_to_a_jp2_and_comes_back(tmp_path, ratio, unit, inches):
     assert one_way.kept == other.kept and np.array_equal(one_way.samples, other.samples)
 
 
+#: A map in UTM zone 32 with pixels of half a metre: GeoTIFF 1.0's fields, with a key of numbers and one of text.
+MAP = {33550: (12, [0.5, 0.5, 0.0]), 33922: (12, [0.0, 0.0, 0.0, 500000.25, 5400000.75, 0.0]),
+       34735: (3, [1, 1, 0, 4, 1024, 0, 1, 1, 1025, 0, 1, 1, 2057, 34736, 1, 0, 3072, 0, 1, 32632]),
+       34736: (12, [6378137.0]), 34737: (2, b"UTM 32N|\0")}
+
+
+@pytest.mark.parametrize("order, big", [("<", False), (">", False), ("<", True), (">", True)])
+def test_where_a_map_stands_goes_along_where_it_is_asked(tmp_path, order, big):
+    """As GeoJP2 has it, in a GeoTIFF file of one pixel in a box; EXIF keeps its own byte order."""
+    samples = noise((9, 11, 3))
+    source = tiffs.tiff(tmp_path / "a.tif", samples, order=order, big=big, fields={**MAP, **FIELDS, 34675: (7, icc())})
+    row, = converted(source, tmp_path / "a.jp2", geo=True, strict=True)
+    assert row.carried == "profile, resolution, XMP, orientation, GeoTIFF"
+    (name, text), = jk.extras(tmp_path / "a.jp2").uuids
+    assert name.hex() == "b14bf8bd083d4b43a5ae8cd7d5a6ce03"
+    (tmp_path / "one.tif").write_bytes(text)
+    row, = converted(tmp_path / "a.jp2", tmp_path / "b.tif", geo=True, strict=True)
+    assert row.carried == "profile, resolution, XMP, orientation, GeoTIFF"
+    for path, pixels in (("one.tif", np.zeros((1, 1), U8)), ("b.tif", samples)):
+        with tifffile.TiffFile(tmp_path / path) as file:
+            assert np.array_equal(file.pages[0].asarray(), pixels)
+            tags = file.pages[0].tags
+            found = {tag: tags[tag].value for tag in MAP}
+        assert found == {tag: tuple(it) if kind != 2 else it[:-1].decode() for tag, (kind, it) in MAP.items()
+                         } | {34736: 6378137.0}
+    assert next(tiff.pictures(str(tmp_path / "b.tif"))).kept.geo == next(tiff.pictures(str(source))).kept.geo
+
+
+def test_where_a_map_stands_is_told_where_it_does_not_go_along(tmp_path):
+    source = tiffs.tiff(tmp_path / "a.tif", noise((9, 11)), fields=MAP)
+    refused(source, tmp_path / "a.jp2", "not carried: GeoTIFF (--geo carries it)", strict=True)
+    row, = converted(source, tmp_path / "a.jp2")
+    assert (row.carried, row.notes) == ("", "read again by Pillow; not carried: GeoTIFF (--geo carries it)")
+    assert jk.extras(tmp_path / "a.jp2").uuids == ()
+    assert run("--geo", source, tmp_path / "b.jp2").returncode == 0
+    for out, notes in (("b.tif", "not carried: GeoTIFF (--geo carries it)"), ("c.tif", None), ("b.png", "not carried: GeoTIFF")):
+        row, = converted(tmp_path / "b.jp2", tmp_path / out, geo=out != "b.tif")
+        assert row.notes == "; ".join(["read by one reader alone", *[notes] * bool(notes)])
+    refused(tmp_path / "b.jp2", tmp_path / "c.png", "not carried: GeoTIFF", geo=True, strict=True)
+
+
+def test_a_box_of_geojp2_that_can_not_be_read_is_told(tmp_path):
+    (tmp_path / "a.jp2").write_bytes(boxed((b"uuid", jp2.GEO + b"II*\0\xff\0\0\0", False)))
+    row, = converted(tmp_path / "a.jp2", tmp_path / "a.tif", geo=True)
+    assert row.notes == "read by one reader alone; not carried: GeoJP2 that can't be read"
+
+
 def test_a_jp2_that_loses_what_stands_beside_is_found(tmp_path, monkeypatch):
     source = tiffs.tiff(tmp_path / "a.tif", noise((9, 11)), fields=FIELDS)
     monkeypatch.setattr(jp2, "with_extras", lambda file, extras: file)

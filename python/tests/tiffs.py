@@ -4,8 +4,8 @@ import zlib
 
 import numpy as np
 
-SIZES = {1: 1, 2: 1, 3: 2, 4: 4, 5: 8, 7: 1, 16: 8, 18: 8}
-LETTERS = {1: "B", 2: "B", 3: "H", 4: "L", 7: "B", 16: "Q", 18: "Q"}
+SIZES = {1: 1, 2: 1, 3: 2, 4: 4, 5: 8, 7: 1, 12: 8, 16: 8, 18: 8}
+LETTERS = {1: "B", 2: "B", 3: "H", 4: "L", 7: "B", 12: "d", 16: "Q", 18: "Q"}
 
 
 def value(order, kind, values):

@@ -2,7 +2,7 @@
 #![tactic(auto)]
 
 #[cfg(test)]
-mod asserts;
+mod calls;
 #[cfg(test)]
 mod disk;
 #[cfg(test)]

@@ -1,100 +1,126 @@
 //! What is listed of a folder.
 
-use crate::asserts::{equal, equal_at, holds_at};
+use crate::calls::put;
 use crate::disk::{Desk, Disk, Kind};
-use crate::scratch::{folder, remove, within};
+use crate::scratch::{folder, link, remove, within, write};
 use jk_files::{Listing, list};
 use std::alloc::Global;
 use std::fs;
+use std::process::{self, Abort};
 use std::rt::Files;
-use std::test::Fail;
+use vectors::{Told, equal, equal_at};
 
 /// The names of files, and of others with what was said, in one text.
-fn told(alloc: Global, listing: &Listing) -> Result<String, Fail> {
-    let mut text = String::new(alloc);
+fn told(rt: &impl Abort, alloc: Global, listing: &Listing) -> String {
+    let mut told = Told::new(alloc);
     for name in listing.files.iter() {
-        text.push_str(name.as_str())?;
-        text.push(' ')?;
+        told.word(name.as_str());
+        told.word(" ");
     }
     for other in listing.others.iter() {
-        let said = other.said.kind();
-        text.push_str(format!(in alloc; "|{} {said:?}", other.name)?.as_str())?;
+        told.word("|");
+        told.word(other.name.as_str());
+        told.word(" ");
+        told.shown(&other.said.kind());
     }
-    Ok(text)
+    told.end().expect(rt, "a text")
 }
 
+/// One thing of each kind.
+static ALL: [(&str, Kind); 9] = [
+    ("d/file.jp2", Kind::File),
+    ("d/folder.jp2", Kind::Folder),
+    ("d/pipe.jp2", Kind::Pipe),
+    ("d/refused.jp2", Kind::Refused),
+    ("d/gone.jp2", Kind::Gone),
+    ("d/adrift.jp2", Kind::Adrift),
+    ("d/loop.jp2", Kind::Loop),
+    ("d/pipe.txt", Kind::Pipe),
+    ("d/last.jp2", Kind::File),
+];
+
 /// A folder with one thing of each kind.
-fn folder_of_all(alloc: Global) -> Result<Disk, Fail> {
+fn folder_of_all(rt: &impl Abort, alloc: Global) -> Disk {
     let disk = Disk::new(alloc);
-    for (path, kind) in [
-        ("d/file.jp2", Kind::File),
-        ("d/folder.jp2", Kind::Folder),
-        ("d/pipe.jp2", Kind::Pipe),
-        ("d/refused.jp2", Kind::Refused),
-        ("d/gone.jp2", Kind::Gone),
-        ("d/adrift.jp2", Kind::Adrift),
-        ("d/loop.jp2", Kind::Loop),
-        ("d/pipe.txt", Kind::Pipe),
-        ("d/last.jp2", Kind::File),
-    ] {
-        disk.put(path, kind, b"")?;
+    for (path, kind) in &ALL {
+        put(rt, &disk, *path, *kind, b"");
     }
-    Ok(disk)
+    disk
 }
 
 /// What is told of it.
 const ONE_OF_EACH: &str = "file.jp2 last.jp2 |folder.jp2 IsADirectory|pipe.jp2 InvalidInput\
     |refused.jp2 PermissionDenied|adrift.jp2 NotFound|loop.jp2 FilesystemLoop";
 
-#[test]
-fn one_of_each(rt: HostRuntime) -> Result<(), Fail> {
-    let disk = folder_of_all(rt.alloc())?;
-    let listing = list(&Desk(&disk), rt.alloc(), "d", |name| name.ends_with(".jp2"))?;
-    let text = told(rt.alloc(), &listing)?;
-    let calls = disk.calls()?;
-    equal(&rt, text.as_str(), ONE_OF_EACH);
-    holds_at(&rt, calls.as_str(), !calls.as_str().contains("open d/pipe"));
-    holds_at(&rt, calls.as_str(), !calls.as_str().contains(".txt"));
-    Ok(())
+/// What is told of the files of a disk's folder whose names end so.
+fn told_of(rt: &impl Abort, alloc: Global, disk: &Disk) -> String {
+    let listing = list(&Desk(disk), alloc, "d", |name| name.ends_with(".jp2"));
+    told(rt, alloc, &listing.expect(rt, "a folder"))
+}
+
+/// No call of a disk has a word.
+fn lacks(rt: &impl Abort, calls: &str, word: &str) {
+    equal_at((calls, word), calls.contains(word), false).expect(rt, "calls");
 }
 
 #[test]
-fn unreadable(rt: HostRuntime) -> Result<(), Fail> {
-    let disk = folder_of_all(rt.alloc())?;
+fn one_of_each(rt: HostRuntime) {
+    let disk = folder_of_all(&rt, rt.alloc());
+    let text = told_of(&rt, rt.alloc(), &disk);
+    equal(text.as_str(), ONE_OF_EACH).expect(&rt, "a folder");
+    let calls = disk.calls().expect(&rt, "calls");
+    lacks(&rt, calls.as_str(), "open d/pipe");
+    lacks(&rt, calls.as_str(), ".txt");
+}
+
+/// Whether a folder of the system can't be listed.
+fn is_unreadable<R: Files>(rt: &R, alloc: Global, path: &str) -> bool {
+    list(rt, alloc, path, |_| true).is_err()
+}
+
+#[test]
+fn unreadable(rt: HostRuntime) {
+    let alloc = rt.alloc();
+    let disk = folder_of_all(&rt, alloc);
     disk.fails_at.set(1);
-    assert!(rt; list(&Desk(&disk), rt.alloc(), "d", |_| true).is_err());
-    assert!(rt; list(&rt, rt.alloc(), "/nowhere/at/all", |_| true).is_err());
-    assert!(rt; list(&rt, rt.alloc(), "/etc/hostname", |_| true).is_err());
-    Ok(())
+    let answer = is_unreadable(&Desk(&disk), alloc, "d");
+    equal(answer, true).expect(&rt, "a folder of the disk");
+    equal(is_unreadable(&rt, alloc, "/nowhere/at/all"), true).expect(&rt, "no folder");
+    equal(is_unreadable(&rt, alloc, "/etc/hostname"), true).expect(&rt, "a file");
 }
 
 /// Makes a folder, a link to it, and in it a file, a link to that and a link to itself.
-fn make_inner(rt: &HostRuntime, inner: &str, link: &str) -> Result<(), Fail> {
-    fs::create_dir(rt, inner)?;
-    rt.symlink("inner", link)?;
-    fs::write(rt, within(rt, inner, "a")?.as_str(), b"")?;
-    rt.symlink("a", within(rt, inner, "b")?.as_str())?;
-    rt.symlink("c", within(rt, inner, "c")?.as_str())?;
-    Ok(())
+fn make_inner<R: Files + Abort>(rt: &R, alloc: Global, inner: &str, linked: &str) {
+    fs::create_dir(rt, inner).expect(rt, inner);
+    link(rt, "inner", linked);
+    write(rt, within(rt, alloc, inner, "a").as_str(), b"");
+    link(rt, "a", within(rt, alloc, inner, "b").as_str());
+    link(rt, "c", within(rt, alloc, inner, "c").as_str());
 }
 
 /// What is told of a folder, with the files sorted.
-fn sorted(rt: &HostRuntime, path: &str) -> Result<String, Fail> {
-    let mut listing = list(rt, rt.alloc(), path, |_| true)?;
-    listing.files.sort()?;
-    told(rt.alloc(), &listing)
+fn sorted<R: Files + Abort>(rt: &R, alloc: Global, path: &str) -> String {
+    let mut listing = list(rt, alloc, path, |_| true).expect(rt, path);
+    listing.files.sort().expect(rt, "a list");
+    told(rt, alloc, &listing)
+}
+
+/// What is told of the inner folder by a path.
+fn is_inner<R: Files + Abort>(rt: &R, alloc: Global, path: &str) {
+    let text = sorted(rt, alloc, path);
+    equal_at(path, text.as_str(), "a b |c FilesystemLoop").expect(rt, "a folder");
 }
 
 #[test]
-fn of_the_system(rt: HostRuntime) -> Result<(), Fail> {
-    let path = folder(&rt, "listing")?;
-    let inner = within(&rt, path.as_str(), "inner")?;
-    let link = within(&rt, path.as_str(), "link")?;
-    let behind = within(&rt, link.as_str(), "")?;
-    make_inner(&rt, inner.as_str(), link.as_str())?;
-    for name in [inner.as_str(), link.as_str(), behind.as_str()] {
-        let text = sorted(&rt, name)?;
-        equal_at(&rt, name, text.as_str(), "a b |c FilesystemLoop");
-    }
-    remove(&rt, path.as_str())
+fn of_the_system(rt: HostRuntime) {
+    let alloc = rt.alloc();
+    let path = folder(&rt, alloc, process::id(rt.process()), "listing");
+    let inner = within(&rt, alloc, path.as_str(), "inner");
+    let linked = within(&rt, alloc, path.as_str(), "link");
+    let behind = within(&rt, alloc, linked.as_str(), "");
+    make_inner(&rt, alloc, inner.as_str(), linked.as_str());
+    is_inner(&rt, alloc, inner.as_str());
+    is_inner(&rt, alloc, linked.as_str());
+    is_inner(&rt, alloc, behind.as_str());
+    remove(&rt, alloc, path.as_str());
 }

@@ -1,158 +1,197 @@
 //! What is read of a file, and when a read fails.
 
-use crate::asserts::{equal, equal_at};
+use crate::calls::{called, disk_with, read_file, read_inside_at};
 use crate::disk::{Desk, Disk, Kind};
-use crate::scratch::{folder, remove, within};
-use jk_files::{Refusal, read_all, read_file, read_inside_at};
+use crate::scratch::{folder, link, remove, within, write};
+use jk_files::{Refusal, read_all};
 use jk_math::Fault;
 use std::alloc::Global;
-use std::fs::{self, File};
+use std::fs::File;
 use std::io::ErrorKind;
+use std::process::{self, Abort};
 use std::rt::Files;
-use std::test::Fail;
+use vectors::{equal, equal_at};
 
-/// A megabyte and one byte, of which none is like its neighbours.
-fn megabyte(alloc: Global) -> Result<Vec<u8>, Fail> {
+/// All bytes, one after another.
+fn row(rt: &impl Abort, alloc: Global) -> Vec<u8> {
     let mut row = Vec::new(alloc);
     for byte in 0..=255u8 {
-        row.push(byte)?;
+        row.push(byte).expect(rt, "a byte");
     }
+    row
+}
+
+/// A megabyte and one byte, of which none is like its neighbours.
+fn megabyte(rt: &impl Abort, alloc: Global) -> Vec<u8> {
+    let row = row(rt, alloc);
     let mut bytes = Vec::new(alloc);
     for _row in 0..1u64 << 12 {
-        bytes.extend_from_slice(&row)?;
+        bytes.extend_from_slice(&row).expect(rt, "bytes");
     }
-    bytes.push(7)?;
-    Ok(bytes)
+    bytes.push(7).expect(rt, "a byte");
+    bytes
 }
 
 /// A disk with a megabyte in one file, that gives at most so many bytes at once.
-fn disk_of(alloc: Global, piece: usize) -> Result<Disk, Fail> {
-    let disk = Disk::new(alloc);
-    disk.put("d/a", Kind::File, megabyte(alloc)?.as_slice())?;
+fn disk_of(rt: &impl Abort, alloc: Global, piece: usize) -> Disk {
+    let disk = disk_with(rt, alloc, "d/a", Kind::File, &megabyte(rt, alloc));
     disk.piece.set(piece);
-    Ok(disk)
+    disk
 }
 
 /// Whether all of the megabyte was read, or what the fault was.
-fn is_whole(alloc: Global, answer: Result<Vec<u8>, Refusal>) -> Result<Result<bool, Fault>, Fail> {
-    Ok(match answer {
-        Ok(bytes) => Ok(bytes.as_slice() == megabyte(alloc)?.as_slice()),
+type Whole = Result<bool, Fault>;
+
+fn is_whole(rt: &impl Abort, alloc: Global, answer: Result<Vec<u8>, Refusal>) -> Whole {
+    match answer {
+        Ok(bytes) => Ok(bytes.as_slice() == megabyte(rt, alloc).as_slice()),
         Err(refusal) => Err(refusal.fault()),
-    })
+    }
 }
 
 /// What a source of a disk gives.
-fn source(alloc: Global, disk: &Disk) -> Result<Result<bool, Fault>, Fail> {
-    let file = File::open(&Desk(disk), "d/a")?;
-    is_whole(alloc, read_all(alloc, file))
+fn source(rt: &impl Abort, alloc: Global, disk: &Disk) -> Whole {
+    let file = File::open(&Desk(disk), "d/a").expect(rt, "a file");
+    is_whole(rt, alloc, read_all(alloc, file))
 }
 
 /// What a file of a disk gives.
-fn file(alloc: Global, disk: &Disk) -> Result<Result<bool, Fault>, Fail> {
-    is_whole(alloc, read_file(&Desk(disk), alloc, "d/a"))
+fn file(rt: &impl Abort, alloc: Global, disk: &Disk) -> Whole {
+    is_whole(rt, alloc, read_file(disk, alloc, "d/a"))
+}
+
+/// How many bytes a disk gives at once: any, and few of many.
+static PIECES: [usize; 3] = [usize::MAX, 100_000, 4096];
+
+/// A source and a file are read whole in pieces of so many bytes at most.
+fn is_read_in(rt: &impl Abort, alloc: Global, piece: usize) {
+    let disk = disk_of(rt, alloc, piece);
+    equal_at(piece, source(rt, alloc, &disk), Ok(true)).expect(rt, "a source");
+    equal_at(piece, file(rt, alloc, &disk), Ok(true)).expect(rt, "a file");
 }
 
 #[test]
-fn in_pieces(rt: HostRuntime) -> Result<(), Fail> {
-    for piece in [usize::MAX, 100_000, 4096] {
-        let disk = disk_of(rt.alloc(), piece)?;
-        equal_at(&rt, piece, source(rt.alloc(), &disk)?, Ok(true));
-        equal_at(&rt, piece, file(rt.alloc(), &disk)?, Ok(true));
+fn in_pieces(rt: HostRuntime) {
+    for piece in &PIECES {
+        is_read_in(&rt, rt.alloc(), *piece);
     }
-    Ok(())
 }
 
-#[test]
-fn failing_at_each_read(rt: HostRuntime) -> Result<(), Fail> {
-    // The first call opens; eleven reads give bytes, and the last sees the end.
+/// A disk of which a call fails.
+fn failing(rt: &impl Abort, alloc: Global, call: u64) -> Disk {
+    let disk = disk_of(rt, alloc, 100_000);
+    disk.fails_at.set(call);
+    disk
+}
+
+/// A source is refused where a call fails.
+fn source_fails_at(rt: &impl Abort, alloc: Global, call: u64) {
+    let answer = source(rt, alloc, &failing(rt, alloc, call));
+    equal_at(call, answer, Err(Fault::Shelf)).expect(rt, "a source");
+}
+
+/// The first call opens; eleven reads give bytes, and the last sees the end.
+fn source_fails(rt: &impl Abort, alloc: Global) {
     for call in 2..14 {
-        let disk = disk_of(rt.alloc(), 100_000)?;
-        disk.fails_at.set(call);
-        equal_at(&rt, call, source(rt.alloc(), &disk)?, Err(Fault::Shelf));
+        source_fails_at(rt, alloc, call);
     }
-    // A question and an opening, and eleven reads, of which the last gives the last byte that the
-    // file had.
+}
+
+/// A file is refused where a call fails, if there is such a call.
+fn file_fails_at(rt: &impl Abort, alloc: Global, call: u64, due: Whole) {
+    let answer = file(rt, alloc, &failing(rt, alloc, call));
+    equal_at(call, answer, due).expect(rt, "a file");
+}
+
+/// A question and an opening, and eleven reads, of which the last gives the last byte that the file
+/// had.
+fn file_fails(rt: &impl Abort, alloc: Global) {
     for call in 1..14 {
-        let disk = disk_of(rt.alloc(), 100_000)?;
-        disk.fails_at.set(call);
-        equal_at(&rt, call, file(rt.alloc(), &disk)?, Err(Fault::Shelf));
+        file_fails_at(rt, alloc, call, Err(Fault::Shelf));
     }
-    let disk = disk_of(rt.alloc(), 100_000)?;
-    disk.fails_at.set(14);
-    equal(&rt, file(rt.alloc(), &disk)?, Ok(true));
-    Ok(())
+    file_fails_at(rt, alloc, 14, Ok(true));
 }
 
 #[test]
-fn interrupted(rt: HostRuntime) -> Result<(), Fail> {
-    let disk = disk_of(rt.alloc(), 100_000)?;
+fn failing_at_each_read(rt: HostRuntime) {
+    source_fails(&rt, rt.alloc());
+    file_fails(&rt, rt.alloc());
+}
+
+#[test]
+fn interrupted(rt: HostRuntime) {
+    let disk = disk_of(&rt, rt.alloc(), 100_000);
     disk.interrupts.set(5);
-    equal(&rt, source(rt.alloc(), &disk)?, Ok(true));
+    equal(source(&rt, rt.alloc(), &disk), Ok(true)).expect(&rt, "a source");
     disk.interrupts.set(5);
-    equal(&rt, file(rt.alloc(), &disk)?, Ok(true));
-    Ok(())
+    equal(file(&rt, rt.alloc(), &disk), Ok(true)).expect(&rt, "a file");
 }
 
-/// What is read of a file that has so many bytes and said it has ten.
-fn of_ten(alloc: Global, bytes: &[u8]) -> Result<Vec<u8>, Fail> {
-    let disk = Disk::new(alloc);
-    disk.put("a", Kind::Ten, bytes)?;
-    Ok(read_file(&Desk(&disk), alloc, "a")?)
-}
-
-#[test]
-fn changed_meanwhile(rt: HostRuntime) -> Result<(), Fail> {
-    let grown = of_ten(rt.alloc(), b"0123456789abc")?;
-    let shrunk = of_ten(rt.alloc(), b"0123456")?;
-    equal(&rt, grown.as_slice(), b"0123456789".as_slice());
-    equal(&rt, shrunk.as_slice(), b"0123456".as_slice());
-    Ok(())
-}
-
-/// What the system says of something that isn't read, and the calls that were made.
-fn refused(alloc: Global, kind: Kind) -> Result<(Option<ErrorKind>, String), Fail> {
-    let disk = Disk::new(alloc);
-    disk.put("a", kind, b"")?;
-    let answer = read_file(&Desk(&disk), alloc, "a").err();
-    let said = answer
-        .and_then(|refusal| refusal.said())
-        .map(|said| said.kind());
-    Ok((said, disk.calls()?))
+/// A file that has these bytes and said it has ten gives those.
+fn of_ten(rt: &impl Abort, alloc: Global, bytes: &[u8], due: &[u8]) {
+    let disk = disk_with(rt, alloc, "a", Kind::Ten, bytes);
+    let read = read_file(&disk, alloc, "a").expect(rt, "a file");
+    equal_at(bytes, read.as_slice(), due).expect(rt, "a file");
 }
 
 #[test]
-fn no_regular_file(rt: HostRuntime) -> Result<(), Fail> {
-    for (kind, said, calls) in [
-        (Kind::Pipe, ErrorKind::InvalidInput, "ask a;"),
-        (Kind::Folder, ErrorKind::IsADirectory, "ask a;"),
-        (Kind::Gone, ErrorKind::NotFound, "ask a;"),
-        (Kind::Turned, ErrorKind::IsADirectory, "ask a;open a;"),
-        (Kind::Refused, ErrorKind::PermissionDenied, "ask a;open a;"),
-    ] {
-        let (answer, made) = refused(rt.alloc(), kind)?;
-        equal_at(&rt, kind, answer, Some(said));
-        equal_at(&rt, kind, made.as_str(), calls);
+fn changed_meanwhile(rt: HostRuntime) {
+    of_ten(&rt, rt.alloc(), b"0123456789abc", b"0123456789");
+    of_ten(&rt, rt.alloc(), b"0123456", b"0123456");
+}
+
+/// What the system says where a file isn't read.
+fn said_of(answer: Result<Vec<u8>, Refusal>) -> Option<ErrorKind> {
+    match answer {
+        Ok(_) => None,
+        Err(refusal) => refusal.said().map(|said| said.kind()),
     }
-    Ok(())
+}
+
+/// What the system says of something that isn't read, and the calls that are made.
+fn refused(rt: &impl Abort, alloc: Global, kind: Kind, due: ErrorKind, calls: &str) {
+    let disk = disk_with(rt, alloc, "a", kind, b"");
+    let said = said_of(read_file(&disk, alloc, "a"));
+    equal_at(kind, said, Some(due)).expect(rt, "what is said");
+    called(rt, &disk, calls);
+}
+
+#[test]
+fn no_regular_file(rt: HostRuntime) {
+    let (twice, once) = ("ask a;open a;", "ask a;");
+    refused(&rt, rt.alloc(), Kind::Pipe, ErrorKind::InvalidInput, once);
+    refused(&rt, rt.alloc(), Kind::Folder, ErrorKind::IsADirectory, once);
+    refused(&rt, rt.alloc(), Kind::Gone, ErrorKind::NotFound, once);
+    refused(
+        &rt,
+        rt.alloc(),
+        Kind::Turned,
+        ErrorKind::IsADirectory,
+        twice,
+    );
+    refused(
+        &rt,
+        rt.alloc(),
+        Kind::Refused,
+        ErrorKind::PermissionDenied,
+        twice,
+    );
+}
+
+/// What the megabyte has from a place on, at most so much of it.
+fn stretch(all: &[u8], start: usize, most: usize) -> &[u8] {
+    let rest = all.get(start..).unwrap_or(b"");
+    rest.get(..most).unwrap_or(rest)
 }
 
 /// Whether a file of a disk gives from a place on what the megabyte has there, at most so much of
 /// it, or what the fault was.
-fn from(
-    alloc: Global,
-    disk: &Disk,
-    start: usize,
-    most: usize,
-) -> Result<Result<bool, Fault>, Fail> {
-    let all = megabyte(alloc)?;
-    let rest = all.get(start..).unwrap_or(b"");
-    let due = rest.get(..most).unwrap_or(rest);
-    Ok(
-        match read_inside_at(&Desk(disk), alloc, "d", "a", start as u64, most) {
-            Ok(bytes) => Ok(bytes.as_slice() == due),
-            Err(refusal) => Err(refusal.fault()),
-        },
-    )
+fn from(rt: &impl Abort, alloc: Global, disk: &Disk, start: usize, most: usize) -> Whole {
+    let all = megabyte(rt, alloc);
+    match read_inside_at(disk, alloc, "a", start as u64, most) {
+        Ok(bytes) => Ok(bytes.as_slice() == stretch(&all, start, most)),
+        Err(refusal) => Err(refusal.fault()),
+    }
 }
 
 /// Places, and how much is asked for: in front, in the middle, at the end, past it and nothing.
@@ -167,90 +206,104 @@ static STRETCHES: [(usize, usize); 8] = [
     (5, 0),
 ];
 
-#[test]
-fn from_a_place(rt: HostRuntime) -> Result<(), Fail> {
-    for (start, most) in &STRETCHES {
-        for piece in [usize::MAX, 100_000, 4096] {
-            let disk = disk_of(rt.alloc(), piece)?;
-            disk.interrupts.set(1);
-            equal_at(
-                &rt,
-                (*start, *most, piece),
-                from(rt.alloc(), &disk, *start, *most)?,
-                Ok(true),
-            );
-        }
+/// A stretch is given in pieces of so many bytes at most.
+fn gives(rt: &impl Abort, alloc: Global, start: usize, most: usize, piece: usize) {
+    let disk = disk_of(rt, alloc, piece);
+    disk.interrupts.set(1);
+    let answer = from(rt, alloc, &disk, start, most);
+    equal_at((start, most, piece), answer, Ok(true)).expect(rt, "a stretch");
+}
+
+/// A stretch is given in pieces of any size.
+fn gives_in_pieces(rt: &impl Abort, alloc: Global, start: usize, most: usize) {
+    for piece in &PIECES {
+        gives(rt, alloc, start, most, *piece);
     }
-    Ok(())
 }
 
 #[test]
-fn from_a_place_failing_at_each_call(rt: HostRuntime) -> Result<(), Fail> {
+fn from_a_place(rt: HostRuntime) {
+    for (start, most) in &STRETCHES {
+        gives_in_pieces(&rt, rt.alloc(), *start, *most);
+    }
+}
+
+/// What a stretch gives where a call fails.
+fn failing_from(rt: &impl Abort, alloc: Global, call: u64, due: Whole) {
+    let disk = failing(rt, alloc, call);
+    let answer = from(rt, alloc, &disk, 70_000, 250_000);
+    equal_at(call, answer, due).expect(rt, "a stretch");
+}
+
+#[test]
+fn from_a_place_failing_at_each_call(rt: HostRuntime) {
     // A question, an opening, a step to the place, and three reads.
     for call in 1..7 {
-        let disk = disk_of(rt.alloc(), 100_000)?;
-        disk.fails_at.set(call);
-        equal_at(
-            &rt,
-            call,
-            from(rt.alloc(), &disk, 70_000, 250_000)?,
-            Err(Fault::Shelf),
-        );
+        failing_from(&rt, rt.alloc(), call, Err(Fault::Shelf));
     }
-    let disk = disk_of(rt.alloc(), 100_000)?;
-    disk.fails_at.set(7);
-    equal(&rt, from(rt.alloc(), &disk, 70_000, 250_000)?, Ok(true));
-    Ok(())
+    failing_from(&rt, rt.alloc(), 7, Ok(true));
 }
 
 /// What a file of a folder gives whose name or kind isn't that of a regular file inside it.
-fn from_no_file(alloc: Global, name: &str, kind: Kind) -> Result<Option<Fault>, Fail> {
-    let disk = Disk::new(alloc);
-    disk.put("d/a", kind, b"0123")?;
-    let answer = read_inside_at(&Desk(&disk), alloc, "d", name, 1, 2);
-    Ok(answer.err().map(|refusal| refusal.fault()))
+fn from_no_file(rt: &impl Abort, alloc: Global, name: &str, kind: Kind, due: Option<Fault>) {
+    let disk = disk_with(rt, alloc, "d/a", kind, b"0123");
+    let answer = read_inside_at(&disk, alloc, name, 1, 2).err();
+    let fault = answer.map(|refusal| refusal.fault());
+    equal_at((name, kind), fault, due).expect(rt, "a file");
 }
 
 #[test]
-fn from_no_regular_file(rt: HostRuntime) -> Result<(), Fail> {
-    for (name, kind, due) in [
-        ("a", Kind::File, None),
-        ("b", Kind::File, Some(Fault::Shelf)),
-        ("../a", Kind::File, Some(Fault::Shelf)),
-        ("a", Kind::Pipe, Some(Fault::Shelf)),
-        ("a", Kind::Folder, Some(Fault::Shelf)),
-        ("a", Kind::Turned, Some(Fault::Shelf)),
-    ] {
-        equal_at(&rt, name, from_no_file(rt.alloc(), name, kind)?, due);
-    }
-    Ok(())
+fn from_no_regular_file(rt: HostRuntime) {
+    let refused = Some(Fault::Shelf);
+    from_no_file(&rt, rt.alloc(), "a", Kind::File, None);
+    from_no_file(&rt, rt.alloc(), "b", Kind::File, refused);
+    from_no_file(&rt, rt.alloc(), "../a", Kind::File, refused);
+    from_no_file(&rt, rt.alloc(), "a", Kind::Pipe, refused);
+    from_no_file(&rt, rt.alloc(), "a", Kind::Folder, refused);
+    from_no_file(&rt, rt.alloc(), "a", Kind::Turned, refused);
 }
 
 /// What a file of the system gives.
-fn of_system(rt: &HostRuntime, path: &str) -> Result<Result<bool, Fault>, Fail> {
-    is_whole(rt.alloc(), read_file(rt, rt.alloc(), path))
+fn of_system<R: Files + Abort>(rt: &R, alloc: Global, path: &str) -> Whole {
+    is_whole(rt, alloc, jk_files::read_file(rt, alloc, path))
 }
 
 #[test]
-fn a_device(rt: HostRuntime) -> Result<(), Fail> {
-    equal(&rt, of_system(&rt, "/dev/zero")?, Err(Fault::Shelf));
-    Ok(())
+fn a_device(rt: HostRuntime) {
+    let answer = of_system(&rt, rt.alloc(), "/dev/zero");
+    equal(answer, Err(Fault::Shelf)).expect(&rt, "a device");
+}
+
+/// The last bytes of a file of a folder of the system.
+fn last_of_system<R: Files + Abort>(rt: &R, alloc: Global, folder: &str, name: &str) -> Vec<u8> {
+    let read = jk_files::read_inside_at(rt, alloc, folder, name, 1_048_574, 9);
+    read.expect(rt, "a stretch")
+}
+
+/// Puts the megabyte into a folder of the system, and a link to it.
+fn make_files<R: Files + Abort>(rt: &R, alloc: Global, folder: &str) {
+    let file = within(rt, alloc, folder, "a");
+    write(rt, file.as_str(), &megabyte(rt, alloc));
+    link(rt, "a", within(rt, alloc, folder, "b").as_str());
+}
+
+/// What a file of a folder of the system gives.
+fn inside_system<R: Files + Abort>(rt: &R, alloc: Global, folder: &str, name: &str) -> Whole {
+    of_system(rt, alloc, within(rt, alloc, folder, name).as_str())
 }
 
 #[test]
-fn of_the_system(rt: HostRuntime) -> Result<(), Fail> {
-    let path = folder(&rt, "reading")?;
-    let file = within(&rt, path.as_str(), "a")?;
-    let link = within(&rt, path.as_str(), "b")?;
-    fs::write(&rt, file.as_str(), megabyte(rt.alloc())?.as_slice())?;
-    rt.symlink("a", link.as_str())?;
-    let whole = of_system(&rt, file.as_str())?;
-    let linked = of_system(&rt, link.as_str())?;
-    let inner = of_system(&rt, path.as_str())?;
-    let stretch = read_inside_at(&rt, rt.alloc(), path.as_str(), "b", 1_048_574, 9)?;
-    remove(&rt, path.as_str())?;
-    equal(&rt, [whole, linked], [Ok(true), Ok(true)]);
-    equal(&rt, stretch.as_slice(), [254u8, 255, 7].as_slice());
-    equal(&rt, inner, Err(Fault::Shelf));
-    Ok(())
+fn of_the_system(rt: HostRuntime) {
+    let alloc = rt.alloc();
+    let path = folder(&rt, alloc, process::id(rt.process()), "reading");
+    make_files(&rt, alloc, path.as_str());
+    let whole = inside_system(&rt, alloc, path.as_str(), "a");
+    let linked = inside_system(&rt, alloc, path.as_str(), "b");
+    let inner = of_system(&rt, alloc, path.as_str());
+    let last = last_of_system(&rt, alloc, path.as_str(), "b");
+    remove(&rt, alloc, path.as_str());
+    equal(whole, Ok(true)).expect(&rt, "a file");
+    equal(linked, Ok(true)).expect(&rt, "a link");
+    equal(inner, Err(Fault::Shelf)).expect(&rt, "a folder");
+    equal(last.as_slice(), [254u8, 255, 7].as_slice()).expect(&rt, "a stretch");
 }

@@ -1,167 +1,166 @@
 //! Files that are replaced as a whole.
 
-use crate::asserts::{equal, equal_at, holds_at};
-use crate::disk::{Desk, Disk, Kind};
-use crate::scratch::{folder, remove, within};
-use jk_files::{Refusal, list, read_file, replace_file};
+use crate::calls::{called, counts, disk_with, has, old, put, replace_file};
+use crate::disk::{Disk, Kind};
+use crate::scratch::{folder, is_link, link, remove, within};
+use jk_files::{list, read_file};
 use std::alloc::Global;
 use std::fs::{self, Permissions};
 use std::io::ErrorKind;
 use std::os::unix::fs::PermissionsExt;
+use std::process::{self, Abort};
 use std::rt::Files;
-use std::test::Fail;
+use vectors::{equal, equal_at};
 
 /// The calls that replace a file where the first name beside it is taken.
 const IN_ORDER: &str = "look d/out;open d/out;make d/.jk-tmp-0;make d/.jk-tmp-1;\
     allow d/.jk-tmp-1;write d/.jk-tmp-1;rename d/.jk-tmp-1;";
 
-/// A disk with one old file.
-fn old(alloc: Global) -> Result<Disk, Fail> {
-    let disk = Disk::new(alloc);
-    disk.put("d/out", Kind::File, b"old")?;
-    Ok(disk)
+/// Replaces a file by a new one.
+fn replace(rt: &impl Abort, disk: &Disk, alloc: Global, path: &str) {
+    replace_file(disk, alloc, path, b"new").expect(rt, path);
 }
 
 #[test]
-fn in_order(rt: HostRuntime) -> Result<(), Fail> {
-    let disk = old(rt.alloc())?;
-    disk.put("d/.jk-tmp-0", Kind::File, b"another's")?;
-    replace_file(&Desk(&disk), rt.alloc(), "d/out", b"new")?;
-    let calls = disk.calls()?;
-    equal(&rt, calls.as_str(), IN_ORDER);
-    equal(&rt, disk.bytes("d/out")?.as_slice(), b"new".as_slice());
-    equal(
-        &rt,
-        disk.bytes("d/.jk-tmp-0")?.as_slice(),
-        b"another's".as_slice(),
-    );
-    Ok(())
+fn in_order(rt: HostRuntime) {
+    let disk = old(&rt, rt.alloc());
+    put(&rt, &disk, "d/.jk-tmp-0", Kind::File, b"another's");
+    replace(&rt, &disk, rt.alloc(), "d/out");
+    called(&rt, &disk, IN_ORDER);
+    has(&rt, &disk, "d/out", b"new");
+    has(&rt, &disk, "d/.jk-tmp-0", b"another's");
+}
+
+/// Where a call fails, the old file stays, and nothing beside it.
+fn fails_at(rt: &impl Abort, alloc: Global, call: u64) {
+    let disk = old(rt, alloc);
+    disk.piece.set(2);
+    disk.fails_at.set(call);
+    let answer = replace_file(&disk, alloc, "d/out", b"new");
+    equal_at(call, answer.is_err(), true).expect(rt, "a refusal");
+    has(rt, &disk, "d/out", b"old");
+    counts(rt, &disk, 1);
 }
 
 #[test]
-fn failing_at_each_call(rt: HostRuntime) -> Result<(), Fail> {
+fn failing_at_each_call(rt: HostRuntime) {
     // To look, to open, to make, to allow, to write twice, to rename.
     for call in 1..8 {
-        let disk = old(rt.alloc())?;
-        disk.piece.set(2);
-        disk.fails_at.set(call);
-        holds_at(
-            &rt,
-            call,
-            replace_file(&Desk(&disk), rt.alloc(), "d/out", b"new").is_err(),
-        );
-        equal_at(
-            &rt,
-            call,
-            disk.bytes("d/out")?.as_slice(),
-            b"old".as_slice(),
-        );
-        equal_at(&rt, call, disk.count()?, 1);
+        fails_at(&rt, rt.alloc(), call);
     }
-    Ok(())
+}
+
+/// A file is written where none is, by these calls.
+fn is_new(rt: &impl Abort, alloc: Global, path: &str, calls: &str) {
+    let disk = Disk::new(alloc);
+    replace(rt, &disk, alloc, path);
+    called(rt, &disk, calls);
+    has(rt, &disk, path, b"new");
 }
 
 #[test]
-fn where_nothing_is(rt: HostRuntime) -> Result<(), Fail> {
-    for (path, calls) in [
-        (
-            "out",
-            "look out;make ./.jk-tmp-0;write ./.jk-tmp-0;rename ./.jk-tmp-0;",
-        ),
-        (
-            "/out",
-            "look /out;make /.jk-tmp-0;write /.jk-tmp-0;rename /.jk-tmp-0;",
-        ),
-    ] {
-        let disk = Disk::new(rt.alloc());
-        replace_file(&Desk(&disk), rt.alloc(), path, b"new")?;
-        let made = disk.calls()?;
-        equal(&rt, made.as_str(), calls);
-        equal(&rt, disk.bytes(path)?.as_slice(), b"new".as_slice());
-    }
-    Ok(())
-}
-
-#[test]
-fn as_it_is(rt: HostRuntime) -> Result<(), Fail> {
-    // A pipe, and a file in a folder where none can be made.
-    let disk = Disk::new(rt.alloc());
-    disk.put("d/pipe", Kind::Pipe, b"")?;
-    replace_file(&Desk(&disk), rt.alloc(), "d/pipe", b"new")?;
-    let pipe = disk.calls()?;
-    equal(
+fn where_nothing_is(rt: HostRuntime) {
+    is_new(
         &rt,
-        pipe.as_str(),
+        rt.alloc(),
+        "out",
+        "look out;make ./.jk-tmp-0;write ./.jk-tmp-0;rename ./.jk-tmp-0;",
+    );
+    is_new(
+        &rt,
+        rt.alloc(),
+        "/out",
+        "look /out;make /.jk-tmp-0;write /.jk-tmp-0;rename /.jk-tmp-0;",
+    );
+}
+
+/// A file in a folder where none can be made, for this reason.
+fn in_closed(rt: &impl Abort, alloc: Global, reason: ErrorKind) {
+    let disk = old(rt, alloc);
+    disk.closed.set(Some(reason));
+    replace(rt, &disk, alloc, "d/out");
+    has(rt, &disk, "d/out", b"new");
+}
+
+#[test]
+fn as_it_is(rt: HostRuntime) {
+    // A pipe, and a file in a folder where none can be made.
+    let disk = disk_with(&rt, rt.alloc(), "d/pipe", Kind::Pipe, b"");
+    replace(&rt, &disk, rt.alloc(), "d/pipe");
+    called(
+        &rt,
+        &disk,
         "look d/pipe;ask d/pipe;empty d/pipe;write d/pipe;",
     );
-    equal(&rt, disk.bytes("d/pipe")?.as_slice(), b"new".as_slice());
-    for kind in [ErrorKind::PermissionDenied, ErrorKind::ReadOnlyFilesystem] {
-        let disk = old(rt.alloc())?;
-        disk.closed.set(Some(kind));
-        replace_file(&Desk(&disk), rt.alloc(), "d/out", b"new")?;
-        equal(&rt, disk.bytes("d/out")?.as_slice(), b"new".as_slice());
-    }
-    Ok(())
+    has(&rt, &disk, "d/pipe", b"new");
+    in_closed(&rt, rt.alloc(), ErrorKind::PermissionDenied);
+    in_closed(&rt, rt.alloc(), ErrorKind::ReadOnlyFilesystem);
 }
 
 #[test]
-fn may_not_be_written(rt: HostRuntime) -> Result<(), Fail> {
-    let disk = Disk::new(rt.alloc());
-    disk.put("d/out", Kind::Refused, b"old")?;
-    let answer = replace_file(&Desk(&disk), rt.alloc(), "d/out", b"new");
-    assert!(rt; answer.is_err());
-    equal(&rt, disk.bytes("d/out")?.as_slice(), b"old".as_slice());
-    Ok(())
+fn may_not_be_written(rt: HostRuntime) {
+    let disk = disk_with(&rt, rt.alloc(), "d/out", Kind::Refused, b"old");
+    let answer = replace_file(&disk, rt.alloc(), "d/out", b"new");
+    equal(answer.is_err(), true).expect(&rt, "a refusal");
+    has(&rt, &disk, "d/out", b"old");
+}
+
+/// Replaces a file of the system.
+fn replace_in_system<R: Files + Abort>(rt: &R, alloc: Global, path: &str, bytes: &[u8]) {
+    jk_files::replace_file(rt, alloc, path, bytes).expect(rt, path);
+}
+
+/// Reads a file of the system.
+fn read_in_system<R: Files + Abort>(rt: &R, alloc: Global, path: &str) -> Vec<u8> {
+    read_file(rt, alloc, path).expect(rt, path)
 }
 
 /// Replaces a file, and then again through a link to it. What was read through the link in between.
-fn replace_twice(rt: &HostRuntime, file: &str, link: &str) -> Result<Vec<u8>, Fail> {
-    replace_file(rt, rt.alloc(), file, b"one")?;
-    fs::set_permissions(rt, file, Permissions::from_mode(0o600))?;
-    rt.symlink("out", link)?;
-    let same = read_file(rt, rt.alloc(), link)?;
-    replace_file(rt, rt.alloc(), link, b"two")?;
-    Ok(same)
+fn replace_twice<R: Files + Abort>(rt: &R, alloc: Global, file: &str, linked: &str) -> Vec<u8> {
+    replace_in_system(rt, alloc, file, b"one");
+    fs::set_permissions(rt, file, Permissions::from_mode(0o600)).expect(rt, file);
+    link(rt, "out", linked);
+    let same = read_in_system(rt, alloc, linked);
+    replace_in_system(rt, alloc, linked, b"two");
+    same
 }
 
 /// Replaces a file by what is read of it, and says what is read then.
-fn replace_by_itself(rt: &HostRuntime, file: &str) -> Result<Vec<u8>, Refusal> {
-    let bytes = read_file(rt, rt.alloc(), file)?;
-    replace_file(rt, rt.alloc(), file, bytes.as_slice())?;
-    read_file(rt, rt.alloc(), file)
+fn replace_by_itself<R: Files + Abort>(rt: &R, alloc: Global, file: &str) -> Vec<u8> {
+    let bytes = read_in_system(rt, alloc, file);
+    replace_in_system(rt, alloc, file, &bytes);
+    read_in_system(rt, alloc, file)
 }
 
 /// How many files and how many others a folder has.
-fn counts(rt: &HostRuntime, path: &str) -> Result<(usize, usize), Fail> {
-    let listing = list(rt, rt.alloc(), path, |_| true)?;
-    Ok((listing.files.len(), listing.others.len()))
+fn counted<R: Files + Abort>(rt: &R, alloc: Global, path: &str) -> (usize, usize) {
+    let listing = list(rt, alloc, path, |_| true).expect(rt, path);
+    (listing.files.len(), listing.others.len())
 }
 
-/// Whether a link is one, and the mode of a file.
-fn kinds(rt: &HostRuntime, file: &str, link: &str) -> Result<(bool, u32), Fail> {
-    let is_link = rt.symlink_metadata(link)?.is_symlink();
-    Ok((is_link, rt.metadata(file)?.permissions().mode() & 0o777))
-}
-
-#[test]
-fn of_the_system(rt: HostRuntime) -> Result<(), Fail> {
-    let path = folder(&rt, "replacing")?;
-    let file = within(&rt, path.as_str(), "out")?;
-    let link = within(&rt, path.as_str(), "link")?;
-    let same = replace_twice(&rt, file.as_str(), link.as_str())?;
-    let twice = replace_by_itself(&rt, file.as_str())?;
-    let kinds = kinds(&rt, file.as_str(), link.as_str())?;
-    let counts = counts(&rt, path.as_str())?;
-    remove(&rt, path.as_str())?;
-    equal(&rt, same.as_slice(), b"one".as_slice());
-    equal(&rt, twice.as_slice(), b"two".as_slice());
-    equal(&rt, kinds, (true, 0o600));
-    equal(&rt, counts, (2, 0));
-    Ok(())
+/// The mode of a file.
+fn mode<R: Files + Abort>(rt: &R, file: &str) -> u32 {
+    rt.metadata(file).expect(rt, file).permissions().mode() & 0o777
 }
 
 #[test]
-fn a_device(rt: HostRuntime) -> Result<(), Fail> {
-    replace_file(&rt, rt.alloc(), "/dev/null", b"nothing")?;
-    Ok(())
+fn of_the_system(rt: HostRuntime) {
+    let alloc = rt.alloc();
+    let path = folder(&rt, alloc, process::id(rt.process()), "replacing");
+    let file = within(&rt, alloc, path.as_str(), "out");
+    let linked = within(&rt, alloc, path.as_str(), "link");
+    let same = replace_twice(&rt, alloc, file.as_str(), linked.as_str());
+    let twice = replace_by_itself(&rt, alloc, file.as_str());
+    let kinds = (is_link(&rt, linked.as_str()), mode(&rt, file.as_str()));
+    let counts = counted(&rt, alloc, path.as_str());
+    remove(&rt, alloc, path.as_str());
+    equal(same.as_slice(), b"one".as_slice()).expect(&rt, "the first file");
+    equal(twice.as_slice(), b"two".as_slice()).expect(&rt, "the second file");
+    equal(kinds, (true, 0o600)).expect(&rt, "a link, and a mode");
+    equal(counts, (2, 0)).expect(&rt, "files and others");
+}
+
+#[test]
+fn a_device(rt: HostRuntime) {
+    replace_in_system(&rt, rt.alloc(), "/dev/null", b"nothing");
 }

@@ -1,83 +1,81 @@
 //! In which order files are written and renamed, and what is left alone.
 
-use crate::asserts::{equal, equal_at, holds_at};
-use crate::disk::{Desk, Disk, Kind};
-use crate::scratch::{folder, remove, within};
-use jk_files::{is_file_name, rename, write_new};
+use crate::calls::{called, disk_with, has, rename, write_new};
+use crate::disk::{Disk, Kind};
+use crate::scratch::{folder, is_link, link, read, remove, within, write};
+use jk_files::is_file_name;
+use std::alloc::Global;
 use std::fs;
+use std::process::{self, Abort};
 use std::rt::Files;
-use std::test::Fail;
+use vectors::{equal, equal_at};
 
 #[test]
-fn in_order(rt: HostRuntime) -> Result<(), Fail> {
+fn in_order(rt: HostRuntime) {
     let disk = Disk::new(rt.alloc());
-    write_new(&Desk(&disk), rt.alloc(), "d", "a", b"one")?;
-    rename(&Desk(&disk), rt.alloc(), "d", "a", "b")?;
-    let calls = disk.calls()?;
-    equal(
+    write_new(&disk, rt.alloc(), "d", "a", b"one").expect(&rt, "a file");
+    rename(&disk, rt.alloc(), "d", "a", "b").expect(&rt, "a name");
+    called(
         &rt,
-        calls.as_str(),
+        &disk,
         "make d/a;write d/a;sync d/a;open d/;rename d/a;sync d/;",
     );
-    equal(&rt, disk.bytes("d/b")?.as_slice(), b"one".as_slice());
-    Ok(())
+    has(&rt, &disk, "d/b", b"one");
 }
 
 #[test]
-fn over_what_is_left(rt: HostRuntime) -> Result<(), Fail> {
-    let disk = Disk::new(rt.alloc());
-    disk.put("d/a", Kind::Pipe, b"left")?;
+fn over_what_is_left(rt: HostRuntime) {
+    let disk = disk_with(&rt, rt.alloc(), "d/a", Kind::Pipe, b"left");
     disk.piece.set(2);
-    write_new(&Desk(&disk), rt.alloc(), "d/", "a", b"one")?;
-    let calls = disk.calls()?;
-    equal(
+    write_new(&disk, rt.alloc(), "d/", "a", b"one").expect(&rt, "a file");
+    called(
         &rt,
-        calls.as_str(),
+        &disk,
         "make d/a;remove d/a;make d/a;write d/a;write d/a;sync d/a;",
     );
-    equal(&rt, disk.bytes("d/a")?.as_slice(), b"one".as_slice());
-    Ok(())
+    has(&rt, &disk, "d/a", b"one");
+}
+
+/// No new file is written where a call fails.
+fn writing_fails_at(rt: &impl Abort, alloc: Global, call: u64) {
+    let disk = Disk::new(alloc);
+    disk.piece.set(2);
+    disk.fails_at.set(call);
+    let answer = write_new(&disk, alloc, "d", "a", b"one");
+    equal_at(call, answer.is_err(), true).expect(rt, "a refusal");
+}
+
+/// No file is renamed where a call fails.
+fn renaming_fails_at(rt: &impl Abort, alloc: Global, call: u64) {
+    let disk = disk_with(rt, alloc, "d/a", Kind::File, b"");
+    disk.fails_at.set(call);
+    let answer = rename(&disk, alloc, "d", "a", "b");
+    equal_at(call, answer.is_err(), true).expect(rt, "a refusal");
 }
 
 #[test]
-fn failing(rt: HostRuntime) -> Result<(), Fail> {
+fn failing(rt: HostRuntime) {
     // To make the file, to write it twice, to have it stored.
     for call in 1..5 {
-        let disk = Disk::new(rt.alloc());
-        disk.piece.set(2);
-        disk.fails_at.set(call);
-        holds_at(
-            &rt,
-            call,
-            write_new(&Desk(&disk), rt.alloc(), "d", "a", b"one").is_err(),
-        );
+        writing_fails_at(&rt, rt.alloc(), call);
     }
     // To open the folder, to rename, to have the folder stored.
     for call in 1..4 {
-        let disk = Disk::new(rt.alloc());
-        disk.put("d/a", Kind::File, b"")?;
-        disk.fails_at.set(call);
-        holds_at(
-            &rt,
-            call,
-            rename(&Desk(&disk), rt.alloc(), "d", "a", "b").is_err(),
-        );
+        renaming_fails_at(&rt, rt.alloc(), call);
     }
-    Ok(())
 }
 
 #[test]
-fn where_no_folder_is_stored(rt: HostRuntime) -> Result<(), Fail> {
+fn where_no_folder_is_stored(rt: HostRuntime) {
     let disk = Disk::new(rt.alloc());
     disk.unstored.set(true);
-    write_new(&Desk(&disk), rt.alloc(), "d", "a", b"one")?;
-    rename(&Desk(&disk), rt.alloc(), "d", "a", "b")?;
-    equal(&rt, disk.bytes("d/b")?.as_slice(), b"one".as_slice());
-    Ok(())
+    write_new(&disk, rt.alloc(), "d", "a", b"one").expect(&rt, "a file");
+    rename(&disk, rt.alloc(), "d", "a", "b").expect(&rt, "a name");
+    has(&rt, &disk, "d/b", b"one");
 }
 
 /// Names, and whether a file inside a folder may have them.
-const NAMES: [(&str, bool); 9] = [
+static NAMES: [(&str, bool); 9] = [
     ("a", true),
     (".lock", true),
     ("...", true),
@@ -89,71 +87,52 @@ const NAMES: [(&str, bool); 9] = [
     ("a/", false),
 ];
 
+/// Whether a name is a file's, and a file is written under it, renamed from it, and to it.
+fn takes(rt: &impl Abort, disk: &Disk, alloc: Global, name: &str, good: bool) {
+    equal_at(name, is_file_name(name), good).expect(rt, "a name");
+    let written = write_new(disk, alloc, "d", name, b"").is_ok();
+    equal_at(name, written, good).expect(rt, "a new file");
+    let from = rename(disk, alloc, "d", name, "z").is_ok();
+    equal_at(name, from, good).expect(rt, "an old name");
+    let to = rename(disk, alloc, "d", "z", name).is_ok();
+    equal_at(name, to, good).expect(rt, "a new name");
+}
+
 #[test]
-fn names(rt: HostRuntime) -> Result<(), Fail> {
+fn names(rt: HostRuntime) {
     let disk = Disk::new(rt.alloc());
-    for (name, good) in NAMES {
-        equal_at(&rt, name, is_file_name(name), good);
-        equal_at(
-            &rt,
-            name,
-            write_new(&Desk(&disk), rt.alloc(), "d", name, b"").is_ok(),
-            good,
-        );
-        equal_at(
-            &rt,
-            name,
-            rename(&Desk(&disk), rt.alloc(), "d", name, "z").is_ok(),
-            good,
-        );
-        equal_at(
-            &rt,
-            name,
-            rename(&Desk(&disk), rt.alloc(), "d", "z", name).is_ok(),
-            good,
-        );
+    for (name, good) in &NAMES {
+        takes(&rt, &disk, rt.alloc(), *name, *good);
     }
-    Ok(())
 }
 
-/// Writes a new file where a link to another one is. Whether it is a link then, and what the other
-/// file has.
-fn write_over_link(
-    rt: &HostRuntime,
-    folder: &str,
-    victim: &str,
-    link: &str,
-) -> Result<(bool, Vec<u8>), Fail> {
-    fs::write(rt, victim, b"kept")?;
-    rt.symlink("victim", link)?;
-    write_new(rt, rt.alloc(), folder, "a.tmp", b"new")?;
-    let is_link = rt.symlink_metadata(link)?.is_symlink();
-    Ok((is_link, fs::read(rt, victim)?))
+/// Writes a new file where a link to another one is. Whether it is a link then.
+fn write_over_link<R: Files + Abort>(rt: &R, alloc: Global, folder: &str, victim: &str) -> bool {
+    let new = within(rt, alloc, folder, "a.tmp");
+    write(rt, victim, b"kept");
+    link(rt, "victim", new.as_str());
+    jk_files::write_new(rt, alloc, folder, "a.tmp", b"new").expect(rt, "a file");
+    is_link(rt, new.as_str())
 }
 
-/// Renames the new file to the other one. Whether it still has its name, and what the other file
-/// has.
-fn rename_over(
-    rt: &HostRuntime,
-    folder: &str,
-    victim: &str,
-    link: &str,
-) -> Result<(bool, Vec<u8>), Fail> {
-    rename(rt, rt.alloc(), folder, "a.tmp", "victim")?;
-    let exists = fs::exists(rt, link)?;
-    Ok((exists, fs::read(rt, victim)?))
+/// Renames the new file to the other one. Whether it still has its name.
+fn rename_over<R: Files + Abort>(rt: &R, alloc: Global, folder: &str) -> bool {
+    jk_files::rename(rt, alloc, folder, "a.tmp", "victim").expect(rt, "a name");
+    let new = within(rt, alloc, folder, "a.tmp");
+    fs::exists(rt, new.as_str()).expect(rt, "a name")
 }
 
 #[test]
-fn of_the_system(rt: HostRuntime) -> Result<(), Fail> {
-    let path = folder(&rt, "writing")?;
-    let victim = within(&rt, path.as_str(), "victim")?;
-    let link = within(&rt, path.as_str(), "a.tmp")?;
-    let (is_link, kept) = write_over_link(&rt, path.as_str(), victim.as_str(), link.as_str())?;
-    let (exists, renamed) = rename_over(&rt, path.as_str(), victim.as_str(), link.as_str())?;
-    remove(&rt, path.as_str())?;
-    equal(&rt, (is_link, exists), (false, false));
-    equal(&rt, kept.as_slice(), b"kept".as_slice());
-    equal(&rt, renamed.as_slice(), b"new".as_slice());
-    Ok(())
+fn of_the_system(rt: HostRuntime) {
+    let alloc = rt.alloc();
+    let path = folder(&rt, alloc, process::id(rt.process()), "writing");
+    let victim = within(&rt, alloc, path.as_str(), "victim");
+    let is_link = write_over_link(&rt, alloc, path.as_str(), victim.as_str());
+    let kept = read(&rt, alloc, victim.as_str());
+    let exists = rename_over(&rt, alloc, path.as_str());
+    let renamed = read(&rt, alloc, victim.as_str());
+    remove(&rt, alloc, path.as_str());
+    equal((is_link, exists), (false, false)).expect(&rt, "a link, and the new file");
+    equal(kept.as_str(), "kept").expect(&rt, "the other file");
+    equal(renamed.as_str(), "new").expect(&rt, "the other file");
 }

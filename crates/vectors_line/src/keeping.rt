@@ -1,15 +1,16 @@
 //! What a file keeps beside the samples: given by `dress`, `encode` and `add`, told and taken out by
 //! `extras`. The boxes are laid out as T.800 Annex I has them, and the profile as ICC.1 has it.
 
-use crate::lines::{GREY, check_output, run_line};
+use crate::lines::GREY;
 use crate::memory::Memory;
+use crate::runs::{check_folder, check_output, check_run};
 use jk_line::Status;
-use jk_store::{MemoryShelf, Shelf};
+use jk_store::MemoryShelf;
 use std::alloc::Global;
 use std::process::Abort;
 use std::test::Fail;
 use std::thread::Threads;
-use vectors::bytes_of;
+use vectors::{Line, bytes_of, equal};
 
 /// A curve of grey: version 2, of an input device, connected by XYZ, with one tag, `kTRC`.
 static PROFILE: &str =
@@ -51,12 +52,8 @@ fn check_kept<R: Abort + Threads + Sync>(
     output: &[&str],
 ) -> Result<(), Fail> {
     let mut world = world(rt, alloc, input)?;
-    let status = run_line(alloc, &mut world, line)?;
-    assert_eq!(rt; status, Status::Done, "{line}: {}", world.error);
-    let wanted = bytes_of(alloc, output)?;
-    assert!(rt; world.output.as_slice() == wanted.as_slice(), "{line}");
-    assert_eq!(rt; world.error.len(), 0, "{line}");
-    Ok(())
+    let due = bytes_of(alloc, output)?;
+    check_run(rt, alloc, &mut world, line, Status::Done, &due, "")
 }
 
 /// Options, and what they make of the grey pixel's file: the length of its JP2 header box, the
@@ -81,11 +78,10 @@ static OPTIONS: &str = "\
 fn options_give_their_boxes(rt: HostRuntime) -> Result<(), Fail> {
     let alloc = rt.alloc();
     for row in OPTIONS.split('\n') {
-        let mut fields = row.split('|');
-        let options = fields.next().unwrap_or("");
-        let head = fields.next().unwrap_or("");
-        let resolution = fields.next().unwrap_or("");
-        let others = fields.next().unwrap_or("");
+        let mut fields = Line::new(row, '|');
+        let (options, head) = (fields.word(), fields.word());
+        let (resolution, others) = (fields.word(), fields.word());
+        fields.end().expect(&rt, "options and boxes");
         let file = [
             FRONT, head, "6A703268", IMAGE, COLOUR, resolution, others, CODE_BOX, CODE,
         ];
@@ -153,40 +149,47 @@ colour: method=3;colour: grey;colour: profile=3;colour: broken;colour: broken
 capture: 300/254e4x15000/127e2;display: 65535/1e127x1/65535e-128;xml: 4;xml: 0;\
 uuid: be7acfcb97a942e89c71999491e3afac=2";
 
+/// Lines that are parted by semicolons, as they are written.
+fn spelled(alloc: Global, lines: &str) -> Result<String, Fail> {
+    let mut text = String::new(alloc);
+    for line in lines.split(';') {
+        if !line.is_empty() {
+            text.push_str(line)?;
+            text.push('\n')?;
+        }
+    }
+    Ok(text)
+}
+
+/// Checks what is listed of a file.
+fn check_told<R: Abort + Threads + Sync>(
+    rt: &R,
+    alloc: Global,
+    file: &[&str],
+    lines: &[u8],
+) -> Result<(), Fail> {
+    let mut world = Memory::new(rt, alloc, bytes_of(alloc, file)?);
+    check_run(rt, alloc, &mut world, "extras -", Status::Done, lines, "")
+}
+
 /// All that a file keeps is listed, behind the codestream too; a bare codestream keeps nothing.
 #[test]
 fn what_is_kept_is_listed(rt: HostRuntime) -> Result<(), Fail> {
     let alloc = rt.alloc();
     for row in LISTED.split('\n') {
-        let mut fields = row.split('|');
-        let head = fields.next().unwrap_or("");
-        let header = fields.next().unwrap_or("");
-        let others = fields.next().unwrap_or("");
-        let lines = fields.next().unwrap_or("");
+        let mut fields = Line::new(row, '|');
+        let (head, header) = (fields.word(), fields.word());
+        let (others, lines) = (fields.word(), fields.word());
+        fields.end().expect(&rt, "boxes and lines");
+        let due = spelled(alloc, lines)?;
         for (before, behind) in [(others, ""), ("", others)] {
             let file = [
                 FRONT, head, "6A703268", IMAGE, header, before, CODE_BOX, CODE, behind,
             ];
-            let mut world = world(&rt, alloc, &file)?;
-            let status = run_line(alloc, &mut world, "extras -")?;
-            assert_eq!(rt; status, Status::Done, "{head}: {}", world.error);
-            let mut wanted = String::new(alloc);
-            for line in lines.split(';') {
-                if !line.is_empty() {
-                    wanted.push_str(line)?;
-                    wanted.push_str("\n")?;
-                }
-            }
-            assert!(rt;
-                world.output.as_slice() == wanted.as_bytes(),
-                "{head} {lines}"
-            );
+            check_told(&rt, alloc, &file, due.as_bytes())?;
         }
     }
-    let mut world = Memory::new(&rt, alloc, bytes_of(alloc, &[CODE])?);
-    assert_eq!(rt; run_line(alloc, &mut world, "extras -")?, Status::Done);
-    assert_eq!(rt; world.output.len(), 0);
-    Ok(())
+    check_told(&rt, alloc, &[CODE], &[])
 }
 
 /// What a file of a world has.
@@ -215,24 +218,18 @@ fn what_is_kept_is_taken_out(rt: HostRuntime) -> Result<(), Fail> {
     ];
     let mut world = world(&rt, alloc, &file)?;
     let line = "extras - --profile 1 --xml 2 --uuid 000102030405060708090A0B0C0D0E0F:3";
-    assert_eq!(rt;
-        run_line(alloc, &mut world, line)?,
-        Status::Done,
-        "{}",
-        world.error
+    check_run(&rt, alloc, &mut world, line, Status::Done, &[], "")?;
+    let found = (
+        has_file(&world, alloc, "1", PROFILE)?,
+        has_file(&world, alloc, "2", "3C612F3E")?,
+        has_file(&world, alloc, "3", "4869")?,
     );
-    assert!(rt; has_file(&world, alloc, "1", PROFILE)?);
-    assert!(rt; has_file(&world, alloc, "2", "3C612F3E")?);
-    assert!(rt; has_file(&world, alloc, "3", "4869")?);
-    assert_eq!(rt; world.output.len(), 0);
+    equal(found, (true, true, true)).expect(&rt, "what is taken out");
     let line = "extras - --xml 4 --uuid ff0102030405060708090A0B0C0D0E0F:5";
-    assert_eq!(rt; run_line(alloc, &mut world, line)?, Status::Refused);
-    assert!(rt;
-        world.error.as_str() == "jk: standard input has no box under this UUID\n",
-        "{}",
-        world.error
-    );
-    assert!(rt; !world.files.contains_key("4") && !world.files.contains_key("5"));
+    let error = "jk: standard input has no box under this UUID\n";
+    check_run(&rt, alloc, &mut world, line, Status::Refused, &[], error)?;
+    let found = (world.files.contains_key("4"), world.files.contains_key("5"));
+    equal(found, (false, false)).expect(&rt, "nothing is taken out");
     Ok(())
 }
 
@@ -241,17 +238,11 @@ fn what_is_kept_is_taken_out(rt: HostRuntime) -> Result<(), Fail> {
 fn added_images_keep_it(rt: HostRuntime) -> Result<(), Fail> {
     let alloc = rt.alloc();
     let mut world = world(&rt, alloc, &[GREY])?;
-    world
-        .folders
-        .insert(String::from_str(alloc, "d")?, MemoryShelf::new(alloc))?;
+    let name = String::from_str(alloc, "d")?;
+    world.folders.insert(name, MemoryShelf::new(alloc))?;
     let line = "add d a - --levels 0 --profile p.icc --xml x.xml";
-    assert_eq!(rt;
-        run_line(alloc, &mut world, line)?,
-        Status::Done,
-        "{}",
-        world.error
-    );
-    let wanted = [
+    check_run(&rt, alloc, &mut world, line, Status::Done, &[], "")?;
+    let file = [
         FRONT,
         "000000C9 6A703268",
         IMAGE,
@@ -261,20 +252,9 @@ fn added_images_keep_it(rt: HostRuntime) -> Result<(), Fail> {
         CODE_BOX,
         CODE,
     ];
-    let wanted = bytes_of(alloc, &wanted)?;
-    let Some(mut shelf) = world.folders.remove("d") else {
-        return Err("the folder".into());
-    };
-    assert!(rt; shelf.read(alloc, "a.jp2")?.as_slice() == wanted.as_slice());
-    assert_eq!(rt; shelf.list(alloc)?.len(), 1);
-    world.folders.insert(String::from_str(alloc, "d")?, shelf)?;
-    assert_eq!(rt; run_line(alloc, &mut world, line)?, Status::Refused);
-    assert!(rt;
-        world.error.as_str() == "jk: F18 NameTaken\n",
-        "{}",
-        world.error
-    );
-    Ok(())
+    check_folder(&rt, alloc, &mut world, line, &[("a.jp2", &file)])?;
+    let error = "jk: F18 NameTaken\n";
+    check_run(&rt, alloc, &mut world, line, Status::Refused, &[], error)
 }
 
 /// Command lines over a grey pixel, bare and in a file, and why each is refused; the options are
@@ -305,22 +285,26 @@ extras - --uuid 00:x|F15 BadParameters|--uuid is 00:x, and may be 32 hexadecimal
 fn refusals_have_their_causes(rt: HostRuntime) -> Result<(), Fail> {
     let alloc = rt.alloc();
     for row in REFUSED.split('\n') {
-        let mut fields = row.split('|');
-        let line = fields.next().unwrap_or("");
-        let fault = fields.next().unwrap_or("");
-        let cause = fields.next().unwrap_or("");
-        let mut world = world(&rt, alloc, &[GREY])?;
+        let mut fields = Line::new(row, '|');
+        let (line, fault, cause) = (fields.word(), fields.word(), fields.word());
+        fields.end().expect(&rt, "a line and why it is refused");
         let line = format!(in alloc; "{line} --explain")?;
-        assert_eq!(rt;
-            run_line(alloc, &mut world, line.as_str())?,
-            Status::Refused,
-            "{line}"
-        );
-        let wanted = format!(in alloc; "jk: {fault}\n{cause}\n")?;
-        assert!(rt; world.error == wanted, "{line}: {}", world.error);
-        assert_eq!(rt; world.output.len(), 0, "{line}");
+        let error = format!(in alloc; "jk: {fault}\n{cause}\n")?;
+        check_refused(&rt, alloc, &[GREY], line.as_str(), error.as_str())?;
     }
     Ok(())
+}
+
+/// Runs a command line over an input and the files, which is refused.
+fn check_refused<R: Abort + Threads + Sync>(
+    rt: &R,
+    alloc: Global,
+    input: &[&str],
+    line: &str,
+    error: &str,
+) -> Result<(), Fail> {
+    let mut world = world(rt, alloc, input)?;
+    check_run(rt, alloc, &mut world, line, Status::Refused, &[], error)
 }
 
 /// One grey sample, 255, in eight layers: in K of them its coefficient, 127, has its K - 1 highest
@@ -351,15 +335,6 @@ fn layers_are_decoded(rt: HostRuntime) -> Result<(), Fail> {
             )?;
         }
     }
-    let mut world = Memory::new(&rt, alloc, bytes_of(alloc, &[LAYERED])?);
-    assert_eq!(rt;
-        run_line(alloc, &mut world, "decode - - --layers 0")?,
-        Status::Refused
-    );
-    assert!(rt;
-        world.error.as_str() == "jk: F16 BadWindow\n",
-        "{}",
-        world.error
-    );
-    Ok(())
+    let line = "decode - - --layers 0";
+    check_refused(&rt, alloc, &[LAYERED], line, "jk: F16 BadWindow\n")
 }

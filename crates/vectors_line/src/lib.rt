@@ -12,4 +12,6 @@ mod numbers;
 #[cfg(test)]
 mod progress;
 #[cfg(test)]
+mod runs;
+#[cfg(test)]
 mod telling;

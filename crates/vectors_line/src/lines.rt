@@ -1,14 +1,14 @@
 //! Command lines, and what they do.
 
 use crate::memory::Memory;
-use jk_line::{Status, run};
-use jk_store::{MemoryShelf, Shelf};
+use crate::runs::{check_folder, check_output, check_run, run_line, world_of};
+use jk_line::Status;
 use std::alloc::Global;
 use std::process::Abort;
 use std::str::Split;
 use std::test::Fail;
 use std::thread::Threads;
-use vectors::bytes_of;
+use vectors::{bytes_of, equal, equal_at};
 
 /// A PGM file of one pixel, 128.
 pub(crate) static GREY: &str = "50350A 312031 0A 323535 0A 80";
@@ -65,43 +65,16 @@ static NINE_SEVEN: &str =
     "FF4F FF51 0029 0000 00000001 00000001 00000000 00000000 00000001 00000001 \
 00000000 00000000 0001 07 01 01 FF52 000C 00 00 0001 00 00 04 04 00 00";
 
-/// The words of a command line.
-fn words(alloc: Global, line: &str) -> Result<Vec<String>, Fail> {
-    let mut words = Vec::new(alloc);
-    words.push(String::from_str(alloc, "jk")?)?;
-    for word in line.split(' ') {
-        if !word.is_empty() {
-            words.push(String::from_str(alloc, word)?)?;
-        }
-    }
-    Ok(words)
-}
-
-/// Runs a command line.
-pub(crate) fn run_line<R: Threads + Sync>(
-    alloc: Global,
-    world: &mut Memory<'_, R>,
-    line: &str,
-) -> Result<Status, Fail> {
-    let words = words(alloc, line)?;
-    Ok(run(alloc, &words, world))
-}
-
-/// Runs a command line over an input, which must write an output and nothing else.
-pub(crate) fn check_output<R: Abort + Threads + Sync>(
-    rt: &R,
-    alloc: Global,
-    line: &str,
-    input: &[&str],
-    output: &[&str],
-) -> Result<(), Fail> {
-    let mut world = Memory::new(rt, alloc, bytes_of(alloc, input)?);
-    let status = run_line(alloc, &mut world, line)?;
-    assert_eq!(rt; status, Status::Done, "{line}: {}", world.error);
-    let wanted = bytes_of(alloc, output)?;
-    assert!(rt; world.output.as_slice() == wanted.as_slice(), "{line}");
-    assert_eq!(rt; world.error.len(), 0, "{line}");
-    Ok(())
+/// The file of the grey pixel without levels.
+fn pixel() -> [&'static str; 6] {
+    [
+        BOXES,
+        "FF4F",
+        SIZE,
+        CODING,
+        STEPS,
+        "FF90 000A 0000 0000000F 00 01 FF93 00 FFD9",
+    ]
 }
 
 /// Runs a command line over an input and a folder `d` with a file `c.jp2` that isn't listed, which
@@ -113,15 +86,9 @@ fn check_fault<R: Abort + Threads + Sync>(
     input: &str,
     error: &str,
 ) -> Result<(), Fail> {
-    let mut world = Memory::new(rt, alloc, bytes_of(alloc, &[input])?);
-    let mut shelf = MemoryShelf::new(alloc);
-    shelf.write(alloc, "c.jp2", &[0xFF])?;
-    world.folders.insert(String::from_str(alloc, "d")?, shelf)?;
-    let status = run_line(alloc, &mut world, line)?;
-    assert_eq!(rt; status, Status::Refused, "{line}");
-    assert!(rt; world.error.as_str() == error, "{line}: {}", world.error);
-    assert_eq!(rt; world.output.len(), 0, "{line}");
-    Ok(())
+    let input = bytes_of(alloc, &[input])?;
+    let mut world = world_of(rt, alloc, input, &[("c.jp2", &["FF"])])?;
+    check_run(rt, alloc, &mut world, line, Status::Refused, &[], error)
 }
 
 /// What each option of an encoding changes, a line for each: the options; what they change of SIZ,
@@ -206,14 +173,7 @@ fn colour_is_for_three_components(rt: HostRuntime) -> Result<(), Fail> {
 #[test]
 fn commands_write_their_output(rt: HostRuntime) -> Result<(), Fail> {
     let alloc = rt.alloc();
-    let pixel = [
-        BOXES,
-        "FF4F",
-        SIZE,
-        CODING,
-        STEPS,
-        "FF90 000A 0000 0000000F 00 01 FF93 00 FFD9",
-    ];
+    let pixel = pixel();
     for line in ["encode - - --levels 0", "encode - - --levels 0 --workers 2"] {
         check_output(&rt, alloc, line, &[GREY], &pixel)?;
     }
@@ -380,51 +340,30 @@ fn causes_are_told(rt: HostRuntime) -> Result<(), Fail> {
     Ok(())
 }
 
+/// What `jk serve` says of a folder with an image and a file that isn't listed.
+static SERVED: &str =
+    "jk: c.jp2 isn't listed: F13 BadBox\njk: 1 images on http://127.0.0.1:8080/images\nNone 1 10 false";
+
 /// An archive: adding, a name that is taken, and what is told where it is served.
 #[test]
 fn archives_grow(rt: HostRuntime) -> Result<(), Fail> {
     let alloc = rt.alloc();
-    let mut world = Memory::new(&rt, alloc, bytes_of(alloc, &[GREY])?);
-    let mut shelf = MemoryShelf::new(alloc);
-    let bare = bytes_of(alloc, &[COLUMN])?;
-    shelf.write(alloc, "c.jp2", &bare)?;
-    world.folders.insert(String::from_str(alloc, "d")?, shelf)?;
-    let status = run_line(alloc, &mut world, "add d a - --levels 0")?;
-    assert_eq!(rt; status, Status::Done, "{}", world.error);
-    assert_eq!(rt; run_line(alloc, &mut world, "add d a -")?, Status::Refused);
-    assert_eq!(rt; run_line(alloc, &mut world, "add d c -")?, Status::Refused);
-    assert!(rt;
-        world.error.as_str() == "jk: F18 NameTaken\njk: F18 NameTaken\n",
-        "{}",
-        world.error
-    );
-    assert_eq!(rt; world.output.len(), 0);
-    let mut shelf = world.folders.remove("d").ok_or("the folder is given back")?;
-    let wanted = bytes_of(
-        alloc,
-        &[
-            BOXES,
-            "FF4F",
-            SIZE,
-            CODING,
-            STEPS,
-            "FF90 000A 0000 0000000F 00 01 FF93 00 FFD9",
-        ],
-    )?;
-    assert!(rt; shelf.read(alloc, "a.jp2")?.as_slice() == wanted.as_slice());
-    assert_eq!(rt; shelf.read(alloc, "c.jp2")?.len(), bare.len());
-    assert_eq!(rt; shelf.list(alloc)?.len(), 2);
-    world.folders.insert(String::from_str(alloc, "d")?, shelf)?;
+    let input = bytes_of(alloc, &[GREY])?;
+    let mut world = world_of(&rt, alloc, input, &[("c.jp2", &[COLUMN])])?;
+    for (line, status, error) in [
+        ("add d a - --levels 0", Status::Done, ""),
+        ("add d a -", Status::Refused, "jk: F18 NameTaken\n"),
+        ("add d c -", Status::Refused, "jk: F18 NameTaken\n"),
+    ] {
+        world.error.clear();
+        check_run(&rt, alloc, &mut world, line, status, &[], error)?;
+    }
+    let (page, column) = (pixel(), [COLUMN]);
+    let files: [(&str, &[&str]); 2] = [("a.jp2", &page), ("c.jp2", &column)];
+    check_folder(&rt, alloc, &mut world, "an archive", &files)?;
     world.error.clear();
-    let status = run_line(alloc, &mut world, "serve d --port 8080")?;
-    assert_eq!(rt; status, Status::Done, "{}", world.error);
-    assert!(rt;
-        world.error.as_str()
-            == "jk: c.jp2 isn't listed: F13 BadBox\njk: 1 images on http://127.0.0.1:8080/images\nNone 1 10 false",
-        "{}",
-        world.error
-    );
-    Ok(())
+    let line = "serve d --port 8080";
+    check_run(&rt, alloc, &mut world, line, Status::Done, &[], SERVED)
 }
 
 /// Options for the style of code-blocks, and the style's byte in COD (T.800 table A.19).
@@ -440,30 +379,20 @@ static ADDED_STYLES: [(&str, &str); 4] = [
 fn styles_are_added(rt: HostRuntime) -> Result<(), Fail> {
     let alloc = rt.alloc();
     for (options, style) in ADDED_STYLES {
-        let mut world = Memory::new(&rt, alloc, bytes_of(alloc, &[GREY])?);
-        let folder = MemoryShelf::new(alloc);
-        world.folders.insert(String::from_str(alloc, "d")?, folder)?;
+        let mut world = world_of(&rt, alloc, bytes_of(alloc, &[GREY])?, &[])?;
         let line = format!(in alloc; "add d a - --levels 0 {options}")?;
-        let status = run_line(alloc, &mut world, line.as_str())?;
-        assert_eq!(rt; status, Status::Done, "{options}: {}", world.error);
-        let mut folder = world.folders.remove("d").ok_or("the folder is given back")?;
-        let wanted = bytes_of(
-            alloc,
-            &[
-                BOXES,
-                "FF4F",
-                SIZE,
-                "FF52 000C 00 00 0001 00 00 04 04",
-                style,
-                "01",
-                STEPS,
-                "FF90 000A 0000 0000000F 00 01 FF93 00 FFD9",
-            ],
-        )?;
-        assert!(rt;
-            folder.read(alloc, "a.jp2")?.as_slice() == wanted.as_slice(),
-            "{options}"
-        );
+        let file = [
+            BOXES,
+            "FF4F",
+            SIZE,
+            "FF52 000C 00 00 0001 00 00 04 04",
+            style,
+            "01",
+            STEPS,
+            "FF90 000A 0000 0000000F 00 01 FF93 00 FFD9",
+        ];
+        check_run(&rt, alloc, &mut world, line.as_str(), Status::Done, &[], "")?;
+        check_folder(&rt, alloc, &mut world, options, &[("a.jp2", &file)])?;
     }
     Ok(())
 }
@@ -509,48 +438,32 @@ fn spelled(alloc: Global, field: &str) -> Result<String, Fail> {
     Ok(text)
 }
 
+/// A status of the program.
+fn status_of(code: &str) -> Status {
+    match code {
+        "1" => Status::Refused,
+        "2" => Status::WrongLine,
+        _ => Status::Done,
+    }
+}
+
 /// An archive is checked, and compared with lists.
 #[test]
 fn archives_are_checked(rt: HostRuntime) -> Result<(), Fail> {
     let alloc = rt.alloc();
-    let pixel = [
-        BOXES,
-        "FF4F",
-        SIZE,
-        CODING,
-        STEPS,
-        "FF90 000A 0000 0000000F 00 01 FF93 00 FFD9",
-    ];
-    let page = bytes_of(alloc, &pixel)?;
-    let column = bytes_of(alloc, &[COLUMN])?;
+    let (page, column) = (pixel(), [COLUMN]);
+    let files: [(&str, &[&str]); 2] = [("c.jp2", &column), ("a.jp2", &page)];
     for row in CHECKS.split('\n') {
         let mut fields = row.split('|');
         let line = field(&mut fields, "");
         let input = spelled(alloc, field(&mut fields, ""))?;
         let output = spelled(alloc, field(&mut fields, ""))?;
         let error = spelled(alloc, field(&mut fields, ""))?;
-        let status = field(&mut fields, "0");
-        let mut world = Memory::new(&rt, alloc, Vec::from_slice(alloc, input.as_bytes())?);
-        let mut shelf = MemoryShelf::new(alloc);
-        shelf.write(alloc, "c.jp2", &column)?;
-        shelf.write(alloc, "a.jp2", &page)?;
-        world.folders.insert(String::from_str(alloc, "d")?, shelf)?;
-        let code = run_line(alloc, &mut world, line)?.code();
-        assert!(rt;
-            code.to_string(alloc)?.as_str() == status,
-            "{row}: {code}: {}",
-            world.error
-        );
-        assert!(rt;
-            world.output.as_slice() == output.as_bytes(),
-            "{row}: {}",
-            world.error
-        );
-        assert!(rt;
-            world.error.as_str() == error.as_str(),
-            "{row}: {}",
-            world.error
-        );
+        let status = status_of(field(&mut fields, "0"));
+        let input = Vec::from_slice(alloc, input.as_bytes())?;
+        let mut world = world_of(&rt, alloc, input, &files)?;
+        let (output, error) = (output.as_bytes(), error.as_str());
+        check_run(&rt, alloc, &mut world, line, status, output, error)?;
     }
     Ok(())
 }
@@ -586,37 +499,43 @@ info - --all --all
 info - --all=1
 --explain";
 
+/// Runs a wrong command line, of which nothing is written but why.
+fn check_wrong<R: Abort + Threads + Sync>(rt: &R, alloc: Global, line: &str) -> Result<(), Fail> {
+    let mut world = Memory::new(rt, alloc, bytes_of(alloc, &[GREY])?);
+    let status = run_line(alloc, &mut world, line)?;
+    let found = (status, world.output.len(), world.error.is_empty());
+    equal_at(line, found, (Status::WrongLine, 0, false)).expect(rt, "a wrong command line");
+    Ok(())
+}
+
+/// Runs what is asked of the program itself, which is written to standard output alone, and then
+/// again with an output that is full.
+fn check_asked<R: Abort + Threads + Sync>(rt: &R, alloc: Global, line: &str) -> Result<(), Fail> {
+    let mut world = Memory::new(rt, alloc, bytes_of(alloc, &[GREY])?);
+    let status = run_line(alloc, &mut world, line)?;
+    let found = (status, world.output.is_empty(), world.error.as_str());
+    equal_at(line, found, (Status::Done, false, "")).expect(rt, "what the program is asked");
+    world.is_full = true;
+    world.output.clear();
+    let refused = Status::Refused;
+    check_run(rt, alloc, &mut world, line, refused, &[], "jk: F20 Shelf\n")
+}
+
 /// Wrong command lines, and what is asked of the program itself.
 #[test]
 fn lines_are_judged(rt: HostRuntime) -> Result<(), Fail> {
     let alloc = rt.alloc();
     for line in WRONG.split('\n') {
-        let mut world = Memory::new(&rt, alloc, bytes_of(alloc, &[GREY])?);
-        let status = run_line(alloc, &mut world, line)?;
-        assert_eq!(rt; status, Status::WrongLine, "{line}: {}", world.error);
-        assert_eq!(rt; world.output.len(), 0, "{line}");
-        assert!(rt; !world.error.is_empty(), "{line}");
+        check_wrong(&rt, alloc, line)?;
     }
     for line in ["--help", "--version", "encode --help", "faults"] {
-        let mut world = Memory::new(&rt, alloc, bytes_of(alloc, &[GREY])?);
-        let status = run_line(alloc, &mut world, line)?;
-        assert_eq!(rt; status, Status::Done, "{line}: {}", world.error);
-        assert!(rt; !world.output.is_empty(), "{line}");
-        assert_eq!(rt; world.error.len(), 0, "{line}");
-        world.is_full = true;
-        assert_eq!(rt;
-            run_line(alloc, &mut world, line)?,
-            Status::Refused,
-            "{line}"
-        );
-        assert!(rt;
-            world.error.as_str() == "jk: F20 Shelf\n",
-            "{line}: {}",
-            world.error
-        );
+        check_asked(&rt, alloc, line)?;
     }
-    assert_eq!(rt; Status::Done.code(), 0);
-    assert_eq!(rt; Status::Refused.code(), 1);
-    assert_eq!(rt; Status::WrongLine.code(), 2);
+    let codes = (
+        Status::Done.code(),
+        Status::Refused.code(),
+        Status::WrongLine.code(),
+    );
+    equal(codes, (0, 1, 2)).expect(&rt, "the statuses of the program");
     Ok(())
 }

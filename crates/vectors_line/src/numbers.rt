@@ -1,10 +1,14 @@
 //! Negative numbers on a command line.
 
-use crate::lines::{GREY, run_line};
+use crate::lines::GREY;
 use crate::memory::Memory;
+use crate::runs::{check_run, run_line};
 use jk_line::Status;
+use std::alloc::Global;
+use std::process::Abort;
 use std::test::Fail;
-use vectors::bytes_of;
+use std::thread::Threads;
+use vectors::{Line, bytes_of, equal_at};
 
 /// Command lines with a negative number, and how each is refused.
 static NEGATIVE: &str = "\
@@ -20,23 +24,30 @@ add d a - --levels=-3|invalid value '-3' for '--levels <N>': -3 is not in 0..=42
 serve d --port -80|invalid value '-80' for '--port <P>': -80 is not in 0..=65535
 serve d --port 80 --connections -1|invalid value '-1' for '--connections <K>': -1 is not in 0..=4294967295";
 
+/// Runs a command line that is refused for a number.
+fn check_number<R: Abort + Threads + Sync>(
+    rt: &R,
+    alloc: Global,
+    line: &str,
+    wanted: &str,
+) -> Result<(), Fail> {
+    let mut world = Memory::new(rt, alloc, bytes_of(alloc, &[GREY])?);
+    let status = run_line(alloc, &mut world, line)?;
+    let said = world.error.as_str();
+    let found = (status, world.output.len(), said.contains(wanted));
+    equal_at((line, said), found, (Status::WrongLine, 0, true)).expect(rt, "a negative number");
+    Ok(())
+}
+
 /// A negative number is a value, which none of the options has.
 #[test]
 fn negative_numbers_are_values(rt: HostRuntime) -> Result<(), Fail> {
     let alloc = rt.alloc();
     for row in NEGATIVE.split('\n') {
-        let Some((line, wanted)) = row.split_once('|') else {
-            return Err("a line and its refusal".into());
-        };
-        let mut world = Memory::new(&rt, alloc, bytes_of(alloc, &[GREY])?);
-        let status = run_line(alloc, &mut world, line)?;
-        assert_eq!(rt; status, Status::WrongLine, "{line}: {}", world.error);
-        assert_eq!(rt; world.output.len(), 0, "{line}");
-        assert!(rt;
-            world.error.as_str().contains(wanted),
-            "{line}: {}",
-            world.error
-        );
+        let mut fields = Line::new(row, '|');
+        let (line, wanted) = (fields.word(), fields.word());
+        fields.end().expect(&rt, "a line and its refusal");
+        check_number(&rt, alloc, line, wanted)?;
     }
     Ok(())
 }
@@ -48,12 +59,7 @@ fn negative_precincts_are_judged(rt: HostRuntime) -> Result<(), Fail> {
     let alloc = rt.alloc();
     let mut world = Memory::new(&rt, alloc, bytes_of(alloc, &[GREY])?);
     let line = "encode - - --explain --precincts -1";
-    assert_eq!(rt; run_line(alloc, &mut world, line)?, Status::Refused);
-    assert!(rt;
-        world.error.as_str()
-            == "jk: F15 BadParameters\n--precincts is -1, and may have pairs of hexadecimal digits\n",
-        "{}",
-        world.error
-    );
-    Ok(())
+    let error =
+        "jk: F15 BadParameters\n--precincts is -1, and may have pairs of hexadecimal digits\n";
+    check_run(&rt, alloc, &mut world, line, Status::Refused, &[], error)
 }

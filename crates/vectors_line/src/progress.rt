@@ -1,15 +1,15 @@
 //! How far work is, in words, and what a world is told of it.
 
-use crate::lines::{COLUMN, GREY, run_line};
+use crate::lines::{COLUMN, GREY};
 use crate::memory::Memory;
+use crate::runs::{run_line, world_of};
 use jk_line::{Progress, Status, Work};
-use jk_store::MemoryShelf;
 use std::alloc::Global;
 use std::process::Abort;
 use std::sync::atomic::Ordering;
 use std::test::Fail;
 use std::thread::Threads;
-use vectors::bytes_of;
+use vectors::{bytes_of, equal, equal_at};
 
 /// Checks the words of how far work is.
 fn check_words(
@@ -19,7 +19,7 @@ fn check_words(
     words: &str,
 ) -> Result<(), Fail> {
     let text = format!(in alloc; "{progress}")?;
-    assert!(rt; text.as_str() == words, "{text}");
+    equal(text.as_str(), words).expect(rt, "how far work is");
     Ok(())
 }
 
@@ -60,18 +60,12 @@ fn check_told<R: Abort + Threads + Sync>(
     work: Work,
     size: u64,
 ) -> Result<(), Fail> {
-    let mut world = Memory::new(rt, alloc, bytes_of(alloc, &[input])?);
-    let name = String::from_str(alloc, "d")?;
-    world.folders.insert(name, MemoryShelf::new(alloc))?;
+    let mut world = world_of(rt, alloc, bytes_of(alloc, &[input])?, &[])?;
     let found = run_line(alloc, &mut world, line)?;
-    assert_eq!(rt; found, status, "{line}: {}", world.error);
-    assert!(rt;
-        world.begun.as_slice() == [(work, size)].as_slice(),
-        "{line}: {}",
-        world.error
-    );
-    assert_eq!(rt; world.ended, 1, "{line}");
-    assert_eq!(rt; world.is_quiet, line.contains("--quiet"), "{line}");
+    let is_begun = world.begun.as_slice() == [(work, size)].as_slice();
+    let found = (found, is_begun, world.ended, world.is_quiet);
+    let due = (status, true, 1, line.contains("--quiet"));
+    equal_at((line, world.error.as_str()), found, due).expect(rt, "what a world is told");
     Ok(())
 }
 
@@ -137,8 +131,8 @@ fn code_blocks_are_counted(rt: HostRuntime) -> Result<(), Fail> {
         input.resize(input.len() + 130 * 70, 7)?;
         let mut world = Memory::new(&rt, alloc, input);
         let status = run_line(alloc, &mut world, line)?;
-        assert_eq!(rt; status, Status::Done, "{line}: {}", world.error);
-        assert_eq!(rt; world.counter.coded.load(Ordering::SeqCst), coded, "{line}");
+        let found = (status, world.counter.coded.load(Ordering::SeqCst));
+        equal_at((line, world.error.as_str()), found, (Status::Done, coded)).expect(&rt, "a count");
     }
     Ok(())
 }

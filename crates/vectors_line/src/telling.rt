@@ -1,13 +1,12 @@
 //! The lines of `jk info --all`.
 
-use crate::lines::{BOXES, CODING, COLOURS, COLUMN, GREY, SIZE, STEPS, run_line};
-use crate::memory::Memory;
-use jk_line::Status;
+use crate::lines::{BOXES, CODING, COLOURS, COLUMN, GREY, SIZE, STEPS};
+use crate::runs::written;
 use std::alloc::Global;
 use std::process::Abort;
 use std::test::Fail;
 use std::thread::Threads;
-use vectors::bytes_of;
+use vectors::{bytes_of, equal, equal_at};
 
 /// The lines of a JP2 file of the grey pixel without levels.
 static PIXEL_LINES: &str = "\
@@ -104,18 +103,14 @@ static SIX: &str = "50360A 332032 0A 323535 0A 010203 040506 070809 0A0B0C 0D0E0
 static SIX_OPTIONS: &str =
     "--levels 1 --sop --eph --reset --causal --segments --precincts 4556 --tile-width 2 --tile-height 4 --block-x 5 --block-y 4";
 
-/// What a command line writes of an input.
-fn written<R: Abort + Threads + Sync>(
+/// The lines of a file.
+fn lines_of<R: Abort + Threads + Sync>(
     rt: &R,
     alloc: Global,
-    line: &str,
-    input: Vec<u8>,
-) -> Result<Vec<u8>, Fail> {
-    let mut world = Memory::new(rt, alloc, input);
-    let status = run_line(alloc, &mut world, line)?;
-    assert_eq!(rt; status, Status::Done, "{line}: {}", world.error);
-    assert_eq!(rt; world.error.len(), 0, "{line}");
-    Ok(world.output)
+    file: Vec<u8>,
+) -> Result<String, Fail> {
+    let told = written(rt, alloc, "info - --all", file)?;
+    Ok(String::from_utf8(told).map_err(|_| "the lines are text")?)
 }
 
 /// Checks the lines of a file.
@@ -125,9 +120,8 @@ fn check_lines<R: Abort + Threads + Sync>(
     file: &[&str],
     lines: &str,
 ) -> Result<(), Fail> {
-    let told = written(rt, alloc, "info - --all", bytes_of(alloc, file)?)?;
-    let text = String::from_utf8(told).map_err(|_| "the lines are text")?;
-    assert!(rt; text.as_str() == lines, "{text}");
+    let text = lines_of(rt, alloc, bytes_of(alloc, file)?)?;
+    equal(text.as_str(), lines).expect(rt, "the lines of a file");
     Ok(())
 }
 
@@ -148,8 +142,8 @@ fn the_first_line_stays(rt: HostRuntime) -> Result<(), Fail> {
     let alloc = rt.alloc();
     let line = written(&rt, alloc, "info -", bytes_of(alloc, &[COLUMN])?)?;
     let lines = written(&rt, alloc, "info - --all", bytes_of(alloc, &[COLUMN])?)?;
-    assert!(rt; lines.as_slice().starts_with(line.as_slice()));
-    assert!(rt; line.len() < lines.len());
+    let stands_first = lines.as_slice().starts_with(line.as_slice());
+    equal((stands_first, line.len() < lines.len()), (true, true)).expect(&rt, "the first line");
     Ok(())
 }
 
@@ -170,9 +164,9 @@ fn boxes_are_told(rt: HostRuntime) -> Result<(), Fail> {
         PIXEL_PART,
         BOXES_BEHIND,
     ];
-    let told = written(&rt, alloc, "info - --all", bytes_of(alloc, &file)?)?;
-    let text = String::from_utf8(told).map_err(|_| "the lines are text")?;
-    assert!(rt; text.as_str().contains(BEHIND_LINE), "{text}");
+    let text = lines_of(&rt, alloc, bytes_of(alloc, &file)?)?;
+    let is_told = text.as_str().contains(BEHIND_LINE);
+    equal_at(text.as_str(), is_told, true).expect(&rt, "the line of boxes");
     Ok(())
 }
 
@@ -198,9 +192,23 @@ passed-over: none
 sizes: 3x2 2x1
 "
     )?;
-    let told = written(&rt, alloc, "info - --all", file)?;
-    let text = String::from_utf8(told).map_err(|_| "the lines are text")?;
-    assert!(rt; text.as_str() == wanted.as_str(), "{text}");
+    let text = lines_of(&rt, alloc, file)?;
+    equal(text.as_str(), wanted.as_str()).expect(&rt, "what was asked for");
+    Ok(())
+}
+
+/// Checks how the lines of what a command line writes of an input end.
+fn check_end<R: Abort + Threads + Sync>(
+    rt: &R,
+    alloc: Global,
+    line: &str,
+    input: &str,
+    wanted: &str,
+) -> Result<(), Fail> {
+    let file = written(rt, alloc, line, bytes_of(alloc, &[input])?)?;
+    let text = lines_of(rt, alloc, file)?;
+    let is_end = text.as_str().ends_with(wanted);
+    equal_at((line, text.as_str()), is_end, true).expect(rt, "the last lines");
     Ok(())
 }
 
@@ -208,23 +216,16 @@ sizes: 3x2 2x1
 #[test]
 fn empty_reductions_have_no_size(rt: HostRuntime) -> Result<(), Fail> {
     let alloc = rt.alloc();
-    for (options, sizes) in [
-        ("--levels 1 --x0 1", "\nsizes: 1x1\n"),
-        ("--levels 2", "\nsizes: 1x1 1x1 1x1\n"),
+    for (line, input, wanted) in [
+        ("encode - - --levels 1 --x0 1", GREY, "\nsizes: 1x1\n"),
+        ("encode - - --levels 2", GREY, "\nsizes: 1x1 1x1 1x1\n"),
+        (
+            "encode - - --raw --levels 0 --no-colour",
+            COLOURS,
+            "\ncolour-transform: none\npassed-over: none\nsizes: 1x1\n",
+        ),
     ] {
-        let line = format!(in alloc; "encode - - {options}")?;
-        let file = written(&rt, alloc, line.as_str(), bytes_of(alloc, &[GREY])?)?;
-        let told = written(&rt, alloc, "info - --all", file)?;
-        let text = String::from_utf8(told).map_err(|_| "the lines are text")?;
-        assert!(rt; text.as_str().ends_with(sizes), "{text}");
+        check_end(&rt, alloc, line, input, wanted)?;
     }
-    let line = "encode - - --raw --levels 0 --no-colour";
-    let file = written(&rt, alloc, line, bytes_of(alloc, &[COLOURS])?)?;
-    let told = written(&rt, alloc, "info - --all", file)?;
-    let text = String::from_utf8(told).map_err(|_| "the lines are text")?;
-    assert!(rt;
-        text.as_str().contains("\ncolour-transform: none\n"),
-        "{text}"
-    );
     Ok(())
 }

@@ -13,7 +13,7 @@ from typing import BinaryIO, Dict, List, Optional, Tuple
 
 #: Bytes of a value, by its type.
 SIZES = {1: 1, 2: 1, 3: 2, 4: 4, 5: 8, 6: 1, 7: 1, 8: 2, 9: 4, 10: 8, 11: 4, 12: 8, 13: 4, 16: 8, 17: 8, 18: 8}
-SHORT, LONG, RATIONAL, UNDEFINED = 3, 4, 5, 7
+ASCII, SHORT, LONG, RATIONAL, UNDEFINED, DOUBLE = 2, 3, 4, 5, 7, 12
 #: The longest field that is read.
 MOST = 1 << 24
 WHITE, ACROSS, DOWN, UNIT, ORIENTATION, XMP = 262, 282, 283, 296, 274, 700
@@ -21,6 +21,8 @@ IPTC, PROFILE, EXIF, GPS, INTEROPERABILITY = 33723, 34675, 34665, 34853, 40965
 #: Text of the first directory that goes with EXIF: names of document and page, description, maker, model, software,
 #: date, artist, computer, copyright.
 TEXTS = (269, 270, 271, 272, 285, 305, 306, 315, 316, 33432)
+#: GeoTIFF's fields: the size of a pixel, tie points, transformation, directory of keys, numbers and texts of these.
+GEO = (33550, 33922, 34264, 34735, 34736, 34737)
 UNITS = {1: "none", 2: "inch", 3: "centimetre"}
 #: Tags that tell how samples lie in the file, or what is known of it otherwise.
 LAYOUT = {254, 255, 256, 257, 258, 259, 262, 263, 266, 273, 277, 278, 279, 280, 281, 284, 292, 293, 297, 317, 322, 323,
@@ -28,7 +30,7 @@ LAYOUT = {254, 255, 256, 257, 258, 259, 262, 263, 266, 273, 277, 278, 279, 280, 
 #: What other tags are called.
 NAMES = {290: "grey response curve", 291: "grey response curve", 301: "transfer function", 318: "white point",
          319: "primary chromaticities", 330: "images inside the image", 34377: "Photoshop's resources",
-         37724: "Photoshop's layers", **dict.fromkeys((33550, 33922, 34264, 34735, 34736, 34737), "GeoTIFF")}
+         37724: "Photoshop's layers", **dict.fromkeys(GEO, "GeoTIFF")}
 
 
 class Damaged(ValueError):
@@ -183,6 +185,8 @@ class Kept:
     orientation: Optional[int] = None
     #: Whether the least sample is white.
     white_is_zero: bool = False
+    #: Where the image stands on the Earth: GeoTIFF's fields by their tags, the lower byte of a value first.
+    geo: Tuple[Tuple[int, Field], ...] = ()
 
     def tells_the_same(self, other: "Kept") -> bool:
         """Whether both tell the same, in whatever unit of length."""
@@ -200,6 +204,7 @@ class Kept:
             "profile": self.profile, "resolution": self.resolution and not self.resolution.says_nothing(),
             "XMP": self.xmp, "IPTC": self.iptc, "EXIF": self.exif,
             "orientation": self.orientation not in (None, 1), "that the least sample is white": self.white_is_zero,
+            "GeoTIFF": self.geo,
         }
         return [name for name, is_told in told.items() if is_told]
 
@@ -212,12 +217,13 @@ def kept_of(stream: Stream, directory: Directory) -> Tuple[Kept, List[str]]:
     whole = {tag: directory[tag].data or b"" for tag in (PROFILE, XMP, IPTC) if tag in directory}
     described = {tag: _classic(directory[tag], lost) for tag in (*TEXTS, EXIF, GPS)
                  if tag in directory and directory[tag].data is not None and directory[tag].kind <= 13}
-    known = {*LAYOUT, *described, *(tag for tag in whole if whole[tag]), ACROSS, DOWN, UNIT, ORIENTATION}
+    geo = _geo(stream, directory)
+    known = {*LAYOUT, *described, *dict(geo), *(tag for tag in whole if whole[tag]), ACROSS, DOWN, UNIT, ORIENTATION}
     lost += [NAMES.get(tag, f"tag {tag}") for tag in directory if tag not in known]
     kept = Kept(
         profile=whole.get(PROFILE, b""), resolution=resolution, xmp=whole.get(XMP, b""),
         iptc=_iptc(whole.get(IPTC, b"")), exif=_stream(stream.order, described),
-        orientation=orientation if orientation in range(1, 9) else None, white_is_zero=white == 0,
+        orientation=orientation if orientation in range(1, 9) else None, white_is_zero=white == 0, geo=geo,
     )
     return kept, list(dict.fromkeys(lost))
 
@@ -228,6 +234,38 @@ def _iptc(data: bytes) -> bytes:
     if data[:1] != b"\x1c" and data[3:4] == b"\x1c" and len(data) % 4 == 0:
         return b"".join(data[at : at + 4][::-1] for at in range(0, len(data), 4))
     return data
+
+
+def _geo(stream: Stream, directory: Directory) -> Tuple[Tuple[int, Field], ...]:
+    """GeoTIFF's fields of a directory, as `Kept` has them."""
+    found = {tag: directory[tag] for tag in GEO if tag in directory}
+    return tuple((tag, in_order(field, stream.order, "<")) for tag, field in found.items()
+                 if field.data is not None and field.kind in (ASCII, SHORT, DOUBLE))
+
+
+def in_order(field: Field, old: str, new: str) -> Field:
+    """A field of plain values in another byte order."""
+    data, size = field.data or b"", SIZES[field.kind]
+    if old == new or size == 1:
+        return field
+    return replace(field, data=b"".join(data[at : at + size][::-1] for at in range(0, len(data), size)))
+
+
+def geo_stream(kept: Kept) -> bytes:
+    """A GeoTIFF file of one black pixel with GeoTIFF's fields, as GeoJP2 has it in a box."""
+    def word(number: int) -> Field:
+        return Field(LONG, 1, struct.pack("<L", number))
+
+    pixel = dict.fromkeys((256, 257, 259, 262, 277, 278, 279), word(1))
+    fields = {**dict(kept.geo), **pixel, 258: word(8), 273: word(0)}
+    fields[273] = word(len(stream_of("<", fields)))
+    return stream_of("<", fields) + b"\0"
+
+
+def geo_of(data: bytes) -> Tuple[Tuple[int, Field], ...]:
+    """GeoTIFF's fields of such a file: the inverse of `geo_stream`."""
+    stream = Stream(io.BytesIO(data))
+    return _geo(stream, stream.directory(stream.first)[0])
 
 
 def _stream(order: str, directory: Directory) -> bytes:
@@ -279,6 +317,7 @@ def fields_of(kept: Kept) -> Directory:
     for tag, kind, data in ((PROFILE, UNDEFINED, kept.profile), (XMP, 1, kept.xmp), (IPTC, UNDEFINED, kept.iptc)):
         if data:
             fields[tag] = Field(kind, len(data), data)
+    fields.update((tag, in_order(field, "<", order)) for tag, field in kept.geo)
     if kept.orientation is not None:
         fields[ORIENTATION] = Field(SHORT, 1, struct.pack(f"{order}H", kept.orientation))
     if kept.resolution is not None:
@@ -301,7 +340,7 @@ def _of_units(resolution: Resolution) -> Tuple[List[Tuple[int, int]], int]:
 def exif_of(kept: Kept, with_profile: bool = False) -> bytes:
     """EXIF with orientation, resolution, and whether the least sample is white, by which these are told exactly; and with
     the profile, where nothing else has it."""
-    fields = fields_of(replace(kept, profile=kept.profile if with_profile else b"", xmp=b"", iptc=b""))
+    fields = fields_of(replace(kept, profile=kept.profile if with_profile else b"", xmp=b"", iptc=b"", geo=()))
     if kept.white_is_zero:
         fields[WHITE] = Field(SHORT, 1, struct.pack(f"{order_of(kept)}H", 0))
     return _stream(order_of(kept), fields)

@@ -37,6 +37,8 @@ def words() -> argparse.ArgumentParser:
                         help="go on with the table: files are passed over of which rows stand and OUT has its digest")
     parser.add_argument("--strict", action="store_true",
                         help="refuse files of which something isn't carried that stands beside the samples")
+    parser.add_argument("--geo", action="store_true",
+                        help="carry where an image stands on the Earth: GeoTIFF's fields, in JP2 the box of GeoJP2")
     parser.add_argument("--workers", type=int, default=1, metavar="N", help="processes, 1 to 64, of a file each (1)")
     parser.add_argument("--into", metavar="ARCHIVE", help="add to an archive, in the place of OUT")
     parser.add_argument("--jk", metavar="PROGRAM", help="the program jk, for --into; without it the one on the PATH")
@@ -60,7 +62,7 @@ def words() -> argparse.ArgumentParser:
 
 def how_of(asked: argparse.Namespace) -> Dict[str, Any]:
     """What was asked for, as `convert` takes it."""
-    names = ("to", "strict", "into", "windows", "levels", "layers", "order", "reset", "causal", "segments", "sop",
+    names = ("to", "strict", "geo", "into", "windows", "levels", "layers", "order", "reset", "causal", "segments", "sop",
              "eph", "raw")
     how = {name: getattr(asked, name) for name in names if getattr(asked, name) not in (None, False)}
     if asked.no_colour:

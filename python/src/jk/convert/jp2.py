@@ -15,6 +15,7 @@ from .images import Picture, Refused
 
 #: What isn't carried of a profile that JP2 doesn't take.
 IN_EXIF = "the profile outside EXIF (JP2 takes restricted ones alone)"
+#: The UUID of GeoJP2's box.
 GEO = bytes.fromhex("b14bf8bd083d4b43a5ae8cd7d5a6ce03")
 #: Colour spaces whose samples are grey or RGB.
 SPACES = ("sRGB", "grey", None)
@@ -50,7 +51,16 @@ def beside(data: np.ndarray) -> Tuple[Kept, List[str]]:
     if found.resolution is not None and not _is_rounded(kept.resolution, found.resolution):
         kept = replace(kept, resolution=_of_inches(found.resolution))
     kept = replace(kept, profile=found.profile or kept.profile, xmp=found.xmp or kept.xmp, iptc=found.iptc or kept.iptc)
-    return kept, list(dict.fromkeys([*lost, *_others(found), *_boxes(data.data)]))
+    boxes = list(found.uuids)
+    geo = next((it for it in boxes if it[0] == GEO), None)
+    if geo is not None:
+        boxes.remove(geo)
+        try:
+            kept = replace(kept, geo=_beside.geo_of(geo[1]))
+        except Damaged:
+            lost.append("GeoJP2 that can't be read")
+    others = _others(replace(found, uuids=tuple(boxes)))
+    return kept, list(dict.fromkeys([*lost, *others, *_boxes(data.data)]))
 
 
 def _is_rounded(exact: Optional[Resolution], found: Tuple[Fraction, Fraction]) -> bool:
@@ -131,5 +141,5 @@ def extras_of(kept: Kept) -> _extras.Extras:
         resolution = tuple(it / _extras.METRE for it in told) if all(told) else None
     return _extras.Extras(
         profile=kept.profile or None, resolution=resolution, xmp=kept.xmp or None, iptc=kept.iptc or None,
-        exif=_beside.exif_of(kept) or None,
+        exif=_beside.exif_of(kept) or None, uuids=((GEO, _beside.geo_stream(kept)),) if kept.geo else (),
     )

@@ -20,6 +20,8 @@ from .rows import Row
 READERS: Dict[str, Callable[[str], Iterator[Picture]]] = {
     "tiff": tiff.pictures, "png": png.pictures, "pnm": pnm.pictures, "jp2": jp2.pictures,
 }
+#: What isn't carried where it isn't asked for.
+GEO_LEFT = "GeoTIFF (--geo carries it)"
 WRITERS: Dict[str, Callable[[BinaryIO, Picture], List[str]]] = {
     "tiff": tiff_writing.write, "png": png.write, "pnm": pnm.write,
 }
@@ -34,6 +36,8 @@ class Asked:
     #: Whether a file is refused of which something isn't carried.
     strict: bool = False
     raw: bool = False
+    #: Whether it is carried where an image stands on the Earth.
+    geo: bool = False
     #: The parameters of `jk.encode`.
     parameters: Dict[str, Any] = field(default_factory=dict)
     #: An archive that files are added to, by a program `jk`.
@@ -98,6 +102,8 @@ def converted(job: Job) -> List[Row]:
             judge_kinds(kind, asked.to)
             count = len(tiff.directories_of(job.source)) if kind == "tiff" else 1
             for number, picture in enumerate(READERS[kind](job.source), 1):
+                if picture.kept.geo and not asked.geo:
+                    picture = replace(picture, kept=replace(picture.kept, geo=()), lost=(*picture.lost, GEO_LEFT))
                 reader = agreed(job.source, kind, picture)
                 notes = [*picture.notes, f"read again by {reader}" if reader else "read by one reader alone"]
                 stem = f"{job.stem}-{number:04}" if count > 1 else job.stem
@@ -155,8 +161,8 @@ def read_back(path: str, kind: str, picture: Picture, out: str) -> List[str]:
     back, = READERS[kind](path)
     if back.samples.dtype != picture.samples.dtype or not np.array_equal(back.samples, picture.samples):
         raise Refused("what was written reads back with other samples")
-    # PNG has no place for IPTC, and PGM, PPM and a bare codestream for nothing.
-    due = replace(picture.kept, iptc=b"") if kind == "png" else picture.kept
+    # PNG has no place for IPTC and GeoTIFF, and PGM, PPM and a bare codestream for nothing.
+    due = replace(picture.kept, iptc=b"", geo=()) if kind == "png" else picture.kept
     has_place = kind in ("tiff", "png") or kind == "jp2" and out.lower().endswith(".jp2")
     if has_place and not back.kept.that_says().tells_the_same(due.that_says()):
         raise Refused("what was written reads back with other things beside the samples")

@@ -255,4 +255,4 @@ def _put_kept(out: BinaryIO, kept: Kept) -> List[str]:
     exif = exif_of(kept)
     if exif:
         _put(out, b"eXIf", exif)
-    return ["IPTC"] * bool(kept.iptc)
+    return ["IPTC"] * bool(kept.iptc) + ["GeoTIFF"] * bool(kept.geo)
