@@ -1,5 +1,5 @@
 -- The window of a view, by the test and by what it says.
-use Rattle.std.proofs.Common.{◌≡◌, Bool, true, false, not, length, Result, Ok, Err, refl, sym, ◌∙◌}
+use Rattle.std.proofs.Common.{◌≡◌, Bool, true, false, not, length, Result, Ok, Err, refl, sym}
 use Rattle.std.proofs.lemmas.Bool.{not-false}
 use Rattle.jk_math.specs.Answer.{◌>>=◌, refuse}
 use Rattle.jk_math.specs.Steps.{refuse_then, ok_is}

@@ -1,8 +1,16 @@
 pub mod Stretches
+pub mod SharedCells
+pub mod NeededCells
+pub mod NeededRows
+pub mod Pieces
+pub mod Among
+pub mod NumberedNames
+pub mod Adding
 pub mod Levels
 pub mod FramingLaws
 pub mod IndexLaws
 pub mod Runs
+pub mod PartLaws
 pub mod RunMatching
 pub mod Lengths
 pub mod EmptiedLaws
@@ -19,6 +27,10 @@ pub mod NeededPlaces
 pub mod PacketPlans
 pub mod FramedFile
 pub mod PlanLaws
+pub mod NumberedPlans
+pub mod EmptyTexts
+pub mod Passing
+pub mod Beside
 pub mod PartPlans
 pub mod RunPlans
 pub mod Laws

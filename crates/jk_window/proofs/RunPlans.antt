@@ -19,7 +19,7 @@ use Rattle.jk_window.specs.declared.view.View.{View}
 use Rattle.jk_window.specs.Views.{layers_in}
 use Rattle.jk_window.specs.Indexing.{IndexFields, entries_of}
 use Rattle.jk_window.specs.Cutting.{Entered, run_at, runs_at, wanted}
-use Rattle.jk_window.specs.Planning.{PlanFields, plan_text, plan_length, IsBehind, tile_packet, tile_packet_size, run_from, IsRunPlan, AreTilePlans, ArePlansUpto, packet_from, packet_size, no_plan}
+use Rattle.jk_window.specs.Planning.{PlanFields, plan_text, plan_length, IsBehind, tile_packet, tile_packet_size, run_from, IsRunPlan, AreTilePlans, TilePlanFields, no_tile, IsTilePlan, ArePlansUpto, packet_from, packet_size, no_plan}
 use Rattle.jk_window.proofs.PlanLaws.{plan_of, planned-nil}
 use Rattle.jk_window.proofs.Runs.{run_more, runs_step, runs_over, runs_length}
 
@@ -175,12 +175,12 @@ tile_plans i w v t n c names parts plans all size shape named entries eph start 
 
 -- ---- all tiles
 
-pub plans_push : (i : IndexFields) (w : Rect) (v : View) (n : ℕ) (all new : List (List PlanFields)) (x : List PlanFields) → ArePlansUpto i w v n all → AreTilePlans i w v n x → new ≡ all ++ x ∷ [] → ArePlansUpto i w v (n + 1) new
+pub plans_push : (i : IndexFields) (w : Rect) (v : View) (n : ℕ) (all new : List TilePlanFields) (x : TilePlanFields) → ArePlansUpto i w v n all → IsTilePlan i w v n x → new ≡ all ++ x ∷ [] → ArePlansUpto i w v (n + 1) new
 plans_push i w v n all new x before here pushed = subst (ArePlansUpto i w v (n + 1)) (sym pushed) record {
   count = (let count = before.count in omega (arith, count, length-append all (x ∷ [])));
   each = λ t lt. elim (cases_lt t n) [
-    | inl less ↦ subst (AreTilePlans i w v t) (sym (get_or_append_left all (x ∷ []) [] t (omega (arith, less, before.count)))) (before.each t less)
+    | inl less ↦ subst (IsTilePlan i w v t) (sym (get_or_append_left all (x ∷ []) no_tile t (omega (arith, less, before.count)))) (before.each t less)
     | inr none ↦ (let same : n ≡ t = omega (arith, lt, none) in
-        subst (AreTilePlans i w v t) (sym (get_or_push all x [] t (before.count ∙ same))) (subst (λ k. AreTilePlans i w v k x) same here))
+        subst (IsTilePlan i w v t) (sym (get_or_push all x no_tile t (before.count ∙ same))) (subst (λ k. IsTilePlan i w v k x) same here))
   ];
 }

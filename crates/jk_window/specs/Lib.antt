@@ -1,11 +1,15 @@
 pub mod Views
 pub mod Needs
+pub mod NeededNumbers
 pub mod Emptied
 pub mod Framing
 pub mod Indexing
 pub mod Cutting
+pub mod PartEnds
+pub mod Emptying
 pub mod Planning
 pub mod Again
 pub mod Fronts
 pub mod Examples
 pub mod Judging
+pub mod Numbered

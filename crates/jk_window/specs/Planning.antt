@@ -1,6 +1,6 @@
 -- The file of a window from what an index keeps: stretches of the stored file, and what is written
 -- between them.
-use Rattle.std.specs.Prelude.{◌≡◌, ℕ, ◌+◌, ◌-◌, ◌<◌, ◌≤◌, ◌^◌, Bool, true, if◌then◌else◌, List, [], ◌∷◌, ◌++◌, length}
+use Rattle.std.specs.Prelude.{◌≡◌, ℕ, ◌+◌, ◌-◌, ◌<◌, ◌≤◌, ◌^◌, Bool, true, false, if◌then◌else◌, List, [], ◌∷◌, ◌++◌, length}
 use Rattle.std.specs.Prelude.{take, drop, sum_by, slice_index_or, Result, Ok, Err}
 use Rattle.std.specs.List.{flat_map, AllByRecursion, zip}
 use Rattle.jk_math.specs.declared.fault.Fault.{Fault}
@@ -9,7 +9,7 @@ use Rattle.jk_math.specs.declared.rect.Rect.{Rect}
 use Rattle.jk_marks.specs.declared.part_head.PartHead.{PartHead}
 use Rattle.jk_marks.specs.Siz.{tile_count}
 use Rattle.jk_marks.specs.Markers.{eoc, marker_text}
-use Rattle.jk_marks.specs.PartHeads.{psot_for, heads_text}
+use Rattle.jk_marks.specs.PartHeads.{psot_for, part_head, heads_text}
 use Rattle.jk_boxes.specs.declared.boxes.Form.{Form}
 use Rattle.jk_boxes.specs.declared.place.Boxed.{Boxed}
 use Rattle.jk_boxes.specs.Boxes.{head_size, head_text, code_kind}
@@ -27,6 +27,7 @@ use Rattle.jk_window.specs.declared.contents.TileCut.{TileCut}
 use Rattle.jk_window.specs.declared.view.View.{View}
 use Rattle.jk_window.specs.Framing.{Frame}
 use Rattle.jk_window.specs.Indexing.{IndexFields, IsIndexOf, entries_of}
+use Rattle.jk_window.specs.PartEnds.{HaveNoCounters, AreEnds}
 use Rattle.jk_window.specs.Cutting.{Entered, keeps, wanted, run_at, runs_at, cut_file}
 
 -- ---- a plan
@@ -113,6 +114,11 @@ part_from file i w v t n =
     flat_map (packet_from file i.place.start (keeps i.headers w v t) (tile_in i.headers.tiles t).cod.eph)
     (part_packets i t n)
 
+-- the part itself, with this head and these segments
+abbrev pub part_text_from : (file : List ℕ) → IndexFields → (w : Rect) → View → PartHead → List ℕ → List ℕ
+part_text_from file i w v h segments =
+    part_head h segments (length (part_from file i w v h.tile h.number)) ++ part_from file i w v h.tile h.number
+
 -- how many bytes these are, by the index alone
 abbrev pub part_size : IndexFields → (w : Rect) → View → (t n : ℕ) → ℕ
 part_size i w v t n =
@@ -130,6 +136,8 @@ pub record IsTileCut (file : ℕ) (c : TileCut) : Type 0 where
   pub right : c.top.x1 < 2 ^ 31
   pub lower : c.top.y1 < 2 ^ 31
   pub few : c.reduce ≤ 10
+  pub ends : AreEnds 0 (length c.entries.now) c.parts.now.ends.items
+  pub counters : c.parts.now.counted ≡ false → HaveNoCounters c.entries.now
 
 -- what is made of a packet of it, and how many bytes that are
 abbrev pub tile_packet : TileCut → (file : List ℕ) → Entered → List ℕ
@@ -164,10 +172,28 @@ pub record AreTilePlans (i : IndexFields) (w : Rect) (v : View) (t : ℕ) (plans
   pub count : length plans ≡ length (tile_in i.headers.tiles t).data_places
   pub each : (n : ℕ) → n < length plans → IsPartPlan i w v t n (slice_index_or plans n no_plan)
 
+-- No packet of tile t is kept, and none has an SOP.
+pub record AreEmptied (i : IndexFields) (w : Rect) (v : View) (t : ℕ) : Type 0 where
+  pub none : (n : PacketName) → keeps i.headers w v t n ≡ false
+  pub counters : HaveNoCounters (entries_of i.packets t)
+
+-- the plans of a tile's parts, of which there are none where all packets are emptied and have no
+-- SOP
+pub record TilePlanFields : Type 0 where
+  pub is_emptied : Bool
+  pub plans : List PlanFields
+
+abbrev pub no_tile : TilePlanFields
+no_tile = record { is_emptied = false; plans = [] }
+
+pub record IsTilePlan (i : IndexFields) (w : Rect) (v : View) (t : ℕ) (p : TilePlanFields) : Type 0 where
+  pub emptied : p.is_emptied ≡ true → AreEmptied i w v t
+  pub planned : p.is_emptied ≡ false → AreTilePlans i w v t p.plans
+
 -- the plans of the first n tiles
-pub record ArePlansUpto (i : IndexFields) (w : Rect) (v : View) (n : ℕ) (all : List (List PlanFields)) : Type 0 where
+pub record ArePlansUpto (i : IndexFields) (w : Rect) (v : View) (n : ℕ) (all : List TilePlanFields) : Type 0 where
   pub count : length all ≡ n
-  pub each : (t : ℕ) → t < n → AreTilePlans i w v t (slice_index_or all t [])
+  pub each : (t : ℕ) → t < n → IsTilePlan i w v t (slice_index_or all t no_tile)
 
 -- ---- the file
 

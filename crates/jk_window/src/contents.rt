@@ -13,6 +13,7 @@ ghost use Rattle.jk_window.specs.Judging.{is_needed_in, IsJudged};
 ghost use Rattle.jk_window.specs.Planning.{IsTileCut, IsRunPlan, IsBehind, tile_packet, tile_packet_size, run_from};
 
 use crate::need::needs;
+use crate::parts::PartEnds;
 use crate::steps::CutPlan;
 use jk_geom::{PacketName, TileShape, is_empty};
 use jk_math::{Fault, Rect};
@@ -24,6 +25,7 @@ use std::alloc::Global;
 pub(crate) struct TileCut<'a> {
     pub(crate) shape: &'a TileShape,
     pub(crate) entries: &'a TileEntries,
+    pub(crate) parts: &'a PartEnds,
     /// Whether EPH stands at the packets.
     pub(crate) eph: bool,
     /// Where the codestream begins in the file.
@@ -134,7 +136,11 @@ fn put_sop(plan: &mut CutPlan, counter: Option<(u8, u8)>) -> Result<(), Fault>
 
 /// Writes an empty packet: its SOP marker segment, if it has one, a header of the bit 0, and EPH,
 /// where it must stand.
-fn put_emptied(plan: &mut CutPlan, counter: Option<(u8, u8)>, eph: bool) -> Result<(), Fault>
+pub(crate) fn put_emptied(
+    plan: &mut CutPlan,
+    counter: Option<(u8, u8)>,
+    eph: bool,
+) -> Result<(), Fault>
     ensures ok { OnOk result (IsBehind plan.old plan.new (λ _. sop_written counter ++ (0 ∷ eph_text eph))
         (length (sop_written counter) + length (0 ∷ eph_text eph))) }
     ensures err { IfErr result IsMemory }

@@ -6,16 +6,19 @@ ghost use Rattle.jk_math.specs.Memory.{IsMemory};
 ghost use Rattle.jk_math.specs.declared.fault.Fault.TheVariants.{BadWindow};
 ghost use Rattle.jk_marks.specs.Siz.{tile_count};
 ghost use Rattle.jk_params.specs.Headers.{AreHeaders, tile_in, packets_of};
+ghost use Rattle.jk_order.specs.PacketOrder.{packet_count};
 ghost use Rattle.jk_walk.specs.TilePackets.{shape_in};
 ghost use Rattle.jk_walk.specs.Entries.{AreEntries};
 ghost use Rattle.jk_math.specs.declared.rect.Rect.{Rect as Area};
 ghost use Rattle.jk_window.specs.declared.view.View.{View as Sight};
 ghost use Rattle.jk_window.specs.Views.{HasWindow};
 ghost use Rattle.jk_window.specs.Planning.{IsSound, Fits};
+ghost use Rattle.jk_window.specs.PartEnds.{IsPartEnds, HavePartEnds};
 ghost use Rattle.jk_window.specs.Indexing.{IndexFields, IsIndex, entries_of};
 ghost use Rattle.jk_params.specs.Levels.{least_levels};
 
 use crate::around::Around;
+use crate::parts::PartEnds;
 use crate::view::View;
 use crate::window::sees;
 use jk_boxes::Boxed;
@@ -36,6 +39,7 @@ pub struct Index {
     headers: Codestream,
     packets: Vec<TileEntries>,
     around: Around,
+    parts: Vec<PartEnds>,
 }
 
 impl Model for Index {
@@ -52,6 +56,8 @@ impl Model for Index {
       frame = i.around;
     } };
 
+    ghost use Rattle.jk_window.specs.PartEnds.{HavePartEnds};
+
     // There is a file whose index it is.
     ghost invariant = { λ i. IsIndex record {
       place = i.place;
@@ -60,7 +66,7 @@ impl Model for Index {
       headers = i.headers;
       packets = i.packets.items;
       frame = i.around;
-    } };
+    } × HavePartEnds i.headers i.packets.items i.parts.items };
 }
 
 impl Index {
@@ -74,8 +80,10 @@ impl Index {
         headers: Codestream,
         packets: Vec<TileEntries>,
         around: Around,
+        parts: Vec<PartEnds>,
     ) -> Index
-        requires { IsIndex record {
+        requires parts { HavePartEnds headers packets.items parts.items }
+        requires index { IsIndex record {
           place = place;
           layers = layers;
           order = order;
@@ -99,6 +107,7 @@ impl Index {
             headers,
             packets,
             around,
+            parts,
         }
     }
 
@@ -134,6 +143,17 @@ impl Index {
             (shape_in self.now.headers.siz (tile_in self.now.headers.tiles tile) tile) result.now }
     {
         &self.packets[tile]
+    }
+
+    /// Which packets of a tile stand in which of its parts.
+    pub(crate) fn parts(&self, tile: usize) -> &PartEnds
+        requires { tile < tile_count self.now.headers.siz }
+        ensures ends { IsPartEnds (entries_of self.now.packets tile) (tile_in self.now.headers.tiles tile) result.now }
+        ensures all { length (entries_of self.now.packets tile)
+            ≡ packet_count (shape_in self.now.headers.siz (tile_in self.now.headers.tiles tile) tile) }
+        ensures few { length (entries_of self.now.packets tile) ≤ 2 ^ 24 }
+    {
+        &self.parts[tile]
     }
 
     /// How many samples the image has side by side.

@@ -3,14 +3,21 @@
 #![tactic(auto)]
 
 mod around;
+mod cells;
 mod contents;
 mod cutting;
+mod emptying;
+mod intervals;
 mod kept;
 mod need;
+mod numbered;
+mod parts;
 mod planning;
 mod reading;
+mod rows;
 mod steps;
 mod theorems;
+mod tiles;
 mod view;
 mod window;
 

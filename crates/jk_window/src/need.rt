@@ -51,7 +51,7 @@ fn part_of_band(stretch: &Rect, across: bool, down: bool) -> Rect
 
 /// The stretch of the resolution `below` levels below that a stretch depends on.
 #[tactic(auto, using(crate::proofs::Stretches::stretch_none, crate::proofs::Stretches::stretch_more))]
-fn stretch(top: &Rect, below: u8) -> Rect
+pub(crate) fn stretch(top: &Rect, below: u8) -> Rect
     requires right { top.now.x1 < 2 ^ 31 }
     requires lower { top.now.y1 < 2 ^ 31 }
     ensures value { result ≡ stretch top.now below }
@@ -67,7 +67,7 @@ fn stretch(top: &Rect, below: u8) -> Rect
 
 /// What a stretch of a resolution depends on of a sub-band of it; LL is that of the lowest
 /// resolution, which is the resolution itself.
-fn needed_part(area: &Rect, orientation: Orientation) -> Rect
+pub(crate) fn needed_part(area: &Rect, orientation: Orientation) -> Rect
     requires right { area.now.x1 < 2 ^ 31 }
     requires lower { area.now.y1 < 2 ^ 31 }
     ensures { (u : Area) (n : ℕ) → area.now ≡ stretch u n → result ≡ needed_part u n orientation }

@@ -1,160 +1,51 @@
 //! The plan of the file of a window, made of an index alone.
 
-ghost use Rattle.std.specs.Prelude.{◌≡◌, true, ◌+◌, ◌-◌, ◌≤◌, ◌<◌, ◌^◌, ◌⊎◌, ◌++◌, ℕ, List, length, min, sum_by, IfOk};
+ghost use Rattle.std.specs.Prelude.{◌≡◌, true, ◌+◌, ◌-◌, ◌*◌, ◌≤◌, ◌<◌, ◌^◌, ◌⊎◌, ◌++◌, ◌∷◌, ℕ, List, length, min, IfOk};
 ghost use Rattle.std.specs.Prelude.{IfErr, OnOk, MatchResult, Ok, Err};
 ghost use Rattle.jk_math.specs.Memory.{IsMemory};
+ghost use Rattle.jk_math.specs.declared.rect.Rect.{Rect as Area};
 ghost use Rattle.jk_math.specs.declared.fault.Fault.TheVariants.{BadWindow};
 ghost use Rattle.jk_marks.specs.Siz.{tile_count};
-ghost use Rattle.jk_marks.specs.Markers.{eoc, marker_text};
 ghost use Rattle.jk_marks.specs.PartHeads.{psot_for, part_head, heads_text};
 ghost use Rattle.jk_boxes.specs.Boxes.{head_size};
 ghost use Rattle.jk_boxes.specs.Written.{fits_form};
-ghost use Rattle.jk_geom.specs.Rectangles.{meet};
-ghost use Rattle.jk_geom.specs.Partitions.{reduced_area};
-ghost use Rattle.jk_geom.specs.TileShapes.{IsTileShape};
-ghost use Rattle.jk_params.specs.Headers.{tile_in};
-ghost use Rattle.jk_walk.specs.Entries.{AreEntries};
-ghost use Rattle.jk_walk.specs.TilePackets.{shape_in};
-ghost use Rattle.jk_window.specs.Views.{HasWindow, layers_in};
-ghost use Rattle.jk_window.specs.Indexing.{IsIndexOf, entries_of};
+ghost use Rattle.jk_packet.specs.PacketText.{eph_text};
+ghost use Rattle.jk_window.specs.declared.view.View.{View as Sight};
+ghost use Rattle.jk_window.specs.Views.{HasWindow};
+ghost use Rattle.jk_window.specs.Indexing.{IsIndexOf};
 ghost use Rattle.jk_window.specs.Cutting.{cut_file};
-ghost use Rattle.jk_window.specs.Planning.{plan_text, plan_length, AreTilePlans, ArePlansUpto, part_from, front_of};
-ghost use Rattle.jk_window.specs.Planning.{part_size, framed_size, made_of};
+ghost use Rattle.jk_window.specs.Emptying.{emptied_texts};
+ghost use Rattle.jk_window.specs.Planning.{IsHead, ArePlansUpto, IsBehind, front_of};
+ghost use Rattle.jk_window.specs.Planning.{plan_text, plan_length, part_from, part_text_from, part_size, framed_size, made_of};
 
-use crate::contents::{TileCut, plan_runs};
+use crate::emptying::emptied_size;
 use crate::kept::Index;
 use crate::steps::CutPlan;
+use crate::tiles::{TilePlans, plan_tiles};
 use crate::view::View;
 use crate::window::window;
 use jk_boxes::code_head;
-use jk_geom::{TileShape, meet, reduced};
 use jk_marks::{PartHead, put_part_head};
 use jk_math::{Fault, Rect};
-use jk_order::packet_names;
-use jk_walk::shape_of;
 use std::alloc::Global;
-use std::marker::Model;
 
-/// The plans of the data of a tile's parts.
-#[derive(Drop)]
-struct TilePlans {
-    parts: Vec<CutPlan>,
-}
-
-impl Model for TilePlans {
-    ghost use Rattle.std.specs.Prelude.{List};
-    ghost use Rattle.jk_window.specs.Planning.{PlanFields};
-
-    ghost Value = { List PlanFields };
-
-    ghost view = { λ t. t.parts.items };
-}
-
-impl TilePlans {
-    ghost use Rattle.std.specs.Prelude.{◌≡◌, ◌<◌, length, slice_index_or};
-    ghost use Rattle.jk_window.specs.Planning.{no_plan};
-
-    /// The plan of the data of a part.
-    fn part(&self, number: usize) -> &CutPlan
-        requires { number < length self.now }
-        ensures { result.now ≡ slice_index_or self.now number no_plan }
-    {
-        &self.parts[number]
-    }
-}
-
-/// How many layers a view keeps of a tile that has so many.
-fn layers_in(view: View, all: u16) -> u32
-    ensures { result ≡ layers_in view.layers all }
+/// How many bytes the data of a part have, and 2^64 - 1 where there are more.
+fn content_length(index: &Index, tiles: &[TilePlans], head: &PartHead) -> u64
+    requires head { IsHead index.now.headers head.now }
+    requires plans { (w : Area) × (v : Sight) × ArePlansUpto index.now w v (tile_count index.now.headers.siz) tiles.now }
+    ensures { (w : Area) (v : Sight) → ArePlansUpto index.now w v (tile_count index.now.headers.siz) tiles.now
+        → result ≡ min (part_size index.now w v head.now.tile head.now.number) (2 ^ 64 - 1) }
 {
-    match view.layers {
-        Some(count) => count,
-        None => all as u32,
+    let (tile, number) = (head.tile as usize, head.number as usize);
+    let plans = &tiles[tile];
+    let emptied = plans.is_emptied();
+    if emptied {
+        let parts = index.parts(tile);
+        let count = parts.count(number);
+        let size = emptied_size(parts.eph);
+        return count as u64 * size as u64;
     }
-}
-
-/// A tile of the index, of this shape, and what of it is in a window.
-fn tile_cut<'a>(
-    index: &'a Index,
-    shape: &'a TileShape,
-    window: &Rect,
-    view: View,
-    tile: usize,
-) -> TileCut<'a>
-    requires tile { tile < tile_count index.now.headers.siz }
-    requires shape { IsTileShape shape.now }
-    requires right { window.now.x1 < 2 ^ 31 }
-    requires lower { window.now.y1 < 2 ^ 31 }
-    requires few { view.reduce ≤ 10 }
-    ensures shape { result.shape.now ≡ shape.now }
-    ensures entries { result.entries.now ≡ entries_of index.now.packets tile }
-    ensures within { AreEntries (index.now.place.end - index.now.place.start)
-        (shape_in index.now.headers.siz (tile_in index.now.headers.tiles tile) tile) result.entries.now }
-    ensures eph { result.eph ≡ (tile_in index.now.headers.tiles tile).cod.eph }
-    ensures start { result.start ≡ index.now.place.start }
-    ensures top { result.top ≡ meet window.now (reduced_area shape.now.rect view.reduce) }
-    ensures right { result.top.x1 < 2 ^ 31 }
-    ensures lower { result.top.y1 < 2 ^ 31 }
-    ensures reduce { result.reduce ≡ view.reduce }
-    ensures layers { result.layers ≡ layers_in view.layers shape.now.layers }
-{
-    let reduce = view.reduce as u8;
-    TileCut {
-        shape,
-        entries: index.entries(tile),
-        eph: index.headers().cod(tile).eph,
-        start: index.place().start,
-        top: meet(window, &reduced(&shape.rect, reduce)),
-        reduce,
-        layers: layers_in(view, shape.layers),
-    }
-}
-
-/// Plans the data of the parts of a tile.
-fn plan_tile(
-    alloc: Global,
-    index: &Index,
-    window: &Rect,
-    view: View,
-    tile: usize,
-) -> Result<TilePlans, Fault>
-    requires tile { tile < tile_count index.now.headers.siz }
-    requires right { window.now.x1 < 2 ^ 31 }
-    requires lower { window.now.y1 < 2 ^ 31 }
-    requires few { view.reduce ≤ 10 }
-    ensures plans { IfOk result (AreTilePlans index.now window.now view tile) }
-    ensures err { IfErr result IsMemory }
-{
-    let headers = index.headers();
-    let shape = shape_of(headers, tile);
-    let names = packet_names(alloc, &shape)?;
-    let cut = tile_cut(index, &shape, window, view, tile);
-    let places = headers.data_places(tile);
-    let around = index.around();
-    let parts = plan_runs(alloc, &cut, &names, places, around.size)?;
-    Ok(TilePlans { parts })
-}
-
-/// Plans the data of the parts of all tiles.
-fn plan_tiles(
-    alloc: Global,
-    index: &Index,
-    window: &Rect,
-    view: View,
-) -> Result<Vec<TilePlans>, Fault>
-    requires right { window.now.x1 < 2 ^ 31 }
-    requires lower { window.now.y1 < 2 ^ 31 }
-    requires few { view.reduce ≤ 10 }
-    ensures plans { IfOk result
-        (λ v. ArePlansUpto index.now window.now view (tile_count index.now.headers.siz) v.items) }
-    ensures err { IfErr result IsMemory }
-{
-    let count = index.tiles();
-    let mut all = Vec::with_capacity(alloc, count)?;
-    for tile in 0..count {
-        all.push(plan_tile(alloc, index, window, view, tile)?)?;
-    }
-    Ok(all)
+    plans.part(number).length()
 }
 
 /// How many bytes the codestream of a window has, where its parts have these data, and 2^64 - 1
@@ -166,9 +57,8 @@ fn codestream_length(index: &Index, window: &Rect, view: View, tiles: &[TilePlan
     let around = index.around();
     let mut length = around.main.len() as u64;
     for head in &around.heads {
-        let content = tiles[head.tile as usize].part(head.number as usize);
         length = length.saturating_add(head.size as u64).saturating_add(14);
-        length = length.saturating_add(content.length());
+        length = length.saturating_add(content_length(index, tiles, head));
     }
     length.saturating_add(2) as usize
 }
@@ -195,12 +85,30 @@ fn plan_front(alloc: Global, index: &Index, length: usize, plan: &mut CutPlan) -
     plan.write(&head)
 }
 
+/// Plans the head of a tile-part with so many bytes of data. The text is for its bytes.
+fn plan_head(
+    head: &PartHead,
+    segments: &[u8],
+    content: usize,
+    text: &mut Vec<u8>,
+    plan: &mut CutPlan,
+) -> Result<(), Fault>
+    requires fits { psot_for head.now content < 2 ^ 32 }
+    ensures ok { OnOk result (IsBehind plan.old plan.new
+        (λ _. part_head head.now segments.now content) (length (part_head head.now segments.now content))) }
+    ensures err { IfErr result IsMemory }
+{
+    text.clear();
+    put_part_head(head, segments, content, text)?;
+    plan.write(text)
+}
+
 /// Plans a tile-part: its head, with these segments, and its data.
 fn plan_part(
-    alloc: Global,
     head: &PartHead,
     segments: &[u8],
     content: &CutPlan,
+    text: &mut Vec<u8>,
     plan: &mut CutPlan,
 ) -> Result<(), Fault>
     requires size { content.now.size ≡ plan.old.size }
@@ -211,10 +119,60 @@ fn plan_part(
     ensures size { OnOk result (plan.new.size ≡ plan.old.size) }
     ensures err { IfErr result IsMemory }
 {
-    let mut text = Vec::with_capacity(alloc, segments.len().saturating_add(14))?;
-    put_part_head(head, segments, content.length() as usize, &mut text)?;
-    plan.write(&text)?;
+    plan_head(head, segments, content.length() as usize, text, plan)?;
     plan.append(content)
+}
+
+/// Plans a tile-part with so many empty packets without SOP.
+fn plan_emptied(
+    head: &PartHead,
+    segments: &[u8],
+    count: usize,
+    eph: bool,
+    text: &mut Vec<u8>,
+    plan: &mut CutPlan,
+) -> Result<(), Fault>
+    requires few { count ≤ 2 ^ 24 }
+    requires fits { psot_for head.now (count * length (0 ∷ eph_text eph)) < 2 ^ 32 }
+    ensures text { OnOk result ((file : List ℕ) → plan_text file plan.new
+        ≡ plan_text file plan.old
+        ++ (part_head head.now segments.now (count * length (0 ∷ eph_text eph)) ++ emptied_texts eph count)) }
+    ensures size { OnOk result (plan.new.size ≡ plan.old.size) }
+    ensures err { IfErr result IsMemory }
+{
+    plan_head(head, segments, count * emptied_size(eph), text, plan)?;
+    plan.write_emptied(count, eph)
+}
+
+/// Plans a tile-part of a window, with these segments.
+fn plan_content(
+    index: &Index,
+    tiles: &[TilePlans],
+    head: &PartHead,
+    segments: &[u8],
+    text: &mut Vec<u8>,
+    plan: &mut CutPlan,
+) -> Result<(), Fault>
+    requires head { IsHead index.now.headers head.now }
+    requires size { plan.old.size ≡ index.now.frame.size }
+    requires fits { (w : Area) × (v : Sight) × ArePlansUpto index.now w v (tile_count index.now.headers.siz) tiles.now
+        × (psot_for head.now (part_size index.now w v head.now.tile head.now.number) < 2 ^ 32) }
+    ensures text { OnOk result ((w : Area) (v : Sight) (file : List ℕ)
+        → ArePlansUpto index.now w v (tile_count index.now.headers.siz) tiles.now
+        → IsIndexOf file index.now → plan_text file plan.new ≡ plan_text file plan.old
+        ++ part_text_from file index.now w v head.now segments.now) }
+    ensures size { OnOk result (plan.new.size ≡ plan.old.size) }
+    ensures err { IfErr result IsMemory }
+{
+    let (tile, number) = (head.tile as usize, head.number as usize);
+    let plans = &tiles[tile];
+    let emptied = plans.is_emptied();
+    if emptied {
+        let parts = index.parts(tile);
+        let count = parts.count(number);
+        return plan_emptied(head, segments, count, parts.eph, text, plan);
+    }
+    plan_part(head, segments, plans.part(number), text, plan)
 }
 
 /// Plans all tile-parts.
@@ -235,11 +193,11 @@ fn plan_parts(
     ensures err { IfErr result IsMemory }
 {
     let around = index.around();
+    let mut text = Vec::new(alloc);
     let mut at = 0;
     for head in &around.heads {
-        let content = tiles[head.tile as usize].part(head.number as usize);
         let segments = &around.segments[at..at + head.size];
-        plan_part(alloc, head, segments, content, plan)?;
+        plan_content(index, tiles, head, segments, &mut text, plan)?;
         at += head.size;
     }
     Ok(())

@@ -9,6 +9,7 @@ ghost use Rattle.jk_window.specs.Indexing.{IndexFields, IsIndexOf, AreIndexed, e
 
 use crate::around::read_around;
 use crate::kept::Index;
+use crate::parts::all_part_ends;
 use jk_boxes::{Boxed, Form, code_form, open};
 use jk_marks::read_main;
 use jk_math::Fault;
@@ -44,8 +45,11 @@ fn read_index(alloc: Global, file: &[u8], place: Boxed, form: Form) -> Result<In
     let headers = read_codestream(alloc, bytes)?;
     let packets = all_entries(alloc, &headers, bytes)?;
     let around = read_around(alloc, &headers, bytes, form, file.len())?;
+    let parts = all_part_ends(alloc, &headers, &packets)?;
     let cod = &main.cod;
-    Ok(Index::new(place, cod.layers, cod.order, headers, packets, around))
+    Ok(Index::new(
+        place, cod.layers, cod.order, headers, packets, around, parts,
+    ))
 }
 
 /// The index of a file.

@@ -1,11 +1,14 @@
 //! What the file of a window is made of.
 
-ghost use Rattle.std.specs.Prelude.{◌≡◌, ◌+◌, ◌-◌, ◌<◌, ◌≤◌, ◌^◌, ◌++◌, ◌∷◌, ℕ, List, [], length, min, OnOk, IfErr};
+ghost use Rattle.std.specs.Prelude.{◌≡◌, ◌+◌, ◌-◌, ◌*◌, ◌<◌, ◌≤◌, ◌^◌, ◌++◌, ◌∷◌, ℕ, List, [], length, min, OnOk, IfErr};
 ghost use Rattle.std.specs.Prelude.{MatchOption};
 ghost use Rattle.jk_math.specs.Memory.{IsMemory};
 ghost use Rattle.jk_walk.specs.TilePackets.{slice_of};
+ghost use Rattle.jk_packet.specs.PacketText.{eph_text};
 ghost use Rattle.jk_window.specs.Planning.{plan_text, plan_length, IsStep, IsLast, IsBehind};
+ghost use Rattle.jk_window.specs.Emptying.{emptied_texts};
 
+use crate::emptying::{block_size, emptied};
 use jk_math::Fault;
 use std::alloc::Global;
 use std::marker::Model;
@@ -185,6 +188,21 @@ impl CutPlan {
             self.push(0, 0)?;
         }
         self.write_byte_last(byte)
+    }
+
+    /// Writes so many empty packets without SOP.
+    pub(crate) fn write_emptied(&mut self, count: usize, eph: bool) -> Result<(), Fault>
+        ensures ok { OnOk result (IsBehind self.old self.new
+            (λ _. emptied_texts eph count) (count * length (0 ∷ eph_text eph))) }
+        ensures err { IfErr result IsMemory }
+    {
+        let mut left = count;
+        while left > 0 {
+            let some = left.min(block_size(eph));
+            self.write(emptied(some, eph))?;
+            left -= some;
+        }
+        Ok(())
     }
 
     /// Copies a stretch of the file behind what is there.

@@ -1,4 +1,4 @@
-use crate::cases::{Case, OTHERS, REFUSED, WRITTEN};
+use crate::cases::{Case, OTHERS, REFUSED, Row, WRITTEN, spelled};
 use jk_math::{Fault, Image};
 use jk_pnm::{read, read_owned, write, write_into};
 use std::alloc::Global;
@@ -18,12 +18,12 @@ fn samples(rt: &impl Abort, alloc: Global, image: &Image) -> Vec<i32> {
 
 /// An image has this picture.
 fn shows(rt: &impl Abort, alloc: Global, image: &Image, case: &Case<'_>) {
-    let (file, width, height, depth, wanted) = *case;
+    let file = case.file;
     let frame = [image.x0(), image.y0(), image.width(), image.height()];
-    equal_at(file, frame, [0, 0, width, height]).expect(rt, "a frame");
-    equal_at(file, (image.depth(), image.signed()), (depth, false)).expect(rt, "a depth");
+    equal_at(file, frame, [0, 0, case.width, case.height]).expect(rt, "a frame");
+    equal_at(file, (image.depth(), image.signed()), (case.depth, false)).expect(rt, "a depth");
     let found = samples(rt, alloc, image);
-    equal_at(file, found.as_slice(), wanted).expect(rt, "samples");
+    equal_at(file, found.as_slice(), case.samples).expect(rt, "samples");
 }
 
 /// The same bytes, of their own.
@@ -33,9 +33,9 @@ fn owned(rt: &impl Abort, alloc: Global, bytes: &[u8]) -> Vec<u8> {
 
 /// Reads a file, which must have this picture.
 fn reads(rt: &impl Abort, alloc: Global, case: &Case<'_>) -> Image {
-    let image = read(alloc, case.0).expect(rt, "an image");
+    let image = read(alloc, case.file).expect(rt, "an image");
     shows(rt, alloc, &image, case);
-    let again = read_owned(alloc, owned(rt, alloc, case.0)).expect(rt, "an image");
+    let again = read_owned(alloc, owned(rt, alloc, case.file)).expect(rt, "an image");
     shows(rt, alloc, &again, case);
     image
 }
@@ -75,7 +75,14 @@ fn black(rt: &impl Abort, alloc: Global, signed: bool, components: usize) -> Ima
 fn one_sample(rt: HostRuntime) {
     let file = b"P5\n1 1\n255\n\x80";
     equal(file.len(), 12).expect(&rt, "bytes");
-    let image = reads(&rt, rt.alloc(), &(file, 1, 1, 8, &[128]));
+    let case = Case {
+        file,
+        width: 1,
+        height: 1,
+        depth: 8,
+        samples: &[128],
+    };
+    let image = reads(&rt, rt.alloc(), &case);
     let written = file_of(&rt, rt.alloc(), &image);
     equal(written.as_slice(), file.as_slice()).expect(&rt, "a file");
 }
@@ -84,15 +91,16 @@ fn one_sample(rt: HostRuntime) {
 fn there_and_back(rt: &impl Abort, alloc: Global, case: &Case<'_>) {
     let image = reads(rt, alloc, case);
     let written = file_of(rt, alloc, &image);
-    equal(written.as_slice(), case.0).expect(rt, "a file");
+    equal(written.as_slice(), case.file).expect(rt, "a file");
     let sent = sent(rt, alloc, &image);
-    equal(sent.as_slice(), case.0).expect(rt, "a file that is sent");
+    equal(sent.as_slice(), case.file).expect(rt, "a file that is sent");
 }
 
 #[test]
 fn written_files(rt: HostRuntime) {
-    for case in &WRITTEN {
-        there_and_back(&rt, rt.alloc(), case);
+    for line in WRITTEN.split('\n') {
+        let row = Row::new(&rt, rt.alloc(), line);
+        there_and_back(&rt, rt.alloc(), &row.case());
     }
 }
 
@@ -129,15 +137,16 @@ fn several_pieces(rt: HostRuntime) {
 fn in_another_form(rt: &impl Abort, alloc: Global, case: &Case<'_>) {
     let image = reads(rt, alloc, case);
     let file = file_of(rt, alloc, &image);
-    equal_at(case.0, file.as_slice() == case.0, false).expect(rt, "the same form");
-    let (_, width, height, depth, wanted) = *case;
-    reads(rt, alloc, &(&file, width, height, depth, wanted));
+    equal_at(case.file, file.as_slice() == case.file, false).expect(rt, "the same form");
+    let file = file.as_slice();
+    reads(rt, alloc, &Case { file, ..*case });
 }
 
 #[test]
 fn other_files(rt: HostRuntime) {
-    for case in &OTHERS {
-        in_another_form(&rt, rt.alloc(), case);
+    for line in OTHERS.split('\n') {
+        let row = Row::new(&rt, rt.alloc(), line);
+        in_another_form(&rt, rt.alloc(), &row.case());
     }
 }
 
@@ -148,8 +157,9 @@ fn refused(rt: &impl Abort, alloc: Global, file: &[u8]) {
 
 #[test]
 fn no_files(rt: HostRuntime) {
-    for file in &REFUSED {
-        refused(&rt, rt.alloc(), *file);
+    for text in REFUSED.split('\n') {
+        let file = spelled(&rt, rt.alloc(), text);
+        refused(&rt, rt.alloc(), &file);
     }
 }
 
@@ -185,5 +195,12 @@ fn another_place(rt: HostRuntime) {
     let file = file_of(&rt, rt.alloc(), &image.expect(&rt, "an image"));
     let due = b"P5\n3 2\n255\n\0\0\0\0\0\0".as_slice();
     equal(file.as_slice(), due).expect(&rt, "a file");
-    reads(&rt, rt.alloc(), &(&file, 3, 2, 8, &[0, 0, 0, 0, 0, 0]));
+    let case = Case {
+        file: &file,
+        width: 3,
+        height: 2,
+        depth: 8,
+        samples: &[0, 0, 0, 0, 0, 0],
+    };
+    reads(&rt, rt.alloc(), &case);
 }

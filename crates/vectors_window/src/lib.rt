@@ -17,3 +17,5 @@ mod many;
 mod meanings;
 #[cfg(test)]
 mod views;
+#[cfg(test)]
+mod walked;

@@ -22,8 +22,8 @@ read_around-requires-clause-some c =
     let is = c.in_ok-headers.ensures.found in
     main_long bytes is.tree.siz is.tree.segments (begins_main bytes is.tree is.spelled)
 
-pub new-requires : goal.new-requires
-new-requires c =
+pub new-requires-clause-index : goal.new-requires-clause-index
+new-requires-clause-index c =
     let file = c.args.file.now in
     let bytes = slice_range file c.args.place.start c.args.place.end in
     let h = c.in_ok-headers.headers in

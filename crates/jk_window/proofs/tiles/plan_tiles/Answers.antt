@@ -1,5 +1,5 @@
 use Rattle.jk_window.proofs.RunPlans.{plans_push}
-use Rattle.jk_window.proofs.planning.plan_tiles.Goals as goal
+use Rattle.jk_window.proofs.tiles.plan_tiles.Goals as goal
 
 pub loop-tile-preserved : goal.loop-tile-preserved
 loop-tile-preserved c = (
