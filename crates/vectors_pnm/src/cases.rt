@@ -62,7 +62,8 @@ pub(crate) fn spelled(rt: &impl Abort, alloc: Global, text: &str) -> Vec<u8> {
             continue;
         }
         if digits == 0 {
-            bytes.push(letter as u8).expect(rt, "a byte");
+            let byte = (letter as u32 & 0xFF) as u8;
+            bytes.push(byte).expect(rt, "a byte");
             continue;
         }
         let digit = letter.to_digit(16).expect(rt, "a digit") as u8;
