@@ -1,8 +1,10 @@
 -- What a file is given beside the samples of its image, with the first fault.
-use Rattle.std.specs.Prelude.{ℕ, not, List, length, Some, Result}
+use Rattle.std.specs.Prelude.{◌≡◌, ◌⊎◌, ℕ, not, List, [], length, Some, Result, Ok, Err, ⊤}
 use Rattle.jk_math.specs.Answer.{◌>>=◌, refuse}
 use Rattle.jk_math.specs.declared.fault.Fault.{Fault}
-use Rattle.jk_math.specs.declared.fault.Fault.TheVariants.{BadParameters}
+use Rattle.jk_math.specs.declared.fault.Fault.TheVariants.{BadParameters, Shelf}
+use Rattle.jk_math.specs.Front.{IsFront}
+use Rattle.jk_math.specs.Memory.{IsMemory}
 use Rattle.jk_math.specs.Picture.{Picture}
 use Rattle.jk_pnm.specs.Reading.{pnm_at}
 use Rattle.jk_extras.specs.declared.values.Extras.{Extras}
@@ -27,6 +29,13 @@ abbrev pub encoded_with : Extras → List ℕ → Plan → Result (List ℕ) Fau
 encoded_with e bytes plan = do
   p ← pnm_at bytes
   picture_encoded_with e p plan
+
+-- What was written of a file that is due: all of it; after Shelf a beginning of it; after any other
+-- fault nothing.
+abbrev pub IsSentOf : Result (List ℕ) Fault → List ℕ → Result ⊤ Fault → Type 0
+IsSentOf due text (Ok done) = due ≡ Ok text
+IsSentOf due text (Err e) = ((e ≡ Shelf) × (file : List ℕ) × (due ≡ Ok file) × IsFront text file)
+    ⊎ ((IsMemory e ⊎ (due ≡ Err e)) × (text ≡ []))
 
 -- the view of a whole image at a reduction, in its first layers
 abbrev pub whole_view : (reduce layers : ℕ) → View

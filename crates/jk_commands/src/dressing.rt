@@ -1,6 +1,7 @@
 //! Files with what they are to keep beside the samples.
 
-ghost use Rattle.std.specs.Prelude.{◌≡◌, ◌≤◌, ℕ, not, length, Option, Err, IfOk};
+ghost use Rattle.std.specs.Prelude.{◌≡◌, ◌≤◌, ℕ, not, length, List, Option, Ok, Err, IfOk, OnOk};
+ghost use Rattle.std.specs.Io.KnownBytes.{Appends};
 ghost use Rattle.jk_math.specs.Answer.{Answers, refuse};
 ghost use Rattle.jk_math.specs.Picture.{Picture};
 ghost use Rattle.jk_math.specs.declared.fault.Fault.TheVariants.{BadParameters};
@@ -9,15 +10,16 @@ ghost use Rattle.jk_extras.specs.Extras.{is_extras};
 ghost use Rattle.jk_extras.specs.Placing.{with_extras_at};
 ghost use Rattle.jk_code.specs.Meaning.{Means, MeansLayers};
 ghost use Rattle.jk_options.specs.Plans.{at_place};
-ghost use Rattle.jk_commands.specs.Dressing.{picture_encoded_with, encoded_with};
+ghost use Rattle.jk_commands.specs.Dressing.{picture_encoded_with, encoded_with, IsSentOf};
 
 use crate::encoding::read_image;
 use jk_code::{encode, encode_with};
 use jk_extras::{Extras, judge, with_extras};
 use jk_jobs::Gate;
-use jk_math::{Fault, Image};
+use jk_math::{Fault, Image, write_out};
 use jk_options::Plan;
 use std::alloc::Global;
+use std::io::Write;
 use std::thread::Threads;
 
 /// What `jk dress` writes of a file: the file with what it is to keep, as `jk_extras::with_extras`
@@ -94,11 +96,69 @@ pub fn encode_file_dressed(
     encode_image_dressed(alloc, image, plan, extras)
 }
 
+/// The file of an image that is to keep something beside the samples, coded by so many workers side
+/// by side: what [`encode_image_dressed`] gives, and its first fault.
+///
+/// BadParameters, before all else: less than one worker or more than 64.
+#[tactic(auto, unfolding(crate::specs::Dressing::picture_encoded_with, jk_options::specs::Plans::placing))]
+pub fn encode_image_dressed_with<R: Threads + Sync, G: Gate + Sync>(
+    rt: &R,
+    alloc: Global,
+    workers: usize,
+    gate: &G,
+    image: Image,
+    plan: Plan,
+    extras: &Extras,
+) -> Result<Vec<u8>, Fault>
+    ensures range { (1 ≤ workers → workers ≤ 64 → ⊥) → result ≡ Err BadParameters }
+    // Which bytes, or which fault is the first.
+    ensures exact { 1 ≤ workers → workers ≤ 64
+        → Answers (λ v. v.items) result (picture_encoded_with extras.now image plan) }
+    // It means exactly the image, placed as it is asked for.
+    ensures means { IfOk result (λ v. Means v.items 0 (at_place image plan.x0 plan.y0)) }
+{
+    if workers < 1 || 64 < workers {
+        return Err(Fault::BadParameters);
+    }
+    judge_for(extras, &image)?;
+    let placed = plan.place(image)?;
+    let file = encode_with::<R, G>(rt, alloc, workers, gate, &placed.image, &placed.parameters)?;
+    dress_file(alloc, &file, extras)
+}
+
+/// Writes the file of an image that is to keep something beside the samples: the bytes that
+/// [`encode_image_dressed`] gives. The whole file is held.
+///
+/// The first of these: the faults of that call, and nothing is written; Shelf, a write failed or
+/// took nothing, and a beginning of the file is written.
+pub fn encode_image_dressed_into<W: Write>(
+    alloc: Global,
+    image: Image,
+    plan: Plan,
+    extras: &Extras,
+    writer: &mut W,
+) -> Result<(), Fault>
+    // The whole file is written.
+    ensures ok { OnOk result ((file : List ℕ) × (picture_encoded_with extras.now image plan ≡ Ok file)
+        × Appends (W.contents writer.old) (W.contents writer.new) file) }
+    // It means exactly the image, placed as it is asked for.
+    ensures means { OnOk result ((file : List ℕ) → picture_encoded_with extras.now image plan ≡ Ok file
+        → Means file 0 (at_place image plan.x0 plan.y0)) }
+    // What was written, however it ended.
+    ensures part { (text : List ℕ) × Appends (W.contents writer.old) (W.contents writer.new) text
+        × IsSentOf (picture_encoded_with extras.now image plan) text result }
+{
+    let file = encode_image_dressed(alloc, image, plan, extras)?;
+    if !write_out(writer, &file) {
+        return Err(Fault::Shelf);
+    }
+    Ok(())
+}
+
 /// What `jk encode` writes of a PGM or PPM file that is to keep something beside the samples, coded
 /// by so many workers side by side: what [`encode_file_dressed`] gives, and its first fault.
 ///
 /// BadParameters, before all else: less than one worker or more than 64.
-#[tactic(auto, unfolding(crate::specs::Dressing::picture_encoded_with, jk_options::specs::Plans::placing))]
 pub fn encode_file_dressed_with<R: Threads + Sync, G: Gate + Sync>(
     rt: &R,
     alloc: Global,
@@ -124,8 +184,5 @@ pub fn encode_file_dressed_with<R: Threads + Sync, G: Gate + Sync>(
         return Err(Fault::BadParameters);
     }
     let image = read_image(alloc, bytes)?;
-    judge_for(extras, &image)?;
-    let placed = plan.place(image)?;
-    let file = encode_with::<R, G>(rt, alloc, workers, gate, &placed.image, &placed.parameters)?;
-    dress_file(alloc, &file, extras)
+    encode_image_dressed_with::<R, G>(rt, alloc, workers, gate, image, plan, extras)
 }

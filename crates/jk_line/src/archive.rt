@@ -7,7 +7,7 @@ use crate::streams::read;
 use crate::workers::workers;
 use crate::world::World;
 use jk_beside::Extras;
-use jk_commands::{Plan, components_of, encode_image_dressed, judge, read_image};
+use jk_commands::{Plan, components_of, judge, read_image};
 use jk_math::{Fault, Image};
 use jk_store::{Archive, Images, Shelf, is_good_name, judge_name};
 use jk_words::{Adding, Kept, Server, Work};
@@ -104,75 +104,24 @@ fn check_name<S: Shelf>(archive: &Archive<S>, name: &str) -> Result<(), Fault> {
     Ok(())
 }
 
-/// Adds an image to an archive under a name: the name is judged, then the place of the image, and
-/// then the image.
+/// Adds an image to an archive under a name, with what its file is to keep, if anything: the name is
+/// judged, then the place of the image, and then the image.
 fn add_to<S: Shelf>(
     alloc: Global,
     archive: &mut Archive<S>,
     name: &str,
     image: Image,
     plan: Plan,
+    kept: &Option<Extras>,
 ) -> Result<(), Fault> {
     check_name(archive, name)?;
     let placed = plan.place(image)?;
-    archive.add(alloc, name, &placed.image, &placed.parameters)?;
-    Ok(())
-}
-
-/// Adds an image to an archive under a name, with what its file is to keep beside the samples: the
-/// name is judged, and then the image; its file is written under a temporary name, and that becomes
-/// its own.
-fn add_dressed_to<S: Shelf + Drop>(
-    alloc: Global,
-    archive: Archive<S>,
-    name: &str,
-    image: Image,
-    plan: Plan,
-    extras: &Extras,
-) -> (S, Result<(), Fault>) {
-    let checked = check_name(&archive, name);
-    let mut shelf = archive.into_shelf();
-    let stored = match checked {
-        Ok(()) => store_dressed(alloc, &mut shelf, name, image, plan, extras),
-        Err(fault) => Err(fault),
-    };
-    (shelf, stored)
-}
-
-/// Puts the file of an image on a shelf.
-fn store_dressed<S: Shelf>(
-    alloc: Global,
-    shelf: &mut S,
-    name: &str,
-    image: Image,
-    plan: Plan,
-    extras: &Extras,
-) -> Result<(), Fault> {
-    let file = encode_image_dressed(alloc, image, plan, extras)?;
-    let temporary = format!(in alloc; "{name}.tmp")?;
-    let own = format!(in alloc; "{name}.jp2")?;
-    shelf.write(alloc, temporary.as_str(), &file)?;
-    shelf.rename(alloc, temporary.as_str(), own.as_str())
-}
-
-/// Adds an image to an archive under a name, with what its file is to keep, if anything, and gives
-/// the shelf back.
-fn add_image<S: Shelf + Drop>(
-    alloc: Global,
-    archive: Archive<S>,
-    name: &str,
-    image: Image,
-    plan: Plan,
-    kept: &Option<Extras>,
-) -> (S, Result<(), Fault>) {
+    let (image, parameters) = (&placed.image, &placed.parameters);
     match kept {
-        Some(extras) => add_dressed_to(alloc, archive, name, image, plan, extras),
-        None => {
-            let mut archive = archive;
-            let added = add_to(alloc, &mut archive, name, image, plan);
-            (archive.into_shelf(), added)
-        }
-    }
+        Some(extras) => archive.add_with_extras(alloc, name, image, parameters, extras)?,
+        None => archive.add(alloc, name, image, parameters)?,
+    };
+    Ok(())
 }
 
 /// What the file of an image is to keep beside the samples, where that is asked for.
@@ -277,11 +226,11 @@ pub(crate) fn add<W: World>(
     if let Err(fault) = world.lock(alloc, line.folder) {
         return Err(of_world(alloc, world, fault, line.folder, "locked"));
     }
-    let archive = archive_beside(alloc, world, line)?;
+    let mut archive = archive_beside(alloc, world, line)?;
     world.begin_work(Work::Encoding, size);
-    let (shelf, added) = add_image(alloc, archive, line.name, image, plan, &extras);
+    let added = add_to(alloc, &mut archive, line.name, image, plan, &extras);
     world.end_work();
-    let given_back = world.give_back(alloc, line.folder, shelf);
+    let given_back = world.give_back(alloc, line.folder, archive.into_shelf());
     match added {
         Ok(()) => Ok(given_back?),
         Err(fault) => Err(of_adding_with(alloc, fault, line, &extras, components)),

@@ -1,16 +1,19 @@
 -- A JP2 file that means a picture has an index, and a file that is written in a JP2 container is one.
-use Rattle.std.proofs.Common.{◌≡◌, ℕ, Bool, true, false, not, if◌then◌else◌, inl, inr, List, ◌++◌, slice_index_or, Result, Ok, Err, refl, sym, ap, ◌∙◌, arith}
-use Rattle.jk_math.specs.Answer.{Refuses}
+use Rattle.std.proofs.Common.{◌≡◌, ℕ, Bool, true, false, not, if◌then◌else◌, inl, inr, List, ◌++◌, slice_index_or, Result, Ok, Err, IfOk, refl, sym, ap, ◌∙◌, subst, arith}
+use Rattle.std.specs.Global.{Vec}
+use Rattle.jk_math.specs.Answer.{Refuses, Answers}
 use Rattle.jk_math.specs.Memory.{IsMemory}
 use Rattle.jk_math.specs.declared.fault.Fault.{Fault}
 use Rattle.jk_math.specs.declared.fault.Fault.TheVariants.{Memory, BadParameters, Limit, Unsupported}
 use Rattle.jk_math.specs.Picture.{Picture}
 use Rattle.jk_marks.specs.Codestream.{codestream_text}
 use Rattle.jk_boxes.specs.declared.place.Boxed.{Boxed}
-use Rattle.jk_boxes.specs.Boxes.{IsBare, HoldsAt, signature}
+use Rattle.jk_boxes.specs.Boxes.{IsBare, IsJp2, HoldsCodestream, HoldsAt, signature}
 use Rattle.jk_boxes.specs.Reading.{boxes_at}
 use Rattle.jk_boxes.specs.Written.{is_wrapped, wrapped}
 use Rattle.jk_boxes.proofs.Laws.{place_again}
+use Rattle.jk_extras.specs.declared.values.Extras.{Extras}
+use Rattle.jk_extras.specs.Dressed.{IsDressed}
 use Rattle.jk_params.specs.Profile.{is_profile}
 use Rattle.jk_params.specs.declared.parameters.Parameters.{Parameters}
 use Rattle.jk_params.specs.declared.parameters.Container.{Container}
@@ -79,3 +82,24 @@ written_text p q bytes jp2 is =
     let code = codestream_text (tree_for p q) in
     let made = else_ok (not (parts_fit p q)) Limit (contained q.container p code) bytes file in
     wrapped_text p code bytes (contained_file q.container p code bytes jp2 made)
+
+pub written_indexed : (r : Result (Vec ℕ) Fault) (p : Picture) (q : Parameters) → q.container ≡ Jp2 → Answers (λ v. v.items) r (written p q) → IfOk r (λ v. Means v.items 0 p)
+    → IfOk r (λ v. (i : IndexFields) × (image_at v.items ≡ Ok i))
+written_indexed (Ok v) p q jp2 due means =
+    let text = written_text p q v.items jp2 due in
+    image_indexed v.items text.0 0 p text.1 means
+written_indexed (Err e) p q jp2 due means = tt
+
+-- ---- the same file with what it is to keep
+
+boxed : (bytes codestream rest : List ℕ) → bytes ≡ signature ++ rest → HoldsCodestream bytes codestream → IsJp2 bytes codestream
+boxed bytes codestream rest is (inl bare) = absurd (not_bare bytes codestream rest is bare)
+boxed bytes codestream rest is (inr jp2) = jp2
+
+pub dressed_indexed : (file given rest : List ℕ) (e : Extras) (r : Result (Vec ℕ) Fault) (p : Picture) → given ≡ file → file ≡ signature ++ rest → Means file 0 p
+    → ((codestream : List ℕ) (j : IsJp2 given codestream) → IfOk r (λ v. IsDressed j e v.items)) → IfOk r (λ v. (i : IndexFields) × (image_at v.items ≡ Ok i))
+dressed_indexed file given rest e (Ok v) p same is m holds =
+    let n = subst (λ b. Means b 0 p) (sym same) m in
+    let dressed = (holds n.codestream (boxed given n.codestream rest (same ∙ is) n.holds)).is in
+    image_indexed v.items _ 0 p dressed.text (record { codestream = n.codestream; holds = inr dressed; picture = n.picture })
+dressed_indexed file given rest e (Err f) p same is m holds = tt

@@ -3,6 +3,7 @@ pub mod EntryLaws
 pub mod CheckLaws
 pub mod Indexed
 pub mod AddLaws
+pub mod DueLaws
 pub mod NameLaws
 pub mod OpenLaws
 pub mod JudgingLaws

@@ -5,6 +5,10 @@ use Rattle.jk_math.specs.Answer.{◌>>=◌, refuse}
 use Rattle.jk_math.specs.declared.fault.Fault.{Fault}
 use Rattle.jk_math.specs.declared.fault.Fault.TheVariants.{BadName, NameTaken, Limit, BadParameters, Shelf}
 use Rattle.jk_math.specs.Picture.{Picture}
+use Rattle.jk_extras.specs.declared.values.Extras.{Extras}
+use Rattle.jk_extras.specs.Extras.{is_extras}
+use Rattle.jk_extras.specs.Placing.{with_extras_at}
+use Rattle.jk_code.specs.Written.{written}
 use Rattle.jk_params.specs.declared.parameters.Parameters.{Parameters}
 use Rattle.jk_params.specs.declared.parameters.Container.{Container}
 use Rattle.jk_params.specs.declared.parameters.Container.TheVariants.{Raw, Jp2}
@@ -26,6 +30,18 @@ judged entries name p q = do
   _ ← refuse (nat_le most_entries (length entries)) Limit
   _ ← refuse (not (is_profile q p)) BadParameters
   refuse (is_raw q.container) BadParameters
+
+-- the same where its file is to keep something beside the samples, which is judged by the components
+unfoldable pub judged_with : List Entry → List ℕ → Picture → Parameters → Extras → Result (Unit {0}) Fault
+judged_with entries name p q e = do
+  _ ← judged entries name p q
+  refuse (not (is_extras (length p.planes) e)) BadParameters
+
+-- the file of an image with what it is to keep
+unfoldable pub written_with : Picture → Parameters → Extras → Result (List ℕ) Fault
+written_with p q e = do
+  file ← written p q
+  with_extras_at e file
 
 -- What is left of files after a refusal, where a file that was made is written under a temporary
 -- name and gets its own: all others, and under its own name what was there before; or, after Shelf,

@@ -13,23 +13,19 @@ ghost use Rattle.jk_window.specs.Indexing.{IndexFields};
 ghost use Rattle.jk_code.specs.Written.{written};
 ghost use Rattle.jk_store.specs.Files.{Files, with_file, without};
 ghost use Rattle.jk_store.specs.Names.{is_good_name, file_name, temporary_name};
-ghost use Rattle.jk_store.specs.Counting.{Counts};
 ghost use Rattle.jk_store.specs.Catalogue.{is_listed, image_at, most_entries, StandsFor, stored, Passes};
-ghost use Rattle.jk_store.specs.Adding.{judged, IsLeft, IsUnstored};
+ghost use Rattle.jk_store.specs.Adding.{judged, judged_with, written_with, IsLeft, IsUnstored};
 ghost use Rattle.jk_store.specs.Showing.{ShowImages, StandForImages, MayBeMade};
 ghost use Rattle.jk_web.specs.Images.{Image as Shown};
 ghost use Rattle.jk_web.specs.Cuts.{Within};
-ghost use Rattle.std.specs.Str.{bytes_eq};
 ghost use Rattle.jk_math.specs.declared.fault.Fault.TheVariants.{Shelf as ShelfFault};
 
 use crate::archive::Archive;
 use crate::entry::Entry;
 use crate::names;
-use crate::opening::image_index;
-use crate::parts::part_digests;
 use crate::shelf::Shelf;
 use jk_code::encode;
-use jk_digest::sha256;
+use jk_extras::{Extras, with_extras};
 use jk_math::{Fault, Image};
 use jk_params::{Container, Parameters};
 use std::alloc::Global;
@@ -37,15 +33,6 @@ use std::sync::Arc;
 
 /// How many images an archive has at most.
 pub(crate) const MOST_ENTRIES: usize = 4096;
-
-/// What is at hand before a file is written.
-#[derive(Drop)]
-struct Prepared {
-    entry: Arc<Entry>,
-    bytes: Vec<u8>,
-    temporary: String,
-    file: String,
-}
 
 /// Whether an entry has a name.
 fn is_listed(entries: &[Arc<Entry>], name: &str) -> bool
@@ -92,71 +79,57 @@ fn judge(
     }
 }
 
-/// The entry of a JP2 file.
-#[tactic(auto, using(crate::proofs::Indexed::only_memory))]
-fn entry_of(alloc: Global, name: &str, bytes: &[u8]) -> Result<Entry, Fault>
-    requires { (i : IndexFields) × (image_at bytes.now ≡ Ok i) }
-    ensures ok { IfOk result (λ e. StandsFor e (stored name.now bytes.now)) }
-    ensures err { IfErr result IsMemory }
-{
-    let index = image_index(alloc, bytes)?;
-    Ok(Entry {
-        name: String::from_str(alloc, name)?,
-        digest: sha256(bytes),
-        parts: part_digests(alloc, bytes)?,
-        index,
-    })
-}
-
-/// The file of an image, its names and its entry.
+/// Whether an image may be added whose file is to keep something beside the samples.
 ///
-/// Limit: a tile-part would be too long.
-fn prepare(
-    alloc: Global,
+/// The first of these: what [`judge`] answers; BadParameters, what `jk_extras::judge` refuses by the
+/// number of components.
+#[tactic(auto, unfolding(crate::specs::Adding::judged_with))]
+fn judge_with(
+    entries: &[Arc<Entry>],
     name: &str,
     image: &Image,
     parameters: &Parameters,
-) -> Result<Prepared, Fault>
-    requires { parameters.now.container ≡ Jp2 }
-    ensures written { IfOk result (λ p. written image.now parameters.now ≡ Ok p.bytes.items) }
-    ensures stands { IfOk result (λ p. StandsFor (arc_value p.entry) (stored name.now p.bytes.items)) }
-    ensures temporary { IfOk result (λ p. string_bytes p.temporary ≡ temporary_name name.now) }
-    ensures file { IfOk result (λ p. string_bytes p.file ≡ file_name name.now) }
-    ensures err { IfErr result (λ e. IsMemory e ⊎ (written image.now parameters.now ≡ Err e)) }
+    extras: &Extras,
+) -> Result<(), Fault>
+    ensures exact { result ≡ judged_with (map arc_value entries.now) name.now image.now parameters.now extras.now }
+    ensures jp2 { OnOk result (parameters.now.container ≡ Jp2) }
+    ensures named { OnOk result (is_good_name name.now ≡ true) }
+    ensures fresh { OnOk result (is_listed (map arc_value entries.now) name.now ≡ false) }
+    ensures room { OnOk result (length entries.now < most_entries) }
 {
-    let bytes = encode(alloc, image, parameters)?;
-    let entry = Arc::new(alloc, entry_of(alloc, name, &bytes)?)?;
-    let temporary = names::temporary_name(alloc, name)?;
-    let file = names::file_name(alloc, name)?;
-    Ok(Prepared {
-        entry,
-        bytes,
-        temporary,
-        file,
-    })
+    judge(entries, name, image, parameters)?;
+    // That there are few, the width's contract says too.
+    let _width = image.width();
+    jk_extras::judge(extras, image.planes().len() as u16)
 }
 
-/// Writes a file under its temporary name, and then gives it its own.
-fn store<S: Shelf>(alloc: Global, shelf: &mut S, made: &Prepared) -> Result<(), Fault>
-    ensures ok { (files : Files) → S.keeps shelf.old files
-        → OnOk result
-        (S.keeps shelf.new
-        (with_file (string_bytes made.now.file) made.now.bytes.items
-        (without (string_bytes made.now.temporary) files))) }
-    // Of other files nothing is lost, whatever it answers.
-    ensures left { bytes_eq (string_bytes made.now.temporary) (string_bytes made.now.file) ≡ false → (files : Files)
-        → S.keeps shelf.old files
-        → IfErr result (λ e. (left : Files) × S.keeps shelf.new left
-        × IsLeft (string_bytes made.now.temporary) (string_bytes made.now.file)
-        (Ok made.now.bytes.items) e files left) }
-    ensures cause { IfErr result
-        (λ e. e ≡ ShelfFault
-        → IsUnstored S.unwritten S.unrenamed (string_bytes made.now.temporary)
-        (string_bytes made.now.file) shelf.old shelf.new) }
-    ensures counts { Counts result (S.failed shelf.old) (S.failed shelf.new) }
+/// The JP2 file of an image.
+///
+/// Limit: a tile-part would be too long.
+fn file_of(alloc: Global, image: &Image, parameters: &Parameters) -> Result<Vec<u8>, Fault>
+    requires { parameters.now.container ≡ Jp2 }
+    ensures exact { Answers (λ v. v.items) result (written image.now parameters.now) }
+    ensures image { IfOk result (λ v. (i : IndexFields) × (image_at v.items ≡ Ok i)) }
 {
-    shelf.write(alloc, made.temporary.as_str(), &made.bytes)?;
-    shelf.rename(alloc, made.temporary.as_str(), made.file.as_str())
+    encode(alloc, image, parameters)
+}
+
+/// The JP2 file of an image with what it is to keep beside the samples.
+///
+/// Limit: a tile-part would be too long, or the JP2 header box.
+#[tactic(auto, unfolding(crate::specs::Adding::written_with))]
+fn file_with(
+    alloc: Global,
+    image: &Image,
+    parameters: &Parameters,
+    extras: &Extras,
+) -> Result<Vec<u8>, Fault>
+    requires { parameters.now.container ≡ Jp2 }
+    ensures exact { Answers (λ v. v.items) result (written_with image.now parameters.now extras.now) }
+    ensures image { IfOk result (λ v. (i : IndexFields) × (image_at v.items ≡ Ok i)) }
+{
+    let file = encode(alloc, image, parameters)?;
+    with_extras(alloc, &file, extras)
 }
 
 impl<S: Shelf> Archive<S> {
@@ -222,11 +195,75 @@ impl<S: Shelf> Archive<S> {
             result (S.failed self.old.shelf) (S.failed self.new.shelf) }
     {
         judge(&self.entries, name, image, parameters)?;
-        let made = prepare(alloc, name, image, parameters)?;
-        let listed = Arc::try_clone(&made.entry)?;
-        self.entries.reserve(1)?;
-        store(alloc, &mut self.shelf, &made)?;
-        self.entries.push_reserved(listed);
-        Ok(made.entry)
+        let file = file_of(alloc, image, parameters)?;
+        self.put(alloc, name, file)
+    }
+
+    /// Adds an image whose file is to keep something beside the samples, as
+    /// `jk_extras::with_extras` gives it to the file that `add` writes.
+    ///
+    /// The first of these: what `add` judges; BadParameters, what `jk_extras::judge` refuses by the
+    /// number of components; Limit for a tile-part or a JP2 header box that is too long; Shelf. After
+    /// a refusal the list is as before, and the temporary file may stand.
+    pub fn add_with_extras(
+        &mut self,
+        alloc: Global,
+        name: &str,
+        image: &Image,
+        parameters: &Parameters,
+        extras: &Extras,
+    ) -> Result<Arc<Entry>, Fault>
+        ensures judged { (e : Fault)
+            → judged_with (map arc_value self.old.entries.items) name.now image.now parameters.now extras.now ≡ Err e
+            → (result ≡ Err e) × (self.new.shelf ≡ self.old.shelf) }
+        ensures allowed { OnOk result
+            (judged_with (map arc_value self.old.entries.items) name.now image.now parameters.now extras.now ≡ Ok tt) }
+        // The list grows by one entry, which stands for the file of the image.
+        ensures listed { IfOk result
+            (λ e. map arc_value self.new.entries.items ≡ map arc_value self.old.entries.items ++ arc_value e ∷ []) }
+        ensures stands { IfOk result (λ e. (file : List ℕ) × (written_with image.now parameters.now extras.now ≡ Ok file)
+            × StandsFor (arc_value e) (stored name.now file)) }
+        // The shelf keeps the file, and what it kept.
+        ensures holds { (files : Files) (file : List ℕ) → S.keeps self.old.shelf files
+            → written_with image.now parameters.now extras.now ≡ Ok file
+            → OnOk result
+            (S.keeps self.new.shelf
+            (with_file (file_name name.now) file (without (temporary_name name.now) files))) }
+        // What the archive stood for it stands for, with one image more.
+        ensures shows { (images : List Shown) → ShowImages (map arc_value self.old.entries.items) images
+            → IfOk result (λ e. (i : Shown) × ShowImages (map arc_value self.new.entries.items) (images ++ i ∷ [])
+            × (i.name ≡ name.now) × (written_with image.now parameters.now extras.now ≡ Ok i.file)) }
+        ensures keeps { (images : List Shown)
+            → StandForImages S.keeps (map arc_value self.old.entries.items) self.old.shelf images
+            → IfOk result
+            (λ e. (i : Shown)
+            × StandForImages S.keeps (map arc_value self.new.entries.items) self.new.shelf (images ++ i ∷ [])
+            × (i.name ≡ name.now) × (written_with image.now parameters.now extras.now ≡ Ok i.file)) }
+        // What may have been made of its images still may.
+        ensures made { Within (MayBeMade (map arc_value self.old.entries.items))
+            (MayBeMade (map arc_value self.new.entries.items)) }
+        // After a refusal the list is as before, and of files all but the temporary one of this
+        // name are.
+        ensures err { OnErr result (self.new.entries.items ≡ self.old.entries.items) }
+        // Shelf comes behind all that is judged and encoded, where the file couldn't be written
+        // under its temporary name, or that couldn't become its own.
+        ensures cause { IfErr result (λ e. IsMemory e
+            ⊎ (judged_with (map arc_value self.old.entries.items) name.now image.now parameters.now extras.now ≡ Err e)
+            ⊎ (written_with image.now parameters.now extras.now ≡ Err e)
+            ⊎ ((e ≡ ShelfFault) × ((file : List ℕ) × (written_with image.now parameters.now extras.now ≡ Ok file))
+            × IsUnstored S.unwritten S.unrenamed (temporary_name name.now) (file_name name.now)
+            self.old.shelf self.new.shelf)) }
+        ensures left { (files : Files) → S.keeps self.old.shelf files
+            → IfErr result (λ e. (left : Files) × S.keeps self.new.shelf left
+            × IsLeft (temporary_name name.now) (file_name name.now) (written_with image.now parameters.now extras.now) e files left) }
+        ensures skipped { self.new.skipped ≡ self.old.skipped }
+        ensures counts { Passes
+            (λ e. IsMemory e ⊎ (judged_with (map arc_value self.old.entries.items) name.now image.now parameters.now extras.now ≡ Err e)
+            ⊎ (written_with image.now parameters.now extras.now ≡ Err e))
+            result (S.failed self.old.shelf) (S.failed self.new.shelf) }
+    {
+        judge_with(&self.entries, name, image, parameters, extras)?;
+        let file = file_with(alloc, image, parameters, extras)?;
+        self.put(alloc, name, file)
     }
 }

@@ -16,6 +16,7 @@ mod memory;
 mod names;
 mod opening;
 mod parts;
+mod putting;
 mod reading;
 mod shelf;
 mod showing;

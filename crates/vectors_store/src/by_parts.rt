@@ -137,11 +137,11 @@ fn where_a_part_has_changed(rt: HostRuntime) -> Result<(), Fail> {
 fn with_one_turned(
     alloc: Global,
     noise: &Noise,
+    window: &[u8],
     part: usize,
 ) -> Result<(bool, Option<Fault>, bool, u64), Fault> {
     let entry = noise.entry()?;
     let asked = square(0, 448);
-    let window = due(alloc, noise, asked)?;
     let mut kept = HashedParts::new(alloc);
     let mut shelf = with_file(alloc, "n.jp2", &noise.file)?;
     let first = by_kept_parts(entry, alloc, &mut shelf, &mut kept, asked)?;
@@ -150,9 +150,9 @@ fn with_one_turned(
     let mut shelf = act_at(shelf, 0, Act::Fail);
     let again = by_kept_parts(entry, alloc, &mut shelf, &mut kept, asked)?;
     Ok((
-        first.as_slice() == window.as_slice(),
+        first.as_slice() == window,
         changed,
-        again.as_slice() == window.as_slice(),
+        again.as_slice() == window,
         shelf.stretches,
     ))
 }
@@ -162,9 +162,11 @@ fn with_one_turned(
 #[test]
 fn where_a_kept_part_has_changed(rt: HostRuntime) -> Result<(), Fail> {
     let noise = made(rt.alloc())?;
-    let (_same, stretches, _bytes) = compared(rt.alloc(), &noise, square(0, 448))?;
+    let asked = square(0, 448);
+    let (_same, stretches, _bytes) = compared(rt.alloc(), &noise, asked)?;
+    let window = due(rt.alloc(), &noise, asked)?;
     for part in 0..noise.entry()?.parts.len() {
-        let answer = with_one_turned(rt.alloc(), &noise, part)?;
+        let answer = with_one_turned(rt.alloc(), &noise, &window, part)?;
         equal_at(
             &rt,
             part,
@@ -334,12 +336,12 @@ fn failing_at(
     alloc: Global,
     noise: &Noise,
     asked: View,
+    window: &[u8],
     call: u64,
 ) -> Result<(Result<bool, Fault>, u64), Fault> {
-    let window = due(alloc, noise, asked)?;
     let mut shelf = act_at(with_file(alloc, "n.jp2", &noise.file)?, call, Act::Fail);
     let answer = match by_parts(noise.entry()?, alloc, &mut shelf, asked) {
-        Ok(made) => Ok(made.as_slice() == window.as_slice()),
+        Ok(made) => Ok(made.as_slice() == window),
         Err(fault) => Err(fault),
     };
     Ok((answer, shelf.failures()))
@@ -350,11 +352,13 @@ fn failing_at_each_call(rt: HostRuntime) -> Result<(), Fail> {
     let noise = made(rt.alloc())?;
     let asked = square(0, 448);
     let (_same, stretches, _bytes) = compared(rt.alloc(), &noise, asked)?;
+    let window = due(rt.alloc(), &noise, asked)?;
     for call in 1..stretches.saturating_add(1) {
-        let answer = failing_at(rt.alloc(), &noise, asked, call)?;
+        let answer = failing_at(rt.alloc(), &noise, asked, &window, call)?;
         equal_at(&rt, call, answer, (Err(Fault::Shelf), 1));
     }
-    let answer = failing_at(rt.alloc(), &noise, asked, stretches.saturating_add(1))?;
+    let last = stretches.saturating_add(1);
+    let answer = failing_at(rt.alloc(), &noise, asked, &window, last)?;
     equal(&rt, answer, (Ok(true), 0));
     Ok(())
 }

@@ -2,6 +2,7 @@
 //! nothing by it.
 
 use crate::contents::Content;
+use jk_extras::Extras;
 use jk_marks::Order;
 use jk_math::{Fault, Image, Style};
 use jk_params::{Container, Parameters};
@@ -127,6 +128,18 @@ pub(crate) fn add<S: Shelf>(
 ) -> Result<Arc<Entry>, Fault> {
     let image = pixel(alloc, sample)?;
     archive.add(alloc, name, &image, &plain(alloc, Container::Jp2))
+}
+
+/// Adds a grey sample of 128 with levels, whose file is to keep something.
+pub(crate) fn add_dressed<S: Shelf>(
+    archive: &mut Archive<S>,
+    alloc: Global,
+    name: &str,
+    levels: u8,
+    extras: &Extras,
+) -> Result<Arc<Entry>, Fault> {
+    let image = pixel(alloc, 128)?;
+    archive.add_with_extras(alloc, name, &image, &with_levels(alloc, levels), extras)
 }
 
 /// Adds noise in tiles of 64 by 64, with two levels.

@@ -1,53 +1,77 @@
 //! The digests of the files of an archive that is opened, three or four of which are made at once.
+//! While files wait for others, what they take counts against what may be held: the room of their
+//! bytes, of which the tests touch little.
 
 use crate::asserts::equal_at;
-use crate::calls::{open, write};
+use crate::calls::open;
 use crate::contents::Content;
+use crate::shelves::{Roomed, Roomy};
 use jk_math::Fault;
-use jk_store::MemoryShelf;
 use sha2::{Digest, Sha256};
 use std::alloc::Global;
-use std::fs;
 use std::process::Abort;
 use std::test::Fail;
+use vectors::{drawn, kilobytes};
 
 /// The JP2 file of one sample, and behind it a box of so many bytes of text (T.800 I.7.1).
-pub(crate) fn noted(alloc: Global, size: u32) -> Result<Vec<u8>, Fault> {
-    let page = Content::Page.bytes(alloc)?;
-    let mut file = Vec::with_capacity(alloc, page.len().saturating_add(8 + size as usize))?;
-    file.extend_from_slice(&page)?;
+fn noted(alloc: Global, size: u32) -> Result<Vec<u8>, Fault> {
+    let mut file = Content::Page.bytes(alloc)?;
     file.extend_from_slice(&size.saturating_add(8).to_be_bytes())?;
     file.extend_from_slice(b"xml ")?;
     let mut state = size;
     for _ in 0..size {
-        state = state.wrapping_mul(1_664_525).wrapping_add(1_013_904_223);
+        state = drawn(state);
         file.push((state >> 24) as u8)?;
     }
     Ok(file)
 }
 
-/// Where an archive of files with texts of these sizes is opened, each entry has the digest that
-/// the library makes of its file.
-fn compare(rt: &impl Abort, alloc: Global, sizes: &[u32]) -> Result<(), Fault> {
-    let mut shelf = MemoryShelf::new(alloc);
+/// A shelf of files with texts of these sizes, in these rooms, and the digests that the library makes
+/// of them.
+fn shelf_of(alloc: Global, files: &[(u32, usize)]) -> Result<(Roomy, Vec<u8>), Fault> {
+    let mut shelf = Roomy {
+        files: Vec::new(alloc),
+    };
     let mut due = Vec::new(alloc);
-    for (number, size) in sizes.iter().enumerate() {
-        let file = noted(alloc, *size)?;
-        let name = format!(in alloc; "{number}.jp2")?;
-        write(&mut shelf, alloc, name.as_str(), &file)?;
-        due.extend_from_slice(&Sha256::digest(&file))?;
+    for (size, room) in files {
+        let bytes = noted(alloc, *size)?;
+        due.extend_from_slice(&Sha256::digest(&bytes))?;
+        shelf.files.push(Roomed { bytes, room: *room })?;
     }
+    Ok((shelf, due))
+}
+
+/// The digests of the entries of an archive of a shelf.
+fn digests(alloc: Global, shelf: Roomy) -> Result<Vec<u8>, Fault> {
     let archive = open(alloc, shelf)?;
     let mut found = Vec::new(alloc);
     for entry in archive.list() {
         found.extend_from_slice(&entry.digest)?;
     }
-    equal_at(rt, sizes.len(), found.as_slice(), due.as_slice());
+    Ok(found)
+}
+
+/// Where an archive of files with texts of these sizes, in these rooms, is opened, each entry has the
+/// digest that the library makes of its file.
+fn compare(rt: &impl Abort, alloc: Global, files: &[(u32, usize)]) -> Result<(), Fault> {
+    let (shelf, due) = shelf_of(alloc, files)?;
+    let found = digests(alloc, shelf)?;
+    equal_at(rt, files.len(), found.as_slice(), due.as_slice());
     Ok(())
 }
 
-/// How long the texts of files are.
-static SIZES: [u32; 9] = [0, 300, 55, 20_000, 1, 64, 4_000, 700, 9];
+/// How long the texts of files are, without room for more.
+static SIZES: [(u32, usize); 9] = [
+    (0, 0),
+    (300, 0),
+    (55, 0),
+    (20_000, 0),
+    (1, 0),
+    (64, 0),
+    (4_000, 0),
+    (700, 0),
+    (9, 0),
+];
 
 #[test]
 fn one_file_to_nine(rt: HostRuntime) -> Result<(), Fail> {
@@ -57,57 +81,64 @@ fn one_file_to_nine(rt: HostRuntime) -> Result<(), Fail> {
     Ok(())
 }
 
-/// Texts by which one file, two, three and four have more bytes than wait for others.
-static LONG: [&[u32]; 5] = [
-    &[1 << 25, 1],
-    &[1 << 24, 1 << 24, 3],
-    &[12 << 20, 11 << 20, 10 << 20, 7],
-    &[9 << 20, 9 << 20, 9 << 20, 9 << 20, 5],
-    &[1, 1 << 25, 2],
+/// Texts and rooms by which one file, two, three and four take more bytes than wait for others.
+static LONG: [&[(u32, usize)]; 5] = [
+    &[(5_000, (1 << 25) + 175), (1, 0)],
+    &[(300, (1 << 24) + 175), (64, (1 << 24) + 175), (3, 0)],
+    &[(55, 12 << 20), (4_000, 11 << 20), (700, 10 << 20), (7, 0)],
+    &[
+        (9, 9 << 20),
+        (20_000, 9 << 20),
+        (56, 9 << 20),
+        (2, 9 << 20),
+        (5, 0),
+    ],
+    &[(1, 0), (5_000, (1 << 25) + 175), (2, 0)],
 ];
 
 #[test]
 fn more_bytes_than_wait(rt: HostRuntime) -> Result<(), Fail> {
-    for sizes in &LONG {
-        compare(&rt, rt.alloc(), sizes)?;
+    for files in &LONG {
+        compare(&rt, rt.alloc(), files)?;
     }
     Ok(())
 }
 
-/// How many kilobytes the process has or has had, by the word that the system tells it by.
-fn kilobytes(rt: &HostRuntime, word: &str) -> Result<u64, Fail> {
-    let state = fs::read_to_string(rt, "/proc/self/status")?;
-    for line in state.as_str().split('\n') {
-        let mut words = line.split_whitespace();
-        if words.next() == Some(word) {
-            return Ok(words.next().unwrap_or("").parse::<u64>().unwrap_or(0));
-        }
-    }
-    Err("the system doesn't tell it".into())
-}
-
-/// A shelf of so many files with texts of so many MiB.
-fn large(alloc: Global, count: u32, size: u32) -> Result<MemoryShelf, Fault> {
-    let mut shelf = MemoryShelf::new(alloc);
+/// So many files of one sample, each in so many MiB of room.
+fn large(alloc: Global, count: u32, size: usize) -> Result<Roomy, Fault> {
+    let mut shelf = Roomy {
+        files: Vec::new(alloc),
+    };
     for number in 0..count {
-        let name = format!(in alloc; "{number}.jp2")?;
-        let file = noted(alloc, size.saturating_mul(1 << 20))?;
-        write(&mut shelf, alloc, name.as_str(), &file)?;
+        shelf.files.push(Roomed {
+            bytes: noted(alloc, number)?,
+            room: size.saturating_mul(1 << 20),
+        })?;
     }
     Ok(shelf)
 }
 
+/// Takes so much room and lets it go, again and again. An allocator may keep what was let go for a
+/// while: behind this it has had its fill, and what more the process takes is held.
+fn fill(alloc: Global, room: usize) -> Result<(), Fault> {
+    for _ in 0..(1 << 29) / room.max(1) {
+        let _: Vec<u8> = Vec::with_capacity(alloc, room)?;
+    }
+    Ok(())
+}
+
 /// How many images an archive of such files lists, and how many kilobytes it takes while it is opened,
 /// beside the files of its shelf.
-fn taken(rt: &HostRuntime, count: u32, size: u32) -> Result<(usize, u64), Fail> {
+fn taken(rt: &HostRuntime, count: u32, size: usize) -> Result<(usize, u64), Fail> {
     let shelf = large(rt.alloc(), count, size)?;
-    let first = kilobytes(rt, "VmSize:")?;
+    fill(rt.alloc(), size.saturating_mul(1 << 20))?;
+    let first = kilobytes(rt, rt.alloc(), "VmSize:")?;
     let archive = open(rt.alloc(), shelf)?;
-    let more = kilobytes(rt, "VmPeak:")?.saturating_sub(first);
+    let more = kilobytes(rt, rt.alloc(), "VmPeak:")?.saturating_sub(first);
     Ok((archive.list().len(), more))
 }
 
-/// Of files that have more bytes each than wait, one is held at a time.
+/// Of files that take more bytes each than wait, one is held at a time.
 #[test]
 fn no_large_file_waits(rt: HostRuntime) -> Result<(), Fail> {
     let (listed, more) = taken(&rt, 3, 33)?;
@@ -115,7 +146,7 @@ fn no_large_file_waits(rt: HostRuntime) -> Result<(), Fail> {
     Ok(())
 }
 
-/// Of files that have more bytes together than wait, though none has by itself, two are held.
+/// Of files that take more bytes together than wait, though none does by itself, two are held.
 #[test]
 fn few_bytes_wait(rt: HostRuntime) -> Result<(), Fail> {
     let (listed, more) = taken(&rt, 4, 20)?;

@@ -3,7 +3,6 @@
 use crate::asserts::{equal, equal_at};
 use crate::calls::{open, write};
 use crate::contents::Content;
-use crate::digested::noted;
 use crate::shelves::{Act, Many, act_at};
 use jk_math::Fault;
 use jk_store::MemoryShelf;
@@ -37,12 +36,12 @@ fn a_file_that_cant_be_read(rt: HostRuntime) -> Result<(), Fail> {
 }
 
 /// Why an archive of 4,097 files isn't opened, three of which wait when the last one is read: the
-/// first is so large that it doesn't wait. Wherever a growth is refused, Memory is told, and not
+/// first takes so much that it doesn't wait. Wherever a growth is refused, Memory is told, and not
 /// Limit: a script beside the proofs refuses them in turn.
 fn too_many(alloc: Global) -> Result<Option<Fault>, Fault> {
     let shelf = Many {
         count: 4097,
-        first: noted(alloc, 1 << 25)?,
+        room: (1 << 25) + 1,
         bytes: Content::Page.bytes(alloc)?,
     };
     Ok(open(alloc, shelf).err())

@@ -45,7 +45,7 @@ fn names_beside_files(rt: HostRuntime) -> Result<(), Fail> {
 
 /// What is said of a name beside so many files `0000.jp2`, `0001.jp2` and so on.
 fn beside(alloc: Global, name: &str, count: u16) -> Result<bool, Fault> {
-    let mut shelf = alike(count, Vec::new(alloc))?;
+    let mut shelf = alike(count, Vec::new(alloc));
     judge_name(alloc, &mut shelf, name)
 }
 

@@ -18,6 +18,8 @@ mod digests;
 #[cfg(test)]
 mod directories;
 #[cfg(test)]
+mod dressed;
+#[cfg(test)]
 mod failing;
 #[cfg(test)]
 mod first_faults;

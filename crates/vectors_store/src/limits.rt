@@ -13,7 +13,7 @@ use std::test::Fail;
 fn add_to_full(alloc: Global) -> Result<([Option<Fault>; 3], usize), Fault> {
     let bytes = Content::Page.bytes(alloc)?;
     let raw = plain(alloc, Container::Raw);
-    let mut archive = open(alloc, alike(4096, bytes)?)?;
+    let mut archive = open(alloc, alike(4096, bytes))?;
     let faults = [
         refusal_with(&mut archive, alloc, "A", &raw),
         refusal_with(&mut archive, alloc, "4095", &raw),
@@ -37,7 +37,7 @@ fn full_archives(rt: HostRuntime) -> Result<(), Fail> {
 /// Why an archive of so many images can't be opened.
 fn opened(alloc: Global, count: u16) -> Result<Option<Fault>, Fault> {
     let bytes = Content::Page.bytes(alloc)?;
-    Ok(open(alloc, alike(count, bytes)?).err())
+    Ok(open(alloc, alike(count, bytes)).err())
 }
 
 #[test]

@@ -1,4 +1,5 @@
-//! Shelves that fail at a call, that change what they give, and that have very many files.
+//! Shelves that fail at a call, that change what they give, that have very many files, and that give
+//! files in more room than they take.
 
 ghost use Rattle.std.specs.Prelude.{◌≡◌};
 
@@ -141,23 +142,37 @@ impl Shelf for Acting {
     }
 }
 
-/// A shelf of so many files `0000.jp2`, `0001.jp2` and so on, of which all but the first have the
-/// same bytes. It takes no other.
+/// A shelf of so many files `0000.jp2`, `0001.jp2` and so on, which all have the same bytes. Those of
+/// the first are given in so much room at least: they take so much memory, of which most isn't
+/// touched. It takes no other file.
 #[derive(Drop)]
 pub(crate) struct Many {
     pub(crate) count: u16,
-    pub(crate) first: Vec<u8>,
+    pub(crate) room: usize,
     pub(crate) bytes: Vec<u8>,
 }
 
-/// A shelf of so many files that all have the same bytes.
-pub(crate) fn alike(count: u16, bytes: Vec<u8>) -> Result<Many, Fault> {
-    let first = bytes.clone()?;
-    Ok(Many {
+/// A shelf of so many files that all have the same bytes, and no room for more.
+pub(crate) fn alike(count: u16, bytes: Vec<u8>) -> Many {
+    Many {
         count,
-        first,
+        room: 0,
         bytes,
-    })
+    }
+}
+
+/// Bytes in so much room at least.
+fn in_room(alloc: Global, bytes: &[u8], room: usize) -> Result<Vec<u8>, Fault> {
+    let mut given = Vec::with_capacity(alloc, room.max(bytes.len()))?;
+    given.extend_from_slice(bytes)?;
+    Ok(given)
+}
+
+/// At most so many of bytes, from a place on.
+fn stretch(alloc: Global, bytes: &[u8], start: u64, most: usize) -> Result<Vec<u8>, Fault> {
+    let start = start.min(bytes.len() as u64) as usize;
+    let rest = &bytes[start..];
+    Ok(Vec::from_slice(alloc, &rest[..most.min(rest.len())])?)
 }
 
 impl Shelf for Many {
@@ -180,10 +195,8 @@ impl Shelf for Many {
     }
 
     fn read(&mut self, alloc: Global, name: &str) -> Result<Vec<u8>, Fault> {
-        if name == "0000.jp2" {
-            return Ok(Vec::from_slice(alloc, &self.first)?);
-        }
-        Ok(Vec::from_slice(alloc, &self.bytes)?)
+        let room = if name == "0000.jp2" { self.room } else { 0 };
+        in_room(alloc, &self.bytes, room)
     }
 
     fn read_at(
@@ -193,9 +206,81 @@ impl Shelf for Many {
         start: u64,
         most: usize,
     ) -> Result<Vec<u8>, Fault> {
-        let start = start.min(self.bytes.len() as u64) as usize;
-        let rest = &self.bytes[start..];
-        Ok(Vec::from_slice(alloc, &rest[..most.min(rest.len())])?)
+        stretch(alloc, &self.bytes, start, most)
+    }
+
+    fn write(&mut self, _alloc: Global, _name: &str, _bytes: &[u8]) -> Result<(), Fault> {
+        Ok(())
+    }
+
+    fn rename(&mut self, _alloc: Global, _from: &str, _to: &str) -> Result<(), Fault> {
+        Ok(())
+    }
+
+    fn failures(&self) -> u64 {
+        0
+    }
+}
+
+/// A file, and the room in which its bytes are given.
+#[derive(Drop)]
+pub(crate) struct Roomed {
+    pub(crate) bytes: Vec<u8>,
+    pub(crate) room: usize,
+}
+
+/// A shelf of up to ten files `0.jp2`, `1.jp2` and so on, whose bytes are given in room for more. It
+/// takes no other.
+#[derive(Drop)]
+pub(crate) struct Roomy {
+    pub(crate) files: Vec<Roomed>,
+}
+
+impl Roomy {
+    /// The file of a name that begins with its number.
+    fn file(&self, name: &str) -> Option<&Roomed> {
+        let digit = *name.as_bytes().first()?;
+        self.files.get(digit.checked_sub(b'0')? as usize)
+    }
+}
+
+impl Shelf for Roomy {
+    ghost keeps = { λ _ _. ⊥ };
+
+    ghost gave = { λ _ _ _ _. Unit {0} };
+
+    ghost gave_at = { λ _ _ _ _ _ _. Unit {0} };
+
+    ghost lists = { λ _ _ _. Unit {0} };
+
+    ghost failed = { λ _. 0 };
+
+    fn list(&mut self, alloc: Global) -> Result<Vec<String>, Fault> {
+        let mut names = Vec::new(alloc);
+        for number in 0..self.files.len() {
+            names.push(format!(in alloc; "{number}.jp2")?)?;
+        }
+        Ok(names)
+    }
+
+    fn read(&mut self, alloc: Global, name: &str) -> Result<Vec<u8>, Fault> {
+        match self.file(name) {
+            Some(file) => in_room(alloc, &file.bytes, file.room),
+            None => Ok(Vec::new(alloc)),
+        }
+    }
+
+    fn read_at(
+        &mut self,
+        alloc: Global,
+        name: &str,
+        start: u64,
+        most: usize,
+    ) -> Result<Vec<u8>, Fault> {
+        match self.file(name) {
+            Some(file) => stretch(alloc, &file.bytes, start, most),
+            None => Ok(Vec::new(alloc)),
+        }
     }
 
     fn write(&mut self, _alloc: Global, _name: &str, _bytes: &[u8]) -> Result<(), Fault> {

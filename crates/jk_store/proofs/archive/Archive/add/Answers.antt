@@ -1,86 +1,49 @@
-use Rattle.std.proofs.Common.{◌≡◌, ◌⊎◌, inl, inr, ℕ, List, map, Ok, Err, refl}
+use Rattle.std.proofs.Common.{◌≡◌, ◌⊎◌, ◌++◌, ◌∷◌, [], map, Err}
 use Rattle.std.specs.Arc.{arc_value}
-use Rattle.jk_math.specs.Memory.{IsMemory}
-use Rattle.jk_math.specs.declared.fault.Fault.TheVariants.{Shelf}
 use Rattle.jk_code.specs.Written.{written}
-use Rattle.jk_store.specs.Files.{Files}
 use Rattle.jk_store.specs.Names.{temporary_name, file_name}
-use Rattle.jk_store.specs.Adding.{judged, IsLeft, IsUnstored}
-use Rattle.jk_store.proofs.OpenLaws.{fault_is}
-use Rattle.jk_store.proofs.AddedLaws.{archive_shows, archive_keeps, added}
-use Rattle.jk_store.proofs.AddLaws.{archive_named, archive_few, names_apart}
-use Rattle.jk_store.proofs.MadeLaws.{same_made, archive_made}
+use Rattle.jk_store.specs.Adding.{judged, IsUnstored}
+use Rattle.jk_store.specs.Showing.{ShowImages, StandForImages}
+use Rattle.jk_store.proofs.DueLaws.{stands_due, holds_due, image_due, left_due, cause_due, passes_too}
 use Rattle.jk_store.proofs.archive.Archive.add.Goals as goal
 
-pub invariant_of-self-2 : goal.invariant_of-self-2
-invariant_of-self-2 g c =
-    let fresh = rw c.deref.ensures.value at c.in_ok-judge.ensures.fresh in
-    let room = rw c.deref.ensures.value at c.in_ok-judge.ensures.room in
+pub put-requires : goal.put-requires
+put-requires g c =
     record {
-      named = archive_named arc_value c.args.self.now.entries.items c.reserve.new.self.items c.push_reserved.new.self.items c.in_ok-listed.listed (arc_value c.in_ok-made.made.entry) c.args.name.now
-          c.push_reserved.ensures.items c.reserve.ensures.items c.in_ok-listed.ensures c.in_ok-made.ensures.stands.name c.args.self.now.named c.in_ok-judge.ensures.named fresh;
-      few = archive_few c.args.self.now.entries.items c.reserve.new.self.items c.push_reserved.new.self.items c.in_ok-listed.listed c.push_reserved.ensures.items c.reserve.ensures.items room;
+      image = c.in_ok-file.ensures.image;
+      named = c.in_ok-judge.ensures.named;
+      fresh = rw c.deref.ensures.value at c.in_ok-judge.ensures.fresh;
+      room = rw c.deref.ensures.value at c.in_ok-judge.ensures.room;
     }
 
-pub returns-in_err-store-clause-left : goal.returns-in_err-store-clause-left
-returns-in_err-store-clause-left g c = λ files kept.
-    let made = c.in_ok-made.ensures in
-    let name = c.args.name.now in
-    let left = (rw (made.temporary, made.file, ← made.written) at c.in_err-store.ensures.left) (names_apart name name) files kept in
-    fault_is c.from_residual-in_err-store.result c.in_err-store.field-0.0 c.from_residual-in_err-store.ensures.1
-    (λ e. (left : Files) × g.S.Shelf.keeps c.store.new.shelf left × IsLeft (temporary_name name) (file_name name) (written c.args.image.now c.args.parameters.now) e files left) left
+pub returns-clause-stands : goal.returns-clause-stands
+returns-clause-stands g c = stands_due _ _ c.in_ok-file.ensures.exact arc_value c.args.name.now c.put.result c.put.ensures.stands
 
-pub returns-in_err-store-clause-cause : goal.returns-in_err-store-clause-cause
-returns-in_err-store-clause-cause g c =
-    let made = c.in_ok-made.ensures in
+pub returns-clause-holds : goal.returns-clause-holds
+returns-clause-holds g c = λ files f kept is.
     let name = c.args.name.now in
-    let cause = rw (made.temporary, made.file) at c.in_err-store.ensures.cause in
-    fault_is c.from_residual-in_err-store.result c.in_err-store.field-0.0 c.from_residual-in_err-store.ensures.1
-    (λ e. IsMemory e ⊎ ((judged (map arc_value c.args.self.now.entries.items) name c.args.image.now c.args.parameters.now ≡ Err e) ⊎ ((written c.args.image.now c.args.parameters.now ≡ Err e)
-    ⊎ ((e ≡ Shelf) × ((file : List ℕ) × (written c.args.image.now c.args.parameters.now ≡ Ok file)) × IsUnstored g.S.Shelf.unwritten g.S.Shelf.unrenamed (temporary_name name) (file_name name) c.args.self.now.shelf c.store.new.shelf))))
-    (elim c.in_err-store.ensures.counts [
-      | inl memory ↦ inl memory.0
-      | inr failed ↦ inr (inr (inr (failed.0, (c.in_ok-made.made.bytes.items, made.written), cause failed.0)))
-    ])
+    holds_due _ _ c.in_ok-file.ensures.exact g.S.Shelf.keeps c.put.new.self.shelf (file_name name) (temporary_name name) files c.put.result (c.put.ensures.holds files kept) f is
 
 pub returns-clause-shows : goal.returns-clause-shows
 returns-clause-shows g c = λ images shows.
-    let made = c.in_ok-made.ensures in
-    let bytes = c.in_ok-made.made.bytes.items in
-    let e = arc_value c.in_ok-made.made.entry in (
-      added e c.args.name.now bytes made.stands,
-      archive_shows arc_value c.args.self.now.entries.items c.reserve.new.self.items c.push_reserved.new.self.items c.in_ok-listed.listed e c.args.name.now bytes images
-          c.push_reserved.ensures.items c.reserve.ensures.items c.in_ok-listed.ensures made.stands shows,
-      made.stands.name,
-      made.written,
-    )
+    image_due _ _ c.in_ok-file.ensures.exact c.args.name.now (λ i. ShowImages (map arc_value c.put.new.self.entries.items) (images ++ i ∷ [])) c.put.result (c.put.ensures.shows images shows)
 
 pub returns-clause-keeps : goal.returns-clause-keeps
 returns-clause-keeps g c = λ images stands.
-    let made = c.in_ok-made.ensures in
+    image_due _ _ c.in_ok-file.ensures.exact c.args.name.now (λ i. StandForImages g.S.Shelf.keeps (map arc_value c.put.new.self.entries.items) c.put.new.self.shelf (images ++ i ∷ []))
+    c.put.result (c.put.ensures.keeps images stands)
+
+pub returns-clause-left : goal.returns-clause-left
+returns-clause-left g c = λ files kept.
     let name = c.args.name.now in
-    let bytes = c.in_ok-made.made.bytes.items in
-    let e = arc_value c.in_ok-made.made.entry in
-    let fresh = rw c.deref.ensures.value at c.in_ok-judge.ensures.fresh in
-    let kept = (rw (made.temporary, made.file) at c.in_ok-store.ensures.ok) stands.kept.files stands.kept.keeps_files in (
-      added e name bytes made.stands,
-      record {
-        shows = archive_shows arc_value c.args.self.now.entries.items c.reserve.new.self.items c.push_reserved.new.self.items c.in_ok-listed.listed e name bytes images
-            c.push_reserved.ensures.items c.reserve.ensures.items c.in_ok-listed.ensures made.stands stands.shows;
-        kept = archive_keeps g.S.Shelf.keeps c.args.self.now.shelf c.store.new.shelf (map arc_value c.args.self.now.entries.items) images name bytes stands.shows fresh stands.kept kept
-            (added e name bytes made.stands) made.stands.name refl;
-      },
-      made.stands.name,
-      made.written,
-    )
+    left_due _ _ c.in_ok-file.ensures.exact g.S.Shelf.keeps c.put.new.self.shelf (file_name name) (temporary_name name) files c.put.result (c.put.ensures.left files kept)
 
-pub returns-clause-made : goal.returns-clause-made
-returns-clause-made g c =
-    archive_made arc_value c.args.self.now.entries.items c.reserve.new.self.items c.push_reserved.new.self.items c.in_ok-listed.listed
-    c.push_reserved.ensures.items c.reserve.ensures.items
+pub returns-clause-cause : goal.returns-clause-cause
+returns-clause-cause g c =
+    let name = c.args.name.now in
+    cause_due _ _ c.in_ok-file.ensures.exact (λ e. judged (map arc_value c.args.self.now.entries.items) c.args.name.now c.args.image.now c.args.parameters.now ≡ Err e)
+    (IsUnstored g.S.Shelf.unwritten g.S.Shelf.unrenamed (temporary_name name) (file_name name) c.args.self.now.shelf c.put.new.self.shelf) c.put.result c.put.ensures.cause
 
-pub returns-in_err-reserve-clause-made : goal.returns-in_err-reserve-clause-made
-returns-in_err-reserve-clause-made g c = same_made arc_value c.args.self.now.entries.items c.reserve.new.self.items c.reserve.ensures.items
-
-pub returns-in_err-store-clause-made : goal.returns-in_err-store-clause-made
-returns-in_err-store-clause-made g c = same_made arc_value c.args.self.now.entries.items c.reserve.new.self.items c.reserve.ensures.items
+pub returns-clause-counts : goal.returns-clause-counts
+returns-clause-counts g c =
+    passes_too _ (λ e. (judged (map arc_value c.args.self.now.entries.items) c.args.name.now c.args.image.now c.args.parameters.now ≡ Err e) ⊎ (written c.args.image.now c.args.parameters.now ≡ Err e)) c.put.result _ _ c.put.ensures.counts

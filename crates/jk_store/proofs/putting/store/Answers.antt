@@ -1,5 +1,5 @@
 use Rattle.jk_store.proofs.AddLaws.{stored, stored_left}
-use Rattle.jk_store.proofs.adding.store.Goals as goal
+use Rattle.jk_store.proofs.putting.store.Goals as goal
 
 pub returns-clause-ok : goal.returns-clause-ok
 returns-clause-ok g c = λ files kept.
