@@ -1,9 +1,10 @@
 -- What encoding or decoding a file into a writer has written, by how far it came.
-use Rattle.std.proofs.Common.{◌≡◌, ℕ, List, [], Option, Result, Ok, Err, OnOk, refl, sym, subst, ◌∙◌, inl, inr, ◌≤◌, arith}
+use Rattle.std.proofs.Common.{◌≡◌, ℕ, List, [], Option, Result, Ok, Err, OnOk, refl, sym, subst, ◌∙◌, ◌⊎◌, inl, inr, ◌≤◌, arith}
 use Rattle.std.proofs.lemmas.Bool.{cases_lt}
 use Rattle.std.specs.Bool.{⊤}
 use Rattle.std.specs.Io.KnownBytes.{Appends}
 use Rattle.jk_math.specs.Answer.{Refuses}
+use Rattle.jk_math.specs.Memory.{IsMemory}
 use Rattle.jk_math.specs.Picture.{Picture}
 use Rattle.jk_math.specs.declared.fault.Fault.{Fault}
 use Rattle.jk_math.specs.declared.fault.Fault.TheVariants.{Memory, BadParameters}
@@ -22,6 +23,7 @@ use Rattle.jk_options.specs.declared.plan.Placed.{Placed}
 use Rattle.jk_options.specs.Plans.{placing}
 use Rattle.jk_commands.specs.Commands.{encoded, decoded, window_decoded, window_given}
 use Rattle.jk_commands.specs.Written.{LeftOf}
+use Rattle.jk_commands.specs.Dressing.{IsSentOf}
 
 -- this was written between two states of a writer
 abbrev pub Wrote : (a b : Option (List ℕ)) → (List ℕ → Type 0) → Type 0
@@ -96,6 +98,14 @@ pub window_refused : (bytes : List ℕ) (v : View) (e : Fault) → Refuses e (me
 unfolding window_decoded
 window_refused bytes v (Memory r) h = tt
 window_refused bytes v e h = rw h refl
+
+refused : (e : Fault) (due : Result (List ℕ) Fault) → Refuses e due → IsMemory e ⊎ (due ≡ Err e)
+refused (Memory r) due h = inl tt
+refused e due h = inr h
+
+-- nothing was written of a file that was refused
+pub none_sent : (a : Option (List ℕ)) (due : Result (List ℕ) Fault) (e : Fault) → Refuses e due → Wrote a a (λ text. IsSentOf due text (Err e))
+none_sent a due e h = ([], appends_none a, inr (refused e due h, refl))
 
 pub given_is : (v : View) (p q : Picture) → picture_of_view v p ≡ Ok q → window_given v p ≡ pnm_of q
 given_is v p q is = rw is refl
