@@ -3,7 +3,7 @@
 
 use crate::lines::GREY;
 use crate::memory::Memory;
-use crate::runs::{check_folder, check_output, check_run};
+use crate::runs::{check_file, check_output, check_run};
 use jk_line::Status;
 use jk_store::MemoryShelf;
 use std::alloc::Global;
@@ -252,7 +252,7 @@ fn added_images_keep_it(rt: HostRuntime) -> Result<(), Fail> {
         CODE_BOX,
         CODE,
     ];
-    check_folder(&rt, alloc, &mut world, line, &[("a.jp2", &file)])?;
+    check_file(&rt, alloc, &mut world, "a.jp2", &file, 1)?;
     let error = "jk: F18 NameTaken\n";
     check_run(&rt, alloc, &mut world, line, Status::Refused, &[], error)
 }

@@ -1,7 +1,7 @@
 //! Command lines, and what they do.
 
 use crate::memory::Memory;
-use crate::runs::{check_folder, check_output, check_run, run_line, world_of};
+use crate::runs::{check_file, check_output, check_run, run_line, world_of};
 use jk_line::Status;
 use std::alloc::Global;
 use std::process::Abort;
@@ -358,9 +358,8 @@ fn archives_grow(rt: HostRuntime) -> Result<(), Fail> {
         world.error.clear();
         check_run(&rt, alloc, &mut world, line, status, &[], error)?;
     }
-    let (page, column) = (pixel(), [COLUMN]);
-    let files: [(&str, &[&str]); 2] = [("a.jp2", &page), ("c.jp2", &column)];
-    check_folder(&rt, alloc, &mut world, "an archive", &files)?;
+    check_file(&rt, alloc, &mut world, "a.jp2", &pixel(), 2)?;
+    check_file(&rt, alloc, &mut world, "c.jp2", &[COLUMN], 2)?;
     world.error.clear();
     let line = "serve d --port 8080";
     check_run(&rt, alloc, &mut world, line, Status::Done, &[], SERVED)
@@ -392,7 +391,7 @@ fn styles_are_added(rt: HostRuntime) -> Result<(), Fail> {
             "FF90 000A 0000 0000000F 00 01 FF93 00 FFD9",
         ];
         check_run(&rt, alloc, &mut world, line.as_str(), Status::Done, &[], "")?;
-        check_folder(&rt, alloc, &mut world, options, &[("a.jp2", &file)])?;
+        check_file(&rt, alloc, &mut world, "a.jp2", &file, 1)?;
     }
     Ok(())
 }

@@ -107,32 +107,22 @@ fn has(shelf: &mut MemoryShelf, alloc: Global, name: &str, texts: &[&str]) -> Re
     })
 }
 
-/// How many of these files a shelf has, and how many it has in all.
-fn counted(
-    shelf: &mut MemoryShelf,
-    alloc: Global,
-    files: &[(&str, &[&str])],
-) -> Result<(usize, usize), Fail> {
-    let mut count = 0usize;
-    for (name, texts) in files {
-        if has(shelf, alloc, name, texts)? {
-            count = count.saturating_add(1);
-        }
-    }
-    Ok((count, shelf.list(alloc)?.len()))
-}
-
-/// Checks that the folder `d` of a world was given back and has these files and no other.
-pub(crate) fn check_folder<R: Abort + Threads + Sync>(
+/// Checks that the folder `d` of a world was given back, has a file with these bytes, and so many
+/// files in all.
+pub(crate) fn check_file<R: Abort + Threads + Sync>(
     rt: &R,
     alloc: Global,
     world: &mut Memory<'_, R>,
-    case: &str,
-    files: &[(&str, &[&str])],
+    name: &str,
+    texts: &[&str],
+    count: usize,
 ) -> Result<(), Fail> {
     let mut shelf = world.folders.remove("d").ok_or("the folder is given back")?;
-    let found = counted(&mut shelf, alloc, files)?;
-    equal_at(case, found, (files.len(), files.len())).expect(rt, "the files of a folder");
+    let found = (
+        has(&mut shelf, alloc, name, texts)?,
+        shelf.list(alloc)?.len(),
+    );
+    equal_at(name, found, (true, count)).expect(rt, "the files of a folder");
     world.folders.insert(String::from_str(alloc, "d")?, shelf)?;
     Ok(())
 }
