@@ -18,7 +18,7 @@ extern "C" {
 
 /* The version of this header: 10,000 times the major number, 100 times the minor one, and the patch. jk_version()
  * answers that of the library. */
-#define JK_VERSION 200u
+#define JK_VERSION 201u
 
 /* What calls answer. But for the last two these are the faults of `jk faults`. */
 enum {
@@ -131,6 +131,20 @@ uint32_t jk_encode_i16(const jk_frame *frame, const int16_t *samples, size_t cou
  * It was never seen longer than the stored file. */
 uint32_t jk_cut(const uint8_t *file, size_t file_length, uint32_t reduce, uint32_t x, uint32_t y, uint32_t width,
                 uint32_t height, uint8_t *cut, size_t room, size_t *length);
+
+/* What a file keeps beside the samples, as boxes one after another (T.800 Annex I): `colr`, the colour space or profile that
+ * counts; `res `, the resolutions; and all boxes `xml ` and `uuid`, in their order. A bare codestream keeps nothing, 0
+ * bytes. With JK_SHORT *length tells how much room is needed; the file's length is always enough. */
+uint32_t jk_extras(const uint8_t *file, size_t file_length, uint8_t *boxes, size_t room, size_t *length);
+
+/* A JP2 file with what such boxes say, at most one `colr` and one `res ` and any `xml ` and `uuid`, without coding it anew.
+ * A colour takes the place of the file's, sRGB and grey by the number of components; a resolution that of its
+ * resolutions; the others stand right before the codestream, behind those that it has. JK_BAD_PARAMETERS: the file is a
+ * bare codestream; the profile isn't a restricted one, or not for 1 or 3 components as the file has; another colour space;
+ * more than 1,024 boxes or 2^24 bytes. JK_BAD_BOX: another box. JK_BAD_VALUE: a resolution of 0. The file's length and that
+ * of the boxes together are always room enough. */
+uint32_t jk_with_extras(const uint8_t *file, size_t file_length, const uint8_t *boxes, size_t boxes_length, uint8_t *dressed,
+                        size_t room, size_t *length);
 
 /* The name of what a call answers. */
 static inline const char *jk_fault_name(uint32_t fault)
