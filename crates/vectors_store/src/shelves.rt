@@ -2,6 +2,7 @@
 //! files in more room than they take.
 
 ghost use Rattle.std.specs.Prelude.{◌≡◌};
+ghost use Rattle.jk_store.specs.Counting.{Counts};
 
 use jk_math::Fault;
 use jk_store::{Failures, MemoryShelf, Shelf};
@@ -162,14 +163,18 @@ pub(crate) fn alike(count: u16, bytes: Vec<u8>) -> Many {
 }
 
 /// Bytes in so much room at least.
-fn in_room(alloc: Global, bytes: &[u8], room: usize) -> Result<Vec<u8>, Fault> {
+fn in_room(alloc: Global, bytes: &[u8], room: usize) -> Result<Vec<u8>, Fault>
+    ensures { Counts result 0 0 }
+{
     let mut given = Vec::with_capacity(alloc, room.max(bytes.len()))?;
     given.extend_from_slice(bytes)?;
     Ok(given)
 }
 
 /// At most so many of bytes, from a place on.
-fn stretch(alloc: Global, bytes: &[u8], start: u64, most: usize) -> Result<Vec<u8>, Fault> {
+fn stretch(alloc: Global, bytes: &[u8], start: u64, most: usize) -> Result<Vec<u8>, Fault>
+    ensures { Counts result 0 0 }
+{
     let start = start.min(bytes.len() as u64) as usize;
     let rest = &bytes[start..];
     Ok(Vec::from_slice(alloc, &rest[..most.min(rest.len())])?)
