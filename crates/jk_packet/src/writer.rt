@@ -210,32 +210,38 @@ fn push_bodies(tables: &[BlockTable], layer: u16, out: &mut Vec<u8>) -> Result<(
     Ok(())
 }
 
-/// Appends the packet of a layer.
+/// A packet of a precinct: its layer, and its number in the tile.
+#[derive(Clone, Copy)]
+struct PacketPlace {
+    layer: u16,
+    number: u32,
+}
+
+/// Appends a packet.
 fn push_packet(
     alloc: Global,
     bands: &mut Vec<WriteBand>,
     shape: &PrecinctShape,
     layers: u16,
     tables: &[BlockTable],
-    layer: u16,
-    number: u32,
+    place: PacketPlace,
     out: &mut Vec<u8>,
 ) -> Result<(), Fault>
     requires tables { AreTables (bands_of shape.now) layers (banded (bands_of shape.now) tables.now) }
     requires whole { length tables.now ≡ block_count (bands_of shape.now) }
-    requires layer { layer < layers }
-    requires stand { BandsStand (bands_of shape.now) (banded (bands_of shape.now) tables.now) layer bands.old.items }
+    requires layer { place.layer < layers }
+    requires stand { BandsStand (bands_of shape.now) (banded (bands_of shape.now) tables.now) place.layer bands.old.items }
     ensures stand { IfOk result
-        (λ _. BandsStand (bands_of shape.now) (banded (bands_of shape.now) tables.now) (layer + 1) bands.new.items) }
+        (λ _. BandsStand (bands_of shape.now) (banded (bands_of shape.now) tables.now) (place.layer + 1) bands.new.items) }
     ensures ok { OnOk result (out.new.items ≡ out.old.items
         ++ packet_in (bands_of shape.now) shape.now.sop shape.now.eph (banded (bands_of shape.now) tables.now)
-        layer number) }
+        place.layer place.number) }
     ensures front { IsFront out.old.items out.new.items }
     ensures memory { IfErr result (λ e. IsMemory e) }
 {
-    let header = write_bits(alloc, bands, shape, layers, tables, layer)?;
-    push_header(shape.sop(), shape.eph(), number, &header, out)?;
-    push_bodies(tables, layer, out)?;
+    let header = write_bits(alloc, bands, shape, layers, tables, place.layer)?;
+    push_header(shape.sop(), shape.eph(), place.number, &header, out)?;
+    push_bodies(tables, place.layer, out)?;
     Ok(())
 }
 
@@ -299,8 +305,10 @@ impl<'a> PrecinctWriter<'a> {
             &self.shape,
             self.layers,
             self.tables,
-            self.written,
-            number,
+            PacketPlace {
+                layer: self.written,
+                number,
+            },
             out,
         ) {
             Ok(()) => {

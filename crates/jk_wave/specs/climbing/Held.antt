@@ -1,7 +1,6 @@
 -- What is held while the columns of a plane are lifted back a row at a time, and what was given.
 use Rattle.std.specs.Prelude.{◌≡◌, ℕ, ◌+◌, ◌-◌, ◌^◌, ◌<◌, ◌≤◌, max, length, ℤ}
 use Rattle.std.specs.List.{All}
-use Rattle.std.specs.Global.{Vec}
 use Rattle.jk_math.specs.declared.rect.Rect.{Rect}
 use Rattle.jk_math.specs.Raster.{columns_of}
 use Rattle.jk_math.specs.Signed.{IsBelow}
@@ -9,6 +8,7 @@ use Rattle.jk_geom.specs.Rectangles.{IsWithin}
 use Rattle.jk_lift.specs.Lifting.{unlifted}
 use Rattle.jk_wave.specs.SourceRows.{IsRow}
 use Rattle.jk_wave.specs.declared.climbing.climb.Climb.{Climb}
+use Rattle.jk_wave.specs.declared.climbing.plane.NextRows.{NextRows}
 
 -- the sample at (x, y), where each row of f has its columns made already
 abbrev pub column_sample : Rect → (f : ℕ → ℕ → ℤ) → (x y : ℕ) → ℤ
@@ -34,10 +34,10 @@ pub record HoldsRows (a : Rect) (s : Climb) : Type 0 where
   pub odd_small : All (IsBelow (2 ^ 29)) s.odd.items
 
 -- and there is room for the next two
-pub record HasRoom (a : Rect) (s : Climb) (even odd : Vec ℤ) : Type 0 where
+pub record HasRoom (a : Rect) (s : Climb) (next : NextRows) : Type 0 where
   pub held : HoldsRows a s
-  pub even_room : length even.items ≡ columns_of a
-  pub odd_room : length odd.items ≡ columns_of a
+  pub even_room : length next.even.items ≡ columns_of a
+  pub odd_room : length next.odd.items ≡ columns_of a
 
 -- Row v is next: the samples of the even row above it and the coefficients of the odd one are held,
 -- where the rectangle has these.

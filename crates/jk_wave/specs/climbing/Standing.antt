@@ -40,7 +40,7 @@ pub record IsStanding (s : ClimbingLevel) : Type 0 where
   pub upper : s.area.y0 ≤ s.v
   pub lower : s.v ≤ s.area.y1
   pub pairs : s.area.y0 < s.v → s.v < s.area.y1 → s.v % 2 ≡ 0
-  pub ready : s.v < s.area.y1 → HasRoom s.area s.climb s.even s.odd
+  pub ready : s.v < s.area.y1 → HasRoom s.area s.climb s.next
   pub small : All (IsBelow (2 ^ 29 - 2 ^ 26)) s.low.items
 
 -- A step may take rows up to t, an even place or the end, with further rows below: with those that

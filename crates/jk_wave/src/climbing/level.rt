@@ -14,7 +14,7 @@ ghost use Rattle.jk_wave.specs.climbing.Standing.{AreHigh, ShowHigh, ShowLow, Is
 
 use crate::climbing::climb::Climb;
 use crate::climbing::parts::{GivenRows, WovenRows};
-use crate::climbing::plane::climb_to;
+use crate::climbing::plane::{NextRows, climb_to};
 use jk_math::{Fault, Rect};
 use std::alloc::Global;
 
@@ -37,9 +37,7 @@ pub struct ClimbingLevel {
     pub(crate) v: u32,
     /// The rows that are held.
     pub(crate) climb: Climb,
-    /// Room for the next two rows.
-    pub(crate) even: Vec<i32>,
-    pub(crate) odd: Vec<i32>,
+    pub(crate) next: NextRows,
     /// The rows of the resolution below that are made and not yet taken.
     pub(crate) low: Vec<i32>,
 }
@@ -68,8 +66,10 @@ impl ClimbingLevel {
             area: *area,
             v: area.y0,
             climb: Climb::new(alloc, area)?,
-            even: vec![in alloc; 0; width]?,
-            odd: vec![in alloc; 0; width]?,
+            next: NextRows {
+                even: vec![in alloc; 0; width]?,
+                odd: vec![in alloc; 0; width]?,
+            },
             low: Vec::new(alloc),
         })
     }
@@ -83,7 +83,7 @@ impl ClimbingLevel {
         requires even_end { self.old.area.y0 < t → t < self.old.area.y1 → t % 2 ≡ 0 }
         requires enough { (half_bound t 0 - half_bound self.old.v 0) * half_width self.old.area 0 ≤ length self.old.low.items }
         ensures same { (self.new.area ≡ self.old.area) × (self.new.v ≡ self.old.v) × (self.new.low ≡ self.old.low) }
-        ensures ready { OnOk result (t < self.old.area.y1 → HasRoom self.old.area self.new.climb self.new.even self.new.odd) }
+        ensures ready { OnOk result (t < self.old.area.y1 → HasRoom self.old.area self.new.climb self.new.next) }
         ensures samples { OnOk result ((low : ℕ → ℕ → ℤ) (bands : ℕ → ℕ → ℕ → ℤ)
             → ShowLow self.old.area self.old.v t low self.old.low.items → ShowHigh self.old.area self.old.v t bands high.now
             → (self.old.v < self.old.area.y1 → IsClimb self.old.area (across self.old.area (woven_plane low bands)) self.old.v self.old.climb)
@@ -110,8 +110,7 @@ impl ClimbingLevel {
             &self.area,
             self.v,
             t,
-            &mut self.even,
-            &mut self.odd,
+            &mut self.next,
             out,
         )
     }

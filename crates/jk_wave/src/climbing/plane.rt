@@ -13,6 +13,13 @@ use crate::climbing::climb::{Climb, only};
 use crate::source::RowSource;
 use jk_math::{Fault, Rect};
 
+/// Room for the next two rows of a level.
+#[derive(Drop)]
+pub struct NextRows {
+    pub even: Vec<i32>,
+    pub odd: Vec<i32>,
+}
+
 /// Puts row `y` of coefficients, whose columns are made, into a row; those from `v` up to `t` are
 /// there.
 fn put_row<S: RowSource>(source: &S, area: &Rect, v: u32, t: u32, y: u32, row: &mut Vec<i32>)
@@ -104,8 +111,7 @@ fn climb_pairs<S: RowSource>(
     area: &Rect,
     v: u32,
     t: u32,
-    even: &mut Vec<i32>,
-    odd: &mut Vec<i32>,
+    next: &mut NextRows,
     out: &mut Vec<i32>,
 ) -> Result<(), Fault>
     requires stands { S.stands source.now }
@@ -118,24 +124,24 @@ fn climb_pairs<S: RowSource>(
     requires to { t ≤ area.now.y1 }
     requires pairs { area.now.y0 < v → v % 2 ≡ 0 }
     requires even_end { t < area.now.y1 → t % 2 ≡ 0 }
-    requires ready { HasRoom area.now climb.old even.old odd.old }
+    requires ready { HasRoom area.now climb.old next.old }
     ensures samples { OnOk result ((f : ℕ → ℕ → ℤ) → RowsAgree area.now v t (S.value_at source.now) f → IsClimb area.now f v climb.old
         → (t < area.now.y1 → IsClimb area.now f t climb.new) × (out.new.items ≡ out.old.items
         ++ raster (rows_between area.now (made area.now v) (rows_reached area.now t)) (column_sample area.now f))) }
-    ensures ready { OnOk result (t < area.now.y1 → HasRoom area.now climb.new even.new odd.new) }
+    ensures ready { OnOk result (t < area.now.y1 → HasRoom area.now climb.new next.new) }
     ensures err { IfErr result (λ e. IsMemory e) }
 {
-    let mut y = start(climb, source, area, v, t, odd);
+    let mut y = start(climb, source, area, v, t, &mut next.odd);
     while y + 1 < t {
-        put_row(source, area, v, t, y, even);
-        put_row(source, area, v, t, y + 1, odd);
-        climb.add_pair(area, y, even, odd, out)?;
+        put_row(source, area, v, t, y, &mut next.even);
+        put_row(source, area, v, t, y + 1, &mut next.odd);
+        climb.add_pair(area, y, &mut next.even, &mut next.odd, out)?;
         y += 2;
     }
     if t < area.y1 {
         return Ok(());
     }
-    end(climb, source, area, v, y, even, out)
+    end(climb, source, area, v, y, &mut next.even, out)
 }
 
 /// Takes the rows of coefficients from `v` up to `t`, which is even or the end, and gives the samples
@@ -146,8 +152,7 @@ pub fn climb_to<S: RowSource>(
     area: &Rect,
     v: u32,
     t: u32,
-    even: &mut Vec<i32>,
-    odd: &mut Vec<i32>,
+    next: &mut NextRows,
     out: &mut Vec<i32>,
 ) -> Result<(), Fault>
     requires stands { S.stands source.now }
@@ -159,20 +164,20 @@ pub fn climb_to<S: RowSource>(
     requires to { t ≤ area.now.y1 }
     requires pairs { area.now.y0 < v → v < area.now.y1 → v % 2 ≡ 0 }
     requires even_end { area.now.y0 < t → t < area.now.y1 → t % 2 ≡ 0 }
-    requires ready { v < area.now.y1 → HasRoom area.now climb.old even.old odd.old }
+    requires ready { v < area.now.y1 → HasRoom area.now climb.old next.old }
     ensures samples { OnOk result ((f : ℕ → ℕ → ℤ) → RowsAgree area.now v t (S.value_at source.now) f
         → (v < area.now.y1 → IsClimb area.now f v climb.old)
         → (t < area.now.y1 → IsClimb area.now f t climb.new) × (out.new.items ≡ out.old.items
         ++ raster (rows_between area.now (rows_reached area.now v) (rows_reached area.now t)) (column_sample area.now f))) }
-    ensures ready { OnOk result (t < area.now.y1 → HasRoom area.now climb.new even.new odd.new) }
+    ensures ready { OnOk result (t < area.now.y1 → HasRoom area.now climb.new next.new) }
     ensures err { IfErr result (λ e. IsMemory e) }
 {
     if v == t {
         return Ok(());
     }
     if area.y0 + 1 == area.y1 {
-        put_row(source, area, v, t, v, even);
-        return only(area, even, out);
+        put_row(source, area, v, t, v, &mut next.even);
+        return only(area, &mut next.even, out);
     }
-    climb_pairs(climb, source, area, v, t, even, odd, out)
+    climb_pairs(climb, source, area, v, t, next, out)
 }

@@ -18,6 +18,15 @@ use jk_math::Fault;
 use std::alloc::Global;
 use std::mem;
 
+/// A step of a level, from row `from` up to row `to` of the highest resolution: the level makes the
+/// resolution above `below`.
+#[derive(Clone, Copy)]
+struct LevelStep {
+    below: u8,
+    from: u32,
+    to: u32,
+}
+
 /// How far the coefficients of resolution `q + 1` are taken, where the highest resolution is made up
 /// to row `e`.
 fn asked(bands: &Bands, top: u8, q: u8, e: u32) -> u32
@@ -67,39 +76,37 @@ fn high_of<'a>(bands: &'a Bands, top: u8, q: u8) -> HighRows<'a>
     }
 }
 
-/// Makes the level of resolution `q + 1` step, where the highest resolution is made from row `from`
-/// up to row `e`: from the rows of resolution `q` that were made, to those of its own in `next`.
+/// Makes a level step, from the rows of the resolution below that were made, `fresh`, to those of its
+/// own in `next`.
 fn step_level(
     level: &mut ClimbingLevel,
     bands: &Bands,
     top: u8,
-    q: u8,
-    from: u32,
-    e: u32,
+    at: LevelStep,
     fresh: &[i32],
     next: &mut Vec<i32>,
 ) -> Result<(), Fault>
     requires area { IsArea bands.now.rect }
     requires levels { bands.now.levels ≤ 10 }
     requires top { top ≤ bands.now.levels }
-    requires q { q < top }
+    requires q { at.below < top }
     requires bands { AreBands bands.now.rect bands.now.levels top bands.now.bands }
-    requires e { e < 2 ^ 31 }
-    requires order { from ≤ e }
-    requires at { IsLevelAt bands.now.rect bands.now.levels top from
-        (coefficients_of bands.now.rect bands.now.levels bands.now.bands) q level.old }
-    requires fresh { fresh.now ≡ rows_of_step bands.now.rect bands.now.levels top from e
-        (coefficients_of bands.now.rect bands.now.levels bands.now.bands) q }
-    ensures at { OnOk result (IsLevelAt bands.now.rect bands.now.levels top e
-        (coefficients_of bands.now.rect bands.now.levels bands.now.bands) q level.new) }
-    ensures rows { OnOk result (next.new.items ≡ rows_of_step bands.now.rect bands.now.levels top from e
-        (coefficients_of bands.now.rect bands.now.levels bands.now.bands) (q + 1)) }
+    requires e { at.to < 2 ^ 31 }
+    requires order { at.from ≤ at.to }
+    requires at { IsLevelAt bands.now.rect bands.now.levels top at.from
+        (coefficients_of bands.now.rect bands.now.levels bands.now.bands) at.below level.old }
+    requires fresh { fresh.now ≡ rows_of_step bands.now.rect bands.now.levels top at.from at.to
+        (coefficients_of bands.now.rect bands.now.levels bands.now.bands) at.below }
+    ensures at { OnOk result (IsLevelAt bands.now.rect bands.now.levels top at.to
+        (coefficients_of bands.now.rect bands.now.levels bands.now.bands) at.below level.new) }
+    ensures rows { OnOk result (next.new.items ≡ rows_of_step bands.now.rect bands.now.levels top at.from at.to
+        (coefficients_of bands.now.rect bands.now.levels bands.now.bands) (at.below + 1)) }
     ensures err { IfErr result (λ e. IsMemory e) }
 {
-    prove!(from <= e);
-    let t = asked(bands, top, q, e);
+    prove!(at.from <= at.to);
+    let t = asked(bands, top, at.below, at.to);
     next.clear();
-    level.step(&high_of(bands, top, q), fresh, t, next)
+    level.step(&high_of(bands, top, at.below), fresh, t, next)
 }
 
 /// Some of the numbers of a list.
@@ -160,7 +167,12 @@ fn step_all(
     ensures err { IfErr result (λ e. IsMemory e) }
 {
     for q in 0..top {
-        step_level(&mut levels[q as usize], bands, top, q, from, e, fresh, next)?;
+        let at = LevelStep {
+            below: q,
+            from,
+            to: e,
+        };
+        step_level(&mut levels[q as usize], bands, top, at, fresh, next)?;
         mem::swap(fresh, next);
     }
     Ok(())

@@ -11,10 +11,10 @@ returns-clause-ok c =
     let shapes = bands_of c.args.shape.now in
     let flat = c.args.tables.now in
     let out = c.args.out.now.items in
-    let bodies = flat_map (λ (t : Table). (part_in t c.args.layer).1) flat in
+    let bodies = flat_map (λ (t : Table). (part_in t c.args.place.layer).1) flat in
     let header = c.deref.result.now in
     c.in_ok-push_bodies.ensures.ok
     ∙ ap (λ (bs : List ℕ). bs ++ bodies) c.in_ok-push_header.ensures.ok
-    ∙ ap (λ (b : Bool). (out ++ (sop_text b (c.args.number % 65536) ++ (header ++ eph_text c.eph.result))) ++ bodies) c.sop.ensures
-    ∙ ap (λ (b : Bool). (out ++ (sop_text c.args.shape.now.sop (c.args.number % 65536) ++ (header ++ eph_text b))) ++ bodies) c.eph.ensures
-    ∙ packet_by shapes c.args.shape.now.sop c.args.shape.now.eph (banded shapes flat) c.args.layer c.args.number out header bodies (c.deref.ensures.value ∙ c.in_ok-header.ensures.told) (bodies_flat shapes flat c.args.layer c.requires.whole)
+    ∙ ap (λ (b : Bool). (out ++ (sop_text b (c.args.place.number % 65536) ++ (header ++ eph_text c.eph.result))) ++ bodies) c.sop.ensures
+    ∙ ap (λ (b : Bool). (out ++ (sop_text c.args.shape.now.sop (c.args.place.number % 65536) ++ (header ++ eph_text b))) ++ bodies) c.eph.ensures
+    ∙ packet_by shapes c.args.shape.now.sop c.args.shape.now.eph (banded shapes flat) c.args.place.layer c.args.place.number out header bodies (c.deref.ensures.value ∙ c.in_ok-header.ensures.told) (bodies_flat shapes flat c.args.place.layer c.requires.whole)

@@ -27,7 +27,7 @@ returns-clause-standing c =
       upper = omega (arith, upper, st.upper, c.requires.may.order);
       lower = omega (arith, lower, c.requires.may.inside);
       pairs = λ behind less. c.requires.may.pairs (omega (arith, behind, upper)) (omega (arith, less, lower));
-      ready = λ less. subst (λ (b : Rect). HasRoom b n.climb n.even n.odd) (sym same.0) (c.in_ok-take.ensures.ready (omega (arith, less, lower)));
+      ready = λ less. subst (λ (b : Rect). HasRoom b n.climb n.next) (sym same.0) (c.in_ok-take.ensures.ready (omega (arith, less, lower)));
       small = subst (All P) (sym c.forget.ensures) (all_drop P _ n.low.items
           (subst (All P) (sym (ap (λ (v : Vec ℤ). v.items) same.2 ∙ c.in_ok-extend_from_slice.ensures.items)) (all_append P s.low.items c.args.fresh.now st.small c.requires.may.small)));
     }
