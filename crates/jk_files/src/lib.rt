@@ -16,7 +16,7 @@ pub use listing::{Listing, Other, list, names};
 pub use locking::{
     Lock, Lockable, SharedLock, try_exclusive, try_shared, wait_exclusive, wait_shared,
 };
-pub use output::{Output, abandon_output, create_output, finish_output};
+pub use output::{Output, abandon_output, create_beside_output, create_output, finish_output};
 pub use place::is_file_name;
 pub use reading::{read_all, read_file, read_inside, read_inside_at, read_path};
 pub use refusal::Refusal;

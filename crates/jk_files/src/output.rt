@@ -69,19 +69,40 @@ fn create_as_it_is<R: Files>(rt: &R, path: &str) -> Result<Output<R::File>, Refu
     Ok(Output { file, beside: None })
 }
 
-/// A new file beside a path, or where the folder doesn't allow that, the file that has the path.
-fn create<R: Files>(
+/// A new file beside a path, if the folder allows one.
+fn create_if_allowed<R: Files>(
     rt: &R,
     alloc: Global,
     path: &str,
     permissions: Option<Permissions>,
-) -> Result<Output<R::File>, Refusal> {
+) -> Result<Option<Output<R::File>>, Refusal> {
     if permissions.is_some() {
         check_writable(rt, path)?;
     }
     match create_beside(rt, alloc, path, permissions) {
-        Err(Refusal::System(said)) if is_forbidden(&said) => create_as_it_is(rt, path),
-        answer => answer,
+        Ok(output) => Ok(Some(output)),
+        Err(Refusal::System(said)) if is_forbidden(&said) => Ok(None),
+        Err(refusal) => Err(refusal),
+    }
+}
+
+/// Opens a new file beside a path to be written in parts, where [`create_output`] opens one. None
+/// where that writes what has the path as it is: then nothing is made, emptied or written.
+///
+/// System: it can't be opened.
+pub fn create_beside_output<R: Files>(
+    rt: &R,
+    alloc: Global,
+    path: &str,
+) -> Result<Option<Output<R::File>>, Refusal> {
+    match target_of(rt, path)? {
+        Target::New => create_if_allowed(rt, alloc, path, None),
+        Target::File(permissions) => create_if_allowed(rt, alloc, path, Some(permissions)),
+        Target::Link(permissions) => {
+            let file = rt.canonicalize(alloc, path)?;
+            create_if_allowed(rt, alloc, file.as_str(), Some(permissions))
+        }
+        Target::AsItIs => Ok(None),
     }
 }
 
@@ -96,14 +117,9 @@ pub fn create_output<R: Files>(
     alloc: Global,
     path: &str,
 ) -> Result<Output<R::File>, Refusal> {
-    match target_of(rt, path)? {
-        Target::New => create(rt, alloc, path, None),
-        Target::File(permissions) => create(rt, alloc, path, Some(permissions)),
-        Target::Link(permissions) => {
-            let file = rt.canonicalize(alloc, path)?;
-            create(rt, alloc, file.as_str(), Some(permissions))
-        }
-        Target::AsItIs => create_as_it_is(rt, path),
+    match create_beside_output(rt, alloc, path)? {
+        Some(output) => Ok(output),
+        None => create_as_it_is(rt, path),
     }
 }
 
