@@ -25,3 +25,5 @@ pub mod OneTile
 pub mod StripeLaws
 pub mod MadeLaws
 pub mod Laws
+pub mod TileRowing
+pub mod RowLaws

@@ -92,7 +92,7 @@ are_stripes {A} gives bytes h d a cut made parts e long each =
     }
 
 -- the rows of the picture of all tiles
-rows_are : (bytes : List ℕ) (h : Headers) (d y z : ℕ) → IsArea (frame_of h d) → (frame_of h d).y0 ≤ y → z ≤ (frame_of h d).y1
+pub rows_are : (bytes : List ℕ) (h : Headers) (d y z : ℕ) → IsArea (frame_of h d) → (frame_of h d).y0 ≤ y → z ≤ (frame_of h d).y1
     → picture_with h.siz (record { x0 = (frame_of h d).x0; y0 = y; x1 = (frame_of h d).x1; y1 = z }) (planes_of_tiles bytes h d (record { x0 = (frame_of h d).x0; y0 = y; x1 = (frame_of h d).x1; y1 = z })) ≡ rows_of (tiles_picture bytes h d) y z
 rows_are bytes h d y z is low high =
     let a = frame_of h d in

@@ -18,3 +18,4 @@ pub mod Made
 pub mod Beginnings
 pub mod Sending
 pub mod Examples
+pub mod Rows

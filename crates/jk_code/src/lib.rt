@@ -9,6 +9,7 @@ mod frames;
 mod joining;
 mod making;
 mod reduction;
+mod rows;
 mod stripes;
 mod viewing;
 mod windows;
@@ -19,6 +20,7 @@ pub use decoding_with::decode_with;
 pub use encoding::{encode, encode_with};
 pub use frames::{ImageFrame, frame};
 pub use making::{MadeStripes, StripeWork, make_with};
+pub use rows::{Rows, decode_rows};
 pub use viewing::{decode_window, decode_window_by};
 pub use windows::{
     cut_files_show_the_window, pictures_have_indexes, window, windows_show_the_picture,

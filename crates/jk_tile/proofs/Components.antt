@@ -114,7 +114,7 @@ unfolding source_values component_part_tested
 source_by bytes a k d u places c = refl
 
 -- the source of a component that was read
-source_here : (bytes : List ℕ) (h : Headers) (t d c : ℕ) (rect u : Rect) (coding : Coding) (places : List PacketPlace) → rect ≡ tile_area h.siz t → coding ≡ coding_of (tile_in h.tiles t).codings c
+pub source_here : (bytes : List ℕ) (h : Headers) (t d c : ℕ) (rect u : Rect) (coding : Coding) (places : List PacketPlace) → rect ≡ tile_area h.siz t → coding ≡ coding_of (tile_in h.tiles t).codings c
     → source_of bytes rect coding d u places c ≡ source_of bytes (tile_area h.siz t) (coding_of (tile_in h.tiles t).codings c) d u places c
 source_here bytes h t d c rect u coding places er ec =
     ap (λ (a : Rect). source_of bytes a coding d u places c) er ∙ ap (λ (k : Coding). source_of bytes (tile_area h.siz t) k d u places c) ec

@@ -55,7 +55,7 @@ grid_width : (a : Rect) (w h : ℕ) → (grid_of a w h).width ≡ w
 unfolding grid_of
 grid_width a w h = either (λ g. g.width) w (is_empty a) _ _ refl refl
 
-grid_height : (a : Rect) (w h : ℕ) → (grid_of a w h).height ≡ h
+pub grid_height : (a : Rect) (w h : ℕ) → (grid_of a w h).height ≡ h
 unfolding grid_of
 grid_height a w h = either (λ g. g.height) h (is_empty a) _ _ refl refl
 

@@ -127,15 +127,15 @@ unfolding bodies_of
 numbered_bodies s r n numbers is = is.whose s.bytes
 
 -- what a code-block has of them
-pub listed_bodies : (s : Source) (r n i j count : ℕ) (numbers : List ℕ) (places : List PacketPlace) (lists : List (Vec BodyPlace)) (v : Vec BodyPlace) (lent : List BodyPlace)
-    → AreNumbers s.packets s.packets s.component r n numbers → places ≡ s.packets → AreByBlock (length s.bytes) i count (λ bytes. bodies_in bytes (map (place_in places) numbers)) lists → j < count
-    → v ≡ get_or lists j v → lent ≡ v.items → (All (IsInside (length s.bytes)) lent) × (map (body_of s.bytes) lent ≡ block_bodies i j (source_bodies s r n))
-listed_bodies s r n i j count numbers places lists v lent of ep h lt ev el =
+pub listed_bodies : (s : Source) (r n i j first count : ℕ) (numbers : List ℕ) (places : List PacketPlace) (lists : List (Vec BodyPlace)) (v : Vec BodyPlace) (lent : List BodyPlace)
+    → AreNumbers s.packets s.packets s.component r n numbers → places ≡ s.packets → AreByBlock (length s.bytes) i first count (λ bytes. bodies_in bytes (map (place_in places) numbers)) lists → j < count
+    → v ≡ get_or lists j v → lent ≡ v.items → (All (IsInside (length s.bytes)) lent) × (map (body_of s.bytes) lent ≡ block_bodies i (first + j) (source_bodies s r n))
+listed_bodies s r n i j first count numbers places lists v lent of ep h lt ev el =
     let inside : j < length lists = omega (arith, lt, h.long) in
     let same : lent ≡ list_at lists j = el ∙ ap (λ (w : Vec BodyPlace). w.items) ev ∙ sym (get_or-map (λ w. w.items) lists j v [] inside) in (
       subst (All (IsInside (length s.bytes))) (sym same) (h.inside j lt),
-      ap (map (body_of s.bytes)) same ∙ h.each s.bytes j lt ∙ ap (λ (ws : List PacketPlace). block_bodies i j (bodies_in s.bytes (map (place_in ws) numbers))) ep
-          ∙ ap (block_bodies i j) (numbered_bodies s r n numbers of),
+      ap (map (body_of s.bytes)) same ∙ h.each s.bytes j lt ∙ ap (λ (ws : List PacketPlace). block_bodies i (first + j) (bodies_in s.bytes (map (place_in ws) numbers))) ep
+          ∙ ap (block_bodies i (first + j)) (numbered_bodies s r n numbers of),
     )
 
 -- the grid of code-blocks

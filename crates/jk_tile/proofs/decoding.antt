@@ -13,4 +13,6 @@ pub mod LocalTiles
 pub mod MetBlocks
 pub mod PartLaws
 pub mod Covered
+pub mod StripLaws
+pub mod Judged
 pub mod Decoding

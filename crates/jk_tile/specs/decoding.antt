@@ -6,3 +6,4 @@ pub mod TileReading
 pub mod Source
 pub mod Decoded
 pub mod TileSources
+pub mod Strips

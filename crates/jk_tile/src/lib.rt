@@ -10,10 +10,12 @@ mod samples;
 mod workers;
 
 pub use decoding::{
-    CodedTile, DecodedBlocks, decode_blocks_with, decode_part, decode_part_of, decode_tile, put,
+    BlockRow, CodedComponent, CodedTile, DecodedBlocks, PacketChains, block_exponent,
+    decode_blocks_with, decode_part, decode_part_of, decode_tile, judge_tile, packets_by_precinct,
+    put, read_strip, strip_area, uncolour,
 };
 pub use encoding::{
     BlockJob, Executor, Parallel, Sequential, WrittenImage, encode_tile, exponents, tile_bands,
 };
-pub use samples::level_shift;
+pub use samples::{all_to_samples, level_shift};
 pub use workers::Workers;

@@ -58,7 +58,7 @@ pub(crate) fn to_samples(siz: &Siz, values: &mut [i32])
 }
 
 /// Puts the samples in the places of the values of all components.
-pub(crate) fn all_to_samples(siz: &Siz, values: &mut Vec<Vec<i32>>)
+pub fn all_to_samples(siz: &Siz, values: &mut Vec<Vec<i32>>)
     requires siz { IsSiz siz.now }
     requires small { (c : ℕ) → All (IsBelow (2 ^ 30)) (list_at values.old.items c) }
     ensures { lists_of values.new.items ≡ map (map (sample_of siz.now)) (lists_of values.old.items) }

@@ -1,7 +1,7 @@
 //! Headers with one byte changed, and what T.800 says of them: where the header ends, or the first
 //! fault. The answers are those of an independent decoder.
 
-use crate::asserts::{equal, equal_at};
+use crate::asserts::equal;
 use crate::header_cases::{PART, PART_CASES, PLAIN, PLAIN_CASES, RICH, RICH_CASES};
 use crate::texts::changed;
 use jk_geom::tile_count;
@@ -10,7 +10,7 @@ use jk_math::Fault;
 use std::alloc::Global;
 use std::process::Abort;
 use std::test::Fail;
-use vectors::bytes_of;
+use vectors::{Line, bytes_of, equal_at};
 
 /// The fault of a number.
 fn fault_of(number: u8) -> Option<Fault> {
@@ -33,12 +33,42 @@ fn main_answer(bytes: &[u8]) -> (usize, Option<Fault>) {
     }
 }
 
+/// A header with a byte changed, and what is due.
+#[derive(Drop)]
+struct Case {
+    place: u64,
+    byte: u64,
+    bytes: Vec<u8>,
+    fault: Option<Fault>,
+    first: usize,
+    second: usize,
+}
+
+/// Reads a case of a header.
+fn case_of(rt: &impl Abort, alloc: Global, header: &str, line: &str) -> Result<Case, Fail> {
+    let mut fields = Line::new(line, ' ');
+    let place = fields.number(0, 255);
+    let byte = fields.number(0, 255);
+    let fault = fault_of(fields.number(0, 7) as u8);
+    let first = fields.number(0, 255) as usize;
+    let second = fields.number(0, 255) as usize;
+    fields.end().expect(rt, "a case");
+    let bytes = changed(alloc, &[header], place as usize, byte as u8)?;
+    Ok(Case {
+        place,
+        byte,
+        bytes,
+        fault,
+        first,
+        second,
+    })
+}
+
 /// Reads a main header with a byte changed.
-fn judge_main(rt: &impl Abort, alloc: Global, text: &str, case: &[u8; 5]) -> Result<(), Fail> {
-    let [place, byte, number, length, _] = *case;
-    let bytes = changed(alloc, &[text], place as usize, byte)?;
-    let wanted = (length as usize, fault_of(number));
-    equal_at(rt, (place, byte), main_answer(&bytes), wanted);
+fn judge_main(rt: &impl Abort, alloc: Global, text: &str, line: &str) -> Result<(), Fail> {
+    let case = case_of(rt, alloc, text, line)?;
+    let found = main_answer(&case.bytes);
+    equal_at((case.place, case.byte), found, (case.first, case.fault)).expect(rt, "a header");
     Ok(())
 }
 
@@ -61,34 +91,34 @@ fn part_answer(alloc: Global, part: &[u8]) -> Result<(usize, usize, Option<Fault
 }
 
 /// Reads the tile-part with a byte changed.
-fn judge_part(rt: &impl Abort, alloc: Global, case: &[u8; 5]) -> Result<(), Fail> {
-    let [place, byte, number, start, end] = *case;
-    let bytes = changed(alloc, &[PART], place as usize, byte)?;
-    let wanted = (start as usize, end as usize, fault_of(number));
-    equal_at(rt, (place, byte), part_answer(alloc, &bytes)?, wanted);
+fn judge_part(rt: &impl Abort, alloc: Global, line: &str) -> Result<(), Fail> {
+    let case = case_of(rt, alloc, PART, line)?;
+    let found = part_answer(alloc, &case.bytes)?;
+    let wanted = (case.first, case.second, case.fault);
+    equal_at((case.place, case.byte), found, wanted).expect(rt, "a tile-part");
     Ok(())
 }
 
 #[test]
 fn plain_headers(rt: HostRuntime) -> Result<(), Fail> {
-    for case in &PLAIN_CASES {
-        judge_main(&rt, rt.alloc(), PLAIN, case)?;
+    for line in PLAIN_CASES.lines() {
+        judge_main(&rt, rt.alloc(), PLAIN, line)?;
     }
     Ok(())
 }
 
 #[test]
 fn rich_headers(rt: HostRuntime) -> Result<(), Fail> {
-    for case in &RICH_CASES {
-        judge_main(&rt, rt.alloc(), RICH, case)?;
+    for line in RICH_CASES.lines() {
+        judge_main(&rt, rt.alloc(), RICH, line)?;
     }
     Ok(())
 }
 
 #[test]
 fn tile_parts(rt: HostRuntime) -> Result<(), Fail> {
-    for case in &PART_CASES {
-        judge_part(&rt, rt.alloc(), case)?;
+    for line in PART_CASES.lines() {
+        judge_part(&rt, rt.alloc(), line)?;
     }
     Ok(())
 }

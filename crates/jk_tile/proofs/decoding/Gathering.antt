@@ -1,9 +1,9 @@
 -- Packets gathered by their precincts, and bodies by their code-blocks: one more.
-use Rattle.std.proofs.Common.{◌≡◌, ℕ, zero, suc, ◌+◌, ◌<◌, ◌≤◌, Bool, true, false, nat_eq, nat_lt, ◌&&◌, ◌==◌, if◌then◌else◌, List, [], ◌∷◌, ◌++◌, length, map, filter, take, get_or, set, min, sum_by, All, refl, sym, ap, subst, ◌∙◌, inl, inr, arith, lit≤}
+use Rattle.std.proofs.Common.{◌≡◌, ℕ, zero, suc, ◌+◌, ◌<◌, ◌≤◌, ◌-◌, ◌⊎◌, ◌≢◌, Bool, true, false, nat_eq, nat_le, nat_lt, ◌&&◌, ◌==◌, if◌then◌else◌, List, [], ◌∷◌, ◌++◌, length, map, filter, take, get_or, set, min, sum_by, All, refl, sym, ap, subst, ◌∙◌, inl, inr, arith, lit≤}
 use Rattle.std.specs.List.{AllByRecursion, flat_map}
 use Rattle.std.specs.Global.{Vec}
 use Rattle.std.proofs.Math.Seq.{take-suc}
-use Rattle.std.proofs.lemmas.Bool.{lt-ltb}
+use Rattle.std.proofs.lemmas.Bool.{cases_lt, lt-ltb, le-leb, lt-leb}
 use Rattle.std.proofs.lemmas.Bool.Decides.{eqb_tells}
 use Rattle.std.proofs.lemmas.List.{map-append, map-set, length-map, get_or-map, get_or-set_same, get_or-set_other, append-nil, append_assoc}
 use Rattle.std.proofs.lemmas.List.Elements.{filter-append, All-nil, All-push}
@@ -108,26 +108,45 @@ lengths_within (p ∷ parts) (suc k) =
     let h = lengths_within parts k in
     omega (arith, h, sum_by-cons (λ (x : BlockContribution). x.length) p parts, sum_by-cons (λ (x : BlockContribution). x.length) p (take k parts))
 
-pub by_block_none : (size i count : ℕ) (lists : List (Vec BodyPlace)) → length lists ≡ count → ((n : ℕ) → list_at lists n ≡ []) → AreByBlock size i count (λ bytes. []) lists
-by_block_none size i count lists long none = record {
+pub by_block_none : (size i first count : ℕ) (lists : List (Vec BodyPlace)) → length lists ≡ count → ((n : ℕ) → list_at lists n ≡ []) → AreByBlock size i first count (λ bytes. []) lists
+by_block_none size i first count lists long none = record {
   long = long;
   inside = λ j lt. subst (All (IsInside size)) (sym (none j)) (All-nil (IsInside size));
   each = λ bytes j lt. ap (map (body_of bytes)) (none j);
 }
 
--- a part of none of the code-blocks
-same_block : (a : Bool) (p n count : ℕ) → n < count → ((a && nat_lt p count) && nat_eq p n) ≡ (a && nat_eq p n)
-same_block a p n count lt = same_test true a p n count lt
+-- whether a part is of the code-block of a list
+same_block : (a : Bool) (p n first count : ℕ) → n < count → ((a && (nat_le first p && nat_lt (p - first) count)) && nat_eq (p - first) n) ≡ (a && nat_eq p (first + n))
+same_block false p n first count lt = refl
+same_block true p n first count lt = elim (cases_lt p first) [
+  | inl less ↦
+      let low : nat_le first p ≡ false = lt-leb first p less in
+      let other : nat_eq p (first + n) ≡ false = apart p (first + n) (λ e. omega (arith, e, less)) in
+      ap (λ t. (t && nat_lt (p - first) count) && nat_eq (p - first) n) low ∙ sym other
+  | inr more ↦
+      let high : nat_le first p ≡ true = le-leb first p more in
+      ap (λ t. (t && nat_lt (p - first) count) && nat_eq (p - first) n) high ∙ same_test true true (p - first) n count lt ∙ moved more (eqb_tells (p - first) n)
+]
+  where
+    apart : (a b : ℕ) → a ≢ b → nat_eq a b ≡ false
+    apart a b ne = elim (eqb_tells a b) [ inl same ↦ absurd (ne same.1) | inr other ↦ other.0 ]
 
-pub by_block_kept : (size i count start : ℕ) (p : BlockContribution) (bodies more : List ℕ → List Body) (lists : List (Vec BodyPlace))
-    → ((bytes : List ℕ) → more bytes ≡ bodies bytes ++ body_at bytes start p ∷ []) → ((p.band == i) && nat_lt p.block count) ≡ false
-    → AreByBlock size i count bodies lists → AreByBlock size i count more lists
-by_block_kept size i count start p bodies more lists is out h = record {
+    alike : (a b : ℕ) → a ≡ b → nat_eq a b ≡ true
+    alike a b e = elim (eqb_tells a b) [ inl same ↦ same.0 | inr other ↦ absurd (other.1 e) ]
+
+    moved : first ≤ p → ((nat_eq (p - first) n ≡ true) × (p - first ≡ n)) ⊎ ((nat_eq (p - first) n ≡ false) × (p - first ≢ n)) → nat_eq (p - first) n ≡ nat_eq p (first + n)
+    moved more (inl same) = same.0 ∙ sym (alike p (first + n) (let e = same.1 in omega (arith, e, more)))
+    moved more (inr other) = other.0 ∙ sym (apart p (first + n) (λ e. other.1 (omega (arith, e, more))))
+
+pub by_block_kept : (size i first count start : ℕ) (p : BlockContribution) (bodies more : List ℕ → List Body) (lists : List (Vec BodyPlace))
+    → ((bytes : List ℕ) → more bytes ≡ bodies bytes ++ body_at bytes start p ∷ []) → ((p.band == i) && (nat_le first p.block && nat_lt (p.block - first) count)) ≡ false
+    → AreByBlock size i first count bodies lists → AreByBlock size i first count more lists
+by_block_kept size i first count start p bodies more lists is out h = record {
   long = h.long;
   inside = h.inside;
   each = λ bytes j lt.
-      let P : Body → Bool = λ b. (b.part.band == i) && (b.part.block == j) in
-      let none : P (body_at bytes start p) ≡ false = sym (ap (λ t. t && nat_eq p.block j) (sym out) ∙ same_block (p.band == i) p.block j count lt) in
+      let P : Body → Bool = λ b. (b.part.band == i) && (b.part.block == first + j) in
+      let none : P (body_at bytes start p) ≡ false = sym (ap (λ t. t && nat_eq (p.block - first) j) (sym out) ∙ same_block (p.band == i) p.block j first count lt) in
       h.each bytes j lt ∙ sym (filter_no P (bodies bytes) (body_at bytes start p) none) ∙ sym (ap (filter P) (is bytes));
 }
 
@@ -141,26 +160,26 @@ push_each bytes P true old new x bodies e test h =
     ap (map (body_of bytes)) e ∙ map-append (body_of bytes) old (x ∷ []) ∙ ap (λ (bs : List Body). bs ++ body_of bytes x ∷ []) h ∙ sym (filter_yes P bodies (body_of bytes x) test)
 push_each bytes P false old new x bodies e test h = ap (map (body_of bytes)) e ∙ h ∙ sym (filter_no P bodies (body_of bytes x) test)
 
-pub by_block_more : (size i count : ℕ) (x : BodyPlace) (bodies more : List ℕ → List Body) (lists new : List (Vec BodyPlace))
-    → ((bytes : List ℕ) → more bytes ≡ bodies bytes ++ body_of bytes x ∷ []) → ((x.part.band == i) && nat_lt x.part.block count) ≡ true → IsInside size x
-    → length new ≡ length lists → ((n : ℕ) → list_at new n ≡ (if nat_eq x.part.block n then list_at lists n ++ x ∷ [] else list_at lists n))
-    → AreByBlock size i count bodies lists → AreByBlock size i count more new
-by_block_more size i count x bodies more lists new is taken fits long put h = record {
+pub by_block_more : (size i first count : ℕ) (x : BodyPlace) (bodies more : List ℕ → List Body) (lists new : List (Vec BodyPlace))
+    → ((bytes : List ℕ) → more bytes ≡ bodies bytes ++ body_of bytes x ∷ []) → ((x.part.band == i) && (nat_le first x.part.block && nat_lt (x.part.block - first) count)) ≡ true → IsInside size x
+    → length new ≡ length lists → ((n : ℕ) → list_at new n ≡ (if nat_eq (x.part.block - first) n then list_at lists n ++ x ∷ [] else list_at lists n))
+    → AreByBlock size i first count bodies lists → AreByBlock size i first count more new
+by_block_more size i first count x bodies more lists new is taken fits long put h = record {
   long = long ∙ h.long;
-  inside = λ j lt. push_inside size (nat_eq x.part.block j) (list_at lists j) (list_at new j) x (put j) fits (h.inside j lt);
+  inside = λ j lt. push_inside size (nat_eq (x.part.block - first) j) (list_at lists j) (list_at new j) x (put j) fits (h.inside j lt);
   each = λ bytes j lt.
-      let P : Body → Bool = λ b. (b.part.band == i) && (b.part.block == j) in
-      let test : P (body_of bytes x) ≡ nat_eq x.part.block j = sym (ap (λ t. t && nat_eq x.part.block j) (sym taken) ∙ same_block (x.part.band == i) x.part.block j count lt) in
-      push_each bytes P (nat_eq x.part.block j) (list_at lists j) (list_at new j) x (bodies bytes) (put j) test (h.each bytes j lt) ∙ sym (ap (filter P) (is bytes));
+      let P : Body → Bool = λ b. (b.part.band == i) && (b.part.block == first + j) in
+      let test : P (body_of bytes x) ≡ nat_eq (x.part.block - first) j = sym (ap (λ t. t && nat_eq (x.part.block - first) j) (sym taken) ∙ same_block (x.part.band == i) x.part.block j first count lt) in
+      push_each bytes P (nat_eq (x.part.block - first) j) (list_at lists j) (list_at new j) x (bodies bytes) (put j) test (h.each bytes j lt) ∙ sym (ap (filter P) (is bytes));
 }
 
 -- bodies that are the same
-pub by_block_same : (size i count : ℕ) (bodies more : List ℕ → List Body) (lists : List (Vec BodyPlace)) → ((bytes : List ℕ) → more bytes ≡ bodies bytes)
-    → AreByBlock size i count bodies lists → AreByBlock size i count more lists
-by_block_same size i count bodies more lists same h = record {
+pub by_block_same : (size i first count : ℕ) (bodies more : List ℕ → List Body) (lists : List (Vec BodyPlace)) → ((bytes : List ℕ) → more bytes ≡ bodies bytes)
+    → AreByBlock size i first count bodies lists → AreByBlock size i first count more lists
+by_block_same size i first count bodies more lists same h = record {
   long = h.long;
   inside = h.inside;
-  each = λ bytes j lt. h.each bytes j lt ∙ ap (block_bodies i j) (sym (same bytes));
+  each = λ bytes j lt. h.each bytes j lt ∙ ap (block_bodies i (first + j)) (sym (same bytes));
 }
 
 -- the packet that was read
@@ -175,12 +194,12 @@ pub packet_more : (before : List ℕ → List Body) (at : ℕ) (parts : List Blo
 packet_more before at parts k d lt bytes = ap (λ (bs : List Body). before bytes ++ bs) (bodies_more bytes at parts k d lt) ∙ sym (append_assoc (before bytes) (bodies_at bytes at (take k parts)) (body_at bytes (at + lengths (take k parts)) (get_or parts k d) ∷ []))
 
 -- a packet's bodies behind those of the packets before it
-pub by_block_packet : (size i count : ℕ) (places : List PacketPlace) (numbers : List ℕ) (k : ℕ) (number : ℕ) (w : PacketPlace) (lists : List (Vec BodyPlace)) → k < length numbers
+pub by_block_packet : (size i first count : ℕ) (places : List PacketPlace) (numbers : List ℕ) (k : ℕ) (number : ℕ) (w : PacketPlace) (lists : List (Vec BodyPlace)) → k < length numbers
     → number ≡ get_or numbers k 0 → w ≡ place_in places number
-    → AreByBlock size i count (λ bytes. bodies_in bytes (map (place_in places) (take k numbers)) ++ bodies_at bytes w.body w.parts) lists
-    → AreByBlock size i count (λ bytes. bodies_in bytes (map (place_in places) (take (k + 1) numbers))) lists
-by_block_packet size i count places numbers k number w lists lt read is h =
-    by_block_same size i count (λ bytes. bodies_in bytes (map (place_in places) (take k numbers)) ++ bodies_at bytes w.body w.parts) (λ bytes. bodies_in bytes (map (place_in places) (take (k + 1) numbers))) lists (λ bytes.
+    → AreByBlock size i first count (λ bytes. bodies_in bytes (map (place_in places) (take k numbers)) ++ bodies_at bytes w.body w.parts) lists
+    → AreByBlock size i first count (λ bytes. bodies_in bytes (map (place_in places) (take (k + 1) numbers))) lists
+by_block_packet size i first count places numbers k number w lists lt read is h =
+    by_block_same size i first count (λ bytes. bodies_in bytes (map (place_in places) (take k numbers)) ++ bodies_at bytes w.body w.parts) (λ bytes. bodies_in bytes (map (place_in places) (take (k + 1) numbers))) lists (λ bytes.
     let f : PacketPlace → List Body = λ (x : PacketPlace). bodies_at bytes x.body x.parts in
     ap (λ (ns : List ℕ). flat_map f (map (place_in places) ns)) (take_one numbers k 0 lt)
     ∙ ap (flat_map f) (map-append (place_in places) (take k numbers) (get_or numbers k 0 ∷ []))

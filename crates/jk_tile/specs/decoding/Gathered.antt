@@ -59,9 +59,9 @@ body_of bytes b = record { part = b.part; bytes = slice_of bytes (b.start, b.sta
 abbrev pub IsInside : ℕ → BodyPlace → Type 0
 IsInside size b = b.start + b.part.length ≤ size
 
--- The lists are what these bodies have of so many code-blocks of sub-band i.
-pub record AreByBlock (size i count : ℕ) (bodies : List ℕ → List Body) (lists : List (Vec BodyPlace)) : Type 0 where
+-- The lists are what these bodies have of so many code-blocks of sub-band i, from number `first` on.
+pub record AreByBlock (size i first count : ℕ) (bodies : List ℕ → List Body) (lists : List (Vec BodyPlace)) : Type 0 where
   pub long : length lists ≡ count
   pub inside : (j : ℕ) → j < count → All (IsInside size) (list_at lists j)
   pub each : (bytes : List ℕ) (j : ℕ) → j < count
-      → map (body_of bytes) (list_at lists j) ≡ block_bodies i j (bodies bytes)
+      → map (body_of bytes) (list_at lists j) ≡ block_bodies i (first + j) (bodies bytes)

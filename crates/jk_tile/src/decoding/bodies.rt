@@ -1,6 +1,6 @@
 //! What packets have of each code-block.
 
-ghost use Rattle.std.specs.Prelude.{◌≡◌, ℕ, ◌+◌, ◌<◌, ◌≤◌, ◌&&◌, ◌==◌, nat_eq, nat_lt, if◌then◌else◌, ◌++◌, List, []};
+ghost use Rattle.std.specs.Prelude.{◌≡◌, ℕ, ◌+◌, ◌<◌, ◌≤◌, ◌&&◌, ◌==◌, IsTrue, nat_eq, nat_le, nat_lt, if◌then◌else◌, ◌++◌, List, []};
 ghost use Rattle.std.specs.Prelude.{◌∷◌, length, map, min, ◌-◌, ◌^◌, IfOk, IfErr, OnOk, All};
 ghost use Rattle.std.specs.List.{AllByRecursion};
 ghost use Rattle.jk_math.specs.Memory.{IsMemory};
@@ -47,62 +47,72 @@ fn add_body(lists: &mut Vec<Vec<BodyPlace>>, index: usize, body: BodyPlace) -> R
     Ok(())
 }
 
-/// Whether a part is of one of so many code-blocks of a sub-band.
-fn is_of_band(part: BlockContribution, band: u8, blocks: usize) -> bool
-    ensures { result ≡ ((part.band == band) && nat_lt part.block blocks) }
-{
-    part.band == band && (part.block as usize) < blocks
+/// Some of the code-blocks of a sub-band: so many, from number `first` on.
+#[derive(Clone, Copy)]
+pub(crate) struct SomeBlocks {
+    pub(crate) band: u8,
+    pub(crate) first: u32,
+    pub(crate) count: u32,
 }
 
-/// Puts what a packet has of the code-blocks of a sub-band behind their lists.
+/// Whether a part is of one of some code-blocks.
+fn is_of(part: BlockContribution, blocks: SomeBlocks) -> bool
+    ensures value { result ≡ ((part.band == blocks.band)
+        && (nat_le blocks.first part.block && nat_lt (part.block - blocks.first) blocks.count)) }
+    ensures within { IsTrue result → (blocks.first ≤ part.block) × (part.block - blocks.first < blocks.count) }
+{
+    part.band == blocks.band
+        && (blocks.first <= part.block && part.block - blocks.first < blocks.count)
+}
+
+/// Puts what a packet has of some code-blocks of a sub-band behind their lists.
 fn add_bodies(
     packet: &PacketPlace,
-    band: u8,
-    blocks: usize,
+    blocks: SomeBlocks,
     lists: &mut Vec<Vec<BodyPlace>>,
 ) -> Result<(), Fault>
     requires end { place_end packet.now < 2 ^ 64 }
-    requires long { length lists.old.items ≡ blocks }
+    requires long { length lists.old.items ≡ blocks.count }
     ensures lists { OnOk result
         ((size : ℕ) (before : List ℕ → List Body) → place_end packet.now ≤ size
-        → AreByBlock size band blocks before lists.old.items
-        → AreByBlock size band blocks
+        → AreByBlock size blocks.band blocks.first blocks.count before lists.old.items
+        → AreByBlock size blocks.band blocks.first blocks.count
         (λ bytes. before bytes ++ bodies_at bytes packet.now.body packet.now.parts) lists.new.items) }
-    ensures long { OnOk result (length lists.new.items ≡ blocks) }
+    ensures long { OnOk result (length lists.new.items ≡ blocks.count) }
     ensures memory { IfErr result IsMemory }
 {
     let parts = packet.parts.as_slice();
     let mut start = packet.body;
     for index in 0..parts.len() {
         let part = parts[index];
-        let taken = is_of_band(part, band, blocks);
+        let taken = is_of(part, blocks);
         if taken {
-            add_body(lists, part.block as usize, BodyPlace { part, start })?;
+            let number = (part.block - blocks.first) as usize;
+            add_body(lists, number, BodyPlace { part, start })?;
         }
         start += part.length as usize;
     }
     Ok(())
 }
 
-/// What these packets have of each of so many code-blocks of a sub-band, in the order of the
-/// packets.
+/// What these packets have of each of some code-blocks of a sub-band, in the order of the packets.
 pub(crate) fn bodies_by_block(
     alloc: Global,
     packets: &[PacketPlace],
     numbers: &[usize],
-    band: u8,
-    blocks: usize,
+    blocks: SomeBlocks,
 ) -> Result<Vec<Vec<BodyPlace>>, Fault>
     requires ends { AllByRecursion (λ w. place_end w < 2 ^ 64) packets.now }
     requires numbers { All (λ i. i < length packets.now) numbers.now }
     ensures lists { IfOk result
         (λ v. (size : ℕ) → AllByRecursion (λ w. place_end w ≤ size) packets.now
-        → AreByBlock size band blocks (λ bytes. bodies_in bytes (map (place_in packets.now) numbers.now)) v.items) }
+        → AreByBlock size blocks.band blocks.first blocks.count
+        (λ bytes. bodies_in bytes (map (place_in packets.now) numbers.now)) v.items) }
     ensures memory { IfErr result IsMemory }
 {
-    let mut lists = empty_bodies(alloc, blocks)?;
+    let mut lists = empty_bodies(alloc, blocks.count as usize)?;
     for index in 0..numbers.len() {
-        add_bodies(&packets[numbers[index]], band, blocks, &mut lists)?;
+        add_bodies(&packets[numbers[index]], blocks, &mut lists)?;
     }
     Ok(lists)
 }

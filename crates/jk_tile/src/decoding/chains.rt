@@ -15,7 +15,7 @@ use std::alloc::Global;
 ///
 /// Packet `i` is told by the number `i + 1`, and 0 tells that there is none.
 #[derive(Drop)]
-pub(crate) struct PacketChains {
+pub struct PacketChains {
     /// The first packet of each precinct.
     first: Vec<u32>,
     /// Behind each packet the next one of its precinct.
@@ -60,7 +60,7 @@ fn link(chains: &mut PacketChains, precinct: usize, number: usize)
 }
 
 /// The packets of each precinct of a resolution of a component among these packets.
-pub(crate) fn packets_by_precinct(
+pub fn packets_by_precinct(
     alloc: Global,
     packets: &[PacketPlace],
     component: u8,

@@ -10,7 +10,7 @@ use std::alloc::Global;
 use std::mem;
 
 /// Puts the values of components 0, 1 and 2 in the places of Y0, Y1 and Y2 (T.800 G.2.2).
-pub(crate) fn uncolour(alloc: Global, values: &mut Vec<Vec<i32>>)
+pub fn uncolour(alloc: Global, values: &mut Vec<Vec<i32>>)
     requires three { 3 ≤ length values.old.items }
     requires same_b { length (list_at values.old.items 1) ≡ length (list_at values.old.items 0) }
     requires same_c { length (list_at values.old.items 2) ≡ length (list_at values.old.items 0) }

@@ -21,7 +21,7 @@ use std::marker::Model;
 /// of the tile, and the number of the component. Beside these it has code-blocks of the codestream
 /// that were decoded before, of which nobody sees but how soon it is read.
 #[derive(Drop)]
-pub(crate) struct CodedComponent<'a> {
+pub struct CodedComponent<'a> {
     bytes: &'a [u8],
     region: Region,
     coding: &'a Coding,
@@ -57,7 +57,7 @@ impl<'a> Model for CodedComponent<'a> {
 
 impl<'a> CodedComponent<'a> {
     /// A part of a component of a tile.
-    pub(crate) fn new(
+    pub fn new(
         bytes: &'a [u8],
         region: Region,
         coding: &'a Coding,
@@ -94,14 +94,14 @@ impl<'a> CodedComponent<'a> {
     }
 
     /// The codestream.
-    pub(crate) fn bytes(&self) -> &'a [u8]
+    pub fn bytes(&self) -> &'a [u8]
         ensures { result.now ≡ self.now.bytes }
     {
         self.bytes
     }
 
     /// The part.
-    pub(crate) fn region(&self) -> Region
+    pub fn region(&self) -> Region
         ensures value { result ≡ self.now.region }
         ensures source { IsSource self.now }
     {
@@ -109,7 +109,7 @@ impl<'a> CodedComponent<'a> {
     }
 
     /// The tile's rectangle.
-    pub(crate) fn rect(&self) -> Rect
+    pub fn rect(&self) -> Rect
         ensures value { result ≡ self.now.region.rect }
         ensures source { IsSource self.now }
     {
@@ -117,7 +117,7 @@ impl<'a> CodedComponent<'a> {
     }
 
     /// How the component is coded.
-    pub(crate) fn coding(&self) -> &'a Coding
+    pub fn coding(&self) -> &'a Coding
         ensures value { result.now ≡ self.now.coding }
         ensures source { IsSource self.now }
     {
@@ -125,21 +125,21 @@ impl<'a> CodedComponent<'a> {
     }
 
     /// The packets of the tile.
-    pub(crate) fn packets(&self) -> &'a [PacketPlace]
+    pub fn packets(&self) -> &'a [PacketPlace]
         ensures { result.now ≡ self.now.packets }
     {
         self.packets
     }
 
     /// The number of the component.
-    pub(crate) fn number(&self) -> u8
+    pub fn number(&self) -> u8
         ensures { result ≡ self.now.component }
     {
         self.number
     }
 
     /// Code-blocks that were decoded before.
-    pub(crate) fn decoded(&self) -> &'a DecodedBlocks
+    pub fn decoded(&self) -> &'a DecodedBlocks
         ensures { AreDecoded self.now.bytes result.now }
     {
         self.decoded

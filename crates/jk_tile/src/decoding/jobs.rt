@@ -17,7 +17,7 @@ ghost use Rattle.jk_tile.specs.decoding.Gathered.{AreNumbers, IsInside};
 ghost use Rattle.jk_tile.specs.decoding.Source.{IsSource, IsBandPart};
 
 use crate::bands::{BandBlock, BandPart, band_count, band_planes, orientation, shape_at};
-use crate::decoding::bodies::{BodyPlace, bodies_by_block};
+use crate::decoding::bodies::{BodyPlace, SomeBlocks, bodies_by_block};
 use crate::decoding::chains::{follow, packets_by_precinct};
 use crate::decoding::coded::CodedTile;
 use crate::decoding::component::CodedComponent;
@@ -97,7 +97,12 @@ fn add_band_blocks(
         orientation,
     );
     let count = grid.across * grid.down;
-    let lists = bodies_by_block(alloc, source.packets(), numbers, part.band, count as usize)?;
+    let all = SomeBlocks {
+        band: part.band,
+        first: 0,
+        count,
+    };
+    let lists = bodies_by_block(alloc, source.packets(), numbers, all)?;
     for j in 0..count {
         let block = BandBlock {
             part,

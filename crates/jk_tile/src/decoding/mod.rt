@@ -13,11 +13,18 @@ mod component;
 mod decoded;
 mod filling;
 mod jobs;
+mod judging;
 mod reading;
+mod strips;
 mod tile;
 
+pub use chains::{PacketChains, packets_by_precinct};
 pub use coded::CodedTile;
+pub use colour::uncolour;
+pub use component::CodedComponent;
 pub use decoded::DecodedBlocks;
 pub use filling::put;
 pub use jobs::decode_blocks_with;
+pub use judging::judge_tile;
+pub use strips::{BlockRow, block_exponent, read_strip, strip_area};
 pub use tile::{decode_part, decode_part_of, decode_tile};

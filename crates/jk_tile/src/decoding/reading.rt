@@ -20,7 +20,7 @@ use crate::bands::{
     BandBlock, BandPart, band_count, band_number, band_planes, orientation, shape_at,
 };
 use crate::decoding::block::read_block;
-use crate::decoding::bodies::{BodyPlace, bodies_by_block};
+use crate::decoding::bodies::{BodyPlace, SomeBlocks, bodies_by_block};
 use crate::decoding::chains::{follow, packets_by_precinct};
 use crate::decoding::component::CodedComponent;
 use crate::decoding::filling::put_common;
@@ -114,7 +114,12 @@ fn read_band(
         return Ok(());
     }
     let count = grid.across * grid.down;
-    let lists = bodies_by_block(alloc, source.packets(), numbers, part.band, count as usize)?;
+    let all = SomeBlocks {
+        band: part.band,
+        first: 0,
+        count,
+    };
+    let lists = bodies_by_block(alloc, source.packets(), numbers, all)?;
     for j in 0..count {
         let block = BandBlock {
             part,

@@ -26,7 +26,7 @@ pub loop-index-init : goal.loop-index-init
 loop-index-init c = record {
   start = omega arith;
   long = c.requires.long;
-  lists = λ size before end h. by_block_same size c.args.band c.args.blocks before (λ bytes. before bytes ++ []) c.args.lists.now.items (λ bytes. append-nil (before bytes)) h;
+  lists = λ size before end h. by_block_same size c.args.blocks.band c.args.blocks.first c.args.blocks.count before (λ bytes. before bytes ++ []) c.args.lists.now.items (λ bytes. append-nil (before bytes)) h;
 }
 
 pub loop-index-preserved : goal.loop-index-preserved
@@ -51,9 +51,9 @@ loop-index-preserved c =
             ∙ ap (λ n. (before bytes ++ bodies_at bytes body (take k parts)) ++ body_at bytes n (get_or parts k no_part) ∷ []) (sym start)
             ∙ ap (λ (p : BlockContribution). (before bytes ++ bodies_at bytes body (take k parts)) ++ body_at bytes c.loop-index.start p ∷ []) (sym read) in
             let fits = inside_part parts k body size lt end in
-            subst (λ v. AreByBlock size c.args.band c.args.blocks more v.items) (sym w.lists-is)
-            (by_block_more size c.args.band c.args.blocks x (λ bytes. before bytes ++ bodies_at bytes body (take k parts)) more c.loop-index.lists.items w.add_body.new.lists.items is
-            (sym c.is_of_band-taken.ensures ∙ w.if-taken.true) (omega (arith, fits, start, size_read)) w.in_ok-add_body.ensures.long w.in_ok-add_body.ensures.lists (c.loop-index.invariant.lists size before end h));
+            subst (λ v. AreByBlock size c.args.blocks.band c.args.blocks.first c.args.blocks.count more v.items) (sym w.lists-is)
+            (by_block_more size c.args.blocks.band c.args.blocks.first c.args.blocks.count x (λ bytes. before bytes ++ bodies_at bytes body (take k parts)) more c.loop-index.lists.items w.add_body.new.lists.items is
+            (sym c.is_of-taken.ensures.value ∙ w.if-taken.true) (omega (arith, fits, start, size_read)) w.in_ok-add_body.ensures.long w.in_ok-add_body.ensures.lists (c.loop-index.invariant.lists size before end h));
       }
       | else-taken w ↦ record {
         start = omega (arith, start, next, size_read);
@@ -63,9 +63,9 @@ loop-index-preserved c =
             let more = λ (bytes : List ℕ). before bytes ++ bodies_at bytes body (take (k + 1) parts) in
             let is = λ (bytes : List ℕ). packet_more before body parts k no_part lt bytes
             ∙ ap (λ (q : BlockContribution). (before bytes ++ bodies_at bytes body (take k parts)) ++ body_at bytes (body + lengths (take k parts)) q ∷ []) (sym read) in
-            subst (λ v. AreByBlock size c.args.band c.args.blocks more v.items) (sym w.lists-is)
-            (by_block_kept size c.args.band c.args.blocks (body + lengths (take k parts)) p (λ bytes. before bytes ++ bodies_at bytes body (take k parts)) more c.loop-index.lists.items is
-            (sym c.is_of_band-taken.ensures ∙ w.if-taken.false) (c.loop-index.invariant.lists size before end h));
+            subst (λ v. AreByBlock size c.args.blocks.band c.args.blocks.first c.args.blocks.count more v.items) (sym w.lists-is)
+            (by_block_kept size c.args.blocks.band c.args.blocks.first c.args.blocks.count (body + lengths (take k parts)) p (λ bytes. before bytes ++ bodies_at bytes body (take k parts)) more c.loop-index.lists.items is
+            (sym c.is_of-taken.ensures.value ∙ w.if-taken.false) (c.loop-index.invariant.lists size before end h));
       }
     ]
 
@@ -82,5 +82,5 @@ pub returns-clause-lists : goal.returns-clause-lists
 returns-clause-lists c = λ size before end h.
     let parts = c.args.packet.now.parts in
     let all : take c.loop-index.index parts ≡ parts = take_all c.loop-index.index parts (omega (arith, c.loop-index-test.false, ap (λ (ps : List BlockContribution). length ps) c.as_slice-parts.ensures)) in
-    by_block_same size c.args.band c.args.blocks (λ bytes. before bytes ++ bodies_at bytes c.args.packet.now.body (take c.loop-index.index parts)) (λ bytes. before bytes ++ bodies_at bytes c.args.packet.now.body parts)
+    by_block_same size c.args.blocks.band c.args.blocks.first c.args.blocks.count (λ bytes. before bytes ++ bodies_at bytes c.args.packet.now.body (take c.loop-index.index parts)) (λ bytes. before bytes ++ bodies_at bytes c.args.packet.now.body parts)
     c.loop-index.lists.items (λ bytes. ap (λ (ps : List BlockContribution). before bytes ++ bodies_at bytes c.args.packet.now.body ps) (sym all)) (c.loop-index.invariant.lists size before end h)

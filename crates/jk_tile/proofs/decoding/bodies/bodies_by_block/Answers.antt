@@ -9,7 +9,7 @@ use Rattle.jk_tile.proofs.decoding.bodies.bodies_by_block.Goals as goal
 pub loop-index-init : goal.loop-index-init
 loop-index-init c = record {
   long = c.in_ok-lists.ensures.long;
-  lists = λ size ends. by_block_none size c.args.band c.args.blocks c.in_ok-lists.lists.items c.in_ok-lists.ensures.long c.in_ok-lists.ensures.empty;
+  lists = λ size ends. by_block_none size c.args.blocks.band c.args.blocks.first c.args.blocks.count c.in_ok-lists.lists.items c.in_ok-lists.ensures.long c.in_ok-lists.ensures.empty;
 }
 
 pub loop-index-preserved : goal.loop-index-preserved
@@ -24,7 +24,7 @@ loop-index-preserved c =
       long = c.in_ok-add_bodies.ensures.long;
       lists = λ size ends.
           let end = subst (λ (x : PacketPlace). place_end x ≤ size) (sym c.index-packets-numbers.is) (ends_read (λ x. place_end x ≤ size) ws number w inside ends) in
-          by_block_packet size c.args.band c.args.blocks ws c.args.numbers.now k number w c.add_bodies.new.lists.items c.loop-index-test.true refl is
+          by_block_packet size c.args.blocks.band c.args.blocks.first c.args.blocks.count ws c.args.numbers.now k number w c.add_bodies.new.lists.items c.loop-index-test.true refl is
           (c.in_ok-add_bodies.ensures.lists size (λ bytes. bodies_in bytes (map (place_in ws) (take k c.args.numbers.now))) end (c.loop-index.invariant.lists size ends));
     }
 
@@ -37,4 +37,4 @@ add_bodies-requires-clause-end c =
 pub returns-clause-lists : goal.returns-clause-lists
 returns-clause-lists c = λ size ends.
     let all : take c.loop-index.index c.args.numbers.now ≡ c.args.numbers.now = take_all c.loop-index.index c.args.numbers.now (let h = c.loop-index-test.false in h) in
-    subst (λ (ns : List ℕ). AreByBlock size c.args.band c.args.blocks (λ bytes. bodies_in bytes (map (place_in c.args.packets.now) ns)) c.loop-index.lists.items) all (c.loop-index.invariant.lists size ends)
+    subst (λ (ns : List ℕ). AreByBlock size c.args.blocks.band c.args.blocks.first c.args.blocks.count (λ bytes. bodies_in bytes (map (place_in c.args.packets.now) ns)) c.loop-index.lists.items) all (c.loop-index.invariant.lists size ends)

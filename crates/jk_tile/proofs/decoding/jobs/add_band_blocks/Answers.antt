@@ -22,5 +22,5 @@ add_block-requires-clause-inside c =
     let s = c.args.source.now in
     let p = c.args.part in
     let ends = subst (λ ws. AllByRecursion (λ w. place_end w ≤ length s.bytes) ws) (sym c.packets.ensures) c.rect-rect.ensures.source.ends in
-    (listed_bodies s p.resolution p.precinct p.band c.loop-j.j (c.blocks-grid.result.across * c.blocks-grid.result.down) c.args.numbers.now c.packets.result.now c.in_ok-lists.lists.items c.index.result.now c.deref.result.now
+    (listed_bodies s p.resolution p.precinct p.band c.loop-j.j 0 (c.blocks-grid.result.across * c.blocks-grid.result.down) c.args.numbers.now c.packets.result.now c.in_ok-lists.lists.items c.index.result.now c.deref.result.now
     c.requires.numbers c.packets.ensures (c.in_ok-lists.ensures.lists (length s.bytes) ends) c.loop-j-test.true c.index.ensures c.deref.ensures.value).0

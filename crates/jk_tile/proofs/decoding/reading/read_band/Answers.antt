@@ -1,8 +1,9 @@
-use Rattle.std.proofs.Common.{◌≡◌, ◌<◌, ◌≤◌, ◌^◌, ◌*◌, length, ◌∙◌, ap, sym, subst, inl, inr, arith}
+use Rattle.std.proofs.Common.{◌≡◌, ◌+◌, ◌<◌, ◌≤◌, ◌^◌, ◌*◌, length, ◌∙◌, ap, sym, subst, inl, inr, arith}
 use Rattle.std.specs.List.{AllByRecursion}
 use Rattle.std.proofs.lemmas.Bool.{cases_eq}
 use Rattle.std.proofs.lemmas.Result.{err_from_is_err_and}
 use Rattle.jk_walk.specs.WalkReading.{place_end}
+use Rattle.jk_tile.specs.TileBlocks.{block_bodies}
 use Rattle.jk_tile.specs.decoding.TileReading.{each}
 use Rattle.jk_wave.specs.declared.region.Region.{Region}
 use Rattle.jk_wave.specs.Regions.{part_area}
@@ -37,7 +38,7 @@ read_at-requires-clause-inside c =
     let s = c.args.source.now in
     let p = c.args.part in
     let ends = subst (λ ws. AllByRecursion (λ w. place_end w ≤ length s.bytes) ws) (sym c.packets.ensures) c.rect-rect.ensures.source.ends in
-    (listed_bodies s p.resolution p.precinct p.band c.loop-j.j (c.blocks-grid.result.across * c.blocks-grid.result.down) c.args.numbers.now c.packets.result.now c.in_ok-lists.lists.items c.index.result.now c.deref.result.now
+    (listed_bodies s p.resolution p.precinct p.band c.loop-j.j 0 (c.blocks-grid.result.across * c.blocks-grid.result.down) c.args.numbers.now c.packets.result.now c.in_ok-lists.lists.items c.index.result.now c.deref.result.now
     c.requires.numbers c.packets.ensures (c.in_ok-lists.ensures.lists (length s.bytes) ends) c.loop-j-test.true c.index.ensures c.deref.ensures.value).0
 
 pub read_at-requires-clause-bodies : goal.read_at-requires-clause-bodies
@@ -45,8 +46,10 @@ read_at-requires-clause-bodies c =
     let s = c.args.source.now in
     let p = c.args.part in
     let ends = subst (λ ws. AllByRecursion (λ w. place_end w ≤ length s.bytes) ws) (sym c.packets.ensures) c.rect-rect.ensures.source.ends in
-    (listed_bodies s p.resolution p.precinct p.band c.loop-j.j (c.blocks-grid.result.across * c.blocks-grid.result.down) c.args.numbers.now c.packets.result.now c.in_ok-lists.lists.items c.index.result.now c.deref.result.now
+    let here : 0 + c.loop-j.j ≡ c.loop-j.j = omega arith in
+    (listed_bodies s p.resolution p.precinct p.band c.loop-j.j 0 (c.blocks-grid.result.across * c.blocks-grid.result.down) c.args.numbers.now c.packets.result.now c.in_ok-lists.lists.items c.index.result.now c.deref.result.now
     c.requires.numbers c.packets.ensures (c.in_ok-lists.ensures.lists (length s.bytes) ends) c.loop-j-test.true c.index.ensures c.deref.ensures.value).1
+    ∙ ap (λ n. block_bodies p.band n (source_bodies s p.resolution p.precinct)) here
 
 pub returns-in_err-read_at-clause-exact : goal.returns-in_err-read_at-clause-exact
 returns-in_err-read_at-clause-exact c =

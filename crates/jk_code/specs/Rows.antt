@@ -1,0 +1,59 @@
+-- An image that is given in stripes of rows, one below the other, to what takes them.
+use Rattle.std.specs.Prelude.{◌≡◌, ℕ, ◌+◌, ◌<◌, ◌≤◌, List, [], ◌∷◌, length, slice_index_or}
+use Rattle.jk_math.specs.Picture.{Picture}
+use Rattle.jk_math.specs.declared.fault.Fault.{Fault}
+use Rattle.jk_math.specs.declared.rect.Rect.{Rect}
+use Rattle.jk_marks.specs.Siz.{tile_count}
+use Rattle.jk_tile.specs.TileMeaning.{shown_area}
+use Rattle.jk_tile.specs.decoding.TileSources.{TileSource}
+use Rattle.jk_rows.specs.declared.tile.TileRows.{TileRows}
+use Rattle.jk_rows.specs.Tiles.{IsTileRows, HasFaultIn}
+use Rattle.jk_code.specs.declared.rows.TileRow.{TileRow}
+use Rattle.jk_code.specs.Made.{rows_of}
+use Rattle.jk_code.specs.MeaningReading.{picture_with, planes_of_tiles}
+use Rattle.jk_code.specs.Sources.{ImageSource}
+
+-- From one state of what takes them to another, the rows of a picture from row y up to row z were
+-- taken, one stripe after another: `stripes` tells of each its end and the state behind it.
+abbrev pub AreTaken : {A : Type 0} → (took : A → Picture → A → Type 0) → Picture → (y z : ℕ) → (from : A)
+    → (stripes : List (ℕ × A)) → (to : A) → Type 0
+AreTaken took p y z from [] to = (y ≡ z) × (from ≡ to)
+AreTaken took p y z from (w ∷ stripes) to =
+    (y < w.0) × (w.0 ≤ z) × took from (rows_of p y w.0) w.1 × AreTaken took p w.0 z w.1 stripes to
+
+-- the same, whichever stripes they were
+abbrev pub WereTaken : {A : Type 0} → (took : A → Picture → A → Type 0) → Picture → (y z : ℕ) → (from to : A) → Type 0
+WereTaken {A} took p y z from to = (stripes : List (ℕ × A)) × AreTaken took p y z from stripes to
+
+-- the picture whose rows are given: that of a source, whatever its code-blocks have
+abbrev pub picture_of : ImageSource → Picture
+picture_of s = picture_with s.headers.siz s.area (planes_of_tiles s.bytes s.headers s.reduce s.area)
+
+-- tile `number` of it
+abbrev pub tile_source : ImageSource → (number : ℕ) → TileSource
+tile_source s number = record {
+  headers = s.headers;
+  bytes = s.bytes;
+  number = number;
+  packets = slice_index_or s.packets number [];
+  reduce = s.reduce;
+}
+
+-- the rectangle of it
+abbrev pub area_of_tile : ImageSource → (number : ℕ) → Rect
+area_of_tile s number = shown_area s.headers.siz number s.reduce
+
+-- what a stripe of rows has of it
+abbrev pub part_of_stripe : ImageSource → (number : ℕ) → (stripe : Rect) → Rect
+part_of_stripe s number stripe = record { x0 = (area_of_tile s number).x0; y0 = stripe.y0; x1 = (area_of_tile s number).x1; y1 = stripe.y1 }
+
+-- a code-block of tile `number` has this fault
+abbrev pub HasFaultAt : ImageSource → Fault → Type 0
+HasFaultAt s e = (number : ℕ) × (number < tile_count s.headers.siz) × HasFaultIn (tile_source s number) e
+
+-- So many tiles side by side, from one on, stand before row y of theirs.
+pub record IsTileRow (s : ImageSource) (first across y : ℕ) (row : TileRow) : Type 0 where
+  pub begins : row.first ≡ first
+  pub whole : first + across ≤ tile_count s.headers.siz
+  pub count : length row.tiles.items ≡ across
+  pub each : (k : ℕ) (other : TileRows) → k < across → IsTileRows (tile_source s (first + k)) y (slice_index_or row.tiles.items k other)

@@ -1,0 +1,331 @@
+//! Decoding row by row: an image that is never whole in memory.
+
+ghost use Rattle.std.specs.Prelude.{◌≡◌, ℕ, ◌+◌, ◌%◌, ◌^◌, ◌<◌, ◌≤◌, ◌⊎◌, [], length, slice_index_or, Ok, Err, IfOk, IfErr, OnOk};
+ghost use Rattle.jk_math.specs.Answer.{Answers};
+ghost use Rattle.jk_math.specs.Memory.{IsMemory};
+ghost use Rattle.jk_math.specs.Lists.{lists_of};
+ghost use Rattle.jk_math.specs.Picture.{Picture};
+ghost use Rattle.jk_math.specs.declared.fault.Fault.TheVariants.{Shelf};
+ghost use Rattle.jk_marks.specs.Siz.{IsSiz, tile_count, tiles_across};
+ghost use Rattle.jk_geom.specs.Rectangles.{IsArea};
+ghost use Rattle.jk_params.specs.Headers.{AreHeaders};
+ghost use Rattle.jk_tile.specs.decoding.TileReading.{tested, tile_planes_at};
+ghost use Rattle.jk_rows.specs.Components.{IsStepEnd};
+ghost use Rattle.jk_code.specs.Meaning.{Means};
+ghost use Rattle.jk_code.specs.MeaningReading.{meaning_at, picture_at, planes_of_tiles, tiles_tested};
+ghost use Rattle.jk_code.specs.Rows.{WereTaken, picture_of, tile_source, area_of_tile, part_of_stripe};
+ghost use Rattle.jk_code.specs.Rows.{HasFaultAt, IsTileRow};
+
+use crate::coded::CodedImage;
+use crate::decoding::{all_packets, blank_planes, image_of, put_tile};
+use crate::reduction::check_reduction;
+use jk_boxes::open;
+use jk_geom::{reduced, tile};
+use jk_marks::Siz;
+use jk_math::{Fault, Image, Rect};
+use jk_params::{Codestream, read_codestream};
+use jk_rows::TileRows;
+use jk_tile::{CodedTile, judge_tile};
+use std::alloc::Global;
+
+/// What takes the rows of an image, one stripe of them below the other.
+pub trait Rows {
+    ghost use Rattle.jk_math.specs.Picture.{Picture};
+
+    // It was in the first state, took these rows, and is in the second.
+    ghost took: { Self → Picture → Self → Type 0 };
+
+    /// Takes the next rows. It may refuse as a full disk does.
+    fn take(&mut self, alloc: Global, rows: Image) -> Result<(), Fault>
+        ensures took { OnOk result (took self.old rows self.new) }
+        ensures cause { IfErr result (λ e. IsMemory e ⊎ (e ≡ Shelf)) };
+}
+
+/// How many tiles lie side by side (T.800 B.3, equation B-5).
+fn tiles_across(siz: &Siz) -> usize
+    requires siz { IsSiz siz.now }
+    ensures value { result ≡ tiles_across siz.now }
+    ensures some { 1 ≤ result }
+{
+    let width = siz.tile_width as u64;
+    ((siz.x1 as u64 - siz.tile_x0 as u64 + width - 1) / width) as usize
+}
+
+/// Tile `number` of an image.
+fn tile_of<'a>(coded: &CodedImage<'a>, number: usize) -> CodedTile<'a>
+    requires number { number < tile_count coded.now.headers.siz }
+    ensures { result ≡ tile_source coded.now number }
+{
+    let packets = coded.packets;
+    CodedTile {
+        headers: coded.headers,
+        bytes: coded.bytes,
+        number,
+        packets: &packets[number],
+        reduce: coded.reduce,
+    }
+}
+
+/// The end of the rows of a step from row `y` on: an odd row or the end, up to which each level
+/// makes all and nothing more.
+fn step_end(y: u32, end: u32, step: u32) -> u32
+    requires order { y < end }
+    requires end { end < 2 ^ 31 }
+    requires step { 1 ≤ step }
+    ensures more { y < result }
+    ensures to { result ≤ end }
+    ensures odd { result < end → result % 2 ≡ 1 }
+    ensures inside { result < end → result + 1 < end }
+{
+    let to = y.saturating_add(step);
+    let odd = to - to % 2 + 1;
+    if odd >= end - 1 {
+        return end;
+    }
+    odd
+}
+
+/// A row of tiles, from tile `first` on, that are made side by side.
+#[derive(Drop)]
+pub(crate) struct TileRow {
+    pub(crate) first: usize,
+    pub(crate) tiles: Vec<TileRows>,
+}
+
+/// The tiles of a row before their first row.
+fn tile_row(
+    alloc: Global,
+    coded: &CodedImage<'_>,
+    first: usize,
+    count: usize,
+) -> Result<TileRow, Fault>
+    requires some { 1 ≤ count }
+    requires whole { first + count ≤ tile_count coded.now.headers.siz }
+    requires fits { first + count < 2 ^ 64 }
+    requires beside { (k : ℕ) → k < count → (area_of_tile coded.now (first + k)).y0 ≡ (area_of_tile coded.now first).y0 }
+    ensures row { IfOk result (IsTileRow coded.now first count (area_of_tile coded.now first).y0) }
+    ensures err { IfErr result (λ e. IsMemory e) }
+{
+    let mut tiles = Vec::new(alloc);
+    for k in 0..count {
+        tiles.push(TileRows::new(alloc, &tile_of(coded, first + k))?)?;
+    }
+    Ok(TileRow { first, tiles })
+}
+
+/// What a stripe of rows has of a tile.
+fn part_of_stripe(coded: &CodedImage<'_>, number: usize, stripe: &Rect) -> Rect
+    requires number { number < tile_count coded.now.headers.siz }
+    ensures { result ≡ part_of_stripe coded.now number stripe.now }
+{
+    let area = reduced(&tile(coded.headers.siz(), number as u32), coded.reduce);
+    Rect {
+        x0: area.x0,
+        y0: stripe.y0,
+        x1: area.x1,
+        y1: stripe.y1,
+    }
+}
+
+/// The planes of a stripe, which lies in a row of tiles.
+fn stripe_planes(
+    alloc: Global,
+    coded: &CodedImage<'_>,
+    row: &mut TileRow,
+    stripe: &Rect,
+) -> Result<Vec<Vec<i32>>, Fault>
+    requires row { IsTileRow coded.now row.old.first (tiles_across coded.now.headers.siz) stripe.now.y0 row.old }
+    requires first { row.old.first % tiles_across coded.now.headers.siz ≡ 0 }
+    requires stripe { IsArea stripe.now }
+    requires left { stripe.now.x0 ≡ coded.now.area.x0 }
+    requires right { stripe.now.x1 ≡ coded.now.area.x1 }
+    requires from { IsStepEnd (area_of_tile coded.now row.old.first) stripe.now.y0 }
+    requires to { IsStepEnd (area_of_tile coded.now row.old.first) stripe.now.y1 }
+    ensures row { OnOk result (IsTileRow coded.now row.old.first (tiles_across coded.now.headers.siz) stripe.now.y1 row.new) }
+    ensures planes { IfOk result (λ v. lists_of v.items
+        ≡ planes_of_tiles coded.now.bytes coded.now.headers coded.now.reduce stripe.now) }
+    // Behind the last row no code-block of the tiles has a fault.
+    ensures fine { stripe.now.y1 ≡ (area_of_tile coded.now row.old.first).y1 → OnOk result
+        ((k : ℕ) → k < tiles_across coded.now.headers.siz → tested (tile_planes_at coded.now.bytes coded.now.headers
+        (row.old.first + k) coded.now.reduce (slice_index_or coded.now.packets (row.old.first + k) [])) ≡ Ok tt) }
+    ensures cause { IfErr result (λ e. IsMemory e ⊎ HasFaultAt coded.now e) }
+{
+    let headers = coded.headers;
+    let mut planes = blank_planes(alloc, headers.siz().components, stripe)?;
+    for k in 0..row.tiles.len() {
+        let next = tile_of(coded, row.first + k);
+        let part = part_of_stripe(coded, row.first + k, stripe);
+        let values = row.tiles[k].step(alloc, &next, stripe.y0, stripe.y1)?;
+        put_tile(&next, stripe, &part, &values, &mut planes);
+    }
+    Ok(planes)
+}
+
+/// Gives rows `y` up to `end`, which lie in a row of tiles.
+fn give_stripe<S: Rows>(
+    alloc: Global,
+    coded: &CodedImage<'_>,
+    row: &mut TileRow,
+    y: u32,
+    end: u32,
+    rows: &mut S,
+) -> Result<(), Fault>
+    requires row { IsTileRow coded.now row.old.first (tiles_across coded.now.headers.siz) y row.old }
+    requires first { row.old.first % tiles_across coded.now.headers.siz ≡ 0 }
+    requires order { y < end }
+    requires from { IsStepEnd (area_of_tile coded.now row.old.first) y }
+    requires to { IsStepEnd (area_of_tile coded.now row.old.first) end }
+    ensures row { OnOk result (IsTileRow coded.now row.old.first (tiles_across coded.now.headers.siz) end row.new) }
+    ensures taken { OnOk result (WereTaken S.took (picture_of coded.now) y end rows.old rows.new) }
+    ensures fine { end ≡ (area_of_tile coded.now row.old.first).y1 → OnOk result
+        ((k : ℕ) → k < tiles_across coded.now.headers.siz → tested (tile_planes_at coded.now.bytes coded.now.headers
+        (row.old.first + k) coded.now.reduce (slice_index_or coded.now.packets (row.old.first + k) [])) ≡ Ok tt) }
+    ensures cause { IfErr result (λ e. IsMemory e ⊎ (e ≡ Shelf) ⊎ HasFaultAt coded.now e) }
+{
+    let stripe = Rect {
+        x0: coded.area.x0,
+        y0: y,
+        x1: coded.area.x1,
+        y1: end,
+    };
+    let planes = stripe_planes(alloc, coded, row, &stripe)?;
+    rows.take(alloc, image_of(coded.headers, &stripe, planes)?)
+}
+
+/// Gives the rows of a row of tiles.
+fn give_tiles<S: Rows>(
+    alloc: Global,
+    coded: &CodedImage<'_>,
+    row: &mut TileRow,
+    step: u32,
+    rows: &mut S,
+) -> Result<(), Fault>
+    requires step { 1 ≤ step }
+    requires first { row.old.first % tiles_across coded.now.headers.siz ≡ 0 }
+    requires row { IsTileRow coded.now row.old.first (tiles_across coded.now.headers.siz)
+        (area_of_tile coded.now row.old.first).y0 row.old }
+    ensures taken { OnOk result (WereTaken S.took (picture_of coded.now) (area_of_tile coded.now row.old.first).y0
+        (area_of_tile coded.now row.old.first).y1 rows.old rows.new) }
+    ensures fine { OnOk result ((k : ℕ) → k < tiles_across coded.now.headers.siz
+        → tested (tile_planes_at coded.now.bytes coded.now.headers (row.old.first + k) coded.now.reduce
+        (slice_index_or coded.now.packets (row.old.first + k) [])) ≡ Ok tt) }
+    ensures cause { IfErr result (λ e. IsMemory e ⊎ (e ≡ Shelf) ⊎ HasFaultAt coded.now e) }
+{
+    let area = reduced(&tile(coded.headers.siz(), row.first as u32), coded.reduce);
+    if area.y0 == area.y1 {
+        let none = Rect {
+            x0: coded.area.x0,
+            y0: area.y0,
+            x1: coded.area.x1,
+            y1: area.y1,
+        };
+        stripe_planes(alloc, coded, row, &none)?;
+        return Ok(());
+    }
+    let mut y = area.y0;
+    while y < area.y1 {
+        let end = step_end(y, area.y1, step);
+        give_stripe(alloc, coded, row, y, end, rows)?;
+        y = end;
+    }
+    Ok(())
+}
+
+/// Gives all rows.
+fn give_rows<S: Rows>(
+    alloc: Global,
+    coded: &CodedImage<'_>,
+    step: u32,
+    rows: &mut S,
+) -> Result<(), Fault>
+    requires step { 1 ≤ step }
+    ensures taken { OnOk result (WereTaken S.took (picture_of coded.now) coded.now.area.y0 coded.now.area.y1
+        rows.old rows.new) }
+    ensures fine { OnOk result (tiles_tested coded.now.bytes coded.now.headers coded.now.reduce
+        (tile_count coded.now.headers.siz) ≡ Ok tt) }
+    ensures cause { IfErr result (λ e. IsMemory e ⊎ (e ≡ Shelf) ⊎ HasFaultAt coded.now e) }
+{
+    let across = tiles_across(coded.headers.siz());
+    let mut first = 0;
+    while first < coded.headers.tile_count() {
+        let mut row = tile_row(alloc, coded, first, across)?;
+        give_tiles(alloc, coded, &mut row, step, rows)?;
+        first += across;
+    }
+    Ok(())
+}
+
+/// Judges all code-blocks in their order, tile by tile, of which nothing is kept.
+fn judge(alloc: Global, coded: &CodedImage<'_>) -> Result<(), Fault>
+    ensures exact { Answers (λ u. u) result
+        (tiles_tested coded.now.bytes coded.now.headers coded.now.reduce (tile_count coded.now.headers.siz)) }
+{
+    for number in 0..coded.headers.tile_count() {
+        judge_tile(alloc, &tile_of(coded, number))?;
+    }
+    Ok(())
+}
+
+/// Gives the rows of a codestream with these headers at a reduction.
+fn picture_rows<S: Rows>(
+    alloc: Global,
+    headers: &Codestream,
+    bytes: &[u8],
+    reduce: u32,
+    step: u32,
+    rows: &mut S,
+) -> Result<(), Fault>
+    requires sound { AreHeaders (length bytes.now) headers.now }
+    requires step { 1 ≤ step }
+    ensures exact { Answers (λ _. tt) result (tested (picture_at headers.now bytes.now reduce))
+        ⊎ ((result ≡ Err Shelf) × (p : Picture) × (picture_at headers.now bytes.now reduce ≡ Ok p)) }
+    ensures taken { OnOk result ((p : Picture) × (picture_at headers.now bytes.now reduce ≡ Ok p)
+        × WereTaken S.took p p.y0 (p.y0 + p.height) rows.old rows.new) }
+{
+    let area = check_reduction(headers, reduce)?;
+    let packets = all_packets(alloc, headers, bytes)?;
+    let coded = CodedImage {
+        headers,
+        bytes,
+        packets: &packets,
+        reduce: reduce as u8,
+        area,
+    };
+    match give_rows(alloc, &coded, step, rows) {
+        Ok(()) => Ok(()),
+        Err(Fault::Memory(refused)) => Err(Fault::Memory(refused)),
+        Err(fault) => {
+            judge(alloc, &coded)?;
+            Err(fault)
+        }
+    }
+}
+
+/// Gives the rows of the image that a file, a bare codestream or a JP2 file, means at a reduction, in
+/// stripes one below the other: each of `step` rows or one or two more, but for the last one of a row
+/// of tiles, which may have fewer. It takes the memory of a stripe and of a row of code-blocks of each
+/// sub-band, not of the image, beside what the packets' headers say of all code-blocks.
+///
+/// The faults are those of [`decode`](crate::decode) in their order: where a code-block has a fault,
+/// all are judged from the first one on. Rows were taken before that where those above the code-block
+/// have none. What refuses rows is told as it was, and as Shelf only where the file has no fault.
+pub fn decode_rows<S: Rows>(
+    alloc: Global,
+    bytes: &[u8],
+    reduce: u32,
+    step: u32,
+    rows: &mut S,
+) -> Result<(), Fault>
+    requires step { 1 ≤ step }
+    // Which fault is the first, or none; or the rows were refused, of a file that means a picture.
+    ensures exact { Answers (λ _. tt) result (tested (meaning_at bytes.now reduce))
+        ⊎ ((result ≡ Err Shelf) × (p : Picture) × (meaning_at bytes.now reduce ≡ Ok p)) }
+    // All rows of the picture that the file means were taken.
+    ensures taken { OnOk result ((p : Picture) × (meaning_at bytes.now reduce ≡ Ok p) × Means bytes.now reduce p
+        × WereTaken S.took p p.y0 (p.y0 + p.height) rows.old rows.new) }
+{
+    let boxed = open(bytes)?;
+    let codestream = &bytes[boxed.start..boxed.end];
+    let headers = read_codestream(alloc, codestream)?;
+    picture_rows(alloc, &headers, codestream, reduce, step, rows)
+}

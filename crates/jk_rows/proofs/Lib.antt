@@ -1,0 +1,12 @@
+pub mod Taken
+pub mod Cells
+pub mod Strips
+pub mod Small
+pub mod Standing
+pub mod LowRows
+pub mod Pushed
+pub mod Whole
+pub mod Climbed
+pub mod TileRowLaws
+pub mod Faults
+pub mod Laws

@@ -1,0 +1,11 @@
+//! The samples of a tile row by row: its code-blocks are decoded a row of them at a time, and the
+//! levels of the wavelet climb as their rows come (T.800 Annexes D to G).
+#![tactic(auto)]
+
+mod component;
+mod level;
+mod lowest;
+mod taking;
+mod tile;
+
+pub use tile::TileRows;

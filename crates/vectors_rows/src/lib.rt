@@ -1,0 +1,5 @@
+//! Images decoded row by row beside whole ones.
+#![tactic(auto)]
+
+#[cfg(test)]
+mod tests;
