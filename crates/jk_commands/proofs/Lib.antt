@@ -1,6 +1,8 @@
 pub mod CommandLaws
 pub mod LeftLaws
 pub mod RasterLaws
+pub mod FrameLaws
+pub mod AheadLaws
 pub mod WalkLoops
 pub mod MarkerLaws
 pub mod BoxLaws

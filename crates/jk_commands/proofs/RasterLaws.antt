@@ -1,19 +1,23 @@
 -- The rasters of stripes, one behind another, are the raster of the picture.
-use Rattle.std.proofs.Common.{◌≡◌, ℕ, zero, suc, ◌+◌, ◌-◌, ◌*◌, ◌/◌, ◌%◌, ◌<◌, ◌≤◌, true, List, [], ◌∷◌, ◌++◌, length, get_or, ℤ, pos, refl, sym, ap, subst, ◌∙◌, arith}
+use Rattle.std.proofs.Common.{◌≡◌, ℕ, zero, suc, ◌+◌, ◌-◌, ◌*◌, ◌/◌, ◌%◌, ◌<◌, ◌≤◌, true, List, [], ◌∷◌, ◌++◌, length, get_or, ℤ, pos, Option, refl, sym, ap, subst, ◌∙◌, arith}
 use Rattle.std.specs.List.{flat_map, range_with_len}
 use Rattle.std.specs.Global.{Vec}
+use Rattle.std.specs.Io.KnownBytes.{Appends}
 use Rattle.std.proofs.lemmas.List.Concat.{flat_map-append}
 use Rattle.std.proofs.lemmas.List.FromFn.{length-map-range_with_len, get_or-map-range_with_len}
 use Rattle.std.proofs.lemmas.Nat.{div-add-mod'}
 use Rattle.jk_math.specs.declared.rect.Rect.{Rect}
 use Rattle.jk_math.specs.Picture.{Picture, sample_at, is_grey_or_rgb}
 use Rattle.jk_math.specs.Raster.{raster}
-use Rattle.jk_math.proofs.Laws.{raster_entry}
+use Rattle.jk_math.proofs.Laws.{raster_entry, appends_none, appends_join}
 use Rattle.jk_pnm.specs.Written.{is_written, maxval_of, sample_text, pixel_text, raster_part, raster_text}
 use Rattle.jk_pnm.specs.Rasters.{AreRastersOf, pieces_text}
 use Rattle.jk_code.specs.declared.making.MadeStripes.{MadeStripes}
 use Rattle.jk_code.specs.Made.{rows_of, AreMade, IsMadeOf}
+use Rattle.jk_code.specs.Rows.{AreTaken, WereTaken}
+use Rattle.jk_commands.specs.declared.decoding_rows.RowWriter.{RowWriter}
 use Rattle.jk_commands.specs.Rasters.{IsRasterOf}
+use Rattle.jk_commands.specs.RowWriting.{IsRasterBehind}
 
 range_joined : (n m a : ℕ) → range_with_len a (n + m) ≡ range_with_len a n ++ range_with_len (a + n) m
 range_joined zero m a = let same : a ≡ a + 0 = omega arith in let none : zero + m ≡ m = omega arith in ap (range_with_len a) none ∙ ap (λ (k : ℕ). range_with_len k m) same
@@ -104,32 +108,51 @@ next_of x y z w low order =
     let e : z - x ≡ (y - x) + (z - y) = omega (arith, low, order) in
     (let s : (y - x) * w + (z - y) * w ≡ ((y - x) + (z - y)) * w = grind arith in s) ∙ ap (λ t. t * w) (sym e)
 
-rasters_from : (p : Picture) (y : ℕ) (made : List (Vec ℕ)) → is_written p ≡ true → p.y0 ≤ y → AreMade IsRasterOf p y made
-    → pieces_text made ≡ raster_part (maxval_of p.depth) p.planes ((y - p.y0) * p.width) ((p.y0 + p.height - y) * p.width)
-rasters_from p y [] is low e =
-    let none : (p.y0 + p.height - y) * p.width ≡ 0 = ap (λ t. t * p.width) (let z : p.y0 + p.height - y ≡ 0 = omega (arith, e) in z) ∙ (let z : 0 * p.width ≡ 0 = omega arith in z) in
-    sym (ap (raster_part (maxval_of p.depth) p.planes ((y - p.y0) * p.width)) none)
-rasters_from p y (m ∷ made) is low are =
-    let z = are.0 in
-    let order : y ≤ z = (let lt = are.1 in omega (arith, lt)) in
-    let high = are.2 in
-    let top = maxval_of p.depth in
+-- the raster of the picture's rows from y down to z
+abbrev rows_part : Picture → (y z : ℕ) → List ℕ
+rows_part p y z = raster_part (maxval_of p.depth) p.planes ((y - p.y0) * p.width) ((z - y) * p.width)
+
+rows_none : (p : Picture) (y : ℕ) → rows_part p y y ≡ []
+rows_none p y =
+    let none : (y - y) * p.width ≡ 0 = ap (λ t. t * p.width) (let z : y - y ≡ 0 = omega arith in z) ∙ (let z : 0 * p.width ≡ 0 = omega arith in z) in
+    ap (raster_part (maxval_of p.depth) p.planes ((y - p.y0) * p.width)) none
+
+-- a stripe's raster is that of its rows
+stripe_raster : (p : Picture) (y z : ℕ) → p.y0 ≤ y → y ≤ z → raster_text (maxval_of p.depth) (rows_of p y z).planes ((rows_of p y z).width * (rows_of p y z).height) ≡ rows_part p y z
+stripe_raster p y z low order =
     let w = p.width in
     let wide : p.x0 + w - p.x0 ≡ w = omega arith in
     let size : (rows_of p y z).width * (rows_of p y z).height ≡ (z - y) * w = ap (λ t. t * (z - y)) wide ∙ (let turned : w * (z - y) ≡ (z - y) * w = grind arith in turned) in
-    let here : m.items ≡ raster_part top p.planes ((y - p.y0) * w) ((z - y) * w) = are.3 (rows_written p y z is) ∙ ap (raster_text top (rows_of p y z).planes) size ∙ rows_raster top p y z low order in
+    ap (raster_text (maxval_of p.depth) (rows_of p y z).planes) size ∙ rows_raster (maxval_of p.depth) p y z low order
+
+-- rows below rows
+rows_joined : (p : Picture) (y z end : ℕ) → p.y0 ≤ y → y ≤ z → z ≤ end → rows_part p y z ++ rows_part p z end ≡ rows_part p y end
+rows_joined p y z end low order high =
+    let top = maxval_of p.depth in
+    let w = p.width in
+    ap (λ (t : ℕ). rows_part p y z ++ raster_part top p.planes t ((end - z) * w)) (sym (next_of p.y0 y z w low order))
+    ∙ sym (part_joined top p.planes ((y - p.y0) * w) ((z - y) * w) ((end - z) * w))
+    ∙ ap (raster_part top p.planes ((y - p.y0) * w)) (sym (rest_of p.y0 y z end w low order high))
+
+-- all rows
+rows_all : (p : Picture) → rows_part p p.y0 (p.y0 + p.height) ≡ raster_text (maxval_of p.depth) p.planes (p.width * p.height)
+rows_all p =
+    let from : (p.y0 - p.y0) * p.width ≡ 0 = ap (λ t. t * p.width) (let z : p.y0 - p.y0 ≡ 0 = omega arith in z) ∙ (let z : 0 * p.width ≡ 0 = omega arith in z) in
+    let all : (p.y0 + p.height - p.y0) * p.width ≡ p.width * p.height = ap (λ t. t * p.width) (let z : p.y0 + p.height - p.y0 ≡ p.height = omega arith in z) ∙ (let z : p.height * p.width ≡ p.width * p.height = grind arith in z) in
+    ap (λ (t : ℕ). raster_part (maxval_of p.depth) p.planes t ((p.y0 + p.height - p.y0) * p.width)) from ∙ ap (raster_part (maxval_of p.depth) p.planes 0) all
+
+rasters_from : (p : Picture) (y : ℕ) (made : List (Vec ℕ)) → is_written p ≡ true → p.y0 ≤ y → AreMade IsRasterOf p y made → pieces_text made ≡ rows_part p y (p.y0 + p.height)
+rasters_from p y [] is low e = sym (ap (rows_part p y) (sym e) ∙ rows_none p y)
+rasters_from p y (m ∷ made) is low are =
+    let z = are.0 in
+    let order : y ≤ z = (let lt = are.1 in omega (arith, lt)) in
+    let here : m.items ≡ rows_part p y z = are.3 (rows_written p y z is) ∙ stripe_raster p y z low order in
     let more = rasters_from p z made is (omega (arith, low, order)) are.4 in
-    ap (λ (xs : List ℕ). xs ++ pieces_text made) here
-    ∙ ap (λ (xs : List ℕ). raster_part top p.planes ((y - p.y0) * w) ((z - y) * w) ++ xs) (more ∙ ap (λ (t : ℕ). raster_part top p.planes t ((p.y0 + p.height - z) * w)) (sym (next_of p.y0 y z w low order)))
-    ∙ sym (part_joined top p.planes ((y - p.y0) * w) ((z - y) * w) ((p.y0 + p.height - z) * w))
-    ∙ ap (raster_part top p.planes ((y - p.y0) * w)) (sym (rest_of p.y0 y z (p.y0 + p.height) w low order high))
+    ap (λ (xs : List ℕ). xs ++ pieces_text made) here ∙ ap (λ (xs : List ℕ). rows_part p y z ++ xs) more ∙ rows_joined p y z (p.y0 + p.height) low order are.2
 
 -- What is made of all stripes is the raster of the picture.
 pub all_rasters : (p : Picture) (made : List (Vec ℕ)) → is_written p ≡ true → AreMade IsRasterOf p p.y0 made → pieces_text made ≡ raster_text (maxval_of p.depth) p.planes (p.width * p.height)
-all_rasters p made is are =
-    let from : (p.y0 - p.y0) * p.width ≡ 0 = ap (λ t. t * p.width) (let z : p.y0 - p.y0 ≡ 0 = omega arith in z) ∙ (let z : 0 * p.width ≡ 0 = omega arith in z) in
-    let all : (p.y0 + p.height - p.y0) * p.width ≡ p.width * p.height = ap (λ t. t * p.width) (let z : p.y0 + p.height - p.y0 ≡ p.height = omega arith in z) ∙ (let z : p.height * p.width ≡ p.width * p.height = grind arith in z) in
-    rasters_from p p.y0 made is (omega arith) are ∙ ap (λ (t : ℕ). raster_part (maxval_of p.depth) p.planes t ((p.y0 + p.height - p.y0) * p.width)) from ∙ ap (raster_part (maxval_of p.depth) p.planes 0) all
+all_rasters p made is are = rasters_from p p.y0 made is (omega arith) are ∙ rows_all p
 
 pub made_rasters : (p : Picture) (m : MadeStripes (Vec ℕ)) (pieces : List (Vec ℕ)) → IsMadeOf IsRasterOf p m → pieces ≡ m.made.items
     → AreRastersOf (record { components = m.frame.components; signed = m.frame.signed; width = m.frame.width; height = m.frame.height; depth = m.frame.depth }) pieces p
@@ -141,3 +164,31 @@ made_rasters p m pieces is same = record {
   depth = is.frame.depth;
   raster = λ written. ap pieces_text same ∙ all_rasters p m.made.items written is.made;
 }
+
+-- ---- stripes that a writer got
+
+rows_behind : {W : Type 0} (contents : W → Option (List ℕ)) (p : Picture) (y z : ℕ) (a b : RowWriter W) (stripes : List (ℕ × RowWriter W)) → is_written p ≡ true → p.y0 ≤ y → AreTaken (IsRasterBehind contents) p y z a stripes b
+    → Appends (contents a.writer.now) (contents b.writer.now) (rows_part p y z)
+rows_behind {W} contents p y z a b [] is low h =
+    subst (λ (x : RowWriter W). Appends (contents a.writer.now) (contents x.writer.now) (rows_part p y z)) h.1
+    (subst (Appends (contents a.writer.now) (contents a.writer.now)) (sym (ap (rows_part p y) (sym h.0) ∙ rows_none p y)) (appends_none (contents a.writer.now)))
+rows_behind contents p y z a b (s ∷ stripes) is low h =
+    let order : y ≤ s.0 = (let lt = h.0 in omega (arith, lt)) in
+    let here = subst (Appends (contents a.writer.now) (contents s.1.writer.now)) (stripe_raster p y s.0 low order) (h.2.1 (rows_written p y s.0 is)) in
+    let more = rows_behind contents p s.0 z s.1 b stripes is (omega (arith, low, order)) h.3 in
+    subst (Appends (contents a.writer.now) (contents b.writer.now)) (rows_joined p y s.0 z low order h.1)
+    (appends_join (contents a.writer.now) (contents s.1.writer.now) (contents b.writer.now) (rows_part p y s.0) (rows_part p s.0 z) here more)
+
+-- A writer that got all stripes has the raster of the picture behind what it had.
+pub all_behind : {W : Type 0} (contents : W → Option (List ℕ)) (p : Picture) (a b : RowWriter W) → is_written p ≡ true → WereTaken (IsRasterBehind contents) p p.y0 (p.y0 + p.height) a b
+    → Appends (contents a.writer.now) (contents b.writer.now) (raster_text (maxval_of p.depth) p.planes (p.width * p.height))
+all_behind contents p a b is taken =
+    subst (Appends (contents a.writer.now) (contents b.writer.now)) (rows_all p) (rows_behind contents p p.y0 (p.y0 + p.height) a b taken.0 is (omega arith) taken.1)
+
+named : {W : Type 0} (contents : W → Option (List ℕ)) (p : Picture) (y z : ℕ) (a b : RowWriter W) (stripes : List (ℕ × RowWriter W)) → AreTaken (IsRasterBehind contents) p y z a stripes b → b.writer.ghost_name ≡ a.writer.ghost_name
+named {W} contents p y z a b [] h = ap (λ (x : RowWriter W). x.writer.ghost_name) (sym h.1)
+named contents p y z a b (s ∷ stripes) h = named contents p s.0 z s.1 b stripes h.3 ∙ h.2.0
+
+-- It is still the same one.
+pub same_writer : {W : Type 0} (contents : W → Option (List ℕ)) (p : Picture) (y z : ℕ) (a b : RowWriter W) → WereTaken (IsRasterBehind contents) p y z a b → b.writer.ghost_name ≡ a.writer.ghost_name
+same_writer contents p y z a b taken = named contents p y z a b taken.0 taken.1

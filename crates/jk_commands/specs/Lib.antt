@@ -3,6 +3,7 @@ pub use Rattle.jk_math.specs.Picture
 pub mod Commands
 pub mod Dressing
 pub mod Rasters
+pub mod RowWriting
 pub mod Written
 pub mod Lines
 pub mod BoxList

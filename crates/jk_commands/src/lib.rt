@@ -6,6 +6,7 @@ mod coding_values;
 mod comparing;
 mod cutting;
 mod decoding;
+mod decoding_rows;
 mod decoding_with;
 mod dressing;
 mod encoding;
@@ -21,6 +22,7 @@ mod viewing;
 pub use comparing::{Change, Difference, differences, differences_text};
 pub use cutting::cut_file;
 pub use decoding::{check_workers, decode_file, decode_file_into};
+pub use decoding_rows::{decode_rows_into, suits_rows};
 pub use decoding_with::decode_file_into_with;
 pub use dressing::{
     components_of, dress_file, encode_file_dressed, encode_file_dressed_with, encode_image_dressed,

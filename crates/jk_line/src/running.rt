@@ -7,9 +7,9 @@ use crate::workers::workers;
 use crate::world::World;
 use crate::{archive, checking, keeping};
 use jk_commands::{
-    EncodeOptions, Plan, cut_file, decode_file_into, decode_file_into_with,
+    EncodeOptions, Plan, cut_file, decode_file_into, decode_file_into_with, decode_rows_into,
     decode_window_file_into, encode_file_dressed, encode_file_dressed_with, encode_file_into,
-    encode_file_with, first_layers, info_all_file, info_file, judge,
+    encode_file_with, first_layers, info_all_file, info_file, judge, suits_rows,
 };
 use jk_jobs::Open;
 use jk_math::Fault;
@@ -99,7 +99,7 @@ fn encode<W: World>(alloc: Global, world: &mut W, line: &Encoding<'_>) -> Result
     }
     let bytes = read(alloc, world, line.input)?;
     let name = line.output;
-    let mut output = create(alloc, world, name)?;
+    let mut output = create(alloc, world, name, false)?;
     world.begin_work(Work::Encoding, bytes.len() as u64);
     let encoded = encode_file_into(alloc, bytes, plan, &mut output);
     world.end_work();
@@ -111,27 +111,50 @@ fn encode<W: World>(alloc: Global, world: &mut W, line: &Encoding<'_>) -> Result
     }
 }
 
-/// Writes the image of a file, decoded by this thread or by several workers.
+/// How the whole image of a file is decoded.
+#[derive(Clone, Copy)]
+enum Way {
+    /// By several workers, and then written.
+    Workers(usize),
+    /// Row by row: rows are written before a fault behind them may be met.
+    Rows,
+    /// At once, and then written.
+    AtOnce,
+}
+
+/// How so many workers decode the whole image of a file.
+fn way_of(workers: usize, bytes: &[u8]) -> Way {
+    if workers > 1 {
+        return Way::Workers(workers);
+    }
+    if suits_rows(bytes) {
+        return Way::Rows;
+    }
+    Way::AtOnce
+}
+
+/// Writes the image of a file.
 fn decode_image<W: World>(
     alloc: Global,
     world: &W,
-    workers: usize,
+    way: Way,
     bytes: Vec<u8>,
     reduce: u32,
     output: &mut W::Output,
 ) -> Result<(), Fault> {
-    if workers == 1 {
-        return decode_file_into(alloc, bytes, reduce, output);
+    match way {
+        Way::Workers(workers) => decode_file_into_with::<W::Runtime, Open, W::Output>(
+            world.runtime(),
+            alloc,
+            workers,
+            &Open,
+            bytes,
+            reduce,
+            output,
+        ),
+        Way::Rows => decode_rows_into(alloc, &bytes, reduce, output),
+        Way::AtOnce => decode_file_into(alloc, bytes, reduce, output),
     }
-    decode_file_into_with::<W::Runtime, Open, W::Output>(
-        world.runtime(),
-        alloc,
-        workers,
-        &Open,
-        bytes,
-        reduce,
-        output,
-    )
 }
 
 /// The file that is decoded: the file itself, or what of it has the layers that are asked for, on the
@@ -147,7 +170,7 @@ fn with_layers(alloc: Global, line: &Decoding<'_>, bytes: Vec<u8>) -> Result<Vec
 }
 
 /// `jk decode IN OUT`: the image, or a window of it, in all layers or the first. How many workers
-/// there are is judged first.
+/// there are is judged first. What is written row by row is held where it can't be taken back.
 fn decode<W: World>(alloc: Global, world: &mut W, line: &Decoding<'_>) -> Result<(), Failure> {
     let workers = workers(alloc, line.workers)?;
     let bytes = read(alloc, world, line.input)?;
@@ -157,11 +180,13 @@ fn decode<W: World>(alloc: Global, world: &mut W, line: &Decoding<'_>) -> Result
         Err(fault) => return Err(of_file(alloc, fault, left_out)),
     };
     let name = line.output;
-    let mut output = create(alloc, world, name)?;
+    let way = way_of(workers, &bytes);
+    let is_held = line.window.is_none() && matches!(way, Way::Rows);
+    let mut output = create(alloc, world, name, is_held)?;
     world.begin_work(Work::Decoding, bytes.len() as u64);
     let decoded = match line.window {
         Some(view) => decode_window_file_into(alloc, bytes, view, &mut output),
-        None => decode_image(alloc, world, workers, bytes, line.reduce, &mut output),
+        None => decode_image(alloc, world, way, bytes, line.reduce, &mut output),
     };
     world.end_work();
     let finished = finish(alloc, world, name, output, decoded.is_ok());
@@ -204,9 +229,7 @@ fn list_faults<W: World>(alloc: Global, world: &mut W) -> Result<(), Failure> {
 /// Does what a command asks for.
 fn perform<W: World>(alloc: Global, world: &mut W, line: &Line<'_>) -> Result<Status, Failure> {
     match &line.command {
-        Command::Check(line_of) => {
-            return checking::check(alloc, world, line_of, line.explain);
-        }
+        Command::Check(asked) => return checking::check(alloc, world, asked, line.explain),
         Command::Extras(line) => return keeping::extras(alloc, world, line),
         Command::Encode(line) => encode(alloc, world, line),
         Command::Decode(line) => decode(alloc, world, line),

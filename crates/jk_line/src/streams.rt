@@ -42,13 +42,20 @@ pub(crate) fn write<W: World>(
     }
 }
 
-/// A file that is to be written in parts, or standard output.
+/// A file that is to be written in parts, or standard output. The parts are held where they can't
+/// be taken back, if `is_held`.
 pub(crate) fn create<W: World>(
     alloc: Global,
     world: &mut W,
     name: &str,
+    is_held: bool,
 ) -> Result<W::Output, Failure> {
-    match world.create(alloc, name) {
+    let created = if is_held {
+        world.create_held(alloc, name)
+    } else {
+        world.create(alloc, name)
+    };
+    match created {
         Ok(output) => Ok(output),
         Err(fault) => Err(unwritten(alloc, world, fault, name)),
     }

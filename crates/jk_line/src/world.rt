@@ -52,9 +52,14 @@ pub trait World {
     /// the first byte is written.
     fn create(&mut self, alloc: Global, name: &str) -> Result<Self::Output, Fault>;
 
+    /// A file that is to be written in parts before it is known whether the whole will be there, or
+    /// standard output for `-`. Where they can't be written beside its place they are held, and go
+    /// out in `finish` if the whole is there: what they go to isn't opened before.
+    fn create_held(&mut self, alloc: Global, name: &str) -> Result<Self::Output, Fault>;
+
     /// Ends what was written in parts. Where that is whole, a file takes its place now; else what
-    /// has its place stays, if it is a file. It is refused where a part couldn't be written, or the
-    /// file can't take its place.
+    /// has its place stays, if it is a file or if its parts are held. It is refused where a part
+    /// couldn't be written or held, or the file can't take its place.
     fn finish(&mut self, output: Self::Output, is_whole: bool) -> Result<(), Fault>;
 
     /// Writes a text to standard output.

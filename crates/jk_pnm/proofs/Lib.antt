@@ -8,3 +8,4 @@ pub mod Tails
 pub mod RasterLaws
 pub mod WrittenLaws
 pub mod SendingLaws
+pub mod Laws

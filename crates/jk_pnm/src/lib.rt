@@ -8,8 +8,8 @@ mod reading;
 mod theorems;
 mod writing;
 
-pub use pieces::write_into;
-pub use rasters::{RasterFrame, raster, write_rasters_into};
+pub use pieces::{write_into, write_raster_into};
+pub use rasters::{RasterFrame, raster, write_head_into, write_rasters_into};
 pub use reading::{read, read_owned};
 pub use theorems::one_picture;
 pub use writing::write;

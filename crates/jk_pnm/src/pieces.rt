@@ -1,6 +1,6 @@
 //! Writing into a writer, some pixels at a time.
 
-ghost use Rattle.std.specs.Prelude.{◌≡◌, ◌*◌, ◌-◌, ◌≤◌, ℕ, List, true, Ok, OnOk};
+ghost use Rattle.std.specs.Prelude.{◌≡◌, ◌*◌, ◌-◌, ◌≤◌, ℕ, List, [], true, false, Ok, OnOk};
 ghost use Rattle.std.specs.Io.KnownBytes.{Appends};
 ghost use Rattle.jk_math.specs.Picture.{IsPicture};
 ghost use Rattle.jk_pnm.specs.Pnm.{IsPnm};
@@ -72,6 +72,31 @@ fn send_raster<W: Write>(
         from = to;
     }
     Ok(())
+}
+
+/// Writes the raster of an image, of which 32,768 pixels are held at a time: what stands behind the
+/// head of its file. The rasters of stripes, one below the other, written one behind another make the
+/// raster of the whole. Of an image that has no file nothing is written.
+///
+/// Shelf: a write failed or took nothing.
+pub fn write_raster_into<W: Write>(
+    alloc: Global,
+    image: &Image,
+    writer: &mut W,
+) -> Result<(), Fault>
+    // What was written of a raster, however it ended.
+    ensures raster { is_written image.now ≡ true
+        → (part : List ℕ) × Appends (W.contents writer.old) (W.contents writer.new) part
+        × IsSent (raster_text (maxval_of image.now.depth) image.now.planes (image.now.width * image.now.height))
+        part result }
+    ensures nothing { is_written image.now ≡ false
+        → (result ≡ Ok tt) × Appends (W.contents writer.old) (W.contents writer.new) [] }
+{
+    if !is_written(image) {
+        return Ok(());
+    }
+    let (pixels, maxval) = pixels_and_maxval(image);
+    send_raster(alloc, image, maxval, pixels, writer)
 }
 
 /// Writes the file of an image.

@@ -30,6 +30,16 @@ pub struct RasterFrame {
     pub depth: u8,
 }
 
+impl RasterFrame {
+    /// Whether an image of this frame has a PGM or PPM file: it has one or three components, and its
+    /// samples are unsigned.
+    pub fn has_file(&self) -> bool
+        ensures { result ≡ is_grey_or_rgb self.now.components self.now.signed }
+    {
+        is_grey_or_rgb(self.components as usize, self.signed)
+    }
+}
+
 /// The raster of an image: what stands behind the head of its file. Of an image that has no file
 /// it is nothing.
 pub fn raster(alloc: Global, image: &Image) -> Result<Vec<u8>, Fault>
@@ -63,6 +73,27 @@ fn greatest(depth: u8) -> u32
     (1u32 << depth) - 1
 }
 
+/// Writes the head of the PGM or PPM file of an image of a frame: what stands before its raster.
+/// Whether there is such a file isn't asked: that tells [`RasterFrame::has_file`].
+///
+/// Shelf: a write failed or took nothing.
+pub fn write_head_into<W: Write>(
+    alloc: Global,
+    frame: &RasterFrame,
+    writer: &mut W,
+) -> Result<(), Fault>
+    requires { frame.now.depth ≤ 16 }
+    // What was written, however it ended.
+    ensures exact { (part : List ℕ) × Appends (W.contents writer.old) (W.contents writer.new) part
+        × IsSent (header_text (frame.now.components == 3) frame.now.width frame.now.height
+        (maxval_of frame.now.depth)) part result }
+{
+    let colour = frame.components == 3;
+    let maxval = greatest(frame.depth);
+    let head = header(alloc, 0, colour, frame.width, frame.height, maxval)?;
+    send(writer, &head)
+}
+
 /// Writes the head of a file and the pieces of its raster.
 fn send_file<W: Write>(
     alloc: Global,
@@ -75,10 +106,7 @@ fn send_file<W: Write>(
         × IsSent (header_text (frame.now.components == 3) frame.now.width frame.now.height
         (maxval_of frame.now.depth) ++ pieces_text pieces.now) part result }
 {
-    let colour = frame.components == 3;
-    let maxval = greatest(frame.depth);
-    let head = header(alloc, 0, colour, frame.width, frame.height, maxval)?;
-    send(writer, &head)?;
+    write_head_into(alloc, frame, writer)?;
     send_pieces(pieces, writer)
 }
 
@@ -102,7 +130,7 @@ pub fn write_rasters_into<W: Write>(
     ensures means { (p : Picture) → IsPicture p → AreRastersOf frame.now pieces.now p
         → OnOk result ((file : List ℕ) → written p ≡ Ok file → IsPnm file (record p { x0 = 0; y0 = 0 })) }
 {
-    if !is_grey_or_rgb(frame.components as usize, frame.signed) {
+    if !frame.has_file() {
         return Err(Fault::Unsupported);
     }
     send_file(alloc, frame, pieces, writer)

@@ -8,7 +8,7 @@ use jk_line::{Serving, Work, World};
 use jk_math::Fault;
 use jk_serve::{Desk, Paths, bind};
 use jk_store::{Archive, Folder};
-use jk_terminal::{Counted, Late, Watched};
+use jk_terminal::{Counted, GoesOut, Late, Watched};
 use std::alloc::Global;
 use std::fmt::Display;
 use std::io::{self, BufWriter};
@@ -68,6 +68,27 @@ impl<R: Files + Drop> Host<R> {
             Ok(value) => Ok(value),
             Err(said) => self.kept(Err(Refusal::System(said))),
         }
+    }
+}
+
+impl<R: Files + Print + Clone + Drop> Host<R> {
+    /// The output of a name, whose bytes go out at once or once the whole is there.
+    fn late(
+        &mut self,
+        alloc: Global,
+        name: &str,
+        goes_out: GoesOut,
+    ) -> Result<BufWriter<Late<R>, Global>, Fault> {
+        let name = String::from_str(alloc, name)?;
+        let late = Late::new(
+            self.rt.clone()?,
+            alloc,
+            name,
+            goes_out,
+            self.counted.again(),
+        );
+        let answer = BufWriter::new(alloc, late);
+        self.kept_of_system(answer)
     }
 }
 
@@ -136,10 +157,15 @@ where
     }
 
     fn create(&mut self, alloc: Global, name: &str) -> Result<BufWriter<Late<R>, Global>, Fault> {
-        let name = String::from_str(alloc, name)?;
-        let late = Late::new(self.rt.clone()?, alloc, name, self.counted.again());
-        let answer = BufWriter::new(alloc, late);
-        self.kept_of_system(answer)
+        self.late(alloc, name, GoesOut::AtOnce)
+    }
+
+    fn create_held(
+        &mut self,
+        alloc: Global,
+        name: &str,
+    ) -> Result<BufWriter<Late<R>, Global>, Fault> {
+        self.late(alloc, name, GoesOut::WhenWhole)
     }
 
     fn finish(&mut self, output: BufWriter<Late<R>, Global>, is_whole: bool) -> Result<(), Fault> {

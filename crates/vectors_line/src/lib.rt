@@ -10,6 +10,8 @@ mod memory;
 #[cfg(test)]
 mod numbers;
 #[cfg(test)]
+mod outputs;
+#[cfg(test)]
 mod progress;
 #[cfg(test)]
 mod runs;

@@ -41,6 +41,8 @@ pub(crate) struct Memory<'a, R> {
     pub(crate) counter: Counter,
     pub(crate) begun: Vec<(Work, u64)>,
     pub(crate) ended: usize,
+    /// How many outputs were asked for that are held.
+    pub(crate) held: usize,
     said: Option<io::Error>,
 }
 
@@ -63,6 +65,7 @@ impl<'a, R> Memory<'a, R> {
             },
             begun: Vec::new(alloc),
             ended: 0,
+            held: 0,
             said: None,
         }
     }
@@ -90,11 +93,12 @@ impl<'a, R> Memory<'a, R> {
     }
 }
 
-/// What is written in parts under a name.
+/// What is written in parts under a name, and whether it can be taken back.
 #[derive(Drop)]
 pub(crate) struct Written {
     name: String,
     bytes: Vec<u8>,
+    goes_back: bool,
 }
 
 impl Write for Written {
@@ -162,11 +166,19 @@ impl<'a, R: Threads + Sync> World for Memory<'a, R> {
         Ok(Written {
             name: String::from_str(alloc, name)?,
             bytes: Vec::new(alloc),
+            goes_back: name != "-",
         })
     }
 
+    fn create_held(&mut self, alloc: Global, name: &str) -> Result<Written, Fault> {
+        self.held = self.held.saturating_add(1);
+        let mut output = self.create(alloc, name)?;
+        output.goes_back = true;
+        Ok(output)
+    }
+
     fn finish(&mut self, output: Written, is_whole: bool) -> Result<(), Fault> {
-        if !is_whole {
+        if !is_whole && output.goes_back {
             return Ok(());
         }
         self.write(self.alloc, output.name.as_str(), &output.bytes)

@@ -1,6 +1,10 @@
+ghost use Rattle.std.specs.Prelude.{◌≤◌};
+
 use crate::cases::{Case, OTHERS, REFUSED, Row, WRITTEN, spelled};
 use jk_math::{Fault, Image};
-use jk_pnm::{read, read_owned, write, write_into};
+use jk_pnm::{
+    RasterFrame, read, read_owned, write, write_head_into, write_into, write_raster_into,
+};
 use std::alloc::Global;
 use std::process::Abort;
 use vectors::{equal, equal_at};
@@ -56,6 +60,29 @@ fn sent(rt: &impl Abort, alloc: Global, image: &Image) -> Vec<u8> {
     written
 }
 
+/// The frame of an image.
+fn frame_of(image: &Image) -> RasterFrame
+    ensures { result.depth ≤ 16 }
+{
+    RasterFrame {
+        components: image.planes().len().min(4) as u16,
+        signed: image.signed(),
+        width: image.width(),
+        height: image.height(),
+        depth: image.depth().min(16),
+    }
+}
+
+/// The head of the file of an image, and the raster behind it.
+fn head_and_raster(rt: &impl Abort, alloc: Global, image: &Image) -> Vec<u8> {
+    let mut written = Vec::new(alloc);
+    let frame = frame_of(image);
+    equal(frame.has_file(), true).expect(rt, "a file");
+    write_head_into(alloc, &frame, &mut written).expect(rt, "a head");
+    write_raster_into(alloc, image, &mut written).expect(rt, "a raster");
+    written
+}
+
 /// What is written of an image.
 fn file_of(rt: &impl Abort, alloc: Global, image: &Image) -> Vec<u8> {
     write(alloc, image).expect(rt, "a file")
@@ -94,6 +121,8 @@ fn there_and_back(rt: &impl Abort, alloc: Global, case: &Case<'_>) {
     equal(written.as_slice(), case.file).expect(rt, "a file");
     let sent = sent(rt, alloc, &image);
     equal(sent.as_slice(), case.file).expect(rt, "a file that is sent");
+    let joined = head_and_raster(rt, alloc, &image);
+    equal(joined.as_slice(), case.file).expect(rt, "a head and a raster");
 }
 
 #[test]
@@ -179,6 +208,9 @@ fn unwritten(rt: &impl Abort, alloc: Global, signed: bool, components: usize) {
     let mut written = Vec::new(alloc);
     let refused = write_into(alloc, &image, &mut written).err();
     equal_at(components, (refused, written.len()), (due, 0)).expect(rt, "a fault");
+    let refused = write_raster_into(alloc, &image, &mut written).err();
+    equal_at(components, (refused, written.len()), (None, 0)).expect(rt, "nothing");
+    equal_at(components, frame_of(&image).has_file(), false).expect(rt, "no file");
 }
 
 #[test]

@@ -1,32 +1,14 @@
 //! Images by chance, decoded row by row and whole: the rows one below the other are the whole image.
 
+ghost use Rattle.std.specs.Prelude.{◌≤◌};
+
+use crate::chance::{Chance, Kind, image, parameters};
 use jk_code::{Rows, decode, decode_rows, encode};
-use jk_marks::Order;
-use jk_math::{Fault, Image, Style};
-use jk_params::{Container, Parameters};
+use jk_math::{Fault, Image};
 use std::alloc::Global;
 use std::process::Abort;
 use std::test::Fail;
-use vectors::{drawn, equal, equal_at};
-
-/// Numbers by chance.
-#[derive(Drop)]
-struct Chance {
-    state: u32,
-}
-
-impl Chance {
-    /// A number below another one.
-    fn below(&mut self, limit: u32) -> u32 {
-        self.state = drawn(self.state);
-        (self.state >> 8) % limit.max(1)
-    }
-
-    /// Yes or no.
-    fn tossed(&mut self) -> bool {
-        self.below(2) == 0
-    }
-}
+use vectors::{equal, equal_at};
 
 /// The rows that were taken, put together again.
 #[derive(Drop)]
@@ -70,61 +52,6 @@ impl Rows for Full {
     }
 }
 
-/// An image by chance.
-fn image(alloc: Global, chance: &mut Chance) -> Result<Image, Fail> {
-    let (x, y) = (chance.below(40), chance.below(40));
-    let (width, height) = (1 + chance.below(24), 1 + chance.below(30));
-    let depth = 1 + chance.below(8) as u8;
-    let mut planes = Vec::new(alloc);
-    for _ in 0..1 + chance.below(4) {
-        let mut plane = Vec::new(alloc);
-        for _ in 0..width * height {
-            plane.push(chance.below(1 << depth) as i32)?;
-        }
-        planes.push(plane)?;
-    }
-    Ok(Image::new(x, y, width, height, depth, false, planes)?)
-}
-
-/// Styles of code-blocks by chance.
-fn style(chance: &mut Chance) -> Style {
-    Style {
-        reset: chance.tossed(),
-        causal: chance.tossed(),
-        segments: chance.tossed(),
-    }
-}
-
-/// Parameters by chance.
-fn parameters(alloc: Global, chance: &mut Chance, components: usize) -> Result<Parameters, Fail> {
-    let levels = chance.below(6) as u8;
-    let mut precincts = Vec::new(alloc);
-    if chance.tossed() {
-        for _ in 0..levels + 1 {
-            precincts.push((1 + chance.below(5) as u8, 1 + chance.below(5) as u8))?;
-        }
-    }
-    let tile = if chance.tossed() {
-        Some((9 + chance.below(30), 9 + chance.below(30)))
-    } else {
-        None
-    };
-    Ok(Parameters {
-        levels,
-        layers: 1 + chance.below(3) as u16,
-        order: Order::Lrcp,
-        tile,
-        xcb: 2 + chance.below(3) as u8,
-        ycb: 2 + chance.below(3) as u8,
-        style: style(chance),
-        precincts,
-        colour: components >= 3 && chance.tossed(),
-        sop: false,
-        eph: false,
-        container: Container::Raw,
-    })
-}
-
 /// Decodes a file row by row in steps of so many rows, beside the whole.
 fn rows_beside_whole(
     rt: &impl Abort,
@@ -142,16 +69,17 @@ fn rows_beside_whole(
     let told = decode_rows(alloc, file, reduce, step, &mut whole);
     match decode(alloc, file, reduce) {
         Ok(due) => {
-            equal(told, Ok(())).expect(rt, "rows");
-            equal(whole.planes.len(), due.planes().len()).expect(rt, "planes");
+            equal(told, Ok(())).expect(rt, "what is due");
+            equal(whole.planes.len(), due.planes().len()).expect(rt, "what is due");
             for c in 0..due.planes().len() {
                 let rows = whole.planes.get(c).expect(rt, "a plane");
                 equal_at((reduce, step, c), rows.as_slice(), due.planes().plane(c)).expect(
-                    rt, "samples",
+                    rt,
+                    "what is due",
                 );
             }
         }
-        Err(fault) => equal(told, Err(fault)).expect(rt, "a fault"),
+        Err(fault) => equal(told, Err(fault)).expect(rt, "what is due"),
     }
     Ok(())
 }
@@ -161,14 +89,20 @@ fn refused(rt: &impl Abort, alloc: Global, file: &[u8], left: usize) {
     let mut full = Full { left };
     let told = decode_rows(alloc, file, 0, 1, &mut full);
     match decode(alloc, file, 0) {
-        Ok(_) => equal(told.is_ok() || told == Err(Fault::Shelf), true).expect(rt, "a refusal"),
-        Err(fault) => equal(told, Err(fault)).expect(rt, "a fault"),
+        Ok(_) => equal(told.is_ok() || told == Err(Fault::Shelf), true).expect(rt, "what is due"),
+        Err(fault) => equal(told, Err(fault)).expect(rt, "what is due"),
     }
 }
 
 /// An image by chance, its file, whole and damaged.
 fn one_case(rt: &impl Abort, alloc: Global, chance: &mut Chance) -> Result<(), Fail> {
-    let image = image(alloc, chance)?;
+    let kind = Kind {
+        columns: 24,
+        rows: 30,
+        bits: 8,
+        signed: false,
+    };
+    let image = image(alloc, chance, kind)?;
     let given = parameters(alloc, chance, image.planes().len())?;
     let Ok(file) = encode(alloc, &image, &given) else {
         return Ok(());
@@ -178,7 +112,7 @@ fn one_case(rt: &impl Abort, alloc: Global, chance: &mut Chance) -> Result<(), F
     rows_beside_whole(rt, alloc, &file, reduce, step)?;
     refused(rt, alloc, &file, chance.below(3) as usize);
     let mut damaged = file;
-    let at = damaged.len() - 1 - chance.below(20) as usize % damaged.len();
+    let at = damaged.len().saturating_sub(1 + chance.below(20) as usize);
     if let Some(byte) = damaged.get_mut(at) {
         *byte ^= 0x5A;
     }

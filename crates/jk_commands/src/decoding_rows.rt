@@ -1,0 +1,212 @@
+//! Decoding to a PGM or PPM file row by row: the image is never whole in memory.
+
+ghost use Rattle.std.specs.Prelude.{◌≡◌, ◌≤◌, ◌*◌, ◌==◌, ◌⊎◌, ℕ, List, true, Ok, Err, IfOk, IfErr, OnOk};
+ghost use Rattle.std.specs.Io.KnownBytes.{Appends};
+ghost use Rattle.jk_math.specs.Answer.{Answers, Refuses};
+ghost use Rattle.jk_math.specs.Picture.{Picture};
+ghost use Rattle.jk_math.specs.declared.fault.Fault.TheVariants.{Shelf};
+ghost use Rattle.jk_pnm.specs.Pnm.{IsPnm};
+ghost use Rattle.jk_pnm.specs.Written.{is_written, maxval_of, header_text, raster_text, written as pnm_of};
+ghost use Rattle.jk_tile.specs.decoding.TileReading.{tested};
+ghost use Rattle.jk_code.specs.Meaning.{Means};
+ghost use Rattle.jk_code.specs.MeaningReading.{meaning_at};
+ghost use Rattle.jk_options.specs.Plans.{at_place};
+ghost use Rattle.jk_commands.specs.Commands.{decoded};
+ghost use Rattle.jk_commands.specs.Rasters.{IsRasterFrameOf};
+
+use jk_boxes::open;
+use jk_code::{Rows, decode, decode_rows, frame};
+use jk_marks::{Main, read_main};
+use jk_math::{Fault, Image};
+use jk_pnm::{RasterFrame, write_head_into, write_raster_into};
+use std::alloc::Global;
+use std::io::Write;
+
+/// How many rows are decoded at a time. A row of code-blocks of each sub-band is held anyway, which
+/// `jk encode` makes 64 rows high: a stripe of as many rows takes less memory than these do.
+const ROWS: u32 = 64;
+
+/// What drops all rows: a file is judged by it.
+#[derive(Drop)]
+struct Dropped;
+
+impl Rows for Dropped {
+    ghost took = { λ _ _ _. Unit {0} };
+
+    fn take(&mut self, alloc: Global, rows: Image) -> Result<(), Fault> {
+        Ok(())
+    }
+}
+
+/// A writer that gets the raster of the rows of each stripe, one behind another.
+#[derive(Drop)]
+struct RowWriter<'a, W> {
+    writer: &'a mut W,
+}
+
+impl<'a, W: Write> Rows for RowWriter<'a, W> {
+    ghost use Rattle.jk_commands.specs.RowWriting.{IsRasterBehind};
+
+    ghost took = { IsRasterBehind W.contents };
+
+    fn take(&mut self, alloc: Global, rows: Image) -> Result<(), Fault> {
+        write_raster_into(alloc, &rows, self.writer)
+    }
+}
+
+/// The frame of the image of a file at a reduction.
+fn raster_frame(alloc: Global, bytes: &[u8], reduce: u32) -> Result<RasterFrame, Fault>
+    ensures depth { IfOk result (λ f. f.depth ≤ 16) }
+    ensures frame { IfOk result (λ f. (p : Picture) → meaning_at bytes.now reduce ≡ Ok p → IsRasterFrameOf f p) }
+    ensures err { IfErr result (λ e. Refuses e (meaning_at bytes.now reduce)) }
+{
+    let told = frame(alloc, bytes, reduce)?;
+    Ok(RasterFrame {
+        components: told.components,
+        signed: told.signed,
+        width: told.width,
+        height: told.height,
+        depth: told.depth,
+    })
+}
+
+/// The first fault of a file, if it has one, all of whose rows are decoded and dropped.
+fn judge(alloc: Global, bytes: &[u8], reduce: u32) -> Result<(), Fault>
+    ensures { Answers (λ _. tt) result (tested (meaning_at bytes.now reduce)) }
+{
+    match decode_rows(alloc, bytes, reduce, ROWS, &mut Dropped) {
+        // Neither what drops rows nor a file tells Shelf. The clauses of `decode_rows` don't say so,
+        // and so the whole image would tell which of them it was.
+        Err(Fault::Shelf) => {
+            decode(alloc, bytes, reduce)?;
+            Ok(())
+        }
+        told => told,
+    }
+}
+
+/// Writes the head of the file of an image. Where a write fails, the image is judged, since a fault
+/// of its file goes before Shelf.
+fn write_head<W: Write>(
+    alloc: Global,
+    bytes: &[u8],
+    reduce: u32,
+    frame: &RasterFrame,
+    writer: &mut W,
+) -> Result<(), Fault>
+    requires { frame.now.depth ≤ 16 }
+    ensures head { OnOk result (Appends (W.contents writer.old) (W.contents writer.new)
+        (header_text (frame.now.components == 3) frame.now.width frame.now.height (maxval_of frame.now.depth))) }
+    ensures err { IfErr result (λ e. Refuses e (meaning_at bytes.now reduce)
+        ⊎ ((e ≡ Shelf) × (p : Picture) × (meaning_at bytes.now reduce ≡ Ok p))) }
+{
+    match write_head_into(alloc, frame, writer) {
+        Ok(()) => Ok(()),
+        Err(Fault::Memory(refused)) => Err(Fault::Memory(refused)),
+        Err(fault) => {
+            judge(alloc, bytes, reduce)?;
+            Err(fault)
+        }
+    }
+}
+
+/// Writes the raster of the image of a file, stripe by stripe.
+fn write_rows<W: Write>(
+    alloc: Global,
+    bytes: &[u8],
+    reduce: u32,
+    writer: &mut W,
+) -> Result<(), Fault>
+    ensures raster { OnOk result ((p : Picture) × (meaning_at bytes.now reduce ≡ Ok p) × Means bytes.now reduce p
+        × (is_written p ≡ true → Appends (W.contents writer.old) (W.contents writer.new)
+        (raster_text (maxval_of p.depth) p.planes (p.width * p.height)))) }
+    ensures err { IfErr result (λ e. Refuses e (meaning_at bytes.now reduce)
+        ⊎ ((e ≡ Shelf) × (p : Picture) × (meaning_at bytes.now reduce ≡ Ok p))) }
+{
+    let mut rows = RowWriter { writer };
+    decode_rows(alloc, bytes, reduce, ROWS, &mut rows)
+}
+
+/// Writes the PGM or PPM file of the image of a file, its head and then its raster.
+fn write_file<W: Write>(
+    alloc: Global,
+    bytes: &[u8],
+    reduce: u32,
+    writer: &mut W,
+) -> Result<(), Fault>
+    ensures exact { Answers (λ _. tt) result (tested (decoded bytes.now reduce))
+        ⊎ ((result ≡ Err Shelf) × (file : List ℕ) × (decoded bytes.now reduce ≡ Ok file)) }
+    ensures written { OnOk result ((file : List ℕ) × (decoded bytes.now reduce ≡ Ok file)
+        × Appends (W.contents writer.old) (W.contents writer.new) file) }
+    ensures meaning { OnOk result ((p : Picture) × (meaning_at bytes.now reduce ≡ Ok p) × Means bytes.now reduce p) }
+{
+    let frame = raster_frame(alloc, bytes, reduce)?;
+    if !frame.has_file() {
+        judge(alloc, bytes, reduce)?;
+        return Err(Fault::Unsupported);
+    }
+    write_head(alloc, bytes, reduce, &frame, writer)?;
+    write_rows(alloc, bytes, reduce, writer)
+}
+
+/// Writes what `jk decode` makes of a file, row by row, with the memory of some rows: the bytes that
+/// [`decode_file`](crate::decode_file) gives. Bytes are written before it is known whether the file
+/// is sound: what was written is to be given up where a fault is told.
+///
+/// The faults are those of [`decode_file`](crate::decode_file) in their order, and behind them Shelf:
+/// a write failed or took nothing.
+pub fn decode_rows_into<W: Write>(
+    alloc: Global,
+    bytes: &[u8],
+    reduce: u32,
+    writer: &mut W,
+) -> Result<(), Fault>
+    // Which fault is the first, or none; or a write failed, of a file that is due.
+    ensures exact { Answers (λ _. tt) result (tested (decoded bytes.now reduce))
+        ⊎ ((result ≡ Err Shelf) × (file : List ℕ) × (decoded bytes.now reduce ≡ Ok file)) }
+    // What was written where there is no fault.
+    ensures written { OnOk result ((file : List ℕ) × (decoded bytes.now reduce ≡ Ok file)
+        × Appends (W.contents writer.old) (W.contents writer.new) file) }
+    // It is a file of the picture that the bytes mean.
+    ensures found { OnOk result ((p : Picture) × Means bytes.now reduce p
+        × ((file : List ℕ) → decoded bytes.now reduce ≡ Ok file → IsPnm file (at_place p 0 0))) }
+    // Of a file that means a picture, the picture's file is written, or it has none.
+    ensures only { (p : Picture) → Means bytes.now reduce p
+        → OnOk result ((file : List ℕ) × (pnm_of p ≡ Ok file)
+        × Appends (W.contents writer.old) (W.contents writer.new) file)
+        × IfErr result (λ e. Refuses e (pnm_of p) ⊎ ((e ≡ Shelf) × (file : List ℕ) × (pnm_of p ≡ Ok file))) }
+{
+    write_file(alloc, bytes, reduce, writer)
+}
+
+/// The least height of tiles that are decoded row by row as fast as whole: what a tile begins with is
+/// made for few rows of a lower one.
+const TILE_ROWS: u32 = 64;
+
+/// The exponent of the least height of such code-blocks: for each row of code-blocks all that the
+/// packets of their precincts have are looked through.
+const BLOCK_ROWS: u8 = 4;
+
+/// Whether the main header gives all components code-blocks of that height.
+fn has_high_blocks(main: &Main) -> bool {
+    let mut is_high = BLOCK_ROWS <= main.cod.style.ycb;
+    for own in &main.coc {
+        if let Some(style) = own {
+            is_high &= BLOCK_ROWS <= style.ycb;
+        }
+    }
+    is_high
+}
+
+/// Whether [`decode_rows_into`] takes no longer for a file than
+/// [`decode_file_into`](crate::decode_file_into): the main header tells tiles of 64 rows at least, and
+/// code-blocks of 16. Of bytes that have no main header it tells the fault as fast.
+pub fn suits_rows(bytes: &[u8]) -> bool {
+    let Ok(boxed) = open(bytes) else {
+        return true;
+    };
+    match read_main(&bytes[boxed.start..boxed.end]) {
+        Ok((main, _)) => TILE_ROWS <= main.siz.tile_height && has_high_blocks(&main),
+        Err(_) => true,
+    }
+}

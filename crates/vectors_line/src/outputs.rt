@@ -1,0 +1,104 @@
+//! Where the rows of an image go that are decoded before a fault behind them is met.
+
+use crate::memory::Memory;
+use crate::runs::check_run;
+use jk_line::Status;
+use std::alloc::Global;
+use std::process::Abort;
+use std::test::Fail;
+use std::thread::Threads;
+use vectors::{bytes_of, equal_at};
+
+/// A column of 128 samples in two tiles, of code-blocks with segmentation symbols (T.800 D.5): all but
+/// the last byte of the second tile. An independent codec wrote it.
+static ROWS: &str = "\
+FF4F FF51 0029 0000 00000001 00000080 00000000 00000000 00000001 00000040 00000000 00000000 0001 07 01 01 \
+FF52 000C 00 00 0001 00 00 04 04 20 01 FF5C 0004 40 40 \
+FF90 000A 0000 00000012 00 01 FF93 C0 2215 59 FF90 000A 0001 00000012 00 01 FF93 C0 2215";
+
+/// That byte, with the symbol that is due and with another.
+static SOUND: &str = "59 FFD9";
+
+static DAMAGED: &str = "19 FFD9";
+
+static TEXT: &str = "50350A 3120313238 0A 323535 0A \
+8180808080808080808080808080808080808080808080808080808080808080808080808080808080808080808080808080 \
+8080808080808080808080808080818080808080808080808080808080808080808080808080808080808080808080808080 \
+80808080808080808080808080808080808080808080808080808080";
+
+/// A world with the rows, and with a file that is there.
+fn world<'a, R: Threads + Sync>(
+    rt: &'a R,
+    alloc: Global,
+    end: &str,
+) -> Result<Memory<'a, R>, Fail> {
+    let mut world = Memory::new(rt, alloc, bytes_of(alloc, &[ROWS, end])?);
+    let old = bytes_of(alloc, &["AA"])?;
+    world.files.insert(String::from_str(alloc, "old")?, old)?;
+    Ok(world)
+}
+
+/// Decodes the rows to standard output and into the file that is there: what comes of both, and
+/// how many outputs are held.
+fn check_rows<R: Abort + Threads + Sync>(
+    rt: &R,
+    alloc: Global,
+    (options, held): (&str, usize),
+    (end, text, file): (&str, &str, &str),
+    (status, error): (Status, &str),
+) -> Result<(), Fail> {
+    let mut world = world(rt, alloc, end)?;
+    let (text, file) = (bytes_of(alloc, &[text])?, bytes_of(alloc, &[file])?);
+    for out in ["-", "old"] {
+        world.error.clear();
+        let line = format!(in alloc; "decode - {out} {options}")?;
+        check_run(rt, alloc, &mut world, line.as_str(), status, &text, error)?;
+    }
+    let found = match world.files.get("old") {
+        Some(bytes) => bytes.as_slice() == file.as_slice(),
+        None => false,
+    };
+    equal_at(options, (found, world.held), (true, held)).expect(rt, "a file, and outputs held");
+    Ok(())
+}
+
+/// How the rows are decoded, and how many of two outputs are held.
+static WAYS: [(&str, usize); 3] = [
+    ("", 2),
+    ("--workers 2", 0),
+    ("--x 0 --y 0 --w 1 --h 128", 0),
+];
+
+/// An image comes whole, or not at all: the sound rows of a damaged file aren't written, and what was
+/// there stays.
+#[test]
+fn whole_or_not_at_all(rt: HostRuntime) -> Result<(), Fail> {
+    let alloc = rt.alloc();
+    let (done, refused) = (Status::Done, Status::Refused);
+    for way in WAYS {
+        check_rows(&rt, alloc, way, (SOUND, TEXT, TEXT), (done, ""))?;
+        let fault = (refused, "jk: F5 BadValue\n");
+        check_rows(&rt, alloc, way, (DAMAGED, "", "AA"), fault)?;
+    }
+    Ok(())
+}
+
+/// Where standard output is full, that is told of a sound file alone.
+#[test]
+fn faults_of_the_file_go_first(rt: HostRuntime) -> Result<(), Fail> {
+    let alloc = rt.alloc();
+    for (end, error) in [(SOUND, "jk: F20 Shelf\n"), (DAMAGED, "jk: F5 BadValue\n")] {
+        let mut world = world(&rt, alloc, end)?;
+        world.is_full = true;
+        check_run(
+            &rt,
+            alloc,
+            &mut world,
+            "decode - -",
+            Status::Refused,
+            &[],
+            error,
+        )?;
+    }
+    Ok(())
+}
