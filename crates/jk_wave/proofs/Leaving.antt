@@ -141,14 +141,14 @@ aside_first a levels f old new some none made =
     (aside_none a levels f old none)
 
 -- how large the values are
-value_size : (a : Rect) (f : ℕ → ℕ → ℤ) → AreBelow (2 ^ 17) a f → (u v : ℕ) → IsWithin a u v → unsigned_abs (f u v) < 2 ^ 17
+pub value_size : (a : Rect) (f : ℕ → ℕ → ℤ) → AreBelow (2 ^ 17) a f → (u v : ℕ) → IsWithin a u v → unsigned_abs (f u v) < 2 ^ 17
 value_size a f small u v h = let s = small u v h in let low = s.0 in let high = s.1 in omega (arith, ints, low, high)
 
 pub source_small : (a : Rect) (f : ℕ → ℕ → ℤ) → AreBelow (2 ^ 17) a f → AreBelow (2 ^ 28 - 1) a f
 source_small a f small x y h = let s = small x y h in let low = s.0 in let high = s.1 in (omega (arith, ints, low), omega (arith, ints, high))
 
 -- each entry of a raster below a limit
-raster_below : (m : ℕ) (a : Rect) (f : ℕ → ℕ → ℤ) (values : List ℤ) → values ≡ raster a f → ((x y : ℕ) → IsWithin a x y → unsigned_abs (f x y) < m) → All (IsBelow m) values
+pub raster_below : (m : ℕ) (a : Rect) (f : ℕ → ℕ → ℤ) (values : List ℤ) → values ≡ raster a f → ((x y : ℕ) → IsWithin a x y → unsigned_abs (f x y) < m) → All (IsBelow m) values
 raster_below m a f values was small =
     let long : length values ≡ places_of a = ap length was ∙ raster_length a f in
     All-from_get_or (IsBelow m) values (pos 0) (λ k lt.

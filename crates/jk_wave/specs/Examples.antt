@@ -1,9 +1,10 @@
 -- Examples: columns 5 and 6 and rows 5 to 8 of a tile-component of 16 by 12 with two levels.
-use Rattle.std.specs.Prelude.{◌≡◌, ℕ, refl}
+use Rattle.std.specs.Prelude.{◌≡◌, ℕ, [], ◌∷◌, map, refl}
 use Rattle.jk_math.specs.declared.rect.Rect.{Rect}
 use Rattle.jk_geom.specs.Rectangles.{resolution_area}
 use Rattle.jk_wave.specs.declared.region.Region.{Region}
 use Rattle.jk_wave.specs.Regions.{held, around, part_area}
+use Rattle.jk_wave.specs.falling.Intervals.{rows_fallen, rows_given}
 
 abbrev rect : (x0 y0 x1 y1 : ℕ) → Rect
 rect x0 y0 x1 y1 = record { x0 = x0; y0 = y0; x1 = x1; y1 = y1 }
@@ -57,3 +58,24 @@ none_low = refl
 one_across : part_area single 1 ≡ rect 2 0 3 3
 unfolding part_area held resolution_area
 one_across = refl
+
+-- Rows 3 to 8 of a level that are given one by one: its coefficients are made above row 4 when that
+-- one comes, above row 6 when that one comes, and all behind the last.
+three_to_eight : map (rows_fallen (rect 0 3 4 9)) (3 ∷ 4 ∷ 5 ∷ 6 ∷ 7 ∷ 8 ∷ 9 ∷ []) ≡ 3 ∷ 3 ∷ 4 ∷ 4 ∷ 6 ∷ 6 ∷ 9 ∷ []
+unfolding rows_fallen
+three_to_eight = refl
+
+-- a single row, at an odd place
+seven_alone : map (rows_fallen (rect 0 7 4 8)) (7 ∷ 8 ∷ []) ≡ 7 ∷ 8 ∷ []
+unfolding rows_fallen
+seven_alone = refl
+
+-- Five rows and two levels: the level below is given its first row with the third one, and two rows
+-- behind the last; of LL both rows come then.
+below_five : map (λ e. rows_given (rect 0 0 4 5) 2 e 1) (0 ∷ 1 ∷ 2 ∷ 3 ∷ 4 ∷ 5 ∷ []) ≡ 0 ∷ 0 ∷ 0 ∷ 1 ∷ 1 ∷ 3 ∷ []
+unfolding rows_given rows_fallen resolution_area
+below_five = refl
+
+lowest_of_five : map (λ e. rows_given (rect 0 0 4 5) 2 e 2) (0 ∷ 1 ∷ 2 ∷ 3 ∷ 4 ∷ 5 ∷ []) ≡ 0 ∷ 0 ∷ 0 ∷ 0 ∷ 0 ∷ 2 ∷ []
+unfolding rows_given rows_fallen resolution_area
+lowest_of_five = refl

@@ -8,5 +8,6 @@ pub mod Analysis
 pub mod Regions
 pub mod RegionRows
 pub mod climbing
+pub mod falling
 pub mod Laws
 pub mod Examples

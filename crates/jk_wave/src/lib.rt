@@ -7,6 +7,7 @@ mod bands;
 mod climbing;
 mod columns;
 mod cropping;
+mod falling;
 mod forward;
 mod level;
 mod parts;
@@ -21,6 +22,7 @@ pub use bands::{BandParts, Bands};
 pub use climbing::{
     ClimbingLevel, GivenRows, HighRows, rows_asked, rows_reached, rows_taken, synthesise_by_rows,
 };
+pub use falling::{Falling, FallingLevel, analyse_by_rows, rows_fallen};
 pub use forward::{analyse, analyse_source};
 pub use level::{begin_level, finish_level};
 pub use places::{BandRows, band_rows};

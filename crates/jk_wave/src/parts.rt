@@ -6,7 +6,8 @@ ghost use Rattle.jk_math.specs.Raster.{columns_of};
 ghost use Rattle.jk_math.specs.Signed.{IsBelow};
 ghost use Rattle.jk_geom.specs.Rectangles.{IsArea};
 ghost use Rattle.jk_wave.specs.Levels.{part_list, IsPartUpto};
-ghost use Rattle.jk_wave.specs.SourceRows.{IsRow};
+ghost use Rattle.jk_wave.specs.SourceRows.{IsRow, column_lifted};
+ghost use Rattle.jk_wave.specs.falling.Held.{GivesRows};
 
 use crate::places::low_width;
 use crate::region::half_area;
@@ -36,6 +37,18 @@ fn room(alloc: Global, area: &Rect, across: bool, down: bool) -> Result<Vec<i32>
 }
 
 impl LevelParts {
+    /// Parts without a row.
+    pub(crate) fn none(alloc: Global) -> LevelParts
+        ensures { (o : ℕ) → o < 4 → part_list result o ≡ [] }
+    {
+        LevelParts {
+            ll: Vec::new(alloc),
+            hl: Vec::new(alloc),
+            lh: Vec::new(alloc),
+            hh: Vec::new(alloc),
+        }
+    }
+
     /// Parts without a row, and room for all of theirs.
     pub(crate) fn new(alloc: Global, area: &Rect) -> Result<LevelParts, Fault>
         requires { IsArea area.now }
@@ -67,6 +80,8 @@ impl LevelParts {
         ensures parts { OnOk result ((f : ℕ → ℕ → ℤ) (o : ℕ) → o < 4 → IsRow area.now (λ x. f x y) row.now
             → IsPartUpto area.now o y f (part_list self.old o)
             → IsPartUpto area.now o (y + 1) f (part_list self.new o)) }
+        ensures gives { OnOk result ((f : ℕ → ℕ → ℤ) → IsRow area.now (column_lifted area.now f y) row.now
+            → GivesRows area.now f y (y + 1) self.old self.new) }
         ensures err { IfErr result (λ e. IsMemory e) }
     {
         let (low, high) = line.split_at_mut(low_width(area));

@@ -1,6 +1,6 @@
 //! Where the coefficients of a level lie in one list.
 
-ghost use Rattle.std.specs.Prelude.{◌≡◌, ◌≢◌, ℕ, ◌+◌, ◌-◌, ◌*◌, ◌^◌, ◌<◌, ◌≤◌, length, IfOk, IfErr, if◌then◌else◌};
+ghost use Rattle.std.specs.Prelude.{◌≡◌, ◌≢◌, ℕ, ◌+◌, ◌-◌, ◌*◌, ◌^◌, ◌<◌, ◌≤◌, length, take, drop, IfOk, IfErr, if◌then◌else◌};
 ghost use Rattle.jk_math.specs.Memory.{IsMemory};
 ghost use Rattle.jk_math.specs.Raster.{columns_of, rows_of, places_of, plane_at};
 ghost use Rattle.jk_math.specs.Signed.{signed_at};
@@ -21,6 +21,14 @@ pub struct BandRows {
     pub area: Rect,
     pub start: usize,
     pub step: usize,
+}
+
+/// Some of the numbers of a list.
+pub(crate) fn cut(numbers: &[i32], at: usize, count: usize) -> &[i32]
+    requires { at + count ≤ length numbers.now }
+    ensures { result.now ≡ take count (drop at numbers.now) }
+{
+    &numbers[at..at + count]
 }
 
 /// Zeros for the places of a rectangle.

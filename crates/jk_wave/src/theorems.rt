@@ -3,6 +3,7 @@
 ghost use Rattle.jk_wave.specs.Laws.{IsLocalResolution, IsDecided, IsUndone, IsReduced, GrowsLevels, HasPlanes};
 ghost use Rattle.jk_wave.specs.Laws.{HasWidth, BoundsResolutions, IsClimbing, LiesInLevel, LiesApart, LiesOffLow};
 ghost use Rattle.jk_wave.specs.Laws.{HasRows, KeepsOthers, StaysLevel};
+ghost use Rattle.jk_wave.specs.falling.Intervals.{FallsWithin, FallsInOrder, FallsNone, FallsAll, GivenNone, GivenAll, GivenInOrder, GivenAlone};
 ghost use Rattle.jk_wave.specs.climbing.Intervals.{MadeEnough, TakesNoMore, TakesInOrder, TakesWithin, TakesPairs, TakesAll, EndsInOrder};
 
 /// What a resolution shows of a rectangle depends on the sub-bands near it alone.
@@ -62,4 +63,20 @@ pub fn level_taken()
 pub fn levels_taken()
     ensures all { TakesAll }
     ensures order { EndsInOrder }
+{}
+
+/// How far the coefficients of a level are made of its rows of samples that were given.
+pub fn level_fallen()
+    ensures within { FallsWithin }
+    ensures order { FallsInOrder }
+    ensures none { FallsNone }
+    ensures all { FallsAll }
+{}
+
+/// How far all levels are given rows, where those of the highest were given.
+pub fn levels_fallen()
+    ensures none { GivenNone }
+    ensures all { GivenAll }
+    ensures order { GivenInOrder }
+    ensures alone { GivenAlone }
 {}

@@ -8,212 +8,39 @@ ghost use Rattle.jk_wave.specs.Bands.{AreBands, numbered_area};
 
 use jk_geom::band;
 use jk_math::{Orientation, Planes, Rect};
-use jk_wave::{Bands, analyse, synthesise, synthesise_by_rows};
+use jk_wave::{Bands, Falling, analyse, analyse_by_rows, synthesise, synthesise_by_rows};
 use std::alloc::Global;
 use std::process::Abort;
-use vectors::equal;
+use vectors::{Line, equal};
 
 /// A tile-component: its samples row by row, and the coefficients of all sub-bands in the order of QCD.
-struct Row {
+#[derive(Clone, Copy)]
+struct Row<'a> {
     rect: Rect,
     levels: u8,
-    samples: &'static [i32],
-    coefficients: &'static [i32],
+    samples: &'a [i32],
+    coefficients: &'a [i32],
 }
 
-/// Rectangles at even and odd places, of one row or column or none in a part, with up to ten levels.
-static ROWS: [Row; 14] = [
-    // worked rows: one column, and a square that would be another with HL and LH exchanged
-    Row {
-        rect: Rect {
-            x0: 0,
-            y0: 0,
-            x1: 1,
-            y1: 9,
-        },
-        levels: 1,
-        samples: &[-27, -25, -24, -23, -32, -31, -32, -26, -19],
-        coefficients: &[-26, -22, -30, -32, -19, 1, 5, 1, 0],
-    },
-    Row {
-        rect: Rect {
-            x0: 0,
-            y0: 0,
-            x1: 2,
-            y1: 2,
-        },
-        levels: 1,
-        samples: &[0, 1, 0, 0],
-        coefficients: &[1, 1, 0, -1],
-    },
-    Row {
-        rect: Rect {
-            x0: 0,
-            y0: 0,
-            x1: 5,
-            y1: 3,
-        },
-        levels: 1,
-        samples: &[
-            230, -178, -53, 78, -231, -218, 165, 19, -207, -68, 43, -226, 210, 4, -146,
-        ],
-        coefficients: &[
-            64, -57, -130, -166, 123, -169, 21, 80, -65, -168, -67, 15, -18, 574, -279,
-        ],
-    },
-    Row {
-        rect: Rect {
-            x0: 1,
-            y0: 1,
-            x1: 4,
-            y1: 6,
-        },
-        levels: 2,
-        samples: &[-3, 0, 0, -3, -2, -3, 1, 0, -3, 3, 1, -3, -2, 2, 2],
-        coefficients: &[0, -6, -2, -1, 0, -4, 2, 1, 1, -2, 1, 0, -1, -6, 4],
-    },
-    Row {
-        rect: Rect {
-            x0: 3,
-            y0: 2,
-            x1: 10,
-            y1: 7,
-        },
-        levels: 3,
-        samples: &[
-            58683, -57427, 10107, 11213, -13542, -59036, 62424, -36558, -59430, 7428, 46986,
-            -48080, -27576, -10598, -46628, 5333, -50096, 9295, -25102, 7899, 41436, 23856, -41847,
-            -52028, 10696, 9333, 18208, -40911, -16725, -52765, 6258, 27802, -57306, 8437, -57723,
-        ],
-        coefficients: &[
-            -13678, -41068, 34000, 29430, -10199, 7751, -6226, 67658, 36998, 111509, 46089, -12691,
-            91199, -35846, -55252, -32868, 7705, 72872, 10181, -50703, -87563, -29246, 31639,
-            -28667, -3994, 230, 11699, -9202, 25749, -46120, -60521, 73664, -17117, 49443, -42807,
-        ],
-    },
-    Row {
-        rect: Rect {
-            x0: 1,
-            y0: 0,
-            x1: 2,
-            y1: 1,
-        },
-        levels: 1,
-        samples: &[-38540],
-        coefficients: &[-77080],
-    },
-    Row {
-        rect: Rect {
-            x0: 1,
-            y0: 1,
-            x1: 2,
-            y1: 2,
-        },
-        levels: 3,
-        samples: &[93],
-        coefficients: &[372],
-    },
-    Row {
-        rect: Rect {
-            x0: 7,
-            y0: 5,
-            x1: 8,
-            y1: 12,
-        },
-        levels: 2,
-        samples: &[-9490, 36337, -24360, -4508, 11215, 55502, -6136],
-        coefficients: &[29624, -36294, 73044, -91654, -80548, -28564, -123276],
-    },
-    Row {
-        rect: Rect {
-            x0: 5,
-            y0: 7,
-            x1: 13,
-            y1: 8,
-        },
-        levels: 2,
-        samples: &[-102, -128, 151, -163, 102, 144, -131, -214],
-        coefficients: &[-95, -122, 296, -524, 52, 593, 223, -192],
-    },
-    Row {
-        rect: Rect {
-            x0: 6,
-            y0: 6,
-            x1: 6,
-            y1: 9,
-        },
-        levels: 1,
-        samples: &[],
-        coefficients: &[],
-    },
-    Row {
-        rect: Rect {
-            x0: 2,
-            y0: 3,
-            x1: 9,
-            y1: 9,
-        },
-        levels: 0,
-        samples: &[
-            13, -2, 193, -80, 118, -26, -108, 56, 246, -218, -195, 7, -41, -171, 132, -80, -178,
-            222, -5, -40, -235, 237, 87, -216, 136, 30, 38, 149, 193, 163, -95, -81, 100, -76, 49,
-            -1, 41, 153, -22, -220, 175, -208,
-        ],
-        coefficients: &[
-            13, -2, 193, -80, 118, -26, -108, 56, 246, -218, -195, 7, -41, -171, 132, -80, -178,
-            222, -5, -40, -235, 237, 87, -216, 136, 30, 38, 149, 193, 163, -95, -81, 100, -76, 49,
-            -1, 41, 153, -22, -220, 175, -208,
-        ],
-    },
-    Row {
-        rect: Rect {
-            x0: 1023,
-            y0: 2047,
-            x1: 1030,
-            y1: 2052,
-        },
-        levels: 10,
-        samples: &[
-            -13, 101, 85, -222, -224, 119, 104, -97, 76, 40, 253, 93, 165, -27, -110, 111, -58,
-            199, 87, -78, -244, 226, -19, -74, -169, 57, -196, -3, -225, -144, 138, -108, -189,
-            123, -129,
-        ],
-        coefficients: &[
-            10, -32, 22, -70, -200, -106, -222, -97, -139, -189, 99, 41, 122, 40, 107, -421, -16,
-            -21, 108, -112, -145, 13, 99, 59, 270, -56, 177, -257, -161, -35, -167, -326, 244,
-            -436, -445,
-        ],
-    },
-    Row {
-        rect: Rect {
-            x0: 0,
-            y0: 0,
-            x1: 1,
-            y1: 1,
-        },
-        levels: 10,
-        samples: &[-55],
-        coefficients: &[-55],
-    },
-    Row {
-        rect: Rect {
-            x0: 2147483640,
-            y0: 2147483641,
-            x1: 2147483647,
-            y1: 2147483646,
-        },
-        levels: 5,
-        samples: &[
-            -214, -170, -26, -50, 26, -113, 197, -185, 164, -35, 187, 26, -113, 106, -43, 250, -72,
-            94, 197, -61, 235, -137, -178, -213, -165, -178, -137, 82, -136, -249, -7, 170, 46,
-            -162, -121,
-        ],
-        coefficients: &[
-            -69, 154, 6, 31, 115, 145, 102, -93, 237, 112, -226, -3, 41, -133, -191, -132, -71, 69,
-            204, 75, 218, 70, -86, 193, 245, -220, -324, -241, -45, 172, -79, -143, -174, 120, -35,
-        ],
-    },
-];
+/// A line for each tile-component: its left, upper, right and lower end, levels, samples and
+/// coefficients. Rectangles at even and odd places, of one row or column or none in a part, with up to
+/// ten levels; the first two are worked by hand, one column, and a square that would be another with HL
+/// and LH exchanged.
+static ROWS: &str = "\
+0 0 1 9 1 -27,-25,-24,-23,-32,-31,-32,-26,-19 -26,-22,-30,-32,-19,1,5,1,0
+0 0 2 2 1 0,1,0,0 1,1,0,-1
+0 0 5 3 1 230,-178,-53,78,-231,-218,165,19,-207,-68,43,-226,210,4,-146 64,-57,-130,-166,123,-169,21,80,-65,-168,-67,15,-18,574,-279
+1 1 4 6 2 -3,0,0,-3,-2,-3,1,0,-3,3,1,-3,-2,2,2 0,-6,-2,-1,0,-4,2,1,1,-2,1,0,-1,-6,4
+3 2 10 7 3 58683,-57427,10107,11213,-13542,-59036,62424,-36558,-59430,7428,46986,-48080,-27576,-10598,-46628,5333,-50096,9295,-25102,7899,41436,23856,-41847,-52028,10696,9333,18208,-40911,-16725,-52765,6258,27802,-57306,8437,-57723 -13678,-41068,34000,29430,-10199,7751,-6226,67658,36998,111509,46089,-12691,91199,-35846,-55252,-32868,7705,72872,10181,-50703,-87563,-29246,31639,-28667,-3994,230,11699,-9202,25749,-46120,-60521,73664,-17117,49443,-42807
+1 0 2 1 1 -38540 -77080
+1 1 2 2 3 93 372
+7 5 8 12 2 -9490,36337,-24360,-4508,11215,55502,-6136 29624,-36294,73044,-91654,-80548,-28564,-123276
+5 7 13 8 2 -102,-128,151,-163,102,144,-131,-214 -95,-122,296,-524,52,593,223,-192
+6 6 6 9 1 - -
+2 3 9 9 0 13,-2,193,-80,118,-26,-108,56,246,-218,-195,7,-41,-171,132,-80,-178,222,-5,-40,-235,237,87,-216,136,30,38,149,193,163,-95,-81,100,-76,49,-1,41,153,-22,-220,175,-208 13,-2,193,-80,118,-26,-108,56,246,-218,-195,7,-41,-171,132,-80,-178,222,-5,-40,-235,237,87,-216,136,30,38,149,193,163,-95,-81,100,-76,49,-1,41,153,-22,-220,175,-208
+1023 2047 1030 2052 10 -13,101,85,-222,-224,119,104,-97,76,40,253,93,165,-27,-110,111,-58,199,87,-78,-244,226,-19,-74,-169,57,-196,-3,-225,-144,138,-108,-189,123,-129 10,-32,22,-70,-200,-106,-222,-97,-139,-189,99,41,122,40,107,-421,-16,-21,108,-112,-145,13,99,59,270,-56,177,-257,-161,-35,-167,-326,244,-436,-445
+0 0 1 1 10 -55 -55
+2147483640 2147483641 2147483647 2147483646 5 -214,-170,-26,-50,26,-113,197,-185,164,-35,187,26,-113,106,-43,250,-72,94,197,-61,235,-137,-178,-213,-165,-178,-137,82,-136,-249,-7,170,46,-162,-121 -69,154,6,31,115,145,102,-93,237,112,-226,-3,41,-133,-191,-132,-71,69,204,75,218,70,-86,193,245,-220,-324,-241,-45,172,-79,-143,-174,120,-35";
 
 /// Is this a rectangle below 2^31?
 pub(crate) fn is_area(rect: &Rect) -> bool
@@ -319,7 +146,7 @@ fn are_samples(rect: &Rect, samples: &[i32]) -> bool
 }
 
 /// The sub-bands of samples.
-fn analysed(rt: &impl Abort, alloc: Global, row: &Row) -> Bands {
+fn analysed(rt: &impl Abort, alloc: Global, row: &Row<'_>) -> Bands {
     let (rect, levels) = (row.rect, row.levels);
     assert!(rt; is_area(&rect) && levels <= 10);
     assert!(rt; are_samples(&rect, row.samples));
@@ -347,22 +174,83 @@ fn has_rows(rt: &impl Abort, alloc: Global, bands: &Bands, step: u32, samples: &
     equal(rows.as_slice(), samples).expect(rt, "samples by rows");
 }
 
+/// Makes the sub-bands of samples that are given in steps of so many rows.
+fn has_bands(rt: &impl Abort, alloc: Global, row: &Row<'_>, step: u32)
+    requires { 1 ≤ step }
+{
+    let (rect, levels) = (row.rect, row.levels);
+    assert!(rt; is_area(&rect) && levels <= 10);
+    assert!(rt; are_samples(&rect, row.samples));
+    let bands = analyse_by_rows(alloc, &rect, levels, row.samples, step).expect(rt, "sub-bands");
+    equal((bands.rect, bands.levels), (row.rect, row.levels)).expect(rt, "a tile-component");
+    let found = listed(rt, alloc, &bands.bands);
+    equal(found.as_slice(), row.coefficients).expect(rt, "coefficients by rows");
+}
+
+/// Gives the levels all samples, and takes the rows of each sub-band that they made.
+fn hands_out(rt: &impl Abort, alloc: Global, row: &Row<'_>) {
+    let (rect, levels) = (row.rect, row.levels);
+    assert!(rt; is_area(&rect) && levels <= 10);
+    assert!(rt; are_samples(&rect, row.samples));
+    let mut falling = Falling::new(alloc, &rect, levels).expect(rt, "levels");
+    let mut rows = Vec::from_slice(alloc, row.samples).expect(rt, "samples");
+    falling.give(rect.y1, &mut rows).expect(rt, "rows");
+    let mut found = Vec::new(alloc);
+    for b in 0..3 * levels + 1 {
+        found
+            .extend_from_slice(falling.rows(b))
+            .expect(rt, "coefficients");
+    }
+    equal(found.as_slice(), row.coefficients).expect(rt, "coefficients that were taken");
+    falling.clear();
+    equal(falling.rows(0).len(), 0).expect(rt, "no coefficient");
+}
+
 /// Analyses the samples of a row, and synthesises them again, at once and row by row.
-fn there_and_back(rt: &impl Abort, alloc: Global, row: &Row) {
+fn there_and_back(rt: &impl Abort, alloc: Global, row: &Row<'_>) {
     let bands = analysed(rt, alloc, row);
     equal((bands.rect, bands.levels), (row.rect, row.levels)).expect(rt, "a tile-component");
     let found = listed(rt, alloc, &bands.bands);
     equal(found.as_slice(), row.coefficients).expect(rt, "coefficients");
+    hands_out(rt, alloc, row);
     let back = synthesised(rt, alloc, &bands);
     equal(back.as_slice(), row.samples).expect(rt, "samples");
     for step in [1u32, 2, 3, 64] {
         has_rows(rt, alloc, &bands, step, row.samples);
+        has_bands(rt, alloc, row, step);
     }
+}
+
+/// The rectangle that a line tells next.
+pub(crate) fn rect_of(fields: &mut Line<'_>) -> Rect {
+    Rect {
+        x0: fields.number(0, 0xFFFF_FFFF) as u32,
+        y0: fields.number(0, 0xFFFF_FFFF) as u32,
+        x1: fields.number(0, 0xFFFF_FFFF) as u32,
+        y1: fields.number(0, 0xFFFF_FFFF) as u32,
+    }
+}
+
+/// The tile-component of a line, both ways.
+fn is_right(rt: &impl Abort, alloc: Global, line: &str) {
+    let mut fields = Line::new(line, ' ');
+    let rect = rect_of(&mut fields);
+    let levels = fields.number(0, 10) as u8;
+    let samples = fields.numbers(alloc, ',');
+    let coefficients = fields.numbers(alloc, ',');
+    fields.end().expect(rt, "a tile-component");
+    let row = Row {
+        rect,
+        levels,
+        samples: &samples,
+        coefficients: &coefficients,
+    };
+    there_and_back(rt, alloc, &row);
 }
 
 #[test]
 fn outside_values(rt: HostRuntime) {
-    for row in &ROWS {
-        there_and_back(&rt, rt.alloc(), row);
+    for line in ROWS.lines() {
+        is_right(&rt, rt.alloc(), line);
     }
 }

@@ -20,7 +20,7 @@ use Rattle.jk_wave.proofs.Growth.{level_bound}
 use Rattle.jk_wave.proofs.Rows.{row_entry, row_inside}
 use Rattle.jk_wave.proofs.Synthesis.{woven_low, woven_high, entry_size, size_below}
 use Rattle.jk_wave.specs.declared.climbing.parts.WovenRows.{WovenRows}
-use Rattle.jk_wave.specs.climbing.Held.{column_sample, rows_between, RowsAgree}
+use Rattle.jk_wave.specs.climbing.Held.{rows_between, RowsAgree}
 use Rattle.jk_wave.specs.climbing.PartRows.{half_width, pair_at, across, rows_of_part, part_value, coefficient, AreWovenRows, ShowWovenRows}
 
 -- the row of part o that stands in row y ends within its list

@@ -1,6 +1,6 @@
 //! Levels one over another.
 
-ghost use Rattle.std.specs.Prelude.{◌≡◌, ℕ, [], IfOk, IfErr, OnOk, ◌+◌, ◌-◌, ◌*◌, ◌^◌, ◌<◌, ◌≤◌, length, take, drop};
+ghost use Rattle.std.specs.Prelude.{◌≡◌, ℕ, [], IfOk, IfErr, OnOk, ◌+◌, ◌-◌, ◌*◌, ◌^◌, ◌<◌, ◌≤◌};
 ghost use Rattle.jk_math.specs.Memory.{IsMemory};
 ghost use Rattle.jk_math.specs.Raster.{raster};
 ghost use Rattle.jk_geom.specs.Rectangles.{IsArea, resolution_area};
@@ -13,6 +13,7 @@ use crate::bands::Bands;
 use crate::climbing::intervals::{rows_asked, rows_taken};
 use crate::climbing::level::{ClimbingLevel, HighRows};
 use crate::climbing::parts::GivenRows;
+use crate::places::cut;
 use jk_geom::resolution;
 use jk_math::Fault;
 use std::alloc::Global;
@@ -107,14 +108,6 @@ fn step_level(
     let t = asked(bands, top, at.below, at.to);
     next.clear();
     level.step(&high_of(bands, top, at.below), fresh, t, next)
-}
-
-/// Some of the numbers of a list.
-fn cut(numbers: &[i32], at: usize, count: usize) -> &[i32]
-    requires { at + count ≤ length numbers.now }
-    ensures { result.now ≡ take count (drop at numbers.now) }
-{
-    &numbers[at..at + count]
 }
 
 /// Puts the rows of the lowest resolution that a step takes into `fresh`.
