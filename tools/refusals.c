@@ -1,5 +1,6 @@
 /* Refuses each growth of memory of the library's calls in turn, for tools/try-c: each call must answer Memory, leave
- * the caller's lists as they are, and give back what it took.
+ * the caller's lists as they are, and give back what it took. Where memory was to be given back and that is refused, a
+ * call may go on with what it has, and then does all that it is to do.
  *
  * refusals FILE.jp2      (an image of at most 8 bits, written by jk) */
 #include <jk.h>
@@ -13,7 +14,7 @@ void *__libc_malloc(size_t size);
 void *__libc_realloc(void *old, size_t size);
 void __libc_free(void *old);
 
-static int counting;
+static int counting, shrinks;
 static long seen, refused = -1;
 static long long taken;
 
@@ -27,7 +28,10 @@ void *malloc(size_t size)
 
 void *realloc(void *old, size_t size)
 {
-    if (counting && seen++ == refused) return NULL;
+    if (counting && seen++ == refused) {
+        shrinks = old && size < malloc_usable_size(old);
+        return NULL;
+    }
     if (counting && old) taken -= (long long)malloc_usable_size(old);
     void *made = __libc_realloc(old, size);
     if (counting && made) taken += (long long)malloc_usable_size(made);
@@ -40,7 +44,7 @@ void free(void *old)
     __libc_free(old);
 }
 
-static uint8_t file[1 << 20], samples[1 << 20], out[1 << 21], before[1 << 21];
+static uint8_t file[1 << 20], samples[1 << 20], out[1 << 21], before[1 << 21], due[1 << 21];
 static size_t length, count, made;
 /* The file with a resolution, XML and a box under a UUID. */
 static const uint8_t boxes[] = {0, 0, 0, 26, 'r', 'e', 's', ' ', 0, 0, 0, 18, 'r', 'e', 's', 'c', 0, 1, 0, 1, 0, 1, 0, 1, 2,
@@ -76,17 +80,20 @@ int main(int words, char **names)
     if (jk_decode_u8(file, length, 0, samples, count)) return 1;
     if (jk_with_extras(file, length, boxes, sizeof boxes, dressed, sizeof dressed, &dressed_length)) return 1;
     for (int which = 0; which < 7; which++) {
+        memset(out, 170, sizeof out);
         refused = -1, seen = 0, taken = 0, counting = 1;
         uint32_t answer = call(which);
         counting = 0;
         long all = seen;
         if (answer != JK_DONE || taken) return 1;
+        memcpy(due, out, sizeof due);
         memset(before, 170, sizeof before);
         for (refused = 0; refused < all; refused++) {
             memset(out, 170, sizeof out);
-            seen = 0, taken = 0, counting = 1;
+            seen = 0, taken = 0, shrinks = 0, counting = 1;
             answer = call(which);
             counting = 0;
+            if (shrinks && answer == JK_DONE && !taken && !memcmp(out, due, sizeof out)) continue;
             if (answer != JK_MEMORY || taken || memcmp(out, before, sizeof out)) {
                 printf("refusals: call %d, growth %ld: %s, %lld bytes kept\n", which, refused, jk_fault_name(answer),
                        taken);

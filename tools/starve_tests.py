@@ -29,6 +29,7 @@ OWN = "the test itself had no memory"
 WRITER = "the test's own writer has no memory: a failed write"
 EARLY = "one connection ends early"
 FEWER = "one worker fewer"
+UNSHRUNK = "the lists of packed entries keep the room that they have"
 DISK = "the test's disk in memory can't note a call, or copy bytes: a call of the system fails"
 IN_MEMORY = "vectors_files (?!.*(of_the_system|device))"
 OTHERWISE = (
@@ -60,6 +61,8 @@ OTHERWISE = (
     ("vectors_hall ways::", PASSES, FEWER),
     ("vectors_hall limits::", r"left: \(\d+, 0\)\n right: \(655\d\d, [01]\)", EARLY),
     # Archives.
+    ("vectors_(hall|store) refusals::", PASSES, UNSHRUNK),
+    ("vectors_store first_faults::one_file_too_many", PASSES, UNSHRUNK),
     ("vectors_store adding::a_rename_that_fails", "error: Shelf", "the call that fails comes in the next try"),
     ("vectors_store failing::adding", "error: Shelf", "the call that fails comes in the next try"),
     ("vectors_store failing::checking", r'left: "(.* )?\?( .*)?"\n right: "a (whole|unread) b ', "F1 is written as ?"),

@@ -30,6 +30,9 @@ pub mod PlanLaws
 pub mod NumberedPlans
 pub mod EmptyTexts
 pub mod Passing
+pub mod EntryFacts
+pub mod PackedLaws
+pub mod PackingLaws
 pub mod Beside
 pub mod PartPlans
 pub mod RunPlans

@@ -13,3 +13,6 @@ pub mod Fronts
 pub mod Examples
 pub mod Judging
 pub mod Numbered
+pub mod Packed
+pub mod Packing
+pub mod PackedExamples

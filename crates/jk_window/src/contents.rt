@@ -13,18 +13,19 @@ ghost use Rattle.jk_window.specs.Judging.{is_needed_in, IsJudged};
 ghost use Rattle.jk_window.specs.Planning.{IsTileCut, IsRunPlan, IsBehind, tile_packet, tile_packet_size, run_from};
 
 use crate::need::needs;
+use crate::packed::PackedEntries;
 use crate::parts::PartEnds;
 use crate::steps::CutPlan;
 use jk_geom::{PacketName, TileShape, is_empty};
 use jk_math::{Fault, Rect};
-use jk_walk::{PacketEntry, TileEntries};
+use jk_walk::PacketEntry;
 use std::alloc::Global;
 
 /// A tile of a file, and what of it is in a window.
 #[derive(Clone, Copy)]
 pub(crate) struct TileCut<'a> {
     pub(crate) shape: &'a TileShape,
-    pub(crate) entries: &'a TileEntries,
+    pub(crate) entries: &'a PackedEntries,
     pub(crate) parts: &'a PartEnds,
     /// Whether EPH stands at the packets.
     pub(crate) eph: bool,
@@ -195,13 +196,12 @@ fn plan_run(
     ensures err { IfErr result IsMemory }
 {
     let (start, end) = part;
-    let entries = tile.entries.as_slice();
     let mut plan = CutPlan::new(alloc, size);
     let mut at = start;
     let mut i = next;
     let mut last = None;
     while at < end && i < names.len() {
-        let entry = entries[i];
+        let entry = tile.entries.get(i);
         plan_packet(tile, names[i], entry, &mut last, &mut plan)?;
         at = entry.end;
         i += 1;

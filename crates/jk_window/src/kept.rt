@@ -18,6 +18,7 @@ ghost use Rattle.jk_window.specs.Indexing.{IndexFields, IsIndex, entries_of};
 ghost use Rattle.jk_params.specs.Levels.{least_levels};
 
 use crate::around::Around;
+use crate::packed::PackedEntries;
 use crate::parts::PartEnds;
 use crate::view::View;
 use crate::window::sees;
@@ -25,19 +26,24 @@ use jk_boxes::Boxed;
 use jk_marks::Order;
 use jk_math::Fault;
 use jk_params::Codestream;
-use jk_walk::TileEntries;
 use std::marker::Model;
 
 /// What is kept of a file: where its codestream stands, what its headers say, where each of its
-/// packets stands, in 32 bytes a packet, and what stands around them, in 16 bytes a tile-part and
-/// the bytes of the headers.
+/// packets stands, and what stands around them.
+///
+/// A packet takes 5.5 bytes: of 64 packets that touch, as those of one tile-part do, and have no SOP
+/// or are counted (T.800 A.8.1), 5 bytes each and 29 for all. Where 64 packets don't touch, as at the
+/// end of a tile-part, or one of them has a header of more than 255 bytes, each takes 12 bytes; where
+/// they are otherwise counted, or go on for 4 GiB, or have a header of 2^16 bytes, 32. A tile takes
+/// some 200 bytes more, and a tile-part 24: 8 of where its packets end, and 16 of what stands around
+/// them, with the bytes of the headers.
 #[derive(Debug, Drop)]
 pub struct Index {
     place: Boxed,
     layers: u16,
     order: Order,
     headers: Codestream,
-    packets: Vec<TileEntries>,
+    packets: Vec<PackedEntries>,
     around: Around,
     parts: Vec<PartEnds>,
 }
@@ -78,7 +84,7 @@ impl Index {
         layers: u16,
         order: Order,
         headers: Codestream,
-        packets: Vec<TileEntries>,
+        packets: Vec<PackedEntries>,
         around: Around,
         parts: Vec<PartEnds>,
     ) -> Index
@@ -136,7 +142,7 @@ impl Index {
     }
 
     /// Where the packets of a tile stand in the codestream.
-    pub(crate) fn entries(&self, tile: usize) -> &TileEntries
+    pub(crate) fn entries(&self, tile: usize) -> &PackedEntries
         requires { tile < tile_count self.now.headers.siz }
         ensures value { result.now ≡ entries_of self.now.packets tile }
         ensures within { AreEntries (self.now.place.end - self.now.place.start)

@@ -11,6 +11,8 @@ mod intervals;
 mod kept;
 mod need;
 mod numbered;
+mod packed;
+mod packing;
 mod parts;
 mod planning;
 mod reading;

@@ -31,9 +31,9 @@ fn plan_counted(
         (sum_by (tile_packet_size tile.now) (numbered (packets_in tile.now) first behind))) }
     ensures err { IfErr result IsMemory }
 {
-    let entries = tile.entries.as_slice();
     for i in first..behind {
-        put_emptied(plan, entries[i].counter, tile.eph)?;
+        let entry = tile.entries.get(i);
+        put_emptied(plan, entry.counter, tile.eph)?;
     }
     Ok(())
 }
@@ -78,9 +78,8 @@ fn plan_kept(
         (sum_by (tile_packet_size tile.now) (numbered (packets_in tile.now) first behind))) }
     ensures err { IfErr result IsMemory }
 {
-    let entries = tile.entries.as_slice();
     for i in first..behind {
-        let entry = entries[i];
+        let entry = tile.entries.get(i);
         plan.copy(tile.start + entry.start, tile.start + entry.end)?;
     }
     Ok(())

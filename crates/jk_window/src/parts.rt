@@ -10,9 +10,9 @@ ghost use Rattle.jk_window.specs.Cutting.{run_at};
 ghost use Rattle.jk_window.specs.Indexing.{AreIndexed};
 ghost use Rattle.jk_window.specs.PartEnds.{AreEnds, ArePartEnds, HaveNoCounters, IsPartEnds, HavePartEnds, count_at};
 
+use crate::packed::PackedEntries;
 use jk_math::Fault;
 use jk_params::Codestream;
-use jk_walk::{PacketEntry, TileEntries};
 use std::alloc::Global;
 
 /// Where the packets of a tile are cut into parts, whether EPH stands at them, and whether any of
@@ -42,7 +42,7 @@ impl PartEnds {
 }
 
 /// The number of the packet behind those of a part, of which the first has number `next`.
-fn end_of_run(entries: &[PacketEntry], next: usize, part: (usize, usize)) -> usize
+fn end_of_run(entries: &PackedEntries, next: usize, part: (usize, usize)) -> usize
     requires { next ≤ length entries.now }
     ensures run { (names : List PacketName) → length names ≡ length entries.now
         → result ≡ next + length (run_at (drop next (zip names entries.now)) part.0 part.1) }
@@ -53,7 +53,8 @@ fn end_of_run(entries: &[PacketEntry], next: usize, part: (usize, usize)) -> usi
     let mut at = start;
     let mut i = next;
     while at < end && i < entries.len() {
-        at = entries[i].end;
+        let entry = entries.get(i);
+        at = entry.end;
         i += 1;
     }
     i
@@ -62,7 +63,7 @@ fn end_of_run(entries: &[PacketEntry], next: usize, part: (usize, usize)) -> usi
 /// Where the packets of a tile are cut into parts.
 fn ends_of(
     alloc: Global,
-    entries: &[PacketEntry],
+    entries: &PackedEntries,
     places: &[(usize, usize)],
 ) -> Result<Vec<usize>, Fault>
     ensures ends { IfOk result (λ v. ArePartEnds entries.now places.now v.items) }
@@ -78,10 +79,11 @@ fn ends_of(
 }
 
 /// Whether a packet has an SOP.
-fn have_counters(entries: &[PacketEntry]) -> bool
+fn have_counters(entries: &PackedEntries) -> bool
     ensures { result ≡ false → HaveNoCounters entries.now }
 {
-    for entry in entries {
+    for i in 0..entries.len() {
+        let entry = entries.get(i);
         if entry.counter.is_some() {
             return true;
         }
@@ -94,13 +96,12 @@ fn part_ends(
     alloc: Global,
     headers: &Codestream,
     tile: usize,
-    entries: &TileEntries,
+    entries: &PackedEntries,
 ) -> Result<PartEnds, Fault>
     requires { tile < length headers.now.tiles }
     ensures ends { IfOk result (IsPartEnds entries.now (tile_in headers.now.tiles tile)) }
     ensures err { IfErr result IsMemory }
 {
-    let entries = entries.as_slice();
     Ok(PartEnds {
         ends: ends_of(alloc, entries, headers.data_places(tile))?,
         eph: headers.cod(tile).eph,
@@ -112,7 +113,7 @@ fn part_ends(
 pub(crate) fn all_part_ends(
     alloc: Global,
     headers: &Codestream,
-    packets: &[TileEntries],
+    packets: &[PackedEntries],
 ) -> Result<Vec<PartEnds>, Fault>
     requires headers { (size : ℕ) × AreHeaders size headers.now }
     requires count { length packets.now ≡ tile_count headers.now.siz }

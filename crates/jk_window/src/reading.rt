@@ -9,23 +9,30 @@ ghost use Rattle.jk_window.specs.Indexing.{IndexFields, IsIndexOf, AreIndexed, e
 
 use crate::around::read_around;
 use crate::kept::Index;
+use crate::packed::PackedEntries;
+use crate::packing::pack;
 use crate::parts::all_part_ends;
 use jk_boxes::{Boxed, Form, code_form, open};
 use jk_marks::read_main;
 use jk_math::Fault;
 use jk_params::{Codestream, read_codestream};
-use jk_walk::{TileEntries, read_entries};
+use jk_walk::read_entries;
 use std::alloc::Global;
 
 /// The entries of the packets of all tiles.
-fn all_entries(alloc: Global, headers: &Codestream, bytes: &[u8]) -> Result<Vec<TileEntries>, Fault>
+fn all_entries(
+    alloc: Global,
+    headers: &Codestream,
+    bytes: &[u8],
+) -> Result<Vec<PackedEntries>, Fault>
     requires { AreHeaders (length bytes.now) headers.now }
     ensures exact { Answers (λ v. v.items) result (entries_upto bytes.now headers.now (tile_count headers.now.siz)) }
     ensures within { IfOk result (λ v. AreIndexed (length bytes.now) headers.now v.items) }
 {
     let mut all = Vec::with_capacity(alloc, headers.tile_count())?;
     for number in 0..headers.tile_count() {
-        all.push(read_entries(alloc, headers, bytes, number)?)?;
+        let entries = read_entries(alloc, headers, bytes, number)?;
+        all.push(pack(alloc, entries.as_slice())?)?;
     }
     Ok(all)
 }

@@ -1,8 +1,12 @@
-use Rattle.std.proofs.Common.{◌≡◌, [], drop, arith}
+use Rattle.std.proofs.Common.{◌≡◌, ◌+◌, ◌-◌, ◌<◌, ◌≤◌, [], length, drop, get_or, refl, sym, subst, arith}
 use Rattle.std.proofs.lemmas.Slice.Zip.{length-zip}
+use Rattle.jk_walk.specs.declared.entries.PacketEntry.{PacketEntry}
 use Rattle.jk_window.specs.Cutting.{run_at}
+use Rattle.jk_window.specs.Planning.{IsBehind, tile_packet, tile_packet_size}
+use Rattle.jk_window.proofs.EntryFacts.{entry_within}
+use Rattle.jk_window.proofs.NumberedPlans.{no_name}
 use Rattle.jk_window.proofs.Runs.{run_ended, run_over}
-use Rattle.jk_window.proofs.RunPlans.{entered_by, running_starts, running_more, running_over}
+use Rattle.jk_window.proofs.RunPlans.{IsRunning, entered_by, running_starts, running_more, running_over}
 use Rattle.jk_window.proofs.contents.plan_run.Goals as goal
 use Rattle.jk_window.proofs.contents.plan_run.Goals.{then-loop-at-test+else-i-names, else-loop-at-test}
 
@@ -11,10 +15,28 @@ loop-at-init c = (running_starts c.args.size c.args.tile.now c.args.names.now c.
 
 pub loop-at-preserved : goal.loop-at-preserved
 loop-at-preserved c = (
-  running_more c.args.size c.args.tile.now c.args.names.now c.as_slice-entries.result.now c.args.next c.args.part.0 c.args.part.1 c.loop-at.plan c.plan_packet.new.plan c.loop-at.i c.loop-at.at _ _
-      c.loop-at.invariant.0 c.as_slice-entries.ensures c.requires.all c.if-i-names.true c.loop-at-test.true c.in_ok-plan_packet.ensures.ok,
+  (
+      let tile = c.args.tile.now in
+      let e = c.get-entry.result in
+      let n = get_or c.args.names.now c.loop-at.i no_name in
+      let is = c.get-entry.ensures e in
+      subst (λ (x : PacketEntry). IsRunning c.args.size tile c.args.names.now c.args.next c.args.part.0 c.args.part.1 c.plan_packet.new.plan (c.loop-at.i + 1) x.end) (sym is)
+      (running_more c.args.size tile c.args.names.now tile.entries.now c.args.next c.args.part.0 c.args.part.1 c.loop-at.plan c.plan_packet.new.plan c.loop-at.i c.loop-at.at no_name e
+      c.loop-at.invariant.0 refl c.requires.all c.if-i-names.true c.loop-at-test.true
+      (subst (λ (x : PacketEntry). IsBehind c.loop-at.plan c.plan_packet.new.plan (λ file. tile_packet tile file (n, x)) (tile_packet_size tile (n, x))) is c.in_ok-plan_packet.ensures.ok))
+      ),
   c.in_ok-plan_packet.ensures.last,
 )
+
+pub plan_packet-requires-clause-entry : goal.plan_packet-requires-clause-entry
+plan_packet-requires-clause-entry c =
+    let e = c.get-entry.result in
+    let cut = c.requires.cut in
+    let within = cut.within in
+    let size = c.loop-at.invariant.0.size in
+    let lt : c.loop-at.i < length c.args.tile.now.entries.now = omega (arith, c.if-i-names.true, c.requires.all) in
+    let le : cut.size ≤ c.loop-at.plan.size - c.args.tile.now.start = omega (arith, within, size) in
+    entry_within cut.size (c.loop-at.plan.size - c.args.tile.now.start) c.args.tile.now.entries.now c.loop-at.i e cut.entries.each lt (c.get-entry.ensures e) le
 
 pub returns-clause-plan : goal.returns-clause-plan
 returns-clause-plan c =

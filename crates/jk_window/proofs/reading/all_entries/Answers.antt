@@ -13,21 +13,22 @@ loop-number-init c = record {
   upto = upto_none c.args.bytes.now c.args.headers.now ∙ ap (λ (es : List (List PacketEntry)). Ok es) (sym c.in_ok-all.ensures.items);
 }
 
-pub returns-in_err-read_entries-clause-exact : goal.returns-in_err-read_entries-clause-exact
-returns-in_err-read_entries-clause-exact c =
+pub returns-in_err-entries-clause-exact : goal.returns-in_err-entries-clause-exact
+returns-in_err-entries-clause-exact c =
     let bytes = c.args.bytes.now in
     let h = c.args.headers.now in
     let n = c.loop-number.number in
-    let e = c.in_err-read_entries.field-0.0 in
-    let q = err_from_is_err_and c.from_residual-in_err-read_entries.result c.from_residual-in_err-read_entries.ensures.1 in
+    let e = c.in_err-entries.field-0.0 in
+    let q = err_from_is_err_and c.from_residual-in_err-entries.result c.from_residual-in_err-entries.ensures.1 in
     let lt : n < tile_count h.siz = omega (arith, c.loop-number-test.true, c.loop-number.invariant.end_is) in
-    rw (q.1, q.2) (refuses_on e (entries_at bytes h n) _ c.in_err-read_entries.ensures.exact (upto_fails bytes h (tile_count h.siz) n e c.loop-number.all.items lt c.loop-number.invariant.upto))
+    rw (q.1, q.2) (refuses_on e (entries_at bytes h n) _ c.in_err-entries.ensures.exact (upto_fails bytes h (tile_count h.siz) n e c.loop-number.all.items lt c.loop-number.invariant.upto))
 
 pub loop-number-preserved : goal.loop-number-preserved
 loop-number-preserved c = record {
   end_is = c.loop-number.invariant.end_is;
   upto =
-      upto_more c.args.bytes.now c.args.headers.now c.loop-number.number c.loop-number.all.items c.in_ok-read_entries.field-0 c.loop-number.invariant.upto c.in_ok-read_entries.ensures.exact
+      upto_more c.args.bytes.now c.args.headers.now c.loop-number.number c.loop-number.all.items c.in_ok-pack.field-0 c.loop-number.invariant.upto
+      (c.in_ok-entries.ensures.exact ∙ ap (λ (es : List PacketEntry). Ok es) (sym (c.in_ok-pack.ensures.value ∙ c.as_slice.ensures)))
       ∙ ap (λ (es : List (List PacketEntry)). Ok es) (sym c.in_ok-push.ensures.items);
 }
 
