@@ -4,6 +4,7 @@ pub mod Tiling
 pub mod FrameLaws
 pub mod MeaningLaws
 pub mod FrameHeaders
+pub mod MeantLaws
 pub mod Placing
 pub mod LoopLaws
 pub mod HeaderLaws
@@ -24,6 +25,7 @@ pub mod ViewAgain
 pub mod OneTile
 pub mod StripeLaws
 pub mod MadeLaws
+pub mod StripeRows
 pub mod Laws
 pub mod TileRowing
 pub mod RowLaws

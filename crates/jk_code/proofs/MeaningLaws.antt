@@ -136,7 +136,7 @@ only_image bytes d p fits m =
 
 -- ---- files
 
-slice_bytes : (bytes : List ℕ) (from to : ℕ) → AreBytes bytes → AreBytes (slice_range bytes from to)
+pub slice_bytes : (bytes : List ℕ) (from to : ℕ) → AreBytes bytes → AreBytes (slice_range bytes from to)
 slice_bytes bytes from to fits = are_bytes_taken (to - from) (drop from bytes) (are_bytes_after from bytes fits)
 
 -- What a file that is read gives is what it means.

@@ -11,6 +11,7 @@ mod making;
 mod reduction;
 mod rows;
 mod stripes;
+mod suiting;
 mod viewing;
 mod windows;
 mod writing;
@@ -21,6 +22,7 @@ pub use encoding::{encode, encode_with};
 pub use frames::{ImageFrame, frame};
 pub use making::{MadeStripes, StripeWork, make_with};
 pub use rows::{Rows, decode_rows};
+pub use suiting::suits_rows;
 pub use viewing::{decode_window, decode_window_by};
 pub use windows::{
     cut_files_show_the_window, pictures_have_indexes, window, windows_show_the_picture,

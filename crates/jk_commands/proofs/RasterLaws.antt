@@ -1,20 +1,17 @@
 -- The rasters of stripes, one behind another, are the raster of the picture.
-use Rattle.std.proofs.Common.{◌≡◌, ℕ, zero, suc, ◌+◌, ◌-◌, ◌*◌, ◌/◌, ◌%◌, ◌<◌, ◌≤◌, true, List, [], ◌∷◌, ◌++◌, length, get_or, ℤ, pos, Option, refl, sym, ap, subst, ◌∙◌, arith}
+use Rattle.std.proofs.Common.{◌≡◌, ℕ, zero, suc, ◌+◌, ◌-◌, ◌*◌, ◌<◌, ◌≤◌, true, List, [], ◌∷◌, ◌++◌, length, get_or, ℤ, pos, Option, refl, sym, ap, subst, ◌∙◌, arith}
 use Rattle.std.specs.List.{flat_map, range_with_len}
 use Rattle.std.specs.Global.{Vec}
 use Rattle.std.specs.Io.KnownBytes.{Appends}
 use Rattle.std.proofs.lemmas.List.Concat.{flat_map-append}
-use Rattle.std.proofs.lemmas.List.FromFn.{length-map-range_with_len, get_or-map-range_with_len}
-use Rattle.std.proofs.lemmas.Nat.{div-add-mod'}
-use Rattle.jk_math.specs.declared.rect.Rect.{Rect}
-use Rattle.jk_math.specs.Picture.{Picture, sample_at, is_grey_or_rgb}
-use Rattle.jk_math.specs.Raster.{raster}
-use Rattle.jk_math.proofs.Laws.{raster_entry, appends_none, appends_join}
+use Rattle.jk_math.specs.Picture.{Picture, is_grey_or_rgb}
+use Rattle.jk_math.proofs.Laws.{appends_none, appends_join}
 use Rattle.jk_pnm.specs.Written.{is_written, maxval_of, sample_text, pixel_text, raster_part, raster_text}
 use Rattle.jk_pnm.specs.Rasters.{AreRastersOf, pieces_text}
 use Rattle.jk_code.specs.declared.making.MadeStripes.{MadeStripes}
 use Rattle.jk_code.specs.Made.{rows_of, AreMade, IsMadeOf}
 use Rattle.jk_code.specs.Rows.{AreTaken, WereTaken}
+use Rattle.jk_code.proofs.Laws.{rows_components, rows_sample}
 use Rattle.jk_commands.specs.declared.decoding_rows.RowWriter.{RowWriter}
 use Rattle.jk_commands.specs.Rasters.{IsRasterOf}
 use Rattle.jk_commands.specs.RowWriting.{IsRasterBehind}
@@ -53,48 +50,22 @@ planes_alike m k j (part ∷ parts) (plane ∷ planes) long each =
 
 -- ---- rows of a picture
 
-some_row : (k w n : ℕ) → k < n * w → 0 < w
-some_row k w n lt = grind arith
-
 -- a pixel of the rows from y on is one of the picture
-row_pixel : (m : ℕ) (p : Picture) (y z k : ℕ) → p.y0 ≤ y → y ≤ z → k < (z - y) * p.width → pixel_text m (rows_of p y z).planes k ≡ pixel_text m p.planes ((y - p.y0) * p.width + k)
-row_pixel m p y z k low order lt =
-    let w = p.width in
-    let a : Rect = record { x0 = p.x0; y0 = y; x1 = p.x0 + w; y1 = z } in
-    let n = length p.planes in
-    let f : ℕ → List ℤ = λ c. raster a (λ u v. sample_at p c (u - p.x0) (v - p.y0)) in
-    let wide : (p.x0 + w) - p.x0 ≡ w = omega arith in
-    let places : (z - y) * w ≡ (z - y) * ((p.x0 + w) - p.x0) = ap (λ t. (z - y) * t) (sym wide) in
-    planes_alike m k ((y - p.y0) * w + k) (rows_of p y z).planes p.planes (length-map-range_with_len f 0 n) (λ c less.
-    ap (λ (plane : List ℤ). get_or plane k (pos 0)) (get_or-map-range_with_len f 0 n c c [] less (omega arith))
-    ∙ raster_entry a (λ u v. sample_at p c (u - p.x0) (v - p.y0)) k (omega (arith, lt, places))
-    ∙ ap (λ t. get_or (get_or p.planes c []) ((y + k / t - p.y0) * w + ((p.x0 + k % t) - p.x0)) (pos 0)) wide
-    ∙ ap (λ t. get_or (get_or p.planes c []) t (pos 0)) (place_of p.x0 p.y0 y w k low))
-  where
-    place_of : (x0 y0 y w k : ℕ) → y0 ≤ y → (y + k / w - y0) * w + ((x0 + k % w) - x0) ≡ (y - y0) * w + k
-    place_of x0 y0 y w k low =
-        let q : ℕ = k / w in
-        let r : ℕ = k % w in
-        let split : q * w + r ≡ k = div-add-mod' k w in
-        let down : y + q - y0 ≡ (y - y0) + q = omega (arith, low) in
-        let spread : ((y - y0) + q) * w ≡ (y - y0) * w + q * w = grind arith in
-        let across : (x0 + r) - x0 ≡ r = omega arith in
-        ap (λ t. t * w + ((x0 + r) - x0)) down ∙ (let e : ((y - y0) + q) * w + ((x0 + r) - x0) ≡ (y - y0) * w + k = omega (arith, spread, across, split) in e)
+row_pixel : (m : ℕ) (p : Picture) (y z k : ℕ) → p.y0 ≤ y → k < (z - y) * p.width → pixel_text m (rows_of p y z).planes k ≡ pixel_text m p.planes ((y - p.y0) * p.width + k)
+row_pixel m p y z k low lt =
+    planes_alike m k ((y - p.y0) * p.width + k) (rows_of p y z).planes p.planes (rows_components p y z) (λ c less. rows_sample p y z c k low less lt)
 
 -- their raster is a part of the picture's
 rows_raster : (m : ℕ) (p : Picture) (y z : ℕ) → p.y0 ≤ y → y ≤ z → raster_text m (rows_of p y z).planes ((z - y) * p.width) ≡ raster_part m p.planes ((y - p.y0) * p.width) ((z - y) * p.width)
 rows_raster m p y z low order =
     let from = (y - p.y0) * p.width in
     let none : from + 0 ≡ from = omega arith in
-    pixels_alike m (rows_of p y z).planes p.planes ((z - y) * p.width) 0 from (λ k lt. row_pixel m p y z k low order (omega (arith, lt)))
+    pixels_alike m (rows_of p y z).planes p.planes ((z - y) * p.width) 0 from (λ k lt. row_pixel m p y z k low (omega (arith, lt)))
     ∙ ap (λ (t : ℕ). flat_map (pixel_text m p.planes) (range_with_len t ((z - y) * p.width))) none
 
 -- a stripe has a file where the picture has one
 rows_written : (p : Picture) (y z : ℕ) → is_written p ≡ true → is_written (rows_of p y z) ≡ true
-rows_written p y z is =
-    let f : ℕ → List ℤ = λ c. raster (record { x0 = p.x0; y0 = y; x1 = p.x0 + p.width; y1 = z }) (λ u v. sample_at p c (u - p.x0) (v - p.y0)) in
-    let count : length (rows_of p y z).planes ≡ length p.planes = length-map-range_with_len f 0 (length p.planes) in
-    subst (λ (n : ℕ). is_grey_or_rgb n p.signed ≡ true) (sym count) is
+rows_written p y z is = subst (λ (n : ℕ). is_grey_or_rgb n p.signed ≡ true) (sym (rows_components p y z)) is
 
 -- ---- all stripes
 

@@ -14,9 +14,7 @@ ghost use Rattle.jk_options.specs.Plans.{at_place};
 ghost use Rattle.jk_commands.specs.Commands.{decoded};
 ghost use Rattle.jk_commands.specs.Rasters.{IsRasterFrameOf};
 
-use jk_boxes::open;
 use jk_code::{Rows, decode, decode_rows, frame};
-use jk_marks::{Main, read_main};
 use jk_math::{Fault, Image};
 use jk_pnm::{RasterFrame, write_head_into, write_raster_into};
 use std::alloc::Global;
@@ -177,36 +175,4 @@ pub fn decode_rows_into<W: Write>(
         × IfErr result (λ e. Refuses e (pnm_of p) ⊎ ((e ≡ Shelf) × (file : List ℕ) × (pnm_of p ≡ Ok file))) }
 {
     write_file(alloc, bytes, reduce, writer)
-}
-
-/// The least height of tiles that are decoded row by row as fast as whole: what a tile begins with is
-/// made for few rows of a lower one.
-const TILE_ROWS: u32 = 64;
-
-/// The exponent of the least height of such code-blocks: for each row of code-blocks all that the
-/// packets of their precincts have are looked through.
-const BLOCK_ROWS: u8 = 4;
-
-/// Whether the main header gives all components code-blocks of that height.
-fn has_high_blocks(main: &Main) -> bool {
-    let mut is_high = BLOCK_ROWS <= main.cod.style.ycb;
-    for own in &main.coc {
-        if let Some(style) = own {
-            is_high &= BLOCK_ROWS <= style.ycb;
-        }
-    }
-    is_high
-}
-
-/// Whether [`decode_rows_into`] takes no longer for a file than
-/// [`decode_file_into`](crate::decode_file_into): the main header tells tiles of 64 rows at least, and
-/// code-blocks of 16. Of bytes that have no main header it tells the fault as fast.
-pub fn suits_rows(bytes: &[u8]) -> bool {
-    let Ok(boxed) = open(bytes) else {
-        return true;
-    };
-    match read_main(&bytes[boxed.start..boxed.end]) {
-        Ok((main, _)) => TILE_ROWS <= main.siz.tile_height && has_high_blocks(&main),
-        Err(_) => true,
-    }
 }

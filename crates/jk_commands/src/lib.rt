@@ -22,13 +22,14 @@ mod viewing;
 pub use comparing::{Change, Difference, differences, differences_text};
 pub use cutting::cut_file;
 pub use decoding::{check_workers, decode_file, decode_file_into};
-pub use decoding_rows::{decode_rows_into, suits_rows};
+pub use decoding_rows::decode_rows_into;
 pub use decoding_with::decode_file_into_with;
 pub use dressing::{
     components_of, dress_file, encode_file_dressed, encode_file_dressed_with, encode_image_dressed,
     encode_image_dressed_into, encode_image_dressed_with,
 };
 pub use encoding::{encode_file, encode_file_into, encode_file_with, read_image};
+pub use jk_code::suits_rows;
 pub use jk_options::{EncodeOptions, Placed, Plan, judge, order_name, order_named};
 pub use layers::first_layers;
 pub use sums::{BadList, Sum, read_sums, sums_text};

@@ -122,12 +122,12 @@ enum Way {
     AtOnce,
 }
 
-/// How so many workers decode the whole image of a file.
-fn way_of(workers: usize, bytes: &[u8]) -> Way {
+/// How so many workers decode the whole image of a file at a reduction.
+fn way_of(workers: usize, bytes: &[u8], reduce: u32) -> Way {
     if workers > 1 {
         return Way::Workers(workers);
     }
-    if suits_rows(bytes) {
+    if suits_rows(bytes, reduce) {
         return Way::Rows;
     }
     Way::AtOnce
@@ -180,7 +180,7 @@ fn decode<W: World>(alloc: Global, world: &mut W, line: &Decoding<'_>) -> Result
         Err(fault) => return Err(of_file(alloc, fault, left_out)),
     };
     let name = line.output;
-    let way = way_of(workers, &bytes);
+    let way = way_of(workers, &bytes, line.reduce);
     let is_held = line.window.is_none() && matches!(way, Way::Rows);
     let mut output = create(alloc, world, name, is_held)?;
     world.begin_work(Work::Decoding, bytes.len() as u64);

@@ -6,4 +6,6 @@ mod chance;
 #[cfg(test)]
 mod files;
 #[cfg(test)]
+mod suiting;
+#[cfg(test)]
 mod tests;

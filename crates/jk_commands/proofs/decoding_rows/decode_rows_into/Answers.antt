@@ -1,9 +1,8 @@
 use Rattle.std.proofs.Common.{arith}
 use Rattle.jk_pnm.specs.Written.{written as pnm_of}
-use Rattle.jk_code.proofs.MeaningLaws.{only_meaning}
+use Rattle.jk_code.proofs.Laws.{only_meaning, meant_picture}
 use Rattle.jk_commands.specs.Commands.{decoded}
 use Rattle.jk_commands.proofs.LeftLaws.{on_ok, decoded_is}
-use Rattle.jk_commands.proofs.FrameLaws.{meant_picture}
 use Rattle.jk_commands.proofs.AheadLaws.{whole_means, ends_of}
 use Rattle.jk_commands.proofs.decoding_rows.decode_rows_into.Goals as goal
 

@@ -1,6 +1,7 @@
 use Rattle.std.proofs.Common.{arith}
 use Rattle.std.proofs.lemmas.Result.{err_from_is_err_and}
-use Rattle.jk_commands.proofs.FrameLaws.{frame_refused, frame_depth, frame_is}
+use Rattle.jk_code.proofs.Laws.{frame_refused, frame_depth}
+use Rattle.jk_commands.proofs.FrameLaws.{frame_is}
 use Rattle.jk_commands.proofs.decoding_rows.raster_frame.Goals as goal
 
 pub returns-in_err-told-clause-err : goal.returns-in_err-told-clause-err
