@@ -8,7 +8,7 @@ use jk_line::{Serving, Work, World};
 use jk_math::Fault;
 use jk_serve::{Desk, Paths, bind};
 use jk_store::{Archive, Folder};
-use jk_terminal::{Counted, GoesOut, Late, Watched};
+use jk_terminal::{Counted, Late, Watched};
 use std::alloc::Global;
 use std::fmt::Display;
 use std::io::{self, BufWriter};
@@ -72,21 +72,21 @@ impl<R: Files + Drop> Host<R> {
 }
 
 impl<R: Files + Print + Clone + Drop> Host<R> {
-    /// The output of a name, whose bytes go out at once or once the whole is there.
+    /// The output of a name, whose bytes go out as they come, or are held where they can't be taken
+    /// back.
     fn late(
         &mut self,
         alloc: Global,
         name: &str,
-        goes_out: GoesOut,
+        is_held: bool,
     ) -> Result<BufWriter<Late<R>, Global>, Fault> {
         let name = String::from_str(alloc, name)?;
-        let late = Late::new(
-            self.rt.clone()?,
-            alloc,
-            name,
-            goes_out,
-            self.counted.again(),
-        );
+        let (rt, counted) = (self.rt.clone()?, self.counted.again());
+        let late = if is_held {
+            Late::held(rt, alloc, name, counted)
+        } else {
+            Late::new(rt, alloc, name, counted)
+        };
         let answer = BufWriter::new(alloc, late);
         self.kept_of_system(answer)
     }
@@ -157,7 +157,7 @@ where
     }
 
     fn create(&mut self, alloc: Global, name: &str) -> Result<BufWriter<Late<R>, Global>, Fault> {
-        self.late(alloc, name, GoesOut::AtOnce)
+        self.late(alloc, name, false)
     }
 
     fn create_held(
@@ -165,7 +165,7 @@ where
         alloc: Global,
         name: &str,
     ) -> Result<BufWriter<Late<R>, Global>, Fault> {
-        self.late(alloc, name, GoesOut::WhenWhole)
+        self.late(alloc, name, true)
     }
 
     fn finish(&mut self, output: BufWriter<Late<R>, Global>, is_whole: bool) -> Result<(), Fault> {

@@ -8,5 +8,5 @@ mod output;
 mod telling;
 
 pub use opening::Watched;
-pub use output::{GoesOut, Late};
+pub use output::Late;
 pub use telling::{Counted, Teller, Telling};

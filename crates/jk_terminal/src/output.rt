@@ -13,8 +13,8 @@ use std::rt::Files;
 /// When bytes go where they can't be taken back: to standard output, and to what is written as it
 /// is, as a pipe, a device, or a file in a folder that takes no other. A file beside the one that
 /// it is to replace can be taken back, and has its bytes at once.
-#[derive(Clone, Copy, Debug)]
-pub enum GoesOut {
+#[derive(Clone, Copy)]
+enum GoesOut {
     /// As they come.
     AtOnce,
     /// Once the whole is there; before that they are held, and what they go to isn't opened.
@@ -98,17 +98,25 @@ pub struct Late<R: Files> {
 }
 
 impl<R: Files + Print + Drop> Late<R> {
-    /// The output of a name, when its bytes go out, and who is told how much is written.
-    pub fn new(rt: R, alloc: Global, name: String, goes_out: GoesOut, counted: Counted) -> Late<R> {
+    /// The output of a name, whose bytes go out as they come, and who is told how much is written.
+    pub fn new(rt: R, alloc: Global, name: String, counted: Counted) -> Late<R> {
         Late {
             rt,
             alloc,
             name,
-            goes_out,
+            goes_out: GoesOut::AtOnce,
             way: Way::Unasked,
             refusal: None,
             counted,
         }
+    }
+
+    /// The output of a name, whose bytes are held where they can't be taken back, until the whole is
+    /// there. Of bytes that are held nobody is told.
+    pub fn held(rt: R, alloc: Global, name: String, counted: Counted) -> Late<R> {
+        let mut late = Late::new(rt, alloc, name, counted);
+        late.goes_out = GoesOut::WhenWhole;
+        late
     }
 
     /// Writes all bytes.
@@ -171,6 +179,9 @@ impl<R: Files + Print + Drop> Write for Late<R> {
         }
         if let Some(refusal) = self.refusal {
             return Err(told(refusal));
+        }
+        if matches!(self.way, Way::Held(_)) {
+            return Ok(bytes.len());
         }
         if let Some(telling) = self.counted.telling() {
             telling.wrote(bytes.len());
