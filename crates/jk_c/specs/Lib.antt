@@ -5,6 +5,7 @@ pub mod Encodings
 pub mod Examples
 pub mod Frames
 pub mod Keeping
+pub mod PixelRows
 pub mod Pixels
 pub mod Signed
 pub mod Telling

@@ -1,4 +1,5 @@
-//! Files decoded.
+//! Files decoded: row by row where that takes no longer, with the pixels beside the caller's and no
+//! plane of the whole image.
 
 ghost use Rattle.std.specs.Prelude.{◌≡◌, Ok};
 ghost use Rattle.jk_math.specs.Picture.{Picture};
@@ -10,6 +11,7 @@ ghost use Rattle.jk_c.specs.Pixels.{ArePixels};
 ghost use Rattle.jk_c.specs.Signed.{AreSignedPixels, GivesSignedOrMemory};
 
 use crate::answers::{give_bytes, give_shorts, give_tinies, give_words};
+use crate::pixel_rows::give_rows;
 use jk_code::decode;
 use std::alloc::Global;
 
@@ -26,7 +28,10 @@ pub extern "C" fn jk_decode_u8(alloc: Global, file: &[u8], reduce: u32, pixels: 
     ensures only { (p : Picture) → Means file.now reduce p
         → GivesPixelsOrMemory 8 (Ok p) pixels.old result pixels.new }
 {
-    give_bytes(decode(alloc, file, reduce), pixels)
+    match give_rows(alloc, file, reduce, pixels) {
+        Some(told) => told,
+        None => give_bytes(decode(alloc, file, reduce), pixels),
+    }
 }
 
 /// The image that a file means at a reduction, pixel by pixel, as words of two bytes: for unsigned
@@ -42,7 +47,10 @@ pub extern "C" fn jk_decode_u16(alloc: Global, file: &[u8], reduce: u32, pixels:
     ensures only { (p : Picture) → Means file.now reduce p
         → GivesPixelsOrMemory 16 (Ok p) pixels.old result pixels.new }
 {
-    give_words(decode(alloc, file, reduce), pixels)
+    match give_rows(alloc, file, reduce, pixels) {
+        Some(told) => told,
+        None => give_words(decode(alloc, file, reduce), pixels),
+    }
 }
 
 /// The image that a file means at a reduction, pixel by pixel, as signed bytes: for signed samples of at most 8 bits.
@@ -58,7 +66,10 @@ pub extern "C" fn jk_decode_i8(alloc: Global, file: &[u8], reduce: u32, pixels: 
     ensures only { (p : Picture) → Means file.now reduce p
         → GivesSignedOrMemory 8 (Ok p) pixels.old result pixels.new }
 {
-    give_tinies(decode(alloc, file, reduce), pixels)
+    match give_rows(alloc, file, reduce, pixels) {
+        Some(told) => told,
+        None => give_tinies(decode(alloc, file, reduce), pixels),
+    }
 }
 
 /// The image that a file means at a reduction, pixel by pixel, as signed words of two bytes: for signed samples.
@@ -74,5 +85,8 @@ pub extern "C" fn jk_decode_i16(alloc: Global, file: &[u8], reduce: u32, pixels:
     ensures only { (p : Picture) → Means file.now reduce p
         → GivesSignedOrMemory 16 (Ok p) pixels.old result pixels.new }
 {
-    give_shorts(decode(alloc, file, reduce), pixels)
+    match give_rows(alloc, file, reduce, pixels) {
+        Some(told) => told,
+        None => give_shorts(decode(alloc, file, reduce), pixels),
+    }
 }

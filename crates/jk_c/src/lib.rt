@@ -13,6 +13,7 @@ mod frames;
 mod images;
 mod info;
 mod keeping;
+mod pixel_rows;
 mod samples;
 mod signed;
 mod version;

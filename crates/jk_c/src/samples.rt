@@ -90,6 +90,7 @@ pub(crate) fn put_image_bytes(image: &Image, pixels: &mut [u8]) -> bool
     ensures put { IsTrue result → ArePixels image.now pixels.new }
     ensures kept { result ≡ false → pixels.new ≡ pixels.old }
     ensures fits { IsTrue result ↔ Fits 8 image.now (length pixels.old) }
+    ensures profile { IsPicture image.now }
 {
     if !fits(image, 8, pixels.len()) {
         return false;
@@ -112,6 +113,7 @@ pub(crate) fn put_image_words(image: &Image, pixels: &mut [u16]) -> bool
     ensures put { IsTrue result → ArePixels image.now pixels.new }
     ensures kept { result ≡ false → pixels.new ≡ pixels.old }
     ensures fits { IsTrue result ↔ Fits 16 image.now (length pixels.old) }
+    ensures profile { IsPicture image.now }
 {
     if !fits(image, 16, pixels.len()) {
         return false;

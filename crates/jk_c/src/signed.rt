@@ -64,6 +64,7 @@ pub(crate) fn put_image_tinies(image: &Image, pixels: &mut [i8]) -> bool
     ensures put { IsTrue result → AreSignedPixels image.now pixels.new }
     ensures kept { result ≡ false → pixels.new ≡ pixels.old }
     ensures fits { IsTrue result ↔ FitsSigned 8 image.now (length pixels.old) }
+    ensures profile { IsPicture image.now }
 {
     if !fits_signed(image, 8, pixels.len()) {
         return false;
@@ -146,6 +147,7 @@ pub(crate) fn put_image_shorts(image: &Image, pixels: &mut [i16]) -> bool
     ensures put { IsTrue result → AreSignedPixels image.now pixels.new }
     ensures kept { result ≡ false → pixels.new ≡ pixels.old }
     ensures fits { IsTrue result ↔ FitsSigned 16 image.now (length pixels.old) }
+    ensures profile { IsPicture image.now }
 {
     if !fits_signed(image, 16, pixels.len()) {
         return false;

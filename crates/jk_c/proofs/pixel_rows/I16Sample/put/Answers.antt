@@ -1,0 +1,8 @@
+use Rattle.std.proofs.Common.{ℤ, pos}
+use Rattle.jk_c.proofs.PixelLaws.{put_pixels}
+use Rattle.jk_c.proofs.pixel_rows.I16Sample.put.Goals as goal
+
+pub returns-clause-put : goal.returns-clause-put
+returns-clause-put c = λ is.
+    let put = c.put_image_shorts.ensures.put is in
+    put_pixels (λ (x : ℤ). x) (pos 0) c.args.image.now c.put_image_shorts.new.pixels c.put_image_shorts.ensures.profile put.count put.each

@@ -1,0 +1,242 @@
+//! Images that are decoded row by row, pixel by pixel: no image is whole in planes.
+
+ghost use Rattle.std.specs.Prelude.{◌≡◌, ◌≤◌, length, take, drop, None, Ok, Result, IsTrue, IfOk, IfErr, IfSome};
+ghost use Rattle.jk_math.specs.Answer.{Answers, Refuses};
+ghost use Rattle.jk_math.specs.Memory.{IsMemory};
+ghost use Rattle.jk_math.specs.Picture.{Picture};
+ghost use Rattle.jk_math.specs.declared.fault.Fault.{Fault};
+ghost use Rattle.jk_code.specs.Meaning.{Means};
+ghost use Rattle.jk_code.specs.MeaningReading.{meaning_at};
+ghost use Rattle.jk_c.specs.PixelRows.{HasSamples, HaveAllPixels, GivesRows};
+
+use crate::codes::{DONE, code};
+use crate::samples::{put_image_bytes, put_image_words};
+use crate::signed::{put_image_shorts, put_image_tinies};
+use jk_code::{Rows, decode_rows, frame, suits_rows};
+use jk_math::{Fault, Image};
+use std::alloc::Global;
+
+/// How many rows are decoded at a time.
+const ROWS: u32 = 64;
+
+/// A sample in the caller's memory.
+pub(crate) trait Sample: Copy {
+    ghost use Rattle.std.specs.Prelude.{◌≡◌, ℕ, ℤ, Bool, IsTrue, length};
+    ghost use Rattle.jk_c.specs.PixelRows.{HasSamples, HaveAllPixels};
+
+    // The number that it stands for.
+    ghost value: { Self → ℤ };
+    // How many bits it has room for, and whether these are with a sign.
+    ghost bits: { ℕ };
+
+    ghost signed: { Bool };
+
+    /// What stands where no sample was put yet.
+    fn blank() -> Self;
+
+    /// How many bits it has room for, and whether these are with a sign.
+    fn room() -> (u8, bool);
+
+    /// Writes the pixels of an image, if it has such samples and the list has room for just these.
+    fn put(image: &Image, pixels: &mut [Self]) -> bool
+        ensures long { length pixels.new ≡ length pixels.old }
+        ensures samples { IsTrue result → HasSamples bits signed image.now }
+        ensures put { IsTrue result → HaveAllPixels value image.now pixels.new };
+}
+
+impl Sample for u8 {
+    ghost use Rattle.std.specs.Prelude.{pos, false};
+
+    ghost value = { λ x. pos x };
+
+    ghost bits = { 8 };
+
+    ghost signed = { false };
+
+    fn blank() -> u8 {
+        0
+    }
+
+    fn room() -> (u8, bool) {
+        (8, false)
+    }
+
+    fn put(image: &Image, pixels: &mut [u8]) -> bool {
+        put_image_bytes(image, pixels)
+    }
+}
+
+impl Sample for u16 {
+    ghost use Rattle.std.specs.Prelude.{pos, false};
+
+    ghost value = { λ x. pos x };
+
+    ghost bits = { 16 };
+
+    ghost signed = { false };
+
+    fn blank() -> u16 {
+        0
+    }
+
+    fn room() -> (u8, bool) {
+        (16, false)
+    }
+
+    fn put(image: &Image, pixels: &mut [u16]) -> bool {
+        put_image_words(image, pixels)
+    }
+}
+
+impl Sample for i8 {
+    ghost use Rattle.std.specs.Prelude.{true};
+
+    ghost value = { λ x. x };
+
+    ghost bits = { 8 };
+
+    ghost signed = { true };
+
+    fn blank() -> i8 {
+        0
+    }
+
+    fn room() -> (u8, bool) {
+        (8, true)
+    }
+
+    fn put(image: &Image, pixels: &mut [i8]) -> bool {
+        put_image_tinies(image, pixels)
+    }
+}
+
+impl Sample for i16 {
+    ghost use Rattle.std.specs.Prelude.{true};
+
+    ghost value = { λ x. x };
+
+    ghost bits = { 16 };
+
+    ghost signed = { true };
+
+    fn blank() -> i16 {
+        0
+    }
+
+    fn room() -> (u8, bool) {
+        (16, true)
+    }
+
+    fn put(image: &Image, pixels: &mut [i16]) -> bool {
+        put_image_shorts(image, pixels)
+    }
+}
+
+/// The pixels of the rows that came, and whether all had samples that have a place in them.
+#[derive(Drop)]
+pub(crate) struct PixelRows<T> {
+    pub(crate) list: Vec<T>,
+    pub(crate) fits: bool,
+}
+
+/// Writes the pixels of an image behind the first so many elements.
+fn put_behind<T: Sample>(image: &Image, from: usize, pixels: &mut [T]) -> bool
+    requires { from ≤ length pixels.old }
+    ensures long { length pixels.new ≡ length pixels.old }
+    ensures front { take from pixels.new ≡ take from pixels.old }
+    ensures samples { IsTrue result → HasSamples T.bits T.signed image.now }
+    ensures put { IsTrue result → HaveAllPixels T.value image.now (drop from pixels.new) }
+{
+    T::put(image, &mut pixels[from..])
+}
+
+impl<T: Sample> Rows for PixelRows<T> {
+    ghost use Rattle.jk_c.specs.PixelRows.{TookPixels};
+
+    ghost took = { TookPixels T.value T.bits T.signed };
+
+    fn take(&mut self, alloc: Global, rows: Image) -> Result<(), Fault> {
+        let from = self.list.len();
+        let area = rows.width() as usize * rows.height() as usize;
+        let count = area * rows.planes().len();
+        self.list.resize(from.saturating_add(count), T::blank())?;
+        let fits = put_behind(&rows, from, &mut self.list);
+        self.fits &= fits;
+        Ok(())
+    }
+}
+
+/// Whether an image is worth being decoded row by row: it has so many samples, which have a place,
+/// and takes no longer so.
+fn suits<T: Sample>(alloc: Global, file: &[u8], reduce: u32, count: usize) -> Result<bool, Fault>
+    ensures memory { IfErr result IsMemory }
+{
+    let (bits, signed) = T::room();
+    match frame(alloc, file, reduce) {
+        Ok(frame) => {
+            let area = frame.width as u64 * frame.height as u64;
+            Ok(
+                frame.depth <= bits
+                    && frame.signed == signed
+                    && area.saturating_mul(frame.components as u64) == count as u64
+                    && suits_rows(file, reduce),
+            )
+        }
+        Err(Fault::Memory(refused)) => Err(Fault::Memory(refused)),
+        Err(_) => Ok(false),
+    }
+}
+
+/// The pixels of an image of so many samples that is decoded row by row. None where it had better be
+/// decoded whole.
+pub(crate) fn pixels_by_rows<T: Sample>(
+    alloc: Global,
+    file: &[u8],
+    reduce: u32,
+    count: usize,
+) -> Result<Option<Vec<T>>, Fault>
+    ensures given { IfOk result (λ found. IfSome found (λ v. (length v.items ≡ count)
+        × (p : Picture) × (meaning_at file.now reduce ≡ Ok p) × Means file.now reduce p
+        × HasSamples T.bits T.signed p × HaveAllPixels T.value p v.items)) }
+    ensures err { IfErr result (λ e. Refuses e (meaning_at file.now reduce)) }
+{
+    if count == 0 || !suits::<T>(alloc, file, reduce, count)? {
+        return Ok(None);
+    }
+    let mut rows = PixelRows {
+        list: Vec::with_capacity(alloc, count)?,
+        fits: true,
+    };
+    match decode_rows(alloc, file, reduce, ROWS, &mut rows) {
+        Ok(()) => {}
+        Err(Fault::Shelf) => return Ok(None),
+        Err(fault) => return Err(fault),
+    }
+    if rows.fits && rows.list.len() == count {
+        return Ok(Some(rows.list));
+    }
+    Ok(None)
+}
+
+/// Gives the pixels of an image that is decoded row by row, or tells its file's fault. None where it
+/// had better be decoded whole.
+pub(crate) fn give_rows<T: Sample>(
+    alloc: Global,
+    file: &[u8],
+    reduce: u32,
+    pixels: &mut [T],
+) -> Option<u32>
+    ensures given { IfSome result (λ told. (r : Result Picture Fault)
+        × Answers (λ p. p) r (meaning_at file.now reduce) × IfOk r (Means file.now reduce)
+        × GivesRows T.value T.bits T.signed r pixels.old told pixels.new) }
+    ensures kept { result ≡ None → pixels.new ≡ pixels.old }
+{
+    match pixels_by_rows::<T>(alloc, file, reduce, pixels.len()) {
+        Ok(Some(list)) => {
+            pixels.copy_from_slice(&list);
+            Some(DONE)
+        }
+        Ok(None) => None,
+        Err(fault) => Some(code(fault)),
+    }
+}
