@@ -6,11 +6,20 @@ use jk_math::Fault;
 use jk_mqenc::Encoder;
 use jk_scan::{Contribution, contributed, refine_context, sign_context, zero_context};
 use std::alloc::Global;
+use std::process::Abort;
 
 /// The contexts of a column in run mode, and of decisions that are as likely 0 as 1 (T.800 Table D.7).
 const RUN_LENGTH: u8 = 17;
 
 const UNIFORM: u8 = 18;
+
+/// A coding pass (T.800 D.3).
+#[derive(Clone, Copy, PartialEq)]
+enum Pass {
+    Propagation,
+    Refinement,
+    Cleanup,
+}
 
 /// Which places of a block are marked. None beside it is.
 #[derive(Drop)]
@@ -21,16 +30,13 @@ struct Places {
 }
 
 impl Places {
-    fn none(alloc: Global, width: usize, height: usize) -> Result<Places, Fault> {
-        let mut marks = Vec::new(alloc);
-        for _ in 0..width.saturating_mul(height) {
-            marks.push(false)?;
-        }
-        Ok(Places {
+    fn none(rt: &impl Abort, alloc: Global, width: usize, height: usize) -> Places {
+        let count = width.saturating_mul(height);
+        Places {
             width,
             height,
-            marks,
-        })
+            marks: vec![in alloc; false; count].expect(rt, "places"),
+        }
     }
 
     fn place(&self, x: usize, y: usize) -> usize {
@@ -72,27 +78,30 @@ pub(crate) struct Model {
     refined: Places,
     encoder: Encoder,
     marks: Vec<usize>,
+    /// Why a call was refused, if one was.
+    refused: Result<(), Fault>,
 }
 
 impl Model {
     /// Nothing of a block is coded.
-    pub(crate) fn new(alloc: Global, block: &Block) -> Result<Model, Fault> {
+    pub(crate) fn new(rt: &impl Abort, alloc: Global, block: &Block) -> Model {
         let (width, height) = (block.width, block.height);
-        Ok(Model {
+        Model {
             shape: BlockShape {
                 width,
                 height,
                 orientation: block.orientation,
                 style: block.style,
             },
-            values: block.values.clone()?,
+            values: block.values.clone().expect(rt, "coefficients"),
             plane: 0,
-            significant: Places::none(alloc, width, height)?,
-            visited: Places::none(alloc, width, height)?,
-            refined: Places::none(alloc, width, height)?,
+            significant: Places::none(rt, alloc, width, height),
+            visited: Places::none(rt, alloc, width, height),
+            refined: Places::none(rt, alloc, width, height),
             encoder: Encoder::new(alloc),
             marks: Vec::new(alloc),
-        })
+            refused: Ok(()),
+        }
     }
 
     fn value(&self, x: usize, y: usize) -> i32 {
@@ -154,54 +163,58 @@ impl Model {
         contributed(positive, negative)
     }
 
-    fn put(&mut self, context: u8, bit: bool) -> Result<(), Fault> {
+    /// Codes a decision. A refusal is told in the end.
+    fn put(&mut self, context: u8, bit: bool) {
         if context < 19 {
-            self.encoder.encode(context as usize, bit)?;
+            let answer = self.encoder.encode(context as usize, bit);
+            if answer.is_err() {
+                self.refused = answer;
+            }
         }
-        Ok(())
     }
 
     /// Codes the sign of a place, which is significant from then on (T.800 D.3.2).
-    fn put_sign(&mut self, x: usize, y: usize) -> Result<(), Fault> {
+    fn put_sign(&mut self, x: usize, y: usize) {
         let (west, east) = (x.wrapping_sub(1), x.wrapping_add(1));
         let (north, south) = (y.wrapping_sub(1), y.wrapping_add(1));
         let horizontal = self.contribution(y, &[(west, y), (east, y)]);
         let vertical = self.contribution(y, &[(x, north), (x, south)]);
         let sign = sign_context(horizontal, vertical);
-        self.put(sign.context, (self.value(x, y) < 0) != sign.flip)?;
+        self.put(sign.context, (self.value(x, y) < 0) != sign.flip);
         self.significant.mark(x, y);
-        Ok(())
     }
 
     /// Codes the bit of a place that isn't significant, and its sign where it becomes so.
-    fn put_new(&mut self, x: usize, y: usize) -> Result<(), Fault> {
+    fn put_new(&mut self, x: usize, y: usize) {
         let bit = self.bit(x, y);
-        self.put(self.zero(x, y), bit)?;
+        self.put(self.zero(x, y), bit);
         if bit {
-            self.put_sign(x, y)?;
+            self.put_sign(x, y);
         }
-        Ok(())
     }
 
     /// A place in the significance propagation pass (T.800 D.3.1).
-    fn propagate(&mut self, x: usize, y: usize) -> Result<(), Fault> {
+    fn propagate(&mut self, x: usize, y: usize) {
         if !self.significant.has(x, y) && self.zero(x, y) != 0 {
             self.visited.mark(x, y);
-            self.put_new(x, y)?;
+            self.put_new(x, y);
         }
-        Ok(())
     }
 
     /// A place in the magnitude refinement pass (T.800 D.3.3).
-    fn refine(&mut self, x: usize, y: usize) -> Result<(), Fault> {
+    fn refine(&mut self, x: usize, y: usize) {
         if self.significant.has(x, y) && !self.visited.has(x, y) {
             let touched = self.zero(x, y) != 0;
             let context = refine_context(self.refined.has(x, y), touched);
             let bit = self.bit(x, y);
-            self.put(context, bit)?;
+            self.put(context, bit);
             self.refined.mark(x, y);
         }
-        Ok(())
+    }
+
+    /// Whether a place is neither significant nor coded in this plane.
+    fn is_open(&self, x: usize, y: usize) -> bool {
+        !self.significant.has(x, y) && !self.visited.has(x, y)
     }
 
     /// Whether the four places of a column from this row on are coded in run mode.
@@ -211,8 +224,7 @@ impl Model {
         }
         let mut is_run = true;
         for y in top..top.saturating_add(4) {
-            let open = !self.significant.has(x, y) && !self.visited.has(x, y);
-            is_run = is_run && open && self.zero(x, y) == 0;
+            is_run = is_run && self.is_open(x, y) && self.zero(x, y) == 0;
         }
         is_run
     }
@@ -229,82 +241,130 @@ impl Model {
         first
     }
 
-    /// A column of a stripe in the cleanup pass (T.800 D.3.4).
-    fn clean(&mut self, x: usize, top: usize) -> Result<(), Fault> {
-        let end = top.saturating_add(4).min(self.shape.height);
-        let mut next = top;
-        if self.is_run(x, top) {
-            let first = self.first_one(x, top);
-            self.put(RUN_LENGTH, first < 4)?;
-            if first < 4 {
-                self.put(UNIFORM, first >= 2)?;
-                self.put(UNIFORM, first % 2 == 1)?;
-                self.put_sign(x, top.saturating_add(first))?;
-                next = top.saturating_add(first).saturating_add(1);
-            } else {
-                next = end;
-            }
+    /// A column in run mode: the row behind what is coded of it.
+    fn run(&mut self, x: usize, top: usize) -> usize {
+        let mut first = self.first_one(x, top);
+        self.put(RUN_LENGTH, first < 4);
+        if first < 4 {
+            self.put(UNIFORM, first >= 2);
+            self.put(UNIFORM, first % 2 == 1);
+            self.put_sign(x, top.saturating_add(first));
+            first = first.saturating_add(1);
         }
-        for y in next..end {
-            if !self.significant.has(x, y) && !self.visited.has(x, y) {
-                self.put_new(x, y)?;
-            }
-        }
-        Ok(())
+        top.saturating_add(first)
     }
 
-    /// Codes a pass: 0 for significance propagation, 1 for magnitude refinement, 2 for cleanup.
-    fn pass(&mut self, kind: u32) -> Result<(), Fault> {
+    /// A place in the cleanup pass.
+    fn clean_place(&mut self, x: usize, y: usize) {
+        if self.is_open(x, y) {
+            self.put_new(x, y);
+        }
+    }
+
+    /// A column of a stripe in the cleanup pass (T.800 D.3.4).
+    fn clean(&mut self, x: usize, top: usize, end: usize) {
+        let next = if self.is_run(x, top) {
+            self.run(x, top)
+        } else {
+            top
+        };
+        for y in next..end {
+            self.clean_place(x, y);
+        }
+    }
+
+    /// A column of a stripe in the significance propagation pass.
+    fn propagate_column(&mut self, x: usize, top: usize, end: usize) {
+        for y in top..end {
+            self.propagate(x, y);
+        }
+    }
+
+    /// A column of a stripe in the magnitude refinement pass.
+    fn refine_column(&mut self, x: usize, top: usize, end: usize) {
+        for y in top..end {
+            self.refine(x, y);
+        }
+    }
+
+    /// A column of a stripe in a pass.
+    fn column(&mut self, pass: Pass, x: usize, top: usize, end: usize) {
+        match pass {
+            Pass::Propagation => self.propagate_column(x, top, end),
+            Pass::Refinement => self.refine_column(x, top, end),
+            Pass::Cleanup => self.clean(x, top, end),
+        }
+    }
+
+    /// A stripe in a pass.
+    fn stripe(&mut self, pass: Pass, top: usize) {
+        let end = top.saturating_add(4).min(self.shape.height);
+        for x in 0..self.shape.width {
+            self.column(pass, x, top, end);
+        }
+    }
+
+    /// The segmentation symbol, behind a cleanup pass (T.800 D.5).
+    fn symbol(&mut self) {
+        self.put(UNIFORM, true);
+        self.put(UNIFORM, false);
+        self.put(UNIFORM, true);
+        self.put(UNIFORM, false);
+    }
+
+    /// Notes how many bytes were placed behind a pass.
+    fn mark(&mut self) {
+        if let Err(refused) = self.marks.push(self.encoder.written()) {
+            self.refused = Err(Fault::from(refused));
+        }
+    }
+
+    /// Codes a pass.
+    fn pass(&mut self, pass: Pass) {
         if self.shape.style.reset {
             self.encoder.reset();
         }
-        let stripes = self.shape.height.div_ceil(4);
-        for stripe in 0..stripes {
-            let top = stripe.saturating_mul(4);
-            let end = top.saturating_add(4).min(self.shape.height);
-            for x in 0..self.shape.width {
-                if kind == 2 {
-                    self.clean(x, top)?;
-                    continue;
-                }
-                for y in top..end {
-                    if kind == 0 {
-                        self.propagate(x, y)?;
-                    } else {
-                        self.refine(x, y)?;
-                    }
-                }
-            }
+        for stripe in 0..self.shape.height.div_ceil(4) {
+            self.stripe(pass, stripe.saturating_mul(4));
         }
-        if kind == 2 && self.shape.style.segments {
-            for bit in [true, false, true, false] {
-                self.put(UNIFORM, bit)?;
-            }
+        if pass == Pass::Cleanup && self.shape.style.segments {
+            self.symbol();
         }
-        self.marks.push(self.encoder.written())?;
-        Ok(())
+        self.mark();
+    }
+
+    /// Codes the passes of a bit-plane, of which the highest has one alone.
+    fn code_plane(&mut self, plane: u32, is_highest: bool) {
+        self.plane = plane;
+        self.visited.clear();
+        if !is_highest {
+            self.pass(Pass::Propagation);
+            self.pass(Pass::Refinement);
+        }
+        self.pass(Pass::Cleanup);
     }
 
     /// Codes all passes of so many bit-planes: the bytes, and how many were placed behind each pass.
     /// A block without a pass has no bytes.
     pub(crate) fn code(
         mut self,
+        rt: &impl Abort,
         alloc: Global,
         planes: u32,
-    ) -> Result<(Vec<u8>, Vec<usize>), Fault> {
+    ) -> (Vec<u8>, Vec<usize>) {
         for above in 0..planes {
-            self.plane = planes - 1 - above;
-            self.visited.clear();
-            if above > 0 {
-                self.pass(0)?;
-                self.pass(1)?;
-            }
-            self.pass(2)?;
+            self.code_plane(planes - 1 - above, above == 0);
         }
-        let Model { encoder, marks, .. } = self;
+        let Model {
+            encoder,
+            marks,
+            refused,
+            ..
+        } = self;
+        refused.expect(rt, "passes");
         if planes == 0 {
-            return Ok((Vec::new(alloc), marks));
+            return (Vec::new(alloc), marks);
         }
-        Ok((encoder.finish()?, marks))
+        (encoder.finish().expect(rt, "bytes"), marks)
     }
 }

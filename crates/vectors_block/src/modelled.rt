@@ -126,8 +126,8 @@ fn block_of(
 fn agrees(rt: &impl Abort, alloc: Global, shape: (usize, usize), style: usize, kind: usize) {
     let block = block_of(rt, alloc, shape, style, kind);
     let coded = codes(rt, alloc, &block);
-    let model = Model::new(alloc, &block).expect(rt, "a model");
-    let (bytes, marks) = model.code(alloc, coded.planes).expect(rt, "a model");
+    let model = Model::new(rt, alloc, &block);
+    let (bytes, marks) = model.code(rt, alloc, coded.planes);
     let case = (shape, style, kind);
     equal_at(case, coded.bytes.as_slice(), bytes.as_slice()).expect(rt, "bytes");
     equal_at(case, coded.marks.as_slice(), marks.as_slice()).expect(rt, "marks");

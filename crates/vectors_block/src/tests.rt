@@ -94,26 +94,25 @@ fn random_blocks(rt: HostRuntime) {
 }
 
 /// Worked segments: single coefficients, a column in run mode, a column of four with few passes.
-static WORKED: [&str; 13] = [
-    "1 1 LL 1 1 03 1",
-    "1 1 LL 1 1 07 -1",
-    "1 1 LL 1 1 - 0",
-    "1 1 LL 1 1 00FF80 1",
-    "1 1 LL 1 1 FF7F 0",
-    "1 1 LL 1 1 FF8F F10",
-    "1 1 LL 1 1 FF80 F10",
-    "1 1 LL 1 2 03 F9",
-    "1 5 LL 6 16 018F0DC8757F -26,-22,-30,-32,-19",
-    "1 4 LH 3 7 0FB17F 1,5,1,0",
-    "1 4 LH 3 7 0FB176 1,5,1,0",
-    "1 1 LL 1 0 FF8F 0",
-    "1 1 LL 4 10 00 15",
-];
+static WORKED: &str = "\
+1 1 LL 1 1 03 1
+1 1 LL 1 1 07 -1
+1 1 LL 1 1 - 0
+1 1 LL 1 1 00FF80 1
+1 1 LL 1 1 FF7F 0
+1 1 LL 1 1 FF8F F10
+1 1 LL 1 1 FF80 F10
+1 1 LL 1 2 03 F9
+1 5 LL 6 16 018F0DC8757F -26,-22,-30,-32,-19
+1 4 LH 3 7 0FB17F 1,5,1,0
+1 4 LH 3 7 0FB176 1,5,1,0
+1 1 LL 1 0 FF8F 0
+1 1 LL 4 10 00 15";
 
 #[test]
 fn worked_blocks(rt: HostRuntime) {
-    for line in &WORKED {
-        reads(&rt, rt.alloc(), *line);
+    for line in WORKED.lines() {
+        reads(&rt, rt.alloc(), line);
     }
 }
 
@@ -138,15 +137,14 @@ fn reads_styled(rt: &impl Abort, alloc: Global, text: &str) {
 }
 
 /// Columns in styles.
-static STYLED: [&str; 7] = [
-    "reset 1 4 10 00 14",
-    "reset 1 4 10 007F 15",
-    "symbols 1 1 1 01 1",
-    "symbols 1 1 1 03 F5",
-    "symbols 1 1 1 0A41FF8F F10",
-    "plain 5 2 4 169F 0,0,0,1,2",
-    "causal 5 2 4 16E3 0,0,0,1,2",
-];
+static STYLED: &str = "\
+reset 1 4 10 00 14
+reset 1 4 10 007F 15
+symbols 1 1 1 01 1
+symbols 1 1 1 03 F5
+symbols 1 1 1 0A41FF8F F10
+plain 5 2 4 169F 0,0,0,1,2
+causal 5 2 4 16E3 0,0,0,1,2";
 
 /// The same segment means another coefficient with context reset, and none where a segmentation
 /// symbol is due and another one stands. A code value that leaves the interval at the fourth of the
@@ -154,8 +152,8 @@ static STYLED: [&str; 7] = [
 /// column whose second stripe is significant before the first.
 #[test]
 fn styled_blocks(rt: HostRuntime) {
-    for line in &STYLED {
-        reads_styled(&rt, rt.alloc(), *line);
+    for line in STYLED.lines() {
+        reads_styled(&rt, rt.alloc(), line);
     }
 }
 

@@ -1,6 +1,5 @@
-use crate::asserts::equal_at;
 use jk_extras::{Ratio, per_inch};
-use std::test::Fail;
+use vectors::{equal, equal_at};
 
 /// Samples on so many inches, and the numerator, the denominator and the exponent of samples per
 /// metre: by `50 n / 127 d` times 10^2, `5 n / 127 d` times 10^3, or `n / 254 d` times 10^4.
@@ -30,11 +29,10 @@ fn ratio_of(n: u32, d: u32) -> Option<(u16, u16, i8)> {
 }
 
 #[test]
-fn by_the_inch(rt: HostRuntime) -> Result<(), Fail> {
+fn by_the_inch(rt: HostRuntime) {
     for (n, d, want) in &INCHES {
-        equal_at(&rt, (*n, *d), ratio_of(*n, *d), *want);
+        equal_at((*n, *d), ratio_of(*n, *d), *want).expect(&rt, "a ratio");
     }
-    Ok(())
 }
 
 /// Whether this many samples stand on an inch, which is 127 of 5,000 parts of a metre.
@@ -55,17 +53,22 @@ fn is_of(ratio: Ratio, n: u64) -> bool {
                 .wrapping_mul(5000)
 }
 
+/// Whether this many samples on an inch are told exactly.
+fn is_exact(n: u32) -> bool {
+    match per_inch(n, 1) {
+        Some(ratio) => is_of(ratio, n as u64),
+        None => false,
+    }
+}
+
 /// Each whole number is told exactly.
 #[test]
-fn whole_numbers_by_the_inch(rt: HostRuntime) -> Result<(), Fail> {
+fn whole_numbers_by_the_inch(rt: HostRuntime) {
     let mut exact = 0u32;
     for n in 1..65_536u32 {
-        if let Some(ratio) = per_inch(n, 1)
-            && is_of(ratio, n as u64)
-        {
+        if is_exact(n) {
             exact = exact.wrapping_add(1);
         }
     }
-    equal_at(&rt, "exact", exact, 65_535);
-    Ok(())
+    equal(exact, 65_535).expect(&rt, "whole numbers");
 }

@@ -3,9 +3,9 @@
 #![tactic(auto)]
 
 #[cfg(test)]
-mod asserts;
-#[cfg(test)]
 mod boxes;
+#[cfg(test)]
+mod claims;
 #[cfg(test)]
 mod given;
 #[cfg(test)]

@@ -1,10 +1,11 @@
-use crate::asserts::equal_at;
-use crate::boxes::{FINE, WIDE, bytes, grid, parts};
+use crate::boxes::{FINE, WIDE, bytes, grid};
+use crate::claims::{are, refuses};
 use crate::given::{DRESSED, EVERYTHING, NOT_DRESSED, NOT_READ, NOT_TOLD, TEXTS};
 use jk_extras::{Colour, Extras, Other, extras_text, read_extras, with_extras};
 use jk_math::Fault;
-use std::alloc::{AllocError, Global};
-use std::test::Fail;
+use std::alloc::Global;
+use std::process::Abort;
+use vectors::{Line, equal_at};
 
 /// A file with what boxes say.
 fn given(alloc: Global, file: &[u8], boxes: &[u8]) -> Result<Vec<u8>, Fault> {
@@ -12,121 +13,171 @@ fn given(alloc: Global, file: &[u8], boxes: &[u8]) -> Result<Vec<u8>, Fault> {
     with_extras(alloc, file, &extras)
 }
 
-#[test]
-fn dressed(rt: HostRuntime) -> Result<(), Fail> {
-    for row in &DRESSED {
-        let [file, boxes, want] = parts(rt.alloc(), row)?;
-        let found = given(rt.alloc(), &file, &boxes)?;
-        equal_at(&rt, *row, found.as_slice(), want.as_slice());
-    }
-    Ok(())
+/// The same of words.
+fn given_words(rt: &impl Abort, alloc: Global, file: &str, boxes: &str) -> Result<Vec<u8>, Fault> {
+    given(alloc, &bytes(rt, alloc, file), &bytes(rt, alloc, boxes))
+}
+
+/// The file of a line with what boxes say is this one.
+fn is_dressed(rt: &impl Abort, alloc: Global, line: &str) {
+    let mut fields = Line::new(line, '|');
+    let (file, boxes, due) = (fields.word(), fields.word(), fields.word());
+    fields.end().expect(rt, "a case");
+    let found = given_words(rt, alloc, file, boxes).expect(rt, "a file");
+    are(rt, line, &found, &bytes(rt, alloc, due));
 }
 
 #[test]
-fn not_dressed(rt: HostRuntime) -> Result<(), Fail> {
-    for (row, fault) in &NOT_DRESSED {
-        let [file, boxes, _] = parts(rt.alloc(), row)?;
-        let found = given(rt.alloc(), &file, &boxes).err();
-        equal_at(&rt, *row, found, Some(*fault));
+fn dressed(rt: HostRuntime) {
+    for line in DRESSED.lines() {
+        is_dressed(&rt, rt.alloc(), line);
     }
-    Ok(())
 }
 
-/// Everything that a file can keep, field by field.
-fn everything(alloc: Global) -> Result<Extras, Fail> {
+/// The file of a line isn't given what boxes say.
+fn is_not_dressed(rt: &impl Abort, alloc: Global, line: &str) {
+    let mut fields = Line::new(line, '|');
+    let (file, boxes, due) = (fields.word(), fields.word(), fields.word());
+    fields.end().expect(rt, "a case");
+    let fault = given_words(rt, alloc, file, boxes).err();
+    refuses(rt, alloc, line, fault, due);
+}
+
+#[test]
+fn not_dressed(rt: HostRuntime) {
+    for line in NOT_DRESSED.lines() {
+        is_not_dressed(&rt, rt.alloc(), line);
+    }
+}
+
+/// Boxes of a UUID and of XML.
+fn boxes_of_both(rt: &impl Abort, alloc: Global) -> Vec<Other> {
     let mut id = [0; 16];
     id.copy_from_slice(b"\x00\x11\x22\x33\x44\x55\x66\x77\x88\x99\xAA\xBB\xCC\xDD\xEE\xFF");
     let mut others = Vec::new(alloc);
-    others.push(Other::Uuid(id, Vec::from_slice(alloc, b"abc")?))?;
-    others.push(Other::Xml(Vec::from_slice(alloc, b"<a/>")?))?;
-    Ok(Extras {
-        colour: Colour::Profile(bytes(alloc, "grey_icc")?),
+    let uuid = Other::Uuid(id, bytes(rt, alloc, "616263"));
+    others.push(uuid).expect(rt, "a box");
+    let xml = Other::Xml(bytes(rt, alloc, "3c612f3e"));
+    others.push(xml).expect(rt, "a box");
+    others
+}
+
+/// Everything that a file can keep, field by field.
+fn everything(rt: &impl Abort, alloc: Global) -> Extras {
+    Extras {
+        colour: Colour::Profile(bytes(rt, alloc, "grey_icc")),
         capture: grid(Some(FINE)),
         display: grid(Some(WIDE)),
-        others,
-    })
-}
-
-#[test]
-fn by_its_fields(rt: HostRuntime) -> Result<(), Fail> {
-    let file = bytes(rt.alloc(), "plain")?;
-    let found = with_extras(rt.alloc(), &file, &everything(rt.alloc())?)?;
-    let want = bytes(rt.alloc(), EVERYTHING)?;
-    equal_at(&rt, "everything", found.as_slice(), want.as_slice());
-    let found = with_extras(rt.alloc(), &want, &Extras::none(rt.alloc()))?;
-    equal_at(&rt, "nothing", found.as_slice(), want.as_slice());
-    Ok(())
-}
-
-#[test]
-fn not_read(rt: HostRuntime) -> Result<(), Fail> {
-    for (words, fault) in &NOT_READ {
-        let boxes = bytes(rt.alloc(), words)?;
-        let found = read_extras(rt.alloc(), &boxes).err();
-        equal_at(&rt, *words, found, Some(*fault));
+        others: boxes_of_both(rt, alloc),
     }
-    Ok(())
+}
+
+/// A file with these extras is this one.
+fn keeps(rt: &impl Abort, alloc: Global, file: &str, extras: &Extras, due: &str) {
+    let found = with_extras(alloc, &bytes(rt, alloc, file), extras).expect(rt, "a file");
+    are(rt, file, &found, &bytes(rt, alloc, due));
 }
 
 #[test]
-fn told_as_boxes(rt: HostRuntime) -> Result<(), Fail> {
-    for row in &TEXTS {
-        let [file, want, _] = parts(rt.alloc(), row)?;
-        let found = extras_text(rt.alloc(), &file)?;
-        equal_at(&rt, *row, found.as_slice(), want.as_slice());
-    }
-    Ok(())
+fn by_its_fields(rt: HostRuntime) {
+    let alloc = rt.alloc();
+    keeps(&rt, alloc, "plain", &everything(&rt, alloc), EVERYTHING);
+    keeps(&rt, alloc, EVERYTHING, &Extras::none(alloc), EVERYTHING);
+}
+
+/// The boxes of a line aren't read.
+fn is_not_read(rt: &impl Abort, alloc: Global, line: &str) {
+    let mut fields = Line::new(line, '|');
+    let (boxes, due) = (fields.word(), fields.word());
+    fields.end().expect(rt, "a case");
+    let fault = read_extras(alloc, &bytes(rt, alloc, boxes)).err();
+    refuses(rt, alloc, line, fault, due);
 }
 
 #[test]
-fn not_told_as_boxes(rt: HostRuntime) -> Result<(), Fail> {
-    for (words, fault) in &NOT_TOLD {
-        let file = bytes(rt.alloc(), words)?;
-        let found = extras_text(rt.alloc(), &file).err();
-        equal_at(&rt, *words, found, Some(*fault));
+fn not_read(rt: HostRuntime) {
+    for line in NOT_READ.lines() {
+        is_not_read(&rt, rt.alloc(), line);
     }
-    Ok(())
+}
+
+/// What a file keeps, as boxes.
+fn text_of(rt: &impl Abort, alloc: Global, file: &str) -> Result<Vec<u8>, Fault> {
+    extras_text(alloc, &bytes(rt, alloc, file))
+}
+
+/// What the file of a line keeps, as boxes.
+fn is_told(rt: &impl Abort, alloc: Global, line: &str) {
+    let mut fields = Line::new(line, '|');
+    let (file, due) = (fields.word(), fields.word());
+    fields.end().expect(rt, "a case");
+    let found = text_of(rt, alloc, file).expect(rt, "boxes");
+    are(rt, line, &found, &bytes(rt, alloc, due));
+}
+
+#[test]
+fn told_as_boxes(rt: HostRuntime) {
+    for line in TEXTS.lines() {
+        is_told(&rt, rt.alloc(), line);
+    }
+}
+
+/// What the file of a line keeps isn't told.
+fn is_not_told(rt: &impl Abort, alloc: Global, line: &str) {
+    let mut fields = Line::new(line, '|');
+    let (file, due) = (fields.word(), fields.word());
+    fields.end().expect(rt, "a case");
+    refuses(rt, alloc, line, text_of(rt, alloc, file).err(), due);
+}
+
+#[test]
+fn not_told_as_boxes(rt: HostRuntime) {
+    for line in NOT_TOLD.lines() {
+        is_not_told(&rt, rt.alloc(), line);
+    }
+}
+
+/// The plain file with what boxes say.
+fn plain_with(rt: &impl Abort, alloc: Global, boxes: &[u8]) -> Vec<u8> {
+    given(alloc, &bytes(rt, alloc, "plain"), boxes).expect(rt, "a file")
+}
+
+/// What a file keeps is told as the same boxes of the plain one that was given it.
+fn comes_back(rt: &impl Abort, alloc: Global, file: &str) {
+    let boxes = text_of(rt, alloc, file).expect(rt, "boxes");
+    let found = extras_text(alloc, &plain_with(rt, alloc, &boxes)).expect(rt, "boxes");
+    are(rt, file, &found, &boxes);
 }
 
 /// What a file keeps, as boxes, given to the plain one, is told as the same boxes.
 #[test]
-fn there_and_back(rt: HostRuntime) -> Result<(), Fail> {
-    let plain = bytes(rt.alloc(), "plain")?;
-    for words in ["full", EVERYTHING] {
-        let boxes = extras_text(rt.alloc(), &bytes(rt.alloc(), words)?)?;
-        let found = extras_text(rt.alloc(), &given(rt.alloc(), &plain, &boxes)?)?;
-        equal_at(&rt, words, found.as_slice(), boxes.as_slice());
-    }
-    Ok(())
+fn there_and_back(rt: HostRuntime) {
+    comes_back(&rt, rt.alloc(), "full");
+    comes_back(&rt, rt.alloc(), EVERYTHING);
 }
 
 /// A file with a profile of so many zeros behind its front.
-fn large(alloc: Global, front: &str, size: usize) -> Result<Vec<u8>, AllocError> {
-    let mut file = bytes(alloc, front)?;
-    file.resize(file.len().saturating_add(size), 0)?;
-    file.extend_from_slice(&bytes(alloc, "code")?)?;
-    Ok(file)
+fn large(rt: &impl Abort, alloc: Global, front: &str, size: usize) -> Vec<u8> {
+    let mut file = bytes(rt, alloc, front);
+    let end = file.len().saturating_add(size);
+    file.resize(end, 0).expect(rt, "zeros");
+    let code = bytes(rt, alloc, "code");
+    file.extend_from_slice(&code).expect(rt, "a codestream");
+    file
 }
 
-/// The front of a file with a profile of so many bytes, and how many bytes of boxes are told of it:
-/// a profile of 2^24 is, and no longer one.
+/// How many bytes of boxes are told of a file with a profile of so many zeros.
+fn tells(rt: &impl Abort, alloc: Global, front: &str, size: usize, due: Result<usize, Fault>) {
+    let file = large(rt, alloc, front, size);
+    let found = extras_text(alloc, &file).map(|text| text.len());
+    equal_at(size, found, due).expect(rt, "bytes of boxes");
+}
+
+/// A profile of 2^24 bytes is told, and no longer one.
 #[test]
-fn large_profiles(rt: HostRuntime) -> Result<(), Fail> {
-    for (front, size, want) in [
-        (
-            "front 01000029 jp2h one 0100000b 636f6c72 020000",
-            1 << 24,
-            Ok(16_777_227),
-        ),
-        (
-            "front 0100002a jp2h one 0100000c 636f6c72 020000",
-            16_777_217,
-            Err(Fault::Limit),
-        ),
-    ] {
-        let file = large(rt.alloc(), front, size)?;
-        let found = extras_text(rt.alloc(), &file).map(|text| text.len());
-        equal_at(&rt, size, found, want);
-    }
-    Ok(())
+fn large_profiles(rt: HostRuntime) {
+    let front = "front 01000029 jp2h one 0100000b 636f6c72 020000";
+    tells(&rt, rt.alloc(), front, 1 << 24, Ok(16_777_227));
+    let front = "front 0100002a jp2h one 0100000c 636f6c72 020000";
+    tells(&rt, rt.alloc(), front, 16_777_217, Err(Fault::Limit));
 }

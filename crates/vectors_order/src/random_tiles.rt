@@ -12,6 +12,7 @@ use jk_geom::{BlockGrid, PacketName, TileShape, band, blocks, precinct_count, re
 use jk_marks::Coding;
 use jk_math::{Orientation, Rect};
 use jk_order::{Packets, packet_count};
+use std::process::Abort;
 use vectors::equal_at;
 
 /// The seed of the tiles.
@@ -117,20 +118,35 @@ fn blocks_of(shape: &TileShape) -> u64
     sum
 }
 
+/// The number of a line.
+fn number_of(rt: &impl Abort, line: &str) -> u64 {
+    u64::from_str_radix(line, 16).expect(rt, "a number")
+}
+
+/// The packets of the next tile have the number of a line.
+fn has_names(rt: &impl Abort, random: &mut Random, line: &str) {
+    let shape = any_tile(random);
+    equal_at(&shape, names_of(&shape), number_of(rt, line)).expect(rt, "names");
+}
+
+/// The code-blocks of the next tile have the number of a line.
+fn has_blocks(rt: &impl Abort, random: &mut Random, line: &str) {
+    let shape = any_tile(random);
+    equal_at(&shape, blocks_of(&shape), number_of(rt, line)).expect(rt, "code-blocks");
+}
+
 #[test]
 fn names_of_random_tiles(rt: HostRuntime) {
     let mut random = Random::new(SEED);
-    for sum in &NAMES {
-        let shape = any_tile(&mut random);
-        equal_at(&shape, names_of(&shape), *sum).expect(&rt, "names");
+    for line in NAMES.lines() {
+        has_names(&rt, &mut random, line);
     }
 }
 
 #[test]
 fn blocks_of_random_tiles(rt: HostRuntime) {
     let mut random = Random::new(SEED);
-    for sum in &BLOCKS {
-        let shape = any_tile(&mut random);
-        equal_at(&shape, blocks_of(&shape), *sum).expect(&rt, "code-blocks");
+    for line in BLOCKS.lines() {
+        has_blocks(&rt, &mut random, line);
     }
 }

@@ -4,65 +4,43 @@ use jk_bits::{BitReader, BitWriter};
 use jk_math::Fault;
 use std::alloc::Global;
 use std::process::Abort;
-use vectors::{equal, equal_at};
+use vectors::{Line, equal, equal_at};
 
-/// Bits as `0` and `1`, and the bytes that an independent program in Python makes of them; the
-/// first rows of ones are also worked by hand.
-static TEXTS: [(&str, &[u8]); 32] = [
-    ("", &[]),
-    ("1", &[0x80]),
-    ("1111111", &[0xFE]),
-    ("11111111", &[0xFF, 0x00]),
-    ("111111111", &[0xFF, 0x40]),
-    ("111111111111111", &[0xFF, 0x7F]),
-    ("1111111111111111", &[0xFF, 0x7F, 0x80]),
-    ("11111111111111111", &[0xFF, 0x7F, 0xC0]),
-    ("1111111111111111111111", &[0xFF, 0x7F, 0xFE]),
-    ("11111111111111111111111", &[0xFF, 0x7F, 0xFF, 0x00]),
-    ("111111111111111111111111", &[0xFF, 0x7F, 0xFF, 0x40]),
-    ("111111111111111111111111111111", &[0xFF, 0x7F, 0xFF, 0x7F]),
-    ("11111111111111111111111111111", &[0xFF, 0x7F, 0xFF, 0x7E]),
-    ("111111111111111", &[0xFF, 0x7F]),
-    ("1111011111111111011", &[0xF7, 0xFF, 0x30]),
-    ("1", &[0x80]),
-    (
-        "01000111010000110001111001110110",
-        &[0x47, 0x43, 0x1E, 0x76],
-    ),
-    ("111111111", &[0xFF, 0x40]),
-    (
-        "011111010110100011001100111110011110",
-        &[0x7D, 0x68, 0xCC, 0xF9, 0xE0],
-    ),
-    (
-        "1111111111111111111111111111111111",
-        &[0xFF, 0x7F, 0xFF, 0x7F, 0xF0],
-    ),
-    ("11111111", &[0xFF, 0x00]),
-    (
-        "111010010110001011110001110111011",
-        &[0xE9, 0x62, 0xF1, 0xDD, 0x80],
-    ),
-    ("110010000010100110", &[0xC8, 0x29, 0x80]),
-    (
-        "0110100011001110100011000001001101110",
-        &[0x68, 0xCE, 0x8C, 0x13, 0x70],
-    ),
-    ("1", &[0x80]),
-    (
-        "111111111001110111111111111111111",
-        &[0xFF, 0x4E, 0xFF, 0x7F, 0xE0],
-    ),
-    ("11111111101101111111111111010", &[0xFF, 0x5B, 0xFF, 0x74]),
-    ("11010111", &[0xD7]),
-    (
-        "10000111100111101110000001000000",
-        &[0x87, 0x9E, 0xE0, 0x40],
-    ),
-    ("11111111111111", &[0xFF, 0x7E]),
-    ("0110101101100010", &[0x6B, 0x62]),
-    ("0111111111111111111111", &[0x7F, 0xFF, 0x7E]),
-];
+/// A line for each text: bits as `0` and `1`, and the bytes that an independent program in Python
+/// makes of them; the first rows of ones are also worked by hand.
+static TEXTS: &str = "\
+|
+1|80
+1111111|fe
+11111111|ff00
+111111111|ff40
+111111111111111|ff7f
+1111111111111111|ff7f80
+11111111111111111|ff7fc0
+1111111111111111111111|ff7ffe
+11111111111111111111111|ff7fff00
+111111111111111111111111|ff7fff40
+111111111111111111111111111111|ff7fff7f
+11111111111111111111111111111|ff7fff7e
+111111111111111|ff7f
+1111011111111111011|f7ff30
+1|80
+01000111010000110001111001110110|47431e76
+111111111|ff40
+011111010110100011001100111110011110|7d68ccf9e0
+1111111111111111111111111111111111|ff7fff7ff0
+11111111|ff00
+111010010110001011110001110111011|e962f1dd80
+110010000010100110|c82980
+0110100011001110100011000001001101110|68ce8c1370
+1|80
+111111111001110111111111111111111|ff4eff7fe0
+11111111101101111111111111010|ff5bff74
+11010111|d7
+10000111100111101110000001000000|879ee040
+11111111111111|ff7e
+0110101101100010|6b62
+0111111111111111111111|7fff7e";
 
 /// A reader has these bits, and no more than these bytes.
 fn reads(rt: &impl Abort, text: &[u8], bits: &str) {
@@ -73,15 +51,23 @@ fn reads(rt: &impl Abort, text: &[u8], bits: &str) {
     equal_at(bits, reader.finish(), Ok(text.len())).expect(rt, "the end");
 }
 
-/// Writes the bits and reads them back.
-fn goes_round(rt: &impl Abort, alloc: Global, bits: &str, bytes: &[u8]) {
+/// What is written of bits.
+fn written(rt: &impl Abort, alloc: Global, bits: &str) -> Vec<u8> {
     let mut writer = BitWriter::new(alloc);
     for bit in bits.as_bytes() {
         writer.push(*bit == b'1').expect(rt, "a bit");
     }
-    let text = writer.finish().expect(rt, "bytes");
-    equal_at(bits, text.as_slice(), bytes).expect(rt, "bytes");
-    reads(rt, &text, bits);
+    writer.finish().expect(rt, "bytes")
+}
+
+/// Writes the bits of a line and reads them back.
+fn goes_round(rt: &impl Abort, alloc: Global, line: &str) {
+    let mut fields = Line::new(line, '|');
+    let (bits, due) = (fields.word(), fields.bytes(alloc));
+    fields.end().expect(rt, "a text");
+    let bytes = written(rt, alloc, bits);
+    equal_at(bits, bytes.as_slice(), due.as_slice()).expect(rt, "bytes");
+    reads(rt, &bytes, bits);
 }
 
 /// Reads to the first fault, which is then the answer to each later call.
@@ -97,8 +83,8 @@ fn ends(rt: &impl Abort, bytes: &[u8], count: usize, fault: Fault) {
 
 #[test]
 fn texts(rt: HostRuntime) {
-    for (bits, bytes) in &TEXTS {
-        goes_round(&rt, rt.alloc(), *bits, *bytes);
+    for line in TEXTS.lines() {
+        goes_round(&rt, rt.alloc(), line);
     }
 }
 

@@ -1,5 +1,5 @@
 use Rattle.std.proofs.Common.{◌≡◌}
 use Rattle.vectors_packet.proofs.trees.tell_all.Given as goal
 
-abbrev pub invariant-loop-leaf : goal.invariant-loop-leaf
-invariant-loop-leaf g l = l.tree.shape ≡ record { width = l.case.width; height = l.case.height }
+abbrev pub invariant-loop-text : goal.invariant-loop-text
+invariant-loop-text g l = l.tree.shape ≡ record { width = l.width; height = l.height }
