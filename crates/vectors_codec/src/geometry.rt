@@ -3,19 +3,21 @@
 
 use crate::asserts::{equal, equal_at};
 use crate::calls::{decode, encode, plain, refusal};
+use crate::texts::bytes;
 use jk_marks::Order;
 use jk_math::{Fault, Image};
 use jk_params::Parameters;
 use std::alloc::Global;
 use std::process::Abort;
-use std::test::Fail;
-use vectors::bytes_of;
 
 /// Parameters with these levels and precinct sizes, for a bare codestream.
-fn parameters(alloc: Global, levels: u8, sizes: &[(u8, u8)]) -> Result<Parameters, Fail> {
+fn parameters(rt: &impl Abort, alloc: Global, levels: u8, sizes: &[(u8, u8)]) -> Parameters {
     let mut given = plain(alloc, levels);
-    given.precincts.extend_from_slice(sizes)?;
-    Ok(given)
+    given
+        .precincts
+        .extend_from_slice(sizes)
+        .expect(rt, "an answer");
+    given
 }
 
 /// An image of one sample throughout.
@@ -41,20 +43,27 @@ fn grey(place: (u32, u32), size: (u32, u32)) -> Even {
     }
 }
 
+/// The samples of a component.
+fn plane_of(rt: &impl Abort, alloc: Global, even: Even) -> Vec<i32> {
+    let (width, height) = even.size;
+    let samples = vec![in alloc; even.sample; width as usize * height as usize];
+    samples.expect(rt, "samples")
+}
+
 /// The image.
-fn image_of(alloc: Global, even: Even) -> Result<Image, Fault> {
+fn image_of(rt: &impl Abort, alloc: Global, even: Even) -> Image {
     let (x, y) = even.place;
     let (width, height) = even.size;
     let mut planes = Vec::new(alloc);
     for _ in 0..even.components {
-        planes.push(vec![in alloc; even.sample; width as usize * height as usize]?)?;
+        planes.push(plane_of(rt, alloc, even)).expect(rt, "a plane");
     }
-    Image::new(x, y, width, height, even.depth, even.signed, planes)
+    Image::new(x, y, width, height, even.depth, even.signed, planes).expect(rt, "an image")
 }
 
 /// Its file.
-fn file_of(alloc: Global, even: Even, given: &Parameters) -> Result<Vec<u8>, Fault> {
-    encode(alloc, &image_of(alloc, even)?, given)
+fn file_of(rt: &impl Abort, alloc: Global, even: Even, given: &Parameters) -> Vec<u8> {
+    encode(rt, alloc, &image_of(rt, alloc, even), given)
 }
 
 /// Whether each sample is this one.
@@ -70,35 +79,28 @@ fn is_even(image: &Image, sample: i32) -> bool {
 /// What a file means at a reduction: where the image lies and its size, and whether each sample is
 /// this one.
 pub(crate) fn seen(
+    rt: &impl Abort,
     alloc: Global,
     file: &[u8],
     reduce: u32,
     sample: i32,
-) -> Result<((u32, u32, u32, u32), bool), Fault> {
-    let image = decode(alloc, file, reduce)?;
+) -> ((u32, u32, u32, u32), bool) {
+    let image = decode(rt, alloc, file, reduce);
     let frame = (image.x0(), image.y0(), image.width(), image.height());
-    Ok((frame, is_even(&image, sample)))
+    (frame, is_even(&image, sample))
 }
 
 /// The bytes of a text stand at a place of a file.
-fn stands(
-    rt: &impl Abort,
-    alloc: Global,
-    file: &[u8],
-    place: usize,
-    text: &str,
-) -> Result<(), Fail> {
-    let due = bytes_of(alloc, &[text])?;
+fn stands(rt: &impl Abort, alloc: Global, file: &[u8], place: usize, text: &str) {
+    let due = bytes(rt, alloc, &[text]);
     let found = file.get(place..place.saturating_add(due.len()));
     equal(rt, found, Some(due.as_slice()));
-    Ok(())
 }
 
 /// The bytes of a text are the end of a file, from a place on.
-fn ends(rt: &impl Abort, alloc: Global, file: &[u8], place: usize, text: &str) -> Result<(), Fail> {
-    let due = bytes_of(alloc, &[text])?;
+fn ends(rt: &impl Abort, alloc: Global, file: &[u8], place: usize, text: &str) {
+    let due = bytes(rt, alloc, &[text]);
     equal(rt, file.get(place..), Some(due.as_slice()));
-    Ok(())
 }
 
 /// COD and QCD of many packets, the front of their tile-part, and the first packets.
@@ -106,43 +108,40 @@ static MANY_FRONT: &str =
     "FF52 000F 07 00 0003 00 02 04 04 00 01 33 33 33 FF5C 000A 40 40 48 48 50 48 48 50 FF90 000A 0000 000008EA 00 01 FF93 FF91 0004 0000 00 FF92 FF91 0004 0001 00 FF92";
 
 #[test]
-fn many_packets(rt: HostRuntime) -> Result<(), Fail> {
+fn many_packets(rt: HostRuntime) {
     let alloc = rt.alloc();
-    let mut given = parameters(alloc, 2, &[(3, 3), (3, 3), (3, 3)])?;
+    let mut given = parameters(&rt, alloc, 2, &[(3, 3), (3, 3), (3, 3)]);
     given.layers = 3;
     given.sop = true;
     given.eph = true;
-    let file = file_of(alloc, grey((0, 0), (64, 64)), &given)?;
+    let file = file_of(&rt, alloc, grey((0, 0), (64, 64)), &given);
     equal(&rt, file.len(), 2358);
-    stands(&rt, alloc, &file, 45, MANY_FRONT)?;
-    ends(&rt, alloc, &file, 2347, "FF91 0004 00FB 00 FF92 FFD9")?;
-    equal(&rt, seen(alloc, &file, 0, 128), Ok(((0, 0, 64, 64), true)));
-    Ok(())
+    stands(&rt, alloc, &file, 45, MANY_FRONT);
+    ends(&rt, alloc, &file, 2347, "FF91 0004 00FB 00 FF92 FFD9");
+    equal(&rt, seen(&rt, alloc, &file, 0, 128), ((0, 0, 64, 64), true));
 }
 
 #[test]
-fn precinct_without_blocks(rt: HostRuntime) -> Result<(), Fail> {
+fn precinct_without_blocks(rt: HostRuntime) {
     let alloc = rt.alloc();
-    let given = parameters(alloc, 1, &[(2, 2), (2, 2)])?;
-    let file = file_of(alloc, grey((0, 0), (5, 5)), &given)?;
+    let given = parameters(&rt, alloc, 1, &[(2, 2), (2, 2)]);
+    let file = file_of(&rt, alloc, grey((0, 0), (5, 5)), &given);
     let part = "FF90 000A 0000 00000013 00 01 FF93 00 00 00 00 00 FFD9";
     equal(&rt, file.len(), 91);
-    ends(&rt, alloc, &file, 70, part)?;
-    equal(&rt, seen(alloc, &file, 0, 128), Ok(((0, 0, 5, 5), true)));
-    Ok(())
+    ends(&rt, alloc, &file, 70, part);
+    equal(&rt, seen(&rt, alloc, &file, 0, 128), ((0, 0, 5, 5), true));
 }
 
 /// One sample at an odd column: resolution 0 has none, and no packet.
 #[test]
-fn empty_resolution(rt: HostRuntime) -> Result<(), Fail> {
+fn empty_resolution(rt: HostRuntime) {
     let alloc = rt.alloc();
-    let file = file_of(alloc, grey((1, 0), (1, 1)), &plain(alloc, 1))?;
+    let file = file_of(&rt, alloc, grey((1, 0), (1, 1)), &plain(alloc, 1));
     let part = "FF90 000A 0000 0000000F 00 01 FF93 00 FFD9";
     equal(&rt, file.len(), 85);
-    ends(&rt, alloc, &file, 68, part)?;
-    equal(&rt, seen(alloc, &file, 0, 128), Ok(((1, 0, 1, 1), true)));
+    ends(&rt, alloc, &file, 68, part);
+    equal(&rt, seen(&rt, alloc, &file, 0, 128), ((1, 0, 1, 1), true));
     equal(&rt, refusal(alloc, &file, 1), Some(Fault::BadWindow));
-    Ok(())
 }
 
 /// The first four of nine tiles' parts.
@@ -150,28 +149,27 @@ static NINE: &str =
     "FF90 000A 0000 00000011 00 01 FF93 00 00 00 FF90 000A 0001 00000012 00 01 FF93 00 00 00 00 FF90 000A 0002 00000010 00 01 FF93 00 00 FF90 000A 0003 00000014 00 01 FF93 00 00 00 00 00 00";
 
 /// Nine tiles with odd corners, in an order.
-fn nine_in(rt: &impl Abort, alloc: Global, order: Order) -> Result<(), Fail> {
-    let mut given = parameters(alloc, 1, &[(1, 1), (2, 2)])?;
+fn nine_in(rt: &impl Abort, alloc: Global, order: Order) {
+    let mut given = parameters(rt, alloc, 1, &[(1, 1), (2, 2)]);
     given.tile = Some((8, 8));
     given.order = order;
-    let file = file_of(alloc, grey((3, 5), (17, 13)), &given)?;
+    let file = file_of(rt, alloc, grey((3, 5), (17, 13)), &given);
     equal_at(rt, order, file.len(), 234);
-    stands(rt, alloc, &file, 70, NINE)?;
-    let whole = seen(alloc, &file, 0, 128);
-    equal_at(rt, order, whole, Ok(((3, 5, 17, 13), true)));
-    let half = seen(alloc, &file, 1, 128);
-    equal_at(rt, order, half, Ok(((2, 3, 8, 6), true)));
+    stands(rt, alloc, &file, 70, NINE);
+    let whole = seen(rt, alloc, &file, 0, 128);
+    equal_at(rt, order, whole, ((3, 5, 17, 13), true));
+    let half = seen(rt, alloc, &file, 1, 128);
+    equal_at(rt, order, half, ((2, 3, 8, 6), true));
     equal_at(rt, order, refusal(alloc, &file, 2), Some(Fault::BadWindow));
-    Ok(())
 }
 
 #[test]
-fn nine_tiles(rt: HostRuntime) -> Result<(), Fail> {
-    nine_in(&rt, rt.alloc(), Order::Lrcp)?;
-    nine_in(&rt, rt.alloc(), Order::Rlcp)?;
-    nine_in(&rt, rt.alloc(), Order::Rpcl)?;
-    nine_in(&rt, rt.alloc(), Order::Pcrl)?;
-    nine_in(&rt, rt.alloc(), Order::Cprl)
+fn nine_tiles(rt: HostRuntime) {
+    nine_in(&rt, rt.alloc(), Order::Lrcp);
+    nine_in(&rt, rt.alloc(), Order::Rlcp);
+    nine_in(&rt, rt.alloc(), Order::Rpcl);
+    nine_in(&rt, rt.alloc(), Order::Pcrl);
+    nine_in(&rt, rt.alloc(), Order::Cprl);
 }
 
 /// Components, depths, signs and levels.
@@ -215,23 +213,22 @@ fn odd_parameters(alloc: Global, kind: Kind) -> Parameters {
 }
 
 /// The components, depth and sign that a file means.
-fn form(alloc: Global, file: &[u8]) -> Result<(usize, u8, bool), Fault> {
-    let image = decode(alloc, file, 0)?;
-    Ok((image.planes().len(), image.depth(), image.signed()))
+fn form(rt: &impl Abort, alloc: Global, file: &[u8]) -> (usize, u8, bool) {
+    let image = decode(rt, alloc, file, 0);
+    (image.planes().len(), image.depth(), image.signed())
 }
 
 /// How long the file of a kind is, and what its reductions are.
-fn has_length(rt: &impl Abort, alloc: Global, kind: Kind, length: usize) -> Result<(), Fail> {
+fn has_length(rt: &impl Abort, alloc: Global, kind: Kind, length: usize) {
     let even = odd_image(kind);
-    let file = file_of(alloc, even, &odd_parameters(alloc, kind))?;
+    let file = file_of(rt, alloc, even, &odd_parameters(alloc, kind));
     equal(rt, file.len(), length);
-    let whole = seen(alloc, &file, 0, even.sample);
-    equal_at(rt, length, whole, Ok(((7, 9, 33, 21), true)));
+    let whole = seen(rt, alloc, &file, 0, even.sample);
+    equal_at(rt, length, whole, ((7, 9, 33, 21), true));
     let due = (kind.components, kind.depth, kind.signed);
-    equal_at(rt, length, form(alloc, &file), Ok(due));
-    let half = seen(alloc, &file, 1, even.sample);
-    equal_at(rt, length, half, Ok(((4, 5, 16, 10), true)));
-    Ok(())
+    equal_at(rt, length, form(rt, alloc, &file), due);
+    let half = seen(rt, alloc, &file, 1, even.sample);
+    equal_at(rt, length, half, ((4, 5, 16, 10), true));
 }
 
 /// Kinds, and how long their files are.
@@ -283,11 +280,10 @@ static KINDS: [(Kind, usize); 4] = [
 ];
 
 #[test]
-fn components_and_depths(rt: HostRuntime) -> Result<(), Fail> {
+fn components_and_depths(rt: HostRuntime) {
     for (kind, length) in &KINDS {
-        has_length(&rt, rt.alloc(), *kind, *length)?;
+        has_length(&rt, rt.alloc(), *kind, *length);
     }
-    Ok(())
 }
 
 /// The parts of a codestream around its width, twice, which has as many packets as its image has
@@ -299,28 +295,27 @@ static WIDE: [&str; 3] = [
 ];
 
 /// The fault of a codestream of this width.
-fn refused_at(alloc: Global, width: &str) -> Result<Option<Fault>, Fail> {
-    let file = bytes_of(alloc, &[WIDE[0], width, WIDE[1], width, WIDE[2]])?;
-    Ok(refusal(alloc, &file, 0))
+fn refused_at(rt: &impl Abort, alloc: Global, width: &str) -> Option<Fault> {
+    let file = bytes(rt, alloc, &[WIDE[0], width, WIDE[1], width, WIDE[2]]);
+    refusal(alloc, &file, 0)
 }
 
 /// Whether an image with this side is encoded with precincts of one sample and 32 layers.
-fn checked(alloc: Global, side: u32) -> Result<Result<(), Fault>, Fail> {
-    let mut many = parameters(alloc, 0, &[(0, 0)])?;
+fn checked(rt: &impl Abort, alloc: Global, side: u32) -> Result<(), Fault> {
+    let mut many = parameters(rt, alloc, 0, &[(0, 0)]);
     many.layers = 32;
-    let image = image_of(alloc, grey((0, 0), (side, side)))?;
-    Ok(many.check(&image))
+    let image = image_of(rt, alloc, grey((0, 0), (side, side)));
+    many.check(&image)
 }
 
 /// One packet too many, by the main header's codings, in a file and in parameters.
 #[test]
-fn count_of_packets(rt: HostRuntime) -> Result<(), Fail> {
+fn count_of_packets(rt: HostRuntime) {
     let alloc = rt.alloc();
-    let most = refused_at(alloc, "1000")?;
+    let most = refused_at(&rt, alloc, "1000");
     equal(&rt, most, Some(Fault::MissingPackets));
-    let over = refused_at(alloc, "1001")?;
+    let over = refused_at(&rt, alloc, "1001");
     equal(&rt, over, Some(Fault::Limit));
-    equal(&rt, checked(alloc, 724)?, Ok(()));
-    equal(&rt, checked(alloc, 725)?, Err(Fault::BadParameters));
-    Ok(())
+    equal(&rt, checked(&rt, alloc, 724), Ok(()));
+    equal(&rt, checked(&rt, alloc, 725), Err(Fault::BadParameters));
 }

@@ -3,14 +3,13 @@
 
 use crate::asserts::equal;
 use crate::header_cases::{PART, PART_CASES, PLAIN, PLAIN_CASES, RICH, RICH_CASES};
-use crate::texts::changed;
+use crate::texts::{bytes, changed};
 use jk_geom::tile_count;
 use jk_marks::{Main, read_main, read_tile_part};
 use jk_math::Fault;
 use std::alloc::Global;
 use std::process::Abort;
-use std::test::Fail;
-use vectors::{Line, bytes_of, equal_at};
+use vectors::{Line, equal_at};
 
 /// The fault of a number.
 fn fault_of(number: u8) -> Option<Fault> {
@@ -45,7 +44,7 @@ struct Case {
 }
 
 /// Reads a case of a header.
-fn case_of(rt: &impl Abort, alloc: Global, header: &str, line: &str) -> Result<Case, Fail> {
+fn case_of(rt: &impl Abort, alloc: Global, header: &str, line: &str) -> Case {
     let mut fields = Line::new(line, ' ');
     let place = fields.number(0, 255);
     let byte = fields.number(0, 255);
@@ -53,74 +52,69 @@ fn case_of(rt: &impl Abort, alloc: Global, header: &str, line: &str) -> Result<C
     let first = fields.number(0, 255) as usize;
     let second = fields.number(0, 255) as usize;
     fields.end().expect(rt, "a case");
-    let bytes = changed(alloc, &[header], place as usize, byte as u8)?;
-    Ok(Case {
+    let bytes = changed(rt, alloc, &[header], place as usize, byte as u8);
+    Case {
         place,
         byte,
         bytes,
         fault,
         first,
         second,
-    })
+    }
 }
 
 /// Reads a main header with a byte changed.
-fn judge_main(rt: &impl Abort, alloc: Global, text: &str, line: &str) -> Result<(), Fail> {
-    let case = case_of(rt, alloc, text, line)?;
+fn judge_main(rt: &impl Abort, alloc: Global, text: &str, line: &str) {
+    let case = case_of(rt, alloc, text, line);
     let found = main_answer(&case.bytes);
     equal_at((case.place, case.byte), found, (case.first, case.fault)).expect(rt, "a header");
-    Ok(())
 }
 
 /// The main header of RICH, and its number of tiles.
-fn rich(alloc: Global) -> Result<(Main, u32), Fail> {
-    let (main, _) = read_main(&bytes_of(alloc, &[RICH])?)?;
+fn rich(rt: &impl Abort, alloc: Global) -> (Main, u32) {
+    let (main, _) = read_main(&bytes(rt, alloc, &[RICH])).expect(rt, "an answer");
     let tiles = tile_count(&main.siz);
-    Ok((main, tiles))
+    (main, tiles)
 }
 
 /// Where the data of a tile-part behind RICH begin and end, or its fault.
-fn part_answer(alloc: Global, part: &[u8]) -> Result<(usize, usize, Option<Fault>), Fail> {
-    let header = bytes_of(alloc, &[RICH])?;
-    let (main, _) = read_main(&header)?;
-    let seen = vec![in alloc; 0u16; tile_count(&main.siz) as usize]?;
-    Ok(match read_tile_part(part, &main, &seen) {
+fn part_answer(rt: &impl Abort, alloc: Global, part: &[u8]) -> (usize, usize, Option<Fault>) {
+    let header = bytes(rt, alloc, &[RICH]);
+    let (main, _) = read_main(&header).expect(rt, "an answer");
+    let seen = vec![in alloc; 0u16; tile_count(&main.siz) as usize].expect(rt, "an answer");
+    match read_tile_part(part, &main, &seen) {
         Ok(part) => (part.start, part.end, None),
         Err(fault) => (0, 0, Some(fault)),
-    })
+    }
 }
 
 /// Reads the tile-part with a byte changed.
-fn judge_part(rt: &impl Abort, alloc: Global, line: &str) -> Result<(), Fail> {
-    let case = case_of(rt, alloc, PART, line)?;
-    let found = part_answer(alloc, &case.bytes)?;
+fn judge_part(rt: &impl Abort, alloc: Global, line: &str) {
+    let case = case_of(rt, alloc, PART, line);
+    let found = part_answer(rt, alloc, &case.bytes);
     let wanted = (case.first, case.second, case.fault);
     equal_at((case.place, case.byte), found, wanted).expect(rt, "a tile-part");
-    Ok(())
 }
 
 #[test]
-fn plain_headers(rt: HostRuntime) -> Result<(), Fail> {
+fn plain_headers(rt: HostRuntime) {
     for line in PLAIN_CASES.lines() {
-        judge_main(&rt, rt.alloc(), PLAIN, line)?;
+        judge_main(&rt, rt.alloc(), PLAIN, line);
     }
-    Ok(())
 }
 
 #[test]
-fn rich_headers(rt: HostRuntime) -> Result<(), Fail> {
+fn rich_headers(rt: HostRuntime) {
     for line in RICH_CASES.lines() {
-        judge_main(&rt, rt.alloc(), RICH, line)?;
+        judge_main(&rt, rt.alloc(), RICH, line);
     }
-    Ok(())
 }
 
 #[test]
-fn tile_parts(rt: HostRuntime) -> Result<(), Fail> {
+fn tile_parts(rt: HostRuntime) {
     for line in PART_CASES.lines() {
-        judge_part(&rt, rt.alloc(), line)?;
+        judge_part(&rt, rt.alloc(), line);
     }
-    Ok(())
 }
 
 /// Where the image of a main header ends and begins, and its components, their depth and sign.
@@ -159,11 +153,11 @@ fn own(main: &Main) -> ([bool; 3], [bool; 3]) {
 }
 
 /// The levels and code-blocks of component 1, and the guard bits and number of sub-bands of
-/// component 2.
-fn others(main: &Main) -> Result<((u8, u8, u8), (u8, usize)), Fail> {
-    let own = main.coc[1].as_ref().ok_or("a coding style")?;
-    let steps = main.qcc[2].as_ref().ok_or("a quantization")?;
-    Ok((
+/// component 2, where these have a coding style and a quantization of their own.
+fn others(main: &Main) -> Option<((u8, u8, u8), (u8, usize))> {
+    let own = main.coc[1].as_ref()?;
+    let steps = main.qcc[2].as_ref()?;
+    Some((
         (own.levels, own.xcb, own.ycb),
         (steps.guard, steps.exponents.len()),
     ))
@@ -171,8 +165,8 @@ fn others(main: &Main) -> Result<((u8, u8, u8), (u8, usize)), Fail> {
 
 /// What is kept of the headers as they stand.
 #[test]
-fn kept(rt: HostRuntime) -> Result<(), Fail> {
-    let (main, tiles) = rich(rt.alloc())?;
+fn kept(rt: HostRuntime) {
+    let (main, tiles) = rich(&rt, rt.alloc());
     equal(&rt, tiles, 9);
     equal(&rt, sizes(&main), ((320, 240, 16, 8), (3, 12, false)));
     equal(&rt, style(&main), ((true, true, true, 3), (2, 6, 5)));
@@ -186,6 +180,5 @@ fn kept(rt: HostRuntime) -> Result<(), Fail> {
         own(&main),
         ([false, true, false], [false, false, true]),
     );
-    equal(&rt, others(&main)?, ((1, 5, 5), (2, 7)));
-    Ok(())
+    equal(&rt, others(&main), Some(((1, 5, 5), (2, 7))));
 }

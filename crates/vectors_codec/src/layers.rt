@@ -2,12 +2,10 @@
 
 use crate::asserts::{equal, equal_at};
 use crate::calls::{decode, decode_pnm, refusal};
-use crate::texts::{changed, pnm_of};
+use crate::texts::{bytes, changed, pnm_of};
 use jk_math::{Fault, Image};
 use std::alloc::Global;
 use std::process::Abort;
-use std::test::Fail;
-use vectors::bytes_of;
 
 /// A codestream of OpenJPEG 2.5: 13 by 9 samples at (3,5) in colour, tiles 11 wide, three layers,
 /// precincts of 8 and 4, two levels, RPCL, a tile-part for each resolution.
@@ -78,38 +76,30 @@ fn samples(image: &Image, component: usize) -> &[i32] {
 }
 
 /// The colour file means these samples at a reduction.
-fn means(
-    rt: &impl Abort,
-    alloc: Global,
-    reduce: u32,
-    header: &str,
-    samples: &str,
-) -> Result<(), Fail> {
-    let file = bytes_of(alloc, &[COLOUR])?;
-    let wanted = pnm_of(alloc, header, &bytes_of(alloc, &[samples])?)?;
-    let text = decode_pnm(alloc, &file, reduce)?;
+fn means(rt: &impl Abort, alloc: Global, reduce: u32, header: &str, samples: &str) {
+    let file = bytes(rt, alloc, &[COLOUR]);
+    let wanted = pnm_of(rt, alloc, header, &bytes(rt, alloc, &[samples]));
+    let text = decode_pnm(rt, alloc, &file, reduce);
     equal_at(rt, reduce, text.as_slice(), wanted.as_slice());
-    Ok(())
 }
 
 #[test]
-fn colour_of_another_encoder(rt: HostRuntime) -> Result<(), Fail> {
+fn colour_of_another_encoder(rt: HostRuntime) {
     let alloc = rt.alloc();
-    means(&rt, alloc, 0, "P6\n13 9\n255\n", WHOLE)?;
-    means(&rt, alloc, 1, "P6\n6 4\n255\n", HALF)?;
-    means(&rt, alloc, 2, "P6\n3 2\n255\n", QUARTER)
+    means(&rt, alloc, 0, "P6\n13 9\n255\n", WHOLE);
+    means(&rt, alloc, 1, "P6\n6 4\n255\n", HALF);
+    means(&rt, alloc, 2, "P6\n3 2\n255\n", QUARTER);
 }
 
 #[test]
-fn refused_colour(rt: HostRuntime) -> Result<(), Fail> {
+fn refused_colour(rt: HostRuntime) {
     let alloc = rt.alloc();
-    let file = bytes_of(alloc, &[COLOUR])?;
+    let file = bytes(&rt, alloc, &[COLOUR]);
     equal(&rt, file.len(), 759);
     equal(&rt, refusal(alloc, &file, 3), Some(Fault::BadWindow));
     // A packet's header that gives a code-block more passes than its bit-planes have.
-    let damaged = changed(alloc, &[COLOUR], 135, 0x47)?;
+    let damaged = changed(&rt, alloc, &[COLOUR], 135, 0x47);
     equal(&rt, refusal(alloc, &damaged, 0), Some(Fault::TooManyPasses));
-    Ok(())
 }
 
 /// The samples of the first component of the signed file.
@@ -141,15 +131,14 @@ fn has_samples(rt: &impl Abort, image: &Image, first: &[i32], second: &[i32]) {
 /// The samples are those that the file was made of, and at reduction 1 those of the plain reading
 /// of the standard.
 #[test]
-fn signed_layers(rt: HostRuntime) -> Result<(), Fail> {
+fn signed_layers(rt: HostRuntime) {
     let alloc = rt.alloc();
-    let file = bytes_of(alloc, &[SIGNED])?;
-    let image = decode(alloc, &file, 0)?;
+    let file = bytes(&rt, alloc, &[SIGNED]);
+    let image = decode(&rt, alloc, &file, 0);
     equal(&rt, (image.x0(), image.y0()), (1, 2));
     has_samples(&rt, &image, &FIRST, &SECOND);
-    let half = decode(alloc, &file, 1)?;
+    let half = decode(&rt, alloc, &file, 1);
     let frame = (half.x0(), half.y0(), half.width(), half.height());
     equal(&rt, frame, (1, 1, 3, 3));
     has_samples(&rt, &half, &HALVES[0], &HALVES[1]);
-    Ok(())
 }

@@ -3,36 +3,32 @@
 use crate::asserts::{equal, equal_at};
 use crate::calls::{decode, decode_pnm, refusal};
 use crate::small::{Headers, file_of};
-use crate::texts::pnm_of;
+use crate::texts::{bytes, pnm_of};
 use jk_math::Fault;
 use std::alloc::Global;
 use std::process::Abort;
-use std::test::Fail;
-use vectors::bytes_of;
 
 /// Headers and tile-parts, a reduction, and the header and samples of the PNM file that is meant.
 type Meaning = (Headers, &'static str, u32, &'static str, &'static str);
 
 /// A file means these samples.
-fn means(rt: &impl Abort, alloc: Global, case: &Meaning) -> Result<(), Fail> {
+fn means(rt: &impl Abort, alloc: Global, case: &Meaning) {
     let (headers, parts, reduce, header, samples) = *case;
-    let file = file_of(alloc, headers, parts)?;
-    let text = decode_pnm(alloc, &file, reduce)?;
-    let wanted = pnm_of(alloc, header, &bytes_of(alloc, &[samples])?)?;
+    let file = file_of(rt, alloc, headers, parts);
+    let text = decode_pnm(rt, alloc, &file, reduce);
+    let wanted = pnm_of(rt, alloc, header, &bytes(rt, alloc, &[samples]));
     equal_at(rt, (reduce, parts), text.as_slice(), wanted.as_slice());
-    Ok(())
 }
 
 /// Headers and tile-parts, a reduction, and why they are refused.
 type Refusal = (Headers, &'static str, u32, Fault);
 
 /// A file is refused.
-fn refuses(rt: &impl Abort, alloc: Global, case: &Refusal) -> Result<(), Fail> {
+fn refuses(rt: &impl Abort, alloc: Global, case: &Refusal) {
     let (headers, parts, reduce, fault) = *case;
-    let file = file_of(alloc, headers, parts)?;
+    let file = file_of(rt, alloc, headers, parts);
     let found = refusal(alloc, &file, reduce);
     equal_at(rt, (reduce, parts), found, Some(fault));
-    Ok(())
 }
 
 static ONE_SAMPLE: [Meaning; 6] = [
@@ -81,11 +77,10 @@ static ONE_SAMPLE: [Meaning; 6] = [
 ];
 
 #[test]
-fn one_sample(rt: HostRuntime) -> Result<(), Fail> {
+fn one_sample(rt: HostRuntime) {
     for case in &ONE_SAMPLE {
-        means(&rt, rt.alloc(), case)?;
+        means(&rt, rt.alloc(), case);
     }
-    Ok(())
 }
 
 static OTHER_SEGMENTS: [Meaning; 3] = [
@@ -114,11 +109,10 @@ static OTHER_SEGMENTS: [Meaning; 3] = [
 
 /// A segment may end in bytes that the coder wouldn't write, and a block may have none.
 #[test]
-fn other_segments(rt: HostRuntime) -> Result<(), Fail> {
+fn other_segments(rt: HostRuntime) {
     for case in &OTHER_SEGMENTS {
-        means(&rt, rt.alloc(), case)?;
+        means(&rt, rt.alloc(), case);
     }
-    Ok(())
 }
 
 static ONE_LEVEL: [Meaning; 5] = [
@@ -160,11 +154,10 @@ static ONE_LEVEL: [Meaning; 5] = [
 ];
 
 #[test]
-fn one_level(rt: HostRuntime) -> Result<(), Fail> {
+fn one_level(rt: HostRuntime) {
     for case in &ONE_LEVEL {
-        means(&rt, rt.alloc(), case)?;
+        means(&rt, rt.alloc(), case);
     }
-    Ok(())
 }
 
 static BLOCKS_AND_PRECINCTS: [Meaning; 3] = [
@@ -192,11 +185,10 @@ static BLOCKS_AND_PRECINCTS: [Meaning; 3] = [
 ];
 
 #[test]
-fn blocks_and_precincts(rt: HostRuntime) -> Result<(), Fail> {
+fn blocks_and_precincts(rt: HostRuntime) {
     for case in &BLOCKS_AND_PRECINCTS {
-        means(&rt, rt.alloc(), case)?;
+        means(&rt, rt.alloc(), case);
     }
-    Ok(())
 }
 
 static STYLES: [Meaning; 3] = [
@@ -224,11 +216,10 @@ static STYLES: [Meaning; 3] = [
 ];
 
 #[test]
-fn styles(rt: HostRuntime) -> Result<(), Fail> {
+fn styles(rt: HostRuntime) {
     for case in &STYLES {
-        means(&rt, rt.alloc(), case)?;
+        means(&rt, rt.alloc(), case);
     }
-    Ok(())
 }
 
 static REFUSED_BLOCKS: [Refusal; 9] = [
@@ -289,11 +280,10 @@ static REFUSED_BLOCKS: [Refusal; 9] = [
 ];
 
 #[test]
-fn refused_blocks(rt: HostRuntime) -> Result<(), Fail> {
+fn refused_blocks(rt: HostRuntime) {
     for case in &REFUSED_BLOCKS {
-        refuses(&rt, rt.alloc(), case)?;
+        refuses(&rt, rt.alloc(), case);
     }
-    Ok(())
 }
 
 static REFUSED_TILES: [Refusal; 2] = [
@@ -313,11 +303,10 @@ static REFUSED_TILES: [Refusal; 2] = [
 
 /// The packets of all tiles are judged before the code-blocks of any.
 #[test]
-fn refused_tiles(rt: HostRuntime) -> Result<(), Fail> {
+fn refused_tiles(rt: HostRuntime) {
     for case in &REFUSED_TILES {
-        refuses(&rt, rt.alloc(), case)?;
+        refuses(&rt, rt.alloc(), case);
     }
-    Ok(())
 }
 
 static REFUSED_REDUCTIONS: [Refusal; 2] = [
@@ -336,32 +325,29 @@ static REFUSED_REDUCTIONS: [Refusal; 2] = [
 ];
 
 #[test]
-fn refused_reductions(rt: HostRuntime) -> Result<(), Fail> {
+fn refused_reductions(rt: HostRuntime) {
     for case in &REFUSED_REDUCTIONS {
-        refuses(&rt, rt.alloc(), case)?;
+        refuses(&rt, rt.alloc(), case);
     }
-    Ok(())
 }
 
 #[test]
-fn place(rt: HostRuntime) -> Result<(), Fail> {
+fn place(rt: HostRuntime) {
     let alloc = rt.alloc();
     let part = "FF90 000A 0000 00000012 00 01 FF93 C0 3A 08 03 FFD9";
-    let file = file_of(alloc, Headers::Moved, part)?;
-    let image = decode(alloc, &file, 0)?;
+    let file = file_of(&rt, alloc, Headers::Moved, part);
+    let image = decode(&rt, alloc, &file, 0);
     equal(&rt, (image.x0(), image.y0()), (1, 0));
-    Ok(())
 }
 
 /// No front of a file with a code-block is a file.
 #[test]
-fn fronts(rt: HostRuntime) -> Result<(), Fail> {
+fn fronts(rt: HostRuntime) {
     let alloc = rt.alloc();
     let part = "FF90 000A 0000 00000011 00 01 FF93 C0 21 03 FFD9";
-    let file = file_of(alloc, Headers::Pixel, part)?;
+    let file = file_of(&rt, alloc, Headers::Pixel, part);
     for length in 0..file.len() {
         let fault = refusal(alloc, &file[..length], 0);
         equal_at(&rt, length, fault, Some(Fault::Truncated));
     }
-    Ok(())
 }

@@ -7,17 +7,10 @@ use crate::pieces::{Piece, joined};
 use jk_math::Fault;
 use std::alloc::Global;
 use std::process::Abort;
-use std::test::Fail;
 
 /// How long the file of these pieces is.
-fn has_length(
-    rt: &impl Abort,
-    alloc: Global,
-    pieces: &[(Piece, usize)],
-    length: usize,
-) -> Result<(), Fail> {
-    equal(rt, joined(alloc, pieces)?.len(), length);
-    Ok(())
+fn has_length(rt: &impl Abort, alloc: Global, pieces: &[(Piece, usize)], length: usize) {
+    equal(rt, joined(rt, alloc, pieces).len(), length);
 }
 
 /// The file of these pieces means one sample throughout, in an image that lies there, with this
@@ -29,23 +22,15 @@ fn means(
     reduce: u32,
     frame: (u32, u32, u32, u32),
     sample: i32,
-) -> Result<(), Fail> {
-    let file = joined(alloc, pieces)?;
-    equal(rt, seen(alloc, &file, reduce, sample), Ok((frame, true)));
-    Ok(())
+) {
+    let file = joined(rt, alloc, pieces);
+    equal(rt, seen(rt, alloc, &file, reduce, sample), (frame, true));
 }
 
 /// The file of these pieces is refused.
-fn refused(
-    rt: &impl Abort,
-    alloc: Global,
-    pieces: &[(Piece, usize)],
-    reduce: u32,
-    fault: Fault,
-) -> Result<(), Fail> {
-    let file = joined(alloc, pieces)?;
+fn refused(rt: &impl Abort, alloc: Global, pieces: &[(Piece, usize)], reduce: u32, fault: Fault) {
+    let file = joined(rt, alloc, pieces);
     equal(rt, refusal(alloc, &file, reduce), Some(fault));
-    Ok(())
 }
 
 /// Two layers in two tile-parts.
@@ -77,14 +62,14 @@ static FULL: [(Piece, usize); 3] = [(Piece::Page, 1), (Piece::Passed, 1), (Piece
 /// Two layers in two tile-parts, in their order and the other way round; and every segment with a
 /// length.
 #[test]
-fn parts_and_segments(rt: HostRuntime) -> Result<(), Fail> {
+fn parts_and_segments(rt: HostRuntime) {
     let alloc = rt.alloc();
-    has_length(&rt, alloc, &LAYERED, 97)?;
-    means(&rt, alloc, &LAYERED, 0, (0, 0, 1, 1), 128)?;
-    refused(&rt, alloc, &LAYERED_TURNED, 0, Fault::BadValue)?;
-    refused(&rt, alloc, &LAYERED_SHORT, 0, Fault::MissingPackets)?;
-    has_length(&rt, alloc, &FULL, 113)?;
-    means(&rt, alloc, &FULL, 0, (0, 0, 1, 1), 128)
+    has_length(&rt, alloc, &LAYERED, 97);
+    means(&rt, alloc, &LAYERED, 0, (0, 0, 1, 1), 128);
+    refused(&rt, alloc, &LAYERED_TURNED, 0, Fault::BadValue);
+    refused(&rt, alloc, &LAYERED_SHORT, 0, Fault::MissingPackets);
+    has_length(&rt, alloc, &FULL, 113);
+    means(&rt, alloc, &FULL, 0, (0, 0, 1, 1), 128);
 }
 
 /// Every kind of segment in an unusual order, in the main header and in those of two tiles whose
@@ -122,13 +107,13 @@ static MIXED_LATE: [(Piece, usize); 4] = [
 ];
 
 #[test]
-fn mixed_parts(rt: HostRuntime) -> Result<(), Fail> {
+fn mixed_parts(rt: HostRuntime) {
     let alloc = rt.alloc();
-    has_length(&rt, alloc, &MIXED, 419)?;
-    means(&rt, alloc, &MIXED, 0, (3, 2, 16, 11), 2048)?;
-    means(&rt, alloc, &MIXED, 1, (2, 1, 8, 6), 2048)?;
+    has_length(&rt, alloc, &MIXED, 419);
+    means(&rt, alloc, &MIXED, 0, (3, 2, 16, 11), 2048);
+    means(&rt, alloc, &MIXED, 1, (2, 1, 8, 6), 2048);
     // Component 1 of tile 0 has one decomposition level.
-    refused(&rt, alloc, &MIXED, 2, Fault::BadWindow)?;
-    refused(&rt, alloc, &MIXED_SHORT, 0, Fault::MissingPackets)?;
-    refused(&rt, alloc, &MIXED_LATE, 0, Fault::BadValue)
+    refused(&rt, alloc, &MIXED, 2, Fault::BadWindow);
+    refused(&rt, alloc, &MIXED_SHORT, 0, Fault::MissingPackets);
+    refused(&rt, alloc, &MIXED_LATE, 0, Fault::BadValue);
 }

@@ -1,14 +1,12 @@
 //! Files of one packet, as they are written and read.
 
 use crate::asserts::{equal, equal_at};
-use crate::calls::{self, decode, decode_pnm, encode_pnm, plain, refusal};
-use crate::texts::{MAIN, changed, even_pnm};
+use crate::calls::{self, decode, decode_pnm, encode_pnm, encode_refusal, plain, refusal};
+use crate::texts::{MAIN, bytes, changed, even_pnm};
 use jk_math::Fault;
 use jk_params::{Container, Parameters, read_codestream};
 use std::alloc::Global;
 use std::process::Abort;
-use std::test::Fail;
-use vectors::bytes_of;
 
 /// The PGM file of one grey pixel.
 static PIXEL: &[u8] = b"P5\n1 1\n255\n\x80";
@@ -17,44 +15,41 @@ static PIXEL: &[u8] = b"P5\n1 1\n255\n\x80";
 static PART: &str = "FF90 000A 0000 0000000F 00 01 FF93 00 FFD9";
 
 #[test]
-fn one_pixel(rt: HostRuntime) -> Result<(), Fail> {
+fn one_pixel(rt: HostRuntime) {
     let alloc = rt.alloc();
-    let file = encode_pnm(alloc, PIXEL, &plain(alloc, 0))?;
-    let wanted = bytes_of(alloc, &[MAIN, PART])?;
+    let file = encode_pnm(&rt, alloc, PIXEL, &plain(alloc, 0));
+    let wanted = bytes(&rt, alloc, &[MAIN, PART]);
     equal(&rt, wanted.len(), 82);
     equal(&rt, file.as_slice(), wanted.as_slice());
-    equal(&rt, decode_pnm(alloc, &file, 0)?.as_slice(), PIXEL);
-    Ok(())
+    equal(&rt, decode_pnm(&rt, alloc, &file, 0).as_slice(), PIXEL);
 }
 
 /// The width and height of the image of a PGM file.
-fn size_of(alloc: Global, pgm: &[u8]) -> Result<(u32, u32), Fault> {
-    let image = calls::read(alloc, pgm)?;
-    Ok((image.width(), image.height()))
+fn size_of(rt: &impl Abort, alloc: Global, pgm: &[u8]) -> (u32, u32) {
+    let image = calls::read(rt, alloc, pgm);
+    (image.width(), image.height())
 }
 
 /// The headers of the file of a whole page.
-fn page_headers(rt: &impl Abort, alloc: Global, file: &[u8]) -> Result<(), Fail> {
-    let headers = read_codestream(alloc, file)?;
+fn page_headers(rt: &impl Abort, alloc: Global, file: &[u8]) {
+    let headers = read_codestream(alloc, file).expect(rt, "an answer");
     equal(rt, (headers.siz().x1, headers.siz().y1), (300, 200));
     assert_eq!(rt; headers.tile_count(), 1);
     equal(rt, headers.data_places(0), [(79, 80)].as_slice());
     equal(rt, headers.cod(0).layers, 1);
     equal(rt, headers.codings(0).as_slice().len(), 1);
-    Ok(())
 }
 
 #[test]
-fn whole_page(rt: HostRuntime) -> Result<(), Fail> {
+fn whole_page(rt: HostRuntime) {
     let alloc = rt.alloc();
-    let pgm = even_pnm(alloc, "P5\n300 200\n255\n", 60_000, 128)?;
-    equal(&rt, size_of(alloc, &pgm), Ok((300, 200)));
-    let file = encode_pnm(alloc, &pgm, &plain(alloc, 0))?;
+    let pgm = even_pnm(&rt, alloc, "P5\n300 200\n255\n", 60_000, 128);
+    equal(&rt, size_of(&rt, alloc, &pgm), (300, 200));
+    let file = encode_pnm(&rt, alloc, &pgm, &plain(alloc, 0));
     equal(&rt, file.len(), 82);
-    page_headers(&rt, alloc, &file)?;
-    let again = decode_pnm(alloc, &file, 0)?;
+    page_headers(&rt, alloc, &file);
+    let again = decode_pnm(&rt, alloc, &file, 0);
     equal(&rt, again.as_slice() == pgm.as_slice(), true);
-    Ok(())
 }
 
 /// Other tile-parts of one grey pixel; the packet of the last isn't empty and includes no
@@ -67,15 +62,14 @@ static OTHERS: [&str; 4] = [
 ];
 
 #[test]
-fn other_files(rt: HostRuntime) -> Result<(), Fail> {
+fn other_files(rt: HostRuntime) {
     let alloc = rt.alloc();
     for part in &OTHERS {
-        let file = bytes_of(alloc, &[MAIN, part])?;
-        let pgm = decode_pnm(alloc, &file, 0)?;
+        let file = bytes(&rt, alloc, &[MAIN, part]);
+        let pgm = decode_pnm(&rt, alloc, &file, 0);
         equal_at(&rt, *part, pgm.as_slice(), PIXEL);
         equal_at(&rt, *part, refusal(alloc, &file, 1), Some(Fault::BadWindow));
     }
-    Ok(())
 }
 
 /// Tile-parts that are refused.
@@ -120,25 +114,23 @@ static REFUSED: [(&str, Fault); 10] = [
 ];
 
 #[test]
-fn refused_files(rt: HostRuntime) -> Result<(), Fail> {
+fn refused_files(rt: HostRuntime) {
     let alloc = rt.alloc();
     for (part, fault) in &REFUSED {
-        let file = bytes_of(alloc, &[MAIN, part])?;
+        let file = bytes(&rt, alloc, &[MAIN, part]);
         equal_at(&rt, *part, refusal(alloc, &file, 0), Some(*fault));
     }
-    Ok(())
 }
 
 /// No front of a file but the whole is a file.
 #[test]
-fn fronts(rt: HostRuntime) -> Result<(), Fail> {
+fn fronts(rt: HostRuntime) {
     let alloc = rt.alloc();
-    let file = bytes_of(alloc, &[MAIN, PART])?;
+    let file = bytes(&rt, alloc, &[MAIN, PART]);
     for length in 0..file.len() {
         let fault = refusal(alloc, &file[..length], 0);
         equal_at(&rt, length, fault, Some(Fault::Truncated));
     }
-    Ok(())
 }
 
 /// A tile-part with a comment and the lengths of packets.
@@ -147,17 +139,16 @@ static LONG_PART: &str =
 
 /// A page whose main header has segments that are passed over.
 #[test]
-fn passed_segments(rt: HostRuntime) -> Result<(), Fail> {
+fn passed_segments(rt: HostRuntime) {
     let alloc = rt.alloc();
-    let file = bytes_of(alloc, &[MAIN, "FF30 FF6F 0003 00", PART])?;
+    let file = bytes(&rt, alloc, &[MAIN, "FF30 FF6F 0003 00", PART]);
     equal(&rt, file.len(), 89);
-    equal(&rt, decode_pnm(alloc, &file, 0)?.as_slice(), PIXEL);
-    let short = bytes_of(alloc, &[MAIN, "FF30 FF6F 0001 00", PART])?;
+    equal(&rt, decode_pnm(&rt, alloc, &file, 0).as_slice(), PIXEL);
+    let short = bytes(&rt, alloc, &[MAIN, "FF30 FF6F 0001 00", PART]);
     equal(&rt, refusal(alloc, &short, 0), Some(Fault::BadLength));
     let comment = "FF64 0006 0001 4142 FF55 0008 00 40 00000017";
-    let commented = bytes_of(alloc, &[MAIN, comment, LONG_PART])?;
+    let commented = bytes(&rt, alloc, &[MAIN, comment, LONG_PART]);
     equal(&rt, refusal(alloc, &commented, 0), None);
-    Ok(())
 }
 
 /// Main headers of which one number is another, and why they are refused. In the last one it is a
@@ -177,74 +168,66 @@ static REFUSED_HEADERS: [(usize, u8, Fault); 11] = [
 ];
 
 #[test]
-fn refused_headers(rt: HostRuntime) -> Result<(), Fail> {
+fn refused_headers(rt: HostRuntime) {
     let alloc = rt.alloc();
     for (place, byte, fault) in &REFUSED_HEADERS {
-        let file = changed(alloc, &[MAIN, PART], *place, *byte)?;
+        let file = changed(&rt, alloc, &[MAIN, PART], *place, *byte);
         equal_at(&rt, *place, refusal(alloc, &file, 0), Some(*fault));
     }
-    Ok(())
 }
 
 /// A page with a byte of its main header changed has one sample.
-fn one_sample(
-    rt: &impl Abort,
-    alloc: Global,
-    place: usize,
-    byte: u8,
-    sample: i32,
-) -> Result<(), Fail> {
-    let file = changed(alloc, &[MAIN, PART], place, byte)?;
-    let image = decode(alloc, &file, 0)?;
+fn one_sample(rt: &impl Abort, alloc: Global, place: usize, byte: u8, sample: i32) {
+    let file = changed(rt, alloc, &[MAIN, PART], place, byte);
+    let image = decode(rt, alloc, &file, 0);
     equal_at(rt, place, image.planes().plane(0), [sample].as_slice());
-    Ok(())
 }
 
 /// Signed samples, and a tile higher than the image.
 #[test]
-fn other_headers(rt: HostRuntime) -> Result<(), Fail> {
-    one_sample(&rt, rt.alloc(), 42, 0x87, 0)?;
-    one_sample(&rt, rt.alloc(), 31, 2, 128)
+fn other_headers(rt: HostRuntime) {
+    one_sample(&rt, rt.alloc(), 42, 0x87, 0);
+    one_sample(&rt, rt.alloc(), 31, 2, 128);
 }
 
 /// Whether an image of two grey samples is encoded with these.
-fn checked(alloc: Global, given: Parameters) -> Result<(), Fault> {
-    given.check(&calls::read(alloc, b"P5\n2 1\n255\n\x80\x80")?)
+fn checked(rt: &impl Abort, alloc: Global, given: Parameters) -> Result<(), Fault> {
+    given.check(&calls::read(rt, alloc, b"P5\n2 1\n255\n\x80\x80"))
 }
 
 #[test]
-fn accepted_parameters(rt: HostRuntime) -> Result<(), Fail> {
+fn accepted_parameters(rt: HostRuntime) {
     let alloc = rt.alloc();
     let mut given = plain(alloc, 0);
-    given.precincts.push((0, 15))?;
+    given.precincts.push((0, 15)).expect(&rt, "an answer");
     given.container = Container::Jp2;
-    equal(&rt, checked(alloc, given), Ok(()));
+    equal(&rt, checked(&rt, alloc, given), Ok(()));
     let mut tiles = plain(alloc, 0);
     tiles.tile = Some((1, 1));
-    equal(&rt, checked(alloc, tiles), Ok(()));
-    Ok(())
+    equal(&rt, checked(&rt, alloc, tiles), Ok(()));
 }
 
 #[test]
 fn refused_parameters(rt: HostRuntime) {
     let alloc = rt.alloc();
     let bad = Err(Fault::BadParameters);
-    equal(&rt, checked(alloc, plain(alloc, 6)), bad);
-    let answer = encode_pnm(alloc, b"P5\n2 1\n255\n\x80\x80", &plain(alloc, 6));
-    equal(&rt, answer.err(), Some(Fault::BadParameters));
+    equal(&rt, checked(&rt, alloc, plain(alloc, 6)), bad);
+    let image = calls::read(&rt, alloc, b"P5\n2 1\n255\n\x80\x80");
+    let answer = encode_refusal(alloc, &image, &plain(alloc, 6));
+    equal(&rt, answer, Some(Fault::BadParameters));
     let mut colour = plain(alloc, 0);
     colour.colour = true;
-    equal(&rt, checked(alloc, colour), bad);
+    equal(&rt, checked(&rt, alloc, colour), bad);
     let mut wide = plain(alloc, 0);
     wide.xcb = 10;
     wide.ycb = 3;
-    equal(&rt, checked(alloc, wide), bad);
+    equal(&rt, checked(&rt, alloc, wide), bad);
     let mut none = plain(alloc, 0);
     none.layers = 0;
-    equal(&rt, checked(alloc, none), bad);
+    equal(&rt, checked(&rt, alloc, none), bad);
     let mut flat = plain(alloc, 0);
     flat.tile = Some((1, 0));
-    equal(&rt, checked(alloc, flat), bad);
+    equal(&rt, checked(&rt, alloc, flat), bad);
 }
 
 /// The boxes in front of the codestream of one grey pixel.
@@ -252,47 +235,43 @@ static BOXES: &str =
     "0000000C 6A502020 0D0A870A 00000014 66747970 6A703220 00000000 6A703220 0000002D 6A703268 00000016 69686472 00000001 00000001 0001 07 07 00 00 0000000F 636F6C72 01 00 00 00000011 0000005A 6A703263";
 
 #[test]
-fn boxed_page(rt: HostRuntime) -> Result<(), Fail> {
+fn boxed_page(rt: HostRuntime) {
     let alloc = rt.alloc();
     let mut boxed = plain(alloc, 0);
     boxed.container = Container::Jp2;
-    let file = encode_pnm(alloc, PIXEL, &boxed)?;
-    let wanted = bytes_of(alloc, &[BOXES, MAIN, PART])?;
+    let file = encode_pnm(&rt, alloc, PIXEL, &boxed);
+    let wanted = bytes(&rt, alloc, &[BOXES, MAIN, PART]);
     equal(&rt, wanted.len(), 167);
     equal(&rt, file.as_slice(), wanted.as_slice());
-    Ok(())
 }
 
 /// The file of one grey pixel with this behind the codestream has its sample.
-fn passes_over(rt: &impl Abort, alloc: Global, last: &str) -> Result<(), Fail> {
-    let file = bytes_of(alloc, &[BOXES, MAIN, PART, last])?;
-    let image = decode(alloc, &file, 0)?;
+fn passes_over(rt: &impl Abort, alloc: Global, last: &str) {
+    let file = bytes(rt, alloc, &[BOXES, MAIN, PART, last]);
+    let image = decode(rt, alloc, &file, 0);
     equal_at(rt, last, image.planes().plane(0), [128].as_slice());
-    Ok(())
 }
 
 /// The boxes are passed over, and so is one behind the codestream.
 #[test]
-fn boxes_passed_over(rt: HostRuntime) -> Result<(), Fail> {
-    passes_over(&rt, rt.alloc(), "")?;
-    passes_over(&rt, rt.alloc(), "00000009 66726565 00")
+fn boxes_passed_over(rt: HostRuntime) {
+    passes_over(&rt, rt.alloc(), "");
+    passes_over(&rt, rt.alloc(), "00000009 66726565 00");
 }
 
 #[test]
-fn another_signature(rt: HostRuntime) -> Result<(), Fail> {
+fn another_signature(rt: HostRuntime) {
     let alloc = rt.alloc();
-    let file = bytes_of(alloc, &["0000000C 6A502020 0D0B870A", MAIN, PART])?;
+    let file = bytes(&rt, alloc, &["0000000C 6A502020 0D0B870A", MAIN, PART]);
     equal(&rt, refusal(alloc, &file, 0), Some(Fault::BadBox));
-    Ok(())
 }
 
 /// A page that is placed elsewhere has the same PGM file.
 #[test]
-fn placed_page(rt: HostRuntime) -> Result<(), Fail> {
+fn placed_page(rt: HostRuntime) {
     let alloc = rt.alloc();
-    let image = calls::read(alloc, b"P5\n2 1\n255\nab")?;
+    let image = calls::read(&rt, alloc, b"P5\n2 1\n255\nab");
     equal(&rt, image.planes().plane(0), [97, 98].as_slice());
-    let text = calls::write(alloc, &image.place(1, 0)?)?;
+    let text = calls::write(&rt, alloc, &image.place(1, 0).expect(&rt, "an answer"));
     equal(&rt, text.as_slice(), b"P5\n2 1\n255\nab".as_slice());
-    Ok(())
 }

@@ -1,9 +1,8 @@
 //! Pieces of codestreams, by name: a test that names them isn't burdened with their texts.
 
-use crate::texts::MAIN;
+use crate::texts::{MAIN, add, bytes};
 use std::alloc::Global;
-use std::test::Fail;
-use vectors::bytes_of;
+use std::process::Abort;
 
 /// A piece of a codestream.
 #[derive(Clone, Copy)]
@@ -65,14 +64,19 @@ impl Piece {
     }
 }
 
-/// Pieces, each so often, as bytes.
-pub(crate) fn joined(alloc: Global, pieces: &[(Piece, usize)]) -> Result<Vec<u8>, Fail> {
-    let mut bytes = Vec::new(alloc);
-    for (piece, times) in pieces {
-        let text = bytes_of(alloc, &[piece.text()])?;
-        for _ in 0..*times {
-            bytes.extend_from_slice(&text)?;
-        }
+/// Adds a piece so often.
+fn add_piece(rt: &impl Abort, alloc: Global, file: &mut Vec<u8>, piece: Piece, times: usize) {
+    let text = bytes(rt, alloc, &[piece.text()]);
+    for _ in 0..times {
+        add(rt, file, &text);
     }
-    Ok(bytes)
+}
+
+/// Pieces, each so often, as bytes.
+pub(crate) fn joined(rt: &impl Abort, alloc: Global, pieces: &[(Piece, usize)]) -> Vec<u8> {
+    let mut file = Vec::new(alloc);
+    for (piece, times) in pieces {
+        add_piece(rt, alloc, &mut file, *piece, *times);
+    }
+    file
 }

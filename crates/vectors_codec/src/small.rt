@@ -1,9 +1,8 @@
 //! Small codestreams: their headers by name, and files of them.
 
-use crate::texts::MAIN;
+use crate::texts::{MAIN, add, bytes};
 use std::alloc::Global;
-use std::test::Fail;
-use vectors::bytes_of;
+use std::process::Abort;
 
 /// The headers of a small codestream, by name: a test that names them isn't burdened with their
 /// texts.
@@ -78,8 +77,8 @@ impl Headers {
 }
 
 /// The file of these headers and tile-parts.
-pub(crate) fn file_of(alloc: Global, headers: Headers, parts: &str) -> Result<Vec<u8>, Fail> {
-    let mut file = bytes_of(alloc, &[headers.text()])?;
-    file.extend_from_slice(&bytes_of(alloc, &[parts])?)?;
-    Ok(file)
+pub(crate) fn file_of(rt: &impl Abort, alloc: Global, headers: Headers, parts: &str) -> Vec<u8> {
+    let mut file = bytes(rt, alloc, &[headers.text()]);
+    add(rt, &mut file, &bytes(rt, alloc, &[parts]));
+    file
 }

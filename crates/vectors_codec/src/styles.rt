@@ -6,7 +6,6 @@ use crate::texts::pnm_of;
 use crate::written::{in_colour, in_tiles, measure, tiled_samples};
 use crate::written_with::two_blocks;
 use jk_marks::{Order, style_of};
-use std::test::Fail;
 
 /// The byte of a style (T.800 table A.19), and the length and the checksum of one colour in two
 /// code-blocks for each component, and of grey samples in nine tiles, as an independent encoder
@@ -24,19 +23,18 @@ static STYLED: [(u32, (usize, u32), (usize, u32)); 8] = [
 
 /// `measure` refuses a file that isn't read as each sample of its image.
 #[test]
-fn each_style_in_small_blocks(rt: HostRuntime) -> Result<(), Fail> {
+fn each_style_in_small_blocks(rt: HostRuntime) {
     let alloc = rt.alloc();
-    let colour = two_blocks(alloc)?;
-    let tiled = pnm_of(alloc, "P5\n17 13\n255\n", &tiled_samples(alloc)?)?;
+    let colour = two_blocks(&rt, alloc);
+    let tiled = pnm_of(&rt, alloc, "P5\n17 13\n255\n", &tiled_samples(&rt, alloc));
     for (byte, in_blocks, in_nine) in &STYLED {
         let mut asked = in_colour(alloc, 2);
         asked.style = style_of(*byte);
-        let found = measure(alloc, &colour, (0, 0), &asked)?;
+        let found = measure(&rt, alloc, &colour, (0, 0), &asked);
         equal_at(&rt, *byte, found, *in_blocks);
-        let mut asked = in_tiles(alloc, Order::Rpcl)?;
+        let mut asked = in_tiles(&rt, alloc, Order::Rpcl);
         asked.style = style_of(*byte);
-        let found = measure(alloc, &tiled, (3, 5), &asked)?;
+        let found = measure(&rt, alloc, &tiled, (3, 5), &asked);
         equal_at(&rt, *byte, found, *in_nine);
     }
-    Ok(())
 }

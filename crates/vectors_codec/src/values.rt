@@ -4,7 +4,6 @@ use crate::asserts::{equal, equal_at};
 use jk_math::{Fault, Image, Rect, ceil_div, floor_div, reflect, sample_range};
 use std::alloc::Global;
 use std::process::Abort;
-use std::test::Fail;
 
 /// Room for so many bytes, or what its refusal makes.
 fn room(alloc: Global, bytes: usize) -> Result<Vec<u8>, Fault> {
@@ -13,19 +12,19 @@ fn room(alloc: Global, bytes: usize) -> Result<Vec<u8>, Fault> {
 
 /// An image at (7, 5) of one or two planes: `columns` columns by 2 rows, each plane of six samples.
 fn small(
+    rt: &impl Abort,
     alloc: Global,
     columns: u32,
     depth: u8,
     signed: bool,
     count: usize,
-) -> Result<Result<Image, Fault>, Fail> {
+) -> Result<Image, Fault> {
     let mut planes = Vec::new(alloc);
     for _ in 0..count {
-        let mut plane = Vec::new(alloc);
-        plane.extend_from_slice(&[1, 2, 3, 4, 5, -8])?;
-        planes.push(plane)?;
+        let plane = Vec::from_slice(alloc, &[1, 2, 3, 4, 5, -8]).expect(rt, "samples");
+        planes.push(plane).expect(rt, "an answer");
     }
-    Ok(Image::new(7, 5, columns, 2, depth, signed, planes))
+    Image::new(7, 5, columns, 2, depth, signed, planes)
 }
 
 /// A dividend, a divisor, and the quotient, rounded down and up.
@@ -104,8 +103,8 @@ fn samples(image: &Image, component: usize) -> Option<usize> {
 }
 
 #[test]
-fn images(rt: HostRuntime) -> Result<(), Fail> {
-    let image = small(rt.alloc(), 3, 4, true, 2)??;
+fn images(rt: HostRuntime) {
+    let image = small(&rt, rt.alloc(), 3, 4, true, 2).expect(&rt, "an answer");
     equal(&rt, (image.x0(), image.y0()), (7, 5));
     equal(&rt, (image.width(), image.height()), (3, 2));
     equal(&rt, (image.depth(), image.signed()), (4, true));
@@ -114,17 +113,15 @@ fn images(rt: HostRuntime) -> Result<(), Fail> {
     equal(&rt, sample(&image, 1, 2, 1), Some(-8));
     equal(&rt, sample(&image, 0, 0, 1), Some(4));
     equal(&rt, samples(&image, 1), Some(6));
-    Ok(())
 }
 
 #[test]
-fn placed_images(rt: HostRuntime) -> Result<(), Fail> {
-    let image = small(rt.alloc(), 3, 4, true, 2)??;
-    let moved = image.place(2_147_483_644, 0)?;
+fn placed_images(rt: HostRuntime) {
+    let image = small(&rt, rt.alloc(), 3, 4, true, 2).expect(&rt, "an answer");
+    let moved = image.place(2_147_483_644, 0).expect(&rt, "an answer");
     equal(&rt, (moved.x0(), moved.y0()), (2_147_483_644, 0));
     let answer = moved.place(2_147_483_645, 0);
     equal(&rt, answer.err(), Some(Fault::BadParameters));
-    Ok(())
 }
 
 /// Columns, depth, sign and number of planes of images that are refused.
@@ -140,26 +137,27 @@ static REFUSED: [(u32, u8, bool, usize); 8] = [
 ];
 
 #[test]
-fn refused_images(rt: HostRuntime) -> Result<(), Fail> {
+fn refused_images(rt: HostRuntime) {
     for (columns, depth, signed, count) in &REFUSED {
-        let answer = small(rt.alloc(), *columns, *depth, *signed, *count)?;
+        let answer = small(&rt, rt.alloc(), *columns, *depth, *signed, *count);
         let case = (*columns, *depth, *count);
         equal_at(&rt, case, answer.err(), Some(Fault::BadParameters));
     }
-    Ok(())
 }
 
 /// What an image of 3 by 2 is refused for whose planes have these samples.
 fn refusal(
+    rt: &impl Abort,
     alloc: Global,
     (depth, signed): (u8, bool),
     planes: &[&[i32]],
-) -> Result<Option<Fault>, Fail> {
+) -> Option<Fault> {
     let mut given = Vec::new(alloc);
     for plane in planes {
-        given.push(Vec::from_slice(alloc, plane)?)?;
+        let plane = Vec::from_slice(alloc, plane).expect(rt, "samples");
+        given.push(plane).expect(rt, "a plane");
     }
-    Ok(Image::new(0, 0, 3, 2, depth, signed, given).err())
+    Image::new(0, 0, 3, 2, depth, signed, given).err()
 }
 
 /// A depth, whether samples have a sign, and planes of which the last one alone is wrong, where any
@@ -217,12 +215,11 @@ static PLANES: [(u8, bool, &[&[i32]], Option<Fault>); 16] = [
 ];
 
 #[test]
-fn planes_of_images(rt: HostRuntime) -> Result<(), Fail> {
+fn planes_of_images(rt: HostRuntime) {
     for (depth, signed, planes, due) in &PLANES {
-        let answer = refusal(rt.alloc(), (*depth, *signed), planes)?;
+        let answer = refusal(&rt, rt.alloc(), (*depth, *signed), planes);
         equal_at(&rt, (*depth, *signed, planes.len()), answer, *due);
     }
-    Ok(())
 }
 
 #[test]
@@ -240,10 +237,9 @@ fn ranges(rt: HostRuntime) {
 }
 
 /// What a fault prints.
-fn prints(rt: &impl Abort, alloc: Global, fault: Fault, text: &str) -> Result<(), Fail> {
-    let printed = fault.to_string(alloc)?;
+fn prints(rt: &impl Abort, alloc: Global, fault: Fault, text: &str) {
+    let printed = fault.to_string(alloc).expect(rt, "an answer");
     equal(rt, printed.as_str(), text);
-    Ok(())
 }
 
 /// Faults, and what they print.
@@ -272,15 +268,19 @@ static FAULTS: [(Fault, &str); 21] = [
 ];
 
 #[test]
-fn printed_faults(rt: HostRuntime) -> Result<(), Fail> {
+fn printed_faults(rt: HostRuntime) {
     for (fault, text) in &FAULTS {
-        prints(&rt, rt.alloc(), *fault, text)?;
+        prints(&rt, rt.alloc(), *fault, text);
     }
-    Ok(())
 }
 
 #[test]
-fn printed_refusal(rt: HostRuntime) -> Result<(), Fail> {
-    let refused = room(rt.alloc(), usize::MAX).err().ok_or("a refusal")?;
-    prints(&rt, rt.alloc(), refused, "F1 Memory")
+fn printed_refusal(rt: HostRuntime) {
+    let refused = room(rt.alloc(), usize::MAX).err();
+    prints(
+        &rt,
+        rt.alloc(),
+        refused.expect(&rt, "a refusal"),
+        "F1 Memory",
+    );
 }

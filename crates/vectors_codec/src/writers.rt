@@ -8,6 +8,7 @@ use jk_math::{Fault, Image};
 use jk_params::{Container, Parameters};
 use std::alloc::Global;
 use std::io::{self, ErrorKind, Write};
+use std::process::Abort;
 use std::test::Fail;
 
 /// Takes a byte a call, and so many in all. Then a call fails, or takes nothing.
@@ -92,13 +93,15 @@ fn parameters(alloc: Global, levels: u8, side: Option<u32>, container: Container
 }
 
 /// A grey image of so many columns and rows, whose samples differ.
-fn grey(alloc: Global, header: &str, area: usize) -> Result<Image, Fail> {
+fn grey(rt: &impl Abort, alloc: Global, header: &str, area: usize) -> Image {
     let mut pnm = Vec::new(alloc);
-    pnm.extend_from_slice(header.as_bytes())?;
+    pnm.extend_from_slice(header.as_bytes())
+        .expect(rt, "an answer");
     for i in 0..area {
-        pnm.push((i.wrapping_mul(37) % 251) as u8)?;
+        pnm.push((i.wrapping_mul(37) % 251) as u8)
+            .expect(rt, "an answer");
     }
-    Ok(calls::read(alloc, &pnm)?)
+    calls::read(rt, alloc, &pnm)
 }
 
 /// Where a writer takes so many bytes and then fails, or takes nothing, these stand there.
@@ -120,8 +123,14 @@ fn stops(
 
 /// What is written is the file, whole where there is room, and else its first bytes, at every so
 /// many lengths.
-fn check(alloc: Global, image: &Image, parameters: &Parameters, step: usize) -> Result<(), Fail> {
-    let file = encode(alloc, image, parameters)?;
+fn check(
+    rt: &impl Abort,
+    alloc: Global,
+    image: &Image,
+    parameters: &Parameters,
+    step: usize,
+) -> Result<(), Fail> {
+    let file = encode(rt, alloc, image, parameters);
     let (answer, bytes) = written(alloc, image, parameters, file.len(), true);
     if answer.is_err() || bytes.as_slice() != file.as_slice() {
         return Err("the file".into());
@@ -137,29 +146,29 @@ fn check(alloc: Global, image: &Image, parameters: &Parameters, step: usize) -> 
 #[test]
 fn one_tile(rt: HostRuntime) -> Result<(), Fail> {
     let alloc = rt.alloc();
-    let image = grey(alloc, "P5\n5 7\n255\n", 35)?;
+    let image = grey(&rt, alloc, "P5\n5 7\n255\n", 35);
     let bare = parameters(alloc, 1, None, Container::Raw);
-    check(alloc, &image, &bare, 1)?;
+    check(&rt, alloc, &image, &bare, 1)?;
     let boxed = parameters(alloc, 1, None, Container::Jp2);
-    check(alloc, &image, &boxed, 1)
+    check(&rt, alloc, &image, &boxed, 1)
 }
 
 #[test]
 fn several_tiles(rt: HostRuntime) -> Result<(), Fail> {
     let alloc = rt.alloc();
-    let image = grey(alloc, "P5\n5 7\n255\n", 35)?;
+    let image = grey(&rt, alloc, "P5\n5 7\n255\n", 35);
     let bare = parameters(alloc, 1, Some(3), Container::Raw);
-    check(alloc, &image, &bare, 1)?;
+    check(&rt, alloc, &image, &bare, 1)?;
     let boxed = parameters(alloc, 1, Some(3), Container::Jp2);
-    check(alloc, &image, &boxed, 1)
+    check(&rt, alloc, &image, &boxed, 1)
 }
 
 #[test]
 fn larger_tiles(rt: HostRuntime) -> Result<(), Fail> {
     let alloc = rt.alloc();
-    let wide = grey(alloc, "P5\n90 70\n255\n", 6300)?;
+    let wide = grey(&rt, alloc, "P5\n90 70\n255\n", 6300);
     let boxed = parameters(alloc, 2, Some(32), Container::Jp2);
-    check(alloc, &wide, &boxed, 701)
+    check(&rt, alloc, &wide, &boxed, 701)
 }
 
 /// Whether a file is written whole by a writer that refuses a call. Shelf is answered only where it
@@ -192,12 +201,13 @@ fn is_whole(
 
 /// At how many calls in turn a writer refused.
 fn refused(
+    rt: &impl Abort,
     alloc: Global,
     image: &Image,
     parameters: &Parameters,
     fails: bool,
 ) -> Result<u64, Fail> {
-    let file = encode(alloc, image, parameters)?;
+    let file = encode(rt, alloc, image, parameters);
     for call in 1..1000 {
         if is_whole(alloc, image, parameters, &file, (call, fails))? {
             return Ok(call.saturating_sub(1));
@@ -210,43 +220,40 @@ fn refused(
 #[test]
 fn at_each_call(rt: HostRuntime) -> Result<(), Fail> {
     let alloc = rt.alloc();
-    let image = grey(alloc, "P5\n5 7\n255\n", 35)?;
+    let image = grey(&rt, alloc, "P5\n5 7\n255\n", 35);
     for container in [Container::Raw, Container::Jp2] {
         let asked = parameters(alloc, 1, Some(3), container);
-        let failed = refused(alloc, &image, &asked, true)?;
+        let failed = refused(&rt, alloc, &image, &asked, true)?;
         equal(&rt, failed > 0, true);
-        equal(&rt, refused(alloc, &image, &asked, false)?, failed);
+        equal(&rt, refused(&rt, alloc, &image, &asked, false)?, failed);
     }
     Ok(())
 }
 
 #[test]
-fn a_known_file(rt: HostRuntime) -> Result<(), Fail> {
+fn a_known_file(rt: HostRuntime) {
     let alloc = rt.alloc();
-    let image = calls::read(alloc, b"P5\n1 1\n255\n\x81")?;
+    let image = calls::read(&rt, alloc, b"P5\n1 1\n255\n\x81");
     let part = "FF90 000A 0000 00000011 00 01 FF93 C0 21 03 FFD9";
-    let wanted = file_of(alloc, Headers::Pixel, part)?;
+    let wanted = file_of(&rt, alloc, Headers::Pixel, part);
     let (answer, bytes) = written(alloc, &image, &plain(alloc, 0), wanted.len(), true);
     equal(&rt, answer, Ok(()));
     equal(&rt, bytes.as_slice(), wanted.as_slice());
-    Ok(())
 }
 
 #[test]
-fn a_known_file_without_room(rt: HostRuntime) -> Result<(), Fail> {
+fn a_known_file_without_room(rt: HostRuntime) {
     let alloc = rt.alloc();
-    let image = calls::read(alloc, b"P5\n1 1\n255\n\x81")?;
+    let image = calls::read(&rt, alloc, b"P5\n1 1\n255\n\x81");
     let (answer, bytes) = written(alloc, &image, &plain(alloc, 0), 83, true);
     equal(&rt, (answer, bytes.len()), (Err(Fault::Shelf), 83));
-    Ok(())
 }
 
 #[test]
-fn outside_the_profile(rt: HostRuntime) -> Result<(), Fail> {
+fn outside_the_profile(rt: HostRuntime) {
     let alloc = rt.alloc();
-    let image = grey(alloc, "P5\n5 7\n255\n", 35)?;
+    let image = grey(&rt, alloc, "P5\n5 7\n255\n", 35);
     let deep = parameters(alloc, 6, None, Container::Jp2);
     let (answer, bytes) = written(alloc, &image, &deep, 1000, true);
     equal(&rt, (answer, bytes.len()), (Err(Fault::BadParameters), 0));
-    Ok(())
 }
