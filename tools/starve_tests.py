@@ -63,8 +63,8 @@ OTHERWISE = (
     # Archives.
     ("vectors_(hall|store) refusals::", PASSES, UNSHRUNK),
     ("vectors_store first_faults::one_file_too_many", PASSES, UNSHRUNK),
-    ("vectors_store adding::a_rename_that_fails", "error: Shelf", "the call that fails comes in the next try"),
-    ("vectors_store failing::adding", "error: Shelf", "the call that fails comes in the next try"),
+    ("vectors_store adding::a_rename_that_fails", "an image: Shelf", "the call that fails comes in the next try"),
+    ("vectors_store failing::adding", "an image: Shelf", "the call that fails comes in the next try"),
     ("vectors_store failing::checking", r'left: "(.* )?\?( .*)?"\n right: "a (whole|unread) b ', "F1 is written as ?"),
     ("vectors_store by_parts::where_a_part_has_changed", LESS, "the test counts F1 as no answer"),
     ("vectors_store directories::files_of_a_directory", PASSES, OWN),

@@ -1,12 +1,12 @@
-//! What a test claims. A claim made through these functions costs the proof of a test one call; an
-//! `assert_eq!` of its own costs it the comparison and the text of both values.
+//! What a test claims. A claim made through these functions costs the proof of a test one call; one
+//! of its own costs it the comparison and the text of both values.
 
 use std::fmt::Debug;
 use std::process::Abort;
 
 /// Two values are equal.
 pub(crate) fn equal<T: PartialEq + Debug + Copy>(rt: &impl Abort, found: T, due: T) {
-    assert_eq!(rt; found, due);
+    vectors::equal(found, due).expect(rt, "equal values");
 }
 
 /// Two values are equal, in this case of several.
@@ -16,5 +16,5 @@ pub(crate) fn equal_at<C: Debug + Copy, T: PartialEq + Debug + Copy>(
     found: T,
     due: T,
 ) {
-    assert_eq!(rt; found, due, "{case:?}");
+    vectors::equal_at(case, found, due).expect(rt, "equal values");
 }

@@ -1,15 +1,14 @@
 //! Windows of a large file, of which only the parts are read that they need.
 
 use crate::asserts::{equal, equal_at};
-use crate::calls::{
-    add_noise, by_kept_parts, by_parts, entry_whole, entry_window, open, read, square, write,
-};
+use crate::calls::{add_noise, by_kept_parts, by_parts, entry_whole, entry_window, read, square};
 use crate::shelves::{Act, act_at};
+use crate::sure::{open, put, write};
 use jk_math::Fault;
 use jk_store::{Archive, Entry, HashedParts, MemoryShelf, Shelf};
 use jk_window::View;
 use std::alloc::Global;
-use std::test::Fail;
+use std::process::Abort;
 
 /// The archive of one image `n`, 448 by 448 grey samples of noise in tiles of 64 by 64, and its
 /// file.
@@ -19,83 +18,79 @@ struct Noise {
     file: Vec<u8>,
 }
 
-fn made(alloc: Global) -> Result<Noise, Fault> {
-    let mut archive = open(alloc, MemoryShelf::new(alloc))?;
-    add_noise(&mut archive, alloc, "n")?;
+fn made(rt: &impl Abort, alloc: Global) -> Noise {
+    let mut archive = open(rt, alloc, MemoryShelf::new(alloc));
+    add_noise(&mut archive, alloc, "n").expect(rt, "an image");
     let mut shelf = archive.into_shelf();
-    let file = read(&mut shelf, alloc, "n.jp2")?;
-    Ok(Noise {
-        archive: open(alloc, shelf)?,
+    let file = read(&mut shelf, alloc, "n.jp2").expect(rt, "a file");
+    Noise {
+        archive: open(rt, alloc, shelf),
         file,
-    })
+    }
 }
 
 impl Noise {
-    fn entry(&self) -> Result<&Entry, Fault> {
-        match self.archive.list().first() {
-            Some(entry) => Ok(entry),
-            None => Err(Fault::NoSuchImage),
-        }
+    fn entry(&self, rt: &impl Abort) -> &Entry {
+        self.archive.list().first().expect(rt, "an image")
     }
 }
 
 /// A shelf with one file.
-fn with_file(alloc: Global, name: &str, bytes: &[u8]) -> Result<MemoryShelf, Fault> {
+fn with_file(rt: &impl Abort, alloc: Global, name: &str, bytes: &[u8]) -> MemoryShelf {
     let mut shelf = MemoryShelf::new(alloc);
-    write(&mut shelf, alloc, name, bytes)?;
-    Ok(shelf)
+    write(rt, &mut shelf, alloc, name, bytes);
+    shelf
 }
 
 /// The window that is cut of the whole file.
-fn due(alloc: Global, noise: &Noise, asked: View) -> Result<Vec<u8>, Fault> {
-    let mut shelf = with_file(alloc, "n.jp2", &noise.file)?;
-    entry_window(noise.entry()?, alloc, &mut shelf, asked)
+fn due(rt: &impl Abort, alloc: Global, noise: &Noise, asked: View) -> Vec<u8> {
+    let mut shelf = with_file(rt, alloc, "n.jp2", &noise.file);
+    entry_window(noise.entry(rt), alloc, &mut shelf, asked).expect(rt, "a window")
 }
 
 /// Whether the window is what is cut of the whole file; and how many stretches of how many bytes
 /// were read for it.
-fn compared(alloc: Global, noise: &Noise, asked: View) -> Result<(bool, u64, u64), Fault> {
-    let mut shelf = act_at(with_file(alloc, "n.jp2", &noise.file)?, 0, Act::Fail);
-    let made = by_parts(noise.entry()?, alloc, &mut shelf, asked)?;
-    let same = made.as_slice() == due(alloc, noise, asked)?.as_slice();
-    Ok((same, shelf.stretches, shelf.bytes))
+fn compared(rt: &impl Abort, alloc: Global, noise: &Noise, asked: View) -> (bool, u64, u64) {
+    let mut shelf = act_at(with_file(rt, alloc, "n.jp2", &noise.file), 0, Act::Fail);
+    let made = by_parts(noise.entry(rt), alloc, &mut shelf, asked).expect(rt, "a window");
+    let same = made.as_slice() == due(rt, alloc, noise, asked).as_slice();
+    (same, shelf.stretches, shelf.bytes)
 }
 
 /// Upper left corners and sides of windows, and how many parts each may need.
 static WINDOWS: [(u32, u32, u64); 4] = [(0, 1, 2), (130, 60, 3), (300, 16, 4), (0, 448, 100)];
 
 #[test]
-fn of_their_parts_alone(rt: HostRuntime) -> Result<(), Fail> {
-    let noise = made(rt.alloc())?;
+fn of_their_parts_alone(rt: HostRuntime) {
+    let noise = made(&rt, rt.alloc());
     for (corner, side, most) in &WINDOWS {
         let asked = square(*corner, *side);
-        let (same, stretches, bytes) = compared(rt.alloc(), &noise, asked)?;
+        let (same, stretches, bytes) = compared(&rt, rt.alloc(), &noise, asked);
         let few = stretches <= *most && bytes <= most.saturating_mul(16384);
         equal_at(&rt, *corner, (same, few), (true, true));
     }
-    Ok(())
 }
 
 /// The file with another byte at the front of one of its parts.
-fn turned(alloc: Global, file: &[u8], part: usize) -> Result<Vec<u8>, Fault> {
-    let mut bytes = Vec::from_slice(alloc, file)?;
+fn turned(rt: &impl Abort, alloc: Global, file: &[u8], part: usize) -> Vec<u8> {
+    let mut bytes = Vec::from_slice(alloc, file).expect(rt, "bytes");
     if let Some(byte) = bytes.get_mut(part.saturating_mul(16384)) {
         *byte ^= 1;
     }
-    Ok(bytes)
+    bytes
 }
 
 /// How many of the files in which one part has changed give the window as it was, how many are told
 /// to have changed where the window is asked for, and how many where the whole is.
-fn with_each_turned(alloc: Global, noise: &Noise, asked: View) -> Result<(u64, u64, u64), Fault> {
-    let entry = noise.entry()?;
-    let window = due(alloc, noise, asked)?;
+fn with_each_turned(rt: &impl Abort, alloc: Global, noise: &Noise, asked: View) -> (u64, u64, u64) {
+    let entry = noise.entry(rt);
+    let window = due(rt, alloc, noise, asked);
     let mut same = 0u64;
     let mut changed = 0u64;
     let mut wholes = 0u64;
     for part in 0..entry.parts.len() {
-        let bytes = turned(alloc, &noise.file, part)?;
-        let mut shelf = with_file(alloc, "n.jp2", &bytes)?;
+        let bytes = turned(rt, alloc, &noise.file, part);
+        let mut shelf = with_file(rt, alloc, "n.jp2", &bytes);
         match by_parts(entry, alloc, &mut shelf, asked) {
             Ok(made) => {
                 if made.as_slice() == window.as_slice() {
@@ -112,61 +107,61 @@ fn with_each_turned(alloc: Global, noise: &Noise, asked: View) -> Result<(u64, u
             wholes = wholes.saturating_add(1);
         }
     }
-    Ok((same, changed, wholes))
+    (same, changed, wholes)
 }
 
 /// A file that has changed in a part that is read is told; one that has changed elsewhere gives the
 /// window.
 #[test]
-fn where_a_part_has_changed(rt: HostRuntime) -> Result<(), Fail> {
-    let noise = made(rt.alloc())?;
-    let parts = noise.entry()?.parts.len() as u64;
+fn where_a_part_has_changed(rt: HostRuntime) {
+    let noise = made(&rt, rt.alloc());
+    let parts = noise.entry(&rt).parts.len() as u64;
     for (corner, side, _most) in &WINDOWS[..2] {
         let asked = square(*corner, *side);
-        let (_same, stretches, _bytes) = compared(rt.alloc(), &noise, asked)?;
-        let counts = with_each_turned(rt.alloc(), &noise, asked)?;
+        let (_same, stretches, _bytes) = compared(&rt, rt.alloc(), &noise, asked);
+        let counts = with_each_turned(&rt, rt.alloc(), &noise, asked);
         let due = (parts.saturating_sub(stretches), stretches, parts);
         equal_at(&rt, *corner, counts, due);
     }
-    Ok(())
 }
 
 /// Whether the window is given, by parts that are kept from then on; what it is where a part has
 /// changed; whether it is given where that part is as it was; and how many stretches were read for
 /// the last one.
 fn with_one_turned(
+    rt: &impl Abort,
     alloc: Global,
     noise: &Noise,
     window: &[u8],
     part: usize,
-) -> Result<(bool, Option<Fault>, bool, u64), Fault> {
-    let entry = noise.entry()?;
+) -> (bool, Option<Fault>, bool, u64) {
+    let entry = noise.entry(rt);
     let asked = square(0, 448);
     let mut kept = HashedParts::new(alloc);
-    let mut shelf = with_file(alloc, "n.jp2", &noise.file)?;
-    let first = by_kept_parts(entry, alloc, &mut shelf, &mut kept, asked)?;
-    let mut other = with_file(alloc, "n.jp2", &turned(alloc, &noise.file, part)?)?;
+    let mut shelf = with_file(rt, alloc, "n.jp2", &noise.file);
+    let first = by_kept_parts(entry, alloc, &mut shelf, &mut kept, asked).expect(rt, "a window");
+    let mut other = with_file(rt, alloc, "n.jp2", &turned(rt, alloc, &noise.file, part));
     let changed = by_kept_parts(entry, alloc, &mut other, &mut kept, asked).err();
     let mut shelf = act_at(shelf, 0, Act::Fail);
-    let again = by_kept_parts(entry, alloc, &mut shelf, &mut kept, asked)?;
-    Ok((
+    let again = by_kept_parts(entry, alloc, &mut shelf, &mut kept, asked).expect(rt, "a window");
+    (
         first.as_slice() == window,
         changed,
         again.as_slice() == window,
         shelf.stretches,
-    ))
+    )
 }
 
 /// Parts that were hashed before are read again: each that has changed since is told, and the
 /// window is given again where the file is as it was.
 #[test]
-fn where_a_kept_part_has_changed(rt: HostRuntime) -> Result<(), Fail> {
-    let noise = made(rt.alloc())?;
+fn where_a_kept_part_has_changed(rt: HostRuntime) {
+    let noise = made(&rt, rt.alloc());
     let asked = square(0, 448);
-    let (_same, stretches, _bytes) = compared(rt.alloc(), &noise, asked)?;
-    let window = due(rt.alloc(), &noise, asked)?;
-    for part in 0..noise.entry()?.parts.len() {
-        let answer = with_one_turned(rt.alloc(), &noise, &window, part)?;
+    let (_same, stretches, _bytes) = compared(&rt, rt.alloc(), &noise, asked);
+    let window = due(&rt, rt.alloc(), &noise, asked);
+    for part in 0..noise.entry(&rt).parts.len() {
+        let answer = with_one_turned(&rt, rt.alloc(), &noise, &window, part);
         equal_at(
             &rt,
             part,
@@ -174,69 +169,76 @@ fn where_a_kept_part_has_changed(rt: HostRuntime) -> Result<(), Fail> {
             (true, Some(Fault::Changed), true, stretches),
         );
     }
-    Ok(())
 }
 
 /// The file with a box before its codestream that has so many bytes of text (T.800 I.7.1): all its
 /// parts are others then.
-fn moved(alloc: Global, file: &[u8], by: u32) -> Result<Vec<u8>, Fault> {
+fn moved(rt: &impl Abort, alloc: Global, file: &[u8], by: u32) -> Vec<u8> {
     // Behind the signature, the file type and the header of an image of one component.
     let (front, behind) = file.split_at(file.len().min(77));
-    let mut moved = Vec::from_slice(alloc, front)?;
-    moved.extend_from_slice(&by.saturating_add(8).to_be_bytes())?;
-    moved.extend_from_slice(b"xml ")?;
+    let mut moved = Vec::from_slice(alloc, front).expect(rt, "bytes");
+    put(rt, &mut moved, &by.saturating_add(8).to_be_bytes());
+    put(rt, &mut moved, b"xml ");
     for _ in 0..by {
-        moved.push(b' ')?;
+        moved.push(b' ').expect(rt, "room");
     }
-    moved.extend_from_slice(behind)?;
-    Ok(moved)
+    put(rt, &mut moved, behind);
+    moved
 }
 
 /// A shelf of 24 such files.
-fn all_moved(alloc: Global, file: &[u8]) -> Result<MemoryShelf, Fault> {
+fn all_moved(rt: &impl Abort, alloc: Global, file: &[u8]) -> MemoryShelf {
     let mut shelf = MemoryShelf::new(alloc);
     for by in 0..24 {
-        let name = format!(in alloc; "{by:02}.jp2")?;
-        write(&mut shelf, alloc, name.as_str(), &moved(alloc, file, by)?)?;
+        let name = format!(in alloc; "{by:02}.jp2").expect(rt, "a name");
+        write(
+            rt,
+            &mut shelf,
+            alloc,
+            name.as_str(),
+            &moved(rt, alloc, file, by),
+        );
     }
-    Ok(shelf)
+    shelf
 }
 
 /// Whether the whole image of an entry is what is cut of the whole file.
 fn is_whole(
+    rt: &impl Abort,
     alloc: Global,
     entry: &Entry,
     shelf: &mut MemoryShelf,
     kept: &mut HashedParts,
-) -> Result<bool, Fault> {
+) -> bool {
     let asked = square(0, 448);
-    let window = by_kept_parts(entry, alloc, shelf, kept, asked)?;
-    let due = entry_window(entry, alloc, shelf, asked)?;
-    Ok(window.as_slice() == due.as_slice())
+    let window = by_kept_parts(entry, alloc, shelf, kept, asked).expect(rt, "a window");
+    let due = entry_window(entry, alloc, shelf, asked).expect(rt, "a window");
+    window.as_slice() == due.as_slice()
 }
 
 /// Why the whole image of a moved file isn't given, where a byte in the middle of a part has
 /// changed.
 fn with_moved_turned(
+    rt: &impl Abort,
     alloc: Global,
     entry: &Entry,
     file: &[u8],
     part: usize,
     kept: &mut HashedParts,
-) -> Result<Option<Fault>, Fault> {
-    let name = format!(in alloc; "{}.jp2", entry.name.as_str())?;
-    let mut shelf = with_file(alloc, name.as_str(), &turned(alloc, file, part)?)?;
-    Ok(by_kept_parts(entry, alloc, &mut shelf, kept, square(0, 448)).err())
+) -> Option<Fault> {
+    let name = format!(in alloc; "{}.jp2", entry.name.as_str()).expect(rt, "a name");
+    let mut shelf = with_file(rt, alloc, name.as_str(), &turned(rt, alloc, file, part));
+    by_kept_parts(entry, alloc, &mut shelf, kept, square(0, 448)).err()
 }
 
 /// More parts are asked for than are kept, so that new ones take the places of old ones: each window
 /// is what is due, and a part that has changed since is told, whether it is still kept or not.
 #[test]
-fn more_parts_than_are_kept(rt: HostRuntime) -> Result<(), Fail> {
+fn more_parts_than_are_kept(rt: HostRuntime) {
     let alloc = rt.alloc();
-    let file = made(alloc)?.file;
-    let archive = open(alloc, all_moved(alloc, &file)?)?;
-    let mut shelf = all_moved(alloc, &file)?;
+    let file = made(&rt, alloc).file;
+    let archive = open(&rt, alloc, all_moved(&rt, alloc, &file));
+    let mut shelf = all_moved(&rt, alloc, &file);
     let mut kept = HashedParts::new(alloc);
     let mut parts = 0u64;
     for entry in archive.list() {
@@ -244,51 +246,51 @@ fn more_parts_than_are_kept(rt: HostRuntime) -> Result<(), Fail> {
         equal_at(
             &rt,
             parts,
-            is_whole(alloc, entry, &mut shelf, &mut kept)?,
+            is_whole(&rt, alloc, entry, &mut shelf, &mut kept),
             true,
         );
     }
     equal_at(&rt, parts, 300 <= parts, true);
     for (entry, by) in archive.list().iter().zip(0..24) {
         if by % 23 == 0 {
-            let file = moved(alloc, &file, by)?;
+            let file = moved(&rt, alloc, &file, by);
             for part in 0..entry.parts.len() {
-                let answer = with_moved_turned(alloc, entry, &file, part, &mut kept)?;
+                let answer = with_moved_turned(&rt, alloc, entry, &file, part, &mut kept);
                 equal_at(&rt, (by, part), answer, Some(Fault::Changed));
             }
             equal_at(
                 &rt,
                 by,
-                is_whole(alloc, entry, &mut shelf, &mut kept)?,
+                is_whole(&rt, alloc, entry, &mut shelf, &mut kept),
                 true,
             );
         }
     }
-    Ok(())
 }
 
 /// Whether a window of a file without its last bytes, or with so many zeros behind it, is that of
 /// the file; what is said of the whole; and the failures.
 fn of_length(
+    rt: &impl Abort,
     alloc: Global,
     noise: &Noise,
     (cut, more): (usize, usize),
     asked: View,
-) -> Result<(Result<bool, Fault>, Option<Fault>, u64), Fault> {
-    let mut bytes = Vec::from_slice(alloc, &noise.file)?;
+) -> (Result<bool, Fault>, Option<Fault>, u64) {
+    let mut bytes = Vec::from_slice(alloc, &noise.file).expect(rt, "bytes");
     bytes.truncate(bytes.len().saturating_sub(cut));
     for _ in 0..more {
-        bytes.push(0)?;
+        bytes.push(0).expect(rt, "room");
     }
-    let window = due(alloc, noise, asked)?;
-    let mut shelf = with_file(alloc, "n.jp2", &bytes)?;
-    let entry = noise.entry()?;
+    let window = due(rt, alloc, noise, asked);
+    let mut shelf = with_file(rt, alloc, "n.jp2", &bytes);
+    let entry = noise.entry(rt);
     let answer = match by_parts(entry, alloc, &mut shelf, asked) {
         Ok(made) => Ok(made.as_slice() == window.as_slice()),
         Err(fault) => Err(fault),
     };
     let all = entry_whole(entry, alloc, &mut shelf).err();
-    Ok((answer, all, shelf.failures()))
+    (answer, all, shelf.failures())
 }
 
 /// Bytes that are cut off, bytes that are added, the corner of a window of 8 by 8, and whether it
@@ -303,62 +305,60 @@ static LENGTHS: [(usize, usize, u32, Result<bool, Fault>); 6] = [
 ];
 
 #[test]
-fn longer_and_shorter_files(rt: HostRuntime) -> Result<(), Fail> {
-    let noise = made(rt.alloc())?;
+fn longer_and_shorter_files(rt: HostRuntime) {
+    let noise = made(&rt, rt.alloc());
     for (cut, more, corner, due) in &LENGTHS {
-        let answer = of_length(rt.alloc(), &noise, (*cut, *more), square(*corner, 8))?;
+        let answer = of_length(&rt, rt.alloc(), &noise, (*cut, *more), square(*corner, 8));
         equal_at(&rt, (*cut, *more), answer, (*due, Some(Fault::Changed), 0));
     }
-    Ok(())
 }
 
 /// What a window of a file that isn't there gives, and one that the view hasn't; and the failures.
-fn of_no_file(alloc: Global, noise: &Noise) -> Result<([Option<Fault>; 2], u64), Fault> {
-    let mut shelf = with_file(alloc, "m.jp2", &noise.file)?;
-    let entry = noise.entry()?;
+fn of_no_file(rt: &impl Abort, alloc: Global, noise: &Noise) -> ([Option<Fault>; 2], u64) {
+    let mut shelf = with_file(rt, alloc, "m.jp2", &noise.file);
+    let entry = noise.entry(rt);
     let faults = [
         by_parts(entry, alloc, &mut shelf, square(0, 8)).err(),
         by_parts(entry, alloc, &mut shelf, square(448, 8)).err(),
     ];
-    Ok((faults, shelf.failures()))
+    (faults, shelf.failures())
 }
 
 #[test]
-fn missing_files(rt: HostRuntime) -> Result<(), Fail> {
-    let noise = made(rt.alloc())?;
+fn missing_files(rt: HostRuntime) {
+    let noise = made(&rt, rt.alloc());
     let due = [Some(Fault::Shelf), Some(Fault::BadWindow)];
-    equal(&rt, of_no_file(rt.alloc(), &noise)?, (due, 1));
-    Ok(())
+    equal(&rt, of_no_file(&rt, rt.alloc(), &noise), (due, 1));
 }
 
 /// Whether a window of a shelf that fails at a call is given as it is due, and the failures.
 fn failing_at(
+    rt: &impl Abort,
     alloc: Global,
     noise: &Noise,
     asked: View,
     window: &[u8],
     call: u64,
-) -> Result<(Result<bool, Fault>, u64), Fault> {
-    let mut shelf = act_at(with_file(alloc, "n.jp2", &noise.file)?, call, Act::Fail);
-    let answer = match by_parts(noise.entry()?, alloc, &mut shelf, asked) {
+) -> (Result<bool, Fault>, u64) {
+    let mut shelf = act_at(with_file(rt, alloc, "n.jp2", &noise.file), call, Act::Fail);
+    let answer = match by_parts(noise.entry(rt), alloc, &mut shelf, asked) {
         Ok(made) => Ok(made.as_slice() == window),
         Err(fault) => Err(fault),
     };
-    Ok((answer, shelf.failures()))
+    (answer, shelf.failures())
 }
 
 #[test]
-fn failing_at_each_call(rt: HostRuntime) -> Result<(), Fail> {
-    let noise = made(rt.alloc())?;
+fn failing_at_each_call(rt: HostRuntime) {
+    let noise = made(&rt, rt.alloc());
     let asked = square(0, 448);
-    let (_same, stretches, _bytes) = compared(rt.alloc(), &noise, asked)?;
-    let window = due(rt.alloc(), &noise, asked)?;
+    let (_same, stretches, _bytes) = compared(&rt, rt.alloc(), &noise, asked);
+    let window = due(&rt, rt.alloc(), &noise, asked);
     for call in 1..stretches.saturating_add(1) {
-        let answer = failing_at(rt.alloc(), &noise, asked, &window, call)?;
+        let answer = failing_at(&rt, rt.alloc(), &noise, asked, &window, call);
         equal_at(&rt, call, answer, (Err(Fault::Shelf), 1));
     }
     let last = stretches.saturating_add(1);
-    let answer = failing_at(rt.alloc(), &noise, asked, &window, last)?;
+    let answer = failing_at(&rt, rt.alloc(), &noise, asked, &window, last);
     equal(&rt, answer, (Ok(true), 0));
-    Ok(())
 }

@@ -10,7 +10,6 @@ use jk_store::{Archive, Entry, HashedParts, MemoryShelf, Shelf};
 use jk_window::View;
 use std::alloc::Global;
 use std::sync::Arc;
-use std::test::Fail;
 
 /// An image of one grey sample.
 fn pixel(alloc: Global, sample: i32) -> Result<Image, Fault> {
@@ -260,7 +259,7 @@ pub(crate) fn listed<S: Shelf>(archive: &Archive<S>, alloc: Global) -> Result<St
 }
 
 /// The names that are skipped and why, with a semicolon behind each.
-pub(crate) fn skipped<S: Shelf>(archive: &Archive<S>, alloc: Global) -> Result<String, Fail> {
+pub(crate) fn skipped<S: Shelf>(archive: &Archive<S>, alloc: Global) -> Result<String, Fault> {
     let mut names = String::new(alloc);
     for file in archive.skipped() {
         let fault = file.fault.to_string(alloc)?;

@@ -1,12 +1,11 @@
 //! SHA-256, against worked examples and the library's, which takes one block after another.
 
 use crate::asserts::{equal, equal_at};
+use crate::sure::put;
 use jk_digest::{sha256, sha256_of_four};
-use jk_math::Fault;
 use sha2::{Digest, Sha256};
 use std::alloc::Global;
 use std::process::Abort;
-use std::test::Fail;
 use vectors::bytes_of;
 
 /// Messages and their digests: the two examples to FIPS 180-4 of three bytes and of 56, and by
@@ -31,38 +30,36 @@ static EXAMPLES: [(&str, &str); 4] = [
 ];
 
 /// Each of the texts has its digest, and so have all four at once.
-fn compare_examples(rt: &impl Abort, alloc: Global) -> Result<(), Fault> {
+fn compare_examples(rt: &impl Abort, alloc: Global) {
     let [(a, e), (b, f), (c, g), (d, h)] = EXAMPLES;
-    let due = bytes_of(alloc, &[e, f, g, h])?;
+    let due = bytes_of(alloc, &[e, f, g, h]).expect(rt, "bytes");
     let mut found = Vec::new(alloc);
     for (text, _) in &EXAMPLES {
-        found.extend_from_slice(&sha256(text.as_bytes()))?;
+        put(rt, &mut found, &sha256(text.as_bytes()));
     }
     equal(rt, found.as_slice(), due.as_slice());
     let four = sha256_of_four(a.as_bytes(), b.as_bytes(), c.as_bytes(), d.as_bytes());
     let mut found = Vec::new(alloc);
     for digest in &four {
-        found.extend_from_slice(digest)?;
+        put(rt, &mut found, digest);
     }
     equal(rt, found.as_slice(), due.as_slice());
-    Ok(())
 }
 
 #[test]
-fn examples(rt: HostRuntime) -> Result<(), Fail> {
-    compare_examples(&rt, rt.alloc())?;
-    Ok(())
+fn examples(rt: HostRuntime) {
+    compare_examples(&rt, rt.alloc());
 }
 
 /// Bytes in no order, by a multiplication and an addition.
-fn made(alloc: Global, size: usize) -> Result<Vec<u8>, Fault> {
+fn made(rt: &impl Abort, alloc: Global, size: usize) -> Vec<u8> {
     let mut bytes = Vec::new(alloc);
     let mut state = 26_112_700u32;
     for _ in 0..size {
         state = state.wrapping_mul(1_664_525).wrapping_add(1_013_904_223);
-        bytes.push((state >> 24) as u8)?;
+        bytes.push((state >> 24) as u8).expect(rt, "room");
     }
-    Ok(bytes)
+    bytes
 }
 
 /// So many of the first bytes.
@@ -95,8 +92,8 @@ fn compare_four(rt: &impl Abort, bytes: &[u8], sizes: [usize; 4]) {
 }
 
 #[test]
-fn as_the_library(rt: HostRuntime) -> Result<(), Fail> {
-    let bytes = made(rt.alloc(), 4_100)?;
+fn as_the_library(rt: HostRuntime) {
+    let bytes = made(&rt, rt.alloc(), 4_100);
     for size in 0..=330 {
         compare(&rt, &bytes, size);
         let others = [330usize.saturating_sub(size), size.saturating_mul(2)];
@@ -107,5 +104,4 @@ fn as_the_library(rt: HostRuntime) -> Result<(), Fail> {
         let others = [size.saturating_add(1), size.saturating_sub(64)];
         compare_four(&rt, &bytes, [others[0], size, others[1], size]);
     }
-    Ok(())
 }

@@ -1,67 +1,70 @@
 //! Shelves that fail at one call.
 
 use crate::asserts::{equal, equal_at};
-use crate::calls::{
-    add, is_page, joined, listed, open, read, refusal, shelf_of, view, whole, window,
-};
+use crate::calls::{is_page, open, read, refusal, view, whole, window};
 use crate::contents::Content;
 use crate::shelves::{Act, Acting, act_at};
+use crate::sure::{add, joined, listed, shelf_of};
 use jk_math::Fault;
 use jk_store::{Archive, Finding, MemoryShelf, Shelf, check};
 use std::alloc::Global;
-use std::test::Fail;
+use std::process::Abort;
 use std::thread::Threads;
 
 /// The archive of two images and another file on a shelf that fails at a call, if it can be opened.
-fn opened(alloc: Global, call: u64) -> Result<Archive<Acting>, Fault> {
+fn opened(rt: &impl Abort, alloc: Global, call: u64) -> Result<Archive<Acting>, Fault> {
     let files = [
         ("a.jp2", Content::Page),
         ("b.jp2", Content::Bare),
         ("c.jp2", Content::Page),
     ];
-    let shelf = shelf_of(alloc, &files)?;
+    let shelf = shelf_of(rt, alloc, &files);
     open(alloc, act_at(shelf, call, Act::Fail))
 }
 
 /// How many images are listed, or why none is.
-fn opening_at(alloc: Global, call: u64) -> Result<usize, Fault> {
-    Ok(opened(alloc, call)?.list().len())
+fn opening_at(rt: &impl Abort, alloc: Global, call: u64) -> Result<usize, Fault> {
+    Ok(opened(rt, alloc, call)?.list().len())
 }
 
 #[test]
 fn opening(rt: HostRuntime) {
     // One listing and three reads.
     for call in 1..5 {
-        equal_at(&rt, call, opening_at(rt.alloc(), call), Err(Fault::Shelf));
+        equal_at(
+            &rt,
+            call,
+            opening_at(&rt, rt.alloc(), call),
+            Err(Fault::Shelf),
+        );
     }
-    equal(&rt, opening_at(rt.alloc(), 5), Ok(2));
+    equal(&rt, opening_at(&rt, rt.alloc(), 5), Ok(2));
 }
 
 /// Why an image isn't added; what is listed before and after the next try; and how many calls
 /// failed.
-fn adding_at(alloc: Global, call: u64) -> Result<(Option<Fault>, String, u64), Fault> {
-    let mut archive = opened(alloc, call)?;
+fn adding_at(rt: &impl Abort, alloc: Global, call: u64) -> (Option<Fault>, String, u64) {
+    let mut archive = opened(rt, alloc, call).expect(rt, "an archive");
     let answer = refusal(&mut archive, alloc, "d", 129);
-    let before = listed(&archive, alloc)?;
-    add(&mut archive, alloc, "d", 129)?;
-    let after = listed(&archive, alloc)?;
-    let names = joined(alloc, &[before.as_str(), after.as_str()])?;
-    Ok((answer, names, archive.into_shelf().failures()))
+    let before = listed(rt, &archive, alloc);
+    add(rt, &mut archive, alloc, "d", 129);
+    let after = listed(rt, &archive, alloc);
+    let names = joined(rt, alloc, &[before.as_str(), after.as_str()]);
+    (answer, names, archive.into_shelf().failures())
 }
 
 #[test]
-fn adding(rt: HostRuntime) -> Result<(), Fail> {
+fn adding(rt: HostRuntime) {
     for call in 5..7 {
-        let (answer, names, failures) = adding_at(rt.alloc(), call)?;
+        let (answer, names, failures) = adding_at(&rt, rt.alloc(), call);
         equal_at(&rt, call, names.as_str(), "a c |a c d |");
         equal_at(&rt, call, (answer, failures), (Some(Fault::Shelf), 1));
     }
-    Ok(())
 }
 
 /// What is found of three files by so many workers, where the shelf fails at a call: whether each is
 /// whole, broken or unread.
-fn checked_at<R: Threads + Sync>(
+fn checked_at<R: Abort + Threads + Sync>(
     rt: &R,
     alloc: Global,
     workers: usize,
@@ -72,7 +75,7 @@ fn checked_at<R: Threads + Sync>(
         ("b.jp2", Content::Bare),
         ("a.jp2", Content::Page),
     ];
-    let mut shelf = act_at(shelf_of(alloc, &files)?, call, Act::Fail);
+    let mut shelf = act_at(shelf_of(rt, alloc, &files), call, Act::Fail);
     let mut text = String::new(alloc);
     for file in check(rt, alloc, workers, &mut shelf, call % 2 == 0)? {
         text.push_str(file.name.as_str())?;
@@ -88,7 +91,7 @@ fn checked_at<R: Threads + Sync>(
 
 /// A file that can't be read keeps no other from being checked.
 #[test]
-fn checking(rt: HostRuntime) -> Result<(), Fail> {
+fn checking(rt: HostRuntime) {
     let alloc = rt.alloc();
     for workers in [1, 2] {
         for (call, found) in [
@@ -97,7 +100,7 @@ fn checking(rt: HostRuntime) -> Result<(), Fail> {
             (4, "a whole b broken c unread "),
             (5, "a whole b broken c whole "),
         ] {
-            let answer = checked_at(&rt, alloc, workers, call)?;
+            let answer = checked_at(&rt, alloc, workers, call).expect(&rt, "what is found");
             equal_at(&rt, call, answer.as_str(), found);
         }
         let unlisted = checked_at(&rt, alloc, workers, 1).err();
@@ -107,32 +110,31 @@ fn checking(rt: HostRuntime) -> Result<(), Fail> {
         let refused = checked_at(&rt, alloc, workers, 1).err();
         equal(&rt, refused, Some(Fault::BadParameters));
     }
-    Ok(())
 }
 
 /// What a read and a window give where the shelf fails at the first call, and what the next read
 /// gives; and the failures.
 fn reading_at(
+    rt: &impl Abort,
     alloc: Global,
     whole_first: bool,
-) -> Result<(Option<Fault>, Result<bool, Fault>, u64), Fault> {
-    let mut archive = opened(alloc, 5)?;
+) -> (Option<Fault>, Result<bool, Fault>, u64) {
+    let mut archive = opened(rt, alloc, 5).expect(rt, "an archive");
     let first = if whole_first {
         whole(&mut archive, alloc, "c")
     } else {
         window(&mut archive, alloc, "c", view(0, 1))
     };
     let second = is_page(alloc, whole(&mut archive, alloc, "a"));
-    Ok((first.err(), second, archive.into_shelf().failures()))
+    (first.err(), second, archive.into_shelf().failures())
 }
 
 #[test]
-fn reading(rt: HostRuntime) -> Result<(), Fail> {
+fn reading(rt: HostRuntime) {
     for whole_first in [true, false] {
-        let answer = reading_at(rt.alloc(), whole_first)?;
+        let answer = reading_at(&rt, rt.alloc(), whole_first);
         equal(&rt, answer, (Some(Fault::Shelf), Ok(true), 1));
     }
-    Ok(())
 }
 
 fn rename(shelf: &mut MemoryShelf, alloc: Global, from: &str, to: &str) -> Option<Fault> {
@@ -141,8 +143,8 @@ fn rename(shelf: &mut MemoryShelf, alloc: Global, from: &str, to: &str) -> Optio
 
 /// The faults of calls with names that no file has, and with names that one has; and how many
 /// failed.
-fn calls(alloc: Global) -> Result<([Option<Fault>; 6], u64), Fault> {
-    let mut shelf = shelf_of(alloc, &[("a", Content::Byte), ("b", Content::Page)])?;
+fn calls(rt: &impl Abort, alloc: Global) -> ([Option<Fault>; 6], u64) {
+    let mut shelf = shelf_of(rt, alloc, &[("a", Content::Byte), ("b", Content::Page)]);
     let faults = [
         read(&mut shelf, alloc, "c").err(),
         rename(&mut shelf, alloc, "c", "a"),
@@ -151,13 +153,12 @@ fn calls(alloc: Global) -> Result<([Option<Fault>; 6], u64), Fault> {
         read(&mut shelf, alloc, "b").err(),
         read(&mut shelf, alloc, "a").err(),
     ];
-    Ok((faults, shelf.failures()))
+    (faults, shelf.failures())
 }
 
 #[test]
-fn absent_names(rt: HostRuntime) -> Result<(), Fail> {
-    let answer = calls(rt.alloc())?;
+fn absent_names(rt: HostRuntime) {
+    let answer = calls(&rt, rt.alloc());
     let failed = Some(Fault::Shelf);
     equal(&rt, answer, ([failed, failed, None, None, failed, None], 3));
-    Ok(())
 }

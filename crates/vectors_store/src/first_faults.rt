@@ -1,54 +1,53 @@
 //! Which fault ends the opening of an archive where files wait for their digests.
 
 use crate::asserts::{equal, equal_at};
-use crate::calls::{open, write};
+use crate::calls::open;
 use crate::contents::Content;
 use crate::shelves::{Act, Many, act_at};
+use crate::sure::{bytes, write};
 use jk_math::Fault;
 use jk_store::MemoryShelf;
 use std::alloc::Global;
-use std::test::Fail;
+use std::process::Abort;
 
 /// Why an archive isn't opened whose first so many files can be read, and the one behind them can't.
-fn unread_behind(alloc: Global, count: u64) -> Result<Option<Fault>, Fault> {
-    let page = Content::Page.bytes(alloc)?;
+fn unread_behind(rt: &impl Abort, alloc: Global, count: u64) -> Option<Fault> {
+    let page = bytes(rt, alloc, Content::Page);
     let mut shelf = MemoryShelf::new(alloc);
     for number in 0..count.saturating_add(1) {
-        let name = format!(in alloc; "{number}.jp2")?;
-        write(&mut shelf, alloc, name.as_str(), &page)?;
+        let name = format!(in alloc; "{number}.jp2").expect(rt, "a name");
+        write(rt, &mut shelf, alloc, name.as_str(), &page);
     }
     // Behind the listing and as many reads.
     let failing = act_at(shelf, count.saturating_add(2), Act::Fail);
-    Ok(open(alloc, failing).err())
+    open(alloc, failing).err()
 }
 
 #[test]
-fn a_file_that_cant_be_read(rt: HostRuntime) -> Result<(), Fail> {
+fn a_file_that_cant_be_read(rt: HostRuntime) {
     for count in 0..6 {
         equal_at(
             &rt,
             count,
-            unread_behind(rt.alloc(), count)?,
+            unread_behind(&rt, rt.alloc(), count),
             Some(Fault::Shelf),
         );
     }
-    Ok(())
 }
 
 /// Why an archive of 4,097 files isn't opened, three of which wait when the last one is read: the
 /// first takes so much that it doesn't wait. Wherever a growth is refused, Memory is told, and not
 /// Limit: a script beside the proofs refuses them in turn.
-fn too_many(alloc: Global) -> Result<Option<Fault>, Fault> {
+fn too_many(rt: &impl Abort, alloc: Global) -> Option<Fault> {
     let shelf = Many {
         count: 4097,
         room: (1 << 25) + 1,
-        bytes: Content::Page.bytes(alloc)?,
+        bytes: bytes(rt, alloc, Content::Page),
     };
-    Ok(open(alloc, shelf).err())
+    open(alloc, shelf).err()
 }
 
 #[test]
-fn one_file_too_many(rt: HostRuntime) -> Result<(), Fail> {
-    equal(&rt, too_many(rt.alloc())?, Some(Fault::Limit));
-    Ok(())
+fn one_file_too_many(rt: HostRuntime) {
+    equal(&rt, too_many(&rt, rt.alloc()), Some(Fault::Limit));
 }

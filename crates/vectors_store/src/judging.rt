@@ -2,24 +2,24 @@
 //! weren't read.
 
 use crate::asserts::{equal, equal_at};
-use crate::calls::{add, listed, open, shelf_of};
 use crate::contents::Content;
 use crate::shelves::{Act, act_at, alike};
+use crate::sure::{add, listed, open, shelf_of};
 use jk_math::Fault;
 use jk_store::{Archive, Images, judge_name};
 use std::alloc::Global;
-use std::test::Fail;
+use std::process::Abort;
 
 /// What is said of a name beside two images, a bare codestream and another file, on a shelf that
 /// fails at a call.
-fn judged(alloc: Global, name: &str, call: u64) -> Result<bool, Fault> {
+fn judged(rt: &impl Abort, alloc: Global, name: &str, call: u64) -> Result<bool, Fault> {
     let files = [
         ("a.jp2", Content::Page),
         ("b.jp2", Content::Bare),
         ("c.txt", Content::Page),
         ("e.jp2", Content::Page),
     ];
-    let mut shelf = act_at(shelf_of(alloc, &files)?, call, Act::Fail);
+    let mut shelf = act_at(shelf_of(rt, alloc, &files), call, Act::Fail);
     judge_name(alloc, &mut shelf, name)
 }
 
@@ -34,13 +34,12 @@ static NAMES: [(&str, Result<bool, Fault>); 6] = [
 ];
 
 #[test]
-fn names_beside_files(rt: HostRuntime) -> Result<(), Fail> {
+fn names_beside_files(rt: HostRuntime) {
     // The listing is the first call, and there is no second, which would fail.
     for (name, wanted) in NAMES {
-        equal_at(&rt, name, judged(rt.alloc(), name, 2), wanted);
+        equal_at(&rt, name, judged(&rt, rt.alloc(), name, 2), wanted);
     }
-    equal(&rt, judged(rt.alloc(), "D", 1), Err(Fault::Shelf));
-    Ok(())
+    equal(&rt, judged(&rt, rt.alloc(), "D", 1), Err(Fault::Shelf));
 }
 
 /// What is said of a name beside so many files `0000.jp2`, `0001.jp2` and so on.
@@ -50,27 +49,29 @@ fn beside(alloc: Global, name: &str, count: u16) -> Result<bool, Fault> {
 }
 
 #[test]
-fn names_beside_many(rt: HostRuntime) -> Result<(), Fail> {
+fn names_beside_many(rt: HostRuntime) {
     let alloc = rt.alloc();
     let few = [beside(alloc, "4095", 4095), beside(alloc, "4094", 4095)];
     equal(&rt, few, [Ok(true), Err(Fault::NameTaken)]);
     let full = [beside(alloc, "4096", 4096), beside(alloc, "D", 4096)];
     equal(&rt, full, [Ok(false), Ok(false)]);
-    Ok(())
 }
 
 /// What an archive lists that is opened when an image was added beside files that weren't read.
-fn added_beside(alloc: Global) -> Result<String, Fault> {
-    let shelf = shelf_of(alloc, &[("a.jp2", Content::Page), ("c.jp2", Content::Page)])?;
+fn added_beside(rt: &impl Abort, alloc: Global) -> String {
+    let shelf = shelf_of(
+        rt,
+        alloc,
+        &[("a.jp2", Content::Page), ("c.jp2", Content::Page)],
+    );
     let mut archive = Archive::with(shelf, Images::none(alloc));
-    add(&mut archive, alloc, "b", 128)?;
-    let archive = open(alloc, archive.into_shelf())?;
-    listed(&archive, alloc)
+    add(rt, &mut archive, alloc, "b", 128);
+    let archive = open(rt, alloc, archive.into_shelf());
+    listed(rt, &archive, alloc)
 }
 
 #[test]
-fn an_image_beside_others(rt: HostRuntime) -> Result<(), Fail> {
-    let names = added_beside(rt.alloc())?;
+fn an_image_beside_others(rt: HostRuntime) {
+    let names = added_beside(&rt, rt.alloc());
     equal(&rt, names.as_str(), "a b c ");
-    Ok(())
 }

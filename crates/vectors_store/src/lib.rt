@@ -41,3 +41,5 @@ mod refusals;
 mod serving;
 #[cfg(test)]
 mod shelves;
+#[cfg(test)]
+mod sure;

@@ -1,22 +1,21 @@
 //! Archives opened.
 
 use crate::asserts::equal;
-use crate::calls::{
-    add, archive_of, is_page, joined, listed, open, shelf_of, skipped, whole, write,
-};
+use crate::calls::{is_page, whole};
 use crate::contents::Content;
+use crate::sure::{add, archive_of, bytes, joined, listed, open, put, shelf_of, skipped, write};
 use jk_math::Fault;
 use jk_store::MemoryShelf;
 use std::alloc::Global;
-use std::test::Fail;
+use std::process::Abort;
 use vectors::bytes_of;
 
 /// What is listed and what is skipped.
-fn opened(alloc: Global, shelf: MemoryShelf) -> Result<String, Fail> {
-    let archive = open(alloc, shelf)?;
-    let names = listed(&archive, alloc)?;
-    let others = skipped(&archive, alloc)?;
-    Ok(joined(alloc, &[names.as_str(), others.as_str()])?)
+fn opened(rt: &impl Abort, alloc: Global, shelf: MemoryShelf) -> String {
+    let archive = open(rt, alloc, shelf);
+    let names = listed(rt, &archive, alloc);
+    let others = skipped(rt, &archive, alloc);
+    joined(rt, alloc, &[names.as_str(), others.as_str()])
 }
 
 static FILES: [(&str, Content); 7] = [
@@ -30,49 +29,46 @@ static FILES: [(&str, Content); 7] = [
 ];
 
 #[test]
-fn what_is_listed(rt: HostRuntime) -> Result<(), Fail> {
+fn what_is_listed(rt: HostRuntime) {
     let alloc = rt.alloc();
-    let answer = opened(alloc, shelf_of(alloc, &FILES)?)?;
+    let answer = opened(&rt, alloc, shelf_of(&rt, alloc, &FILES));
     equal(&rt, answer.as_str(), "a |c F13 BadBox;|");
-    Ok(())
 }
 
 /// What is listed after these images were added, and after the archive was opened again.
-fn added(alloc: Global, names: &[&str]) -> Result<String, Fail> {
-    let mut archive = archive_of(alloc, &[])?;
+fn added(rt: &impl Abort, alloc: Global, names: &[&str]) -> String {
+    let mut archive = archive_of(rt, alloc, &[]);
     for name in names {
-        add(&mut archive, alloc, name, 128)?;
+        add(rt, &mut archive, alloc, name, 128);
     }
-    let before = listed(&archive, alloc)?;
-    let after = opened(alloc, archive.into_shelf())?;
-    Ok(joined(alloc, &[before.as_str(), after.as_str()])?)
+    let before = listed(rt, &archive, alloc);
+    let after = opened(rt, alloc, archive.into_shelf());
+    joined(rt, alloc, &[before.as_str(), after.as_str()])
 }
 
 #[test]
-fn the_order_of_names(rt: HostRuntime) -> Result<(), Fail> {
+fn the_order_of_names(rt: HostRuntime) {
     let names = ["b", "a-b", "a", "z0", "_", "-", "9", "aa"];
-    let answer = added(rt.alloc(), &names)?;
+    let answer = added(&rt, rt.alloc(), &names);
     let due = "b a-b a z0 _ - 9 aa |- 9 _ a a-b aa b z0 |||";
     equal(&rt, answer.as_str(), due);
-    Ok(())
 }
 
 /// Whether two images that were added are the JP2 file of one sample of 128, after the archive was
 /// opened again.
-fn found(alloc: Global) -> Result<[Result<bool, Fault>; 2], Fault> {
-    let mut archive = archive_of(alloc, &[])?;
-    add(&mut archive, alloc, "b", 127)?;
-    add(&mut archive, alloc, "a", 128)?;
-    let mut again = open(alloc, archive.into_shelf())?;
+fn found(rt: &impl Abort, alloc: Global) -> [Result<bool, Fault>; 2] {
+    let mut archive = archive_of(rt, alloc, &[]);
+    add(rt, &mut archive, alloc, "b", 127);
+    add(rt, &mut archive, alloc, "a", 128);
+    let mut again = open(rt, alloc, archive.into_shelf());
     let first = is_page(alloc, whole(&mut again, alloc, "a"));
     let second = is_page(alloc, whole(&mut again, alloc, "b"));
-    Ok([first, second])
+    [first, second]
 }
 
 #[test]
-fn an_added_image_found(rt: HostRuntime) -> Result<(), Fail> {
-    equal(&rt, found(rt.alloc())?, [Ok(true), Ok(false)]);
-    Ok(())
+fn an_added_image_found(rt: HostRuntime) {
+    equal(&rt, found(&rt, rt.alloc()), [Ok(true), Ok(false)]);
 }
 
 /// Files that are skipped: how many bytes of the JP2 file of one sample they have, what stands
@@ -86,21 +82,24 @@ static SPOILT: [(usize, &str, &str); 5] = [
 ];
 
 /// A shelf with a JP2 file of one sample that is cut, and has other bytes behind.
-fn spoilt(alloc: Global, count: usize, behind: &str) -> Result<MemoryShelf, Fault> {
-    let mut bytes = Content::Page.bytes(alloc)?;
+fn spoilt(rt: &impl Abort, alloc: Global, count: usize, behind: &str) -> MemoryShelf {
+    let mut bytes = bytes(rt, alloc, Content::Page);
     bytes.truncate(count);
-    bytes.extend_from_slice(&bytes_of(alloc, &[behind])?)?;
+    put(
+        rt,
+        &mut bytes,
+        &bytes_of(alloc, &[behind]).expect(rt, "bytes"),
+    );
     let mut shelf = MemoryShelf::new(alloc);
-    write(&mut shelf, alloc, "a.jp2", &bytes)?;
-    Ok(shelf)
+    write(rt, &mut shelf, alloc, "a.jp2", &bytes);
+    shelf
 }
 
 #[test]
-fn what_is_skipped(rt: HostRuntime) -> Result<(), Fail> {
+fn what_is_skipped(rt: HostRuntime) {
     let alloc = rt.alloc();
     for (count, behind, fault) in &SPOILT {
-        let answer = opened(alloc, spoilt(alloc, *count, behind)?)?;
+        let answer = opened(&rt, alloc, spoilt(&rt, alloc, *count, behind));
         equal(&rt, answer.as_str(), *fault);
     }
-    Ok(())
 }

@@ -1,55 +1,54 @@
 //! Digests of the parts of a file.
 
 use crate::asserts::equal;
-use crate::calls::{archive_of, open, write};
 use crate::contents::Content;
-use jk_math::Fault;
+use crate::sure::{archive_of, bytes, open, put, write};
 use jk_store::{Archive, Entry, MemoryShelf};
 use std::alloc::Global;
-use std::test::Fail;
+use std::process::Abort;
 use vectors::bytes_of;
 
 /// The digests of the parts of an entry's file, joined.
-fn digests(alloc: Global, entry: &Entry) -> Result<Vec<u8>, Fault> {
+fn digests(rt: &impl Abort, alloc: Global, entry: &Entry) -> Vec<u8> {
     let mut all = Vec::new(alloc);
     for digest in &entry.parts {
-        all.extend_from_slice(digest)?;
+        put(rt, &mut all, digest);
     }
-    Ok(all)
+    all
 }
 
 /// Those of an archive's first image.
-fn first_digests(alloc: Global, archive: &Archive<MemoryShelf>) -> Result<Vec<u8>, Fault> {
-    match archive.list().first() {
-        Some(entry) => digests(alloc, entry),
-        None => Err(Fault::NoSuchImage),
-    }
+fn first_digests(rt: &impl Abort, alloc: Global, archive: &Archive<MemoryShelf>) -> Vec<u8> {
+    digests(rt, alloc, archive.list().first().expect(rt, "an image"))
 }
 
 #[test]
-fn one_part(rt: HostRuntime) -> Result<(), Fail> {
+fn one_part(rt: HostRuntime) {
     let alloc = rt.alloc();
-    let archive = archive_of(alloc, &[("a.jp2", Content::Page)])?;
-    let due = Content::Digest.bytes(alloc)?;
+    let archive = archive_of(&rt, alloc, &[("a.jp2", Content::Page)]);
+    let due = bytes(&rt, alloc, Content::Digest);
     equal(
         &rt,
-        first_digests(alloc, &archive)?.as_slice(),
+        first_digests(&rt, alloc, &archive).as_slice(),
         due.as_slice(),
     );
-    Ok(())
 }
 
 /// The JP2 file of one grey sample, and behind it a box `free` of so many bytes, of which the ninth
 /// is 0 and each that follows is one more than the one before it, or 0 behind 250: 167 bytes more in
 /// all.
-fn long_page(alloc: Global, size: u32) -> Result<Vec<u8>, Fault> {
-    let mut bytes = Content::Page.bytes(alloc)?;
-    bytes.extend_from_slice(&size.to_be_bytes())?;
-    bytes.extend_from_slice(&bytes_of(alloc, &["66726565"])?)?;
+fn long_page(rt: &impl Abort, alloc: Global, size: u32) -> Vec<u8> {
+    let mut bytes = bytes(rt, alloc, Content::Page);
+    put(rt, &mut bytes, &size.to_be_bytes());
+    put(
+        rt,
+        &mut bytes,
+        &bytes_of(alloc, &["66726565"]).expect(rt, "bytes"),
+    );
     for number in 0..size.saturating_sub(8) {
-        bytes.push((number % 251) as u8)?;
+        bytes.push((number % 251) as u8).expect(rt, "room");
     }
-    Ok(bytes)
+    bytes
 }
 
 /// Where the box has 40,000 bytes, the SHA-256 of the file's first 16,384, of the next 16,384, and of
@@ -61,18 +60,21 @@ static LONG: [&str; 3] = [
 ];
 
 /// The digests of its parts, where an archive is opened with it.
-fn long_digests(alloc: Global, size: u32) -> Result<Vec<u8>, Fault> {
+fn long_digests(rt: &impl Abort, alloc: Global, size: u32) -> Vec<u8> {
     let mut shelf = MemoryShelf::new(alloc);
-    write(&mut shelf, alloc, "a.jp2", &long_page(alloc, size)?)?;
-    first_digests(alloc, &open(alloc, shelf)?)
+    write(rt, &mut shelf, alloc, "a.jp2", &long_page(rt, alloc, size));
+    first_digests(rt, alloc, &open(rt, alloc, shelf))
 }
 
 #[test]
-fn three_parts(rt: HostRuntime) -> Result<(), Fail> {
+fn three_parts(rt: HostRuntime) {
     let alloc = rt.alloc();
-    let due = bytes_of(alloc, &LONG)?;
-    equal(&rt, long_digests(alloc, 40_000)?.as_slice(), due.as_slice());
-    Ok(())
+    let due = bytes_of(alloc, &LONG).expect(&rt, "bytes");
+    equal(
+        &rt,
+        long_digests(&rt, alloc, 40_000).as_slice(),
+        due.as_slice(),
+    );
 }
 
 /// Where the box has 90,000 bytes, the SHA-256 of each 16,384 of the file, and of the last 8,247, by
@@ -87,9 +89,12 @@ static LONGER: [&str; 6] = [
 ];
 
 #[test]
-fn six_parts(rt: HostRuntime) -> Result<(), Fail> {
+fn six_parts(rt: HostRuntime) {
     let alloc = rt.alloc();
-    let due = bytes_of(alloc, &LONGER)?;
-    equal(&rt, long_digests(alloc, 90_000)?.as_slice(), due.as_slice());
-    Ok(())
+    let due = bytes_of(alloc, &LONGER).expect(&rt, "bytes");
+    equal(
+        &rt,
+        long_digests(&rt, alloc, 90_000).as_slice(),
+        due.as_slice(),
+    );
 }

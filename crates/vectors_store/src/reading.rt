@@ -1,13 +1,14 @@
 //! Files and windows read back.
 
 use crate::asserts::{equal, equal_at};
-use crate::calls::{archive_of, is_page, open, shelf_of, view, whole, window};
+use crate::calls::{is_page, view, whole, window};
 use crate::contents::Content;
 use crate::shelves::{Act, act_at};
+use crate::sure::{archive_of, open, shelf_of};
 use jk_math::Fault;
 use jk_store::{Archive, Entry, MemoryShelf, Shelf};
 use std::alloc::Global;
-use std::test::Fail;
+use std::process::Abort;
 
 /// What is read: the whole file, or a window from a column on, so wide.
 #[derive(Clone, Copy)]
@@ -31,8 +32,8 @@ fn is_given<S: Shelf>(
 }
 
 /// Whether what an archive of one image `a` gives by a name is that image's file.
-fn by_a_name(alloc: Global, name: &str, asked: Asked) -> Result<bool, Fault> {
-    let mut archive = archive_of(alloc, &[("a.jp2", Content::Page)])?;
+fn by_a_name(rt: &impl Abort, alloc: Global, name: &str, asked: Asked) -> Result<bool, Fault> {
+    let mut archive = archive_of(rt, alloc, &[("a.jp2", Content::Page)]);
     is_given(&mut archive, alloc, name, asked)
 }
 
@@ -48,7 +49,7 @@ static BY_NAME: [(&str, Asked, Result<bool, Fault>); 6] = [
 #[test]
 fn by_name(rt: HostRuntime) {
     for (name, asked, due) in &BY_NAME {
-        equal_at(&rt, *name, by_a_name(rt.alloc(), name, *asked), *due);
+        equal_at(&rt, *name, by_a_name(&rt, rt.alloc(), name, *asked), *due);
     }
 }
 
@@ -67,17 +68,16 @@ fn ask(
 /// Whether what the entry of an image gives from a shelf with one file is the image's file; and the
 /// shelf's failures.
 fn by_the_entry(
+    rt: &impl Abort,
     alloc: Global,
     file: (&str, Content),
     asked: Asked,
-) -> Result<(Result<bool, Fault>, u64), Fault> {
-    let archive = archive_of(alloc, &[("a.jp2", Content::Page)])?;
-    let mut shelf = shelf_of(alloc, &[file])?;
-    let Some(entry) = archive.list().first() else {
-        return Err(Fault::NoSuchImage);
-    };
+) -> (Result<bool, Fault>, u64) {
+    let archive = archive_of(rt, alloc, &[("a.jp2", Content::Page)]);
+    let mut shelf = shelf_of(rt, alloc, &[file]);
+    let entry = archive.list().first().expect(rt, "an image");
     let answer = is_page(alloc, ask(entry, alloc, &mut shelf, asked));
-    Ok((answer, shelf.failures()))
+    (answer, shelf.failures())
 }
 
 static BY_ENTRY: [(&str, Content, Asked, Result<bool, Fault>, u64); 8] = [
@@ -116,29 +116,27 @@ static BY_ENTRY: [(&str, Content, Asked, Result<bool, Fault>, u64); 8] = [
 ];
 
 #[test]
-fn by_an_entry(rt: HostRuntime) -> Result<(), Fail> {
+fn by_an_entry(rt: HostRuntime) {
     for (name, content, asked, due, failures) in &BY_ENTRY {
-        let answer = by_the_entry(rt.alloc(), (*name, *content), *asked)?;
+        let answer = by_the_entry(&rt, rt.alloc(), (*name, *content), *asked);
         equal_at(&rt, *name, answer, (*due, *failures));
     }
-    Ok(())
 }
 
 /// What is read where the shelf gives another file once, and what after that.
-fn changing(alloc: Global, asked: Asked) -> Result<[Result<bool, Fault>; 2], Fault> {
+fn changing(rt: &impl Abort, alloc: Global, asked: Asked) -> [Result<bool, Fault>; 2] {
     // The calls are: list, read, and then this one.
-    let shelf = shelf_of(alloc, &[("a.jp2", Content::Page)])?;
-    let mut archive = open(alloc, act_at(shelf, 3, Act::Change))?;
+    let shelf = shelf_of(rt, alloc, &[("a.jp2", Content::Page)]);
+    let mut archive = open(rt, alloc, act_at(shelf, 3, Act::Change));
     let first = is_given(&mut archive, alloc, "a", asked);
     let second = is_given(&mut archive, alloc, "a", Asked::Whole);
-    Ok([first, second])
+    [first, second]
 }
 
 #[test]
-fn a_file_that_changes(rt: HostRuntime) -> Result<(), Fail> {
+fn a_file_that_changes(rt: HostRuntime) {
     for asked in [Asked::Whole, Asked::Window(0, 1)] {
-        let answer = changing(rt.alloc(), asked)?;
+        let answer = changing(&rt, rt.alloc(), asked);
         equal(&rt, answer, [Err(Fault::Changed), Ok(true)]);
     }
-    Ok(())
 }

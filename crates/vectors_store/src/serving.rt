@@ -1,17 +1,16 @@
 //! An archive in memory, asked over HTTP.
 
 use crate::asserts::{equal, equal_at};
-use crate::calls::{add_layered, archive_of, open, shelf_of};
+use crate::calls::add_layered;
 use crate::contents::Content;
 use crate::shelves::{Act, Acting, act_at};
-use jk_math::Fault;
+use crate::sure::{archive_of, bytes, open, put, shelf_of};
 use jk_store::{Archive, MemoryShelf};
 use jk_web::{Cache, End, run, run_with};
 use std::alloc::Global;
 use std::io;
 use std::io::Read;
 use std::process::Abort;
-use std::test::Fail;
 use vectors::bytes_of;
 
 /// Gives at most so many bytes a read.
@@ -36,43 +35,47 @@ impl Read for Source {
     }
 }
 
-fn requests(alloc: Global, text: &[u8], most: usize) -> Result<Source, Fault> {
-    Ok(Source {
-        bytes: Vec::from_slice(alloc, text)?,
+fn requests(rt: &impl Abort, alloc: Global, text: &[u8], most: usize) -> Source {
+    Source {
+        bytes: Vec::from_slice(alloc, text).expect(rt, "bytes"),
         at: 0,
         most,
-    })
+    }
 }
 
 /// The archive of one image `a`, which is one grey sample of 128.
-fn one_image(alloc: Global) -> Result<Archive<MemoryShelf>, Fault> {
-    archive_of(alloc, &[("a.jp2", Content::Page)])
+fn one_image(rt: &impl Abort, alloc: Global) -> Archive<MemoryShelf> {
+    archive_of(rt, alloc, &[("a.jp2", Content::Page)])
 }
 
 /// The same archive, whose file is another one at its nth read. The listing and the read of `open`
 /// come before.
-fn changed_at(alloc: Global, read: u64) -> Result<Archive<Acting>, Fault> {
-    let shelf = shelf_of(alloc, &[("a.jp2", Content::Page)])?;
-    open(alloc, act_at(shelf, read.saturating_add(2), Act::Change))
+fn changed_at(rt: &impl Abort, alloc: Global, read: u64) -> Archive<Acting> {
+    let shelf = shelf_of(rt, alloc, &[("a.jp2", Content::Page)]);
+    open(
+        rt,
+        alloc,
+        act_at(shelf, read.saturating_add(2), Act::Change),
+    )
 }
 
 /// What is replied by an archive of one image to a stream that comes in pieces of this size, and
 /// how it ends.
-fn replied(alloc: Global, stream: &[u8], size: usize) -> Result<(Vec<u8>, End), Fail> {
+fn replied(rt: &impl Abort, alloc: Global, stream: &[u8], size: usize) -> (Vec<u8>, End) {
     let mut out = Vec::new(alloc);
-    let mut reader = requests(alloc, stream, size)?;
-    let mut archive = one_image(alloc)?;
-    let end = run(alloc, &mut reader, &mut out, &mut archive, 1000)?;
-    Ok((out, end))
+    let mut reader = requests(rt, alloc, stream, size);
+    let mut archive = one_image(rt, alloc);
+    let end = run(alloc, &mut reader, &mut out, &mut archive, 1000).expect(rt, "a connection");
+    (out, end)
 }
 
 /// The same where the image's file is another one at its nth read.
-fn replied_to_changed(alloc: Global, stream: &[u8], read: u64) -> Result<(Vec<u8>, End), Fail> {
+fn replied_to_changed(rt: &impl Abort, alloc: Global, stream: &[u8], read: u64) -> (Vec<u8>, End) {
     let mut out = Vec::new(alloc);
-    let mut reader = requests(alloc, stream, 1000)?;
-    let mut archive = changed_at(alloc, read)?;
-    let end = run(alloc, &mut reader, &mut out, &mut archive, 1000)?;
-    Ok((out, end))
+    let mut reader = requests(rt, alloc, stream, 1000);
+    let mut archive = changed_at(rt, alloc, read);
+    let end = run(alloc, &mut reader, &mut out, &mut archive, 1000).expect(rt, "a connection");
+    (out, end)
 }
 
 /// What is asked, and the reply.
@@ -124,29 +127,27 @@ static REPLIES: [(&[u8], &[u8]); 11] = [
 ];
 
 #[test]
-fn replies(rt: HostRuntime) -> Result<(), Fail> {
+fn replies(rt: HostRuntime) {
     for (stream, want) in &REPLIES {
         for size in [1000, 1] {
-            let (bytes, end) = replied(rt.alloc(), stream, size)?;
+            let (bytes, end) = replied(&rt, rt.alloc(), stream, size);
             equal_at(&rt, size, bytes.as_slice(), *want);
             equal_at(&rt, size, end, End::Closed);
         }
     }
-    Ok(())
 }
 
 /// A bad request has a reply that closes, behind the replies to those before it, and is the end.
 #[test]
-fn a_bad_request(rt: HostRuntime) -> Result<(), Fail> {
+fn a_bad_request(rt: HostRuntime) {
     let stream = b"GET /b HTTP/1.1\r\n\r\nGET / HTTP/9\r\n\r\nGET /b HTTP/1.1\r\n\r\n";
     let want =
         b"HTTP/1.1 404 Not Found\r\nContent-Type: text/plain\r\nContent-Length: 14\r\n\r\n404 Not Found\nHTTP/1.1 400 Bad Request\r\nContent-Type: text/plain\r\nContent-Length: 16\r\nConnection: close\r\n\r\n400 Bad Request\n";
     for size in [1000, 1] {
-        let (bytes, end) = replied(rt.alloc(), stream, size)?;
+        let (bytes, end) = replied(&rt, rt.alloc(), stream, size);
         equal_at(&rt, size, bytes.as_slice(), want.as_slice());
         equal_at(&rt, size, end, End::Bad);
     }
-    Ok(())
 }
 
 /// The head of a reply that is the image's file.
@@ -158,12 +159,11 @@ static CHANGED: &[u8] =
     b"HTTP/1.1 500 Internal Server Error\r\nContent-Type: text/plain\r\nContent-Length: 26\r\n\r\n500 Internal Server Error\n";
 
 /// So many times the reply that is the image's file.
-fn files(alloc: Global, out: &mut Vec<u8>, count: usize) -> Result<(), Fault> {
+fn files(rt: &impl Abort, alloc: Global, out: &mut Vec<u8>, count: usize) {
     for _ in 0..count {
-        out.extend_from_slice(FILE_FOLLOWS)?;
-        out.extend_from_slice(&Content::Page.bytes(alloc)?)?;
+        put(rt, out, FILE_FOLLOWS);
+        put(rt, out, &bytes(rt, alloc, Content::Page));
     }
-    Ok(())
 }
 
 /// The file, and a window of it, which is the file again since it has one sample.
@@ -171,49 +171,50 @@ static BOTH: &[u8] =
     b"GET /images/a HTTP/1.1\r\n\r\nGET /images/a/window?x=0&y=0&w=9&h=1&r=0 HTTP/1.1\r\n\r\n";
 
 #[test]
-fn files_and_windows(rt: HostRuntime) -> Result<(), Fail> {
+fn files_and_windows(rt: HostRuntime) {
     let alloc = rt.alloc();
     let mut want = Vec::new(alloc);
-    files(alloc, &mut want, 2)?;
+    files(&rt, alloc, &mut want, 2);
     for size in [1000, 1] {
-        let (bytes, end) = replied(alloc, BOTH, size)?;
+        let (bytes, end) = replied(&rt, alloc, BOTH, size);
         equal_at(&rt, size, bytes.as_slice(), want.as_slice());
         equal_at(&rt, size, end, End::Closed);
     }
-    Ok(())
 }
 
 /// Looks at the replies to a file and a window of which the nth one is made from a file that has
 /// changed.
-fn one_changed(rt: &impl Abort, alloc: Global, read: u64) -> Result<(), Fail> {
+fn one_changed(rt: &impl Abort, alloc: Global, read: u64) {
     let mut want = Vec::new(alloc);
     if read == 1 {
-        want.extend_from_slice(CHANGED)?;
-        files(alloc, &mut want, 1)?;
+        put(rt, &mut want, CHANGED);
+        files(rt, alloc, &mut want, 1);
     } else {
-        files(alloc, &mut want, 1)?;
-        want.extend_from_slice(CHANGED)?;
+        files(rt, alloc, &mut want, 1);
+        put(rt, &mut want, CHANGED);
     }
-    let (bytes, end) = replied_to_changed(alloc, BOTH, read)?;
+    let (bytes, end) = replied_to_changed(rt, alloc, BOTH, read);
     equal_at(rt, read, bytes.as_slice(), want.as_slice());
     equal_at(rt, read, end, End::Closed);
-    Ok(())
 }
 
 #[test]
-fn a_file_that_has_changed(rt: HostRuntime) -> Result<(), Fail> {
-    one_changed(&rt, rt.alloc(), 1)?;
-    one_changed(&rt, rt.alloc(), 2)
+fn a_file_that_has_changed(rt: HostRuntime) {
+    one_changed(&rt, rt.alloc(), 1);
+    one_changed(&rt, rt.alloc(), 2);
 }
 
 /// The same where windows are kept, one at a time.
-fn replied_with_cache(alloc: Global, stream: &[u8], read: u64) -> Result<(Vec<u8>, End), Fail> {
+fn replied_with_cache(rt: &impl Abort, alloc: Global, stream: &[u8], read: u64) -> (Vec<u8>, End) {
     let mut out = Vec::new(alloc);
-    let mut reader = requests(alloc, stream, 1000)?;
-    let mut archive = changed_at(alloc, read)?;
-    let mut cache = Cache::new(alloc, 1)?;
-    let end = run_with(alloc, &mut reader, &mut out, &mut archive, &mut cache, 1000)?;
-    Ok((out, end))
+    let mut reader = requests(rt, alloc, stream, 1000);
+    let mut archive = changed_at(rt, alloc, read);
+    let mut cache = Cache::new(alloc, 1).expect(rt, "a cache");
+    let end = run_with(alloc, &mut reader, &mut out, &mut archive, &mut cache, 1000).expect(
+        rt,
+        "a connection",
+    );
+    (out, end)
 }
 
 /// A window, which is asked for twice. The second query has the reduction that the first leaves
@@ -224,19 +225,18 @@ static TWICE: &[u8] =
 /// The shelf has another file at its second read. Without a cache the second reply tells of it;
 /// through a cache there is no second read.
 #[test]
-fn a_window_that_is_kept(rt: HostRuntime) -> Result<(), Fail> {
+fn a_window_that_is_kept(rt: HostRuntime) {
     let alloc = rt.alloc();
     let mut want = Vec::new(alloc);
-    files(alloc, &mut want, 1)?;
-    want.extend_from_slice(CHANGED)?;
-    let (bytes, _end) = replied_to_changed(alloc, TWICE, 2)?;
+    files(&rt, alloc, &mut want, 1);
+    put(&rt, &mut want, CHANGED);
+    let (bytes, _end) = replied_to_changed(&rt, alloc, TWICE, 2);
     equal(&rt, bytes.as_slice(), want.as_slice());
     let mut kept = Vec::new(alloc);
-    files(alloc, &mut kept, 2)?;
-    let (bytes, end) = replied_with_cache(alloc, TWICE, 2)?;
+    files(&rt, alloc, &mut kept, 2);
+    let (bytes, end) = replied_with_cache(&rt, alloc, TWICE, 2);
     equal(&rt, bytes.as_slice(), kept.as_slice());
     equal(&rt, end, End::Closed);
-    Ok(())
 }
 
 /// The boxes of a JP2 file of one grey sample up to the length of its codestream box, and from the
@@ -256,7 +256,7 @@ static IN_LAYERS: &[u8] =
     b"GET /images/q/window?x=0&y=0&w=1&h=1&layers=4 HTTP/1.1\r\n\r\nGET /images/q/window?x=0&y=0&w=1&h=1 HTTP/1.1\r\n\r\nGET /images/q/window?x=0&y=0&w=1&h=1&layers=0 HTTP/1.1\r\n\r\nGET /images/q/window?x=0&y=0&w=1&h=1&layers=4 HTTP/1.1\r\n\r\n";
 
 /// The reply that is a file of 178 or 182 bytes.
-fn layered_reply(alloc: Global, out: &mut Vec<u8>, all: bool) -> Result<(), Fail> {
+fn layered_reply(rt: &impl Abort, alloc: Global, out: &mut Vec<u8>, all: bool) {
     let (head, parts): (&[u8], [&str; 4]) = if all {
         (
             b"HTTP/1.1 200 OK\r\nContent-Type: image/jp2\r\nContent-Length: 182\r\n\r\n",
@@ -268,32 +268,33 @@ fn layered_reply(alloc: Global, out: &mut Vec<u8>, all: bool) -> Result<(), Fail
             [LAYERED_BOXES, "00000065", LAYERED, FOUR_LAYERS],
         )
     };
-    out.extend_from_slice(head)?;
-    out.extend_from_slice(&bytes_of(alloc, &parts)?)?;
-    Ok(())
+    put(rt, out, head);
+    put(rt, out, &bytes_of(alloc, &parts).expect(rt, "bytes"));
 }
 
 /// With no cache, and with one that keeps one window or two.
 #[test]
-fn windows_in_layers(rt: HostRuntime) -> Result<(), Fail> {
+fn windows_in_layers(rt: HostRuntime) {
     let alloc = rt.alloc();
     let mut want = Vec::new(alloc);
-    layered_reply(alloc, &mut want, false)?;
-    layered_reply(alloc, &mut want, true)?;
-    want.extend_from_slice(
+    layered_reply(&rt, alloc, &mut want, false);
+    layered_reply(&rt, alloc, &mut want, true);
+    put(
+        &rt,
+        &mut want,
         b"HTTP/1.1 400 Bad Request\r\nContent-Type: text/plain\r\nContent-Length: 16\r\n\r\n400 Bad Request\n",
-    )?;
-    layered_reply(alloc, &mut want, false)?;
-    let mut archive = open(alloc, MemoryShelf::new(alloc))?;
-    add_layered(&mut archive, alloc, "q")?;
+    );
+    layered_reply(&rt, alloc, &mut want, false);
+    let mut archive = open(&rt, alloc, MemoryShelf::new(alloc));
+    add_layered(&mut archive, alloc, "q").expect(&rt, "an image");
     let mut out = Vec::new(alloc);
-    let mut reader = requests(alloc, IN_LAYERS, 1000)?;
-    run(alloc, &mut reader, &mut out, &mut archive, 1000)?;
+    let mut reader = requests(&rt, alloc, IN_LAYERS, 1000);
+    run(alloc, &mut reader, &mut out, &mut archive, 1000).expect(&rt, "a connection");
     equal(&rt, out.as_slice(), want.as_slice());
     for capacity in [1, 2] {
         let mut kept = Vec::new(alloc);
-        let mut reader = requests(alloc, IN_LAYERS, 1000)?;
-        let mut cache = Cache::new(alloc, capacity)?;
+        let mut reader = requests(&rt, alloc, IN_LAYERS, 1000);
+        let mut cache = Cache::new(alloc, capacity).expect(&rt, "a cache");
         run_with(
             alloc,
             &mut reader,
@@ -301,8 +302,8 @@ fn windows_in_layers(rt: HostRuntime) -> Result<(), Fail> {
             &mut archive,
             &mut cache,
             1000,
-        )?;
+        )
+        .expect(&rt, "a connection");
         equal_at(&rt, capacity, kept.as_slice(), want.as_slice());
     }
-    Ok(())
 }
