@@ -3,14 +3,13 @@
 
 use crate::lines::GREY;
 use crate::memory::Memory;
-use crate::runs::{check_file, check_output, check_run};
+use crate::runs::{bytes, check_file, check_output, check_run, put_file, put_folder};
 use jk_line::Status;
 use jk_store::MemoryShelf;
 use std::alloc::Global;
 use std::process::Abort;
-use std::test::Fail;
 use std::thread::Threads;
-use vectors::{Line, bytes_of, equal};
+use vectors::{Line, equal};
 
 /// A curve of grey: version 2, of an input device, connected by XYZ, with one tag, `kTRC`.
 static PROFILE: &str =
@@ -30,17 +29,12 @@ static CODE: &str =
     "FF4F FF51 0029 0000 00000001 00000001 00000000 00000000 00000001 00000001 00000000 00000000 0001 07 01 01 FF52 000C 00 00 0001 00 00 04 04 00 01 FF5C 0004 40 40 FF90 000A 0000 0000000F 00 01 FF93 00 FFD9";
 
 /// A world with an input, and with files: a profile, XML, and two bytes.
-fn world<'a, R: Threads + Sync>(
-    rt: &'a R,
-    alloc: Global,
-    input: &[&str],
-) -> Result<Memory<'a, R>, Fail> {
-    let mut world = Memory::new(rt, alloc, bytes_of(alloc, input)?);
+fn world<'a, R: Abort + Threads + Sync>(rt: &'a R, alloc: Global, input: &[&str]) -> Memory<'a, R> {
+    let mut world = Memory::new(rt, alloc, bytes(rt, alloc, input));
     for (name, text) in [("p.icc", PROFILE), ("x.xml", "3C612F3E"), ("u.bin", "4869")] {
-        let bytes = bytes_of(alloc, &[text])?;
-        world.files.insert(String::from_str(alloc, name)?, bytes)?;
+        put_file(rt, alloc, &mut world, name, text);
     }
-    Ok(world)
+    world
 }
 
 /// Runs a command line over an input and the files, which must write an output and nothing else.
@@ -50,9 +44,9 @@ fn check_kept<R: Abort + Threads + Sync>(
     line: &str,
     input: &[&str],
     output: &[&str],
-) -> Result<(), Fail> {
-    let mut world = world(rt, alloc, input)?;
-    let due = bytes_of(alloc, output)?;
+) {
+    let mut world = world(rt, alloc, input);
+    let due = bytes(rt, alloc, output);
     check_run(rt, alloc, &mut world, line, Status::Done, &due, "")
 }
 
@@ -75,7 +69,7 @@ static OPTIONS: &str = "\
 /// What is asked for stands where it is to stand, and all else as it was; `encode` gives what
 /// `dress` gives to what it writes otherwise, with workers too.
 #[test]
-fn options_give_their_boxes(rt: HostRuntime) -> Result<(), Fail> {
+fn options_give_their_boxes(rt: HostRuntime) {
     let alloc = rt.alloc();
     for row in OPTIONS.split('\n') {
         let mut fields = Line::new(row, '|');
@@ -86,20 +80,21 @@ fn options_give_their_boxes(rt: HostRuntime) -> Result<(), Fail> {
             FRONT, head, "6A703268", IMAGE, COLOUR, resolution, others, CODE_BOX, CODE,
         ];
         let plain = [FRONT, "0000002D 6A703268", IMAGE, COLOUR, CODE_BOX, CODE];
-        let line = format!(in alloc; "dress - - {options}")?;
-        check_kept(&rt, alloc, line.as_str(), &plain, &file)?;
+        let line = format!(in alloc; "dress - - {options}").expect(&rt, "a text");
+        check_kept(&rt, alloc, line.as_str(), &plain, &file);
         for workers in ["", "--workers 2"] {
-            let line = format!(in alloc; "encode - - --levels 0 {options} {workers}")?;
-            check_kept(&rt, alloc, line.as_str(), &[GREY], &file)?;
+            let line = format!(in alloc; "encode - - --levels 0 {options} {workers}").expect(
+                &rt, "a text",
+            );
+            check_kept(&rt, alloc, line.as_str(), &[GREY], &file);
         }
     }
-    Ok(())
 }
 
 /// A profile takes the place of the colour, and what a file has beside it stays: with a second
 /// profile the first is gone.
 #[test]
-fn profiles_take_the_place_of_colours(rt: HostRuntime) -> Result<(), Fail> {
+fn profiles_take_the_place_of_colours(rt: HostRuntime) {
     let alloc = rt.alloc();
     let plain = [FRONT, "0000002D 6A703268", IMAGE, COLOUR, CODE_BOX, CODE];
     let vendor = [
@@ -120,17 +115,17 @@ fn profiles_take_the_place_of_colours(rt: HostRuntime) -> Result<(), Fail> {
         CODE_BOX,
         CODE,
     ];
-    check_kept(&rt, alloc, "dress - - --profile p.icc", &plain, &kept)?;
-    check_kept(&rt, alloc, "dress - - --profile p.icc", &vendor, &kept)?;
-    check_kept(&rt, alloc, "dress - - --profile p.icc", &kept, &kept)?;
+    check_kept(&rt, alloc, "dress - - --profile p.icc", &plain, &kept);
+    check_kept(&rt, alloc, "dress - - --profile p.icc", &vendor, &kept);
+    check_kept(&rt, alloc, "dress - - --profile p.icc", &kept, &kept);
     check_kept(
         &rt,
         alloc,
         "encode - - --levels 0 --profile p.icc",
         &[GREY],
         &kept,
-    )?;
-    check_output(&rt, alloc, "dress - -", &kept, &kept)?;
+    );
+    check_output(&rt, alloc, "dress - -", &kept, &kept);
     check_output(&rt, alloc, "decode - -", &kept, &[GREY])
 }
 
@@ -150,60 +145,55 @@ capture: 300/254e4x15000/127e2;display: 65535/1e127x1/65535e-128;xml: 4;xml: 0;\
 uuid: be7acfcb97a942e89c71999491e3afac=2";
 
 /// Lines that are parted by semicolons, as they are written.
-fn spelled(alloc: Global, lines: &str) -> Result<String, Fail> {
+fn spelled(rt: &impl Abort, alloc: Global, lines: &str) -> String {
     let mut text = String::new(alloc);
     for line in lines.split(';') {
         if !line.is_empty() {
-            text.push_str(line)?;
-            text.push('\n')?;
+            text.push_str(line).expect(rt, "a text");
+            text.push('\n').expect(rt, "a text");
         }
     }
-    Ok(text)
+    text
 }
 
 /// Checks what is listed of a file.
-fn check_told<R: Abort + Threads + Sync>(
-    rt: &R,
-    alloc: Global,
-    file: &[&str],
-    lines: &[u8],
-) -> Result<(), Fail> {
-    let mut world = Memory::new(rt, alloc, bytes_of(alloc, file)?);
+fn check_told<R: Abort + Threads + Sync>(rt: &R, alloc: Global, file: &[&str], lines: &[u8]) {
+    let mut world = Memory::new(rt, alloc, bytes(rt, alloc, file));
     check_run(rt, alloc, &mut world, "extras -", Status::Done, lines, "")
 }
 
 /// All that a file keeps is listed, behind the codestream too; a bare codestream keeps nothing.
 #[test]
-fn what_is_kept_is_listed(rt: HostRuntime) -> Result<(), Fail> {
+fn what_is_kept_is_listed(rt: HostRuntime) {
     let alloc = rt.alloc();
     for row in LISTED.split('\n') {
         let mut fields = Line::new(row, '|');
         let (head, header) = (fields.word(), fields.word());
         let (others, lines) = (fields.word(), fields.word());
         fields.end().expect(&rt, "boxes and lines");
-        let due = spelled(alloc, lines)?;
+        let due = spelled(&rt, alloc, lines);
         for (before, behind) in [(others, ""), ("", others)] {
             let file = [
                 FRONT, head, "6A703268", IMAGE, header, before, CODE_BOX, CODE, behind,
             ];
-            check_told(&rt, alloc, &file, due.as_bytes())?;
+            check_told(&rt, alloc, &file, due.as_bytes());
         }
     }
     check_told(&rt, alloc, &[CODE], &[])
 }
 
 /// What a file of a world has.
-fn has_file<R>(world: &Memory<'_, R>, alloc: Global, name: &str, due: &str) -> Result<bool, Fail> {
-    let due = bytes_of(alloc, &[due])?;
-    Ok(match world.files.get(name) {
+fn has_file<R: Abort>(rt: &R, world: &Memory<'_, R>, alloc: Global, name: &str, due: &str) -> bool {
+    let due = bytes(rt, alloc, &[due]);
+    match world.files.get(name) {
         Some(bytes) => bytes.as_slice() == due.as_slice(),
         None => false,
-    })
+    }
 }
 
 /// What is asked for is taken out into files, or, where the file lacks a part of it, nothing is.
 #[test]
-fn what_is_kept_is_taken_out(rt: HostRuntime) -> Result<(), Fail> {
+fn what_is_kept_is_taken_out(rt: HostRuntime) {
     let alloc = rt.alloc();
     let file = [
         FRONT,
@@ -216,32 +206,30 @@ fn what_is_kept_is_taken_out(rt: HostRuntime) -> Result<(), Fail> {
         CODE,
         "0000000C 786D6C20 3C612F3E 0000001A 75756964 000102030405060708090A0B0C0D0E0F 4A6B",
     ];
-    let mut world = world(&rt, alloc, &file)?;
+    let mut world = world(&rt, alloc, &file);
     let line = "extras - --profile 1 --xml 2 --uuid 000102030405060708090A0B0C0D0E0F:3";
-    check_run(&rt, alloc, &mut world, line, Status::Done, &[], "")?;
+    check_run(&rt, alloc, &mut world, line, Status::Done, &[], "");
     let found = (
-        has_file(&world, alloc, "1", PROFILE)?,
-        has_file(&world, alloc, "2", "3C612F3E")?,
-        has_file(&world, alloc, "3", "4869")?,
+        has_file(&rt, &world, alloc, "1", PROFILE),
+        has_file(&rt, &world, alloc, "2", "3C612F3E"),
+        has_file(&rt, &world, alloc, "3", "4869"),
     );
     equal(found, (true, true, true)).expect(&rt, "what is taken out");
     let line = "extras - --xml 4 --uuid ff0102030405060708090A0B0C0D0E0F:5";
     let error = "jk: standard input has no box under this UUID\n";
-    check_run(&rt, alloc, &mut world, line, Status::Refused, &[], error)?;
+    check_run(&rt, alloc, &mut world, line, Status::Refused, &[], error);
     let found = (world.files.contains_key("4"), world.files.contains_key("5"));
     equal(found, (false, false)).expect(&rt, "nothing is taken out");
-    Ok(())
 }
 
 /// An image that is added has what it is to keep, under its own name alone.
 #[test]
-fn added_images_keep_it(rt: HostRuntime) -> Result<(), Fail> {
+fn added_images_keep_it(rt: HostRuntime) {
     let alloc = rt.alloc();
-    let mut world = world(&rt, alloc, &[GREY])?;
-    let name = String::from_str(alloc, "d")?;
-    world.folders.insert(name, MemoryShelf::new(alloc))?;
+    let mut world = world(&rt, alloc, &[GREY]);
+    put_folder(&rt, alloc, &mut world, MemoryShelf::new(alloc));
     let line = "add d a - --levels 0 --profile p.icc --xml x.xml";
-    check_run(&rt, alloc, &mut world, line, Status::Done, &[], "")?;
+    check_run(&rt, alloc, &mut world, line, Status::Done, &[], "");
     let file = [
         FRONT,
         "000000C9 6A703268",
@@ -252,7 +240,7 @@ fn added_images_keep_it(rt: HostRuntime) -> Result<(), Fail> {
         CODE_BOX,
         CODE,
     ];
-    check_file(&rt, alloc, &mut world, "a.jp2", &file, 1)?;
+    check_file(&rt, alloc, &mut world, "a.jp2", &file, 1);
     let error = "jk: F18 NameTaken\n";
     check_run(&rt, alloc, &mut world, line, Status::Refused, &[], error)
 }
@@ -282,17 +270,16 @@ dress - - --xml x.xml|F13 BadBox|the structure of the JP2 boxes is broken
 extras - --uuid 00:x|F15 BadParameters|--uuid is 00:x, and may be 32 hexadecimal digits, a colon and the name of a file";
 
 #[test]
-fn refusals_have_their_causes(rt: HostRuntime) -> Result<(), Fail> {
+fn refusals_have_their_causes(rt: HostRuntime) {
     let alloc = rt.alloc();
     for row in REFUSED.split('\n') {
         let mut fields = Line::new(row, '|');
         let (line, fault, cause) = (fields.word(), fields.word(), fields.word());
         fields.end().expect(&rt, "a line and why it is refused");
-        let line = format!(in alloc; "{line} --explain")?;
-        let error = format!(in alloc; "jk: {fault}\n{cause}\n")?;
-        check_refused(&rt, alloc, &[GREY], line.as_str(), error.as_str())?;
+        let line = format!(in alloc; "{line} --explain").expect(&rt, "a text");
+        let error = format!(in alloc; "jk: {fault}\n{cause}\n").expect(&rt, "a text");
+        check_refused(&rt, alloc, &[GREY], line.as_str(), error.as_str());
     }
-    Ok(())
 }
 
 /// Runs a command line over an input and the files, which is refused.
@@ -302,8 +289,8 @@ fn check_refused<R: Abort + Threads + Sync>(
     input: &[&str],
     line: &str,
     error: &str,
-) -> Result<(), Fail> {
-    let mut world = world(rt, alloc, input)?;
+) {
+    let mut world = world(rt, alloc, input);
     check_run(rt, alloc, &mut world, line, Status::Refused, &[], error)
 }
 
@@ -314,7 +301,7 @@ static LAYERED: &str =
 
 /// With a number of layers the image of these is decoded.
 #[test]
-fn layers_are_decoded(rt: HostRuntime) -> Result<(), Fail> {
+fn layers_are_decoded(rt: HostRuntime) {
     let alloc = rt.alloc();
     for (layers, sample) in [
         (1, "80"),
@@ -325,14 +312,16 @@ fn layers_are_decoded(rt: HostRuntime) -> Result<(), Fail> {
         (9, "FF"),
     ] {
         for options in ["", "--workers 2", "--x 0 --y 0 --w 9 --h 1"] {
-            let line = format!(in alloc; "decode - - --layers {layers} {options}")?;
+            let line = format!(in alloc; "decode - - --layers {layers} {options}").expect(
+                &rt, "a text",
+            );
             check_output(
                 &rt,
                 alloc,
                 line.as_str(),
                 &[LAYERED],
                 &["50350A 312031 0A 323535 0A", sample],
-            )?;
+            );
         }
     }
     let line = "decode - - --layers 0";

@@ -1,14 +1,13 @@
 //! Command lines, and what they do.
 
 use crate::memory::Memory;
-use crate::runs::{check_file, check_output, check_run, run_line, world_of};
+use crate::runs::{bytes, check_file, check_output, check_run, run_line, world_of};
 use jk_line::Status;
 use std::alloc::Global;
 use std::process::Abort;
 use std::str::Split;
-use std::test::Fail;
 use std::thread::Threads;
-use vectors::{bytes_of, equal, equal_at};
+use vectors::{equal, equal_at};
 
 /// A PGM file of one pixel, 128.
 pub(crate) static GREY: &str = "50350A 312031 0A 323535 0A 80";
@@ -85,9 +84,9 @@ fn check_fault<R: Abort + Threads + Sync>(
     line: &str,
     input: &str,
     error: &str,
-) -> Result<(), Fail> {
-    let input = bytes_of(alloc, &[input])?;
-    let mut world = world_of(rt, alloc, input, &[("c.jp2", &["FF"])])?;
+) {
+    let input = bytes(rt, alloc, &[input]);
+    let mut world = world_of(rt, alloc, input, &[("c.jp2", &["FF"])]);
     check_run(rt, alloc, &mut world, line, Status::Refused, &[], error)
 }
 
@@ -133,7 +132,7 @@ fn field<'a>(fields: &mut Split<'a, char>, other: &'a str) -> &'a str {
 }
 
 #[test]
-fn options_change_their_fields(rt: HostRuntime) -> Result<(), Fail> {
+fn options_change_their_fields(rt: HostRuntime) {
     let alloc = rt.alloc();
     for row in OPTIONS.split('\n') {
         let mut fields = row.split('|');
@@ -147,39 +146,37 @@ fn options_change_their_fields(rt: HostRuntime) -> Result<(), Fail> {
             field(&mut fields, ""),
             "FFD9",
         ];
-        let line = format!(in alloc; "encode - - --raw {options}")?;
-        check_output(&rt, alloc, line.as_str(), &[GREY], &file)?;
+        let line = format!(in alloc; "encode - - --raw {options}").expect(&rt, "a text");
+        check_output(&rt, alloc, line.as_str(), &[GREY], &file);
     }
-    Ok(())
 }
 
 /// The colour transform is for three components, unless it is refused.
 #[test]
-fn colour_is_for_three_components(rt: HostRuntime) -> Result<(), Fail> {
+fn colour_is_for_three_components(rt: HostRuntime) {
     let alloc = rt.alloc();
     for (options, colour) in [("", "01"), ("--no-colour", "00")] {
-        let line = format!(in alloc; "encode - - --raw --levels 0 {options}")?;
+        let line = format!(in alloc; "encode - - --raw --levels 0 {options}").expect(&rt, "a text");
         let file = [
             "FF4F FF51 002F 0000 00000001 00000001 00000000 00000000 00000001 00000001 00000000 00000000 0003 070101 070101 070101 FF52 000C 00 00 0001",
             colour,
             "00 04 04 00 01 FF5C 0004 40 40 FF90 000A 0000 00000011 00 01 FF93 000000 FFD9",
         ];
-        check_output(&rt, alloc, line.as_str(), &[COLOURS], &file)?;
+        check_output(&rt, alloc, line.as_str(), &[COLOURS], &file);
     }
-    Ok(())
 }
 
 /// What the commands write that work on one file.
 #[test]
-fn commands_write_their_output(rt: HostRuntime) -> Result<(), Fail> {
+fn commands_write_their_output(rt: HostRuntime) {
     let alloc = rt.alloc();
     let pixel = pixel();
     for line in ["encode - - --levels 0", "encode - - --levels 0 --workers 2"] {
-        check_output(&rt, alloc, line, &[GREY], &pixel)?;
+        check_output(&rt, alloc, line, &[GREY], &pixel);
     }
     for line in ["decode - -", "decode - - --workers 3"] {
-        check_output(&rt, alloc, line, &pixel, &[GREY])?;
-        check_output(&rt, alloc, line, &[COLUMN], &[COLUMN_TEXT])?;
+        check_output(&rt, alloc, line, &pixel, &[GREY]);
+        check_output(&rt, alloc, line, &[COLUMN], &[COLUMN_TEXT]);
     }
     check_output(
         &rt,
@@ -187,7 +184,7 @@ fn commands_write_their_output(rt: HostRuntime) -> Result<(), Fail> {
         "decode - - --reduce 1",
         &[COLUMN],
         &[HALVED_TEXT],
-    )?;
+    );
     // 1 9 1 8 1 1 LRCP 1 2
     check_output(
         &rt,
@@ -195,30 +192,31 @@ fn commands_write_their_output(rt: HostRuntime) -> Result<(), Fail> {
         "info -",
         &[COLUMN],
         &["31 20 39 20 31 20 38 20 31 20 31 20 4C524350 20 31 20 32 0A"],
-    )?;
+    );
     check_output(
         &rt,
         alloc,
         "cut - - --x 0 --y 0 --w 1 --h 1 --reduce 1",
         &[FOUR, FOUR_PART],
         &[FOUR, WINDOW_PART],
-    )?;
+    );
     for (options, rest) in [
         ("", ALL_LAYERS),
         ("--layers 4", FOUR_LAYERS),
         ("--layers 9", ALL_LAYERS),
     ] {
-        let line = format!(in alloc; "cut - - --x 0 --y 0 --w 1 --h 1 {options}")?;
+        let line = format!(in alloc; "cut - - --x 0 --y 0 --w 1 --h 1 {options}").expect(
+            &rt, "a text",
+        );
         let file = [LAYERED, ALL_LAYERS];
-        check_output(&rt, alloc, line.as_str(), &file, &[LAYERED, rest])?;
+        check_output(&rt, alloc, line.as_str(), &file, &[LAYERED, rest]);
     }
-    Ok(())
 }
 
 /// Windows are decoded alone: rows of the column, as its file has them, and what passes the edge is
 /// left out.
 #[test]
-fn windows_are_decoded(rt: HostRuntime) -> Result<(), Fail> {
+fn windows_are_decoded(rt: HostRuntime) {
     let alloc = rt.alloc();
     for (options, text) in [
         ("--x 0 --y 2 --w 1 --h 3", WINDOW_TEXT),
@@ -228,10 +226,9 @@ fn windows_are_decoded(rt: HostRuntime) -> Result<(), Fail> {
         ),
         ("--x 0 --y 0 --w 1 --h 9", COLUMN_TEXT),
     ] {
-        let line = format!(in alloc; "decode - - {options}")?;
-        check_output(&rt, alloc, line.as_str(), &[COLUMN], &[text])?;
+        let line = format!(in alloc; "decode - - {options}").expect(&rt, "a text");
+        check_output(&rt, alloc, line.as_str(), &[COLUMN], &[text]);
     }
-    Ok(())
 }
 
 /// Command lines that answer a fault, a line for each: the command, its input, if that isn't the
@@ -314,30 +311,30 @@ fn input_of<'a>(name: &'a str) -> &'a str {
 }
 
 #[test]
-fn faults_come_in_order(rt: HostRuntime) -> Result<(), Fail> {
+fn faults_come_in_order(rt: HostRuntime) {
     let alloc = rt.alloc();
     for row in FAULTS.split('\n') {
         let mut fields = row.split('|');
         let line = field(&mut fields, "");
         let input = input_of(field(&mut fields, GREY));
-        let error = format!(in alloc; "jk: {}\n", field(&mut fields, ""))?;
-        check_fault(&rt, alloc, line, input, error.as_str())?;
+        let error = format!(in alloc; "jk: {}\n", field(&mut fields, "")).expect(&rt, "a text");
+        check_fault(&rt, alloc, line, input, error.as_str());
     }
-    Ok(())
 }
 
 #[test]
-fn causes_are_told(rt: HostRuntime) -> Result<(), Fail> {
+fn causes_are_told(rt: HostRuntime) {
     let alloc = rt.alloc();
     for row in CAUSES.split('\n') {
         let mut fields = row.split('|');
         let line = field(&mut fields, "");
         let input = input_of(field(&mut fields, GREY));
         let fault = field(&mut fields, "");
-        let error = format!(in alloc; "jk: {fault}\n{}\n", field(&mut fields, ""))?;
-        check_fault(&rt, alloc, line, input, error.as_str())?;
+        let error = format!(in alloc; "jk: {fault}\n{}\n", field(&mut fields, "")).expect(
+            &rt, "a text",
+        );
+        check_fault(&rt, alloc, line, input, error.as_str());
     }
-    Ok(())
 }
 
 /// What `jk serve` says of a folder with an image and a file that isn't listed.
@@ -346,20 +343,20 @@ static SERVED: &str =
 
 /// An archive: adding, a name that is taken, and what is told where it is served.
 #[test]
-fn archives_grow(rt: HostRuntime) -> Result<(), Fail> {
+fn archives_grow(rt: HostRuntime) {
     let alloc = rt.alloc();
-    let input = bytes_of(alloc, &[GREY])?;
-    let mut world = world_of(&rt, alloc, input, &[("c.jp2", &[COLUMN])])?;
+    let input = bytes(&rt, alloc, &[GREY]);
+    let mut world = world_of(&rt, alloc, input, &[("c.jp2", &[COLUMN])]);
     for (line, status, error) in [
         ("add d a - --levels 0", Status::Done, ""),
         ("add d a -", Status::Refused, "jk: F18 NameTaken\n"),
         ("add d c -", Status::Refused, "jk: F18 NameTaken\n"),
     ] {
         world.error.clear();
-        check_run(&rt, alloc, &mut world, line, status, &[], error)?;
+        check_run(&rt, alloc, &mut world, line, status, &[], error);
     }
-    check_file(&rt, alloc, &mut world, "a.jp2", &pixel(), 2)?;
-    check_file(&rt, alloc, &mut world, "c.jp2", &[COLUMN], 2)?;
+    check_file(&rt, alloc, &mut world, "a.jp2", &pixel(), 2);
+    check_file(&rt, alloc, &mut world, "c.jp2", &[COLUMN], 2);
     world.error.clear();
     let line = "serve d --port 8080";
     check_run(&rt, alloc, &mut world, line, Status::Done, &[], SERVED)
@@ -375,11 +372,11 @@ static ADDED_STYLES: [(&str, &str); 4] = [
 
 /// What is added has the style of code-blocks that was asked for.
 #[test]
-fn styles_are_added(rt: HostRuntime) -> Result<(), Fail> {
+fn styles_are_added(rt: HostRuntime) {
     let alloc = rt.alloc();
     for (options, style) in ADDED_STYLES {
-        let mut world = world_of(&rt, alloc, bytes_of(alloc, &[GREY])?, &[])?;
-        let line = format!(in alloc; "add d a - --levels 0 {options}")?;
+        let mut world = world_of(&rt, alloc, bytes(&rt, alloc, &[GREY]), &[]);
+        let line = format!(in alloc; "add d a - --levels 0 {options}").expect(&rt, "a text");
         let file = [
             BOXES,
             "FF4F",
@@ -390,10 +387,9 @@ fn styles_are_added(rt: HostRuntime) -> Result<(), Fail> {
             STEPS,
             "FF90 000A 0000 0000000F 00 01 FF93 00 FFD9",
         ];
-        check_run(&rt, alloc, &mut world, line.as_str(), Status::Done, &[], "")?;
-        check_file(&rt, alloc, &mut world, "a.jp2", &file, 1)?;
+        check_run(&rt, alloc, &mut world, line.as_str(), Status::Done, &[], "");
+        check_file(&rt, alloc, &mut world, "a.jp2", &file, 1);
     }
-    Ok(())
 }
 
 /// What `jk check` writes of a folder with the file of the grey pixel, `a.jp2`, and a bare
@@ -419,22 +415,28 @@ static PAGE_DIGEST: &str = "0c980b2cd988a155ed2a9ca52d24efe48b56c47ba02a9a45c804
 
 static COLUMN_DIGEST: &str = "60203eb8feef0d28927895135da094a63f5c6940482cabdc3049432a2cf801d3";
 
+/// What a sign of these lines stands for, if it is one.
+fn meant(letter: char) -> Option<&'static str> {
+    match letter {
+        '$' => Some(PAGE_DIGEST),
+        '%' => Some(COLUMN_DIGEST),
+        '^' => Some("jk: c.jp2 isn't an image: F13 BadBox\n"),
+        '&' => Some("64 hexadecimal digits, two spaces and the name of an image's file"),
+        '/' => Some("\n"),
+        _ => None,
+    }
+}
+
 /// A field of these lines as it stands in files.
-fn spelled(alloc: Global, field: &str) -> Result<String, Fail> {
+fn spelled(rt: &impl Abort, alloc: Global, field: &str) -> String {
     let mut text = String::new(alloc);
     for letter in field.chars() {
-        match letter {
-            '$' => text.push_str(PAGE_DIGEST)?,
-            '%' => text.push_str(COLUMN_DIGEST)?,
-            '^' => text.push_str("jk: c.jp2 isn't an image: F13 BadBox\n")?,
-            '&' => {
-                text.push_str("64 hexadecimal digits, two spaces and the name of an image's file")?;
-            }
-            '/' => text.push('\n')?,
-            _ => text.push(letter)?,
+        match meant(letter) {
+            Some(meant) => text.push_str(meant).expect(rt, "a text"),
+            None => text.push(letter).expect(rt, "a text"),
         }
     }
-    Ok(text)
+    text
 }
 
 /// A status of the program.
@@ -448,23 +450,22 @@ fn status_of(code: &str) -> Status {
 
 /// An archive is checked, and compared with lists.
 #[test]
-fn archives_are_checked(rt: HostRuntime) -> Result<(), Fail> {
+fn archives_are_checked(rt: HostRuntime) {
     let alloc = rt.alloc();
     let (page, column) = (pixel(), [COLUMN]);
     let files: [(&str, &[&str]); 2] = [("c.jp2", &column), ("a.jp2", &page)];
     for row in CHECKS.split('\n') {
         let mut fields = row.split('|');
         let line = field(&mut fields, "");
-        let input = spelled(alloc, field(&mut fields, ""))?;
-        let output = spelled(alloc, field(&mut fields, ""))?;
-        let error = spelled(alloc, field(&mut fields, ""))?;
+        let input = spelled(&rt, alloc, field(&mut fields, ""));
+        let output = spelled(&rt, alloc, field(&mut fields, ""));
+        let error = spelled(&rt, alloc, field(&mut fields, ""));
         let status = status_of(field(&mut fields, "0"));
-        let input = Vec::from_slice(alloc, input.as_bytes())?;
-        let mut world = world_of(&rt, alloc, input, &files)?;
+        let input = Vec::from_slice(alloc, input.as_bytes()).expect(&rt, "a text");
+        let mut world = world_of(&rt, alloc, input, &files);
         let (output, error) = (output.as_bytes(), error.as_str());
-        check_run(&rt, alloc, &mut world, line, status, output, error)?;
+        check_run(&rt, alloc, &mut world, line, status, output, error);
     }
-    Ok(())
 }
 
 /// Wrong command lines, the first of them empty.
@@ -499,19 +500,18 @@ info - --all=1
 --explain";
 
 /// Runs a wrong command line, of which nothing is written but why.
-fn check_wrong<R: Abort + Threads + Sync>(rt: &R, alloc: Global, line: &str) -> Result<(), Fail> {
-    let mut world = Memory::new(rt, alloc, bytes_of(alloc, &[GREY])?);
-    let status = run_line(alloc, &mut world, line)?;
+fn check_wrong<R: Abort + Threads + Sync>(rt: &R, alloc: Global, line: &str) {
+    let mut world = Memory::new(rt, alloc, bytes(rt, alloc, &[GREY]));
+    let status = run_line(rt, alloc, &mut world, line);
     let found = (status, world.output.len(), world.error.is_empty());
     equal_at(line, found, (Status::WrongLine, 0, false)).expect(rt, "a wrong command line");
-    Ok(())
 }
 
 /// Runs what is asked of the program itself, which is written to standard output alone, and then
 /// again with an output that is full.
-fn check_asked<R: Abort + Threads + Sync>(rt: &R, alloc: Global, line: &str) -> Result<(), Fail> {
-    let mut world = Memory::new(rt, alloc, bytes_of(alloc, &[GREY])?);
-    let status = run_line(alloc, &mut world, line)?;
+fn check_asked<R: Abort + Threads + Sync>(rt: &R, alloc: Global, line: &str) {
+    let mut world = Memory::new(rt, alloc, bytes(rt, alloc, &[GREY]));
+    let status = run_line(rt, alloc, &mut world, line);
     let found = (status, world.output.is_empty(), world.error.as_str());
     equal_at(line, found, (Status::Done, false, "")).expect(rt, "what the program is asked");
     world.is_full = true;
@@ -522,13 +522,13 @@ fn check_asked<R: Abort + Threads + Sync>(rt: &R, alloc: Global, line: &str) -> 
 
 /// Wrong command lines, and what is asked of the program itself.
 #[test]
-fn lines_are_judged(rt: HostRuntime) -> Result<(), Fail> {
+fn lines_are_judged(rt: HostRuntime) {
     let alloc = rt.alloc();
     for line in WRONG.split('\n') {
-        check_wrong(&rt, alloc, line)?;
+        check_wrong(&rt, alloc, line);
     }
     for line in ["--help", "--version", "encode --help", "faults"] {
-        check_asked(&rt, alloc, line)?;
+        check_asked(&rt, alloc, line);
     }
     let codes = (
         Status::Done.code(),
@@ -536,5 +536,4 @@ fn lines_are_judged(rt: HostRuntime) -> Result<(), Fail> {
         Status::WrongLine.code(),
     );
     equal(codes, (0, 1, 2)).expect(&rt, "the statuses of the program");
-    Ok(())
 }

@@ -2,13 +2,12 @@
 
 use crate::lines::GREY;
 use crate::memory::Memory;
-use crate::runs::{check_run, run_line};
+use crate::runs::{bytes, check_run, run_line};
 use jk_line::Status;
 use std::alloc::Global;
 use std::process::Abort;
-use std::test::Fail;
 use std::thread::Threads;
-use vectors::{Line, bytes_of, equal_at};
+use vectors::{Line, equal_at};
 
 /// Command lines with a negative number, and how each is refused.
 static NEGATIVE: &str = "\
@@ -25,39 +24,32 @@ serve d --port -80|invalid value '-80' for '--port <P>': -80 is not in 0..=65535
 serve d --port 80 --connections -1|invalid value '-1' for '--connections <K>': -1 is not in 0..=4294967295";
 
 /// Runs a command line that is refused for a number.
-fn check_number<R: Abort + Threads + Sync>(
-    rt: &R,
-    alloc: Global,
-    line: &str,
-    wanted: &str,
-) -> Result<(), Fail> {
-    let mut world = Memory::new(rt, alloc, bytes_of(alloc, &[GREY])?);
-    let status = run_line(alloc, &mut world, line)?;
+fn check_number<R: Abort + Threads + Sync>(rt: &R, alloc: Global, line: &str, wanted: &str) {
+    let mut world = Memory::new(rt, alloc, bytes(rt, alloc, &[GREY]));
+    let status = run_line(rt, alloc, &mut world, line);
     let said = world.error.as_str();
     let found = (status, world.output.len(), said.contains(wanted));
     equal_at((line, said), found, (Status::WrongLine, 0, true)).expect(rt, "a negative number");
-    Ok(())
 }
 
 /// A negative number is a value, which none of the options has.
 #[test]
-fn negative_numbers_are_values(rt: HostRuntime) -> Result<(), Fail> {
+fn negative_numbers_are_values(rt: HostRuntime) {
     let alloc = rt.alloc();
     for row in NEGATIVE.split('\n') {
         let mut fields = Line::new(row, '|');
         let (line, wanted) = (fields.word(), fields.word());
         fields.end().expect(&rt, "a line and its refusal");
-        check_number(&rt, alloc, line, wanted)?;
+        check_number(&rt, alloc, line, wanted);
     }
-    Ok(())
 }
 
 /// Precinct sizes are judged as a text: a negative number is none, and neither is a word of another
 /// option.
 #[test]
-fn negative_precincts_are_judged(rt: HostRuntime) -> Result<(), Fail> {
+fn negative_precincts_are_judged(rt: HostRuntime) {
     let alloc = rt.alloc();
-    let mut world = Memory::new(&rt, alloc, bytes_of(alloc, &[GREY])?);
+    let mut world = Memory::new(&rt, alloc, bytes(&rt, alloc, &[GREY]));
     let line = "encode - - --explain --precincts -1";
     let error =
         "jk: F15 BadParameters\n--precincts is -1, and may have pairs of hexadecimal digits\n";

@@ -1,13 +1,12 @@
 //! Where the rows of an image go that are decoded before a fault behind them is met.
 
 use crate::memory::Memory;
-use crate::runs::check_run;
+use crate::runs::{bytes, check_run, put_file};
 use jk_line::Status;
 use std::alloc::Global;
 use std::process::Abort;
-use std::test::Fail;
 use std::thread::Threads;
-use vectors::{bytes_of, equal_at};
+use vectors::equal_at;
 
 /// A column of 128 samples in two tiles, of code-blocks with segmentation symbols (T.800 D.5): all but
 /// the last byte of the second tile. An independent codec wrote it.
@@ -27,15 +26,10 @@ static TEXT: &str = "50350A 3120313238 0A 323535 0A \
 80808080808080808080808080808080808080808080808080808080";
 
 /// A world with the rows, and with a file that is there.
-fn world<'a, R: Threads + Sync>(
-    rt: &'a R,
-    alloc: Global,
-    end: &str,
-) -> Result<Memory<'a, R>, Fail> {
-    let mut world = Memory::new(rt, alloc, bytes_of(alloc, &[ROWS, end])?);
-    let old = bytes_of(alloc, &["AA"])?;
-    world.files.insert(String::from_str(alloc, "old")?, old)?;
-    Ok(world)
+fn world<'a, R: Abort + Threads + Sync>(rt: &'a R, alloc: Global, end: &str) -> Memory<'a, R> {
+    let mut world = Memory::new(rt, alloc, bytes(rt, alloc, &[ROWS, end]));
+    put_file(rt, alloc, &mut world, "old", "AA");
+    world
 }
 
 /// Decodes the rows to standard output and into the file that is there: what comes of both, and
@@ -46,20 +40,19 @@ fn check_rows<R: Abort + Threads + Sync>(
     (options, held): (&str, usize),
     (end, text, file): (&str, &str, &str),
     (status, error): (Status, &str),
-) -> Result<(), Fail> {
-    let mut world = world(rt, alloc, end)?;
-    let (text, file) = (bytes_of(alloc, &[text])?, bytes_of(alloc, &[file])?);
+) {
+    let mut world = world(rt, alloc, end);
+    let (text, file) = (bytes(rt, alloc, &[text]), bytes(rt, alloc, &[file]));
     for out in ["-", "old"] {
         world.error.clear();
-        let line = format!(in alloc; "decode - {out} {options}")?;
-        check_run(rt, alloc, &mut world, line.as_str(), status, &text, error)?;
+        let line = format!(in alloc; "decode - {out} {options}").expect(rt, "a text");
+        check_run(rt, alloc, &mut world, line.as_str(), status, &text, error);
     }
     let found = match world.files.get("old") {
         Some(bytes) => bytes.as_slice() == file.as_slice(),
         None => false,
     };
     equal_at(options, (found, world.held), (true, held)).expect(rt, "a file, and outputs held");
-    Ok(())
 }
 
 /// How the rows are decoded, and how many of two outputs are held.
@@ -72,23 +65,22 @@ static WAYS: [(&str, usize); 3] = [
 /// An image comes whole, or not at all: the sound rows of a damaged file aren't written, and what was
 /// there stays.
 #[test]
-fn whole_or_not_at_all(rt: HostRuntime) -> Result<(), Fail> {
+fn whole_or_not_at_all(rt: HostRuntime) {
     let alloc = rt.alloc();
     let (done, refused) = (Status::Done, Status::Refused);
     for way in WAYS {
-        check_rows(&rt, alloc, way, (SOUND, TEXT, TEXT), (done, ""))?;
+        check_rows(&rt, alloc, way, (SOUND, TEXT, TEXT), (done, ""));
         let fault = (refused, "jk: F5 BadValue\n");
-        check_rows(&rt, alloc, way, (DAMAGED, "", "AA"), fault)?;
+        check_rows(&rt, alloc, way, (DAMAGED, "", "AA"), fault);
     }
-    Ok(())
 }
 
 /// Where standard output is full, that is told of a sound file alone.
 #[test]
-fn faults_of_the_file_go_first(rt: HostRuntime) -> Result<(), Fail> {
+fn faults_of_the_file_go_first(rt: HostRuntime) {
     let alloc = rt.alloc();
     for (end, error) in [(SOUND, "jk: F20 Shelf\n"), (DAMAGED, "jk: F5 BadValue\n")] {
-        let mut world = world(&rt, alloc, end)?;
+        let mut world = world(&rt, alloc, end);
         world.is_full = true;
         check_run(
             &rt,
@@ -98,7 +90,6 @@ fn faults_of_the_file_go_first(rt: HostRuntime) -> Result<(), Fail> {
             Status::Refused,
             &[],
             error,
-        )?;
+        );
     }
-    Ok(())
 }

@@ -2,30 +2,23 @@
 
 use crate::lines::{COLUMN, GREY};
 use crate::memory::Memory;
-use crate::runs::{run_line, world_of};
+use crate::runs::{bytes, run_line, world_of};
 use jk_line::{Progress, Status, Work};
 use std::alloc::Global;
 use std::process::Abort;
 use std::sync::atomic::Ordering;
-use std::test::Fail;
 use std::thread::Threads;
-use vectors::{bytes_of, equal, equal_at};
+use vectors::{equal, equal_at};
 
 /// Checks the words of how far work is.
-fn check_words(
-    rt: &impl Abort,
-    alloc: Global,
-    progress: Progress,
-    words: &str,
-) -> Result<(), Fail> {
-    let text = format!(in alloc; "{progress}")?;
+fn check_words(rt: &impl Abort, alloc: Global, progress: Progress, words: &str) {
+    let text = format!(in alloc; "{progress}").expect(rt, "a text");
     equal(text.as_str(), words).expect(rt, "how far work is");
-    Ok(())
 }
 
 /// Size and time are told always; code-blocks and what is written where there are any.
 #[test]
-fn progress_in_words(rt: HostRuntime) -> Result<(), Fail> {
+fn progress_in_words(rt: HostRuntime) {
     let alloc = rt.alloc();
     let mut progress = Progress {
         work: Work::Encoding,
@@ -34,10 +27,10 @@ fn progress_in_words(rt: HostRuntime) -> Result<(), Fail> {
         coded: 0,
         written: 0,
     };
-    check_words(&rt, alloc, progress, "jk: encoding 67.1 MB, 12 s")?;
+    check_words(&rt, alloc, progress, "jk: encoding 67.1 MB, 12 s");
     progress.coded = 4096;
     let words = "jk: encoding 67.1 MB, 12 s, 4096 code-blocks coded";
-    check_words(&rt, alloc, progress, words)?;
+    check_words(&rt, alloc, progress, words);
     progress.work = Work::Decoding;
     progress.size = 99_999;
     progress.coded = 0;
@@ -59,24 +52,23 @@ fn check_told<R: Abort + Threads + Sync>(
     status: Status,
     work: Work,
     size: u64,
-) -> Result<(), Fail> {
-    let mut world = world_of(rt, alloc, bytes_of(alloc, &[input])?, &[])?;
-    let found = run_line(alloc, &mut world, line)?;
+) {
+    let mut world = world_of(rt, alloc, bytes(rt, alloc, &[input]), &[]);
+    let found = run_line(rt, alloc, &mut world, line);
     let is_begun = world.begun.as_slice() == [(work, size)].as_slice();
     let found = (found, is_begun, world.ended, world.is_quiet);
     let due = (status, true, 1, line.contains("--quiet"));
     equal_at((line, world.error.as_str()), found, due).expect(rt, "what a world is told");
-    Ok(())
 }
 
 /// Encoding, decoding and adding are told of when they begin and when they end, whether they are
 /// refused or not.
 #[test]
-fn work_is_told_of(rt: HostRuntime) -> Result<(), Fail> {
+fn work_is_told_of(rt: HostRuntime) {
     let alloc = rt.alloc();
     let (done, refused) = (Status::Done, Status::Refused);
     let (encoding, decoding) = (Work::Encoding, Work::Decoding);
-    check_told(&rt, alloc, "encode - -", GREY, done, encoding, 12)?;
+    check_told(&rt, alloc, "encode - -", GREY, done, encoding, 12);
     check_told(
         &rt,
         alloc,
@@ -85,9 +77,9 @@ fn work_is_told_of(rt: HostRuntime) -> Result<(), Fail> {
         done,
         encoding,
         12,
-    )?;
-    check_told(&rt, alloc, "encode - -", "00", refused, encoding, 1)?;
-    check_told(&rt, alloc, "add d a -", GREY, done, encoding, 12)?;
+    );
+    check_told(&rt, alloc, "encode - -", "00", refused, encoding, 1);
+    check_told(&rt, alloc, "add d a -", GREY, done, encoding, 12);
     check_told(
         &rt,
         alloc,
@@ -96,7 +88,7 @@ fn work_is_told_of(rt: HostRuntime) -> Result<(), Fail> {
         done,
         decoding,
         100,
-    )?;
+    );
     check_told(
         &rt,
         alloc,
@@ -105,7 +97,7 @@ fn work_is_told_of(rt: HostRuntime) -> Result<(), Fail> {
         done,
         decoding,
         100,
-    )?;
+    );
     check_told(
         &rt,
         alloc,
@@ -114,25 +106,26 @@ fn work_is_told_of(rt: HostRuntime) -> Result<(), Fail> {
         done,
         decoding,
         100,
-    )?;
+    );
     check_told(&rt, alloc, "decode - -", "FF", refused, decoding, 1)
 }
 
 /// An image three code-blocks wide and two high without levels has six code-blocks (T.800 B.7), of
 /// which several workers tell, and one none.
 #[test]
-fn code_blocks_are_counted(rt: HostRuntime) -> Result<(), Fail> {
+fn code_blocks_are_counted(rt: HostRuntime) {
     let alloc = rt.alloc();
     for (line, coded) in [
         ("encode - - --levels 0 --workers 2", 6),
         ("encode - - --levels 0", 0),
     ] {
-        let mut input = bytes_of(alloc, &["50350A 313330 20 3730 0A 323535 0A"])?;
-        input.resize(input.len() + 130 * 70, 7)?;
+        let mut input = bytes(&rt, alloc, &["50350A 313330 20 3730 0A 323535 0A"]);
+        input
+            .resize(input.len() + 130 * 70, 7)
+            .expect(&rt, "samples");
         let mut world = Memory::new(&rt, alloc, input);
-        let status = run_line(alloc, &mut world, line)?;
+        let status = run_line(&rt, alloc, &mut world, line);
         let found = (status, world.counter.coded.load(Ordering::SeqCst));
         equal_at((line, world.error.as_str()), found, (Status::Done, coded)).expect(&rt, "a count");
     }
-    Ok(())
 }

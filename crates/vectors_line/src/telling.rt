@@ -1,12 +1,11 @@
 //! The lines of `jk info --all`.
 
 use crate::lines::{BOXES, CODING, COLOURS, COLUMN, GREY, SIZE, STEPS};
-use crate::runs::written;
+use crate::runs::{bytes, written};
 use std::alloc::Global;
 use std::process::Abort;
-use std::test::Fail;
 use std::thread::Threads;
-use vectors::{bytes_of, equal, equal_at};
+use vectors::{equal, equal_at};
 
 /// The lines of a JP2 file of the grey pixel without levels.
 static PIXEL_LINES: &str = "\
@@ -104,56 +103,47 @@ static SIX_OPTIONS: &str =
     "--levels 1 --sop --eph --reset --causal --segments --precincts 4556 --tile-width 2 --tile-height 4 --block-x 5 --block-y 4";
 
 /// The lines of a file.
-fn lines_of<R: Abort + Threads + Sync>(
-    rt: &R,
-    alloc: Global,
-    file: Vec<u8>,
-) -> Result<String, Fail> {
-    let told = written(rt, alloc, "info - --all", file)?;
-    Ok(String::from_utf8(told).map_err(|_| "the lines are text")?)
+fn lines_of<R: Abort + Threads + Sync>(rt: &R, alloc: Global, file: Vec<u8>) -> String {
+    let told = written(rt, alloc, "info - --all", file);
+    String::from_utf8(told)
+        .ok()
+        .expect(rt, "the lines are text")
 }
 
 /// Checks the lines of a file.
-fn check_lines<R: Abort + Threads + Sync>(
-    rt: &R,
-    alloc: Global,
-    file: &[&str],
-    lines: &str,
-) -> Result<(), Fail> {
-    let text = lines_of(rt, alloc, bytes_of(alloc, file)?)?;
+fn check_lines<R: Abort + Threads + Sync>(rt: &R, alloc: Global, file: &[&str], lines: &str) {
+    let text = lines_of(rt, alloc, bytes(rt, alloc, file));
     equal(text.as_str(), lines).expect(rt, "the lines of a file");
-    Ok(())
 }
 
 #[test]
-fn all_is_told(rt: HostRuntime) -> Result<(), Fail> {
+fn all_is_told(rt: HostRuntime) {
     let alloc = rt.alloc();
     let pixel = [BOXES, "FF4F", SIZE, CODING, STEPS, PIXEL_PART];
-    check_lines(&rt, alloc, &pixel, PIXEL_LINES)?;
-    check_lines(&rt, alloc, &[COLUMN], COLUMN_LINES)?;
+    check_lines(&rt, alloc, &pixel, PIXEL_LINES);
+    check_lines(&rt, alloc, &[COLUMN], COLUMN_LINES);
     let parts = ["FF4F", SIZE, TWO_LAYERS, STEPS, PASSED, TWO_PARTS];
-    check_lines(&rt, alloc, &parts, PASSED_LINES)?;
+    check_lines(&rt, alloc, &parts, PASSED_LINES);
     check_lines(&rt, alloc, &[UNLIKE], UNLIKE_LINES)
 }
 
 /// The line of `jk info` stands first, and without the option it stands alone.
 #[test]
-fn the_first_line_stays(rt: HostRuntime) -> Result<(), Fail> {
+fn the_first_line_stays(rt: HostRuntime) {
     let alloc = rt.alloc();
-    let line = written(&rt, alloc, "info -", bytes_of(alloc, &[COLUMN])?)?;
-    let lines = written(&rt, alloc, "info - --all", bytes_of(alloc, &[COLUMN])?)?;
+    let line = written(&rt, alloc, "info -", bytes(&rt, alloc, &[COLUMN]));
+    let lines = written(&rt, alloc, "info - --all", bytes(&rt, alloc, &[COLUMN]));
     let stands_first = lines.as_slice().starts_with(line.as_slice());
     equal((stands_first, line.len() < lines.len()), (true, true)).expect(&rt, "the first line");
-    Ok(())
 }
 
 /// Long and open boxes, and kinds that aren't text.
 #[test]
-fn boxes_are_told(rt: HostRuntime) -> Result<(), Fail> {
+fn boxes_are_told(rt: HostRuntime) {
     let alloc = rt.alloc();
     let front = BOXES
         .strip_suffix("0000005A 6A703263")
-        .ok_or("the head of a box")?;
+        .expect(&rt, "the head of a box");
     let file = [
         front,
         LONG_HEAD,
@@ -164,18 +154,17 @@ fn boxes_are_told(rt: HostRuntime) -> Result<(), Fail> {
         PIXEL_PART,
         BOXES_BEHIND,
     ];
-    let text = lines_of(&rt, alloc, bytes_of(alloc, &file)?)?;
+    let text = lines_of(&rt, alloc, bytes(&rt, alloc, &file));
     let is_told = text.as_str().contains(BEHIND_LINE);
     equal_at(text.as_str(), is_told, true).expect(&rt, "the line of boxes");
-    Ok(())
 }
 
 /// A file that was encoded with tiles, precincts, SOP, EPH and styles of code-blocks.
 #[test]
-fn what_was_asked_for_is_told(rt: HostRuntime) -> Result<(), Fail> {
+fn what_was_asked_for_is_told(rt: HostRuntime) {
     let alloc = rt.alloc();
-    let line = format!(in alloc; "encode - - {SIX_OPTIONS}")?;
-    let file = written(&rt, alloc, line.as_str(), bytes_of(alloc, &[SIX])?)?;
+    let line = format!(in alloc; "encode - - {SIX_OPTIONS}").expect(&rt, "a text");
+    let file = written(&rt, alloc, line.as_str(), bytes(&rt, alloc, &[SIX]));
     let size = file.len().saturating_sub(77);
     let wanted = format!(in alloc;
         "\
@@ -191,10 +180,10 @@ colour-transform: reversible
 passed-over: none
 sizes: 3x2 2x1
 "
-    )?;
-    let text = lines_of(&rt, alloc, file)?;
+    )
+    .expect(&rt, "a text");
+    let text = lines_of(&rt, alloc, file);
     equal(text.as_str(), wanted.as_str()).expect(&rt, "what was asked for");
-    Ok(())
 }
 
 /// Checks how the lines of what a command line writes of an input end.
@@ -204,17 +193,16 @@ fn check_end<R: Abort + Threads + Sync>(
     line: &str,
     input: &str,
     wanted: &str,
-) -> Result<(), Fail> {
-    let file = written(rt, alloc, line, bytes_of(alloc, &[input])?)?;
-    let text = lines_of(rt, alloc, file)?;
+) {
+    let file = written(rt, alloc, line, bytes(rt, alloc, &[input]));
+    let text = lines_of(rt, alloc, file);
     let is_end = text.as_str().ends_with(wanted);
     equal_at((line, text.as_str()), is_end, true).expect(rt, "the last lines");
-    Ok(())
 }
 
 /// A reduced image without a sample has no size.
 #[test]
-fn empty_reductions_have_no_size(rt: HostRuntime) -> Result<(), Fail> {
+fn empty_reductions_have_no_size(rt: HostRuntime) {
     let alloc = rt.alloc();
     for (line, input, wanted) in [
         ("encode - - --levels 1 --x0 1", GREY, "\nsizes: 1x1\n"),
@@ -225,7 +213,6 @@ fn empty_reductions_have_no_size(rt: HostRuntime) -> Result<(), Fail> {
             "\ncolour-transform: none\npassed-over: none\nsizes: 1x1\n",
         ),
     ] {
-        check_end(&rt, alloc, line, input, wanted)?;
+        check_end(&rt, alloc, line, input, wanted);
     }
-    Ok(())
 }
