@@ -166,8 +166,7 @@ impl<T: Sample> Rows for PixelRows<T> {
     }
 }
 
-/// Whether an image is worth being decoded row by row: it has so many samples, which have a place,
-/// and takes no longer so.
+/// Whether an image has just so many samples, and each has a place.
 fn suits<T: Sample>(alloc: Global, file: &[u8], reduce: u32, count: usize) -> Result<bool, Fault>
     ensures memory { IfErr result IsMemory }
 {
@@ -178,8 +177,7 @@ fn suits<T: Sample>(alloc: Global, file: &[u8], reduce: u32, count: usize) -> Re
             Ok(
                 frame.depth <= bits
                     && frame.signed == signed
-                    && area.saturating_mul(frame.components as u64) == count as u64
-                    && suits_rows(file, reduce),
+                    && area.saturating_mul(frame.components as u64) == count as u64,
             )
         }
         Err(Fault::Memory(refused)) => Err(Fault::Memory(refused)),
@@ -200,7 +198,7 @@ pub(crate) fn pixels_by_rows<T: Sample>(
         × HasSamples T.bits T.signed p × HaveAllPixels T.value p v.items)) }
     ensures err { IfErr result (λ e. Refuses e (meaning_at file.now reduce)) }
 {
-    if count == 0 || !suits::<T>(alloc, file, reduce, count)? {
+    if count == 0 || !suits_rows(file, reduce) || !suits::<T>(alloc, file, reduce, count)? {
         return Ok(None);
     }
     let mut rows = PixelRows {

@@ -5,7 +5,7 @@ use jk_marks::{CodingStyle, Main, Siz, read_main};
 
 /// The least height of tiles that are decoded row by row as fast as whole: what a tile begins with is
 /// made for few rows of a lower one.
-const TILE_ROWS: u32 = 64;
+const TILE_ROWS: u32 = 128;
 
 /// The same at a reduction, where there is less to decode of each tile.
 const REDUCED_TILE_ROWS: u32 = 256;
@@ -20,9 +20,9 @@ fn has_high_tiles(siz: &Siz, reduce: u32) -> bool {
     siz.y1 <= siz.tile_height || least <= siz.tile_height >> reduce.min(31)
 }
 
-/// Whether few of the parts of packets are looked through for each code-block: for each row of
-/// code-blocks all that the packets of a precinct have of a sub-band are, so in so many rows and
-/// layers that is a part for each two coefficients at most.
+/// Whether few of the parts of packets are looked through: for each row of code-blocks all that the
+/// packets of a precinct have of a sub-band, which is for each code-block as many parts as there are
+/// rows and layers. Few are half as many as a code-block has coefficients.
 fn has_few_parts(style: &CodingStyle, rows: u32, layers: u16) -> bool {
     let (xcb, ycb) = (style.xcb.min(10), style.ycb.min(10));
     let block_rows = (rows >> ycb >> 1) as u64;

@@ -82,8 +82,8 @@ fn in_blocks(xcb: u8, ycb: u8, layers: u16) -> Shape {
 #[test]
 fn tiles(rt: HostRuntime) -> Result<(), Fail> {
     suits(&rt, rt.alloc(), PLAIN, (true, true))?;
-    suits(&rt, rt.alloc(), in_tiles(63), (false, false))?;
-    suits(&rt, rt.alloc(), in_tiles(64), (true, false))?;
+    suits(&rt, rt.alloc(), in_tiles(127), (false, false))?;
+    suits(&rt, rt.alloc(), in_tiles(128), (true, false))?;
     suits(&rt, rt.alloc(), in_tiles(299), (true, false))?;
     suits(&rt, rt.alloc(), in_tiles(300), (true, true))
 }
@@ -100,7 +100,7 @@ fn code_blocks(rt: HostRuntime) -> Result<(), Fail> {
 
 #[test]
 fn bytes_without_a_header(rt: HostRuntime) -> Result<(), Fail> {
-    let mut front = file(rt.alloc(), in_tiles(63))?;
+    let mut front = file(rt.alloc(), in_tiles(127))?;
     front.truncate(40);
     equal(suits_rows(&front, 0), true).expect(&rt, "what is due");
     equal(suits_rows(&[], 0), true).expect(&rt, "what is due");
