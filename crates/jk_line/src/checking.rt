@@ -5,7 +5,7 @@ use crate::failure::{Failure, of_world};
 use crate::status::Status;
 use crate::streams::write;
 use crate::workers::workers;
-use crate::world::World;
+use crate::world::{Streams, World};
 use jk_commands::{BadList, Sum, differences, differences_text, read_sums, sums_text};
 use jk_math::Fault;
 use jk_store::{Checked, Finding, check as check_files, is_image_file};
@@ -43,7 +43,7 @@ fn read_list(alloc: Global, bytes: &[u8]) -> Result<Result<Vec<Sum>, String>, Fa
 
 /// The files of the list with which an archive is compared; none where the list can't be used,
 /// which is told.
-fn list<W: World>(alloc: Global, world: &mut W, name: &str) -> Result<Option<Vec<Sum>>, Failure> {
+fn list<W: Streams>(alloc: Global, world: &mut W, name: &str) -> Result<Option<Vec<Sum>>, Failure> {
     let called = if name == "-" { "standard input" } else { name };
     let bytes = match world.read(alloc, name) {
         Ok(bytes) => bytes,
@@ -69,7 +69,7 @@ fn list<W: World>(alloc: Global, world: &mut W, name: &str) -> Result<Option<Vec
 }
 
 /// Tells that a file isn't an image, or that this isn't known, and why.
-fn tell_file<W: World>(
+fn tell_file<W: Streams>(
     alloc: Global,
     world: &mut W,
     file: &Checked,
@@ -113,7 +113,7 @@ fn sums_of(alloc: Global, checked: &[Checked], any: bool) -> Result<Vec<Sum>, Al
 
 /// Writes what was found: the list of the images, or what differs from a list. Answers whether
 /// something differs.
-fn write_found<W: World>(
+fn write_found<W: Streams>(
     alloc: Global,
     world: &mut W,
     checked: &[Checked],

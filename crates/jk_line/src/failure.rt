@@ -1,6 +1,6 @@
 //! Why a command was refused, with words for people.
 
-use crate::world::World;
+use crate::world::Streams;
 use jk_commands::EncodeOptions;
 use jk_math::Fault;
 use jk_words::bad_option;
@@ -57,7 +57,7 @@ pub(crate) fn of_file(alloc: Global, fault: Fault, left_out: Option<&str>) -> Fa
 }
 
 /// A fault of the world, with what the system said of it.
-pub(crate) fn of_world<W: World>(
+pub(crate) fn of_world<W: Streams>(
     alloc: Global,
     world: &W,
     fault: Fault,

@@ -3,7 +3,7 @@
 use crate::failure::{Failure, of_file, of_options, with_words};
 use crate::status::Status;
 use crate::streams::{read, write};
-use crate::world::World;
+use crate::world::Streams;
 use jk_beside::{
     Colour, Extras, Grid, Item, Other, extras_lines, item_in, judge_extras, named_uuid, profile_in,
     resolution_named,
@@ -17,7 +17,7 @@ use std::alloc::Global;
 const MOST: usize = 1 << 24;
 
 /// The bytes of a file that another one is to keep.
-fn read_kept<W: World>(alloc: Global, world: &mut W, name: &str) -> Result<Vec<u8>, Failure> {
+fn read_kept<W: Streams>(alloc: Global, world: &mut W, name: &str) -> Result<Vec<u8>, Failure> {
     let bytes = read(alloc, world, name)?;
     let size = bytes.len();
     if size > MOST {
@@ -65,7 +65,7 @@ fn uuids<'a>(alloc: Global, kept: &Kept<'a>) -> Result<Vec<([u8; 16], &'a str)>,
 }
 
 /// What a file is to keep: what the options say is judged first, and then the files are read.
-pub(crate) fn asked<W: World>(
+pub(crate) fn asked<W: Streams>(
     alloc: Global,
     world: &mut W,
     kept: &Kept<'_>,
@@ -157,7 +157,7 @@ fn of_dressing(alloc: Global, fault: Fault, extras: &Extras, bytes: &[u8]) -> Fa
 }
 
 /// `jk dress IN OUT`: what the file is to keep, and then the file.
-pub(crate) fn dress<W: World>(
+pub(crate) fn dress<W: Streams>(
     alloc: Global,
     world: &mut W,
     line: &Dressing<'_>,
@@ -178,7 +178,7 @@ struct Taken<'a> {
 }
 
 /// Says that a file lacks what is to be taken out of it.
-fn tell_lack<W: World>(
+fn tell_lack<W: Streams>(
     alloc: Global,
     world: &mut W,
     name: &str,
@@ -191,7 +191,7 @@ fn tell_lack<W: World>(
 }
 
 /// Takes out of a file what is asked for: all of it, or nothing where the file lacks a part of it.
-fn take<W: World>(
+fn take<W: Streams>(
     alloc: Global,
     world: &mut W,
     line: &Listing<'_>,
@@ -224,7 +224,7 @@ fn take<W: World>(
 }
 
 /// `jk extras IN`: what a file keeps is listed, or taken out of it.
-pub(crate) fn extras<W: World>(
+pub(crate) fn extras<W: Streams>(
     alloc: Global,
     world: &mut W,
     line: &Listing<'_>,

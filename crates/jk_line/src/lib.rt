@@ -1,11 +1,15 @@
 //! The command line of `jk`, over a world of files and streams that its caller gives.
 #![tactic(auto)]
 
+mod adding;
+mod adding_all;
 mod archive;
+mod beside;
 mod checking;
 mod failure;
 mod keeping;
 mod running;
+mod scans;
 mod serving;
 mod status;
 mod streams;
@@ -13,8 +17,8 @@ mod workers;
 mod world;
 
 pub use archive::{listening, served};
-pub use jk_words::{FaultLine, Progress, Work};
+pub use jk_words::{FaultLine, FilesProgress, Progress, Work};
 pub use running::run;
 pub use serving::Serving;
 pub use status::Status;
-pub use world::World;
+pub use world::{Folders, Streams, Working, World};

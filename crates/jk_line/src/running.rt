@@ -4,8 +4,8 @@ use crate::failure::{Failure, of_file, of_options, of_world};
 use crate::status::Status;
 use crate::streams::{create, finish, read, write};
 use crate::workers::workers;
-use crate::world::World;
-use crate::{archive, checking, keeping};
+use crate::world::{Streams, World};
+use crate::{adding, adding_all, archive, checking, keeping};
 use jk_commands::{
     EncodeOptions, Plan, cut_file, decode_file_into, decode_file_into_with, decode_rows_into,
     decode_window_file_into, encode_file_dressed, encode_file_dressed_with, encode_file_into,
@@ -198,7 +198,7 @@ fn decode<W: World>(alloc: Global, world: &mut W, line: &Decoding<'_>) -> Result
 }
 
 /// `jk info IN`.
-fn info<W: World>(alloc: Global, world: &mut W, line: &Telling<'_>) -> Result<(), Failure> {
+fn info<W: Streams>(alloc: Global, world: &mut W, line: &Telling<'_>) -> Result<(), Failure> {
     let bytes = read(alloc, world, line.input)?;
     let told = if line.all {
         info_all_file(alloc, &bytes)
@@ -212,7 +212,7 @@ fn info<W: World>(alloc: Global, world: &mut W, line: &Telling<'_>) -> Result<()
 }
 
 /// `jk cut IN OUT`.
-fn cut<W: World>(alloc: Global, world: &mut W, line: &Cutting<'_>) -> Result<(), Failure> {
+fn cut<W: Streams>(alloc: Global, world: &mut W, line: &Cutting<'_>) -> Result<(), Failure> {
     let bytes = read(alloc, world, line.input)?;
     match cut_file(alloc, &bytes, line.window) {
         Ok(file) => write(alloc, world, line.output, &file),
@@ -221,7 +221,7 @@ fn cut<W: World>(alloc: Global, world: &mut W, line: &Cutting<'_>) -> Result<(),
 }
 
 /// `jk faults`.
-fn list_faults<W: World>(alloc: Global, world: &mut W) -> Result<(), Failure> {
+fn list_faults<W: Streams>(alloc: Global, world: &mut W) -> Result<(), Failure> {
     let text = fault_lines(alloc)?;
     write(alloc, world, "-", text.as_bytes())
 }
@@ -231,12 +231,13 @@ fn perform<W: World>(alloc: Global, world: &mut W, line: &Line<'_>) -> Result<St
     match &line.command {
         Command::Check(asked) => return checking::check(alloc, world, asked, line.explain),
         Command::Extras(line) => return keeping::extras(alloc, world, line),
+        Command::AddAll(line) => return adding_all::add_all(alloc, world, line),
         Command::Encode(line) => encode(alloc, world, line),
         Command::Decode(line) => decode(alloc, world, line),
         Command::Info(line) => info(alloc, world, line),
         Command::Cut(line) => cut(alloc, world, line),
         Command::Dress(line) => keeping::dress(alloc, world, line),
-        Command::Add(line) => archive::add(alloc, world, line),
+        Command::Add(line) => adding::add(alloc, world, line),
         Command::Serve(line) => archive::serve(alloc, world, line),
         Command::Faults => list_faults(alloc, world),
     }?;
@@ -245,7 +246,7 @@ fn perform<W: World>(alloc: Global, world: &mut W, line: &Line<'_>) -> Result<St
 
 /// Writes a fault to standard error, and its cause in words where they are asked for or somebody
 /// reads along.
-fn tell<W: World>(world: &mut W, failure: Failure, in_words: bool) -> Status {
+fn tell<W: Streams>(world: &mut W, failure: Failure, in_words: bool) -> Status {
     let Failure { fault, words } = failure;
     world.tell(&FaultLine { fault });
     if in_words || world.is_terminal() {
@@ -270,7 +271,7 @@ fn follow<W: World>(alloc: Global, world: &mut W, line: &Line<'_>) -> Status {
 }
 
 /// Writes what was asked for, as `--help` does, or what is wrong with the words.
-fn show<W: World>(alloc: Global, world: &mut W, unasked: &Unasked) -> Result<Status, Failure> {
+fn show<W: Streams>(alloc: Global, world: &mut W, unasked: &Unasked) -> Result<Status, Failure> {
     match unasked {
         Unasked::Memory => {
             world.tell(&"jk: F1 Memory\n");

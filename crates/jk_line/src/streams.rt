@@ -1,7 +1,7 @@
 //! Files and streams of a world, with words where the system refuses them.
 
 use crate::failure::{Failure, of_world};
-use crate::world::World;
+use crate::world::Streams;
 use jk_math::Fault;
 use std::alloc::Global;
 
@@ -11,7 +11,11 @@ fn called<'a>(name: &'a str, stream: &'a str) -> &'a str {
 }
 
 /// All bytes of a file, or of standard input.
-pub(crate) fn read<W: World>(alloc: Global, world: &mut W, name: &str) -> Result<Vec<u8>, Failure> {
+pub(crate) fn read<W: Streams>(
+    alloc: Global,
+    world: &mut W,
+    name: &str,
+) -> Result<Vec<u8>, Failure> {
     match world.read(alloc, name) {
         Ok(bytes) => Ok(bytes),
         Err(fault) => Err(of_world(alloc, world, fault, called(name, "standard input"), "read")),
@@ -19,7 +23,7 @@ pub(crate) fn read<W: World>(alloc: Global, world: &mut W, name: &str) -> Result
 }
 
 /// A refused output, in words.
-fn unwritten<W: World>(alloc: Global, world: &W, fault: Fault, name: &str) -> Failure {
+fn unwritten<W: Streams>(alloc: Global, world: &W, fault: Fault, name: &str) -> Failure {
     of_world(
         alloc,
         world,
@@ -30,7 +34,7 @@ fn unwritten<W: World>(alloc: Global, world: &W, fault: Fault, name: &str) -> Fa
 }
 
 /// Writes all bytes to a file, or to standard output.
-pub(crate) fn write<W: World>(
+pub(crate) fn write<W: Streams>(
     alloc: Global,
     world: &mut W,
     name: &str,
@@ -44,7 +48,7 @@ pub(crate) fn write<W: World>(
 
 /// A file that is to be written in parts, or standard output. The parts are held where they can't
 /// be taken back, if `is_held`.
-pub(crate) fn create<W: World>(
+pub(crate) fn create<W: Streams>(
     alloc: Global,
     world: &mut W,
     name: &str,
@@ -62,7 +66,7 @@ pub(crate) fn create<W: World>(
 }
 
 /// Ends what was written in parts.
-pub(crate) fn finish<W: World>(
+pub(crate) fn finish<W: Streams>(
     alloc: Global,
     world: &mut W,
     name: &str,

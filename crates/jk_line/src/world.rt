@@ -10,37 +10,12 @@ use std::fmt::Display;
 use std::io::{self, Write};
 use std::thread::Threads;
 
-/// The files, the streams and the archives that a command line works on.
+/// Files by their names, and the standard streams.
 ///
 /// A call that is refused by the system answers Shelf, and `said` tells what the system said of it.
-pub trait World {
-    /// The folder of an archive.
-    type Folder: Shelf + Drop;
-
+pub trait Streams {
     /// A file that is written in parts, or standard output.
     type Output: Write + Drop;
-
-    /// What starts threads.
-    type Runtime: Threads + Sync;
-
-    /// Who is told of the code-blocks that workers code.
-    type Counter: Gate + Sync;
-
-    /// What starts the threads of workers.
-    fn runtime(&self) -> &Self::Runtime;
-
-    /// Who is told of the code-blocks that workers code.
-    fn counter(&self) -> &Self::Counter;
-
-    /// From now on nothing is told of how far work is.
-    fn be_quiet(&mut self);
-
-    /// From now on it is told how far this work is, on the image of a file of so many bytes, where
-    /// standard error is a terminal.
-    fn begin_work(&mut self, work: Work, size: u64);
-
-    /// Ends that, and takes away what is told of it.
-    fn end_work(&mut self);
 
     /// All bytes of a file, or of standard input for `-`.
     fn read(&mut self, alloc: Global, name: &str) -> Result<Vec<u8>, Fault>;
@@ -73,6 +48,45 @@ pub trait World {
 
     /// What the system said where it refused the last call.
     fn said(&self) -> Option<io::Error>;
+}
+
+/// The threads of workers, and what is told of how far work is.
+pub trait Working {
+    /// What starts threads.
+    type Runtime: Threads + Sync;
+
+    /// Who is told of the code-blocks that workers code.
+    type Counter: Gate + Sync;
+
+    /// What starts the threads of workers.
+    fn runtime(&self) -> &Self::Runtime;
+
+    /// Who is told of the code-blocks that workers code.
+    fn counter(&self) -> &Self::Counter;
+
+    /// From now on nothing is told of how far work is.
+    fn be_quiet(&mut self);
+
+    /// From now on it is told how far this work is, on the image of a file of so many bytes, where
+    /// standard error is a terminal.
+    fn begin_work(&mut self, work: Work, size: u64);
+
+    /// From now on it is told how many of so many files are done, where standard error is a
+    /// terminal.
+    fn begin_files(&mut self, files: u64);
+
+    /// One file more is done, of which this is written to standard output.
+    fn end_file<D: Display>(&mut self, text: &D) -> Result<(), Fault>;
+
+    /// Ends what `begin_work` or `begin_files` began, and takes away what is told of it.
+    fn end_work(&mut self);
+}
+
+/// The folders of archives. A call that is refused by the system answers Shelf, as one of
+/// [`Streams`] does.
+pub trait Folders {
+    /// The folder of an archive.
+    type Folder: Shelf + Drop;
 
     /// Takes the lock of an archive's folder alone, to add to it. Shelf: another holds it.
     fn lock(&mut self, alloc: Global, folder: &str) -> Result<(), Fault>;
@@ -125,3 +139,8 @@ pub trait World {
         serving: Serving,
     ) -> Result<(), Fault>;
 }
+
+/// All that a command line works on.
+pub trait World: Streams + Working + Folders {}
+
+impl<W: Streams + Working + Folders> World for W {}

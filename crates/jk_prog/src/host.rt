@@ -4,7 +4,7 @@ use crate::files;
 use crate::keeper::{FolderKeeper, tell_waiting};
 use crate::serving::{Asked, shelves};
 use jk_files::{Lock, Lockable, Refusal, SharedLock, wait_exclusive, wait_shared};
-use jk_line::{Serving, Work, World};
+use jk_line::{Folders, Serving, Streams, Work, Working};
 use jk_math::Fault;
 use jk_serve::{Desk, Paths, bind};
 use jk_store::{Archive, Folder};
@@ -92,59 +92,8 @@ impl<R: Files + Print + Clone + Drop> Host<R> {
     }
 }
 
-impl<
-    R: Files
-        + Input
-        + Print
-        + Eprint
-        + AllocGlobal
-        + Clock
-        + Clone
-        + Drop
-        + Threads
-        + Wait
-        + Send
-        + Sync
-        + Net<Listener = TcpListener, Stream = TcpStream>
-        + 'static,
-> World for Host<R>
-where
-    R::File: Lockable,
-{
-    type Folder = Watched<Folder<R>, R>;
-
+impl<R: Files + Input + Print + Eprint + AllocGlobal + Clone + Drop> Streams for Host<R> {
     type Output = BufWriter<Late<R>, Global>;
-
-    type Runtime = R;
-
-    type Counter = Counted;
-
-    fn runtime(&self) -> &R {
-        &self.rt
-    }
-
-    fn counter(&self) -> &Counted {
-        &self.counted
-    }
-
-    fn be_quiet(&mut self) {
-        self.is_quiet = true;
-    }
-
-    fn begin_work(&mut self, work: Work, size: u64) {
-        if self.is_quiet {
-            return;
-        }
-        if let Some(telling) = self.counted.telling() {
-            telling.begin(&self.rt, work, size);
-        }
-    }
-
-    fn end_work(&mut self) {
-        if let Some(telling) = self.counted.telling() {
-            telling.end(&self.rt);
-        }
-    }
 
     fn read(&mut self, alloc: Global, name: &str) -> Result<Vec<u8>, Fault> {
         let answer = files::read(&self.rt, alloc, name);
@@ -190,6 +139,78 @@ where
     fn said(&self) -> Option<io::Error> {
         self.said
     }
+}
+
+impl<R: Files + Print + Eprint + Clock + Drop + Threads + Wait + Sync> Working for Host<R> {
+    type Runtime = R;
+
+    type Counter = Counted;
+
+    fn runtime(&self) -> &R {
+        &self.rt
+    }
+
+    fn counter(&self) -> &Counted {
+        &self.counted
+    }
+
+    fn be_quiet(&mut self) {
+        self.is_quiet = true;
+    }
+
+    fn begin_work(&mut self, work: Work, size: u64) {
+        if self.is_quiet {
+            return;
+        }
+        if let Some(telling) = self.counted.telling() {
+            telling.begin(&self.rt, work, size);
+        }
+    }
+
+    fn begin_files(&mut self, files: u64) {
+        if self.is_quiet {
+            return;
+        }
+        if let Some(telling) = self.counted.telling() {
+            telling.begin_files(&self.rt, files);
+        }
+    }
+
+    fn end_file<D: Display>(&mut self, text: &D) -> Result<(), Fault> {
+        let answer = match self.counted.telling() {
+            Some(telling) => telling.end_file(&self.rt, text),
+            None => self.rt.print(text),
+        };
+        self.kept_of_system(answer)
+    }
+
+    fn end_work(&mut self) {
+        if let Some(telling) = self.counted.telling() {
+            telling.end(&self.rt);
+        }
+    }
+}
+
+impl<
+    R: Files
+        + Input
+        + Print
+        + Eprint
+        + AllocGlobal
+        + Clock
+        + Clone
+        + Drop
+        + Threads
+        + Wait
+        + Send
+        + Sync
+        + Net<Listener = TcpListener, Stream = TcpStream>
+        + 'static,
+> Folders for Host<R>
+where
+    R::File: Lockable,
+{
+    type Folder = Watched<Folder<R>, R>;
 
     fn lock(&mut self, alloc: Global, folder: &str) -> Result<(), Fault> {
         let (rt, is_terminal) = (&self.rt, self.is_terminal);

@@ -1,5 +1,5 @@
 -- What grows at its end.
-use Rattle.std.proofs.Common.{◌≡◌, ◌⊎◌, inl, inr, ℕ, List, [], ◌∷◌, ◌++◌, Result, Ok, Err, OnOk, OnErr, refl, ap, sym, subst}
+use Rattle.std.proofs.Common.{◌≡◌, ◌⊎◌, inl, inr, ℕ, List, [], ◌∷◌, ◌++◌, Result, Ok, Err, OnOk, OnErr, refl, ap, sym, ◌∙◌, subst}
 use Rattle.std.specs.String.{string_bytes}
 use mathlib.Core.List.{IsPrefix}
 use Rattle.jk_store.specs.declared.archive.Archive.{Archive}
@@ -47,6 +47,10 @@ module _ {S A E : Type 0} (a b : Archive S) (u v : Writer) (e : Entry) where
     published = prefix_same (list u) (list v) shown;
     same_hall = hall;
   }
+
+-- what was put behind entries stands behind those that they were before
+pub behind : {S : Type 0} (a m b : Archive S) (e : Entry) → entries_of m ≡ entries_of a → entries_of b ≡ entries_of m ++ e ∷ [] → entries_of b ≡ entries_of a ++ e ∷ []
+behind a m b e same more = more ∙ ap (λ l. l ++ e ∷ []) same
 
 pub grows_still : {S : Type 0} (a b : Archive S) (w : Writer) → entries_of b ≡ entries_of a → Grows a b w w
 grows_still a b w same = record {

@@ -9,7 +9,7 @@ ghost use Rattle.jk_serve.specs.Operating.{entries_of, IsAdded, IsRefused, Grows
 use jk_commands::{EncodeOptions, Plan, judge, read_image};
 use jk_hall::Writer;
 use jk_math::{Fault, Image};
-use jk_store::{Archive, Entry, Shelf};
+use jk_store::{Archive, Encoded, Entry, Prepared, Shelf};
 use std::alloc::Global;
 use std::sync::{Arc, Wait};
 
@@ -35,37 +35,48 @@ pub struct Desk<S, K, P> {
     pub paths: P,
 }
 
+/// An image, encoded with the parameters that stand where none are given, and its entry.
+fn prepare(alloc: Global, name: &str, image: Image, plan: Plan) -> Result<Prepared, Fault>
+    ensures named { IfOk result (λ p. string_bytes p.name ≡ name.now) }
+{
+    let encoded = match plan.place(image) {
+        Ok(placed) => Encoded::new(alloc, name, &placed.image, &placed.parameters)?,
+        Err(fault) => Encoded::refused(alloc, name, fault)?,
+    };
+    Ok(Prepared::of(alloc, encoded))
+}
+
 impl<S: Shelf, K: Keeper<S>, P: Shelf> Desk<S, K, P> {
-    /// Adds an image to the archive while the lock is held. Its name is judged by the files of the
-    /// folder, to which others may have added.
-    fn enter(
-        &mut self,
-        alloc: Global,
-        name: &str,
-        image: Image,
-        plan: Plan,
-    ) -> Result<Arc<Entry>, Fault>
-        ensures ok { IfOk result (λ e. entries_of self.new.archive ≡ entries_of self.old.archive ++ arc_value e ∷ []) }
-        ensures named { IfOk result (λ e. string_bytes (arc_value e).name ≡ name.now) }
-        ensures err { OnErr result (entries_of self.new.archive ≡ entries_of self.old.archive) }
+    /// Judges a name by the files of the folder, to which others may have added.
+    fn look(&mut self, alloc: Global, name: &str) -> Result<(), Fault>
+        ensures { entries_of self.new.archive ≡ entries_of self.old.archive }
     {
         self.archive.judge_name(alloc, name)?;
         if self.keeper.has_other(self.archive.shelf(), name) {
             return Err(Fault::NameTaken);
         }
-        let placed = plan.place(image)?;
-        self.archive
-            .add(alloc, name, &placed.image, &placed.parameters)
+        Ok(())
+    }
+
+    /// Adds an image to the archive while the lock is held.
+    fn enter(&mut self, alloc: Global, prepared: Prepared) -> Result<Arc<Entry>, Fault>
+        ensures ok { IfOk result (λ e. entries_of self.new.archive ≡ entries_of self.old.archive ++ arc_value e ∷ []) }
+        ensures named { IfOk result (λ e. string_bytes (arc_value e).name ≡ string_bytes prepared.name) }
+        ensures err { OnErr result (entries_of self.new.archive ≡ entries_of self.old.archive) }
+    {
+        self.look(alloc, prepared.name())?;
+        self.archive.add_prepared(alloc, prepared)
     }
 
     /// Adds the image of a file to the archive under a name, with the parameters that stand where
-    /// none are given, and publishes it.
+    /// none are given, and publishes it. The image is encoded before the folder is locked, behind a
+    /// first look at the name; what that passes is judged again while the lock is held.
     ///
-    /// The first of these: Shelf where the file can't be read; BadPnm; Shelf where the folder can't
-    /// be locked or its names can't be listed; BadName; NameTaken, also by a file that isn't listed;
-    /// Limit where there are 4,096 files of images; the faults of `Archive::add` and
-    /// `Writer::publish`. An image that was added and couldn't be published for want of memory
-    /// waits, or is listed at the next start.
+    /// The first of these: Shelf where the file can't be read; BadPnm; what the first look refuses,
+    /// as below; Shelf where the folder can't be locked or its names can't be listed; BadName;
+    /// NameTaken, also by a file that isn't listed; Limit where there are 4,096 files of images; the
+    /// faults of `Archive::add_prepared` and `Writer::publish`. An image that was added and couldn't
+    /// be published for want of memory waits, or is listed at the next start.
     pub fn add<R: Wait>(
         &mut self,
         rt: &R,
@@ -80,8 +91,10 @@ impl<S: Shelf, K: Keeper<S>, P: Shelf> Desk<S, K, P> {
     {
         let image = read_image(alloc, self.paths.read(alloc, path)?)?;
         let plan = judge(alloc, &EncodeOptions::new(alloc))?;
+        self.look(alloc, name)?;
+        let prepared = prepare(alloc, name, image, plan)?;
         self.keeper.lock(alloc)?;
-        let entered = self.enter(alloc, name, image, plan);
+        let entered = self.enter(alloc, prepared);
         self.keeper.release();
         writer.publish(rt, entered?)
     }

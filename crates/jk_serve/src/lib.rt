@@ -10,7 +10,8 @@ mod serving;
 
 pub use desk::{Desk, Keeper};
 pub use jk_port::{Arriving, Kept, Log, Pace, Port, Record, bind};
+pub use jk_store::{added_text, refused_text};
 pub use operating::operate;
-pub use operator_line::{Adding, added_text, adding_of, refused_text};
+pub use operator_line::{Adding, adding_of};
 pub use paths::Paths;
 pub use serving::{Served, serve};

@@ -6,10 +6,10 @@ ghost use Rattle.jk_math.specs.declared.fault.Fault.TheVariants.{Shelf as ShelfF
 ghost use Rattle.jk_hall.specs.Writing.{waits};
 
 use crate::desk::{Desk, Keeper};
-use crate::operator_line::{added_text, adding_of, refused_text};
+use crate::operator_line::adding_of;
 use jk_hall::Writer;
 use jk_math::Fault;
-use jk_store::Shelf;
+use jk_store::{Shelf, added_text, refused_text};
 use std::alloc::Global;
 use std::io::{ErrorKind, Read, Write};
 use std::sync::Wait;

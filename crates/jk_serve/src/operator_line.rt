@@ -1,11 +1,7 @@
-//! The lines of the operator, and what is answered.
+//! The lines of the operator.
 
-ghost use Rattle.std.specs.Prelude.{◌≡◌, ◌++◌, ◌∷◌, [], ℕ, List, None, IfOk, IfSome};
-ghost use Rattle.std.specs.String.{string_bytes};
-ghost use Rattle.jk_serve.specs.OperatorLines.{IsAdding, added_word};
-
-use jk_math::Fault;
-use std::alloc::{AllocError, Global};
+ghost use Rattle.std.specs.Prelude.{◌≡◌, ℕ, List, None, IfSome};
+ghost use Rattle.jk_serve.specs.OperatorLines.{IsAdding};
 
 /// What a line of the operator asks for: that the image of a file is added under a name.
 #[derive(Clone, Copy, Debug, PartialEq, Eq)]
@@ -23,16 +19,4 @@ pub fn adding_of(line: &str) -> Option<Adding<'_>>
     let rest = line.strip_prefix("add ")?;
     let (name, path) = rest.split_once(' ')?;
     Some(Adding { name, path })
-}
-
-/// What is answered where an image was added.
-pub fn added_text(alloc: Global, name: &str) -> Result<String, AllocError>
-    ensures { IfOk result (λ t. string_bytes t ≡ added_word ++ name.now ++ 10 ∷ []) }
-{
-    format!(in alloc; "added {name}\n")
-}
-
-/// What is answered where an adding was refused.
-pub fn refused_text(alloc: Global, name: &str, fault: Fault) -> Result<String, AllocError> {
-    format!(in alloc; "refused {name} {fault}\n")
 }

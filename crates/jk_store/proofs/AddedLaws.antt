@@ -3,7 +3,7 @@ use Rattle.std.proofs.Common.{◌≡◌, ℕ, ◌∷◌, ◌++◌, [], Bool, fal
 use Rattle.std.specs.Str.{bytes_eq}
 use Rattle.std.specs.String.{string_bytes}
 use Rattle.std.specs.List.{AllByRecursion}
-use Rattle.jk_web.specs.Images.{Image}
+use Rattle.jk_catalogue.specs.Images.{Image}
 use Rattle.jk_store.specs.declared.entry.Entry.{Entry}
 use Rattle.jk_store.specs.Files.{Files, with_file, without}
 use Rattle.jk_store.specs.Names.{file_name, temporary_name}

@@ -43,14 +43,16 @@ judged_each blocks (j ∷ jobs) [] all h = absurd h
 judged_each blocks (j ∷ jobs) (c ∷ found) all h =
     (subst (λ b. IsFoundOf b (given_file j) c) (All-head (λ f. f.blocks ≡ blocks) j jobs all) h.0, judged_each blocks jobs found (All-tail (λ f. f.blocks ≡ blocks) j jobs all) h.1)
 
-some_job : (jobs : List FileRead) (n : ℕ) → n < length jobs → FileRead
+some_job : {J : Type 0} (jobs : List J) (n : ℕ) → n < length jobs → J
 some_job [] n lt = absurd (omega (arith, lt))
 some_job (j ∷ jobs) n lt = j
 
-pub judging_memory : (jobs : List FileRead) (e : Fault) → IsMemory e ⊎ IsFirstFault IsJudged jobs e → IsMemory e
-judging_memory jobs e h = elim h [
+-- jobs of which each can fail for memory alone
+pub judging_memory : {J D : Type 0} (gives : J → Result D Fault → Type 0) → ((j : J) (e : Fault) → gives j (Err e) → IsMemory e) → (jobs : List J) (e : Fault)
+    → IsMemory e ⊎ IsFirstFault gives jobs e → IsMemory e
+judging_memory gives only jobs e h = elim h [
   | inl memory ↦ memory
-  | inr first ↦ first.fails (some_job jobs first.job first.is_job)
+  | inr first ↦ only _ e (first.fails (some_job jobs first.job first.is_job))
 ]
 
 -- one file more waits

@@ -4,7 +4,7 @@ use Rattle.jk_math.specs.Memory.{IsMemory}
 use Rattle.jk_math.specs.declared.fault.Fault.{Fault}
 use Rattle.jk_math.specs.declared.fault.Fault.TheVariants.{Shelf}
 use Rattle.jk_math.specs.Steps.{ok_is}
-use Rattle.jk_web.specs.Images.{Image}
+use Rattle.jk_catalogue.specs.Images.{Image}
 use Rattle.jk_store.specs.Files.{Files, with_file, without}
 use Rattle.jk_store.specs.Adding.{IsLeft}
 use Rattle.jk_store.specs.Catalogue.{StandsFor, stored, Passes}

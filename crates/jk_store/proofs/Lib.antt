@@ -4,10 +4,13 @@ pub mod CheckLaws
 pub mod Indexed
 pub mod AddLaws
 pub mod DueLaws
+pub mod StoringLaws
 pub mod NameLaws
 pub mod OpenLaws
+pub mod OpenWithLaws
 pub mod JudgingLaws
 pub mod ShowingLaws
+pub mod OpenedLaws
 pub mod AddedLaws
 pub mod MadeLaws
 pub mod PartsLaws

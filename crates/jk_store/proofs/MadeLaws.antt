@@ -2,7 +2,7 @@
 use Rattle.std.proofs.Common.{◌≡◌, ℕ, Bool, true, false, cond, List, [], ◌∷◌, ◌++◌, map, Some, sym, ap, ◌∙◌, subst}
 use Rattle.std.specs.Str.{bytes_eq}
 use Rattle.std.specs.String.{string_bytes}
-use Rattle.jk_web.specs.Cuts.{Within}
+use Rattle.jk_catalogue.specs.Images.{Within}
 use Rattle.jk_store.specs.Catalogue.{entry_of}
 use Rattle.jk_store.specs.Showing.{MayBeMade}
 use Rattle.jk_store.specs.declared.entry.Entry.{Entry}

@@ -181,15 +181,6 @@ module _ {S : Type 0} (keeps : S → Files → Type 0) (gave : S → List ℕ �
         ])
   ]
 
--- what the shelf keeps it keeps
-pub opened_keeps : {S : Type 0} (keeps : S → Files → Type 0) (gave : S → List ℕ → List ℕ → S → Type 0) (files : Files) (names : List (List ℕ)) (old : S) (entries : List Entry) (skipped : List Skipped) (new : S)
-    → Opened (Gives keeps gave) names old entries skipped new → keeps old files → keeps new files
-opened_keeps keeps gave files [] old entries skipped new h kept = subst (λ s. keeps s files) (sym h.2) kept
-opened_keeps keeps gave files (n ∷ names) old entries skipped new h kept = elim h.3 [
-  | inl l ↦ opened_keeps keeps gave files names h.1 l.1 skipped new l.4 (h.2.kept files kept)
-  | inr l ↦ opened_keeps keeps gave files names h.1 entries l.1 new l.4 (h.2.kept files kept)
-]
-
 -- with a file that a name has, if any
 with_more : (files : Files) (n b : List ℕ) → ((c : List ℕ) → files n ≡ Some c → b ≡ c) → AreIn files (with_file n b files)
 with_more files n b same m c is = elim (cases_Bool (bytes_eq n m)) [

@@ -15,15 +15,15 @@ use Rattle.jk_math.specs.Memory.{IsMemory}
 use Rattle.jk_window.specs.Views.{HasWindow}
 use Rattle.jk_window.specs.Cutting.{cut_file}
 use Rattle.jk_window.specs.Indexing.{IsIndexOf}
-use Rattle.jk_web.specs.declared.query.Asked.{Asked}
-use Rattle.jk_web.specs.Resources.{is_segment_byte, IsSegment}
-use Rattle.jk_web.specs.Images.{Image, names_of, image_of, IsFileOf, IsCutOf, IsOtherFile, IsOtherCut, HasNoCut, MayRefuse}
+use Rattle.jk_window.specs.declared.view.View.{View}
+use Rattle.jk_catalogue.specs.Images.{is_segment_byte, IsSegment}
+use Rattle.jk_catalogue.specs.Images.{Image, names_of, image_of, IsFileOf, IsCutOf, IsOtherFile, IsOtherCut, HasNoCut, MayRefuse}
 use Rattle.jk_store.specs.declared.entry.Entry.{Entry}
 use Rattle.jk_store.specs.Files.{Files}
 use Rattle.jk_store.specs.Names.{file_name, is_name_byte, is_good_name}
 use Rattle.jk_store.specs.Counting.{last_count}
 use Rattle.jk_store.specs.Catalogue.{StandsFor, StandIn, stored, is_listed, are_named, entry_of, IsWindowGiven, Passes}
-use Rattle.jk_store.specs.Showing.{line_of, view_of, given_of, ShowsImage, ShowImages, AreKept, StandForImages}
+use Rattle.jk_store.specs.Showing.{line_of, given_of, ShowsImage, ShowImages, AreKept, StandForImages}
 use Rattle.jk_store.proofs.AddLaws.{differs}
 use Rattle.jk_store.proofs.EntryLaws.{no_window_cut}
 
@@ -148,7 +148,7 @@ some_or (Some a) b = by (same_or a b)
     by (inl same) = inl (ap Some same)
     by (inr other) = inr (λ same. other (cc))
 
-pub cut_given : (o : Option Image) (i : Image) (asked : Asked) (cuts : List ℕ → Type 0) (cut : List ℕ) → o ≡ Some i → cuts cut → IsCutOf o asked cut ⊎ IsOtherCut o asked cuts cut
+pub cut_given : (o : Option Image) (i : Image) (asked : View) (cuts : List ℕ → Type 0) (cut : List ℕ) → o ≡ Some i → cuts cut → IsCutOf o asked cut ⊎ IsOtherCut o asked cuts cut
 cut_given o i asked cuts cut is made = subst (λ x. IsCutOf x asked cut ⊎ IsOtherCut x asked cuts cut) (sym is) (by (some_or (i.cut asked) cut))
   where
     by : (i.cut asked ≡ Some cut) ⊎ (i.cut asked ≡ Some cut → ⊥) → IsCutOf (Some i) asked cut ⊎ IsOtherCut (Some i) asked cuts cut
@@ -156,8 +156,8 @@ cut_given o i asked cuts cut is made = subst (λ x. IsCutOf x asked cut ⊎ IsOt
     by (inr other) = inr (made, other)
 
 -- a window that the view hasn't
-pub no_cut : (o : Option Image) (i : Image) (e : Entry) (asked : Asked) → o ≡ Some i → ShowsImage e i → (HasWindow e.index.headers (view_of asked) → ⊥) → HasNoCut o asked
-no_cut o i e asked is shows none = subst (λ x. HasNoCut x asked) (sym is) (shows.cut asked ∙ ap given_of (no_window_cut shows.index (view_of asked) none))
+pub no_cut : (o : Option Image) (i : Image) (e : Entry) (asked : View) → o ≡ Some i → ShowsImage e i → (HasWindow e.index.headers asked → ⊥) → HasNoCut o asked
+no_cut o i e asked is shows none = subst (λ x. HasNoCut x asked) (sym is) (shows.cut asked ∙ ap given_of (no_window_cut shows.index asked none))
 
 -- the files that are kept
 pub kept_file : {S : Type 0} (keeps : S → Files → Type 0) (s : S) (n : List ℕ) (images : List Image) (i : Image) (e : Entry) → (kept : AreKept keeps s images) → image_of n images ≡ Some i → ShowsImage e i
@@ -213,9 +213,9 @@ pub whole_given : (o : Option Image) (i : Image) (reads : List ℕ → Type 0) (
 whole_given o i reads broken (Ok v) before after is read changed counts failed = file_given o i reads v.items is read
 whole_given o i reads broken (Err x) before after is read changed counts failed = whole_refused o broken x before after counts (λ c. changed (ap (λ y. Err y) c)) failed
 
-pub window_given : (o : Option Image) (i : Image) (e : Entry) (asked : Asked) (cuts : List ℕ → Type 0) (broken : Type 0) (r : Result (Vec ℕ) Fault) (before after : ℕ)
+pub window_given : (o : Option Image) (i : Image) (e : Entry) (asked : View) (cuts : List ℕ → Type 0) (broken : Type 0) (r : Result (Vec ℕ) Fault) (before after : ℕ)
     → o ≡ Some i → ShowsImage e i → IfOk r (λ w. cuts w.items)
-    → (r ≡ Err BadWindow → HasWindow e.index.headers (view_of asked) → ⊥) → (r ≡ Err Changed → broken)
+    → (r ≡ Err BadWindow → HasWindow e.index.headers asked → ⊥) → (r ≡ Err Changed → broken)
     → Passes (λ y. IsMemory y ⊎ (y ≡ BadWindow) ⊎ (y ≡ Changed)) r before after → (after ≡ min (before + 1) last_count → broken)
     → MatchResult r (λ v. IsCutOf o asked v.items ⊎ IsOtherCut o asked cuts v.items) (λ x. MayRefuse o broken (HasNoCut o asked) x)
 window_given o i e asked cuts broken (Ok w) before after is shows given bad changed counts failed = cut_given o i asked cuts w.items is given
@@ -227,8 +227,8 @@ pub whole_kept : (o : Option Image) (i : Image) (r : Result (Vec ℕ) Fault) →
 whole_kept o i (Ok v) is same = subst (λ x. IsFileOf x v.items) (sym is) same
 whole_kept o i (Err x) is same = tt
 
-pub window_kept : (o : Option Image) (i : Image) (e : Entry) (asked : Asked) (r : Result (Vec ℕ) Fault) → o ≡ Some i → (shows : ShowsImage e i)
-    → IsWindowGiven (cut_file shows.index (view_of asked)) r → IfOk r (λ v. IsCutOf o asked v.items)
+pub window_kept : (o : Option Image) (i : Image) (e : Entry) (asked : View) (r : Result (Vec ℕ) Fault) → o ≡ Some i → (shows : ShowsImage e i)
+    → IsWindowGiven (cut_file shows.index asked) r → IfOk r (λ v. IsCutOf o asked v.items)
 window_kept o i e asked (Ok v) is shows given = subst (λ x. IsCutOf x asked v.items) (sym is) (shows.cut asked ∙ ap given_of given)
 window_kept o i e asked (Err x) is shows given = tt
 
@@ -254,7 +254,7 @@ record AreShown (files : Files) (entries : List Entry) (images : List Image) : T
   segments : AllByRecursion (λ (i : Image). IsSegment i.name) images
 
 abbrev pub image_for : (e : Entry) (file : List ℕ) → IsIndexOf file e.index → Image
-image_for e file is = record { name = string_bytes e.name; line = line_of e; file = file; cut = λ asked. given_of (cut_file is (view_of asked)) }
+image_for e file is = record { name = string_bytes e.name; line = line_of e; file = file; cut = λ asked. given_of (cut_file is asked) }
 
 pub shows_itself : (e : Entry) (file : List ℕ) → (is : StandsFor e (stored (string_bytes e.name) file)) → ShowsImage e (image_for e file is.indexes)
 shows_itself e file is = record { name = refl; line = refl; digest = is.digest; parts = is.parts; index = is.indexes; cut = λ asked. refl }

@@ -43,6 +43,56 @@ written_with p q e = do
   file ← written p q
   with_extras_at e file
 
+-- the first fault of a name beside the entries that are there
+unfoldable pub judged_name : List Entry → List ℕ → Result (Unit {0}) Fault
+judged_name entries name = do
+  _ ← refuse (not (is_good_name name)) BadName
+  _ ← refuse (is_listed entries name) NameTaken
+  refuse (nat_le most_entries (length entries)) Limit
+
+-- the first fault of an image and its parameters
+unfoldable pub judged_image : Picture → Parameters → Result (Unit {0}) Fault
+judged_image p q = do
+  _ ← refuse (not (is_profile q p)) BadParameters
+  refuse (is_raw q.container) BadParameters
+
+-- the file that is due of an image, or its first fault, whatever its name
+unfoldable pub file_due : Picture → Parameters → Result (List ℕ) Fault
+file_due p q = do
+  _ ← judged_image p q
+  written p q
+
+-- the same with what it is to keep
+unfoldable pub file_due_with : Picture → Parameters → Extras → Result (List ℕ) Fault
+file_due_with p q e = do
+  _ ← judged_image p q
+  _ ← refuse (not (is_extras (length p.planes) e)) BadParameters
+  written_with p q e
+
+-- the file of an image that is judged with its name and then encoded, or the first fault
+unfoldable pub added_at_once : List Entry → List ℕ → Picture → Parameters → Result (List ℕ) Fault
+added_at_once entries name p q = do
+  _ ← judged entries name p q
+  written p q
+
+-- the same with what it is to keep
+unfoldable pub added_at_once_with : List Entry → List ℕ → Picture → Parameters → Extras → Result (List ℕ) Fault
+added_at_once_with entries name p q e = do
+  _ ← judged_with entries name p q e
+  written_with p q e
+
+-- the file of a good name, or the first fault: of the name, or what kept the file from being made
+unfoldable pub stored_due : List ℕ → Result (List ℕ) Fault → Result (List ℕ) Fault
+stored_due name file = do
+  _ ← refuse (not (is_good_name name)) BadName
+  file
+
+-- the file of a name that may be added beside the entries, or the first fault
+unfoldable pub added_due : List Entry → List ℕ → Result (List ℕ) Fault → Result (List ℕ) Fault
+added_due entries name file = do
+  _ ← judged_name entries name
+  file
+
 -- What is left of files after a refusal, where a file that was made is written under a temporary
 -- name and gets its own: all others, and under its own name what was there before; or, after Shelf,
 -- the file that was made.

@@ -66,6 +66,11 @@ pub record StandsFor (e : Entry) (s : Stored) : Type 0 where
   pub index : image_at s.file ≡ Ok e.index
   pub indexes : IsIndexOf s.file e.index
 
+-- An entry has this name, and of this JP2 file the digest, those of its parts, and the index.
+abbrev pub IsEntryOf : Entry → List ℕ → List ℕ → Type 0
+IsEntryOf e name file = (string_bytes e.name ≡ name) × (e.digest ≡ sha256 file)
+    × (e.parts.items ≡ part_digests file) × (image_at file ≡ Ok e.index)
+
 -- Each entry stands for the file that has its name among these.
 abbrev pub StandIn : Files → List Entry → Type 0
 StandIn files entries =

@@ -13,7 +13,7 @@ use Rattle.jk_store.specs.Adding.{judged}
 use Rattle.jk_store.specs.Files.{Files, with_file, without}
 use Rattle.jk_store.specs.Names.{is_good_name, file_name, temporary_name, is_image}
 use Rattle.jk_store.specs.Parts.{part_count, part_length}
-use Rattle.jk_store.specs.Showing.{line_of, view_of}
+use Rattle.jk_store.specs.Showing.{line_of}
 use Rattle.jk_store.specs.declared.entry.Entry.{Entry}
 
 -- 1 to 64 letters, digits, hyphens and underscores
@@ -106,8 +106,3 @@ line : (e : Entry) → string_bytes e.name ≡ codes "scan" → e.index.headers 
     ≡ codes "scan 17 13 1 8 1\n"
 unfolding digits least_in least_levels
 line e named has = rw (named, has) refl
-
--- a window that was asked for, as a view of a file
-view : view_of (record { reduce = 2; x = 24; y = 112; width = 96; height = 1; layers = Some 4 })
-    ≡ record { reduce = 2; x = 24; y = 112; width = 96; height = 1; layers = Some 4 }
-view = refl

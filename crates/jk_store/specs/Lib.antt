@@ -11,8 +11,11 @@ pub mod Readings
 pub mod Adding
 pub mod Digesting
 pub mod Opening
+pub mod OpeningWith
 pub mod Judging
 pub mod Checking
+pub mod Preparing
+pub mod Told
 pub mod Showing
 pub mod ShownSteps
 pub mod PartsSteps

@@ -1,15 +1,20 @@
 -- What opening an archive makes of the files of a shelf.
-use Rattle.std.specs.Prelude.{◌≡◌, ℕ, ◌<◌, ◌⊎◌, List, [], ◌∷◌, ◌++◌, length, Some, Err}
+use Rattle.std.specs.Prelude.{◌≡◌, ℕ, ◌<◌, ◌⊎◌, List, [], ◌∷◌, ◌++◌, length, Some, Ok, Err}
 use Rattle.std.specs.List.Sorted.{IsStrictlySortedBy}
 use Rattle.std.specs.Ordering.{nat_cmp}
 use Rattle.std.specs.Cmp.Lexicographic.{slice_cmp}
 use Rattle.std.specs.String.{string_bytes}
 use Rattle.jk_store.specs.Files.{Files, with_file, is_among}
 use Rattle.jk_store.specs.Names.{file_name, is_image}
-use Rattle.jk_store.specs.Catalogue.{StandsFor, stored, image_at, most_entries}
+use Rattle.jk_window.specs.Indexing.{IsIndexOf}
+use Rattle.jk_store.specs.Parts.{part_digests}
+use Rattle.jk_store.specs.Catalogue.{StandsFor, Stored, stored, image_at, most_entries}
 use Rattle.jk_store.specs.Digesting.{entry_due}
 use Rattle.jk_store.specs.declared.entry.Entry.{Entry}
 use Rattle.jk_store.specs.declared.skipped.Skipped.{Skipped}
+use Rattle.jk_store.specs.declared.opening.NamedFile.{NamedFile}
+use Rattle.jk_store.specs.declared.opening.Seen.{Seen}
+use Rattle.jk_store.specs.declared.opening.Seen.TheVariants.{ImageFile, OtherFile}
 use Rattle.jk_store.specs.declared.opening.Looked.{Looked}
 use Rattle.jk_store.specs.declared.opening.Looked.TheVariants.{Due, Passed}
 
@@ -21,6 +26,20 @@ pub record IsSkippedOf (n bytes : List ℕ) (k : Skipped) : Type 0 where
 abbrev pub IsLookedOf : List ℕ → List ℕ → Looked → Type 0
 IsLookedOf name bytes (Due f) = StandsFor (entry_due f) (stored name bytes)
 IsLookedOf name bytes (Passed k) = IsSkippedOf name bytes k
+
+-- What bytes are: the file of an image, with this index and these digests of its parts; or another.
+abbrev pub IsSeenOf : List ℕ → Seen → Type 0
+IsSeenOf bytes (ImageFile index parts) = (image_at bytes ≡ Ok index) × IsIndexOf bytes index
+    × (parts.items ≡ part_digests bytes)
+IsSeenOf bytes (OtherFile fault) = image_at bytes ≡ Err fault
+
+-- a file as it was read
+abbrev pub stored_file : NamedFile → Stored
+stored_file f = stored (string_bytes f.name) f.bytes.items
+
+-- There is an entry that stands for a file, or it is skipped.
+abbrev pub CanBeMade : Stored → Type 0
+CanBeMade f = ((e : Entry) × StandsFor e f) ⊎ ((k : Skipped) × IsSkippedOf f.name f.file k)
 
 -- The shelf gave these bytes under a name. A file that it keeps is what it gives; and it keeps what
 -- it kept and what it gave.

@@ -10,8 +10,7 @@ use Rattle.jk_window.specs.declared.view.View.{View}
 use Rattle.jk_window.specs.Indexing.{IsIndexOf}
 use Rattle.jk_params.specs.Levels.{least_levels}
 use Rattle.jk_window.specs.Cutting.{cut_file}
-use Rattle.jk_web.specs.declared.query.Asked.{Asked}
-use Rattle.jk_web.specs.Images.{Image}
+use Rattle.jk_catalogue.specs.Images.{Image}
 use Rattle.jk_store.specs.Files.{Files}
 use Rattle.jk_store.specs.Names.{file_name}
 use Rattle.jk_store.specs.Parts.{part_digests}
@@ -35,10 +34,6 @@ line_of e =
     ++ (number_text h.siz.components
     ++ (number_text h.siz.depth ++ (number_text (least_levels h.tiles (tile_count h.siz)) ++ (10 ∷ []))))))
 
--- the view that is asked for
-abbrev pub view_of : Asked → View
-view_of a = record { reduce = a.reduce; x = a.x; y = a.y; width = a.width; height = a.height; layers = a.layers }
-
 -- what is given, if it isn't refused
 abbrev pub given_of : {A : Type 0} → Result A Fault → Option A
 given_of (Ok v) = Some v
@@ -51,7 +46,7 @@ pub record ShowsImage (e : Entry) (i : Image) : Type 0 where
   pub digest : e.digest ≡ sha256 i.file
   pub parts : e.parts.items ≡ part_digests i.file
   pub index : IsIndexOf i.file e.index
-  pub cut : (asked : Asked) → i.cut asked ≡ given_of (cut_file index (view_of asked))
+  pub cut : (asked : View) → i.cut asked ≡ given_of (cut_file index asked)
 
 -- Entries show images, each its own, in order.
 abbrev pub ShowImages : List Entry → List Image → Type 0
@@ -85,15 +80,15 @@ Reads gave entries old n file new = (e : Entry) × (entry_of entries n ≡ Some 
 
 -- Between two states the shelf gave parts of the file of the entry of a name, each with its digest,
 -- and the window is cut of them.
-abbrev pub Cuts : {S : Type 0} → (gave_at : S → List ℕ → ℕ → ℕ → List ℕ → S → Type 0) → List Entry → S → List ℕ → Asked
+abbrev pub Cuts : {S : Type 0} → (gave_at : S → List ℕ → ℕ → ℕ → List ℕ → S → Type 0) → List Entry → S → List ℕ → View
     → S → List ℕ → Type 0
 Cuts gave_at entries old n asked new cut =
     (e : Entry) × (given : List GivenPart) × (entry_of entries n ≡ Some e) × ReadsParts gave_at e old given new
-    × IsCutOfParts e.index (view_of asked) given cut
+    × IsCutOfParts e.index asked given cut
 
 -- Such a cut may have been made for the entry of a name: of some parts with the digests of the
 -- entry's.
-abbrev pub MayBeMade : List Entry → List ℕ → Asked → List ℕ → Type 0
+abbrev pub MayBeMade : List Entry → List ℕ → View → List ℕ → Type 0
 MayBeMade entries n asked cut =
     (e : Entry) × (given : List GivenPart) × (entry_of entries n ≡ Some e) × ArePartsOf e given
-    × IsCutOfParts e.index (view_of asked) given cut
+    × IsCutOfParts e.index asked given cut

@@ -1,10 +1,11 @@
 //! Adding an image to an archive.
 
 ghost use Rattle.std.specs.Prelude.{◌≡◌, ◌≤◌, ◌<◌, ◌⊎◌, ◌++◌, ◌∷◌, [], ℕ, List, true, false, map, length, Ok, Err};
-ghost use Rattle.std.specs.Prelude.{IfOk, IfErr, OnOk, OnErr};
+ghost use Rattle.std.specs.Prelude.{IfOk, IfErr, OnOk, OnErr, not};
 ghost use Rattle.std.specs.String.{string_bytes};
 ghost use Rattle.std.specs.Arc.{arc_value};
-ghost use Rattle.jk_math.specs.Answer.{Answers};
+ghost use Rattle.jk_math.specs.Answer.{Answers, refuse};
+ghost use Rattle.jk_extras.specs.Extras.{is_extras};
 ghost use Rattle.jk_math.specs.Memory.{IsMemory};
 ghost use Rattle.jk_math.specs.declared.fault.Fault.{Fault};
 ghost use Rattle.jk_math.specs.Picture.{Picture};
@@ -14,11 +15,12 @@ ghost use Rattle.jk_code.specs.Written.{written};
 ghost use Rattle.jk_store.specs.Files.{Files, with_file, without};
 ghost use Rattle.jk_store.specs.Names.{is_good_name, file_name, temporary_name};
 ghost use Rattle.jk_store.specs.Catalogue.{is_listed, image_at, most_entries, StandsFor, stored, Passes};
-ghost use Rattle.jk_store.specs.Adding.{judged, judged_with, written_with, IsLeft, IsUnstored};
+ghost use Rattle.jk_store.specs.Adding.{judged, judged_with, judged_name, judged_image, written_with, file_due};
+ghost use Rattle.jk_store.specs.Adding.{file_due_with, IsLeft, IsUnstored};
 ghost use Rattle.jk_store.specs.Showing.{ShowImages, StandForImages, MayBeMade};
-ghost use Rattle.jk_web.specs.Images.{Image as Shown};
-ghost use Rattle.jk_web.specs.Cuts.{Within};
-ghost use Rattle.jk_math.specs.declared.fault.Fault.TheVariants.{Shelf as ShelfFault};
+ghost use Rattle.jk_catalogue.specs.Images.{Image as Shown};
+ghost use Rattle.jk_catalogue.specs.Images.{Within};
+ghost use Rattle.jk_math.specs.declared.fault.Fault.TheVariants.{BadParameters, Shelf as ShelfFault};
 
 use crate::archive::Archive;
 use crate::entry::Entry;
@@ -46,19 +48,12 @@ fn is_listed(entries: &[Arc<Entry>], name: &str) -> bool
     false
 }
 
-/// Whether an image may be added.
+/// Whether an image may be added under a name beside these.
 ///
-/// The first of these: BadName; NameTaken; Limit where there are 4,096 images; BadParameters, also
-/// for a bare codestream.
-#[tactic(auto, unfolding(crate::specs::Adding::judged))]
-fn judge(
-    entries: &[Arc<Entry>],
-    name: &str,
-    image: &Image,
-    parameters: &Parameters,
-) -> Result<(), Fault>
-    ensures exact { result ≡ judged (map arc_value entries.now) name.now image.now parameters.now }
-    ensures jp2 { OnOk result (parameters.now.container ≡ Jp2) }
+/// The first of these: BadName; NameTaken; Limit where there are 4,096 images.
+#[tactic(auto, unfolding(crate::specs::Adding::judged_name))]
+pub(crate) fn judge_beside(entries: &[Arc<Entry>], name: &str) -> Result<(), Fault>
+    ensures exact { result ≡ judged_name (map arc_value entries.now) name.now }
     ensures named { OnOk result (is_good_name name.now ≡ true) }
     ensures fresh { OnOk result (is_listed (map arc_value entries.now) name.now ≡ false) }
     ensures room { OnOk result (length entries.now < most_entries) }
@@ -72,6 +67,16 @@ fn judge(
     if MOST_ENTRIES <= entries.len() {
         return Err(Fault::Limit);
     }
+    Ok(())
+}
+
+/// Whether an image may be added with these parameters, whatever its name. BadParameters: also for
+/// a bare codestream.
+#[tactic(auto, unfolding(crate::specs::Adding::judged_image))]
+fn judge_image(image: &Image, parameters: &Parameters) -> Result<(), Fault>
+    ensures exact { result ≡ judged_image image.now parameters.now }
+    ensures jp2 { OnOk result (parameters.now.container ≡ Jp2) }
+{
     parameters.check(image)?;
     match parameters.container {
         Container::Raw => Err(Fault::BadParameters),
@@ -79,10 +84,39 @@ fn judge(
     }
 }
 
+/// Whether an image may be added.
+///
+/// The first of these: what [`judge_beside`] and [`judge_image`] answer.
+#[tactic(auto, using(crate::proofs::StoringLaws::judged_in_two))]
+fn judge(
+    entries: &[Arc<Entry>],
+    name: &str,
+    image: &Image,
+    parameters: &Parameters,
+) -> Result<(), Fault>
+    ensures exact { result ≡ judged (map arc_value entries.now) name.now image.now parameters.now }
+    ensures jp2 { OnOk result (parameters.now.container ≡ Jp2) }
+    ensures named { OnOk result (is_good_name name.now ≡ true) }
+    ensures fresh { OnOk result (is_listed (map arc_value entries.now) name.now ≡ false) }
+    ensures room { OnOk result (length entries.now < most_entries) }
+{
+    judge_beside(entries, name)?;
+    judge_image(image, parameters)
+}
+
+/// Whether a file may keep this beside an image. BadParameters: what `jk_extras::judge` refuses by
+/// the number of components.
+fn judge_extras(image: &Image, extras: &Extras) -> Result<(), Fault>
+    ensures { result ≡ refuse (not (is_extras (length image.now.planes) extras.now)) BadParameters }
+{
+    // That there are few, the width's contract says too.
+    let _width = image.width();
+    jk_extras::judge(extras, image.planes().len() as u16)
+}
+
 /// Whether an image may be added whose file is to keep something beside the samples.
 ///
-/// The first of these: what [`judge`] answers; BadParameters, what `jk_extras::judge` refuses by the
-/// number of components.
+/// The first of these: what [`judge`] and [`judge_extras`] answer.
 #[tactic(auto, unfolding(crate::specs::Adding::judged_with))]
 fn judge_with(
     entries: &[Arc<Entry>],
@@ -98,9 +132,7 @@ fn judge_with(
     ensures room { OnOk result (length entries.now < most_entries) }
 {
     judge(entries, name, image, parameters)?;
-    // That there are few, the width's contract says too.
-    let _width = image.width();
-    jk_extras::judge(extras, image.planes().len() as u16)
+    judge_extras(image, extras)
 }
 
 /// The JP2 file of an image.
@@ -130,6 +162,41 @@ fn file_with(
 {
     let file = encode(alloc, image, parameters)?;
     with_extras(alloc, &file, extras)
+}
+
+/// The JP2 file of an image that is to be added, whatever its name.
+///
+/// The first of these: what [`judge_image`] answers; Limit: a tile-part would be too long.
+#[tactic(auto, unfolding(crate::specs::Adding::file_due))]
+pub(crate) fn made_file(
+    alloc: Global,
+    image: &Image,
+    parameters: &Parameters,
+) -> Result<Vec<u8>, Fault>
+    ensures exact { Answers (λ v. v.items) result (file_due image.now parameters.now) }
+    ensures image { IfOk result (λ v. (i : IndexFields) × (image_at v.items ≡ Ok i)) }
+{
+    judge_image(image, parameters)?;
+    file_of(alloc, image, parameters)
+}
+
+/// The JP2 file of an image that is to be added, with what it is to keep beside the samples.
+///
+/// The first of these: what [`judge_image`] and [`judge_extras`] answer; Limit: a tile-part would be
+/// too long, or the JP2 header box.
+#[tactic(auto, unfolding(crate::specs::Adding::file_due_with))]
+pub(crate) fn made_file_with(
+    alloc: Global,
+    image: &Image,
+    parameters: &Parameters,
+    extras: &Extras,
+) -> Result<Vec<u8>, Fault>
+    ensures exact { Answers (λ v. v.items) result (file_due_with image.now parameters.now extras.now) }
+    ensures image { IfOk result (λ v. (i : IndexFields) × (image_at v.items ≡ Ok i)) }
+{
+    judge_image(image, parameters)?;
+    judge_extras(image, extras)?;
+    file_with(alloc, image, parameters, extras)
 }
 
 impl<S: Shelf> Archive<S> {

@@ -17,6 +17,7 @@ ghost use Rattle.jk_store.specs.Checking.{check_at, IsImage, IsFindingOf, IsFoun
 ghost use Rattle.jk_store.specs.Checking.{GivenFile, AreTaken, IsFindingFor, given_file, given_bytes, finding_of};
 ghost use Rattle.jk_store.specs.declared.checked.Finding.{Finding as FindingShown};
 
+use crate::batches::are_enough;
 use crate::checked::{Checked, Finding};
 use crate::names;
 use crate::opening::image_index;
@@ -29,12 +30,6 @@ use std::alloc::Global;
 use std::collections::BTreeSet;
 use std::mem;
 use std::thread::Threads;
-
-/// How many bytes are read for each worker before they are judged, unless one file has more.
-const BATCH_SIZE: usize = 1 << 25;
-
-/// How many files are read for each worker before they are judged.
-const BATCH_FILES: usize = 64;
 
 /// Judges the file of an image.
 ///
@@ -168,10 +163,7 @@ impl Checking {
 
     /// Whether so much was read that it is to be judged now.
     fn is_full(&self, workers: usize) -> bool {
-        let files = self.batch.len();
-        let most_files = workers.saturating_mul(BATCH_FILES);
-        let most_size = workers.saturating_mul(BATCH_SIZE);
-        workers == 1 || workers <= files && (most_files <= files || most_size <= self.size)
+        workers == 1 || are_enough(workers, self.batch.len(), self.size)
     }
 
     /// Takes a file that was read, and judges those that were where they are enough.

@@ -78,6 +78,16 @@ fn joined(waiting: Waiting, file: Undigested) -> (Waiting, Option<Four>)
     }
 }
 
+/// The digests of three messages, made at once.
+pub(crate) fn sha256_of_three(a: &[u8], b: &[u8], c: &[u8]) -> [[u8; 32]; 3]
+    ensures { result ≡ sha256 a.now ∷ sha256 b.now ∷ sha256 c.now ∷ [] }
+{
+    // A fourth one, as long as all three go, for which nothing more is done.
+    let shortest = a.len().min(b.len()).min(c.len());
+    let [first, second, third, _] = sha256_of_four(a, b, c, &c[..shortest]);
+    [first, second, third]
+}
+
 /// Lists the entry of a file.
 fn list(
     alloc: Global,
@@ -133,10 +143,7 @@ fn list_three(
         ≡ map arc_value entries.old.items ++ entry_due a ∷ entry_due b ∷ entry_due c ∷ []) }
     ensures err { IfErr result IsMemory }
 {
-    // A fourth one, as long as all three go, for which nothing more is done.
-    let shortest = a.bytes.len().min(b.bytes.len()).min(c.bytes.len());
-    let fourth = &c.bytes[..shortest];
-    let [first, second, third, _] = sha256_of_four(&a.bytes, &b.bytes, &c.bytes, fourth);
+    let [first, second, third] = sha256_of_three(&a.bytes, &b.bytes, &c.bytes);
     list_two(alloc, entries, a, first, b, second)?;
     list(alloc, entries, c, third)
 }

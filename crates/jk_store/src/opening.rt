@@ -1,7 +1,7 @@
 //! Opening an archive.
 
 ghost use Rattle.std.specs.Prelude.{◌≡◌, ◌≤◌, ◌⊎◌, ℕ, List, map, length, true, false, Some, Ok, Err, [], All, IfOk};
-ghost use Rattle.std.specs.Prelude.{IfErr, OnOk};
+ghost use Rattle.std.specs.Prelude.{IfErr, OnOk, ◌<◌, slice_index_or};
 ghost use Rattle.std.specs.Arc.{arc_value};
 ghost use Rattle.std.specs.String.{string_bytes};
 ghost use Rattle.std.specs.BTreeSet.{keys};
@@ -12,15 +12,15 @@ ghost use Rattle.jk_math.specs.Answer.{Answers};
 ghost use Rattle.jk_math.specs.Memory.{IsMemory};
 ghost use Rattle.jk_math.specs.declared.fault.Fault.TheVariants.{Limit, Shelf as ShelfFault};
 ghost use Rattle.jk_window.specs.Indexing.{IndexFields, IsIndexOf};
-ghost use Rattle.jk_web.specs.Images.{Image, names_of};
-ghost use Rattle.jk_web.specs.Resources.{IsSegment};
+ghost use Rattle.jk_catalogue.specs.Images.{Image, names_of};
+ghost use Rattle.jk_catalogue.specs.Images.{IsSegment};
 ghost use Rattle.jk_store.specs.Files.{Files, AreIn};
 ghost use Rattle.jk_store.specs.Names.{file_name, is_good_name};
 ghost use Rattle.jk_store.specs.Catalogue.{entry_of, image_at, are_named, most_entries, StandsFor, StandIn, stored};
 ghost use Rattle.jk_store.specs.Catalogue.{Passes};
 ghost use Rattle.jk_store.specs.Showing.{ShowImages, StandForImages};
 ghost use Rattle.jk_store.specs.Opening.{IsLookedOf, Gives, Enters, Opened, ReadsPast, ReadsUpTo, OpensAs, OpensPast};
-ghost use Rattle.jk_store.specs.Opening.{OpensUpTo};
+ghost use Rattle.jk_store.specs.Opening.{OpensUpTo, IsSeenOf, CanBeMade, stored_file};
 ghost use Rattle.jk_store.specs.Digesting.{all_entries};
 ghost use Rattle.jk_store.specs.declared.entry.Entry.{Entry as EntryFields};
 
@@ -70,9 +70,66 @@ pub(crate) fn image_index(alloc: Global, bytes: &[u8]) -> Result<Index, Fault>
     Ok(index)
 }
 
+/// The file of an image as the shelf gave it.
+#[derive(Drop)]
+pub(crate) struct NamedFile {
+    pub(crate) name: String,
+    pub(crate) bytes: Vec<u8>,
+}
+
+/// That bytes are below 256, for what is said of them as numbers.
+fn fit(_bytes: &[u8])
+    ensures { (k : ℕ) → slice_index_or _bytes.now k 0 < 256 }
+{}
+
+/// Reads the file of a name. Whatever it answers, the shelf keeps what it kept.
+pub(crate) fn read_named<S: Shelf>(
+    alloc: Global,
+    shelf: &mut S,
+    name: &str,
+) -> Result<NamedFile, Fault>
+    ensures name { IfOk result (λ f. string_bytes f.name ≡ name.now) }
+    ensures given { IfOk result
+        (λ f. Gives S.keeps S.gave shelf.old (file_name name.now) f.bytes.items shelf.new) }
+    ensures seen { IfOk result (λ f. CanBeMade (stored_file f)) }
+    ensures cause { IfErr result (λ e. e ≡ ShelfFault → S.unread shelf.old (file_name name.now) shelf.new) }
+    ensures kept { (files : Files) → S.keeps shelf.old files → S.keeps shelf.new files }
+    ensures counts { Passes IsMemory result (S.failed shelf.old) (S.failed shelf.new) }
+{
+    let file = names::file_name(alloc, name)?;
+    let bytes = shelf.read(alloc, file.as_str())?;
+    fit(&bytes);
+    let name = String::from_str(alloc, name)?;
+    Ok(NamedFile { name, bytes })
+}
+
+/// What bytes are: the file of an image, with its index and the digests of its parts; or another,
+/// and why.
+#[derive(Drop)]
+pub(crate) enum Seen {
+    ImageFile(Index, Vec<[u8; 32]>),
+    OtherFile(Fault),
+}
+
+/// What the bytes of a file are.
+#[tactic(auto, using(crate::proofs::Indexed::due_fault))]
+pub(crate) fn judge_bytes(alloc: Global, bytes: &[u8]) -> Result<Seen, Fault>
+    ensures ok { IfOk result (IsSeenOf bytes.now) }
+    ensures err { IfErr result IsMemory }
+{
+    match image_index(alloc, bytes) {
+        Ok(index) => Ok(Seen::ImageFile(index, part_digests(alloc, bytes)?)),
+        Err(fault) => {
+            if is_memory(&fault) {
+                return Err(fault);
+            }
+            Ok(Seen::OtherFile(fault))
+        }
+    }
+}
+
 /// Reads the file of a name, and says what becomes of it. Whatever it answers, the shelf keeps what
 /// it kept.
-#[tactic(auto, using(crate::proofs::Indexed::due_fault))]
 fn look<S: Shelf>(alloc: Global, shelf: &mut S, name: &str) -> Result<Looked, Fault>
     ensures given { IfOk result
         (λ r. (bytes : List ℕ) × Gives S.keeps S.gave shelf.old (file_name name.now) bytes shelf.new
@@ -81,25 +138,15 @@ fn look<S: Shelf>(alloc: Global, shelf: &mut S, name: &str) -> Result<Looked, Fa
     ensures kept { (files : Files) → S.keeps shelf.old files → S.keeps shelf.new files }
     ensures counts { Passes IsMemory result (S.failed shelf.old) (S.failed shelf.new) }
 {
-    let file = names::file_name(alloc, name)?;
-    let bytes = shelf.read(alloc, file.as_str())?;
-    let name = String::from_str(alloc, name)?;
-    match image_index(alloc, &bytes) {
-        Ok(index) => {
-            let parts = part_digests(alloc, &bytes)?;
-            Ok(Looked::Due(Undigested {
-                name,
-                bytes,
-                parts,
-                index,
-            }))
-        }
-        Err(fault) => {
-            if is_memory(&fault) {
-                return Err(fault);
-            }
-            Ok(Looked::Passed(Skipped { name, fault }))
-        }
+    let NamedFile { name, bytes } = read_named(alloc, shelf, name)?;
+    match judge_bytes(alloc, &bytes)? {
+        Seen::ImageFile(index, parts) => Ok(Looked::Due(Undigested {
+            name,
+            bytes,
+            parts,
+            index,
+        })),
+        Seen::OtherFile(fault) => Ok(Looked::Passed(Skipped { name, fault })),
     }
 }
 
@@ -142,16 +189,16 @@ fn enter<S: Shelf>(
 
 /// What is made of files.
 #[derive(Drop)]
-struct Made {
-    entries: Vec<Arc<Entry>>,
-    skipped: Vec<Skipped>,
+pub(crate) struct Made {
+    pub(crate) entries: Vec<Arc<Entry>>,
+    pub(crate) skipped: Vec<Skipped>,
 }
 
 /// Reads the files of some names, in their order. Whatever it answers, the shelf keeps what it
 /// kept.
 ///
 /// Limit: more than 4,096 of them would be listed.
-fn read_images<S: Shelf>(
+pub(crate) fn read_images<S: Shelf>(
     alloc: Global,
     shelf: &mut S,
     names: &BTreeSet<String>,
@@ -181,8 +228,8 @@ fn read_images<S: Shelf>(
 /// The images of a shelf, and the files that aren't listed.
 #[derive(Drop)]
 pub struct Images {
-    entries: Vec<Arc<Entry>>,
-    skipped: Vec<Skipped>,
+    pub(crate) entries: Vec<Arc<Entry>>,
+    pub(crate) skipped: Vec<Skipped>,
     // Names are good, and none stands twice.
     ghost named: { are_named (map arc_value entries.items) ≡ true },
     ghost few: { length entries.items ≤ most_entries },

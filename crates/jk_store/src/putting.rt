@@ -1,45 +1,42 @@
 //! Putting a JP2 file on the shelf of an archive, and listing it.
 
-ghost use Rattle.std.specs.Prelude.{◌≡◌, ◌≤◌, ◌<◌, ◌⊎◌, ◌++◌, ◌∷◌, [], ℕ, List, true, false, map, length, Ok};
+ghost use Rattle.std.specs.Prelude.{◌≡◌, ◌≤◌, ◌<◌, ◌⊎◌, ◌++◌, ◌∷◌, [], ℕ, List, true, false, map, length, Ok, Err};
 ghost use Rattle.std.specs.Prelude.{IfOk, IfErr, OnOk, OnErr};
 ghost use Rattle.std.specs.String.{string_bytes};
 ghost use Rattle.std.specs.Arc.{arc_value};
+ghost use Rattle.jk_math.specs.Answer.{AnswersExactly};
 ghost use Rattle.jk_math.specs.Memory.{IsMemory};
 ghost use Rattle.jk_window.specs.Indexing.{IndexFields};
 ghost use Rattle.jk_store.specs.Files.{Files, with_file, without};
 ghost use Rattle.jk_store.specs.Names.{is_good_name, file_name, temporary_name};
 ghost use Rattle.jk_store.specs.Counting.{Counts};
-ghost use Rattle.jk_store.specs.Catalogue.{is_listed, image_at, most_entries, StandsFor, stored, Passes};
-ghost use Rattle.jk_store.specs.Adding.{IsLeft, IsUnstored};
+ghost use Rattle.jk_store.specs.Catalogue.{is_listed, image_at, most_entries, StandsFor, IsEntryOf, stored, Passes};
+ghost use Rattle.jk_store.specs.Adding.{judged_name, IsLeft, IsUnstored};
 ghost use Rattle.jk_store.specs.Showing.{ShowImages, StandForImages, MayBeMade};
-ghost use Rattle.jk_web.specs.Images.{Image as Shown};
-ghost use Rattle.jk_web.specs.Cuts.{Within};
+ghost use Rattle.jk_catalogue.specs.Images.{Image as Shown};
+ghost use Rattle.jk_catalogue.specs.Images.{Within};
 ghost use Rattle.std.specs.Str.{bytes_eq};
+ghost use Rattle.jk_math.specs.declared.fault.Fault.{Fault};
 ghost use Rattle.jk_math.specs.declared.fault.Fault.TheVariants.{Shelf as ShelfFault};
+ghost use Rattle.jk_store.specs.Preparing.{due_file, due_beside, ready_bytes};
 
+use crate::adding::judge_beside;
 use crate::archive::Archive;
+use crate::encoded::Encoded;
 use crate::entry::Entry;
 use crate::names;
 use crate::opening::image_index;
 use crate::parts::part_digests;
+use crate::prepared::{Prepared, Ready};
 use crate::shelf::Shelf;
 use jk_digest::sha256;
 use jk_math::Fault;
 use std::alloc::Global;
 use std::sync::Arc;
 
-/// What is at hand before a file is written.
-#[derive(Drop)]
-struct Prepared {
-    entry: Arc<Entry>,
-    bytes: Vec<u8>,
-    temporary: String,
-    file: String,
-}
-
 /// The entry of a JP2 file.
 #[tactic(auto, using(crate::proofs::Indexed::only_memory))]
-fn entry_of(alloc: Global, name: &str, bytes: &[u8]) -> Result<Entry, Fault>
+pub(crate) fn entry_of(alloc: Global, name: &str, bytes: &[u8]) -> Result<Entry, Fault>
     requires { (i : IndexFields) × (image_at bytes.now ≡ Ok i) }
     ensures ok { IfOk result (λ e. StandsFor e (stored name.now bytes.now)) }
     ensures err { IfErr result IsMemory }
@@ -53,50 +50,180 @@ fn entry_of(alloc: Global, name: &str, bytes: &[u8]) -> Result<Entry, Fault>
     })
 }
 
-/// A JP2 file with its names and its entry.
-fn prepare(alloc: Global, name: &str, bytes: Vec<u8>) -> Result<Prepared, Fault>
-    requires { (i : IndexFields) × (image_at bytes.items ≡ Ok i) }
-    ensures bytes { IfOk result (λ p. p.bytes.items ≡ bytes.items) }
-    ensures stands { IfOk result (λ p. StandsFor (arc_value p.entry) (stored name.now bytes.items)) }
-    ensures temporary { IfOk result (λ p. string_bytes p.temporary ≡ temporary_name name.now) }
-    ensures file { IfOk result (λ p. string_bytes p.file ≡ file_name name.now) }
+/// The names of an image's file: the one under which it is written, and its own.
+#[derive(Drop)]
+struct FileNames {
+    temporary: String,
+    own: String,
+}
+
+/// The names of the file of an image.
+fn file_names(alloc: Global, name: &str) -> Result<FileNames, Fault>
+    ensures temporary { IfOk result (λ n. string_bytes n.temporary ≡ temporary_name name.now) }
+    ensures own { IfOk result (λ n. string_bytes n.own ≡ file_name name.now) }
     ensures err { IfErr result IsMemory }
 {
-    let entry = Arc::new(alloc, entry_of(alloc, name, &bytes)?)?;
     let temporary = names::temporary_name(alloc, name)?;
-    let file = names::file_name(alloc, name)?;
-    Ok(Prepared {
-        entry,
-        bytes,
-        temporary,
-        file,
-    })
+    let own = names::file_name(alloc, name)?;
+    Ok(FileNames { temporary, own })
 }
 
 /// Writes a file under its temporary name, and then gives it its own.
-fn store<S: Shelf>(alloc: Global, shelf: &mut S, made: &Prepared) -> Result<(), Fault>
+fn store<S: Shelf>(
+    alloc: Global,
+    shelf: &mut S,
+    names: &FileNames,
+    bytes: &[u8],
+) -> Result<(), Fault>
     ensures ok { (files : Files) → S.keeps shelf.old files
         → OnOk result
         (S.keeps shelf.new
-        (with_file (string_bytes made.now.file) made.now.bytes.items
-        (without (string_bytes made.now.temporary) files))) }
+        (with_file (string_bytes names.now.own) bytes.now (without (string_bytes names.now.temporary) files))) }
     // Of other files nothing is lost, whatever it answers.
-    ensures left { bytes_eq (string_bytes made.now.temporary) (string_bytes made.now.file) ≡ false → (files : Files)
+    ensures left { bytes_eq (string_bytes names.now.temporary) (string_bytes names.now.own) ≡ false → (files : Files)
         → S.keeps shelf.old files
         → IfErr result (λ e. (left : Files) × S.keeps shelf.new left
-        × IsLeft (string_bytes made.now.temporary) (string_bytes made.now.file)
-        (Ok made.now.bytes.items) e files left) }
+        × IsLeft (string_bytes names.now.temporary) (string_bytes names.now.own) (Ok bytes.now) e files left) }
     ensures cause { IfErr result
         (λ e. e ≡ ShelfFault
-        → IsUnstored S.unwritten S.unrenamed (string_bytes made.now.temporary)
-        (string_bytes made.now.file) shelf.old shelf.new) }
+        → IsUnstored S.unwritten S.unrenamed (string_bytes names.now.temporary) (string_bytes names.now.own)
+        shelf.old shelf.new) }
     ensures counts { Counts result (S.failed shelf.old) (S.failed shelf.new) }
 {
-    shelf.write(alloc, made.temporary.as_str(), &made.bytes)?;
-    shelf.rename(alloc, made.temporary.as_str(), made.file.as_str())
+    shelf.write(alloc, names.temporary.as_str(), bytes)?;
+    shelf.rename(alloc, names.temporary.as_str(), names.own.as_str())
+}
+
+/// Stores the file of an image.
+fn store_named<S: Shelf>(
+    alloc: Global,
+    shelf: &mut S,
+    name: &str,
+    bytes: &[u8],
+) -> Result<(), Fault>
+    ensures holds { (files : Files) → S.keeps shelf.old files
+        → OnOk result
+        (S.keeps shelf.new (with_file (file_name name.now) bytes.now (without (temporary_name name.now) files))) }
+    ensures cause { IfErr result (λ e. IsMemory e
+        ⊎ ((e ≡ ShelfFault) × IsUnstored S.unwritten S.unrenamed (temporary_name name.now) (file_name name.now)
+        shelf.old shelf.new)) }
+    ensures left { (files : Files) → S.keeps shelf.old files
+        → IfErr result (λ e. (left : Files) × S.keeps shelf.new left
+        × IsLeft (temporary_name name.now) (file_name name.now) (Ok bytes.now) e files left) }
+    ensures counts { Passes IsMemory result (S.failed shelf.old) (S.failed shelf.new) }
+{
+    let names = file_names(alloc, name)?;
+    store(alloc, shelf, &names, bytes)
+}
+
+impl Encoded {
+    /// The file that is to be stored.
+    ///
+    /// The first of these: BadName; why there is no file.
+    #[tactic(auto, unfolding(crate::specs::Adding::stored_due))]
+    fn due(&self) -> Result<&[u8], Fault>
+        ensures { AnswersExactly (λ b. b.now) result (due_file self.now) }
+    {
+        if !names::is_good_name(self.name.as_str()) {
+            return Err(Fault::BadName);
+        }
+        match &self.file {
+            Ok(bytes) => Ok(bytes.as_slice()),
+            Err(fault) => Err(*fault),
+        }
+    }
+
+    /// Puts the file on a shelf, where it is written under its temporary name and then gets its own,
+    /// in the place of any other. No archive lists it yet. Who holds the lock of the folder has
+    /// judged the name by its files before.
+    ///
+    /// The first of these: BadName; why there is no file; Shelf. After a refusal the temporary file
+    /// may stand.
+    pub fn store<S: Shelf>(&self, alloc: Global, shelf: &mut S) -> Result<(), Fault>
+        ensures judged { (e : Fault) → due_file self.now ≡ Err e
+            → (result ≡ Err e) × (shelf.new ≡ shelf.old) }
+        ensures allowed { OnOk result
+            ((file : List ℕ) × (due_file self.now ≡ Ok file)) }
+        // The shelf keeps the file, and what it kept.
+        ensures holds { (files : Files) (file : List ℕ) → S.keeps shelf.old files
+            → due_file self.now ≡ Ok file
+            → OnOk result
+            (S.keeps shelf.new
+            (with_file (file_name (string_bytes self.now.name)) file
+            (without (temporary_name (string_bytes self.now.name)) files))) }
+        // Shelf comes behind what is judged and encoded, where the file couldn't be written under its
+        // temporary name, or that couldn't become its own.
+        ensures cause { IfErr result (λ e. IsMemory e
+            ⊎ (due_file self.now ≡ Err e)
+            ⊎ ((e ≡ ShelfFault)
+            × ((file : List ℕ) × (due_file self.now ≡ Ok file))
+            × IsUnstored S.unwritten S.unrenamed (temporary_name (string_bytes self.now.name))
+            (file_name (string_bytes self.now.name)) shelf.old shelf.new)) }
+        // Of files all but the temporary one of this name are as before.
+        ensures left { (files : Files) → S.keeps shelf.old files
+            → IfErr result (λ e. (left : Files) × S.keeps shelf.new left
+            × IsLeft (temporary_name (string_bytes self.now.name)) (file_name (string_bytes self.now.name))
+            (due_file self.now) e files left) }
+        ensures counts { Passes
+            (λ e. IsMemory e ⊎ (due_file self.now ≡ Err e))
+            result (S.failed shelf.old) (S.failed shelf.new) }
+    {
+        let bytes = self.due()?;
+        store_named(alloc, shelf, self.name.as_str(), bytes)
+    }
 }
 
 impl<S: Shelf> Archive<S> {
+    /// Puts the JP2 file of an entry on the shelf under the name of an image, and lists the entry.
+    ///
+    /// Shelf: it can't be stored. After a refusal the list is as before, and the temporary file may
+    /// stand.
+    fn enter(
+        &mut self,
+        alloc: Global,
+        name: &str,
+        bytes: &[u8],
+        entry: Arc<Entry>,
+    ) -> Result<Arc<Entry>, Fault>
+        requires made { IsEntryOf (arc_value entry) name.now bytes.now }
+        requires named { is_good_name name.now ≡ true }
+        requires fresh { is_listed (map arc_value self.old.entries.items) name.now ≡ false }
+        requires room { length self.old.entries.items < most_entries }
+        ensures listed { IfOk result
+            (λ e. map arc_value self.new.entries.items ≡ map arc_value self.old.entries.items ++ arc_value e ∷ []) }
+        ensures stands { IfOk result (λ e. StandsFor (arc_value e) (stored name.now bytes.now)) }
+        ensures holds { (files : Files) → S.keeps self.old.shelf files
+            → OnOk result
+            (S.keeps self.new.shelf
+            (with_file (file_name name.now) bytes.now (without (temporary_name name.now) files))) }
+        ensures shows { (images : List Shown) → ShowImages (map arc_value self.old.entries.items) images
+            → IfOk result (λ e. (i : Shown) × ShowImages (map arc_value self.new.entries.items) (images ++ i ∷ [])
+            × (i.name ≡ name.now) × (i.file ≡ bytes.now)) }
+        ensures keeps { (images : List Shown)
+            → StandForImages S.keeps (map arc_value self.old.entries.items) self.old.shelf images
+            → IfOk result
+            (λ e. (i : Shown)
+            × StandForImages S.keeps (map arc_value self.new.entries.items) self.new.shelf (images ++ i ∷ [])
+            × (i.name ≡ name.now) × (i.file ≡ bytes.now)) }
+        ensures made { Within (MayBeMade (map arc_value self.old.entries.items))
+            (MayBeMade (map arc_value self.new.entries.items)) }
+        ensures err { OnErr result (self.new.entries.items ≡ self.old.entries.items) }
+        ensures cause { IfErr result (λ e. IsMemory e
+            ⊎ ((e ≡ ShelfFault) × IsUnstored S.unwritten S.unrenamed (temporary_name name.now) (file_name name.now)
+            self.old.shelf self.new.shelf)) }
+        ensures left { (files : Files) → S.keeps self.old.shelf files
+            → IfErr result (λ e. (left : Files) × S.keeps self.new.shelf left
+            × IsLeft (temporary_name name.now) (file_name name.now) (Ok bytes.now) e files left) }
+        ensures skipped { self.new.skipped ≡ self.old.skipped }
+        ensures counts { Passes IsMemory result (S.failed self.old.shelf) (S.failed self.new.shelf) }
+    {
+        let listed = Arc::try_clone(&entry)?;
+        self.entries.reserve(1)?;
+        store_named(alloc, &mut self.shelf, name, bytes)?;
+        self.entries.push_reserved(listed);
+        Ok(entry)
+    }
+
     /// Puts a JP2 file on the shelf under the name of an image, and lists it.
     ///
     /// Shelf: it can't be stored. After a refusal the list is as before, and the temporary file may
@@ -139,11 +266,74 @@ impl<S: Shelf> Archive<S> {
         ensures skipped { self.new.skipped ≡ self.old.skipped }
         ensures counts { Passes IsMemory result (S.failed self.old.shelf) (S.failed self.new.shelf) }
     {
-        let made = prepare(alloc, name, bytes)?;
-        let listed = Arc::try_clone(&made.entry)?;
-        self.entries.reserve(1)?;
-        store(alloc, &mut self.shelf, &made)?;
-        self.entries.push_reserved(listed);
-        Ok(made.entry)
+        let entry = Arc::new(alloc, entry_of(alloc, name, &bytes)?)?;
+        self.enter(alloc, name, &bytes, entry)
+    }
+
+    /// Adds an image that is prepared: its file is written to the shelf, and then it is listed.
+    /// Whoever holds the lock of the shelf's folder meanwhile holds it for this alone, and not for
+    /// the encoding.
+    ///
+    /// The first of these: BadName; NameTaken; Limit where 4,096 images are listed; what kept the
+    /// image from being prepared; Shelf. After a refusal the list is as before, and the temporary
+    /// file may stand.
+    pub fn add_prepared(&mut self, alloc: Global, prepared: Prepared) -> Result<Arc<Entry>, Fault>
+        ensures judged { (e : Fault) → due_beside (map arc_value self.old.entries.items) prepared ≡ Err e
+            → (result ≡ Err e) × (self.new.shelf ≡ self.old.shelf) }
+        ensures allowed { OnOk result
+            (judged_name (map arc_value self.old.entries.items) (string_bytes prepared.name) ≡ Ok tt) }
+        // The list grows by one entry, which stands for the file of the image.
+        ensures listed { IfOk result
+            (λ e. map arc_value self.new.entries.items ≡ map arc_value self.old.entries.items ++ arc_value e ∷ []) }
+        ensures stands { IfOk result (λ e. (file : List ℕ) × (ready_bytes prepared.made ≡ Ok file)
+            × StandsFor (arc_value e) (stored (string_bytes prepared.name) file)) }
+        // The shelf keeps the file, and what it kept.
+        ensures holds { (files : Files) (file : List ℕ) → S.keeps self.old.shelf files
+            → ready_bytes prepared.made ≡ Ok file
+            → OnOk result
+            (S.keeps self.new.shelf
+            (with_file (file_name (string_bytes prepared.name)) file
+            (without (temporary_name (string_bytes prepared.name)) files))) }
+        // What the archive stood for it stands for, with one image more.
+        ensures shows { (images : List Shown) → ShowImages (map arc_value self.old.entries.items) images
+            → IfOk result (λ e. (i : Shown) × ShowImages (map arc_value self.new.entries.items) (images ++ i ∷ [])
+            × (i.name ≡ string_bytes prepared.name) × (ready_bytes prepared.made ≡ Ok i.file)) }
+        ensures keeps { (images : List Shown)
+            → StandForImages S.keeps (map arc_value self.old.entries.items) self.old.shelf images
+            → IfOk result
+            (λ e. (i : Shown)
+            × StandForImages S.keeps (map arc_value self.new.entries.items) self.new.shelf (images ++ i ∷ [])
+            × (i.name ≡ string_bytes prepared.name) × (ready_bytes prepared.made ≡ Ok i.file)) }
+        // What may have been made of its images still may.
+        ensures made { Within (MayBeMade (map arc_value self.old.entries.items))
+            (MayBeMade (map arc_value self.new.entries.items)) }
+        // After a refusal the list is as before, and of files all but the temporary one of this
+        // name are.
+        ensures err { OnErr result (self.new.entries.items ≡ self.old.entries.items) }
+        // Shelf comes behind all that is judged and prepared, where the file couldn't be written
+        // under its temporary name, or that couldn't become its own.
+        ensures cause { IfErr result (λ e. IsMemory e
+            ⊎ (judged_name (map arc_value self.old.entries.items) (string_bytes prepared.name) ≡ Err e)
+            ⊎ (ready_bytes prepared.made ≡ Err e)
+            ⊎ ((e ≡ ShelfFault) × ((file : List ℕ) × (ready_bytes prepared.made ≡ Ok file))
+            × IsUnstored S.unwritten S.unrenamed (temporary_name (string_bytes prepared.name))
+            (file_name (string_bytes prepared.name)) self.old.shelf self.new.shelf)) }
+        ensures left { (files : Files) → S.keeps self.old.shelf files
+            → IfErr result (λ e. (left : Files) × S.keeps self.new.shelf left
+            × IsLeft (temporary_name (string_bytes prepared.name)) (file_name (string_bytes prepared.name))
+            (ready_bytes prepared.made) e files left) }
+        ensures skipped { self.new.skipped ≡ self.old.skipped }
+        ensures counts { Passes
+            (λ e. IsMemory e
+            ⊎ (judged_name (map arc_value self.old.entries.items) (string_bytes prepared.name) ≡ Err e)
+            ⊎ (ready_bytes prepared.made ≡ Err e))
+            result (S.failed self.old.shelf) (S.failed self.new.shelf) }
+    {
+        let Prepared { name, made } = prepared;
+        let name = name.as_str();
+        judge_beside(&self.entries, name)?;
+        let ready = made?;
+        let Ready { entry, bytes } = ready;
+        self.enter(alloc, name, &bytes, entry)
     }
 }

@@ -4,8 +4,8 @@ ghost use Rattle.std.specs.Prelude.{◌≡◌, ◌++◌, List, map, is_some, OnO
 ghost use Rattle.std.specs.List.{flat_map};
 ghost use Rattle.std.specs.Arc.{arc_value};
 ghost use Rattle.jk_math.specs.Memory.{IsMemory};
-ghost use Rattle.jk_web.specs.Images.{Image, image_of, IsFileOf, IsCutOf, IsFileGiven, IsCutGiven, HasNoCut, MayRefuse};
-ghost use Rattle.jk_store.specs.Showing.{line_of, number_text, view_of, ShowImages, AreKept, Broke, Reads, Cuts};
+ghost use Rattle.jk_catalogue.specs.Images.{Image, image_of, IsFileOf, IsCutOf, IsFileGiven, IsCutGiven, HasNoCut, MayRefuse};
+ghost use Rattle.jk_store.specs.Showing.{line_of, number_text, ShowImages, AreKept, Broke, Reads, Cuts};
 ghost use Rattle.jk_store.specs.Showing.{MayBeMade};
 ghost use Rattle.jk_store.specs.Files.{Files};
 
@@ -13,8 +13,8 @@ use crate::archive::{Archive, find};
 use crate::entry::Entry;
 use crate::hashed::HashedParts;
 use crate::shelf::Shelf;
+use jk_catalogue::Catalogue;
 use jk_math::Fault;
-use jk_web::{Asked, Catalogue};
 use jk_window::View;
 use std::alloc::{AllocError, Global};
 use std::sync::Arc;
@@ -55,20 +55,6 @@ pub(crate) fn lines_of(alloc: Global, entries: &[Arc<Entry>]) -> Result<Vec<u8>,
     Ok(out)
 }
 
-/// The view that is asked for.
-fn view(asked: Asked) -> View
-    ensures { result ≡ view_of asked }
-{
-    View {
-        reduce: asked.reduce,
-        x: asked.x,
-        y: asked.y,
-        width: asked.width,
-        height: asked.height,
-        layers: asked.layers,
-    }
-}
-
 /// The file of the image of a name.
 pub(crate) fn whole_of<S: Shelf>(
     alloc: Global,
@@ -100,7 +86,7 @@ pub(crate) fn window_of<S: Shelf>(
     shelf: &mut S,
     hashed: &mut HashedParts,
     name: &[u8],
-    asked: Asked,
+    asked: View,
 ) -> Result<Vec<u8>, Fault>
     ensures gives { (images : List Image) → ShowImages (map arc_value entries.now) images → MatchResult result
         (λ v. IsCutGiven (image_of name.now images) asked
@@ -116,7 +102,7 @@ pub(crate) fn window_of<S: Shelf>(
     ensures kept { (files : Files) → S.keeps shelf.old files → S.keeps shelf.new files }
 {
     match find(entries, name) {
-        Some(entry) => entry.window_by_parts_with(alloc, shelf, hashed, view(asked)),
+        Some(entry) => entry.window_by_parts_with(alloc, shelf, hashed, asked),
         None => Err(Fault::NoSuchImage),
     }
 }
@@ -153,7 +139,7 @@ impl<S: Shelf> Catalogue for Archive<S> {
         whole_of(alloc, &self.entries, &mut self.shelf, name)
     }
 
-    fn window(&mut self, alloc: Global, name: &[u8], asked: Asked) -> Result<Vec<u8>, Fault> {
+    fn window(&mut self, alloc: Global, name: &[u8], asked: View) -> Result<Vec<u8>, Fault> {
         let hashed = &mut self.hashed;
         window_of(alloc, &self.entries, &mut self.shelf, hashed, name, asked)
     }

@@ -5,8 +5,9 @@ use crate::entry::Entry;
 use crate::hashed::HashedParts;
 use crate::shelf::Shelf;
 use crate::showing::{lines_of, whole_of, window_of};
+use jk_catalogue::Catalogue;
 use jk_math::Fault;
-use jk_web::{Asked, Catalogue};
+use jk_window::View;
 use std::alloc::Global;
 use std::sync::Arc;
 
@@ -51,7 +52,7 @@ impl<'a, S: Shelf> Catalogue for ShownEntries<'a, S> {
         whole_of(alloc, self.entries, self.shelf, name)
     }
 
-    fn window(&mut self, alloc: Global, name: &[u8], asked: Asked) -> Result<Vec<u8>, Fault> {
+    fn window(&mut self, alloc: Global, name: &[u8], asked: View) -> Result<Vec<u8>, Fault> {
         let mut hashed = HashedParts::none(alloc);
         window_of(alloc, self.entries, self.shelf, &mut hashed, name, asked)
     }
@@ -101,7 +102,7 @@ impl<'a, S: Shelf> Catalogue for ShownWithParts<'a, S> {
         whole_of(alloc, self.entries, self.shelf, name)
     }
 
-    fn window(&mut self, alloc: Global, name: &[u8], asked: Asked) -> Result<Vec<u8>, Fault> {
+    fn window(&mut self, alloc: Global, name: &[u8], asked: View) -> Result<Vec<u8>, Fault> {
         window_of(alloc, self.entries, self.shelf, self.hashed, name, asked)
     }
 

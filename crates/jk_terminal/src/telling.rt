@@ -1,20 +1,29 @@
-//! How far work on an image is, told on a terminal by a thread beside it.
+//! How far work on an image is, or on several files, told on a terminal by a thread beside it.
 
 use crate::line::{BLANK, FIRST, PAUSE};
 use jk_jobs::Gate;
-use jk_words::{Progress, Work};
+use jk_words::{FilesProgress, Progress, Work};
 use std::alloc::Global;
+use std::fmt::Display;
 use std::sync::atomic::{AtomicU64, Ordering};
 use std::sync::{Arc, Condvar, Mutex, Wait};
-use std::thread;
 use std::thread::{JoinHandle, Threads};
 use std::time::{Clock, Duration, Instant};
+use std::{io, thread};
+
+/// What is worked on.
+#[derive(Clone, Copy)]
+enum Subject {
+    /// The image of a file of so many bytes, and what is done to it.
+    Image(Work, u64),
+    /// So many files.
+    Files(u64),
+}
 
 /// The work that goes on.
 #[derive(Clone, Copy)]
 struct Begun {
-    work: Work,
-    size: u64,
+    subject: Subject,
     at: Instant,
 }
 
@@ -44,6 +53,8 @@ pub struct Telling {
     coded: AtomicU64,
     /// How many bytes were written since then.
     written: AtomicU64,
+    /// How many files are done since then.
+    done: AtomicU64,
 }
 
 impl Telling {
@@ -58,20 +69,50 @@ impl Telling {
             changed: Condvar::new(),
             coded: AtomicU64::new(0),
             written: AtomicU64::new(0),
+            done: AtomicU64::new(0),
         }
     }
 
     /// Work begins, on the image of a file of so many bytes.
     pub fn begin<R: Wait + Clock>(&self, rt: &R, work: Work, size: u64) {
+        self.begin_on(rt, Subject::Image(work, size));
+    }
+
+    /// Work begins, on so many files.
+    pub fn begin_files<R: Wait + Clock>(&self, rt: &R, files: u64) {
+        self.begin_on(rt, Subject::Files(files));
+    }
+
+    /// Work begins.
+    fn begin_on<R: Wait + Clock>(&self, rt: &R, subject: Subject) {
         let Ok(at) = Instant::now(rt) else {
             return;
         };
         self.coded.store(0, Ordering::SeqCst);
         self.written.store(0, Ordering::SeqCst);
+        self.done.store(0, Ordering::SeqCst);
         let mut told = self.told.lock(rt);
-        told.begun = Some(Begun { work, size, at });
+        told.begun = Some(Begun { subject, at });
         drop(told);
         self.changed.notify_one();
+    }
+
+    /// One file more is done, of which this is written to standard output, in the place of the line
+    /// that stands there.
+    pub fn end_file<R: Wait + Print + Eprint, D: Display>(
+        &self,
+        rt: &R,
+        text: &D,
+    ) -> io::Result<()> {
+        self.done.fetch_add(1, Ordering::SeqCst);
+        let mut told = self.told.lock(rt);
+        if told.is_shown {
+            let _ = eprint!(rt; "\r{BLANK}\r");
+            told.is_shown = false;
+        }
+        let printed = rt.print(text);
+        drop(told);
+        printed
     }
 
     /// Work has ended, and the line is taken away.
@@ -105,15 +146,34 @@ impl Telling {
         if passed < Duration::from_millis(FIRST) {
             return false;
         }
+        let seconds = passed.as_secs();
+        match begun.subject {
+            Subject::Image(work, size) => self.tell_image(rt, work, size, seconds),
+            Subject::Files(files) => self.tell_files(rt, files, seconds),
+        }
+        true
+    }
+
+    /// Tells how far work on an image is.
+    fn tell_image<R: Eprint>(&self, rt: &R, work: Work, size: u64, seconds: u64) {
         let progress = Progress {
-            work: begun.work,
-            size: begun.size,
-            seconds: passed.as_secs(),
+            work,
+            size,
+            seconds,
             coded: self.coded.load(Ordering::SeqCst),
             written: self.written.load(Ordering::SeqCst),
         };
         let _ = eprint!(rt; "\r{progress} ");
-        true
+    }
+
+    /// Tells how far work on files is.
+    fn tell_files<R: Eprint>(&self, rt: &R, files: u64, seconds: u64) {
+        let progress = FilesProgress {
+            done: self.done.load(Ordering::SeqCst),
+            files,
+            seconds,
+        };
+        let _ = eprint!(rt; "\r{progress} ");
     }
 
     /// Waits for work, tells how far it is, and waits for a moment. Whether more may come.

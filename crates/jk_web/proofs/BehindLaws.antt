@@ -1,7 +1,7 @@
 -- What a catalogue and the place that its windows come from went through.
 use Rattle.std.proofs.Common.{ℕ, List, All, Option, Result, refl, ◌∙◌}
 use Rattle.jk_math.specs.declared.fault.Fault.{Fault}
-use Rattle.jk_web.specs.declared.query.Asked.{Asked}
+use Rattle.jk_window.specs.declared.view.View.{View}
 use Rattle.jk_web.specs.declared.serving.End.{End}
 use Rattle.jk_web.specs.declared.running.Answering.{Answering}
 use Rattle.jk_web.specs.Resources.{IsSegment}
@@ -10,7 +10,7 @@ use Rattle.jk_web.specs.Serving.{Ends}
 use Rattle.jk_web.specs.Behind.{HoldsBehind, KnowsBehind, GoesBehind, GivesBehind, RefusesBehind}
 use Rattle.jk_web.proofs.RunLaws.{ends_as}
 
-module _ {C W : Type 0} (stands keeps : C → List Image → Type 0) (made : C → List ℕ → Asked → List ℕ → Type 0) (has : W → List ℕ → Asked → List ℕ → Type 0) where
+module _ {C W : Type 0} (stands keeps : C → List Image → Type 0) (made : C → List ℕ → View → List ℕ → Type 0) (has : W → List ℕ → View → List ℕ → Type 0) where
   goes_nowhere : (s : Answering C W) → GoesBehind stands keeps made has s s
   goes_nowhere s = record {
     same = (refl, refl);
@@ -34,7 +34,7 @@ module _ {C W : Type 0} (stands keeps : C → List Image → Type 0) (made : C �
     knows = λ images k. h.knows images (known_on images s t g k);
   }
 
-  module _ (broke : C → List ℕ → C → Type 0) (reads : C → List ℕ → List ℕ → C → Type 0) (others : Option Image → C → List ℕ → Asked → C → List ℕ → Type 0)
+  module _ (broke : C → List ℕ → C → Type 0) (reads : C → List ℕ → List ℕ → C → Type 0) (others : Option Image → C → List ℕ → View → C → List ℕ → Type 0)
       (start end : Answering C W) (stream text : List ℕ) (over spent : Type 0) (r : Result End Fault)
       (k : Ends (GivesBehind stands keeps made has broke reads others) (RefusesBehind stands keeps made has) start stream text over spent end r) where
     -- from the first state to the last

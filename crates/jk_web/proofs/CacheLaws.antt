@@ -8,7 +8,7 @@ use Rattle.std.proofs.lemmas.Bool.Decides.{nat_tests}
 use Rattle.lru.specs.LruCache.{LruCache, lru_cache, promoted, put_entries}
 use Rattle.lru.proofs.Splits.{Contains-head, Contains-tail, Contains-cons, Contains-nil}
 use Rattle.lru.proofs.CallerLemmas.{Contains-lookup, Contains-promoted, Contains-put_entries}
-use Rattle.jk_web.specs.declared.query.Asked.{Asked}
+use Rattle.jk_window.specs.declared.view.View.{View}
 use Rattle.jk_web.specs.declared.cache.CutKey.{CutKey}
 use Rattle.jk_web.specs.contracts.cache.CutKeyPartialEq.TheImpl.{eq-value}
 use Rattle.jk_web.specs.Images.{Image, IsCutOf}
@@ -33,7 +33,7 @@ same_asked a b e =
     rw (r, x, y, w, h, l) refl
 
 same_cut : (a b : CutKey) (v : List ℕ) → same_key a b ≡ true → kept_cut b.name.items (asked_of b) v ≡ kept_cut a.name.items (asked_of a) v
-same_cut a b v e = ap (λ (n : List ℕ). kept_cut n (asked_of b) v) (sym (same_name a b e)) ∙ ap (λ (q : Asked). kept_cut a.name.items q v) (sym (same_asked a b e))
+same_cut a b v e = ap (λ (n : List ℕ). kept_cut n (asked_of b) v) (sym (same_name a b e)) ∙ ap (λ (q : View). kept_cut a.name.items q v) (sym (same_asked a b e))
 
 -- what pairs keep
 into : (pairs : List (CutKey × Vec ℕ)) (p : CutKey × Vec ℕ) → Contains pairs p → Contains (kept_in pairs) (kept_of p)
@@ -75,12 +75,12 @@ missing test (q ∷ pairs) p none h passes = elim (Contains-cons q pairs p h) [
 
 same_of : (a b : CutKey) → b.name.items ≡ a.name.items → asked_of b ≡ asked_of a → same_key a b ≡ true
 same_of a b name asked =
-    let r : b.reduce ≡ a.reduce = ap (λ (q : Asked). q.reduce) asked in
-    let x : b.x ≡ a.x = ap (λ (q : Asked). q.x) asked in
-    let y : b.y ≡ a.y = ap (λ (q : Asked). q.y) asked in
-    let w : b.width ≡ a.width = ap (λ (q : Asked). q.width) asked in
-    let h : b.height ≡ a.height = ap (λ (q : Asked). q.height) asked in
-    let l : b.layers ≡ a.layers = ap (λ (q : Asked). q.layers) asked in
+    let r : b.reduce ≡ a.reduce = ap (λ (q : View). q.reduce) asked in
+    let x : b.x ≡ a.x = ap (λ (q : View). q.x) asked in
+    let y : b.y ≡ a.y = ap (λ (q : View). q.y) asked in
+    let w : b.width ≡ a.width = ap (λ (q : View). q.width) asked in
+    let h : b.height ≡ a.height = ap (λ (q : View). q.height) asked in
+    let l : b.layers ≡ a.layers = ap (λ (q : View). q.layers) asked in
     search (rules, bytes_eq-Decides)
 
 pub never_kept : (key : CutKey) (pairs : List (CutKey × Vec ℕ)) → lookup (same_key key) pairs ≡ None → (b : List ℕ) → Has (kept_in pairs) key.name.items (asked_of key) b → ⊥
@@ -88,7 +88,7 @@ never_kept key pairs none b h =
     let p = out_of pairs (kept_cut key.name.items (asked_of key) b) h in
     missing (same_key key) pairs p.0 none p.1 (same_of key p.0.0 (ap (λ (k : KeptCut). k.name) p.2) (ap (λ (k : KeptCut). k.asked) p.2))
 
-kept_put : (c : LruCache CutKey (Vec ℕ)) (key : CutKey) (v : Vec ℕ) (n : List ℕ) (a : Asked) (b : List ℕ)
+kept_put : (c : LruCache CutKey (Vec ℕ)) (key : CutKey) (v : Vec ℕ) (n : List ℕ) (a : View) (b : List ℕ)
     → Has (kept_in (put_entries same_key c key v)) n a b → Has (kept_in c.entries) n a b ⊎ (kept_cut n a b ≡ kept_cut key.name.items (asked_of key) v.items)
 kept_put c key v n a b h =
     let p = out_of (put_entries same_key c key v) (kept_cut n a b) h in
@@ -104,18 +104,18 @@ kept_put c key v n a b h =
 -- what is kept where a pair was put, or was refused
 pub put_or_not : {A E : Type 0} (r : Result A E) (old new : LruCache CutKey (Vec ℕ)) (key : CutKey) (v : Vec ℕ)
     → OnOk r (new ≡ lru_cache (put_entries same_key old key v) old.cap) → OnErr r (new ≡ old)
-    → (n : List ℕ) (a : Asked) (b : List ℕ) → Has (kept_in new.entries) n a b
+    → (n : List ℕ) (a : View) (b : List ℕ) → Has (kept_in new.entries) n a b
     → Has (kept_in old.entries) n a b ⊎ (kept_cut n a b ≡ kept_cut key.name.items (asked_of key) v.items)
 put_or_not (Ok o) old new key v put left n a b h = kept_put old key v n a b (subst (λ (c : LruCache CutKey (Vec ℕ)). Has (kept_in c.entries) n a b) put h)
 put_or_not (Err e) old new key v put left n a b h = inl (subst (λ (c : LruCache CutKey (Vec ℕ)). Has (kept_in c.entries) n a b) left h)
 
 -- what is had of one is had of the same
-pub same_has : (pairs kept : List KeptCut) (m n : List ℕ) (p q : Asked) (b : List ℕ) → pairs ≡ kept → m ≡ n → p ≡ q → Has pairs m p b → Has kept n q b
+pub same_has : (pairs kept : List KeptCut) (m n : List ℕ) (p q : View) (b : List ℕ) → pairs ≡ kept → m ≡ n → p ≡ q → Has pairs m p b → Has kept n q b
 same_has pairs kept m n p q b same name asked h =
-    subst (λ (l : List KeptCut). Has l n q b) same (subst (λ (v : List ℕ). Has pairs v q b) name (subst (λ (a : Asked). Has pairs m a b) asked h))
+    subst (λ (l : List KeptCut). Has l n q b) same (subst (λ (v : List ℕ). Has pairs v q b) name (subst (λ (a : View). Has pairs m a b) asked h))
 
 -- A cut that was made is the image's, or isn't.
-pub cut_or_made : (o : Option Image) (Made : Type 0) (asked : Asked) (cut : List ℕ) → Made → IsCutOf o asked cut ⊎ (Made × (IsCutOf o asked cut → ⊥))
+pub cut_or_made : (o : Option Image) (Made : Type 0) (asked : View) (cut : List ℕ) → Made → IsCutOf o asked cut ⊎ (Made × (IsCutOf o asked cut → ⊥))
 cut_or_made None Made asked cut made = inr (made, λ none. none)
 cut_or_made (Some i) Made asked cut made = of_cut (i.cut asked)
   where

@@ -2,7 +2,7 @@
 use Rattle.std.proofs.Common.{◌≡◌, ℕ, Bool, true, false, cond, ◌||◌, List, [], ◌∷◌, codes, Option, Some, is_some, refl, sym, ap, subst, ◌∙◌}
 use Rattle.std.specs.Str.{bytes_eq}
 use Rattle.jk_web.specs.declared.request.Request.{Request}
-use Rattle.jk_web.specs.declared.query.Asked.{Asked}
+use Rattle.jk_window.specs.declared.view.View.{View}
 use Rattle.jk_web.specs.Resources.{path_of, query_of, Resource, whole, window, nowhere, resource_at, is_among, among}
 use Rattle.jk_web.specs.Replies.{Content, error}
 use Rattle.jk_web.specs.Images.{Image, names_of, image_of, content_of, content, asked_for, IsOtherSent}
@@ -47,7 +47,7 @@ at_name images name make has F given =
     subst F (sym (ap (λ b. cond b (make name) nowhere) (among_is name images ∙ has))) given
 
 -- What is sent of a whole file is no window.
-pub whole_alone : (images : List Image) (reads : List ℕ → List ℕ → Type 0) (windows others : Option Image → List ℕ → Asked → List ℕ → Type 0) (name query file : List ℕ)
+pub whole_alone : (images : List Image) (reads : List ℕ → List ℕ → Type 0) (windows others : Option Image → List ℕ → View → List ℕ → Type 0) (name query file : List ℕ)
     → IsOtherSent images reads windows query (among (names_of images) (whole name)) file → IsOtherSent images reads others query (among (names_of images) (whole name)) file
 whole_alone images reads windows others name query file = at_test (is_among (names_of images) name)
   where

@@ -1,14 +1,14 @@
 -- A query that is read from front to back: what one more pair does.
-use Rattle.std.proofs.Common.{◌≡◌, ℕ, ◌+◌, Bool, true, false, cond, ◌&&◌, ◌||◌, leb, List, [], ◌∷◌, count_by, Option, Some, None, is_some, is_none, refl, sym, ap, ◌∙◌, arith}
+use Rattle.std.proofs.Common.{◌≡◌, ℕ, ◌+◌, Bool, true, false, cond, ◌&&◌, ◌||◌, leb, List, [], ◌∷◌, map, count_by, Option, Some, None, is_some, is_none, refl, sym, ap, ◌∙◌, true≢false, arith}
 use Rattle.std.specs.Prelude.{codes}
-use Rattle.std.specs.List.{list_all, list_any}
-use Rattle.std.specs.Option.{option_or}
+use Rattle.std.specs.List.{list_all, list_any, find}
+use Rattle.std.specs.Option.{option_or, option_and_then}
 use Rattle.std.specs.Str.{bytes_eq}
 use Rattle.std.proofs.lemmas.List.Sums.{sum_by-cons}
-use Rattle.std.proofs.lemmas.Bool.{false_from_ne_true}
+use Rattle.std.proofs.lemmas.Bool.{false_from_ne_true, and_parts}
 use Rattle.std.proofs.lemmas.Bool.Decides.{nat_tests}
 use Rattle.std.proofs.lemmas.Slice.Eq.{bytes_eq-Decides}
-use Rattle.jk_web.specs.declared.query.Asked.{Asked}
+use Rattle.jk_window.specs.declared.view.View.{View}
 use Rattle.jk_web.specs.declared.query.Readings.{Readings}
 use Rattle.jk_web.specs.Queries.{number_of, has_key, keys, is_reading, window_of, asked_by}
 use Rattle.jk_web.specs.Readings.{slots, is_once, number_with, asked_with}
@@ -33,7 +33,7 @@ abbrev key_l : List ℕ
 key_l = codes "layers"
 
 -- the window, by its tests and its numbers
-abbrev judged : Bool → Bool → Bool → Bool → Bool → Bool → Bool → Option ℕ → Option ℕ → Option ℕ → Option ℕ → Option ℕ → Option ℕ → Option Asked
+abbrev judged : Bool → Bool → Bool → Bool → Bool → Bool → Bool → Option ℕ → Option ℕ → Option ℕ → Option ℕ → Option ℕ → Option ℕ → Option View
 judged all a b c d e f x y w h r l = cond (all && (a && (b && (c && (d && (e && (f && true))))))) (window_of x y w h r l) None
 
 abbrev Pair : Type 0
@@ -60,269 +60,153 @@ once_full t p rest e =
     above : (n : ℕ) → leb (n + 2) 1 ≡ false
     above n = grind (arith, nat_tests)
 
--- ---- a test that fails
+-- ---- what was read, name by name
 
-fails_x : (all b c d e f : Bool) (x y w h r l : Option ℕ) → judged all false b c d e f x y w h r l ≡ None
-fails_x false b c d e f x y w h r l = refl
-fails_x true b c d e f x y w h r l = refl
+abbrev Slot : Type 0
+Slot = List ℕ × Option ℕ
 
-fails_y : (all a c d e f : Bool) (x y w h r l : Option ℕ) → judged all a false c d e f x y w h r l ≡ None
-fails_y false a c d e f x y w h r l = refl
-fails_y true false c d e f x y w h r l = refl
-fails_y true true c d e f x y w h r l = refl
+-- the window by the numbers of the names in turn
+abbrev by_numbers : List (Option ℕ) → Option View
+by_numbers (x ∷ y ∷ w ∷ h ∷ r ∷ l ∷ []) = window_of x y w h r l
+by_numbers _ = None
 
-fails_w : (all a b d e f : Bool) (x y w h r l : Option ℕ) → judged all a b false d e f x y w h r l ≡ None
-fails_w false a b d e f x y w h r l = refl
-fails_w true false b d e f x y w h r l = refl
-fails_w true true false d e f x y w h r l = refl
-fails_w true true true d e f x y w h r l = refl
+-- what is made of pairs behind what was read
+abbrev read_with : (List (Option ℕ) → Option View) → List Pair → List Slot → Option View
+read_with f pairs read = cond (list_all is_reading pairs && list_all (is_once pairs) read) (f (map (λ s. number_with s.1 s.0 pairs) read)) None
 
-fails_h : (all a b c e f : Bool) (x y w h r l : Option ℕ) → judged all a b c false e f x y w h r l ≡ None
-fails_h false a b c e f x y w h r l = refl
-fails_h true false b c e f x y w h r l = refl
-fails_h true true false c e f x y w h r l = refl
-fails_h true true true false e f x y w h r l = refl
-fails_h true true true true e f x y w h r l = refl
+as_read : (r : Readings) (pairs : List Pair) → asked_with r pairs ≡ read_with by_numbers pairs (slots r)
+unfolding asked_with
+as_read r pairs = refl
 
-fails_r : (all a b c d f : Bool) (x y w h r l : Option ℕ) → judged all a b c d false f x y w h r l ≡ None
-fails_r false a b c d f x y w h r l = refl
-fails_r true false b c d f x y w h r l = refl
-fails_r true true false c d f x y w h r l = refl
-fails_r true true true false d f x y w h r l = refl
-fails_r true true true true false f x y w h r l = refl
-fails_r true true true true true f x y w h r l = refl
+-- whether a name may be read once more
+abbrev is_free : List ℕ → Slot → Bool
+is_free key s = cond (bytes_eq key s.0) (is_none s.1) true
 
-fails_l : (all a b c d e : Bool) (x y w h r l : Option ℕ) → judged all a b c d e false x y w h r l ≡ None
-fails_l false a b c d e x y w h r l = refl
-fails_l true false b c d e x y w h r l = refl
-fails_l true true false c d e x y w h r l = refl
-fails_l true true true false d e x y w h r l = refl
-fails_l true true true true false e x y w h r l = refl
-fails_l true true true true true false x y w h r l = refl
-fails_l true true true true true true x y w h r l = refl
+-- what was read with a number more of this name
+abbrev filled : List ℕ → ℕ → Slot → Slot
+filled key n s = (s.0, cond (bytes_eq key s.0) (Some n) s.1)
 
 -- ---- a pair with a name
 
-free_x : (r : Readings) (v : List ℕ) (n : ℕ) (rest : List Pair) → number_of v ≡ Some n → r.x ≡ None
-    → asked_with r ((key_x, v) ∷ rest) ≡ asked_with record r { x = Some n } rest
-unfolding asked_with
-free_x r v n rest num none =
-    let oy = once_other (has_key key_y) (key_x, v) rest (cond (is_some r.y) 1 0) refl in
-    let ow = once_other (has_key key_w) (key_x, v) rest (cond (is_some r.width) 1 0) refl in
-    let oh = once_other (has_key key_h) (key_x, v) rest (cond (is_some r.height) 1 0) refl in
-    let or = once_other (has_key key_r) (key_x, v) rest (cond (is_some r.reduce) 1 0) refl in
-    let ol = once_other (has_key key_l) (key_x, v) rest (cond (is_some r.layers) 1 0) refl in
-    let once = ap (λ (s : Option ℕ). leb (count_by (has_key key_x) ((key_x, v) ∷ rest) + cond (is_some s) 1 0) 1) none ∙ once_free (has_key key_x) (key_x, v) rest refl in
-    let number = ap (λ (s : Option ℕ). option_or s (number_of v)) none ∙ num in
-    λ i. judged (is_some (num i) && list_all is_reading rest) (once i) (oy i) (ow i) (oh i) (or i) (ol i)
-    (number i) (number_with r.y key_y rest) (number_with r.width key_w rest) (number_with r.height key_h rest) (number_with r.reduce key_r rest) (number_with r.layers key_l rest)
+once_one : (key v : List ℕ) (rest : List Pair) (n : ℕ) (k : List ℕ) (o : Option ℕ) (own : Bool) → bytes_eq key k ≡ own → cond own (is_none o) true ≡ true
+    → is_once ((key, v) ∷ rest) (k, o) ≡ is_once rest (k, cond own (Some n) o)
+once_one key v rest n k None true e free = once_free (has_key k) (key, v) rest e
+once_one key v rest n k (Some m) true e free = absurd (true≢false (sym free))
+once_one key v rest n k o false e free = once_other (has_key k) (key, v) rest (cond (is_some o) 1 0) e
 
-full_x : (r : Readings) (v : List ℕ) (m : ℕ) (rest : List Pair) → r.x ≡ Some m → asked_with r ((key_x, v) ∷ rest) ≡ None
-unfolding asked_with
-full_x r v m rest some =
-    let once = ap (λ (s : Option ℕ). leb (count_by (has_key key_x) ((key_x, v) ∷ rest) + cond (is_some s) 1 0) 1) some ∙ once_full (has_key key_x) (key_x, v) rest refl in
-    (λ i. judged (list_all is_reading ((key_x, v) ∷ rest)) (once i) (is_once ((key_x, v) ∷ rest) (key_y, r.y)) (is_once ((key_x, v) ∷ rest) (key_w, r.width)) (is_once ((key_x, v) ∷ rest) (key_h, r.height)) (is_once ((key_x, v) ∷ rest) (key_r, r.reduce)) (is_once ((key_x, v) ∷ rest) (key_l, r.layers))
-    (number_with r.x key_x ((key_x, v) ∷ rest)) (number_with r.y key_y ((key_x, v) ∷ rest)) (number_with r.width key_w ((key_x, v) ∷ rest)) (number_with r.height key_h ((key_x, v) ∷ rest)) (number_with r.reduce key_r ((key_x, v) ∷ rest)) (number_with r.layers key_l ((key_x, v) ∷ rest)))
-    ∙ fails_x (list_all is_reading ((key_x, v) ∷ rest)) (is_once ((key_x, v) ∷ rest) (key_y, r.y)) (is_once ((key_x, v) ∷ rest) (key_w, r.width)) (is_once ((key_x, v) ∷ rest) (key_h, r.height)) (is_once ((key_x, v) ∷ rest) (key_r, r.reduce)) (is_once ((key_x, v) ∷ rest) (key_l, r.layers))
-    (number_with r.x key_x ((key_x, v) ∷ rest)) (number_with r.y key_y ((key_x, v) ∷ rest)) (number_with r.width key_w ((key_x, v) ∷ rest)) (number_with r.height key_h ((key_x, v) ∷ rest)) (number_with r.reduce key_r ((key_x, v) ∷ rest)) (number_with r.layers key_l ((key_x, v) ∷ rest))
+once_never : (key v : List ℕ) (rest : List Pair) (k : List ℕ) (o : Option ℕ) (own : Bool) → bytes_eq key k ≡ own → cond own (is_none o) true ≡ false
+    → is_once ((key, v) ∷ rest) (k, o) ≡ false
+once_never key v rest k None true e full = absurd (true≢false full)
+once_never key v rest k (Some m) true e full = once_full (has_key k) (key, v) rest e
+once_never key v rest k o false e full = absurd (true≢false full)
 
-at_x : (r : Readings) (v : List ℕ) (n : ℕ) (rest : List Pair) (slot : Option ℕ) → number_of v ≡ Some n → r.x ≡ slot
-    → asked_with r ((key_x, v) ∷ rest) ≡ cond (is_none slot) (asked_with record r { x = Some n } rest) None
-at_x r v n rest None num e = free_x r v n rest num e
-at_x r v n rest (Some m) num e = full_x r v m rest e
+number_one : (key v : List ℕ) (rest : List Pair) (n : ℕ) (k : List ℕ) (o : Option ℕ) (own : Bool) → number_of v ≡ Some n → bytes_eq key k ≡ own
+    → cond own (is_none o) true ≡ true → number_with o k ((key, v) ∷ rest) ≡ number_with (cond own (Some n) o) k rest
+number_one key v rest n k None true num e free = ap (λ own. option_and_then (λ (p : Pair). number_of p.1) (cond own (Some (key, v)) (find (has_key k) rest))) e ∙ num
+number_one key v rest n k (Some m) true num e free = absurd (true≢false (sym free))
+number_one key v rest n k o false num e free = ap (λ own. option_or o (option_and_then (λ (p : Pair). number_of p.1) (cond own (Some (key, v)) (find (has_key k) rest)))) e
+
+once_all : (key v : List ℕ) (rest : List Pair) (n : ℕ) (read : List Slot) → list_all (is_free key) read ≡ true
+    → list_all (is_once ((key, v) ∷ rest)) read ≡ list_all (is_once rest) (map (filled key n) read)
+once_all key v rest n [] e = refl
+once_all key v rest n (s ∷ read) e =
+    let parts = and_parts (is_free key s) (list_all (is_free key) read) e in
+    λ i. once_one key v rest n s.0 s.1 (bytes_eq key s.0) refl parts.0 i && once_all key v rest n read parts.1 i
+
+numbers_all : (key v : List ℕ) (rest : List Pair) (n : ℕ) (read : List Slot) → number_of v ≡ Some n → list_all (is_free key) read ≡ true
+    → map (λ s. number_with s.1 s.0 ((key, v) ∷ rest)) read ≡ map (λ s. number_with s.1 s.0 rest) (map (filled key n) read)
+numbers_all key v rest n [] num e = refl
+numbers_all key v rest n (s ∷ read) num e =
+    let parts = and_parts (is_free key s) (list_all (is_free key) read) e in
+    λ i. number_one key v rest n s.0 s.1 (bytes_eq key s.0) num refl parts.0 i ∷ numbers_all key v rest n read num parts.1 i
+
+and-false : (b : Bool) → (b && false) ≡ false
+and-false true = refl
+and-false false = refl
+
+and-true : (b : Bool) → (b && true) ≡ b
+and-true true = refl
+and-true false = refl
+
+full_more : (once all free all_free : Bool) → (free ≡ false → once ≡ false) → (all_free ≡ false → all ≡ false) → (free && all_free) ≡ false → (once && all) ≡ false
+full_more once all false all_free now later e = ap (λ b. b && all) (now refl)
+full_more once all true all_free now later e = ap (λ b. once && b) (later e) ∙ and-false once
+
+full_all : (key v : List ℕ) (rest : List Pair) (read : List Slot) → list_all (is_free key) read ≡ false
+    → list_all (is_once ((key, v) ∷ rest)) read ≡ false
+full_all key v rest [] e = absurd (true≢false e)
+full_all key v rest (s ∷ read) e =
+    full_more (is_once ((key, v) ∷ rest) s) (list_all (is_once ((key, v) ∷ rest)) read) (is_free key s) (list_all (is_free key) read)
+    (once_never key v rest s.0 s.1 (bytes_eq key s.0) refl) (full_all key v rest read) e
+
+-- One more pair, of a name that was read before or not.
+one_more : (f : List (Option ℕ) → Option View) (key v : List ℕ) (rest : List Pair) (n : ℕ) (read : List Slot) (free : Bool)
+    → list_any (λ k. bytes_eq key k) keys ≡ true → number_of v ≡ Some n → list_all (is_free key) read ≡ free
+    → read_with f ((key, v) ∷ rest) read ≡ cond free (read_with f rest (map (filled key n) read)) None
+one_more f key v rest n read true known num e =
+    λ i. cond (((known i && is_some (num i)) && list_all is_reading rest) && once_all key v rest n read e i) (f (numbers_all key v rest n read num e i)) None
+one_more f key v rest n read false known num e =
+    let numbers = f (map (λ s. number_with s.1 s.0 ((key, v) ∷ rest)) read) in
+    ap (λ b. cond (list_all is_reading ((key, v) ∷ rest) && b) numbers None) (full_all key v rest read e)
+    ∙ ap (λ b. cond b numbers None) (and-false (list_all is_reading ((key, v) ∷ rest)))
+
+-- A name, what was read of it, and what is read with one more of it.
+keeps : (r made : Readings) (key v : List ℕ) (rest : List Pair) (n : ℕ) (free : Bool) (slot : Option ℕ) → list_any (λ k. bytes_eq key k) keys ≡ true
+    → list_all (is_free key) (slots r) ≡ (is_none slot && true) → map (filled key n) (slots r) ≡ slots made → number_of v ≡ Some n → free ≡ is_none slot
+    → asked_with r ((key, v) ∷ rest) ≡ cond free (asked_with made rest) None
+keeps r made key v rest n free slot known frees puts num is_free =
+    as_read r ((key, v) ∷ rest)
+    ∙ one_more by_numbers key v rest n (slots r) free known num (frees ∙ and-true (is_none slot) ∙ sym is_free)
+    ∙ ap (λ o. cond free o None) (ap (read_with by_numbers rest) puts ∙ sym (as_read made rest))
 
 pub keeps_x : (r : Readings) (key v : List ℕ) (n : ℕ) (rest : List Pair) (free : Bool) (new : Option ℕ) → key ≡ key_x → number_of v ≡ Some n
     → free ≡ is_none r.x → new ≡ Some n → asked_with r ((key, v) ∷ rest) ≡ cond free (asked_with record r { x = new } rest) None
 keeps_x r key v n rest free new name num is_free is_new =
     ap (λ (t : List ℕ). asked_with r ((t, v) ∷ rest)) name
-    ∙ at_x r v n rest r.x num refl
-    ∙ sym (λ i. cond (is_free i) (asked_with record r { x = is_new i } rest) None)
-
-free_y : (r : Readings) (v : List ℕ) (n : ℕ) (rest : List Pair) → number_of v ≡ Some n → r.y ≡ None
-    → asked_with r ((key_y, v) ∷ rest) ≡ asked_with record r { y = Some n } rest
-unfolding asked_with
-free_y r v n rest num none =
-    let ox = once_other (has_key key_x) (key_y, v) rest (cond (is_some r.x) 1 0) refl in
-    let ow = once_other (has_key key_w) (key_y, v) rest (cond (is_some r.width) 1 0) refl in
-    let oh = once_other (has_key key_h) (key_y, v) rest (cond (is_some r.height) 1 0) refl in
-    let or = once_other (has_key key_r) (key_y, v) rest (cond (is_some r.reduce) 1 0) refl in
-    let ol = once_other (has_key key_l) (key_y, v) rest (cond (is_some r.layers) 1 0) refl in
-    let once = ap (λ (s : Option ℕ). leb (count_by (has_key key_y) ((key_y, v) ∷ rest) + cond (is_some s) 1 0) 1) none ∙ once_free (has_key key_y) (key_y, v) rest refl in
-    let number = ap (λ (s : Option ℕ). option_or s (number_of v)) none ∙ num in
-    λ i. judged (is_some (num i) && list_all is_reading rest) (ox i) (once i) (ow i) (oh i) (or i) (ol i)
-    (number_with r.x key_x rest) (number i) (number_with r.width key_w rest) (number_with r.height key_h rest) (number_with r.reduce key_r rest) (number_with r.layers key_l rest)
-
-full_y : (r : Readings) (v : List ℕ) (m : ℕ) (rest : List Pair) → r.y ≡ Some m → asked_with r ((key_y, v) ∷ rest) ≡ None
-unfolding asked_with
-full_y r v m rest some =
-    let once = ap (λ (s : Option ℕ). leb (count_by (has_key key_y) ((key_y, v) ∷ rest) + cond (is_some s) 1 0) 1) some ∙ once_full (has_key key_y) (key_y, v) rest refl in
-    (λ i. judged (list_all is_reading ((key_y, v) ∷ rest)) (is_once ((key_y, v) ∷ rest) (key_x, r.x)) (once i) (is_once ((key_y, v) ∷ rest) (key_w, r.width)) (is_once ((key_y, v) ∷ rest) (key_h, r.height)) (is_once ((key_y, v) ∷ rest) (key_r, r.reduce)) (is_once ((key_y, v) ∷ rest) (key_l, r.layers))
-    (number_with r.x key_x ((key_y, v) ∷ rest)) (number_with r.y key_y ((key_y, v) ∷ rest)) (number_with r.width key_w ((key_y, v) ∷ rest)) (number_with r.height key_h ((key_y, v) ∷ rest)) (number_with r.reduce key_r ((key_y, v) ∷ rest)) (number_with r.layers key_l ((key_y, v) ∷ rest)))
-    ∙ fails_y (list_all is_reading ((key_y, v) ∷ rest)) (is_once ((key_y, v) ∷ rest) (key_x, r.x)) (is_once ((key_y, v) ∷ rest) (key_w, r.width)) (is_once ((key_y, v) ∷ rest) (key_h, r.height)) (is_once ((key_y, v) ∷ rest) (key_r, r.reduce)) (is_once ((key_y, v) ∷ rest) (key_l, r.layers))
-    (number_with r.x key_x ((key_y, v) ∷ rest)) (number_with r.y key_y ((key_y, v) ∷ rest)) (number_with r.width key_w ((key_y, v) ∷ rest)) (number_with r.height key_h ((key_y, v) ∷ rest)) (number_with r.reduce key_r ((key_y, v) ∷ rest)) (number_with r.layers key_l ((key_y, v) ∷ rest))
-
-at_y : (r : Readings) (v : List ℕ) (n : ℕ) (rest : List Pair) (slot : Option ℕ) → number_of v ≡ Some n → r.y ≡ slot
-    → asked_with r ((key_y, v) ∷ rest) ≡ cond (is_none slot) (asked_with record r { y = Some n } rest) None
-at_y r v n rest None num e = free_y r v n rest num e
-at_y r v n rest (Some m) num e = full_y r v m rest e
+    ∙ keeps r record r { x = Some n } key_x v rest n free r.x refl refl refl num is_free
+    ∙ sym (ap (λ s. cond free (asked_with record r { x = s } rest) None) is_new)
 
 pub keeps_y : (r : Readings) (key v : List ℕ) (n : ℕ) (rest : List Pair) (free : Bool) (new : Option ℕ) → key ≡ key_y → number_of v ≡ Some n
     → free ≡ is_none r.y → new ≡ Some n → asked_with r ((key, v) ∷ rest) ≡ cond free (asked_with record r { y = new } rest) None
 keeps_y r key v n rest free new name num is_free is_new =
     ap (λ (t : List ℕ). asked_with r ((t, v) ∷ rest)) name
-    ∙ at_y r v n rest r.y num refl
-    ∙ sym (λ i. cond (is_free i) (asked_with record r { y = is_new i } rest) None)
-
-free_w : (r : Readings) (v : List ℕ) (n : ℕ) (rest : List Pair) → number_of v ≡ Some n → r.width ≡ None
-    → asked_with r ((key_w, v) ∷ rest) ≡ asked_with record r { width = Some n } rest
-unfolding asked_with
-free_w r v n rest num none =
-    let ox = once_other (has_key key_x) (key_w, v) rest (cond (is_some r.x) 1 0) refl in
-    let oy = once_other (has_key key_y) (key_w, v) rest (cond (is_some r.y) 1 0) refl in
-    let oh = once_other (has_key key_h) (key_w, v) rest (cond (is_some r.height) 1 0) refl in
-    let or = once_other (has_key key_r) (key_w, v) rest (cond (is_some r.reduce) 1 0) refl in
-    let ol = once_other (has_key key_l) (key_w, v) rest (cond (is_some r.layers) 1 0) refl in
-    let once = ap (λ (s : Option ℕ). leb (count_by (has_key key_w) ((key_w, v) ∷ rest) + cond (is_some s) 1 0) 1) none ∙ once_free (has_key key_w) (key_w, v) rest refl in
-    let number = ap (λ (s : Option ℕ). option_or s (number_of v)) none ∙ num in
-    λ i. judged (is_some (num i) && list_all is_reading rest) (ox i) (oy i) (once i) (oh i) (or i) (ol i)
-    (number_with r.x key_x rest) (number_with r.y key_y rest) (number i) (number_with r.height key_h rest) (number_with r.reduce key_r rest) (number_with r.layers key_l rest)
-
-full_w : (r : Readings) (v : List ℕ) (m : ℕ) (rest : List Pair) → r.width ≡ Some m → asked_with r ((key_w, v) ∷ rest) ≡ None
-unfolding asked_with
-full_w r v m rest some =
-    let once = ap (λ (s : Option ℕ). leb (count_by (has_key key_w) ((key_w, v) ∷ rest) + cond (is_some s) 1 0) 1) some ∙ once_full (has_key key_w) (key_w, v) rest refl in
-    (λ i. judged (list_all is_reading ((key_w, v) ∷ rest)) (is_once ((key_w, v) ∷ rest) (key_x, r.x)) (is_once ((key_w, v) ∷ rest) (key_y, r.y)) (once i) (is_once ((key_w, v) ∷ rest) (key_h, r.height)) (is_once ((key_w, v) ∷ rest) (key_r, r.reduce)) (is_once ((key_w, v) ∷ rest) (key_l, r.layers))
-    (number_with r.x key_x ((key_w, v) ∷ rest)) (number_with r.y key_y ((key_w, v) ∷ rest)) (number_with r.width key_w ((key_w, v) ∷ rest)) (number_with r.height key_h ((key_w, v) ∷ rest)) (number_with r.reduce key_r ((key_w, v) ∷ rest)) (number_with r.layers key_l ((key_w, v) ∷ rest)))
-    ∙ fails_w (list_all is_reading ((key_w, v) ∷ rest)) (is_once ((key_w, v) ∷ rest) (key_x, r.x)) (is_once ((key_w, v) ∷ rest) (key_y, r.y)) (is_once ((key_w, v) ∷ rest) (key_h, r.height)) (is_once ((key_w, v) ∷ rest) (key_r, r.reduce)) (is_once ((key_w, v) ∷ rest) (key_l, r.layers))
-    (number_with r.x key_x ((key_w, v) ∷ rest)) (number_with r.y key_y ((key_w, v) ∷ rest)) (number_with r.width key_w ((key_w, v) ∷ rest)) (number_with r.height key_h ((key_w, v) ∷ rest)) (number_with r.reduce key_r ((key_w, v) ∷ rest)) (number_with r.layers key_l ((key_w, v) ∷ rest))
-
-at_w : (r : Readings) (v : List ℕ) (n : ℕ) (rest : List Pair) (slot : Option ℕ) → number_of v ≡ Some n → r.width ≡ slot
-    → asked_with r ((key_w, v) ∷ rest) ≡ cond (is_none slot) (asked_with record r { width = Some n } rest) None
-at_w r v n rest None num e = free_w r v n rest num e
-at_w r v n rest (Some m) num e = full_w r v m rest e
+    ∙ keeps r record r { y = Some n } key_y v rest n free r.y refl refl refl num is_free
+    ∙ sym (ap (λ s. cond free (asked_with record r { y = s } rest) None) is_new)
 
 pub keeps_w : (r : Readings) (key v : List ℕ) (n : ℕ) (rest : List Pair) (free : Bool) (new : Option ℕ) → key ≡ key_w → number_of v ≡ Some n
     → free ≡ is_none r.width → new ≡ Some n → asked_with r ((key, v) ∷ rest) ≡ cond free (asked_with record r { width = new } rest) None
 keeps_w r key v n rest free new name num is_free is_new =
     ap (λ (t : List ℕ). asked_with r ((t, v) ∷ rest)) name
-    ∙ at_w r v n rest r.width num refl
-    ∙ sym (λ i. cond (is_free i) (asked_with record r { width = is_new i } rest) None)
-
-free_h : (r : Readings) (v : List ℕ) (n : ℕ) (rest : List Pair) → number_of v ≡ Some n → r.height ≡ None
-    → asked_with r ((key_h, v) ∷ rest) ≡ asked_with record r { height = Some n } rest
-unfolding asked_with
-free_h r v n rest num none =
-    let ox = once_other (has_key key_x) (key_h, v) rest (cond (is_some r.x) 1 0) refl in
-    let oy = once_other (has_key key_y) (key_h, v) rest (cond (is_some r.y) 1 0) refl in
-    let ow = once_other (has_key key_w) (key_h, v) rest (cond (is_some r.width) 1 0) refl in
-    let or = once_other (has_key key_r) (key_h, v) rest (cond (is_some r.reduce) 1 0) refl in
-    let ol = once_other (has_key key_l) (key_h, v) rest (cond (is_some r.layers) 1 0) refl in
-    let once = ap (λ (s : Option ℕ). leb (count_by (has_key key_h) ((key_h, v) ∷ rest) + cond (is_some s) 1 0) 1) none ∙ once_free (has_key key_h) (key_h, v) rest refl in
-    let number = ap (λ (s : Option ℕ). option_or s (number_of v)) none ∙ num in
-    λ i. judged (is_some (num i) && list_all is_reading rest) (ox i) (oy i) (ow i) (once i) (or i) (ol i)
-    (number_with r.x key_x rest) (number_with r.y key_y rest) (number_with r.width key_w rest) (number i) (number_with r.reduce key_r rest) (number_with r.layers key_l rest)
-
-full_h : (r : Readings) (v : List ℕ) (m : ℕ) (rest : List Pair) → r.height ≡ Some m → asked_with r ((key_h, v) ∷ rest) ≡ None
-unfolding asked_with
-full_h r v m rest some =
-    let once = ap (λ (s : Option ℕ). leb (count_by (has_key key_h) ((key_h, v) ∷ rest) + cond (is_some s) 1 0) 1) some ∙ once_full (has_key key_h) (key_h, v) rest refl in
-    (λ i. judged (list_all is_reading ((key_h, v) ∷ rest)) (is_once ((key_h, v) ∷ rest) (key_x, r.x)) (is_once ((key_h, v) ∷ rest) (key_y, r.y)) (is_once ((key_h, v) ∷ rest) (key_w, r.width)) (once i) (is_once ((key_h, v) ∷ rest) (key_r, r.reduce)) (is_once ((key_h, v) ∷ rest) (key_l, r.layers))
-    (number_with r.x key_x ((key_h, v) ∷ rest)) (number_with r.y key_y ((key_h, v) ∷ rest)) (number_with r.width key_w ((key_h, v) ∷ rest)) (number_with r.height key_h ((key_h, v) ∷ rest)) (number_with r.reduce key_r ((key_h, v) ∷ rest)) (number_with r.layers key_l ((key_h, v) ∷ rest)))
-    ∙ fails_h (list_all is_reading ((key_h, v) ∷ rest)) (is_once ((key_h, v) ∷ rest) (key_x, r.x)) (is_once ((key_h, v) ∷ rest) (key_y, r.y)) (is_once ((key_h, v) ∷ rest) (key_w, r.width)) (is_once ((key_h, v) ∷ rest) (key_r, r.reduce)) (is_once ((key_h, v) ∷ rest) (key_l, r.layers))
-    (number_with r.x key_x ((key_h, v) ∷ rest)) (number_with r.y key_y ((key_h, v) ∷ rest)) (number_with r.width key_w ((key_h, v) ∷ rest)) (number_with r.height key_h ((key_h, v) ∷ rest)) (number_with r.reduce key_r ((key_h, v) ∷ rest)) (number_with r.layers key_l ((key_h, v) ∷ rest))
-
-at_h : (r : Readings) (v : List ℕ) (n : ℕ) (rest : List Pair) (slot : Option ℕ) → number_of v ≡ Some n → r.height ≡ slot
-    → asked_with r ((key_h, v) ∷ rest) ≡ cond (is_none slot) (asked_with record r { height = Some n } rest) None
-at_h r v n rest None num e = free_h r v n rest num e
-at_h r v n rest (Some m) num e = full_h r v m rest e
+    ∙ keeps r record r { width = Some n } key_w v rest n free r.width refl refl refl num is_free
+    ∙ sym (ap (λ s. cond free (asked_with record r { width = s } rest) None) is_new)
 
 pub keeps_h : (r : Readings) (key v : List ℕ) (n : ℕ) (rest : List Pair) (free : Bool) (new : Option ℕ) → key ≡ key_h → number_of v ≡ Some n
     → free ≡ is_none r.height → new ≡ Some n → asked_with r ((key, v) ∷ rest) ≡ cond free (asked_with record r { height = new } rest) None
 keeps_h r key v n rest free new name num is_free is_new =
     ap (λ (t : List ℕ). asked_with r ((t, v) ∷ rest)) name
-    ∙ at_h r v n rest r.height num refl
-    ∙ sym (λ i. cond (is_free i) (asked_with record r { height = is_new i } rest) None)
-
-free_r : (r : Readings) (v : List ℕ) (n : ℕ) (rest : List Pair) → number_of v ≡ Some n → r.reduce ≡ None
-    → asked_with r ((key_r, v) ∷ rest) ≡ asked_with record r { reduce = Some n } rest
-unfolding asked_with
-free_r r v n rest num none =
-    let ox = once_other (has_key key_x) (key_r, v) rest (cond (is_some r.x) 1 0) refl in
-    let oy = once_other (has_key key_y) (key_r, v) rest (cond (is_some r.y) 1 0) refl in
-    let ow = once_other (has_key key_w) (key_r, v) rest (cond (is_some r.width) 1 0) refl in
-    let oh = once_other (has_key key_h) (key_r, v) rest (cond (is_some r.height) 1 0) refl in
-    let ol = once_other (has_key key_l) (key_r, v) rest (cond (is_some r.layers) 1 0) refl in
-    let once = ap (λ (s : Option ℕ). leb (count_by (has_key key_r) ((key_r, v) ∷ rest) + cond (is_some s) 1 0) 1) none ∙ once_free (has_key key_r) (key_r, v) rest refl in
-    let number = ap (λ (s : Option ℕ). option_or s (number_of v)) none ∙ num in
-    λ i. judged (is_some (num i) && list_all is_reading rest) (ox i) (oy i) (ow i) (oh i) (once i) (ol i)
-    (number_with r.x key_x rest) (number_with r.y key_y rest) (number_with r.width key_w rest) (number_with r.height key_h rest) (number i) (number_with r.layers key_l rest)
-
-full_r : (r : Readings) (v : List ℕ) (m : ℕ) (rest : List Pair) → r.reduce ≡ Some m → asked_with r ((key_r, v) ∷ rest) ≡ None
-unfolding asked_with
-full_r r v m rest some =
-    let once = ap (λ (s : Option ℕ). leb (count_by (has_key key_r) ((key_r, v) ∷ rest) + cond (is_some s) 1 0) 1) some ∙ once_full (has_key key_r) (key_r, v) rest refl in
-    (λ i. judged (list_all is_reading ((key_r, v) ∷ rest)) (is_once ((key_r, v) ∷ rest) (key_x, r.x)) (is_once ((key_r, v) ∷ rest) (key_y, r.y)) (is_once ((key_r, v) ∷ rest) (key_w, r.width)) (is_once ((key_r, v) ∷ rest) (key_h, r.height)) (once i) (is_once ((key_r, v) ∷ rest) (key_l, r.layers))
-    (number_with r.x key_x ((key_r, v) ∷ rest)) (number_with r.y key_y ((key_r, v) ∷ rest)) (number_with r.width key_w ((key_r, v) ∷ rest)) (number_with r.height key_h ((key_r, v) ∷ rest)) (number_with r.reduce key_r ((key_r, v) ∷ rest)) (number_with r.layers key_l ((key_r, v) ∷ rest)))
-    ∙ fails_r (list_all is_reading ((key_r, v) ∷ rest)) (is_once ((key_r, v) ∷ rest) (key_x, r.x)) (is_once ((key_r, v) ∷ rest) (key_y, r.y)) (is_once ((key_r, v) ∷ rest) (key_w, r.width)) (is_once ((key_r, v) ∷ rest) (key_h, r.height)) (is_once ((key_r, v) ∷ rest) (key_l, r.layers))
-    (number_with r.x key_x ((key_r, v) ∷ rest)) (number_with r.y key_y ((key_r, v) ∷ rest)) (number_with r.width key_w ((key_r, v) ∷ rest)) (number_with r.height key_h ((key_r, v) ∷ rest)) (number_with r.reduce key_r ((key_r, v) ∷ rest)) (number_with r.layers key_l ((key_r, v) ∷ rest))
-
-at_r : (r : Readings) (v : List ℕ) (n : ℕ) (rest : List Pair) (slot : Option ℕ) → number_of v ≡ Some n → r.reduce ≡ slot
-    → asked_with r ((key_r, v) ∷ rest) ≡ cond (is_none slot) (asked_with record r { reduce = Some n } rest) None
-at_r r v n rest None num e = free_r r v n rest num e
-at_r r v n rest (Some m) num e = full_r r v m rest e
+    ∙ keeps r record r { height = Some n } key_h v rest n free r.height refl refl refl num is_free
+    ∙ sym (ap (λ s. cond free (asked_with record r { height = s } rest) None) is_new)
 
 pub keeps_r : (r : Readings) (key v : List ℕ) (n : ℕ) (rest : List Pair) (free : Bool) (new : Option ℕ) → key ≡ key_r → number_of v ≡ Some n
     → free ≡ is_none r.reduce → new ≡ Some n → asked_with r ((key, v) ∷ rest) ≡ cond free (asked_with record r { reduce = new } rest) None
 keeps_r r key v n rest free new name num is_free is_new =
     ap (λ (t : List ℕ). asked_with r ((t, v) ∷ rest)) name
-    ∙ at_r r v n rest r.reduce num refl
-    ∙ sym (λ i. cond (is_free i) (asked_with record r { reduce = is_new i } rest) None)
-
-free_l : (r : Readings) (v : List ℕ) (n : ℕ) (rest : List Pair) → number_of v ≡ Some n → r.layers ≡ None
-    → asked_with r ((key_l, v) ∷ rest) ≡ asked_with record r { layers = Some n } rest
-unfolding asked_with
-free_l r v n rest num none =
-    let ox = once_other (has_key key_x) (key_l, v) rest (cond (is_some r.x) 1 0) refl in
-    let oy = once_other (has_key key_y) (key_l, v) rest (cond (is_some r.y) 1 0) refl in
-    let ow = once_other (has_key key_w) (key_l, v) rest (cond (is_some r.width) 1 0) refl in
-    let oh = once_other (has_key key_h) (key_l, v) rest (cond (is_some r.height) 1 0) refl in
-    let or = once_other (has_key key_r) (key_l, v) rest (cond (is_some r.reduce) 1 0) refl in
-    let once = ap (λ (s : Option ℕ). leb (count_by (has_key key_l) ((key_l, v) ∷ rest) + cond (is_some s) 1 0) 1) none ∙ once_free (has_key key_l) (key_l, v) rest refl in
-    let number = ap (λ (s : Option ℕ). option_or s (number_of v)) none ∙ num in
-    λ i. judged (is_some (num i) && list_all is_reading rest) (ox i) (oy i) (ow i) (oh i) (or i) (once i)
-    (number_with r.x key_x rest) (number_with r.y key_y rest) (number_with r.width key_w rest) (number_with r.height key_h rest) (number_with r.reduce key_r rest) (number i)
-
-full_l : (r : Readings) (v : List ℕ) (m : ℕ) (rest : List Pair) → r.layers ≡ Some m → asked_with r ((key_l, v) ∷ rest) ≡ None
-unfolding asked_with
-full_l r v m rest some =
-    let once = ap (λ (s : Option ℕ). leb (count_by (has_key key_l) ((key_l, v) ∷ rest) + cond (is_some s) 1 0) 1) some ∙ once_full (has_key key_l) (key_l, v) rest refl in
-    (λ i. judged (list_all is_reading ((key_l, v) ∷ rest)) (is_once ((key_l, v) ∷ rest) (key_x, r.x)) (is_once ((key_l, v) ∷ rest) (key_y, r.y)) (is_once ((key_l, v) ∷ rest) (key_w, r.width)) (is_once ((key_l, v) ∷ rest) (key_h, r.height)) (is_once ((key_l, v) ∷ rest) (key_r, r.reduce)) (once i)
-    (number_with r.x key_x ((key_l, v) ∷ rest)) (number_with r.y key_y ((key_l, v) ∷ rest)) (number_with r.width key_w ((key_l, v) ∷ rest)) (number_with r.height key_h ((key_l, v) ∷ rest)) (number_with r.reduce key_r ((key_l, v) ∷ rest)) (number_with r.layers key_l ((key_l, v) ∷ rest)))
-    ∙ fails_l (list_all is_reading ((key_l, v) ∷ rest)) (is_once ((key_l, v) ∷ rest) (key_x, r.x)) (is_once ((key_l, v) ∷ rest) (key_y, r.y)) (is_once ((key_l, v) ∷ rest) (key_w, r.width)) (is_once ((key_l, v) ∷ rest) (key_h, r.height)) (is_once ((key_l, v) ∷ rest) (key_r, r.reduce))
-    (number_with r.x key_x ((key_l, v) ∷ rest)) (number_with r.y key_y ((key_l, v) ∷ rest)) (number_with r.width key_w ((key_l, v) ∷ rest)) (number_with r.height key_h ((key_l, v) ∷ rest)) (number_with r.reduce key_r ((key_l, v) ∷ rest)) (number_with r.layers key_l ((key_l, v) ∷ rest))
-
-at_l : (r : Readings) (v : List ℕ) (n : ℕ) (rest : List Pair) (slot : Option ℕ) → number_of v ≡ Some n → r.layers ≡ slot
-    → asked_with r ((key_l, v) ∷ rest) ≡ cond (is_none slot) (asked_with record r { layers = Some n } rest) None
-at_l r v n rest None num e = free_l r v n rest num e
-at_l r v n rest (Some m) num e = full_l r v m rest e
+    ∙ keeps r record r { reduce = Some n } key_r v rest n free r.reduce refl refl refl num is_free
+    ∙ sym (ap (λ s. cond free (asked_with record r { reduce = s } rest) None) is_new)
 
 pub keeps_l : (r : Readings) (key v : List ℕ) (n : ℕ) (rest : List Pair) (free : Bool) (new : Option ℕ) → key ≡ key_l → number_of v ≡ Some n
     → free ≡ is_none r.layers → new ≡ Some n → asked_with r ((key, v) ∷ rest) ≡ cond free (asked_with record r { layers = new } rest) None
 keeps_l r key v n rest free new name num is_free is_new =
     ap (λ (t : List ℕ). asked_with r ((t, v) ∷ rest)) name
-    ∙ at_l r v n rest r.layers num refl
-    ∙ sym (λ i. cond (is_free i) (asked_with record r { layers = is_new i } rest) None)
+    ∙ keeps r record r { layers = Some n } key_l v rest n free r.layers refl refl refl num is_free
+    ∙ sym (ap (λ s. cond free (asked_with record r { layers = s } rest) None) is_new)
 
 -- ---- a pair that is no reading
 
 no_reading : (r : Readings) (p : Pair) (rest : List Pair) → is_reading p ≡ false → asked_with r (p ∷ rest) ≡ None
-unfolding asked_with
 no_reading r p rest e =
-    λ i. cond ((e i && list_all is_reading rest) && list_all (is_once (p ∷ rest)) (slots r)) (window_of (number_with r.x key_x (p ∷ rest)) (number_with r.y key_y (p ∷ rest)) (number_with r.width key_w (p ∷ rest)) (number_with r.height key_h (p ∷ rest)) (number_with r.reduce key_r (p ∷ rest)) (number_with r.layers key_l (p ∷ rest))) None
-
-and-false : (b : Bool) → (b && false) ≡ false
-and-false true = refl
-and-false false = refl
+    as_read r (p ∷ rest)
+    ∙ (λ i. cond ((e i && list_all is_reading rest) && list_all (is_once (p ∷ rest)) (slots r)) (by_numbers (map (λ s. number_with s.1 s.0 (p ∷ rest)) (slots r))) None)
 
 pub no_number : (r : Readings) (key v : List ℕ) (rest : List Pair) → number_of v ≡ None → asked_with r ((key, v) ∷ rest) ≡ None
 no_number r key v rest none =

@@ -4,7 +4,7 @@ use Rattle.jk_math.specs.declared.fault.Fault.{Fault}
 use Rattle.jk_math.specs.declared.fault.Fault.TheVariants.{Memory, NoSuchImage, BadWindow, Shelf, Changed}
 use Rattle.jk_math.specs.Memory.{IsMemory}
 use Rattle.jk_math.specs.Steps.{if_ok}
-use Rattle.jk_web.specs.declared.query.Asked.{Asked}
+use Rattle.jk_window.specs.declared.view.View.{View}
 use Rattle.jk_web.specs.declared.reply.Reply.{Reply}
 use Rattle.jk_web.specs.Replies.{Content, printed, error}
 use Rattle.jk_web.specs.Images.{Image, sent, whole_content, cut_content, window_content, IsFileOf, IsCutOf, HasNoCut, MayRefuse, status_of, IsReplyOf}
@@ -18,11 +18,11 @@ pub bad_whole : (o : Option Image) (b : Bool) → is_some o ≡ true → b ≡ f
 bad_whole None b is empty = absurd (cc)
 bad_whole (Some i) b is empty = ap (λ x. whole_content (Some i) x) (sym empty)
 
-pub bad_window : (o : Option Image) (asked : Option Asked) → is_some o ≡ true → asked ≡ None → error 400 ≡ window_content o asked
+pub bad_window : (o : Option Image) (asked : Option View) → is_some o ≡ true → asked ≡ None → error 400 ≡ window_content o asked
 bad_window None asked is none = absurd (cc)
 bad_window (Some i) asked is none = ap (λ x. window_content (Some i) x) (sym none)
 
-pub no_cut : (o : Option Image) (all : Option Asked) (asked : Asked) → all ≡ Some asked → HasNoCut o asked → error 400 ≡ window_content o all
+pub no_cut : (o : Option Image) (all : Option View) (asked : View) → all ≡ Some asked → HasNoCut o asked → error 400 ≡ window_content o all
 no_cut None all asked is none = absurd none
 no_cut (Some i) all asked is none = sym (ap (λ x. window_content (Some i) x) is ∙ ap cut_content none)
 
@@ -31,7 +31,7 @@ pub whole_sent : (o : Option Image) (b : Bool) (file : List ℕ) → b ≡ true 
 whole_sent None b file bare is = absurd is
 whole_sent (Some i) b file bare is = ap sent is ∙ sym (ap (λ x. whole_content (Some i) x) bare)
 
-pub cut_sent : (o : Option Image) (all : Option Asked) (asked : Asked) (file : List ℕ) → all ≡ Some asked → IsCutOf o asked file → sent file ≡ window_content o all
+pub cut_sent : (o : Option Image) (all : Option View) (asked : View) (file : List ℕ) → all ≡ Some asked → IsCutOf o asked file → sent file ≡ window_content o all
 cut_sent None all asked file is cut = absurd cut
 cut_sent (Some i) all asked file is cut = sym (ap (λ x. window_content (Some i) x) is ∙ ap cut_content cut)
 

@@ -8,7 +8,7 @@ use Rattle.std.specs.Str.{chars, is_utf8}
 use Rattle.std.specs.Str.Lossy.{utf8_lossy, utf8_valid_len}
 use Rattle.form_urlencoded.specs.Form.{split, raw_pairs}
 use Rattle.form_urlencoded.specs.Percent.{percent_decode}
-use Rattle.jk_web.specs.declared.query.Asked.{Asked}
+use Rattle.jk_window.specs.declared.view.View.{View}
 use Rattle.jk_web.specs.declared.request.Request.{Request}
 use Rattle.jk_web.specs.Fields.{announces_body, asks_close}
 use Rattle.jk_web.specs.Images.{Image, sent, window_content, content, answer, failed}
@@ -73,7 +73,7 @@ no_numbers : map number_of ([] ∷ codes "+1" ∷ codes "1 " ∷ codes "0x1" ∷
 unfolding is_number number_of
 no_numbers = refl
 
-abbrev asked : (reduce x y width height : ℕ) → Option ℕ → Asked
+abbrev asked : (reduce x y width height : ℕ) → Option ℕ → View
 asked reduce x y width height layers =
     record { reduce = reduce; x = x; y = y; width = width; height = height; layers = layers }
 

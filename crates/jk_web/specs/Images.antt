@@ -1,11 +1,13 @@
 -- What a server answers from its images.
+pub use Rattle.jk_catalogue.specs.Images.{Image, names_of, image_of, IsFileOf, IsCutOf, HasNoCut, MayRefuse, IsOtherFile}
+pub use Rattle.jk_catalogue.specs.Images.{IsOtherCut, IsOtherRead, IsFileGiven, IsCutGiven}
 use Rattle.std.specs.Prelude.{◌≡◌, ℕ, ◌⊎◌, Bool, true, false, List, map, find, Option, Some, None, if◌then◌else◌, codes}
 use Rattle.std.specs.List.{flat_map}
 use Rattle.std.specs.Str.{bytes_eq}
 use Rattle.jk_math.specs.declared.fault.Fault.{Fault}
-use Rattle.jk_math.specs.declared.fault.Fault.TheVariants.{Memory, NoSuchImage, BadWindow, Shelf, Changed}
+use Rattle.jk_math.specs.declared.fault.Fault.TheVariants.{NoSuchImage, BadWindow}
 use Rattle.jk_math.specs.Memory.{IsMemory}
-use Rattle.jk_web.specs.declared.query.Asked.{Asked}
+use Rattle.jk_window.specs.declared.view.View.{View}
 use Rattle.jk_web.specs.declared.reply.Media.TheVariants.{Plain, Jp2}
 use Rattle.jk_web.specs.declared.reply.Reply.{Reply}
 use Rattle.jk_web.specs.declared.request.Request.{Request}
@@ -13,22 +15,6 @@ use Rattle.jk_web.specs.Resources.{path_of, query_of, Resource, listing, whole, 
 use Rattle.jk_web.specs.Pairs.{are_none}
 use Rattle.jk_web.specs.Queries.{pairs_of, asked_by}
 use Rattle.jk_web.specs.Replies.{Content, printed, error}
-
--- An image: its name, its line in the list of images, its file, and the file of a window of it,
--- where it has that window.
-pub record Image : Type 0 where
-  pub name : List ℕ
-  pub line : List ℕ
-  pub file : List ℕ
-  pub cut : Asked → Option (List ℕ)
-
--- the names of images
-abbrev pub names_of : List Image → List (List ℕ)
-names_of images = map (λ (i : Image). i.name) images
-
--- the image of a name
-abbrev pub image_of : List ℕ → List Image → Option Image
-image_of name images = find (λ (i : Image). bytes_eq name i.name) images
 
 -- a file that is sent
 abbrev pub sent : List ℕ → Content
@@ -46,7 +32,7 @@ cut_content None = error 400
 cut_content (Some file) = sent file
 
 -- what an image gives to a query that asks for a window
-abbrev pub window_content : Option Image → Option Asked → Content
+abbrev pub window_content : Option Image → Option View → Content
 window_content None asked = error 404
 window_content (Some image) None = error 400
 window_content (Some image) (Some asked) = cut_content (image.cut asked)
@@ -74,60 +60,10 @@ answer q images = printed (content q images) q.closes
 abbrev pub failed : Bool → Reply
 failed close = printed (error 500) close
 
--- What a call that reads the file of an image gives.
-abbrev pub IsFileOf : Option Image → List ℕ → Type 0
-IsFileOf None file = ⊥
-IsFileOf (Some image) file = file ≡ image.file
-
--- What a call that cuts a window out of it gives.
-abbrev pub IsCutOf : Option Image → Asked → List ℕ → Type 0
-IsCutOf None asked file = ⊥
-IsCutOf (Some image) asked file = image.cut asked ≡ Some file
-
--- that the image has no such window
-abbrev pub HasNoCut : Option Image → Asked → Type 0
-HasNoCut None asked = ⊥
-HasNoCut (Some image) asked = image.cut asked ≡ None
-
--- Why such a call may refuse; broke: a file couldn't be read, or other bytes were read in its
--- place.
-abbrev pub MayRefuse : Option Image → Type 0 → Type 0 → Fault → Type 0
-MayRefuse image broke uncut (Memory r) = Unit {0}
-MayRefuse image broke uncut NoSuchImage = image ≡ None
-MayRefuse image broke uncut BadWindow = uncut
-MayRefuse image broke uncut Shelf = broke
-MayRefuse image broke uncut Changed = broke
-MayRefuse image broke uncut e = ⊥
-
--- A file that was read in the place of the image's, and isn't the image's.
-abbrev pub IsOtherFile : Option Image → (reads : List ℕ → Type 0) → List ℕ → Type 0
-IsOtherFile None reads file = ⊥
-IsOtherFile (Some image) reads file = reads file × (file ≡ image.file → ⊥)
-
--- A window that was cut of what was read in the place of the image's file, and isn't the image's.
-abbrev pub IsOtherCut : Option Image → Asked → (cuts : List ℕ → Type 0) → List ℕ → Type 0
-IsOtherCut None asked cuts cut = ⊥
-IsOtherCut (Some image) asked cuts cut = cuts cut × (image.cut asked ≡ Some cut → ⊥)
-
--- Such a window of what was read between two states.
-abbrev pub IsOtherRead : {S : Type 0} → (cuts : S → List ℕ → Asked → S → List ℕ → Type 0) → Option Image → S → List ℕ
-    → Asked → S → List ℕ → Type 0
-IsOtherRead cuts image s name asked t cut = IsOtherCut image asked (cuts s name asked t) cut
-
 -- A cut that was made for the name and the window, and isn't the image's.
-abbrev pub IsOtherMade : {S : Type 0} → (made : S → List ℕ → Asked → List ℕ → Type 0) → Option Image → S → List ℕ
-    → Asked → S → List ℕ → Type 0
+abbrev pub IsOtherMade : {S : Type 0} → (made : S → List ℕ → View → List ℕ → Type 0) → Option Image → S → List ℕ
+    → View → S → List ℕ → Type 0
 IsOtherMade made image s name asked t cut = made t name asked cut × (IsCutOf image asked cut → ⊥)
-
--- What a call gives, where nothing is known of files: what is due of the image's, or the same of
--- what was read in its place.
-abbrev pub IsFileGiven : {S : Type 0} → Option Image → (reads : S → List ℕ → List ℕ → S → Type 0) → S → List ℕ → S
-    → List ℕ → Type 0
-IsFileGiven image reads s name t file = IsFileOf image file ⊎ IsOtherFile image (λ f. reads s name f t) file
-
-abbrev pub IsCutGiven : {S : Type 0} → Option Image → Asked → (cuts : S → List ℕ → Asked → S → List ℕ → Type 0) → S
-    → List ℕ → S → List ℕ → Type 0
-IsCutGiven image asked cuts s name t cut = IsCutOf image asked cut ⊎ IsOtherRead cuts image s name asked t cut
 
 -- the status that says so
 abbrev pub status_of : Fault → ℕ
@@ -150,11 +86,11 @@ IsBroken broke nowhere = ⊥
 -- A file that is sent to a query for a resource, and isn't the image's: another that was read in
 -- its place, or another window.
 abbrev pub IsOtherSent : List Image → (reads : List ℕ → List ℕ → Type 0)
-    → (windows : Option Image → List ℕ → Asked → List ℕ → Type 0) → List ℕ → Resource → List ℕ → Type 0
+    → (windows : Option Image → List ℕ → View → List ℕ → Type 0) → List ℕ → Resource → List ℕ → Type 0
 IsOtherSent images reads windows query listing file = ⊥
 IsOtherSent images reads windows query (whole name) file = (are_none (pairs_of query) ≡ true)
     × IsOtherFile (image_of name images) (reads name) file
-IsOtherSent images reads windows query (window name) file = (asked : Asked) × (asked_by (pairs_of query) ≡ Some asked)
+IsOtherSent images reads windows query (window name) file = (asked : View) × (asked_by (pairs_of query) ≡ Some asked)
     × windows (image_of name images) name asked file
 IsOtherSent images reads windows query nowhere file = ⊥
 
@@ -167,7 +103,7 @@ IsReplyOf due broken other close r =
 
 -- Others: the windows that may be sent in the place of an image's.
 module _ {S : Type 0} (broke : S → List ℕ → S → Type 0) (reads : S → List ℕ → List ℕ → S → Type 0)
-    (others : Option Image → S → List ℕ → Asked → S → List ℕ → Type 0) where
+    (others : Option Image → S → List ℕ → View → S → List ℕ → Type 0) where
   -- The reply of a resource to a query, from one state to another.
   abbrev pub IsReplyAtWith : List Image → S → S → List ℕ → Bool → Resource → Reply → Type 0
   IsReplyAtWith images s t query close resource r =
@@ -189,7 +125,7 @@ module _ {S : Type 0} (broke : S → List ℕ → S → Type 0) (reads : S → L
 
 -- Windows are made at each request: another is one of what was read for it.
 module _ {S : Type 0} (broke : S → List ℕ → S → Type 0) (reads : S → List ℕ → List ℕ → S → Type 0)
-    (cuts : S → List ℕ → Asked → S → List ℕ → Type 0) where
+    (cuts : S → List ℕ → View → S → List ℕ → Type 0) where
   abbrev pub IsReplyAt : List Image → S → S → List ℕ → Bool → Resource → Reply → Type 0
   IsReplyAt = IsReplyAtWith broke reads (IsOtherRead cuts)
 
@@ -202,7 +138,7 @@ module _ {S : Type 0} (broke : S → List ℕ → S → Type 0) (reads : S → L
 -- Windows may be kept: another was made for the same name and window, by this request or by an
 -- earlier one.
 module _ {S : Type 0} (broke : S → List ℕ → S → Type 0) (reads : S → List ℕ → List ℕ → S → Type 0)
-    (made : S → List ℕ → Asked → List ℕ → Type 0) where
+    (made : S → List ℕ → View → List ℕ → Type 0) where
   abbrev pub IsCachedReply : List Image → Request → S → S → Reply → Type 0
   IsCachedReply = IsReplyWith broke reads (IsOtherMade made)
 

@@ -1,12 +1,12 @@
 -- What cuts are kept under.
 use Rattle.std.specs.Prelude.{ℕ, ◌^◌, ◌≤◌, List, map, length, Contains}
 use Rattle.std.specs.Global.{Vec}
-use Rattle.jk_web.specs.declared.query.Asked.{Asked}
+use Rattle.jk_window.specs.declared.view.View.{View}
 use Rattle.jk_web.specs.declared.cache.CutKey.{CutKey}
 use Rattle.jk_web.specs.Cuts.{KeptCut, kept_cut}
 
 -- the window of a key
-abbrev pub asked_of : CutKey → Asked
+abbrev pub asked_of : CutKey → View
 asked_of k = record { reduce = k.reduce; x = k.x; y = k.y; width = k.width; height = k.height; layers = k.layers }
 
 -- what a pair keeps

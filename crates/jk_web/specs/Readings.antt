@@ -3,7 +3,7 @@ use Rattle.std.specs.Prelude.{ℕ, ◌+◌, Bool, ◌&&◌, nat_le, List, [], �
 use Rattle.std.specs.Prelude.{codes}
 use Rattle.std.specs.List.{list_all}
 use Rattle.std.specs.Option.{option_or}
-use Rattle.jk_web.specs.declared.query.Asked.{Asked}
+use Rattle.jk_window.specs.declared.view.View.{View}
 use Rattle.jk_web.specs.declared.query.Readings.{Readings}
 use Rattle.jk_web.specs.Queries.{has_key, is_reading, number_at, window_of}
 
@@ -21,7 +21,7 @@ abbrev pub number_with : Option ℕ → List ℕ → List (List ℕ × List ℕ)
 number_with slot key pairs = option_or slot (number_at key pairs)
 
 -- the window of what was read and of the pairs that are left
-unfoldable pub asked_with : Readings → List (List ℕ × List ℕ) → Option Asked
+unfoldable pub asked_with : Readings → List (List ℕ × List ℕ) → Option View
 asked_with r pairs =
     if list_all is_reading pairs && list_all (is_once pairs) (slots r)
     then window_of (number_with r.x (codes "x") pairs) (number_with r.y (codes "y") pairs)

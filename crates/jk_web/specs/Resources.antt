@@ -1,4 +1,5 @@
 -- What the path of a request target names on a server of images.
+pub use Rattle.jk_catalogue.specs.Images.{is_segment_byte, IsSegment}
 use Rattle.std.specs.Prelude.{ℕ, ◌+◌, Bool, not, ◌==◌, List, ◌++◌, take, drop, find, Option, Some, None, if◌then◌else◌}
 use Rattle.std.specs.Prelude.{codes, IsTrue, All}
 use Rattle.std.specs.List.{list_any, position_or_len}
@@ -17,13 +18,6 @@ path_of target = take (position_or_len is_question target) target
 -- the query of a target: what follows the first `?`, if there is one
 abbrev pub query_of : List ℕ → List ℕ
 query_of target = drop (position_or_len is_question target + 1) target
-
--- a byte of a segment of a path: any but the slash (RFC 3986, section 3.3)
-abbrev pub is_segment_byte : ℕ → Bool
-is_segment_byte b = not (b == 47)
-
-abbrev pub IsSegment : List ℕ → Type 0
-IsSegment name = All (λ b. IsTrue (is_segment_byte b)) name
 
 -- what a path names: the list of images, an image, windows of an image, or nothing
 pub data Resource : Type 0 where

@@ -10,13 +10,14 @@ ghost use Rattle.jk_web.specs.Images.{IsReply, IsReplyWith, IsCachedReply, IsKep
 ghost use Rattle.jk_web.specs.Cuts.{Within, AreOf, IsHit, Has};
 
 use crate::cache::Cache;
-use crate::catalogue::Catalogue;
-use crate::query::{Asked, is_empty, window_asked};
+use crate::query::{is_empty, window_asked};
 use crate::reply::{Media, Reply, answered, refuse};
 use crate::request::Request;
 use crate::resource::{NamedResource, resource_of, split_target};
 use crate::windows::{Direct, Windows};
+use jk_catalogue::Catalogue;
 use jk_math::Fault;
+use jk_window::View;
 use std::alloc::Global;
 
 /// The reply that says why a file isn't sent. Where memory was refused, there is none.
@@ -111,7 +112,7 @@ fn answer_window<C: Catalogue, W: Windows<C>>(
         → AreOf (W.has windows.old) images → AreOf (W.has windows.new) images }
     ensures holds { Within (W.has windows.old) (C.made catalogue.old)
         → Within (W.has windows.new) (C.made catalogue.new) }
-    ensures unread { (asked : Asked) (b : List ℕ) → asked_by (pairs_of query.now) ≡ Some asked
+    ensures unread { (asked : View) (b : List ℕ) → asked_by (pairs_of query.now) ≡ Some asked
         → W.has windows.old name.now asked b → catalogue.new ≡ catalogue.old }
     ensures memory { IfErr result (λ e. IsMemory e) }
 {

@@ -5,10 +5,10 @@ ghost use Rattle.jk_math.specs.Memory.{IsMemory};
 ghost use Rattle.jk_web.specs.Cuts.{Within, Has, kept_cut};
 ghost use Rattle.jk_web.specs.Keys.{asked_of, kept_in, most_kept};
 
-use crate::catalogue::Catalogue;
-use crate::query::Asked;
 use crate::windows::Windows;
+use jk_catalogue::Catalogue;
 use jk_math::Fault;
+use jk_window::View;
 use lru::LruCache;
 use std::alloc::{AllocError, Global};
 use std::marker::Model;
@@ -68,7 +68,7 @@ impl Cache {
 }
 
 /// The key of a window.
-fn key_of(alloc: Global, name: &[u8], asked: Asked) -> Result<CutKey, AllocError>
+fn key_of(alloc: Global, name: &[u8], asked: View) -> Result<CutKey, AllocError>
     ensures name { IfOk result (λ k. k.name.items ≡ name.now) }
     ensures asked { IfOk result (λ k. asked_of k ≡ asked) }
 {
@@ -108,7 +108,7 @@ fn look(cuts: &mut LruCache<CutKey, Vec<u8>>, key: &CutKey) -> Result<Option<Vec
 
 /// Keeps a window, if memory allows.
 fn keep(cuts: &mut LruCache<CutKey, Vec<u8>>, key: CutKey, cut: Vec<u8>)
-    ensures { (n : List ℕ) (a : Asked) (b : List ℕ) → Has (kept_in cuts.new.entries) n a b
+    ensures { (n : List ℕ) (a : View) (b : List ℕ) → Has (kept_in cuts.new.entries) n a b
         → Has (kept_in cuts.old.entries) n a b ⊎ (kept_cut n a b ≡ kept_cut key.name.items (asked_of key) cut.items) }
 {
     let _ = cuts.put(key, cut);
@@ -116,7 +116,7 @@ fn keep(cuts: &mut LruCache<CutKey, Vec<u8>>, key: CutKey, cut: Vec<u8>)
 
 /// Keeps a copy of a window that isn't too long, if memory allows.
 fn store(cuts: &mut LruCache<CutKey, Vec<u8>>, key: CutKey, cut: &Vec<u8>)
-    ensures { (n : List ℕ) (a : Asked) (b : List ℕ) → Has (kept_in cuts.new.entries) n a b
+    ensures { (n : List ℕ) (a : View) (b : List ℕ) → Has (kept_in cuts.new.entries) n a b
         → Has (kept_in cuts.old.entries) n a b
         ⊎ ((kept_cut n a b ≡ kept_cut key.name.items (asked_of key) cut.now.items)
         × (length cut.now.items ≤ most_kept)) }
@@ -142,7 +142,7 @@ impl<C: Catalogue> Windows<C> for Cache {
         alloc: Global,
         catalogue: &mut C,
         name: &[u8],
-        asked: Asked,
+        asked: View,
     ) -> Result<Vec<u8>, Fault> {
         let key = key_of(alloc, name, asked)?;
         if let Some(kept) = look(&mut self.cuts, &key)? {

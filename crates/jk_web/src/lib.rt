@@ -5,7 +5,6 @@
 mod answering;
 mod budget;
 mod cache;
-mod catalogue;
 mod fields;
 mod head;
 mod octets;
@@ -24,9 +23,9 @@ mod witness;
 
 pub use answering::{answer, answer_with};
 pub use cache::Cache;
-pub use catalogue::Catalogue;
+pub use jk_catalogue::{Catalogue, View as Asked};
 pub use octets::Octets;
-pub use query::{Asked, window_asked};
+pub use query::window_asked;
 pub use reply::{Media, Reply, bad};
 pub use request::Request;
 pub use resource::{NamedResource, resource_of};

@@ -10,24 +10,11 @@ ghost use Rattle.jk_web.specs.Readings.{asked_with};
 
 use form_urlencoded::{parse, raw_pairs};
 use jk_math::Fault;
+use jk_window::View;
 use std::alloc::Global;
 
 /// The most digits of a number.
 const MOST_DIGITS: usize = 10;
-
-/// A window that a query asks for: a rectangle of an image at a reduction, counted from the upper
-/// left sample of the reduced image, in its first layers.
-#[derive(Clone, Copy, Debug, PartialEq, Eq)]
-pub struct Asked {
-    /// How often the image is halved.
-    pub reduce: u32,
-    pub x: u32,
-    pub y: u32,
-    pub width: u32,
-    pub height: u32,
-    /// How many layers; `None`: all.
-    pub layers: Option<u32>,
-}
 
 /// The numbers of a query, as far as they were read.
 #[derive(Clone, Copy)]
@@ -97,10 +84,10 @@ impl Readings {
 
 impl Readings {
     /// The window, where its four sides were read.
-    fn window(self) -> Option<Asked>
+    fn window(self) -> Option<View>
         ensures { result ≡ window_of self.x self.y self.width self.height self.reduce self.layers }
     {
-        Some(Asked {
+        Some(View {
             reduce: self.reduce.unwrap_or(0),
             x: self.x?,
             y: self.y?,
@@ -114,7 +101,7 @@ impl Readings {
 /// The window that a query asks for, by numbers `x`, `y`, `w` and `h`, by `r` where it isn't 0, and
 /// by `layers` where not all are asked for. None where one of the four is missing, one of the six
 /// stands twice, another name stands there, or a value is no number of 1 to 10 digits below 2^32.
-pub fn window_asked(alloc: Global, query: &[u8]) -> Result<Option<Asked>, Fault>
+pub fn window_asked(alloc: Global, query: &[u8]) -> Result<Option<View>, Fault>
     ensures exact { IfOk result (λ window. window ≡ asked_by (pairs_of query.now)) }
     ensures memory { IfErr result (λ e. IsMemory e) }
 {

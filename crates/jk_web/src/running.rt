@@ -13,12 +13,12 @@ ghost use Rattle.jk_web.specs.Behind.{AreSame, HoldsBehind, KnowsBehind};
 
 use crate::answering::{answer, answer_by};
 use crate::cache::Cache;
-use crate::catalogue::Catalogue;
 use crate::reply::Reply;
 use crate::request::Request;
 use crate::service::Service;
 use crate::serving::{End, serve};
 use crate::windows::Windows;
+use jk_catalogue::Catalogue;
 use jk_math::Fault;
 use std::alloc::Global;
 use std::io::{Read, Write};

@@ -4,7 +4,7 @@ ghost use Rattle.std.specs.Prelude.{List, ℕ};
 ghost use Rattle.jk_web.specs.Images.{Image, gives_reply, gives_cached, gives_kept};
 ghost use Rattle.jk_web.specs.Serving.{IsCutText, BeginsText};
 
-use crate::catalogue::Catalogue;
+use jk_catalogue::Catalogue;
 
 /// Where a write has failed, what was written is the beginning of a text of all that is due: of the
 /// replies to all requests that were read, up to the first that closes or to the first bad one.

@@ -4,20 +4,20 @@ ghost use Rattle.std.specs.Prelude.{◌≡◌, ◌⊎◌, List, ℕ, Option, IfO
 ghost use Rattle.jk_web.specs.Images.{Image, image_of, IsCutOf, IsOtherRead, HasNoCut, MayRefuse};
 ghost use Rattle.jk_web.specs.Cuts.{Within, AreOf, IsGiven};
 
-use crate::catalogue::Catalogue;
-use crate::query::Asked;
+use jk_catalogue::Catalogue;
 use jk_math::Fault;
+use jk_window::View;
 use std::alloc::Global;
 
 /// Where the windows of a catalogue come from.
 pub(crate) trait Windows<C: Catalogue> {
-    ghost use Rattle.jk_web.specs.declared.query.Asked.{Asked};
+    ghost use Rattle.jk_window.specs.declared.view.View.{View};
 
     // It has such a cut for the image of this name.
-    ghost has: { Self → List ℕ → Asked → List ℕ → Type 0 };
+    ghost has: { Self → List ℕ → View → List ℕ → Type 0 };
 
     // Between two states of the catalogue such a cut may be given in the place of the image's.
-    ghost others: { Option Image → C → List ℕ → Asked → C → List ℕ → Type 0 };
+    ghost others: { Option Image → C → List ℕ → View → C → List ℕ → Type 0 };
 
     /// The file of a window of an image.
     fn window(
@@ -25,7 +25,7 @@ pub(crate) trait Windows<C: Catalogue> {
         alloc: Global,
         catalogue: &mut C,
         name: &[u8],
-        asked: Asked,
+        asked: View,
     ) -> Result<Vec<u8>, Fault>
         // Where each cut that it has may have been made.
         ensures gives { (images : List Image) → C.stands catalogue.old images
@@ -44,7 +44,7 @@ pub(crate) trait Windows<C: Catalogue> {
         // A cut that it has is given without a look at the catalogue.
         ensures unread { (b : List ℕ) → has self.old name.now asked b → catalogue.new ≡ catalogue.old }
         // It takes up at most what it gives.
-        ensures has { (n : List ℕ) (a : Asked) (b : List ℕ) → has self.new n a b
+        ensures has { (n : List ℕ) (a : View) (b : List ℕ) → has self.new n a b
             → has self.old n a b ⊎ IsGiven result name.now asked n a b }
         ensures stands { (images : List Image) → C.stands catalogue.old images → C.stands catalogue.new images }
         ensures keeps { (images : List Image) → C.keeps catalogue.old images → C.keeps catalogue.new images }
@@ -66,7 +66,7 @@ impl<C: Catalogue> Windows<C> for Direct {
         alloc: Global,
         catalogue: &mut C,
         name: &[u8],
-        asked: Asked,
+        asked: View,
     ) -> Result<Vec<u8>, Fault> {
         catalogue.window(alloc, name, asked)
     }

@@ -105,6 +105,18 @@ pub struct Adding<'a> {
     pub kept: Kept<'a>,
 }
 
+/// `jk add DIR --all PATHS..`.
+#[derive(Drop)]
+pub struct AddingAll<'a> {
+    pub folder: &'a str,
+    /// The files of the images.
+    pub paths: Vec<&'a str>,
+    /// How many workers there are to be.
+    pub workers: u32,
+    pub options: EncodeOptions,
+    pub kept: Kept<'a>,
+}
+
 /// `jk check DIR`.
 #[derive(Drop)]
 pub struct Checking<'a> {
@@ -143,6 +155,7 @@ pub enum Command<'a> {
     Dress(Dressing<'a>),
     Extras(Listing<'a>),
     Add(Adding<'a>),
+    AddAll(AddingAll<'a>),
     Check(Checking<'a>),
     Serve(Server<'a>),
     Faults,
@@ -304,6 +317,28 @@ fn kept_words<'a>(alloc: Global, line: &ArgMatches<'a>) -> Result<Kept<'a>, Allo
     })
 }
 
+/// What `jk add` is asked: one image is added, or those of several files.
+fn to_add<'a>(alloc: Global, line: &ArgMatches<'a>) -> Result<Command<'a>, AllocError> {
+    let Some(given) = line.get_strs("all") else {
+        return Ok(Command::Add(Adding {
+            folder: folder(line),
+            name: word(line, "NAME", ""),
+            input: input(line),
+            options: options(alloc, line)?,
+            kept: kept_words(alloc, line)?,
+        }));
+    };
+    let mut paths = Vec::new(alloc);
+    paths.extend_from_slice(given)?;
+    Ok(Command::AddAll(AddingAll {
+        folder: folder(line),
+        paths,
+        workers: workers(line),
+        options: options(alloc, line)?,
+        kept: kept_words(alloc, line)?,
+    }))
+}
+
 /// What `jk serve` is asked.
 fn served<'a>(line: &ArgMatches<'a>) -> Server<'a> {
     Server {
@@ -352,13 +387,7 @@ fn asked<'a>(alloc: Global, name: Name, line: &ArgMatches<'a>) -> Result<Command
             input: input(line),
             taken: kept_words(alloc, line)?,
         }),
-        Name::Add => Command::Add(Adding {
-            folder: folder(line),
-            name: word(line, "NAME", ""),
-            input: input(line),
-            options: options(alloc, line)?,
-            kept: kept_words(alloc, line)?,
-        }),
+        Name::Add => to_add(alloc, line)?,
         Name::Check => Command::Check(Checking {
             folder: folder(line),
             against: line.get_str("against"),

@@ -57,7 +57,13 @@ what the first K layers of the old file give.";
 /// What `jk add` does.
 const ADD_HELP: &str = "\
 The archive is a folder that exists. The image is written there as NAME.tmp, which then becomes
-NAME.jp2; a name that is taken is refused. Nothing is printed.";
+NAME.jp2; a name that is taken is refused. Nothing is printed. Others wait for the folder while a
+file is written, and not while its image is encoded.
+
+With --all the image of each of the files is added under the name of the file without its folder and
+its extension. For each a line is printed in the order of PATHS, `added NAME`, or `refused NAME FAULT`
+as where NAME isn't a name or is taken, the file can't be read, or isn't a PGM or PPM file; the others
+are added all the same. The status is 1 where one was refused.";
 
 /// What `jk check` writes.
 const CHECK_HELP: &str = "\
@@ -85,6 +91,13 @@ standard input have ended.";
 pub(crate) enum Form<'a> {
     /// A word that is required, by its place.
     Place,
+    /// The same, unless the files of several images are given.
+    PlaceOfOne,
+    /// The files of several images, by what stands for them.
+    Paths(&'a str),
+    /// An option with a number, and what stands where it isn't given, beside the files of several
+    /// images alone.
+    DefaultOfPaths(&'a str, &'a str),
     /// An option without a value.
     Flag,
     /// An option with a number, and the letter for it.
@@ -134,6 +147,12 @@ const WORKERS: Word<'static> = Word(
 
 /// The numbers of a window.
 static WINDOW: [&str; 4] = ["x", "y", "w", "h"];
+
+/// The option that is followed by the files of several images.
+const ALL: &str = "all";
+
+/// The name of one image that is added.
+const ONE_NAME: &str = "NAME";
 
 /// The folder of an archive.
 const FOLDER: Word<'static> = Word("DIR", Form::Place, "The folder of the archive");
@@ -506,23 +525,37 @@ fn cut<'a>(alloc: Global) -> Result<Command<'a>, AllocError> {
 }
 
 /// The words of `jk add` before its options.
-static ADD_WORDS: [Word<'static>; 4] = [
+static ADD_WORDS: [Word<'static>; 6] = [
     FOLDER,
     Word(
-        "NAME",
-        Form::Place,
+        ONE_NAME,
+        Form::PlaceOfOne,
         "The name of the image: 1 to 64 of a to z, 0 to 9, - and _",
     ),
-    PIXELS,
+    Word(
+        "IN",
+        Form::PlaceOfOne,
+        "The PGM or PPM file, or - for standard input",
+    ),
+    Word(
+        ALL,
+        Form::Paths("PATHS"),
+        "Add the images of these PGM or PPM files, each under the name of its file; in the place of NAME and IN",
+    ),
+    Word(
+        "workers",
+        Form::DefaultOfPaths("N", "1"),
+        "With --all, how many images to encode at a time, 1 to 64; what is added and printed is the same",
+    ),
     QUIET,
 ];
 
-/// `jk add DIR NAME IN`.
+/// `jk add DIR NAME IN` and `jk add DIR --all PATHS..`.
 fn add<'a>(alloc: Global, defaults: &'a Defaults) -> Result<Command<'a>, AllocError> {
     let command = explained(
         alloc,
         "add",
-        "Adds a PGM or PPM file to an archive",
+        "Adds a PGM or PPM file, or many, to an archive",
         ADD_HELP,
     );
     let command = with_words(alloc, command, &ADD_WORDS)?;
@@ -574,7 +607,7 @@ static SERVE_WORDS: [Word<'static>; 8] = [
     Word(
         "workers",
         Form::Default("N", "1"),
-        "How many connections to serve at a time, 1 to 64",
+        "How many connections to serve, and at the start files to judge, at a time, 1 to 64",
     ),
     Word(
         "timeout",
@@ -616,6 +649,13 @@ fn arg<'a>(alloc: Global, word: Word<'a>) -> Result<Arg<'a>, AllocError> {
     let Word(name, form, help) = word;
     let arg = match form {
         Form::Place => Arg::new(alloc, name).required(true),
+        Form::PlaceOfOne => Arg::new(alloc, name)
+            .required_unless_present(ALL)?
+            .conflicts_with(ALL)?,
+        Form::Paths(value) => repeated(alloc, name, value).num_args(1..),
+        Form::DefaultOfPaths(letter, value) => number(alloc, name, letter)
+            .default_value(value)
+            .conflicts_with(ONE_NAME)?,
         Form::Flag => named(alloc, name).action(ArgAction::SetTrue),
         Form::Number(letter) => number(alloc, name, letter),
         Form::Required => number(alloc, name, "N").required(true),

@@ -14,12 +14,12 @@ mod profiles;
 mod progress;
 
 pub use asked::{
-    Adding, Checking, Command, Cutting, Decoding, Dressing, Encoding, Kept, Line, Listing, Server,
-    Telling, Text, Unasked, read_line,
+    Adding, AddingAll, Checking, Command, Cutting, Decoding, Dressing, Encoding, Kept, Line,
+    Listing, Server, Telling, Text, Unasked, read_line,
 };
 pub use defaults::Defaults;
 pub use faults::{FaultLine, cause_of, fault_lines};
 pub use features::left_out;
 pub use limits::bad_option;
 pub use profiles::{bad_profile, components_told};
-pub use progress::{Progress, Work};
+pub use progress::{FilesProgress, Progress, Work};

@@ -1,4 +1,4 @@
-//! How far work on an image is, in words.
+//! How far work on an image is, or on several files, in words.
 
 use std::fmt;
 
@@ -25,6 +25,17 @@ pub struct Progress {
     pub coded: u64,
     /// How many bytes of the new file were written.
     pub written: u64,
+}
+
+/// How far work on several files is.
+#[derive(Clone, Copy, Debug, PartialEq, Eq)]
+pub struct FilesProgress {
+    /// How many files are done.
+    pub done: u64,
+    /// How many there are.
+    pub files: u64,
+    /// For how many seconds it has gone on.
+    pub seconds: u64,
 }
 
 /// A number of bytes, told in megabytes.
@@ -62,5 +73,12 @@ impl fmt::Display for Progress {
             write!(f, ", {written} written")?;
         }
         Ok(())
+    }
+}
+
+impl fmt::Display for FilesProgress {
+    fn fmt<W: fmt::Write>(&self, f: &mut fmt::Formatter<W>) -> fmt::Result {
+        let (done, files) = (self.done, self.files);
+        write!(f, "jk: {done} of {files} files, {} s", self.seconds)
     }
 }

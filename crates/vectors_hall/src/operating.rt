@@ -124,7 +124,7 @@ fn answered<R: Wait>(
 }
 
 /// Lines, whether the folder is locked, what is answered, and whether the input fails behind them.
-static CASES: [(&[u8], bool, &[u8], bool); 5] = [
+static CASES: [(&[u8], bool, &[u8], bool); 6] = [
     (
         b"add d p\nadd d p\nx\n",
         false,
@@ -139,7 +139,19 @@ static CASES: [(&[u8], bool, &[u8], bool); 5] = [
         b"refused D F19 BadName\nrefused a F18 NameTaken\nrefused c F18 NameTaken\nrefused pipe F18 NameTaken\nrefused e F14 BadPnm\nrefused e F20 Shelf\nrefused e F20 Shelf\nrefused  F19 BadName\n",
         false,
     ),
-    (b"add d p\n", true, b"refused d F20 Shelf\n", false),
+    // What is taken by now is refused without the lock.
+    (
+        b"add d p\nadd c p\n",
+        true,
+        b"refused d F20 Shelf\nrefused c F18 NameTaken\n",
+        false,
+    ),
+    (
+        b"add pipe p\n",
+        true,
+        b"refused pipe F18 NameTaken\n",
+        false,
+    ),
     (b"add d p\nadd e p", false, b"added d\n", true),
 ];
 

@@ -65,7 +65,7 @@ static NINE_SEVEN: &str =
 00000000 00000000 0001 07 01 01 FF52 000C 00 00 0001 00 00 04 04 00 00";
 
 /// The file of the grey pixel without levels.
-fn pixel() -> [&'static str; 6] {
+pub(crate) fn pixel() -> [&'static str; 6] {
     [
         BOXES,
         "FF4F",

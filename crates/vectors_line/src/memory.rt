@@ -1,7 +1,7 @@
 //! A world in memory.
 
 use jk_jobs::Gate;
-use jk_line::{Serving, Work, World, listening};
+use jk_line::{Folders, Serving, Streams, Work, Working, listening};
 use jk_math::Fault;
 use jk_store::{Archive, MemoryShelf};
 use std::alloc::Global;
@@ -41,6 +41,12 @@ pub(crate) struct Memory<'a, R> {
     pub(crate) counter: Counter,
     pub(crate) begun: Vec<(Work, u64)>,
     pub(crate) ended: usize,
+    /// Of how many files the last work is, and how many of them are done.
+    pub(crate) files_begun: u64,
+    pub(crate) files_ended: u64,
+    /// Whether the folder is locked, and how often it was.
+    pub(crate) is_locked: bool,
+    pub(crate) locks: usize,
     /// How many outputs were asked for that are held.
     pub(crate) held: usize,
     said: Option<io::Error>,
@@ -65,6 +71,10 @@ impl<'a, R> Memory<'a, R> {
             },
             begun: Vec::new(alloc),
             ended: 0,
+            files_begun: 0,
+            files_ended: 0,
+            is_locked: false,
+            locks: 0,
             held: 0,
             said: None,
         }
@@ -111,34 +121,8 @@ impl Write for Written {
     }
 }
 
-impl<'a, R: Threads + Sync> World for Memory<'a, R> {
-    type Folder = MemoryShelf;
-
+impl<'a, R: Threads + Sync> Streams for Memory<'a, R> {
     type Output = Written;
-
-    type Runtime = R;
-
-    type Counter = Counter;
-
-    fn runtime(&self) -> &R {
-        self.rt
-    }
-
-    fn counter(&self) -> &Counter {
-        &self.counter
-    }
-
-    fn be_quiet(&mut self) {
-        self.is_quiet = true;
-    }
-
-    fn begin_work(&mut self, work: Work, size: u64) {
-        let _ = self.begun.push((work, size));
-    }
-
-    fn end_work(&mut self) {
-        self.ended = self.ended.saturating_add(1);
-    }
 
     fn read(&mut self, alloc: Global, name: &str) -> Result<Vec<u8>, Fault> {
         if name == "-" {
@@ -200,8 +184,50 @@ impl<'a, R: Threads + Sync> World for Memory<'a, R> {
     fn said(&self) -> Option<io::Error> {
         self.said
     }
+}
+
+impl<'a, R: Threads + Sync> Working for Memory<'a, R> {
+    type Runtime = R;
+
+    type Counter = Counter;
+
+    fn runtime(&self) -> &R {
+        self.rt
+    }
+
+    fn counter(&self) -> &Counter {
+        &self.counter
+    }
+
+    fn be_quiet(&mut self) {
+        self.is_quiet = true;
+    }
+
+    fn begin_work(&mut self, work: Work, size: u64) {
+        let _ = self.begun.push((work, size));
+    }
+
+    fn begin_files(&mut self, files: u64) {
+        self.files_begun = files;
+    }
+
+    fn end_file<D: Display>(&mut self, text: &D) -> Result<(), Fault> {
+        self.print(text)?;
+        self.files_ended = self.files_ended.saturating_add(1);
+        Ok(())
+    }
+
+    fn end_work(&mut self) {
+        self.ended = self.ended.saturating_add(1);
+    }
+}
+
+impl<'a, R: Threads + Sync> Folders for Memory<'a, R> {
+    type Folder = MemoryShelf;
 
     fn lock(&mut self, _alloc: Global, _folder: &str) -> Result<(), Fault> {
+        self.is_locked = true;
+        self.locks = self.locks.saturating_add(1);
         Ok(())
     }
 
@@ -209,7 +235,9 @@ impl<'a, R: Threads + Sync> World for Memory<'a, R> {
         Ok(())
     }
 
-    fn release(&mut self) {}
+    fn release(&mut self) {
+        self.is_locked = false;
+    }
 
     fn folder(&mut self, _alloc: Global, folder: &str) -> Result<MemoryShelf, Fault> {
         match self.folders.remove(folder) {

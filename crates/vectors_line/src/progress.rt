@@ -3,15 +3,16 @@
 use crate::lines::{COLUMN, GREY};
 use crate::memory::Memory;
 use crate::runs::{bytes, run_line, world_of};
-use jk_line::{Progress, Status, Work};
+use jk_line::{FilesProgress, Progress, Status, Work};
 use std::alloc::Global;
+use std::fmt::Display;
 use std::process::Abort;
 use std::sync::atomic::Ordering;
 use std::thread::Threads;
 use vectors::{equal, equal_at};
 
 /// Checks the words of how far work is.
-fn check_words(rt: &impl Abort, alloc: Global, progress: Progress, words: &str) {
+fn check_words<P: Display + Copy>(rt: &impl Abort, alloc: Global, progress: P, words: &str) {
     let text = format!(in alloc; "{progress}").expect(rt, "a text");
     equal(text.as_str(), words).expect(rt, "how far work is");
 }
@@ -41,6 +42,17 @@ fn progress_in_words(rt: HostRuntime) {
         progress,
         "jk: decoding 0.0 MB, 12 s, 1234.5 MB written",
     )
+}
+
+/// Of files it is told how many are done.
+#[test]
+fn progress_of_files_in_words(rt: HostRuntime) {
+    let progress = FilesProgress {
+        done: 12,
+        files: 300,
+        seconds: 34,
+    };
+    check_words(&rt, rt.alloc(), progress, "jk: 12 of 300 files, 34 s")
 }
 
 /// Command lines over an input, and of what work, on how many bytes, the world is told.

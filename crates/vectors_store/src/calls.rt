@@ -3,13 +3,15 @@
 
 use crate::contents::Content;
 use jk_extras::Extras;
+use jk_jobs::Gate;
 use jk_marks::Order;
 use jk_math::{Fault, Image, Style};
 use jk_params::{Container, Parameters};
-use jk_store::{Archive, Entry, HashedParts, MemoryShelf, Shelf};
+use jk_store::{Archive, Encoded, Entry, HashedParts, MemoryShelf, Prepared, Shelf};
 use jk_window::View;
 use std::alloc::Global;
 use std::sync::Arc;
+use std::thread::Threads;
 
 /// An image of one grey sample.
 fn pixel(alloc: Global, sample: i32) -> Result<Image, Fault> {
@@ -110,6 +112,16 @@ pub(crate) fn open<S: Shelf + Drop>(alloc: Global, shelf: S) -> Result<Archive<S
     Archive::open(alloc, shelf)
 }
 
+pub(crate) fn open_with<S: Shelf + Drop, R: Threads + Sync, G: Gate + Sync>(
+    rt: &R,
+    alloc: Global,
+    workers: usize,
+    gate: &G,
+    shelf: S,
+) -> Result<Archive<S>, Fault> {
+    Archive::open_with(rt, alloc, workers, gate, shelf)
+}
+
 /// An archive in memory of these files.
 pub(crate) fn archive_of(
     alloc: Global,
@@ -193,6 +205,50 @@ pub(crate) fn refusal_with<S: Shelf>(
     parameters: &Parameters,
 ) -> Option<Fault> {
     add_with(archive, alloc, name, parameters).err()
+}
+
+/// A grey sample of 128 that is encoded with these parameters, and what its file is to keep.
+pub(crate) fn encoded(
+    alloc: Global,
+    name: &str,
+    parameters: &Parameters,
+    extras: Option<&Extras>,
+) -> Result<Encoded, Fault> {
+    let image = pixel(alloc, 128)?;
+    match extras {
+        Some(extras) => Encoded::with_extras(alloc, name, &image, parameters, extras),
+        None => Encoded::new(alloc, name, &image, parameters),
+    }
+}
+
+/// The same with its entry.
+pub(crate) fn prepared(
+    alloc: Global,
+    name: &str,
+    parameters: &Parameters,
+    extras: Option<&Extras>,
+) -> Result<Prepared, Fault> {
+    let image = pixel(alloc, 128)?;
+    match extras {
+        Some(extras) => Prepared::with_extras(alloc, name, &image, parameters, extras),
+        None => Prepared::new(alloc, name, &image, parameters),
+    }
+}
+
+pub(crate) fn store<S: Shelf>(
+    encoded: &Encoded,
+    alloc: Global,
+    shelf: &mut S,
+) -> Result<(), Fault> {
+    encoded.store(alloc, shelf)
+}
+
+pub(crate) fn add_prepared<S: Shelf>(
+    archive: &mut Archive<S>,
+    alloc: Global,
+    prepared: Prepared,
+) -> Result<Arc<Entry>, Fault> {
+    archive.add_prepared(alloc, prepared)
 }
 
 pub(crate) fn whole<S: Shelf>(

@@ -13,7 +13,7 @@ use std::rt::Files;
 use vectors::{drawn, kilobytes};
 
 /// The JP2 file of one sample, and behind it a box of so many bytes of text (T.800 I.7.1).
-fn noted(rt: &impl Abort, alloc: Global, size: u32) -> Vec<u8> {
+pub(crate) fn noted(rt: &impl Abort, alloc: Global, size: u32) -> Vec<u8> {
     let mut file = bytes(rt, alloc, Content::Page);
     put(rt, &mut file, &size.saturating_add(8).to_be_bytes());
     put(rt, &mut file, b"xml ");

@@ -10,7 +10,7 @@ use std::alloc::Global;
 use std::process::Abort;
 
 /// XML of four bytes, and a profile where there is one, which is none.
-fn asked(rt: &impl Abort, alloc: Global, profile: Option<u8>) -> Extras {
+pub(crate) fn asked(rt: &impl Abort, alloc: Global, profile: Option<u8>) -> Extras {
     let mut extras = Extras::none(alloc);
     if let Some(byte) = profile {
         extras.colour = Colour::Profile(Vec::from_slice(alloc, &[byte]).expect(rt, "bytes"));

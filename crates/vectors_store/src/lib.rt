@@ -30,9 +30,13 @@ mod limits;
 #[cfg(test)]
 mod loopback;
 #[cfg(test)]
+mod opened_with;
+#[cfg(test)]
 mod opening;
 #[cfg(test)]
 mod parts;
+#[cfg(test)]
+mod prepared;
 #[cfg(test)]
 mod reading;
 #[cfg(test)]

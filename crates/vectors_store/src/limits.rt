@@ -1,17 +1,17 @@
 //! How many images an archive may have.
 
 use crate::asserts::equal;
-use crate::calls::{self, plain, refusal_with};
+use crate::calls::{self, add_prepared, plain, refusal_with};
 use crate::contents::Content;
 use crate::shelves::alike;
-use crate::sure::{bytes, open};
+use crate::sure::{bytes, open, prepared};
 use jk_math::Fault;
 use jk_params::Container;
 use std::alloc::Global;
 use std::process::Abort;
 
 /// The faults of adding to an archive of 4,096 images, and how many there are then.
-fn add_to_full(rt: &impl Abort, alloc: Global) -> ([Option<Fault>; 3], usize) {
+fn add_to_full(rt: &impl Abort, alloc: Global) -> ([Option<Fault>; 6], usize) {
     let bytes = bytes(rt, alloc, Content::Page);
     let raw = plain(alloc, Container::Raw);
     let mut archive = open(rt, alloc, alike(4096, bytes));
@@ -19,6 +19,9 @@ fn add_to_full(rt: &impl Abort, alloc: Global) -> ([Option<Fault>; 3], usize) {
         refusal_with(&mut archive, alloc, "A", &raw),
         refusal_with(&mut archive, alloc, "4095", &raw),
         refusal_with(&mut archive, alloc, "4096", &raw),
+        add_prepared(&mut archive, alloc, prepared(rt, alloc, "A", &raw, None)).err(),
+        add_prepared(&mut archive, alloc, prepared(rt, alloc, "4095", &raw, None)).err(),
+        add_prepared(&mut archive, alloc, prepared(rt, alloc, "4096", &raw, None)).err(),
     ];
     (faults, archive.list().len())
 }
@@ -27,6 +30,9 @@ fn add_to_full(rt: &impl Abort, alloc: Global) -> ([Option<Fault>; 3], usize) {
 fn full_archives(rt: HostRuntime) {
     let answer = add_to_full(&rt, rt.alloc());
     let faults = [
+        Some(Fault::BadName),
+        Some(Fault::NameTaken),
+        Some(Fault::Limit),
         Some(Fault::BadName),
         Some(Fault::NameTaken),
         Some(Fault::Limit),

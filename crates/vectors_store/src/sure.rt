@@ -3,7 +3,9 @@
 
 use crate::calls;
 use crate::contents::Content;
-use jk_store::{Archive, Entry, MemoryShelf, Shelf};
+use jk_extras::Extras;
+use jk_params::Parameters;
+use jk_store::{Archive, Encoded, Entry, MemoryShelf, Prepared, Shelf};
 use std::alloc::Global;
 use std::process::Abort;
 use std::sync::Arc;
@@ -47,6 +49,28 @@ pub(crate) fn add<S: Shelf>(
     sample: i32,
 ) -> Arc<Entry> {
     calls::add(archive, alloc, name, sample).expect(rt, "an image")
+}
+
+/// A grey sample of 128 that is encoded with these parameters, and what its file is to keep.
+pub(crate) fn encoded(
+    rt: &impl Abort,
+    alloc: Global,
+    name: &str,
+    parameters: &Parameters,
+    extras: Option<&Extras>,
+) -> Encoded {
+    calls::encoded(alloc, name, parameters, extras).expect(rt, "an image")
+}
+
+/// The same with its entry.
+pub(crate) fn prepared(
+    rt: &impl Abort,
+    alloc: Global,
+    name: &str,
+    parameters: &Parameters,
+    extras: Option<&Extras>,
+) -> Prepared {
+    calls::prepared(alloc, name, parameters, extras).expect(rt, "an image")
 }
 
 /// The names that are listed, with a space behind each.

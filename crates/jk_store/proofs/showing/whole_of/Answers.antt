@@ -1,7 +1,7 @@
 use Rattle.std.proofs.Common.{◌≡◌, Some, map, inl, inr, sym, ap, ◌∙◌}
 use Rattle.std.specs.Arc.{arc_value}
 use Rattle.jk_math.specs.Steps.{if_ok}
-use Rattle.jk_web.specs.Images.{image_of}
+use Rattle.jk_catalogue.specs.Images.{image_of}
 use Rattle.jk_store.specs.Catalogue.{entry_of}
 use Rattle.jk_store.specs.Showing.{Broke, Reads}
 use Rattle.jk_store.proofs.ShowingLaws.{absent_image, shown_at, kept_file, keeps_on, whole_given, whole_kept}

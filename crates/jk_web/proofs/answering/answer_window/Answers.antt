@@ -1,5 +1,5 @@
 use Rattle.std.proofs.Common.{◌≡◌, inl, true, Some, is_some, IfOk, sym, subst, ◌∙◌}
-use Rattle.jk_web.specs.declared.query.Asked.{Asked}
+use Rattle.jk_window.specs.declared.view.View.{View}
 use Rattle.jk_web.specs.Resources.{window}
 use Rattle.jk_web.specs.Queries.{pairs_of, asked_by}
 use Rattle.jk_web.specs.Images.{image_of, HasNoCut, IsReplyAtWith, IsKeptReplyAt}
@@ -67,10 +67,10 @@ pub returns-in-Ok-clause-unread : goal.returns-in-Ok-clause-unread
 returns-in-Ok-clause-unread g c = λ asked b is has.
     let same : Some asked ≡ Some c.in-Some.asked = sym is ∙ sym c.in_ok-asked.ensures.exact ∙ c.in-Some.is in
     let own : asked ≡ c.in-Some.asked = cc in
-    c.window.ensures.unread b (subst (λ (a : Asked). g.W.Windows.has c.args.windows.now c.args.name.now a b) own has)
+    c.window.ensures.unread b (subst (λ (a : View). g.W.Windows.has c.args.windows.now c.args.name.now a b) own has)
 
 pub returns-in-Err-clause-unread : goal.returns-in-Err-clause-unread
 returns-in-Err-clause-unread g c = λ asked b is has.
     let same : Some asked ≡ Some c.in-Some.asked = sym is ∙ sym c.in_ok-asked.ensures.exact ∙ c.in-Some.is in
     let own : asked ≡ c.in-Some.asked = cc in
-    c.window.ensures.unread b (subst (λ (a : Asked). g.W.Windows.has c.args.windows.now c.args.name.now a b) own has)
+    c.window.ensures.unread b (subst (λ (a : View). g.W.Windows.has c.args.windows.now c.args.name.now a b) own has)

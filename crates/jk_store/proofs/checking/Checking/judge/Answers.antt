@@ -11,7 +11,7 @@ pub returns-in_err-more-clause-err : goal.returns-in_err-more-clause-err
 returns-in_err-more-clause-err g c =
     let fault = c.in_err-more.field-0.0 in
     let due = c.in_err-more.ensures.given c.requires.some c.requires.most in
-    fault_is c.from_residual.result fault c.from_residual.ensures.1 IsMemory (judging_memory c.deref.result.now fault due)
+    fault_is c.from_residual.result fault c.from_residual.ensures.1 IsMemory (judging_memory IsJudged (λ j e memory. memory) c.deref.result.now fault due)
 
 pub returns-clause-taken : goal.returns-clause-taken
 returns-clause-taken g c = λ given blocks taken.

@@ -3,16 +3,15 @@
 ghost use Rattle.std.specs.Prelude.{◌≡◌, ◌⊎◌, List, ℕ, is_some, MatchResult, IfOk, IfErr};
 ghost use Rattle.std.specs.List.{flat_map};
 ghost use Rattle.jk_math.specs.Memory.{IsMemory};
-ghost use Rattle.jk_web.specs.Images.{Image, image_of, IsFileOf, IsCutOf, IsFileGiven, IsCutGiven, HasNoCut, MayRefuse};
-ghost use Rattle.jk_web.specs.Cuts.{Within};
+ghost use Rattle.jk_catalogue.specs.Images.{Image, image_of, IsFileOf, IsCutOf, IsFileGiven, IsCutGiven, HasNoCut, MayRefuse, Within};
 
-use crate::query::Asked;
 use jk_math::Fault;
+use jk_window::View;
 use std::alloc::Global;
 
 /// Images that are listed, and whose files can be read.
 pub trait Catalogue {
-    ghost use Rattle.jk_web.specs.declared.query.Asked.{Asked};
+    ghost use Rattle.jk_window.specs.declared.view.View.{View};
 
     // It stands for these images, in order.
     ghost stands: { Self → List Image → Type 0 };
@@ -29,10 +28,10 @@ pub trait Catalogue {
 
     // Between the two such a window was cut of what was read for the image of this name, and taken
     // for the image's.
-    ghost cuts: { Self → List ℕ → Asked → Self → List ℕ → Type 0 };
+    ghost cuts: { Self → List ℕ → View → Self → List ℕ → Type 0 };
 
     // For the image of this name such a cut may have been made, of what was taken for the image's.
-    ghost made: { Self → List ℕ → Asked → List ℕ → Type 0 };
+    ghost made: { Self → List ℕ → View → List ℕ → Type 0 };
 
     // From the first state it may come to the second.
     ghost steps: { Self → Self → Type 0 };
@@ -61,7 +60,7 @@ pub trait Catalogue {
         ensures steps { steps self.old self.new };
 
     /// The file of a window of an image.
-    fn window(&mut self, alloc: Global, name: &[u8], asked: Asked) -> Result<Vec<u8>, Fault>
+    fn window(&mut self, alloc: Global, name: &[u8], asked: View) -> Result<Vec<u8>, Fault>
         ensures gives { (images : List Image) → stands self.old images → MatchResult result
             (λ v. IsCutGiven (image_of name.now images) asked cuts self.old name.now self.new v.items)
             (λ e. MayRefuse (image_of name.now images) (broke self.old name.now self.new)

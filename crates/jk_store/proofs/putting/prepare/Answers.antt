@@ -1,7 +1,0 @@
-use Rattle.std.proofs.Common.{◌≡◌, Ok, subst, sym}
-use Rattle.jk_window.specs.Indexing.{IndexFields}
-use Rattle.jk_store.specs.Catalogue.{image_at}
-use Rattle.jk_store.proofs.putting.prepare.Goals as goal
-
-pub entry_of-requires : goal.entry_of-requires
-entry_of-requires c = subst (λ b. (i : IndexFields) × (image_at b ≡ Ok i)) (sym c.deref.ensures.value) c.requires
