@@ -8,7 +8,7 @@ use Rattle.jk_bits.specs.Stuffing.{spread}
 use Rattle.jk_bits.specs.Reading.{Bits, ahead, first_bit, bit_at}
 
 -- the reader gives these bits, and no more
-pub record Gives (old : Bits) (bits : List Bool) (new : Bits) : Type 0 where
+pub record GivesBits (old : Bits) (bits : List Bool) (new : Bits) : Type 0 where
   pub first : ahead old ≡ bits ++ ahead new
   pub moved : new ≡ record old { read = old.read + length bits }
 
@@ -24,14 +24,14 @@ pub ahead_on : (r : Bits) (bits rest : List Bool) → ahead r ≡ bits ++ rest �
 ahead_on r bits rest h = ahead-advance r (length bits) ∙ ap (drop (length bits)) h
     ∙ drop_at bits rest (length bits) refl
 
-pub gives_on : (r : Bits) (bits rest : List Bool) → ahead r ≡ bits ++ rest → Gives r bits (advance r (length bits))
+pub gives_on : (r : Bits) (bits rest : List Bool) → ahead r ≡ bits ++ rest → GivesBits r bits (advance r (length bits))
 gives_on r bits rest h =
     record { first = h ∙ ap (λ (xs : List Bool). bits ++ xs) (sym (ahead_on r bits rest h)); moved = refl }
 
-pub gives_none : (r : Bits) → Gives r [] r
+pub gives_none : (r : Bits) → GivesBits r [] r
 gives_none r = record { first = refl; moved = ap (λ n. record r { read = n }) (sym (add-zero r.read)) }
 
-pub gives_join : (a b c : Bits) (xs ys : List Bool) → Gives a xs b → Gives b ys c → Gives a (xs ++ ys) c
+pub gives_join : (a b c : Bits) (xs ys : List Bool) → GivesBits a xs b → GivesBits b ys c → GivesBits a (xs ++ ys) c
 gives_join a b c xs ys g h = record {
   first = g.first ∙ ap (λ (zs : List Bool). xs ++ zs) h.first ∙ sym (append_assoc xs ys (ahead c));
   moved =
@@ -53,7 +53,7 @@ bit_from a (b ∷ bs) r h e =
     )
 
 -- A bit that is read.
-pub gives_bit : (a : Bits) (r : Bool × Bits) → bit_at a ≡ Ok r → Gives a (r.0 ∷ []) r.1
+pub gives_bit : (a : Bits) (r : Bool × Bits) → bit_at a ≡ Ok r → GivesBits a (r.0 ∷ []) r.1
 unfolding bit_at
 gives_bit a r e =
     let f = bit_from a (ahead a) r refl e in
@@ -73,7 +73,7 @@ reads_same f g old new (Err x) e h = e ∙ h
 
 -- the reader goes on by the bits that it gave
 abbrev pub Moves : Bits → Bits → Type 0
-Moves old new = (bits : List Bool) × Gives old bits new
+Moves old new = (bits : List Bool) × GivesBits old bits new
 
 pub stays : (r : Bits) → Moves r r
 stays r = ([], gives_none r)

@@ -7,7 +7,7 @@ use Rattle.std.proofs.lemmas.Nat.{pow_pos, div-mul-add}
 use Rattle.jk_scan.specs.declared.shape.BlockShape.{BlockShape}
 use Rattle.jk_scan.specs.Neighbours.{Field, is_inside}
 use Rattle.jk_scan.specs.Moments.{number, visits, old, spread, pass_of, moment, is_coded, significant}
-use Rattle.jk_scan.specs.Passes.{Plane, is_one}
+use Rattle.jk_scan.specs.Passes.{BlockAtPlane, is_one}
 use Rattle.jk_scan.proofs.Laws.{moment_is, significant_is, cases_of, Agree, agree_spread, agree_coded, agree_significant, agree_before, agree_joined, place_one, significant_later, number_first, moment_spread}
 use Rattle.jk_block.specs.Reading.{Progress}
 use Rattle.jk_block.proofs.Stages.{mags, Cut, Like}
@@ -186,7 +186,7 @@ change_cut s b t pass x y z z' bit cut due c =
         (λ e. cases_of s (mags s b z) x y (λ w. absurd (let q = w.pass_is in omega arith)) (λ w. w.spread_is) (λ w. absurd (let q = w.pass_is in omega arith)))
         (λ e. cases_of s (mags s b z) x y (λ w. w.spread_is) (λ w. absurd (let q = w.pass_is in grind (arith, nat_tests))) (λ w. w.spread_is))
 
-pub like_before : (s : BlockShape) (b t u : ℕ) (z : Progress) (p : Plane) → t ≤ u → Like s b u z p → Like s b t z p
+pub like_before : (s : BlockShape) (b t u : ℕ) (z : Progress) (p : BlockAtPlane) → t ≤ u → Like s b u z p → Like s b t z p
 like_before s b t u z p h l = record {
   agree = agree_before s (mags s b z) p.magnitude u t l.agree h;
   outside = l.outside;
@@ -202,7 +202,7 @@ some_magnitude s b z x y h = inside_or (is_inside s x y)
     by_size zero a e h = absurd (let f : 0 / 2 ^ b ≡ 0 = omega arith in grind (arith, nat_tests))
     by_size (suc m) a e h = grind (arith, nat_tests)
 
-pub change_back : (s : BlockShape) (b t pass x y : ℕ) (z z' : Progress) (bit : Bool) (p : Plane) → Cut s b t z → Due s b t pass x y z → Change s b pass x y z z' bit → Like s b (t + 1) z' p → Like s b t z p
+pub change_back : (s : BlockShape) (b t pass x y : ℕ) (z z' : Progress) (bit : Bool) (p : BlockAtPlane) → Cut s b t z → Due s b t pass x y z → Change s b pass x y z z' bit → Like s b (t + 1) z' p → Like s b t z p
 change_back s b t pass x y z z' bit p cut due c l =
     let agree = change_agree s b t pass x y z z' bit cut due c in
     let sig = λ (x y : ℕ). significant s (mags s b z) t x y in
@@ -223,7 +223,7 @@ change_coded : (s : BlockShape) (b t pass x y : ℕ) (z z' : Progress) (bit : Bo
 change_coded s b t pass x y z z' bit cut due c =
     sym (agree_coded s (mags s b z) (mags s b z') t (t + 1) x y (change_agree s b t pass x y z z' bit cut due c) (omega arith)) ∙ due_coded s b t pass x y z due
 
-pub change_only : (s : BlockShape) (b t pass x y : ℕ) (z z' : Progress) (bit : Bool) (p : Plane) → Cut s b t z → Due s b t pass x y z → Change s b pass x y z z' bit → Like s b t z p → bit ≡ is_one (p.magnitude x y)
+pub change_only : (s : BlockShape) (b t pass x y : ℕ) (z z' : Progress) (bit : Bool) (p : BlockAtPlane) → Cut s b t z → Due s b t pass x y z → Change s b pass x y z z' bit → Like s b t z p → bit ≡ is_one (p.magnitude x y)
     → (significant s (mags s b z') (t + 1) x y ≡ true → z'.negative x y ≡ p.negative x y) → Like s b (t + 1) z' p
 change_only s b t pass x y z z' bit p cut due c l bit_is sign =
     let agree = change_agree s b t pass x y z z' bit cut due c in
@@ -239,41 +239,41 @@ change_only s b t pass x y z z' bit p cut due c l bit_is sign =
       outside = l.outside;
       signs = λ x' y'. at_place (λ u v. significant s (mags s b z') (t + 1) u v ≡ true → z'.negative u v ≡ p.negative u v) x y x' y'
           sign
-          (λ a e. (c.away x' y' a).negative ∙ l.signs x' y' (was_lit agree x' y' a e));
+          (λ a e. (c.away x' y' a).negative ∙ l.signs x' y' (was_significant agree x' y' a e));
     }
   where
     was_coded : Agree s (mags s b z) (mags s b z') t → (x' y' : ℕ) → (nat_eq x' x && nat_eq y' y) ≡ false → is_inside s x' y' ≡ true → is_coded s (mags s b z') (t + 1) x' y' ≡ true → is_coded s (mags s b z) t x' y' ≡ true
     was_coded agree x' y' a i e = sym (others_coded s b t pass x y z due (mags s b z) x' y' i a) ∙ agree_coded s (mags s b z) (mags s b z') t (t + 1) x' y' agree (omega arith) ∙ e
 
-    lit_gate : (m m' : ℕ) (d d' : Bool) → m' ≡ m → (d' ≡ true → d ≡ true) → (nat_le 2 m' || (nat_eq m' 1 && d')) ≡ true → (nat_le 2 m || (nat_eq m 1 && d)) ≡ true
-    lit_gate m m' d true e h g = let h0 = h refl in grind (arith, nat_tests)
-    lit_gate m m' d false e h g = grind (arith, nat_tests)
+    significant_gate : (m m' : ℕ) (d d' : Bool) → m' ≡ m → (d' ≡ true → d ≡ true) → (nat_le 2 m' || (nat_eq m' 1 && d')) ≡ true → (nat_le 2 m || (nat_eq m 1 && d)) ≡ true
+    significant_gate m m' d true e h g = let h0 = h refl in grind (arith, nat_tests)
+    significant_gate m m' d false e h g = grind (arith, nat_tests)
 
-    none_lit : (m : ℕ) (d : Bool) → m ≡ 0 → (nat_le 2 m || (nat_eq m 1 && d)) ≡ true → ⊥
-    none_lit m d e h = grind (arith, nat_tests)
+    none_significant : (m : ℕ) (d : Bool) → m ≡ 0 → (nat_le 2 m || (nat_eq m 1 && d)) ≡ true → ⊥
+    none_significant m d e h = grind (arith, nat_tests)
 
-    was_lit : Agree s (mags s b z) (mags s b z') t → (x' y' : ℕ) → (nat_eq x' x && nat_eq y' y) ≡ false → significant s (mags s b z') (t + 1) x' y' ≡ true → significant s (mags s b z) t x' y' ≡ true
-    was_lit agree x' y' a e = inside_or (is_inside s x' y')
+    was_significant : Agree s (mags s b z) (mags s b z') t → (x' y' : ℕ) → (nat_eq x' x && nat_eq y' y) ≡ false → significant s (mags s b z') (t + 1) x' y' ≡ true → significant s (mags s b z) t x' y' ≡ true
+    was_significant agree x' y' a e = inside_or (is_inside s x' y')
         (λ i. significant_is s (mags s b z) t x' y'
-        ∙ lit_gate (mags s b z x' y') (mags s b z' x' y') (is_coded s (mags s b z) t x' y') (is_coded s (mags s b z') (t + 1) x' y') (mags_away s b pass x y z z' bit c x' y' a) (was_coded agree x' y' a i)
+        ∙ significant_gate (mags s b z x' y') (mags s b z' x' y') (is_coded s (mags s b z) t x' y') (is_coded s (mags s b z') (t + 1) x' y') (mags_away s b pass x y z z' bit c x' y' a) (was_coded agree x' y' a i)
         (sym (significant_is s (mags s b z') (t + 1) x' y') ∙ e))
-        (λ i. absurd (none_lit (mags s b z' x' y') (is_coded s (mags s b z') (t + 1) x' y') (mags_outside s b z' x' y' i) (sym (significant_is s (mags s b z') (t + 1) x' y') ∙ e)))
+        (λ i. absurd (none_significant (mags s b z' x' y') (is_coded s (mags s b z') (t + 1) x' y') (mags_outside s b z' x' y' i) (sym (significant_is s (mags s b z') (t + 1) x' y') ∙ e)))
 
 -- the bit that was taken is the block's
-pub change_bit : (s : BlockShape) (b t pass x y : ℕ) (z z' : Progress) (bit : Bool) (p : Plane) → Cut s b t z → Due s b t pass x y z → Change s b pass x y z z' bit → Like s b (t + 1) z' p → is_one (p.magnitude x y) ≡ bit
+pub change_bit : (s : BlockShape) (b t pass x y : ℕ) (z z' : Progress) (bit : Bool) (p : BlockAtPlane) → Cut s b t z → Due s b t pass x y z → Change s b pass x y z z' bit → Like s b (t + 1) z' p → is_one (p.magnitude x y) ≡ bit
 change_bit s b t pass x y z z' bit p cut due c l =
     ap (λ m. nat_eq (m % 2) 1) (sym (l.agree.coded x y (change_coded s b t pass x y z z' bit cut due c)) ∙ mags_here s b t pass x y z z' bit cut due c)
     ∙ odd (mags s b z x y) bit (due_even s b t pass x y z cut due)
 
 -- and so is its sign
-pub change_sign : (s : BlockShape) (b t pass x y : ℕ) (z z' : Progress) (p : Plane) → Cut s b t z → Due s b t pass x y z → Change s b pass x y z z' true → Like s b (t + 1) z' p → z'.negative x y ≡ p.negative x y
+pub change_sign : (s : BlockShape) (b t pass x y : ℕ) (z z' : Progress) (p : BlockAtPlane) → Cut s b t z → Due s b t pass x y z → Change s b pass x y z z' true → Like s b (t + 1) z' p → z'.negative x y ≡ p.negative x y
 unfolding bit_of
 change_sign s b t pass x y z z' p cut due c l =
     l.signs x y (significant_is s (mags s b z') (t + 1) x y
-    ∙ lit_now (mags s b z' x y) (is_coded s (mags s b z') (t + 1) x y) (mags s b z x y) (mags_here s b t pass x y z z' true cut due c) (change_coded s b t pass x y z z' true cut due c))
+    ∙ significant_now (mags s b z' x y) (is_coded s (mags s b z') (t + 1) x y) (mags s b z x y) (mags_here s b t pass x y z z' true cut due c) (change_coded s b t pass x y z z' true cut due c))
   where
-    lit_now : (m : ℕ) (d : Bool) (a : ℕ) → m ≡ a + 1 → d ≡ true → (nat_le 2 m || (nat_eq m 1 && d)) ≡ true
-    lit_now m d a e h = grind (arith, nat_tests)
+    significant_now : (m : ℕ) (d : Bool) (a : ℕ) → m ≡ a + 1 → d ≡ true → (nat_le 2 m || (nat_eq m 1 && d)) ≡ true
+    significant_now m d a e h = grind (arith, nat_tests)
 
 -- no place is coded at a moment
 unfoldable pub Idle : BlockShape → (b t : ℕ) → Progress → Type 0
@@ -294,7 +294,7 @@ idle_cut s b t z idle cut = record {
     gate n true h = let h0 = h refl in grind (arith, nat_tests)
     gate n false h = refl
 
-pub idle_only : (s : BlockShape) (b t : ℕ) (z : Progress) (p : Plane) → Idle s b t z → Like s b t z p → Like s b (t + 1) z p
+pub idle_only : (s : BlockShape) (b t : ℕ) (z : Progress) (p : BlockAtPlane) → Idle s b t z → Like s b t z p → Like s b (t + 1) z p
 unfolding Idle
 idle_only s b t z p idle l = record {
   agree = record {
@@ -305,15 +305,15 @@ idle_only s b t z p idle l = record {
   };
   outside = l.outside;
   signs = λ x y e. inside_or (is_inside s x y)
-      (λ i. l.signs x y (significant_is s (mags s b z) t x y ∙ lit_gate (mags s b z x y) (moment s (mags s b z) x y) (idle x y i) (sym (significant_is s (mags s b z) (t + 1) x y) ∙ e)))
-      (λ i. absurd (none_lit (mags s b z x y) (is_coded s (mags s b z) (t + 1) x y) (mags_outside s b z x y i) (sym (significant_is s (mags s b z) (t + 1) x y) ∙ e)));
+      (λ i. l.signs x y (significant_is s (mags s b z) t x y ∙ significant_gate (mags s b z x y) (moment s (mags s b z) x y) (idle x y i) (sym (significant_is s (mags s b z) (t + 1) x y) ∙ e)))
+      (λ i. absurd (none_significant (mags s b z x y) (is_coded s (mags s b z) (t + 1) x y) (mags_outside s b z x y i) (sym (significant_is s (mags s b z) (t + 1) x y) ∙ e)));
 }
   where
     earlier : (m : ℕ) → (m ≡ t → ⊥) → nat_lt m (t + 1) ≡ true → nat_lt m t ≡ true
     earlier m h e = grind (arith, nat_tests)
 
-    lit_gate : (m q : ℕ) → (q ≡ t → ⊥) → (nat_le 2 m || (nat_eq m 1 && nat_lt q (t + 1))) ≡ true → (nat_le 2 m || (nat_eq m 1 && nat_lt q t)) ≡ true
-    lit_gate m q h e = grind (arith, nat_tests)
+    significant_gate : (m q : ℕ) → (q ≡ t → ⊥) → (nat_le 2 m || (nat_eq m 1 && nat_lt q (t + 1))) ≡ true → (nat_le 2 m || (nat_eq m 1 && nat_lt q t)) ≡ true
+    significant_gate m q h e = grind (arith, nat_tests)
 
-    none_lit : (m : ℕ) (d : Bool) → m ≡ 0 → (nat_le 2 m || (nat_eq m 1 && d)) ≡ true → ⊥
-    none_lit m d e h = grind (arith, nat_tests)
+    none_significant : (m : ℕ) (d : Bool) → m ≡ 0 → (nat_le 2 m || (nat_eq m 1 && d)) ≡ true → ⊥
+    none_significant m d e h = grind (arith, nat_tests)

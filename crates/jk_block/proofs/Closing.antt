@@ -8,7 +8,7 @@ use Rattle.jk_math.specs.Steps.{bind_then, refuse_then, done, ok_is}
 use Rattle.jk_model.specs.Decisions.{State, after, state_after, SpellsFrom}
 use Rattle.jk_scan.specs.declared.shape.BlockShape.{BlockShape}
 use Rattle.jk_scan.specs.Contexts.{uniform}
-use Rattle.jk_scan.specs.Passes.{Plane}
+use Rattle.jk_scan.specs.Passes.{BlockAtPlane}
 use Rattle.jk_block.specs.Symbols.{segmentation_symbol, is_symbol, ends_with_symbol, closing_decisions}
 use Rattle.jk_block.specs.Reading.{Progress, decide, with_coder, symbol_at, closing_at}
 use Rattle.jk_block.proofs.Spelling.{Told, told_join, decide_told, told_decide}
@@ -94,10 +94,10 @@ symbol_goes bytes z h =
 cut_coder : (s : BlockShape) (b t : ℕ) (z : Progress) (c : State) → Cut s b t z → Cut s b t (with_coder z c)
 cut_coder s b t z c h = record { whole = h.whole; even = h.even; visited = h.visited }
 
-like_coder : (s : BlockShape) (b t : ℕ) (z : Progress) (c : State) (p : Plane) → Like s b t z p → Like s b t (with_coder z c) p
+like_coder : (s : BlockShape) (b t : ℕ) (z : Progress) (c : State) (p : BlockAtPlane) → Like s b t z p → Like s b t (with_coder z c) p
 like_coder s b t z c p h = record { agree = h.agree; outside = h.outside; signs = h.signs }
 
-like_back : (s : BlockShape) (b t : ℕ) (z : Progress) (c : State) (p : Plane) → Like s b t (with_coder z c) p → Like s b t z p
+like_back : (s : BlockShape) (b t : ℕ) (z : Progress) (c : State) (p : BlockAtPlane) → Like s b t (with_coder z c) p → Like s b t z p
 like_back s b t z c p h = record { agree = h.agree; outside = h.outside; signs = h.signs }
 
 stage_symbol : (bytes : List ℕ) (s : BlockShape) (b t : ℕ) → Stage bytes s b t t (symbol_at bytes) (λ _. segmentation_symbol)

@@ -15,8 +15,8 @@ use Rattle.jk_scan.specs.Flags.{word_at}
 use Rattle.jk_scan.proofs.Laws.{same_field, flag_none, on_zero}
 use Rattle.jk_block.specs.Meaning.{above}
 use Rattle.jk_block.specs.Reading.{Progress, put}
-use Rattle.jk_block.specs.Fields.{lit_of, flagged, words_of, plane_bit, own_bit, magnitude_of}
-use Rattle.jk_block.specs.decoding.Sketches.{Draft}
+use Rattle.jk_block.specs.Fields.{significant_of, flagged, words_of, plane_bit, own_bit, magnitude_of}
+use Rattle.jk_block.specs.decoding.BlockStates.{Draft}
 use Rattle.jk_block.proofs.decoding.Numbers.{number_none}
 
 drawn : Field ℕ → Field Bool → Field Bool → State → Progress
@@ -70,7 +70,7 @@ magnitude_none s planes n = same_field (magnitude_of s planes (replicate n 0)) (
     same true = refl
     same false = refl
 
-pub dark : (s : BlockShape) (f : Field ℕ) (x y : ℕ) → f ≡ (λ _ _. 0) → lit_of s f x y ≡ false
+pub dark : (s : BlockShape) (f : Field ℕ) (x y : ℕ) → f ≡ (λ _ _. 0) → significant_of s f x y ≡ false
 dark s f x y e = ap (λ (f : Field ℕ). is_inside s x y && nat_lt 0 (f x y)) e ∙ none (is_inside s x y)
   where
     none : (b : Bool) → (b && nat_lt 0 0) ≡ false
@@ -118,12 +118,12 @@ put_self {X} f x y = same_field f (put f x y (f x y)) (λ x' y'. by x' y' (nat_e
         ap (λ u. f u y') ex ∙ ap (λ u. f x u) ey ∙ sym (ap (λ b. cond b (f x y) (f x' y')) e)
     by x' y' false e = sym (ap (λ b. cond b (f x y) (f x' y')) e)
 
-some_lit : (s : BlockShape) (x y m : ℕ) → is_inside s x y ≡ true → 0 < m → (is_inside s x y && nat_lt 0 m) ≡ true
-some_lit s x y m i h = let p : nat_lt 0 m ≡ true = grind (arith, nat_tests) in ap (λ b. b && nat_lt 0 m) i ∙ p
+some_significant : (s : BlockShape) (x y m : ℕ) → is_inside s x y ≡ true → 0 < m → (is_inside s x y && nat_lt 0 m) ≡ true
+some_significant s x y m i h = let p : nat_lt 0 m ≡ true = grind (arith, nat_tests) in ap (λ b. b && nat_lt 0 m) i ∙ p
 
 -- another magnitude at a place
-pub lit_put : (s : BlockShape) (f : Field ℕ) (x y m : ℕ) → is_inside s x y ≡ true → 0 < m → (x' y' : ℕ) → lit_of s (put f x y m) x' y' ≡ also (lit_of s f) x y x' y'
-lit_put s f x y m i h x' y' = by (nat_eq x' x && nat_eq y' y) refl
+pub significant_put : (s : BlockShape) (f : Field ℕ) (x y m : ℕ) → is_inside s x y ≡ true → 0 < m → (x' y' : ℕ) → significant_of s (put f x y m) x' y' ≡ also (significant_of s f) x y x' y'
+significant_put s f x y m i h x' y' = by (nat_eq x' x && nat_eq y' y) refl
   where
     or_true : (b : Bool) → (b || true) ≡ true
     or_true true = refl
@@ -133,31 +133,31 @@ lit_put s f x y m i h x' y' = by (nat_eq x' x && nat_eq y' y) refl
     or_false true = refl
     or_false false = refl
 
-    by : (b : Bool) → (nat_eq x' x && nat_eq y' y) ≡ b → (is_inside s x' y' && nat_lt 0 (cond (nat_eq x' x && nat_eq y' y) m (f x' y'))) ≡ (lit_of s f x' y' || (nat_eq x' x && nat_eq y' y))
+    by : (b : Bool) → (nat_eq x' x && nat_eq y' y) ≡ b → (is_inside s x' y' && nat_lt 0 (cond (nat_eq x' x && nat_eq y' y) m (f x' y'))) ≡ (significant_of s f x' y' || (nat_eq x' x && nat_eq y' y))
     by true e =
         let p = and_parts (nat_eq x' x) (nat_eq y' y) e in
         let p0 = p.0 in let p1 = p.1 in
         let ex : x' ≡ x = grind (arith, nat_tests) in
         let ey : y' ≡ y = grind (arith, nat_tests) in
         let inside : is_inside s x' y' ≡ true = ap (λ u. is_inside s u y') ex ∙ ap (λ u. is_inside s x u) ey ∙ i in
-        ap (λ b. is_inside s x' y' && nat_lt 0 (cond b m (f x' y'))) e ∙ some_lit s x' y' m inside h ∙ sym (ap (λ b. lit_of s f x' y' || b) e ∙ or_true (lit_of s f x' y'))
-    by false e = ap (λ b. is_inside s x' y' && nat_lt 0 (cond b m (f x' y'))) e ∙ sym (ap (λ b. lit_of s f x' y' || b) e ∙ or_false (lit_of s f x' y'))
+        ap (λ b. is_inside s x' y' && nat_lt 0 (cond b m (f x' y'))) e ∙ some_significant s x' y' m inside h ∙ sym (ap (λ b. significant_of s f x' y' || b) e ∙ or_true (significant_of s f x' y'))
+    by false e = ap (λ b. is_inside s x' y' && nat_lt 0 (cond b m (f x' y'))) e ∙ sym (ap (λ b. significant_of s f x' y' || b) e ∙ or_false (significant_of s f x' y'))
 
 -- a place that is significant has another magnitude
-pub stays_lit : (s : BlockShape) (f : Field ℕ) (x y m : ℕ) → 0 < m → lit_of s f x y ≡ true → (x' y' : ℕ) → lit_of s (put f x y m) x' y' ≡ lit_of s f x' y'
-stays_lit s f x y m h o x' y' =
-    lit_put s f x y m (and_parts (is_inside s x y) (nat_lt 0 (f x y)) o).0 h x' y' ∙ by (nat_eq x' x && nat_eq y' y) refl
+pub stays_significant : (s : BlockShape) (f : Field ℕ) (x y m : ℕ) → 0 < m → significant_of s f x y ≡ true → (x' y' : ℕ) → significant_of s (put f x y m) x' y' ≡ significant_of s f x' y'
+stays_significant s f x y m h o x' y' =
+    significant_put s f x y m (and_parts (is_inside s x y) (nat_lt 0 (f x y)) o).0 h x' y' ∙ by (nat_eq x' x && nat_eq y' y) refl
   where
     or_false : (b : Bool) → (b || false) ≡ b
     or_false true = refl
     or_false false = refl
 
-    by : (b : Bool) → (nat_eq x' x && nat_eq y' y) ≡ b → (lit_of s f x' y' || (nat_eq x' x && nat_eq y' y)) ≡ lit_of s f x' y'
+    by : (b : Bool) → (nat_eq x' x && nat_eq y' y) ≡ b → (significant_of s f x' y' || (nat_eq x' x && nat_eq y' y)) ≡ significant_of s f x' y'
     by true e =
         let p = and_parts (nat_eq x' x) (nat_eq y' y) e in
         let p0 = p.0 in let p1 = p.1 in
         let ex : x' ≡ x = grind (arith, nat_tests) in
         let ey : y' ≡ y = grind (arith, nat_tests) in
-        let lit : lit_of s f x' y' ≡ true = ap (λ u. lit_of s f u y') ex ∙ ap (λ u. lit_of s f x u) ey ∙ o in
-        ap (λ b. b || (nat_eq x' x && nat_eq y' y)) lit ∙ sym lit
-    by false e = ap (λ b. lit_of s f x' y' || b) e ∙ or_false (lit_of s f x' y')
+        let known_significant : significant_of s f x' y' ≡ true = ap (λ u. significant_of s f u y') ex ∙ ap (λ u. significant_of s f x u) ey ∙ o in
+        ap (λ b. b || (nat_eq x' x && nat_eq y' y)) known_significant ∙ sym known_significant
+    by false e = ap (λ b. significant_of s f x' y' || b) e ∙ or_false (significant_of s f x' y')

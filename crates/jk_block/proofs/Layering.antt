@@ -10,7 +10,7 @@ use Rattle.jk_scan.specs.declared.shape.BlockShape.{BlockShape}
 use Rattle.jk_scan.specs.Neighbours.{Field}
 use Rattle.jk_scan.specs.Moments.{pass_of}
 use Rattle.jk_scan.proofs.Laws.{cases_of}
-use Rattle.jk_block.specs.Meaning.{kind_of, plane_at, with_sign, above, cut, IsBlockMeaning, value_in}
+use Rattle.jk_block.specs.Meaning.{kind_of, plane_at, with_sign, above, truncated, IsBlockMeaning, value_in}
 use Rattle.jk_block.specs.BlockWritten.{pass_count, bytes_of, Coded, coded}
 use Rattle.jk_block.specs.Layers.{passes_upto, without_ff, bytes_upto}
 use Rattle.jk_block.proofs.Parts.{part_means, shorter_means, none_means, coded_marks_rise, bytes_none, coded_planes_hold}
@@ -150,12 +150,12 @@ upto_whole s values layers h =
 
 -- The bytes of the layers up to l mean what the passes up to there code of the block.
 pub upto_means : (s : BlockShape) (values : List ℤ) (layers l : ℕ) → l < layers
-    → IsBlockMeaning s (coded s values).planes (passes_upto layers (coded s values).planes l) (take (bytes_upto layers (coded s values) l) (coded s values).bytes) (cut s (coded s values).planes (passes_upto layers (coded s values).planes l) (value_in s values))
+    → IsBlockMeaning s (coded s values).planes (passes_upto layers (coded s values).planes l) (take (bytes_upto layers (coded s values) l) (coded s values).bytes) (truncated s (coded s values).planes (passes_upto layers (coded s values).planes l) (value_in s values))
 upto_means s values layers l h =
     let k = coded s values in
     let n = passes_upto layers k.planes l in
     let few : n ≤ k.passes = let f = passes_few layers k.planes l in let g = coded_passes s values in omega (arith, f, g) in
-    let mean : ℕ → Type 0 = λ z. IsBlockMeaning s k.planes n (take z k.bytes) (cut s k.planes n (value_in s values)) in
+    let mean : ℕ → Type 0 = λ z. IsBlockMeaning s k.planes n (take z k.bytes) (truncated s k.planes n (value_in s values)) in
     elim (cases_lt 0 n) [
       | inl some ↦ elim (cases_lt (l + 1) layers) [
         | inl early ↦
@@ -168,7 +168,7 @@ upto_means s values layers l h =
       ]
       | inr none ↦
           let zero_is : n ≡ 0 = omega arith in
-          subst (λ n. IsBlockMeaning s k.planes n (take (bytes_upto layers k l) k.bytes) (cut s k.planes n (value_in s values))) (sym zero_is)
+          subst (λ n. IsBlockMeaning s k.planes n (take (bytes_upto layers k l) k.bytes) (truncated s k.planes n (value_in s values))) (sym zero_is)
           (none_means s k.planes (take (bytes_upto layers k l) k.bytes) (value_in s values))
     ]
 
@@ -178,8 +178,8 @@ no_sign : (n : Bool) → with_sign n 0 ≡ pos 0
 no_sign true = refl
 no_sign false = refl
 
-pub cut_plane : (s : BlockShape) (e d : ℕ) (q : Field ℤ) (x y : ℕ) → cut s (e + suc d) (suc (3 * d)) q x y ≡ with_sign (is_negative (q x y)) (above e (unsigned_abs (q x y)))
-unfolding cut
+pub cut_plane : (s : BlockShape) (e d : ℕ) (q : Field ℤ) (x y : ℕ) → truncated s (e + suc d) (suc (3 * d)) q x y ≡ with_sign (is_negative (q x y)) (above e (unsigned_abs (q x y)))
+unfolding truncated
 cut_plane s e d q x y =
     ap (λ b. with_sign (is_negative (q x y)) (cond (nat_le (pass_of s (plane_at s b q).magnitude x y) (kind_of (3 * d))) (above b (unsigned_abs (q x y))) (above (b + 1) (unsigned_abs (q x y))))) (let g : e + suc d - 1 - (3 * d + 2) / 3 ≡ e = omega arith in g)
     ∙ ap (λ k. with_sign (is_negative (q x y)) (cond k (above e (unsigned_abs (q x y))) (above (e + 1) (unsigned_abs (q x y))))) last
@@ -196,13 +196,13 @@ cut_plane s e d q x y =
         (λ w. let e = w.pass_is in by n ((3 * d + 2) % 3) k (omega arith))
         (λ w. let e = w.pass_is in by n ((3 * d + 2) % 3) k (omega arith))
 
-cut_none : (s : BlockShape) (planes : ℕ) (q : Field ℤ) (x y : ℕ) → cut s planes 0 q x y ≡ pos 0
-unfolding cut
+cut_none : (s : BlockShape) (planes : ℕ) (q : Field ℤ) (x y : ℕ) → truncated s planes 0 q x y ≡ pos 0
+unfolding truncated
 cut_none s planes q x y = refl
 
 -- In the layers up to l a coefficient has its bits in the planes from layers - 1 - l on.
 pub upto_cut : (s : BlockShape) (values : List ℤ) (layers l x y : ℕ)
-    → cut s (coded s values).planes (passes_upto layers (coded s values).planes l) (value_in s values) x y ≡ with_sign (is_negative (value_in s values x y)) (above (layers - 1 - l) (unsigned_abs (value_in s values x y)))
+    → truncated s (coded s values).planes (passes_upto layers (coded s values).planes l) (value_in s values) x y ≡ with_sign (is_negative (value_in s values x y)) (above (layers - 1 - l) (unsigned_abs (value_in s values x y)))
 upto_cut s values layers l x y =
     let k = coded s values in
     let q = value_in s values in
@@ -212,11 +212,11 @@ upto_cut s values layers l x y =
           let d = k.planes - e - 1 in
           let planes : k.planes ≡ e + suc d = omega arith in
           let passes : passes_upto layers k.planes l ≡ suc (3 * d) = let f = passes_some layers k.planes l some in omega (arith, f, some) in
-          ap (λ n. cut s k.planes n q x y) passes ∙ ap (λ p. cut s p (suc (3 * d)) q x y) planes ∙ cut_plane s e d q x y
+          ap (λ n. truncated s k.planes n q x y) passes ∙ ap (λ p. truncated s p (suc (3 * d)) q x y) planes ∙ cut_plane s e d q x y
       | inr none ↦
           let small = coded_planes_hold s values x y in
           let power : 2 ^ k.planes ≤ 2 ^ e = pow_mono none in
           let zero_is : unsigned_abs (q x y) / 2 ^ e ≡ 0 = div-eq_of_lt (omega (arith, small, power)) in
-          ap (λ n. cut s k.planes n q x y) (passes_none layers k.planes l none) ∙ cut_none s k.planes q x y
+          ap (λ n. truncated s k.planes n q x y) (passes_none layers k.planes l none) ∙ cut_none s k.planes q x y
           ∙ sym (ap (λ m. with_sign (is_negative (q x y)) (m * 2 ^ e)) zero_is ∙ ap (with_sign (is_negative (q x y))) (let g : 0 * 2 ^ e ≡ 0 = omega arith in g) ∙ no_sign (is_negative (q x y)))
     ]

@@ -19,11 +19,11 @@ use Rattle.jk_scan.specs.declared.shape.BlockShape.{BlockShape}
 use Rattle.jk_scan.specs.Neighbours.{Field, is_inside}
 use Rattle.jk_scan.specs.Moments.{number, visits, pass_of, moment, is_coded}
 use Rattle.jk_scan.proofs.Laws.{same_field, inside_parts, cases_of, agree_coded, number_below}
-use Rattle.jk_block.specs.Meaning.{plane_of, kind_of, plane_at, pass_decisions, with_sign, above, cut, IsBlockMeaning, values_of, value_in}
+use Rattle.jk_block.specs.Meaning.{plane_of, kind_of, plane_at, pass_decisions, with_sign, above, truncated, IsBlockMeaning, values_of, value_in}
 use Rattle.jk_block.specs.Reading.{Progress, blank, times, pass_at, coefficients, block_at}
 use Rattle.jk_block.proofs.Stages.{mags, Cut, Like}
 use Rattle.jk_block.proofs.Changes.{mags_inside, mags_outside}
-use Rattle.jk_block.proofs.Seeing.{lit_is}
+use Rattle.jk_block.proofs.Seeing.{significant_then}
 use Rattle.jk_block.proofs.Drawing.{listed_at}
 use Rattle.jk_block.proofs.Whole.{plane_inside, plane_outside, plane_negative, Done, DoneLike, passes_onward, passes_back, passes_only}
 
@@ -146,11 +146,11 @@ holds_like : (s : BlockShape) (b t : ℕ) (z : Progress) (q : Field ℤ) → Cut
 holds_like s b t z q c h = record {
   agree = record { halves = λ x y. ap (λ m. m / 2) (holds_mags s b z q h x y); coded = λ x y e. holds_mags s b z q h x y };
   outside = plane_outside s b q;
-  signs = λ x y e. lit_parts (is_inside s x y) (z.magnitude x y) (lit_is s b t z c x y ∙ e) (λ i l. h.negative x y i l ∙ sym (plane_negative s b q x y));
+  signs = λ x y e. significant_parts (is_inside s x y) (z.magnitude x y) (significant_then s b t z c x y ∙ e) (λ i l. h.negative x y i l ∙ sym (plane_negative s b q x y));
 }
   where
-    lit_parts : {R : Type 0} (i : Bool) (m : ℕ) → (i && nat_lt 0 m) ≡ true → (i ≡ true → 0 < m → R) → R
-    lit_parts i m e f = let p = and_parts i (nat_lt 0 m) e in let p1 = p.1 in f p.0 (grind (arith, nat_tests))
+    significant_parts : {R : Type 0} (i : Bool) (m : ℕ) → (i && nat_lt 0 m) ≡ true → (i ≡ true → 0 < m → R) → R
+    significant_parts i m e f = let p = and_parts i (nat_lt 0 m) e in let p1 = p.1 in f p.0 (grind (arith, nat_tests))
 
 values_hold : (s : BlockShape) (z : Progress) → Holds s z (value_in s (values_of s (coefficients z)))
 values_hold s z = record {
@@ -159,8 +159,8 @@ values_hold s z = record {
 }
 
 -- what the passes code of a block that is held is the block
-pub cut_held : (s : BlockShape) (planes n : ℕ) (z : Progress) (q : Field ℤ) → Done s planes n z → Holds s z q → (x y : ℕ) → is_inside s x y ≡ true → cut s planes n q x y ≡ q x y
-unfolding Done cut
+pub cut_held : (s : BlockShape) (planes n : ℕ) (z : Progress) (q : Field ℤ) → Done s planes n z → Holds s z q → (x y : ℕ) → is_inside s x y ≡ true → truncated s planes n q x y ≡ q x y
+unfolding Done truncated
 cut_held s planes zero z q d h x y i = sym (no_magnitude (q x y) (h.magnitude x y i ∙ ap (λ (z : Progress). z.magnitude x y) d))
   where
     no_magnitude : (v : ℤ) → unsigned_abs v ≡ 0 → v ≡ pos 0
@@ -208,9 +208,9 @@ by_code s b t z q x y i l false e =
     half m = ap (λ p. m / p) (pow_more 2 b) ∙ sym (div-div-eq-div-mul m (2 ^ b) 2)
 
 -- a block that is its own cut is what is held
-held_like : (s : BlockShape) (planes n : ℕ) (z : Progress) (q : Field ℤ) → ((x y : ℕ) → is_inside s x y ≡ true → cut s planes n q x y ≡ q x y) → Done s planes n z → DoneLike s planes n z q
+held_like : (s : BlockShape) (planes n : ℕ) (z : Progress) (q : Field ℤ) → ((x y : ℕ) → is_inside s x y ≡ true → truncated s planes n q x y ≡ q x y) → Done s planes n z → DoneLike s planes n z q
     → (x y : ℕ) → is_inside s x y ≡ true → coefficients z x y ≡ q x y
-unfolding Done DoneLike cut
+unfolding Done DoneLike truncated
 held_like s planes zero z q h d l x y i = ap (λ (z : Progress). coefficients z x y) d ∙ h x y i
 held_like s planes (suc n) z q h d l x y i =
     let b = plane_of planes n in
@@ -225,7 +225,7 @@ held_like s planes (suc n) z q h d l x y i =
     let own : unsigned_abs (q x y) ≡ cond (nat_le (pass_of s (plane_at s b q).magnitude x y) k) (above b (unsigned_abs (q x y))) (above (b + 1) (unsigned_abs (q x y))) =
     ap unsigned_abs (sym (h x y i)) ∙ abs_with_sign (is_negative (q x y)) (cond (nat_le (pass_of s (plane_at s b q).magnitude x y) k) (above b (unsigned_abs (q x y))) (above (b + 1) (unsigned_abs (q x y)))) in
     let same : z.magnitude x y ≡ unsigned_abs (q x y) = size ∙ sym own in
-    ap (with_sign (z.negative x y)) same ∙ signed (unsigned_abs (q x y)) (z.negative x y) (is_negative (q x y)) (λ m. l.signs x y (sym (lit_is s b t z d x y) ∙ shown (is_inside s x y) (z.magnitude x y) i (subst (λ n. 0 < n) (sym same) m)) ∙ plane_negative s b q x y)
+    ap (with_sign (z.negative x y)) same ∙ signed (unsigned_abs (q x y)) (z.negative x y) (is_negative (q x y)) (λ m. l.signs x y (sym (significant_then s b t z d x y) ∙ shown (is_inside s x y) (z.magnitude x y) i (subst (λ n. 0 < n) (sym same) m)) ∙ plane_negative s b q x y)
     ∙ with_sign_self (q x y)
   where
     signed : (m : ℕ) (n n' : Bool) → (0 < m → n ≡ n') → with_sign n m ≡ with_sign n' m

@@ -20,11 +20,11 @@ use Rattle.jk_scan.specs.Neighbours.{Field, is_inside}
 use Rattle.jk_scan.specs.Moments.{visits, pass_of, is_coded}
 use Rattle.jk_scan.specs.Passes.{Decided}
 use Rattle.jk_scan.proofs.Laws.{agree_coded, cases_of}
-use Rattle.jk_block.specs.Meaning.{plane_of, kind_of, plane_at, whole_decisions, pass_decisions, with_sign, above, cut, IsBlockMeaning, values_of, value_in}
+use Rattle.jk_block.specs.Meaning.{plane_of, kind_of, plane_at, whole_decisions, pass_decisions, with_sign, above, truncated, IsBlockMeaning, values_of, value_in}
 use Rattle.jk_block.specs.Reading.{Progress, block_at}
 use Rattle.jk_block.specs.BlockWritten.{greatest, pass_count, marks_upto, bytes_of, Coded, coded}
 use Rattle.jk_block.proofs.Stages.{mags}
-use Rattle.jk_block.proofs.Seeing.{lit_is}
+use Rattle.jk_block.proofs.Seeing.{significant_then}
 use Rattle.jk_block.proofs.Whole.{plane_negative, Done, DoneLike, passes_more, passes_onward, passes_back, passes_only}
 use Rattle.jk_block.proofs.Meanings.{abs_with_sign, negative_with_sign, with_sign_self, block_only, coded_by, held_is, Holds, cut_held, done_like, by_code}
 use Rattle.jk_math.specs.BitLength.{bit_length}
@@ -32,8 +32,8 @@ use Rattle.jk_math.proofs.Laws.{bit_length_room}
 use Rattle.jk_block.proofs.Sizing.{greatest_bounds}
 
 -- What is held after some passes over a block is what they code of it.
-cut_held_of : (s : BlockShape) (planes n : ℕ) (z : Progress) (q : Field ℤ) → Done s planes n z → DoneLike s planes n z q → Holds s z (cut s planes n q)
-unfolding Done DoneLike cut
+cut_held_of : (s : BlockShape) (planes n : ℕ) (z : Progress) (q : Field ℤ) → Done s planes n z → DoneLike s planes n z q → Holds s z (truncated s planes n q)
+unfolding Done DoneLike truncated
 cut_held_of s planes zero z q d l = record {
   magnitude = λ x y i. sym (ap (λ (z : Progress). z.magnitude x y) d);
   negative = λ x y i h. absurd (let e = ap (λ (z : Progress). z.magnitude x y) d in omega (arith, e, h));
@@ -42,7 +42,7 @@ cut_held_of s planes (suc n) z q d l = record {
   magnitude = λ x y i. abs_with_sign (is_negative (q x y)) (size x y) ∙ sym (held x y i);
   negative = λ x y i h.
       let some : 0 < size x y = subst (λ m. 0 < m) (held x y i) h in
-      l.signs x y (sym (lit_is s b t z d x y) ∙ shown (is_inside s x y) (z.magnitude x y) i h) ∙ plane_negative s b q x y ∙ sym (negative_with_sign (is_negative (q x y)) (size x y) some);
+      l.signs x y (sym (significant_then s b t z d x y) ∙ shown (is_inside s x y) (z.magnitude x y) i h) ∙ plane_negative s b q x y ∙ sym (negative_with_sign (is_negative (q x y)) (size x y) some);
 }
   where
     b : ℕ
@@ -70,25 +70,25 @@ cut_held_of s planes (suc n) z q d l = record {
 
 -- Bytes that spell the decisions of the first passes mean what these passes code of the block.
 pub spelled_means : (s : BlockShape) (planes n : ℕ) (bytes : List ℕ) (q : Field ℤ) → n ≤ 3 * planes - 2 → ((x y : ℕ) → is_inside s x y ≡ true → unsigned_abs (q x y) < 2 ^ planes)
-    → SpellsPasses s.style.reset bytes (pass_decisions s planes n q) → IsBlockMeaning s planes n bytes (cut s planes n q)
+    → SpellsPasses s.style.reset bytes (pass_decisions s planes n q) → IsBlockMeaning s planes n bytes (truncated s planes n q)
 spelled_means s planes n bytes q few small spelled =
     let all = passes_only bytes s planes n q few small spelled in
     let z = all.last in
     let d = passes_onward bytes s planes n z few all.is in
     let h = cut_held_of s planes n z q d all.like in
-    let back = passes_back bytes s planes n z (cut s planes n q) few all.is (done_like s planes n z (cut s planes n q) d h) in
-    record { few = few; small = back.small; coded = cut_held s planes n z (cut s planes n q) d h; spelled = λ _. back.told.spelled }
+    let back = passes_back bytes s planes n z (truncated s planes n q) few all.is (done_like s planes n z (truncated s planes n q) d h) in
+    record { few = few; small = back.small; coded = cut_held s planes n z (truncated s planes n q) d h; spelled = λ _. back.told.spelled }
 
 no_magnitude : (v : ℤ) → unsigned_abs v < 1 → pos 0 ≡ v
 no_magnitude (pos m) e = ap pos (let f : 0 ≡ m = omega arith in f)
 no_magnitude (negsuc m) e = absurd (omega arith)
 
 -- all passes code all of it
-pub cut_whole : (s : BlockShape) (planes : ℕ) (q : Field ℤ) → ((x y : ℕ) → is_inside s x y ≡ true → unsigned_abs (q x y) < 2 ^ planes) → (x y : ℕ) → is_inside s x y ≡ true → cut s planes (pass_count planes) q x y ≡ q x y
-unfolding cut
+pub cut_whole : (s : BlockShape) (planes : ℕ) (q : Field ℤ) → ((x y : ℕ) → is_inside s x y ≡ true → unsigned_abs (q x y) < 2 ^ planes) → (x y : ℕ) → is_inside s x y ≡ true → truncated s planes (pass_count planes) q x y ≡ q x y
+unfolding truncated
 cut_whole s zero q small x y i = no_magnitude (q x y) (let h = small x y i in omega (arith, h))
 cut_whole s (suc p) q small x y i =
-    ap (λ n. cut s (suc p) n q x y) (let e : 3 * suc p - 2 ≡ suc (3 * p) = omega arith in e)
+    ap (λ n. truncated s (suc p) n q x y) (let e : 3 * suc p - 2 ≡ suc (3 * p) = omega arith in e)
     ∙ ap (λ b. with_sign (is_negative (q x y)) (cond (nat_le (pass_of s (plane_at s b q).magnitude x y) (kind_of (3 * p))) (above b (unsigned_abs (q x y))) (above (b + 1) (unsigned_abs (q x y))))) (let e : suc p - 1 - (3 * p + 2) / 3 ≡ 0 = omega arith in e)
     ∙ ap (λ k. with_sign (is_negative (q x y)) (cond k (above 0 (unsigned_abs (q x y))) (above (0 + 1) (unsigned_abs (q x y))))) last
     ∙ ap (λ m. with_sign (is_negative (q x y)) m) (let e : unsigned_abs (q x y) / 2 ^ 0 * 2 ^ 0 ≡ unsigned_abs (q x y) = omega arith in e)
@@ -235,7 +235,7 @@ coded_means s values =
 
 -- A part of them that is long enough means what the first passes code of the block.
 pub part_means : (s : BlockShape) (values : List ℤ) (n z : ℕ) → 1 ≤ n → n ≤ (coded s values).passes → min (length (coded s values).bytes) (get_or (coded s values).marks (n - 1) 0 + 4) ≤ z
-    → IsBlockMeaning s (coded s values).planes n (take z (coded s values).bytes) (cut s (coded s values).planes n (value_in s values))
+    → IsBlockMeaning s (coded s values).planes n (take z (coded s values).bytes) (truncated s (coded s values).planes n (value_in s values))
 unfolding coded
 part_means s values n z l h long =
     let p = bit_length (greatest values) in
@@ -243,7 +243,7 @@ part_means s values n z l h long =
     spelled_means s p n (take z (bytes_of s p (pass_count p) q)) q h (λ x y i. planes_hold s values x y) (part_spells s p (pass_count p) n z q l h long)
 
 pub shorter_means : (s : BlockShape) (values : List ℤ) (n z : ℕ) → 1 ≤ n → n ≤ (coded s values).passes → min (length (coded s values).bytes) (get_or (coded s values).marks (n - 1) 0 + 4) ≤ z → get_or (coded s values).bytes (z - 1) 0 ≡ 255
-    → IsBlockMeaning s (coded s values).planes n (take (z - 1) (coded s values).bytes) (cut s (coded s values).planes n (value_in s values))
+    → IsBlockMeaning s (coded s values).planes n (take (z - 1) (coded s values).bytes) (truncated s (coded s values).planes n (value_in s values))
 unfolding coded
 shorter_means s values n z l h long e =
     let p = bit_length (greatest values) in
@@ -251,8 +251,8 @@ shorter_means s values n z l h long e =
     spelled_means s p n (take (z - 1) (bytes_of s p (pass_count p) q)) q h (λ x y i. planes_hold s values x y) (shorter_spells s p (pass_count p) n z q l h long e)
 
 -- no passes mean nothing
-pub none_means : (s : BlockShape) (planes : ℕ) (bytes : List ℕ) (q : Field ℤ) → IsBlockMeaning s planes 0 bytes (cut s planes 0 q)
-unfolding cut
+pub none_means : (s : BlockShape) (planes : ℕ) (bytes : List ℕ) (q : Field ℤ) → IsBlockMeaning s planes 0 bytes (truncated s planes 0 q)
+unfolding truncated
 none_means s planes bytes q = record {
   few = omega arith;
   small = λ x y i. pow_pos planes;
@@ -310,14 +310,14 @@ pub read_of : (s : BlockShape) (values : List ℤ) (k : Coded) → k ≡ coded s
 read_of s values k e h = ap (λ (k : Coded). block_at s k.planes k.passes k.bytes) e ∙ coded_read s values h
 
 pub part_of : (s : BlockShape) (values : List ℤ) (k : Coded) → k ≡ coded s values → (n z : ℕ) → 1 ≤ n → n ≤ k.passes → min (length k.bytes) (get_or k.marks (n - 1) 0 + 4) ≤ z
-    → IsBlockMeaning s k.planes n (take z k.bytes) (cut s k.planes n (value_in s values))
+    → IsBlockMeaning s k.planes n (take z k.bytes) (truncated s k.planes n (value_in s values))
 part_of s values k e =
-    subst (λ (k : Coded). (n z : ℕ) → 1 ≤ n → n ≤ k.passes → min (length k.bytes) (get_or k.marks (n - 1) 0 + 4) ≤ z → IsBlockMeaning s k.planes n (take z k.bytes) (cut s k.planes n (value_in s values))) (sym e) (part_means s values)
+    subst (λ (k : Coded). (n z : ℕ) → 1 ≤ n → n ≤ k.passes → min (length k.bytes) (get_or k.marks (n - 1) 0 + 4) ≤ z → IsBlockMeaning s k.planes n (take z k.bytes) (truncated s k.planes n (value_in s values))) (sym e) (part_means s values)
 
 pub shorter_of : (s : BlockShape) (values : List ℤ) (k : Coded) → k ≡ coded s values → (n z : ℕ) → 1 ≤ n → n ≤ k.passes → min (length k.bytes) (get_or k.marks (n - 1) 0 + 4) ≤ z → get_or k.bytes (z - 1) 0 ≡ 255
-    → IsBlockMeaning s k.planes n (take (z - 1) k.bytes) (cut s k.planes n (value_in s values))
+    → IsBlockMeaning s k.planes n (take (z - 1) k.bytes) (truncated s k.planes n (value_in s values))
 shorter_of s values k e =
-    subst (λ (k : Coded). (n z : ℕ) → 1 ≤ n → n ≤ k.passes → min (length k.bytes) (get_or k.marks (n - 1) 0 + 4) ≤ z → get_or k.bytes (z - 1) 0 ≡ 255 → IsBlockMeaning s k.planes n (take (z - 1) k.bytes) (cut s k.planes n (value_in s values))) (sym e) (shorter_means s values)
+    subst (λ (k : Coded). (n z : ℕ) → 1 ≤ n → n ≤ k.passes → min (length k.bytes) (get_or k.marks (n - 1) 0 + 4) ≤ z → get_or k.bytes (z - 1) 0 ≡ 255 → IsBlockMeaning s k.planes n (take (z - 1) k.bytes) (truncated s k.planes n (value_in s values))) (sym e) (shorter_means s values)
 
 pub rise_of : (s : BlockShape) (values : List ℤ) (k : Coded) → k ≡ coded s values → (i j : ℕ) → i ≤ j → j < k.passes → get_or k.marks i 0 ≤ get_or k.marks j 0
 rise_of s values k e = subst (λ (k : Coded). (i j : ℕ) → i ≤ j → j < k.passes → get_or k.marks i 0 ≤ get_or k.marks j 0) (sym e) (coded_marks_rise s values)

@@ -13,24 +13,24 @@ use Rattle.jk_scan.specs.declared.shape.BlockShape.{BlockShape}
 use Rattle.jk_scan.specs.Contexts.{refine_context_of}
 use Rattle.jk_scan.specs.Neighbours.{Field, is_inside, touched_in}
 use Rattle.jk_scan.specs.Moments.{number, visits, old, pass_of, moment, is_coded, significant}
-use Rattle.jk_scan.specs.Passes.{Plane, Decided, is_one, new_decisions, refining_decision, place_decisions}
+use Rattle.jk_scan.specs.Passes.{BlockAtPlane, Decided, is_one, new_decisions, refining_decision, place_decisions}
 use Rattle.jk_scan.proofs.Laws.{significant_is, cases_of, agree_pass, moment_is, place_any}
 use Rattle.jk_block.specs.Meaning.{above}
-use Rattle.jk_block.specs.Reading.{Progress, lit, put, decide, with_coder, coded_as, read_new, read_refined, visit, place_at}
+use Rattle.jk_block.specs.Reading.{Progress, known_significant, put, decide, with_coder, coded_as, read_new, read_refined, visit, place_at}
 use Rattle.jk_block.proofs.Spelling.{Told, told_none, decide_told, told_decide}
 use Rattle.jk_block.proofs.Stages.{mags, Cut, Like, Stage}
 use Rattle.jk_block.proofs.Changes.{Due, Change, mags_inside, like_before, due_even, change_cut, change_back, change_only, change_bit, Idle, idle_cut, idle_only}
-use Rattle.jk_block.proofs.Seeing.{inside_or, lit_is, touched_like, is_due, tests_propagation, tests_refinement, tests_cleanup}
+use Rattle.jk_block.proofs.Seeing.{inside_or, significant_then, touched_like, is_due, tests_propagation, tests_refinement, tests_cleanup}
 use Rattle.jk_block.proofs.Coding.{Codes, put_here, put_away, Visits, with_visited, put_change, new_codes}
 
 -- the decision of a place that was significant, in terms of what is held
-pub next_list : (s : BlockShape) (b t x y : ℕ) (bit : Bool) (z : Progress) (p : Plane) → Cut s b t z → Like s b t z p → is_inside s x y ≡ true → bit ≡ is_one (p.magnitude x y)
-    → (refine_context_of (nat_le 4 (z.magnitude x y / 2 ^ b)) (touched_in s (lit s z) x y), bit) ≡ refining_decision s p t x y
+pub next_list : (s : BlockShape) (b t x y : ℕ) (bit : Bool) (z : Progress) (p : BlockAtPlane) → Cut s b t z → Like s b t z p → is_inside s x y ≡ true → bit ≡ is_one (p.magnitude x y)
+    → (refine_context_of (nat_le 4 (z.magnitude x y / 2 ^ b)) (touched_in s (known_significant s z) x y), bit) ≡ refining_decision s p t x y
 unfolding refining_decision
 next_list s b t x y bit z p cut l i e =
     let four : nat_le 4 (z.magnitude x y / 2 ^ b) ≡ nat_le 4 (p.magnitude x y) =
     ap (nat_le 4) (sym (mags_inside s b z x y i)) ∙ by_half (mags s b z x y) (p.magnitude x y) (l.agree.halves x y) in
-    ap (λ (r : Bool). (refine_context_of r (touched_in s (lit s z) x y), bit)) four
+    ap (λ (r : Bool). (refine_context_of r (touched_in s (known_significant s z) x y), bit)) four
     ∙ ap (λ (u : Bool). (refine_context_of (nat_le 4 (p.magnitude x y)) u, bit)) (touched_like s b t z p cut l x y)
     ∙ ap (λ (d : Bool). (refine_context_of (nat_le 4 (p.magnitude x y)) (touched_in s (significant s p.magnitude t) x y), d)) e
   where
@@ -50,7 +50,7 @@ pub next_codes : (bytes : List ℕ) (s : BlockShape) (b t x y : ℕ) (z : Progre
     → Codes bytes s b t 1 x y z (read_refined bytes s b x y z) (λ p. refining_decision s p t x y ∷ [])
 unfolding read_refined refined with_visited
 next_codes bytes s b t x y z cut due =
-    let cx = refine_context_of (nat_le 4 (z.magnitude x y / 2 ^ b)) (touched_in s (lit s z) x y) in
+    let cx = refine_context_of (nat_le 4 (z.magnitude x y / 2 ^ b)) (touched_in s (known_significant s z) x y) in
     record {
       changes = λ z' e. bind_then (decide bytes cx z.coder) (λ d. done (refined b x y z d)) z' e (λ d i r. (d.0, made d z' r));
       told = λ z' e p l l'. bind_then (decide bytes cx z.coder) (λ d. done (refined b x y z d)) z' e (λ d i r.
@@ -65,7 +65,7 @@ next_codes bytes s b t x y z cut due =
           record {
             next = refined b x y z (bit, after bytes z.coder cx);
             is = ap (λ (r : Result (Bool × State) Fault). r >>= λ d. done (refined b x y z d)) i;
-            like = change_only s b t 1 x y z (refined b x y z (bit, after bytes z.coder cx)) bit p cut due c l refl (λ lit. put_here z.negative x y (z.negative x y) ∙ l.signs x y (was_lit p l));
+            like = change_only s b t 1 x y z (refined b x y z (bit, after bytes z.coder cx)) bit p cut due c l refl (λ known_significant. put_here z.negative x y (z.negative x y) ∙ l.signs x y (was_significant p l));
             coder_is = ap (λ (q : Decision). state_after bytes z.coder (q ∷ [])) list;
           };
     }
@@ -91,8 +91,8 @@ next_codes bytes s b t x y z cut due =
     old_first true e h = refl
     old_first false e h = absurd cc
 
-    was_lit : (p : Plane) → Like s b t z p → significant s (mags s b z) t x y ≡ true
-    was_lit p l =
+    was_significant : (p : BlockAtPlane) → Like s b t z p → significant s (mags s b z) t x y ≡ true
+    was_significant p l =
         significant_is s (mags s b z) t x y ∙ old_first (old (mags s b z) x y) (nat_eq (mags s b z x y) 1 && is_coded s (mags s b z) t x y)
         (cases_of s (mags s b z) x y (λ w. w.old_is) (λ w. absurd (let q = w.pass_is in let r = due.pass_is in omega arith)) (λ w. absurd (let q = w.pass_is in let r = due.pass_is in omega arith)))
 
@@ -108,9 +108,9 @@ not_due s b t pass x y z narrow room now d x' y' i e =
     both i n e g h = grind (arith, nat_tests)
 
 -- A place in its pass is a part, where the test is whether it is due.
-pub stage_by_test : (bytes : List ℕ) (s : BlockShape) (b t pass x y : ℕ) (part own : Progress → Result Progress Fault) (decisions own_ones : Plane → Decided) → x < s.width → number s.width x y < visits s → t ≡ pass * visits s + number s.width x y
+pub stage_by_test : (bytes : List ℕ) (s : BlockShape) (b t pass x y : ℕ) (part own : Progress → Result Progress Fault) (decisions own_ones : BlockAtPlane → Decided) → x < s.width → number s.width x y < visits s → t ≡ pass * visits s + number s.width x y
     → ((z : Progress) → Cut s b t z → part z ≡ cond (is_due s (mags s b z) pass x y) (own z) (done z))
-    → ((p : Plane) → decisions p ≡ cond (is_due s p.magnitude pass x y) (own_ones p) [])
+    → ((p : BlockAtPlane) → decisions p ≡ cond (is_due s p.magnitude pass x y) (own_ones p) [])
     → ((z : Progress) → Cut s b t z → Due s b t pass x y z → Codes bytes s b t pass x y z (own z) own_ones)
     → Stage bytes s b t (t + 1) part decisions
 unfolding is_due
@@ -144,13 +144,13 @@ stage_by_test bytes s b t pass x y part own decisions own_ones narrow room now p
     passes : (z : Progress) → Cut s b t z → is_due s (mags s b z) pass x y ≡ false → part z ≡ done z
     passes z cut d = part_is z cut ∙ ap (λ q. cond q (own z) (done z)) d
 
-    same_due : (z : Progress) (p : Plane) → Like s b t z p → is_due s p.magnitude pass x y ≡ is_due s (mags s b z) pass x y
+    same_due : (z : Progress) (p : BlockAtPlane) → Like s b t z p → is_due s p.magnitude pass x y ≡ is_due s (mags s b z) pass x y
     same_due z p l = ap (λ n. is_inside s x y && nat_eq n pass) (sym (agree_pass s (mags s b z) p.magnitude t x y l.agree (omega arith)))
 
-    owns_list : (z : Progress) (p : Plane) → Like s b t z p → is_due s (mags s b z) pass x y ≡ true → decisions p ≡ own_ones p
+    owns_list : (z : Progress) (p : BlockAtPlane) → Like s b t z p → is_due s (mags s b z) pass x y ≡ true → decisions p ≡ own_ones p
     owns_list z p l d = decisions_are p ∙ ap (λ q. cond q (own_ones p) []) (same_due z p l ∙ d)
 
-    no_list : (z : Progress) (p : Plane) → Like s b t z p → is_due s (mags s b z) pass x y ≡ false → decisions p ≡ []
+    no_list : (z : Progress) (p : BlockAtPlane) → Like s b t z p → is_due s (mags s b z) pass x y ≡ false → decisions p ≡ []
     no_list z p l d = decisions_are p ∙ ap (λ q. cond q (own_ones p) []) (same_due z p l ∙ d)
 
     due_is : (z : Progress) → is_due s (mags s b z) pass x y ≡ true → Due s b t pass x y z
@@ -164,8 +164,8 @@ stage_by_test bytes s b t pass x y part own decisions own_ones narrow room now p
 
 pub dark_of : (s : BlockShape) (b t pass x y : ℕ) (z : Progress) → Cut s b t z → Due s b t pass x y z → nat_eq pass 1 ≡ false → nat_lt 0 (z.magnitude x y) ≡ false
 dark_of s b t pass x y z cut due other =
-    lit_out (is_inside s x y) (nat_lt 0 (z.magnitude x y)) due.inside
-    (lit_is s b t z cut x y ∙ significant_is s (mags s b z) t x y
+    significant_out (is_inside s x y) (nat_lt 0 (z.magnitude x y)) due.inside
+    (significant_then s b t z cut x y ∙ significant_is s (mags s b z) t x y
     ∙ gate (mags s b z x y) (moment s (mags s b z) x y)
     (cases_of s (mags s b z) x y (λ w. absurd (let q = w.pass_is in let r = due.pass_is in grind (arith, nat_tests))) (λ w. w.old_is) (λ w. w.old_is))
     (moment_is s (mags s b z) x y ∙ ap (λ n. n * visits s + number s.width x y) due.pass_is ∙ sym due.now))
@@ -173,8 +173,8 @@ dark_of s b t pass x y z cut due other =
     gate : (m q : ℕ) → nat_le 2 m ≡ false → q ≡ t → (nat_le 2 m || (nat_eq m 1 && nat_lt q t)) ≡ false
     gate m q e g = grind (arith, nat_tests)
 
-    lit_out : (i l : Bool) → i ≡ true → (i && l) ≡ false → l ≡ false
-    lit_out i l e h = grind (arith, nat_tests)
+    significant_out : (i l : Bool) → i ≡ true → (i && l) ≡ false → l ≡ false
+    significant_out i l e h = grind (arith, nat_tests)
 
 pub visit_visits : (x y : ℕ) (v : Field Bool) → Visits 0 x y v (put v x y true)
 visit_visits x y v = record { here = put_here v x y true ∙ by (v x y); away = λ x' y' a. put_away v x y true x' y' a }

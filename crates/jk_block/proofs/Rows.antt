@@ -5,7 +5,7 @@ use Rattle.std.proofs.lemmas.Bool.Decides.{nat_tests}
 use Rattle.jk_scan.specs.declared.shape.BlockShape.{BlockShape}
 use Rattle.jk_scan.specs.Neighbours.{Field, is_inside}
 use Rattle.jk_scan.specs.Moments.{number, stripes, visits, pass_of, moment, is_coded}
-use Rattle.jk_scan.specs.Passes.{Plane, is_one, place_decisions, rows_decisions, first_one}
+use Rattle.jk_scan.specs.Passes.{BlockAtPlane, is_one, place_decisions, rows_decisions, first_one}
 use Rattle.jk_scan.proofs.Laws.{number_row, number_room, significant_is, moment_is}
 use Rattle.jk_block.specs.Reading.{Progress, place_at, rows_at}
 use Rattle.jk_block.proofs.Stages.{mags, Cut, Like, Stage, stage_times, stage_at}
@@ -61,7 +61,7 @@ zeros_cut s b x i (suc f) z h l c =
 pub row_dark : (s : BlockShape) (b x i k : ℕ) (z : Progress) → Still s b x i z → k < 4 → mags s b z x (4 * i + k) ≡ 0
 row_dark s b x i k z h l = mags_inside s b z x (4 * i + k) (h.inside k l) ∙ ap (λ m. m / 2 ^ b) (h.empty k l) ∙ (let e : 0 / 2 ^ b ≡ 0 = omega arith in e)
 
-pub zeros_only : (s : BlockShape) (b x i f : ℕ) (z : Progress) (p : Plane) → Still s b x i z → f ≤ 4 → Cut s b (start s 2 x i) z → ((k : ℕ) → k < f → is_one (p.magnitude x (4 * i + k)) ≡ false)
+pub zeros_only : (s : BlockShape) (b x i f : ℕ) (z : Progress) (p : BlockAtPlane) → Still s b x i z → f ≤ 4 → Cut s b (start s 2 x i) z → ((k : ℕ) → k < f → is_one (p.magnitude x (4 * i + k)) ≡ false)
     → Like s b (start s 2 x i) z p → Like s b (start s 2 x i + f) z p
 zeros_only s b x i zero z p h l c none like = subst (λ (t : ℕ). Like s b t z p) (let e : start s 2 x i ≡ start s 2 x i + 0 = omega arith in e) like
 zeros_only s b x i (suc f) z p h l c none like =
@@ -74,7 +74,7 @@ zeros_only s b x i (suc f) z p h l c none like =
     gate m d e h = grind (arith, nat_tests)
 
 -- a row of the block is empty, where it was passed as empty
-pub rows_zero : (s : BlockShape) (b x i k u : ℕ) (z : Progress) (p : Plane) → Still s b x i z → k < 4 → k < u → Like s b (start s 2 x i + u) z p → p.magnitude x (4 * i + k) ≡ 0
+pub rows_zero : (s : BlockShape) (b x i k u : ℕ) (z : Progress) (p : BlockAtPlane) → Still s b x i z → k < 4 → k < u → Like s b (start s 2 x i + u) z p → p.magnitude x (4 * i + k) ≡ 0
 rows_zero s b x i k u z p h l q like =
     sym (like.agree.coded x (4 * i + k) (early (moment s (mags s b z) x (4 * i + k)) at)) ∙ row_dark s b x i k z h l
   where

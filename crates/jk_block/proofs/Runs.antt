@@ -11,8 +11,8 @@ use Rattle.jk_scan.specs.declared.shape.BlockShape.{BlockShape}
 use Rattle.jk_scan.specs.Contexts.{run_length, uniform}
 use Rattle.jk_scan.specs.Neighbours.{sign_in}
 use Rattle.jk_scan.specs.Moments.{number, stripes, visits}
-use Rattle.jk_scan.specs.Passes.{Plane, Decided, is_one, flipped, sign_decision, rows_decisions, first_one, run_decisions}
-use Rattle.jk_block.specs.Reading.{Progress, lit, decide, with_coder, coded_as, read_sign, rows_at, row_named, read_from, read_run}
+use Rattle.jk_scan.specs.Passes.{BlockAtPlane, Decided, is_one, flipped, sign_decision, rows_decisions, first_one, run_decisions}
+use Rattle.jk_block.specs.Reading.{Progress, known_significant, decide, with_coder, coded_as, read_sign, rows_at, row_named, read_from, read_run}
 use Rattle.jk_block.proofs.Spelling.{Told, told_join, decide_told, told_decide, spells_parts, state_join}
 use Rattle.jk_block.proofs.Stages.{Cut, Like, Goes, Stage, stage_at}
 use Rattle.jk_block.proofs.Changes.{Change, like_before, change_cut, change_back, change_only, change_bit, change_sign}
@@ -24,10 +24,10 @@ use Rattle.jk_block.proofs.Rows.{start, stage_rows, Still, due_row, zeros_cut, z
 pub cut_coder : (s : BlockShape) (b t : ℕ) (z : Progress) (c : State) → Cut s b t z → Cut s b t (with_coder z c)
 cut_coder s b t z c h = record { whole = h.whole; even = h.even; visited = h.visited }
 
-pub like_coder : (s : BlockShape) (b t : ℕ) (z : Progress) (c : State) (p : Plane) → Like s b t z p → Like s b t (with_coder z c) p
+pub like_coder : (s : BlockShape) (b t : ℕ) (z : Progress) (c : State) (p : BlockAtPlane) → Like s b t z p → Like s b t (with_coder z c) p
 like_coder s b t z c p h = record { agree = h.agree; outside = h.outside; signs = h.signs }
 
-pub like_uncoder : (s : BlockShape) (b t : ℕ) (z : Progress) (c : State) (p : Plane) → Like s b t (with_coder z c) p → Like s b t z p
+pub like_uncoder : (s : BlockShape) (b t : ℕ) (z : Progress) (c : State) (p : BlockAtPlane) → Like s b t (with_coder z c) p → Like s b t z p
 like_uncoder s b t z c p h = record { agree = h.agree; outside = h.outside; signs = h.signs }
 
 pub still_coder : (s : BlockShape) (b x i : ℕ) (z : Progress) (c : State) → Still s b x i z → Still s b x i (with_coder z c)
@@ -37,7 +37,7 @@ pub dark_zero : (m : ℕ) → m ≡ 0 → nat_lt 0 m ≡ false
 dark_zero m e = ap (nat_lt 0) e
 
 -- the first significant row of a run and what follows
-pub from_decisions : BlockShape → Plane → (x i f : ℕ) → Decided
+pub from_decisions : BlockShape → BlockAtPlane → (x i f : ℕ) → Decided
 from_decisions s p x i f = (sign_decision s p (2 * visits s + number s.width x (4 * i + f)) x (4 * i + f) ∷ []) ++ rows_decisions s p 2 x i (f + 1) (3 - f)
 
 pub record FromRead (bytes : List ℕ) (s : BlockShape) (b x i f : ℕ) (z z' : Progress) : Type 0 where
@@ -52,12 +52,12 @@ from_read bytes s b x i f z z' still l e =
     bind_then (read_sign bytes s b x (4 * i + f) z) (rows_at bytes s b 2 x i (f + 1) (3 - f)) z' e
     (λ m h r.
     let sr = sign_read bytes s b x (4 * i + f) z m h in
-    let negative = flipped (sign_in s (lit s z) z.negative x (4 * i + f)).flip sr.bit in
+    let negative = flipped (sign_in s (known_significant s z) z.negative x (4 * i + f)).flip sr.bit in
     record {
       middle = m;
       sign = sr;
       change = subst (λ (w : Progress). Change s b 2 x (4 * i + f) z w true) sr.then_is
-          (put_change s b 2 x (4 * i + f) true negative z z.visited sr.coder (kept_visits x (4 * i + f) 1 z.visited) (λ lit. absurd (not_empty (z.magnitude x (4 * i + f)) (still.empty f l) lit)) (above_dark b (z.magnitude x (4 * i + f)) (dark_zero (z.magnitude x (4 * i + f)) (still.empty f l))));
+          (put_change s b 2 x (4 * i + f) true negative z z.visited sr.coder (kept_visits x (4 * i + f) 1 z.visited) (λ known_significant. absurd (not_empty (z.magnitude x (4 * i + f)) (still.empty f l) known_significant)) (above_dark b (z.magnitude x (4 * i + f)) (dark_zero (z.magnitude x (4 * i + f)) (still.empty f l))));
       rest = r;
     })
   where
@@ -76,12 +76,12 @@ from_onward bytes s b x i f z z' still l cut e =
     (rows_behind bytes s b x i f still.narrow still.stripe l).onward r.middle z'
     (change_cut s b (start s 2 x i + f) 2 x (4 * i + f) z r.middle true (zeros_cut s b x i f z still (omega arith) cut) (due_row s b x i f z still l) r.change) r.rest
 
-pub record FromBack (bytes : List ℕ) (s : BlockShape) (b x i f : ℕ) (z z' : Progress) (p : Plane) : Type 0 where
+pub record FromBack (bytes : List ℕ) (s : BlockShape) (b x i f : ℕ) (z z' : Progress) (p : BlockAtPlane) : Type 0 where
   pub like : Like s b (start s 2 x i) z p
   pub first : first_one p.magnitude x i ≡ f
   pub told : Told bytes z.coder (from_decisions s p x i f) z'.coder
 
-pub from_back : (bytes : List ℕ) (s : BlockShape) (b x i f : ℕ) (z z' : Progress) (p : Plane) → Still s b x i z → f < 4 → Cut s b (start s 2 x i) z → read_from bytes s b x i f z ≡ Ok z' → Like s b (start s 2 x i + 4) z' p → FromBack bytes s b x i f z z' p
+pub from_back : (bytes : List ℕ) (s : BlockShape) (b x i f : ℕ) (z z' : Progress) (p : BlockAtPlane) → Still s b x i z → f < 4 → Cut s b (start s 2 x i) z → read_from bytes s b x i f z ≡ Ok z' → Like s b (start s 2 x i + 4) z' p → FromBack bytes s b x i f z z' p
 unfolding from_decisions
 from_back bytes s b x i f z z' p still l cut e like =
     let r = from_read bytes s b x i f z z' still l e in
@@ -104,7 +104,7 @@ from_back bytes s b x i f z z' p still l cut e like =
     even : (m : ℕ) → m ≡ 0 → is_one m ≡ false
     even m e = grind (arith, nat_tests)
 
-pub from_only : (bytes : List ℕ) (s : BlockShape) (b x i f : ℕ) (z : Progress) (p : Plane) → Still s b x i z → f < 4 → Cut s b (start s 2 x i) z → First p.magnitude x i f → Like s b (start s 2 x i) z p
+pub from_only : (bytes : List ℕ) (s : BlockShape) (b x i f : ℕ) (z : Progress) (p : BlockAtPlane) → Still s b x i z → f < 4 → Cut s b (start s 2 x i) z → First p.magnitude x i f → Like s b (start s 2 x i) z p
     → SpellsFrom bytes z.coder (from_decisions s p x i f) → Goes s b (start s 2 x i + 4) (read_from bytes s b x i f z) p (state_after bytes z.coder (from_decisions s p x i f))
 unfolding from_decisions with_visited
 from_only bytes s b x i f z p still l cut first like spelled =
@@ -121,7 +121,7 @@ from_only bytes s b x i f z p still l cut first like spelled =
     subst (λ (u : ℕ). read_sign bytes s b x y z ≡ done (with_coder (coded_as b x y true (p.negative x y) z) (state_after bytes z.coder (sign_decision s p u x y ∷ [])))) due.now
     (sign_goes bytes s b t x y z p (sign_like s b t z p cut_f like_f x y) (subst (λ (u : ℕ). SpellsFrom bytes z.coder (sign_decision s p u x y ∷ [])) (sym due.now) parts.0)) in
     let change : Change s b 2 x y z middle true =
-    put_change s b 2 x y true (p.negative x y) z z.visited (state_after bytes z.coder signs) (kept_visits x y 1 z.visited) (λ lit. absurd (not_empty (z.magnitude x y) (still.empty f l) lit)) (above_dark b (z.magnitude x y) (dark_zero (z.magnitude x y) (still.empty f l))) in
+    put_change s b 2 x y true (p.negative x y) z z.visited (state_after bytes z.coder signs) (kept_visits x y 1 z.visited) (λ known_significant. absurd (not_empty (z.magnitude x y) (still.empty f l) known_significant)) (above_dark b (z.magnitude x y) (dark_zero (z.magnitude x y) (still.empty f l))) in
     let like_m = change_only s b t 2 x y z middle true p cut_f due change like_f (sym (first.here l)) (λ _. put_here z.negative x y (p.negative x y)) in
     let behind = (rows_behind bytes s b x i f still.narrow still.stripe l).only middle p (change_cut s b t 2 x y z middle true cut_f due change) like_m parts.1 in
     record {
@@ -135,11 +135,11 @@ from_only bytes s b x i f z p still l cut first like spelled =
     not_empty m e h = grind (arith, nat_tests)
 
 -- the decisions of a run, by its first row
-pub run_none : (s : BlockShape) (p : Plane) (x i f : ℕ) → f ≡ 4 → run_decisions s p x i f ≡ ((run_length, false) ∷ [])
+pub run_none : (s : BlockShape) (p : BlockAtPlane) (x i f : ℕ) → f ≡ 4 → run_decisions s p x i f ≡ ((run_length, false) ∷ [])
 unfolding run_decisions
 run_none s p x i f e = ap (λ f. cond (nat_eq f 4) ((run_length, false) ∷ []) (((run_length, true) ∷ (uniform, nat_le 2 f) ∷ (uniform, is_one f) ∷ sign_decision s p (2 * visits s + number s.width x (4 * i + f)) x (4 * i + f) ∷ []) ++ rows_decisions s p 2 x i (f + 1) (3 - f))) e
 
-pub run_some : (s : BlockShape) (p : Plane) (x i f : ℕ) → f < 4 → run_decisions s p x i f ≡ ((run_length, true) ∷ (uniform, nat_le 2 f) ∷ (uniform, is_one f) ∷ from_decisions s p x i f)
+pub run_some : (s : BlockShape) (p : BlockAtPlane) (x i f : ℕ) → f < 4 → run_decisions s p x i f ≡ ((run_length, true) ∷ (uniform, nat_le 2 f) ∷ (uniform, is_one f) ∷ from_decisions s p x i f)
 unfolding run_decisions from_decisions
 run_some s p x i f l = ap (λ q. cond q ((run_length, false) ∷ []) (((run_length, true) ∷ (uniform, nat_le 2 f) ∷ (uniform, is_one f) ∷ sign_decision s p (2 * visits s + number s.width x (4 * i + f)) x (4 * i + f) ∷ []) ++ rows_decisions s p 2 x i (f + 1) (3 - f))) (let e : nat_eq f 4 ≡ false = grind (arith, nat_tests) in e)
 
@@ -173,7 +173,7 @@ pub run_rest : List ℕ → BlockShape → (b x i : ℕ) → Progress → Bool �
 run_rest bytes s b x i z d =
     cond d.0 (decide bytes uniform d.1 >>= λ high. decide bytes uniform high.1 >>= λ low. read_from bytes s b x i (row_named high.0 low.0) (with_coder z low.1)) (done (with_coder z d.1))
 
-pub record RunBack (bytes : List ℕ) (s : BlockShape) (b x i : ℕ) (z z' : Progress) (p : Plane) : Type 0 where
+pub record RunBack (bytes : List ℕ) (s : BlockShape) (b x i : ℕ) (z z' : Progress) (p : BlockAtPlane) : Type 0 where
   pub like : Like s b (start s 2 x i) z p
   pub told : Told bytes z.coder (run_decisions s p x i (first_one p.magnitude x i)) z'.coder
 
@@ -196,7 +196,7 @@ run_onward bytes s b x i z z' still cut e =
     (λ c is same. subst (λ (w : Progress). Cut s b (start s 2 x i + 4) w) same (cut_coder s b (start s 2 x i + 4) z c (zeros_cut s b x i 4 z still (omega arith) cut)))
     (λ c h l high low is is_h is_l r. from_onward bytes s b x i (row_named high low) (with_coder z l) z' (still_coder s b x i z l still) (named_less high low) (cut_coder s b (start s 2 x i) z l cut) r)
 
-pub run_back : (bytes : List ℕ) (s : BlockShape) (b x i : ℕ) (z z' : Progress) (p : Plane) → Still s b x i z → Cut s b (start s 2 x i) z → read_run bytes s b x i z ≡ Ok z' → Like s b (start s 2 x i + 4) z' p → RunBack bytes s b x i z z' p
+pub run_back : (bytes : List ℕ) (s : BlockShape) (b x i : ℕ) (z z' : Progress) (p : BlockAtPlane) → Still s b x i z → Cut s b (start s 2 x i) z → read_run bytes s b x i z ≡ Ok z' → Like s b (start s 2 x i + 4) z' p → RunBack bytes s b x i z z' p
 run_back bytes s b x i z z' p still cut e like =
     run_cases bytes s b x i z z' e
     (λ c is same.
@@ -224,7 +224,7 @@ run_back bytes s b x i z z' p still cut e like =
     even : (m : ℕ) → m ≡ 0 → is_one m ≡ false
     even m e = grind (arith, nat_tests)
 
-pub run_goes : (bytes : List ℕ) (s : BlockShape) (b x i f : ℕ) (z : Progress) (p : Plane) → Still s b x i z → Cut s b (start s 2 x i) z → f < 4 → First p.magnitude x i f → Like s b (start s 2 x i) z p
+pub run_goes : (bytes : List ℕ) (s : BlockShape) (b x i f : ℕ) (z : Progress) (p : BlockAtPlane) → Still s b x i z → Cut s b (start s 2 x i) z → f < 4 → First p.magnitude x i f → Like s b (start s 2 x i) z p
     → SpellsFrom bytes z.coder ((run_length, true) ∷ (uniform, nat_le 2 f) ∷ (uniform, is_one f) ∷ from_decisions s p x i f)
     → Goes s b (start s 2 x i + 4) (read_run bytes s b x i z) p (state_after bytes z.coder ((run_length, true) ∷ (uniform, nat_le 2 f) ∷ (uniform, is_one f) ∷ from_decisions s p x i f))
 unfolding read_run
@@ -248,7 +248,7 @@ run_goes bytes s b x i f z p still cut l first like h =
       coder_is = g.coder_is;
     }
 
-pub run_only : (bytes : List ℕ) (s : BlockShape) (b x i : ℕ) (z : Progress) (p : Plane) → Still s b x i z → Cut s b (start s 2 x i) z → Like s b (start s 2 x i) z p
+pub run_only : (bytes : List ℕ) (s : BlockShape) (b x i : ℕ) (z : Progress) (p : BlockAtPlane) → Still s b x i z → Cut s b (start s 2 x i) z → Like s b (start s 2 x i) z p
     → SpellsFrom bytes z.coder (run_decisions s p x i (first_one p.magnitude x i)) → Goes s b (start s 2 x i + 4) (read_run bytes s b x i z) p (state_after bytes z.coder (run_decisions s p x i (first_one p.magnitude x i)))
 unfolding read_run
 run_only bytes s b x i z p still cut like spelled =

@@ -6,7 +6,7 @@ use Rattle.jk_math.specs.declared.fault.Fault.{Fault}
 use Rattle.jk_math.specs.declared.fault.Fault.TheVariants.{CodeOutOfInterval}
 use Rattle.jk_math.specs.Answer.{◌>>=◌}
 use Rattle.jk_math.specs.Steps.{done, ok_is}
-use Rattle.jk_model.specs.Decisions.{State, Decision, IsWithin, is_within, bit_at, after, state_after, SpellsFrom}
+use Rattle.jk_model.specs.Decisions.{State, Decision, IsInInterval, is_within, bit_at, after, state_after, SpellsFrom}
 use Rattle.jk_model.specs.CodingPasses.{begun_by, state_after_passes, SpellsPassesFrom}
 use Rattle.jk_model.proofs.Laws.{passes-join, state_after_passes-joined}
 use Rattle.jk_mqdec.specs.Answers.{answer, next}
@@ -49,10 +49,10 @@ told_more r bytes s s' s'' dss ds h g = record {
   state = g.state ∙ ap (λ (x : State). state_after bytes (begun_by r x) ds) h.state ∙ sym (state_after_passes-joined r bytes s dss (ds ∷ []));
 }
 
-within : (bytes : List ℕ) (s : State) → is_within bytes s ≡ true → IsWithin bytes s
+within : (bytes : List ℕ) (s : State) → is_within bytes s ≡ true → IsInInterval bytes s
 within bytes s h = grind (arith, nat_tests)
 
-within_true : (bytes : List ℕ) (s : State) → IsWithin bytes s → is_within bytes s ≡ true
+within_true : (bytes : List ℕ) (s : State) → IsInInterval bytes s → is_within bytes s ≡ true
 within_true bytes s h = grind (arith, nat_tests)
 
 pair : Bool → State → Bool × State

@@ -68,10 +68,10 @@ bits_from s f j i w z n h still_is clear = record {
     ones c = let e : (8 * c + 1) % 8 ≡ 1 = omega arith in ap (λ r. nat_eq r 1) e
 
 pub bits_kept : (s s' : BlockShape) (f g : Field Bool) (j i w z : ℕ) → s' ≡ s → ((x y : ℕ) → g x y ≡ f x y) → StillBits s f j i w z → StillBits s' g j i w z
-bits_kept s s' f g j i w z shape lit b = record {
+bits_kept s s' f g j i w z shape known_significant b = record {
   other = b.other;
   early = b.early;
-  late = λ c a l. b.late c a l ∙ sym (still_same s s' f g j i c shape lit);
+  late = λ c a l. b.late c a l ∙ sym (still_same s s' f g j i c shape known_significant);
 }
 
 -- what quiet_behind promises
@@ -80,11 +80,11 @@ Behind w w' z = (limits : ℕ → Bool) (f : Truths) (j i : ℕ) → of_rows (z 
 
 pub bits_behind : (s s' : BlockShape) (f g : Field Bool) (j i w w' z y : ℕ) → s' ≡ s → of_rows (y % 8) ≡ true → y / 8 ≡ z / 8 → ((u v : ℕ) → g u v ≡ also f (column j y) (row i y) u v) → Behind w w' y → ((m : ℕ) → on w m ≡ false → on w' m ≡ false)
     → StillBits s f j i w z → StillBits s' g j i w' z
-bits_behind s s' f g j i w w' z y shape on_row same lit behind fewer b = record {
+bits_behind s s' f g j i w w' z y shape on_row same known_significant behind fewer b = record {
   other = λ m l e. fewer m (b.other m l e);
   early = λ c a l. fewer (8 * c + 1) (b.early c a l);
   late = λ c a l.
-      still_behind s f g j i y (y / 8 + 1) w w' on_row lit (behind (is_whole s j i) (bordered (seen_from s i f)) j i on_row)
+      still_behind s f g j i y (y / 8 + 1) w w' on_row known_significant (behind (is_whole s j i) (bordered (seen_from s i f)) j i on_row)
       (λ c a l. b.late c (omega (arith, same)) l) c (omega (arith, same)) l
       ∙ sym (ap (λ (s : BlockShape). is_still s g j i c) shape);
 }

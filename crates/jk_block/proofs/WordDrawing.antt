@@ -88,9 +88,9 @@ word_drawn s g h words j i new z len hj hi drawn own other j' i' hj' hi' c b p q
             ∙ bordered_at h (column j (8 * c + b)) (row i (8 * c + b))))
 
 -- places of a word written at once
-pub word_lit : (s : BlockShape) (f : Field Bool) (words : List ℕ) (j i places p : ℕ) → IsSized s → words_of s ≤ length words → j < across s → i < stripes s → p ≡ word_at s (j + 1) (i + 1)
+pub word_significant : (s : BlockShape) (f : Field Bool) (words : List ℕ) (j i places p : ℕ) → IsSized s → words_of s ≤ length words → j < across s → i < stripes s → p ≡ word_at s (j + 1) (i + 1)
     → ((m : ℕ) → m < 64 → on places m ≡ true → of_rows (m % 8) ≡ true) → IsDrawn s f words → IsDrawn s (with_word f j i places) (set words p (bit_or (get_or words p 0) places))
-word_lit s f words j i places p z len hj hi ep rows drawn =
+word_significant s f words j i places p z len hj hi ep rows drawn =
     subst (λ p. IsDrawn s (with_word f j i places) (set words p (bit_or (get_or words p 0) places))) (sym ep)
     (word_drawn s f (with_word f j i places) words j i (bit_or (get_or words (word_at s (j + 1) (i + 1)) 0) places) z len hj hi drawn own
     (λ x y away. off (f x y) (nat_eq (x / 8) j) (nat_eq (y / 4) i) (on places (8 * (x % 8) + (y % 4 + 1))) (λ a b. away (same (x / 8) j a) (same (y / 4) i b))))

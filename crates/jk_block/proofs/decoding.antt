@@ -5,7 +5,7 @@ pub mod Aging
 pub mod Cleaning
 pub mod Eights
 pub mod Freshness
-pub mod Going
+pub mod ReadSoFar
 pub mod Leaving
 pub mod Holding
 pub mod Listing

@@ -1,6 +1,6 @@
 -- Blocks and coded blocks as contracts see them, and how far a block is coded.
 use Rattle.std.specs.Prelude.{◌≡◌, ℕ, ℤ, List}
-use Rattle.jk_mqenc.specs.Encoded.{View, Codes}
+use Rattle.jk_mqenc.specs.Encoded.{EncoderView, Codes}
 use Rattle.jk_scan.specs.declared.shape.BlockShape.{BlockShape}
 use Rattle.jk_scan.specs.Neighbours.{Field}
 use Rattle.jk_block.specs.declared.decoding.Block.{Block}
@@ -19,7 +19,7 @@ abbrev pub contents : CodedBlock → Coded
 contents k = record { planes = k.planes; passes = k.passes; bytes = k.bytes.items; marks = k.marks.items }
 
 -- The encoder has coded the first passes, and so many bytes were placed after each.
-pub record HasCodedPasses (s : BlockShape) (planes passes : ℕ) (q : Field ℤ) (encoder : View)
+pub record HasCodedPasses (s : BlockShape) (planes passes : ℕ) (q : Field ℤ) (encoder : EncoderView)
     (marks : List ℕ) : Type 0 where
   pub codes : Codes encoder s.style.reset (pass_decisions s planes passes q)
   pub marked : marks ≡ marks_upto s planes passes q

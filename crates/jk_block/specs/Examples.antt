@@ -7,7 +7,7 @@ use Rattle.jk_model.specs.Deciding.{takes_lower, taken, contexts_taken, made}
 use Rattle.jk_mqenc.specs.Machine.{unit, byte_out}
 use Rattle.jk_mqenc.specs.Coding.{twice, renorme, subinterval, set_bits, pushed_out, flushed}
 use Rattle.jk_mqenc.specs.Encoded.{written_by, finished}
-use Rattle.jk_model.specs.Code.{is_last, is_past, fed, places, start, wanted, share, shares, code_value}
+use Rattle.jk_model.specs.Code.{is_last, is_past, fed, code_places, start, wanted, share, shares, code_value}
 use Rattle.jk_model.specs.Contexts.{rows, moved, first_contexts}
 use Rattle.jk_model.specs.Decisions.{is_lower, is_exchanged, bit_at, divided, renormalised, contexts_after, after}
 use Rattle.jk_mqdec.specs.Answers.{answer, next}
@@ -16,7 +16,7 @@ use Rattle.jk_math.specs.declared.orientation.Orientation.TheVariants.{LL, LH}
 use Rattle.jk_scan.specs.Contexts.{zero_context_of, contribution_of, sign_context_of, refine_context_of}
 use Rattle.jk_scan.specs.Neighbours.{touched, zero_at, sign_at, seen_from, touched_in, zero_in, sign_in}
 use Rattle.jk_scan.specs.Moments.{number, visits, found, spread, pass_of, moment, significant}
-use Rattle.jk_scan.specs.Passes.{joined, flipped, new_decisions, refining_decision, place_decisions, runs}
+use Rattle.jk_scan.specs.Passes.{joined, flipped, new_decisions, refining_decision, place_decisions, in_run_mode}
 use Rattle.jk_scan.specs.Passes.{first_one, run_decisions, column_decisions, plane_decisions}
 use Rattle.jk_block.specs.Meaning.{plane_at, pass_decisions, value_in, values_of}
 use Rattle.jk_block.specs.BlockWritten.{marks_upto, bytes_of, coded}
@@ -37,12 +37,12 @@ decided : pass_decisions shape 3 7 (value_in shape values)
     ∷ ((3, true) ∷ (10, false) ∷ (3, true) ∷ (10, false) ∷ (3, false) ∷ []) ∷ ((16, true) ∷ []) ∷ [] ∷ []
 unfolding zero_context_of contribution_of sign_context_of refine_context_of touched zero_at sign_at seen_from touched_in
     zero_in sign_in number visits found spread pass_of moment significant joined flipped new_decisions refining_decision
-    place_decisions runs first_one run_decisions column_decisions plane_decisions plane_at pass_decisions
+    place_decisions in_run_mode first_one run_decisions column_decisions plane_decisions plane_at pass_decisions
 decided = refl
 
 -- its bytes mean these coefficients, and are read as them
 read : block_at shape 3 7 (0x0F ∷ 0xB1 ∷ 0x76 ∷ []) ≡ Ok values
-unfolding is_last is_past fed places start wanted share shares code_value rows moved first_contexts is_lower
+unfolding is_last is_past fed code_places start wanted share shares code_value rows moved first_contexts is_lower
     is_exchanged bit_at divided renormalised contexts_after after answer next zero_context_of contribution_of
     sign_context_of refine_context_of touched zero_at sign_at seen_from touched_in zero_in sign_in flipped values_of times decide read_sign read_new
     read_refined place_at is_quiet read_run column_at stripe_at plane_pass_at closing_at pass_at block_at
@@ -59,7 +59,7 @@ written : coded shape values
     }
 unfolding zero_context_of contribution_of sign_context_of refine_context_of touched zero_at sign_at seen_from touched_in
     zero_in sign_in number visits found spread pass_of moment significant joined flipped new_decisions refining_decision
-    place_decisions runs first_one run_decisions column_decisions plane_decisions plane_at pass_decisions rows moved first_contexts is_exchanged
+    place_decisions in_run_mode first_one run_decisions column_decisions plane_decisions plane_at pass_decisions rows moved first_contexts is_exchanged
     renormalised takes_lower taken contexts_taken made gap unit byte_out twice renorme subinterval set_bits pushed_out
     flushed written_by finished marks_upto bytes_of coded digits bit_length
 written = refl
@@ -87,11 +87,11 @@ causal_decided : pass_decisions causal 2 4 (value_in causal below)
     ∷ ((17, true) ∷ (18, true) ∷ (18, true) ∷ (9, false) ∷ []) ∷ []
 unfolding zero_context_of contribution_of sign_context_of refine_context_of touched zero_at sign_at seen_from touched_in
     zero_in sign_in number visits found spread pass_of moment significant joined flipped new_decisions refining_decision
-    place_decisions runs first_one run_decisions column_decisions plane_decisions plane_at pass_decisions
+    place_decisions in_run_mode first_one run_decisions column_decisions plane_decisions plane_at pass_decisions
 causal_decided = refl
 
 causal_read : block_at causal 2 4 (0x16 ∷ 0xE3 ∷ []) ≡ Ok below
-unfolding is_last is_past fed places start wanted share shares code_value rows moved first_contexts is_lower
+unfolding is_last is_past fed code_places start wanted share shares code_value rows moved first_contexts is_lower
     is_exchanged bit_at divided renormalised contexts_after after answer next zero_context_of contribution_of
     sign_context_of refine_context_of touched zero_at sign_at seen_from touched_in zero_in sign_in flipped values_of
     times decide read_sign read_new read_refined place_at is_quiet read_run column_at stripe_at plane_pass_at closing_at

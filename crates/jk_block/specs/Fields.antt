@@ -12,8 +12,8 @@ abbrev pub flagged : BlockShape → List ℕ → Field Bool
 flagged s words x y = is_inside s x y && flag_at s words x y
 
 -- the places with a magnitude
-abbrev pub lit_of : BlockShape → Field ℕ → Field Bool
-lit_of s magnitude x y = is_inside s x y && nat_lt 0 (magnitude x y)
+abbrev pub significant_of : BlockShape → Field ℕ → Field Bool
+significant_of s magnitude x y = is_inside s x y && nat_lt 0 (magnitude x y)
 
 -- the place is one of the word j of the stripe i
 abbrev pub is_in_word : (j i : ℕ) → Field Bool

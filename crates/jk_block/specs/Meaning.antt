@@ -7,7 +7,7 @@ use Rattle.jk_model.specs.CodingPasses.{SpellsPasses}
 use Rattle.jk_scan.specs.declared.shape.BlockShape.{BlockShape}
 use Rattle.jk_scan.specs.Neighbours.{Field, is_inside}
 use Rattle.jk_scan.specs.Moments.{pass_of}
-use Rattle.jk_scan.specs.Passes.{Plane, Decided, plane_decisions}
+use Rattle.jk_scan.specs.Passes.{BlockAtPlane, Decided, plane_decisions}
 use Rattle.jk_block.specs.Symbols.{closing_decisions}
 
 -- The coding passes of a block of so many bit-planes, from 0 on: the highest plane has a cleanup
@@ -20,14 +20,14 @@ abbrev pub kind_of : (n : ℕ) → ℕ
 kind_of n = (n + 2) % 3
 
 -- the coefficients at a bit-plane: what this plane and the higher ones make of them
-unfoldable pub plane_at : BlockShape → ℕ → Field ℤ → Plane
+unfoldable pub plane_at : BlockShape → ℕ → Field ℤ → BlockAtPlane
 plane_at s b q = record {
   magnitude = λ x y. if is_inside s x y then unsigned_abs (q x y) / 2 ^ b else 0;
   negative = λ x y. is_negative (q x y);
 }
 
 -- what a pass decides of its bit-plane, and what ends it
-abbrev pub whole_decisions : BlockShape → Plane → (pass : ℕ) → Decided
+abbrev pub whole_decisions : BlockShape → BlockAtPlane → (pass : ℕ) → Decided
 whole_decisions s p pass = plane_decisions s p pass ++ closing_decisions s.style pass
 
 -- what the first passes decide, each a list of its own
@@ -45,9 +45,9 @@ above b m = m / 2 ^ b * 2 ^ b
 
 -- What the first passes code of a coefficient: its bits in the planes that are coded, that of the
 -- last plane only where one of these passes codes it. All other bits are 0.
-unfoldable pub cut : BlockShape → (planes passes : ℕ) → Field ℤ → Field ℤ
-cut s planes zero q x y = pos 0
-cut s planes (suc n) q x y =
+unfoldable pub truncated : BlockShape → (planes passes : ℕ) → Field ℤ → Field ℤ
+truncated s planes zero q x y = pos 0
+truncated s planes (suc n) q x y =
     let b = plane_of planes n in
     with_sign (is_negative (q x y))
     (if nat_le (pass_of s (plane_at s b q).magnitude x y) (kind_of n) then above b (unsigned_abs (q x y))
@@ -57,7 +57,7 @@ cut s planes (suc n) q x y =
 pub record IsBlockMeaning (s : BlockShape) (planes passes : ℕ) (segment : List ℕ) (q : Field ℤ) : Type 0 where
   pub few : passes ≤ 3 * planes - 2
   pub small : (x y : ℕ) → is_inside s x y ≡ true → unsigned_abs (q x y) < 2 ^ planes
-  pub coded : (x y : ℕ) → is_inside s x y ≡ true → cut s planes passes q x y ≡ q x y
+  pub coded : (x y : ℕ) → is_inside s x y ≡ true → truncated s planes passes q x y ≡ q x y
   pub spelled : 0 < passes → SpellsPasses s.style.reset segment (pass_decisions s planes passes q)
 
 -- the coefficients of a block row by row, and back

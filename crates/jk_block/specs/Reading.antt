@@ -29,8 +29,8 @@ abbrev pub blank : Progress
 blank = record { magnitude = λ _ _. 0; negative = λ _ _. false; visited = λ _ _. false; coder = initial }
 
 -- significant so far
-abbrev pub lit : BlockShape → Progress → Field Bool
-lit s z x y = is_inside s x y && nat_lt 0 (z.magnitude x y)
+abbrev pub known_significant : BlockShape → Progress → Field Bool
+known_significant s z x y = is_inside s x y && nat_lt 0 (z.magnitude x y)
 
 -- a field with another value at one place
 abbrev pub put : {X : Type 0} → Field X → (x y : ℕ) → X → Field X
@@ -59,19 +59,19 @@ coded_as b x y bit negative z =
 -- a place becomes significant
 unfoldable pub read_sign : List ℕ → BlockShape → (b x y : ℕ) → Progress → Result Progress Fault
 read_sign bytes s b x y z =
-    let c = sign_in s (lit s z) z.negative x y in
+    let c = sign_in s (known_significant s z) z.negative x y in
     decide bytes c.context z.coder >>= λ d. Ok (with_coder (coded_as b x y true (flipped c.flip d.0) z) d.1)
 
 -- a place that isn't significant
 unfoldable pub read_new : List ℕ → BlockShape → (b x y : ℕ) → Progress → Result Progress Fault
 read_new bytes s b x y z =
-    decide bytes (zero_in s (lit s z) x y) z.coder
+    decide bytes (zero_in s (known_significant s z) x y) z.coder
     >>= λ d. if d.0 then read_sign bytes s b x y (with_coder z d.1) else Ok (with_coder z d.1)
 
 -- a place that was significant before this plane
 unfoldable pub read_refined : List ℕ → BlockShape → (b x y : ℕ) → Progress → Result Progress Fault
 read_refined bytes s b x y z =
-    decide bytes (refine_context_of (nat_le 4 (z.magnitude x y / 2 ^ b)) (touched_in s (lit s z) x y)) z.coder
+    decide bytes (refine_context_of (nat_le 4 (z.magnitude x y / 2 ^ b)) (touched_in s (known_significant s z) x y)) z.coder
     >>= λ d. Ok (with_coder (coded_as b x y d.0 (z.negative x y) z) d.1)
 
 abbrev pub visit : (x y : ℕ) → Progress → Progress
@@ -80,11 +80,11 @@ visit x y z = record z { visited = put z.visited x y true }
 -- a place in a pass: coded there, or passed over
 unfoldable pub place_at : List ℕ → BlockShape → (b pass x y : ℕ) → Progress → Result Progress Fault
 place_at bytes s b zero x y z =
-    if is_inside s x y && (not (lit s z x y) && touched_in s (lit s z) x y) then read_new bytes s b x y (visit x y z)
+    if is_inside s x y && (not (known_significant s z x y) && touched_in s (known_significant s z) x y) then read_new bytes s b x y (visit x y z)
     else Ok z
-place_at bytes s b (suc zero) x y z = if lit s z x y && not (z.visited x y) then read_refined bytes s b x y z else Ok z
+place_at bytes s b (suc zero) x y z = if known_significant s z x y && not (z.visited x y) then read_refined bytes s b x y z else Ok z
 place_at bytes s b (suc (suc n)) x y z =
-    if is_inside s x y && (not (lit s z x y) && not (z.visited x y)) then read_new bytes s b x y z else Ok z
+    if is_inside s x y && (not (known_significant s z x y) && not (z.visited x y)) then read_new bytes s b x y z else Ok z
 
 -- n rows of a column, from the row j of the stripe i on
 abbrev pub rows_at : List ℕ → BlockShape → (b pass x i j n : ℕ) → Progress → Result Progress Fault
@@ -114,7 +114,7 @@ read_run bytes s b x i z =
 
 unfoldable pub column_at : List ℕ → BlockShape → (b pass x i : ℕ) → Progress → Result Progress Fault
 column_at bytes s b pass x i z =
-    if nat_eq pass cleanup && is_quiet s (lit s z) x i then read_run bytes s b x i z
+    if nat_eq pass cleanup && is_quiet s (known_significant s z) x i then read_run bytes s b x i z
     else rows_at bytes s b pass x i 0 4 z
 
 unfoldable pub stripe_at : List ℕ → BlockShape → (b pass i : ℕ) → Progress → Result Progress Fault

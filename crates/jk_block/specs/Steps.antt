@@ -7,9 +7,9 @@ use Rattle.jk_scan.specs.Moments.{stripes, propagation, refinement, cleanup}
 use Rattle.jk_scan.specs.Words.{of_rows}
 use Rattle.jk_scan.specs.WordPlaces.{column, row}
 use Rattle.jk_scan.specs.Flags.{across}
-use Rattle.jk_block.specs.declared.spot.Pass.{Pass}
-use Rattle.jk_block.specs.declared.spot.Pass.TheVariants.{Propagation, Refinement, Cleanup}
-use Rattle.jk_block.specs.declared.spot.Spot.{Spot}
+use Rattle.jk_block.specs.declared.word_place.Pass.{Pass}
+use Rattle.jk_block.specs.declared.word_place.Pass.TheVariants.{Propagation, Refinement, Cleanup}
+use Rattle.jk_block.specs.declared.word_place.WordPlace.{WordPlace}
 use Rattle.jk_block.specs.Reading.{Progress, times, column_at}
 
 -- the number of a pass
@@ -19,13 +19,13 @@ number_of Refinement = refinement
 number_of Cleanup = cleanup
 
 -- The word lies in the block.
-pub record IsSpot (s : BlockShape) (at : Spot) : Type 0 where
+pub record IsWordPlace (s : BlockShape) (at : WordPlace) : Type 0 where
   pub plane : at.plane < 23
   pub word : at.word < across s
   pub stripe : at.stripe < stripes s
 
 -- Bit k of the word is a place of the block.
-pub record IsPlace (s : BlockShape) (at : Spot) (k : ℕ) : Type 0 where
+pub record IsBitPlace (s : BlockShape) (at : WordPlace) (k : ℕ) : Type 0 where
   pub within : k < 64
   pub on_row : of_rows (k % 8) ≡ true
   pub inside : is_inside s (column at.word k) (row at.stripe k) ≡ true

@@ -8,8 +8,8 @@ mod contexts;
 mod decoding;
 mod encoding;
 mod promises;
-mod spot;
 mod theorems;
+mod word_place;
 
 pub use decoding::{Block, decode};
 pub use encoding::{CodedBlock, code, top_bits};

@@ -3,7 +3,7 @@
 ghost use Rattle.std.specs.Prelude.{◌≡◌, ℕ, ℤ, List, Ok, ◌+◌, ◌-◌, ◌*◌, ◌≤◌, ◌<◌, length, take, unsigned_abs};
 ghost use Rattle.std.specs.Int.{is_negative};
 ghost use Rattle.jk_scan.specs.declared.shape.BlockShape.{BlockShape as Shape};
-ghost use Rattle.jk_block.specs.Meaning.{IsBlockMeaning, cut, with_sign, above, value_in};
+ghost use Rattle.jk_block.specs.Meaning.{IsBlockMeaning, truncated, with_sign, above, value_in};
 ghost use Rattle.jk_block.specs.Reading.{block_at};
 ghost use Rattle.jk_block.specs.BlockWritten.{coded, pass_count};
 ghost use Rattle.jk_block.specs.Layers.{passes_upto, bytes_upto};
@@ -30,9 +30,9 @@ pub fn layers_have_bytes()
     ensures means { (s : Shape) (values : List ℤ) (layers l : ℕ) → l < layers
         → IsBlockMeaning s (coded s values).planes (passes_upto layers (coded s values).planes l)
         (take (bytes_upto layers (coded s values) l) (coded s values).bytes)
-        (cut s (coded s values).planes (passes_upto layers (coded s values).planes l) (value_in s values)) }
+        (truncated s (coded s values).planes (passes_upto layers (coded s values).planes l) (value_in s values)) }
     ensures lower { (s : Shape) (values : List ℤ) (layers l x y : ℕ)
-        → cut s (coded s values).planes (passes_upto layers (coded s values).planes l) (value_in s values) x y
+        → truncated s (coded s values).planes (passes_upto layers (coded s values).planes l) (value_in s values) x y
         ≡ with_sign (is_negative (value_in s values x y))
         (above (layers - 1 - l) (unsigned_abs (value_in s values x y))) }
     ensures rises { (s : Shape) (values : List ℤ) (layers l m : ℕ) → l ≤ m → m < layers

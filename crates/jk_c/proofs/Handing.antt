@@ -12,7 +12,7 @@ use Rattle.jk_code.specs.Written.{written}
 use Rattle.jk_c.specs.Answers.{Room, HandsOut, bytes_of}
 use Rattle.jk_c.specs.Codes.{code_of}
 use Rattle.jk_c.specs.Codings.{IsKnownCoding}
-use Rattle.jk_c.specs.Encodings.{IsFileOf, HandsOutFile}
+use Rattle.jk_c.specs.Encodings.{IsEncodedFile, HandsOutFile}
 use Rattle.jk_c.specs.Frames.{IsImageOf}
 use Rattle.jk_c.proofs.Answering.{no_fault, memory_is, bytes_due, bytes_found}
 
@@ -34,7 +34,7 @@ image_is due (Err e) h = inr h
 
 -- what was asked for is handed out
 pub file_due : (due : Picture) (k : CallerCoding) (image : Result Picture Fault) (r : Result (Vec ℕ) Fault) (before after : Room) (code : ℕ)
-    → IsImageOf due image → IsFileOf image k r → HandsOut (bytes_of r) before code after → IsKnownCoding k → IsPicture due
+    → IsImageOf due image → IsEncodedFile image k r → HandsOut (bytes_of r) before code after → IsKnownCoding k → IsPicture due
     → HandsOutFile due k before code after
 file_due due k (Ok p) r before after code image file given known is = elim file [
   | inl memory ↦ inl (memory_out r before after code memory given)
@@ -56,7 +56,7 @@ file_due due k (Err e) r before after code image file given known is = elim imag
 
 -- what is handed out means the image
 pub file_means : (due : Picture) (k : CallerCoding) (image : Result Picture Fault) (r : Result (Vec ℕ) Fault) (before after : Room) (code : ℕ)
-    → IsImageOf due image → IsFileOf image k r → HandsOut (bytes_of r) before code after → code ≡ 0
+    → IsImageOf due image → IsEncodedFile image k r → HandsOut (bytes_of r) before code after → code ≡ 0
     → Means (take after.length after.bytes) 0 due
 file_means due k (Ok p) r before after code image file given done = elim file [
   | inl memory ↦ let out = memory_out r before after code memory given in absurd (omega (arith, out.0, done))

@@ -33,9 +33,9 @@ pub record IsEncodedBy (p : Picture) (k : CallerCoding) (answer : Result (Vec �
 
 -- The file of an image, or the fault that stands in its place; or Memory, or BadParameters of the
 -- coding.
-abbrev pub IsFileOf : Result Picture Fault → CallerCoding → Result (Vec ℕ) Fault → Type 0
-IsFileOf (Err e) k answer = answer ≡ Err e
-IsFileOf (Ok p) k answer =
+abbrev pub IsEncodedFile : Result Picture Fault → CallerCoding → Result (Vec ℕ) Fault → Type 0
+IsEncodedFile (Err e) k answer = answer ≡ Err e
+IsEncodedFile (Ok p) k answer =
     MatchResult answer (λ _. ⊥) IsMemory
     ⊎ (((answer ≡ Err BadParameters) × (IsKnownCoding k → ⊥)) ⊎ IsEncodedBy p k answer)
 

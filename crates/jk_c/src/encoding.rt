@@ -4,7 +4,7 @@ ghost use Rattle.std.specs.Prelude.{◌≡◌, length, take};
 ghost use Rattle.jk_code.specs.Meaning.{Means};
 ghost use Rattle.jk_c.specs.Answers.{room};
 ghost use Rattle.jk_c.specs.Codes.{done_code, parameters_code, misfit_code};
-ghost use Rattle.jk_c.specs.Encodings.{IsFileOf, IsAsked, HandsOutFile, IsRefused};
+ghost use Rattle.jk_c.specs.Encodings.{IsEncodedFile, IsAsked, HandsOutFile, IsRefused};
 ghost use Rattle.jk_c.specs.Frames.{IsKnownFrame, Fills, picture_from};
 ghost use Rattle.jk_c.specs.Signed.{IsKnownSignedFrame, IsAskedSigned, signed_picture_from};
 
@@ -23,7 +23,7 @@ fn file_of(
     image: Result<Image, Fault>,
     coding: &CallerCoding,
 ) -> Result<Vec<u8>, Fault>
-    ensures { IsFileOf image coding.now result }
+    ensures { IsEncodedFile image coding.now result }
 {
     let image = image?;
     let parameters = parameters(alloc, coding)?;

@@ -25,13 +25,13 @@ image_of name images = find (λ (i : Image). bytes_eq name i.name) images
 abbrev pub is_segment_byte : ℕ → Bool
 is_segment_byte b = not (b == 47)
 
-abbrev pub IsSegment : List ℕ → Type 0
-IsSegment name = All (λ b. IsTrue (is_segment_byte b)) name
+abbrev pub IsPathSegment : List ℕ → Type 0
+IsPathSegment name = All (λ b. IsTrue (is_segment_byte b)) name
 
 -- What a call that reads the file of an image gives.
-abbrev pub IsFileOf : Option Image → List ℕ → Type 0
-IsFileOf None file = ⊥
-IsFileOf (Some image) file = file ≡ image.file
+abbrev pub IsImageFile : Option Image → List ℕ → Type 0
+IsImageFile None file = ⊥
+IsImageFile (Some image) file = file ≡ image.file
 
 -- What a call that cuts a window out of it gives.
 abbrev pub IsCutOf : Option Image → View → List ℕ → Type 0
@@ -54,9 +54,9 @@ MayRefuse image broke uncut Changed = broke
 MayRefuse image broke uncut e = ⊥
 
 -- A file that was read in the place of the image's, and isn't the image's.
-abbrev pub IsOtherFile : Option Image → (reads : List ℕ → Type 0) → List ℕ → Type 0
-IsOtherFile None reads file = ⊥
-IsOtherFile (Some image) reads file = reads file × (file ≡ image.file → ⊥)
+abbrev pub IsForeignFile : Option Image → (reads : List ℕ → Type 0) → List ℕ → Type 0
+IsForeignFile None reads file = ⊥
+IsForeignFile (Some image) reads file = reads file × (file ≡ image.file → ⊥)
 
 -- A window that was cut of what was read in the place of the image's file, and isn't the image's.
 abbrev pub IsOtherCut : Option Image → View → (cuts : List ℕ → Type 0) → List ℕ → Type 0
@@ -72,7 +72,7 @@ IsOtherRead cuts image s name asked t cut = IsOtherCut image asked (cuts s name 
 -- what was read in its place.
 abbrev pub IsFileGiven : {S : Type 0} → Option Image → (reads : S → List ℕ → List ℕ → S → Type 0) → S → List ℕ → S
     → List ℕ → Type 0
-IsFileGiven image reads s name t file = IsFileOf image file ⊎ IsOtherFile image (λ f. reads s name f t) file
+IsFileGiven image reads s name t file = IsImageFile image file ⊎ IsForeignFile image (λ f. reads s name f t) file
 
 abbrev pub IsCutGiven : {S : Type 0} → Option Image → View → (cuts : S → List ℕ → View → S → List ℕ → Type 0) → S
     → List ℕ → S → List ℕ → Type 0

@@ -3,7 +3,7 @@
 ghost use Rattle.std.specs.Prelude.{◌≡◌, ◌⊎◌, List, ℕ, is_some, MatchResult, IfOk, IfErr};
 ghost use Rattle.std.specs.List.{flat_map};
 ghost use Rattle.jk_math.specs.Memory.{IsMemory};
-ghost use Rattle.jk_catalogue.specs.Images.{Image, image_of, IsFileOf, IsCutOf, IsFileGiven, IsCutGiven, HasNoCut, MayRefuse, Within};
+ghost use Rattle.jk_catalogue.specs.Images.{Image, image_of, IsImageFile, IsCutOf, IsFileGiven, IsCutGiven, HasNoCut, MayRefuse, Within};
 
 use jk_math::Fault;
 use jk_window::View;
@@ -53,7 +53,7 @@ pub trait Catalogue {
             (λ e. MayRefuse (image_of name.now images) (broke self.old name.now self.new) ⊥ e) }
         // A file that is kept is what is given.
         ensures same { (images : List Image) → stands self.old images → keeps self.old images
-            → IfOk result (λ v. IsFileOf (image_of name.now images) v.items) }
+            → IfOk result (λ v. IsImageFile (image_of name.now images) v.items) }
         ensures stands { (images : List Image) → stands self.old images → stands self.new images }
         ensures keeps { (images : List Image) → keeps self.old images → keeps self.new images }
         ensures lasts { Within (made self.old) (made self.new) }

@@ -8,7 +8,7 @@ use Rattle.jk_math.specs.Raster.{raster, plane_at, places_of}
 use Rattle.jk_math.proofs.Laws.{raster_length, raster_at, raster_is}
 use Rattle.jk_geom.specs.Rectangles.{IsWithin}
 use Rattle.jk_params.specs.Headers.{Headers}
-use Rattle.jk_code.specs.Meaning.{IsFrameOf}
+use Rattle.jk_code.specs.Meaning.{IsReducedFrame}
 use Rattle.jk_code.specs.MeaningReading.{sample_of_tiles, picture_with, planes_of_tiles}
 use Rattle.jk_window.specs.Views.{frame_of}
 
@@ -16,7 +16,7 @@ use Rattle.jk_window.specs.Views.{frame_of}
 abbrev pub tiles_picture : List ℕ → Headers → ℕ → Picture
 tiles_picture bytes h d = picture_with h.siz (frame_of h d) (planes_of_tiles bytes h d (frame_of h d))
 
-pub tiles_frame : (bytes : List ℕ) (h : Headers) (d : ℕ) → (frame_of h d).x0 < (frame_of h d).x1 → (frame_of h d).y0 < (frame_of h d).y1 → IsFrameOf h d (tiles_picture bytes h d)
+pub tiles_frame : (bytes : List ℕ) (h : Headers) (d : ℕ) → (frame_of h d).x0 < (frame_of h d).x1 → (frame_of h d).y0 < (frame_of h d).y1 → IsReducedFrame h d (tiles_picture bytes h d)
 tiles_frame bytes h d wide high =
     let a = frame_of h d in
     let f : ℕ → List ℤ = λ c. raster a (sample_of_tiles bytes h d c) in
@@ -54,7 +54,7 @@ fields_from p x0 y0 width height depth signed planes a b c d e f g =
     ∙ ap (λ (k : List (List ℤ)). record p { x0 = x0; y0 = y0; width = width; height = height; depth = depth; signed = signed; planes = k }) g
 
 -- A picture of the frame with these samples is that of the tiles.
-pub picture_is : (bytes : List ℕ) (h : Headers) (d : ℕ) (p : Picture) → IsFrameOf h d p
+pub picture_is : (bytes : List ℕ) (h : Headers) (d : ℕ) (p : Picture) → IsReducedFrame h d p
     → ((c x y : ℕ) → c < h.siz.components → IsWithin (frame_of h d) x y → sample_at p c (x - p.x0) (y - p.y0) ≡ sample_of_tiles bytes h d c x y) → p ≡ tiles_picture bytes h d
 picture_is bytes h d p frame same =
     let a = frame_of h d in

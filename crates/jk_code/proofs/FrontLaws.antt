@@ -33,7 +33,7 @@ use Rattle.jk_window.specs.Again.{front_runs, AreAlike}
 use Rattle.jk_window.specs.Views.{HaveLevels, frame_of, window_at}
 use Rattle.jk_window.specs.Fronts.{front_tree}
 use Rattle.jk_window.proofs.Laws.{front_bodies, front_again, front_fits, window_found}
-use Rattle.jk_code.specs.Meaning.{IsFrameOf, ShowsLayers, MeansPictureIn, MeansPicture, MeansLayers}
+use Rattle.jk_code.specs.Meaning.{IsReducedFrame, ShowsLayers, MeansPictureIn, MeansPicture, MeansLayers}
 use Rattle.jk_code.specs.Written.{tree_for, parts_fit}
 use Rattle.jk_code.specs.Fronts.{reduced_place, front_picture, HasFronts}
 use Rattle.jk_code.proofs.EmptiedTiles.{left_of, left_tile, decodes_alike}
@@ -80,7 +80,7 @@ front_count p q k d = length-map-range_with_len (λ c. raster (reduced_place p q
 front_plane : (p : Picture) (q : Parameters) (k d c : ℕ) → c < length p.planes → get_or (front_picture p q k d).planes c [] ≡ raster (reduced_place p q d) (plane_sample p q k d c)
 front_plane p q k d c lt = get_or-map-range_with_len (λ c. raster (reduced_place p q d) (plane_sample p q k d c)) 0 (length p.planes) c c [] lt (omega arith)
 
-front_frame : (p : Picture) (q : Parameters) (k d : ℕ) (tiles : List TileFields) → is_empty (reduced_place p q d) ≡ false → IsFrameOf (record { siz = siz_of p q; tiles = tiles }) d (front_picture p q k d)
+front_frame : (p : Picture) (q : Parameters) (k d : ℕ) (tiles : List TileFields) → is_empty (reduced_place p q d) ≡ false → IsReducedFrame (record { siz = siz_of p q; tiles = tiles }) d (front_picture p q k d)
 front_frame p q k d tiles some =
     let area = reduced_place p q d in
     let sides = sides_of area some in
@@ -164,13 +164,13 @@ front_shown p q k d bytes i is means =
     let count : tile_count g.siz ≡ tile_count h.siz = ap tile_count alike.siz in
     let one : means.headers ≡ h = ok_is means.headers h (sym (only_headers is.codestream means.headers means.says) ∙ only_headers is.codestream h is.says) in
     let levels : HaveLevels h d = subst (λ (x : Headers). HaveLevels x d) one means.reduction in
-    let frame : IsFrameOf h d p = subst (λ (x : Headers). IsFrameOf x d p) one means.frame in
+    let frame : IsReducedFrame h d p = subst (λ (x : Headers). IsReducedFrame x d p) one means.frame in
     let tiles : (t : ℕ) → t < tile_count h.siz → ShowsLayers is.codestream h d (Some k) p t = subst (λ (x : Headers). (t : ℕ) → t < tile_count x.siz → ShowsLayers is.codestream x d (Some k) p t) one means.tiles in
     record {
       headers = g;
       says = again.says;
       reduction = levels_alike d g.tiles h.tiles levels (many ∙ count ∙ sym long) (λ t lt. alike.codings t (omega (arith, lt, many, count)));
-      frame = subst (λ (s : Siz). IsFrameOf (record g { siz = s }) d p) (sym alike.siz) (record {
+      frame = subst (λ (s : Siz). IsReducedFrame (record g { siz = s }) d p) (sym alike.siz) (record {
         left = frame.left;
         upper = frame.upper;
         right = frame.right;

@@ -9,14 +9,14 @@ use Rattle.jk_math.specs.Picture.{Picture}
 use Rattle.jk_math.specs.declared.fault.Fault.{Fault}
 use Rattle.jk_math.specs.declared.fault.Fault.TheVariants.{Limit}
 use Rattle.jk_marks.specs.Siz.{tile_count}
-use Rattle.jk_marks.specs.Codestream.{Part, part_text}
+use Rattle.jk_marks.specs.Codestream.{CodestreamPart, part_text}
 use Rattle.jk_params.specs.declared.parameters.Parameters.{Parameters}
 use Rattle.jk_params.specs.Profile.{siz_of}
 use Rattle.jk_window.proofs.Laws.{below_fails}
 use Rattle.jk_code.specs.Written.{part_fits, parts_fit}
 
 -- one part more
-pub parts_more : (f : ℕ → Part) (t : ℕ) → flat_map part_text (map f (range_with_len 0 (t + 1))) ≡ flat_map part_text (map f (range_with_len 0 t)) ++ part_text (f t)
+pub parts_more : (f : ℕ → CodestreamPart) (t : ℕ) → flat_map part_text (map f (range_with_len 0 (t + 1))) ≡ flat_map part_text (map f (range_with_len 0 t)) ++ part_text (f t)
 parts_more f t =
     let same : 0 + t ≡ t = omega arith in
     let before = map f (range_with_len 0 t) in

@@ -23,7 +23,7 @@ use Rattle.jk_params.specs.HeadersReading.{headers_at}
 use Rattle.jk_tile.specs.Filling.{IsPartOf}
 use Rattle.jk_tile.proofs.Laws.{fine, bind_ok}
 use Rattle.jk_window.specs.Views.{HaveLevels, frame_of}
-use Rattle.jk_code.specs.declared.stripes.Cut.{Cut}
+use Rattle.jk_code.specs.declared.stripes.StripeCut.{StripeCut}
 use Rattle.jk_code.specs.declared.frames.ImageFrame.{ImageFrame}
 use Rattle.jk_code.specs.declared.making.MadeStripes.{MadeStripes}
 use Rattle.jk_code.specs.Frames.{headers_frame_at, IsFrameOfPicture}
@@ -70,7 +70,7 @@ pub record IsMadeStripe {A : Type 0} (gives : Picture → A → Type 0) (bytes :
   pub made : IfOk r (gives (picture_with h.siz stripe (planes_of_tiles bytes h d stripe)))
 
 -- Each of these is made of its stripe.
-pub record AreStripes {A : Type 0} (gives : Picture → A → Type 0) (bytes : List ℕ) (h : Headers) (d : ℕ) (a : Rect) (cut : Cut) (made : List A) : Type 0 where
+pub record AreStripes {A : Type 0} (gives : Picture → A → Type 0) (bytes : List ℕ) (h : Headers) (d : ℕ) (a : Rect) (cut : StripeCut) (made : List A) : Type 0 where
   pub count : length made ≡ cut.count
   pub tested : (w : ℕ) → w < cut.count → seen_parts_tested bytes h d (stripe_of a cut w) (tile_count h.siz) ≡ fine
   pub given : (w : ℕ) (x : A) → w < cut.count → gives (picture_with h.siz (stripe_of a cut w) (planes_of_tiles bytes h d (stripe_of a cut w))) (get_or made w x)
@@ -79,7 +79,7 @@ some_of : {X : Type 0} (xs : List X) → 0 < length xs → X
 some_of [] lt = absurd (omega (arith, lt))
 some_of (x ∷ xs) lt = x
 
-pub are_stripes : {A : Type 0} (gives : Picture → A → Type 0) (bytes : List ℕ) (h : Headers) (d : ℕ) (a : Rect) (cut : Cut) (made : List A) (parts : List (Result A Fault)) → map Ok made ≡ parts → length parts ≡ cut.count
+pub are_stripes : {A : Type 0} (gives : Picture → A → Type 0) (bytes : List ℕ) (h : Headers) (d : ℕ) (a : Rect) (cut : StripeCut) (made : List A) (parts : List (Result A Fault)) → map Ok made ≡ parts → length parts ≡ cut.count
     → ((i : ℕ) (r : Result A Fault) → i < cut.count → IsMadeStripe gives bytes h d (stripe_of a cut i) (get_or parts i r)) → AreStripes gives bytes h d a cut made
 are_stripes {A} gives bytes h d a cut made parts e long each =
     let count : length made ≡ cut.count = sym (length-map made (λ (y : A). let r : Result A Fault = Ok y in r)) ∙ ap (λ (rs : List (Result A Fault)). length rs) e ∙ long in
@@ -103,7 +103,7 @@ rows_are bytes h d y z is low high =
     ∙ ap (λ (r : Rect). picture_on r p) (same_rect w (record { x0 = p.x0; y0 = y; x1 = p.x0 + p.width; y1 = z }) refl refl (omega (arith, left)) refl)
 
 -- those from stripe n on
-made_from : {A : Type 0} (gives : Picture → A → Type 0) (bytes : List ℕ) (h : Headers) (d : ℕ) (cut : Cut) (n : ℕ) (made : List A) → IsArea (frame_of h d) → 1 ≤ cut.count → n + length made ≡ cut.count
+made_from : {A : Type 0} (gives : Picture → A → Type 0) (bytes : List ℕ) (h : Headers) (d : ℕ) (cut : StripeCut) (n : ℕ) (made : List A) → IsArea (frame_of h d) → 1 ≤ cut.count → n + length made ≡ cut.count
     → ((w : ℕ) → w < cut.count → bound_of (frame_of h d) cut w < bound_of (frame_of h d) cut (suc w))
     → ((i : ℕ) (x : A) → i < length made → gives (picture_with h.siz (stripe_of (frame_of h d) cut (n + i)) (planes_of_tiles bytes h d (stripe_of (frame_of h d) cut (n + i)))) (get_or made i x))
     → AreMade gives (tiles_picture bytes h d) (bound_of (frame_of h d) cut n) made
@@ -129,7 +129,7 @@ made_from {A} gives bytes h d cut n (m ∷ made) is some count each given =
     )
 
 -- Together they are made of the picture of all tiles.
-all_made : {A : Type 0} (gives : Picture → A → Type 0) (bytes : List ℕ) (h : Headers) (d : ℕ) (cut : Cut) (made : List A) → IsArea (frame_of h d) → 1 ≤ cut.count
+all_made : {A : Type 0} (gives : Picture → A → Type 0) (bytes : List ℕ) (h : Headers) (d : ℕ) (cut : StripeCut) (made : List A) → IsArea (frame_of h d) → 1 ≤ cut.count
     → ((w : ℕ) → w < cut.count → bound_of (frame_of h d) cut w < bound_of (frame_of h d) cut (suc w)) → AreStripes gives bytes h d (frame_of h d) cut made → AreMade gives (tiles_picture bytes h d) (frame_of h d).y0 made
 all_made gives bytes h d cut made is some each are =
     let count = are.count in
@@ -142,7 +142,7 @@ pub record IsAllMade {A : Type 0} (gives : Picture → A → Type 0) (bytes : Li
   pub tested : tiles_tested bytes h d (tile_count h.siz) ≡ fine
   pub made_is : AreMade gives (picture_with h.siz a (planes_of_tiles bytes h d a)) a.y0 made
 
-pub stripes_made : {A : Type 0} (gives : Picture → A → Type 0) (bytes : List ℕ) (h : Headers) (d : ℕ) (a : Rect) (cut : Cut) (made : List A) → AreHeaders (length bytes) h → HaveLevels h d → a ≡ frame_of h d → IsArea a → 1 ≤ cut.count
+pub stripes_made : {A : Type 0} (gives : Picture → A → Type 0) (bytes : List ℕ) (h : Headers) (d : ℕ) (a : Rect) (cut : StripeCut) (made : List A) → AreHeaders (length bytes) h → HaveLevels h d → a ≡ frame_of h d → IsArea a → 1 ≤ cut.count
     → ((w : ℕ) → w < cut.count → bound_of a cut w < bound_of a cut (suc w)) → AreStripes gives bytes h d a cut made → IsAllMade gives bytes h d a made
 stripes_made gives bytes h d a cut made sound levels e is some each are =
     subst (λ (r : Rect). IsArea r → ((w : ℕ) → w < cut.count → bound_of r cut w < bound_of r cut (suc w)) → AreStripes gives bytes h d r cut made → IsAllMade gives bytes h d r made) (sym e)

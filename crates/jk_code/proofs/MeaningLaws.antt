@@ -22,7 +22,7 @@ use Rattle.jk_geom.proofs.Laws.{tile_covers}
 use Rattle.jk_params.specs.Headers.{Headers, TileFields, tile_in, IsHeaders, AreHeaders}
 use Rattle.jk_params.specs.HeadersReading.{headers_at}
 use Rattle.jk_params.proofs.Laws.{found_headers, only_headers, sound_headers}
-use Rattle.jk_code.specs.Meaning.{IsFrameOf, ShowsTile, MeansPicture, Means}
+use Rattle.jk_code.specs.Meaning.{IsReducedFrame, ShowsTile, MeansPicture, Means}
 use Rattle.jk_walk.specs.WalkReading.{packets_at}
 use Rattle.jk_tile.specs.decoding.TileReading.{tested, tile_planes_at}
 use Rattle.jk_code.specs.MeaningReading.{places_at, packets_tested, tiles_tested, reduction_at, picture_with, planes_of_tiles, picture_at, image_at, meaning_at}
@@ -106,7 +106,7 @@ unfolding image_at
 found_image bytes d p fits e =
     bind_then (headers_at bytes) _ p e (λ h s f. found_picture bytes h d p (found_headers bytes h fits s) f)
 
-only_picture : (bytes : List ℕ) (h : Headers) (d : ℕ) (p : Picture) → AreHeaders (length bytes) h → HaveLevels d h.tiles → IsFrameOf h d p
+only_picture : (bytes : List ℕ) (h : Headers) (d : ℕ) (p : Picture) → AreHeaders (length bytes) h → HaveLevels d h.tiles → IsReducedFrame h d p
     → ((t : ℕ) → t < tile_count h.siz → ShowsTile bytes h d p t) → picture_at h bytes d ≡ Ok p
 only_picture bytes h d p sound levels frame tiles =
     let left = frame.left in

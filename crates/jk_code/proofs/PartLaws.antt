@@ -4,7 +4,7 @@ use Rattle.std.specs.List.{range_with_len, AllByRecursion}
 use Rattle.std.proofs.lemmas.Bool.{cases_lt, ltb-true, eqb-true, eqb-false, ne_eqb}
 use Rattle.jk_math.specs.Picture.{Picture}
 use Rattle.jk_marks.specs.Siz.{tile_count}
-use Rattle.jk_marks.specs.Codestream.{Part, of_tile, only_part_of, IsPart, AreParts, AreClosedBeforeLast}
+use Rattle.jk_marks.specs.Codestream.{CodestreamPart, of_tile, only_part_of, IsPart, AreParts, AreClosedBeforeLast}
 use Rattle.jk_geom.proofs.Laws.{some_tile}
 use Rattle.jk_params.specs.declared.parameters.Parameters.{Parameters}
 use Rattle.jk_params.specs.Headers.{total}
@@ -15,7 +15,7 @@ use Rattle.jk_code.specs.Written.{part_for, part_fits, parts_fit}
 use Rattle.jk_window.proofs.Laws.{below_at}
 
 -- the parts that are written
-abbrev pub parts_for : Picture → Parameters → List Part
+abbrev pub parts_for : Picture → Parameters → List CodestreamPart
 parts_for p q = map (part_for p q) (range_with_len 0 (tile_count (siz_of p q)))
 
 -- sums over the numbers below n
@@ -26,7 +26,7 @@ total_below f g (suc n) same =
     ap (λ x. x + f n) (total_below f g n (λ t lt. same t (omega (arith, lt)))) ∙ ap (λ x. total g n + x) (same n (omega arith))
 
 -- the parts of a tile among those of the tiles from a on
-abbrev run : (ℕ → List ℕ) → ℕ → ℕ → List Part
+abbrev run : (ℕ → List ℕ) → ℕ → ℕ → List CodestreamPart
 run f a n = map (λ i. only_part_of i (f i)) (range_with_len a n)
 
 no_part : (f : ℕ → List ℕ) (a n t : ℕ) → ((i : ℕ) → a ≤ i → i < a + n → i ≢ t) → of_tile t (run f a n) ≡ []
@@ -40,14 +40,14 @@ one_part : (f : ℕ → List ℕ) (a n t : ℕ) → a ≤ t → t < a + n → of
 one_part f a zero t le lt = absurd (omega (arith, le, lt))
 one_part f a (suc n) t le lt = by (eqb a t) refl (one_part f (a + 1) n t)
   where
-    rest : List Part
+    rest : List CodestreamPart
     rest = of_tile t (run f (a + 1) n)
 
     by : (b : Bool) → eqb a t ≡ b → (a + 1 ≤ t → t < a + 1 + n → rest ≡ only_part_of t (f t) ∷ []) → of_tile t (run f a (suc n)) ≡ only_part_of t (f t) ∷ []
     by true e later =
         let same = eqb-true a t e in
         ap (λ b. put b (only_part_of a (f a)) rest) e
-        ∙ ap (λ (ps : List Part). only_part_of a (f a) ∷ ps) (no_part f (a + 1) n t (λ i low high is. omega (arith, low, is, same)))
+        ∙ ap (λ (ps : List CodestreamPart). only_part_of a (f a) ∷ ps) (no_part f (a + 1) n t (λ i low high is. omega (arith, low, is, same)))
         ∙ ap (λ k. only_part_of k (f k) ∷ []) same
     by false e later =
         let differs = eqb-false a t e in
@@ -92,8 +92,8 @@ parts_are p q by fit = record {
     some zero lt = absurd (omega (arith, lt))
     some (suc n) lt = omega arith
 
-    IsNumbered : List Part → Type 0
-    IsNumbered ps = map (λ (x : Part). x.number) ps ≡ range_with_len 0 (length ps)
+    IsNumbered : List CodestreamPart → Type 0
+    IsNumbered ps = map (λ (x : CodestreamPart). x.number) ps ≡ range_with_len 0 (length ps)
 
     numbered : (t : ℕ) → (t < tile_count (siz_of p q)) ⊎ (tile_count (siz_of p q) ≤ t) → IsNumbered (of_tile t (parts_for p q))
     numbered t (inl lt) = subst IsNumbered (sym (part_said p q t lt)) refl

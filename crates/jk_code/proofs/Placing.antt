@@ -21,7 +21,7 @@ use Rattle.jk_geom.proofs.Laws.{ceil_mono, tile_covers}
 use Rattle.jk_params.specs.Headers.{Headers}
 use Rattle.jk_walk.specs.declared.places.PacketPlace.{PacketPlace}
 use Rattle.jk_geom.specs.declared.shape.TileShape.{TileShape}
-use Rattle.jk_walk.specs.WalkReading.{place_end, IsPlace, packets_at}
+use Rattle.jk_walk.specs.WalkReading.{place_end, IsPacketPlace, packets_at}
 use Rattle.jk_tile.specs.Filling.{IsPartOf}
 use Rattle.jk_tile.specs.TileMeaning.{shown_area}
 use Rattle.jk_tile.specs.decoding.TileReading.{tested, tile_planes_at, component_samples}
@@ -236,7 +236,7 @@ pub part_is : (h : Headers) (t d : ℕ) (siz : Siz) (rect part : Rect) → siz �
 part_is h t d siz rect part es er e = e ∙ ap (λ (a : Rect). reduced_area a d) (er ∙ ap (λ (s : Siz). tile_area s t) es)
 
 -- the packets of a tile end where the codestream does
-pub ends_of : (size : ℕ) (s : TileShape) (places : List PacketPlace) → AllByRecursion (IsPlace size s) places → AllByRecursion (λ w. place_end w ≤ size) places
+pub ends_of : (size : ℕ) (s : TileShape) (places : List PacketPlace) → AllByRecursion (IsPacketPlace size s) places → AllByRecursion (λ w. place_end w ≤ size) places
 ends_of size s [] h = tt
 ends_of size s (w ∷ places) h = (h.0.within, ends_of size s places h.1)
 

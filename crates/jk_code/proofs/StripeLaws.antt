@@ -17,7 +17,7 @@ use Rattle.jk_window.specs.Views.{HaveLevels, frame_of}
 use Rattle.jk_tile.specs.Filling.{IsPartOf}
 use Rattle.jk_tile.specs.decoding.TileReading.{tested, tile_planes_at, part_planes_at}
 use Rattle.jk_tile.proofs.Laws.{fine, each_found, each_only, levels_read, tile_covered}
-use Rattle.jk_code.specs.declared.stripes.Cut.{Cut}
+use Rattle.jk_code.specs.declared.stripes.StripeCut.{StripeCut}
 use Rattle.jk_code.specs.MeaningReading.{places_at, tiles_tested}
 use Rattle.jk_code.specs.Stripes.{bound_of, stripe_of}
 use Rattle.jk_code.specs.ViewReading.{seen_part, is_seen, seen_parts_tested}
@@ -34,7 +34,7 @@ chosen : (b : Bool) (a : Rect) (x y : ℕ) → IsBound a x → IsBound a y → I
 chosen true a x y h g = h
 chosen false a x y h g = g
 
-bound_is : (a : Rect) (cut : Cut) (n : ℕ) → IsArea a → IsBound a (bound_of a cut n)
+bound_is : (a : Rect) (cut : StripeCut) (n : ℕ) → IsArea a → IsBound a (bound_of a cut n)
 bound_is a cut zero is = let upper = is.upper in record { low = omega arith; high = omega (arith, upper) }
 bound_is a cut (suc n) is =
     let upper = is.upper in
@@ -47,7 +47,7 @@ between true false x y end low more on = absurd (let clash = on refl in cc)
 between false true x y end low more on = low
 between false false x y end low more on = more
 
-pub bound_rises : (a : Rect) (cut : Cut) (n : ℕ) → IsArea a → bound_of a cut n ≤ bound_of a cut (suc n)
+pub bound_rises : (a : Rect) (cut : StripeCut) (n : ℕ) → IsArea a → bound_of a cut n ≤ bound_of a cut (suc n)
 bound_rises a cut zero is = (bound_is a cut 1 is).low
 bound_rises a cut (suc n) is =
     let step : n * cut.step ≤ suc n * cut.step = grind arith in
@@ -55,14 +55,14 @@ bound_rises a cut (suc n) is =
     (λ e. le-leb cut.count (suc (suc n)) (let few = leb-true cut.count (suc n) e in omega (arith, few)))
 
 -- the last one ends with the rectangle
-pub bound_last : (a : Rect) (cut : Cut) → 1 ≤ cut.count → bound_of a cut cut.count ≡ a.y1
+pub bound_last : (a : Rect) (cut : StripeCut) → 1 ≤ cut.count → bound_of a cut cut.count ≡ a.y1
 bound_last a cut some = subst (λ n. bound_of a cut n ≡ a.y1) (let e : suc (cut.count - 1) ≡ cut.count = omega (arith, some) in e) (by (leb cut.count (suc (cut.count - 1))) refl)
   where
     by : (b : Bool) → leb cut.count (suc (cut.count - 1)) ≡ b → (if leb cut.count (suc (cut.count - 1)) then a.y1 else min (a.y0 + cut.first + (cut.count - 1) * cut.step) a.y1) ≡ a.y1
     by true e = ap (λ (b : Bool). if b then a.y1 else min (a.y0 + cut.first + (cut.count - 1) * cut.step) a.y1) e
     by false e = absurd (let less = leb-false cut.count (suc (cut.count - 1)) e in omega (arith, less))
 
-pub stripe_part : (a : Rect) (cut : Cut) (n : ℕ) → IsArea a → IsPartOf (stripe_of a cut n) a
+pub stripe_part : (a : Rect) (cut : StripeCut) (n : ℕ) → IsArea a → IsPartOf (stripe_of a cut n) a
 stripe_part a cut n is =
     let here = bound_is a cut n is in
     let next = bound_is a cut (suc n) is in
@@ -70,7 +70,7 @@ stripe_part a cut n is =
     let left = is.left in
     record { left = omega arith; across = left; right = omega arith; upper = here.low; down = rises; lower = next.high }
 
-pub stripe_area : (a : Rect) (cut : Cut) (n : ℕ) → IsArea a → IsArea (stripe_of a cut n)
+pub stripe_area : (a : Rect) (cut : StripeCut) (n : ℕ) → IsArea a → IsArea (stripe_of a cut n)
 stripe_area a cut n is =
     let next = bound_is a cut (suc n) is in
     let rises = bound_rises a cut n is in
@@ -88,7 +88,7 @@ row_found b (suc n) y low high = elim (cases_lt y (b n)) [
 -- ---- each has a row
 
 -- what a stripe begins and ends with, by how far it is from the first
-pub stripe_rows : (a : Rect) (cut : Cut) → a.y0 < a.y1 → 1 ≤ cut.first → 1 ≤ cut.step
+pub stripe_rows : (a : Rect) (cut : StripeCut) → a.y0 < a.y1 → 1 ≤ cut.first → 1 ≤ cut.step
     → ((m : ℕ) → suc m < cut.count → a.y0 + cut.first + m * cut.step < a.y1) → (n : ℕ) → n < cut.count → bound_of a cut n < bound_of a cut (suc n)
 stripe_rows a cut high first step behind zero lt = by (leb cut.count 1) refl
   where
@@ -115,7 +115,7 @@ asked true r s x e f = f
 asked false r s x e f = absurd cc
 
 -- Where the code-blocks of all stripes are fine, those of all tiles are.
-pub stripes_fine : (bytes : List ℕ) (h : Headers) (d : ℕ) (cut : Cut) → AreHeaders (length bytes) h → HaveLevels h d → IsArea (frame_of h d) → 1 ≤ cut.count
+pub stripes_fine : (bytes : List ℕ) (h : Headers) (d : ℕ) (cut : StripeCut) → AreHeaders (length bytes) h → HaveLevels h d → IsArea (frame_of h d) → 1 ≤ cut.count
     → ((w : ℕ) → w < cut.count → seen_parts_tested bytes h d (stripe_of (frame_of h d) cut w) (tile_count h.siz) ≡ fine)
     → tiles_tested bytes h d (tile_count h.siz) ≡ fine
 stripes_fine bytes h d cut are levels is some stripes =

@@ -32,7 +32,7 @@ use Rattle.jk_window.specs.Views.{have_levels, window_of, area_at, window_at, Ha
 use Rattle.jk_window.specs.Indexing.{IndexFields, IsIndexOf}
 use Rattle.jk_window.specs.Cutting.{with_codestream, cut_tree}
 use Rattle.jk_window.proofs.Laws.{cut_again, window_area_is}
-use Rattle.jk_code.specs.Meaning.{IsFrameOf, ShowsLayers, ShowsTile, MeansPictureIn, MeansPicture, MeansLayers}
+use Rattle.jk_code.specs.Meaning.{IsReducedFrame, ShowsLayers, ShowsTile, MeansPictureIn, MeansPicture, MeansLayers}
 use Rattle.jk_code.specs.MeaningReading.{places_or, places_at}
 use Rattle.jk_code.specs.Windows.{IsSameOnWindow, IsWindowMeant}
 use Rattle.jk_code.proofs.FrameLaws.{tiles_picture, tiles_frame, tiles_sample}
@@ -45,7 +45,7 @@ use Rattle.jk_code.proofs.WindowTile.{IsTileSeen, tile_seen}
 -- What a codestream of these headers means, in these layers.
 record IsPictureOf (codestream : List ℕ) (h : Headers) (d : ℕ) (layers : Option ℕ) (p : Picture) : Type 0 where
   reduction : HaveLevels h d
-  frame : IsFrameOf h d p
+  frame : IsReducedFrame h d p
   tiles : (t : ℕ) → t < tile_count h.siz → ShowsLayers codestream h d layers p t
 
 -- There is one reading of a file's codestream and headers.
@@ -186,7 +186,7 @@ reply_is bytes i is w v p picture =
 
 -- ---- the file of a window
 
-same_window : (new : List ℕ) (h : Headers) (v : View) (w : Rect) (p : Picture) → w ≡ window_of h v → IsFrameOf h v.reduce p → (r : IsReply new h v.reduce w p) → IsSameOnWindow v p (tiles_picture new r.headers v.reduce)
+same_window : (new : List ℕ) (h : Headers) (v : View) (w : Rect) (p : Picture) → w ≡ window_of h v → IsReducedFrame h v.reduce p → (r : IsReply new h v.reduce w p) → IsSameOnWindow v p (tiles_picture new r.headers v.reduce)
 same_window new h v w p own frame r =
     let d = v.reduce in
     let a = frame_of h d in

@@ -9,7 +9,7 @@ use Rattle.jk_marks.specs.declared.coding.Coding.{Coding}
 use Rattle.jk_marks.specs.Siz.{tile_count}
 use Rattle.jk_marks.specs.Segments.{Segment}
 use Rattle.jk_marks.specs.Markers.{marker_text, eoc}
-use Rattle.jk_marks.specs.Codestream.{Part, main_text, part_text, codestream_text, of_tile}
+use Rattle.jk_marks.specs.Codestream.{CodestreamPart, main_text, part_text, codestream_text, of_tile}
 use Rattle.jk_boxes.specs.Boxes.{HoldsCodestream}
 use Rattle.jk_geom.specs.Rectangles.{tile_area, resolution_area}
 use Rattle.jk_geom.specs.Partitions.{image_area, reduced_area}
@@ -23,7 +23,7 @@ use Rattle.jk_walk.specs.TilePackets.{slice_of}
 use Rattle.jk_tile.specs.encoding.PacketsWritten.{tile_text}
 use Rattle.jk_tile.specs.TileMeaning.{DecodesTile}
 use Rattle.jk_tile.proofs.Laws.{planes_have, written_decodes}
-use Rattle.jk_code.specs.Meaning.{IsFrameOf, ShowsTile, MeansPicture, Means}
+use Rattle.jk_code.specs.Meaning.{IsReducedFrame, ShowsTile, MeansPicture, Means}
 use Rattle.jk_code.specs.Written.{tree_for, parts_fit}
 use Rattle.jk_code.proofs.HeaderLaws.{segments_for, quantisation_for, coding_in, main_is, coding_said, codings_said}
 use Rattle.jk_code.proofs.PartLaws.{parts_for, part_said, parts_are, total_below}
@@ -97,7 +97,7 @@ planes_full : (p : Picture) → IsPicture p → All (λ (plane : List ℤ). leng
 planes_full p is =
     All-from_get_or (λ (plane : List ℤ). length plane ≡ p.width * p.height) p.planes [] (λ c lt. (All-get_or (IsPlane (p.width * p.height) p.depth p.signed) p.planes c [] lt is.components.each).count)
 
-pub frame_is : (p : Picture) (q : Parameters) → IsPicture p → IsFrameOf (headers_for p q) 0 p
+pub frame_is : (p : Picture) (q : Parameters) → IsPicture p → IsReducedFrame (headers_for p q) 0 p
 frame_is p q is =
     let whole = sym (whole_area (image_area (siz_of p q))) in
     record {
@@ -115,7 +115,7 @@ frame_is p q is =
 
 -- the data of a tile
 pub content_said : (p : Picture) (q : Parameters) (t : ℕ) → t < tile_count (siz_of p q) → map (slice_of (codestream_text (tree_for p q))) (places_for p q t) ≡ tile_text p q t ∷ []
-content_said p q t lt = contents_from (codestream_text (tree_for p q)) (tree_for p q) t refl ∙ ap (λ (ps : List Part). map (λ (x : Part). x.content) ps) (part_said p q t lt)
+content_said p q t lt = contents_from (codestream_text (tree_for p q)) (tree_for p q) t refl ∙ ap (λ (ps : List CodestreamPart). map (λ (x : CodestreamPart). x.content) ps) (part_said p q t lt)
 
 -- the samples of a tile
 abbrev samples_of : Picture → ℕ → ℕ → ℕ → ℤ

@@ -10,7 +10,7 @@ use Rattle.jk_params.specs.Headers.{Headers, tile_in, IsHeaders}
 use Rattle.jk_tile.specs.TileMeaning.{shown_area, DecodesLayers}
 
 -- the place, size, depth and sign of the reduced image, which isn't empty
-pub record IsFrameOf (h : Headers) (d : ℕ) (p : Picture) : Type 0 where
+pub record IsReducedFrame (h : Headers) (d : ℕ) (p : Picture) : Type 0 where
   pub left : p.x0 ≡ (reduced_area (image_area h.siz) d).x0
   pub upper : p.y0 ≡ (reduced_area (image_area h.siz) d).y0
   pub right : p.x0 + p.width ≡ (reduced_area (image_area h.siz) d).x1
@@ -41,7 +41,7 @@ pub record MeansPictureIn (codestream : List ℕ) (d : ℕ) (layers : Option ℕ
   pub headers : Headers
   pub says : IsHeaders codestream headers
   pub reduction : AllByRecursion (λ f. AllByRecursion (λ k. d ≤ k.levels) f.codings) headers.tiles
-  pub frame : IsFrameOf headers d p
+  pub frame : IsReducedFrame headers d p
   pub tiles : (t : ℕ) → t < tile_count headers.siz → ShowsLayers codestream headers d layers p t
 
 abbrev pub MeansPicture : List ℕ → (d : ℕ) → Picture → Type 0

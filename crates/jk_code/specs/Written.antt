@@ -6,7 +6,7 @@ use Rattle.jk_math.specs.declared.fault.Fault.TheVariants.{BadParameters, Limit}
 use Rattle.jk_math.specs.Picture.{Picture}
 use Rattle.jk_marks.specs.declared.main_header.Main.{Main}
 use Rattle.jk_marks.specs.Siz.{tile_count}
-use Rattle.jk_marks.specs.Codestream.{Part, Tree, codestream_text, segments_of, only_part_of, by_component}
+use Rattle.jk_marks.specs.Codestream.{CodestreamPart, Tree, codestream_text, segments_of, only_part_of, by_component}
 use Rattle.jk_boxes.specs.Written.{wrapped}
 use Rattle.jk_params.specs.declared.parameters.Parameters.{Parameters}
 use Rattle.jk_params.specs.declared.parameters.Container.{Container}
@@ -27,7 +27,7 @@ main_for p q = record {
 }
 
 -- the only part of tile t
-abbrev pub part_for : Picture → Parameters → ℕ → Part
+abbrev pub part_for : Picture → Parameters → ℕ → CodestreamPart
 part_for p q t = only_part_of t (tile_text p q t)
 
 -- the codestream as a tree: tile after tile, each in one part

@@ -25,7 +25,7 @@ use crate::coded::CodedImage;
 use crate::decoding::{all_packets, all_planes, image_of};
 use crate::frames::{ImageFrame, headers_frame};
 use crate::reduction::check_reduction;
-use crate::stripes::{Cut, cut_for, stripe, stripe_planes};
+use crate::stripes::{StripeCut, cut_for, stripe, stripe_planes};
 use jk_boxes::open;
 use jk_jobs::{Gate, Open};
 use jk_math::{Fault, Image, Rect};
@@ -98,7 +98,7 @@ fn told_stripe<G: Gate, S: StripeWork>(
     alloc: Global,
     gate: &G,
     coded: &CodedImage<'_>,
-    cut: Cut,
+    cut: StripeCut,
     number: usize,
     decoded: &DecodedBlocks,
 ) -> Result<S::Made, Fault>

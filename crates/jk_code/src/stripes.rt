@@ -31,7 +31,7 @@ use std::alloc::Global;
 /// How a rectangle is cut into stripes of rows: how many rows the first one has and each further
 /// one but the last, which has those that are left, and how many stripes there are.
 #[derive(Clone, Copy, Debug, Drop)]
-pub(crate) struct Cut {
+pub(crate) struct StripeCut {
     pub(crate) first: u32,
     pub(crate) step: u32,
     pub(crate) count: usize,
@@ -73,7 +73,7 @@ fn first_and_step(top: u32, part: u32, unit: u32, phase: u32) -> (u32, u32)
 
 /// Stripes that end, but for the last one, a multiple of `unit` rows away from row `phase`, of so
 /// many rows each as come near to equal parts; as many as have a row, and `count` at most.
-fn cut_at(area: &Rect, count: usize, unit: u32, phase: u32) -> Cut
+fn cut_at(area: &Rect, count: usize, unit: u32, phase: u32) -> StripeCut
     requires area { IsArea area.now }
     requires some { 1 ≤ count }
     requires few { count ≤ 64 }
@@ -88,13 +88,13 @@ fn cut_at(area: &Rect, count: usize, unit: u32, phase: u32) -> Cut
     let height = area.y1 - area.y0;
     let (first, step) = first_and_step(area.y0, height / count as u32, unit, phase);
     let count = count.min(stripes_behind(height, first, step) + 1);
-    Cut { first, step, count }
+    StripeCut { first, step, count }
 }
 
 /// How the rows of the reduced image are cut for so many workers: between tiles, where their rows
 /// can be dealt out in equal parts; otherwise through the middle of code-blocks, so that those at
 /// a cut are the fewest. Each stripe has a row.
-pub(crate) fn cut_for(coded: &CodedImage<'_>, workers: usize) -> Cut
+pub(crate) fn cut_for(coded: &CodedImage<'_>, workers: usize) -> StripeCut
     requires some { 1 ≤ workers }
     requires few { workers ≤ 64 }
     ensures source { IsImageSource coded.now }
@@ -117,7 +117,7 @@ pub(crate) fn cut_for(coded: &CodedImage<'_>, workers: usize) -> Cut
 }
 
 /// The row at which stripe `number` begins, and the end of the last one behind that.
-fn bound(area: &Rect, cut: Cut, number: usize) -> u32
+fn bound(area: &Rect, cut: StripeCut, number: usize) -> u32
     requires area { IsArea area.now }
     requires number { number ≤ 64 }
     ensures { result ≡ bound_of area.now cut number }
@@ -133,7 +133,7 @@ fn bound(area: &Rect, cut: Cut, number: usize) -> u32
 }
 
 /// Stripe `number`.
-pub(crate) fn stripe(area: &Rect, cut: Cut, number: usize) -> Rect
+pub(crate) fn stripe(area: &Rect, cut: StripeCut, number: usize) -> Rect
     requires area { IsArea area.now }
     requires number { number < 64 }
     ensures { result ≡ stripe_of area.now cut number }

@@ -11,7 +11,7 @@ use Rattle.jk_math.specs.declared.fault.Fault.TheVariants.{Memory, BadParameters
 use Rattle.jk_math.proofs.Laws.{appends_none}
 use Rattle.jk_pnm.specs.Reading.{pnm_at}
 use Rattle.jk_pnm.specs.Written.{written as pnm_of}
-use Rattle.jk_pnm.specs.Sending.{IsLeft}
+use Rattle.jk_pnm.specs.Sending.{IsLeftBySending}
 use Rattle.jk_window.specs.declared.view.View.{View}
 use Rattle.jk_code.specs.MeaningReading.{meaning_at}
 use Rattle.jk_code.specs.Viewing.{picture_of_view}
@@ -73,13 +73,13 @@ on_ok_all (Err e) h = tt
 -- ---- decoding
 
 -- nothing is written where the file that is due is refused
-pub left_nothing : (a : Option (List ℕ)) (due : Result (List ℕ) Fault) (e : Fault) → Refuses e due → Wrote a a (λ text. IsLeft due text (Err e))
+pub left_nothing : (a : Option (List ℕ)) (due : Result (List ℕ) Fault) (e : Fault) → Refuses e due → Wrote a a (λ text. IsLeftBySending due text (Err e))
 left_nothing a due (Memory r) h = ([], appends_none a, inl (tt, refl))
 left_nothing a due e h = ([], appends_none a, inr (inl (h, refl)))
 
 -- the file that is due is this one
-pub left_as : (a b : Option (List ℕ)) (x y : Result (List ℕ) Fault) (r : Result ⊤ Fault) → x ≡ y → Wrote a b (λ text. IsLeft x text r) → Wrote a b (λ text. IsLeft y text r)
-left_as a b x y r same left = subst (λ (due : Result (List ℕ) Fault). Wrote a b (λ text. IsLeft due text r)) same left
+pub left_as : (a b : Option (List ℕ)) (x y : Result (List ℕ) Fault) (r : Result ⊤ Fault) → x ≡ y → Wrote a b (λ text. IsLeftBySending x text r) → Wrote a b (λ text. IsLeftBySending y text r)
+left_as a b x y r same left = subst (λ (due : Result (List ℕ) Fault). Wrote a b (λ text. IsLeftBySending due text r)) same left
 
 pub decoded_is : (bytes : List ℕ) (reduce : ℕ) (p : Picture) → meaning_at bytes reduce ≡ Ok p → decoded bytes reduce ≡ pnm_of p
 unfolding decoded

@@ -15,7 +15,7 @@ use Rattle.jk_marks.specs.declared.head.Heading.TheVariants.{MainHeader}
 use Rattle.jk_marks.specs.Markers.{soc, siz, cod, coc, qcd, qcc, sot, sod, eoc, marker_text, is_listed, is_alone}
 use Rattle.jk_marks.specs.Siz.{siz_text, siz_length, grid_text, component_text}
 use Rattle.jk_marks.specs.Segments.{Segment, CodSegment, CocSegment, QcdSegment, QccSegment, Passed, Alone, IsSegment, contents, segment_body, segment_text, marker_of, is_passed, is_foreign}
-use Rattle.jk_marks.specs.Codestream.{Part, Tree, main_text, sot_text, part_text, part_length, psot, codestream_text, heading_of, IsMain, IsPart, AreParts, AreClosedBeforeLast, IsCodestream, BeginsMain, BeginsWith}
+use Rattle.jk_marks.specs.Codestream.{CodestreamPart, Tree, main_text, sot_text, part_text, part_length, psot, codestream_text, heading_of, IsMain, IsPart, AreParts, AreClosedBeforeLast, IsCodestream, BeginsMain, BeginsWith}
 use Rattle.jk_marks.specs.Copying.{segment_size, main_size_at}
 use Rattle.jk_marks.proofs.Laws.{coc_length, style_length, precincts_few, siz_body, siz_parts, body_length}
 use Rattle.jk_marks.proofs.Laws.{EndsHeader, alone_not_passed, not_last, narrow_marker, ends_main, many_bytes, ends_part, main_sized, begins_main}
@@ -198,13 +198,13 @@ sot_size tile size number total r = refl
 sot_rest : (tile size number total : ℕ) (r : List ℕ) → drop 12 (sot_text tile size number total ++ r) ≡ r
 sot_rest tile size number total r = refl
 
-part_rest : (bytes : List ℕ) (p : Part) → (begins : BeginsWith bytes p)
+part_rest : (bytes : List ℕ) (p : CodestreamPart) → (begins : BeginsWith bytes p)
     → bytes ≡ sot_text p.tile (psot p) p.number p.total ++ (flat_map segment_text p.segments ++ (marker_text sod ++ (p.content ++ begins.others)))
 unfolding part_text
 part_rest bytes p begins =
     begins.text ∙ ap (λ (x : List ℕ). sot_text p.tile (psot p) p.number p.total ++ x) (append_assoc (flat_map segment_text p.segments) (marker_text sod ++ p.content) begins.others)
 
-pub part_marked : (siz : Siz) (bytes : List ℕ) (p : Part) → IsPart siz p → BeginsWith bytes p → part_markers bytes ≡ map marker_of p.segments
+pub part_marked : (siz : Siz) (bytes : List ℕ) (p : CodestreamPart) → IsPart siz p → BeginsWith bytes p → part_markers bytes ≡ map marker_of p.segments
 part_marked siz bytes p is begins =
     let tail = marker_text sod ++ (p.content ++ begins.others) in
     let rest = flat_map segment_text p.segments ++ tail in
@@ -215,13 +215,13 @@ part_marked siz bytes p is begins =
     ∙ segments_marked (length rest) (heading_of p.number) siz.components sod p.segments (p.content ++ begins.others) (ends_part p.number) is.well_formed.each (omega (arith, long, many_bytes p.segments))
 
 -- how long a part is
-text_length : (p : Part) → length (part_text p) ≡ part_length p
+text_length : (p : CodestreamPart) → length (part_text p) ≡ part_length p
 unfolding part_text
 text_length p =
     let segments = flat_map segment_text p.segments in
     omega (arith, length-append segments (marker_text sod ++ p.content), length-append (marker_text sod) p.content, length-bytes_high_first 2 sod)
 
-pub part_sized : (siz : Siz) (bytes : List ℕ) (p : Part) → IsPart siz p → BeginsWith bytes p → part_size bytes ≡ length (part_text p)
+pub part_sized : (siz : Siz) (bytes : List ℕ) (p : CodestreamPart) → IsPart siz p → BeginsWith bytes p → part_size bytes ≡ length (part_text p)
 unfolding part_size
 part_sized siz bytes p is begins =
     let rest = flat_map segment_text p.segments ++ (marker_text sod ++ (p.content ++ begins.others)) in
@@ -250,11 +250,11 @@ part_sized siz bytes p is begins =
 
 -- ---- all tile-parts
 
-closed_rest : (p : Part) (ps : List Part) → AreClosedBeforeLast (p ∷ ps) → AreClosedBeforeLast ps
+closed_rest : (p : CodestreamPart) (ps : List CodestreamPart) → AreClosedBeforeLast (p ∷ ps) → AreClosedBeforeLast ps
 closed_rest p [] closed = tt
 closed_rest p (q ∷ qs) closed = closed.1
 
-last_end : (p : Part) (ps : List Part) → AreClosedBeforeLast (p ∷ ps) → p.is_open ≡ true → flat_map part_text ps ++ marker_text eoc ≡ marker_text eoc
+last_end : (p : CodestreamPart) (ps : List CodestreamPart) → AreClosedBeforeLast (p ∷ ps) → p.is_open ≡ true → flat_map part_text ps ++ marker_text eoc ≡ marker_text eoc
 last_end p [] closed opened = refl
 last_end p (q ∷ qs) closed opened = absurd (let clash : true ≡ false = sym opened ∙ closed.0 in cc)
 
@@ -262,15 +262,15 @@ none_at_end : part_size (marker_text eoc) ≡ 0
 unfolding part_size
 none_at_end = refl
 
-abbrev pub markers_of_part : Part → List ℕ
+abbrev pub markers_of_part : CodestreamPart → List ℕ
 markers_of_part p = map marker_of p.segments
 
 -- the parts that are met, and the markers of their headers
-pub record AreMet (met : List (List ℕ)) (parts : List Part) : Type 0 where
+pub record AreMet (met : List (List ℕ)) (parts : List CodestreamPart) : Type 0 where
   pub count : length met ≡ length parts
   pub markers : flat_map part_markers met ≡ flat_map markers_of_part parts
 
-parts_met : (k : ℕ) (siz : Siz) (parts : List Part) → AllByRecursion (IsPart siz) parts → AreClosedBeforeLast parts → length parts < k
+parts_met : (k : ℕ) (siz : Siz) (parts : List CodestreamPart) → AllByRecursion (IsPart siz) parts → AreClosedBeforeLast parts → length parts < k
     → AreMet (parts_from k (flat_map part_text parts ++ marker_text eoc)) parts
 parts_met zero siz parts each closed fuel = absurd (omega (arith, fuel))
 parts_met (suc k) siz [] each closed fuel =
@@ -292,11 +292,11 @@ parts_met (suc k) siz (p ∷ ps) each closed fuel =
           ∙ ap (λ (ms : List ℕ). markers_of_part p ++ ms) more.markers;
     }
 
-many_parts : (parts : List Part) → length parts ≤ length (flat_map part_text parts)
+many_parts : (parts : List CodestreamPart) → length parts ≤ length (flat_map part_text parts)
 many_parts [] = omega arith
 many_parts (p ∷ ps) = omega (arith, many_parts ps, length-append (part_text p) (flat_map part_text ps), text_length p)
 
-pub parts_of_tree : (siz : Siz) (parts : List Part) (bytes : List ℕ) → AreParts siz parts → bytes ≡ flat_map part_text parts ++ marker_text eoc → AreMet (parts_from (length bytes) bytes) parts
+pub parts_of_tree : (siz : Siz) (parts : List CodestreamPart) (bytes : List ℕ) → AreParts siz parts → bytes ≡ flat_map part_text parts ++ marker_text eoc → AreMet (parts_from (length bytes) bytes) parts
 parts_of_tree siz parts bytes are text =
     let rest = flat_map part_text parts ++ marker_text eoc in
     let fuel : length parts < length rest = omega (arith, many_parts parts, length-append (flat_map part_text parts) (marker_text eoc), length-bytes_high_first 2 eoc) in
@@ -349,7 +349,7 @@ siz_counted m markers other =
     ∙ ap (λ b. cond b 1 0 + met m markers) (not_read siz m refl other)
     ∙ zero-add (met m markers)
 
-parts_counted : (m : ℕ) (ps : List Part) → is_read m ≡ false → met m (flat_map markers_of_part ps) ≡ passed_over m (flat_map (λ p. p.segments) ps)
+parts_counted : (m : ℕ) (ps : List CodestreamPart) → is_read m ≡ false → met m (flat_map markers_of_part ps) ≡ passed_over m (flat_map (λ p. p.segments) ps)
 parts_counted m [] other = refl
 parts_counted m (p ∷ ps) other =
     sum_by-append (λ k. cond (k == m) 1 0) (markers_of_part p) (flat_map markers_of_part ps)

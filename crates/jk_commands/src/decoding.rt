@@ -6,7 +6,7 @@ ghost use Rattle.jk_math.specs.Answer.{Answers};
 ghost use Rattle.jk_math.specs.Picture.{Picture};
 ghost use Rattle.jk_math.specs.declared.fault.Fault.TheVariants.{BadParameters};
 ghost use Rattle.jk_pnm.specs.Pnm.{IsPnm};
-ghost use Rattle.jk_pnm.specs.Sending.{IsLeft};
+ghost use Rattle.jk_pnm.specs.Sending.{IsLeftBySending};
 ghost use Rattle.jk_pnm.specs.Written.{written as pnm_of};
 ghost use Rattle.jk_code.specs.Meaning.{Means};
 ghost use Rattle.jk_code.specs.MeaningReading.{meaning_at};
@@ -58,13 +58,13 @@ pub fn decode_file_into<W: Write>(
 ) -> Result<(), Fault>
     // What was written, however it ended.
     ensures exact { (text : List ℕ) × Appends (W.contents writer.old) (W.contents writer.new) text
-        × IsLeft (decoded bytes.items reduce) text result }
+        × IsLeftBySending (decoded bytes.items reduce) text result }
     // A whole file is one of the picture that the file means.
     ensures found { OnOk result ((p : Picture) × Means bytes.items reduce p
         × ((file : List ℕ) → decoded bytes.items reduce ≡ Ok file → IsPnm file (at_place p 0 0))) }
     // Of a file that means a picture, the picture's file is written.
     ensures only { (p : Picture) → Means bytes.items reduce p
-        → (text : List ℕ) × Appends (W.contents writer.old) (W.contents writer.new) text × IsLeft (pnm_of p) text result }
+        → (text : List ℕ) × Appends (W.contents writer.old) (W.contents writer.new) text × IsLeftBySending (pnm_of p) text result }
 {
     let image = decode_image(alloc, bytes, reduce)?;
     write_into(alloc, &image, writer)

@@ -5,7 +5,7 @@ ghost use Rattle.std.specs.Io.KnownBytes.{Appends};
 ghost use Rattle.jk_math.specs.Picture.{Picture};
 ghost use Rattle.jk_math.specs.declared.fault.Fault.TheVariants.{BadParameters};
 ghost use Rattle.jk_pnm.specs.Pnm.{IsPnm};
-ghost use Rattle.jk_pnm.specs.Sending.{IsLeft};
+ghost use Rattle.jk_pnm.specs.Sending.{IsLeftBySending};
 ghost use Rattle.jk_pnm.specs.Written.{written as pnm_of};
 ghost use Rattle.jk_code.specs.Made.{IsMadeOf, Makes};
 ghost use Rattle.jk_code.specs.Meaning.{Means};
@@ -66,7 +66,7 @@ fn write_made<W: Write>(
     requires { (p : Picture) × IsMadeOf IsRasterOf p made.now }
     ensures exact { (p : Picture) → IsMadeOf IsRasterOf p made.now
         → (text : List ℕ) × Appends (W.contents writer.old) (W.contents writer.new) text
-        × IsLeft (pnm_of p) text result }
+        × IsLeftBySending (pnm_of p) text result }
     ensures means { (p : Picture) → IsMadeOf IsRasterOf p made.now
         → OnOk result ((file : List ℕ) → pnm_of p ≡ Ok file → IsPnm file (at_place p 0 0)) }
 {
@@ -99,13 +99,13 @@ pub fn decode_file_into_with<R: Threads + Sync, G: Gate + Sync, W: Write>(
     // What was written, however it ended.
     ensures exact { 1 ≤ workers → workers ≤ 64
         → (text : List ℕ) × Appends (W.contents writer.old) (W.contents writer.new) text
-        × IsLeft (decoded bytes.items reduce) text result }
+        × IsLeftBySending (decoded bytes.items reduce) text result }
     // A whole file is one of the picture that the file means.
     ensures found { OnOk result ((p : Picture) × Means bytes.items reduce p
         × ((file : List ℕ) → decoded bytes.items reduce ≡ Ok file → IsPnm file (at_place p 0 0))) }
     // Of a file that means a picture, the picture's file is written.
     ensures only { 1 ≤ workers → workers ≤ 64 → (p : Picture) → Means bytes.items reduce p
-        → (text : List ℕ) × Appends (W.contents writer.old) (W.contents writer.new) text × IsLeft (pnm_of p) text result }
+        → (text : List ℕ) × Appends (W.contents writer.old) (W.contents writer.new) text × IsLeftBySending (pnm_of p) text result }
 {
     let made = rasters_with::<R, G>(rt, alloc, workers, gate, bytes, reduce)?;
     write_made(alloc, &made, writer)

@@ -5,7 +5,7 @@ ghost use Rattle.std.specs.Io.KnownBytes.{Appends};
 ghost use Rattle.jk_math.specs.Answer.{Answers};
 ghost use Rattle.jk_math.specs.Picture.{Picture};
 ghost use Rattle.jk_pnm.specs.Pnm.{IsPnm};
-ghost use Rattle.jk_pnm.specs.Sending.{IsLeft};
+ghost use Rattle.jk_pnm.specs.Sending.{IsLeftBySending};
 ghost use Rattle.jk_code.specs.Meaning.{Means};
 ghost use Rattle.jk_code.specs.Viewing.{picture_of_view};
 ghost use Rattle.jk_code.specs.ViewReading.{meaning_view_at};
@@ -43,7 +43,7 @@ pub fn decode_window_file_into<W: Write>(
 ) -> Result<(), Fault>
     // What was written, however it ended.
     ensures exact { (text : List ℕ) × Appends (W.contents writer.old) (W.contents writer.new) text
-        × IsLeft (window_decoded bytes.items view) text result }
+        × IsLeftBySending (window_decoded bytes.items view) text result }
     // A whole file is one of the picture that the window shows.
     ensures found { OnOk result ((p : Picture) × (meaning_view_at bytes.items view ≡ Ok p)
         × ((file : List ℕ) → window_decoded bytes.items view ≡ Ok file → IsPnm file (at_place p 0 0))) }
@@ -51,7 +51,7 @@ pub fn decode_window_file_into<W: Write>(
     // BadWindow is answered where the window has no sample.
     ensures means { (p : Picture) → Means bytes.items view.reduce p
         → (text : List ℕ) × Appends (W.contents writer.old) (W.contents writer.new) text
-        × IsLeft (window_given view p) text result }
+        × IsLeftBySending (window_given view p) text result }
 {
     let image = window_image(alloc, bytes, view)?;
     write_into(alloc, &image, writer)

@@ -12,7 +12,7 @@ use Rattle.jk_block.specs.CodedBlocks.{shape_of, contents}
 use Rattle.jk_farm.specs.declared.segments.Segment.{Segment}
 
 -- a segment of a code-block of the profile
-pub record IsSegment (s : Segment) : Type 0 where
+pub record IsCodedSegment (s : Segment) : Type 0 where
   pub wide : 1 ≤ s.shape.width
   pub narrow : s.shape.width ≤ 1024
   pub high : 1 ≤ s.shape.height

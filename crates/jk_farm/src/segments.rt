@@ -4,7 +4,7 @@ ghost use Rattle.std.specs.Prelude.{◌≡◌, ℕ, ◌≤◌, ◌<◌, ◌*◌,
 ghost use Rattle.std.specs.List.{AllZip};
 ghost use Rattle.jk_math.specs.Answer.{Answers};
 ghost use Rattle.jk_math.specs.declared.fault.Fault.TheVariants.{BadParameters};
-ghost use Rattle.jk_farm.specs.Blocks.{IsSegment, IsBlockOf, segments_at};
+ghost use Rattle.jk_farm.specs.Blocks.{IsCodedSegment, IsBlockOf, segments_at};
 
 use jk_block::{Block, BlockShape, decode};
 use jk_jobs::{Gate, Work, map_jobs};
@@ -29,13 +29,13 @@ pub struct Segment {
 struct Reading;
 
 impl Work for Reading {
-    ghost use Rattle.jk_farm.specs.Blocks.{IsSegment, IsRead};
+    ghost use Rattle.jk_farm.specs.Blocks.{IsCodedSegment, IsRead};
 
     type Job = Segment;
 
     type Done = Block;
 
-    ghost accepts = { IsSegment };
+    ghost accepts = { IsCodedSegment };
 
     ghost gives = { IsRead };
 
@@ -57,7 +57,7 @@ pub fn map_segments<R: Threads + Sync, G: Gate + Sync>(
     gate: &G,
     jobs: &[Segment],
 ) -> Result<Vec<Block>, Fault>
-    requires jobs { All IsSegment jobs.now }
+    requires jobs { All IsCodedSegment jobs.now }
     ensures range { (1 ≤ workers → workers ≤ 64 → ⊥) → result ≡ Err BadParameters }
     ensures exact { 1 ≤ workers → workers ≤ 64
         → Answers (λ v. map (λ b. b.values.items) v.items) result (segments_at jobs.now) }

@@ -10,7 +10,7 @@ use Rattle.jk_web.specs.declared.serving.End.{End}
 use Rattle.httparse.specs.Grammar.{RequestHead}
 use Rattle.jk_web.specs.Heads.{IsWhole, IsGood, request_of}
 use Rattle.jk_web.specs.Cuts.{KeptCut}
-use Rattle.jk_web.specs.Serving.{Ends}
+use Rattle.jk_web.specs.Serving.{EndsConnection}
 use Rattle.jk_web.proofs.Laws.{ends_by}
 use Rattle.jk_store.specs.Files.{Files}
 use Rattle.jk_store.specs.declared.entry.Entry.{Entry}
@@ -79,9 +79,9 @@ module _ {S : Type 0} (keeps : S → Files → Type 0) where
     )
 
     pub attended : (stream text : List ℕ) (over spent : Type 0) (r : Result End Fault)
-        → Ends (GivesBehind keeps failed gave gave_at) (RefusesBehind keeps) start stream text over spent end r
+        → EndsConnection (GivesBehind keeps failed gave gave_at) (RefusesBehind keeps) start stream text over spent end r
         → AreSame start end × Goes keeps (behind start) (behind end)
-        × Ends (GivesUpTo keeps failed gave gave_at (seen end.reader.now)) (RefusesUpTo keeps (seen end.reader.now)) (behind start) stream text over spent (behind end) r
+        × EndsConnection (GivesUpTo keeps failed gave gave_at (seen end.reader.now)) (RefusesUpTo keeps (seen end.reader.now)) (behind start) stream text over spent (behind end) r
     unfolding Went Begins
     attended stream text over spent r k =
         let e = ends_by (GivesBehind keeps failed gave gave_at) (RefusesBehind keeps) (GivesUpTo keeps failed gave gave_at (seen end.reader.now)) (RefusesUpTo keeps (seen end.reader.now))
@@ -101,6 +101,6 @@ cause_of refuses state rest e t only (inl c) = inl c.0
 cause_of refuses state rest e t only (inr c) = only state (request_of c.0) e t c.4
 
 pub ends_cause : {T : Type 0} (gives : T → Request → Reply → T → Type 0) (refuses : T → Request → Fault → T → Type 0) (s : T) (stream text : List ℕ) (over spent : Type 0) (t : T) (r : Result End Fault)
-    → ((s : T) (q : Request) (f : Fault) (u : T) → refuses s q f u → IsCause f) → Ends gives refuses s stream text over spent t r → IfErr r (λ e. IsCause e)
+    → ((s : T) (q : Request) (f : Fault) (u : T) → refuses s q f u → IsCause f) → EndsConnection gives refuses s stream text over spent t r → IfErr r (λ e. IsCause e)
 ends_cause gives refuses s stream text over spent t (Ok e) only k = tt
 ends_cause gives refuses s stream text over spent t (Err e) only k = cause_of refuses k.state k.rest e t only k.cause

@@ -7,8 +7,8 @@ use Rattle.jk_math.specs.declared.fault.Fault.{Fault}
 use Rattle.jk_web.specs.declared.serving.End.{End}
 use Rattle.jk_web.specs.Cuts.{AreOf, Has}
 use Rattle.jk_web.specs.Images.{Image, names_of}
-use Rattle.jk_web.specs.Resources.{IsSegment}
-use Rattle.jk_web.specs.Serving.{Ends}
+use Rattle.jk_web.specs.Resources.{IsPathSegment}
+use Rattle.jk_web.specs.Serving.{EndsConnection}
 use Rattle.jk_web.proofs.Laws.{ends_by}
 use Rattle.jk_store.specs.Files.{Files}
 use Rattle.jk_store.specs.Showing.{ShowImages, AreKept}
@@ -22,15 +22,15 @@ use Rattle.jk_hall.proofs.Fronting.{shown_front, cuts_front, cuts_all, kept_fron
 use Rattle.jk_hall.proofs.Keeping.{cuts_on}
 use Rattle.jk_hall.proofs.Attended.{cause_is}
 
-segments_front : (n : ℕ) (images : List Image) → All IsSegment (names_of images) → All IsSegment (names_of (take n images))
+segments_front : (n : ℕ) (images : List Image) → All IsPathSegment (names_of images) → All IsPathSegment (names_of (take n images))
 segments_front n images a =
-    subst (λ (v : List (List ℕ)). All IsSegment v) (take-map (λ (i : Image). i.name) n images) (All-take IsSegment n (names_of images) a)
+    subst (λ (v : List (List ℕ)). All IsPathSegment v) (take-map (λ (i : Image). i.name) n images) (All-take IsPathSegment n (names_of images) a)
 
 module _ {S : Type 0} (keeps : S → Files → Type 0) (failed : S → ℕ) (gave : S → List ℕ → List ℕ → S → Type 0) (gave_at : S → List ℕ → ℕ → ℕ → List ℕ → S → Type 0)
-    (last : List Entry) (images : List Image) (shows : ShowImages last images) (segments : All IsSegment (names_of images)) where
+    (last : List Entry) (images : List Image) (shows : ShowImages last images) (segments : All IsPathSegment (names_of images)) where
   pub shown : (start end : Reader × S) (stream text : List ℕ) (over spent : Type 0) (r : Result End Fault) → KeepsCuts (seen start.0) (cuts start.0)
-      → Ends (GivesUpTo keeps failed gave gave_at last) (RefusesUpTo keeps last) start stream text over spent end r
-      → Ends (GivesFirst failed gave gave_at images) RefusesFor start stream text over spent end r
+      → EndsConnection (GivesUpTo keeps failed gave gave_at last) (RefusesUpTo keeps last) start stream text over spent end r
+      → EndsConnection (GivesFirst failed gave gave_at images) RefusesFor start stream text over spent end r
   shown start end stream text over spent r held k =
       ((ends_by (GivesUpTo keeps failed gave gave_at last) (RefusesUpTo keeps last) (GivesFirst failed gave gave_at images) RefusesFor
       (λ s. s) (λ s. KeepsCuts (seen s.0) (cuts s.0)) (λ s. Unit {0})
@@ -65,8 +65,8 @@ module _ {S : Type 0} (keeps : S → Files → Type 0) (failed : S → ℕ) (gav
 
   pub same : (start end : Reader × S) (stream text : List ℕ) (over spent : Type 0) (r : Result End Fault)
       → KeepsCuts (seen start.0) (cuts start.0) × AreKept keeps start.1 images × AreOf (Has (cuts start.0)) images
-      → Ends (GivesUpTo keeps failed gave gave_at last) (RefusesUpTo keeps last) start stream text over spent end r
-      → Ends (GivesFirstKept failed gave gave_at images) RefusesFor start stream text over spent end r
+      → EndsConnection (GivesUpTo keeps failed gave gave_at last) (RefusesUpTo keeps last) start stream text over spent end r
+      → EndsConnection (GivesFirstKept failed gave gave_at images) RefusesFor start stream text over spent end r
   unfolding Known
   same start end stream text over spent r known k =
       ((ends_by (GivesUpTo keeps failed gave gave_at last) (RefusesUpTo keeps last) (GivesFirstKept failed gave gave_at images) RefusesFor

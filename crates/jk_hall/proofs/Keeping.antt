@@ -5,11 +5,11 @@ use mathlib.Core.List.{IsPrefix}
 use Rattle.jk_math.specs.declared.fault.Fault.{Fault}
 use Rattle.jk_web.specs.declared.reply.Reply.{Reply}
 use Rattle.jk_web.specs.declared.request.Request.{Request}
-use Rattle.jk_web.specs.Resources.{IsSegment}
+use Rattle.jk_web.specs.Resources.{IsPathSegment}
 use Rattle.jk_web.specs.Cuts.{AreOf, Has, KeptCut}
 use Rattle.jk_web.specs.Images.{Image, names_of, IsCachedReply, IsKeptReply}
 use Rattle.jk_store.specs.Files.{Files}
-use Rattle.jk_store.specs.Showing.{ShowImages, AreKept, Broke, Reads, MayBeMade}
+use Rattle.jk_store.specs.Showing.{ShowImages, AreKept, Broke, ReadsFile, MayBeMade}
 use Rattle.jk_store.specs.declared.entry.Entry.{Entry}
 use Rattle.jk_store.specs.declared.shown.ShownWithParts.{ShownWithParts}
 use Rattle.jk_store.proofs.Laws.{made_on}
@@ -32,17 +32,17 @@ module _ {S : Type 0} (keeps : S → Files → Type 0) where
       (s t : ShownWithParts S) (same : t.entries.now ≡ s.entries.now) (kept : List KeptCut) (q : Request) where
     -- The replies of entries over a shelf that is borrowed are those over the shelf.
     pub replies_as : (r : Result Reply Fault)
-        → ((images : List Image) → ShowImages (map arc_value s.entries.now) images → KeepsCuts (map arc_value s.entries.now) kept → All IsSegment (names_of images)
+        → ((images : List Image) → ShowImages (map arc_value s.entries.now) images → KeepsCuts (map arc_value s.entries.now) kept → All IsPathSegment (names_of images)
         → IfOk r (IsCachedReply (λ (a : ShownWithParts S) n (b : ShownWithParts S). Broke failed gave gave_at (map arc_value a.entries.now) a.shelf.now n b.shelf.now)
-        (λ (a : ShownWithParts S) n file (b : ShownWithParts S). Reads gave (map arc_value a.entries.now) a.shelf.now n file b.shelf.now)
+        (λ (a : ShownWithParts S) n file (b : ShownWithParts S). ReadsFile gave (map arc_value a.entries.now) a.shelf.now n file b.shelf.now)
         (λ (a : ShownWithParts S). MayBeMade (map arc_value a.entries.now)) images q s t))
-        → ((images : List Image) → ShowImages (map arc_value s.entries.now) images → AreKept keeps s.shelf.now images → AreOf (Has kept) images → All IsSegment (names_of images)
+        → ((images : List Image) → ShowImages (map arc_value s.entries.now) images → AreKept keeps s.shelf.now images → AreOf (Has kept) images → All IsPathSegment (names_of images)
         → IfOk r (IsKeptReply (λ (a : ShownWithParts S) n (b : ShownWithParts S). Broke failed gave gave_at (map arc_value a.entries.now) a.shelf.now n b.shelf.now) images q s t))
         → IfOk r (λ y. Replies keeps failed gave gave_at (map arc_value s.entries.now) s.shelf.now t.shelf.now kept q y)
     replies_as (Err e) any own = tt
     replies_as (Ok y) any own = record {
       any = λ images shows held segments.
-          subst (λ es. IsCachedReply (Broke failed gave gave_at (map arc_value s.entries.now)) (Reads gave (map arc_value s.entries.now)) (λ (x : S). MayBeMade (map arc_value es)) images q s.shelf.now t.shelf.now y)
+          subst (λ es. IsCachedReply (Broke failed gave gave_at (map arc_value s.entries.now)) (ReadsFile gave (map arc_value s.entries.now)) (λ (x : S). MayBeMade (map arc_value es)) images q s.shelf.now t.shelf.now y)
           same (any images shows held segments);
       same = own;
     }

@@ -4,8 +4,8 @@ use Rattle.jk_math.specs.declared.fault.Fault.{Fault}
 use Rattle.jk_web.specs.declared.serving.End.{End}
 use Rattle.jk_web.specs.Cuts.{AreOf, Has}
 use Rattle.jk_web.specs.Images.{Image, names_of}
-use Rattle.jk_web.specs.Resources.{IsSegment}
-use Rattle.jk_web.specs.Serving.{Ends}
+use Rattle.jk_web.specs.Resources.{IsPathSegment}
+use Rattle.jk_web.specs.Serving.{EndsConnection}
 use Rattle.jk_web.specs.Turns.{IsReadIn}
 use Rattle.jk_store.specs.Files.{Files}
 use Rattle.jk_store.specs.Showing.{ShowImages, AreKept}
@@ -22,12 +22,12 @@ module _ {S : Type 0} (keeps : S → Files → Type 0) (failed : S → ℕ) (gav
   pub record Attends (consumed appended : List ℕ → Type 0) (over : Type 0) (turns : ℕ) (s t : Reader × S)
       (result : Result End Fault) : Type 0 where
     pub any : (images : List Image) → ShowImages (seen t.0) images → KeepsCuts (seen s.0) (cuts s.0)
-        → All IsSegment (names_of images)
+        → All IsPathSegment (names_of images)
         → (stream : List ℕ) × (text : List ℕ) × consumed stream × appended text
-        × Ends (GivesFirst failed gave gave_at images) RefusesFor s stream text over (turns ≤ length stream) t result
+        × EndsConnection (GivesFirst failed gave gave_at images) RefusesFor s stream text over (turns ≤ length stream) t result
         × IsReadIn turns stream result
     pub same : (images : List Image) → ShowImages (seen t.0) images → KeepsCuts (seen s.0) (cuts s.0)
-        → AreKept keeps s.1 images → AreOf (Has (cuts s.0)) images → All IsSegment (names_of images)
+        → AreKept keeps s.1 images → AreOf (Has (cuts s.0)) images → All IsPathSegment (names_of images)
         → (stream : List ℕ) × (text : List ℕ) × consumed stream × appended text
-        × Ends (GivesFirstKept failed gave gave_at images) RefusesFor s stream text over (turns ≤ length stream) t result
+        × EndsConnection (GivesFirstKept failed gave gave_at images) RefusesFor s stream text over (turns ≤ length stream) t result
         × IsReadIn turns stream result

@@ -6,11 +6,11 @@ use Rattle.jk_math.specs.declared.fault.Fault.TheVariants.{WorkerFailed}
 use Rattle.jk_math.specs.Memory.{IsMemory}
 use Rattle.jk_web.specs.declared.reply.Reply.{Reply}
 use Rattle.jk_web.specs.declared.request.Request.{Request}
-use Rattle.jk_web.specs.Resources.{IsSegment}
+use Rattle.jk_web.specs.Resources.{IsPathSegment}
 use Rattle.jk_web.specs.Cuts.{AreOf, Has, IsHit, KeptCut}
 use Rattle.jk_web.specs.Images.{Image, names_of, IsCachedReply, IsKeptReply}
 use Rattle.jk_store.specs.Files.{Files}
-use Rattle.jk_store.specs.Showing.{ShowImages, AreKept, Broke, Reads, MayBeMade}
+use Rattle.jk_store.specs.Showing.{ShowImages, AreKept, Broke, ReadsFile, MayBeMade}
 use Rattle.jk_store.specs.declared.entry.Entry.{Entry}
 use Rattle.jk_hall.specs.declared.reader.Reader.{Reader}
 use Rattle.jk_hall.specs.Kept.{KeepsCuts}
@@ -28,7 +28,7 @@ IsRefusal s e t = IsMemory e ⊎ ((e ≡ WorkerFailed) × IsInVain (look_counts 
 
 -- A window that is kept is given, or refused, without a call of the shelf.
 abbrev pub IsUnread : {S : Type 0} → Reader × S → Request → Reader × S → Type 0
-IsUnread s q t = (names : List (List ℕ)) → All IsSegment names → IsHit (Has (cuts s.0)) names q → t.1 ≡ s.1
+IsUnread s q t = (names : List (List ℕ)) → All IsPathSegment names → IsHit (Has (cuts s.0)) names q → t.1 ≡ s.1
 
 -- What a shelf keeps it goes on to keep.
 abbrev pub KeepsOn : {S : Type 0} → (S → Files → Type 0) → S → S → Type 0
@@ -52,8 +52,8 @@ module _ {S : Type 0} (keeps : S → Files → Type 0) where
     pub cuts_on : KeptOn (seen s.0) (seen t.0) s.1 (cuts s.0) (cuts t.0)
 
   -- A request is refused.
-  abbrev pub Refuses : Reader × S → Request → Fault → Reader × S → Type 0
-  Refuses s q e t = IsRefusal s.0 e t.0 × Goes s t × IsUnread s q t
+  abbrev pub RefusesReply : Reader × S → Request → Fault → Reader × S → Type 0
+  RefusesReply s q e t = IsRefusal s.0 e t.0 × Goes s t × IsUnread s q t
 
   module _ (failed : S → ℕ) (gave : S → List ℕ → List ℕ → S → Type 0)
       (gave_at : S → List ℕ → ℕ → ℕ → List ℕ → S → Type 0) where
@@ -63,16 +63,16 @@ module _ {S : Type 0} (keeps : S → Files → Type 0) where
     pub record Replies (entries : List Entry) (old new : S) (kept : List KeptCut) (q : Request) (r : Reply)
         : Type 0 where
       pub any : (images : List Image) → ShowImages entries images → KeepsCuts entries kept
-          → All IsSegment (names_of images)
-          → IsCachedReply (Broke failed gave gave_at entries) (Reads gave entries) (λ s. MayBeMade entries) images
+          → All IsPathSegment (names_of images)
+          → IsCachedReply (Broke failed gave gave_at entries) (ReadsFile gave entries) (λ s. MayBeMade entries) images
           q old new r
       pub same : (images : List Image) → ShowImages entries images → AreKept keeps old images → AreOf (Has kept) images
-          → All IsSegment (names_of images)
+          → All IsPathSegment (names_of images)
           → IsKeptReply (Broke failed gave gave_at entries) images q old new r
 
     -- A request is answered from one list, which is what is seen afterwards. It begins with all
     -- that was seen and with all that was told.
-    pub record Gives (s : Reader × S) (q : Request) (r : Reply) (t : Reader × S) : Type 0 where
+    pub record GivesReply (s : Reader × S) (q : Request) (r : Reply) (t : Reader × S) : Type 0 where
       pub goes : Goes s t
       pub look : IsLook (look_counts s.0) (look_counts t.0)
       pub unread : IsUnread s q t

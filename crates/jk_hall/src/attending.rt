@@ -2,7 +2,7 @@
 
 ghost use Rattle.std.specs.Prelude.{◌≤◌, List, ℕ, length, IfErr};
 ghost use Rattle.std.specs.Io.KnownBytes.{Appends, Consumes, IsAtEnd};
-ghost use Rattle.jk_web.specs.Serving.{Ends};
+ghost use Rattle.jk_web.specs.Serving.{EndsConnection};
 ghost use Rattle.jk_web.specs.Turns.{IsReadIn};
 ghost use Rattle.jk_hall.specs.Replying.{IsCause, Goes};
 ghost use Rattle.jk_hall.specs.Reading.{seen};
@@ -12,7 +12,7 @@ ghost use Rattle.jk_hall.specs.Connections.{Attends};
 use crate::reader::Reader;
 use jk_math::Fault;
 use jk_store::Shelf;
-use jk_web::{End, Reply, Request, Service, Witness, serve};
+use jk_web::{End, Reply, Request, Service, Witness, serve_connection};
 use std::alloc::Global;
 use std::io::{Read, Write};
 
@@ -55,7 +55,7 @@ fn attend_with<'a, I: Read, O: Write, S: Shelf, W: Witness>(
     ensures text { (stream : List ℕ) × (text : List ℕ)
         × Consumes (I.remaining input.old) (I.remaining input.new) stream
         × Appends (O.contents output.old) (O.contents output.new) text
-        × Ends (GivesUpTo S.keeps S.failed S.gave S.gave_at (seen service.new.reader.now))
+        × EndsConnection (GivesUpTo S.keeps S.failed S.gave S.gave_at (seen service.new.reader.now))
         (RefusesUpTo S.keeps (seen service.new.reader.now))
         (behind service.old) stream text (IsAtEnd (I.remaining input.new)) (turns ≤ length stream)
         (behind service.new) result
@@ -65,7 +65,7 @@ fn attend_with<'a, I: Read, O: Write, S: Shelf, W: Witness>(
         (behind service.old) (behind service.new) result }
     ensures cause { IfErr result (λ e. IsCause e) }
 {
-    serve(alloc, input, output, service, turns)
+    serve_connection(alloc, input, output, service, turns)
 }
 
 impl Reader {
@@ -87,7 +87,7 @@ impl Reader {
         ensures text { (stream : List ℕ) × (text : List ℕ)
             × Consumes (I.remaining input.old) (I.remaining input.new) stream
             × Appends (O.contents output.old) (O.contents output.new) text
-            × Ends (GivesUpTo S.keeps S.failed S.gave S.gave_at (seen self.new))
+            × EndsConnection (GivesUpTo S.keeps S.failed S.gave S.gave_at (seen self.new))
             (RefusesUpTo S.keeps (seen self.new))
             (self.old, shelf.old) stream text (IsAtEnd (I.remaining input.new)) (turns ≤ length stream)
             (self.new, shelf.new) result

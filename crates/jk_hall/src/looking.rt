@@ -6,7 +6,7 @@ ghost use mathlib.Core.List.{IsPrefix};
 ghost use Rattle.jk_hall.specs.Sights.{stamp_of, listed};
 ghost use Rattle.jk_math.specs.Memory.{IsMemory};
 ghost use Rattle.jk_math.specs.declared.fault.Fault.TheVariants.{WorkerFailed};
-ghost use Rattle.jk_web.specs.Resources.{IsSegment};
+ghost use Rattle.jk_web.specs.Resources.{IsPathSegment};
 ghost use Rattle.jk_web.specs.Cuts.{IsHit, Has};
 ghost use Rattle.jk_hall.specs.Looking.{IsLook, IsInVain};
 ghost use Rattle.jk_hall.specs.Replying.{KeepsOn, KeptOn, Replies};
@@ -39,7 +39,7 @@ fn answer_shown<S: Shelf>(
         ⊎ ((e ≡ WorkerFailed) × (length shown.now.front.seen.log < length told.now.seen.log))) }
     ensures keeps { KeepsOn S.keeps shelf.old shelf.new }
     ensures cuts { KeptOn S.keeps (listed shown.now) (listed shown.now) shelf.old cache.old cache.new }
-    ensures unread { (names : List (List ℕ)) → All IsSegment names → IsHit (Has cache.old) names request.now
+    ensures unread { (names : List (List ℕ)) → All IsPathSegment names → IsHit (Has cache.old) names request.now
         → shelf.new ≡ shelf.old }
 {
     if !told.begins(&shown.front) {
@@ -83,7 +83,7 @@ pub(crate) fn look<'a, S: Shelf>(
     ensures keeps { KeepsOn S.keeps ask.entry.shelf.now result.1.1.now }
     ensures cuts { KeptOn S.keeps (view place.inner.place).seen (view result.0.inner.place).seen ask.entry.shelf.now
         place.cache result.0.cache }
-    ensures unread { (names : List (List ℕ)) → All IsSegment names → IsHit (Has place.cache) names ask.entry.request.now
+    ensures unread { (names : List (List ℕ)) → All IsPathSegment names → IsHit (Has place.cache) names ask.entry.request.now
         → result.1.1.now ≡ ask.entry.shelf.now }
 {
     let Ask {

@@ -29,7 +29,7 @@ impl Reader {
     ghost use mathlib.Core.List.{IsPrefix};
     ghost use Rattle.jk_hall.specs.Writing.{note, hall_of_note};
     ghost use Rattle.jk_hall.specs.Reading.{seen, told, hall_of_reader, cuts};
-    ghost use Rattle.jk_hall.specs.Replying.{Gives, Refuses};
+    ghost use Rattle.jk_hall.specs.Replying.{GivesReply, RefusesReply};
     ghost use Rattle.jk_hall.specs.Runs.{LooksNext};
 
     /// Takes up a list that was told by the writer of its hall: from now on it answers from no
@@ -57,9 +57,9 @@ impl Reader {
         shelf: &mut S,
         request: &Request,
     ) -> Result<Reply, Fault>
-        ensures ok { IfOk result (λ r. Gives S.keeps S.failed S.gave S.gave_at (self.old, shelf.old) request.now r
+        ensures ok { IfOk result (λ r. GivesReply S.keeps S.failed S.gave S.gave_at (self.old, shelf.old) request.now r
             (self.new, shelf.new)) }
-        ensures err { IfErr result (λ e. Refuses S.keeps (self.old, shelf.old) request.now e (self.new, shelf.new)) }
+        ensures err { IfErr result (λ e. RefusesReply S.keeps (self.old, shelf.old) request.now e (self.new, shelf.new)) }
 
         // In a run of events that has published what was seen, more is published, and then its look
         // at the list is the next event.

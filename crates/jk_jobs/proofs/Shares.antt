@@ -7,7 +7,7 @@ use Rattle.std.proofs.lemmas.List.Elements.{All-head, All-tail, All-same}
 use Rattle.std.proofs.lemmas.Option.{none-some, same_Some}
 use Rattle.std.proofs.lemmas.List.{get_or-map, get_or-set_same, get_or-set_other, length-map}
 use Rattle.jk_math.specs.declared.fault.Fault.{Fault}
-use Rattle.jk_jobs.specs.Dealing.{Gives, AreFilled, AreGiven}
+use Rattle.jk_jobs.specs.Dealing.{GivesDone, AreFilled, AreGiven}
 
 module _ {X : Type 0} where
   -- one more empty slot
@@ -24,7 +24,7 @@ module _ {J D : Type 0} (gives : J → Result D Fault → Type 0) (jobs : List J
   filled_none slots h i r e = absurd (none-some r (sym (h i) ∙ e))
 
   -- one slot more is filled
-  pub filled_more : (slots more : List (Option (Result D Fault))) (job : ℕ) (r : Result D Fault) → AreFilled gives jobs slots → job < length slots → Gives gives jobs job r
+  pub filled_more : (slots more : List (Option (Result D Fault))) (job : ℕ) (r : Result D Fault) → AreFilled gives jobs slots → job < length slots → GivesDone gives jobs job r
       → more ≡ set slots job (Some r) → AreFilled gives jobs more
   filled_more slots more job r old lt given e i q is = elim (cases_eq i job) [
     | inl same ↦ λ j.

@@ -5,30 +5,30 @@ use Rattle.jk_jobs.specs.declared.dealing.Taken.{Taken}
 
 module _ {J D : Type 0} (gives : J → Result D Fault → Type 0) (jobs : List J) where
   -- the job of this number gives this
-  abbrev pub Gives : ℕ → Result D Fault → Type 0
-  Gives i r = (j : J) → gives (slice_index_or jobs i j) r
+  abbrev pub GivesDone : ℕ → Result D Fault → Type 0
+  GivesDone i r = (j : J) → gives (slice_index_or jobs i j) r
 
   -- a job that was done, and what it gave
   pub record IsTaken (t : Taken D) : Type 0 where
     pub is_job : t.job < length jobs
-    pub gives_it : Gives t.job t.given
+    pub gives_it : GivesDone t.job t.given
 
   abbrev pub AreTaken : List (Taken D) → Type 0
   AreTaken items = All IsTaken items
 
   -- in the slots of jobs stands what these give, where anything does
   abbrev pub AreFilled : List (Option (Result D Fault)) → Type 0
-  AreFilled slots = (i : ℕ) (r : Result D Fault) → slice_index_or slots i None ≡ Some r → Gives i r
+  AreFilled slots = (i : ℕ) (r : Result D Fault) → slice_index_or slots i None ≡ Some r → GivesDone i r
 
   -- Each of the first jobs gives what stands at its place.
   pub record AreGiven (count : ℕ) (items : List D) : Type 0 where
     pub long : length items ≡ count
-    pub each : (i : ℕ) (d : D) → i < count → Gives i (Ok (slice_index_or items i d))
+    pub each : (i : ℕ) (d : D) → i < count → GivesDone i (Ok (slice_index_or items i d))
 
   -- A job gives this fault, and those before it give none.
   pub record IsFirstFault (fault : Fault) : Type 0 where
     pub job : ℕ
     pub is_job : job < length jobs
-    pub fails : Gives job (Err fault)
+    pub fails : GivesDone job (Err fault)
     pub before : List D
     pub given : AreGiven job before

@@ -8,8 +8,8 @@ use Rattle.jk_math.specs.Division.{floor_of}
 use Rattle.jk_math.specs.Signed.{IsBelow, signed_at}
 use Rattle.jk_lift.specs.Lifting.{high_pass, low_pass, even_sample, odd_sample}
 use Rattle.jk_lift.specs.Pairs.{AreSamples, AreCoefficients}
-use Rattle.jk_lanes.specs.Eights.{HasEight, HasPairs}
-use Rattle.jk_lanes.proofs.Laws.{HasLanes, bits_of, loaded, sums, differences, shifted, HasLanes-load, HasLanes-passed, HasLanes-wider, HasLanes-same, HasLanes-splat, HasLanes-all, HasLanes-add, HasLanes-sub, HasLanes-half, HasLanes-quarter, HasLanes-woven, HasLanes-parted, HasLanes-behind, HasLanes-before, stored_pairs}
+use Rattle.jk_math.specs.Eights.{HasEight, HasPairs}
+use Rattle.jk_math.proofs.Laws.{HasLanes, bits_of, loaded, sums, differences, shifted, HasLanes-load, HasLanes-passed, HasLanes-wider, HasLanes-same, HasLanes-splat, HasLanes-all, HasLanes-add, HasLanes-sub, HasLanes-half, HasLanes-quarter, HasLanes-woven, HasLanes-parted, HasLanes-behind, HasLanes-before, stored_pairs}
 use Rattle.jk_lift.proofs.EightSteps.{half_sum}
 
 not_first : (j : ℕ) → eqb (j + 1) 0 ≡ false

@@ -3,7 +3,7 @@ use Rattle.std.proofs.Common.{◌≡◌, ℕ, ℤ, List, ◌+◌, ◌-◌, ◌^�
 use Rattle.jk_math.specs.Division.{floor_of}
 use Rattle.jk_math.specs.Signed.{IsBelow, signed_at}
 use Rattle.jk_lift.specs.Lifting.{high_pass, low_pass, even_sample, odd_sample}
-use Rattle.jk_lanes.proofs.Laws.{HasLanes, bits_of, sums, differences, shifted, HasLanes-given, HasLanes-splat, HasLanes-add, HasLanes-sub, HasLanes-half, HasLanes-quarter}
+use Rattle.jk_math.proofs.Laws.{HasLanes, bits_of, sums, differences, shifted, HasLanes-given, HasLanes-splat, HasLanes-add, HasLanes-sub, HasLanes-half, HasLanes-quarter}
 
 -- half and a quarter of the sum of two vectors
 pub half_sum : (f g : ℕ → ℤ) (v w : List ℕ) → HasLanes (2 ^ 30 - 1) f v → HasLanes (2 ^ 30 - 1) g w →

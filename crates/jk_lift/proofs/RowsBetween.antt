@@ -6,8 +6,8 @@ use Rattle.std.proofs.lemmas.Bool.{cases_lt}
 use Rattle.std.proofs.lemmas.List.{get_or-set_same, get_or-set_other}
 use borrow.Author.Count.{below_more}
 use Rattle.jk_math.specs.Signed.{IsBelow, signed_at}
-use Rattle.jk_lanes.specs.Eights.{HasEight}
-use Rattle.jk_lanes.proofs.Laws.{HasLanes, loaded, HasLanes-load}
+use Rattle.jk_math.specs.Eights.{HasEight}
+use Rattle.jk_math.proofs.Laws.{HasLanes, loaded, HasLanes-load}
 use Rattle.jk_lift.proofs.Places.{passed, entry_below}
 
 -- The first k numbers of a row are lifted, and the others are as they were.

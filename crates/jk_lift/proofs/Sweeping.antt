@@ -1,8 +1,8 @@
 -- Rows lifted in place, one after another.
 use Rattle.std.proofs.Common.{◌≡◌, ◌≢◌, ℕ, ℤ, List, ◌+◌, ◌-◌, ◌*◌, ◌%◌, ◌^◌, ◌<◌, ◌≤◌, true, false, eqb, ◌⊎◌, length, set, inl, inr, refl, sym, ◌∙◌, ap, subst, arith, w32}
 use Rattle.jk_math.specs.Signed.{IsBelow, signed_at}
-use Rattle.jk_lanes.specs.Eights.{HasEight}
-use Rattle.jk_lanes.proofs.Laws.{HasLanes, loaded, HasLanes-load}
+use Rattle.jk_math.specs.Eights.{HasEight}
+use Rattle.jk_math.proofs.Laws.{HasLanes, loaded, HasLanes-load}
 use Rattle.jk_lift.specs.Sweep.{row_before, row_after, first_step, both_steps}
 use Rattle.jk_lift.proofs.Places.{passed, entry_below}
 use Rattle.std.specs.List.{All}

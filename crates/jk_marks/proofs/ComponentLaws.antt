@@ -6,7 +6,7 @@ use Rattle.jk_math.specs.Steps.{bind_then, refuse_then, ok_is}
 use Rattle.jk_math.specs.declared.fault.Fault.TheVariants.{BadMarker, BadLength, BadValue, Unsupported}
 use Rattle.jk_marks.specs.declared.segments.CodingStyle.{CodingStyle}
 use Rattle.jk_marks.specs.declared.segments.Quantisation.{Quantisation}
-use Rattle.jk_marks.specs.Place.{Place}
+use Rattle.jk_marks.specs.Place.{ReadingPlace}
 use Rattle.jk_marks.specs.BlockStyle.{bit_of}
 use Rattle.jk_marks.specs.Segments.{CocSegment, QcdSegment, QccSegment, Passed, StepSizes, AreSteps, IsStyle, segment_body, contents, style_text, given_bit, quantisation_of}
 use Rattle.jk_marks.specs.Reading.{number, segment_length, style_at, component_at, coc_at, steps_at, qcd_at, qcc_at, passed_at, passing, has}
@@ -15,18 +15,18 @@ use Rattle.jk_marks.proofs.Steps.{Goes, ahead, entered, goes_then, goes_as, byte
 use Rattle.jk_marks.proofs.StyleLaws.{style_goes, style_again}
 use Rattle.jk_marks.proofs.SegmentLaws.{style_length, coc_length, bit_is, bit_small, bit_again, is_given, given_is, precincts_few}
 
-component_goes : {X : Type 0} (others : List (Option X)) (n i : ℕ) (p q : Place) → AreBytes p.rest → component_at others n p ≡ Ok (i, q)
+component_goes : {X : Type 0} (others : List (Option X)) (n i : ℕ) (p q : ReadingPlace) → AreBytes p.rest → component_at others n p ≡ Ok (i, q)
     → Goes p (i ∷ []) q × (i < n) × (has others i ≡ false) × (i < 256)
 unfolding component_at
 component_goes others n i p q fits e =
-    let t : ℕ × Place = (i, q) in
+    let t : ℕ × ReadingPlace = (i, q) in
     bind_then (number 1 p) _ t e (λ k read e.
     refuse_then (leb n k.0) BadValue _ t e (λ below e.
     refuse_then (has others k.0) BadMarker _ t e (λ fresh e.
     let g = byte_goes k.0 p k.1 fits read in
-    subst (λ (r : ℕ × Place). Goes p (r.0 ∷ []) r.1 × (r.0 < n) × (has others r.0 ≡ false) × (r.0 < 256)) (ok_is k t e) (g.0, leb-false _ _ below, fresh, g.1))))
+    subst (λ (r : ℕ × ReadingPlace). Goes p (r.0 ∷ []) r.1 × (r.0 < n) × (has others r.0 ≡ false) × (r.0 < 256)) (ok_is k t e) (g.0, leb-false _ _ below, fresh, g.1))))
 
-component_again : {X : Type 0} (others : List (Option X)) (n i : ℕ) (p : Place) (rest : List ℕ) → p.rest ≡ i ∷ rest → i < n → n ≤ 4 → has others i ≡ false → 1 ≤ p.room
+component_again : {X : Type 0} (others : List (Option X)) (n i : ℕ) (p : ReadingPlace) (rest : List ℕ) → p.rest ≡ i ∷ rest → i < n → n ≤ 4 → has others i ≡ false → 1 ≤ p.room
     → component_at others n p ≡ Ok (i, ahead 1 rest p)
 unfolding component_at
 component_again others n i p rest e below few fresh room =
@@ -34,11 +34,11 @@ component_again others n i p rest e below few fresh room =
     let kept : leb n i ≡ false = lt-leb _ _ below in
     rw (read, kept, fresh) refl
 
-pub coc_goes : (others : List (Option CodingStyle)) (n : ℕ) (k : ℕ × CodingStyle) (p q : Place) → AreBytes p.rest → coc_at others n p ≡ Ok (k, q)
+pub coc_goes : (others : List (Option CodingStyle)) (n : ℕ) (k : ℕ × CodingStyle) (p q : ReadingPlace) → AreBytes p.rest → coc_at others n p ≡ Ok (k, q)
     → Goes p (segment_body (CocSegment k.0 k.1)) q × (k.0 < n) × IsStyle k.1 × (has others k.0 ≡ false)
 unfolding coc_at segment_body contents
 coc_goes others n k p q fits e =
-    let t : (ℕ × CodingStyle) × Place = (k, q) in
+    let t : (ℕ × CodingStyle) × ReadingPlace = (k, q) in
     bind_then (segment_length p) _ t e (λ size s1 e.
     bind_then (component_at others n size.1) _ t e (λ i s2 e.
     bind_then (number 1 i.1) _ t e (λ flags s3 e.
@@ -59,11 +59,11 @@ coc_goes others n k p q fits e =
     ap (λ x. big_bytes 2 size.0 ++ (i.0 ∷ x ∷ text)) f ∙ ap (λ x. big_bytes 2 x ++ all) size-is in
     let here : Goes p (segment_body (CocSegment i.0 style.0)) style.1 × (i.0 < n) × IsStyle style.0 × (has others i.0 ≡ false) =
     (goes_as p _ _ style.1 gone whole, g2.1, g4.is, g2.2) in
-    subst (λ (r : (ℕ × CodingStyle) × Place). Goes p (segment_body (CocSegment r.0.0 r.0.1)) r.1 × (r.0.0 < n) × IsStyle r.0.1 × (has others r.0.0 ≡ false))
+    subst (λ (r : (ℕ × CodingStyle) × ReadingPlace). Goes p (segment_body (CocSegment r.0.0 r.0.1)) r.1 × (r.0.0 < n) × IsStyle r.0.1 × (has others r.0.0 ≡ false))
     (ok_is ((i.0, style.0), style.1) t e) here)))))
 
-pub coc_again : (others : List (Option CodingStyle)) (n i : ℕ) (k : CodingStyle) (p : Place) (rest : List ℕ) → p.rest ≡ segment_body (CocSegment i k) ++ rest → i < n → n ≤ 4 → IsStyle k
-    → has others i ≡ false → 2 ≤ p.room → (q : Place) × (coc_at others n p ≡ Ok ((i, k), q)) × (q.rest ≡ rest) × (q.at ≡ p.at + length (segment_body (CocSegment i k)))
+pub coc_again : (others : List (Option CodingStyle)) (n i : ℕ) (k : CodingStyle) (p : ReadingPlace) (rest : List ℕ) → p.rest ≡ segment_body (CocSegment i k) ++ rest → i < n → n ≤ 4 → IsStyle k
+    → has others i ≡ false → 2 ≤ p.room → (q : ReadingPlace) × (coc_at others n p ≡ Ok ((i, k), q)) × (q.rest ≡ rest) × (q.at ≡ p.at + length (segment_body (CocSegment i k)))
 unfolding coc_at segment_body contents
 coc_again others n i k p rest e below some is fresh room =
     let m = length k.precincts in
@@ -89,17 +89,17 @@ coc_again others n i k p rest e below some is fresh room =
     (q, read, refl, omega (arith, coc_length i k, style_length k))
 
 -- what was read of a quantization
-pub record Steps (n : ℕ) (q : Quantisation) (p to : Place) : Type 0 where
+pub record Steps (n : ℕ) (q : Quantisation) (p to : ReadingPlace) : Type 0 where
   pub steps : StepSizes
   pub gone : Goes p (32 * steps.guard ∷ steps.bytes) to
   pub count : length steps.bytes ≡ n
   pub guard : steps.guard < 8
   pub is : q ≡ quantisation_of steps
 
-steps_goes : (n : ℕ) (v : Quantisation) (p q : Place) → AreBytes p.rest → steps_at n p ≡ Ok (v, q) → Steps n v p q
+steps_goes : (n : ℕ) (v : Quantisation) (p q : ReadingPlace) → AreBytes p.rest → steps_at n p ≡ Ok (v, q) → Steps n v p q
 unfolding steps_at
 steps_goes n v p q fits e =
-    let t : Quantisation × Place = (v, q) in
+    let t : Quantisation × ReadingPlace = (v, q) in
     bind_then (number 1 p) _ t e (λ style s1 e.
     refuse_then (eqb (style.0 % 32) 1 || eqb (style.0 % 32) 2) Unsupported _ t e (λ known e.
     refuse_then (ltb 2 (style.0 % 32)) BadValue _ t e (λ low e.
@@ -115,9 +115,9 @@ steps_goes n v p q fits e =
     let first : style.0 ≡ 32 * (style.0 / 32) = omega (arith, zero-is) in
     let gone = goes_as p (style.0 ∷ bytes.0) (32 * steps.guard ∷ bytes.0) bytes.1 (goes_then p (style.0 ∷ []) style.1 bytes.0 bytes.1 g1.0 g2.0) (ap (λ x. x ∷ bytes.0) first) in
     let here : Steps n (quantisation_of steps) p bytes.1 = record { steps = steps; gone = gone; count = g2.1; guard = omega (arith, g1.1); is = refl } in
-    subst (λ (r : Quantisation × Place). Steps n r.0 p r.1) (ok_is (quantisation_of steps, bytes.1) t e) here))))
+    subst (λ (r : Quantisation × ReadingPlace). Steps n r.0 p r.1) (ok_is (quantisation_of steps, bytes.1) t e) here))))
 
-steps_again : (n : ℕ) (s : StepSizes) (p : Place) (rest : List ℕ) → p.rest ≡ 32 * s.guard ∷ (s.bytes ++ rest) → AreSteps s → length s.bytes ≡ n → 1 ≤ p.room
+steps_again : (n : ℕ) (s : StepSizes) (p : ReadingPlace) (rest : List ℕ) → p.rest ≡ 32 * s.guard ∷ (s.bytes ++ rest) → AreSteps s → length s.bytes ≡ n → 1 ≤ p.room
     → steps_at n p ≡ Ok (quantisation_of s, ahead n rest (ahead 1 (s.bytes ++ rest) p))
 unfolding steps_at
 steps_again n s p rest e are len room =
@@ -128,17 +128,17 @@ steps_again n s p rest e are len room =
     let s2 = passing_again s.bytes n p1 rest refl len in
     rw (s1, low, guard, s2) refl
 
-pub record Qcd (v : Quantisation) (p q : Place) : Type 0 where
+pub record Qcd (v : Quantisation) (p q : ReadingPlace) : Type 0 where
   pub steps : StepSizes
   pub gone : Goes p (segment_body (QcdSegment steps)) q
   pub are : AreSteps steps
   pub short : 3 + length steps.bytes < 2 ^ 16
   pub is : v ≡ quantisation_of steps
 
-pub qcd_goes : (v : Quantisation) (p q : Place) → AreBytes p.rest → qcd_at p ≡ Ok (v, q) → Qcd v p q
+pub qcd_goes : (v : Quantisation) (p q : ReadingPlace) → AreBytes p.rest → qcd_at p ≡ Ok (v, q) → Qcd v p q
 unfolding qcd_at segment_body contents
 qcd_goes v p q fits e =
-    let t : Quantisation × Place = (v, q) in
+    let t : Quantisation × ReadingPlace = (v, q) in
     bind_then (segment_length p) _ t e (λ size s1 e.
     refuse_then (ltb size.0 4) BadLength _ t e (λ long e.
     let g1 = length_goes size.0 p size.1 fits s1 in
@@ -162,8 +162,8 @@ qcc_length : (i : ℕ) (s : StepSizes) → 2 + length (contents (QccSegment i s)
 unfolding contents
 qcc_length i s = omega arith
 
-pub qcd_again : (s : StepSizes) (p : Place) (rest : List ℕ) → p.rest ≡ segment_body (QcdSegment s) ++ rest → AreSteps s → 3 + length s.bytes < 2 ^ 16 → 2 ≤ p.room
-    → (q : Place) × (qcd_at p ≡ Ok (quantisation_of s, q)) × (q.rest ≡ rest) × (q.at ≡ p.at + length (segment_body (QcdSegment s)))
+pub qcd_again : (s : StepSizes) (p : ReadingPlace) (rest : List ℕ) → p.rest ≡ segment_body (QcdSegment s) ++ rest → AreSteps s → 3 + length s.bytes < 2 ^ 16 → 2 ≤ p.room
+    → (q : ReadingPlace) × (qcd_at p ≡ Ok (quantisation_of s, q)) × (q.rest ≡ rest) × (q.at ≡ p.at + length (segment_body (QcdSegment s)))
 unfolding qcd_at segment_body contents
 qcd_again s p rest e are short room =
     let n = length s.bytes in
@@ -180,7 +180,7 @@ qcd_again s p rest e are short room =
     let read : qcd_at p ≡ Ok (quantisation_of s, q) = rw (s1, c1, k, s2) refl in
     (q, read, refl, omega arith)
 
-pub record Qcc (others : List (Option Quantisation)) (n : ℕ) (v : ℕ × Quantisation) (p q : Place) : Type 0 where
+pub record Qcc (others : List (Option Quantisation)) (n : ℕ) (v : ℕ × Quantisation) (p q : ReadingPlace) : Type 0 where
   pub steps : StepSizes
   pub gone : Goes p (segment_body (QccSegment v.0 steps)) q
   pub below : v.0 < n
@@ -189,10 +189,10 @@ pub record Qcc (others : List (Option Quantisation)) (n : ℕ) (v : ℕ × Quant
   pub short : 4 + length steps.bytes < 2 ^ 16
   pub is : v.1 ≡ quantisation_of steps
 
-pub qcc_goes : (others : List (Option Quantisation)) (n : ℕ) (v : ℕ × Quantisation) (p q : Place) → AreBytes p.rest → qcc_at others n p ≡ Ok (v, q) → Qcc others n v p q
+pub qcc_goes : (others : List (Option Quantisation)) (n : ℕ) (v : ℕ × Quantisation) (p q : ReadingPlace) → AreBytes p.rest → qcc_at others n p ≡ Ok (v, q) → Qcc others n v p q
 unfolding qcc_at segment_body contents
 qcc_goes others n v p q fits e =
-    let t : (ℕ × Quantisation) × Place = (v, q) in
+    let t : (ℕ × Quantisation) × ReadingPlace = (v, q) in
     bind_then (segment_length p) _ t e (λ size s1 e.
     refuse_then (ltb size.0 5) BadLength _ t e (λ long e.
     bind_then (component_at others n size.1) _ t e (λ i s2 e.
@@ -213,11 +213,11 @@ qcc_goes others n v p q fits e =
       short = omega (arith, size-is, g1.1);
       is = g3.is;
     } in
-    subst (λ (r : (ℕ × Quantisation) × Place). Qcc others n r.0 p r.1) (ok_is ((i.0, steps.0), steps.1) t e) here))))
+    subst (λ (r : (ℕ × Quantisation) × ReadingPlace). Qcc others n r.0 p r.1) (ok_is ((i.0, steps.0), steps.1) t e) here))))
 
-pub qcc_again : (others : List (Option Quantisation)) (n i : ℕ) (s : StepSizes) (p : Place) (rest : List ℕ) → p.rest ≡ segment_body (QccSegment i s) ++ rest → i < n → n ≤ 4
+pub qcc_again : (others : List (Option Quantisation)) (n i : ℕ) (s : StepSizes) (p : ReadingPlace) (rest : List ℕ) → p.rest ≡ segment_body (QccSegment i s) ++ rest → i < n → n ≤ 4
     → has others i ≡ false → AreSteps s → 4 + length s.bytes < 2 ^ 16 → 2 ≤ p.room
-    → (q : Place) × (qcc_at others n p ≡ Ok ((i, quantisation_of s), q)) × (q.rest ≡ rest) × (q.at ≡ p.at + length (segment_body (QccSegment i s)))
+    → (q : ReadingPlace) × (qcc_at others n p ≡ Ok ((i, quantisation_of s), q)) × (q.rest ≡ rest) × (q.at ≡ p.at + length (segment_body (QccSegment i s)))
 unfolding qcc_at segment_body contents
 qcc_again others n i s p rest e below some_n fresh are short room =
     let n_bytes = length s.bytes in
@@ -237,10 +237,10 @@ qcc_again others n i s p rest e below some_n fresh are short room =
     let read : qcc_at others n p ≡ Ok ((i, quantisation_of s), q) = rw (s1, c1, s2, k, s3) refl in
     (q, read, refl, omega arith)
 
-pub passed_goes : (bytes : List ℕ) (m : ℕ) (p q : Place) → AreBytes p.rest → passed_at p ≡ Ok (bytes, q) → Goes p (segment_body (Passed m bytes)) q × (2 + length bytes < 2 ^ 16)
+pub passed_goes : (bytes : List ℕ) (m : ℕ) (p q : ReadingPlace) → AreBytes p.rest → passed_at p ≡ Ok (bytes, q) → Goes p (segment_body (Passed m bytes)) q × (2 + length bytes < 2 ^ 16)
 unfolding passed_at segment_body contents
 passed_goes bytes m p q fits e =
-    let t : List ℕ × Place = (bytes, q) in
+    let t : List ℕ × ReadingPlace = (bytes, q) in
     bind_then (segment_length p) _ t e (λ size s1 e.
     refuse_then (ltb size.0 2) BadLength _ t e (λ long e.
     let g1 = length_goes size.0 p size.1 fits s1 in
@@ -249,8 +249,8 @@ passed_goes bytes m p q fits e =
     let size-is : size.0 ≡ 2 + length bytes = omega (arith, long, g2.1) in
     (goes_as p _ _ q (goes_then p (big_bytes 2 size.0) size.1 bytes q g1.0 g2.0) (ap (λ n. big_bytes 2 n ++ bytes) size-is), omega (arith, size-is, g1.1))))
 
-pub passed_again : (bytes : List ℕ) (m : ℕ) (p : Place) (rest : List ℕ) → p.rest ≡ segment_body (Passed m bytes) ++ rest → 2 + length bytes < 2 ^ 16 → 2 ≤ p.room
-    → (q : Place) × (passed_at p ≡ Ok (bytes, q)) × (q.rest ≡ rest) × (q.at ≡ p.at + length (segment_body (Passed m bytes)))
+pub passed_again : (bytes : List ℕ) (m : ℕ) (p : ReadingPlace) (rest : List ℕ) → p.rest ≡ segment_body (Passed m bytes) ++ rest → 2 + length bytes < 2 ^ 16 → 2 ≤ p.room
+    → (q : ReadingPlace) × (passed_at p ≡ Ok (bytes, q)) × (q.rest ≡ rest) × (q.at ≡ p.at + length (segment_body (Passed m bytes)))
 unfolding passed_at segment_body contents
 passed_again bytes m p rest e short room =
     let size = 2 + length bytes in

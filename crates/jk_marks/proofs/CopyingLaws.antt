@@ -15,7 +15,7 @@ use Rattle.jk_marks.specs.declared.head.Heading.TheVariants.{MainHeader}
 use Rattle.jk_marks.specs.Markers.{soc, siz, cod, coc, qcd, qcc, tlm, plt, sot, sod, marker_text, is_listed, is_alone}
 use Rattle.jk_marks.specs.Siz.{siz_text, siz_length, grid_text, component_text}
 use Rattle.jk_marks.specs.Segments.{Segment, CodSegment, CocSegment, QcdSegment, QccSegment, Passed, Alone, IsSegment, contents, segment_body, segment_text, marker_of, is_passed, is_foreign}
-use Rattle.jk_marks.specs.Codestream.{Part, main_text, sot_text, part_text, psot, heading_of, IsMain, IsPart, BeginsMain, BeginsWith}
+use Rattle.jk_marks.specs.Codestream.{CodestreamPart, main_text, sot_text, part_text, psot, heading_of, IsMain, IsPart, BeginsMain, BeginsWith}
 use Rattle.jk_marks.specs.Copying.{is_passed_as, kept_segments, segment_size, kept_front, kept_at, size_at, main_kept_at, main_size_at, part_kept_at}
 use Rattle.jk_marks.proofs.SegmentLaws.{coc_length, style_length, precincts_few}
 use Rattle.jk_marks.proofs.HeadLaws.{apart}
@@ -298,16 +298,16 @@ main_sized bytes s ss is begins =
 sot_rest : (tile size number total : ℕ) (r : List ℕ) → drop 12 (sot_text tile size number total ++ r) ≡ r
 sot_rest tile size number total r = refl
 
-pub part_rest : (bytes : List ℕ) (p : Part) → (begins : BeginsWith bytes p)
+pub part_rest : (bytes : List ℕ) (p : CodestreamPart) → (begins : BeginsWith bytes p)
     → bytes ≡ sot_text p.tile (psot p) p.number p.total ++ (flat_map segment_text p.segments ++ (marker_text sod ++ (p.content ++ begins.others)))
 unfolding part_text
 part_rest bytes p begins =
     begins.text ∙ ap (λ (x : List ℕ). sot_text p.tile (psot p) p.number p.total ++ x) (append_assoc (flat_map segment_text p.segments) (marker_text sod ++ p.content) begins.others)
 
-pub part_long : (bytes : List ℕ) (p : Part) → BeginsWith bytes p → 12 ≤ length bytes
+pub part_long : (bytes : List ℕ) (p : CodestreamPart) → BeginsWith bytes p → 12 ≤ length bytes
 part_long bytes p begins = omega (arith, ap (λ (x : List ℕ). length x) (part_rest bytes p begins))
 
-pub part_kept : (siz : Siz) (bytes : List ℕ) (p : Part) → IsPart siz p → BeginsWith bytes p → part_kept_at bytes ≡ flat_map segment_text (kept_segments plt p.segments)
+pub part_kept : (siz : Siz) (bytes : List ℕ) (p : CodestreamPart) → IsPart siz p → BeginsWith bytes p → part_kept_at bytes ≡ flat_map segment_text (kept_segments plt p.segments)
 part_kept siz bytes p is begins =
     let tail = marker_text sod ++ (p.content ++ begins.others) in
     let rest = flat_map segment_text p.segments ++ tail in

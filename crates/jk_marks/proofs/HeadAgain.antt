@@ -7,7 +7,7 @@ use Rattle.jk_math.specs.declared.fault.Fault.{Fault}
 use Rattle.jk_marks.specs.declared.head.Heading.{Heading}
 use Rattle.jk_marks.specs.declared.head.Heading.TheVariants.{MainHeader, FirstPart, LaterPart}
 use Rattle.jk_marks.specs.declared.head.TileHead.{TileHead}
-use Rattle.jk_marks.specs.Place.{Place, outside}
+use Rattle.jk_marks.specs.Place.{ReadingPlace, outside}
 use Rattle.jk_marks.specs.Markers.{cod, coc, qcd, qcc, tlm, plt, crg, comment, marker_text, is_listed, is_alone}
 use Rattle.jk_marks.specs.Segments.{Segment, CodSegment, CocSegment, QcdSegment, QccSegment, Passed, Alone, IsSegment, segment_body, segment_text, marker_of, is_coded, is_passed, is_foreign}
 use Rattle.jk_marks.specs.Reading.{other_at, segment_at, segments_at}
@@ -17,8 +17,8 @@ use Rattle.jk_marks.proofs.ComponentLaws.{coc_again, qcd_again, qcc_again, passe
 use Rattle.jk_marks.proofs.HeadLaws.{with_segment, with_segments, IsFresh, AreFresh, apart, left_out_listed, any_has}
 
 -- what is read of a segment, and where it ends
-pub record SegmentRead (heading : Heading) (n : ℕ) (h : TileHead) (s : Segment) (p : Place) (rest : List ℕ) : Type 0 where
-  pub to : Place
+pub record SegmentRead (heading : Heading) (n : ℕ) (h : TileHead) (s : Segment) (p : ReadingPlace) (rest : List ℕ) : Type 0 where
+  pub to : ReadingPlace
   pub read : segment_at heading n h (marker_of s) p ≡ Ok (with_segment h s, to)
   pub rest-is : to.rest ≡ rest
   pub at-is : to.at ≡ p.at + length (segment_body s)
@@ -48,7 +48,7 @@ other_qcc FirstPart = refl
 other_qcc LaterPart = refl
 
 -- a marker that isn't one of the coding's goes to the others
-to_other : (heading : Heading) (n m : ℕ) (h : TileHead) (p : Place) (P : ℕ → Bool) → P m ≡ true → P cod ≡ false → P qcd ≡ false → P coc ≡ false → P qcc ≡ false
+to_other : (heading : Heading) (n m : ℕ) (h : TileHead) (p : ReadingPlace) (P : ℕ → Bool) → P m ≡ true → P cod ≡ false → P qcd ≡ false → P coc ≡ false → P qcc ≡ false
     → segment_at heading n h m p ≡ other_at heading h m p
 unfolding segment_at
 to_other heading n m h p P is f1 f2 f3 f4 =
@@ -75,7 +75,7 @@ alone_high m e =
     let low = leb-true _ _ (and_parts (leb 0xFF30 m) (leb m 0xFF3F) e).0 in
     omega (arith, low)
 
-alone_again : (heading : Heading) (n m : ℕ) (h : TileHead) (p : Place) (rest : List ℕ) → p.rest ≡ segment_body (Alone m) ++ rest → is_alone m ≡ true → SegmentRead heading n h (Alone m) p rest
+alone_again : (heading : Heading) (n m : ℕ) (h : TileHead) (p : ReadingPlace) (rest : List ℕ) → p.rest ≡ segment_body (Alone m) ++ rest → is_alone m ≡ true → SegmentRead heading n h (Alone m) p rest
 unfolding other_at segment_body
 alone_again heading n m h p rest e alone =
     let c1 = alone_not_passed heading m alone in
@@ -85,7 +85,7 @@ alone_again heading n m h p rest e alone =
     let other : other_at heading h m p ≡ Ok (h, p) = rw (c1, c3, c2, high, alone) refl in
     record { to = p; read = to_other heading n m h p is_alone alone refl refl refl refl ∙ other; rest-is = e; at-is = omega arith }
 
-passed_read : (heading : Heading) (n m : ℕ) (bytes : List ℕ) (h : TileHead) (p : Place) (rest : List ℕ) → p.rest ≡ segment_body (Passed m bytes) ++ rest → 0xFF00 ≤ m
+passed_read : (heading : Heading) (n m : ℕ) (bytes : List ℕ) (h : TileHead) (p : ReadingPlace) (rest : List ℕ) → p.rest ≡ segment_body (Passed m bytes) ++ rest → 0xFF00 ≤ m
     → is_other heading m ≡ true → 2 + length bytes < 2 ^ 16 → 2 ≤ p.room → SegmentRead heading n h (Passed m bytes) p rest
 unfolding other_at
 passed_read heading n m bytes h p rest e high may short room =
@@ -104,7 +104,7 @@ passed_read heading n m bytes h p rest e high may short room =
     record { to = s.0; read = to ∙ other; rest-is = s.2; at-is = s.3 }
 
 -- room for the length of a segment that has one
-abbrev pub RoomFor : Segment → Place → Type 0
+abbrev pub RoomFor : Segment → ReadingPlace → Type 0
 RoomFor (Alone m) p = Unit {0}
 RoomFor (CodSegment c) p = 2 ≤ p.room
 RoomFor (CocSegment i k) p = 2 ≤ p.room
@@ -112,7 +112,7 @@ RoomFor (QcdSegment q) p = 2 ≤ p.room
 RoomFor (QccSegment i q) p = 2 ≤ p.room
 RoomFor (Passed m bytes) p = 2 ≤ p.room
 
-pub segment_again : (heading : Heading) (n : ℕ) (h : TileHead) (s : Segment) (p : Place) (rest : List ℕ) → p.rest ≡ segment_body s ++ rest → IsSegment heading n s → n ≤ 4 → IsFresh h s
+pub segment_again : (heading : Heading) (n : ℕ) (h : TileHead) (s : Segment) (p : ReadingPlace) (rest : List ℕ) → p.rest ≡ segment_body s ++ rest → IsSegment heading n s → n ≤ 4 → IsFresh h s
     → RoomFor s p → SegmentRead heading n h s p rest
 unfolding segment_at
 segment_again heading n h (CodSegment c) p rest e is few fresh room =
@@ -130,7 +130,7 @@ segment_again heading n h (QccSegment i v) p rest e is few fresh room =
 segment_again heading n h (Passed m bytes) p rest e is few fresh room = passed_read heading n m bytes h p rest e is.0 is.2 is.3 room
 segment_again heading n h (Alone m) p rest e is few fresh room = alone_again heading n m h p rest e is
 
-room_for : (s : Segment) (p : Place) → length (segment_body s) ≤ p.room → RoomFor s p
+room_for : (s : Segment) (p : ReadingPlace) → length (segment_body s) ≤ p.room → RoomFor s p
 unfolding segment_body
 room_for (CodSegment c) p le = omega (arith, le)
 room_for (CocSegment i k) p le = omega (arith, le)
@@ -168,8 +168,8 @@ narrow_marker heading n (Alone m) is =
     omega (arith, low)
 
 -- what is read of the segments of a header, and where they end
-pub record HeaderRead (due : Result (TileHead × Place) Fault) (g : TileHead) (p : Place) (size : ℕ) (rest : List ℕ) : Type 0 where
-  pub to : Place
+pub record HeaderRead (due : Result (TileHead × ReadingPlace) Fault) (g : TileHead) (p : ReadingPlace) (size : ℕ) (rest : List ℕ) : Type 0 where
+  pub to : ReadingPlace
   pub read : due ≡ Ok (g, to)
   pub rest-is : to.rest ≡ rest
   pub at-is : to.at ≡ p.at + size
@@ -177,7 +177,7 @@ pub record HeaderRead (due : Result (TileHead × Place) Fault) (g : TileHead) (p
 apart_text : (a b c d : List ℕ) → ((a ++ b) ++ c) ++ d ≡ a ++ (b ++ (c ++ d))
 apart_text a b c d = append_assoc (a ++ b) c d ∙ append_assoc a b (c ++ d)
 
-pub segments_again : (k : ℕ) (heading : Heading) (n last : ℕ) (ss : List Segment) (h : TileHead) (p : Place) (rest : List ℕ) → p.rest ≡ flat_map segment_text ss ++ (marker_text last ++ rest)
+pub segments_again : (k : ℕ) (heading : Heading) (n last : ℕ) (ss : List Segment) (h : TileHead) (p : ReadingPlace) (rest : List ℕ) → p.rest ≡ flat_map segment_text ss ++ (marker_text last ++ rest)
     → p.room ≡ length p.rest → length ss < k → n ≤ 4 → EndsHeader heading last → AllByRecursion (IsSegment heading n) ss → AreFresh h ss
     → HeaderRead (segments_at k heading n last h p) (with_segments h ss) p (length (flat_map segment_text ss) + 2) rest
 unfolding segments_at

@@ -10,7 +10,7 @@ use Rattle.jk_marks.specs.declared.segments.Quantisation.{Quantisation}
 use Rattle.jk_marks.specs.declared.head.Heading.{Heading}
 use Rattle.jk_marks.specs.declared.head.Heading.TheVariants.{MainHeader, FirstPart, LaterPart}
 use Rattle.jk_marks.specs.declared.head.TileHead.{TileHead}
-use Rattle.jk_marks.specs.Place.{Place, outside}
+use Rattle.jk_marks.specs.Place.{ReadingPlace, outside}
 use Rattle.jk_marks.specs.Markers.{cod, coc, qcd, qcc, tlm, plt, crg, comment, marker_text, is_left_out, is_listed, is_alone}
 use Rattle.jk_marks.specs.Segments.{Segment, CodSegment, CocSegment, QcdSegment, QccSegment, Passed, Alone, IsSegment, segment_body, segment_text, marker_of, is_coded, is_passed, is_foreign, quantisation_of}
 use Rattle.jk_marks.specs.Reading.{number, has, cod_at, coc_at, qcd_at, qcc_at, passed_at, in_cod, in_qcd, in_coc, in_qcc, other_at, segment_at, segments_at}
@@ -46,7 +46,7 @@ AreFresh h [] = Unit {0}
 AreFresh h (s ∷ ss) = IsFresh h s × AreFresh (with_segment h s) ss
 
 -- a segment that was read behind its marker
-pub record OneSegment (heading : Heading) (n m : ℕ) (h g : TileHead) (p q : Place) : Type 0 where
+pub record OneSegment (heading : Heading) (n m : ℕ) (h g : TileHead) (p q : ReadingPlace) : Type 0 where
   pub segment : Segment
   pub is : IsSegment heading n segment
   pub marker : m ≡ marker_of segment
@@ -54,9 +54,9 @@ pub record OneSegment (heading : Heading) (n m : ℕ) (h g : TileHead) (p q : Pl
   pub gives : g ≡ with_segment h segment
   pub gone : Goes p (segment_body segment) q
 
-in_cod_goes : (heading : Heading) (n : ℕ) (h g : TileHead) (p q : Place) → AreBytes p.rest → is_coded heading ≡ true → in_cod h n p ≡ Ok (g, q) → OneSegment heading n cod h g p q
+in_cod_goes : (heading : Heading) (n : ℕ) (h g : TileHead) (p q : ReadingPlace) → AreBytes p.rest → is_coded heading ≡ true → in_cod h n p ≡ Ok (g, q) → OneSegment heading n cod h g p q
 in_cod_goes heading n h g p q fits coded e =
-    let t : TileHead × Place = (g, q) in
+    let t : TileHead × ReadingPlace = (g, q) in
     refuse_then (is_some h.cod) BadMarker _ t e (λ fresh e.
     bind_then (cod_at n p) _ t e (λ c read e.
     let gone = cod_goes n c.0 p c.1 fits read in
@@ -68,11 +68,11 @@ in_cod_goes heading n h g p q fits coded e =
       gives = refl;
       gone = gone.0;
     } in
-    subst (λ (r : TileHead × Place). OneSegment heading n cod h r.0 p r.1) (ok_is (record h { cod = Some c.0 }, c.1) t e) here))
+    subst (λ (r : TileHead × ReadingPlace). OneSegment heading n cod h r.0 p r.1) (ok_is (record h { cod = Some c.0 }, c.1) t e) here))
 
-in_qcd_goes : (heading : Heading) (n : ℕ) (h g : TileHead) (p q : Place) → AreBytes p.rest → is_coded heading ≡ true → in_qcd h p ≡ Ok (g, q) → OneSegment heading n qcd h g p q
+in_qcd_goes : (heading : Heading) (n : ℕ) (h g : TileHead) (p q : ReadingPlace) → AreBytes p.rest → is_coded heading ≡ true → in_qcd h p ≡ Ok (g, q) → OneSegment heading n qcd h g p q
 in_qcd_goes heading n h g p q fits coded e =
-    let t : TileHead × Place = (g, q) in
+    let t : TileHead × ReadingPlace = (g, q) in
     refuse_then (is_some h.qcd) BadMarker _ t e (λ fresh e.
     bind_then (qcd_at p) _ t e (λ v read e.
     let gone = qcd_goes v.0 p v.1 fits read in
@@ -84,11 +84,11 @@ in_qcd_goes heading n h g p q fits coded e =
       gives = ap (λ (x : Quantisation). record h { qcd = Some x }) gone.is;
       gone = gone.gone;
     } in
-    subst (λ (r : TileHead × Place). OneSegment heading n qcd h r.0 p r.1) (ok_is (record h { qcd = Some v.0 }, v.1) t e) here))
+    subst (λ (r : TileHead × ReadingPlace). OneSegment heading n qcd h r.0 p r.1) (ok_is (record h { qcd = Some v.0 }, v.1) t e) here))
 
-in_coc_goes : (heading : Heading) (n : ℕ) (h g : TileHead) (p q : Place) → AreBytes p.rest → is_coded heading ≡ true → in_coc h n p ≡ Ok (g, q) → OneSegment heading n coc h g p q
+in_coc_goes : (heading : Heading) (n : ℕ) (h g : TileHead) (p q : ReadingPlace) → AreBytes p.rest → is_coded heading ≡ true → in_coc h n p ≡ Ok (g, q) → OneSegment heading n coc h g p q
 in_coc_goes heading n h g p q fits coded e =
-    let t : TileHead × Place = (g, q) in
+    let t : TileHead × ReadingPlace = (g, q) in
     bind_then (coc_at h.coc n p) _ t e (λ k read e.
     let gone = coc_goes h.coc n k.0 p k.1 fits read in
     let next : TileHead = record h { coc = slice_set h.coc k.0.0 (Some k.0.1) } in
@@ -100,11 +100,11 @@ in_coc_goes heading n h g p q fits coded e =
       gives = refl;
       gone = gone.0;
     } in
-    subst (λ (r : TileHead × Place). OneSegment heading n coc h r.0 p r.1) (ok_is (next, k.1) t e) here)
+    subst (λ (r : TileHead × ReadingPlace). OneSegment heading n coc h r.0 p r.1) (ok_is (next, k.1) t e) here)
 
-in_qcc_goes : (heading : Heading) (n : ℕ) (h g : TileHead) (p q : Place) → AreBytes p.rest → is_coded heading ≡ true → in_qcc h n p ≡ Ok (g, q) → OneSegment heading n qcc h g p q
+in_qcc_goes : (heading : Heading) (n : ℕ) (h g : TileHead) (p q : ReadingPlace) → AreBytes p.rest → is_coded heading ≡ true → in_qcc h n p ≡ Ok (g, q) → OneSegment heading n qcc h g p q
 in_qcc_goes heading n h g p q fits coded e =
-    let t : TileHead × Place = (g, q) in
+    let t : TileHead × ReadingPlace = (g, q) in
     bind_then (qcc_at h.qcc n p) _ t e (λ v read e.
     let gone = qcc_goes h.qcc n v.0 p v.1 fits read in
     let next : TileHead = record h { qcc = slice_set h.qcc v.0.0 (Some v.0.1) } in
@@ -116,7 +116,7 @@ in_qcc_goes heading n h g p q fits coded e =
       gives = ap (λ (x : Quantisation). record h { qcc = slice_set h.qcc v.0.0 (Some x) }) gone.is;
       gone = gone.gone;
     } in
-    subst (λ (r : TileHead × Place). OneSegment heading n qcc h r.0 p r.1) (ok_is (next, v.1) t e) here)
+    subst (λ (r : TileHead × ReadingPlace). OneSegment heading n qcc h r.0 p r.1) (ok_is (next, v.1) t e) here)
 
 -- which of two a value is of
 either : {A C : Type 0} (b : Bool) (x y z : A) → cond b x y ≡ z → (b ≡ true → x ≡ z → C) → (b ≡ false → y ≡ z → C) → C
@@ -160,19 +160,19 @@ passed_high MainHeader m e = leb-true _ _ (any_has (λ k. leb 0xFF00 k) m (tlm �
 passed_high FirstPart m e = leb-true _ _ (any_has (λ k. leb 0xFF00 k) m (plt ∷ comment ∷ []) (two_of m plt comment e) refl)
 passed_high LaterPart m e = leb-true _ _ (any_has (λ k. leb 0xFF00 k) m (plt ∷ comment ∷ []) (two_of m plt comment e) refl)
 
-alone_gone : (m : ℕ) (p : Place) → AreBytes p.rest → Goes p (segment_body (Alone m)) p
+alone_gone : (m : ℕ) (p : ReadingPlace) → AreBytes p.rest → Goes p (segment_body (Alone m)) p
 unfolding segment_body
 alone_gone m p fits = goes_none p fits
 
-other_goes : (heading : Heading) (n m : ℕ) (h g : TileHead) (p q : Place) → AreBytes p.rest → m < 2 ^ 16 → other_at heading h m p ≡ Ok (g, q) → OneSegment heading n m h g p q
+other_goes : (heading : Heading) (n m : ℕ) (h g : TileHead) (p q : ReadingPlace) → AreBytes p.rest → m < 2 ^ 16 → other_at heading h m p ≡ Ok (g, q) → OneSegment heading n m h g p q
 unfolding other_at
 other_goes heading n m h g p q fits lt e =
-    let t : TileHead × Place = (g, q) in
-    let passing : (0xFF00 ≤ m) → (is_passed heading m || is_foreign m) ≡ true → (r : List ℕ × Place) → passed_at p ≡ Ok r → (h, r.1) ≡ t → OneSegment heading n m h g p q =
+    let t : TileHead × ReadingPlace = (g, q) in
+    let passing : (0xFF00 ≤ m) → (is_passed heading m || is_foreign m) ≡ true → (r : List ℕ × ReadingPlace) → passed_at p ≡ Ok r → (h, r.1) ≡ t → OneSegment heading n m h g p q =
     λ high may r read same.
     let gone = passed_goes r.0 m p r.1 fits read in
     let here : OneSegment heading n m h h p r.1 = record { segment = Passed m r.0; is = (high, lt, may, gone.1); marker = refl; fresh = tt; gives = refl; gone = gone.0 } in
-    subst (λ (x : TileHead × Place). OneSegment heading n m h x.0 p x.1) same here in
+    subst (λ (x : TileHead × ReadingPlace). OneSegment heading n m h x.0 p x.1) same here in
     either (is_passed heading m) _ _ (Ok t) e (λ yes e.
     bind_then (passed_at p) _ t e (λ r read e. passing (passed_high heading m yes) (or_left _ (is_foreign m) yes) r read (ok_is (h, r.1) t e)))
     (λ not_passed e. either (is_left_out m) _ _ (Ok t) e (λ out e. absurd cc)
@@ -181,15 +181,15 @@ other_goes heading n m h g p q fits lt e =
     let parts = or_parts (is_listed m) (ltb m 0xFF00) unlisted in
     either (is_alone m) _ _ (Ok t) e (λ alone e.
     let here : OneSegment heading n m h h p p = record { segment = Alone m; is = alone; marker = refl; fresh = tt; gives = refl; gone = alone_gone m p fits } in
-    subst (λ (x : TileHead × Place). OneSegment heading n m h x.0 p x.1) (ok_is (h, p) t e) here)
+    subst (λ (x : TileHead × ReadingPlace). OneSegment heading n m h x.0 p x.1) (ok_is (h, p) t e) here)
     (λ not_alone e.
     bind_then (passed_at p) _ t e (λ r read e.
     passing (ltb-false _ _ parts.1) (or_right (is_passed heading m) _ (and_from _ _ (not_from_false _ parts.0) (not_from_false _ not_alone))) r read (ok_is (h, r.1) t e))))))
 
-pub segment_goes : (heading : Heading) (n m : ℕ) (h g : TileHead) (p q : Place) → AreBytes p.rest → m < 2 ^ 16 → segment_at heading n h m p ≡ Ok (g, q) → OneSegment heading n m h g p q
+pub segment_goes : (heading : Heading) (n m : ℕ) (h g : TileHead) (p q : ReadingPlace) → AreBytes p.rest → m < 2 ^ 16 → segment_at heading n h m p ≡ Ok (g, q) → OneSegment heading n m h g p q
 unfolding segment_at
 segment_goes heading n m h g p q fits lt e =
-    let t : TileHead × Place = (g, q) in
+    let t : TileHead × ReadingPlace = (g, q) in
     let by_marker : (k : ℕ) → (is_coded heading && eqb m k) ≡ true → (is_coded heading ≡ true → OneSegment heading n k h g p q) → OneSegment heading n m h g p q =
     λ k both one.
     let parts = and_parts (is_coded heading) (eqb m k) both in
@@ -204,25 +204,25 @@ joined : (a b c d : List ℕ) → a ++ (b ++ (c ++ d)) ≡ ((a ++ b) ++ c) ++ d
 joined a b c d = sym (append_assoc a b (c ++ d)) ∙ sym (append_assoc (a ++ b) c d)
 
 -- the segments that were read up to the marker that ends them
-pub record ManySegments (heading : Heading) (n last : ℕ) (h g : TileHead) (p q : Place) : Type 0 where
+pub record ManySegments (heading : Heading) (n last : ℕ) (h g : TileHead) (p q : ReadingPlace) : Type 0 where
   pub segments : List Segment
   pub each : AllByRecursion (IsSegment heading n) segments
   pub fresh : AreFresh h segments
   pub gives : g ≡ with_segments h segments
   pub gone : Goes p (flat_map segment_text segments ++ marker_text last) q
 
-pub segments_goes : (k : ℕ) (heading : Heading) (n last : ℕ) (h g : TileHead) (p q : Place) → AreBytes p.rest → segments_at k heading n last h p ≡ Ok (g, q) → ManySegments heading n last h g p q
+pub segments_goes : (k : ℕ) (heading : Heading) (n last : ℕ) (h g : TileHead) (p q : ReadingPlace) → AreBytes p.rest → segments_at k heading n last h p ≡ Ok (g, q) → ManySegments heading n last h g p q
 unfolding segments_at
 segments_goes zero heading n last h g p q fits e = absurd cc
 segments_goes (suc k) heading n last h g p q fits e =
-    let t : TileHead × Place = (g, q) in
+    let t : TileHead × ReadingPlace = (g, q) in
     bind_then (number 2 p) _ t e (λ m read e.
     let g1 = number_goes 2 m.0 p m.1 fits read in
     let low : m.0 < 2 ^ 16 = omega (arith, g1.1) in
     either (eqb m.0 last) _ _ (Ok t) e (λ ends e.
     let same = eqb-true m.0 last ends in
     let here : ManySegments heading n last h h p m.1 = record { segments = []; each = tt; fresh = tt; gives = refl; gone = goes_as p _ _ m.1 g1.0 (ap (big_bytes 2) same) } in
-    subst (λ (x : TileHead × Place). ManySegments heading n last h x.0 p x.1) (ok_is (h, m.1) t e) here)
+    subst (λ (x : TileHead × ReadingPlace). ManySegments heading n last h x.0 p x.1) (ok_is (h, m.1) t e) here)
     (λ goes_on e. bind_then (segment_at heading n h m.0 m.1) _ t e (λ r read e.
     let one = segment_goes heading n m.0 h r.0 m.1 r.1 g1.0.bytes low read in
     let more = segments_goes k heading n last r.0 g (outside r.1) q one.gone.bytes e in

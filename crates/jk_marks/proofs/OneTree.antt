@@ -12,11 +12,11 @@ use Rattle.jk_marks.specs.declared.segments.CodingStyle.{CodingStyle}
 use Rattle.jk_marks.specs.declared.head.Heading.{Heading}
 use Rattle.jk_marks.specs.declared.head.Heading.TheVariants.{MainHeader}
 use Rattle.jk_marks.specs.declared.main_header.Main.{Main}
-use Rattle.jk_marks.specs.Place.{Place}
+use Rattle.jk_marks.specs.Place.{ReadingPlace}
 use Rattle.jk_marks.specs.Markers.{cod, coc, qcd, soc, sot, sod, eoc, marker_text, is_listed, is_alone}
 use Rattle.jk_marks.specs.Siz.{siz_text}
 use Rattle.jk_marks.specs.Segments.{Segment, CodSegment, CocSegment, QcdSegment, QccSegment, Passed, Alone, StepSizes, IsSegment, contents, segment_body, segment_text, marker_of, is_passed, is_foreign}
-use Rattle.jk_marks.specs.Codestream.{Part, Tree, main_text, main_of, sot_text, part_text, part_length, psot, heading_of, codestream_text, IsMain, IsPart, AreClosedBeforeLast, BeginsMain, IsCodestream}
+use Rattle.jk_marks.specs.Codestream.{CodestreamPart, Tree, main_text, main_of, sot_text, part_text, part_length, psot, heading_of, codestream_text, IsMain, IsPart, AreClosedBeforeLast, BeginsMain, IsCodestream}
 use Rattle.jk_marks.proofs.SegmentLaws.{cod_again}
 use Rattle.jk_marks.proofs.ComponentLaws.{coc_again}
 use Rattle.jk_marks.proofs.HeadAgain.{EndsHeader, is_other, other_cod, other_coc, other_qcd, other_qcc, alone_not_passed, not_last, narrow_marker}
@@ -75,7 +75,7 @@ kind_is heading n (Passed m bytes) is =
 kind_is heading n (Alone m) is = rw is refl
 
 -- a place in front of a text
-abbrev before : List ℕ → Place
+abbrev before : List ℕ → ReadingPlace
 before text = record { rest = text; at = 0; room = 2 }
 
 cod_one : (n : ℕ) (c d : Cod) (r q : List ℕ) (heading : Heading) → IsSegment heading n (CodSegment c) → IsSegment heading n (CodSegment d) → segment_body (CodSegment c) ++ r ≡ segment_body (CodSegment d) ++ q
@@ -84,7 +84,7 @@ cod_one n c d r q heading is too e =
     let a = cod_again n c (before (segment_body (CodSegment c) ++ r)) r refl is.1 (lit≤ tt) in
     let b = cod_again n d (before (segment_body (CodSegment c) ++ r)) q e too.1 (lit≤ tt) in
     let same : (c, a.0) ≡ (d, b.0) = ok_is (c, a.0) (d, b.0) (sym a.1 ∙ b.1) in
-    (ap (λ (x : Cod × Place). CodSegment x.0) same, sym a.2 ∙ ap (λ (x : Cod × Place). x.1.rest) same ∙ b.2)
+    (ap (λ (x : Cod × ReadingPlace). CodSegment x.0) same, sym a.2 ∙ ap (λ (x : Cod × ReadingPlace). x.1.rest) same ∙ b.2)
 
 coc_one : (n i j : ℕ) (k l : CodingStyle) (r q : List ℕ) (heading : Heading) → n ≤ 4 → IsSegment heading n (CocSegment i k) → IsSegment heading n (CocSegment j l)
     → segment_body (CocSegment i k) ++ r ≡ segment_body (CocSegment j l) ++ q → (CocSegment i k ≡ CocSegment j l) × (r ≡ q)
@@ -92,7 +92,7 @@ coc_one n i j k l r q heading few is too e =
     let a = coc_again [] n i k (before (segment_body (CocSegment i k) ++ r)) r refl is.1 few is.2 refl (lit≤ tt) in
     let b = coc_again [] n j l (before (segment_body (CocSegment i k) ++ r)) q e too.1 few too.2 refl (lit≤ tt) in
     let same : ((i, k), a.0) ≡ ((j, l), b.0) = ok_is ((i, k), a.0) ((j, l), b.0) (sym a.1 ∙ b.1) in
-    (ap (λ (x : (ℕ × CodingStyle) × Place). CocSegment x.0.0 x.0.1) same, sym a.2 ∙ ap (λ (x : (ℕ × CodingStyle) × Place). x.1.rest) same ∙ b.2)
+    (ap (λ (x : (ℕ × CodingStyle) × ReadingPlace). CocSegment x.0.0 x.0.1) same, sym a.2 ∙ ap (λ (x : (ℕ × CodingStyle) × ReadingPlace). x.1.rest) same ∙ b.2)
 
 steps_one : (s t : StepSizes) → (32 * s.guard ∷ s.bytes) ≡ (32 * t.guard ∷ t.bytes) → s ≡ t
 steps_one s t e =
@@ -183,7 +183,7 @@ ends_alike false true m n some too e = absurd (omega (arith, e, some))
 ends_alike false false m n some too e = (refl, λ f. e)
 
 -- two parts at the front of one text
-record AreAlike (p q : Part) (r s : List ℕ) : Type 0 where
+record AreAlike (p q : CodestreamPart) (r s : List ℕ) : Type 0 where
   tile : p.tile ≡ q.tile
   is_open : p.is_open ≡ q.is_open
   number : p.number ≡ q.number
@@ -192,11 +192,11 @@ record AreAlike (p q : Part) (r s : List ℕ) : Type 0 where
   rest : p.content ++ r ≡ q.content ++ s
   long : p.is_open ≡ false → length p.content ≡ length q.content
 
-part_pieces : (p : Part) (r : List ℕ) → part_text p ++ r ≡ sot_text p.tile (psot p) p.number p.total ++ (flat_map segment_text p.segments ++ (marker_text sod ++ (p.content ++ r)))
+part_pieces : (p : CodestreamPart) (r : List ℕ) → part_text p ++ r ≡ sot_text p.tile (psot p) p.number p.total ++ (flat_map segment_text p.segments ++ (marker_text sod ++ (p.content ++ r)))
 unfolding part_text
 part_pieces p r = ap (λ (x : List ℕ). sot_text p.tile (psot p) p.number p.total ++ x) (append_assoc (flat_map segment_text p.segments) (marker_text sod ++ p.content) r)
 
-part_alike : (siz : Siz) (p q : Part) (r s : List ℕ) → siz.components ≤ 4 → IsPart siz p → IsPart siz q → part_text p ++ r ≡ part_text q ++ s → AreAlike p q r s
+part_alike : (siz : Siz) (p q : CodestreamPart) (r s : List ℕ) → siz.components ≤ 4 → IsPart siz p → IsPart siz q → part_text p ++ r ≡ part_text q ++ s → AreAlike p q r s
 part_alike siz p q r s few is too e =
     let n = siz.components in
     let a = flat_map segment_text p.segments ++ (marker_text sod ++ (p.content ++ r)) in
@@ -223,23 +223,23 @@ part_alike siz p q r s few is too e =
       long = λ f. (let all = o.1 f in omega (arith, all, front));
     }
 
-part_same : (p q : Part) (r s : List ℕ) → AreAlike p q r s → p.content ≡ q.content → p ≡ q
+part_same : (p q : CodestreamPart) (r s : List ℕ) → AreAlike p q r s → p.content ≡ q.content → p ≡ q
 part_same p q r s h content = λ i. record { tile = h.tile i; is_open = h.is_open i; number = h.number i; total = h.total i; segments = h.segments i; content = content i }
 
 -- a part doesn't begin as the end
-no_part : (p : Part) (r : List ℕ) → marker_text eoc ≡ part_text p ++ r → ⊥
+no_part : (p : CodestreamPart) (r : List ℕ) → marker_text eoc ≡ part_text p ++ r → ⊥
 no_part p r e =
     let m = fixed 2 eoc sot [] _ (lit< tt) (lit< tt) (e ∙ part_pieces p r) in
     let wrong = m.0 in
     cc
 
-parts_one : (siz : Siz) (p : Part) (ps : List Part) (q : Part) (qs : List Part) → siz.components ≤ 4 → AllByRecursion (IsPart siz) (p ∷ ps) → AllByRecursion (IsPart siz) (q ∷ qs)
+parts_one : (siz : Siz) (p : CodestreamPart) (ps : List CodestreamPart) (q : CodestreamPart) (qs : List CodestreamPart) → siz.components ≤ 4 → AllByRecursion (IsPart siz) (p ∷ ps) → AllByRecursion (IsPart siz) (q ∷ qs)
     → AreClosedBeforeLast (p ∷ ps) → AreClosedBeforeLast (q ∷ qs) → part_text p ++ (flat_map part_text ps ++ marker_text eoc) ≡ part_text q ++ (flat_map part_text qs ++ marker_text eoc) → (p ∷ ps) ≡ (q ∷ qs)
 parts_one siz p [] q [] few is too closed shut e =
     let h = part_alike siz p q (marker_text eoc) (marker_text eoc) few is.0 too.0 e in
     let size = ap (λ (x : List ℕ). length x) h.rest in
     let long : length p.content ≡ length q.content = omega (arith, size, length-append p.content (marker_text eoc), length-append q.content (marker_text eoc)) in
-    ap (λ (x : Part). x ∷ []) (part_same p q (marker_text eoc) (marker_text eoc) h (fronts p.content q.content (marker_text eoc) (marker_text eoc) long h.rest).0)
+    ap (λ (x : CodestreamPart). x ∷ []) (part_same p q (marker_text eoc) (marker_text eoc) h (fronts p.content q.content (marker_text eoc) (marker_text eoc) long h.rest).0)
 parts_one siz p [] q (y ∷ qs) few is too closed shut e =
     let s = flat_map part_text (y ∷ qs) ++ marker_text eoc in
     let h = part_alike siz p q (marker_text eoc) s few is.0 too.0 e in
@@ -257,9 +257,9 @@ parts_one siz p (x ∷ ps) q (y ∷ qs) few is too closed shut e =
     let f = fronts p.content q.content r s (h.long closed.0) h.rest in
     let more = parts_one siz x ps y qs few is.1 too.1 closed.1 shut.1
     (sym (append_assoc (part_text x) (flat_map part_text ps) (marker_text eoc)) ∙ f.1 ∙ append_assoc (part_text y) (flat_map part_text qs) (marker_text eoc)) in
-    ap (λ (z : Part). z ∷ x ∷ ps) (part_same p q r s h f.0) ∙ ap (λ (z : List Part). q ∷ z) more
+    ap (λ (z : CodestreamPart). z ∷ x ∷ ps) (part_same p q r s h f.0) ∙ ap (λ (z : List CodestreamPart). q ∷ z) more
 
-all_parts : (siz : Siz) (ps qs : List Part) → siz.components ≤ 4 → 0 < length ps → 0 < length qs → AllByRecursion (IsPart siz) ps → AllByRecursion (IsPart siz) qs
+all_parts : (siz : Siz) (ps qs : List CodestreamPart) → siz.components ≤ 4 → 0 < length ps → 0 < length qs → AllByRecursion (IsPart siz) ps → AllByRecursion (IsPart siz) qs
     → AreClosedBeforeLast ps → AreClosedBeforeLast qs → flat_map part_text ps ++ marker_text eoc ≡ flat_map part_text qs ++ marker_text eoc → ps ≡ qs
 all_parts siz [] qs few some too is are closed shut e = absurd (omega (arith, some))
 all_parts siz (p ∷ ps) [] few some too is are closed shut e = absurd (omega (arith, too))
@@ -269,7 +269,7 @@ all_parts siz (p ∷ ps) (q ∷ qs) few some too is are closed shut e =
 -- ---- the whole
 
 -- a part follows the main header
-part_starts : (ps : List Part) → 0 < length ps → (x : List ℕ) × (flat_map part_text ps ++ marker_text eoc ≡ marker_text sot ++ x)
+part_starts : (ps : List CodestreamPart) → 0 < length ps → (x : List ℕ) × (flat_map part_text ps ++ marker_text eoc ≡ marker_text sot ++ x)
 unfolding part_text
 part_starts [] some = absurd (omega (arith, some))
 part_starts (p ∷ ps) some = (drop 2 (flat_map part_text (p ∷ ps) ++ marker_text eoc), refl)

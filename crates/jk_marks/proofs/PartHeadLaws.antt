@@ -9,7 +9,7 @@ use Rattle.jk_marks.specs.declared.siz.Siz.{Siz}
 use Rattle.jk_marks.specs.declared.part_head.PartHead.{PartHead}
 use Rattle.jk_marks.specs.Markers.{sot, sod, eoc, marker_text}
 use Rattle.jk_marks.specs.Segments.{segment_text}
-use Rattle.jk_marks.specs.Codestream.{Part, sot_text, part_text, part_length, psot, IsPart, BeginsWith}
+use Rattle.jk_marks.specs.Codestream.{CodestreamPart, sot_text, part_text, part_length, psot, IsPart, BeginsWith}
 use Rattle.jk_marks.specs.Copying.{part_with, part_kept_at}
 use Rattle.jk_marks.specs.PartHeads.{kept_text, head_of, part_head_at, part_head, heads_text}
 use Rattle.jk_marks.proofs.CopyingLaws.{part_rest, part_long, part_kept}
@@ -19,7 +19,7 @@ open_is true n some = refl
 open_is false n some = ne_eqb _ _ (λ z. omega (arith, z, some))
 
 -- The head of the part that begins the bytes, and its segments.
-pub head_found : (siz : Siz) (bytes : List ℕ) (p : Part) → IsPart siz p → BeginsWith bytes p → part_head_at bytes ≡ Some (head_of p)
+pub head_found : (siz : Siz) (bytes : List ℕ) (p : CodestreamPart) → IsPart siz p → BeginsWith bytes p → part_head_at bytes ≡ Some (head_of p)
 unfolding part_head_at
 head_found siz bytes p is begins =
     let rest = flat_map segment_text p.segments ++ (marker_text sod ++ (p.content ++ begins.others)) in
@@ -54,12 +54,12 @@ none_at_end bytes others e =
 joined : (a b c d : List ℕ) → (a ++ (b ++ c)) ++ d ≡ a ++ (b ++ (c ++ d))
 joined a b c d = simp append_assoc
 
-part_again : (p : Part) → part_text p ≡ sot_text p.tile (psot p) p.number p.total ++ (flat_map segment_text p.segments ++ (marker_text sod ++ p.content))
+part_again : (p : CodestreamPart) → part_text p ≡ sot_text p.tile (psot p) p.number p.total ++ (flat_map segment_text p.segments ++ (marker_text sod ++ p.content))
 unfolding part_text
 part_again p = refl
 
 -- Tile-parts are what their heads say.
-pub head_is : (p : Part) (content : List ℕ) → part_head (head_of p) (kept_text p) (length content) ++ content ≡ part_text (part_with p content)
+pub head_is : (p : CodestreamPart) (content : List ℕ) → part_head (head_of p) (kept_text p) (length content) ++ content ≡ part_text (part_with p content)
 head_is p content =
     joined (sot_text p.tile (psot (part_with p content)) p.number p.total) (kept_text p) (marker_text sod) content ∙ sym (part_again (part_with p content))
 

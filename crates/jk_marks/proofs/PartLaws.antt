@@ -11,11 +11,11 @@ use Rattle.jk_marks.specs.declared.head.Heading.TheVariants.{FirstPart, LaterPar
 use Rattle.jk_marks.specs.declared.head.TileHead.{TileHead}
 use Rattle.jk_marks.specs.declared.tile_part.TilePart.{TilePart}
 use Rattle.jk_marks.specs.declared.tile_part.Sot.{Sot}
-use Rattle.jk_marks.specs.Place.{Place, closed, outside}
+use Rattle.jk_marks.specs.Place.{ReadingPlace, closed, outside}
 use Rattle.jk_marks.specs.Markers.{sot, sod, eoc, marker_text}
 use Rattle.jk_marks.specs.Siz.{tile_count}
 use Rattle.jk_marks.specs.Segments.{segment_text}
-use Rattle.jk_marks.specs.Codestream.{Part, sot_text, part_text, part_length, data_start, psot, place_of, head_of, heading_of, BeginsWith, IsPart}
+use Rattle.jk_marks.specs.Codestream.{CodestreamPart, sot_text, part_text, part_length, data_start, psot, place_of, head_of, heading_of, BeginsWith, IsPart}
 use Rattle.jk_marks.specs.Reading.{number, segment_length, header_at}
 use Rattle.jk_marks.specs.HeaderReading.{part_end, sot_at, part_at}
 use Rattle.jk_math.proofs.Laws.{AreBytes, are_bytes_after, are_bytes_taken, number_back}
@@ -60,7 +60,7 @@ ends_within bytes size end (inl w) = omega (arith, w.1)
 ends_within bytes size end (inr w) = omega (arith, w.1, w.2)
 
 -- what SOT said
-record SotSaid (siz : Siz) (seen bytes : List ℕ) (s : Sot) (q : Place) : Type 0 where
+record SotSaid (siz : Siz) (seen bytes : List ℕ) (s : Sot) (q : ReadingPlace) : Type 0 where
   size : ℕ
   total : ℕ
   gone : Goes (closed bytes 0) (sot_text s.tile size s.part total) q
@@ -72,10 +72,10 @@ record SotSaid (siz : Siz) (seen bytes : List ℕ) (s : Sot) (q : Place) : Type 
   few : s.part ≤ 254
   wide : total < 256
 
-sot_goes : (siz : Siz) (seen bytes : List ℕ) (s : Sot) (q : Place) → AreBytes bytes → sot_at siz seen bytes (closed bytes 0) ≡ Ok (s, q) → SotSaid siz seen bytes s q
+sot_goes : (siz : Siz) (seen bytes : List ℕ) (s : Sot) (q : ReadingPlace) → AreBytes bytes → sot_at siz seen bytes (closed bytes 0) ≡ Ok (s, q) → SotSaid siz seen bytes s q
 unfolding sot_at
 sot_goes siz seen bytes s q fits e =
-    let t : Sot × Place = (s, q) in
+    let t : Sot × ReadingPlace = (s, q) in
     let p = closed bytes 0 in
     bind_then (number 2 p) _ t e (λ marker s1 e.
     refuse_then (not (eqb marker.0 sot)) BadMarker _ t e (λ is_sot e.
@@ -118,13 +118,13 @@ sot_goes siz seen bytes s q fits e =
       few = ltb-false _ _ is_few;
       wide = omega (arith, g7.1);
     } in
-    subst (λ (r : Sot × Place). SotSaid siz seen bytes r.0 r.1) (ok_is (found, total.1) t e) here)))))))))))))
+    subst (λ (r : Sot × ReadingPlace). SotSaid siz seen bytes r.0 r.1) (ok_is (found, total.1) t e) here)))))))))))))
 
 abbrev pub Found : Siz → List ℕ → List ℕ → TilePart → Type 0
-Found siz seen bytes t = (p : Part) × IsPart siz p × (p.number ≡ get_or seen p.tile 0) × BeginsWith bytes p × (t ≡ place_of p) × (slice_range bytes t.start t.end ≡ p.content)
+Found siz seen bytes t = (p : CodestreamPart) × IsPart siz p × (p.number ≡ get_or seen p.tile 0) × BeginsWith bytes p × (t ≡ place_of p) × (slice_range bytes t.start t.end ≡ p.content)
 
 -- the data of a part stand at its place
-pub content_there : (bytes : List ℕ) (p : Part) → BeginsWith bytes p → slice_range bytes (data_start p) (part_length p) ≡ p.content
+pub content_there : (bytes : List ℕ) (p : CodestreamPart) → BeginsWith bytes p → slice_range bytes (data_start p) (part_length p) ≡ p.content
 unfolding part_text
 content_there bytes p begins =
     let front = flat_map segment_text p.segments in
@@ -138,7 +138,7 @@ content_there bytes p begins =
     ap (take (part_length p - data_start p)) after ∙ ap (λ k. take k rest) wide ∙ take_at p.content begins.others (length p.content) refl
 
 -- and so at the place that the program keeps
-place_content : (bytes : List ℕ) (p : Part) (t : TilePart) → BeginsWith bytes p → place_of p ≡ t → slice_range bytes t.start t.end ≡ p.content
+place_content : (bytes : List ℕ) (p : CodestreamPart) (t : TilePart) → BeginsWith bytes p → place_of p ≡ t → slice_range bytes t.start t.end ≡ p.content
 place_content bytes p t begins e = subst (λ (x : TilePart). slice_range bytes x.start x.end ≡ p.content) e (content_there bytes p begins)
 
 taken_twice : (n end : ℕ) (xs : List ℕ) → n ≤ end → take n (take end xs) ≡ take n xs
@@ -196,7 +196,7 @@ found_part siz seen bytes t few fits e =
     ∙ ap (λ (x : TileHead). record { tile = s.0.tile; part = s.0.part; head = x; start = h.1.at; end = end }) (sym say) ∙ ok_is _ t e in
     elim way [
       | inl w ↦
-          let p : Part = record { tile = s.0.tile; is_open = true; number = s.0.part; total = g.total; segments = ss; content = content } in
+          let p : CodestreamPart = record { tile = s.0.tile; is_open = true; number = s.0.part; total = g.total; segments = ss; content = content } in
           let text : bytes ≡ part_text p ++ others = all ∙ ap (λ (x : List ℕ). x ++ others) (spelled
           ∙ ap (λ k. marker_text sot ++ (big_bytes 2 10 ++ (big_bytes 2 s.0.tile ++ (big_bytes 4 k ++ (big_bytes 1 s.0.part ++ (big_bytes 1 g.total ++ (front ++ (marker_text sod ++ content)))))))) w.0) in (
             p,
@@ -207,7 +207,7 @@ found_part siz seen bytes t few fits e =
             place_content bytes p t (record { others = others; text = text; last = λ _. w.2 }) back,
           )
       | inr w ↦
-          let p : Part = record { tile = s.0.tile; is_open = false; number = s.0.part; total = g.total; segments = ss; content = content } in
+          let p : CodestreamPart = record { tile = s.0.tile; is_open = false; number = s.0.part; total = g.total; segments = ss; content = content } in
           let says : g.size ≡ part_length p = sym w.1 ∙ len in
           let text : bytes ≡ part_text p ++ others = all ∙ ap (λ (x : List ℕ). x ++ others) (spelled
           ∙ ap (λ k. marker_text sot ++ (big_bytes 2 10 ++ (big_bytes 2 s.0.tile ++ (big_bytes 4 k ++ (big_bytes 1 s.0.part ++ (big_bytes 1 g.total ++ (front ++ (marker_text sod ++ content)))))))) says) in (
@@ -288,7 +288,7 @@ sot_again siz seen bytes rest tile size part total end e narrow is_tile small ki
     let c7 : ltb 254 part ≡ false = le-ltb _ _ few in
     rw (s1, s2, s3, c3, s4, c4, ends, s6, c6, c7, s7) refl
 
-pub only_part : (siz : Siz) (seen bytes : List ℕ) (p : Part) → siz.components ≤ 4 → IsPart siz p → p.number ≡ get_or seen p.tile 0 → BeginsWith bytes p → part_at siz seen bytes ≡ Ok (place_of p)
+pub only_part : (siz : Siz) (seen bytes : List ℕ) (p : CodestreamPart) → siz.components ≤ 4 → IsPart siz p → p.number ≡ get_or seen p.tile 0 → BeginsWith bytes p → part_at siz seen bytes ≡ Ok (place_of p)
 unfolding part_at part_text
 only_part siz seen bytes p few part next begins =
     let front = flat_map segment_text p.segments in

@@ -9,7 +9,7 @@ use Rattle.jk_marks.specs.declared.segments.CodingStyle.{CodingStyle}
 use Rattle.jk_marks.specs.declared.segments.Cod.{Cod}
 use Rattle.jk_marks.specs.declared.segments.Order.{Order}
 use Rattle.jk_marks.specs.declared.segments.Order.TheVariants.{Lrcp, Rlcp, Rpcl, Pcrl, Cprl}
-use Rattle.jk_marks.specs.Place.{Place}
+use Rattle.jk_marks.specs.Place.{ReadingPlace}
 use Rattle.jk_marks.specs.Precincts.{precinct_byte}
 use Rattle.jk_marks.specs.OrderCode.{order_code, order_with}
 use Rattle.jk_marks.specs.BlockStyle.{bit_of}
@@ -83,10 +83,10 @@ positive zero e = absurd (true≢false e)
 positive (suc n) e = omega arith
 
 -- a COD that was read
-pub cod_goes : (n : ℕ) (c : Cod) (p q : Place) → AreBytes p.rest → cod_at n p ≡ Ok (c, q) → Goes p (segment_body (CodSegment c)) q × IsCod n c
+pub cod_goes : (n : ℕ) (c : Cod) (p q : ReadingPlace) → AreBytes p.rest → cod_at n p ≡ Ok (c, q) → Goes p (segment_body (CodSegment c)) q × IsCod n c
 unfolding cod_at segment_body contents
 cod_goes n c p q fits e =
-    let t : Cod × Place = (c, q) in
+    let t : Cod × ReadingPlace = (c, q) in
     bind_then (segment_length p) _ t e (λ size s1 e.
     bind_then (number 1 size.1) _ t e (λ flags s2 e.
     refuse_then (ltb 7 flags.0) BadValue _ t e (λ few e.
@@ -137,7 +137,7 @@ cod_goes n c p q fits e =
       style = g6.is;
     } in
     let here : Goes p (segment_body (CodSegment cod)) style.1 × IsCod n cod = (goes_as p _ _ style.1 gone whole, is) in
-    subst (λ (r : Cod × Place). Goes p (segment_body (CodSegment r.0)) r.1 × IsCod n r.0) (ok_is (cod, style.1) t e) here))))))))))
+    subst (λ (r : Cod × ReadingPlace). Goes p (segment_body (CodSegment r.0)) r.1 × IsCod n r.0) (ok_is (cod, style.1) t e) here))))))))))
 
 -- the bits of Scod, one by one
 flags_back : (given sop eph : Bool) → let f = flags_of given sop eph in (f ≤ 7) × (eqb (f % 2) 1 ≡ given) × (eqb (f / 2 % 2) 1 ≡ sop) × (eqb (f / 4) 1 ≡ eph)
@@ -179,8 +179,8 @@ pub precincts_few : (k : CodingStyle) → IsStyle k → length k.precincts ≤ 1
 precincts_few k is = few k.precincts k.levels is.precincts.count is.levels
 
 -- a COD that is spelled is read
-pub cod_again : (n : ℕ) (c : Cod) (p : Place) (rest : List ℕ) → p.rest ≡ segment_body (CodSegment c) ++ rest → IsCod n c → 2 ≤ p.room
-    → (q : Place) × (cod_at n p ≡ Ok (c, q)) × (q.rest ≡ rest) × (q.at ≡ p.at + length (segment_body (CodSegment c)))
+pub cod_again : (n : ℕ) (c : Cod) (p : ReadingPlace) (rest : List ℕ) → p.rest ≡ segment_body (CodSegment c) ++ rest → IsCod n c → 2 ≤ p.room
+    → (q : ReadingPlace) × (cod_at n p ≡ Ok (c, q)) × (q.rest ≡ rest) × (q.at ≡ p.at + length (segment_body (CodSegment c)))
 unfolding cod_at segment_body contents
 cod_again n c p rest e is room =
     let m = length c.style.precincts in

@@ -8,7 +8,7 @@ use Rattle.jk_math.specs.declared.fault.Fault.TheVariants.{BadLength, BadValue, 
 use Rattle.jk_marks.specs.declared.siz.Siz.{Siz}
 use Rattle.jk_marks.specs.declared.siz_segment.Area.{Area}
 use Rattle.jk_marks.specs.declared.siz_segment.Tiling.{Tiling}
-use Rattle.jk_marks.specs.Place.{Place}
+use Rattle.jk_marks.specs.Place.{ReadingPlace}
 use Rattle.jk_marks.specs.Markers.{siz, marker_text}
 use Rattle.jk_marks.specs.Siz.{ssiz, siz_length, siz_text, IsSiz}
 use Rattle.jk_marks.specs.Reading.{number, segment_length}
@@ -45,10 +45,10 @@ pub record IsTiling (a : Area) (t : Tiling) : Type 0 where
   pub lower : a.y0 < t.y0 + t.height
   pub tiles : tiles_of a t ≤ 65535
 
-area_goes : (a : Area) (p q : Place) → AreBytes p.rest → area_at p ≡ Ok (a, q) → Goes p (area_text a) q × IsArea a
+area_goes : (a : Area) (p q : ReadingPlace) → AreBytes p.rest → area_at p ≡ Ok (a, q) → Goes p (area_text a) q × IsArea a
 unfolding area_at
 area_goes a p q fits e =
-    let t : Area × Place = (a, q) in
+    let t : Area × ReadingPlace = (a, q) in
     bind_then (number 2 p) _ t e (λ rsiz s1 e.
     refuse_then (leb 16384 rsiz.0) Unsupported _ t e (λ part_one e.
     bind_then (number 4 rsiz.1) _ t e (λ x1 s2 e.
@@ -79,9 +79,9 @@ area_goes a p q fits e =
       lower = leb-false _ _ lower;
       area = ltb-false _ _ area;
     } in
-    subst (λ (r : Area × Place). Goes p (area_text r.0) r.1 × IsArea r.0) (ok_is (found, y0.1) t e) (gone, is))))))))))))
+    subst (λ (r : Area × ReadingPlace). Goes p (area_text r.0) r.1 × IsArea r.0) (ok_is (found, y0.1) t e) (gone, is))))))))))))
 
-area_again : (a : Area) (p : Place) (rest : List ℕ) → p.rest ≡ area_text a ++ rest → IsArea a → 18 ≤ p.room → area_at p ≡ Ok (a, ahead 18 rest p)
+area_again : (a : Area) (p : ReadingPlace) (rest : List ℕ) → p.rest ≡ area_text a ++ rest → IsArea a → 18 ≤ p.room → area_at p ≡ Ok (a, ahead 18 rest p)
 unfolding area_at
 area_again a p rest e is room =
     let r4 = big_bytes 4 a.y0 ++ rest in
@@ -109,7 +109,7 @@ area_again a p rest e is room =
     let c5 : leb a.y1 a.y0 ≡ false = lt-leb _ _ h5 in
     let c6 : ltb (2 ^ 28) ((a.x1 - a.x0) * (a.y1 - a.y0)) ≡ false = le-ltb _ _ is.area in
     let again : area_at p ≡ Ok (a, ahead 4 rest p4) = rw (s1, c1, s2, c2, s3, c3, s4, c4, s5, c5, c6) refl in
-    again ∙ ap (λ (q : Place). Ok (a, q)) (ahead_twice 4 4 8 rest r4 p3 refl ∙ ahead_twice 4 8 12 rest r3 p2 refl ∙ ahead_twice 4 12 16 rest r2 p1 refl ∙ ahead_twice 2 16 18 rest r1 p refl)
+    again ∙ ap (λ (q : ReadingPlace). Ok (a, q)) (ahead_twice 4 4 8 rest r4 p3 refl ∙ ahead_twice 4 8 12 rest r3 p2 refl ∙ ahead_twice 4 12 16 rest r2 p1 refl ∙ ahead_twice 2 16 18 rest r1 p refl)
 
 covered : (tile side start : ℕ) → covers tile side start ≡ true → (tile ≤ start) × (start < tile + side)
 covered tile side start e =
@@ -126,10 +126,10 @@ positive (suc n) e = omega arith
 some_is : (n : ℕ) → 0 < n → eqb n 0 ≡ false
 some_is n lt = ne_eqb n 0 (omega (arith, lt))
 
-tiling_goes : (a : Area) (t : Tiling) (p q : Place) → AreBytes p.rest → tiling_at a p ≡ Ok (t, q) → Goes p (tiling_text t) q × IsTiling a t
+tiling_goes : (a : Area) (t : Tiling) (p q : ReadingPlace) → AreBytes p.rest → tiling_at a p ≡ Ok (t, q) → Goes p (tiling_text t) q × IsTiling a t
 unfolding tiling_at
 tiling_goes a v p q fits e =
-    let t : Tiling × Place = (v, q) in
+    let t : Tiling × ReadingPlace = (v, q) in
     bind_then (number 4 p) _ t e (λ width s1 e.
     refuse_then (eqb width.0 0) BadValue _ t e (λ some_width e.
     bind_then (number 4 width.1) _ t e (λ height s2 e.
@@ -161,9 +161,9 @@ tiling_goes a v p q fits e =
       lower = c2.1;
       tiles = ltb-false _ _ few;
     } in
-    subst (λ (r : Tiling × Place). Goes p (tiling_text r.0) r.1 × IsTiling a r.0) (ok_is (found, y0.1) t e) (gone, is))))))))))
+    subst (λ (r : Tiling × ReadingPlace). Goes p (tiling_text r.0) r.1 × IsTiling a r.0) (ok_is (found, y0.1) t e) (gone, is))))))))))
 
-tiling_again : (a : Area) (t : Tiling) (p : Place) (rest : List ℕ) → p.rest ≡ tiling_text t ++ rest → IsArea a → IsTiling a t → 16 ≤ p.room → tiling_at a p ≡ Ok (t, ahead 16 rest p)
+tiling_again : (a : Area) (t : Tiling) (p : ReadingPlace) (rest : List ℕ) → p.rest ≡ tiling_text t ++ rest → IsArea a → IsTiling a t → 16 ≤ p.room → tiling_at a p ≡ Ok (t, ahead 16 rest p)
 unfolding tiling_at
 tiling_again a t p rest e area is room =
     let r3 = big_bytes 4 t.y0 ++ rest in
@@ -192,27 +192,27 @@ tiling_again a t p rest e area is room =
     let c4 = covers_again t.y0 t.height a.y0 h4 is.lower in
     let c5 : ltb 65535 (tiles_of a t) ≡ false = le-ltb _ _ is.tiles in
     let again : tiling_at a p ≡ Ok (t, ahead 4 rest p3) = rw (s1, c1, s2, c2, s3, c3, s4, c4, c5) refl in
-    again ∙ ap (λ (q : Place). Ok (t, q)) (ahead_twice 4 4 8 rest r3 p2 refl ∙ ahead_twice 4 8 12 rest r2 p1 refl ∙ ahead_twice 4 12 16 rest r1 p refl)
+    again ∙ ap (λ (q : ReadingPlace). Ok (t, q)) (ahead_twice 4 4 8 rest r3 p2 refl ∙ ahead_twice 4 8 12 rest r2 p1 refl ∙ ahead_twice 4 12 16 rest r1 p refl)
 
-sampling_goes : (u : Unit {0}) (p q : Place) → AreBytes p.rest → sampling_at p ≡ Ok (u, q) → Goes p (1 ∷ []) q
+sampling_goes : (u : Unit {0}) (p q : ReadingPlace) → AreBytes p.rest → sampling_at p ≡ Ok (u, q) → Goes p (1 ∷ []) q
 unfolding sampling_at
 sampling_goes u p q fits e =
-    let t : Unit {0} × Place = (u, q) in
+    let t : Unit {0} × ReadingPlace = (u, q) in
     bind_then (number 1 p) _ t e (λ step s1 e.
     refuse_then (eqb step.0 0) BadValue _ t e (λ some e.
     refuse_then (not (eqb step.0 1)) Unsupported _ t e (λ one e.
     let g = byte_goes step.0 p step.1 fits s1 in
     let gone = goes_as p (step.0 ∷ []) (1 ∷ []) step.1 g.0 (ap (λ k. k ∷ []) (eqb-true _ _ (not-false _ one))) in
-    subst (λ (r : Unit {0} × Place). Goes p (1 ∷ []) r.1) (ok_is (tt, step.1) t e) gone)))
+    subst (λ (r : Unit {0} × ReadingPlace). Goes p (1 ∷ []) r.1) (ok_is (tt, step.1) t e) gone)))
 
-sampling_again : (p : Place) (rest : List ℕ) → p.rest ≡ 1 ∷ rest → 1 ≤ p.room → sampling_at p ≡ Ok (tt, ahead 1 rest p)
+sampling_again : (p : ReadingPlace) (rest : List ℕ) → p.rest ≡ 1 ∷ rest → 1 ≤ p.room → sampling_at p ≡ Ok (tt, ahead 1 rest p)
 unfolding sampling_at
 sampling_again p rest e room = rw (byte_again 1 p rest e (lit< tt) room) refl
 
-depth_goes : (common : ℕ) (u : Unit {0}) (p q : Place) → AreBytes p.rest → component_depth_at common p ≡ Ok (u, q) → Goes p (common ∷ 1 ∷ 1 ∷ []) q × (common % 128 ≤ 15) × (common < 256)
+depth_goes : (common : ℕ) (u : Unit {0}) (p q : ReadingPlace) → AreBytes p.rest → component_depth_at common p ≡ Ok (u, q) → Goes p (common ∷ 1 ∷ 1 ∷ []) q × (common % 128 ≤ 15) × (common < 256)
 unfolding component_depth_at
 depth_goes common u p q fits e =
-    let t : Unit {0} × Place = (u, q) in
+    let t : Unit {0} × ReadingPlace = (u, q) in
     bind_then (number 1 p) _ t e (λ depth s1 e.
     refuse_then (ltb 37 (depth.0 % 128)) BadValue _ t e (λ legal e.
     refuse_then (ltb 15 (depth.0 % 128) || not (eqb depth.0 common)) Unsupported _ t e (λ same e.
@@ -226,7 +226,7 @@ depth_goes common u p q fits e =
     let low = ltb-false _ _ both.0 in
     subst (λ k. Goes p (k ∷ 1 ∷ 1 ∷ []) q × (k % 128 ≤ 15) × (k < 256)) is (gone, low, g1.1)))))
 
-depth_again : (common : ℕ) (p : Place) (rest : List ℕ) → p.rest ≡ common ∷ 1 ∷ 1 ∷ rest → common % 128 ≤ 15 → common < 256 → 3 ≤ p.room → component_depth_at common p ≡ Ok (tt, ahead 3 rest p)
+depth_again : (common : ℕ) (p : ReadingPlace) (rest : List ℕ) → p.rest ≡ common ∷ 1 ∷ 1 ∷ rest → common % 128 ≤ 15 → common < 256 → 3 ≤ p.room → component_depth_at common p ≡ Ok (tt, ahead 3 rest p)
 unfolding component_depth_at
 depth_again common p rest e low small room =
     let r2 = 1 ∷ rest in
@@ -240,29 +240,29 @@ depth_again common p rest e low small room =
     let c2 : ltb 15 (common % 128) ≡ false = le-ltb _ _ low in
     let c3 : eqb common common ≡ true = eq-eqb common common refl in
     let again : component_depth_at common p ≡ Ok (tt, ahead 1 rest p2) = rw (s1, c1, c2, c3, s2, s3) refl in
-    again ∙ ap (λ (q : Place). Ok (tt, q)) (ahead_twice 1 1 2 rest r2 p1 refl ∙ ahead_twice 1 2 3 rest r1 p refl)
+    again ∙ ap (λ (q : ReadingPlace). Ok (tt, q)) (ahead_twice 1 1 2 rest r2 p1 refl ∙ ahead_twice 1 2 3 rest r1 p refl)
 
 -- the three bytes of a component
 abbrev pub depth_text : ℕ → List ℕ
 depth_text common = common ∷ 1 ∷ 1 ∷ []
 
-components_goes : (n common : ℕ) (u : Unit {0}) (p q : Place) → AreBytes p.rest → components_at n common p ≡ Ok (u, q) → Goes p (concat (replicate n (depth_text common))) q
+components_goes : (n common : ℕ) (u : Unit {0}) (p q : ReadingPlace) → AreBytes p.rest → components_at n common p ≡ Ok (u, q) → Goes p (concat (replicate n (depth_text common))) q
 unfolding components_at
-components_goes zero common u p q fits e = subst (λ (r : Unit {0} × Place). Goes p [] r.1) (ok_is (tt, p) (u, q) e) (goes_none p fits)
+components_goes zero common u p q fits e = subst (λ (r : Unit {0} × ReadingPlace). Goes p [] r.1) (ok_is (tt, p) (u, q) e) (goes_none p fits)
 components_goes (suc n) common u p q fits e =
     bind_then (component_depth_at common p) _ (u, q) e (λ r s1 e.
     let g = depth_goes common r.0 p r.1 fits s1 in
     goes_then p (depth_text common) r.1 (concat (replicate n (depth_text common))) q g.0 (components_goes n common u r.1 q g.0.bytes e))
 
 -- the first of some components is in range
-first_depth : (n common : ℕ) (u : Unit {0}) (p q : Place) → AreBytes p.rest → 0 < n → components_at n common p ≡ Ok (u, q) → (common % 128 ≤ 15) × (common < 256)
+first_depth : (n common : ℕ) (u : Unit {0}) (p q : ReadingPlace) → AreBytes p.rest → 0 < n → components_at n common p ≡ Ok (u, q) → (common % 128 ≤ 15) × (common < 256)
 unfolding components_at
 first_depth zero common u p q fits some e = absurd (omega (arith, some))
 first_depth (suc n) common u p q fits some e =
     bind_then (component_depth_at common p) _ (u, q) e (λ r s1 e.
     let g = depth_goes common r.0 p r.1 fits s1 in (g.1, g.2))
 
-components_again : (n common : ℕ) (p : Place) (rest : List ℕ) → p.rest ≡ concat (replicate n (depth_text common)) ++ rest → common % 128 ≤ 15 → common < 256 → 3 * n ≤ p.room
+components_again : (n common : ℕ) (p : ReadingPlace) (rest : List ℕ) → p.rest ≡ concat (replicate n (depth_text common)) ++ rest → common % 128 ≤ 15 → common < 256 → 3 * n ≤ p.room
     → components_at n common p ≡ Ok (tt, ahead (3 * n) rest p)
 unfolding components_at
 components_again zero common p rest e low small room =
@@ -275,22 +275,22 @@ components_again (suc n) common p rest e low small room =
     let p1 = ahead 3 tail p in
     let s2 = components_again n common p1 rest refl low small (omega (arith, room)) in
     let again : components_at (suc n) common p ≡ Ok (tt, ahead (3 * n) rest p1) = rw (s1, s2) refl in
-    again ∙ ap (λ (q : Place). Ok (tt, q)) (ahead_twice 3 (3 * n) (3 * suc n) rest tail p (omega arith))
+    again ∙ ap (λ (q : ReadingPlace). Ok (tt, q)) (ahead_twice 3 (3 * n) (3 * suc n) rest tail p (omega arith))
 
-count_goes : (size n : ℕ) (p q : Place) → AreBytes p.rest → count_at size p ≡ Ok (n, q) → Goes p (big_bytes 2 n) q × (size ≡ 38 + 3 * n) × (0 < n) × (n ≤ 4)
+count_goes : (size n : ℕ) (p q : ReadingPlace) → AreBytes p.rest → count_at size p ≡ Ok (n, q) → Goes p (big_bytes 2 n) q × (size ≡ 38 + 3 * n) × (0 < n) × (n ≤ 4)
 unfolding count_at
 count_goes size n p q fits e =
-    let t : ℕ × Place = (n, q) in
+    let t : ℕ × ReadingPlace = (n, q) in
     bind_then (number 2 p) _ t e (λ k s1 e.
     refuse_then (not (eqb size (38 + 3 * k.0))) BadLength _ t e (λ same e.
     refuse_then (eqb k.0 0 || ltb 16384 k.0) BadValue _ t e (λ legal e.
     refuse_then (ltb 4 k.0) Unsupported _ t e (λ few e.
     let g = number_goes 2 k.0 p k.1 fits s1 in
     let both = or_parts (eqb k.0 0) (ltb 16384 k.0) legal in
-    subst (λ (r : ℕ × Place). Goes p (big_bytes 2 r.0) r.1 × (size ≡ 38 + 3 * r.0) × (0 < r.0) × (r.0 ≤ 4)) (ok_is k t e)
+    subst (λ (r : ℕ × ReadingPlace). Goes p (big_bytes 2 r.0) r.1 × (size ≡ 38 + 3 * r.0) × (0 < r.0) × (r.0 ≤ 4)) (ok_is k t e)
     (g.0, eqb-true _ _ (not-false _ same), positive k.0 both.0, ltb-false _ _ few)))))
 
-count_again : (size n : ℕ) (p : Place) (rest : List ℕ) → p.rest ≡ big_bytes 2 n ++ rest → size ≡ 38 + 3 * n → 0 < n → n ≤ 4 → 2 ≤ p.room → count_at size p ≡ Ok (n, ahead 2 rest p)
+count_again : (size n : ℕ) (p : ReadingPlace) (rest : List ℕ) → p.rest ≡ big_bytes 2 n ++ rest → size ≡ 38 + 3 * n → 0 < n → n ≤ 4 → 2 ≤ p.room → count_at size p ≡ Ok (n, ahead 2 rest p)
 unfolding count_at
 count_again size n p rest e same some few room =
     let s1 = number_again 2 n p rest e (omega (arith, few)) room in
@@ -349,10 +349,10 @@ siz_is a t n common area tiling some few low = record {
   few_bits = omega (arith, low);
 }
 
-pub siz_goes : (s : Siz) (p q : Place) → AreBytes p.rest → siz_at p ≡ Ok (s, q) → Goes p (siz_body s) q × IsSiz s
+pub siz_goes : (s : Siz) (p q : ReadingPlace) → AreBytes p.rest → siz_at p ≡ Ok (s, q) → Goes p (siz_body s) q × IsSiz s
 unfolding siz_at
 siz_goes s p q fits e =
-    let t : Siz × Place = (s, q) in
+    let t : Siz × ReadingPlace = (s, q) in
     bind_then (segment_length p) _ t e (λ size s1 e.
     bind_then (area_at size.1) _ t e (λ area s2 e.
     bind_then (tiling_at area.0 area.1) _ t e (λ tiling s3 e.
@@ -376,7 +376,7 @@ siz_goes s p q fits e =
     ap (λ k. big_bytes 2 k ++ r1) g4.1
     ∙ ap (λ k. big_bytes 2 (38 + 3 * n.0) ++ (area_text area.0 ++ (tiling_text tiling.0 ++ (big_bytes 2 n.0 ++ concat (replicate n.0 (depth_text k)))))) (sym (ssiz_is common depth.1)) in
     let is = siz_is area.0 tiling.0 n.0 common g2.1 g3.1 g4.2 g4.3 depth.0 in
-    subst (λ (r : Siz × Place). Goes p (siz_body r.0) r.1 × IsSiz r.0) (ok_is (found, all.1) t e) (goes_as p _ _ all.1 gone text, is))))))
+    subst (λ (r : Siz × ReadingPlace). Goes p (siz_body r.0) r.1 × IsSiz r.0) (ok_is (found, all.1) t e) (goes_as p _ _ all.1 gone text, is))))))
 
 next_is : (n common : ℕ) (rest : List ℕ) → 0 < n → get_or (concat (replicate n (depth_text common)) ++ rest) 0 0 ≡ common
 next_is zero common rest some = absurd (omega (arith, some))
@@ -393,7 +393,7 @@ body_length s =
     let depths = depths_length s.components (ssiz s) in
     omega (arith, depths)
 
-pub siz_again : (s : Siz) (p : Place) (rest : List ℕ) → p.rest ≡ siz_body s ++ rest → IsSiz s → 2 ≤ p.room → (q : Place) × (siz_at p ≡ Ok (s, q)) × (q.rest ≡ rest) × (q.at ≡ p.at + siz_length s)
+pub siz_again : (s : Siz) (p : ReadingPlace) (rest : List ℕ) → p.rest ≡ siz_body s ++ rest → IsSiz s → 2 ≤ p.room → (q : ReadingPlace) × (siz_at p ≡ Ok (s, q)) × (q.rest ≡ rest) × (q.at ≡ p.at + siz_length s)
 unfolding siz_at
 siz_again s p rest e is room =
     let n = s.components in

@@ -7,7 +7,7 @@ use Rattle.std.specs.List.{AllByRecursion}
 use Rattle.jk_math.specs.Steps.{bind_then, refuse_then, ok_is}
 use Rattle.jk_math.specs.declared.fault.Fault.TheVariants.{BadLength, BadValue, Limit, Unsupported}
 use Rattle.jk_marks.specs.declared.segments.CodingStyle.{CodingStyle}
-use Rattle.jk_marks.specs.Place.{Place}
+use Rattle.jk_marks.specs.Place.{ReadingPlace}
 use Rattle.jk_marks.specs.Precincts.{precinct_byte}
 use Rattle.jk_math.specs.declared.style.Style.{Style}
 use Rattle.jk_marks.specs.BlockStyle.{bit_of, style_byte, style_of}
@@ -35,7 +35,7 @@ positive false x y e f =
     let parts = or_parts (ltb x 1) (ltb y 1) e in
     (ltb-false _ _ parts.0, ltb-false _ _ parts.1)
 
-pub precinct_goes : (b : Bool) (size : ℕ × ℕ) (p q : Place) → AreBytes p.rest → precinct_at b p ≡ Ok (size, q)
+pub precinct_goes : (b : Bool) (size : ℕ × ℕ) (p q : ReadingPlace) → AreBytes p.rest → precinct_at b p ≡ Ok (size, q)
     → Goes p (precinct_byte size ∷ []) q × IsSmall size × (b ≡ false → IsPositive size)
 unfolding precinct_at
 precinct_goes b size p q fits e =
@@ -44,14 +44,14 @@ precinct_goes b size p q fits e =
     let g = byte_goes byte.0 p byte.1 fits read in
     let pair : ℕ × ℕ = (byte.0 % 16, byte.0 / 16) in
     let here : Goes p (precinct_byte pair ∷ []) byte.1 = goes_as p (byte.0 ∷ []) (precinct_byte pair ∷ []) byte.1 g.0 (ap (λ k. k ∷ []) (sym (same_byte byte.0))) in
-    subst (λ (r : (ℕ × ℕ) × Place). Goes p (precinct_byte r.0 ∷ []) r.1 × IsSmall r.0 × (b ≡ false → IsPositive r.0)) (ok_is (pair, byte.1) (size, q) e)
+    subst (λ (r : (ℕ × ℕ) × ReadingPlace). Goes p (precinct_byte r.0 ∷ []) r.1 × IsSmall r.0 × (b ≡ false → IsPositive r.0)) (ok_is (pair, byte.1) (size, q) e)
     (here, (mod-lt byte.0 (omega arith), high_half byte.0 g.1), λ f. positive b (byte.0 % 16) (byte.0 / 16) kept f)))
 
 kept_again : (b : Bool) (size : ℕ × ℕ) → (b ≡ false → IsPositive size) → (not b && (ltb size.0 1 || ltb size.1 1)) ≡ false
 kept_again true size pos = refl
 kept_again false size pos = or_from (ltb size.0 1) (ltb size.1 1) (le-ltb _ _ (pos refl).0) (le-ltb _ _ (pos refl).1)
 
-pub precinct_again : (b : Bool) (size : ℕ × ℕ) (p : Place) (rest : List ℕ) → p.rest ≡ precinct_byte size ∷ rest → IsSmall size → (b ≡ false → IsPositive size) → 1 ≤ p.room
+pub precinct_again : (b : Bool) (size : ℕ × ℕ) (p : ReadingPlace) (rest : List ℕ) → p.rest ≡ precinct_byte size ∷ rest → IsSmall size → (b ≡ false → IsPositive size) → 1 ≤ p.room
     → precinct_at b p ≡ Ok (size, ahead 1 rest p)
 unfolding precinct_at
 precinct_again b size p rest e small pos room =
@@ -64,7 +64,7 @@ precinct_again b size p rest e small pos room =
     rw (read, low, high, kept) refl
 
 -- precinct sizes behind a first one
-record Later (done all : List (ℕ × ℕ)) (n : ℕ) (p q : Place) : Type 0 where
+record Later (done all : List (ℕ × ℕ)) (n : ℕ) (p q : ReadingPlace) : Type 0 where
   more : List (ℕ × ℕ)
   joined : all ≡ done ++ more
   count : length more ≡ n
@@ -75,12 +75,12 @@ record Later (done all : List (ℕ × ℕ)) (n : ℕ) (p q : Place) : Type 0 whe
 some_done : (done : List (ℕ × ℕ)) (x : ℕ × ℕ) → eqb (length (done ++ x ∷ [])) 0 ≡ false
 some_done done x = ne_eqb _ _ (omega (arith, length-append done (x ∷ [])))
 
-later_goes : (n : ℕ) (done all : List (ℕ × ℕ)) (p q : Place) → AreBytes p.rest → eqb (length done) 0 ≡ false → precincts_at n done p ≡ Ok (all, q) → Later done all n p q
+later_goes : (n : ℕ) (done all : List (ℕ × ℕ)) (p q : ReadingPlace) → AreBytes p.rest → eqb (length done) 0 ≡ false → precincts_at n done p ≡ Ok (all, q) → Later done all n p q
 unfolding precincts_at
 later_goes zero done all p q fits some e =
     let pair = ok_is (done, p) (all, q) e in
     let here : Later done done zero p p = record { more = []; joined = sym (append-nil done); count = refl; gone = goes_none p fits; small = tt; whole = tt } in
-    subst (λ (r : List (ℕ × ℕ) × Place). Later done r.0 zero p r.1) pair here
+    subst (λ (r : List (ℕ × ℕ) × ReadingPlace). Later done r.0 zero p r.1) pair here
 later_goes (suc n) done all p q fits some e =
     bind_then (precinct_at (eqb (length done) 0) p) _ (all, q) e (λ r read e.
     let g = precinct_goes (eqb (length done) 0) r.0 p r.1 fits read in
@@ -95,17 +95,17 @@ later_goes (suc n) done all p q fits some e =
     })
 
 -- all precinct sizes
-pub record Sizes (all : List (ℕ × ℕ)) (n : ℕ) (p q : Place) : Type 0 where
+pub record Sizes (all : List (ℕ × ℕ)) (n : ℕ) (p q : ReadingPlace) : Type 0 where
   pub count : length all ≡ n
   pub gone : Goes p (map precinct_byte all) q
   pub small : AllByRecursion IsSmall all
   pub whole : AllByRecursion IsPositive (drop 1 all)
 
-pub precincts_goes : (n : ℕ) (all : List (ℕ × ℕ)) (p q : Place) → AreBytes p.rest → precincts_at n [] p ≡ Ok (all, q) → Sizes all n p q
+pub precincts_goes : (n : ℕ) (all : List (ℕ × ℕ)) (p q : ReadingPlace) → AreBytes p.rest → precincts_at n [] p ≡ Ok (all, q) → Sizes all n p q
 unfolding precincts_at
 precincts_goes zero all p q fits e =
     let here : Sizes [] zero p p = record { count = refl; gone = goes_none p fits; small = tt; whole = tt } in
-    subst (λ (r : List (ℕ × ℕ) × Place). Sizes r.0 zero p r.1) (ok_is ([], p) (all, q) e) here
+    subst (λ (r : List (ℕ × ℕ) × ReadingPlace). Sizes r.0 zero p r.1) (ok_is ([], p) (all, q) e) here
 precincts_goes (suc n) all p q fits e =
     bind_then (precinct_at true p) _ (all, q) e (λ r read e.
     let g = precinct_goes true r.0 p r.1 fits read in
@@ -118,7 +118,7 @@ precincts_goes (suc n) all p q fits e =
     } in
     subst (λ (x : List (ℕ × ℕ)). Sizes x (suc n) p q) (sym l.joined) here)
 
-later_again : (more done : List (ℕ × ℕ)) (p : Place) (rest : List ℕ) → p.rest ≡ map precinct_byte more ++ rest → AllByRecursion IsSmall more → AllByRecursion IsPositive more
+later_again : (more done : List (ℕ × ℕ)) (p : ReadingPlace) (rest : List ℕ) → p.rest ≡ map precinct_byte more ++ rest → AllByRecursion IsSmall more → AllByRecursion IsPositive more
     → eqb (length done) 0 ≡ false → length more ≤ p.room → precincts_at (length more) done p ≡ Ok (done ++ more, ahead (length more) rest p)
 unfolding precincts_at
 later_again [] done p rest e small whole some room =
@@ -130,10 +130,10 @@ later_again (x ∷ more) done p rest e small whole some room =
     let s1 = precinct_again (eqb (length done) 0) x p tail e small.0 (λ f. whole.0) (omega arith) in
     let s2 = later_again more (done ++ x ∷ []) (ahead 1 tail p) rest refl small.1 whole.1 (some_done done x) (omega (arith, room)) in
     let again : precincts_at (length (x ∷ more)) done p ≡ Ok ((done ++ x ∷ []) ++ more, ahead (length more) rest (ahead 1 tail p)) = rw (s1, s2) refl in
-    again ∙ ap (λ (q : Place). Ok ((done ++ x ∷ []) ++ more, q)) (ahead_twice 1 (length more) (length (x ∷ more)) rest tail p (omega arith))
+    again ∙ ap (λ (q : ReadingPlace). Ok ((done ++ x ∷ []) ++ more, q)) (ahead_twice 1 (length more) (length (x ∷ more)) rest tail p (omega arith))
     ∙ ap (λ (xs : List (ℕ × ℕ)). Ok (xs, ahead (length (x ∷ more)) rest p)) (append_assoc done (x ∷ []) more)
 
-pub precincts_again : (all : List (ℕ × ℕ)) (p : Place) (rest : List ℕ) → p.rest ≡ map precinct_byte all ++ rest → AllByRecursion IsSmall all → AllByRecursion IsPositive (drop 1 all)
+pub precincts_again : (all : List (ℕ × ℕ)) (p : ReadingPlace) (rest : List ℕ) → p.rest ≡ map precinct_byte all ++ rest → AllByRecursion IsSmall all → AllByRecursion IsPositive (drop 1 all)
     → length all ≤ p.room → precincts_at (length all) [] p ≡ Ok (all, ahead (length all) rest p)
 unfolding precincts_at
 precincts_again [] p rest e small whole room =
@@ -145,30 +145,30 @@ precincts_again (x ∷ more) p rest e small whole room =
     let s1 = precinct_again true x p tail e small.0 (λ f. absurd (true≢false f)) (omega arith) in
     let s2 = later_again more (x ∷ []) (ahead 1 tail p) rest refl small.1 whole refl (omega (arith, room)) in
     let again : precincts_at (length (x ∷ more)) [] p ≡ Ok (x ∷ more, ahead (length more) rest (ahead 1 tail p)) = rw (s1, s2) refl in
-    again ∙ ap (λ (q : Place). Ok (x ∷ more, q)) (ahead_twice 1 (length more) (length (x ∷ more)) rest tail p (omega arith))
+    again ∙ ap (λ (q : ReadingPlace). Ok (x ∷ more, q)) (ahead_twice 1 (length more) (length (x ∷ more)) rest tail p (omega arith))
 
 -- how many bytes of a segment are precinct sizes
 abbrev pub size_bytes : Bool → ℕ → ℕ
 size_bytes given levels = cond given (levels + 1) 0
 
-pub record Levels (size fixed : ℕ) (given : Bool) (levels : ℕ) (p q : Place) : Type 0 where
+pub record Levels (size fixed : ℕ) (given : Bool) (levels : ℕ) (p q : ReadingPlace) : Type 0 where
   pub gone : Goes p (levels ∷ []) q
   pub few : levels ≤ 10
   pub size-is : size ≡ fixed + size_bytes given levels
 
-pub levels_goes : (size fixed : ℕ) (given : Bool) (levels : ℕ) (p q : Place) → AreBytes p.rest → levels_at size fixed given p ≡ Ok (levels, q) → Levels size fixed given levels p q
+pub levels_goes : (size fixed : ℕ) (given : Bool) (levels : ℕ) (p q : ReadingPlace) → AreBytes p.rest → levels_at size fixed given p ≡ Ok (levels, q) → Levels size fixed given levels p q
 unfolding levels_at
 levels_goes size fixed given levels p q fits e =
-    let t : ℕ × Place = (levels, q) in
+    let t : ℕ × ReadingPlace = (levels, q) in
     bind_then (number 1 p) _ t e (λ n read e.
     refuse_then (not (eqb size (fixed + size_bytes given n.0))) BadLength _ t e (λ same e.
     refuse_then (ltb 32 n.0) BadValue _ t e (λ legal e.
     refuse_then (ltb 10 n.0) Limit _ t e (λ few e.
     let g = byte_goes n.0 p n.1 fits read in
     let here : Levels size fixed given n.0 p n.1 = record { gone = g.0; few = ltb-false _ _ few; size-is = eqb-true _ _ (not-false _ same) } in
-    subst (λ (r : ℕ × Place). Levels size fixed given r.0 p r.1) (ok_is n t e) here))))
+    subst (λ (r : ℕ × ReadingPlace). Levels size fixed given r.0 p r.1) (ok_is n t e) here))))
 
-pub levels_again : (size fixed : ℕ) (given : Bool) (levels : ℕ) (p : Place) (rest : List ℕ) → p.rest ≡ levels ∷ rest → levels ≤ 10 → size ≡ fixed + size_bytes given levels → 1 ≤ p.room
+pub levels_again : (size fixed : ℕ) (given : Bool) (levels : ℕ) (p : ReadingPlace) (rest : List ℕ) → p.rest ≡ levels ∷ rest → levels ≤ 10 → size ≡ fixed + size_bytes given levels → 1 ≤ p.room
     → levels_at size fixed given p ≡ Ok (levels, ahead 1 rest p)
 unfolding levels_at
 levels_again size fixed given levels p rest e few size-is room =
@@ -186,10 +186,10 @@ pub record AreSides (x y : ℕ) : Type 0 where
   pub high : y ≤ 10
   pub area : x + y ≤ 12
 
-pub block_goes : (sides : ℕ × ℕ) (p q : Place) → AreBytes p.rest → block_at p ≡ Ok (sides, q) → Goes p ((sides.0 - 2) ∷ (sides.1 - 2) ∷ []) q × AreSides sides.0 sides.1
+pub block_goes : (sides : ℕ × ℕ) (p q : ReadingPlace) → AreBytes p.rest → block_at p ≡ Ok (sides, q) → Goes p ((sides.0 - 2) ∷ (sides.1 - 2) ∷ []) q × AreSides sides.0 sides.1
 unfolding block_at
 block_goes sides p q fits e =
-    let t : (ℕ × ℕ) × Place = (sides, q) in
+    let t : (ℕ × ℕ) × ReadingPlace = (sides, q) in
     bind_then (number 1 p) _ t e (λ x s1 e.
     refuse_then (ltb 8 x.0) BadValue _ t e (λ wide e.
     bind_then (number 1 x.1) _ t e (λ y s2 e.
@@ -205,9 +205,9 @@ block_goes sides p q fits e =
     let text : x.0 ∷ y.0 ∷ [] ≡ (x.0 + 2 - 2) ∷ (y.0 + 2 - 2) ∷ [] = ap (λ a. a ∷ y.0 ∷ []) ex ∙ ap (λ b. (x.0 + 2 - 2) ∷ b ∷ []) ey in
     let gone = goes_as p (x.0 ∷ y.0 ∷ []) ((x.0 + 2 - 2) ∷ (y.0 + 2 - 2) ∷ []) y.1 (goes_then p (x.0 ∷ []) x.1 (y.0 ∷ []) y.1 g1.0 g2.0) text in
     let sides-are : AreSides (x.0 + 2) (y.0 + 2) = record { narrow = omega arith; wide = omega (arith, hx); low = omega arith; high = omega (arith, hy); area = omega (arith, ha) } in
-    subst (λ (r : (ℕ × ℕ) × Place). Goes p ((r.0.0 - 2) ∷ (r.0.1 - 2) ∷ []) r.1 × AreSides r.0.0 r.0.1) (ok_is ((x.0 + 2, y.0 + 2), y.1) t e) (gone, sides-are)))))
+    subst (λ (r : (ℕ × ℕ) × ReadingPlace). Goes p ((r.0.0 - 2) ∷ (r.0.1 - 2) ∷ []) r.1 × AreSides r.0.0 r.0.1) (ok_is ((x.0 + 2, y.0 + 2), y.1) t e) (gone, sides-are)))))
 
-pub block_again : (x y : ℕ) (p : Place) (rest : List ℕ) → p.rest ≡ (x - 2) ∷ (y - 2) ∷ rest → AreSides x y → 2 ≤ p.room → block_at p ≡ Ok ((x, y), ahead 2 rest p)
+pub block_again : (x y : ℕ) (p : ReadingPlace) (rest : List ℕ) → p.rest ≡ (x - 2) ∷ (y - 2) ∷ rest → AreSides x y → 2 ≤ p.room → block_at p ≡ Ok ((x, y), ahead 2 rest p)
 unfolding block_at
 block_again x y p rest e s room =
     let s1 = byte_again (x - 2) p ((y - 2) ∷ rest) e (omega (arith, s.wide)) (omega (arith, room)) in
@@ -220,19 +220,19 @@ block_again x y p rest e s room =
     let ey : y - 2 + 2 ≡ y = omega (arith, s.low) in
     let again : block_at p ≡ Ok ((x - 2 + 2, y - 2 + 2), ahead 1 rest (ahead 1 ((y - 2) ∷ rest) p)) = rw (s1, wide, s2, high) refl in
     again ∙ ap (λ a. Ok ((a, y - 2 + 2), ahead 1 rest (ahead 1 ((y - 2) ∷ rest) p))) ex ∙ ap (λ b. Ok ((x, b), ahead 1 rest (ahead 1 ((y - 2) ∷ rest) p))) ey
-    ∙ ap (λ (q : Place). Ok ((x, y), q)) (ahead_twice 1 1 2 rest ((y - 2) ∷ rest) p refl)
+    ∙ ap (λ (q : ReadingPlace). Ok ((x, y), q)) (ahead_twice 1 1 2 rest ((y - 2) ∷ rest) p refl)
 
-pub block_style_goes : (s : Style) (p q : Place) → AreBytes p.rest → block_style_at p ≡ Ok (s, q) → Goes p (style_byte s ∷ []) q
+pub block_style_goes : (s : Style) (p q : ReadingPlace) → AreBytes p.rest → block_style_at p ≡ Ok (s, q) → Goes p (style_byte s ∷ []) q
 unfolding block_style_at
 block_style_goes s p q fits e =
-    let t : Style × Place = (s, q) in
+    let t : Style × ReadingPlace = (s, q) in
     bind_then (number 1 p) _ t e (λ byte s1 e.
     refuse_then (leb 128 byte.0) BadValue _ t e (λ legal e.
     refuse_then (not (eqb (style_byte (style_of byte.0)) byte.0)) Unsupported _ t e (λ known e.
     let g1 = byte_goes byte.0 p byte.1 fits s1 in
     let text : byte.0 ∷ [] ≡ style_byte (style_of byte.0) ∷ [] = ap (λ a. a ∷ []) (sym (eqb-true _ _ (not-false _ known))) in
     let gone = goes_as p (byte.0 ∷ []) (style_byte (style_of byte.0) ∷ []) byte.1 g1.0 text in
-    subst (λ (r : Style × Place). Goes p (style_byte r.0 ∷ []) r.1) (ok_is (style_of byte.0, byte.1) t e) gone)))
+    subst (λ (r : Style × ReadingPlace). Goes p (style_byte r.0 ∷ []) r.1) (ok_is (style_of byte.0, byte.1) t e) gone)))
 
 -- a style has its byte
 pub style_back : (reset causal segments : Bool) → let s : Style = record { reset = reset; causal = causal; segments = segments } in style_of (style_byte s) ≡ s
@@ -249,7 +249,7 @@ bit_few : (b : Bool) → bit_of b ≤ 1
 bit_few true = omega arith
 bit_few false = omega arith
 
-pub block_style_again : (s : Style) (p : Place) (rest : List ℕ) → p.rest ≡ style_byte s ∷ rest → 1 ≤ p.room → block_style_at p ≡ Ok (s, ahead 1 rest p)
+pub block_style_again : (s : Style) (p : ReadingPlace) (rest : List ℕ) → p.rest ≡ style_byte s ∷ rest → 1 ≤ p.room → block_style_at p ≡ Ok (s, ahead 1 rest p)
 unfolding block_style_at
 block_style_again s p rest e room =
     let few : style_byte s ≤ 42 = omega (arith, bit_few s.reset, bit_few s.causal, bit_few s.segments) in
@@ -260,10 +260,10 @@ block_style_again s p rest e room =
     let again : block_style_at p ≡ Ok (style_of (style_byte s), ahead 1 rest p) = rw (s1, legal, known) refl in
     again ∙ ap (λ (k : Style). Ok (k, ahead 1 rest p)) back
 
-pub transform_goes : (u : Unit {0}) (p q : Place) → AreBytes p.rest → transform_at p ≡ Ok (u, q) → Goes p (1 ∷ []) q
+pub transform_goes : (u : Unit {0}) (p q : ReadingPlace) → AreBytes p.rest → transform_at p ≡ Ok (u, q) → Goes p (1 ∷ []) q
 unfolding transform_at
 transform_goes u p q fits e =
-    let t : Unit {0} × Place = (u, q) in
+    let t : Unit {0} × ReadingPlace = (u, q) in
     bind_then (number 1 p) _ t e (λ transform s1 e.
     refuse_then (ltb 1 transform.0) BadValue _ t e (λ low e.
     refuse_then (ltb transform.0 1) Unsupported _ t e (λ high e.
@@ -272,14 +272,14 @@ transform_goes u p q fits e =
     let h2 = ltb-false _ _ high in
     let e1 : transform.0 ≡ 1 = omega (arith, h1, h2) in
     let gone = goes_as p (transform.0 ∷ []) (1 ∷ []) transform.1 g1.0 (ap (λ a. a ∷ []) e1) in
-    subst (λ (r : Unit {0} × Place). Goes p (1 ∷ []) r.1) (ok_is (tt, transform.1) t e) gone)))
+    subst (λ (r : Unit {0} × ReadingPlace). Goes p (1 ∷ []) r.1) (ok_is (tt, transform.1) t e) gone)))
 
-pub transform_again : (p : Place) (rest : List ℕ) → p.rest ≡ 1 ∷ rest → 1 ≤ p.room → transform_at p ≡ Ok (tt, ahead 1 rest p)
+pub transform_again : (p : ReadingPlace) (rest : List ℕ) → p.rest ≡ 1 ∷ rest → 1 ≤ p.room → transform_at p ≡ Ok (tt, ahead 1 rest p)
 unfolding transform_at
 transform_again p rest e room = let s1 = byte_again 1 p rest e (omega arith) room in rw s1 refl
 
 -- a coding style that was read
-pub record IsRead (size fixed : ℕ) (given : Bool) (k : CodingStyle) (p q : Place) : Type 0 where
+pub record IsRead (size fixed : ℕ) (given : Bool) (k : CodingStyle) (p q : ReadingPlace) : Type 0 where
   pub gone : Goes p (style_text k) q
   pub is : IsStyle k
   pub size-is : size ≡ fixed + length k.precincts
@@ -289,7 +289,7 @@ given_some : (all : List (ℕ × ℕ)) → 0 < length all → given_bit all ≡ 
 given_some [] some = absurd (omega (arith, some))
 given_some (x ∷ all) some = refl
 
-given_goes : (given : Bool) (levels : ℕ) (all : List (ℕ × ℕ)) (p q : Place) → AreBytes p.rest → given_precincts_at given (levels + 1) p ≡ Ok (all, q)
+given_goes : (given : Bool) (levels : ℕ) (all : List (ℕ × ℕ)) (p q : ReadingPlace) → AreBytes p.rest → given_precincts_at given (levels + 1) p ≡ Ok (all, q)
     → Goes p (map precinct_byte all) q × ArePrecincts levels all × (length all ≡ size_bytes given levels) × (given_bit all ≡ bit_of given)
 given_goes true levels all p q fits e =
     let s = precincts_goes (levels + 1) all p q fits e in
@@ -297,12 +297,12 @@ given_goes true levels all p q fits e =
 given_goes false levels all p q fits e =
     let same = ok_is ([], p) (all, q) e in
     let here : Goes p [] p × ArePrecincts levels [] × (0 ≡ 0) × (0 ≡ 0) = (goes_none p fits, record { count = inl refl; small = tt; whole = tt }, refl, refl) in
-    subst (λ (r : List (ℕ × ℕ) × Place). Goes p (map precinct_byte r.0) r.1 × ArePrecincts levels r.0 × (length r.0 ≡ 0) × (given_bit r.0 ≡ 0)) same here
+    subst (λ (r : List (ℕ × ℕ) × ReadingPlace). Goes p (map precinct_byte r.0) r.1 × ArePrecincts levels r.0 × (length r.0 ≡ 0) × (given_bit r.0 ≡ 0)) same here
 
-pub style_goes : (size fixed : ℕ) (given : Bool) (k : CodingStyle) (p q : Place) → AreBytes p.rest → style_at size fixed given p ≡ Ok (k, q) → IsRead size fixed given k p q
+pub style_goes : (size fixed : ℕ) (given : Bool) (k : CodingStyle) (p q : ReadingPlace) → AreBytes p.rest → style_at size fixed given p ≡ Ok (k, q) → IsRead size fixed given k p q
 unfolding style_at style_text
 style_goes size fixed given k p q fits e =
-    let t : CodingStyle × Place = (k, q) in
+    let t : CodingStyle × ReadingPlace = (k, q) in
     bind_then (levels_at size fixed given p) _ t e (λ levels s1 e.
     bind_then (block_at levels.1) _ t e (λ block s2 e.
     bind_then (block_style_at block.1) _ t e (λ style s3 e.
@@ -330,13 +330,13 @@ style_goes size fixed given k p q fits e =
       precincts = g5.1;
     } in
     let here : IsRead size fixed given coding p all.1 = record { gone = gone; is = is; size-is = g1.size-is ∙ ap (λ n. fixed + n) (sym g5.2); given-is = g5.3 } in
-    subst (λ (r : CodingStyle × Place). IsRead size fixed given r.0 p r.1) (ok_is (coding, all.1) t e) here)))))
+    subst (λ (r : CodingStyle × ReadingPlace). IsRead size fixed given r.0 p r.1) (ok_is (coding, all.1) t e) here)))))
 
-none_given : (given : Bool) (levels : ℕ) (p : Place) → 0 ≡ bit_of given → given_precincts_at given (levels + 1) p ≡ Ok ([], p)
+none_given : (given : Bool) (levels : ℕ) (p : ReadingPlace) → 0 ≡ bit_of given → given_precincts_at given (levels + 1) p ≡ Ok ([], p)
 none_given true levels p e = absurd cc
 none_given false levels p e = refl
 
-some_given : (given : Bool) (levels : ℕ) (p : Place) → 1 ≡ bit_of given → given_precincts_at given (levels + 1) p ≡ precincts_at (levels + 1) [] p
+some_given : (given : Bool) (levels : ℕ) (p : ReadingPlace) → 1 ≡ bit_of given → given_precincts_at given (levels + 1) p ≡ precincts_at (levels + 1) [] p
 some_given true levels p e = refl
 some_given false levels p e = absurd cc
 
@@ -344,7 +344,7 @@ counted : (levels : ℕ) (x : ℕ × ℕ) (all : List (ℕ × ℕ)) → (x ∷ a
 counted levels x all (inl e) = absurd cc
 counted levels x all (inr e) = e
 
-given_again : (given : Bool) (levels : ℕ) (all : List (ℕ × ℕ)) (p : Place) (rest : List ℕ) → p.rest ≡ map precinct_byte all ++ rest → ArePrecincts levels all → given_bit all ≡ bit_of given
+given_again : (given : Bool) (levels : ℕ) (all : List (ℕ × ℕ)) (p : ReadingPlace) (rest : List ℕ) → p.rest ≡ map precinct_byte all ++ rest → ArePrecincts levels all → given_bit all ≡ bit_of given
     → length all ≤ p.room → given_precincts_at given (levels + 1) p ≡ Ok (all, ahead (length all) rest p)
 given_again given levels [] p rest e are same room =
     let at : p.at + 0 ≡ p.at = omega arith in
@@ -359,7 +359,7 @@ size_of false levels [] are same = refl
 size_of true levels (x ∷ all) are same = counted levels x all are
 size_of false levels (x ∷ all) are same = absurd cc
 
-pub style_again : (size fixed : ℕ) (given : Bool) (k : CodingStyle) (p : Place) (rest : List ℕ) → p.rest ≡ style_text k ++ rest → IsStyle k → given_bit k.precincts ≡ bit_of given
+pub style_again : (size fixed : ℕ) (given : Bool) (k : CodingStyle) (p : ReadingPlace) (rest : List ℕ) → p.rest ≡ style_text k ++ rest → IsStyle k → given_bit k.precincts ≡ bit_of given
     → size ≡ fixed + length k.precincts → 5 + length k.precincts ≤ p.room → style_at size fixed given p ≡ Ok (k, ahead (5 + length k.precincts) rest p)
 unfolding style_at style_text
 style_again size fixed given k p rest e is same size-is room =
@@ -382,4 +382,4 @@ style_again size fixed given k p rest e is same size-is room =
     let place : ahead n rest p4 ≡ ahead (5 + n) rest p =
     ahead_twice 1 n (1 + n) rest r4 p3 refl ∙ ahead_twice 1 (1 + n) (2 + n) rest r3 p2 (omega arith)
     ∙ ahead_twice 2 (2 + n) (4 + n) rest r2 p1 (omega arith) ∙ ahead_twice 1 (4 + n) (5 + n) rest r1 p (omega arith) in
-    again ∙ ap (λ (q : Place). Ok (k, q)) place
+    again ∙ ap (λ (q : ReadingPlace). Ok (k, q)) place

@@ -22,7 +22,7 @@ use Rattle.jk_marks.specs.Segments.{IsQuantisation}
 
 -- A tile-part (A.4.2): the tile's number, whether its length is left open, its number within the
 -- tile, how many parts it says that there are, the segments of its header, and its data.
-pub record Part : Type 0 where
+pub record CodestreamPart : Type 0 where
   pub tile : ℕ
   pub is_open : Bool
   pub number : ℕ
@@ -34,21 +34,21 @@ pub record Part : Type 0 where
 pub record Tree : Type 0 where
   pub siz : Siz
   pub segments : List Segment
-  pub parts : List Part
+  pub parts : List CodestreamPart
 
 unfoldable pub main_text : Siz → List Segment → List ℕ
 main_text siz segments = marker_text soc ++ (siz_text siz ++ flat_map segment_text segments)
 
 -- where the data of a part begin, counted from the first byte of SOT
-abbrev pub data_start : Part → ℕ
+abbrev pub data_start : CodestreamPart → ℕ
 data_start p = 14 + length (flat_map segment_text p.segments)
 
 -- where they end, and the part with them
-abbrev pub part_length : Part → ℕ
+abbrev pub part_length : CodestreamPart → ℕ
 part_length p = data_start p + length p.content
 
 -- Psot: the length, or 0 where it goes up to the end of the codestream
-abbrev pub psot : Part → ℕ
+abbrev pub psot : CodestreamPart → ℕ
 psot p = if p.is_open then 0 else part_length p
 
 -- SOT and its segment (A.4.2): Isot, Psot, TPsot and TNsot
@@ -56,7 +56,7 @@ abbrev pub sot_text : (tile size number total : ℕ) → List ℕ
 sot_text tile size number total = marker_text sot
     ++ (big_bytes 2 10 ++ (big_bytes 2 tile ++ (big_bytes 4 size ++ (big_bytes 1 number ++ big_bytes 1 total))))
 
-unfoldable pub part_text : Part → List ℕ
+unfoldable pub part_text : CodestreamPart → List ℕ
 part_text p = sot_text p.tile (psot p) p.number p.total
     ++ (flat_map segment_text p.segments ++ (marker_text sod ++ p.content))
 
@@ -92,7 +92,7 @@ pub record IsMain (siz : Siz) (segments : List Segment) : Type 0 where
 abbrev pub heading_of : ℕ → Heading
 heading_of number = if number == 0 then FirstPart else LaterPart
 
-pub record IsPart (siz : Siz) (p : Part) : Type 0 where
+pub record IsPart (siz : Siz) (p : CodestreamPart) : Type 0 where
   pub tile : p.tile < tile_count siz
   pub narrow : p.tile < 2 ^ 16
   pub number : p.number ≤ 254
@@ -143,7 +143,7 @@ pub record BeginsMain (bytes : List ℕ) (siz : Siz) (segments : List Segment) :
   pub text : bytes ≡ main_text siz segments ++ (marker_text sot ++ others)
 
 -- what the program keeps of a part: where its data stand, counted from its first byte
-abbrev pub place_of : Part → TilePart
+abbrev pub place_of : CodestreamPart → TilePart
 place_of p = record {
   tile = p.tile;
   part = p.number;
@@ -153,23 +153,23 @@ place_of p = record {
 }
 
 -- The bytes begin with this part. The end of the codestream follows a part that is left open.
-pub record BeginsWith (bytes : List ℕ) (p : Part) : Type 0 where
+pub record BeginsWith (bytes : List ℕ) (p : CodestreamPart) : Type 0 where
   pub others : List ℕ
   pub text : bytes ≡ part_text p ++ others
   pub last : p.is_open ≡ true → others ≡ marker_text eoc
 
 -- the parts of a tile, in order
-abbrev pub of_tile : ℕ → List Part → List Part
+abbrev pub of_tile : ℕ → List CodestreamPart → List CodestreamPart
 of_tile t parts = filter (λ p. p.tile == t) parts
 
 -- none but the last is open
-abbrev pub AreClosedBeforeLast : List Part → Type 0
+abbrev pub AreClosedBeforeLast : List CodestreamPart → Type 0
 AreClosedBeforeLast [] = Unit {0}
 AreClosedBeforeLast (p ∷ []) = Unit {0}
 AreClosedBeforeLast (p ∷ q ∷ parts) = (p.is_open ≡ false) × AreClosedBeforeLast (q ∷ parts)
 
 -- One part or more, in any order of the tiles, the parts of each tile numbered from 0 on.
-pub record AreParts (siz : Siz) (parts : List Part) : Type 0 where
+pub record AreParts (siz : Siz) (parts : List CodestreamPart) : Type 0 where
   pub some : 0 < length parts
   pub each : AllByRecursion (IsPart siz) parts
   pub closed : AreClosedBeforeLast parts
@@ -228,6 +228,6 @@ pub record IsWritten (m : Main) : Type 0 where
   pub qcc_components : AreOfComponents m.siz.components m.qcc
 
 -- the part that is written for a tile: the only one, closed and without segments
-abbrev pub only_part_of : ℕ → List ℕ → Part
+abbrev pub only_part_of : ℕ → List ℕ → CodestreamPart
 only_part_of tile content =
     record { tile = tile; is_open = false; number = 0; total = 1; segments = []; content = content }

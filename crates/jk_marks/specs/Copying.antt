@@ -4,7 +4,7 @@ use Rattle.std.specs.Prelude.{take, drop, filter}
 use Rattle.byteorder.specs.Endian.{big_number}
 use Rattle.jk_marks.specs.Markers.{sot, sod, tlm, plt, is_alone}
 use Rattle.jk_marks.specs.Segments.{Segment, CodSegment, CocSegment, QcdSegment, QccSegment, Passed, Alone}
-use Rattle.jk_marks.specs.Codestream.{Part}
+use Rattle.jk_marks.specs.Codestream.{CodestreamPart}
 
 -- whether a segment was passed over that has this marker
 abbrev pub is_passed_as : ℕ → Segment → Bool
@@ -20,7 +20,7 @@ abbrev pub kept_segments : ℕ → List Segment → List Segment
 kept_segments m segments = filter (λ s. not (is_passed_as m s)) segments
 
 -- a tile-part without PLT, and with other data
-abbrev pub part_with : Part → List ℕ → Part
+abbrev pub part_with : CodestreamPart → List ℕ → CodestreamPart
 part_with p content = record p { segments = kept_segments plt p.segments; content = content }
 
 -- How many bytes the marker segment at the front takes; 0 where the marker `last` stands there, or

@@ -15,13 +15,13 @@ use Rattle.jk_marks.specs.declared.head.Heading.TheVariants.{MainHeader}
 use Rattle.jk_marks.specs.declared.tile_part.TilePart.{TilePart}
 use Rattle.jk_marks.specs.declared.tile_part.Sot.{Sot}
 use Rattle.jk_marks.specs.Markers.{soc, siz, sot, sod, eoc}
-use Rattle.jk_marks.specs.Place.{Place, closed}
+use Rattle.jk_marks.specs.Place.{ReadingPlace, closed}
 use Rattle.jk_marks.specs.Siz.{tile_count}
 use Rattle.jk_marks.specs.Codestream.{main_with, heading_of}
 use Rattle.jk_marks.specs.Reading.{number, segment_length, header_at}
 
 -- Rsiz to YOsiz: the capabilities and the image on the reference grid
-unfoldable pub area_at : Place → Result (Area × Place) Fault
+unfoldable pub area_at : ReadingPlace → Result (Area × ReadingPlace) Fault
 area_at p = do
   rsiz ← number 2 p
   _ ← refuse (nat_le 16384 rsiz.0) Unsupported
@@ -45,7 +45,7 @@ abbrev pub tiles_of : Area → Tiling → ℕ
 tiles_of a t = (a.x1 - t.x0 + t.width - 1) / t.width * ((a.y1 - t.y0 + t.height - 1) / t.height)
 
 -- XTsiz to YTOsiz: the size of a tile, and where the first one begins
-unfoldable pub tiling_at : Area → Place → Result (Tiling × Place) Fault
+unfoldable pub tiling_at : Area → ReadingPlace → Result (Tiling × ReadingPlace) Fault
 tiling_at a p = do
   width ← number 4 p
   _ ← refuse (width.0 == 0) BadValue
@@ -59,7 +59,7 @@ tiling_at a p = do
   Ok (record { width = width.0; height = height.0; x0 = x0.0; y0 = y0.0 }, y0.1)
 
 -- XRsiz or YRsiz
-unfoldable pub sampling_at : Place → Result (Unit {0} × Place) Fault
+unfoldable pub sampling_at : ReadingPlace → Result (Unit {0} × ReadingPlace) Fault
 sampling_at p = do
   step ← number 1 p
   _ ← refuse (step.0 == 0) BadValue
@@ -67,7 +67,7 @@ sampling_at p = do
   Ok (tt, step.1)
 
 -- Ssiz, XRsiz and YRsiz; all components have one Ssiz
-unfoldable pub component_depth_at : ℕ → Place → Result (Unit {0} × Place) Fault
+unfoldable pub component_depth_at : ℕ → ReadingPlace → Result (Unit {0} × ReadingPlace) Fault
 component_depth_at common p = do
   depth ← number 1 p
   _ ← refuse (nat_lt 37 (depth.0 % 128)) BadValue
@@ -76,12 +76,12 @@ component_depth_at common p = do
   sampling_at x.1
 
 -- the same of n components
-unfoldable pub components_at : (n common : ℕ) → Place → Result (Unit {0} × Place) Fault
+unfoldable pub components_at : (n common : ℕ) → ReadingPlace → Result (Unit {0} × ReadingPlace) Fault
 components_at zero common p = Ok (tt, p)
 components_at (suc n) common p = component_depth_at common p >>= λ r. components_at n common r.1
 
 -- Csiz in a segment of that length
-unfoldable pub count_at : ℕ → Place → Result (ℕ × Place) Fault
+unfoldable pub count_at : ℕ → ReadingPlace → Result (ℕ × ReadingPlace) Fault
 count_at size p = do
   n ← number 2 p
   _ ← refuse (not (size == 38 + 3 * n.0)) BadLength
@@ -90,7 +90,7 @@ count_at size p = do
   Ok n
 
 -- the first byte from a place on
-abbrev pub next_byte : Place → ℕ
+abbrev pub next_byte : ReadingPlace → ℕ
 next_byte p = slice_index p.rest 0
 
 abbrev pub siz_with : Area → Tiling → (components common : ℕ) → Siz
@@ -110,7 +110,7 @@ siz_with a t n common = record {
 }
 
 -- SIZ, from its length on (A.5.1)
-unfoldable pub siz_at : Place → Result (Siz × Place) Fault
+unfoldable pub siz_at : ReadingPlace → Result (Siz × ReadingPlace) Fault
 siz_at p = do
   size ← segment_length p
   area ← area_at size.1
@@ -147,7 +147,7 @@ part_end bytes psot =
 
 -- SOT, from its marker on (A.4.2): the tile, the end of the part, and its number; `seen` says how
 -- many parts of each tile came before
-unfoldable pub sot_at : Siz → List ℕ → List ℕ → Place → Result (Sot × Place) Fault
+unfoldable pub sot_at : Siz → List ℕ → List ℕ → ReadingPlace → Result (Sot × ReadingPlace) Fault
 sot_at siz seen bytes p = do
   marker ← number 2 p
   _ ← refuse (not (marker.0 == sot)) BadMarker

@@ -6,14 +6,14 @@ use Rattle.byteorder.specs.Endian.{big_number}
 use Rattle.jk_marks.specs.declared.part_head.PartHead.{PartHead}
 use Rattle.jk_marks.specs.Markers.{sot, plt, sod, marker_text}
 use Rattle.jk_marks.specs.Segments.{segment_text}
-use Rattle.jk_marks.specs.Codestream.{Part, sot_text}
+use Rattle.jk_marks.specs.Codestream.{CodestreamPart, sot_text}
 use Rattle.jk_marks.specs.Copying.{kept_segments, part_kept_at}
 
 -- the segments of a tile-part without PLT
-abbrev pub kept_text : Part → List ℕ
+abbrev pub kept_text : CodestreamPart → List ℕ
 kept_text p = flat_map segment_text (kept_segments plt p.segments)
 
-abbrev pub head_of : Part → PartHead
+abbrev pub head_of : CodestreamPart → PartHead
 head_of p = record {
   tile = p.tile;
   number = p.number;

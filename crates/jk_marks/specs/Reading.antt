@@ -14,7 +14,7 @@ use Rattle.jk_marks.specs.declared.segments.Quantisation.{Quantisation}
 use Rattle.jk_marks.specs.declared.head.Heading.{Heading}
 use Rattle.jk_marks.specs.declared.head.TileHead.{TileHead}
 use Rattle.jk_marks.specs.Markers.{cod, coc, qcd, qcc, is_left_out, is_listed, is_alone}
-use Rattle.jk_marks.specs.Place.{Place, past, outside}
+use Rattle.jk_marks.specs.Place.{ReadingPlace, past, outside}
 use Rattle.jk_marks.specs.Segments.{is_coded, is_passed}
 use Rattle.jk_marks.specs.Codestream.{head_of}
 use Rattle.jk_marks.specs.Exponents.{exponents_of}
@@ -22,41 +22,41 @@ use Rattle.jk_marks.specs.BlockStyle.{style_byte, style_of}
 use Rattle.jk_marks.specs.OrderCode.{order_with}
 
 -- a number of n bytes
-unfoldable pub number : ℕ → Place → Result (ℕ × Place) Fault
+unfoldable pub number : ℕ → ReadingPlace → Result (ℕ × ReadingPlace) Fault
 number n p =
     if nat_lt (length p.rest) n then Err Truncated
     else (if nat_lt p.room n then Err BadLength else Ok (big_number n p.rest, past n p))
 
 -- the length of a segment, which is entered by it
-unfoldable pub segment_length : Place → Result (ℕ × Place) Fault
+unfoldable pub segment_length : ReadingPlace → Result (ℕ × ReadingPlace) Fault
 segment_length p = do
   n ← number 2 p
   Ok (n.0, record n.1 { room = n.0 - 2 })
 
 -- n bytes of the segment that was entered, which has them
-unfoldable pub passing : ℕ → Place → Result (List ℕ × Place) Fault
+unfoldable pub passing : ℕ → ReadingPlace → Result (List ℕ × ReadingPlace) Fault
 passing n p = if nat_lt (length p.rest) n then Err Truncated else Ok (take n p.rest, past n p)
 
 -- a precinct size (table A.21), of which only the first may have an exponent 0
-unfoldable pub precinct_at : Bool → Place → Result ((ℕ × ℕ) × Place) Fault
+unfoldable pub precinct_at : Bool → ReadingPlace → Result ((ℕ × ℕ) × ReadingPlace) Fault
 precinct_at is_first p = do
   byte ← number 1 p
   _ ← refuse (not is_first && (nat_lt (byte.0 % 16) 1 || nat_lt (byte.0 / 16) 1)) BadValue
   Ok ((byte.0 % 16, byte.0 / 16), byte.1)
 
 -- n precinct sizes after those that are done
-unfoldable pub precincts_at : ℕ → List (ℕ × ℕ) → Place → Result (List (ℕ × ℕ) × Place) Fault
+unfoldable pub precincts_at : ℕ → List (ℕ × ℕ) → ReadingPlace → Result (List (ℕ × ℕ) × ReadingPlace) Fault
 precincts_at zero done p = Ok (done, p)
 precincts_at (suc n) done p = precinct_at (length done == 0) p >>= λ r. precincts_at n (done ++ r.0 ∷ []) r.1
 
 -- the precinct sizes of n resolutions, where they are given
-abbrev pub given_precincts_at : Bool → ℕ → Place → Result (List (ℕ × ℕ) × Place) Fault
+abbrev pub given_precincts_at : Bool → ℕ → ReadingPlace → Result (List (ℕ × ℕ) × ReadingPlace) Fault
 given_precincts_at true n p = precincts_at n [] p
 given_precincts_at false n p = Ok ([], p)
 
 -- Number of decomposition levels in a segment of that length, which has `fixed` bytes beside the
 -- precinct sizes.
-unfoldable pub levels_at : (size fixed : ℕ) → Bool → Place → Result (ℕ × Place) Fault
+unfoldable pub levels_at : (size fixed : ℕ) → Bool → ReadingPlace → Result (ℕ × ReadingPlace) Fault
 levels_at size fixed given p = do
   levels ← number 1 p
   _ ← refuse (not (size == fixed + (if given then levels.0 + 1 else 0))) BadLength
@@ -65,7 +65,7 @@ levels_at size fixed given p = do
   Ok levels
 
 -- the exponents of a code-block's width and height (table A.18)
-unfoldable pub block_at : Place → Result ((ℕ × ℕ) × Place) Fault
+unfoldable pub block_at : ReadingPlace → Result ((ℕ × ℕ) × ReadingPlace) Fault
 block_at p = do
   xcb ← number 1 p
   _ ← refuse (nat_lt 8 xcb.0) BadValue
@@ -74,7 +74,7 @@ block_at p = do
   Ok ((xcb.0 + 2, ycb.0 + 2), ycb.1)
 
 -- the code-block style (table A.19)
-unfoldable pub block_style_at : Place → Result (Style × Place) Fault
+unfoldable pub block_style_at : ReadingPlace → Result (Style × ReadingPlace) Fault
 block_style_at p = do
   byte ← number 1 p
   _ ← refuse (nat_le 128 byte.0) BadValue
@@ -82,7 +82,7 @@ block_style_at p = do
   Ok (style_of byte.0, byte.1)
 
 -- the transform, which is the reversible 5-3 filter (table A.20)
-unfoldable pub transform_at : Place → Result (Unit {0} × Place) Fault
+unfoldable pub transform_at : ReadingPlace → Result (Unit {0} × ReadingPlace) Fault
 transform_at p = do
   transform ← number 1 p
   _ ← refuse (nat_lt 1 transform.0) BadValue
@@ -90,7 +90,7 @@ transform_at p = do
   Ok (tt, transform.1)
 
 -- SPcod or SPcoc (table A.15)
-unfoldable pub style_at : (size fixed : ℕ) → Bool → Place → Result (CodingStyle × Place) Fault
+unfoldable pub style_at : (size fixed : ℕ) → Bool → ReadingPlace → Result (CodingStyle × ReadingPlace) Fault
 style_at size fixed given p = do
   levels ← levels_at size fixed given p
   block ← block_at levels.1
@@ -109,7 +109,7 @@ style_at size fixed given p = do
   )
 
 -- COD, from its length on (A.6.1), in a codestream of n components
-unfoldable pub cod_at : ℕ → Place → Result (Cod × Place) Fault
+unfoldable pub cod_at : ℕ → ReadingPlace → Result (Cod × ReadingPlace) Fault
 cod_at n p = do
   size ← segment_length p
   flags ← number 1 size.1
@@ -138,7 +138,7 @@ abbrev pub has : {X : Type 0} → List (Option X) → ℕ → Bool
 has xs i = is_some (slice_index_or xs i None)
 
 -- the component that a segment is of, which no segment was of before
-unfoldable pub component_at : {X : Type 0} → List (Option X) → ℕ → Place → Result (ℕ × Place) Fault
+unfoldable pub component_at : {X : Type 0} → List (Option X) → ℕ → ReadingPlace → Result (ℕ × ReadingPlace) Fault
 component_at others n p = do
   i ← number 1 p
   _ ← refuse (nat_le n i.0) BadValue
@@ -146,7 +146,7 @@ component_at others n p = do
   Ok i
 
 -- COC, from its length on (A.6.2)
-unfoldable pub coc_at : List (Option CodingStyle) → ℕ → Place → Result ((ℕ × CodingStyle) × Place) Fault
+unfoldable pub coc_at : List (Option CodingStyle) → ℕ → ReadingPlace → Result ((ℕ × CodingStyle) × ReadingPlace) Fault
 coc_at others n p = do
   size ← segment_length p
   i ← component_at others n size.1
@@ -157,7 +157,7 @@ coc_at others n p = do
 
 -- Sqcd or Sqcc, and a byte for each of n sub-bands (tables A.27 to A.29); of the styles only no
 -- quantization is read
-unfoldable pub steps_at : ℕ → Place → Result (Quantisation × Place) Fault
+unfoldable pub steps_at : ℕ → ReadingPlace → Result (Quantisation × ReadingPlace) Fault
 steps_at n p = do
   style ← number 1 p
   _ ← refuse ((style.0 % 32 == 1) || (style.0 % 32 == 2)) Unsupported
@@ -166,14 +166,14 @@ steps_at n p = do
   Ok (record { guard = style.0 / 32; exponents = exponents_of bytes.0 }, bytes.1)
 
 -- QCD, from its length on (A.6.4)
-unfoldable pub qcd_at : Place → Result (Quantisation × Place) Fault
+unfoldable pub qcd_at : ReadingPlace → Result (Quantisation × ReadingPlace) Fault
 qcd_at p = do
   size ← segment_length p
   _ ← refuse (nat_lt size.0 4) BadLength
   steps_at (size.0 - 3) size.1
 
 -- QCC, from its length on (A.6.5)
-unfoldable pub qcc_at : List (Option Quantisation) → ℕ → Place → Result ((ℕ × Quantisation) × Place) Fault
+unfoldable pub qcc_at : List (Option Quantisation) → ℕ → ReadingPlace → Result ((ℕ × Quantisation) × ReadingPlace) Fault
 qcc_at others n p = do
   size ← segment_length p
   _ ← refuse (nat_lt size.0 5) BadLength
@@ -182,27 +182,27 @@ qcc_at others n p = do
   Ok ((i.0, steps.0), steps.1)
 
 -- a segment that is passed over, from its length on
-unfoldable pub passed_at : Place → Result (List ℕ × Place) Fault
+unfoldable pub passed_at : ReadingPlace → Result (List ℕ × ReadingPlace) Fault
 passed_at p = do
   size ← segment_length p
   _ ← refuse (nat_lt size.0 2) BadLength
   passing (size.0 - 2) size.1
 
-abbrev pub in_cod : TileHead → ℕ → Place → Result (TileHead × Place) Fault
+abbrev pub in_cod : TileHead → ℕ → ReadingPlace → Result (TileHead × ReadingPlace) Fault
 in_cod head n p = refuse (is_some head.cod) BadMarker >>= λ _. cod_at n p
     >>= λ c. Ok (record head { cod = Some c.0 }, c.1)
 
-abbrev pub in_qcd : TileHead → Place → Result (TileHead × Place) Fault
+abbrev pub in_qcd : TileHead → ReadingPlace → Result (TileHead × ReadingPlace) Fault
 in_qcd head p = refuse (is_some head.qcd) BadMarker >>= λ _. qcd_at p >>= λ q. Ok (record head { qcd = Some q.0 }, q.1)
 
-abbrev pub in_coc : TileHead → ℕ → Place → Result (TileHead × Place) Fault
+abbrev pub in_coc : TileHead → ℕ → ReadingPlace → Result (TileHead × ReadingPlace) Fault
 in_coc head n p = coc_at head.coc n p >>= λ k. Ok (record head { coc = slice_set head.coc k.0.0 (Some k.0.1) }, k.1)
 
-abbrev pub in_qcc : TileHead → ℕ → Place → Result (TileHead × Place) Fault
+abbrev pub in_qcc : TileHead → ℕ → ReadingPlace → Result (TileHead × ReadingPlace) Fault
 in_qcc head n p = qcc_at head.qcc n p >>= λ q. Ok (record head { qcc = slice_set head.qcc q.0.0 (Some q.0.1) }, q.1)
 
 -- a segment without meaning for the coding, after its marker m
-unfoldable pub other_at : Heading → TileHead → ℕ → Place → Result (TileHead × Place) Fault
+unfoldable pub other_at : Heading → TileHead → ℕ → ReadingPlace → Result (TileHead × ReadingPlace) Fault
 other_at heading head m p =
     if is_passed heading m then (passed_at p >>= λ r. Ok (head, r.1))
     else (if is_left_out m then Err Unsupported
@@ -211,7 +211,7 @@ other_at heading head m p =
     else (passed_at p >>= λ r. Ok (head, r.1)))))
 
 -- a segment of a header after its marker m, and what the header has said with it
-unfoldable pub segment_at : Heading → ℕ → TileHead → ℕ → Place → Result (TileHead × Place) Fault
+unfoldable pub segment_at : Heading → ℕ → TileHead → ℕ → ReadingPlace → Result (TileHead × ReadingPlace) Fault
 segment_at heading n head m p =
     if is_coded heading && (m == cod) then in_cod head n p
     else (if is_coded heading && (m == qcd) then in_qcd head p
@@ -221,12 +221,12 @@ segment_at heading n head m p =
 
 -- the segments of a header, at most k of them, up to the marker that ends it; the place is after
 -- that marker
-unfoldable pub segments_at : ℕ → Heading → ℕ → (last : ℕ) → TileHead → Place → Result (TileHead × Place) Fault
+unfoldable pub segments_at : ℕ → Heading → ℕ → (last : ℕ) → TileHead → ReadingPlace → Result (TileHead × ReadingPlace) Fault
 segments_at zero heading n last head p = Err Truncated
 segments_at (suc k) heading n last head p =
     number 2 p >>= λ m. if m.0 == last then Ok (head, m.1)
     else (segment_at heading n head m.0 m.1 >>= λ r. segments_at k heading n last r.0 (outside r.1))
 
 -- the segments of a header, which say what it says
-abbrev pub header_at : Heading → ℕ → (last : ℕ) → Place → Result (TileHead × Place) Fault
+abbrev pub header_at : Heading → ℕ → (last : ℕ) → ReadingPlace → Result (TileHead × ReadingPlace) Fault
 header_at heading n last p = segments_at (length p.rest) heading n last (head_of []) (outside p)

@@ -2,7 +2,7 @@
 
 ghost use Rattle.std.specs.Prelude.{◌≡◌, ◌≤◌, ◌==◌, length, Ok, Err, MatchResult, OnErr};
 ghost use Rattle.jk_math.specs.Answer.{Reads};
-ghost use Rattle.jk_marks.specs.Place.{Place, closed, outside};
+ghost use Rattle.jk_marks.specs.Place.{ReadingPlace, closed, outside};
 ghost use Rattle.jk_marks.specs.Reading.{number, segment_length, passing, passed_at};
 ghost use Rattle.jk_marks.specs.HeaderReading.{next_byte};
 
@@ -24,9 +24,9 @@ pub struct Cursor<'a> {
 
 impl<'a> Model for Cursor<'a> {
     ghost use Rattle.std.specs.Prelude.{drop, length, ◌≤◌};
-    ghost use Rattle.jk_marks.specs.Place.{Place};
+    ghost use Rattle.jk_marks.specs.Place.{ReadingPlace};
 
-    ghost Value = { Place };
+    ghost Value = { ReadingPlace };
 
     ghost view = { λ c. record { rest = drop c.at c.bytes.now; at = c.at; room = c.room } };
 

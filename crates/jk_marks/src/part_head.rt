@@ -7,7 +7,7 @@ ghost use Rattle.jk_math.specs.Memory.{IsMemory};
 ghost use Rattle.jk_math.specs.Front.{IsFront};
 ghost use Rattle.jk_marks.specs.declared.siz.Siz.{Siz};
 ghost use Rattle.jk_marks.specs.Markers.{sot, sod, eoc, marker_text};
-ghost use Rattle.jk_marks.specs.Codestream.{Part, IsPart, BeginsWith, sot_text};
+ghost use Rattle.jk_marks.specs.Codestream.{CodestreamPart, IsPart, BeginsWith, sot_text};
 ghost use Rattle.jk_marks.specs.Copying.{part_kept_at};
 ghost use Rattle.jk_marks.specs.PartHeads.{kept_text, head_of, part_head_at, kept_after, psot_for, part_head};
 

@@ -4,7 +4,7 @@ ghost use Rattle.std.specs.Prelude.{◌≡◌, ◌≤◌, length, slice_index, s
 ghost use Rattle.jk_marks.specs.Siz.{tile_count};
 ghost use Rattle.jk_math.specs.Answer.{Reads};
 ghost use Rattle.jk_marks.specs.Place.{closed};
-ghost use Rattle.jk_marks.specs.Codestream.{Part, IsPart, BeginsWith, place_of, heading_of};
+ghost use Rattle.jk_marks.specs.Codestream.{CodestreamPart, IsPart, BeginsWith, place_of, heading_of};
 ghost use Rattle.jk_marks.specs.HeaderReading.{part_at, part_end, sot_at};
 
 use crate::cursor::Cursor;
@@ -103,10 +103,10 @@ pub fn read_tile_part(bytes: &[u8], main: &Main, seen: &[u16]) -> Result<TilePar
     ensures exact { result ≡ part_at main.now.siz seen.now bytes.now }
     // What is read is the next part of its tile, spelled so at the front, and its data stand at its
     // place.
-    ensures found { IfOk result (λ t. (p : Part) × IsPart main.now.siz p × (p.number ≡ slice_index seen.now p.tile)
+    ensures found { IfOk result (λ t. (p : CodestreamPart) × IsPart main.now.siz p × (p.number ≡ slice_index seen.now p.tile)
         × BeginsWith bytes.now p × (t ≡ place_of p) × (slice_range bytes.now t.start t.end ≡ p.content)) }
     // Such a part is read.
-    ensures only { (p : Part) → IsPart main.now.siz p → p.number ≡ slice_index seen.now p.tile
+    ensures only { (p : CodestreamPart) → IsPart main.now.siz p → p.number ≡ slice_index seen.now p.tile
         → BeginsWith bytes.now p → result ≡ Ok (place_of p) }
     ensures within { IfOk result (λ t. (t.start ≤ t.end) × (t.end ≤ length bytes.now)) }
 {

@@ -5,4 +5,5 @@ pub mod Rasters
 pub mod Rounding
 pub mod BitLengths
 pub mod WritingLaws
+pub mod Lanes
 pub mod Laws

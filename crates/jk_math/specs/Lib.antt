@@ -10,3 +10,4 @@ pub mod Raster
 pub mod Signed
 pub mod Steps
 pub mod Styles
+pub mod Eights

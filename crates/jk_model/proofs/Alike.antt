@@ -1,7 +1,7 @@
 -- Bytes that read alike have one code value, and spell the same decisions.
 use Rattle.std.proofs.Common.{◌≡◌, ◌∙◌, ap, sym, subst, refl, ℕ, zero, suc, ◌+◌, ◌-◌, ◌*◌, ◌^◌, ◌<◌, Bool, not, ◌&&◌, ◌||◌, cond, List, [], ◌∷◌, ◌++◌, eqb, ltb, leb, arith}
-use Rattle.jk_model.specs.Code.{byte_at, is_last, is_past, fed, places, start, wanted, share, shares, code_value}
-use Rattle.jk_model.specs.Decisions.{State, Decision, qe_at, is_lower, IsWithin, SpellsFrom}
+use Rattle.jk_model.specs.Code.{byte_at, is_last, is_past, fed, code_places, start, wanted, share, shares, code_value}
+use Rattle.jk_model.specs.Decisions.{State, Decision, qe_at, is_lower, IsInInterval, SpellsFrom}
 use Rattle.jk_model.specs.Deciding.{Alike, decided, Follows}
 use Rattle.jk_model.proofs.CodeValue.{is_last-is, is_past-zero, is_past-suc, fed-is, places-is, start-zero, start-suc, wanted-zero, wanted-suc, share-is, shares-zero, shares-suc, code_value-is}
 use Rattle.jk_model.proofs.Deciding.{spells-follows, follows-spells}
@@ -16,7 +16,7 @@ past-alike a b h (suc i) = is_past-suc a i ∙ ap (λ (t : Bool). t || is_last a
 fed-alike : (a b : List ℕ) → Alike a b → (i : ℕ) → fed a i ≡ fed b i
 fed-alike a b h i = fed-is a i ∙ ap (λ (t : Bool). cond t 255 (byte_at a i)) (past-alike a b h i) ∙ ap (λ x. cond (is_past b i) 255 x) (h i) ∙ sym (fed-is b i)
 
-places-alike : (a b : List ℕ) → Alike a b → (i : ℕ) → places a i ≡ places b i
+places-alike : (a b : List ℕ) → Alike a b → (i : ℕ) → code_places a i ≡ code_places b i
 places-alike a b h i = places-is a i ∙ ap (λ x. cond (eqb x 255 && not (is_past a (suc i))) 7 8) (fed-alike a b h i) ∙ ap (λ (t : Bool). cond (eqb (fed b i) 255 && not t) 7 8) (past-alike a b h (suc i)) ∙ sym (places-is b i)
 
 start-alike : (a b : List ℕ) → Alike a b → (i : ℕ) → start a i ≡ start b i
@@ -51,7 +51,7 @@ is_lower-is b s cx = refl
 lower-alike : (a b : List ℕ) → Alike a b → (s : State) (cx : ℕ) → is_lower a s cx ≡ is_lower b s cx
 lower-alike a b h s cx = is_lower-is a s cx ∙ ap (λ v. ltb v (128 * (s.low + qe_at s cx))) (value-alike a b h s.doublings) ∙ sym (is_lower-is b s cx)
 
-within-alike : (a b : List ℕ) → Alike a b → (s : State) → IsWithin a s → IsWithin b s
+within-alike : (a b : List ℕ) → Alike a b → (s : State) → IsInInterval a s → IsInInterval b s
 within-alike a b h s k = subst (λ v. v < 128 * (s.low + s.width)) (value-alike a b h s.doublings) k
 
 follows-alike : (a b : List ℕ) → Alike a b → (s : State) (ds : List Decision) → Follows a s ds → Follows b s ds

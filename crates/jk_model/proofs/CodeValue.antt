@@ -3,7 +3,7 @@
 use Rattle.std.proofs.Common.{◌≡◌, ◌∙◌, ap, sym, ℕ, zero, suc, ◌+◌, ◌-◌, ◌*◌, ◌^◌, ◌<◌, ◌≤◌, inl, inr, Bool, true, false, not, cond, ◌&&◌, ◌||◌, List, eqb, ltb, leb, refl, arith}
 use Rattle.std.proofs.Math.Nat.{pow-succ'}
 use Rattle.std.proofs.lemmas.Bool.{cases_lt, le-leb, lt-leb}
-use Rattle.jk_model.specs.Code.{byte_at, is_last, is_past, fed, places, start, wanted, share, shares, code_value}
+use Rattle.jk_model.specs.Code.{byte_at, is_last, is_past, fed, code_places, start, wanted, share, shares, code_value}
 
 -- ---- one equation for each definition
 
@@ -23,15 +23,15 @@ pub fed-is : (b : List ℕ) (i : ℕ) → fed b i ≡ cond (is_past b i) 255 (by
 unfolding fed
 fed-is b i = refl
 
-pub places-is : (b : List ℕ) (i : ℕ) → places b i ≡ cond (eqb (fed b i) 255 && not (is_past b (suc i))) 7 8
-unfolding places
+pub places-is : (b : List ℕ) (i : ℕ) → code_places b i ≡ cond (eqb (fed b i) 255 && not (is_past b (suc i))) 7 8
+unfolding code_places
 places-is b i = refl
 
 pub start-zero : (b : List ℕ) → start b 0 ≡ 0
 unfolding start
 start-zero b = refl
 
-pub start-suc : (b : List ℕ) (i : ℕ) → start b (suc i) ≡ start b i + places b i
+pub start-suc : (b : List ℕ) (i : ℕ) → start b (suc i) ≡ start b i + code_places b i
 unfolding start
 start-suc b i = refl
 
@@ -65,14 +65,14 @@ seven_or_eight : (t : Bool) → (7 ≤ cond t 7 8) × (cond t 7 8 ≤ 8)
 seven_or_eight true = (omega arith, omega arith)
 seven_or_eight false = (omega arith, omega arith)
 
-pub places-ge : (b : List ℕ) (i : ℕ) → 7 ≤ places b i
+pub places-ge : (b : List ℕ) (i : ℕ) → 7 ≤ code_places b i
 places-ge b i = rw places-is (seven_or_eight _).0
 
-pub places-le : (b : List ℕ) (i : ℕ) → places b i ≤ 8
+pub places-le : (b : List ℕ) (i : ℕ) → code_places b i ≤ 8
 places-le b i = rw places-is (seven_or_eight _).1
 
 -- byte i + 1 is wanted as many places after byte i as byte i is long
-pub wanted-next : (b : List ℕ) (i : ℕ) → wanted b (suc (suc i)) ≡ wanted b (suc i) + places b i
+pub wanted-next : (b : List ℕ) (i : ℕ) → wanted b (suc (suc i)) ≡ wanted b (suc i) + code_places b i
 wanted-next b i = omega (arith, wanted-suc b i, wanted-suc b (suc i), start-suc b i)
 
 wanted-more : (b : List ℕ) (i : ℕ) → wanted b i + 7 ≤ wanted b (suc i)
@@ -142,11 +142,11 @@ code_value-double b n i h k =
     omega (arith, code_value-upto b n i h (omega arith), code_value-upto b (n + 1) i (omega arith) (omega arith), shares-twice b n i (suc i) h (omega arith))
 
 -- byte i + 1 is wanted: it is added, at its place
-pub code_value-feed : (b : List ℕ) (n i : ℕ) → wanted b i ≤ n + 14 → wanted b (suc i) ≡ n + 15 → code_value b (n + 1) ≡ 2 * code_value b n + fed b (suc i) * 2 ^ (8 - places b i)
+pub code_value-feed : (b : List ℕ) (n i : ℕ) → wanted b i ≤ n + 14 → wanted b (suc i) ≡ n + 15 → code_value b (n + 1) ≡ 2 * code_value b n + fed b (suc i) * 2 ^ (8 - code_places b i)
 code_value-feed b n i h k =
     let before = code_value-upto b n i h (omega arith) in
     let now = code_value-upto b (n + 1) (suc i) (omega arith) (omega (arith, wanted-more b (suc i))) in
-    let e : n + 1 + 14 - start b (suc i) ≡ 8 - places b i = omega (arith, start-suc b i, wanted-suc b i, places-le b i) in
+    let e : n + 1 + 14 - start b (suc i) ≡ 8 - code_places b i = omega (arith, start-suc b i, wanted-suc b i, places-le b i) in
     let new = share-in b (n + 1) (suc i) (omega arith) ∙ ap (λ x. fed b (suc i) * 2 ^ x) e in
     omega (arith, before, now, new, shares-suc b (n + 1) (suc i), shares-twice b n i (suc i) h (omega arith))
 
@@ -171,12 +171,12 @@ code_value-grows b n =
 -- ---- the start
 
 -- The first two bytes are wanted at the start.
-pub code_value-start : (b : List ℕ) → code_value b 0 ≡ fed b 0 * 2 ^ 14 + fed b 1 * 2 ^ (14 - places b 0)
+pub code_value-start : (b : List ℕ) → code_value b 0 ≡ fed b 0 * 2 ^ 14 + fed b 1 * 2 ^ (14 - code_places b 0)
 code_value-start b =
     let w0 = wanted-zero b in
     let w1 : wanted b 1 ≡ 8 = omega (arith, wanted-suc b 0, start-zero b) in
     let w2 : 14 < wanted b 2 = omega (arith, wanted-next b 0, places-ge b 0) in
-    let s1 : start b 1 ≡ places b 0 = omega (arith, start-suc b 0, start-zero b) in
+    let s1 : start b 1 ≡ code_places b 0 = omega (arith, start-suc b 0, start-zero b) in
     let upto = code_value-upto b 0 1 (omega arith) (omega arith) in
     let first = share-in b 0 0 (omega arith) ∙ ap (λ x. fed b 0 * 2 ^ (14 - x)) (start-zero b) in
     let second = share-in b 0 1 (omega arith) ∙ ap (λ x. fed b 1 * 2 ^ (14 - x)) s1 in

@@ -1,7 +1,7 @@
 -- The states that decisions lead to are those of bytes that spell them.
 use Rattle.std.proofs.Common.{◌≡◌, ◌∙◌, ap, sym, subst, refl, ℕ, Bool, true, false, not, cond, List, [], ◌∷◌, ◌++◌}
 use Rattle.std.specs.Bool.{beq}
-use Rattle.jk_model.specs.Decisions.{State, Decision, context_at, is_exchanged, is_lower, bit_at, divided, contexts_after, after, state_after, IsWithin, SpellsFrom}
+use Rattle.jk_model.specs.Decisions.{State, Decision, context_at, is_exchanged, is_lower, bit_at, divided, contexts_after, after, state_after, IsInInterval, SpellsFrom}
 use Rattle.jk_model.specs.Deciding.{takes_lower, taken, contexts_taken, made, decided, state_by, Follows}
 
 bit-back : (bit mps ex : Bool) → cond (beq (beq (beq bit mps) ex) ex) mps (not mps) ≡ bit
@@ -61,14 +61,14 @@ pub spells-follows : (b : List ℕ) (s : State) (ds : List Decision) → Follows
 spells-follows b s [] h = tt
 spells-follows b s (d ∷ ds) h =
     let e = sym (after-decided b s d.0 d.1 h.1) in
-    (h.0, bit-taken b s d.0 d.1 h.1, subst (λ (t : State). IsWithin b t) e h.2, subst (λ (t : State). SpellsFrom b t ds) e (spells-follows b (decided s d) ds h.3))
+    (h.0, bit-taken b s d.0 d.1 h.1, subst (λ (t : State). IsInInterval b t) e h.2, subst (λ (t : State). SpellsFrom b t ds) e (spells-follows b (decided s d) ds h.3))
 
 pub follows-spells : (b : List ℕ) (s : State) (ds : List Decision) → SpellsFrom b s ds → Follows b s ds
 follows-spells b s [] h = tt
 follows-spells b s (d ∷ ds) h =
     let p = subinterval-taken b s d.0 d.1 h.1 in
     let e = after-decided b s d.0 d.1 p in
-    (h.0, p, subst (λ (t : State). IsWithin b t) e h.2, subst (λ (t : State). Follows b t ds) e (follows-spells b (after b s d.0) ds h.3))
+    (h.0, p, subst (λ (t : State). IsInInterval b t) e h.2, subst (λ (t : State). Follows b t ds) e (follows-spells b (after b s d.0) ds h.3))
 
 pub state_by-joined : (s : State) (xs ys : List Decision) → state_by s (xs ++ ys) ≡ state_by (state_by s xs) ys
 state_by-joined s [] ys = refl

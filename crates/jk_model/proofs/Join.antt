@@ -2,7 +2,7 @@
 use Rattle.std.proofs.Common.{◌≡◌, ◌∙◌, ap, sym, ℕ, suc, ◌+◌, ◌-◌, ◌*◌, ◌^◌, ◌<◌, ◌≤◌, inl, inr, Bool, true, false, not, ◌||◌, cond, List, [], ◌∷◌, length, eqb, ltb, arith}
 use Rattle.std.proofs.lemmas.Bool.{cases_eq, cases_lt, and_from, and_left, and_right, eq-eqb, ne_eqb, le-ltb}
 use Rattle.std.proofs.lemmas.Nat.{pow-add}
-use Rattle.jk_model.specs.Code.{byte_at, is_last, is_past, fed, places, start, wanted, share, shares, code_value}
+use Rattle.jk_model.specs.Code.{byte_at, is_last, is_past, fed, code_places, start, wanted, share, shares, code_value}
 use Rattle.jk_model.proofs.CodeValue.{is_last-is, is_past-zero, is_past-suc, fed-is, places-is, start-zero, start-suc, wanted-zero, wanted-suc, share-in, shares-zero, shares-suc, code_value-upto}
 use Rattle.jk_model.specs.Placed.{gap, top, placed_number, end, Clean, onto}
 use Rattle.jk_model.proofs.Placed.{gap-nil, gap-ff, gap-other, top-ff, after_ff, plain, follows}
@@ -28,7 +28,7 @@ not_last b l y x ys h k m =
       | inr n ↦ is_last-is b l ∙ and_left (eqb (byte_at b l) 255) (ltb 143 (byte_at b (l + 1))) (ne_eqb (byte_at b l) 255 (λ f. n (sym h ∙ f)))
     ]
 
-places-placed : (b : List ℕ) (l y : ℕ) (ys : List ℕ) → fed b l ≡ y → is_past b (suc l) ≡ false → places b l ≡ gap (y ∷ ys)
+places-placed : (b : List ℕ) (l y : ℕ) (ys : List ℕ) → fed b l ≡ y → is_past b (suc l) ≡ false → code_places b l ≡ gap (y ∷ ys)
 places-placed b l y ys h k =
     elim (cases_eq y 255) [
       | inl e ↦ places-is b l ∙ ap (λ t. cond t 7 8) (and_from (eqb (fed b l) 255) (not (is_past b (suc l))) (eq-eqb (fed b l) 255 (h ∙ e)) (ap not k)) ∙ sym (gap-ff y ys e)

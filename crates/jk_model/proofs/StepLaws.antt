@@ -11,7 +11,7 @@ use Rattle.std.proofs.lemmas.List.{get_or_append_left, get_or-append-add}
 use Rattle.std.proofs.lemmas.List.FromFn.{get_or-range_with_len}
 use Rattle.jk_model.specs.Contexts.{Context, row_of, moved}
 use Rattle.jk_model.proofs.Rows.{row-sound}
-use Rattle.jk_model.specs.Steps.{entry_of, context_of, IsEntry, moves_of, contexts_of, steps}
+use Rattle.jk_model.specs.Steps.{context_number, context_of, IsEntry, moves_of, contexts_of, steps}
 
 -- an element of lists of one length that are joined
 at_flat : {X A : Type 0} (f : X → List A) (w : ℕ) (d : X) (e : A) → ((x : X) → length (f x) ≡ w) → (xs : List X) (i k : ℕ) → k < w → i < length xs → get_or (flat_map f xs) (w * i + k) e ≡ get_or (f (get_or xs i d)) k e
@@ -63,14 +63,14 @@ low_part : (qe state : ℕ) (mps : Bool) → state < 47 → ((qe * 2 ^ 49 + (6 *
 low_part qe state true less = (omega (arith, less), ap (λ d. d == 1) (let e : (qe * 2 ^ 49 + (6 * state + (2 ^ 31 + 3))) / 2 ^ 31 % 2 ≡ 1 = omega (arith, less) in e))
 low_part qe state false less = (omega (arith, less), ap (λ d. d == 1) (let e : (qe * 2 ^ 49 + (6 * state + 0)) / 2 ^ 31 % 2 ≡ 0 = omega (arith, less) in e))
 
-pub context_back : (c : Context) → c.state < 47 → context_of (entry_of c) ≡ c
+pub context_back : (c : Context) → c.state < 47 → context_of (context_number c) ≡ c
 context_back c less =
     let both = low_part (row_of c.state).qe c.state c.mps less in
-    ap (λ s. record { state = s; mps = (context_of (entry_of c)).mps }) both.0 ∙ ap (λ (b : Bool). record { state = c.state; mps = b }) both.1
+    ap (λ s. record { state = s; mps = (context_of (context_number c)).mps }) both.0 ∙ ap (λ (b : Bool). record { state = c.state; mps = b }) both.1
 
-pub entry_sound : (c : Context) → c.state < 47 → IsEntry (entry_of c)
+pub entry_sound : (c : Context) → c.state < 47 → IsEntry (context_number c)
 entry_sound c less = record {
-  same = ap entry_of (sym (context_back c less));
+  same = ap context_number (sym (context_back c less));
   state = subst (λ (x : Context). x.state < 47) (sym (context_back c less)) less;
 }
 
@@ -84,7 +84,7 @@ unfolding moved
 moved_sound c bit less = moved_by c (beq bit c.mps) less
 
 -- The context after a decision.
-move_is : (c : Context) (moves less : Bool) → get_or (moves_of c) (cond moves 1 0 + cond (moves && less) 1 0) 0 ≡ entry_of (cond moves (moved c (cond less (not c.mps) c.mps)) c)
+move_is : (c : Context) (moves less : Bool) → get_or (moves_of c) (cond moves 1 0 + cond (moves && less) 1 0) 0 ≡ context_number (cond moves (moved c (cond less (not c.mps) c.mps)) c)
 move_is c true true = refl
 move_is c true false = refl
 move_is c false true = refl
@@ -179,7 +179,7 @@ scaled_sound q top some most least =
     (omega (arith, one, up), omega (arith, below, all))
 
 -- the first context of a state
-pub new_is : (state : ℕ) → state < 47 → get_or steps (6 * state) 0 ≡ entry_of (record { state = state; mps = false })
+pub new_is : (state : ℕ) → state < 47 → get_or steps (6 * state) 0 ≡ context_number (record { state = state; mps = false })
 new_is state less =
     ap (λ p. get_or steps p 0) (let e : 6 * state ≡ 6 * state + 0 + 0 = omega arith in e) ∙ row_place state 0 false less (omega arith)
 
@@ -197,7 +197,7 @@ row_end e k is small =
     omega (arith, at, place, state, small)
 
 pub after_is : (e : ℕ) (moves less : Bool) → IsEntry e
-    → get_or steps (e % 2 ^ 16 + cond moves 1 0 + cond (moves && less) 1 0) 0 ≡ entry_of (cond moves (moved (context_of e) (cond less (not (context_of e).mps) (context_of e).mps)) (context_of e))
+    → get_or steps (e % 2 ^ 16 + cond moves 1 0 + cond (moves && less) 1 0) 0 ≡ context_number (cond moves (moved (context_of e) (cond less (not (context_of e).mps) (context_of e).mps)) (context_of e))
 after_is e moves less is =
     let k = cond moves 1 0 + cond (moves && less) 1 0 in
     let at : e % 2 ^ 16 + cond moves 1 0 + cond (moves && less) 1 0 ≡ e % 2 ^ 16 + k = omega arith in
@@ -209,7 +209,7 @@ after_end e moves less is =
     omega (arith, end)
 
 -- the place in the row, where `wide` is 0 or 1
-follow_is : (c : Context) (less : Bool) (wide : ℕ) → wide ≤ 1 → (less ≡ true → wide ≡ 0) → get_or (moves_of c) (1 + cond less 1 0 - wide) 0 ≡ entry_of (cond (wide == 0) (moved c (cond less (not c.mps) c.mps)) c)
+follow_is : (c : Context) (less : Bool) (wide : ℕ) → wide ≤ 1 → (less ≡ true → wide ≡ 0) → get_or (moves_of c) (1 + cond less 1 0 - wide) 0 ≡ context_number (cond (wide == 0) (moved c (cond less (not c.mps) c.mps)) c)
 follow_is c true zero digit narrow = refl
 follow_is c false zero digit narrow = refl
 follow_is c true (suc zero) digit narrow = absurd (let e = narrow refl in omega (arith, e))
@@ -228,7 +228,7 @@ follow_small true wide = omega arith
 follow_small false wide = omega arith
 
 pub followed_is : (e : ℕ) (less : Bool) (wide : ℕ) → IsEntry e → wide ≤ 1 → (less ≡ true → wide ≡ 0)
-    → get_or steps (e % 2 ^ 16 + 1 + cond less 1 0 - wide) 0 ≡ entry_of (cond (wide == 0) (moved (context_of e) (cond less (not (context_of e).mps) (context_of e).mps)) (context_of e))
+    → get_or steps (e % 2 ^ 16 + 1 + cond less 1 0 - wide) 0 ≡ context_number (cond (wide == 0) (moved (context_of e) (cond less (not (context_of e).mps) (context_of e).mps)) (context_of e))
 followed_is e less wide is digit narrow =
     let k = 1 + cond less 1 0 - wide in
     let at : e % 2 ^ 16 + 1 + cond less 1 0 - wide ≡ e % 2 ^ 16 + k = omega (arith, digit) in

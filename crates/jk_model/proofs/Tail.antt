@@ -2,7 +2,7 @@
 use Rattle.std.proofs.Common.{◌≡◌, ◌∙◌, ap, sym, subst, refl, ℕ, zero, suc, ◌+◌, ◌-◌, ◌*◌, ◌/◌, ◌%◌, ◌^◌, ◌<◌, ◌≤◌, inl, inr, Bool, true, false, not, cond, List, [], ◌∷◌, length, eqb, ltb, arith}
 use Rattle.std.proofs.lemmas.Bool.{cases_eq, and_from, and_left, and_right, eq-eqb, ne_eqb, lt-ltb, or_right}
 use Rattle.std.proofs.lemmas.Nat.{pow-add}
-use Rattle.jk_model.specs.Code.{byte_at, is_last, is_past, fed, places, start, wanted, share, shares, code_value}
+use Rattle.jk_model.specs.Code.{byte_at, is_last, is_past, fed, code_places, start, wanted, share, shares, code_value}
 use Rattle.jk_model.proofs.CodeValue.{is_last-is, is_past-suc, fed-is, places-is, start-suc, wanted-suc, share-in, shares-suc, code_value-upto}
 use Rattle.jk_model.specs.Placed.{placed_number, end, Clean, onto}
 use Rattle.jk_model.proofs.Join.{byte-onto, at-placed, shares-placed, wanted-placed}
@@ -14,13 +14,13 @@ same_both false a = refl
 ended-last : (b : List ℕ) (i : ℕ) → byte_at b i ≡ 255 → byte_at b (i + 1) ≡ 255 → is_last b i ≡ true
 ended-last b i h k = is_last-is b i ∙ and_from (eqb (byte_at b i) 255) (ltb 143 (byte_at b (i + 1))) (eq-eqb (byte_at b i) 255 h) (lt-ltb 143 (byte_at b (i + 1)) (omega arith))
 
-ended-places : (b : List ℕ) (i : ℕ) → byte_at b i ≡ 255 → byte_at b (i + 1) ≡ 255 → places b i ≡ 8
+ended-places : (b : List ℕ) (i : ℕ) → byte_at b i ≡ 255 → byte_at b (i + 1) ≡ 255 → code_places b i ≡ 8
 ended-places b i h k =
     let past : is_past b (suc i) ≡ true = is_past-suc b i ∙ or_right (is_past b i) (is_last b i) (ended-last b i h k) in
     places-is b i ∙ ap (λ t. cond t 7 8) (and_right (eqb (fed b i) 255) (not (is_past b (suc i))) (ap not past))
 
 -- the last placed byte is eight places long
-last-places : (b : List ℕ) (l x : ℕ) → byte_at b l ≡ x → fed b l ≡ x → byte_at b (l + 1) ≡ 255 → places b l ≡ 8
+last-places : (b : List ℕ) (l x : ℕ) → byte_at b l ≡ x → fed b l ≡ x → byte_at b (l + 1) ≡ 255 → code_places b l ≡ 8
 last-places b l x h f k =
     elim (cases_eq x 255) [
       | inl e ↦ ended-places b l (h ∙ e) k

@@ -22,13 +22,13 @@ fed bytes i = if is_past bytes i then 255 else byte_at bytes i
 
 -- How many places after byte i the next byte begins. After an FF it begins one place early, so that
 -- its top bit falls on the last bit of the FF (bit stuffing), unless the data have ended.
-unfoldable pub places : List ℕ → ℕ → ℕ
-places bytes i = if (fed bytes i == 255) && not (is_past bytes (suc i)) then 7 else 8
+unfoldable pub code_places : List ℕ → ℕ → ℕ
+code_places bytes i = if (fed bytes i == 255) && not (is_past bytes (suc i)) then 7 else 8
 
 -- the place of byte i's top bit, counted from that of the first byte
 unfoldable pub start : List ℕ → ℕ → ℕ
 start bytes zero = 0
-start bytes (suc i) = start bytes i + places bytes i
+start bytes (suc i) = start bytes i + code_places bytes i
 
 -- The place just after the byte before byte i. Byte i is wanted once the interval reaches there,
 -- the first byte always.

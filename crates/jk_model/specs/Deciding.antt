@@ -4,7 +4,7 @@ use Rattle.std.specs.Prelude.{◌≡◌, ℕ, ◌+◌, ◌-◌, ◌^◌, Bool, L
 use Rattle.std.specs.Bool.{beq}
 use Rattle.jk_model.specs.Code.{byte_at}
 use Rattle.jk_model.specs.Contexts.{moved}
-use Rattle.jk_model.specs.Decisions.{State, Decision, context_at, qe_at, is_exchanged, is_lower, renormalised, IsWithin}
+use Rattle.jk_model.specs.Decisions.{State, Decision, context_at, qe_at, is_exchanged, is_lower, renormalised, IsInInterval}
 
 -- the lower subinterval stands for the bit
 unfoldable pub takes_lower : State → ℕ → Bool → Bool
@@ -42,7 +42,7 @@ state_by s (d ∷ ds) = state_by (decided s d) ds
 abbrev pub Follows : List ℕ → State → List Decision → Type 0
 Follows bytes s [] = Unit {0}
 Follows bytes s (d ∷ ds) =
-    IsWithin bytes s × (is_lower bytes s d.0 ≡ takes_lower s d.0 d.1) × IsWithin bytes (decided s d)
+    IsInInterval bytes s × (is_lower bytes s d.0 ≡ takes_lower s d.0 d.1) × IsInInterval bytes (decided s d)
     × Follows bytes (decided s d) ds
 
 -- bytes that read alike: past the end of both stand bytes FF

@@ -23,8 +23,8 @@ abbrev pub Decision : Type 0
 Decision = ℕ × Bool
 
 -- the code value lies below the upper end of the interval
-abbrev pub IsWithin : List ℕ → State → Type 0
-IsWithin bytes s = code_value bytes s.doublings < 128 * (s.low + s.width)
+abbrev pub IsInInterval : List ℕ → State → Type 0
+IsInInterval bytes s = code_value bytes s.doublings < 128 * (s.low + s.width)
 
 abbrev pub is_within : List ℕ → State → Bool
 is_within bytes s = nat_lt (code_value bytes s.doublings) (128 * (s.low + s.width))
@@ -96,7 +96,7 @@ state_after bytes s (d ∷ ds) = state_after bytes (after bytes s d.0) ds
 abbrev pub SpellsFrom : List ℕ → State → List Decision → Type 0
 SpellsFrom bytes s [] = Unit {0}
 SpellsFrom bytes s (d ∷ ds) =
-    IsWithin bytes s × (bit_at bytes s d.0 ≡ d.1) × IsWithin bytes (after bytes s d.0)
+    IsInInterval bytes s × (bit_at bytes s d.0 ≡ d.1) × IsInInterval bytes (after bytes s d.0)
     × SpellsFrom bytes (after bytes s d.0) ds
 
 -- the bytes spell these decisions

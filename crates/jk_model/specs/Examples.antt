@@ -3,7 +3,7 @@
 -- the same.
 use Rattle.std.specs.Prelude.{◌≡◌, ℕ, zero, suc, true, false, List, [], ◌∷◌, map, length, refl}
 use Rattle.jk_model.specs.Contexts.{line, rows, row_of, moved, begins, first_contexts}
-use Rattle.jk_model.specs.Code.{is_last, is_past, fed, places, start, wanted, share, shares, code_value}
+use Rattle.jk_model.specs.Code.{is_last, is_past, fed, code_places, start, wanted, share, shares, code_value}
 use Rattle.jk_model.specs.Decisions.{State, initial, context_at, is_lower, is_exchanged, bit_at, divided, renormalised}
 use Rattle.jk_model.specs.Decisions.{contexts_after, after}
 use Rattle.jk_model.specs.Deciding.{takes_lower}
@@ -48,7 +48,7 @@ nineteen = refl
 
 -- Behind FF a byte up to 8F begins one place early; one above it ends the data, and ones are fed.
 stuffed : map (start (0xFF ∷ 0x8F ∷ 0x03 ∷ [])) (0 ∷ 1 ∷ 2 ∷ []) ≡ 0 ∷ 7 ∷ 15 ∷ []
-unfolding is_last is_past fed places start
+unfolding is_last is_past fed code_places start
 stuffed = refl
 
 ended : map (fed (0xFF ∷ 0x90 ∷ 0x03 ∷ [])) (0 ∷ 1 ∷ 2 ∷ 9 ∷ []) ≡ 0xFF ∷ 0xFF ∷ 0xFF ∷ 0xFF ∷ []
@@ -58,17 +58,17 @@ ended = refl
 -- The code value of 01 8F 0D: the first two bytes at the start, and the third from two doublings
 -- on.
 first_two : map (code_value (0x01 ∷ 0x8F ∷ 0x0D ∷ [])) (0 ∷ 1 ∷ 2 ∷ []) ≡ 0x63C0 ∷ 0xC780 ∷ 0x18F0D ∷ []
-unfolding is_last is_past fed places start wanted share shares code_value
+unfolding is_last is_past fed code_places start wanted share shares code_value
 first_two = refl
 
 -- and of FF 8F 03, where the second byte begins early and the third one is wanted one place early
 early : map (code_value (0xFF ∷ 0x8F ∷ 0x03 ∷ [])) (0 ∷ 1 ∷ []) ≡ 0x400780 ∷ 0x800F03 ∷ []
-unfolding is_last is_past fed places start wanted share shares code_value
+unfolding is_last is_past fed code_places start wanted share shares code_value
 early = refl
 
 -- no byte at all
 no_byte : map (code_value []) (0 ∷ 1 ∷ 2 ∷ []) ≡ 0x3FFFC0 ∷ 0x7FFF80 ∷ 0xFFFFFF ∷ []
-unfolding is_last is_past fed places start wanted share shares code_value
+unfolding is_last is_past fed code_places start wanted share shares code_value
 no_byte = refl
 
 -- The test sequence, all of whose decisions are in one context that begins in state 0. Its first
@@ -82,13 +82,13 @@ state_at (suc n) = after sequence (state_at n) 1
 
 first_byte : map (λ n. bit_at sequence (state_at n) 1) (0 ∷ 1 ∷ 2 ∷ 3 ∷ 4 ∷ 5 ∷ 6 ∷ 7 ∷ [])
     ≡ false ∷ false ∷ false ∷ false ∷ false ∷ false ∷ false ∷ false ∷ []
-unfolding is_last is_past fed places start wanted share shares code_value rows moved first_contexts is_lower
+unfolding is_last is_past fed code_places start wanted share shares code_value rows moved first_contexts is_lower
     is_exchanged bit_at divided renormalised contexts_after after
 first_byte = refl
 
 second_byte : map (λ n. bit_at sequence (state_at n) 1) (8 ∷ 9 ∷ 10 ∷ 11 ∷ 12 ∷ 13 ∷ 14 ∷ 15 ∷ [])
     ≡ false ∷ false ∷ false ∷ false ∷ false ∷ false ∷ true ∷ false ∷ []
-unfolding is_last is_past fed places start wanted share shares code_value rows moved first_contexts is_lower
+unfolding is_last is_past fed code_places start wanted share shares code_value rows moved first_contexts is_lower
     is_exchanged bit_at divided renormalised contexts_after after
 second_byte = refl
 
@@ -96,12 +96,12 @@ second_byte = refl
 -- subinterval is the greater one, that is taken for the more probable symbol.
 sizes : map (λ n. (state_at n).width) (0 ∷ 1 ∷ 2 ∷ 3 ∷ 4 ∷ 5 ∷ 6 ∷ 7 ∷ 8 ∷ [])
     ≡ 0x8000 ∷ 0xAC02 ∷ 0xF002 ∷ 0xD801 ∷ 0xC000 ∷ 0xA7FF ∷ 0x8FFE ∷ 0xEFFA ∷ 0xE539 ∷ []
-unfolding is_last is_past fed places start wanted share shares code_value rows moved first_contexts is_lower
+unfolding is_last is_past fed code_places start wanted share shares code_value rows moved first_contexts is_lower
     is_exchanged bit_at divided renormalised contexts_after after
 sizes = refl
 
 exchanged : map (λ n. is_exchanged (state_at n) 1) (0 ∷ 1 ∷ []) ≡ true ∷ false ∷ []
-unfolding is_last is_past fed places start wanted share shares code_value rows moved first_contexts is_lower
+unfolding is_last is_past fed code_places start wanted share shares code_value rows moved first_contexts is_lower
     is_exchanged bit_at divided renormalised contexts_after after
 exchanged = refl
 
@@ -109,14 +109,14 @@ exchanged = refl
 -- the bit 1, has moved it from state 3 to state 12
 behind : (state_at 16).low ∷ (state_at 16).width ∷ (state_at 16).doublings ∷ (context_at (state_at 16) 1).state ∷ []
     ≡ 0x20D151 ∷ 0x900F ∷ 7 ∷ 12 ∷ []
-unfolding is_last is_past fed places start wanted share shares code_value rows moved first_contexts is_lower
+unfolding is_last is_past fed code_places start wanted share shares code_value rows moved first_contexts is_lower
     is_exchanged bit_at divided renormalised contexts_after after
 behind = refl
 
 -- with no bytes, the bit 1 takes the upper subinterval at the first decision and the lower one at
 -- the second
 takes : takes_lower initial 1 true ∷ takes_lower (state_at 1) 1 true ∷ [] ≡ false ∷ true ∷ []
-unfolding takes_lower is_last is_past fed places start wanted share shares code_value rows moved first_contexts
+unfolding takes_lower is_last is_past fed code_places start wanted share shares code_value rows moved first_contexts
     is_lower is_exchanged bit_at divided renormalised contexts_after after
 takes = refl
 

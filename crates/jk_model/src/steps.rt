@@ -119,7 +119,7 @@ pub struct Step {
 impl Model for Step {
     ghost use Rattle.std.proofs.Common.{ap, sym};
     ghost use Rattle.jk_model.specs.Contexts.{Context};
-    ghost use Rattle.jk_model.specs.Steps.{context_of, entry_of, IsEntry};
+    ghost use Rattle.jk_model.specs.Steps.{context_of, context_number, IsEntry};
 
     ghost Value = { Context };
 
@@ -127,7 +127,7 @@ impl Model for Step {
 
     ghost invariant = { λ s. IsEntry s.entry };
 
-    ghost inverse = { λ c. record { entry = entry_of c } };
+    ghost inverse = { λ c. record { entry = context_number c } };
 
     ghost inverse_ok = { λ s is. ap (λ e. record { entry = e }) (sym is.same) };
 }

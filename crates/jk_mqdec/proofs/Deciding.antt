@@ -7,20 +7,20 @@ use Rattle.jk_math.specs.declared.fault.Fault.{Fault}
 use Rattle.jk_math.specs.declared.fault.Fault.TheVariants.{CodeOutOfInterval}
 use Rattle.jk_model.specs.Code.{code_value}
 use Rattle.jk_model.specs.Contexts.{Context, row_of, moved, begins}
-use Rattle.jk_model.specs.Decisions.{State, IsWithin, is_within, context_at, qe_at, is_lower, is_exchanged, bit_at, divided, renormalised, contexts_after, after, doubled}
+use Rattle.jk_model.specs.Decisions.{State, IsInInterval, is_within, context_at, qe_at, is_lower, is_exchanged, bit_at, divided, renormalised, contexts_after, after, doubled}
 use Rattle.jk_mqdec.specs.declared.wide.WideRegisters.{WideRegisters}
 use Rattle.jk_mqdec.specs.Registers.{IsOutside}
 use Rattle.jk_mqdec.specs.Wide.{IsHeld, HoldsWide, HasLeftWide, IsReadyWide}
-use Rattle.jk_mqdec.specs.Standing.{View, HasFailed, StandsWithin, Stands}
+use Rattle.jk_mqdec.specs.Standing.{DecoderView, HasFailed, StandsWithin, Stands}
 use Rattle.jk_mqdec.specs.Answers.{answer, next}
 use Rattle.jk_mqdec.proofs.Widening.{held-below, held-above}
 
 -- ---- within and outside
 
-pub within-holds : (b : List ℕ) (r : WideRegisters) (s : State) → r.code < r.width → HoldsWide b r s → IsWithin b s
+pub within-holds : (b : List ℕ) (r : WideRegisters) (s : State) → r.code < r.width → HoldsWide b r s → IsInInterval b s
 within-holds b r s k h = let w = h.width_is in held-below b r.code r.width r.count r.place s.width s h (omega (arith, k, w))
 
-is_within-true : (b : List ℕ) (s : State) → IsWithin b s → is_within b s ≡ true
+is_within-true : (b : List ℕ) (s : State) → IsInInterval b s → is_within b s ≡ true
 is_within-true b s h = lt-ltb (code_value b s.doublings) (128 * (s.low + s.width)) h
 
 is_within-false : (b : List ℕ) (s : State) → IsOutside b s → is_within b s ≡ false
@@ -33,16 +33,16 @@ unfolding answer
 answered b s cx x y e f =
     ap (λ (t : Bool). cond (t && is_within b (after b s cx)) (Ok (bit_at b s cx)) (Err CodeOutOfInterval)) e ∙ ap (λ (t : Bool). cond (x && t) (Ok (bit_at b s cx)) (Err CodeOutOfInterval)) f
 
-pub answer-ok : (b : List ℕ) (s : State) (cx : ℕ) → IsWithin b s → IsWithin b (after b s cx) → answer b s cx ≡ Ok (bit_at b s cx)
+pub answer-ok : (b : List ℕ) (s : State) (cx : ℕ) → IsInInterval b s → IsInInterval b (after b s cx) → answer b s cx ≡ Ok (bit_at b s cx)
 answer-ok b s cx h k = answered b s cx true true (is_within-true b s h) (is_within-true b (after b s cx) k)
 
-pub answer-left : (b : List ℕ) (s : State) (cx : ℕ) → IsWithin b s → IsOutside b (after b s cx) → answer b s cx ≡ Err CodeOutOfInterval
+pub answer-left : (b : List ℕ) (s : State) (cx : ℕ) → IsInInterval b s → IsOutside b (after b s cx) → answer b s cx ≡ Err CodeOutOfInterval
 answer-left b s cx h k = answered b s cx true false (is_within-true b s h) (is_within-false b (after b s cx) k)
 
 pub answer-failed : (b : List ℕ) (s : State) (cx : ℕ) → IsOutside b s → answer b s cx ≡ Err CodeOutOfInterval
 answer-failed b s cx h = answered b s cx false (is_within b (after b s cx)) (is_within-false b s h) refl
 
-pub next-within : (b : List ℕ) (s : State) (cx : ℕ) → IsWithin b s → next b s cx ≡ after b s cx
+pub next-within : (b : List ℕ) (s : State) (cx : ℕ) → IsInInterval b s → next b s cx ≡ after b s cx
 unfolding next
 next-within b s cx h = ap (λ (t : Bool). cond t (after b s cx) s) (is_within-true b s h)
 
@@ -52,22 +52,22 @@ next-failed b s cx h = ap (λ (t : Bool). cond t (after b s cx) s) (is_within-fa
 
 -- A decision of the decoder is that of the definition, from each state that the decoder may stand
 -- at.
-pub record Decides (old new : View) (cx : ℕ) (result : Result Bool Fault) : Type 0 where
+pub record Decides (old new : DecoderView) (cx : ℕ) (result : Result Bool Fault) : Type 0 where
   pub answers : (s : State) → Stands old s → result ≡ answer old.bytes s cx
   pub goes_on : (s : State) → Stands old s → Stands new (next old.bytes s cx)
 
 -- the registers tell which of the two it is
-pub is-outside : (d : View) (s : State) → HasFailed d → Stands d s → IsOutside d.bytes s
+pub is-outside : (d : DecoderView) (s : State) → HasFailed d → Stands d s → IsOutside d.bytes s
 is-outside d s failed (inl st) = let k = st.code in absurd (omega (arith, k, failed))
 is-outside d s failed (inr st) = st.outside
 
-is-within : (d : View) (s : State) → d.registers.code < d.registers.width → Stands d s → StandsWithin d s
+is-within : (d : DecoderView) (s : State) → d.registers.code < d.registers.width → Stands d s → StandsWithin d s
 is-within d s k (inl st) = st
 is-within d s k (inr st) = let failed = st.failed in absurd (omega (arith, k, failed))
 
 -- ---- the code value has left the interval before
 
-pub decides-failed : (d : View) (cx : ℕ) → HasFailed d → Decides d d cx (Err CodeOutOfInterval)
+pub decides-failed : (d : DecoderView) (cx : ℕ) → HasFailed d → Decides d d cx (Err CodeOutOfInterval)
 decides-failed d cx h = record {
   answers = λ s st. sym (answer-failed d.bytes s cx (is-outside d s h st));
   goes_on = λ s st. subst (λ t. Stands d t) (sym (next-failed d.bytes s cx (is-outside d s h st))) st;
@@ -202,16 +202,16 @@ exchanged-scaled w q =
 
 -- ---- the decoder after a decision
 
-stands-within : (old new : View) (t : State) → new.bytes ≡ old.bytes → new.registers.code < new.registers.width → HoldsWide old.bytes new.registers t → new.contexts ≡ t.contexts → Stands new t
+stands-within : (old new : DecoderView) (t : State) → new.bytes ≡ old.bytes → new.registers.code < new.registers.width → HoldsWide old.bytes new.registers t → new.contexts ≡ t.contexts → Stands new t
 stands-within old new t same k h contexts = inl (record { code = k; holds = rw same h; contexts = contexts })
 
-stands-outside : (old new : View) (t : State) → new.bytes ≡ old.bytes → HasFailed new → IsOutside old.bytes t → Stands new t
+stands-outside : (old new : DecoderView) (t : State) → new.bytes ≡ old.bytes → HasFailed new → IsOutside old.bytes t → Stands new t
 stands-outside old new t same k h = inr (record { failed = k; outside = rw same h })
 
 -- The registers subinterval hold the subinterval of s that the code value lies in, and the decision
 -- is still to be settled.
-pub record Divides (old : View) (subinterval : WideRegisters) (s : State) (cx : ℕ) (context : Context) (bit : Bool) : Type 0 where
-  pub within : IsWithin old.bytes s
+pub record Divides (old : DecoderView) (subinterval : WideRegisters) (s : State) (cx : ℕ) (context : Context) (bit : Bool) : Type 0 where
+  pub within : IsInInterval old.bytes s
   pub holds : HoldsWide old.bytes subinterval (divided old.bytes s cx)
   pub context_is : context ≡ context_at s cx
   pub contexts_are : old.contexts ≡ s.contexts
@@ -219,7 +219,7 @@ pub record Divides (old : View) (subinterval : WideRegisters) (s : State) (cx : 
 
 -- What the call does: the context moves where a renormalisation is due, and the subinterval is
 -- renormalised.
-pub record Settles (old new : View) (subinterval : WideRegisters) (cx : ℕ) (context : Context) (less : Bool) (result : Result Bool Fault) : Type 0 where
+pub record Settles (old new : DecoderView) (subinterval : WideRegisters) (cx : ℕ) (context : Context) (less : Bool) (result : Result Bool Fault) : Type 0 where
   pub bytes : new.bytes ≡ old.bytes
   pub contexts : new.contexts ≡ set old.contexts cx (cond (ltb subinterval.width (2 ^ 63)) (moved context (cond less (not context.mps) context.mps)) context)
   pub bit_is : IfOk result (λ b. b ≡ not (beq context.mps less))
@@ -228,7 +228,7 @@ pub record Settles (old new : View) (subinterval : WideRegisters) (cx : ℕ) (co
   pub left : OnErr result (HasLeftWide new.registers)
   pub holds : (s : State) → HoldsWide old.bytes subinterval s → MatchResult result (λ _. HoldsWide old.bytes new.registers (renormalised 15 s)) (λ _. IsOutside old.bytes (renormalised 15 s))
 
-settles-contexts : (old new : View) (subinterval : WideRegisters) (s : State) (cx : ℕ) (context : Context) (less : Bool) (r : Result Bool Fault) → Settles old new subinterval cx context less r → Divides old subinterval s cx context (not (beq context.mps less)) → new.contexts ≡ (after old.bytes s cx).contexts
+settles-contexts : (old new : DecoderView) (subinterval : WideRegisters) (s : State) (cx : ℕ) (context : Context) (less : Bool) (r : Result Bool Fault) → Settles old new subinterval cx context less r → Divides old subinterval s cx context (not (beq context.mps less)) → new.contexts ≡ (after old.bytes s cx).contexts
 settles-contexts old new subinterval s cx context less r h d =
     let b = old.bytes in
     let bit = not (beq context.mps less) in
@@ -250,7 +250,7 @@ settles-contexts old new subinterval s cx context less r h d =
           ∙ sym (contexts-after b s cx)
     ]
 
-settles-answers : (old new : View) (subinterval : WideRegisters) (s : State) (cx : ℕ) (context : Context) (less : Bool) (r : Result Bool Fault) → Settles old new subinterval cx context less r → Divides old subinterval s cx context (not (beq context.mps less)) → (r ≡ answer old.bytes s cx) × Stands new (next old.bytes s cx)
+settles-answers : (old new : DecoderView) (subinterval : WideRegisters) (s : State) (cx : ℕ) (context : Context) (less : Bool) (r : Result Bool Fault) → Settles old new subinterval cx context less r → Divides old subinterval s cx context (not (beq context.mps less)) → (r ≡ answer old.bytes s cx) × Stands new (next old.bytes s cx)
 settles-answers old new subinterval s cx context less (Ok x) h d =
     let b = old.bytes in
     let t = settling b s cx in
@@ -262,7 +262,7 @@ settles-answers old new subinterval s cx context less (Err e) h d =
     let there : IsOutside b (after b s cx) = subst (λ u. IsOutside b u) (sym (after-is b s cx)) (h.holds t (holds-contexts b subinterval (divided b s cx) (contexts_after b s cx) d.holds)) in
     (ap (λ (y : Fault). let z : Result Bool Fault = Err y in z) h.fault ∙ sym (answer-left b s cx d.within there), subst (λ u. Stands new u) (sym (next-within b s cx d.within)) (stands-outside old new (after b s cx) h.bytes h.left there))
 
-pub decides-settled : (old new : View) (subinterval : WideRegisters) (cx : ℕ) (context : Context) (less : Bool) (r : Result Bool Fault) → Settles old new subinterval cx context less r → ((s : State) → Stands old s → Divides old subinterval s cx context (not (beq context.mps less))) → Decides old new cx r
+pub decides-settled : (old new : DecoderView) (subinterval : WideRegisters) (cx : ℕ) (context : Context) (less : Bool) (r : Result Bool Fault) → Settles old new subinterval cx context less r → ((s : State) → Stands old s → Divides old subinterval s cx context (not (beq context.mps less))) → Decides old new cx r
 decides-settled old new subinterval cx context less r h divides = record {
   answers = λ s st. (settles-answers old new subinterval s cx context less r h (divides s st)).0;
   goes_on = λ s st. (settles-answers old new subinterval s cx context less r h (divides s st)).1;
@@ -270,7 +270,7 @@ decides-settled old new subinterval cx context less r h divides = record {
 
 -- ---- the subinterval that the code value lies in, as the call finds it
 
-pub divides : (old : View) (subinterval : WideRegisters) (cx : ℕ) (context : Context) (q : ℕ) (less : Bool) → old.registers.code < old.registers.width → context ≡ get_or old.contexts cx (begins 0) → q ≡ (row_of context.state).qe * 2 ^ 48
+pub divides : (old : DecoderView) (subinterval : WideRegisters) (cx : ℕ) (context : Context) (q : ℕ) (less : Bool) → old.registers.code < old.registers.width → context ≡ get_or old.contexts cx (begins 0) → q ≡ (row_of context.state).qe * 2 ^ 48
     → (old.registers.code < q → subinterval ≡ record old.registers { width = q }) → (q ≤ old.registers.code → subinterval ≡ record old.registers { code = old.registers.code - q; width = old.registers.width - q })
     → less ≡ not (beq (ltb old.registers.code q) (ltb (old.registers.width - q) q)) → (s : State) → Stands old s → Divides old subinterval s cx context (not (beq context.mps less))
 divides old subinterval cx context q less k context_is q_is low high less_is s st =

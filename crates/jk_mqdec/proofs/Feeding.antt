@@ -1,7 +1,7 @@
 -- The three cases of BYTEIN against the definition of the bytes that are fed.
 use Rattle.std.proofs.Common.{◌≡◌, ◌∙◌, ap, sym, subst, ℕ, zero, suc, ◌+◌, ◌-◌, ◌*◌, ◌^◌, ◌%◌, ◌<◌, ◌≤◌, inl, inr, Bool, true, false, not, cond, ◌&&◌, ◌||◌, List, eqb, ltb, refl, arith}
 use Rattle.std.proofs.lemmas.Bool.{cases_lt, and_parts, and_from, and_left, and_right, ne_eqb, eqb-true, ltb-true, lt-ltb, le-ltb, false≢true}
-use Rattle.jk_model.specs.Code.{byte_at, is_last, is_past, fed, places}
+use Rattle.jk_model.specs.Code.{byte_at, is_last, is_past, fed, code_places}
 use Rattle.jk_model.proofs.Laws.{is_past-suc, fed-is, places-is}
 use Rattle.jk_mqdec.specs.declared.registers.Registers.{Registers}
 use Rattle.jk_mqdec.specs.Registers.{IsAt, Feeds}
@@ -33,7 +33,7 @@ past-after b p (suc l) h k =
 -- what the byte after byte last is, how long byte last is, and where the next one is sought
 record Next (b : List ℕ) (last byte count place : ℕ) : Type 0 where
   byte_is : fed b (suc last) ≡ byte
-  count_is : places b last ≡ count
+  count_is : code_places b last ≡ count
   place_is : IsAt b place (suc last)
 
 -- the byte is read, where the data go on
@@ -48,7 +48,7 @@ read b p h k =
       },
     )
 
-long : (b : List ℕ) (l : ℕ) (t : Bool) → (eqb (fed b l) 255 && not (is_past b (suc l))) ≡ t → places b l ≡ cond t 7 8
+long : (b : List ℕ) (l : ℕ) (t : Bool) → (eqb (fed b l) 255 && not (is_past b (suc l))) ≡ t → code_places b l ≡ cond t 7 8
 long b l t h = places-is b l ∙ ap (λ x. cond x 7 8) h
 
 plain-here : (b : List ℕ) (p : ℕ) → is_past b p ≡ false → (byte_at b p ≡ 255 → ⊥) → Next b p (byte_at b (p + 1)) 8 (p + 1)
@@ -137,5 +137,5 @@ feeds-end b old new byte next e n h above code width count place last at =
     feeds b old new last 255 8 there (omega arith) width count
 
 -- the byte behind one that isn't FF
-pub plain-next : (b : List ℕ) (p l : ℕ) → IsAt b p l → byte_at b p < 255 → (fed b (suc l) ≡ byte_at b (p + 1)) × (places b l ≡ 8) × IsAt b (p + 1) (suc l)
+pub plain-next : (b : List ℕ) (p l : ℕ) → IsAt b p l → byte_at b p < 255 → (fed b (suc l) ≡ byte_at b (p + 1)) × (code_places b l ≡ 8) × IsAt b (p + 1) (suc l)
 plain-next b p l at k = let n = plain b p l at (λ e. omega (arith, e, k)) in (n.byte_is, n.count_is, n.place_is)

@@ -4,17 +4,17 @@ use Rattle.std.proofs.lemmas.Bool.{cases_lt}
 use Rattle.jk_math.specs.declared.fault.Fault.{Fault}
 use Rattle.jk_math.specs.declared.fault.Fault.TheVariants.{CodeOutOfInterval}
 use Rattle.jk_model.specs.Code.{code_value}
-use Rattle.jk_model.specs.Decisions.{State, Decision, initial, IsWithin, bit_at, after, state_after, SpellsFrom, Spells}
+use Rattle.jk_model.specs.Decisions.{State, Decision, initial, IsInInterval, bit_at, after, state_after, SpellsFrom, Spells}
 use Rattle.jk_model.proofs.Laws.{spells-join, spells-split, state_after-joined}
-use Rattle.jk_mqdec.specs.Standing.{View, Stands, Reached}
+use Rattle.jk_mqdec.specs.Standing.{DecoderView, Stands, Reached}
 use Rattle.jk_mqdec.specs.Answers.{answer}
 use Rattle.jk_mqdec.proofs.Deciding.{Decides, answer-ok, answer-left, answer-failed, next-within}
 
 -- the decision in a context has this bit at s
 record Gives (b : List ℕ) (s : State) (cx : ℕ) (bit : Bool) : Type 0 where
-  before : IsWithin b s
+  before : IsInInterval b s
   bit_is : bit_at b s cx ≡ bit
-  behind : IsWithin b (after b s cx)
+  behind : IsInInterval b (after b s cx)
 
 spells-more : (b : List ℕ) (s : State) (ds : List Decision) (cx : ℕ) (bit : Bool) → SpellsFrom b s ds → Gives b (state_after b s ds) cx bit → SpellsFrom b s (ds ++ (cx, bit) ∷ [])
 spells-more b s ds cx bit h g = spells-join b s ds ((cx, bit) ∷ []) h (g.before, g.bit_is, g.behind, tt)
@@ -41,7 +41,7 @@ gives-answer b s cx bit h =
       | inr outside ↦ absurd (no_bit bit (sym (answer-failed b s cx outside) ∙ h))
     ]
 
-reached-here : (old new : View) (done : List Decision) (cx : ℕ) (bit : Bool) → new.bytes ≡ old.bytes → Decides old new cx (Ok bit) → Reached old old.bytes done → Reached new old.bytes (done ++ (cx, bit) ∷ [])
+reached-here : (old new : DecoderView) (done : List Decision) (cx : ℕ) (bit : Bool) → new.bytes ≡ old.bytes → Decides old new cx (Ok bit) → Reached old old.bytes done → Reached new old.bytes (done ++ (cx, bit) ∷ [])
 reached-here old new done cx bit same h r =
     let b = old.bytes in
     let t = state_after b initial done in
@@ -52,18 +52,18 @@ reached-here old new done cx bit same h r =
       stands = subst (λ u. Stands new u) (next-within b t cx g.before ∙ sym (state_after-joined b initial done ((cx, bit) ∷ []))) (h.goes_on t r.stands);
     }
 
-pub reached-more : (old new : View) (cx : ℕ) (result : Result Bool Fault) → new.bytes ≡ old.bytes → Decides old new cx result → IfOk result (λ bit. (bytes : List ℕ) (done : List Decision) → Reached old bytes done → Reached new bytes (done ++ (cx, bit) ∷ []))
+pub reached-more : (old new : DecoderView) (cx : ℕ) (result : Result Bool Fault) → new.bytes ≡ old.bytes → Decides old new cx result → IfOk result (λ bit. (bytes : List ℕ) (done : List Decision) → Reached old bytes done → Reached new bytes (done ++ (cx, bit) ∷ []))
 reached-more old new cx (Ok bit) same h = λ bytes done r.
     subst (λ b. Reached old b done → Reached new b (done ++ (cx, bit) ∷ [])) r.bytes_are (reached-here old new done cx bit same h) r
 reached-more old new cx (Err e) same h = tt
 
-only-here : (old new : View) (done : List Decision) (cx : ℕ) (bit : Bool) (result : Result Bool Fault) → Decides old new cx result → Reached old old.bytes done → Spells old.bytes (done ++ (cx, bit) ∷ []) → result ≡ Ok bit
+only-here : (old new : DecoderView) (done : List Decision) (cx : ℕ) (bit : Bool) (result : Result Bool Fault) → Decides old new cx result → Reached old old.bytes done → Spells old.bytes (done ++ (cx, bit) ∷ []) → result ≡ Ok bit
 only-here old new done cx bit result h r spelled =
     let b = old.bytes in
     let t = state_after b initial done in
     let g = spells-last b initial done cx bit spelled in
     h.answers t r.stands ∙ answer-ok b t cx g.before g.behind ∙ ap (λ (y : Bool). let z : Result Bool Fault = Ok y in z) g.bit_is
 
-pub only-one : (old new : View) (cx : ℕ) (result : Result Bool Fault) → Decides old new cx result → (bytes : List ℕ) (done : List Decision) (bit : Bool) → Reached old bytes done → Spells bytes (done ++ (cx, bit) ∷ []) → result ≡ Ok bit
+pub only-one : (old new : DecoderView) (cx : ℕ) (result : Result Bool Fault) → Decides old new cx result → (bytes : List ℕ) (done : List Decision) (bit : Bool) → Reached old bytes done → Spells bytes (done ++ (cx, bit) ∷ []) → result ≡ Ok bit
 only-one old new cx result h bytes done bit r =
     subst (λ b. Reached old b done → Spells b (done ++ (cx, bit) ∷ []) → result ≡ Ok bit) r.bytes_are (only-here old new done cx bit result h) r

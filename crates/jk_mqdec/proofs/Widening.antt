@@ -5,12 +5,12 @@ use Rattle.std.proofs.Math.Nat.{mul-le-mul_right}
 use Rattle.std.proofs.Math.Pow.{pow_mono}
 use Rattle.std.proofs.lemmas.Nat.{pow-add}
 use Rattle.std.proofs.lemmas.Bool.{cases_lt}
-use Rattle.jk_model.specs.Code.{byte_at, fed, places, start, wanted, share, shares, code_value}
+use Rattle.jk_model.specs.Code.{byte_at, fed, code_places, start, wanted, share, shares, code_value}
 use Rattle.jk_model.specs.Decisions.{State, doubled, renormalised, doubled_by}
 use Rattle.jk_model.proofs.Laws.{places-ge, wanted-next, wanted-suc, wanted-zero, start-suc, share-in, shares-zero, shares-suc, code_value-upto, code_value-double, code_value-feed, code_value-grows}
 use Rattle.jk_mqdec.specs.declared.registers.Registers.{Registers}
 use Rattle.jk_mqdec.specs.declared.wide.WideRegisters.{WideRegisters}
-use Rattle.jk_mqdec.specs.Registers.{IsAt, Holds}
+use Rattle.jk_mqdec.specs.Registers.{IsAt, HoldsInterval}
 use Rattle.jk_mqdec.specs.Wide.{IsHeld, HoldsWide}
 use Rattle.jk_mqdec.proofs.Shifts.{shift_first, shift_less, shift_twice}
 use Rattle.jk_mqdec.proofs.Doubling.{renormalised-times}
@@ -127,7 +127,7 @@ wide-renormalised b r s n h few least most =
 
 -- ---- to the narrow registers, and from them
 
-narrow-of : (b : List ℕ) (code width place : ℕ) (r : Registers) (s : State) → IsHeld b code width 0 place s → r.code ≡ code / 2 ^ 32 → r.width ≡ width / 2 ^ 32 → r.count ≡ 0 → r.place ≡ place → Holds b r s
+narrow-of : (b : List ℕ) (code width place : ℕ) (r : Registers) (s : State) → IsHeld b code width 0 place s → r.code ≡ code / 2 ^ 32 → r.width ≡ width / 2 ^ 32 → r.count ≡ 0 → r.place ≡ place → HoldsInterval b r s
 narrow-of b code width place r s h code_is width_is count place_is =
     let value = ap (λ m. code_value b m) (let e : s.doublings + 0 ≡ s.doublings = omega arith in e) in
     let is = h.code_is in
@@ -143,13 +143,13 @@ narrow-of b code width place r s h code_is width_is count place_is =
       place = subst (λ p. IsAt b p h.last) (sym place_is) h.place_is;
     }
 
-pub wide-emptied : (b : List ℕ) (old : WideRegisters) (new : Registers) (s : State) → new.code ≡ old.code * 2 ^ old.count / 2 ^ 32 → new.width ≡ old.width * 2 ^ old.count / 2 ^ 32 → new.count ≡ 0 → new.place ≡ old.place → HoldsWide b old s → Holds b new (doubled_by old.count s)
+pub wide-emptied : (b : List ℕ) (old : WideRegisters) (new : Registers) (s : State) → new.code ≡ old.code * 2 ^ old.count / 2 ^ 32 → new.width ≡ old.width * 2 ^ old.count / 2 ^ 32 → new.count ≡ 0 → new.place ≡ old.place → HoldsWide b old s → HoldsInterval b new (doubled_by old.count s)
 wide-emptied b old new s code width count place h =
     let k : old.count ≡ old.count + 0 = omega arith in
     let all = held-shifted b old.count old.code old.width 0 old.place s (subst (λ x. IsHeld b old.code old.width x old.place s) k h) in
     narrow-of b (old.code * 2 ^ old.count) (old.width * 2 ^ old.count) old.place new (doubled_by old.count s) all code width count place
 
-held-widened : (b : List ℕ) (r : Registers) (s : State) → Holds b r s → IsHeld b (r.code * 2 ^ 32) (r.width * 2 ^ 32) r.count r.place s
+held-widened : (b : List ℕ) (r : Registers) (s : State) → HoldsInterval b r s → IsHeld b (r.code * 2 ^ 32) (r.width * 2 ^ 32) r.count r.place s
 held-widened b r s h =
     let n = s.doublings in
     let fed_last = h.fed_last in
@@ -173,7 +173,7 @@ held-widened b r s h =
       place_is = h.place;
     }
 
-pub wide-widened : (b : List ℕ) (old : Registers) (new : WideRegisters) (s : State) → new.code ≡ old.code * 2 ^ 32 → new.width ≡ old.width * 2 ^ 32 → new.count ≡ old.count → new.place ≡ old.place → Holds b old s → HoldsWide b new s
+pub wide-widened : (b : List ℕ) (old : Registers) (new : WideRegisters) (s : State) → new.code ≡ old.code * 2 ^ 32 → new.width ≡ old.width * 2 ^ 32 → new.count ≡ old.count → new.place ≡ old.place → HoldsInterval b old s → HoldsWide b new s
 wide-widened b old new s code width count place h =
     subst (λ x. IsHeld b x new.width new.count new.place s) (sym code)
     (subst (λ x. IsHeld b (old.code * 2 ^ 32) x new.count new.place s) (sym width)
@@ -234,7 +234,7 @@ value-whole b m last h k =
 
 -- what the code value is after eight doublings more, of which the first wants a byte of eight
 -- places
-value-ahead : (b : List ℕ) (m last byte : ℕ) → wanted b last ≤ m + 14 → wanted b (suc last) ≡ m + 15 → fed b (suc last) ≡ byte → places b last ≡ 8 → (i : ℕ) → i ≤ 7 → code_value b (m + 1 + i) ≡ (2 * code_value b m + byte) * 2 ^ i
+value-ahead : (b : List ℕ) (m last byte : ℕ) → wanted b last ≤ m + 14 → wanted b (suc last) ≡ m + 15 → fed b (suc last) ≡ byte → code_places b last ≡ 8 → (i : ℕ) → i ≤ 7 → code_value b (m + 1 + i) ≡ (2 * code_value b m + byte) * 2 ^ i
 value-ahead b m last byte h k is long i few =
     let next = wanted-next b last in
     let first = code_value-feed b m last h k in

@@ -1,6 +1,6 @@
 -- What the registers of the decoder hold of the definition's interval.
 use Rattle.std.specs.Prelude.{◌≡◌, ℕ, suc, ◌+◌, ◌-◌, ◌*◌, ◌^◌, ◌<◌, ◌≤◌, ◌⊎◌, true, false, List, length}
-use Rattle.jk_model.specs.Code.{is_last, is_past, fed, places, wanted, code_value}
+use Rattle.jk_model.specs.Code.{is_last, is_past, fed, code_places, wanted, code_value}
 use Rattle.jk_model.specs.Decisions.{State}
 use Rattle.jk_mqdec.specs.declared.registers.Registers.{Registers}
 
@@ -12,14 +12,14 @@ pub record IsAt (bytes : List ℕ) (place last : ℕ) : Type 0 where
 
 -- new is old with the byte after byte last fed into it
 pub record Feeds (bytes : List ℕ) (old new : Registers) (last : ℕ) : Type 0 where
-  pub code : new.code ≡ old.code + fed bytes (suc last) * 2 ^ (16 - places bytes last)
+  pub code : new.code ≡ old.code + fed bytes (suc last) * 2 ^ (16 - code_places bytes last)
   pub width : new.width ≡ old.width
-  pub count : new.count ≡ places bytes last
+  pub count : new.count ≡ code_places bytes last
   pub place : IsAt bytes new.place (suc last)
 
 -- The registers hold the interval of s, and the code value as it is then. Both are in the units of
 -- C, 2^16 for one of the interval.
-pub record Holds (bytes : List ℕ) (r : Registers) (s : State) : Type 0 where
+pub record HoldsInterval (bytes : List ℕ) (r : Registers) (s : State) : Type 0 where
   pub code : r.code + 2 ^ 16 * s.low ≡ 2 ^ 9 * code_value bytes s.doublings
   pub width : r.width ≡ s.width * 2 ^ 16
   pub last : ℕ

@@ -5,7 +5,7 @@ ghost use Rattle.std.specs.Prelude.{IfErr, OnOk, OnErr, MatchResult, Ok, Err};
 ghost use Rattle.jk_math.specs.declared.fault.Fault.TheVariants.{CodeOutOfInterval};
 ghost use Rattle.jk_model.specs.Decisions.{State, Decision, initial, Spells};
 ghost use Rattle.jk_model.specs.CodingPasses.{restarted};
-ghost use Rattle.jk_mqdec.specs.Standing.{View, Stands, HasFailed, Reached};
+ghost use Rattle.jk_mqdec.specs.Standing.{DecoderView, Stands, HasFailed, Reached};
 ghost use Rattle.jk_mqdec.specs.Answers.{answer, next};
 
 use crate::registers::loaded;
@@ -23,9 +23,9 @@ pub struct Decoder<'a> {
 }
 
 impl<'a> Model for Decoder<'a> {
-    ghost use Rattle.jk_mqdec.specs.Standing.{View, IsSound};
+    ghost use Rattle.jk_mqdec.specs.Standing.{DecoderView, IsSound};
 
-    ghost Value = { View };
+    ghost Value = { DecoderView };
 
     ghost view = { λ d. record { bytes = d.bytes.now; registers = d.registers; contexts = d.contexts } };
 

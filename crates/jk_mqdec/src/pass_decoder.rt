@@ -6,7 +6,7 @@ ghost use Rattle.jk_math.specs.declared.fault.Fault.TheVariants.{CodeOutOfInterv
 ghost use Rattle.jk_model.specs.Contexts.{first_contexts as start};
 ghost use Rattle.jk_model.specs.Decisions.{State, initial};
 ghost use Rattle.jk_model.specs.CodingPasses.{restarted};
-ghost use Rattle.jk_mqdec.specs.Standing.{View, Stands, HasFailed};
+ghost use Rattle.jk_mqdec.specs.Standing.{DecoderView, Stands, HasFailed};
 ghost use Rattle.jk_mqdec.specs.Answers.{answer, next};
 
 use crate::deferred::{DeferredRegisters, caught_up, deferred, left};
@@ -24,10 +24,10 @@ pub struct PassDecoder<'a> {
 }
 
 impl<'a> Model for PassDecoder<'a> {
-    ghost use Rattle.jk_mqdec.specs.Standing.{View};
+    ghost use Rattle.jk_mqdec.specs.Standing.{DecoderView};
     ghost use Rattle.jk_mqdec.specs.Deferred.{caught_up, IsSteadyDeferred};
 
-    ghost Value = { View };
+    ghost Value = { DecoderView };
 
     ghost view = { λ d. record {
       bytes = d.bytes.now;

@@ -3,7 +3,7 @@
 ghost use Rattle.std.specs.Prelude.{◌≡◌, ℕ, suc, ◌+◌, ◌*◌, ◌^◌, ◌<◌, ◌≤◌, length, IfSome, MatchOption};
 ghost use Rattle.jk_model.specs.Code.{byte_at};
 ghost use Rattle.jk_model.specs.Decisions.{State, initial, doubled, doubled_by};
-ghost use Rattle.jk_mqdec.specs.Registers.{IsAt, Feeds, Holds, Supplied, IsOutside, CanDouble, IsReady};
+ghost use Rattle.jk_mqdec.specs.Registers.{IsAt, Feeds, HoldsInterval, Supplied, IsOutside, CanDouble, IsReady};
 
 /// The registers C, A and CT of T.800 C.3.1, and the place of the byte that was fed last, BP.
 #[derive(Clone, Copy)]
@@ -80,7 +80,7 @@ fn supplied(bytes: &[u8], old: Registers) -> Option<Registers>
     ensures least_count { IfSome result (λ r. 7 ≤ r.count) }
     ensures largest_count { IfSome result (λ r. r.count ≤ 8) }
     ensures place { IfSome result (λ r. r.place ≤ length bytes.now) }
-    ensures holds { (s : State) → Holds bytes.now old s
+    ensures holds { (s : State) → HoldsInterval bytes.now old s
         → MatchOption result (IsOutside bytes.now (doubled s)) (λ r. Supplied bytes.now r s) }
 {
     let new = fed(bytes, old);
@@ -121,8 +121,8 @@ pub fn fed_through(bytes: &[u8], old: Registers, times: u32) -> Option<Registers
     requires least { 2 ^ 31 ≤ old.width * 2 ^ times }
     requires width { old.width * 2 ^ times < 2 ^ 32 }
     ensures ready { IfSome result (IsReady bytes.now) }
-    ensures holds { (s : State) → Holds bytes.now old s
-        → MatchOption result (IsOutside bytes.now (doubled_by times s)) (λ r. Holds bytes.now r (doubled_by times s)) }
+    ensures holds { (s : State) → HoldsInterval bytes.now old s
+        → MatchOption result (IsOutside bytes.now (doubled_by times s)) (λ r. HoldsInterval bytes.now r (doubled_by times s)) }
 {
     let mut left = times - old.count;
     let mut now = shifted(old, old.count);
@@ -140,7 +140,7 @@ pub fn loaded(bytes: &[u8]) -> Registers
     ensures width { result.width ≡ 2 ^ 31 }
     ensures count { result.count < 8 }
     ensures place { result.place ≤ length bytes.now }
-    ensures holds { Holds bytes.now result initial }
+    ensures holds { HoldsInterval bytes.now result initial }
 {
     let first = Registers {
         code: byte(bytes, 0) << 16,

@@ -6,7 +6,7 @@ ghost use Rattle.std.specs.Prelude.{MatchOption};
 ghost use Rattle.std.specs.Bool.{beq};
 ghost use Rattle.jk_model.specs.Code.{byte_at};
 ghost use Rattle.jk_model.specs.Decisions.{State, initial, renormalised, doubled_by};
-ghost use Rattle.jk_mqdec.specs.Registers.{Holds, IsOutside};
+ghost use Rattle.jk_mqdec.specs.Registers.{HoldsInterval, IsOutside};
 ghost use Rattle.jk_mqdec.specs.Wide.{HoldsWide, HasLeftWide, IsReadyWide, IsSteadyWide};
 
 use crate::registers::{Registers, byte, fed_through, loaded};
@@ -47,7 +47,7 @@ pub fn widened(old: Registers) -> WideRegisters
     ensures width { result.width ≡ old.width * 2 ^ 32 }
     ensures count { result.count ≡ old.count }
     ensures place { result.place ≡ old.place }
-    ensures holds { (bytes : List ℕ) (s : State) → Holds bytes old s → HoldsWide bytes result s }
+    ensures holds { (bytes : List ℕ) (s : State) → HoldsInterval bytes old s → HoldsWide bytes result s }
 {
     WideRegisters {
         code: (old.code as u64) << 32,
@@ -67,7 +67,7 @@ fn emptied(old: WideRegisters) -> Registers
     ensures width { result.width ≡ old.width * 2 ^ old.count / 2 ^ 32 }
     ensures count { result.count ≡ 0 }
     ensures place { result.place ≡ old.place }
-    ensures holds { (bytes : List ℕ) (s : State) → HoldsWide bytes old s → Holds bytes result (doubled_by old.count s) }
+    ensures holds { (bytes : List ℕ) (s : State) → HoldsWide bytes old s → HoldsInterval bytes result (doubled_by old.count s) }
 {
     let code = old.code << old.count;
     let width = old.width << old.count;

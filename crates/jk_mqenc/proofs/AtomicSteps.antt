@@ -4,7 +4,7 @@ use Rattle.std.proofs.Math.Nat.{pow-succ'}
 use Rattle.std.proofs.lemmas.Bool.{cases_eq, cases_lt, eq-eqb, ne_eqb, lt-ltb, le-ltb}
 use Rattle.std.proofs.lemmas.Nat.{mul-le, pow_pos}
 use Rattle.jk_model.specs.Decisions.{State, doubled, renormalised, doubled_by}
-use Rattle.jk_mqenc.specs.Machine.{Machine, byte_out, Holds}
+use Rattle.jk_mqenc.specs.Machine.{Machine, byte_out, HoldsInterval}
 use Rattle.jk_mqenc.specs.Leads.{Leads}
 use Rattle.jk_mqenc.specs.Coding.{shifted, twice, renorme, shifted_by}
 use Rattle.jk_model.proofs.Laws.{after_ff, plain, follows}
@@ -13,34 +13,34 @@ use Rattle.jk_mqenc.proofs.ByteOut.{settled, byte_out-holds}
 use Rattle.jk_mqenc.proofs.Ending.{ends-byte_out}
 use Rattle.jk_mqenc.proofs.Since.{since-narrow, since-double, since-byte_out}
 
-pub leads-self : (m : Machine) (s : State) → Holds m s → Leads m s m s
+pub leads-self : (m : Machine) (s : State) → HoldsInterval m s → Leads m s m s
 leads-self m s h = record { holds = h; since = λ t k. k; ends = λ w e k. k }
 
 pub leads-then : (m n o : Machine) (s u v : State) → Leads m s n u → Leads n u o v → Leads m s o v
 leads-then m n o s u v h k = record { holds = k.holds; since = λ t i. k.since t (h.since t i); ends = λ w e i. k.ends w e (h.ends w e i) }
 
-pub leads-narrow : (m : Machine) (s : State) (x a : ℕ) → 1 ≤ a → x + a ≤ m.width → Holds m s → Leads m s (record m { code = m.code + x; width = a }) (record s { low = s.low + x; width = a })
+pub leads-narrow : (m : Machine) (s : State) (x a : ℕ) → 1 ≤ a → x + a ≤ m.width → HoldsInterval m s → Leads m s (record m { code = m.code + x; width = a }) (record s { low = s.low + x; width = a })
 leads-narrow m s x a h k i = record {
   holds = narrow m s x a h k i;
   since = λ t j. since-narrow t m s x a (omega (arith, i.width)) j;
   ends = λ w e j. j;
 }
 
-pub leads-shifted : (m : Machine) (s : State) → 1 ≤ m.count → m.width < 2 ^ 15 → Holds m s → Leads m s (shifted m) (doubled s)
+pub leads-shifted : (m : Machine) (s : State) → 1 ≤ m.count → m.width < 2 ^ 15 → HoldsInterval m s → Leads m s (shifted m) (doubled s)
 leads-shifted m s h k i = record {
   holds = double m s (m.count - 1) (omega arith) k i;
   since = λ t j. since-double t m s (m.count - 1) j;
   ends = λ w e j. j;
 }
 
-pub leads-byte_out : (m : Machine) (s : State) → m.count ≡ 0 → Holds m s → Leads m s (byte_out m) s
+pub leads-byte_out : (m : Machine) (s : State) → m.count ≡ 0 → HoldsInterval m s → Leads m s (byte_out m) s
 leads-byte_out m s z i = record {
   holds = byte_out-holds m s z i;
   since = λ t j. since-byte_out t m s z i j;
   ends = λ w e j. ends-byte_out w e m s z i j;
 }
 
-pub byte_out-count : (m : Machine) (s : State) → m.count ≡ 0 → Holds m s → 7 ≤ (byte_out m).count
+pub byte_out-count : (m : Machine) (s : State) → m.count ≡ 0 → HoldsInterval m s → 7 ≤ (byte_out m).count
 byte_out-count m s z i =
     let r = settled m s z i in
     subst (λ (k : Machine). 7 ≤ k.count) (sym r.is) (elim (follows r.bytes) [ after_ff g t ↦ omega arith | plain g t ↦ omega arith ])
@@ -54,7 +54,7 @@ pub record Goes (m : Machine) (s : State) (n : Machine) (u : State) : Type 0 whe
   pub leads : Leads m s n u
   pub count : 1 ≤ n.count
 
-pub goes-twice : (m : Machine) (s : State) → 1 ≤ m.count → m.width < 2 ^ 15 → Holds m s → Goes m s (twice m) (doubled s)
+pub goes-twice : (m : Machine) (s : State) → 1 ≤ m.count → m.width < 2 ^ 15 → HoldsInterval m s → Goes m s (twice m) (doubled s)
 goes-twice m s h k i =
     let first = leads-shifted m s h k i in
     elim (cases_eq m.count 1) [
@@ -88,7 +88,7 @@ pub renormalised-zero : (s : State) → renormalised 0 s ≡ s
 unfolding renormalised
 renormalised-zero s = refl
 
-pub goes-renorme : (k : ℕ) (m : Machine) (s : State) → 1 ≤ m.count → Holds m s → Goes m s (renorme k m) (renormalised k s)
+pub goes-renorme : (k : ℕ) (m : Machine) (s : State) → 1 ≤ m.count → HoldsInterval m s → Goes m s (renorme k m) (renormalised k s)
 goes-renorme zero m s h i =
     subst (λ (u : State). Goes m s (renorme 0 m) u) (sym (renormalised-zero s)) (subst (λ (o : Machine). Goes m s o s) (sym (renorme-zero m)) (record { leads = leads-self m s i; count = h }))
 goes-renorme (suc k) m s h i =
@@ -115,7 +115,7 @@ below-half a p h l =
     let k = mul-le (2 * a) 1 (2 * a) p (omega arith) (omega arith) in
     omega (arith, k)
 
-pub leads-shifts : (k : ℕ) (m : Machine) (s : State) → k ≤ m.count → m.width * 2 ^ k < 2 ^ 16 → Holds m s → Leads m s (shifted_by k m) (doubled_by k s)
+pub leads-shifts : (k : ℕ) (m : Machine) (s : State) → k ≤ m.count → m.width * 2 ^ k < 2 ^ 16 → HoldsInterval m s → Leads m s (shifted_by k m) (doubled_by k s)
 leads-shifts zero m s h l i = leads-self m s i
 leads-shifts (suc k) m s h l i =
     let p : m.width * 2 ^ suc k ≡ 2 * m.width * 2 ^ k = ap (λ x. m.width * x) (pow-succ' 2 k) ∙ grind arith in

@@ -4,7 +4,7 @@ use Rattle.std.proofs.lemmas.Bool.{cases_eq, cases_lt, eq-eqb, ne_eqb, lt-ltb, l
 use Rattle.std.proofs.lemmas.Nat.{div-add-mod', mod_below}
 use Rattle.jk_model.specs.Decisions.{State}
 use Rattle.jk_model.specs.Placed.{gap, top, placed_number, end, Clean}
-use Rattle.jk_mqenc.specs.Machine.{Machine, unit, with_byte, byte_out, HasRoom, Holds}
+use Rattle.jk_mqenc.specs.Machine.{Machine, unit, with_byte, byte_out, HasRoom, HoldsInterval}
 use Rattle.jk_model.proofs.Laws.{top-ff, after_ff, plain, follows}
 use Rattle.jk_mqenc.proofs.Machine.{unit-zero, unit-seven, unit-eight}
 
@@ -28,7 +28,7 @@ pub record Due (bs : List ℕ) (d w : ℕ) (s : State) : Type 0 where
 abbrev placing : List ℕ → ℕ → ℕ → ℕ → Machine
 placing bs d w g = record { code = d % unit g; width = w; count = g; placed = (d / unit g) ∷ bs }
 
-with_byte-after_ff : (bs : List ℕ) (d w : ℕ) (s : State) → gap bs ≡ 7 → top bs ≡ 143 → Due bs d w s → Holds (placing bs d w 7) s
+with_byte-after_ff : (bs : List ℕ) (d w : ℕ) (s : State) → gap bs ≡ 7 → top bs ≡ 143 → Due bs d w s → HoldsInterval (placing bs d w 7) s
 with_byte-after_ff bs d w s g t i =
     let x = d / unit 7 in
     let h = halves d (unit 7) 1048576 unit-seven (omega arith) in
@@ -49,7 +49,7 @@ with_byte-after_ff bs d w s g t i =
       clean = (omega (arith, sum, bound, i.positive, t), i.clean);
     }
 
-with_byte-plain : (bs : List ℕ) (d w : ℕ) (s : State) → gap bs ≡ 8 → top bs ≡ 255 → Due bs d w s → Holds (placing bs d w 8) s
+with_byte-plain : (bs : List ℕ) (d w : ℕ) (s : State) → gap bs ≡ 8 → top bs ≡ 255 → Due bs d w s → HoldsInterval (placing bs d w 8) s
 with_byte-plain bs d w s g t i =
     let x = d / unit 8 in
     let h = halves d (unit 8) 524288 unit-eight (omega arith) in
@@ -69,17 +69,17 @@ with_byte-plain bs d w s g t i =
       clean = (omega (arith, sum, bound, t), i.clean);
     }
 
-pub with_byte-holds : (bs : List ℕ) (d w : ℕ) (s : State) → Due bs d w s → Holds (with_byte bs d w) s
+pub with_byte-holds : (bs : List ℕ) (d w : ℕ) (s : State) → Due bs d w s → HoldsInterval (with_byte bs d w) s
 with_byte-holds bs d w s i =
     elim (follows bs) [
-      | after_ff g t ↦ subst (λ k. Holds (placing bs d w k) s) (sym g) (with_byte-after_ff bs d w s g t i)
-      | plain g t ↦ subst (λ k. Holds (placing bs d w k) s) (sym g) (with_byte-plain bs d w s g t i)
+      | after_ff g t ↦ subst (λ k. HoldsInterval (placing bs d w k) s) (sym g) (with_byte-after_ff bs d w s g t i)
+      | plain g t ↦ subst (λ k. HoldsInterval (placing bs d w k) s) (sym g) (with_byte-plain bs d w s g t i)
     ]
 
 -- ---- what is due at CT = 0
 
 -- the same bytes, with no carry
-due-same : (m : Machine) (s : State) → m.count ≡ 0 → (top m.placed ≡ 255 → m.code < 134217728) → Holds m s → Due m.placed m.code m.width s
+due-same : (m : Machine) (s : State) → m.count ≡ 0 → (top m.placed ≡ 255 → m.code < 134217728) → HoldsInterval m s → Due m.placed m.code m.width s
 due-same m s z p i =
     let u : unit m.count ≡ 134217728 = ap (λ c. unit c) z ∙ unit-zero in
     let weight : placed_number m.placed * unit m.count ≡ placed_number m.placed * 134217728 = ap (λ v. placed_number m.placed * v) u in
@@ -106,7 +106,7 @@ carry-fits b o u x e h n l r =
     ]
 
 -- after a carry nothing more than 2^24 is left
-due-carry : (b : ℕ) (o : List ℕ) (d w : ℕ) (s : State) → (b ≡ 255 → ⊥) → 134217728 ≤ d → Holds (record { code = d; width = w; count = 0; placed = b ∷ o }) s → Due (suc b ∷ o) (d - 134217728) w s
+due-carry : (b : ℕ) (o : List ℕ) (d w : ℕ) (s : State) → (b ≡ 255 → ⊥) → 134217728 ≤ d → HoldsInterval (record { code = d; width = w; count = 0; placed = b ∷ o }) s → Due (suc b ∷ o) (d - 134217728) w s
 due-carry b o d w s n c i =
     let weight : placed_number (b ∷ o) * unit 0 ≡ placed_number (b ∷ o) * 134217728 = ap (λ v. placed_number (b ∷ o) * v) unit-zero in
     let fits = carry-fits b o (unit 0) (d + w) unit-zero (omega (arith, i.positive)) n i.clean.0 i.above in
@@ -145,7 +145,7 @@ byte_out-cons b o d w = refl
 abbrev at_zero : List ℕ → ℕ → ℕ → Machine
 at_zero bs d w = record { code = d; width = w; count = 0; placed = bs }
 
-settled-zero : (bs : List ℕ) (d w : ℕ) (s : State) → Holds (at_zero bs d w) s → Settled (at_zero bs d w) s
+settled-zero : (bs : List ℕ) (d w : ℕ) (s : State) → HoldsInterval (at_zero bs d w) s → Settled (at_zero bs d w) s
 settled-zero [] d w s i = record {
   bytes = [];
   rest = d;
@@ -182,13 +182,13 @@ settled-zero (b ∷ o) d w s i =
       ]
     ]
 
-pub settled : (m : Machine) (s : State) → m.count ≡ 0 → Holds m s → Settled m s
+pub settled : (m : Machine) (s : State) → m.count ≡ 0 → HoldsInterval m s → Settled m s
 settled m s z i =
     let e : m ≡ at_zero m.placed m.code m.width = ap (λ (c : ℕ). record m { count = c }) z in
-    subst (λ (k : Machine). Settled k s) (sym e) (settled-zero m.placed m.code m.width s (subst (λ (k : Machine). Holds k s) e i))
+    subst (λ (k : Machine). Settled k s) (sym e) (settled-zero m.placed m.code m.width s (subst (λ (k : Machine). HoldsInterval k s) e i))
 
 -- E4
-pub byte_out-holds : (m : Machine) (s : State) → m.count ≡ 0 → Holds m s → Holds (byte_out m) s
+pub byte_out-holds : (m : Machine) (s : State) → m.count ≡ 0 → HoldsInterval m s → HoldsInterval (byte_out m) s
 byte_out-holds m s z i =
     let t = settled m s z i in
-    subst (λ (k : Machine). Holds k s) (sym t.is) (with_byte-holds t.bytes t.rest m.width s t.due)
+    subst (λ (k : Machine). HoldsInterval k s) (sym t.is) (with_byte-holds t.bytes t.rest m.width s t.due)

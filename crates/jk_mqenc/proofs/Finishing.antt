@@ -2,7 +2,7 @@
 use Rattle.std.proofs.Common.{◌≡◌, ◌∙◌, ap, sym, subst, ℕ, zero, suc, ◌+◌, ◌-◌, ◌*◌, ◌%◌, ◌^◌, ◌<◌, ◌≤◌, List, [], arith}
 use Rattle.std.proofs.Math.Nat.{pow-succ'}
 use Rattle.std.proofs.lemmas.Nat.{pow-add, mul-le}
-use Rattle.jk_mqenc.specs.Machine.{Machine, unit, byte_out, Holds}
+use Rattle.jk_mqenc.specs.Machine.{Machine, unit, byte_out, HoldsInterval}
 use Rattle.jk_model.specs.Decisions.{doubled_by}
 use Rattle.jk_mqenc.specs.Coding.{shifted, shifted_by, set_bits, pushed_out}
 use Rattle.jk_mqenc.proofs.Machine.{unit-is}
@@ -33,13 +33,13 @@ held-set m w h =
     let set = set_bits-set m.code m.width w in
     let e : m.code + (c - m.code) ≡ c = omega (arith, set.least) in
     let i = (leads-narrow m h.0 (c - m.code) 1 (omega arith) (omega (arith, set.least, set.below)) h.1).holds in
-    (record h.0 { low = h.0.low + (c - m.code); width = 1 }, subst (λ x. Holds (record m { code = x; width = 1 }) (record h.0 { low = h.0.low + (c - m.code); width = 1 })) e i)
+    (record h.0 { low = h.0.low + (c - m.code); width = 1 }, subst (λ x. HoldsInterval (record m { code = x; width = 1 }) (record h.0 { low = h.0.low + (c - m.code); width = 1 })) e i)
 
 pub held-least : (m : Machine) → IsHeld m → IsHeld (record m { width = 1 })
 held-least m h =
     let e : m.code + 0 ≡ m.code = omega arith in
     let i = (leads-narrow m h.0 0 1 (omega arith) (omega (arith, h.1.positive)) h.1).holds in
-    (record h.0 { low = h.0.low + 0; width = 1 }, subst (λ x. Holds (record m { code = x; width = 1 }) (record h.0 { low = h.0.low + 0; width = 1 })) e i)
+    (record h.0 { low = h.0.low + 0; width = 1 }, subst (λ x. HoldsInterval (record m { code = x; width = 1 }) (record h.0 { low = h.0.low + 0; width = 1 })) e i)
 
 held-shifts : (m : Machine) → m.width ≡ 1 → IsHeld m → IsHeld (shifted_by m.count m)
 held-shifts m w h =

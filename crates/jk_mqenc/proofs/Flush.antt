@@ -4,7 +4,7 @@ use Rattle.std.proofs.lemmas.Bool.{cases_lt, le-leb, lt-leb}
 use Rattle.std.proofs.lemmas.Nat.{pow-add, mod_below, pow_below}
 use Rattle.jk_model.specs.Decisions.{State, doubled_by}
 use Rattle.jk_model.specs.Placed.{gap, placed_number, end}
-use Rattle.jk_mqenc.specs.Machine.{Machine, unit, byte_out, Holds}
+use Rattle.jk_mqenc.specs.Machine.{Machine, unit, byte_out, HoldsInterval}
 use Rattle.jk_mqenc.specs.Leads.{Leads}
 use Rattle.jk_mqenc.specs.Coding.{set_bits, shifted_by, pushed_out, flushed}
 use Rattle.jk_model.proofs.Laws.{after_ff, plain, follows}
@@ -49,7 +49,7 @@ pub record Pushed (n : Machine) (u : State) : Type 0 where
   pub clock : u.doublings ≡ 12 + end before
   pub code : n.code < unit n.count
 
-pushed-here : (m : Machine) (s : State) → m.count ≡ 0 → Holds m s → Pushed (byte_out m) s
+pushed-here : (m : Machine) (s : State) → m.count ≡ 0 → HoldsInterval m s → Pushed (byte_out m) s
 pushed-here m s z i =
     let r = settled m s z i in
     subst (λ (n : Machine). Pushed n s) (sym r.is) (record {
@@ -79,7 +79,7 @@ pub record Pushes (m : Machine) (s : State) (n : Machine) (u : State) : Type 0 w
 pub power-small : (k : ℕ) → k ≤ 12 → 1 * 2 ^ k < 65536
 power-small k h = omega (arith, pow_below k 16 (omega arith))
 
-pub pushes : (m : Machine) (s : State) (c : ℕ) → m.code ≤ c → c < m.code + m.width → Holds m s → Pushes m s (pushed_out (record m { code = c })) (pushed_to m s c)
+pub pushes : (m : Machine) (s : State) (c : ℕ) → m.code ≤ c → c < m.code + m.width → HoldsInterval m s → Pushes m s (pushed_out (record m { code = c })) (pushed_to m s c)
 pushes m s c h k i =
     let e : m.code + (c - m.code) ≡ c = omega arith in
     let small = record m { code = c; width = 1 } in
@@ -132,7 +132,7 @@ gap-ge bs = elim (follows bs) [ after_ff g t ↦ omega arith | plain g t ↦ ome
 together : (a p q r c n : ℕ) → c + 1 ≡ a * 32768 → n ≡ p * (q * 32768) → c + n + 1 ≡ (a + p * q) * 32768
 together a p q r c n h k = omega (arith, h, k, regrouped p q)
 
-pub closes : (m : Machine) (s : State) → 1 ≤ m.count → 32768 ≤ m.width → Holds m s → Closes m s (flushed m)
+pub closes : (m : Machine) (s : State) → 1 ≤ m.count → 32768 ≤ m.width → HoldsInterval m s → Closes m s (flushed m)
 closes m s h w i =
     let c = set_bits m.code m.width in
     let set = set_bits-set m.code m.width w in

@@ -4,7 +4,7 @@ use Rattle.std.proofs.lemmas.Bool.{ne_eqb}
 use Rattle.std.proofs.lemmas.Nat.{pow_below}
 use Rattle.std.proofs.lemmas.List.{reverse-append}
 use Rattle.jk_model.specs.Decisions.{State}
-use Rattle.jk_mqenc.specs.Machine.{Machine, Holds, HasRoom, unit, byte_out, placed_after}
+use Rattle.jk_mqenc.specs.Machine.{Machine, HoldsInterval, HasRoom, unit, byte_out, placed_after}
 use Rattle.jk_mqenc.specs.Holding.{placed_of, IsBegun, before}
 use Rattle.jk_mqenc.specs.Coding.{shifted, twice}
 use Rattle.jk_mqenc.proofs.Machine.{unit-is, unit-zero}
@@ -38,7 +38,7 @@ placed-more items new bs held out code byte c n v p e w =
 -- ---- doublings
 
 abbrev pub IsHeld : Machine → Type 0
-IsHeld m = (s : State) × Holds m s
+IsHeld m = (s : State) × HoldsInterval m s
 
 pub held-bound : (m : Machine) → IsHeld m → m.code + m.width < 2 ^ 29
 held-bound m h =

@@ -5,7 +5,7 @@ use Rattle.std.proofs.Math.Pow.{pow_mono}
 use Rattle.std.proofs.lemmas.Bool.{cases_eq, cases_lt, eq-eqb, ne_eqb, lt-ltb}
 use Rattle.std.proofs.lemmas.Nat.{pow-add, mul-le, pow_pos}
 use Rattle.jk_model.specs.Decisions.{State, doubled_by}
-use Rattle.jk_mqenc.specs.Machine.{Machine, byte_out, Holds}
+use Rattle.jk_mqenc.specs.Machine.{Machine, byte_out, HoldsInterval}
 use Rattle.jk_mqenc.specs.Coding.{shifted, shifted_by, twice, renorme}
 use Rattle.jk_mqenc.proofs.Holdings.{IsHeld, twice-more}
 use Rattle.jk_mqenc.proofs.Finishing.{shifted_by-is, code-small}
@@ -64,7 +64,7 @@ renorme-leapt (suc k) l (suc n) m e h w =
     let rest = renorme-leapt k l n (shifted m) (omega arith) (omega arith) (omega (arith, p)) in
     renorme-suc n m ∙ ap (λ (t : Bool). cond t (renorme n (twice m)) m) (lt-ltb m.width 32768 small) ∙ ap (λ (x : Machine). renorme n x) (twice-more m many) ∙ rest ∙ ap (λ (x : Machine). renorme l x) (leapt-next (suc k) m)
 
-goes-leapt : (k : ℕ) (m : Machine) (s : State) → k ≤ m.count → m.width * 2 ^ k < 65536 → Holds m s → Goes m s (leapt k m) (doubled_by k s)
+goes-leapt : (k : ℕ) (m : Machine) (s : State) → k ≤ m.count → m.width * 2 ^ k < 65536 → HoldsInterval m s → Goes m s (leapt k m) (doubled_by k s)
 goes-leapt k m s h w i =
     let first = leads-shifts k m s h w i in
     let n = shifted_by k m in
@@ -81,7 +81,7 @@ goes-leapt k m s h w i =
           subst (λ (x : Machine). Goes m s x u) (sym (leapt-more k m o)) (record { leads = first; count = some })
     ]
 
-leapt-width : (k : ℕ) (m : Machine) (s : State) → k ≤ m.count → m.width * 2 ^ k < 65536 → Holds m s → (leapt k m).width ≡ m.width * 2 ^ k
+leapt-width : (k : ℕ) (m : Machine) (s : State) → k ≤ m.count → m.width * 2 ^ k < 65536 → HoldsInterval m s → (leapt k m).width ≡ m.width * 2 ^ k
 leapt-width k m s h w i =
     let g = goes-leapt k m s h w i in
     let f = leads-shifts k m s h w i in

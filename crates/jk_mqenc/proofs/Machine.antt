@@ -3,7 +3,7 @@ use Rattle.std.proofs.Common.{◌≡◌, ◌∙◌, ap, sym, ℕ, suc, ◌+◌, 
 use Rattle.std.proofs.Math.Nat.{pow-succ'}
 use Rattle.jk_model.specs.Decisions.{State, initial, doubled}
 use Rattle.jk_model.specs.Placed.{placed_number}
-use Rattle.jk_mqenc.specs.Machine.{Machine, unit, HasRoom, Holds}
+use Rattle.jk_mqenc.specs.Machine.{Machine, unit, HasRoom, HoldsInterval}
 
 -- ---- the unit
 
@@ -33,7 +33,7 @@ started = record { code = 0; width = 2 ^ 15; count = 12; placed = [] }
 unit-twelve : unit 12 ≡ 32768
 unit-twelve = unit-is 12
 
-pub holds-started : Holds started initial
+pub holds-started : HoldsInterval started initial
 holds-started = record {
   low = omega arith;
   clock = omega arith;
@@ -52,7 +52,7 @@ room-less : (bs : List ℕ) (u x y : ℕ) → y ≤ x → HasRoom bs u x → Has
 room-less [] u x y h r = omega arith
 room-less (b ∷ o) u x y h r = λ t. let k = r t in omega arith
 
-pub narrow : (m : Machine) (s : State) (x a : ℕ) → 1 ≤ a → x + a ≤ m.width → Holds m s → Holds (record m { code = m.code + x; width = a }) (record s { low = s.low + x; width = a })
+pub narrow : (m : Machine) (s : State) (x a : ℕ) → 1 ≤ a → x + a ≤ m.width → HoldsInterval m s → HoldsInterval (record m { code = m.code + x; width = a }) (record s { low = s.low + x; width = a })
 narrow m s x a h k i = record {
   low = omega (arith, i.low);
   clock = i.clock;
@@ -74,7 +74,7 @@ room-twice : (bs : List ℕ) (u v x y : ℕ) → v ≡ 2 * u → y ≡ 2 * x →
 room-twice [] u v x y h k r = omega arith
 room-twice (b ∷ o) u v x y h k r = λ t. omega (arith, r t, twice b u v h)
 
-pub double : (m : Machine) (s : State) (c : ℕ) → m.count ≡ c + 1 → m.width < 2 ^ 15 → Holds m s → Holds (record m { code = 2 * m.code; width = 2 * m.width; count = c }) (doubled s)
+pub double : (m : Machine) (s : State) (c : ℕ) → m.count ≡ c + 1 → m.width < 2 ^ 15 → HoldsInterval m s → HoldsInterval (record m { code = 2 * m.code; width = 2 * m.width; count = c }) (doubled s)
 double m s c h k i =
     let u : unit c ≡ 2 * unit m.count = unit-double c (omega (arith, i.count)) ∙ ap (λ x. 2 * unit x) (sym h) in
     record {

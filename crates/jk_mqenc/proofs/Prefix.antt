@@ -8,7 +8,7 @@ use Rattle.jk_model.specs.CodingPasses.{state_by_passes, SpellsPassesFrom}
 use Rattle.jk_model.proofs.Laws.{value-alike}
 use Rattle.jk_model.specs.Placed.{end, Clean, onto}
 use Rattle.jk_model.specs.Deciding.{Alike}
-use Rattle.jk_mqenc.specs.Machine.{Machine, Holds}
+use Rattle.jk_mqenc.specs.Machine.{Machine, HoldsInterval}
 use Rattle.jk_mqenc.specs.Coding.{flushed}
 use Rattle.jk_mqenc.specs.Deciding.{machine_by_passes, Closed, Between}
 use Rattle.jk_mqenc.proofs.Ending.{ends-last, end-of_more}
@@ -40,7 +40,7 @@ closed-same a b t e c = record { least = omega (arith, c.least); below = omega (
 
 -- Four bytes more than were placed after the first decisions spell these, whatever was coded after
 -- them.
-pub spelled-part : (r : Bool) (m : Machine) (s : State) (dss rest : List (List Decision)) (z : ℕ) (b : List ℕ) → Holds m s → Between m s
+pub spelled-part : (r : Bool) (m : Machine) (s : State) (dss rest : List (List Decision)) (z : ℕ) (b : List ℕ) → HoldsInterval m s → Between m s
     → let f = (flushed (machine_by_passes r (machine_by_passes r m s dss) (state_by_passes r s dss) rest)).placed in
     length (machine_by_passes r m s dss).placed + 4 ≤ z → z ≤ length f → Alike b (onto (drop (length f - z) f) []) → SpellsPassesFrom r b s dss
 spelled-part r m s dss rest z b i w h k same =
@@ -60,7 +60,7 @@ spelled-part r m s dss rest z b i w h k same =
     closed-same (bytes_of (flushed m2)) b t (value-alike b part same t.doublings ∙ value-part f (length f - z) t.doublings c.leads.holds.clean decided) whole)
 
 -- The finished bytes, or bytes that read alike, spell all passes.
-pub spelled-all : (r : Bool) (m : Machine) (s : State) (dss : List (List Decision)) (b : List ℕ) → Holds m s → Between m s → Alike b (bytes_of (flushed (machine_by_passes r m s dss))) → SpellsPassesFrom r b s dss
+pub spelled-all : (r : Bool) (m : Machine) (s : State) (dss : List (List Decision)) (b : List ℕ) → HoldsInterval m s → Between m s → Alike b (bytes_of (flushed (machine_by_passes r m s dss))) → SpellsPassesFrom r b s dss
 spelled-all r m s dss b i w same =
     let by = leads_by_passes r m s dss i w in
     let n = machine_by_passes r m s dss in

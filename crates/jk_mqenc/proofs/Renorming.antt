@@ -2,7 +2,7 @@
 use Rattle.std.proofs.Common.{◌≡◌, ◌∙◌, ap, sym, refl, ℕ, zero, suc, ◌*◌, ◌^◌, ◌≤◌, Bool, cond, arith}
 use Rattle.std.proofs.lemmas.Bool.{le-ltb}
 use Rattle.jk_model.specs.Decisions.{State}
-use Rattle.jk_mqenc.specs.Machine.{Machine, Holds}
+use Rattle.jk_mqenc.specs.Machine.{Machine, HoldsInterval}
 use Rattle.jk_mqenc.specs.Coding.{twice, renorme}
 use Rattle.jk_mqenc.proofs.AtomicSteps.{renorme-suc, renorme-zero}
 
@@ -13,9 +13,9 @@ pub record Comes (now first : Machine) : Type 0 where
   pub enough : 32768 ≤ now.width * 2 ^ left
   pub count : 1 ≤ now.count
   pub at : State
-  pub holds : Holds now at
+  pub holds : HoldsInterval now at
 
-pub comes-first : (m : Machine) → 1 ≤ m.count → (s : State) × Holds m s → Comes m m
+pub comes-first : (m : Machine) → 1 ≤ m.count → (s : State) × HoldsInterval m s → Comes m m
 comes-first m h i = record { left = 15; same = refl; enough = omega (arith, i.1.positive); count = h; at = i.0; holds = i.1 }
 
 renorme-wide : (k : ℕ) (m : Machine) → 32768 ≤ m.width → renorme k m ≡ m

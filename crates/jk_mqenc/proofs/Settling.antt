@@ -4,7 +4,7 @@ use Rattle.std.proofs.Math.Pow.{pow_mono}
 use Rattle.jk_mqenc.specs.declared.registers.Registers.{Registers}
 use Rattle.jk_mqenc.specs.Machine.{Machine}
 use Rattle.jk_mqenc.specs.Coding.{renorme, subinterval}
-use Rattle.jk_mqenc.specs.Encoded.{View, HasCoded, with_registers}
+use Rattle.jk_mqenc.specs.Encoded.{EncoderView, HasCoded, with_registers}
 use Rattle.jk_mqenc.specs.Deferred.{IsDoubled}
 use Rattle.jk_mqenc.proofs.Machine.{unit-is}
 use Rattle.jk_mqenc.proofs.Holdings.{IsHeld}
@@ -80,5 +80,5 @@ ready-renormed m n same some held =
     let there = g.leads.holds.width in
     subst (λ (x : Machine). IsReady x) (sym same) (ready-held (renorme 15 m) (_, g.leads.holds) g.count (omega (arith, wide, there)))
 
-pub ready-coded : (e : View) → HasCoded e → e.failed ≡ false → IsReady e.machine
+pub ready-coded : (e : EncoderView) → HasCoded e → e.failed ≡ false → IsReady e.machine
 ready-coded e h l = ready-held e.machine (held-of e h l) (count-of e h l) (wide-of e h l)

@@ -6,7 +6,7 @@ use Rattle.std.proofs.lemmas.Nat.{pow-add, pow_pos, mul-le, mod_below}
 use Rattle.jk_model.specs.Code.{code_value}
 use Rattle.jk_model.specs.Decisions.{State, doubled}
 use Rattle.jk_model.specs.Placed.{gap, placed_number, end, Clean, onto}
-use Rattle.jk_mqenc.specs.Machine.{Machine, unit, with_byte, byte_out, Holds}
+use Rattle.jk_mqenc.specs.Machine.{Machine, unit, with_byte, byte_out, HoldsInterval}
 use Rattle.jk_mqenc.specs.Since.{Since}
 use Rattle.jk_model.proofs.Laws.{after_ff, plain, follows}
 use Rattle.jk_mqenc.proofs.Machine.{unit-is}
@@ -15,7 +15,7 @@ use Rattle.jk_model.proofs.Laws.{value-decided, value-kept}
 
 -- ---- S1, S2, S3
 
-pub since-now : (m : Machine) (s : State) → Holds m s → Since s m s
+pub since-now : (m : Machine) (s : State) → HoldsInterval m s → Since s m s
 since-now m s i = record {
   more = 0;
   clock = omega arith;
@@ -115,7 +115,7 @@ unit-positive g = subst (λ x. 0 < x) (sym (unit-is g)) (pow_pos (27 - g))
 
 -- ---- a byte is with_byte
 
-with_byte-kept : (t s : State) (m : Machine) (z : m.count ≡ 0) (i : Holds m s) (r : Settled m s) → Since t m s → t.doublings + 15 ≤ end (with_byte r.bytes r.rest m.width).placed → 128 * t.low ≤ code_value (onto (with_byte r.bytes r.rest m.width).placed []) t.doublings
+with_byte-kept : (t s : State) (m : Machine) (z : m.count ≡ 0) (i : HoldsInterval m s) (r : Settled m s) → Since t m s → t.doublings + 15 ≤ end (with_byte r.bytes r.rest m.width).placed → 128 * t.low ≤ code_value (onto (with_byte r.bytes r.rest m.width).placed []) t.doublings
 with_byte-kept t s m z i r since h =
     let next = with_byte-holds r.bytes r.rest m.width s r.due in
     let u = unit (gap r.bytes) in
@@ -129,7 +129,7 @@ with_byte-kept t s m z i r since h =
       | inr l ↦ decided-now t s r.bytes x (r.rest % u) (gap r.bytes) since.more next.clean l h since.clock since.low next.low (mod_below r.rest u (unit-positive (gap r.bytes))) (gap-le r.bytes) next.clock
     ]
 
-pub since-byte_out : (t : State) (m : Machine) (s : State) → m.count ≡ 0 → Holds m s → Since t m s → Since t (byte_out m) s
+pub since-byte_out : (t : State) (m : Machine) (s : State) → m.count ≡ 0 → HoldsInterval m s → Since t m s → Since t (byte_out m) s
 since-byte_out t m s z i since =
     let r = settled m s z i in
     subst (λ (k : Machine). Since t k s) (sym r.is) (record {

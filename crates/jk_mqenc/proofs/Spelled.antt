@@ -7,11 +7,11 @@ use Rattle.std.proofs.lemmas.Bool.{cases_lt, cases_eq, lt-ltb, le-ltb, ltb-true,
 use Rattle.std.proofs.lemmas.List.{get_or-set_same, get_or-set_other, set_past}
 use Rattle.jk_model.specs.Code.{code_value}
 use Rattle.jk_model.specs.Contexts.{Context, begins, moved, row_of, first_contexts}
-use Rattle.jk_model.specs.Decisions.{State, Decision, initial, context_at, qe_at, is_lower, doubled, renormalised, IsWithin, SpellsFrom}
+use Rattle.jk_model.specs.Decisions.{State, Decision, initial, context_at, qe_at, is_lower, doubled, renormalised, IsInInterval, SpellsFrom}
 use Rattle.jk_model.specs.Deciding.{takes_lower, taken, contexts_taken, made, decided, state_by}
 use Rattle.jk_model.specs.CodingPasses.{begun_by, state_by_passes, SpellsPassesFrom}
 use Rattle.jk_model.proofs.Laws.{row-sound, bit-taken, after-decided, state_after-by}
-use Rattle.jk_mqenc.specs.Machine.{Machine, Holds}
+use Rattle.jk_mqenc.specs.Machine.{Machine, HoldsInterval}
 use Rattle.jk_mqenc.specs.Since.{Since}
 use Rattle.jk_mqenc.specs.Leads.{Leads}
 use Rattle.jk_mqenc.specs.Coding.{subinterval, renorme, flushed}
@@ -23,7 +23,7 @@ use Rattle.jk_mqenc.proofs.Closing.{bytes_of, closed-above, closed-below}
 
 -- ---- one decision
 
-pub holds-contexts : (m : Machine) (s : State) (c : List Context) → Holds m s → Holds m (record s { contexts = c })
+pub holds-contexts : (m : Machine) (s : State) (c : List Context) → HoldsInterval m s → HoldsInterval m (record s { contexts = c })
 holds-contexts m s c h = record {
   low = h.low;
   clock = h.clock;
@@ -62,19 +62,19 @@ pub taken-upper : (s : State) (cx : ℕ) → taken s cx false ≡ record s { low
 unfolding taken
 taken-upper s cx = refl
 
-pub leads-lower : (m : Machine) (s : State) (q : ℕ) → 1 ≤ q → q ≤ m.width → Holds m s → Leads m s (record m { width = q }) (record s { width = q })
+pub leads-lower : (m : Machine) (s : State) (q : ℕ) → 1 ≤ q → q ≤ m.width → HoldsInterval m s → Leads m s (record m { width = q }) (record s { width = q })
 leads-lower m s q h k i =
     let e : m.code + 0 ≡ m.code = omega arith in
     let f : s.low + 0 ≡ s.low = omega arith in
     let l = leads-narrow m s 0 q h (omega arith) i in
     subst (λ x. Leads m s (record m { width = q }) (record s { low = x; width = q })) f (subst (λ x. Leads m s (record m { code = x; width = q }) (record s { low = s.low + 0; width = q })) e l)
 
-pub leads-upper : (m : Machine) (s : State) (q : ℕ) → q < m.width → Holds m s → Leads m s (record m { code = m.code + q; width = m.width - q }) (record s { low = s.low + q; width = s.width - q })
+pub leads-upper : (m : Machine) (s : State) (q : ℕ) → q < m.width → HoldsInterval m s → Leads m s (record m { code = m.code + q; width = m.width - q }) (record s { low = s.low + q; width = s.width - q })
 leads-upper m s q h i =
     let e : m.width - q ≡ s.width - q = ap (λ x. x - q) i.width in
     subst (λ x. Leads m s (record m { code = m.code + q; width = m.width - q }) (record s { low = s.low + q; width = x })) e (leads-narrow m s q (m.width - q) (omega arith) (omega arith) i)
 
-leads-subinterval : (m : Machine) (s : State) (cx : ℕ) (lower : Bool) → 1 ≤ qe_at s cx → qe_at s cx < m.width → Holds m s → Leads m s (subinterval m (qe_at s cx) lower) (taken s cx lower)
+leads-subinterval : (m : Machine) (s : State) (cx : ℕ) (lower : Bool) → 1 ≤ qe_at s cx → qe_at s cx < m.width → HoldsInterval m s → Leads m s (subinterval m (qe_at s cx) lower) (taken s cx lower)
 leads-subinterval m s cx true h k i =
     subst (λ (n : Machine). Leads m s n (taken s cx true)) (sym (subinterval-lower m (qe_at s cx))) (subst (λ (u : State). Leads m s (record m { width = qe_at s cx }) u) (sym (taken-lower s cx)) (leads-lower m s (qe_at s cx) h (omega arith) i))
 leads-subinterval m s cx false h k i =
@@ -154,7 +154,7 @@ made-states : (s : State) (cx : ℕ) (lower bit : Bool) → ((i : ℕ) → (cont
 made-states s cx lower bit h i =
     subst (λ (xs : List Context). (get_or xs i (begins 0)).state < 47) (sym (made-contexts s cx lower bit)) (either-state (ltb (taken s cx lower).width 32768) (set s.contexts cx (moved (context_at s cx) bit)) s.contexts i (set-state s.contexts cx i (moved (context_at s cx) bit) (moved-state (context_at s cx) bit (h cx)) (h i)) (h i))
 
-steps : (m : Machine) (s : State) (d : Decision) → Holds m s → Between m s → Steps m s d
+steps : (m : Machine) (s : State) (d : Decision) → HoldsInterval m s → Between m s → Steps m s d
 steps m s d i b =
     let cx = d.0 in
     let lower = takes_lower s cx d.1 in
@@ -184,7 +184,7 @@ pub record LeadsBy (m : Machine) (s : State) (ds : List Decision) : Type 0 where
   pub leads : Leads m s (machine_by m s ds) (state_by s ds)
   pub between : Between (machine_by m s ds) (state_by s ds)
 
-pub leads_by : (m : Machine) (s : State) (ds : List Decision) → Holds m s → Between m s → LeadsBy m s ds
+pub leads_by : (m : Machine) (s : State) (ds : List Decision) → HoldsInterval m s → Between m s → LeadsBy m s ds
 leads_by m s [] i b = record { leads = leads-self m s i; between = b }
 leads_by m s (d ∷ ds) i b =
     let first = steps m s d i b in
@@ -210,7 +210,7 @@ side b s cx false c =
     is_lower-is b s cx ∙ le-ltb (code_value b s.doublings) (128 * (s.low + qe_at s cx)) k.least
 
 -- Bytes that lie within each interval that the registers remember spell the decisions.
-pub spelled : (b : List ℕ) (m : Machine) (s : State) (ds : List Decision) → Holds m s → Between m s → ((t : State) → Since t (machine_by m s ds) (state_by s ds) → Closed b t) → SpellsFrom b s ds
+pub spelled : (b : List ℕ) (m : Machine) (s : State) (ds : List Decision) → HoldsInterval m s → Between m s → ((t : State) → Since t (machine_by m s ds) (state_by s ds) → Closed b t) → SpellsFrom b s ds
 spelled b m s [] i w c = tt
 spelled b m s (d ∷ ds) i w c =
     let first = steps m s d i w in
@@ -226,12 +226,12 @@ spelled b m s (d ∷ ds) i w c =
     let same = after-decided b s d.0 d.1 lower in (
       here.below,
       bit-taken b s d.0 d.1 lower,
-      subst (λ (u : State). IsWithin b u) (sym same) next.below,
+      subst (λ (u : State). IsInInterval b u) (sym same) next.below,
       subst (λ (u : State). SpellsFrom b u ds) (sym same) (spelled b n2 s2 ds first.doubles.holds first.between c),
     )
 
 -- the finished bytes
-pub closed-flushed : (m : Machine) (s : State) → Holds m s → Between m s → (t : State) → Since t m s → Closed (bytes_of (flushed m)) t
+pub closed-flushed : (m : Machine) (s : State) → HoldsInterval m s → Between m s → (t : State) → Since t m s → Closed (bytes_of (flushed m)) t
 closed-flushed m s i b t since =
     let c = closes m s b.count (omega (arith, b.wide, i.width)) i in
     record { least = closed-below t m s (flushed m) c since; below = closed-above t m s (flushed m) c since }
@@ -252,7 +252,7 @@ pub first-states : (i : ℕ) → (context_at initial i).state < 47
 unfolding first_contexts
 first-states i = states-in first_contexts i refl
 
-pub begins-by : (r : Bool) (m : Machine) (s : State) → Holds m s → Between m s → Begins r m s
+pub begins-by : (r : Bool) (m : Machine) (s : State) → HoldsInterval m s → Between m s → Begins r m s
 begins-by true m s i b = record {
   leads = leads-contexts m s m s first_contexts (leads-self m s i);
   between = record { count = b.count; wide = b.wide; states = first-states };
@@ -263,7 +263,7 @@ pub record LeadsByPasses (r : Bool) (m : Machine) (s : State) (dss : List (List 
   pub leads : Leads m s (machine_by_passes r m s dss) (state_by_passes r s dss)
   pub between : Between (machine_by_passes r m s dss) (state_by_passes r s dss)
 
-pub leads_by_passes : (r : Bool) (m : Machine) (s : State) (dss : List (List Decision)) → Holds m s → Between m s → LeadsByPasses r m s dss
+pub leads_by_passes : (r : Bool) (m : Machine) (s : State) (dss : List (List Decision)) → HoldsInterval m s → Between m s → LeadsByPasses r m s dss
 leads_by_passes r m s [] i b = record { leads = leads-self m s i; between = b }
 leads_by_passes r m s (ds ∷ dss) i b =
     let n = begun_by r s in
@@ -278,7 +278,7 @@ leads_by_passes r m s (ds ∷ dss) i b =
     }
 
 -- Bytes that lie within each interval that the registers remember spell the passes.
-pub spelled-passes : (r : Bool) (b : List ℕ) (m : Machine) (s : State) (dss : List (List Decision)) → Holds m s → Between m s
+pub spelled-passes : (r : Bool) (b : List ℕ) (m : Machine) (s : State) (dss : List (List Decision)) → HoldsInterval m s → Between m s
     → ((t : State) → Since t (machine_by_passes r m s dss) (state_by_passes r s dss) → Closed b t) → SpellsPassesFrom r b s dss
 spelled-passes r b m s [] i w c = tt
 spelled-passes r b m s (ds ∷ dss) i w c =

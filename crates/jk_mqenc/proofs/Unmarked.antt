@@ -5,7 +5,7 @@ use Rattle.jk_model.specs.Code.{byte_at, is_last, is_past}
 use Rattle.jk_model.specs.Decisions.{State, Decision, initial}
 use Rattle.jk_model.specs.CodingPasses.{state_by_passes}
 use Rattle.jk_model.proofs.Laws.{is_last-is, is_past-suc}
-use Rattle.jk_mqenc.specs.Machine.{Machine, Holds}
+use Rattle.jk_mqenc.specs.Machine.{Machine, HoldsInterval}
 use Rattle.jk_model.specs.Placed.{end, Clean, onto}
 use Rattle.jk_mqenc.specs.Coding.{flushed}
 use Rattle.jk_mqenc.specs.Deciding.{machine_by_passes, Between}
@@ -70,7 +70,7 @@ without-unmarked [] c i h = absurd (omega arith)
 without-unmarked (b ∷ o) c i h = either-unmarked b o c i h
 
 -- No byte above 8F follows an FF, and the last byte isn't FF.
-pub flushed-unmarked : (m : Machine) (s : State) → Holds m s → Between m s → (i : ℕ) → let b = onto (without_last_ff (flushed m).placed) [] in i < length b → is_last b i ≡ false
+pub flushed-unmarked : (m : Machine) (s : State) → HoldsInterval m s → Between m s → (i : ℕ) → let b = onto (without_last_ff (flushed m).placed) [] in i < length b → is_last b i ≡ false
 flushed-unmarked m s holds between i h =
     let f = (flushed m).placed in
     let c = closes m s between.count (omega (arith, between.wide, holds.width)) holds in

@@ -6,12 +6,12 @@ use Rattle.jk_model.specs.Deciding.{state_by}
 use Rattle.jk_model.specs.CodingPasses.{state_by_passes}
 use Rattle.jk_model.specs.Placed.{onto}
 use Rattle.jk_mqenc.specs.declared.registers.Registers.{Registers}
-use Rattle.jk_mqenc.specs.Machine.{Machine, Holds}
+use Rattle.jk_mqenc.specs.Machine.{Machine, HoldsInterval}
 use Rattle.jk_mqenc.specs.Coding.{flushed}
 use Rattle.jk_mqenc.specs.Deciding.{machine_by, machine_by_passes, Between}
 
 -- the registers and the contexts, and whether memory was refused
-pub record View : Type 0 where
+pub record EncoderView : Type 0 where
   pub machine : Machine
   pub contexts : List Context
   pub failed : Bool
@@ -21,7 +21,7 @@ abbrev pub with_registers : Machine → Registers → Machine
 with_registers m r = record m { code = r.code; width = r.width; count = r.count }
 
 -- registers and contexts where no memory was refused
-abbrev pub lasting : Machine → List Context → View
+abbrev pub lasting : Machine → List Context → EncoderView
 lasting m contexts = record { machine = m; contexts = contexts; failed = false }
 
 -- INITENC
@@ -30,25 +30,25 @@ started = record { code = 0; width = 2 ^ 15; count = 12; placed = [] }
 
 -- From registers that hold an interval the encoder has coded these decisions, and no memory was
 -- refused.
-pub record CodesFrom (m : Machine) (s : State) (e : View) (ds : List Decision) : Type 0 where
-  pub holds : Holds m s
+pub record CodesFrom (m : Machine) (s : State) (e : EncoderView) (ds : List Decision) : Type 0 where
+  pub holds : HoldsInterval m s
   pub between : Between m s
   pub machine : e.machine ≡ machine_by m s ds
   pub contexts : e.contexts ≡ (state_by s ds).contexts
   pub lasting : e.failed ≡ false
 
 -- The encoder has coded the decisions of these passes, and no memory was refused.
-pub record Codes (e : View) (reset : Bool) (dss : List (List Decision)) : Type 0 where
+pub record Codes (e : EncoderView) (reset : Bool) (dss : List (List Decision)) : Type 0 where
   pub machine : e.machine ≡ machine_by_passes reset started initial dss
   pub contexts : e.contexts ≡ (state_by_passes reset initial dss).contexts
   pub lasting : e.failed ≡ false
 
 -- the encoder has coded some decisions
-abbrev pub HasCodedFrom : View → Type 0
+abbrev pub HasCodedFrom : EncoderView → Type 0
 HasCodedFrom e = (m : Machine) × (s : State) × (ds : List Decision) × CodesFrom m s e ds
 
 -- where no memory was refused, it has
-abbrev pub HasCoded : View → Type 0
+abbrev pub HasCoded : EncoderView → Type 0
 HasCoded e = e.failed ≡ false → HasCodedFrom e
 
 -- How many bytes are placed after these passes. The one that a carry may still reach is counted.

@@ -40,7 +40,7 @@ abbrev pub HasRoom : List ℕ → ℕ → ℕ → Type 0
 HasRoom [] u x = x ≤ u
 HasRoom (b ∷ o) u x = top o ≡ 143 → b * u + x ≤ 144 * u
 
-pub record Holds (m : Machine) (s : State) : Type 0 where
+pub record HoldsInterval (m : Machine) (s : State) : Type 0 where
   pub low : s.low ≡ m.code + placed_number m.placed * unit m.count
   pub clock : s.doublings + m.count ≡ 12 + end m.placed
   pub count : m.count ≤ 12

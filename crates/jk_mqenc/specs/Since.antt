@@ -15,6 +15,6 @@ pub record Since (t : State) (m : Machine) (s : State) : Type 0 where
   pub kept : t.doublings + 15 ≤ end m.placed → 128 * t.low ≤ code_value (onto m.placed []) t.doublings
 
 -- the first w placed bytes end at e
-pub record Ends (w e : ℕ) (bs : List ℕ) : Type 0 where
+pub record EndsBytes (w e : ℕ) (bs : List ℕ) : Type 0 where
   pub enough : w ≤ length bs
   pub ends : end (drop (length bs - w) bs) ≡ e

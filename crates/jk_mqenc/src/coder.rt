@@ -3,7 +3,7 @@
 ghost use Rattle.std.specs.Prelude.{◌≡◌, ℕ, List, ◌+◌, ◌-◌, ◌*◌, ◌^◌, ◌<◌, ◌≤◌, [], ◌∷◌, IfOk, None, IsNone, length};
 ghost use Rattle.std.specs.Prelude.{if◌then◌else◌};
 ghost use Rattle.jk_model.specs.Decisions.{State};
-ghost use Rattle.jk_mqenc.specs.Machine.{Machine, Holds, byte_out, placed_after};
+ghost use Rattle.jk_mqenc.specs.Machine.{Machine, HoldsInterval, byte_out, placed_after};
 ghost use Rattle.jk_mqenc.specs.Holding.{before};
 ghost use Rattle.jk_model.specs.Placed.{onto};
 ghost use Rattle.jk_mqenc.specs.Encoded.{started, without_last_ff, with_registers};
@@ -191,7 +191,7 @@ impl Coder {
     fn through(&mut self, taken: Subinterval) -> Result<DeferredRegisters, Refused>
         requires count { 1 ≤ taken.count }
         requires due { taken.width * 2 ^ taken.count < 2 ^ 16 }
-        requires holds { (s : State) × Holds (with_registers self.old taken) s }
+        requires holds { (s : State) × HoldsInterval (with_registers self.old taken) s }
         ensures done { IfOk result (λ r. with_registers self.new r
             ≡ renorme 15 (with_registers self.old taken)) }
     {
@@ -209,7 +209,7 @@ impl Coder {
     #[inline(always)]
     pub fn code(&mut self, taken: Subinterval) -> Result<DeferredRegisters, Refused>
         requires count { 1 ≤ taken.count }
-        requires holds { (s : State) × Holds (with_registers self.old taken) s }
+        requires holds { (s : State) × HoldsInterval (with_registers self.old taken) s }
         ensures done { IfOk result (λ r. with_registers self.new r
             ≡ renorme 15 (with_registers self.old taken)) }
     {
@@ -222,7 +222,7 @@ impl Coder {
     /// `C <<= CT`, and BYTEOUT.
     fn push_out(&mut self) -> Result<(), Refused>
         requires width { self.old.width ≡ 1 }
-        requires holds { (s : State) × Holds self.old s }
+        requires holds { (s : State) × HoldsInterval self.old s }
         ensures done { IfOk result (λ _. self.new ≡ pushed_out self.old) }
     {
         self.code <<= self.count;
@@ -235,7 +235,7 @@ impl Coder {
     pub fn finish(mut self) -> Result<Vec<u8>, Refused>
         requires count { 1 ≤ self.count }
         requires width { 2 ^ 15 ≤ self.width }
-        requires holds { (s : State) × Holds self s }
+        requires holds { (s : State) × HoldsInterval self s }
         ensures bytes { IfOk result (λ v. v.items ≡ onto (without_last_ff (flushed self).placed) []) }
     {
         self.code = set_bits(self.code, self.width);

@@ -28,9 +28,9 @@ pub struct Encoder {
 
 impl Model for Encoder {
     ghost use Rattle.std.specs.Prelude.{is_some};
-    ghost use Rattle.jk_mqenc.specs.Encoded.{View, HasCoded};
+    ghost use Rattle.jk_mqenc.specs.Encoded.{EncoderView, HasCoded};
 
-    ghost Value = { View };
+    ghost Value = { EncoderView };
 
     ghost view = { λ e. record { machine = e.coder; contexts = e.contexts; failed = is_some e.refused } };
 

@@ -11,9 +11,9 @@ use Rattle.jk_geom.specs.Precincts.{span, precincts_across, precincts_down}
 use Rattle.jk_geom.specs.TileShapes.{IsTileShape, coding_of}
 use Rattle.jk_geom.proofs.Laws.{ceil_covers, ceil_close, ceil_mono}
 use Rattle.jk_order.specs.declared.stream.Stream.{Stream}
-use Rattle.jk_order.specs.declared.stream.Frame.{Frame}
+use Rattle.jk_order.specs.declared.stream.PacketsFrame.{PacketsFrame}
 use Rattle.jk_order.specs.PacketOrder.{packet_count}
-use Rattle.jk_order.specs.Streams.{IsStream, IsPlaced, IsFresh, frame_of, stream_in, stream_of, no_packets}
+use Rattle.jk_order.specs.Streams.{IsStream, StandsInCell, IsFresh, frame_of, stream_in, stream_of, no_packets}
 use Rattle.jk_order.proofs.Counts.{number_few}
 use Rattle.jk_order.proofs.Growth.{some_across}
 
@@ -97,7 +97,7 @@ stream_in_is s c r shape few hc hr low =
       beyond_top = λ some. first_reaches s.rect.y0 (k.levels - r) (precinct_size k r).1;
     }
 
-no_packets_is : (f : Frame) (c r : ℕ) → c ≤ 3 → r ≤ 10 → IsStream f (no_packets c r)
+no_packets_is : (f : PacketsFrame) (c r : ℕ) → c ≤ 3 → r ≤ 10 → IsStream f (no_packets c r)
 no_packets_is f c r hc hr = record {
   component = hc;
   resolution = hr;
@@ -139,7 +139,7 @@ stream_fresh s i =
     (λ e. record { component = refl; resolution = refl; layer = refl; precinct = refl; column = refl; row = refl })
 
 -- before its first packet a stream that has one is placed
-pub fresh_placed : (f : Frame) (i : ℕ) (s : Stream) → IsStream f s → IsFresh i s → 0 < s.precincts → IsPlaced s
+pub fresh_placed : (f : PacketsFrame) (i : ℕ) (s : Stream) → IsStream f s → IsFresh i s → 0 < s.precincts → StandsInCell s
 fresh_placed f i s st fresh some = record {
   column = (let a = some_across f s 0 st some in let c = fresh.column in omega arith);
   row = (let a = fresh.precinct in let b = fresh.row in let c = fresh.column in let d : s.row * s.across ≡ 0 * s.across = ap (λ n. n * s.across) b in omega arith);

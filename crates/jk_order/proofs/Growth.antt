@@ -6,8 +6,8 @@ use Rattle.std.proofs.lemmas.Bool.{cases_order}
 use Rattle.jk_marks.specs.declared.segments.Order.{Order}
 use Rattle.jk_marks.specs.declared.segments.Order.TheVariants.{Lrcp, Rlcp, Rpcl, Pcrl, Cprl}
 use Rattle.jk_order.specs.declared.stream.Stream.{Stream}
-use Rattle.jk_order.specs.declared.stream.Frame.{Frame}
-use Rattle.jk_order.specs.Streams.{rank, rank_at, column_x, row_y, is_inside, IsFrame, IsStream}
+use Rattle.jk_order.specs.declared.stream.PacketsFrame.{PacketsFrame}
+use Rattle.jk_order.specs.Streams.{rank, rank_at, column_x, row_y, is_inside, IsPacketsFrame, IsStream}
 
 -- one more column or row lies further on, though the first one begins before the tile
 pub axis_up : (corner first n m e : ℕ) → corner < (first + 1) * 2 ^ e → n < m → max corner ((first + n) * 2 ^ e) < max corner ((first + m) * 2 ^ e)
@@ -90,26 +90,26 @@ rank_small Pcrl l r c k x y h i j a b d = omega arith
 rank_small Cprl l r c k x y h i j a b d = omega arith
 
 -- the columns and rows of a stream's precincts
-pub some_across : (f : Frame) (s : Stream) (k : ℕ) → IsStream f s → k < s.precincts → 0 < s.across
+pub some_across : (f : PacketsFrame) (s : Stream) (k : ℕ) → IsStream f s → k < s.precincts → 0 < s.across
 some_across f s k st h = by (s.across) refl
   where
     by : (w : ℕ) → s.across ≡ w → 0 < s.across
     by w e = let less : k < s.across * s.down = subst (λ n. k < n) st.product h in grind arith
 
-pub column_in : (f : Frame) (s : Stream) (k : ℕ) → IsStream f s → k < s.precincts → k % s.across < s.across
+pub column_in : (f : PacketsFrame) (s : Stream) (k : ℕ) → IsStream f s → k < s.precincts → k % s.across < s.across
 column_in f s k st h = mod_below k s.across (some_across f s k st h)
 
-pub row_in : (f : Frame) (s : Stream) (k : ℕ) → IsStream f s → k < s.precincts → k / s.across < s.down
+pub row_in : (f : PacketsFrame) (s : Stream) (k : ℕ) → IsStream f s → k < s.precincts → k / s.across < s.down
 row_in f s k st h = let less : k < s.across * s.down = subst (λ n. k < n) st.product h in grind (arith, rows)
 
-pub x_small : (f : Frame) (s : Stream) (k : ℕ) → IsFrame f → IsStream f s → k < s.precincts → column_x f s (k % s.across) < 2 ^ 32
+pub x_small : (f : PacketsFrame) (s : Stream) (k : ℕ) → IsPacketsFrame f → IsStream f s → k < s.precincts → column_x f s (k % s.across) < 2 ^ 32
 x_small f s k fr st h = axis_small f.x0 s.left s.across (k % s.across) s.width fr.x0 st.right (column_in f s k st h)
 
-pub y_small : (f : Frame) (s : Stream) (k : ℕ) → IsFrame f → IsStream f s → k < s.precincts → row_y f s (k / s.across) < 2 ^ 32
+pub y_small : (f : PacketsFrame) (s : Stream) (k : ℕ) → IsPacketsFrame f → IsStream f s → k < s.precincts → row_y f s (k / s.across) < 2 ^ 32
 y_small f s k fr st h = axis_small f.y0 s.top s.down (k / s.across) s.height fr.y0 st.lower (row_in f s k st h)
 
 -- a later precinct, where the layers come inside
-pub inside_up : (f : Frame) (s : Stream) (l m k j : ℕ) → IsFrame f → IsStream f s → is_inside f.order ≡ true → l < f.layers → k < j → j < s.precincts
+pub inside_up : (f : PacketsFrame) (s : Stream) (l m k j : ℕ) → IsPacketsFrame f → IsStream f s → is_inside f.order ≡ true → l < f.layers → k < j → j < s.precincts
     → rank f s l k < rank f s m j
 unfolding rank
 inside_up f s l m k j fr st i hl up hj = by (raster_up k j s.across (some_across f s j st hj) up)
@@ -126,18 +126,18 @@ inside_up f s l m k j fr st i hl up hj = by (raster_up k j s.across (some_across
         i (omega arith) (omega arith) (omega arith) (ap (λ n. row_y f s n) h.0) (axis_up f.x0 s.left (k % s.across) (j % s.across) s.width (st.beyond_left some) h.1)
 
 -- a later layer there
-pub inside_more : (f : Frame) (s : Stream) (l m k : ℕ) → is_inside f.order ≡ true → l < m → rank f s l k < rank f s m k
+pub inside_more : (f : PacketsFrame) (s : Stream) (l m k : ℕ) → is_inside f.order ≡ true → l < m → rank f s l k < rank f s m k
 unfolding rank
 inside_more f s l m k i h = inside_layer f.order l m s.resolution s.component k (column_x f s (k % s.across)) (row_y f s (k / s.across)) i h
 
 -- a later layer, where the precincts come inside
-pub outside_up : (f : Frame) (s : Stream) (l m k j : ℕ) → IsStream f s → is_inside f.order ≡ false → l < m → k < s.precincts → rank f s l k < rank f s m j
+pub outside_up : (f : PacketsFrame) (s : Stream) (l m k j : ℕ) → IsStream f s → is_inside f.order ≡ false → l < m → k < s.precincts → rank f s l k < rank f s m j
 unfolding rank
 outside_up f s l m k j st i h hk = outside_layer f.order l m s.resolution s.component k j (column_x f s (k % s.across)) (column_x f s (j % s.across)) (row_y f s (k / s.across)) (row_y f s (j / s.across))
     i (omega arith) (omega arith) (omega arith) h
 
 -- a later precinct there
-pub outside_more : (f : Frame) (s : Stream) (l k j : ℕ) → is_inside f.order ≡ false → k < j → rank f s l k < rank f s l j
+pub outside_more : (f : PacketsFrame) (s : Stream) (l k j : ℕ) → is_inside f.order ≡ false → k < j → rank f s l k < rank f s l j
 unfolding rank
 outside_more f s l k j i h = outside_precinct f.order l s.resolution s.component k j (column_x f s (k % s.across)) (column_x f s (j % s.across)) (row_y f s (k / s.across)) (row_y f s (j / s.across)) i h
 
@@ -156,16 +156,16 @@ next_outside Rpcl l r c k x y u v i = absurd cc
 next_outside Pcrl l r c k x y u v i = absurd cc
 next_outside Cprl l r c k x y u v i = absurd cc
 
-pub inside_one : (f : Frame) (s : Stream) (l k : ℕ) → is_inside f.order ≡ true → rank f s (l + 1) k ≡ rank f s l k + 1
+pub inside_one : (f : PacketsFrame) (s : Stream) (l k : ℕ) → is_inside f.order ≡ true → rank f s (l + 1) k ≡ rank f s l k + 1
 unfolding rank
 inside_one f s l k i = next_inside f.order l s.resolution s.component k (column_x f s (k % s.across)) (row_y f s (k / s.across)) i
 
-pub outside_one : (f : Frame) (s : Stream) (l k : ℕ) → is_inside f.order ≡ false → rank f s l (k + 1) ≡ rank f s l k + 1
+pub outside_one : (f : PacketsFrame) (s : Stream) (l k : ℕ) → is_inside f.order ≡ false → rank f s l (k + 1) ≡ rank f s l k + 1
 unfolding rank
 outside_one f s l k i = next_outside f.order l s.resolution s.component k (column_x f s (k % s.across)) (row_y f s (k / s.across)) (column_x f s ((k + 1) % s.across)) (row_y f s ((k + 1) / s.across)) i
 
 -- no rank is that of a finished stream
-pub rank_below : (f : Frame) (s : Stream) (l k : ℕ) → IsFrame f → IsStream f s → l < f.layers → k < s.precincts → rank f s l k < 2 ^ 128 - 1
+pub rank_below : (f : PacketsFrame) (s : Stream) (l k : ℕ) → IsPacketsFrame f → IsStream f s → l < f.layers → k < s.precincts → rank f s l k < 2 ^ 128 - 1
 unfolding rank
 rank_below f s l k fr st hl hk = rank_small f.order l s.resolution s.component k (column_x f s (k % s.across)) (row_y f s (k / s.across))
     (omega arith) st.resolution st.component (omega arith) (x_small f s k fr st hk) (y_small f s k fr st hk)

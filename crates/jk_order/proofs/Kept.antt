@@ -9,7 +9,7 @@ use Rattle.jk_geom.specs.declared.shape.PacketName.{PacketName}
 use Rattle.jk_geom.specs.Precincts.{precinct_column, precinct_row}
 use Rattle.jk_geom.specs.TileShapes.{coding_of}
 use Rattle.jk_order.specs.declared.stream.Stream.{Stream}
-use Rattle.jk_order.specs.declared.stream.Frame.{Frame}
+use Rattle.jk_order.specs.declared.stream.PacketsFrame.{PacketsFrame}
 use Rattle.jk_order.specs.PacketOrder.{IsName, order}
 use Rattle.jk_order.specs.Streams.{IsStream, column_x, row_y, frame_of, stream_in, stream_of, stream_at, index_of}
 use Rattle.jk_order.specs.Numbers.{total, start, step, wholly, wholly_at, weight, weight_at, among, passed, tie, AreStreams}
@@ -20,9 +20,9 @@ use Rattle.jk_order.proofs.Beginnings.{stream_is, stream_fresh}
 use Rattle.jk_order.proofs.Starting.{stream_has}
 use Rattle.jk_order.proofs.NumberLaws.{IsNumber, x_of, y_of, share_in, number_law, number_small}
 
-module _ (s : TileShape) (f : Frame) (ss : List Stream) (starts steps : List ℕ) (a : AreStreams s f ss starts steps) where
+module _ (s : TileShape) (f : PacketsFrame) (ss : List Stream) (starts steps : List ℕ) (a : AreStreams s f ss starts steps) where
   pub kept_stream : (i : ℕ) → i < 44 → IsStream f (stream_at ss i)
-  kept_stream i h = subst (λ (g : Frame). IsStream g (stream_at ss i)) (sym a.frame) (subst (λ (t : Stream). IsStream (frame_of s) t) (sym (a.each i h)) (stream_is s i a.shape a.few h))
+  kept_stream i h = subst (λ (g : PacketsFrame). IsStream g (stream_at ss i)) (sym a.frame) (subst (λ (t : Stream). IsStream (frame_of s) t) (sym (a.each i h)) (stream_is s i a.shape a.few h))
 
   kept_component : (i : ℕ) → i < 44 → (stream_at ss i).component ≡ i / 11
   kept_component i h = ap (λ (t : Stream). t.component) (a.each i h) ∙ (stream_fresh s i).component
@@ -58,13 +58,13 @@ module _ (s : TileShape) (f : Frame) (ss : List Stream) (starts steps : List ℕ
     own_x : column_x f (stream_at ss (index_of n)) (n.precinct % (stream_at ss (index_of n)).across) ≡ x_of s n
     unfolding own precinct_column
     own_x =
-        ap (λ (g : Frame). column_x g (stream_at ss (index_of n)) (n.precinct % (stream_at ss (index_of n)).across)) a.frame
+        ap (λ (g : PacketsFrame). column_x g (stream_at ss (index_of n)) (n.precinct % (stream_at ss (index_of n)).across)) a.frame
         ∙ ap (λ (t : Stream). column_x (frame_of s) t (n.precinct % t.across)) own_is
 
     own_y : row_y f (stream_at ss (index_of n)) (n.precinct / (stream_at ss (index_of n)).across) ≡ y_of s n
     unfolding own precinct_row
     own_y =
-        ap (λ (g : Frame). row_y g (stream_at ss (index_of n)) (n.precinct / (stream_at ss (index_of n)).across)) a.frame
+        ap (λ (g : PacketsFrame). row_y g (stream_at ss (index_of n)) (n.precinct / (stream_at ss (index_of n)).across)) a.frame
         ∙ ap (λ (t : Stream). row_y (frame_of s) t (n.precinct / t.across)) own_is
 
     -- a sum of shares is the packet's number, and it is small
@@ -82,7 +82,7 @@ module _ (s : TileShape) (f : Frame) (ss : List Stream) (starts steps : List ℕ
         let at_x : x ≡ px = ex ∙ own_x in
         let at_y : y ≡ py = ey ∙ own_y in
         let sums : sum x y ≡ total (λ i. share_in s n (stream_of s i)) (length s.codings * 11) =
-        ap (λ (g : Frame). total (λ i. share g (stream_at ss i) n x y) (length s.codings * 11)) a.frame
+        ap (λ (g : PacketsFrame). total (λ i. share g (stream_at ss i) n x y) (length s.codings * 11)) a.frame
         ∙ total_same (λ i. share (frame_of s) (stream_at ss i) n x y) (λ i. share_in s n (stream_of s i)) (length s.codings * 11)
         (λ i h. ap (λ (t : Stream). share (frame_of s) t n x y) (a.each i (omega arith))
         ∙ (ap (λ z. share (frame_of s) (stream_of s i) n z y) at_x ∙ ap (λ z. share (frame_of s) (stream_of s i) n px z) at_y)) in

@@ -7,15 +7,15 @@ use Rattle.std.proofs.lemmas.Bool.{cases_eq}
 use Rattle.std.proofs.lemmas.List.{get_or-set_same, get_or-set_other, set-get_or}
 use Rattle.jk_geom.specs.declared.shape.PacketName.{PacketName}
 use Rattle.jk_order.specs.declared.stream.Stream.{Stream}
-use Rattle.jk_order.specs.declared.stream.Frame.{Frame}
-use Rattle.jk_order.specs.Streams.{rank, finished, IsStream, IsLive, IsWalk, walk, Awaits, Left, rank_of, index_of, stream_at, no_stream, next_name, successor}
+use Rattle.jk_order.specs.declared.stream.PacketsFrame.{PacketsFrame}
+use Rattle.jk_order.specs.Streams.{rank, finished, IsStream, IsLive, IsWalk, walk, Awaits, PacketsLeft, rank_of, index_of, stream_at, no_stream, next_name, successor}
 use Rattle.jk_order.specs.Advancing.{Advances}
 use Rattle.jk_order.proofs.Growth.{rank_below}
 use Rattle.jk_order.proofs.Successors.{IsNext, IsLast, next_stream, successor_is}
 use Rattle.jk_order.proofs.Ascending.{less_than, first_in, later_in, in_cases, first_below, rest_up, least_first}
 
 -- The stream i moves on: to the least rank above its head, and the others stay.
-pub record MovesOn (f : Frame) (ss : List Stream) (hs : List ℕ) (ts : List Stream) (gs : List ℕ) (i : ℕ) : Type 0 where
+pub record MovesOn (f : PacketsFrame) (ss : List Stream) (hs : List ℕ) (ts : List Stream) (gs : List ℕ) (i : ℕ) : Type 0 where
   pub streams : (j : ℕ) → (j ≡ i → ⊥) → stream_at ts j ≡ stream_at ss j
   pub heads : (j : ℕ) → (j ≡ i → ⊥) → get_or gs j 0 ≡ get_or hs j 0
   pub kept : (l k : ℕ) → rank f (stream_at ts i) l k ≡ rank f (stream_at ss i) l k
@@ -24,7 +24,7 @@ pub record MovesOn (f : Frame) (ss : List Stream) (hs : List ℕ) (ts : List Str
   pub least : (l k : ℕ) → l < f.layers → k < (stream_at ss i).precincts → get_or hs i 0 < rank f (stream_at ss i) l k → get_or gs i 0 ≤ rank f (stream_at ss i) l k
 
 -- a packet of another stream is awaited as before
-awaits_on : (f : Frame) (ss : List Stream) (hs : List ℕ) (ts : List Stream) (gs : List ℕ) (i : ℕ) → MovesOn f ss hs ts gs i
+awaits_on : (f : PacketsFrame) (ss : List Stream) (hs : List ℕ) (ts : List Stream) (gs : List ℕ) (i : ℕ) → MovesOn f ss hs ts gs i
     → (n : PacketName) → (index_of n ≡ i → ⊥) → Awaits (walk f ss hs) n → Awaits (walk f ts gs) n
 awaits_on f ss hs ts gs i m n ne a = record {
   component = a.component;
@@ -34,7 +34,7 @@ awaits_on f ss hs ts gs i m n ne a = record {
   due = subst (λ (s : Stream). get_or gs (index_of n) 0 ≤ rank f s n.layer n.precinct) (sym (m.streams (index_of n) ne)) (subst (λ h. h ≤ rank f (stream_at ss (index_of n)) n.layer n.precinct) (sym (m.heads (index_of n) ne)) a.due);
 }
 
-awaits_back : (f : Frame) (ss : List Stream) (hs : List ℕ) (ts : List Stream) (gs : List ℕ) (i : ℕ) → MovesOn f ss hs ts gs i
+awaits_back : (f : PacketsFrame) (ss : List Stream) (hs : List ℕ) (ts : List Stream) (gs : List ℕ) (i : ℕ) → MovesOn f ss hs ts gs i
     → (n : PacketName) → (index_of n ≡ i → ⊥) → Awaits (walk f ts gs) n → Awaits (walk f ss hs) n
 awaits_back f ss hs ts gs i m n ne a = record {
   component = a.component;
@@ -45,7 +45,7 @@ awaits_back f ss hs ts gs i m n ne a = record {
 }
 
 -- a packet of the stream itself is awaited if its rank is above the head
-awaits_later : (f : Frame) (ss : List Stream) (hs : List ℕ) (ts : List Stream) (gs : List ℕ) (i : ℕ) → MovesOn f ss hs ts gs i
+awaits_later : (f : PacketsFrame) (ss : List Stream) (hs : List ℕ) (ts : List Stream) (gs : List ℕ) (i : ℕ) → MovesOn f ss hs ts gs i
     → (n : PacketName) → index_of n ≡ i → get_or hs i 0 < rank f (stream_at ss i) n.layer n.precinct → Awaits (walk f ss hs) n → Awaits (walk f ts gs) n
 awaits_later f ss hs ts gs i m n e above a =
     let few : n.precinct < (stream_at ss i).precincts = subst (λ j. n.precinct < (stream_at ss j).precincts) e a.precinct in
@@ -58,7 +58,7 @@ awaits_later f ss hs ts gs i m n e above a =
       due = subst (λ j. get_or gs j 0 ≤ rank f (stream_at ts j) n.layer n.precinct) (sym e) (subst (λ k. get_or gs i 0 ≤ k) (sym (m.kept n.layer n.precinct)) due);
     }
 
-awaited_later : (f : Frame) (ss : List Stream) (hs : List ℕ) (ts : List Stream) (gs : List ℕ) (i : ℕ) → MovesOn f ss hs ts gs i
+awaited_later : (f : PacketsFrame) (ss : List Stream) (hs : List ℕ) (ts : List Stream) (gs : List ℕ) (i : ℕ) → MovesOn f ss hs ts gs i
     → (n : PacketName) → index_of n ≡ i → Awaits (walk f ts gs) n → Awaits (walk f ss hs) n × (get_or hs i 0 < rank f (stream_at ss i) n.layer n.precinct)
 awaited_later f ss hs ts gs i m n e a =
     let few : n.precinct < (stream_at ss i).precincts = subst (λ k. n.precinct < k) m.precincts (subst (λ j. n.precinct < (stream_at ts j).precincts) e a.precinct) in
@@ -77,7 +77,7 @@ awaited_later f ss hs ts gs i m n e a =
     )
 
 -- ranks stay
-rank_kept : (f : Frame) (ss : List Stream) (hs : List ℕ) (ts : List Stream) (gs : List ℕ) (i : ℕ) → MovesOn f ss hs ts gs i → (n : PacketName) → rank_of (walk f ss hs) n ≡ rank_of (walk f ts gs) n
+rank_kept : (f : PacketsFrame) (ss : List Stream) (hs : List ℕ) (ts : List Stream) (gs : List ℕ) (i : ℕ) → MovesOn f ss hs ts gs i → (n : PacketName) → rank_of (walk f ss hs) n ≡ rank_of (walk f ts gs) n
 rank_kept f ss hs ts gs i m n = by (cases_eq (index_of n) i)
   where
     by : (index_of n ≡ i) ⊎ (index_of n ≡ i → ⊥) → rank f (stream_at ss (index_of n)) n.layer n.precinct ≡ rank f (stream_at ts (index_of n)) n.layer n.precinct
@@ -88,7 +88,7 @@ rank_kept f ss hs ts gs i m n = by (cases_eq (index_of n) i)
 index_small : (n : PacketName) → n.component ≤ 3 → n.resolution ≤ 10 → index_of n < 44
 index_small n c r = omega arith
 
-module _ (f : Frame) (ss : List Stream) (hs : List ℕ) (i : ℕ) (w : IsWalk (walk f ss hs)) (low : i < 44)
+module _ (f : PacketsFrame) (ss : List Stream) (hs : List ℕ) (i : ℕ) (w : IsWalk (walk f ss hs)) (low : i < 44)
     (some : get_or hs i 0 ≡ finished → ⊥) (least : (j : ℕ) → j < 44 → get_or hs i 0 ≤ get_or hs j 0) where
   -- the head of the stream is the rank of its next packet
   head_is : get_or hs i 0 ≡ rank_of (walk f ss hs) (next_name (stream_at ss i))
@@ -116,7 +116,7 @@ module _ (f : Frame) (ss : List Stream) (hs : List ℕ) (i : ℕ) (w : IsWalk (w
 
   module _ (ts : List Stream) (gs : List ℕ) (m : MovesOn f ss hs ts gs i) where
     -- what is left without the next packet
-    rest_left : (rest : List PacketName) → Left (walk f ss hs) (next_name (stream_at ss i) ∷ rest) → Left (walk f ts gs) rest
+    rest_left : (rest : List PacketName) → PacketsLeft (walk f ss hs) (next_name (stream_at ss i) ∷ rest) → PacketsLeft (walk f ts gs) rest
     rest_left rest l = record {
       ascending =
           let same : rank_of (walk f ss hs) ≡ rank_of (walk f ts gs) = λ d n. rank_kept f ss hs ts gs i m n d in
@@ -157,16 +157,16 @@ module _ (f : Frame) (ss : List Stream) (hs : List ℕ) (i : ℕ) (w : IsWalk (w
         returns n a = back n a (cases_eq (index_of n) i)
 
     -- the next packet of all, and what is left
-    pub left_next : (names : List PacketName) → Left (walk f ss hs) names → (Some (next_name (stream_at ss i)) ≡ slice_get names 0) × Left (walk f ts gs) (drop 1 names)
+    pub left_next : (names : List PacketName) → PacketsLeft (walk f ss hs) names → (Some (next_name (stream_at ss i)) ≡ slice_get names 0) × PacketsLeft (walk f ts gs) (drop 1 names)
     left_next names l =
         let found = (l.members (next_name (stream_at ss i))).1 next_awaited in
         let first = least_first (rank_of (walk f ss hs)) names (next_name (stream_at ss i)) l.ascending found (λ n h. next_least n ((l.members n).0 h)) in
-        subst (λ (xs : List PacketName). (Some (next_name (stream_at ss i)) ≡ slice_get xs 0) × Left (walk f ts gs) (drop 1 xs)) (sym first.1)
-        (refl, rest_left first.0 (subst (λ (xs : List PacketName). Left (walk f ss hs) xs) first.1 l))
+        subst (λ (xs : List PacketName). (Some (next_name (stream_at ss i)) ≡ slice_get xs 0) × PacketsLeft (walk f ts gs) (drop 1 xs)) (sym first.1)
+        (refl, rest_left first.0 (subst (λ (xs : List PacketName). PacketsLeft (walk f ss hs) xs) first.1 l))
 
 -- where no stream has a packet, none is left
-pub left_none : (f : Frame) (ss : List Stream) (hs : List ℕ) → IsWalk (walk f ss hs) → ((j : ℕ) → j < 44 → finished ≤ get_or hs j 0)
-    → (names : List PacketName) → Left (walk f ss hs) names → (None ≡ slice_get names 0) × Left (walk f ss hs) (drop 1 names)
+pub left_none : (f : PacketsFrame) (ss : List Stream) (hs : List ℕ) → IsWalk (walk f ss hs) → ((j : ℕ) → j < 44 → finished ≤ get_or hs j 0)
+    → (names : List PacketName) → PacketsLeft (walk f ss hs) names → (None ≡ slice_get names 0) × PacketsLeft (walk f ss hs) (drop 1 names)
 left_none f ss hs w end [] l = (refl, l)
 left_none f ss hs w end (n ∷ ns) l =
     let a = (l.members n).0 (first_in n ns) in
@@ -177,7 +177,7 @@ left_none f ss hs w end (n ∷ ns) l =
     absurd (omega arith)
 
 -- the streams where one of them moved on
-module _ (f : Frame) (ss : List Stream) (hs : List ℕ) (i : ℕ) (w : IsWalk (walk f ss hs)) (low : i < 44) (some : get_or hs i 0 ≡ finished → ⊥) where
+module _ (f : PacketsFrame) (ss : List Stream) (hs : List ℕ) (i : ℕ) (w : IsWalk (walk f ss hs)) (low : i < 44) (some : get_or hs i 0 ≡ finished → ⊥) where
   in_streams : i < length ss
   in_streams = let h = w.streams in omega arith
 

@@ -6,7 +6,7 @@ use Rattle.std.proofs.lemmas.List.{append-nil}
 use Rattle.jk_geom.specs.declared.shape.TileShape.{TileShape}
 use Rattle.jk_geom.specs.declared.shape.PacketName.{PacketName}
 use Rattle.jk_order.specs.PacketOrder.{IsName, order, packet_count}
-use Rattle.jk_order.specs.Streams.{Walk, Left}
+use Rattle.jk_order.specs.Streams.{Walk, PacketsLeft}
 use Rattle.jk_order.proofs.Ascending.{first_in, later_in}
 use Rattle.jk_order.proofs.OrderLaws.{order_is}
 use Rattle.jk_order.proofs.LengthLaws.{length_of}
@@ -14,11 +14,11 @@ use Rattle.jk_order.proofs.LengthLaws.{length_of}
 -- These names were given, and so many are still to come.
 pub record IsNaming (s : TileShape) (packets : Walk) (names : List PacketName) (more : ℕ) : Type 0 where
   pub left : List PacketName
-  pub follow : Left packets left
+  pub follow : PacketsLeft packets left
   pub count : length left ≡ more
   pub goes : names ++ left ≡ order s
 
-pub naming_starts : (s : TileShape) (packets : Walk) (names : List PacketName) → Left packets (order s) → names ≡ [] → IsNaming s packets names (packet_count s)
+pub naming_starts : (s : TileShape) (packets : Walk) (names : List PacketName) → PacketsLeft packets (order s) → names ≡ [] → IsNaming s packets names (packet_count s)
 naming_starts s packets names follow e = record { left = order s; follow = follow; count = length_of s (order s) (order_is s); goes = ap (λ (ns : List PacketName). ns ++ order s) e }
 
 first_is : (xs : List PacketName) (x : PacketName) → Some x ≡ slice_get xs 0 → xs ≡ x ∷ drop 1 xs
@@ -33,7 +33,7 @@ pub counted_over : (names : List PacketName) → length names ≡ 0 → names �
 counted_over [] e = refl
 counted_over (n ∷ names) e = absurd (omega (arith, e))
 
-pub naming_more : (s : TileShape) (packets next : Walk) (names new : List PacketName) (more : ℕ) (n : PacketName) → (g : IsNaming s packets names more) → Some n ≡ slice_get g.left 0 → Left next (drop 1 g.left)
+pub naming_more : (s : TileShape) (packets next : Walk) (names new : List PacketName) (more : ℕ) (n : PacketName) → (g : IsNaming s packets names more) → Some n ≡ slice_get g.left 0 → PacketsLeft next (drop 1 g.left)
     → new ≡ names ++ n ∷ [] → IsNaming s next new (more - 1)
 naming_more s packets next names new more n g first left pushed =
     let is = first_is g.left n first in

@@ -3,8 +3,8 @@ use Rattle.std.proofs.Common.{◌≡◌, ℕ, ◌+◌, ◌*◌, ◌<◌, ◌≤�
 use Rattle.std.specs.Prelude.{Some, None, MatchOption}
 use Rattle.std.proofs.lemmas.Bool.{cond_both, cases_order, cases_lt, ltb-true, ltb-false}
 use Rattle.jk_order.specs.declared.stream.Stream.{Stream}
-use Rattle.jk_order.specs.declared.stream.Frame.{Frame}
-use Rattle.jk_order.specs.Streams.{rank, is_inside, IsFrame, IsStream, IsPlaced, stepped, next_precinct, next_layer, or_else, layers_inside, layers_outside, successor}
+use Rattle.jk_order.specs.declared.stream.PacketsFrame.{PacketsFrame}
+use Rattle.jk_order.specs.Streams.{rank, is_inside, IsPacketsFrame, IsStream, StandsInCell, stepped, next_precinct, next_layer, or_else, layers_inside, layers_outside, successor}
 use Rattle.jk_order.proofs.Growth.{inside_up, inside_more, outside_up, outside_more}
 
 -- the same stream before another packet
@@ -12,22 +12,22 @@ abbrev pub moved : Stream → (l k a b : ℕ) → Stream
 moved s l k a b = record s { layer = l; precinct = k; column = a; row = b }
 
 -- t is s behind its next packet
-pub record IsNext (f : Frame) (s t : Stream) : Type 0 where
+pub record IsNext (f : PacketsFrame) (s t : Stream) : Type 0 where
   pub same : t ≡ moved s t.layer t.precinct t.column t.row
   pub layer : t.layer < f.layers
-  pub placed : IsPlaced t
+  pub placed : StandsInCell t
   pub after : rank f s s.layer s.precinct < rank f s t.layer t.precinct
   pub least : (l k : ℕ) → l < f.layers → k < s.precincts → rank f s s.layer s.precinct < rank f s l k → rank f s t.layer t.precinct ≤ rank f s l k
 
 -- no packet is behind the next one
-abbrev pub IsLast : Frame → Stream → Type 0
+abbrev pub IsLast : PacketsFrame → Stream → Type 0
 IsLast f s = (l k : ℕ) → l < f.layers → k < s.precincts → rank f s l k ≤ rank f s s.layer s.precinct
 
 -- a step to the next precinct keeps its column and row
-pub stepped_placed : (s : Stream) → IsPlaced s → s.precinct + 1 < s.precincts → IsPlaced (stepped s)
+pub stepped_placed : (s : Stream) → StandsInCell s → s.precinct + 1 < s.precincts → StandsInCell (stepped s)
 stepped_placed s p more = by (nat_lt (s.column + 1) s.across) refl
   where
-    by : (b : Bool) → nat_lt (s.column + 1) s.across ≡ b → IsPlaced (stepped s)
+    by : (b : Bool) → nat_lt (s.column + 1) s.across ≡ b → StandsInCell (stepped s)
     by true e = rw e (record { column = ltb-true _ _ e; row = (let r = p.row in omega arith); precinct = more })
     by false e =
         let full : s.across ≤ s.column + 1 = ltb-false (s.column + 1) s.across e in
@@ -37,7 +37,7 @@ stepped_placed s p more = by (nat_lt (s.column + 1) s.across) refl
         rw e (record { column = omega arith; row = omega arith; precinct = more })
 
 -- which packets of the stream have a greater rank
-inside_after : (f : Frame) (s : Stream) (l m k j : ℕ) → IsFrame f → IsStream f s → is_inside f.order ≡ true → l < f.layers → m < f.layers → k < s.precincts → j < s.precincts
+inside_after : (f : PacketsFrame) (s : Stream) (l m k j : ℕ) → IsPacketsFrame f → IsStream f s → is_inside f.order ≡ true → l < f.layers → m < f.layers → k < s.precincts → j < s.precincts
     → rank f s l k < rank f s m j → (k < j) ⊎ ((k ≡ j) × (l < m))
 inside_after f s l m k j fr st i hl hm hk hj h = by (cases_order k j)
   where
@@ -54,7 +54,7 @@ inside_after f s l m k j fr st i hl hm hk hj h = by (cases_order k j)
     by (inr (inl up)) = inl up
     by (inr (inr down)) = let less : rank f s m j < rank f s l k = inside_up f s m l j k fr st i hm down hk in absurd (omega arith)
 
-outside_after : (f : Frame) (s : Stream) (l m k j : ℕ) → IsStream f s → is_inside f.order ≡ false → k < s.precincts → j < s.precincts
+outside_after : (f : PacketsFrame) (s : Stream) (l m k j : ℕ) → IsStream f s → is_inside f.order ≡ false → k < s.precincts → j < s.precincts
     → rank f s l k < rank f s m j → (l < m) ⊎ ((l ≡ m) × (k < j))
 outside_after f s l m k j st i hk hj h = by (cases_order l m)
   where
@@ -88,7 +88,7 @@ zero_or m = by (cases_order 0 m)
     by (inr (inl up)) = inr up
     by (inr (inr down)) = absurd (omega arith)
 
-module _ (f : Frame) (s : Stream) (fr : IsFrame f) (st : IsStream f s) (layer : s.layer < f.layers) (p : IsPlaced s) where
+module _ (f : PacketsFrame) (s : Stream) (fr : IsPacketsFrame f) (st : IsStream f s) (layer : s.layer < f.layers) (p : StandsInCell s) where
   inside_first : is_inside f.order ≡ true → s.layer + 1 < f.layers → IsNext f s (record s { layer = s.layer + 1 })
   inside_first i more = record {
     same = refl;
@@ -220,7 +220,7 @@ module _ (f : Frame) (s : Stream) (fr : IsFrame f) (st : IsStream f s) (layer : 
       (λ d. outside_last i (ltb-false _ _ e) (ltb-false _ _ d))))
 
 -- it is a stream
-pub next_stream : (f : Frame) (s t : Stream) → IsStream f s → IsNext f s t → IsStream f t
+pub next_stream : (f : PacketsFrame) (s t : Stream) → IsStream f s → IsNext f s t → IsStream f t
 next_stream f s t st n = subst (λ (x : Stream). IsStream f x) (sym n.same) (record {
   component = st.component;
   resolution = st.resolution;

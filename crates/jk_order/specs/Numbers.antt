@@ -7,7 +7,7 @@ use Rattle.jk_geom.specs.Rectangles.{ceil_div}
 use Rattle.jk_geom.specs.TileShapes.{IsTileShape}
 use Rattle.jk_geom.specs.declared.shape.TileShape.{TileShape}
 use Rattle.jk_order.specs.declared.stream.Stream.{Stream}
-use Rattle.jk_order.specs.declared.stream.Frame.{Frame}
+use Rattle.jk_order.specs.declared.stream.PacketsFrame.{PacketsFrame}
 use Rattle.jk_order.specs.PacketOrder.{packet_count}
 use Rattle.jk_order.specs.Streams.{frame_of, stream_at, stream_of}
 
@@ -25,22 +25,22 @@ choose a b less equal = if nat_lt a b then less else (if a == b then equal else 
 unfoldable pub below : (corner first count e q : ℕ) → ℕ
 below corner first count e q = if nat_le q corner then 0 else min count (ceil_div q (2 ^ e) - first)
 
-abbrev pub columns_below : Frame → Stream → ℕ → ℕ
+abbrev pub columns_below : PacketsFrame → Stream → ℕ → ℕ
 columns_below f t x = below f.x0 t.left t.across t.width x
 
-abbrev pub rows_below : Frame → Stream → ℕ → ℕ
+abbrev pub rows_below : PacketsFrame → Stream → ℕ → ℕ
 rows_below f t y = below f.y0 t.top t.down t.height y
 
 -- how many precincts of a stream begin before a place, row by row
-unfoldable pub before : Frame → Stream → (x y : ℕ) → ℕ
+unfoldable pub before : PacketsFrame → Stream → (x y : ℕ) → ℕ
 before f t x y = rows_below f t y * t.across + (rows_below f t (y + 1) - rows_below f t y) * columns_below f t x
 
 -- so many packets for each precinct that begins before a place, and so many for one that begins
 -- there
-unfoldable pub passed : Frame → Stream → (x y less equal : ℕ) → ℕ
+unfoldable pub passed : PacketsFrame → Stream → (x y less equal : ℕ) → ℕ
 passed f t x y less equal = before f t x y * less + (before f t (x + 1) y - before f t x y) * equal
 
-abbrev pub wholly_at : Order → Frame → Stream → (r c : ℕ) → ℕ
+abbrev pub wholly_at : Order → PacketsFrame → Stream → (r c : ℕ) → ℕ
 wholly_at Lrcp f t r c = choose t.resolution r t.precincts (choose t.component c t.precincts 0)
 wholly_at Rlcp f t r c = choose t.resolution r (t.precincts * f.layers) (choose t.component c t.precincts 0)
 wholly_at Rpcl f t r c = choose t.resolution r (t.precincts * f.layers) 0
@@ -49,7 +49,7 @@ wholly_at Cprl f t r c = choose t.component c (t.precincts * f.layers) 0
 
 -- a stream's packets that come before all of resolution r of component c, as far as the order tells
 -- by those two alone
-unfoldable pub wholly : Frame → Stream → (r c : ℕ) → ℕ
+unfoldable pub wholly : PacketsFrame → Stream → (r c : ℕ) → ℕ
 wholly f t r c = wholly_at f.order f t r c
 
 abbrev pub weight_at : Order → Stream → ℕ → ℕ
@@ -61,21 +61,21 @@ weight_at Cprl t r = 0
 
 -- how many packets of a stream lie between a packet and that of the next layer, where a layer of all
 -- precincts comes before the next one
-unfoldable pub weight : Frame → Stream → ℕ → ℕ
+unfoldable pub weight : PacketsFrame → Stream → ℕ → ℕ
 weight f t r = weight_at f.order t r
 
 -- how many packets of a precinct that begins at the same place come before one of layer l
-unfoldable pub tie : Frame → Stream → (l r c : ℕ) → ℕ
+unfoldable pub tie : PacketsFrame → Stream → (l r c : ℕ) → ℕ
 tie f t l r c = choose t.component c f.layers (choose t.resolution r f.layers l)
 
 -- how many packets of so many streams come before all of resolution r of component c, as far as the
 -- order tells by those two alone
-unfoldable pub start : Frame → List Stream → (count r c : ℕ) → ℕ
+unfoldable pub start : PacketsFrame → List Stream → (count r c : ℕ) → ℕ
 start f streams count r c = total (λ j. wholly f (stream_at streams j) r c) count
 
 -- how many packets lie between one and that of the next layer, where a layer of all precincts comes
 -- before the next one
-unfoldable pub step : Frame → List Stream → (count r : ℕ) → ℕ
+unfoldable pub step : PacketsFrame → List Stream → (count r : ℕ) → ℕ
 step f streams count r = total (λ j. weight f (stream_at streams j) r) count
 
 -- The streams whose packets lie among those of a resolution of a component, where the places of
@@ -88,7 +88,7 @@ among Pcrl components r c = (0, 1, 11 * components)
 among Cprl components r c = (11 * c, 1, 11)
 
 -- what the numbers of a tile's packets are made of
-pub record AreStreams (s : TileShape) (f : Frame) (streams : List Stream) (starts steps : List ℕ) : Type 0 where
+pub record AreStreams (s : TileShape) (f : PacketsFrame) (streams : List Stream) (starts steps : List ℕ) : Type 0 where
   pub shape : IsTileShape s
   pub few : packet_count s ≤ 2 ^ 24
   pub frame : f ≡ frame_of s

@@ -7,7 +7,7 @@ ghost use Rattle.jk_order.specs.Streams.{IsStream, column_x, row_y, stream_at};
 ghost use Rattle.jk_order.specs.Numbers.{among, before, below, choose, passed, start, step, tie, total, weight, wholly};
 
 use crate::opening::{shared, stream_number, without_packets};
-use crate::stream::{Frame, Stream};
+use crate::stream::{PacketsFrame, Stream};
 use jk_geom::{PacketName, TileShape};
 use jk_marks::Order;
 use std::marker::Model;
@@ -16,7 +16,7 @@ use std::marker::Model;
 #[derive(Debug, Drop)]
 pub struct Numbers {
     shape: TileShape,
-    frame: Frame,
+    frame: PacketsFrame,
     streams: [Stream; 44],
     starts: [u64; 44],
     steps: [u64; 44],
@@ -65,7 +65,7 @@ fn below(corner: u32, first: u32, count: u32, e: u8, q: u64) -> u32
 }
 
 /// How many precincts of a stream begin before a place, row by row.
-fn before(frame: &Frame, stream: &Stream, x: u64, y: u64) -> u32
+fn before(frame: &PacketsFrame, stream: &Stream, x: u64, y: u64) -> u32
     requires stream { IsStream frame.now stream.now }
     requires column { x ≤ 2 ^ 32 }
     requires row { y < 2 ^ 32 }
@@ -85,7 +85,7 @@ fn before(frame: &Frame, stream: &Stream, x: u64, y: u64) -> u32
 /// So many packets for each precinct that begins before a place, and so many for one that begins
 /// there.
 #[tactic(auto, unfolding(crate::specs::Numbers::passed))]
-fn passed(frame: &Frame, stream: &Stream, x: u32, y: u32, less: u64, equal: u64) -> u64
+fn passed(frame: &PacketsFrame, stream: &Stream, x: u32, y: u32, less: u64, equal: u64) -> u64
     requires stream { IsStream frame.now stream.now }
     requires less { less ≤ 2 ^ 16 }
     requires equal { equal ≤ 2 ^ 16 }
@@ -102,7 +102,7 @@ fn passed(frame: &Frame, stream: &Stream, x: u32, y: u32, less: u64, equal: u64)
 
 /// A stream's packets that come before all of resolution `r` of component `c`, as far as the order
 /// tells by those two alone.
-fn wholly(frame: &Frame, stream: &Stream, r: u8, c: u8) -> u64
+fn wholly(frame: &PacketsFrame, stream: &Stream, r: u8, c: u8) -> u64
     requires { IsStream frame.now stream.now }
     ensures value { result ≡ wholly frame.now stream.now r c }
     ensures few { result ≤ 2 ^ 40 }
@@ -121,7 +121,7 @@ fn wholly(frame: &Frame, stream: &Stream, r: u8, c: u8) -> u64
 
 /// How many packets of a stream lie between a packet and that of the next layer, where a layer of
 /// all precincts comes before the next one.
-fn weight(frame: &Frame, stream: &Stream, r: u8) -> u64
+fn weight(frame: &PacketsFrame, stream: &Stream, r: u8) -> u64
     requires { IsStream frame.now stream.now }
     ensures value { result ≡ weight frame.now stream.now r }
     ensures few { result ≤ 2 ^ 24 }
@@ -136,7 +136,7 @@ fn weight(frame: &Frame, stream: &Stream, r: u8) -> u64
 
 /// How many packets of a precinct that begins at the same place come before one of layer `l`.
 #[tactic(auto, unfolding(crate::specs::Numbers::tie))]
-fn tie(frame: &Frame, stream: &Stream, name: &PacketName) -> u64
+fn tie(frame: &PacketsFrame, stream: &Stream, name: &PacketName) -> u64
     ensures value { result ≡ tie frame.now stream.now name.now.layer name.now.resolution name.now.component }
     ensures few { result ≤ 2 ^ 16 }
 {
@@ -152,7 +152,7 @@ fn tie(frame: &Frame, stream: &Stream, name: &PacketName) -> u64
 
 /// How many packets of so many streams come before all of resolution `r` of component `c`, as far as
 /// the order tells by those two alone.
-fn start(frame: &Frame, streams: &[Stream; 44], count: usize, r: u8, c: u8) -> u64
+fn start(frame: &PacketsFrame, streams: &[Stream; 44], count: usize, r: u8, c: u8) -> u64
     requires count { count ≤ 44 }
     requires streams { (i : ℕ) → i < 44 → IsStream frame.now (stream_at streams.now i) }
     ensures { result ≡ start frame.now streams.now count r c }
@@ -166,7 +166,7 @@ fn start(frame: &Frame, streams: &[Stream; 44], count: usize, r: u8, c: u8) -> u
 
 /// How far a packet lies from that of the next layer, where a layer of all precincts comes before
 /// the next one.
-fn step(frame: &Frame, streams: &[Stream; 44], count: usize, r: u8) -> u64
+fn step(frame: &PacketsFrame, streams: &[Stream; 44], count: usize, r: u8) -> u64
     requires count { count ≤ 44 }
     requires streams { (i : ℕ) → i < 44 → IsStream frame.now (stream_at streams.now i) }
     ensures { result ≡ step frame.now streams.now count r }
@@ -198,7 +198,7 @@ fn among(order: Order, components: usize, r: u8, c: u8) -> (usize, usize, usize)
 
 /// How many packets of these streams come before one whose precinct begins at a place.
 fn passed_all(
-    frame: &Frame,
+    frame: &PacketsFrame,
     streams: &[Stream; 44],
     name: &PacketName,
     x: u32,
@@ -228,7 +228,7 @@ fn passed_all(
 }
 
 /// Where a column of precincts begins on the reference grid, or the tile does.
-fn column_x(frame: &Frame, stream: &Stream, column: u32) -> u32
+fn column_x(frame: &PacketsFrame, stream: &Stream, column: u32) -> u32
     requires stream { IsStream frame.now stream.now }
     requires column { column < stream.now.across }
     ensures { result ≡ column_x frame.now stream.now column }
@@ -237,7 +237,7 @@ fn column_x(frame: &Frame, stream: &Stream, column: u32) -> u32
 }
 
 /// Where a row begins, likewise.
-fn row_y(frame: &Frame, stream: &Stream, row: u32) -> u32
+fn row_y(frame: &PacketsFrame, stream: &Stream, row: u32) -> u32
     requires stream { IsStream frame.now stream.now }
     requires row { row < stream.now.down }
     ensures { result ≡ row_y frame.now stream.now row }

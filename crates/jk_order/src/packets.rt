@@ -5,12 +5,12 @@ ghost use Rattle.std.specs.Prelude.{slice_get, slice_index};
 ghost use Rattle.jk_math.specs.declared.fault.Fault.TheVariants.{Limit};
 ghost use Rattle.jk_geom.specs.TileShapes.{IsTileShape};
 ghost use Rattle.jk_order.specs.PacketOrder.{packet_count, order};
-ghost use Rattle.jk_order.specs.Streams.{IsWalk, Left, walk};
+ghost use Rattle.jk_order.specs.Streams.{IsWalk, PacketsLeft, walk};
 ghost use Rattle.jk_order.specs.Queue.{Ascends, IsQueue, queued};
 
 use crate::count::packet_count;
 use crate::opening::{first_rank, shared, stream_number, without_packets};
-use crate::stream::{FINISHED, Frame, Stream};
+use crate::stream::{FINISHED, PacketsFrame, Stream};
 use jk_geom::{PacketName, TileShape};
 use jk_marks::Order;
 use jk_math::Fault;
@@ -27,7 +27,7 @@ struct Queue {
 /// The packets of a tile that are still to come.
 #[derive(Debug, Drop)]
 pub struct Packets {
-    frame: Frame,
+    frame: PacketsFrame,
     streams: [Stream; 44],
     heads: [u128; 44],
     queue: Queue,
@@ -92,7 +92,7 @@ fn queue_of(heads: &[u128; 44]) -> Queue
 /// The next packet of all streams, which its stream then has passed.
 #[tactic(auto, using(crate::proofs::Queueing::queue_numbers))]
 fn take(
-    frame: &Frame,
+    frame: &PacketsFrame,
     streams: &mut [Stream; 44],
     heads: &mut [u128; 44],
     queue: &mut [u8],
@@ -101,8 +101,8 @@ fn take(
     requires queue { IsQueue 0 heads.old queue.old }
     ensures kept { IsWalk (walk frame.now streams.new heads.new) }
     ensures queue { IsQueue 0 heads.new queue.new }
-    ensures gives { (names : List PacketName) → Left (walk frame.now streams.old heads.old) names
-        → (result ≡ slice_get names 0) × Left (walk frame.now streams.new heads.new) (drop 1 names) }
+    ensures gives { (names : List PacketName) → PacketsLeft (walk frame.now streams.old heads.old) names
+        → (result ≡ slice_get names 0) × PacketsLeft (walk frame.now streams.new heads.new) (drop 1 names) }
 {
     if queue.is_empty() {
         return None;
@@ -132,7 +132,7 @@ impl Packets {
         requires { IsTileShape shape.now }
         ensures limit { (result ≡ Err Limit) ↔ (2 ^ 24 < packet_count shape.now) }
         ensures only { IfErr result (λ e. e ≡ Limit) }
-        ensures starts { IfOk result (λ p. Left p (order shape.now)) }
+        ensures starts { IfOk result (λ p. PacketsLeft p (order shape.now)) }
     {
         if packet_count(shape) > 1 << 24 {
             return Err(Fault::Limit);
@@ -156,8 +156,8 @@ impl Packets {
 
     /// The next packet, unless all were given.
     pub fn next(&mut self) -> Option<PacketName>
-        ensures { (names : List PacketName) → Left self.old names
-            → (result ≡ slice_get names 0) × Left self.new (drop 1 names) }
+        ensures { (names : List PacketName) → PacketsLeft self.old names
+            → (result ≡ slice_get names 0) × PacketsLeft self.new (drop 1 names) }
     {
         take(
             &self.frame,

@@ -4,47 +4,47 @@ use Rattle.jk_math.specs.Answer.{◌>>=◌, Refuses}
 use Rattle.jk_math.specs.declared.fault.Fault.{Fault}
 use Rattle.jk_math.specs.declared.fault.Fault.TheVariants.{Memory}
 use Rattle.jk_bits.specs.Reading.{Bits}
-use Rattle.jk_tree.specs.Asking.{Tree}
+use Rattle.jk_tree.specs.Asking.{TagTreeRead}
 use Rattle.jk_packet.specs.declared.shape.BandShape.{BandShape}
-use Rattle.jk_packet.specs.declared.words.Piece.{Piece}
+use Rattle.jk_packet.specs.declared.words.Addition.{Addition}
 use Rattle.jk_packet.specs.Words.{most_passes}
 use Rattle.jk_packet.specs.Reading.{included_at, zero_planes_at, piece_at, BandWalk, block_in, with_inclusion, with_piece, taken_at, block_at, blocks_at, band_at, BandState, Walk, band_in, bands_at, blank_band, blank_bands, bands_seen}
 
 pub block_err : (number layer i : ℕ) (w : BandWalk) (e : Fault) → included_at layer i (block_in w.band.blocks i) (w.band.inclusion, w.bits) ≡ Err e → block_at number layer i w ≡ Err e
 unfolding block_at
-block_err number layer i w e h = ap (λ (r : Result (Bool × (Tree × Bits)) Fault). r >>= λ o. cond o.0 (taken_at number i (with_inclusion w o.1)) (Ok (with_inclusion w o.1))) h
+block_err number layer i w e h = ap (λ (r : Result (Bool × (TagTreeRead × Bits)) Fault). r >>= λ o. cond o.0 (taken_at number i (with_inclusion w o.1)) (Ok (with_inclusion w o.1))) h
 
-pub block_after : (number layer i : ℕ) (w : BandWalk) (o : Bool × (Tree × Bits)) → included_at layer i (block_in w.band.blocks i) (w.band.inclusion, w.bits) ≡ Ok o
+pub block_after : (number layer i : ℕ) (w : BandWalk) (o : Bool × (TagTreeRead × Bits)) → included_at layer i (block_in w.band.blocks i) (w.band.inclusion, w.bits) ≡ Ok o
     → block_at number layer i w ≡ cond o.0 (taken_at number i (with_inclusion w o.1)) (Ok (with_inclusion w o.1))
 unfolding block_at
-block_after number layer i w o h = ap (λ (r : Result (Bool × (Tree × Bits)) Fault). r >>= λ o. cond o.0 (taken_at number i (with_inclusion w o.1)) (Ok (with_inclusion w o.1))) h
+block_after number layer i w o h = ap (λ (r : Result (Bool × (TagTreeRead × Bits)) Fault). r >>= λ o. cond o.0 (taken_at number i (with_inclusion w o.1)) (Ok (with_inclusion w o.1))) h
 
-pub block_left : (number layer i : ℕ) (w : BandWalk) (o : Bool × (Tree × Bits)) → included_at layer i (block_in w.band.blocks i) (w.band.inclusion, w.bits) ≡ Ok o → o.0 ≡ false
+pub block_left : (number layer i : ℕ) (w : BandWalk) (o : Bool × (TagTreeRead × Bits)) → included_at layer i (block_in w.band.blocks i) (w.band.inclusion, w.bits) ≡ Ok o → o.0 ≡ false
     → block_at number layer i w ≡ Ok (with_inclusion w o.1)
 block_left number layer i w o h b = block_after number layer i w o h ∙ ap (λ (c : Bool). cond c (taken_at number i (with_inclusion w o.1)) (Ok (with_inclusion w o.1))) b
 
-pub block_taken : (number layer i : ℕ) (w : BandWalk) (o : Bool × (Tree × Bits)) → included_at layer i (block_in w.band.blocks i) (w.band.inclusion, w.bits) ≡ Ok o → o.0 ≡ true
+pub block_taken : (number layer i : ℕ) (w : BandWalk) (o : Bool × (TagTreeRead × Bits)) → included_at layer i (block_in w.band.blocks i) (w.band.inclusion, w.bits) ≡ Ok o → o.0 ≡ true
     → block_at number layer i w ≡ taken_at number i (with_inclusion w o.1)
 block_taken number layer i w o h b = block_after number layer i w o h ∙ ap (λ (c : Bool). cond c (taken_at number i (with_inclusion w o.1)) (Ok (with_inclusion w o.1))) b
 
 pub taken_zeros_err : (number i : ℕ) (w : BandWalk) (e : Fault) → zero_planes_at w.band.planes i (block_in w.band.blocks i) (w.band.zeros, w.bits) ≡ Err e → taken_at number i w ≡ Err e
 unfolding taken_at
 taken_zeros_err number i w e h =
-    ap (λ (r : Result (ℕ × (Tree × Bits)) Fault). r >>= λ z. piece_at (most_passes w.band.planes z.0) (block_in w.band.blocks i).passes (block_in w.band.blocks i).length_bits z.1.1 >>= λ p. Ok (with_piece number i w z p)) h
+    ap (λ (r : Result (ℕ × (TagTreeRead × Bits)) Fault). r >>= λ z. piece_at (most_passes w.band.planes z.0) (block_in w.band.blocks i).passes (block_in w.band.blocks i).length_bits z.1.1 >>= λ p. Ok (with_piece number i w z p)) h
 
-pub taken_zeros : (number i : ℕ) (w : BandWalk) (z : ℕ × (Tree × Bits)) → zero_planes_at w.band.planes i (block_in w.band.blocks i) (w.band.zeros, w.bits) ≡ Ok z
+pub taken_zeros : (number i : ℕ) (w : BandWalk) (z : ℕ × (TagTreeRead × Bits)) → zero_planes_at w.band.planes i (block_in w.band.blocks i) (w.band.zeros, w.bits) ≡ Ok z
     → taken_at number i w ≡ (piece_at (most_passes w.band.planes z.0) (block_in w.band.blocks i).passes (block_in w.band.blocks i).length_bits z.1.1 >>= λ p. Ok (with_piece number i w z p))
 unfolding taken_at
 taken_zeros number i w z h =
-    ap (λ (r : Result (ℕ × (Tree × Bits)) Fault). r >>= λ z. piece_at (most_passes w.band.planes z.0) (block_in w.band.blocks i).passes (block_in w.band.blocks i).length_bits z.1.1 >>= λ p. Ok (with_piece number i w z p)) h
+    ap (λ (r : Result (ℕ × (TagTreeRead × Bits)) Fault). r >>= λ z. piece_at (most_passes w.band.planes z.0) (block_in w.band.blocks i).passes (block_in w.band.blocks i).length_bits z.1.1 >>= λ p. Ok (with_piece number i w z p)) h
 
-pub taken_piece_err : (number i : ℕ) (w : BandWalk) (z : ℕ × (Tree × Bits)) (e : Fault) → zero_planes_at w.band.planes i (block_in w.band.blocks i) (w.band.zeros, w.bits) ≡ Ok z
+pub taken_piece_err : (number i : ℕ) (w : BandWalk) (z : ℕ × (TagTreeRead × Bits)) (e : Fault) → zero_planes_at w.band.planes i (block_in w.band.blocks i) (w.band.zeros, w.bits) ≡ Ok z
     → piece_at (most_passes w.band.planes z.0) (block_in w.band.blocks i).passes (block_in w.band.blocks i).length_bits z.1.1 ≡ Err e → taken_at number i w ≡ Err e
-taken_piece_err number i w z e h k = taken_zeros number i w z h ∙ ap (λ (r : Result (Piece × Bits) Fault). r >>= λ p. Ok (with_piece number i w z p)) k
+taken_piece_err number i w z e h k = taken_zeros number i w z h ∙ ap (λ (r : Result (Addition × Bits) Fault). r >>= λ p. Ok (with_piece number i w z p)) k
 
-pub taken_ok : (number i : ℕ) (w : BandWalk) (z : ℕ × (Tree × Bits)) (p : Piece × Bits) → zero_planes_at w.band.planes i (block_in w.band.blocks i) (w.band.zeros, w.bits) ≡ Ok z
+pub taken_ok : (number i : ℕ) (w : BandWalk) (z : ℕ × (TagTreeRead × Bits)) (p : Addition × Bits) → zero_planes_at w.band.planes i (block_in w.band.blocks i) (w.band.zeros, w.bits) ≡ Ok z
     → piece_at (most_passes w.band.planes z.0) (block_in w.band.blocks i).passes (block_in w.band.blocks i).length_bits z.1.1 ≡ Ok p → taken_at number i w ≡ Ok (with_piece number i w z p)
-taken_ok number i w z p h k = taken_zeros number i w z h ∙ ap (λ (r : Result (Piece × Bits) Fault). r >>= λ p. Ok (with_piece number i w z p)) k
+taken_ok number i w z p h k = taken_zeros number i w z h ∙ ap (λ (r : Result (Addition × Bits) Fault). r >>= λ p. Ok (with_piece number i w z p)) k
 
 pub blocks_none : (number layer i : ℕ) (w : BandWalk) → blocks_at number layer 0 i w ≡ Ok w
 unfolding blocks_at

@@ -10,7 +10,7 @@ use Rattle.jk_tree.specs.Telling.{Speaker, Speaks, written, with_bits}
 use Rattle.jk_packet.specs.declared.shape.BandShape.{BandShape}
 use Rattle.jk_packet.specs.declared.writing.WriteBand.{WriteBand}
 use Rattle.jk_packet.specs.declared.writing.WriteBlock.{WriteBlock}
-use Rattle.jk_packet.specs.PacketText.{Contribution, BandLayer, asks_inclusion, asks_zeros, queries_of, queries_in, queries_before, block_bits, band_bits, leaves}
+use Rattle.jk_packet.specs.PacketText.{PacketContribution, BandLayer, asks_inclusion, asks_zeros, queries_of, queries_in, queries_before, block_bits, band_bits, leaves}
 use Rattle.jk_packet.specs.Written.{Table, contribution_in, first_in, table_at, band_layer, band_trees}
 use Rattle.jk_packet.specs.Writing.{state_of, state_at, IsReady, TreesSpeak}
 use Rattle.jk_packet.proofs.QueryLaws.{before_layer, before_empty}
@@ -32,7 +32,7 @@ front_bits_more : (b : BandShape) (ts : List Table) (l : ℕ) (ls : List BandLay
 front_bits_more b ts l ls i less =
     let f : ℕ → List Bool = λ k. block_bits (leaves b) (band_trees b ts) ls (take k (band_layer ts l)) k (get_or (band_layer ts l) k None) in
     ap (flat_map f) (range_more i) ∙ flat_map-append f (range_with_len 0 i) (i ∷ []) ∙ ap (λ (bs : List Bool). flat_map f (range_with_len 0 i) ++ bs) (append-nil (f i))
-    ∙ ap (λ (c : Option Contribution). flat_map f (range_with_len 0 i) ++ block_bits (leaves b) (band_trees b ts) ls (take i (band_layer ts l)) i c) (band_layer_at ts l i less)
+    ∙ ap (λ (c : Option PacketContribution). flat_map f (range_with_len 0 i) ++ block_bits (leaves b) (band_trees b ts) ls (take i (band_layer ts l)) i c) (band_layer_at ts l i less)
 
 front_bits_all : (b : BandShape) (ts : List Table) (l : ℕ) (ls : List BandLayer) (n : ℕ) → n ≡ length ts → front_bits b ts l ls n ≡ band_bits (leaves b) (band_trees b ts) ls (band_layer ts l)
 unfolding band_bits
@@ -60,7 +60,7 @@ abbrev pub SaysBand : BandShape → List Table → (l : ℕ) → List BandLayer 
 SaysBand b ts l ls band_on w w_on =
     (w_on ≡ with_bits w (band_bits (leaves b) (band_trees b ts) ls (band_layer ts l))) × TreesSpeak b ts (ls ++ Some (band_layer ts l) ∷ []) [] band_on
 
-pub speaks_layer : (b : BandShape) (ts : List Table) (ls : List BandLayer) (blocks : List (Option Contribution)) (band : WriteBand) → TreesSpeak b ts ls blocks band → TreesSpeak b ts (ls ++ Some blocks ∷ []) [] band
+pub speaks_layer : (b : BandShape) (ts : List Table) (ls : List BandLayer) (blocks : List (Option PacketContribution)) (band : WriteBand) → TreesSpeak b ts ls blocks band → TreesSpeak b ts (ls ++ Some blocks ∷ []) [] band
 speaks_layer b ts ls blocks band sp = record {
   inclusion = subst (λ (qs : List Query). Speaks (leaves b) (band_trees b ts).inclusion qs band.inclusion.nodes) (sym (before_layer asks_inclusion ls blocks)) sp.inclusion;
   zeros = subst (λ (qs : List Query). Speaks (leaves b) (band_trees b ts).zeros qs band.zeros.nodes) (sym (before_layer asks_zeros ls blocks)) sp.zeros;
@@ -76,7 +76,7 @@ pub front_ends : (b : BandShape) (ts : List Table) (l n : ℕ) (ls : List BandLa
 front_ends b ts l n ls band_on w w_on all said =
     let whole : take n (band_layer ts l) ≡ band_layer ts l = take_all n (band_layer ts l) (let e = length-map ts (λ t. contribution_in t l) in omega (arith, e, all)) in (
       said.0 ∙ ap (λ (bs : List Bool). with_bits w bs) (front_bits_all b ts l ls n all),
-      speaks_layer b ts ls (band_layer ts l) band_on (subst (λ (cs : List (Option Contribution)). TreesSpeak b ts ls cs band_on) whole said.1),
+      speaks_layer b ts ls (band_layer ts l) band_on (subst (λ (cs : List (Option PacketContribution)). TreesSpeak b ts ls cs band_on) whole said.1),
     )
 
 -- All blocks told is the next layer waiting.
@@ -104,7 +104,7 @@ ready_empty b ts l band same is = record {
 }
 
 -- Before the first packet.
-no_queries : (ask : List BandLayer → ℕ → Option Contribution → List Query) → queries_before ask [] [] ≡ []
+no_queries : (ask : List BandLayer → ℕ → Option PacketContribution → List Query) → queries_before ask [] [] ≡ []
 unfolding queries_of queries_in
 no_queries ask = refl
 
@@ -117,7 +117,7 @@ state_open ts firsts blocks j less first_is block_is =
     ∙ ap (λ n. record { first = n; length_bits = 3 }) (ap (λ (ns : List ℕ). get_or ns j 0) first_is ∙ get_or-map (λ (t : Table). first_in t.parts) ts j _ 0 less)
     ∙ ap (λ n. record { first = first_in (table_at ts j).parts; length_bits = n }) (sym (lblock_first (table_at ts j)))
 
-pub speaks_open : (b : BandShape) (ts : List Table) (ask : List BandLayer → ℕ → Option Contribution → List Query) (values due : List ℕ) (tree : Speaker) → values ≡ due → tree.shape ≡ leaves b → Speaks tree.shape (written tree.shape values) [] tree.nodes
+pub speaks_open : (b : BandShape) (ts : List Table) (ask : List BandLayer → ℕ → Option PacketContribution → List Query) (values due : List ℕ) (tree : Speaker) → values ≡ due → tree.shape ≡ leaves b → Speaks tree.shape (written tree.shape values) [] tree.nodes
     → Speaks (leaves b) (written (leaves b) due) (queries_before ask [] []) tree.nodes
 speaks_open b ts ask values due tree same shape sp =
     subst (λ (qs : List Query). Speaks (leaves b) (written (leaves b) due) qs tree.nodes) (sym (no_queries ask))

@@ -5,11 +5,11 @@ use Rattle.std.proofs.lemmas.List.{append-nil, length-map, length-set, get_or-se
 use Rattle.jk_math.specs.Steps.{bind_then}
 use Rattle.jk_bits.specs.Reading.{Bits, ahead}
 use Rattle.jk_tree.specs.TagTree.{Shape}
-use Rattle.jk_bits.specs.Giving.{Gives, advance, ahead_on, gives_none, gives_join}
+use Rattle.jk_bits.specs.Giving.{GivesBits, advance, ahead_on, gives_none, gives_join}
 use Rattle.jk_packet.specs.declared.shape.BandShape.{BandShape}
 use Rattle.jk_packet.specs.declared.header.BlockContribution.{BlockContribution}
 use Rattle.jk_packet.specs.Reading.{BandState, BandWalk, Walk, band_in, no_band, blocks_at, band_at, bands_at}
-use Rattle.jk_packet.specs.PacketText.{Contribution, Layer, of_band, band_layers, Trees, band_shape, leaves, bands_bits, AreBands, band_parts, bands_parts}
+use Rattle.jk_packet.specs.PacketText.{PacketContribution, Layer, of_band, band_layers, Trees, band_shape, leaves, bands_bits, ArePacketBands, band_parts, bands_parts}
 use Rattle.jk_packet.specs.Standing.{BandStands}
 use Rattle.jk_packet.proofs.Codes.{advance_twice}
 use Rattle.jk_packet.proofs.BandLaws.{bands_none, bands_next}
@@ -20,7 +20,7 @@ bits_end : (shapes : List BandShape) (t : Trees) (layers : List Layer) (number :
 unfolding bands_bits
 bits_end shapes t layers number = refl
 
-bits_more : (shapes : List BandShape) (t : Trees) (layers : List Layer) (number : ℕ) (cs : List (Option Contribution)) (ls : List (List (Option Contribution)))
+bits_more : (shapes : List BandShape) (t : Trees) (layers : List Layer) (number : ℕ) (cs : List (Option PacketContribution)) (ls : List (List (Option PacketContribution)))
     → bands_bits shapes t layers number (cs ∷ ls) ≡ band_from (leaves (band_shape shapes number)) (t number) (band_layers number layers) [] cs ++ bands_bits shapes t layers (number + 1) ls
 unfolding bands_bits
 bits_more shapes t layers number cs ls =
@@ -30,15 +30,15 @@ parts_end : (number : ℕ) → bands_parts number [] ≡ []
 unfolding bands_parts
 parts_end number = refl
 
-parts_more : (number : ℕ) (cs : List (Option Contribution)) (ls : List (List (Option Contribution))) → bands_parts number (cs ∷ ls) ≡ band_parts number 0 cs ++ bands_parts (number + 1) ls
+parts_more : (number : ℕ) (cs : List (Option PacketContribution)) (ls : List (List (Option PacketContribution))) → bands_parts number (cs ∷ ls) ≡ band_parts number 0 cs ++ bands_parts (number + 1) ls
 unfolding bands_parts
 parts_more number cs ls = refl
 
 -- the list of a sub-band, that in hand or one behind it
-own_list : (cs : List (Option Contribution)) (ls : List (List (Option Contribution))) (number : ℕ) → get_or (cs ∷ ls) (number - number) [] ≡ cs
+own_list : (cs : List (Option PacketContribution)) (ls : List (List (Option PacketContribution))) (number : ℕ) → get_or (cs ∷ ls) (number - number) [] ≡ cs
 own_list cs ls number = ap (λ k. get_or (cs ∷ ls) k []) (let e : number - number ≡ 0 = omega arith in e)
 
-next_list : (cs : List (Option Contribution)) (ls : List (List (Option Contribution))) (number n : ℕ) → number + 1 ≤ n → get_or (cs ∷ ls) (n - number) [] ≡ get_or ls (n - (number + 1)) []
+next_list : (cs : List (Option PacketContribution)) (ls : List (List (Option PacketContribution))) (number n : ℕ) → number + 1 ≤ n → get_or (cs ∷ ls) (n - number) [] ≡ get_or ls (n - (number + 1)) []
 next_list cs ls number n more = ap (λ k. get_or (cs ∷ ls) k []) (let e : n - number ≡ suc (n - (number + 1)) = omega (arith, more) in e)
 
 -- reading a whole sub-band
@@ -49,14 +49,14 @@ band_whole b layers number count w shape all =
     ∙ ap (λ k. blocks_at number (length layers) k 0 w) (sym all)
     ∙ ap (λ l. blocks_at number l count 0 w) (sym (length-map layers (of_band number)))
 
-abbrev AllStand : List BandShape → Trees → List Layer → ℕ → List (List (Option Contribution)) → List BandState → Type 0
+abbrev AllStand : List BandShape → Trees → List Layer → ℕ → List (List (Option PacketContribution)) → List BandState → Type 0
 AllStand shapes t layers number ls bands = (n : ℕ) → number ≤ n → n < length shapes → BandStands (band_shape shapes n) (t n) (band_layers n layers) (get_or ls (n - number) []) (band_in bands n)
 
 abbrev NoneStand : List BandShape → Trees → List Layer → ℕ → List BandState → Type 0
 NoneStand shapes t layers number bands = (n : ℕ) → number ≤ n → n < length shapes → BandStands (band_shape shapes n) (t n) (band_layers n layers) [] (band_in bands n)
 
 -- What is told of sub-bands is read.
-pub record BandsOnly (shapes : List BandShape) (t : Trees) (layers : List Layer) (number : ℕ) (ls : List (List (Option Contribution))) (w : Walk) : Type 0 where
+pub record BandsOnly (shapes : List BandShape) (t : Trees) (layers : List Layer) (number : ℕ) (ls : List (List (Option PacketContribution))) (w : Walk) : Type 0 where
   pub after : Walk
   pub is : bands_at (length layers) (length ls) number w ≡ Ok after
   pub count : length after.bands ≡ length w.bands
@@ -65,8 +65,8 @@ pub record BandsOnly (shapes : List BandShape) (t : Trees) (layers : List Layer)
   pub bits : after.bits ≡ advance w.bits (length (bands_bits shapes t layers number ls))
   pub parts : after.parts ≡ w.parts ++ bands_parts number ls
 
-pub bands_only : (shapes : List BandShape) (t : Trees) (layers : List Layer) (number : ℕ) (ls : List (List (Option Contribution))) (w : Walk) (rest : List Bool) → number + length ls ≡ length shapes → length w.bands ≡ length shapes
-    → NoneStand shapes t layers number w.bands → AreBands shapes t layers number ls → ahead w.bits ≡ bands_bits shapes t layers number ls ++ rest → BandsOnly shapes t layers number ls w
+pub bands_only : (shapes : List BandShape) (t : Trees) (layers : List Layer) (number : ℕ) (ls : List (List (Option PacketContribution))) (w : Walk) (rest : List Bool) → number + length ls ≡ length shapes → length w.bands ≡ length shapes
+    → NoneStand shapes t layers number w.bands → ArePacketBands shapes t layers number ls → ahead w.bits ≡ bands_bits shapes t layers number ls ++ rest → BandsOnly shapes t layers number ls w
 bands_only shapes t layers number [] w rest all long st are h = record {
   after = w;
   is = bands_none (length layers) number w;
@@ -97,9 +97,9 @@ bands_only shapes t layers number (cs ∷ ls) w rest all long st are h =
       earlier = λ n less. on.earlier n (omega (arith, less)) ∙ get_or-set_other w.bands number n u.band no_band (λ e. omega (arith, less, e));
       stands = λ n more less. elim (cases_eq n number) [
         | inl same ↦ subst (λ k. BandStands (band_shape shapes k) (t k) (band_layers k layers) (get_or (cs ∷ ls) (k - number) []) (band_in on.after.bands k)) (sym same)
-            (subst (λ (l : List (Option Contribution)). BandStands b (t number) (band_layers number layers) l (band_in on.after.bands number)) (sym (own_list cs ls number))
+            (subst (λ (l : List (Option PacketContribution)). BandStands b (t number) (band_layers number layers) l (band_in on.after.bands number)) (sym (own_list cs ls number))
             (subst (λ (s : BandState). BandStands b (t number) (band_layers number layers) cs s) (sym (on.earlier number (omega arith) ∙ get_or-set_same w.bands number u.band no_band (omega (arith, here, long)))) one.stands))
-        | inr apart ↦ subst (λ (l : List (Option Contribution)). BandStands (band_shape shapes n) (t n) (band_layers n layers) l (band_in on.after.bands n)) (sym (next_list cs ls number n (omega (arith, more, apart))))
+        | inr apart ↦ subst (λ (l : List (Option PacketContribution)). BandStands (band_shape shapes n) (t n) (band_layers n layers) l (band_in on.after.bands n)) (sym (next_list cs ls number n (omega (arith, more, apart))))
             (on.stands n (omega (arith, more, apart)) less)
       ];
       bits =
@@ -116,13 +116,13 @@ bands_only shapes t layers number (cs ∷ ls) w rest all long st are h =
 
 -- What is read of sub-bands is told.
 pub record BandsFound (shapes : List BandShape) (layers : List Layer) (number more : ℕ) (w v : Walk) : Type 0 where
-  pub ls : List (List (Option Contribution))
+  pub ls : List (List (Option PacketContribution))
   pub all : length ls ≡ more
   pub count : length v.bands ≡ length w.bands
   pub earlier : (n : ℕ) → n < number → band_in v.bands n ≡ band_in w.bands n
   pub reached : (n : ℕ) → number ≤ n → n < length shapes → BandReached (band_shape shapes n) (band_layers n layers) (get_or ls (n - number) []) (band_in v.bands n)
   pub parts : v.parts ≡ w.parts ++ bands_parts number ls
-  pub each : (t : Trees) → AllStand shapes t layers number ls v.bands → NoneStand shapes t layers number w.bands × Gives w.bits (bands_bits shapes t layers number ls) v.bits × AreBands shapes t layers number ls
+  pub each : (t : Trees) → AllStand shapes t layers number ls v.bands → NoneStand shapes t layers number w.bands × GivesBits w.bits (bands_bits shapes t layers number ls) v.bits × ArePacketBands shapes t layers number ls
 
 abbrev NoneReached : List BandShape → List Layer → ℕ → List BandState → Type 0
 NoneReached shapes layers number bands = (n : ℕ) → number ≤ n → n < length shapes → BandReached (band_shape shapes n) (band_layers n layers) [] (band_in bands n)
@@ -137,7 +137,7 @@ bands_end shapes layers number w all = record {
   parts = sym (append-nil w.parts) ∙ ap (λ (ps : List BlockContribution). w.parts ++ ps) (sym (parts_end number));
   each = λ t st. (
     λ n more less. absurd (omega (arith, all, more, less)),
-    subst (λ (xs : List Bool). Gives w.bits xs w.bits) (sym (bits_end shapes t layers number)) (gives_none w.bits),
+    subst (λ (xs : List Bool). GivesBits w.bits xs w.bits) (sym (bits_end shapes t layers number)) (gives_none w.bits),
     tt,
   );
 }
@@ -156,9 +156,9 @@ bands_step shapes layers number more w u v here long one on =
       earlier = λ n less. on.earlier n (omega (arith, less)) ∙ get_or-set_other w.bands number n u.band no_band (λ e. omega (arith, less, e));
       reached = λ n from less. elim (cases_eq n number) [
         | inl same ↦ subst (λ k. BandReached (band_shape shapes k) (band_layers k layers) (get_or (cs ∷ on.ls) (k - number) []) (band_in v.bands k)) (sym same)
-            (subst (λ (l : List (Option Contribution)). BandReached b (band_layers number layers) l (band_in v.bands number)) (sym (own_list cs on.ls number))
+            (subst (λ (l : List (Option PacketContribution)). BandReached b (band_layers number layers) l (band_in v.bands number)) (sym (own_list cs on.ls number))
             (subst (λ (s : BandState). BandReached b (band_layers number layers) cs s) (sym own) one.reached))
-        | inr apart ↦ subst (λ (l : List (Option Contribution)). BandReached (band_shape shapes n) (band_layers n layers) l (band_in v.bands n)) (sym (next_list cs on.ls number n (omega (arith, from, apart))))
+        | inr apart ↦ subst (λ (l : List (Option PacketContribution)). BandReached (band_shape shapes n) (band_layers n layers) l (band_in v.bands n)) (sym (next_list cs on.ls number n (omega (arith, from, apart))))
             (on.reached n (omega (arith, from, apart)) less)
       ];
       parts =
@@ -169,14 +169,14 @@ bands_step shapes layers number more w u v here long one on =
       each = λ t st.
           let mine : BandStands b (t number) (band_layers number layers) cs u.band =
           subst (λ (s : BandState). BandStands b (t number) (band_layers number layers) cs s) own
-          (subst (λ (l : List (Option Contribution)). BandStands b (t number) (band_layers number layers) l (band_in v.bands number)) (own_list cs on.ls number) (st number (omega arith) here)) in
+          (subst (λ (l : List (Option PacketContribution)). BandStands b (t number) (band_layers number layers) l (band_in v.bands number)) (own_list cs on.ls number) (st number (omega arith) here)) in
           let f = one.each (t number) mine in
-          let e = on.each t (λ n from less. subst (λ (l : List (Option Contribution)). BandStands (band_shape shapes n) (t n) (band_layers n layers) l (band_in v.bands n)) (next_list cs on.ls number n from) (st n (omega (arith, from)) less)) in (
+          let e = on.each t (λ n from less. subst (λ (l : List (Option PacketContribution)). BandStands (band_shape shapes n) (t n) (band_layers n layers) l (band_in v.bands n)) (next_list cs on.ls number n from) (st n (omega (arith, from)) less)) in (
             λ n from less. elim (cases_eq n number) [
               | inl same ↦ subst (λ k. BandStands (band_shape shapes k) (t k) (band_layers k layers) [] (band_in w.bands k)) (sym same) f.0
               | inr apart ↦ subst (λ (s : BandState). BandStands (band_shape shapes n) (t n) (band_layers n layers) [] s) (get_or-set_other w.bands number n u.band no_band apart) (e.0 n (omega (arith, from, apart)) less)
             ],
-            subst (λ (xs : List Bool). Gives w.bits xs v.bits) (sym (bits_more shapes t layers number cs on.ls))
+            subst (λ (xs : List Bool). GivesBits w.bits xs v.bits) (sym (bits_more shapes t layers number cs on.ls))
                 (gives_join w.bits u.bits v.bits (band_from (leaves b) (t number) (band_layers number layers) [] cs) (bands_bits shapes t layers (number + 1) on.ls) f.1 e.1),
             (one.count, f.2, e.2),
           );

@@ -6,14 +6,14 @@ use Rattle.jk_math.specs.Answer.{◌>>=◌}
 use Rattle.jk_math.specs.Steps.{bind_then}
 use Rattle.jk_bits.specs.Reading.{Bits, ahead}
 use Rattle.jk_tree.specs.TagTree.{Query}
-use Rattle.jk_tree.specs.Asking.{AreTold, AreToldBySome, Tree, IsOpen}
-use Rattle.jk_bits.specs.Giving.{Gives, advance, ahead_on, gives_join}
+use Rattle.jk_tree.specs.Asking.{AreTold, AreToldBySome, TagTreeRead, IsOpen}
+use Rattle.jk_bits.specs.Giving.{GivesBits, advance, ahead_on, gives_join}
 use Rattle.jk_packet.specs.declared.shape.BandShape.{BandShape}
 use Rattle.jk_packet.specs.declared.block.Block.{Block}
-use Rattle.jk_packet.specs.declared.words.Piece.{Piece}
+use Rattle.jk_packet.specs.declared.words.Addition.{Addition}
 use Rattle.jk_packet.specs.Words.{piece_bits, most_passes}
 use Rattle.jk_packet.specs.Reading.{BandState, BandWalk, block_in, grown, included_at, zero_planes_at, piece_at, with_inclusion, with_piece, taken_at, block_at}
-use Rattle.jk_packet.specs.PacketText.{Contribution, BandLayer, contributions, zeros_of, passes_of, lblock_of, is_included, asks_inclusion, asks_zeros, queries_before, BandTrees, leaves, inclusion_bits, zeros_bits, taken_bits, block_bits, IsContribution, IsBlock, block_parts}
+use Rattle.jk_packet.specs.PacketText.{PacketContribution, BandLayer, contributions, zeros_of, passes_of, lblock_of, is_included, asks_inclusion, asks_zeros, queries_before, BandTrees, leaves, inclusion_bits, zeros_bits, taken_bits, block_bits, IsContribution, IsBlock, block_parts}
 use Rattle.jk_packet.specs.Standing.{block_of, so_far, HoldsBlocks, BandStands}
 use Rattle.jk_packet.proofs.Codes.{advance_twice}
 use Rattle.jk_packet.proofs.Pieces.{Says, coded_piece}
@@ -22,12 +22,12 @@ use Rattle.jk_packet.proofs.InclusionLaws.{included_only, included_found, zeros_
 use Rattle.jk_packet.proofs.BandLaws.{block_left, block_taken, taken_ok}
 
 -- a sub-band that layers and the front of a packet may have left
-pub record BandReached (b : BandShape) (layers : List BandLayer) (front : List (Option Contribution)) (state : BandState) : Type 0 where
+pub record BandReached (b : BandShape) (layers : List BandLayer) (front : List (Option PacketContribution)) (state : BandState) : Type 0 where
   pub holds : HoldsBlocks b layers front state
   pub inclusion : AreToldBySome (leaves b) (queries_before asks_inclusion layers front) state.inclusion.nodes
   pub zeros : AreToldBySome (leaves b) (queries_before asks_zeros layers front) state.zeros.nodes
 
-module _ (b : BandShape) (layers : List BandLayer) (front : List (Option Contribution)) (number : ℕ) (w : BandWalk) (holds : HoldsBlocks b layers front w.band) (less : length front < b.across * b.down) where
+module _ (b : BandShape) (layers : List BandLayer) (front : List (Option PacketContribution)) (number : ℕ) (w : BandWalk) (holds : HoldsBlocks b layers front w.band) (less : length front < b.across * b.down) where
   -- the block in hand has the contributions of the layers
   block_is : block_in w.band.blocks (length front) ≡ block_of (contributions layers (length front))
   block_is = holds.blocks (length front) less ∙ ap block_of (so_far_none layers front (length front) (omega arith))
@@ -35,7 +35,7 @@ module _ (b : BandShape) (layers : List BandLayer) (front : List (Option Contrib
   included_is : (block_in w.band.blocks (length front)).included ≡ is_included layers (length front)
   included_is = ap (λ (x : Block). x.included) block_is
 
-  holds_none : (t : Tree) → IsOpen (leaves b) t → HoldsBlocks b layers (front ++ None ∷ []) (record w.band { inclusion = t })
+  holds_none : (t : TagTreeRead) → IsOpen (leaves b) t → HoldsBlocks b layers (front ++ None ∷ []) (record w.band { inclusion = t })
   holds_none t can = record {
     shape = holds.shape;
     planes = holds.planes;
@@ -49,7 +49,7 @@ module _ (b : BandShape) (layers : List BandLayer) (front : List (Option Contrib
     zeros = holds.zeros;
   }
 
-  holds_some : (c : Contribution) (t z : Tree) → IsOpen (leaves b) t → IsOpen (leaves b) z → (is_included layers (length front) ≡ true → c.zero_planes ≡ zeros_of (contributions layers (length front)))
+  holds_some : (c : PacketContribution) (t z : TagTreeRead) → IsOpen (leaves b) t → IsOpen (leaves b) z → (is_included layers (length front) ≡ true → c.zero_planes ≡ zeros_of (contributions layers (length front)))
       → HoldsBlocks b layers (front ++ Some c ∷ []) (record w.band { blocks = set w.band.blocks (length front) (grown (block_in w.band.blocks (length front)) c.zero_planes c.piece); inclusion = t; zeros = z })
   holds_some c t z can can_z later =
       let x = grown (block_in w.band.blocks (length front)) c.zero_planes c.piece in
@@ -70,7 +70,7 @@ module _ (b : BandShape) (layers : List BandLayer) (front : List (Option Contrib
       }
 
   -- what is told of a block is read
-  pub record BlockOnly (t : BandTrees) (c : Option Contribution) : Type 0 where
+  pub record BlockOnly (t : BandTrees) (c : Option PacketContribution) : Type 0 where
     pub after : BandWalk
     pub is : block_at number (length layers) (length front) w ≡ Ok after
     pub stands : BandStands b t layers (front ++ c ∷ []) after.band
@@ -78,7 +78,7 @@ module _ (b : BandShape) (layers : List BandLayer) (front : List (Option Contrib
     pub parts : after.parts ≡ w.parts ++ block_parts number (length front) c
 
   -- the words of a contribution are read
-  piece_at_block : (c : Contribution) (zeros : ℕ → ℕ → ℕ → ℕ) (r : Bits) (rest : List Bool) → IsContribution (leaves b) b.planes zeros layers (length front) c → ahead r ≡ piece_bits (lblock_of (contributions layers (length front))) c.piece ++ rest
+  piece_at_block : (c : PacketContribution) (zeros : ℕ → ℕ → ℕ → ℕ) (r : Bits) (rest : List Bool) → IsContribution (leaves b) b.planes zeros layers (length front) c → ahead r ≡ piece_bits (lblock_of (contributions layers (length front))) c.piece ++ rest
       → piece_at (most_passes w.band.planes c.zero_planes) (block_in w.band.blocks (length front)).passes (block_in w.band.blocks (length front)).length_bits r
       ≡ Ok (c.piece, advance r (length (piece_bits (lblock_of (contributions layers (length front))) c.piece)))
   piece_at_block c zeros r rest i h =
@@ -106,7 +106,7 @@ module _ (b : BandShape) (layers : List BandLayer) (front : List (Option Contrib
         parts = sym (append-nil w.parts);
       }
 
-  some_only : (t : BandTrees) (c : Contribution) (rest : List Bool) → BandStands b t layers front w.band → IsBlock (leaves b) b.planes t layers (length front) (Some c) → ahead w.bits ≡ block_bits (leaves b) t layers front (length front) (Some c) ++ rest → BlockOnly t (Some c)
+  some_only : (t : BandTrees) (c : PacketContribution) (rest : List Bool) → BandStands b t layers front w.band → IsBlock (leaves b) b.planes t layers (length front) (Some c) → ahead w.bits ≡ block_bits (leaves b) t layers front (length front) (Some c) ++ rest → BlockOnly t (Some c)
   some_only t c rest st i h =
       let n = length front in
       let x = block_in w.band.blocks n in
@@ -135,19 +135,19 @@ module _ (b : BandShape) (layers : List BandLayer) (front : List (Option Contrib
         parts = refl;
       }
 
-  pub block_only : (t : BandTrees) (c : Option Contribution) (rest : List Bool) → BandStands b t layers front w.band → IsBlock (leaves b) b.planes t layers (length front) c → ahead w.bits ≡ block_bits (leaves b) t layers front (length front) c ++ rest → BlockOnly t c
+  pub block_only : (t : BandTrees) (c : Option PacketContribution) (rest : List Bool) → BandStands b t layers front w.band → IsBlock (leaves b) b.planes t layers (length front) c → ahead w.bits ≡ block_bits (leaves b) t layers front (length front) c ++ rest → BlockOnly t c
   block_only t None rest st i h = none_only t rest st i h
   block_only t (Some c) rest st i h = some_only t c rest st i h
 
   -- what is read of a block is told
   pub record BlockFound (v : BandWalk) : Type 0 where
-    pub c : Option Contribution
+    pub c : Option PacketContribution
     pub reached : BandReached b layers (front ++ c ∷ []) v.band
     pub parts : v.parts ≡ w.parts ++ block_parts number (length front) c
     pub each : (t : BandTrees) → BandStands b t layers (front ++ c ∷ []) v.band
-        → BandStands b t layers front w.band × Gives w.bits (block_bits (leaves b) t layers front (length front) c) v.bits × IsBlock (leaves b) b.planes t layers (length front) c
+        → BandStands b t layers front w.band × GivesBits w.bits (block_bits (leaves b) t layers front (length front) c) v.bits × IsBlock (leaves b) b.planes t layers (length front) c
 
-  none_found : (o : Tree × Bits) → BandReached b layers front w.band → included_at (length layers) (length front) (block_in w.band.blocks (length front)) (w.band.inclusion, w.bits) ≡ Ok (false, o) → BlockFound (with_inclusion w o)
+  none_found : (o : TagTreeRead × Bits) → BandReached b layers front w.band → included_at (length layers) (length front) (block_in w.band.blocks (length front)) (w.band.inclusion, w.bits) ≡ Ok (false, o) → BlockFound (with_inclusion w o)
   none_found o reached e =
       let f = included_found (leaves b) layers front less (block_in w.band.blocks (length front)) included_is w.band.inclusion holds.inclusion None w.bits (false, o) reached.inclusion e in
       record {
@@ -161,12 +161,12 @@ module _ (b : BandShape) (layers : List BandLayer) (front : List (Option Contrib
         each = λ t st.
             let g = f.each t.inclusion st.inclusion in (
               record { holds = holds; inclusion = g.0; zeros = subst (λ (qs : List Query). AreTold (leaves b) t.zeros qs w.band.zeros.nodes) (zeros_none layers front) st.zeros },
-              subst (λ (xs : List Bool). Gives w.bits xs o.1) (sym (append-nil (inclusion_bits (leaves b) t.inclusion layers front (length front) false))) g.1,
+              subst (λ (xs : List Bool). GivesBits w.bits xs o.1) (sym (append-nil (inclusion_bits (leaves b) t.inclusion layers front (length front) false))) g.1,
               record { first = g.2; taken = tt },
             );
       }
 
-  some_found : (o : Tree × Bits) (z : ℕ × (Tree × Bits)) (p : Piece × Bits) → BandReached b layers front w.band
+  some_found : (o : TagTreeRead × Bits) (z : ℕ × (TagTreeRead × Bits)) (p : Addition × Bits) → BandReached b layers front w.band
       → included_at (length layers) (length front) (block_in w.band.blocks (length front)) (w.band.inclusion, w.bits) ≡ Ok (true, o)
       → zero_planes_at w.band.planes (length front) (block_in w.band.blocks (length front)) (w.band.zeros, o.1) ≡ Ok z
       → piece_at (most_passes w.band.planes z.0) (block_in w.band.blocks (length front)).passes (block_in w.band.blocks (length front)).length_bits z.1.1 ≡ Ok p
@@ -175,14 +175,14 @@ module _ (b : BandShape) (layers : List BandLayer) (front : List (Option Contrib
       let n = length front in
       let x = block_in w.band.blocks n in
       let cs = contributions layers n in
-      let c : Contribution = record { zero_planes = z.0; piece = p.0 } in
+      let c : PacketContribution = record { zero_planes = z.0; piece = p.0 } in
       let f = included_found (leaves b) layers front less x included_is w.band.inclusion holds.inclusion (Some c) w.bits (true, o) reached.inclusion e in
       let g = zeros_found (leaves b) layers front less x included_is w.band.zeros holds.zeros w.band.planes c o.1 z refl reached.zeros ez in
       let q = (coded_piece (most_passes w.band.planes z.0) x.passes x.length_bits).found z.1.1 p ep in
       let at_planes : Says (most_passes b.planes z.0) x.passes x.length_bits p.0 q.0 = subst (λ k. Says (most_passes k z.0) x.passes x.length_bits p.0 q.0) holds.planes q.1 in
       let says : Says (most_passes b.planes z.0) (passes_of cs) (lblock_of cs) p.0 q.0 = subst (λ (y : Block). Says (most_passes b.planes z.0) y.passes y.length_bits p.0 q.0) block_is at_planes in
       let later : is_included layers n ≡ true → z.0 ≡ zeros_of cs = λ old. g.later old ∙ ap (λ (y : Block). y.zero_planes) block_is in
-      let words : Gives z.1.1 (piece_bits (lblock_of cs) p.0) p.1 = subst (λ (xs : List Bool). Gives z.1.1 xs p.1) says.words q.2 in
+      let words : GivesBits z.1.1 (piece_bits (lblock_of cs) p.0) p.1 = subst (λ (xs : List Bool). GivesBits z.1.1 xs p.1) says.words q.2 in
       record {
         c = Some c;
         reached = record { holds = holds_some c o.0 z.1.0 f.can_go g.can_go later; inclusion = f.reached; zeros = g.reached };
@@ -205,7 +205,7 @@ module _ (b : BandShape) (layers : List BandLayer) (front : List (Option Contrib
             );
       }
 
-  taken_found : (v : BandWalk) (o : Tree × Bits) → BandReached b layers front w.band → included_at (length layers) (length front) (block_in w.band.blocks (length front)) (w.band.inclusion, w.bits) ≡ Ok (true, o)
+  taken_found : (v : BandWalk) (o : TagTreeRead × Bits) → BandReached b layers front w.band → included_at (length layers) (length front) (block_in w.band.blocks (length front)) (w.band.inclusion, w.bits) ≡ Ok (true, o)
       → taken_at number (length front) (with_inclusion w o) ≡ Ok v → BlockFound v
   unfolding taken_at
   taken_found v o reached e h =
@@ -217,7 +217,7 @@ module _ (b : BandShape) (layers : List BandLayer) (front : List (Option Contrib
       let is : with_piece number n w1 z p ≡ v = cc in
       subst (λ (y : BandWalk). BlockFound y) is (some_found o z p reached e ez ep)))
 
-  found_by : (v : BandWalk) (taken : Bool) (o : Tree × Bits) → BandReached b layers front w.band → included_at (length layers) (length front) (block_in w.band.blocks (length front)) (w.band.inclusion, w.bits) ≡ Ok (taken, o)
+  found_by : (v : BandWalk) (taken : Bool) (o : TagTreeRead × Bits) → BandReached b layers front w.band → included_at (length layers) (length front) (block_in w.band.blocks (length front)) (w.band.inclusion, w.bits) ≡ Ok (taken, o)
       → cond taken (taken_at number (length front) (with_inclusion w o)) (Ok (with_inclusion w o)) ≡ Ok v → BlockFound v
   found_by v true o reached e h = taken_found v o reached e h
   found_by v false o reached e h = let is : with_inclusion w o ≡ v = cc in subst (λ (y : BandWalk). BlockFound y) is (none_found o reached e)

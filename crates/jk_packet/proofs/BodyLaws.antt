@@ -11,7 +11,7 @@ use Rattle.std.proofs.lemmas.List.Sums.{sum_by-append, sum_by_more}
 use Rattle.jk_packet.specs.declared.shape.BandShape.{BandShape}
 use Rattle.jk_packet.specs.declared.header.BlockContribution.{BlockContribution}
 use Rattle.jk_packet.specs.Reading.{part_of}
-use Rattle.jk_packet.specs.PacketText.{Contribution, option_list, band_shape, block_parts, band_parts, bands_parts, parts_of}
+use Rattle.jk_packet.specs.PacketText.{PacketContribution, option_list, band_shape, block_parts, band_parts, bands_parts, parts_of}
 use Rattle.jk_packet.specs.Written.{Table, part_in, contribution_in, band_tables, table_at, has_passes, is_full, band_layer, layer_in, bodies_text, body_in, band_bodies, bands_bodies, bodies_in, bodies_of, HasBlock, IsTable, AreTables}
 use Rattle.jk_packet.proofs.HistoryLaws.{own_contribution, contribution_none, contribution_some}
 use Rattle.jk_packet.proofs.WrittenLaws.{layer_full, layer_empty}
@@ -23,16 +23,16 @@ Body = BlockContribution × List ℕ
 
 -- a block without passes has no body, and one with passes has one
 body_none : (i j l : ℕ) (t : Table) → nat_eq (part_in t l).0 0 ≡ true → body_in i j l t ≡ []
-body_none i j l t none = ap (λ (c : Option Contribution). map (λ d. (part_of i j d.zero_planes d.piece, (part_in t l).1)) (option_list c)) (contribution_none t l none)
+body_none i j l t none = ap (λ (c : Option PacketContribution). map (λ d. (part_of i j d.zero_planes d.piece, (part_in t l).1)) (option_list c)) (contribution_none t l none)
 
 abbrev own_body : (i j l : ℕ) → Table → Body
 own_body i j l t = (part_of i j t.zero_planes (own_contribution t l).piece, (part_in t l).1)
 
 body_some : (i j l : ℕ) (t : Table) → nat_eq (part_in t l).0 0 ≡ false → body_in i j l t ≡ own_body i j l t ∷ []
-body_some i j l t some = ap (λ (c : Option Contribution). map (λ d. (part_of i j d.zero_planes d.piece, (part_in t l).1)) (option_list c)) (contribution_some t l some)
+body_some i j l t some = ap (λ (c : Option PacketContribution). map (λ d. (part_of i j d.zero_planes d.piece, (part_in t l).1)) (option_list c)) (contribution_some t l some)
 
 -- The parts are those of the layer.
-body_part : (i j : ℕ) (bytes : List ℕ) (c : Option Contribution) → map (λ (b : Body). b.0) (map (λ d. (part_of i j d.zero_planes d.piece, bytes)) (option_list c)) ≡ block_parts i j c
+body_part : (i j : ℕ) (bytes : List ℕ) (c : Option PacketContribution) → map (λ (b : Body). b.0) (map (λ d. (part_of i j d.zero_planes d.piece, bytes)) (option_list c)) ≡ block_parts i j c
 body_part i j bytes None = refl
 body_part i j bytes (Some c) = refl
 

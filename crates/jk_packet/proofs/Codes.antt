@@ -9,14 +9,14 @@ use Rattle.jk_math.specs.declared.fault.Fault.{Fault}
 use Rattle.jk_bits.specs.Stuffing.{binary}
 use Rattle.jk_bits.specs.Reading.{Bits, ahead, bit_at}
 use Rattle.jk_bits.proofs.Laws.{length-binary}
-use Rattle.jk_bits.specs.Giving.{Gives, advance, ahead_on, gives_none, gives_join, gives_bit, bit_ahead}
+use Rattle.jk_bits.specs.Giving.{GivesBits, advance, ahead_on, gives_none, gives_join, gives_bit, bit_ahead}
 use Rattle.jk_packet.specs.Reading.{digit, number_at, growth_at}
 use Rattle.jk_packet.proofs.ReadLaws.{growth_next}
 use Rattle.jk_packet.proofs.TextLaws.{bind_ok}
 
 -- what is read is said by the bits that were given, and what bits say that are ahead is read
 pub record IsCoded {A : Type 0} (read : Bits → Result (A × Bits) Fault) (Says : A → List Bool → Type 0) : Type 0 where
-  pub found : (r : Bits) (o : A × Bits) → read r ≡ Ok o → (bits : List Bool) × Says o.0 bits × Gives r bits o.1
+  pub found : (r : Bits) (o : A × Bits) → read r ≡ Ok o → (bits : List Bool) × Says o.0 bits × GivesBits r bits o.1
   pub only : (a : A) (bits : List Bool) (r : Bits) (rest : List Bool) → Says a bits → ahead r ≡ bits ++ rest → read r ≡ Ok (a, advance r (length bits))
 
 -- one word behind another
@@ -54,7 +54,7 @@ pub coded_pure : {A : Type 0} (a : A) → IsCoded (λ r. Ok (a, r)) (λ b bits. 
 coded_pure {A} a = record {
   found = λ r o h.
       let is : (a, r) ≡ o = cc in
-      subst (λ (p : A × Bits). (bits : List Bool) × ((p.0 ≡ a) × (bits ≡ [])) × Gives r bits p.1) is ([], (refl, refl), gives_none r);
+      subst (λ (p : A × Bits). (bits : List Bool) × ((p.0 ≡ a) × (bits ≡ [])) × GivesBits r bits p.1) is ([], (refl, refl), gives_none r);
   only = λ b bits r rest s h.
       ap (λ (x : A). Ok (x, r)) (sym s.0) ∙ ap (λ n. Ok (b, record r { read = n })) (sym (add-zero r.read)) ∙ ap (λ (xs : List Bool). Ok (b, advance r (length xs))) (sym s.1);
 }
@@ -108,16 +108,16 @@ over_one x = let e : x / 1 ≡ x = omega arith in e
 halves : (x n : ℕ) → x / 2 ^ suc n ≡ x / 2 ^ n / 2
 halves x n = ap (λ k. x / 2 ^ k) (let e : suc n ≡ n + 1 = omega arith in e) ∙ sym (shr-shr x n 1)
 
-number_out : (n value : ℕ) (r : Bits) (o : ℕ × Bits) → number_at n value r ≡ Ok o → (o.0 / 2 ^ n ≡ value) × Gives r (binary n o.0) o.1
+number_out : (n value : ℕ) (r : Bits) (o : ℕ × Bits) → number_at n value r ≡ Ok o → (o.0 / 2 ^ n ≡ value) × GivesBits r (binary n o.0) o.1
 unfolding number_at binary
 number_out zero value r o h =
     let is : (value, r) ≡ o = cc in
-    subst (λ (p : ℕ × Bits). (p.0 / 2 ^ 0 ≡ value) × Gives r [] p.1) is (over_one value, gives_none r)
+    subst (λ (p : ℕ × Bits). (p.0 / 2 ^ 0 ≡ value) × GivesBits r [] p.1) is (over_one value, gives_none r)
 number_out (suc n) value r o h = bind_then (bit_at r) (λ b. number_at n (value * 2 + digit b.0) b.1) o h (λ b e k.
     let on = number_out n (value * 2 + digit b.0) b.1 o k in
     let bit : (o.0 / 2 ^ n % 2 == 1) ≡ b.0 = ap (λ m. m % 2 == 1) on.0 ∙ digit_rest value b.0 in (
       halves o.0 n ∙ ap (λ m. m / 2) on.0 ∙ digit_half value b.0,
-      subst (λ (c : Bool). Gives r (c ∷ binary n o.0) o.1) (sym bit) (gives_join r b.1 o.1 (b.0 ∷ []) (binary n o.0) (gives_bit r b e) on.1),
+      subst (λ (c : Bool). GivesBits r (c ∷ binary n o.0) o.1) (sym bit) (gives_join r b.1 o.1 (b.0 ∷ []) (binary n o.0) (gives_bit r b e) on.1),
     ))
 
 test_digit : (m : ℕ) → digit (m % 2 == 1) ≡ m % 2
@@ -157,10 +157,10 @@ coded_number n = record {
 }
 
 abbrev Grown : ℕ → ℕ → Bits → ℕ × Bits → Type 0
-Grown room growth r o = (k : ℕ) × (o.0 ≡ growth + k) × (k < room) × Gives r (replicate k true ++ false ∷ []) o.1
+Grown room growth r o = (k : ℕ) × (o.0 ≡ growth + k) × (k < room) × GivesBits r (replicate k true ++ false ∷ []) o.1
 
 growth_by_bit : (room growth : ℕ) (r : Bits) (o : ℕ × Bits) → ((on : Bits) → growth_at room (growth + 1) on ≡ Ok o → Grown room (growth + 1) on o)
-    → (bit : Bool) (on : Bits) → Gives r (bit ∷ []) on → cond bit (growth_at room (growth + 1) on) (Ok (growth, on)) ≡ Ok o → Grown (suc room) growth r o
+    → (bit : Bool) (on : Bits) → GivesBits r (bit ∷ []) on → cond bit (growth_at room (growth + 1) on) (Ok (growth, on)) ≡ Ok o → Grown (suc room) growth r o
 growth_by_bit room growth r o rec true on g h =
     let a = rec on h in
     let is = a.1 in

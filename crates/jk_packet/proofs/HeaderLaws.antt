@@ -10,7 +10,7 @@ use Rattle.jk_math.specs.declared.fault.Fault.TheVariants.{Truncated, BadLength,
 use Rattle.jk_bits.specs.Stuffing.{room, stuffed_one, spread, size, Packs}
 use Rattle.jk_bits.specs.Reading.{Bits, ahead, finish_at}
 use Rattle.jk_bits.proofs.Laws.{ReadsBack, reads_back, found_at, finish_within}
-use Rattle.jk_bits.specs.Giving.{Gives, advance, same_bytes}
+use Rattle.jk_bits.specs.Giving.{GivesBits, advance, same_bytes}
 use Rattle.jk_packet.specs.Reading.{BandState, Walk, HeaderText, bits_of, bits_at, sop_at, eph_at, text_end, text_rest, text_at}
 use Rattle.jk_packet.specs.PacketText.{IsSop, eph_text, IsHeaderText}
 use Rattle.jk_packet.proofs.TextLaws.{bind_ok, text_from, text_sop}
@@ -191,7 +191,7 @@ header_only sop eph layer bits text rest bytes bands t some e read =
     )
 
 -- the bits that were read pack the bytes that hold them
-bits_packed : (bytes : List ℕ) (bits : List Bool) (s : Bits) (m : ℕ) → Gives (bits_of bytes) bits s → finish_at s ≡ Ok m → Packs false bits (take m bytes)
+bits_packed : (bytes : List ℕ) (bits : List Bool) (s : Bits) (m : ℕ) → GivesBits (bits_of bytes) bits s → finish_at s ≡ Ok m → Packs false bits (take m bytes)
 bits_packed bytes bits s m g h =
     let n = length bits in
     let moved : s ≡ record { bytes = bytes; read = n; failed = false } = g.moved ∙ ap (λ k. record { bytes = bytes; read = k; failed = false }) (let e : 0 + n ≡ n = omega arith in e) in
@@ -208,7 +208,7 @@ pub record HeaderFound (sop eph : Bool) (layer : ℕ) (bytes : List ℕ) (bands 
   pub bands_are : o.1 ≡ walk.bands
   pub parts_are : o.0.parts ≡ walk.parts
   pub within : o.0.length ≤ length bytes
-  pub text : (bits : List Bool) → Gives (bits_of (drop place bytes)) bits walk.bits → IsHeaderText sop eph bits (take o.0.length bytes)
+  pub text : (bits : List Bool) → GivesBits (bits_of (drop place bytes)) bits walk.bits → IsHeaderText sop eph bits (take o.0.length bytes)
 
 header_parts : (sop eph : Bool) (layer : ℕ) (bytes : List ℕ) (bands : List BandState) (n : ℕ) (w : Walk) (m k : ℕ) → (w.bits.bytes ≡ drop n bytes) → sop_at sop bytes ≡ Ok n → bits_at layer bands (bits_of (drop n bytes)) ≡ Ok w
     → finish_at w.bits ≡ Ok m → eph_at eph (drop (n + m) bytes) ≡ Ok k → HeaderFound sop eph layer bytes bands (record { length = n + m + k; parts = w.parts }, w.bands)

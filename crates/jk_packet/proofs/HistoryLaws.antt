@@ -10,8 +10,8 @@ use Rattle.std.proofs.lemmas.List.Sums.{sum_by_push, sum_by_more, sum_by_more_le
 use Rattle.std.proofs.Math.Nat.{pow-le-pow_right}
 use Rattle.jk_math.specs.BitLength.{bit_length}
 use Rattle.jk_math.proofs.Laws.{bit_length_room, bit_length_few}
-use Rattle.jk_packet.specs.Words.{greatest_power, floor_log2, width, IsPiece}
-use Rattle.jk_packet.specs.PacketText.{Contribution, option_list, has_any, zeros_of, passes_of, lblock_of}
+use Rattle.jk_packet.specs.Words.{greatest_power, floor_log2, width, IsAddition}
+use Rattle.jk_packet.specs.PacketText.{PacketContribution, option_list, has_any, zeros_of, passes_of, lblock_of}
 use Rattle.jk_packet.specs.Written.{Table, part_in, least_growth, lblock_at, piece_in, contribution_in, first_in, has_passes, IsTable}
 use Rattle.jk_packet.specs.Writing.{history}
 
@@ -24,7 +24,7 @@ pub history_more : (t : Table) (l : ℕ) → history t (suc l) ≡ history t l +
 unfolding history
 history_more t l = refl
 
-abbrev pub own_contribution : Table → ℕ → Contribution
+abbrev pub own_contribution : Table → ℕ → PacketContribution
 own_contribution t l = record { zero_planes = t.zero_planes; piece = piece_in t l }
 
 pub contribution_none : (t : Table) (l : ℕ) → nat_eq (part_in t l).0 0 ≡ true → contribution_in t l ≡ None
@@ -56,10 +56,10 @@ is_some_contribution t l = elim (cases_Bool (nat_eq (part_in t l).0 0)) [
 
 -- one layer more, without passes and with some
 pub history_kept : (t : Table) (l : ℕ) → nat_eq (part_in t l).0 0 ≡ true → history t (suc l) ≡ history t l
-history_kept t l none = history_more t l ∙ ap (λ (c : Option Contribution). history t l ++ option_list c) (contribution_none t l none) ∙ append-nil (history t l)
+history_kept t l none = history_more t l ∙ ap (λ (c : Option PacketContribution). history t l ++ option_list c) (contribution_none t l none) ∙ append-nil (history t l)
 
 pub history_grown : (t : Table) (l : ℕ) → nat_eq (part_in t l).0 0 ≡ false → history t (suc l) ≡ history t l ++ own_contribution t l ∷ []
-history_grown t l some = history_more t l ∙ ap (λ (c : Option Contribution). history t l ++ option_list c) (contribution_some t l some)
+history_grown t l some = history_more t l ∙ ap (λ (c : Option PacketContribution). history t l ++ option_list c) (contribution_some t l some)
 
 -- Lblock
 pub lblock_history : (t : Table) (l : ℕ) → lblock_of (history t l) ≡ lblock_at t l
@@ -70,28 +70,28 @@ lblock_history t (suc l) =
       | inl none ↦ ap lblock_of (history_kept t l none) ∙ before ∙ sym (lblock_kept t l none)
       | inr some ↦
           ap lblock_of (history_grown t l some)
-          ∙ (let e = sum_by_push (λ (c : Contribution). c.piece.growth) (history t l) (own_contribution t l) in
+          ∙ (let e = sum_by_push (λ (c : PacketContribution). c.piece.growth) (history t l) (own_contribution t l) in
           let g = lblock_grown t l some in
           let s : lblock_of (history t l ++ own_contribution t l ∷ []) ≡ lblock_at t (suc l) = omega (arith, e, before, g) in
           s)
     ]
 
 -- zero bit-planes
-all_push : (P : Contribution → Type 0) (cs : List Contribution) (c : Contribution) → AllByRecursion P cs → P c → AllByRecursion P (cs ++ c ∷ [])
+all_push : (P : PacketContribution → Type 0) (cs : List PacketContribution) (c : PacketContribution) → AllByRecursion P cs → P c → AllByRecursion P (cs ++ c ∷ [])
 all_push P [] c all own = (own, tt)
 all_push P (d ∷ cs) c all own = (all.0, all_push P cs c all.1 own)
 
-abbrev pub SameZeros : Table → Contribution → Type 0
+abbrev pub SameZeros : Table → PacketContribution → Type 0
 SameZeros t = λ c. c.zero_planes ≡ t.zero_planes
 
 zeros_all : (t : Table) (l : ℕ) → AllByRecursion (SameZeros t) (history t l)
-zeros_all t zero = subst (λ (cs : List Contribution). AllByRecursion (SameZeros t) cs) (sym (history_none t)) tt
+zeros_all t zero = subst (λ (cs : List PacketContribution). AllByRecursion (SameZeros t) cs) (sym (history_none t)) tt
 zeros_all t (suc l) = elim (cases_Bool (nat_eq (part_in t l).0 0)) [
-  | inl none ↦ subst (λ (cs : List Contribution). AllByRecursion (SameZeros t) cs) (sym (history_kept t l none)) (zeros_all t l)
-  | inr some ↦ subst (λ (cs : List Contribution). AllByRecursion (SameZeros t) cs) (sym (history_grown t l some)) (all_push (SameZeros t) (history t l) (own_contribution t l) (zeros_all t l) refl)
+  | inl none ↦ subst (λ (cs : List PacketContribution). AllByRecursion (SameZeros t) cs) (sym (history_kept t l none)) (zeros_all t l)
+  | inr some ↦ subst (λ (cs : List PacketContribution). AllByRecursion (SameZeros t) cs) (sym (history_grown t l some)) (all_push (SameZeros t) (history t l) (own_contribution t l) (zeros_all t l) refl)
 ]
 
-zeros_by : (t : Table) (cs : List Contribution) → AllByRecursion (SameZeros t) cs → has_any cs ≡ true → t.zero_planes ≡ zeros_of cs
+zeros_by : (t : Table) (cs : List PacketContribution) → AllByRecursion (SameZeros t) cs → has_any cs ≡ true → t.zero_planes ≡ zeros_of cs
 zeros_by t [] all any = absurd (cc)
 zeros_by t (c ∷ cs) all any = sym all.0
 
@@ -108,7 +108,7 @@ passes_history t (suc l) within =
     elim (cases_Bool (nat_eq (part_in t l).0 0)) [
       | inl none ↦ (let e = ap passes_of (history_kept t l none) in let z : (part_in t l).0 ≡ 0 = grind (arith, nat_tests) in omega (arith, e, z, before, more, at))
       | inr some ↦ (let e = ap passes_of (history_grown t l some) in
-          let p = sum_by_push (λ (c : Contribution). c.piece.passes) (history t l) (own_contribution t l) in
+          let p = sum_by_push (λ (c : PacketContribution). c.piece.passes) (history t l) (own_contribution t l) in
           omega (arith, e, p, before, more, at))
     ]
 
@@ -147,7 +147,7 @@ first_within (p ∷ parts) = by (nat_eq p.0 0) (first_within parts)
     by true rest = omega (arith, rest)
     by false rest = omega arith
 
-any_push : (cs : List Contribution) (c : Contribution) → has_any (cs ++ c ∷ []) ≡ true
+any_push : (cs : List PacketContribution) (c : PacketContribution) → has_any (cs ++ c ∷ []) ≡ true
 any_push [] c = refl
 any_push (d ∷ cs) c = refl
 
@@ -245,7 +245,7 @@ piece_narrow layers planes t l is within =
     growth_width (lblock_at t l) (part_in t l).0 size 25 7 (lblock_few layers planes t l is (omega (arith, within))) (bit_length_few size 25 (size_few layers planes t l is within)) (log2_small (part_in t l).0 7 (omega (arith, few)))
 
 -- A piece of a table can be told.
-pub piece_is : (layers planes : ℕ) (t : Table) (l : ℕ) → IsTable layers planes t → l < layers → nat_eq (part_in t l).0 0 ≡ false → IsPiece (lblock_at t l) (piece_in t l)
+pub piece_is : (layers planes : ℕ) (t : Table) (l : ℕ) → IsTable layers planes t → l < layers → nat_eq (part_in t l).0 0 ≡ false → IsAddition (lblock_at t l) (piece_in t l)
 piece_is layers planes t l is within some =
     let size = length (part_in t l).1 in
     record {

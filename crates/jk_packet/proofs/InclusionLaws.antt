@@ -8,42 +8,42 @@ use Rattle.jk_math.specs.Steps.{bind_then, refuse_then}
 use Rattle.jk_math.specs.declared.fault.Fault.TheVariants.{PacketHeader}
 use Rattle.jk_bits.specs.Reading.{Bits, ahead, bit_at}
 use Rattle.jk_tree.specs.TagTree.{Shape, count, Values, Query, query_of, told, leaf_of}
-use Rattle.jk_tree.specs.Asking.{node_at, AreTold, AreToldBySome, Tree, ask_at, IsOpen}
-use Rattle.jk_bits.specs.Giving.{Gives, advance, gives_none, gives_bit, bit_ahead}
+use Rattle.jk_tree.specs.Asking.{node_at, AreTold, AreToldBySome, TagTreeRead, ask_at, IsOpen}
+use Rattle.jk_bits.specs.Giving.{GivesBits, advance, gives_none, gives_bit, bit_ahead}
 use Rattle.jk_tree.proofs.Laws.{ask_only, ask_found, told_same, stands_same, low_is, value_is, low_below}
 use Rattle.jk_packet.specs.declared.block.Block.{Block}
 use Rattle.jk_packet.specs.Reading.{included_at, zero_planes_at}
-use Rattle.jk_packet.specs.PacketText.{Contribution, BandLayer, is_included, asks_inclusion, asks_zeros, queries_before, inclusion_bits, zeros_bits}
+use Rattle.jk_packet.specs.PacketText.{PacketContribution, BandLayer, is_included, asks_inclusion, asks_zeros, queries_before, inclusion_bits, zeros_bits}
 use Rattle.jk_packet.proofs.ReadLaws.{included_bit, included_old, included_ask, zeros_known, zeros_asked, zeros_ok}
 use Rattle.jk_packet.proofs.QueryLaws.{inclusion_old, inclusion_new, zeros_old, zeros_new}
 
-pub inclusion_bits_old : (s : Shape) (v : Values) (layers : List BandLayer) (front : List (Option Contribution)) (taken : Bool) → is_included layers (length front) ≡ true → inclusion_bits s v layers front (length front) taken ≡ taken ∷ []
+pub inclusion_bits_old : (s : Shape) (v : Values) (layers : List BandLayer) (front : List (Option PacketContribution)) (taken : Bool) → is_included layers (length front) ≡ true → inclusion_bits s v layers front (length front) taken ≡ taken ∷ []
 unfolding inclusion_bits
 inclusion_bits_old s v layers front taken h = ap (λ (b : Bool). cond b (taken ∷ []) (told s v (queries_before asks_inclusion layers front) (query_of (length front) (length layers + 1)))) h
 
-pub inclusion_bits_new : (s : Shape) (v : Values) (layers : List BandLayer) (front : List (Option Contribution)) (taken : Bool) → is_included layers (length front) ≡ false
+pub inclusion_bits_new : (s : Shape) (v : Values) (layers : List BandLayer) (front : List (Option PacketContribution)) (taken : Bool) → is_included layers (length front) ≡ false
     → inclusion_bits s v layers front (length front) taken ≡ told s v (queries_before asks_inclusion layers front) (query_of (length front) (length layers + 1))
 unfolding inclusion_bits
 inclusion_bits_new s v layers front taken h = ap (λ (b : Bool). cond b (taken ∷ []) (told s v (queries_before asks_inclusion layers front) (query_of (length front) (length layers + 1)))) h
 
-pub zeros_bits_old : (s : Shape) (v : Values) (layers : List BandLayer) (front : List (Option Contribution)) (zeros : ℕ) → is_included layers (length front) ≡ true → zeros_bits s v layers front (length front) zeros ≡ []
+pub zeros_bits_old : (s : Shape) (v : Values) (layers : List BandLayer) (front : List (Option PacketContribution)) (zeros : ℕ) → is_included layers (length front) ≡ true → zeros_bits s v layers front (length front) zeros ≡ []
 unfolding zeros_bits
 zeros_bits_old s v layers front zeros h = ap (λ (b : Bool). cond b [] (told s v (queries_before asks_zeros layers front) (query_of (length front) (zeros + 1)))) h
 
-pub zeros_bits_new : (s : Shape) (v : Values) (layers : List BandLayer) (front : List (Option Contribution)) (zeros : ℕ) → is_included layers (length front) ≡ false
+pub zeros_bits_new : (s : Shape) (v : Values) (layers : List BandLayer) (front : List (Option PacketContribution)) (zeros : ℕ) → is_included layers (length front) ≡ false
     → zeros_bits s v layers front (length front) zeros ≡ told s v (queries_before asks_zeros layers front) (query_of (length front) (zeros + 1))
 unfolding zeros_bits
 zeros_bits_new s v layers front zeros h = ap (λ (b : Bool). cond b [] (told s v (queries_before asks_zeros layers front) (query_of (length front) (zeros + 1)))) h
 
-module _ (s : Shape) (layers : List BandLayer) (front : List (Option Contribution)) (less : length front < s.width * s.height) (block : Block) (was : block.included ≡ is_included layers (length front)) (tree : Tree) (can : IsOpen s tree) where
+module _ (s : Shape) (layers : List BandLayer) (front : List (Option PacketContribution)) (less : length front < s.width * s.height) (block : Block) (was : block.included ≡ is_included layers (length front)) (tree : TagTreeRead) (can : IsOpen s tree) where
   -- the inclusion that is told is read
-  pub record IncludedOnly (v : Values) (c : Option Contribution) (r : Bits) : Type 0 where
-    pub after : Tree
+  pub record IncludedOnly (v : Values) (c : Option PacketContribution) (r : Bits) : Type 0 where
+    pub after : TagTreeRead
     pub is : included_at (length layers) (length front) block (tree, r) ≡ Ok (is_some c, (after, advance r (length (inclusion_bits s v layers front (length front) (is_some c)))))
     pub can_go : IsOpen s after
     pub stands : AreTold s v (queries_before asks_inclusion layers (front ++ c ∷ [])) after.nodes
 
-  pub included_only : (v : Values) (c : Option Contribution) (r : Bits) (rest : List Bool) → AreTold s v (queries_before asks_inclusion layers front) tree.nodes
+  pub included_only : (v : Values) (c : Option PacketContribution) (r : Bits) (rest : List Bool) → AreTold s v (queries_before asks_inclusion layers front) tree.nodes
       → (is_included layers (length front) ≡ false → is_some c ≡ nat_lt (leaf_of s v (length front)) (length layers + 1))
       → ahead r ≡ inclusion_bits s v layers front (length front) (is_some c) ++ rest → IncludedOnly v c r
   included_only v c r rest st first h = elim (cases_Bool (is_included layers (length front))) [
@@ -70,26 +70,26 @@ module _ (s : Shape) (layers : List BandLayer) (front : List (Option Contributio
   ]
 
   -- the inclusion that is read is told
-  pub record IncludedFound (c : Option Contribution) (r : Bits) (o : Bool × (Tree × Bits)) : Type 0 where
+  pub record IncludedFound (c : Option PacketContribution) (r : Bits) (o : Bool × (TagTreeRead × Bits)) : Type 0 where
     pub can_go : IsOpen s o.1.0
     pub reached : AreToldBySome s (queries_before asks_inclusion layers (front ++ c ∷ [])) o.1.0.nodes
     pub each : (v : Values) → AreTold s v (queries_before asks_inclusion layers (front ++ c ∷ [])) o.1.0.nodes
-        → AreTold s v (queries_before asks_inclusion layers front) tree.nodes × Gives r (inclusion_bits s v layers front (length front) o.0) o.1.1
+        → AreTold s v (queries_before asks_inclusion layers front) tree.nodes × GivesBits r (inclusion_bits s v layers front (length front) o.0) o.1.1
         × (is_included layers (length front) ≡ false → o.0 ≡ nat_lt (leaf_of s v (length front)) (length layers + 1))
 
-  old_found : (c : Option Contribution) (r : Bits) (o : Bool × (Tree × Bits)) → is_included layers (length front) ≡ true → AreToldBySome s (queries_before asks_inclusion layers front) tree.nodes
+  old_found : (c : Option PacketContribution) (r : Bits) (o : Bool × (TagTreeRead × Bits)) → is_included layers (length front) ≡ true → AreToldBySome s (queries_before asks_inclusion layers front) tree.nodes
       → (x : Bool × Bits) → bit_at r ≡ Ok x → (x.0, (tree, x.1)) ≡ o → IncludedFound c r o
-  old_found c r o old reached x e is = subst (λ (p : Bool × (Tree × Bits)). IncludedFound c r p) is record {
+  old_found c r o old reached x e is = subst (λ (p : Bool × (TagTreeRead × Bits)). IncludedFound c r p) is record {
     can_go = can;
     reached = subst (λ (qs : List Query). AreToldBySome s qs tree.nodes) (sym (inclusion_old layers front c old)) reached;
     each = λ v st. (
       subst (λ (qs : List Query). AreTold s v qs tree.nodes) (inclusion_old layers front c old) st,
-      subst (λ (xs : List Bool). Gives r xs x.1) (sym (inclusion_bits_old s v layers front x.0 old)) (gives_bit r x e),
+      subst (λ (xs : List Bool). GivesBits r xs x.1) (sym (inclusion_bits_old s v layers front x.0 old)) (gives_bit r x e),
       λ new. absurd (let clash : true ≡ false = sym old ∙ new in cc),
     );
   }
 
-  pub included_found : (c : Option Contribution) (r : Bits) (o : Bool × (Tree × Bits)) → AreToldBySome s (queries_before asks_inclusion layers front) tree.nodes → included_at (length layers) (length front) block (tree, r) ≡ Ok o → IncludedFound c r o
+  pub included_found : (c : Option PacketContribution) (r : Bits) (o : Bool × (TagTreeRead × Bits)) → AreToldBySome s (queries_before asks_inclusion layers front) tree.nodes → included_at (length layers) (length front) block (tree, r) ≡ Ok o → IncludedFound c r o
   included_found c r o reached h = elim (cases_Bool (is_included layers (length front))) [
     | inl old ↦ bind_then (bit_at r) (λ x. Ok (x.0, (tree, x.1))) o (sym (included_old (length layers) (length front) block (tree, r) (was ∙ old)) ∙ h) (λ x e k. old_found c r o old reached x e (let is : (x.0, (tree, x.1)) ≡ o = cc in is))
     | inr new ↦ (let q = query_of (length front) (length layers + 1) in
@@ -98,18 +98,18 @@ module _ (s : Shape) (layers : List BandLayer) (front : List (Option Contributio
           reached = subst (λ (qs : List Query). AreToldBySome s qs o.1.0.nodes) (sym (inclusion_new layers front c new)) f.reached;
           each = λ v st.
               let e = f.each v (subst (λ (qs : List Query). AreTold s v qs o.1.0.nodes) (inclusion_new layers front c new) st) in
-              (e.0, subst (λ (xs : List Bool). Gives r xs o.1.1) (sym (inclusion_bits_new s v layers front o.0 new)) e.1, λ _. e.2);
+              (e.0, subst (λ (xs : List Bool). GivesBits r xs o.1.1) (sym (inclusion_bits_new s v layers front o.0 new)) e.1, λ _. e.2);
         })
   ]
 
   -- the zero bit-planes that are told are read
-  pub record ZerosOnly (planes : ℕ) (v : Values) (c : Contribution) (r : Bits) : Type 0 where
-    pub after : Tree
+  pub record ZerosOnly (planes : ℕ) (v : Values) (c : PacketContribution) (r : Bits) : Type 0 where
+    pub after : TagTreeRead
     pub is : zero_planes_at planes (length front) block (tree, r) ≡ Ok (c.zero_planes, (after, advance r (length (zeros_bits s v layers front (length front) c.zero_planes))))
     pub can_go : IsOpen s after
     pub stands : AreTold s v (queries_before asks_zeros layers (front ++ Some c ∷ [])) after.nodes
 
-  pub zeros_only : (planes : ℕ) (v : Values) (c : Contribution) (r : Bits) (rest : List Bool) → AreTold s v (queries_before asks_zeros layers front) tree.nodes
+  pub zeros_only : (planes : ℕ) (v : Values) (c : PacketContribution) (r : Bits) (rest : List Bool) → AreTold s v (queries_before asks_zeros layers front) tree.nodes
       → (is_included layers (length front) ≡ false → (c.zero_planes ≡ leaf_of s v (length front)) × (c.zero_planes ≤ planes)) → (is_included layers (length front) ≡ true → c.zero_planes ≡ block.zero_planes)
       → ahead r ≡ zeros_bits s v layers front (length front) c.zero_planes ++ rest → ZerosOnly planes v c r
   zeros_only planes v c r rest st first later h = elim (cases_Bool (is_included layers (length front))) [
@@ -144,30 +144,30 @@ module _ (s : Shape) (layers : List BandLayer) (front : List (Option Contributio
   ]
 
   -- the zero bit-planes that are read are told
-  pub record ZerosFound (planes : ℕ) (c : Contribution) (r : Bits) (o : ℕ × (Tree × Bits)) : Type 0 where
+  pub record ZerosFound (planes : ℕ) (c : PacketContribution) (r : Bits) (o : ℕ × (TagTreeRead × Bits)) : Type 0 where
     pub can_go : IsOpen s o.1.0
     pub reached : AreToldBySome s (queries_before asks_zeros layers (front ++ Some c ∷ [])) o.1.0.nodes
     pub later : is_included layers (length front) ≡ true → o.0 ≡ block.zero_planes
     pub within : is_included layers (length front) ≡ false → o.0 ≤ planes
     pub each : (v : Values) → AreTold s v (queries_before asks_zeros layers (front ++ Some c ∷ [])) o.1.0.nodes
-        → AreTold s v (queries_before asks_zeros layers front) tree.nodes × Gives r (zeros_bits s v layers front (length front) o.0) o.1.1
+        → AreTold s v (queries_before asks_zeros layers front) tree.nodes × GivesBits r (zeros_bits s v layers front (length front) o.0) o.1.1
         × (is_included layers (length front) ≡ false → o.0 ≡ leaf_of s v (length front))
 
-  known_found : (planes : ℕ) (c : Contribution) (r : Bits) (o : ℕ × (Tree × Bits)) → is_included layers (length front) ≡ true → AreToldBySome s (queries_before asks_zeros layers front) tree.nodes → (block.zero_planes, (tree, r)) ≡ o → ZerosFound planes c r o
-  known_found planes c r o old reached is = subst (λ (p : ℕ × (Tree × Bits)). ZerosFound planes c r p) is record {
+  known_found : (planes : ℕ) (c : PacketContribution) (r : Bits) (o : ℕ × (TagTreeRead × Bits)) → is_included layers (length front) ≡ true → AreToldBySome s (queries_before asks_zeros layers front) tree.nodes → (block.zero_planes, (tree, r)) ≡ o → ZerosFound planes c r o
+  known_found planes c r o old reached is = subst (λ (p : ℕ × (TagTreeRead × Bits)). ZerosFound planes c r p) is record {
     can_go = can;
     reached = subst (λ (qs : List Query). AreToldBySome s qs tree.nodes) (sym (zeros_old layers front c old)) reached;
     later = λ _. refl;
     within = λ new. absurd (let clash : true ≡ false = sym old ∙ new in cc);
     each = λ v st. (
       subst (λ (qs : List Query). AreTold s v qs tree.nodes) (zeros_old layers front c old) st,
-      subst (λ (xs : List Bool). Gives r xs r) (sym (zeros_bits_old s v layers front block.zero_planes old)) (gives_none r),
+      subst (λ (xs : List Bool). GivesBits r xs r) (sym (zeros_bits_old s v layers front block.zero_planes old)) (gives_none r),
       λ new. absurd (let clash : true ≡ false = sym old ∙ new in cc),
     );
   }
 
-  asked_found : (planes : ℕ) (c : Contribution) (r : Bits) (o : ℕ × (Tree × Bits)) → c.zero_planes ≡ o.0 → is_included layers (length front) ≡ false → AreToldBySome s (queries_before asks_zeros layers front) tree.nodes
-      → (a : Bool × (Tree × Bits)) → ask_at (query_of (length front) (planes + 1)) (tree, r) ≡ Ok a → a.0 ≡ true → ((node_at a.1.0.nodes (length front)).low, a.1) ≡ o → ZerosFound planes c r o
+  asked_found : (planes : ℕ) (c : PacketContribution) (r : Bits) (o : ℕ × (TagTreeRead × Bits)) → c.zero_planes ≡ o.0 → is_included layers (length front) ≡ false → AreToldBySome s (queries_before asks_zeros layers front) tree.nodes
+      → (a : Bool × (TagTreeRead × Bits)) → ask_at (query_of (length front) (planes + 1)) (tree, r) ≡ Ok a → a.0 ≡ true → ((node_at a.1.0.nodes (length front)).low, a.1) ≡ o → ZerosFound planes c r o
   asked_found planes c r o value new reached a e known is =
       let i = length front in
       let qs = queries_before asks_zeros layers front in
@@ -175,10 +175,10 @@ module _ (s : Shape) (layers : List BandLayer) (front : List (Option Contributio
       let low = (node_at a.1.0.nodes i).low in
       let is_known = low_below (query_of i (planes + 1)) tree r a (subst (λ (x : Shape). i < x.width * x.height) (sym can.shape) less) (can.long ∙ ap count (sym can.shape)) e known in
       let below : low < planes + 1 = is_known.1 in
-      let low_o : low ≡ o.0 = ap (λ (p : ℕ × (Tree × Bits)). p.0) is in
+      let low_o : low ≡ o.0 = ap (λ (p : ℕ × (TagTreeRead × Bits)). p.0) is in
       let zero_is : c.zero_planes ≡ low = value ∙ sym low_o in
       let next : queries_before asks_zeros layers (front ++ Some c ∷ []) ≡ qs ++ query_of i (low + 1) ∷ [] = zeros_new layers front c new ∙ ap (λ n. qs ++ query_of i (n + 1) ∷ []) zero_is in
-      subst (λ (p : ℕ × (Tree × Bits)). ZerosFound planes c r p) is record {
+      subst (λ (p : ℕ × (TagTreeRead × Bits)). ZerosFound planes c r p) is record {
         can_go = f.can;
         reached =
             let v = f.reached.0 in
@@ -194,12 +194,12 @@ module _ (s : Shape) (layers : List BandLayer) (front : List (Option Contributio
             let g = f.each v wide in
             let same = told_same s v qs i (low + 1) (planes + 1) less st.tree (omega (arith, leaf)) (omega (arith, below)) in (
               g.0,
-              subst (λ (xs : List Bool). Gives r xs a.1.1) (sym (zeros_bits_new s v layers front low new ∙ same)) g.1,
+              subst (λ (xs : List Bool). GivesBits r xs a.1.1) (sym (zeros_bits_new s v layers front low new ∙ same)) g.1,
               λ _. sym leaf,
             );
       }
 
-  pub zeros_found : (planes : ℕ) (c : Contribution) (r : Bits) (o : ℕ × (Tree × Bits)) → c.zero_planes ≡ o.0 → AreToldBySome s (queries_before asks_zeros layers front) tree.nodes → zero_planes_at planes (length front) block (tree, r) ≡ Ok o → ZerosFound planes c r o
+  pub zeros_found : (planes : ℕ) (c : PacketContribution) (r : Bits) (o : ℕ × (TagTreeRead × Bits)) → c.zero_planes ≡ o.0 → AreToldBySome s (queries_before asks_zeros layers front) tree.nodes → zero_planes_at planes (length front) block (tree, r) ≡ Ok o → ZerosFound planes c r o
   zeros_found planes c r o value reached h = elim (cases_Bool (is_included layers (length front))) [
     | inl old ↦ known_found planes c r o old reached (let e : Ok (block.zero_planes, (tree, r)) ≡ Ok o = sym (zeros_known planes (length front) block (tree, r) (was ∙ old)) ∙ h in let is : (block.zero_planes, (tree, r)) ≡ o = cc in is)
     | inr new ↦ bind_then (ask_at (query_of (length front) (planes + 1)) (tree, r)) (λ a. refuse (not a.0) PacketHeader >>= λ _. Ok ((node_at a.1.0.nodes (length front)).low, a.1)) o

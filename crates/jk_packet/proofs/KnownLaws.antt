@@ -6,7 +6,7 @@ use Rattle.std.proofs.lemmas.List.{get_or-set_other}
 use Rattle.jk_bits.specs.Reading.{Bits}
 use Rattle.jk_tree.specs.TagTree.{Shape, query_of}
 use Rattle.jk_tree.specs.declared.node.Node.{Node}
-use Rattle.jk_tree.specs.Asking.{Tree, IsKnown, ask_at}
+use Rattle.jk_tree.specs.Asking.{TagTreeRead, IsKnown, ask_at}
 use Rattle.jk_packet.specs.declared.block.Block.{Block}
 use Rattle.jk_packet.specs.declared.header.BlockContribution.{BlockContribution}
 use Rattle.jk_packet.specs.Reading.{BandState, BandWalk, block_in, block_at, blocks_at}
@@ -17,7 +17,7 @@ use Rattle.jk_packet.proofs.BandLaws.{block_left, blocks_next}
 abbrev pub AreKnown : Shape → List Node → ℕ → List Block → Type 0
 AreKnown s nodes n blocks = (j : ℕ) → j < n → (block_in blocks j).included ≡ true → IsKnown s nodes j
 
-pub known_still : (s : Shape) (old new : Tree) (n : ℕ) (blocks : List Block) → old.shape ≡ s → new.shape ≡ s → ((j : ℕ) → IsKnown old.shape old.nodes j → IsKnown new.shape new.nodes j)
+pub known_still : (s : Shape) (old new : TagTreeRead) (n : ℕ) (blocks : List Block) → old.shape ≡ s → new.shape ≡ s → ((j : ℕ) → IsKnown old.shape old.nodes j → IsKnown new.shape new.nodes j)
     → AreKnown s old.nodes n blocks → AreKnown s new.nodes n blocks
 known_still s old new n blocks was is still known j less included =
     subst (λ (x : Shape). IsKnown x new.nodes j) is (still j (subst (λ (x : Shape). IsKnown x old.nodes j) (sym was) (known j less included)))
@@ -30,7 +30,7 @@ known_set s nodes n i blocks b within known own j less included =
     ]
 
 -- a block that was read is known
-pub known_read : (s : Shape) (old new : Tree) (n i : ℕ) (blocks : List Block) (x : Block) → old.shape ≡ s → new.shape ≡ s → ((j : ℕ) → IsKnown old.shape old.nodes j → IsKnown new.shape new.nodes j)
+pub known_read : (s : Shape) (old new : TagTreeRead) (n i : ℕ) (blocks : List Block) (x : Block) → old.shape ≡ s → new.shape ≡ s → ((j : ℕ) → IsKnown old.shape old.nodes j → IsKnown new.shape new.nodes j)
     → AreKnown s old.nodes n blocks → i < n → x ≡ block_in blocks i → (x.included ≡ false → IsKnown new.shape new.nodes i) → IsKnown s new.nodes i
 known_read s old new n i blocks x was is still known less e first =
     elim (cases_Bool x.included) [

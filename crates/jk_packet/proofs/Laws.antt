@@ -4,7 +4,7 @@ use Rattle.jk_tree.specs.TagTree.{Query}
 use Rattle.std.specs.List.{flat_map}
 use Rattle.jk_bits.specs.Stuffing.{stuffed}
 use Rattle.jk_packet.specs.declared.shape.BandShape.{BandShape}
-use Rattle.jk_packet.specs.PacketText.{Contribution, BandLayer, given, option_list, contributions, queries_at, queries_of, eph_text, block_parts, band_parts, bands_parts}
+use Rattle.jk_packet.specs.PacketText.{PacketContribution, BandLayer, given, option_list, contributions, queries_at, queries_of, eph_text, block_parts, band_parts, bands_parts}
 use Rattle.jk_packet.specs.Written.{Table, sop_text, part_in, bits_in, header_in, bodies_text}
 pub use Rattle.jk_packet.proofs.MarkerLaws.{zero_packs}
 pub use Rattle.jk_packet.proofs.GatherLaws.{gathered, told_gathers, parts_within}
@@ -28,11 +28,11 @@ pub contributions-cons : (layer : BandLayer) (layers : List BandLayer) (i : ℕ)
 unfolding contributions
 contributions-cons layer layers i = refl
 
-pub queries_of-nil : (ask : List BandLayer → ℕ → Option Contribution → List Query) (before : List BandLayer) → queries_of ask before [] ≡ []
+pub queries_of-nil : (ask : List BandLayer → ℕ → Option PacketContribution → List Query) (before : List BandLayer) → queries_of ask before [] ≡ []
 unfolding queries_of
 queries_of-nil ask before = refl
 
-pub queries_of-cons : (ask : List BandLayer → ℕ → Option Contribution → List Query) (before : List BandLayer) (layer : BandLayer) (layers : List BandLayer)
+pub queries_of-cons : (ask : List BandLayer → ℕ → Option PacketContribution → List Query) (before : List BandLayer) (layer : BandLayer) (layers : List BandLayer)
     → queries_of ask before (layer ∷ layers) ≡ queries_at (ask before) layer ++ queries_of ask (before ++ layer ∷ []) layers
 unfolding queries_of
 queries_of-cons ask before layer layers = refl
@@ -41,7 +41,7 @@ pub band_parts-nil : (number i : ℕ) → band_parts number i [] ≡ []
 unfolding band_parts
 band_parts-nil number i = refl
 
-pub band_parts-cons : (number i : ℕ) (c : Option Contribution) (cs : List (Option Contribution)) → band_parts number i (c ∷ cs) ≡ block_parts number i c ++ band_parts number (i + 1) cs
+pub band_parts-cons : (number i : ℕ) (c : Option PacketContribution) (cs : List (Option PacketContribution)) → band_parts number i (c ∷ cs) ≡ block_parts number i c ++ band_parts number (i + 1) cs
 unfolding band_parts
 band_parts-cons number i c cs = refl
 
@@ -49,7 +49,7 @@ pub bands_parts-nil : (number : ℕ) → bands_parts number [] ≡ []
 unfolding bands_parts
 bands_parts-nil number = refl
 
-pub bands_parts-cons : (number : ℕ) (cs : List (Option Contribution)) (bands : List (List (Option Contribution))) → bands_parts number (cs ∷ bands) ≡ band_parts number 0 cs ++ bands_parts (number + 1) bands
+pub bands_parts-cons : (number : ℕ) (cs : List (Option PacketContribution)) (bands : List (List (Option PacketContribution))) → bands_parts number (cs ∷ bands) ≡ band_parts number 0 cs ++ bands_parts (number + 1) bands
 unfolding bands_parts
 bands_parts-cons number cs bands = refl
 

@@ -5,10 +5,10 @@ use Rattle.std.proofs.lemmas.Bool.{cases_lt}
 use Rattle.std.proofs.lemmas.List.{map_push}
 use Rattle.jk_math.specs.Steps.{bind_then}
 use Rattle.jk_bits.specs.Reading.{Bits, ahead, bit_at}
-use Rattle.jk_bits.specs.Giving.{Gives, advance, ahead_on, gives_bit, gives_join, bit_ahead}
+use Rattle.jk_bits.specs.Giving.{GivesBits, advance, ahead_on, gives_bit, gives_join, bit_ahead}
 use Rattle.jk_packet.specs.declared.shape.BandShape.{BandShape}
 use Rattle.jk_packet.specs.Reading.{BandState, Walk, band_in, bands_at, packet_at, bits_at}
-use Rattle.jk_packet.specs.PacketText.{Contribution, BandLayer, BandTrees, Layer, of_band, band_layers, Trees, band_shape, bands_bits, header_bits, IsLayer, parts_of}
+use Rattle.jk_packet.specs.PacketText.{PacketContribution, BandLayer, BandTrees, Layer, of_band, band_layers, Trees, band_shape, bands_bits, header_bits, IsLayer, parts_of}
 use Rattle.jk_packet.specs.Standing.{BandStands}
 use Rattle.jk_packet.proofs.Codes.{advance_twice}
 use Rattle.jk_packet.proofs.TextLaws.{bits_none, bits_full}
@@ -27,20 +27,20 @@ SomeStand shapes layers bands = (n : ℕ) → n < length shapes → (t : BandTre
 pub layers_push : (n : ℕ) (layers : List Layer) (layer : Layer) → band_layers n (layers ++ layer ∷ []) ≡ band_layers n layers ++ of_band n layer ∷ []
 layers_push n layers layer = map_push (of_band n) layers layer
 
-from_first : (ls : List (List (Option Contribution))) (n : ℕ) → get_or ls (n - 0) [] ≡ get_or ls n []
+from_first : (ls : List (List (Option PacketContribution))) (n : ℕ) → get_or ls (n - 0) [] ≡ get_or ls n []
 from_first ls n = ap (λ k. get_or ls k []) (let e : n - 0 ≡ n = omega arith in e)
 
 -- a packet that isn't empty
-full_stands : (shapes : List BandShape) (t : BandTrees) (layers : List Layer) (ls : List (List (Option Contribution))) (n : ℕ) (s : BandState) → BandStands (band_shape shapes n) t (band_layers n layers) (get_or ls (n - 0) []) s
+full_stands : (shapes : List BandShape) (t : BandTrees) (layers : List Layer) (ls : List (List (Option PacketContribution))) (n : ℕ) (s : BandState) → BandStands (band_shape shapes n) t (band_layers n layers) (get_or ls (n - 0) []) s
     → BandStands (band_shape shapes n) t (band_layers n (layers ++ Some ls ∷ [])) [] s
 full_stands shapes t layers ls n s st =
     subst (λ (l : List BandLayer). BandStands (band_shape shapes n) t l [] s) (sym (layers_push n layers (Some ls)))
-    (stands_layer (band_shape shapes n) t (band_layers n layers) (get_or ls n []) s (subst (λ (cs : List (Option Contribution)). BandStands (band_shape shapes n) t (band_layers n layers) cs s) (from_first ls n) st))
+    (stands_layer (band_shape shapes n) t (band_layers n layers) (get_or ls n []) s (subst (λ (cs : List (Option PacketContribution)). BandStands (band_shape shapes n) t (band_layers n layers) cs s) (from_first ls n) st))
 
-full_packet : (shapes : List BandShape) (t : BandTrees) (layers : List Layer) (ls : List (List (Option Contribution))) (n : ℕ) (s : BandState) → BandStands (band_shape shapes n) t (band_layers n (layers ++ Some ls ∷ [])) [] s
+full_packet : (shapes : List BandShape) (t : BandTrees) (layers : List Layer) (ls : List (List (Option PacketContribution))) (n : ℕ) (s : BandState) → BandStands (band_shape shapes n) t (band_layers n (layers ++ Some ls ∷ [])) [] s
     → BandStands (band_shape shapes n) t (band_layers n layers) (get_or ls (n - 0) []) s
 full_packet shapes t layers ls n s st =
-    subst (λ (cs : List (Option Contribution)). BandStands (band_shape shapes n) t (band_layers n layers) cs s) (sym (from_first ls n))
+    subst (λ (cs : List (Option PacketContribution)). BandStands (band_shape shapes n) t (band_layers n layers) cs s) (sym (from_first ls n))
     (stands_packet (band_shape shapes n) t (band_layers n layers) (get_or ls n []) s (subst (λ (l : List BandLayer). BandStands (band_shape shapes n) t l [] s) (layers_push n layers (Some ls)) st))
 
 -- What is told is read.
@@ -85,16 +85,16 @@ pub record BitsFound (shapes : List BandShape) (layers : List Layer) (bands : Li
   pub count : length v.bands ≡ length bands
   pub some : SomeStand shapes (layers ++ layer ∷ []) v.bands
   pub parts : v.parts ≡ parts_of layer
-  pub each : (t : Trees) → Stand shapes t (layers ++ layer ∷ []) v.bands → Stand shapes t layers bands × Gives r (header_bits shapes t layers layer) v.bits × IsLayer shapes t layers layer
+  pub each : (t : Trees) → Stand shapes t (layers ++ layer ∷ []) v.bands → Stand shapes t layers bands × GivesBits r (header_bits shapes t layers layer) v.bits × IsLayer shapes t layers layer
 
 -- from trees that stand
 reached_of : (b : BandShape) (layers : List BandLayer) (s : BandState) → (t : BandTrees) × BandStands b t layers [] s → BandReached b layers [] s
 reached_of b layers s x = record { holds = x.1.holds; inclusion = (x.0.inclusion, x.1.inclusion); zeros = (x.0.zeros, x.1.zeros) }
 
-stands_of : (b : BandShape) (layers : List BandLayer) (front : List (Option Contribution)) (s : BandState) → BandReached b layers front s → (t : BandTrees) × BandStands b t layers front s
+stands_of : (b : BandShape) (layers : List BandLayer) (front : List (Option PacketContribution)) (s : BandState) → BandReached b layers front s → (t : BandTrees) × BandStands b t layers front s
 stands_of b layers front s x = (record { inclusion = x.inclusion.0; zeros = x.zeros.0 }, record { holds = x.holds; inclusion = x.inclusion.1; zeros = x.zeros.1 })
 
-empty_found : (shapes : List BandShape) (layers : List Layer) (bands : List BandState) (r : Bits) (on : Bits) → SomeStand shapes layers bands → Gives r (false ∷ []) on → BitsFound shapes layers bands r (record { bands = bands; bits = on; parts = [] })
+empty_found : (shapes : List BandShape) (layers : List Layer) (bands : List BandState) (r : Bits) (on : Bits) → SomeStand shapes layers bands → GivesBits r (false ∷ []) on → BitsFound shapes layers bands r (record { bands = bands; bits = on; parts = [] })
 empty_found shapes layers bands r on some g = record {
   layer = None;
   count = refl;
@@ -109,7 +109,7 @@ empty_found shapes layers bands r on some g = record {
   );
 }
 
-full_found : (shapes : List BandShape) (layers : List Layer) (bands : List BandState) (r on : Bits) (v : Walk) → length bands ≡ length shapes → Gives r (true ∷ []) on
+full_found : (shapes : List BandShape) (layers : List Layer) (bands : List BandState) (r on : Bits) (v : Walk) → length bands ≡ length shapes → GivesBits r (true ∷ []) on
     → BandsFound shapes layers 0 (length bands) (record { bands = bands; bits = on; parts = [] }) v → BitsFound shapes layers bands r v
 full_found shapes layers bands r on v long g f = record {
   layer = Some f.ls;
@@ -123,7 +123,7 @@ full_found shapes layers bands r on v long g f = record {
       (λ n less. e.0 n (omega arith) less, gives_join r on v.bits (true ∷ []) (bands_bits shapes t layers 0 f.ls) g e.1, (f.all ∙ long, e.2));
 }
 
-found_by : (shapes : List BandShape) (layers : List Layer) (bands : List BandState) (r : Bits) (v : Walk) → length bands ≡ length shapes → SomeStand shapes layers bands → (full : Bool) (on : Bits) → Gives r (full ∷ []) on
+found_by : (shapes : List BandShape) (layers : List Layer) (bands : List BandState) (r : Bits) (v : Walk) → length bands ≡ length shapes → SomeStand shapes layers bands → (full : Bool) (on : Bits) → GivesBits r (full ∷ []) on
     → cond full (packet_at (length layers) (record { bands = bands; bits = on; parts = [] })) (Ok (record { bands = bands; bits = on; parts = [] })) ≡ Ok v → BitsFound shapes layers bands r v
 found_by shapes layers bands r v long some true on g h =
     full_found shapes layers bands r on v long g

@@ -6,7 +6,7 @@ use Rattle.jk_math.specs.Steps.{bind_then, refuse_then}
 use Rattle.jk_math.specs.declared.fault.Fault.TheVariants.{PacketHeader}
 use Rattle.jk_bits.specs.Reading.{Bits, bit_at}
 use Rattle.jk_tree.specs.TagTree.{query_of}
-use Rattle.jk_tree.specs.Asking.{Tree, node_at, ask_at}
+use Rattle.jk_tree.specs.Asking.{TagTreeRead, node_at, ask_at}
 use Rattle.jk_bits.specs.Giving.{Moves, stays, moves_on, bit_moves}
 use Rattle.jk_tree.proofs.Laws.{ask_moves}
 use Rattle.jk_packet.specs.declared.block.Block.{Block}
@@ -14,25 +14,25 @@ use Rattle.jk_packet.specs.Words.{most_passes}
 use Rattle.jk_packet.specs.Reading.{BandState, BandWalk, Walk, block_in, band_in, included_at, zero_planes_at, piece_at, with_inclusion, with_piece, taken_at, block_at, blocks_at, band_at, bands_at, packet_at, bits_at}
 use Rattle.jk_packet.proofs.Pieces.{coded_piece}
 
-pub included_moves : (layer leaf : ℕ) (b : Block) (s : Tree × Bits) (o : Bool × (Tree × Bits)) → included_at layer leaf b s ≡ Ok o → Moves s.1 o.1.1
+pub included_moves : (layer leaf : ℕ) (b : Block) (s : TagTreeRead × Bits) (o : Bool × (TagTreeRead × Bits)) → included_at layer leaf b s ≡ Ok o → Moves s.1 o.1.1
 unfolding included_at
 included_moves layer leaf b s o h = by_included b.included h
   where
     by_included : (c : Bool) → cond c (bit_at s.1 >>= λ r. Ok (r.0, (s.0, r.1))) (ask_at (query_of leaf (layer + 1)) s) ≡ Ok o → Moves s.1 o.1.1
-    by_included true e = bind_then (bit_at s.1) (λ r. Ok (r.0, (s.0, r.1))) o e (λ r f k. let is : (r.0, (s.0, r.1)) ≡ o = cc in subst (λ (x : Bool × (Tree × Bits)). Moves s.1 x.1.1) is (bit_moves s.1 r f))
+    by_included true e = bind_then (bit_at s.1) (λ r. Ok (r.0, (s.0, r.1))) o e (λ r f k. let is : (r.0, (s.0, r.1)) ≡ o = cc in subst (λ (x : Bool × (TagTreeRead × Bits)). Moves s.1 x.1.1) is (bit_moves s.1 r f))
     by_included false e = ask_moves (query_of leaf (layer + 1)) s.0 s.1 o e
 
-pub zeros_moves : (planes leaf : ℕ) (b : Block) (s : Tree × Bits) (o : ℕ × (Tree × Bits)) → zero_planes_at planes leaf b s ≡ Ok o → Moves s.1 o.1.1
+pub zeros_moves : (planes leaf : ℕ) (b : Block) (s : TagTreeRead × Bits) (o : ℕ × (TagTreeRead × Bits)) → zero_planes_at planes leaf b s ≡ Ok o → Moves s.1 o.1.1
 unfolding zero_planes_at
 zeros_moves planes leaf b s o h = by_included b.included h
   where
     by_included : (c : Bool) → cond c (Ok (b.zero_planes, s)) (ask_at (query_of leaf (planes + 1)) s >>= λ a. refuse (not a.0) PacketHeader >>= λ _. Ok ((node_at a.1.0.nodes leaf).low, a.1)) ≡ Ok o → Moves s.1 o.1.1
-    by_included true e = let is : (b.zero_planes, s) ≡ o = cc in subst (λ (x : ℕ × (Tree × Bits)). Moves s.1 x.1.1) is (stays s.1)
+    by_included true e = let is : (b.zero_planes, s) ≡ o = cc in subst (λ (x : ℕ × (TagTreeRead × Bits)). Moves s.1 x.1.1) is (stays s.1)
     by_included false e =
         bind_then (ask_at (query_of leaf (planes + 1)) s) (λ a. refuse (not a.0) PacketHeader >>= λ _. Ok ((node_at a.1.0.nodes leaf).low, a.1)) o e (λ a f k.
         refuse_then (not a.0) PacketHeader (λ _. Ok ((node_at a.1.0.nodes leaf).low, a.1)) o k (λ _ l.
         let is : ((node_at a.1.0.nodes leaf).low, a.1) ≡ o = cc in
-        subst (λ (x : ℕ × (Tree × Bits)). Moves s.1 x.1.1) is (ask_moves (query_of leaf (planes + 1)) s.0 s.1 a f)))
+        subst (λ (x : ℕ × (TagTreeRead × Bits)). Moves s.1 x.1.1) is (ask_moves (query_of leaf (planes + 1)) s.0 s.1 a f)))
 
 pub taken_moves : (number i : ℕ) (w v : BandWalk) → taken_at number i w ≡ Ok v → Moves w.bits v.bits
 unfolding taken_at
@@ -51,7 +51,7 @@ block_moves number layer i w v h =
     bind_then (included_at layer i b (w.band.inclusion, w.bits)) (λ o. cond o.0 (taken_at number i (with_inclusion w o.1)) (Ok (with_inclusion w o.1))) v h (λ o e k.
     moves_on w.bits o.1.1 v.bits (included_moves layer i b (w.band.inclusion, w.bits) o e) (by_answer o.0 o.1 k))
   where
-    by_answer : (c : Bool) (s : Tree × Bits) → cond c (taken_at number i (with_inclusion w s)) (Ok (with_inclusion w s)) ≡ Ok v → Moves s.1 v.bits
+    by_answer : (c : Bool) (s : TagTreeRead × Bits) → cond c (taken_at number i (with_inclusion w s)) (Ok (with_inclusion w s)) ≡ Ok v → Moves s.1 v.bits
     by_answer true s k = taken_moves number i (with_inclusion w s) v k
     by_answer false s k = let is : with_inclusion w s ≡ v = cc in subst (λ (x : BandWalk). Moves s.1 x.bits) is (stays s.1)
 

@@ -8,8 +8,8 @@ use Rattle.jk_math.specs.declared.fault.Fault.{Fault}
 use Rattle.jk_math.specs.declared.fault.Fault.TheVariants.{TooManyPasses}
 use Rattle.jk_bits.specs.Stuffing.{binary}
 use Rattle.jk_bits.specs.Reading.{Bits}
-use Rattle.jk_packet.specs.declared.words.Piece.{Piece}
-use Rattle.jk_packet.specs.Words.{floor_log2, pass_code, width, piece_bits, IsPiece}
+use Rattle.jk_packet.specs.declared.words.Addition.{Addition}
+use Rattle.jk_packet.specs.Words.{floor_log2, pass_code, width, piece_bits, IsAddition}
 use Rattle.jk_packet.specs.Reading.{number_at, passes_at, growth_at, piece_at}
 use Rattle.jk_packet.proofs.Codes.{IsCoded, Joined, coded_bind, coded_pure, coded_refuse, coded_says, coded_number, coded_growth}
 use Rattle.jk_packet.proofs.PassCodes.{Number, Passes, coded_passes, not_below}
@@ -17,27 +17,27 @@ use Rattle.jk_packet.proofs.PassCodes.{Number, Passes, coded_passes, not_below}
 abbrev Growth : ℕ → ℕ → List Bool → Type 0
 Growth room k bits = (k < room) × (bits ≡ replicate k true ++ false ∷ [])
 
-abbrev length_at : ℕ → ℕ → ℕ → Bits → Result (Piece × Bits) Fault
+abbrev length_at : ℕ → ℕ → ℕ → Bits → Result (Addition × Bits) Fault
 length_at lblock n g r = number_at (lblock + g + floor_log2 n) 0 r >>= λ k. Ok (record { passes = n; growth = g; length = k.0 }, k.1)
 
-abbrev JustPiece : ℕ → ℕ → ℕ → Piece → List Bool → Type 0
+abbrev JustPiece : ℕ → ℕ → ℕ → Addition → List Bool → Type 0
 JustPiece n g k p bits = (p ≡ record { passes = n; growth = g; length = k }) × (bits ≡ [])
 
-abbrev Length : ℕ → ℕ → ℕ → Piece → List Bool → Type 0
+abbrev Length : ℕ → ℕ → ℕ → Addition → List Bool → Type 0
 Length lblock n g = Joined (Number (lblock + g + floor_log2 n)) (JustPiece n g)
 
-abbrev rest_at : ℕ → ℕ → Bits → Result (Piece × Bits) Fault
+abbrev rest_at : ℕ → ℕ → Bits → Result (Addition × Bits) Fault
 rest_at lblock n r = growth_at (33 - (lblock + floor_log2 n)) 0 r >>= λ g. length_at lblock n g.0 g.1
 
-abbrev Rest : ℕ → ℕ → Piece → List Bool → Type 0
+abbrev Rest : ℕ → ℕ → Addition → List Bool → Type 0
 Rest lblock n = Joined (Growth (33 - (lblock + floor_log2 n))) (Length lblock n)
 
-abbrev Kept : ℕ → ℕ → ℕ → ℕ → Piece → List Bool → Type 0
+abbrev Kept : ℕ → ℕ → ℕ → ℕ → Addition → List Bool → Type 0
 Kept most before lblock n p bits = (nat_lt most (before + n) ≡ false) × Rest lblock n p bits
 
 -- a piece within the bound, and its words
-pub record Says (most before lblock : ℕ) (p : Piece) (bits : List Bool) : Type 0 where
-  pub piece : IsPiece lblock p
+pub record Says (most before lblock : ℕ) (p : Addition) (bits : List Bool) : Type 0 where
+  pub piece : IsAddition lblock p
   pub within : before + p.passes ≤ most
   pub words : bits ≡ piece_bits lblock p
 
@@ -56,11 +56,11 @@ coded_words most before lblock =
     coded_bind passes_at (λ n r. refuse (nat_lt most (before + n)) TooManyPasses >>= λ _. rest_at lblock n r) Passes (Kept most before lblock) coded_passes
     (λ n. coded_refuse (nat_lt most (before + n)) TooManyPasses (rest_at lblock n) (Rest lblock n) (coded_rest lblock n))
 
-words_of : (lblock : ℕ) (p : Piece) → piece_bits lblock p ≡ pass_code p.passes ++ (replicate p.growth true ++ (false ∷ binary (width lblock p) p.length))
+words_of : (lblock : ℕ) (p : Addition) → piece_bits lblock p ≡ pass_code p.passes ++ (replicate p.growth true ++ (false ∷ binary (width lblock p) p.length))
 unfolding piece_bits
 words_of lblock p = refl
 
-piece_says : (most before lblock : ℕ) (p : Piece) (bits : List Bool) → Joined Passes (Kept most before lblock) p bits → Says most before lblock p bits
+piece_says : (most before lblock : ℕ) (p : Addition) (bits : List Bool) → Joined Passes (Kept most before lblock) p bits → Says most before lblock p bits
 piece_says most before lblock p bits j =
     let n = j.middle in
     let g = j.says_second.1.middle in
@@ -69,7 +69,7 @@ piece_says most before lblock p bits j =
     let is : p ≡ record { passes = n; growth = g; length = k } = last.says_second.0 in
     let within = not_below most (before + n) j.says_second.0 in
     let room = j.says_second.1.says_first.0 in
-    subst (λ (q : Piece). Says most before lblock q bits) (sym is) record {
+    subst (λ (q : Addition). Says most before lblock q bits) (sym is) record {
       piece = record {
         some = j.says_first.some;
         few = j.says_first.few;
@@ -89,7 +89,7 @@ piece_says most before lblock p bits j =
           ∙ sym (words_of lblock record { passes = n; growth = g; length = k });
     }
 
-piece_back : (most before lblock : ℕ) (p : Piece) → IsPiece lblock p → before + p.passes ≤ most → Joined Passes (Kept most before lblock) p (piece_bits lblock p)
+piece_back : (most before lblock : ℕ) (p : Addition) → IsAddition lblock p → before + p.passes ≤ most → Joined Passes (Kept most before lblock) p (piece_bits lblock p)
 piece_back most before lblock p i within =
     let narrow = i.narrow in
     let word = binary (width lblock p) p.length in

@@ -10,7 +10,7 @@ use Rattle.jk_math.specs.declared.fault.Fault.TheVariants.{Memory}
 use Rattle.jk_math.specs.Memory.{IsMemory}
 use Rattle.jk_bits.specs.Stuffing.{Packs}
 use Rattle.jk_bits.specs.Reading.{Bits, ahead}
-use Rattle.jk_bits.specs.Giving.{Gives}
+use Rattle.jk_bits.specs.Giving.{GivesBits}
 use Rattle.jk_tree.specs.TagTree.{Shape, IsTree, top}
 use Rattle.jk_tree.specs.Asking.{unless_failed}
 use Rattle.jk_tree.proofs.Laws.{blank_open, blank_tree_stands}
@@ -19,7 +19,7 @@ use Rattle.jk_packet.specs.declared.header.Header.{Header}
 use Rattle.jk_packet.specs.declared.header.BlockContribution.{BlockContribution}
 use Rattle.jk_packet.specs.Reading.{BandState, Walk, HeaderText, text_of, PrecinctState, band_in, no_band, blank_block, blank_band, blank_bands, blank_precinct, bits_of, text_at, header_at}
 use Rattle.jk_packet.specs.PacketText.{contributions, queries_in, queries_of, BandTrees, Layer, Trees, band_layers, band_shape, leaves, header_bits, IsLayer, eph_text, IsHeaderText, parts_of}
-use Rattle.jk_packet.specs.Standing.{BandStands, AreTrees, PrecinctStands, Tells, PrecinctReached, ReadsLayer, IsRead}
+use Rattle.jk_packet.specs.Standing.{BandStands, AreTrees, PrecinctStands, TellsLayers, PrecinctReached, ReadsLayer, IsRead}
 use Rattle.jk_packet.proofs.TextLaws.{header_goes, header_ok}
 use Rattle.jk_packet.proofs.LayerLaws.{BitsOnly, bits_only, bits_found, all_trees}
 use Rattle.jk_packet.proofs.HeaderLaws.{header_only, header_found}
@@ -116,11 +116,11 @@ precinct_only shapes t layers layer text rest bytes s st is text_is e =
       };
     }
 
-gives_same : (a c : Bits) (xs ys : List Bool) → Gives a xs c → Gives a ys c → xs ≡ ys
+gives_same : (a c : Bits) (xs ys : List Bool) → GivesBits a xs c → GivesBits a ys c → xs ≡ ys
 gives_same a c xs ys g h = append_cancel_right xs ys (ahead c) (sym g.first ∙ h.first)
 
-pub tells_push : (shapes : List BandShape) (t : Trees) (layers : List Layer) (bits : List (List Bool)) (layer : Layer) (b : List Bool) → Tells shapes t layers bits → b ≡ header_bits shapes t layers layer → IsLayer shapes t layers layer
-    → Tells shapes t (layers ++ layer ∷ []) (bits ++ b ∷ [])
+pub tells_push : (shapes : List BandShape) (t : Trees) (layers : List Layer) (bits : List (List Bool)) (layer : Layer) (b : List Bool) → TellsLayers shapes t layers bits → b ≡ header_bits shapes t layers layer → IsLayer shapes t layers layer
+    → TellsLayers shapes t (layers ++ layer ∷ []) (bits ++ b ∷ [])
 tells_push shapes t layers bits layer b tells same is = (
   length_push bits b ∙ ap (λ n. n + 1) tells.0 ∙ sym (length_push layers layer),
   λ i less. elim (cases_lt i (length layers)) [
@@ -147,11 +147,11 @@ tells_push shapes t layers bits layer b tells same is = (
 
 -- What tells one layer more tells those before it.
 pub record TellsLast (shapes : List BandShape) (t : Trees) (layers : List Layer) (bits : List (List Bool)) (layer : Layer) (b : List Bool) : Type 0 where
-  pub before : Tells shapes t layers bits
+  pub before : TellsLayers shapes t layers bits
   pub own : b ≡ header_bits shapes t layers layer
   pub last : IsLayer shapes t layers layer
 
-pub tells_last : (shapes : List BandShape) (t : Trees) (layers : List Layer) (bits : List (List Bool)) (layer : Layer) (b : List Bool) → Tells shapes t (layers ++ layer ∷ []) (bits ++ b ∷ []) → TellsLast shapes t layers bits layer b
+pub tells_last : (shapes : List BandShape) (t : Trees) (layers : List Layer) (bits : List (List Bool)) (layer : Layer) (b : List Bool) → TellsLayers shapes t (layers ++ layer ∷ []) (bits ++ b ∷ []) → TellsLast shapes t layers bits layer b
 tells_last shapes t layers bits layer b tells =
     let long : length bits ≡ length layers = (let e = tells.0 in let l = length_push layers layer in let m = length_push bits b in omega (arith, e, l, m)) in
     let n = length layers in

@@ -12,7 +12,7 @@ use Rattle.jk_bits.specs.Writing.{Written}
 use Rattle.jk_tree.specs.Telling.{with_bits}
 use Rattle.jk_packet.specs.declared.shape.BandShape.{BandShape}
 use Rattle.jk_packet.specs.declared.writing.WriteBand.{WriteBand}
-use Rattle.jk_packet.specs.PacketText.{Contribution, BandLayer, Layer, of_band, band_layers, band_shape, leaves, band_bits, bands_bits, header_bits, eph_text}
+use Rattle.jk_packet.specs.PacketText.{PacketContribution, BandLayer, Layer, of_band, band_layers, band_shape, leaves, band_bits, bands_bits, header_bits, eph_text}
 use Rattle.jk_packet.specs.Written.{Table, sop_text, part_in, lblock_at, first_in, band_tables, table_at, is_full, band_layer, layer_in, layers_before, band_trees, trees_in, full_bits, bits_in, header_in, bodies_text, packet_in, block_count, banded, AreTables}
 use Rattle.jk_packet.specs.Writing.{state_of, IsReady, TreesSpeak, BandsStand}
 use Rattle.jk_packet.proofs.LayerLaws.{layers_push}
@@ -184,7 +184,7 @@ rest_more shapes tables l n less =
     let ls = layers_before tables l in
     let all = map (λ ts. band_layer ts l) tables in
     at_drop_more (bands_bits shapes trees ls n) all n [] (let e = length-map tables (λ ts. band_layer ts l) in omega (arith, e, less))
-    ∙ ap (λ (cs : List (Option Contribution)). band_bits (leaves (band_shape shapes n)) (trees n) (band_layers n ls) cs ++ rest_bits shapes tables l (n + 1)) (get_or-map (λ ts. band_layer ts l) tables n [] [] less)
+    ∙ ap (λ (cs : List (Option PacketContribution)). band_bits (leaves (band_shape shapes n)) (trees n) (band_layers n ls) cs ++ rest_bits shapes tables l (n + 1)) (get_or-map (λ ts. band_layer ts l) tables n [] [] less)
 
 pub rest_end : (shapes : List BandShape) (tables : List (List Table)) (l n : ℕ) → length tables ≤ n → rest_bits shapes tables l n ≡ []
 unfolding bands_bits

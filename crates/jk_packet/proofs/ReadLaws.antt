@@ -9,7 +9,7 @@ use Rattle.jk_math.specs.declared.fault.Fault.{Fault}
 use Rattle.jk_math.specs.declared.fault.Fault.TheVariants.{PacketHeader}
 use Rattle.jk_bits.specs.Reading.{Bits, bit_at}
 use Rattle.jk_tree.specs.TagTree.{query_of}
-use Rattle.jk_tree.specs.Asking.{Tree, node_at, ask_at}
+use Rattle.jk_tree.specs.Asking.{TagTreeRead, node_at, ask_at}
 use Rattle.jk_packet.specs.declared.block.Block.{Block}
 use Rattle.jk_packet.specs.Words.{greatest_power, floor_log2}
 use Rattle.jk_packet.specs.Reading.{digit, number_at, growth_at, included_at, zero_planes_at}
@@ -62,7 +62,7 @@ pub log2_is : (n r : ℕ) → r < 32 → 2 ^ r ≤ n → n < 2 ^ suc r → floor
 unfolding floor_log2
 log2_is n r small low high = greatest_is 31 n r (omega (arith, small)) low high
 
-pub included_bit : (layer leaf : ℕ) (b : Block) (t : Tree) (old new : Bits) (r : Result Bool Fault) → b.included ≡ true → Reads bit_at old new r → Reads (included_at layer leaf b) (t, old) (t, new) r
+pub included_bit : (layer leaf : ℕ) (b : Block) (t : TagTreeRead) (old new : Bits) (r : Result Bool Fault) → b.included ≡ true → Reads bit_at old new r → Reads (included_at layer leaf b) (t, old) (t, new) r
 unfolding included_at
 included_bit layer leaf b t old new (Ok x) h e =
     ap (λ (c : Bool). cond c (bit_at old >>= λ r. Ok (r.0, (t, r.1))) (ask_at (query_of leaf (layer + 1)) (t, old))) h
@@ -71,39 +71,39 @@ included_bit layer leaf b t old new (Err x) h e =
     ap (λ (c : Bool). cond c (bit_at old >>= λ r. Ok (r.0, (t, r.1))) (ask_at (query_of leaf (layer + 1)) (t, old))) h
     ∙ ap (λ (w : Result (Bool × Bits) Fault). w >>= λ r. Ok (r.0, (t, r.1))) e
 
-pub included_old : (layer leaf : ℕ) (b : Block) (s : Tree × Bits) → b.included ≡ true → included_at layer leaf b s ≡ (bit_at s.1 >>= λ r. Ok (r.0, (s.0, r.1)))
+pub included_old : (layer leaf : ℕ) (b : Block) (s : TagTreeRead × Bits) → b.included ≡ true → included_at layer leaf b s ≡ (bit_at s.1 >>= λ r. Ok (r.0, (s.0, r.1)))
 unfolding included_at
 included_old layer leaf b s h = ap (λ (c : Bool). cond c (bit_at s.1 >>= λ r. Ok (r.0, (s.0, r.1))) (ask_at (query_of leaf (layer + 1)) s)) h
 
-pub included_ask : (layer leaf : ℕ) (b : Block) (s : Tree × Bits) → b.included ≡ false → included_at layer leaf b s ≡ ask_at (query_of leaf (layer + 1)) s
+pub included_ask : (layer leaf : ℕ) (b : Block) (s : TagTreeRead × Bits) → b.included ≡ false → included_at layer leaf b s ≡ ask_at (query_of leaf (layer + 1)) s
 unfolding included_at
 included_ask layer leaf b s h = ap (λ (c : Bool). cond c (bit_at s.1 >>= λ r. Ok (r.0, (s.0, r.1))) (ask_at (query_of leaf (layer + 1)) s)) h
 
-pub included_asks : (layer leaf : ℕ) (b : Block) (old new : Tree × Bits) (r : Result Bool Fault) → b.included ≡ false → Reads (ask_at (query_of leaf (layer + 1))) old new r → Reads (included_at layer leaf b) old new r
+pub included_asks : (layer leaf : ℕ) (b : Block) (old new : TagTreeRead × Bits) (r : Result Bool Fault) → b.included ≡ false → Reads (ask_at (query_of leaf (layer + 1))) old new r → Reads (included_at layer leaf b) old new r
 included_asks layer leaf b old new (Ok x) h e = included_ask layer leaf b old h ∙ e
 included_asks layer leaf b old new (Err x) h e = included_ask layer leaf b old h ∙ e
 
-pub zeros_known : (planes leaf : ℕ) (b : Block) (s : Tree × Bits) → b.included ≡ true → zero_planes_at planes leaf b s ≡ Ok (b.zero_planes, s)
+pub zeros_known : (planes leaf : ℕ) (b : Block) (s : TagTreeRead × Bits) → b.included ≡ true → zero_planes_at planes leaf b s ≡ Ok (b.zero_planes, s)
 unfolding zero_planes_at
 zeros_known planes leaf b s h =
     ap (λ (c : Bool). cond c (Ok (b.zero_planes, s)) (ask_at (query_of leaf (planes + 1)) s >>= λ o. refuse (not o.0) PacketHeader >>= λ _. Ok ((node_at o.1.0.nodes leaf).low, o.1))) h
 
-pub zeros_asked : (planes leaf : ℕ) (b : Block) (s : Tree × Bits) → b.included ≡ false
+pub zeros_asked : (planes leaf : ℕ) (b : Block) (s : TagTreeRead × Bits) → b.included ≡ false
     → zero_planes_at planes leaf b s ≡ (ask_at (query_of leaf (planes + 1)) s >>= λ o. refuse (not o.0) PacketHeader >>= λ _. Ok ((node_at o.1.0.nodes leaf).low, o.1))
 unfolding zero_planes_at
 zeros_asked planes leaf b s h =
     ap (λ (c : Bool). cond c (Ok (b.zero_planes, s)) (ask_at (query_of leaf (planes + 1)) s >>= λ o. refuse (not o.0) PacketHeader >>= λ _. Ok ((node_at o.1.0.nodes leaf).low, o.1))) h
 
-pub zeros_err : (planes leaf : ℕ) (b : Block) (s : Tree × Bits) (e : Fault) → b.included ≡ false → ask_at (query_of leaf (planes + 1)) s ≡ Err e → zero_planes_at planes leaf b s ≡ Err e
+pub zeros_err : (planes leaf : ℕ) (b : Block) (s : TagTreeRead × Bits) (e : Fault) → b.included ≡ false → ask_at (query_of leaf (planes + 1)) s ≡ Err e → zero_planes_at planes leaf b s ≡ Err e
 zeros_err planes leaf b s e h a =
-    zeros_asked planes leaf b s h ∙ ap (λ (w : Result (Bool × (Tree × Bits)) Fault). w >>= λ o. refuse (not o.0) PacketHeader >>= λ _. Ok ((node_at o.1.0.nodes leaf).low, o.1)) a
+    zeros_asked planes leaf b s h ∙ ap (λ (w : Result (Bool × (TagTreeRead × Bits)) Fault). w >>= λ o. refuse (not o.0) PacketHeader >>= λ _. Ok ((node_at o.1.0.nodes leaf).low, o.1)) a
 
-pub zeros_none : (planes leaf : ℕ) (b : Block) (s : Tree × Bits) (o : Bool × (Tree × Bits)) → b.included ≡ false → ask_at (query_of leaf (planes + 1)) s ≡ Ok o → o.0 ≡ false → zero_planes_at planes leaf b s ≡ Err PacketHeader
+pub zeros_none : (planes leaf : ℕ) (b : Block) (s : TagTreeRead × Bits) (o : Bool × (TagTreeRead × Bits)) → b.included ≡ false → ask_at (query_of leaf (planes + 1)) s ≡ Ok o → o.0 ≡ false → zero_planes_at planes leaf b s ≡ Err PacketHeader
 zeros_none planes leaf b s o h a known =
-    zeros_asked planes leaf b s h ∙ ap (λ (w : Result (Bool × (Tree × Bits)) Fault). w >>= λ o. refuse (not o.0) PacketHeader >>= λ _. Ok ((node_at o.1.0.nodes leaf).low, o.1)) a
+    zeros_asked planes leaf b s h ∙ ap (λ (w : Result (Bool × (TagTreeRead × Bits)) Fault). w >>= λ o. refuse (not o.0) PacketHeader >>= λ _. Ok ((node_at o.1.0.nodes leaf).low, o.1)) a
     ∙ ap (λ (k : Bool). refuse (not k) PacketHeader >>= λ _. Ok ((node_at o.1.0.nodes leaf).low, o.1)) known
 
-pub zeros_ok : (planes leaf : ℕ) (b : Block) (s : Tree × Bits) (o : Bool × (Tree × Bits)) → b.included ≡ false → ask_at (query_of leaf (planes + 1)) s ≡ Ok o → o.0 ≡ true → zero_planes_at planes leaf b s ≡ Ok ((node_at o.1.0.nodes leaf).low, o.1)
+pub zeros_ok : (planes leaf : ℕ) (b : Block) (s : TagTreeRead × Bits) (o : Bool × (TagTreeRead × Bits)) → b.included ≡ false → ask_at (query_of leaf (planes + 1)) s ≡ Ok o → o.0 ≡ true → zero_planes_at planes leaf b s ≡ Ok ((node_at o.1.0.nodes leaf).low, o.1)
 zeros_ok planes leaf b s o h a known =
-    zeros_asked planes leaf b s h ∙ ap (λ (w : Result (Bool × (Tree × Bits)) Fault). w >>= λ o. refuse (not o.0) PacketHeader >>= λ _. Ok ((node_at o.1.0.nodes leaf).low, o.1)) a
+    zeros_asked planes leaf b s h ∙ ap (λ (w : Result (Bool × (TagTreeRead × Bits)) Fault). w >>= λ o. refuse (not o.0) PacketHeader >>= λ _. Ok ((node_at o.1.0.nodes leaf).low, o.1)) a
     ∙ ap (λ (k : Bool). refuse (not k) PacketHeader >>= λ _. Ok ((node_at o.1.0.nodes leaf).low, o.1)) known

@@ -7,12 +7,12 @@ use Rattle.std.proofs.lemmas.Bool.{cases_eq}
 use Rattle.std.proofs.lemmas.List.{append-nil, length-map, length-set, length-take-le, take_more, get_or-set_same, get_or-set_other}
 use Rattle.jk_bits.specs.Writing.{Written}
 use Rattle.jk_tree.specs.TagTree.{Shape, Values, query_of, told}
-use Rattle.jk_tree.specs.Telling.{Speaker, Speaks, Tells, with_bits}
+use Rattle.jk_tree.specs.Telling.{Speaker, Speaks, TellsQuery, with_bits}
 use Rattle.jk_packet.specs.declared.shape.BandShape.{BandShape}
 use Rattle.jk_packet.specs.declared.writing.WriteBand.{WriteBand}
 use Rattle.jk_packet.specs.declared.writing.WriteBlock.{WriteBlock}
 use Rattle.jk_packet.specs.Words.{piece_bits}
-use Rattle.jk_packet.specs.PacketText.{Contribution, BandLayer, contributions, has_any, is_included, lblock_of, asks_inclusion, asks_zeros, queries_before, inclusion_bits, zeros_bits, block_bits, leaves}
+use Rattle.jk_packet.specs.PacketText.{PacketContribution, BandLayer, contributions, has_any, is_included, lblock_of, asks_inclusion, asks_zeros, queries_before, inclusion_bits, zeros_bits, block_bits, leaves}
 use Rattle.jk_packet.specs.Written.{Table, part_in, lblock_at, piece_in, contribution_in, first_in, table_at, band_layer, band_trees}
 use Rattle.jk_packet.specs.Writing.{state_of, state_at, IsReady, Follow, TreesSpeak}
 use Rattle.jk_packet.proofs.QueryLaws.{inclusion_old, inclusion_new, zeros_none, zeros_old, zeros_new}
@@ -27,12 +27,12 @@ pub bits_none : (w : Written) → with_bits w [] ≡ w
 bits_none w = ap (λ (bs : List Bool). record { bits = bs; failed = w.failed }) (append-nil w.bits)
 
 -- the bits of inclusion and of zero bit-planes, by whether the block is included
-inclusion_by : (s : Shape) (v : Values) (ls : List BandLayer) (front : List (Option Contribution)) (i : ℕ) (taken old : Bool) → is_included ls i ≡ old
+inclusion_by : (s : Shape) (v : Values) (ls : List BandLayer) (front : List (Option PacketContribution)) (i : ℕ) (taken old : Bool) → is_included ls i ≡ old
     → inclusion_bits s v ls front i taken ≡ cond old (taken ∷ []) (told s v (queries_before asks_inclusion ls front) (query_of i (length ls + 1)))
 unfolding inclusion_bits
 inclusion_by s v ls front i taken old e = ap (λ (b : Bool). cond b (taken ∷ []) (told s v (queries_before asks_inclusion ls front) (query_of i (length ls + 1)))) e
 
-zeros_by : (s : Shape) (v : Values) (ls : List BandLayer) (front : List (Option Contribution)) (i planes : ℕ) (old : Bool) → is_included ls i ≡ old
+zeros_by : (s : Shape) (v : Values) (ls : List BandLayer) (front : List (Option PacketContribution)) (i planes : ℕ) (old : Bool) → is_included ls i ≡ old
     → zeros_bits s v ls front i planes ≡ cond old [] (told s v (queries_before asks_zeros ls front) (query_of i (planes + 1)))
 unfolding zeros_bits
 zeros_by s v ls front i planes old e = ap (λ (b : Bool). cond b [] (told s v (queries_before asks_zeros ls front) (query_of i (planes + 1)))) e
@@ -40,13 +40,13 @@ zeros_by s v ls front i planes old e = ap (λ (b : Bool). cond b [] (told s v (q
 -- a query as it is told
 abbrev pub SaysInclusion : Bool → ℕ → ℕ → Bool → Speaker → Speaker → Written → Written → Type 0
 SaysInclusion old i l taken tree tree_on w w_on =
-    MatchBool old ((w_on ≡ with_bits w (taken ∷ [])) × (tree_on ≡ tree)) (Tells tree.shape (query_of i (l + 1)) tree.nodes tree_on.nodes w w_on)
+    MatchBool old ((w_on ≡ with_bits w (taken ∷ [])) × (tree_on ≡ tree)) (TellsQuery tree.shape (query_of i (l + 1)) tree.nodes tree_on.nodes w w_on)
 
 abbrev pub SaysZeros : Bool → ℕ → ℕ → Speaker → Speaker → Written → Written → Type 0
 SaysZeros old i planes tree tree_on w w_on =
-    MatchBool old ((w_on ≡ w) × (tree_on ≡ tree)) (Tells tree.shape (query_of i (planes + 1)) tree.nodes tree_on.nodes w w_on)
+    MatchBool old ((w_on ≡ w) × (tree_on ≡ tree)) (TellsQuery tree.shape (query_of i (planes + 1)) tree.nodes tree_on.nodes w w_on)
 
-inclusion_said : (s : Shape) (v : Values) (ls : List BandLayer) (front : List (Option Contribution)) (c : Option Contribution) (l : ℕ) (taken old : Bool) (tree tree_on : Speaker) (w w_on : Written)
+inclusion_said : (s : Shape) (v : Values) (ls : List BandLayer) (front : List (Option PacketContribution)) (c : Option PacketContribution) (l : ℕ) (taken old : Bool) (tree tree_on : Speaker) (w w_on : Written)
     → is_included ls (length front) ≡ old → length ls ≡ l → tree.shape ≡ s → Speaks s v (queries_before asks_inclusion ls front) tree.nodes → SaysInclusion old (length front) l taken tree tree_on w w_on
     → (w_on ≡ with_bits w (inclusion_bits s v ls front (length front) taken)) × Speaks s v (queries_before asks_inclusion ls (front ++ c ∷ [])) tree_on.nodes
 inclusion_said s v ls front c l taken true tree tree_on w w_on included count shape sp said = (
@@ -54,13 +54,13 @@ inclusion_said s v ls front c l taken true tree tree_on w w_on included count sh
   subst (λ qs. Speaks s v qs tree_on.nodes) (sym (inclusion_old ls front c included)) (subst (λ (t : Speaker). Speaks s v (queries_before asks_inclusion ls front) t.nodes) (sym said.1) sp),
 )
 inclusion_said s v ls front c l taken false tree tree_on w w_on included count shape sp said =
-    let tells = subst (λ n. Tells s (query_of (length front) (n + 1)) tree.nodes tree_on.nodes w w_on) (sym count) (subst (λ (x : Shape). Tells x (query_of (length front) (l + 1)) tree.nodes tree_on.nodes w w_on) shape said) in
+    let tells = subst (λ n. TellsQuery s (query_of (length front) (n + 1)) tree.nodes tree_on.nodes w w_on) (sym count) (subst (λ (x : Shape). TellsQuery x (query_of (length front) (l + 1)) tree.nodes tree_on.nodes w w_on) shape said) in
     let o = tells v (queries_before asks_inclusion ls front) sp in (
       o.0 ∙ ap (λ (bs : List Bool). with_bits w bs) (sym (inclusion_by s v ls front (length front) taken false included)),
       subst (λ qs. Speaks s v qs tree_on.nodes) (sym (inclusion_new ls front c included)) o.1,
     )
 
-zeros_said : (s : Shape) (v : Values) (ls : List BandLayer) (front : List (Option Contribution)) (c : Contribution) (old : Bool) (tree tree_on : Speaker) (w w_on : Written)
+zeros_said : (s : Shape) (v : Values) (ls : List BandLayer) (front : List (Option PacketContribution)) (c : PacketContribution) (old : Bool) (tree tree_on : Speaker) (w w_on : Written)
     → is_included ls (length front) ≡ old → tree.shape ≡ s → Speaks s v (queries_before asks_zeros ls front) tree.nodes → SaysZeros old (length front) c.zero_planes tree tree_on w w_on
     → (w_on ≡ with_bits w (zeros_bits s v ls front (length front) c.zero_planes)) × Speaks s v (queries_before asks_zeros ls (front ++ Some c ∷ [])) tree_on.nodes
 zeros_said s v ls front c true tree tree_on w w_on included shape sp said = (
@@ -68,14 +68,14 @@ zeros_said s v ls front c true tree tree_on w w_on included shape sp said = (
   subst (λ qs. Speaks s v qs tree_on.nodes) (sym (zeros_old ls front c included)) (subst (λ (t : Speaker). Speaks s v (queries_before asks_zeros ls front) t.nodes) (sym said.1) sp),
 )
 zeros_said s v ls front c false tree tree_on w w_on included shape sp said =
-    let tells = subst (λ (x : Shape). Tells x (query_of (length front) (c.zero_planes + 1)) tree.nodes tree_on.nodes w w_on) shape said in
+    let tells = subst (λ (x : Shape). TellsQuery x (query_of (length front) (c.zero_planes + 1)) tree.nodes tree_on.nodes w w_on) shape said in
     let o = tells v (queries_before asks_zeros ls front) sp in (
       o.0 ∙ ap (λ (bs : List Bool). with_bits w bs) (sym (zeros_by s v ls front (length front) c.zero_planes false included)),
       subst (λ qs. Speaks s v qs tree_on.nodes) (sym (zeros_new ls front c included)) o.1,
     )
 
 -- a block without a contribution, behind the blocks in front
-nothing_said : (b : BandShape) (ts : List Table) (ls : List BandLayer) (front : List (Option Contribution)) (l : ℕ) (old : Bool) (band : WriteBand) (tree_on : Speaker) (w w_on : Written)
+nothing_said : (b : BandShape) (ts : List Table) (ls : List BandLayer) (front : List (Option PacketContribution)) (l : ℕ) (old : Bool) (band : WriteBand) (tree_on : Speaker) (w w_on : Written)
     → is_included ls (length front) ≡ old → length ls ≡ l → band.inclusion.shape ≡ leaves b → TreesSpeak b ts ls front band → SaysInclusion old (length front) l false band.inclusion tree_on w w_on
     → (w_on ≡ with_bits w (block_bits (leaves b) (band_trees b ts) ls front (length front) None)) × TreesSpeak b ts ls (front ++ None ∷ []) (record { inclusion = tree_on; zeros = band.zeros; blocks = band.blocks })
 nothing_said b ts ls front l old band tree_on w w_on included count shape sp said =
@@ -85,7 +85,7 @@ nothing_said b ts ls front l old band tree_on w w_on included count shape sp sai
     )
 
 -- a block with one
-something_said : (b : BandShape) (ts : List Table) (ls : List BandLayer) (front : List (Option Contribution)) (c : Contribution) (l lblock : ℕ) (old : Bool) (band : WriteBand) (tree_on zeros_on : Speaker) (blocks : Vec WriteBlock) (w w1 w2 w3 : Written)
+something_said : (b : BandShape) (ts : List Table) (ls : List BandLayer) (front : List (Option PacketContribution)) (c : PacketContribution) (l lblock : ℕ) (old : Bool) (band : WriteBand) (tree_on zeros_on : Speaker) (blocks : Vec WriteBlock) (w w1 w2 w3 : Written)
     → is_included ls (length front) ≡ old → length ls ≡ l → lblock ≡ lblock_of (contributions ls (length front)) → band.inclusion.shape ≡ leaves b → band.zeros.shape ≡ leaves b → TreesSpeak b ts ls front band
     → SaysInclusion old (length front) l true band.inclusion tree_on w w1 → SaysZeros old (length front) c.zero_planes band.zeros zeros_on w1 w2 → w3 ≡ with_bits w2 (piece_bits lblock c.piece)
     → (w3 ≡ with_bits w (block_bits (leaves b) (band_trees b ts) ls front (length front) (Some c))) × TreesSpeak b ts ls (front ++ Some c ∷ []) (record { inclusion = tree_on; zeros = zeros_on; blocks = blocks })
@@ -114,7 +114,7 @@ front_long ts l i less = length-take-le i (band_layer ts l) (let e = length-map 
 front_more : (ts : List Table) (l i : ℕ) → i < length ts → take (i + 1) (band_layer ts l) ≡ take i (band_layer ts l) ++ contribution_in (table_at ts i) l ∷ []
 front_more ts l i less =
     take_more (band_layer ts l) i None (let e = length-map ts (λ t. contribution_in t l) in omega (arith, e, less))
-    ∙ ap (λ (c : Option Contribution). take i (band_layer ts l) ++ c ∷ []) (band_layer_at ts l i less)
+    ∙ ap (λ (c : Option PacketContribution). take i (band_layer ts l) ++ c ∷ []) (band_layer_at ts l i less)
 
 -- What is told of block i of a sub-band in layer l, as `write_block` promises it.
 abbrev pub SaysBlock : BandShape → List Table → ℕ → ℕ → List BandLayer → WriteBand → Written → Written → Type 0
@@ -139,8 +139,8 @@ block_none b ts l i ls first taken band tree_on w w_on less within follow shape 
     let gives : contribution_in (table_at ts i) l ≡ None = contribution_none (table_at ts i) l none in (
       o.0
           ∙ ap (λ k. with_bits w (block_bits (leaves b) (band_trees b ts) ls front k None)) long
-          ∙ ap (λ (c : Option Contribution). with_bits w (block_bits (leaves b) (band_trees b ts) ls front i c)) (sym gives),
-      subst (λ (cs : List (Option Contribution)). TreesSpeak b ts ls cs band_on) (ap (λ (c : Option Contribution). front ++ c ∷ []) (sym gives) ∙ sym (front_more ts l i less)) o.1,
+          ∙ ap (λ (c : Option PacketContribution). with_bits w (block_bits (leaves b) (band_trees b ts) ls front i c)) (sym gives),
+      subst (λ (cs : List (Option PacketContribution)). TreesSpeak b ts ls cs band_on) (ap (λ (c : Option PacketContribution). front ++ c ∷ []) (sym gives) ∙ sym (front_more ts l i less)) o.1,
     )
 
 pub block_some : (b : BandShape) (ts : List Table) (l i : ℕ) (ls : List BandLayer) (first lblock : ℕ) (taken : Bool) (band : WriteBand) (tree_on zeros_on : Speaker) (blocks : Vec WriteBlock) (w w1 w2 w3 : Written)
@@ -162,8 +162,8 @@ block_some b ts l i ls first lblock taken band tree_on zeros_on blocks w w1 w2 w
     let gives : contribution_in t l ≡ Some c = contribution_some t l some in (
       o.0
           ∙ ap (λ k. with_bits w (block_bits (leaves b) (band_trees b ts) ls front k (Some c))) long
-          ∙ ap (λ (x : Option Contribution). with_bits w (block_bits (leaves b) (band_trees b ts) ls front i x)) (sym gives),
-      subst (λ (cs : List (Option Contribution)). TreesSpeak b ts ls cs band_on) (ap (λ (x : Option Contribution). front ++ x ∷ []) (sym gives) ∙ sym (front_more ts l i less)) o.1,
+          ∙ ap (λ (x : Option PacketContribution). with_bits w (block_bits (leaves b) (band_trees b ts) ls front i x)) (sym gives),
+      subst (λ (cs : List (Option PacketContribution)). TreesSpeak b ts ls cs band_on) (ap (λ (x : Option PacketContribution). front ++ x ∷ []) (sym gives) ∙ sym (front_more ts l i less)) o.1,
     )
 
 -- What is left of the sub-band: a block without passes stays, and one with passes has another Lblock.

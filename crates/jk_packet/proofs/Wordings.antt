@@ -3,7 +3,7 @@ use Rattle.std.proofs.Common.{◌≡◌, ℕ, suc, ◌-◌, ◌/◌, ◌%◌, �
 use Rattle.std.specs.Prelude.{◌==◌, nat_le}
 use Rattle.std.proofs.lemmas.Bool.Decides.{nat_tests}
 use Rattle.jk_bits.specs.Stuffing.{binary}
-use Rattle.jk_packet.specs.declared.words.Piece.{Piece}
+use Rattle.jk_packet.specs.declared.words.Addition.{Addition}
 use Rattle.jk_packet.specs.Words.{width, pass_code, piece_bits}
 
 pub binary-zero : (x : ℕ) → binary 0 x ≡ []
@@ -44,7 +44,7 @@ pub pass_most : (n : ℕ) → 37 ≤ n → replicate 9 true ++ binary 7 (n - 37)
 pass_most n low = code_is n (grind (arith, nat_tests)) (grind (arith, nat_tests)) false false (grind (arith, nat_tests)) (grind (arith, nat_tests))
 
 -- a piece, word by word
-pub piece_by : (lblock : ℕ) (p : Piece) (bits a b : List Bool) → a ≡ bits ++ pass_code p.passes → b ≡ a ++ replicate p.growth true
+pub piece_by : (lblock : ℕ) (p : Addition) (bits a b : List Bool) → a ≡ bits ++ pass_code p.passes → b ≡ a ++ replicate p.growth true
     → (b ++ false ∷ []) ++ binary (width lblock p) p.length ≡ bits ++ piece_bits lblock p
 unfolding piece_bits
 piece_by lblock p bits a b first second =

@@ -11,9 +11,9 @@ use Rattle.jk_bits.proofs.Laws.{stuffed_stuffs, stuffs_packs}
 use Rattle.jk_tree.specs.TagTree.{Shape, Values, leaf_of}
 use Rattle.jk_tree.proofs.Laws.{written_tree, written_leaf}
 use Rattle.jk_packet.specs.declared.shape.BandShape.{BandShape}
-use Rattle.jk_packet.specs.Words.{IsPiece}
-use Rattle.jk_packet.specs.PacketText.{Contribution, BandLayer, given, option_list, contributions, is_included, has_any, zeros_of, passes_of, lblock_of, BandTrees, IsContribution, IsBlock, AreBlocks, Layer, of_band, band_layers, Trees, band_shape, leaves, header_bits, AreBands, IsLayer, IsHeaderText}
-use Rattle.jk_packet.specs.Standing.{AreTrees, Tells}
+use Rattle.jk_packet.specs.Words.{IsAddition}
+use Rattle.jk_packet.specs.PacketText.{PacketContribution, BandLayer, given, option_list, contributions, is_included, has_any, zeros_of, passes_of, lblock_of, BandTrees, IsContribution, IsBlock, AreBlocks, Layer, of_band, band_layers, Trees, band_shape, leaves, header_bits, ArePacketBands, IsLayer, IsHeaderText}
+use Rattle.jk_packet.specs.Standing.{AreTrees, TellsLayers}
 use Rattle.jk_packet.specs.Written.{Table, sop_text, part_in, piece_in, contribution_in, first_in, band_tables, table_at, has_passes, is_full, band_layer, layer_in, layers_before, band_trees, trees_in, bits_in, header_in, IsTable, AreBandTables, AreTables}
 use Rattle.jk_packet.specs.Writing.{history, Follow}
 use Rattle.jk_packet.proofs.QueryLaws.{contributions_push}
@@ -57,7 +57,7 @@ pub band_layer_at : (ts : List Table) (l j : ℕ) → j < length ts → get_or (
 band_layer_at ts l j less = get_or-map (λ t. contribution_in t l) ts j _ None less
 
 pub of_full : (tables : List (List Table)) (l i : ℕ) → i < length tables → of_band i (Some (map (λ ts. band_layer ts l) tables)) ≡ Some (band_layer (band_tables tables i) l)
-of_full tables l i less = ap (λ (cs : List (Option Contribution)). Some cs) (get_or-map (λ ts. band_layer ts l) tables i [] [] less)
+of_full tables l i less = ap (λ (cs : List (Option PacketContribution)). Some cs) (get_or-map (λ ts. band_layer ts l) tables i [] [] less)
 
 given_in : (tables : List (List Table)) (l i j : ℕ) → i < length tables → j < length (band_tables tables i) → given (of_band i (layer_in tables l)) j ≡ contribution_in (table_at (band_tables tables i) j) l
 given_in tables l i j in_bands in_blocks = elim (cases_Bool (is_full tables l)) [
@@ -83,8 +83,8 @@ contributions_in tables (suc l) i j in_bands in_blocks =
     ∙ ap (λ (ls : List Layer). contributions (band_layers i ls) j) (layers_more tables l)
     ∙ ap (λ (ls : List BandLayer). contributions ls j) (layers_push i (layers_before tables l) (layer_in tables l))
     ∙ contributions_push before (of_band i (layer_in tables l)) j
-    ∙ ap (λ (cs : List Contribution). cs ++ option_list (given (of_band i (layer_in tables l)) j)) (contributions_in tables l i j in_bands in_blocks)
-    ∙ ap (λ (c : Option Contribution). history t l ++ option_list c) (given_in tables l i j in_bands in_blocks)
+    ∙ ap (λ (cs : List PacketContribution). cs ++ option_list (given (of_band i (layer_in tables l)) j)) (contributions_in tables l i j in_bands in_blocks)
+    ∙ ap (λ (c : Option PacketContribution). history t l ++ option_list c) (given_in tables l i j in_bands in_blocks)
     ∙ sym (history_more t l)
 
 -- The layers before l follow the tables.
@@ -117,7 +117,7 @@ contribution_is : (s : Shape) (planes layers : ℕ) (zeros : Values) (ls : List 
 contribution_is s planes layers zeros ls l j t is within past leaf some = record {
   first = λ not_yet. (sym leaf, is.zeros);
   later = λ old. zeros_history t l (sym (ap has_any past) ∙ old) ∙ ap zeros_of (sym past);
-  piece = subst (λ n. IsPiece n (piece_in t l)) (sym (ap lblock_of past ∙ lblock_history t l)) (piece_is layers planes t l is within some);
+  piece = subst (λ n. IsAddition n (piece_in t l)) (sym (ap lblock_of past ∙ lblock_history t l)) (piece_is layers planes t l is within some);
   kept = (let before = ap passes_of past in
       let own = passes_within t l (let e = is.long in omega (arith, e, within)) in
       let all = is.passes in
@@ -127,8 +127,8 @@ contribution_is s planes layers zeros ls l j t is within past leaf some = record
 taken_is : (s : Shape) (planes layers : ℕ) (zeros : Values) (ls : List BandLayer) (l j : ℕ) (t : Table) → IsTable layers planes t → l < layers → contributions ls j ≡ history t l → leaf_of s zeros j ≡ t.zero_planes
     → IfSome (contribution_in t l) (IsContribution s planes zeros ls j)
 taken_is s planes layers zeros ls l j t is within past leaf = elim (cases_Bool (nat_eq (part_in t l).0 0)) [
-  | inl none ↦ subst (λ (c : Option Contribution). IfSome c (IsContribution s planes zeros ls j)) (sym (contribution_none t l none)) tt
-  | inr some ↦ subst (λ (c : Option Contribution). IfSome c (IsContribution s planes zeros ls j)) (sym (contribution_some t l some)) (contribution_is s planes layers zeros ls l j t is within past leaf some)
+  | inl none ↦ subst (λ (c : Option PacketContribution). IfSome c (IsContribution s planes zeros ls j)) (sym (contribution_none t l none)) tt
+  | inr some ↦ subst (λ (c : Option PacketContribution). IfSome c (IsContribution s planes zeros ls j)) (sym (contribution_some t l some)) (contribution_is s planes layers zeros ls l j t is within past leaf some)
 ]
 
 -- A block behind the layers before l.
@@ -149,7 +149,7 @@ block_is b layers ts l j ls are few within less follow =
     }
 
 -- blocks one behind another
-are_blocks : (s : Shape) (planes : ℕ) (trees : BandTrees) (ls : List BandLayer) (i : ℕ) (cs : List (Option Contribution)) → ((k : ℕ) → k < length cs → IsBlock s planes trees ls (i + k) (get_or cs k None)) → AreBlocks s planes trees ls i cs
+are_blocks : (s : Shape) (planes : ℕ) (trees : BandTrees) (ls : List BandLayer) (i : ℕ) (cs : List (Option PacketContribution)) → ((k : ℕ) → k < length cs → IsBlock s planes trees ls (i + k) (get_or cs k None)) → AreBlocks s planes trees ls i cs
 are_blocks s planes trees ls i [] each = tt
 are_blocks s planes trees ls i (c ∷ cs) each = (
   subst (λ k. IsBlock s planes trees ls k c) (let e : i + 0 ≡ i = omega arith in e) (each 0 (omega arith)),
@@ -162,12 +162,12 @@ band_is b layers ts l ls are few within follow = are_blocks (leaves b) b.planes 
     let own : k < length ts = (let e = length-map ts (λ t. contribution_in t l) in omega (arith, e, less)) in
     let here = block_is b layers ts l k ls are few within (let e = are.long in omega (arith, e, own)) follow in
     subst (λ n. IsBlock (leaves b) b.planes (band_trees b ts) ls n (get_or (band_layer ts l) k None)) (let e : k ≡ 0 + k = omega arith in e)
-    (subst (λ (c : Option Contribution). IsBlock (leaves b) b.planes (band_trees b ts) ls k c) (sym (band_layer_at ts l k own)) here))
+    (subst (λ (c : Option PacketContribution). IsBlock (leaves b) b.planes (band_trees b ts) ls k c) (sym (band_layer_at ts l k own)) here))
 
-are_bands : (shapes : List BandShape) (trees : Trees) (ls : List Layer) (n : ℕ) (bands : List (List (Option Contribution)))
+are_bands : (shapes : List BandShape) (trees : Trees) (ls : List Layer) (n : ℕ) (bands : List (List (Option PacketContribution)))
     → ((k : ℕ) → k < length bands → (length (get_or bands k []) ≡ (band_shape shapes (n + k)).across * (band_shape shapes (n + k)).down)
     × AreBlocks (leaves (band_shape shapes (n + k))) (band_shape shapes (n + k)).planes (trees (n + k)) (band_layers (n + k) ls) 0 (get_or bands k []))
-    → AreBands shapes trees ls n bands
+    → ArePacketBands shapes trees ls n bands
 are_bands shapes trees ls n [] each = tt
 are_bands shapes trees ls n (cs ∷ bands) each =
     let Here : ℕ → Type 0 = λ m. (length cs ≡ (band_shape shapes m).across * (band_shape shapes m).down) × AreBlocks (leaves (band_shape shapes m)) (band_shape shapes m).planes (trees m) (band_layers m ls) 0 cs in
@@ -192,10 +192,10 @@ full_is shapes layers tables l are within = (
       let here : get_or (map (λ ts. band_layer ts l) tables) k [] ≡ band_layer ts l = get_or-map (λ ts. band_layer ts l) tables k [] [] own in
       let blocks = band_is b layers ts l (band_layers k (layers_before tables l)) band are.few within (follows tables l k own) in
       let long : length (band_layer ts l) ≡ b.across * b.down = length-map ts (λ t. contribution_in t l) ∙ band.long in
-      let At : ℕ → List (Option Contribution) → Type 0 = λ m cs. (length cs ≡ (band_shape shapes m).across * (band_shape shapes m).down)
+      let At : ℕ → List (Option PacketContribution) → Type 0 = λ m cs. (length cs ≡ (band_shape shapes m).across * (band_shape shapes m).down)
       × AreBlocks (leaves (band_shape shapes m)) (band_shape shapes m).planes (trees_in shapes tables m) (band_layers m (layers_before tables l)) 0 cs in
       subst (λ m. At m (get_or (map (λ ts. band_layer ts l) tables) k [])) (let e : k ≡ 0 + k = omega arith in e)
-      (subst (λ (cs : List (Option Contribution)). At k cs) (sym here) (long, blocks))),
+      (subst (λ (cs : List (Option PacketContribution)). At k cs) (sym here) (long, blocks))),
 )
 
 pub layer_is : (shapes : List BandShape) (layers : ℕ) (tables : List (List Table)) (l : ℕ) → AreTables shapes layers tables → l < layers → IsLayer shapes (trees_in shapes tables) (layers_before tables l) (layer_in tables l)
@@ -210,7 +210,7 @@ bits_are shapes tables l = refl
 
 -- The trees of tables tell their layers.
 pub written_told : (shapes : List BandShape) (layers : ℕ) (tables : List (List Table)) → AreTables shapes layers tables
-    → AreTrees shapes (trees_in shapes tables) × Tells shapes (trees_in shapes tables) (layers_before tables layers) (map (bits_in shapes tables) (range_with_len 0 layers))
+    → AreTrees shapes (trees_in shapes tables) × TellsLayers shapes (trees_in shapes tables) (layers_before tables layers) (map (bits_in shapes tables) (range_with_len 0 layers))
 written_told shapes layers tables are = (
   λ i less. (written_tree (leaves (band_shape shapes i)) _, written_tree (leaves (band_shape shapes i)) _),
   (

@@ -4,7 +4,7 @@ use Rattle.jk_bits.specs.Stuffing.{binary}
 use Rattle.jk_tree.specs.TagTree.{wide, level_from, top, asked, told_below, told}
 use Rattle.jk_packet.specs.declared.shape.BandShape.{BandShape}
 use Rattle.jk_packet.specs.Words.{greatest_power, floor_log2, pass_code, piece_bits}
-use Rattle.jk_packet.specs.PacketText.{Contribution, contributions, queries_in, queries_of, inclusion_bits, zeros_bits}
+use Rattle.jk_packet.specs.PacketText.{PacketContribution, contributions, queries_in, queries_of, inclusion_bits, zeros_bits}
 use Rattle.jk_packet.specs.PacketText.{band_bits, bands_bits, Trees, header_bits}
 
 abbrev one_block : List BandShape
@@ -13,7 +13,7 @@ one_block = record { across = 1; down = 1; planes = 9 } ∷ []
 abbrev trees_of : ℕ → ℕ → Trees
 trees_of inclusion zeros = λ number. record { inclusion = λ i x y. inclusion; zeros = λ i x y. zeros }
 
-abbrev has : (zeros passes growth length : ℕ) → Option Contribution
+abbrev has : (zeros passes growth length : ℕ) → Option PacketContribution
 has zeros passes growth length =
     Some record { zero_planes = zeros; piece = record { passes = passes; growth = growth; length = length } }
 

@@ -5,7 +5,7 @@ use Rattle.jk_packet.specs.declared.shape.BandShape.{BandShape}
 use Rattle.jk_packet.specs.declared.header.BlockContribution.{BlockContribution}
 use Rattle.jk_packet.specs.Words.{most_passes}
 use Rattle.jk_packet.specs.Reading.{part_of}
-use Rattle.jk_packet.specs.PacketText.{Contribution, contributions, zeros_of, passes_of, Layer, band_layers, band_shape}
+use Rattle.jk_packet.specs.PacketText.{PacketContribution, contributions, zeros_of, passes_of, Layer, band_layers, band_shape}
 use Rattle.jk_packet.specs.PacketText.{parts_of}
 
 -- the parts of block j of sub-band i
@@ -18,12 +18,12 @@ IsOfBlock shapes p = (p.band < length shapes)
     × (p.block < (band_shape shapes p.band).across * (band_shape shapes p.band).down)
 
 -- the contributions to block j of sub-band i, layer by layer
-abbrev pub block_contributions : List Layer → ℕ → ℕ → List Contribution
+abbrev pub block_contributions : List Layer → ℕ → ℕ → List PacketContribution
 block_contributions layers i j = contributions (band_layers i layers) j
 
 -- Contributions to a block of so many bit-planes: all tell the same zero bit-planes, and there are
 -- no more passes than the other bit-planes have.
-pub record IsHistory (planes : ℕ) (cs : List Contribution) : Type 0 where
+pub record IsHistory (planes : ℕ) (cs : List PacketContribution) : Type 0 where
   pub same : AllByRecursion (λ c. c.zero_planes ≡ zeros_of cs) cs
   pub zeros : zeros_of cs ≤ planes
   pub passes : passes_of cs ≤ most_passes planes (zeros_of cs)

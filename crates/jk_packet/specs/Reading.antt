@@ -7,11 +7,11 @@ use Rattle.jk_math.specs.declared.fault.Fault.{Fault}
 use Rattle.jk_math.specs.declared.fault.Fault.TheVariants.{Truncated, BadLength, PacketHeader, TooManyPasses}
 use Rattle.jk_bits.specs.Reading.{Bits, bit_at, finish_at}
 use Rattle.jk_tree.specs.TagTree.{Shape, shape_of, query_of}
-use Rattle.jk_tree.specs.Asking.{Tree, node_at, unless_failed, ask_at, blank_tree}
+use Rattle.jk_tree.specs.Asking.{TagTreeRead, node_at, unless_failed, ask_at, blank_tree}
 use Rattle.jk_packet.specs.declared.shape.BandShape.{BandShape}
 use Rattle.jk_packet.specs.declared.header.BlockContribution.{BlockContribution}
 use Rattle.jk_packet.specs.declared.header.Header.{Header}
-use Rattle.jk_packet.specs.declared.words.Piece.{Piece}
+use Rattle.jk_packet.specs.declared.words.Addition.{Addition}
 use Rattle.jk_packet.specs.declared.block.Block.{Block}
 use Rattle.jk_packet.specs.Words.{floor_log2, most_passes}
 
@@ -41,7 +41,7 @@ growth_at (suc room) growth r = bit_at r >>= λ b. if b.0 then growth_at room (g
 
 -- The words of a code-block that has a piece, of whose passes `most` are allowed and `before` were
 -- read.
-unfoldable pub piece_at : (most before lblock : ℕ) → Bits → Result (Piece × Bits) Fault
+unfoldable pub piece_at : (most before lblock : ℕ) → Bits → Result (Addition × Bits) Fault
 piece_at most before lblock r =
     passes_at r >>= λ n. refuse (nat_lt most (before + n.0)) TooManyPasses
     >>= λ _. growth_at (33 - (lblock + floor_log2 n.0)) 0 n.1
@@ -53,12 +53,12 @@ abbrev pub blank_block : Block
 blank_block = record { included = false; zero_planes = 0; passes = 0; length_bits = 3 }
 
 -- whether a block has a piece in the packet of a layer
-unfoldable pub included_at : (layer leaf : ℕ) → Block → Tree × Bits → Result (Bool × (Tree × Bits)) Fault
+unfoldable pub included_at : (layer leaf : ℕ) → Block → TagTreeRead × Bits → Result (Bool × (TagTreeRead × Bits)) Fault
 included_at layer leaf b s =
     if b.included then (bit_at s.1 >>= λ r. Ok (r.0, (s.0, r.1))) else ask_at (query_of leaf (layer + 1)) s
 
 -- the number of zero bit-planes of a block that has a piece
-unfoldable pub zero_planes_at : (planes leaf : ℕ) → Block → Tree × Bits → Result (ℕ × (Tree × Bits)) Fault
+unfoldable pub zero_planes_at : (planes leaf : ℕ) → Block → TagTreeRead × Bits → Result (ℕ × (TagTreeRead × Bits)) Fault
 zero_planes_at planes leaf b s =
     if b.included then Ok (b.zero_planes, s)
     else (ask_at (query_of leaf (planes + 1)) s >>= λ o. refuse (not o.0) PacketHeader
@@ -69,8 +69,8 @@ pub record BandState : Type 0 where
   pub shape : Shape
   pub planes : ℕ
   pub blocks : List Block
-  pub inclusion : Tree
-  pub zeros : Tree
+  pub inclusion : TagTreeRead
+  pub zeros : TagTreeRead
 
 -- a sub-band, the bits, and the parts that were read
 pub record BandWalk : Type 0 where
@@ -83,7 +83,7 @@ abbrev pub block_in : List Block → ℕ → Block
 block_in blocks i = slice_index_or blocks i blank_block
 
 -- a block once a piece was read
-abbrev pub grown : Block → ℕ → Piece → Block
+abbrev pub grown : Block → ℕ → Addition → Block
 grown b zeros p =
     record {
       included = true;
@@ -93,16 +93,16 @@ grown b zeros p =
     }
 
 -- what is told of a piece
-abbrev pub part_of : (band block zeros : ℕ) → Piece → BlockContribution
+abbrev pub part_of : (band block zeros : ℕ) → Addition → BlockContribution
 part_of band block zeros p =
     record { band = band; block = block; zero_planes = zeros; passes = p.passes; length = p.length }
 
 -- a sub-band once the inclusion of a block was read
-abbrev pub with_inclusion : BandWalk → Tree × Bits → BandWalk
+abbrev pub with_inclusion : BandWalk → TagTreeRead × Bits → BandWalk
 with_inclusion w o = record w { band = record w.band { inclusion = o.0 }; bits = o.1 }
 
 -- a sub-band once a piece of a block was read
-abbrev pub with_piece : (number i : ℕ) → BandWalk → ℕ × (Tree × Bits) → Piece × Bits → BandWalk
+abbrev pub with_piece : (number i : ℕ) → BandWalk → ℕ × (TagTreeRead × Bits) → Addition × Bits → BandWalk
 with_piece number i w z p = record {
   band = record w.band { blocks = slice_set w.band.blocks i (grown (block_in w.band.blocks i) z.0 p.0); zeros = z.1.0 };
   bits = p.1;

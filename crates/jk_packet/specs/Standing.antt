@@ -6,22 +6,22 @@ use Rattle.jk_tree.specs.Asking.{IsOpen, AreTold}
 use Rattle.jk_packet.specs.declared.shape.BandShape.{BandShape}
 use Rattle.jk_packet.specs.declared.block.Block.{Block}
 use Rattle.jk_packet.specs.Reading.{BandState, HeaderText, PrecinctState, block_in, band_in}
-use Rattle.jk_packet.specs.PacketText.{Contribution, BandLayer, option_list, contributions, has_any, zeros_of}
+use Rattle.jk_packet.specs.PacketText.{PacketContribution, BandLayer, option_list, contributions, has_any, zeros_of}
 use Rattle.jk_packet.specs.PacketText.{passes_of, lblock_of, asks_inclusion, asks_zeros, queries_before, BandTrees}
 use Rattle.jk_packet.specs.PacketText.{Layer, band_layers, Trees, band_shape, leaves, header_bits, IsLayer}
 use Rattle.jk_packet.specs.PacketText.{IsHeaderText, parts_of}
 
 -- a block with these contributions
-abbrev pub block_of : List Contribution → Block
+abbrev pub block_of : List PacketContribution → Block
 block_of cs =
     record { included = has_any cs; zero_planes = zeros_of cs; passes = passes_of cs; length_bits = lblock_of cs }
 
 -- the contributions to a block, with that of the packet in hand
-abbrev pub so_far : List BandLayer → List (Option Contribution) → ℕ → List Contribution
+abbrev pub so_far : List BandLayer → List (Option PacketContribution) → ℕ → List PacketContribution
 so_far layers front j = contributions layers j ++ option_list (slice_index_or front j None)
 
 -- The blocks of a sub-band after the layers, and after the first blocks of the packet in hand.
-pub record HoldsBlocks (b : BandShape) (layers : List BandLayer) (front : List (Option Contribution))
+pub record HoldsBlocks (b : BandShape) (layers : List BandLayer) (front : List (Option PacketContribution))
     (state : BandState) : Type 0 where
   pub shape : state.shape ≡ leaves b
   pub planes : state.planes ≡ b.planes
@@ -31,7 +31,7 @@ pub record HoldsBlocks (b : BandShape) (layers : List BandLayer) (front : List (
   pub zeros : IsOpen (leaves b) state.zeros
 
 -- The same with trees, which would have told all that was read.
-pub record BandStands (b : BandShape) (t : BandTrees) (layers : List BandLayer) (front : List (Option Contribution))
+pub record BandStands (b : BandShape) (t : BandTrees) (layers : List BandLayer) (front : List (Option PacketContribution))
     (state : BandState) : Type 0 where
   pub holds : HoldsBlocks b layers front state
   pub inclusion : AreTold (leaves b) t.inclusion (queries_before asks_inclusion layers front) state.inclusion.nodes
@@ -53,8 +53,8 @@ pub record PrecinctStands (shapes : List BandShape) (trees : Trees) (layers : Li
       → BandStands (band_shape shapes number) (trees number) (band_layers number layers) [] (band_in s.bands number)
 
 -- The trees tell these layers by these bits.
-abbrev pub Tells : List BandShape → Trees → List Layer → List (List Bool) → Type 0
-Tells shapes trees layers bits = (length bits ≡ length layers)
+abbrev pub TellsLayers : List BandShape → Trees → List Layer → List (List Bool) → Type 0
+TellsLayers shapes trees layers bits = (length bits ≡ length layers)
     × ((i : ℕ) → i < length layers
     → (slice_index_or bits i [] ≡ header_bits shapes trees (take i layers) (slice_index_or layers i None))
     × IsLayer shapes trees (take i layers) (slice_index_or layers i None))
@@ -63,11 +63,11 @@ Tells shapes trees layers bits = (length bits ≡ length layers)
 -- trees that stand are exactly those that do.
 pub record PrecinctReached (shapes : List BandShape) (layers : List Layer) (bits : List (List Bool))
     (s : PrecinctState) : Type 0 where
-  pub some : (trees : Trees) × AreTrees shapes trees × Tells shapes trees layers bits
-  pub stand : (trees : Trees) → AreTrees shapes trees → Tells shapes trees layers bits
+  pub some : (trees : Trees) × AreTrees shapes trees × TellsLayers shapes trees layers bits
+  pub stand : (trees : Trees) → AreTrees shapes trees → TellsLayers shapes trees layers bits
       → PrecinctStands shapes trees layers s
   pub told : (trees : Trees) → PrecinctStands shapes trees layers s
-      → AreTrees shapes trees × Tells shapes trees layers bits
+      → AreTrees shapes trees × TellsLayers shapes trees layers bits
 
 -- The header that stands at the front of the bytes, of a layer behind others: its bits, its text,
 -- its parts, and the precinct after it.

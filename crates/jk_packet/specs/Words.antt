@@ -2,7 +2,7 @@
 use Rattle.std.specs.Prelude.{ℕ, zero, suc, ◌+◌, ◌-◌, ◌*◌, ◌^◌, ◌<◌, ◌≤◌, Bool, true, false, ◌==◌, nat_le}
 use Rattle.std.specs.Prelude.{if◌then◌else◌, List, [], ◌∷◌, ◌++◌, replicate}
 use Rattle.jk_bits.specs.Stuffing.{binary}
-use Rattle.jk_packet.specs.declared.words.Piece.{Piece}
+use Rattle.jk_packet.specs.declared.words.Addition.{Addition}
 
 -- the greatest k up to a bound with 2^k ≤ n, or 0
 unfoldable pub greatest_power : ℕ → ℕ → ℕ
@@ -23,15 +23,15 @@ pass_code n =
     else replicate 9 true ++ binary 7 (n - 37))))
 
 -- How many bits tell the length of a piece, after Lblock (B.10.7.1).
-abbrev pub width : ℕ → Piece → ℕ
+abbrev pub width : ℕ → Addition → ℕ
 width lblock p = lblock + p.growth + floor_log2 p.passes
 
 -- The number of coding passes, the growth of Lblock as ones and a zero, and the length.
-unfoldable pub piece_bits : ℕ → Piece → List Bool
+unfoldable pub piece_bits : ℕ → Addition → List Bool
 piece_bits lblock p = pass_code p.passes ++ (replicate p.growth true ++ (false ∷ binary (width lblock p) p.length))
 
 -- What these words can tell.
-pub record IsPiece (lblock : ℕ) (p : Piece) : Type 0 where
+pub record IsAddition (lblock : ℕ) (p : Addition) : Type 0 where
   pub some : 1 ≤ p.passes
   pub few : p.passes ≤ 164
   pub narrow : width lblock p ≤ 32

@@ -7,7 +7,7 @@ use Rattle.jk_packet.specs.declared.shape.BandShape.{BandShape}
 use Rattle.jk_packet.specs.declared.table.LayerPart.{LayerPart}
 use Rattle.jk_packet.specs.declared.writing.WriteBand.{WriteBand}
 use Rattle.jk_packet.specs.declared.writing.WriteBlock.{WriteBlock}
-use Rattle.jk_packet.specs.PacketText.{Contribution, BandLayer, option_list, contributions, asks_inclusion, asks_zeros}
+use Rattle.jk_packet.specs.PacketText.{PacketContribution, BandLayer, option_list, contributions, asks_inclusion, asks_zeros}
 use Rattle.jk_packet.specs.PacketText.{queries_before, band_layers, band_shape, leaves}
 use Rattle.jk_packet.specs.Written.{Table, first_in, lblock_at, contribution_in, band_tables, table_at, band_trees}
 use Rattle.jk_packet.specs.Written.{layers_before, AreTables}
@@ -21,7 +21,7 @@ begin_of parts zero = 0
 begin_of parts (suc k) = end_of parts k
 
 -- what the packets before layer l have of a block
-unfoldable pub history : Table → ℕ → List Contribution
+unfoldable pub history : Table → ℕ → List PacketContribution
 history t zero = []
 history t (suc l) = history t l ++ option_list (contribution_in t l)
 
@@ -48,7 +48,7 @@ pub record Follow (ts : List Table) (l : ℕ) (layers : List BandLayer) : Type 0
   pub each : (j : ℕ) → j < length ts → contributions layers j ≡ history (table_at ts j) l
 
 -- The trees have told the layers, and the first blocks of the packet in hand.
-pub record TreesSpeak (b : BandShape) (ts : List Table) (layers : List BandLayer) (front : List (Option Contribution))
+pub record TreesSpeak (b : BandShape) (ts : List Table) (layers : List BandLayer) (front : List (Option PacketContribution))
     (w : WriteBand) : Type 0 where
   pub inclusion : Speaks (leaves b) (band_trees b ts).inclusion
       (queries_before asks_inclusion layers front) w.inclusion.nodes

@@ -10,10 +10,10 @@ use Rattle.jk_tree.specs.Telling.{written}
 use Rattle.jk_packet.specs.declared.shape.BandShape.{BandShape}
 use Rattle.jk_packet.specs.declared.header.BlockContribution.{BlockContribution}
 use Rattle.jk_packet.specs.declared.table.LayerPart.{LayerPart}
-use Rattle.jk_packet.specs.declared.words.Piece.{Piece}
+use Rattle.jk_packet.specs.declared.words.Addition.{Addition}
 use Rattle.jk_packet.specs.Words.{floor_log2, most_passes}
 use Rattle.jk_packet.specs.Reading.{part_of}
-use Rattle.jk_packet.specs.PacketText.{Contribution, option_list, BandTrees, Layer, Trees, band_shape, leaves}
+use Rattle.jk_packet.specs.PacketText.{PacketContribution, option_list, BandTrees, Layer, Trees, band_shape, leaves}
 use Rattle.jk_packet.specs.PacketText.{bands_bits, header_bits, eph_text}
 
 -- an SOP marker segment with a counter below 2^16 (A.8.1), or none
@@ -44,7 +44,7 @@ lblock_at t (suc l) = lblock_at t l
     + (if (part_in t l).0 == 0 then 0 else least_growth (lblock_at t l) (part_in t l).0 (length (part_in t l).1))
 
 -- the piece that layer l adds, where it has passes
-abbrev pub piece_in : Table → ℕ → Piece
+abbrev pub piece_in : Table → ℕ → Addition
 piece_in t l = record {
   passes = (part_in t l).0;
   growth = least_growth (lblock_at t l) (part_in t l).0 (length (part_in t l).1);
@@ -52,7 +52,7 @@ piece_in t l = record {
 }
 
 -- what the packet of layer l has of the block
-unfoldable pub contribution_in : Table → ℕ → Option Contribution
+unfoldable pub contribution_in : Table → ℕ → Option PacketContribution
 contribution_in t l = if (part_in t l).0 == 0 then None
     else Some record { zero_planes = t.zero_planes; piece = piece_in t l }
 
@@ -76,7 +76,7 @@ abbrev pub is_full : List (List Table) → ℕ → Bool
 is_full tables l = list_any (list_any (has_passes l)) tables
 
 -- what layer l has of a sub-band
-abbrev pub band_layer : List Table → ℕ → List (Option Contribution)
+abbrev pub band_layer : List Table → ℕ → List (Option PacketContribution)
 band_layer ts l = map (λ t. contribution_in t l) ts
 
 -- What layer l has of the precinct: nothing where it has no passes of any block, so that its packet

@@ -4,7 +4,7 @@ ghost use Rattle.std.specs.Prelude.{◌≡◌, ℕ, ◌*◌, ◌<◌, Bool, List
 ghost use Rattle.std.specs.List.{AllByRecursion, flat_map, range_with_len};
 ghost use Rattle.jk_packet.specs.declared.shape.BandShape.{BandShape};
 ghost use Rattle.jk_packet.specs.PacketText.{Layer, Trees, band_shape, header_bits, IsLayer, IsHeaderText, parts_of};
-ghost use Rattle.jk_packet.specs.Standing.{AreTrees, Tells};
+ghost use Rattle.jk_packet.specs.Standing.{AreTrees, TellsLayers};
 ghost use Rattle.jk_packet.specs.Gathering.{Gathers, IsOfBlock};
 ghost use Rattle.jk_packet.specs.Written.{Table, band_tables, table_at, layer_in, layers_before, trees_in, bits_in};
 ghost use Rattle.jk_packet.specs.Written.{header_in, bodies_text, bodies_in, bodies_of, HasBlock, AreTables};
@@ -14,7 +14,7 @@ ghost use Rattle.jk_packet.specs.Written.{header_in, bodies_text, bodies_in, bod
 /// of blocks that there are.
 pub fn parts_are_contributions()
     ensures gathered { (shapes : List BandShape) (trees : Trees) (layers : List Layer) (bits : List (List Bool))
-        → Tells shapes trees layers bits → (i j : ℕ) → i < length shapes
+        → TellsLayers shapes trees layers bits → (i j : ℕ) → i < length shapes
         → j < (band_shape shapes i).across * (band_shape shapes i).down → Gathers shapes layers i j }
     ensures within { (shapes : List BandShape) (trees : Trees) (layers : List Layer) (said : Layer)
         → IsLayer shapes trees layers said → AllByRecursion (IsOfBlock shapes) (parts_of said) }
@@ -33,7 +33,7 @@ pub fn headers_have_a_byte()
 pub fn tables_are_told()
     ensures told { (shapes : List BandShape) (layers : ℕ) (tables : List (List Table)) → AreTables shapes layers tables
         → AreTrees shapes (trees_in shapes tables)
-        × Tells shapes (trees_in shapes tables) (layers_before tables layers)
+        × TellsLayers shapes (trees_in shapes tables) (layers_before tables layers)
         (map (bits_in shapes tables) (range_with_len 0 layers)) }
     ensures headers { (shapes : List BandShape) (sop eph : Bool) (tables : List (List Table)) (layer number : ℕ)
         → IsHeaderText sop eph (bits_in shapes tables layer) (header_in shapes sop eph tables layer number) }

@@ -7,7 +7,7 @@ ghost use Rattle.jk_tree.specs.Telling.{with_bits};
 ghost use Rattle.jk_packet.specs.Words.{width, pass_code, piece_bits};
 ghost use Rattle.jk_packet.specs.Written.{least_growth};
 
-use crate::words::{Piece, floor_log2};
+use crate::words::{Addition, floor_log2};
 use jk_bits::BitWriter;
 use jk_math::Fault;
 
@@ -89,7 +89,11 @@ pub(crate) fn least_growth(length_bits: u8, passes: u8, size: u32) -> u8
 }
 
 /// The words of a piece, behind an Lblock of `length_bits`.
-pub(crate) fn push_piece(length_bits: u8, piece: Piece, writer: &mut BitWriter) -> Result<(), Fault>
+pub(crate) fn push_piece(
+    length_bits: u8,
+    piece: Addition,
+    writer: &mut BitWriter,
+) -> Result<(), Fault>
     requires some { 1 ≤ piece.passes }
     requires narrow { width length_bits piece ≤ 32 }
     ensures { MatchResult result

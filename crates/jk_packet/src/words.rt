@@ -10,7 +10,7 @@ use jk_math::Fault;
 
 /// What a packet adds to a code-block.
 #[derive(Clone, Copy, Drop)]
-pub(crate) struct Piece {
+pub(crate) struct Addition {
     pub(crate) passes: u8,
     pub(crate) growth: u8,
     pub(crate) length: u32,
@@ -105,7 +105,7 @@ pub(crate) fn read_piece(
     zero_planes: u8,
     before: u16,
     length_bits: u8,
-) -> Result<Piece, Fault>
+) -> Result<Addition, Fault>
     ensures exact { Reads (piece_at (most_passes planes zero_planes) before length_bits) reader.old reader.new result }
     ensures passes { IfOk result (λ p. before + p.passes ≤ most_passes planes zero_planes) }
     ensures growth { IfOk result (λ p. length_bits + p.growth ≤ 32) }
@@ -119,7 +119,7 @@ pub(crate) fn read_piece(
     let room = (WIDEST + 1).saturating_sub(length_bits as u32 + more);
     let growth = read_growth(reader, room)?;
     let length = read_number(reader, length_bits as u32 + growth as u32 + more)?;
-    Ok(Piece {
+    Ok(Addition {
         passes,
         growth,
         length,

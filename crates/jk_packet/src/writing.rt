@@ -5,7 +5,7 @@ ghost use Rattle.std.specs.Prelude.{take, nat_lt, Some, IfOk, IfErr, MatchResult
 ghost use Rattle.std.specs.Bool.{MatchBool};
 ghost use Rattle.jk_math.specs.Memory.{IsMemory};
 ghost use Rattle.jk_tree.specs.TagTree.{query_of};
-ghost use Rattle.jk_tree.specs.Telling.{with_bits, Tells};
+ghost use Rattle.jk_tree.specs.Telling.{with_bits, TellsQuery};
 ghost use Rattle.jk_packet.specs.PacketText.{BandLayer, leaves, block_bits, band_bits};
 ghost use Rattle.jk_packet.specs.Written.{first_in, contribution_in, table_at, band_layer, band_trees, AreBandTables};
 ghost use Rattle.jk_packet.specs.Writing.{IsReady, Follow, TreesSpeak};
@@ -13,7 +13,7 @@ ghost use Rattle.jk_packet.specs.Writing.{IsReady, Follow, TreesSpeak};
 use crate::shape::BandShape;
 use crate::table::BlockTable;
 use crate::wording::{least_growth, push_piece};
-use crate::words::Piece;
+use crate::words::Addition;
 use jk_bits::BitWriter;
 use jk_math::Fault;
 use jk_tree::WriteTree;
@@ -88,7 +88,7 @@ fn tell_inclusion(
     requires sound { tree.old.failed ≡ false }
     ensures told { IfOk result (λ _. MatchBool (nat_lt block.first layer)
         ((writer.new ≡ with_bits writer.old (taken ∷ [])) × (tree.new ≡ tree.old))
-        (Tells tree.old.shape (query_of index (layer + 1)) tree.old.nodes tree.new.nodes writer.old writer.new)) }
+        (TellsQuery tree.old.shape (query_of index (layer + 1)) tree.old.nodes tree.new.nodes writer.old writer.new)) }
     ensures open { IfOk result (λ _. (tree.new.failed ≡ false) × (tree.new.shape ≡ tree.old.shape)) }
     ensures memory { IfErr result (λ e. IsMemory e) }
 {
@@ -112,7 +112,7 @@ fn tell_zero_planes(
     requires sound { tree.old.failed ≡ false }
     ensures told { IfOk result (λ _. MatchBool (nat_lt block.first layer)
         ((writer.new ≡ writer.old) × (tree.new ≡ tree.old))
-        (Tells tree.old.shape (query_of index (planes + 1)) tree.old.nodes tree.new.nodes writer.old writer.new)) }
+        (TellsQuery tree.old.shape (query_of index (planes + 1)) tree.old.nodes tree.new.nodes writer.old writer.new)) }
     ensures open { IfOk result (λ _. (tree.new.failed ≡ false) × (tree.new.shape ≡ tree.old.shape)) }
     ensures memory { IfErr result (λ e. IsMemory e) }
 {
@@ -185,7 +185,7 @@ fn write_block(
     )?;
     let length = table.bytes(layer).len() as u32;
     let growth = least_growth(block.length_bits, passes, length);
-    let piece = Piece {
+    let piece = Addition {
         passes,
         growth,
         length,

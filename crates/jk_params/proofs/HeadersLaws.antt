@@ -15,7 +15,7 @@ use Rattle.jk_marks.specs.Markers.{sot, eoc, marker_text}
 use Rattle.jk_marks.specs.Place.{closed}
 use Rattle.jk_marks.specs.Siz.{tile_count}
 use Rattle.jk_marks.specs.Segments.{Segment}
-use Rattle.jk_marks.specs.Codestream.{Part, main_text, main_of, part_text, part_length, codestream_text, of_tile, head_of, IsMain, IsPart, AreParts, AreClosedBeforeLast}
+use Rattle.jk_marks.specs.Codestream.{CodestreamPart, main_text, main_of, part_text, part_length, codestream_text, of_tile, head_of, IsMain, IsPart, AreParts, AreClosedBeforeLast}
 use Rattle.jk_marks.specs.Reading.{number}
 use Rattle.jk_marks.specs.HeaderReading.{main_at, part_at}
 use Rattle.jk_math.proofs.Laws.{AreBytes, are_bytes_after}
@@ -54,9 +54,9 @@ ends_eoc bytes at e =
     rw s refl
 
 -- What holds of parts that were read from the first on.
-record AreRead (siz : Siz) (segments : List Segment) (parts : List Part) : Type 0 where
+record AreRead (siz : Siz) (segments : List Segment) (parts : List CodestreamPart) : Type 0 where
   each : AllByRecursion (IsPart siz) parts
-  numbered : (t : ℕ) → map (λ (p : Part). p.number) (of_tile t parts) ≡ range_with_len 0 (length (of_tile t parts))
+  numbered : (t : ℕ) → map (λ (p : CodestreamPart). p.number) (of_tile t parts) ≡ range_with_len 0 (length (of_tile t parts))
   planes : (t : ℕ) → 0 < length (of_tile t parts) → HavePlanes siz segments (head_segments (of_tile t parts))
 
 none_read : (siz : Siz) (segments : List Segment) → AreRead siz segments []
@@ -71,15 +71,15 @@ range_more a (suc n) =
     ap (λ (x : List ℕ). a ∷ x) (range_more (a + 1) n ∙ ap (λ k. range_with_len (a + 1) n ++ k ∷ []) e)
 
 -- numbers that go on
-numbered_on : (xs : List Part) (p : Part) → map (λ (q : Part). q.number) xs ≡ range_with_len 0 (length xs) → p.number ≡ length xs
-    → map (λ (q : Part). q.number) (xs ++ p ∷ []) ≡ range_with_len 0 (length (xs ++ p ∷ []))
+numbered_on : (xs : List CodestreamPart) (p : CodestreamPart) → map (λ (q : CodestreamPart). q.number) xs ≡ range_with_len 0 (length xs) → p.number ≡ length xs
+    → map (λ (q : CodestreamPart). q.number) (xs ++ p ∷ []) ≡ range_with_len 0 (length (xs ++ p ∷ []))
 numbered_on xs p e next =
     let n = length xs in
     let more : suc n ≡ length (xs ++ p ∷ []) = omega (arith, length-append xs (p ∷ [])) in
     let number : p.number ≡ 0 + n = omega (arith, next) in
-    map-append (λ (q : Part). q.number) xs (p ∷ []) ∙ ap (λ (x : List ℕ). x ++ p.number ∷ []) e ∙ ap (λ k. range_with_len 0 n ++ k ∷ []) number ∙ sym (range_more 0 n) ∙ ap (range_with_len 0) more
+    map-append (λ (q : CodestreamPart). q.number) xs (p ∷ []) ∙ ap (λ (x : List ℕ). x ++ p.number ∷ []) e ∙ ap (λ k. range_with_len 0 n ++ k ∷ []) number ∙ sym (range_more 0 n) ∙ ap (range_with_len 0) more
 
-read_more : (siz : Siz) (segments : List Segment) (parts : List Part) (p : Part) → AreRead siz segments parts → IsPart siz p → p.number ≡ length (of_tile p.tile parts)
+read_more : (siz : Siz) (segments : List Segment) (parts : List CodestreamPart) (p : CodestreamPart) → AreRead siz segments parts → IsPart siz p → p.number ≡ length (of_tile p.tile parts)
     → (p.number ≡ 0 → HavePlanes siz segments p.segments) → AreRead siz segments (parts ++ p ∷ [])
 read_more siz segments parts p are is number has = record {
   each = all_more (IsPart siz) parts p are.each is;
@@ -87,11 +87,11 @@ read_more siz segments parts p are is number has = record {
   planes = λ t lt. planes t (eqb p.tile t) refl lt;
 }
   where
-    numbers : (t : ℕ) (b : Bool) → eqb p.tile t ≡ b → map (λ (q : Part). q.number) (of_tile t (parts ++ p ∷ [])) ≡ range_with_len 0 (length (of_tile t (parts ++ p ∷ [])))
+    numbers : (t : ℕ) (b : Bool) → eqb p.tile t ≡ b → map (λ (q : CodestreamPart). q.number) (of_tile t (parts ++ p ∷ [])) ≡ range_with_len 0 (length (of_tile t (parts ++ p ∷ [])))
     numbers t true e =
         let next : p.number ≡ length (of_tile t parts) = number ∙ ap (λ k. length (of_tile k parts)) (eqb-true p.tile t e) in
-        subst (λ (x : List Part). map (λ (q : Part). q.number) x ≡ range_with_len 0 (length x)) (sym (own_parts t parts p e)) (numbered_on (of_tile t parts) p (are.numbered t) next)
-    numbers t false e = subst (λ (x : List Part). map (λ (q : Part). q.number) x ≡ range_with_len 0 (length x)) (sym (other_parts t parts p e)) (are.numbered t)
+        subst (λ (x : List CodestreamPart). map (λ (q : CodestreamPart). q.number) x ≡ range_with_len 0 (length x)) (sym (own_parts t parts p e)) (numbered_on (of_tile t parts) p (are.numbered t) next)
+    numbers t false e = subst (λ (x : List CodestreamPart). map (λ (q : CodestreamPart). q.number) x ≡ range_with_len 0 (length x)) (sym (other_parts t parts p e)) (are.numbered t)
 
     own : (t : ℕ) (b : Bool) → eqb p.tile t ≡ true → eqb (length (of_tile t parts)) 0 ≡ b → HavePlanes siz segments (head_segments (of_tile t (parts ++ p ∷ [])))
     own t true e n =
@@ -106,36 +106,36 @@ read_more siz segments parts p are is number has = record {
     planes : (t : ℕ) (b : Bool) → eqb p.tile t ≡ b → 0 < length (of_tile t (parts ++ p ∷ [])) → HavePlanes siz segments (head_segments (of_tile t (parts ++ p ∷ [])))
     planes t true e lt = own t (eqb (length (of_tile t parts)) 0) e refl
     planes t false e lt =
-        let some : 0 < length (of_tile t parts) = subst (λ (x : List Part). 0 < length x) (other_parts t parts p e) lt in
+        let some : 0 < length (of_tile t parts) = subst (λ (x : List CodestreamPart). 0 < length x) (other_parts t parts p e) lt in
         subst (HavePlanes siz segments) (sym (head_other t parts p e)) (are.planes t some)
 
-abbrev AreClosed : List Part → Type 0
-AreClosed parts = AllByRecursion (λ (p : Part). p.is_open ≡ false) parts
+abbrev AreClosed : List CodestreamPart → Type 0
+AreClosed parts = AllByRecursion (λ (p : CodestreamPart). p.is_open ≡ false) parts
 
-closed_last : (parts : List Part) (p : Part) → AreClosed parts → AreClosedBeforeLast (parts ++ p ∷ [])
+closed_last : (parts : List CodestreamPart) (p : CodestreamPart) → AreClosed parts → AreClosedBeforeLast (parts ++ p ∷ [])
 closed_last [] p h = tt
 closed_last (q ∷ []) p h = (h.0, tt)
 closed_last (q ∷ r ∷ parts) p h = (h.0, closed_last (r ∷ parts) p h.1)
 
-flat_more : (parts : List Part) (p : Part) (rest : List ℕ) → flat_map part_text parts ++ (part_text p ++ rest) ≡ flat_map part_text (parts ++ p ∷ []) ++ rest
+flat_more : (parts : List CodestreamPart) (p : CodestreamPart) (rest : List ℕ) → flat_map part_text parts ++ (part_text p ++ rest) ≡ flat_map part_text (parts ++ p ∷ []) ++ rest
 flat_more parts p rest =
     sym (ap (λ (x : List ℕ). x ++ rest) (flat_map-append part_text parts (p ∷ [])) ∙ append_assoc (flat_map part_text parts) (part_text p ++ []) rest
     ∙ ap (λ (x : List ℕ). flat_map part_text parts ++ (x ++ rest)) (append-nil (part_text p)))
 
-pub flat_length : (parts : List Part) (p : Part) → length (flat_map part_text (parts ++ p ∷ [])) ≡ length (flat_map part_text parts) + part_length p
+pub flat_length : (parts : List CodestreamPart) (p : CodestreamPart) → length (flat_map part_text (parts ++ p ∷ [])) ≡ length (flat_map part_text parts) + part_length p
 flat_length parts p =
     let e = ap (λ (x : List ℕ). length x) (flat_more parts p []) in
     omega (arith, e, part_text_length p, length-append (flat_map part_text parts) (part_text p ++ []), length-append (part_text p) [], length-append (flat_map part_text (parts ++ p ∷ [])) [])
 
 -- the parts that were read, and the end behind them
 record FoundParts (siz : Siz) (segments : List Segment) (bytes : List ℕ) (out : List TileFields) : Type 0 where
-  parts : List Part
+  parts : List CodestreamPart
   are : AreParts siz parts
   read : AreRead siz segments parts
   text : bytes ≡ main_text siz segments ++ (flat_map part_text parts ++ marker_text eoc)
   says : out ≡ tiles_said siz segments parts
 
-found_parts : (k : ℕ) (siz : Siz) (segments : List Segment) (bytes : List ℕ) (at : ℕ) (done : List Part) (out : List TileFields) → AreBytes bytes → siz.components ≤ 4
+found_parts : (k : ℕ) (siz : Siz) (segments : List Segment) (bytes : List ℕ) (at : ℕ) (done : List CodestreamPart) (out : List TileFields) → AreBytes bytes → siz.components ≤ 4
     → AreRead siz segments done → AreClosed done → at ≡ length (main_text siz segments) + length (flat_map part_text done)
     → bytes ≡ main_text siz segments ++ (flat_map part_text done ++ drop at bytes)
     → parts_from k (main_of siz segments) bytes at (tiles_said siz segments done) ≡ Ok out → FoundParts siz segments bytes out
@@ -175,7 +175,7 @@ found_parts (suc k) siz segments bytes at done out fits few are closed at-is tex
           }
       | inr w ↦
           let shut : p.is_open ≡ false = not_open p.is_open (λ opened. absurd (true≢false (ok_is true false (sym (ends_eoc bytes end (after ∙ begins.last opened)) ∙ s3 ∙ ap Ok w.0)))) in
-          found_parts k siz segments bytes end now out fits few read (all_more (λ (q : Part). q.is_open ≡ false) done p closed shut) at_next
+          found_parts k siz segments bytes end now out fits few read (all_more (λ (q : CodestreamPart). q.is_open ≡ false) done p closed shut) at_next
           (whole ∙ ap (λ (x : List ℕ). main_text siz segments ++ (flat_map part_text now ++ x)) (sym after)) (ap (λ (x : List TileFields). parts_from k main bytes end x) (sym f.0) ∙ w.1)
     ])))
   where
@@ -195,7 +195,7 @@ blank_said siz segments =
     let inside : t < n = omega (arith, lt, size) in
     get_or-replicate n t blank no_fields inside ∙ sym (said_at siz segments [] t inside))
 
-planes_all : (siz : Siz) (segments : List Segment) (xs : List Part) → (0 < length xs → HavePlanes siz segments (head_segments xs)) → HavePlanes siz segments []
+planes_all : (siz : Siz) (segments : List Segment) (xs : List CodestreamPart) → (0 < length xs → HavePlanes siz segments (head_segments xs)) → HavePlanes siz segments []
     → HavePlanes siz segments (head_segments xs)
 planes_all siz segments [] h blank = blank
 planes_all siz segments (p ∷ xs) h blank = h (omega arith)

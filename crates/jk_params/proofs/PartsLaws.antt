@@ -11,7 +11,7 @@ use Rattle.jk_marks.specs.declared.coding.Coding.{Coding}
 use Rattle.jk_marks.specs.declared.segments.Cod.{Cod}
 use Rattle.jk_marks.specs.Siz.{tile_count}
 use Rattle.jk_marks.specs.Segments.{Segment, cods}
-use Rattle.jk_marks.specs.Codestream.{Part, Tree, main_text, part_text, first, head_of, main_of, or_else, no_coding, of_tile, place_of}
+use Rattle.jk_marks.specs.Codestream.{CodestreamPart, Tree, main_text, part_text, first, head_of, main_of, or_else, no_coding, of_tile, place_of}
 use Rattle.jk_params.specs.Coding.{coding_of, codings_of, coding_with, HasPlanes}
 use Rattle.jk_params.specs.CodingReading.{style_in, quantisation_in, coding_at, codings_from, codings_at, planes_at}
 use Rattle.jk_params.specs.Headers.{TileFields, head_segments, cod_for, fields_of, tile_in, no_fields}
@@ -19,64 +19,64 @@ use Rattle.jk_params.specs.HeadersReading.{parts_seen, tiles_with, with_place, w
 use Rattle.jk_params.proofs.CodingLaws.{planes_found, planes_again, few_exponents, coding_same}
 use Rattle.jk_params.proofs.PlacesLaws.{places_from, places_are, put, place_in, places_more, places_count, of_tile_more}
 
-abbrev pub tree_of : Siz → List Segment → List Part → Tree
+abbrev pub tree_of : Siz → List Segment → List CodestreamPart → Tree
 tree_of siz segments parts = record { siz = siz; segments = segments; parts = parts }
 
 -- the fields of all tiles, by a main header and parts
-abbrev pub tiles_said : Siz → List Segment → List Part → List TileFields
+abbrev pub tiles_said : Siz → List Segment → List CodestreamPart → List TileFields
 tiles_said siz segments parts = map (fields_of (tree_of siz segments parts)) (range_with_len 0 (tile_count siz))
 
 abbrev pub fields_with : Siz → List Segment → List Segment → List (ℕ × ℕ) → TileFields
 fields_with siz segments head places = record { cod = cod_for segments head; codings = codings_of siz.components segments head; data_places = places }
 
-fields_are : (siz : Siz) (segments : List Segment) (parts : List Part) (t : ℕ)
+fields_are : (siz : Siz) (segments : List Segment) (parts : List CodestreamPart) (t : ℕ)
     → fields_of (tree_of siz segments parts) t ≡ fields_with siz segments (head_segments (of_tile t parts)) (places_from (length (main_text siz segments)) parts t)
 unfolding fields_of
 fields_are siz segments parts t =
     ap (λ (places : List (ℕ × ℕ)). fields_with siz segments (head_segments (of_tile t parts)) places) (places_are (tree_of siz segments parts) t)
 
-pub said_at : (siz : Siz) (segments : List Segment) (parts : List Part) (t : ℕ) → t < tile_count siz
+pub said_at : (siz : Siz) (segments : List Segment) (parts : List CodestreamPart) (t : ℕ) → t < tile_count siz
     → tile_in (tiles_said siz segments parts) t ≡ fields_with siz segments (head_segments (of_tile t parts)) (places_from (length (main_text siz segments)) parts t)
 said_at siz segments parts t lt = get_or-map-range_with_len (fields_of (tree_of siz segments parts)) 0 (tile_count siz) t t no_fields lt (omega arith) ∙ fields_are siz segments parts t
 
-pub said_length : (siz : Siz) (segments : List Segment) (parts : List Part) → length (tiles_said siz segments parts) ≡ tile_count siz
+pub said_length : (siz : Siz) (segments : List Segment) (parts : List CodestreamPart) → length (tiles_said siz segments parts) ≡ tile_count siz
 said_length siz segments parts = length-map-range_with_len (fields_of (tree_of siz segments parts)) 0 (tile_count siz)
 
 -- so many parts of a tile were seen
-pub seen_at : (siz : Siz) (segments : List Segment) (parts : List Part) (t : ℕ) → t < tile_count siz → get_or (parts_seen (tiles_said siz segments parts)) t 0 ≡ length (of_tile t parts)
+pub seen_at : (siz : Siz) (segments : List Segment) (parts : List CodestreamPart) (t : ℕ) → t < tile_count siz → get_or (parts_seen (tiles_said siz segments parts)) t 0 ≡ length (of_tile t parts)
 seen_at siz segments parts t lt =
     let tiles = tiles_said siz segments parts in
     let count : TileFields → ℕ = λ f. length f.data_places in
     get_or-map count tiles t no_fields 0 (omega (arith, lt, said_length siz segments parts)) ∙ ap count (said_at siz segments parts t lt) ∙ places_count (length (main_text siz segments)) parts t
 
-pub other_parts : (t : ℕ) (parts : List Part) (p : Part) → eqb p.tile t ≡ false → of_tile t (parts ++ p ∷ []) ≡ of_tile t parts
+pub other_parts : (t : ℕ) (parts : List CodestreamPart) (p : CodestreamPart) → eqb p.tile t ≡ false → of_tile t (parts ++ p ∷ []) ≡ of_tile t parts
 other_parts t parts p e = of_tile_more t parts p ∙ ap (λ b. of_tile t parts ++ put b p []) e ∙ append-nil (of_tile t parts)
 
-pub own_parts : (t : ℕ) (parts : List Part) (p : Part) → eqb p.tile t ≡ true → of_tile t (parts ++ p ∷ []) ≡ of_tile t parts ++ p ∷ []
+pub own_parts : (t : ℕ) (parts : List CodestreamPart) (p : CodestreamPart) → eqb p.tile t ≡ true → of_tile t (parts ++ p ∷ []) ≡ of_tile t parts ++ p ∷ []
 own_parts t parts p e = of_tile_more t parts p ∙ ap (λ b. of_tile t parts ++ put b p []) e
 
-other_places : (at end t : ℕ) (parts : List Part) (p : Part) → end ≡ at + length (flat_map part_text parts) → eqb p.tile t ≡ false → places_from at (parts ++ p ∷ []) t ≡ places_from at parts t
+other_places : (at end t : ℕ) (parts : List CodestreamPart) (p : CodestreamPart) → end ≡ at + length (flat_map part_text parts) → eqb p.tile t ≡ false → places_from at (parts ++ p ∷ []) t ≡ places_from at parts t
 other_places at end t parts p end-is e =
     places_more at end parts p t end-is ∙ ap (λ b. places_from at parts t ++ put b (place_in end p) []) e ∙ append-nil (places_from at parts t)
 
-own_places : (at end : ℕ) (parts : List Part) (p : Part) → end ≡ at + length (flat_map part_text parts) → places_from at (parts ++ p ∷ []) p.tile ≡ places_from at parts p.tile ++ place_in end p ∷ []
+own_places : (at end : ℕ) (parts : List CodestreamPart) (p : CodestreamPart) → end ≡ at + length (flat_map part_text parts) → places_from at (parts ++ p ∷ []) p.tile ≡ places_from at parts p.tile ++ place_in end p ∷ []
 own_places at end parts p end-is = places_more at end parts p p.tile end-is ∙ ap (λ b. places_from at parts p.tile ++ put b (place_in end p) []) (eq-eqb p.tile p.tile refl)
 
-pub head_kept : (xs : List Part) (p : Part) → 0 < length xs → head_segments (xs ++ p ∷ []) ≡ head_segments xs
+pub head_kept : (xs : List CodestreamPart) (p : CodestreamPart) → 0 < length xs → head_segments (xs ++ p ∷ []) ≡ head_segments xs
 head_kept [] p lt = absurd (omega (arith, lt))
 head_kept (x ∷ xs) p lt = refl
 
-pub head_first : (t : ℕ) (parts : List Part) (p : Part) → eqb p.tile t ≡ true → length (of_tile t parts) ≡ 0 → head_segments (of_tile t (parts ++ p ∷ [])) ≡ p.segments
-head_first t parts p e none = ap head_segments (own_parts t parts p e) ∙ ap (λ (x : List Part). head_segments (x ++ p ∷ [])) (nil_from_length (of_tile t parts) none)
+pub head_first : (t : ℕ) (parts : List CodestreamPart) (p : CodestreamPart) → eqb p.tile t ≡ true → length (of_tile t parts) ≡ 0 → head_segments (of_tile t (parts ++ p ∷ [])) ≡ p.segments
+head_first t parts p e none = ap head_segments (own_parts t parts p e) ∙ ap (λ (x : List CodestreamPart). head_segments (x ++ p ∷ [])) (nil_from_length (of_tile t parts) none)
 
-pub head_later : (t : ℕ) (parts : List Part) (p : Part) → eqb p.tile t ≡ true → 0 < length (of_tile t parts) → head_segments (of_tile t (parts ++ p ∷ [])) ≡ head_segments (of_tile t parts)
+pub head_later : (t : ℕ) (parts : List CodestreamPart) (p : CodestreamPart) → eqb p.tile t ≡ true → 0 < length (of_tile t parts) → head_segments (of_tile t (parts ++ p ∷ [])) ≡ head_segments (of_tile t parts)
 head_later t parts p e some = ap head_segments (own_parts t parts p e) ∙ head_kept (of_tile t parts) p some
 
-pub head_other : (t : ℕ) (parts : List Part) (p : Part) → eqb p.tile t ≡ false → head_segments (of_tile t (parts ++ p ∷ [])) ≡ head_segments (of_tile t parts)
+pub head_other : (t : ℕ) (parts : List CodestreamPart) (p : CodestreamPart) → eqb p.tile t ≡ false → head_segments (of_tile t (parts ++ p ∷ [])) ≡ head_segments (of_tile t parts)
 head_other t parts p e = ap head_segments (other_parts t parts p e)
 
 -- a tile's new fields in their place
-said_set : (siz : Siz) (segments : List Segment) (parts : List Part) (p : Part) (at : ℕ) (x : TileFields) → p.tile < tile_count siz
+said_set : (siz : Siz) (segments : List Segment) (parts : List CodestreamPart) (p : CodestreamPart) (at : ℕ) (x : TileFields) → p.tile < tile_count siz
     → at ≡ length (main_text siz segments) + length (flat_map part_text parts)
     → x ≡ fields_with siz segments (head_segments (of_tile p.tile (parts ++ p ∷ []))) (places_from (length (main_text siz segments)) (parts ++ p ∷ []) p.tile)
     → set (tiles_said siz segments parts) p.tile x ≡ tiles_said siz segments (parts ++ p ∷ [])
@@ -162,7 +162,7 @@ first_joined d [] ys = refl
 first_joined d (x ∷ xs) ys = refl
 
 -- the fields of a tile of which the first part is read
-first_fields : (siz : Siz) (segments : List Segment) (parts : List Part) (p : Part) (at : ℕ) (ks : List Coding) → p.tile < tile_count siz → length (of_tile p.tile parts) ≡ 0
+first_fields : (siz : Siz) (segments : List Segment) (parts : List CodestreamPart) (p : CodestreamPart) (at : ℕ) (ks : List Coding) → p.tile < tile_count siz → length (of_tile p.tile parts) ≡ 0
     → at ≡ length (main_text siz segments) + length (flat_map part_text parts) → ks ≡ codings_of siz.components segments p.segments
     → with_place (with_coding (tile_in (tiles_said siz segments parts) p.tile) (or_else (main_of siz segments).cod (head_of p.segments).cod) ks) (place_at at (place_of p))
     ≡ fields_with siz segments (head_segments (of_tile p.tile (parts ++ p ∷ []))) (places_from (length (main_text siz segments)) (parts ++ p ∷ []) p.tile)
@@ -179,7 +179,7 @@ first_fields siz segments parts p at ks tile none at-is ks-is =
     ∙ ap (λ (h : List Segment). fields_with siz segments h (places_from start (parts ++ p ∷ []) p.tile)) (sym (head_first p.tile parts p (eq-eqb p.tile p.tile refl) none))
 
 -- the fields of a tile of which a later part is read
-later_fields : (siz : Siz) (segments : List Segment) (parts : List Part) (p : Part) (at : ℕ) → p.tile < tile_count siz → 0 < length (of_tile p.tile parts)
+later_fields : (siz : Siz) (segments : List Segment) (parts : List CodestreamPart) (p : CodestreamPart) (at : ℕ) → p.tile < tile_count siz → 0 < length (of_tile p.tile parts)
     → at ≡ length (main_text siz segments) + length (flat_map part_text parts)
     → with_place (tile_in (tiles_said siz segments parts) p.tile) (place_at at (place_of p))
     ≡ fields_with siz segments (head_segments (of_tile p.tile (parts ++ p ∷ []))) (places_from (length (main_text siz segments)) (parts ++ p ∷ []) p.tile)
@@ -190,7 +190,7 @@ later_fields siz segments parts p at tile some at-is =
     ∙ ap (λ (h : List Segment). fields_with siz segments h (places_from start (parts ++ p ∷ []) p.tile)) (sym (head_later p.tile parts p (eq-eqb p.tile p.tile refl) some))
 
 -- the tiles with a part that was read
-pub tiles_found : (siz : Siz) (segments : List Segment) (parts : List Part) (p : Part) (at : ℕ) (more : List TileFields) → siz.components ≤ 4
+pub tiles_found : (siz : Siz) (segments : List Segment) (parts : List CodestreamPart) (p : CodestreamPart) (at : ℕ) (more : List TileFields) → siz.components ≤ 4
     → p.tile < tile_count siz → p.number ≡ length (of_tile p.tile parts)
     → at ≡ length (main_text siz segments) + length (flat_map part_text parts) → tiles_with (main_of siz segments) at (place_of p) (tiles_said siz segments parts) ≡ Ok more
     → (more ≡ tiles_said siz segments (parts ++ p ∷ [])) × (p.number ≡ 0 → HavePlanes siz segments p.segments)
@@ -215,7 +215,7 @@ tiles_found siz segments parts p at more few tile number at-is e =
     ]
 
 -- the tiles with a part that stands there
-pub tiles_only : (siz : Siz) (segments : List Segment) (parts : List Part) (p : Part) (at : ℕ) → siz.components ≤ 4 → p.tile < tile_count siz → p.number ≡ length (of_tile p.tile parts)
+pub tiles_only : (siz : Siz) (segments : List Segment) (parts : List CodestreamPart) (p : CodestreamPart) (at : ℕ) → siz.components ≤ 4 → p.tile < tile_count siz → p.number ≡ length (of_tile p.tile parts)
     → at ≡ length (main_text siz segments) + length (flat_map part_text parts) → (p.number ≡ 0 → HavePlanes siz segments p.segments)
     → tiles_with (main_of siz segments) at (place_of p) (tiles_said siz segments parts) ≡ Ok (tiles_said siz segments (parts ++ p ∷ []))
 unfolding tiles_with

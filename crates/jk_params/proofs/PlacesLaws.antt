@@ -7,8 +7,8 @@ use Rattle.std.proofs.lemmas.List.Sums.{sum_by-cons}
 use Rattle.byteorder.specs.Endian.{big_bytes}
 use Rattle.jk_marks.specs.Markers.{sot, sod, eoc, marker_text}
 use Rattle.jk_marks.specs.Segments.{segment_text}
-use Rattle.jk_marks.specs.Codestream.{Part, Tree, main_text, part_text, data_start, part_length, psot, codestream_text, of_tile}
-use Rattle.jk_params.specs.Headers.{part_in, data_place, places_of, no_part}
+use Rattle.jk_marks.specs.Codestream.{CodestreamPart, Tree, main_text, part_text, data_start, part_length, psot, codestream_text, of_tile}
+use Rattle.jk_params.specs.Headers.{part_in, data_place, tile_data_places, no_part}
 
 -- x before the others, if the test says so
 abbrev pub put : {X : Type 0} → Bool → X → List X → List X
@@ -27,16 +27,16 @@ put_mapped f g true x y xs ys e h = ap (λ z. z ∷ map f xs) e ∙ ap (λ (zs :
 put_mapped f g false x y xs ys e h = h
 
 -- where the data of a part stand that begins at a place
-abbrev pub place_in : ℕ → Part → ℕ × ℕ
+abbrev pub place_in : ℕ → CodestreamPart → ℕ × ℕ
 place_in at p = (at + data_start p, at + part_length p)
 
 -- where the data of the parts of tile t stand, among parts that begin at a place, part by part
-unfoldable pub places_from : ℕ → List Part → ℕ → List (ℕ × ℕ)
+unfoldable pub places_from : ℕ → List CodestreamPart → ℕ → List (ℕ × ℕ)
 places_from at [] t = []
 places_from at (p ∷ parts) t = put (eqb p.tile t) (place_in at p) (places_from (at + part_length p) parts t)
 
 -- the same by the numbers of the parts
-by_number : (parts : List Part) (at t k : ℕ) (place : ℕ → ℕ × ℕ) (own : ℕ → Bool)
+by_number : (parts : List CodestreamPart) (at t k : ℕ) (place : ℕ → ℕ × ℕ) (own : ℕ → Bool)
     → ((i : ℕ) → place (k + i) ≡ place_in (at + sum_by part_length (take i parts)) (get_or parts i no_part)) → ((i : ℕ) → own (k + i) ≡ eqb (get_or parts i no_part).tile t)
     → map place (filter own (range_with_len k (length parts))) ≡ places_from at parts t
 unfolding places_from
@@ -57,19 +57,19 @@ by_number (p ∷ parts) at t k place own place-is own-is =
     (rest ∙ sym (map-id (places_from (at + part_length p) parts t)))
     ∙ map-id (put (eqb p.tile t) (place_in at p) (places_from (at + part_length p) parts t))
 
-pub places_are : (tree : Tree) (t : ℕ) → places_of tree t ≡ places_from (length (main_text tree.siz tree.segments)) tree.parts t
+pub places_are : (tree : Tree) (t : ℕ) → tile_data_places tree t ≡ places_from (length (main_text tree.siz tree.segments)) tree.parts t
 places_are tree t =
     let zero-is : (i : ℕ) → 0 + i ≡ i = λ i. omega arith in
     by_number tree.parts (length (main_text tree.siz tree.segments)) t 0 (data_place tree) (λ i. eqb (part_in tree i).tile t) (λ i. ap (data_place tree) (zero-is i)) (λ i. ap (λ k. eqb (part_in tree k).tile t) (zero-is i))
 
-pub part_text_length : (p : Part) → length (part_text p) ≡ part_length p
+pub part_text_length : (p : CodestreamPart) → length (part_text p) ≡ part_length p
 unfolding part_text
 part_text_length p = omega (arith, length-append (flat_map segment_text p.segments) (marker_text sod ++ p.content))
 
-parts_length : (p : Part) (parts : List Part) → length (flat_map part_text (p ∷ parts)) ≡ part_length p + length (flat_map part_text parts)
+parts_length : (p : CodestreamPart) (parts : List CodestreamPart) → length (flat_map part_text (p ∷ parts)) ≡ part_length p + length (flat_map part_text parts)
 parts_length p parts = omega (arith, part_text_length p, length-append (part_text p) (flat_map part_text parts))
 
-pub places_more : (at end : ℕ) (parts : List Part) (p : Part) (t : ℕ) → end ≡ at + length (flat_map part_text parts)
+pub places_more : (at end : ℕ) (parts : List CodestreamPart) (p : CodestreamPart) (t : ℕ) → end ≡ at + length (flat_map part_text parts)
     → places_from at (parts ++ p ∷ []) t ≡ places_from at parts t ++ put (eqb p.tile t) (place_in end p) []
 unfolding places_from
 places_more at end [] p t e =
@@ -80,33 +80,33 @@ places_more at end (q ∷ parts) p t e =
     let rest = places_more next end parts p t (omega (arith, e, parts_length q parts)) in
     ap (λ (x : List (ℕ × ℕ)). put (eqb q.tile t) (place_in at q) x) rest ∙ put_joined (eqb q.tile t) (place_in at q) (places_from next parts t) (put (eqb p.tile t) (place_in end p) [])
 
-pub places_count : (at : ℕ) (parts : List Part) (t : ℕ) → length (places_from at parts t) ≡ length (of_tile t parts)
+pub places_count : (at : ℕ) (parts : List CodestreamPart) (t : ℕ) → length (places_from at parts t) ≡ length (of_tile t parts)
 unfolding places_from
 places_count at [] t = refl
 places_count at (p ∷ parts) t = put_length (eqb p.tile t) (place_in at p) p (places_from (at + part_length p) parts t) (of_tile t parts) (places_count (at + part_length p) parts t)
 
-pub of_tile_more : (t : ℕ) (parts : List Part) (p : Part) → of_tile t (parts ++ p ∷ []) ≡ of_tile t parts ++ put (eqb p.tile t) p []
-of_tile_more t parts p = filter-append (λ (q : Part). eqb q.tile t) parts (p ∷ [])
+pub of_tile_more : (t : ℕ) (parts : List CodestreamPart) (p : CodestreamPart) → of_tile t (parts ++ p ∷ []) ≡ of_tile t parts ++ put (eqb p.tile t) p []
+of_tile_more t parts p = filter-append (λ (q : CodestreamPart). eqb q.tile t) parts (p ∷ [])
 
 -- SOT, its segment, the others and SOD
-abbrev head_text : Part → List ℕ
+abbrev head_text : CodestreamPart → List ℕ
 head_text p =
     marker_text sot ++ (big_bytes 2 10 ++ (big_bytes 2 p.tile ++ (big_bytes 4 (psot p) ++ (big_bytes 1 p.number ++ (big_bytes 1 p.total ++ (flat_map segment_text p.segments ++ marker_text sod))))))
 
-part_split : (p : Part) → part_text p ≡ head_text p ++ p.content
+part_split : (p : CodestreamPart) → part_text p ≡ head_text p ++ p.content
 unfolding part_text
 part_split p =
     ap (λ (x : List ℕ). marker_text sot ++ (big_bytes 2 10 ++ (big_bytes 2 p.tile ++ (big_bytes 4 (psot p) ++ (big_bytes 1 p.number ++ (big_bytes 1 p.total ++ x))))))
     (sym (append_assoc (flat_map segment_text p.segments) (marker_text sod) p.content))
 
-head_length : (p : Part) → length (head_text p) ≡ data_start p
+head_length : (p : CodestreamPart) → length (head_text p) ≡ data_start p
 head_length p = omega (arith, length-append (flat_map segment_text p.segments) (marker_text sod))
 
 -- the bytes at a place
 abbrev pub bytes_at : List ℕ → ℕ × ℕ → List ℕ
 bytes_at bytes place = take (place.1 - place.0) (drop place.0 bytes)
 
-pub content_at : (p : Part) (front rest bytes : List ℕ) (at : ℕ) → bytes ≡ front ++ (part_text p ++ rest) → at ≡ length front → bytes_at bytes (place_in at p) ≡ p.content
+pub content_at : (p : CodestreamPart) (front rest bytes : List ℕ) (at : ℕ) → bytes ≡ front ++ (part_text p ++ rest) → at ≡ length front → bytes_at bytes (place_in at p) ≡ p.content
 content_at p front rest bytes at e at-is =
     let head = head_text p in
     let content = p.content in
@@ -118,8 +118,8 @@ content_at p front rest bytes at e at-is =
     let size : length content ≡ at + part_length p - start = omega arith in
     ap (take (at + part_length p - start)) after ∙ take_at content rest (at + part_length p - start) size
 
-contents_at : (parts : List Part) (front rest bytes : List ℕ) (at t : ℕ) → bytes ≡ front ++ (flat_map part_text parts ++ rest) → at ≡ length front
-    → map (bytes_at bytes) (places_from at parts t) ≡ map (λ (p : Part). p.content) (of_tile t parts)
+contents_at : (parts : List CodestreamPart) (front rest bytes : List ℕ) (at t : ℕ) → bytes ≡ front ++ (flat_map part_text parts ++ rest) → at ≡ length front
+    → map (bytes_at bytes) (places_from at parts t) ≡ map (λ (p : CodestreamPart). p.content) (of_tile t parts)
 unfolding places_from
 contents_at [] front rest bytes at t e at-is = refl
 contents_at (p ∷ parts) front rest bytes at t e at-is =
@@ -128,14 +128,14 @@ contents_at (p ∷ parts) front rest bytes at t e at-is =
     let here : bytes ≡ front ++ (part_text p ++ (others ++ rest)) = e ∙ ap (λ (x : List ℕ). front ++ x) (append_assoc (part_text p) others rest) in
     let behind : bytes ≡ (front ++ part_text p) ++ (others ++ rest) = here ∙ sym (append_assoc front (part_text p) (others ++ rest)) in
     let size : next ≡ length (front ++ part_text p) = omega (arith, at-is, length-append front (part_text p), part_text_length p) in
-    put_mapped (bytes_at bytes) (λ (q : Part). q.content) (eqb p.tile t) (place_in at p) p (places_from next parts t) (of_tile t parts)
+    put_mapped (bytes_at bytes) (λ (q : CodestreamPart). q.content) (eqb p.tile t) (place_in at p) p (places_from next parts t) (of_tile t parts)
     (content_at p front (others ++ rest) bytes at here at-is) (contents_at parts (front ++ part_text p) rest bytes next t behind size)
 
 -- the bytes at the places of a tile are the data of its parts
 pub contents_from : (bytes : List ℕ) (tree : Tree) (t : ℕ) → bytes ≡ codestream_text tree
-    → map (bytes_at bytes) (places_from (length (main_text tree.siz tree.segments)) tree.parts t) ≡ map (λ (p : Part). p.content) (of_tile t tree.parts)
+    → map (bytes_at bytes) (places_from (length (main_text tree.siz tree.segments)) tree.parts t) ≡ map (λ (p : CodestreamPart). p.content) (of_tile t tree.parts)
 unfolding codestream_text
 contents_from bytes tree t e = contents_at tree.parts (main_text tree.siz tree.segments) (marker_text eoc) bytes (length (main_text tree.siz tree.segments)) t e refl
 
-pub contents_of : (bytes : List ℕ) (tree : Tree) (t : ℕ) → bytes ≡ codestream_text tree → map (bytes_at bytes) (places_of tree t) ≡ map (λ (p : Part). p.content) (of_tile t tree.parts)
+pub contents_of : (bytes : List ℕ) (tree : Tree) (t : ℕ) → bytes ≡ codestream_text tree → map (bytes_at bytes) (tile_data_places tree t) ≡ map (λ (p : CodestreamPart). p.content) (of_tile t tree.parts)
 contents_of bytes tree t e = ap (λ (places : List (ℕ × ℕ)). map (bytes_at bytes) places) (places_are tree t) ∙ contents_from bytes tree t e

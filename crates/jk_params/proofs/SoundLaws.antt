@@ -12,7 +12,7 @@ use Rattle.jk_marks.specs.Markers.{eoc, marker_text}
 use Rattle.jk_marks.specs.Coding.{IsCoding}
 use Rattle.jk_marks.specs.Siz.{tile_count, IsSiz}
 use Rattle.jk_marks.specs.Segments.{Segment, IsCod, IsStyle, cods, cocs_of}
-use Rattle.jk_marks.specs.Codestream.{Part, Tree, main_text, part_text, part_length, codestream_text, of_tile, first, no_coding, heading_of, IsPart}
+use Rattle.jk_marks.specs.Codestream.{CodestreamPart, Tree, main_text, part_text, part_length, codestream_text, of_tile, first, no_coding, heading_of, IsPart}
 use Rattle.jk_geom.specs.TileShapes.{AreCodings, no_coding as no_component}
 use Rattle.jk_params.specs.Coding.{style_for, quantisation_for, coding_of, codings_of, HasPlanes}
 use Rattle.jk_params.specs.Headers.{Headers, head_segments, cod_for, headers_of, tile_in, packets_of, most_packets, IsHeaders, AreFields, AreHeaders}
@@ -36,12 +36,12 @@ range_all : {X : Type 0} (P : X → Type 0) (f : ℕ → X) (a n : ℕ) → ((i 
 range_all P f a zero h = tt
 range_all P f a (suc n) h = (h a (omega arith) (omega arith), range_all P f (a + 1) n (λ i le lt. h i (omega (arith, le)) (omega (arith, lt))))
 
-tile_all : (P : Part → Type 0) (t : ℕ) (parts : List Part) → AllByRecursion P parts → AllByRecursion P (of_tile t parts)
+tile_all : (P : CodestreamPart → Type 0) (t : ℕ) (parts : List CodestreamPart) → AllByRecursion P parts → AllByRecursion P (of_tile t parts)
 tile_all P t [] h = tt
 tile_all P t (p ∷ parts) h = put_all P (eqb p.tile t) p (of_tile t parts) h.0 (tile_all P t parts h.1)
 
 -- what holds of no segments and of those of each part holds of those of the first
-head_all : (siz : Siz) (P : List Segment → Type 0) → P [] → ((p : Part) → IsPart siz p → P p.segments) → (parts : List Part) → AllByRecursion (IsPart siz) parts → P (head_segments parts)
+head_all : (siz : Siz) (P : List Segment → Type 0) → P [] → ((p : CodestreamPart) → IsPart siz p → P p.segments) → (parts : List CodestreamPart) → AllByRecursion (IsPart siz) parts → P (head_segments parts)
 head_all siz P none some [] h = none
 head_all siz P none some (p ∷ parts) h = some p h.0
 
@@ -50,7 +50,7 @@ record AreSaid (n : ℕ) (ss : List Segment) : Type 0 where
   every_cod : AllByRecursion (IsCod n) (cods ss)
   styles : (i : ℕ) → AllByRecursion IsStyle (cocs_of i ss)
 
-part_said : (siz : Siz) (p : Part) → IsPart siz p → AreSaid siz.components p.segments
+part_said : (siz : Siz) (p : CodestreamPart) → IsPart siz p → AreSaid siz.components p.segments
 part_said siz p is =
     let each = is.well_formed.each in
     let heading = heading_of p.number in
@@ -99,7 +99,7 @@ codings_of_are n components main head some few m h =
 abbrev IsWithin : ℕ → ℕ × ℕ → Type 0
 IsWithin size p = (p.0 ≤ p.1) × (p.1 ≤ size)
 
-places_within : (at size : ℕ) (parts : List Part) (t : ℕ) → at + length (flat_map part_text parts) ≤ size → AllByRecursion (IsWithin size) (places_from at parts t)
+places_within : (at size : ℕ) (parts : List CodestreamPart) (t : ℕ) → at + length (flat_map part_text parts) ≤ size → AllByRecursion (IsWithin size) (places_from at parts t)
 unfolding places_from
 places_within at size [] t le = tt
 places_within at size (p ∷ parts) t le =
@@ -121,7 +121,7 @@ sound_headers bytes h is = subst (AreHeaders (length bytes)) (sym is.says) sound
     segments : List Segment
     segments = tree.segments
 
-    parts : List Part
+    parts : List CodestreamPart
     parts = tree.parts
 
     size : IsSiz siz

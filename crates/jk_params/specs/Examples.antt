@@ -15,7 +15,7 @@ use Rattle.jk_marks.specs.Siz.{siz_text}
 use Rattle.jk_marks.specs.Segments.{Segment, CodSegment, CocSegment, QcdSegment, QccSegment, Passed, style_text}
 use Rattle.jk_marks.specs.Segments.{contents}
 use Rattle.jk_marks.specs.Segments.{segment_body}
-use Rattle.jk_marks.specs.Codestream.{Part, Tree, main_text}
+use Rattle.jk_marks.specs.Codestream.{CodestreamPart, Tree, main_text}
 use Rattle.jk_geom.specs.Rectangles.{tile_area, resolution_area}
 use Rattle.jk_geom.specs.Precincts.{precincts_across, precincts_down}
 use Rattle.jk_geom.specs.Counts.{precincts_below, packet_number}
@@ -23,7 +23,7 @@ use Rattle.jk_params.specs.declared.parameters.Parameters.{Parameters}
 use Rattle.jk_params.specs.declared.parameters.Container.TheVariants.{Raw, Jp2}
 use Rattle.jk_params.specs.Coding.{style_for, quantisation_for, coding_of, band_count}
 use Rattle.jk_params.specs.CodingReading.{planes_at}
-use Rattle.jk_params.specs.Headers.{Headers, places_of, cod_for, total}
+use Rattle.jk_params.specs.Headers.{Headers, tile_data_places, cod_for, total}
 use Rattle.jk_params.specs.Levels.{holds_below, have_levels}
 use Rattle.jk_params.specs.Profile.{siz_of, are_sizes, are_precincts, is_tile, is_contained, tiles_of, packets_for}
 use Rattle.jk_params.specs.Tiling.{first_tile, tiles_between}
@@ -182,7 +182,7 @@ halved = refl
 
 -- Two tiles of one sample each. The parts are the first of tile 0, that of tile 1, which is empty,
 -- and the second of tile 0, whose header has a PLT of six bytes.
-abbrev parts : List Part
+abbrev parts : List CodestreamPart
 parts = record { tile = 0; is_open = false; number = 0; total = 2; segments = []; content = 1 ∷ 2 ∷ 3 ∷ [] }
     ∷ record { tile = 1; is_open = false; number = 0; total = 1; segments = []; content = [] }
     ∷ record {
@@ -203,11 +203,11 @@ tree = record {
 }
 
 -- Behind a main header of 65 bytes each part begins with the 14 bytes of SOT and SOD.
-data_of_tile_0 : places_of tree 0 ≡ (79, 82) ∷ (116, 117) ∷ []
+data_of_tile_0 : tile_data_places tree 0 ≡ (79, 82) ∷ (116, 117) ∷ []
 unfolding main_text siz_text contents segment_body style_text
 data_of_tile_0 = refl
 
-data_of_tile_1 : places_of tree 1 ≡ (96, 96) ∷ []
+data_of_tile_1 : tile_data_places tree 1 ≡ (96, 96) ∷ []
 unfolding main_text siz_text contents segment_body style_text
 data_of_tile_1 = refl
 

@@ -8,7 +8,7 @@ use Rattle.jk_marks.specs.declared.segments.Cod.{Cod}
 use Rattle.jk_marks.specs.declared.coding.Coding.{Coding}
 use Rattle.jk_marks.specs.Siz.{IsSiz, tile_count}
 use Rattle.jk_marks.specs.Segments.{Segment, cods}
-use Rattle.jk_marks.specs.Codestream.{Part, Tree, main_text, data_start, part_length, of_tile, no_coding, first_given}
+use Rattle.jk_marks.specs.Codestream.{CodestreamPart, Tree, main_text, data_start, part_length, of_tile, no_coding, first_given}
 use Rattle.jk_marks.specs.Codestream.{IsCodestream}
 use Rattle.jk_geom.specs.Rectangles.{tile_area}
 use Rattle.jk_geom.specs.TileShapes.{AreCodings}
@@ -27,11 +27,11 @@ pub record Headers : Type 0 where
   pub tiles : List TileFields
 
 -- stands where a part isn't
-abbrev pub no_part : Part
+abbrev pub no_part : CodestreamPart
 no_part = record { tile = 0; is_open = false; number = 0; total = 0; segments = []; content = [] }
 
 -- part number i, where all parts are counted
-abbrev pub part_in : Tree → ℕ → Part
+abbrev pub part_in : Tree → ℕ → CodestreamPart
 part_in tree i = slice_index_or tree.parts i no_part
 
 -- where it begins: behind the main header and the parts before it
@@ -43,12 +43,12 @@ abbrev pub data_place : Tree → ℕ → ℕ × ℕ
 data_place tree i = (part_start tree i + data_start (part_in tree i), part_start tree i + part_length (part_in tree i))
 
 -- where the data of the parts of tile t stand
-abbrev pub places_of : Tree → ℕ → List (ℕ × ℕ)
-places_of tree t =
+abbrev pub tile_data_places : Tree → ℕ → List (ℕ × ℕ)
+tile_data_places tree t =
     map (data_place tree) (filter (λ i. (part_in tree i).tile == t) (range_with_len 0 (length tree.parts)))
 
 -- the segments of the first part of a tile
-abbrev pub head_segments : List Part → List Segment
+abbrev pub head_segments : List CodestreamPart → List Segment
 head_segments [] = []
 head_segments (p ∷ parts) = p.segments
 
@@ -61,7 +61,7 @@ unfoldable pub fields_of : Tree → ℕ → TileFields
 fields_of tree t = record {
   cod = cod_for tree.segments (head_segments (of_tile t tree.parts));
   codings = codings_of tree.siz.components tree.segments (head_segments (of_tile t tree.parts));
-  data_places = places_of tree t;
+  data_places = tile_data_places tree t;
 }
 
 unfoldable pub headers_of : Tree → Headers

@@ -5,7 +5,7 @@ ghost use Rattle.jk_marks.specs.Siz.{IsSiz, tile_count};
 ghost use Rattle.jk_geom.specs.TileShapes.{AreCodings};
 ghost use Rattle.jk_params.specs.Headers.{packets_alike, packets_of, tile_in};
 
-use crate::table::Table;
+use crate::table::TileTable;
 use jk_geom::{Codings, packet_count, tile, tile_count};
 use jk_marks::Siz;
 
@@ -25,7 +25,7 @@ pub(crate) fn count_alike(siz: &Siz, layers: u16, codings: &Codings) -> u64
 }
 
 /// How many packets these tiles have, and 2^64 - 1 where there are more.
-pub(crate) fn count_own(siz: &Siz, tiles: &Table) -> u64
+pub(crate) fn count_own(siz: &Siz, tiles: &TileTable) -> u64
     requires siz { IsSiz siz.now }
     requires tiles { length tiles.now ≡ tile_count siz.now }
     requires layers { (t : ℕ) → t < length tiles.now → 1 ≤ (tile_in tiles.now t).cod.layers }

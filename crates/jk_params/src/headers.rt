@@ -7,7 +7,7 @@ ghost use Rattle.jk_params.specs.Levels.{have_levels, least_levels};
 
 use crate::count::count_own;
 use crate::levels::{least_of_tiles, tiles_have_levels};
-use crate::table::Table;
+use crate::table::TileTable;
 use jk_geom::Codings;
 use jk_marks::{Cod, Siz};
 use std::marker::Model;
@@ -16,7 +16,7 @@ use std::marker::Model;
 #[derive(Debug, Drop)]
 pub struct Codestream {
     siz: Siz,
-    tiles: Table,
+    tiles: TileTable,
 }
 
 impl Model for Codestream {
@@ -29,7 +29,7 @@ impl Model for Codestream {
 
 impl Codestream {
     /// What these fields say.
-    pub(crate) fn new(siz: Siz, tiles: Table) -> Codestream
+    pub(crate) fn new(siz: Siz, tiles: TileTable) -> Codestream
         ensures { result ≡ record { siz = siz; tiles = tiles } }
     {
         Codestream { siz, tiles }

@@ -28,12 +28,12 @@ pub(crate) struct TileEntry {
 /// The fields of all tiles. The coding of the main header is number 0, and serves each tile that
 /// has no own.
 #[derive(Debug, Drop)]
-pub(crate) struct Table {
+pub(crate) struct TileTable {
     codings: Vec<TileCoding>,
     tiles: Vec<TileEntry>,
 }
 
-impl Model for Table {
+impl Model for TileTable {
     ghost use Rattle.std.specs.Prelude.{List};
     ghost use Rattle.jk_params.specs.Headers.{TileFields};
     ghost use Rattle.jk_params.specs.Tables.{tiles_in, IsTable};
@@ -45,9 +45,14 @@ impl Model for Table {
     ghost invariant = { λ t. IsTable t.codings.items t.tiles.items };
 }
 
-impl Table {
+impl TileTable {
     /// So many tiles of one coding, and no data.
-    pub(crate) fn new(alloc: Global, count: u32, cod: Cod, codings: Codings) -> Result<Table, Fault>
+    pub(crate) fn new(
+        alloc: Global,
+        count: u32,
+        cod: Cod,
+        codings: Codings,
+    ) -> Result<TileTable, Fault>
         ensures { MatchResult result (λ t. t ≡ blank_tiles count cod codings) (λ e. IsMemory e) }
     {
         let mut all = Vec::new(alloc);
@@ -59,7 +64,7 @@ impl Table {
                 places: Vec::new(alloc),
             })?;
         }
-        Ok(Table {
+        Ok(TileTable {
             codings: all,
             tiles,
         })

@@ -12,7 +12,7 @@ ghost use Rattle.jk_params.specs.HeadersReading.{parts_seen, tiles_at, tiles_wit
 use crate::coding::codings;
 use crate::count::{count_alike, count_own};
 use crate::headers::Codestream;
-use crate::table::Table;
+use crate::table::TileTable;
 use jk_geom::{Codings, tile_count};
 use jk_marks::{
     Cod, CodingStyle, Cursor, Main, TileHead, TilePart, marker, read_main, read_tile_part,
@@ -90,7 +90,7 @@ fn ends(bytes: &[u8], at: usize) -> Result<bool, Fault>
 /// Takes a tile-part that begins at a place into the table. The first part of a tile says its
 /// coding.
 #[tactic(auto, unfolding(crate::specs::HeadersReading::tiles_with))]
-fn add_part(tiles: &mut Table, main: &Main, at: usize, part: &TilePart) -> Result<(), Fault>
+fn add_part(tiles: &mut TileTable, main: &Main, at: usize, part: &TilePart) -> Result<(), Fault>
     requires few { main.now.siz.components ≤ 4 }
     requires tile { part.now.tile < length tiles.old }
     requires order { part.now.start ≤ part.now.end }
@@ -113,7 +113,7 @@ fn read_parts(
     bytes: &[u8],
     main: &Main,
     at: usize,
-    tiles: &mut Table,
+    tiles: &mut TileTable,
 ) -> Result<(), Fault>
     requires few { main.now.siz.components ≤ 4 }
     requires tiles { length tiles.old ≡ tile_count main.now.siz }
@@ -145,7 +145,7 @@ fn read_tiles(
     bytes: &[u8],
     main: &Main,
     at: usize,
-    tiles: &mut Table,
+    tiles: &mut TileTable,
 ) -> Result<(), Fault>
     requires main { IsProfileMain main.now }
     requires tiles { length tiles.old ≡ tile_count main.now.siz }
@@ -167,7 +167,7 @@ fn headers(alloc: Global, bytes: &[u8]) -> Result<Codestream, Fault>
     ensures { Answers (λ c. c) result (headers_at bytes.now) }
 {
     let ((main, at), codings) = main_fields(bytes)?;
-    let mut tiles = Table::new(alloc, tile_count(&main.siz), copy(&main.cod), codings)?;
+    let mut tiles = TileTable::new(alloc, tile_count(&main.siz), copy(&main.cod), codings)?;
     read_tiles(alloc, bytes, &main, at, &mut tiles)?;
     Ok(Codestream::new(main.siz, tiles))
 }

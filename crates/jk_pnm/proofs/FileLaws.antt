@@ -8,7 +8,7 @@ use Rattle.jk_math.specs.Steps.{bind_then, refuse_then, chosen, guard_ended, ok_
 use Rattle.jk_math.specs.Picture.{Picture}
 use Rattle.jk_math.specs.declared.fault.Fault.TheVariants.{BadPnm}
 use Rattle.jk_pnm.specs.declared.header.Header.{Header}
-use Rattle.jk_pnm.specs.Pnm.{is_space, Piece, gap_text, IsGap, number_of, IsNumber, Text, magic_text, pnm_text, IsText, components_of, sample_size, planes_from, ShowsPicture, IsPnm}
+use Rattle.jk_pnm.specs.Pnm.{is_space, Separator, gap_text, IsGap, number_of, IsNumber, Text, magic_text, pnm_text, IsText, components_of, sample_size, planes_from, ShowsPicture, IsPnm}
 use Rattle.jk_pnm.specs.Reading.{magic_at, gap_at, field_at, depth_at, header_at, raster_size, samples_of, picture_of, are_below, picture_at, pnm_at}
 use Rattle.jk_pnm.proofs.GapLaws.{gap_found, gap_again, gap_begins, Begins, space_is_no_digit, digit_is_no_space}
 use Rattle.jk_pnm.proofs.NumberLaws.{or_parts, number_found, number_again, number_begins, depth_found, depth_again}
@@ -45,7 +45,7 @@ magic_dropped true rest = refl
 
 -- a gap, a number and the rest
 record FieldTold (bytes : List ℕ) (x : ℕ × List ℕ) : Type 0 where
-  gap : List Piece
+  gap : List Separator
   digits : List ℕ
   text : bytes ≡ gap_text gap ++ (digits ++ x.1)
   is_gap : IsGap gap
@@ -61,7 +61,7 @@ field_found bytes x e =
     record { gap = g.pieces; digits = n.digits; text = g.text ∙ ap (λ (ys : List ℕ). gap_text g.pieces ++ ys) n.text; is_gap = g.gap; number = n.number; value = n.value }
     )
 
-field_again : (gap : List Piece) (ds : List ℕ) (c : ℕ) (rest : List ℕ) → IsGap gap → IsNumber ds → is_ascii_digit c ≡ false → number_of ds ≤ 2 ^ 28 → field_at (gap_text gap ++ (ds ++ (c ∷ rest))) ≡ Ok (number_of ds, c ∷ rest)
+field_again : (gap : List Separator) (ds : List ℕ) (c : ℕ) (rest : List ℕ) → IsGap gap → IsNumber ds → is_ascii_digit c ≡ false → number_of ds ≤ 2 ^ 28 → field_at (gap_text gap ++ (ds ++ (c ∷ rest))) ≡ Ok (number_of ds, c ∷ rest)
 unfolding field_at
 field_again gap ds c rest is-gap is other few =
     let begins = number_begins ds (c ∷ rest) is in
@@ -71,7 +71,7 @@ field_again gap ds c rest is-gap is other few =
     rw passed (number_again ds c rest is other few)
 
 -- a field that another follows
-field_then : (gap : List Piece) (ds rest : List ℕ) → IsGap gap → IsNumber ds → Begins rest → number_of ds ≤ 2 ^ 28 → field_at (gap_text gap ++ (ds ++ rest)) ≡ Ok (number_of ds, rest)
+field_then : (gap : List Separator) (ds rest : List ℕ) → IsGap gap → IsNumber ds → Begins rest → number_of ds ≤ 2 ^ 28 → field_at (gap_text gap ++ (ds ++ rest)) ≡ Ok (number_of ds, rest)
 field_then gap ds rest is-gap is begins few =
     subst (λ (ys : List ℕ). field_at (gap_text gap ++ (ds ++ ys)) ≡ Ok (number_of ds, ys)) (sym begins.text) (field_again gap ds begins.first begins.others is-gap is begins.no_digit few)
 

@@ -5,24 +5,24 @@ use Rattle.std.specs.Char.{is_ascii_digit}
 use Rattle.std.proofs.lemmas.Bool.{eqb-true, eqb-false, ne_eqb, or_cases, cases_Bool, and_left, and_parts, leb-true, lt-leb}
 use Rattle.jk_math.specs.Steps.{bind_then, refuse_then, ok_is}
 use Rattle.jk_math.specs.declared.fault.Fault.TheVariants.{BadPnm}
-use Rattle.jk_pnm.specs.Pnm.{is_space, is_line_end, Piece, Space, Comment, IsPiece, gap_text, IsGap}
+use Rattle.jk_pnm.specs.Pnm.{is_space, is_line_end, Separator, Space, Comment, IsSeparator, gap_text, IsGap}
 use Rattle.jk_pnm.specs.Reading.{after_gap, gap_at}
 
 -- the bytes are pieces and the rest
 pub record Outside (bytes rest : List ℕ) : Type 0 where
-  pub pieces : List Piece
+  pub pieces : List Separator
   pub text : bytes ≡ gap_text pieces ++ rest
-  pub each : AllByRecursion IsPiece pieces
+  pub each : AllByRecursion IsSeparator pieces
 
 -- the bytes are the end of a comment, pieces and the rest
 record Inside (bytes rest : List ℕ) : Type 0 where
   comment : List ℕ
   end : ℕ
-  pieces : List Piece
+  pieces : List Separator
   text : bytes ≡ comment ++ (end ∷ (gap_text pieces ++ rest))
   plain : AllByRecursion (λ c. is_line_end c ≡ false) comment
   ends : is_line_end end ≡ true
-  each : AllByRecursion IsPiece pieces
+  each : AllByRecursion IsSeparator pieces
 
 abbrev Told : Bool → List ℕ → List ℕ → Type 0
 Told true bytes rest = Inside bytes rest
@@ -61,13 +61,13 @@ gap_told [] false rest e = absurd cc
 gap_told (c ∷ cs) true rest e = inside_step (is_line_end c) c cs rest refl e (λ k f. gap_told cs k rest f)
 gap_told (c ∷ cs) false rest e = outside_step (eqb c 35) (is_space c) c cs rest refl refl e (λ k f. gap_told cs k rest f)
 
-some_pieces : (pieces : List Piece) (bytes rest : List ℕ) → bytes ≡ gap_text pieces ++ rest → eqb (length rest) (length bytes) ≡ false → 0 < length pieces
+some_pieces : (pieces : List Separator) (bytes rest : List ℕ) → bytes ≡ gap_text pieces ++ rest → eqb (length rest) (length bytes) ≡ false → 0 < length pieces
 some_pieces [] bytes rest text other = absurd (eqb-false _ _ other (ap (λ (x : List ℕ). length x) (sym text)))
 some_pieces (p ∷ ps) bytes rest text other = omega arith
 
 -- a gap and the rest
 pub record GapTold (bytes rest : List ℕ) : Type 0 where
-  pub pieces : List Piece
+  pub pieces : List Separator
   pub text : bytes ≡ gap_text pieces ++ rest
   pub gap : IsGap pieces
 
@@ -133,7 +133,7 @@ comment_again (c ∷ comment) end rest plain ends =
 no_hash : (c : ℕ) → is_space c ≡ true → eqb c 35 ≡ false
 no_hash c space = ne_eqb c 35 (is_one_of c space).1
 
-after_again : (pieces : List Piece) (c : ℕ) (rest : List ℕ) → AllByRecursion IsPiece pieces → eqb c 35 ≡ false → is_space c ≡ false → after_gap false (gap_text pieces ++ (c ∷ rest)) ≡ Ok (c ∷ rest)
+after_again : (pieces : List Separator) (c : ℕ) (rest : List ℕ) → AllByRecursion IsSeparator pieces → eqb c 35 ≡ false → is_space c ≡ false → after_gap false (gap_text pieces ++ (c ∷ rest)) ≡ Ok (c ∷ rest)
 after_again [] c rest each no-hash no-space = step c rest ∙ rw (no-hash, no-space) refl
 after_again (Space s ∷ ps) c rest each no-hash no-space =
     let more = gap_text ps ++ (c ∷ rest) in
@@ -144,12 +144,12 @@ after_again (Comment comment end ∷ ps) c rest each no-hash no-space =
     let more = gap_text ps ++ (c ∷ rest) in
     step 35 (((comment ++ (end ∷ [])) ++ gap_text ps) ++ (c ∷ rest)) ∙ ap (after_gap true) (sym (comment_text comment end (gap_text ps) (c ∷ rest))) ∙ comment_again comment end more each.0.0 each.0.1 ∙ after_again ps c rest each.1 no-hash no-space
 
-some_bytes : (pieces : List Piece) → 0 < length pieces → 0 < length (gap_text pieces)
+some_bytes : (pieces : List Separator) → 0 < length pieces → 0 < length (gap_text pieces)
 some_bytes [] some = absurd (omega arith)
 some_bytes (Space s ∷ ps) some = omega arith
 some_bytes (Comment comment end ∷ ps) some = omega arith
 
-pub gap_again : (pieces : List Piece) (c : ℕ) (rest : List ℕ) → IsGap pieces → eqb c 35 ≡ false → is_space c ≡ false → gap_at (gap_text pieces ++ (c ∷ rest)) ≡ Ok (c ∷ rest)
+pub gap_again : (pieces : List Separator) (c : ℕ) (rest : List ℕ) → IsGap pieces → eqb c 35 ≡ false → is_space c ≡ false → gap_at (gap_text pieces ++ (c ∷ rest)) ≡ Ok (c ∷ rest)
 unfolding gap_at
 gap_again pieces c rest is no-hash no-space =
     let bytes = gap_text pieces ++ (c ∷ rest) in
@@ -165,7 +165,7 @@ pub record Begins (bytes : List ℕ) : Type 0 where
   pub text : bytes ≡ first ∷ others
   pub no_digit : is_ascii_digit first ≡ false
 
-pub gap_begins : (pieces : List Piece) (rest : List ℕ) → IsGap pieces → Begins (gap_text pieces ++ rest)
+pub gap_begins : (pieces : List Separator) (rest : List ℕ) → IsGap pieces → Begins (gap_text pieces ++ rest)
 gap_begins [] rest is = absurd (omega (arith, is.some))
 gap_begins (Space s ∷ ps) rest is = record { first = s; others = gap_text ps ++ rest; text = refl; no_digit = space_is_no_digit s is.each.0 }
 gap_begins (Comment comment end ∷ ps) rest is = record { first = 35; others = ((comment ++ (end ∷ [])) ++ gap_text ps) ++ rest; text = refl; no_digit = refl }

@@ -14,7 +14,7 @@ use Rattle.jk_math.specs.Steps.{ok_is}
 use Rattle.jk_pnm.specs.Written.{is_written, maxval_of, header_text, raster_part, raster_text, file_text, written}
 use Rattle.jk_pnm.specs.declared.rasters.RasterFrame.{RasterFrame}
 use Rattle.jk_pnm.specs.Rasters.{pieces_text, AreRastersOf}
-use Rattle.jk_pnm.specs.Sending.{IsSent, IsLeft}
+use Rattle.jk_pnm.specs.Sending.{IsSent, IsLeftBySending}
 use Rattle.jk_pnm.proofs.RasterLaws.{raster_joined}
 
 -- this was written between two states of a writer
@@ -77,13 +77,13 @@ raster_sent m planes from to a b c before first second =
     (both.0, both.1, both.2 ∙ sym (raster_joined m planes from to before))
 
 -- what was written of a picture's file
-pub left_of : (a b : Option (List ℕ)) (p : Picture) (r : Result ⊤ Fault) → is_written p ≡ true → Wrote a b (λ part. IsSent (file_text p) part r) → Wrote a b (λ part. IsLeft (written p) part r)
+pub left_of : (a b : Option (List ℕ)) (p : Picture) (r : Result ⊤ Fault) → is_written p ≡ true → Wrote a b (λ part. IsSent (file_text p) part r) → Wrote a b (λ part. IsLeftBySending (written p) part r)
 unfolding written
 left_of a b p (Ok done) is sent = (sent.0, sent.1, rw is (ap Ok (sym sent.2)))
 left_of a b p (Err e) is sent = (sent.0, sent.1, inr (inr (sent.2.0, file_text p, rw is refl, sent.2.1)))
 
 -- nothing is written of a picture that has no file
-pub left_none : (a : Option (List ℕ)) (p : Picture) → is_written p ≡ false → Wrote a a (λ part. IsLeft (written p) part (Err Unsupported))
+pub left_none : (a : Option (List ℕ)) (p : Picture) → is_written p ≡ false → Wrote a a (λ part. IsLeftBySending (written p) part (Err Unsupported))
 unfolding written
 left_none a p not_is = ([], appends_none a, inr (inl (rw not_is refl, refl)))
 

@@ -16,25 +16,25 @@ is_line_end c = (c == 10) || (c == 13)
 
 -- What may stand between two fields: a whitespace byte; or a comment, which is `#`, a text, and the
 -- LF or CR that ends it.
-pub data Piece : Type 0 where
-  Space : ℕ → Piece
-  Comment : List ℕ → ℕ → Piece
+pub data Separator : Type 0 where
+  Space : ℕ → Separator
+  Comment : List ℕ → ℕ → Separator
 
-abbrev pub piece_text : Piece → List ℕ
+abbrev pub piece_text : Separator → List ℕ
 piece_text (Space c) = c ∷ []
 piece_text (Comment text end) = 35 ∷ (text ++ (end ∷ []))
 
-abbrev pub IsPiece : Piece → Type 0
-IsPiece (Space c) = is_space c ≡ true
-IsPiece (Comment text end) = AllByRecursion (λ c. is_line_end c ≡ false) text × (is_line_end end ≡ true)
+abbrev pub IsSeparator : Separator → Type 0
+IsSeparator (Space c) = is_space c ≡ true
+IsSeparator (Comment text end) = AllByRecursion (λ c. is_line_end c ≡ false) text × (is_line_end end ≡ true)
 
-abbrev pub gap_text : List Piece → List ℕ
+abbrev pub gap_text : List Separator → List ℕ
 gap_text pieces = flat_map piece_text pieces
 
 -- one piece or more
-pub record IsGap (pieces : List Piece) : Type 0 where
+pub record IsGap (pieces : List Separator) : Type 0 where
   pub some : 0 < length pieces
-  pub each : AllByRecursion IsPiece pieces
+  pub each : AllByRecursion IsSeparator pieces
 
 -- what decimal digits say
 unfoldable pub number_of : List ℕ → ℕ
@@ -50,11 +50,11 @@ pub record IsNumber (digits : List ℕ) : Type 0 where
 -- byte; the raster
 pub record Text : Type 0 where
   pub colour : Bool
-  pub before_width : List Piece
+  pub before_width : List Separator
   pub width : List ℕ
-  pub before_height : List Piece
+  pub before_height : List Separator
   pub height : List ℕ
-  pub before_maxval : List Piece
+  pub before_maxval : List Separator
   pub maxval : List ℕ
   pub space : ℕ
   pub raster : List ℕ

@@ -13,9 +13,9 @@ IsSent text part (Err e) = (IsMemory e ⊎ (e ≡ Shelf)) × IsFront part text
 -- What was written of the file that is given: the whole file where it wasn't refused. Else nothing,
 -- where memory was refused or no file is given; or a beginning of the file, where memory was
 -- refused or a write failed.
-abbrev pub IsLeft : Result (List ℕ) Fault → List ℕ → Result ⊤ Fault → Type 0
-IsLeft given part (Ok done) = given ≡ Ok part
-IsLeft given part (Err e) =
+abbrev pub IsLeftBySending : Result (List ℕ) Fault → List ℕ → Result ⊤ Fault → Type 0
+IsLeftBySending given part (Ok done) = given ≡ Ok part
+IsLeftBySending given part (Err e) =
     (IsMemory e × (part ≡ []))
     ⊎ ((given ≡ Err e) × (part ≡ []))
     ⊎ ((IsMemory e ⊎ (e ≡ Shelf)) × (file : List ℕ) × (given ≡ Ok file) × IsFront part file)

@@ -4,7 +4,7 @@ ghost use Rattle.std.specs.Prelude.{◌≡◌, ◌*◌, ◌-◌, ◌≤◌, ℕ,
 ghost use Rattle.std.specs.Io.KnownBytes.{Appends};
 ghost use Rattle.jk_math.specs.Picture.{IsPicture};
 ghost use Rattle.jk_pnm.specs.Pnm.{IsPnm};
-ghost use Rattle.jk_pnm.specs.Sending.{IsSent, IsLeft};
+ghost use Rattle.jk_pnm.specs.Sending.{IsSent, IsLeftBySending};
 ghost use Rattle.jk_pnm.specs.Written.{is_written, maxval_of, raster_part, raster_text, file_text, written};
 
 use crate::writing::{head_of, is_written, pixels_and_maxval, put_raster};
@@ -120,7 +120,7 @@ fn send_file<W: Write>(alloc: Global, image: &Image, writer: &mut W) -> Result<(
 pub fn write_into<W: Write>(alloc: Global, image: &Image, writer: &mut W) -> Result<(), Fault>
     // What was written, however it ended.
     ensures exact { (part : List ℕ) × Appends (W.contents writer.old) (W.contents writer.new) part
-        × IsLeft (written image.now) part result }
+        × IsLeftBySending (written image.now) part result }
     // A whole file is one of the image, placed at (0, 0).
     ensures means { OnOk result ((file : List ℕ) → written image.now ≡ Ok file
         → IsPnm file (record image.now { x0 = 0; y0 = 0 })) }

@@ -6,7 +6,7 @@ ghost use Rattle.jk_math.specs.Memory.{IsMemory};
 ghost use Rattle.jk_math.specs.Picture.{Picture, IsPicture, is_grey_or_rgb};
 ghost use Rattle.jk_pnm.specs.Pnm.{IsPnm};
 ghost use Rattle.jk_pnm.specs.Rasters.{AreRastersOf, pieces_text};
-ghost use Rattle.jk_pnm.specs.Sending.{IsSent, IsLeft};
+ghost use Rattle.jk_pnm.specs.Sending.{IsSent, IsLeftBySending};
 ghost use Rattle.jk_pnm.specs.Written.{is_written, maxval_of, raster_text, written, header_text};
 
 use crate::pieces::send;
@@ -125,7 +125,7 @@ pub fn write_rasters_into<W: Write>(
     // What was written, however it ended.
     ensures exact { (p : Picture) → AreRastersOf frame.now pieces.now p
         → (part : List ℕ) × Appends (W.contents writer.old) (W.contents writer.new) part
-        × IsLeft (written p) part result }
+        × IsLeftBySending (written p) part result }
     // A whole file is one of the image, placed at (0, 0).
     ensures means { (p : Picture) → IsPicture p → AreRastersOf frame.now pieces.now p
         → OnOk result ((file : List ℕ) → written p ≡ Ok file → IsPnm file (record p { x0 = 0; y0 = 0 })) }

@@ -65,7 +65,7 @@ where
     };
     let wait = serving.timeout.saturating_mul(1000);
     let arriving = Arriving::new(rt.clone()?, alloc, port, connections(serving), wait, log);
-    let all = jk_serve::serve(rt, alloc, desk, shelves, &arriving, started.as_str())?;
+    let all = jk_serve::serve_port(rt, alloc, desk, shelves, &arriving, started.as_str())?;
     let ended = served(alloc, all.connections)?;
     let _ = rt.eprint(ended.as_str());
     Ok(())

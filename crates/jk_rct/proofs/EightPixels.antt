@@ -2,7 +2,7 @@
 use Rattle.std.proofs.Common.{ℕ, ℤ, List, ◌+◌, ◌^◌, ◌<◌, ◌≤◌, length, ◌+ℤ◌, arith}
 use Rattle.jk_math.specs.Division.{floor_of}
 use Rattle.jk_math.specs.Signed.{IsBelow, signed_at}
-use Rattle.jk_lanes.proofs.Laws.{HasLanes, loaded, sums, differences, shifted, HasLanes-load, HasLanes-add, HasLanes-sub, HasLanes-quarter}
+use Rattle.jk_math.proofs.Laws.{HasLanes, loaded, sums, differences, shifted, HasLanes-load, HasLanes-add, HasLanes-sub, HasLanes-quarter}
 use Rattle.jk_rct.specs.Colour.{y0_of, y1_of, y2_of, i0_of, i1_of, i2_of}
 
 module _ (a b c : List ℤ) (i : ℕ) (room_a : i + 8 ≤ length a) (room_b : i + 8 ≤ length b) (room_c : i + 8 ≤ length c) (small_a : (j : ℕ) → j < 8 → IsBelow (2 ^ 29) (signed_at a (i + j)))

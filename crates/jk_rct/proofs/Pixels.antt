@@ -9,7 +9,7 @@ use Rattle.std.proofs.lemmas.Bool.{cases_lt}
 use Rattle.jk_math.specs.Division.{floor_of}
 use Rattle.jk_math.specs.Signed.{IsBelow, signed_at}
 use Rattle.jk_math.proofs.Laws.{fourfold, quarter_high, quarter_low}
-use Rattle.jk_lanes.specs.Eights.{HasEight}
+use Rattle.jk_math.specs.Eights.{HasEight}
 use Rattle.jk_rct.specs.Colour.{y0_of, y1_of, y2_of, i1_of, UndoesColour, UndoesInverse, KeepsRange, InverseBounds}
 
 -- a quarter less four times g is g less, and so for the quarter of a sum

@@ -6,7 +6,7 @@ ghost use Rattle.jk_math.specs.Division.{floor_of};
 ghost use Rattle.jk_math.specs.Signed.{IsBelow, signed_at};
 ghost use Rattle.jk_rct.specs.Colour.{y0_of, y1_of, y2_of, i0_of, i1_of, i2_of, UndoesColour, UndoesInverse};
 ghost use Rattle.jk_rct.specs.Colour.{KeepsRange, InverseBounds};
-ghost use Rattle.jk_lanes.specs.Eights.{HasEight};
+ghost use Rattle.jk_math.specs.Eights.{HasEight};
 
 use std::simd::prelude::*;
 

@@ -8,7 +8,7 @@ use Rattle.jk_scan.specs.Contexts.{zero_context_of, contribution_of, sign_contex
 use Rattle.jk_scan.specs.Neighbours.{touched, zero_at, sign_at, seen_from, touched_in, zero_in, sign_in}
 use Rattle.jk_scan.specs.Moments.{number, visits, found, spread, pass_of, moment, significant}
 use Rattle.jk_scan.specs.Moments.{propagation, refinement, cleanup}
-use Rattle.jk_scan.specs.Passes.{Plane, joined, flipped, new_decisions, refining_decision, place_decisions, runs}
+use Rattle.jk_scan.specs.Passes.{BlockAtPlane, joined, flipped, new_decisions, refining_decision, place_decisions, in_run_mode}
 use Rattle.jk_scan.specs.Passes.{first_one, run_decisions, column_decisions, plane_decisions}
 
 -- Table D.1: one neighbour across and one down in LL, in HL, where they change places, and in HH
@@ -53,7 +53,7 @@ shape = record { width = 1; height = 4; orientation = LH; style = plain_style }
 
 -- The magnitudes 1, 5, 1, 0, all positive, without the b lowest bit-planes (the second code-block of
 -- the image of T.800 J.10).
-abbrev column : ℕ → Plane
+abbrev column : ℕ → BlockAtPlane
 column b = record {
   magnitude = λ x y. get_or (1 ∷ 5 ∷ 1 ∷ 0 ∷ []) y 0 / 2 ^ b;
   negative = λ x y. false;
@@ -63,7 +63,7 @@ column b = record {
 highest : plane_decisions shape (column 2) cleanup
     ≡ (17, true) ∷ (18, false) ∷ (18, true) ∷ (9, false) ∷ (3, false) ∷ (0, false) ∷ []
 unfolding zero_context_of contribution_of sign_context_of refine_context_of touched zero_at sign_at seen_from touched_in
-    zero_in sign_in number visits found spread pass_of moment significant joined flipped new_decisions refining_decision place_decisions runs first_one
+    zero_in sign_in number visits found spread pass_of moment significant joined flipped new_decisions refining_decision place_decisions in_run_mode first_one
     run_decisions column_decisions plane_decisions
 highest = refl
 
@@ -71,12 +71,12 @@ highest = refl
 lowest : plane_decisions shape (column 0) propagation
     ≡ (3, true) ∷ (10, false) ∷ (3, true) ∷ (10, false) ∷ (3, false) ∷ []
 unfolding zero_context_of contribution_of sign_context_of refine_context_of touched zero_at sign_at seen_from touched_in
-    zero_in sign_in number visits found spread pass_of moment significant joined flipped new_decisions refining_decision place_decisions runs first_one
+    zero_in sign_in number visits found spread pass_of moment significant joined flipped new_decisions refining_decision place_decisions in_run_mode first_one
     run_decisions column_decisions plane_decisions
 lowest = refl
 
 lowest_refined : plane_decisions shape (column 0) refinement ≡ (16, true) ∷ []
 unfolding zero_context_of contribution_of sign_context_of refine_context_of touched zero_at sign_at seen_from touched_in
-    zero_in sign_in number visits found spread pass_of moment significant joined flipped new_decisions refining_decision place_decisions runs first_one
+    zero_in sign_in number visits found spread pass_of moment significant joined flipped new_decisions refining_decision place_decisions in_run_mode first_one
     run_decisions column_decisions plane_decisions
 lowest_refined = refl

@@ -14,4 +14,4 @@ pub use jk_store::{added_text, refused_text};
 pub use operating::operate;
 pub use operator_line::{Adding, adding_of};
 pub use paths::Paths;
-pub use serving::{Served, serve};
+pub use serving::{Served, serve_port};

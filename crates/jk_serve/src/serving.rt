@@ -113,7 +113,7 @@ fn entries<S: Shelf, K, P>(
 /// meanwhile (`operate`). A text is written to standard error when it begins.
 ///
 /// BadParameters: other than 1 to 64 shelves. WorkerFailed: a worker can't have its place.
-pub fn serve<R, S: Shelf, K: Keeper<S>, P: Shelf, F: Shelf + Drop + Send>(
+pub fn serve_port<R, S: Shelf, K: Keeper<S>, P: Shelf, F: Shelf + Drop + Send>(
     rt: &R,
     alloc: Global,
     desk: &mut Desk<S, K, P>,

@@ -9,7 +9,7 @@ use Rattle.std.specs.String.{string_bytes}
 use Rattle.std.proofs.lemmas.Bool.{cases_Bool}
 use Rattle.jk_store.specs.declared.entry.Entry.{Entry}
 use Rattle.jk_store.specs.Names.{is_good_name, file_name, temporary_name}
-use Rattle.jk_store.specs.Adding.{IsLeft}
+use Rattle.jk_store.specs.Adding.{IsLeftByAdd}
 use Rattle.jk_store.specs.Catalogue.{is_listed, are_named, most_entries}
 use Rattle.jk_store.specs.Files.{Files, with_file, without}
 
@@ -49,19 +49,19 @@ apart : {A : Type 0} (b : Bool) (u v : A) → b ≡ false → cond b u v ≡ v
 apart b u v other = ap (λ x. cond x u v) other
 
 pub left_as_before : {S : Type 0} (keeps : S → Files → Type 0) (s : S) (t own : List ℕ) (made : Result (List ℕ) Fault) (e : Fault) (files : Files) → keeps s files
-    → (left : Files) × keeps s left × IsLeft t own made e files left
+    → (left : Files) × keeps s left × IsLeftByAdd t own made e files left
 left_as_before keeps s t own made e files kept = (files, kept, record { others = λ n a b. refl; here = inl refl })
 
 -- where the temporary file couldn't be written
 pub left_unwritten : {S : Type 0} (keeps : S → Files → Type 0) (s : S) (t own : List ℕ) (made : Result (List ℕ) Fault) (e : Fault) (files : Files) → bytes_eq t own ≡ false → keeps s (without t files)
-    → (left : Files) × keeps s left × IsLeft t own made e files left
+    → (left : Files) × keeps s left × IsLeftByAdd t own made e files left
 left_unwritten keeps s t own made e files other kept =
     (without t files, kept, record { others = λ n a b. apart (bytes_eq t n) None (files n) a; here = inl (apart (bytes_eq t own) None (files own) other) })
 
 -- where it couldn't get its own name
 pub left_unrenamed : {S : Type 0} (keeps : S → Files → Type 0) (s : S) (t own bytes : List ℕ) (e : Fault) (files : Files) → bytes_eq t own ≡ false
     → keeps s (with_file t bytes files) ⊎ ((e ≡ Shelf) × keeps s (with_file own bytes (without t (with_file t bytes files))))
-    → (left : Files) × keeps s left × IsLeft t own (Ok bytes) e files left
+    → (left : Files) × keeps s left × IsLeftByAdd t own (Ok bytes) e files left
 left_unrenamed keeps s t own bytes e files other (inl kept) =
     (with_file t bytes files, kept, record { others = λ n a b. apart (bytes_eq t n) (Some bytes) (files n) a; here = inl (apart (bytes_eq t own) (Some bytes) (files own) other) })
 left_unrenamed keeps s t own bytes e files other (inr done) =
@@ -81,12 +81,12 @@ if_err (Err e) P Q f h = f e h
 pub stored_left : {S : Type 0} (keeps : S → Files → Type 0) (mid new : S) (r : Result (Unit {0}) Fault) (temp1 temp2 file1 bytes1 temp file bytes : List ℕ)
     → temp1 ≡ temp → temp2 ≡ temp → file1 ≡ file → bytes1 ≡ bytes → bytes_eq temp file ≡ false → (files : Files) → keeps mid (with_file temp1 bytes1 files)
     → ((fs : Files) (b : List ℕ) → keeps mid fs → fs temp2 ≡ Some b → IfErr r (λ e. keeps new fs ⊎ ((e ≡ Shelf) × keeps new (with_file file1 b (without temp2 fs)))))
-    → IfErr r (λ e. (left : Files) × keeps new left × IsLeft temp file (Ok bytes) e files left)
+    → IfErr r (λ e. (left : Files) × keeps new left × IsLeftByAdd temp file (Ok bytes) e files left)
 stored_left keeps mid new r temp1 temp2 file1 bytes1 temp file bytes e1 e2 e3 e4 other files k whole =
     let kept = subst (λ t. keeps mid (with_file t bytes files)) e1 (subst (λ b. keeps mid (with_file temp1 b files)) e4 k) in
     let renamed = subst (λ q. (fs : Files) (b : List ℕ) → keeps mid fs → fs temp ≡ Some b → IfErr r (λ e. keeps new fs ⊎ ((e ≡ Shelf) × keeps new (with_file q b (without temp fs))))) e3
     (subst (λ t. (fs : Files) (b : List ℕ) → keeps mid fs → fs t ≡ Some b → IfErr r (λ e. keeps new fs ⊎ ((e ≡ Shelf) × keeps new (with_file file1 b (without t fs))))) e2 whole) in
-    if_err r _ (λ e. (left : Files) × keeps new left × IsLeft temp file (Ok bytes) e files left) (λ e h. left_unrenamed keeps new temp file bytes e files other h)
+    if_err r _ (λ e. (left : Files) × keeps new left × IsLeftByAdd temp file (Ok bytes) e files left) (λ e h. left_unrenamed keeps new temp file bytes e files other h)
     (renamed (with_file temp bytes files) bytes kept (at_front temp bytes files))
 
 -- a temporary name is that of no image's file

@@ -6,7 +6,7 @@ use Rattle.jk_math.specs.declared.fault.Fault.TheVariants.{Shelf}
 use Rattle.jk_math.specs.Steps.{ok_is}
 use Rattle.jk_catalogue.specs.Images.{Image}
 use Rattle.jk_store.specs.Files.{Files, with_file, without}
-use Rattle.jk_store.specs.Adding.{IsLeft}
+use Rattle.jk_store.specs.Adding.{IsLeftByAdd}
 use Rattle.jk_store.specs.Catalogue.{StandsFor, stored, Passes}
 use Rattle.jk_store.specs.declared.entry.Entry.{Entry}
 
@@ -27,8 +27,8 @@ module _ (due : Result (List ℕ) Fault) (file : List ℕ) (is : due ≡ Ok file
   image_due name Q (Err e) h = tt
 
   pub left_due : {A S : Type 0} (keeps : S → Files → Type 0) (new : S) (own temporary : List ℕ) (files : Files) (r : Result A Fault)
-      → IfErr r (λ e. (left : Files) × keeps new left × IsLeft temporary own (Ok file) e files left) → IfErr r (λ e. (left : Files) × keeps new left × IsLeft temporary own due e files left)
-  left_due keeps new own temporary files r left = subst (λ d. IfErr r (λ e. (left : Files) × keeps new left × IsLeft temporary own d e files left)) (sym is) left
+      → IfErr r (λ e. (left : Files) × keeps new left × IsLeftByAdd temporary own (Ok file) e files left) → IfErr r (λ e. (left : Files) × keeps new left × IsLeftByAdd temporary own due e files left)
+  left_due keeps new own temporary files r left = subst (λ d. IfErr r (λ e. (left : Files) × keeps new left × IsLeftByAdd temporary own d e files left)) (sym is) left
 
   pub cause_due : {A : Type 0} (J : Fault → Type 0) (U : Type 0) (r : Result A Fault) → IfErr r (λ e. IsMemory e ⊎ ((e ≡ Shelf) × U))
       → IfErr r (λ e. IsMemory e ⊎ (J e ⊎ ((due ≡ Err e) ⊎ ((e ≡ Shelf) × ((f : List ℕ) × (due ≡ Ok f)) × U))))

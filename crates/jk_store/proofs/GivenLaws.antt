@@ -7,7 +7,7 @@ use Rattle.jk_math.specs.declared.fault.Fault.TheVariants.{Changed}
 use Rattle.jk_math.specs.Memory.{IsMemory}
 use Rattle.jk_store.specs.Files.{Files}
 use Rattle.jk_store.specs.Counting.{last_count}
-use Rattle.jk_store.specs.Parts.{part_size, part, part_length, part_count, part_digests}
+use Rattle.jk_store.specs.Parts.{part_size, file_part, part_length, part_count, part_digests}
 use Rattle.jk_store.specs.PartsGiven.{file_of, size_of, GivenPart, IsPartOfFile, HasParts, ArePartsOf, GavePart, ReadsParts, IsOtherPart, PartsRead, PartsRefused}
 use Rattle.jk_store.specs.declared.entry.Entry.{Entry}
 use Rattle.jk_store.proofs.PartsLaws.{part_is_long, asked_part, digest_is}
@@ -121,7 +121,7 @@ module _ {S : Type 0} (keeps : S → Files → Type 0) (gave_at : S → List ℕ
       counts = asked.counts;
     }
 
-    passes_as : (b f : List ℕ) → i < part_count (size_of e) → b ≡ part i f → length f ≡ size_of e → e.parts.items ≡ part_digests f → IsPartOfFile e i b
+    passes_as : (b f : List ℕ) → i < part_count (size_of e) → b ≡ file_part i f → length f ≡ size_of e → e.parts.items ≡ part_digests f → IsPartOfFile e i b
     passes_as b f there same long digests = (
       ap (λ (l : List ℕ). length l) same ∙ part_is_long i f ∙ ap (λ n. part_length n i) long,
       ap (λ (ds : List (List ℕ)). slice_get ds i) digests

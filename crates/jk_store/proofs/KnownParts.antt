@@ -11,18 +11,18 @@ use Rattle.jk_math.specs.declared.fault.Fault.{Fault}
 use Rattle.jk_window.specs.declared.view.View.{View}
 use Rattle.jk_window.specs.Indexing.{IsIndexOf}
 use Rattle.jk_window.specs.Cutting.{cut_file}
-use Rattle.jk_store.specs.Parts.{part, part_count, part_digests}
+use Rattle.jk_store.specs.Parts.{file_part, part_count, part_digests}
 use Rattle.jk_store.specs.PartsGiven.{GivenPart, HasParts, IsPartOfFile, ReadsParts, IsCutOfParts, AreKnownByDigest}
 use Rattle.jk_store.specs.declared.entry.Entry.{Entry}
 use Rattle.jk_store.proofs.PartsLaws.{digest_is}
 
 -- a part that passes has the digest of the file's
-same_digest : (e : Entry) (file : List ℕ) (i : ℕ) (b : List ℕ) → e.parts.items ≡ part_digests file → IsPartOfFile e i b → sha256 b ≡ sha256 (part i file)
+same_digest : (e : Entry) (file : List ℕ) (i : ℕ) (b : List ℕ) → e.parts.items ≡ part_digests file → IsPartOfFile e i b → sha256 b ≡ sha256 (file_part i file)
 same_digest e file i b parts passes =
     let there : slice_get (part_digests file) i ≡ Some (sha256 b) = ap (λ (ds : List (List ℕ)). slice_get ds i) (sym parts) ∙ passes.1 in
     let within : i < part_count (length file) =
-    subst (λ n. i < n) (length-map-range_with_len (λ j. sha256 (part j file)) 0 (part_count (length file))) (slice_get_within (part_digests file) i (sha256 b) there) in
-    let both : Some (sha256 b) ≡ Some (sha256 (part i file)) = sym there ∙ digest_is i file within in
+    subst (λ n. i < n) (length-map-range_with_len (λ j. sha256 (file_part j file)) 0 (part_count (length file))) (slice_get_within (part_digests file) i (sha256 b) there) in
+    let both : Some (sha256 b) ≡ Some (sha256 (file_part i file)) = sym there ∙ digest_is i file within in
     cc
 
 known : {S : Type 0} (gave_at : S → List ℕ → ℕ → ℕ → List ℕ → S → Type 0) (e : Entry) (file : List ℕ) (old new : S) (given : List GivenPart) → e.parts.items ≡ part_digests file → ReadsParts gave_at e old given new → AreKnownByDigest file given

@@ -22,14 +22,14 @@ use Rattle.jk_store.specs.declared.skipped.Skipped.{Skipped}
 use Rattle.jk_store.specs.Files.{Files, with_file, AreIn, is_among}
 use Rattle.jk_store.specs.Names.{is_good_name, is_file_of, is_image, file_name}
 use Rattle.jk_store.specs.Catalogue.{StandsFor, StandIn, stored, image_at, is_listed, are_named, entry_of, most_entries}
-use Rattle.jk_store.specs.Opening.{IsSkippedOf, Gives, Opened, Enters, ReadsPast, ReadsUpTo, AreNamesIn}
+use Rattle.jk_store.specs.Opening.{IsSkippedOf, GivesFile, Opened, Enters, ReadsPast, ReadsUpTo, AreNamesIn}
 use Rattle.jk_store.proofs.AddLaws.{at_front, neither, differs}
 
 -- what a read gives, by the name
 pub gives : {S : Type 0} (keeps : S → Files → Type 0) (gave : S → List ℕ → List ℕ → S → Type 0) (old new : S) (m n bytes : List ℕ) → m ≡ n → gave old m bytes new
     → ((files : Files) (b : List ℕ) → keeps old files → files m ≡ Some b → bytes ≡ b) → ((files : Files) → keeps old files → keeps new files)
-    → ((files : Files) → keeps old files → keeps new (with_file m bytes files)) → Gives keeps gave old n bytes new
-gives keeps gave old new m n bytes is given same kept held = subst (λ x. Gives keeps gave old x bytes new) is (record { given = given; same = same; kept = kept; held = held })
+    → ((files : Files) → keeps old files → keeps new (with_file m bytes files)) → GivesFile keeps gave old n bytes new
+gives keeps gave old new m n bytes is given same kept held = subst (λ x. GivesFile keeps gave old x bytes new) is (record { given = given; same = same; kept = kept; held = held })
 
 -- ---- one file more
 
@@ -156,7 +156,7 @@ image_listed n (f ∷ files) good = rw (good, image_listed n files good) refl
 
 module _ {S : Type 0} (keeps : S → Files → Type 0) (gave : S → List ℕ → List ℕ → S → Type 0) (files : Files) (n b : List ℕ) (i : IndexFields) (there : files (file_name n) ≡ Some b) (image : image_at b ≡ Ok i) where
   pub found : (names : List (List ℕ)) (old : S) (entries : List Entry) (skipped : List Skipped) (new : S)
-      → Opened (Gives keeps gave) names old entries skipped new → keeps old files → is_among n names ≡ true → (e : Entry) × (entry_of entries n ≡ Some e) × StandsFor e (stored n b)
+      → Opened (GivesFile keeps gave) names old entries skipped new → keeps old files → is_among n names ≡ true → (e : Entry) × (entry_of entries n ≡ Some e) × StandsFor e (stored n b)
   found [] old entries skipped new h kept among = absurd (let clash : false ≡ true = among in cc)
   found (m ∷ names) old entries skipped new h kept among = elim (cases_Bool (bytes_eq n m)) [
     | inl here ↦
@@ -190,7 +190,7 @@ with_more files n b same m c is = elim (cases_Bool (bytes_eq n m)) [
 
 -- the shelf keeps a file for each entry
 pub opened_stands : {S : Type 0} (keeps : S → Files → Type 0) (gave : S → List ℕ → List ℕ → S → Type 0) (names : List (List ℕ)) (files : Files) (old : S) (entries : List Entry) (skipped : List Skipped) (new : S)
-    → Opened (Gives keeps gave) names old entries skipped new → keeps old files → (all : Files) × keeps new all × AreIn files all × StandIn all entries
+    → Opened (GivesFile keeps gave) names old entries skipped new → keeps old files → (all : Files) × keeps new all × AreIn files all × StandIn all entries
 opened_stands keeps gave [] files old entries skipped new h kept = (files, subst (λ s. keeps s files) (sym h.2) kept, λ n b is. is, subst (λ es. StandIn files es) (sym h.0) tt)
 opened_stands keeps gave (n ∷ names) files old entries skipped new h kept =
     let more = with_file (file_name n) h.0 files in

@@ -21,7 +21,7 @@ use Rattle.jk_store.specs.declared.opening.NamedFile.{NamedFile}
 use Rattle.jk_store.specs.declared.opening.Made.{Made}
 use Rattle.jk_store.specs.declared.opening_with.Few.{Few}
 use Rattle.jk_store.specs.Names.{file_name}
-use Rattle.jk_store.specs.Parts.{part, part_count, part_digests}
+use Rattle.jk_store.specs.Parts.{file_part, part_count, part_digests}
 use Rattle.jk_store.specs.Catalogue.{Stored, stored, image_at}
 use Rattle.jk_store.specs.Opening.{CanBeMade, Opened, Enters, ReadsPast, ReadsUpTo, stored_file}
 use Rattle.jk_store.specs.OpeningWith.{AreMade, ReadInTurn, MakePast, IsMadeOfFew, few_files, made_entries, file_digest}
@@ -39,7 +39,7 @@ indexed bytes i fits e =
 parts_of : (bytes : Vec ℕ) → (v : Vec (List ℕ)) × (v.items ≡ part_digests bytes.items)
 parts_of bytes =
     let n = part_count (length bytes.items) in
-    let long : n ≡ length (part_digests bytes.items) = sym (length-map-range_with_len (λ i. sha256 (part i bytes.items)) 0 n) in
+    let long : n ≡ length (part_digests bytes.items) = sym (length-map-range_with_len (λ i. sha256 (file_part i bytes.items)) 0 n) in
     let v : Vec (List ℕ) = record {
       ptr = bytes.ptr;
       len = n;

@@ -6,13 +6,13 @@ use Rattle.std.proofs.lemmas.List.FromFn.{length-map-range_with_len, get_or-map-
 use Rattle.std.proofs.lemmas.Option.{slice_get-get_or}
 use Rattle.sha2.specs.Sha256.{sha256}
 use Rattle.jk_walk.specs.TilePackets.{slice_of}
-use Rattle.jk_store.specs.Parts.{part_size, part, part_length, part_count, part_digests, first_digests}
+use Rattle.jk_store.specs.Parts.{part_size, file_part, part_length, part_count, part_digests, first_digests}
 
-pub part_is_long : (i : ℕ) (file : List ℕ) → length (part i file) ≡ part_length (length file) i
+pub part_is_long : (i : ℕ) (file : List ℕ) → length (file_part i file) ≡ part_length (length file) i
 part_is_long i file = length-take part_size (drop (i * part_size) file) ∙ ap (min part_size) (length-drop (i * part_size) file)
 
 -- what is asked for where part i is
-pub asked_part : (size i : ℕ) (file : List ℕ) → length file ≡ size → take (part_length size i) (drop (i * part_size) file) ≡ part i file
+pub asked_part : (size i : ℕ) (file : List ℕ) → length file ≡ size → take (part_length size i) (drop (i * part_size) file) ≡ file_part i file
 asked_part size i file long =
     ap (λ n. take n (drop (i * part_size) file)) (ap (min part_size) (ap (λ n. n - i * part_size) (sym long) ∙ sym (length-drop (i * part_size) file)))
     ∙ take_min part_size (drop (i * part_size) file)
@@ -26,10 +26,10 @@ part_from bytes k n is =
     ∙ ap (take part_size) (take_rest bytes k)
 
 -- the digests of one part more
-pub digests_more : (file : List ℕ) (n : ℕ) (old new : List (List ℕ)) (b digest : List ℕ) → old ≡ map (λ i. sha256 (part i file)) (range_with_len 0 n)
-    → b ≡ part n file → digest ≡ sha256 b → new ≡ old ++ digest ∷ [] → new ≡ map (λ i. sha256 (part i file)) (range_with_len 0 (n + 1))
+pub digests_more : (file : List ℕ) (n : ℕ) (old new : List (List ℕ)) (b digest : List ℕ) → old ≡ map (λ i. sha256 (file_part i file)) (range_with_len 0 n)
+    → b ≡ file_part n file → digest ≡ sha256 b → new ≡ old ++ digest ∷ [] → new ≡ map (λ i. sha256 (file_part i file)) (range_with_len 0 (n + 1))
 digests_more file n old new b digest before is of_part pushed =
-    let f : ℕ → List ℕ = λ i. sha256 (part i file) in
+    let f : ℕ → List ℕ = λ i. sha256 (file_part i file) in
     pushed
     ∙ ap (λ (l : List (List ℕ)). l ++ digest ∷ []) before
     ∙ ap (λ (d : List ℕ). map f (range_with_len 0 n) ++ d ∷ []) (of_part ∙ ap sha256 is)
@@ -37,7 +37,7 @@ digests_more file n old new b digest before is of_part pushed =
 
 -- the digests of four parts more
 pub digests_four_more : (file : List ℕ) (n : ℕ) (old new : List (List ℕ)) (a b c d : List ℕ) → old ≡ first_digests n file
-    → a ≡ part n file → b ≡ part (n + 1) file → c ≡ part (n + 2) file → d ≡ part (n + 3) file
+    → a ≡ file_part n file → b ≡ file_part (n + 1) file → c ≡ file_part (n + 2) file → d ≡ file_part (n + 3) file
     → new ≡ old ++ sha256 a ∷ sha256 b ∷ sha256 c ∷ sha256 d ∷ [] → new ≡ first_digests (n + 4) file
 digests_four_more file n old new a b c d before pa pb pc pd is =
     let one = digests_more file n old (old ++ sha256 a ∷ []) a (sha256 a) before pa refl refl in
@@ -49,9 +49,9 @@ digests_four_more file n old new a b c d before pa pb pc pd is =
     up : (i j : ℕ) → i + 1 ≡ j → first_digests (n + i + 1) file ≡ first_digests (n + j) file
     up i j e = ap (λ k. first_digests k file) (let more : n + i + 1 ≡ n + j = omega (arith, e) in more)
 
-pub digest_is : (i : ℕ) (file : List ℕ) → i < part_count (length file) → slice_get (part_digests file) i ≡ Some (sha256 (part i file))
+pub digest_is : (i : ℕ) (file : List ℕ) → i < part_count (length file) → slice_get (part_digests file) i ≡ Some (sha256 (file_part i file))
 digest_is i file there =
-    let f : ℕ → List ℕ = λ j. sha256 (part j file) in
+    let f : ℕ → List ℕ = λ j. sha256 (file_part j file) in
     let n = part_count (length file) in
     let long : i < length (map f (range_with_len 0 n)) = subst (λ k. i < k) (sym (length-map-range_with_len f 0 n)) there in
     let at : 0 + i ≡ i = omega arith in
@@ -59,7 +59,7 @@ digest_is i file there =
 
 -- a stretch of a file that lies in the part that begins at `first`
 pub stretch_is : (file : List ℕ) (n first at stop : ℕ) → first ≡ n * part_size → first ≤ at → at ≤ stop → stop ≤ first + part_size
-    → slice_of (part n file) (at - first, stop - first) ≡ slice_of file (at, stop)
+    → slice_of (file_part n file) (at - first, stop - first) ≡ slice_of file (at, stop)
 stretch_is file n first at stop is from order to =
     let a = at - first in
     let m = stop - first - a in

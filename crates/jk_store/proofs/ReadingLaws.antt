@@ -5,7 +5,7 @@ use Rattle.std.proofs.lemmas.List.Sums.{sum_by-cons}
 use Rattle.jk_walk.specs.TilePackets.{slice_of}
 use Rattle.jk_walk.proofs.Laws.{slice_join}
 use Rattle.jk_store.specs.Files.{Files}
-use Rattle.jk_store.specs.Parts.{part_size, part, part_length, part_count}
+use Rattle.jk_store.specs.Parts.{part_size, file_part, part_length, part_count}
 use Rattle.jk_store.specs.PartsGiven.{size_of, GivenPart, HasParts, PartsRead}
 use Rattle.jk_store.specs.Readings.{HoldsOf}
 use Rattle.jk_window.specs.Planning.{PlanFields, IsStep, IsPlan, planned, plan_text}
@@ -23,12 +23,12 @@ pub part_some : (size n : ℕ) → n < part_count size → 0 < part_length size 
 part_some size n there = omega (arith, there)
 
 -- what is held is the part, where it is as long
-pub held_part : (size : ℕ) (r : Reading) (f : List ℕ) (n : ℕ) → n < part_count size → r.number ≡ n → length r.part.items ≡ part_length size n → HoldsOf r f → r.part.items ≡ part n f
+pub held_part : (size : ℕ) (r : Reading) (f : List ℕ) (n : ℕ) → n < part_count size → r.number ≡ n → length r.part.items ≡ part_length size n → HoldsOf r f → r.part.items ≡ file_part n f
 held_part size r f n there is long (inl none) =
     let some = part_some size n there in
     let empty : length r.part.items ≡ 0 = ap (λ (l : List ℕ). length l) none in
     absurd (omega (arith, some, empty, long))
-held_part size r f n there is long (inr held) = held ∙ ap (λ k. part k f) is
+held_part size r f n there is long (inr held) = held ∙ ap (λ k. file_part k f) is
 
 -- ---- the steps of a plan
 

@@ -16,8 +16,8 @@ use Rattle.jk_window.specs.Views.{HasWindow}
 use Rattle.jk_window.specs.Cutting.{cut_file}
 use Rattle.jk_window.specs.Indexing.{IsIndexOf}
 use Rattle.jk_window.specs.declared.view.View.{View}
-use Rattle.jk_catalogue.specs.Images.{is_segment_byte, IsSegment}
-use Rattle.jk_catalogue.specs.Images.{Image, names_of, image_of, IsFileOf, IsCutOf, IsOtherFile, IsOtherCut, HasNoCut, MayRefuse}
+use Rattle.jk_catalogue.specs.Images.{is_segment_byte, IsPathSegment}
+use Rattle.jk_catalogue.specs.Images.{Image, names_of, image_of, IsImageFile, IsCutOf, IsForeignFile, IsOtherCut, HasNoCut, MayRefuse}
 use Rattle.jk_store.specs.declared.entry.Entry.{Entry}
 use Rattle.jk_store.specs.Files.{Files}
 use Rattle.jk_store.specs.Names.{file_name, is_name_byte, is_good_name}
@@ -133,10 +133,10 @@ same_or a b = by (bytes_eq a b) refl
     by true is = inl ((bytes_eq-Decides a b).0 is)
     by false is = inr (λ same. let clash = sym is ∙ (bytes_eq-Decides a b).1 same in cc)
 
-pub file_given : (o : Option Image) (i : Image) (reads : List ℕ → Type 0) (file : List ℕ) → o ≡ Some i → reads file → IsFileOf o file ⊎ IsOtherFile o reads file
-file_given o i reads file is read = subst (λ x. IsFileOf x file ⊎ IsOtherFile x reads file) (sym is) (by (same_or file i.file))
+pub file_given : (o : Option Image) (i : Image) (reads : List ℕ → Type 0) (file : List ℕ) → o ≡ Some i → reads file → IsImageFile o file ⊎ IsForeignFile o reads file
+file_given o i reads file is read = subst (λ x. IsImageFile x file ⊎ IsForeignFile x reads file) (sym is) (by (same_or file i.file))
   where
-    by : (file ≡ i.file) ⊎ (file ≡ i.file → ⊥) → IsFileOf (Some i) file ⊎ IsOtherFile (Some i) reads file
+    by : (file ≡ i.file) ⊎ (file ≡ i.file → ⊥) → IsImageFile (Some i) file ⊎ IsForeignFile (Some i) reads file
     by (inl same) = inl same
     by (inr other) = inr (read, other)
 
@@ -209,7 +209,7 @@ whole_refused o broken x before after (inr counted) a b = window_refused o broke
 
 pub whole_given : (o : Option Image) (i : Image) (reads : List ℕ → Type 0) (broken : Type 0) (r : Result (Vec ℕ) Fault) (before after : ℕ) → o ≡ Some i
     → IfOk r (λ f. reads f.items) → (r ≡ Err Changed → broken) → Passes (λ y. IsMemory y ⊎ (y ≡ Changed)) r before after → (after ≡ min (before + 1) last_count → broken)
-    → MatchResult r (λ v. IsFileOf o v.items ⊎ IsOtherFile o reads v.items) (λ x. MayRefuse o broken ⊥ x)
+    → MatchResult r (λ v. IsImageFile o v.items ⊎ IsForeignFile o reads v.items) (λ x. MayRefuse o broken ⊥ x)
 whole_given o i reads broken (Ok v) before after is read changed counts failed = file_given o i reads v.items is read
 whole_given o i reads broken (Err x) before after is read changed counts failed = whole_refused o broken x before after counts (λ c. changed (ap (λ y. Err y) c)) failed
 
@@ -223,8 +223,8 @@ window_given o i e asked cuts broken (Err x) before after is shows given bad cha
     window_refused o broken (HasNoCut o asked) x before after counts (λ w. no_cut o i e asked is shows (bad (ap (λ y. Err y) w))) (λ c. changed (ap (λ y. Err y) c)) failed
 
 -- of a file that is kept
-pub whole_kept : (o : Option Image) (i : Image) (r : Result (Vec ℕ) Fault) → o ≡ Some i → IfOk r (λ f. f.items ≡ i.file) → IfOk r (λ v. IsFileOf o v.items)
-whole_kept o i (Ok v) is same = subst (λ x. IsFileOf x v.items) (sym is) same
+pub whole_kept : (o : Option Image) (i : Image) (r : Result (Vec ℕ) Fault) → o ≡ Some i → IfOk r (λ f. f.items ≡ i.file) → IfOk r (λ v. IsImageFile o v.items)
+whole_kept o i (Ok v) is same = subst (λ x. IsImageFile x v.items) (sym is) same
 whole_kept o i (Err x) is same = tt
 
 pub window_kept : (o : Option Image) (i : Image) (e : Entry) (asked : View) (r : Result (Vec ℕ) Fault) → o ≡ Some i → (shows : ShowsImage e i)
@@ -251,7 +251,7 @@ segment_bytes (b ∷ name) good =
 record AreShown (files : Files) (entries : List Entry) (images : List Image) : Type 0 where
   shows : ShowImages entries images
   each : AllByRecursion (λ (i : Image). files (file_name i.name) ≡ Some i.file) images
-  segments : AllByRecursion (λ (i : Image). IsSegment i.name) images
+  segments : AllByRecursion (λ (i : Image). IsPathSegment i.name) images
 
 abbrev pub image_for : (e : Entry) (file : List ℕ) → IsIndexOf file e.index → Image
 image_for e file is = record { name = string_bytes e.name; line = line_of e; file = file; cut = λ asked. given_of (cut_file is asked) }
@@ -259,7 +259,7 @@ image_for e file is = record { name = string_bytes e.name; line = line_of e; fil
 pub shows_itself : (e : Entry) (file : List ℕ) → (is : StandsFor e (stored (string_bytes e.name) file)) → ShowsImage e (image_for e file is.indexes)
 shows_itself e file is = record { name = refl; line = refl; digest = is.digest; parts = is.parts; index = is.indexes; cut = λ asked. refl }
 
-good_segment : (name : List ℕ) → is_good_name name ≡ true → IsSegment name
+good_segment : (name : List ℕ) → is_good_name name ≡ true → IsPathSegment name
 good_segment name good =
     let bytes = and_parts (nat_le 1 (length name) && nat_le (length name) 64) (list_all is_name_byte name) good in
     AllPass-from_list_all is_segment_byte name (segment_bytes name bytes.1)
@@ -282,18 +282,18 @@ shown_of files (e ∷ entries) stand named =
       },
     )
 
-segments_of : (images : List Image) → AllByRecursion (λ (i : Image). IsSegment i.name) images → All IsSegment (names_of images)
+segments_of : (images : List Image) → AllByRecursion (λ (i : Image). IsPathSegment i.name) images → All IsPathSegment (names_of images)
 segments_of [] each k d lt = absurd (omega (arith, lt))
 segments_of (i ∷ images) each zero d lt = each.0
 segments_of (i ∷ images) each (suc k) d lt = segments_of images each.1 k d (omega (arith, lt))
 
 -- What each entry was made of is shown.
 pub each_shown : (entries : List Entry) → AllByRecursion (λ e. (file : List ℕ) × StandsFor e (stored (string_bytes e.name) file)) entries → are_named entries ≡ true
-    → (images : List Image) × ShowImages entries images × All IsSegment (names_of images)
+    → (images : List Image) × ShowImages entries images × All IsPathSegment (names_of images)
 each_shown entries each named = let all = all_shown entries each named in (all.0, all.1, segments_of all.0 all.2)
   where
     all_shown : (entries : List Entry) → AllByRecursion (λ e. (file : List ℕ) × StandsFor e (stored (string_bytes e.name) file)) entries → are_named entries ≡ true
-        → (images : List Image) × ShowImages entries images × AllByRecursion (λ (i : Image). IsSegment i.name) images
+        → (images : List Image) × ShowImages entries images × AllByRecursion (λ (i : Image). IsPathSegment i.name) images
     all_shown [] each named = ([], tt, tt)
     all_shown (e ∷ entries) each named =
         let last = and_parts (is_good_name (string_bytes e.name) && not (is_listed entries (string_bytes e.name))) (are_named entries) named in
@@ -307,7 +307,7 @@ each_shown entries each named = let all = all_shown entries each named in (all.0
 
 -- What stands in files is shown.
 pub stands_shown : {S : Type 0} (keeps : S → Files → Type 0) (shelf : S) (files : Files) (entries : List Entry) → keeps shelf files → StandIn files entries → are_named entries ≡ true
-    → (images : List Image) × StandForImages keeps entries shelf images × All IsSegment (names_of images)
+    → (images : List Image) × StandForImages keeps entries shelf images × All IsPathSegment (names_of images)
 stands_shown keeps shelf files entries kept stand named =
     let all = shown_of files entries stand named in (
       all.0,

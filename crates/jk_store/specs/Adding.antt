@@ -96,7 +96,7 @@ added_due entries name file = do
 -- What is left of files after a refusal, where a file that was made is written under a temporary
 -- name and gets its own: all others, and under its own name what was there before; or, after Shelf,
 -- the file that was made.
-pub record IsLeft (temporary own : List ℕ) (made : Result (List ℕ) Fault) (e : Fault)
+pub record IsLeftByAdd (temporary own : List ℕ) (made : Result (List ℕ) Fault) (e : Fault)
     (files left : Files) : Type 0 where
   pub others : (n : List ℕ) → bytes_eq temporary n ≡ false → bytes_eq own n ≡ false → left n ≡ files n
   pub here : (left own ≡ files own) ⊎ ((file : List ℕ) × (e ≡ Shelf) × (made ≡ Ok file) × (left own ≡ Some file))

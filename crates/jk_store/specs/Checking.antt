@@ -17,7 +17,7 @@ use Rattle.jk_code.specs.MeaningReading.{meaning_at}
 use Rattle.jk_store.specs.Files.{Files}
 use Rattle.jk_store.specs.Names.{file_name}
 use Rattle.jk_store.specs.Catalogue.{image_at}
-use Rattle.jk_store.specs.Opening.{Gives, AreNamesIn}
+use Rattle.jk_store.specs.Opening.{GivesFile, AreNamesIn}
 use Rattle.jk_store.specs.declared.checking.FileRead.{FileRead}
 use Rattle.jk_store.specs.declared.checking.Checking.{Checking}
 use Rattle.jk_store.specs.declared.checked.Checked.{Checked}
@@ -64,7 +64,7 @@ module _ {S : Type 0} (keeps : S → Files → Type 0) (gave : S → List ℕ �
   -- The shelf was asked for the file of an image. It gave these bytes; or it failed, or memory was
   -- refused, and it keeps what it kept.
   abbrev pub WasAsked : S → List ℕ → Result (List ℕ) Fault → S → Type 0
-  WasAsked old n (Ok bytes) new = Gives keeps gave old (file_name n) bytes new
+  WasAsked old n (Ok bytes) new = GivesFile keeps gave old (file_name n) bytes new
   WasAsked old n (Err e) new = (IsMemory e ⊎ ((e ≡ Shelf) × unread old (file_name n) new))
       × ((files : Files) → keeps old files → keeps new files)
 

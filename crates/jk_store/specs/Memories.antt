@@ -38,8 +38,8 @@ abbrev pub Unlisted : MemoryShelf → MemoryShelf → Type 0
 Unlisted s t = s.failures.count ≡ last_count
 
 -- It has no file of a name, or counts no more.
-abbrev pub Unread : MemoryShelf → List ℕ → MemoryShelf → Type 0
-Unread s n t = (held s n ≡ None) ⊎ (s.failures.count ≡ last_count)
+abbrev pub CannotRead : MemoryShelf → List ℕ → MemoryShelf → Type 0
+CannotRead s n t = (held s n ≡ None) ⊎ (s.failures.count ≡ last_count)
 
 -- It counts no more.
 abbrev pub Unwritten : MemoryShelf → List ℕ → MemoryShelf → Type 0

@@ -43,7 +43,7 @@ CanBeMade f = ((e : Entry) × StandsFor e f) ⊎ ((k : Skipped) × IsSkippedOf f
 
 -- The shelf gave these bytes under a name. A file that it keeps is what it gives; and it keeps what
 -- it kept and what it gave.
-pub record Gives {S : Type 0} (keeps : S → Files → Type 0) (gave : S → List ℕ → List ℕ → S → Type 0) (old : S)
+pub record GivesFile {S : Type 0} (keeps : S → Files → Type 0) (gave : S → List ℕ → List ℕ → S → Type 0) (old : S)
     (n bytes : List ℕ) (new : S) : Type 0 where
   pub given : gave old n bytes new
   pub same : (files : Files) (b : List ℕ) → keeps old files → files n ≡ Some b → bytes ≡ b

@@ -8,8 +8,8 @@ abbrev pub part_size : ℕ
 part_size = 16384
 
 -- part i of a file
-abbrev pub part : ℕ → List ℕ → List ℕ
-part i file = take part_size (drop (i * part_size) file)
+abbrev pub file_part : ℕ → List ℕ → List ℕ
+file_part i file = take part_size (drop (i * part_size) file)
 
 -- how many parts a file of so many bytes has, of which none is empty
 abbrev pub part_count : ℕ → ℕ
@@ -21,8 +21,8 @@ part_length size i = min part_size (size - i * part_size)
 
 -- the digests of the first n parts, in order
 abbrev pub first_digests : ℕ → List ℕ → List (List ℕ)
-first_digests n file = map (λ i. sha256 (part i file)) (range_with_len 0 n)
+first_digests n file = map (λ i. sha256 (file_part i file)) (range_with_len 0 n)
 
 -- the digests of all parts, in order
 abbrev pub part_digests : List ℕ → List (List ℕ)
-part_digests file = map (λ i. sha256 (part i file)) (range_with_len 0 (part_count (length file)))
+part_digests file = map (λ i. sha256 (file_part i file)) (range_with_len 0 (part_count (length file)))

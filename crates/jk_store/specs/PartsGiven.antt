@@ -11,7 +11,7 @@ use Rattle.jk_window.specs.Indexing.{IndexFields}
 use Rattle.jk_store.specs.Files.{Files}
 use Rattle.jk_store.specs.Names.{file_name}
 use Rattle.jk_store.specs.Counting.{last_count}
-use Rattle.jk_store.specs.Parts.{part_size, part, part_length, part_count, part_digests}
+use Rattle.jk_store.specs.Parts.{part_size, file_part, part_length, part_count, part_digests}
 use Rattle.jk_store.specs.Catalogue.{IsCutFrom}
 use Rattle.jk_store.specs.declared.entry.Entry.{Entry}
 
@@ -32,11 +32,11 @@ IsPartOfFile e i b = (length b ≡ part_length (size_of e) i) × (slice_get e.pa
 
 -- A file has these parts.
 abbrev pub HasParts : List GivenPart → List ℕ → Type 0
-HasParts given file = AllByRecursion (λ g. part g.0 file ≡ g.1) given
+HasParts given file = AllByRecursion (λ g. file_part g.0 file ≡ g.1) given
 
 -- Each of these parts is the file's, if it has the digest of the file's.
 abbrev pub AreKnownByDigest : List ℕ → List GivenPart → Type 0
-AreKnownByDigest file given = AllByRecursion (λ g. sha256 g.1 ≡ sha256 (part g.0 file) → g.1 ≡ part g.0 file) given
+AreKnownByDigest file given = AllByRecursion (λ g. sha256 g.1 ≡ sha256 (file_part g.0 file) → g.1 ≡ file_part g.0 file) given
 
 -- These are the parts of an entry's file.
 abbrev pub ArePartsOf : Entry → List GivenPart → Type 0

@@ -1,7 +1,7 @@
 -- What is held of the file of an entry while parts of it are read.
 use Rattle.std.specs.Prelude.{◌≡◌, ℕ, ◌<◌, ◌⊎◌, List, [], length}
 use Rattle.std.specs.String.{string_bytes}
-use Rattle.jk_store.specs.Parts.{part, part_length, part_count}
+use Rattle.jk_store.specs.Parts.{file_part, part_length, part_count}
 use Rattle.jk_store.specs.PartsGiven.{file_of, size_of}
 use Rattle.jk_store.specs.declared.entry.Entry.{Entry}
 use Rattle.jk_store.specs.declared.reading.Reading.{Reading}
@@ -16,4 +16,4 @@ pub record IsReading (e : Entry) (r : Reading) : Type 0 where
 
 -- What is held is nothing, or that part of the file.
 abbrev pub HoldsOf : Reading → List ℕ → Type 0
-HoldsOf r file = (r.part.items ≡ []) ⊎ (r.part.items ≡ part r.number file)
+HoldsOf r file = (r.part.items ≡ []) ⊎ (r.part.items ≡ file_part r.number file)

@@ -75,8 +75,8 @@ Broke failed gave gave_at entries old n new =
 
 -- Between two states the shelf gave this file under the name of the entry, and it has the entry's
 -- digest.
-abbrev pub Reads : {S : Type 0} → (S → List ℕ → List ℕ → S → Type 0) → List Entry → S → List ℕ → List ℕ → S → Type 0
-Reads gave entries old n file new = (e : Entry) × (entry_of entries n ≡ Some e) × IsFileOf gave e old file new
+abbrev pub ReadsFile : {S : Type 0} → (S → List ℕ → List ℕ → S → Type 0) → List Entry → S → List ℕ → List ℕ → S → Type 0
+ReadsFile gave entries old n file new = (e : Entry) × (entry_of entries n ≡ Some e) × IsFileOf gave e old file new
 
 -- Between two states the shelf gave parts of the file of the entry of a name, each with its digest,
 -- and the window is cut of them.

@@ -16,7 +16,7 @@ ghost use Rattle.jk_store.specs.Files.{Files, with_file, without};
 ghost use Rattle.jk_store.specs.Names.{is_good_name, file_name, temporary_name};
 ghost use Rattle.jk_store.specs.Catalogue.{is_listed, image_at, most_entries, StandsFor, stored, Passes};
 ghost use Rattle.jk_store.specs.Adding.{judged, judged_with, judged_name, judged_image, written_with, file_due};
-ghost use Rattle.jk_store.specs.Adding.{file_due_with, IsLeft, IsUnstored};
+ghost use Rattle.jk_store.specs.Adding.{file_due_with, IsLeftByAdd, IsUnstored};
 ghost use Rattle.jk_store.specs.Showing.{ShowImages, StandForImages, MayBeMade};
 ghost use Rattle.jk_catalogue.specs.Images.{Image as Shown};
 ghost use Rattle.jk_catalogue.specs.Images.{Within};
@@ -254,7 +254,7 @@ impl<S: Shelf> Archive<S> {
             self.old.shelf self.new.shelf)) }
         ensures left { (files : Files) → S.keeps self.old.shelf files
             → IfErr result (λ e. (left : Files) × S.keeps self.new.shelf left
-            × IsLeft (temporary_name name.now) (file_name name.now) (written image.now parameters.now) e files left) }
+            × IsLeftByAdd (temporary_name name.now) (file_name name.now) (written image.now parameters.now) e files left) }
         ensures skipped { self.new.skipped ≡ self.old.skipped }
         ensures counts { Passes
             (λ e. IsMemory e ⊎ (judged (map arc_value self.old.entries.items) name.now image.now parameters.now ≡ Err e)
@@ -322,7 +322,7 @@ impl<S: Shelf> Archive<S> {
             self.old.shelf self.new.shelf)) }
         ensures left { (files : Files) → S.keeps self.old.shelf files
             → IfErr result (λ e. (left : Files) × S.keeps self.new.shelf left
-            × IsLeft (temporary_name name.now) (file_name name.now) (written_with image.now parameters.now extras.now) e files left) }
+            × IsLeftByAdd (temporary_name name.now) (file_name name.now) (written_with image.now parameters.now extras.now) e files left) }
         ensures skipped { self.new.skipped ≡ self.old.skipped }
         ensures counts { Passes
             (λ e. IsMemory e ⊎ (judged_with (map arc_value self.old.entries.items) name.now image.now parameters.now extras.now ≡ Err e)

@@ -3,7 +3,7 @@
 ghost use Rattle.std.specs.Prelude.{◌≡◌, ℕ, List, [], take, drop, Some, None, IfOk, OnOk, OnErr, IfErr};
 ghost use Rattle.std.specs.Option.{option_map};
 ghost use Rattle.jk_math.specs.Memory.{IsMemory};
-ghost use Rattle.jk_store.specs.Memories.{KeepsFiles, Gave, GaveAt, Lists, Unlisted, Unread, Unwritten, Unrenamed, HoldSame};
+ghost use Rattle.jk_store.specs.Memories.{KeepsFiles, Gave, GaveAt, Lists, Unlisted, CannotRead, Unwritten, Unrenamed, HoldSame};
 ghost use Rattle.jk_store.specs.Memories.{HoldsInstead, held, names_of};
 
 use crate::failures::Failures;
@@ -101,7 +101,7 @@ impl Shelf for MemoryShelf {
 
     ghost unlisted = { Unlisted };
 
-    ghost unread = { Unread };
+    ghost unread = { CannotRead };
 
     ghost unwritten = { Unwritten };
 

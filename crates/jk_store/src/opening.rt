@@ -13,13 +13,13 @@ ghost use Rattle.jk_math.specs.Memory.{IsMemory};
 ghost use Rattle.jk_math.specs.declared.fault.Fault.TheVariants.{Limit, Shelf as ShelfFault};
 ghost use Rattle.jk_window.specs.Indexing.{IndexFields, IsIndexOf};
 ghost use Rattle.jk_catalogue.specs.Images.{Image, names_of};
-ghost use Rattle.jk_catalogue.specs.Images.{IsSegment};
+ghost use Rattle.jk_catalogue.specs.Images.{IsPathSegment};
 ghost use Rattle.jk_store.specs.Files.{Files, AreIn};
 ghost use Rattle.jk_store.specs.Names.{file_name, is_good_name};
 ghost use Rattle.jk_store.specs.Catalogue.{entry_of, image_at, are_named, most_entries, StandsFor, StandIn, stored};
 ghost use Rattle.jk_store.specs.Catalogue.{Passes};
 ghost use Rattle.jk_store.specs.Showing.{ShowImages, StandForImages};
-ghost use Rattle.jk_store.specs.Opening.{IsLookedOf, Gives, Enters, Opened, ReadsPast, ReadsUpTo, OpensAs, OpensPast};
+ghost use Rattle.jk_store.specs.Opening.{IsLookedOf, GivesFile, Enters, Opened, ReadsPast, ReadsUpTo, OpensAs, OpensPast};
 ghost use Rattle.jk_store.specs.Opening.{OpensUpTo, IsSeenOf, CanBeMade, stored_file};
 ghost use Rattle.jk_store.specs.Digesting.{all_entries};
 ghost use Rattle.jk_store.specs.declared.entry.Entry.{Entry as EntryFields};
@@ -90,7 +90,7 @@ pub(crate) fn read_named<S: Shelf>(
 ) -> Result<NamedFile, Fault>
     ensures name { IfOk result (λ f. string_bytes f.name ≡ name.now) }
     ensures given { IfOk result
-        (λ f. Gives S.keeps S.gave shelf.old (file_name name.now) f.bytes.items shelf.new) }
+        (λ f. GivesFile S.keeps S.gave shelf.old (file_name name.now) f.bytes.items shelf.new) }
     ensures seen { IfOk result (λ f. CanBeMade (stored_file f)) }
     ensures cause { IfErr result (λ e. e ≡ ShelfFault → S.unread shelf.old (file_name name.now) shelf.new) }
     ensures kept { (files : Files) → S.keeps shelf.old files → S.keeps shelf.new files }
@@ -132,7 +132,7 @@ pub(crate) fn judge_bytes(alloc: Global, bytes: &[u8]) -> Result<Seen, Fault>
 /// it kept.
 fn look<S: Shelf>(alloc: Global, shelf: &mut S, name: &str) -> Result<Looked, Fault>
     ensures given { IfOk result
-        (λ r. (bytes : List ℕ) × Gives S.keeps S.gave shelf.old (file_name name.now) bytes shelf.new
+        (λ r. (bytes : List ℕ) × GivesFile S.keeps S.gave shelf.old (file_name name.now) bytes shelf.new
         × IsLookedOf name.now bytes r) }
     ensures cause { IfErr result (λ e. e ≡ ShelfFault → S.unread shelf.old (file_name name.now) shelf.new) }
     ensures kept { (files : Files) → S.keeps shelf.old files → S.keeps shelf.new files }
@@ -161,13 +161,13 @@ fn enter<S: Shelf>(
     listed: &mut Digesting,
     skipped: &mut Vec<Skipped>,
 ) -> Result<(), Fault>
-    ensures given { OnOk result ((bytes : List ℕ) × Gives S.keeps S.gave shelf.old (file_name name.now) bytes shelf.new
+    ensures given { OnOk result ((bytes : List ℕ) × GivesFile S.keeps S.gave shelf.old (file_name name.now) bytes shelf.new
         × Enters name.now bytes (all_entries listed.old) (all_entries listed.new) skipped.old.items
         skipped.new.items) }
     ensures few { length (all_entries listed.old) ≤ most_entries
         → OnOk result (length (all_entries listed.new) ≤ most_entries) }
     ensures full { result ≡ Err Limit → (most_entries ≤ length (all_entries listed.old))
-        × ((bytes : List ℕ) × (e : EntryFields) × Gives S.keeps S.gave shelf.old (file_name name.now) bytes shelf.new
+        × ((bytes : List ℕ) × (e : EntryFields) × GivesFile S.keeps S.gave shelf.old (file_name name.now) bytes shelf.new
         × StandsFor e (stored name.now bytes)) }
     ensures cause { IfErr result (λ e. e ≡ ShelfFault → S.unread shelf.old (file_name name.now) shelf.new) }
     ensures kept { (files : Files) → S.keeps shelf.old files → S.keeps shelf.new files }
@@ -203,14 +203,14 @@ pub(crate) fn read_images<S: Shelf>(
     shelf: &mut S,
     names: &BTreeSet<String>,
 ) -> Result<Made, Fault>
-    ensures opened { IfOk result (λ r. Opened (Gives S.keeps S.gave) (map string_bytes (keys names.now)) shelf.old
+    ensures opened { IfOk result (λ r. Opened (GivesFile S.keeps S.gave) (map string_bytes (keys names.now)) shelf.old
         (map arc_value r.entries.items) r.skipped.items shelf.new) }
     ensures ordered { IsStrictlySortedBy (slice_cmp nat_cmp) (map string_bytes (keys names.now)) }
     ensures few { IfOk result (λ r. length r.entries.items ≤ most_entries) }
-    ensures full { result ≡ Err Limit → ReadsPast (Gives S.keeps S.gave) (map string_bytes (keys names.now)) shelf.old }
+    ensures full { result ≡ Err Limit → ReadsPast (GivesFile S.keeps S.gave) (map string_bytes (keys names.now)) shelf.old }
     ensures cause { IfErr result
         (λ e. e ≡ ShelfFault
-        → ReadsUpTo (Gives S.keeps S.gave) S.unread (map string_bytes (keys names.now)) shelf.old) }
+        → ReadsUpTo (GivesFile S.keeps S.gave) S.unread (map string_bytes (keys names.now)) shelf.old) }
     ensures kept { (files : Files) → S.keeps shelf.old files → S.keeps shelf.new files }
     ensures counts { Passes (λ e. IsMemory e ⊎ (e ≡ Limit)) result (S.failed shelf.old) (S.failed shelf.new) }
 {
@@ -271,12 +271,12 @@ impl Images {
         // The entries show images, whose names are segments of a path.
         ensures shows { IfOk result
             (λ a. (images : List Image) × ShowImages (map arc_value a.entries.items) images
-            × All IsSegment (names_of images)) }
+            × All IsPathSegment (names_of images)) }
         // Of files that the shelf keeps, images whose files it keeps.
         ensures shown { (files : Files) → S.keeps shelf.old files
             → IfOk result
             (λ a. (images : List Image) × StandForImages S.keeps (map arc_value a.entries.items) shelf.new images
-            × All IsSegment (names_of images)) }
+            × All IsPathSegment (names_of images)) }
         ensures err { IfErr result
             (λ e. IsMemory e ⊎ ((e ≡ ShelfFault) × OpensUpTo S.lists S.unlisted S.gave S.unread shelf.old)
             ⊎ ((e ≡ Limit) × OpensPast S.lists S.gave shelf.old)) }
@@ -331,12 +331,12 @@ impl<S: Shelf + Drop> Archive<S> {
         // A server shows its entries: they show images, whose names are segments of a path.
         ensures shows { IfOk result
             (λ a. (images : List Image) × ShowImages (map arc_value a.entries.items) images
-            × All IsSegment (names_of images)) }
+            × All IsPathSegment (names_of images)) }
         // Of files that the shelf keeps, images whose files it keeps.
         ensures shown { (files : Files) → S.keeps shelf files
             → IfOk result
             (λ a. (images : List Image) × StandForImages S.keeps (map arc_value a.entries.items) a.shelf images
-            × All IsSegment (names_of images)) }
+            × All IsPathSegment (names_of images)) }
         ensures err { IfErr result
             (λ e. IsMemory e ⊎ ((e ≡ ShelfFault) × OpensUpTo S.lists S.unlisted S.gave S.unread shelf)
             ⊎ ((e ≡ Limit) × OpensPast S.lists S.gave shelf)) }

@@ -13,13 +13,13 @@ ghost use Rattle.jk_math.specs.Memory.{IsMemory};
 ghost use Rattle.jk_math.specs.declared.fault.Fault.TheVariants.{BadParameters, Limit, Shelf as ShelfFault};
 ghost use Rattle.jk_window.specs.Indexing.{IndexFields};
 ghost use Rattle.jk_catalogue.specs.Images.{Image, names_of};
-ghost use Rattle.jk_catalogue.specs.Images.{IsSegment};
+ghost use Rattle.jk_catalogue.specs.Images.{IsPathSegment};
 ghost use Rattle.jk_store.specs.Files.{Files, AreIn};
 ghost use Rattle.jk_store.specs.Names.{file_name, is_good_name};
 ghost use Rattle.jk_store.specs.Catalogue.{entry_of, image_at, most_entries, Stored, StandsFor, StandIn, stored};
 ghost use Rattle.jk_store.specs.Catalogue.{Passes};
 ghost use Rattle.jk_store.specs.Showing.{ShowImages, StandForImages};
-ghost use Rattle.jk_store.specs.Opening.{Gives, Enters, Opened, ReadsPast, ReadsUpTo, OpensAs, OpensPast, OpensUpTo};
+ghost use Rattle.jk_store.specs.Opening.{GivesFile, Enters, Opened, ReadsPast, ReadsUpTo, OpensAs, OpensPast, OpensUpTo};
 ghost use Rattle.jk_store.specs.Opening.{CanBeMade, stored_file};
 ghost use Rattle.jk_store.specs.OpeningWith.{file_digest, made_entries, AreMade, IsMadeOf, MakePast, waiting_files};
 ghost use Rattle.jk_store.specs.OpeningWith.{IsOpeningOf, AreAllMade};
@@ -305,14 +305,14 @@ fn read_images_with<S: Shelf, R: Threads + Sync, G: Gate + Sync>(
 ) -> Result<Made, Fault>
     requires some { 1 ≤ workers }
     requires most { workers ≤ 64 }
-    ensures opened { IfOk result (λ r. Opened (Gives S.keeps S.gave) (map string_bytes (keys names.now)) shelf.old
+    ensures opened { IfOk result (λ r. Opened (GivesFile S.keeps S.gave) (map string_bytes (keys names.now)) shelf.old
         (map arc_value r.entries.items) r.skipped.items shelf.new) }
     ensures ordered { IsStrictlySortedBy (slice_cmp nat_cmp) (map string_bytes (keys names.now)) }
     ensures few { IfOk result (λ r. length r.entries.items ≤ most_entries) }
-    ensures full { result ≡ Err Limit → ReadsPast (Gives S.keeps S.gave) (map string_bytes (keys names.now)) shelf.old }
+    ensures full { result ≡ Err Limit → ReadsPast (GivesFile S.keeps S.gave) (map string_bytes (keys names.now)) shelf.old }
     ensures cause { IfErr result
         (λ e. e ≡ ShelfFault
-        → ReadsUpTo (Gives S.keeps S.gave) S.unread (map string_bytes (keys names.now)) shelf.old) }
+        → ReadsUpTo (GivesFile S.keeps S.gave) S.unread (map string_bytes (keys names.now)) shelf.old) }
     ensures kept { (files : Files) → S.keeps shelf.old files → S.keeps shelf.new files }
     ensures counts { Passes (λ e. IsMemory e ⊎ (e ≡ Limit)) result (S.failed shelf.old) (S.failed shelf.new) }
 {
@@ -367,12 +367,12 @@ impl Images {
         // The entries show images, whose names are segments of a path.
         ensures shows { IfOk result
             (λ a. (images : List Image) × ShowImages (map arc_value a.entries.items) images
-            × All IsSegment (names_of images)) }
+            × All IsPathSegment (names_of images)) }
         // Of files that the shelf keeps, images whose files it keeps.
         ensures shown { (files : Files) → S.keeps shelf.old files
             → IfOk result
             (λ a. (images : List Image) × StandForImages S.keeps (map arc_value a.entries.items) shelf.new images
-            × All IsSegment (names_of images)) }
+            × All IsPathSegment (names_of images)) }
         ensures err { 1 ≤ workers → workers ≤ 64
             → IfErr result
             (λ e. IsMemory e ⊎ ((e ≡ ShelfFault) × OpensUpTo S.lists S.unlisted S.gave S.unread shelf.old)
@@ -421,12 +421,12 @@ impl<S: Shelf + Drop> Archive<S> {
         // A server shows its entries: they show images, whose names are segments of a path.
         ensures shows { IfOk result
             (λ a. (images : List Image) × ShowImages (map arc_value a.entries.items) images
-            × All IsSegment (names_of images)) }
+            × All IsPathSegment (names_of images)) }
         // Of files that the shelf keeps, images whose files it keeps.
         ensures shown { (files : Files) → S.keeps shelf files
             → IfOk result
             (λ a. (images : List Image) × StandForImages S.keeps (map arc_value a.entries.items) a.shelf images
-            × All IsSegment (names_of images)) }
+            × All IsPathSegment (names_of images)) }
         ensures err { 1 ≤ workers → workers ≤ 64
             → IfErr result
             (λ e. IsMemory e ⊎ ((e ≡ ShelfFault) × OpensUpTo S.lists S.unlisted S.gave S.unread shelf)

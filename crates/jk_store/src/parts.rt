@@ -2,7 +2,7 @@
 
 ghost use Rattle.std.specs.Prelude.{◌≡◌, ◌+◌, ◌<◌, ◌≤◌, length, IfOk, IfErr, OnOk};
 ghost use Rattle.jk_math.specs.Memory.{IsMemory};
-ghost use Rattle.jk_store.specs.Parts.{first_digests, part, part_count, part_digests};
+ghost use Rattle.jk_store.specs.Parts.{first_digests, file_part, part_count, part_digests};
 
 use jk_digest::{sha256, sha256_of_four};
 use jk_math::Fault;
@@ -14,7 +14,7 @@ pub(crate) const PART_SIZE: usize = 1 << 14;
 /// A part of a file.
 fn part(bytes: &[u8], number: usize) -> &[u8]
     requires { number < part_count (length bytes.now) }
-    ensures { result.now ≡ part number bytes.now }
+    ensures { result.now ≡ file_part number bytes.now }
 {
     let rest = &bytes[number * PART_SIZE..];
     &rest[..PART_SIZE.min(rest.len())]

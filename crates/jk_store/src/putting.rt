@@ -11,7 +11,7 @@ ghost use Rattle.jk_store.specs.Files.{Files, with_file, without};
 ghost use Rattle.jk_store.specs.Names.{is_good_name, file_name, temporary_name};
 ghost use Rattle.jk_store.specs.Counting.{Counts};
 ghost use Rattle.jk_store.specs.Catalogue.{is_listed, image_at, most_entries, StandsFor, IsEntryOf, stored, Passes};
-ghost use Rattle.jk_store.specs.Adding.{judged_name, IsLeft, IsUnstored};
+ghost use Rattle.jk_store.specs.Adding.{judged_name, IsLeftByAdd, IsUnstored};
 ghost use Rattle.jk_store.specs.Showing.{ShowImages, StandForImages, MayBeMade};
 ghost use Rattle.jk_catalogue.specs.Images.{Image as Shown};
 ghost use Rattle.jk_catalogue.specs.Images.{Within};
@@ -83,7 +83,7 @@ fn store<S: Shelf>(
     ensures left { bytes_eq (string_bytes names.now.temporary) (string_bytes names.now.own) ≡ false → (files : Files)
         → S.keeps shelf.old files
         → IfErr result (λ e. (left : Files) × S.keeps shelf.new left
-        × IsLeft (string_bytes names.now.temporary) (string_bytes names.now.own) (Ok bytes.now) e files left) }
+        × IsLeftByAdd (string_bytes names.now.temporary) (string_bytes names.now.own) (Ok bytes.now) e files left) }
     ensures cause { IfErr result
         (λ e. e ≡ ShelfFault
         → IsUnstored S.unwritten S.unrenamed (string_bytes names.now.temporary) (string_bytes names.now.own)
@@ -109,7 +109,7 @@ fn store_named<S: Shelf>(
         shelf.old shelf.new)) }
     ensures left { (files : Files) → S.keeps shelf.old files
         → IfErr result (λ e. (left : Files) × S.keeps shelf.new left
-        × IsLeft (temporary_name name.now) (file_name name.now) (Ok bytes.now) e files left) }
+        × IsLeftByAdd (temporary_name name.now) (file_name name.now) (Ok bytes.now) e files left) }
     ensures counts { Passes IsMemory result (S.failed shelf.old) (S.failed shelf.new) }
 {
     let names = file_names(alloc, name)?;
@@ -162,7 +162,7 @@ impl Encoded {
         // Of files all but the temporary one of this name are as before.
         ensures left { (files : Files) → S.keeps shelf.old files
             → IfErr result (λ e. (left : Files) × S.keeps shelf.new left
-            × IsLeft (temporary_name (string_bytes self.now.name)) (file_name (string_bytes self.now.name))
+            × IsLeftByAdd (temporary_name (string_bytes self.now.name)) (file_name (string_bytes self.now.name))
             (due_file self.now) e files left) }
         ensures counts { Passes
             (λ e. IsMemory e ⊎ (due_file self.now ≡ Err e))
@@ -213,7 +213,7 @@ impl<S: Shelf> Archive<S> {
             self.old.shelf self.new.shelf)) }
         ensures left { (files : Files) → S.keeps self.old.shelf files
             → IfErr result (λ e. (left : Files) × S.keeps self.new.shelf left
-            × IsLeft (temporary_name name.now) (file_name name.now) (Ok bytes.now) e files left) }
+            × IsLeftByAdd (temporary_name name.now) (file_name name.now) (Ok bytes.now) e files left) }
         ensures skipped { self.new.skipped ≡ self.old.skipped }
         ensures counts { Passes IsMemory result (S.failed self.old.shelf) (S.failed self.new.shelf) }
     {
@@ -262,7 +262,7 @@ impl<S: Shelf> Archive<S> {
             self.old.shelf self.new.shelf)) }
         ensures left { (files : Files) → S.keeps self.old.shelf files
             → IfErr result (λ e. (left : Files) × S.keeps self.new.shelf left
-            × IsLeft (temporary_name name.now) (file_name name.now) (Ok bytes.items) e files left) }
+            × IsLeftByAdd (temporary_name name.now) (file_name name.now) (Ok bytes.items) e files left) }
         ensures skipped { self.new.skipped ≡ self.old.skipped }
         ensures counts { Passes IsMemory result (S.failed self.old.shelf) (S.failed self.new.shelf) }
     {
@@ -320,7 +320,7 @@ impl<S: Shelf> Archive<S> {
             (file_name (string_bytes prepared.name)) self.old.shelf self.new.shelf)) }
         ensures left { (files : Files) → S.keeps self.old.shelf files
             → IfErr result (λ e. (left : Files) × S.keeps self.new.shelf left
-            × IsLeft (temporary_name (string_bytes prepared.name)) (file_name (string_bytes prepared.name))
+            × IsLeftByAdd (temporary_name (string_bytes prepared.name)) (file_name (string_bytes prepared.name))
             (ready_bytes prepared.made) e files left) }
         ensures skipped { self.new.skipped ≡ self.old.skipped }
         ensures counts { Passes

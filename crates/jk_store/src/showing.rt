@@ -4,8 +4,8 @@ ghost use Rattle.std.specs.Prelude.{◌≡◌, ◌++◌, List, map, is_some, OnO
 ghost use Rattle.std.specs.List.{flat_map};
 ghost use Rattle.std.specs.Arc.{arc_value};
 ghost use Rattle.jk_math.specs.Memory.{IsMemory};
-ghost use Rattle.jk_catalogue.specs.Images.{Image, image_of, IsFileOf, IsCutOf, IsFileGiven, IsCutGiven, HasNoCut, MayRefuse};
-ghost use Rattle.jk_store.specs.Showing.{line_of, number_text, ShowImages, AreKept, Broke, Reads, Cuts};
+ghost use Rattle.jk_catalogue.specs.Images.{Image, image_of, IsImageFile, IsCutOf, IsFileGiven, IsCutGiven, HasNoCut, MayRefuse};
+ghost use Rattle.jk_store.specs.Showing.{line_of, number_text, ShowImages, AreKept, Broke, ReadsFile, Cuts};
 ghost use Rattle.jk_store.specs.Showing.{MayBeMade};
 ghost use Rattle.jk_store.specs.Files.{Files};
 
@@ -64,12 +64,12 @@ pub(crate) fn whole_of<S: Shelf>(
 ) -> Result<Vec<u8>, Fault>
     ensures gives { (images : List Image) → ShowImages (map arc_value entries.now) images → MatchResult result
         (λ v. IsFileGiven (image_of name.now images)
-        (Reads S.gave (map arc_value entries.now)) shelf.old name.now shelf.new v.items)
+        (ReadsFile S.gave (map arc_value entries.now)) shelf.old name.now shelf.new v.items)
         (λ e. MayRefuse (image_of name.now images)
         (Broke S.failed S.gave S.gave_at (map arc_value entries.now) shelf.old name.now shelf.new) ⊥ e) }
     ensures same { (images : List Image) → ShowImages (map arc_value entries.now) images
         → AreKept S.keeps shelf.old images
-        → IfOk result (λ v. IsFileOf (image_of name.now images) v.items) }
+        → IfOk result (λ v. IsImageFile (image_of name.now images) v.items) }
     ensures keeps { (images : List Image) → AreKept S.keeps shelf.old images → AreKept S.keeps shelf.new images }
     ensures kept { (files : Files) → S.keeps shelf.old files → S.keeps shelf.new files }
 {
@@ -111,7 +111,7 @@ pub(crate) fn window_of<S: Shelf>(
 impl<S: Shelf> Catalogue for Archive<S> {
     ghost use Rattle.std.specs.Prelude.{map};
     ghost use Rattle.std.specs.Arc.{arc_value};
-    ghost use Rattle.jk_store.specs.Showing.{ShowImages, AreKept, Broke, Reads, Cuts, MayBeMade};
+    ghost use Rattle.jk_store.specs.Showing.{ShowImages, AreKept, Broke, ReadsFile, Cuts, MayBeMade};
 
     ghost stands = { λ a images. ShowImages (map arc_value a.entries.items) images };
 
@@ -119,7 +119,7 @@ impl<S: Shelf> Catalogue for Archive<S> {
 
     ghost broke = { λ a n b. Broke S.failed S.gave S.gave_at (map arc_value a.entries.items) a.shelf n b.shelf };
 
-    ghost reads = { λ a n file b. Reads S.gave (map arc_value a.entries.items) a.shelf n file b.shelf };
+    ghost reads = { λ a n file b. ReadsFile S.gave (map arc_value a.entries.items) a.shelf n file b.shelf };
 
     ghost cuts = { λ a n asked b cut. Cuts S.gave_at (map arc_value a.entries.items) a.shelf n asked b.shelf cut };
 

@@ -23,7 +23,7 @@ pub struct ShownEntries<'a, S> {
 impl<'a, S: Shelf> Catalogue for ShownEntries<'a, S> {
     ghost use Rattle.std.specs.Prelude.{map};
     ghost use Rattle.std.specs.Arc.{arc_value};
-    ghost use Rattle.jk_store.specs.Showing.{ShowImages, AreKept, Broke, Reads, Cuts, MayBeMade};
+    ghost use Rattle.jk_store.specs.Showing.{ShowImages, AreKept, Broke, ReadsFile, Cuts, MayBeMade};
     ghost use Rattle.jk_store.specs.ShownSteps.{Steps, stays_here};
 
     ghost stands = { λ a images. ShowImages (map arc_value a.entries.now) images };
@@ -32,7 +32,7 @@ impl<'a, S: Shelf> Catalogue for ShownEntries<'a, S> {
 
     ghost broke = { λ a n b. Broke S.failed S.gave S.gave_at (map arc_value a.entries.now) a.shelf.now n b.shelf.now };
 
-    ghost reads = { λ a n file b. Reads S.gave (map arc_value a.entries.now) a.shelf.now n file b.shelf.now };
+    ghost reads = { λ a n file b. ReadsFile S.gave (map arc_value a.entries.now) a.shelf.now n file b.shelf.now };
 
     ghost cuts = { λ a n asked b cut. Cuts S.gave_at (map arc_value a.entries.now) a.shelf.now n asked b.shelf.now cut };
 
@@ -73,7 +73,7 @@ pub struct ShownWithParts<'a, S> {
 impl<'a, S: Shelf> Catalogue for ShownWithParts<'a, S> {
     ghost use Rattle.std.specs.Prelude.{map};
     ghost use Rattle.std.specs.Arc.{arc_value};
-    ghost use Rattle.jk_store.specs.Showing.{ShowImages, AreKept, Broke, Reads, Cuts, MayBeMade};
+    ghost use Rattle.jk_store.specs.Showing.{ShowImages, AreKept, Broke, ReadsFile, Cuts, MayBeMade};
     ghost use Rattle.jk_store.specs.PartsSteps.{Steps, stays_here};
 
     ghost stands = { λ a images. ShowImages (map arc_value a.entries.now) images };
@@ -82,7 +82,7 @@ impl<'a, S: Shelf> Catalogue for ShownWithParts<'a, S> {
 
     ghost broke = { λ a n b. Broke S.failed S.gave S.gave_at (map arc_value a.entries.now) a.shelf.now n b.shelf.now };
 
-    ghost reads = { λ a n file b. Reads S.gave (map arc_value a.entries.now) a.shelf.now n file b.shelf.now };
+    ghost reads = { λ a n file b. ReadsFile S.gave (map arc_value a.entries.now) a.shelf.now n file b.shelf.now };
 
     ghost cuts = { λ a n asked b cut. Cuts S.gave_at (map arc_value a.entries.now) a.shelf.now n asked b.shelf.now cut };
 

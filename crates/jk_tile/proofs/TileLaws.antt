@@ -31,7 +31,7 @@ use Rattle.jk_walk.specs.declared.places.PacketPlace.{PacketPlace}
 use Rattle.jk_walk.specs.TilePackets.{Body, Packet, orientations, band_number, planes_of, of_precinct}
 use Rattle.jk_walk.specs.WalkReading.{packets_at, bodies_at, IsPlaced}
 use Rattle.jk_walk.proofs.Laws.{packets_found, packets_only}
-use Rattle.jk_tile.specs.TileBlocks.{orientation_at, grid_at, block_at_place, shape_of_area, block_shape, block_bodies, segment_of, passes_in, zeros_in, band_resolution, band_index}
+use Rattle.jk_tile.specs.TileBlocks.{orientation_at, grid_at, block_at_place, shape_of_area, block_shape, block_bodies, block_bytes, passes_in, zeros_in, band_resolution, band_index}
 use Rattle.jk_tile.specs.TileMeaning.{shown_area, values_of, IsBlockAt, DecodesTile}
 use Rattle.jk_tile.specs.decoding.TileReading.{bodies_of, each, tested, bodies_values, block_values, block_value, block_with, values_or, coefficient_at, band_tested, precinct_tested, resolution_tested, component_tested, component_values, component_samples, tile_planes_at}
 use Rattle.jk_tile.specs.Pixels.{uncoloured, tile_sample}
@@ -73,7 +73,7 @@ bodies_are bytes packets places c r n h = bodies_same bytes packets places c r n
 
 -- ---- a code-block
 
-pub values_by : (s : BlockShape) (planes : ℕ) (bodies : List Body) → bodies_values s planes bodies ≡ block_at s (planes - zeros_in bodies) (passes_in bodies) (segment_of bodies)
+pub values_by : (s : BlockShape) (planes : ℕ) (bodies : List Body) → bodies_values s planes bodies ≡ block_at s (planes - zeros_in bodies) (passes_in bodies) (block_bytes bodies)
 unfolding bodies_values
 values_by s planes bodies = refl
 

@@ -32,7 +32,7 @@ use Rattle.jk_walk.specs.declared.places.PacketPlace.{PacketPlace}
 use Rattle.jk_walk.specs.TilePackets.{Body}
 use Rattle.jk_tile.specs.Samples.{clamped, sample_of}
 use Rattle.jk_tile.specs.Pixels.{uncoloured, tile_sample}
-use Rattle.jk_tile.specs.TileBlocks.{orientation_at, block_bodies, segment_of, passes_in, zeros_in, band_resolution}
+use Rattle.jk_tile.specs.TileBlocks.{orientation_at, block_bodies, block_bytes, passes_in, zeros_in, band_resolution}
 use Rattle.jk_tile.specs.TileBlocks.{band_index}
 use Rattle.jk_tile.specs.decoding.TileReading.{bodies_of, each, bodies_values, band_tested, precinct_tested}
 use Rattle.jk_tile.specs.decoding.TileReading.{resolution_tested}
@@ -118,7 +118,7 @@ bodies = body (contribution 1 0 3 4 2) (1 ∷ 2 ∷ [])
     ∷ body (contribution 1 0 3 2 1) (4 ∷ [])
     ∷ []
 
-segment : segment_of (block_bodies 1 0 bodies) ≡ 1 ∷ 2 ∷ 4 ∷ []
+segment : block_bytes (block_bodies 1 0 bodies) ≡ 1 ∷ 2 ∷ 4 ∷ []
 segment = refl
 
 passes : passes_in (block_bodies 1 0 bodies) ≡ 6

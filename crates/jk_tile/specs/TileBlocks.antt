@@ -46,8 +46,8 @@ block_bodies i j bodies = filter (λ b. (b.part.band == i) && (b.part.block == j
 
 -- Its segment, the bodies one behind another (B.10.7.1); its coding passes; its zero bit-planes,
 -- which the first packet that has something of it tells (B.10.5).
-abbrev pub segment_of : List Body → List ℕ
-segment_of bodies = flat_map (λ b. b.bytes) bodies
+abbrev pub block_bytes : List Body → List ℕ
+block_bytes bodies = flat_map (λ b. b.bytes) bodies
 
 abbrev pub passes_in : List Body → ℕ
 passes_in bodies = sum_by (λ b. b.part.passes) bodies

@@ -14,7 +14,7 @@ use Rattle.jk_block.specs.Meaning.{IsBlockMeaning}
 use Rattle.jk_wave.specs.Resolutions.{resolution_of}
 use Rattle.jk_walk.specs.TilePackets.{slice_of, shape_in, Body, Packet, orientations, band_number, planes_of}
 use Rattle.jk_walk.specs.TilePackets.{of_precinct, IsTile}
-use Rattle.jk_tile.specs.TileBlocks.{grid_at, block_at_place, block_shape, block_bodies, segment_of, passes_in}
+use Rattle.jk_tile.specs.TileBlocks.{grid_at, block_at_place, block_shape, block_bodies, block_bytes, passes_in}
 use Rattle.jk_tile.specs.TileBlocks.{zeros_in}
 use Rattle.jk_tile.specs.Pixels.{tile_sample}
 
@@ -38,7 +38,7 @@ pub record IsBlockAt (a : Rect) (k : Coding) (bodies : List Body) (coefficients 
   pub values : Field ℤ
   pub means : IsBlockMeaning (block_shape a k r n i j)
       (planes_of k (band_number r i) - zeros_in (block_bodies i j bodies)) (passes_in (block_bodies i j bodies))
-      (segment_of (block_bodies i j bodies)) values
+      (block_bytes (block_bodies i j bodies)) values
   pub placed : (x y : ℕ) → is_inside (block_shape a k r n i j) x y ≡ true
       → coefficients (band_number r i) ((block_at_place a k r n i j).x0 + x) ((block_at_place a k r n i j).y0 + y)
       ≡ values x y

@@ -5,10 +5,10 @@ use Rattle.std.proofs.lemmas.Bool.{cases_Bool, cases_eq}
 use Rattle.std.proofs.lemmas.Bool.Decides.{nat_tests}
 use Rattle.std.proofs.lemmas.List.{get_or-replicate}
 use Rattle.jk_bits.specs.Reading.{Bits, ahead}
-use Rattle.jk_tree.specs.TagTree.{Shape, top, place, count, column, row, IsNode, Values, above, IsTree, Query, asked, told, told_below, leaf_of}
+use Rattle.jk_tree.specs.TagTree.{Shape, top, node_number, count, column, row, IsNode, Values, above, IsTree, Query, asked, told, told_below, leaf_of}
 use Rattle.jk_tree.specs.declared.node.Node.{Node}
 use Rattle.jk_tree.specs.Asking.{HasTold, node_at, AreTold, AreToldBySome, walk}
-use Rattle.jk_bits.specs.Giving.{Gives, advance}
+use Rattle.jk_bits.specs.Giving.{GivesBits, advance}
 use Rattle.jk_tree.proofs.Visits.{IsAsked, visit_knows}
 use Rattle.jk_tree.proofs.Places.{place_counted, up_node}
 use Rattle.jk_tree.proofs.Walks.{half_all, half_none, HalfTold, walk_told, over_root, not_top, asked_up}
@@ -23,7 +23,7 @@ walk_midway s queries q less zero over nodes r out level m h =
     subst (λ (ns : List Node). StandsAsked s (queries ++ q ∷ []) ns) (ap (λ (p : Bool × (List Node × Bits)). p.1.0) (walk_end s q over nodes r out h)) record {
       long = m.long;
       chained = m.chained;
-      is_asked = λ j x y n. subst (λ a. IsAsked (node_at nodes (place s j x y)) a (least s nodes j x y)) (half_all s queries q j x y) (m.is_asked j x y n);
+      is_asked = λ j x y n. subst (λ a. IsAsked (node_at nodes (node_number s j x y)) a (least s nodes j x y)) (half_all s queries q j x y) (m.is_asked j x y n);
     }
 walk_midway s queries q less (suc i) over nodes r out level m h =
     let st = steps s q i over nodes r out h in
@@ -49,13 +49,13 @@ least_tree s nodes j x y n = let step = least_step s nodes j x y n.level in omeg
 pub least_stands : (s : Shape) (queries : List Query) (nodes : List Node) → StandsAsked s queries nodes → AreTold s (least s nodes) queries nodes
 least_stands s queries nodes st = record {
   tree = least_tree s nodes;
-  each = λ j x y n. by_known j x y n (cases_Bool (node_at nodes (place s j x y)).known);
+  each = λ j x y n. by_known j x y n (cases_Bool (node_at nodes (node_number s j x y)).known);
 }
   where
-    by_known : (j x y : ℕ) → IsNode s j x y → ((node_at nodes (place s j x y)).known ≡ true) ⊎ ((node_at nodes (place s j x y)).known ≡ false)
-        → HasTold (above s (least s nodes) j x y) (least s nodes j x y) (asked s queries j x y) (node_at nodes (place s j x y))
+    by_known : (j x y : ℕ) → IsNode s j x y → ((node_at nodes (node_number s j x y)).known ≡ true) ⊎ ((node_at nodes (node_number s j x y)).known ≡ false)
+        → HasTold (above s (least s nodes) j x y) (least s nodes j x y) (asked s queries j x y) (node_at nodes (node_number s j x y))
     by_known j x y n (inl h) =
-        let value : least s nodes j x y ≡ (node_at nodes (place s j x y)).low = least_known s nodes st.chained j x y n h in
+        let value : least s nodes j x y ≡ (node_at nodes (node_number s j x y)).low = least_known s nodes st.chained j x y n h in
         let low = (st.is_asked j x y n).closed h in
         record {
           known = h ∙ sym (yes (least s nodes j x y) (asked s queries j x y) (omega (arith, value, low)));
@@ -110,7 +110,7 @@ stands_asked s v queries nodes long st = record {
     chain : IsChained s nodes
     chain = stands_chained s v queries nodes st
 
-    closed : (j x y : ℕ) → IsNode s j x y → (node_at nodes (place s j x y)).known ≡ true → (node_at nodes (place s j x y)).low < asked s queries j x y
+    closed : (j x y : ℕ) → IsNode s j x y → (node_at nodes (node_number s j x y)).known ≡ true → (node_at nodes (node_number s j x y)).low < asked s queries j x y
     closed j x y n h =
         let own = st.each j x y n in
         let told_here : nat_lt (v j x y) (asked s queries j x y) ≡ true = sym own.known ∙ h in
@@ -118,7 +118,7 @@ stands_asked s v queries nodes long st = record {
         let value = own.value h in
         omega (arith, value, less)
 
-    bound : (up j x y : ℕ) → j + up ≡ top s → IsNode s j x y → (node_at nodes (place s j x y)).known ≡ false → asked s queries j x y ≤ least s nodes j x y
+    bound : (up j x y : ℕ) → j + up ≡ top s → IsNode s j x y → (node_at nodes (node_number s j x y)).known ≡ false → asked s queries j x y ≤ least s nodes j x y
     bound zero j x y e n h =
         let own = (st.each j x y n).least h in
         let root : above s v j x y ≡ 0 = ap (λ (b : Bool). cond b 0 (v (j + 1) (x / 2) (y / 2))) (same j (top s) (omega (arith, e))) in
@@ -134,7 +134,7 @@ stands_asked s v queries nodes long st = record {
         let over_least : above s (least s nodes) j x y ≡ least s nodes (j + 1) (x / 2) (y / 2) = ap (λ (b : Bool). cond b 0 (least s nodes (j + 1) (x / 2) (y / 2))) (not_top s j low) in
         let step = least_step s nodes j x y n.level in
         let up_n = up_node s j x y n low in
-        elim (cases_Bool (node_at nodes (place s (j + 1) (x / 2) (y / 2))).known) [
+        elim (cases_Bool (node_at nodes (node_number s (j + 1) (x / 2) (y / 2))).known) [
           | inl k ↦
               let value = (st.each (j + 1) (x / 2) (y / 2) up_n).value k in
               let same = least_known s nodes chain (j + 1) (x / 2) (y / 2) up_n k in
@@ -161,13 +161,13 @@ told_levels s v queries q = ap (told_below s v queries q) (levels s)
 pub half_stands : (s : Shape) (v : Values) (queries : List Query) (q : Query) (nodes : List Node) → IsTree s v → HalfTold s v queries q 0 nodes → AreTold s v (queries ++ q ∷ []) nodes
 half_stands s v queries q nodes tree h = record {
   tree = tree;
-  each = λ j x y n. subst (λ a. HasTold (above s v j x y) (v j x y) a (node_at nodes (place s j x y))) (half_all s queries q j x y) (h.each j x y n);
+  each = λ j x y n. subst (λ a. HasTold (above s v j x y) (v j x y) a (node_at nodes (node_number s j x y))) (half_all s queries q j x y) (h.each j x y n);
 }
 
 pub stands_half : (s : Shape) (v : Values) (queries : List Query) (q : Query) (nodes : List Node) → length nodes ≡ count s → AreTold s v (queries ++ q ∷ []) nodes → HalfTold s v queries q 0 nodes
 stands_half s v queries q nodes long st = record {
   long = long;
-  each = λ j x y n. subst (λ a. HasTold (above s v j x y) (v j x y) a (node_at nodes (place s j x y))) (sym (half_all s queries q j x y)) (st.each j x y n);
+  each = λ j x y n. subst (λ a. HasTold (above s v j x y) (v j x y) a (node_at nodes (node_number s j x y))) (sym (half_all s queries q j x y)) (st.each j x y n);
 }
 
 pub told_by : (s : Shape) (v : Values) (queries : List Query) (q : Query) (nodes : List Node) (r : Bits) (rest : List Bool) → q.leaf < s.width * s.height → length nodes ≡ count s → AreTold s v queries nodes
@@ -175,7 +175,7 @@ pub told_by : (s : Shape) (v : Values) (queries : List Query) (q : Query) (nodes
 told_by s v queries q nodes r rest less long st first =
     let h : HalfTold s v queries q (suc (top s)) nodes = record {
       long = long;
-      each = λ j x y n. subst (λ a. HasTold (above s v j x y) (v j x y) a (node_at nodes (place s j x y))) (sym (half_none s queries q j x y n.level)) (st.each j x y n);
+      each = λ j x y n. subst (λ a. HasTold (above s v j x y) (v j x y) a (node_at nodes (node_number s j x y))) (sym (half_none s queries q j x y n.level)) (st.each j x y n);
     } in
     let w = walk_told s v queries q less st.tree (suc (top s)) 0 nodes r rest (omega arith) h (over_root s v q) (first ∙ ap (λ (bs : List Bool). bs ++ rest) (told_levels s v queries q)) in
     record {
@@ -187,13 +187,13 @@ told_by s v queries q nodes r rest less long st first =
 -- What a query that went well says.
 pub record Found (s : Shape) (v : Values) (queries : List Query) (q : Query) (nodes : List Node) (r : Bits) (out : Bool × (List Node × Bits)) : Type 0 where
   pub before : AreTold s v queries nodes
-  pub given : Gives r (told s v queries q) out.1.1
+  pub given : GivesBits r (told s v queries q) out.1.1
   pub answer : out.0 ≡ nat_lt (leaf_of s v q.leaf) q.threshold
 
 at_root : (s : Shape) (queries : List Query) (q : Query) (nodes : List Node) → StandsAsked s queries nodes → Midway s queries q (suc (top s)) 0 nodes
 at_root s queries q nodes st = record {
   long = st.long;
-  is_asked = λ j x y n. subst (λ a. IsAsked (node_at nodes (place s j x y)) a (least s nodes j x y)) (sym (half_none s queries q j x y n.level)) (st.is_asked j x y n);
+  is_asked = λ j x y n. subst (λ a. IsAsked (node_at nodes (node_number s j x y)) a (least s nodes j x y)) (sym (half_none s queries q j x y n.level)) (st.is_asked j x y n);
   chained = st.chained;
   root = λ _. refl;
   over_is = λ level. absurd (omega (arith, level));
@@ -207,9 +207,9 @@ found_by s v queries q nodes r out less long long_out reached h st =
     record {
       before = record {
         tree = st.tree;
-        each = λ j x y n. subst (λ a. HasTold (above s v j x y) (v j x y) a (node_at nodes (place s j x y))) (half_none s queries q j x y n.level) (f.was.each j x y n);
+        each = λ j x y n. subst (λ a. HasTold (above s v j x y) (v j x y) a (node_at nodes (node_number s j x y))) (half_none s queries q j x y n.level) (f.was.each j x y n);
       };
-      given = subst (λ (bs : List Bool). Gives r bs out.1.1) (sym (told_levels s v queries q)) f.given;
+      given = subst (λ (bs : List Bool). GivesBits r bs out.1.1) (sym (told_levels s v queries q)) f.given;
       answer = f.answer;
     }
 
@@ -227,7 +227,7 @@ unfolding asked
 fresh s v n tree all = record {
   tree = tree;
   each = λ j x y m. subst (λ (z : Node). HasTold (above s v j x y) (v j x y) 0 z)
-      (sym (get_or-replicate n (place s j x y) record { low = 0; known = false } record { low = 0; known = false } (let p = place_counted s j x y m in omega (arith, p, all))))
+      (sym (get_or-replicate n (node_number s j x y) record { low = 0; known = false } record { low = 0; known = false } (let p = place_counted s j x y m in omega (arith, p, all))))
       (blank (above s v j x y) (v j x y));
 }
   where

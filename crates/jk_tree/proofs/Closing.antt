@@ -8,9 +8,9 @@ use Rattle.std.proofs.Math.Nat.{div-mul-le_self}
 use Rattle.std.proofs.Math.Pow.{pow_pos}
 use Rattle.jk_math.specs.declared.fault.Fault.{Fault}
 use Rattle.jk_bits.specs.Reading.{Bits}
-use Rattle.jk_tree.specs.TagTree.{Shape, top, place, column, row, Query, query_of}
+use Rattle.jk_tree.specs.TagTree.{Shape, top, node_number, column, row, Query, query_of}
 use Rattle.jk_tree.specs.declared.node.Node.{Node}
-use Rattle.jk_tree.specs.Asking.{node_at, over_leaf, walk, IsClosed, IsKnown, Tree, ask_at}
+use Rattle.jk_tree.specs.Asking.{node_at, over_leaf, walk, IsClosed, IsKnown, TagTreeRead, ask_at}
 use Rattle.jk_tree.proofs.Visits.{visit_stays}
 use Rattle.jk_tree.proofs.Walks.{walk_on, walk_stop}
 use Rattle.jk_tree.proofs.Answering.{ask_at-ok}
@@ -57,7 +57,7 @@ in_squares a x i j up e =
     ap (λ k. x / 2 ^ k) (sym at) ∙ higher x i (j - i) ∙ ap (λ n. n / 2 ^ (j - i)) e ∙ sym (higher a i (j - i)) ∙ ap (λ k. a / 2 ^ k) at
 
 pub same_over : (s : Shape) (nodes : List Node) (i x y x' y' : ℕ) → x' / 2 ^ i ≡ x / 2 ^ i → y' / 2 ^ i ≡ y / 2 ^ i → over_leaf s nodes i x y ≡ over_leaf s nodes i x' y'
-same_over s nodes i x y x' y' e f = sym (ap (λ a. node_at nodes (place s i a (y' / 2 ^ i))) e ∙ ap (λ b. node_at nodes (place s i (x / 2 ^ i) b)) f)
+same_over s nodes i x y x' y' e f = sym (ap (λ a. node_at nodes (node_number s i a (y' / 2 ^ i))) e ∙ ap (λ b. node_at nodes (node_number s i (x / 2 ^ i) b)) f)
 
 -- All leaves under that node are closed.
 pub closed_with : (s : Shape) (nodes : List Node) (t i x y x' y' : ℕ) → IsClosed s nodes t i x y → x' / 2 ^ i ≡ x / 2 ^ i → y' / 2 ^ i ≡ y / 2 ^ i → IsClosed s nodes t i x' y'
@@ -76,14 +76,14 @@ closed_walk : (s : Shape) (q : Query) (nodes : List Node) (r : Bits) (i : ℕ) �
     → walk s q (suc (i + more)) over nodes r ≡ Ok (false, (nodes, r))
 closed_walk s q nodes r i c zero over level =
     let at : suc (i + 0) ≡ suc i = omega arith in
-    let p = place s i (column s q.leaf i) (row s q.leaf i) in
+    let p = node_number s i (column s q.leaf i) (row s q.leaf i) in
     ap (λ k. walk s q k over nodes r) at
     ∙ walk_stop s q i over nodes r (node_at nodes p) r (visit_stays (node_at nodes p) over q.threshold r (inr c.high)) c.high
     ∙ ap (λ (ns : List Node). Ok (false, (ns, r))) (set-get_or nodes p _)
 closed_walk s q nodes r i c (suc more) over level =
     let at : suc (i + suc more) ≡ suc (suc (i + more)) = omega arith in
     let k = suc (i + more) in
-    let p = place s k (column s q.leaf k) (row s q.leaf k) in
+    let p = node_number s k (column s q.leaf k) (row s q.leaf k) in
     let a = c.above k (omega arith) (omega (arith, level)) in
     ap (λ k. walk s q k over nodes r) at
     ∙ walk_on s q k over nodes r (node_at nodes p) r (visit_stays (node_at nodes p) over q.threshold r (inl a.0)) a.1
@@ -91,7 +91,7 @@ closed_walk s q nodes r i c (suc more) over level =
     ∙ closed_walk s q nodes r i c more (node_at nodes p).low (omega (arith, level))
 
 -- A query about a closed leaf says nothing, and leaves all as it is.
-pub closed_silent : (t : Tree) (q : Query) (i : ℕ) → t.failed ≡ None → IsClosed t.shape t.nodes q.threshold i (q.leaf % t.shape.width) (q.leaf / t.shape.width) → (r : Bits) → ask_at q (t, r) ≡ Ok (false, (t, r))
+pub closed_silent : (t : TagTreeRead) (q : Query) (i : ℕ) → t.failed ≡ None → IsClosed t.shape t.nodes q.threshold i (q.leaf % t.shape.width) (q.leaf / t.shape.width) → (r : Bits) → ask_at q (t, r) ≡ Ok (false, (t, r))
 closed_silent t q i none c r =
     let l = c.level in
     let at : suc (i + (top t.shape - i)) ≡ top t.shape + 1 = omega (arith, l) in
@@ -141,14 +141,14 @@ no_fault : (f : Option Fault) → is_some f ≡ false → f ≡ None
 no_fault None h = refl
 no_fault (Some e) h = absurd (cc)
 
-pub closed_asks : (t : Tree) (seen : Tree) (threshold from to : ℕ) → t ≡ seen → is_some t.failed ≡ false → AreClosed t.shape t.nodes threshold from to
+pub closed_asks : (t : TagTreeRead) (seen : TagTreeRead) (threshold from to : ℕ) → t ≡ seen → is_some t.failed ≡ false → AreClosed t.shape t.nodes threshold from to
     → (leaf : ℕ) → from ≤ leaf → leaf < to → (r : Bits) → ask_at (query_of leaf threshold) (seen, r) ≡ Ok (false, (seen, r))
 closed_asks t seen threshold from to same none closed leaf least less r =
     let c = closed leaf least less in
-    subst (λ (x : Tree). ask_at (query_of leaf threshold) (x, r) ≡ Ok (false, (x, r))) same (closed_silent t (query_of leaf threshold) c.0 (no_fault t.failed none) c.1 r)
+    subst (λ (x : TagTreeRead). ask_at (query_of leaf threshold) (x, r) ≡ Ok (false, (x, r))) same (closed_silent t (query_of leaf threshold) c.0 (no_fault t.failed none) c.1 r)
 
-pub closed_all_unknown : (t : Tree) (seen : Tree) (threshold from to : ℕ) → t ≡ seen → AreClosed t.shape t.nodes threshold from to
+pub closed_all_unknown : (t : TagTreeRead) (seen : TagTreeRead) (threshold from to : ℕ) → t ≡ seen → AreClosed t.shape t.nodes threshold from to
     → (leaf : ℕ) → from ≤ leaf → leaf < to → IsKnown seen.shape seen.nodes leaf → ⊥
 closed_all_unknown t seen threshold from to same closed leaf least less known =
     let c = closed leaf least less in
-    closed_unknown t.shape t.nodes threshold leaf c.0 c.1 (subst (λ (x : Tree). IsKnown x.shape x.nodes leaf) (sym same) known)
+    closed_unknown t.shape t.nodes threshold leaf c.0 c.1 (subst (λ (x : TagTreeRead). IsKnown x.shape x.nodes leaf) (sym same) known)

@@ -5,10 +5,10 @@ use Rattle.std.proofs.lemmas.Bool.{cases_eq, cases_Bool, cases_lt}
 use Rattle.std.proofs.lemmas.Bool.Decides.{nat_tests}
 use Rattle.std.proofs.lemmas.List.{get_or-set_same, get_or-set_other, append-nil}
 use Rattle.jk_bits.specs.Reading.{Bits}
-use Rattle.jk_tree.specs.TagTree.{Shape, top, place, column, row, Values, above, IsTree, IsNode, Query, passes, asked, piece, told_below, leaf_of}
+use Rattle.jk_tree.specs.TagTree.{Shape, top, node_number, column, row, Values, above, IsTree, IsNode, Query, passes, asked, rest_of_word, told_below, leaf_of}
 use Rattle.jk_tree.specs.declared.node.Node.{Node}
 use Rattle.jk_tree.specs.Asking.{HasTold, node_at, visit, walk}
-use Rattle.jk_bits.specs.Giving.{Gives, gives_none, gives_join}
+use Rattle.jk_bits.specs.Giving.{GivesBits, gives_none, gives_join}
 use Rattle.jk_tree.proofs.Visits.{IsAsked, visit_found, visit_knows, below_known, Visited}
 use Rattle.jk_tree.proofs.Places.{place_counted, path_node, passes_at}
 use Rattle.jk_tree.proofs.Walks.{half, half_less, half_other, half_at, apart_places, HalfTold, cases_on_way, IsOver, over_next, over_above, over_within, over_min, over_way, below-suc, below_none, told_none, above_way, above_root}
@@ -18,7 +18,7 @@ use Rattle.jk_tree.proofs.Least.{Midway, midway_on, least, least_step, least_kno
 -- What a walk over the levels below i says, for a tree that the nodes stand for afterwards.
 pub record WalkFound (s : Shape) (v : Values) (queries : List Query) (q : Query) (i : ℕ) (nodes : List Node) (r new : Bits) (b : Bool) : Type 0 where
   pub was : HalfTold s v queries q i nodes
-  pub given : Gives r (told_below s v queries q i) new
+  pub given : GivesBits r (told_below s v queries q i) new
   pub answer : b ≡ nat_lt (leaf_of s v q.leaf) q.threshold
 
 module _ (s : Shape) (queries : List Query) (q : Query) (less : q.leaf < s.width * s.height) where
@@ -58,7 +58,7 @@ module _ (s : Shape) (v : Values) (queries : List Query) (q : Query) (less : q.l
   -- a tree that fits the nodes after a level fits them before it
   module _ (i over : ℕ) (nodes : List Node) (node : Node) (level : i ≤ top s) (m : Midway s queries q (suc i) over nodes)
       (f : HasTold (above s v i (column s q.leaf i) (row s q.leaf i)) (v i (column s q.leaf i) (row s q.leaf i)) (asked s queries i (column s q.leaf i) (row s q.leaf i)) (node_at nodes (way s q i))) where
-    before_by : ((j x y : ℕ) → IsNode s j x y → (j ≡ i → passes s q.leaf j x y ≡ true → ⊥) → HasTold (above s v j x y) (v j x y) (half s queries q (suc i) j x y) (node_at (set nodes (way s q i) node) (place s j x y)))
+    before_by : ((j x y : ℕ) → IsNode s j x y → (j ≡ i → passes s q.leaf j x y ≡ true → ⊥) → HasTold (above s v j x y) (v j x y) (half s queries q (suc i) j x y) (node_at (set nodes (way s q i) node) (node_number s j x y)))
         → HalfTold s v queries q (suc i) nodes
     before_by others =
         let x = column s q.leaf i in
@@ -67,17 +67,17 @@ module _ (s : Shape) (v : Values) (queries : List Query) (q : Query) (less : q.l
           long = m.long;
           each = λ j c d n. elim (cases_on_way s q.leaf i j c d) [
             | inl is ↦
-                subst (λ k. HasTold (above s v k c d) (v k c d) (half s queries q (suc i) k c d) (node_at nodes (place s k c d))) (sym is.0)
-                (subst (λ c'. HasTold (above s v i c' d) (v i c' d) (half s queries q (suc i) i c' d) (node_at nodes (place s i c' d))) is.1
-                (subst (λ d'. HasTold (above s v i x d') (v i x d') (half s queries q (suc i) i x d') (node_at nodes (place s i x d'))) is.2
+                subst (λ k. HasTold (above s v k c d) (v k c d) (half s queries q (suc i) k c d) (node_at nodes (node_number s k c d))) (sym is.0)
+                (subst (λ c'. HasTold (above s v i c' d) (v i c' d) (half s queries q (suc i) i c' d) (node_at nodes (node_number s i c' d))) is.1
+                (subst (λ d'. HasTold (above s v i x d') (v i x d') (half s queries q (suc i) i x d') (node_at nodes (node_number s i x d'))) is.2
                 (subst (λ a. HasTold (above s v i x y) (v i x y) a (node_at nodes (way s q i))) (sym (half_less s queries q (suc i) i x y (omega arith))) f)))
             | inr other ↦
-                subst (λ (z : Node). HasTold (above s v j c d) (v j c d) (half s queries q (suc i) j c d) z) (get_or-set_other nodes (way s q i) (place s j c d) node _ (apart_places s q.leaf i j c d less level n other)) (others j c d n other)
+                subst (λ (z : Node). HasTold (above s v j c d) (v j c d) (half s queries q (suc i) j c d) z) (get_or-set_other nodes (way s q i) (node_number s j c d) node _ (apart_places s q.leaf i j c d less level n other)) (others j c d n other)
           ];
         }
 
     pub before_on : HalfTold s v queries q i (set nodes (way s q i) node) → HalfTold s v queries q (suc i) nodes
-    before_on h = before_by (λ j x y n other. subst (λ a. HasTold (above s v j x y) (v j x y) a (node_at (set nodes (way s q i) node) (place s j x y))) (half_other s queries q i j x y other) (h.each j x y n))
+    before_on h = before_by (λ j x y n other. subst (λ a. HasTold (above s v j x y) (v j x y) a (node_at (set nodes (way s q i) node) (node_number s j x y))) (half_other s queries q i j x y other) (h.each j x y n))
 
     -- where the walk has stopped at this node
     pub before_stop : q.threshold ≤ v i (column s q.leaf i) (row s q.leaf i) → HalfTold s v queries q 0 (set nodes (way s q i) node) → HalfTold s v queries q (suc i) nodes
@@ -100,12 +100,12 @@ module _ (s : Shape) (v : Values) (queries : List Query) (q : Query) (less : q.l
             same w a high = grind (arith, nat_tests)
 
         by_way : (j x y : ℕ) → IsNode s j x y → (j ≡ i → passes s q.leaf j x y ≡ true → ⊥) → (passes s q.leaf j x y ≡ true) ⊎ (passes s q.leaf j x y ≡ false) → (j < i) ⊎ (i ≤ j)
-            → HasTold (above s v j x y) (v j x y) (half s queries q (suc i) j x y) (node_at new (place s j x y))
+            → HasTold (above s v j x y) (v j x y) (half s queries q (suc i) j x y) (node_at new (node_number s j x y))
         by_way j x y n other (inr past) order =
-            subst (λ a. HasTold (above s v j x y) (v j x y) a (node_at new (place s j x y))) (half_past s queries q 0 j x y past ∙ sym (half_past s queries q (suc i) j x y past)) (h.each j x y n)
+            subst (λ a. HasTold (above s v j x y) (v j x y) a (node_at new (node_number s j x y))) (half_past s queries q 0 j x y past ∙ sym (half_past s queries q (suc i) j x y past)) (h.each j x y n)
         by_way j x y n other (inl through) (inr from) =
             let more : suc i ≤ j = elim (cases_eq j i) [ inl same ↦ absurd (other same through) | inr apart ↦ omega (arith, from, apart) ] in
-            subst (λ a. HasTold (above s v j x y) (v j x y) a (node_at new (place s j x y))) (half_through s queries q 0 j x y (omega arith) through ∙ sym (half_through s queries q (suc i) j x y more through)) (h.each j x y n)
+            subst (λ a. HasTold (above s v j x y) (v j x y) a (node_at new (node_number s j x y))) (half_through s queries q 0 j x y (omega arith) through ∙ sym (half_through s queries q (suc i) j x y more through)) (h.each j x y n)
         by_way j x y n other (inl through) (inl under) =
             let at = passes_at s q.leaf j x y through in
             let way_up = above_way s v q.leaf j (omega (arith, under, level)) in
@@ -113,12 +113,12 @@ module _ (s : Shape) (v : Values) (queries : List Query) (q : Query) (less : q.l
             let low = over_way s v q.leaf (suc j) i less tree (omega (arith, under)) level in
             let over : t ≤ above s v j x y = omega (arith, way_up, same_up, low, high) in
             let a = asked s queries j x y in
-            let told : HasTold (above s v j x y) (v j x y) (max a t) (node_at new (place s j x y)) = subst (λ b. HasTold (above s v j x y) (v j x y) b (node_at new (place s j x y))) (half_through s queries q 0 j x y (omega arith) through) (h.each j x y n) in
-            let same : node_at new (place s j x y) ≡ node_at nodes (place s j x y) = get_or-set_other nodes (way s q i) (place s j x y) node _ (apart_places s q.leaf i j x y less level n other) in
-            let was : IsAsked (node_at new (place s j x y)) a (least s nodes j x y) =
-            subst (λ (z : Node). IsAsked z a (least s nodes j x y)) (sym same) (subst (λ b. IsAsked (node_at nodes (place s j x y)) b (least s nodes j x y)) (half_less s queries q (suc i) j x y (omega (arith, under))) (m.is_asked j x y n)) in
-            subst (λ b. HasTold (above s v j x y) (v j x y) b (node_at new (place s j x y))) (sym (half_less s queries q (suc i) j x y (omega (arith, under))))
-            (less_asked (above s v j x y) (v j x y) a (least s nodes j x y) (node_at new (place s j x y)) over (tree j x y n) was told)
+            let told : HasTold (above s v j x y) (v j x y) (max a t) (node_at new (node_number s j x y)) = subst (λ b. HasTold (above s v j x y) (v j x y) b (node_at new (node_number s j x y))) (half_through s queries q 0 j x y (omega arith) through) (h.each j x y n) in
+            let same : node_at new (node_number s j x y) ≡ node_at nodes (node_number s j x y) = get_or-set_other nodes (way s q i) (node_number s j x y) node _ (apart_places s q.leaf i j x y less level n other) in
+            let was : IsAsked (node_at new (node_number s j x y)) a (least s nodes j x y) =
+            subst (λ (z : Node). IsAsked z a (least s nodes j x y)) (sym same) (subst (λ b. IsAsked (node_at nodes (node_number s j x y)) b (least s nodes j x y)) (half_less s queries q (suc i) j x y (omega (arith, under))) (m.is_asked j x y n)) in
+            subst (λ b. HasTold (above s v j x y) (v j x y) b (node_at new (node_number s j x y))) (sym (half_less s queries q (suc i) j x y (omega (arith, under))))
+            (less_asked (above s v j x y) (v j x y) a (least s nodes j x y) (node_at new (node_number s j x y)) over (tree j x y n) was told)
 
   pub walk_found : (i over : ℕ) (nodes : List Node) (r : Bits) (out : Bool × (List Node × Bits)) → i ≤ suc (top s) → Midway s queries q i over nodes → IsOver s v q i over
       → walk s q i over nodes r ≡ Ok out → HalfTold s v queries q 0 out.1.0 → WalkFound s v queries q i nodes r out.1.1 out.0
@@ -126,7 +126,7 @@ module _ (s : Shape) (v : Values) (queries : List Query) (q : Query) (less : q.l
       let e = walk_end s q over nodes r out h in
       record {
         was = subst (λ (ns : List Node). HalfTold s v queries q 0 ns) (sym (ap (λ (p : Bool × (List Node × Bits)). p.1.0) e)) done;
-        given = subst (λ (b : Bits). Gives r (told_below s v queries q 0) b) (ap (λ (p : Bool × (List Node × Bits)). p.1.1) e) (subst (λ (bs : List Bool). Gives r bs r) (sym (told_none s v queries q)) (gives_none r));
+        given = subst (λ (b : Bits). GivesBits r (told_below s v queries q 0) b) (ap (λ (p : Bool × (List Node × Bits)). p.1.1) e) (subst (λ (bs : List Bool). GivesBits r bs r) (sym (told_none s v queries q)) (gives_none r));
         answer = sym (ap (λ (p : Bool × (List Node × Bits)). p.0) e) ∙ (let value = o.value (omega arith) in let below = o.below (omega arith) in let yes : nat_lt (leaf_of s v q.leaf) q.threshold ≡ true = grind (arith, nat_tests) in sym yes);
       }
   walk_found (suc i) over nodes r out level m o h done =
@@ -159,7 +159,7 @@ module _ (s : Shape) (v : Values) (queries : List Query) (q : Query) (less : q.l
             let rec = walk_found i st.node.low nodes1 st.mid out (omega (arith, level)) (midway_on s queries q less i over nodes st.node in_tree m knows on.0) (over_next s v q i st.node.low in_tree value on.0) on.1 done in
             record {
               was = before_on i over nodes st.node in_tree m f.was rec.was;
-              given = subst (λ (bs : List Bool). Gives r bs out.1.1) (sym (below-suc s v queries q i)) (gives_join r st.mid out.1.1 (piece u w a t) (told_below s v queries q i) f.given rec.given);
+              given = subst (λ (bs : List Bool). GivesBits r bs out.1.1) (sym (below-suc s v queries q i)) (gives_join r st.mid out.1.1 (rest_of_word u w a t) (told_below s v queries q i) f.given rec.given);
               answer = rec.answer;
             })
         | inr stop ↦
@@ -172,8 +172,8 @@ module _ (s : Shape) (v : Values) (queries : List Query) (q : Query) (less : q.l
             let answer : false ≡ nat_lt (leaf_of s v q.leaf) t = grind (arith, nat_tests) in
             record {
               was = before_stop i over nodes st.node in_tree m f.was high (subst (λ (ns : List Node). HalfTold s v queries q 0 ns) (sym ends) done);
-              given = subst (λ (bs : List Bool). Gives r bs out.1.1) (sym (append-nil (piece u w a t)) ∙ ap (λ (bs : List Bool). piece u w a t ++ bs) (sym (below_none s v queries q less tree i in_tree high)) ∙ sym (below-suc s v queries q i))
-                  (subst (λ (b : Bits). Gives r (piece u w a t) b) bits f.given);
+              given = subst (λ (bs : List Bool). GivesBits r bs out.1.1) (sym (append-nil (rest_of_word u w a t)) ∙ ap (λ (bs : List Bool). rest_of_word u w a t ++ bs) (sym (below_none s v queries q less tree i in_tree high)) ∙ sym (below-suc s v queries q i))
+                  (subst (λ (b : Bits). GivesBits r (rest_of_word u w a t) b) bits f.given);
               answer = sym (ap (λ (e : Bool × (List Node × Bits)). e.0) stop.1) ∙ answer;
             })
       ]

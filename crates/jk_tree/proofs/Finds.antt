@@ -7,7 +7,7 @@ use Rattle.std.proofs.lemmas.List.{get_or-set_same, get_or-set_other, length-set
 use Rattle.jk_math.specs.Answer.{◌>>=◌}
 use Rattle.jk_math.specs.declared.fault.Fault.{Fault}
 use Rattle.jk_bits.specs.Reading.{Bits}
-use Rattle.jk_tree.specs.TagTree.{Shape, top, place, count, column, row, Query}
+use Rattle.jk_tree.specs.TagTree.{Shape, top, node_number, count, column, row, Query}
 use Rattle.jk_tree.specs.declared.node.Node.{Node}
 use Rattle.jk_tree.specs.Asking.{node_at, visit, walk}
 use Rattle.jk_tree.proofs.Visits.{visit_stays, visit_known}
@@ -16,7 +16,7 @@ use Rattle.jk_tree.proofs.Walks.{walk_over, walk_level}
 
 -- the place of the node of level i on the way
 abbrev pub way : Shape → Query → ℕ → ℕ
-way s q i = place s i (column s q.leaf i) (row s q.leaf i)
+way s q i = node_number s i (column s q.leaf i) (row s q.leaf i)
 
 pub way_apart : (s : Shape) (q : Query) → q.leaf < s.width * s.height → (i k : ℕ) → i ≤ top s → k ≤ top s → k < i → way s q k ≡ way s q i → ⊥
 way_apart s q less i k level low under e =

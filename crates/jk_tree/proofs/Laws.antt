@@ -8,10 +8,10 @@ use Rattle.std.proofs.lemmas.List.{length-set, length-replicate}
 use Rattle.jk_math.specs.Answer.{◌>>=◌}
 use Rattle.jk_math.specs.declared.fault.Fault.{Fault}
 use Rattle.jk_bits.specs.Reading.{Bits, ahead}
-use Rattle.jk_tree.specs.TagTree.{Shape, top, place, count, column, row, IsNode, Values, above, IsTree, Query, query_of, passes, asked, word, piece, told_below, told, leaf_of}
+use Rattle.jk_tree.specs.TagTree.{Shape, top, node_number, count, column, row, IsNode, Values, above, IsTree, Query, query_of, passes, asked, word, rest_of_word, told_below, told, leaf_of}
 use Rattle.jk_tree.specs.declared.node.Node.{Node}
-use Rattle.jk_tree.specs.Asking.{HasTold, node_at, AreTold, AreToldBySome, walk, Tree, IsOpen, unless_failed, blank_tree, ask_at}
-use Rattle.jk_bits.specs.Giving.{Gives, advance, Moves}
+use Rattle.jk_tree.specs.Asking.{HasTold, node_at, AreTold, AreToldBySome, walk, TagTreeRead, IsOpen, unless_failed, blank_tree, ask_at}
+use Rattle.jk_bits.specs.Giving.{GivesBits, advance, Moves}
 use Rattle.jk_tree.proofs.Moving.{walk_moves}
 use Rattle.jk_tree.proofs.Visits.{piece_asked, piece_known}
 use Rattle.jk_tree.proofs.Places.{path_node, passes_at, passes_own, place_leaf}
@@ -22,28 +22,28 @@ use Rattle.jk_tree.proofs.Asks.{fresh}
 use Rattle.jk_tree.proofs.Answering.{only_law, found_law}
 pub use Rattle.jk_tree.proofs.Written.{written_tree, written_leaf}
 
-pub asked_then : (f : Option Fault) (t : Tree) (w : Result (Bool × (List Node × Bits)) Fault) (out : Bool × (Tree × Bits)) → unless_failed f (w >>= λ o. Ok (o.0, (record t { nodes = o.1.0 }, o.1.1))) ≡ Ok out
+pub asked_then : (f : Option Fault) (t : TagTreeRead) (w : Result (Bool × (List Node × Bits)) Fault) (out : Bool × (TagTreeRead × Bits)) → unless_failed f (w >>= λ o. Ok (o.0, (record t { nodes = o.1.0 }, o.1.1))) ≡ Ok out
     → (f ≡ None) × (o : Bool × (List Node × Bits)) × (w ≡ Ok o) × ((o.0, (record t { nodes = o.1.0 }, o.1.1)) ≡ out)
 asked_then (Some e) t w out h = absurd (cc)
 asked_then None t (Err e) out h = absurd (cc)
 asked_then None t (Ok o) out h = (refl, o, refl, cc)
 
 -- A leaf that is below a threshold is known, and has a low below it.
-pub low_below : (q : Query) (t : Tree) (r : Bits) (out : Bool × (Tree × Bits)) → q.leaf < t.shape.width * t.shape.height → length t.nodes ≡ count t.shape → ask_at q (t, r) ≡ Ok out → out.0 ≡ true
+pub low_below : (q : Query) (t : TagTreeRead) (r : Bits) (out : Bool × (TagTreeRead × Bits)) → q.leaf < t.shape.width * t.shape.height → length t.nodes ≡ count t.shape → ask_at q (t, r) ≡ Ok out → out.0 ≡ true
     → ((node_at out.1.0.nodes q.leaf).known ≡ true) × ((node_at out.1.0.nodes q.leaf).low < q.threshold)
 unfolding ask_at
 low_below q t r out less long h goes =
     let a = asked_then t.failed t (walk t.shape q (top t.shape + 1) 0 t.nodes r) out h in
     let o = a.1 in
-    let w = walk_through t.shape q less (top t.shape + 1) 0 t.nodes r o (omega arith) long a.2 (ap (λ (x : Bool × (Tree × Bits)). x.0) a.3 ∙ goes) 0 (omega arith) in
-    let same : node_at o.1.0 (way t.shape q 0) ≡ node_at out.1.0.nodes q.leaf = ap (node_at o.1.0) (place_leaf t.shape q.leaf) ∙ ap (λ (x : Bool × (Tree × Bits)). node_at x.1.0.nodes q.leaf) a.3 in
+    let w = walk_through t.shape q less (top t.shape + 1) 0 t.nodes r o (omega arith) long a.2 (ap (λ (x : Bool × (TagTreeRead × Bits)). x.0) a.3 ∙ goes) 0 (omega arith) in
+    let same : node_at o.1.0 (way t.shape q 0) ≡ node_at out.1.0.nodes q.leaf = ap (node_at o.1.0) (place_leaf t.shape q.leaf) ∙ ap (λ (x : Bool × (TagTreeRead × Bits)). node_at x.1.0.nodes q.leaf) a.3 in
     subst (λ (z : Node). (z.known ≡ true) × (z.low < q.threshold)) same w
 
-pub ask_moves : (q : Query) (t : Tree) (r : Bits) (o : Bool × (Tree × Bits)) → ask_at q (t, r) ≡ Ok o → Moves r o.1.1
+pub ask_moves : (q : Query) (t : TagTreeRead) (r : Bits) (o : Bool × (TagTreeRead × Bits)) → ask_at q (t, r) ≡ Ok o → Moves r o.1.1
 unfolding ask_at
 ask_moves q t r o h =
     let a = asked_then t.failed t (walk t.shape q (top t.shape + 1) 0 t.nodes r) o h in
-    subst (λ (x : Bool × (Tree × Bits)). Moves r x.1.1) a.3 (walk_moves t.shape q (top t.shape + 1) 0 t.nodes r a.1 a.2)
+    subst (λ (x : Bool × (TagTreeRead × Bits)). Moves r x.1.1) a.3 (walk_moves t.shape q (top t.shape + 1) 0 t.nodes r a.1 a.2)
 
 walk_long : (s : Shape) (q : Query) (i over : ℕ) (nodes : List Node) (r : Bits) (o : Bool × (List Node × Bits)) → walk s q i over nodes r ≡ Ok o → length o.1.0 ≡ length nodes
 walk_long s q zero over nodes r o h = ap (λ (p : Bool × (List Node × Bits)). length p.1.0) (sym (walk_end s q over nodes r o h))
@@ -56,24 +56,24 @@ walk_long s q (suc i) over nodes r o h =
     ]
 
 -- a tree that was asked can be asked again
-asked_open : (s : Shape) (q : Query) (t : Tree) (r : Bits) (o : Bool × (Tree × Bits)) → IsOpen s t → ask_at q (t, r) ≡ Ok o → IsOpen s o.1.0
+asked_open : (s : Shape) (q : Query) (t : TagTreeRead) (r : Bits) (o : Bool × (TagTreeRead × Bits)) → IsOpen s t → ask_at q (t, r) ≡ Ok o → IsOpen s o.1.0
 unfolding ask_at
 asked_open s q t r o w h =
     let a = asked_then t.failed t (walk t.shape q (top t.shape + 1) 0 t.nodes r) o h in
-    subst (λ (x : Bool × (Tree × Bits)). IsOpen s x.1.0) a.3 record {
+    subst (λ (x : Bool × (TagTreeRead × Bits)). IsOpen s x.1.0) a.3 record {
       shape = w.shape;
       sound = w.sound;
       long = walk_long t.shape q (top t.shape + 1) 0 t.nodes r a.1 a.2 ∙ w.long;
     }
 
 -- What a tree would tell is read.
-pub record AskOnly (s : Shape) (v : Values) (queries : List Query) (q : Query) (t : Tree) (r : Bits) : Type 0 where
-  pub after : Tree
+pub record AskOnly (s : Shape) (v : Values) (queries : List Query) (q : Query) (t : TagTreeRead) (r : Bits) : Type 0 where
+  pub after : TagTreeRead
   pub is : ask_at q (t, r) ≡ Ok (nat_lt (leaf_of s v q.leaf) q.threshold, (after, advance r (length (told s v queries q))))
   pub can : IsOpen s after
   pub stands : AreTold s v (queries ++ q ∷ []) after.nodes
 
-ask_here : (v : Values) (queries : List Query) (q : Query) (t : Tree) (r : Bits) (rest : List Bool) → q.leaf < t.shape.width * t.shape.height → IsOpen t.shape t → AreTold t.shape v queries t.nodes
+ask_here : (v : Values) (queries : List Query) (q : Query) (t : TagTreeRead) (r : Bits) (rest : List Bool) → q.leaf < t.shape.width * t.shape.height → IsOpen t.shape t → AreTold t.shape v queries t.nodes
     → ahead r ≡ told t.shape v queries q ++ rest → AskOnly t.shape v queries q t r
 ask_here v queries q t r rest less w st first =
     let law = only_law q t r v queries rest less w.long w.sound st first in
@@ -87,19 +87,19 @@ ask_here v queries q t r rest less w st first =
       stands = a.after;
     }
 
-pub ask_only : (s : Shape) (v : Values) (queries : List Query) (q : Query) (t : Tree) (r : Bits) (rest : List Bool) → q.leaf < s.width * s.height → IsOpen s t → AreTold s v queries t.nodes
+pub ask_only : (s : Shape) (v : Values) (queries : List Query) (q : Query) (t : TagTreeRead) (r : Bits) (rest : List Bool) → q.leaf < s.width * s.height → IsOpen s t → AreTold s v queries t.nodes
     → ahead r ≡ told s v queries q ++ rest → AskOnly s v queries q t r
 ask_only s v queries q t r rest less w =
     subst (λ (x : Shape). q.leaf < x.width * x.height → IsOpen x t → AreTold x v queries t.nodes → ahead r ≡ told x v queries q ++ rest → AskOnly x v queries q t r) w.shape
     (λ l o st first. ask_here v queries q t r rest l o st first) less w
 
 -- What is read is what each tree tells that stands afterwards, and there is one.
-pub record AskFound (s : Shape) (queries : List Query) (q : Query) (t : Tree) (r : Bits) (o : Bool × (Tree × Bits)) : Type 0 where
+pub record AskFound (s : Shape) (queries : List Query) (q : Query) (t : TagTreeRead) (r : Bits) (o : Bool × (TagTreeRead × Bits)) : Type 0 where
   pub can : IsOpen s o.1.0
   pub reached : AreToldBySome s (queries ++ q ∷ []) o.1.0.nodes
-  pub each : (v : Values) → AreTold s v (queries ++ q ∷ []) o.1.0.nodes → AreTold s v queries t.nodes × Gives r (told s v queries q) o.1.1 × (o.0 ≡ nat_lt (leaf_of s v q.leaf) q.threshold)
+  pub each : (v : Values) → AreTold s v (queries ++ q ∷ []) o.1.0.nodes → AreTold s v queries t.nodes × GivesBits r (told s v queries q) o.1.1 × (o.0 ≡ nat_lt (leaf_of s v q.leaf) q.threshold)
 
-found_here : (queries : List Query) (q : Query) (t : Tree) (r : Bits) (o : Bool × (Tree × Bits)) → q.leaf < t.shape.width * t.shape.height → IsOpen t.shape t → AreToldBySome t.shape queries t.nodes
+found_here : (queries : List Query) (q : Query) (t : TagTreeRead) (r : Bits) (o : Bool × (TagTreeRead × Bits)) → q.leaf < t.shape.width * t.shape.height → IsOpen t.shape t → AreToldBySome t.shape queries t.nodes
     → ask_at q (t, r) ≡ Ok o → AskFound t.shape queries q t r o
 unfolding ask_at
 found_here queries q t r o less w reached h =
@@ -107,12 +107,12 @@ found_here queries q t r o less w reached h =
     let law = found_law q t r a.1 queries less w.long w.sound a.2 reached in
     record {
       can = asked_open t.shape q t r o w h;
-      reached = subst (λ (x : Bool × (Tree × Bits)). AreToldBySome t.shape (queries ++ q ∷ []) x.1.0.nodes) a.3 law.0;
-      each = subst (λ (x : Bool × (Tree × Bits)). (v : Values) → AreTold t.shape v (queries ++ q ∷ []) x.1.0.nodes → AreTold t.shape v queries t.nodes × Gives r (told t.shape v queries q) x.1.1 × (x.0 ≡ nat_lt (leaf_of t.shape v q.leaf) q.threshold)) a.3
+      reached = subst (λ (x : Bool × (TagTreeRead × Bits)). AreToldBySome t.shape (queries ++ q ∷ []) x.1.0.nodes) a.3 law.0;
+      each = subst (λ (x : Bool × (TagTreeRead × Bits)). (v : Values) → AreTold t.shape v (queries ++ q ∷ []) x.1.0.nodes → AreTold t.shape v queries t.nodes × GivesBits r (told t.shape v queries q) x.1.1 × (x.0 ≡ nat_lt (leaf_of t.shape v q.leaf) q.threshold)) a.3
           (λ v st. let f = law.1 v st in (f.before, f.given, f.answer));
     }
 
-pub ask_found : (s : Shape) (queries : List Query) (q : Query) (t : Tree) (r : Bits) (o : Bool × (Tree × Bits)) → q.leaf < s.width * s.height → IsOpen s t → AreToldBySome s queries t.nodes → ask_at q (t, r) ≡ Ok o → AskFound s queries q t r o
+pub ask_found : (s : Shape) (queries : List Query) (q : Query) (t : TagTreeRead) (r : Bits) (o : Bool × (TagTreeRead × Bits)) → q.leaf < s.width * s.height → IsOpen s t → AreToldBySome s queries t.nodes → ask_at q (t, r) ≡ Ok o → AskFound s queries q t r o
 ask_found s queries q t r o less w =
     subst (λ (x : Shape). q.leaf < x.width * x.height → IsOpen x t → AreToldBySome x queries t.nodes → ask_at q (t, r) ≡ Ok o → AskFound x queries q t r o) w.shape
     (λ l u reached h. found_here queries q t r o l u reached h) less w
@@ -127,7 +127,7 @@ over_leaf s v leaf (suc i) less tree level =
     omega (arith, below, here, up)
 
 -- A node below two thresholds tells the same at either.
-piece_same : (u w a t t' : ℕ) → u ≤ w → w < t → t ≤ t' → piece u w a t ≡ piece u w a t'
+piece_same : (u w a t t' : ℕ) → u ≤ w → w < t → t ≤ t' → rest_of_word u w a t ≡ rest_of_word u w a t'
 piece_same u w a t t' tree less more =
     elim (cases_lt a t) [
       | inl asks ↦
@@ -158,7 +158,7 @@ told_below_same s v queries leaf t t' (suc i) less tree low more level =
     let up : above s v i x y ≤ v i x y = tree i x y (path_node s leaf i less (omega (arith, level))) in
     below-suc s v queries (query_of leaf t) i
     ∙ ap (λ (bits : List Bool). bits ++ told_below s v queries (query_of leaf t) i) (piece_same (above s v i x y) (v i x y) (asked s queries i x y) t t' up here more)
-    ∙ ap (λ (bits : List Bool). piece (above s v i x y) (v i x y) (asked s queries i x y) t' ++ bits) (told_below_same s v queries leaf t t' i less tree low more (omega (arith, level)))
+    ∙ ap (λ (bits : List Bool). rest_of_word (above s v i x y) (v i x y) (asked s queries i x y) t' ++ bits) (told_below_same s v queries leaf t t' i less tree low more (omega (arith, level)))
     ∙ sym (below-suc s v queries (query_of leaf t') i)
 
 -- Asking for more than a leaf's value tells what asking up to it tells, and leaves the same.
@@ -195,7 +195,7 @@ pub stands_same : (s : Shape) (v : Values) (queries : List Query) (leaf t t' : �
     → AreTold s v (queries ++ query_of leaf t' ∷ []) nodes
 stands_same s v queries leaf t t' nodes less low low' st = record {
   tree = st.tree;
-  each = λ j x y n. asked_same s v queries leaf t t' j x y (node_at nodes (place s j x y)) less st.tree low low' n (st.each j x y n);
+  each = λ j x y n. asked_same s v queries leaf t t' j x y (node_at nodes (node_number s j x y)) less st.tree low low' n (st.each j x y n);
 }
 
 -- What is known of a leaf is its value.

@@ -6,7 +6,7 @@ use Rattle.std.proofs.lemmas.Bool.Decides.{nat_tests}
 use Rattle.std.proofs.lemmas.Nat.{le-div, mul-add-lt, same_from_place, shr-shr, mod_below, div_below, div-add-mod'}
 use Rattle.std.proofs.Math.Nat.{div-mul-le_self, pow-suc, mul_comm}
 use Rattle.std.proofs.Math.Pow.{pow_pos}
-use Rattle.jk_tree.specs.TagTree.{Shape, wide, top, start, place, count, column, row, IsNode, passes}
+use Rattle.jk_tree.specs.TagTree.{Shape, wide, top, start, node_number, count, column, row, IsNode, passes}
 
 pub wide_from : (n i x : ℕ) → x * 2 ^ i < n → x < wide n i
 unfolding wide
@@ -58,25 +58,25 @@ start_mono s i (suc more) =
     let next : start s (i + suc more) ≡ start s (i + more) + wide s.width (i + more) * wide s.height (i + more) = ap (start s) at in
     omega (arith, next, start_mono s i more)
 
-pub place_from : (s : Shape) (i x y : ℕ) → start s i ≤ place s i x y
-unfolding place
+pub place_from : (s : Shape) (i x y : ℕ) → start s i ≤ node_number s i x y
+unfolding node_number
 place_from s i x y = omega arith
 
-pub place_below : (s : Shape) (i x y : ℕ) → IsNode s i x y → place s i x y < start s (suc i)
-unfolding place start
+pub place_below : (s : Shape) (i x y : ℕ) → IsNode s i x y → node_number s i x y < start s (suc i)
+unfolding node_number start
 place_below s i x y n =
     let fits = mul-add-lt y (wide s.width i) x (wide s.height i) n.down n.across in
     omega (arith, fits)
 
-same_in : (s : Shape) (i x y u v : ℕ) → IsNode s i x y → IsNode s i u v → place s i x y ≡ place s i u v → (x ≡ u) × (y ≡ v)
-unfolding place
+same_in : (s : Shape) (i x y u v : ℕ) → IsNode s i x y → IsNode s i u v → node_number s i x y ≡ node_number s i u v → (x ≡ u) × (y ≡ v)
+unfolding node_number
 same_in s i x y u v n m e =
     let level : y * wide s.width i + x ≡ v * wide s.width i + u = omega (arith, e) in
     let both = same_from_place y x v u (wide s.width i) n.across m.across level in
     (both.1, both.0)
 
 -- Each node has a place of its own.
-pub same_place : (s : Shape) (i x y j u v : ℕ) → IsNode s i x y → IsNode s j u v → place s i x y ≡ place s j u v → (i ≡ j) × (x ≡ u) × (y ≡ v)
+pub same_place : (s : Shape) (i x y j u v : ℕ) → IsNode s i x y → IsNode s j u v → node_number s i x y ≡ node_number s j u v → (i ≡ j) × (x ≡ u) × (y ≡ v)
 same_place s i x y j u v n m e =
     elim (cases_order i j) [
       | inl same ↦ in_level same
@@ -86,7 +86,7 @@ same_place s i x y j u v n m e =
       ]
     ]
   where
-    apart : (i x y j u v : ℕ) → IsNode s i x y → i < j → place s i x y ≡ place s j u v → ⊥
+    apart : (i x y j u v : ℕ) → IsNode s i x y → i < j → node_number s i x y ≡ node_number s j u v → ⊥
     apart i x y j u v n less e =
         let grows = start_mono s (suc i) (j - suc i) in
         let at : start s (suc i + (j - suc i)) ≡ start s j = ap (start s) (let k : suc i + (j - suc i) ≡ j = omega (arith, less) in k) in
@@ -97,12 +97,12 @@ same_place s i x y j u v n m e =
     in_level : i ≡ j → (i ≡ j) × (x ≡ u) × (y ≡ v)
     in_level same =
         let m' : IsNode s i u v = subst (λ k. IsNode s k u v) (sym same) m in
-        let e' : place s i x y ≡ place s i u v = e ∙ ap (λ k. place s k u v) (sym same) in
+        let e' : node_number s i x y ≡ node_number s i u v = e ∙ ap (λ k. node_number s k u v) (sym same) in
         let both = same_in s i x y u v n m' e' in
         (same, both.0, both.1)
 
 -- A node is among all nodes.
-pub place_counted : (s : Shape) (i x y : ℕ) → IsNode s i x y → place s i x y < count s
+pub place_counted : (s : Shape) (i x y : ℕ) → IsNode s i x y → node_number s i x y < count s
 place_counted s i x y n =
     let grows = start_mono s (suc i) (top s - i) in
     let at : start s (suc i + (top s - i)) ≡ start s (top s + 1) = ap (start s) (let k : suc i + (top s - i) ≡ top s + 1 = omega (arith, n.level) in k) in
@@ -136,8 +136,8 @@ over_one : (n : ℕ) → n / 2 ^ 0 ≡ n
 over_one n = let e : n / 1 ≡ n = omega arith in e
 
 -- A leaf's own place is its number.
-pub place_leaf : (s : Shape) (leaf : ℕ) → place s 0 (column s leaf 0) (row s leaf 0) ≡ leaf
-unfolding place start wide
+pub place_leaf : (s : Shape) (leaf : ℕ) → node_number s 0 (column s leaf 0) (row s leaf 0) ≡ leaf
+unfolding node_number start wide
 place_leaf s leaf =
     let w = s.width in
     let wide_is : (w + 2 ^ 0 - 1) / 2 ^ 0 ≡ w = over_one (w + 1 - 1) ∙ omega arith in
@@ -162,12 +162,12 @@ passes_own s leaf i = own (column s leaf i) (row s leaf i)
 pub record StandsOver (s : Shape) (i x y start_above : ℕ) : Type 0 where
   pub level_fits : wide s.width i * wide s.height i ≤ start_above
   pub start_is : start_above - wide s.width i * wide s.height i ≡ start s i
-  pub place_is : start_above - wide s.width i * wide s.height i + y / 2 ^ i * wide s.width i + x / 2 ^ i ≡ place s i (x / 2 ^ i) (y / 2 ^ i)
-  pub within : place s i (x / 2 ^ i) (y / 2 ^ i) < count s
-  pub below : place s i (x / 2 ^ i) (y / 2 ^ i) < start_above
+  pub place_is : start_above - wide s.width i * wide s.height i + y / 2 ^ i * wide s.width i + x / 2 ^ i ≡ node_number s i (x / 2 ^ i) (y / 2 ^ i)
+  pub within : node_number s i (x / 2 ^ i) (y / 2 ^ i) < count s
+  pub below : node_number s i (x / 2 ^ i) (y / 2 ^ i) < start_above
 
 pub stands_over : (s : Shape) (i x y start_above : ℕ) → i ≤ top s → x < s.width → y < s.height → start_above ≡ start s (i + 1) → StandsOver s i x y start_above
-unfolding start place
+unfolding start node_number
 stands_over s i x y start_above level across down e =
     let n : IsNode s i (x / 2 ^ i) (y / 2 ^ i) = record { level = level; across = under s.width i x across; down = under s.height i y down } in
     let next : start_above ≡ start s i + wide s.width i * wide s.height i = e ∙ ap (start s) (let k : i + 1 ≡ suc i = omega arith in k) in

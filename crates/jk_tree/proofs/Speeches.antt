@@ -5,7 +5,7 @@ use Rattle.std.specs.Prelude.{◌==◌, ◌⊎◌, nat_lt}
 use Rattle.std.proofs.lemmas.Bool.{cases_lt}
 use Rattle.std.proofs.lemmas.Bool.Decides.{nat_tests}
 use Rattle.jk_bits.specs.Writing.{Written}
-use Rattle.jk_tree.specs.TagTree.{Shape, top, place, count, column, row, Values, above, IsTree, Query, passes, asked, piece, told_below, told}
+use Rattle.jk_tree.specs.TagTree.{Shape, top, node_number, count, column, row, Values, above, IsTree, Query, passes, asked, rest_of_word, told_below, told}
 use Rattle.jk_tree.specs.declared.write.WriteNode.{WriteNode}
 use Rattle.jk_tree.specs.Telling.{speaker_at, Speaks}
 use Rattle.jk_tree.proofs.Places.{path_node}
@@ -76,9 +76,9 @@ done s v queries q over nodes old new less h = (
 
 -- one level told
 pub speak_level : (s : Shape) (v : Values) (queries : List Query) (q : Query) (i over : ℕ) (nodes : List WriteNode) (old mid new : Written) (node : WriteNode) → q.leaf < s.width * s.height → i ≤ top s
-    → HalfSpoken s v queries q (suc i) over nodes old mid → node ≡ speaker_at nodes (place s i (column s q.leaf i) (row s q.leaf i))
-    → (over ≤ node.value → new ≡ record mid { bits = mid.bits ++ piece over node.value node.told q.threshold })
-    → HalfSpoken s v queries q i node.value (set nodes (place s i (column s q.leaf i) (row s q.leaf i)) (record { value = node.value; told = max node.told q.threshold })) old new
+    → HalfSpoken s v queries q (suc i) over nodes old mid → node ≡ speaker_at nodes (node_number s i (column s q.leaf i) (row s q.leaf i))
+    → (over ≤ node.value → new ≡ record mid { bits = mid.bits ++ rest_of_word over node.value node.told q.threshold })
+    → HalfSpoken s v queries q i node.value (set nodes (node_number s i (column s q.leaf i) (row s q.leaf i)) (record { value = node.value; told = max node.told q.threshold })) old new
 speak_level s v queries q i over nodes old mid new node less level h is tells =
     let x = column s q.leaf i in
     let y = row s q.leaf i in
@@ -88,32 +88,32 @@ speak_level s v queries q i over nodes old mid new node less level h is tells =
     let value_is : node.value ≡ v i x y = ap (λ (n : WriteNode). n.value) own in
     let told_is : node.told ≡ asked s queries i x y = ap (λ (n : WriteNode). n.told) own in
     let under : over ≤ node.value = (let a = h.tree i x y (path_node s q.leaf i less level) in let b = h.over_is in omega (arith, a, b, value_is)) in
-    let said : new ≡ record mid { bits = mid.bits ++ piece over node.value node.told q.threshold } = tells under in
-    let piece_is : piece over node.value node.told q.threshold ≡ piece (above s v i x y) (v i x y) (asked s queries i x y) q.threshold =
-    ap (λ o. piece o node.value node.told q.threshold) h.over_is ∙ ap (λ w. piece (above s v i x y) w node.told q.threshold) value_is ∙ ap (λ a. piece (above s v i x y) (v i x y) a q.threshold) told_is in
+    let said : new ≡ record mid { bits = mid.bits ++ rest_of_word over node.value node.told q.threshold } = tells under in
+    let piece_is : rest_of_word over node.value node.told q.threshold ≡ rest_of_word (above s v i x y) (v i x y) (asked s queries i x y) q.threshold =
+    ap (λ o. rest_of_word o node.value node.told q.threshold) h.over_is ∙ ap (λ w. rest_of_word (above s v i x y) w node.told q.threshold) value_is ∙ ap (λ a. rest_of_word (above s v i x y) (v i x y) a q.threshold) told_is in
     let more = told_below s v queries q i in
     record {
       tree = h.tree;
-      changed = subst (λ (n : WriteNode). Changed WriteNode silent_node s q.leaf f g i (set nodes (place s i x y) n))
+      changed = subst (λ (n : WriteNode). Changed WriteNode silent_node s q.leaf f g i (set nodes (node_number s i x y) n))
           (ap (λ w. record { value = w; told = max (asked s queries i x y) q.threshold }) (sym value_is) ∙ ap (λ a. record { value = node.value; told = max a q.threshold }) (sym told_is))
           (changed_set WriteNode silent_node s q.leaf less f g i nodes level h.changed);
       over_is = next_above s v q i node.value level value_is;
       bits =
           h.bits
           ∙ ap (λ (bs : List Bool). mid.bits ++ bs) (below-suc s v queries q i ∙ ap (λ (bs : List Bool). bs ++ more) (sym piece_is))
-          ∙ sym (append_assoc mid.bits (piece over node.value node.told q.threshold) more)
+          ∙ sym (append_assoc mid.bits (rest_of_word over node.value node.told q.threshold) more)
           ∙ ap (λ (w : Written). w.bits ++ more) (sym said);
       failed = ap (λ (w : Written). w.failed) said ∙ h.failed;
     }
 
 -- The piece that speak tells.
 pub spoken_piece : (over value told threshold : ℕ) → over ≤ value → told < threshold → told ≤ value
-    → (bits : List Bool) → (bits ++ replicate (min value threshold - max told (min over threshold)) false) ++ ending (nat_lt value threshold) ≡ bits ++ piece over value told threshold
+    → (bits : List Bool) → (bits ++ replicate (min value threshold - max told (min over threshold)) false) ++ ending (nat_lt value threshold) ≡ bits ++ rest_of_word over value told threshold
 spoken_piece over value told threshold tree less open_value bits =
     append_assoc bits (replicate (min value threshold - max told (min over threshold)) false) (ending (nat_lt value threshold))
     ∙ ap (λ (bs : List Bool). bits ++ bs) (sym (piece-form over value told threshold tree less open_value))
 
-pub silent_piece : (over value told threshold : ℕ) → over ≤ value → (threshold ≤ told) ⊎ (value < told) → piece over value told threshold ≡ []
+pub silent_piece : (over value told threshold : ℕ) → over ≤ value → (threshold ≤ told) ⊎ (value < told) → rest_of_word over value told threshold ≡ []
 silent_piece over value told threshold tree (inl enough) = piece_asked over value told threshold enough
 silent_piece over value told threshold tree (inr known) =
     elim (cases_lt told threshold) [

@@ -7,10 +7,10 @@ use Rattle.std.proofs.lemmas.List.{length-replicate, drop-append-le, drop_all, d
 use Rattle.jk_math.specs.Answer.{◌>>=◌}
 use Rattle.jk_math.specs.declared.fault.Fault.{Fault}
 use Rattle.jk_bits.specs.Reading.{Bits, ahead, bit_at}
-use Rattle.jk_tree.specs.TagTree.{word, piece}
+use Rattle.jk_tree.specs.TagTree.{word, rest_of_word}
 use Rattle.jk_tree.specs.declared.node.Node.{Node}
 use Rattle.jk_tree.specs.Asking.{HasTold, climb, visit}
-use Rattle.jk_bits.specs.Giving.{Gives, advance, ahead_on, gives_none, gives_join, gives_bit, bit_ahead}
+use Rattle.jk_bits.specs.Giving.{GivesBits, advance, ahead_on, gives_none, gives_join, gives_bit, bit_ahead}
 
 -- the one that ends a word, where there is one
 abbrev pub ending : Bool → List Bool
@@ -22,9 +22,9 @@ pub record Climbed (low more : ℕ) (node : Node) (old new : Bits) : Type 0 wher
   pub low_is : node.low ≡ low + zeros
   pub whole : node.known ≡ false → zeros ≡ more
   pub part : node.known ≡ true → zeros < more
-  pub given : Gives old (replicate zeros false ++ ending node.known) new
+  pub given : GivesBits old (replicate zeros false ++ ending node.known) new
 
-climbed_step : (low more : ℕ) (node : Node) (old mid new : Bits) → Gives old (false ∷ []) mid → Climbed (low + 1) more node mid new → Climbed low (suc more) node old new
+climbed_step : (low more : ℕ) (node : Node) (old mid new : Bits) → GivesBits old (false ∷ []) mid → Climbed (low + 1) more node mid new → Climbed low (suc more) node old new
 climbed_step low more node old mid new g c = record {
   zeros = suc c.zeros;
   low_is = c.low_is ∙ omega arith;
@@ -42,10 +42,10 @@ climb_after low more old r on b e true is h =
       low_is = sym (add-zero low);
       whole = λ h. absurd (cc);
       part = λ _. omega arith;
-      given = subst (λ (c : Bool). Gives old (c ∷ []) b.1) is (gives_bit old b e);
+      given = subst (λ (c : Bool). GivesBits old (c ∷ []) b.1) is (gives_bit old b e);
     }
 climb_after low more old r on b e false is h =
-    climbed_step low more r.0 old b.1 r.1 (subst (λ (c : Bool). Gives old (c ∷ []) b.1) is (gives_bit old b e)) (on b.1 r h)
+    climbed_step low more r.0 old b.1 r.1 (subst (λ (c : Bool). GivesBits old (c ∷ []) b.1) is (gives_bit old b e)) (on b.1 r h)
 
 climb_more : (low more : ℕ) (old : Bits) (r : Node × Bits) → ((b : Bits) (r : Node × Bits) → climb (low + 1) more b ≡ Ok r → Climbed (low + 1) more r.0 b r.1)
     → (o : Result (Bool × Bits) Fault) → bit_at old ≡ o → (o >>= (λ b. cond b.0 (Ok (record { low = low; known = true }, b.1)) (climb (low + 1) more b.1))) ≡ Ok r → Climbed low (suc more) r.0 old r.1
@@ -90,7 +90,7 @@ climb_one low more r rest h =
 
 -- A piece that isn't empty.
 pub piece-form : (over value before threshold : ℕ) → over ≤ value → before < threshold → before ≤ value
-    → piece over value before threshold ≡ replicate (min value threshold - max before (min over threshold)) false ++ ending (nat_lt value threshold)
+    → rest_of_word over value before threshold ≡ replicate (min value threshold - max before (min over threshold)) false ++ ending (nat_lt value threshold)
 piece-form u w a t tree less open_value =
     let zeros = min w t - min u t in
     let told = a - min u a in
@@ -109,12 +109,12 @@ piece-form u w a t tree less open_value =
     ∙ ap (λ n. replicate n false ++ last) (let e : zeros - told ≡ min w t - max a (min u t) = omega arith in e)
 
 -- A piece that is empty: the node was asked for as much, or its value is known.
-pub piece_asked : (over value before threshold : ℕ) → threshold ≤ before → piece over value before threshold ≡ []
+pub piece_asked : (over value before threshold : ℕ) → threshold ≤ before → rest_of_word over value before threshold ≡ []
 piece_asked u w a t h =
     let asks : nat_lt a t ≡ false = grind (arith, nat_tests) in
     ap (λ (b : Bool). cond b (drop (length (word u w a)) (word u w t)) []) asks
 
-pub piece_known : (over value before threshold : ℕ) → over ≤ value → value < before → before < threshold → piece over value before threshold ≡ []
+pub piece_known : (over value before threshold : ℕ) → over ≤ value → value < before → before < threshold → rest_of_word over value before threshold ≡ []
 piece_known u w a t tree known less =
     let asks : nat_lt a t ≡ true = grind (arith, nat_tests) in
     let one : nat_lt w a ≡ true = grind (arith, nat_tests) in
@@ -188,19 +188,19 @@ told_has u w m = record {
   least = λ n. (let more : m ≤ w = grind (arith, nat_tests) in (omega (arith, more), omega (arith, more)));
 }
 
-told_climbed : (u w a t : ℕ) (r : Bits) (rest : List Bool) → u ≤ w → a < t → a ≤ w → ahead r ≡ piece u w a t ++ rest → visit (told_node w a) (min u t) t r ≡ Ok (told_node w (max a t), advance r (length (piece u w a t)))
+told_climbed : (u w a t : ℕ) (r : Bits) (rest : List Bool) → u ≤ w → a < t → a ≤ w → ahead r ≡ rest_of_word u w a t ++ rest → visit (told_node w a) (min u t) t r ≡ Ok (told_node w (max a t), advance r (length (rest_of_word u w a t)))
 unfolding climb
 told_climbed u w a t r rest tree less open_value h =
     let at = max a (min u t) in
     let zeros = min w t - at in
     let known = nat_lt w t in
-    let form : piece u w a t ≡ replicate zeros false ++ ending known = piece-form u w a t tree less open_value in
+    let form : rest_of_word u w a t ≡ replicate zeros false ++ ending known = piece-form u w a t tree less open_value in
     let first : ahead r ≡ replicate zeros false ++ (ending known ++ rest) = h ∙ ap (λ (xs : List Bool). xs ++ rest) form ∙ append_assoc (replicate zeros false) (ending known) rest in
     let low_is : min w a ≡ a = omega arith in
     let unknown : nat_lt w a ≡ false = grind (arith, nat_tests) in
     let opened : visit (told_node w a) (min u t) t r ≡ climb at (t - at) r =
     visit_open (told_node w a) (min u t) t r unknown (omega arith) ∙ ap (λ n. climb (max n (min u t)) (t - max n (min u t)) r) low_is in
-    let long : length (piece u w a t) ≡ zeros + length (ending known) =
+    let long : length (rest_of_word u w a t) ≡ zeros + length (ending known) =
     ap length form ∙ length-append (replicate zeros false) (ending known) ∙ ap (λ n. n + length (ending known)) (length-replicate zeros false) in
     let top_is : max a t ≡ t = omega arith in
     elim (cases_lt w t) [
@@ -230,13 +230,13 @@ not_less a b h = grind (arith, nat_tests)
 -- What a visit gives at a node whose piece is ahead.
 pub record VisitTold (u w a t : ℕ) (node : Node) (r : Bits) : Type 0 where
   pub after : Node
-  pub is : visit node (min u t) t r ≡ Ok (after, advance r (length (piece u w a t)))
+  pub is : visit node (min u t) t r ≡ Ok (after, advance r (length (rest_of_word u w a t)))
   pub told : HasTold u w (max a t) after
   pub below : after.low < t → after.low ≡ w
   pub high : t ≤ after.low → t ≤ w
 
 -- nothing is told, and the node stays
-told_kept : (u w a t : ℕ) (node : Node) (r : Bits) → (node.known ≡ true) ⊎ (t ≤ node.low) → piece u w a t ≡ [] → visit node (min u t) t r ≡ Ok (node, advance r (length (piece u w a t)))
+told_kept : (u w a t : ℕ) (node : Node) (r : Bits) → (node.known ≡ true) ⊎ (t ≤ node.low) → rest_of_word u w a t ≡ [] → visit node (min u t) t r ≡ Ok (node, advance r (length (rest_of_word u w a t)))
 told_kept u w a t node r stays none =
     visit_stays node (min u t) t r stays
     ∙ ap (λ k. Ok (node, record r { read = k })) (sym (add-zero r.read))
@@ -248,7 +248,7 @@ told_known u w a t node r tree h less =
     let later : nat_lt w (max a t) ≡ true = grind (arith, nat_tests) in
     let is_known : node.known ≡ true = h.known ∙ one in
     let value : node.low ≡ w = h.value is_known in
-    let none : piece u w a t ≡ [] = elim (cases_lt a t) [ inl more ↦ piece_known u w a t tree less more | inr enough ↦ piece_asked u w a t enough ] in
+    let none : rest_of_word u w a t ≡ [] = elim (cases_lt a t) [ inl more ↦ piece_known u w a t tree less more | inr enough ↦ piece_asked u w a t enough ] in
     record {
       after = node;
       is = told_kept u w a t node r (inl is_known) none;
@@ -276,7 +276,7 @@ told_over u w a t node r h open_value unknown less enough =
     let l = h.least unknown in
     let over = l.1 in
     let from : max node.low (min u t) ≡ t = omega (arith, over, less, enough) in
-    let none : piece u w a t ≡ [] = piece_asked u w a t enough in
+    let none : rest_of_word u w a t ≡ [] = piece_asked u w a t enough in
     let not_below : nat_lt w (max a t) ≡ false = grind (arith, nat_tests) in
     record {
       after = record { low = t; known = false };
@@ -291,7 +291,7 @@ told_over u w a t node r h open_value unknown less enough =
       high = λ _. omega (arith, enough, open_value);
     }
 
-told_open : (u w a t : ℕ) (node : Node) (r : Bits) (rest : List Bool) → u ≤ w → HasTold u w a node → a ≤ w → node.known ≡ false → node.low < t → a < t → ahead r ≡ piece u w a t ++ rest → VisitTold u w a t node r
+told_open : (u w a t : ℕ) (node : Node) (r : Bits) (rest : List Bool) → u ≤ w → HasTold u w a node → a ≤ w → node.known ≡ false → node.low < t → a < t → ahead r ≡ rest_of_word u w a t ++ rest → VisitTold u w a t node r
 told_open u w a t node r rest tree h open_value unknown low less first =
     let l = h.least unknown in
     let own = l.0 in
@@ -311,7 +311,7 @@ told_open u w a t node r rest tree h open_value unknown low less first =
     }
 
 -- A node whose piece is ahead tells it.
-pub visit_told : (u w a t : ℕ) (node : Node) (r : Bits) (rest : List Bool) → u ≤ w → HasTold u w a node → ahead r ≡ piece u w a t ++ rest → VisitTold u w a t node r
+pub visit_told : (u w a t : ℕ) (node : Node) (r : Bits) (rest : List Bool) → u ≤ w → HasTold u w a node → ahead r ≡ rest_of_word u w a t ++ rest → VisitTold u w a t node r
 visit_told u w a t node r rest tree h first =
     elim (cases_lt w a) [
       | inl less ↦ told_known u w a t node r tree h less
@@ -333,7 +333,7 @@ pub record IsAsked (node : Node) (before over : ℕ) : Type 0 where
 -- What a visit gives.
 pub record Visited (u w a t : ℕ) (node : Node) (old new : Bits) : Type 0 where
   pub was : HasTold u w a node
-  pub given : Gives old (piece u w a t) new
+  pub given : GivesBits old (rest_of_word u w a t) new
 
 -- the outcome of a visit: the node stays, or is climbed
 visit_kept_is : (node : Node) (over threshold : ℕ) (r : Bits) (out : Node × Bits) → (node.known ≡ true) ⊎ (threshold ≤ node.low) → visit node over threshold r ≡ Ok out → (out.0 ≡ node) × (out.1 ≡ r)
@@ -351,16 +351,16 @@ found_known u w a t node r tree i k now =
     let low_below : node.low < a = i.closed k in
     let below : w < a = omega (arith, value, low_below) in
     let one : nat_lt w a ≡ true = grind (arith, nat_tests) in
-    let none : piece u w a t ≡ [] = elim (cases_lt a t) [ inl less ↦ piece_known u w a t tree below less | inr enough ↦ piece_asked u w a t enough ] in
+    let none : rest_of_word u w a t ≡ [] = elim (cases_lt a t) [ inl less ↦ piece_known u w a t tree below less | inr enough ↦ piece_asked u w a t enough ] in
     record {
       was = record { known = k ∙ sym one; value = λ _. value; least = λ n. absurd (let f : true ≡ false = sym k ∙ n in cc) };
-      given = subst (λ (bs : List Bool). Gives r bs r) (sym none) (gives_none r);
+      given = subst (λ (bs : List Bool). GivesBits r bs r) (sym none) (gives_none r);
     }
 
 found_high : (u w a t : ℕ) (node : Node) (r : Bits) → t ≤ a → HasTold u w (max a t) node → Visited u w a t node r r
 found_high u w a t node r enough now = record {
   was = subst (λ m. HasTold u w m node) (let e : max a t ≡ a = omega (arith, enough) in e) now;
-  given = subst (λ (bs : List Bool). Gives r bs r) (sym (piece_asked u w a t enough)) (gives_none r);
+  given = subst (λ (bs : List Bool). GivesBits r bs r) (sym (piece_asked u w a t enough)) (gives_none r);
 }
 
 -- the node above told it
@@ -379,7 +379,7 @@ found_over u w a t node r out i unknown less enough c now =
         value = λ k. absurd (let f : true ≡ false = sym k ∙ unknown in cc);
         least = λ _. s;
       };
-      given = subst (λ (bs : List Bool). Gives r bs out.1)
+      given = subst (λ (bs : List Bool). GivesBits r bs out.1)
           (ap (λ n. replicate n false ++ ending out.0.known) none ∙ ap ending still ∙ sym (piece_asked u w a t enough)) c.given;
     }
 
@@ -411,7 +411,7 @@ found_climbed u w a t node r out tree i unknown low less c now =
         value = λ k. absurd (let f : true ≡ false = sym k ∙ unknown in cc);
         least = λ _. s;
       };
-      given = subst (λ (bs : List Bool). Gives r bs out.1)
+      given = subst (λ (bs : List Bool). GivesBits r bs out.1)
           (ap (λ n. replicate n false ++ ending out.0.known) both.1
           ∙ ap (λ (b : Bool). replicate (min w t - max a (min u t)) false ++ ending b) known_is
           ∙ sym (piece-form u w a t tree less open_value)) c.given;

@@ -7,7 +7,7 @@ use Rattle.std.proofs.lemmas.List.{get_or-set_same, get_or-set_other, length-set
 use Rattle.jk_math.specs.Answer.{◌>>=◌}
 use Rattle.jk_math.specs.declared.fault.Fault.{Fault}
 use Rattle.jk_bits.specs.Reading.{Bits, ahead}
-use Rattle.jk_tree.specs.TagTree.{Shape, top, place, count, column, row, IsNode, Values, above, IsTree, Query, passes, asked, word, piece, told_below, leaf_of}
+use Rattle.jk_tree.specs.TagTree.{Shape, top, node_number, count, column, row, IsNode, Values, above, IsTree, Query, passes, asked, word, rest_of_word, told_below, leaf_of}
 use Rattle.jk_tree.specs.declared.node.Node.{Node}
 use Rattle.jk_tree.specs.Asking.{HasTold, node_at, visit, walk}
 use Rattle.jk_bits.specs.Giving.{advance, ahead_on}
@@ -69,7 +69,7 @@ half_other s queries q i j x y other =
     none false p a t h = omega arith
 
 -- a node that isn't that of level i on the way stands elsewhere
-pub apart_places : (s : Shape) (leaf i j x y : ℕ) → leaf < s.width * s.height → i ≤ top s → IsNode s j x y → (j ≡ i → passes s leaf j x y ≡ true → ⊥) → place s j x y ≡ place s i (column s leaf i) (row s leaf i) → ⊥
+pub apart_places : (s : Shape) (leaf i j x y : ℕ) → leaf < s.width * s.height → i ≤ top s → IsNode s j x y → (j ≡ i → passes s leaf j x y ≡ true → ⊥) → node_number s j x y ≡ node_number s i (column s leaf i) (row s leaf i) → ⊥
 apart_places s leaf i j x y less level n other e =
     let same = same_place s j x y i (column s leaf i) (row s leaf i) n (path_node s leaf i less level) e in
     other same.0 (subst (λ k. passes s leaf k x y ≡ true) (sym same.0)
@@ -79,7 +79,7 @@ apart_places s leaf i j x y less level n other e =
 -- The nodes, once the levels from i on are told.
 pub record HalfTold (s : Shape) (v : Values) (queries : List Query) (q : Query) (i : ℕ) (nodes : List Node) : Type 0 where
   pub long : length nodes ≡ count s
-  pub each : (j x y : ℕ) → IsNode s j x y → HasTold (above s v j x y) (v j x y) (half s queries q i j x y) (node_at nodes (place s j x y))
+  pub each : (j x y : ℕ) → IsNode s j x y → HasTold (above s v j x y) (v j x y) (half s queries q i j x y) (node_at nodes (node_number s j x y))
 
 -- which node (j, x, y) is: that of level i on the way, or another
 pub cases_on_way : (s : Shape) (leaf i j x y : ℕ) → ((j ≡ i) × (column s leaf i ≡ x) × (row s leaf i ≡ y)) ⊎ (j ≡ i → passes s leaf j x y ≡ true → ⊥)
@@ -94,24 +94,24 @@ cases_on_way s leaf i j x y =
 
 pub half_set : (s : Shape) (v : Values) (queries : List Query) (q : Query) (i : ℕ) (nodes : List Node) (own : Node) → q.leaf < s.width * s.height → i ≤ top s → HalfTold s v queries q (suc i) nodes
     → HasTold (above s v i (column s q.leaf i) (row s q.leaf i)) (v i (column s q.leaf i) (row s q.leaf i)) (max (asked s queries i (column s q.leaf i) (row s q.leaf i)) q.threshold) own
-    → HalfTold s v queries q i (set nodes (place s i (column s q.leaf i) (row s q.leaf i)) own)
+    → HalfTold s v queries q i (set nodes (node_number s i (column s q.leaf i) (row s q.leaf i)) own)
 half_set s v queries q i nodes own less level h told =
     let cx = column s q.leaf i in
     let cy = row s q.leaf i in
-    let p = place s i cx cy in
+    let p = node_number s i cx cy in
     let within : p < length nodes = (let e = h.long in let f = place_counted s i cx cy (path_node s q.leaf i less level) in omega (arith, e, f)) in
     record {
       long = length-set nodes p own ∙ h.long;
       each = λ j x y n. elim (cases_on_way s q.leaf i j x y) [
         | inl is ↦
-            subst (λ k. HasTold (above s v k x y) (v k x y) (half s queries q i k x y) (node_at (set nodes p own) (place s k x y))) (sym is.0)
-            (subst (λ u. HasTold (above s v i u y) (v i u y) (half s queries q i i u y) (node_at (set nodes p own) (place s i u y))) is.1
-            (subst (λ w. HasTold (above s v i cx w) (v i cx w) (half s queries q i i cx w) (node_at (set nodes p own) (place s i cx w))) is.2
+            subst (λ k. HasTold (above s v k x y) (v k x y) (half s queries q i k x y) (node_at (set nodes p own) (node_number s k x y))) (sym is.0)
+            (subst (λ u. HasTold (above s v i u y) (v i u y) (half s queries q i i u y) (node_at (set nodes p own) (node_number s i u y))) is.1
+            (subst (λ w. HasTold (above s v i cx w) (v i cx w) (half s queries q i i cx w) (node_at (set nodes p own) (node_number s i cx w))) is.2
             (subst (λ (m : Node). HasTold (above s v i cx cy) (v i cx cy) (half s queries q i i cx cy) m) (sym (get_or-set_same nodes p own _ within))
             (subst (λ a. HasTold (above s v i cx cy) (v i cx cy) a own) (sym (half_own s queries q i)) told))))
         | inr other ↦
-            subst (λ (m : Node). HasTold (above s v j x y) (v j x y) (half s queries q i j x y) m) (sym (get_or-set_other nodes p (place s j x y) own _ (apart_places s q.leaf i j x y less level n other)))
-            (subst (λ a. HasTold (above s v j x y) (v j x y) a (node_at nodes (place s j x y))) (sym (half_other s queries q i j x y other)) (h.each j x y n))
+            subst (λ (m : Node). HasTold (above s v j x y) (v j x y) (half s queries q i j x y) m) (sym (get_or-set_other nodes p (node_number s j x y) own _ (apart_places s q.leaf i j x y less level n other)))
+            (subst (λ a. HasTold (above s v j x y) (v j x y) a (node_at nodes (node_number s j x y))) (sym (half_other s queries q i j x y other)) (h.each j x y n))
       ];
     }
 
@@ -164,7 +164,7 @@ pub over_min : (s : Shape) (v : Values) (q : Query) (i over : ℕ) → i ≤ top
 over_min s v q i over level o = let e = over_above s v q i over level o in let w = over_within s v q i over level o in omega (arith, e, w)
 
 pub below-suc : (s : Shape) (v : Values) (queries : List Query) (q : Query) (i : ℕ) → told_below s v queries q (suc i)
-    ≡ piece (above s v i (column s q.leaf i) (row s q.leaf i)) (v i (column s q.leaf i) (row s q.leaf i)) (asked s queries i (column s q.leaf i) (row s q.leaf i)) q.threshold ++ told_below s v queries q i
+    ≡ rest_of_word (above s v i (column s q.leaf i) (row s q.leaf i)) (v i (column s q.leaf i) (row s q.leaf i)) (asked s queries i (column s q.leaf i) (row s q.leaf i)) q.threshold ++ told_below s v queries q i
 unfolding told_below
 below-suc s v queries q i = refl
 
@@ -173,30 +173,30 @@ unfolding told_below
 told_none s v queries q = refl
 
 -- one level of the walk
-pub walk_level : (s : Shape) (q : Query) (i over : ℕ) (nodes : List Node) (r : Bits) (o : Result (Node × Bits) Fault) → visit (node_at nodes (place s i (column s q.leaf i) (row s q.leaf i))) over q.threshold r ≡ o
-    → walk s q (suc i) over nodes r ≡ (o >>= (λ e. cond (nat_lt e.0.low q.threshold) (walk s q i e.0.low (set nodes (place s i (column s q.leaf i) (row s q.leaf i)) e.0) e.1) (Ok (false, (set nodes (place s i (column s q.leaf i) (row s q.leaf i)) e.0, e.1)))))
+pub walk_level : (s : Shape) (q : Query) (i over : ℕ) (nodes : List Node) (r : Bits) (o : Result (Node × Bits) Fault) → visit (node_at nodes (node_number s i (column s q.leaf i) (row s q.leaf i))) over q.threshold r ≡ o
+    → walk s q (suc i) over nodes r ≡ (o >>= (λ e. cond (nat_lt e.0.low q.threshold) (walk s q i e.0.low (set nodes (node_number s i (column s q.leaf i) (row s q.leaf i)) e.0) e.1) (Ok (false, (set nodes (node_number s i (column s q.leaf i) (row s q.leaf i)) e.0, e.1)))))
 unfolding walk
 walk_level s q i over nodes r o h =
-    let p = place s i (column s q.leaf i) (row s q.leaf i) in
+    let p = node_number s i (column s q.leaf i) (row s q.leaf i) in
     ap (λ (o : Result (Node × Bits) Fault). o >>= (λ e. cond (nat_lt e.0.low q.threshold) (walk s q i e.0.low (set nodes p e.0) e.1) (Ok (false, (set nodes p e.0, e.1))))) h
 
-pub walk_err : (s : Shape) (q : Query) (i over : ℕ) (nodes : List Node) (r : Bits) (e : Fault) → visit (node_at nodes (place s i (column s q.leaf i) (row s q.leaf i))) over q.threshold r ≡ Err e
+pub walk_err : (s : Shape) (q : Query) (i over : ℕ) (nodes : List Node) (r : Bits) (e : Fault) → visit (node_at nodes (node_number s i (column s q.leaf i) (row s q.leaf i))) over q.threshold r ≡ Err e
     → walk s q (suc i) over nodes r ≡ Err e
 walk_err s q i over nodes r e h = walk_level s q i over nodes r (Err e) h
 
 -- the node is below the threshold
-pub walk_on : (s : Shape) (q : Query) (i over : ℕ) (nodes : List Node) (r : Bits) (node : Node) (r' : Bits) → visit (node_at nodes (place s i (column s q.leaf i) (row s q.leaf i))) over q.threshold r ≡ Ok (node, r')
-    → node.low < q.threshold → walk s q (suc i) over nodes r ≡ walk s q i node.low (set nodes (place s i (column s q.leaf i) (row s q.leaf i)) node) r'
+pub walk_on : (s : Shape) (q : Query) (i over : ℕ) (nodes : List Node) (r : Bits) (node : Node) (r' : Bits) → visit (node_at nodes (node_number s i (column s q.leaf i) (row s q.leaf i))) over q.threshold r ≡ Ok (node, r')
+    → node.low < q.threshold → walk s q (suc i) over nodes r ≡ walk s q i node.low (set nodes (node_number s i (column s q.leaf i) (row s q.leaf i)) node) r'
 walk_on s q i over nodes r node r' h less =
-    let p = place s i (column s q.leaf i) (row s q.leaf i) in
+    let p = node_number s i (column s q.leaf i) (row s q.leaf i) in
     walk_level s q i over nodes r (Ok (node, r')) h
     ∙ ap (λ (b : Bool). cond b (walk s q i node.low (set nodes p node) r') (Ok (false, (set nodes p node, r')))) (let e : nat_lt node.low q.threshold ≡ true = grind (arith, nat_tests) in e)
 
 -- it isn't
-pub walk_stop : (s : Shape) (q : Query) (i over : ℕ) (nodes : List Node) (r : Bits) (node : Node) (r' : Bits) → visit (node_at nodes (place s i (column s q.leaf i) (row s q.leaf i))) over q.threshold r ≡ Ok (node, r')
-    → q.threshold ≤ node.low → walk s q (suc i) over nodes r ≡ Ok (false, (set nodes (place s i (column s q.leaf i) (row s q.leaf i)) node, r'))
+pub walk_stop : (s : Shape) (q : Query) (i over : ℕ) (nodes : List Node) (r : Bits) (node : Node) (r' : Bits) → visit (node_at nodes (node_number s i (column s q.leaf i) (row s q.leaf i))) over q.threshold r ≡ Ok (node, r')
+    → q.threshold ≤ node.low → walk s q (suc i) over nodes r ≡ Ok (false, (set nodes (node_number s i (column s q.leaf i) (row s q.leaf i)) node, r'))
 walk_stop s q i over nodes r node r' h high =
-    let p = place s i (column s q.leaf i) (row s q.leaf i) in
+    let p = node_number s i (column s q.leaf i) (row s q.leaf i) in
     walk_level s q i over nodes r (Ok (node, r')) h
     ∙ ap (λ (b : Bool). cond b (walk s q i node.low (set nodes p node) r') (Ok (false, (set nodes p node, r')))) (let e : nat_lt node.low q.threshold ≡ false = grind (arith, nat_tests) in e)
 
@@ -233,7 +233,7 @@ word_none u w t high tree =
     let none : nat_lt w t ≡ false = grind (arith, nat_tests) in
     ap (λ n. replicate n false ++ cond (nat_lt w t) (true ∷ []) []) zeros ∙ ap (λ (b : Bool). cond b (true ∷ []) []) none
 
-pub piece_none : (u w a t : ℕ) → t ≤ u → u ≤ w → piece u w a t ≡ []
+pub piece_none : (u w a t : ℕ) → t ≤ u → u ≤ w → rest_of_word u w a t ≡ []
 piece_none u w a t high tree =
     ap (λ (bs : List Bool). cond (nat_lt a t) (drop (length (word u w a)) bs) []) (word_none u w t high tree) ∙ none (nat_lt a t) (length (word u w a))
   where
@@ -276,10 +276,10 @@ half_stopped s v queries q i nodes less tree level high h = record { long = h.lo
         same w a high = grind (arith, nat_tests)
 
     by_way : (j x y : ℕ) → IsNode s j x y → (passes s q.leaf j x y ≡ true) ⊎ (passes s q.leaf j x y ≡ false) → (j < i) ⊎ (i ≤ j)
-        → HasTold (above s v j x y) (v j x y) (half s queries q 0 j x y) (node_at nodes (place s j x y))
+        → HasTold (above s v j x y) (v j x y) (half s queries q 0 j x y) (node_at nodes (node_number s j x y))
     by_way j x y n (inr past) order =
         let none : (k : ℕ) → half s queries q k j x y ≡ asked s queries j x y = λ k. (ap (λ (b : Bool). max (asked s queries j x y) (cond (nat_le k j && b) t 0)) past ∙ no_pass (nat_le k j) (asked s queries j x y)) in
-        subst (λ a. HasTold (above s v j x y) (v j x y) a (node_at nodes (place s j x y))) (none i ∙ sym (none 0)) (h.each j x y n)
+        subst (λ a. HasTold (above s v j x y) (v j x y) a (node_at nodes (node_number s j x y))) (none i ∙ sym (none 0)) (h.each j x y n)
       where
         no_pass : (b : Bool) (a : ℕ) → max a (cond (b && false) t 0) ≡ a
         no_pass true a = omega arith
@@ -287,18 +287,18 @@ half_stopped s v queries q i nodes less tree level high h = record { long = h.lo
     by_way j x y n (inl through) (inr from) =
         let at = passes_at s q.leaf j x y through in
         let same : half s queries q i j x y ≡ half s queries q 0 j x y = ap (λ (b : Bool). max (asked s queries j x y) (cond (b && passes s q.leaf j x y) t 0)) (let e : nat_le i j ≡ true = grind (arith, nat_tests) in let f : nat_le 0 j ≡ true = grind (arith, nat_tests) in e ∙ sym f) in
-        subst (λ a. HasTold (above s v j x y) (v j x y) a (node_at nodes (place s j x y))) same (h.each j x y n)
+        subst (λ a. HasTold (above s v j x y) (v j x y) a (node_at nodes (node_number s j x y))) same (h.each j x y n)
     by_way j x y n (inl through) (inl under) =
         let at = passes_at s q.leaf j x y through in
         let on = h.each j x y n in
-        let told : HasTold (above s v j x y) (v j x y) (asked s queries j x y) (node_at nodes (place s j x y)) = subst (λ a. HasTold (above s v j x y) (v j x y) a (node_at nodes (place s j x y))) (half_less s queries q i j x y under) on in
+        let told : HasTold (above s v j x y) (v j x y) (asked s queries j x y) (node_at nodes (node_number s j x y)) = subst (λ a. HasTold (above s v j x y) (v j x y) a (node_at nodes (node_number s j x y))) (half_less s queries q i j x y under) on in
         let way_up = above_way s v q.leaf j (omega (arith, under, level)) in
         let same_up : above s v j (column s q.leaf j) (row s q.leaf j) ≡ above s v j x y = ap (λ a. above s v j a (row s q.leaf j)) at.0 ∙ ap (λ b. above s v j x b) at.1 in
         let low = over_way s v q.leaf (suc j) i less tree (omega (arith, under)) level in
         let over : t ≤ above s v j x y = omega (arith, way_up, same_up, low, high) in
         let all : max (asked s queries j x y) t ≡ half s queries q 0 j x y =
         sym (ap (λ (b : Bool). max (asked s queries j x y) (cond (b && passes s q.leaf j x y) t 0)) (let e : nat_le 0 j ≡ true = grind (arith, nat_tests) in e) ∙ ap (λ (b : Bool). max (asked s queries j x y) (cond b t 0)) through) in
-        subst (λ a. HasTold (above s v j x y) (v j x y) a (node_at nodes (place s j x y))) all (more (above s v j x y) (v j x y) (asked s queries j x y) (node_at nodes (place s j x y)) over (tree j x y n) told)
+        subst (λ a. HasTold (above s v j x y) (v j x y) a (node_at nodes (node_number s j x y))) all (more (above s v j x y) (v j x y) (asked s queries j x y) (node_at nodes (node_number s j x y)) over (tree j x y n) told)
 
 -- the walk over the levels below i tells them
 pub record WalkTold (s : Shape) (v : Values) (queries : List Query) (q : Query) (i over : ℕ) (nodes : List Node) (r : Bits) : Type 0 where
@@ -325,9 +325,9 @@ walk_told s v queries q less tree (suc i) over nodes r rest level h o first =
     let w = v i x y in
     let u = above s v i x y in
     let a = asked s queries i x y in
-    let bits = piece u w a t in
+    let bits = rest_of_word u w a t in
     let more = told_below s v queries q i in
-    let p = place s i x y in
+    let p = node_number s i x y in
     let in_tree : i ≤ top s = omega (arith, level) in
     let n = path_node s q.leaf i less in_tree in
     let has : HasTold u w a (node_at nodes p) = subst (λ b. HasTold u w b (node_at nodes p)) (half_less s queries q (suc i) i x y (omega arith)) (h.each i x y n) in

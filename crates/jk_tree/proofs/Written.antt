@@ -4,7 +4,7 @@ use Rattle.std.specs.Prelude.{◌==◌, slice_index}
 use Rattle.std.proofs.lemmas.Bool.{cases_eq, cases_Bool}
 use Rattle.std.proofs.lemmas.Bool.Decides.{nat_tests}
 use Rattle.std.proofs.lemmas.List.{get_or-replicate}
-use Rattle.jk_tree.specs.TagTree.{Shape, top, place, count, IsNode, IsTree, column, row, passes, asked}
+use Rattle.jk_tree.specs.TagTree.{Shape, top, node_number, count, IsNode, IsTree, column, row, passes, asked}
 use Rattle.jk_tree.specs.declared.write.WriteNode.{WriteNode}
 use Rattle.jk_tree.specs.Telling.{least_under, written, speaker_at, Speaks, Lowers}
 use Rattle.jk_tree.proofs.Places.{place_counted, place_leaf, passes_at, passes_own}
@@ -12,10 +12,10 @@ use Rattle.jk_tree.proofs.Walks.{passes_up}
 
 -- the nodes as they were, and lowered
 abbrev pub old_node : Shape → List WriteNode → ℕ → ℕ → ℕ → WriteNode
-old_node s nodes = λ j x y. speaker_at nodes (place s j x y)
+old_node s nodes = λ j x y. speaker_at nodes (node_number s j x y)
 
 abbrev pub low_node : Shape → ℕ → List WriteNode → ℕ → ℕ → ℕ → WriteNode
-low_node s value nodes = λ j x y. record (speaker_at nodes (place s j x y)) { value = min (speaker_at nodes (place s j x y)).value value }
+low_node s value nodes = λ j x y. record (speaker_at nodes (node_number s j x y)) { value = min (speaker_at nodes (node_number s j x y)).value value }
 
 least_most : (s : Shape) (leaves : List ℕ) (n i x y : ℕ) → least_under s leaves n i x y ≤ 65535
 unfolding least_under
@@ -52,13 +52,13 @@ written_tree s leaves i x y n =
 -- the nodes once the first n leaves have stood
 pub record Built (s : Shape) (leaves : List ℕ) (n : ℕ) (nodes : List WriteNode) : Type 0 where
   pub long : length nodes ≡ count s
-  pub each : (i x y : ℕ) → IsNode s i x y → speaker_at nodes (place s i x y) ≡ record { value = least_under s leaves n i x y; told = 0 }
+  pub each : (i x y : ℕ) → IsNode s i x y → speaker_at nodes (node_number s i x y) ≡ record { value = least_under s leaves n i x y; told = 0 }
 
 pub built_none : (s : Shape) (leaves : List ℕ) (nodes : List WriteNode) (n : ℕ) → nodes ≡ replicate n record { value = 65535; told = 0 } → n ≡ count s → length nodes ≡ count s → Built s leaves 0 nodes
 unfolding least_under
 built_none s leaves nodes n e k long = record {
   long = long;
-  each = λ i x y m. ap (λ (ns : List WriteNode). speaker_at ns (place s i x y)) e ∙ get_or-replicate n (place s i x y) _ _ (let p = place_counted s i x y m in omega (arith, p, k));
+  each = λ i x y m. ap (λ (ns : List WriteNode). speaker_at ns (node_number s i x y)) e ∙ get_or-replicate n (node_number s i x y) _ _ (let p = place_counted s i x y m in omega (arith, p, k));
 }
 
 lowered_node : (b : Bool) (least value : ℕ) → least ≤ 65535 → ◌≡◌ {A = WriteNode} (cond b (record { value = min least value; told = 0 }) (record { value = least; told = 0 })) (record { value = min least (cond b value 65535); told = 0 })
@@ -84,7 +84,7 @@ built_all s leaves nodes b = record { tree = written_tree s leaves; each = b.eac
 only_leaf : (s : Shape) (m leaf : ℕ) → passes s m 0 (column s leaf 0) (row s leaf 0) ≡ true → m ≡ leaf
 only_leaf s m leaf h =
     let at = passes_at s m 0 (column s leaf 0) (row s leaf 0) h in
-    sym (place_leaf s m) ∙ ap (λ x. place s 0 x (row s m 0)) at.0 ∙ ap (λ y. place s 0 (column s leaf 0) y) at.1 ∙ place_leaf s leaf
+    sym (place_leaf s m) ∙ ap (λ x. node_number s 0 x (row s m 0)) at.0 ∙ ap (λ y. node_number s 0 (column s leaf 0) y) at.1 ∙ place_leaf s leaf
 
 least_before : (s : Shape) (leaves : List ℕ) (leaf n : ℕ) → n ≤ leaf → least_under s leaves n 0 (column s leaf 0) (row s leaf 0) ≡ 65535
 unfolding least_under

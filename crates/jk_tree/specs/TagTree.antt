@@ -32,8 +32,8 @@ start s (suc i) = start s i + wide s.width i * wide s.height i
 
 -- where node (x, y) of level i stands among all nodes, level by level from the leaves, in raster
 -- order
-unfoldable pub place : Shape → ℕ → ℕ → ℕ → ℕ
-place s i x y = start s i + y * wide s.width i + x
+unfoldable pub node_number : Shape → ℕ → ℕ → ℕ → ℕ
+node_number s i x y = start s i + y * wide s.width i + x
 
 -- how many nodes there are
 abbrev pub count : Shape → ℕ
@@ -92,8 +92,8 @@ asked s [] i x y = 0
 asked s (q ∷ queries) i x y = max (if passes s q.leaf i x y then q.threshold else 0) (asked s queries i x y)
 
 -- what a node tells at a threshold: its word without what it told before
-abbrev pub piece : (over value before threshold : ℕ) → List Bool
-piece over value before threshold =
+abbrev pub rest_of_word : (over value before threshold : ℕ) → List Bool
+rest_of_word over value before threshold =
     if nat_lt before threshold then drop (length (word over value before)) (word over value threshold) else []
 
 -- what the levels below i tell
@@ -102,7 +102,7 @@ told_below s v queries q zero = []
 told_below s v queries q (suc i) =
     let x = column s q.leaf i in
     let y = row s q.leaf i in
-    piece (above s v i x y) (v i x y) (asked s queries i x y) q.threshold ++ told_below s v queries q i
+    rest_of_word (above s v i x y) (v i x y) (asked s queries i x y) q.threshold ++ told_below s v queries q i
 
 -- what a query tells after those before it: the nodes on the way from the root to the leaf, one
 -- after another

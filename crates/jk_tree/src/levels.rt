@@ -1,7 +1,7 @@
 //! The levels of a tag tree, from the leaves up to the root.
 
 ghost use Rattle.std.specs.Prelude.{◌≡◌, ◌<◌, ◌≤◌, ◌+◌, ◌*◌, ◌/◌, ◌^◌};
-ghost use Rattle.jk_tree.specs.TagTree.{shape_of, wide, top, start, place, count};
+ghost use Rattle.jk_tree.specs.TagTree.{shape_of, wide, top, start, node_number, count};
 
 /// The leaves across and down, and the level of the root.
 #[derive(Clone, Copy, Drop)]
@@ -63,7 +63,7 @@ pub(crate) fn node_over(
     requires row { row < levels.height }
     ensures start { result.0 ≡ start (shape_of levels.width levels.height) level }
     ensures place { result.1
-        ≡ place (shape_of levels.width levels.height) level (column / 2 ^ level) (row / 2 ^ level) }
+        ≡ node_number (shape_of levels.width levels.height) level (column / 2 ^ level) (row / 2 ^ level) }
     ensures within { result.1 < count (shape_of levels.width levels.height) }
 {
     let across = nodes_over(levels.width, level);

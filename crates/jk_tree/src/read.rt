@@ -31,9 +31,9 @@ pub struct ReadTree {
 impl Model for ReadTree {
     ghost use Rattle.std.specs.Prelude.{◌≡◌, ◌≤◌, length};
     ghost use Rattle.jk_tree.specs.TagTree.{shape_of, count, top};
-    ghost use Rattle.jk_tree.specs.Asking.{Tree};
+    ghost use Rattle.jk_tree.specs.Asking.{TagTreeRead};
 
-    ghost Value = { Tree };
+    ghost Value = { TagTreeRead };
 
     ghost view = { λ t. record {
       shape = shape_of t.levels.width t.levels.height;

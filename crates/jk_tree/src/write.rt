@@ -3,8 +3,8 @@
 ghost use Rattle.std.specs.Prelude.{◌≡◌, ℕ, ◌+◌, ◌*◌, ◌<◌, ◌≤◌, ◌++◌, [], ◌∷◌, false, true, List, length, replicate};
 ghost use Rattle.std.specs.Prelude.{slice_index, OnErr, MatchResult};
 ghost use Rattle.jk_math.specs.Memory.{IsMemory};
-ghost use Rattle.jk_tree.specs.TagTree.{shape_of, query_of, column, row, Values, Query, count, top, told, piece};
-ghost use Rattle.jk_tree.specs.Telling.{Fails, Grows, Lowers, Speaks, Tells, with_bits, written};
+ghost use Rattle.jk_tree.specs.TagTree.{shape_of, query_of, column, row, Values, Query, count, top, told, rest_of_word};
+ghost use Rattle.jk_tree.specs.Telling.{Fails, Grows, Lowers, Speaks, TellsQuery, with_bits, written};
 
 use crate::levels::{Levels, node_count, node_over, root_level};
 use jk_bits::BitWriter;
@@ -63,7 +63,7 @@ fn push_zeros(count: u16, writer: &mut BitWriter) -> Result<(), Fault>
 fn speak(node: WriteNode, over: u16, threshold: u16, writer: &mut BitWriter) -> Result<(), Fault>
     ensures told { MatchResult result
         (λ _. over ≤ node.value
-        → writer.new ≡ with_bits writer.old (piece over node.value node.told threshold))
+        → writer.new ≡ with_bits writer.old (rest_of_word over node.value node.told threshold))
         (λ e. IsMemory e) }
     ensures on { MatchResult result
         (λ _. Grows writer.old writer.new) (λ _. Fails writer.old writer.new) }
@@ -92,7 +92,7 @@ fn tell_way(
     requires small { levels.root ≤ 16 }
     requires long { length nodes.old.items ≡ count (shape_of levels.width levels.height) }
     ensures told { MatchResult result
-        (λ _. Tells (shape_of levels.width levels.height) (query_of leaf threshold)
+        (λ _. TellsQuery (shape_of levels.width levels.height) (query_of leaf threshold)
         nodes.old.items nodes.new.items writer.old writer.new)
         (λ e. IsMemory e) }
     ensures kept { length nodes.new.items ≡ length nodes.old.items }
@@ -200,7 +200,7 @@ impl WriteTree {
         ensures told { MatchResult result
             (λ _. (self.old.failed ≡ false) × (self.new.failed ≡ false)
             × (self.new.shape ≡ self.old.shape)
-            × Tells self.old.shape (query_of leaf threshold)
+            × TellsQuery self.old.shape (query_of leaf threshold)
             self.old.nodes self.new.nodes writer.old writer.new)
             (λ e. IsMemory e × (self.new.failed ≡ true) × (self.new.shape ≡ self.old.shape)) }
 

@@ -14,7 +14,7 @@ use Rattle.jk_walk.specs.declared.spans.PacketSpan.{PacketSpan}
 use Rattle.jk_walk.specs.declared.entries.PacketEntry.{PacketEntry}
 use Rattle.jk_walk.specs.TilePackets.{shape_in, Packet}
 use Rattle.jk_walk.specs.WalkReading.{packets_at, IsPlaced, span_of, spans_at}
-use Rattle.jk_walk.specs.Entries.{entry_of, entries_at, entry_span, spans_in}
+use Rattle.jk_walk.specs.Entries.{packet_entry, entries_at, entry_span, spans_in}
 use Rattle.jk_walk.proofs.FoundLaws.{packets_found}
 use Rattle.jk_walk.proofs.TileFacts.{tile_few}
 
@@ -67,10 +67,10 @@ entries_spans bytes h t are less = by (packets_at bytes h t) refl
   where
     by : (r : Result (List PacketPlace) Fault) → packets_at bytes h t ≡ r
         → (r >>= λ places. Ok (map span_of places))
-        ≡ ((r >>= λ places. Ok (map (entry_of bytes (tile_in h.tiles t).cod.sop) places)) >>= λ entries. Ok (spans_in (shape_in h.siz (tile_in h.tiles t) t) entries))
+        ≡ ((r >>= λ places. Ok (map (packet_entry bytes (tile_in h.tiles t).cod.sop) places)) >>= λ entries. Ok (spans_in (shape_in h.siz (tile_in h.tiles t) t) entries))
     by (Err e) read = refl
     by (Ok places) read =
-        let f : PacketPlace → PacketEntry = entry_of bytes (tile_in h.tiles t).cod.sop in
+        let f : PacketPlace → PacketEntry = packet_entry bytes (tile_in h.tiles t).cod.sop in
         let named = ap (λ (names : List PacketName). map entry_span (zip names (map f places))) (places_named bytes h t places are less read) in
         ap (λ (spans : List PacketSpan). Ok spans) (sym (named ∙ spans_are f places))
 

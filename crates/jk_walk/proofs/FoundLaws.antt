@@ -22,7 +22,7 @@ use Rattle.jk_packet.proofs.Laws.{reached_read, header_keeps, precinct_found, te
 use Rattle.jk_params.specs.Headers.{Headers, tile_in, AreHeaders}
 use Rattle.jk_walk.specs.declared.places.PacketPlace.{PacketPlace}
 use Rattle.jk_walk.specs.TilePackets.{slice_of, shape_in, Packet, IsPacket, bands_at, of_precinct}
-use Rattle.jk_walk.specs.WalkReading.{bodies_length, place_end, States, blank_states, with_state, begun, in_hand, place_of, packet_at, names_at, packets_at, bodies_at, IsPlaced, StandAt, IsPlace, ArePlaces}
+use Rattle.jk_walk.specs.WalkReading.{bodies_length, place_end, States, blank_states, with_state, begun, in_hand, place_of, packet_at, names_at, packets_at, bodies_at, IsPlaced, StandAt, IsPacketPlace, ArePlaces}
 use Rattle.jk_walk.proofs.Slices.{slice_join, slice_front, slice_length, bodies_parts, bodies_long, bodies_join}
 use Rattle.jk_walk.proofs.Turns.{AreTurns, counts_of, next_counts, order_turns, at_own}
 use Rattle.jk_walk.proofs.Runs.{IsCut, IsPart, AreParts, begun_parts, cut_none, cut_begun, cut_more}
@@ -54,7 +54,7 @@ pub record PacketFound (bytes : List ℕ) (s : TileShape) (sop eph : Bool) (part
   pub name : packet.name ≡ n
   pub is : IsPacket sop eph packet
   pub placed : IsPlaced bytes packet w
-  pub place : IsPlace (length bytes) s w
+  pub place : IsPacketPlace (length bytes) s w
   pub left : IsPart (length bytes) (place_end w, part.1)
   pub text : slice_of bytes part ≡ packet.text ++ slice_of bytes (place_end w, part.1)
   pub knows : Knows (shapes_in s n.component n.resolution n.precinct) sop eph (layers ++ packet.layer ∷ []) (bits ++ packet.bits ∷ []) after

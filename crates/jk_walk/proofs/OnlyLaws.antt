@@ -15,7 +15,7 @@ use Rattle.jk_packet.specs.declared.shape.BandShape.{BandShape}
 use Rattle.jk_packet.specs.declared.header.BlockContribution.{BlockContribution}
 use Rattle.jk_packet.specs.PacketText.{Layer, Trees, header_bits, IsLayer, IsHeaderText, parts_of}
 use Rattle.jk_packet.specs.Reading.{PrecinctState, HeaderText, header_at}
-use Rattle.jk_packet.specs.Standing.{PrecinctStands, Tells}
+use Rattle.jk_packet.specs.Standing.{PrecinctStands, TellsLayers}
 use Rattle.jk_packet.proofs.Laws.{header_some, header_keeps, precinct_only, fresh_stands}
 use Rattle.jk_params.specs.Headers.{Headers, tile_in, AreHeaders}
 use Rattle.jk_walk.specs.declared.places.PacketPlace.{PacketPlace}
@@ -34,7 +34,7 @@ Goes shapes trees layers [] = Unit {0}
 Goes shapes trees layers (p ∷ packets) = (p.bits ≡ header_bits shapes trees layers p.layer) × IsLayer shapes trees layers p.layer × Goes shapes trees (layers ++ p.layer ∷ []) packets
 
 goes_on : (shapes : List BandShape) (trees : Trees) (layers : List Layer) (bits : List (List Bool)) (packets : List Packet) → length bits ≡ length layers
-    → Tells shapes trees (layers ++ map packet_layer packets) (bits ++ map packet_bits packets) → Goes shapes trees layers packets
+    → TellsLayers shapes trees (layers ++ map packet_layer packets) (bits ++ map packet_bits packets) → Goes shapes trees layers packets
 goes_on shapes trees layers bits [] long tells = tt
 goes_on shapes trees layers bits (p ∷ packets) long tells =
     let n = length layers in
@@ -43,9 +43,9 @@ goes_on shapes trees layers bits (p ∷ packets) long tells =
     let front : take n all ≡ layers = take_at layers (p.layer ∷ map packet_layer packets) n refl in
     let own : get_or all n None ≡ p.layer = get_or_at layers p.layer (map packet_layer packets) None n refl in
     let own_bits : get_or (bits ++ p.bits ∷ map packet_bits packets) n [] ≡ p.bits = get_or_at bits p.bits (map packet_bits packets) [] n long in
-    let rest : Tells shapes trees ((layers ++ p.layer ∷ []) ++ map packet_layer packets) ((bits ++ p.bits ∷ []) ++ map packet_bits packets) =
-    subst (λ (ls : List Layer). Tells shapes trees ls ((bits ++ p.bits ∷ []) ++ map packet_bits packets)) (sym (append_assoc layers (p.layer ∷ []) (map packet_layer packets)))
-    (subst (λ (bs : List (List Bool)). Tells shapes trees all bs) (sym (append_assoc bits (p.bits ∷ []) (map packet_bits packets))) tells) in (
+    let rest : TellsLayers shapes trees ((layers ++ p.layer ∷ []) ++ map packet_layer packets) ((bits ++ p.bits ∷ []) ++ map packet_bits packets) =
+    subst (λ (ls : List Layer). TellsLayers shapes trees ls ((bits ++ p.bits ∷ []) ++ map packet_bits packets)) (sym (append_assoc layers (p.layer ∷ []) (map packet_layer packets)))
+    (subst (λ (bs : List (List Bool)). TellsLayers shapes trees all bs) (sym (append_assoc bits (p.bits ∷ []) (map packet_bits packets))) tells) in (
       sym own_bits ∙ here.0 ∙ ap (λ (ls : List Layer). header_bits shapes trees ls (get_or all n None)) front ∙ ap (λ (l : Layer). header_bits shapes trees layers l) own,
       subst (λ (l : Layer). IsLayer shapes trees layers l) own (subst (λ (ls : List Layer). IsLayer shapes trees ls (get_or all n None)) front here.1),
       goes_on shapes trees (layers ++ p.layer ∷ []) (bits ++ p.bits ∷ []) packets (length_push bits p.bits ∙ ap (λ m. m + 1) long ∙ sym (length_push layers p.layer)) rest,

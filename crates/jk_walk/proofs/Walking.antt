@@ -9,7 +9,7 @@ use Rattle.jk_math.specs.declared.fault.Fault.TheVariants.{Truncated, MissingPac
 use Rattle.jk_geom.specs.declared.shape.TileShape.{TileShape}
 use Rattle.jk_geom.specs.declared.shape.PacketName.{PacketName}
 use Rattle.jk_order.specs.PacketOrder.{IsName, IsPrecinct, is_of, order, packet_count}
-use Rattle.jk_order.specs.Streams.{Walk, Left}
+use Rattle.jk_order.specs.Streams.{Walk, PacketsLeft}
 use Rattle.jk_order.proofs.Laws.{length_of, order_is}
 use Rattle.jk_packet.specs.Reading.{PrecinctState, header_at}
 use Rattle.jk_packet.proofs.Laws.{header_keeps}
@@ -26,7 +26,7 @@ use Rattle.jk_walk.proofs.WalkSteps.{refused_step}
 pub record IsWalking (bytes : List ℕ) (s : TileShape) (sop eph : Bool) (all : List (ℕ × ℕ)) (packets : Walk) (kept : Kept) (left : List (ℕ × ℕ)) (places : List PacketPlace) (more : ℕ) : Type 0 where
   pub names : List PacketName
   pub states : States
-  pub follow : Left packets names
+  pub follow : PacketsLeft packets names
   pub count : length names ≡ more
   pub turns : AreTurns s (counts_of states) names
   pub shows : ShowsStates s kept states
@@ -88,7 +88,7 @@ row_blank n i = elim (cases_lt i n) [
 ]
 
 -- The walk begins.
-pub walk_starts : (bytes : List ℕ) (s : TileShape) (sop eph : Bool) (parts : List (ℕ × ℕ)) (packets : Walk) (kept : Kept) → AreParts (length bytes) parts → Left packets (order s)
+pub walk_starts : (bytes : List ℕ) (s : TileShape) (sop eph : Bool) (parts : List (ℕ × ℕ)) (packets : Walk) (kept : Kept) → AreParts (length bytes) parts → PacketsLeft packets (order s)
     → kept ≡ record { sop = sop; eph = eph; precincts = replicate (length s.codings * most_resolutions) no_row } → IsWalking bytes s sop eph parts packets kept ((0, 0) ∷ parts) [] (packet_count s)
 walk_starts bytes s sop eph parts packets kept all follow blank = record {
   names = order s;
@@ -185,7 +185,7 @@ shows_more s kept kept' states n x shows count read c r k is = by (is_of c r k n
 
 -- The packet is read.
 pub walk_more : (bytes : List ℕ) (s : TileShape) (sop eph : Bool) (all : List (ℕ × ℕ)) (packets packets' : Walk) (kept kept' : Kept) (left : List (ℕ × ℕ)) (places : List PacketPlace) (more : ℕ) (n : PacketName) (part : ℕ × ℕ) (place : PacketPlace) (x : PrecinctState)
-    → (w : IsWalking bytes s sop eph all packets kept left places more) → Some n ≡ slice_get w.names 0 → Left packets' (drop 1 w.names) → Some part ≡ slice_get (begun left) 0
+    → (w : IsWalking bytes s sop eph all packets kept left places more) → Some n ≡ slice_get w.names 0 → PacketsLeft packets' (drop 1 w.names) → Some part ≡ slice_get (begun left) 0
     → packet_at bytes part n (states_in s kept n.component n.resolution n.precinct) ≡ Ok (place, x) → IsRead s n kept kept' x → place_end place ≤ part.1
     → IsWalking bytes s sop eph all packets' kept' ((place_end place, part.1) ∷ drop 1 (begun left)) (places ++ place ∷ []) (more - 1)
 walk_more bytes s sop eph all packets packets' kept kept' left places more n part place x w first follow hand read after fits =

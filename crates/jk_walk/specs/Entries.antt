@@ -15,8 +15,8 @@ use Rattle.jk_walk.specs.declared.entries.PacketEntry.{PacketEntry}
 use Rattle.jk_walk.specs.Sop.{sop_of, counter_of, sop_written}
 
 -- what is kept of a packet at a place
-abbrev pub entry_of : List ℕ → (sop : Bool) → PacketPlace → PacketEntry
-entry_of bytes sop w =
+abbrev pub packet_entry : List ℕ → (sop : Bool) → PacketPlace → PacketEntry
+packet_entry bytes sop w =
     record {
       start = w.start;
       body = w.body;
@@ -26,7 +26,7 @@ entry_of bytes sop w =
 
 -- the entries of tile t, in the order of its packets
 unfoldable pub entries_at : List ℕ → Headers → ℕ → Result (List PacketEntry) Fault
-entries_at bytes h t = each_of (entry_of bytes (tile_in h.tiles t).cod.sop) (packets_at bytes h t)
+entries_at bytes h t = each_of (packet_entry bytes (tile_in h.tiles t).cod.sop) (packets_at bytes h t)
 
 -- the bytes of a packet, from its name and its entry
 abbrev pub entry_span : PacketName × PacketEntry → PacketSpan

@@ -16,7 +16,7 @@ use Rattle.jk_order.specs.PacketOrder.{IsPacketOrder, IsPrecinct, is_of}
 use Rattle.jk_packet.specs.declared.shape.BandShape.{BandShape}
 use Rattle.jk_packet.specs.declared.header.BlockContribution.{BlockContribution}
 use Rattle.jk_packet.specs.PacketText.{Layer, Trees, IsHeaderText, parts_of}
-use Rattle.jk_packet.specs.Standing.{AreTrees, Tells}
+use Rattle.jk_packet.specs.Standing.{AreTrees, TellsLayers}
 use Rattle.jk_params.specs.Headers.{TileFields}
 
 -- the bytes of a place
@@ -85,7 +85,7 @@ of_precinct c r k packets = filter (λ p. is_of c r k p.name) packets
 pub record IsToldPrecinct (shapes : List BandShape) (packets : List Packet) : Type 0 where
   pub trees : Trees
   pub are : AreTrees shapes trees
-  pub told : Tells shapes trees (map (λ p. p.layer) packets) (map (λ p. p.bits) packets)
+  pub told : TellsLayers shapes trees (map (λ p. p.layer) packets) (map (λ p. p.bits) packets)
 
 -- The packets of a tile in their order: the headers of each precinct are told layer by layer, and
 -- the data of the tile's parts are the texts, cut into one run for each part.

@@ -127,7 +127,7 @@ StandAt bytes h t places = (packets : List Packet) × AreTilePackets bytes h t p
 
 -- The place of a packet of the tile, within so many bytes: its parts are of code-blocks of its
 -- precinct.
-pub record IsPlace (size : ℕ) (s : TileShape) (w : PacketPlace) : Type 0 where
+pub record IsPacketPlace (size : ℕ) (s : TileShape) (w : PacketPlace) : Type 0 where
   pub name : IsName s w.name
   pub order : w.start ≤ w.body
   pub within : place_end w ≤ size
@@ -135,4 +135,4 @@ pub record IsPlace (size : ℕ) (s : TileShape) (w : PacketPlace) : Type 0 where
       (IsOfBlock (bands_at s.rect (coding_of s.codings w.name.component) w.name.resolution w.name.precinct)) w.parts
 
 abbrev pub ArePlaces : (size : ℕ) → TileShape → List PacketPlace → Type 0
-ArePlaces size s places = AllByRecursion (IsPlace size s) places
+ArePlaces size s places = AllByRecursion (IsPacketPlace size s) places

@@ -2,7 +2,7 @@
 
 ghost use Rattle.std.specs.Prelude.{◌≡◌};
 ghost use Rattle.jk_walk.specs.Sop.{counter_of};
-ghost use Rattle.jk_walk.specs.Entries.{entry_of};
+ghost use Rattle.jk_walk.specs.Entries.{packet_entry};
 
 use crate::places::PacketPlace;
 use crate::spans::OfPacket;
@@ -34,7 +34,7 @@ fn counter(sop: bool, text: &[u8]) -> Option<(u8, u8)>
 }
 
 impl OfPacket for PacketEntry {
-    ghost kept_of = { entry_of };
+    ghost kept_of = { packet_entry };
 
     fn of_packet(bytes: &[u8], sop: bool, place: PacketPlace, end: usize) -> PacketEntry {
         PacketEntry {

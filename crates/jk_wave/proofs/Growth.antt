@@ -10,7 +10,7 @@ use Rattle.jk_lift.proofs.Laws.{grows_plane, bounds_plane}
 use Rattle.jk_wave.specs.Resolutions.{woven_plane, resolution_of}
 use Rattle.jk_wave.specs.Analysis.{reduced, analysed}
 use Rattle.jk_wave.specs.Bands.{numbered_area}
-use Rattle.jk_wave.specs.Laws.{IsBounded, GrowsLevels, HasPlanes, HasWidth, BoundsResolutions}
+use Rattle.jk_wave.specs.Laws.{IsBounded, GrowsLevels, HasEnoughPlanes, HasWidth, BoundsResolutions}
 use Rattle.jk_wave.specs.Levels.{half_area, unlifted_over, lifted_over}
 use Rattle.jk_wave.proofs.Equations.{woven_even, woven_odd, resolution_lowest, resolution_more, reduced_none, reduced_more, analysed_lowest, analysed_more}
 use Rattle.jk_wave.proofs.Halves.{half_within, below_half, lowest_area, number_area, resolution_top}
@@ -155,7 +155,7 @@ coefficient_grows a levels f m k within few b x y inside h = elim (cases_eq b 0)
       inr (up_to n k (unsigned_abs (analysed a levels f b x y) + 2) (4 * m) (omega arith) (omega arith))
 ]
 
-pub has_planes : HasPlanes
+pub has_planes : HasEnoughPlanes
 has_planes a levels f b x y few inside small h =
     elim (coefficient_grows a levels f 65537 4 (λ u v w. let s = small u v w in omega arith) few b x y inside h) [ inl g ↦ omega arith | inr g ↦ omega arith ]
 

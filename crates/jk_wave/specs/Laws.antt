@@ -62,8 +62,8 @@ GrowsLevels = (a : Rect) (levels : ℕ) (f : ℕ → ℕ → ℤ) (m : ℕ) → 
 
 -- Samples of magnitude up to 65535 and at most five levels: 23 bit-planes suffice. Samples below
 -- 2^17 and at most ten levels: each coefficient is below 2^30.
-abbrev pub HasPlanes : Type 0
-HasPlanes = (a : Rect) (levels : ℕ) (f : ℕ → ℕ → ℤ) (b x y : ℕ) → levels ≤ 5 → b ≤ 3 * levels →
+abbrev pub HasEnoughPlanes : Type 0
+HasEnoughPlanes = (a : Rect) (levels : ℕ) (f : ℕ → ℕ → ℤ) (b x y : ℕ) → levels ≤ 5 → b ≤ 3 * levels →
     ((u v : ℕ) → IsWithin a u v → unsigned_abs (f u v) ≤ 65535) → IsWithin (numbered_area a levels b) x y
     → unsigned_abs (analysed a levels f b x y) < 2 ^ 23
 

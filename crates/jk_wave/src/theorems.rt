@@ -1,6 +1,6 @@
 //! Laws of sub-bands and resolutions. Each is the contract of a function that does nothing.
 
-ghost use Rattle.jk_wave.specs.Laws.{IsLocalResolution, IsDecided, IsUndone, IsReduced, GrowsLevels, HasPlanes};
+ghost use Rattle.jk_wave.specs.Laws.{IsLocalResolution, IsDecided, IsUndone, IsReduced, GrowsLevels, HasEnoughPlanes};
 ghost use Rattle.jk_wave.specs.Laws.{HasWidth, BoundsResolutions, IsClimbing, LiesInLevel, LiesApart, LiesOffLow};
 ghost use Rattle.jk_wave.specs.Laws.{HasRows, KeepsOthers, StaysLevel};
 ghost use Rattle.jk_wave.specs.falling.Intervals.{FallsWithin, FallsInOrder, FallsNone, FallsAll, GivenNone, GivenAll, GivenInOrder, GivenAlone};
@@ -21,7 +21,7 @@ pub fn analysis_undone()
 /// How much all levels add, forwards.
 pub fn levels_growth()
     ensures grows { GrowsLevels }
-    ensures planes { HasPlanes }
+    ensures planes { HasEnoughPlanes }
     ensures width { HasWidth }
 {}
 

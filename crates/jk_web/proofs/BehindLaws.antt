@@ -4,9 +4,9 @@ use Rattle.jk_math.specs.declared.fault.Fault.{Fault}
 use Rattle.jk_window.specs.declared.view.View.{View}
 use Rattle.jk_web.specs.declared.serving.End.{End}
 use Rattle.jk_web.specs.declared.running.Answering.{Answering}
-use Rattle.jk_web.specs.Resources.{IsSegment}
+use Rattle.jk_web.specs.Resources.{IsPathSegment}
 use Rattle.jk_web.specs.Images.{Image, names_of, gives_with, gives_kept, refuses_memory}
-use Rattle.jk_web.specs.Serving.{Ends}
+use Rattle.jk_web.specs.Serving.{EndsConnection}
 use Rattle.jk_web.specs.Behind.{HoldsBehind, KnowsBehind, GoesBehind, GivesBehind, RefusesBehind}
 use Rattle.jk_web.proofs.RunLaws.{ends_as}
 
@@ -36,7 +36,7 @@ module _ {C W : Type 0} (stands keeps : C → List Image → Type 0) (made : C �
 
   module _ (broke : C → List ℕ → C → Type 0) (reads : C → List ℕ → List ℕ → C → Type 0) (others : Option Image → C → List ℕ → View → C → List ℕ → Type 0)
       (start end : Answering C W) (stream text : List ℕ) (over spent : Type 0) (r : Result End Fault)
-      (k : Ends (GivesBehind stands keeps made has broke reads others) (RefusesBehind stands keeps made has) start stream text over spent end r) where
+      (k : EndsConnection (GivesBehind stands keeps made has broke reads others) (RefusesBehind stands keeps made has) start stream text over spent end r) where
     -- from the first state to the last
     pub went : GoesBehind stands keeps made has start end
     went =
@@ -47,8 +47,8 @@ module _ {C W : Type 0} (stands keeps : C → List Image → Type 0) (made : C �
         start stream text over spent end r (goes_nowhere start) k).1
 
     -- what was written, of the catalogue alone
-    pub shown : (images : List Image) → stands start.catalogue.now images → HoldsBehind made has start → All IsSegment (names_of images)
-        → Ends (gives_with broke reads others images) refuses_memory start.catalogue.now stream text over spent end.catalogue.now r
+    pub shown : (images : List Image) → stands start.catalogue.now images → HoldsBehind made has start → All IsPathSegment (names_of images)
+        → EndsConnection (gives_with broke reads others images) refuses_memory start.catalogue.now stream text over spent end.catalogue.now r
     shown images stand held segments =
         (ends_as (GivesBehind stands keeps made has broke reads others) (gives_with broke reads others images) (RefusesBehind stands keeps made has)
         (λ a. a.catalogue.now) (λ a. stands a.catalogue.now images × HoldsBehind made has a)
@@ -56,8 +56,8 @@ module _ {C W : Type 0} (stands keeps : C → List Image → Type 0) (made : C �
         (λ s q e t p g. (g.memory, (g.goes.lasts.stands_on images p.0, g.goes.holds p.1)))
         start stream text over spent end r (stand, held) k).0
 
-    pub kept : (images : List Image) → KnowsBehind stands keeps has images start → All IsSegment (names_of images)
-        → Ends (gives_kept broke images) refuses_memory start.catalogue.now stream text over spent end.catalogue.now r
+    pub kept : (images : List Image) → KnowsBehind stands keeps has images start → All IsPathSegment (names_of images)
+        → EndsConnection (gives_kept broke images) refuses_memory start.catalogue.now stream text over spent end.catalogue.now r
     kept images known segments =
         (ends_as (GivesBehind stands keeps made has broke reads others) (gives_kept broke images) (RefusesBehind stands keeps made has)
         (λ a. a.catalogue.now) (KnowsBehind stands keeps has images)

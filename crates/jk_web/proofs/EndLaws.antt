@@ -9,7 +9,7 @@ use Rattle.jk_web.specs.declared.serving.End.{End}
 use Rattle.jk_web.specs.declared.serving.End.TheVariants.{Closed, Bad, ReadFailed, WriteFailed, TurnsSpent}
 use Rattle.httparse.specs.Grammar.{RequestHead}
 use Rattle.jk_web.specs.Heads.{IsWhole, IsGood, request_of}
-use Rattle.jk_web.specs.Serving.{Answered, nothing, one_more, IsOpenText, IsClosedText, IsBadText, IsCutText, IsDue, IsRefusedText, Ends}
+use Rattle.jk_web.specs.Serving.{Answered, nothing, one_more, IsOpenText, IsClosedText, IsBadText, IsCutText, IsDue, IsRefusedText, EndsConnection}
 
 module _ {S T : Type 0} (gives : S → Request → Reply → S → Type 0) (refuses : S → Request → Fault → S → Type 0)
     (plain : T → Request → Reply → T → Type 0) (plainly : T → Request → Fault → T → Type 0)
@@ -121,8 +121,8 @@ module _ {S T : Type 0} (gives : S → Request → Reply → S → Type 0) (refu
             (record { rest = k.rest; state = f k.state; answered = first.0; cause = last.0 }, first.1),
       )
 
-  pub ends_by : (s : S) (stream text : List ℕ) (over spent : Type 0) (t : S) (r : Result End Fault) → P s → Ends gives refuses s stream text over spent t r
-      → P t × (Q t → Ends plain plainly (f s) stream text over spent (f t) r × Q s)
+  pub ends_by : (s : S) (stream text : List ℕ) (over spent : Type 0) (t : S) (r : Result End Fault) → P s → EndsConnection gives refuses s stream text over spent t r
+      → P t × (Q t → EndsConnection plain plainly (f s) stream text over spent (f t) r × Q s)
   ends_by s stream text over spent t (Ok Closed) p (inl k) =
       let a = open_by s stream text t p k.0 in (a.0, λ b. let first = a.1 b in (inl (first.0, k.1), first.1))
   ends_by s stream text over spent t (Ok Closed) p (inr k) =

@@ -10,7 +10,7 @@ use Rattle.std.proofs.lemmas.Bool.Decides.{nat_tests}
 use Rattle.std.proofs.lemmas.Slice.Eq.{bytes_eq-Decides}
 use Rattle.jk_window.specs.declared.view.View.{View}
 use Rattle.jk_web.specs.declared.query.Readings.{Readings}
-use Rattle.jk_web.specs.Queries.{number_of, has_key, keys, is_reading, window_of, asked_by}
+use Rattle.jk_web.specs.Queries.{number_of, has_key, keys, is_reading, queried_window, asked_by}
 use Rattle.jk_web.specs.Readings.{slots, is_once, number_with, asked_with}
 
 -- the names, in the order in which they are judged
@@ -34,7 +34,7 @@ key_l = codes "layers"
 
 -- the window, by its tests and its numbers
 abbrev judged : Bool → Bool → Bool → Bool → Bool → Bool → Bool → Option ℕ → Option ℕ → Option ℕ → Option ℕ → Option ℕ → Option ℕ → Option View
-judged all a b c d e f x y w h r l = cond (all && (a && (b && (c && (d && (e && (f && true))))))) (window_of x y w h r l) None
+judged all a b c d e f x y w h r l = cond (all && (a && (b && (c && (d && (e && (f && true))))))) (queried_window x y w h r l) None
 
 abbrev Pair : Type 0
 Pair = List ℕ × List ℕ
@@ -67,7 +67,7 @@ Slot = List ℕ × Option ℕ
 
 -- the window by the numbers of the names in turn
 abbrev by_numbers : List (Option ℕ) → Option View
-by_numbers (x ∷ y ∷ w ∷ h ∷ r ∷ l ∷ []) = window_of x y w h r l
+by_numbers (x ∷ y ∷ w ∷ h ∷ r ∷ l ∷ []) = queried_window x y w h r l
 by_numbers _ = None
 
 -- what is made of pairs behind what was read
@@ -251,7 +251,7 @@ or_none None = refl
 or_none (Some n) = refl
 
 -- Behind the last pair the window is that of what was read.
-pub asked_with-end : (r : Readings) → asked_with r [] ≡ window_of r.x r.y r.width r.height r.reduce r.layers
+pub asked_with-end : (r : Readings) → asked_with r [] ≡ queried_window r.x r.y r.width r.height r.reduce r.layers
 unfolding asked_with
 asked_with-end r =
     λ i. judged true (none_left key_x r.x i) (none_left key_y r.y i) (none_left key_w r.width i) (none_left key_h r.height i) (none_left key_r r.reduce i) (none_left key_l r.layers i)

@@ -7,7 +7,7 @@ use Rattle.jk_math.specs.Steps.{if_ok}
 use Rattle.jk_window.specs.declared.view.View.{View}
 use Rattle.jk_web.specs.declared.reply.Reply.{Reply}
 use Rattle.jk_web.specs.Replies.{Content, printed, error}
-use Rattle.jk_web.specs.Images.{Image, sent, whole_content, cut_content, window_content, IsFileOf, IsCutOf, HasNoCut, MayRefuse, status_of, IsReplyOf}
+use Rattle.jk_web.specs.Images.{Image, sent, whole_content, cut_content, window_content, IsImageFile, IsCutOf, HasNoCut, MayRefuse, status_of, IsReplyOf}
 
 -- a name of which there is an image
 pub some_not : (o : Option Image) → is_some o ≡ true → o ≡ None → ⊥
@@ -27,7 +27,7 @@ no_cut None all asked is none = absurd none
 no_cut (Some i) all asked is none = sym (ap (λ x. window_content (Some i) x) is ∙ ap cut_content none)
 
 -- what is due is sent
-pub whole_sent : (o : Option Image) (b : Bool) (file : List ℕ) → b ≡ true → IsFileOf o file → sent file ≡ whole_content o b
+pub whole_sent : (o : Option Image) (b : Bool) (file : List ℕ) → b ≡ true → IsImageFile o file → sent file ≡ whole_content o b
 whole_sent None b file bare is = absurd is
 whole_sent (Some i) b file bare is = ap sent is ∙ sym (ap (λ x. whole_content (Some i) x) bare)
 

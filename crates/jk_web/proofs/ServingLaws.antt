@@ -16,9 +16,9 @@ use Rattle.jk_web.specs.Fields.{closes}
 use Rattle.jk_web.specs.Heads.{IsWhole, IsBad, IsQuiet, request_of}
 use Rattle.jk_math.specs.Front.{IsFront}
 use Rattle.jk_web.specs.Replies.{bad_reply}
-use Rattle.jk_web.specs.Sessions.{Takes}
+use Rattle.jk_web.specs.Sessions.{TakesRequest}
 use Rattle.jk_web.specs.Unread.{Unread, bad}
-use Rattle.jk_web.specs.Serving.{Answered, nothing, one_more, IsClosedText, IsBadText, IsCutText, IsRefusedText, HasRequests, Tells, Ends}
+use Rattle.jk_web.specs.Serving.{Answered, nothing, one_more, IsClosedText, IsBadText, IsCutText, IsRefusedText, HasRequests, TellsEnd, EndsConnection}
 use Rattle.jk_math.proofs.Laws.{appends_join}
 use Rattle.jk_web.proofs.KnownLaws.{consumes_join}
 
@@ -52,16 +52,16 @@ pub whole_less : (rest tail : List ℕ) (h : RequestHead) → IsWhole rest h tai
 whole_less rest tail h w = omega (arith, head_some h w.reads.0, ap length w.reads.1, length-append (print_request h) tail)
 
 -- A request takes bytes.
-pub takes_less : (old new : Unread) (q : Request) → Takes old new q → length new.rest < length old.rest
+pub takes_less : (old new : Unread) (q : Request) → TakesRequest old new q → length new.rest < length old.rest
 takes_less old new q k = whole_less old.rest new.rest k.head k.whole
 
 module _ {S : Type 0} (gives : S → Request → Reply → S → Type 0) (refuses : S → Request → Fault → S → Type 0) where
   -- the reply to the head is that to the request that was made of it
-  given_head : (old new : Unread) (t u : S) (q : Request) (reply : Reply) (k : Takes old new q) → gives t q reply u → gives t (request_of k.head) reply u
+  given_head : (old new : Unread) (t u : S) (q : Request) (reply : Reply) (k : TakesRequest old new q) → gives t q reply u → gives t (request_of k.head) reply u
   given_head old new t u q reply k g = subst (λ (r : Request). gives t r reply u) k.asks g
 
   pub go_on : (a b c : Option (List ℕ)) (s t u : S) (stream text sent : List ℕ) (old new : Unread) (q : Request) (reply : Reply)
-      → Appends a b text → Appends b c sent → sent ≡ reply.bytes → Answered gives s stream text old.rest t → Takes old new q → gives t q reply u
+      → Appends a b text → Appends b c sent → sent ≡ reply.bytes → Answered gives s stream text old.rest t → TakesRequest old new q → gives t q reply u
       → q.closes ≡ false → (x : List ℕ) × Appends a c x × Answered gives s stream x new.rest u
   go_on a b c s t u stream text sent old new q reply before now same answered k g keeps = (
     text ++ reply.bytes,
@@ -71,7 +71,7 @@ module _ {S : Type 0} (gives : S → Request → Reply → S → Type 0) (refuse
   )
 
   pub close_here : (a b c : Option (List ℕ)) (s t u : S) (stream text sent : List ℕ) (old new : Unread) (q : Request) (reply : Reply)
-      → Appends a b text → Appends b c sent → sent ≡ reply.bytes → Answered gives s stream text old.rest t → Takes old new q → gives t q reply u
+      → Appends a b text → Appends b c sent → sent ≡ reply.bytes → Answered gives s stream text old.rest t → TakesRequest old new q → gives t q reply u
       → q.closes ≡ true → (x : List ℕ) × Appends a c x × IsClosedText gives s stream x u
   close_here a b c s t u stream text sent old new q reply before now same answered k g closing = (
     text ++ reply.bytes,
@@ -98,7 +98,7 @@ module _ {S : Type 0} (gives : S → Request → Reply → S → Type 0) (refuse
 
   pub cut_here : (a b c : Option (List ℕ)) (s t u : S) (stream text sent : List ℕ) (old new : Unread) (q : Request) (reply : Reply)
       → Appends a b text → ((part : List ℕ) × Appends b c part × IsFront part sent) → sent ≡ reply.bytes
-      → Answered gives s stream text old.rest t → Takes old new q → gives t q reply u → HasRequests new.rest
+      → Answered gives s stream text old.rest t → TakesRequest old new q → gives t q reply u → HasRequests new.rest
       → (x : List ℕ) × Appends a c x × IsCutText gives s stream x u
   cut_here a b c s t u stream text sent old new q reply before some same answered k g more = (
     text ++ some.0,
@@ -157,7 +157,7 @@ module _ {S : Type 0} (gives : S → Request → Reply → S → Type 0) (refuse
   )
 
   pub refuse_here : (s t u : S) (stream text : List ℕ) (old new : Unread) (q : Request) (e : Fault) → Answered gives s stream text old.rest t
-      → Takes old new q → refuses t q e u → IsRefusedText gives refuses s stream text e u
+      → TakesRequest old new q → refuses t q e u → IsRefusedText gives refuses s stream text e u
   refuse_here s t u stream text old new q e answered k r = record {
     rest = old.rest;
     state = t;
@@ -196,8 +196,8 @@ module _ {S : Type 0} (gives : S → Request → Reply → S → Type 0) (refuse
 
   -- what ended behind requests that were answered before
   pub ends_behind : (s : S) (stream text rest : List ℕ) (t : S) (text2 : List ℕ) (new : Unread) (u : S) (over spent : Type 0) (e : End)
-      → Answered gives s stream text rest t → Tells gives refuses t rest text2 new u (Ok (Some e))
-      → Ends gives refuses s stream (text ++ text2) over spent u (Ok e)
+      → Answered gives s stream text rest t → TellsEnd gives refuses t rest text2 new u (Ok (Some e))
+      → EndsConnection gives refuses s stream (text ++ text2) over spent u (Ok e)
   ends_behind s stream text rest t text2 new u over spent Closed a k =
       inr record {
         before = text ++ k.before;

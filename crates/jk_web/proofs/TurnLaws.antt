@@ -7,7 +7,7 @@ use Rattle.jk_web.specs.declared.reply.Reply.{Reply}
 use Rattle.jk_web.specs.declared.serving.End.{End}
 use Rattle.jk_web.specs.declared.serving.End.TheVariants.{Closed, Bad, ReadFailed, WriteFailed, TurnsSpent}
 use Rattle.jk_web.specs.Unread.{Unread}
-use Rattle.jk_web.specs.Serving.{Tells}
+use Rattle.jk_web.specs.Serving.{TellsEnd}
 use Rattle.jk_web.specs.Turns.{most_read, IsReadIn}
 
 -- One more read gives at most a piece.
@@ -17,7 +17,7 @@ read_more stream piece reads count h fits all = omega (arith, length-append stre
 
 -- Where what came was answered, and where that has ended the connection.
 pub read_to_end : {S : Type 0} (gives : S → Request → Reply → S → Type 0) (refuses : S → Request → Fault → S → Type 0) (s : S) (rest text : List ℕ) (new : Unread) (t : S) (e : End)
-    → Tells gives refuses s rest text new t (Ok (Some e)) → (turns : ℕ) (stream : List ℕ) (reads : ℕ) → reads ≤ length stream → length stream ≤ most_read * reads → reads ≤ turns
+    → TellsEnd gives refuses s rest text new t (Ok (Some e)) → (turns : ℕ) (stream : List ℕ) (reads : ℕ) → reads ≤ length stream → length stream ≤ most_read * reads → reads ≤ turns
     → IsReadIn turns stream (Ok e)
 read_to_end gives refuses s rest text new t Closed k turns stream reads least most enough =
     record { reads = reads; least = least; most = most; enough = enough; failed = λ is. absurd cc; spent = λ is. absurd cc }

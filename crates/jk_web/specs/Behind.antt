@@ -6,7 +6,7 @@ use Rattle.jk_window.specs.declared.view.View.{View}
 use Rattle.jk_web.specs.declared.reply.Reply.{Reply}
 use Rattle.jk_web.specs.declared.request.Request.{Request}
 use Rattle.jk_web.specs.declared.running.Answering.{Answering}
-use Rattle.jk_web.specs.Resources.{IsSegment}
+use Rattle.jk_web.specs.Resources.{IsPathSegment}
 use Rattle.jk_web.specs.Images.{Image, names_of, IsReplyWith, IsKeptReply}
 use Rattle.jk_web.specs.Cuts.{Within, AreOf}
 use Rattle.jk_web.specs.Running.{Lasts}
@@ -40,9 +40,9 @@ module _ {C W : Type 0} (stands keeps : C → List Image → Type 0) (made : C �
       (others : Option Image → C → List ℕ → View → C → List ℕ → Type 0)
       (s : Answering C W) (q : Request) (r : Reply) (t : Answering C W) : Type 0 where
     pub reply : (images : List Image) → stands s.catalogue.now images → HoldsBehind made has s
-        → All IsSegment (names_of images)
+        → All IsPathSegment (names_of images)
         → IsReplyWith broke reads others images q s.catalogue.now t.catalogue.now r
-    pub kept : (images : List Image) → KnowsBehind stands keeps has images s → All IsSegment (names_of images)
+    pub kept : (images : List Image) → KnowsBehind stands keeps has images s → All IsPathSegment (names_of images)
         → IsKeptReply broke images q s.catalogue.now t.catalogue.now r
     pub goes : GoesBehind s t
 

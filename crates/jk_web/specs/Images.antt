@@ -1,5 +1,5 @@
 -- What a server answers from its images.
-pub use Rattle.jk_catalogue.specs.Images.{Image, names_of, image_of, IsFileOf, IsCutOf, HasNoCut, MayRefuse, IsOtherFile}
+pub use Rattle.jk_catalogue.specs.Images.{Image, names_of, image_of, IsImageFile, IsCutOf, HasNoCut, MayRefuse, IsForeignFile}
 pub use Rattle.jk_catalogue.specs.Images.{IsOtherCut, IsOtherRead, IsFileGiven, IsCutGiven}
 use Rattle.std.specs.Prelude.{◌≡◌, ℕ, ◌⊎◌, Bool, true, false, List, map, find, Option, Some, None, if◌then◌else◌, codes}
 use Rattle.std.specs.List.{flat_map}
@@ -89,7 +89,7 @@ abbrev pub IsOtherSent : List Image → (reads : List ℕ → List ℕ → Type 
     → (windows : Option Image → List ℕ → View → List ℕ → Type 0) → List ℕ → Resource → List ℕ → Type 0
 IsOtherSent images reads windows query listing file = ⊥
 IsOtherSent images reads windows query (whole name) file = (are_none (pairs_of query) ≡ true)
-    × IsOtherFile (image_of name images) (reads name) file
+    × IsForeignFile (image_of name images) (reads name) file
 IsOtherSent images reads windows query (window name) file = (asked : View) × (asked_by (pairs_of query) ≡ Some asked)
     × windows (image_of name images) name asked file
 IsOtherSent images reads windows query nowhere file = ⊥

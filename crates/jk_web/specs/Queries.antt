@@ -51,16 +51,16 @@ number_at key pairs = option_and_then (λ p. number_of p.1) (find (has_key key) 
 
 -- a window, where its four sides are given; the reduction is 0 where it isn't, and all layers are
 -- asked for where no number of them is
-abbrev pub window_of : Option ℕ → Option ℕ → Option ℕ → Option ℕ → Option ℕ → Option ℕ → Option View
-window_of (Some x) (Some y) (Some width) (Some height) reduce layers =
+abbrev pub queried_window : Option ℕ → Option ℕ → Option ℕ → Option ℕ → Option ℕ → Option ℕ → Option View
+queried_window (Some x) (Some y) (Some width) (Some height) reduce layers =
     Some record { reduce = unwrap_or reduce 0; x = x; y = y; width = width; height = height; layers = layers }
-window_of _ _ _ _ _ _ = None
+queried_window _ _ _ _ _ _ = None
 
 -- The window that pairs ask for: each pair has one of the names and a number, and no name stands
 -- twice.
 abbrev pub asked_by : List (List ℕ × List ℕ) → Option View
 asked_by pairs =
     if list_all is_reading pairs && list_all (stands_once pairs) keys
-    then window_of (number_at (codes "x") pairs) (number_at (codes "y") pairs) (number_at (codes "w") pairs)
+    then queried_window (number_at (codes "x") pairs) (number_at (codes "y") pairs) (number_at (codes "w") pairs)
     (number_at (codes "h") pairs) (number_at (codes "r") pairs) (number_at (codes "layers") pairs)
     else None

@@ -5,7 +5,7 @@ use Rattle.std.specs.List.{list_all}
 use Rattle.std.specs.Option.{option_or}
 use Rattle.jk_window.specs.declared.view.View.{View}
 use Rattle.jk_web.specs.declared.query.Readings.{Readings}
-use Rattle.jk_web.specs.Queries.{has_key, is_reading, number_at, window_of}
+use Rattle.jk_web.specs.Queries.{has_key, is_reading, number_at, queried_window}
 
 -- what was read, by name
 abbrev pub slots : Readings → List (List ℕ × Option ℕ)
@@ -24,7 +24,7 @@ number_with slot key pairs = option_or slot (number_at key pairs)
 unfoldable pub asked_with : Readings → List (List ℕ × List ℕ) → Option View
 asked_with r pairs =
     if list_all is_reading pairs && list_all (is_once pairs) (slots r)
-    then window_of (number_with r.x (codes "x") pairs) (number_with r.y (codes "y") pairs)
+    then queried_window (number_with r.x (codes "x") pairs) (number_with r.y (codes "y") pairs)
     (number_with r.width (codes "w") pairs) (number_with r.height (codes "h") pairs)
     (number_with r.reduce (codes "r") pairs) (number_with r.layers (codes "layers") pairs)
     else None

@@ -1,5 +1,5 @@
 -- What the path of a request target names on a server of images.
-pub use Rattle.jk_catalogue.specs.Images.{is_segment_byte, IsSegment}
+pub use Rattle.jk_catalogue.specs.Images.{is_segment_byte, IsPathSegment}
 use Rattle.std.specs.Prelude.{ℕ, ◌+◌, Bool, not, ◌==◌, List, ◌++◌, take, drop, find, Option, Some, None, if◌then◌else◌}
 use Rattle.std.specs.Prelude.{codes, IsTrue, All}
 use Rattle.std.specs.List.{list_any, position_or_len}

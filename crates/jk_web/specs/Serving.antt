@@ -116,22 +116,22 @@ module _ {S : Type 0} (gives : S → Request → Reply → S → Type 0) (refuse
         ⊎ ((h : RequestHead) × (tail : List ℕ) × IsWhole rest h tail × IsGood h × refuses state (request_of h) e t)
 
   -- What was written to a stream, where it goes on with this rest, or where it ended.
-  abbrev pub Tells : S → List ℕ → List ℕ → Unread → S → Result (Option End) Fault → Type 0
-  Tells s stream text new t (Ok None) = Answered gives s stream text new.rest t × IsQuiet new.rest × (new.stuck ≡ None)
-  Tells s stream text new t (Ok (Some Closed)) = IsClosedText gives s stream text t
-  Tells s stream text new t (Ok (Some Bad)) = IsBadText gives s stream text t
-  Tells s stream text new t (Ok (Some WriteFailed)) = IsCutText gives s stream text t
-  Tells s stream text new t (Ok (Some ReadFailed)) = ⊥
-  Tells s stream text new t (Ok (Some TurnsSpent)) = ⊥
-  Tells s stream text new t (Err e) = IsRefusedText s stream text e t
+  abbrev pub TellsEnd : S → List ℕ → List ℕ → Unread → S → Result (Option End) Fault → Type 0
+  TellsEnd s stream text new t (Ok None) = Answered gives s stream text new.rest t × IsQuiet new.rest × (new.stuck ≡ None)
+  TellsEnd s stream text new t (Ok (Some Closed)) = IsClosedText gives s stream text t
+  TellsEnd s stream text new t (Ok (Some Bad)) = IsBadText gives s stream text t
+  TellsEnd s stream text new t (Ok (Some WriteFailed)) = IsCutText gives s stream text t
+  TellsEnd s stream text new t (Ok (Some ReadFailed)) = ⊥
+  TellsEnd s stream text new t (Ok (Some TurnsSpent)) = ⊥
+  TellsEnd s stream text new t (Err e) = IsRefusedText s stream text e t
 
   -- What was written to a stream that was read, and what has ended the connection. Over: no more
   -- input comes; spent: no read is left.
-  abbrev pub Ends : S → List ℕ → List ℕ → Type 0 → Type 0 → S → Result End Fault → Type 0
-  Ends s stream text over spent t (Ok Closed) = (IsOpenText gives s stream text t × over)
+  abbrev pub EndsConnection : S → List ℕ → List ℕ → Type 0 → Type 0 → S → Result End Fault → Type 0
+  EndsConnection s stream text over spent t (Ok Closed) = (IsOpenText gives s stream text t × over)
       ⊎ IsClosedText gives s stream text t
-  Ends s stream text over spent t (Ok Bad) = IsBadText gives s stream text t
-  Ends s stream text over spent t (Ok ReadFailed) = IsOpenText gives s stream text t
-  Ends s stream text over spent t (Ok WriteFailed) = IsCutText gives s stream text t
-  Ends s stream text over spent t (Ok TurnsSpent) = IsOpenText gives s stream text t × spent
-  Ends s stream text over spent t (Err e) = IsRefusedText s stream text e t
+  EndsConnection s stream text over spent t (Ok Bad) = IsBadText gives s stream text t
+  EndsConnection s stream text over spent t (Ok ReadFailed) = IsOpenText gives s stream text t
+  EndsConnection s stream text over spent t (Ok WriteFailed) = IsCutText gives s stream text t
+  EndsConnection s stream text over spent t (Ok TurnsSpent) = IsOpenText gives s stream text t × spent
+  EndsConnection s stream text over spent t (Err e) = IsRefusedText s stream text e t

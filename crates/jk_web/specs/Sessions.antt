@@ -10,7 +10,7 @@ use Rattle.jk_web.specs.Heads.{IsWhole, IsGood, request_of}
 use Rattle.jk_web.specs.Unread.{Unread}
 
 -- A request was made of the head at the front, and the tail is left.
-pub record Takes (old new : Unread) (request : Request) : Type 0 where
+pub record TakesRequest (old new : Unread) (request : Request) : Type 0 where
   pub head : RequestHead
   pub whole : IsWhole old.rest head new.rest
   pub good : IsGood head

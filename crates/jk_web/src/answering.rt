@@ -2,7 +2,7 @@
 
 ghost use Rattle.std.specs.Prelude.{◌≡◌, List, ℕ, Some, All, IfOk, IfErr, IsErr};
 ghost use Rattle.jk_math.specs.Memory.{IsMemory};
-ghost use Rattle.jk_web.specs.Resources.{IsSegment, among, whole, window, listing};
+ghost use Rattle.jk_web.specs.Resources.{IsPathSegment, among, whole, window, listing};
 ghost use Rattle.jk_web.specs.Queries.{pairs_of, asked_by};
 ghost use Rattle.jk_web.specs.Replies.{printed, error};
 ghost use Rattle.jk_web.specs.Images.{Image, names_of, content_of, status_of, IsReplyAt, IsReplyAtWith, IsKeptReplyAt};
@@ -137,10 +137,10 @@ pub(crate) fn answer_by<C: Catalogue, W: Windows<C>>(
     windows: &mut W,
 ) -> Result<Reply, Fault>
     ensures exact { (images : List Image) → C.stands catalogue.old images
-        → Within (W.has windows.old) (C.made catalogue.old) → All IsSegment (names_of images)
+        → Within (W.has windows.old) (C.made catalogue.old) → All IsPathSegment (names_of images)
         → IfOk result (IsReplyWith C.broke C.reads W.others images request.now catalogue.old catalogue.new) }
     ensures same { (images : List Image) → C.stands catalogue.old images → C.keeps catalogue.old images
-        → AreOf (W.has windows.old) images → All IsSegment (names_of images)
+        → AreOf (W.has windows.old) images → All IsPathSegment (names_of images)
         → IfOk result (IsKeptReply C.broke images request.now catalogue.old catalogue.new) }
     ensures stands { (images : List Image) → C.stands catalogue.old images → C.stands catalogue.new images }
     ensures keeps { (images : List Image) → C.keeps catalogue.old images → C.keeps catalogue.new images }
@@ -150,7 +150,7 @@ pub(crate) fn answer_by<C: Catalogue, W: Windows<C>>(
         → AreOf (W.has windows.old) images → AreOf (W.has windows.new) images }
     ensures holds { Within (W.has windows.old) (C.made catalogue.old)
         → Within (W.has windows.new) (C.made catalogue.new) }
-    ensures unread { (names : List (List ℕ)) → All IsSegment names → IsHit (W.has windows.old) names request.now
+    ensures unread { (names : List (List ℕ)) → All IsPathSegment names → IsHit (W.has windows.old) names request.now
         → catalogue.new ≡ catalogue.old }
     ensures memory { IfErr result (λ e. IsMemory e) }
 {
@@ -174,11 +174,11 @@ pub fn answer<C: Catalogue>(
     catalogue: &mut C,
 ) -> Result<Reply, Fault>
     // Whatever the files of the images hold by now.
-    ensures exact { (images : List Image) → C.stands catalogue.old images → All IsSegment (names_of images)
+    ensures exact { (images : List Image) → C.stands catalogue.old images → All IsPathSegment (names_of images)
         → IfOk result (IsReply C.broke C.reads C.cuts images request.now catalogue.old catalogue.new) }
     // Where they are kept, no other file is sent.
     ensures same { (images : List Image) → C.stands catalogue.old images → C.keeps catalogue.old images
-        → All IsSegment (names_of images)
+        → All IsPathSegment (names_of images)
         → IfOk result (IsKeptReply C.broke images request.now catalogue.old catalogue.new) }
     ensures stands { (images : List Image) → C.stands catalogue.old images → C.stands catalogue.new images }
     ensures keeps { (images : List Image) → C.keeps catalogue.old images → C.keeps catalogue.new images }
@@ -201,18 +201,18 @@ pub fn answer_with<C: Catalogue>(
 ) -> Result<Reply, Fault>
     // Whatever the files of the images hold by now, where each kept cut may have been made.
     ensures exact { (images : List Image) → C.stands catalogue.old images
-        → Within (Has cache.old) (C.made catalogue.old) → All IsSegment (names_of images)
+        → Within (Has cache.old) (C.made catalogue.old) → All IsPathSegment (names_of images)
         → IfOk result (IsCachedReply C.broke C.reads C.made images request.now catalogue.old catalogue.new) }
     // Where they are kept, and each kept cut is an image's, no other file is sent.
     ensures same { (images : List Image) → C.stands catalogue.old images → C.keeps catalogue.old images
-        → AreOf (Has cache.old) images → All IsSegment (names_of images)
+        → AreOf (Has cache.old) images → All IsPathSegment (names_of images)
         → IfOk result (IsKeptReply C.broke images request.now catalogue.old catalogue.new) }
     ensures stands { (images : List Image) → C.stands catalogue.old images → C.stands catalogue.new images }
     ensures keeps { (images : List Image) → C.keeps catalogue.old images → C.keeps catalogue.new images }
     ensures lasts { Within (C.made catalogue.old) (C.made catalogue.new) }
     ensures steps { C.steps catalogue.old catalogue.new }
     // A window that is kept is given without a look at the catalogue's files.
-    ensures unread { (names : List (List ℕ)) → All IsSegment names → IsHit (Has cache.old) names request.now
+    ensures unread { (names : List (List ℕ)) → All IsPathSegment names → IsHit (Has cache.old) names request.now
         → catalogue.new ≡ catalogue.old }
     // Where each kept cut may have been made before, each may have been made behind it.
     ensures holds { Within (Has cache.old) (C.made catalogue.old) → Within (Has cache.new) (C.made catalogue.new) }

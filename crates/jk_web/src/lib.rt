@@ -31,7 +31,7 @@ pub use request::Request;
 pub use resource::{NamedResource, resource_of};
 pub use running::{run, run_with};
 pub use service::Service;
-pub use serving::{End, serve};
+pub use serving::{End, serve_connection};
 pub use session::{Next, Session};
 pub use source::{Connection, Source};
 pub use theorems::cut_texts_begin_whole_ones;

@@ -4,7 +4,7 @@ ghost use Rattle.std.specs.Prelude.{◌≡◌, List, ℕ, ◌∷◌, None, Some,
 ghost use Rattle.std.specs.List.{list_all};
 ghost use Rattle.std.specs.Char.{is_ascii_digit};
 ghost use Rattle.jk_math.specs.Memory.{IsMemory};
-ghost use Rattle.jk_web.specs.Queries.{pairs_of, number_of, window_of, asked_by};
+ghost use Rattle.jk_web.specs.Queries.{pairs_of, number_of, queried_window, asked_by};
 ghost use Rattle.jk_web.specs.Pairs.{are_none};
 ghost use Rattle.jk_web.specs.Readings.{asked_with};
 
@@ -85,7 +85,7 @@ impl Readings {
 impl Readings {
     /// The window, where its four sides were read.
     fn window(self) -> Option<View>
-        ensures { result ≡ window_of self.x self.y self.width self.height self.reduce self.layers }
+        ensures { result ≡ queried_window self.x self.y self.width self.height self.reduce self.layers }
     {
         Some(View {
             reduce: self.reduce.unwrap_or(0),

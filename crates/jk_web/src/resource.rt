@@ -2,7 +2,7 @@
 
 ghost use Rattle.std.specs.Prelude.{◌≡◌, ◌==◌, List, ℕ, take, drop, All};
 ghost use Rattle.std.specs.List.{position_or_len};
-ghost use Rattle.jk_web.specs.Resources.{path_of, query_of, IsSegment, resource_at, among, seen};
+ghost use Rattle.jk_web.specs.Resources.{path_of, query_of, IsPathSegment, resource_at, among, seen};
 
 /// What a path names.
 #[derive(Clone, Copy, Debug)]
@@ -46,7 +46,7 @@ pub(crate) fn split_target(target: &[u8]) -> (&[u8], &[u8])
 /// Whether there is an image of that name is left to the caller: the contract says what the path
 /// names, whatever names without a slash there are.
 pub fn resource_of(path: &[u8]) -> NamedResource<'_>
-    ensures { (names : List (List ℕ)) → All IsSegment names → resource_at path.now names ≡ among names (seen result) }
+    ensures { (names : List (List ℕ)) → All IsPathSegment names → resource_at path.now names ≡ among names (seen result) }
 {
     if path == b"/images".as_slice() {
         return NamedResource::Listing;

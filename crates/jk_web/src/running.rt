@@ -3,10 +3,10 @@
 ghost use Rattle.std.specs.Prelude.{◌≡◌, ◌<◌, ◌≤◌, List, ℕ, All, length, Ok, IfErr, IfSome};
 ghost use Rattle.std.specs.Io.KnownBytes.{Appends, Consumes, IsAtEnd};
 ghost use Rattle.jk_math.specs.Memory.{IsMemory};
-ghost use Rattle.jk_web.specs.Resources.{IsSegment};
+ghost use Rattle.jk_web.specs.Resources.{IsPathSegment};
 ghost use Rattle.jk_web.specs.Images.{Image, names_of, gives_reply, gives_with, gives_cached, gives_kept};
 ghost use Rattle.jk_web.specs.Images.{refuses_memory};
-ghost use Rattle.jk_web.specs.Serving.{Ends};
+ghost use Rattle.jk_web.specs.Serving.{EndsConnection};
 ghost use Rattle.jk_web.specs.Turns.{IsReadIn};
 ghost use Rattle.jk_web.specs.Cuts.{Within, AreOf, Has};
 ghost use Rattle.jk_web.specs.Behind.{AreSame, HoldsBehind, KnowsBehind};
@@ -16,7 +16,7 @@ use crate::cache::Cache;
 use crate::reply::Reply;
 use crate::request::Request;
 use crate::service::Service;
-use crate::serving::{End, serve};
+use crate::serving::{End, serve_connection};
 use crate::windows::Windows;
 use jk_catalogue::Catalogue;
 use jk_math::Fault;
@@ -26,13 +26,13 @@ use std::io::{Read, Write};
 impl<C: Catalogue> Service for C {
     ghost use Rattle.std.specs.Prelude.{List, All};
     ghost use Rattle.jk_math.specs.Memory.{IsMemory};
-    ghost use Rattle.jk_web.specs.Resources.{IsSegment};
+    ghost use Rattle.jk_web.specs.Resources.{IsPathSegment};
     ghost use Rattle.jk_web.specs.Images.{Image, names_of};
-    ghost use Rattle.jk_web.specs.Running.{Gives, Refuses};
+    ghost use Rattle.jk_web.specs.Running.{GivesAnswer, RefusesAnswer};
 
-    ghost gives = { Gives C.stands C.keeps C.made C.broke C.reads C.cuts };
+    ghost gives = { GivesAnswer C.stands C.keeps C.made C.broke C.reads C.cuts };
 
-    ghost refuses = { Refuses C.stands C.keeps C.made };
+    ghost refuses = { RefusesAnswer C.stands C.keeps C.made };
 
     fn answer(&mut self, alloc: Global, request: &Request) -> Result<Reply, Fault> {
         answer(alloc, request, self)
@@ -52,20 +52,20 @@ pub fn run<I: Read, O: Write, C: Catalogue>(
     turns: u64,
 ) -> Result<End, Fault>
     // Whatever the files of the images hold by now.
-    ensures text { (images : List Image) → C.stands catalogue.old images → All IsSegment (names_of images)
+    ensures text { (images : List Image) → C.stands catalogue.old images → All IsPathSegment (names_of images)
         → (stream : List ℕ) × (text : List ℕ)
         × Consumes (I.remaining reader.old) (I.remaining reader.new) stream
         × Appends (O.contents writer.old) (O.contents writer.new) text
-        × Ends (gives_reply C.broke C.reads C.cuts images) refuses_memory catalogue.old stream text
+        × EndsConnection (gives_reply C.broke C.reads C.cuts images) refuses_memory catalogue.old stream text
         (IsAtEnd (I.remaining reader.new)) (turns ≤ length stream) catalogue.new result
         × IsReadIn turns stream result }
     // Where they are kept, no other file is sent.
     ensures same { (images : List Image) → C.stands catalogue.old images → C.keeps catalogue.old images
-        → All IsSegment (names_of images)
+        → All IsPathSegment (names_of images)
         → (stream : List ℕ) × (text : List ℕ)
         × Consumes (I.remaining reader.old) (I.remaining reader.new) stream
         × Appends (O.contents writer.old) (O.contents writer.new) text
-        × Ends (gives_kept C.broke images) refuses_memory catalogue.old stream text (IsAtEnd (I.remaining reader.new))
+        × EndsConnection (gives_kept C.broke images) refuses_memory catalogue.old stream text (IsAtEnd (I.remaining reader.new))
         (turns ≤ length stream) catalogue.new result
         × IsReadIn turns stream result }
     ensures stands { (images : List Image) → C.stands catalogue.old images → C.stands catalogue.new images }
@@ -75,7 +75,7 @@ pub fn run<I: Read, O: Write, C: Catalogue>(
     ensures enough { IfSome (I.remaining reader.old) (λ all. length all < turns → result ≡ Ok End.TurnsSpent → ⊥) }
     ensures memory { IfErr result (λ e. IsMemory e) }
 {
-    serve(alloc, reader, writer, catalogue, turns)
+    serve_connection(alloc, reader, writer, catalogue, turns)
 }
 
 /// A catalogue, and the place that its windows come from, for a connection.
@@ -107,19 +107,19 @@ fn run_behind<'a, I: Read, O: Write, C: Catalogue, W: Windows<C>>(
 ) -> Result<End, Fault>
     ensures goes { AreSame service.old service.new }
     ensures text { (images : List Image) → C.stands service.old.catalogue.now images
-        → HoldsBehind C.made W.has service.old → All IsSegment (names_of images)
+        → HoldsBehind C.made W.has service.old → All IsPathSegment (names_of images)
         → (stream : List ℕ) × (text : List ℕ)
         × Consumes (I.remaining reader.old) (I.remaining reader.new) stream
         × Appends (O.contents writer.old) (O.contents writer.new) text
-        × Ends (gives_with C.broke C.reads W.others images) refuses_memory service.old.catalogue.now stream text
+        × EndsConnection (gives_with C.broke C.reads W.others images) refuses_memory service.old.catalogue.now stream text
         (IsAtEnd (I.remaining reader.new)) (turns ≤ length stream) service.new.catalogue.now result
         × IsReadIn turns stream result }
     ensures same { (images : List Image) → KnowsBehind C.stands C.keeps W.has images service.old
-        → All IsSegment (names_of images)
+        → All IsPathSegment (names_of images)
         → (stream : List ℕ) × (text : List ℕ)
         × Consumes (I.remaining reader.old) (I.remaining reader.new) stream
         × Appends (O.contents writer.old) (O.contents writer.new) text
-        × Ends (gives_kept C.broke images) refuses_memory service.old.catalogue.now stream text
+        × EndsConnection (gives_kept C.broke images) refuses_memory service.old.catalogue.now stream text
         (IsAtEnd (I.remaining reader.new)) (turns ≤ length stream) service.new.catalogue.now result
         × IsReadIn turns stream result }
     ensures stands { (images : List Image) → C.stands service.old.catalogue.now images
@@ -134,7 +134,7 @@ fn run_behind<'a, I: Read, O: Write, C: Catalogue, W: Windows<C>>(
     ensures enough { IfSome (I.remaining reader.old) (λ all. length all < turns → result ≡ Ok End.TurnsSpent → ⊥) }
     ensures memory { IfErr result (λ e. IsMemory e) }
 {
-    serve(alloc, reader, writer, service, turns)
+    serve_connection(alloc, reader, writer, service, turns)
 }
 
 /// Answers the requests of a connection as `run` does, from kept windows where there are some.
@@ -151,20 +151,20 @@ pub fn run_with<I: Read, O: Write, C: Catalogue>(
 ) -> Result<End, Fault>
     // Whatever the files of the images hold by now, where each kept cut may have been made.
     ensures text { (images : List Image) → C.stands catalogue.old images
-        → Within (Has cache.old) (C.made catalogue.old) → All IsSegment (names_of images)
+        → Within (Has cache.old) (C.made catalogue.old) → All IsPathSegment (names_of images)
         → (stream : List ℕ) × (text : List ℕ)
         × Consumes (I.remaining reader.old) (I.remaining reader.new) stream
         × Appends (O.contents writer.old) (O.contents writer.new) text
-        × Ends (gives_cached C.broke C.reads C.made images) refuses_memory catalogue.old stream text
+        × EndsConnection (gives_cached C.broke C.reads C.made images) refuses_memory catalogue.old stream text
         (IsAtEnd (I.remaining reader.new)) (turns ≤ length stream) catalogue.new result
         × IsReadIn turns stream result }
     // Where they are kept, and each kept cut is an image's, no other file is sent.
     ensures same { (images : List Image) → C.stands catalogue.old images → C.keeps catalogue.old images
-        → AreOf (Has cache.old) images → All IsSegment (names_of images)
+        → AreOf (Has cache.old) images → All IsPathSegment (names_of images)
         → (stream : List ℕ) × (text : List ℕ)
         × Consumes (I.remaining reader.old) (I.remaining reader.new) stream
         × Appends (O.contents writer.old) (O.contents writer.new) text
-        × Ends (gives_kept C.broke images) refuses_memory catalogue.old stream text
+        × EndsConnection (gives_kept C.broke images) refuses_memory catalogue.old stream text
         (IsAtEnd (I.remaining reader.new)) (turns ≤ length stream) catalogue.new result
         × IsReadIn turns stream result }
     ensures stands { (images : List Image) → C.stands catalogue.old images → C.stands catalogue.new images }

@@ -2,7 +2,7 @@
 
 ghost use Rattle.std.specs.Prelude.{◌≡◌, ◌≤◌, List, ℕ, None, Ok, MatchBool, length};
 ghost use Rattle.std.specs.Io.KnownBytes.{Appends, Consumes, IsAtEnd};
-ghost use Rattle.jk_web.specs.Serving.{Tells, Ends};
+ghost use Rattle.jk_web.specs.Serving.{TellsEnd, EndsConnection};
 ghost use Rattle.jk_web.specs.Turns.{IsReadIn};
 
 use crate::budget::{Budget, Last};
@@ -40,7 +40,7 @@ fn answer_all<O: Write, S: Service>(
 ) -> Result<Option<End>, Fault>
     requires { session.old.stuck ≡ None }
     ensures { (text : List ℕ) × Appends (O.contents writer.old) (O.contents writer.new) text
-        × Tells S.gives S.refuses service.old session.old.rest text session.new service.new result }
+        × TellsEnd S.gives S.refuses service.old session.old.rest text session.new service.new result }
 {
     'requests: loop {
         match session.next()? {
@@ -85,7 +85,7 @@ fn serve_turns<'a, I: Read, O: Write, S: Service>(
     ensures text { (stream : List ℕ) × (text : List ℕ)
         × Consumes (I.remaining budget.old.reader.now) (I.remaining budget.new.reader.now) stream
         × Appends (O.contents writer.old) (O.contents writer.new) text
-        × Ends S.gives S.refuses service.old stream text (IsAtEnd (I.remaining budget.new.reader.now))
+        × EndsConnection S.gives S.refuses service.old stream text (IsAtEnd (I.remaining budget.new.reader.now))
         (turns ≤ length stream) service.new result
         × IsReadIn turns stream result }
 {
@@ -114,7 +114,7 @@ fn serve_turns<'a, I: Read, O: Write, S: Service>(
 /// What is written is the replies to the requests in order, whatever pieces they come in, up to the
 /// first that closes or to the first bad one. Where memory or an answer is refused, whole replies
 /// are written alone.
-pub fn serve<I: Read, O: Write, S: Service>(
+pub fn serve_connection<I: Read, O: Write, S: Service>(
     alloc: Global,
     reader: &mut I,
     writer: &mut O,
@@ -124,7 +124,7 @@ pub fn serve<I: Read, O: Write, S: Service>(
     ensures { (stream : List ℕ) × (text : List ℕ)
         × Consumes (I.remaining reader.old) (I.remaining reader.new) stream
         × Appends (O.contents writer.old) (O.contents writer.new) text
-        × Ends S.gives S.refuses service.old stream text (IsAtEnd (I.remaining reader.new))
+        × EndsConnection S.gives S.refuses service.old stream text (IsAtEnd (I.remaining reader.new))
         (turns ≤ length stream) service.new result
         × IsReadIn turns stream result }
 {

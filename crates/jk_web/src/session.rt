@@ -8,7 +8,7 @@ ghost use Rattle.jk_web.specs.Judging.{IsHeadWithin};
 ghost use Rattle.httparse.specs.Spans.{span_bytes};
 ghost use Rattle.jk_web.specs.Unread.{Unread, out_of_memory, bad};
 ghost use Rattle.jk_web.specs.Serving.{HasRequests};
-ghost use Rattle.jk_web.specs.Sessions.{Takes, IfRequest, IsRequestUnlessMemory, OnMore, IfBad};
+ghost use Rattle.jk_web.specs.Sessions.{TakesRequest, IfRequest, IsRequestUnlessMemory, OnMore, IfBad};
 
 use crate::head::{Head, Verdict, judge, judge_all};
 use crate::octets::Octets;
@@ -130,7 +130,7 @@ impl Session {
     /// A head is sought in the first 8,192 bytes that are left, and its fields are judged once it
     /// is whole.
     pub fn next(&mut self) -> Result<Next, Fault>
-        ensures request { IfRequest result (Takes self.old self.new) }
+        ensures request { IfRequest result (TakesRequest self.old self.new) }
         ensures found { (h : RequestHead) (tail : List ℕ) → IsWhole self.old.rest h tail → IsGood h
             → self.old.stuck ≡ None → IsRequestUnlessMemory result }
         ensures more { OnMore result (IsQuiet self.old.rest × (self.old.stuck ≡ None) × (self.new ≡ self.old)) }

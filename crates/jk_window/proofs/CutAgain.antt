@@ -8,12 +8,12 @@ use Rattle.jk_marks.specs.declared.coding.Coding.{Coding}
 use Rattle.jk_marks.specs.Markers.{tlm, plt}
 use Rattle.jk_marks.specs.Siz.{tile_count}
 use Rattle.jk_marks.specs.Segments.{Segment}
-use Rattle.jk_marks.specs.Codestream.{Part, Tree, of_tile, codestream_text}
+use Rattle.jk_marks.specs.Codestream.{CodestreamPart, Tree, of_tile, codestream_text}
 use Rattle.jk_marks.specs.Copying.{kept_segments}
 use Rattle.jk_geom.specs.Rectangles.{tile_area}
 use Rattle.jk_geom.specs.Counts.{packet_number}
 use Rattle.jk_params.specs.Coding.{coding_of, codings_of, HasPlanes}
-use Rattle.jk_params.specs.Headers.{Headers, TileFields, tile_in, headers_of, places_of, head_segments, cod_for, packets_alike, packets_of, most_packets, total, IsHeaders}
+use Rattle.jk_params.specs.Headers.{Headers, TileFields, tile_in, headers_of, tile_data_places, head_segments, cod_for, packets_alike, packets_of, most_packets, total, IsHeaders}
 use Rattle.jk_params.proofs.Laws.{contents_of, places_are, said_at}
 use Rattle.jk_walk.specs.TilePackets.{slice_of, shape_in, Packet, IsTile}
 use Rattle.jk_window.specs.Emptied.{kept_packet, emptied_run, run_text, of_fronts, emptied_part, emptied_tree}
@@ -30,7 +30,7 @@ use Rattle.jk_window.proofs.TileAgain.{tile_again}
 -- ---- what the headers say
 
 -- the first header of a tile
-head_again : (content : ℕ → ℕ → List ℕ) (t : ℕ) (parts : List Part) → head_segments (of_tile t (map (emptied_part content) parts)) ≡ kept_segments plt (head_segments (of_tile t parts))
+head_again : (content : ℕ → ℕ → List ℕ) (t : ℕ) (parts : List CodestreamPart) → head_segments (of_tile t (map (emptied_part content) parts)) ≡ kept_segments plt (head_segments (of_tile t parts))
 head_again content t parts = ap head_segments (own_emptied content t parts) ∙ head_emptied content (of_tile t parts)
 
 fields_cod : (tree : Tree) (t : ℕ) → t < tile_count tree.siz → (tile_in (headers_of tree).tiles t).cod ≡ cod_for tree.segments (head_segments (of_tile t tree.parts))
@@ -41,7 +41,7 @@ fields_codings : (tree : Tree) (t : ℕ) → t < tile_count tree.siz → (tile_i
 unfolding headers_of
 fields_codings tree t lt = ap (λ (f : TileFields). f.codings) (said_at tree.siz tree.segments tree.parts t lt)
 
-fields_places : (tree : Tree) (t : ℕ) → t < tile_count tree.siz → (tile_in (headers_of tree).tiles t).data_places ≡ places_of tree t
+fields_places : (tree : Tree) (t : ℕ) → t < tile_count tree.siz → (tile_in (headers_of tree).tiles t).data_places ≡ tile_data_places tree t
 unfolding headers_of
 fields_places tree t lt = ap (λ (f : TileFields). f.data_places) (said_at tree.siz tree.segments tree.parts t lt) ∙ sym (places_are tree t)
 
@@ -160,7 +160,7 @@ content_again bytes h is runs have fronts content same =
           let there : map (slice_of text) (tile_in (headers_of new).tiles t).data_places ≡ map make (runs t) =
           ap (λ (places : List (ℕ × ℕ)). map (slice_of text) places) (fields_places new t small)
           ∙ contents_of text new t refl
-          ∙ ap (λ (ps : List Part). map (λ (p : Part). p.content) ps) (own_emptied content t tree.parts)
+          ∙ ap (λ (ps : List CodestreamPart). map (λ (p : CodestreamPart). p.content) ps) (own_emptied content t tree.parts)
           ∙ contents_made content make t (runs t) tree.parts (is.spelled.parts.numbered t) (runs_are bytes h is t (runs t) few (have t few)) (λ n. same t n few) in
           runs_again bytes text (headers_of new) h t runs fronts alike few (have t few) there);
     }

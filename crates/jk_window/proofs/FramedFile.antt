@@ -13,7 +13,7 @@ use Rattle.jk_marks.specs.declared.part_head.PartHead.{PartHead}
 use Rattle.jk_marks.specs.declared.siz.Siz.{Siz}
 use Rattle.jk_marks.specs.Markers.{tlm, eoc, marker_text}
 use Rattle.jk_marks.specs.Siz.{tile_count}
-use Rattle.jk_marks.specs.Codestream.{Part, Tree, IsPart, AreParts, data_start, part_length, part_text, main_text, codestream_text}
+use Rattle.jk_marks.specs.Codestream.{CodestreamPart, Tree, IsPart, AreParts, data_start, part_length, part_text, main_text, codestream_text}
 use Rattle.jk_marks.specs.Copying.{kept_segments, part_with}
 use Rattle.jk_marks.specs.PartHeads.{kept_text, head_of, part_head, psot_for, heads_text}
 use Rattle.jk_marks.proofs.Laws.{head_is, heads-nil, heads-cons}
@@ -44,7 +44,7 @@ headers_siz tree = refl
 
 -- ---- tile-parts
 
-heads_are : (content : ℕ → ℕ → List ℕ) (parts : List Part) → heads_text (map head_of parts) (flat_map kept_text parts) content ≡ parts_text content parts
+heads_are : (content : ℕ → ℕ → List ℕ) (parts : List CodestreamPart) → heads_text (map head_of parts) (flat_map kept_text parts) content ≡ parts_text content parts
 heads_are content [] = heads-nil [] content
 heads_are content (p ∷ parts) =
     let h = head_of p in
@@ -60,7 +60,7 @@ heads_are content (p ∷ parts) =
     ∙ ap (λ (xs : List ℕ). part_text (part_with p own-data) ++ xs) (heads_are content parts)
 
 -- parts with the same data
-parts_same : (siz : Siz) (a b : ℕ → ℕ → List ℕ) (parts : List Part) → ((t n : ℕ) → t < tile_count siz → a t n ≡ b t n) → AllByRecursion (IsPart siz) parts → parts_text a parts ≡ parts_text b parts
+parts_same : (siz : Siz) (a b : ℕ → ℕ → List ℕ) (parts : List CodestreamPart) → ((t n : ℕ) → t < tile_count siz → a t n ≡ b t n) → AllByRecursion (IsPart siz) parts → parts_text a parts ≡ parts_text b parts
 parts_same siz a b [] same each = refl
 parts_same siz a b (p ∷ parts) same each =
     ap (λ (xs : List ℕ). part_text (emptied_part (λ _ _. xs) p) ++ parts_text a parts) (same p.tile p.number each.0.tile)
@@ -135,7 +135,7 @@ made_is bytes i is w v =
 
 -- ---- what a plan asks of an index, whatever the bytes are
 
-heads_in : (h : Headers) (tree : Tree) (front back : List Part) → h ≡ headers_of tree → AreParts tree.siz tree.parts → tree.parts ≡ front ++ back → AllByRecursion (IsPart tree.siz) back → AllByRecursion (IsHead h) (map head_of back)
+heads_in : (h : Headers) (tree : Tree) (front back : List CodestreamPart) → h ≡ headers_of tree → AreParts tree.siz tree.parts → tree.parts ≡ front ++ back → AllByRecursion (IsPart tree.siz) back → AllByRecursion (IsHead h) (map head_of back)
 heads_in h tree front [] says are split each = tt
 heads_in h tree front (p ∷ back) says are split each =
     let at = length (main_text tree.siz tree.segments) + length (flat_map part_text front) in
@@ -151,7 +151,7 @@ heads_in h tree front (p ∷ back) says are split each =
 abbrev size_of : PartHead → ℕ
 size_of h = h.size
 
-segments_long : (parts : List Part) → sum_by size_of (map head_of parts) ≡ length (flat_map kept_text parts)
+segments_long : (parts : List CodestreamPart) → sum_by size_of (map head_of parts) ≡ length (flat_map kept_text parts)
 segments_long [] = refl
 segments_long (p ∷ parts) =
     let more = segments_long parts in
@@ -173,7 +173,7 @@ sound bytes i is =
 abbrev pub head_size_with : (ℕ → ℕ → ℕ) → PartHead → ℕ
 head_size_with size h = 14 + h.size + size h.tile h.number
 
-parts_sized : (siz : Siz) (size : ℕ → ℕ → ℕ) (content : ℕ → ℕ → List ℕ) (parts : List Part) → ((t n : ℕ) → t < tile_count siz → size t n ≡ length (content t n)) → AllByRecursion (IsPart siz) parts
+parts_sized : (siz : Siz) (size : ℕ → ℕ → ℕ) (content : ℕ → ℕ → List ℕ) (parts : List CodestreamPart) → ((t n : ℕ) → t < tile_count siz → size t n ≡ length (content t n)) → AllByRecursion (IsPart siz) parts
     → length (parts_text content parts) ≡ sum_by (head_size_with size) (map head_of parts)
 parts_sized siz size content [] same each = refl
 parts_sized siz size content (p ∷ parts) same each =
@@ -184,7 +184,7 @@ parts_sized siz size content (p ∷ parts) same each =
     let long = part_text_length new in
     omega (arith, more, here, sum, long, length-append (part_text new) (parts_text content parts))
 
-parts_fit : (siz : Siz) (size : ℕ → ℕ → ℕ) (content : ℕ → ℕ → List ℕ) (parts : List Part) → ((t n : ℕ) → t < tile_count siz → size t n ≡ length (content t n)) → AllByRecursion (IsPart siz) parts
+parts_fit : (siz : Siz) (size : ℕ → ℕ → ℕ) (content : ℕ → ℕ → List ℕ) (parts : List CodestreamPart) → ((t n : ℕ) → t < tile_count siz → size t n ≡ length (content t n)) → AllByRecursion (IsPart siz) parts
     → AllByRecursion (IsShort content) parts → AllByRecursion (λ h. psot_for h (size h.tile h.number) < 2 ^ 32) (map head_of parts)
 parts_fit siz size content [] same each short = tt
 parts_fit siz size content (p ∷ parts) same each short =

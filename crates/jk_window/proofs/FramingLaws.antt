@@ -8,7 +8,7 @@ use Rattle.std.proofs.lemmas.Grind.{flat_map-append}
 use Rattle.std.proofs.lemmas.Option.{get_or_from_slice_get}
 use Rattle.jk_marks.specs.declared.part_head.PartHead.{PartHead}
 use Rattle.jk_marks.specs.Markers.{eoc, marker_text}
-use Rattle.jk_marks.specs.Codestream.{Part, Tree, part_text, part_length, data_start, main_text, codestream_text, IsPart, AreParts, AreClosedBeforeLast, BeginsWith}
+use Rattle.jk_marks.specs.Codestream.{CodestreamPart, Tree, part_text, part_length, data_start, main_text, codestream_text, IsPart, AreParts, AreClosedBeforeLast, BeginsWith}
 use Rattle.jk_marks.specs.Copying.{main_size_at}
 use Rattle.jk_marks.specs.PartHeads.{kept_text, head_of, part_head_at}
 use Rattle.jk_marks.proofs.Laws.{begins_main, main_kept, main_sized, part_kept, head_found, none_at_end}
@@ -42,16 +42,16 @@ pub walked_over : {X : Type 0} (f : PartHead → List ℕ → List X) (n i : ℕ
 unfolding walked
 walked_over f n i bytes h at le = let m : n - i ≡ 0 = omega arith in ap (λ k. walked f k bytes h at) m ∙ refl
 
-last_open : (p : Part) (back : List Part) → AreClosedBeforeLast (p ∷ back) → p.is_open ≡ true → flat_map part_text back ++ marker_text eoc ≡ marker_text eoc
+last_open : (p : CodestreamPart) (back : List CodestreamPart) → AreClosedBeforeLast (p ∷ back) → p.is_open ≡ true → flat_map part_text back ++ marker_text eoc ≡ marker_text eoc
 last_open p [] closed left = refl
 last_open p (q ∷ back) closed left = absurd (true≢false (sym left ∙ closed.0))
 
-later_closed : (p : Part) (back : List Part) → AreClosedBeforeLast (p ∷ back) → AreClosedBeforeLast back
+later_closed : (p : CodestreamPart) (back : List CodestreamPart) → AreClosedBeforeLast (p ∷ back) → AreClosedBeforeLast back
 later_closed p [] closed = tt
 later_closed p (q ∷ back) closed = closed.1
 
-walk_is : {X : Type 0} (f : PartHead → List ℕ → List X) (g : Part → List X) (bytes : List ℕ) (h : Headers) (tree : Tree) (n at : ℕ) (front back : List Part)
-    → ((b : List ℕ) (p : Part) → IsPart tree.siz p → BeginsWith b p → f (head_of p) b ≡ g p) → h ≡ headers_of tree → AreParts tree.siz tree.parts → tree.parts ≡ front ++ back
+walk_is : {X : Type 0} (f : PartHead → List ℕ → List X) (g : CodestreamPart → List X) (bytes : List ℕ) (h : Headers) (tree : Tree) (n at : ℕ) (front back : List CodestreamPart)
+    → ((b : List ℕ) (p : CodestreamPart) → IsPart tree.siz p → BeginsWith b p → f (head_of p) b ≡ g p) → h ≡ headers_of tree → AreParts tree.siz tree.parts → tree.parts ≡ front ++ back
     → at ≡ length (main_text tree.siz tree.segments) + length (flat_map part_text front) → AllByRecursion (IsPart tree.siz) back → AreClosedBeforeLast back → drop at bytes ≡ flat_map part_text back ++ marker_text eoc
     → length back < n → walked f n bytes h at ≡ flat_map g back
 walk_is f g bytes h tree zero at front back same says are split at-is each closed here less = absurd (omega (arith, less))
@@ -76,16 +76,16 @@ walk_is {X} f g bytes h tree (suc n) at front (p ∷ back) same says are split a
     ∙ ap (λ (xs : List X). xs ++ walked f n bytes h (at + part_length p)) (same (drop at bytes) p each.0 begins)
     ∙ ap (λ (xs : List X). g p ++ xs) (walk_is f g bytes h tree n (at + part_length p) (front ++ p ∷ []) back same says are parts end each.1 (later_closed p back closed) after (omega (arith, less)))
 
-parts_few : (parts : List Part) → length parts ≤ length (flat_map part_text parts)
+parts_few : (parts : List CodestreamPart) → length parts ≤ length (flat_map part_text parts)
 parts_few [] = omega arith
 parts_few (p ∷ parts) = let more = parts_few parts in omega (arith, more, part_text_length p, length-append (part_text p) (flat_map part_text parts))
 
-heads_each : (parts : List Part) → flat_map (λ (p : Part). head_of p ∷ []) parts ≡ map head_of parts
+heads_each : (parts : List CodestreamPart) → flat_map (λ (p : CodestreamPart). head_of p ∷ []) parts ≡ map head_of parts
 heads_each [] = refl
 heads_each (p ∷ parts) = ap (λ (hs : List PartHead). head_of p ∷ hs) (heads_each parts)
 
 -- what is taken of all parts of a codestream
-all_walked : {X : Type 0} (f : PartHead → List ℕ → List X) (g : Part → List X) (bytes : List ℕ) (h : Headers) (is : IsHeaders bytes h) → ((b : List ℕ) (p : Part) → IsPart is.tree.siz p → BeginsWith b p → f (head_of p) b ≡ g p)
+all_walked : {X : Type 0} (f : PartHead → List ℕ → List X) (g : CodestreamPart → List X) (bytes : List ℕ) (h : Headers) (is : IsHeaders bytes h) → ((b : List ℕ) (p : CodestreamPart) → IsPart is.tree.siz p → BeginsWith b p → f (head_of p) b ≡ g p)
     → walked f (length bytes) bytes h (main_size_at bytes) ≡ flat_map g is.tree.parts
 unfolding codestream_text
 all_walked f g bytes h is same =
@@ -108,7 +108,7 @@ frame_found {bytes} {codestream} {place} holds h is form size own long =
     let tree = is.tree in
     record {
       main = main_kept codestream tree.siz tree.segments is.spelled.header (begins_main codestream tree is.spelled);
-      heads = all_walked head_alone (λ (p : Part). head_of p ∷ []) codestream h is (λ b p part begins. refl) ∙ heads_each tree.parts;
+      heads = all_walked head_alone (λ (p : CodestreamPart). head_of p ∷ []) codestream h is (λ b p part begins. refl) ∙ heads_each tree.parts;
       segments = all_walked segments_alone kept_text codestream h is (λ b p part begins. part_kept tree.siz b p part begins);
       form = own;
       size = long;

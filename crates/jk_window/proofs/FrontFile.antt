@@ -1,7 +1,7 @@
 -- There is a file of the first layers: it is no longer than the stored one.
 use Rattle.std.proofs.Common.{◌≡◌, ℕ, ◌≤◌, List, [], ◌∷◌, length, length-append, Ok, refl, inl, inr, arith}
 use Rattle.std.specs.List.{flat_map, AllByRecursion}
-use Rattle.jk_marks.specs.Codestream.{Part, part_text}
+use Rattle.jk_marks.specs.Codestream.{CodestreamPart, part_text}
 use Rattle.jk_boxes.specs.declared.place.Boxed.{Boxed}
 use Rattle.jk_boxes.specs.Boxes.{HoldsAt}
 use Rattle.jk_params.proofs.Laws.{part_text_length}
@@ -15,7 +15,7 @@ use Rattle.jk_window.proofs.FileLaws.{text_shorter}
 use Rattle.jk_window.proofs.PartsAgain.{IsShort, parts_short}
 use Rattle.jk_window.proofs.CutAgain.{front_short}
 
-pub short_parts : (content : ℕ → ℕ → List ℕ) (parts : List Part) → AllByRecursion (IsShort content) parts → length (parts_text content parts) ≤ length (flat_map part_text parts)
+pub short_parts : (content : ℕ → ℕ → List ℕ) (parts : List CodestreamPart) → AllByRecursion (IsShort content) parts → length (parts_text content parts) ≤ length (flat_map part_text parts)
 short_parts content [] all = omega arith
 short_parts content (p ∷ parts) all =
     let more = short_parts content parts all.1 in

@@ -3,7 +3,7 @@ use Rattle.std.proofs.Common.{ℕ, ◌≤◌, Bool, true, false, not, cond, List
 use Rattle.std.specs.List.{flat_map}
 use Rattle.jk_marks.specs.Markers.{plt}
 use Rattle.jk_marks.specs.Segments.{Segment, segment_text}
-use Rattle.jk_marks.specs.Codestream.{Part, part_length, psot}
+use Rattle.jk_marks.specs.Codestream.{CodestreamPart, part_length, psot}
 use Rattle.jk_marks.specs.Copying.{is_passed_as, kept_segments, part_with}
 
 -- segments that are left out take no room
@@ -17,10 +17,10 @@ kept_shorter m (s ∷ ss) = by (is_passed_as m s) (kept_shorter m ss)
     by false more = omega (arith, more, length-append (segment_text s) (flat_map segment_text ss), length-append (segment_text s) (flat_map segment_text (kept_segments m ss)))
 
 -- nor does the part
-pub part_shorter : (p : Part) (content : List ℕ) → length content ≤ length p.content → part_length (part_with p content) ≤ part_length p
+pub part_shorter : (p : CodestreamPart) (content : List ℕ) → length content ≤ length p.content → part_length (part_with p content) ≤ part_length p
 part_shorter p content short = let kept = kept_shorter plt p.segments in omega (arith, kept, short)
 
-pub psot_shorter : (p : Part) (content : List ℕ) → length content ≤ length p.content → psot (part_with p content) ≤ psot p
+pub psot_shorter : (p : CodestreamPart) (content : List ℕ) → length content ≤ length p.content → psot (part_with p content) ≤ psot p
 psot_shorter p content short = by p.is_open
   where
     by : (b : Bool) → cond b 0 (part_length (part_with p content)) ≤ cond b 0 (part_length p)

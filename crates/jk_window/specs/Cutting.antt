@@ -8,7 +8,7 @@ use Rattle.jk_math.specs.Answer.{◌>>=◌}
 use Rattle.jk_math.specs.declared.fault.Fault.{Fault}
 use Rattle.jk_math.specs.declared.rect.Rect.{Rect}
 use Rattle.jk_marks.specs.Siz.{tile_count}
-use Rattle.jk_marks.specs.Codestream.{Part, Tree, part_text, codestream_text}
+use Rattle.jk_marks.specs.Codestream.{CodestreamPart, Tree, part_text, codestream_text}
 use Rattle.jk_boxes.specs.declared.place.Boxed.{Boxed}
 use Rattle.jk_boxes.specs.Boxes.{HoldsAt}
 use Rattle.jk_boxes.specs.Written.{recoded}
@@ -90,5 +90,5 @@ abbrev pub HaveRuns : List ℕ → Headers → (ℕ → List (List Packet)) → 
 HaveRuns bytes h runs = (t : ℕ) → t < tile_count h.siz → HasRuns bytes h t (runs t)
 
 -- the text of parts with other data
-abbrev pub parts_text : (ℕ → ℕ → List ℕ) → List Part → List ℕ
+abbrev pub parts_text : (ℕ → ℕ → List ℕ) → List CodestreamPart → List ℕ
 parts_text content parts = flat_map part_text (map (emptied_part content) parts)

@@ -2,7 +2,7 @@
 use Rattle.std.specs.Prelude.{ℕ, Bool, false, nat_lt, if◌then◌else◌, List, [], ◌∷◌, ◌++◌, map, None}
 use Rattle.std.specs.List.{flat_map}
 use Rattle.jk_marks.specs.Markers.{tlm}
-use Rattle.jk_marks.specs.Codestream.{Part, Tree}
+use Rattle.jk_marks.specs.Codestream.{CodestreamPart, Tree}
 use Rattle.jk_marks.specs.Copying.{kept_segments, part_with}
 use Rattle.jk_geom.specs.declared.shape.PacketName.{PacketName}
 use Rattle.jk_packet.specs.PacketText.{eph_text}
@@ -34,7 +34,7 @@ run_text run = flat_map (λ p. p.text) run
 
 -- a tile-part whose data are those of its tile and number, and which doesn't tell the lengths of
 -- packets
-abbrev pub emptied_part : (ℕ → ℕ → List ℕ) → Part → Part
+abbrev pub emptied_part : (ℕ → ℕ → List ℕ) → CodestreamPart → CodestreamPart
 emptied_part content p = part_with p (content p.tile p.number)
 
 -- the same of all tile-parts, whose lengths the main header doesn't tell

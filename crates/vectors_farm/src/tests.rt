@@ -1,5 +1,5 @@
 ghost use Rattle.std.specs.Prelude.{◌^◌, ◌<◌, All, IsTrue, unsigned_abs};
-ghost use Rattle.jk_farm.specs.Blocks.{IsBlock, IsSegment};
+ghost use Rattle.jk_farm.specs.Blocks.{IsBlock, IsCodedSegment};
 
 use crate::cases::BLOCKS;
 use jk_block::{Block, BlockShape, CodedBlock};
@@ -28,7 +28,7 @@ impl Gate for Held {
 
 /// Is this a segment of the profile?
 fn is_segment(segment: &Segment) -> bool
-    ensures { IsTrue result → IsSegment segment.now }
+    ensures { IsTrue result → IsCodedSegment segment.now }
 {
     let shape = &segment.shape;
     1 <= shape.width
@@ -61,7 +61,7 @@ fn segments_in(
     style: Style,
     texts: &[(&str, usize)],
 ) -> Vec<Segment>
-    ensures { All IsSegment result.items }
+    ensures { All IsCodedSegment result.items }
 {
     let mut made = Vec::new(alloc);
     for (text, passes) in texts {
@@ -76,7 +76,7 @@ fn segments_in(
 
 /// The segments of such code-blocks.
 fn segments(rt: &impl Abort, alloc: Global, texts: &[(&str, usize)]) -> Vec<Segment>
-    ensures { All IsSegment result.items }
+    ensures { All IsCodedSegment result.items }
 {
     segments_in(rt, alloc, Style::plain(), texts)
 }
@@ -190,7 +190,7 @@ fn read<R: Threads + Sync, G: Gate + Sync>(
     gate: &G,
     jobs: &[Segment],
 ) -> Result<Vec<Block>, Fault>
-    requires { All IsSegment jobs.now }
+    requires { All IsCodedSegment jobs.now }
 {
     map_segments(rt, alloc, workers, gate, jobs)
 }
@@ -221,7 +221,7 @@ fn one_coefficient_each(rt: HostRuntime) {
 
 /// Segments have a fault, by one thread, two and five.
 fn refused<R: Threads + Sync + Abort>(rt: &R, alloc: Global, jobs: &[Segment], fault: Fault)
-    requires { All IsSegment jobs.now }
+    requires { All IsCodedSegment jobs.now }
 {
     for workers in [1, 2, 5] {
         let found = read(rt, alloc, workers, &Open, jobs).err();
@@ -241,7 +241,7 @@ fn fault_of_the_least_job(rt: HostRuntime) {
 
 /// The same segments, each ended by a segmentation symbol.
 fn marked(rt: &impl Abort, alloc: Global, texts: &[(&str, usize)]) -> Vec<Segment>
-    ensures { All IsSegment result.items }
+    ensures { All IsCodedSegment result.items }
 {
     let style = Style {
         reset: false,

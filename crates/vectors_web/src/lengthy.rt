@@ -1,7 +1,7 @@
 //! A connection of very many requests.
 
 use crate::serving::Echo;
-use jk_web::{End, serve};
+use jk_web::{End, serve_connection};
 use std::io;
 use std::io::{Read, Write};
 use vectors::{equal, equal_at, kilobytes};
@@ -61,7 +61,7 @@ fn little_is_kept(rt: HostRuntime) {
         reads: 0,
     };
     let mut writer = Counting { bytes: 0 };
-    let end = serve(
+    let end = serve_connection(
         rt.alloc(),
         &mut reader,
         &mut writer,

@@ -1,6 +1,6 @@
 use crate::cases::SERVED;
 use jk_math::Fault;
-use jk_web::{End, Octets, Reply, Request, Service, serve};
+use jk_web::{End, Octets, Reply, Request, Service, serve_connection};
 use std::alloc::Global;
 use std::io;
 use std::io::{ErrorKind, Write};
@@ -87,7 +87,7 @@ fn serves(
     want: (&[u8], End),
 ) {
     let mut echo = Echo {};
-    let end = serve(alloc, &mut reader, &mut writer, &mut echo, turns);
+    let end = serve_connection(alloc, &mut reader, &mut writer, &mut echo, turns);
     equal(writer.bytes.as_slice(), want.0).expect(rt, "replies");
     equal(end, Ok(want.1)).expect(rt, "an end");
 }

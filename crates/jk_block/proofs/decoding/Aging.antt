@@ -19,9 +19,9 @@ use Rattle.jk_model.specs.Decisions.{State}
 use Rattle.jk_block.specs.Meaning.{plane_of, kind_of, above}
 use Rattle.jk_block.specs.Reading.{Progress, put, times, blank, begun, with_contexts, pass_at}
 use Rattle.jk_block.specs.Fields.{AreSameWords}
-use Rattle.jk_block.specs.decoding.Sketches.{Draft, progress, lit_in, IsFresh}
-use Rattle.jk_block.specs.declared.spot.Spot.{Spot}
-use Rattle.jk_block.specs.Steps.{IsPlace}
+use Rattle.jk_block.specs.decoding.BlockStates.{Draft, progress, significant_in, IsFresh}
+use Rattle.jk_block.specs.declared.word_place.WordPlace.{WordPlace}
+use Rattle.jk_block.specs.Steps.{IsBitPlace}
 use Rattle.jk_block.proofs.Changes.{mags_inside, mags_outside}
 use Rattle.jk_block.proofs.Stages.{mags, Cut, Like}
 use Rattle.jk_block.proofs.Whole.{ready, contexts_done, passes_onward, stage_pass}
@@ -214,7 +214,7 @@ aged_none s magnitude b size refined older r o z = record {
 
 -- as a pass begins
 pub aged_noted : (bytes : List ℕ) (k : Draft) (planes n : ℕ) (coder : State) (significant refined older refined' older' : List ℕ) → n < 3 * planes - 2 → times n (pass_at bytes k.shape planes) blank ≡ Ok (progress k coder)
-    → IsDrawn k.shape (lit_in k) significant → Aged k.shape k.magnitude (plane_before planes n) refined older → (kind_of n ≡ 0 → refined' ≡ older) → (kind_of n ≡ 0 → AreSameWords k.shape significant older')
+    → IsDrawn k.shape (significant_in k) significant → Aged k.shape k.magnitude (plane_before planes n) refined older → (kind_of n ≡ 0 → refined' ≡ older) → (kind_of n ≡ 0 → AreSameWords k.shape significant older')
     → ((kind_of n ≡ 0 → ⊥) → refined' ≡ refined) → ((kind_of n ≡ 0 → ⊥) → older' ≡ older) → Aged k.shape k.magnitude (plane_of planes n) refined' older'
 aged_noted bytes k planes n coder significant refined older refined' older' h is drawn aged r o r0 o0 = elim (cases_lt 0 (kind_of n)) [
   | inl later ↦
@@ -229,7 +229,7 @@ aged_noted bytes k planes n coder significant refined older refined' older' h is
       let up : plane_before planes n + 1 ≡ b + 2 = omega (arith, kind, h) in
       record {
         refined_is = λ x y i. ap (λ (ws : List ℕ). flag_at k.shape ws x y) (r kind) ∙ aged.older_is x y i ∙ ap (λ p. nat_le (2 ^ p) (k.magnitude x y)) up;
-        older_is = λ x y i. drawn_flag k.shape (lit_in k) older' x y (drawn_alike k.shape (lit_in k) significant older' (o kind) drawn) i ∙ ap (λ t. t && nat_lt 0 (k.magnitude x y)) i
+        older_is = λ x y i. drawn_flag k.shape (significant_in k) older' x y (drawn_alike k.shape (significant_in k) significant older' (o kind) drawn) i ∙ ap (λ t. t && nat_lt 0 (k.magnitude x y)) i
             ∙ started bytes k.shape planes n (progress k coder) h kind is x y i;
       }
 ]
@@ -250,9 +250,9 @@ aged_passed bytes k k' planes n coder coder' refined older h is more shape aged 
     })
 
 -- the context of a place of the pass
-pub next_context : (at : Spot) (refined : List ℕ) (k : Draft) (again seen z context : ℕ) (a b : Bool) → IsFresh at.plane refined k → IsPlace k.shape at z → on again z ≡ flag_at k.shape refined (column at.word z) (row at.stripe z) → on seen z ≡ touched_in k.shape (lit_in k) (column at.word z) (row at.stripe z)
+pub next_context : (at : WordPlace) (refined : List ℕ) (k : Draft) (again seen z context : ℕ) (a b : Bool) → IsFresh at.plane refined k → IsBitPlace k.shape at z → on again z ≡ flag_at k.shape refined (column at.word z) (row at.stripe z) → on seen z ≡ touched_in k.shape (significant_in k) (column at.word z) (row at.stripe z)
     → a ≡ on again z → b ≡ on seen z → context ≡ refine_context_of a b
-    → context ≡ refine_context_of (nat_le 4 (k.magnitude (column at.word z) (row at.stripe z) / 2 ^ at.plane)) (touched_in k.shape (lit_in k) (column at.word z) (row at.stripe z))
+    → context ≡ refine_context_of (nat_le 4 (k.magnitude (column at.word z) (row at.stripe z) / 2 ^ at.plane)) (touched_in k.shape (significant_in k) (column at.word z) (row at.stripe z))
 next_context at refined k again seen z context a b fresh place shown near a_is b_is is =
     let x = column at.word z in
     let y = row at.stripe z in

@@ -16,11 +16,11 @@ use Rattle.jk_scan.specs.Bits.{on}
 use Rattle.jk_scan.specs.Neighbours.{is_inside}
 use Rattle.jk_scan.specs.Flags.{word_at, flag_at}
 use Rattle.jk_scan.proofs.Laws.{on_or, on_and, on_shr, on_above, on_shl_low, on_shl_any, on_zero, same_from_on}
-use Rattle.jk_block.specs.declared.decoding.sketch.Sketch.{Sketch}
+use Rattle.jk_block.specs.declared.decoding.block_state.BlockState.{BlockState}
 use Rattle.jk_block.specs.declared.decoding.coefficients.Eight.{Eight}
 use Rattle.jk_block.specs.Meaning.{with_sign}
 use Rattle.jk_block.specs.Fields.{words_of, plane_bit, number_from}
-use Rattle.jk_block.specs.decoding.Sketches.{draft_of}
+use Rattle.jk_block.specs.decoding.BlockStates.{draft_of}
 use Rattle.jk_block.specs.decoding.Eights.{HasBits, HasByte, IsEight, eight_bit, value_of}
 use Rattle.jk_block.proofs.WordBits.{le_true}
 use Rattle.jk_block.proofs.Meanings.{abs_with_sign}
@@ -139,20 +139,20 @@ value_back eight c v e =
 -- ---- bits put together, the highest first
 
 -- So many of them, below plane top.
-abbrev pub HasBitsTo : {size : ℕ} (sketch : Sketch size) (at k top n bytes : ℕ) → Type 0
-HasBitsTo sketch at k top n bytes =
-    (c i : ℕ) → c < 8 → i < 8 → on bytes (8 * c + i) ≡ (nat_lt i n && on (get_or sketch.bits.items ((top - n + i) * words_of sketch.shape + at) 0) (8 * c + k))
+abbrev pub HasBitsTo : {size : ℕ} (block_state : BlockState size) (at k top n bytes : ℕ) → Type 0
+HasBitsTo block_state at k top n bytes =
+    (c i : ℕ) → c < 8 → i < 8 → on bytes (8 * c + i) ≡ (nat_lt i n && on (get_or block_state.bits.items ((top - n + i) * words_of block_state.shape + at) 0) (8 * c + k))
 
-pub bits_none : {size : ℕ} (sketch : Sketch size) (at k top : ℕ) → HasBitsTo sketch at k top 0 0
-bits_none sketch at k top c i p q = on_zero (8 * c + i) ∙ sym (ap (λ t. t && on (get_or sketch.bits.items ((top - 0 + i) * words_of sketch.shape + at) 0) (8 * c + k)) (lt_false i 0 (omega arith)))
+pub bits_none : {size : ℕ} (block_state : BlockState size) (at k top : ℕ) → HasBitsTo block_state at k top 0 0
+bits_none block_state at k top c i p q = on_zero (8 * c + i) ∙ sym (ap (λ t. t && on (get_or block_state.bits.items ((top - 0 + i) * words_of block_state.shape + at) 0) (8 * c + k)) (lt_false i 0 (omega arith)))
 
-pub bits_more : {size : ℕ} (sketch : Sketch size) (at k top n bytes word new : ℕ) → n < 8 → n < top → word ≡ get_or sketch.bits.items ((top - (n + 1)) * words_of sketch.shape + at) 0 → ((c i : ℕ) → c < 8 → i < 8 → on new (8 * c + i) ≡ (nat_eq i 0 && on word (8 * c + k)))
-    → HasBitsTo sketch at k top n bytes → HasBitsTo sketch at k top (n + 1) (bit_or (bytes * 2 ^ 1 % 2 ^ 64) new)
-bits_more sketch at k top n bytes word new few less word_is new_is h c i p q =
+pub bits_more : {size : ℕ} (block_state : BlockState size) (at k top n bytes word new : ℕ) → n < 8 → n < top → word ≡ get_or block_state.bits.items ((top - (n + 1)) * words_of block_state.shape + at) 0 → ((c i : ℕ) → c < 8 → i < 8 → on new (8 * c + i) ≡ (nat_eq i 0 && on word (8 * c + k)))
+    → HasBitsTo block_state at k top n bytes → HasBitsTo block_state at k top (n + 1) (bit_or (bytes * 2 ^ 1 % 2 ^ 64) new)
+bits_more block_state at k top n bytes word new few less word_is new_is h c i p q =
     on_or (bytes * 2 ^ 1 % 2 ^ 64) new (8 * c + i) ∙ ap (λ t. on (bytes * 2 ^ 1 % 2 ^ 64) (8 * c + i) || t) (new_is c i p q) ∙ by i q
   where
     plane : ℕ → Bool
-    plane b = on (get_or sketch.bits.items (b * words_of sketch.shape + at) 0) (8 * c + k)
+    plane b = on (get_or block_state.bits.items (b * words_of block_state.shape + at) 0) (8 * c + k)
 
     or_false : (b : Bool) → (b || false) ≡ b
     or_false true = refl
@@ -163,7 +163,7 @@ bits_more sketch at k top n bytes word new few less word_is new_is h c i p q =
     low zero l = on_shl_low bytes 1 64 (8 * 0 + 0) (omega arith) (omega arith)
     low (suc c) l =
         on_shl bytes 1 64 (8 * c + 7) (8 * suc c + 0) (omega arith) (omega arith) ∙ h c 7 (omega arith) (omega arith)
-        ∙ ap (λ t. t && on (get_or sketch.bits.items ((top - n + 7) * words_of sketch.shape + at) 0) (8 * c + k)) (lt_false 7 n (omega arith))
+        ∙ ap (λ t. t && on (get_or block_state.bits.items ((top - n + 7) * words_of block_state.shape + at) 0) (8 * c + k)) (lt_false 7 n (omega arith))
 
     zero_is : nat_eq 0 0 ≡ true
     zero_is = refl
@@ -174,7 +174,7 @@ bits_more sketch at k top n bytes word new few less word_is new_is h c i p q =
     suc_lt : (i n : ℕ) → nat_lt i n ≡ nat_lt (suc i) (n + 1)
     suc_lt i n = grind (arith, nat_tests)
 
-    by : (i : ℕ) → i < 8 → (on (bytes * 2 ^ 1 % 2 ^ 64) (8 * c + i) || (nat_eq i 0 && on word (8 * c + k))) ≡ (nat_lt i (n + 1) && on (get_or sketch.bits.items ((top - (n + 1) + i) * words_of sketch.shape + at) 0) (8 * c + k))
+    by : (i : ℕ) → i < 8 → (on (bytes * 2 ^ 1 % 2 ^ 64) (8 * c + i) || (nat_eq i 0 && on word (8 * c + k))) ≡ (nat_lt i (n + 1) && on (get_or block_state.bits.items ((top - (n + 1) + i) * words_of block_state.shape + at) 0) (8 * c + k))
     by zero q =
         ap (λ t. t || (nat_eq 0 0 && on word (8 * c + k))) (low c p) ∙ ap (λ w. on w (8 * c + k)) word_is ∙ ap plane (let e : top - (n + 1) ≡ top - (n + 1) + 0 = omega arith in e)
         ∙ ap (λ t. t && plane (top - (n + 1) + 0)) (sym (lt_true 0 (n + 1) (omega arith)))
@@ -183,11 +183,11 @@ bits_more sketch at k top n bytes word new few less word_is new_is h c i p q =
         ∙ on_shl bytes 1 64 (8 * c + i) (8 * c + suc i) (omega arith) (omega arith) ∙ h c i p (omega arith)
         ∙ ap (λ b. nat_lt i n && plane b) (let e : top - n + i ≡ top - (n + 1) + suc i = omega (arith, less) in e) ∙ ap (λ t. t && plane (top - (n + 1) + suc i)) (suc_lt i n)
 
-pub bits_all : {size : ℕ} (sketch : Sketch size) (at k first count n bytes : ℕ) → n ≡ count → count ≡ min (sketch.planes - first) 8 → HasBitsTo sketch at k (first + count) n bytes → HasBits sketch at k first bytes
-bits_all sketch at k first count n bytes all is h c i p q =
+pub bits_all : {size : ℕ} (block_state : BlockState size) (at k first count n bytes : ℕ) → n ≡ count → count ≡ min (block_state.planes - first) 8 → HasBitsTo block_state at k (first + count) n bytes → HasBits block_state at k first bytes
+bits_all block_state at k first count n bytes all is h c i p q =
     h c i p q
-    ∙ ap (λ b. nat_lt i n && on (get_or sketch.bits.items (b * words_of sketch.shape + at) 0) (8 * c + k)) (let e : first + count - n + i ≡ first + i = omega (arith, all) in e)
-    ∙ ap (λ t. t && on (get_or sketch.bits.items ((first + i) * words_of sketch.shape + at) 0) (8 * c + k)) (ap (nat_lt i) (all ∙ is) ∙ within i first sketch.planes q)
+    ∙ ap (λ b. nat_lt i n && on (get_or block_state.bits.items (b * words_of block_state.shape + at) 0) (8 * c + k)) (let e : first + count - n + i ≡ first + i = omega (arith, all) in e)
+    ∙ ap (λ t. t && on (get_or block_state.bits.items ((first + i) * words_of block_state.shape + at) 0) (8 * c + k)) (ap (nat_lt i) (all ∙ is) ∙ within i first block_state.planes q)
   where
     within : (i first planes : ℕ) → i < 8 → nat_lt i (min (planes - first) 8) ≡ nat_lt (first + i) planes
     within i first planes q = elim (cases_lt (first + i) planes) [
@@ -196,52 +196,52 @@ bits_all sketch at k first count n bytes all is h c i p q =
     ]
 
 -- a word of a plane that the sketch has
-pub plane_item : {size : ℕ} (sketch : Sketch size) (at b n q : ℕ) → n ≡ words_of sketch.shape → q ≡ b * n + at → at < words_of sketch.shape → b < sketch.planes → q < length sketch.bits.items
-plane_item sketch at b n q n_is q_is h l =
-    let m = mul-add-lt b (words_of sketch.shape) at sketch.planes l h in
-    let c = mul_comm (words_of sketch.shape) sketch.planes in
-    let e : q ≡ b * words_of sketch.shape + at = q_is ∙ ap (λ n. b * n + at) n_is in
-    let r = sketch.room in
+pub plane_item : {size : ℕ} (block_state : BlockState size) (at b n q : ℕ) → n ≡ words_of block_state.shape → q ≡ b * n + at → at < words_of block_state.shape → b < block_state.planes → q < length block_state.bits.items
+plane_item block_state at b n q n_is q_is h l =
+    let m = mul-add-lt b (words_of block_state.shape) at block_state.planes l h in
+    let c = mul_comm (words_of block_state.shape) block_state.planes in
+    let e : q ≡ b * words_of block_state.shape + at = q_is ∙ ap (λ n. b * n + at) n_is in
+    let r = block_state.room in
     omega (arith, m, c, e, r)
 
 -- the places of a word in a row
-pub byte_places : {size : ℕ} (sketch : Sketch size) (j y at k first bytes : ℕ) → at ≡ word_at sketch.shape (j + 1) (y / 4 + 1) → k ≡ y % 4 + 1 → HasBits sketch at k first bytes → HasByte sketch first j y bytes
-byte_places sketch j y at k first bytes at_is k_is h c i p q =
+pub byte_places : {size : ℕ} (block_state : BlockState size) (j y at k first bytes : ℕ) → at ≡ word_at block_state.shape (j + 1) (y / 4 + 1) → k ≡ y % 4 + 1 → HasBits block_state at k first bytes → HasByte block_state first j y bytes
+byte_places block_state j y at k first bytes at_is k_is h c i p q =
     h c i p q
-    ∙ ap (λ a. nat_lt (first + i) sketch.planes && on (get_or sketch.bits.items ((first + i) * words_of sketch.shape + a) 0) (8 * c + k)) (at_is ∙ ap (λ n. word_at sketch.shape (n + 1) (y / 4 + 1)) (let e : j ≡ (8 * j + c) / 8 = omega arith in e))
-    ∙ ap (λ m. nat_lt (first + i) sketch.planes && on (get_or sketch.bits.items ((first + i) * words_of sketch.shape + word_at sketch.shape ((8 * j + c) / 8 + 1) (y / 4 + 1)) 0) m) (let e : 8 * c + k ≡ 8 * ((8 * j + c) % 8) + (y % 4 + 1) = omega (arith, k_is) in e)
+    ∙ ap (λ a. nat_lt (first + i) block_state.planes && on (get_or block_state.bits.items ((first + i) * words_of block_state.shape + a) 0) (8 * c + k)) (at_is ∙ ap (λ n. word_at block_state.shape (n + 1) (y / 4 + 1)) (let e : j ≡ (8 * j + c) / 8 = omega arith in e))
+    ∙ ap (λ m. nat_lt (first + i) block_state.planes && on (get_or block_state.bits.items ((first + i) * words_of block_state.shape + word_at block_state.shape ((8 * j + c) / 8 + 1) (y / 4 + 1)) 0) m) (let e : 8 * c + k ≡ 8 * ((8 * j + c) % 8) + (y % 4 + 1) = omega (arith, k_is) in e)
 
-pub sign_places : {size : ℕ} (sketch : Sketch size) (j y at k word : ℕ) → at ≡ word_at sketch.shape (j + 1) (y / 4 + 1) → k ≡ y % 4 + 1 → ((c i : ℕ) → c < 8 → i < 8 → on word (8 * c + i) ≡ (nat_eq i 0 && on (get_or sketch.negative at 0) (8 * c + k)))
-    → (c : ℕ) → c < 8 → on word (8 * c) ≡ flag_at sketch.shape sketch.negative (8 * j + c) y
-sign_places sketch j y at k word at_is k_is h c p =
+pub sign_places : {size : ℕ} (block_state : BlockState size) (j y at k word : ℕ) → at ≡ word_at block_state.shape (j + 1) (y / 4 + 1) → k ≡ y % 4 + 1 → ((c i : ℕ) → c < 8 → i < 8 → on word (8 * c + i) ≡ (nat_eq i 0 && on (get_or block_state.negative at 0) (8 * c + k)))
+    → (c : ℕ) → c < 8 → on word (8 * c) ≡ flag_at block_state.shape block_state.negative (8 * j + c) y
+sign_places block_state j y at k word at_is k_is h c p =
     ap (on word) (let e : 8 * c ≡ 8 * c + 0 = omega arith in e) ∙ h c 0 p (omega arith)
-    ∙ ap (λ a. on (get_or sketch.negative a 0) (8 * c + k)) (at_is ∙ ap (λ n. word_at sketch.shape (n + 1) (y / 4 + 1)) (let e : j ≡ (8 * j + c) / 8 = omega arith in e))
-    ∙ ap (on (get_or sketch.negative (word_at sketch.shape ((8 * j + c) / 8 + 1) (y / 4 + 1)) 0)) (let e : 8 * c + k ≡ 8 * ((8 * j + c) % 8) + (y % 4 + 1) = omega (arith, k_is) in e)
+    ∙ ap (λ a. on (get_or block_state.negative a 0) (8 * c + k)) (at_is ∙ ap (λ n. word_at block_state.shape (n + 1) (y / 4 + 1)) (let e : j ≡ (8 * j + c) / 8 = omega arith in e))
+    ∙ ap (on (get_or block_state.negative (word_at block_state.shape ((8 * j + c) / 8 + 1) (y / 4 + 1)) 0)) (let e : 8 * c + k ≡ 8 * ((8 * j + c) % 8) + (y % 4 + 1) = omega (arith, k_is) in e)
 
 -- a coefficient of eight is that of its place
-pub value_at : {size : ℕ} (sketch : Sketch size) (j y : ℕ) (eight : Eight) (c : ℕ) → IsEight sketch j y eight → c < 8 → is_inside sketch.shape (8 * j + c) y ≡ true → sketch.planes ≤ 23
-    → value_of eight c ≡ with_sign ((draft_of sketch).negative (8 * j + c) y) ((draft_of sketch).magnitude (8 * j + c) y)
-value_at sketch j y eight c e p inside few =
-    let s = sketch.shape in
-    let f : ℕ → Bool = λ b. plane_bit s sketch.bits.items b (8 * j + c) y in
-    ap (λ b. with_sign b (number_from (eight_bit eight c) 0 24)) (e.negative c p ∙ sym (ap (λ b. b && flag_at s sketch.negative (8 * j + c) y) inside))
-    ∙ ap (with_sign ((draft_of sketch).negative (8 * j + c) y))
-    (number_same (eight_bit eight c) (λ b. nat_lt b sketch.planes && f b) 0 24 (λ b h l. bits b (omega arith)) ∙ limited f sketch.planes (omega (arith, few)) ∙ sym (ap (λ b. cond b (number_from f 0 sketch.planes) 0) inside))
+pub value_at : {size : ℕ} (block_state : BlockState size) (j y : ℕ) (eight : Eight) (c : ℕ) → IsEight block_state j y eight → c < 8 → is_inside block_state.shape (8 * j + c) y ≡ true → block_state.planes ≤ 23
+    → value_of eight c ≡ with_sign ((draft_of block_state).negative (8 * j + c) y) ((draft_of block_state).magnitude (8 * j + c) y)
+value_at block_state j y eight c e p inside few =
+    let s = block_state.shape in
+    let f : ℕ → Bool = λ b. plane_bit s block_state.bits.items b (8 * j + c) y in
+    ap (λ b. with_sign b (number_from (eight_bit eight c) 0 24)) (e.negative c p ∙ sym (ap (λ b. b && flag_at s block_state.negative (8 * j + c) y) inside))
+    ∙ ap (with_sign ((draft_of block_state).negative (8 * j + c) y))
+    (number_same (eight_bit eight c) (λ b. nat_lt b block_state.planes && f b) 0 24 (λ b h l. bits b (omega arith)) ∙ limited f block_state.planes (omega (arith, few)) ∙ sym (ap (λ b. cond b (number_from f 0 block_state.planes) 0) inside))
   where
-    bits : (b : ℕ) → b < 24 → eight_bit eight c b ≡ (nat_lt b sketch.planes && plane_bit sketch.shape sketch.bits.items b (8 * j + c) y)
+    bits : (b : ℕ) → b < 24 → eight_bit eight c b ≡ (nat_lt b block_state.planes && plane_bit block_state.shape block_state.bits.items b (8 * j + c) y)
     bits b l = elim (cases_lt b 8) [
       | inl first ↦
           ap (λ t. cond t (on eight.low (8 * c + b)) (cond (nat_lt b 16) (on eight.middle (8 * c + (b - 8))) (on eight.high (8 * c + (b - 16))))) (lt_true b 8 first)
-          ∙ e.low c b p first ∙ ap (λ b. nat_lt b sketch.planes && plane_bit sketch.shape sketch.bits.items b (8 * j + c) y) (let g : 0 + b ≡ b = omega arith in g)
+          ∙ e.low c b p first ∙ ap (λ b. nat_lt b block_state.planes && plane_bit block_state.shape block_state.bits.items b (8 * j + c) y) (let g : 0 + b ≡ b = omega arith in g)
       | inr past ↦
           ap (λ t. cond t (on eight.low (8 * c + b)) (cond (nat_lt b 16) (on eight.middle (8 * c + (b - 8))) (on eight.high (8 * c + (b - 16))))) (lt_false b 8 past)
           ∙ elim (cases_lt b 16) [
             | inl second ↦
                 ap (λ t. cond t (on eight.middle (8 * c + (b - 8))) (on eight.high (8 * c + (b - 16)))) (lt_true b 16 second)
-                ∙ e.middle c (b - 8) p (omega arith) ∙ ap (λ b. nat_lt b sketch.planes && plane_bit sketch.shape sketch.bits.items b (8 * j + c) y) (let g : 8 + (b - 8) ≡ b = omega arith in g)
+                ∙ e.middle c (b - 8) p (omega arith) ∙ ap (λ b. nat_lt b block_state.planes && plane_bit block_state.shape block_state.bits.items b (8 * j + c) y) (let g : 8 + (b - 8) ≡ b = omega arith in g)
             | inr third ↦
                 ap (λ t. cond t (on eight.middle (8 * c + (b - 8))) (on eight.high (8 * c + (b - 16)))) (lt_false b 16 third)
-                ∙ e.high c (b - 16) p (omega arith) ∙ ap (λ b. nat_lt b sketch.planes && plane_bit sketch.shape sketch.bits.items b (8 * j + c) y) (let g : 16 + (b - 16) ≡ b = omega arith in g)
+                ∙ e.high c (b - 16) p (omega arith) ∙ ap (λ b. nat_lt b block_state.planes && plane_bit block_state.shape block_state.bits.items b (8 * j + c) y) (let g : 16 + (b - 16) ≡ b = omega arith in g)
           ]
     ]
 
@@ -253,11 +253,11 @@ value_at sketch j y eight c e p inside few =
         ∙ (let q : number_from g 0 n + 2 ^ n * 0 ≡ number_from g 0 n = omega arith in q)
         ∙ number_same g f 0 n (λ b l m. ap (λ t. t && f b) (lt_true b n (omega (arith, m))))
 
-pub value_in_row : {size : ℕ} (sketch : Sketch size) (j y : ℕ) (eight : Eight) (c a : ℕ) → IsEight sketch j y eight → a ≡ 8 * j → 8 * j + c < sketch.shape.width → y < sketch.shape.height → c < 8
-    → with_sign ((draft_of sketch).negative (a + c) y) ((draft_of sketch).magnitude (a + c) y) ≡ value_of eight c
-value_in_row sketch j y eight c a e a_is column row p =
-    ap (λ a. with_sign ((draft_of sketch).negative (a + c) y) ((draft_of sketch).magnitude (a + c) y)) a_is
-    ∙ sym (value_at sketch j y eight c e p (both (nat_lt (8 * j + c) sketch.shape.width) (nat_lt y sketch.shape.height) (lt_true (8 * j + c) sketch.shape.width column) (lt_true y sketch.shape.height row)) sketch.few)
+pub value_in_row : {size : ℕ} (block_state : BlockState size) (j y : ℕ) (eight : Eight) (c a : ℕ) → IsEight block_state j y eight → a ≡ 8 * j → 8 * j + c < block_state.shape.width → y < block_state.shape.height → c < 8
+    → with_sign ((draft_of block_state).negative (a + c) y) ((draft_of block_state).magnitude (a + c) y) ≡ value_of eight c
+value_in_row block_state j y eight c a e a_is column row p =
+    ap (λ a. with_sign ((draft_of block_state).negative (a + c) y) ((draft_of block_state).magnitude (a + c) y)) a_is
+    ∙ sym (value_at block_state j y eight c e p (both (nat_lt (8 * j + c) block_state.shape.width) (nat_lt y block_state.shape.height) (lt_true (8 * j + c) block_state.shape.width column) (lt_true y block_state.shape.height row)) block_state.few)
   where
     both : (a b : Bool) → a ≡ true → b ≡ true → (a && b) ≡ true
     both a b e g = cc

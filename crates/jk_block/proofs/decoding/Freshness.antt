@@ -12,7 +12,7 @@ use Rattle.jk_scan.specs.Moments.{number, visits, spread, moment}
 use Rattle.jk_scan.proofs.Laws.{cases_of, number_below}
 use Rattle.jk_block.specs.Meaning.{plane_of, kind_of, above}
 use Rattle.jk_block.proofs.Changes.{mags_inside}
-use Rattle.jk_block.specs.Reading.{Progress, lit, times, blank, begun, pass_at}
+use Rattle.jk_block.specs.Reading.{Progress, known_significant, times, blank, begun, pass_at}
 use Rattle.jk_block.proofs.Stages.{mags, Cut}
 use Rattle.jk_block.proofs.Whole.{ready, passes_onward}
 
@@ -22,9 +22,9 @@ twice a b m e h = let p = pow_more 2 b in let t = mul-le-mul_right (2 ^ b) h in 
 nothing : (a p m : ℕ) → m ≡ a * p → a ≡ 0 → nat_lt 0 m ≡ true → ⊥
 nothing a p m e h l = let g : a * p ≡ 0 * p = ap (λ a. a * p) h in let z : m ≡ 0 = omega (arith, e, g) in let f : nat_lt 0 m ≡ false = ap (nat_lt 0) z in let c : true ≡ false = sym l ∙ f in absurd cc
 
-fresh_at : (s : BlockShape) (b : ℕ) (z : Progress) → Cut s b (1 * visits s) z → (x y : ℕ) → lit s z x y ≡ true → z.visited x y ≡ false → 2 ^ (b + 1) ≤ z.magnitude x y
-fresh_at s b z cut x y is_lit unseen =
-    let parts = and_parts (is_inside s x y) (nat_lt 0 (z.magnitude x y)) is_lit in
+fresh_at : (s : BlockShape) (b : ℕ) (z : Progress) → Cut s b (1 * visits s) z → (x y : ℕ) → known_significant s z x y ≡ true → z.visited x y ≡ false → 2 ^ (b + 1) ≤ z.magnitude x y
+fresh_at s b z cut x y is_significant unseen =
+    let parts = and_parts (is_inside s x y) (nat_lt 0 (z.magnitude x y)) is_significant in
     let whole = cut.whole x y parts.0 in
     let below = number_below s x y parts.0 in
     cases_of s (mags s b z) x y
@@ -47,7 +47,7 @@ fresh_at s b z cut x y is_lit unseen =
 
 -- after some passes
 pub fresh_after : (bytes : List ℕ) (s : BlockShape) (planes n : ℕ) (z : Progress) → n < 3 * planes - 2 → kind_of n ≡ 1 → times n (pass_at bytes s planes) blank ≡ Ok z
-    → (x y : ℕ) → lit s z x y ≡ true → z.visited x y ≡ false → 2 ^ (plane_of planes n + 1) ≤ z.magnitude x y
+    → (x y : ℕ) → known_significant s z x y ≡ true → z.visited x y ≡ false → 2 ^ (plane_of planes n + 1) ≤ z.magnitude x y
 fresh_after bytes s planes n z h kind is =
     let cut = ready s planes n z h (passes_onward bytes s planes n z (omega arith) is) in
     fresh_at s (plane_of planes n) z (subst (λ k. Cut s (plane_of planes n) (k * visits s) (begun k z)) kind cut)

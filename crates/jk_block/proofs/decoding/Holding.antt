@@ -5,31 +5,31 @@ use Rattle.std.proofs.lemmas.Bool.Decides.{nat_tests}
 use Rattle.std.proofs.lemmas.Nat.{pow_pos}
 use Rattle.jk_scan.specs.Neighbours.{is_inside}
 use Rattle.jk_scan.specs.WordPlaces.{column, row}
-use Rattle.jk_block.specs.declared.spot.Spot.{Spot}
+use Rattle.jk_block.specs.declared.word_place.WordPlace.{WordPlace}
 use Rattle.jk_block.specs.declared.decoding.sight.Sight.{Sight}
 use Rattle.jk_block.specs.Fields.{is_in_word}
 use Rattle.jk_block.specs.Meaning.{above}
-use Rattle.jk_block.specs.Steps.{IsPlace}
-use Rattle.jk_block.specs.decoding.Sketches.{Draft, lit_in, coded_in, visited_in}
+use Rattle.jk_block.specs.Steps.{IsBitPlace}
+use Rattle.jk_block.specs.decoding.BlockStates.{Draft, significant_in, coded_in, visited_in}
 use Rattle.jk_block.specs.decoding.Sights.{Sees, IsSame, IsNew, Held}
 use Rattle.jk_block.proofs.WordDrawing.{place_bit}
 
 -- nothing has happened
-pub held_none : (at : Spot) (k : Draft) (sight : Sight) → Sees at k sight → Held at k sight k
+pub held_none : (at : WordPlace) (k : Draft) (sight : Sight) → Sees at k sight → Held at k sight k
 held_none at k sight s = record { shape = refl; sees = s; changed = λ x y. inl record { magnitude = refl; negative = refl } }
 
-pub sees_visited : (at : Spot) (d : Draft) (sight : Sight) (x y : ℕ) → Sees at d sight → Sees at (visited_in x y d) sight
+pub sees_visited : (at : WordPlace) (d : Draft) (sight : Sight) (x y : ℕ) → Sees at d sight → Sees at (visited_in x y d) sight
 sees_visited at d sight x y s = record { significant = s.significant; negative = s.negative }
 
 -- a place was coded, and its bit is 0
-pub held_visited : (at : Spot) (k d : Draft) (sight sight' : Sight) (x y : ℕ) → Held at k sight d → Sees at (visited_in x y d) sight' → Held at k sight' (visited_in x y d)
+pub held_visited : (at : WordPlace) (k d : Draft) (sight sight' : Sight) (x y : ℕ) → Held at k sight d → Sees at (visited_in x y d) sight' → Held at k sight' (visited_in x y d)
 held_visited at k d sight sight' x y h s = record {
   shape = h.shape;
   sees = s;
   changed = λ u v. elim (h.changed u v) [ inl e ↦ inl record { magnitude = e.magnitude; negative = e.negative } | inr e ↦ inr record { word = e.word; inside = e.inside; before = e.before; now = e.now } ];
 }
 
-pub held_same : (at : Spot) (k d : Draft) (sight sight' : Sight) → Held at k sight d → Sees at d sight' → Held at k sight' d
+pub held_same : (at : WordPlace) (k d : Draft) (sight sight' : Sight) → Held at k sight d → Sees at d sight' → Held at k sight' d
 held_same at k d sight sight' h s = record { shape = h.shape; sees = s; changed = h.changed }
 
 dark_zero : (m : ℕ) (i : Bool) → i ≡ true → (i && nat_lt 0 m) ≡ false → m ≡ 0
@@ -43,9 +43,9 @@ above_zero b m e = ap (λ m. above (b + 1) m + 2 ^ b) e ∙ ap (λ q. q * 2 ^ (b
     zero_div p = omega arith
 
 -- a place becomes significant
-pub held_lit : (at : Spot) (k d : Draft) (sight sight' : Sight) (z : ℕ) (negative : Bool) → Held at k sight d → IsPlace d.shape at z → lit_in d (column at.word z) (row at.stripe z) ≡ false
+pub held_significant : (at : WordPlace) (k d : Draft) (sight sight' : Sight) (z : ℕ) (negative : Bool) → Held at k sight d → IsBitPlace d.shape at z → significant_in d (column at.word z) (row at.stripe z) ≡ false
     → Sees at (coded_in at.plane (column at.word z) (row at.stripe z) true negative d) sight' → Held at k sight' (coded_in at.plane (column at.word z) (row at.stripe z) true negative d)
-held_lit at k d sight sight' z negative h place off s = record {
+held_significant at k d sight sight' z negative h place off s = record {
   shape = h.shape;
   sees = s;
   changed = λ u v. changed u v;

@@ -8,7 +8,7 @@ use Rattle.std.proofs.lemmas.Bool.Decides.{nat_tests}
 use Rattle.std.proofs.lemmas.Grind.{pow_more}
 use Rattle.std.proofs.lemmas.Nat.{pow_pos, div-mul-add, or_lt}
 use Rattle.std.proofs.Math.Nat.{mul_assoc, mod-lt}
-use Rattle.jk_mqdec.specs.Standing.{View}
+use Rattle.jk_mqdec.specs.Standing.{DecoderView}
 use Rattle.jk_scan.specs.declared.shape.BlockShape.{BlockShape}
 use Rattle.jk_scan.specs.Bits.{on}
 use Rattle.jk_scan.specs.Neighbours.{Field, is_inside, touched_in}
@@ -17,29 +17,29 @@ use Rattle.jk_scan.specs.Words.{of_rows, ShowsAt, near, bordered}
 use Rattle.jk_scan.specs.WordPlaces.{column, row}
 use Rattle.jk_scan.specs.Flags.{IsDrawn, across, word_at, flag_at}
 use Rattle.jk_scan.proofs.Laws.{same_field, near_is, lowest, rest_at, on_or, on_and, on_not, on_zero, on_one, on_above, on_shl_any, row_stripe, touched_seen}
-use Rattle.jk_block.specs.declared.spot.Spot.{Spot}
-use Rattle.jk_block.specs.Fields.{lit_of, flagged, is_in_word, own_bit}
+use Rattle.jk_block.specs.declared.word_place.WordPlace.{WordPlace}
+use Rattle.jk_block.specs.Fields.{significant_of, flagged, is_in_word, own_bit}
 use Rattle.jk_block.specs.Meaning.{above}
 use Rattle.jk_block.specs.Reading.{place_at}
-use Rattle.jk_block.specs.decoding.Sketches.{Draft, lit_in, coded_in, IsFresh, Takes}
+use Rattle.jk_block.specs.decoding.BlockStates.{Draft, significant_in, coded_in, IsFresh, TakesStep}
 use Rattle.jk_block.specs.decoding.Sights.{refined_in, IsRefined, seen_in}
-use Rattle.jk_block.specs.Steps.{IsPlace}
-use Rattle.jk_block.proofs.Drawing.{draft_same, stays_large, stays_lit, put_or, put_self}
+use Rattle.jk_block.specs.Steps.{IsBitPlace}
+use Rattle.jk_block.proofs.Drawing.{draft_same, stays_large, stays_significant, put_or, put_self}
 use Rattle.jk_block.proofs.WordDrawing.{bit_place, bit_within, place_bit, same_place}
 use Rattle.jk_block.proofs.decoding.Aging.{bit_stays, put_stays}
-use Rattle.jk_block.proofs.decoding.Going.{Going, going_none, going_skip, going_place}
+use Rattle.jk_block.proofs.decoding.ReadSoFar.{ReadSoFar, going_none, going_skip, going_place}
 use Rattle.jk_block.proofs.WordBits.{place_shifted, drawn_bit, flag_bit, le_true, true_le, on_rows, none_before}
 
 -- the place at a bit is a member of the pass
 abbrev pub is_older : (k : Draft) (j i m : ℕ) → Bool
-is_older k j i m = of_rows (m % 8) && (lit_in k (column j m) (row i m) && not (k.visited (column j m) (row i m)))
+is_older k j i m = of_rows (m % 8) && (significant_in k (column j m) (row i m) && not (k.visited (column j m) (row i m)))
 
-pub older_at : (s : BlockShape) (ms : Field ℕ) (sig vis : List ℕ) (j i m p : ℕ) → IsDrawn s (lit_of s ms) sig → j < across s → i < stripes s → p ≡ word_at s (j + 1) (i + 1) → get_or vis p 0 < 2 ^ 64 → m < 64
-    → on (bit_and (get_or sig p 0) (bit_not w64 (get_or vis p 0))) m ≡ (of_rows (m % 8) && (lit_of s ms (column j m) (row i m) && not (flagged s vis (column j m) (row i m))))
+pub older_at : (s : BlockShape) (ms : Field ℕ) (sig vis : List ℕ) (j i m p : ℕ) → IsDrawn s (significant_of s ms) sig → j < across s → i < stripes s → p ≡ word_at s (j + 1) (i + 1) → get_or vis p 0 < 2 ^ 64 → m < 64
+    → on (bit_and (get_or sig p 0) (bit_not w64 (get_or vis p 0))) m ≡ (of_rows (m % 8) && (significant_of s ms (column j m) (row i m) && not (flagged s vis (column j m) (row i m))))
 older_at s ms sig vis j i m p drawn hj hi place lim l =
     on_and (get_or sig p 0) (bit_not w64 (get_or vis p 0)) m ∙ ap (λ b. on (get_or sig p 0) m && b) (on_not w64 (get_or vis p 0) m lim l)
     ∙ ap (λ p. on (get_or sig p 0) m && not (on (get_or vis p 0) m)) place
-    ∙ ap (λ b. b && not (on (get_or vis (word_at s (j + 1) (i + 1)) 0) m)) (drawn_bit s (lit_of s ms) sig j i m drawn hj hi l)
+    ∙ ap (λ b. b && not (on (get_or vis (word_at s (j + 1) (i + 1)) 0) m)) (drawn_bit s (significant_of s ms) sig j i m drawn hj hi l)
     ∙ gate (of_rows (m % 8)) (is_inside s (column j m) (row i m)) (nat_lt 0 (ms (column j m) (row i m))) (on (get_or vis (word_at s (j + 1) (i + 1)) 0) m) (flag_at s vis (column j m) (row i m)) (λ e. flag_bit s vis j i m l e)
   where
     gate : (r ins n v f : Bool) → (r ≡ true → v ≡ f) → ((r && (ins && n)) && not v) ≡ (r && ((ins && n) && not (ins && f)))
@@ -48,7 +48,7 @@ older_at s ms sig vis j i m p drawn hj hi place lim l =
     gate false ins n v f e = refl
 
 -- A word has the bits of the places that were coded, and not of those that wait.
-pub record Bits (at : Spot) (k d : Draft) (places candidates ones : ℕ) : Type 0 where
+pub record Bits (at : WordPlace) (k d : Draft) (places candidates ones : ℕ) : Type 0 where
   pub only : (m : ℕ) → on ones m ≡ true → on places m ≡ true
   pub clear : (m : ℕ) → on candidates m ≡ true → on ones m ≡ false
   pub magnitude : (x y : ℕ) → d.magnitude x y
@@ -57,17 +57,17 @@ pub record Bits (at : Spot) (k d : Draft) (places candidates ones : ℕ) : Type 
   pub negative : d.negative ≡ k.negative
   pub visited : d.visited ≡ k.visited
 
-pub record Refining (at : Spot) (refined : List ℕ) (k : Draft) (v0 v : View) (seen places candidates ones : ℕ) : Type 0 where
+pub record Refining (at : WordPlace) (refined : List ℕ) (k : Draft) (v0 v : DecoderView) (seen places candidates ones : ℕ) : Type 0 where
   pub n : ℕ
   pub draft : Draft
-  pub going : Going 1 at n k draft v0 v
+  pub going : ReadSoFar 1 at n k draft v0 v
   pub fresh : IsFresh at.plane refined draft
-  pub near : (m : ℕ) → m < 64 → of_rows (m % 8) ≡ true → on seen m ≡ touched_in draft.shape (lit_in draft) (column at.word m) (row at.stripe m)
+  pub near : (m : ℕ) → m < 64 → of_rows (m % 8) ≡ true → on seen m ≡ touched_in draft.shape (significant_in draft) (column at.word m) (row at.stripe m)
   pub older : (m : ℕ) → m < 64 → on places m ≡ is_older draft at.word at.stripe m
   pub awaits : (m : ℕ) → m < 64 → on candidates m ≡ (nat_le n m && on places m)
   pub bits : Bits at k draft places candidates ones
 
-pub refining_none : (at : Spot) (refined : List ℕ) (k : Draft) (v : View) (seen places : ℕ) → IsFresh at.plane refined k
+pub refining_none : (at : WordPlace) (refined : List ℕ) (k : Draft) (v : DecoderView) (seen places : ℕ) → IsFresh at.plane refined k
     → ShowsAt of_rows (near (bordered (seen_in k at.stripe))) (at.word + 1) (at.stripe + 1) seen → ((m : ℕ) → m < 64 → on places m ≡ is_older k at.word at.stripe m) → Refining at refined k v v seen places places 0
 refining_none at refined k v seen places fresh shown older = record {
   n = 0;
@@ -78,7 +78,7 @@ refining_none at refined k v seen places fresh shown older = record {
       let shifted = place_shifted at.word at.stripe m e in
       ap (on seen) (let g : m ≡ 8 * (m / 8) + m % 8 = omega arith in g) ∙ shown (m / 8) (m % 8) (omega arith) (omega arith) e
       ∙ ap (λ c. near (bordered (seen_in k at.stripe)) c (row (at.stripe + 1) m)) shifted.0 ∙ ap (λ r. near (bordered (seen_in k at.stripe)) (column at.word m + 8) r) shifted.1
-      ∙ near_is (seen_in k at.stripe) (column at.word m) (row at.stripe m) ∙ touched_seen k.shape at.stripe (lit_in k) (column at.word m) (row at.stripe m) (row_stripe at.stripe m e);
+      ∙ near_is (seen_in k at.stripe) (column at.word m) (row at.stripe m) ∙ touched_seen k.shape at.stripe (significant_in k) (column at.word m) (row at.stripe m) (row_stripe at.stripe m e);
   older = older;
   awaits = λ m l. ap (λ b. b && on places m) (let e : true ≡ nat_le 0 m = grind (arith, nat_tests) in e);
   bits = record {
@@ -108,25 +108,25 @@ turned true e = absurd cc
 turned false e = refl
 
 -- no place is older
-pub refining_idle : (at : Spot) (k : Draft) (v : View) (places : ℕ) → ((m : ℕ) → m < 64 → on places m ≡ is_older k at.word at.stripe m) → places ≡ 0 → Going 1 at 64 k k v v
+pub refining_idle : (at : WordPlace) (k : Draft) (v : DecoderView) (places : ℕ) → ((m : ℕ) → m < 64 → on places m ≡ is_older k at.word at.stripe m) → places ≡ 0 → ReadSoFar 1 at 64 k k v v
 refining_idle at k v places older empty =
     going_skip 1 at 0 64 k k v v (going_none 1 at k k v refl (λ coder. refl)) (omega arith) (omega arith) (λ coder m a b. record { plain = λ _. none (nat_lt (8 * at.word + m / 8) k.shape.width); idle = λ c d. idle m a b c d })
   where
-    idle : (m : ℕ) → 0 ≤ m → m < 64 → 1 ≤ m % 8 → m % 8 < 5 → (lit_in k (8 * at.word + m / 8) (4 * at.stripe + m % 8 - 1) && not (k.visited (8 * at.word + m / 8) (4 * at.stripe + m % 8 - 1))) ≡ false
+    idle : (m : ℕ) → 0 ≤ m → m < 64 → 1 ≤ m % 8 → m % 8 < 5 → (significant_in k (8 * at.word + m / 8) (4 * at.stripe + m % 8 - 1) && not (k.visited (8 * at.word + m / 8) (4 * at.stripe + m % 8 - 1))) ≡ false
     idle m a b c d =
-        second (of_rows (m % 8)) (lit_in k (column at.word m) (row at.stripe m) && not (k.visited (column at.word m) (row at.stripe m)))
+        second (of_rows (m % 8)) (significant_in k (column at.word m) (row at.stripe m) && not (k.visited (column at.word m) (row at.stripe m)))
         (sym (older m b) ∙ ap (λ w. on w m) empty ∙ on_zero m) (on_rows (m % 8) c d)
 
-pub record NextOlder (at : Spot) (k d : Draft) (v0 v : View) (z : ℕ) : Type 0 where
-  pub place : IsPlace d.shape at z
-  pub lit : lit_in d (column at.word z) (row at.stripe z) ≡ true
+pub record NextOlder (at : WordPlace) (k d : Draft) (v0 v : DecoderView) (z : ℕ) : Type 0 where
+  pub place : IsBitPlace d.shape at z
+  pub known_significant : significant_in d (column at.word z) (row at.stripe z) ≡ true
   pub uncoded : d.visited (column at.word z) (row at.stripe z) ≡ false
-  pub going : Going 1 at z k d v0 v
+  pub going : ReadSoFar 1 at z k d v0 v
 
-waits : (at : Spot) (refined : List ℕ) (k : Draft) (v0 v : View) (seen places n ones : ℕ) (st : Refining at refined k v0 v seen places n ones) (m : ℕ) → m < 64 → on n m ≡ (nat_le st.n m && is_older st.draft at.word at.stripe m)
+waits : (at : WordPlace) (refined : List ℕ) (k : Draft) (v0 v : DecoderView) (seen places n ones : ℕ) (st : Refining at refined k v0 v seen places n ones) (m : ℕ) → m < 64 → on n m ≡ (nat_le st.n m && is_older st.draft at.word at.stripe m)
 waits at refined k v0 v seen places n ones st m l = st.awaits m l ∙ ap (λ b. nat_le st.n m && b) (st.older m l)
 
-pub refining_next : (at : Spot) (refined : List ℕ) (k : Draft) (v0 v : View) (seen places n ones : ℕ) (st : Refining at refined k v0 v seen places n ones) → 0 < n → n < 2 ^ 64 → NextOlder at k st.draft v0 v (trailing_zeros w64 n)
+pub refining_next : (at : WordPlace) (refined : List ℕ) (k : Draft) (v0 v : DecoderView) (seen places n ones : ℕ) (st : Refining at refined k v0 v seen places n ones) → 0 < n → n < 2 ^ 64 → NextOlder at k st.draft v0 v (trailing_zeros w64 n)
 refining_next at refined k v0 v seen places n ones st p q =
     let d = st.draft in
     let z = trailing_zeros w64 n in
@@ -135,12 +135,12 @@ refining_next at refined k v0 v seen places n ones st p q =
     let l = lowest n p q in
     let both = and_parts (nat_le st.n z) (is_older d at.word at.stripe z) (sym (waits at refined k v0 v seen places n ones st z l.0) ∙ l.1) in
     let onward : st.n ≤ z = true_le st.n z both.0 in
-    let parts = and_parts (of_rows (z % 8)) (lit_in d x y && not (d.visited x y)) both.1 in
-    let due = and_parts (lit_in d x y) (not (d.visited x y)) parts.1 in
+    let parts = and_parts (of_rows (z % 8)) (significant_in d x y && not (d.visited x y)) both.1 in
+    let due = and_parts (significant_in d x y) (not (d.visited x y)) parts.1 in
     let within = l.0 in
     record {
       place = record { within = l.0; on_row = parts.0; inside = (and_parts (is_inside d.shape x y) (nat_lt 0 (d.magnitude x y)) due.0).0 };
-      lit = due.0;
+      known_significant = due.0;
       uncoded = turned (d.visited x y) due.1;
       going = going_skip 1 at st.n z k d v0 v st.going onward (omega (arith, within)) (λ coder m a b. record { plain = λ _. none (nat_lt (8 * at.word + m / 8) d.shape.width); idle = λ c d. idle m a b c d });
     }
@@ -151,33 +151,33 @@ refining_next at refined k v0 v seen places n ones st p q =
         let w = l.0 in
         none_before (on n m) (nat_le st.n m) (is_older st.draft at.word at.stripe m) (l.2 m b) (waits at refined k v0 v seen places n ones st m (omega (arith, w, b))) (le_true st.n m a)
 
-    idle : (m : ℕ) → st.n ≤ m → m < trailing_zeros w64 n → 1 ≤ m % 8 → m % 8 < 5 → (lit_in st.draft (8 * at.word + m / 8) (4 * at.stripe + m % 8 - 1) && not (st.draft.visited (8 * at.word + m / 8) (4 * at.stripe + m % 8 - 1))) ≡ false
-    idle m a b c d = second (of_rows (m % 8)) (lit_in st.draft (column at.word m) (row at.stripe m) && not (st.draft.visited (column at.word m) (row at.stripe m))) (older m a b) (on_rows (m % 8) c d)
+    idle : (m : ℕ) → st.n ≤ m → m < trailing_zeros w64 n → 1 ≤ m % 8 → m % 8 < 5 → (significant_in st.draft (8 * at.word + m / 8) (4 * at.stripe + m % 8 - 1) && not (st.draft.visited (8 * at.word + m / 8) (4 * at.stripe + m % 8 - 1))) ≡ false
+    idle m a b c d = second (of_rows (m % 8)) (significant_in st.draft (column at.word m) (row at.stripe m) && not (st.draft.visited (column at.word m) (row at.stripe m))) (older m a b) (on_rows (m % 8) c d)
 
 step_on : (z m : ℕ) (rest n from due : Bool) (k : ℕ) → k ≤ z → rest ≡ (nat_le (z + 1) m && n) → n ≡ (nat_le k m && due) → rest ≡ (nat_le (z + 1) m && due)
 step_on z m rest n from due k h a b = grind (arith, nat_tests)
 
 -- a place that was significant before takes its bit of a plane
-abbrev pub refined_once : (at : Spot) (z : ℕ) → Bool → Draft → Draft
+abbrev pub refined_once : (at : WordPlace) (z : ℕ) → Bool → Draft → Draft
 refined_once at z bit d = coded_in at.plane (column at.word z) (row at.stripe z) bit (d.negative (column at.word z) (row at.stripe z)) d
 
 large_pos : (b : ℕ) (m : ℕ) → 2 ^ (b + 1) ≤ m → 0 < m
 large_pos b m h = let p = pow_pos (b + 1) in omega (arith, p, h)
 
 -- what is significant stays so
-pub lit_once : (at : Spot) (d : Draft) (z : ℕ) (bit : Bool) → lit_in d (column at.word z) (row at.stripe z) ≡ true → 2 ^ (at.plane + 1) ≤ d.magnitude (column at.word z) (row at.stripe z) → (x y : ℕ) → lit_in (refined_once at z bit d) x y ≡ lit_in d x y
-lit_once at d z bit lit large x y =
+pub significant_once : (at : WordPlace) (d : Draft) (z : ℕ) (bit : Bool) → significant_in d (column at.word z) (row at.stripe z) ≡ true → 2 ^ (at.plane + 1) ≤ d.magnitude (column at.word z) (row at.stripe z) → (x y : ℕ) → significant_in (refined_once at z bit d) x y ≡ significant_in d x y
+significant_once at d z bit known_significant large x y =
     let X = column at.word z in
     let Y = row at.stripe z in
-    stays_lit d.shape d.magnitude X Y (above (at.plane + 1) (d.magnitude X Y) + cond bit (2 ^ at.plane) 0) (large_pos at.plane (above (at.plane + 1) (d.magnitude X Y) + cond bit (2 ^ at.plane) 0) (stays_large (d.magnitude X Y) at.plane bit large)) lit x y
+    stays_significant d.shape d.magnitude X Y (above (at.plane + 1) (d.magnitude X Y) + cond bit (2 ^ at.plane) 0) (large_pos at.plane (above (at.plane + 1) (d.magnitude X Y) + cond bit (2 ^ at.plane) 0) (stays_large (d.magnitude X Y) at.plane bit large)) known_significant x y
 
-pub fresh_once : (at : Spot) (refined : List ℕ) (d : Draft) (z : ℕ) (bit : Bool) → IsFresh at.plane refined d → lit_in d (column at.word z) (row at.stripe z) ≡ true → 2 ^ (at.plane + 1) ≤ d.magnitude (column at.word z) (row at.stripe z) → IsFresh at.plane refined (refined_once at z bit d)
-fresh_once at refined d z bit fresh lit large =
+pub fresh_once : (at : WordPlace) (refined : List ℕ) (d : Draft) (z : ℕ) (bit : Bool) → IsFresh at.plane refined d → significant_in d (column at.word z) (row at.stripe z) ≡ true → 2 ^ (at.plane + 1) ≤ d.magnitude (column at.word z) (row at.stripe z) → IsFresh at.plane refined (refined_once at z bit d)
+fresh_once at refined d z bit fresh known_significant large =
     let X = column at.word z in
     let Y = row at.stripe z in
     let m = above (at.plane + 1) (d.magnitude X Y) + cond bit (2 ^ at.plane) 0 in
     record {
-      higher = λ x y l unseen. put_or (λ n. 2 ^ (at.plane + 1) ≤ n) d.magnitude X Y m x y (λ _ _. stays_large (d.magnitude X Y) at.plane bit large) (λ _. fresh.higher x y (sym (lit_once at d z bit lit large x y) ∙ l) unseen);
+      higher = λ x y l unseen. put_or (λ n. 2 ^ (at.plane + 1) ≤ n) d.magnitude X Y m x y (λ _ _. stays_large (d.magnitude X Y) at.plane bit large) (λ _. fresh.higher x y (sym (significant_once at d z bit known_significant large x y) ∙ l) unseen);
       whole = λ x y i. put_or (λ n. above at.plane n ≡ n) d.magnitude X Y m x y (λ _ _. whole_once at.plane (d.magnitude X Y) bit) (λ _. fresh.whole x y i);
       older = λ x y i. fresh.older x y i ∙ sym (put_stays d.magnitude X Y m (2 ^ (at.plane + 2)) x y (bit_stays (d.magnitude X Y) at.plane bit));
     }
@@ -227,7 +227,7 @@ one_bit ones z m bit lz lm off =
     by false e = ap (λ b. on ones m || b) (away z m bit e) ∙ or_false (on ones m) ∙ sym (ap (λ b. cond b bit (on ones m)) e)
 
 -- one place more has its bit
-bits_more : (at : Spot) (k d : Draft) (places n ones : ℕ) (bit : Bool) → 0 < n → n < 2 ^ 64 → Bits at k d places n ones → on places (trailing_zeros w64 n) ≡ true → IsPlace d.shape at (trailing_zeros w64 n)
+bits_more : (at : WordPlace) (k d : Draft) (places n ones : ℕ) (bit : Bool) → 0 < n → n < 2 ^ 64 → Bits at k d places n ones → on places (trailing_zeros w64 n) ≡ true → IsBitPlace d.shape at (trailing_zeros w64 n)
     → places < 2 ^ 64 → ones < 2 ^ 64 → Bits at k (refined_once at (trailing_zeros w64 n) bit d) places (bit_and n (n - 1)) (with_one ones (trailing_zeros w64 n) bit)
 bits_more at k d places n ones bit p q b set place lim limo =
     let z = trailing_zeros w64 n in
@@ -347,8 +347,8 @@ bits_more at k d places n ones bit p q b set place lim limo =
                 sym (ap (λ t. cond (is_in_word at.word at.stripe x y && (on places m && not t)) (above (at.plane + 1) (k.magnitude x y) + cond (on (with_one ones z bit) m) (2 ^ at.plane) 0) (k.magnitude x y)) waits_same
                 ∙ ap (λ t. cond (is_in_word at.word at.stripe x y && (on places m && not (on n m))) (above (at.plane + 1) (k.magnitude x y) + cond t (2 ^ at.plane) 0) (k.magnitude x y)) ones_same)
 
-pub refining_one : {A : Type 0} (at : Spot) (refined : List ℕ) (k : Draft) (v0 v v' : View) (seen places n ones : ℕ) (bit : Bool) (u : A) (st : Refining at refined k v0 v seen places n ones) → 0 < n → n < 2 ^ 64 → places < 2 ^ 64 → ones < 2 ^ 64
-    → Takes (place_at v.bytes st.draft.shape at.plane 1 (column at.word (trailing_zeros w64 n)) (row at.stripe (trailing_zeros w64 n))) st.draft (refined_once at (trailing_zeros w64 n) bit st.draft) v v' (Ok u) → v'.bytes ≡ v.bytes
+pub refining_one : {A : Type 0} (at : WordPlace) (refined : List ℕ) (k : Draft) (v0 v v' : DecoderView) (seen places n ones : ℕ) (bit : Bool) (u : A) (st : Refining at refined k v0 v seen places n ones) → 0 < n → n < 2 ^ 64 → places < 2 ^ 64 → ones < 2 ^ 64
+    → TakesStep (place_at v.bytes st.draft.shape at.plane 1 (column at.word (trailing_zeros w64 n)) (row at.stripe (trailing_zeros w64 n))) st.draft (refined_once at (trailing_zeros w64 n) bit st.draft) v v' (Ok u) → v'.bytes ≡ v.bytes
     → Refining at refined k v0 v' seen places (bit_and n (n - 1)) (with_one ones (trailing_zeros w64 n) bit)
 refining_one at refined k v0 v v' seen places n ones bit u st p q lim limo takes bytes =
     let d = st.draft in
@@ -358,31 +358,31 @@ refining_one at refined k v0 v v' seen places n ones bit u st p q lim limo takes
     let l = lowest n p q in
     let both = and_parts (nat_le st.n z) (on places z) (sym (st.awaits z l.0) ∙ l.1) in
     let onward : st.n ≤ z = true_le st.n z both.0 in
-    let large = st.fresh.higher (column at.word z) (row at.stripe z) next.lit next.uncoded in
-    let lit = lit_once at d z bit next.lit large in
+    let large = st.fresh.higher (column at.word z) (row at.stripe z) next.known_significant next.uncoded in
+    let known_significant = significant_once at d z bit next.known_significant large in
     record {
       n = z + 1;
       draft = d';
       going = going_place 1 at z k d d' v0 v v' u next.going next.place takes refl bytes;
-      fresh = fresh_once at refined d z bit st.fresh next.lit large;
-      near = λ m l e. st.near m l e ∙ ap (λ (f : Field Bool). touched_in d.shape f (column at.word m) (row at.stripe m)) (sym (same_field (lit_in d') (lit_in d) lit));
-      older = λ m h. st.older m h ∙ ap (λ b. of_rows (m % 8) && (b && not (d.visited (column at.word m) (row at.stripe m)))) (sym (lit (column at.word m) (row at.stripe m)));
+      fresh = fresh_once at refined d z bit st.fresh next.known_significant large;
+      near = λ m l e. st.near m l e ∙ ap (λ (f : Field Bool). touched_in d.shape f (column at.word m) (row at.stripe m)) (sym (same_field (significant_in d') (significant_in d) known_significant));
+      older = λ m h. st.older m h ∙ ap (λ b. of_rows (m % 8) && (b && not (d.visited (column at.word m) (row at.stripe m)))) (sym (known_significant (column at.word m) (row at.stripe m)));
       awaits = λ m h. step_on z m (on (bit_and n (n - 1)) m) (on n m) true (on places m) st.n onward (rest_at n p q m) (st.awaits m h);
       bits = bits_more at k d places n ones bit p q st.bits both.1 next.place lim limo;
     }
 
-pub refining_all : (at : Spot) (refined : List ℕ) (k : Draft) (v0 v : View) (seen places n ones : ℕ) (st : Refining at refined k v0 v seen places n ones) → n ≡ 0 → Going 1 at 64 k st.draft v0 v
+pub refining_all : (at : WordPlace) (refined : List ℕ) (k : Draft) (v0 v : DecoderView) (seen places n ones : ℕ) (st : Refining at refined k v0 v seen places n ones) → n ≡ 0 → ReadSoFar 1 at 64 k st.draft v0 v
 refining_all at refined k v0 v seen places n ones st empty =
     going_skip 1 at st.n 64 k st.draft v0 v st.going st.going.most (omega arith) (λ coder m a b. record { plain = λ _. none (nat_lt (8 * at.word + m / 8) st.draft.shape.width); idle = λ c d. idle m a b c d })
   where
-    idle : (m : ℕ) → st.n ≤ m → m < 64 → 1 ≤ m % 8 → m % 8 < 5 → (lit_in st.draft (8 * at.word + m / 8) (4 * at.stripe + m % 8 - 1) && not (st.draft.visited (8 * at.word + m / 8) (4 * at.stripe + m % 8 - 1))) ≡ false
+    idle : (m : ℕ) → st.n ≤ m → m < 64 → 1 ≤ m % 8 → m % 8 < 5 → (significant_in st.draft (8 * at.word + m / 8) (4 * at.stripe + m % 8 - 1) && not (st.draft.visited (8 * at.word + m / 8) (4 * at.stripe + m % 8 - 1))) ≡ false
     idle m a b c d =
-        second (of_rows (m % 8)) (lit_in st.draft (column at.word m) (row at.stripe m) && not (st.draft.visited (column at.word m) (row at.stripe m)))
+        second (of_rows (m % 8)) (significant_in st.draft (column at.word m) (row at.stripe m) && not (st.draft.visited (column at.word m) (row at.stripe m)))
         (none_before (on n m) (nat_le st.n m) (is_older st.draft at.word at.stripe m) (ap (λ w. on w m) empty ∙ on_zero m) (waits at refined k v0 v seen places n ones st m b) (le_true st.n m a))
         (on_rows (m % 8) c d)
 
 -- behind the word the draft has the bits of all its places
-pub refined_all : (at : Spot) (refined : List ℕ) (k : Draft) (v0 v : View) (seen places n ones : ℕ) (st : Refining at refined k v0 v seen places n ones) → n ≡ 0 → st.draft ≡ refined_in at places ones k
+pub refined_all : (at : WordPlace) (refined : List ℕ) (k : Draft) (v0 v : DecoderView) (seen places n ones : ℕ) (st : Refining at refined k v0 v seen places n ones) → n ≡ 0 → st.draft ≡ refined_in at places ones k
 refined_all at refined k v0 v seen places n ones st empty =
     draft_same st.draft.shape k.shape st.draft.magnitude (refined_in at places ones k).magnitude st.draft.negative k.negative st.draft.visited k.visited st.going.shape
     (same_field st.draft.magnitude (refined_in at places ones k).magnitude (λ x y. st.bits.magnitude x y
@@ -395,16 +395,16 @@ refined_all at refined k v0 v seen places n ones st empty =
     plain false = refl
 
 -- what is written behind the word
-pub may_refine : (at : Spot) (refined : List ℕ) (k : Draft) (places ones : ℕ) → IsFresh at.plane refined k → ((m : ℕ) → m < 64 → on places m ≡ is_older k at.word at.stripe m) → ((m : ℕ) → on ones m ≡ true → on places m ≡ true) → IsRefined at places ones k
+pub may_refine : (at : WordPlace) (refined : List ℕ) (k : Draft) (places ones : ℕ) → IsFresh at.plane refined k → ((m : ℕ) → m < 64 → on places m ≡ is_older k at.word at.stripe m) → ((m : ℕ) → on ones m ≡ true → on places m ≡ true) → IsRefined at places ones k
 may_refine at refined k places ones fresh older only = record {
   whole = fresh.whole;
   only = λ m l e. only m e;
   large = λ x y w e.
       let b = bit_place at.word at.stripe x y w in
       let o : is_older k at.word at.stripe (own_bit x y) ≡ true = sym (older (own_bit x y) (bit_within x y)) ∙ e in
-      let both = and_parts (of_rows (own_bit x y % 8)) (lit_in k (column at.word (own_bit x y)) (row at.stripe (own_bit x y)) && not (k.visited (column at.word (own_bit x y)) (row at.stripe (own_bit x y)))) o in
-      let due = and_parts (lit_in k (column at.word (own_bit x y)) (row at.stripe (own_bit x y))) (not (k.visited (column at.word (own_bit x y)) (row at.stripe (own_bit x y)))) both.1 in
-      let lit : lit_in k x y ≡ true = ap (λ u. lit_in k u y) (sym b.0) ∙ ap (λ v. lit_in k (column at.word (own_bit x y)) v) (sym b.1) ∙ due.0 in
+      let both = and_parts (of_rows (own_bit x y % 8)) (significant_in k (column at.word (own_bit x y)) (row at.stripe (own_bit x y)) && not (k.visited (column at.word (own_bit x y)) (row at.stripe (own_bit x y)))) o in
+      let due = and_parts (significant_in k (column at.word (own_bit x y)) (row at.stripe (own_bit x y))) (not (k.visited (column at.word (own_bit x y)) (row at.stripe (own_bit x y)))) both.1 in
+      let known_significant : significant_in k x y ≡ true = ap (λ u. significant_in k u y) (sym b.0) ∙ ap (λ v. significant_in k (column at.word (own_bit x y)) v) (sym b.1) ∙ due.0 in
       let unseen : k.visited x y ≡ false = ap (λ u. k.visited u y) (sym b.0) ∙ ap (λ v. k.visited (column at.word (own_bit x y)) v) (sym b.1) ∙ turned (k.visited (column at.word (own_bit x y)) (row at.stripe (own_bit x y))) due.1 in
-      ((and_parts (is_inside k.shape x y) (nat_lt 0 (k.magnitude x y)) lit).0, fresh.higher x y lit unseen);
+      ((and_parts (is_inside k.shape x y) (nat_lt 0 (k.magnitude x y)) known_significant).0, fresh.higher x y known_significant unseen);
 }

@@ -12,7 +12,7 @@ use Rattle.jk_scan.specs.Moments.{cleanup}
 use Rattle.jk_scan.specs.Words.{of_rows}
 use Rattle.jk_scan.specs.WordPlaces.{column, row}
 use Rattle.jk_scan.proofs.Laws.{inside_parts, rows_between}
-use Rattle.jk_block.specs.Reading.{Progress, lit, times, place_at, rows_at, is_quiet, read_run, column_at}
+use Rattle.jk_block.specs.Reading.{Progress, known_significant, times, place_at, rows_at, is_quiet, read_run, column_at}
 use Rattle.jk_block.specs.Steps.{word_column, word_pass}
 use Rattle.jk_block.proofs.decoding.WordSteps.{is_due, place_idle}
 
@@ -92,11 +92,11 @@ rest_head bytes s b pass j i c z h =
 
 -- the column is coded in run mode
 abbrev pub is_run : BlockShape → (pass j i c : ℕ) → Progress → Bool
-is_run s pass j i c z = nat_lt (8 * j + c) s.width && (nat_eq pass cleanup && is_quiet s (lit s z) (8 * j + c) i)
+is_run s pass j i c z = nat_lt (8 * j + c) s.width && (nat_eq pass cleanup && is_quiet s (known_significant s z) (8 * j + c) i)
 
 plain_column : (bytes : List ℕ) (s : BlockShape) (b pass j i c : ℕ) (z : Progress) → is_run s pass j i c z ≡ false → word_column bytes s b pass j i c z ≡ rows_left bytes s b pass j i c 0 z
 unfolding word_column column_at
-plain_column bytes s b pass j i c z e = by (nat_lt (8 * j + c) s.width) (nat_eq pass cleanup && is_quiet s (lit s z) (8 * j + c) i) e
+plain_column bytes s b pass j i c z e = by (nat_lt (8 * j + c) s.width) (nat_eq pass cleanup && is_quiet s (known_significant s z) (8 * j + c) i) e
   where
     by : (w q : Bool) → (w && q) ≡ false → cond w (cond q (read_run bytes s b (8 * j + c) i z) (rows_at bytes s b pass (8 * j + c) i 0 4 z)) (done z) ≡ cond w (rows_at bytes s b pass (8 * j + c) i 0 4 z) (done z)
     by true q e = ap (λ q. cond q (read_run bytes s b (8 * j + c) i z) (rows_at bytes s b pass (8 * j + c) i 0 4 z)) e
@@ -104,7 +104,7 @@ plain_column bytes s b pass j i c z e = by (nat_lt (8 * j + c) s.width) (nat_eq 
 
 run_column : (bytes : List ℕ) (s : BlockShape) (b pass j i c : ℕ) (z : Progress) → is_run s pass j i c z ≡ true → word_column bytes s b pass j i c z ≡ read_run bytes s b (8 * j + c) i z
 unfolding word_column column_at
-run_column bytes s b pass j i c z e = by (nat_lt (8 * j + c) s.width) (nat_eq pass cleanup && is_quiet s (lit s z) (8 * j + c) i) e
+run_column bytes s b pass j i c z e = by (nat_lt (8 * j + c) s.width) (nat_eq pass cleanup && is_quiet s (known_significant s z) (8 * j + c) i) e
   where
     by : (w q : Bool) → (w && q) ≡ true → cond w (cond q (read_run bytes s b (8 * j + c) i z) (rows_at bytes s b pass (8 * j + c) i 0 4 z)) (done z) ≡ read_run bytes s b (8 * j + c) i z
     by true q e = ap (λ q. cond q (read_run bytes s b (8 * j + c) i z) (rows_at bytes s b pass (8 * j + c) i 0 4 z)) e
@@ -212,7 +212,7 @@ pub rest_run : (bytes : List ℕ) (s : BlockShape) (b pass j i n f : ℕ) (z w :
 unfolding rest
 rest_run bytes s b pass j i n f z w h first few run e =
     let c = n / 8 in
-    let inside = (and_parts (nat_lt (8 * j + c) s.width) (nat_eq pass cleanup && is_quiet s (lit s z) (8 * j + c) i) run).0 in
+    let inside = (and_parts (nat_lt (8 * j + c) s.width) (nat_eq pass cleanup && is_quiet s (known_significant s z) (8 * j + c) i) run).0 in
     ap (λ r. rest bytes s b pass j i c r z) first
     ∙ rest_head bytes s b pass j i c z (omega arith)
     ∙ ap (λ (o : Result Progress Fault). o >>= behind bytes s b pass j i c) (run_column bytes s b pass j i c z run ∙ e ∙ ap (λ n. rows_at bytes s b pass (8 * j + c) i (f + 1) n w) (let g : 3 - f ≡ 4 - (f + 1) = omega arith in g))

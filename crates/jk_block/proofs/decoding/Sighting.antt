@@ -11,14 +11,14 @@ use Rattle.jk_scan.specs.Surroundings.{IsAround}
 use Rattle.jk_scan.specs.declared.shape.BlockShape.{BlockShape}
 use Rattle.jk_scan.specs.Neighbours.{seen_from}
 use Rattle.jk_scan.proofs.Laws.{same_field, seen_is, row_stripe, rows_between, IsPut}
-use Rattle.jk_block.specs.declared.spot.Spot.{Spot}
+use Rattle.jk_block.specs.declared.word_place.WordPlace.{WordPlace}
 use Rattle.jk_block.specs.declared.decoding.sight.Sight.{Sight}
 use Rattle.jk_block.specs.Meaning.{above}
 use Rattle.jk_block.specs.Reading.{put}
-use Rattle.jk_block.specs.Steps.{IsPlace}
-use Rattle.jk_block.specs.decoding.Sketches.{Draft, lit_in, coded_in}
+use Rattle.jk_block.specs.Steps.{IsBitPlace}
+use Rattle.jk_block.specs.decoding.BlockStates.{Draft, significant_in, coded_in}
 use Rattle.jk_block.specs.decoding.Sights.{Sees}
-use Rattle.jk_block.proofs.Drawing.{lit_put}
+use Rattle.jk_block.proofs.Drawing.{significant_put}
 use Rattle.jk_block.proofs.WordBits.{around_also}
 
 -- a place has another value
@@ -89,15 +89,15 @@ around_put s f j i z new bit seen lim on_row is_put h =
     (put_seen (seen_from s i f) j i z new bit seen lim on_row is_put h)
 
 -- the place becomes significant, with its sign
-pub sees_lit : (at : Spot) (d : Draft) (sight : Sight) (k new : ℕ) (negative : Bool) → IsPlace d.shape at k → IsPut sight.negative.centre new k negative → Sees at d sight
+pub sees_significant : (at : WordPlace) (d : Draft) (sight : Sight) (k new : ℕ) (negative : Bool) → IsBitPlace d.shape at k → IsPut sight.negative.centre new k negative → Sees at d sight
     → Sees at (coded_in at.plane (column at.word k) (row at.stripe k) true negative d)
     record { significant = record { centre = bit_or sight.significant.centre (1 * 2 ^ k % 2 ^ 64); west = sight.significant.west; east = sight.significant.east }; negative = record { centre = new; west = sight.negative.west; east = sight.negative.east } }
-sees_lit at d sight k new negative place is_put s =
+sees_significant at d sight k new negative place is_put s =
     let x = column at.word k in
     let y = row at.stripe k in
     let d' = coded_in at.plane x y true negative d in
     record {
-      significant = around_also d.shape (lit_in d) (lit_in d') at.word at.stripe k sight.significant place.within place.on_row
-          (λ u v. lit_put d.shape d.magnitude x y (above (at.plane + 1) (d.magnitude x y) + 2 ^ at.plane) place.inside (let p = pow_pos at.plane in omega (arith, p)) u v) s.significant;
+      significant = around_also d.shape (significant_in d) (significant_in d') at.word at.stripe k sight.significant place.within place.on_row
+          (λ u v. significant_put d.shape d.magnitude x y (above (at.plane + 1) (d.magnitude x y) + 2 ^ at.plane) place.inside (let p = pow_pos at.plane in omega (arith, p)) u v) s.significant;
       negative = around_put d.shape d.negative at.word at.stripe k new negative sight.negative place.within place.on_row is_put s.negative;
     }

@@ -9,7 +9,7 @@ use Rattle.std.proofs.lemmas.Bool.Decides.{nat_tests}
 use Rattle.std.proofs.lemmas.Nat.{pow_pos}
 use Rattle.jk_math.specs.declared.fault.Fault.{Fault}
 use Rattle.jk_model.specs.Decisions.{State}
-use Rattle.jk_mqdec.specs.Standing.{View, Stands}
+use Rattle.jk_mqdec.specs.Standing.{DecoderView, Stands}
 use Rattle.jk_scan.specs.declared.shape.BlockShape.{BlockShape}
 use Rattle.jk_scan.specs.declared.around.Around.{Around}
 use Rattle.jk_scan.specs.Bits.{on}
@@ -18,37 +18,37 @@ use Rattle.jk_scan.specs.Words.{Truths, of_rows, of_gathered, Shows, bordered, i
 use Rattle.jk_scan.specs.WordPlaces.{column, row, also}
 use Rattle.jk_scan.specs.Surroundings.{IsAround}
 use Rattle.jk_scan.proofs.Laws.{same_field, seen_also, added_at, lowest, rest_at, taken, taken_low, on_or, on_and, on_zero}
-use Rattle.jk_block.specs.declared.spot.Spot.{Spot}
+use Rattle.jk_block.specs.declared.word_place.WordPlace.{WordPlace}
 use Rattle.jk_block.specs.declared.decoding.sight.Sight.{Sight}
 use Rattle.jk_block.specs.Fields.{is_in_word, own_bit, with_word}
 use Rattle.jk_block.specs.Meaning.{above}
 use Rattle.jk_block.specs.Reading.{put, place_at, read_new}
-use Rattle.jk_block.specs.decoding.Sketches.{Draft, progress, lit_in, coded_in, visited_in, Advanced, Takes}
-use Rattle.jk_block.specs.decoding.Sights.{seen_in, Sees, Held, lit_at, sign_seen}
-use Rattle.jk_block.specs.Steps.{IsPlace}
-use Rattle.jk_block.proofs.Drawing.{lit_put}
+use Rattle.jk_block.specs.decoding.BlockStates.{Draft, progress, significant_in, coded_in, visited_in, Advanced, TakesStep}
+use Rattle.jk_block.specs.decoding.Sights.{seen_in, Sees, Held, significant_at, sign_seen}
+use Rattle.jk_block.specs.Steps.{IsBitPlace}
+use Rattle.jk_block.proofs.Drawing.{significant_put}
 use Rattle.jk_block.proofs.WordDrawing.{bit_within, place_bit, same_place}
-use Rattle.jk_block.proofs.decoding.Holding.{held_none, held_visited, held_lit}
+use Rattle.jk_block.proofs.decoding.Holding.{held_none, held_visited, held_significant}
 use Rattle.jk_block.proofs.decoding.WordSteps.{member_due}
-use Rattle.jk_block.proofs.decoding.Going.{Going, going_none, going_skip, going_place}
+use Rattle.jk_block.proofs.decoding.ReadSoFar.{ReadSoFar, going_none, going_skip, going_place}
 use Rattle.jk_block.proofs.WordBits.{bordered_also, is_spread, spread_is_member, limit_bit, le_true, true_le, on_rows, none_before}
 
 -- Words show the pass at bit n: what is around, and the members from there on.
-pub record Spreads (at : Spot) (n : ℕ) (d : Draft) (seen : Around) (inside candidates : ℕ) : Type 0 where
+pub record Spreads (at : WordPlace) (n : ℕ) (d : Draft) (seen : Around) (inside candidates : ℕ) : Type 0 where
   pub around : IsAround (bordered (seen_in d at.stripe)) at.word at.stripe seen
   pub limits : Shows of_rows (bordered (is_inside d.shape)) (at.word + 1) (at.stripe + 1) inside
-  pub awaits : (m : ℕ) → m < 64 → on candidates m ≡ (nat_le n m && is_spread d.shape (lit_in d) at.word at.stripe m)
+  pub awaits : (m : ℕ) → m < 64 → on candidates m ≡ (nat_le n m && is_spread d.shape (significant_in d) at.word at.stripe m)
 
 -- A word has the places that were coded before bit n, and the candidates.
-pub record Marks (at : Spot) (n : ℕ) (k d : Draft) (candidates visited : ℕ) : Type 0 where
+pub record Marks (at : WordPlace) (n : ℕ) (k d : Draft) (candidates visited : ℕ) : Type 0 where
   pub ahead : (m : ℕ) → m < 64 → n ≤ m → on visited m ≡ on candidates m
   pub inside : (m : ℕ) → m < 64 → on visited m ≡ true → (of_rows (m % 8) && is_inside d.shape (column at.word m) (row at.stripe m)) ≡ true
   pub marked : (x y : ℕ) → d.visited x y ≡ (k.visited x y || (is_in_word at.word at.stripe x y && (nat_lt (own_bit x y) n && on visited (own_bit x y))))
 
-pub record Spreading (at : Spot) (k : Draft) (v0 v : View) (sight : Sight) (inside candidates visited : ℕ) : Type 0 where
+pub record Spreading (at : WordPlace) (k : Draft) (v0 v : DecoderView) (sight : Sight) (inside candidates visited : ℕ) : Type 0 where
   pub n : ℕ
   pub draft : Draft
-  pub going : Going 0 at n k draft v0 v
+  pub going : ReadSoFar 0 at n k draft v0 v
   pub spreads : Spreads at n draft sight.significant inside candidates
   pub held : Held at k sight draft
   pub marks : Marks at n k draft candidates visited
@@ -89,11 +89,11 @@ le_zero m = grind (arith, nat_tests)
 lt_zero : (m : ℕ) → nat_lt m 0 ≡ false
 lt_zero m = grind (arith, nat_tests)
 
-members_are : (at : Spot) (k : Draft) (candidates : ℕ) → Shows of_rows (is_member (bordered (is_inside k.shape)) (bordered (seen_in k at.stripe))) (at.word + 1) (at.stripe + 1) candidates
-    → (m : ℕ) → m < 64 → on candidates m ≡ is_spread k.shape (lit_in k) at.word at.stripe m
+members_are : (at : WordPlace) (k : Draft) (candidates : ℕ) → Shows of_rows (is_member (bordered (is_inside k.shape)) (bordered (seen_in k at.stripe))) (at.word + 1) (at.stripe + 1) candidates
+    → (m : ℕ) → m < 64 → on candidates m ≡ is_spread k.shape (significant_in k) at.word at.stripe m
 members_are at k candidates members m l =
     ap (on candidates) (let e : m ≡ 8 * (m / 8) + m % 8 = omega arith in e) ∙ members (m / 8) (m % 8) (omega arith) (omega arith)
-    ∙ spread_is_member k.shape (lit_in k) at.word at.stripe m
+    ∙ spread_is_member k.shape (significant_in k) at.word at.stripe m
 
 spread_inside : (s : BlockShape) (f : Field Bool) (j i m : ℕ) → is_spread s f j i m ≡ true → (of_rows (m % 8) && is_inside s (column j m) (row i m)) ≡ true
 spread_inside s f j i m e = by (of_rows (m % 8)) (is_inside s (column j m) (row i m)) (not (f (column j m) (row i m)) && touched_in s f (column j m) (row i m)) e
@@ -103,7 +103,7 @@ spread_inside s f j i m e = by (of_rows (m % 8)) (is_inside s (column j m) (row 
     by true false c e = e
     by false b c e = e
 
-pub spreading_none : (at : Spot) (k : Draft) (v : View) (sight : Sight) (inside candidates : ℕ) → Sees at k sight → Shows of_rows (bordered (is_inside k.shape)) (at.word + 1) (at.stripe + 1) inside
+pub spreading_none : (at : WordPlace) (k : Draft) (v : DecoderView) (sight : Sight) (inside candidates : ℕ) → Sees at k sight → Shows of_rows (bordered (is_inside k.shape)) (at.word + 1) (at.stripe + 1) inside
     → Shows of_rows (is_member (bordered (is_inside k.shape)) (bordered (seen_in k at.stripe))) (at.word + 1) (at.stripe + 1) candidates → Spreading at k v v sight inside candidates candidates
 spreading_none at k v sight inside candidates sees limits members = record {
   n = 0;
@@ -112,20 +112,20 @@ spreading_none at k v sight inside candidates sees limits members = record {
   spreads = record {
     around = sees.significant;
     limits = limits;
-    awaits = λ m l. members_are at k candidates members m l ∙ ap (λ b. b && is_spread k.shape (lit_in k) at.word at.stripe m) (le_zero m);
+    awaits = λ m l. members_are at k candidates members m l ∙ ap (λ b. b && is_spread k.shape (significant_in k) at.word at.stripe m) (le_zero m);
   };
   held = held_none at k sight sees;
   marks = record {
     ahead = λ m l h. refl;
-    inside = λ m l e. spread_inside k.shape (lit_in k) at.word at.stripe m (sym (members_are at k candidates members m l) ∙ e);
+    inside = λ m l e. spread_inside k.shape (significant_in k) at.word at.stripe m (sym (members_are at k candidates members m l) ∙ e);
     marked = λ x y. nothing_more (k.visited x y) (is_in_word at.word at.stripe x y) (on candidates (own_bit x y))
         ∙ ap (λ b. k.visited x y || (is_in_word at.word at.stripe x y && (b && on candidates (own_bit x y)))) (sym (lt_zero (own_bit x y)));
   };
 }
 
 -- no place is a member
-pub spreading_idle : (at : Spot) (k : Draft) (v : View) (candidates : ℕ) → Shows of_rows (is_member (bordered (is_inside k.shape)) (bordered (seen_in k at.stripe))) (at.word + 1) (at.stripe + 1) candidates
-    → candidates ≡ 0 → Going 0 at 64 k k v v
+pub spreading_idle : (at : WordPlace) (k : Draft) (v : DecoderView) (candidates : ℕ) → Shows of_rows (is_member (bordered (is_inside k.shape)) (bordered (seen_in k at.stripe))) (at.word + 1) (at.stripe + 1) candidates
+    → candidates ≡ 0 → ReadSoFar 0 at 64 k k v v
 spreading_idle at k v candidates members empty =
     going_skip 0 at 0 64 k k v v (going_none 0 at k k v refl (λ coder. refl)) (omega arith) (omega arith) (λ coder m a b. record { plain = λ _. none (nat_lt (8 * at.word + m / 8) k.shape.width); idle = λ c d. idle m a b c d })
   where
@@ -134,37 +134,37 @@ spreading_idle at k v candidates members empty =
     none false = refl
 
     idle : (m : ℕ) → 0 ≤ m → m < 64 → 1 ≤ m % 8 → m % 8 < 5
-        → (is_inside k.shape (8 * at.word + m / 8) (4 * at.stripe + m % 8 - 1) && (not (lit_in k (8 * at.word + m / 8) (4 * at.stripe + m % 8 - 1)) && touched_in k.shape (lit_in k) (8 * at.word + m / 8) (4 * at.stripe + m % 8 - 1))) ≡ false
+        → (is_inside k.shape (8 * at.word + m / 8) (4 * at.stripe + m % 8 - 1) && (not (significant_in k (8 * at.word + m / 8) (4 * at.stripe + m % 8 - 1)) && touched_in k.shape (significant_in k) (8 * at.word + m / 8) (4 * at.stripe + m % 8 - 1))) ≡ false
     idle m a b c d =
-        second (of_rows (m % 8)) (is_inside k.shape (column at.word m) (row at.stripe m) && (not (lit_in k (column at.word m) (row at.stripe m)) && touched_in k.shape (lit_in k) (column at.word m) (row at.stripe m)))
+        second (of_rows (m % 8)) (is_inside k.shape (column at.word m) (row at.stripe m) && (not (significant_in k (column at.word m) (row at.stripe m)) && touched_in k.shape (significant_in k) (column at.word m) (row at.stripe m)))
         (sym (members_are at k candidates members m b) ∙ ap (λ w. on w m) empty ∙ on_zero m) (on_rows (m % 8) c d)
 
 -- the next place that is coded
-pub record NextMember (at : Spot) (k d : Draft) (v0 v : View) (z : ℕ) : Type 0 where
-  pub place : IsPlace d.shape at z
-  pub due : (not (lit_in d (column at.word z) (row at.stripe z)) && touched_in d.shape (lit_in d) (column at.word z) (row at.stripe z)) ≡ true
-  pub going : Going 0 at z k d v0 v
+pub record NextMember (at : WordPlace) (k d : Draft) (v0 v : DecoderView) (z : ℕ) : Type 0 where
+  pub place : IsBitPlace d.shape at z
+  pub due : (not (significant_in d (column at.word z) (row at.stripe z)) && touched_in d.shape (significant_in d) (column at.word z) (row at.stripe z)) ≡ true
+  pub going : ReadSoFar 0 at z k d v0 v
 
-not_lit : (a b : Bool) → (not a && b) ≡ true → a ≡ false
-not_lit true b e = absurd cc
-not_lit false b e = refl
+not_significant : (a b : Bool) → (not a && b) ≡ true → a ≡ false
+not_significant true b e = absurd cc
+not_significant false b e = refl
 
-reached : (at : Spot) (k : Draft) (v0 v : View) (sight : Sight) (inside n visited : ℕ) (st : Spreading at k v0 v sight inside n visited) → 0 < n → n < 2 ^ 64 → st.n ≤ trailing_zeros w64 n
+reached : (at : WordPlace) (k : Draft) (v0 v : DecoderView) (sight : Sight) (inside n visited : ℕ) (st : Spreading at k v0 v sight inside n visited) → 0 < n → n < 2 ^ 64 → st.n ≤ trailing_zeros w64 n
 reached at k v0 v sight inside n visited st p q =
     let z = trailing_zeros w64 n in
     let l = lowest n p q in
-    let both = and_parts (nat_le st.n z) (is_spread st.draft.shape (lit_in st.draft) at.word at.stripe z) (sym (st.spreads.awaits z l.0) ∙ l.1) in
+    let both = and_parts (nat_le st.n z) (is_spread st.draft.shape (significant_in st.draft) at.word at.stripe z) (sym (st.spreads.awaits z l.0) ∙ l.1) in
     true_le st.n z both.0
 
-pub spreading_next : (at : Spot) (k : Draft) (v0 v : View) (sight : Sight) (inside n visited : ℕ) (st : Spreading at k v0 v sight inside n visited) → 0 < n → n < 2 ^ 64 → NextMember at k st.draft v0 v (trailing_zeros w64 n)
+pub spreading_next : (at : WordPlace) (k : Draft) (v0 v : DecoderView) (sight : Sight) (inside n visited : ℕ) (st : Spreading at k v0 v sight inside n visited) → 0 < n → n < 2 ^ 64 → NextMember at k st.draft v0 v (trailing_zeros w64 n)
 spreading_next at k v0 v sight inside n visited st p q =
     let d = st.draft in
     let z = trailing_zeros w64 n in
     let l = lowest n p q in
-    let both = and_parts (nat_le st.n z) (is_spread d.shape (lit_in d) at.word at.stripe z) (sym (st.spreads.awaits z l.0) ∙ l.1) in
+    let both = and_parts (nat_le st.n z) (is_spread d.shape (significant_in d) at.word at.stripe z) (sym (st.spreads.awaits z l.0) ∙ l.1) in
     let onward = reached at k v0 v sight inside n visited st p q in
-    let parts = and_parts (of_rows (z % 8)) (is_inside d.shape (column at.word z) (row at.stripe z) && (not (lit_in d (column at.word z) (row at.stripe z)) && touched_in d.shape (lit_in d) (column at.word z) (row at.stripe z))) both.1 in
-    let due = and_parts (is_inside d.shape (column at.word z) (row at.stripe z)) (not (lit_in d (column at.word z) (row at.stripe z)) && touched_in d.shape (lit_in d) (column at.word z) (row at.stripe z)) parts.1 in
+    let parts = and_parts (of_rows (z % 8)) (is_inside d.shape (column at.word z) (row at.stripe z) && (not (significant_in d (column at.word z) (row at.stripe z)) && touched_in d.shape (significant_in d) (column at.word z) (row at.stripe z))) both.1 in
+    let due = and_parts (is_inside d.shape (column at.word z) (row at.stripe z)) (not (significant_in d (column at.word z) (row at.stripe z)) && touched_in d.shape (significant_in d) (column at.word z) (row at.stripe z)) parts.1 in
     let within = l.0 in
     record {
       place = record { within = l.0; on_row = parts.0; inside = due.0 };
@@ -176,20 +176,20 @@ spreading_next at k v0 v sight inside n visited st p q =
     none true = refl
     none false = refl
 
-    spreads : (m : ℕ) → st.n ≤ m → m < trailing_zeros w64 n → is_spread st.draft.shape (lit_in st.draft) at.word at.stripe m ≡ false
+    spreads : (m : ℕ) → st.n ≤ m → m < trailing_zeros w64 n → is_spread st.draft.shape (significant_in st.draft) at.word at.stripe m ≡ false
     spreads m a b =
         let l = lowest n p q in
         let w = l.0 in
-        none_before (on n m) (nat_le st.n m) (is_spread st.draft.shape (lit_in st.draft) at.word at.stripe m) (l.2 m b) (st.spreads.awaits m (omega (arith, w, b))) (le_true st.n m a)
+        none_before (on n m) (nat_le st.n m) (is_spread st.draft.shape (significant_in st.draft) at.word at.stripe m) (l.2 m b) (st.spreads.awaits m (omega (arith, w, b))) (le_true st.n m a)
 
     idle : (m : ℕ) → st.n ≤ m → m < trailing_zeros w64 n → 1 ≤ m % 8 → m % 8 < 5
-        → (is_inside st.draft.shape (8 * at.word + m / 8) (4 * at.stripe + m % 8 - 1) && (not (lit_in st.draft (8 * at.word + m / 8) (4 * at.stripe + m % 8 - 1)) && touched_in st.draft.shape (lit_in st.draft) (8 * at.word + m / 8) (4 * at.stripe + m % 8 - 1))) ≡ false
-    idle m a b c d = second (of_rows (m % 8)) (is_inside st.draft.shape (column at.word m) (row at.stripe m) && (not (lit_in st.draft (column at.word m) (row at.stripe m)) && touched_in st.draft.shape (lit_in st.draft) (column at.word m) (row at.stripe m))) (spreads m a b) (on_rows (m % 8) c d)
+        → (is_inside st.draft.shape (8 * at.word + m / 8) (4 * at.stripe + m % 8 - 1) && (not (significant_in st.draft (8 * at.word + m / 8) (4 * at.stripe + m % 8 - 1)) && touched_in st.draft.shape (significant_in st.draft) (8 * at.word + m / 8) (4 * at.stripe + m % 8 - 1))) ≡ false
+    idle m a b c d = second (of_rows (m % 8)) (is_inside st.draft.shape (column at.word m) (row at.stripe m) && (not (significant_in st.draft (column at.word m) (row at.stripe m)) && touched_in st.draft.shape (significant_in st.draft) (column at.word m) (row at.stripe m))) (spreads m a b) (on_rows (m % 8) c d)
 
 -- a place is coded: what the call that reads it takes
-pub member_takes : {A : Type 0} (at : Spot) (d d' : Draft) (v v' : View) (z : ℕ) (u : A) → IsPlace d.shape at z → (not (lit_in d (column at.word z) (row at.stripe z)) && touched_in d.shape (lit_in d) (column at.word z) (row at.stripe z)) ≡ true
+pub member_takes : {A : Type 0} (at : WordPlace) (d d' : Draft) (v v' : DecoderView) (z : ℕ) (u : A) → IsBitPlace d.shape at z → (not (significant_in d (column at.word z) (row at.stripe z)) && touched_in d.shape (significant_in d) (column at.word z) (row at.stripe z)) ≡ true
     → ((coder : State) → Stands v coder → Advanced (read_new v.bytes d.shape at.plane (column at.word z) (row at.stripe z)) (visited_in (column at.word z) (row at.stripe z) d) d' v' coder)
-    → Takes (place_at v.bytes d.shape at.plane 0 (column at.word z) (row at.stripe z)) d d' v v' (Ok u)
+    → TakesStep (place_at v.bytes d.shape at.plane 0 (column at.word z) (row at.stripe z)) d d' v v' (Ok u)
 member_takes at d d' v v' z u place due takes = λ coder st.
     let a = takes coder st in
     record { next = a.next; stands = a.stands; is = member_due v.bytes d.shape at.plane (column at.word z) (row at.stripe z) (progress d coder) place.inside due ∙ a.is }
@@ -201,7 +201,7 @@ step_on : (z m : ℕ) (rest n from due due' : Bool) (k : ℕ) → k ≤ z → re
 step_on z m rest n from due due' k h a b d = grind (arith, nat_tests)
 
 -- one place more is marked: the next member
-marks_next : (at : Spot) (k : Draft) (v0 v : View) (sight : Sight) (inside n visited rest more : ℕ) (st : Spreading at k v0 v sight inside n visited) → 0 < n → n < 2 ^ 64
+marks_next : (at : WordPlace) (k : Draft) (v0 v : DecoderView) (sight : Sight) (inside n visited rest more : ℕ) (st : Spreading at k v0 v sight inside n visited) → 0 < n → n < 2 ^ 64
     → ((m : ℕ) → m < 64 → trailing_zeros w64 n < m → on rest m ≡ (on n m || on more m)) → ((m : ℕ) → m ≤ trailing_zeros w64 n → m < 64 → on more m ≡ false)
     → ((m : ℕ) → m < 64 → on more m ≡ true → (of_rows (m % 8) && is_inside st.draft.shape (column at.word m) (row at.stripe m)) ≡ true)
     → (d' : Draft) → d'.shape ≡ st.draft.shape → d'.visited ≡ put st.draft.visited (column at.word (trailing_zeros w64 n)) (row at.stripe (trailing_zeros w64 n)) true
@@ -291,7 +291,7 @@ marks_next at k v0 v sight inside n visited rest more st p q rest_is low within 
             none true = refl
             none false = refl
 
-pub spreading_zero : {A : Type 0} (at : Spot) (k : Draft) (v0 v v' : View) (sight sight' : Sight) (inside n visited : ℕ) (u : A) (st : Spreading at k v0 v sight inside n visited) → 0 < n → n < 2 ^ 64
+pub spreading_zero : {A : Type 0} (at : WordPlace) (k : Draft) (v0 v v' : DecoderView) (sight sight' : Sight) (inside n visited : ℕ) (u : A) (st : Spreading at k v0 v sight inside n visited) → 0 < n → n < 2 ^ 64
     → ((coder : State) → Stands v coder → Advanced (read_new v.bytes st.draft.shape at.plane (column at.word (trailing_zeros w64 n)) (row at.stripe (trailing_zeros w64 n)))
     (visited_in (column at.word (trailing_zeros w64 n)) (row at.stripe (trailing_zeros w64 n)) st.draft) (visited_in (column at.word (trailing_zeros w64 n)) (row at.stripe (trailing_zeros w64 n)) st.draft) v' coder)
     → v'.bytes ≡ v.bytes → Sees at (visited_in (column at.word (trailing_zeros w64 n)) (row at.stripe (trailing_zeros w64 n)) st.draft) sight' → Spreading at k v0 v' sight' inside (bit_and n (n - 1)) visited
@@ -309,7 +309,7 @@ spreading_zero at k v0 v v' sight sight' inside n visited u st p q takes bytes s
       spreads = record {
         around = sees.significant;
         limits = st.spreads.limits;
-        awaits = λ m h. step_on z m (on (bit_and n (n - 1)) m) (on n m) true (is_spread d.shape (lit_in d) at.word at.stripe m) (is_spread d'.shape (lit_in d') at.word at.stripe m) st.n onward
+        awaits = λ m h. step_on z m (on (bit_and n (n - 1)) m) (on n m) true (is_spread d.shape (significant_in d) at.word at.stripe m) (is_spread d'.shape (significant_in d') at.word at.stripe m) st.n onward
             (rest_at n p q m) (st.spreads.awaits m h) refl;
       };
       held = held_visited at k d sight sight' (column at.word z) (row at.stripe z) st.held sees;
@@ -323,8 +323,8 @@ spreading_zero at k v0 v v' sight sight' inside n visited u st p q takes bytes s
     plain true = refl
     plain false = refl
 
-lit_off : (at : Spot) (k d : Draft) (v0 v : View) (z : ℕ) → NextMember at k d v0 v z → lit_in d (column at.word z) (row at.stripe z) ≡ false
-lit_off at k d v0 v z next = not_lit (lit_in d (column at.word z) (row at.stripe z)) (touched_in d.shape (lit_in d) (column at.word z) (row at.stripe z)) next.due
+significant_off : (at : WordPlace) (k d : Draft) (v0 v : DecoderView) (z : ℕ) → NextMember at k d v0 v z → significant_in d (column at.word z) (row at.stripe z) ≡ false
+significant_off at k d v0 v z next = not_significant (significant_in d (column at.word z) (row at.stripe z)) (touched_in d.shape (significant_in d) (column at.word z) (row at.stripe z)) next.due
 
 -- what a place that became significant takes in lies inside
 taken_inside : (s : BlockShape) (j i inside x z m : ℕ) → Shows of_rows (bordered (is_inside s)) (j + 1) (i + 1) inside → m < 64 → on (taken inside x z) m ≡ true → (of_rows (m % 8) && is_inside s (column j m) (row i m)) ≡ true
@@ -338,10 +338,10 @@ taken_inside s j i inside x z m shows l e =
     first false true c e = e
     first false false c e = e
 
-pub spreading_one : {A : Type 0} (at : Spot) (k : Draft) (v0 v v' : View) (sight sight' : Sight) (inside n visited : ℕ) (u : A) (st : Spreading at k v0 v sight inside n visited) → 0 < n → n < 2 ^ 64 → sight'.significant.centre < 2 ^ 64
+pub spreading_one : {A : Type 0} (at : WordPlace) (k : Draft) (v0 v v' : DecoderView) (sight sight' : Sight) (inside n visited : ℕ) (u : A) (st : Spreading at k v0 v sight inside n visited) → 0 < n → n < 2 ^ 64 → sight'.significant.centre < 2 ^ 64
     → ((coder : State) → Stands v coder → Advanced (read_new v.bytes st.draft.shape at.plane (column at.word (trailing_zeros w64 n)) (row at.stripe (trailing_zeros w64 n)))
-    (visited_in (column at.word (trailing_zeros w64 n)) (row at.stripe (trailing_zeros w64 n)) st.draft) (lit_at at (trailing_zeros w64 n) sight' (visited_in (column at.word (trailing_zeros w64 n)) (row at.stripe (trailing_zeros w64 n)) st.draft)) v' coder)
-    → v'.bytes ≡ v.bytes → Sees at (lit_at at (trailing_zeros w64 n) sight' (visited_in (column at.word (trailing_zeros w64 n)) (row at.stripe (trailing_zeros w64 n)) st.draft)) sight'
+    (visited_in (column at.word (trailing_zeros w64 n)) (row at.stripe (trailing_zeros w64 n)) st.draft) (significant_at at (trailing_zeros w64 n) sight' (visited_in (column at.word (trailing_zeros w64 n)) (row at.stripe (trailing_zeros w64 n)) st.draft)) v' coder)
+    → v'.bytes ≡ v.bytes → Sees at (significant_at at (trailing_zeros w64 n) sight' (visited_in (column at.word (trailing_zeros w64 n)) (row at.stripe (trailing_zeros w64 n)) st.draft)) sight'
     → Spreading at k v0 v' sight' inside (bit_or (bit_and n (n - 1)) (taken inside sight'.significant.centre (trailing_zeros w64 n))) (bit_or visited (taken inside sight'.significant.centre (trailing_zeros w64 n)))
 spreading_one at k v0 v v' sight sight' inside n visited u st p q xb takes bytes sees =
     let d = st.draft in
@@ -351,15 +351,15 @@ spreading_one at k v0 v v' sight sight' inside n visited u st p q xb takes bytes
     let x = column j z in
     let y = row i z in
     let dv = visited_in x y d in
-    let d' = lit_at at z sight' dv in
+    let d' = significant_at at z sight' dv in
     let next = spreading_next at k v0 v sight inside n visited st p q in
     let l = lowest n p q in
     let onward = reached at k v0 v sight inside n visited st p q in
     let centre = sight'.significant.centre in
     let ins = bordered (is_inside d.shape) in
     let old = bordered (seen_in d at.stripe) in
-    let lit = grown at d z (sign_seen sight' z) next.place in
-    let own = subst (λ (f : Truths). Shows of_gathered f (j + 1) (i + 1) centre) (ap (λ (g : Truths). bordered g) (same_field (seen_in d' i) (also (seen_in d i) x y) (seen_also d.shape (lit_in d) (lit_in d') j i z next.place.on_row lit)) ∙ bordered_also (seen_in d i) j i z next.place.on_row) sees.significant.centre in
+    let known_significant = grown at d z (sign_seen sight' z) next.place in
+    let own = subst (λ (f : Truths). Shows of_gathered f (j + 1) (i + 1) centre) (ap (λ (g : Truths). bordered g) (same_field (seen_in d' i) (also (seen_in d i) x y) (seen_also d.shape (significant_in d) (significant_in d') j i z next.place.on_row known_significant)) ∙ bordered_also (seen_in d i) j i z next.place.on_row) sees.significant.centre in
     record {
       n = z + 1;
       draft = d';
@@ -369,34 +369,34 @@ spreading_one at k v0 v v' sight sight' inside n visited u st p q xb takes bytes
         limits = st.spreads.limits;
         awaits = λ m h.
             on_or (bit_and n (n - 1)) (taken inside centre z) m
-            ∙ grown_on z m (nat_le st.n m) (on (bit_and n (n - 1)) m) (on n m) (on (taken inside centre z) m) (is_spread d.shape (lit_in d) j i m) (is_spread d'.shape (lit_in d') j i m)
+            ∙ grown_on z m (nat_le st.n m) (on (bit_and n (n - 1)) m) (on n m) (on (taken inside centre z) m) (is_spread d.shape (significant_in d) j i m) (is_spread d'.shape (significant_in d') j i m)
             (rest_at n p q m) (st.spreads.awaits m h) (λ le. le_true st.n m (omega (arith, onward, le))) (λ le. taken_low inside centre z m h le)
-            (λ le. ap (λ b. b || on (taken inside centre z) m) (sym (spread_is_member d.shape (lit_in d) j i m))
+            (λ le. ap (λ b. b || on (taken inside centre z) m) (sym (spread_is_member d.shape (significant_in d) j i m))
             ∙ added_at old ins j i centre inside z m xb le h next.place.on_row own st.spreads.limits
             ∙ later m);
       };
-      held = held_lit at k dv sight sight' z (sign_seen sight' z) (held_visited at k d sight sight x y st.held record { significant = st.held.sees.significant; negative = st.held.sees.negative }) record { within = next.place.within; on_row = next.place.on_row; inside = next.place.inside } (lit_off at k d v0 v z next) sees;
+      held = held_significant at k dv sight sight' z (sign_seen sight' z) (held_visited at k d sight sight x y st.held record { significant = st.held.sees.significant; negative = st.held.sees.negative }) record { within = next.place.within; on_row = next.place.on_row; inside = next.place.inside } (significant_off at k d v0 v z next) sees;
       marks = marks_next at k v0 v sight inside n visited (bit_or (bit_and n (n - 1)) (taken inside centre z)) (taken inside centre z) st p q
           (λ m h a. on_or (bit_and n (n - 1)) (taken inside centre z) m ∙ ap (λ b. b || on (taken inside centre z) m) (rest_at n p q m ∙ behind z m (on n m) a))
           (λ m a h. taken_low inside centre z m h a) (λ m h e. taken_inside d.shape j i inside centre z m st.spreads.limits h e) d' refl refl;
     }
   where
-    grown : (at : Spot) (d : Draft) (z : ℕ) (negative : Bool) → IsPlace d.shape at z → (u v : ℕ) → lit_in (coded_in at.plane (column at.word z) (row at.stripe z) true negative d) u v ≡ also (lit_in d) (column at.word z) (row at.stripe z) u v
-    grown at d z negative place u v = lit_put d.shape d.magnitude (column at.word z) (row at.stripe z) (above (at.plane + 1) (d.magnitude (column at.word z) (row at.stripe z)) + 2 ^ at.plane) place.inside (let p = pow_pos at.plane in omega (arith, p)) u v
+    grown : (at : WordPlace) (d : Draft) (z : ℕ) (negative : Bool) → IsBitPlace d.shape at z → (u v : ℕ) → significant_in (coded_in at.plane (column at.word z) (row at.stripe z) true negative d) u v ≡ also (significant_in d) (column at.word z) (row at.stripe z) u v
+    grown at d z negative place u v = significant_put d.shape d.magnitude (column at.word z) (row at.stripe z) (above (at.plane + 1) (d.magnitude (column at.word z) (row at.stripe z)) + 2 ^ at.plane) place.inside (let p = pow_pos at.plane in omega (arith, p)) u v
 
     later : (m : ℕ) → (of_rows (m % 8) && is_member (bordered (is_inside st.draft.shape)) (also (bordered (seen_in st.draft at.stripe)) (column (at.word + 1) (trailing_zeros w64 n)) (row (at.stripe + 1) (trailing_zeros w64 n))) (column (at.word + 1) m) (row (at.stripe + 1) m))
-        ≡ is_spread st.draft.shape (lit_in (lit_at at (trailing_zeros w64 n) sight' (visited_in (column at.word (trailing_zeros w64 n)) (row at.stripe (trailing_zeros w64 n)) st.draft))) at.word at.stripe m
+        ≡ is_spread st.draft.shape (significant_in (significant_at at (trailing_zeros w64 n) sight' (visited_in (column at.word (trailing_zeros w64 n)) (row at.stripe (trailing_zeros w64 n)) st.draft))) at.word at.stripe m
     later m =
         let d = st.draft in
         let z = trailing_zeros w64 n in
         let next = spreading_next at k v0 v sight inside n visited st p q in
-        let d' = lit_at at z sight' (visited_in (column at.word z) (row at.stripe z) d) in
+        let d' = significant_at at z sight' (visited_in (column at.word z) (row at.stripe z) d) in
         ap (λ (g : Truths). of_rows (m % 8) && is_member (bordered (is_inside d.shape)) g (column (at.word + 1) m) (row (at.stripe + 1) m))
         (sym (bordered_also (seen_in d at.stripe) at.word at.stripe z next.place.on_row)
-        ∙ sym (ap (λ (g : Truths). bordered g) (same_field (seen_in d' at.stripe) (also (seen_in d at.stripe) (column at.word z) (row at.stripe z)) (seen_also d.shape (lit_in d) (lit_in d') at.word at.stripe z next.place.on_row (grown at d z (sign_seen sight' z) next.place)))))
-        ∙ spread_is_member d.shape (lit_in d') at.word at.stripe m
+        ∙ sym (ap (λ (g : Truths). bordered g) (same_field (seen_in d' at.stripe) (also (seen_in d at.stripe) (column at.word z) (row at.stripe z)) (seen_also d.shape (significant_in d) (significant_in d') at.word at.stripe z next.place.on_row (grown at d z (sign_seen sight' z) next.place)))))
+        ∙ spread_is_member d.shape (significant_in d') at.word at.stripe m
 
-pub spreading_all : (at : Spot) (k : Draft) (v0 v : View) (sight : Sight) (inside n visited : ℕ) (st : Spreading at k v0 v sight inside n visited) → n ≡ 0 → Going 0 at 64 k st.draft v0 v
+pub spreading_all : (at : WordPlace) (k : Draft) (v0 v : DecoderView) (sight : Sight) (inside n visited : ℕ) (st : Spreading at k v0 v sight inside n visited) → n ≡ 0 → ReadSoFar 0 at 64 k st.draft v0 v
 spreading_all at k v0 v sight inside n visited st empty =
     going_skip 0 at st.n 64 k st.draft v0 v st.going st.going.most (omega arith) (λ coder m a b. record { plain = λ _. none (nat_lt (8 * at.word + m / 8) st.draft.shape.width); idle = λ c d. idle m a b c d })
   where
@@ -405,14 +405,14 @@ spreading_all at k v0 v sight inside n visited st empty =
     none false = refl
 
     idle : (m : ℕ) → st.n ≤ m → m < 64 → 1 ≤ m % 8 → m % 8 < 5
-        → (is_inside st.draft.shape (8 * at.word + m / 8) (4 * at.stripe + m % 8 - 1) && (not (lit_in st.draft (8 * at.word + m / 8) (4 * at.stripe + m % 8 - 1)) && touched_in st.draft.shape (lit_in st.draft) (8 * at.word + m / 8) (4 * at.stripe + m % 8 - 1))) ≡ false
+        → (is_inside st.draft.shape (8 * at.word + m / 8) (4 * at.stripe + m % 8 - 1) && (not (significant_in st.draft (8 * at.word + m / 8) (4 * at.stripe + m % 8 - 1)) && touched_in st.draft.shape (significant_in st.draft) (8 * at.word + m / 8) (4 * at.stripe + m % 8 - 1))) ≡ false
     idle m a b c d =
-        second (of_rows (m % 8)) (is_inside st.draft.shape (column at.word m) (row at.stripe m) && (not (lit_in st.draft (column at.word m) (row at.stripe m)) && touched_in st.draft.shape (lit_in st.draft) (column at.word m) (row at.stripe m)))
-        (none_before (on n m) (nat_le st.n m) (is_spread st.draft.shape (lit_in st.draft) at.word at.stripe m) (ap (λ w. on w m) empty ∙ on_zero m) (st.spreads.awaits m b) (le_true st.n m a))
+        second (of_rows (m % 8)) (is_inside st.draft.shape (column at.word m) (row at.stripe m) && (not (significant_in st.draft (column at.word m) (row at.stripe m)) && touched_in st.draft.shape (significant_in st.draft) (column at.word m) (row at.stripe m)))
+        (none_before (on n m) (nat_le st.n m) (is_spread st.draft.shape (significant_in st.draft) at.word at.stripe m) (ap (λ w. on w m) empty ∙ on_zero m) (st.spreads.awaits m b) (le_true st.n m a))
         (on_rows (m % 8) c d)
 
 -- behind the word all its candidates are marked
-pub marked_all : (at : Spot) (k : Draft) (v0 v : View) (sight : Sight) (inside n visited : ℕ) (st : Spreading at k v0 v sight inside n visited) → n ≡ 0 → st.draft.visited ≡ with_word k.visited at.word at.stripe visited
+pub marked_all : (at : WordPlace) (k : Draft) (v0 v : DecoderView) (sight : Sight) (inside n visited : ℕ) (st : Spreading at k v0 v sight inside n visited) → n ≡ 0 → st.draft.visited ≡ with_word k.visited at.word at.stripe visited
 marked_all at k v0 v sight inside n visited st empty = same_field st.draft.visited (with_word k.visited at.word at.stripe visited) (λ x y.
     st.marks.marked x y ∙ ap (λ b. k.visited x y || (is_in_word at.word at.stripe x y && b)) (late (own_bit x y) (bit_within x y)))
   where
@@ -432,13 +432,13 @@ marked_all at k v0 v sight inside n visited st empty = same_field st.draft.visit
       | inr more ↦ off m (on visited m) (st.marks.ahead m l more ∙ ap (λ w. on w m) empty ∙ on_zero m)
     ]
 
-pub member_fault : (at : Spot) (d : Draft) (v : View) (z : ℕ) (e : Fault) → IsPlace d.shape at z → (not (lit_in d (column at.word z) (row at.stripe z)) && touched_in d.shape (lit_in d) (column at.word z) (row at.stripe z)) ≡ true
+pub member_fault : (at : WordPlace) (d : Draft) (v : DecoderView) (z : ℕ) (e : Fault) → IsBitPlace d.shape at z → (not (significant_in d (column at.word z) (row at.stripe z)) && touched_in d.shape (significant_in d) (column at.word z) (row at.stripe z)) ≡ true
     → ((coder : State) → Stands v coder → read_new v.bytes d.shape at.plane (column at.word z) (row at.stripe z) (progress (visited_in (column at.word z) (row at.stripe z) d) coder) ≡ Err e)
     → (coder : State) → Stands v coder → place_at v.bytes d.shape at.plane 0 (column at.word z) (row at.stripe z) (progress d coder) ≡ Err e
 member_fault at d v z e place due takes coder st = member_due v.bytes d.shape at.plane (column at.word z) (row at.stripe z) (progress d coder) place.inside due ∙ takes coder st
 
 -- behind the word, with its coded places marked
-pub held_behind : (at : Spot) (k d : Draft) (sight : Sight) (visited : Field Bool) → Held at k sight d → Held at (record k { visited = visited }) sight d
+pub held_behind : (at : WordPlace) (k d : Draft) (sight : Sight) (visited : Field Bool) → Held at k sight d → Held at (record k { visited = visited }) sight d
 held_behind at k d sight visited h = record {
   shape = h.shape;
   sees = h.sees;
@@ -446,9 +446,9 @@ held_behind at k d sight visited h = record {
 }
 
 -- the draft behind the word
-pub draft_behind : (at : Spot) (k : Draft) (v0 v : View) (sight : Sight) (inside n visited : ℕ) (st : Spreading at k v0 v sight inside n visited) → n ≡ 0 → (marked lit : Draft) → marked ≡ record k { visited = with_word k.visited at.word at.stripe visited }
-    → lit ≡ record st.draft { visited = marked.visited } → lit ≡ st.draft
-draft_behind at k v0 v sight inside n visited st empty marked lit e g =
+pub draft_behind : (at : WordPlace) (k : Draft) (v0 v : DecoderView) (sight : Sight) (inside n visited : ℕ) (st : Spreading at k v0 v sight inside n visited) → n ≡ 0 → (marked known_significant : Draft) → marked ≡ record k { visited = with_word k.visited at.word at.stripe visited }
+    → known_significant ≡ record st.draft { visited = marked.visited } → known_significant ≡ st.draft
+draft_behind at k v0 v sight inside n visited st empty marked known_significant e g =
     g ∙ ap (λ (f : Field Bool). with_visited st.draft f) (ap (λ (d : Draft). d.visited) e ∙ sym (marked_all at k v0 v sight inside n visited st empty))
   where
     with_visited : Draft → Field Bool → Draft

@@ -7,15 +7,15 @@ use Rattle.jk_math.specs.Answer.{◌>>=◌}
 use Rattle.jk_math.specs.Steps.{done}
 use Rattle.jk_model.specs.Decisions.{State}
 use Rattle.jk_mqdec.specs.Answers.{answer, next}
-use Rattle.jk_mqdec.specs.Standing.{View, Stands}
+use Rattle.jk_mqdec.specs.Standing.{DecoderView, Stands}
 use Rattle.jk_scan.specs.declared.shape.BlockShape.{BlockShape}
 use Rattle.jk_scan.specs.declared.contexts.SignContext.{SignContext}
 use Rattle.jk_scan.specs.Contexts.{refine_context_of, run_length, uniform}
 use Rattle.jk_scan.specs.Neighbours.{touched_in, zero_in, sign_in}
 use Rattle.jk_scan.specs.Passes.{flipped}
-use Rattle.jk_block.specs.Reading.{Progress, lit, times, decide, with_coder, coded_as, place_at, read_sign, read_new, read_refined, rows_at, row_named, read_from, read_run, pass_at, blank}
-use Rattle.jk_block.specs.decoding.Sketches.{Draft, progress, lit_in, coded_in, Advanced, TakesTo, Takes}
-use Rattle.jk_block.specs.declared.spot.Spot.{Spot}
+use Rattle.jk_block.specs.Reading.{Progress, known_significant, times, decide, with_coder, coded_as, place_at, read_sign, read_new, read_refined, rows_at, row_named, read_from, read_run, pass_at, blank}
+use Rattle.jk_block.specs.decoding.BlockStates.{Draft, progress, significant_in, coded_in, Advanced, TakesTo, TakesStep}
+use Rattle.jk_block.specs.declared.word_place.WordPlace.{WordPlace}
 use Rattle.jk_block.proofs.decoding.WordSteps.{next_due}
 
 fault : Fault → Result (Bool × State) Fault
@@ -39,40 +39,40 @@ unfolding decide bit_err
 decide_err bytes cx s e h = ap (λ (r : Result Bool Fault). r >>= λ bit. done (bit, next bytes s cx)) (sym h)
 
 -- the steps of a place, where the decoder gave a bit or a fault
-pub sign_takes : (bytes : List ℕ) (s : BlockShape) (b x y : ℕ) (z : Progress) (c : SignContext) (bit : Bool) (n : State) → c ≡ sign_in s (lit s z) z.negative x y → decide bytes c.context z.coder ≡ Ok (bit, n)
+pub sign_takes : (bytes : List ℕ) (s : BlockShape) (b x y : ℕ) (z : Progress) (c : SignContext) (bit : Bool) (n : State) → c ≡ sign_in s (known_significant s z) z.negative x y → decide bytes c.context z.coder ≡ Ok (bit, n)
     → read_sign bytes s b x y z ≡ Ok (with_coder (coded_as b x y true (flipped c.flip bit) z) n)
 unfolding read_sign
 sign_takes bytes s b x y z c bit n e d =
     ap (λ (c : SignContext). decide bytes c.context z.coder >>= λ d. done (with_coder (coded_as b x y true (flipped c.flip d.0) z) d.1)) (sym e)
     ∙ ap (λ (r : Result (Bool × State) Fault). r >>= λ d. done (with_coder (coded_as b x y true (flipped c.flip d.0) z) d.1)) d
 
-pub sign_faults : (bytes : List ℕ) (s : BlockShape) (b x y : ℕ) (z : Progress) (c : SignContext) (f : Fault) → c ≡ sign_in s (lit s z) z.negative x y → decide bytes c.context z.coder ≡ Err f → read_sign bytes s b x y z ≡ Err f
+pub sign_faults : (bytes : List ℕ) (s : BlockShape) (b x y : ℕ) (z : Progress) (c : SignContext) (f : Fault) → c ≡ sign_in s (known_significant s z) z.negative x y → decide bytes c.context z.coder ≡ Err f → read_sign bytes s b x y z ≡ Err f
 unfolding read_sign
 sign_faults bytes s b x y z c f e d =
     ap (λ (c : SignContext). decide bytes c.context z.coder >>= λ d. done (with_coder (coded_as b x y true (flipped c.flip d.0) z) d.1)) (sym e)
     ∙ ap (λ (r : Result (Bool × State) Fault). r >>= λ d. done (with_coder (coded_as b x y true (flipped c.flip d.0) z) d.1)) d
 
-pub new_takes : (bytes : List ℕ) (s : BlockShape) (b x y : ℕ) (z : Progress) (cx : ℕ) (bit : Bool) (n : State) (r : Result Progress Fault) → cx ≡ zero_in s (lit s z) x y → decide bytes cx z.coder ≡ Ok (bit, n)
+pub new_takes : (bytes : List ℕ) (s : BlockShape) (b x y : ℕ) (z : Progress) (cx : ℕ) (bit : Bool) (n : State) (r : Result Progress Fault) → cx ≡ zero_in s (known_significant s z) x y → decide bytes cx z.coder ≡ Ok (bit, n)
     → cond bit (read_sign bytes s b x y (with_coder z n)) (Ok (with_coder z n)) ≡ r → read_new bytes s b x y z ≡ r
 unfolding read_new
 new_takes bytes s b x y z cx bit n r e d h =
     ap (λ (c : ℕ). decide bytes c z.coder >>= λ d. cond d.0 (read_sign bytes s b x y (with_coder z d.1)) (done (with_coder z d.1))) (sym e)
     ∙ ap (λ (r : Result (Bool × State) Fault). r >>= λ d. cond d.0 (read_sign bytes s b x y (with_coder z d.1)) (done (with_coder z d.1))) d ∙ h
 
-pub new_faults : (bytes : List ℕ) (s : BlockShape) (b x y : ℕ) (z : Progress) (cx : ℕ) (f : Fault) → cx ≡ zero_in s (lit s z) x y → decide bytes cx z.coder ≡ Err f → read_new bytes s b x y z ≡ Err f
+pub new_faults : (bytes : List ℕ) (s : BlockShape) (b x y : ℕ) (z : Progress) (cx : ℕ) (f : Fault) → cx ≡ zero_in s (known_significant s z) x y → decide bytes cx z.coder ≡ Err f → read_new bytes s b x y z ≡ Err f
 unfolding read_new
 new_faults bytes s b x y z cx f e d =
     ap (λ (c : ℕ). decide bytes c z.coder >>= λ d. cond d.0 (read_sign bytes s b x y (with_coder z d.1)) (done (with_coder z d.1))) (sym e)
     ∙ ap (λ (r : Result (Bool × State) Fault). r >>= λ d. cond d.0 (read_sign bytes s b x y (with_coder z d.1)) (done (with_coder z d.1))) d
 
-pub next_takes : (bytes : List ℕ) (s : BlockShape) (b x y : ℕ) (z : Progress) (cx : ℕ) (bit : Bool) (n : State) → cx ≡ refine_context_of (nat_le 4 (z.magnitude x y / 2 ^ b)) (touched_in s (lit s z) x y) → decide bytes cx z.coder ≡ Ok (bit, n)
+pub next_takes : (bytes : List ℕ) (s : BlockShape) (b x y : ℕ) (z : Progress) (cx : ℕ) (bit : Bool) (n : State) → cx ≡ refine_context_of (nat_le 4 (z.magnitude x y / 2 ^ b)) (touched_in s (known_significant s z) x y) → decide bytes cx z.coder ≡ Ok (bit, n)
     → read_refined bytes s b x y z ≡ Ok (with_coder (coded_as b x y bit (z.negative x y) z) n)
 unfolding read_refined
 next_takes bytes s b x y z cx bit n e d =
     ap (λ (c : ℕ). decide bytes c z.coder >>= λ d. done (with_coder (coded_as b x y d.0 (z.negative x y) z) d.1)) (sym e)
     ∙ ap (λ (r : Result (Bool × State) Fault). r >>= λ d. done (with_coder (coded_as b x y d.0 (z.negative x y) z) d.1)) d
 
-pub next_faults : (bytes : List ℕ) (s : BlockShape) (b x y : ℕ) (z : Progress) (cx : ℕ) (f : Fault) → cx ≡ refine_context_of (nat_le 4 (z.magnitude x y / 2 ^ b)) (touched_in s (lit s z) x y) → decide bytes cx z.coder ≡ Err f
+pub next_faults : (bytes : List ℕ) (s : BlockShape) (b x y : ℕ) (z : Progress) (cx : ℕ) (f : Fault) → cx ≡ refine_context_of (nat_le 4 (z.magnitude x y / 2 ^ b)) (touched_in s (known_significant s z) x y) → decide bytes cx z.coder ≡ Err f
     → read_refined bytes s b x y z ≡ Err f
 unfolding read_refined
 next_faults bytes s b x y z cx f e d =
@@ -80,19 +80,19 @@ next_faults bytes s b x y z cx f e d =
     ∙ ap (λ (r : Result (Bool × State) Fault). r >>= λ d. done (with_coder (coded_as b x y d.0 (z.negative x y) z) d.1)) d
 
 -- a step that does what another does
-pub takes_through : {A : Type 0} (step other : Progress → Result Progress Fault) (k k' new : Draft) (v v' : View) (r : Result A Fault) → ((coder : State) → step (progress k coder) ≡ other (progress k' coder)) → Takes other k' new v v' r → Takes step k new v v' r
+pub takes_through : {A : Type 0} (step other : Progress → Result Progress Fault) (k k' new : Draft) (v v' : DecoderView) (r : Result A Fault) → ((coder : State) → step (progress k coder) ≡ other (progress k' coder)) → TakesStep other k' new v v' r → TakesStep step k new v v' r
 takes_through step other k k' new v v' (Ok u) same t = λ coder st. let a = t coder st in record { next = a.next; stands = a.stands; is = same coder ∙ a.is }
 takes_through step other k k' new v v' (Err e) same t = λ coder st. same coder ∙ t coder st
 
 -- the same where the decoder begins anew
-pub takes_begun : {A : Type 0} (step other : Progress → Result Progress Fault) (start : State → State) (k k' new : Draft) (v w v' : View) (r : Result A Fault) → ((coder : State) → Stands v coder → Stands w (start coder))
-    → ((coder : State) → step (progress k coder) ≡ other (progress k' (start coder))) → Takes other k' new w v' r → Takes step k new v v' r
+pub takes_begun : {A : Type 0} (step other : Progress → Result Progress Fault) (start : State → State) (k k' new : Draft) (v w v' : DecoderView) (r : Result A Fault) → ((coder : State) → Stands v coder → Stands w (start coder))
+    → ((coder : State) → step (progress k coder) ≡ other (progress k' (start coder))) → TakesStep other k' new w v' r → TakesStep step k new v v' r
 takes_begun step other start k k' new v w v' (Ok u) stands same t = λ coder st. let a = t (start coder) (stands coder st) in record { next = a.next; stands = a.stands; is = same coder ∙ a.is }
 takes_begun step other start k k' new v w v' (Err e) stands same t = λ coder st. same coder ∙ t (start coder) (stands coder st)
 
 -- a step, and another one that keeps the draft
-pub takes_then : {A : Type 0} (step other : Progress → Result Progress Fault) (k k' : Draft) (v w v' : View) (r : Result A Fault) → ((coder : State) → Stands v coder → Advanced step k k' w coder) → Takes other k' k' w v' r
-    → Takes (λ z. step z >>= other) k k' v v' r
+pub takes_then : {A : Type 0} (step other : Progress → Result Progress Fault) (k k' : Draft) (v w v' : DecoderView) (r : Result A Fault) → ((coder : State) → Stands v coder → Advanced step k k' w coder) → TakesStep other k' k' w v' r
+    → TakesStep (λ z. step z >>= other) k k' v v' r
 takes_then step other k k' v w v' (Ok u) first t = λ coder st.
     let a = first coder st in
     let b = t a.next a.stands in
@@ -102,11 +102,11 @@ takes_then step other k k' v w v' (Err e) first t = λ coder st.
     ap (λ (r : Result Progress Fault). r >>= other) a.is ∙ t a.next a.stands
 
 -- steps one after another
-pub advanced_none : (f : ℕ → Progress → Result Progress Fault) (k : Draft) (v : View) (coder : State) → Stands v coder → Advanced (times 0 f) k k v coder
+pub advanced_none : (f : ℕ → Progress → Result Progress Fault) (k : Draft) (v : DecoderView) (coder : State) → Stands v coder → Advanced (times 0 f) k k v coder
 unfolding times
 advanced_none f k v coder st = record { next = coder; stands = st; is = refl }
 
-pub advanced_more : (f : ℕ → Progress → Result Progress Fault) (n : ℕ) (k k' k'' : Draft) (v' v'' : View) (coder : State) → (a : Advanced (times n f) k k' v' coder) → Advanced (f n) k' k'' v'' a.next → Advanced (times (n + 1) f) k k'' v'' coder
+pub advanced_more : (f : ℕ → Progress → Result Progress Fault) (n : ℕ) (k k' k'' : Draft) (v' v'' : DecoderView) (coder : State) → (a : Advanced (times n f) k k' v' coder) → Advanced (f n) k' k'' v'' a.next → Advanced (times (n + 1) f) k k'' v'' coder
 unfolding times
 advanced_more f n k k' k'' v' v'' coder a b = record {
   next = b.next;
@@ -125,15 +125,15 @@ times_fault f n (suc m) z w e h a b = elim (cases_lt n m) [
 ]
 
 -- A loop that takes steps: what it has taken so far.
-pub record Taken (steps : List ℕ → BlockShape → ℕ → Progress → Result Progress Fault) (n : ℕ) (k k' : Draft) (v v' : View) : Type 0 where
+pub record Taken (steps : List ℕ → BlockShape → ℕ → Progress → Result Progress Fault) (n : ℕ) (k k' : Draft) (v v' : DecoderView) : Type 0 where
   pub shape : k'.shape ≡ k.shape
   pub bytes : v'.bytes ≡ v.bytes
   pub advanced : (coder : State) → Stands v coder → Advanced (times n (steps v.bytes k.shape)) k k' v' coder
 
-pub taken_none : (steps : List ℕ → BlockShape → ℕ → Progress → Result Progress Fault) (k : Draft) (v : View) → Taken steps 0 k k v v
+pub taken_none : (steps : List ℕ → BlockShape → ℕ → Progress → Result Progress Fault) (k : Draft) (v : DecoderView) → Taken steps 0 k k v v
 taken_none steps k v = record { shape = refl; bytes = refl; advanced = λ coder st. advanced_none (steps v.bytes k.shape) k v coder st }
 
-pub taken_more : (steps : List ℕ → BlockShape → ℕ → Progress → Result Progress Fault) (n : ℕ) (k k' k'' : Draft) (v v' v'' : View) → Taken steps n k k' v v' → k''.shape ≡ k'.shape → v''.bytes ≡ v'.bytes
+pub taken_more : (steps : List ℕ → BlockShape → ℕ → Progress → Result Progress Fault) (n : ℕ) (k k' k'' : Draft) (v v' v'' : DecoderView) → Taken steps n k k' v v' → k''.shape ≡ k'.shape → v''.bytes ≡ v'.bytes
     → ((coder : State) → Stands v' coder → Advanced (steps v'.bytes k'.shape n) k' k'' v'' coder) → Taken steps (n + 1) k k'' v v''
 taken_more steps n k k' k'' v v' v'' t shape bytes step = record {
   shape = shape ∙ t.shape;
@@ -144,7 +144,7 @@ taken_more steps n k k' k'' v v' v'' t shape bytes step = record {
       (subst (λ (s : BlockShape). Advanced (steps v.bytes s n) k' k'' v'' a.next) t.shape (subst (λ (bs : List ℕ). Advanced (steps bs k'.shape n) k' k'' v'' a.next) t.bytes (step a.next a.stands)));
 }
 
-pub taken_fault : (steps : List ℕ → BlockShape → ℕ → Progress → Result Progress Fault) (n m : ℕ) (k k' : Draft) (v v' : View) (e : Fault) → n < m → Taken steps n k k' v v'
+pub taken_fault : (steps : List ℕ → BlockShape → ℕ → Progress → Result Progress Fault) (n m : ℕ) (k k' : Draft) (v v' : DecoderView) (e : Fault) → n < m → Taken steps n k k' v v'
     → ((coder : State) → Stands v' coder → steps v'.bytes k'.shape n (progress k' coder) ≡ Err e) → (coder : State) → Stands v coder → times m (steps v.bytes k.shape) (progress k coder) ≡ Err e
 taken_fault steps n m k k' v v' e l t step coder st =
     let a = t.advanced coder st in
@@ -202,7 +202,7 @@ pub run_goes : (bytes : List ℕ) (s : BlockShape) (b x i : ℕ) (z : Progress) 
     → read_run bytes s b x i z ≡ read_from bytes s b x i (row_named high low) (with_coder z o)
 run_goes bytes s b x i z bit high low n m o e h g k = run_third bytes s b x i z bit high n m (done (low, o)) e h g k
 
-pub advanced_at : (f : ℕ → Progress → Result Progress Fault) (n m : ℕ) (k k' : Draft) (v' : View) (coder : State) → n ≡ m → Advanced (times n f) k k' v' coder → Advanced (times m f) k k' v' coder
+pub advanced_at : (f : ℕ → Progress → Result Progress Fault) (n m : ℕ) (k k' : Draft) (v' : DecoderView) (coder : State) → n ≡ m → Advanced (times n f) k k' v' coder → Advanced (times m f) k k' v' coder
 advanced_at f n m k k' v' coder e a = subst (λ (n : ℕ). Advanced (times n f) k k' v' coder) e a
 
 -- passes over the block from its start
@@ -217,13 +217,13 @@ unfolding times
 no_rows bytes s b x i j z = refl
 
 -- a place that was significant before this plane
-pub refined_takes : (at : Spot) (d : Draft) (x y : ℕ) (bytes : List ℕ) (cx : ℕ) (v v' : View) (r : Result Bool Fault) → lit_in d x y ≡ true → d.visited x y ≡ false
-    → cx ≡ refine_context_of (nat_le 4 (d.magnitude x y / 2 ^ at.plane)) (touched_in d.shape (lit_in d) x y) → ((s : State) → Stands v s → r ≡ answer bytes s cx) → OnOk r ((s : State) → Stands v s → Stands v' (next bytes s cx))
+pub refined_takes : (at : WordPlace) (d : Draft) (x y : ℕ) (bytes : List ℕ) (cx : ℕ) (v v' : DecoderView) (r : Result Bool Fault) → significant_in d x y ≡ true → d.visited x y ≡ false
+    → cx ≡ refine_context_of (nat_le 4 (d.magnitude x y / 2 ^ at.plane)) (touched_in d.shape (significant_in d) x y) → ((s : State) → Stands v s → r ≡ answer bytes s cx) → OnOk r ((s : State) → Stands v s → Stands v' (next bytes s cx))
     → TakesTo (place_at bytes d.shape at.plane 1 x y) d (λ bit. coded_in at.plane x y bit (d.negative x y) d) v v' r
-refined_takes at d x y bytes cx v v' (Ok bit) lit uncoded is answers goes = λ coder st. record {
+refined_takes at d x y bytes cx v v' (Ok bit) known_significant uncoded is answers goes = λ coder st. record {
   next = next bytes coder cx;
   stands = goes coder st;
-  is = next_due bytes d.shape at.plane x y (progress d coder) lit uncoded ∙ next_takes bytes d.shape at.plane x y (progress d coder) cx bit (next bytes coder cx) is (decide_ok bytes cx coder bit (answers coder st));
+  is = next_due bytes d.shape at.plane x y (progress d coder) known_significant uncoded ∙ next_takes bytes d.shape at.plane x y (progress d coder) cx bit (next bytes coder cx) is (decide_ok bytes cx coder bit (answers coder st));
 }
-refined_takes at d x y bytes cx v v' (Err e) lit uncoded is answers goes = λ coder st.
-    next_due bytes d.shape at.plane x y (progress d coder) lit uncoded ∙ next_faults bytes d.shape at.plane x y (progress d coder) cx e is (decide_err bytes cx coder e (answers coder st))
+refined_takes at d x y bytes cx v v' (Err e) known_significant uncoded is answers goes = λ coder st.
+    next_due bytes d.shape at.plane x y (progress d coder) known_significant uncoded ∙ next_faults bytes d.shape at.plane x y (progress d coder) cx e is (decide_err bytes cx coder e (answers coder st))

@@ -14,12 +14,12 @@ use Rattle.jk_scan.specs.Words.{Truths, of_rows, of_gathered, Shows, bordered}
 use Rattle.jk_scan.specs.WordPlaces.{column, row}
 use Rattle.jk_scan.specs.Flags.{IsDrawn, across, word_at, flag_at}
 use Rattle.jk_scan.proofs.Laws.{same_field, on_or, on_and, on_not, seen_own, row_stripe}
-use Rattle.jk_block.specs.declared.spot.Spot.{Spot}
+use Rattle.jk_block.specs.declared.word_place.WordPlace.{WordPlace}
 use Rattle.jk_block.specs.declared.decoding.sight.Sight.{Sight}
-use Rattle.jk_block.specs.declared.decoding.sketch.Sketch.{Sketch}
-use Rattle.jk_block.specs.Fields.{lit_of, flagged, is_in_word, own_bit, with_word, words_of, plane_bit, number_from, magnitude_of}
+use Rattle.jk_block.specs.declared.decoding.block_state.BlockState.{BlockState}
+use Rattle.jk_block.specs.Fields.{significant_of, flagged, is_in_word, own_bit, with_word, words_of, plane_bit, number_from, magnitude_of}
 use Rattle.jk_block.specs.Meaning.{above}
-use Rattle.jk_block.specs.decoding.Sketches.{Draft, draft_of, lit_in}
+use Rattle.jk_block.specs.decoding.BlockStates.{Draft, draft_of, significant_in}
 use Rattle.jk_block.specs.decoding.Sights.{Held, IsRefined, refined_in}
 use Rattle.jk_block.proofs.Drawing.{stays_large}
 use Rattle.jk_block.proofs.WordBits.{place_shifted, bordered_at, drawn_bit, limit_bit}
@@ -92,49 +92,49 @@ equal_self a = grind (arith, nat_tests)
 -- ---- places that have become significant
 
 -- What is known where words are put back.
-pub record Puts (at : Spot) {size : ℕ} (w : Sketch size) (p q : ℕ) : Type 0 where
+pub record Puts (at : WordPlace) {size : ℕ} (w : BlockState size) (p q : ℕ) : Type 0 where
   pub word : at.word < across w.shape
   pub stripe : at.stripe < stripes w.shape
   pub plane : at.plane < w.planes
   pub place : p ≡ word_at w.shape (at.word + 1) (at.stripe + 1)
   pub plane_place : q ≡ at.plane * words_of w.shape + p
 
-abbrev pub lit_word : (sight : Sight) (limits : ℕ) → ℕ
-lit_word sight limits = bit_and sight.significant.centre limits
+abbrev pub significant_word : (sight : Sight) (limits : ℕ) → ℕ
+significant_word sight limits = bit_and sight.significant.centre limits
 
-abbrev pub new_word : {size : ℕ} (w : Sketch size) (sight : Sight) (limits p : ℕ) → ℕ
-new_word w sight limits p = bit_and (lit_word sight limits) (bit_not w64 (get_or w.significant p 0))
+abbrev pub new_word : {size : ℕ} (w : BlockState size) (sight : Sight) (limits p : ℕ) → ℕ
+new_word w sight limits p = bit_and (significant_word sight limits) (bit_not w64 (get_or w.significant p 0))
 
-abbrev pub lit_bits : {size : ℕ} (w : Sketch size) (sight : Sight) (limits p q : ℕ) → List ℕ
-lit_bits w sight limits p q = set w.bits.items q (bit_or (get_or w.bits.items q 0) (new_word w sight limits p))
+abbrev pub significant_bits : {size : ℕ} (w : BlockState size) (sight : Sight) (limits p q : ℕ) → List ℕ
+significant_bits w sight limits p q = set w.bits.items q (bit_or (get_or w.bits.items q 0) (new_word w sight limits p))
 
-plane_index : (at : Spot) {size : ℕ} (w : Sketch size) (p q : ℕ) → Puts at w p q → q ≡ at.plane * words_of w.shape + word_at w.shape (at.word + 1) (at.stripe + 1)
+plane_index : (at : WordPlace) {size : ℕ} (w : BlockState size) (p q : ℕ) → Puts at w p q → q ≡ at.plane * words_of w.shape + word_at w.shape (at.word + 1) (at.stripe + 1)
 plane_index at w p q a = a.plane_place ∙ ap (λ p. at.plane * words_of w.shape + p) a.place
 
-pub plane_room : (at : Spot) {size : ℕ} (w : Sketch size) (p q : ℕ) → Puts at w p q → q < length w.bits.items
+pub plane_room : (at : WordPlace) {size : ℕ} (w : BlockState size) (p q : ℕ) → Puts at w p q → q < length w.bits.items
 plane_room at w p q a = let i = index_of w.shape w.planes at.plane (at.word + 1) (at.stripe + 1) a.plane (let h = a.word in omega (arith, h)) (let h = a.stripe in omega (arith, h)) in let e = plane_index at w p q a in let r = w.room in omega (arith, i, e, r)
 
 absorbed : (a b : Bool) → (a && (a && b)) ≡ (a && b)
 absorbed true b = refl
 absorbed false b = refl
 
-module_lit : (at : Spot) {size : ℕ} (w : Sketch size) (d : Draft) → d.shape ≡ w.shape → (x y : ℕ) → lit_in d x y ≡ lit_of w.shape d.magnitude x y
-module_lit at w d e x y = ap (λ (s : BlockShape). lit_of s d.magnitude x y) e
+module_lit : (at : WordPlace) {size : ℕ} (w : BlockState size) (d : Draft) → d.shape ≡ w.shape → (x y : ℕ) → significant_in d x y ≡ significant_of w.shape d.magnitude x y
+module_lit at w d e x y = ap (λ (s : BlockShape). significant_of s d.magnitude x y) e
 
 -- which places of the word are new
-new_bit : (at : Spot) {size : ℕ} (w : Sketch size) (sight : Sight) (d : Draft) (limits p q x y : ℕ) → Puts at w p q → Shows of_rows (bordered (is_inside w.shape)) (at.word + 1) (at.stripe + 1) limits → Held at (draft_of w) sight d → get_or w.significant p 0 < 2 ^ 64
-    → is_in_word at.word at.stripe x y ≡ true → on (new_word w sight limits p) (own_bit x y) ≡ (lit_of w.shape d.magnitude x y && not (lit_in (draft_of w) x y))
+new_bit : (at : WordPlace) {size : ℕ} (w : BlockState size) (sight : Sight) (d : Draft) (limits p q x y : ℕ) → Puts at w p q → Shows of_rows (bordered (is_inside w.shape)) (at.word + 1) (at.stripe + 1) limits → Held at (draft_of w) sight d → get_or w.significant p 0 < 2 ^ 64
+    → is_in_word at.word at.stripe x y ≡ true → on (new_word w sight limits p) (own_bit x y) ≡ (significant_of w.shape d.magnitude x y && not (significant_in (draft_of w) x y))
 new_bit at w sight d limits p q x y a lim h room word =
-    on_and (lit_word sight limits) (bit_not w64 (get_or w.significant p 0)) (own_bit x y)
+    on_and (significant_word sight limits) (bit_not w64 (get_or w.significant p 0)) (own_bit x y)
     ∙ ap (λ b. b && on (bit_not w64 (get_or w.significant p 0)) (own_bit x y))
-    (own_place w.shape d.shape (lit_in d) at.word at.stripe sight.significant.centre limits x y h.sees.significant.centre lim word ∙ ap (λ b. is_inside w.shape x y && b) (module_lit at w d h.shape x y) ∙ absorbed (is_inside w.shape x y) (nat_lt 0 (d.magnitude x y)))
-    ∙ ap (λ b. lit_of w.shape d.magnitude x y && b) (on_not w64 (get_or w.significant p 0) (own_bit x y) room (bit_within x y) ∙ ap (λ p. not (on (get_or w.significant p 0) (own_bit x y))) a.place
-    ∙ ap not (drawn_place w.shape (lit_in (draft_of w)) w.significant at.word at.stripe x y w.lit a.word a.stripe word))
+    (own_place w.shape d.shape (significant_in d) at.word at.stripe sight.significant.centre limits x y h.sees.significant.centre lim word ∙ ap (λ b. is_inside w.shape x y && b) (module_lit at w d h.shape x y) ∙ absorbed (is_inside w.shape x y) (nat_lt 0 (d.magnitude x y)))
+    ∙ ap (λ b. significant_of w.shape d.magnitude x y && b) (on_not w64 (get_or w.significant p 0) (own_bit x y) room (bit_within x y) ∙ ap (λ p. not (on (get_or w.significant p 0) (own_bit x y))) a.place
+    ∙ ap not (drawn_place w.shape (significant_in (draft_of w)) w.significant at.word at.stripe x y w.known_significant a.word a.stripe word))
 
 -- which bits a plane has behind it
-lit_bit : (at : Spot) {size : ℕ} (w : Sketch size) (sight : Sight) (limits p q c x y : ℕ) → Puts at w p q → is_inside w.shape x y ≡ true
-    → plane_bit w.shape (lit_bits w sight limits p q) c x y ≡ (plane_bit w.shape w.bits.items c x y || ((nat_eq c at.plane && is_in_word at.word at.stripe x y) && on (new_word w sight limits p) (own_bit x y)))
-lit_bit at w sight limits p q c x y a inside =
+significant_bit : (at : WordPlace) {size : ℕ} (w : BlockState size) (sight : Sight) (limits p q c x y : ℕ) → Puts at w p q → is_inside w.shape x y ≡ true
+    → plane_bit w.shape (significant_bits w sight limits p q) c x y ≡ (plane_bit w.shape w.bits.items c x y || ((nat_eq c at.plane && is_in_word at.word at.stripe x y) && on (new_word w sight limits p) (own_bit x y)))
+significant_bit at w sight limits p q c x y a inside =
     let new = new_word w sight limits p in
     let bits = w.bits.items in
     plane_word w.shape bits w.planes at.plane at.word at.stripe q (bit_or (get_or bits q 0) new) c x y w.room a.plane a.word a.stripe (plane_index at w p q a) inside
@@ -151,21 +151,21 @@ lit_bit at w sight limits p q c x y a inside =
     or_false true = refl
     or_false false = refl
 
-pub lit_magnitude : (at : Spot) {size : ℕ} (w : Sketch size) (sight : Sight) (d : Draft) (limits p q : ℕ) → Puts at w p q → Shows of_rows (bordered (is_inside w.shape)) (at.word + 1) (at.stripe + 1) limits → Held at (draft_of w) sight d → get_or w.significant p 0 < 2 ^ 64
-    → magnitude_of w.shape w.planes (lit_bits w sight limits p q) ≡ d.magnitude
-lit_magnitude at w sight d limits p q a lim h room = same_field (magnitude_of w.shape w.planes (lit_bits w sight limits p q)) d.magnitude (λ x y. same_or (is_inside w.shape x y) (inside x y) (outside x y))
+pub significant_magnitude : (at : WordPlace) {size : ℕ} (w : BlockState size) (sight : Sight) (d : Draft) (limits p q : ℕ) → Puts at w p q → Shows of_rows (bordered (is_inside w.shape)) (at.word + 1) (at.stripe + 1) limits → Held at (draft_of w) sight d → get_or w.significant p 0 < 2 ^ 64
+    → magnitude_of w.shape w.planes (significant_bits w sight limits p q) ≡ d.magnitude
+significant_magnitude at w sight d limits p q a lim h room = same_field (magnitude_of w.shape w.planes (significant_bits w sight limits p q)) d.magnitude (λ x y. same_or (is_inside w.shape x y) (inside x y) (outside x y))
   where
-    outside : (x y : ℕ) → is_inside w.shape x y ≡ false → magnitude_of w.shape w.planes (lit_bits w sight limits p q) x y ≡ d.magnitude x y
+    outside : (x y : ℕ) → is_inside w.shape x y ≡ false → magnitude_of w.shape w.planes (significant_bits w sight limits p q) x y ≡ d.magnitude x y
     outside x y e = elim (h.changed x y) [
       | inl same ↦
-          ap (λ b. cond b (number_from (λ b. plane_bit w.shape (lit_bits w sight limits p q) b x y) 0 w.planes) 0) e
+          ap (λ b. cond b (number_from (λ b. plane_bit w.shape (significant_bits w sight limits p q) b x y) 0 w.planes) 0) e
           ∙ sym (same.magnitude ∙ ap (λ b. cond b (number_from (λ b. plane_bit w.shape w.bits.items b x y) 0 w.planes) 0) e)
       | inr new ↦ absurd (let i : is_inside w.shape x y ≡ true = ap (λ (s : BlockShape). is_inside s x y) (sym h.shape) ∙ new.inside in let c : true ≡ false = sym i ∙ e in cc)
     ]
 
     as_before : (x y c : ℕ) → is_inside w.shape x y ≡ true → ((nat_eq c at.plane && is_in_word at.word at.stripe x y) && on (new_word w sight limits p) (own_bit x y)) ≡ false
-        → plane_bit w.shape (lit_bits w sight limits p q) c x y ≡ plane_bit w.shape w.bits.items c x y
-    as_before x y c i off = lit_bit at w sight limits p q c x y a i ∙ ap (λ t. plane_bit w.shape w.bits.items c x y || t) off ∙ or_false (plane_bit w.shape w.bits.items c x y)
+        → plane_bit w.shape (significant_bits w sight limits p q) c x y ≡ plane_bit w.shape w.bits.items c x y
+    as_before x y c i off = significant_bit at w sight limits p q c x y a i ∙ ap (λ t. plane_bit w.shape w.bits.items c x y || t) off ∙ or_false (plane_bit w.shape w.bits.items c x y)
       where
         or_false : (b : Bool) → (b || false) ≡ b
         or_false true = refl
@@ -186,8 +186,8 @@ lit_magnitude at w sight d limits p q a lim h room = same_field (magnitude_of w.
     dark_zero : (m : ℕ) → m ≡ 0 → nat_lt 0 m ≡ false
     dark_zero m e = grind (arith, nat_tests)
 
-    lit_pow : (b m : ℕ) → m ≡ 2 ^ b → nat_lt 0 m ≡ true
-    lit_pow b m e = let q = pow_pos b in let r : 0 < m = omega (arith, q, e) in pos m r
+    significant_pow : (b m : ℕ) → m ≡ 2 ^ b → nat_lt 0 m ≡ true
+    significant_pow b m e = let q = pow_pos b in let r : 0 < m = omega (arith, q, e) in pos m r
       where
         pos : (m : ℕ) → 0 < m → nat_lt 0 m ≡ true
         pos m r = grind (arith, nat_tests)
@@ -198,25 +198,25 @@ lit_magnitude at w sight d limits p q a lim h room = same_field (magnitude_of w.
         zero_div : (p : ℕ) → 0 / p ≡ 0
         zero_div p = omega arith
 
-    inside : (x y : ℕ) → is_inside w.shape x y ≡ true → magnitude_of w.shape w.planes (lit_bits w sight limits p q) x y ≡ d.magnitude x y
+    inside : (x y : ℕ) → is_inside w.shape x y ≡ true → magnitude_of w.shape w.planes (significant_bits w sight limits p q) x y ≡ d.magnitude x y
     inside x y i = elim (h.changed x y) [
       | inl same ↦
-          let lit_same : lit_of w.shape d.magnitude x y ≡ lit_in (draft_of w) x y = ap (λ m. is_inside w.shape x y && nat_lt 0 m) same.magnitude in
-          ap (λ b. cond b (number_from (λ b. plane_bit w.shape (lit_bits w sight limits p q) b x y) 0 w.planes) 0) i
-          ∙ number_same (λ b. plane_bit w.shape (lit_bits w sight limits p q) b x y) (λ b. plane_bit w.shape w.bits.items b x y) 0 w.planes
+          let significant_same : significant_of w.shape d.magnitude x y ≡ significant_in (draft_of w) x y = ap (λ m. is_inside w.shape x y && nat_lt 0 m) same.magnitude in
+          ap (λ b. cond b (number_from (λ b. plane_bit w.shape (significant_bits w sight limits p q) b x y) 0 w.planes) 0) i
+          ∙ number_same (λ b. plane_bit w.shape (significant_bits w sight limits p q) b x y) (λ b. plane_bit w.shape w.bits.items b x y) 0 w.planes
           (λ c l m. as_before x y c i (no_new (nat_eq c at.plane) (is_in_word at.word at.stripe x y) (on (new_word w sight limits p) (own_bit x y))
-          (λ word. new_bit at w sight d limits p q x y a lim h room word ∙ ap (λ b. b && not (lit_in (draft_of w) x y)) lit_same ∙ neither (lit_in (draft_of w) x y))))
+          (λ word. new_bit at w sight d limits p q x y a lim h room word ∙ ap (λ b. b && not (significant_in (draft_of w) x y)) significant_same ∙ neither (significant_in (draft_of w) x y))))
           ∙ sym (same.magnitude ∙ ap (λ b. cond b (number_from (λ b. plane_bit w.shape w.bits.items b x y) 0 w.planes) 0) i)
       | inr new ↦
           let f : ℕ → Bool = λ b. plane_bit w.shape w.bits.items b x y in
-          let g : ℕ → Bool = λ b. plane_bit w.shape (lit_bits w sight limits p q) b x y in
+          let g : ℕ → Bool = λ b. plane_bit w.shape (significant_bits w sight limits p q) b x y in
           let none : number_from f 0 w.planes ≡ 0 = ap (λ b. cond b (number_from f 0 w.planes) 0) (sym i) ∙ new.before in
           let bit_new : on (new_word w sight limits p) (own_bit x y) ≡ true =
           new_bit at w sight d limits p q x y a lim h room new.word
-          ∙ ap (λ b. (b && nat_lt 0 (d.magnitude x y)) && not (lit_in (draft_of w) x y)) i ∙ ap (λ b. b && not (lit_in (draft_of w) x y)) (lit_pow at.plane (d.magnitude x y) new.now)
+          ∙ ap (λ b. (b && nat_lt 0 (d.magnitude x y)) && not (significant_in (draft_of w) x y)) i ∙ ap (λ b. b && not (significant_in (draft_of w) x y)) (significant_pow at.plane (d.magnitude x y) new.now)
           ∙ ap (λ b. not (b && nat_lt 0 (cond (is_inside w.shape x y) (number_from f 0 w.planes) 0))) i ∙ ap not (dark_zero (cond (is_inside w.shape x y) (number_from f 0 w.planes) 0) new.before) in
           let here : g at.plane ≡ true =
-          lit_bit at w sight limits p q at.plane x y a i ∙ ap (λ t. f at.plane || ((t && is_in_word at.word at.stripe x y) && on (new_word w sight limits p) (own_bit x y))) (equal_self at.plane)
+          significant_bit at w sight limits p q at.plane x y a i ∙ ap (λ t. f at.plane || ((t && is_in_word at.word at.stripe x y) && on (new_word w sight limits p) (own_bit x y))) (equal_self at.plane)
           ∙ ap (λ t. f at.plane || (t && on (new_word w sight limits p) (own_bit x y))) new.word ∙ ap (λ t. f at.plane || t) bit_new ∙ or_true (f at.plane) in
           ap (λ b. cond b (number_from g 0 w.planes) 0) i
           ∙ number_put f g at.plane w.planes a.plane (λ c l other. as_before x y c i (other_plane (nat_eq c at.plane) (is_in_word at.word at.stripe x y) (on (new_word w sight limits p) (own_bit x y)) (equal_false c at.plane other)))
@@ -230,11 +230,11 @@ lit_magnitude at w sight d limits p q a lim h room = same_field (magnitude_of w.
         or_true false = refl
 
 -- the signs
-abbrev pub sign_words : {size : ℕ} (w : Sketch size) (sight : Sight) (limits p : ℕ) → List ℕ
+abbrev pub sign_words : {size : ℕ} (w : BlockState size) (sight : Sight) (limits p : ℕ) → List ℕ
 sign_words w sight limits p = set w.negative p (bit_and sight.negative.centre limits)
 
 -- nothing outside is negative
-sign_inside : (at : Spot) {size : ℕ} (w : Sketch size) (sight : Sight) (d : Draft) → Held at (draft_of w) sight d → (x y : ℕ) → (is_inside w.shape x y && d.negative x y) ≡ d.negative x y
+sign_inside : (at : WordPlace) {size : ℕ} (w : BlockState size) (sight : Sight) (d : Draft) → Held at (draft_of w) sight d → (x y : ℕ) → (is_inside w.shape x y && d.negative x y) ≡ d.negative x y
 sign_inside at w sight d h x y = same_or (is_inside w.shape x y)
     (λ i. ap (λ b. b && d.negative x y) i)
     (λ o. ap (λ b. b && d.negative x y) o ∙ elim (h.changed x y) [
@@ -242,9 +242,9 @@ sign_inside at w sight d h x y = same_or (is_inside w.shape x y)
       | inr new ↦ absurd (let i : is_inside w.shape x y ≡ true = ap (λ (s : BlockShape). is_inside s x y) (sym h.shape) ∙ new.inside in let c : true ≡ false = sym i ∙ o in cc)
     ])
 
-pub lit_signs : (at : Spot) {size : ℕ} (w : Sketch size) (sight : Sight) (d : Draft) (limits p q : ℕ) → Puts at w p q → words_of w.shape ≤ length w.negative → Shows of_rows (bordered (is_inside w.shape)) (at.word + 1) (at.stripe + 1) limits → Held at (draft_of w) sight d
+pub significant_signs : (at : WordPlace) {size : ℕ} (w : BlockState size) (sight : Sight) (d : Draft) (limits p q : ℕ) → Puts at w p q → words_of w.shape ≤ length w.negative → Shows of_rows (bordered (is_inside w.shape)) (at.word + 1) (at.stripe + 1) limits → Held at (draft_of w) sight d
     → flagged w.shape (sign_words w sight limits p) ≡ d.negative
-lit_signs at w sight d limits p q a len lim h = same_field (flagged w.shape (sign_words w sight limits p)) d.negative (λ x y. same_or (is_inside w.shape x y) (inside x y)
+significant_signs at w sight d limits p q a len lim h = same_field (flagged w.shape (sign_words w sight limits p)) d.negative (λ x y. same_or (is_inside w.shape x y) (inside x y)
     (λ o. ap (λ b. b && flag_at w.shape (sign_words w sight limits p) x y) o ∙ sym (sym (sign_inside at w sight d h x y) ∙ ap (λ b. b && d.negative x y) o)))
   where
     inside : (x y : ℕ) → is_inside w.shape x y ≡ true → flagged w.shape (sign_words w sight limits p) x y ≡ d.negative x y
@@ -264,31 +264,31 @@ apart_word : (j i x y : ℕ) → (x / 8 ≡ j → y / 4 ≡ i → ⊥) → is_in
 apart_word j i x y away word =
     let p = and_parts (nat_eq (x / 8) j) (nat_eq (y / 4) i) word in away (equal_true (x / 8) j p.0) (equal_true (y / 4) i p.1)
 
-pub signs_drawn : (at : Spot) {size : ℕ} (w : Sketch size) (sight : Sight) (d : Draft) (limits p q : ℕ) → Puts at w p q → words_of w.shape ≤ length w.negative → Shows of_rows (bordered (is_inside w.shape)) (at.word + 1) (at.stripe + 1) limits → Held at (draft_of w) sight d
+pub signs_drawn : (at : WordPlace) {size : ℕ} (w : BlockState size) (sight : Sight) (d : Draft) (limits p q : ℕ) → Puts at w p q → words_of w.shape ≤ length w.negative → Shows of_rows (bordered (is_inside w.shape)) (at.word + 1) (at.stripe + 1) limits → Held at (draft_of w) sight d
     → IsDrawn w.shape (flagged w.shape (sign_words w sight limits p)) (sign_words w sight limits p)
 signs_drawn at w sight d limits p q a len lim h =
-    subst (λ (f : Truths). IsDrawn w.shape f (sign_words w sight limits p)) (sym (lit_signs at w sight d limits p q a len lim h))
+    subst (λ (f : Truths). IsDrawn w.shape f (sign_words w sight limits p)) (sym (significant_signs at w sight d limits p q a len lim h))
     (subst (λ p. IsDrawn w.shape d.negative (set w.negative p (bit_and sight.negative.centre limits))) (sym a.place)
     (word_drawn w.shape (flagged w.shape w.negative) d.negative w.negative at.word at.stripe (bit_and sight.negative.centre limits) w.sized len a.word a.stripe w.signs
     (λ m l. own_bits w.shape d.shape d.negative at.word at.stripe sight.negative.centre limits m h.sees.negative.centre lim l ∙ ap (λ b. of_rows (m % 8) && b) (sign_inside at w sight d h (column at.word m) (row at.stripe m)))
     (λ x y away. elim (h.changed x y) [ inl same ↦ same.negative | inr new ↦ absurd (apart_word at.word at.stripe x y away new.word) ])))
 
-pub lit_drawn : (at : Spot) {size : ℕ} (w : Sketch size) (sight : Sight) (d : Draft) (limits p q : ℕ) → Puts at w p q → words_of w.shape ≤ length w.significant → Shows of_rows (bordered (is_inside w.shape)) (at.word + 1) (at.stripe + 1) limits → Held at (draft_of w) sight d → get_or w.significant p 0 < 2 ^ 64
-    → IsDrawn w.shape (lit_of w.shape (magnitude_of w.shape w.planes (lit_bits w sight limits p q))) (set w.significant p (lit_word sight limits))
-lit_drawn at w sight d limits p q a len lim h room =
-    subst (λ (m : Field ℕ). IsDrawn w.shape (lit_of w.shape m) (set w.significant p (lit_word sight limits))) (sym (lit_magnitude at w sight d limits p q a lim h room))
-    (subst (λ p. IsDrawn w.shape (lit_of w.shape d.magnitude) (set w.significant p (lit_word sight limits))) (sym a.place)
-    (word_drawn w.shape (lit_in (draft_of w)) (lit_of w.shape d.magnitude) w.significant at.word at.stripe (lit_word sight limits) w.sized len a.word a.stripe w.lit
-    (λ m l. own_bits w.shape d.shape (lit_in d) at.word at.stripe sight.significant.centre limits m h.sees.significant.centre lim l
+pub significant_drawn : (at : WordPlace) {size : ℕ} (w : BlockState size) (sight : Sight) (d : Draft) (limits p q : ℕ) → Puts at w p q → words_of w.shape ≤ length w.significant → Shows of_rows (bordered (is_inside w.shape)) (at.word + 1) (at.stripe + 1) limits → Held at (draft_of w) sight d → get_or w.significant p 0 < 2 ^ 64
+    → IsDrawn w.shape (significant_of w.shape (magnitude_of w.shape w.planes (significant_bits w sight limits p q))) (set w.significant p (significant_word sight limits))
+significant_drawn at w sight d limits p q a len lim h room =
+    subst (λ (m : Field ℕ). IsDrawn w.shape (significant_of w.shape m) (set w.significant p (significant_word sight limits))) (sym (significant_magnitude at w sight d limits p q a lim h room))
+    (subst (λ p. IsDrawn w.shape (significant_of w.shape d.magnitude) (set w.significant p (significant_word sight limits))) (sym a.place)
+    (word_drawn w.shape (significant_in (draft_of w)) (significant_of w.shape d.magnitude) w.significant at.word at.stripe (significant_word sight limits) w.sized len a.word a.stripe w.known_significant
+    (λ m l. own_bits w.shape d.shape (significant_in d) at.word at.stripe sight.significant.centre limits m h.sees.significant.centre lim l
     ∙ ap (λ b. of_rows (m % 8) && b) (ap (λ b. is_inside w.shape (column at.word m) (row at.stripe m) && b) (module_lit at w d h.shape (column at.word m) (row at.stripe m)) ∙ absorbed (is_inside w.shape (column at.word m) (row at.stripe m)) (nat_lt 0 (d.magnitude (column at.word m) (row at.stripe m)))))
     (λ x y away. elim (h.changed x y) [ inl same ↦ ap (λ m. is_inside w.shape x y && nat_lt 0 m) same.magnitude | inr new ↦ absurd (apart_word at.word at.stripe x y away new.word) ])))
 
 -- ---- places that were significant before
 
-abbrev pub refined_bits : {size : ℕ} (w : Sketch size) (places ones q : ℕ) → List ℕ
+abbrev pub refined_bits : {size : ℕ} (w : BlockState size) (places ones q : ℕ) → List ℕ
 refined_bits w places ones q = set w.bits.items q (bit_or (bit_and (get_or w.bits.items q 0) (bit_not w64 places)) ones)
 
-refined_bit : (at : Spot) {size : ℕ} (w : Sketch size) (places ones p q c x y : ℕ) → Puts at w p q → places < 2 ^ 64 → is_inside w.shape x y ≡ true
+refined_bit : (at : WordPlace) {size : ℕ} (w : BlockState size) (places ones p q c x y : ℕ) → Puts at w p q → places < 2 ^ 64 → is_inside w.shape x y ≡ true
     → plane_bit w.shape (refined_bits w places ones q) c x y ≡ cond (nat_eq c at.plane && is_in_word at.word at.stripe x y) ((plane_bit w.shape w.bits.items c x y && not (on places (own_bit x y))) || on ones (own_bit x y)) (plane_bit w.shape w.bits.items c x y)
 refined_bit at w places ones p q c x y a lim inside =
     let bits = w.bits.items in
@@ -304,7 +304,7 @@ refined_bit at w places ones p q c x y a lim inside =
     (λ e. ap (λ t. cond t (on new (own_bit x y)) (plane_bit w.shape bits c x y)) e
     ∙ sym (ap (λ t. cond t ((plane_bit w.shape bits c x y && not (on places (own_bit x y))) || on ones (own_bit x y)) (plane_bit w.shape bits c x y)) e))
 
-pub refined_magnitude : (at : Spot) {size : ℕ} (w : Sketch size) (places ones p q : ℕ) → Puts at w p q → places < 2 ^ 64 → IsRefined at places ones (draft_of w) → magnitude_of w.shape w.planes (refined_bits w places ones q) ≡ (refined_in at places ones (draft_of w)).magnitude
+pub refined_magnitude : (at : WordPlace) {size : ℕ} (w : BlockState size) (places ones p q : ℕ) → Puts at w p q → places < 2 ^ 64 → IsRefined at places ones (draft_of w) → magnitude_of w.shape w.planes (refined_bits w places ones q) ≡ (refined_in at places ones (draft_of w)).magnitude
 refined_magnitude at w places ones p q a lim r = same_field (magnitude_of w.shape w.planes (refined_bits w places ones q)) (refined_in at places ones (draft_of w)).magnitude (λ x y. same_or (is_inside w.shape x y) (inside x y) (outside x y))
   where
     outside : (x y : ℕ) → is_inside w.shape x y ≡ false → magnitude_of w.shape w.planes (refined_bits w places ones q) x y ≡ (refined_in at places ones (draft_of w)).magnitude x y
@@ -356,10 +356,10 @@ refined_magnitude at w places ones p q a lim r = same_field (magnitude_of w.shap
             by false t p b e f = refl
 
 -- what is significant stays so
-pub refined_drawn : (at : Spot) {size : ℕ} (w : Sketch size) (places ones p q : ℕ) → Puts at w p q → places < 2 ^ 64 → IsRefined at places ones (draft_of w) → IsDrawn w.shape (lit_of w.shape (magnitude_of w.shape w.planes (refined_bits w places ones q))) w.significant
+pub refined_drawn : (at : WordPlace) {size : ℕ} (w : BlockState size) (places ones p q : ℕ) → Puts at w p q → places < 2 ^ 64 → IsRefined at places ones (draft_of w) → IsDrawn w.shape (significant_of w.shape (magnitude_of w.shape w.planes (refined_bits w places ones q))) w.significant
 refined_drawn at w places ones p q a lim r =
-    subst (λ (m : Field ℕ). IsDrawn w.shape (lit_of w.shape m) w.significant) (sym (refined_magnitude at w places ones p q a lim r))
-    (subst (λ (f : Truths). IsDrawn w.shape f w.significant) (same_field (lit_in (draft_of w)) (lit_of w.shape (refined_in at places ones (draft_of w)).magnitude) same) w.lit)
+    subst (λ (m : Field ℕ). IsDrawn w.shape (significant_of w.shape m) w.significant) (sym (refined_magnitude at w places ones p q a lim r))
+    (subst (λ (f : Truths). IsDrawn w.shape f w.significant) (same_field (significant_in (draft_of w)) (significant_of w.shape (refined_in at places ones (draft_of w)).magnitude) same) w.known_significant)
   where
     pos : (m : ℕ) → 0 < m → nat_lt 0 m ≡ true
     pos m r = grind (arith, nat_tests)
@@ -367,7 +367,7 @@ refined_drawn at w places ones p q a lim r =
     large : (b m : ℕ) → 2 ^ (b + 1) ≤ m → nat_lt 0 m ≡ true
     large b m h = pos m (let p = pow_pos (b + 1) in omega (arith, p, h))
 
-    same : (x y : ℕ) → lit_in (draft_of w) x y ≡ lit_of w.shape (refined_in at places ones (draft_of w)).magnitude x y
+    same : (x y : ℕ) → significant_in (draft_of w) x y ≡ significant_of w.shape (refined_in at places ones (draft_of w)).magnitude x y
     same x y =
         let m = (draft_of w).magnitude x y in
         ap (λ b. is_inside w.shape x y && b)
@@ -379,7 +379,7 @@ refined_drawn at w places ones p q a lim r =
 
 -- ---- places that were coded in the significance propagation pass
 
-pub marked_words : (at : Spot) {size : ℕ} (w : Sketch size) (places p q : ℕ) → at.word < across w.shape → at.stripe < stripes w.shape → p ≡ word_at w.shape (at.word + 1) (at.stripe + 1) → words_of w.shape ≤ length w.visited
+pub marked_words : (at : WordPlace) {size : ℕ} (w : BlockState size) (places p q : ℕ) → at.word < across w.shape → at.stripe < stripes w.shape → p ≡ word_at w.shape (at.word + 1) (at.stripe + 1) → words_of w.shape ≤ length w.visited
     → ((m : ℕ) → m < 64 → on places m ≡ true → (of_rows (m % 8) && is_inside w.shape (column at.word m) (row at.stripe m)) ≡ true)
     → flagged w.shape (set w.visited p (bit_or (get_or w.visited p 0) places)) ≡ with_word (flagged w.shape w.visited) at.word at.stripe places
 marked_words at w places p q hj hi place len within = same_field (flagged w.shape (set w.visited p (bit_or (get_or w.visited p 0) places))) (with_word (flagged w.shape w.visited) at.word at.stripe places) (λ x y. same_or (is_inside w.shape x y) (inside x y) (outside x y))

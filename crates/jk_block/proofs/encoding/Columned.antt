@@ -8,15 +8,15 @@ use Rattle.jk_scan.specs.declared.shape.BlockShape.{BlockShape}
 use Rattle.jk_scan.specs.Bits.{on}
 use Rattle.jk_scan.specs.Moments.{number, visits, pass_of, significant}
 use Rattle.jk_scan.specs.Neighbours.{Field, zero_in, touched_in}
-use Rattle.jk_scan.specs.Passes.{Plane, Decided, is_one, joined, sign_decision, new_decisions, place_decisions, rows_decisions, runs, first_one, run_decisions}
+use Rattle.jk_scan.specs.Passes.{BlockAtPlane, Decided, is_one, joined, sign_decision, new_decisions, place_decisions, rows_decisions, in_run_mode, first_one, run_decisions}
 use Rattle.jk_scan.specs.Words.{of_rows}
 use Rattle.jk_scan.specs.WordNumbers.{byte_of, byte_at}
 use Rattle.jk_scan.specs.WordPlaces.{column, row}
 use Rattle.jk_mqenc.specs.Encoded.{decision_of}
 use Rattle.jk_columns.specs.Columns.{chained, row_places, rows_places, first_place, run_places, column_places, column_bytes, IsColumn, IsIndex}
-use Rattle.jk_block.specs.Steps.{IsPlace}
+use Rattle.jk_block.specs.Steps.{IsBitPlace}
 use Rattle.jk_block.specs.declared.encoding.plane.BlockPlane.{BlockPlane}
-use Rattle.jk_block.specs.declared.spot.Spot.{Spot}
+use Rattle.jk_block.specs.declared.word_place.WordPlace.{WordPlace}
 use Rattle.jk_block.specs.encoding.Viewed.{seen, moment_at, ShowsOnes, SpellsBit, SpellsSign, column_if, word_decisions, run_head}
 use Rattle.jk_block.proofs.Columns.{rows_left, row_left, runs_is}
 use Rattle.jk_block.proofs.Rows.{start}
@@ -31,12 +31,12 @@ use Rattle.jk_block.proofs.encoding.Timing.{codes, moment_place}
 use Rattle.jk_block.proofs.encoding.Turned.{Prepared}
 
 -- What words show of the places that a pass codes, and what their bytes spell.
-pub record Known (v : BlockPlane) (pass : ℕ) (at : Spot) (bits signs : List ℕ) (members ones runs : ℕ) : Type 0 where
+pub record Known (v : BlockPlane) (pass : ℕ) (at : WordPlace) (bits signs : List ℕ) (members ones runs : ℕ) : Type 0 where
   pub other : pass ≡ 1 → ⊥
   pub members_are : (m : ℕ) → m < 64 → on members m ≡ codes v.shape (mag v) pass at.word at.stripe m
   pub ones_are : ShowsOnes v at.word at.stripe ones
-  pub bits_are : (m : ℕ) → IsPlace v.shape at m → on members m ≡ true → SpellsBit v (moment_at v.shape pass at.word at.stripe m) (column at.word m) (row at.stripe m) (byte_at bits m)
-  pub signs_are : (m : ℕ) → IsPlace v.shape at m → on members m ≡ true → SpellsSign v (moment_at v.shape pass at.word at.stripe m) (column at.word m) (row at.stripe m) (byte_at signs m)
+  pub bits_are : (m : ℕ) → IsBitPlace v.shape at m → on members m ≡ true → SpellsBit v (moment_at v.shape pass at.word at.stripe m) (column at.word m) (row at.stripe m) (byte_at bits m)
+  pub signs_are : (m : ℕ) → IsBitPlace v.shape at m → on members m ≡ true → SpellsSign v (moment_at v.shape pass at.word at.stripe m) (column at.word m) (row at.stripe m) (byte_at signs m)
   pub runs_are : (c : ℕ) → c < 8 → on runs (8 * c + 1) ≡ is_run v.shape (mag v) pass at.word at.stripe c
 
 abbrev pub bytes_at : List ℕ → List ℕ → Decided
@@ -47,7 +47,7 @@ bytes_append xs ks ls =
     ap (map decision_of) (map-append (λ k. get_or xs k 0) ks ls) ∙ map-append decision_of (map (λ k. get_or xs k 0) ks) (map (λ k. get_or xs k 0) ls)
 
 -- a place that is coded
-new_bytes : (s : BlockShape) (p : Plane) (t x y : ℕ) (xs : List ℕ) (r k : ℕ) (o : Bool) → decision_of (get_or xs r 0) ≡ (zero_in s (significant s p.magnitude t) x y, is_one (p.magnitude x y)) → (o ≡ true → decision_of (get_or xs k 0) ≡ sign_decision s p t x y) → o ≡ is_one (p.magnitude x y)
+new_bytes : (s : BlockShape) (p : BlockAtPlane) (t x y : ℕ) (xs : List ℕ) (r k : ℕ) (o : Bool) → decision_of (get_or xs r 0) ≡ (zero_in s (significant s p.magnitude t) x y, is_one (p.magnitude x y)) → (o ≡ true → decision_of (get_or xs k 0) ≡ sign_decision s p t x y) → o ≡ is_one (p.magnitude x y)
     → bytes_at xs (r ∷ cond o (k ∷ []) []) ≡ new_decisions s p t x y
 unfolding new_decisions
 new_bytes s p t x y xs r k true e g h =
@@ -75,13 +75,13 @@ pub by_case : {R : Type 0} (b : Bool) → (b ≡ true → R) → (b ≡ false �
 by_case true f g = f refl
 by_case false f g = g refl
 
-pub place_at : (v : BlockPlane) (pass : ℕ) (at : Spot) (m : ℕ) → m < 64 → codes v.shape (mag v) pass at.word at.stripe m ≡ true → IsPlace v.shape at m
+pub place_at : (v : BlockPlane) (pass : ℕ) (at : WordPlace) (m : ℕ) → m < 64 → codes v.shape (mag v) pass at.word at.stripe m ≡ true → IsBitPlace v.shape at m
 place_at v pass at m within due =
     let parts = and_parts (of_rows (m % 8)) (is_due v.shape (mag v) pass (column at.word m) (row at.stripe m)) due in
     record { within = within; on_row = parts.0; inside = (due_inside v.shape (mag v) pass (column at.word m) (row at.stripe m) parts.1).0 }
 
 -- one row
-row_told : (v : BlockPlane) (pass : ℕ) (at : Spot) (bits signs : List ℕ) (members ones runs : ℕ) (c r index : ℕ) (xs : List ℕ) → Known v pass at bits signs members ones runs → c < 8 → r < 4
+row_told : (v : BlockPlane) (pass : ℕ) (at : WordPlace) (bits signs : List ℕ) (members ones runs : ℕ) (c r index : ℕ) (xs : List ℕ) → Known v pass at bits signs members ones runs → c < 8 → r < 4
     → IsColumn bits signs c xs → IsIndex members ones runs c index → bytes_at xs (row_places index r) ≡ place_decisions v.shape (seen v) pass (8 * at.word + c) (4 * at.stripe + r)
 unfolding row_places is_due
 row_told v pass at bits signs members ones runs c r index xs known h l is_column is_index = by_case (on index r) set clear
@@ -121,12 +121,12 @@ row_told v pass at bits signs members ones runs c r index xs known h l is_column
         ∙ there
 
 -- what each row of a column tells
-abbrev pub TellsRows : BlockPlane → (pass : ℕ) → Spot → (c index : ℕ) → List ℕ → Type 0
+abbrev pub TellsRows : BlockPlane → (pass : ℕ) → WordPlace → (c index : ℕ) → List ℕ → Type 0
 TellsRows v pass at c index xs =
     (r : ℕ) → r < 4 → bytes_at xs (row_places index r) ≡ place_decisions v.shape (seen v) pass (8 * at.word + c) (4 * at.stripe + r)
 
 -- some rows
-rows_told : (v : BlockPlane) (pass : ℕ) (at : Spot) (c index : ℕ) (xs : List ℕ) → TellsRows v pass at c index xs → (a n : ℕ) → n ≤ 4 - a → bytes_at xs (rows_places index a n) ≡ rows_decisions v.shape (seen v) pass (8 * at.word + c) at.stripe a n
+rows_told : (v : BlockPlane) (pass : ℕ) (at : WordPlace) (c index : ℕ) (xs : List ℕ) → TellsRows v pass at c index xs → (a n : ℕ) → n ≤ 4 - a → bytes_at xs (rows_places index a n) ≡ rows_decisions v.shape (seen v) pass (8 * at.word + c) at.stripe a n
 unfolding chained joined
 rows_told v pass at c index xs row a zero l = refl
 rows_told v pass at c index xs row a (suc n) l =
@@ -135,7 +135,7 @@ rows_told v pass at c index xs row a (suc n) l =
     ∙ ap (λ (ds : Decided). rows_decisions v.shape (seen v) pass (8 * at.word + c) at.stripe a n ++ ds) (row (a + n) (omega arith))
 
 -- no row of a column past the width
-rows_none : (s : BlockShape) (p : Plane) (pass x i a n : ℕ) → nat_lt x s.width ≡ false → rows_decisions s p pass x i a n ≡ []
+rows_none : (s : BlockShape) (p : BlockAtPlane) (pass x i a n : ℕ) → nat_lt x s.width ≡ false → rows_decisions s p pass x i a n ≡ []
 unfolding joined
 rows_none s p pass x i a zero h = refl
 rows_none s p pass x i a (suc n) h =
@@ -143,7 +143,7 @@ rows_none s p pass x i a (suc n) h =
     ∙ place_none s p pass x (4 * i + (a + n)) (ap (λ b. (b && nat_lt (4 * i + (a + n)) s.height) && nat_eq (pass_of s p.magnitude x (4 * i + (a + n))) pass) h)
 
 -- a column that isn't in run mode
-pub rows_column : (v : BlockPlane) (pass : ℕ) (at : Spot) (c : ℕ) → is_run v.shape (mag v) pass at.word at.stripe c ≡ false → rows_decisions v.shape (seen v) pass (8 * at.word + c) at.stripe 0 4 ≡ column_if v.shape (seen v) pass at.word at.stripe c
+pub rows_column : (v : BlockPlane) (pass : ℕ) (at : WordPlace) (c : ℕ) → is_run v.shape (mag v) pass at.word at.stripe c ≡ false → rows_decisions v.shape (seen v) pass (8 * at.word + c) at.stripe 0 4 ≡ column_if v.shape (seen v) pass at.word at.stripe c
 rows_column v pass at c no_run = within (nat_lt (8 * at.word + c) v.shape.width) refl ∙ sym (plain_column v.shape (seen v) pass at.word at.stripe c no_run)
   where
     within : (b : Bool) → nat_lt (8 * at.word + c) v.shape.width ≡ b → rows_decisions v.shape (seen v) pass (8 * at.word + c) at.stripe 0 4 ≡ cond (nat_lt (8 * at.word + c) v.shape.width) (rows_decisions v.shape (seen v) pass (8 * at.word + c) at.stripe 0 4) []
@@ -151,7 +151,7 @@ rows_column v pass at c no_run = within (nat_lt (8 * at.word + c) v.shape.width)
     within false e = rows_none v.shape (seen v) pass (8 * at.word + c) at.stripe 0 4 e ∙ ap (λ b. cond b (rows_decisions v.shape (seen v) pass (8 * at.word + c) at.stripe 0 4) []) (sym e)
 
 -- the first row with the bit 1
-first_is : (v : BlockPlane) (at : Spot) (members ones runs c index : ℕ) → c < 8 → ShowsOnes v at.word at.stripe ones → IsIndex members ones runs c index → first_place index ≡ first_one (mag v) (8 * at.word + c) at.stripe
+first_is : (v : BlockPlane) (at : WordPlace) (members ones runs c index : ℕ) → c < 8 → ShowsOnes v at.word at.stripe ones → IsIndex members ones runs c index → first_place index ≡ first_one (mag v) (8 * at.word + c) at.stripe
 unfolding first_place first_one
 first_is v at members ones runs c index h ones_are is_index =
     run_row v at (8 * c + 1) ones (first_place index) (omega arith) (omega arith) ones_are value
@@ -169,7 +169,7 @@ first_is v at members ones runs c index h ones_are is_index =
         ∙ ap (λ b. cond (is_one (a x (4 * i + 0))) 0 (cond (is_one (a x (4 * i + 1))) 1 (cond (is_one (a x (4 * i + 2))) 2 (cond b 3 4)))) (one 3 (is_one (a x (4 * i + 3))) (omega arith) e3)
 
 -- A column in run mode, up to its first row with the bit 1.
-head_told : (s : BlockShape) (p : Plane) (t x i f index : ℕ) (bits signs : List ℕ) (c : ℕ) (xs : List ℕ) → f ≤ 4 → IsColumn bits signs c xs → (f < 4 → decision_of (get_or xs (4 + f) 0) ≡ sign_decision s p t x (4 * i + f))
+head_told : (s : BlockShape) (p : BlockAtPlane) (t x i f index : ℕ) (bits signs : List ℕ) (c : ℕ) (xs : List ℕ) → f ≤ 4 → IsColumn bits signs c xs → (f < 4 → decision_of (get_or xs (4 + f) 0) ≡ sign_decision s p t x (4 * i + f))
     → bytes_at xs (run_places index f) ≡ run_head s p t x i f ++ bytes_at xs (rows_places index (f + 1) (3 - f))
 unfolding run_places run_head chained
 head_told s p t x i f index bits signs c xs few is sign = by f few sign
@@ -200,12 +200,12 @@ first_few index = by (on index 4) (on index 5) (on index 6) (on index 7)
     by false false false false = omega arith
 
 -- A column in run mode is coded in cleanup, and each of its rows is left to it.
-record RunColumn (v : BlockPlane) (pass : ℕ) (at : Spot) (c : ℕ) : Type 0 where
+record RunColumn (v : BlockPlane) (pass : ℕ) (at : WordPlace) (c : ℕ) : Type 0 where
   is_cleanup : pass ≡ 2
   narrow : 8 * at.word + c < v.shape.width
   due : (r : ℕ) → r < 4 → codes v.shape (mag v) pass at.word at.stripe (8 * c + (r + 1)) ≡ true
 
-run_parts : (v : BlockPlane) (pass : ℕ) (at : Spot) (c : ℕ) → c < 8 → is_run v.shape (mag v) pass at.word at.stripe c ≡ true → RunColumn v pass at c
+run_parts : (v : BlockPlane) (pass : ℕ) (at : WordPlace) (c : ℕ) → c < 8 → is_run v.shape (mag v) pass at.word at.stripe c ≡ true → RunColumn v pass at c
 unfolding is_due rows_left row_left
 run_parts v pass at c h run = record { is_cleanup = cleanup_is; narrow = narrow; due = due }
   where
@@ -221,11 +221,11 @@ run_parts v pass at c h run = record { is_cleanup = cleanup_is; narrow = narrow;
     left_at : ℕ → Bool
     left_at r = nat_eq (pass_of s (mag v) x (4 * i + r)) 2 && not (touched_in s (significant s (mag v) (start s 2 x i)) x (4 * i + r))
 
-    parts : (nat_lt x s.width ≡ true) × ((nat_eq pass 2 && runs s (mag v) x i) ≡ true)
-    parts = and_parts (nat_lt x s.width) (nat_eq pass 2 && runs s (mag v) x i) run
+    parts : (nat_lt x s.width ≡ true) × ((nat_eq pass 2 && in_run_mode s (mag v) x i) ≡ true)
+    parts = and_parts (nat_lt x s.width) (nat_eq pass 2 && in_run_mode s (mag v) x i) run
 
-    both : (nat_eq pass 2 ≡ true) × (runs s (mag v) x i ≡ true)
-    both = and_parts (nat_eq pass 2) (runs s (mag v) x i) parts.1
+    both : (nat_eq pass 2 ≡ true) × (in_run_mode s (mag v) x i ≡ true)
+    both = and_parts (nat_eq pass 2) (in_run_mode s (mag v) x i) parts.1
 
     high : (nat_le (4 * i + 4) s.height ≡ true) × (((left_at 0 && left_at 1) && (left_at 2 && left_at 3)) ≡ true)
     high = and_parts (nat_le (4 * i + 4) s.height) ((left_at 0 && left_at 1) && (left_at 2 && left_at 3)) (sym (runs_is s (mag v) x i) ∙ both.1)
@@ -261,7 +261,7 @@ run_parts v pass at c h run = record { is_cleanup = cleanup_is; narrow = narrow;
         ∙ all (of_rows ((8 * c + (r + 1)) % 8)) (nat_lt x s.width) (nat_lt y s.height) (nat_eq (pass_of s (mag v) x y) pass) (row_bit c r h l) parts.0 (low r l) of
 
 -- what a column decides
-pub column_told : (v : BlockPlane) (pass : ℕ) (at : Spot) (bits signs : List ℕ) (members ones runs : ℕ) → Known v pass at bits signs members ones runs → (c index : ℕ) (xs : List ℕ) → c < 8
+pub column_told : (v : BlockPlane) (pass : ℕ) (at : WordPlace) (bits signs : List ℕ) (members ones runs : ℕ) → Known v pass at bits signs members ones runs → (c index : ℕ) (xs : List ℕ) → c < 8
     → IsColumn bits signs c xs → IsIndex members ones runs c index → map decision_of (column_bytes xs index) ≡ column_if v.shape (seen v) pass at.word at.stripe c
 unfolding column_places
 column_told v pass at bits signs members ones runs known c index xs h is_column is_index = by_case (on index 8) in_run plain
@@ -320,12 +320,12 @@ column_told v pass at bits signs members ones runs known c index xs h is_column 
             ∙ ap (λ u. 2 * visits s + number s.width u (row at.stripe m)) same ∙ ap (λ w. 2 * visits s + number s.width x w) (row_at at.stripe c f l)
 
 -- what a word decides
-pub word_told : (v : BlockPlane) (pass : ℕ) (at : Spot) (old new : Decided) → new ≡ old ++ joined 8 (column_if v.shape (seen v) pass at.word at.stripe) → new ≡ old ++ word_decisions v.shape (seen v) pass at.word at.stripe
+pub word_told : (v : BlockPlane) (pass : ℕ) (at : WordPlace) (old new : Decided) → new ≡ old ++ joined 8 (column_if v.shape (seen v) pass at.word at.stripe) → new ≡ old ++ word_decisions v.shape (seen v) pass at.word at.stripe
 unfolding word_decisions
 word_told v pass at old new h = h
 
 -- What is known of a word as the cleanup pass comes to it.
-pub known_left : (v : BlockPlane) (at : Spot) (bits signs : List ℕ) (left ones still : ℕ) → Prepared v at bits signs still → ((m : ℕ) → m < 64 → on left m ≡ codes v.shape (mag v) 2 at.word at.stripe m) → ShowsOnes v at.word at.stripe ones
+pub known_left : (v : BlockPlane) (at : WordPlace) (bits signs : List ℕ) (left ones still : ℕ) → Prepared v at bits signs still → ((m : ℕ) → m < 64 → on left m ≡ codes v.shape (mag v) 2 at.word at.stripe m) → ShowsOnes v at.word at.stripe ones
     → Known v 2 at bits signs left ones still
 known_left v at bits signs left ones still prepared left_is shows = record {
   other = λ e. absurd (omega (arith, e));

@@ -9,14 +9,14 @@ use Rattle.jk_scan.specs.Words.{of_rows}
 use Rattle.jk_scan.specs.WordPlaces.{column, row}
 use Rattle.jk_scan.proofs.Laws.{same_field, drawn_same}
 use Rattle.jk_block.specs.Meaning.{value_in}
-use Rattle.jk_block.specs.Steps.{IsPlace}
+use Rattle.jk_block.specs.Steps.{IsBitPlace}
 use Rattle.jk_block.specs.declared.encoding.flags.Flags.{Flags}
 use Rattle.jk_block.specs.declared.encoding.plane.BlockPlane.{BlockPlane}
-use Rattle.jk_block.specs.declared.spot.Spot.{Spot}
-use Rattle.jk_block.specs.encoding.Viewed.{seen, lit_at, spread_at, IsFlagged, moment_at, word_decisions}
+use Rattle.jk_block.specs.declared.word_place.WordPlace.{WordPlace}
+use Rattle.jk_block.specs.encoding.Viewed.{seen, significant_at, spread_at, IsFlagged, moment_at, word_decisions}
 use Rattle.jk_block.proofs.encoding.Remaining.{remaining_at, remaining_all, remaining_none, remaining_place, Rests, rest, is_run}
 use Rattle.jk_block.proofs.Seeing.{is_due}
-use Rattle.jk_block.proofs.encoding.Timing.{here, codes, lit_bit, spread_bit}
+use Rattle.jk_block.proofs.encoding.Timing.{here, codes, significant_bit, spread_bit}
 use Rattle.jk_block.proofs.Whole.{plane_outside}
 
 -- the magnitudes of a block at a bit-plane
@@ -27,35 +27,35 @@ pub mag_outside : (v : BlockPlane) (x y : ℕ) → is_inside v.shape x y ≡ fal
 mag_outside v x y = plane_outside v.shape v.plane (value_in v.shape v.values.now) x y
 
 -- the words show what is so at another moment at which the same is so
-flagged_at : (v : BlockPlane) (t u : ℕ) {size : ℕ} (flags : Flags size) → ((x y : ℕ) → lit_at v u x y ≡ lit_at v t x y) → ((x y : ℕ) → spread_at v u x y ≡ spread_at v t x y) → IsFlagged v t flags → IsFlagged v u flags
+flagged_at : (v : BlockPlane) (t u : ℕ) {size : ℕ} (flags : Flags size) → ((x y : ℕ) → significant_at v u x y ≡ significant_at v t x y) → ((x y : ℕ) → spread_at v u x y ≡ spread_at v t x y) → IsFlagged v t flags → IsFlagged v u flags
 flagged_at v t u flags e g h = record {
-  lit = drawn_same v.shape (lit_at v t) (lit_at v u) flags.significant (λ x y. sym (e x y)) h.lit;
+  known_significant = drawn_same v.shape (significant_at v t) (significant_at v u) flags.significant (λ x y. sym (e x y)) h.known_significant;
   coded = drawn_same v.shape (spread_at v t) (spread_at v u) flags.visited (λ x y. sym (g x y)) h.coded;
 }
 
 -- nothing changes at a bit: no place is coded there, or a 0 is, but not in the significance
 -- propagation pass
 pub record Idle (v : BlockPlane) (pass j i k : ℕ) : Type 0 where
-  pub lit : (codes v.shape (mag v) pass j i k && nat_eq (mag v (column j k) (row i k)) 1) ≡ false
+  pub known_significant : (codes v.shape (mag v) pass j i k && nat_eq (mag v (column j k) (row i k)) 1) ≡ false
   pub coded : (codes v.shape (mag v) pass j i k && nat_eq pass 0) ≡ false
 
 -- what is so at two moments is the same
 pub record Same (v : BlockPlane) (t u : ℕ) : Type 0 where
-  pub lit : (x y : ℕ) → lit_at v u x y ≡ lit_at v t x y
+  pub known_significant : (x y : ℕ) → significant_at v u x y ≡ significant_at v t x y
   pub coded : (x y : ℕ) → spread_at v u x y ≡ spread_at v t x y
 
 pub same_here : (v : BlockPlane) (t : ℕ) → Same v t t
-same_here v t = record { lit = λ x y. refl; coded = λ x y. refl }
+same_here v t = record { known_significant = λ x y. refl; coded = λ x y. refl }
 
 pub same_flags : (v : BlockPlane) (t u : ℕ) {size : ℕ} (flags : Flags size) → Same v t u → IsFlagged v t flags → IsFlagged v u flags
-same_flags v t u flags s h = flagged_at v t u flags s.lit s.coded h
+same_flags v t u flags s h = flagged_at v t u flags s.known_significant s.coded h
 
-pub same_lit : (v : BlockPlane) (t u : ℕ) → Same v t u → lit_at v u ≡ lit_at v t
-same_lit v t u s = same_field (lit_at v u) (lit_at v t) s.lit
+pub same_significant : (v : BlockPlane) (t u : ℕ) → Same v t u → significant_at v u ≡ significant_at v t
+same_significant v t u s = same_field (significant_at v u) (significant_at v t) s.known_significant
 
 idle_step : (v : BlockPlane) (pass j i k : ℕ) → i < stripes v.shape → Idle v pass j i k → Same v (moment_at v.shape pass j i k) (moment_at v.shape pass j i (k + 1))
 idle_step v pass j i k stripe h = record {
-  lit = λ x y. lit_bit v.shape (mag v) pass j i k (mag_outside v) stripe x y ∙ none (lit_at v (moment_at v.shape pass j i k) x y) (codes v.shape (mag v) pass j i k && nat_eq (mag v (column j k) (row i k)) 1) (here (column j k) (row i k) x y) h.lit;
+  known_significant = λ x y. significant_bit v.shape (mag v) pass j i k (mag_outside v) stripe x y ∙ none (significant_at v (moment_at v.shape pass j i k) x y) (codes v.shape (mag v) pass j i k && nat_eq (mag v (column j k) (row i k)) 1) (here (column j k) (row i k) x y) h.known_significant;
   coded = λ x y. spread_bit v.shape (mag v) pass j i k stripe x y ∙ none (spread_at v (moment_at v.shape pass j i k) x y) (codes v.shape (mag v) pass j i k && nat_eq pass 0) (here (column j k) (row i k) x y) h.coded;
 }
   where
@@ -68,21 +68,21 @@ idle_until v pass j i n (suc d) stripe h =
     let before = idle_until v pass j i n d stripe (λ m a l. h m a (omega (arith, l))) in
     let step = idle_step v pass j i (n + d) stripe (h (n + d) (omega arith) (omega arith)) in
     subst (λ m. Same v (moment_at v.shape pass j i n) (moment_at v.shape pass j i m)) (let e : n + d + 1 ≡ n + suc d = omega arith in e)
-    (record { lit = λ x y. step.lit x y ∙ before.lit x y; coded = λ x y. step.coded x y ∙ before.coded x y })
+    (record { known_significant = λ x y. step.known_significant x y ∙ before.known_significant x y; coded = λ x y. step.coded x y ∙ before.coded x y })
 
 pub idle_to : (v : BlockPlane) (pass j i n m : ℕ) → i < stripes v.shape → n ≤ m → ((l : ℕ) → n ≤ l → l < m → Idle v pass j i l) → Same v (moment_at v.shape pass j i n) (moment_at v.shape pass j i m)
 idle_to v pass j i n m stripe le h = subst (λ k. Same v (moment_at v.shape pass j i n) (moment_at v.shape pass j i k)) (let e : n + (m - n) ≡ m = omega arith in e) (idle_until v pass j i n (m - n) stripe (λ l a b. h l a (omega (arith, b))))
 
 pub idle_none : (v : BlockPlane) (pass j i k : ℕ) → codes v.shape (mag v) pass j i k ≡ false → Idle v pass j i k
-idle_none v pass j i k e = record { lit = ap (λ q. q && nat_eq (mag v (column j k) (row i k)) 1) e; coded = ap (λ q. q && nat_eq pass 0) e }
+idle_none v pass j i k e = record { known_significant = ap (λ q. q && nat_eq (mag v (column j k) (row i k)) 1) e; coded = ap (λ q. q && nat_eq pass 0) e }
 
 -- The list has come to bit n of a word.
-pub record Told (v : BlockPlane) (pass : ℕ) (at : Spot) (n : ℕ) (old list : Decided) : Type 0 where
+pub record Told (v : BlockPlane) (pass : ℕ) (at : WordPlace) (n : ℕ) (old list : Decided) : Type 0 where
   pub most : n ≤ 64
   pub stripe : at.stripe < stripes v.shape
   pub listed : old ++ word_decisions v.shape (seen v) pass at.word at.stripe ≡ list ++ remaining_at v.shape (seen v) pass at.word at.stripe n
 
-pub told_none : (v : BlockPlane) (pass : ℕ) (at : Spot) (list : Decided) → at.stripe < stripes v.shape → Told v pass at 0 list list
+pub told_none : (v : BlockPlane) (pass : ℕ) (at : WordPlace) (list : Decided) → at.stripe < stripes v.shape → Told v pass at 0 list list
 told_none v pass at list stripe = record { most = omega arith; stripe = stripe; listed = ap (λ (ds : Decided). list ++ ds) (remaining_all v.shape (seen v) pass at.word at.stripe) }
 
 -- nothing happens at a bit
@@ -103,7 +103,7 @@ rests_of v pass j i k p = record {
     on_rows : (r : ℕ) → 1 ≤ r → r < 5 → of_rows r ≡ true
     on_rows r h l = grind (arith, nat_tests)
 
-pub told_skip : (v : BlockPlane) (pass : ℕ) (at : Spot) (n m : ℕ) (old list : Decided) → Told v pass at n old list → n ≤ m → m ≤ 64
+pub told_skip : (v : BlockPlane) (pass : ℕ) (at : WordPlace) (n m : ℕ) (old list : Decided) → Told v pass at n old list → n ≤ m → m ≤ 64
     → ((l : ℕ) → n ≤ l → l < m → Passes v pass at.word at.stripe l) → Told v pass at m old list
 told_skip v pass at n m old list c le most p = record {
   most = most;
@@ -117,7 +117,7 @@ pub append_both : (a b c d e : Decided) → a ≡ b ++ d → d ≡ c ++ e → a 
 append_both a b c d e f g = f ∙ ap (λ (ds : Decided). b ++ ds) g ∙ sym (append_assoc b c e)
 
 -- a place was listed
-pub told_place : (v : BlockPlane) (pass : ℕ) (at : Spot) (n : ℕ) (old list list' : Decided) → Told v pass at n old list → IsPlace v.shape at n
+pub told_place : (v : BlockPlane) (pass : ℕ) (at : WordPlace) (n : ℕ) (old list list' : Decided) → Told v pass at n old list → IsBitPlace v.shape at n
     → list' ≡ list ++ place_decisions v.shape (seen v) pass (column at.word n) (row at.stripe n) → Told v pass at (n + 1) old list'
 told_place v pass at n old list list' c place e = record {
   most = (let w = place.within in omega (arith, w));
@@ -127,5 +127,5 @@ told_place v pass at n old list list' c place e = record {
       ∙ ap (λ (ds : Decided). ds ++ remaining_at v.shape (seen v) pass at.word at.stripe (n + 1)) (sym e);
 }
 
-pub told_all : (v : BlockPlane) (pass : ℕ) (at : Spot) (old list : Decided) → Told v pass at 64 old list → list ≡ old ++ word_decisions v.shape (seen v) pass at.word at.stripe
+pub told_all : (v : BlockPlane) (pass : ℕ) (at : WordPlace) (old list : Decided) → Told v pass at 64 old list → list ≡ old ++ word_decisions v.shape (seen v) pass at.word at.stripe
 told_all v pass at old list c = sym (c.listed ∙ ap (λ (ds : Decided). list ++ ds) (remaining_none v.shape (seen v) pass at.word at.stripe) ∙ append-nil list)

@@ -18,7 +18,7 @@ use Rattle.jk_scan.specs.WordPlaces.{column, row}
 use Rattle.jk_scan.proofs.Laws.{lowest, rest_at, on_zero, sooner_zero}
 use Rattle.jk_mqenc.specs.Encoded.{decision_of}
 use Rattle.jk_block.specs.declared.encoding.plane.BlockPlane.{BlockPlane}
-use Rattle.jk_block.specs.declared.spot.Spot.{Spot}
+use Rattle.jk_block.specs.declared.word_place.WordPlace.{WordPlace}
 use Rattle.jk_block.specs.encoding.Viewed.{seen, moment_at, seen_at, negative_in, ShowsOnes, SpellsBit, SpellsSign}
 use Rattle.jk_block.specs.encoding.Reached.{is_reached}
 use Rattle.jk_block.proofs.encoding.Columned.{Known}
@@ -30,11 +30,11 @@ use Rattle.jk_block.proofs.encoding.Slicing.{one_at}
 use Rattle.jk_block.proofs.encoding.Spelled.{bits_spelled, signs_spelled}
 use Rattle.jk_block.proofs.encoding.Timing.{codes}
 
-pub record Spelt (v : BlockPlane) (at : Spot) (bits signs : List ℕ) (m : ℕ) : Type 0 where
+pub record Spelt (v : BlockPlane) (at : WordPlace) (bits signs : List ℕ) (m : ℕ) : Type 0 where
   pub bit_is : SpellsBit v (moment_at v.shape 0 at.word at.stripe m) (column at.word m) (row at.stripe m) (byte_at bits m)
   pub sign_is : SpellsSign v (moment_at v.shape 0 at.word at.stripe m) (column at.word m) (row at.stripe m) (byte_at signs m)
 
-pub record AllSpelt (v : BlockPlane) (at : Spot) (all : ℕ) (bits signs : List ℕ) (rest : ℕ) : Type 0 where
+pub record AllSpelt (v : BlockPlane) (at : WordPlace) (all : ℕ) (bits signs : List ℕ) (rest : ℕ) : Type 0 where
   pub all_are : (m : ℕ) → m < 64 → on all m ≡ codes v.shape (mag v) 0 at.word at.stripe m
   pub each : (m : ℕ) → m < 64 → on rest m ≡ true → Spelt v at bits signs m
 
@@ -44,14 +44,14 @@ differ a e g = let c : true ≡ false = sym e ∙ g in absurd cc
 later_is : (z m : ℕ) → z < m → nat_le (z + 1) m ≡ true
 later_is z m h = grind (arith, nat_tests)
 
-none_left : (v : BlockPlane) (at : Spot) (old list : Decided) (inside ones all : ℕ) (bits signs : List ℕ) (rest : ℕ) → Listing v at old list inside ones all bits signs rest → rest ≡ 0 → AllSpelt v at all bits signs rest
+none_left : (v : BlockPlane) (at : WordPlace) (old list : Decided) (inside ones all : ℕ) (bits signs : List ℕ) (rest : ℕ) → Listing v at old list inside ones all bits signs rest → rest ≡ 0 → AllSpelt v at all bits signs rest
 none_left v at old list inside ones all bits signs rest h e = record {
   all_are = (listing_all v at old list inside ones all bits signs rest h e).1;
   each = λ m l set. differ (on rest m) set (ap (λ w. on w m) e ∙ on_zero m);
 }
 
 -- one place after another, from the lowest on
-pub spelt : (v : BlockPlane) (at : Spot) (old list : Decided) (inside ones all : ℕ) (bits signs : List ℕ) (rest d : ℕ) → Listing v at old list inside ones all bits signs rest → rest < 2 ^ 64
+pub spelt : (v : BlockPlane) (at : WordPlace) (old list : Decided) (inside ones all : ℕ) (bits signs : List ℕ) (rest d : ℕ) → Listing v at old list inside ones all bits signs rest → rest < 2 ^ 64
     → inside < 2 ^ 64 → Shows of_rows (bordered (is_inside v.shape)) (at.word + 1) (at.stripe + 1) inside → ShowsOnes v at.word at.stripe ones → 64 - trailing_zeros w64 rest ≤ d → AllSpelt v at all bits signs rest
 spelt v at old list inside ones all bits signs rest zero h fits inside_fits limits shows fuel = elim (cases_lt 0 rest) [
   | inl some ↦ let l = (lowest rest some fits).0 in absurd (omega (arith, l, fuel))
@@ -96,7 +96,7 @@ spelt v at old list inside ones all bits signs rest (suc d) h fits inside_fits l
     both a b e g = cc
 
 -- What is known of a word as the pass comes to it.
-pub begin : (v : BlockPlane) (at : Spot) (old : Decided) (inside ones all candidates : ℕ) (bits bytes : List ℕ) (around signs : Around) → around.centre < 2 ^ 64 → candidates < 2 ^ 64 → all < 2 ^ 64 → inside < 2 ^ 64 → at.stripe < stripes v.shape
+pub begin : (v : BlockPlane) (at : WordPlace) (old : Decided) (inside ones all candidates : ℕ) (bits bytes : List ℕ) (around signs : Around) → around.centre < 2 ^ 64 → candidates < 2 ^ 64 → all < 2 ^ 64 → inside < 2 ^ 64 → at.stripe < stripes v.shape
     → IsAround (bordered (seen_at v (moment_at v.shape 0 at.word at.stripe 0) at.stripe)) at.word at.stripe around
     → Shows of_rows (is_member (bordered (is_inside v.shape)) (bordered (seen_at v (moment_at v.shape 0 at.word at.stripe 0) at.stripe))) (at.word + 1) (at.stripe + 1) candidates
     → ((m : ℕ) → m < 64 → on all m ≡ (on candidates m || (on (bit_and inside (bit_not w64 around.centre)) m && is_reached (λ k. on all k && on ones k) m)))

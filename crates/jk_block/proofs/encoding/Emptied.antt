@@ -6,14 +6,14 @@ use Rattle.std.proofs.lemmas.Bool.Decides.{nat_tests}
 use Rattle.jk_scan.specs.Bits.{on}
 use Rattle.jk_scan.specs.Neighbours.{is_inside, touched_in}
 use Rattle.jk_scan.specs.Moments.{stripes, pass_of, significant}
-use Rattle.jk_scan.specs.Passes.{Decided, runs}
+use Rattle.jk_scan.specs.Passes.{Decided, in_run_mode}
 use Rattle.jk_scan.specs.Words.{of_rows}
 use Rattle.jk_scan.specs.WordPlaces.{column, row}
 use Rattle.jk_scan.proofs.Laws.{on_zero}
 use Rattle.jk_block.specs.declared.encoding.flags.Flags.{Flags}
 use Rattle.jk_block.specs.declared.encoding.plane.BlockPlane.{BlockPlane}
-use Rattle.jk_block.specs.declared.spot.Spot.{Spot}
-use Rattle.jk_block.specs.encoding.Viewed.{lit_at, spread_at, IsFlagged, moment_at}
+use Rattle.jk_block.specs.declared.word_place.WordPlace.{WordPlace}
+use Rattle.jk_block.specs.encoding.Viewed.{significant_at, spread_at, IsFlagged, moment_at}
 use Rattle.jk_block.proofs.Columns.{rows_left, row_left, runs_is}
 use Rattle.jk_block.proofs.encoding.Coming.{mag, same_flags, idle_to, idle_none, Told, told_none, told_skip}
 use Rattle.jk_block.proofs.encoding.Remaining.{is_run}
@@ -29,7 +29,7 @@ run_codes v j i c e =
     let s = v.shape in
     let x = 8 * j + c in
     let t = start s 2 x i in
-    let narrow = and_parts (nat_lt x s.width) (nat_eq 2 2 && runs s (mag v) x i) e in
+    let narrow = and_parts (nat_lt x s.width) (nat_eq 2 2 && in_run_mode s (mag v) x i) e in
     let run : rows_left s (mag v) t x i ≡ true = sym (runs_is s (mag v) x i) ∙ narrow.1 in
     let high = and_parts (nat_le (4 * i + 4) s.height) ((l t 0 && l t 1) && (l t 2 && l t 3)) run in
     let both = and_parts (l t 0 && l t 1) (l t 2 && l t 3) high.1 in
@@ -54,8 +54,8 @@ no_run v j i c off = by (is_run v.shape (mag v) 2 j i c) refl
     by true e = let g : true ≡ false = sym (run_codes v j i c e) ∙ off in absurd cc
     by false e = refl
 
-pub emptied : (v : BlockPlane) (at : Spot) {size : ℕ} (flags : Flags size) (list : Decided) (left : ℕ) → at.stripe < stripes v.shape → IsFlagged v (moment_at v.shape 2 at.word at.stripe 0) flags
-    → ((m : ℕ) → m < 64 → on left m ≡ (of_rows (m % 8) && (is_inside v.shape (column at.word m) (row at.stripe m) && (not (lit_at v (moment_at v.shape 2 at.word at.stripe 0) (column at.word m) (row at.stripe m)) && not (spread_at v (moment_at v.shape 2 at.word at.stripe 0) (column at.word m) (row at.stripe m))))))
+pub emptied : (v : BlockPlane) (at : WordPlace) {size : ℕ} (flags : Flags size) (list : Decided) (left : ℕ) → at.stripe < stripes v.shape → IsFlagged v (moment_at v.shape 2 at.word at.stripe 0) flags
+    → ((m : ℕ) → m < 64 → on left m ≡ (of_rows (m % 8) && (is_inside v.shape (column at.word m) (row at.stripe m) && (not (significant_at v (moment_at v.shape 2 at.word at.stripe 0) (column at.word m) (row at.stripe m)) && not (spread_at v (moment_at v.shape 2 at.word at.stripe 0) (column at.word m) (row at.stripe m))))))
     → left ≡ 0 → Told v 2 at 64 list list × IsFlagged v (moment_at v.shape 2 at.word at.stripe 64) flags
 emptied v at flags list left stripe flagged left_is empty = (
   told_skip v 2 at 0 64 list list (told_none v 2 at list stripe) (omega arith) (omega arith) (λ m a b. record { plain = plain m b; idle = idle m b }),

@@ -19,12 +19,12 @@ use Rattle.jk_scan.specs.Surroundings.{IsAround, Turns}
 use Rattle.jk_scan.specs.WordNumbers.{byte_at}
 use Rattle.jk_scan.proofs.Laws.{lowest, rest_at, taken, on_or, on_and, on_not, on_set, on_zero, on_shl_any, step_is}
 use Rattle.jk_block.specs.encoding.Reached.{is_reached}
-use Rattle.jk_block.specs.Steps.{IsPlace}
+use Rattle.jk_block.specs.Steps.{IsBitPlace}
 use Rattle.jk_block.specs.declared.encoding.plane.BlockPlane.{BlockPlane}
-use Rattle.jk_block.specs.declared.spot.Spot.{Spot}
-use Rattle.jk_block.specs.encoding.Viewed.{seen, lit_at, moment_at, SpellsBit, SpellsSign, seen_at}
+use Rattle.jk_block.specs.declared.word_place.WordPlace.{WordPlace}
+use Rattle.jk_block.specs.encoding.Viewed.{seen, significant_at, moment_at, SpellsBit, SpellsSign, seen_at}
 use Rattle.jk_block.proofs.encoding.Coming.{mag, Told, told_none}
-use Rattle.jk_block.proofs.encoding.Propagated.{Awaits, awaits_all, awaits_rest, awaits_more, Propagated, propagated_to, NextSpread, propagated_next, propagated_place, lit_place, one_is}
+use Rattle.jk_block.proofs.encoding.Propagated.{Awaits, awaits_all, awaits_rest, awaits_more, Propagated, propagated_to, NextSpread, propagated_next, propagated_place, significant_place, one_is}
 use Rattle.jk_block.proofs.encoding.Timing.{codes}
 use Rattle.jk_block.proofs.encoding.Reaching.{reach_same, reach_none, reach_both}
 use Rattle.jk_block.proofs.WordBits.{true_le, is_spread, around_also, none_before}
@@ -96,7 +96,7 @@ with_centre centre around = record { centre = centre; west = around.west; east =
 -- The pass has come to bit n of a word. So far the places in `centre` are significant, and the
 -- candidates are the members of the pass from there on. All members to come are the candidates, and
 -- what will be reached from members to come with the bit 1.
-pub record Foreseen (v : BlockPlane) (at : Spot) (old list : Decided) (around : Around) (inside ones all rest : ℕ) : Type 0 where
+pub record Foreseen (v : BlockPlane) (at : WordPlace) (old list : Decided) (around : Around) (inside ones all rest : ℕ) : Type 0 where
   pub n : ℕ
   pub centre : ℕ
   pub candidates : ℕ
@@ -104,16 +104,16 @@ pub record Foreseen (v : BlockPlane) (at : Spot) (old list : Decided) (around : 
   pub fits : candidates < 2 ^ 64
   pub coming : Told v 0 at n old list
   pub shown : IsAround (bordered (seen_at v (moment_at v.shape 0 at.word at.stripe n) at.stripe)) at.word at.stripe (with_centre centre around)
-  pub awaits : Awaits v.shape (lit_at v (moment_at v.shape 0 at.word at.stripe n)) at.word at.stripe n candidates
+  pub awaits : Awaits v.shape (significant_at v (moment_at v.shape 0 at.word at.stripe n)) at.word at.stripe n candidates
   pub known : (m : ℕ) → m < n → on all m ≡ codes v.shape (mag v) 0 at.word at.stripe m
   pub turns : Turns centre (bit_or around.centre (bit_and all ones)) around.centre n
   pub rest_is : (m : ℕ) → m < 64 → on rest m ≡ (nat_le n m && on all m)
   pub ahead : (m : ℕ) → n ≤ m → m < 64 → on all m ≡ (on candidates m || (on (bit_and inside (bit_not w64 around.centre)) m && is_reached (λ k. nat_le n k && (on all k && on ones k)) m))
 
-abbrev propagated_of : (v : BlockPlane) (at : Spot) (old list : Decided) (around : Around) (inside ones all rest : ℕ) (h : Foreseen v at old list around inside ones all rest) → Propagated v at old list (with_centre h.centre around) h.candidates
+abbrev propagated_of : (v : BlockPlane) (at : WordPlace) (old list : Decided) (around : Around) (inside ones all rest : ℕ) (h : Foreseen v at old list around inside ones all rest) → Propagated v at old list (with_centre h.centre around) h.candidates
 propagated_of v at old list around inside ones all rest h = record { n = h.n; coming = h.coming; shown = h.shown; awaits = h.awaits }
 
-pub foreseen_none : (v : BlockPlane) (at : Spot) (list : Decided) (around : Around) (inside ones all candidates : ℕ) → at.stripe < stripes v.shape → around.centre < 2 ^ 64 → candidates < 2 ^ 64
+pub foreseen_none : (v : BlockPlane) (at : WordPlace) (list : Decided) (around : Around) (inside ones all candidates : ℕ) → at.stripe < stripes v.shape → around.centre < 2 ^ 64 → candidates < 2 ^ 64
     → IsAround (bordered (seen_at v (moment_at v.shape 0 at.word at.stripe 0) at.stripe)) at.word at.stripe around
     → Shows of_rows (is_member (bordered (is_inside v.shape)) (bordered (seen_at v (moment_at v.shape 0 at.word at.stripe 0) at.stripe))) (at.word + 1) (at.stripe + 1) candidates
     → ((m : ℕ) → m < 64 → on all m ≡ (on candidates m || (on (bit_and inside (bit_not w64 around.centre)) m && is_reached (λ k. on all k && on ones k) m)))
@@ -127,7 +127,7 @@ foreseen_none v at list around inside ones all candidates stripe centre_fits fit
   coming = told_none v 0 at list stripe;
   known = λ m l. absurd (omega (arith, l));
   shown = record { centre = shown.centre; west = shown.west; east = shown.east };
-  awaits = awaits_all v.shape (lit_at v (moment_at v.shape 0 at.word at.stripe 0)) at.word at.stripe candidates members;
+  awaits = awaits_all v.shape (significant_at v (moment_at v.shape 0 at.word at.stripe 0)) at.word at.stripe candidates members;
   turns = record { before = λ m l. absurd (omega (arith, l)); behind = λ m l h. refl };
   rest_is = λ m l. ap (λ b. b && on all m) (let e : true ≡ nat_le 0 m = grind (arith, nat_tests) in e);
   ahead = λ m l h.
@@ -179,7 +179,7 @@ lowest_is w z fits within set clear = (some, same)
         ]
 
 -- the next place that is coded
-pub record NextForeseen (v : BlockPlane) (at : Spot) (around : Around) (ones all rest n candidates : ℕ) : Type 0 where
+pub record NextForeseen (v : BlockPlane) (at : WordPlace) (around : Around) (ones all rest n candidates : ℕ) : Type 0 where
   pub some : 0 < candidates
   pub is : trailing_zeros w64 candidates ≡ trailing_zeros w64 rest
   pub onward : n ≤ trailing_zeros w64 rest
@@ -187,7 +187,7 @@ pub record NextForeseen (v : BlockPlane) (at : Spot) (around : Around) (ones all
   pub quiet : (m : ℕ) → n ≤ m → m < trailing_zeros w64 rest → on all m ≡ false
   pub member : on all (trailing_zeros w64 rest) ≡ true
 
-pub foreseen_lowest : (v : BlockPlane) (at : Spot) (old list : Decided) (around : Around) (inside ones all rest : ℕ) (h : Foreseen v at old list around inside ones all rest) → 0 < rest → rest < 2 ^ 64
+pub foreseen_lowest : (v : BlockPlane) (at : WordPlace) (old list : Decided) (around : Around) (inside ones all rest : ℕ) (h : Foreseen v at old list around inside ones all rest) → 0 < rest → rest < 2 ^ 64
     → NextForeseen v at around ones all rest h.n h.candidates
 foreseen_lowest v at old list around inside ones all rest h p q =
     let l = lowest rest p q in
@@ -199,7 +199,7 @@ foreseen_lowest v at old list around inside ones all rest h p q =
     let unreached : is_reached (λ k. nat_le h.n k && (on all k && on ones k)) z ≡ false = reach_none (λ k. nat_le h.n k && (on all k && on ones k)) z (λ k less. off h.n k (on all k) (on ones k) (λ le. quiet k le less)) in
     let set : on h.candidates z ≡ true = only (on all z) (on h.candidates z) (on (bit_and inside (bit_not w64 around.centre)) z) (is_reached (λ k. nat_le h.n k && (on all k && on ones k)) z) (h.ahead z onward l.0) both.1 unreached in
     let clear : (m : ℕ) → m < z → on h.candidates m ≡ false = λ m less. elim (cases_lt m h.n) [
-      | inl before ↦ early (on h.candidates m) (nat_le h.n m) (is_spread v.shape (lit_at v (moment_at v.shape 0 at.word at.stripe h.n)) at.word at.stripe m) (h.awaits m (omega (arith, less, within))) (not_le h.n m before)
+      | inl before ↦ early (on h.candidates m) (nat_le h.n m) (is_spread v.shape (significant_at v (moment_at v.shape 0 at.word at.stripe h.n)) at.word at.stripe m) (h.awaits m (omega (arith, less, within))) (not_le h.n m before)
       | inr from ↦ no_first (on all m) (on h.candidates m) (on (bit_and inside (bit_not w64 around.centre)) m && is_reached (λ k. nat_le h.n k && (on all k && on ones k)) m) (h.ahead m from (omega (arith, less, within))) (quiet m from less)
     ] in
     let low = lowest_is h.candidates z h.fits l.0 set clear in
@@ -218,14 +218,14 @@ foreseen_lowest v at old list around inside ones all rest h p q =
     early c l d e g = grind (arith, nat_tests)
 
 -- the next place, as it is coded
-pub foreseen_next : (v : BlockPlane) (at : Spot) (old list : Decided) (around : Around) (inside ones all rest : ℕ) (h : Foreseen v at old list around inside ones all rest) → 0 < rest → rest < 2 ^ 64
+pub foreseen_next : (v : BlockPlane) (at : WordPlace) (old list : Decided) (around : Around) (inside ones all rest : ℕ) (h : Foreseen v at old list around inside ones all rest) → 0 < rest → rest < 2 ^ 64
     → NextSpread v at old list (with_centre h.centre around) h.n (trailing_zeros w64 rest)
 foreseen_next v at old list around inside ones all rest h p q =
     let low = foreseen_lowest v at old list around inside ones all rest h p q in
     subst (λ z. NextSpread v at old list (with_centre h.centre around) h.n z) low.is
     (propagated_next v at old list (with_centre h.centre around) h.candidates (propagated_of v at old list around inside ones all rest h) low.some h.fits)
 
-pub foreseen_turns : (v : BlockPlane) (at : Spot) (old list : Decided) (around : Around) (inside ones all rest : ℕ) (h : Foreseen v at old list around inside ones all rest) → 0 < rest → rest < 2 ^ 64
+pub foreseen_turns : (v : BlockPlane) (at : WordPlace) (old list : Decided) (around : Around) (inside ones all rest : ℕ) (h : Foreseen v at old list around inside ones all rest) → 0 < rest → rest < 2 ^ 64
     → Turns h.centre (bit_or around.centre (bit_and all ones)) around.centre (trailing_zeros w64 rest)
 foreseen_turns v at old list around inside ones all rest h p q =
     let low = foreseen_lowest v at old list around inside ones all rest h p q in
@@ -243,7 +243,7 @@ step_on : (z m : ℕ) (rest n due : Bool) (k : ℕ) → k ≤ z → rest ≡ (na
 step_on z m rest n due k h a b = grind (arith, nat_tests)
 
 -- a place was listed
-pub foreseen_place : (v : BlockPlane) (at : Spot) (old list list' : Decided) (around : Around) (inside ones all rest : ℕ) (h : Foreseen v at old list around inside ones all rest) → 0 < rest → rest < 2 ^ 64
+pub foreseen_place : (v : BlockPlane) (at : WordPlace) (old list list' : Decided) (around : Around) (inside ones all rest : ℕ) (h : Foreseen v at old list around inside ones all rest) → 0 < rest → rest < 2 ^ 64
     → inside < 2 ^ 64 → around.centre < 2 ^ 64 → Shows of_rows (bordered (is_inside v.shape)) (at.word + 1) (at.stripe + 1) inside
     → on ones (trailing_zeros w64 rest) ≡ is_one (mag v (column at.word (trailing_zeros w64 rest)) (row at.stripe (trailing_zeros w64 rest)))
     → ((t : ℕ) → IsAround (bordered (seen_at v t at.stripe)) at.word at.stripe (with_centre h.centre around) → list' ≡ list ++ new_decisions v.shape (seen v) t (column at.word (trailing_zeros w64 rest)) (row at.stripe (trailing_zeros w64 rest)))
@@ -359,7 +359,7 @@ foreseen_place v at old list list' around inside ones all rest h p q inside_fits
       coming = coming';
       known = known';
       shown = subst (λ (f : Field Bool). IsAround (bordered (seen_from v.shape i f)) j i (with_centre h.centre around)) (sym unlit) h.shown;
-      awaits = awaits_rest v.shape (lit_at v (moment_at v.shape 0 j i h.n)) (lit_at v u) j i h.n w low.some h.fits onward unlit h.awaits;
+      awaits = awaits_rest v.shape (significant_at v (moment_at v.shape 0 j i h.n)) (significant_at v u) j i h.n w low.some h.fits onward unlit h.awaits;
       turns = record {
         before = λ m less. elim (cases_lt m z) [
           | inl before ↦ quiet_before m before
@@ -375,8 +375,8 @@ foreseen_place v at old list list' around inside ones all rest h p q inside_fits
           ∙ taken_none (on w m) (on (bit_and w (w - 1)) m) (on (bit_and inside (bit_not w64 around.centre)) m) (is_reached (λ k. nat_le (z + 1) k && (on all k && on ones k)) m) (kept m le);
     }
       where
-        unlit : lit_at v u ≡ lit_at v (moment_at v.shape 0 j i h.n)
-        unlit = (lit_place v 0 j i z (on ones z) next.coming.stripe next.due (one' ∙ one_is v 0 j i z next.due refl)).0 bit ∙ next.lit
+        unlit : significant_at v u ≡ significant_at v (moment_at v.shape 0 j i h.n)
+        unlit = (significant_place v 0 j i z (on ones z) next.coming.stripe next.due (one' ∙ one_is v 0 j i z next.due refl)).0 bit ∙ next.known_significant
     by true bit = record {
       n = z + 1;
       centre = centre';
@@ -387,8 +387,8 @@ foreseen_place v at old list list' around inside ones all rest h p q inside_fits
           (let e = and_le_l (bit_and (0x382 * 2 ^ z % 2 ^ 64) inside) (bit_not w64 centre') in let g = and_le_r (0x382 * 2 ^ z % 2 ^ 64) inside in omega (arith, e, g, inside_fits));
       coming = coming';
       known = known';
-      shown = around_also v.shape (lit_at v t) (lit_at v u) j i z (with_centre h.centre around) within next.place.on_row lit next.shown;
-      awaits = awaits_more v.shape (lit_at v (moment_at v.shape 0 j i h.n)) (lit_at v u) j i h.n w inside h.centre low.some h.fits h.centre_fits within next.place.on_row onward lit_n limits h.shown.centre h.awaits;
+      shown = around_also v.shape (significant_at v t) (significant_at v u) j i z (with_centre h.centre around) within next.place.on_row known_significant next.shown;
+      awaits = awaits_more v.shape (significant_at v (moment_at v.shape 0 j i h.n)) (significant_at v u) j i h.n w inside h.centre low.some h.fits h.centre_fits within next.place.on_row onward significant_n limits h.shown.centre h.awaits;
       turns = record {
         before = λ m less. on_set h.centre z 64 m (let w = within in omega (arith, less, w)) ∙ elim (cases_lt m z) [
           | inl before ↦ other (on h.centre m) (on (bit_or around.centre (bit_and all ones)) m) (nat_eq m z) (quiet_before m before) (apart_below m z before)
@@ -408,11 +408,11 @@ foreseen_place v at old list list' around inside ones all rest h p q inside_fits
         centre'_fits : centre' < 2 ^ 64
         centre'_fits = or_lt 64 h.centre (1 * 2 ^ z % 2 ^ 64) h.centre_fits (mod-lt (1 * 2 ^ z) (pow_pos 64))
 
-        lit : (x y : ℕ) → lit_at v u x y ≡ also (lit_at v t) (column j z) (row i z) x y
-        lit = (lit_place v 0 j i z (on ones z) next.coming.stripe next.due (one' ∙ one_is v 0 j i z next.due refl)).1 bit
+        known_significant : (x y : ℕ) → significant_at v u x y ≡ also (significant_at v t) (column j z) (row i z) x y
+        known_significant = (significant_place v 0 j i z (on ones z) next.coming.stripe next.due (one' ∙ one_is v 0 j i z next.due refl)).1 bit
 
-        lit_n : (x y : ℕ) → lit_at v u x y ≡ also (lit_at v (moment_at v.shape 0 j i h.n)) (column j z) (row i z) x y
-        lit_n x y = lit x y ∙ ap (λ (f : Field Bool). also f (column j z) (row i z) x y) next.lit
+        significant_n : (x y : ℕ) → significant_at v u x y ≡ also (significant_at v (moment_at v.shape 0 j i h.n)) (column j z) (row i z) x y
+        significant_n x y = known_significant x y ∙ ap (λ (f : Field Bool). also f (column j z) (row i z) x y) next.known_significant
 
         late : (m : ℕ) → z + 1 ≤ m → m < 64 → on centre' m ≡ on around.centre m
         late m le l = on_set h.centre z 64 m l ∙ other (on h.centre m) (on around.centre m) (nat_eq m z) (h.turns.behind m (let o = onward in omega (arith, o, le)) l) (apart m z le)
@@ -423,7 +423,7 @@ foreseen_place v at old list list' around inside ones all rest h p q inside_fits
             ∙ and_same (on_and (0x382 * 2 ^ z % 2 ^ 64) inside m ∙ ap (λ b. b && on inside m) (on_shl_any 0x382 z 64 m l ∙ and_true (nat_le z m) (on 0x382 (m - z)) (is_le z m (omega (arith, le))) ∙ step_is (m - z) (omega (arith, l))))
             (on_not w64 centre' m centre'_fits l ∙ ap not (late m le l))
 
-pub foreseen_all : (v : BlockPlane) (at : Spot) (old list : Decided) (around : Around) (inside ones all rest : ℕ) → Foreseen v at old list around inside ones all rest → rest ≡ 0
+pub foreseen_all : (v : BlockPlane) (at : WordPlace) (old list : Decided) (around : Around) (inside ones all rest : ℕ) → Foreseen v at old list around inside ones all rest → rest ≡ 0
     → Told v 0 at 64 old list × ((m : ℕ) → m < 64 → on all m ≡ codes v.shape (mag v) 0 at.word at.stripe m)
 foreseen_all v at old list around inside ones all rest h empty =
     let end = propagated_to v at old list (with_centre h.centre around) h.candidates (propagated_of v at old list around inside ones all rest h) 64 h.coming.most (omega arith) clear in (
@@ -439,34 +439,34 @@ foreseen_all v at old list around inside ones all rest h empty =
 
     clear : (m : ℕ) → m < 64 → on h.candidates m ≡ false
     clear m l = elim (cases_lt m h.n) [
-      | inl before ↦ early (on h.candidates m) (nat_le h.n m) (is_spread v.shape (lit_at v (moment_at v.shape 0 at.word at.stripe h.n)) at.word at.stripe m) (h.awaits m l) (not_le h.n m before)
+      | inl before ↦ early (on h.candidates m) (nat_le h.n m) (is_spread v.shape (significant_at v (moment_at v.shape 0 at.word at.stripe h.n)) at.word at.stripe m) (h.awaits m l) (not_le h.n m before)
       | inr from ↦ no_first (on all m) (on h.candidates m) (on (bit_and inside (bit_not w64 around.centre)) m && is_reached (λ k. nat_le h.n k && (on all k && on ones k)) m) (h.ahead m from l) (none m from l)
     ]
 
 -- The bytes of the decisions of each place, as a word's places are listed: of their bits, and of
 -- their signs.
-abbrev pub HasBits : BlockPlane → Spot → Around → (new : ℕ) → List ℕ → Type 0
+abbrev pub HasBits : BlockPlane → WordPlace → Around → (new : ℕ) → List ℕ → Type 0
 HasBits v at around new bits =
-    (t centre k : ℕ) → IsPlace v.shape at k → centre < 2 ^ 64 → Turns centre new around.centre k → IsAround (bordered (seen_at v t at.stripe)) at.word at.stripe (with_centre centre around)
+    (t centre k : ℕ) → IsBitPlace v.shape at k → centre < 2 ^ 64 → Turns centre new around.centre k → IsAround (bordered (seen_at v t at.stripe)) at.word at.stripe (with_centre centre around)
     → SpellsBit v t (column at.word k) (row at.stripe k) (byte_at bits k)
 
-abbrev pub HasSigns : BlockPlane → Spot → Around → (new : ℕ) → List ℕ → Type 0
+abbrev pub HasSigns : BlockPlane → WordPlace → Around → (new : ℕ) → List ℕ → Type 0
 HasSigns v at around new signs =
-    (t centre k : ℕ) → IsPlace v.shape at k → centre < 2 ^ 64 → Turns centre new around.centre k → IsAround (bordered (seen_at v t at.stripe)) at.word at.stripe (with_centre centre around)
+    (t centre k : ℕ) → IsBitPlace v.shape at k → centre < 2 ^ 64 → Turns centre new around.centre k → IsAround (bordered (seen_at v t at.stripe)) at.word at.stripe (with_centre centre around)
     → SpellsSign v t (column at.word k) (row at.stripe k) (byte_at signs k)
 
-pub record Listing (v : BlockPlane) (at : Spot) (old list : Decided) (inside ones all : ℕ) (bits signs : List ℕ) (rest : ℕ) : Type 0 where
+pub record Listing (v : BlockPlane) (at : WordPlace) (old list : Decided) (inside ones all : ℕ) (bits signs : List ℕ) (rest : ℕ) : Type 0 where
   pub around : Around
   pub fits : around.centre < 2 ^ 64
   pub foreseen : Foreseen v at old list around inside ones all rest
   pub bits_are : HasBits v at around (bit_or around.centre (bit_and all ones)) bits
   pub signs_are : HasSigns v at around (bit_or around.centre (bit_and all ones)) signs
 
-pub listing_next : (v : BlockPlane) (at : Spot) (old list : Decided) (inside ones all : ℕ) (bits signs : List ℕ) (rest : ℕ) → Listing v at old list inside ones all bits signs rest → 0 < rest → rest < 2 ^ 64
-    → IsPlace v.shape at (trailing_zeros w64 rest)
+pub listing_next : (v : BlockPlane) (at : WordPlace) (old list : Decided) (inside ones all : ℕ) (bits signs : List ℕ) (rest : ℕ) → Listing v at old list inside ones all bits signs rest → 0 < rest → rest < 2 ^ 64
+    → IsBitPlace v.shape at (trailing_zeros w64 rest)
 listing_next v at old list inside ones all bits signs rest h p q = (foreseen_next v at old list h.around inside ones all rest h.foreseen p q).place
 
-pub listing_place : (v : BlockPlane) (at : Spot) (old list list' : Decided) (inside ones all : ℕ) (bits signs : List ℕ) (rest : ℕ) → Listing v at old list inside ones all bits signs rest → 0 < rest → rest < 2 ^ 64
+pub listing_place : (v : BlockPlane) (at : WordPlace) (old list list' : Decided) (inside ones all : ℕ) (bits signs : List ℕ) (rest : ℕ) → Listing v at old list inside ones all bits signs rest → 0 < rest → rest < 2 ^ 64
     → inside < 2 ^ 64 → Shows of_rows (bordered (is_inside v.shape)) (at.word + 1) (at.stripe + 1) inside
     → on ones (trailing_zeros w64 rest) ≡ is_one (mag v (column at.word (trailing_zeros w64 rest)) (row at.stripe (trailing_zeros w64 rest)))
     → ((t : ℕ) → SpellsBit v t (column at.word (trailing_zeros w64 rest)) (row at.stripe (trailing_zeros w64 rest)) (byte_at bits (trailing_zeros w64 rest))
@@ -487,6 +487,6 @@ listing_place v at old list list' inside ones all bits signs rest h p q inside_f
       signs_are = h.signs_are;
     }
 
-pub listing_all : (v : BlockPlane) (at : Spot) (old list : Decided) (inside ones all : ℕ) (bits signs : List ℕ) (rest : ℕ) → Listing v at old list inside ones all bits signs rest → rest ≡ 0
+pub listing_all : (v : BlockPlane) (at : WordPlace) (old list : Decided) (inside ones all : ℕ) (bits signs : List ℕ) (rest : ℕ) → Listing v at old list inside ones all bits signs rest → rest ≡ 0
     → Told v 0 at 64 old list × ((m : ℕ) → m < 64 → on all m ≡ codes v.shape (mag v) 0 at.word at.stripe m)
 listing_all v at old list inside ones all bits signs rest h empty = foreseen_all v at old list h.around inside ones all rest h.foreseen empty

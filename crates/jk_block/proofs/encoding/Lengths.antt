@@ -15,7 +15,7 @@ use Rattle.jk_scan.specs.declared.shape.BlockShape.{BlockShape}
 use Rattle.jk_scan.specs.Neighbours.{Field, is_inside}
 use Rattle.jk_scan.specs.Moments.{number, visits, stripes, pass_of}
 use Rattle.jk_scan.specs.Contexts.{run_length, uniform}
-use Rattle.jk_scan.specs.Passes.{Plane, Decided, is_one, joined, sign_decision, new_decisions, own_decisions, place_decisions, rows_decisions, runs, first_one, run_decisions, column_decisions, plane_decisions}
+use Rattle.jk_scan.specs.Passes.{BlockAtPlane, Decided, is_one, joined, sign_decision, new_decisions, own_decisions, place_decisions, rows_decisions, in_run_mode, first_one, run_decisions, column_decisions, plane_decisions}
 use Rattle.jk_block.specs.Symbols.{segmentation_symbol, ends_with_symbol, closing_decisions}
 use Rattle.jk_block.specs.Meaning.{plane_of, kind_of, plane_at, whole_decisions, pass_decisions}
 use Rattle.jk_block.specs.BlockWritten.{bytes_of}
@@ -135,7 +135,7 @@ joined_few (suc n) c each h =
     let e : suc n * c ≡ n * c + c = omega arith in
     omega (arith, a, r, l, e)
 
-new_few : (s : BlockShape) (p : Plane) (t x y : ℕ) → length (new_decisions s p t x y) ≤ 2
+new_few : (s : BlockShape) (p : BlockAtPlane) (t x y : ℕ) → length (new_decisions s p t x y) ≤ 2
 unfolding new_decisions
 new_few s p t x y = by (is_one (p.magnitude x y))
   where
@@ -143,7 +143,7 @@ new_few s p t x y = by (is_one (p.magnitude x y))
     by true = omega arith
     by false = omega arith
 
-place_few : (s : BlockShape) (p : Plane) (pass x y : ℕ) → length (place_decisions s p pass x y) ≤ 2
+place_few : (s : BlockShape) (p : BlockAtPlane) (pass x y : ℕ) → length (place_decisions s p pass x y) ≤ 2
 unfolding place_decisions
 place_few s p pass x y = by (is_inside s x y && nat_eq (pass_of s p.magnitude x y) pass)
   where
@@ -156,10 +156,10 @@ place_few s p pass x y = by (is_inside s x y && nat_eq (pass_of s p.magnitude x 
     by true = own pass (pass * visits s + number s.width x y)
     by false = omega arith
 
-rows_few : (s : BlockShape) (p : Plane) (pass x i j n : ℕ) → length (rows_decisions s p pass x i j n) ≤ n * 2
+rows_few : (s : BlockShape) (p : BlockAtPlane) (pass x i j n : ℕ) → length (rows_decisions s p pass x i j n) ≤ n * 2
 rows_few s p pass x i j n = joined_few n 2 (λ k. place_decisions s p pass x (4 * i + (j + k))) (λ k. place_few s p pass x (4 * i + (j + k)))
 
-run_few : (s : BlockShape) (p : Plane) (x i f : ℕ) → length (run_decisions s p x i f) ≤ 10
+run_few : (s : BlockShape) (p : BlockAtPlane) (x i f : ℕ) → length (run_decisions s p x i f) ≤ 10
 unfolding run_decisions
 run_few s p x i f = by (nat_eq f 4)
   where
@@ -167,15 +167,15 @@ run_few s p x i f = by (nat_eq f 4)
     by true = omega arith
     by false = let r = rows_few s p 2 x i (f + 1) (3 - f) in omega (arith, r)
 
-column_few : (s : BlockShape) (p : Plane) (pass x i : ℕ) → length (column_decisions s p pass x i) ≤ 10
+column_few : (s : BlockShape) (p : BlockAtPlane) (pass x i : ℕ) → length (column_decisions s p pass x i) ≤ 10
 unfolding column_decisions
-column_few s p pass x i = by (nat_eq pass 2 && runs s p.magnitude x i)
+column_few s p pass x i = by (nat_eq pass 2 && in_run_mode s p.magnitude x i)
   where
     by : (b : Bool) → length (cond b (run_decisions s p x i (first_one p.magnitude x i)) (rows_decisions s p pass x i 0 4)) ≤ 10
     by true = run_few s p x i (first_one p.magnitude x i)
     by false = let r = rows_few s p pass x i 0 4 in omega (arith, r)
 
-plane_few : (s : BlockShape) (p : Plane) (pass : ℕ) → length (plane_decisions s p pass) ≤ stripes s * (s.width * 10)
+plane_few : (s : BlockShape) (p : BlockAtPlane) (pass : ℕ) → length (plane_decisions s p pass) ≤ stripes s * (s.width * 10)
 unfolding plane_decisions
 plane_few s p pass = joined_few (stripes s) (s.width * 10) (λ i. joined s.width (λ x. column_decisions s p pass x i)) (λ i. joined_few s.width 10 (λ x. column_decisions s p pass x i) (λ x. column_few s p pass x i))
 
@@ -186,7 +186,7 @@ closing_few style pass = by (ends_with_symbol style pass)
     by true = lit≤ tt
     by false = omega arith
 
-pub pass_small : (s : BlockShape) (p : Plane) (pass : ℕ) → s.width ≤ 1024 → s.width * s.height ≤ 4096 → length (whole_decisions s p pass) ≤ 17924
+pub pass_small : (s : BlockShape) (p : BlockAtPlane) (pass : ℕ) → s.width ≤ 1024 → s.width * s.height ≤ 4096 → length (whole_decisions s p pass) ≤ 17924
 pass_small s p pass narrow area =
     let both = length-append (plane_decisions s p pass) (closing_decisions s.style pass) in
     let four = closing_few s.style pass in

@@ -16,9 +16,9 @@ use Rattle.jk_scan.specs.WordPlaces.{column, row}
 use Rattle.jk_scan.specs.Flags.{IsSized, IsDrawn, across, word_at}
 use Rattle.jk_scan.proofs.Laws.{seen_own, row_stripe, drawn_same, drawn_none, inside_parts, rows_between}
 use Rattle.jk_block.specs.Meaning.{plane_at, value_in}
-use Rattle.jk_block.specs.Steps.{IsPlace}
+use Rattle.jk_block.specs.Steps.{IsBitPlace}
 use Rattle.jk_block.specs.declared.encoding.plane.BlockPlane.{BlockPlane}
-use Rattle.jk_block.specs.declared.spot.Spot.{Spot}
+use Rattle.jk_block.specs.declared.word_place.WordPlace.{WordPlace}
 use Rattle.jk_block.specs.Fields.{words_of}
 use Rattle.jk_block.specs.encoding.Viewed.{seen, negative_in}
 use Rattle.jk_block.specs.encoding.Slices.{signed, bit_in, negative_of, negative_to, IsShort, IsPlaneWord}
@@ -89,7 +89,7 @@ negative_all s q n words e = drawn_same s (negative_to s q n) (negative_of s q) 
         turned b = grind (arith, nat_tests)
 
 -- the sign of a place
-pub sign_bit : (v : BlockPlane) (at : Spot) (k : ℕ) (signs : Around) → IsPlace v.shape at k → IsAround (bordered (seen_from v.shape at.stripe (negative_in v))) at.word at.stripe signs → on signs.centre k ≡ (seen v).negative (column at.word k) (row at.stripe k)
+pub sign_bit : (v : BlockPlane) (at : WordPlace) (k : ℕ) (signs : Around) → IsBitPlace v.shape at k → IsAround (bordered (seen_from v.shape at.stripe (negative_in v))) at.word at.stripe signs → on signs.centre k ≡ (seen v).negative (column at.word k) (row at.stripe k)
 unfolding plane_at
 sign_bit v at k signs place h =
     let shifted = place_shifted at.word at.stripe k place.on_row in

@@ -15,17 +15,17 @@ use Rattle.jk_scan.specs.Words.{Truths, of_rows, of_gathered, Shows, bordered, i
 use Rattle.jk_scan.specs.WordPlaces.{column, row, also}
 use Rattle.jk_scan.specs.Surroundings.{IsAround}
 use Rattle.jk_scan.proofs.Laws.{same_field, set_shows, added_at, lowest, rest_at, taken, taken_low, set_below, on_or, on_zero, inside_parts, cases_of, seen_also}
-use Rattle.jk_block.specs.Steps.{IsPlace}
+use Rattle.jk_block.specs.Steps.{IsBitPlace}
 use Rattle.jk_block.specs.declared.encoding.flags.Flags.{Flags}
 use Rattle.jk_block.specs.declared.encoding.plane.BlockPlane.{BlockPlane}
-use Rattle.jk_block.specs.declared.spot.Spot.{Spot}
-use Rattle.jk_block.specs.encoding.Viewed.{seen, lit_at, IsFlagged, moment_at, seen_at}
-use Rattle.jk_block.proofs.encoding.Coming.{mag, mag_outside, Same, same_flags, same_lit, idle_none, idle_until, idle_to, Told, told_none, told_skip, told_place}
+use Rattle.jk_block.specs.declared.word_place.WordPlace.{WordPlace}
+use Rattle.jk_block.specs.encoding.Viewed.{seen, significant_at, IsFlagged, moment_at, seen_at}
+use Rattle.jk_block.proofs.encoding.Coming.{mag, mag_outside, Same, same_flags, same_significant, idle_none, idle_until, idle_to, Told, told_none, told_skip, told_place}
 use Rattle.jk_block.proofs.encoding.Listed.{place_new}
 use Rattle.jk_block.proofs.encoding.Remaining.{is_run}
 use Rattle.jk_block.proofs.Seeing.{is_due}
 use Rattle.jk_block.proofs.encoding.Testing.{spread_codes, due_inside}
-use Rattle.jk_block.proofs.encoding.Timing.{here, codes, lit_bit, moment_place}
+use Rattle.jk_block.proofs.encoding.Timing.{here, codes, significant_bit, moment_place}
 use Rattle.jk_block.proofs.WordBits.{is_spread, spread_is_member, bordered_also, none_before}
 
 -- Bits of a word are the members of a pass from bit n on.
@@ -44,7 +44,7 @@ awaits_rest s f g j i n w p q le e h m l =
 pub awaits_more : (s : BlockShape) (f g : Field Bool) (j i n w inside own : ℕ) → 0 < w → w < 2 ^ 64 → own < 2 ^ 64 → trailing_zeros w64 w < 64 → of_rows (trailing_zeros w64 w % 8) ≡ true → n ≤ trailing_zeros w64 w
     → ((x y : ℕ) → g x y ≡ also f (column j (trailing_zeros w64 w)) (row i (trailing_zeros w64 w)) x y) → Shows of_rows (bordered (is_inside s)) (j + 1) (i + 1) inside → Shows of_gathered (bordered (seen_from s i f)) (j + 1) (i + 1) own → Awaits s f j i n w
     → Awaits s g j i (trailing_zeros w64 w + 1) (bit_or (bit_and w (w - 1)) (taken inside (bit_or own (1 * 2 ^ trailing_zeros w64 w % 2 ^ 64)) (trailing_zeros w64 w)))
-awaits_more s f g j i n w inside own p q xb within on_row le lit limits shown h m l =
+awaits_more s f g j i n w inside own p q xb within on_row le known_significant limits shown h m l =
     let z = trailing_zeros w64 w in
     let x' = bit_or own (1 * 2 ^ z % 2 ^ 64) in
     on_or (bit_and w (w - 1)) (taken inside x' z) m
@@ -53,7 +53,7 @@ awaits_more s f g j i n w inside own p q xb within on_row le lit limits shown h 
     (λ later. ap (λ b. b || on (taken inside x' z) m) (sym (spread_is_member s f j i m))
     ∙ added_at (bordered (seen_from s i f)) (bordered (is_inside s)) j i x' inside z m (set_below own z xb) later l on_row (set_shows (bordered (seen_from s i f)) j i own z within on_row shown) limits
     ∙ ap (λ (g : Truths). of_rows (m % 8) && is_member (bordered (is_inside s)) g (column (j + 1) m) (row (i + 1) m))
-    (sym (bordered_also (seen_from s i f) j i z on_row) ∙ sym (ap (λ (g : Truths). bordered g) (same_field (seen_from s i g) (also (seen_from s i f) (column j z) (row i z)) (seen_also s f g j i z on_row lit))))
+    (sym (bordered_also (seen_from s i f) j i z on_row) ∙ sym (ap (λ (g : Truths). bordered g) (same_field (seen_from s i g) (also (seen_from s i f) (column j z) (row i z)) (seen_also s f g j i z on_row known_significant))))
     ∙ spread_is_member s g j i m)
   where
     from : (n z m : ℕ) → n ≤ z → z < m → nat_le n m ≡ true
@@ -71,14 +71,14 @@ awaits_all s f j i w members m l =
     ap (on w) (let e : m ≡ 8 * (m / 8) + m % 8 = omega arith in e) ∙ members (m / 8) (m % 8) (omega arith) (omega arith)
     ∙ spread_is_member s f j i m ∙ ap (λ b. b && is_spread s f j i m) (let e : true ≡ nat_le 0 m = grind (arith, nat_tests) in e)
 
-pub record Propagated (v : BlockPlane) (at : Spot) (old list : Decided) (around : Around) (candidates : ℕ) : Type 0 where
+pub record Propagated (v : BlockPlane) (at : WordPlace) (old list : Decided) (around : Around) (candidates : ℕ) : Type 0 where
   pub n : ℕ
   pub coming : Told v 0 at n old list
   pub shown : IsAround (bordered (seen_at v (moment_at v.shape 0 at.word at.stripe n) at.stripe)) at.word at.stripe around
-  pub awaits : Awaits v.shape (lit_at v (moment_at v.shape 0 at.word at.stripe n)) at.word at.stripe n candidates
+  pub awaits : Awaits v.shape (significant_at v (moment_at v.shape 0 at.word at.stripe n)) at.word at.stripe n candidates
 
 -- nothing is coded where there is no member
-quiet_until : (v : BlockPlane) (j i n z : ℕ) → i < stripes v.shape → ((m : ℕ) → n ≤ m → m < z → is_spread v.shape (lit_at v (moment_at v.shape 0 j i n)) j i m ≡ false) → (d : ℕ) → n + d ≤ z
+quiet_until : (v : BlockPlane) (j i n z : ℕ) → i < stripes v.shape → ((m : ℕ) → n ≤ m → m < z → is_spread v.shape (significant_at v (moment_at v.shape 0 j i n)) j i m ≡ false) → (d : ℕ) → n + d ≤ z
     → Same v (moment_at v.shape 0 j i n) (moment_at v.shape 0 j i (n + d)) × ((m : ℕ) → n ≤ m → m < n + d → codes v.shape (mag v) 0 j i m ≡ false)
 quiet_until v j i n z stripe off zero h = (
   idle_until v 0 j i n 0 stripe (λ m a b. absurd (omega (arith, a, b))),
@@ -91,7 +91,7 @@ quiet_until v j i n z stripe off (suc d) h =
       | inr last ↦
           let e : n + d ≡ m = omega (arith, b, last) in
           subst (λ m. codes v.shape (mag v) 0 j i m ≡ false) e
-          (sym (spread_codes v.shape (mag v) j i (n + d)) ∙ ap (λ (f : Field Bool). is_spread v.shape f j i (n + d)) (same_lit v (moment_at v.shape 0 j i n) (moment_at v.shape 0 j i (n + d)) before.0) ∙ off (n + d) (omega arith) (omega (arith, h)))
+          (sym (spread_codes v.shape (mag v) j i (n + d)) ∙ ap (λ (f : Field Bool). is_spread v.shape f j i (n + d)) (same_significant v (moment_at v.shape 0 j i n) (moment_at v.shape 0 j i (n + d)) before.0) ∙ off (n + d) (omega arith) (omega (arith, h)))
     ] in (
       idle_until v 0 j i n (suc d) stripe (λ m a b. idle_none v 0 j i m (clear m a b)),
       clear,
@@ -105,32 +105,32 @@ no_run s a j i c = none (nat_lt (8 * j + c) s.width)
     none false = refl
 
 -- up to a bit before which there is no candidate
-pub propagated_to : (v : BlockPlane) (at : Spot) (old list : Decided) (around : Around) (w : ℕ) (st : Propagated v at old list around w) (z : ℕ) → st.n ≤ z → z ≤ 64 → ((m : ℕ) → m < z → on w m ≡ false)
-    → Told v 0 at z old list × (lit_at v (moment_at v.shape 0 at.word at.stripe z) ≡ lit_at v (moment_at v.shape 0 at.word at.stripe st.n))
+pub propagated_to : (v : BlockPlane) (at : WordPlace) (old list : Decided) (around : Around) (w : ℕ) (st : Propagated v at old list around w) (z : ℕ) → st.n ≤ z → z ≤ 64 → ((m : ℕ) → m < z → on w m ≡ false)
+    → Told v 0 at z old list × (significant_at v (moment_at v.shape 0 at.word at.stripe z) ≡ significant_at v (moment_at v.shape 0 at.word at.stripe st.n))
     × ((m : ℕ) → st.n ≤ m → m < z → codes v.shape (mag v) 0 at.word at.stripe m ≡ false)
 propagated_to v at old list around w st z le most clear =
     let j = at.word in
     let i = at.stripe in
-    let f = lit_at v (moment_at v.shape 0 j i st.n) in
+    let f = significant_at v (moment_at v.shape 0 j i st.n) in
     let u = quiet_until v j i st.n z st.coming.stripe
     (λ m a b. none_before (on w m) (nat_le st.n m) (is_spread v.shape f j i m) (clear m b) (st.awaits m (omega (arith, b, most))) (let g : nat_le st.n m ≡ true = grind (arith, nat_tests) in g)) (z - st.n) (omega (arith, le)) in
     let e : st.n + (z - st.n) ≡ z = omega (arith, le) in (
       told_skip v 0 at st.n z old list st.coming le most (λ l a b. record { plain = λ _. no_run v.shape (mag v) j i (l / 8); idle = u.1 l a (omega (arith, b, e)) }),
-      subst (λ k. lit_at v (moment_at v.shape 0 j i k) ≡ f) e (same_lit v (moment_at v.shape 0 j i st.n) (moment_at v.shape 0 j i (st.n + (z - st.n))) u.0),
+      subst (λ k. significant_at v (moment_at v.shape 0 j i k) ≡ f) e (same_significant v (moment_at v.shape 0 j i st.n) (moment_at v.shape 0 j i (st.n + (z - st.n))) u.0),
       λ m a b. u.1 m a (omega (arith, b, e)),
     )
 
 -- the next place that is coded
-pub record NextSpread (v : BlockPlane) (at : Spot) (old list : Decided) (around : Around) (n z : ℕ) : Type 0 where
+pub record NextSpread (v : BlockPlane) (at : WordPlace) (old list : Decided) (around : Around) (n z : ℕ) : Type 0 where
   pub onward : n ≤ z
-  pub place : IsPlace v.shape at z
+  pub place : IsBitPlace v.shape at z
   pub due : codes v.shape (mag v) 0 at.word at.stripe z ≡ true
   pub coming : Told v 0 at z old list
   pub idle : (m : ℕ) → n ≤ m → m < z → codes v.shape (mag v) 0 at.word at.stripe m ≡ false
-  pub lit : lit_at v (moment_at v.shape 0 at.word at.stripe z) ≡ lit_at v (moment_at v.shape 0 at.word at.stripe n)
+  pub known_significant : significant_at v (moment_at v.shape 0 at.word at.stripe z) ≡ significant_at v (moment_at v.shape 0 at.word at.stripe n)
   pub shown : IsAround (bordered (seen_at v (moment_at v.shape 0 at.word at.stripe z) at.stripe)) at.word at.stripe around
 
-pub propagated_next : (v : BlockPlane) (at : Spot) (old list : Decided) (around : Around) (w : ℕ) (st : Propagated v at old list around w) → 0 < w → w < 2 ^ 64
+pub propagated_next : (v : BlockPlane) (at : WordPlace) (old list : Decided) (around : Around) (w : ℕ) (st : Propagated v at old list around w) → 0 < w → w < 2 ^ 64
     → NextSpread v at old list around st.n (trailing_zeros w64 w)
 propagated_next v at old list around w st p q =
     let z = trailing_zeros w64 w in
@@ -138,7 +138,7 @@ propagated_next v at old list around w st p q =
     let i = at.stripe in
     let l = lowest w p q in
     let within = l.0 in
-    let f = lit_at v (moment_at v.shape 0 j i st.n) in
+    let f = significant_at v (moment_at v.shape 0 j i st.n) in
     let both = and_parts (nat_le st.n z) (is_spread v.shape f j i z) (sym (st.awaits z l.0) ∙ l.1) in
     let onward : st.n ≤ z = let b = both.0 in grind (arith, nat_tests) in
     let on = propagated_to v at old list around w st z onward (omega (arith, within)) l.2 in
@@ -150,16 +150,16 @@ propagated_next v at old list around w st p q =
       due = due;
       coming = on.0;
       idle = on.2;
-      lit = on.1;
+      known_significant = on.1;
       shown = subst (λ (f : Field Bool). IsAround (bordered (seen_from v.shape i f)) j i around) (sym on.1) st.shown;
     }
 
 -- a word in which the pass has no member as it comes to it
-pub propagated_empty : (v : BlockPlane) (at : Spot) (list : Decided) (around : Around) (w : ℕ) → at.stripe < stripes v.shape → IsAround (bordered (seen_at v (moment_at v.shape 0 at.word at.stripe 0) at.stripe)) at.word at.stripe around
+pub propagated_empty : (v : BlockPlane) (at : WordPlace) (list : Decided) (around : Around) (w : ℕ) → at.stripe < stripes v.shape → IsAround (bordered (seen_at v (moment_at v.shape 0 at.word at.stripe 0) at.stripe)) at.word at.stripe around
     → Shows of_rows (is_member (bordered (is_inside v.shape)) (bordered (seen_at v (moment_at v.shape 0 at.word at.stripe 0) at.stripe))) (at.word + 1) (at.stripe + 1) w → w ≡ 0
     → Told v 0 at 64 list list × ((size : ℕ) (flags : Flags size) → IsFlagged v (moment_at v.shape 0 at.word at.stripe 0) flags → IsFlagged v (moment_at v.shape 0 at.word at.stripe 64) flags)
 propagated_empty v at list around w stripe shown members empty =
-    let st : Propagated v at list list around w = record { n = 0; coming = told_none v 0 at list stripe; shown = shown; awaits = awaits_all v.shape (lit_at v (moment_at v.shape 0 at.word at.stripe 0)) at.word at.stripe w members } in
+    let st : Propagated v at list list around w = record { n = 0; coming = told_none v 0 at list stripe; shown = shown; awaits = awaits_all v.shape (significant_at v (moment_at v.shape 0 at.word at.stripe 0)) at.word at.stripe w members } in
     let end = propagated_to v at list list around w st 64 (omega arith) (omega arith) (λ m l. ap (λ w. on w m) empty ∙ on_zero m) in (
       end.0,
       λ size flags h. same_flags v (moment_at v.shape 0 at.word at.stripe 0) (moment_at v.shape 0 at.word at.stripe 64) flags
@@ -167,18 +167,18 @@ propagated_empty v at list around w stripe shown members empty =
     )
 
 -- what becomes significant at a place that is coded
-pub lit_place : (v : BlockPlane) (pass j i z : ℕ) (bit : Bool) → i < stripes v.shape → codes v.shape (mag v) pass j i z ≡ true → bit ≡ nat_eq (mag v (column j z) (row i z)) 1
-    → (bit ≡ false → lit_at v (moment_at v.shape pass j i (z + 1)) ≡ lit_at v (moment_at v.shape pass j i z))
-    × (bit ≡ true → (x y : ℕ) → lit_at v (moment_at v.shape pass j i (z + 1)) x y ≡ also (lit_at v (moment_at v.shape pass j i z)) (column j z) (row i z) x y)
+pub significant_place : (v : BlockPlane) (pass j i z : ℕ) (bit : Bool) → i < stripes v.shape → codes v.shape (mag v) pass j i z ≡ true → bit ≡ nat_eq (mag v (column j z) (row i z)) 1
+    → (bit ≡ false → significant_at v (moment_at v.shape pass j i (z + 1)) ≡ significant_at v (moment_at v.shape pass j i z))
+    × (bit ≡ true → (x y : ℕ) → significant_at v (moment_at v.shape pass j i (z + 1)) x y ≡ also (significant_at v (moment_at v.shape pass j i z)) (column j z) (row i z) x y)
 unfolding here
-lit_place v pass j i z bit stripe due e = (
-  λ b. same_field (lit_at v (moment_at v.shape pass j i (z + 1))) (lit_at v (moment_at v.shape pass j i z))
-      (λ x y. next x y ∙ off (lit_at v (moment_at v.shape pass j i z) x y) (codes v.shape (mag v) pass j i z) (nat_eq (mag v (column j z) (row i z)) 1) (nat_eq x (column j z) && nat_eq y (row i z)) (sym e ∙ b)),
-  λ b x y. next x y ∙ lights (lit_at v (moment_at v.shape pass j i z) x y) (codes v.shape (mag v) pass j i z) (nat_eq (mag v (column j z) (row i z)) 1) (nat_eq x (column j z) && nat_eq y (row i z)) due (sym e ∙ b),
+significant_place v pass j i z bit stripe due e = (
+  λ b. same_field (significant_at v (moment_at v.shape pass j i (z + 1))) (significant_at v (moment_at v.shape pass j i z))
+      (λ x y. next x y ∙ off (significant_at v (moment_at v.shape pass j i z) x y) (codes v.shape (mag v) pass j i z) (nat_eq (mag v (column j z) (row i z)) 1) (nat_eq x (column j z) && nat_eq y (row i z)) (sym e ∙ b)),
+  λ b x y. next x y ∙ lights (significant_at v (moment_at v.shape pass j i z) x y) (codes v.shape (mag v) pass j i z) (nat_eq (mag v (column j z) (row i z)) 1) (nat_eq x (column j z) && nat_eq y (row i z)) due (sym e ∙ b),
 )
   where
-    next : (x y : ℕ) → lit_at v (moment_at v.shape pass j i (z + 1)) x y ≡ (lit_at v (moment_at v.shape pass j i z) x y || ((codes v.shape (mag v) pass j i z && nat_eq (mag v (column j z) (row i z)) 1) && (nat_eq x (column j z) && nat_eq y (row i z))))
-    next x y = lit_bit v.shape (mag v) pass j i z (mag_outside v) stripe x y
+    next : (x y : ℕ) → significant_at v (moment_at v.shape pass j i (z + 1)) x y ≡ (significant_at v (moment_at v.shape pass j i z) x y || ((codes v.shape (mag v) pass j i z && nat_eq (mag v (column j z) (row i z)) 1) && (nat_eq x (column j z) && nat_eq y (row i z))))
+    next x y = significant_bit v.shape (mag v) pass j i z (mag_outside v) stripe x y
 
     off : (f c o h : Bool) → o ≡ false → (f || ((c && o) && h)) ≡ f
     off f c o h e = grind (arith, nat_tests)
@@ -208,7 +208,7 @@ new_place v pass j i z list list' due other h =
     h ∙ ap (λ (ds : Decided). list ++ ds) (sym (place_new v.shape (seen v) pass (column j z) (row i z) (moment_at v.shape pass j i z) parts.1 (moment_place v.shape pass j i z parts.0 (inside_parts v.shape (column j z) (row i z) inside).0) other))
 
 -- a place was listed
-pub propagated_place : (v : BlockPlane) (at : Spot) (old list list' : Decided) (around : Around) (n z : ℕ) → NextSpread v at old list around n z
+pub propagated_place : (v : BlockPlane) (at : WordPlace) (old list list' : Decided) (around : Around) (n z : ℕ) → NextSpread v at old list around n z
     → ((t : ℕ) → IsAround (bordered (seen_at v t at.stripe)) at.word at.stripe around → list' ≡ list ++ new_decisions v.shape (seen v) t (column at.word z) (row at.stripe z)) → Told v 0 at (z + 1) old list'
 propagated_place v at old list list' around n z next listed =
     told_place v 0 at z old list list' next.coming next.place

@@ -9,7 +9,7 @@ use Rattle.jk_scan.specs.Neighbours.{Field, is_inside}
 use Rattle.jk_scan.specs.Words.{of_rows}
 use Rattle.jk_scan.specs.WordPlaces.{column, row}
 use Rattle.jk_scan.specs.Flags.{across}
-use Rattle.jk_scan.specs.Passes.{Plane, Decided, joined, place_decisions, rows_decisions, runs, first_one, run_decisions, column_decisions}
+use Rattle.jk_scan.specs.Passes.{BlockAtPlane, Decided, joined, place_decisions, rows_decisions, in_run_mode, first_one, run_decisions, column_decisions}
 use Rattle.jk_scan.proofs.Laws.{inside_parts, rows_between}
 use Rattle.jk_block.specs.encoding.Viewed.{column_if, word_decisions}
 use Rattle.jk_block.proofs.encoding.Listed.{place_none}
@@ -37,31 +37,31 @@ joined_parts a (suc b) f =
     ∙ ap (λ (ds : Decided). ds ++ f (a + b)) (joined_parts a b f) ∙ append_assoc (joined a f) (joined b (λ d. f (a + d))) (f (a + b))
 
 -- the rows of a column from the row r on
-abbrev pub rows_left : BlockShape → Plane → (pass j i c r : ℕ) → Decided
+abbrev pub rows_left : BlockShape → BlockAtPlane → (pass j i c r : ℕ) → Decided
 rows_left s p pass j i c r = cond (nat_lt (8 * j + c) s.width) (rows_decisions s p pass (8 * j + c) i r (4 - r)) []
 
 -- the columns behind a column
-abbrev pub behind : BlockShape → Plane → (pass j i c : ℕ) → Decided
+abbrev pub behind : BlockShape → BlockAtPlane → (pass j i c : ℕ) → Decided
 behind s p pass j i c = joined (7 - c) (λ d. column_if s p pass j i (c + 1 + d))
 
 -- What is left of a word from bit r of byte c on. At bit 0 the column has not begun.
-pub remaining : BlockShape → Plane → (pass j i c r : ℕ) → Decided
+pub remaining : BlockShape → BlockAtPlane → (pass j i c r : ℕ) → Decided
 remaining s p pass j i c zero = joined (8 - c) (λ d. column_if s p pass j i (c + d))
 remaining s p pass j i c (suc r) = rows_left s p pass j i c r ++ behind s p pass j i c
 
-abbrev pub remaining_at : BlockShape → Plane → (pass j i n : ℕ) → Decided
+abbrev pub remaining_at : BlockShape → BlockAtPlane → (pass j i n : ℕ) → Decided
 remaining_at s p pass j i n = remaining s p pass j i (n / 8) (n % 8)
 
-pub remaining_all : (s : BlockShape) (p : Plane) (pass j i : ℕ) → word_decisions s p pass j i ≡ remaining_at s p pass j i 0
+pub remaining_all : (s : BlockShape) (p : BlockAtPlane) (pass j i : ℕ) → word_decisions s p pass j i ≡ remaining_at s p pass j i 0
 unfolding remaining word_decisions
 remaining_all s p pass j i = joined_same 8 (column_if s p pass j i) (λ d. column_if s p pass j i (0 + d)) (λ d h. ap (column_if s p pass j i) (let e : d ≡ 0 + d = omega arith in e))
 
-pub remaining_none : (s : BlockShape) (p : Plane) (pass j i : ℕ) → remaining_at s p pass j i 64 ≡ []
+pub remaining_none : (s : BlockShape) (p : BlockAtPlane) (pass j i : ℕ) → remaining_at s p pass j i 64 ≡ []
 unfolding remaining
 remaining_none s p pass j i = joined_zero (λ d. column_if s p pass j i (8 + d))
 
 -- the column that begins, and the others
-head : (s : BlockShape) (p : Plane) (pass j i c : ℕ) → c < 8 → remaining s p pass j i c 0 ≡ column_if s p pass j i c ++ behind s p pass j i c
+head : (s : BlockShape) (p : BlockAtPlane) (pass j i c : ℕ) → c < 8 → remaining s p pass j i c 0 ≡ column_if s p pass j i c ++ behind s p pass j i c
 unfolding remaining
 head s p pass j i c h =
     ap (λ n. joined n (λ d. column_if s p pass j i (c + d))) (let e : 8 - c ≡ suc (7 - c) = omega arith in e)
@@ -72,20 +72,20 @@ head s p pass j i c h =
 
 -- the column is coded in run mode
 abbrev pub is_run : BlockShape → Field ℕ → (pass j i c : ℕ) → Bool
-is_run s a pass j i c = nat_lt (8 * j + c) s.width && (nat_eq pass 2 && runs s a (8 * j + c) i)
+is_run s a pass j i c = nat_lt (8 * j + c) s.width && (nat_eq pass 2 && in_run_mode s a (8 * j + c) i)
 
-pub plain_column : (s : BlockShape) (p : Plane) (pass j i c : ℕ) → is_run s p.magnitude pass j i c ≡ false → column_if s p pass j i c ≡ rows_left s p pass j i c 0
+pub plain_column : (s : BlockShape) (p : BlockAtPlane) (pass j i c : ℕ) → is_run s p.magnitude pass j i c ≡ false → column_if s p pass j i c ≡ rows_left s p pass j i c 0
 unfolding column_if column_decisions
-plain_column s p pass j i c e = by (nat_lt (8 * j + c) s.width) (nat_eq pass 2 && runs s p.magnitude (8 * j + c) i) e
+plain_column s p pass j i c e = by (nat_lt (8 * j + c) s.width) (nat_eq pass 2 && in_run_mode s p.magnitude (8 * j + c) i) e
   where
     by : (w q : Bool) → (w && q) ≡ false
         → cond w (cond q (run_decisions s p (8 * j + c) i (first_one p.magnitude (8 * j + c) i)) (rows_decisions s p pass (8 * j + c) i 0 4)) [] ≡ cond w (rows_decisions s p pass (8 * j + c) i 0 4) []
     by true q e = ap (λ q. cond q (run_decisions s p (8 * j + c) i (first_one p.magnitude (8 * j + c) i)) (rows_decisions s p pass (8 * j + c) i 0 4)) e
     by false q e = refl
 
-pub run_column : (s : BlockShape) (p : Plane) (pass j i c : ℕ) → is_run s p.magnitude pass j i c ≡ true → column_if s p pass j i c ≡ run_decisions s p (8 * j + c) i (first_one p.magnitude (8 * j + c) i)
+pub run_column : (s : BlockShape) (p : BlockAtPlane) (pass j i c : ℕ) → is_run s p.magnitude pass j i c ≡ true → column_if s p pass j i c ≡ run_decisions s p (8 * j + c) i (first_one p.magnitude (8 * j + c) i)
 unfolding column_if column_decisions
-run_column s p pass j i c e = by (nat_lt (8 * j + c) s.width) (nat_eq pass 2 && runs s p.magnitude (8 * j + c) i) e
+run_column s p pass j i c e = by (nat_lt (8 * j + c) s.width) (nat_eq pass 2 && in_run_mode s p.magnitude (8 * j + c) i) e
   where
     by : (w q : Bool) → (w && q) ≡ true
         → cond w (cond q (run_decisions s p (8 * j + c) i (first_one p.magnitude (8 * j + c) i)) (rows_decisions s p pass (8 * j + c) i 0 4)) [] ≡ run_decisions s p (8 * j + c) i (first_one p.magnitude (8 * j + c) i)
@@ -93,7 +93,7 @@ run_column s p pass j i c e = by (nat_lt (8 * j + c) s.width) (nat_eq pass 2 && 
     by false q e = absurd cc
 
 -- one row, and the others
-row_head : (s : BlockShape) (p : Plane) (pass x i r : ℕ) → r < 4 → rows_decisions s p pass x i r (4 - r) ≡ place_decisions s p pass x (4 * i + r) ++ rows_decisions s p pass x i (suc r) (4 - suc r)
+row_head : (s : BlockShape) (p : BlockAtPlane) (pass x i r : ℕ) → r < 4 → rows_decisions s p pass x i r (4 - r) ≡ place_decisions s p pass x (4 * i + r) ++ rows_decisions s p pass x i (suc r) (4 - suc r)
 row_head s p pass x i r h =
     ap (λ n. joined n (λ k. place_decisions s p pass x (4 * i + (r + k)))) (let e : 4 - r ≡ suc (4 - suc r) = omega arith in e)
     ∙ joined_head (4 - suc r) (λ k. place_decisions s p pass x (4 * i + (r + k)))
@@ -102,7 +102,7 @@ row_head s p pass x i r h =
     (joined_same (4 - suc r) (λ k. place_decisions s p pass x (4 * i + (r + suc k))) (λ k. place_decisions s p pass x (4 * i + (suc r + k))) (λ k l. ap (λ n. place_decisions s p pass x (4 * i + n)) (let e : r + suc k ≡ suc r + k = omega arith in e)))
 
 -- a place of the block, and what is left behind it
-remaining_row : (s : BlockShape) (p : Plane) (pass j i c r : ℕ) → r < 4 → nat_lt (8 * j + c) s.width ≡ true
+remaining_row : (s : BlockShape) (p : BlockAtPlane) (pass j i c r : ℕ) → r < 4 → nat_lt (8 * j + c) s.width ≡ true
     → remaining s p pass j i c (suc r) ≡ place_decisions s p pass (8 * j + c) (4 * i + r) ++ remaining s p pass j i c (suc (suc r))
 unfolding remaining
 remaining_row s p pass j i c r h w =
@@ -112,12 +112,12 @@ remaining_row s p pass j i c r h w =
     ∙ sym (ap (λ q. place_decisions s p pass (8 * j + c) (4 * i + r) ++ (cond q (rows_decisions s p pass (8 * j + c) i (suc r) (4 - suc r)) [] ++ behind s p pass j i c)) w)
 
 -- past the width nothing is left of a column
-remaining_outside : (s : BlockShape) (p : Plane) (pass j i c r : ℕ) → nat_lt (8 * j + c) s.width ≡ false → remaining s p pass j i c (suc r) ≡ behind s p pass j i c
+remaining_outside : (s : BlockShape) (p : BlockAtPlane) (pass j i c r : ℕ) → nat_lt (8 * j + c) s.width ≡ false → remaining s p pass j i c (suc r) ≡ behind s p pass j i c
 unfolding remaining
 remaining_outside s p pass j i c r w = ap (λ q. cond q (rows_decisions s p pass (8 * j + c) i r (4 - r)) [] ++ behind s p pass j i c) w
 
 -- nor behind its rows
-remaining_behind : (s : BlockShape) (p : Plane) (pass j i c r : ℕ) → 4 ≤ r → remaining s p pass j i c (suc r) ≡ behind s p pass j i c
+remaining_behind : (s : BlockShape) (p : BlockAtPlane) (pass j i c r : ℕ) → 4 ≤ r → remaining s p pass j i c (suc r) ≡ behind s p pass j i c
 unfolding remaining
 remaining_behind s p pass j i c r h =
     ap (λ n. cond (nat_lt (8 * j + c) s.width) (rows_decisions s p pass (8 * j + c) i r n) [] ++ behind s p pass j i c) (let e : 4 - r ≡ 0 = omega arith in e)
@@ -127,7 +127,7 @@ remaining_behind s p pass j i c r h =
     by true = ap (λ (ds : Decided). ds ++ behind s p pass j i c) (joined_zero (λ k. place_decisions s p pass (8 * j + c) (4 * i + (r + k))))
     by false = refl
 
-remaining_next : (s : BlockShape) (p : Plane) (pass j i c : ℕ) → behind s p pass j i c ≡ remaining s p pass j i (c + 1) 0
+remaining_next : (s : BlockShape) (p : BlockAtPlane) (pass j i c : ℕ) → behind s p pass j i c ≡ remaining s p pass j i (c + 1) 0
 unfolding remaining
 remaining_next s p pass j i c = ap (λ n. joined n (λ d. column_if s p pass j i (c + 1 + d))) (let e : 7 - c ≡ 8 - (c + 1) = omega arith in e)
 
@@ -140,11 +140,11 @@ pub record Rests (s : BlockShape) (a : Field ℕ) (pass j i c r : ℕ) : Type 0 
   pub plain : r ≡ 0 → is_run s a pass j i c ≡ false
   pub idle : 1 ≤ r → r < 5 → is_due s a pass (8 * j + c) (4 * i + r - 1) ≡ false
 
-place_idle : (s : BlockShape) (p : Plane) (pass x y : ℕ) → is_due s p.magnitude pass x y ≡ false → place_decisions s p pass x y ≡ []
+place_idle : (s : BlockShape) (p : BlockAtPlane) (pass x y : ℕ) → is_due s p.magnitude pass x y ≡ false → place_decisions s p pass x y ≡ []
 unfolding is_due
 place_idle s p pass x y h = place_none s p pass x y h
 
-rest_within : (s : BlockShape) (p : Plane) (pass j i c r : ℕ) → c < 8 → r < 7 → Rests s p.magnitude pass j i c r → remaining s p pass j i c r ≡ remaining s p pass j i c (suc r)
+rest_within : (s : BlockShape) (p : BlockAtPlane) (pass j i c r : ℕ) → c < 8 → r < 7 → Rests s p.magnitude pass j i c r → remaining s p pass j i c r ≡ remaining s p pass j i c (suc r)
 unfolding remaining
 rest_within s p pass j i c zero h l q = head s p pass j i c h ∙ ap (λ (ds : Decided). ds ++ behind s p pass j i c) (plain_column s p pass j i c (q.plain refl))
 rest_within s p pass j i c (suc r) h l q = elim (cases_lt r 4) [
@@ -157,11 +157,11 @@ rest_within s p pass j i c (suc r) h l q = elim (cases_lt r 4) [
   | inr past ↦ remaining_behind s p pass j i c r past ∙ sym (remaining_behind s p pass j i c (suc r) (omega arith))
 ]
 
-rest_last : (s : BlockShape) (p : Plane) (pass j i c : ℕ) → remaining s p pass j i c 7 ≡ remaining s p pass j i (c + 1) 0
+rest_last : (s : BlockShape) (p : BlockAtPlane) (pass j i c : ℕ) → remaining s p pass j i c 7 ≡ remaining s p pass j i (c + 1) 0
 rest_last s p pass j i c = remaining_behind s p pass j i c 6 (omega arith) ∙ remaining_next s p pass j i c
 
 -- one bit on
-rest_one : (s : BlockShape) (p : Plane) (pass j i n : ℕ) → n < 64 → Rests s p.magnitude pass j i (n / 8) (n % 8) → remaining_at s p pass j i n ≡ remaining_at s p pass j i (suc n)
+rest_one : (s : BlockShape) (p : BlockAtPlane) (pass j i n : ℕ) → n < 64 → Rests s p.magnitude pass j i (n / 8) (n % 8) → remaining_at s p pass j i n ≡ remaining_at s p pass j i (suc n)
 rest_one s p pass j i n h q = elim (cases_lt (n % 8) 7) [
   | inl less ↦
       rest_within s p pass j i (n / 8) (n % 8) (omega arith) less q
@@ -171,14 +171,14 @@ rest_one s p pass j i n h q = elim (cases_lt (n % 8) 7) [
       ∙ ap (λ c. remaining s p pass j i c 0) (let e : n / 8 + 1 ≡ suc n / 8 = omega arith in e) ∙ ap (remaining s p pass j i (suc n / 8)) (let e : 0 ≡ suc n % 8 = omega arith in e)
 ]
 
-pub rest : (s : BlockShape) (p : Plane) (pass j i n d : ℕ) → n + d ≤ 64 → ((m : ℕ) → n ≤ m → m < n + d → Rests s p.magnitude pass j i (m / 8) (m % 8)) → remaining_at s p pass j i n ≡ remaining_at s p pass j i (n + d)
+pub rest : (s : BlockShape) (p : BlockAtPlane) (pass j i n d : ℕ) → n + d ≤ 64 → ((m : ℕ) → n ≤ m → m < n + d → Rests s p.magnitude pass j i (m / 8) (m % 8)) → remaining_at s p pass j i n ≡ remaining_at s p pass j i (n + d)
 rest s p pass j i n zero h q = ap (remaining_at s p pass j i) (let e : n ≡ n + 0 = omega arith in e)
 rest s p pass j i n (suc d) h q =
     rest s p pass j i n d (omega arith) (λ m a l. q m a (omega arith)) ∙ rest_one s p pass j i (n + d) (omega arith) (q (n + d) (omega arith) (omega arith))
     ∙ ap (remaining_at s p pass j i) (let e : suc (n + d) ≡ n + suc d = omega arith in e)
 
 -- the place at a bit, and what is left behind it
-pub remaining_place : (s : BlockShape) (p : Plane) (pass j i n : ℕ) → n < 64 → of_rows (n % 8) ≡ true → is_inside s (column j n) (row i n) ≡ true
+pub remaining_place : (s : BlockShape) (p : BlockAtPlane) (pass j i n : ℕ) → n < 64 → of_rows (n % 8) ≡ true → is_inside s (column j n) (row i n) ≡ true
     → remaining_at s p pass j i n ≡ place_decisions s p pass (column j n) (row i n) ++ remaining_at s p pass j i (n + 1)
 remaining_place s p pass j i n h on_row inside =
     let between = rows_between (n % 8) on_row in
@@ -191,13 +191,13 @@ remaining_place s p pass j i n h on_row inside =
     (ap (remaining s p pass j i (n / 8)) (let e : suc (suc (n % 8 - 1)) ≡ (n + 1) % 8 = omega (arith, between) in e) ∙ ap (λ c. remaining s p pass j i c ((n + 1) % 8)) (let e : n / 8 ≡ (n + 1) / 8 = omega (arith, between) in e))
 
 -- a column in run mode, and what is left behind its first row with the bit 1
-pub remaining_run : (s : BlockShape) (p : Plane) (pass j i n f : ℕ) (part : Decided) → n < 64 → n % 8 ≡ 0 → f ≤ 4 → is_run s p.magnitude pass j i (n / 8) ≡ true
+pub remaining_run : (s : BlockShape) (p : BlockAtPlane) (pass j i n f : ℕ) (part : Decided) → n < 64 → n % 8 ≡ 0 → f ≤ 4 → is_run s p.magnitude pass j i (n / 8) ≡ true
     → run_decisions s p (8 * j + n / 8) i (first_one p.magnitude (8 * j + n / 8) i) ≡ part ++ rows_decisions s p pass (8 * j + n / 8) i (f + 1) (3 - f)
     → remaining_at s p pass j i n ≡ part ++ remaining_at s p pass j i (n + f + 2)
 unfolding remaining
 remaining_run s p pass j i n f part h first few run e =
     let c = n / 8 in
-    let inside = (and_parts (nat_lt (8 * j + c) s.width) (nat_eq pass 2 && runs s p.magnitude (8 * j + c) i) run).0 in
+    let inside = (and_parts (nat_lt (8 * j + c) s.width) (nat_eq pass 2 && in_run_mode s p.magnitude (8 * j + c) i) run).0 in
     ap (remaining s p pass j i c) first
     ∙ head s p pass j i c (omega arith)
     ∙ ap (λ (ds : Decided). ds ++ behind s p pass j i c) (run_column s p pass j i c run ∙ e ∙ ap (λ n. part ++ rows_decisions s p pass (8 * j + c) i (f + 1) n) (let g : 3 - f ≡ 4 - (f + 1) = omega arith in g))
@@ -208,10 +208,10 @@ remaining_run s p pass j i n f part h first few run e =
 
 -- a stripe word by word is a stripe column by column
 
-guarded : BlockShape → Plane → (pass i x : ℕ) → Decided
+guarded : BlockShape → BlockAtPlane → (pass i x : ℕ) → Decided
 guarded s p pass i x = cond (nat_lt x s.width) (column_decisions s p pass x i) []
 
-words_are : (s : BlockShape) (p : Plane) (pass i m : ℕ) → joined m (λ j. word_decisions s p pass j i) ≡ joined (8 * m) (guarded s p pass i)
+words_are : (s : BlockShape) (p : BlockAtPlane) (pass i m : ℕ) → joined m (λ j. word_decisions s p pass j i) ≡ joined (8 * m) (guarded s p pass i)
 unfolding joined word_decisions column_if guarded
 words_are s p pass i zero = refl
 words_are s p pass i (suc m) =
@@ -219,18 +219,18 @@ words_are s p pass i (suc m) =
     ∙ sym (joined_parts (8 * m) 8 (guarded s p pass i))
     ∙ ap (λ n. joined n (guarded s p pass i)) (let e : 8 * m + 8 ≡ 8 * suc m = omega arith in e)
 
-past : (s : BlockShape) (p : Plane) (pass i d : ℕ) → joined d (λ k. guarded s p pass i (s.width + k)) ≡ []
+past : (s : BlockShape) (p : BlockAtPlane) (pass i d : ℕ) → joined d (λ k. guarded s p pass i (s.width + k)) ≡ []
 unfolding joined guarded
 past s p pass i zero = refl
 past s p pass i (suc d) =
     ap (λ (ds : Decided). ds ++ guarded s p pass i (s.width + d)) (past s p pass i d)
     ∙ ap (λ q. cond q (column_decisions s p pass (s.width + d) i) []) (let e : nat_lt (s.width + d) s.width ≡ false = grind (arith, nat_tests) in e)
 
-within : (s : BlockShape) (p : Plane) (pass i x : ℕ) → x < s.width → guarded s p pass i x ≡ column_decisions s p pass x i
+within : (s : BlockShape) (p : BlockAtPlane) (pass i x : ℕ) → x < s.width → guarded s p pass i x ≡ column_decisions s p pass x i
 unfolding guarded
 within s p pass i x h = ap (λ q. cond q (column_decisions s p pass x i) []) (let e : nat_lt x s.width ≡ true = grind (arith, nat_tests) in e)
 
-pub stripe_listed : (s : BlockShape) (p : Plane) (pass i : ℕ) → joined (across s) (λ j. word_decisions s p pass j i) ≡ joined s.width (λ x. column_decisions s p pass x i)
+pub stripe_listed : (s : BlockShape) (p : BlockAtPlane) (pass i : ℕ) → joined (across s) (λ j. word_decisions s p pass j i) ≡ joined s.width (λ x. column_decisions s p pass x i)
 stripe_listed s p pass i =
     words_are s p pass i (across s)
     ∙ ap (λ n. joined n (guarded s p pass i)) (let e : 8 * ((s.width + 7) / 8) ≡ s.width + (8 * ((s.width + 7) / 8) - s.width) = omega arith in e)

@@ -21,9 +21,9 @@ use Rattle.jk_block.specs.Meaning.{value_in}
 use Rattle.jk_block.specs.Meaning.{plane_at}
 use Rattle.jk_scan.specs.Passes.{is_one, first_one}
 use Rattle.jk_block.specs.declared.encoding.plane.BlockPlane.{BlockPlane}
-use Rattle.jk_block.specs.declared.spot.Spot.{Spot}
+use Rattle.jk_block.specs.declared.word_place.WordPlace.{WordPlace}
 use Rattle.jk_block.specs.encoding.Viewed.{seen, ShowsOnes}
-use Rattle.jk_block.specs.Steps.{IsPlace}
+use Rattle.jk_block.specs.Steps.{IsBitPlace}
 use Rattle.jk_block.proofs.Rows.{first_is}
 use Rattle.jk_block.specs.encoding.Slices.{signed, bit_in, IsSliced, IsClearBehind, IsSlicedTo, IsPlaneWord, slices_of}
 
@@ -270,7 +270,7 @@ on_sign v h = on_or (unsigned_abs v) (cond (is_negative v) 1 0 * 2 ^ 31 % 2 ^ 32
     top false = refl
 
 -- the word of a block at a bit-plane
-pub ones_seen : (v : BlockPlane) (at : Spot) (word : ℕ) → v.plane < 23 → IsPlaneWord v.shape (v.plane / 8 * 8 + v.plane % 8) (value_in v.shape v.values.now) at.word at.stripe word → ShowsOnes v at.word at.stripe word
+pub ones_seen : (v : BlockPlane) (at : WordPlace) (word : ℕ) → v.plane < 23 → IsPlaneWord v.shape (v.plane / 8 * 8 + v.plane % 8) (value_in v.shape v.values.now) at.word at.stripe word → ShowsOnes v at.word at.stripe word
 unfolding plane_at on
 ones_seen v at word shallow h m l = h m l ∙ ap (λ b. of_rows (m % 8) && b) (by (is_inside v.shape (column at.word m) (row at.stripe m)))
   where
@@ -281,11 +281,11 @@ ones_seen v at word shallow h m l = h m l ∙ ap (λ b. of_rows (m % 8) && b) (b
     by true = ap (λ b. on (signed value) b) (let e : v.plane / 8 * 8 + v.plane % 8 ≡ v.plane = omega arith in e) ∙ on_magnitude value v.plane (omega (arith, shallow))
     by false = refl
 
-pub one_at : (v : BlockPlane) (at : Spot) (k word : ℕ) → IsPlace v.shape at k → ShowsOnes v at.word at.stripe word → on word k ≡ is_one ((seen v).magnitude (column at.word k) (row at.stripe k))
+pub one_at : (v : BlockPlane) (at : WordPlace) (k word : ℕ) → IsBitPlace v.shape at k → ShowsOnes v at.word at.stripe word → on word k ≡ is_one ((seen v).magnitude (column at.word k) (row at.stripe k))
 one_at v at k word place h = h k place.within ∙ ap (λ b. b && is_one ((seen v).magnitude (column at.word k) (row at.stripe k))) place.on_row
 
 -- the place of a row of a column that begins at bit k
-pub row_place : (s : BlockShape) (at : Spot) (k f : ℕ) → IsPlace s at k → k % 8 ≡ 1 → f < 4 → 4 * at.stripe + 4 ≤ s.height → IsPlace s at (k + f)
+pub row_place : (s : BlockShape) (at : WordPlace) (k f : ℕ) → IsBitPlace s at k → k % 8 ≡ 1 → f < 4 → 4 * at.stripe + 4 ≤ s.height → IsBitPlace s at (k + f)
 row_place s at k f place first few rows =
     let within = place.within in
     let narrow = (and_parts (nat_lt (column at.word k) s.width) (nat_lt (row at.stripe k) s.height) place.inside).0 in
@@ -308,7 +308,7 @@ row_place s at k f place first few rows =
     on_rows r h = grind (arith, nat_tests)
 
 -- its bit
-pub run_bit : (v : BlockPlane) (at : Spot) (k r word : ℕ) → k < 64 → k % 8 ≡ 1 → r < 4 → ShowsOnes v at.word at.stripe word → on word (k + r) ≡ is_one ((seen v).magnitude (column at.word k) (4 * at.stripe + r))
+pub run_bit : (v : BlockPlane) (at : WordPlace) (k r word : ℕ) → k < 64 → k % 8 ≡ 1 → r < 4 → ShowsOnes v at.word at.stripe word → on word (k + r) ≡ is_one ((seen v).magnitude (column at.word k) (4 * at.stripe + r))
 run_bit v at k r word within first few h =
     h (k + r) (omega (arith, within, first, few))
     ∙ ap (λ b. b && is_one ((seen v).magnitude (column at.word (k + r)) (row at.stripe (k + r)))) (let e : (k + r) % 8 ≡ 1 + r = omega (arith, first, few) in ap of_rows e ∙ on_rows r few)
@@ -318,7 +318,7 @@ run_bit v at k r word within first few h =
     on_rows : (r : ℕ) → r < 4 → of_rows (1 + r) ≡ true
     on_rows r h = grind (arith, nat_tests)
 
-pub run_row : (v : BlockPlane) (at : Spot) (k word f : ℕ) → k < 64 → k % 8 ≡ 1 → ShowsOnes v at.word at.stripe word
+pub run_row : (v : BlockPlane) (at : WordPlace) (k word f : ℕ) → k < 64 → k % 8 ≡ 1 → ShowsOnes v at.word at.stripe word
     → ((a : Field ℕ) (x i : ℕ) → on word (k + 0) ≡ is_one (a x (4 * i + 0)) → on word (k + 1) ≡ is_one (a x (4 * i + 1)) → on word (k + 2) ≡ is_one (a x (4 * i + 2)) → on word (k + 3) ≡ is_one (a x (4 * i + 3)) → f ≡ first_one a x i)
     → f ≡ first_one (seen v).magnitude (column at.word k) at.stripe
 run_row v at k word f within first h value =

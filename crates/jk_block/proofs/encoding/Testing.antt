@@ -6,7 +6,7 @@ use Rattle.std.proofs.lemmas.Bool.Decides.{nat_tests}
 use Rattle.jk_scan.specs.declared.shape.BlockShape.{BlockShape}
 use Rattle.jk_scan.specs.Neighbours.{Field, is_inside, touched_in}
 use Rattle.jk_scan.specs.Moments.{number, visits, old, spread, pass_of, moment, is_coded, significant}
-use Rattle.jk_scan.specs.Passes.{runs}
+use Rattle.jk_scan.specs.Passes.{in_run_mode}
 use Rattle.jk_scan.specs.Words.{of_rows}
 use Rattle.jk_scan.specs.WordPlaces.{column, row}
 use Rattle.jk_scan.proofs.Laws.{number_row, number_below, inside_parts, touched_same, so_far, spread_is, significant_early, significant_is, cases_of, number_first}
@@ -185,7 +185,7 @@ row_test s a x i k narrow l high =
     not_yet : (m q r : ℕ) → nat_le 2 m ≡ false → q ≡ r → start s 2 x i ≤ r → (nat_le 2 m || (nat_eq m 1 && nat_lt q (start s 2 x i))) ≡ false
     not_yet m q r o e h = grind (arith, nat_tests)
 
-quiet_runs : (s : BlockShape) (a : Field ℕ) (x i : ℕ) → x < s.width → is_quiet s (significant s a (start s 2 x i)) x i ≡ runs s a x i
+quiet_runs : (s : BlockShape) (a : Field ℕ) (x i : ℕ) → x < s.width → is_quiet s (significant s a (start s 2 x i)) x i ≡ in_run_mode s a x i
 unfolding is_quiet rows_left row_left
 quiet_runs s a x i narrow =
     four (nat_le (4 * i + 4) s.height) (q 0) (q 1) (q 2) (q 3) (row_left s a t x (4 * i + 0)) (row_left s a t x (4 * i + 1)) (row_left s a t x (4 * i + 2)) (row_left s a t x (4 * i + 3))
@@ -205,6 +205,6 @@ quiet_runs s a x i narrow =
 pub still_runs : (s : BlockShape) (a : Field ℕ) (j i c : ℕ) → is_still s (significant s a (moment_at s 2 j i (8 * c))) j i c ≡ is_run s a 2 j i c
 unfolding start
 still_runs s a j i c =
-    gated (nat_lt (8 * j + c) s.width) (is_quiet s (significant s a (moment_at s 2 j i (8 * c))) (8 * j + c) i) (true && runs s a (8 * j + c) i)
+    gated (nat_lt (8 * j + c) s.width) (is_quiet s (significant s a (moment_at s 2 j i (8 * c))) (8 * j + c) i) (true && in_run_mode s a (8 * j + c) i)
     (λ w. let narrow : 8 * j + c < s.width = grind (arith, nat_tests) in
     ap (λ t. is_quiet s (significant s a t) (8 * j + c) i) (moment_column s 2 j i c narrow) ∙ quiet_runs s a (8 * j + c) i narrow)

@@ -156,10 +156,10 @@ unfolding here
 same_place x y = grind (arith, nat_tests)
 
 -- The place becomes significant where its bit is 1 and it is coded in this pass.
-pub lit_next : (s : BlockShape) (a : Field ℕ) (pass x y t : ℕ) → ((x y : ℕ) → is_inside s x y ≡ false → a x y ≡ 0) → x < s.width → number s.width x y < visits s → t ≡ pass * visits s + number s.width x y
+pub significant_next : (s : BlockShape) (a : Field ℕ) (pass x y t : ℕ) → ((x y : ℕ) → is_inside s x y ≡ false → a x y ≡ 0) → x < s.width → number s.width x y < visits s → t ≡ pass * visits s + number s.width x y
     → (u w : ℕ) → significant s a (t + 1) u w ≡ (significant s a t u w || ((is_due s a pass x y && nat_eq (a x y) 1) && here x y u w))
 unfolding here is_due significant
-lit_next s a pass x y t none narrow room now u w =
+significant_next s a pass x y t none narrow room now u w =
     at_place (λ u w. significant s a (t + 1) u w ≡ (significant s a t u w || ((is_due s a pass x y && nat_eq (a x y) 1) && here x y u w))) x y u w
     (by_test (is_inside s x y)
     (λ i. by_test (nat_eq (pass_of s a x y) pass)
@@ -268,10 +268,10 @@ step_bit F s a pass j i k own stripe next u w = by_test (of_rows (k % 8))
     gap : (f r d o h : Bool) → r ≡ false → f ≡ (f || (((r && d) && o) && h))
     gap f r d o h e = grind (arith, nat_tests)
 
-pub lit_bit : (s : BlockShape) (a : Field ℕ) (pass j i k : ℕ) → ((x y : ℕ) → is_inside s x y ≡ false → a x y ≡ 0) → i < stripes s
+pub significant_bit : (s : BlockShape) (a : Field ℕ) (pass j i k : ℕ) → ((x y : ℕ) → is_inside s x y ≡ false → a x y ≡ 0) → i < stripes s
     → (u w : ℕ) → significant s a (moment_at s pass j i (k + 1)) u w ≡ (significant s a (moment_at s pass j i k) u w || ((codes s a pass j i k && nat_eq (a (column j k) (row i k)) 1) && here (column j k) (row i k) u w))
-lit_bit s a pass j i k none stripe = step_bit (λ t. significant s a t) s a pass j i k (nat_eq (a (column j k) (row i k)) 1) stripe
-    (λ narrow room now. lit_next s a pass (column j k) (row i k) (moment_at s pass j i k) none narrow room now)
+significant_bit s a pass j i k none stripe = step_bit (λ t. significant s a t) s a pass j i k (nat_eq (a (column j k) (row i k)) 1) stripe
+    (λ narrow room now. significant_next s a pass (column j k) (row i k) (moment_at s pass j i k) none narrow room now)
 
 pub spread_bit : (s : BlockShape) (a : Field ℕ) (pass j i k : ℕ) → i < stripes s
     → (u w : ℕ) → spread_before s a (moment_at s pass j i (k + 1)) u w ≡ (spread_before s a (moment_at s pass j i k) u w || ((codes s a pass j i k && nat_eq pass 0) && here (column j k) (row i k) u w))

@@ -17,27 +17,27 @@ use Rattle.jk_scan.specs.Surroundings.{IsAround, Turns}
 use Rattle.jk_scan.specs.WordNumbers.{byte_at}
 use Rattle.jk_scan.proofs.Laws.{same_field, on_or, on_set}
 use Rattle.jk_block.specs.declared.encoding.plane.BlockPlane.{BlockPlane}
-use Rattle.jk_block.specs.declared.spot.Spot.{Spot}
-use Rattle.jk_block.specs.Steps.{IsPlace}
-use Rattle.jk_block.specs.encoding.Viewed.{lit_at, moment_at, SpellsBit, SpellsSign, seen_at}
+use Rattle.jk_block.specs.declared.word_place.WordPlace.{WordPlace}
+use Rattle.jk_block.specs.Steps.{IsBitPlace}
+use Rattle.jk_block.specs.encoding.Viewed.{significant_at, moment_at, SpellsBit, SpellsSign, seen_at}
 use Rattle.jk_block.proofs.encoding.Behind.{becomes, becoming_row}
 use Rattle.jk_block.proofs.encoding.Coming.{mag, mag_outside}
 use Rattle.jk_block.proofs.encoding.Foreseen.{with_centre, HasBits, HasSigns}
 use Rattle.jk_block.proofs.encoding.Remaining.{is_run}
 use Rattle.jk_block.proofs.Stills.{is_still}
 use Rattle.jk_block.proofs.encoding.Testing.{still_runs}
-use Rattle.jk_block.proofs.encoding.Timing.{here, lit_bit}
+use Rattle.jk_block.proofs.encoding.Timing.{here, significant_bit}
 use Rattle.jk_block.proofs.WordBits.{around_also}
 
 -- what is around a word as the pass comes to its bit n
-pub record Turned (v : BlockPlane) (at : Spot) (around : Around) (new n : ℕ) : Type 0 where
+pub record Turned (v : BlockPlane) (at : WordPlace) (around : Around) (new n : ℕ) : Type 0 where
   pub centre : ℕ
   pub fits : centre < 2 ^ 64
   pub shown : IsAround (bordered (seen_at v (moment_at v.shape 2 at.word at.stripe n) at.stripe)) at.word at.stripe (with_centre centre around)
   pub turns : Turns centre (bit_or around.centre new) around.centre n
 
 -- one bit on
-turn : (v : BlockPlane) (at : Spot) (around : Around) (new n : ℕ) → at.stripe < stripes v.shape → n < 64 → on new n ≡ becomes v 2 at.word at.stripe n → Turned v at around new n → Turned v at around new (n + 1)
+turn : (v : BlockPlane) (at : WordPlace) (around : Around) (new n : ℕ) → at.stripe < stripes v.shape → n < 64 → on new n ≡ becomes v 2 at.word at.stripe n → Turned v at around new n → Turned v at around new (n + 1)
 unfolding here
 turn v at around new n stripe within new_is h = by (becomes v 2 j i n) refl
   where
@@ -53,14 +53,14 @@ turn v at around new n stripe within new_is h = by (becomes v 2 j i n) refl
     u : ℕ
     u = moment_at v.shape 2 j i (n + 1)
 
-    next : (x y : ℕ) → lit_at v u x y ≡ (lit_at v t x y || (becomes v 2 j i n && (nat_eq x (column j n) && nat_eq y (row i n))))
-    next x y = lit_bit v.shape (mag v) 2 j i n (mag_outside v) stripe x y
+    next : (x y : ℕ) → significant_at v u x y ≡ (significant_at v t x y || (becomes v 2 j i n && (nat_eq x (column j n) && nat_eq y (row i n))))
+    next x y = significant_bit v.shape (mag v) 2 j i n (mag_outside v) stripe x y
 
     off : (f b h : Bool) → b ≡ false → (f || (b && h)) ≡ f
     off f b h e = grind (arith, nat_tests)
 
-    lit_up : (f b h : Bool) → b ≡ true → (f || (b && h)) ≡ (f || h)
-    lit_up f b h e = grind (arith, nat_tests)
+    significant_up : (f b h : Bool) → b ≡ true → (f || (b && h)) ≡ (f || h)
+    significant_up f b h e = grind (arith, nat_tests)
 
     apart : (m : ℕ) → m < n → nat_eq m n ≡ false
     apart m l = grind (arith, nat_tests)
@@ -79,7 +79,7 @@ turn v at around new n stripe within new_is h = by (becomes v 2 j i n) refl
       centre = h.centre;
       fits = h.fits;
       shown = subst (λ (f : Field Bool). IsAround (bordered (seen_from v.shape i f)) j i (with_centre h.centre around))
-          (sym (same_field (lit_at v u) (lit_at v t) (λ x y. next x y ∙ off (lit_at v t x y) (becomes v 2 j i n) (nat_eq x (column j n) && nat_eq y (row i n)) e))) h.shown;
+          (sym (same_field (significant_at v u) (significant_at v t) (λ x y. next x y ∙ off (significant_at v t x y) (becomes v 2 j i n) (nat_eq x (column j n) && nat_eq y (row i n)) e))) h.shown;
       turns = record {
         before = λ m less. elim (cases_lt m n) [
           | inl early ↦ h.turns.before m early
@@ -95,8 +95,8 @@ turn v at around new n stripe within new_is h = by (becomes v 2 j i n) refl
         record {
           centre = bit_or h.centre (1 * 2 ^ n % 2 ^ 64);
           fits = or_lt 64 h.centre (1 * 2 ^ n % 2 ^ 64) h.fits (mod-lt (1 * 2 ^ n) (pow_pos 64));
-          shown = around_also v.shape (lit_at v t) (lit_at v u) j i n (with_centre h.centre around) within on_row
-              (λ x y. next x y ∙ lit_up (lit_at v t x y) (becomes v 2 j i n) (nat_eq x (column j n) && nat_eq y (row i n)) e) h.shown;
+          shown = around_also v.shape (significant_at v t) (significant_at v u) j i n (with_centre h.centre around) within on_row
+              (λ x y. next x y ∙ significant_up (significant_at v t x y) (becomes v 2 j i n) (nat_eq x (column j n) && nat_eq y (row i n)) e) h.shown;
           turns = record {
             before = λ m less. on_set h.centre n 64 m (omega (arith, less, within)) ∙ elim (cases_lt m n) [
               | inl early ↦ ap (λ b. on h.centre m || b) (apart m early) ∙ none (on h.centre m) ∙ h.turns.before m early
@@ -109,7 +109,7 @@ turn v at around new n stripe within new_is h = by (becomes v 2 j i n) refl
           };
         }
 
-pub turned : (v : BlockPlane) (at : Spot) (around : Around) (new : ℕ) → at.stripe < stripes v.shape → around.centre < 2 ^ 64
+pub turned : (v : BlockPlane) (at : WordPlace) (around : Around) (new : ℕ) → at.stripe < stripes v.shape → around.centre < 2 ^ 64
     → IsAround (bordered (seen_at v (moment_at v.shape 2 at.word at.stripe 0) at.stripe)) at.word at.stripe around → ((m : ℕ) → m < 64 → on new m ≡ becomes v 2 at.word at.stripe m)
     → (n : ℕ) → n ≤ 64 → Turned v at around new n
 turned v at around new stripe fits shown new_is zero most = record {
@@ -124,18 +124,18 @@ turned v at around new stripe fits shown new_is (suc n) most =
 
 -- What is known of each place of a word before the first is listed: what it has around it at its
 -- moment, and which columns are in run mode.
-pub record Prepared (v : BlockPlane) (at : Spot) (bits signs : List ℕ) (still : ℕ) : Type 0 where
-  pub bits_are : (k : ℕ) → IsPlace v.shape at k → SpellsBit v (moment_at v.shape 2 at.word at.stripe k) (column at.word k) (row at.stripe k) (byte_at bits k)
-  pub signs_are : (k : ℕ) → IsPlace v.shape at k → SpellsSign v (moment_at v.shape 2 at.word at.stripe k) (column at.word k) (row at.stripe k) (byte_at signs k)
+pub record Prepared (v : BlockPlane) (at : WordPlace) (bits signs : List ℕ) (still : ℕ) : Type 0 where
+  pub bits_are : (k : ℕ) → IsBitPlace v.shape at k → SpellsBit v (moment_at v.shape 2 at.word at.stripe k) (column at.word k) (row at.stripe k) (byte_at bits k)
+  pub signs_are : (k : ℕ) → IsBitPlace v.shape at k → SpellsSign v (moment_at v.shape 2 at.word at.stripe k) (column at.word k) (row at.stripe k) (byte_at signs k)
   pub runs_are : (m : ℕ) → m < 64 → on still m ≡ (nat_eq (m % 8) 1 && is_run v.shape (mag v) 2 at.word at.stripe (m / 8))
 
 -- the columns in run mode, each in its turn
-abbrev pub HasRuns : BlockPlane → Spot → Around → (new still : ℕ) → Type 0
+abbrev pub HasRuns : BlockPlane → WordPlace → Around → (new still : ℕ) → Type 0
 HasRuns v at around new still =
     (f : Field Bool) (centre m : ℕ) → m < 64 → centre < 2 ^ 64 → Turns centre new around.centre (8 * (m / 8)) → IsAround (bordered (seen_from v.shape at.stripe f)) at.word at.stripe (with_centre centre around)
     → on still m ≡ (nat_eq (m % 8) 1 && is_still v.shape f at.word at.stripe (m / 8))
 
-pub prepared : (v : BlockPlane) (at : Spot) (around : Around) (new : ℕ) (bits signs : List ℕ) (still : ℕ) → ((n : ℕ) → n ≤ 64 → Turned v at around new n)
+pub prepared : (v : BlockPlane) (at : WordPlace) (around : Around) (new : ℕ) (bits signs : List ℕ) (still : ℕ) → ((n : ℕ) → n ≤ 64 → Turned v at around new n)
     → HasBits v at around (bit_or around.centre new) bits → HasSigns v at around (bit_or around.centre new) signs → HasRuns v at around (bit_or around.centre new) still → Prepared v at bits signs still
 prepared v at around new bits signs still all bits_are signs_are runs_are = record {
   bits_are = λ k place.
@@ -146,7 +146,7 @@ prepared v at around new bits signs still all bits_are signs_are runs_are = reco
       signs_are (moment_at v.shape 2 j i k) t.centre k place t.fits t.turns t.shown;
   runs_are = λ m l.
       let t = all (8 * (m / 8)) (omega (arith, l)) in
-      runs_are (lit_at v (moment_at v.shape 2 j i (8 * (m / 8)))) t.centre m l t.fits t.turns t.shown ∙ ap (λ b. nat_eq (m % 8) 1 && b) (still_runs v.shape (mag v) j i (m / 8));
+      runs_are (significant_at v (moment_at v.shape 2 j i (8 * (m / 8)))) t.centre m l t.fits t.turns t.shown ∙ ap (λ b. nat_eq (m % 8) 1 && b) (still_runs v.shape (mag v) j i (m / 8));
 }
   where
     j : ℕ

@@ -1,7 +1,7 @@
 -- The passes that are coded, one after another.
 use Rattle.std.proofs.Common.{◌≡◌, ℕ, Bool, true, false, suc, ◌+◌, List, [], ◌∷◌, ◌++◌, ℤ, sym, ap, ◌∙◌, subst, arith}
 use Rattle.std.proofs.lemmas.List.FromFn.{map-range_with_len_more}
-use Rattle.jk_mqenc.specs.Encoded.{View, Codes, written_by}
+use Rattle.jk_mqenc.specs.Encoded.{EncoderView, Codes, written_by}
 use Rattle.jk_mqenc.proofs.Laws.{pass-begins}
 use Rattle.jk_scan.specs.declared.shape.BlockShape.{BlockShape}
 use Rattle.jk_scan.specs.Neighbours.{Field}
@@ -23,11 +23,11 @@ unfolding marks_upto
 marks_more s planes n q = map-range_with_len_more (λ n. written_by s.style.reset (pass_decisions s planes (n + 1) q)) 0 n n (omega arith)
 
 -- without context reset nothing begins a pass
-pub begins_plainly : (r : Bool) (e : View) (dss : List Decided) → r ≡ false → Codes e r dss → Codes e r (dss ++ [] ∷ [])
+pub begins_plainly : (r : Bool) (e : EncoderView) (dss : List Decided) → r ≡ false → Codes e r dss → Codes e r (dss ++ [] ∷ [])
 begins_plainly true e dss plain c = absurd cc
 begins_plainly false e dss plain c = pass-begins e dss c
 
-pub coded_pass : (s : BlockShape) (planes n b pass : ℕ) (q : Field ℤ) (e e' : View) (marks marks' : List ℕ) → HasCodedPasses s planes n q e marks → plane_of planes n ≡ b → kind_of n ≡ pass
+pub coded_pass : (s : BlockShape) (planes n b pass : ℕ) (q : Field ℤ) (e e' : EncoderView) (marks marks' : List ℕ) → HasCodedPasses s planes n q e marks → plane_of planes n ≡ b → kind_of n ≡ pass
     → ((dss : List Decided) → Codes e s.style.reset dss → Codes e' s.style.reset (dss ++ whole_decisions s (plane_at s b q) pass ∷ []))
     → ((dss : List Decided) → Codes e s.style.reset dss → marks' ≡ marks ++ written_by s.style.reset (dss ++ whole_decisions s (plane_at s b q) pass ∷ []) ∷ []) → HasCodedPasses s planes (n + 1) q e' marks'
 coded_pass s planes n b pass q e e' marks marks' h plane kind codes mark =

@@ -3,9 +3,9 @@ use Rattle.std.specs.Prelude.{ℕ, ◌-◌, Bool, ◌&&◌, ◌||◌, nat_le}
 
 -- from the bit that is d lower
 abbrev pub reaches : (ℕ → Bool) → (d m : ℕ) → Bool
-reaches lit d m = nat_le d m && lit (m - d)
+reaches known_significant d m = nat_le d m && known_significant (m - d)
 
 -- A later place of the word that touches a place is the next below it, or one of the three next to
 -- that in the column to the right.
 abbrev pub is_reached : (ℕ → Bool) → (m : ℕ) → Bool
-is_reached lit m = ((reaches lit 1 m || reaches lit 7 m) || reaches lit 8 m) || reaches lit 9 m
+is_reached known_significant m = ((reaches known_significant 1 m || reaches known_significant 7 m) || reaches known_significant 8 m) || reaches known_significant 9 m

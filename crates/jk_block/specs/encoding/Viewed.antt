@@ -5,7 +5,7 @@ use Rattle.jk_scan.specs.declared.shape.BlockShape.{BlockShape}
 use Rattle.jk_scan.specs.Contexts.{run_length, uniform}
 use Rattle.jk_scan.specs.Neighbours.{Field, is_inside, seen_from, zero_in}
 use Rattle.jk_scan.specs.Moments.{number, visits, spread, significant}
-use Rattle.jk_scan.specs.Passes.{Plane, Decided, is_one, joined, sign_decision, column_decisions}
+use Rattle.jk_scan.specs.Passes.{BlockAtPlane, Decided, is_one, joined, sign_decision, column_decisions}
 use Rattle.jk_scan.specs.Bits.{on}
 use Rattle.jk_scan.specs.Words.{of_rows}
 use Rattle.jk_scan.specs.WordPlaces.{column, row}
@@ -17,7 +17,7 @@ use Rattle.jk_block.specs.declared.encoding.plane.BlockPlane.{BlockPlane}
 use Rattle.jk_block.specs.declared.encoding.flags.Flags.{Flags}
 
 -- the block at the bit-plane
-abbrev pub seen : BlockPlane → Plane
+abbrev pub seen : BlockPlane → BlockAtPlane
 seen v = plane_at v.shape v.plane (value_in v.shape v.values.now)
 
 -- The word shows which of its places have the bit 1.
@@ -26,12 +26,12 @@ ShowsOnes v j i word =
     (m : ℕ) → m < 64 → on word m ≡ (of_rows (m % 8) && is_one ((seen v).magnitude (column j m) (row i m)))
 
 -- significant at a moment
-abbrev pub lit_at : BlockPlane → ℕ → Field Bool
-lit_at v t = significant v.shape (seen v).magnitude t
+abbrev pub significant_at : BlockPlane → ℕ → Field Bool
+significant_at v t = significant v.shape (seen v).magnitude t
 
 -- the same, as a stripe sees it
 abbrev pub seen_at : BlockPlane → (t stripe : ℕ) → Field Bool
-seen_at v t stripe = seen_from v.shape stripe (lit_at v t)
+seen_at v t stripe = seen_from v.shape stripe (significant_at v t)
 
 -- the negative places
 abbrev pub negative_in : BlockPlane → Field Bool
@@ -44,18 +44,18 @@ spread_at v t x y =
 
 -- The words show what is so at a moment.
 pub record IsFlagged (v : BlockPlane) (t : ℕ) {size : ℕ} (flags : Flags size) : Type 0 where
-  pub lit : IsDrawn v.shape (lit_at v t) flags.significant
+  pub known_significant : IsDrawn v.shape (significant_at v t) flags.significant
   pub coded : IsDrawn v.shape (spread_at v t) flags.visited
 
 -- Between planes the words show what has a bit in plane b or above it.
-pub record IsLitUpto (s : BlockShape) (b : ℕ) (q : Field ℤ) {size : ℕ} (flags : Flags size) : Type 0 where
-  pub lit : IsDrawn s (λ x y. nat_lt 0 ((plane_at s b q).magnitude x y)) flags.significant
+pub record IsSignificantUpto (s : BlockShape) (b : ℕ) (q : Field ℤ) {size : ℕ} (flags : Flags size) : Type 0 where
+  pub known_significant : IsDrawn s (λ x y. nat_lt 0 ((plane_at s b q).magnitude x y)) flags.significant
 
 -- The byte spells the decision of the bit of a place that isn't significant at a moment, or that
 -- of its sign.
 abbrev pub SpellsBit : BlockPlane → (t x y byte : ℕ) → Type 0
 SpellsBit v t x y byte =
-    decision_of byte ≡ (zero_in v.shape (lit_at v t) x y, is_one ((seen v).magnitude x y))
+    decision_of byte ≡ (zero_in v.shape (significant_at v t) x y, is_one ((seen v).magnitude x y))
 
 abbrev pub SpellsSign : BlockPlane → (t x y byte : ℕ) → Type 0
 SpellsSign v t x y byte = decision_of byte ≡ sign_decision v.shape (seen v) t x y
@@ -71,16 +71,16 @@ unfoldable pub moment_at : BlockShape → (pass j i k : ℕ) → ℕ
 moment_at s pass j i k = pass * visits s + number_by s.width (s.width * i) (8 * j + k / 8) (k % 8)
 
 -- column c of a word in a pass, if the block has it
-unfoldable pub column_if : BlockShape → Plane → (pass j i c : ℕ) → Decided
+unfoldable pub column_if : BlockShape → BlockAtPlane → (pass j i c : ℕ) → Decided
 column_if s p pass j i c = if nat_lt (8 * j + c) s.width then column_decisions s p pass (8 * j + c) i else []
 
 -- a word in a pass
-unfoldable pub word_decisions : BlockShape → Plane → (pass j i : ℕ) → Decided
+unfoldable pub word_decisions : BlockShape → BlockAtPlane → (pass j i : ℕ) → Decided
 word_decisions s p pass j i = joined 8 (column_if s p pass j i)
 
 -- What a column in run mode decides up to its first row f with the bit 1, at the moment of that
 -- row.
-unfoldable pub run_head : BlockShape → Plane → (t x i f : ℕ) → Decided
+unfoldable pub run_head : BlockShape → BlockAtPlane → (t x i f : ℕ) → Decided
 run_head s p t x i f =
     if nat_eq f 4 then (run_length, false) ∷ []
     else (run_length, true) ∷ (uniform, nat_le 2 f) ∷ (uniform, is_one f) ∷ sign_decision s p t x (4 * i + f) ∷ []

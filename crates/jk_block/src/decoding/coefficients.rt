@@ -12,10 +12,10 @@ ghost use Rattle.jk_scan.specs.Flags.{across};
 ghost use Rattle.jk_block.specs.Meaning.{with_sign, values_of};
 ghost use Rattle.jk_block.specs.Reading.{coefficients};
 ghost use Rattle.jk_block.specs.Fields.{number_from, words_of};
-ghost use Rattle.jk_block.specs.decoding.Sketches.{draft_of, progress};
+ghost use Rattle.jk_block.specs.decoding.BlockStates.{draft_of, progress};
 ghost use Rattle.jk_block.specs.decoding.Eights.{HasBits, IsEight, eight_bit, value_of};
 
-use super::sketch::Sketch;
+use super::block_state::BlockState;
 use crate::ages::words_of;
 use jk_math::Fault;
 use jk_scan::{word_place, words_across};
@@ -46,15 +46,15 @@ fn row_bits(word: u64, k: u32) -> u64
 /// A byte of the magnitudes of a row's eight places: their bits in eight planes from the first one
 /// on.
 #[inline(always)]
-fn row_bytes<const N: usize>(sketch: &Sketch<N>, at: usize, k: u32, first: u32) -> u64
-    requires at { at < words_of sketch.now.shape }
+fn row_bytes<const N: usize>(block_state: &BlockState<N>, at: usize, k: u32, first: u32) -> u64
+    requires at { at < words_of block_state.now.shape }
     requires k { k < 8 }
     requires first { first ≤ 16 }
-    ensures { HasBits sketch.now at k first result }
+    ensures { HasBits block_state.now at k first result }
 {
-    let bits = &sketch.bits;
-    let room = words_of(sketch.shape);
-    let count = sketch.planes.saturating_sub(first).min(8);
+    let bits = &block_state.bits;
+    let room = words_of(block_state.shape);
+    let count = block_state.planes.saturating_sub(first).min(8);
     let mut bytes = 0;
     for i in 0..count {
         let plane = first + (count - 1 - i);
@@ -65,18 +65,18 @@ fn row_bytes<const N: usize>(sketch: &Sketch<N>, at: usize, k: u32, first: u32) 
 
 /// The coefficients of a word of eight places in a row.
 #[inline(always)]
-fn eight_at<const N: usize>(sketch: &Sketch<N>, word: usize, y: usize) -> Eight
-    requires word { word < across sketch.now.shape }
-    requires y { y < sketch.now.shape.height }
-    ensures { IsEight sketch.now word y result }
+fn eight_at<const N: usize>(block_state: &BlockState<N>, word: usize, y: usize) -> Eight
+    requires word { word < across block_state.now.shape }
+    requires y { y < block_state.now.shape.height }
+    ensures { IsEight block_state.now word y result }
 {
-    let at = word_place(sketch.shape, word + 1, y / 4 + 1);
+    let at = word_place(block_state.shape, word + 1, y / 4 + 1);
     let k = (y % 4) as u32 + 1;
-    let negative = &sketch.negative;
+    let negative = &block_state.negative;
     Eight {
-        low: row_bytes(sketch, at, k, 0),
-        middle: row_bytes(sketch, at, k, 8),
-        high: row_bytes(sketch, at, k, 16),
+        low: row_bytes(block_state, at, k, 0),
+        middle: row_bytes(block_state, at, k, 8),
+        high: row_bytes(block_state, at, k, 16),
         negative: row_bits(negative[at], k),
     }
 }
@@ -148,31 +148,31 @@ fn append_eight(values: &mut Vec<i32>, eight: Eight, count: usize)
 }
 
 /// Appends the coefficients of a row, for which there is room.
-fn append_row<const N: usize>(values: &mut Vec<i32>, sketch: &Sketch<N>, y: usize)
-    requires row { y < sketch.now.shape.height }
-    requires room { vec_len values.old + sketch.now.shape.width ≤ vec_capacity values.old }
+fn append_row<const N: usize>(values: &mut Vec<i32>, block_state: &BlockState<N>, y: usize)
+    requires row { y < block_state.now.shape.height }
+    requires room { vec_len values.old + block_state.now.shape.width ≤ vec_capacity values.old }
     ensures items { values.new.items ≡ values.old.items
-        ++ map (λ x. with_sign ((draft_of sketch.now).negative x y) ((draft_of sketch.now).magnitude x y))
-        (range_with_len 0 sketch.now.shape.width) }
-    ensures len { vec_len values.new ≡ vec_len values.old + sketch.now.shape.width }
+        ++ map (λ x. with_sign ((draft_of block_state.now).negative x y) ((draft_of block_state.now).magnitude x y))
+        (range_with_len 0 block_state.now.shape.width) }
+    ensures len { vec_len values.new ≡ vec_len values.old + block_state.now.shape.width }
     ensures capacity { vec_capacity values.new ≡ vec_capacity values.old }
 {
-    let width = sketch.shape.width;
-    for word in 0..words_across(sketch.shape) {
-        let eight = eight_at(sketch, word, y);
+    let width = block_state.shape.width;
+    for word in 0..words_across(block_state.shape) {
+        let eight = eight_at(block_state, word, y);
         append_eight(values, eight, (width - 8 * word).min(8));
     }
 }
 
 /// The coefficients of a sketch.
-pub fn values<const N: usize>(alloc: Global, sketch: &Sketch<N>) -> Result<Vec<i32>, Fault>
+pub fn values<const N: usize>(alloc: Global, block_state: &BlockState<N>) -> Result<Vec<i32>, Fault>
     ensures values { (c : State) → IfOk result
-        (λ v. v.items ≡ values_of sketch.now.shape (coefficients (progress (draft_of sketch.now) c))) }
+        (λ v. v.items ≡ values_of block_state.now.shape (coefficients (progress (draft_of block_state.now) c))) }
     ensures memory { IfErr result IsMemory }
 {
-    let mut values = Vec::with_capacity(alloc, sketch.shape.width * sketch.shape.height)?;
-    for y in 0..sketch.shape.height {
-        append_row(&mut values, sketch, y);
+    let mut values = Vec::with_capacity(alloc, block_state.shape.width * block_state.shape.height)?;
+    for y in 0..block_state.shape.height {
+        append_row(&mut values, block_state, y);
     }
     Ok(values)
 }

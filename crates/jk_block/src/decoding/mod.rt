@@ -1,6 +1,6 @@
 //! A block read from its segment. The MQ decoder gives decisions; a pass goes over stripes
 //! (`passes`), their words of 32 places (`words`) and the places that it codes (`places`). What a
-//! word becomes stands in its `sight` until the last of its places, and goes into the `sketch`
+//! word becomes stands in its `sight` until the last of its places, and goes into the `block_state`
 //! then: words of which places are significant, and of the bits of each plane. The sketch is the
 //! block.
 
@@ -17,25 +17,25 @@ ghost use Rattle.jk_block.specs.Fields.{AreSameWords, words_of};
 ghost use Rattle.jk_block.specs.Meaning.{IsBlockMeaning, plane_of, kind_of, value_in, values_of};
 ghost use Rattle.jk_block.specs.Reading.{times, blank, begun, pass_at, block_at};
 ghost use Rattle.jk_block.specs.Steps.{number_of};
-ghost use Rattle.jk_block.specs.decoding.Sketches.{Takes, IsFresh, draft_of, progress};
+ghost use Rattle.jk_block.specs.decoding.BlockStates.{TakesStep, IsFresh, draft_of, progress};
 
+mod block_state;
 mod coefficients;
 mod passes;
 mod places;
 mod sight;
-mod sketch;
 mod symbols;
 mod words;
 
 use crate::ages::{Ages, words_of};
-use crate::spot::{Pass, pass_of};
+use crate::word_place::{Pass, pass_of};
+use block_state::{BlockState, no_bits};
 use coefficients::values;
 use jk_math::{Fault, Orientation, Style};
 use jk_model::first_steps;
 use jk_mqdec::PassDecoder;
 use jk_scan::{BlockShape, WORDS};
 use passes::read_bit_plane;
-use sketch::{Sketch, no_bits};
 use std::alloc::Global;
 use symbols::end_pass;
 
@@ -56,16 +56,16 @@ pub struct Block {
 
 /// Begins a pass: with significance propagation a plane begins.
 #[inline(always)]
-fn begin<const N: usize>(sketch: &mut Sketch<N>, pass: Pass)
-    ensures shape { sketch.new.shape ≡ sketch.old.shape }
-    ensures planes { sketch.new.planes ≡ sketch.old.planes }
-    ensures begun { (c : State) → progress (draft_of sketch.new) c
-        ≡ begun (number_of pass) (progress (draft_of sketch.old) c) }
+fn begin<const N: usize>(block_state: &mut BlockState<N>, pass: Pass)
+    ensures shape { block_state.new.shape ≡ block_state.old.shape }
+    ensures planes { block_state.new.planes ≡ block_state.old.planes }
+    ensures begun { (c : State) → progress (draft_of block_state.new) c
+        ≡ begun (number_of pass) (progress (draft_of block_state.old) c) }
     ensures fresh { (plane : ℕ) (refined : List ℕ) → number_of pass ≡ 1
-        → IsFresh plane refined (draft_of sketch.old) → IsFresh plane refined (draft_of sketch.new) }
+        → IsFresh plane refined (draft_of block_state.old) → IsFresh plane refined (draft_of block_state.new) }
 {
     match pass {
-        Pass::Propagation => sketch.begin(),
+        Pass::Propagation => block_state.begin(),
         _ => {}
     }
 }
@@ -100,53 +100,53 @@ fn note<const N: usize>(ages: &mut Ages<N>, shape: BlockShape, significant: &[u6
 /// Reads the n-th pass of a block.
 #[inline(always)]
 fn read_pass<const N: usize>(
-    sketch: &mut Sketch<N>,
+    block_state: &mut BlockState<N>,
     decoder: &mut PassDecoder,
     refined: &[u64; N],
     planes: u32,
     n: usize,
 ) -> Result<(), Fault>
-    requires planes { planes ≡ sketch.old.planes }
+    requires planes { planes ≡ block_state.old.planes }
     requires few { planes ≤ 23 }
     requires n { n < 3 * planes - 2 }
-    requires fresh { kind_of n ≡ 1 → IsFresh (plane_of planes n) refined.now (draft_of sketch.old) }
-    ensures shape { sketch.new.shape ≡ sketch.old.shape }
-    ensures planes { sketch.new.planes ≡ sketch.old.planes }
+    requires fresh { kind_of n ≡ 1 → IsFresh (plane_of planes n) refined.now (draft_of block_state.old) }
+    ensures shape { block_state.new.shape ≡ block_state.old.shape }
+    ensures planes { block_state.new.planes ≡ block_state.old.planes }
     ensures bytes { decoder.new.bytes ≡ decoder.old.bytes }
-    ensures takes { Takes (pass_at decoder.old.bytes sketch.old.shape planes n)
-        (draft_of sketch.old) (draft_of sketch.new) decoder.old decoder.new result }
+    ensures takes { TakesStep (pass_at decoder.old.bytes block_state.old.shape planes n)
+        (draft_of block_state.old) (draft_of block_state.new) decoder.old decoder.new result }
 {
     let plane = planes - 1 - (n as u32 + 2) / 3;
     let pass = pass_of(n);
-    begin(sketch, pass);
-    begin_contexts(decoder, sketch.shape.style);
-    read_bit_plane(sketch, decoder, refined, plane, pass)?;
-    end_pass(decoder, sketch.shape.style, pass)
+    begin(block_state, pass);
+    begin_contexts(decoder, block_state.shape.style);
+    read_bit_plane(block_state, decoder, refined, plane, pass)?;
+    end_pass(decoder, block_state.shape.style, pass)
 }
 
 /// Reads the passes of a block.
 #[inline(always)]
 fn read_passes<const N: usize>(
-    sketch: &mut Sketch<N>,
+    block_state: &mut BlockState<N>,
     decoder: &mut PassDecoder,
     planes: u32,
     passes: usize,
 ) -> Result<(), Fault>
-    requires planes { planes ≡ sketch.old.planes }
+    requires planes { planes ≡ block_state.old.planes }
     requires few { planes ≤ 23 }
     requires passes { passes ≤ 3 * planes - 2 }
-    requires blank { progress (draft_of sketch.old) blank.coder ≡ blank }
+    requires blank { progress (draft_of block_state.old) blank.coder ≡ blank }
     requires stands { Stands decoder.old blank.coder }
-    ensures shape { sketch.new.shape ≡ sketch.old.shape }
-    ensures planes { sketch.new.planes ≡ sketch.old.planes }
+    ensures shape { block_state.new.shape ≡ block_state.old.shape }
+    ensures planes { block_state.new.planes ≡ block_state.old.planes }
     ensures bytes { decoder.new.bytes ≡ decoder.old.bytes }
-    ensures takes { Takes (times passes (pass_at decoder.old.bytes sketch.old.shape planes))
-        (draft_of sketch.old) (draft_of sketch.new) decoder.old decoder.new result }
+    ensures takes { TakesStep (times passes (pass_at decoder.old.bytes block_state.old.shape planes))
+        (draft_of block_state.old) (draft_of block_state.new) decoder.old decoder.new result }
 {
     let mut ages = Ages::<N>::none();
     for n in 0..passes {
-        note(&mut ages, sketch.shape, &sketch.significant, n);
-        read_pass(sketch, decoder, ages.refined(), planes, n)?;
+        note(&mut ages, block_state.shape, &block_state.significant, n);
+        read_pass(block_state, decoder, ages.refined(), planes, n)?;
     }
     Ok(())
 }
@@ -182,16 +182,16 @@ fn decode_among<const N: usize>(
     if passes > (3 * planes as usize).saturating_sub(2) {
         return Err(Fault::TooManyPasses);
     }
-    let mut sketch = Sketch::<N>::new(shape, planes, no_bits(alloc, shape, planes)?);
+    let mut block_state = BlockState::<N>::new(shape, planes, no_bits(alloc, shape, planes)?);
     let mut contexts = first_steps();
     let mut decoder = PassDecoder::new(segment, &mut contexts);
-    read_passes(&mut sketch, &mut decoder, planes, passes)?;
+    read_passes(&mut block_state, &mut decoder, planes, passes)?;
     Ok(Block {
         width: shape.width,
         height: shape.height,
         orientation: shape.orientation,
         style: shape.style,
-        values: values(alloc, &sketch)?,
+        values: values(alloc, &block_state)?,
     })
 }
 

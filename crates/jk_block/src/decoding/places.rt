@@ -9,10 +9,10 @@ ghost use Rattle.jk_scan.specs.Moments.{cleanup};
 ghost use Rattle.jk_scan.specs.Passes.{flipped};
 ghost use Rattle.jk_scan.specs.Words.{of_rows};
 ghost use Rattle.jk_scan.specs.WordPlaces.{column, row};
-ghost use Rattle.jk_block.specs.declared.spot.Spot.{Spot};
+ghost use Rattle.jk_block.specs.declared.word_place.WordPlace.{WordPlace};
 ghost use Rattle.jk_block.specs.Reading.{read_sign, read_new, place_at, row_named, rows_at, read_run};
-ghost use Rattle.jk_block.specs.Steps.{IsPlace};
-ghost use Rattle.jk_block.specs.decoding.Sketches.{Draft, TakesTo, TakesUpTo, lit_in, coded_in};
+ghost use Rattle.jk_block.specs.Steps.{IsBitPlace};
+ghost use Rattle.jk_block.specs.decoding.BlockStates.{Draft, TakesTo, TakesUpTo, significant_in, coded_in};
 ghost use Rattle.jk_block.specs.decoding.Sights.{Sees, new_in, run_in};
 
 use super::sight::Sight;
@@ -37,7 +37,7 @@ fn read_sign(sight: Sight, decoder: &mut PassDecoder, k: u32) -> Result<bool, Fa
     requires within { k < 64 }
     requires on_row { of_rows (k % 8) ≡ true }
     ensures bytes { decoder.new.bytes ≡ decoder.old.bytes }
-    ensures takes { (at : Spot) (d : Draft) → Sees at d sight
+    ensures takes { (at : WordPlace) (d : Draft) → Sees at d sight
         → TakesTo (read_sign decoder.old.bytes d.shape at.plane (column at.word k) (row at.stripe k))
         d (λ negative. coded_in at.plane (column at.word k) (row at.stripe k) true negative d)
         decoder.old decoder.new result }
@@ -58,9 +58,9 @@ pub fn read_new(
     requires within { k < 64 }
     requires on_row { of_rows (k % 8) ≡ true }
     ensures bytes { decoder.new.bytes ≡ decoder.old.bytes }
-    ensures sees { (at : Spot) (d : Draft) → IsPlace d.shape at k → Sees at d sight.old
+    ensures sees { (at : WordPlace) (d : Draft) → IsBitPlace d.shape at k → Sees at d sight.old
         → IfOk result (λ bit. Sees at (new_in at k bit sight.new d) sight.new) }
-    ensures takes { (at : Spot) (d : Draft) → d.shape.orientation ≡ orientation → IsPlace d.shape at k
+    ensures takes { (at : WordPlace) (d : Draft) → d.shape.orientation ≡ orientation → IsBitPlace d.shape at k
         → Sees at d sight.old
         → TakesTo (read_new decoder.old.bytes d.shape at.plane (column at.word k) (row at.stripe k))
         d (λ bit. new_in at k bit sight.new d) decoder.old decoder.new result }
@@ -79,8 +79,8 @@ pub fn read_new(
 pub fn read_refined(decoder: &mut PassDecoder, context: u8) -> Result<bool, Fault>
     requires { context < 19 }
     ensures bytes { decoder.new.bytes ≡ decoder.old.bytes }
-    ensures takes { (at : Spot) (d : Draft) (x y : ℕ) → lit_in d x y ≡ true → d.visited x y ≡ false
-        → context ≡ refine_context_of (nat_le 4 (d.magnitude x y / 2 ^ at.plane)) (touched_in d.shape (lit_in d) x y)
+    ensures takes { (at : WordPlace) (d : Draft) (x y : ℕ) → significant_in d x y ≡ true → d.visited x y ≡ false
+        → context ≡ refine_context_of (nat_le 4 (d.magnitude x y / 2 ^ at.plane)) (touched_in d.shape (significant_in d) x y)
         → TakesTo (place_at decoder.old.bytes d.shape at.plane 1 x y)
         d (λ bit. coded_in at.plane x y bit (d.negative x y) d) decoder.old decoder.new result }
 {
@@ -106,9 +106,9 @@ pub fn read_run(sight: &mut Sight, decoder: &mut PassDecoder, k: u32) -> Result<
     requires first { k % 8 ≡ 1 }
     ensures bytes { decoder.new.bytes ≡ decoder.old.bytes }
     ensures few { IfOk result (λ f. f ≤ 4) }
-    ensures sees { (at : Spot) (d : Draft) → IsPlace d.shape at k → 4 * at.stripe + 4 ≤ d.shape.height
+    ensures sees { (at : WordPlace) (d : Draft) → IsBitPlace d.shape at k → 4 * at.stripe + 4 ≤ d.shape.height
         → Sees at d sight.old → IfOk result (λ f. Sees at (run_in at k f sight.new d) sight.new) }
-    ensures takes { (at : Spot) (d : Draft) → IsPlace d.shape at k → 4 * at.stripe + 4 ≤ d.shape.height
+    ensures takes { (at : WordPlace) (d : Draft) → IsBitPlace d.shape at k → 4 * at.stripe + 4 ≤ d.shape.height
         → Sees at d sight.old
         → TakesUpTo (read_run decoder.old.bytes d.shape at.plane (column at.word k) at.stripe)
         (λ f. rows_at decoder.old.bytes d.shape at.plane cleanup (column at.word k) at.stripe (f + 1) (3 - f))

@@ -3,9 +3,9 @@
 ghost use Rattle.std.specs.Prelude.{◌≡◌, ℕ, true, ◌+◌, ◌*◌, ◌%◌, ◌<◌, if◌then◌else◌};
 ghost use Rattle.jk_scan.specs.Words.{of_rows};
 ghost use Rattle.jk_scan.specs.WordPlaces.{column, row};
-ghost use Rattle.jk_block.specs.declared.spot.Spot.{Spot};
-ghost use Rattle.jk_block.specs.Steps.{IsPlace};
-ghost use Rattle.jk_block.specs.decoding.Sketches.{Draft, coded_in};
+ghost use Rattle.jk_block.specs.declared.word_place.WordPlace.{WordPlace};
+ghost use Rattle.jk_block.specs.Steps.{IsBitPlace};
+ghost use Rattle.jk_block.specs.decoding.BlockStates.{Draft, coded_in};
 
 use jk_scan::Around;
 
@@ -33,7 +33,7 @@ impl Sight {
     pub fn light(&mut self, k: u32, negative: bool)
         requires { k < 64 }
         ensures sign { sign_seen self.new k ≡ negative }
-        ensures sees { (at : Spot) (d : Draft) → IsPlace d.shape at k → Sees at d self.old
+        ensures sees { (at : WordPlace) (d : Draft) → IsBitPlace d.shape at k → Sees at d self.old
             → Sees at (coded_in at.plane (column at.word k) (row at.stripe k) true negative d) self.new }
     {
         let bit = 1 << k;

@@ -4,10 +4,10 @@ ghost use Rattle.std.specs.Prelude.{◌≡◌};
 ghost use Rattle.jk_block.specs.Reading.{symbol_at, closing_at};
 ghost use Rattle.jk_block.specs.Steps.{number_of};
 ghost use Rattle.jk_block.specs.Symbols.{is_symbol};
-ghost use Rattle.jk_block.specs.decoding.Sketches.{Draft, Takes};
+ghost use Rattle.jk_block.specs.decoding.BlockStates.{Draft, TakesStep};
 
 use crate::contexts::UNIFORM;
-use crate::spot::{Pass, ends_with_symbol};
+use crate::word_place::{Pass, ends_with_symbol};
 use jk_math::{Fault, Style};
 use jk_mqdec::PassDecoder;
 
@@ -23,7 +23,7 @@ fn is_symbol(first: bool, second: bool, third: bool, fourth: bool) -> bool
 #[inline(always)]
 fn read_symbol(decoder: &mut PassDecoder) -> Result<(), Fault>
     ensures bytes { decoder.new.bytes ≡ decoder.old.bytes }
-    ensures takes { (d : Draft) → Takes (symbol_at decoder.old.bytes) d d decoder.old decoder.new result }
+    ensures takes { (d : Draft) → TakesStep (symbol_at decoder.old.bytes) d d decoder.old decoder.new result }
 {
     let first = decoder.decode(UNIFORM as usize)?;
     let second = decoder.decode(UNIFORM as usize)?;
@@ -40,7 +40,7 @@ fn read_symbol(decoder: &mut PassDecoder) -> Result<(), Fault>
 pub fn end_pass(decoder: &mut PassDecoder, style: Style, pass: Pass) -> Result<(), Fault>
     ensures bytes { decoder.new.bytes ≡ decoder.old.bytes }
     ensures takes { (d : Draft)
-        → Takes (closing_at decoder.old.bytes style (number_of pass)) d d decoder.old decoder.new result }
+        → TakesStep (closing_at decoder.old.bytes style (number_of pass)) d d decoder.old decoder.new result }
 {
     if ends_with_symbol(style, pass) {
         return read_symbol(decoder);

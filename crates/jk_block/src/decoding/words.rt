@@ -13,13 +13,13 @@ ghost use Rattle.jk_scan.specs.Surroundings.{IsAround};
 ghost use Rattle.jk_scan.specs.Flags.{IsSized, flag_at};
 ghost use Rattle.jk_block.specs.Reading.{is_quiet};
 ghost use Rattle.jk_block.specs.Fields.{words_of};
-ghost use Rattle.jk_block.specs.Steps.{IsSpot, word_pass};
-ghost use Rattle.jk_block.specs.decoding.Sketches.{Takes, IsFresh, draft_of, lit_in};
+ghost use Rattle.jk_block.specs.Steps.{IsWordPlace, word_pass};
+ghost use Rattle.jk_block.specs.decoding.BlockStates.{TakesStep, IsFresh, draft_of, significant_in};
 
+use super::block_state::BlockState;
 use super::places::{read_new, read_refined, read_run};
 use super::sight::{Sight, digit};
-use super::sketch::Sketch;
-use crate::spot::Spot;
+use crate::word_place::WordPlace;
 use jk_math::Fault;
 use jk_mqdec::PassDecoder;
 use jk_scan::{
@@ -41,26 +41,26 @@ fn later_touched(significant: u64, limits: u64, k: u32) -> u64
 /// significant takes in the later ones of its word that it touches.
 #[inline(always)]
 pub fn read_propagation<const N: usize>(
-    sketch: &mut Sketch<N>,
+    block_state: &mut BlockState<N>,
     decoder: &mut PassDecoder,
-    spot: Spot,
+    spot: WordPlace,
 ) -> Result<(), Fault>
-    requires spot { IsSpot sketch.old.shape spot }
-    requires plane { spot.plane < sketch.old.planes }
-    ensures shape { sketch.new.shape ≡ sketch.old.shape }
-    ensures planes { sketch.new.planes ≡ sketch.old.planes }
+    requires spot { IsWordPlace block_state.old.shape spot }
+    requires plane { spot.plane < block_state.old.planes }
+    ensures shape { block_state.new.shape ≡ block_state.old.shape }
+    ensures planes { block_state.new.planes ≡ block_state.old.planes }
     ensures bytes { decoder.new.bytes ≡ decoder.old.bytes }
-    ensures takes { Takes (word_pass decoder.old.bytes sketch.old.shape spot.plane 0 spot.word spot.stripe)
-        (draft_of sketch.old) (draft_of sketch.new) decoder.old decoder.new result }
+    ensures takes { TakesStep (word_pass decoder.old.bytes block_state.old.shape spot.plane 0 spot.word spot.stripe)
+        (draft_of block_state.old) (draft_of block_state.new) decoder.old decoder.new result }
 {
-    let shape = sketch.shape;
+    let shape = block_state.shape;
     let limits = inside(shape, spot.word, spot.stripe);
-    let significant = seen_among(&sketch.significant, shape, spot.word, spot.stripe);
+    let significant = seen_among(&block_state.significant, shape, spot.word, spot.stripe);
     let mut candidates = members(significant, limits);
     if candidates == 0 {
         return Ok(());
     }
-    let negative = seen_among(&sketch.negative, shape, spot.word, spot.stripe);
+    let negative = seen_among(&block_state.negative, shape, spot.word, spot.stripe);
     let mut sight = Sight {
         significant,
         negative,
@@ -76,31 +76,31 @@ pub fn read_propagation<const N: usize>(
             visited |= reached;
         }
     }
-    sketch.visit_all(spot, visited);
-    sketch.light_all(spot, limits, sight);
+    block_state.visit_all(spot, visited);
+    block_state.light_all(spot, limits, sight);
     Ok(())
 }
 
 /// The places of a word that were significant before this plane.
 #[inline(always)]
-fn older<const N: usize>(sketch: &Sketch<N>, spot: Spot) -> u64
-    requires { IsSpot sketch.now.shape spot }
+fn older<const N: usize>(block_state: &BlockState<N>, spot: WordPlace) -> u64
+    requires { IsWordPlace block_state.now.shape spot }
     ensures { (m : ℕ) → m < 64 → on result m ≡ (of_rows (m % 8)
-        && (lit_in (draft_of sketch.now) (column spot.word m) (row spot.stripe m)
-        && not ((draft_of sketch.now).visited (column spot.word m) (row spot.stripe m)))) }
+        && (significant_in (draft_of block_state.now) (column spot.word m) (row spot.stripe m)
+        && not ((draft_of block_state.now).visited (column spot.word m) (row spot.stripe m)))) }
 {
-    let place = word_place(sketch.shape, spot.word + 1, spot.stripe + 1);
-    let significant = &sketch.significant;
-    let visited = &sketch.visited;
+    let place = word_place(block_state.shape, spot.word + 1, spot.stripe + 1);
+    let significant = &block_state.significant;
+    let visited = &block_state.visited;
     significant[place] & !visited[place]
 }
 
 /// The places of a word that the words show.
 #[inline(always)]
-fn refined_places<const N: usize>(refined: &[u64; N], shape: BlockShape, spot: Spot) -> u64
+fn refined_places<const N: usize>(refined: &[u64; N], shape: BlockShape, spot: WordPlace) -> u64
     requires sized { IsSized shape }
     requires room { words_of shape ≤ N }
-    requires spot { IsSpot shape spot }
+    requires spot { IsWordPlace shape spot }
     ensures { (m : ℕ) → m < 64 → of_rows (m % 8) ≡ true
         → on result m ≡ flag_at shape refined.now (column spot.word m) (row spot.stripe m) }
 {
@@ -110,27 +110,27 @@ fn refined_places<const N: usize>(refined: &[u64; N], shape: BlockShape, spot: S
 /// Reads a word in the magnitude refinement pass (T.800 D.3.3).
 #[inline(always)]
 pub fn read_refinement<const N: usize>(
-    sketch: &mut Sketch<N>,
+    block_state: &mut BlockState<N>,
     decoder: &mut PassDecoder,
     refined: &[u64; N],
-    spot: Spot,
+    spot: WordPlace,
 ) -> Result<(), Fault>
-    requires spot { IsSpot sketch.old.shape spot }
-    requires plane { spot.plane < sketch.old.planes }
-    requires fresh { IsFresh spot.plane refined.now (draft_of sketch.old) }
-    ensures shape { sketch.new.shape ≡ sketch.old.shape }
-    ensures planes { sketch.new.planes ≡ sketch.old.planes }
+    requires spot { IsWordPlace block_state.old.shape spot }
+    requires plane { spot.plane < block_state.old.planes }
+    requires fresh { IsFresh spot.plane refined.now (draft_of block_state.old) }
+    ensures shape { block_state.new.shape ≡ block_state.old.shape }
+    ensures planes { block_state.new.planes ≡ block_state.old.planes }
     ensures bytes { decoder.new.bytes ≡ decoder.old.bytes }
-    ensures fresh { IsFresh spot.plane refined.now (draft_of sketch.new) }
-    ensures takes { Takes (word_pass decoder.old.bytes sketch.old.shape spot.plane 1 spot.word spot.stripe)
-        (draft_of sketch.old) (draft_of sketch.new) decoder.old decoder.new result }
+    ensures fresh { IsFresh spot.plane refined.now (draft_of block_state.new) }
+    ensures takes { TakesStep (word_pass decoder.old.bytes block_state.old.shape spot.plane 1 spot.word spot.stripe)
+        (draft_of block_state.old) (draft_of block_state.new) decoder.old decoder.new result }
 {
-    let shape = sketch.shape;
-    let places = older(sketch, spot);
+    let shape = block_state.shape;
+    let places = older(block_state, spot);
     if places == 0 {
         return Ok(());
     }
-    let significant = seen_among(&sketch.significant, shape, spot.word, spot.stripe);
+    let significant = seen_among(&block_state.significant, shape, spot.word, spot.stripe);
     let touched = touched_places(significant);
     let again = refined_places(refined, shape, spot);
     let mut candidates = places;
@@ -142,32 +142,32 @@ pub fn read_refinement<const N: usize>(
         let bit = read_refined(decoder, context)?;
         ones |= digit(bit) << k;
     }
-    sketch.refine_all(spot, places, ones);
+    block_state.refine_all(spot, places, ones);
     Ok(())
 }
 
 /// The places of a word that no pass has coded yet.
 #[inline(always)]
-fn uncoded<const N: usize>(sketch: &Sketch<N>, spot: Spot, limits: u64) -> u64
-    requires spot { IsSpot sketch.now.shape spot }
-    requires limits { Shows of_rows (bordered (is_inside sketch.now.shape)) (spot.word + 1) (spot.stripe + 1) limits }
+fn uncoded<const N: usize>(block_state: &BlockState<N>, spot: WordPlace, limits: u64) -> u64
+    requires spot { IsWordPlace block_state.now.shape spot }
+    requires limits { Shows of_rows (bordered (is_inside block_state.now.shape)) (spot.word + 1) (spot.stripe + 1) limits }
     ensures { (m : ℕ) → m < 64
-        → on result m ≡ (of_rows (m % 8) && (is_inside sketch.now.shape (column spot.word m) (row spot.stripe m)
-        && (not (lit_in (draft_of sketch.now) (column spot.word m) (row spot.stripe m))
-        && not ((draft_of sketch.now).visited (column spot.word m) (row spot.stripe m))))) }
+        → on result m ≡ (of_rows (m % 8) && (is_inside block_state.now.shape (column spot.word m) (row spot.stripe m)
+        && (not (significant_in (draft_of block_state.now) (column spot.word m) (row spot.stripe m))
+        && not ((draft_of block_state.now).visited (column spot.word m) (row spot.stripe m))))) }
 {
-    let place = word_place(sketch.shape, spot.word + 1, spot.stripe + 1);
-    let significant = &sketch.significant;
-    let visited = &sketch.visited;
+    let place = word_place(block_state.shape, spot.word + 1, spot.stripe + 1);
+    let significant = &block_state.significant;
+    let visited = &block_state.visited;
     limits & !(significant[place] | visited[place])
 }
 
 /// The columns of a word that are coded in run mode, by their first rows: they have four rows, with
 /// nothing significant in them or around them.
 #[inline(always)]
-fn still_columns(shape: BlockShape, spot: Spot, seen: Around, limits: u64) -> u64
+fn still_columns(shape: BlockShape, spot: WordPlace, seen: Around, limits: u64) -> u64
     requires sized { IsSized shape }
-    requires spot { IsSpot shape spot }
+    requires spot { IsWordPlace shape spot }
     requires limits { Shows of_rows (bordered (is_inside shape)) (spot.word + 1) (spot.stripe + 1) limits }
     ensures { (f : Field Bool) → IsAround (bordered (seen_from shape spot.stripe f)) spot.word spot.stripe seen
         → (m : ℕ) → m < 64 → on result m ≡ (nat_eq (m % 8) 1 && (nat_lt (8 * spot.word + m / 8) shape.width
@@ -184,27 +184,27 @@ fn still_columns(shape: BlockShape, spot: Spot, seen: Around, limits: u64) -> u6
 /// mode.
 #[inline(always)]
 pub fn read_cleanup<const N: usize>(
-    sketch: &mut Sketch<N>,
+    block_state: &mut BlockState<N>,
     decoder: &mut PassDecoder,
-    spot: Spot,
+    spot: WordPlace,
 ) -> Result<(), Fault>
-    requires spot { IsSpot sketch.old.shape spot }
-    requires plane { spot.plane < sketch.old.planes }
-    ensures shape { sketch.new.shape ≡ sketch.old.shape }
-    ensures planes { sketch.new.planes ≡ sketch.old.planes }
+    requires spot { IsWordPlace block_state.old.shape spot }
+    requires plane { spot.plane < block_state.old.planes }
+    ensures shape { block_state.new.shape ≡ block_state.old.shape }
+    ensures planes { block_state.new.planes ≡ block_state.old.planes }
     ensures bytes { decoder.new.bytes ≡ decoder.old.bytes }
-    ensures takes { Takes (word_pass decoder.old.bytes sketch.old.shape spot.plane 2 spot.word spot.stripe)
-        (draft_of sketch.old) (draft_of sketch.new) decoder.old decoder.new result }
+    ensures takes { TakesStep (word_pass decoder.old.bytes block_state.old.shape spot.plane 2 spot.word spot.stripe)
+        (draft_of block_state.old) (draft_of block_state.new) decoder.old decoder.new result }
 {
-    let shape = sketch.shape;
+    let shape = block_state.shape;
     let limits = inside(shape, spot.word, spot.stripe);
-    let significant = seen_among(&sketch.significant, shape, spot.word, spot.stripe);
-    let mut left = uncoded(sketch, spot, limits);
+    let significant = seen_among(&block_state.significant, shape, spot.word, spot.stripe);
+    let mut left = uncoded(block_state, spot, limits);
     let mut still = still_columns(shape, spot, significant, limits);
     if left | still == 0 {
         return Ok(());
     }
-    let negative = seen_among(&sketch.negative, shape, spot.word, spot.stripe);
+    let negative = seen_among(&block_state.negative, shape, spot.word, spot.stripe);
     let mut sight = Sight {
         significant,
         negative,
@@ -226,6 +226,6 @@ pub fn read_cleanup<const N: usize>(
             }
         }
     }
-    sketch.light_all(spot, limits, sight);
+    block_state.light_all(spot, limits, sight);
     Ok(())
 }

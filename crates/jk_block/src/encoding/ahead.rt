@@ -7,10 +7,13 @@ ghost use Rattle.jk_block.specs.encoding.Reached.{is_reached};
 
 /// The later places that these touch, by their distances. Some fall on bits that aren't places.
 #[inline(always)]
-fn reached(lit: u64) -> u64
-    ensures { (m : ℕ) → m < 64 → on result m ≡ is_reached (on lit) m }
+fn reached(known_significant: u64) -> u64
+    ensures { (m : ℕ) → m < 64 → on result m ≡ is_reached (on known_significant) m }
 {
-    lit << 1 | lit << 7 | lit << 8 | lit << 9
+    known_significant << 1
+        | known_significant << 7
+        | known_significant << 8
+        | known_significant << 9
 }
 
 /// The candidates, and of the free places those that one of all these with the bit 1 reaches.

@@ -5,10 +5,10 @@ ghost use Rattle.jk_scan.specs.Bits.{on};
 ghost use Rattle.jk_scan.specs.Neighbours.{Field};
 ghost use Rattle.jk_scan.specs.Words.{of_rows};
 ghost use Rattle.jk_scan.specs.Flags.{IsSized, IsDrawn};
-ghost use Rattle.jk_block.specs.Steps.{IsSpot};
+ghost use Rattle.jk_block.specs.Steps.{IsWordPlace};
 
 use crate::ages::{unmark, unmarked};
-use crate::spot::Spot;
+use crate::word_place::WordPlace;
 use jk_scan::{BlockShape, word_place};
 
 /// Words of 32 places: which are significant, and which the significance propagation pass of this
@@ -47,10 +47,10 @@ impl<const N: usize> Flags<N> {
 
     /// Flags these places of a word as coded by the significance propagation pass.
     #[inline(always)]
-    pub fn visit_all(&mut self, shape: BlockShape, spot: Spot, places: u64)
+    pub fn visit_all(&mut self, shape: BlockShape, spot: WordPlace, places: u64)
         requires sized { IsSized shape }
         requires room { words_of shape ≤ N }
-        requires spot { IsSpot shape spot }
+        requires spot { IsWordPlace shape spot }
         requires rows { (m : ℕ) → m < 64 → on places m ≡ true → of_rows (m % 8) ≡ true }
         ensures significant { self.new.significant ≡ self.old.significant }
         ensures visited { (f : Field Bool) → IsDrawn shape f self.old.visited
@@ -63,12 +63,12 @@ impl<const N: usize> Flags<N> {
 
     /// These places of a word become significant.
     #[inline(always)]
-    pub fn light_all(&mut self, shape: BlockShape, spot: Spot, places: u64)
+    pub fn light_all(&mut self, shape: BlockShape, spot: WordPlace, places: u64)
         requires sized { IsSized shape }
         requires room { words_of shape ≤ N }
-        requires spot { IsSpot shape spot }
+        requires spot { IsWordPlace shape spot }
         requires rows { (m : ℕ) → m < 64 → on places m ≡ true → of_rows (m % 8) ≡ true }
-        ensures lit { (f : Field Bool) → IsDrawn shape f self.old.significant
+        ensures known_significant { (f : Field Bool) → IsDrawn shape f self.old.significant
             → IsDrawn shape (with_word f spot.word spot.stripe places) self.new.significant }
         ensures visited { self.new.visited ≡ self.old.visited }
     {

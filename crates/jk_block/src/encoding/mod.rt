@@ -10,7 +10,7 @@ ghost use Rattle.jk_math.specs.Memory.{IsMemory};
 ghost use Rattle.jk_model.specs.Decisions.{Decision};
 ghost use Rattle.jk_mqenc.specs.Encoded.{Codes, written_by};
 ghost use Rattle.jk_block.specs.Symbols.{segmentation_symbol, closing_decisions};
-ghost use Rattle.jk_block.specs.Meaning.{IsBlockMeaning, cut, value_in, whole_decisions};
+ghost use Rattle.jk_block.specs.Meaning.{IsBlockMeaning, truncated, value_in, whole_decisions};
 ghost use Rattle.jk_block.specs.Reading.{block_at};
 ghost use Rattle.jk_block.specs.BlockWritten.{greatest, coded};
 ghost use Rattle.jk_block.specs.CodedBlocks.{shape_of, coefficients_of, contents, HasCodedPasses};
@@ -20,7 +20,7 @@ ghost use Rattle.jk_scan.specs.Neighbours.{is_inside};
 ghost use Rattle.jk_block.specs.Fields.{words_of};
 ghost use Rattle.jk_block.specs.Steps.{number_of};
 ghost use Rattle.jk_block.specs.encoding.Slices.{slices_of};
-ghost use Rattle.jk_block.specs.encoding.Viewed.{seen, IsFlagged, IsLitUpto};
+ghost use Rattle.jk_block.specs.encoding.Viewed.{seen, IsFlagged, IsSignificantUpto};
 
 mod ahead;
 mod decisions;
@@ -33,7 +33,7 @@ mod words;
 use crate::ages::{Ages, words_of};
 use crate::contexts::UNIFORM;
 use crate::decoding::Block;
-use crate::spot::{Pass, ends_with_symbol, pass_of};
+use crate::word_place::{Pass, ends_with_symbol, pass_of};
 use decisions::DecisionList;
 use flags::Flags;
 use jk_math::{Fault, Style};
@@ -155,12 +155,12 @@ fn code_plane<const N: usize>(
     requires above { above < planes }
     requires plane { block.now.plane ≡ planes - 1 - above }
     requires top { above ≡ 0 → (x y : ℕ) → old (seen block.now).magnitude x y ≡ false }
-    requires lit { IsLitUpto block.now.shape (block.now.plane + 1)
+    requires known_significant { IsSignificantUpto block.now.shape (block.now.plane + 1)
         (value_in block.now.shape block.now.values.now) flags.old }
     requires before { HasCodedPasses block.now.shape planes (3 * above - 2)
         (value_in block.now.shape block.now.values.now)
         encoder.old marks.old.items }
-    ensures lit { IfOk result (λ _. IsLitUpto block.now.shape block.now.plane
+    ensures known_significant { IfOk result (λ _. IsSignificantUpto block.now.shape block.now.plane
         (value_in block.now.shape block.now.values.now) flags.new) }
     ensures after { IfOk result
         (λ _. HasCodedPasses block.now.shape planes (3 * above + 1) (value_in block.now.shape block.now.values.now)
@@ -270,11 +270,11 @@ pub fn code(alloc: Global, block: &Block) -> Result<CodedBlock, Fault>
     ensures prefix { IfOk result (λ k. (n z : ℕ) → 1 ≤ n → n ≤ k.passes
         → min (length k.bytes.items) (get_or k.marks.items (n - 1) 0 + 4) ≤ z
         → IsBlockMeaning (shape_of block.now) k.planes n (take z k.bytes.items)
-        (cut (shape_of block.now) k.planes n (coefficients_of block.now))) }
+        (truncated (shape_of block.now) k.planes n (coefficients_of block.now))) }
     ensures shorter { IfOk result (λ k. (n z : ℕ) → 1 ≤ n → n ≤ k.passes
         → min (length k.bytes.items) (get_or k.marks.items (n - 1) 0 + 4) ≤ z → get_or k.bytes.items (z - 1) 0 ≡ 255
         → IsBlockMeaning (shape_of block.now) k.planes n (take (z - 1) k.bytes.items)
-        (cut (shape_of block.now) k.planes n (coefficients_of block.now))) }
+        (truncated (shape_of block.now) k.planes n (coefficients_of block.now))) }
     ensures rises { IfOk result (λ k. (i j : ℕ) → i ≤ j → j < k.passes
         → get_or k.marks.items i 0 ≤ get_or k.marks.items j 0) }
 

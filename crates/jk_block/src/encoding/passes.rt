@@ -5,14 +5,14 @@ ghost use Rattle.jk_math.specs.Memory.{IsMemory};
 ghost use Rattle.jk_scan.specs.Moments.{visits, stripes};
 ghost use Rattle.jk_scan.specs.Passes.{joined, column_decisions, plane_decisions};
 ghost use Rattle.jk_block.specs.Fields.{words_of};
-ghost use Rattle.jk_block.specs.Steps.{IsSpot, number_of};
+ghost use Rattle.jk_block.specs.Steps.{IsWordPlace, number_of};
 ghost use Rattle.jk_block.specs.encoding.Viewed.{seen, IsFlagged, moment_at, word_decisions};
 
 use super::decisions::DecisionList;
 use super::flags::Flags;
 use super::plane::BlockPlane;
 use super::words::{write_cleanup, write_propagation, write_refinement};
-use crate::spot::{Pass, Spot};
+use crate::word_place::{Pass, WordPlace};
 use jk_math::Fault;
 use jk_scan::words_across;
 
@@ -22,11 +22,11 @@ fn write_word<const N: usize>(
     block: &BlockPlane<'_>,
     flags: &mut Flags<N>,
     pass: Pass,
-    spot: Spot,
+    spot: WordPlace,
     list: &mut DecisionList,
 ) -> Result<(), Fault>
     requires room { words_of block.now.shape ≤ N }
-    requires spot { IsSpot block.now.shape spot }
+    requires spot { IsWordPlace block.now.shape spot }
     requires flagged { IsFlagged block.now
         (moment_at block.now.shape (number_of pass) spot.word spot.stripe 0) flags.old }
     ensures flagged { IfOk result
@@ -63,7 +63,7 @@ fn write_stripe<const N: usize>(
     ensures memory { IfErr result IsMemory }
 {
     for word in 0..words_across(block.shape) {
-        let spot = Spot {
+        let spot = WordPlace {
             plane: block.plane,
             word,
             stripe,

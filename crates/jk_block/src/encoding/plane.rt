@@ -8,10 +8,10 @@ ghost use Rattle.jk_scan.specs.WordPlaces.{column, row};
 ghost use Rattle.jk_block.specs.Meaning.{value_in, plane_at};
 ghost use Rattle.jk_block.specs.Fields.{words_of};
 ghost use Rattle.jk_block.specs.encoding.Slices.{IsSliced, negative_of, slices_of};
-ghost use Rattle.jk_block.specs.Steps.{IsSpot};
+ghost use Rattle.jk_block.specs.Steps.{IsWordPlace};
 
 use super::slices::ones;
-use crate::spot::Spot;
+use crate::word_place::WordPlace;
 use jk_scan::{BlockShape, word_place};
 
 /// A block at a bit-plane, with its coefficients row by row.
@@ -43,8 +43,8 @@ impl<'a> BlockPlane<'a> {
 
     /// The places of a word that have the bit 1.
     #[inline(always)]
-    pub fn ones(&self, spot: Spot) -> u64
-        requires { IsSpot self.now.shape spot }
+    pub fn ones(&self, spot: WordPlace) -> u64
+        requires { IsWordPlace self.now.shape spot }
         ensures { ShowsOnes self.now spot.word spot.stripe result }
     {
         ones(self.slices, self.shape, spot, self.plane % 8)
@@ -53,8 +53,8 @@ impl<'a> BlockPlane<'a> {
     /// The places of a word that were refined in a higher plane, if they were significant before
     /// this one.
     #[inline(always)]
-    pub fn refined_places(&self, spot: Spot) -> u64
-        requires { IsSpot self.now.shape spot }
+    pub fn refined_places(&self, spot: WordPlace) -> u64
+        requires { IsWordPlace self.now.shape spot }
         ensures { (m : ℕ) → m < 64
             → on result m ≡ (of_rows (m % 8)
             && nat_le 4 ((seen self.now).magnitude (column spot.word m) (row spot.stripe m))) }

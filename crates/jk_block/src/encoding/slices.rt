@@ -12,10 +12,10 @@ ghost use Rattle.jk_block.specs.Meaning.{value_in};
 ghost use Rattle.jk_block.specs.encoding.Slices.{signed, negative_of, negative_to, IsShort, IsSliced, IsSlicedTo};
 ghost use Rattle.jk_block.specs.encoding.Slices.{IsClearBehind, slices_of};
 ghost use Rattle.jk_block.specs.encoding.Slices.{IsPlaneWord};
-ghost use Rattle.jk_block.specs.Steps.{IsSpot};
+ghost use Rattle.jk_block.specs.Steps.{IsWordPlace};
 
 use crate::ages::unmarked;
-use crate::spot::Spot;
+use crate::word_place::WordPlace;
 use jk_scan::{BlockShape, word_place, words_across};
 
 /// How many slices are kept of the largest blocks, enough for each with the rows behind its last one
@@ -127,10 +127,10 @@ fn plane_of(slice: u64, bit: u32) -> u64
 
 /// The places of a word that have a 1 in this bit of their bytes.
 #[inline(always)]
-pub fn ones(slices: &[u64], shape: BlockShape, spot: Spot, bit: u32) -> u64
+pub fn ones(slices: &[u64], shape: BlockShape, spot: WordPlace, bit: u32) -> u64
     requires sized { IsSized shape }
     requires room { slices_of shape ≤ length slices.now }
-    requires spot { IsSpot shape spot }
+    requires spot { IsWordPlace shape spot }
     requires bit { bit < 8 }
     ensures { (shift : ℕ) (q : Field ℤ) → IsSliced shape shift q slices.now
         → IsPlaneWord shape (shift + bit) q spot.word spot.stripe result }
@@ -159,7 +159,7 @@ fn mark_negative<const N: usize>(
         → IsDrawn shape (negative_to shape q ((stripe + 1) * across shape)) words.new }
 {
     for word in 0..words_across(shape) {
-        let spot = Spot {
+        let spot = WordPlace {
             plane: 0,
             word,
             stripe,

@@ -12,14 +12,14 @@ ghost use Rattle.jk_scan.specs.Surroundings.{IsAround, Turns};
 ghost use Rattle.jk_scan.specs.Flags.{IsSized};
 ghost use Rattle.jk_block.specs.Reading.{is_quiet};
 ghost use Rattle.jk_block.specs.Fields.{words_of};
-ghost use Rattle.jk_block.specs.Steps.{IsSpot};
-ghost use Rattle.jk_block.specs.encoding.Viewed.{seen, lit_at, spread_at, IsFlagged, moment_at, word_decisions};
+ghost use Rattle.jk_block.specs.Steps.{IsWordPlace};
+ghost use Rattle.jk_block.specs.encoding.Viewed.{seen, significant_at, spread_at, IsFlagged, moment_at, word_decisions};
 
 use super::ahead::with_reached;
 use super::decisions::{DecisionList, make_room};
 use super::flags::Flags;
 use super::plane::BlockPlane;
-use crate::spot::Spot;
+use crate::word_place::WordPlace;
 use jk_columns::{put_columns, put_pairs, refining_rows};
 use jk_math::Fault;
 use jk_scan::{
@@ -34,11 +34,11 @@ use jk_scan::{
 pub fn write_propagation<const N: usize>(
     block: &BlockPlane<'_>,
     flags: &mut Flags<N>,
-    spot: Spot,
+    spot: WordPlace,
     list: &mut DecisionList,
 ) -> Result<(), Fault>
     requires room { words_of block.now.shape ≤ N }
-    requires spot { IsSpot block.now.shape spot }
+    requires spot { IsWordPlace block.now.shape spot }
     requires flagged { IsFlagged block.now (moment_at block.now.shape 0 spot.word spot.stripe 0) flags.old }
     ensures flagged { IfOk result
         (λ _. IsFlagged block.now (moment_at block.now.shape 0 spot.word spot.stripe 64) flags.new) }
@@ -71,11 +71,11 @@ pub fn write_propagation<const N: usize>(
 
 /// The places of a word that were significant before this plane.
 #[inline(always)]
-fn older<const N: usize>(block: &BlockPlane<'_>, flags: &Flags<N>, spot: Spot) -> u64
+fn older<const N: usize>(block: &BlockPlane<'_>, flags: &Flags<N>, spot: WordPlace) -> u64
     requires room { words_of block.now.shape ≤ N }
-    requires spot { IsSpot block.now.shape spot }
+    requires spot { IsWordPlace block.now.shape spot }
     ensures { (t : ℕ) → IsFlagged block.now t flags.now → (m : ℕ) → m < 64 → on result m ≡ (of_rows (m % 8)
-        && (lit_at block.now t (column spot.word m) (row spot.stripe m)
+        && (significant_at block.now t (column spot.word m) (row spot.stripe m)
         && not (spread_at block.now t (column spot.word m) (row spot.stripe m)))) }
 {
     let place = word_place(block.shape, spot.word + 1, spot.stripe + 1);
@@ -89,11 +89,11 @@ fn older<const N: usize>(block: &BlockPlane<'_>, flags: &Flags<N>, spot: Spot) -
 pub fn write_refinement<const N: usize>(
     block: &BlockPlane<'_>,
     flags: &Flags<N>,
-    spot: Spot,
+    spot: WordPlace,
     list: &mut DecisionList,
 ) -> Result<(), Fault>
     requires room { words_of block.now.shape ≤ N }
-    requires spot { IsSpot block.now.shape spot }
+    requires spot { IsWordPlace block.now.shape spot }
     requires flagged { IsFlagged block.now (moment_at block.now.shape 1 spot.word spot.stripe 0) flags.now }
     ensures flagged { IfOk result
         (λ _. IsFlagged block.now (moment_at block.now.shape 1 spot.word spot.stripe 64) flags.now) }
@@ -118,13 +118,18 @@ pub fn write_refinement<const N: usize>(
 
 /// The places of a word that no pass has coded yet.
 #[inline(always)]
-fn uncoded<const N: usize>(block: &BlockPlane<'_>, flags: &Flags<N>, spot: Spot, limits: u64) -> u64
+fn uncoded<const N: usize>(
+    block: &BlockPlane<'_>,
+    flags: &Flags<N>,
+    spot: WordPlace,
+    limits: u64,
+) -> u64
     requires room { words_of block.now.shape ≤ N }
-    requires spot { IsSpot block.now.shape spot }
+    requires spot { IsWordPlace block.now.shape spot }
     requires limits { Shows of_rows (bordered (is_inside block.now.shape)) (spot.word + 1) (spot.stripe + 1) limits }
     ensures { (t : ℕ) → IsFlagged block.now t flags.now → (m : ℕ) → m < 64 → on result m ≡ (of_rows (m % 8)
         && (is_inside block.now.shape (column spot.word m) (row spot.stripe m)
-        && (not (lit_at block.now t (column spot.word m) (row spot.stripe m))
+        && (not (significant_at block.now t (column spot.word m) (row spot.stripe m))
         && not (spread_at block.now t (column spot.word m) (row spot.stripe m))))) }
 {
     let place = word_place(block.shape, spot.word + 1, spot.stripe + 1);
@@ -136,9 +141,9 @@ fn uncoded<const N: usize>(block: &BlockPlane<'_>, flags: &Flags<N>, spot: Spot,
 /// The columns of a word that are coded in run mode, by their first rows, each as it is in its
 /// turn: it sees the columns before it in `seen`, itself and those behind it in `old`.
 #[inline(always)]
-fn run_columns(shape: BlockShape, spot: Spot, seen: Around, old: u64, limits: u64) -> u64
+fn run_columns(shape: BlockShape, spot: WordPlace, seen: Around, old: u64, limits: u64) -> u64
     requires sized { IsSized shape }
-    requires spot { IsSpot shape spot }
+    requires spot { IsWordPlace shape spot }
     requires limits { Shows of_rows (bordered (is_inside shape)) (spot.word + 1) (spot.stripe + 1) limits }
     ensures { (f : Field Bool) (own m : ℕ) → m < 64 → own < 2 ^ 64 → Turns own seen.centre old (8 * (m / 8))
         → IsAround (bordered (seen_from shape spot.stripe f)) spot.word spot.stripe
@@ -159,11 +164,11 @@ fn run_columns(shape: BlockShape, spot: Spot, seen: Around, old: u64, limits: u6
 pub fn write_cleanup<const N: usize>(
     block: &BlockPlane<'_>,
     flags: &mut Flags<N>,
-    spot: Spot,
+    spot: WordPlace,
     list: &mut DecisionList,
 ) -> Result<(), Fault>
     requires room { words_of block.now.shape ≤ N }
-    requires spot { IsSpot block.now.shape spot }
+    requires spot { IsWordPlace block.now.shape spot }
     requires flagged { IsFlagged block.now (moment_at block.now.shape 2 spot.word spot.stripe 0) flags.old }
     ensures flagged { IfOk result
         (λ _. IsFlagged block.now (moment_at block.now.shape 2 spot.word spot.stripe 64) flags.new) }

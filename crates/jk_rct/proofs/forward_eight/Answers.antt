@@ -1,5 +1,5 @@
 use Rattle.std.proofs.Common.{◌+◌, ◌^◌, arith}
-use Rattle.jk_lanes.proofs.Laws.{adds_fit, subs_fit, stored}
+use Rattle.jk_math.proofs.Laws.{adds_fit, subs_fit, stored}
 use Rattle.jk_rct.proofs.EightPixels.{lanes_a, lanes_b, lanes_c, twice_lanes, part_lanes, y0_lanes, y1_lanes, y2_lanes}
 use Rattle.jk_rct.proofs.forward_eight.Goals as goal
 

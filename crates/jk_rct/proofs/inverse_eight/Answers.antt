@@ -1,5 +1,5 @@
 use Rattle.std.proofs.Common.{◌+◌, ◌^◌, arith}
-use Rattle.jk_lanes.proofs.Laws.{adds_fit, subs_fit, stored}
+use Rattle.jk_math.proofs.Laws.{adds_fit, subs_fit, stored}
 use Rattle.jk_rct.proofs.EightPixels.{lanes_a, lanes_b, lanes_c, quarter_lanes, i0_lanes, i1_lanes, i2_lanes}
 use Rattle.jk_rct.proofs.inverse_eight.Goals as goal
 

@@ -18,7 +18,7 @@ use Rattle.jk_block.specs.Meaning.{values_of}
 use Rattle.jk_block.specs.Reading.{Progress, times, pass_at, blank, coefficients, block_at}
 use Rattle.jk_walk.specs.TilePackets.{Body}
 use Rattle.jk_tile.specs.declared.decoding.bodies.BodyPlace.{BodyPlace}
-use Rattle.jk_tile.specs.TileBlocks.{segment_of, passes_in, zeros_in}
+use Rattle.jk_tile.specs.TileBlocks.{block_bytes, passes_in, zeros_in}
 use Rattle.jk_tile.specs.decoding.TileReading.{bodies_values}
 use Rattle.jk_tile.specs.decoding.Gathered.{body_of}
 
@@ -55,22 +55,22 @@ passes_cut s planes passes bytes few = elim (cases_lt passes (2 ^ 64)) [
   | inr ge ↦ too_many s planes (min passes (2 ^ 64 - 1)) bytes (omega (arith, few, ge)) ∙ sym (too_many s planes passes bytes (omega (arith, few, ge)))
 ]
 
-bodies_by : (s : BlockShape) (planes : ℕ) (bodies : List Body) → bodies_values s planes bodies ≡ block_at s (planes - zeros_in bodies) (passes_in bodies) (segment_of bodies)
+bodies_by : (s : BlockShape) (planes : ℕ) (bodies : List Body) → bodies_values s planes bodies ≡ block_at s (planes - zeros_in bodies) (passes_in bodies) (block_bytes bodies)
 unfolding bodies_values
 bodies_by s planes bodies = refl
 
 -- what is decoded is what the bodies mean
 pub block_is : (s : BlockShape) (planes left count : ℕ) (segment bytes : List ℕ) (bodies : List BodyPlace) → planes ≤ 23 → left ≡ planes - zeros_in (map (body_of bytes) bodies)
-    → count ≡ min (passes_in (map (body_of bytes) bodies)) (2 ^ 64 - 1) → segment ≡ segment_of (map (body_of bytes) bodies)
+    → count ≡ min (passes_in (map (body_of bytes) bodies)) (2 ^ 64 - 1) → segment ≡ block_bytes (map (body_of bytes) bodies)
     → block_at s left count segment ≡ bodies_values s planes (map (body_of bytes) bodies)
 block_is s planes left count segment bytes bodies few l c e =
     let bs = map (body_of bytes) bodies in
     ap (λ n. block_at s n count segment) l ∙ ap (λ n. block_at s (planes - zeros_in bs) n segment) c ∙ ap (block_at s (planes - zeros_in bs) (min (passes_in bs) (2 ^ 64 - 1))) e
-    ∙ passes_cut s (planes - zeros_in bs) (passes_in bs) (segment_of bs) (omega (arith, few)) ∙ sym (bodies_by s planes bs)
+    ∙ passes_cut s (planes - zeros_in bs) (passes_in bs) (block_bytes bs) (omega (arith, few)) ∙ sym (bodies_by s planes bs)
 
 -- a single body is lent
 pub one_body : (bytes : List ℕ) (bodies : List BodyPlace) (d : BodyPlace) → length bodies ≡ 1
-    → let b : BodyPlace = get_or bodies 0 d in take (b.start + b.part.length - b.start) (drop b.start bytes) ≡ segment_of (map (body_of bytes) bodies)
+    → let b : BodyPlace = get_or bodies 0 d in take (b.start + b.part.length - b.start) (drop b.start bytes) ≡ block_bytes (map (body_of bytes) bodies)
 one_body bytes [] d long = absurd (omega (arith, long))
 one_body bytes (x ∷ []) d long = sym (append-nil (take (x.start + x.part.length - x.start) (drop x.start bytes)))
 one_body bytes (x ∷ y ∷ bodies) d long = absurd (omega (arith, long))

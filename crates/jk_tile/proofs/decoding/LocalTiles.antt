@@ -9,10 +9,10 @@ use Rattle.jk_geom.specs.Precincts.{precinct_number, precinct_area}
 use Rattle.jk_geom.specs.Partitions.{block_number, precinct_of}
 use Rattle.jk_geom.proofs.Laws.{precinct_found}
 use Rattle.jk_scan.specs.Neighbours.{Field}
-use Rattle.jk_block.specs.Meaning.{IsBlockMeaning, cut, values_of as block_list}
+use Rattle.jk_block.specs.Meaning.{IsBlockMeaning, truncated, values_of as block_list}
 use Rattle.jk_block.proofs.Laws.{block_only, none_means}
 use Rattle.jk_walk.specs.TilePackets.{Body, orientations, band_number, planes_of}
-use Rattle.jk_tile.specs.TileBlocks.{orientation_at, grid_at, block_shape, block_bodies, segment_of, passes_in, zeros_in}
+use Rattle.jk_tile.specs.TileBlocks.{orientation_at, grid_at, block_shape, block_bodies, block_bytes, passes_in, zeros_in}
 use Rattle.jk_tile.specs.TileMeaning.{IsBlockAt}
 use Rattle.jk_tile.specs.decoding.TileReading.{block_with, coefficient_at}
 use Rattle.jk_tile.proofs.Places.{is_band, block_found as block_with_place}
@@ -23,7 +23,7 @@ use Rattle.jk_tile.proofs.TileLaws.{values_by, block_means, block_coefficients}
 -- the bodies of a precinct mean some coefficients of code-block j of sub-band i
 abbrev pub IsMeant : Rect → Coding → List Body → (r n i j : ℕ) → Type 0
 IsMeant a k bodies r n i j =
-    (values : Field ℤ) × IsBlockMeaning (block_shape a k r n i j) (planes_of k (band_number r i) - zeros_in (block_bodies i j bodies)) (passes_in (block_bodies i j bodies)) (segment_of (block_bodies i j bodies)) values
+    (values : Field ℤ) × IsBlockMeaning (block_shape a k r n i j) (planes_of k (band_number r i) - zeros_in (block_bodies i j bodies)) (passes_in (block_bodies i j bodies)) (block_bytes (block_bodies i j bodies)) values
 
 pub meant_at : (a : Rect) (k : Coding) (bodies : List Body) (coefficients : ℕ → ℕ → ℕ → ℤ) (r n i j : ℕ) → IsBlockAt a k bodies coefficients r n i j → IsMeant a k bodies r n i j
 meant_at a k bodies coefficients r n i j is = (is.values, is.means)
@@ -33,7 +33,7 @@ pub none_meant : (a : Rect) (k : Coding) (r n i j : ℕ) → IsMeant a k [] r n 
 none_meant a k r n i j =
     let s = block_shape a k r n i j in
     let planes = planes_of k (band_number r i) - zeros_in (block_bodies i j []) in
-    (cut s planes 0 (λ x y. pos 0), none_means s planes [] (λ x y. pos 0))
+    (truncated s planes 0 (λ x y. pos 0), none_means s planes [] (λ x y. pos 0))
 
 -- Coefficients that code-blocks mean one by one, gathered for all code-blocks that are asked for.
 pub gathered : (a : Rect) (k : Coding) (d : ℕ) (mine : ℕ → ℕ → List Body) → IsCoding k

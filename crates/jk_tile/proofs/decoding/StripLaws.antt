@@ -33,7 +33,7 @@ use Rattle.jk_block.proofs.Laws.{block_found as block_found_meaning}
 use Rattle.jk_walk.specs.TilePackets.{Body, orientations, band_number, planes_of}
 use Rattle.jk_tile.specs.declared.decoding.strips.BlockRow.{BlockRow}
 use Rattle.jk_tile.specs.Filling.{IsPartOf}
-use Rattle.jk_tile.specs.TileBlocks.{orientation_at, grid_at, block_at_place, block_shape, block_bodies, segment_of, passes_in, zeros_in, band_index}
+use Rattle.jk_tile.specs.TileBlocks.{orientation_at, grid_at, block_at_place, block_shape, block_bodies, block_bytes, passes_in, zeros_in, band_index}
 use Rattle.jk_tile.specs.decoding.TileReading.{block_with, block_value, block_values, bodies_values, values_or}
 use Rattle.jk_tile.specs.decoding.Source.{Source, IsSource, source_bodies, source_coefficient, block_count}
 use Rattle.jk_tile.specs.decoding.Strips.{block_exponent, row_band, row_of_block, IsBlockRow, strip_area, first_precinct_of, ShowsPlace, ShowsPartIn, IsStrip, IsPartFine, IsRowFine, HasFault}
@@ -249,7 +249,7 @@ none_in_row s w none n precinct j lt row =
 
 -- ---- magnitudes
 
-block_by : (s : BlockShape) (planes : ℕ) (bodies : List Body) → bodies_values s planes bodies ≡ block_at s (planes - zeros_in bodies) (passes_in bodies) (segment_of bodies)
+block_by : (s : BlockShape) (planes : ℕ) (bodies : List Body) → bodies_values s planes bodies ≡ block_at s (planes - zeros_in bodies) (passes_in bodies) (block_bytes bodies)
 unfolding bodies_values
 block_by s planes bodies = refl
 
@@ -301,7 +301,7 @@ source_small s r i x y is few lt =
     let bodies = block_bodies i j (source_bodies s r n) in
     let planes = few_planes k r i is.planes few lt in
     subst (IsBelow (2 ^ 23)) (sym same) (value_small (block_at_place a k r n i j) x y (block_values a k r n i j (source_bodies s r n)) (λ values e.
-    values_small (block_shape a k r n i j) (planes_of k (band_number r i) - zeros_in bodies) (passes_in bodies) (segment_of bodies) values (omega (arith, planes)) (sym (block_by (block_shape a k r n i j) (planes_of k (band_number r i)) bodies) ∙ e)))
+    values_small (block_shape a k r n i j) (planes_of k (band_number r i) - zeros_in bodies) (passes_in bodies) (block_bytes bodies) values (omega (arith, planes)) (sym (block_by (block_shape a k r n i j) (planes_of k (band_number r i)) bodies) ∙ e)))
 
 -- and so are those of a strip
 pub strip_small : (s : Source) (w : BlockRow) (strip : List ℤ) → IsSource s → IsBlockRow s w → IsStrip s w strip → All (IsBelow (2 ^ 23)) strip

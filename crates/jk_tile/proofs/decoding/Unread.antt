@@ -13,7 +13,7 @@ use Rattle.jk_geom.specs.Precincts.{precinct_number}
 use Rattle.jk_geom.specs.Partitions.{block_number}
 use Rattle.jk_walk.specs.TilePackets.{orientations, band_number, planes_of}
 use Rattle.jk_scan.specs.Neighbours.{Field, is_inside}
-use Rattle.jk_block.specs.Meaning.{cut, values_of, value_in}
+use Rattle.jk_block.specs.Meaning.{truncated, values_of, value_in}
 use Rattle.jk_block.specs.Reading.{block_at}
 use Rattle.jk_block.proofs.Laws.{none_means, block_only, value_at}
 use Rattle.jk_tile.specs.TileBlocks.{block_shape, block_at_place, grid_at}
@@ -24,19 +24,19 @@ use Rattle.jk_tile.proofs.Steps.{fine, each_only, met_by, precinct_part_by}
 use Rattle.jk_tile.proofs.Places.{coefficient_is}
 use Rattle.jk_tile.proofs.Showing.{few_levels, block_tested, numbered_bodies}
 
-cut_none : (s : BlockShape) (planes : ℕ) (x y : ℕ) → cut s planes 0 (λ x y. pos 0) x y ≡ pos 0
-unfolding cut
+cut_none : (s : BlockShape) (planes : ℕ) (x y : ℕ) → truncated s planes 0 (λ x y. pos 0) x y ≡ pos 0
+unfolding truncated
 cut_none s planes x y = refl
 
 -- a code-block without bodies
 pub none_values : (a : Rect) (k : Coding) (r n i j : ℕ) → block_values a k r n i j []
-    ≡ Ok (values_of (block_shape a k r n i j) (cut (block_shape a k r n i j) (planes_of k (band_number r i)) 0 (λ x y. pos 0)))
+    ≡ Ok (values_of (block_shape a k r n i j) (truncated (block_shape a k r n i j) (planes_of k (band_number r i)) 0 (λ x y. pos 0)))
 unfolding bodies_values
 none_values a k r n i j =
     let s = block_shape a k r n i j in
     let planes = planes_of k (band_number r i) in
     let less : planes - 0 ≡ planes = omega arith in
-    ap (λ n. block_at s n 0 []) less ∙ block_only s planes 0 [] (cut s planes 0 (λ x y. pos 0)) (none_means s planes [] (λ x y. pos 0))
+    ap (λ n. block_at s n 0 []) less ∙ block_only s planes 0 [] (truncated s planes 0 (λ x y. pos 0)) (none_means s planes [] (λ x y. pos 0))
 
 -- no numbers
 pub none_listed : (numbers : List ℕ) (b : Bool) → b ≡ (length numbers == 0) → b ≡ true → numbers ≡ []
@@ -65,7 +65,7 @@ unread_zero s r n i j x y is few precinct lt block none h =
     let a = s.region.rect in
     let k = s.coding in
     let shape = block_shape a k r n i j in
-    let q : Field ℤ = cut shape (planes_of k (band_number r i)) 0 (λ x y. pos 0) in
+    let q : Field ℤ = truncated shape (planes_of k (band_number r i)) 0 (λ x y. pos 0) in
     let values : values_or (block_values a k r n i j (source_bodies s r n)) ≡ values_of shape q = ap (λ bodies. values_or (block_values a k r n i j bodies)) none ∙ ap values_or (none_values a k r n i j) in
     coefficient_is a k (source_bodies s) r n i j x y is.coding (few_levels s r is few) lt precinct block h
     ∙ zero_at (block_at_place a k r n i j) shape (values_or (block_values a k r n i j (source_bodies s r n))) q x y refl refl values (cut_none shape (planes_of k (band_number r i))) h

@@ -16,11 +16,11 @@ use Rattle.jk_packet.specs.declared.header.BlockContribution.{BlockContribution}
 use Rattle.jk_packet.specs.Written.{bodies_in, bodies_of, HasBlock}
 use Rattle.jk_scan.specs.declared.shape.BlockShape.{BlockShape}
 use Rattle.jk_scan.specs.Neighbours.{Field, is_inside}
-use Rattle.jk_block.specs.Meaning.{IsBlockMeaning, cut, value_in}
+use Rattle.jk_block.specs.Meaning.{IsBlockMeaning, truncated, value_in}
 use Rattle.jk_block.specs.BlockWritten.{coded}
 use Rattle.jk_block.proofs.Laws.{coded_means, coded_passes}
 use Rattle.jk_walk.specs.TilePackets.{Body, Packet, band_number, planes_of, of_precinct}
-use Rattle.jk_tile.specs.TileBlocks.{block_at_place, block_shape, block_bodies, segment_of, passes_in, zeros_in}
+use Rattle.jk_tile.specs.TileBlocks.{block_at_place, block_shape, block_bodies, block_bytes, passes_in, zeros_in}
 use Rattle.jk_tile.specs.TileMeaning.{IsBlockAt}
 use Rattle.jk_tile.specs.encoding.TileWritten.{block_list, coded_at}
 use Rattle.jk_tile.specs.encoding.PacketsWritten.{Tables, body_from, written_packets, coded_table}
@@ -59,7 +59,7 @@ block_from i j (b ∷ bs) = elim (cases_Bool ((b.0.band == i) && (b.0.block == j
       ∙ sym (ap (map body_from) (cond-false ((b.0.band == i) && (b.0.block == j)) (b ∷ bodies_of i j bs) (bodies_of i j bs) other))
 ]
 
-pub segment_from : (bs : List (BlockContribution × List ℕ)) → segment_of (map body_from bs) ≡ flat_map (λ b. b.1) bs
+pub segment_from : (bs : List (BlockContribution × List ℕ)) → block_bytes (map body_from bs) ≡ flat_map (λ b. b.1) bs
 segment_from [] = refl
 segment_from (b ∷ bs) = ap (λ (x : List ℕ). b.1 ++ x) (segment_from bs)
 
@@ -70,24 +70,24 @@ passes_from (b ∷ bs) =
 
 -- ---- a block
 
-no_pass_is_zero : (s : BlockShape) (planes : ℕ) (q : Field ℤ) (x y : ℕ) → cut s planes 0 q x y ≡ pos 0
-unfolding cut
+no_pass_is_zero : (s : BlockShape) (planes : ℕ) (q : Field ℤ) (x y : ℕ) → truncated s planes 0 q x y ≡ pos 0
+unfolding truncated
 no_pass_is_zero s planes q x y = refl
 
 -- a block without a coding pass is zero, of however many bit-planes
 pub without_passes : (s : BlockShape) (p planes passes : ℕ) (bytes : List ℕ) (q : Field ℤ) → passes ≡ 0 → IsBlockMeaning s p passes bytes q → IsBlockMeaning s planes passes [] q
 without_passes s p planes passes bytes q none is =
-    let at : (x y : ℕ) → is_inside s x y ≡ true → q x y ≡ pos 0 = λ x y h. sym (is.coded x y h) ∙ ap (λ n. cut s p n q x y) none ∙ no_pass_is_zero s p q x y in
+    let at : (x y : ℕ) → is_inside s x y ≡ true → q x y ≡ pos 0 = λ x y h. sym (is.coded x y h) ∙ ap (λ n. truncated s p n q x y) none ∙ no_pass_is_zero s p q x y in
     record {
       few = omega (arith, none);
       small = λ x y h. let z = at x y h in let some = pow_pos planes in rw z some;
-      coded = λ x y h. ap (λ n. cut s planes n q x y) none ∙ no_pass_is_zero s planes q x y ∙ sym (at x y h);
+      coded = λ x y h. ap (λ n. truncated s planes n q x y) none ∙ no_pass_is_zero s planes q x y ∙ sym (at x y h);
       spelled = λ some. absurd (omega (arith, some, none));
     }
 
 -- what bodies that have a block's table mean
 table_means : (s : BlockShape) (values : List ℤ) (layers planes : ℕ) (bs : List (BlockContribution × List ℕ)) → 1 ≤ layers → (coded s values).planes ≤ planes → HasBlock (coded_table layers planes (coded s values)) bs
-    → IsBlockMeaning s (planes - zeros_in (map body_from bs)) (passes_in (map body_from bs)) (segment_of (map body_from bs)) (value_in s values)
+    → IsBlockMeaning s (planes - zeros_in (map body_from bs)) (passes_in (map body_from bs)) (block_bytes (map body_from bs)) (value_in s values)
 table_means s values layers planes [] some room has =
     let k = coded s values in
     let none : k.passes ≡ 0 = coded_passes s values ∙ sym (table_has_passes layers planes k some) ∙ sym has.passes in
@@ -97,9 +97,9 @@ table_means s values layers planes (b ∷ bs) some room has =
     let zeros : b.0.zero_planes ≡ planes - k.planes = has.zeros.0 ∙ zero_planes_are layers planes k in
     let bits : planes - b.0.zero_planes ≡ k.planes = omega (arith, zeros, room) in
     let passes : passes_in (map body_from (b ∷ bs)) ≡ k.passes = passes_from (b ∷ bs) ∙ has.passes ∙ table_has_passes layers planes k some ∙ sym (coded_passes s values) in
-    let bytes : segment_of (map body_from (b ∷ bs)) ≡ k.bytes = segment_from (b ∷ bs) ∙ has.bytes ∙ table_has_bytes s values layers planes some in
-    subst (λ p. IsBlockMeaning s p (passes_in (map body_from (b ∷ bs))) (segment_of (map body_from (b ∷ bs))) (value_in s values)) (sym bits)
-    (subst (λ n. IsBlockMeaning s k.planes n (segment_of (map body_from (b ∷ bs))) (value_in s values)) (sym passes)
+    let bytes : block_bytes (map body_from (b ∷ bs)) ≡ k.bytes = segment_from (b ∷ bs) ∙ has.bytes ∙ table_has_bytes s values layers planes some in
+    subst (λ p. IsBlockMeaning s p (passes_in (map body_from (b ∷ bs))) (block_bytes (map body_from (b ∷ bs))) (value_in s values)) (sym bits)
+    (subst (λ n. IsBlockMeaning s k.planes n (block_bytes (map body_from (b ∷ bs))) (value_in s values)) (sym passes)
     (subst (λ (x : List ℕ). IsBlockMeaning s k.planes k.passes x (value_in s values)) (sym bytes) (coded_means s values)))
 
 -- where the values of a block stand
@@ -125,6 +125,6 @@ block_meant a k f layers r n i j bodies some room has =
     let own = block_from i j bodies in
     record {
       values = value_in s values;
-      means = subst (λ (bs : List Body). IsBlockMeaning s (planes - zeros_in bs) (passes_in bs) (segment_of bs) (value_in s values)) (sym own) (table_means s values layers planes (bodies_of i j bodies) some room has);
+      means = subst (λ (bs : List Body). IsBlockMeaning s (planes - zeros_in bs) (passes_in bs) (block_bytes bs) (value_in s values)) (sym own) (table_means s values layers planes (bodies_of i j bodies) some room has);
       placed = λ x y inside. placed_at (block_at_place a k r n i j) s (f (band_number r i)) x y refl refl inside;
     }

@@ -23,12 +23,12 @@ use Rattle.jk_params.specs.declared.parameters.Parameters.{Parameters}
 use Rattle.jk_params.specs.Headers.{Headers, TileFields}
 use Rattle.jk_params.specs.Profile.{siz_of, cod_of, IsWrittenBy}
 use Rattle.jk_scan.specs.declared.shape.BlockShape.{BlockShape}
-use Rattle.jk_block.specs.Meaning.{IsBlockMeaning, cut, value_in}
+use Rattle.jk_block.specs.Meaning.{IsBlockMeaning, truncated, value_in}
 use Rattle.jk_block.specs.BlockWritten.{Coded, coded}
 use Rattle.jk_block.specs.Layers.{passes_upto, bytes_upto}
 use Rattle.jk_block.proofs.Laws.{upto_means, upto_cut}
 use Rattle.jk_walk.specs.TilePackets.{Body, Packet, slice_of, orientations, band_number, planes_of, band_at, bands_at, of_precinct, IsTile}
-use Rattle.jk_tile.specs.TileBlocks.{grid_at, block_at_place, block_shape, segment_of, passes_in, zeros_in}
+use Rattle.jk_tile.specs.TileBlocks.{grid_at, block_at_place, block_shape, block_bytes, passes_in, zeros_in}
 use Rattle.jk_tile.specs.TileMeaning.{values_of, IsBlockAt, DecodesLayers}
 use Rattle.jk_tile.specs.encoding.TileWritten.{block_list, coded_at}
 use Rattle.jk_tile.specs.encoding.PacketsWritten.{Tables, passes_before, bytes_before, layer_part, body_from, coded_table, written_packets, written_coding, written_shape, tile_tables, tile_packets, tile_text}
@@ -71,23 +71,23 @@ front_passes layers planes n k le =
 
 -- what bodies that have the front of a block's table mean
 front_means : (s : BlockShape) (values : List ℤ) (layers planes l : ℕ) (bs : List (BlockContribution × List ℕ)) → l < layers → (coded s values).planes ≤ planes → HasFront (coded_table layers planes (coded s values)) (suc l) bs
-    → IsBlockMeaning s (planes - zeros_in (map body_from bs)) (passes_in (map body_from bs)) (segment_of (map body_from bs)) (cut s (coded s values).planes (passes_upto layers (coded s values).planes l) (value_in s values))
+    → IsBlockMeaning s (planes - zeros_in (map body_from bs)) (passes_in (map body_from bs)) (block_bytes (map body_from bs)) (truncated s (coded s values).planes (passes_upto layers (coded s values).planes l) (value_in s values))
 front_means s values layers planes l [] lt room has =
     let k = coded s values in
     let n = passes_upto layers k.planes l in
-    let q = cut s k.planes n (value_in s values) in
+    let q = truncated s k.planes n (value_in s values) in
     let none : n ≡ 0 = sym (front_passes layers planes (suc l) k (omega (arith, lt))) ∙ sym has.passes in
     subst (λ m. IsBlockMeaning s (planes - 0) m [] q) none (without_passes s k.planes (planes - 0) n (take (bytes_upto layers k l) k.bytes) q none (upto_means s values layers l lt))
 front_means s values layers planes l (b ∷ bs) lt room has =
     let k = coded s values in
     let n = passes_upto layers k.planes l in
-    let q = cut s k.planes n (value_in s values) in
+    let q = truncated s k.planes n (value_in s values) in
     let zeros : b.0.zero_planes ≡ planes - k.planes = has.zeros.0 ∙ zero_planes_are layers planes k in
     let bits : planes - b.0.zero_planes ≡ k.planes = omega (arith, zeros, room) in
     let passes : passes_in (map body_from (b ∷ bs)) ≡ n = passes_from (b ∷ bs) ∙ has.passes ∙ front_passes layers planes (suc l) k (omega (arith, lt)) in
-    let bytes : segment_of (map body_from (b ∷ bs)) ≡ take (bytes_upto layers k l) k.bytes = segment_from (b ∷ bs) ∙ has.bytes ∙ front_bytes s values layers planes (suc l) (omega (arith, lt)) in
-    subst (λ p. IsBlockMeaning s p (passes_in (map body_from (b ∷ bs))) (segment_of (map body_from (b ∷ bs))) q) (sym bits)
-    (subst (λ m. IsBlockMeaning s k.planes m (segment_of (map body_from (b ∷ bs))) q) (sym passes)
+    let bytes : block_bytes (map body_from (b ∷ bs)) ≡ take (bytes_upto layers k l) k.bytes = segment_from (b ∷ bs) ∙ has.bytes ∙ front_bytes s values layers planes (suc l) (omega (arith, lt)) in
+    subst (λ p. IsBlockMeaning s p (passes_in (map body_from (b ∷ bs))) (block_bytes (map body_from (b ∷ bs))) q) (sym bits)
+    (subst (λ m. IsBlockMeaning s k.planes m (block_bytes (map body_from (b ∷ bs))) q) (sym passes)
     (subst (λ (x : List ℕ). IsBlockMeaning s k.planes n x q) (sym bytes) (upto_means s values layers l lt)))
 
 -- the bodies of a block mean its coefficients without the lowest bit-planes
@@ -99,11 +99,11 @@ front_meant a k f layers l r n i j bodies lt room has =
     let values = block_list a k f r n i j in
     let planes = planes_of k (band_number r i) in
     let own = block_from i j bodies in
-    let q = cut s (coded s values).planes (passes_upto layers (coded s values).planes l) (value_in s values) in
+    let q = truncated s (coded s values).planes (passes_upto layers (coded s values).planes l) (value_in s values) in
     let low : layers - suc l ≡ layers - 1 - l = omega arith in
     record {
       values = q;
-      means = subst (λ (bs : List Body). IsBlockMeaning s (planes - zeros_in bs) (passes_in bs) (segment_of bs) q) (sym own) (front_means s values layers planes l (bodies_of i j bodies) lt room has);
+      means = subst (λ (bs : List Body). IsBlockMeaning s (planes - zeros_in bs) (passes_in bs) (block_bytes bs) q) (sym own) (front_means s values layers planes l (bodies_of i j bodies) lt room has);
       placed = λ x y inside.
           ap (without_planes (layers - suc l)) (placed_at (block_at_place a k r n i j) s (f (band_number r i)) x y refl refl inside)
           ∙ ap (λ m. without_planes m (value_in s values x y)) low ∙ sym (upto_cut s values layers l x y);

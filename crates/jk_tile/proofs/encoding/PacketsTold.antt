@@ -10,7 +10,7 @@ use Rattle.jk_geom.specs.TileShapes.{coding_of}
 use Rattle.jk_order.specs.PacketOrder.{IsName, IsPrecinct, IsPacketOrder, is_of, layer_names, joined, order}
 use Rattle.jk_order.proofs.Laws.{order_is, layers_of}
 use Rattle.jk_packet.specs.declared.header.BlockContribution.{BlockContribution}
-use Rattle.jk_packet.specs.Standing.{Tells}
+use Rattle.jk_packet.specs.Standing.{TellsLayers}
 use Rattle.jk_packet.specs.Written.{AreTables, trees_in, layer_in, layers_before, bits_in, header_in, bodies_in}
 use Rattle.jk_packet.proofs.Laws.{written_told, header_written, bodies_parts, bodies_lengths, bodies_joined}
 use Rattle.jk_walk.specs.TilePackets.{Packet, bands_at, of_precinct, IsPacket, IsToldPrecinct, IsTile}
@@ -127,8 +127,8 @@ told_precinct s sop eph tables c r k have precinct =
     record {
       trees = trees_in shapes ts;
       are = told.0;
-      told = subst (λ ls. Tells shapes (trees_in shapes ts) ls (map (λ p. p.bits) (of_precinct c r k (written_packets s sop eph tables 0 (order s))))) (sym layers)
-          (subst (λ bs. Tells shapes (trees_in shapes ts) (layers_before ts s.layers) bs) (sym bits) told.1);
+      told = subst (λ ls. TellsLayers shapes (trees_in shapes ts) ls (map (λ p. p.bits) (of_precinct c r k (written_packets s sop eph tables 0 (order s))))) (sym layers)
+          (subst (λ bs. TellsLayers shapes (trees_in shapes ts) (layers_before ts s.layers) bs) (sym bits) told.1);
     }
 
 -- the packets of the tile, in one part

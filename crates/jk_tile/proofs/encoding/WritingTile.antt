@@ -10,7 +10,7 @@ use Rattle.jk_geom.specs.Precincts.{precinct_number}
 use Rattle.jk_geom.specs.Counts.{precincts_below}
 use Rattle.jk_geom.specs.TileShapes.{coding_of}
 use Rattle.jk_order.specs.PacketOrder.{IsName, is_of, order, packet_count}
-use Rattle.jk_order.specs.Streams.{Walk, Left}
+use Rattle.jk_order.specs.Streams.{Walk, PacketsLeft}
 use Rattle.jk_order.proofs.Laws.{length_of, order_is}
 use Rattle.jk_packet.specs.Written.{Table, PrecinctTables, packet_in}
 use Rattle.jk_walk.specs.TilePackets.{bands_at}
@@ -41,7 +41,7 @@ pub record AreWriters (s : TileShape) (k : Coding) (sop eph : Bool) (lists : Lis
 pub record IsWritingTile (s : TileShape) (k : Coding) (sop eph : Bool) (lists : List (List Table)) (packets : Walk) (ws : List WriterSlot) (out : List ℕ) (number more : ℕ) : Type 0 where
   pub names : List PacketName
   pub counts : Counts
-  pub follow : Left packets names
+  pub follow : PacketsLeft packets names
   pub count : length names ≡ more
   pub turns : AreTurns s counts names
   pub writers : AreWriters s k sop eph lists counts ws
@@ -77,7 +77,7 @@ none_kept zero i = refl
 none_kept (suc m) zero = refl
 none_kept (suc m) (suc i) = none_kept m i
 
-pub writing_starts : (s : TileShape) (k : Coding) (sop eph : Bool) (lists : List (List Table)) (m : ℕ) (packets : Walk) (ws : List WriterSlot) (out : List ℕ) → Left packets (order s)
+pub writing_starts : (s : TileShape) (k : Coding) (sop eph : Bool) (lists : List (List Table)) (m : ℕ) (packets : Walk) (ws : List WriterSlot) (out : List ℕ) → PacketsLeft packets (order s)
     → length lists ≡ length s.codings * precincts_below s.rect k (k.levels + 1) → m ≡ length lists → ws ≡ replicate m None → out ≡ [] → IsWritingTile s k sop eph lists packets ws out 0 (packet_count s)
 writing_starts s k sop eph lists m packets ws out follow all long made none = record {
   names = order s;
@@ -188,7 +188,7 @@ text_next s k sop eph lists counts ws n own names place number alike next =
     ∙ ap (λ (w : PrecinctTables). text_by w number) (sym next.writer))
 
 pub writing_more : (s : TileShape) (k : Coding) (sop eph : Bool) (lists : List (List Table)) (packets after : Walk) (ws new : List WriterSlot) (out text : List ℕ) (number more : ℕ) (n : PacketName) (own : List Table) (place : ℕ)
-    → s.codings ≡ replicate (length s.codings) k → (w : IsWritingTile s k sop eph lists packets ws out number more) → Some n ≡ slice_get w.names 0 → Left after (drop 1 w.names)
+    → s.codings ≡ replicate (length s.codings) k → (w : IsWritingTile s k sop eph lists packets ws out number more) → Some n ≡ slice_get w.names 0 → PacketsLeft after (drop 1 w.names)
     → place ≡ index_of s.rect k n.component n.resolution n.precinct → own ≡ list_of s.rect k lists n.component n.resolution n.precinct → length new ≡ length ws
     → (n.layer + 1 < s.layers → (blank : PrecinctTables) → kept_writer new place blank ≡ record (writer_in s k sop eph own ws place n) { written = n.layer + 1 })
     → ((blank : PrecinctTables) (i : ℕ) → (i ≡ place → ⊥) → kept_writer new i blank ≡ kept_writer ws i blank)

@@ -19,7 +19,7 @@ use Rattle.jk_block.specs.Reading.{block_at}
 use Rattle.jk_walk.specs.declared.places.PacketPlace.{PacketPlace}
 use Rattle.jk_walk.specs.TilePackets.{Body, orientations, band_number, planes_of}
 use Rattle.jk_walk.specs.WalkReading.{bodies_at}
-use Rattle.jk_tile.specs.TileBlocks.{orientation_at, grid_at, block_at_place, block_shape, block_bodies, segment_of}
+use Rattle.jk_tile.specs.TileBlocks.{orientation_at, grid_at, block_at_place, block_shape, block_bodies, block_bytes}
 use Rattle.jk_tile.specs.TileBlocks.{passes_in, zeros_in, band_resolution, band_index}
 use Rattle.jk_wave.specs.declared.region.Region.{Region}
 use Rattle.jk_wave.specs.Regions.{part_area}
@@ -44,7 +44,7 @@ tested (Err e) = Err e
 -- the coefficients of a code-block of this shape in a sub-band of so many bit-planes, row by row,
 -- from its bodies
 unfoldable pub bodies_values : BlockShape → (planes : ℕ) → List Body → Result (List ℤ) Fault
-bodies_values s planes bodies = block_at s (planes - zeros_in bodies) (passes_in bodies) (segment_of bodies)
+bodies_values s planes bodies = block_at s (planes - zeros_in bodies) (passes_in bodies) (block_bytes bodies)
 
 -- those of code-block j of sub-band i in precinct n of resolution r
 abbrev pub block_values : Rect → Coding → (r n i j : ℕ) → List Body → Result (List ℤ) Fault

@@ -6,7 +6,7 @@ ghost use Rattle.std.specs.List.{AllByRecursion};
 ghost use Rattle.jk_math.specs.Memory.{IsMemory};
 ghost use Rattle.jk_walk.specs.WalkReading.{place_end, bodies_at};
 ghost use Rattle.jk_walk.specs.TilePackets.{Body};
-ghost use Rattle.jk_tile.specs.TileBlocks.{passes_in, zeros_in, segment_of};
+ghost use Rattle.jk_tile.specs.TileBlocks.{passes_in, zeros_in, block_bytes};
 ghost use Rattle.jk_tile.specs.decoding.Gathered.{place_in, body_of, bodies_in, IsInside, AreByBlock};
 ghost use Rattle.jk_math.specs.Lists.{list_at};
 
@@ -142,7 +142,7 @@ pub(crate) fn zero_planes(bodies: &[BodyPlace]) -> u8
 /// Puts the bytes of bodies one behind another.
 pub(crate) fn join(bytes: &[u8], bodies: &[BodyPlace], segment: &mut Vec<u8>) -> Result<(), Fault>
     requires { All (IsInside (length bytes.now)) bodies.now }
-    ensures segment { OnOk result (segment.new.items ≡ segment_of (map (body_of bytes.now) bodies.now)) }
+    ensures segment { OnOk result (segment.new.items ≡ block_bytes (map (body_of bytes.now) bodies.now)) }
     ensures memory { IfErr result IsMemory }
 {
     segment.clear();

@@ -8,7 +8,7 @@ use Rattle.jk_scan.specs.declared.shape.BlockShape.{BlockShape}
 use Rattle.jk_block.specs.Meaning.{plane_of, kind_of}
 use Rattle.jk_block.specs.Reading.{Progress, begun, with_contexts, plane_pass_at, closing_at, pass_at}
 use Rattle.jk_block.specs.Steps.{number_of}
-use Rattle.jk_block.specs.decoding.Sketches.{Draft, draft_of, progress}
+use Rattle.jk_block.specs.decoding.BlockStates.{Draft, draft_of, progress}
 use Rattle.jk_block.proofs.decoding.Taking.{takes_begun, takes_through, takes_then}
 use Rattle.jk_block.proofs.decoding.read_pass.Goals as goal
 
@@ -31,15 +31,15 @@ pub returns-in_err-read_bit_plane-clause-takes : goal.returns-in_err-read_bit_pl
 unfolding pass_at scan
 returns-in_err-read_bit_plane-clause-takes g c =
     let p = err_from_is_err_and c.from_residual.result c.from_residual.ensures.1 in
-    let k = draft_of c.args.sketch.now in
+    let k = draft_of c.args.block_state.now in
     let v = c.args.decoder.now in
     let w = c.begin_contexts.new.decoder in
     let bytes = v.bytes in
     let planes = c.args.planes in
     let n = c.args.n in
     let pass = number_of c.pass_of-pass.result in
-    let k' = draft_of c.begin.new.sketch in
-    let scanned = takes_begun {A = Unit {0}} (scan bytes k.shape planes n) (plane_pass_at w.bytes k'.shape (plane_of planes n) pass) (begun_by k'.shape.style.reset) k k' (draft_of c.read_bit_plane.new.sketch) v w c.read_bit_plane.new.decoder
+    let k' = draft_of c.begin.new.block_state in
+    let scanned = takes_begun {A = Unit {0}} (scan bytes k.shape planes n) (plane_pass_at w.bytes k'.shape (plane_of planes n) pass) (begun_by k'.shape.style.reset) k k' (draft_of c.read_bit_plane.new.block_state) v w c.read_bit_plane.new.decoder
     (Err c.in_err-read_bit_plane.field-0.0) c.begin_contexts.ensures.stands
     (scan_is bytes w.bytes k.shape k'.shape planes n pass k k' refl c.pass_of-pass.ensures c.begin.ensures.shape c.begin_contexts.ensures.bytes c.begin.ensures.begun)
     c.in_err-read_bit_plane.ensures.takes in
@@ -48,7 +48,7 @@ returns-in_err-read_bit_plane-clause-takes g c =
 pub returns-clause-takes : goal.returns-clause-takes
 unfolding pass_at scan
 returns-clause-takes g c =
-    let k = draft_of c.args.sketch.now in
+    let k = draft_of c.args.block_state.now in
     let v = c.args.decoder.now in
     let w = c.begin_contexts.new.decoder in
     let x = c.read_bit_plane.new.decoder in
@@ -56,8 +56,8 @@ returns-clause-takes g c =
     let planes = c.args.planes in
     let n = c.args.n in
     let pass = number_of c.pass_of-pass.result in
-    let k' = draft_of c.begin.new.sketch in
-    let new = draft_of c.read_bit_plane.new.sketch in
+    let k' = draft_of c.begin.new.block_state in
+    let new = draft_of c.read_bit_plane.new.block_state in
     let scanned = takes_begun {A = Unit {0}} (scan bytes k.shape planes n) (plane_pass_at w.bytes k'.shape (plane_of planes n) pass) (begun_by k'.shape.style.reset) k k' new v w x
     (Ok tt) c.begin_contexts.ensures.stands
     (scan_is bytes w.bytes k.shape k'.shape planes n pass k k' refl c.pass_of-pass.ensures c.begin.ensures.shape c.begin_contexts.ensures.bytes c.begin.ensures.begun)

@@ -18,8 +18,8 @@ loop-n-init g c =
     let first : c.saturating_sub-n.result ≡ 3 * c.args.above - 2 = omega arith in (
       subst (λ n. HasCodedPasses v.shape c.args.planes n (value_in v.shape v.values.now) c.args.encoder.now c.args.marks.now.items) (sym first) c.requires.before,
       elim (cases_lt 0 c.args.above) [
-        | inl some ↦ subst (λ k. IsFlagged v (k * visits v.shape) new) (omega (arith, some, first)) (begun_plane v flags new c.requires.lit e.significant e.visited)
-        | inr none ↦ subst (λ k. IsFlagged v (k * visits v.shape) new) (omega (arith, none, first)) (begun_top v flags new c.requires.lit e.significant e.visited (c.requires.top (omega (arith, none))))
+        | inl some ↦ subst (λ k. IsFlagged v (k * visits v.shape) new) (omega (arith, some, first)) (begun_plane v flags new c.requires.known_significant e.significant e.visited)
+        | inr none ↦ subst (λ k. IsFlagged v (k * visits v.shape) new) (omega (arith, none, first)) (begun_top v flags new c.requires.known_significant e.significant e.visited (c.requires.top (omega (arith, none))))
       ],
     )
 
@@ -40,8 +40,8 @@ loop-n-preserved g c =
       subst (λ k. IsFlagged b (k * visits b.shape) c.code_pass.new.flags) (ap (λ k. k + 1) (same ∙ kind l.n c.args.above low high) ∙ (let e : l.n + 2 - 3 * c.args.above + 1 ≡ l.n + 1 + 2 - 3 * c.args.above = omega (arith, low) in e)) c.in_ok-code_pass.ensures.flagged,
     )
 
-pub returns-clause-lit : goal.returns-clause-lit
-returns-clause-lit g c =
+pub returns-clause-known_significant : goal.returns-clause-known_significant
+returns-clause-known_significant g c =
     let v = c.args.block.now in
     let l = c.loop-n in
     ended_plane v l.flags (subst (λ k. IsFlagged v (k * visits v.shape) l.flags) (omega arith) l.invariant.1)

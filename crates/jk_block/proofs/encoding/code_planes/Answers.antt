@@ -4,8 +4,8 @@ use Rattle.jk_scan.specs.Flags.{IsDrawn}
 use Rattle.jk_block.specs.Meaning.{plane_at, value_in}
 use Rattle.jk_block.specs.CodedBlocks.{HasCodedPasses}
 use Rattle.jk_block.specs.encoding.Slices.{IsSliced}
-use Rattle.jk_block.specs.encoding.Viewed.{IsLitUpto}
-use Rattle.jk_block.proofs.encoding.Planes.{short_of, lit_none, top_plane, none_refined, refined_drawn}
+use Rattle.jk_block.specs.encoding.Viewed.{IsSignificantUpto}
+use Rattle.jk_block.proofs.encoding.Planes.{short_of, significant_none, top_plane, none_refined, refined_drawn}
 use Rattle.jk_block.proofs.WordDrawing.{drawn_alike}
 use Rattle.jk_block.proofs.encoding.Slicing.{clear_none, clear_sliced}
 use Rattle.jk_block.proofs.Sizes.{flags_fit, words_fit}
@@ -19,7 +19,7 @@ loop-above-init g c =
     let planes = c.args.planes in
     record {
       coded = c.requires.before;
-      lit = subst (λ b. IsLitUpto s b q c.new-flags.result) (omega arith) (lit_none s planes q c.new-flags.result c.requires.small c.new-flags.ensures.significant);
+      known_significant = subst (λ b. IsSignificantUpto s b q c.new-flags.result) (omega arith) (significant_none s planes q c.new-flags.result c.requires.small c.new-flags.ensures.significant);
       sliced = subst (λ b. IsSliced s (b / 8 * 8) q c.slice_all-2.new.slices) (let e : planes ≡ planes - 0 = omega arith in e) c.slice_all-2.ensures;
       older = subst (λ b. IsDrawn s (λ x y. nat_lt 0 ((plane_at s (b + 1) q).magnitude x y)) c.none-ages.result.older) (let e : planes ≡ planes - 0 = omega arith in e)
           (none_refined s planes q g.row.N c.none-ages.result.older c.requires.small c.none-ages.ensures.older);
@@ -67,10 +67,10 @@ loop-above-preserved g c =
     ] in
     record {
       coded = subst (λ n. HasCodedPasses s planes n q c.code_plane.new.encoder c.code_plane.new.marks.items) (let e : 3 * l.above + 1 ≡ 3 * (l.above + 1) - 2 = omega arith in e) c.in_ok-code_plane.ensures.after;
-      lit = subst (λ b. IsLitUpto s b q c.code_plane.new.flags) (let e : planes - 1 - l.above ≡ planes - (l.above + 1) = omega arith in e) c.in_ok-code_plane.ensures.lit;
+      known_significant = subst (λ b. IsSignificantUpto s b q c.code_plane.new.flags) (let e : planes - 1 - l.above ≡ planes - (l.above + 1) = omega arith in e) c.in_ok-code_plane.ensures.known_significant;
       sliced = subst (λ b. IsSliced s (b / 8 * 8) q c.if-plane-eq7.slices) (let e : plane ≡ planes - (l.above + 1) = omega arith in e) sliced;
       older = drawn_alike s (λ x y. nat_lt 0 ((plane_at s (planes - (l.above + 1) + 1) q).magnitude x y)) l.flags.significant c.note.new.self.older c.note.ensures.older
-          (subst (λ b. IsDrawn s (λ x y. nat_lt 0 ((plane_at s b q).magnitude x y)) l.flags.significant) (let e : planes - l.above ≡ planes - (l.above + 1) + 1 = omega arith in e) l.invariant.lit.lit);
+          (subst (λ b. IsDrawn s (λ x y. nat_lt 0 ((plane_at s b q).magnitude x y)) l.flags.significant) (let e : planes - l.above ≡ planes - (l.above + 1) + 1 = omega arith in e) l.invariant.known_significant.known_significant);
     }
 
 pub new-flags-requires : goal.new-flags-requires
@@ -121,7 +121,7 @@ code_plane-requires g c =
               (
                 λ e. top_plane c.args.shape (c.args.planes - 1 - c.loop-above.above) c.args.planes (value_in c.args.shape c.args.values.now) (omega (arith, e)) c.requires.small,
                 (
-                  subst (λ b. IsLitUpto c.args.shape b (value_in c.args.shape c.args.values.now) l.flags) (let e : c.args.planes - l.above ≡ c.args.planes - 1 - l.above + 1 = omega arith in e) l.invariant.lit,
+                  subst (λ b. IsSignificantUpto c.args.shape b (value_in c.args.shape c.args.values.now) l.flags) (let e : c.args.planes - l.above ≡ c.args.planes - 1 - l.above + 1 = omega arith in e) l.invariant.known_significant,
                   l.invariant.coded,
                 ),
               ),

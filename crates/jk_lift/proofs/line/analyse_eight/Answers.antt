@@ -1,5 +1,5 @@
 use Rattle.std.proofs.Common.{◌+◌, ◌-◌, ◌*◌, ◌^◌, arith}
-use Rattle.jk_lanes.proofs.Laws.{adds_fit, subs_fit, stored}
+use Rattle.jk_math.proofs.Laws.{adds_fit, subs_fit, stored}
 use Rattle.jk_lift.proofs.EightPairs.{even_lanes, odd_in_lanes, behind_in_lanes, half_in_lanes, high_lanes, last_in_lanes, coefficient_sums, quarter_in_lanes, low_made_lanes, coefficients_made}
 use Rattle.jk_lift.proofs.EightSteps.{twos}
 use Rattle.jk_lift.proofs.line.analyse_eight.Goals as goal

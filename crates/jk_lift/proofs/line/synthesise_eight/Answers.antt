@@ -1,5 +1,5 @@
 use Rattle.std.proofs.Common.{◌+◌, ◌-◌, ◌*◌, ◌^◌, arith}
-use Rattle.jk_lanes.proofs.Laws.{adds_fit, subs_fit}
+use Rattle.jk_math.proofs.Laws.{adds_fit, subs_fit}
 use Rattle.jk_lift.proofs.EightSteps.{twos}
 use Rattle.jk_lift.proofs.EightPairs.{here_lanes, behind_lanes, low_lanes, high_sums, quarter_lanes, next_lanes, last_lanes, half_lanes, samples_made, samples_stored}
 use Rattle.jk_lift.proofs.line.synthesise_eight.Goals as goal

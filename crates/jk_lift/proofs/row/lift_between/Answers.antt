@@ -1,6 +1,6 @@
 use Rattle.std.proofs.Common.{◌≡◌, ◌+◌, ◌-◌, ◌*◌, ◌^◌, ℕ, ℤ, List, map, ◌∙◌, subst, arith, w32, to_z, of_z}
 use Rattle.jk_math.specs.Signed.{signed_at}
-use Rattle.jk_lanes.proofs.Laws.{HasLanes-given, lane_is, vector_below, stored}
+use Rattle.jk_math.proofs.Laws.{HasLanes-given, lane_is, vector_below, stored}
 use lib.Lanes.{put_chunk}
 use Rattle.jk_lift.proofs.RowsBetween.{IsLiftedUpto, lifted_eight, rest_lanes, all_lanes, three}
 use Rattle.jk_lift.proofs.row.lift_between.Goals as goal

@@ -2,7 +2,7 @@ use Rattle.std.proofs.Common.{◌≡◌, ◌+◌, ◌-◌, ◌*◌, ◌^◌, ℕ
 use Rattle.std.proofs.lemmas.Int.{to_z-of_z}
 use mir.Val.{SFits}
 use Rattle.jk_math.specs.Signed.{signed_at}
-use Rattle.jk_lanes.proofs.Laws.{HasLanes-given, lane_is, vector_below, stored}
+use Rattle.jk_math.proofs.Laws.{HasLanes-given, lane_is, vector_below, stored}
 use lib.Lanes.{put_chunk}
 use Rattle.jk_lift.proofs.RowsBetween.{three}
 use Rattle.jk_lift.proofs.Sweeping.{IsLifted, IsLifted-more, IsLifted-eight, lifted_value, row_lanes}

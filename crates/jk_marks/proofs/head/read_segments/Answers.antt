@@ -1,7 +1,7 @@
 use Rattle.std.proofs.Common.{◌+◌, ◌-◌, sym, refl, ◌∙◌, ap, arith}
 use Rattle.std.proofs.lemmas.Result.{err_from_is_err_and}
 use Rattle.std.proofs.lemmas.Bool.{eq-eqb, ne_eqb}
-use Rattle.jk_marks.specs.Place.{Place}
+use Rattle.jk_marks.specs.Place.{ReadingPlace}
 use Rattle.jk_marks.specs.Reading.{segments_at}
 use Rattle.jk_marks.proofs.Loops.{segments_more, segments_end}
 use Rattle.jk_marks.proofs.Steps.{number_moves}
@@ -30,7 +30,7 @@ returns-in_err-head-clause-exact c =
 pub loop-preserved : goal.loop-preserved
 loop-preserved c =
     let step = segments_more c.left-end.result c.loop.counter c.args.components c.args.last c.args.heading c.loop.head c.loop.cursor c.loop-test.true in
-    ap (λ (p : Place). segments_at (c.left-end.result - (c.loop.counter + 1)) c.args.heading c.args.components c.args.last c.in_ok-head.head p) c.leave-in-loop.ensures
+    ap (λ (p : ReadingPlace). segments_at (c.left-end.result - (c.loop.counter + 1)) c.args.heading c.args.components c.args.last c.in_ok-head.head p) c.leave-in-loop.ensures
     ∙ sym (sym c.loop.invariant ∙ step ∙ rw (c.in_ok-marker.ensures.exact, ne_eqb _ _ c.if-marker-last.false, c.in_ok-head.ensures) refl)
 
 pub returns-clause-exact : goal.returns-clause-exact

@@ -1,6 +1,6 @@
 use Rattle.std.proofs.Common.{◌≡◌, ◌*◌, ◌^◌, ◌<◌, ◌≤◌, length}
 use Rattle.jk_model.specs.Decisions.{State}
-use Rattle.jk_mqdec.specs.Registers.{Holds}
+use Rattle.jk_mqdec.specs.Registers.{HoldsInterval}
 use Rattle.jk_mqdec.proofs.Doubling.{Comes}
 use Rattle.jk_mqdec.proofs.registers.fed_through.Given as goal
 
@@ -11,7 +11,7 @@ invariant-loop-left l = record {
   count : l.now.count < 8;
   empty : 0 < l.left → l.now.count ≡ 0;
   place : l.now.place ≤ length l.bytes;
-  comes : (s : State) → Holds l.bytes l.fn.old s → Comes l.bytes l.now l.left l.fn.times s;
+  comes : (s : State) → HoldsInterval l.bytes l.fn.old s → Comes l.bytes l.now l.left l.fn.times s;
 }
 
 abbrev pub decreases-loop-left : goal.decreases-loop-left

@@ -3,7 +3,7 @@ use Rattle.std.specs.Prelude.{nat_eq, nat_lt}
 use Rattle.std.proofs.lemmas.Bool.Decides.{nat_tests}
 use Rattle.std.proofs.lemmas.List.{get_or_read}
 use Rattle.jk_tree.specs.Telling.{with_bits}
-use Rattle.jk_packet.specs.declared.words.Piece.{Piece}
+use Rattle.jk_packet.specs.declared.words.Addition.{Addition}
 use Rattle.jk_packet.specs.declared.writing.WriteBlock.{WriteBlock}
 use Rattle.jk_packet.specs.Words.{width, piece_bits}
 use Rattle.jk_packet.specs.Written.{Table, part_in, least_growth, lblock_at, piece_in, first_in, table_at}
@@ -12,7 +12,7 @@ use Rattle.jk_packet.proofs.HistoryLaws.{part_length, lblock_few, piece_narrow}
 use Rattle.jk_packet.proofs.SpokenLaws.{SaysZeros, block_none, block_some, state_grown, ready_kept, ready_grown}
 use Rattle.jk_packet.proofs.writing.write_block.Goals as goal
 
-abbrev piece_is_told : (passes growth length : ℕ) → Piece
+abbrev piece_is_told : (passes growth length : ℕ) → Addition
 piece_is_told passes growth length = record { passes = passes; growth = growth; length = length }
 
 pub returns-then-passes-eq0-clause-ready : goal.returns-then-passes-eq0-clause-ready
@@ -92,7 +92,7 @@ push_piece-requires-clause-narrow c =
     ∙ ap (λ n. piece_is_told (part_in (table_at ts i) l).0 (piece_in (table_at ts i) l).growth n) size in
     let narrow = piece_narrow c.requires.tables.0 c.args.shape.planes (table_at ts i) l is c.requires.tables.1 in
     let same : width c.index-block.result.now.length_bits (piece_is_told c.passes-passes.result c.least_growth-growth.result (length c.bytes.result.now)) ≡ width (lblock_at (table_at ts i) l) (piece_in (table_at ts i) l) =
-    ap (λ n. width n (piece_is_told c.passes-passes.result c.least_growth-growth.result (length c.bytes.result.now))) lblock ∙ ap (λ (p : Piece). width (lblock_at (table_at ts i) l) p) told in
+    ap (λ n. width n (piece_is_told c.passes-passes.result c.least_growth-growth.result (length c.bytes.result.now))) lblock ∙ ap (λ (p : Addition). width (lblock_at (table_at ts i) l) p) told in
     omega (arith, narrow, same)
 
 pub overflow_add-block : goal.overflow_add-block
@@ -186,4 +186,4 @@ returns-clause-told c = λ layers follow speak.
     c.requires.ready.inclusion c.requires.ready.zeros (ap (λ (b : WriteBlock). b.first) block) lblock (let h = c.if-passes-eq0.false in grind (arith, nat_tests)) some c.in_ok-tell_inclusion.ensures.told
     (subst (λ n. SaysZeros (nat_lt c.index-block.result.now.first l) i n c.args.band.now.zeros c.tell_zero_planes.new.tree c.tell_inclusion.new.writer c.tell_zero_planes.new.writer)
     (c.zero_planes.ensures ∙ ap (λ (t : Table). t.zero_planes) table) c.in_ok-tell_zero_planes.ensures.told)
-    (c.in_ok-push_piece.ensures ∙ ap (λ (p : Piece). with_bits c.tell_zero_planes.new.writer (piece_bits c.index-block.result.now.length_bits p)) told) speak
+    (c.in_ok-push_piece.ensures ∙ ap (λ (p : Addition). with_bits c.tell_zero_planes.new.writer (piece_bits c.index-block.result.now.length_bits p)) told) speak

@@ -1,5 +1,5 @@
 use Rattle.std.proofs.Common.{◌≡◌, ◌+◌, ◌-◌, ◌*◌, ◌/◌, ◌^◌, ◌<◌, ap, sym, ◌∙◌, subst, arith}
-use Rattle.jk_tree.specs.TagTree.{wide, place, count}
+use Rattle.jk_tree.specs.TagTree.{wide, node_number, count}
 use Rattle.jk_tree.proofs.Places.{StandsOver, stands_over}
 use Rattle.jk_tree.proofs.levels.node_over.Goals as goal
 use Rattle.jk_tree.proofs.levels.node_over.Goals.{After-nodes_over}
@@ -9,7 +9,7 @@ stands c = stands_over record { width = c.args.levels.width; height = c.args.lev
 
 -- the sizes are those of the level
 place_here : (c : After-nodes_over) → c.args.above - c.nodes_over-across.result * c.nodes_over.result + c.args.row / 2 ^ c.args.level * c.nodes_over-across.result + c.args.column / 2 ^ c.args.level
-    ≡ place record { width = c.args.levels.width; height = c.args.levels.height } c.args.level (c.args.column / 2 ^ c.args.level) (c.args.row / 2 ^ c.args.level)
+    ≡ node_number record { width = c.args.levels.width; height = c.args.levels.height } c.args.level (c.args.column / 2 ^ c.args.level) (c.args.row / 2 ^ c.args.level)
 place_here c =
     ap (λ a. c.args.above - a * c.nodes_over.result + c.args.row / 2 ^ c.args.level * a + c.args.column / 2 ^ c.args.level) c.nodes_over-across.ensures.exact
     ∙ ap (λ b. c.args.above - wide c.args.levels.width c.args.level * b + c.args.row / 2 ^ c.args.level * wide c.args.levels.width c.args.level + c.args.column / 2 ^ c.args.level) c.nodes_over.ensures.exact

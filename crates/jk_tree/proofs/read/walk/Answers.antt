@@ -3,7 +3,7 @@ use Rattle.std.proofs.lemmas.Result.{err_from_is_err_and}
 use Rattle.std.proofs.lemmas.List.{get_or_read, length-set}
 use Rattle.jk_bits.specs.Reading.{Bits}
 use Rattle.jk_bits.specs.Giving.{stops_on, moves_on}
-use Rattle.jk_tree.specs.TagTree.{Shape, Query, column, row, place}
+use Rattle.jk_tree.specs.TagTree.{Shape, Query, column, row, node_number}
 use Rattle.jk_tree.specs.declared.node.Node.{Node}
 use Rattle.jk_tree.specs.Asking.{node_at, visit, walk}
 use Rattle.jk_tree.proofs.Moving.{visit_moves}
@@ -20,7 +20,7 @@ returns-in_err-node-clause-exact c =
     let last : c.loop-level.level ≡ suc i = (let t = c.loop-level-test.true in omega (arith, t)) in
     let here = c.node_over-from.ensures in
     let within : c.node_over-from.result.1 < length c.loop-level.nodes.items = (let a = here.within in let b = c.loop-level.invariant.long in omega (arith, a, b)) in
-    let node_is : c.index.result.now ≡ node_at c.loop-level.nodes.items (place s i (column s c.args.leaf i) (row s c.args.leaf i)) =
+    let node_is : c.index.result.now ≡ node_at c.loop-level.nodes.items (node_number s i (column s c.args.leaf i) (row s c.args.leaf i)) =
     get_or_read c.loop-level.nodes.items c.node_over-from.result.1 c.index.result.now within c.index.ensures _ ∙ ap (node_at c.loop-level.nodes.items) here.place in
     rw (p.1, p.2) (sym c.loop-level.invariant.told ∙ ap (λ k. walk s q k c.loop-level.over c.loop-level.nodes.items c.loop-level.reader) last
     ∙ walk_err s q i c.loop-level.over c.loop-level.nodes.items c.loop-level.reader c.in_err-node.field-0.0
@@ -47,7 +47,7 @@ returns-then-node-threshold-clause-exact c =
     let last : c.loop-level.level ≡ suc i = (let t = c.loop-level-test.true in omega (arith, t)) in
     let here = c.node_over-from.ensures in
     let within : c.node_over-from.result.1 < length items = (let a = here.within in let b = c.loop-level.invariant.long in omega (arith, a, b)) in
-    let node_is : c.index.result.now ≡ node_at items (place s i (column s c.args.leaf i) (row s c.args.leaf i)) = get_or_read items c.node_over-from.result.1 c.index.result.now within c.index.ensures _ ∙ ap (node_at items) here.place in
+    let node_is : c.index.result.now ≡ node_at items (node_number s i (column s c.args.leaf i) (row s c.args.leaf i)) = get_or_read items c.node_over-from.result.1 c.index.result.now within c.index.ensures _ ∙ ap (node_at items) here.place in
     sym c.loop-level.invariant.told
     ∙ ap (λ k. walk s q k c.loop-level.over items c.loop-level.reader) last
     ∙ walk_stop s q i c.loop-level.over items c.loop-level.reader c.in_ok-node.node c.visit.new.reader
@@ -72,7 +72,7 @@ loop-level-preserved c =
     let last : c.loop-level.level ≡ suc i = (let t = c.loop-level-test.true in omega (arith, t)) in
     let here = c.node_over-from.ensures in
     let within : c.node_over-from.result.1 < length items = (let a = here.within in let b = c.loop-level.invariant.long in omega (arith, a, b)) in
-    let node_is : c.index.result.now ≡ node_at items (place s i (column s c.args.leaf i) (row s c.args.leaf i)) = get_or_read items c.node_over-from.result.1 c.index.result.now within c.index.ensures _ ∙ ap (node_at items) here.place in
+    let node_is : c.index.result.now ≡ node_at items (node_number s i (column s c.args.leaf i) (row s c.args.leaf i)) = get_or_read items c.node_over-from.result.1 c.index.result.now within c.index.ensures _ ∙ ap (node_at items) here.place in
     let less : c.in_ok-node.node.low < c.args.threshold = c.if-node-threshold.false in
     record {
       from = here.start;

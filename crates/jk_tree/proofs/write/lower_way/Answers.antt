@@ -1,6 +1,6 @@
 use Rattle.std.proofs.Common.{◌≡◌, suc, ◌-◌, ◌<◌, ◌≤◌, min, length, set, sym, ◌∙◌, ap, subst, arith}
 use Rattle.std.proofs.lemmas.List.{get_or_read}
-use Rattle.jk_tree.specs.TagTree.{Shape, top, column, row, place}
+use Rattle.jk_tree.specs.TagTree.{Shape, top, column, row, node_number}
 use Rattle.jk_tree.specs.declared.write.WriteNode.{WriteNode}
 use Rattle.jk_tree.specs.Telling.{speaker_at}
 use Rattle.jk_tree.proofs.Ways.{Changed, changed_own, changed_set}
@@ -30,6 +30,6 @@ loop-level-preserved c =
       changed =
           subst (λ m. Changed WriteNode silent_node s c.args.leaf f g i (set items c.node_over-from.result.1 (record { value = m; told = node.told }))) (sym c.min.ensures)
           (subst (λ p. Changed WriteNode silent_node s c.args.leaf f g i (set items p (record { value = min node.value c.args.value; told = node.told }))) (sym here.place)
-          (subst (λ (n : WriteNode). Changed WriteNode silent_node s c.args.leaf f g i (set items (place s i (column s c.args.leaf i) (row s c.args.leaf i)) (record { value = min n.value c.args.value; told = n.told }))) (sym node_is)
+          (subst (λ (n : WriteNode). Changed WriteNode silent_node s c.args.leaf f g i (set items (node_number s i (column s c.args.leaf i) (row s c.args.leaf i)) (record { value = min n.value c.args.value; told = n.told }))) (sym node_is)
           (changed_set WriteNode silent_node s c.args.leaf c.requires.leaf f g i items in_tree was)));
     }

@@ -1,7 +1,7 @@
 use Rattle.std.proofs.Common.{◌≡◌, suc, ◌+◌, ◌-◌, ◌<◌, ◌≤◌, max, Bool, List, [], length, set, sym, ◌∙◌, ap, subst, arith}
 use Rattle.std.proofs.lemmas.List.{append-nil, get_or_read, length-set}
 use Rattle.std.proofs.lemmas.Result.{err_from_is_err_and}
-use Rattle.jk_tree.specs.TagTree.{Shape, Query, top, column, row, place, start, count}
+use Rattle.jk_tree.specs.TagTree.{Shape, Query, top, column, row, node_number, start, count}
 use Rattle.jk_tree.specs.Telling.{speaker_at}
 use Rattle.jk_tree.proofs.Speeches.{HalfSpoken, begin, done, speak_level}
 use Rattle.jk_tree.proofs.Moving.{grows_on, fails_on}
@@ -31,7 +31,7 @@ loop-level-preserved c =
     let last : c.loop-level.level ≡ suc i = (let t = c.loop-level-test.true in omega (arith, t)) in
     let here = c.node_over-from.ensures in
     let within : c.node_over-from.result.1 < length items = (let a = here.within in let b = c.loop-level.invariant.long in omega (arith, a, b)) in
-    let node_is : node ≡ speaker_at items (place s i (column s c.args.leaf i) (row s c.args.leaf i)) =
+    let node_is : node ≡ speaker_at items (node_number s i (column s c.args.leaf i) (row s c.args.leaf i)) =
     get_or_read items c.node_over-from.result.1 node within c.index-node.ensures _ ∙ ap (speaker_at items) here.place in
     let in_tree : i ≤ top s = (let w = c.loop-level.invariant.within in let r = c.requires.root in let t = c.loop-level-test.true in omega (arith, w, r, t)) in
     record {

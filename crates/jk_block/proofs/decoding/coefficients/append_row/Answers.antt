@@ -1,14 +1,14 @@
 use Rattle.std.proofs.Common.{ℕ, ◌*◌, ◌++◌, ℤ, List, map, min, ap, ◌∙◌, append_assoc, arith}
 use Rattle.std.specs.List.{range_with_len}
 use Rattle.jk_block.specs.Meaning.{with_sign}
-use Rattle.jk_block.specs.decoding.Sketches.{draft_of}
+use Rattle.jk_block.specs.decoding.BlockStates.{draft_of}
 use Rattle.jk_block.specs.decoding.Eights.{value_of}
 use Rattle.jk_block.proofs.decoding.Eights.{row_more, value_in_row}
 use Rattle.jk_block.proofs.decoding.coefficients.append_row.Goals as goal
 
 pub loop-word-preserved : goal.loop-word-preserved
 loop-word-preserved g c =
-    let k = c.args.sketch.now in
+    let k = c.args.block_state.now in
     let y = c.args.y in
     let f : ℕ → ℤ = λ x. with_sign ((draft_of k).negative x y) ((draft_of k).magnitude x y) in
     let n = c.loop-word.word in

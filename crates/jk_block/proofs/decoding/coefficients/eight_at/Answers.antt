@@ -1,30 +1,30 @@
 use Rattle.std.proofs.Common.{◌+◌, ◌/◌, arith}
 use Rattle.jk_block.proofs.WordDrawing.{word_room}
 use Rattle.jk_block.proofs.decoding.Eights.{byte_places, sign_places}
-use Rattle.jk_block.proofs.Sizes.{sketch_fits}
+use Rattle.jk_block.proofs.Sizes.{block_state_fits}
 use Rattle.jk_block.proofs.decoding.coefficients.eight_at.Goals as goal
 
 pub row_bytes-requires : goal.row_bytes-requires
 row_bytes-requires g c =
-    let r = word_room c.args.sketch.now.shape (c.args.word + 1) (c.args.y / 4 + 1) (omega arith) (omega arith) in
+    let r = word_room c.args.block_state.now.shape (c.args.word + 1) (c.args.y / 4 + 1) (omega arith) (omega arith) in
     let e = c.word_place-at.ensures.place in
-    (sketch_fits g.row.N c.args.sketch.now.small, (omega (arith, r, e), (omega arith, omega arith)))
+    (block_state_fits g.row.N c.args.block_state.now.small, (omega (arith, r, e), (omega arith, omega arith)))
 
 pub row_bytes-requires-2 : goal.row_bytes-requires-2
 row_bytes-requires-2 g c =
-    let r = word_room c.args.sketch.now.shape (c.args.word + 1) (c.args.y / 4 + 1) (omega arith) (omega arith) in
+    let r = word_room c.args.block_state.now.shape (c.args.word + 1) (c.args.y / 4 + 1) (omega arith) (omega arith) in
     let e = c.word_place-at.ensures.place in
-    (sketch_fits g.row.N c.args.sketch.now.small, (omega (arith, r, e), (omega arith, omega arith)))
+    (block_state_fits g.row.N c.args.block_state.now.small, (omega (arith, r, e), (omega arith, omega arith)))
 
 pub row_bytes-requires-3 : goal.row_bytes-requires-3
 row_bytes-requires-3 g c =
-    let r = word_room c.args.sketch.now.shape (c.args.word + 1) (c.args.y / 4 + 1) (omega arith) (omega arith) in
+    let r = word_room c.args.block_state.now.shape (c.args.word + 1) (c.args.y / 4 + 1) (omega arith) (omega arith) in
     let e = c.word_place-at.ensures.place in
-    (sketch_fits g.row.N c.args.sketch.now.small, (omega (arith, r, e), (omega arith, omega arith)))
+    (block_state_fits g.row.N c.args.block_state.now.small, (omega (arith, r, e), (omega arith, omega arith)))
 
 pub returns : goal.returns
 returns g c =
-    let k = c.args.sketch.now in
+    let k = c.args.block_state.now in
     let at = c.word_place-at.result in
     record {
       low = byte_places k c.args.word c.args.y at _ 0 c.row_bytes.result c.word_place-at.ensures.place (omega arith) c.row_bytes.ensures;

@@ -8,7 +8,7 @@ use Rattle.jk_mqdec.specs.Answers.{next}
 use Rattle.jk_scan.specs.WordPlaces.{column, row}
 use Rattle.jk_scan.specs.Neighbours.{zero_at}
 use Rattle.jk_block.specs.Reading.{Progress, read_sign}
-use Rattle.jk_block.specs.decoding.Sketches.{progress, lit_in, coded_in}
+use Rattle.jk_block.specs.decoding.BlockStates.{progress, significant_in, coded_in}
 use Rattle.jk_block.specs.decoding.Sights.{Sees, new_in, seen_in}
 use Rattle.jk_block.proofs.decoding.Taking.{decide_ok, decide_err, new_takes, new_faults}
 use Rattle.jk_block.proofs.decoding.places.read_new.Goals as goal
@@ -21,7 +21,7 @@ returns-in_err-bit-clause-takes c =
     rw (p.1, p.2) (λ at d orientation place sees coder st.
     new_faults bytes d.shape at.plane (column at.word c.args.k) (row at.stripe c.args.k) (progress d coder) cx c.in_err-bit.field-0.0
     (c.zero_context_at-context.ensures.value (seen_in d at.stripe) at.word at.stripe sees.significant ∙ ap (λ (o : Orientation). zero_at o (seen_in d at.stripe) (column at.word c.args.k) (row at.stripe c.args.k)) (sym orientation)
-    ∙ zero_seen_in d.shape at.stripe (lit_in d) (column at.word c.args.k) (row at.stripe c.args.k) (row_stripe at.stripe c.args.k c.requires.on_row))
+    ∙ zero_seen_in d.shape at.stripe (significant_in d) (column at.word c.args.k) (row at.stripe c.args.k) (row_stripe at.stripe c.args.k c.requires.on_row))
     (decide_err bytes cx coder c.in_err-bit.field-0.0 (c.in_err-bit.ensures.answer coder st)))
 
 refused : Fault → Result Progress Fault
@@ -42,7 +42,7 @@ returns-in_err-negative-clause-takes c =
     let read = ap (λ (bs : List ℕ). read_sign bs d.shape at.plane x y (progress d n)) (sym c.in_ok-bit.ensures.bytes) ∙ a in
     new_takes bytes d.shape at.plane x y (progress d coder) cx bit n (refused c.in_err-negative.field-0.0)
     (c.zero_context_at-context.ensures.value (seen_in d at.stripe) at.word at.stripe sees.significant ∙ ap (λ (o : Orientation). zero_at o (seen_in d at.stripe) x y) (sym orientation)
-    ∙ zero_seen_in d.shape at.stripe (lit_in d) x y (row_stripe at.stripe c.args.k c.requires.on_row))
+    ∙ zero_seen_in d.shape at.stripe (significant_in d) x y (row_stripe at.stripe c.args.k c.requires.on_row))
     (decide_ok bytes cx coder bit (c.in_ok-bit.ensures.answer coder st))
     (ap (λ (b : Bool). cond b (read_sign bytes d.shape at.plane x y (progress d n)) (done (progress d n))) c.if-bit.true ∙ read))
 
@@ -61,7 +61,7 @@ returns-in_ok-negative-clause-takes c = λ at d orientation place sees coder st.
       stands = a.stands;
       is = new_takes bytes d.shape at.plane x y (progress d coder) cx bit n (done (progress (coded_in at.plane x y true c.in_ok-negative.negative d) a.next))
           (c.zero_context_at-context.ensures.value (seen_in d at.stripe) at.word at.stripe sees.significant ∙ ap (λ (o : Orientation). zero_at o (seen_in d at.stripe) x y) (sym orientation)
-          ∙ zero_seen_in d.shape at.stripe (lit_in d) x y (row_stripe at.stripe c.args.k c.requires.on_row))
+          ∙ zero_seen_in d.shape at.stripe (significant_in d) x y (row_stripe at.stripe c.args.k c.requires.on_row))
           (decide_ok bytes cx coder bit (c.in_ok-bit.ensures.answer coder st))
           (ap (λ (b : Bool). cond b (read_sign bytes d.shape at.plane x y (progress d n)) (done (progress d n))) c.if-bit.true ∙ read)
           ∙ ap (λ (b : Bool). done (progress (coded_in at.plane x y true b d) a.next)) (sym c.light.ensures.sign)
@@ -81,7 +81,7 @@ returns-else-bit-clause-takes c = λ at d orientation place sees coder st.
       stands = c.in_ok-bit.ensures.next coder st;
       is = new_takes bytes d.shape at.plane x y (progress d coder) cx bit n (done (progress d n))
           (c.zero_context_at-context.ensures.value (seen_in d at.stripe) at.word at.stripe sees.significant ∙ ap (λ (o : Orientation). zero_at o (seen_in d at.stripe) x y) (sym orientation)
-          ∙ zero_seen_in d.shape at.stripe (lit_in d) x y (row_stripe at.stripe c.args.k c.requires.on_row))
+          ∙ zero_seen_in d.shape at.stripe (significant_in d) x y (row_stripe at.stripe c.args.k c.requires.on_row))
           (decide_ok bytes cx coder bit (c.in_ok-bit.ensures.answer coder st))
           (ap (λ (b : Bool). cond b (read_sign bytes d.shape at.plane x y (progress d n)) (done (progress d n))) c.if-bit.false)
           ∙ ap (λ (b : Bool). done (progress (new_in at c.args.k b c.args.sight.now d) n)) (sym c.if-bit.false);

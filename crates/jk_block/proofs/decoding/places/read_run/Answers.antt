@@ -10,8 +10,8 @@ use Rattle.jk_mqdec.specs.Answers.{next}
 use Rattle.jk_scan.specs.Moments.{cleanup}
 use Rattle.jk_scan.specs.WordPlaces.{column, row}
 use Rattle.jk_block.specs.Reading.{Progress, read_sign, read_from, rows_at}
-use Rattle.jk_block.specs.decoding.Sketches.{progress, coded_in}
-use Rattle.jk_block.specs.decoding.Sights.{Sees, lit_at, run_in}
+use Rattle.jk_block.specs.decoding.BlockStates.{progress, coded_in}
+use Rattle.jk_block.specs.decoding.Sights.{Sees, significant_at, run_in}
 use Rattle.jk_block.proofs.decoding.Cleaning.{run_place}
 use Rattle.jk_block.proofs.decoding.Taking.{decide_ok, decide_err, decide_ok_at, decide_err_at, run_ends, run_faults, run_faults_high, run_faults_low, run_goes, no_rows}
 use Rattle.jk_block.proofs.decoding.places.read_run.Goals as goal
@@ -95,7 +95,7 @@ returns-clause-takes c = λ at d place rows sees coder st.
     ∙ ap (λ (y : ℕ). read_sign three d.shape b (column at.word (k + f)) y (progress d o)) (same_row i k f c.requires.first few)
     ∙ a.is
     ∙ ap (λ (s : Bool). done (progress (coded_in b (column at.word (k + f)) (row i (k + f)) true s d) a.next)) (sym c.light.ensures.sign)
-    ∙ ap (λ (t : Bool). done (progress (cond t (lit_at at (k + f) c.light.new.self d) d) a.next)) (sym (is_row f few)) in
+    ∙ ap (λ (t : Bool). done (progress (cond t (significant_at at (k + f) c.light.new.self d) d) a.next)) (sym (is_row f few)) in
     record {
       next = a.next;
       stands = a.stands;
@@ -145,6 +145,6 @@ returns-clause-sees c = λ at d place rows sees.
     let k = c.args.k in
     let f = c.row_named-row.result in
     let few = c.row_named-row.ensures.few in
-    subst (λ (t : Bool). Sees at (cond t (lit_at at (k + f) c.light.new.self d) d) c.light.new.self) (sym (is_row f few))
+    subst (λ (t : Bool). Sees at (cond t (significant_at at (k + f) c.light.new.self d) d) c.light.new.self) (sym (is_row f few))
     (subst (λ (b : Bool). Sees at (coded_in at.plane (column at.word (k + f)) (row at.stripe (k + f)) true b d) c.light.new.self) (sym c.light.ensures.sign)
     (c.light.ensures.sees at d (run_place d.shape at k f place c.requires.first few rows) sees))

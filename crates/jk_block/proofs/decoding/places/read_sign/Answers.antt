@@ -6,7 +6,7 @@ use Rattle.jk_scan.specs.Neighbours.{seen_from}
 use Rattle.jk_scan.specs.WordPlaces.{column, row}
 use Rattle.jk_scan.proofs.Laws.{sign_seen_in, row_stripe}
 use Rattle.jk_block.specs.Reading.{coded_as}
-use Rattle.jk_block.specs.decoding.Sketches.{progress, lit_in}
+use Rattle.jk_block.specs.decoding.BlockStates.{progress, significant_in}
 use Rattle.jk_block.specs.decoding.Sights.{seen_in}
 use Rattle.jk_block.proofs.decoding.Taking.{decide_ok, decide_err, sign_takes, sign_faults}
 use Rattle.jk_block.proofs.decoding.places.read_sign.Goals as goal
@@ -20,7 +20,7 @@ returns-clause-takes c = λ at d sees coder st.
     let bit = c.in_ok-bit.bit in
     let n = next bytes coder cx in
     let seen = (c.sign_context_at-sign.ensures.value (seen_in d at.stripe) (seen_from d.shape at.stripe d.negative) at.word at.stripe sees.significant sees.negative
-    ∙ sign_seen_in d.shape at.stripe (lit_in d) d.negative (column at.word c.args.k) (row at.stripe c.args.k) (row_stripe at.stripe c.args.k c.requires.on_row)) in
+    ∙ sign_seen_in d.shape at.stripe (significant_in d) d.negative (column at.word c.args.k) (row at.stripe c.args.k) (row_stripe at.stripe c.args.k c.requires.on_row)) in
     record {
       next = n;
       stands = c.in_ok-bit.ensures.next coder st;
@@ -36,5 +36,5 @@ returns-in_err-bit-clause-takes c =
     rw (p.1, p.2) (λ at d sees coder st.
     sign_faults bytes d.shape at.plane (column at.word c.args.k) (row at.stripe c.args.k) (progress d coder) c.sign_context_at-sign.result c.in_err-bit.field-0.0
     (c.sign_context_at-sign.ensures.value (seen_in d at.stripe) (seen_from d.shape at.stripe d.negative) at.word at.stripe sees.significant sees.negative
-    ∙ sign_seen_in d.shape at.stripe (lit_in d) d.negative (column at.word c.args.k) (row at.stripe c.args.k) (row_stripe at.stripe c.args.k c.requires.on_row))
+    ∙ sign_seen_in d.shape at.stripe (significant_in d) d.negative (column at.word c.args.k) (row at.stripe c.args.k) (row_stripe at.stripe c.args.k c.requires.on_row))
     (decide_err bytes cx coder c.in_err-bit.field-0.0 (c.in_err-bit.ensures.answer coder st)))

@@ -4,7 +4,7 @@ use Rattle.jk_math.specs.Steps.{done}
 use Rattle.jk_block.specs.Symbols.{ends_with_symbol}
 use Rattle.jk_block.specs.Steps.{number_of}
 use Rattle.jk_block.specs.Reading.{Progress, symbol_at, closing_at}
-use Rattle.jk_block.specs.decoding.Sketches.{progress}
+use Rattle.jk_block.specs.decoding.BlockStates.{progress}
 use Rattle.jk_block.proofs.decoding.Taking.{takes_through}
 use Rattle.jk_block.proofs.decoding.symbols.end_pass.Goals as goal
 

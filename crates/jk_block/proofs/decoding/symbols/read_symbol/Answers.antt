@@ -3,7 +3,7 @@ use Rattle.std.proofs.lemmas.Result.{err_from_is_err_and}
 use Rattle.jk_math.specs.declared.fault.Fault.{Fault}
 use Rattle.jk_model.specs.Decisions.{State}
 use Rattle.jk_mqdec.specs.Answers.{next}
-use Rattle.jk_block.specs.decoding.Sketches.{progress}
+use Rattle.jk_block.specs.decoding.BlockStates.{progress}
 use Rattle.jk_block.proofs.Closing.{on_first, on_second, on_third, on_fourth, ends_right, ends_wrong}
 use Rattle.jk_block.proofs.decoding.Taking.{decide_ok, decide_err, decide_ok_at, decide_err_at}
 use Rattle.jk_block.proofs.decoding.symbols.read_symbol.Goals as goal

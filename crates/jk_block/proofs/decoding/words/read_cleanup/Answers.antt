@@ -10,28 +10,28 @@ use Rattle.jk_scan.specs.Neighbours.{Field}
 use Rattle.jk_scan.specs.declared.shape.BlockShape.{BlockShape}
 use Rattle.jk_scan.proofs.Laws.{lowest, bit_true, bit_false, on_zero}
 use Rattle.jk_block.specs.Steps.{word_pass}
-use Rattle.jk_block.specs.decoding.Sketches.{Draft, Advanced, draft_of, lit_in}
-use Rattle.jk_block.specs.decoding.Sights.{Sees, new_in, lit_at}
-use Rattle.jk_block.proofs.decoding.Going.{going_fault, going_all}
+use Rattle.jk_block.specs.decoding.BlockStates.{Draft, Advanced, draft_of, significant_in}
+use Rattle.jk_block.specs.decoding.Sights.{Sees, new_in, significant_at}
+use Rattle.jk_block.proofs.decoding.ReadSoFar.{going_fault, going_all}
 use Rattle.jk_block.proofs.decoding.Cleaning.{RunTaken, cleaning_none, cleaning_idle, next_left, next_run, cleaning_zero, cleaning_one, cleaning_run, cleaning_run_one, cleaning_run_fault, cleaning_all, left_fault, sooner_left, sooner_run}
-use Rattle.jk_block.proofs.Sizes.{sketch_fits}
+use Rattle.jk_block.proofs.Sizes.{block_state_fits}
 use Rattle.jk_block.proofs.decoding.words.read_cleanup.Goals as goal
 
 pub returns-then-left-still-eq0-clause-takes : goal.returns-then-left-still-eq0-clause-takes
 returns-then-left-still-eq0-clause-takes g c =
-    let k = c.args.sketch.now in
+    let k = c.args.block_state.now in
     let at = c.args.spot in
     let v = c.args.decoder.now in
-    let around = c.seen_among-significant.ensures (lit_in (draft_of k)) k.lit in
+    let around = c.seen_among-significant.ensures (significant_in (draft_of k)) k.known_significant in
     going_all 2 at (draft_of k) (draft_of k) v v
-    (cleaning_idle at (draft_of k) v c.seen_among-significant.result c.uncoded-left.result c.still_columns-still.result around c.uncoded-left.ensures (c.still_columns-still.ensures (lit_in (draft_of k)) around) (omega arith))
+    (cleaning_idle at (draft_of k) v c.seen_among-significant.result c.uncoded-left.result c.still_columns-still.result around c.uncoded-left.ensures (c.still_columns-still.ensures (significant_in (draft_of k)) around) (omega arith))
 
 pub places-init : goal.places-init
 places-init g c =
-    let k = c.args.sketch.now in
-    let around = c.seen_among-significant.ensures (lit_in (draft_of k)) k.lit in
+    let k = c.args.block_state.now in
+    let around = c.seen_among-significant.ensures (significant_in (draft_of k)) k.known_significant in
     cleaning_none c.args.spot (draft_of k) c.args.decoder.now _ c.uncoded-left.result c.still_columns-still.result
-    record { significant = around; negative = c.seen_among-negative.ensures (draft_of k).negative k.signs } c.uncoded-left.ensures (c.still_columns-still.ensures (lit_in (draft_of k)) around)
+    record { significant = around; negative = c.seen_among-negative.ensures (draft_of k).negative k.signs } c.uncoded-left.ensures (c.still_columns-still.ensures (significant_in (draft_of k)) around)
 
 pub overflow_shr-still : goal.overflow_shr-still
 overflow_shr-still g c =
@@ -54,7 +54,7 @@ no_row a b h = grind (arith, nat_tests)
 pub read_run-requires-clause-within : goal.read_run-requires-clause-within
 read_run-requires-clause-within g c =
     let l = c.places in
-    let k = draft_of c.args.sketch.now in
+    let k = draft_of c.args.block_state.now in
     let at = c.args.spot in
     let v = c.args.decoder.now in
     let z = trailing_zeros w64 (bit_or l.left l.still) in
@@ -64,7 +64,7 @@ read_run-requires-clause-within g c =
 pub read_run-requires-clause-first : goal.read_run-requires-clause-first
 read_run-requires-clause-first g c =
     let l = c.places in
-    let k = draft_of c.args.sketch.now in
+    let k = draft_of c.args.block_state.now in
     let at = c.args.spot in
     let v = c.args.decoder.now in
     let z = trailing_zeros w64 (bit_or l.left l.still) in
@@ -74,7 +74,7 @@ read_run-requires-clause-first g c =
 pub returns-in_err-row-clause-takes : goal.returns-in_err-row-clause-takes
 returns-in_err-row-clause-takes g c =
     let l = c.places in
-    let k = draft_of c.args.sketch.now in
+    let k = draft_of c.args.block_state.now in
     let at = c.args.spot in
     let v = c.args.decoder.now in
     let z = trailing_zeros w64 (bit_or l.left l.still) in
@@ -88,7 +88,7 @@ returns-in_err-row-clause-takes g c =
 pub overflow_shl-left : goal.overflow_shl-left
 overflow_shl-left g c =
     let l = c.places in
-    let k = draft_of c.args.sketch.now in
+    let k = draft_of c.args.block_state.now in
     let at = c.args.spot in
     let v = c.args.decoder.now in
     let z = trailing_zeros w64 (bit_or l.left l.still) in
@@ -100,7 +100,7 @@ overflow_shl-left g c =
 pub quiet_behind-still-requires : goal.quiet_behind-still-requires
 quiet_behind-still-requires g c =
     let l = c.places in
-    let k = draft_of c.args.sketch.now in
+    let k = draft_of c.args.block_state.now in
     let at = c.args.spot in
     let v = c.args.decoder.now in
     let z = trailing_zeros w64 (bit_or l.left l.still) in
@@ -112,7 +112,7 @@ quiet_behind-still-requires g c =
 pub places-smaller-then-row-lt4 : goal.places-smaller-then-row-lt4
 places-smaller-then-row-lt4 g c =
     let l = c.places in
-    let k = draft_of c.args.sketch.now in
+    let k = draft_of c.args.block_state.now in
     let at = c.args.spot in
     let v = c.args.decoder.now in
     let z = trailing_zeros w64 (bit_or l.left l.still) in
@@ -122,7 +122,7 @@ places-smaller-then-row-lt4 g c =
 pub places-smaller-else-row-lt4 : goal.places-smaller-else-row-lt4
 places-smaller-else-row-lt4 g c =
     let l = c.places in
-    let k = draft_of c.args.sketch.now in
+    let k = draft_of c.args.block_state.now in
     let at = c.args.spot in
     let v = c.args.decoder.now in
     let z = trailing_zeros w64 (bit_or l.left l.still) in
@@ -132,7 +132,7 @@ places-smaller-else-row-lt4 g c =
 pub places-preserved-then-row-lt4 : goal.places-preserved-then-row-lt4
 places-preserved-then-row-lt4 g c =
     let l = c.places in
-    let k = draft_of c.args.sketch.now in
+    let k = draft_of c.args.block_state.now in
     let at = c.args.spot in
     let v = c.args.decoder.now in
     let z = trailing_zeros w64 (bit_or l.left l.still) in
@@ -143,14 +143,14 @@ places-preserved-then-row-lt4 g c =
     let new = c.read_run.new.sight in
     let is = is_row f 4 (omega arith) in
     cleaning_run_one at k v l.decoder c.read_run.new.decoder l.sight new l.left l.still c.quiet_behind-still.result f l.invariant (omega arith) low (bit_true l.still z c.if-still-k-eq1.true) (omega arith)
-    (subst (λ (t : Bool). RunTaken at d (cond t (lit_at at (z + f) new d) d) l.decoder c.read_run.new.decoder z f) is (c.in_ok-row.ensures.takes at d next.place next.rows l.invariant.held.sees)) c.in_ok-row.ensures.bytes
-    (subst (λ (t : Bool). Sees at (cond t (lit_at at (z + f) new d) d) new) is (c.in_ok-row.ensures.sees at d next.place next.rows l.invariant.held.sees))
+    (subst (λ (t : Bool). RunTaken at d (cond t (significant_at at (z + f) new d) d) l.decoder c.read_run.new.decoder z f) is (c.in_ok-row.ensures.takes at d next.place next.rows l.invariant.held.sees)) c.in_ok-row.ensures.bytes
+    (subst (λ (t : Bool). Sees at (cond t (significant_at at (z + f) new d) d) new) is (c.in_ok-row.ensures.sees at d next.place next.rows l.invariant.held.sees))
     c.quiet_behind-still.ensures.behind c.quiet_behind-still.ensures.fewer
 
 pub places-preserved-else-row-lt4 : goal.places-preserved-else-row-lt4
 places-preserved-else-row-lt4 g c =
     let l = c.places in
-    let k = draft_of c.args.sketch.now in
+    let k = draft_of c.args.block_state.now in
     let at = c.args.spot in
     let v = c.args.decoder.now in
     let z = trailing_zeros w64 (bit_or l.left l.still) in
@@ -162,13 +162,13 @@ places-preserved-else-row-lt4 g c =
     let few = c.in_ok-row.ensures.few in
     let is = no_row f 4 (omega arith) in
     cleaning_run at k v l.decoder c.read_run.new.decoder l.sight new l.left l.still f l.invariant (omega arith) low (bit_true l.still z c.if-still-k-eq1.true) few
-    (subst (λ (t : Bool). RunTaken at d (cond t (lit_at at (z + f) new d) d) l.decoder c.read_run.new.decoder z f) is (c.in_ok-row.ensures.takes at d next.place next.rows l.invariant.held.sees)) c.in_ok-row.ensures.bytes
-    (subst (λ (t : Bool). Sees at (cond t (lit_at at (z + f) new d) d) new) is (c.in_ok-row.ensures.sees at d next.place next.rows l.invariant.held.sees))
+    (subst (λ (t : Bool). RunTaken at d (cond t (significant_at at (z + f) new d) d) l.decoder c.read_run.new.decoder z f) is (c.in_ok-row.ensures.takes at d next.place next.rows l.invariant.held.sees)) c.in_ok-row.ensures.bytes
+    (subst (λ (t : Bool). Sees at (cond t (significant_at at (z + f) new d) d) new) is (c.in_ok-row.ensures.sees at d next.place next.rows l.invariant.held.sees))
 
 pub read_new-requires-clause-within : goal.read_new-requires-clause-within
 read_new-requires-clause-within g c =
     let l = c.places in
-    let k = draft_of c.args.sketch.now in
+    let k = draft_of c.args.block_state.now in
     let at = c.args.spot in
     let v = c.args.decoder.now in
     let z = trailing_zeros w64 (bit_or l.left l.still) in
@@ -178,7 +178,7 @@ read_new-requires-clause-within g c =
 pub read_new-requires-clause-on_row : goal.read_new-requires-clause-on_row
 read_new-requires-clause-on_row g c =
     let l = c.places in
-    let k = draft_of c.args.sketch.now in
+    let k = draft_of c.args.block_state.now in
     let at = c.args.spot in
     let v = c.args.decoder.now in
     let z = trailing_zeros w64 (bit_or l.left l.still) in
@@ -188,7 +188,7 @@ read_new-requires-clause-on_row g c =
 pub returns-in_err-bit-clause-takes : goal.returns-in_err-bit-clause-takes
 returns-in_err-bit-clause-takes g c =
     let l = c.places in
-    let k = draft_of c.args.sketch.now in
+    let k = draft_of c.args.block_state.now in
     let at = c.args.spot in
     let v = c.args.decoder.now in
     let z = trailing_zeros w64 (bit_or l.left l.still) in
@@ -202,7 +202,7 @@ returns-in_err-bit-clause-takes g c =
 pub overflow_sub-left : goal.overflow_sub-left
 overflow_sub-left g c =
     let l = c.places in
-    let k = draft_of c.args.sketch.now in
+    let k = draft_of c.args.block_state.now in
     let at = c.args.spot in
     let v = c.args.decoder.now in
     let z = trailing_zeros w64 (bit_or l.left l.still) in
@@ -212,7 +212,7 @@ overflow_sub-left g c =
 pub quiet_behind-still-requires-then-bit : goal.quiet_behind-still-requires-then-bit
 quiet_behind-still-requires-then-bit g c =
     let l = c.places in
-    let k = draft_of c.args.sketch.now in
+    let k = draft_of c.args.block_state.now in
     let at = c.args.spot in
     let v = c.args.decoder.now in
     let z = trailing_zeros w64 (bit_or l.left l.still) in
@@ -222,7 +222,7 @@ quiet_behind-still-requires-then-bit g c =
 pub places-smaller-then-bit : goal.places-smaller-then-bit
 places-smaller-then-bit g c =
     let l = c.places in
-    let k = draft_of c.args.sketch.now in
+    let k = draft_of c.args.block_state.now in
     let at = c.args.spot in
     let v = c.args.decoder.now in
     let z = trailing_zeros w64 (bit_or l.left l.still) in
@@ -232,7 +232,7 @@ places-smaller-then-bit g c =
 pub places-smaller : goal.places-smaller
 places-smaller g c =
     let l = c.places in
-    let k = draft_of c.args.sketch.now in
+    let k = draft_of c.args.block_state.now in
     let at = c.args.spot in
     let v = c.args.decoder.now in
     let z = trailing_zeros w64 (bit_or l.left l.still) in
@@ -242,7 +242,7 @@ places-smaller g c =
 pub places-preserved-then-bit : goal.places-preserved-then-bit
 places-preserved-then-bit g c =
     let l = c.places in
-    let k = draft_of c.args.sketch.now in
+    let k = draft_of c.args.block_state.now in
     let at = c.args.spot in
     let v = c.args.decoder.now in
     let z = trailing_zeros w64 (bit_or l.left l.still) in
@@ -259,7 +259,7 @@ places-preserved-then-bit g c =
 pub places-preserved : goal.places-preserved
 places-preserved g c =
     let l = c.places in
-    let k = draft_of c.args.sketch.now in
+    let k = draft_of c.args.block_state.now in
     let at = c.args.spot in
     let v = c.args.decoder.now in
     let z = trailing_zeros w64 (bit_or l.left l.still) in
@@ -275,7 +275,7 @@ places-preserved g c =
 pub returns-clause-shape : goal.returns-clause-shape
 returns-clause-shape g c =
     let l = c.places in
-    ap (λ (d : Draft). d.shape) (c.light_all.ensures.lit l.invariant.draft l.invariant.held) ∙ l.invariant.held.shape
+    ap (λ (d : Draft). d.shape) (c.light_all.ensures.known_significant l.invariant.draft l.invariant.held) ∙ l.invariant.held.shape
 
 with_visited : Draft → Field Bool → Draft
 with_visited d f = record d { visited = f }
@@ -284,14 +284,14 @@ pub returns-clause-takes : goal.returns-clause-takes
 unfolding with_visited
 returns-clause-takes g c = λ coder st.
     let l = c.places in
-    let k = draft_of c.args.sketch.now in
+    let k = draft_of c.args.block_state.now in
     let at = c.args.spot in
     let v = c.args.decoder.now in
     let d = l.invariant.draft in
-    let behind = c.light_all.ensures.lit d l.invariant.held ∙ ap (with_visited d) (sym l.invariant.visited) in
+    let behind = c.light_all.ensures.known_significant d l.invariant.held ∙ ap (with_visited d) (sym l.invariant.visited) in
     subst (λ (n : Draft). Advanced (word_pass v.bytes k.shape at.plane 2 at.word at.stripe) k n l.decoder coder) (sym behind)
     (going_all 2 at k d v l.decoder (cleaning_all at k v l.decoder l.sight l.left l.still l.invariant (omega arith)) coder st)
 
 pub light_all-requires : goal.light_all-requires
 light_all-requires g c =
-    (sketch_fits g.row.N c.args.sketch.now.small, (c.requires.spot, (c.requires.plane, (c.inside-limits.ensures, record { draft = c.places.invariant.draft; held = c.places.invariant.held }))))
+    (block_state_fits g.row.N c.args.block_state.now.small, (c.requires.spot, (c.requires.plane, (c.inside-limits.ensures, record { draft = c.places.invariant.draft; held = c.places.invariant.held }))))

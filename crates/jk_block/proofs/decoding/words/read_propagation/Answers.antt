@@ -9,28 +9,28 @@ use Rattle.jk_scan.specs.Words.{of_rows, bordered, Shows}
 use Rattle.jk_scan.specs.WordPlaces.{column, row}
 use Rattle.jk_scan.proofs.Laws.{sooner_zero, sooner_one}
 use Rattle.jk_block.specs.Fields.{with_word}
-use Rattle.jk_block.specs.Steps.{IsSpot, word_pass}
-use Rattle.jk_block.specs.decoding.Sketches.{Draft, Advanced, draft_of, lit_in, visited_in}
+use Rattle.jk_block.specs.Steps.{IsWordPlace, word_pass}
+use Rattle.jk_block.specs.decoding.BlockStates.{Draft, Advanced, draft_of, significant_in, visited_in}
 use Rattle.jk_block.specs.decoding.Sights.{Sees, Held, IsHeld, new_in, seen_in}
-use Rattle.jk_block.proofs.decoding.Going.{going_fault, going_all}
+use Rattle.jk_block.proofs.decoding.ReadSoFar.{going_fault, going_all}
 use Rattle.jk_block.proofs.decoding.Holding.{sees_visited}
 use Rattle.jk_block.proofs.decoding.Spreading.{Spreading, spreading_none, spreading_idle, spreading_next, spreading_zero, spreading_one, spreading_all, member_fault, held_behind, draft_behind}
-use Rattle.jk_block.proofs.Sizes.{sketch_fits}
+use Rattle.jk_block.proofs.Sizes.{block_state_fits}
 use Rattle.jk_block.proofs.decoding.words.read_propagation.Goals as goal
 
 pub returns-then-candidates-eq0-clause-takes : goal.returns-then-candidates-eq0-clause-takes
 returns-then-candidates-eq0-clause-takes g c =
-    let k = c.args.sketch.now in
+    let k = c.args.block_state.now in
     let at = c.args.spot in
-    let around = c.seen_among-significant.ensures (lit_in (draft_of k)) k.lit in
+    let around = c.seen_among-significant.ensures (significant_in (draft_of k)) k.known_significant in
     going_all 0 at (draft_of k) (draft_of k) c.args.decoder.now c.args.decoder.now
     (spreading_idle at (draft_of k) c.args.decoder.now c.members-candidates.result (c.members-candidates.ensures (bordered (seen_in (draft_of k) at.stripe)) (bordered (is_inside k.shape)) at.word at.stripe around c.inside-limits.ensures) (omega arith))
 
 pub loop-candidates-init : goal.loop-candidates-init
 loop-candidates-init g c =
-    let k = c.args.sketch.now in
+    let k = c.args.block_state.now in
     let at = c.args.spot in
-    let around = c.seen_among-significant.ensures (lit_in (draft_of k)) k.lit in
+    let around = c.seen_among-significant.ensures (significant_in (draft_of k)) k.known_significant in
     spreading_none at (draft_of k) c.args.decoder.now _ c.inside-limits.result c.members-candidates.result
     record { significant = around; negative = c.seen_among-negative.ensures (draft_of k).negative k.signs } c.inside-limits.ensures
     (c.members-candidates.ensures (bordered (seen_in (draft_of k) at.stripe)) (bordered (is_inside k.shape)) at.word at.stripe around c.inside-limits.ensures)
@@ -38,13 +38,13 @@ loop-candidates-init g c =
 pub read_new-requires-clause-on_row : goal.read_new-requires-clause-on_row
 read_new-requires-clause-on_row g c =
     let l = c.loop-candidates in
-    (spreading_next c.args.spot (draft_of c.args.sketch.now) c.args.decoder.now l.decoder l.sight c.inside-limits.result l.candidates l.visited l.invariant (omega arith) (omega arith)).place.on_row
+    (spreading_next c.args.spot (draft_of c.args.block_state.now) c.args.decoder.now l.decoder l.sight c.inside-limits.result l.candidates l.visited l.invariant (omega arith) (omega arith)).place.on_row
 
 pub returns-in_err-bit-clause-takes : goal.returns-in_err-bit-clause-takes
 returns-in_err-bit-clause-takes g c =
     let p = err_from_is_err_and c.from_residual.result c.from_residual.ensures.1 in
     let l = c.loop-candidates in
-    let k = c.args.sketch.now in
+    let k = c.args.block_state.now in
     let at = c.args.spot in
     let z = trailing_zeros w64 l.candidates in
     let x = column at.word z in
@@ -67,7 +67,7 @@ loop-candidates-smaller-then-bit g c =
 pub loop-candidates-preserved : goal.loop-candidates-preserved
 loop-candidates-preserved g c =
     let l = c.loop-candidates in
-    let k = c.args.sketch.now in
+    let k = c.args.block_state.now in
     let at = c.args.spot in
     let z = trailing_zeros w64 l.candidates in
     let x = column at.word z in
@@ -85,7 +85,7 @@ loop-candidates-preserved g c =
 pub loop-candidates-preserved-then-bit : goal.loop-candidates-preserved-then-bit
 loop-candidates-preserved-then-bit g c =
     let l = c.loop-candidates in
-    let k = c.args.sketch.now in
+    let k = c.args.block_state.now in
     let at = c.args.spot in
     let z = trailing_zeros w64 l.candidates in
     let x = column at.word z in
@@ -103,38 +103,38 @@ loop-candidates-preserved-then-bit g c =
 pub returns-clause-shape : goal.returns-clause-shape
 returns-clause-shape g c =
     let l = c.loop-candidates in
-    let k = c.args.sketch.now in
+    let k = c.args.block_state.now in
     let at = c.args.spot in
     let d = l.invariant.draft in
     let held = subst (λ (k : Draft). Held at k l.sight d) (sym c.visit_all.ensures.visited) (held_behind at (draft_of k) d l.sight (with_word (draft_of k).visited at.word at.stripe l.visited) l.invariant.held) in
-    ap (λ (d : Draft). d.shape) (c.light_all.ensures.lit d held) ∙ l.invariant.going.shape
+    ap (λ (d : Draft). d.shape) (c.light_all.ensures.known_significant d held) ∙ l.invariant.going.shape
 
 pub returns-clause-takes : goal.returns-clause-takes
 returns-clause-takes g c = λ coder st.
     let l = c.loop-candidates in
-    let k = c.args.sketch.now in
+    let k = c.args.block_state.now in
     let at = c.args.spot in
     let v = c.args.decoder.now in
     let limits = c.inside-limits.result in
     let d = l.invariant.draft in
     let held = subst (λ (k : Draft). Held at k l.sight d) (sym c.visit_all.ensures.visited) (held_behind at (draft_of k) d l.sight (with_word (draft_of k).visited at.word at.stripe l.visited) l.invariant.held) in
-    let behind = draft_behind at (draft_of k) v l.decoder l.sight limits l.candidates l.visited l.invariant (omega arith) (draft_of c.visit_all.new.self) (draft_of c.light_all.new.self) c.visit_all.ensures.visited (c.light_all.ensures.lit d held) in
+    let behind = draft_behind at (draft_of k) v l.decoder l.sight limits l.candidates l.visited l.invariant (omega arith) (draft_of c.visit_all.new.self) (draft_of c.light_all.new.self) c.visit_all.ensures.visited (c.light_all.ensures.known_significant d held) in
     subst (λ (n : Draft). Advanced (word_pass v.bytes k.shape at.plane 0 at.word at.stripe) (draft_of k) n l.decoder coder) (sym behind)
     (going_all 0 at (draft_of k) d v l.decoder (spreading_all at (draft_of k) v l.decoder l.sight limits l.candidates l.visited l.invariant (omega arith)) coder st)
 
 pub visit_all-requires : goal.visit_all-requires
 visit_all-requires g c =
-    (sketch_fits g.row.N c.args.sketch.now.small, (c.requires.spot, λ m l e. let i = c.loop-candidates.invariant in ap (λ (s : BlockShape). of_rows (m % 8) && is_inside s (column c.args.spot.word m) (row c.args.spot.stripe m)) (sym i.going.shape) ∙ i.marks.inside m l e))
+    (block_state_fits g.row.N c.args.block_state.now.small, (c.requires.spot, λ m l e. let i = c.loop-candidates.invariant in ap (λ (s : BlockShape). of_rows (m % 8) && is_inside s (column c.args.spot.word m) (row c.args.spot.stripe m)) (sym i.going.shape) ∙ i.marks.inside m l e))
 
 pub light_all-requires : goal.light_all-requires
 light_all-requires g c =
     let l = c.loop-candidates in
-    let k = c.args.sketch.now in
+    let k = c.args.block_state.now in
     let at = c.args.spot in
     let same : c.visit_all.new.self.shape ≡ k.shape = ap (λ (d : Draft). d.shape) c.visit_all.ensures.visited in (
-      sketch_fits g.row.N k.small,
+      block_state_fits g.row.N k.small,
       (
-        subst (λ (s : BlockShape). IsSpot s at) (sym same) c.requires.spot,
+        subst (λ (s : BlockShape). IsWordPlace s at) (sym same) c.requires.spot,
         (
           subst (λ n. at.plane < n) (sym c.visit_all.ensures.planes) c.requires.plane,
           (

@@ -9,7 +9,7 @@ use Rattle.jk_scan.specs.Words.{of_rows}
 use Rattle.jk_scan.specs.WordPlaces.{column, row}
 use Rattle.jk_scan.specs.Flags.{word_at}
 use Rattle.jk_scan.proofs.Laws.{on_and, on_or, on_not}
-use Rattle.jk_block.specs.encoding.Viewed.{lit_at, spread_at}
+use Rattle.jk_block.specs.encoding.Viewed.{significant_at, spread_at}
 use Rattle.jk_block.proofs.encoding.words.uncoded.Goals as goal
 use Rattle.jk_block.proofs.WordBits.{limit_bit, drawn_bit}
 
@@ -33,6 +33,6 @@ returns g c = λ t flagged m within.
     on_and limits (bit_not w64 (bit_or sig vis)) m ∙ ap (λ b. on limits m && b) (on_not w64 (bit_or sig vis) m lim within ∙ ap not (on_or sig vis m))
     ∙ ap (λ b. b && not (on sig m || on vis m)) (limit_bit s at.word at.stripe m limits c.requires.limits within)
     ∙ ap (λ p. (of_rows (m % 8) && is_inside s x y) && not (on (get_or c.args.flags.now.significant p 0) m || on (get_or c.args.flags.now.visited p 0) m)) c.word_place-place.ensures.place
-    ∙ ap (λ b. (of_rows (m % 8) && is_inside s x y) && not (b || on (get_or c.args.flags.now.visited (word_at s (at.word + 1) (at.stripe + 1)) 0) m)) (drawn_bit s (lit_at v t) c.args.flags.now.significant at.word at.stripe m flagged.lit c.requires.spot.word c.requires.spot.stripe within)
-    ∙ ap (λ b. (of_rows (m % 8) && is_inside s x y) && not ((of_rows (m % 8) && lit_at v t x y) || b)) (drawn_bit s (spread_at v t) c.args.flags.now.visited at.word at.stripe m flagged.coded c.requires.spot.word c.requires.spot.stripe within)
-    ∙ gate (of_rows (m % 8)) (is_inside s x y) (lit_at v t x y) (spread_at v t x y)
+    ∙ ap (λ b. (of_rows (m % 8) && is_inside s x y) && not (b || on (get_or c.args.flags.now.visited (word_at s (at.word + 1) (at.stripe + 1)) 0) m)) (drawn_bit s (significant_at v t) c.args.flags.now.significant at.word at.stripe m flagged.known_significant c.requires.spot.word c.requires.spot.stripe within)
+    ∙ ap (λ b. (of_rows (m % 8) && is_inside s x y) && not ((of_rows (m % 8) && significant_at v t x y) || b)) (drawn_bit s (spread_at v t) c.args.flags.now.visited at.word at.stripe m flagged.coded c.requires.spot.word c.requires.spot.stripe within)
+    ∙ gate (of_rows (m % 8)) (is_inside s x y) (significant_at v t x y) (spread_at v t x y)

@@ -4,7 +4,7 @@ use Rattle.jk_scan.specs.Bits.{on}
 use Rattle.jk_scan.specs.Passes.{Decided, joined}
 use Rattle.jk_block.specs.encoding.Sheets.{told}
 use Rattle.jk_block.proofs.encoding.Columned.{known_left, column_told, word_told}
-use Rattle.jk_block.specs.encoding.Viewed.{seen, lit_at, negative_in, moment_at, column_if}
+use Rattle.jk_block.specs.encoding.Viewed.{seen, significant_at, negative_in, moment_at, column_if}
 use Rattle.jk_block.proofs.encoding.Behind.{becoming, becoming_row, flagged_left}
 use Rattle.jk_block.proofs.encoding.Coming.{mag, told_all}
 use Rattle.jk_block.proofs.encoding.Emptied.{emptied}
@@ -35,7 +35,7 @@ returns-clause-flagged g c =
     let at = c.args.spot in
     flagged_left v at c.uncoded-left.result c.ones-ones.result c.args.flags.now c.light_all.new.self c.requires.spot.stripe
     (λ m l. c.uncoded-left.ensures (moment_at v.shape 2 at.word at.stripe 0) c.requires.flagged m l ∙ left_codes v.shape (mag v) at.word at.stripe m l) c.ones-ones.ensures
-    c.requires.flagged c.light_all.ensures.lit c.light_all.ensures.visited
+    c.requires.flagged c.light_all.ensures.known_significant c.light_all.ensures.visited
 
 pub light_all-requires : goal.light_all-requires
 light_all-requires g c = (
@@ -72,7 +72,7 @@ returns-clause-listed g c =
     λ m l. c.uncoded-left.ensures t c.requires.flagged m l ∙ left_codes v.shape (mag v) at.word at.stripe m l in
     let known = known_left v at bits signs left ones still
     (prepared v at around (bit_and left ones) bits signs still
-    (turned v at around (bit_and left ones) c.requires.spot.stripe (omega arith) (c.seen_among-around.ensures (lit_at v t) c.requires.flagged.lit) (becoming v 2 at.word at.stripe left ones refl left_is c.ones-ones.ensures))
+    (turned v at around (bit_and left ones) c.requires.spot.stripe (omega arith) (c.seen_among-around.ensures (significant_at v t) c.requires.flagged.known_significant) (becoming v 2 at.word at.stripe left ones refl left_is c.ones-ones.ensures))
     (bits_spelled v at around (bit_or around.centre (bit_and left ones)) ones bits c.ones-ones.ensures c.decision_bytes-told.ensures.bits)
     (signs_spelled v at around c.seen_among-signs.result (bit_or around.centre (bit_and left ones)) signs (c.seen_among-signs.ensures (negative_in v) v.signs) c.decision_bytes-told.ensures.signs) c.run_columns-still.ensures)
     left_is c.ones-ones.ensures in

@@ -8,7 +8,7 @@ use Rattle.jk_scan.specs.Flags.{IsDrawn}
 use Rattle.jk_scan.specs.Passes.{Decided, joined}
 use Rattle.jk_block.specs.encoding.Reached.{is_reached}
 use Rattle.jk_block.specs.encoding.Sheets.{told}
-use Rattle.jk_block.specs.encoding.Viewed.{seen, lit_at, negative_in, moment_at, column_if}
+use Rattle.jk_block.specs.encoding.Viewed.{seen, significant_at, negative_in, moment_at, column_if}
 use Rattle.jk_block.specs.Fields.{with_word}
 use Rattle.jk_block.proofs.encoding.Behind.{flagged_spread}
 use Rattle.jk_block.proofs.encoding.Coming.{told_all}
@@ -24,8 +24,8 @@ pub returns-then-candidates-eq0-clause-flagged : goal.returns-then-candidates-eq
 returns-then-candidates-eq0-clause-flagged g c =
     let v = c.args.block.now in
     let at = c.args.spot in
-    let f = lit_at v (moment_at v.shape 0 at.word at.stripe 0) in
-    let around = c.seen_among-around.ensures f c.requires.flagged.lit in
+    let f = significant_at v (moment_at v.shape 0 at.word at.stripe 0) in
+    let around = c.seen_among-around.ensures f c.requires.flagged.known_significant in
     (propagated_empty v at c.args.list.now c.seen_among-around.result c.members-candidates.result c.requires.spot.stripe around
     (c.members-candidates.ensures (bordered (seen_from v.shape at.stripe f)) (bordered (is_inside v.shape)) at.word at.stripe around c.inside-limits.ensures) c.if-candidates-eq0.true).1
     g.row.N c.args.flags.now c.requires.flagged
@@ -34,8 +34,8 @@ pub returns-then-candidates-eq0-clause-listed : goal.returns-then-candidates-eq0
 returns-then-candidates-eq0-clause-listed g c =
     let v = c.args.block.now in
     let at = c.args.spot in
-    let f = lit_at v (moment_at v.shape 0 at.word at.stripe 0) in
-    let around = c.seen_among-around.ensures f c.requires.flagged.lit in
+    let f = significant_at v (moment_at v.shape 0 at.word at.stripe 0) in
+    let around = c.seen_among-around.ensures f c.requires.flagged.known_significant in
     told_all v 0 at c.args.list.now c.args.list.now
     (propagated_empty v at c.args.list.now c.seen_among-around.result c.members-candidates.result c.requires.spot.stripe around
     (c.members-candidates.ensures (bordered (seen_from v.shape at.stripe f)) (bordered (is_inside v.shape)) at.word at.stripe around c.inside-limits.ensures) c.if-candidates-eq0.true).0
@@ -51,8 +51,8 @@ visit_all-requires g c = (
         c.requires.spot,
         let v = c.args.block.now in
             let at = c.args.spot in
-            let f = lit_at v (moment_at v.shape 0 at.word at.stripe 0) in
-            let around = c.seen_among-around.ensures f c.requires.flagged.lit in
+            let f = significant_at v (moment_at v.shape 0 at.word at.stripe 0) in
+            let around = c.seen_among-around.ensures f c.requires.flagged.known_significant in
             let all = c.with_reached-all.result in
             let ones = c.ones-ones.result in
             all_rows (is_member (bordered (is_inside v.shape)) (bordered (seen_from v.shape at.stripe f))) (bordered (is_inside v.shape)) (at.word + 1) (at.stripe + 1) c.inside-limits.result (bit_not w64 c.seen_among-around.result.centre) c.members-candidates.result all
@@ -74,8 +74,8 @@ light_all-requires g c = (
         c.requires.spot,
         let v = c.args.block.now in
             let at = c.args.spot in
-            let f = lit_at v (moment_at v.shape 0 at.word at.stripe 0) in
-            let around = c.seen_among-around.ensures f c.requires.flagged.lit in
+            let f = significant_at v (moment_at v.shape 0 at.word at.stripe 0) in
+            let around = c.seen_among-around.ensures f c.requires.flagged.known_significant in
             let all = c.with_reached-all.result in
             let ones = c.ones-ones.result in
             some_rows all ones
@@ -91,8 +91,8 @@ pub returns-clause-flagged : goal.returns-clause-flagged
 returns-clause-flagged g c =
     let v = c.args.block.now in
     let at = c.args.spot in
-    let f = lit_at v (moment_at v.shape 0 at.word at.stripe 0) in
-    let around = c.seen_among-around.ensures f c.requires.flagged.lit in
+    let f = significant_at v (moment_at v.shape 0 at.word at.stripe 0) in
+    let around = c.seen_among-around.ensures f c.requires.flagged.known_significant in
     let all = c.with_reached-all.result in
     let ones = c.ones-ones.result in
     let inside = c.inside-limits.result in
@@ -103,15 +103,15 @@ returns-clause-flagged g c =
     (c.members-candidates.ensures (bordered (seen_from v.shape at.stripe f)) (bordered (is_inside v.shape)) at.word at.stripe around c.inside-limits.ensures)
     c.with_reached-all.ensures c.inside-limits.ensures c.ones-ones.ensures c.decision_bytes-told.ensures.bits (c.seen_among-signs.ensures (negative_in v) v.signs) c.decision_bytes-told.ensures.signs in
     flagged_spread v at all ones c.args.flags.now c.light_all.new.self c.requires.spot.stripe known.members_are c.ones-ones.ensures c.requires.flagged
-    (λ f drawn. c.light_all.ensures.lit f (subst (λ ws. IsDrawn v.shape f ws) (sym c.visit_all.ensures.significant) drawn))
+    (λ f drawn. c.light_all.ensures.known_significant f (subst (λ ws. IsDrawn v.shape f ws) (sym c.visit_all.ensures.significant) drawn))
     (λ f drawn. subst (λ ws. IsDrawn v.shape (with_word f at.word at.stripe all) ws) (sym c.light_all.ensures.visited) (c.visit_all.ensures.visited f drawn))
 
 pub returns-clause-listed : goal.returns-clause-listed
 returns-clause-listed g c =
     let v = c.args.block.now in
     let at = c.args.spot in
-    let f = lit_at v (moment_at v.shape 0 at.word at.stripe 0) in
-    let around = c.seen_among-around.ensures f c.requires.flagged.lit in
+    let f = significant_at v (moment_at v.shape 0 at.word at.stripe 0) in
+    let around = c.seen_among-around.ensures f c.requires.flagged.known_significant in
     let all = c.with_reached-all.result in
     let ones = c.ones-ones.result in
     let inside = c.inside-limits.result in

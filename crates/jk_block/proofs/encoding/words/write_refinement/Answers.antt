@@ -3,7 +3,7 @@ use Rattle.jk_scan.specs.Neighbours.{seen_from}
 use Rattle.jk_scan.specs.Passes.{Decided, joined}
 use Rattle.jk_scan.specs.Words.{bordered}
 use Rattle.jk_block.specs.encoding.Sheets.{told}
-use Rattle.jk_block.specs.encoding.Viewed.{seen, lit_at, moment_at, column_if}
+use Rattle.jk_block.specs.encoding.Viewed.{seen, significant_at, moment_at, column_if}
 use Rattle.jk_block.proofs.encoding.Coming.{told_all}
 use Rattle.jk_block.proofs.encoding.Columned.{word_told}
 use Rattle.jk_block.proofs.encoding.Older.{known_older, older_told}
@@ -31,8 +31,8 @@ returns-clause-listed g c =
     let v = c.args.block.now in
     let at = c.args.spot in
     let t = moment_at v.shape 1 at.word at.stripe 0 in
-    let f = lit_at v t in
-    let around = c.seen_among-around.ensures f c.requires.flagged.lit in
+    let f = significant_at v t in
+    let around = c.seen_among-around.ensures f c.requires.flagged.known_significant in
     let word = c.requires.spot.word in
     let old = c.args.list.now in
     let members = c.older-candidates.result in

@@ -1,5 +1,5 @@
 use Rattle.std.proofs.Common.{◌+◌, ◌-◌, ◌^◌, arith}
-use Rattle.jk_lanes.proofs.Laws.{adds_fit, subs_fit, lane_is, vector_long, vector_below}
+use Rattle.jk_math.proofs.Laws.{adds_fit, subs_fit, lane_is, vector_long, vector_below}
 use Rattle.jk_lift.proofs.EightSteps.{number_lanes, before_lanes, after_lanes, sum_lanes, quarter_lanes, twos, even_sample_lanes}
 use Rattle.jk_lift.proofs.rows.EvenSampleStep.lifted_eight.Goals as goal
 

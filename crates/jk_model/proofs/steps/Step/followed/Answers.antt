@@ -2,7 +2,7 @@ use Rattle.std.proofs.Common.{◌≡◌, ◌∙◌, ap, sym, subst, ◌+◌, ◌
 use Rattle.std.specs.Prelude.{◌==◌}
 use Rattle.std.proofs.lemmas.Nat.{and_mask}
 use Rattle.jk_model.specs.Contexts.{Context, moved}
-use Rattle.jk_model.specs.Steps.{steps, entry_of, context_of, IsEntry}
+use Rattle.jk_model.specs.Steps.{steps, context_number, context_of, IsEntry}
 use Rattle.jk_model.proofs.StepLaws.{followed_is, followed_end, follow_sound, entry_sound, context_back}
 use Rattle.jk_model.proofs.steps.Step.followed.Goals as goal
 use Rattle.jk_model.proofs.steps.Step.followed.Goals.{After-entry_at}
@@ -16,7 +16,7 @@ entry_at-requires c =
     omega (arith, row, end, a)
 
 -- the entry that is read
-entry : (c : After-entry_at) → c.entry_at.result ≡ entry_of (cond (c.args.wide == 0) (moved (context_of c.self.inside.entry) (cond c.args.less (not (context_of c.self.inside.entry).mps) (context_of c.self.inside.entry).mps)) (context_of c.self.inside.entry))
+entry : (c : After-entry_at) → c.entry_at.result ≡ context_number (cond (c.args.wide == 0) (moved (context_of c.self.inside.entry) (cond c.args.less (not (context_of c.self.inside.entry).mps) (context_of c.self.inside.entry).mps)) (context_of c.self.inside.entry))
 entry c =
     let e = c.self.inside.entry in
     c.entry_at.ensures

@@ -8,7 +8,7 @@ use Rattle.jk_model.specs.Decisions.{renormalised}
 use Rattle.jk_mqdec.specs.declared.wide.WideRegisters.{WideRegisters}
 use Rattle.jk_mqdec.specs.Registers.{IsOutside}
 use Rattle.jk_mqdec.specs.Wide.{HoldsWide, IsReadyWide}
-use Rattle.jk_mqdec.specs.Standing.{View, HasFailed}
+use Rattle.jk_mqdec.specs.Standing.{DecoderView, HasFailed}
 use Rattle.jk_mqdec.proofs.Deciding.{Decides, Settles, decides-failed, decides-settled, divides}
 use Rattle.jk_mqdec.proofs.Reaching.{reached-more, only-one}
 use Rattle.jk_mqdec.proofs.decoder.Decoder.decode.Goals as goal
@@ -18,8 +18,8 @@ use Rattle.jk_mqdec.proofs.decoder.Decoder.decode.Goals.{In-None, After-mps}
 pub returns-then-now : goal.returns-then-now
 returns-then-now c =
     let old = c.args.self.now in
-    let code = ap (λ (v : View). v.registers.code) c.self.view_is in
-    let width = ap (λ (v : View). v.registers.width) c.self.view_is in
+    let code = ap (λ (v : DecoderView). v.registers.code) c.self.view_is in
+    let width = ap (λ (v : DecoderView). v.registers.width) c.self.view_is in
     let left : HasFailed old = omega arith in
     let d = decides-failed old c.args.cx left in
     record {
@@ -43,13 +43,13 @@ some c =
     let less = c.divided-subinterval.result.less in
     let q = c.scaled.result in
     let context = get_or s.contexts c.args.cx c.index-contexts-cx.result in
-    let bytes : s.bytes.now ≡ old.bytes = ap (λ (v : View). v.bytes) c.self.view_is in
-    let registers : s.registers ≡ old.registers = ap (λ (v : View). v.registers) c.self.view_is in
+    let bytes : s.bytes.now ≡ old.bytes = ap (λ (v : DecoderView). v.bytes) c.self.view_is in
+    let registers : s.registers ≡ old.registers = ap (λ (v : DecoderView). v.registers) c.self.view_is in
     let here : c.args.cx < length s.contexts = omega arith in
     let contexts : set s.contexts c.args.cx c.after.result ≡ set old.contexts c.args.cx (cond (ltb subinterval.width (2 ^ 63)) (moved context (cond less (not context.mps) context.mps)) context) =
     ap (λ (x : Context). set s.contexts c.args.cx x) (c.after.ensures ∙ ap (λ (t : Bool). cond t (moved context (cond less (not context.mps) context.mps)) context) c.is_narrow.ensures)
-    ∙ ap (λ (v : View). set v.contexts c.args.cx (cond (ltb subinterval.width (2 ^ 63)) (moved context (cond less (not context.mps) context.mps)) context)) c.self.view_is in
-    let new : View = record { bytes = s.bytes.now; registers = c.in-Some.registers; contexts = set s.contexts c.args.cx c.after.result } in
+    ∙ ap (λ (v : DecoderView). set v.contexts c.args.cx (cond (ltb subinterval.width (2 ^ 63)) (moved context (cond less (not context.mps) context.mps)) context)) c.self.view_is in
+    let new : DecoderView = record { bytes = s.bytes.now; registers = c.in-Some.registers; contexts = set s.contexts c.args.cx c.after.result } in
     let result : Result Bool Fault = Ok (not (beq c.mps.result less)) in
     let settles : Settles old new subinterval c.args.cx context less result = record {
       bytes = bytes;
@@ -62,7 +62,7 @@ some c =
     } in
     let divide = divides old subinterval c.args.cx context q less
     (subst (λ (r : WideRegisters). r.code < r.width) registers c.if-now.false)
-    (get_or_default s.contexts c.args.cx c.index-contexts-cx.result (begins 0) here ∙ ap (λ (v : View). get_or v.contexts c.args.cx (begins 0)) c.self.view_is)
+    (get_or_default s.contexts c.args.cx c.index-contexts-cx.result (begins 0) here ∙ ap (λ (v : DecoderView). get_or v.contexts c.args.cx (begins 0)) c.self.view_is)
     (c.scaled.ensures ∙ ap (λ k. k * 2 ^ 48) c.size.ensures.value)
     (subst (λ (r : WideRegisters). r.code < q → subinterval ≡ record r { width = q }) registers c.divided-subinterval.ensures.lower)
     (subst (λ (r : WideRegisters). q ≤ r.code → subinterval ≡ record r { code = r.code - q; width = r.width - q }) registers c.divided-subinterval.ensures.upper)
@@ -79,13 +79,13 @@ none c =
     let less = c.divided-subinterval.result.less in
     let q = c.scaled.result in
     let context = get_or s.contexts c.args.cx c.index-contexts-cx.result in
-    let bytes : s.bytes.now ≡ old.bytes = ap (λ (v : View). v.bytes) c.self.view_is in
-    let registers : s.registers ≡ old.registers = ap (λ (v : View). v.registers) c.self.view_is in
+    let bytes : s.bytes.now ≡ old.bytes = ap (λ (v : DecoderView). v.bytes) c.self.view_is in
+    let registers : s.registers ≡ old.registers = ap (λ (v : DecoderView). v.registers) c.self.view_is in
     let here : c.args.cx < length s.contexts = omega arith in
     let contexts : set s.contexts c.args.cx c.after.result ≡ set old.contexts c.args.cx (cond (ltb subinterval.width (2 ^ 63)) (moved context (cond less (not context.mps) context.mps)) context) =
     ap (λ (x : Context). set s.contexts c.args.cx x) (c.after.ensures ∙ ap (λ (t : Bool). cond t (moved context (cond less (not context.mps) context.mps)) context) c.is_narrow.ensures)
-    ∙ ap (λ (v : View). set v.contexts c.args.cx (cond (ltb subinterval.width (2 ^ 63)) (moved context (cond less (not context.mps) context.mps)) context)) c.self.view_is in
-    let new : View = record { bytes = s.bytes.now; registers = record subinterval { width = 0 }; contexts = set s.contexts c.args.cx c.after.result } in
+    ∙ ap (λ (v : DecoderView). set v.contexts c.args.cx (cond (ltb subinterval.width (2 ^ 63)) (moved context (cond less (not context.mps) context.mps)) context)) c.self.view_is in
+    let new : DecoderView = record { bytes = s.bytes.now; registers = record subinterval { width = 0 }; contexts = set s.contexts c.args.cx c.after.result } in
     let result : Result Bool Fault = Err CodeOutOfInterval in
     let settles : Settles old new subinterval c.args.cx context less result = record {
       bytes = bytes;
@@ -98,7 +98,7 @@ none c =
     } in
     let divide = divides old subinterval c.args.cx context q less
     (subst (λ (r : WideRegisters). r.code < r.width) registers c.if-now.false)
-    (get_or_default s.contexts c.args.cx c.index-contexts-cx.result (begins 0) here ∙ ap (λ (v : View). get_or v.contexts c.args.cx (begins 0)) c.self.view_is)
+    (get_or_default s.contexts c.args.cx c.index-contexts-cx.result (begins 0) here ∙ ap (λ (v : DecoderView). get_or v.contexts c.args.cx (begins 0)) c.self.view_is)
     (c.scaled.ensures ∙ ap (λ k. k * 2 ^ 48) c.size.ensures.value)
     (subst (λ (r : WideRegisters). r.code < q → subinterval ≡ record r { width = q }) registers c.divided-subinterval.ensures.lower)
     (subst (λ (r : WideRegisters). q ≤ r.code → subinterval ≡ record r { code = r.code - q; width = r.width - q }) registers c.divided-subinterval.ensures.upper)
@@ -112,7 +112,7 @@ pub returns-in-Some-clause-next : goal.returns-in-Some-clause-next
 returns-in-Some-clause-next c = (some c.before).goes_on
 
 pub returns-in-Some-clause-reached : goal.returns-in-Some-clause-reached
-returns-in-Some-clause-reached c = reached-more c.args.self.now _ c.args.cx _ (ap (λ (v : View). v.bytes) c.self.view_is) (some c.before)
+returns-in-Some-clause-reached c = reached-more c.args.self.now _ c.args.cx _ (ap (λ (v : DecoderView). v.bytes) c.self.view_is) (some c.before)
 
 pub returns-in-Some-clause-only : goal.returns-in-Some-clause-only
 returns-in-Some-clause-only c = only-one c.args.self.now _ c.args.cx _ (some c.before)

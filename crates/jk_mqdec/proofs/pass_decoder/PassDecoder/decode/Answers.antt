@@ -12,7 +12,7 @@ use Rattle.jk_mqdec.specs.declared.wide.WideRegisters.{WideRegisters}
 use Rattle.jk_mqdec.specs.Registers.{IsOutside}
 use Rattle.jk_mqdec.specs.Wide.{HoldsWide, IsReadyWide}
 use Rattle.jk_mqdec.specs.Deferred.{doubled_wide, caught_up}
-use Rattle.jk_mqdec.specs.Standing.{View}
+use Rattle.jk_mqdec.specs.Standing.{DecoderView}
 use Rattle.jk_mqdec.proofs.Shifts.{shift_less}
 use Rattle.jk_mqdec.proofs.Deciding.{Decides, Settles, decides-settled, divides, is-outside, answer-failed}
 use Rattle.jk_mqdec.proofs.Staying.{whole-inside, subinterval-inside}
@@ -98,16 +98,16 @@ returns-then-registers-self c =
     let less = c.divided-less.result.less in
     let context = get_or s.contexts.now c.args.cx c.index-contexts-cx.result in
     let i = behind s.bytes.now s.registers (omega arith) c.self.invariant.bounds in
-    let bytes : s.bytes.now ≡ old.bytes = ap (λ (v : View). v.bytes) c.self.view_is in
-    let registers : doubled_wide n r ≡ old.registers = ap (λ (v : View). v.registers) c.self.view_is in
+    let bytes : s.bytes.now ≡ old.bytes = ap (λ (v : DecoderView). v.bytes) c.self.view_is in
+    let registers : doubled_wide n r ≡ old.registers = ap (λ (v : DecoderView). v.registers) c.self.view_is in
     let here : c.args.cx < length s.contexts.now = omega arith in
     let top_is : c.highest_bit-top.result ≡ 63 - n = (let place = c.highest_bit-top.ensures in omega (arith, place)) in
     let before_is : 63 - c.highest_bit-top.result ≡ n = (let place = c.highest_bit-top.ensures in omega (arith, place)) in
     let moves : eqb (subinterval.width / 2 ^ c.highest_bit-top.result) 0 ≡ ltb (subinterval.width * 2 ^ n) (2 ^ 63) = ap (λ t. eqb (subinterval.width / 2 ^ t) 0) top_is ∙ digit-doubled subinterval.width n i.rise.few in
     let contexts : set s.contexts.now c.args.cx c.followed.result ≡ set old.contexts c.args.cx (cond (ltb (subinterval.width * 2 ^ n) (2 ^ 63)) (moved context (cond less (not context.mps) context.mps)) context) =
     ap (λ (x : Context). set s.contexts.now c.args.cx x) (c.followed.ensures ∙ ap (λ (t : Bool). cond t (moved context (cond less (not context.mps) context.mps)) context) moves)
-    ∙ ap (λ (v : View). set v.contexts c.args.cx (cond (ltb (subinterval.width * 2 ^ n) (2 ^ 63)) (moved context (cond less (not context.mps) context.mps)) context)) c.self.view_is in
-    let new : View = record { bytes = s.bytes.now; registers = caught_up (record c.self.inside.registers.registers { code = c.divided-less.result.registers.code; width = c.divided-less.result.registers.width }); contexts = set s.contexts.now c.args.cx c.followed.result } in
+    ∙ ap (λ (v : DecoderView). set v.contexts c.args.cx (cond (ltb (subinterval.width * 2 ^ n) (2 ^ 63)) (moved context (cond less (not context.mps) context.mps)) context)) c.self.view_is in
+    let new : DecoderView = record { bytes = s.bytes.now; registers = caught_up (record c.self.inside.registers.registers { code = c.divided-less.result.registers.code; width = c.divided-less.result.registers.width }); contexts = set s.contexts.now c.args.cx c.followed.result } in
     let result : Result Bool Fault = Ok (not (beq c.mps.result less)) in
     let low = lower-doubled n q r subinterval c.divided-less.ensures.lower in
     let high = upper-doubled n q r subinterval c.divided-less.ensures.upper in
@@ -133,7 +133,7 @@ returns-then-registers-self c =
     } in
     let divide = divides old (doubled_wide n subinterval) c.args.cx context (q * 2 ^ n) less
     inside
-    (get_or_default s.contexts.now c.args.cx c.index-contexts-cx.result (begins 0) here ∙ ap (λ (v : View). get_or v.contexts c.args.cx (begins 0)) c.self.view_is)
+    (get_or_default s.contexts.now c.args.cx c.index-contexts-cx.result (begins 0) here ∙ ap (λ (v : DecoderView). get_or v.contexts c.args.cx (begins 0)) c.self.view_is)
     (ap (λ k. k * 2 ^ n) (c.scaled.ensures.value ∙ ap (λ t. (row_of context.state).qe * 2 ^ (t - 15)) top_is) ∙ size-doubled (row_of context.state).qe n i.small)
     (subst (λ (x : WideRegisters). x.code < q * 2 ^ n → doubled_wide n subinterval ≡ record x { width = q * 2 ^ n }) registers low)
     (subst (λ (x : WideRegisters). q * 2 ^ n ≤ x.code → doubled_wide n subinterval ≡ record x { code = x.code - q * 2 ^ n; width = x.width - q * 2 ^ n }) registers high)
@@ -141,7 +141,7 @@ returns-then-registers-self c =
     (decides-settled old new (doubled_wide n subinterval) c.args.cx context less result settles divide, inside) in
     let inside = d.1 in
     record {
-      bytes = ap (λ (v : View). v.bytes) c.self.view_is;
+      bytes = ap (λ (v : DecoderView). v.bytes) c.self.view_is;
       answer = d.0.answers;
       next = d.0.goes_on;
       failed = tt;
@@ -161,16 +161,16 @@ returns-in-Some c =
     let less = c.divided-less.result.less in
     let context = get_or s.contexts.now c.args.cx c.index-contexts-cx.result in
     let i = behind s.bytes.now s.registers (omega arith) c.self.invariant.bounds in
-    let bytes : s.bytes.now ≡ old.bytes = ap (λ (v : View). v.bytes) c.self.view_is in
-    let registers : doubled_wide n r ≡ old.registers = ap (λ (v : View). v.registers) c.self.view_is in
+    let bytes : s.bytes.now ≡ old.bytes = ap (λ (v : DecoderView). v.bytes) c.self.view_is in
+    let registers : doubled_wide n r ≡ old.registers = ap (λ (v : DecoderView). v.registers) c.self.view_is in
     let here : c.args.cx < length s.contexts.now = omega arith in
     let top_is : c.highest_bit-top.result ≡ 63 - n = (let place = c.highest_bit-top.ensures in omega (arith, place)) in
     let before_is : 63 - c.highest_bit-top.result ≡ n = (let place = c.highest_bit-top.ensures in omega (arith, place)) in
     let moves : eqb (subinterval.width / 2 ^ c.highest_bit-top.result) 0 ≡ ltb (subinterval.width * 2 ^ n) (2 ^ 63) = ap (λ t. eqb (subinterval.width / 2 ^ t) 0) top_is ∙ digit-doubled subinterval.width n i.rise.few in
     let contexts : set s.contexts.now c.args.cx c.followed.result ≡ set old.contexts c.args.cx (cond (ltb (subinterval.width * 2 ^ n) (2 ^ 63)) (moved context (cond less (not context.mps) context.mps)) context) =
     ap (λ (x : Context). set s.contexts.now c.args.cx x) (c.followed.ensures ∙ ap (λ (t : Bool). cond t (moved context (cond less (not context.mps) context.mps)) context) moves)
-    ∙ ap (λ (v : View). set v.contexts c.args.cx (cond (ltb (subinterval.width * 2 ^ n) (2 ^ 63)) (moved context (cond less (not context.mps) context.mps)) context)) c.self.view_is in
-    let new : View = record { bytes = s.bytes.now; registers = caught_up c.in-Some.registers.registers; contexts = set s.contexts.now c.args.cx c.followed.result } in
+    ∙ ap (λ (v : DecoderView). set v.contexts c.args.cx (cond (ltb (subinterval.width * 2 ^ n) (2 ^ 63)) (moved context (cond less (not context.mps) context.mps)) context)) c.self.view_is in
+    let new : DecoderView = record { bytes = s.bytes.now; registers = caught_up c.in-Some.registers.registers; contexts = set s.contexts.now c.args.cx c.followed.result } in
     let result : Result Bool Fault = Ok (not (beq c.mps.result less)) in
     let low = lower-doubled n q r subinterval c.divided-less.ensures.lower in
     let high = upper-doubled n q r subinterval c.divided-less.ensures.upper in
@@ -187,7 +187,7 @@ returns-in-Some c =
     } in
     let divide = divides old (doubled_wide n subinterval) c.args.cx context (q * 2 ^ n) less
     inside
-    (get_or_default s.contexts.now c.args.cx c.index-contexts-cx.result (begins 0) here ∙ ap (λ (v : View). get_or v.contexts c.args.cx (begins 0)) c.self.view_is)
+    (get_or_default s.contexts.now c.args.cx c.index-contexts-cx.result (begins 0) here ∙ ap (λ (v : DecoderView). get_or v.contexts c.args.cx (begins 0)) c.self.view_is)
     (ap (λ k. k * 2 ^ n) (c.scaled.ensures.value ∙ ap (λ t. (row_of context.state).qe * 2 ^ (t - 15)) top_is) ∙ size-doubled (row_of context.state).qe n i.small)
     (subst (λ (x : WideRegisters). x.code < q * 2 ^ n → doubled_wide n subinterval ≡ record x { width = q * 2 ^ n }) registers low)
     (subst (λ (x : WideRegisters). q * 2 ^ n ≤ x.code → doubled_wide n subinterval ≡ record x { code = x.code - q * 2 ^ n; width = x.width - q * 2 ^ n }) registers high)
@@ -195,7 +195,7 @@ returns-in-Some c =
     (decides-settled old new (doubled_wide n subinterval) c.args.cx context less result settles divide, inside) in
     let inside = d.1 in
     record {
-      bytes = ap (λ (v : View). v.bytes) c.self.view_is;
+      bytes = ap (λ (v : DecoderView). v.bytes) c.self.view_is;
       answer = d.0.answers;
       next = d.0.goes_on;
       failed = tt;
@@ -223,16 +223,16 @@ returns-in-None-clause-answer c s st =
         let less = c.divided-less.result.less in
         let context = get_or s.contexts.now c.args.cx c.index-contexts-cx.result in
         let i = behind s.bytes.now s.registers (omega arith) c.self.invariant.bounds in
-        let bytes : s.bytes.now ≡ old.bytes = ap (λ (v : View). v.bytes) c.self.view_is in
-        let registers : doubled_wide n r ≡ old.registers = ap (λ (v : View). v.registers) c.self.view_is in
+        let bytes : s.bytes.now ≡ old.bytes = ap (λ (v : DecoderView). v.bytes) c.self.view_is in
+        let registers : doubled_wide n r ≡ old.registers = ap (λ (v : DecoderView). v.registers) c.self.view_is in
         let here : c.args.cx < length s.contexts.now = omega arith in
         let top_is : c.highest_bit-top.result ≡ 63 - n = (let place = c.highest_bit-top.ensures in omega (arith, place)) in
         let before_is : 63 - c.highest_bit-top.result ≡ n = (let place = c.highest_bit-top.ensures in omega (arith, place)) in
         let moves : eqb (subinterval.width / 2 ^ c.highest_bit-top.result) 0 ≡ ltb (subinterval.width * 2 ^ n) (2 ^ 63) = ap (λ t. eqb (subinterval.width / 2 ^ t) 0) top_is ∙ digit-doubled subinterval.width n i.rise.few in
         let contexts : set s.contexts.now c.args.cx c.followed.result ≡ set old.contexts c.args.cx (cond (ltb (subinterval.width * 2 ^ n) (2 ^ 63)) (moved context (cond less (not context.mps) context.mps)) context) =
         ap (λ (x : Context). set s.contexts.now c.args.cx x) (c.followed.ensures ∙ ap (λ (t : Bool). cond t (moved context (cond less (not context.mps) context.mps)) context) moves)
-        ∙ ap (λ (v : View). set v.contexts c.args.cx (cond (ltb (subinterval.width * 2 ^ n) (2 ^ 63)) (moved context (cond less (not context.mps) context.mps)) context)) c.self.view_is in
-        let new : View = record { bytes = s.bytes.now; registers = record (doubled_wide 0 subinterval) { width = 0 }; contexts = set s.contexts.now c.args.cx c.followed.result } in
+        ∙ ap (λ (v : DecoderView). set v.contexts c.args.cx (cond (ltb (subinterval.width * 2 ^ n) (2 ^ 63)) (moved context (cond less (not context.mps) context.mps)) context)) c.self.view_is in
+        let new : DecoderView = record { bytes = s.bytes.now; registers = record (doubled_wide 0 subinterval) { width = 0 }; contexts = set s.contexts.now c.args.cx c.followed.result } in
         let result : Result Bool Fault = Err CodeOutOfInterval in
         let low = lower-doubled n q r subinterval c.divided-less.ensures.lower in
         let high = upper-doubled n q r subinterval c.divided-less.ensures.upper in
@@ -249,7 +249,7 @@ returns-in-None-clause-answer c s st =
         } in
         let divide = divides old (doubled_wide n subinterval) c.args.cx context (q * 2 ^ n) less
         inside
-        (get_or_default s.contexts.now c.args.cx c.index-contexts-cx.result (begins 0) here ∙ ap (λ (v : View). get_or v.contexts c.args.cx (begins 0)) c.self.view_is)
+        (get_or_default s.contexts.now c.args.cx c.index-contexts-cx.result (begins 0) here ∙ ap (λ (v : DecoderView). get_or v.contexts c.args.cx (begins 0)) c.self.view_is)
         (ap (λ k. k * 2 ^ n) (c.scaled.ensures.value ∙ ap (λ t. (row_of context.state).qe * 2 ^ (t - 15)) top_is) ∙ size-doubled (row_of context.state).qe n i.small)
         (subst (λ (x : WideRegisters). x.code < q * 2 ^ n → doubled_wide n subinterval ≡ record x { width = q * 2 ^ n }) registers low)
         (subst (λ (x : WideRegisters). q * 2 ^ n ≤ x.code → doubled_wide n subinterval ≡ record x { code = x.code - q * 2 ^ n; width = x.width - q * 2 ^ n }) registers high)

@@ -2,7 +2,7 @@ use Rattle.std.proofs.Common.{false, ◌∷◌, [], ◌++◌, ◌≡◌, ◌∙�
 use Rattle.jk_math.specs.declared.fault.Refused.{Refused}
 use Rattle.jk_mqenc.specs.declared.registers.Registers.{Registers}
 use Rattle.jk_mqenc.specs.Machine.{Machine}
-use Rattle.jk_mqenc.specs.Encoded.{View, CodesFrom, Codes, with_registers, lasting}
+use Rattle.jk_mqenc.specs.Encoded.{EncoderView, CodesFrom, Codes, with_registers, lasting}
 use Rattle.jk_mqenc.proofs.Holdings.{held-bound}
 use Rattle.jk_mqenc.proofs.Encoding.{held-of, codes-as, pass-more}
 use Rattle.jk_mqenc.proofs.Settling.{IsReady, ready-coded}
@@ -26,8 +26,8 @@ caught_up-requires c =
 pub returns-in-Ok-clause-codes : goal.returns-in-Ok-clause-codes
 returns-in-Ok-clause-codes c = λ r before ds codes.
     let s = c.self.inside in
-    let old : View = record { machine = s.coder; contexts = s.contexts; failed = is_some s.refused } in
-    let new : View = record { machine = c.restore.new.self; contexts = c.encode_one.new.contexts; failed = is_some s.refused } in
+    let old : EncoderView = record { machine = s.coder; contexts = s.contexts; failed = is_some s.refused } in
+    let new : EncoderView = record { machine = c.restore.new.self; contexts = c.encode_one.new.contexts; failed = is_some s.refused } in
     let lasts : is_some s.refused ≡ false = ap (λ (x : Option Refused). is_some x) c.in_default.is in
     let same : with_registers s.coder c.new-registers.result ≡ s.coder = ap (λ (r : Registers). with_registers s.coder r) c.new-registers.ensures ∙ c.registers.ensures in
     let back : c.restore.new.self ≡ with_registers c.encode_one.new.coder c.in-Ok.registers =
@@ -35,4 +35,4 @@ returns-in-Ok-clause-codes c = λ r before ds codes.
     pass-more old new r before ds _ (λ m at xs from.
     codes-as m at (lasting (with_registers c.encode_one.new.coder c.in-Ok.registers) c.encode_one.new.contexts) new _ back refl lasts
     (c.in-Ok.ensures.codes m at xs (codes-as m at old (lasting (with_registers s.coder c.new-registers.result) s.contexts) xs same refl refl from)))
-    (subst (λ (v : View). Codes v r (before ++ ds ∷ [])) (sym c.self.view_is) codes)
+    (subst (λ (v : EncoderView). Codes v r (before ++ ds ∷ [])) (sym c.self.view_is) codes)

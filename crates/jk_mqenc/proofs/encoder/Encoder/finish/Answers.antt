@@ -3,7 +3,7 @@ use Rattle.jk_math.specs.declared.fault.Refused.{Refused}
 use Rattle.jk_model.specs.Code.{is_last}
 use Rattle.jk_model.specs.Decisions.{Decision}
 use Rattle.jk_model.specs.CodingPasses.{SpellsPasses}
-use Rattle.jk_mqenc.specs.Encoded.{View, Codes, finished}
+use Rattle.jk_mqenc.specs.Encoded.{EncoderView, Codes, finished}
 use Rattle.jk_mqenc.proofs.Encoding.{held-of, coded-of, wide-of, count-of, codes-finished, finished-spells}
 use Rattle.jk_mqenc.proofs.Finals.{finished-prefix, finished-shorter}
 use Rattle.jk_mqenc.proofs.Unmarked.{flushed-unmarked}
@@ -19,7 +19,7 @@ pub finish-requires-clause-holds : goal.finish-requires-clause-holds
 finish-requires-clause-holds c = held-of _ c.self.invariant (ap (λ (x : Option Refused). is_some x) c.in_default.is)
 
 exact : (c : goal.In-Ok) (r : Bool) (dss : List (List Decision)) → Codes c.args.self r dss → c.in-Ok.bytes.items ≡ finished r dss
-exact c r dss codes = codes-finished _ r dss _ c.in-Ok.ensures.bytes (subst (λ (v : View). Codes v r dss) (sym c.self.view_is) codes)
+exact c r dss codes = codes-finished _ r dss _ c.in-Ok.ensures.bytes (subst (λ (v : EncoderView). Codes v r dss) (sym c.self.view_is) codes)
 
 pub returns-in-Ok-clause-exact : goal.returns-in-Ok-clause-exact
 returns-in-Ok-clause-exact c = exact c

@@ -3,7 +3,7 @@ use Rattle.std.proofs.lemmas.Result.{err_from_is_err_and}
 use Rattle.std.proofs.lemmas.List.{get_or_read, length-set}
 use Rattle.jk_math.specs.Steps.{refuses_due}
 use Rattle.jk_bits.specs.Reading.{Bits}
-use Rattle.jk_tree.specs.Asking.{Tree, IsKnown}
+use Rattle.jk_tree.specs.Asking.{TagTreeRead, IsKnown}
 use Rattle.jk_tree.specs.TagTree.{shape_of}
 use Rattle.jk_packet.specs.declared.shape.BandShape.{BandShape}
 use Rattle.jk_packet.specs.declared.block.Block.{Block}
@@ -14,7 +14,7 @@ use Rattle.jk_packet.proofs.BandLaws.{block_err, block_left, block_taken, taken_
 use Rattle.jk_packet.proofs.KnownLaws.{AreKnown, known_still, known_set, known_read}
 use Rattle.jk_packet.proofs.band.Band.read_block.Goals as goal
 
-abbrev walk_at : BandShape → List Block → Tree → Tree → Bits → List BlockContribution → BandWalk
+abbrev walk_at : BandShape → List Block → TagTreeRead → TagTreeRead → Bits → List BlockContribution → BandWalk
 walk_at shape blocks inclusion zeros bits parts = record {
   band = record { shape = shape_of shape.across shape.down; planes = shape.planes; blocks = blocks; inclusion = inclusion; zeros = zeros };
   bits = bits;
@@ -68,7 +68,7 @@ returns-in_err-piece-clause-exact c =
     let less : c.args.index < s.shape.across * s.shape.down = subst (λ (b : BandState). c.args.index < b.shape.width * b.shape.height) (sym c.self.view_is) c.requires.index in
     let block : c.index-block.result.now ≡ block_in s.blocks.items c.args.index = block_is w.band s.blocks.items c.args.index (s.shape.across * s.shape.down) c.index-block.result.now refl less c.self.invariant.0 c.index-block.ensures in
     let p = err_from_is_err_and c.from_residual-in_err-piece.result c.from_residual-in_err-piece.ensures.1 in
-    let z : ℕ × (Tree × Bits) = (c.in_ok-zero_planes.zero_planes, (c.read_zero_planes.new.tree, c.read_zero_planes.new.reader)) in
+    let z : ℕ × (TagTreeRead × Bits) = (c.in_ok-zero_planes.zero_planes, (c.read_zero_planes.new.tree, c.read_zero_planes.new.reader)) in
     let due : block_at c.args.number c.args.layer c.args.index w ≡ Err c.in_err-piece.field-0.0 =
     block_taken c.args.number c.args.layer c.args.index w (c.in_ok-included.included, (c.read_inclusion.new.tree, c.read_inclusion.new.reader))
     (ap (λ (x : Block). included_at c.args.layer c.args.index x (s.inclusion, c.args.reader.now)) (sym block) ∙ c.in_ok-included.ensures.exact) c.if-not-included.false
@@ -83,7 +83,7 @@ returns-clause-exact c =
     let w = walk_at s.shape s.blocks.items s.inclusion s.zeros c.args.reader.now c.args.parts.now.items in
     let less : c.args.index < s.shape.across * s.shape.down = subst (λ (b : BandState). c.args.index < b.shape.width * b.shape.height) (sym c.self.view_is) c.requires.index in
     let block : c.index-block.result.now ≡ block_in s.blocks.items c.args.index = block_is w.band s.blocks.items c.args.index (s.shape.across * s.shape.down) c.index-block.result.now refl less c.self.invariant.0 c.index-block.ensures in
-    let z : ℕ × (Tree × Bits) = (c.in_ok-zero_planes.zero_planes, (c.read_zero_planes.new.tree, c.read_zero_planes.new.reader)) in
+    let z : ℕ × (TagTreeRead × Bits) = (c.in_ok-zero_planes.zero_planes, (c.read_zero_planes.new.tree, c.read_zero_planes.new.reader)) in
     let v = with_inclusion w (c.read_inclusion.new.tree, c.read_inclusion.new.reader) in
     let p = c.in_ok-piece.piece in
     ap (λ (b : BandState). block_at c.args.number c.args.layer c.args.index record w { band = b }) (sym c.self.view_is)
@@ -104,7 +104,7 @@ returns-clause-exact c =
     })) (sym c.in_ok-push.ensures.items)
 
 -- the blocks after one was read are known as far as packets have something of them
-known_after : (shape : BandShape) (items : List Block) (old new : Tree) (i : ℕ) (x b : Block) → length items ≡ shape.across * shape.down → old.shape ≡ shape_of shape.across shape.down → new.shape ≡ old.shape
+known_after : (shape : BandShape) (items : List Block) (old new : TagTreeRead) (i : ℕ) (x b : Block) → length items ≡ shape.across * shape.down → old.shape ≡ shape_of shape.across shape.down → new.shape ≡ old.shape
     → AreKnown (shape_of shape.across shape.down) old.nodes (shape.across * shape.down) items → i < shape.across * shape.down → x ≡ block_in items i
     → ((j : ℕ) → IsKnown old.shape old.nodes j → IsKnown new.shape new.nodes j) → (x.included ≡ false → IsKnown new.shape new.nodes i)
     → AreKnown (shape_of shape.across shape.down) new.nodes (shape.across * shape.down) (set items i b)

@@ -4,7 +4,7 @@ use Rattle.jk_math.specs.Memory.{IsMemory}
 use Rattle.jk_math.specs.declared.fault.Fault.TheVariants.{Shelf}
 use Rattle.jk_store.specs.Files.{Files}
 use Rattle.jk_store.specs.Names.{temporary_name, file_name}
-use Rattle.jk_store.specs.Adding.{IsLeft, IsUnstored}
+use Rattle.jk_store.specs.Adding.{IsLeftByAdd, IsUnstored}
 use Rattle.jk_store.proofs.OpenLaws.{fault_is}
 use Rattle.jk_store.proofs.AddedLaws.{archive_shows, archive_keeps, added}
 use Rattle.jk_store.proofs.AddLaws.{archive_named, archive_few}
@@ -24,7 +24,7 @@ pub returns-in_err-store_named-clause-left : goal.returns-in_err-store_named-cla
 returns-in_err-store_named-clause-left g c = λ files kept.
     let name = c.args.name.now in
     fault_is c.from_residual-in_err-store_named.result c.in_err-store_named.field-0.0 c.from_residual-in_err-store_named.ensures.1
-    (λ e. (left : Files) × g.S.Shelf.keeps c.store_named.new.shelf left × IsLeft (temporary_name name) (file_name name) (Ok c.args.bytes.now) e files left)
+    (λ e. (left : Files) × g.S.Shelf.keeps c.store_named.new.shelf left × IsLeftByAdd (temporary_name name) (file_name name) (Ok c.args.bytes.now) e files left)
     (c.in_err-store_named.ensures.left files kept)
 
 pub returns-in_err-store_named-clause-cause : goal.returns-in_err-store_named-clause-cause

@@ -1,7 +1,7 @@
 use Rattle.std.proofs.Common.{◌≡◌, ℕ, ◌+◌, ◌*◌, ◌<◌, ◌≤◌, List, sym, ◌∙◌, subst, arith}
 use Rattle.jk_tree.specs.TagTree.{Shape}
 use Rattle.jk_tree.specs.declared.node.Node.{Node}
-use Rattle.jk_tree.specs.Asking.{Tree, IsClosed}
+use Rattle.jk_tree.specs.Asking.{TagTreeRead, IsClosed}
 use Rattle.jk_tree.proofs.Closing.{AreClosed, run_in_row, run_of_rows, closed_asks, closed_all_unknown}
 use Rattle.jk_tree.proofs.read.ReadTree.next_open.Goals as goal
 use Rattle.jk_tree.proofs.read.ReadTree.next_open.Goals.{After-loop-row}
@@ -15,7 +15,7 @@ pub returns-then-run-width-clause-silent : goal.returns-then-run-width-clause-si
 returns-then-run-width-clause-silent c =
     let s = c.self.inside in
     let sh : Shape = record { width = s.levels.width; height = s.levels.height } in
-    let t : Tree = record { shape = sh; nodes = s.nodes.items; failed = s.failed } in
+    let t : TagTreeRead = record { shape = sh; nodes = s.nodes.items; failed = s.failed } in
     let r = c.closed_run-run in
     let i = c.loop-row.invariant in
     closed_asks t c.args.self.now c.args.threshold c.args.from (c.loop-row.row * s.levels.width + r.result.end) c.self.view_is (sym c.is_some.ensures ∙ c.if-is_some.false)
@@ -26,7 +26,7 @@ pub returns-then-run-width-clause-unknown : goal.returns-then-run-width-clause-u
 returns-then-run-width-clause-unknown c =
     let s = c.self.inside in
     let sh : Shape = record { width = s.levels.width; height = s.levels.height } in
-    let t : Tree = record { shape = sh; nodes = s.nodes.items; failed = s.failed } in
+    let t : TagTreeRead = record { shape = sh; nodes = s.nodes.items; failed = s.failed } in
     let r = c.closed_run-run in
     let i = c.loop-row.invariant in
     closed_all_unknown t c.args.self.now c.args.threshold c.args.from (c.loop-row.row * s.levels.width + r.result.end) c.self.view_is
@@ -90,11 +90,11 @@ all_closed c = λ leaf least less.
 pub returns-clause-silent : goal.returns-clause-silent
 returns-clause-silent c =
     let s = c.self.inside in
-    let t : Tree = record { shape = record { width = s.levels.width; height = s.levels.height }; nodes = s.nodes.items; failed = s.failed } in
+    let t : TagTreeRead = record { shape = record { width = s.levels.width; height = s.levels.height }; nodes = s.nodes.items; failed = s.failed } in
     closed_asks t c.args.self.now c.args.threshold c.args.from (s.levels.width * s.levels.height) c.self.view_is (sym c.is_some.ensures ∙ c.if-is_some.false) (all_closed c)
 
 pub returns-clause-unknown : goal.returns-clause-unknown
 returns-clause-unknown c =
     let s = c.self.inside in
-    let t : Tree = record { shape = record { width = s.levels.width; height = s.levels.height }; nodes = s.nodes.items; failed = s.failed } in
+    let t : TagTreeRead = record { shape = record { width = s.levels.width; height = s.levels.height }; nodes = s.nodes.items; failed = s.failed } in
     closed_all_unknown t c.args.self.now c.args.threshold c.args.from (s.levels.width * s.levels.height) c.self.view_is (all_closed c)

@@ -1,0 +1,21 @@
+use Rattle.std.proofs.Common.{◌≡◌, ◌<◌, List, length, sym, ap, ◌∙◌, arith}
+use Rattle.jk_params.specs.Headers.{TileFields, tile_in}
+use Rattle.jk_params.specs.Tables.{tiles_in}
+use Rattle.jk_params.proofs.TableLaws.{tiles_length, entry_fields}
+use Rattle.jk_params.proofs.table.TileTable.places.Goals as goal
+
+pub index-requires : goal.index-requires
+index-requires c =
+    let t = c.self.inside in
+    let size : length (tiles_in t.codings.items t.tiles.items) ≡ length c.args.self.now = ap (λ (fs : List TileFields). length fs) c.self.view_is in
+    let within : c.args.tile < length t.tiles.items = omega (arith, size, tiles_length t.codings.items t.tiles.items, c.requires) in
+    omega (arith, within)
+
+pub returns : goal.returns
+returns c =
+    let t = c.self.inside in
+    let size : length (tiles_in t.codings.items t.tiles.items) ≡ length c.args.self.now = ap (λ (fs : List TileFields). length fs) c.self.view_is in
+    let within : c.args.tile < length t.tiles.items = omega (arith, size, tiles_length t.codings.items t.tiles.items, c.requires) in
+    let e = c.index.result.now in
+    let fields = entry_fields t.codings.items t.tiles.items c.args.tile e within c.index.ensures in
+    c.deref.ensures.value ∙ sym (ap (λ (fs : List TileFields). (tile_in fs c.args.tile).data_places) (sym c.self.view_is) ∙ ap (λ (f : TileFields). f.data_places) fields)
