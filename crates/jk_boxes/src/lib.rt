@@ -9,4 +9,4 @@ mod writing;
 pub use boxes::{BoxHead, COLOUR, Form, HEADER, read_box};
 pub use head::{code_form, code_head};
 pub use place::{Boxed, open};
-pub use writing::{box_front, replace_codestream, wrap};
+pub use writing::{box_front, front, replace_codestream, wrap};

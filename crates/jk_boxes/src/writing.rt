@@ -122,7 +122,7 @@ fn put_code_head(out: &mut Vec<u8>, size: u64) -> Result<(), Fault>
 }
 
 /// The text of a JP2 file up to its codestream of `size` bytes.
-fn front(
+pub fn front(
     alloc: Global,
     width: u32,
     height: u32,

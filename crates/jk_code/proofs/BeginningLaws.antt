@@ -1,18 +1,17 @@
 -- Laws of what stands before a tile-part, and of the file as a whole.
-use Rattle.std.proofs.Common.{◌≡◌, ℕ, zero, suc, ◌+◌, ◌^◌, ◌<◌, ◌≤◌, ◌⊎◌, inl, inr, Bool, true, false, not, List, [], ◌++◌, length, replicate, Result, Ok, Err, IfOk, IfErr, refl, ap, sym, ◌∙◌, subst, arith, append_assoc}
+use Rattle.std.proofs.Common.{◌≡◌, ℕ, zero, suc, ◌+◌, ◌^◌, ◌<◌, ◌≤◌, ◌⊎◌, inl, inr, Bool, true, false, not, List, [], ◌∷◌, ◌++◌, length, replicate, Result, Ok, Err, IfOk, refl, ap, sym, ◌∙◌, subst, arith, append_assoc}
 use Rattle.std.proofs.lemmas.Bool.{cases_lt, lt-ltb, le-ltb, not-false}
 use Rattle.std.proofs.lemmas.List.{append-nil, length-append, length-replicate, append_cancel_right}
-use Rattle.jk_math.specs.Answer.{Refuses, Answers}
 use Rattle.jk_math.specs.Memory.{IsMemory}
 use Rattle.jk_math.specs.Picture.{Picture, IsPicture}
 use Rattle.jk_math.specs.Steps.{guarded, ok_is}
 use Rattle.jk_math.specs.declared.fault.Fault.{Fault}
-use Rattle.jk_math.specs.declared.fault.Fault.TheVariants.{Memory, BadParameters, Limit}
+use Rattle.jk_math.specs.declared.fault.Fault.TheVariants.{BadParameters, Limit}
 use Rattle.jk_marks.specs.Markers.{marker_text, eoc}
 use Rattle.jk_marks.specs.Siz.{tile_count}
 use Rattle.jk_marks.specs.Codestream.{main_text, part_text, codestream_text, segments_of, only_part_of}
-use Rattle.jk_boxes.specs.Boxes.{HoldsCodestream, box_text}
-use Rattle.jk_boxes.specs.Written.{is_wrapped, wrapped}
+use Rattle.jk_boxes.specs.Boxes.{HoldsCodestream, box_text, boxes_text, signature}
+use Rattle.jk_boxes.specs.Written.{is_wrapped, wrapped, file_type_box, header_box, code_box}
 use Rattle.jk_boxes.proofs.Laws.{wrapped_holds}
 use Rattle.jk_params.specs.declared.parameters.Parameters.{Parameters}
 use Rattle.jk_params.specs.declared.parameters.Container.{Container}
@@ -22,6 +21,10 @@ use Rattle.jk_params.proofs.Laws.{part_text_length}
 use Rattle.jk_tile.specs.encoding.PacketsWritten.{tile_text}
 use Rattle.jk_window.specs.Views.{holds_below}
 use Rattle.jk_window.proofs.Laws.{below_none, below_more, below_fails, below_at, below_from}
+use Rattle.jk_params.specs.declared.picture_frame.PictureFrame.{PictureFrame}
+use Rattle.jk_params.specs.PictureFrames.{frame_of}
+use Rattle.jk_code.specs.declared.contents.WrittenFrame.{WrittenFrame}
+use Rattle.jk_code.specs.Contents.{HasPicture}
 use Rattle.jk_code.specs.Meaning.{Means}
 use Rattle.jk_code.specs.Fronts.{HasFronts}
 use Rattle.jk_code.specs.Written.{main_for, part_for, part_fits, parts_fit, tree_for, contained, file_for, written}
@@ -96,38 +99,38 @@ limit_due p q n profile first = rw (profile, below_fails (part_fits p q) (tile_c
 
 -- ---- the front
 
+-- the boxes of a file are its front and its codestream
+boxes_front : (p : Picture) (codestream : List ℕ)
+    → signature ++ boxes_text (file_type_box ∷ header_box p.width p.height (length p.planes) p.depth ∷ code_box codestream ∷ [])
+    ≡ front_of Jp2 p (length codestream) ++ codestream
+unfolding box_text
+boxes_front p codestream = simp (append_assoc, append-nil)
+
 pub wrapped_front : (p : Picture) (codestream : List ℕ) → is_wrapped p ≡ true → wrapped p codestream ≡ Ok (front_of Jp2 p (length codestream) ++ codestream)
-unfolding wrapped box_text
-wrapped_front p codestream is = rw is (simp (append_assoc, append-nil))
+unfolding wrapped
+wrapped_front p codestream is = rw is (ap (λ (x : List ℕ). Ok x) (boxes_front p codestream))
 
 pub contained_front : (k : Container) (p : Picture) (codestream : List ℕ) → is_contained k (length p.planes) p.signed ≡ true
     → contained k p codestream ≡ Ok (front_of k p (length codestream) ++ codestream)
 contained_front Raw p codestream is = refl
 contained_front Jp2 p codestream is = wrapped_front p codestream is
 
--- what becomes the file with each codestream of its size behind it is the front
-front_is : (p : Picture) (front : List ℕ) (size : ℕ) → is_wrapped p ≡ true → wrapped p (replicate size 0) ≡ Ok (front ++ replicate size 0) → front ≡ front_of Jp2 p size
-front_is p front size is e =
+-- what becomes the boxes of a file with each codestream of its size behind it is the front
+abbrev pub IsBefore : PictureFrame → (size : ℕ) → (front : List ℕ) → Type 0
+IsBefore f size front = (codestream : List ℕ) → length codestream ≡ size
+    → front ++ codestream ≡ signature ++ boxes_text (file_type_box ∷ header_box f.width f.height f.components f.depth ∷ code_box codestream ∷ [])
+
+front_is : (f : PictureFrame) (p : Picture) (front : List ℕ) (size : ℕ) → f ≡ frame_of p → IsBefore f size front → front ≡ front_of Jp2 p size
+front_is f p front size frame each =
     let zeros : List ℕ = replicate size 0 in
+    let before : IsBefore (frame_of p) size front = subst (λ (x : PictureFrame). IsBefore x size front) frame each in
     append_cancel_right front (front_of Jp2 p size) zeros
-    (ok_is _ _ (sym e ∙ wrapped_front p zeros is ∙ ap (λ n. Ok (front_of Jp2 p n ++ zeros)) (length-replicate size 0)))
+    (before zeros (length-replicate size 0) ∙ boxes_front p zeros ∙ ap (λ n. front_of Jp2 p n ++ zeros) (length-replicate size 0))
 
-pub front_value : {X : Type 0} (view : X → List ℕ) (p : Picture) (size : ℕ) (r : Result X Fault) → is_wrapped p ≡ true
-    → ((codestream : List ℕ) → length codestream ≡ size → Answers (λ v. view v ++ codestream) r (wrapped p codestream))
-    → IfOk r (λ v. view v ≡ front_of Jp2 p size)
-front_value view p size (Ok v) is each = front_is p (view v) size is (each (replicate size 0) (length-replicate size 0))
-front_value view p size (Err e) is each = tt
-
--- a fault where a value is due is Memory
-memory_alone : {X : Type 0} (e : Fault) (due : Result X Fault) (x : X) → due ≡ Ok x → Refuses e due → IsMemory e
-memory_alone (Memory r) due x ok h = tt
-memory_alone e due x ok h = absurd (let both = sym ok ∙ h in cc)
-
-pub front_memory : {X : Type 0} (view : X → List ℕ) (p : Picture) (size : ℕ) (r : Result X Fault) → is_wrapped p ≡ true
-    → ((codestream : List ℕ) → length codestream ≡ size → Answers (λ v. view v ++ codestream) r (wrapped p codestream))
-    → IfErr r IsMemory
-front_memory view p size (Ok v) is each = tt
-front_memory view p size (Err e) is each = memory_alone e _ _ (wrapped_front p (replicate size 0) is) (each (replicate size 0) (length-replicate size 0))
+pub front_value : {X : Type 0} (view : X → List ℕ) (s : WrittenFrame) (k : Container) (size : ℕ) (r : Result X Fault) → k ≡ Jp2 → IfOk r (λ v. IsBefore s.frame size (view v))
+    → IfOk r (λ v. (p : Picture) → HasPicture s p → view v ≡ front_of k p size)
+front_value view s k size (Ok v) jp2 each = λ p has. (front_is s.frame p (view v) size has.frame each ∙ ap (λ x. front_of x p size) (sym jp2))
+front_value view s k size (Err e) jp2 each = tt
 
 -- the same front for the same size, which a bare codestream hasn't
 pub front_same : (k : Container) (p : Picture) (m n : ℕ) → (k ≡ Jp2 → m ≡ n) → front_of k p m ≡ front_of k p n
@@ -222,4 +225,11 @@ pub ahead_first : (p : Picture) (q : Parameters) (e : Fault) (content : List ℕ
 ahead_first p q e content some same why = elim why [
   | inl memory ↦ inl memory
   | inr limit ↦ inr (limit.0, first_ahead p q some (long_said p q 0 (subst (λ (x : List ℕ). 2 ^ 32 ≤ 14 + length x) same limit.1)))
+]
+
+pub long_any : (p : Picture) (q : Parameters) (t : ℕ) (e : Fault) (content : List ℕ) → t < tile_count (siz_of p q) → content ≡ tile_text p q t → IsMemory e ⊎ ((e ≡ Limit) × (2 ^ 32 ≤ 14 + length content))
+    → IsMemory e ⊎ ((e ≡ Limit) × IsTooLong p q)
+long_any p q t e content lt same why = elim why [
+  | inl memory ↦ inl memory
+  | inr limit ↦ inr (limit.0, (t, lt, long_said p q t (subst (λ (x : List ℕ). 2 ^ 32 ≤ 14 + length x) same limit.1)))
 ]

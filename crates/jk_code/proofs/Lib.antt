@@ -29,3 +29,7 @@ pub mod StripeRows
 pub mod Laws
 pub mod TileRowing
 pub mod RowLaws
+pub mod PictureRows
+pub mod EntriesKept
+pub mod NeedLaws
+pub mod ComingLaws

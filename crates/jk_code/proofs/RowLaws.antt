@@ -1,5 +1,5 @@
 -- Rows that are given one stripe behind another, and tiles row by row.
-use Rattle.std.proofs.Common.{◌≡◌, ℕ, ◌+◌, ◌-◌, ◌%◌, ◌<◌, ◌≤◌, ◌++◌, List, [], ◌∷◌, get_or, Result, Ok, Err, ℤ, refl, sym, ap, subst, ◌∙◌, arith}
+use Rattle.std.proofs.Common.{◌≡◌, ℕ, ◌+◌, ◌%◌, ◌<◌, ◌≤◌, ◌++◌, List, [], ◌∷◌, get_or, Result, Ok, Err, ℤ, refl, sym, ap, subst, ◌∙◌, arith}
 use Rattle.std.specs.Global.{Vec}
 use Rattle.jk_math.specs.Picture.{Picture, IsPicture}
 use Rattle.jk_math.specs.declared.fault.Fault.{Fault}

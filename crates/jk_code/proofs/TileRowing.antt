@@ -24,7 +24,7 @@ number_of first across k begins lt =
     (ap (λ n. n / across) (sym whole) ∙ div-mul-add (first / across) across k lt, ap (λ n. n % across) (sym whole) ∙ mod-mul-add (first / across) across k lt)
 
 -- tiles whose numbers have one quotient lie in one row, and those with one remainder in one column
-rows_by : (s : Siz) (t u : ℕ) → t / tiles_across s ≡ u / tiles_across s → ((tile_area s t).y0 ≡ (tile_area s u).y0) × ((tile_area s t).y1 ≡ (tile_area s u).y1)
+pub rows_by : (s : Siz) (t u : ℕ) → t / tiles_across s ≡ u / tiles_across s → ((tile_area s t).y0 ≡ (tile_area s u).y0) × ((tile_area s t).y1 ≡ (tile_area s u).y1)
 unfolding tile_area
 rows_by s t u same = (ap (λ q. max (s.tile_y0 + q * s.tile_height) s.y0) same, ap (λ q. min (s.tile_y0 + (q + 1) * s.tile_height) s.y1) same)
 
@@ -90,7 +90,7 @@ row_holds s d first t x y siz begins lt holds above below =
 abbrev pub bottom_of : Siz → (q : ℕ) → ℕ
 bottom_of s q = s.tile_y0 + (q + 1) * s.tile_height
 
-area_rows : (s : Siz) (t : ℕ) → ((tile_area s t).y0 ≡ max (s.tile_y0 + t / tiles_across s * s.tile_height) s.y0) × ((tile_area s t).y1 ≡ min (s.tile_y0 + (t / tiles_across s + 1) * s.tile_height) s.y1)
+pub area_rows : (s : Siz) (t : ℕ) → ((tile_area s t).y0 ≡ max (s.tile_y0 + t / tiles_across s * s.tile_height) s.y0) × ((tile_area s t).y1 ≡ min (s.tile_y0 + (t / tiles_across s + 1) * s.tile_height) s.y1)
 unfolding tile_area
 area_rows s t = (refl, refl)
 

@@ -6,7 +6,7 @@ ghost use Rattle.std.specs.List.{flat_map};
 ghost use Rattle.jk_math.specs.Memory.{IsMemory};
 ghost use Rattle.jk_math.specs.Answer.{Answers};
 ghost use Rattle.jk_math.specs.declared.fault.Fault.TheVariants.{BadParameters, Limit};
-ghost use Rattle.jk_math.specs.Picture.{IsPicture};
+ghost use Rattle.jk_math.specs.Picture.{Picture};
 ghost use Rattle.jk_marks.specs.Siz.{tile_count};
 ghost use Rattle.jk_marks.specs.Codestream.{codestream_text, part_text, IsWritten};
 ghost use Rattle.jk_boxes.specs.Boxes.{HoldsCodestream};
@@ -17,14 +17,16 @@ ghost use Rattle.jk_tile.specs.encoding.Needs.{exponents_for, written_bands};
 ghost use Rattle.jk_code.specs.Meaning.{Means, MeansPicture};
 ghost use Rattle.jk_code.specs.Written.{main_for, part_for, part_fits, parts_fit, tree_for, file_for, written};
 ghost use Rattle.jk_code.specs.Fronts.{HasFronts};
+ghost use Rattle.jk_code.specs.Contents.{HasPicture};
 
+use crate::contents::{WrittenFrame, frame_written};
 use jk_boxes::wrap;
 use jk_geom::tile_count;
 use jk_jobs::{Gate, map_jobs};
 use jk_marks::{Main, Quantisation, write_end, write_main, write_tile_part};
 use jk_math::{Fault, Image, Planes};
 use jk_packet::BlockTable;
-use jk_params::{Container, Parameters, cod_of, siz_of};
+use jk_params::{Container, Parameters, cod_of, siz_for, siz_of};
 use jk_tile::{
     BlockJob, Executor, Parallel, Sequential, Workers, WrittenImage, encode_tile, exponents,
     tile_bands,
@@ -34,14 +36,13 @@ use std::marker::Sync;
 use std::thread::Threads;
 
 /// The main header of an image.
-#[tactic(auto, using(crate::proofs::HeaderLaws::main_written))]
-pub(crate) fn main_header(source: &WrittenImage<'_>) -> Main
-    ensures value { result ≡ main_for source.now.image.now source.now.parameters.now }
+pub(crate) fn main_header(source: &WrittenFrame<'_>) -> Main
+    requires some { (p : Picture) × HasPicture source.now p }
+    ensures value { (p : Picture) → HasPicture source.now p → result ≡ main_for p source.now.parameters.now }
     ensures written { IsWritten result }
-    ensures picture { IsPicture source.now.image.now }
 {
     Main {
-        siz: siz_of(source.image, source.parameters),
+        siz: siz_for(&source.frame, source.parameters),
         cod: cod_of(source.parameters),
         qcd: Quantisation {
             guard: 2,
@@ -128,7 +129,7 @@ fn codestream<E: Executor>(
         exponents: &exponents,
     };
     let mut out = Vec::new(alloc);
-    write_main(&main_header(&source), &mut out)?;
+    write_main(&main_header(&frame_written(&source)), &mut out)?;
     put_tiles(executor, alloc, &mut out, &source, first)?;
     write_end(&mut out)?;
     Ok(out)

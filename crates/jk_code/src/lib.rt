@@ -2,9 +2,12 @@
 #![tactic(auto)]
 
 mod coded;
+mod coming;
+mod contents;
 mod decoding;
 mod decoding_with;
 mod encoding;
+mod encoding_rows;
 mod frames;
 mod joining;
 mod making;
@@ -12,6 +15,7 @@ mod reduction;
 mod rows;
 mod stripes;
 mod suiting;
+mod tabled;
 mod viewing;
 mod windows;
 mod writing;
@@ -19,6 +23,7 @@ mod writing;
 pub use decoding::decode;
 pub use decoding_with::decode_with;
 pub use encoding::{encode, encode_with};
+pub use encoding_rows::{RowSupply, encode_rows};
 pub use frames::{ImageFrame, frame};
 pub use making::{MadeStripes, StripeWork, make_with};
 pub use rows::{Rows, decode_rows};

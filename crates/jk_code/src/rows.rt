@@ -42,7 +42,7 @@ pub trait Rows {
 }
 
 /// How many tiles lie side by side (T.800 B.3, equation B-5).
-fn tiles_across(siz: &Siz) -> usize
+pub(crate) fn tiles_across(siz: &Siz) -> usize
     requires siz { IsSiz siz.now }
     ensures value { result ≡ tiles_across siz.now }
     ensures some { 1 ≤ result }

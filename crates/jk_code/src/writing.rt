@@ -7,22 +7,23 @@ ghost use Rattle.jk_math.specs.Memory.{IsMemory};
 ghost use Rattle.jk_math.specs.declared.fault.Fault.TheVariants.{Limit, Shelf};
 ghost use Rattle.jk_marks.specs.Siz.{tile_count};
 ghost use Rattle.jk_marks.specs.Codestream.{part_text, only_part_of};
+ghost use Rattle.jk_math.specs.Picture.{Picture};
 ghost use Rattle.jk_params.specs.Profile.{siz_of, is_profile, IsWrittenBy};
-ghost use Rattle.jk_tile.specs.encoding.Needs.{exponents_for, written_bands};
+ghost use Rattle.jk_tile.specs.encoding.Needs.{exponents_for};
 ghost use Rattle.jk_tile.specs.encoding.PacketsWritten.{tile_text};
 ghost use Rattle.jk_code.specs.Meaning.{Means};
 ghost use Rattle.jk_code.specs.Fronts.{HasFronts};
 ghost use Rattle.jk_code.specs.Written.{part_for, part_fits, parts_fit, written};
 ghost use Rattle.jk_code.specs.Beginnings.{front_of, parts_upto, text_upto, Left};
 ghost use Rattle.jk_code.specs.Sending.{IsTooLong, IsTooLongAhead, IsSent, IsPartSent, IsRestSent};
+ghost use Rattle.jk_code.specs.Contents.{HasPicture, AreTold};
 
+use crate::contents::{TileContents, WrittenFrame, count_tiles, frame_written};
 use crate::encoding::main_header;
-use jk_boxes::box_front;
-use jk_geom::tile_count;
 use jk_marks::{write_main, write_part_head};
-use jk_math::{Fault, Image, Planes, write_out};
-use jk_params::{Container, Parameters, siz_of};
-use jk_tile::{Sequential, WrittenImage, encode_tile, exponents, tile_bands};
+use jk_math::{Fault, Image, write_out};
+use jk_params::{Container, Parameters};
+use jk_tile::{Sequential, WrittenImage, encode_tile, exponents};
 use std::alloc::Global;
 use std::io::Write;
 
@@ -43,33 +44,27 @@ fn part_head(alloc: Global, tile: u16, content: &[u8]) -> Result<Vec<u8>, Fault>
     Ok(head)
 }
 
-/// The data of the only part of a tile.
-fn tile_content(alloc: Global, source: &WrittenImage<'_>, number: u32) -> Result<Vec<u8>, Fault>
-    requires number { number < tile_count (siz_of source.now.image.now source.now.parameters.now) }
-    ensures value { IfOk result (λ v. v.items ≡ tile_text source.now.image.now source.now.parameters.now number) }
-    ensures memory { IfErr result IsMemory }
-{
-    let bands = tile_bands(&Sequential, alloc, source.image, source.parameters, number)?;
-    encode_tile(&Sequential, alloc, source, number, bands)
-}
-
 /// How long the tile-parts behind the first are, all together.
 ///
 /// Limit: one would be longer than 2^32 - 1 bytes.
-fn rest_size(alloc: Global, source: &WrittenImage<'_>) -> Result<u64, Fault>
-    ensures size { IfOk result (λ size. length (parts_upto source.now.image.now source.now.parameters.now 1) + size
-        ≡ length (parts_upto source.now.image.now source.now.parameters.now
-        (tile_count (siz_of source.now.image.now source.now.parameters.now)))) }
+fn rest_size<T: TileContents>(
+    alloc: Global,
+    source: &WrittenFrame<'_>,
+    tiles: &T,
+) -> Result<u64, Fault>
+    requires some { (p : Picture) × AreTold T.tells source.now tiles.now p }
+    ensures size { IfOk result (λ size. (p : Picture) → AreTold T.tells source.now tiles.now p
+        → length (parts_upto p source.now.parameters.now 1) + size
+        ≡ length (parts_upto p source.now.parameters.now (tile_count (siz_of p source.now.parameters.now)))) }
     ensures small { IfOk result (λ size. size < 2 ^ 48) }
-    ensures fits { IfOk result
-        (λ _. part_fits source.now.image.now source.now.parameters.now 0 ≡ true
-        → parts_fit source.now.image.now source.now.parameters.now ≡ true) }
-    ensures err { IfErr result
-        (λ e. IsMemory e ⊎ ((e ≡ Limit) × IsTooLong source.now.image.now source.now.parameters.now)) }
+    ensures fits { IfOk result (λ _. (p : Picture) → AreTold T.tells source.now tiles.now p
+        → part_fits p source.now.parameters.now 0 ≡ true → parts_fit p source.now.parameters.now ≡ true) }
+    ensures err { IfErr result (λ e. (p : Picture) → AreTold T.tells source.now tiles.now p
+        → IsMemory e ⊎ ((e ≡ Limit) × IsTooLong p source.now.parameters.now)) }
 {
     let mut size = 0;
-    for number in 1..tile_count(&siz_of(source.image, source.parameters)) {
-        let content = tile_content(alloc, source, number)?;
+    for number in 1..count_tiles(source) {
+        let content = tiles.content(alloc, number)?;
         let head = part_head(alloc, number as u16, &content)?;
         size += (head.len() + content.len()) as u64;
     }
@@ -77,37 +72,49 @@ fn rest_size(alloc: Global, source: &WrittenImage<'_>) -> Result<u64, Fault>
 }
 
 /// How long the tile-parts behind the first are where that is told before them: in a JP2 file.
-fn size_ahead(alloc: Global, source: &WrittenImage<'_>) -> Result<u64, Fault>
-    ensures size { IfOk result
-        (λ size. source.now.parameters.now.container ≡ Container.Jp2
-        → length (parts_upto source.now.image.now source.now.parameters.now 1) + size
-        ≡ length (parts_upto source.now.image.now source.now.parameters.now
-        (tile_count (siz_of source.now.image.now source.now.parameters.now)))) }
+fn size_ahead<T: TileContents>(
+    alloc: Global,
+    source: &WrittenFrame<'_>,
+    tiles: &T,
+) -> Result<u64, Fault>
+    requires some { (p : Picture) × AreTold T.tells source.now tiles.now p }
+    ensures size { IfOk result (λ size. (p : Picture) → AreTold T.tells source.now tiles.now p
+        → source.now.parameters.now.container ≡ Container.Jp2
+        → length (parts_upto p source.now.parameters.now 1) + size
+        ≡ length (parts_upto p source.now.parameters.now (tile_count (siz_of p source.now.parameters.now)))) }
     ensures small { IfOk result (λ size. size < 2 ^ 48) }
-    ensures fits { IfOk result
-        (λ _. source.now.parameters.now.container ≡ Container.Jp2
-        → part_fits source.now.image.now source.now.parameters.now 0 ≡ true
-        → parts_fit source.now.image.now source.now.parameters.now ≡ true) }
-    ensures err { IfErr result (λ e. IsMemory e
-        ⊎ ((e ≡ Limit) × (source.now.parameters.now.container ≡ Container.Jp2)
-        × IsTooLong source.now.image.now source.now.parameters.now)) }
+    ensures fits { IfOk result (λ _. (p : Picture) → AreTold T.tells source.now tiles.now p
+        → source.now.parameters.now.container ≡ Container.Jp2
+        → part_fits p source.now.parameters.now 0 ≡ true → parts_fit p source.now.parameters.now ≡ true) }
+    ensures err { IfErr result (λ e. (p : Picture) → AreTold T.tells source.now tiles.now p
+        → IsMemory e ⊎ ((e ≡ Limit) × (source.now.parameters.now.container ≡ Container.Jp2)
+        × IsTooLong p source.now.parameters.now)) }
 {
     match source.parameters.container {
         Container::Raw => Ok(0),
-        Container::Jp2 => rest_size(alloc, source),
+        Container::Jp2 => rest_size(alloc, source, tiles),
     }
 }
 
 /// What stands before a codestream of `size` bytes in its container.
-fn front(alloc: Global, image: &Image, parameters: &Parameters, size: u64) -> Result<Vec<u8>, Fault>
-    requires written { IsWrittenBy parameters.now image.now }
+fn front(alloc: Global, source: &WrittenFrame<'_>, size: u64) -> Result<Vec<u8>, Fault>
+    requires some { (p : Picture) × HasPicture source.now p }
     requires size { size + 16 < 2 ^ 64 }
-    ensures value { IfOk result (λ v. v.items ≡ front_of parameters.now.container image.now size) }
+    ensures value { IfOk result (λ v. (p : Picture) → HasPicture source.now p
+        → v.items ≡ front_of source.now.parameters.now.container p size) }
     ensures memory { IfErr result IsMemory }
 {
-    match parameters.container {
+    let frame = &source.frame;
+    match source.parameters.container {
         Container::Raw => Ok(Vec::new(alloc)),
-        Container::Jp2 => box_front(alloc, image, size),
+        Container::Jp2 => jk_boxes::front(
+            alloc,
+            frame.width,
+            frame.height,
+            frame.components,
+            frame.depth,
+            size,
+        ),
     }
 }
 
@@ -120,30 +127,37 @@ struct Start {
     content: Vec<u8>,
 }
 
-/// The file up to the end of its first tile-part, whose tile has these sub-bands.
+/// The file up to the end of its first tile-part, which has these data.
 ///
 /// Limit: that tile-part would be longer than 2^32 - 1 bytes; in a JP2 file also any other.
-fn first_part(alloc: Global, source: &WrittenImage<'_>, first: Vec<Planes>) -> Result<Start, Fault>
-    requires first { first.items ≡ written_bands source.now.image.now source.now.parameters.now 0 }
-    ensures text { IfOk result (λ s. s.before.items ++ s.content.items
-        ≡ text_upto source.now.image.now source.now.parameters.now 1) }
-    ensures fits { IfOk result (λ _. part_fits source.now.image.now source.now.parameters.now 0 ≡ true) }
-    ensures all { IfOk result
-        (λ _. source.now.parameters.now.container ≡ Container.Jp2
-        → parts_fit source.now.image.now source.now.parameters.now ≡ true) }
-    ensures means { IfOk result (λ _. (file : List ℕ) → written source.now.image.now source.now.parameters.now ≡ Ok file
-        → Means file 0 source.now.image.now × HasFronts source.now.image.now source.now.parameters.now file) }
-    ensures err { IfErr result
-        (λ e. IsMemory e ⊎ ((e ≡ Limit) × IsTooLongAhead source.now.image.now source.now.parameters.now)) }
+fn first_part<T: TileContents>(
+    alloc: Global,
+    source: &WrittenFrame<'_>,
+    tiles: &T,
+    content: Vec<u8>,
+) -> Result<Start, Fault>
+    requires some { (p : Picture) × AreTold T.tells source.now tiles.now p }
+    requires first { (p : Picture) → AreTold T.tells source.now tiles.now p
+        → content.items ≡ tile_text p source.now.parameters.now 0 }
+    ensures text { IfOk result (λ s. (p : Picture) → AreTold T.tells source.now tiles.now p
+        → s.before.items ++ s.content.items ≡ text_upto p source.now.parameters.now 1) }
+    ensures fits { IfOk result (λ _. (p : Picture) → AreTold T.tells source.now tiles.now p
+        → part_fits p source.now.parameters.now 0 ≡ true) }
+    ensures all { IfOk result (λ _. (p : Picture) → AreTold T.tells source.now tiles.now p
+        → source.now.parameters.now.container ≡ Container.Jp2 → parts_fit p source.now.parameters.now ≡ true) }
+    ensures means { IfOk result (λ _. (p : Picture) → AreTold T.tells source.now tiles.now p
+        → (file : List ℕ) → written p source.now.parameters.now ≡ Ok file
+        → Means file 0 p × HasFronts p source.now.parameters.now file) }
+    ensures err { IfErr result (λ e. (p : Picture) → AreTold T.tells source.now tiles.now p
+        → IsMemory e ⊎ ((e ≡ Limit) × IsTooLongAhead p source.now.parameters.now)) }
 {
-    let rest = size_ahead(alloc, source)?;
-    let content = encode_tile(&Sequential, alloc, source, 0, first)?;
+    let rest = size_ahead(alloc, source, tiles)?;
     let head = part_head(alloc, 0, &content)?;
     let mut main = Vec::new(alloc);
     write_main(&main_header(source), &mut main)?;
     let part = (head.len() + content.len()) as u64;
     let size = main.len() as u64 + part + rest + EOC.len() as u64;
-    let mut before = front(alloc, source.image, source.parameters, size)?;
+    let mut before = front(alloc, source, size)?;
     before.extend_from_slice(&main)?;
     before.extend_from_slice(&head)?;
     Ok(Start { before, content })
@@ -183,36 +197,91 @@ fn put_part<W: Write>(alloc: Global, writer: &mut W, tile: u16, content: &[u8]) 
     send(writer, content)
 }
 
-/// Codes a tile and writes its only tile-part.
-fn put_tile<W: Write>(
+/// Writes the only tile-part of tile `number`.
+fn put_tile<T: TileContents, W: Write>(
     alloc: Global,
-    writer: &mut W,
-    source: &WrittenImage<'_>,
+    source: &WrittenFrame<'_>,
+    tiles: &T,
     number: u32,
+    writer: &mut W,
 ) -> Result<(), Fault>
-    requires number { number < tile_count (siz_of source.now.image.now source.now.parameters.now) }
-    ensures { (part : List ℕ) × Appends (W.contents writer.old) (W.contents writer.new) part
-        × IsPartSent (part_text (part_for source.now.image.now source.now.parameters.now number))
-        (part_fits source.now.image.now source.now.parameters.now number) part result }
+    requires number { (p : Picture) × AreTold T.tells source.now tiles.now p
+        × (number < tile_count (siz_of p source.now.parameters.now)) }
+    ensures { (p : Picture) → AreTold T.tells source.now tiles.now p
+        → (part : List ℕ) × Appends (W.contents writer.old) (W.contents writer.new) part
+        × IsPartSent (part_text (part_for p source.now.parameters.now number))
+        (part_fits p source.now.parameters.now number) part result }
 {
-    let content = tile_content(alloc, source, number)?;
+    let content = tiles.content(alloc, number)?;
     put_part(alloc, writer, number as u16, &content)
 }
 
-/// Codes the tiles behind the first one after another, and writes their tile-parts.
-fn put_rest<W: Write>(alloc: Global, writer: &mut W, source: &WrittenImage<'_>) -> Result<(), Fault>
-    requires first { part_fits source.now.image.now source.now.parameters.now 0 ≡ true }
-    ensures { (text : List ℕ) × Appends (W.contents writer.old) (W.contents writer.new) text
-        × IsRestSent source.now.image.now source.now.parameters.now text result }
+/// Writes the tile-parts of the tiles behind the first, one after another.
+fn put_rest<T: TileContents, W: Write>(
+    alloc: Global,
+    source: &WrittenFrame<'_>,
+    tiles: &T,
+    writer: &mut W,
+) -> Result<(), Fault>
+    requires some { (p : Picture) × AreTold T.tells source.now tiles.now p }
+    ensures { (p : Picture) → AreTold T.tells source.now tiles.now p
+        → part_fits p source.now.parameters.now 0 ≡ true
+        → (text : List ℕ) × Appends (W.contents writer.old) (W.contents writer.new) text
+        × IsRestSent p source.now.parameters.now text result }
 {
-    for number in 1..tile_count(&siz_of(source.image, source.parameters)) {
-        put_tile(alloc, writer, source, number)?;
+    for number in 1..count_tiles(source) {
+        put_tile(alloc, source, tiles, number, writer)?;
     }
     Ok(())
 }
 
+/// Writes a file, whose first tile has these data.
+pub(crate) fn put_file<T: TileContents, W: Write>(
+    alloc: Global,
+    source: &WrittenFrame<'_>,
+    tiles: &T,
+    first: Vec<u8>,
+    writer: &mut W,
+) -> Result<(), Fault>
+    requires some { (p : Picture) × AreTold T.tells source.now tiles.now p }
+    requires first { (p : Picture) → AreTold T.tells source.now tiles.now p
+        → first.items ≡ tile_text p source.now.parameters.now 0 }
+    ensures means { OnOk result ((p : Picture) → AreTold T.tells source.now tiles.now p
+        → (file : List ℕ) → written p source.now.parameters.now ≡ Ok file
+        → Means file 0 p × HasFronts p source.now.parameters.now file) }
+    ensures part { (p : Picture) → AreTold T.tells source.now tiles.now p
+        → is_profile source.now.parameters.now p ≡ true
+        → (text : List ℕ) × Appends (W.contents writer.old) (W.contents writer.new) text
+        × Left p source.now.parameters.now text result }
+{
+    let start = first_part(alloc, source, tiles, first)?;
+    put_start(writer, start)?;
+    put_rest(alloc, source, tiles, writer)?;
+    send(writer, &EOC)
+}
+
+/// Writes a file, whose tiles are these.
+pub(crate) fn put_contents<T: TileContents, W: Write>(
+    alloc: Global,
+    source: &WrittenFrame<'_>,
+    tiles: &T,
+    writer: &mut W,
+) -> Result<(), Fault>
+    requires some { (p : Picture) × AreTold T.tells source.now tiles.now p }
+    ensures means { OnOk result ((p : Picture) → AreTold T.tells source.now tiles.now p
+        → (file : List ℕ) → written p source.now.parameters.now ≡ Ok file
+        → Means file 0 p × HasFronts p source.now.parameters.now file) }
+    ensures part { (p : Picture) → AreTold T.tells source.now tiles.now p
+        → is_profile source.now.parameters.now p ≡ true
+        → (text : List ℕ) × Appends (W.contents writer.old) (W.contents writer.new) text
+        × Left p source.now.parameters.now text result }
+{
+    let first = tiles.content(alloc, 0)?;
+    put_file(alloc, source, tiles, first, writer)
+}
+
 /// Codes an image and writes its file.
-fn put_file<W: Write>(
+fn put_image<W: Write>(
     alloc: Global,
     image: &Image,
     parameters: &Parameters,
@@ -225,16 +294,14 @@ fn put_file<W: Write>(
     ensures part { (text : List ℕ) × Appends (W.contents writer.old) (W.contents writer.new) text
         × Left image.now parameters.now text result }
 {
-    let (exponents, first) = exponents(&Sequential, alloc, image, parameters)?;
+    let (exponents, bands) = exponents(&Sequential, alloc, image, parameters)?;
     let source = WrittenImage {
         image,
         parameters,
         exponents: &exponents,
     };
-    let start = first_part(alloc, &source, first)?;
-    put_start(writer, start)?;
-    put_rest(alloc, writer, &source)?;
-    send(writer, &EOC)
+    let first = encode_tile(&Sequential, alloc, &source, 0, bands)?;
+    put_file(alloc, &frame_written(&source), &source, first, writer)
 }
 
 /// Writes the file of an image, a bare codestream or a JP2 file as the parameters say: the bytes
@@ -265,5 +332,5 @@ pub fn encode_into<W: Write>(
         × Left image.now parameters.now text result }
 {
     parameters.check(image)?;
-    put_file(alloc, image, parameters, writer)
+    put_image(alloc, image, parameters, writer)
 }

@@ -41,7 +41,7 @@ encoded_unplaced : (bytes : List ℕ) (plan : Plan) (p : Picture) (e : Fault) �
 unfolding encoded
 encoded_unplaced bytes plan p e read placed = rw (read, placed) refl
 
-unread : (bytes : List ℕ) (plan : Plan) (e : Fault) → Refuses e (pnm_at bytes) → LeftOf bytes plan [] (Err e)
+pub unread : (bytes : List ℕ) (plan : Plan) (e : Fault) → Refuses e (pnm_at bytes) → LeftOf bytes plan [] (Err e)
 unread bytes plan (Memory r) h = inl (tt, refl)
 unread bytes plan e h = inr (inl (encoded_unread bytes plan e h, refl))
 

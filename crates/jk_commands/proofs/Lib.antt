@@ -2,6 +2,8 @@ pub mod CommandLaws
 pub mod LeftLaws
 pub mod RasterLaws
 pub mod FrameLaws
+pub mod FileRowLaws
+pub mod RowLeftLaws
 pub mod AheadLaws
 pub mod WalkLoops
 pub mod MarkerLaws

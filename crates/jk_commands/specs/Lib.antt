@@ -4,6 +4,7 @@ pub mod Commands
 pub mod Dressing
 pub mod Rasters
 pub mod RowWriting
+pub mod RowReading
 pub mod Written
 pub mod Lines
 pub mod BoxList

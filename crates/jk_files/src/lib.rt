@@ -10,6 +10,7 @@ mod place;
 mod reading;
 mod refusal;
 mod replacing;
+mod stamping;
 mod writing;
 
 pub use listing::{Listing, Other, list, names};
@@ -21,4 +22,5 @@ pub use place::is_file_name;
 pub use reading::{read_all, read_file, read_inside, read_inside_at, read_path};
 pub use refusal::Refusal;
 pub use replacing::replace_file;
+pub use stamping::{Stamp, stamp_of};
 pub use writing::{rename, write_new};

@@ -1,7 +1,9 @@
 -- What a writer has, and what it tells.
-use Rattle.std.specs.Prelude.{List, map}
+use Rattle.std.specs.Prelude.{Bool, true, not, ◌&&◌, List, [], ◌∷◌, ◌++◌, map}
 use Rattle.std.specs.Arc.{arc_value}
+use Rattle.std.specs.String.{string_bytes}
 use Rattle.logbook.specs.Pages.{Book}
+use Rattle.jk_store.specs.Catalogue.{is_listed}
 use Rattle.jk_store.specs.declared.entry.Entry.{Entry}
 use Rattle.jk_hall.specs.declared.told.Told.{Told}
 use Rattle.jk_hall.specs.declared.writer.Writer.{Writer}
@@ -25,3 +27,8 @@ note n = n.front.seen.log
 
 abbrev pub hall_of_note : Told → Book
 hall_of_note n = n.front.seen.book
+
+-- whether each of these entries has a name that none of those that are there has, and none before it
+abbrev pub are_new : (there entries : List Entry) → Bool
+are_new there [] = true
+are_new there (e ∷ entries) = not (is_listed there (string_bytes e.name)) && are_new (there ++ e ∷ []) entries

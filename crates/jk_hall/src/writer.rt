@@ -89,11 +89,11 @@ pub(crate) fn show<R: Wait>(
 }
 
 impl Writer {
-    ghost use Rattle.std.specs.Prelude.{◌⊎◌, ◌∷◌, List, length, Err, ◌↔◌};
+    ghost use Rattle.std.specs.Prelude.{◌⊎◌, ◌∷◌, List, false, length, Err, ◌↔◌};
     ghost use Rattle.std.specs.String.{string_bytes};
     ghost use Rattle.jk_math.specs.declared.fault.Fault.TheVariants.{NameTaken};
     ghost use Rattle.jk_store.specs.declared.entry.Entry.{Entry};
-    ghost use Rattle.jk_hall.specs.Writing.{list, waits, hall_of, note, hall_of_note};
+    ghost use Rattle.jk_hall.specs.Writing.{list, waits, hall_of, note, hall_of_note, are_new};
     ghost use Rattle.jk_hall.specs.Runs.{Event, publishing, HasPublished};
 
     /// Publishes the entries that wait and then this one, each once.
@@ -148,6 +148,72 @@ impl Writer {
         self.sealed = false;
         self.history.add(rt, &entry);
         self.waiting.push_reserved(entry);
+        Ok(())
+    }
+
+    /// Publishes the entries that wait and then these, each once, all in one step.
+    ///
+    /// NameTaken: one of them has a name that is published or waits, or that one before it has; then
+    /// none of them waits. After Memory nothing more is published, and the first of them may wait
+    /// behind the others.
+    #[tactic(auto, using(crate::proofs::RunLaws::publishes_on))]
+    pub fn publish_all<R: Wait>(&mut self, rt: &R, entries: Vec<Arc<Entry>>) -> Result<(), Fault>
+        ensures taken { (result ≡ Err Fault.NameTaken)
+            ↔ (are_new (list self.old ++ waits self.old) (map arc_value entries.items) ≡ false) }
+        ensures ok { OnOk result (list self.new ≡ list self.old ++ (waits self.old ++ map arc_value entries.items)) }
+        ensures none_waits { OnOk result (waits self.new ≡ []) }
+        ensures err { OnErr result (list self.new ≡ list self.old) }
+        ensures still_wait { OnErr result ((front : List Entry) × IsPrefix front (map arc_value entries.items)
+            × (waits self.new ≡ waits self.old ++ front)) }
+        ensures same { result ≡ Err Fault.NameTaken → waits self.new ≡ waits self.old }
+        ensures cause { IfErr result (λ e. IsMemory e ⊎ (e ≡ NameTaken)) }
+        ensures hall { hall_of self.new ≡ hall_of self.old }
+
+        // These are events of the hall's history; an `Err` is none.
+        ensures step { OnOk result ((opening : List Entry) (events : List Event)
+            → HasPublished opening events (list self.old) → HasPublished opening
+            (events ++ publishing (waits self.old ++ map arc_value entries.items)) (list self.new)) }
+        ensures stays { OnErr result ((opening : List Entry) (events : List Event)
+            → HasPublished opening events (list self.old) → HasPublished opening events (list self.new)) }
+    {
+        if !self.are_new(entries.as_slice()) {
+            return Err(Fault::NameTaken);
+        }
+        self.line_up_all(rt, entries)?;
+        self.settle(rt)
+    }
+
+    /// Whether each of these has a name that is neither published nor waits, nor is that of one
+    /// before it.
+    fn are_new(&self, entries: &[Arc<Entry>]) -> bool
+        ensures { result ≡ are_new self.now.history.front.seen.log (map arc_value entries.now) }
+    {
+        for number in 0..entries.len() {
+            if self.is_taken(&entries[..number], entries[number].name.as_str()) {
+                return false;
+            }
+        }
+        true
+    }
+
+    /// Whether an entry of this name is published or waits, or is one of these.
+    fn is_taken(&self, before: &[Arc<Entry>], name: &str) -> bool
+        ensures { result ≡ is_listed (self.now.history.front.seen.log ++ map arc_value before.now) name.now }
+    {
+        self.has(name) || has_name(before, name)
+    }
+
+    /// Lets these entries wait. After an `Err` the first of them may wait.
+    fn line_up_all<R: Wait>(&mut self, rt: &R, entries: Vec<Arc<Entry>>) -> Result<(), AllocError>
+        ensures shown { self.new.inner.desk ≡ self.old.inner.desk }
+        ensures ok { OnOk result (waits self.new ≡ waits self.old ++ map arc_value entries.items) }
+        ensures err { OnErr result ((front : List Entry) × IsPrefix front (map arc_value entries.items)
+            × (waits self.new ≡ waits self.old ++ front)) }
+        ensures hall { hall_of self.new ≡ hall_of self.old }
+    {
+        for entry in entries {
+            self.line_up(rt, entry)?;
+        }
         Ok(())
     }
 

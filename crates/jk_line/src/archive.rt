@@ -1,12 +1,12 @@
 //! Archives that are opened and served.
 
 use crate::failure::{Failure, of_world, with_words};
-use crate::serving::Serving;
+use crate::serving::{Meanwhile, Serving};
 use crate::workers::workers;
 use crate::world::World;
 use jk_jobs::Open;
 use jk_math::Fault;
-use jk_store::{Archive, Images};
+use jk_store::{Archive, Images, Shelf, image_name};
 use jk_words::Server;
 use std::alloc::Global;
 
@@ -85,6 +85,25 @@ fn serving(alloc: Global, line: &Server<'_>) -> Result<Serving, Failure> {
     })
 }
 
+/// After how many seconds each the folder is listed again, if that is within its limits.
+fn watch(alloc: Global, line: &Server<'_>) -> Result<Option<u32>, Failure> {
+    match line.watch {
+        Some(seconds) if seconds < 1 || MOST_TIMEOUT < seconds => Err(with_words(
+            Fault::BadParameters,
+            format!(in alloc; "--watch is {seconds}, and may be 1 to {MOST_TIMEOUT}"),
+        )),
+        watch => Ok(watch),
+    }
+}
+
+/// Why an archive can't be served on a port.
+fn unserved<W: World>(alloc: Global, world: &mut W, fault: Fault, port: u16) -> Failure {
+    match format!(in alloc; "port {port}") {
+        Ok(subject) => of_world(alloc, world, fault, subject.as_str(), "served"),
+        Err(_) => Failure::from(fault),
+    }
+}
+
 /// `jk serve DIR`: the options, the folder, what of it isn't listed, and the connections.
 pub(crate) fn serve<W: World>(
     alloc: Global,
@@ -92,6 +111,10 @@ pub(crate) fn serve<W: World>(
     line: &Server<'_>,
 ) -> Result<(), Failure> {
     let serving = serving(alloc, line)?;
+    let watch = watch(alloc, line)?;
+    if line.open_while_serving {
+        return serve_opening(alloc, world, line.folder, serving, watch);
+    }
     let folder = line.folder;
     if let Err(fault) = world.share(alloc, folder) {
         return Err(of_world(alloc, world, fault, folder, "locked"));
@@ -103,10 +126,60 @@ pub(crate) fn serve<W: World>(
     world.tell_left(archive.shelf());
     match world.serve(alloc, folder, archive, serving) {
         Ok(()) => Ok(()),
-        Err(fault) => {
-            let subject = format!(in alloc; "port {}", serving.port)?;
-            Err(of_world(alloc, world, fault, subject.as_str(), "served"))
+        Err(fault) => Err(unserved(alloc, world, fault, serving.port)),
+    }
+}
+
+/// The folder of an archive, and the files of images in it, none of which was read.
+fn listed<W: World>(
+    alloc: Global,
+    world: &mut W,
+    name: &str,
+) -> Result<(W::Folder, Vec<String>), Failure> {
+    let mut folder = match world.folder(alloc, name) {
+        Ok(folder) => folder,
+        Err(fault) => return Err(of_world(alloc, world, fault, name, "opened")),
+    };
+    match folder.list(alloc) {
+        Ok(files) => Ok((folder, files)),
+        Err(fault) => Err(of_folder(alloc, world, fault, name, &folder)),
+    }
+}
+
+/// The names of the images of files.
+fn names_of(alloc: Global, files: &[String]) -> Result<Vec<String>, Failure> {
+    let mut names = Vec::new(alloc);
+    for file in files {
+        if let Some(name) = image_name(file.as_str()) {
+            names.push(String::from_str(alloc, name)?)?;
         }
+    }
+    Ok(names)
+}
+
+/// `jk serve DIR --open-while-serving`: the folder's files, what can't be opened of them, and the
+/// connections. The folder is locked while it is listed alone.
+fn serve_opening<W: World>(
+    alloc: Global,
+    world: &mut W,
+    name: &str,
+    serving: Serving,
+    watch: Option<u32>,
+) -> Result<(), Failure> {
+    if let Err(fault) = world.share(alloc, name) {
+        return Err(of_world(alloc, world, fault, name, "locked"));
+    }
+    let listed = listed(alloc, world, name);
+    world.release();
+    let (folder, files) = listed?;
+    let _ = world.tell_others(&folder);
+    world.tell_left(&folder);
+    let names = names_of(alloc, &files)?;
+    let archive = Archive::with(folder, Images::none(alloc));
+    let meanwhile = Meanwhile { names, watch };
+    match world.serve_opening(alloc, name, archive, serving, meanwhile) {
+        Ok(()) => Ok(()),
+        Err(fault) => Err(unserved(alloc, world, fault, serving.port)),
     }
 }
 
@@ -119,5 +192,13 @@ pub fn served(alloc: Global, connections: u64) -> Result<String, Fault> {
 /// The line that says where an archive is served.
 pub fn listening(alloc: Global, images: usize, port: u16) -> Result<String, Fault> {
     let line = format!(in alloc; "jk: {images} images on http://127.0.0.1:{port}/images\n")?;
+    Ok(line)
+}
+
+/// The line that says where an archive is served whose files wait to be opened.
+pub fn opening(alloc: Global, files: usize, port: u16) -> Result<String, Fault> {
+    let line = format!(in alloc;
+        "jk: 0 images on http://127.0.0.1:{port}/images, {files} files are to be opened\n"
+    )?;
     Ok(line)
 }

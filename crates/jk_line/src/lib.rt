@@ -16,9 +16,9 @@ mod streams;
 mod workers;
 mod world;
 
-pub use archive::{listening, served};
+pub use archive::{listening, opening, served};
 pub use jk_words::{FaultLine, FilesProgress, Progress, Work};
 pub use running::run;
-pub use serving::Serving;
+pub use serving::{Meanwhile, Serving};
 pub use status::Status;
 pub use world::{Folders, Streams, Working, World};

@@ -9,7 +9,7 @@ use crate::{adding, adding_all, archive, checking, keeping};
 use jk_commands::{
     EncodeOptions, Plan, cut_file, decode_file_into, decode_file_into_with, decode_rows_into,
     decode_window_file_into, encode_file_dressed, encode_file_dressed_with, encode_file_into,
-    encode_file_with, first_layers, info_all_file, info_file, judge, suits_rows,
+    encode_file_with, encode_rows_into, first_layers, info_all_file, info_file, judge, suits_rows,
 };
 use jk_jobs::Open;
 use jk_math::Fault;
@@ -18,6 +18,7 @@ use jk_words::{
     cause_of, fault_lines, left_out, read_line,
 };
 use std::alloc::Global;
+use std::io::Write;
 
 /// The whole file of an image, coded by several workers, and then written.
 fn encode_by<W: World>(
@@ -82,9 +83,26 @@ fn encode_dressed<W: World>(
     }
 }
 
+/// How many bytes a file has at least whose image is encoded row by row, where it isn't cut into
+/// tiles: the whole image of a smaller one takes little memory, and less time where rows are short.
+const SOME_BYTES: usize = 1 << 20;
+
+/// Encodes the image of a file by one thread.
+fn encode_alone<W: Write>(
+    alloc: Global,
+    bytes: Vec<u8>,
+    plan: Plan,
+    output: &mut W,
+) -> Result<(), Fault> {
+    if bytes.len() < SOME_BYTES && plan.parameters.tile.is_none() {
+        return encode_file_into(alloc, bytes, plan, output);
+    }
+    encode_rows_into(alloc, &bytes, plan, output)
+}
+
 /// `jk encode IN OUT`: how many workers there are, the options, what the file is to keep, then the
-/// input, the image and its encoding, which one thread writes to the output tile by tile where the
-/// file is to keep nothing.
+/// input, the image and its encoding. Where the file is to keep nothing, one thread writes it tile by
+/// tile.
 fn encode<W: World>(alloc: Global, world: &mut W, line: &Encoding<'_>) -> Result<(), Failure> {
     let workers = workers(alloc, line.workers)?;
     let plan = match judge(alloc, &line.options) {
@@ -101,7 +119,7 @@ fn encode<W: World>(alloc: Global, world: &mut W, line: &Encoding<'_>) -> Result
     let name = line.output;
     let mut output = create(alloc, world, name, false)?;
     world.begin_work(Work::Encoding, bytes.len() as u64);
-    let encoded = encode_file_into(alloc, bytes, plan, &mut output);
+    let encoded = encode_alone(alloc, bytes, plan, &mut output);
     world.end_work();
     let finished = finish(alloc, world, name, output, encoded.is_ok());
     match encoded {

@@ -14,3 +14,12 @@ pub struct Serving {
     /// Whether each request is told on standard error.
     pub log: bool,
 }
+
+/// What is opened while it is served.
+#[derive(Drop)]
+pub struct Meanwhile {
+    /// The names of the images whose files wait to be opened.
+    pub names: Vec<String>,
+    /// After how many seconds each the folder is listed again, 1 to 3,600, if it is.
+    pub watch: Option<u32>,
+}

@@ -1,6 +1,6 @@
 //! What a command line works on.
 
-use crate::serving::Serving;
+use crate::serving::{Meanwhile, Serving};
 use jk_jobs::Gate;
 use jk_math::Fault;
 use jk_store::{Archive, Shelf};
@@ -137,6 +137,17 @@ pub trait Folders {
         folder: &str,
         archive: Archive<Self::Folder>,
         serving: Serving,
+    ) -> Result<(), Fault>;
+
+    /// The same, where files of the folder are opened, and their images listed, while the requests of
+    /// connections are answered.
+    fn serve_opening(
+        &mut self,
+        alloc: Global,
+        folder: &str,
+        archive: Archive<Self::Folder>,
+        serving: Serving,
+        meanwhile: Meanwhile,
     ) -> Result<(), Fault>;
 }
 

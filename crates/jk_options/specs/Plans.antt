@@ -7,6 +7,7 @@ use Rattle.jk_math.specs.Picture.{Picture}
 use Rattle.jk_params.specs.declared.parameters.Parameters.{Parameters}
 use Rattle.jk_options.specs.declared.plan.Plan.{Plan}
 use Rattle.jk_options.specs.declared.plan.Placed.{Placed}
+use Rattle.jk_options.specs.declared.plan.PlacedFrame.{PlacedFrame}
 use Rattle.jk_options.specs.Options.{Wishes}
 
 -- what a plan asks for
@@ -48,3 +49,7 @@ placing p plan =
     if is_frame plan.x0 plan.y0 p.width p.height
     then Ok (record { image = at_place p plan.x0 plan.y0; parameters = parameters_for plan p })
     else Err BadParameters
+
+-- a picture at the place of a frame, with the parameters beside the frame
+abbrev pub placed_on : Picture → PlacedFrame → Placed
+placed_on p x = record { image = at_place p x.frame.x0 x.frame.y0; parameters = x.parameters }

@@ -8,4 +8,4 @@ mod sizes;
 
 pub use options::EncodeOptions;
 pub use orders::{order_name, order_named};
-pub use plan::{Placed, Plan, judge};
+pub use plan::{Placed, PlacedFrame, Plan, judge};

@@ -1,14 +1,16 @@
 //! What the options ask for, and the image at its place.
 
-ghost use Rattle.std.specs.Prelude.{◌≡◌, ◌^◌};
+ghost use Rattle.std.specs.Prelude.{◌≡◌, ◌^◌, IfOk};
 ghost use Rattle.jk_math.specs.Answer.{Answers, AnswersExactly};
+ghost use Rattle.jk_math.specs.Picture.{Picture, IsFrame};
+ghost use Rattle.jk_params.specs.PictureFrames.{frame_of};
 ghost use Rattle.jk_options.specs.Options.{field_at, tile_at, precincts_for, wishes_at};
-ghost use Rattle.jk_options.specs.Plans.{wishes_of, placing};
+ghost use Rattle.jk_options.specs.Plans.{wishes_of, is_frame, placing, placed_on};
 
 use crate::options::EncodeOptions;
 use crate::sizes::sizes;
 use jk_math::{Fault, Image};
-use jk_params::{Container, Parameters};
+use jk_params::{Container, Parameters, PictureFrame};
 use std::alloc::Global;
 
 /// How an image is encoded, before the image is known.
@@ -29,6 +31,24 @@ pub struct Plan {
 pub struct Placed {
     pub image: Image,
     pub parameters: Parameters,
+}
+
+/// The frame of an image at its place, and how the image is encoded.
+#[derive(Drop)]
+pub struct PlacedFrame {
+    pub frame: PictureFrame,
+    pub parameters: Parameters,
+}
+
+/// Whether an image of this size may stand at this place.
+fn is_frame(x0: u32, y0: u32, width: u32, height: u32) -> bool
+    ensures { result ≡ is_frame x0 y0 width height }
+{
+    width > 0
+        && height > 0
+        && x0 as u64 + (width as u64) < 1 << 31
+        && y0 as u64 + (height as u64) < 1 << 31
+        && width as u64 * height as u64 <= 1 << 28
 }
 
 /// A number that fits a byte.
@@ -147,5 +167,31 @@ impl Plan {
         let image = image.place(x0, y0)?;
         parameters.colour = image.planes().len() == 3 && colour;
         Ok(Placed { image, parameters })
+    }
+    /// The frame of an image at the place that is asked for, and how the image is encoded, as
+    /// [`Plan::place`] says of the image.
+    ///
+    /// BadParameters: a right or lower edge at 2^31 or beyond.
+    #[tactic(auto, unfolding(crate::specs::Plans::placing))]
+    pub fn place_frame(self, frame: PictureFrame) -> Result<PlacedFrame, Fault>
+        // What placing each image with this frame gives.
+        ensures exact { (p : Picture) → frame_of p ≡ frame → AnswersExactly (placed_on p) result (placing p self) }
+        ensures place { IfOk result (λ x. x.frame ≡ record frame { x0 = self.x0; y0 = self.y0 }) }
+        ensures size { IfOk result (λ x. IsFrame x.frame.x0 x.frame.y0 x.frame.width x.frame.height) }
+    {
+        let Plan {
+            mut parameters,
+            colour,
+            x0,
+            y0,
+        } = self;
+        if !is_frame(x0, y0, frame.width, frame.height) {
+            return Err(Fault::BadParameters);
+        }
+        parameters.colour = frame.components == 3 && colour;
+        Ok(PlacedFrame {
+            frame: PictureFrame { x0, y0, ..frame },
+            parameters,
+        })
     }
 }

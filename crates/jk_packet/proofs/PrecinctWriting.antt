@@ -240,10 +240,7 @@ pub bodies_flat : (shapes : List BandShape) (flat : List Table) (l : ℕ) → le
 unfolding bodies_text
 bodies_flat shapes flat l all = sym (flat_banded (λ t. (part_in t l).1) shapes flat all)
 
-pub packet_by : (shapes : List BandShape) (sop eph : Bool) (tables : List (List Table)) (l number : ℕ) (out : List ℕ) (header bodies : List ℕ) → header ≡ stuffed (bits_in shapes tables l) → bodies ≡ bodies_text tables l
-    → (out ++ (sop_text sop (number % 65536) ++ (header ++ eph_text eph))) ++ bodies ≡ out ++ packet_in shapes sop eph tables l number
+pub header_by : (shapes : List BandShape) (sop eph : Bool) (tables : List (List Table)) (l number : ℕ) (out : List ℕ) (header : List ℕ) → header ≡ stuffed (bits_in shapes tables l)
+    → out ++ (sop_text sop (number % 65536) ++ (header ++ eph_text eph)) ≡ out ++ header_in shapes sop eph tables l number
 unfolding header_in
-packet_by shapes sop eph tables l number out header bodies header_is bodies_are =
-    append_assoc out (sop_text sop (number % 65536) ++ (header ++ eph_text eph)) bodies
-    ∙ ap (λ (bs : List ℕ). out ++ ((sop_text sop (number % 65536) ++ (bs ++ eph_text eph)) ++ bodies)) header_is
-    ∙ ap (λ (bs : List ℕ). out ++ ((sop_text sop (number % 65536) ++ (stuffed (bits_in shapes tables l) ++ eph_text eph)) ++ bs)) bodies_are
+header_by shapes sop eph tables l number out header header_is = ap (λ (bs : List ℕ). out ++ (sop_text sop (number % 65536) ++ (bs ++ eph_text eph))) header_is

@@ -1,6 +1,6 @@
 //! The packets of a precinct, written layer by layer (T.800 B.9, B.10).
 
-ghost use Rattle.std.specs.Prelude.{◌≡◌, ℕ, ◌+◌, ◌*◌, ◌%◌, ◌<◌, ◌≤◌, ◌++◌, false, true, length, take, drop, IfOk};
+ghost use Rattle.std.specs.Prelude.{◌≡◌, ℕ, ◌+◌, ◌*◌, ◌%◌, ◌<◌, ◌≤◌, ◌++◌, false, true, length, take, drop, Some, IfOk};
 ghost use Rattle.std.specs.Prelude.{IfErr, IsErr, OnOk, MatchResult};
 ghost use Rattle.std.specs.List.{list_any, flat_map};
 ghost use Rattle.jk_math.specs.Front.{IsFront};
@@ -9,7 +9,8 @@ ghost use Rattle.jk_tree.specs.Telling.{with_bits};
 ghost use Rattle.jk_packet.specs.Shapes.{bands_of};
 ghost use Rattle.jk_bits.specs.Stuffing.{stuffed};
 ghost use Rattle.jk_packet.specs.PacketText.{eph_text};
-ghost use Rattle.jk_packet.specs.Written.{sop_text, has_passes, is_full, full_bits, bits_in, part_in, packet_in};
+ghost use Rattle.jk_packet.specs.Written.{sop_text, has_passes, is_full, full_bits, bits_in, part_in};
+ghost use Rattle.jk_packet.specs.Written.{header_in, packet_in};
 ghost use Rattle.jk_packet.specs.Written.{block_count, banded, AreTables};
 ghost use Rattle.jk_packet.specs.Writing.{BandsStand};
 
@@ -217,6 +218,33 @@ struct PacketPlace {
     number: u32,
 }
 
+/// Appends the header of a packet, with its markers.
+fn push_head(
+    alloc: Global,
+    bands: &mut Vec<WriteBand>,
+    shape: &PrecinctShape,
+    layers: u16,
+    tables: &[BlockTable],
+    place: PacketPlace,
+    out: &mut Vec<u8>,
+) -> Result<(), Fault>
+    requires tables { AreTables (bands_of shape.now) layers (banded (bands_of shape.now) tables.now) }
+    requires whole { length tables.now ≡ block_count (bands_of shape.now) }
+    requires layer { place.layer < layers }
+    requires stand { BandsStand (bands_of shape.now) (banded (bands_of shape.now) tables.now) place.layer bands.old.items }
+    ensures stand { IfOk result
+        (λ _. BandsStand (bands_of shape.now) (banded (bands_of shape.now) tables.now) (place.layer + 1) bands.new.items) }
+    ensures ok { OnOk result (out.new.items ≡ out.old.items
+        ++ header_in (bands_of shape.now) shape.now.sop shape.now.eph (banded (bands_of shape.now) tables.now)
+        place.layer place.number) }
+    ensures front { IsFront out.old.items out.new.items }
+    ensures memory { IfErr result (λ e. IsMemory e) }
+{
+    let header = write_bits(alloc, bands, shape, layers, tables, place.layer)?;
+    push_header(shape.sop(), shape.eph(), place.number, &header, out)?;
+    Ok(())
+}
+
 /// Appends a packet.
 fn push_packet(
     alloc: Global,
@@ -239,10 +267,27 @@ fn push_packet(
     ensures front { IsFront out.old.items out.new.items }
     ensures memory { IfErr result (λ e. IsMemory e) }
 {
-    let header = write_bits(alloc, bands, shape, layers, tables, place.layer)?;
-    push_header(shape.sop(), shape.eph(), place.number, &header, out)?;
+    push_head(alloc, bands, shape, layers, tables, place, out)?;
     push_bodies(tables, place.layer, out)?;
     Ok(())
+}
+
+/// Counts a layer that was written, or keeps the fault that it met.
+fn advance(
+    written: &mut u16,
+    fault: &mut Option<Fault>,
+    done: Result<(), Fault>,
+) -> Result<(), Fault>
+    requires { written.old < 65535 }
+    ensures same { result ≡ done }
+    ensures ok { OnOk done ((written.new ≡ written.old + 1) × (fault.new ≡ fault.old)) }
+    ensures err { IfErr done (λ e. (written.new ≡ written.old) × (fault.new ≡ Some e)) }
+{
+    match done {
+        Ok(()) => *written += 1,
+        Err(e) => *fault = Some(e),
+    }
+    done
 }
 
 impl<'a> PrecinctWriter<'a> {
@@ -299,26 +344,37 @@ impl<'a> PrecinctWriter<'a> {
         if let Some(fault) = self.fault {
             return Err(fault);
         }
-        match push_packet(
-            self.alloc,
-            &mut self.bands,
-            &self.shape,
-            self.layers,
-            self.tables,
-            PacketPlace {
-                layer: self.written,
-                number,
-            },
-            out,
-        ) {
-            Ok(()) => {
-                self.written += 1;
-                Ok(())
-            }
-            Err(fault) => {
-                self.fault = Some(fault);
-                Err(fault)
-            }
+        let place = PacketPlace {
+            layer: self.written,
+            number,
+        };
+        let (bands, shape, tables) = (&mut self.bands, &self.shape, self.tables);
+        let done = push_packet(self.alloc, bands, shape, self.layers, tables, place, out);
+        advance(&mut self.written, &mut self.fault, done)
+    }
+
+    /// Appends the header of the packet of the next layer, with its markers, as
+    /// [`PrecinctWriter::write_packet`] does: what follows are the bytes that the tables have of the
+    /// layer, one after another.
+    pub fn write_head(&mut self, number: u32, out: &mut Vec<u8>) -> Result<(), Fault>
+        requires { self.old.written < self.old.layers }
+        ensures ok { OnOk result (out.new.items ≡ out.old.items
+            ++ header_in self.old.shapes self.old.sop self.old.eph self.old.tables self.old.written number) }
+        ensures written { OnOk result (self.new ≡ record self.old { written = self.old.written + 1 }) }
+        ensures err { IfErr result (λ e. IsMemory e × (self.new ≡ record self.old { failed = true })) }
+        ensures front { IsFront out.old.items out.new.items }
+        // What has failed fails again, and appends nothing.
+        ensures stays { self.old.failed ≡ true → IsErr result × (out.new.items ≡ out.old.items) }
+    {
+        if let Some(fault) = self.fault {
+            return Err(fault);
         }
+        let place = PacketPlace {
+            layer: self.written,
+            number,
+        };
+        let (bands, shape, tables) = (&mut self.bands, &self.shape, self.tables);
+        let done = push_head(self.alloc, bands, shape, self.layers, tables, place, out);
+        advance(&mut self.written, &mut self.fault, done)
     }
 }

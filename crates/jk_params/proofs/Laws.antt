@@ -2,7 +2,7 @@
 -- that exponents don't change that.
 pub use Rattle.jk_params.proofs.PlacesLaws.{part_text_length, place_in, content_at, put, places_from, places_are, contents_from, contents_of}
 pub use Rattle.jk_params.proofs.PartsLaws.{tiles_said, fields_with, said_at}
-pub use Rattle.jk_params.proofs.ProfileLaws.{same_packets, tile_same}
+pub use Rattle.jk_params.proofs.ProfileLaws.{same_packets, tile_same, frame_is, profile_by_frame, written_by_frame, frame_by_written}
 pub use Rattle.jk_params.proofs.HeadersLaws.{found_headers}
 pub use Rattle.jk_params.proofs.HeadersAgain.{only_headers}
 pub use Rattle.jk_params.proofs.SoundLaws.{sound_headers}

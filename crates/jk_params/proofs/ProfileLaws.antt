@@ -23,7 +23,9 @@ use Rattle.jk_params.specs.declared.parameters.Parameters.{Parameters}
 use Rattle.jk_params.specs.Tiling.{first_tile, tile_side}
 use Rattle.jk_params.specs.Coding.{coding_with}
 use Rattle.jk_params.specs.Headers.{total, packets_alike, most_packets}
-use Rattle.jk_params.specs.Profile.{siz_of, cod_of, are_sizes, are_precincts, is_tile, is_contained, tiles_of, coding_for, packets_for, is_profile, IsWrittenBy}
+use Rattle.jk_params.specs.declared.picture_frame.PictureFrame.{PictureFrame}
+use Rattle.jk_params.specs.PictureFrames.{frame_of, IsPictureFrame}
+use Rattle.jk_params.specs.Profile.{siz_for, cod_of, are_sizes, are_precincts, is_tile, is_contained, tiles_for, coding_for, frame_packets, is_profile_for, is_profile, IsWrittenFor, IsWrittenBy}
 use Rattle.jk_params.proofs.GoodLaws.{coding_is}
 
 -- sums of the same numbers
@@ -184,21 +186,21 @@ tile_axes (Some t) x0 x1 y0 y1 e wide right high lower =
     (axis_some t.0 x0 x1 (leb-true 1 t.0 t2.0) (ltb-true t.0 (2 ^ 31) t2.1), axis_some t.1 y0 y1 (leb-true 1 t.1 t3.1) (ltb-true t.1 (2 ^ 31) t4.1))
 
 -- the size that is written
-pub siz_fits : (q : Parameters) (p : Picture) → IsPicture p → is_tile q.tile ≡ true → leb (tiles_of q.tile p) 65535 ≡ true → IsSiz (siz_of p q)
-siz_fits q p is tile tiles =
-    let f = is.frame in
-    let wide = f.wide in
-    let high = f.high in
-    let axes = tile_axes q.tile p.x0 (p.x0 + p.width) p.y0 (p.y0 + p.height) tile (omega (arith, wide)) f.right (omega (arith, high)) f.lower in
-    let w : p.x0 + p.width - p.x0 ≡ p.width = omega arith in
-    let h : p.y0 + p.height - p.y0 ≡ p.height = omega arith in
+pub siz_fits : (q : Parameters) (f : PictureFrame) → IsPictureFrame f → is_tile q.tile ≡ true → leb (tiles_for q.tile f) 65535 ≡ true → IsSiz (siz_for f q)
+siz_fits q f is tile tiles =
+    let size = is.frame in
+    let wide = size.wide in
+    let high = size.high in
+    let axes = tile_axes q.tile f.x0 (f.x0 + f.width) f.y0 (f.y0 + f.height) tile (omega (arith, wide)) size.right (omega (arith, high)) size.lower in
+    let w : f.x0 + f.width - f.x0 ≡ f.width = omega arith in
+    let h : f.y0 + f.height - f.y0 ≡ f.height = omega arith in
     record {
       part_one = lit< tt;
       wide = omega (arith, wide);
       high = omega (arith, high);
-      right = f.right;
-      lower = f.lower;
-      area = rw (w, h) f.area;
+      right = size.right;
+      lower = size.lower;
+      area = rw (w, h) size.area;
       tile_wide = axes.0.some;
       tile_high = axes.1.some;
       width_fits = axes.0.fits;
@@ -207,11 +209,11 @@ siz_fits q p is tile tiles =
       tile_right = axes.0.beyond;
       tile_upper = axes.1.before;
       tile_lower = axes.1.beyond;
-      tiles = leb-true (tiles_of q.tile p) 65535 tiles;
-      some_components = is.components.some;
-      few_components = is.components.few;
-      some_bits = is.components.some_bits;
-      few_bits = is.components.few_bits;
+      tiles = leb-true (tiles_for q.tile f) 65535 tiles;
+      some_components = is.some;
+      few_components = is.few;
+      some_bits = is.some_bits;
+      few_bits = is.few_bits;
     }
 
 -- the colour transform has three components to go over
@@ -220,19 +222,19 @@ colour_fits true n e is = leb-true 3 n e
 colour_fits false n e is = absurd cc
 
 -- what is within the profile can be written
-pub profile_means : (q : Parameters) (p : Picture) → IsPicture p → is_profile q p ≡ true → IsWrittenBy q p
-unfolding is_profile
-profile_means q p is e =
-    let n = length p.planes in
+pub profile_means : (q : Parameters) (f : PictureFrame) → IsPictureFrame f → is_profile_for q f ≡ true → IsWrittenFor q f
+unfolding is_profile_for
+profile_means q f is e =
+    let n = f.components in
     let a1 = are_sizes q in
     let a2 = a1 && are_precincts q.levels q.precincts.items in
     let a3 = a2 && is_tile q.tile in
     let a4 = a3 && (not q.colour || leb 3 n) in
-    let a5 = a4 && is_contained q.container n p.signed in
-    let a6 = a5 && leb (tiles_of q.tile p) 65535 in
-    let t7 = and_parts a6 (leb (packets_for q p) most_packets) e in
-    let t6 = and_parts a5 (leb (tiles_of q.tile p) 65535) t7.0 in
-    let t5 = and_parts a4 (is_contained q.container n p.signed) t6.0 in
+    let a5 = a4 && is_contained q.container n f.signed in
+    let a6 = a5 && leb (tiles_for q.tile f) 65535 in
+    let t7 = and_parts a6 (leb (frame_packets q f) most_packets) e in
+    let t6 = and_parts a5 (leb (tiles_for q.tile f) 65535) t7.0 in
+    let t5 = and_parts a4 (is_contained q.container n f.signed) t6.0 in
     let t4 = and_parts a3 (not q.colour || leb 3 n) t5.0 in
     let t3 = and_parts a2 (is_tile q.tile) t4.0 in
     let t2 = and_parts a1 (are_precincts q.levels q.precincts.items) t3.0 in
@@ -243,13 +245,58 @@ profile_means q p is e =
     record {
       sizes = t2.0;
       precincts = t2.1;
-      siz = siz_fits q p is t3.1 t6.1;
+      siz = siz_fits q f is t3.1 t6.1;
       cod = record { some_layers = omega (arith, some); few_layers = omega (arith, few); colour = colour_fits q.colour n t4.1; style = style };
       coding = coding_is (cod_of q).style (record { guard = 2; exponents = [] }) style;
-      few = leb-true (packets_for q p) most_packets t7.1;
+      few = leb-true (frame_packets q f) most_packets t7.1;
       tile = t3.1;
       tiles = t6.1;
       contained = t5.1;
       levels = s.levels;
       layers = (s.some, s.few);
     }
+
+-- The frame of a picture is one that a picture may have.
+pub frame_is : (p : Picture) → IsPicture p → IsPictureFrame (frame_of p)
+frame_is p is = record {
+  frame = is.frame;
+  some_bits = is.components.some_bits;
+  few_bits = is.components.few_bits;
+  some = is.components.some;
+  few = is.components.few;
+}
+
+-- An image is within the profile as its frame is, and is written as its frame is.
+pub profile_by_frame : (q : Parameters) (p : Picture) → is_profile q p ≡ is_profile_for q (frame_of p)
+unfolding is_profile
+profile_by_frame q p = refl
+
+pub written_by_frame : (q : Parameters) (p : Picture) → IsWrittenFor q (frame_of p) → IsWrittenBy q p
+written_by_frame q p by = record {
+  sizes = by.sizes;
+  precincts = by.precincts;
+  siz = by.siz;
+  cod = by.cod;
+  coding = by.coding;
+  few = by.few;
+  tile = by.tile;
+  tiles = by.tiles;
+  contained = by.contained;
+  levels = by.levels;
+  layers = by.layers;
+}
+
+pub frame_by_written : (q : Parameters) (p : Picture) → IsWrittenBy q p → IsWrittenFor q (frame_of p)
+frame_by_written q p by = record {
+  sizes = by.sizes;
+  precincts = by.precincts;
+  siz = by.siz;
+  cod = by.cod;
+  coding = by.coding;
+  few = by.few;
+  tile = by.tile;
+  tiles = by.tiles;
+  contained = by.contained;
+  levels = by.levels;
+  layers = by.layers;
+}

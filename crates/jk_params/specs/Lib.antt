@@ -10,5 +10,6 @@ pub mod Headers
 pub mod Tables
 pub mod HeadersReading
 pub mod Tiling
+pub mod PictureFrames
 pub mod Profile
 pub mod Levels

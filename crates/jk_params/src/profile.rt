@@ -9,13 +9,16 @@ ghost use Rattle.jk_marks.specs.Siz.{IsSiz};
 ghost use Rattle.jk_geom.specs.TileShapes.{AreCodings};
 ghost use Rattle.jk_params.specs.Coding.{coding_with};
 ghost use Rattle.jk_params.specs.Headers.{most_packets};
-ghost use Rattle.jk_params.specs.Profile.{siz_of, cod_of, coding_for, packets_for, are_sizes, are_precincts, is_tile};
-ghost use Rattle.jk_params.specs.Profile.{is_contained, is_profile, tiles_of, IsWrittenBy};
+ghost use Rattle.jk_params.specs.PictureFrames.{IsPictureFrame};
+ghost use Rattle.jk_params.specs.Profile.{siz_of, siz_for, cod_of, coding_for, frame_packets, are_sizes, are_precincts};
+ghost use Rattle.jk_params.specs.Profile.{is_tile, is_contained, is_profile, is_profile_for, tiles_of, tiles_for};
+ghost use Rattle.jk_params.specs.Profile.{IsWrittenBy, IsWrittenFor};
 ghost use Rattle.jk_params.specs.Tiling.{first_tile, tile_side, tiles_between};
 
 use crate::coding::coding;
 use crate::count::count_alike;
 use crate::parameters::{Container, Parameters};
+use crate::picture_frame::{PictureFrame, frame_of};
 use jk_geom::Codings;
 use jk_marks::{Cod, Coding, CodingStyle, Exponents, Precincts, Quantisation, Siz};
 use jk_math::{Fault, Image};
@@ -137,27 +140,28 @@ fn sides(tile: Option<(u32, u32)>) -> (Option<u32>, Option<u32>)
 }
 
 /// Whether the tiling has at most 65,535 tiles.
-fn are_few_tiles(tile: Option<(u32, u32)>, image: &Image) -> bool
-    requires { is_tile tile ≡ true }
-    ensures { result ≡ nat_le (tiles_of tile image.now) 65535 }
+fn are_few_tiles(tile: Option<(u32, u32)>, frame: &PictureFrame) -> bool
+    requires tile { is_tile tile ≡ true }
+    requires frame { IsPictureFrame frame.now }
+    ensures { result ≡ nat_le (tiles_for tile frame.now) 65535 }
 {
-    let (x0, y0) = (image.x0(), image.y0());
-    let (x1, y1) = (x0 + image.width(), y0 + image.height());
+    let (x0, y0) = (frame.x0, frame.y0);
+    let (x1, y1) = (x0 + frame.width, y0 + frame.height);
     let (width, height) = sides(tile);
     tiles(width, x0, x1) * tiles(height, y0, y1) <= 65535
 }
 
-/// The image and tile size segment that is written (T.800 A.5.1).
+/// The image and tile size segment that is written of an image with this frame (T.800 A.5.1).
 #[tactic(auto, using(crate::proofs::ProfileLaws::siz_fits))]
-pub fn siz_of(image: &Image, parameters: &Parameters) -> Siz
+pub fn siz_for(frame: &PictureFrame, parameters: &Parameters) -> Siz
+    requires frame { IsPictureFrame frame.now }
     requires tile { is_tile parameters.now.tile ≡ true }
-    requires few { nat_le (tiles_of parameters.now.tile image.now) 65535 ≡ true }
-    ensures value { result ≡ siz_of image.now parameters.now }
+    requires few { nat_le (tiles_for parameters.now.tile frame.now) 65535 ≡ true }
+    ensures value { result ≡ siz_for frame.now parameters.now }
     ensures siz { IsSiz result }
-    ensures picture { IsPicture image.now }
 {
-    let (x0, y0) = (image.x0(), image.y0());
-    let (x1, y1) = (x0 + image.width(), y0 + image.height());
+    let (x0, y0) = (frame.x0, frame.y0);
+    let (x1, y1) = (x0 + frame.width, y0 + frame.height);
     let (width, height) = sides(parameters.tile);
     Siz {
         rsiz: 0,
@@ -169,10 +173,21 @@ pub fn siz_of(image: &Image, parameters: &Parameters) -> Siz
         tile_height: tile_side(height, y1),
         tile_x0: first_tile(width, x0),
         tile_y0: first_tile(height, y0),
-        components: image.planes().len() as u16,
-        depth: image.depth(),
-        signed: image.signed(),
+        components: frame.components,
+        depth: frame.depth,
+        signed: frame.signed,
     }
+}
+
+/// The image and tile size segment that is written (T.800 A.5.1).
+pub fn siz_of(image: &Image, parameters: &Parameters) -> Siz
+    requires tile { is_tile parameters.now.tile ≡ true }
+    requires few { nat_le (tiles_of parameters.now.tile image.now) 65535 ≡ true }
+    ensures value { result ≡ siz_of image.now parameters.now }
+    ensures siz { IsSiz result }
+    ensures picture { IsPicture image.now }
+{
+    siz_for(&frame_of(image), parameters)
 }
 
 /// The coding style segment that is written (T.800 A.6.1).
@@ -234,15 +249,15 @@ pub fn codings_for(parameters: &Parameters, components: usize) -> Codings
 }
 
 /// Whether there are at most 2^24 packets.
-fn are_few_packets(image: &Image, parameters: &Parameters) -> bool
+fn are_few_packets(frame: &PictureFrame, parameters: &Parameters) -> bool
+    requires frame { IsPictureFrame frame.now }
     requires sizes { are_sizes parameters.now ≡ true }
     requires precincts { are_precincts parameters.now.levels parameters.now.precincts.items ≡ true }
     requires tile { is_tile parameters.now.tile ≡ true }
-    requires few { nat_le (tiles_of parameters.now.tile image.now) 65535 ≡ true }
-    ensures value { result ≡ nat_le (packets_for parameters.now image.now) most_packets }
-    ensures picture { IsPicture image.now }
+    requires few { nat_le (tiles_for parameters.now.tile frame.now) 65535 ≡ true }
+    ensures { result ≡ nat_le (frame_packets parameters.now frame.now) most_packets }
 {
-    let siz = siz_of(image, parameters);
+    let siz = siz_for(frame, parameters);
     let codings = codings_for(parameters, siz.components as usize);
     count_alike(&siz, parameters.layers, &codings) <= 1 << 24
 }
@@ -258,20 +273,32 @@ impl Parameters {
         // What is within the profile has a size, and a coding that can be counted.
         ensures sound { IfOk result (λ _. IsWrittenBy self.now image.now) }
     {
-        let components = image.planes().len();
+        self.check_frame(&frame_of(image))
+    }
+
+    /// Whether an image with this frame is written with these parameters, as [`Parameters::check`]
+    /// says: the samples say nothing of it.
+    #[tactic(auto, unfolding(crate::specs::Profile::is_profile_for))]
+    pub fn check_frame(&self, frame: &PictureFrame) -> Result<(), Fault>
+        requires { IsPictureFrame frame.now }
+        ensures exact { result ≡ (if is_profile_for self.now frame.now then Ok tt else Err Fault.BadParameters) }
+        // What is within the profile has a size, and a coding that can be counted.
+        ensures sound { IfOk result (λ _. IsWrittenFor self.now frame.now) }
+    {
+        let components = frame.components as usize;
         if !sizes(self) || !precincts(self.levels, &self.precincts) {
             return Err(Fault::BadParameters);
         }
         if self.colour && components < 3 {
             return Err(Fault::BadParameters);
         }
-        if !container(self.container, components, image.signed()) {
+        if !container(self.container, components, frame.signed) {
             return Err(Fault::BadParameters);
         }
-        if !tile(self.tile) || !are_few_tiles(self.tile, image) {
+        if !tile(self.tile) || !are_few_tiles(self.tile, frame) {
             return Err(Fault::BadParameters);
         }
-        if !are_few_packets(image, self) {
+        if !are_few_packets(frame, self) {
             return Err(Fault::BadParameters);
         }
         Ok(())

@@ -5,4 +5,5 @@ pub mod Reading
 pub mod Written
 pub mod Sending
 pub mod Rasters
+pub mod RasterRows
 pub mod Examples

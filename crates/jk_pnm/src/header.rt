@@ -2,7 +2,7 @@
 
 ghost use Rattle.std.specs.Prelude.{◌≡◌, ◌*◌, ◌+◌, ◌<◌, ◌≤◌, ◌^◌, false, length, nat_lt, IfOk};
 ghost use Rattle.jk_math.specs.Answer.{AnswersExactly};
-ghost use Rattle.jk_pnm.specs.Pnm.{is_space, is_line_end, components_of};
+ghost use Rattle.jk_pnm.specs.Pnm.{is_space, is_line_end, components_of, sample_size};
 ghost use Rattle.jk_pnm.specs.Reading.{magic_at, after_gap, gap_at, digits_at, number_at, field_at, depth_at};
 ghost use Rattle.jk_pnm.specs.Reading.{raster_size, header_at};
 
@@ -39,6 +39,14 @@ impl Header {
         ensures { result ≡ nat_lt 255 self.now.maxval }
     {
         self.maxval > 255
+    }
+
+    /// Bytes of a row.
+    pub fn row_size(&self) -> usize
+        ensures { result ≡ self.now.width * components_of self.now.colour * sample_size self.now.maxval }
+    {
+        let samples = self.width as usize * self.components();
+        if self.is_wide() { samples * 2 } else { samples }
     }
 
     /// Bytes of the raster.

@@ -5,11 +5,13 @@ mod header;
 mod pieces;
 mod rasters;
 mod reading;
+mod rows;
 mod theorems;
 mod writing;
 
 pub use pieces::{write_into, write_raster_into};
 pub use rasters::{RasterFrame, raster, write_head_into, write_rasters_into};
 pub use reading::{read, read_owned};
+pub use rows::{RasterRows, raster_rows};
 pub use theorems::one_picture;
 pub use writing::write;

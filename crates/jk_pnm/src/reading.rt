@@ -131,7 +131,7 @@ fn page(header: &Header, planes: Vec<Vec<i32>>) -> Result<Image, Fault>
 }
 
 /// The picture of a raster. BadPnm: a sample above maxval.
-fn picture(alloc: Global, header: &Header, raster: &[u8]) -> Result<Image, Fault>
+pub(crate) fn picture(alloc: Global, header: &Header, raster: &[u8]) -> Result<Image, Fault>
     requires wide { 0 < header.now.width }
     requires high { 0 < header.now.height }
     requires area { header.now.width * header.now.height ≤ 2 ^ 28 }

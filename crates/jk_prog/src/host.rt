@@ -1,13 +1,14 @@
 //! The world of the program: the system's files, streams and sockets.
 
 use crate::files;
+use crate::finder::FolderFinder;
 use crate::keeper::{FolderKeeper, tell_waiting};
 use crate::serving::{Asked, shelves};
 use jk_files::{Lock, Lockable, Refusal, SharedLock, wait_exclusive, wait_shared};
-use jk_line::{Folders, Serving, Streams, Work, Working};
+use jk_line::{Folders, Meanwhile, Serving, Streams, Work, Working};
 use jk_math::Fault;
-use jk_serve::{Desk, Paths, bind};
-use jk_store::{Archive, Folder};
+use jk_serve::{Desk, Opening, Paths, bind};
+use jk_store::{Archive, Folder, image_name};
 use jk_terminal::{Counted, Late, Watched};
 use std::alloc::Global;
 use std::fmt::Display;
@@ -191,6 +192,46 @@ impl<R: Files + Print + Eprint + Clock + Drop + Threads + Wait + Sync> Working f
     }
 }
 
+/// The names of images under which the last listing of a folder found what can't be opened as a
+/// file.
+fn passed<R: Files + Drop>(alloc: Global, folder: &Folder<R>) -> Result<Vec<String>, Fault> {
+    let mut names = Vec::new(alloc);
+    for other in folder.others() {
+        if let Some(name) = image_name(other.name.as_str()) {
+            names.push(String::from_str(alloc, name)?)?;
+        }
+    }
+    Ok(names)
+}
+
+impl<R: Files + Clone + Drop + Net<Listener = TcpListener, Stream = TcpStream>> Host<R> {
+    /// What is to be served: the port, which is listened on from now on, and the archive of a folder
+    /// with who adds to it and what reads it.
+    fn asked(
+        &mut self,
+        alloc: Global,
+        folder: &str,
+        archive: Archive<Watched<Folder<R>, R>>,
+        serving: Serving,
+    ) -> Result<Asked<R>, Fault> {
+        let answer = bind(&self.rt, serving.port);
+        let port = self.kept_of_system(answer)?;
+        let desk = Desk {
+            archive,
+            keeper: FolderKeeper::new(self.rt.clone()?, alloc, folder, self.is_terminal)?,
+            paths: Paths::new(self.rt.clone()?),
+        };
+        let shelves = shelves(&self.rt, alloc, folder, serving.workers)?;
+        Ok(Asked {
+            port,
+            desk,
+            shelves,
+            serving,
+            opening: None,
+        })
+    }
+}
+
 impl<
     R: Files
         + Input
@@ -292,22 +333,29 @@ where
         archive: Archive<Watched<Folder<R>, R>>,
         serving: Serving,
     ) -> Result<(), Fault> {
-        let port = match bind(&self.rt, serving.port) {
-            Ok(port) => port,
-            Err(said) => return self.kept(Err(Refusal::System(said))),
+        let asked = self.asked(alloc, folder, archive, serving)?;
+        self.asked = Some(asked);
+        Ok(())
+    }
+
+    fn serve_opening(
+        &mut self,
+        alloc: Global,
+        folder: &str,
+        archive: Archive<Watched<Folder<R>, R>>,
+        serving: Serving,
+        meanwhile: Meanwhile,
+    ) -> Result<(), Fault> {
+        let Meanwhile { names, watch } = meanwhile;
+        let opening = Opening {
+            finder: FolderFinder::new(&self.rt, alloc, folder)?,
+            names,
+            passed: passed(alloc, archive.shelf().shelf())?,
+            watch,
         };
-        let desk = Desk {
-            archive,
-            keeper: FolderKeeper::new(self.rt.clone()?, alloc, folder, self.is_terminal)?,
-            paths: Paths::new(self.rt.clone()?),
-        };
-        let shelves = shelves(&self.rt, alloc, folder, serving.workers)?;
-        self.asked = Some(Asked {
-            port,
-            desk,
-            shelves,
-            serving,
-        });
+        let mut asked = self.asked(alloc, folder, archive, serving)?;
+        asked.opening = Some(opening);
+        self.asked = Some(asked);
         Ok(())
     }
 }

@@ -2,12 +2,13 @@
 #![tactic(auto)]
 
 mod files;
+mod finder;
 mod host;
 mod keeper;
 mod serving;
 
 use crate::host::Host;
-use crate::serving::{Asked, serve};
+use crate::serving::{Asked, Lines, serve, serve_opening};
 use jk_line::{FaultLine, Status, run};
 use jk_math::Fault;
 use jk_terminal::Teller;
@@ -77,8 +78,17 @@ fn main(rt: HostRuntime) -> ExitCode {
                         mut desk,
                         shelves,
                         serving,
+                        opening,
                     } = asked;
-                    ended(&rt, serve(&rt, alloc, port, &mut desk, shelves, serving))
+                    let served = match opening {
+                        Some(opening) => {
+                            let asked = (port, serving);
+                            let streams = (Lines { rt: &rt }, io::writer(&rt));
+                            serve_opening(&rt, alloc, asked, desk, opening, shelves, streams)
+                        }
+                        None => serve(&rt, alloc, port, &mut desk, shelves, serving),
+                    };
+                    ended(&rt, served)
                 }
                 None => status,
             }

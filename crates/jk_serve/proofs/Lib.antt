@@ -1,1 +1,2 @@
 pub mod OperatingLaws
+pub mod TableLaws

@@ -58,3 +58,31 @@ grows_still a b w same = record {
   published = prefix_self (list w);
   same_hall = refl;
 }
+
+-- Behind a look that left the entries the same: what was listed and what waits.
+module _ {S : Type 0} (a m b : Archive S) (w v : Writer) (same : entries_of m ≡ entries_of a) where
+  more_behind : (entries_of b ≡ entries_of m) ⊎ ((entry : Entry) × (entries_of b ≡ entries_of m ++ entry ∷ []))
+      → (entries_of b ≡ entries_of a) ⊎ ((entry : Entry) × (entries_of b ≡ entries_of a ++ entry ∷ []))
+  more_behind (inl none) = inl (none ∙ same)
+  more_behind (inr one) = inr (one.0, behind a m b one.0 same one.1)
+
+  wait_behind : (waits v ≡ waits w) ⊎ ((entry : Entry) × (waits v ≡ waits w ++ entry ∷ []) × (entries_of b ≡ entries_of m ++ entry ∷ []))
+      → (waits v ≡ waits w) ⊎ ((entry : Entry) × (waits v ≡ waits w ++ entry ∷ []) × (entries_of b ≡ entries_of a ++ entry ∷ []))
+  wait_behind (inl none) = inl none
+  wait_behind (inr one) = inr (one.0, one.1, behind a m b one.0 same one.2)
+
+-- What comes to an archive and to what is published behind such a look.
+module _ {S A E : Type 0} (a m b : Archive S) (u w v : Writer) (same : entries_of m ≡ entries_of a) (there : w ≡ u) where
+  pub added_behind : (name : List ℕ) (r : Result A E) → OnOk r (IsAdded name m b w v) → OnOk r (IsAdded name a b u v)
+  added_behind name (Ok x) is = subst (λ t. IsAdded name a b t v) there
+      (record { entry = is.entry; named = is.named; added = behind a m b is.entry same is.added; published = is.published; none_waits = is.none_waits })
+  added_behind name (Err x) is = tt
+
+  pub refused_behind : (r : Result A E) → OnErr r (IsRefused m b w v) → OnErr r (IsRefused a b u v)
+  refused_behind (Ok x) is = tt
+  refused_behind (Err x) is = subst (λ t. IsRefused a b t v) there
+      (record { published = is.published; added = more_behind a m b w v same is.added; waiting = wait_behind a m b w v same is.waiting })
+
+-- the same writer, by another name
+pub grows_there : {S : Type 0} (a b : Archive S) (u w : Writer) → entries_of b ≡ entries_of a → w ≡ u → Grows a b u w
+grows_there a b u w same there = subst (λ t. Grows a b u t) (sym there) (grows_still a b u same)

@@ -1,3 +1,4 @@
 pub mod OperatorLines
 pub mod Operating
+pub mod Tables
 pub mod Examples

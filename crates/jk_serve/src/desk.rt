@@ -36,7 +36,12 @@ pub struct Desk<S, K, P> {
 }
 
 /// An image, encoded with the parameters that stand where none are given, and its entry.
-fn prepare(alloc: Global, name: &str, image: Image, plan: Plan) -> Result<Prepared, Fault>
+pub(crate) fn prepare(
+    alloc: Global,
+    name: &str,
+    image: Image,
+    plan: Plan,
+) -> Result<Prepared, Fault>
     ensures named { IfOk result (λ p. string_bytes p.name ≡ name.now) }
 {
     let encoded = match plan.place(image) {

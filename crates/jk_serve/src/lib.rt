@@ -3,15 +3,28 @@
 #![tactic(auto)]
 
 mod desk;
+mod distant_desk;
+mod finder;
+mod noticing;
+mod opener;
 mod operating;
 mod operator_line;
+mod owner;
 mod paths;
+mod post;
 mod serving;
+mod serving_opening;
+mod table;
+mod waiting;
 
 pub use desk::{Desk, Keeper};
+pub use finder::Finder;
+pub use jk_files::Stamp;
 pub use jk_port::{Arriving, Kept, Log, Pace, Port, Record, bind};
 pub use jk_store::{added_text, refused_text};
+pub use opener::Opening;
 pub use operating::operate;
 pub use operator_line::{Adding, adding_of};
 pub use paths::Paths;
 pub use serving::{Served, serve_port};
+pub use serving_opening::{Ends, serve_meanwhile, serve_opening};

@@ -6,7 +6,7 @@ ghost use Rattle.jk_math.specs.declared.fault.Fault.TheVariants.{Shelf as ShelfF
 ghost use Rattle.jk_hall.specs.Writing.{waits};
 
 use crate::desk::{Desk, Keeper};
-use crate::operator_line::adding_of;
+use crate::operator_line::{Adding, adding_of};
 use jk_hall::Writer;
 use jk_math::Fault;
 use jk_store::{Shelf, added_text, refused_text};
@@ -31,12 +31,27 @@ fn tell<O: Write>(output: &mut O, text: &str) -> Result<(), Fault>
     }
 }
 
+/// Where the images are added that the operator's lines ask for.
+pub(crate) trait Adds {
+    /// What publishes them, where that isn't a part of it.
+    type Beside;
+
+    /// Adds the image of a file, and publishes it.
+    fn take<R: Wait>(
+        &mut self,
+        rt: &R,
+        alloc: Global,
+        beside: &mut Self::Beside,
+        adding: Adding<'_>,
+    ) -> Result<(), Fault>;
+}
+
 /// Does what a line asks for, and answers it. Lines that ask for nothing are passed over.
-fn follow<R: Wait, S: Shelf, K: Keeper<S>, P: Shelf, O: Write>(
+fn follow<R: Wait, A: Adds, O: Write>(
     rt: &R,
     alloc: Global,
-    desk: &mut Desk<S, K, P>,
-    writer: &mut Writer,
+    adds: &mut A,
+    beside: &mut A::Beside,
     line: &[u8],
     output: &mut O,
 ) -> Result<(), Fault>
@@ -48,7 +63,7 @@ fn follow<R: Wait, S: Shelf, K: Keeper<S>, P: Shelf, O: Write>(
     let Some(adding) = adding_of(line) else {
         return Ok(());
     };
-    let answer = match desk.add(rt, alloc, writer, adding.name, adding.path) {
+    let answer = match adds.take(rt, alloc, beside, adding) {
         Ok(()) => added_text(alloc, adding.name)?,
         Err(fault) => refused_text(alloc, adding.name, fault)?,
     };
@@ -57,11 +72,11 @@ fn follow<R: Wait, S: Shelf, K: Keeper<S>, P: Shelf, O: Write>(
 
 /// Takes up bytes: does what the lines ask for that end in them, and keeps the beginning of the next
 /// one.
-fn take_up<R: Wait, S: Shelf, K: Keeper<S>, P: Shelf, O: Write>(
+fn take_up<R: Wait, A: Adds, O: Write>(
     rt: &R,
     alloc: Global,
-    desk: &mut Desk<S, K, P>,
-    writer: &mut Writer,
+    adds: &mut A,
+    beside: &mut A::Beside,
     line: &mut Vec<u8>,
     bytes: &[u8],
     output: &mut O,
@@ -70,13 +85,53 @@ fn take_up<R: Wait, S: Shelf, K: Keeper<S>, P: Shelf, O: Write>(
 {
     for byte in bytes {
         if *byte == b'\n' {
-            follow(rt, alloc, desk, writer, line.as_slice(), output)?;
+            follow(rt, alloc, adds, beside, line.as_slice(), output)?;
             line.clear();
         } else {
             line.push(*byte)?;
         }
     }
     Ok(())
+}
+
+/// Reads lines to the end of the input, does what they ask for, and answers each.
+pub(crate) fn follow_all<R: Wait, A: Adds, I: Read, O: Write>(
+    rt: &R,
+    alloc: Global,
+    adds: &mut A,
+    beside: &mut A::Beside,
+    input: &mut I,
+    output: &mut O,
+) -> Result<(), Fault>
+    ensures cause { IfErr result (λ e. IsMemory e ⊎ (e ≡ ShelfFault)) }
+{
+    let mut piece = [0u8; PIECE];
+    let mut line = Vec::new(alloc);
+    for _read in 0..u64::MAX {
+        let count = match input.read(&mut piece) {
+            Ok(0) => break,
+            Ok(count) => count,
+            Err(said) if said.kind() == ErrorKind::Interrupted => continue,
+            Err(_) => return Err(Fault::Shelf),
+        };
+        take_up(rt, alloc, adds, beside, &mut line, &piece[..count], output)?;
+    }
+    follow(rt, alloc, adds, beside, &line, output)
+}
+
+impl<S: Shelf, K: Keeper<S>, P: Shelf> Adds for Desk<S, K, P> {
+    type Beside = Writer;
+
+    fn take<R: Wait>(
+        &mut self,
+        rt: &R,
+        alloc: Global,
+        beside: &mut Writer,
+        adding: Adding<'_>,
+    ) -> Result<(), Fault> {
+        let Adding { name, path } = adding;
+        self.add(rt, alloc, beside, name, path)
+    }
 }
 
 /// Reads lines to the end of the input, and does what they ask for: a line `add NAME PATH` adds the
@@ -97,17 +152,6 @@ pub fn operate<R: Wait, S: Shelf, K: Keeper<S>, P: Shelf, I: Read, O: Write>(
     ensures settled { OnOk result (waits writer.new ≡ []) }
     ensures cause { IfErr result (λ e. IsMemory e ⊎ (e ≡ ShelfFault)) }
 {
-    let mut piece = [0u8; PIECE];
-    let mut line = Vec::new(alloc);
-    for _read in 0..u64::MAX {
-        let count = match input.read(&mut piece) {
-            Ok(0) => break,
-            Ok(count) => count,
-            Err(said) if said.kind() == ErrorKind::Interrupted => continue,
-            Err(_) => return Err(Fault::Shelf),
-        };
-        take_up(rt, alloc, desk, writer, &mut line, &piece[..count], output)?;
-    }
-    follow(rt, alloc, desk, writer, &line, output)?;
+    follow_all(rt, alloc, desk, writer, input, output)?;
     writer.settle(rt)
 }

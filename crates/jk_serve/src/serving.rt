@@ -4,12 +4,13 @@ ghost use Rattle.std.specs.Prelude.{◌≡◌, ◌<◌, vec_len};
 
 use crate::desk::{Desk, Keeper};
 use crate::operating::operate;
+use crate::table::entries;
 use jk_hall::{Hall, Reader, Writer, serve_all};
 use jk_jobs::Open;
 use jk_math::Fault;
 use jk_port::Arriving;
-use jk_store::{Entry, Shelf};
-use std::alloc::{AllocError, Global};
+use jk_store::Shelf;
+use std::alloc::Global;
 use std::sync::{Arc, Wait};
 use std::thread::{JoinHandle, Threads};
 use std::time::Clock;
@@ -68,7 +69,7 @@ where
 
 /// Starts the thread that writes the log, if there is one. Where it can't be started that is told,
 /// and no line of the log is written.
-fn start_log<R>(rt: &R, alloc: Global, source: &Arriving<R>) -> Option<JoinHandle<()>>
+pub(crate) fn start_log<R>(rt: &R, alloc: Global, source: &Arriving<R>) -> Option<JoinHandle<()>>
 where
     R: Threads + Wait + Clock + Eprint + Clone + Drop + Send + Sync + 'static,
 {
@@ -84,7 +85,7 @@ where
 }
 
 /// Lets the log be written to its end.
-fn end_log<R>(rt: &R, source: &Arriving<R>, writing: Option<JoinHandle<()>>)
+pub(crate) fn end_log<R>(rt: &R, source: &Arriving<R>, writing: Option<JoinHandle<()>>)
 where
     R: Threads + Wait + Clock + Eprint + Clone + Drop,
 {
@@ -94,18 +95,6 @@ where
     if let Some(writing) = writing {
         writing.join(rt);
     }
-}
-
-/// The entries of an archive.
-fn entries<S: Shelf, K, P>(
-    alloc: Global,
-    desk: &Desk<S, K, P>,
-) -> Result<Vec<Arc<Entry>>, AllocError> {
-    let mut entries = Vec::new(alloc);
-    for entry in desk.archive.list() {
-        entries.push(Arc::try_clone(entry)?)?;
-    }
-    Ok(entries)
 }
 
 /// Serves the images of an archive on a port, with a worker for each of the shelves, until so many
@@ -124,7 +113,7 @@ pub fn serve_port<R, S: Shelf, K: Keeper<S>, P: Shelf, F: Shelf + Drop + Send>(
 where
     R: Threads + Wait + Clock + Input + Print + Eprint + Clone + Drop + Send + Sync + 'static,
 {
-    let entries = entries(alloc, desk)?;
+    let entries = entries(alloc, &desk.archive)?;
     if shelves.is_empty() {
         return Err(Fault::BadParameters);
     }

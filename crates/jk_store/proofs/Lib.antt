@@ -13,6 +13,7 @@ pub mod ShowingLaws
 pub mod OpenedLaws
 pub mod AddedLaws
 pub mod MadeLaws
+pub mod ListingLaws
 pub mod PartsLaws
 pub mod GivenLaws
 pub mod ReadingLaws

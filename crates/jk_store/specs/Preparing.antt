@@ -1,7 +1,9 @@
 -- What is at hand of an image before it is stored.
 use Rattle.std.specs.Prelude.{ℕ, List, Result, Ok, Err}
 use Rattle.std.specs.String.{string_bytes}
+use Rattle.jk_math.specs.Answer.{◌>>=◌}
 use Rattle.jk_math.specs.declared.fault.Fault.{Fault}
+use Rattle.jk_store.specs.Catalogue.{image_at}
 use Rattle.jk_store.specs.Checking.{given_bytes}
 use Rattle.jk_store.specs.Adding.{stored_due, added_due}
 use Rattle.jk_store.specs.declared.entry.Entry.{Entry}
@@ -22,3 +24,9 @@ ready_bytes (Err e) = Err e
 -- fault
 abbrev pub due_beside : List Entry → Prepared → Result (List ℕ) Fault
 due_beside entries p = added_due entries (string_bytes p.name) (ready_bytes p.made)
+
+-- the bytes of a file that is an image of an archive, or the first fault
+unfoldable pub image_due : List ℕ → Result (List ℕ) Fault
+image_due bytes = do
+  _ ← image_at bytes
+  Ok bytes

@@ -6,7 +6,7 @@ ghost use Rattle.jk_math.specs.Memory.{IsMemory};
 ghost use Rattle.jk_store.specs.Counting.{last_count, Counts};
 
 use crate::failures::Failures;
-use crate::names::{is_image_file, is_left_file, name_of};
+use crate::names::{image_name, is_image_file, is_left_file};
 use crate::shelf::Shelf;
 use jk_files::{Other, Refusal};
 use jk_math::Fault;
@@ -76,7 +76,7 @@ impl<R: Files + Drop> Folder<R> {
     /// Whether the last listing left out something under the name of an image.
     pub fn has_other(&self, name: &str) -> bool {
         for other in &self.others {
-            if name_of(other.name.as_str()) == Some(name) {
+            if image_name(other.name.as_str()) == Some(name) {
                 return true;
             }
         }

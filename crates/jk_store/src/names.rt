@@ -61,7 +61,7 @@ pub(crate) fn temporary_name(alloc: Global, name: &str) -> Result<String, Fault>
 }
 
 /// The name of the image of which a file is, if it has a good one.
-pub(crate) fn name_of(file: &str) -> Option<&str>
+pub fn image_name(file: &str) -> Option<&str>
     ensures { MatchOption result
         ((n : List ℕ) → is_file_of n file.now ≡ false) (λ m. (n : List ℕ) → is_file_of n file.now ≡ bytes_eq m.now n) }
 {
@@ -71,7 +71,7 @@ pub(crate) fn name_of(file: &str) -> Option<&str>
 
 /// Whether a file is that of an image with a good name.
 pub fn is_image_file(file: &str) -> bool {
-    name_of(file).is_some()
+    image_name(file).is_some()
 }
 
 /// Whether a file is one that was left while an image was written.
@@ -88,7 +88,7 @@ fn add_name(alloc: Global, names: &mut BTreeSet<String>, file: &str) -> Result<(
         ((n : List ℕ) → contains_text names.new n ≡ (is_file_of n file.now || contains_text names.old n)) }
     ensures err { IfErr result IsMemory }
 {
-    if let Some(name) = name_of(file) {
+    if let Some(name) = image_name(file) {
         names.insert(String::from_str(alloc, name)?)?;
         return Ok(());
     }

@@ -98,4 +98,12 @@ impl Prepared {
     {
         self.name.as_str()
     }
+
+    /// The name alone.
+    pub fn into_name(self) -> String
+        ensures { result ≡ self.name }
+    {
+        let Prepared { name, made: _made } = self;
+        name
+    }
 }

@@ -4,7 +4,7 @@ ghost use Rattle.std.specs.Prelude.{◌≡◌, ◌≤◌, ◌<◌, ◌⊎◌, �
 ghost use Rattle.std.specs.Prelude.{IfOk, IfErr, OnOk, OnErr};
 ghost use Rattle.std.specs.String.{string_bytes};
 ghost use Rattle.std.specs.Arc.{arc_value};
-ghost use Rattle.jk_math.specs.Answer.{AnswersExactly};
+ghost use Rattle.jk_math.specs.Answer.{Answers, AnswersExactly};
 ghost use Rattle.jk_math.specs.Memory.{IsMemory};
 ghost use Rattle.jk_window.specs.Indexing.{IndexFields};
 ghost use Rattle.jk_store.specs.Files.{Files, with_file, without};
@@ -34,12 +34,10 @@ use jk_math::Fault;
 use std::alloc::Global;
 use std::sync::Arc;
 
-/// The entry of a JP2 file.
-#[tactic(auto, using(crate::proofs::Indexed::only_memory))]
-pub(crate) fn entry_of(alloc: Global, name: &str, bytes: &[u8]) -> Result<Entry, Fault>
-    requires { (i : IndexFields) × (image_at bytes.now ≡ Ok i) }
+/// The entry of a file that is an image of an archive, or the first fault of the file.
+pub(crate) fn judged_entry(alloc: Global, name: &str, bytes: &[u8]) -> Result<Entry, Fault>
     ensures ok { IfOk result (λ e. StandsFor e (stored name.now bytes.now)) }
-    ensures err { IfErr result IsMemory }
+    ensures exact { Answers (λ e. e.index) result (image_at bytes.now) }
 {
     let index = image_index(alloc, bytes)?;
     Ok(Entry {
@@ -48,6 +46,16 @@ pub(crate) fn entry_of(alloc: Global, name: &str, bytes: &[u8]) -> Result<Entry,
         parts: part_digests(alloc, bytes)?,
         index,
     })
+}
+
+/// The entry of a JP2 file.
+#[tactic(auto, using(crate::proofs::Indexed::only_memory))]
+pub(crate) fn entry_of(alloc: Global, name: &str, bytes: &[u8]) -> Result<Entry, Fault>
+    requires { (i : IndexFields) × (image_at bytes.now ≡ Ok i) }
+    ensures ok { IfOk result (λ e. StandsFor e (stored name.now bytes.now)) }
+    ensures err { IfErr result IsMemory }
+{
+    judged_entry(alloc, name, bytes)
 }
 
 /// The names of an image's file: the one under which it is written, and its own.

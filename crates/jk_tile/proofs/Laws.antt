@@ -24,3 +24,6 @@ pub use Rattle.jk_tile.proofs.decoding.Covered.{tile_covered}
 pub use Rattle.jk_tile.proofs.decoding.MetBlocks.{IsMetAt, met_place, each_alike, if_alike, AreSameMet, component_alike, coefficient_alike}
 pub use Rattle.jk_tile.proofs.Places.{is_band, block_place}
 pub use Rattle.jk_tile.proofs.decoding.StripLaws.{strip_is, strip_small, source_small, block_row_is}
+pub use Rattle.jk_tile.proofs.encoding.WrittenTile.{exponents_are}
+pub use Rattle.jk_tile.proofs.encoding.TilesLate.{frame_made, value_same, sixteen_are, room_late}
+pub use Rattle.jk_tile.proofs.encoding.Needing.{need_is}

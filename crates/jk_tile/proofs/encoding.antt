@@ -24,3 +24,13 @@ pub mod PacketsFew
 pub mod EncodingTile
 pub mod Batches
 pub mod FrontsMeant
+mod BlockRows
+mod StripBlocks
+mod ListsKept
+mod Waiting
+mod TablesLate
+mod ComponentFalls
+mod ComponentDone
+mod TileFalls
+pub mod TilesLate
+mod Passing

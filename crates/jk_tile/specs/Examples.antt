@@ -1,9 +1,11 @@
 -- Examples: the level shift and the component transform, tiles of a few code-blocks that are read,
--- with what these mean given, and what is written of a pixel and of a code-block in layers.
+-- with what these mean given, what is written of a pixel and of a code-block in layers, and where
+-- rows of code-blocks end.
 use Rattle.std.specs.Prelude.{◌≡◌, ℕ, Bool, true, false, List, [], ◌∷◌, ◌++◌, map, None, refl, ℤ, pos, negsuc, Ok, Err}
 use Rattle.std.specs.Global.{Vec}
 use Rattle.jk_math.specs.declared.fault.Fault.TheVariants.{TooManyPasses}
 use Rattle.jk_math.specs.declared.orientation.Orientation.{Orientation}
+use Rattle.jk_math.specs.declared.rect.Rect.{Rect}
 use Rattle.jk_math.specs.declared.orientation.Orientation.TheVariants.{LL, HL, LH, HH}
 use Rattle.jk_math.specs.Styles.{plain_style}
 use Rattle.jk_math.specs.BitLength.{digits, bit_length}
@@ -40,6 +42,8 @@ use Rattle.jk_tile.specs.decoding.TileReading.{component_tested, coefficient_at,
 use Rattle.jk_tile.specs.encoding.Forward.{coloured, tile_value}
 use Rattle.jk_tile.specs.encoding.Needs.{written_band, need, gain, exponents_for}
 use Rattle.jk_tile.specs.encoding.PacketsWritten.{layer_part, coded_table}
+use Rattle.jk_tile.specs.encoding.Layered.{layered, table_with}
+use Rattle.jk_tile.specs.encoding.Strips.{row_end, blocks_above}
 
 -- ---- samples
 
@@ -335,3 +339,35 @@ in_four_layers : map (layer_part 4 block) (0 ∷ 1 ∷ 2 ∷ 3 ∷ [])
     ≡ (0, []) ∷ (1, 0x0F ∷ 0xB1 ∷ 0x7F ∷ []) ∷ (3, []) ∷ (3, []) ∷ []
 unfolding passes_upto without_ff bytes_upto
 in_four_layers = refl
+
+-- It is cut into layers before the bit-planes of its sub-band are known, and is written in one of
+-- ten.
+filled_in_late : table_with 10 (layered 2 block) ≡ coded_table 2 10 block
+unfolding passes_upto without_ff bytes_upto coded_table
+filled_in_late = refl
+
+-- ---- rows of code-blocks
+
+-- The rows of code-blocks of 4 by 4 in a sub-band of rows 5 to 10 end with rows 7 and 10.
+abbrev rows_of_band : Rect
+rows_of_band = record { x0 = 3; y0 = 5; x1 = 9; y1 = 11 }
+
+ends : map (row_end rows_of_band 2) (5 ∷ 6 ∷ 8 ∷ 10 ∷ []) ≡ 8 ∷ 8 ∷ 11 ∷ 11 ∷ []
+ends = refl
+
+-- Each has three code-blocks: column 3, columns 4 to 7, and column 8.
+counted : map (blocks_above (grid_of rows_of_band 2 2)) (5 ∷ 8 ∷ 11 ∷ []) ≡ 0 ∷ 3 ∷ 6 ∷ []
+unfolding grid_of
+counted = refl
+
+-- a part of it that ends with row 7 has all of its code-blocks above row 8
+counted_above : map (blocks_above (grid_of (record { x0 = 3; y0 = 5; x1 = 9; y1 = 8 }) 2 2)) (5 ∷ 8 ∷ 11 ∷ [])
+    ≡ 0 ∷ 3 ∷ 3 ∷ []
+unfolding grid_of
+counted_above = refl
+
+-- and one that begins with row 8 has none
+counted_below : map (blocks_above (grid_of (record { x0 = 3; y0 = 8; x1 = 9; y1 = 11 }) 2 2)) (5 ∷ 8 ∷ 11 ∷ [])
+    ≡ 0 ∷ 0 ∷ 3 ∷ []
+unfolding grid_of
+counted_below = refl

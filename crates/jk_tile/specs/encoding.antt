@@ -1,7 +1,8 @@
 -- The way of a tile that is written: samples become coefficients (Forward), these have exponents
 -- (Needs) and code-blocks with their tables (TileWritten), and the packets are made of the tables
 -- in their order (PacketsWritten; TileWriters: what is kept on the way). Jobs: the code-blocks as
--- they are coded side by side. Fronts: what the first layers of it mean.
+-- they are coded side by side. Fronts: what the first layers of it mean. Strips: code-blocks that
+-- are coded as the rows of their sub-band come, and Layered: these before exponents are known.
 pub mod Forward
 pub mod Needs
 pub mod Written
@@ -10,3 +11,12 @@ pub mod PacketsWritten
 pub mod TileWriters
 pub mod Jobs
 pub mod Fronts
+pub mod Layered
+pub mod Strips
+pub mod LateTables
+pub mod FallenComponents
+pub mod FallingComponents
+pub mod TilesFrom
+pub mod FallenTiles
+pub mod FallingTiles
+pub mod Sinks

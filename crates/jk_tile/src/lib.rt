@@ -15,7 +15,9 @@ pub use decoding::{
     put, read_strip, strip_area, uncolour,
 };
 pub use encoding::{
-    BlockJob, Executor, Parallel, Sequential, WrittenImage, encode_tile, exponents, tile_bands,
+    BlockJob, Executor, FallenComponent, FallenTile, FallingComponent, FallingTile, Parallel,
+    Sequential, TileOutline, WrittenComponent, WrittenImage, encode_tile, exponents,
+    exponents_with, packets_of, packets_size, put_values, tile_bands, write_packets,
 };
 pub use samples::{all_to_samples, level_shift};
 pub use workers::Workers;

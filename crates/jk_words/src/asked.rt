@@ -143,6 +143,10 @@ pub struct Server<'a> {
     pub timeout: u32,
     /// Whether each request is told on standard error.
     pub log: bool,
+    /// Whether the files are opened while the archive is served.
+    pub open_while_serving: bool,
+    /// After how many seconds each the folder is listed again, if it is.
+    pub watch: Option<u32>,
 }
 
 /// What a command line asks for.
@@ -348,6 +352,8 @@ fn served<'a>(line: &ArgMatches<'a>) -> Server<'a> {
         workers: workers(line),
         timeout: number(line, "timeout", 10),
         log: line.get_flag("log"),
+        open_while_serving: line.get_flag("open-while-serving"),
+        watch: line.get_one::<u32>("watch"),
     }
 }
 

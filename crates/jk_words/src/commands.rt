@@ -84,7 +84,13 @@ them. What the folder holds when the server starts is listed; files that aren't 
 NAME.tmp of an adding that was broken off, and files that can't be opened are named on standard
 error. A line `add NAME PATH` on standard input adds a PGM or PPM file, which is served from then on,
 and is answered by `added NAME` or `refused NAME FAULT`. It ends when so many connections and
-standard input have ended.";
+standard input have ended.
+
+With --open-while-serving the port is open at once, and images are listed as their files are read,
+those that were asked for first; until then they are 404. A file that can't be read is named on
+standard error, as are files beyond 4096 images; the others are served, and the status at the end is
+1. With --watch too, what others add to the folder is served within so many seconds. A file that isn't
+an image is looked at again when its size or its time has changed.";
 
 /// What a word of a command line is.
 #[derive(Clone, Copy)]
@@ -102,6 +108,8 @@ pub(crate) enum Form<'a> {
     Flag,
     /// An option with a number, and the letter for it.
     Number(&'a str),
+    /// An option with a number, by what stands for it, that is given with [`OPENING`] alone.
+    Watch(&'a str),
     /// An option with a number that is required.
     Required,
     /// One of the four numbers of a window, which are given together.
@@ -591,8 +599,14 @@ fn check<'a>(alloc: Global) -> Result<Command<'a>, AllocError> {
     with_words(alloc, command, &CHECK_WORDS)
 }
 
+/// That the files of an archive are opened while it is served.
+const OPENING: &str = "open-while-serving";
+
+/// What an archive is opened with that is watched.
+static WATCHED: [&str; 1] = [OPENING];
+
 /// The words of `jk serve`.
-static SERVE_WORDS: [Word<'static>; 8] = [
+static SERVE_WORDS: [Word<'static>; 10] = [
     FOLDER,
     Word(
         "port",
@@ -613,6 +627,16 @@ static SERVE_WORDS: [Word<'static>; 8] = [
         "timeout",
         Form::Default("SECONDS", "10"),
         "How long to wait for a client, 1 to 3600; six times as long for a request or a reply",
+    ),
+    Word(
+        OPENING,
+        Form::Flag,
+        "Serve at once, and list each image when its file was read and judged",
+    ),
+    Word(
+        "watch",
+        Form::Watch("SECONDS"),
+        "List the folder again so often, 1 to 3600, and serve what was added to it",
     ),
     Word(
         "log",
@@ -658,6 +682,7 @@ fn arg<'a>(alloc: Global, word: Word<'a>) -> Result<Arg<'a>, AllocError> {
             .conflicts_with(ONE_NAME)?,
         Form::Flag => named(alloc, name).action(ArgAction::SetTrue),
         Form::Number(letter) => number(alloc, name, letter),
+        Form::Watch(value) => number(alloc, name, value).requires_all(&WATCHED)?,
         Form::Required => number(alloc, name, "N").required(true),
         Form::Window => number(alloc, name, "N").requires_all(&WINDOW)?,
         Form::Default(letter, value) => number(alloc, name, letter).default_value(value),

@@ -16,6 +16,8 @@ mod keeping;
 #[cfg(test)]
 mod limits;
 #[cfg(test)]
+mod opening;
+#[cfg(test)]
 mod operating;
 #[cfg(test)]
 mod publishing;

@@ -278,6 +278,7 @@ add d b - --levels 6||F15 BadParameters
 serve no --port 0 --workers 0||F15 BadParameters
 serve no --port 0 --workers 65||F15 BadParameters
 serve no --port 0 --timeout 0||F15 BadParameters
+serve no --port 0 --open-while-serving --watch 0||F15 BadParameters
 serve no --port 0 --workers 64||F20 Shelf
 check no --workers 65||F15 BadParameters
 check no||F20 Shelf";
@@ -294,6 +295,7 @@ encode - - --explain --precincts 1x||F15 BadParameters|\
 add d A - --explain||F19 BadName|A isn't 1 to 64 of the characters a to z, 0 to 9, - and _
 add d c - --explain||F18 NameTaken|d has a file c.jp2
 serve no --port 0 --explain --timeout 3601||F15 BadParameters|--timeout is 3601, and may be 1 to 3600
+serve no --port 0 --explain --open-while-serving --watch 3601||F15 BadParameters|--watch is 3601, and may be 1 to 3600
 info no --explain||F20 Shelf|no can't be read: entity not found
 decode - - --explain --reduce 2|column|F16 BadWindow|\
 a reduction past the least number of levels, no layer, or a window or reduced image without a sample
@@ -341,6 +343,13 @@ fn causes_are_told(rt: HostRuntime) {
 static SERVED: &str =
     "jk: c.jp2 isn't listed: F13 BadBox\njk: 1 images on http://127.0.0.1:8080/images\nNone 1 10 false";
 
+/// What it says where the files are opened while it serves: none of them was read.
+static OPENED: &str =
+    "jk: 0 images on http://127.0.0.1:8080/images, 2 files are to be opened\na c 0 None";
+
+static WATCHED: &str =
+    "jk: 0 images on http://127.0.0.1:0/images, 2 files are to be opened\na c 0 Some(5)";
+
 /// An archive: adding, a name that is taken, and what is told where it is served.
 #[test]
 fn archives_grow(rt: HostRuntime) {
@@ -360,6 +369,23 @@ fn archives_grow(rt: HostRuntime) {
     world.error.clear();
     let line = "serve d --port 8080";
     check_run(&rt, alloc, &mut world, line, Status::Done, &[], SERVED)
+}
+
+/// Where files are opened while they are served, none is read before.
+#[test]
+fn archives_are_served_at_once(rt: HostRuntime) {
+    let alloc = rt.alloc();
+    let column = [COLUMN];
+    let column = column.as_slice();
+    let files = [("a.jp2", column), ("c.jp2", column), ("x", column)];
+    for (line, error) in [
+        ("serve d --port 8080 --open-while-serving", OPENED),
+        ("serve d --port 0 --open-while-serving --watch 5", WATCHED),
+    ] {
+        let mut world = world_of(&rt, alloc, bytes(&rt, alloc, &[]), &files);
+        check_run(&rt, alloc, &mut world, line, Status::Done, &[], error);
+        equal((world.is_locked, world.locks), (false, 0)).expect(&rt, "no lock of its own");
+    }
 }
 
 /// Options for the style of code-blocks, and the style's byte in COD (T.800 table A.19).
@@ -491,6 +517,7 @@ check d --against
 check d --against a --against b
 serve d
 serve d --port 65536
+serve d --port 0 --watch 5
 faults x
 info
 info --all

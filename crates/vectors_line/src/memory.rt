@@ -1,7 +1,7 @@
 //! A world in memory.
 
 use jk_jobs::Gate;
-use jk_line::{Folders, Serving, Streams, Work, Working, listening};
+use jk_line::{Folders, Meanwhile, Serving, Streams, Work, Working, listening, opening};
 use jk_math::Fault;
 use jk_store::{Archive, MemoryShelf};
 use std::alloc::Global;
@@ -285,6 +285,28 @@ impl<'a, R: Threads + Sync> Folders for Memory<'a, R> {
             "{:?} {} {} {}",
             serving.connections, serving.workers, serving.timeout, serving.log
         )?;
+        self.append(&how)
+    }
+
+    fn serve_opening(
+        &mut self,
+        alloc: Global,
+        _folder: &str,
+        archive: Archive<MemoryShelf>,
+        serving: Serving,
+        meanwhile: Meanwhile,
+    ) -> Result<(), Fault> {
+        if serving.port == 1 {
+            return Err(self.refused(ErrorKind::AddrInUse));
+        }
+        let Meanwhile { names, watch } = meanwhile;
+        let line = opening(alloc, names.len(), serving.port)?;
+        self.append(&line)?;
+        for name in &names {
+            let name = format!(in alloc; "{name} ")?;
+            self.append(&name)?;
+        }
+        let how = format!(in alloc; "{} {watch:?}", archive.list().len())?;
         self.append(&how)
     }
 }

@@ -1,8 +1,12 @@
-//! Images decoded row by row beside whole ones.
+//! Images decoded and encoded row by row beside whole ones.
 #![tactic(auto)]
 
 #[cfg(test)]
 mod chance;
+#[cfg(test)]
+mod drawings;
+#[cfg(test)]
+mod encoding;
 #[cfg(test)]
 mod files;
 #[cfg(test)]

@@ -28,6 +28,8 @@ mod judging;
 #[cfg(test)]
 mod limits;
 #[cfg(test)]
+mod listing;
+#[cfg(test)]
 mod loopback;
 #[cfg(test)]
 mod opened_with;

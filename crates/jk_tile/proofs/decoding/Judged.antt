@@ -1,6 +1,5 @@
 -- The components of a tile that are judged one after another.
-use Rattle.std.proofs.Common.{◌≡◌, ℕ, ◌+◌, ◌≤◌, List, Result, Ok, Err, ℤ, refl, sym, ap, ◌∙◌, arith}
-use Rattle.jk_math.specs.Answer.{◌>>=◌}
+use Rattle.std.proofs.Common.{◌≡◌, ℕ, ◌+◌, List, Result, Err, sym, ap, ◌∙◌, arith}
 use Rattle.jk_math.specs.declared.fault.Fault.{Fault}
 use Rattle.jk_math.specs.declared.rect.Rect.{Rect}
 use Rattle.jk_marks.specs.declared.coding.Coding.{Coding}
@@ -9,12 +8,11 @@ use Rattle.jk_geom.specs.TileShapes.{coding_of}
 use Rattle.jk_params.specs.Headers.{Headers, tile_in}
 use Rattle.jk_walk.specs.declared.places.PacketPlace.{PacketPlace}
 use Rattle.jk_tile.specs.Filling.{IsPartOf}
-use Rattle.jk_tile.specs.TileMeaning.{shown_area}
-use Rattle.jk_tile.specs.decoding.TileReading.{each, tested, bodies_of, resolution_tested, component_tested, component_samples, tile_planes_at}
+use Rattle.jk_tile.specs.decoding.TileReading.{each, tested, bodies_of, resolution_tested, component_tested, tile_planes_at}
 use Rattle.jk_tile.specs.decoding.Source.{Source, source_bodies}
-use Rattle.jk_tile.proofs.Steps.{component_by, bind_ok, bind_err, tested_ok, tested_err, fine}
+use Rattle.jk_tile.proofs.Steps.{component_by, bind_ok, bind_err, fine}
 use Rattle.jk_tile.proofs.Components.{source_of, source_here}
-use Rattle.jk_tile.proofs.Colours.{rasters, planes_by}
+use Rattle.jk_tile.proofs.Colours.{planes_by}
 
 -- the first n components
 abbrev pub components_tested : List ℕ → Headers → (t d : ℕ) → List PacketPlace → ℕ → Result (Unit {0}) Fault

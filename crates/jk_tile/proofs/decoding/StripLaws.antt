@@ -1,5 +1,5 @@
 -- A strip and the code-blocks of its row: which they are, and that they have all of it.
-use Rattle.std.proofs.Common.{◌≡◌, ℕ, zero, suc, ◌+◌, ◌-◌, ◌*◌, ◌/◌, ◌%◌, ◌^◌, ◌<◌, ◌≤◌, ◌⊎◌, inl, inr, min, max, Bool, true, false, leb, get_or, List, [], ◌∷◌, length, All, Result, Ok, Err, ℤ, pos, refl, sym, ap, subst, ◌∙◌, arith}
+use Rattle.std.proofs.Common.{◌≡◌, ℕ, zero, suc, ◌+◌, ◌-◌, ◌*◌, ◌/◌, ◌%◌, ◌^◌, ◌<◌, ◌≤◌, ◌⊎◌, inl, inr, min, max, true, false, leb, get_or, List, [], ◌∷◌, length, All, Result, Ok, Err, ℤ, pos, refl, sym, ap, subst, ◌∙◌, arith}
 use Rattle.std.proofs.lemmas.Bool.{leb-false, or_parts}
 use Rattle.std.proofs.lemmas.Bool.Decides.{nat_tests}
 use Rattle.std.specs.Prelude.{unsigned_abs}
@@ -12,18 +12,18 @@ use Rattle.jk_math.specs.Raster.{columns_of, rows_of, places_of, raster, plane_a
 use Rattle.jk_math.specs.Answer.{Refuses}
 use Rattle.jk_math.specs.Memory.{IsMemory}
 use Rattle.jk_math.specs.declared.fault.Fault.TheVariants.{Memory}
-use Rattle.jk_math.specs.Signed.{IsBelow, signed_at}
+use Rattle.jk_math.specs.Signed.{IsBelow}
 use Rattle.jk_math.proofs.Laws.{raster_is, raster_length, raster_entry}
 use Rattle.jk_marks.specs.declared.coding.Coding.{Coding}
-use Rattle.jk_marks.specs.Coding.{IsCoding, precinct_size}
+use Rattle.jk_marks.specs.Coding.{precinct_size}
 use Rattle.jk_params.specs.Coding.{HasPlanes}
 use Rattle.jk_geom.specs.declared.grid.BlockGrid.{BlockGrid}
-use Rattle.jk_geom.specs.Rectangles.{IsArea, IsWithin, is_empty, meet, cell, resolution_area, band_area}
+use Rattle.jk_geom.specs.Rectangles.{IsWithin, is_empty, meet, cell, resolution_area, band_area}
 use Rattle.jk_geom.specs.Precincts.{precinct_number, precincts_across, precincts_down, precinct_area, precinct_column, precinct_row, part_width, part_height}
 use Rattle.jk_geom.specs.Blocks.{block_area}
-use Rattle.jk_geom.specs.Partitions.{BlockHolds, block_number, precinct_of}
+use Rattle.jk_geom.specs.Partitions.{BlockHolds, precinct_of}
 use Rattle.jk_geom.proofs.BlockLaws.{block_part}
-use Rattle.jk_geom.proofs.Cells.{cell_within, cell_one, cell_to}
+use Rattle.jk_geom.proofs.Cells.{cell_within, cell_one}
 use Rattle.jk_geom.proofs.Laws.{raster_row, sides_some}
 use Rattle.jk_math.specs.declared.fault.Fault.{Fault}
 use Rattle.jk_scan.specs.declared.shape.BlockShape.{BlockShape}
@@ -36,7 +36,7 @@ use Rattle.jk_tile.specs.Filling.{IsPartOf}
 use Rattle.jk_tile.specs.TileBlocks.{orientation_at, grid_at, block_at_place, block_shape, block_bodies, block_bytes, passes_in, zeros_in, band_index}
 use Rattle.jk_tile.specs.decoding.TileReading.{block_with, block_value, block_values, bodies_values, values_or}
 use Rattle.jk_tile.specs.decoding.Source.{Source, IsSource, source_bodies, source_coefficient, block_count}
-use Rattle.jk_tile.specs.decoding.Strips.{block_exponent, row_band, row_of_block, IsBlockRow, strip_area, first_precinct_of, ShowsPlace, ShowsPartIn, IsStrip, IsPartFine, IsRowFine, HasFault}
+use Rattle.jk_tile.specs.decoding.Strips.{block_exponent, row_band, row_of_block, IsBlockRow, strip_area, first_precinct_of, ShowsPartIn, IsStrip, IsPartFine, IsRowFine, HasFault}
 use Rattle.jk_tile.proofs.Places.{grid_is, grid_height, block_place, block_found, coefficient_by, resolution_is, index_is}
 use Rattle.jk_tile.proofs.decoding.Blocks.{block_length, all_below}
 use Rattle.jk_tile.proofs.decoding.Filled.{entry_small}
@@ -129,7 +129,7 @@ block_in_strip s w n j lt row =
     }
 
 -- a quotient by a larger power
-div_powers : (y h k : ℕ) → h ≤ k → y / 2 ^ k ≡ y / 2 ^ h / 2 ^ (k - h)
+pub div_powers : (y h k : ℕ) → h ≤ k → y / 2 ^ k ≡ y / 2 ^ h / 2 ^ (k - h)
 div_powers y h k le =
     let split : k ≡ h + (k - h) = omega (arith, le) in
     ap (λ n. y / 2 ^ n) split ∙ ap (λ n. y / n) (pow-add 2 h (k - h)) ∙ sym (div-div-eq-div-mul y (2 ^ h) (2 ^ (k - h)))
@@ -194,7 +194,7 @@ found_in s w x y is row h =
     }
 
 -- the numbers of those precincts
-within_row : (n m first across down : ℕ) → first ≡ m * across → n < across * down → n / across ≡ m → (first ≤ n) × (n < first + across) × (first + across ≤ across * down)
+pub within_row : (n m first across down : ℕ) → first ≡ m * across → n < across * down → n / across ≡ m → (first ≤ n) × (n < first + across) × (first + across ≤ across * down)
 within_row n m first across down is lt row =
     let some : 0 < across = wide across down n lt in
     let split : n / across * across + n % across ≡ n = div-add-mod' n across in

@@ -1,5 +1,5 @@
 -- The tables of a tile that is written are those of the image, and there are few packets.
-use Rattle.std.proofs.Common.{◌≡◌, ℕ, ◌+◌, ◌^◌, ◌<◌, ◌≤◌, Bool, List, [], ◌∷◌, ◌++◌, length, map, get_or, replicate, ℤ, refl, sym, ap, subst, ◌∙◌, arith}
+use Rattle.std.proofs.Common.{◌≡◌, ℕ, zero, suc, ◌+◌, ◌^◌, ◌<◌, ◌≤◌, Bool, List, [], ◌∷◌, ◌++◌, length, map, get_or, replicate, ℤ, refl, sym, ap, subst, ◌∙◌, arith}
 use Rattle.std.specs.List.{AllByRecursion, flat_map, range_with_len}
 use Rattle.std.specs.Global.{Vec}
 use Rattle.std.proofs.lemmas.List.{get_or-replicate, length-replicate}
@@ -35,7 +35,9 @@ use Rattle.jk_math.specs.Lists.{lists_of}
 use Rattle.jk_tile.proofs.encoding.TileIndex.{tile_at, tile_length, level_few}
 use Rattle.jk_tile.proofs.encoding.TileAreas.{tile_is_area}
 use Rattle.jk_tile.proofs.encoding.PacketsFew.{count_is, few_below}
-use Rattle.jk_tile.proofs.encoding.WrittenTile.{source_for, planes_have, coding_is, are_written, tables_same, precinct_fits}
+use Rattle.jk_tile.specs.encoding.TilesFrom.{written_component, tile_lists, IsOutlineOf}
+use Rattle.jk_tile.specs.declared.encoding.written.TileOutline.{TileOutline}
+use Rattle.jk_tile.proofs.encoding.WrittenTile.{planes_have, coding_is, are_written, tables_same, precinct_fits}
 
 -- ---- few packets
 
@@ -51,7 +53,7 @@ written_few p q t by tile =
 
 pub bands_are : (p : Picture) (q : Parameters) (t c : ℕ) (bands : List (List (List ℤ))) → c < length p.planes
     → bands ≡ map (λ i. analysed_bands (tile_area (siz_of p q) t) q.levels (tile_value p q.colour i)) (range_with_len 0 (length p.planes))
-    → get_or bands c [] ≡ (source_for p q t c).bands
+    → get_or bands c [] ≡ (written_component p q t c).bands
 bands_are p q t c bands lt e =
     ap (λ (bs : List (List (List ℤ))). get_or bs c []) e
     ∙ get_or-map-range_with_len (λ i. analysed_bands (tile_area (siz_of p q) t) q.levels (tile_value p q.colour i)) 0 (length p.planes) c c [] lt (omega arith)
@@ -66,7 +68,7 @@ abbrev pub source_from : Rect → Coding → (layers : ℕ) → List (List (List
 source_from a k layers bands c = record { rect = a; coding = k; layers = layers; bands = get_or bands c [] }
 
 pub source_is : (p : Picture) (q : Parameters) (t c : ℕ) (a : Rect) (k : Coding) (bands : List (List (List ℤ))) → a ≡ tile_area (siz_of p q) t → k ≡ written_coding p q → c < length p.planes
-    → bands ≡ map (λ i. analysed_bands (tile_area (siz_of p q) t) q.levels (tile_value p q.colour i)) (range_with_len 0 (length p.planes)) → source_from a k q.layers bands c ≡ source_for p q t c
+    → bands ≡ map (λ i. analysed_bands (tile_area (siz_of p q) t) q.levels (tile_value p q.colour i)) (range_with_len 0 (length p.planes)) → source_from a k q.layers bands c ≡ written_component p q t c
 source_is p q t c a k bands ea ek lt e =
     ap (λ (b : Rect). source_from b k q.layers bands c) ea ∙ ap (λ (j : Coding). source_from (tile_area (siz_of p q) t) j q.layers bands c) ek
     ∙ ap (λ (bs : List (List ℤ)). record { rect = tile_area (siz_of p q) t; coding = written_coding p q; layers = q.layers; bands = bs }) (bands_are p q t c bands lt e)
@@ -77,7 +79,7 @@ joined : List (List Table) → List Table
 joined ts = flat_map (λ us. us) ts
 
 -- the list of a precinct
-list_is : (p : Picture) (q : Parameters) (t c r n : ℕ) (sources : ℕ → WrittenBands) (lists : List (List Table)) → ((i : ℕ) → i < length p.planes → sources i ≡ source_for p q t i)
+list_is : (p : Picture) (q : Parameters) (t c r n : ℕ) (sources : ℕ → WrittenBands) (lists : List (List Table)) → ((i : ℕ) → i < length p.planes → sources i ≡ written_component p q t i)
     → lists ≡ tile_items (tile_area (siz_of p q) t) (written_coding p q) (λ c r n. flat_map (λ ts. ts) (precinct_tables q.layers (tile_area (siz_of p q) t) (written_coding p q) (coefficient_of (sources c)) r n)) (length p.planes)
     → c < length p.planes → r ≤ q.levels → n < precinct_number (tile_area (siz_of p q) t) (written_coding p q) r
     → list_of (tile_area (siz_of p q) t) (written_coding p q) lists c r n ≡ flat_map (λ ts. ts) (tile_tables p q t c r n)
@@ -115,7 +117,7 @@ coding_at : (p : Picture) (q : Parameters) (t c : ℕ) → c < length p.planes �
 coding_at p q t c lt = get_or-replicate (length p.planes) c (written_coding p q) _ lt
 
 lists_are : (p : Picture) (q : Parameters) (t : ℕ) (sources : ℕ → WrittenBands) (lists : List (List Table)) → IsPicture p → IsWrittenBy q p → t < tile_count (siz_of p q)
-    → ((i : ℕ) → i < length p.planes → sources i ≡ source_for p q t i)
+    → ((i : ℕ) → i < length p.planes → sources i ≡ written_component p q t i)
     → lists ≡ tile_items (tile_area (siz_of p q) t) (written_coding p q) (λ c r n. flat_map (λ ts. ts) (precinct_tables q.layers (tile_area (siz_of p q) t) (written_coding p q) (coefficient_of (sources c)) r n)) (length p.planes)
     → AreTileLists p q t (tile_area (siz_of p q) t) (written_coding p q) lists
 lists_are p q t sources lists is by tile same e =
@@ -135,17 +137,11 @@ lists_are p q t sources lists is by tile same e =
           ap (banded (bands_at a k r n)) (list_is p q t c r n sources lists same e lt low (subst (λ (j : Coding). n < precinct_number a j r) own precinct.precinct)) ∙ banded_are p q t c r n is by tile lt low);
     }
 
-pub tile_lists : (p : Picture) (q : Parameters) (t : ℕ) (a : Rect) (k : Coding) (bands : List (List (List ℤ))) (lists : List (List Table)) → IsPicture p → IsWrittenBy q p → t < tile_count (siz_of p q)
-    → a ≡ tile_area (siz_of p q) t → k ≡ written_coding p q
-    → bands ≡ map (λ i. analysed_bands (tile_area (siz_of p q) t) q.levels (tile_value p q.colour i)) (range_with_len 0 (length p.planes))
-    → lists ≡ flat_map (λ c. component_lists (source_from a k q.layers bands c)) (range_with_len 0 (length bands))
-    → AreTileLists p q t a k lists
-tile_lists p q t a k bands lists is by tile ea ek eb e =
+pub tile_lists_are : (p : Picture) (q : Parameters) (t : ℕ) (a : Rect) (k : Coding) (lists : List (List Table)) → IsPicture p → IsWrittenBy q p → t < tile_count (siz_of p q)
+    → a ≡ tile_area (siz_of p q) t → k ≡ written_coding p q → lists ≡ tile_lists p q t → AreTileLists p q t a k lists
+tile_lists_are p q t a k lists is by tile ea ek e =
     subst (λ (b : Rect). AreTileLists p q t b k lists) (sym ea) (subst (λ (j : Coding). AreTileLists p q t (tile_area (siz_of p q) t) j lists) (sym ek)
-    (lists_are p q t (source_from (tile_area (siz_of p q) t) (written_coding p q) q.layers bands) lists is by tile (λ i lt. source_is p q t i (tile_area (siz_of p q) t) (written_coding p q) bands refl refl lt eb)
-    (e ∙ ap (λ (b : Rect). flat_map (λ c. component_lists (source_from b k q.layers bands c)) (range_with_len 0 (length bands))) ea
-    ∙ ap (λ (j : Coding). flat_map (λ c. component_lists (source_from (tile_area (siz_of p q) t) j q.layers bands c)) (range_with_len 0 (length bands))) ek
-    ∙ ap (λ n. flat_map (λ c. component_lists (source_from (tile_area (siz_of p q) t) (written_coding p q) q.layers bands c)) (range_with_len 0 n)) (bands_count p q t bands eb))))
+    (lists_are p q t (written_component p q t) lists is by tile (λ i lt. refl) e))
 
 -- ---- the text
 
@@ -213,21 +209,28 @@ precincts_few p q t a k is by tile ea ek r le =
     level_few a k r (omega (arith, le)) (subst (λ (b : Rect). precincts_below b k (k.levels + 1) ≤ 2 ^ 24) (sym ea) (subst (λ (j : Coding). precincts_below (tile_area (siz_of p q) t) j (j.levels + 1) ≤ 2 ^ 24) (sym ek) few))
 
 pub bands_written : (p : Picture) (q : Parameters) (t : ℕ) (a : Rect) (k : Coding) (bands lent : List (List (List ℤ))) → IsPicture p → IsWrittenBy q p → t < tile_count (siz_of p q) → a ≡ tile_area (siz_of p q) t → k ≡ written_coding p q
-    → bands ≡ map (λ i. analysed_bands a q.levels (tile_value p q.colour i)) (range_with_len 0 (length p.planes)) → lent ≡ bands
+    → bands ≡ map (λ i. analysed_bands (tile_area (siz_of p q) t) q.levels (tile_value p q.colour i)) (range_with_len 0 (length p.planes)) → lent ≡ bands
     → (c : ℕ) → c < length lent → AreWrittenBands (source_from a k q.layers lent c)
 bands_written p q t a k bands lent is by tile ea ek eb el c lt =
-    let e = el ∙ eb ∙ ap (λ (b : Rect). map (λ i. analysed_bands b q.levels (tile_value p q.colour i)) (range_with_len 0 (length p.planes))) ea in
+    let e = el ∙ eb in
     let count = bands_count p q t lent e in
     let some : c < length p.planes = omega (arith, lt, count) in
     subst AreWrittenBands (sym (source_is p q t c a k lent ea ek some e)) (are_written p q t c is by tile some)
 
-pub lists_made : (p : Picture) (q : Parameters) (t : ℕ) (a : Rect) (k : Coding) (bands lent : List (List (List ℤ))) (lists : List (List Table)) → IsPicture p → IsWrittenBy q p → t < tile_count (siz_of p q)
-    → a ≡ tile_area (siz_of p q) t → k ≡ written_coding p q
-    → bands ≡ map (λ i. analysed_bands a q.levels (tile_value p q.colour i)) (range_with_len 0 (length p.planes)) → lent ≡ bands
+joined_same : {X : Type 0} (f g : ℕ → List X) (a n : ℕ) → ((i : ℕ) → a ≤ i → i < a + n → f i ≡ g i) → flat_map f (range_with_len a n) ≡ flat_map g (range_with_len a n)
+joined_same f g a zero same = refl
+joined_same {X} f g a (suc n) same =
+    ap (λ (xs : List X). xs ++ flat_map f (range_with_len (a + 1) n)) (same a (omega arith) (omega arith)) ∙ ap (λ (xs : List X). g a ++ xs) (joined_same f g (a + 1) n (λ i from below. same i (omega (arith, from)) (omega (arith, below))))
+
+-- the lists that are made of the sub-bands of all components are those of the tile
+pub lists_made : (p : Picture) (q : Parameters) (t : ℕ) (a : Rect) (k : Coding) (bands lent : List (List (List ℤ))) (lists : List (List Table)) → a ≡ tile_area (siz_of p q) t → k ≡ written_coding p q
+    → bands ≡ map (λ i. analysed_bands (tile_area (siz_of p q) t) q.levels (tile_value p q.colour i)) (range_with_len 0 (length p.planes)) → lent ≡ bands
     → lists ≡ flat_map (λ c. component_lists (source_from a k q.layers lent c)) (range_with_len 0 (length lent))
-    → AreTileLists p q t a k lists
-lists_made p q t a k bands lent lists is by tile ea ek eb el e =
-    tile_lists p q t a k lent lists is by tile ea ek (el ∙ eb ∙ ap (λ (b : Rect). map (λ i. analysed_bands b q.levels (tile_value p q.colour i)) (range_with_len 0 (length p.planes))) ea) e
+    → lists ≡ tile_lists p q t
+lists_made p q t a k bands lent lists ea ek eb el e =
+    let count = bands_count p q t lent (el ∙ eb) in
+    e ∙ joined_same (λ c. component_lists (source_from a k q.layers lent c)) (λ c. component_lists (written_component p q t c)) 0 (length lent) (λ i from lt. ap component_lists (source_is p q t i a k lent ea ek (omega (arith, lt, count)) (el ∙ eb)))
+    ∙ ap (λ n. flat_map (λ c. component_lists (written_component p q t c)) (range_with_len 0 n)) count
 
 -- the text of the packets
 pub text_made : (p : Picture) (q : Parameters) (t : ℕ) (a : Rect) (k : Coding) (s : TileShape) (lent tables : List (Vec Table)) (out : List ℕ) → s ≡ written_shape p q t → lent ≡ tables → AreTileLists p q t a k (lists_of tables)
@@ -236,3 +239,34 @@ text_made p q t a k s lent tables out es el are e =
     e ∙ ap (λ (x : TileShape). written_text x q.sop q.eph (tables_in a k (lists_of lent)) 0 (order x)) es
     ∙ ap (λ (vs : List (Vec Table)). written_text (written_shape p q t) q.sop q.eph (tables_in a k (lists_of vs)) 0 (order (written_shape p q t))) el
     ∙ tile_is_text p q t a k (lists_of tables) are
+
+-- ---- a tile that is told of but for its samples
+
+-- its shape
+pub shape_from : (w : TileOutline) (p : Picture) (t : ℕ) (codings : List Coding) → IsOutlineOf w p t → codings ≡ replicate w.components w.coding.now
+    → record { rect = w.rect; layers = w.parameters.now.layers; order = w.parameters.now.order; codings = codings } ≡ written_shape p w.parameters.now t
+shape_from w p t codings is e =
+    shape_made p w.parameters.now t w.rect codings is.profile is.number is.rect (e ∙ ap (λ n. replicate n w.coding.now) is.components ∙ ap (replicate (length p.planes)) is.coding)
+
+pub shape_fits : (w : TileOutline) (p : Picture) (t : ℕ) (codings : List Coding) → IsOutlineOf w p t → codings ≡ replicate w.components w.coding.now
+    → IsShape (record { rect = w.rect; layers = w.parameters.now.layers; order = w.parameters.now.order; codings = codings }) w.coding.now
+shape_fits w p t codings is e =
+    let asked = shape_asked p w.parameters.now t is.picture is.profile is.number in
+    subst (λ (s : TileShape). IsShape s w.coding.now) (sym (shape_from w p t codings is e)) (subst (IsShape (written_shape p w.parameters.now t)) (sym is.coding) asked)
+
+-- its tables, and the text of its packets
+pub lists_fit : (w : TileOutline) (p : Picture) (t n : ℕ) (codings : List Coding) (lists : List (List Table)) → IsOutlineOf w p t → codings ≡ replicate w.components w.coding.now → n ≡ length codings → lists ≡ tile_lists p w.parameters.now t
+    → AreLists w.rect w.coding.now w.parameters.now.layers n lists
+lists_fit w p t n codings lists is ek en e =
+    let q = w.parameters.now in
+    let many : length p.planes ≡ n = sym (en ∙ ap (λ (ks : List Coding). length ks) ek ∙ length-replicate w.components w.coding.now ∙ is.components) in
+    subst (λ m. AreLists w.rect w.coding.now q.layers m lists) many (tile_lists_are p q t w.rect w.coding.now lists is.picture is.profile is.number is.rect is.coding e).are
+
+pub text_from : (w : TileOutline) (p : Picture) (t : ℕ) (codings : List Coding) (tables : List (Vec Table)) (out : List ℕ) → IsOutlineOf w p t → codings ≡ replicate w.components w.coding.now → lists_of tables ≡ tile_lists p w.parameters.now t
+    → out ≡ written_text (record { rect = w.rect; layers = w.parameters.now.layers; order = w.parameters.now.order; codings = codings }) w.parameters.now.sop w.parameters.now.eph (tables_in w.rect w.coding.now (lists_of tables)) 0
+    (order (record { rect = w.rect; layers = w.parameters.now.layers; order = w.parameters.now.order; codings = codings }))
+    → out ≡ tile_text p w.parameters.now t
+text_from w p t codings tables out is ek e eo =
+    let q = w.parameters.now in
+    text_made p q t w.rect w.coding.now (record { rect = w.rect; layers = q.layers; order = q.order; codings = codings }) tables tables out (shape_from w p t codings is ek) refl
+    (tile_lists_are p q t w.rect w.coding.now (lists_of tables) is.picture is.profile is.number is.rect is.coding e) eo

@@ -1,6 +1,7 @@
 -- The packets of a tile, as they are written one behind another.
 use Rattle.std.proofs.Common.{◌≡◌, ℕ, zero, suc, ◌+◌, ◌-◌, ◌*◌, ◌<◌, ◌≤◌, Bool, true, false, List, [], ◌∷◌, ◌++◌, length, get_or, drop, replicate, Some, None, slice_get, refl, sym, ap, subst, ◌∙◌, inl, inr, arith, append_assoc, append-nil}
 use Rattle.std.specs.Prelude.{◌==◌, ◌&&◌}
+use Rattle.std.specs.List.{flat_map}
 use Rattle.std.proofs.lemmas.Bool.{cases_Bool, cond-true, cond-false, and_from, eq-eqb}
 use Rattle.std.proofs.lemmas.List.{get_or-replicate, length-replicate, nil_from_length}
 use Rattle.jk_marks.specs.declared.coding.Coding.{Coding}
@@ -12,11 +13,12 @@ use Rattle.jk_geom.specs.TileShapes.{coding_of}
 use Rattle.jk_order.specs.PacketOrder.{IsName, is_of, order, packet_count}
 use Rattle.jk_order.specs.Streams.{Walk, PacketsLeft}
 use Rattle.jk_order.proofs.Laws.{length_of, order_is}
-use Rattle.jk_packet.specs.Written.{Table, PrecinctTables, packet_in}
+use Rattle.jk_packet.specs.Written.{Table, PrecinctTables, part_in, bodies_text, packet_in, banded}
+use Rattle.jk_packet.proofs.PrecinctWriting.{bodies_flat}
 use Rattle.jk_walk.specs.TilePackets.{bands_at}
 use Rattle.jk_walk.proofs.Laws.{Counts, one_more, no_counts, AreTurns, at_own, order_turns}
 use Rattle.jk_tile.specs.encoding.PacketsWritten.{Tables, written_packet, written_text}
-use Rattle.jk_tile.specs.encoding.TileWriters.{index_of, list_of, tables_in, writer_at, WriterSlot, writer_of, kept_writer, writer_in, text_by}
+use Rattle.jk_tile.specs.encoding.TileWriters.{index_of, list_of, tables_in, writer_at, WriterSlot, writer_of, kept_writer, writer_in, text_by, IsPrecinctList}
 use Rattle.jk_tile.proofs.encoding.TileIndex.{index_below, index_apart}
 
 -- a writer of a precinct that has written so many layers
@@ -187,6 +189,17 @@ text_next s k sop eph lists counts ws n own names place number alike next =
     ∙ ap (λ l. packet_in (bands_at s.rect k n.resolution n.precinct) sop eph (tables n.component n.resolution n.precinct) l number) next.turn
     ∙ ap (λ (w : PrecinctTables). text_by w number) (sym next.writer))
 
+-- the whole, by what was passed on, the next packet and those behind it
+pub writing_ahead : (s : TileShape) (k : Coding) (sop eph : Bool) (lists : List (List Table)) (packets : Walk) (ws : List WriterSlot) (out : List ℕ) (number more : ℕ) (n : PacketName) (own : List Table) (place : ℕ)
+    → s.codings ≡ replicate (length s.codings) k → (w : IsWritingTile s k sop eph lists packets ws out number more) → Some n ≡ slice_get w.names 0
+    → place ≡ index_of s.rect k n.component n.resolution n.precinct → own ≡ list_of s.rect k lists n.component n.resolution n.precinct
+    → written_text s sop eph (tables_in s.rect k lists) 0 (order s)
+    ≡ out ++ (text_by (writer_in s k sop eph own ws place n) number ++ written_text s sop eph (tables_in s.rect k lists) (number + 1) (drop 1 w.names))
+writing_ahead s k sop eph lists packets ws out number more n own place alike w e at due =
+    let next = next_is s k sop eph lists packets ws out number more n own place alike w e at due in
+    w.goes ∙ ap (λ (ns : List PacketName). out ++ written_text s sop eph (tables_in s.rect k lists) number ns) (first_is w.names n e)
+    ∙ ap (λ (xs : List ℕ). out ++ xs) (text_next s k sop eph lists w.counts ws n own (drop 1 w.names) place number alike next)
+
 pub writing_more : (s : TileShape) (k : Coding) (sop eph : Bool) (lists : List (List Table)) (packets after : Walk) (ws new : List WriterSlot) (out text : List ℕ) (number more : ℕ) (n : PacketName) (own : List Table) (place : ℕ)
     → s.codings ≡ replicate (length s.codings) k → (w : IsWritingTile s k sop eph lists packets ws out number more) → Some n ≡ slice_get w.names 0 → PacketsLeft after (drop 1 w.names)
     → place ≡ index_of s.rect k n.component n.resolution n.precinct → own ≡ list_of s.rect k lists n.component n.resolution n.precinct → length new ≡ length ws
@@ -208,8 +221,7 @@ writing_more s k sop eph lists packets after ws new out text number more n own p
       turns = (its_turns s w.counts w.names n w.turns e).2;
       writers = writers_next s k sop eph lists w.counts ws new n own place w.writers next at long here others;
       goes =
-          w.goes ∙ ap (λ (ns : List PacketName). out ++ written_text s sop eph tables number ns) front
-          ∙ ap (λ (xs : List ℕ). out ++ xs) (text_next s k sop eph lists w.counts ws n own (drop 1 w.names) place number alike next)
+          writing_ahead s k sop eph lists packets ws out number more n own place alike w e at due
           ∙ sym (append_assoc out _ (written_text s sop eph tables (number + 1) (drop 1 w.names)))
           ∙ ap (λ (xs : List ℕ). xs ++ written_text s sop eph tables (number + 1) (drop 1 w.names)) (sym gives);
     }
@@ -235,3 +247,11 @@ next_more s k sop eph lists ws counts n own place next = subst (λ (w : Precinct
 pub next_layer : (s : TileShape) (k : Coding) (sop eph : Bool) (lists : List (List Table)) (ws : List WriterSlot) (counts : Counts) (n : PacketName) (own : List Table) (place : ℕ) → IsNext s k sop eph lists ws counts n own place
     → n.layer ≡ (writer_in s k sop eph own ws place n).written
 next_layer s k sop eph lists ws counts n own place next = next.turn ∙ ap (λ (w : PrecinctTables). w.written) (sym next.writer)
+
+-- what follows its header are the bodies of its precinct's tables
+pub next_bodies : (s : TileShape) (k : Coding) (sop eph : Bool) (lists : List (List Table)) (ws : List WriterSlot) (counts : Counts) (n : PacketName) (own : List Table) (place : ℕ) → IsNext s k sop eph lists ws counts n own place
+    → own ≡ list_of s.rect k lists n.component n.resolution n.precinct → IsPrecinctList s.rect k s.layers n.resolution n.precinct own
+    → bodies_text (writer_in s k sop eph own ws place n).tables n.layer ≡ flat_map (λ t. (part_in t n.layer).1) own
+next_bodies s k sop eph lists ws counts n own place next due list =
+    let shapes = bands_at s.rect k n.resolution n.precinct in
+    ap (λ (w : PrecinctTables). bodies_text w.tables n.layer) next.writer ∙ ap (λ (ts : List Table). bodies_text (banded shapes ts) n.layer) (sym due) ∙ sym (bodies_flat shapes own n.layer list.whole)

@@ -24,15 +24,15 @@ use Rattle.jk_params.specs.Coding.{band_count, HasPlanes}
 use Rattle.jk_params.specs.Profile.{siz_of, IsWrittenBy}
 use Rattle.jk_block.specs.BlockWritten.{greatest, Coded, coded}
 use Rattle.jk_block.proofs.Laws.{greatest_small}
-use Rattle.jk_wave.specs.Analysis.{analysed_bands}
 use Rattle.jk_wave.specs.Bands.{numbered_area}
 use Rattle.jk_walk.specs.TilePackets.{orientations, band_number, planes_of, band_at, bands_at}
 use Rattle.jk_walk.proofs.Laws.{exponent_fits}
 use Rattle.jk_tile.specs.Filling.{IsPartOf}
 use Rattle.jk_tile.specs.encoding.Forward.{tile_value}
-use Rattle.jk_tile.specs.encoding.Needs.{written_coefficient, written_band, most, tile_need, need, gain, exponents_for}
+use Rattle.jk_tile.specs.encoding.Needs.{written_coefficient, written_band, most, tile_need, need, gain, exponents_with, exponents_for}
 use Rattle.jk_tile.specs.TileBlocks.{grid_at, block_at_place, block_shape}
-use Rattle.jk_tile.specs.encoding.TileWritten.{WrittenBands, AreWrittenBands, band_of, coefficient_of, block_list, coded_at}
+use Rattle.jk_tile.specs.encoding.TileWritten.{AreWrittenBands, band_of, coefficient_of, block_list, coded_at}
+use Rattle.jk_tile.specs.encoding.TilesFrom.{written_component}
 use Rattle.jk_tile.specs.encoding.PacketsWritten.{coded_table, band_tables_at, precinct_tables, written_coding, written_shape, tile_tables}
 use Rattle.jk_tile.proofs.Places.{block_is_shape, block_is_part}
 use Rattle.jk_tile.proofs.encoding.Forwards.{band_list, band_length, coefficient_small, raster_few, tile_is_part, part_within}
@@ -129,7 +129,7 @@ planes_have p q is by =
     }
 
 -- how many a sub-band has
-planes_are : (p : Picture) (q : Parameters) (b : ℕ) → b < band_count q.levels → planes_of (written_coding p q) b ≡ max (p.depth + gain b) (need p q b - 1) + 1
+pub planes_are : (p : Picture) (q : Parameters) (b : ℕ) → b < band_count q.levels → planes_of (written_coding p q) b ≡ max (p.depth + gain b) (need p q b - 1) + 1
 planes_are p q b lt =
     let es = exponents_for p q in
     let n = band_count q.levels in
@@ -139,22 +139,14 @@ planes_are p q b lt =
 
 -- ---- a component of a tile
 
-abbrev pub source_for : Picture → Parameters → (t c : ℕ) → WrittenBands
-source_for p q t c = record {
-  rect = tile_area (siz_of p q) t;
-  coding = written_coding p q;
-  layers = q.layers;
-  bands = analysed_bands (tile_area (siz_of p q) t) q.levels (tile_value p q.colour c);
-}
-
-source_band : (p : Picture) (q : Parameters) (t c b : ℕ) → b ≤ 3 * q.levels → band_of (source_for p q t c) b ≡ written_band p q t c b
+source_band : (p : Picture) (q : Parameters) (t c b : ℕ) → b ≤ 3 * q.levels → band_of (written_component p q t c) b ≡ written_band p q t c b
 source_band p q t c b le = band_list (tile_area (siz_of p q) t) q.levels b (tile_value p q.colour c) (omega (arith, le))
 
 -- exponents say nothing of the partitions
 pub coding_is : (p : Picture) (q : Parameters) → IsWrittenBy q p → IsCoding (written_coding p q)
 coding_is p q by = let k = by.coding in record { levels = k.levels; narrow = k.narrow; wide = k.wide; low = k.low; high = k.high; area = k.area; count = k.count; small = k.small; whole = k.whole }
 
-pub are_written : (p : Picture) (q : Parameters) (t c : ℕ) → IsPicture p → IsWrittenBy q p → t < tile_count (siz_of p q) → c < length p.planes → AreWrittenBands (source_for p q t c)
+pub are_written : (p : Picture) (q : Parameters) (t c : ℕ) → IsPicture p → IsWrittenBy q p → t < tile_count (siz_of p q) → c < length p.planes → AreWrittenBands (written_component p q t c)
 are_written p q t c is by tile some =
     let a = tile_area (siz_of p q) t in
     record {
@@ -175,43 +167,48 @@ are_written p q t c is by tile some =
 
 -- ---- the tables of a precinct
 
-source_agrees : (p : Picture) (q : Parameters) (t c b : ℕ) → b ≤ 3 * q.levels → (x y : ℕ) → IsWithin (numbered_area (tile_area (siz_of p q) t) q.levels b) x y → coefficient_of (source_for p q t c) b x y ≡ written_coefficient p q t c b x y
+source_agrees : (p : Picture) (q : Parameters) (t c b : ℕ) → b ≤ 3 * q.levels → (x y : ℕ) → IsWithin (numbered_area (tile_area (siz_of p q) t) q.levels b) x y → coefficient_of (written_component p q t c) b x y ≡ written_coefficient p q t c b x y
 source_agrees p q t c b le x y h =
     let area = numbered_area (tile_area (siz_of p q) t) q.levels b in
     ap (λ (l : List ℤ). plane_at area l x y) (source_band p q t c b le) ∙ raster_at area (written_coefficient p q t c b) x y (record { left = h.left; right = h.right; upper = h.upper; lower = h.lower })
 
 -- the coefficients are those of the image
 block_same : (p : Picture) (q : Parameters) (t c r n i j : ℕ) → r ≤ q.levels → i < length (orientations r) → j < block_number (grid_at (tile_area (siz_of p q) t) (written_coding p q) r n i)
-    → coded_at (tile_area (siz_of p q) t) (written_coding p q) (coefficient_of (source_for p q t c)) r n i j ≡ coded_at (tile_area (siz_of p q) t) (written_coding p q) (written_coefficient p q t c) r n i j
+    → coded_at (tile_area (siz_of p q) t) (written_coding p q) (coefficient_of (written_component p q t c)) r n i j ≡ coded_at (tile_area (siz_of p q) t) (written_coding p q) (written_coefficient p q t c) r n i j
 block_same p q t c r n i j le lt few =
     let a = tile_area (siz_of p q) t in
     let k = written_coding p q in
     let b = band_number r i in
     let place = block_at_place a k r n i j in
     let inside = subst (IsPartOf place) (sym (numbered_is a q.levels r i lt)) (block_is_part a k r n i j few) in
-    ap (coded (block_shape a k r n i j)) (raster_same place (coefficient_of (source_for p q t c) b) (written_coefficient p q t c b) (λ x y h. source_agrees p q t c b (number_few q.levels r i le lt) x y (part_within place (numbered_area a q.levels b) x y inside h)))
+    ap (coded (block_shape a k r n i j)) (raster_same place (coefficient_of (written_component p q t c) b) (written_coefficient p q t c b) (λ x y h. source_agrees p q t c b (number_few q.levels r i le lt) x y (part_within place (numbered_area a q.levels b) x y inside h)))
 
-lists_from : {X : Type 0} (f g : ℕ → X) (a n : ℕ) → ((i : ℕ) → a ≤ i → i < a + n → f i ≡ g i) → map f (range_with_len a n) ≡ map g (range_with_len a n)
+pub lists_from : {X : Type 0} (f g : ℕ → X) (a n : ℕ) → ((i : ℕ) → a ≤ i → i < a + n → f i ≡ g i) → map f (range_with_len a n) ≡ map g (range_with_len a n)
 lists_from f g a zero same = refl
 lists_from {X} f g a (suc n) same =
     ap (λ (x : X). x ∷ map f (range_with_len (a + 1) n)) (same a (omega arith) (omega arith)) ∙ ap (λ (xs : List X). g a ∷ xs) (lists_from f g (a + 1) n (λ i from below. same i (omega (arith, from)) (omega (arith, below))))
 
+-- the exponents of what all tiles and components need are those of the image
+pub exponents_are : (p : Picture) (q : Parameters) (needs : ℕ → ℕ) → ((b : ℕ) → b < band_count q.levels → needs b ≡ need p q b) → exponents_with p.depth q.levels needs ≡ exponents_for p q
+exponents_are p q needs same =
+    lists_from (λ b. max (p.depth + gain b) (needs b - 1)) (λ b. max (p.depth + gain b) (need p q b - 1)) 0 (band_count q.levels) (λ b from to. ap (λ n. max (p.depth + gain b) (n - 1)) (same b (omega (arith, to))))
+
 -- so are the tables
 pub tables_same : (p : Picture) (q : Parameters) (t c r n : ℕ) → r ≤ q.levels
-    → precinct_tables q.layers (tile_area (siz_of p q) t) (written_coding p q) (coefficient_of (source_for p q t c)) r n ≡ tile_tables p q t c r n
+    → precinct_tables q.layers (tile_area (siz_of p q) t) (written_coding p q) (coefficient_of (written_component p q t c)) r n ≡ tile_tables p q t c r n
 unfolding precinct_tables
 tables_same p q t c r n le =
     let a = tile_area (siz_of p q) t in
     let k = written_coding p q in
-    lists_from (band_tables_at q.layers a k (coefficient_of (source_for p q t c)) r n) (band_tables_at q.layers a k (written_coefficient p q t c) r n) 0 (length (orientations r)) (λ i from lt.
-    lists_from (λ j. coded_table q.layers (planes_of k (band_number r i)) (coded_at a k (coefficient_of (source_for p q t c)) r n i j)) (λ j. coded_table q.layers (planes_of k (band_number r i)) (coded_at a k (written_coefficient p q t c) r n i j)) 0 (block_number (grid_at a k r n i)) (λ j at few.
+    lists_from (band_tables_at q.layers a k (coefficient_of (written_component p q t c)) r n) (band_tables_at q.layers a k (written_coefficient p q t c) r n) 0 (length (orientations r)) (λ i from lt.
+    lists_from (λ j. coded_table q.layers (planes_of k (band_number r i)) (coded_at a k (coefficient_of (written_component p q t c)) r n i j)) (λ j. coded_table q.layers (planes_of k (band_number r i)) (coded_at a k (written_coefficient p q t c) r n i j)) 0 (block_number (grid_at a k r n i)) (λ j at few.
     ap (coded_table q.layers (planes_of k (band_number r i))) (block_same p q t c r n i j le (omega (arith, lt)) (omega (arith, few)))))
 
 -- a block has no more bits than its sub-band
 pub block_room : (p : Picture) (q : Parameters) (t c r n i j : ℕ) → IsPicture p → IsWrittenBy q p → t < tile_count (siz_of p q) → c < length p.planes → r ≤ q.levels → i < length (orientations r)
     → j < block_number (grid_at (tile_area (siz_of p q) t) (written_coding p q) r n i) → (coded_at (tile_area (siz_of p q) t) (written_coding p q) (written_coefficient p q t c) r n i j).planes ≤ planes_of (written_coding p q) (band_number r i)
 block_room p q t c r n i j is by tile some le lt few =
-    subst (λ (k : Coded). k.planes ≤ planes_of (written_coding p q) (band_number r i)) (block_same p q t c r n i j le lt few) (planes_room (source_for p q t c) r n i j (are_written p q t c is by tile some) le lt few)
+    subst (λ (k : Coded). k.planes ≤ planes_of (written_coding p q) (band_number r i)) (block_same p q t c r n i j le lt few) (planes_room (written_component p q t c) r n i j (are_written p q t c is by tile some) le lt few)
 
 few_planes : (p : Picture) (q : Parameters) (b : ℕ) → IsPicture p → IsWrittenBy q p → b < band_count q.levels → planes_of (written_coding p q) b ≤ 23
 few_planes p q b is by lt =

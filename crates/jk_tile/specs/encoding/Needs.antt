@@ -47,8 +47,13 @@ abbrev pub gain : ℕ → ℕ
 gain zero = 0
 gain (suc b) = if b % 3 == 2 then 2 else 1
 
--- The exponents of the sub-bands: the depth and the gain, or more where there are greater
--- coefficients. With two guard bits a sub-band has a bit-plane more than its exponent (equation
--- E-2).
+-- The exponents of the sub-bands of so many levels, whose greatest magnitudes have so many bits: the
+-- depth and the gain, or more where there are greater coefficients. With two guard bits a sub-band has
+-- a bit-plane more than its exponent (equation E-2).
+abbrev pub exponents_with : (depth levels : ℕ) → (needs : ℕ → ℕ) → List ℕ
+exponents_with depth levels needs =
+    map (λ b. max (depth + gain b) (needs b - 1)) (range_with_len 0 (band_count levels))
+
+-- those of an image
 abbrev pub exponents_for : Picture → Parameters → List ℕ
-exponents_for p q = map (λ b. max (p.depth + gain b) (need p q b - 1)) (range_with_len 0 (band_count q.levels))
+exponents_for p q = exponents_with p.depth q.levels (need p q)

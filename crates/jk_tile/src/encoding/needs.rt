@@ -9,7 +9,8 @@ ghost use Rattle.jk_params.specs.Coding.{band_count};
 ghost use Rattle.jk_params.specs.Profile.{siz_of, IsWrittenBy};
 ghost use Rattle.jk_math.specs.BitLength.{bit_length};
 ghost use Rattle.jk_block.specs.BlockWritten.{greatest};
-ghost use Rattle.jk_tile.specs.encoding.Needs.{most, tile_need, need, gain, exponents_for, written_bands};
+ghost use Rattle.jk_tile.specs.encoding.Needs.{most, tile_need, need, gain, exponents_with, exponents_for};
+ghost use Rattle.jk_tile.specs.encoding.Needs.{written_bands};
 
 use crate::encoding::executor::Executor;
 use crate::encoding::subbands::tile_bands;
@@ -95,6 +96,22 @@ fn gain(band: usize) -> u8
     }
 }
 
+/// The exponents of the sub-bands of so many levels, in the order of QCD, where there are two guard
+/// bits and their greatest magnitudes have so many bits: the depth and the gain of the sub-band, or
+/// more where a coefficient needs it (T.800 E.1).
+pub fn exponents_with(depth: u8, levels: u8, needs: &[u8; 16]) -> Exponents
+    requires depth { depth ≤ 16 }
+    requires levels { levels ≤ 5 }
+    ensures { result ≡ exponents_with depth levels (slice_index needs.now) }
+{
+    let count = 3 * levels as usize + 1;
+    let mut exponents = [0; 16];
+    for band in 0..count {
+        exponents[band] = (depth + gain(band)).max(needs[band].saturating_sub(1));
+    }
+    Exponents::new(&exponents[..count])
+}
+
 /// The exponents of the sub-bands of an image, whose greatest magnitudes have so many bits.
 fn exponents_of(image: &Image, parameters: &Parameters, needs: &[u8; 16]) -> Exponents
     requires written { IsWrittenBy parameters.now image.now }
@@ -102,12 +119,7 @@ fn exponents_of(image: &Image, parameters: &Parameters, needs: &[u8; 16]) -> Exp
         → slice_index needs.now b ≡ need image.now parameters.now b }
     ensures { result ≡ exponents_for image.now parameters.now }
 {
-    let count = 3 * parameters.levels as usize + 1;
-    let mut exponents = [0; 16];
-    for band in 0..count {
-        exponents[band] = (image.depth() + gain(band)).max(needs[band].saturating_sub(1));
-    }
-    Exponents::new(&exponents[..count])
+    exponents_with(image.depth(), parameters.levels, needs)
 }
 
 /// The exponents of the sub-bands of an image, in the order of QCD, where there are two guard bits:

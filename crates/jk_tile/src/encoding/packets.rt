@@ -1,7 +1,8 @@
 //! The packets of a tile that is written, in their order (T.800 B.12).
 
-ghost use Rattle.std.specs.Prelude.{◌≡◌, ◌≢◌, ℕ, ◌+◌, ◌*◌, ◌^◌, ◌<◌, ◌≤◌, ◌++◌, length, replicate, None, slice_index};
-ghost use Rattle.std.specs.Prelude.{IfOk, IfErr, OnOk, MatchResult};
+ghost use Rattle.std.specs.Prelude.{◌≡◌, ◌≢◌, ℕ, ◌+◌, ◌*◌, ◌^◌, ◌<◌, ◌≤◌, ◌⊎◌, List, length, replicate, None, slice_index};
+ghost use Rattle.std.specs.Prelude.{OnOk, MatchResult};
+ghost use Rattle.std.specs.List.{flat_map};
 ghost use Rattle.jk_math.specs.Memory.{IsMemory};
 ghost use Rattle.jk_marks.specs.Coding.{IsCoding};
 ghost use Rattle.jk_geom.specs.Rectangles.{IsArea};
@@ -10,12 +11,14 @@ ghost use Rattle.jk_geom.specs.Counts.{precincts_below};
 ghost use Rattle.jk_geom.specs.TileShapes.{IsTileShape};
 ghost use Rattle.jk_order.specs.PacketOrder.{IsName, packet_count, order};
 ghost use Rattle.jk_params.specs.Coding.{HasPlanes};
-ghost use Rattle.jk_packet.specs.Written.{PrecinctTables};
+ghost use Rattle.jk_packet.specs.Written.{PrecinctTables, part_in, bodies_text};
 ghost use Rattle.jk_tile.specs.encoding.PacketsWritten.{written_text};
 ghost use Rattle.jk_tile.specs.encoding.TileWriters.{tables_in, kept_writer, writer_at, writer_in, text_by};
 ghost use Rattle.jk_tile.specs.encoding.TileWriters.{IsPrecinctList, AreLists};
+ghost use Rattle.jk_tile.specs.encoding.Sinks.{IsPassed};
 ghost use Rattle.jk_math.specs.Lists.{lists_of};
 
+use crate::encoding::sinks::TextSink;
 use jk_geom::{PacketName, TileShape, precinct_count};
 use jk_marks::Coding;
 use jk_math::{Fault, Rect};
@@ -161,15 +164,28 @@ struct NextPacket {
     place: usize,
 }
 
-/// Appends the next packet of a precinct. Its writer is made with the first layer and let go of
-/// behind the last one.
-fn write_at<'a>(
+/// Passes on what a layer has of the code-blocks with these tables.
+fn pass_bodies<S: TextSink>(tables: &[BlockTable], layer: u16, sink: &mut S) -> Result<(), Fault>
+    ensures { (part : List ℕ) × S.took sink.old part sink.new
+        × IsPassed S.tells (flat_map (λ t. (part_in t layer).1) tables.now) part result }
+{
+    for table in tables {
+        sink.take(table.bytes(layer))?;
+    }
+    Ok(())
+}
+
+/// Passes on the next packet of a precinct: its header, and then the bodies straight from the tables.
+/// Its writer is made with the first layer and let go of behind the last one. `head` is room for a
+/// header.
+fn pass_packet<'a, S: TextSink>(
     alloc: Global,
     frame: &TileFrame<'_>,
     packet: NextPacket,
     tables: &'a [BlockTable],
     slots: &mut Vec<Slot<'a>>,
-    out: &mut Vec<u8>,
+    head: &mut Vec<u8>,
+    sink: &mut S,
 ) -> Result<(), Fault>
     requires area { IsArea frame.now.shape.now.rect }
     requires coding { IsCoding frame.now.coding.now }
@@ -185,6 +201,9 @@ fn write_at<'a>(
         frame.now.markers.eph tables.now slots.old.items packet.place packet.name).written }
     requires more { packet.name.layer < (writer_in frame.now.shape.now frame.now.coding.now frame.now.markers.sop
         frame.now.markers.eph tables.now slots.old.items packet.place packet.name).layers }
+    requires bodies { bodies_text (writer_in frame.now.shape.now frame.now.coding.now frame.now.markers.sop
+        frame.now.markers.eph tables.now slots.old.items packet.place packet.name).tables packet.name.layer
+        ≡ flat_map (λ t. (part_in t packet.name.layer).1) tables.now }
     ensures long { length slots.new.items ≡ length slots.old.items }
     ensures here { OnOk result (packet.name.layer + 1 < frame.now.shape.now.layers → (blank : PrecinctTables)
         → kept_writer slots.new.items packet.place blank
@@ -193,25 +212,29 @@ fn write_at<'a>(
         { written = packet.name.layer + 1 }) }
     ensures others { (blank : PrecinctTables) (i : ℕ) → i ≢ packet.place
         → kept_writer slots.new.items i blank ≡ kept_writer slots.old.items i blank }
-    ensures text { OnOk result (out.new.items ≡ out.old.items
-        ++ text_by (writer_in frame.now.shape.now frame.now.coding.now frame.now.markers.sop
-        frame.now.markers.eph tables.now slots.old.items packet.place packet.name) packet.number) }
-    ensures memory { IfErr result IsMemory }
+    ensures text { (part : List ℕ) × S.took sink.old part sink.new
+        × IsPassed (λ e. IsMemory e ⊎ S.tells e) (text_by (writer_in frame.now.shape.now frame.now.coding.now
+        frame.now.markers.sop frame.now.markers.eph tables.now slots.old.items packet.place packet.name)
+        packet.number) part result }
 {
     let mut writer = take(alloc, frame, packet.name, tables, packet.place, slots)?;
-    writer.write_packet(packet.number, out)?;
+    head.clear();
+    writer.write_head(packet.number, head)?;
+    sink.take(head)?;
+    pass_bodies(tables, packet.name.layer, sink)?;
     if packet.name.layer + 1 < frame.shape.layers {
         keep(slots, packet.place, writer);
     }
     Ok(())
 }
 
-/// The packets of a tile whose components are coded alike, from the tables of its precincts.
-pub(crate) fn write_packets(
+/// Passes on the packets of a tile whose components are coded alike, from the tables of its precincts.
+pub(crate) fn pass_packets<S: TextSink>(
     alloc: Global,
     frame: &TileFrame<'_>,
     tables: &[Vec<BlockTable>],
-) -> Result<Vec<u8>, Fault>
+    sink: &mut S,
+) -> Result<(), Fault>
     requires shape { IsTileShape frame.now.shape.now }
     requires coding { IsCoding frame.now.coding.now }
     requires planes { HasPlanes frame.now.coding.now }
@@ -219,16 +242,15 @@ pub(crate) fn write_packets(
     requires few { packet_count frame.now.shape.now ≤ 2 ^ 24 }
     requires lists { AreLists frame.now.shape.now.rect frame.now.coding.now frame.now.shape.now.layers
         (length frame.now.shape.now.codings) (lists_of tables.now) }
-    ensures text { IfOk result (λ v. v.items
-        ≡ written_text frame.now.shape.now frame.now.markers.sop frame.now.markers.eph
+    ensures { (part : List ℕ) × S.took sink.old part sink.new × IsPassed (λ e. IsMemory e ⊎ S.tells e)
+        (written_text frame.now.shape.now frame.now.markers.sop frame.now.markers.eph
         (tables_in frame.now.shape.now.rect frame.now.coding.now (lists_of tables.now)) 0
-        (order frame.now.shape.now)) }
-    ensures memory { IfErr result IsMemory }
+        (order frame.now.shape.now)) part result }
 {
     let firsts = firsts(&frame.shape.rect, frame.coding);
     let mut slots = no_writers(alloc, tables.len())?;
     let mut packets = Packets::new(frame.shape)?;
-    let mut out = Vec::new(alloc);
+    let mut head = Vec::new(alloc);
     for number in 0..packet_count(frame.shape) {
         let Some(name) = packets.next() else {
             break;
@@ -240,7 +262,7 @@ pub(crate) fn write_packets(
             number: number as u32,
             place,
         };
-        write_at(alloc, frame, packet, own, &mut slots, &mut out)?;
+        pass_packet(alloc, frame, packet, own, &mut slots, &mut head, sink)?;
     }
-    Ok(out)
+    Ok(())
 }

@@ -5,11 +5,13 @@ ghost use Rattle.jk_math.specs.Memory.{IsMemory};
 ghost use Rattle.jk_block.specs.CodedBlocks.{contents};
 ghost use Rattle.jk_block.specs.Layers.{passes_upto, without_ff, bytes_upto};
 ghost use Rattle.jk_tile.specs.encoding.PacketsWritten.{IsCodedBlock, parts_for, coded_table};
+ghost use Rattle.jk_tile.specs.encoding.Layered.{layered, table_with};
 
 use jk_block::CodedBlock;
 use jk_math::Fault;
 use jk_packet::{BlockTable, LayerPart};
 use std::alloc::Global;
+use std::marker::Model;
 
 /// How many coding passes of a block of so many bit-planes stand in the layers up to this one: the
 /// last layer has bit-plane 0, the one before it plane 1 and so on, the first one all planes that
@@ -84,6 +86,53 @@ fn layer_parts(alloc: Global, coded: &CodedBlock, layers: u16) -> Result<Vec<Lay
     Ok(parts)
 }
 
+/// A coded block cut into layers: its own bit-planes, what each layer has of it, and its bytes. How
+/// many bit-planes its sub-band has isn't known yet.
+#[derive(Drop)]
+pub(crate) struct LayeredBlock {
+    planes: u32,
+    parts: Vec<LayerPart>,
+    bytes: Vec<u8>,
+}
+
+impl Model for LayeredBlock {
+    ghost use Rattle.std.specs.Prelude.{length};
+    ghost use Rattle.jk_packet.specs.Written.{AreEnds};
+    ghost use Rattle.jk_tile.specs.encoding.Layered.{Layered};
+
+    ghost Value = { Layered };
+
+    ghost view = { λ b. record { planes = b.planes; parts = b.parts.items; bytes = b.bytes.items } };
+
+    ghost invariant = { λ b. AreEnds 0 b.parts.items (length b.bytes.items) };
+}
+
+impl LayeredBlock {
+    /// A coded block, cut into so many layers.
+    pub(crate) fn new(alloc: Global, coded: CodedBlock, layers: u16) -> Result<LayeredBlock, Fault>
+        requires coded { IsCodedBlock coded }
+        ensures value { IfOk result (λ b. b ≡ layered layers (contents coded)) }
+        ensures memory { IfErr result IsMemory }
+    {
+        let parts = layer_parts(alloc, &coded, layers)?;
+        Ok(LayeredBlock {
+            planes: coded.planes,
+            parts,
+            bytes: coded.bytes,
+        })
+    }
+
+    /// What is written of it in a sub-band of so many bit-planes.
+    pub(crate) fn table(self, planes: u32) -> BlockTable
+        requires room { self.planes ≤ planes }
+        requires planes { planes ≤ 23 }
+        ensures table { result ≡ table_with planes self }
+    {
+        let zero_planes = (planes - self.planes) as u8;
+        BlockTable::new(zero_planes, 0, self.parts, self.bytes)
+    }
+}
+
 /// What is written of a coded block in a sub-band of so many bit-planes.
 pub(crate) fn table(
     alloc: Global,
@@ -97,7 +146,6 @@ pub(crate) fn table(
     ensures table { IfOk result (λ t. t ≡ coded_table layers planes (contents coded)) }
     ensures memory { IfErr result IsMemory }
 {
-    let parts = layer_parts(alloc, &coded, layers)?;
-    let zero_planes = (planes - coded.planes) as u8;
-    Ok(BlockTable::new(zero_planes, 0, parts, coded.bytes))
+    let block = LayeredBlock::new(alloc, coded, layers)?;
+    Ok(block.table(planes))
 }

@@ -1,30 +1,33 @@
 //! A tile of an image into its packets.
 
-ghost use Rattle.std.specs.Prelude.{◌≡◌, ℕ, ◌+◌, ◌-◌, ◌<◌, ◌≤◌, List, [], ◌∷◌, length, map, replicate, IfOk, IfErr};
+ghost use Rattle.std.specs.Prelude.{◌≡◌, ℕ, ◌+◌, ◌-◌, ◌^◌, ◌<◌, ◌≤◌, ◌⊎◌, List, [], ◌∷◌, length, map, min, replicate, IfOk, IfErr};
+ghost use Rattle.std.specs.Io.KnownBytes.{Appends};
 ghost use Rattle.jk_math.specs.Memory.{IsMemory};
-ghost use Rattle.jk_math.specs.Picture.{IsPicture, sample_at};
+ghost use Rattle.jk_math.specs.declared.fault.Fault.TheVariants.{Shelf};
+ghost use Rattle.jk_math.specs.Lists.{lists_of};
+ghost use Rattle.jk_math.specs.Picture.{Picture, sample_at};
 ghost use Rattle.jk_marks.specs.Siz.{tile_count};
-ghost use Rattle.jk_geom.specs.Rectangles.{IsArea, tile_area};
-ghost use Rattle.jk_order.specs.PacketOrder.{IsPrecinct};
 ghost use Rattle.jk_params.specs.Headers.{Headers};
 ghost use Rattle.jk_params.specs.Profile.{siz_of, cod_of, IsWrittenBy};
 ghost use Rattle.jk_walk.specs.TilePackets.{slice_of};
-ghost use Rattle.jk_tile.specs.encoding.Needs.{exponents_for, written_bands};
-ghost use Rattle.jk_tile.specs.encoding.PacketsWritten.{written_coding, written_shape, tile_tables, tile_text};
+ghost use Rattle.jk_tile.specs.encoding.Needs.{written_bands};
+ghost use Rattle.jk_tile.specs.encoding.PacketsWritten.{written_coding, tile_text};
 ghost use Rattle.jk_tile.specs.TileMeaning.{DecodesTile};
-ghost use Rattle.jk_tile.specs.encoding.TileWriters.{tables_in, AreLists};
-ghost use Rattle.jk_math.specs.Lists.{lists_of};
+ghost use Rattle.jk_tile.specs.encoding.Sinks.{IsPassed};
+ghost use Rattle.jk_tile.specs.encoding.TilesFrom.{IsOutlineOf, tile_lists};
 
 use crate::encoding::executor::Executor;
-use crate::encoding::packets::{TileFrame, write_packets};
+use crate::encoding::packets::{TileFrame, pass_packets};
 use crate::encoding::precincts::tile_tables;
-use crate::encoding::written::WrittenImage;
+use crate::encoding::sinks::{TextSink, TextSize, TextWriter};
+use crate::encoding::written::{TileOutline, WrittenImage};
 use jk_geom::{Codings, TileShape, tile};
 use jk_marks::{Coding, Quantisation};
-use jk_math::{Fault, Planes, Rect};
+use jk_math::{Fault, Planes};
 use jk_packet::BlockTable;
 use jk_params::{PacketMarkers, coding_with, siz_of};
 use std::alloc::Global;
+use std::io::Write;
 
 /// How each component of an image is coded, with two guard bits.
 fn coding_of(source: &WrittenImage<'_>) -> Coding
@@ -49,91 +52,93 @@ fn codings_alike(coding: &Coding, components: usize) -> Codings
     codings
 }
 
-/// The tables of all precincts of a tile on this rectangle: each code-block of its sub-bands, coded
-/// and cut into layers.
-fn code_tile<E: Executor>(
-    executor: &E,
+/// Passes on the packets of a tile in their order, from the tables of its precincts.
+fn pass_tile<S: TextSink>(
     alloc: Global,
-    source: &WrittenImage<'_>,
-    coding: &Coding,
-    number: u32,
-    rect: &Rect,
-    bands: Vec<Planes>,
-) -> Result<Vec<Vec<BlockTable>>, Fault>
-    requires ready { E.ready executor.now }
-    requires picture { IsPicture source.now.image.now }
-    requires coding { coding.now ≡ written_coding source.now.image.now source.now.parameters.now }
-    requires number { number < tile_count (siz_of source.now.image.now source.now.parameters.now) }
-    requires rect { rect.now ≡ tile_area (siz_of source.now.image.now source.now.parameters.now) number }
-    requires bands { bands.items ≡ written_bands source.now.image.now source.now.parameters.now number }
-    ensures lists { IfOk result
-        (λ v. AreLists rect.now coding.now source.now.parameters.now.layers (length source.now.image.now.planes)
-        (lists_of v.items)) }
-    ensures tables { IfOk result (λ v. (c r n : ℕ) → IsPrecinct
-        (written_shape source.now.image.now source.now.parameters.now number) c r n
-        → tables_in rect.now coding.now (lists_of v.items) c r n
-        ≡ tile_tables source.now.image.now source.now.parameters.now number c r n) }
-    ensures memory { IfErr result IsMemory }
-{
-    tile_tables(
-        executor,
-        alloc,
-        rect,
-        coding,
-        source.parameters.layers,
-        &bands,
-    )
-}
-
-/// The packets of a tile on this rectangle in their order, from the tables of its precincts.
-fn packets_of(
-    alloc: Global,
-    source: &WrittenImage<'_>,
-    coding: &Coding,
-    number: u32,
-    rect: &Rect,
+    tile: &TileOutline<'_>,
     tables: &[Vec<BlockTable>],
-) -> Result<Vec<u8>, Fault>
-    requires picture { IsPicture source.now.image.now }
-    requires coding { coding.now ≡ written_coding source.now.image.now source.now.parameters.now }
-    requires number { number < tile_count (siz_of source.now.image.now source.now.parameters.now) }
-    requires rect { rect.now ≡ tile_area (siz_of source.now.image.now source.now.parameters.now) number }
-    requires lists { AreLists rect.now coding.now source.now.parameters.now.layers (length source.now.image.now.planes)
-        (lists_of tables.now) }
-    requires tables { (c r n : ℕ) → IsPrecinct
-        (written_shape source.now.image.now source.now.parameters.now number) c r n
-        → tables_in rect.now coding.now (lists_of tables.now) c r n
-        ≡ tile_tables source.now.image.now source.now.parameters.now number c r n }
-    ensures exact { IfOk result (λ v. v.items ≡ tile_text source.now.image.now source.now.parameters.now number) }
-    ensures means { IfOk result
-        (λ v. (codestream : List ℕ) (h : Headers) (places : List (ℕ × ℕ)) → h.siz
-        ≡ siz_of source.now.image.now source.now.parameters.now
-        → map (slice_of codestream) places ≡ v.items ∷ []
-        → DecodesTile codestream h
-        (record {
-          cod = cod_of source.now.parameters.now;
-          codings = replicate (length source.now.image.now.planes)
-              (written_coding source.now.image.now source.now.parameters.now);
-          data_places = places;
-        }) number 0
-        (λ c x y. sample_at source.now.image.now c (x - source.now.image.now.x0) (y - source.now.image.now.y0))) }
-    ensures memory { IfErr result IsMemory }
+    sink: &mut S,
+) -> Result<(), Fault>
+    requires tile { (p : Picture) × (t : ℕ) × IsOutlineOf tile.now p t
+        × (lists_of tables.now ≡ tile_lists p tile.now.parameters.now t) }
+    ensures { (part : List ℕ) × S.took sink.old part sink.new
+        × ((p : Picture) (t : ℕ) → IsOutlineOf tile.now p t → lists_of tables.now ≡ tile_lists p tile.now.parameters.now t
+        → IsPassed (λ e. IsMemory e ⊎ S.tells e) (tile_text p tile.now.parameters.now t) part result) }
 {
     let shape = TileShape {
-        rect: *rect,
-        layers: source.parameters.layers,
-        order: source.parameters.order,
-        codings: codings_alike(coding, source.image.planes().len()),
+        rect: tile.rect,
+        layers: tile.parameters.layers,
+        order: tile.parameters.order,
+        codings: codings_alike(tile.coding, tile.components),
     };
     let frame = TileFrame {
         shape: &shape,
-        coding,
+        coding: tile.coding,
         markers: PacketMarkers {
-            sop: source.parameters.sop,
-            eph: source.parameters.eph,
+            sop: tile.parameters.sop,
+            eph: tile.parameters.eph,
         },
     };
-    write_packets(alloc, &frame, tables)
+    pass_packets(alloc, &frame, tables, sink)
+}
+
+/// The packets of a tile in their order, from the tables of its precincts, one behind another:
+/// component by component, resolution by resolution (T.800 B.12). Memory is the only fault.
+pub fn packets_of(
+    alloc: Global,
+    tile: &TileOutline<'_>,
+    tables: &[Vec<BlockTable>],
+) -> Result<Vec<u8>, Fault>
+    requires tile { (p : Picture) × (t : ℕ) × IsOutlineOf tile.now p t
+        × (lists_of tables.now ≡ tile_lists p tile.now.parameters.now t) }
+    ensures exact { IfOk result (λ v. (p : Picture) (t : ℕ) → IsOutlineOf tile.now p t
+        → lists_of tables.now ≡ tile_lists p tile.now.parameters.now t
+        → v.items ≡ tile_text p tile.now.parameters.now t) }
+    ensures memory { IfErr result IsMemory }
+{
+    let mut out: Vec<u8> = Vec::new(alloc);
+    pass_tile(alloc, tile, tables, &mut out)?;
+    Ok(out)
+}
+
+/// How many bytes the packets of a tile have, 2^64 - 1 at most, as [`packets_of`] gives them: headers
+/// are made and let go of, and what was coded is not copied. Memory is the only fault.
+pub fn packets_size(
+    alloc: Global,
+    tile: &TileOutline<'_>,
+    tables: &[Vec<BlockTable>],
+) -> Result<u64, Fault>
+    requires tile { (p : Picture) × (t : ℕ) × IsOutlineOf tile.now p t
+        × (lists_of tables.now ≡ tile_lists p tile.now.parameters.now t) }
+    ensures exact { IfOk result (λ n. (p : Picture) (t : ℕ) → IsOutlineOf tile.now p t
+        → lists_of tables.now ≡ tile_lists p tile.now.parameters.now t
+        → n ≡ min (length (tile_text p tile.now.parameters.now t)) (2 ^ 64 - 1)) }
+    ensures memory { IfErr result IsMemory }
+{
+    let mut size = TextSize { bytes: 0 };
+    pass_tile(alloc, tile, tables, &mut size)?;
+    Ok(size.bytes)
+}
+
+/// Writes the packets of a tile, as [`packets_of`] gives them: of each packet its header, and then
+/// what was coded, straight from the tables.
+///
+/// Memory: a header couldn't be made. Shelf: a write failed. Then a beginning of the packets was
+/// written.
+pub fn write_packets<W: Write>(
+    alloc: Global,
+    tile: &TileOutline<'_>,
+    tables: &[Vec<BlockTable>],
+    writer: &mut W,
+) -> Result<(), Fault>
+    requires tile { (p : Picture) × (t : ℕ) × IsOutlineOf tile.now p t
+        × (lists_of tables.now ≡ tile_lists p tile.now.parameters.now t) }
+    ensures { (part : List ℕ) × Appends (W.contents writer.old) (W.contents writer.new) part
+        × ((p : Picture) (t : ℕ) → IsOutlineOf tile.now p t → lists_of tables.now ≡ tile_lists p tile.now.parameters.now t
+        → IsPassed (λ e. IsMemory e ⊎ (e ≡ Shelf)) (tile_text p tile.now.parameters.now t) part result) }
+{
+    let mut sink = TextWriter { writer };
+    pass_tile(alloc, tile, tables, &mut sink)
 }
 
 /// The data of the only part of tile `number`: its packets in their order, each layer of each
@@ -169,6 +174,13 @@ pub fn encode_tile<E: Executor>(
 {
     let coding = coding_of(source);
     let rect = tile(&siz_of(source.image, source.parameters), number);
-    let tables = code_tile(executor, alloc, source, &coding, number, &rect, bands)?;
-    packets_of(alloc, source, &coding, number, &rect, &tables)
+    let layers = source.parameters.layers;
+    let tables = tile_tables(executor, alloc, &rect, &coding, layers, &bands)?;
+    let outline = TileOutline {
+        parameters: source.parameters,
+        coding: &coding,
+        rect,
+        components: source.image.planes().len(),
+    };
+    packets_of(alloc, &outline, &tables)
 }

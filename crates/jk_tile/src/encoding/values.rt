@@ -1,8 +1,9 @@
 //! From the samples of a tile to what the wavelet takes (T.800 G.1.1, G.2.1), a row at a time.
 
-ghost use Rattle.std.specs.Prelude.{◌≡◌, ℕ, ℤ, ◌+◌, ◌-◌, ◌<◌, ◌≤◌, ◌^◌, length, All, true, ◌-ℤ◌};
+ghost use Rattle.std.specs.Prelude.{◌≡◌, ℕ, ℤ, ◌+◌, ◌-◌, ◌<◌, ◌≤◌, ◌^◌, length, All, true, ◌-ℤ◌, IfErr, OnOk};
+ghost use Rattle.jk_math.specs.Memory.{IsMemory};
 ghost use Rattle.jk_math.specs.Picture.{IsPicture, sample_at};
-ghost use Rattle.jk_math.specs.Raster.{columns_of};
+ghost use Rattle.jk_math.specs.Raster.{columns_of, raster};
 ghost use Rattle.jk_math.specs.Signed.{IsBelow, signed_at};
 ghost use Rattle.jk_rct.specs.Colour.{y0_of, y1_of, y2_of};
 ghost use Rattle.jk_geom.specs.Rectangles.{IsArea};
@@ -11,9 +12,10 @@ ghost use Rattle.jk_tile.specs.encoding.Forward.{picture_area, levelled, tile_va
 ghost use Rattle.jk_tile.specs.Samples.{shift};
 
 use crate::samples::level_shift;
-use jk_math::{Image, Rect};
+use jk_math::{Fault, Image, Rect};
 use jk_rct::forward_pixel;
 use jk_wave::RowSource;
+use std::alloc::Global;
 
 /// The samples of a component on the row at place `y` of a rectangle.
 fn row_of<'a>(image: &'a Image, component: usize, rect: &Rect, y: u32) -> &'a [i32]
@@ -199,4 +201,37 @@ impl<'a> RowSource for ComponentRows<'a> {
             _ => self.put_plain(y, row),
         }
     }
+}
+
+/// The rows of a component of an image on a rectangle as the wavelet takes them: less the level
+/// shift, and behind the component transform where that is asked for. They take the place of what
+/// is in `values`. Memory is the only fault.
+pub fn put_values(
+    alloc: Global,
+    image: &Image,
+    colours: bool,
+    component: usize,
+    rect: &Rect,
+    values: &mut Vec<i32>,
+) -> Result<(), Fault>
+    requires picture { IsPicture image.now }
+    requires component { component < length image.now.planes }
+    requires colours { colours ≡ true → 3 ≤ length image.now.planes }
+    requires rect { IsPartOf rect.now (picture_area image.now) }
+    ensures values { OnOk result (values.new.items ≡ raster rect.now (tile_value image.now colours component)) }
+    ensures memory { IfErr result IsMemory }
+{
+    let source = ComponentRows {
+        image,
+        component,
+        colours,
+        rect: *rect,
+    };
+    let mut row = vec![in alloc; 0; (rect.x1 - rect.x0) as usize]?;
+    values.clear();
+    for y in rect.y0..rect.y1 {
+        source.put_row(y, &mut row);
+        values.extend_from_slice(&row)?;
+    }
+    Ok(())
 }

@@ -3,14 +3,18 @@
 ghost use Rattle.std.specs.Prelude.{◌≡◌, ◌<◌, ◌≤◌, ◌*◌, ◌^◌, ◌++◌, length, All, unsigned_abs, IfOk, IfErr, OnOk};
 ghost use Rattle.std.specs.List.{flat_map};
 ghost use Rattle.jk_math.specs.Memory.{IsMemory};
+ghost use Rattle.jk_math.specs.Raster.{places_of, plane_at, raster};
 ghost use Rattle.jk_marks.specs.Coding.{IsCoding};
 ghost use Rattle.jk_geom.specs.Blocks.{IsGrid};
+ghost use Rattle.jk_geom.specs.Rectangles.{IsArea};
 ghost use Rattle.jk_geom.specs.Precincts.{precinct_number};
-ghost use Rattle.jk_block.specs.CodedBlocks.{contents, shape_of};
+ghost use Rattle.jk_block.specs.BlockWritten.{coded};
+ghost use Rattle.jk_block.specs.CodedBlocks.{contents};
 ghost use Rattle.jk_walk.specs.TilePackets.{orientations, band_number};
 ghost use Rattle.jk_tile.specs.encoding.PacketsWritten.{IsCodedBlock, band_tables_at, precinct_tables, block_table};
-ghost use Rattle.jk_tile.specs.TileBlocks.{grid_at, block_shape, IsBlockShape};
-ghost use Rattle.jk_tile.specs.encoding.TileWritten.{block_list, coded_at, coefficient_of, AreWrittenBands};
+ghost use Rattle.jk_tile.specs.Filling.{IsPartOf};
+ghost use Rattle.jk_tile.specs.TileBlocks.{grid_at, shape_of_area, IsBlockShape};
+ghost use Rattle.jk_tile.specs.encoding.TileWritten.{coded_at, coefficient_of, AreWrittenBands};
 ghost use Rattle.jk_tile.specs.encoding.TileWritten.{IsWrittenPart};
 
 use crate::bands::{BandPart, band_count, band_planes, orientation, shape_at};
@@ -19,7 +23,7 @@ use crate::encoding::tables::table;
 use jk_block::{Block, CodedBlock, code};
 use jk_geom::{BlockGrid, band, blocks};
 use jk_marks::Coding;
-use jk_math::{Fault, Planes, Rect};
+use jk_math::{Fault, Orientation, Planes, Rect, Style};
 use jk_packet::BlockTable;
 use std::alloc::Global;
 use std::marker::Model;
@@ -108,47 +112,39 @@ pub(crate) fn number_of(r: u8, i: u8) -> usize
     }
 }
 
-/// The coefficients of code-block `j` of a part of a sub-band.
-fn block_at(
+/// Codes the code-block at a place of a rectangle of a sub-band, whose coefficients are these, row by
+/// row.
+pub(crate) fn code_block(
     alloc: Global,
-    source: &BandSource<'_>,
-    part: BandPart,
-    grid: &BlockGrid,
-    j: u32,
-) -> Result<Block, Fault>
-    requires part { IsWrittenPart source.now part }
-    requires grid { grid.now ≡ grid_at source.now.rect source.now.coding part.resolution part.precinct part.band }
-    requires sound { IsGrid grid.now }
-    requires j { j < grid.now.across * grid.now.down }
-    ensures shape { IfOk result
-        (λ b. shape_of b ≡ block_shape source.now.rect source.now.coding part.resolution part.precinct part.band j) }
-    ensures values { IfOk result (λ b. b.values.items
-        ≡ block_list source.now.rect source.now.coding
-        (coefficient_of source.now) part.resolution part.precinct part.band j) }
-    ensures fits { IfOk result (λ b. IsBlockShape (shape_of b)) }
-    ensures whole { IfOk result (λ b. length b.values.items ≡ b.width * b.height) }
-    ensures small { IfOk result (λ b. All (λ v. unsigned_abs v < 2 ^ 23) b.values.items) }
+    area: &Rect,
+    values: &[i32],
+    place: &Rect,
+    orientation: Orientation,
+    style: Style,
+) -> Result<CodedBlock, Fault>
+    requires area { IsArea area.now }
+    requires part { IsPartOf place.now area.now }
+    requires whole { length values.now ≡ places_of area.now }
+    requires fits { IsBlockShape (shape_of_area place.now orientation style) }
+    requires small { All (λ v. unsigned_abs v < 2 ^ 23) values.now }
+    ensures block { IfOk result IsCodedBlock }
+    ensures coded { IfOk result (λ k. contents k
+        ≡ coded (shape_of_area place.now orientation style) (raster place.now (plane_at area.now values.now))) }
     ensures memory { IfErr result IsMemory }
 {
-    let rect = source.rect();
-    let coding = source.coding();
-    let orientation = orientation(part.resolution, part.band);
-    let area = band(&rect, coding.levels, part.resolution, orientation);
-    let place = grid.block(j);
-    let plane = source.bands().plane(number_of(part.resolution, part.band));
-    let values = cut_out(alloc, &area, plane, &place)?;
-    let shape = shape_at(&place, orientation, coding.style);
-    Ok(Block {
+    let shape = shape_at(place, orientation, style);
+    let block = Block {
         width: shape.width,
         height: shape.height,
         orientation: shape.orientation,
         style: shape.style,
-        values,
-    })
+        values: cut_out(alloc, area, values, place)?,
+    };
+    code(alloc, &block)
 }
 
 /// Codes code-block `j` of a part of a sub-band.
-pub(crate) fn code_at(
+fn code_at(
     alloc: Global,
     source: &BandSource<'_>,
     part: BandPart,
@@ -165,8 +161,13 @@ pub(crate) fn code_at(
         (coefficient_of source.now) part.resolution part.precinct part.band j) }
     ensures memory { IfErr result IsMemory }
 {
-    let block = block_at(alloc, source, part, grid, j)?;
-    code(alloc, &block)
+    let rect = source.rect();
+    let coding = source.coding();
+    let orientation = orientation(part.resolution, part.band);
+    let area = band(&rect, coding.levels, part.resolution, orientation);
+    let place = grid.block(j);
+    let plane = source.bands().plane(number_of(part.resolution, part.band));
+    code_block(alloc, &area, plane, &place, orientation, coding.style)
 }
 
 /// The code-blocks of a part of a sub-band.

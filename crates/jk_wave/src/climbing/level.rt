@@ -47,9 +47,9 @@ fn forget(numbers: &mut Vec<i32>, used: usize)
     requires { used ≤ length numbers.old.items }
     ensures { numbers.new.items ≡ drop used numbers.old.items }
 {
-    let left = numbers.len() - used;
-    numbers.rotate_left(used);
-    numbers.truncate(left);
+    let len = numbers.len();
+    numbers.as_mut_slice().copy_within(used..len, 0);
+    numbers.truncate(len - used);
 }
 
 impl ClimbingLevel {

@@ -1,4 +1,4 @@
-use Rattle.std.proofs.Common.{◌≡◌, IfOk, sym, ap, subst, ◌∙◌}
+use Rattle.std.proofs.Common.{◌≡◌, sym, subst}
 use Rattle.jk_math.specs.Lists.{lists_of}
 use Rattle.jk_code.specs.MeaningReading.{planes_of_tiles}
 use Rattle.jk_code.specs.Sources.{ImageSource}

@@ -8,7 +8,7 @@ use Rattle.jk_math.specs.declared.fault.Fault.{Fault}
 use Rattle.jk_math.specs.declared.fault.Fault.TheVariants.{Memory}
 use Rattle.jk_marks.specs.Siz.{tile_count}
 use Rattle.jk_tile.specs.decoding.TileReading.{tested}
-use Rattle.jk_tile.proofs.Laws.{fine, refuses_on}
+use Rattle.jk_tile.proofs.Laws.{refuses_on}
 use Rattle.jk_code.specs.MeaningReading.{packets_tested, tiles_tested, picture_with, planes_of_tiles, picture_at}
 use Rattle.jk_code.specs.Sources.{ImageSource, IsImageSource}
 use Rattle.jk_code.specs.Rows.{WereTaken}

@@ -1,12 +1,10 @@
 use Rattle.std.proofs.Common.{◌≡◌, ◌<◌, Ok, IfOk, length, sym, subst, arith}
 use Rattle.jk_math.specs.Answer.{Answers}
 use Rattle.jk_math.specs.Lists.{lists_of}
-use Rattle.jk_math.specs.declared.rect.Rect.{Rect}
 use Rattle.jk_marks.specs.Siz.{tile_count}
 use Rattle.jk_walk.specs.WalkReading.{packets_at}
 use Rattle.jk_walk.proofs.Laws.{packets_within}
 use Rattle.jk_tile.specs.Filling.{IsPartOf}
-use Rattle.jk_window.specs.Views.{frame_of}
 use Rattle.jk_code.specs.MeaningReading.{planes_of_tiles}
 use Rattle.jk_code.specs.Sources.{ImageSource}
 use Rattle.jk_code.specs.ViewReading.{seen_parts_tested}

@@ -10,65 +10,75 @@ use Rattle.jk_code.specs.Written.{main_for, part_for, tree_for}
 use Rattle.jk_code.proofs.BeginningLaws.{ahead_any, ahead_first, part_of_tile, size_said, start_joined, fits_said, file_means}
 use Rattle.jk_code.proofs.writing.first_part.Goals as goal
 
+pub main_header-requires : goal.main_header-requires
+main_header-requires g c = record { some = (c.requires.some.0, c.requires.some.1.source) }
+
+pub front-requires-clause-some : goal.front-requires-clause-some
+front-requires-clause-some g c = (c.requires.some.0, c.requires.some.1.source)
+
 pub returns-in_err-rest-clause-err : goal.returns-in_err-rest-clause-err
-returns-in_err-rest-clause-err c =
+returns-in_err-rest-clause-err g c =
     let same = err_from_is_err_and c.from_residual.result c.from_residual.ensures.1 in
-    rw (same.1, same.2) (ahead_any c.args.source.now.image.now c.args.source.now.parameters.now c.in_err-rest.field-0.0 c.in_err-rest.ensures.err)
+    rw (same.1, same.2) (λ p told. ahead_any p c.args.source.now.parameters.now c.in_err-rest.field-0.0 (c.in_err-rest.ensures.err p told))
 
 pub returns-in_err-head-clause-err : goal.returns-in_err-head-clause-err
-returns-in_err-head-clause-err c =
-    let p = c.args.source.now.image.now in
+returns-in_err-head-clause-err g c =
     let q = c.args.source.now.parameters.now in
     let same = err_from_is_err_and c.from_residual-in_err-head.result c.from_residual-in_err-head.ensures.1 in
     rw (same.1, same.2)
-    (ahead_first p q c.in_err-head.field-0.0 c.deref.result.now (some_tile (siz_of p q) c.args.source.now.profile.siz) (c.deref.ensures.value ∙ c.in_ok-content.ensures.exact) c.in_err-head.ensures.err)
+    (λ p told. ahead_first p q c.in_err-head.field-0.0 c.deref.result.now (some_tile (siz_of p q) told.source.written.siz) (c.deref.ensures.value ∙ c.requires.first p told) c.in_err-head.ensures.err)
 
 pub returns-clause-text : goal.returns-clause-text
-returns-clause-text c =
-    let p = c.args.source.now.image.now in
+returns-clause-text g c p told =
     let q = c.args.source.now.parameters.now in
-    let content = c.in_ok-content.content.items in
+    let head_is : c.main_header.result ≡ main_for p q = c.main_header.ensures.value p told.source in
+    let made : c.write_main.new.out.items ≡ main_text (siz_of p q) (segments_of (main_for p q)) =
+    c.in_ok-write_main.ensures.ok ∙ ap (λ (xs : List ℕ). xs ++ main_text c.main_header.result.siz (segments_of c.main_header.result)) c.new-main.ensures.items
+    ∙ ap (λ (x : Main). main_text x.siz (segments_of x)) head_is in
+    let text = ap (λ (xs : List ℕ). length xs) made in
+    let long : c.len-3.result ≡ length (main_text (siz_of p q) (segments_of (main_for p q))) = omega (arith, c.len-3.ensures, text) in
+    let fourteen : c.len.result ≡ 14 = omega (arith, c.len.ensures, c.in_ok-head.ensures.size) in
+    let coded = ap (λ (xs : List ℕ). length xs) (c.requires.first p told) in
+    let same : c.len-2.result ≡ length (tile_text p q 0) = omega (arith, c.len-2.ensures, coded) in
+    let content = c.args.content.items in
     let before = c.in_ok-before.before.items in
     let read = c.deref.result.now in
     let main = c.deref-2.result.now in
     let head = c.deref-3.result.now in
-    let made : c.write_main.new.out.items ≡ main_text (siz_of p q) (segments_of (main_for p q)) =
-    c.in_ok-write_main.ensures.ok ∙ ap (λ (xs : List ℕ). xs ++ main_text c.main_header.result.siz (segments_of c.main_header.result)) c.new-main.ensures.items
-    ∙ ap (λ (x : Main). main_text x.siz (segments_of x)) c.main_header.ensures.value in
-    let text = ap (λ (xs : List ℕ). length xs) made in
-    let long : c.len-3.result ≡ length (main_text (siz_of p q) (segments_of (main_for p q))) = omega (arith, c.len-3.ensures, text) in
-    let fourteen : c.len.result ≡ 14 = omega (arith, c.len.ensures, c.in_ok-head.ensures.size) in
-    let coded = ap (λ (xs : List ℕ). length xs) c.in_ok-content.ensures.exact in
-    let same : c.len-2.result ≡ length (tile_text p q 0) = omega (arith, c.len-2.ensures, coded) in
     let size = c.len-3.result + (c.len.result + c.len-2.result) + c.in_ok-rest.rest + 2 in
     let part : head ++ content ≡ part_text (part_for p q 0) =
-    part_of_tile p q 0 head read content c.deref.ensures.value c.in_ok-content.ensures.exact (ap (λ (xs : List ℕ). xs ++ read) c.deref-3.ensures.value ∙ c.in_ok-head.ensures.text) in
+    part_of_tile p q 0 head read content c.deref.ensures.value (c.requires.first p told) (ap (λ (xs : List ℕ). xs ++ read) c.deref-3.ensures.value ∙ c.in_ok-head.ensures.text) in
     ap (λ (xs : List ℕ). xs ++ content) (c.in_ok-extend_from_slice-2.ensures.items ∙ ap (λ (xs : List ℕ). xs ++ head) c.in_ok-extend_from_slice.ensures.items)
-    ∙ start_joined p q before main head content size c.in_ok-before.ensures.value
-    (λ jp2. size_said p q c.len-3.result c.len.result c.len-2.result c.in_ok-rest.rest long fourteen same (c.in_ok-rest.ensures.size jp2))
+    ∙ start_joined p q before main head content size (c.in_ok-before.ensures.value p told.source)
+    (λ jp2. size_said p q c.len-3.result c.len.result c.len-2.result c.in_ok-rest.rest long fourteen same (c.in_ok-rest.ensures.size p told jp2))
     (c.deref-2.ensures.value ∙ made) part
 
-pub returns-clause-all : goal.returns-clause-all
-returns-clause-all c jp2 =
-    let p = c.args.source.now.image.now in
+pub returns-clause-fits : goal.returns-clause-fits
+returns-clause-fits g c p told =
     let q = c.args.source.now.parameters.now in
-    let read : length c.deref.result.now ≡ length (tile_text p q 0) = ap (λ (xs : List ℕ). length xs) (c.deref.ensures.value ∙ c.in_ok-content.ensures.exact) in
-    c.in_ok-rest.ensures.fits jp2 (fits_said p q 0 (omega (arith, c.in_ok-head.ensures.fits, read)))
+    let read : length c.deref.result.now ≡ length (tile_text p q 0) = ap (λ (xs : List ℕ). length xs) (c.deref.ensures.value ∙ c.requires.first p told) in
+    fits_said p q 0 (omega (arith, c.in_ok-head.ensures.fits, read))
+
+pub returns-clause-all : goal.returns-clause-all
+returns-clause-all g c p told jp2 =
+    let q = c.args.source.now.parameters.now in
+    let read : length c.deref.result.now ≡ length (tile_text p q 0) = ap (λ (xs : List ℕ). length xs) (c.deref.ensures.value ∙ c.requires.first p told) in
+    c.in_ok-rest.ensures.fits p told jp2 (fits_said p q 0 (omega (arith, c.in_ok-head.ensures.fits, read)))
 
 pub returns-clause-means : goal.returns-clause-means
-returns-clause-means c = λ file e.
-    (let p = c.args.source.now.image.now in
-    let q = c.args.source.now.parameters.now in
+returns-clause-means g c p told = λ file e.
+    (let q = c.args.source.now.parameters.now in
+    let head_is : c.main_header.result ≡ main_for p q = c.main_header.ensures.value p told.source in
     let made : c.write_main.new.out.items ≡ main_text (siz_of p q) (segments_of (main_for p q)) =
     c.in_ok-write_main.ensures.ok ∙ ap (λ (xs : List ℕ). xs ++ main_text c.main_header.result.siz (segments_of c.main_header.result)) c.new-main.ensures.items
-    ∙ ap (λ (x : Main). main_text x.siz (segments_of x)) c.main_header.ensures.value in
+    ∙ ap (λ (x : Main). main_text x.siz (segments_of x)) head_is in
     let text = ap (λ (xs : List ℕ). length xs) made in
     let long : c.len-3.result ≡ length (main_text (siz_of p q) (segments_of (main_for p q))) = omega (arith, c.len-3.ensures, text) in
     let fourteen : c.len.result ≡ 14 = omega (arith, c.len.ensures, c.in_ok-head.ensures.size) in
-    let coded = ap (λ (xs : List ℕ). length xs) c.in_ok-content.ensures.exact in
+    let coded = ap (λ (xs : List ℕ). length xs) (c.requires.first p told) in
     let same : c.len-2.result ≡ length (tile_text p q 0) = omega (arith, c.len-2.ensures, coded) in
     let small : q.container ≡ Jp2 → 16 + length (codestream_text (tree_for p q)) < 2 ^ 64 = λ jp2.
-    (let whole = size_said p q c.len-3.result c.len.result c.len-2.result c.in_ok-rest.rest long fourteen same (c.in_ok-rest.ensures.size jp2) in
-    let read : length c.deref.result.now ≡ length (tile_text p q 0) = ap (λ (xs : List ℕ). length xs) (c.deref.ensures.value ∙ c.in_ok-content.ensures.exact) in
+    (let whole = size_said p q c.len-3.result c.len.result c.len-2.result c.in_ok-rest.rest long fourteen same (c.in_ok-rest.ensures.size p told jp2) in
+    let read : length c.deref.result.now ≡ length (tile_text p q 0) = ap (λ (xs : List ℕ). length xs) (c.deref.ensures.value ∙ c.requires.first p told) in
     omega (arith, whole, c.in_ok-rest.ensures.small, c.in_ok-head.ensures.fits, read)) in
-    file_means p q file c.main_header.ensures.picture c.args.source.now.profile small e)
+    file_means p q file told.source.picture told.source.written small e)

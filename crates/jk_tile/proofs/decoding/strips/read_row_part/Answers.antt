@@ -1,4 +1,4 @@
-use Rattle.std.proofs.Common.{◌≡◌, ℕ, ◌+◌, ◌-◌, ◌*◌, ◌/◌, ◌<◌, ◌≤◌, ◌≢◌, ◌⊎◌, inl, inr, length, Ok, Err, ◌∙◌, ap, sym, subst, arith}
+use Rattle.std.proofs.Common.{◌≡◌, ℕ, ◌+◌, ◌-◌, ◌*◌, ◌/◌, ◌<◌, ◌≤◌, inl, inr, length, ◌∙◌, sym, subst, arith}
 use Rattle.std.specs.List.{AllByRecursion}
 use Rattle.std.proofs.lemmas.Bool.{cases_eq}
 use Rattle.std.proofs.lemmas.Result.{err_from_is_err_and}
@@ -13,9 +13,9 @@ use Rattle.jk_tile.specs.TileBlocks.{grid_at, block_at_place}
 use Rattle.jk_tile.specs.decoding.TileReading.{tested, block_values}
 use Rattle.jk_tile.specs.decoding.Source.{Source, source_bodies, block_count}
 use Rattle.jk_tile.specs.declared.decoding.strips.BlockRow.{BlockRow}
-use Rattle.jk_tile.specs.decoding.Strips.{IsFine, ShowsBlockIn, row_of_block, strip_area, HasFault}
+use Rattle.jk_tile.specs.decoding.Strips.{IsFine, ShowsBlockIn, row_of_block, strip_area}
 use Rattle.jk_tile.proofs.Showing.{listed_bodies, grid_is}
-use Rattle.jk_tile.proofs.decoding.StripLaws.{row_blocks, row_block_in, row_none, block_in_strip, cause_from}
+use Rattle.jk_tile.proofs.decoding.StripLaws.{row_blocks, row_block_in, block_in_strip, cause_from}
 use Rattle.jk_tile.proofs.decoding.strips.read_row_part.Goals as goal
 
 -- code-block k of those that the precinct has of the row

@@ -1,4 +1,4 @@
-use Rattle.std.proofs.Common.{◌≡◌, ℕ, true, false, refl, ◌+◌, ◌<◌, ◌≤◌, inl, inr, List, ℤ, length, ◌∙◌, ap, sym, subst, arith}
+use Rattle.std.proofs.Common.{◌≡◌, ℕ, refl, ◌+◌, ◌<◌, inl, inr, List, ℤ, length, ◌∙◌, ap, sym, subst, arith}
 use Rattle.std.proofs.lemmas.Bool.{cases_eq}
 use Rattle.std.specs.Vec.{with_items}
 use Rattle.jk_math.specs.declared.rect.Rect.{Rect}

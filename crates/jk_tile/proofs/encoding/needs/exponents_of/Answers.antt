@@ -1,25 +1,11 @@
-use Rattle.std.proofs.Common.{◌≡◌, ◌+◌, ◌-◌, ◌<◌, length, ◌∷◌, [], ◌++◌, List, ℕ, max, map, ap, sym, ◌∙◌, arith}
-use Rattle.std.specs.List.{range_with_len}
-use Rattle.std.proofs.lemmas.List.{take_more_set, length-set}
-use Rattle.std.proofs.lemmas.List.FromFn.{map-range_with_len_more}
-use Rattle.jk_tile.specs.encoding.Needs.{gain, need}
+use Rattle.std.proofs.Common.{ℕ, ap, ◌∙◌}
+use Rattle.std.specs.Prelude.{slice_index}
+use Rattle.jk_tile.specs.encoding.Needs.{exponents_with}
+use Rattle.jk_tile.proofs.encoding.WrittenTile.{exponents_are}
 use Rattle.jk_tile.proofs.encoding.needs.exponents_of.Goals as goal
 
-pub loop-band-preserved : goal.loop-band-preserved
-loop-band-preserved c =
-    let p = c.args.image.now in
+pub returns : goal.returns
+returns c =
     let q = c.args.parameters.now in
-    let es = c.loop-band.exponents in
-    let b = c.loop-band.band in
-    let f : ℕ → ℕ = λ k. max (p.depth + gain k) (need p q k - 1) in
-    let v = c.max.result in
-    let test = c.loop-band-test.true in
-    let levels = c.requires.written.levels in
-    let long = c.loop-band.invariant.0 in
-    let inside : b < length es = omega (arith, test, levels, long) in
-    let is : v ≡ f b = c.max.ensures ∙ ap (λ n. max (n + c.gain.result) c.saturating_sub.result) c.depth.ensures ∙ ap (λ n. max (p.depth + n) c.saturating_sub.result) c.gain.ensures.value
-    ∙ ap (max (p.depth + gain b)) (c.saturating_sub.ensures ∙ ap (λ n. n - 1) (c.requires.needs b (omega (arith, test)))) in (
-      length-set es b v ∙ long,
-      take_more_set es b v inside ∙ ap (λ (xs : List ℕ). xs ++ v ∷ []) c.loop-band.invariant.1 ∙ ap (λ (k : ℕ). map f (range_with_len 0 b) ++ k ∷ []) is
-          ∙ sym (map-range_with_len_more f 0 b b (omega arith)),
-    )
+    let needs : ℕ → ℕ = slice_index c.args.needs.now in
+    c.exponents_with.ensures ∙ ap (λ d. exponents_with d q.levels needs) c.depth.ensures ∙ exponents_are c.args.image.now q needs c.requires.needs

@@ -1,10 +1,8 @@
-use Rattle.std.proofs.Common.{◌-◌, refl}
+use Rattle.std.proofs.Common.{sym, ap, ◌∙◌}
 use Rattle.jk_block.specs.CodedBlocks.{contents}
-use Rattle.jk_tile.proofs.encoding.LayerTables.{ends_of, table_by}
+use Rattle.jk_tile.specs.encoding.Layered.{table_with}
+use Rattle.jk_tile.proofs.encoding.LayerTables.{table_is}
 use Rattle.jk_tile.proofs.encoding.tables.table.Goals as goal
 
-pub new-requires : goal.new-requires
-new-requires c = let is = c.requires.coded in ends_of is.shape is.values c.args.layers (contents c.args.coded) c.in_ok-parts.parts.items is.is c.in_ok-parts.ensures.parts
-
 pub returns-clause-table : goal.returns-clause-table
-returns-clause-table c = table_by c.args.layers c.args.planes (c.args.planes - c.args.coded.planes) (contents c.args.coded) c.in_ok-parts.parts.items c.new.result refl c.in_ok-parts.ensures.parts c.new.ensures
+returns-clause-table c = c.table.ensures.table ∙ ap (table_with c.args.planes) c.in_ok-block.ensures.value ∙ sym (table_is c.args.layers c.args.planes (contents c.args.coded))

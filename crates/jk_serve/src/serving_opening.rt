@@ -1,0 +1,289 @@
+//! Serving an archive over sockets while its files are opened.
+
+ghost use Rattle.std.specs.Prelude.{◌≡◌, ◌<◌, vec_len};
+
+use crate::desk::{Desk, Keeper};
+use crate::distant_desk::DistantDesk;
+use crate::finder::Finder;
+use crate::noticing::Noticing;
+use crate::opener::{Opener, Opening};
+use crate::operating::follow_all;
+use crate::owner::Owner;
+use crate::post::{Post, Request};
+use crate::serving::{Served, end_log, start_log};
+use crate::table::{Table, entries};
+use jk_hall::{Hall, Reader, Source, serve_all};
+use jk_jobs::Open;
+use jk_math::Fault;
+use jk_port::Arriving;
+use jk_store::Shelf;
+use std::alloc::Global;
+use std::io::{Read, Write};
+use std::sync::Wait;
+use std::thread;
+use std::thread::Threads;
+use std::time::Clock;
+
+/// Who adds images: what reads the files that are added, where the lines come from, and where they
+/// are answered.
+#[derive(Drop)]
+struct Operator<P, I, O> {
+    paths: P,
+    input: I,
+    output: O,
+}
+
+/// How those have ended who don't have the archive: who attends to connections, with how many, and
+/// who follows the operator's lines.
+#[derive(Drop)]
+struct Others {
+    served: Result<u64, Fault>,
+    operated: Result<(), Fault>,
+}
+
+/// Follows the operator's lines, and answers them. Where that ends before the input does, it is
+/// told.
+fn operate_there<R: Wait + Eprint, P: Shelf + Drop, I: Read + Drop, O: Write + Drop>(
+    rt: &R,
+    alloc: Global,
+    post: &Post,
+    operator: Operator<P, I, O>,
+) -> Result<(), Fault> {
+    let Operator {
+        paths,
+        mut input,
+        mut output,
+    } = operator;
+    let mut desk = DistantDesk { post, paths };
+    let mut followed = follow_all(rt, alloc, &mut desk, &mut (), &mut input, &mut output);
+    if followed.is_ok() {
+        followed = post.ask(rt, Request::Settle);
+    }
+    post.end_lines(rt);
+    if let Err(fault) = &followed {
+        let _ = eprintln!(rt; "jk: no more images are added: {fault}");
+    }
+    followed
+}
+
+/// Attends to connections, and meanwhile follows the operator's lines, if who has the archive still
+/// waits for that.
+fn attend<
+    R: Threads + Wait + Eprint + Sync,
+    P: Shelf + Drop,
+    F: Shelf + Drop + Send,
+    C: Source + Sync,
+    I: Read + Drop,
+    O: Write + Drop,
+>(
+    rt: &R,
+    alloc: Global,
+    post: &Post,
+    operator: Operator<P, I, O>,
+    workers: (Vec<Reader>, Vec<F>),
+    source: &C,
+) -> Others
+    requires { (0 < vec_len workers.0) × (vec_len workers.0 ≡ vec_len workers.1) }
+{
+    if !post.begin(rt) {
+        return Others {
+            served: Err(Fault::WorkerFailed),
+            operated: Err(Fault::WorkerFailed),
+        };
+    }
+    let (readers, shelves) = workers;
+    let noticing = Noticing { source, post };
+    let (served, operated) = thread::join(
+        rt,
+        || -> Result<u64, Fault>
+            requires { (0 < vec_len readers) × (vec_len readers ≡ vec_len shelves) }
+        {
+            let served = serve_all(rt, alloc, readers, shelves, &Open, &noticing);
+            post.end_serving(rt);
+            served
+        },
+        || operate_there(rt, alloc, post, operator),
+    );
+    Others { served, operated }
+}
+
+/// Opens the files that wait, and does what the operator asks, until the lines have ended. Where the
+/// opening is given up, it is told.
+///
+/// WorkerFailed: nobody else has begun.
+fn own<R: Wait + Clock + Eprint, S: Shelf, K: Keeper<S>, N: Finder + Drop>(
+    rt: &R,
+    alloc: Global,
+    post: &Post,
+    owner: &mut Owner<S, K>,
+    opening: Opening<N>,
+) -> Result<(), Fault> {
+    if !post.meet(rt) {
+        return Err(Fault::WorkerFailed);
+    }
+    let opened = match Opener::new(rt, alloc, opening) {
+        Ok(mut opener) => opener.run(rt, owner, post),
+        Err(fault) => Err(fault),
+    };
+    if let Err(fault) = &opened {
+        let _ = eprintln!(rt; "jk: not all files of the folder are listed: {fault}");
+    }
+    owner.follow_all(rt, alloc, post);
+    opened
+}
+
+/// How what goes on while an archive is served has ended.
+#[derive(Drop)]
+pub struct Ends {
+    /// How many connections were attended to.
+    pub served: Result<u64, Fault>,
+    /// Shelf: a file couldn't be read. Limit: there are more images than 4,096. Memory: it was
+    /// refused.
+    pub opened: Result<(), Fault>,
+    /// As of `operate`.
+    pub operated: Result<(), Fault>,
+}
+
+/// Has an archive, while in another thread connections are attended to, and in a third one the
+/// operator's lines are followed.
+fn meanwhile<
+    R: Threads + Wait + Clock + Eprint + Sync,
+    S: Shelf,
+    K: Keeper<S>,
+    P: Shelf + Drop + Send,
+    F: Shelf + Drop + Send,
+    N: Finder + Drop,
+    C: Source + Sync,
+    I: Read + Drop + Send,
+    O: Write + Drop + Send,
+>(
+    rt: &R,
+    alloc: Global,
+    owner: &mut Owner<S, K>,
+    opening: Opening<N>,
+    operator: Operator<P, I, O>,
+    workers: (Vec<Reader>, Vec<F>),
+    source: &C,
+) -> Ends
+    requires { (0 < vec_len workers.0) × (vec_len workers.0 ≡ vec_len workers.1) }
+{
+    let kept = Post::new(alloc);
+    let post = &kept;
+    let (others, opened) = thread::join(
+        rt,
+        || -> Others
+            requires { (0 < vec_len workers.0) × (vec_len workers.0 ≡ vec_len workers.1) }
+        { attend(rt, alloc, post, operator, workers, source) },
+        || own(rt, alloc, post, owner, opening),
+    );
+    Ends {
+        served: others.served,
+        opened,
+        operated: others.operated,
+    }
+}
+
+/// Serves an archive to the connections of a source, with a worker for each of the shelves, while
+/// files of its folder are opened, listed and published (`Opening`), and the lines of an operator
+/// are followed, as by `operate`. It ends when no more connections come and the lines have ended;
+/// then no more files are opened.
+///
+/// BadParameters: other than 1 to 64 shelves. WorkerFailed: a worker can't have its place. At the
+/// ends it is WorkerFailed where no thread can be had for the connections and the lines.
+pub fn serve_meanwhile<
+    R: Threads + Wait + Clock + Eprint + Sync,
+    S: Shelf + Drop,
+    K: Keeper<S> + Drop,
+    P: Shelf + Drop + Send,
+    F: Shelf + Drop + Send,
+    N: Finder + Drop,
+    C: Source + Sync,
+    I: Read + Drop + Send,
+    O: Write + Drop + Send,
+>(
+    rt: &R,
+    alloc: Global,
+    desk: Desk<S, K, P>,
+    opening: Opening<N>,
+    shelves: Vec<F>,
+    source: &C,
+    streams: (I, O),
+) -> Result<Ends, Fault> {
+    if shelves.is_empty() {
+        return Err(Fault::BadParameters);
+    }
+    let Desk {
+        archive,
+        keeper,
+        paths,
+    } = desk;
+    let (input, output) = streams;
+    let listed = entries(alloc, &archive)?;
+    let (writer, readers) = Hall::new(rt, alloc, shelves.len(), listed)?;
+    let operator = Operator {
+        paths,
+        input,
+        output,
+    };
+    let mut owner = Owner {
+        table: Table::new(archive, writer),
+        keeper,
+    };
+    let ends = meanwhile(
+        rt,
+        alloc,
+        &mut owner,
+        opening,
+        operator,
+        (readers, shelves),
+        source,
+    );
+    let Owner {
+        table,
+        keeper: _keeper,
+    } = owner;
+    table.into_writer().close(rt);
+    Ok(ends)
+}
+
+/// Serves the images of an archive on a port while files of its folder are opened, until so many
+/// connections have come and the operator's lines have ended, which are followed meanwhile
+/// (`serve_meanwhile`).
+///
+/// Else as `serve_port`. The first of these faults at the end: of serving, of opening, of the
+/// operator.
+pub fn serve_opening<
+    R,
+    S: Shelf + Drop,
+    K: Keeper<S> + Drop,
+    P: Shelf + Drop + Send,
+    F: Shelf + Drop + Send,
+    N: Finder + Drop,
+    I: Read + Drop + Send,
+    O: Write + Drop + Send,
+>(
+    rt: &R,
+    alloc: Global,
+    desk: Desk<S, K, P>,
+    opening: Opening<N>,
+    shelves: Vec<F>,
+    source: &Arriving<R>,
+    streams: (I, O),
+) -> Result<Served, Fault>
+where
+    R: Threads + Wait + Clock + Eprint + Clone + Drop + Send + Sync + 'static,
+{
+    let writing = start_log(rt, alloc, source);
+    let ends = serve_meanwhile(rt, alloc, desk, opening, shelves, source, streams);
+    source.end();
+    end_log(rt, source, writing);
+    let Ends {
+        served,
+        opened,
+        operated,
+    } = ends?;
+    let connections = served?;
+    opened?;
+    operated?;
+    Ok(Served { connections })
+}

@@ -1,0 +1,491 @@
+-- A sub-band between its rows: a row more waits, and a row of code-blocks is coded.
+use Rattle.std.proofs.Common.{◌≡◌, ℕ, zero, suc, ◌+◌, ◌-◌, ◌*◌, ◌/◌, ◌%◌, ◌^◌, ◌<◌, ◌≤◌, ◌⊎◌, inl, inr, min, max, true, false, leb, List, [], ◌∷◌, ◌++◌, length, map, take, drop, replicate, All, get_or, ℤ, pos, unsigned_abs, refl, sym, ap, subst, ◌∙◌, arith, length-drop}
+use Rattle.std.specs.List.{range_with_len}
+use Rattle.std.proofs.Math.Nat.{mul-le-mul_right}
+use Rattle.std.proofs.Math.Pow.{pow_mono}
+use Rattle.std.specs.Prelude.{◌||◌, nat_eq}
+use Rattle.std.specs.Global.{Vec}
+use Rattle.std.proofs.lemmas.Bool.{cases_lt, or_cases, or_parts, leb-true, leb-false, eqb-true, eqb-false}
+use Rattle.std.proofs.lemmas.Nat.{pow_pos, div-add-mod'}
+use Rattle.std.proofs.lemmas.List.{get_or_past, length-map, length-append, length-replicate, length-take-le}
+use Rattle.std.proofs.lemmas.List.Elements.{All-nil, All-append, All-weaker, All-from_get_or, All-take, All-drop}
+use Rattle.jk_math.specs.declared.rect.Rect.{Rect}
+use Rattle.jk_math.specs.BitLength.{bit_length}
+use Rattle.jk_math.specs.Lists.{lists_of, list_at}
+use Rattle.jk_math.specs.Raster.{columns_of, places_of, raster, plane_at}
+use Rattle.jk_math.proofs.Laws.{bit_length_room, bit_length_few}
+use Rattle.jk_marks.specs.declared.coding.Coding.{Coding}
+use Rattle.jk_math.specs.declared.orientation.Orientation.{Orientation}
+use Rattle.jk_geom.specs.Rectangles.{IsArea, band_area}
+use Rattle.jk_geom.specs.Precincts.{precinct_number}
+use Rattle.jk_geom.proofs.Cells.{cell_from, cell_to, cell_one}
+use Rattle.jk_block.specs.BlockWritten.{greatest}
+use Rattle.jk_block.proofs.Laws.{greatest_bounds}
+use Rattle.jk_wave.specs.climbing.Held.{rows_between}
+use Rattle.jk_wave.proofs.Laws.{joined, no_rows, cut_rows}
+use Rattle.jk_walk.specs.TilePackets.{orientations, band_number}
+use Rattle.jk_tile.specs.TileBlocks.{orientation_at, grid_at}
+use Rattle.jk_tile.specs.decoding.Strips.{block_exponent}
+use Rattle.jk_tile.specs.encoding.Layered.{Layered}
+use Rattle.jk_tile.specs.encoding.Strips.{ComponentFrame, band_at, IsRowStart, row_end, IsWholeRow, blocks_above, layered_at, layered_between, HavePlanes, own_band, HoldsRows, IsBetweenRows, HasRowsOf}
+use Rattle.jk_tile.specs.declared.encoding.strips.Strip.{Strip}
+use Rattle.jk_tile.specs.declared.encoding.strips.BandStrips.{BandStrips}
+use Rattle.jk_tile.proofs.encoding.BlockRows.{none_above}
+use Rattle.jk_tile.proofs.encoding.StripBlocks.{grid_in, between_agrees, above_more, between_few}
+
+-- ---- where rows of code-blocks end
+
+-- the row behind them is the first of one, or the end
+pub next_start : (b : Rect) (e y : ℕ) → b.y0 ≤ y → y < b.y1 → IsRowStart b e (row_end b e y)
+next_start b e y from to inside =
+    let p = 2 ^ e in
+    let some = pow_pos e in
+    let whole : row_end b e y ≡ (y / p + 1) * p = omega (arith, inside) in
+    let next : (y / p + 1 + 1) * p ≡ (y / p + 1) * p + p = omega arith in
+    let q : y / p + 1 ≡ row_end b e y / p = cell_one (y / p + 1) (row_end b e y) p some (omega (arith, whole)) (omega (arith, whole, next, some)) in
+    let same : row_end b e y / p * p ≡ (y / p + 1) * p = ap (λ m. m * p) (sym q) in
+    let far = cell_to y p some in
+    omega (arith, same, whole, from, far)
+
+-- a row that isn't the last of one
+pub still_open : (b1 p y t : ℕ) → 0 < p → t ≤ min b1 ((y / p + 1) * p) → t < b1 → (t % p ≡ 0 → ⊥) → t < min b1 ((y / p + 1) * p)
+still_open b1 p y t some within less off = elim (cases_lt t ((y / p + 1) * p)) [
+  | inl short ↦ omega (arith, short, less)
+  | inr past ↦
+      let whole : t ≡ (y / p + 1) * p = omega (arith, past, within) in
+      absurd (off (ap (λ n. n % p) whole ∙ none (y / p + 1) p some))
+]
+  where
+    none : (m p : ℕ) → 0 < p → m * p % p ≡ 0
+    none m p some =
+        let split = div-add-mod' (m * p) p in
+        let next : (m + 1) * p ≡ m * p + p = omega arith in
+        let q : m ≡ m * p / p = cell_one m (m * p) p some (omega arith) (omega (arith, next, some)) in
+        let same : m * p / p * p ≡ m * p = ap (λ n. n * p) (sym q) in
+        omega (arith, split, same)
+
+-- and one that is
+pub at_end : (b1 p y t : ℕ) → 0 < p → y < t → t ≤ min b1 ((y / p + 1) * p) → (b1 ≤ t) ⊎ (t % p ≡ 0) → t ≡ min b1 ((y / p + 1) * p)
+at_end b1 p y t some order within all = elim all [
+  | inl last ↦ omega (arith, last, within)
+  | inr whole ↦
+      let split = div-add-mod' t p in
+      let is : t / p * p ≡ t = omega (arith, split, whole) in
+      let from = cell_from y p in
+      (elim (cases_lt (y / p) (t / p)) [
+        | inl more ↦ (let up : (y / p + 1) * p ≤ t / p * p = mul-le-mul_right p (omega (arith, more)) in omega (arith, up, is, within))
+        | inr few ↦ (let low : t / p * p ≤ y / p * p = mul-le-mul_right p few in absurd (omega (arith, low, is, from, order)))
+      ])
+]
+
+-- one row more stays within
+pub one_more : (b : Rect) (e y t : ℕ) → y ≤ t → t < b.y1 → (y < t → t < row_end b e y) → t + 1 ≤ row_end b e y
+one_more b e y t order inside missing = elim (cases_lt y t) [
+  | inl behind ↦ (let less = missing behind in omega (arith, less))
+  | inr here ↦ (let to = cell_to y (2 ^ e) (pow_pos e) in omega (arith, to, here, order, inside))
+]
+
+-- ---- magnitudes
+
+pub below_more : (m n : ℕ) (xs : List ℤ) → m ≤ n → All (λ v. unsigned_abs v < 2 ^ m) xs → All (λ v. unsigned_abs v < 2 ^ n) xs
+below_more m n xs le all = let wide : 2 ^ m ≤ 2 ^ n = pow_mono le in All-weaker (λ v. unsigned_abs v < 2 ^ m) (λ v. unsigned_abs v < 2 ^ n) (λ v less. omega (arith, less, wide)) xs all
+
+pub below_own : (xs : List ℤ) → All (λ v. unsigned_abs v < 2 ^ bit_length (greatest xs)) xs
+below_own xs = let room = bit_length_room (greatest xs) in All-from_get_or (λ v. unsigned_abs v < 2 ^ bit_length (greatest xs)) xs (pos 0) (λ k lt. let bound = greatest_bounds xs k in omega (arith, bound, room))
+
+pub planes_more : (m n : ℕ) (blocks : List (List Layered)) → m ≤ n → HavePlanes m blocks → HavePlanes n blocks
+planes_more m n blocks le all = λ k. All-weaker (λ (b : Layered). b.planes ≤ m) (λ (b : Layered). b.planes ≤ n) (λ b few. omega (arith, few, le)) (get_or blocks k []) (all k)
+
+greatest_joined : (xs ys : List ℤ) → greatest (xs ++ ys) ≡ max (greatest xs) (greatest ys)
+greatest_joined [] ys = omega arith
+greatest_joined (x ∷ xs) ys = let rest = greatest_joined xs ys in omega (arith, rest)
+
+length_rises : (m n : ℕ) → m ≤ n → bit_length m ≤ bit_length n
+length_rises m n le = let room = bit_length_room n in bit_length_few m (bit_length n) (omega (arith, le, room))
+
+length_joined : (m n : ℕ) → bit_length (max m n) ≡ max (bit_length m) (bit_length n)
+length_joined m n = elim (cases_lt m n) [
+  | inl less ↦ (let rise = length_rises m n (omega (arith, less)) in let is : max m n ≡ n = omega (arith, less) in let e = ap bit_length is in omega (arith, e, rise))
+  | inr more ↦ (let rise = length_rises n m more in let is : max m n ≡ m = omega (arith, more) in let e = ap bit_length is in omega (arith, e, rise))
+]
+
+-- the bits of all rows are the most of the bits of some and of the others
+pub bits_joined : (xs ys : List ℤ) → bit_length (greatest (xs ++ ys)) ≡ max (bit_length (greatest xs)) (bit_length (greatest ys))
+bits_joined xs ys = ap bit_length (greatest_joined xs ys) ∙ length_joined (greatest xs) (greatest ys)
+
+pub bits_none : (xs : List ℤ) → length xs ≡ 0 → bit_length (greatest xs) ≡ 0
+bits_none [] e = bit_length_of_none
+  where
+    bit_length_of_none : bit_length 0 ≡ 0
+    bit_length_of_none = let few = bit_length_few 0 0 (omega arith) in omega (arith, few)
+bits_none (x ∷ xs) e = absurd (omega (arith, e))
+
+-- ---- rows
+
+pub places_more : (a b : Rect) → b.x0 ≡ a.x0 → b.x1 ≡ a.x1 → b.y0 ≡ a.y0 → b.y1 ≡ a.y1 + 1 → a.y0 ≤ a.y1 → places_of b ≡ places_of a + columns_of a
+places_more a b e0 e1 e2 e3 order =
+    let w : columns_of b ≡ columns_of a = omega (arith, e0, e1) in
+    let h : b.y1 - b.y0 ≡ a.y1 - a.y0 + 1 = omega (arith, e2, e3, order) in
+    ap (λ m. m * columns_of b) h ∙ ap (λ m. (a.y1 - a.y0 + 1) * m) w ∙ (let one : (a.y1 - a.y0 + 1) * columns_of a ≡ (a.y1 - a.y0) * columns_of a + columns_of a = omega arith in one)
+
+-- those of a rectangle with one more, which has the columns of another
+pub rows_more : (a b band : Rect) (f : ℕ → ℕ → ℤ) (old row : List ℤ) → a.x0 ≡ band.x0 → a.x1 ≡ band.x1 → b ≡ record { x0 = a.x0; y0 = a.y0; x1 = a.x1; y1 = a.y1 + 1 } → a.y0 ≤ a.y1
+    → old ≡ raster a f → row ≡ raster (rows_between band a.y1 (a.y1 + 1)) f → old ++ row ≡ raster b f
+rows_more a b band f old row left right is order eo er =
+    let own : rows_between a a.y1 (a.y1 + 1) ≡ rows_between band a.y1 (a.y1 + 1) =
+    ap (λ x. record { x0 = x; y0 = a.y1; x1 = a.x1; y1 = a.y1 + 1 }) left ∙ ap (λ x. record { x0 = band.x0; y0 = a.y1; x1 = x; y1 = a.y1 + 1 }) right in
+    ap (λ (xs : List ℤ). xs ++ row) eo ∙ ap (λ (xs : List ℤ). raster a f ++ xs) (er ∙ ap (λ (r : Rect). raster r f) (sym own))
+    ∙ joined a a.y0 a.y1 (a.y1 + 1) f order (omega arith) ∙ ap (λ (r : Rect). raster r f) (sym is)
+
+pub bits_more : (band : Rect) (y bits tops : ℕ) (f : ℕ → ℕ → ℤ) (row : List ℤ) → band.y0 ≤ y → bits ≡ bit_length (greatest (raster (rows_between band band.y0 y) f)) → tops ≡ bit_length (greatest row)
+    → row ≡ raster (rows_between band y (y + 1)) f → max bits tops ≡ bit_length (greatest (raster (rows_between band band.y0 (y + 1)) f))
+bits_more band y bits tops f row from was top is =
+    let upper = raster (rows_between band band.y0 y) f in
+    let lower = raster (rows_between band y (y + 1)) f in
+    ap (λ n. max n tops) was ∙ ap (λ n. max (bit_length (greatest upper)) n) (top ∙ ap (λ (xs : List ℤ). bit_length (greatest xs)) is)
+    ∙ sym (bits_joined upper lower) ∙ ap (λ (xs : List ℤ). bit_length (greatest xs)) (joined band band.y0 y (y + 1) f from (omega arith))
+
+-- nothing waits
+pub none_wait : (a : Rect) (f : ℕ → ℕ → ℤ) → a.y1 ≤ a.y0 → raster a f ≡ []
+none_wait a f h = no_rows a a.y0 a.y1 f h
+
+-- ---- a row of code-blocks is coded
+
+-- the row of code-blocks whose rows wait
+pub record IsWhole (s : ComponentFrame) (b : BandStrips) (w : Strip) : Type 0 where
+  pub resolution : w.resolution ≡ b.resolution
+  pub band : w.band ≡ b.band
+  pub area : w.area ≡ b.area
+  pub values : w.values.now ≡ b.strip.items
+  pub some : b.area.y0 < b.area.y1
+  pub whole : b.area.y1 ≡ row_end (own_band s b) (block_exponent s.coding b.resolution) b.area.y0
+
+pub is_strip : (s : ComponentFrame) (b : BandStrips) (w : Strip) → HoldsRows s b → IsWhole s b w → IsWholeRow s w
+is_strip s b w holds is =
+    let some = is.some in let lower = holds.lower in
+    let few = holds.few in
+    record {
+      resolution = subst (λ n. n ≤ s.coding.levels) (sym is.resolution) holds.resolution;
+      band = subst (λ n. w.band < length (orientations n)) (sym is.resolution) (subst (λ n. n < length (orientations b.resolution)) (sym is.band) holds.band);
+      left = ap (λ (a : Rect). a.x0) is.area ∙ holds.left ∙ ap (λ (a : Rect). a.x0) own;
+      right = ap (λ (a : Rect). a.x1) is.area ∙ holds.right ∙ ap (λ (a : Rect). a.x1) own;
+      upper = (let top = ap (λ (a : Rect). a.y0) own in let first = ap (λ (a : Rect). a.y0) is.area in let upper = holds.upper in omega (arith, top, first, upper));
+      inside = (let end = ap (λ (a : Rect). a.y1) own in let first = ap (λ (a : Rect). a.y0) is.area in omega (arith, end, first, some, lower));
+      start = λ less. (let end = ap (λ (a : Rect). a.y1) own in let first = ap (λ (a : Rect). a.y0) is.area in
+          first ∙ holds.start (omega (arith, first, end, less)) ∙ sym (ap (λ y. max (own_band s b).y0 (y / 2 ^ block_exponent s.coding b.resolution * 2 ^ block_exponent s.coding b.resolution)) first)
+          ∙ ap (λ (a : Rect). max a.y0 (w.area.y0 / 2 ^ block_exponent s.coding b.resolution * 2 ^ block_exponent s.coding b.resolution)) own
+          ∙ ap (λ r. max (band_at s w.resolution w.band).y0 (w.area.y0 / 2 ^ block_exponent s.coding r * 2 ^ block_exponent s.coding r)) (sym is.resolution));
+      end = ap (λ (a : Rect). a.y1) is.area ∙ is.whole ∙ sym (ap (row_end (own_band s b) (block_exponent s.coding b.resolution)) (ap (λ (a : Rect). a.y0) is.area))
+          ∙ ap (λ (a : Rect). row_end a (block_exponent s.coding b.resolution) w.area.y0) own ∙ ap (λ r. row_end (band_at s w.resolution w.band) (block_exponent s.coding r) w.area.y0) (sym is.resolution);
+      area_is = subst IsArea (sym is.area) (let bounds = holds.bounds in let l = bounds.left in let r = bounds.right in let d = bounds.lower in let hl = holds.left in let hr = holds.right in let order = holds.order in
+          record { left = omega (arith, l, hl, hr); upper = order; right = omega (arith, r, hr); lower = omega (arith, d, lower) });
+      long = ap (λ (l : List ℤ). length l) is.values ∙ holds.long ∙ ap (λ (a : Rect). places_of a) (sym is.area);
+      small = subst (All (λ v. unsigned_abs v < 2 ^ 23)) (sym is.values) (below_more b.bits 23 b.strip.items few holds.below);
+    }
+  where
+    own : own_band s b ≡ band_at s w.resolution w.band
+    own = sym (ap (λ r. band_at s r w.band) is.resolution ∙ ap (band_at s b.resolution) is.band)
+
+-- what becomes of the sub-band
+pub record IsCodedOn (s : ComponentFrame) (w : Strip) (b new : BandStrips) : Type 0 where
+  pub resolution : new.resolution ≡ b.resolution
+  pub band : new.band ≡ b.band
+  pub area : new.area ≡ record { x0 = b.area.x0; y0 = b.area.y1; x1 = b.area.x1; y1 = b.area.y1 }
+  pub bits : new.bits ≡ b.bits
+  pub strip : new.strip.items ≡ []
+  pub count : length new.blocks.items ≡ length b.blocks.items
+  pub blocks : (n : ℕ) → n < precinct_number s.rect s.coding w.resolution → list_at new.blocks.items n
+      ≡ list_at b.blocks.items n ++ layered_between s (λ _. plane_at w.area w.values.now) w.resolution n w.band w.area.y0 w.area.y1
+
+pub coded_holds : (s : ComponentFrame) (b new : BandStrips) (w : Strip) → HoldsRows s b → IsWhole s b w → IsCodedOn s w b new → IsBetweenRows s new
+coded_holds s b new w holds is on = (
+  record {
+    resolution = subst (λ n. n ≤ s.coding.levels) (sym on.resolution) holds.resolution;
+    band = subst (λ n. new.band < length (orientations n)) (sym on.resolution) (subst (λ n. n < length (orientations b.resolution)) (sym on.band) holds.band);
+    bounds = subst IsArea own holds.bounds;
+    left = ap (λ (a : Rect). a.x0) on.area ∙ holds.left ∙ ap (λ (a : Rect). a.x0) own;
+    right = ap (λ (a : Rect). a.x1) on.area ∙ holds.right ∙ ap (λ (a : Rect). a.x1) own;
+    upper = (let e = ap (λ (a : Rect). a.y0) own in let upper = holds.upper in omega (arith, e, upper, first, some));
+    order = omega (arith, first, last);
+    lower = (let e = ap (λ (a : Rect). a.y1) own in let lower = holds.lower in omega (arith, e, lower, last));
+    start = λ less. (let e = ap (λ (a : Rect). a.y1) own in
+        let from = next_start (own_band s b) (block_exponent s.coding b.resolution) b.area.y0 holds.upper (let lower = holds.lower in omega (arith, some, lower)) in
+        let at : b.area.y1 < (own_band s b).y1 = omega (arith, less, e, first) in
+        first ∙ is.whole ∙ from (subst (λ y. y < (own_band s b).y1) is.whole at)
+        ∙ ap (λ y. max (own_band s b).y0 (y / 2 ^ block_exponent s.coding b.resolution * 2 ^ block_exponent s.coding b.resolution)) (sym is.whole ∙ sym first)
+        ∙ ap (λ (a : Rect). max a.y0 (new.area.y0 / 2 ^ block_exponent s.coding b.resolution * 2 ^ block_exponent s.coding b.resolution)) own
+        ∙ ap (λ r. max (own_band s new).y0 (new.area.y0 / 2 ^ block_exponent s.coding r * 2 ^ block_exponent s.coding r)) (sym on.resolution));
+    within = λ some_row. absurd (omega (arith, some_row, first, last));
+    long = ap (λ (l : List ℤ). length l) on.strip ∙ (let rows : new.area.y1 - new.area.y0 ≡ 0 = omega (arith, first, last) in (let z : 0 ≡ 0 * columns_of new.area = omega arith in z) ∙ ap (λ n. n * columns_of new.area) (sym rows));
+    few = subst (λ n. n ≤ 23) (sym on.bits) holds.few;
+    below = subst (All (λ v. unsigned_abs v < 2 ^ new.bits)) (sym on.strip) (All-nil (λ v. unsigned_abs v < 2 ^ new.bits));
+    count = on.count ∙ holds.count ∙ ap (precinct_number s.rect s.coding) (sym on.resolution);
+    planes = subst (λ n. HavePlanes n (lists_of new.blocks.items)) (sym on.bits) few_planes;
+  },
+  λ some_row. absurd (omega (arith, some_row, first, last)),
+)
+  where
+    own : own_band s b ≡ own_band s new
+    own = sym (ap (λ r. band_at s r new.band) on.resolution ∙ ap (band_at s b.resolution) on.band)
+
+    first : new.area.y0 ≡ b.area.y1
+    first = ap (λ (a : Rect). a.y0) on.area
+
+    last : new.area.y1 ≡ b.area.y1
+    last = ap (λ (a : Rect). a.y1) on.area
+
+    some : b.area.y0 < b.area.y1
+    some = is.some
+
+    strip : IsWholeRow s w
+    strip = is_strip s b w holds is
+
+    few_planes : HavePlanes b.bits (lists_of new.blocks.items)
+    few_planes n = elim (cases_lt n (precinct_number s.rect s.coding w.resolution)) [
+      | inl less ↦ subst (All (λ (k : Layered). k.planes ≤ b.bits)) (sym (on.blocks n less))
+          (All-append (λ (k : Layered). k.planes ≤ b.bits) (list_at b.blocks.items n) (layered_between s (λ _. plane_at w.area w.values.now) w.resolution n w.band w.area.y0 w.area.y1) (holds.planes n)
+          (between_few s w n b.bits strip (subst (All (λ v. unsigned_abs v < 2 ^ b.bits)) (sym is.values) holds.below)))
+      | inr past ↦ subst (All (λ (k : Layered). k.planes ≤ b.bits)) (sym (get_or_past (lists_of new.blocks.items) n [] (let long = length-map new.blocks.items (λ v. v.items) in let a = on.count in let c = holds.count in
+          let e = ap (precinct_number s.rect s.coding) is.resolution in omega (arith, past, long, a, c, e)))) (All-nil (λ (k : Layered). k.planes ≤ b.bits))
+    ]
+
+pub coded_rows : (s : ComponentFrame) (f : ℕ → ℕ → ℕ → ℤ) (b new : BandStrips) (w : Strip) → HoldsRows s b → IsWhole s b w → IsCodedOn s w b new → HasRowsOf s f b → HasRowsOf s f new
+coded_rows s f b new w holds is on has = record {
+  blocks = λ n lt. (let here : n < precinct_number s.rect s.coding w.resolution = subst (λ r. n < precinct_number s.rect s.coding r) (on.resolution ∙ sym is.resolution) lt in
+      subst (λ (l : List Layered). list_at new.blocks.items n ≡ l) (same n)
+      (above_more s w f n (list_at b.blocks.items n) (list_at new.blocks.items n) strip (was n here) (on.blocks n here ∙ ap (λ (l : List Layered). list_at b.blocks.items n ++ l) (between_agrees s w f n strip values))));
+  strip = on.strip ∙ sym (none_wait new.area (f (band_number new.resolution new.band)) (let first = ap (λ (a : Rect). a.y0) on.area in let last = ap (λ (a : Rect). a.y1) on.area in omega (arith, first, last)));
+  bits = on.bits ∙ has.bits ∙ ap (λ y. bit_length (greatest (raster (rows_between (own_band s b) (own_band s b).y0 y) (f (band_number b.resolution b.band))))) (sym (ap (λ (a : Rect). a.y1) on.area))
+      ∙ ap (λ r. bit_length (greatest (raster (rows_between (band_at s r b.band) (band_at s r b.band).y0 new.area.y1) (f (band_number r b.band))))) (sym on.resolution)
+      ∙ ap (λ i. bit_length (greatest (raster (rows_between (band_at s new.resolution i) (band_at s new.resolution i).y0 new.area.y1) (f (band_number new.resolution i))))) (sym on.band);
+}
+  where
+    strip : IsWholeRow s w
+    strip = is_strip s b w holds is
+
+    values : w.values.now ≡ raster w.area (f (band_number w.resolution w.band))
+    values = is.values ∙ has.strip ∙ ap (λ (a : Rect). raster a (f (band_number b.resolution b.band))) (sym is.area)
+        ∙ ap (λ r. raster w.area (f (band_number r b.band))) (sym is.resolution) ∙ ap (λ i. raster w.area (f (band_number w.resolution i))) (sym is.band)
+
+    was : (n : ℕ) → n < precinct_number s.rect s.coding w.resolution
+        → list_at b.blocks.items n ≡ map (layered_at s f w.resolution n w.band) (range_with_len 0 (blocks_above (grid_in s w n) w.area.y0))
+    was n lt =
+        has.blocks n (subst (λ r. n < precinct_number s.rect s.coding r) is.resolution lt)
+        ∙ ap (λ y. map (layered_at s f b.resolution n b.band) (range_with_len 0 (blocks_above (grid_at s.rect s.coding b.resolution n b.band) y))) (sym (ap (λ (a : Rect). a.y0) is.area))
+        ∙ ap (λ r. map (layered_at s f r n b.band) (range_with_len 0 (blocks_above (grid_at s.rect s.coding r n b.band) w.area.y0))) (sym is.resolution)
+        ∙ ap (λ i. map (layered_at s f w.resolution n i) (range_with_len 0 (blocks_above (grid_at s.rect s.coding w.resolution n i) w.area.y0))) (sym is.band)
+
+    same : (n : ℕ) → map (layered_at s f w.resolution n w.band) (range_with_len 0 (blocks_above (grid_in s w n) w.area.y1)) ≡ map (layered_at s f new.resolution n new.band) (range_with_len 0 (blocks_above (grid_at s.rect s.coding new.resolution n new.band) new.area.y0))
+    same n =
+        ap (λ y. map (layered_at s f w.resolution n w.band) (range_with_len 0 (blocks_above (grid_in s w n) y))) (ap (λ (a : Rect). a.y1) is.area ∙ sym (ap (λ (a : Rect). a.y0) on.area))
+        ∙ ap (λ r. map (layered_at s f r n w.band) (range_with_len 0 (blocks_above (grid_at s.rect s.coding r n w.band) new.area.y0))) (is.resolution ∙ sym on.resolution)
+        ∙ ap (λ i. map (layered_at s f new.resolution n i) (range_with_len 0 (blocks_above (grid_at s.rect s.coding new.resolution n i) new.area.y0))) (is.band ∙ sym on.band)
+
+-- ---- one row more
+
+-- whether a row of code-blocks is whole
+pub starts : (a y p : ℕ) → (leb a y || nat_eq (y % p) 0) ≡ true → (a ≤ y) ⊎ (y % p ≡ 0)
+starts a y p e = elim (or_cases (leb a y) (nat_eq (y % p) 0) e) [
+  | inl last ↦ inl (leb-true a y last)
+  | inr whole ↦ inr (eqb-true (y % p) 0 whole)
+]
+
+pub not_start : (a y p : ℕ) → (leb a y || nat_eq (y % p) 0) ≡ false → (y < a) × (y % p ≡ 0 → ⊥)
+not_start a y p e = let both = or_parts (leb a y) (nat_eq (y % p) 0) e in (leb-false a y both.0, eqb-false (y % p) 0 both.1)
+
+-- with the next row behind those that wait
+pub record IsLonger (b mid : BandStrips) (row : List ℤ) (tops : ℕ) : Type 0 where
+  pub resolution : mid.resolution ≡ b.resolution
+  pub band : mid.band ≡ b.band
+  pub area : mid.area ≡ record { x0 = b.area.x0; y0 = b.area.y0; x1 = b.area.x1; y1 = b.area.y1 + 1 }
+  pub bits : mid.bits ≡ max b.bits tops
+  pub strip : mid.strip.items ≡ b.strip.items ++ row
+  pub blocks : mid.blocks.items ≡ b.blocks.items
+
+pub longer_holds : (s : ComponentFrame) (b mid : BandStrips) (row : List ℤ) (tops : ℕ) → IsBetweenRows s b → b.area.y1 < (own_band s b).y1 → length row ≡ columns_of b.area → tops ≡ bit_length (greatest row) → tops ≤ 23
+    → IsLonger b mid row tops → HoldsRows s mid
+longer_holds s b mid row tops (holds, missing) inside long top few is = record {
+  resolution = subst (λ n. n ≤ s.coding.levels) (sym is.resolution) holds.resolution;
+  band = subst (λ n. mid.band < length (orientations n)) (sym is.resolution) (subst (λ n. n < length (orientations b.resolution)) (sym is.band) holds.band);
+  bounds = subst IsArea own holds.bounds;
+  left = ap (λ (a : Rect). a.x0) is.area ∙ holds.left ∙ ap (λ (a : Rect). a.x0) own;
+  right = ap (λ (a : Rect). a.x1) is.area ∙ holds.right ∙ ap (λ (a : Rect). a.x1) own;
+  upper = (let e = ap (λ (a : Rect). a.y0) own in let upper = holds.upper in omega (arith, e, upper, first));
+  order = (let order = holds.order in omega (arith, first, last, order));
+  lower = (let e = ap (λ (a : Rect). a.y1) own in omega (arith, e, inside, last));
+  start = λ less. (let e = ap (λ (a : Rect). a.y1) own in
+      first ∙ holds.start (omega (arith, less, first, e)) ∙ ap (λ y. max (own_band s b).y0 (y / 2 ^ block_exponent s.coding b.resolution * 2 ^ block_exponent s.coding b.resolution)) (sym first)
+      ∙ ap (λ (a : Rect). max a.y0 (mid.area.y0 / 2 ^ block_exponent s.coding b.resolution * 2 ^ block_exponent s.coding b.resolution)) own
+      ∙ ap (λ r. max (own_band s mid).y0 (mid.area.y0 / 2 ^ block_exponent s.coding r * 2 ^ block_exponent s.coding r)) (sym is.resolution));
+  within = λ some. (let more = one_more (own_band s b) (block_exponent s.coding b.resolution) b.area.y0 b.area.y1 holds.order inside missing in
+      let same : row_end (own_band s mid) (block_exponent s.coding mid.resolution) mid.area.y0 ≡ row_end (own_band s b) (block_exponent s.coding b.resolution) b.area.y0 =
+      ap (λ r. row_end (own_band s mid) (block_exponent s.coding r) mid.area.y0) is.resolution ∙ ap (λ (a : Rect). row_end a (block_exponent s.coding b.resolution) mid.area.y0) (sym own)
+      ∙ ap (row_end (own_band s b) (block_exponent s.coding b.resolution)) first in
+      omega (arith, more, same, last));
+  long = ap (λ (l : List ℤ). length l) is.strip ∙ length-append b.strip.items row ∙ ap (λ n. n + length row) holds.long ∙ ap (λ n. places_of b.area + n) long
+      ∙ sym (places_more b.area mid.area (ap (λ (a : Rect). a.x0) is.area) (ap (λ (a : Rect). a.x1) is.area) first last holds.order);
+  few = (let e = is.bits in let old = holds.few in omega (arith, e, old, few));
+  below = subst (All (λ v. unsigned_abs v < 2 ^ mid.bits)) (sym is.strip)
+      (All-append (λ v. unsigned_abs v < 2 ^ mid.bits) b.strip.items row (below_more b.bits mid.bits b.strip.items (let e = is.bits in omega (arith, e)) holds.below)
+      (below_more tops mid.bits row (let e = is.bits in omega (arith, e)) (subst (λ n. All (λ v. unsigned_abs v < 2 ^ n) row) (sym top) (below_own row))));
+  count = ap (λ (l : List (Vec Layered)). length l) is.blocks ∙ holds.count ∙ ap (precinct_number s.rect s.coding) (sym is.resolution);
+  planes = subst (λ (l : List (Vec Layered)). HavePlanes mid.bits (lists_of l)) (sym is.blocks) (planes_more b.bits mid.bits (lists_of b.blocks.items) (let e = is.bits in omega (arith, e)) holds.planes);
+}
+  where
+    own : own_band s b ≡ own_band s mid
+    own = sym (ap (λ r. band_at s r mid.band) is.resolution ∙ ap (band_at s b.resolution) is.band)
+
+    first : mid.area.y0 ≡ b.area.y0
+    first = ap (λ (a : Rect). a.y0) is.area
+
+    last : mid.area.y1 ≡ b.area.y1 + 1
+    last = ap (λ (a : Rect). a.y1) is.area
+
+pub longer_rows : (s : ComponentFrame) (f : ℕ → ℕ → ℕ → ℤ) (b mid : BandStrips) (row : List ℤ) (tops : ℕ) → HoldsRows s b → tops ≡ bit_length (greatest row) → IsLonger b mid row tops
+    → row ≡ raster (rows_between (own_band s b) b.area.y1 (b.area.y1 + 1)) (f (band_number b.resolution b.band)) → HasRowsOf s f b → HasRowsOf s f mid
+longer_rows s f b mid row tops holds top is rows has =
+    let g = f (band_number b.resolution b.band) in
+    let band = own_band s b in
+    let from : band.y0 ≤ b.area.y1 = (let upper = holds.upper in let order = holds.order in omega (arith, upper, order)) in
+    record {
+      blocks = λ n lt.
+          ap (λ (l : List (Vec Layered)). list_at l n) is.blocks ∙ has.blocks n (subst (λ r. n < precinct_number s.rect s.coding r) is.resolution lt)
+          ∙ ap (λ y. map (layered_at s f b.resolution n b.band) (range_with_len 0 (blocks_above (grid_at s.rect s.coding b.resolution n b.band) y))) (sym (ap (λ (a : Rect). a.y0) is.area))
+          ∙ ap (λ r. map (layered_at s f r n b.band) (range_with_len 0 (blocks_above (grid_at s.rect s.coding r n b.band) mid.area.y0))) (sym is.resolution)
+          ∙ ap (λ i. map (layered_at s f mid.resolution n i) (range_with_len 0 (blocks_above (grid_at s.rect s.coding mid.resolution n i) mid.area.y0))) (sym is.band);
+      strip = is.strip ∙ rows_more b.area mid.area band g b.strip.items row holds.left holds.right is.area holds.order has.strip rows
+          ∙ ap (λ r. raster mid.area (f (band_number r b.band))) (sym is.resolution) ∙ ap (λ i. raster mid.area (f (band_number mid.resolution i))) (sym is.band);
+      bits = is.bits ∙ bits_more band b.area.y1 b.bits tops g row from has.bits top rows
+          ∙ ap (λ y. bit_length (greatest (raster (rows_between band band.y0 y) g))) (sym (ap (λ (a : Rect). a.y1) is.area))
+          ∙ ap (λ r. bit_length (greatest (raster (rows_between (band_at s r b.band) (band_at s r b.band).y0 mid.area.y1) (f (band_number r b.band))))) (sym is.resolution)
+          ∙ ap (λ i. bit_length (greatest (raster (rows_between (band_at s mid.resolution i) (band_at s mid.resolution i).y0 mid.area.y1) (f (band_number mid.resolution i))))) (sym is.band);
+    }
+
+-- a row of some
+pub row_of_rows : (band : Rect) (from to y w : ℕ) (f : ℕ → ℕ → ℤ) (rows : List ℤ) → from ≤ y → y < to → w ≡ columns_of band → rows ≡ raster (rows_between band from to) f
+    → take w (drop ((y - from) * w) rows) ≡ raster (rows_between band y (y + 1)) f
+row_of_rows band from to y w f rows low high wide is =
+    cut_rows (rows_between band from to) y (y + 1) ((y - from) * w) w f rows low (omega arith) (omega (arith, high)) is (ap (λ n. (y - from) * n) wide)
+    (wide ∙ (let one : columns_of band ≡ 1 * columns_of band = omega arith in one) ∙ ap (λ n. n * columns_of band) (let d : 1 ≡ y + 1 - y = omega arith in d))
+
+pub row_fits_in : (from to y w n : ℕ) → from ≤ y → y < to → n ≡ (to - from) * w → (y - from) * w + w ≤ n
+row_fits_in from to y w n low high long =
+    let fits : (y - from + 1) * w ≤ (to - from) * w = mul-le-mul_right w (omega (arith, low, high)) in
+    let one : (y - from + 1) * w ≡ (y - from) * w + w = omega arith in
+    omega (arith, fits, one, long)
+
+-- what the calls gave of the sub-band and its code-blocks
+pub band_given : (s : ComponentFrame) (b : BandStrips) (rect area : Rect) (k : Coding) (o : Orientation) → b.band < length (orientations b.resolution) → rect ≡ s.rect → k ≡ s.coding → o ≡ orientation_at b.resolution b.band → area ≡ band_area rect k.levels b.resolution o → area ≡ own_band s b
+band_given s b rect area k o lt er ek eo e =
+    e ∙ ap (λ (a : Rect). band_area a k.levels b.resolution o) er ∙ ap (λ (j : Coding). band_area s.rect j.levels b.resolution o) ek ∙ ap (band_area s.rect s.coding.levels b.resolution) eo
+
+pub exponent_given : (s : ComponentFrame) (k : Coding) (r e : ℕ) → k ≡ s.coding → e ≡ block_exponent k r → e ≡ block_exponent s.coding r
+exponent_given s k r e ek is = is ∙ ap (λ (j : Coding). block_exponent j r) ek
+
+-- where the row is whole, and where it isn't
+pub whole_given : (s : ComponentFrame) (b : BandStrips) (area : Rect) (e : ℕ) → HoldsRows s b → b.area.y0 < b.area.y1 → area ≡ own_band s b → e ≡ block_exponent s.coding b.resolution → (leb area.y1 b.area.y1 || nat_eq (b.area.y1 % 2 ^ e) 0) ≡ true
+    → b.area.y1 ≡ row_end (own_band s b) (block_exponent s.coding b.resolution) b.area.y0
+whole_given s b area e holds some ea ee test =
+    at_end (own_band s b).y1 (2 ^ block_exponent s.coding b.resolution) b.area.y0 b.area.y1 (pow_pos (block_exponent s.coding b.resolution)) some (holds.within some)
+    (starts (own_band s b).y1 b.area.y1 (2 ^ block_exponent s.coding b.resolution) (sym (ap (λ (a : Rect). leb a.y1 b.area.y1 || nat_eq (b.area.y1 % 2 ^ e) 0) ea ∙ ap (λ n. leb (own_band s b).y1 b.area.y1 || nat_eq (b.area.y1 % 2 ^ n) 0) ee) ∙ test))
+
+pub open_given : (s : ComponentFrame) (b : BandStrips) (area : Rect) (e : ℕ) → HoldsRows s b → b.area.y0 < b.area.y1 → area ≡ own_band s b → e ≡ block_exponent s.coding b.resolution → (leb area.y1 b.area.y1 || nat_eq (b.area.y1 % 2 ^ e) 0) ≡ false
+    → IsBetweenRows s b
+open_given s b area e holds some ea ee test =
+    let p = 2 ^ block_exponent s.coding b.resolution in
+    let off = not_start (own_band s b).y1 b.area.y1 p (sym (ap (λ (a : Rect). leb a.y1 b.area.y1 || nat_eq (b.area.y1 % 2 ^ e) 0) ea ∙ ap (λ n. leb (own_band s b).y1 b.area.y1 || nat_eq (b.area.y1 % 2 ^ n) 0) ee) ∙ test) in
+    (holds, λ more. still_open (own_band s b).y1 p b.area.y0 b.area.y1 (pow_pos (block_exponent s.coding b.resolution)) (holds.within some) off.0 off.1)
+
+-- ---- before the first row
+
+abbrev nothing : List Layered
+nothing = []
+
+none_at : (n k : ℕ) → get_or (replicate n nothing) k nothing ≡ nothing
+none_at zero k = refl
+none_at (suc n) zero = refl
+none_at (suc n) (suc k) = none_at n k
+
+pub record IsFirst (s : ComponentFrame) (b : BandStrips) (area : Rect) (count : ℕ) : Type 0 where
+  pub resolution : b.resolution ≤ s.coding.levels
+  pub band : b.band < length (orientations b.resolution)
+  pub own : area ≡ own_band s b
+  pub bounds : IsArea area
+  pub rows : b.area ≡ record { x0 = area.x0; y0 = area.y0; x1 = area.x1; y1 = area.y0 }
+  pub strip : b.strip.items ≡ []
+  pub blocks : lists_of b.blocks.items ≡ replicate count []
+  pub number : count ≡ precinct_number s.rect s.coding b.resolution
+  pub bits : b.bits ≡ 0
+
+pub first_holds : (s : ComponentFrame) (b : BandStrips) (area : Rect) (count : ℕ) → IsFirst s b area count → IsBetweenRows s b
+first_holds s b area count is = (
+  record {
+    resolution = is.resolution;
+    band = is.band;
+    bounds = subst IsArea is.own is.bounds;
+    left = ap (λ (a : Rect). a.x0) is.rows ∙ ap (λ (a : Rect). a.x0) is.own;
+    right = ap (λ (a : Rect). a.x1) is.rows ∙ ap (λ (a : Rect). a.x1) is.own;
+    upper = omega (arith, first, top);
+    order = omega (arith, first, last);
+    lower = (let bounds = is.bounds in let upper = bounds.upper in let end = ap (λ (a : Rect). a.y1) is.own in omega (arith, last, upper, end));
+    start = λ less. (let low = cell_from b.area.y0 (2 ^ block_exponent s.coding b.resolution) in omega (arith, low, first, top));
+    within = λ some. absurd (omega (arith, some, first, last));
+    long = ap (λ (l : List ℤ). length l) is.strip ∙ (let rows : b.area.y1 - b.area.y0 ≡ 0 = omega (arith, first, last) in (let z : 0 ≡ 0 * columns_of b.area = omega arith in z) ∙ ap (λ n. n * columns_of b.area) (sym rows));
+    few = (let e = is.bits in omega (arith, e));
+    below = subst (All (λ v. unsigned_abs v < 2 ^ b.bits)) (sym is.strip) (All-nil (λ v. unsigned_abs v < 2 ^ b.bits));
+    count = sym (length-map b.blocks.items (λ v. v.items)) ∙ ap (λ (l : List (List Layered)). length l) is.blocks ∙ length-replicate count [] ∙ is.number;
+    planes = λ n. subst (All (λ (k : Layered). k.planes ≤ b.bits)) (sym (ap (λ (l : List (List Layered)). get_or l n []) is.blocks ∙ none_at count n)) (All-nil (λ (k : Layered). k.planes ≤ b.bits));
+  },
+  λ some. absurd (omega (arith, some, first, last)),
+)
+  where
+    first : b.area.y0 ≡ area.y0
+    first = ap (λ (a : Rect). a.y0) is.rows
+
+    last : b.area.y1 ≡ area.y0
+    last = ap (λ (a : Rect). a.y1) is.rows
+
+    top : area.y0 ≡ (own_band s b).y0
+    top = ap (λ (a : Rect). a.y0) is.own
+
+pub first_rows : (s : ComponentFrame) (f : ℕ → ℕ → ℕ → ℤ) (b : BandStrips) (area : Rect) (count : ℕ) → IsFirst s b area count → HasRowsOf s f b
+first_rows s f b area count is =
+    let first = ap (λ (a : Rect). a.y0) is.rows in
+    let last = ap (λ (a : Rect). a.y1) is.rows in
+    let top = ap (λ (a : Rect). a.y0) is.own in
+    let g = f (band_number b.resolution b.band) in
+    let rows = rows_between (own_band s b) (own_band s b).y0 b.area.y1 in
+    record {
+      blocks = λ n lt. ap (λ (l : List (List Layered)). get_or l n []) is.blocks ∙ none_at count n
+          ∙ ap (λ m. map (layered_at s f b.resolution n b.band) (range_with_len 0 m)) (sym (none_above s.rect s.coding b.resolution n b.band b.area.y0 (first ∙ top)));
+      strip = is.strip ∙ sym (none_wait b.area g (omega (arith, first, last)));
+      bits = is.bits ∙ sym (bits_none (raster rows g) (ap (λ (l : List ℤ). length l) (no_rows (own_band s b) (own_band s b).y0 b.area.y1 g (omega (arith, last, top)))));
+    }
+
+-- ---- row by row
+
+-- the same sub-band
+pub band_same : (s : ComponentFrame) (b cur : BandStrips) → cur.resolution ≡ b.resolution → cur.band ≡ b.band → own_band s cur ≡ own_band s b
+band_same s b cur er ei = ap (λ r. band_at s r cur.band) er ∙ ap (band_at s b.resolution) ei
+
+pub columns_same : (s : ComponentFrame) (b cur : BandStrips) → HoldsRows s b → HoldsRows s cur → cur.resolution ≡ b.resolution → cur.band ≡ b.band → columns_of b.area ≡ columns_of cur.area
+columns_same s b cur was now er ei =
+    let same = band_same s b cur er ei in
+    let x0 = ap (λ (a : Rect). a.x0) same in let x1 = ap (λ (a : Rect). a.x1) same in
+    let bl = was.left in let br = was.right in let cl = now.left in let cr = now.right in
+    omega (arith, x0, x1, bl, br, cl, cr)
+
+pub columns_own : (s : ComponentFrame) (b : BandStrips) → HoldsRows s b → columns_of b.area ≡ columns_of (own_band s b)
+columns_own s b holds = let l = holds.left in let r = holds.right in omega (arith, l, r)
+
+pub row_given : (s : ComponentFrame) (b cur : BandStrips) (y : ℕ) (f : ℕ → ℕ → ℕ → ℤ) (row : List ℤ) → cur.resolution ≡ b.resolution → cur.band ≡ b.band → cur.area.y1 ≡ y
+    → row ≡ raster (rows_between (own_band s b) y (y + 1)) (f (band_number b.resolution b.band)) → row ≡ raster (rows_between (own_band s cur) cur.area.y1 (cur.area.y1 + 1)) (f (band_number cur.resolution cur.band))
+row_given s b cur y f row er ei ey e =
+    e ∙ ap (λ r. raster (rows_between (band_at s r b.band) y (y + 1)) (f (band_number r b.band))) (sym er) ∙ ap (λ i. raster (rows_between (band_at s cur.resolution i) y (y + 1)) (f (band_number cur.resolution i))) (sym ei)
+    ∙ ap (λ m. raster (rows_between (own_band s cur) m (m + 1)) (f (band_number cur.resolution cur.band))) (sym ey)
+
+pub row_long : (w k n : ℕ) (rows : List ℤ) → k + w ≤ length rows → w ≡ n → length (take w (drop k rows)) ≡ n
+row_long w k n rows fits e = length-take-le w (drop k rows) (rw length-drop (omega (arith, fits))) ∙ e
+
+pub row_small : (m k n : ℕ) (rows : List ℤ) → All (λ v. unsigned_abs v < m) rows → All (λ v. unsigned_abs v < m) (take k (drop n rows))
+row_small m k n rows all = All-take (λ v. unsigned_abs v < m) k (drop n rows) (All-drop (λ v. unsigned_abs v < m) n rows all)

@@ -1,0 +1,116 @@
+//! A tile of an image whose rows come in stripes, one below the other: all its components.
+
+ghost use Rattle.std.specs.Prelude.{◌≡◌, ℕ, ℤ, ◌+◌, ◌<◌, ◌≤◌, true, length, IfOk, IfErr, OnOk};
+ghost use Rattle.jk_math.specs.Memory.{IsMemory};
+ghost use Rattle.jk_math.specs.Picture.{IsPicture};
+ghost use Rattle.jk_wave.specs.climbing.Held.{rows_between};
+ghost use Rattle.jk_tile.specs.encoding.Strips.{IsFrame};
+ghost use Rattle.jk_tile.specs.encoding.FallenTiles.{fallen_in, IsFallenTile, IsCodedTile};
+ghost use Rattle.jk_tile.specs.encoding.FallingTiles.{components_in, IsStandingTile, HasTileSamples};
+ghost use Rattle.jk_tile.specs.encoding.FallingTiles.{IsStripeOf, AreTileSixteen, GivesTile};
+
+use crate::encoding::component::WrittenComponent;
+use crate::encoding::fallen::FallenComponent;
+use crate::encoding::fallen_tile::FallenTile;
+use crate::encoding::falling::FallingComponent;
+use crate::encoding::values::put_values;
+use jk_math::{Fault, Image, Rect};
+use std::alloc::Global;
+
+/// A tile of an image between two stripes of its rows.
+#[derive(Drop)]
+pub struct FallingTile {
+    /// The row of samples that is next.
+    pub(crate) y: u32,
+    /// Its components, which are coded alike.
+    pub(crate) components: Vec<FallingComponent>,
+}
+
+/// What a stripe of rows of the image has of the tile.
+fn part_of(source: &WrittenComponent<'_>, stripe: &Image) -> Rect
+    requires { IsPicture stripe.now }
+    ensures value { result ≡ rows_between source.now.rect stripe.now.y0 (stripe.now.y0 + stripe.now.height) }
+    ensures frame { IsFrame source.now }
+{
+    Rect {
+        y0: stripe.y0(),
+        y1: stripe.y0() + stripe.height(),
+        ..source.rect()
+    }
+}
+
+impl FallingTile {
+    /// A tile of so many components before its first row. `source` is each of them. Memory is the only
+    /// fault.
+    pub fn new(
+        alloc: Global,
+        source: &WrittenComponent<'_>,
+        components: usize,
+    ) -> Result<FallingTile, Fault>
+        ensures standing { IfOk result (IsStandingTile source.now) }
+        ensures count { IfOk result (λ t. components_in t ≡ components) }
+        ensures rows { IfOk result (λ t. (f : ℕ → ℕ → ℕ → ℤ) → HasTileSamples source.now f t) }
+        ensures first { IfOk result (λ t. t.y ≡ source.now.rect.y0) }
+        ensures memory { IfErr result IsMemory }
+    {
+        let mut list = Vec::new(alloc);
+        for _ in 0..components {
+            list.push(FallingComponent::new(alloc, source)?)?;
+        }
+        Ok(FallingTile {
+            y: source.rect().y0,
+            components: list,
+        })
+    }
+
+    /// Takes what a stripe of rows of the image has of the tile, and codes the code-blocks of which no
+    /// row is missing any more. `values` is room for a component of the stripe. Memory is the only
+    /// fault; the tile isn't to be used behind it.
+    pub fn give(
+        &mut self,
+        alloc: Global,
+        source: &WrittenComponent<'_>,
+        colours: bool,
+        stripe: &Image,
+        values: &mut Vec<i32>,
+    ) -> Result<(), Fault>
+        requires standing { IsStandingTile source.now self.old }
+        requires picture { IsPicture stripe.now }
+        requires count { components_in self.old ≡ length stripe.now.planes }
+        requires colours { colours ≡ true → 3 ≤ length stripe.now.planes }
+        requires stripe { IsStripeOf source.now self.old.y stripe.now }
+        requires given { (f : ℕ → ℕ → ℕ → ℤ) × AreTileSixteen source.now (length stripe.now.planes) f
+            × HasTileSamples source.now f self.old × GivesTile source.now colours stripe.now f }
+        ensures standing { OnOk result (IsStandingTile source.now self.new) }
+        ensures count { OnOk result (components_in self.new ≡ components_in self.old) }
+        ensures rows { OnOk result ((f : ℕ → ℕ → ℕ → ℤ) → HasTileSamples source.now f self.old
+            → GivesTile source.now colours stripe.now f → HasTileSamples source.now f self.new) }
+        ensures next { OnOk result (self.new.y ≡ stripe.now.y0 + stripe.now.height) }
+        ensures memory { IfErr result IsMemory }
+    {
+        let part = part_of(source, stripe);
+        for c in 0..self.components.len() {
+            put_values(alloc, stripe, colours, c, &part, values)?;
+            self.components[c].give(alloc, source, part.y1, values)?;
+        }
+        self.y = part.y1;
+        Ok(())
+    }
+
+    /// What is kept behind the last row. Memory is the only fault.
+    pub fn finish(self, alloc: Global, source: &WrittenComponent<'_>) -> Result<FallenTile, Fault>
+        requires standing { IsStandingTile source.now self }
+        requires last { self.y ≡ source.now.rect.y1 }
+        ensures fallen { IfOk result (IsFallenTile source.now) }
+        ensures count { IfOk result (λ t. fallen_in t ≡ components_in self) }
+        ensures rows { IfOk result (λ t. (f : ℕ → ℕ → ℕ → ℤ) → HasTileSamples source.now f self
+            → IsCodedTile source.now f t) }
+        ensures memory { IfErr result IsMemory }
+    {
+        let mut components: Vec<FallenComponent> = Vec::new(alloc);
+        for component in self.components {
+            components.push(component.finish(alloc, source)?)?;
+        }
+        Ok(FallenTile { components })
+    }
+}

@@ -1,0 +1,423 @@
+//! Files that are opened while they are served.
+
+use crate::calls::{PAGE, equal, page_shelf};
+use crate::streams::{Stream, Streams, wait_for};
+use jk_hall::{Connection, Nobody, Source};
+use jk_math::Fault;
+use jk_serve::{Desk, Ends, Finder, Keeper, Opening, Stamp, serve_meanwhile};
+use jk_store::{Archive, Images, MemoryShelf, Prepared, Shelf};
+use jk_web::End;
+use std::alloc::Global;
+use std::io::{self, Read};
+use std::sync::atomic::{AtomicUsize, Ordering};
+use std::sync::{Mutex, Wait};
+use std::test::Fail;
+use std::thread::Threads;
+use std::time::Clock;
+use vectors::bytes_of;
+
+/// The PGM file of one grey sample, 128.
+static GREY: &[u8] = b"P5\n1 1\n255\n\x80";
+
+/// What is seen of the opening.
+#[derive(Drop)]
+struct Seen {
+    // How many reads have begun, and whether they may go on.
+    reads: AtomicUsize,
+    open: AtomicUsize,
+    // How often the folder was listed again, and whether all files were opened.
+    lists: AtomicUsize,
+    opened: AtomicUsize,
+    told: Mutex<Vec<u8>>,
+}
+
+impl Seen {
+    fn new(alloc: Global, open: usize) -> Seen {
+        Seen {
+            reads: AtomicUsize::new(0),
+            open: AtomicUsize::new(open),
+            lists: AtomicUsize::new(0),
+            opened: AtomicUsize::new(0),
+            told: Mutex::new(Vec::new(alloc)),
+        }
+    }
+
+    /// Keeps a line.
+    fn tell<R: Wait>(&self, rt: &R, line: &str) {
+        let mut told = self.told.lock(rt);
+        let _ = told.extend_from_slice(line.as_bytes());
+    }
+}
+
+/// After how many listings the file of the image `late` becomes one.
+const CHANGE: usize = 20;
+
+/// A folder in memory, to which files come meanwhile.
+#[derive(Drop)]
+struct Found<'a, R> {
+    rt: &'a R,
+    alloc: Global,
+    files: MemoryShelf,
+    // The names of the images there each time when it is listed again; the last from then on.
+    lists: &'static [&'static str],
+    seen: &'a Seen,
+}
+
+impl<'a, R: Wait> Finder for Found<'a, R> {
+    fn names(&mut self, alloc: Global) -> Result<Vec<String>, Fault> {
+        let number = self.seen.lists.fetch_add(1, Ordering::SeqCst);
+        let last = self.lists.len().saturating_sub(1);
+        let mut names = Vec::new(alloc);
+        if let Some(list) = self.lists.get(number.min(last)) {
+            for name in list.split(' ') {
+                names.push(String::from_str(alloc, name)?)?;
+            }
+        }
+        if number == CHANGE {
+            self.files
+                .write(alloc, "late.jp2", &bytes_of(alloc, &[PAGE])?)?;
+        }
+        Ok(names)
+    }
+
+    fn stamp(&mut self, _alloc: Global, name: &str) -> Option<Stamp> {
+        let is_changed = CHANGE < self.seen.lists.load(Ordering::SeqCst);
+        let seconds = if name == "late" && is_changed { 1 } else { 0 };
+        Some(Stamp {
+            length: 167,
+            seconds,
+            nanos: 0,
+        })
+    }
+
+    fn read(&mut self, alloc: Global, name: &str) -> Result<Prepared, Fault> {
+        self.seen.reads.fetch_add(1, Ordering::SeqCst);
+        wait_for(&self.seen.open);
+        Prepared::read(alloc, &mut self.files, name)
+    }
+
+    fn tell(&mut self, name: &str, fault: Fault) {
+        if let Ok(line) = format!(in self.alloc; "{name} {fault}\n") {
+            self.seen.tell(self.rt, line.as_str());
+        }
+    }
+
+    fn tell_unlisted(&mut self, fault: Fault) {
+        self.tell("", fault);
+    }
+
+    fn tell_full(&mut self, name: &str, _more: usize) {
+        self.tell(name, Fault::Limit);
+    }
+
+    fn tell_opened(&mut self, _images: usize) {
+        self.seen.opened.store(1, Ordering::SeqCst);
+    }
+}
+
+/// Who keeps a folder that nobody else adds to.
+#[derive(Drop)]
+struct Alone;
+
+impl Keeper<MemoryShelf> for Alone {
+    fn lock(&mut self, _alloc: Global) -> Result<(), Fault> {
+        Ok(())
+    }
+
+    fn release(&mut self) {}
+
+    fn has_other(&self, _shelf: &MemoryShelf, _name: &str) -> bool {
+        false
+    }
+}
+
+/// Connections, of which the first comes when a read has begun, and lets the reads go on when it has
+/// ended, and the others come when all files are opened, and the folder was listed so often.
+#[derive(Drop)]
+struct Clients<'a> {
+    streams: Streams,
+    seen: &'a Seen,
+    lists: usize,
+}
+
+impl<'a> Source for Clients<'a> {
+    type In = Stream;
+
+    type Out = Vec<u8>;
+
+    type Told = Nobody;
+
+    fn take(&self) -> Option<Connection<Stream, Vec<u8>, Nobody>> {
+        if self.streams.taken.load(Ordering::SeqCst) == 0 {
+            wait_for(&self.seen.reads);
+        } else {
+            wait_for(&self.seen.opened);
+            for _ in 0..crate::streams::TURNS {
+                if self.lists <= self.seen.lists.load(Ordering::SeqCst) {
+                    break;
+                }
+                std::thread::yield_now();
+            }
+        }
+        self.streams.take()
+    }
+
+    fn ended(&self, connection: Connection<Stream, Vec<u8>, Nobody>, end: Option<End>) {
+        self.streams.ended(connection, end);
+        self.seen.open.store(1, Ordering::SeqCst);
+    }
+}
+
+/// A desk at an archive of which no file is opened, whose shelf has the files of these names.
+fn desk(alloc: Global, names: &[&str]) -> Result<Desk<MemoryShelf, Alone, MemoryShelf>, Fault> {
+    let mut paths = MemoryShelf::new(alloc);
+    paths.write(alloc, "p", GREY)?;
+    Ok(Desk {
+        archive: Archive::with(page_shelf(alloc, names)?, Images::none(alloc)),
+        keeper: Alone,
+        paths,
+    })
+}
+
+/// The names of images.
+fn names_of(alloc: Global, names: &[&str]) -> Result<Vec<String>, Fault> {
+    let mut all = Vec::new(alloc);
+    for name in names {
+        all.push(String::from_str(alloc, name)?)?;
+    }
+    Ok(all)
+}
+
+/// The images of which files stand in the folder at first, in another order than that of names; one
+/// of them isn't an image's, and one can't be read.
+static FIRST: [&str; 5] = ["b", "h", "a", "bad", "none"];
+
+/// What is opened: the files of the first images, and then what is listed.
+fn opening<'a, R: Wait>(
+    rt: &'a R,
+    alloc: Global,
+    seen: &'a Seen,
+    watch: Option<u32>,
+    lists: &'static [&'static str],
+) -> Result<Opening<Found<'a, R>>, Fault> {
+    let mut files = page_shelf(alloc, &["a", "b", "h", "new", "z"])?;
+    files.write(alloc, "bad.jp2", GREY)?;
+    files.write(alloc, "late.jp2", GREY)?;
+    Ok(Opening {
+        finder: Found {
+            rt,
+            alloc,
+            files,
+            lists,
+            seen,
+        },
+        names: names_of(alloc, &FIRST)?,
+        passed: names_of(alloc, &["pipe"])?,
+        watch,
+    })
+}
+
+/// The replies of a connection that asks for an image that waits, and of one that asks for the list
+/// when all files are opened: what was asked for is behind the file that was being read.
+static ASKED: [(&[u8], &[u8]); 2] = [
+    (
+        b"GET /images/h HTTP/1.1\r\n\r\n",
+        b"HTTP/1.1 404 Not Found\r\nContent-Type: text/plain\r\nContent-Length: 14\r\n\r\n404 Not Found\n",
+    ),
+    (
+        b"GET /images HTTP/1.1\r\n\r\n",
+        b"HTTP/1.1 200 OK\r\nContent-Type: text/plain\r\nContent-Length: 36\r\n\r\na 1 1 1 8 0\nh 1 1 1 8 0\nb 1 1 1 8 0\n",
+    ),
+];
+
+/// Serves connections while files are opened, and follows lines.
+fn ends<'a, R: Threads + Wait + Clock + Eprint + Sync>(
+    rt: &R,
+    alloc: Global,
+    opening: Opening<Found<'a, R>>,
+    clients: &Clients<'a>,
+    lines: &[u8],
+) -> Result<(Ends, Vec<u8>), Fault> {
+    let shelves = vec![in alloc; page_shelf(alloc, &["a", "b", "h", "new", "late"])?]?;
+    let mut output = Vec::new(alloc);
+    let desk = desk(alloc, &FIRST)?;
+    let streams = (lines, &mut output);
+    let ends = serve_meanwhile(rt, alloc, desk, opening, shelves, clients, streams)?;
+    Ok((ends, output))
+}
+
+/// What was told, its lines in their order.
+fn told(alloc: Global, seen: Seen) -> Result<Vec<String>, Fault> {
+    let bytes = seen.told.into_inner();
+    let mut lines = Vec::new(alloc);
+    for line in bytes.split(|byte| *byte == b'\n') {
+        if let Ok(line) = str::from_utf8(line) {
+            lines.push(String::from_str(alloc, line)?)?;
+        }
+    }
+    lines.sort()?;
+    Ok(lines)
+}
+
+/// Whether these lines were told, and no other.
+fn is_told(alloc: Global, seen: Seen, due: &[&str]) -> Result<bool, Fault> {
+    let lines = told(alloc, seen)?;
+    let mut same = lines.len() == due.len().saturating_add(1);
+    for (line, due) in lines.iter().skip(1).zip(due) {
+        same = same && line.as_str() == *due;
+    }
+    Ok(same)
+}
+
+/// What is asked for and waits is 404 and opened next. A file that isn't an image's is told, and so
+/// is one that can't be read, which is the status; the others are served. An image whose file waits
+/// isn't added.
+#[test]
+fn what_is_asked_for_is_next(rt: HostRuntime) -> Result<(), Fail> {
+    let alloc = rt.alloc();
+    let seen = Seen::new(alloc, 0);
+    let clients = Clients {
+        streams: Streams::new(alloc, &ASKED, 1),
+        seen: &seen,
+        lists: 0,
+    };
+    let files = opening(&rt, alloc, &seen, None, &[])?;
+    let (ends, output) = ends(&rt, alloc, files, &clients, b"add h p\nadd a p\n")?;
+    equal(&rt, (ends.served, ends.operated), (Ok(2), Ok(())));
+    equal(&rt, ends.opened, Err(Fault::Shelf));
+    equal(&rt, clients.streams.counts(), (2, 0));
+    drop(clients);
+    assert!(rt;
+        output.as_slice() == b"refused h F18 NameTaken\nrefused a F18 NameTaken\n".as_slice()
+    );
+    equal(
+        &rt,
+        is_told(alloc, seen, &["bad F13 BadBox", "none F20 Shelf"])?,
+        true,
+    );
+    Ok(())
+}
+
+/// The same of a folder that is watched: a connection that asks for nothing that waits, and one that
+/// asks for the list when the folder was listed often.
+static WATCHED: [(&[u8], &[u8]); 2] = [
+    (
+        b"GET /images/x HTTP/1.1\r\n\r\n",
+        b"HTTP/1.1 404 Not Found\r\nContent-Type: text/plain\r\nContent-Length: 14\r\n\r\n404 Not Found\n",
+    ),
+    (
+        b"GET /images HTTP/1.1\r\n\r\n",
+        b"HTTP/1.1 200 OK\r\nContent-Type: text/plain\r\nContent-Length: 65\r\n\r\na 1 1 1 8 0\nb 1 1 1 8 0\nh 1 1 1 8 0\nnew 1 1 1 8 0\nlate 1 1 1 8 0\n",
+    ),
+];
+
+/// What stands in the folder each time.
+static LISTS: [&str; 3] = [
+    "a b h bad none pipe",
+    "pipe new a b h bad none",
+    "late a new b h bad none pipe",
+];
+
+/// What comes to a folder is listed; a file that isn't an image's is told once, and listed when it
+/// has changed.
+#[test]
+fn what_comes_is_listed(rt: HostRuntime) -> Result<(), Fail> {
+    let alloc = rt.alloc();
+    let seen = Seen::new(alloc, 1);
+    let clients = Clients {
+        streams: Streams::new(alloc, &WATCHED, 1),
+        seen: &seen,
+        lists: 40,
+    };
+    let files = opening(&rt, alloc, &seen, Some(0), &LISTS)?;
+    let (ends, _) = ends(&rt, alloc, files, &clients, b"")?;
+    equal(&rt, (ends.served, ends.operated), (Ok(2), Ok(())));
+    equal(&rt, ends.opened, Err(Fault::Shelf));
+    equal(&rt, clients.streams.counts(), (2, 0));
+    drop(clients);
+    let due = ["bad F13 BadBox", "late F13 BadBox", "none F20 Shelf"];
+    equal(&rt, is_told(alloc, seen, &due)?, true);
+    Ok(())
+}
+
+/// Lines that come once a connection has ended.
+#[derive(Drop)]
+struct Late<'a> {
+    streams: &'a Streams,
+    bytes: &'static [u8],
+}
+
+impl<'a> Read for Late<'a> {
+    fn read(&mut self, buf: &mut [u8]) -> io::Result<usize> {
+        wait_for(&self.streams.ended);
+        let count = self.bytes.len().min(buf.len());
+        for i in 0..count {
+            if i < self.bytes.len() && i < buf.len() {
+                buf[i] = self.bytes[i];
+            }
+        }
+        self.bytes = b"";
+        Ok(count)
+    }
+}
+
+/// A connection.
+static ONE: [(&[u8], &[u8]); 1] = [(
+    b"GET /images/x HTTP/1.1\r\n\r\n",
+    b"HTTP/1.1 404 Not Found\r\nContent-Type: text/plain\r\nContent-Length: 14\r\n\r\n404 Not Found\n",
+)];
+
+/// Serves these connections once while files are opened, and lines come behind them. What is
+/// answered.
+fn once<R: Threads + Wait + Clock + Eprint + Sync>(
+    rt: &R,
+    alloc: Global,
+    watch: Option<u32>,
+    cases: &'static [(&'static [u8], &'static [u8])],
+    lines: &'static [u8],
+) -> Result<(Ends, Vec<u8>), Fault> {
+    let seen = Seen::new(alloc, 1);
+    let streams = Streams::new(alloc, cases, 1);
+    let files = opening(rt, alloc, &seen, watch, &LISTS)?;
+    let shelves = vec![in alloc; page_shelf(alloc, &["a"])?]?;
+    let mut output = Vec::new(alloc);
+    let late = Late {
+        streams: &streams,
+        bytes: lines,
+    };
+    if cases.is_empty() {
+        streams.ended.store(1, Ordering::SeqCst);
+    }
+    let desk = desk(alloc, &FIRST)?;
+    let ends = serve_meanwhile(
+        rt,
+        alloc,
+        desk,
+        files,
+        shelves,
+        &streams,
+        (late, &mut output),
+    )?;
+    Ok((ends, output))
+}
+
+/// How often each end is tried.
+const TIMES: usize = 50;
+
+/// Where no connection comes, or one, and no line or one behind it, it ends by itself, whether the
+/// folder is watched or not; and what is added last is answered.
+#[test]
+fn each_end_comes(rt: HostRuntime) -> Result<(), Fail> {
+    let alloc = rt.alloc();
+    for _ in 0..TIMES {
+        for watch in [None, Some(0), Some(3600)] {
+            let (ends, output) = once(&rt, alloc, watch, &[], b"")?;
+            equal(&rt, (ends.served, ends.operated), (Ok(0), Ok(())));
+            equal(&rt, output.len(), 0);
+            let (ends, output) = once(&rt, alloc, watch, &ONE, b"add x p\n")?;
+            equal(&rt, (ends.served, ends.operated), (Ok(1), Ok(())));
+            assert!(rt; output.as_slice() == b"added x\n".as_slice());
+        }
+    }
+    Ok(())
+}
