@@ -53,6 +53,20 @@ static const uint8_t boxes[] = {0, 0, 0, 26, 'r', 'e', 's', ' ', 0, 0, 0, 18, 'r
 static uint8_t dressed[(1 << 20) + sizeof boxes];
 static size_t dressed_length;
 static jk_frame frame;
+/* An image that is encoded row by row, in four tiles. */
+enum { SIDE = 512 };
+static uint8_t large[SIDE * SIDE];
+
+static uint32_t encode_large(void)
+{
+    jk_frame of = {0};
+    of.width = of.height = SIDE;
+    of.components = 1;
+    of.depth = 8;
+    jk_coding coding = jk_coding_for(&of);
+    coding.tile_width = coding.tile_height = SIDE / 2;
+    return jk_encode_u8(&of, large, sizeof large, &coding, out, sizeof out, &made);
+}
 
 static uint32_t call(int which)
 {
@@ -65,6 +79,7 @@ static uint32_t call(int which)
     case 3: return jk_encode_u8(&frame, samples, count, &coding, out, sizeof out, &made);
     case 4: return jk_extras(dressed, dressed_length, out, sizeof out, &made);
     case 5: return jk_with_extras(file, length, boxes, sizeof boxes, out, sizeof out, &made);
+    case 6: return encode_large();
     default: return jk_cut(file, length, 0, 0, 0, 8, 8, out, sizeof out, &made);
     }
 }
@@ -79,7 +94,8 @@ int main(int words, char **names)
     count = (size_t)frame.width * frame.height * frame.components;
     if (jk_decode_u8(file, length, 0, samples, count)) return 1;
     if (jk_with_extras(file, length, boxes, sizeof boxes, dressed, sizeof dressed, &dressed_length)) return 1;
-    for (int which = 0; which < 7; which++) {
+    for (size_t at = 0; at < sizeof large; at++) large[at] = (uint8_t)(at / SIDE / 8 + at % SIDE / 16);
+    for (int which = 0; which < 8; which++) {
         memset(out, 170, sizeof out);
         refused = -1, seen = 0, taken = 0, counting = 1;
         uint32_t answer = call(which);

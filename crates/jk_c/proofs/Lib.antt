@@ -2,7 +2,9 @@ mod Answering
 mod Giving
 mod Handing
 mod Passing
+mod PicturedLaws
 mod PixelLaws
 mod Planes
 mod RowsGiven
 mod Spreading
+mod SupplyLaws

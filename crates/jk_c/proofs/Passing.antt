@@ -16,6 +16,14 @@ fits_32 : (s : ℤ) → (negsuc 32767 ≤ℤ s) × (s ≤ℤ pos 32767) → SFit
 fits_32 (pos n) within = record { sfits = omega (arith, ints, within.1) }
 fits_32 (negsuc n) within = record { sfits = omega (arith, ints, within.0) }
 
+-- a sample of any kind
+number_fits : (s : ℤ) → (negsuc 32767 ≤ℤ s) × (s ≤ℤ pos 65535) → SFits w32 s
+number_fits (pos n) within = record { sfits = omega (arith, ints, within.1) }
+number_fits (negsuc n) within = record { sfits = omega (arith, ints, within.0) }
+
+pub passed_number : (s : ℤ) → (negsuc 32767 ≤ℤ s) × (s ≤ℤ pos 65535) → to_z w32 (of_z w32 s) ≡ s
+passed_number s within = to_z-of_z w32 s (number_fits s within)
+
 fits_16 : (s : ℤ) → (negsuc 32767 ≤ℤ s) × (s ≤ℤ pos 32767) → SFits w16 s
 fits_16 (pos n) within = record { sfits = omega (arith, ints, within.1) }
 fits_16 (negsuc n) within = record { sfits = omega (arith, ints, within.0) }

@@ -3,12 +3,9 @@ use Rattle.std.specs.Global.{Vec}
 use Rattle.std.specs.List.{range_with_len}
 use Rattle.std.proofs.lemmas.List.{map-append}
 use Rattle.std.proofs.lemmas.List.FromFn.{map-range_with_len_more}
-use Rattle.std.proofs.lemmas.Int.{to_z_pos}
-use Rattle.std.proofs.Common.{◌≡◌, ℕ, ℤ, List, [], ◌∷◌, ◌++◌, ◌+◌, ◌*◌, ◌^◌, ◌<◌, pos, negsuc, ◌≤ℤ◌, map, get_or, to_z, of_z, w32, sym, ap, ◌∙◌, arith}
+use Rattle.std.proofs.Common.{◌≡◌, ℕ, ℤ, List, [], ◌∷◌, ◌++◌, ◌+◌, ◌*◌, pos, map, get_or, sym, ap, ◌∙◌, arith}
 use Rattle.jk_math.specs.Lists.{lists_of}
-use Rattle.jk_c.specs.Pixels.{plane_in}
 use Rattle.jk_c.specs.Signed.{signed_plane_in}
-use Rattle.jk_c.proofs.Passing.{passed_signed}
 
 -- one more sample
 sample_more : (sample : ℕ → ℤ) (i : ℕ) (z : ℤ) (old new : List ℤ) → z ≡ sample i → old ≡ map sample (range_with_len 0 i)
@@ -19,15 +16,9 @@ sample_more sample i z old new is before pushed =
     ∙ ap (λ (zs : List ℤ). zs ++ (sample i ∷ [])) before
     ∙ sym (map-range_with_len_more sample 0 i i (omega arith))
 
-pub plane_more : (pixels : List ℕ) (i k c : ℕ) (old new : List ℤ) → get_or pixels (i * k + c) 0 < 2 ^ 16 → old ≡ plane_in pixels i k c
-    → new ≡ old ++ (to_z w32 (get_or pixels (i * k + c) 0) ∷ []) → new ≡ plane_in pixels (i + 1) k c
-plane_more pixels i k c old new small before pushed =
-    sample_more (λ j. pos (get_or pixels (j * k + c) 0)) i _ old new (to_z_pos w32 (get_or pixels (i * k + c) 0) (omega (arith, small))) before pushed
-
-pub signed_plane_more : (pixels : List ℤ) (i k c : ℕ) (r : ℤ) (old new : List ℤ) → r ≡ get_or pixels (i * k + c) (pos 0) → (negsuc 32767 ≤ℤ r) × (r ≤ℤ pos 32767)
-    → old ≡ signed_plane_in pixels i k c → new ≡ old ++ (to_z w32 (of_z w32 r) ∷ []) → new ≡ signed_plane_in pixels (i + 1) k c
-signed_plane_more pixels i k c r old new is within before pushed =
-    sample_more (λ j. get_or pixels (j * k + c) (pos 0)) i _ old new (passed_signed r within ∙ is) before pushed
+pub plane_more : (samples : List ℤ) (i k c : ℕ) (z : ℤ) (old new : List ℤ) → z ≡ get_or samples (i * k + c) (pos 0) → old ≡ signed_plane_in samples i k c
+    → new ≡ old ++ (z ∷ []) → new ≡ signed_plane_in samples (i + 1) k c
+plane_more samples i k c z old new is before pushed = sample_more (λ j. get_or samples (j * k + c) (pos 0)) i z old new is before pushed
 
 -- one more component
 pub planes_more : (plane_of : ℕ → List ℤ) (i : ℕ) (old new : List (Vec ℤ)) (plane : Vec ℤ) → lists_of old ≡ map plane_of (range_with_len 0 i)

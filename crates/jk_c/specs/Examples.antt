@@ -7,7 +7,8 @@ use Rattle.jk_params.specs.declared.parameters.Container.TheVariants.{Raw, Jp2}
 use Rattle.jk_c.specs.declared.frames.CallerFrame.{CallerFrame}
 use Rattle.jk_c.specs.Codes.{code_of}
 use Rattle.jk_c.specs.Codings.{exponents_of, tile_of, container_of}
-use Rattle.jk_c.specs.Frames.{picture_from}
+use Rattle.jk_c.specs.Frames.{picture_from, framed}
+use Rattle.jk_c.specs.Pictured.{stripe_in}
 use Rattle.jk_c.specs.Telling.{told}
 
 -- the numbers of faults as `jk faults` lists them; 22 stands for none
@@ -54,6 +55,19 @@ planes : picture_from frame (1 ∷ 2 ∷ 3 ∷ 4 ∷ 5 ∷ 6 ∷ [])
       planes = (pos 1 ∷ pos 4 ∷ []) ∷ (pos 2 ∷ pos 5 ∷ []) ∷ (pos 3 ∷ pos 6 ∷ []) ∷ [];
     }
 planes = refl
+
+-- The second of two rows of two pixels is cut out of the list, and stands one row below.
+stripe : stripe_in (framed (record frame { height = 2 }) false) (map pos (1 ∷ 2 ∷ 3 ∷ 4 ∷ 5 ∷ 6 ∷ 7 ∷ 8 ∷ 9 ∷ 10 ∷ 11 ∷ 12 ∷ [])) 1 2
+    ≡ record {
+      x0 = 3;
+      y0 = 6;
+      width = 2;
+      height = 1;
+      depth = 8;
+      signed = false;
+      planes = (pos 7 ∷ pos 10 ∷ []) ∷ (pos 8 ∷ pos 11 ∷ []) ∷ (pos 9 ∷ pos 12 ∷ []) ∷ [];
+    }
+stripe = refl
 
 -- the frame of an image with a sign, as it is told
 told_frame : told (record {

@@ -1,10 +1,8 @@
 -- What an image is, as C programs tell it and are told.
-use Rattle.std.specs.Prelude.{◌≡◌, ◌⊎◌, Result, Ok, Err, ℕ, ◌*◌, ◌^◌, ◌≤◌, false, Bool, ℤ, List, [], ◌∷◌, map}
+use Rattle.std.specs.Prelude.{◌≡◌, ℕ, ◌*◌, ◌^◌, ◌≤◌, false, Bool, List, [], ◌∷◌, map}
 use Rattle.std.specs.List.{range_with_len}
-use Rattle.jk_math.specs.declared.fault.Fault.{Fault}
-use Rattle.jk_math.specs.declared.fault.Fault.TheVariants.{BadParameters}
-use Rattle.jk_math.specs.Memory.{IsMemory}
-use Rattle.jk_math.specs.Picture.{Picture, IsPicture}
+use Rattle.jk_math.specs.Picture.{Picture}
+use Rattle.jk_params.specs.declared.picture_frame.PictureFrame.{PictureFrame}
 use Rattle.jk_c.specs.declared.frames.CallerFrame.{CallerFrame}
 use Rattle.jk_c.specs.Pixels.{plane_in}
 
@@ -42,20 +40,14 @@ picture_from f pixels = record {
   planes = map (plane_in pixels (f.width * f.height) f.components) (range_with_len 0 f.components);
 }
 
--- the picture of a frame with these planes
-abbrev pub framed : CallerFrame → Bool → List (List ℤ) → Picture
-framed f signed planes = record {
+-- the frame of that picture, or of one with a sign
+abbrev pub framed : CallerFrame → (signed : Bool) → PictureFrame
+framed f signed = record {
   x0 = f.x0;
   y0 = f.y0;
   width = f.width;
   height = f.height;
+  components = f.components;
   depth = f.depth;
   signed = signed;
-  planes = planes;
 }
-
--- What is answered where a picture is due as an image: that, or BadParameters where it isn't one of
--- the profile, or Memory.
-abbrev pub IsImageOf : Picture → Result Picture Fault → Type 0
-IsImageOf due (Ok p) = (p ≡ due) × IsPicture p
-IsImageOf due (Err e) = IsMemory e ⊎ ((e ≡ BadParameters) × (IsPicture due → ⊥))

@@ -5,8 +5,10 @@ pub mod Encodings
 pub mod Examples
 pub mod Frames
 pub mod Keeping
+pub mod Pictured
 pub mod PixelRows
 pub mod Pixels
+pub mod PixelsGiven
 pub mod Signed
 pub mod Telling
 pub mod Views

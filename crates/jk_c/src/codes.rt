@@ -7,6 +7,8 @@ use jk_math::Fault;
 
 /// The call has done what it is for.
 pub(crate) const DONE: u32 = 0;
+/// A growth of memory was refused.
+pub(crate) const MEMORY: u32 = 1;
 /// Image or parameters outside the profile.
 pub(crate) const BAD_PARAMETERS: u32 = 15;
 /// The caller's room is too small for what is handed out.

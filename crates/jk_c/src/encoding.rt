@@ -1,33 +1,128 @@
 //! Images encoded.
 
-ghost use Rattle.std.specs.Prelude.{◌≡◌, length, take};
+ghost use Rattle.std.specs.Prelude.{◌≡◌, ◌*◌, length, map, take};
+ghost use Rattle.jk_params.specs.PictureFrames.{IsPictureFrame};
 ghost use Rattle.jk_code.specs.Meaning.{Means};
 ghost use Rattle.jk_c.specs.Answers.{room};
 ghost use Rattle.jk_c.specs.Codes.{done_code, parameters_code, misfit_code};
-ghost use Rattle.jk_c.specs.Encodings.{IsEncodedFile, IsAsked, HandsOutFile, IsRefused};
-ghost use Rattle.jk_c.specs.Frames.{IsKnownFrame, Fills, picture_from};
+ghost use Rattle.jk_c.specs.Codings.{IsKnownCoding, AreParameters};
+ghost use Rattle.jk_c.specs.Encodings.{IsEncodedFile, IsEncoded, IsAsked, HandsOutFile, IsRefused};
+ghost use Rattle.jk_c.specs.Frames.{IsCountable, IsKnownFrame, Fills, framed, picture_from};
+ghost use Rattle.jk_c.specs.Pictured.{pictured};
+ghost use Rattle.jk_c.specs.declared.coding.CallerCoding.{CallerCoding};
 ghost use Rattle.jk_c.specs.Signed.{IsKnownSignedFrame, IsAskedSigned, signed_picture_from};
 
-use crate::answers::hand_out;
+use crate::answers::hand_out_written;
 use crate::codes::{BAD_PARAMETERS, MISFIT};
 use crate::coding::{CallerCoding, parameters};
-use crate::frames::{CallerFrame, fills, is_known, is_known_signed};
-use crate::images::{image_of_bytes, image_of_shorts, image_of_tinies, image_of_words};
-use jk_code::encode;
-use jk_math::{Fault, Image};
+use crate::frames::{CallerFrame, fills, is_known, is_known_signed, picture_frame};
+use crate::pixel_rows::Sample;
+use crate::pixel_supply::PixelSupply;
+use crate::stripes::stripe;
+use jk_code::{encode, encode_rows};
+use jk_math::Fault;
+use jk_params::{Parameters, PictureFrame};
 use std::alloc::Global;
 
-/// The file of an image, if there is one.
-fn file_of(
+/// How many rows are encoded at a time.
+const ROWS: u32 = 64;
+
+/// Images of fewer samples are encoded whole: their planes take 1 MiB at most.
+const FEW: u64 = 1 << 18;
+
+/// Images and tiles of fewer columns or rows are encoded whole.
+const NARROW: u32 = 128;
+
+/// Whether an image is encoded row by row. Of small ones, and of narrow ones and in narrow tiles, that
+/// takes longer than of the whole.
+fn suits_rows(frame: &PictureFrame, tile: Option<(u32, u32)>) -> bool {
+    let (width, height) = tile.unwrap_or((frame.width, frame.height));
+    let samples = (frame.width as u64 * frame.height as u64).saturating_mul(
+        frame.components as u64,
+    );
+    samples >= FEW && width.min(frame.width) >= NARROW && height.min(frame.height) >= NARROW
+}
+
+/// The file of an image of all these pixels, which is encoded row by row.
+///
+/// BadParameters: the image is outside the profile; Shelf: the file couldn't grow.
+fn file_by_rows<T: Sample>(
     alloc: Global,
-    image: Result<Image, Fault>,
+    frame: &PictureFrame,
+    pixels: &[T],
+    parameters: &Parameters,
+) -> Result<Vec<u8>, Fault>
+    requires known { IsPictureFrame frame.now }
+    requires whole { length pixels.now ≡ frame.now.width * frame.now.height * frame.now.components }
+    ensures { (k : CallerCoding) → AreParameters k parameters.now → IsKnownCoding k
+        → IsEncodedFile (pictured frame.now (map T.value pixels.now)) k result }
+{
+    let mut rows = PixelSupply {
+        frame: *frame,
+        pixels,
+        given: 0,
+    };
+    let mut file = Vec::new(alloc);
+    encode_rows(alloc, frame, parameters, ROWS, &mut rows, &mut file)?;
+    Ok(file)
+}
+
+/// The file of an image of all these pixels, which is encoded whole.
+///
+/// BadParameters: the image is outside the profile.
+fn file_of_whole<T: Sample>(
+    alloc: Global,
+    frame: &PictureFrame,
+    pixels: &[T],
+    parameters: &Parameters,
+) -> Result<Vec<u8>, Fault>
+    requires known { IsPictureFrame frame.now }
+    requires whole { length pixels.now ≡ frame.now.width * frame.now.height * frame.now.components }
+    ensures { (k : CallerCoding) → AreParameters k parameters.now → IsKnownCoding k
+        → IsEncodedFile (pictured frame.now (map T.value pixels.now)) k result }
+{
+    let image = stripe(alloc, frame, pixels, 0, frame.height)?;
+    encode(alloc, &image, parameters)
+}
+
+/// The file of an image of all these pixels.
+///
+/// BadParameters: the image or the coding is outside the profile; Shelf: the file couldn't grow.
+fn file_of<T: Sample>(
+    alloc: Global,
+    frame: &CallerFrame,
+    pixels: &[T],
     coding: &CallerCoding,
 ) -> Result<Vec<u8>, Fault>
-    ensures { IsEncodedFile image coding.now result }
+    requires countable { IsCountable frame.now }
+    requires fills { Fills frame.now (length pixels.now) }
+    ensures { IsEncodedFile (pictured (framed frame.now T.signed) (map T.value pixels.now)) coding.now result }
 {
-    let image = image?;
+    let (_, signed) = T::room();
+    let frame = picture_frame(frame, signed)?;
     let parameters = parameters(alloc, coding)?;
-    encode(alloc, &image, &parameters)
+    if suits_rows(&frame, parameters.tile) {
+        file_by_rows(alloc, &frame, pixels, &parameters)
+    } else {
+        file_of_whole(alloc, &frame, pixels, &parameters)
+    }
+}
+
+/// Hands out the file of an image of all these pixels, or tells the fault that stands in its place.
+fn encode_pixels<T: Sample>(
+    alloc: Global,
+    frame: &CallerFrame,
+    pixels: &[T],
+    coding: &CallerCoding,
+    out: &mut [u8],
+    made: &mut usize,
+) -> u32
+    requires countable { IsCountable frame.now }
+    requires fills { Fills frame.now (length pixels.now) }
+    ensures { IsEncoded (pictured (framed frame.now T.signed) (map T.value pixels.now)) coding.now
+        (room out.old made.old) result (room out.new made.new) }
+{
+    hand_out_written(file_of(alloc, frame, pixels, coding), out, made)
 }
 
 /// The file of an image of at most 8 bits, whose samples lie pixel by pixel in bytes, as
@@ -62,8 +157,7 @@ pub extern "C" fn jk_encode_u8(
     if !fills(frame, pixels.len()) {
         return MISFIT;
     }
-    let image = image_of_bytes(alloc, frame, pixels);
-    hand_out(file_of(alloc, image, coding), out, made)
+    encode_pixels(alloc, frame, pixels, coding, out, made)
 }
 
 /// The file of an image whose samples lie pixel by pixel in words of two bytes, as
@@ -98,8 +192,7 @@ pub extern "C" fn jk_encode_u16(
     if !fills(frame, pixels.len()) {
         return MISFIT;
     }
-    let image = image_of_words(alloc, frame, pixels);
-    hand_out(file_of(alloc, image, coding), out, made)
+    encode_pixels(alloc, frame, pixels, coding, out, made)
 }
 
 /// The file of an image of signed samples of at most 8 bits, which lie pixel by pixel in bytes, as
@@ -136,8 +229,7 @@ pub extern "C" fn jk_encode_i8(
     if !fills(frame, pixels.len()) {
         return MISFIT;
     }
-    let image = image_of_tinies(alloc, frame, pixels);
-    hand_out(file_of(alloc, image, coding), out, made)
+    encode_pixels(alloc, frame, pixels, coding, out, made)
 }
 
 /// The file of an image of signed samples, which lie pixel by pixel in words of two bytes, as
@@ -174,6 +266,5 @@ pub extern "C" fn jk_encode_i16(
     if !fills(frame, pixels.len()) {
         return MISFIT;
     }
-    let image = image_of_shorts(alloc, frame, pixels);
-    hand_out(file_of(alloc, image, coding), out, made)
+    encode_pixels(alloc, frame, pixels, coding, out, made)
 }

@@ -1,8 +1,13 @@
 //! What an image is, as C programs tell it and are told.
 
-ghost use Rattle.std.specs.Prelude.{◌≡◌, ◌≤◌, ◌^◌, ◌↔◌, ◌*◌, IsTrue};
-ghost use Rattle.jk_c.specs.Frames.{IsKnownFrame, IsCountable, Fills};
+ghost use Rattle.std.specs.Prelude.{◌≡◌, ◌≤◌, ◌^◌, ◌↔◌, ◌*◌, IsTrue, IfOk, IfErr};
+ghost use Rattle.jk_math.specs.declared.fault.Fault.TheVariants.{BadParameters};
+ghost use Rattle.jk_params.specs.PictureFrames.{IsPictureFrame};
+ghost use Rattle.jk_c.specs.Frames.{IsKnownFrame, IsCountable, Fills, framed};
 ghost use Rattle.jk_c.specs.Signed.{IsKnownSignedFrame};
+
+use jk_math::Fault;
+use jk_params::PictureFrame;
 
 /// Where an image lies at a reduction, how large it is, and what its samples are.
 #[repr(C)]
@@ -60,4 +65,32 @@ pub(crate) fn fills(frame: &CallerFrame, count: usize) -> bool
     ensures { IsTrue result ↔ Fills frame.now count }
 {
     frame.width as usize * frame.height as usize * frame.components as usize == count
+}
+
+/// The frame of an image whose samples are with a sign or without.
+///
+/// BadParameters: none of the profile has it.
+pub(crate) fn picture_frame(frame: &CallerFrame, signed: bool) -> Result<PictureFrame, Fault>
+    requires { IsCountable frame.now }
+    ensures value { IfOk result (λ f. f ≡ framed frame.now signed) }
+    ensures known { IfOk result IsPictureFrame }
+    ensures err { IfErr result (λ e. (e ≡ BadParameters) × (IsPictureFrame (framed frame.now signed) → ⊥)) }
+{
+    let right = frame.x0 as u64 + frame.width as u64;
+    let lower = frame.y0 as u64 + frame.height as u64;
+    if frame.width == 0 || frame.height == 0 || right >= 1 << 31 || lower >= 1 << 31 {
+        return Err(Fault::BadParameters);
+    }
+    if frame.depth == 0 {
+        return Err(Fault::BadParameters);
+    }
+    Ok(PictureFrame {
+        x0: frame.x0,
+        y0: frame.y0,
+        width: frame.width,
+        height: frame.height,
+        components: frame.components as u16,
+        depth: frame.depth as u8,
+        signed,
+    })
 }

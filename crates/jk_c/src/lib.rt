@@ -10,12 +10,13 @@ mod coding;
 mod decoding;
 mod encoding;
 mod frames;
-mod images;
 mod info;
 mod keeping;
 mod pixel_rows;
+mod pixel_supply;
 mod samples;
 mod signed;
+mod stripes;
 mod version;
 mod windows;
 

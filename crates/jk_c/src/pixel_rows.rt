@@ -21,7 +21,7 @@ const ROWS: u32 = 64;
 
 /// A sample in the caller's memory.
 pub(crate) trait Sample: Copy {
-    ghost use Rattle.std.specs.Prelude.{◌≡◌, ℕ, ℤ, Bool, IsTrue, length};
+    ghost use Rattle.std.specs.Prelude.{◌≡◌, ℕ, ℤ, pos, negsuc, ◌≤ℤ◌, Bool, IsTrue, length};
     ghost use Rattle.jk_c.specs.PixelRows.{HasSamples, HaveAllPixels};
 
     // The number that it stands for.
@@ -35,7 +35,13 @@ pub(crate) trait Sample: Copy {
     fn blank() -> Self;
 
     /// How many bits it has room for, and whether these are with a sign.
-    fn room() -> (u8, bool);
+    fn room() -> (u8, bool)
+        ensures sign { result.1 ≡ signed };
+
+    /// The number that it stands for.
+    fn number(self) -> i32
+        ensures value { result ≡ value self }
+        ensures within { (negsuc 32767 ≤ℤ result) × (result ≤ℤ pos 65535) };
 
     /// Writes the pixels of an image, if it has such samples and the list has room for just these.
     fn put(image: &Image, pixels: &mut [Self]) -> bool
@@ -61,6 +67,11 @@ impl Sample for u8 {
         (8, false)
     }
 
+    #[inline(always)]
+    fn number(self) -> i32 {
+        self as i32
+    }
+
     fn put(image: &Image, pixels: &mut [u8]) -> bool {
         put_image_bytes(image, pixels)
     }
@@ -81,6 +92,11 @@ impl Sample for u16 {
 
     fn room() -> (u8, bool) {
         (16, false)
+    }
+
+    #[inline(always)]
+    fn number(self) -> i32 {
+        self as i32
     }
 
     fn put(image: &Image, pixels: &mut [u16]) -> bool {
@@ -105,6 +121,11 @@ impl Sample for i8 {
         (8, true)
     }
 
+    #[inline(always)]
+    fn number(self) -> i32 {
+        self as i32
+    }
+
     fn put(image: &Image, pixels: &mut [i8]) -> bool {
         put_image_tinies(image, pixels)
     }
@@ -125,6 +146,11 @@ impl Sample for i16 {
 
     fn room() -> (u8, bool) {
         (16, true)
+    }
+
+    #[inline(always)]
+    fn number(self) -> i32 {
+        self as i32
     }
 
     fn put(image: &Image, pixels: &mut [i16]) -> bool {

@@ -1,14 +1,11 @@
 //! Samples in the caller's memory: pixel by pixel, the components of a pixel side by side.
 
 ghost use Rattle.std.specs.Prelude.{◌≡◌, ℕ, ◌+◌, ◌*◌, ◌<◌, ◌≤◌, ◌^◌, ◌↔◌, IsTrue, length, pos, All, ◌≤ℤ◌};
-ghost use Rattle.std.specs.Prelude.{false, map, slice_index_or, IfOk, IfErr};
-ghost use Rattle.std.specs.List.{range_with_len};
-ghost use Rattle.jk_math.specs.Memory.{IsMemory};
+ghost use Rattle.std.specs.Prelude.{false, slice_index_or};
 ghost use Rattle.jk_math.specs.Picture.{IsPicture};
-ghost use Rattle.jk_c.specs.Pixels.{ArePut, ArePixels, Fits, plane_in};
+ghost use Rattle.jk_c.specs.Pixels.{ArePut, ArePixels, Fits};
 
-use jk_math::{Fault, Image};
-use std::alloc::Global;
+use jk_math::Image;
 
 /// A sample as a byte.
 #[inline(always)]
@@ -128,44 +125,4 @@ pub(crate) fn put_image_words(image: &Image, pixels: &mut [u16]) -> bool
         );
     }
     true
-}
-
-/// A component of the pixels, which are bytes.
-pub(crate) fn bytes_plane(
-    alloc: Global,
-    pixels: &[u8],
-    area: usize,
-    component: usize,
-    components: usize,
-) -> Result<Vec<i32>, Fault>
-    requires component { component < components }
-    requires whole { area * components ≤ length pixels.now }
-    ensures value { IfOk result (λ v. v.items ≡ plane_in pixels.now area components component) }
-    ensures err { IfErr result IsMemory }
-{
-    let mut samples = Vec::with_capacity(alloc, area)?;
-    for i in 0..area {
-        samples.push(pixels[i * components + component] as i32)?;
-    }
-    Ok(samples)
-}
-
-/// A component of the pixels, which are words of two bytes.
-pub(crate) fn words_plane(
-    alloc: Global,
-    pixels: &[u16],
-    area: usize,
-    component: usize,
-    components: usize,
-) -> Result<Vec<i32>, Fault>
-    requires component { component < components }
-    requires whole { area * components ≤ length pixels.now }
-    ensures value { IfOk result (λ v. v.items ≡ plane_in pixels.now area components component) }
-    ensures err { IfErr result IsMemory }
-{
-    let mut samples = Vec::with_capacity(alloc, area)?;
-    for i in 0..area {
-        samples.push(pixels[i * components + component] as i32)?;
-    }
-    Ok(samples)
 }

@@ -2,14 +2,12 @@
 //! bytes or in words of two bytes, as two's complement.
 
 ghost use Rattle.std.specs.Prelude.{◌≡◌, ℕ, ◌+◌, ◌*◌, ◌<◌, ◌≤◌, ◌^◌, ◌↔◌, IsTrue, length, pos, negsuc, All, ◌≤ℤ◌};
-ghost use Rattle.std.specs.Prelude.{false, slice_index_or, IfOk, IfErr};
-ghost use Rattle.jk_math.specs.Memory.{IsMemory};
+ghost use Rattle.std.specs.Prelude.{false, slice_index_or};
 ghost use Rattle.jk_math.specs.Picture.{IsPicture};
-ghost use Rattle.jk_c.specs.Signed.{ArePutSigned, AreSignedPixels, FitsSigned, signed_plane_in};
+ghost use Rattle.jk_c.specs.Signed.{ArePutSigned, AreSignedPixels, FitsSigned};
 
 use crate::samples::has_samples;
-use jk_math::{Fault, Image};
-use std::alloc::Global;
+use jk_math::Image;
 
 /// Whether an image has so many signed samples, each of at most so many bits.
 fn fits_signed(image: &Image, bits: u8, count: usize) -> bool
@@ -27,16 +25,6 @@ fn tiny(sample: i32) -> i8
     ensures { result ≡ sample }
 {
     sample as i8
-}
-
-/// A sample out of signed bytes.
-#[inline(always)]
-fn tiny_at(pixels: &[i8], place: usize) -> i32
-    requires { place < length pixels.now }
-    ensures value { result ≡ slice_index_or pixels.now place (pos 0) }
-    ensures within { (negsuc 32767 ≤ℤ result) × (result ≤ℤ pos 32767) }
-{
-    pixels[place] as i32
 }
 
 /// Writes a component of each pixel, as signed bytes.
@@ -81,27 +69,6 @@ pub(crate) fn put_image_tinies(image: &Image, pixels: &mut [i8]) -> bool
     true
 }
 
-/// A component of the pixels, which are signed bytes.
-#[tactic(auto, using(crate::proofs::Spreading::place_below))]
-pub(crate) fn tinies_plane(
-    alloc: Global,
-    pixels: &[i8],
-    area: usize,
-    component: usize,
-    components: usize,
-) -> Result<Vec<i32>, Fault>
-    requires component { component < components }
-    requires whole { area * components ≤ length pixels.now }
-    ensures value { IfOk result (λ v. v.items ≡ signed_plane_in pixels.now area components component) }
-    ensures err { IfErr result IsMemory }
-{
-    let mut samples = Vec::with_capacity(alloc, area)?;
-    for i in 0..area {
-        samples.push(tiny_at(pixels, i * components + component))?;
-    }
-    Ok(samples)
-}
-
 /// A sample as a signed word of two bytes.
 #[inline(always)]
 fn short(sample: i32) -> i16
@@ -110,16 +77,6 @@ fn short(sample: i32) -> i16
     ensures { result ≡ sample }
 {
     sample as i16
-}
-
-/// A sample out of signed words of two bytes.
-#[inline(always)]
-fn short_at(pixels: &[i16], place: usize) -> i32
-    requires { place < length pixels.now }
-    ensures value { result ≡ slice_index_or pixels.now place (pos 0) }
-    ensures within { (negsuc 32767 ≤ℤ result) × (result ≤ℤ pos 32767) }
-{
-    pixels[place] as i32
 }
 
 /// Writes a component of each pixel, as signed words of two bytes.
@@ -162,25 +119,4 @@ pub(crate) fn put_image_shorts(image: &Image, pixels: &mut [i16]) -> bool
         );
     }
     true
-}
-
-/// A component of the pixels, which are signed words of two bytes.
-#[tactic(auto, using(crate::proofs::Spreading::place_below))]
-pub(crate) fn shorts_plane(
-    alloc: Global,
-    pixels: &[i16],
-    area: usize,
-    component: usize,
-    components: usize,
-) -> Result<Vec<i32>, Fault>
-    requires component { component < components }
-    requires whole { area * components ≤ length pixels.now }
-    ensures value { IfOk result (λ v. v.items ≡ signed_plane_in pixels.now area components component) }
-    ensures err { IfErr result IsMemory }
-{
-    let mut samples = Vec::with_capacity(alloc, area)?;
-    for i in 0..area {
-        samples.push(short_at(pixels, i * components + component))?;
-    }
-    Ok(samples)
 }

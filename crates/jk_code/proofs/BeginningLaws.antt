@@ -1,5 +1,5 @@
 -- Laws of what stands before a tile-part, and of the file as a whole.
-use Rattle.std.proofs.Common.{◌≡◌, ℕ, zero, suc, ◌+◌, ◌^◌, ◌<◌, ◌≤◌, ◌⊎◌, inl, inr, Bool, true, false, not, List, [], ◌∷◌, ◌++◌, length, replicate, Result, Ok, Err, IfOk, refl, ap, sym, ◌∙◌, subst, arith, append_assoc}
+use Rattle.std.proofs.Common.{◌≡◌, ℕ, zero, suc, ◌+◌, ◌-◌, ◌^◌, min, ◌<◌, ◌≤◌, ◌⊎◌, inl, inr, Bool, true, false, not, List, [], ◌∷◌, ◌++◌, length, replicate, Result, Ok, Err, IfOk, refl, ap, sym, ◌∙◌, subst, arith, append_assoc}
 use Rattle.std.proofs.lemmas.Bool.{cases_lt, lt-ltb, le-ltb, not-false}
 use Rattle.std.proofs.lemmas.List.{append-nil, length-append, length-replicate, append_cancel_right}
 use Rattle.jk_math.specs.Memory.{IsMemory}
@@ -51,6 +51,10 @@ parts_longer p q n =
 -- the first tile-part
 pub parts_first : (p : Picture) (q : Parameters) → parts_upto p q 1 ≡ part_text (part_for p q 0)
 parts_first p q = append-nil (part_text (part_for p q 0))
+
+-- a number of bytes with which a tile-part can say its length tells all of them
+pub all_told : (n size : ℕ) → size ≡ min n (2 ^ 64 - 1) → 14 + size < 2 ^ 32 → n ≡ size
+all_told n size told short = omega (arith, told, short)
 
 pub fits_said : (p : Picture) (q : Parameters) (t : ℕ) → 14 + length (tile_text p q t) < 2 ^ 32 → part_fits p q t ≡ true
 fits_said p q t short = lt-ltb (14 + length (tile_text p q t)) (2 ^ 32) short
@@ -177,12 +181,6 @@ file_means p q file is by small e =
 
 -- ---- the start of a file, as it is put together
 
--- a tile-part of the data of a tile
-pub part_of_tile : (p : Picture) (q : Parameters) (t : ℕ) (head read content : List ℕ) → read ≡ content → content ≡ tile_text p q t
-    → head ++ read ≡ part_text (only_part_of t read) → head ++ content ≡ part_text (part_for p q t)
-part_of_tile p q t head read content same is e =
-    ap (λ (x : List ℕ). head ++ x) (sym same) ∙ e ∙ ap (λ (x : List ℕ). part_text (only_part_of t x)) (same ∙ is)
-
 -- how long the codestream is, by its main header, its first tile-part, and those behind it
 pub size_said : (p : Picture) (q : Parameters) (main head content rest : ℕ) → main ≡ length (main_text (siz_of p q) (segments_of (main_for p q))) → head ≡ 14
     → content ≡ length (tile_text p q 0) → length (parts_upto p q 1) + rest ≡ length (parts_upto p q (tile_count (siz_of p q)))
@@ -220,16 +218,17 @@ ahead_any p q e why = elim why [
   | inr limit ↦ inr (limit.0, any_ahead p q limit.1 limit.2)
 ]
 
-pub ahead_first : (p : Picture) (q : Parameters) (e : Fault) (content : List ℕ) → 0 < tile_count (siz_of p q) → content ≡ tile_text p q 0 → IsMemory e ⊎ ((e ≡ Limit) × (2 ^ 32 ≤ 14 + length content))
+-- a number of bytes that tells no more than those of the tile
+pub ahead_first : (p : Picture) (q : Parameters) (e : Fault) (size : ℕ) → 0 < tile_count (siz_of p q) → size ≤ length (tile_text p q 0) → IsMemory e ⊎ ((e ≡ Limit) × (2 ^ 32 ≤ 14 + size))
     → IsMemory e ⊎ ((e ≡ Limit) × IsTooLongAhead p q)
-ahead_first p q e content some same why = elim why [
+ahead_first p q e size some least why = elim why [
   | inl memory ↦ inl memory
-  | inr limit ↦ inr (limit.0, first_ahead p q some (long_said p q 0 (subst (λ (x : List ℕ). 2 ^ 32 ≤ 14 + length x) same limit.1)))
+  | inr limit ↦ inr (limit.0, first_ahead p q some (long_said p q 0 (let long = limit.1 in omega (arith, long, least))))
 ]
 
-pub long_any : (p : Picture) (q : Parameters) (t : ℕ) (e : Fault) (content : List ℕ) → t < tile_count (siz_of p q) → content ≡ tile_text p q t → IsMemory e ⊎ ((e ≡ Limit) × (2 ^ 32 ≤ 14 + length content))
+pub long_any : (p : Picture) (q : Parameters) (t : ℕ) (e : Fault) (size : ℕ) → t < tile_count (siz_of p q) → size ≤ length (tile_text p q t) → IsMemory e ⊎ ((e ≡ Limit) × (2 ^ 32 ≤ 14 + size))
     → IsMemory e ⊎ ((e ≡ Limit) × IsTooLong p q)
-long_any p q t e content lt same why = elim why [
+long_any p q t e size lt least why = elim why [
   | inl memory ↦ inl memory
-  | inr limit ↦ inr (limit.0, (t, lt, long_said p q t (subst (λ (x : List ℕ). 2 ^ 32 ≤ 14 + length x) same limit.1)))
+  | inr limit ↦ inr (limit.0, (t, lt, long_said p q t (let long = limit.1 in omega (arith, long, least))))
 ]

@@ -11,7 +11,7 @@ use Rattle.jk_params.specs.declared.picture_frame.PictureFrame.{PictureFrame}
 use Rattle.jk_params.specs.PictureFrames.{frame_of}
 use Rattle.jk_params.specs.Profile.{siz_for, IsWrittenFor}
 use Rattle.jk_code.specs.Made.{rows_of}
-use Rattle.jk_code.specs.RowsWritten.{IsStripe, value_of}
+use Rattle.jk_code.specs.RowsWritten.{IsStripe, sample_on_grid}
 use Rattle.jk_tile.specs.encoding.Strips.{IsFrame}
 use Rattle.jk_tile.specs.encoding.FallingTiles.{IsStripeOf, GivesTile, AreTileSixteen}
 use Rattle.jk_tile.specs.encoding.TilesFrom.{tile_lists}
@@ -62,7 +62,7 @@ stripe_gives s t p v is same stripe rows c x y lt within =
     let width : p.width ≡ s.frame.width = ap (λ (f : PictureFrame). f.width) same in
     let left = within.left in let right = within.right in let upper = within.upper in let lower = within.lower in
     value_same p v s.parameters.now.colour c x y (ap (λ (f : PictureFrame). f.depth) all) (ap (λ (f : PictureFrame). f.signed) all) (λ colour. (let three = is.written.cod.colour colour in omega (arith, three, many))) lt (λ i less.
-    ap (λ (u : Picture). value_of u i x y) rows
+    ap (λ (u : Picture). sample_on_grid u i x y) rows
     ∙ rows_value p v.y0 (v.y0 + v.height) i x y (omega (arith, less, count)) (omega (arith, a.0, x0, left)) (omega (arith, a.1, x0, width, right)) upper lower)
 
 pub coming_sixteen : (s : ComingImage) (t n : ℕ) (p : Picture) → IsComing s → IsPicture p → frame_of p ≡ s.frame → t < tiles_coming s → n ≡ length p.planes → AreTileSixteen (component_of s t) n (tile_value p s.parameters.now.colour)

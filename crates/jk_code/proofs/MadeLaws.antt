@@ -180,30 +180,30 @@ abbrev same_as : Picture → Picture → Type 0
 same_as q stripe = stripe ≡ q
 
 -- a component of a picture, at a place
-abbrev value_of : Picture → ℕ → ℕ → ℕ → ℤ
-value_of p c x y = sample_at p c (x - p.x0) (y - p.y0)
+abbrev sample_on_grid : Picture → ℕ → ℕ → ℕ → ℤ
+sample_on_grid p c x y = sample_at p c (x - p.x0) (y - p.y0)
 
 -- The planes have the rows of a picture down to one, and these stripes are the rest of it.
 pub record IsJoined (p : Picture) (planes : List (Vec ℤ)) (rest : List Picture) : Type 0 where
   pub row : ℕ
   pub low : p.y0 ≤ row
   pub rest_is : AreMade (λ (q : Picture) (stripe : Picture). stripe ≡ q) p row rest
-  pub planes_are : (c : ℕ) → c < length p.planes → plane_in planes c ≡ raster (rows p.x0 (p.x0 + p.width) p.y0 row) (value_of p c)
+  pub planes_are : (c : ℕ) → c < length p.planes → plane_in planes c ≡ raster (rows p.x0 (p.x0 + p.width) p.y0 row) (sample_on_grid p c)
 
 pub none_joined : (p : Picture) (planes : List (Vec ℤ)) (m : MadeStripes Picture) → IsWhole p m → ((c : ℕ) → plane_in planes c ≡ []) → IsJoined p planes m.made.items
 none_joined p planes m whole none = record {
   row = p.y0;
   low = omega arith;
   rest_is = whole.made;
-  planes_are = λ c lt. none c ∙ sym (raster_none p.x0 (p.x0 + p.width) p.y0 (value_of p c));
+  planes_are = λ c lt. none c ∙ sym (raster_none p.x0 (p.x0 + p.width) p.y0 (sample_on_grid p c));
 }
 
 -- the planes of some rows
-rows_planes : (p : Picture) (y z c : ℕ) → c < length p.planes → get_or (rows_of p y z).planes c [] ≡ raster (rows p.x0 (p.x0 + p.width) y z) (value_of p c)
-rows_planes p y z c lt = get_or-map-range_with_len (λ c. raster (rows p.x0 (p.x0 + p.width) y z) (value_of p c)) 0 (length p.planes) c c [] lt (omega arith)
+rows_planes : (p : Picture) (y z c : ℕ) → c < length p.planes → get_or (rows_of p y z).planes c [] ≡ raster (rows p.x0 (p.x0 + p.width) y z) (sample_on_grid p c)
+rows_planes p y z c lt = get_or-map-range_with_len (λ c. raster (rows p.x0 (p.x0 + p.width) y z) (sample_on_grid p c)) 0 (length p.planes) c c [] lt (omega arith)
 
 rows_count : (p : Picture) (y z : ℕ) → length (rows_of p y z).planes ≡ length p.planes
-rows_count p y z = length-map-range_with_len (λ c. raster (rows p.x0 (p.x0 + p.width) y z) (value_of p c)) 0 (length p.planes)
+rows_count p y z = length-map-range_with_len (λ c. raster (rows p.x0 (p.x0 + p.width) y z) (sample_on_grid p c)) 0 (length p.planes)
 
 -- the next stripe has a plane for each component
 pub next_count : (p : Picture) (planes : List (Vec ℤ)) (stripe : Picture) (rest : List Picture) → IsJoined p planes (stripe ∷ rest) → length stripe.planes ≡ length p.planes
@@ -223,8 +223,8 @@ next_joined p planes next stripe rest is put =
       rest_is = is.rest_is.4;
       planes_are = λ c lt.
           put c ∙ ap (λ (xs : List ℤ). xs ++ get_or stripe.planes c []) (is.planes_are c lt)
-          ∙ ap (λ (xs : List ℤ). raster (rows p.x0 (p.x0 + p.width) p.y0 y) (value_of p c) ++ xs) (ap (λ (q : Picture). get_or q.planes c []) is.rest_is.3 ∙ rows_planes p y z c lt)
-          ∙ raster_joined p.x0 (p.x0 + p.width) p.y0 y z (value_of p c) low (omega (arith, more));
+          ∙ ap (λ (xs : List ℤ). raster (rows p.x0 (p.x0 + p.width) p.y0 y) (sample_on_grid p c) ++ xs) (ap (λ (q : Picture). get_or q.planes c []) is.rest_is.3 ∙ rows_planes p y z c lt)
+          ∙ raster_joined p.x0 (p.x0 + p.width) p.y0 y z (sample_on_grid p c) low (omega (arith, more));
     }
 
 -- all of them
@@ -240,8 +240,8 @@ all_joined p planes is count joined =
     let wide : p.x0 + p.width - p.x0 ≡ p.width = omega arith in
     let high : p.y0 + p.height - p.y0 ≡ p.height = omega arith in
     let places : p.width * p.height ≡ (p.y0 + p.height - p.y0) * (p.x0 + p.width - p.x0) = (let turned : p.width * p.height ≡ p.height * p.width = grind arith in turned) ∙ ap (λ t. p.height * t) (sym wide) ∙ ap (λ t. t * (p.x0 + p.width - p.x0)) (sym high) in
-    joined.planes_are c less ∙ ap (λ t. raster (rows p.x0 (p.x0 + p.width) p.y0 t) (value_of p c)) end
-    ∙ sym (raster_is a plane (value_of p c) (size ∙ places) (λ x y within. ap (λ t. get_or plane ((y - p.y0) * t + (x - p.x0)) (pos 0)) wide)))
+    joined.planes_are c less ∙ ap (λ t. raster (rows p.x0 (p.x0 + p.width) p.y0 t) (sample_on_grid p c)) end
+    ∙ sym (raster_is a plane (sample_on_grid p c) (size ∙ places) (λ x y within. ap (λ t. get_or plane ((y - p.y0) * t + (x - p.x0)) (pos 0)) wide)))
 
 -- The picture that they are put together to.
 pub joined_picture : (p : Picture) (m : MadeStripes Picture) (planes : List (Vec ℤ)) → IsWhole p m → lists_of planes ≡ p.planes

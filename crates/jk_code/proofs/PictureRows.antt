@@ -16,7 +16,7 @@ use Rattle.jk_params.specs.declared.picture_frame.PictureFrame.{PictureFrame}
 use Rattle.jk_params.specs.PictureFrames.{frame_of, IsPictureFrame}
 use Rattle.jk_code.specs.Made.{rows_of}
 use Rattle.jk_code.specs.Rows.{AreTaken, WereTaken}
-use Rattle.jk_code.specs.RowsWritten.{IsStripe, WereGiven, HasMet, value_of, HaveSameRows}
+use Rattle.jk_code.specs.RowsWritten.{IsStripe, WereGiven, HasMet, sample_on_grid, HaveSameRows}
 use Rattle.jk_params.proofs.Laws.{frame_is}
 use Rattle.jk_code.proofs.RowLaws.{none_taken, taken_more, taken_one}
 
@@ -48,7 +48,7 @@ zero_range : (depth : ℕ) (signed : Bool) → 1 ≤ depth → InRange depth sig
 zero_range depth true h = let p = one-le-pow (depth - 1) 2 (lit≤ tt) in (omega (arith, ints, p), omega (arith, ints, p))
 zero_range depth false h = let p = one-le-pow depth 2 (lit≤ tt) in (omega (arith, ints, p), omega (arith, ints, p))
 
-value_range : (p : Picture) → IsPicture p → (c x y : ℕ) → InRange p.depth p.signed (value_of p c x y)
+value_range : (p : Picture) → IsPicture p → (c x y : ℕ) → InRange p.depth p.signed (sample_on_grid p c x y)
 value_range p is c x y = by (cases_lt c (length p.planes))
   where
     index : ℕ
@@ -63,13 +63,13 @@ value_range p is c x y = by (cases_lt c (length p.planes))
     past : (xs : List ℤ) → length xs ≤ index → range (get_or xs index (pos 0))
     past xs le = subst range (sym (get_or_past xs index (pos 0) le)) zero
 
-    in_plane : (lt : c < length p.planes) → range (value_of p c x y)
+    in_plane : (lt : c < length p.planes) → range (sample_on_grid p c x y)
     in_plane lt = elim (cases_lt index (length (get_or p.planes c []))) [
       | inl less ↦ (is.components.each c [] lt).range index (pos 0) less
       | inr le ↦ past (get_or p.planes c []) le
     ]
 
-    by : (c < length p.planes) ⊎ (length p.planes ≤ c) → range (value_of p c x y)
+    by : (c < length p.planes) ⊎ (length p.planes ≤ c) → range (sample_on_grid p c x y)
     by (inl lt) = in_plane lt
     by (inr le) =
         subst (λ (plane : List ℤ). range (get_or plane index (pos 0))) (sym (get_or_past p.planes c [] le)) zero
@@ -107,7 +107,7 @@ from_is f g is each =
     }
 
 -- the samples that it was made of
-from_value : (f : PictureFrame) (g : ℕ → ℕ → ℕ → ℤ) (c x y : ℕ) → c < f.components → IsPlaceOf (area_in f) x y → value_of (picture_from f g) c x y ≡ g c x y
+from_value : (f : PictureFrame) (g : ℕ → ℕ → ℕ → ℤ) (c x y : ℕ) → c < f.components → IsPlaceOf (area_in f) x y → sample_on_grid (picture_from f g) c x y ≡ g c x y
 from_value f g c x y lt place =
     let plane : ℕ → List ℤ = λ c. raster (area_in f) (g c) in
     let wide : f.x0 + f.width - f.x0 ≡ f.width = omega arith in
@@ -153,10 +153,10 @@ with_planes p planes = record p { planes = planes }
 pub same_rows : (p q : Picture) (y z : ℕ) → HaveSameRows p q y z → rows_of p y z ≡ rows_of q y z
 same_rows p q y z same =
     ap (λ (planes : List (List ℤ)). let r : Picture = record (rows_of p y z) { planes = planes } in r)
-    (planes_same (record { x0 = p.x0; y0 = y; x1 = p.x0 + p.width; y1 = z }) (length p.planes) (value_of p) (value_of q) (λ c u v lt place.
+    (planes_same (record { x0 = p.x0; y0 = y; x1 = p.x0 + p.width; y1 = z }) (length p.planes) (sample_on_grid p) (sample_on_grid q) (λ c u v lt place.
     let left = place.left in let right = place.right in let upper = place.upper in let lower = place.lower in
     same.values c u v lt left right upper lower))
-    ∙ ap (λ (f : PictureFrame). rows_on f y z (value_of q)) same.frame
+    ∙ ap (λ (f : PictureFrame). rows_on f y z (sample_on_grid q)) same.frame
 
 -- what was taken of one was taken of the other
 pub same_taken : {A : Type 0} (took : A → Picture → A → Type 0) (p q : Picture) (y z : ℕ) (from to : A) → HaveSameRows p q y z → WereTaken took p y z from to → WereTaken took q y z from to
@@ -169,17 +169,17 @@ same_taken {A} took p q y z from to same taken = (taken.0, go y from taken.0 (om
         let next = h.0 in
         (h.0, h.1, subst (λ (rows : Picture). took x rows s.1) here h.2, go s.0 s.1 stripes (omega (arith, low, next)) h.3)
 
-planes_whole : (p : Picture) → IsPicture p → planes_on (record { x0 = p.x0; y0 = p.y0; x1 = p.x0 + p.width; y1 = p.y0 + p.height }) (length p.planes) (value_of p) ≡ p.planes
+planes_whole : (p : Picture) → IsPicture p → planes_on (record { x0 = p.x0; y0 = p.y0; x1 = p.x0 + p.width; y1 = p.y0 + p.height }) (length p.planes) (sample_on_grid p) ≡ p.planes
 planes_whole p is =
     let a : Rect = record { x0 = p.x0; y0 = p.y0; x1 = p.x0 + p.width; y1 = p.y0 + p.height } in
-    let plane : ℕ → List ℤ = λ c. raster a (value_of p c) in
+    let plane : ℕ → List ℤ = λ c. raster a (sample_on_grid p c) in
     let count = length-map-range_with_len plane 0 (length p.planes) in
     let wide : p.x0 + p.width - p.x0 ≡ p.width = omega arith in
-    ext_get_or [] (planes_on a (length p.planes) (value_of p)) p.planes count (λ c lt.
+    ext_get_or [] (planes_on a (length p.planes) (sample_on_grid p)) p.planes count (λ c lt.
     let less : c < length p.planes = omega (arith, lt, count) in
     let values = get_or p.planes c [] in
     get_or-map-range_with_len plane 0 (length p.planes) c c [] less (omega arith)
-    ∙ sym (raster_is a values (value_of p c) ((is.components.each c [] less).count ∙ sym (places_are p.x0 p.y0 p.width p.height)) (λ x y place. ap (λ w. get_or values ((y - p.y0) * w + (x - p.x0)) (pos 0)) wide)))
+    ∙ sym (raster_is a values (sample_on_grid p c) ((is.components.each c [] less).count ∙ sym (places_are p.x0 p.y0 p.width p.height)) (λ x y place. ap (λ w. get_or values ((y - p.y0) * w + (x - p.x0)) (pos 0)) wide)))
 
 -- a picture is all its rows
 pub whole_rows : (p : Picture) → IsPicture p → rows_of p p.y0 (p.y0 + p.height) ≡ p
@@ -200,40 +200,40 @@ rows_values f y z g h same =
 
 -- a picture whose rows from y on are those of another
 abbrev pub joined : (y : ℕ) → (p v : Picture) → Picture
-joined y p v = picture_from (frame_of p) (λ c x r. if leb y r then value_of v c x r else value_of p c x r)
+joined y p v = picture_from (frame_of p) (λ c x r. if leb y r then sample_on_grid v c x r else sample_on_grid p c x r)
 
 joined_is : (y : ℕ) (p v : Picture) → IsPicture p → IsPicture v → v.depth ≡ p.depth → v.signed ≡ p.signed → IsPicture (joined y p v)
-joined_is y p v is_p is_v depth signed = from_is (frame_of p) (λ c x r. if leb y r then value_of v c x r else value_of p c x r) (frame_is p is_p) (λ c x r. by c x r (leb y r))
+joined_is y p v is_p is_v depth signed = from_is (frame_of p) (λ c x r. if leb y r then sample_on_grid v c x r else sample_on_grid p c x r) (frame_is p is_p) (λ c x r. by c x r (leb y r))
   where
-    of_v : (c x r : ℕ) → InRange p.depth p.signed (value_of v c x r)
-    of_v c x r = subst (λ (s : Bool). InRange p.depth s (value_of v c x r)) signed (subst (λ d. InRange d v.signed (value_of v c x r)) depth (value_range v is_v c x r))
+    of_v : (c x r : ℕ) → InRange p.depth p.signed (sample_on_grid v c x r)
+    of_v c x r = subst (λ (s : Bool). InRange p.depth s (sample_on_grid v c x r)) signed (subst (λ d. InRange d v.signed (sample_on_grid v c x r)) depth (value_range v is_v c x r))
 
-    by : (c x r : ℕ) (b : Bool) → InRange p.depth p.signed (if b then value_of v c x r else value_of p c x r)
+    by : (c x r : ℕ) (b : Bool) → InRange p.depth p.signed (if b then sample_on_grid v c x r else sample_on_grid p c x r)
     by c x r true = of_v c x r
     by c x r false = value_range p is_p c x r
 
 -- its rows above y,
 pub joined_above : (y : ℕ) (p v : Picture) (a : ℕ) → p.y0 ≤ a → y ≤ p.y0 + p.height → HaveSameRows p (joined y p v) a y
 joined_above y p v a low high =
-    let g : ℕ → ℕ → ℕ → ℤ = λ c x r. if leb y r then value_of v c x r else value_of p c x r in
+    let g : ℕ → ℕ → ℕ → ℤ = λ c x r. if leb y r then sample_on_grid v c x r else sample_on_grid p c x r in
     record {
       frame = sym (from_frame (frame_of p) g);
       values = λ c x r lt left right upper lower.
           sym
           (from_value (frame_of p) g c x r lt (record { left = left; right = right; upper = omega (arith, low, upper); lower = omega (arith, high, lower) })
-          ∙ ap (λ (b : Bool). if b then value_of v c x r else value_of p c x r) (lt-leb y r lower));
+          ∙ ap (λ (b : Bool). if b then sample_on_grid v c x r else sample_on_grid p c x r) (lt-leb y r lower));
     }
 
 -- and those from y on
-joined_value : (y : ℕ) (p v : Picture) (z c x r : ℕ) → p.y0 ≤ y → z ≤ p.y0 + p.height → c < length p.planes → p.x0 ≤ x → x < p.x0 + p.width → y ≤ r → r < z → value_of (joined y p v) c x r ≡ value_of v c x r
+joined_value : (y : ℕ) (p v : Picture) (z c x r : ℕ) → p.y0 ≤ y → z ≤ p.y0 + p.height → c < length p.planes → p.x0 ≤ x → x < p.x0 + p.width → y ≤ r → r < z → sample_on_grid (joined y p v) c x r ≡ sample_on_grid v c x r
 joined_value y p v z c x r low high lt left right upper lower =
-    let g : ℕ → ℕ → ℕ → ℤ = λ c x r. if leb y r then value_of v c x r else value_of p c x r in
+    let g : ℕ → ℕ → ℕ → ℤ = λ c x r. if leb y r then sample_on_grid v c x r else sample_on_grid p c x r in
     from_value (frame_of p) g c x r lt (record { left = left; right = right; upper = omega (arith, low, upper); lower = omega (arith, high, lower) })
-    ∙ ap (λ (b : Bool). if b then value_of v c x r else value_of p c x r) (le-leb y r upper)
+    ∙ ap (λ (b : Bool). if b then sample_on_grid v c x r else sample_on_grid p c x r) (le-leb y r upper)
 
 pub joined_below : (y : ℕ) (p v : Picture) (z : ℕ) → p.y0 ≤ y → z ≤ p.y0 + p.height → frame_of v ≡ frame_of p → HaveSameRows v (joined y p v) y z
 joined_below y p v z low high same =
-    let g : ℕ → ℕ → ℕ → ℤ = λ c x r. if leb y r then value_of v c x r else value_of p c x r in
+    let g : ℕ → ℕ → ℕ → ℤ = λ c x r. if leb y r then sample_on_grid v c x r else sample_on_grid p c x r in
     let count = ap (λ (f : PictureFrame). f.components) same in
     let x0 = ap (λ (f : PictureFrame). f.x0) same in
     let width = ap (λ (f : PictureFrame). f.width) same in
@@ -245,14 +245,14 @@ joined_below y p v z low high same =
 -- a stripe that was joined
 joined_stripe : (y : ℕ) (p v : Picture) (z : ℕ) → IsPicture v → IsStripe (frame_of p) y z v → p.y0 ≤ y → y < z → z ≤ p.y0 + p.height → rows_of (joined y p v) y z ≡ v
 joined_stripe y p v z is stripe low more high =
-    let g : ℕ → ℕ → ℕ → ℤ = λ c x r. if leb y r then value_of v c x r else value_of p c x r in
+    let g : ℕ → ℕ → ℕ → ℤ = λ c x r. if leb y r then sample_on_grid v c x r else sample_on_grid p c x r in
     let count = ap (λ (f : PictureFrame). f.components) (from_frame (frame_of p) g) in
     let top : v.y0 ≡ y = ap (λ (f : PictureFrame). f.y0) stripe in
     let tall : v.height ≡ z - y = ap (λ (f : PictureFrame). f.height) stripe in
     let end : v.y0 + v.height ≡ z = omega (arith, top, tall, more) in
-    rows_values (frame_of (joined y p v)) y z (value_of (joined y p v)) (value_of v) (λ c x r lt left right upper lower. joined_value y p v z c x r low high (omega (arith, lt, count)) left right upper lower)
-    ∙ ap (λ (f : PictureFrame). rows_on f y z (value_of v)) (from_frame (frame_of p) g)
-    ∙ sym (ap (λ (f : PictureFrame). rows_on f y z (value_of v)) stripe)
+    rows_values (frame_of (joined y p v)) y z (sample_on_grid (joined y p v)) (sample_on_grid v) (λ c x r lt left right upper lower. joined_value y p v z c x r low high (omega (arith, lt, count)) left right upper lower)
+    ∙ ap (λ (f : PictureFrame). rows_on f y z (sample_on_grid v)) (from_frame (frame_of p) g)
+    ∙ sym (ap (λ (f : PictureFrame). rows_on f y z (sample_on_grid v)) stripe)
     ∙ ap (λ n. rows_of v n z) (sym top) ∙ ap (λ n. rows_of v v.y0 n) (sym end) ∙ whole_rows v is
 
 -- ---- what was given
@@ -269,7 +269,7 @@ given_none gave f y x is = record {
 
 -- the frame of a picture's joined one
 joined_frame : (f : PictureFrame) (y : ℕ) (p v : Picture) → frame_of p ≡ f → frame_of (joined y p v) ≡ f
-joined_frame f y p v same = from_frame (frame_of p) (λ c x r. if leb y r then value_of v c x r else value_of p c x r) ∙ same
+joined_frame f y p v same = from_frame (frame_of p) (λ c x r. if leb y r then sample_on_grid v c x r else sample_on_grid p c x r) ∙ same
 
 -- a stripe more
 pub given_more : {A : Type 0} (gave : A → Picture → A → Type 0) (f : PictureFrame) (a y z : ℕ) (from mid to : A) (p v : Picture) → f.y0 ≤ a → a ≤ y → y < z → z ≤ f.y0 + f.height
@@ -366,12 +366,12 @@ joined_agrees f a y z p v r low before more high frame is stripe same =
     }
 
 -- a sample of some rows is the picture's
-pub rows_value : (p : Picture) (a b c x y : ℕ) → c < length p.planes → p.x0 ≤ x → x < p.x0 + p.width → a ≤ y → y < b → value_of (rows_of p a b) c x y ≡ value_of p c x y
+pub rows_value : (p : Picture) (a b c x y : ℕ) → c < length p.planes → p.x0 ≤ x → x < p.x0 + p.width → a ≤ y → y < b → sample_on_grid (rows_of p a b) c x y ≡ sample_on_grid p c x y
 rows_value p a b c x y lt left right upper lower =
     let w : Rect = record { x0 = p.x0; y0 = a; x1 = p.x0 + p.width; y1 = b } in
-    let plane : ℕ → List ℤ = λ c. raster w (value_of p c) in
+    let plane : ℕ → List ℤ = λ c. raster w (sample_on_grid p c) in
     ap (λ (xs : List ℤ). get_or xs ((y - a) * (p.x0 + p.width - p.x0) + (x - p.x0)) (pos 0)) (get_or-map-range_with_len plane 0 (length p.planes) c c [] lt (omega arith))
-    ∙ raster_at w (value_of p c) x y (record { left = left; right = right; upper = upper; lower = lower })
+    ∙ raster_at w (sample_on_grid p c) x y (record { left = left; right = right; upper = upper; lower = lower })
 
 -- What a stripe behind the rows of a picture makes of it.
 pub record IsStep {A : Type 0} (gave : A → Picture → A → Type 0) (f : PictureFrame) (a y z : ℕ) (from to : A) (p v : Picture) : Type 0 where

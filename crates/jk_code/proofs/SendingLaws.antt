@@ -1,7 +1,8 @@
 -- Laws of what was written so far, and of what one step more writes.
-use Rattle.std.proofs.Common.{◌≡◌, ℕ, zero, suc, ◌+◌, ◌<◌, ◌⊎◌, inl, inr, Bool, true, false, List, [], ◌++◌, Option, Result, Ok, Err, OnOk, length, refl, ap, sym, ◌∙◌, subst, arith, append_assoc}
+use Rattle.std.proofs.Common.{◌≡◌, ℕ, zero, suc, ◌+◌, ◌^◌, ◌<◌, ◌≤◌, ltb, ◌⊎◌, inl, inr, Bool, true, false, List, [], ◌++◌, Option, Result, Ok, Err, OnOk, length, refl, ap, sym, ◌∙◌, subst, arith, append_assoc}
 use Rattle.std.specs.Bool.{⊤}
 use Rattle.std.specs.Io.KnownBytes.{Appends}
+use Rattle.std.proofs.lemmas.Bool.{le-ltb}
 use Rattle.std.proofs.lemmas.List.{append-nil}
 use Rattle.jk_math.specs.Front.{IsFront}
 use Rattle.jk_math.specs.Memory.{IsMemory}
@@ -20,7 +21,7 @@ use Rattle.jk_window.specs.Views.{holds_below}
 use Rattle.jk_window.proofs.Laws.{below_none, below_more, below_fails}
 use Rattle.jk_code.specs.Written.{main_for, part_for, part_fits, parts_fit, tree_for, written}
 use Rattle.jk_code.specs.Beginnings.{front_of, parts_upto, text_upto, text_before, IsFirstTooLong, Left}
-use Rattle.jk_code.specs.Sending.{IsTooLongAhead, IsSent, IsPartSent, IsRestSent}
+use Rattle.jk_code.specs.Sending.{IsTooLongAhead, IsSent, IsSentAsMade, IsPartSent, IsRestSent}
 use Rattle.jk_code.proofs.LoopLaws.{parts_more}
 use Rattle.jk_code.proofs.BeginningLaws.{file_ends, limit_due}
 
@@ -41,14 +42,11 @@ front_whole text all e = record { more = []; text = e ∙ sym (append-nil text) 
 abbrev pub Wrote : (a b : Option (List ℕ)) → (List ℕ → Type 0) → Type 0
 Wrote a b P = (text : List ℕ) × Appends a b text × P text
 
-pub sent_both : (a b c : Option (List ℕ)) (x y : List ℕ) (r : Result ⊤ Fault) → Wrote a b (λ part. part ≡ x) → Wrote b c (λ part. IsSent y part r) → Wrote a c (λ part. IsSent (x ++ y) part r)
-sent_both a b c x y (Ok done) first second =
-    (first.0 ++ second.0, appends_join a b c first.0 second.0 first.1 second.1, ap (λ (v : List ℕ). v ++ second.0) first.2 ∙ ap (λ (v : List ℕ). x ++ v) second.2)
-sent_both a b c x y (Err e) first second = (
-  first.0 ++ second.0,
-  appends_join a b c first.0 second.0 first.1 second.1,
-  (second.2.0, subst (λ (v : List ℕ). IsFront (v ++ second.0) (x ++ y)) (sym first.2) (front_behind x second.0 y second.2.1)),
-)
+-- a text that is made as it is written, behind one that was sent
+pub put_behind : (x y first last : List ℕ) (r : Result ⊤ Fault) → first ≡ x → IsSentAsMade y last r → IsSentAsMade (x ++ y) (first ++ last) r
+put_behind x y first last (Ok done) whole put = ap (λ (v : List ℕ). v ++ last) whole ∙ ap (λ (v : List ℕ). x ++ v) put
+put_behind x y first last (Err e) whole put =
+    (put.0, subst (λ (v : List ℕ). IsFront (v ++ last) (x ++ y)) (sym whole) (front_behind x last y put.1))
 
 -- a text is sent where its first half is cut off
 pub sent_first : (x y part : List ℕ) → IsFront part x → IsFront part (x ++ y)
@@ -57,10 +55,17 @@ sent_first x y part front = record {
   text = ap (λ (v : List ℕ). v ++ y) front.text ∙ append_assoc part front.more y;
 }
 
--- a tile-part whose length can be said is sent as a text is
-pub part_sent : (text part : List ℕ) (fits : Bool) (r : Result ⊤ Fault) → fits ≡ true → IsSent text part r → IsPartSent text fits part r
-part_sent text part fits (Ok done) fit sent = (fit, sent)
-part_sent text part fits (Err e) fit sent = inr (inr (sent.0, fit, sent.1))
+-- a tile-part whose length can be said is written as a text is
+pub part_put : (text part : List ℕ) (fits : Bool) (r : Result ⊤ Fault) → fits ≡ true → IsSentAsMade text part r → IsPartSent text fits part r
+part_put text part fits (Ok done) fit put = (fit, put)
+part_put text part fits (Err e) fit put = inr (inr (put.0, fit, put.1))
+
+-- and nothing of it where memory is refused before, or it is too long
+pub part_none : (text : List ℕ) (n : ℕ) (size : ℕ) (e : Fault) → size ≤ n → IsMemory e ⊎ ((e ≡ Limit) × (2 ^ 32 ≤ 14 + size)) → IsPartSent text (ltb (14 + n) (2 ^ 32)) [] (Err e)
+part_none text n size e least why = elim why [
+  | inl memory ↦ inr (inl (memory, refl))
+  | inr limit ↦ inl (limit.0, le-ltb (14 + n) (2 ^ 32) (let long = limit.1 in omega (arith, long, least)), refl)
+]
 
 -- ---- the tile-parts behind the first
 
@@ -98,7 +103,7 @@ rest_stopped p q a b c t e some lt fit before last =
     why (inr (inr shelf)) =
         let begun : IsFront (parts_upto p q t ++ part) (parts_upto p q t ++ part_text (part_for p q t)) = front_behind (parts_upto p q t) part (part_text (part_for p q t)) shelf.2 in
         inr (
-          inr shelf.0,
+          shelf.0,
           t + 1,
           omega (arith, lt),
           below_more (part_fits p q) t fit shelf.1,
@@ -141,9 +146,9 @@ left_ahead p q a e profile limit ahead =
     ([], appends_none a, inr (inl (limit, limit_due p q ahead.0 profile ahead.1, ahead.0, ahead.1, sym ahead.2)))
 
 pub left_start : (p : Picture) (q : Parameters) (a b : Option (List ℕ)) (start : List ℕ) (e : Fault) → 0 < tile_count (siz_of p q) → part_fits p q 0 ≡ true → start ≡ text_upto p q 1
-    → Wrote a b (λ part. IsSent start part (Err e)) → Wrote a b (λ text. Left p q text (Err e))
+    → Wrote a b (λ part. IsSentAsMade start part (Err e)) → Wrote a b (λ text. Left p q text (Err e))
 left_start p q a b start e some fit same sent =
-    (sent.0, sent.1, inr (inr (inr sent.2.0, inl (1, some, below_more (part_fits p q) 0 (below_none (part_fits p q)) fit, subst (λ (x : List ℕ). IsFront sent.0 x) same sent.2.1))))
+    (sent.0, sent.1, inr (inr (sent.2.0, inl (1, some, below_more (part_fits p q) 0 (below_none (part_fits p q)) fit, subst (λ (x : List ℕ). IsFront sent.0 x) same sent.2.1))))
 
 pub left_rest : (p : Picture) (q : Parameters) (a b c : Option (List ℕ)) (start : List ℕ) (e : Fault) → is_profile q p ≡ true → (q.container ≡ Jp2 → parts_fit p q ≡ true) → start ≡ text_upto p q 1
     → Wrote a b (λ part. part ≡ start) → Wrote b c (λ text. IsRestSent p q text (Err e)) → Wrote a c (λ text. Left p q text (Err e))

@@ -54,14 +54,14 @@ HaveRows s first n p tiles = (k : ℕ) (other : FallingTile) → k < n
     → HasTileSamples (component_of s (first + k)) (tile_value p s.parameters.now.colour) (slice_index_or tiles k other)
 
 -- Tile t is behind its last row.
-pub record IsFallen (s : ComingImage) (t : ℕ) (x : FallenTile) : Type 0 where
+pub record IsTileFallen (s : ComingImage) (t : ℕ) (x : FallenTile) : Type 0 where
   pub fallen : IsFallenTile (component_of s t) x
   pub components : fallen_in x ≡ s.frame.components
 
 -- So are the first n tiles,
 pub record AreFallen (s : ComingImage) (n : ℕ) (tiles : List FallenTile) : Type 0 where
   pub count : length tiles ≡ n
-  pub each : (t : ℕ) (other : FallenTile) → t < n → IsFallen s t (slice_index_or tiles t other)
+  pub each : (t : ℕ) (other : FallenTile) → t < n → IsTileFallen s t (slice_index_or tiles t other)
 
 -- and they are coded of a picture.
 abbrev pub AreCoded : ComingImage → (n : ℕ) → Picture → List FallenTile → Type 0

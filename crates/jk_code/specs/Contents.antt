@@ -16,6 +16,6 @@ pub record HasPicture (s : WrittenFrame) (p : Picture) : Type 0 where
   pub exponents : s.exponents.now ≡ exponents_for p s.parameters.now
 
 -- The tiles are those of this picture too.
-pub record AreTold {A : Type 0} (tells : A → Picture → Parameters → Type 0) (s : WrittenFrame) (tiles : A) (p : Picture) : Type 0 where
+pub record HasTiles {A : Type 0} (tells : A → Picture → Parameters → Type 0) (s : WrittenFrame) (tiles : A) (p : Picture) : Type 0 where
   pub source : HasPicture s p
   pub told : tells tiles p s.parameters.now

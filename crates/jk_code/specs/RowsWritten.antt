@@ -49,11 +49,11 @@ IsWrittenOf {A} gave met f q from to text result =
     ⊎ ((p : Picture) × WereAllGiven gave f from to p × Left p q text result)
 
 -- the sample of a picture at a place of the reference grid
-abbrev pub value_of : Picture → (c x y : ℕ) → ℤ
-value_of p c x y = sample_at p c (x - p.x0) (y - p.y0)
+abbrev pub sample_on_grid : Picture → (c x y : ℕ) → ℤ
+sample_on_grid p c x y = sample_at p c (x - p.x0) (y - p.y0)
 
 -- Two pictures of one frame have the same samples from row y up to row z.
 pub record HaveSameRows (p q : Picture) (y z : ℕ) : Type 0 where
   pub frame : frame_of p ≡ frame_of q
   pub values : (c x r : ℕ) → c < length p.planes → p.x0 ≤ x → x < p.x0 + p.width → y ≤ r → r < z
-      → value_of p c x r ≡ value_of q c x r
+      → sample_on_grid p c x r ≡ sample_on_grid q c x r

@@ -8,6 +8,7 @@ use Rattle.jk_math.specs.declared.fault.Fault.TheVariants.{Limit, Shelf}
 use Rattle.jk_marks.specs.Siz.{tile_count}
 use Rattle.jk_params.specs.declared.parameters.Parameters.{Parameters}
 use Rattle.jk_params.specs.Profile.{siz_of}
+use Rattle.jk_tile.specs.encoding.Sinks.{IsPassed}
 use Rattle.jk_window.specs.Views.{holds_below}
 use Rattle.jk_code.specs.Written.{part_fits, parts_fit}
 use Rattle.jk_code.specs.Beginnings.{parts_upto, text_before, IsFirstTooLong}
@@ -25,14 +26,19 @@ abbrev pub IsSent : List ℕ → List ℕ → Result ⊤ Fault → Type 0
 IsSent text part (Ok done) = part ≡ text
 IsSent text part (Err e) = (e ≡ Shelf) × IsFront part text
 
--- What was written of a tile-part: all; nothing where it is too long, or memory was refused; a
--- beginning where a write failed.
+-- What was written of a text that may be made as it is written: all, or a beginning where memory
+-- was refused or a write failed.
+abbrev pub IsSentAsMade : (text part : List ℕ) → Result ⊤ Fault → Type 0
+IsSentAsMade text part r = IsPassed (λ e. IsMemory e ⊎ (e ≡ Shelf)) text part r
+
+-- What was written of a tile-part: all; nothing where it is too long, or memory was refused before;
+-- a beginning where memory was refused or a write failed.
 abbrev pub IsPartSent : List ℕ → (fits : Bool) → List ℕ → Result ⊤ Fault → Type 0
 IsPartSent text fits part (Ok done) = (fits ≡ true) × (part ≡ text)
 IsPartSent text fits part (Err e) =
     ((e ≡ Limit) × (fits ≡ false) × (part ≡ []))
     ⊎ (IsMemory e × (part ≡ []))
-    ⊎ ((e ≡ Shelf) × (fits ≡ true) × IsFront part text)
+    ⊎ ((IsMemory e ⊎ (e ≡ Shelf)) × (fits ≡ true) × IsFront part text)
 
 -- What was written of the tile-parts behind the first: all; those before one that is too long; or a
 -- beginning.

@@ -7,6 +7,7 @@ ghost use Rattle.jk_marks.specs.Siz.{tile_count};
 ghost use Rattle.jk_params.specs.Profile.{siz_of};
 ghost use Rattle.jk_code.specs.Contents.{HasPicture};
 
+use crate::tile_data::TileData;
 use jk_geom::tile_count;
 use jk_marks::Exponents;
 use jk_math::Fault;
@@ -50,15 +51,16 @@ pub(crate) trait TileContents {
     ghost use Rattle.jk_math.specs.Picture.{Picture};
     ghost use Rattle.jk_params.specs.declared.parameters.Parameters.{Parameters};
     ghost use Rattle.jk_tile.specs.encoding.PacketsWritten.{tile_text};
+    ghost use Rattle.jk_code.specs.DataTold.{IsDataText};
 
     // The tiles are those of this picture, written with these parameters.
     ghost tells: { Self → Picture → Parameters → Type 0 };
 
     /// The data of the only part of tile `number`.
-    fn content(&self, alloc: Global, number: u32) -> Result<Vec<u8>, Fault>
+    fn content(&self, alloc: Global, number: u32) -> Result<TileData<'_>, Fault>
         requires number { (p : Picture) × (q : Parameters) × tells self.now p q × (number < tile_count (siz_of p q)) }
         ensures value { IfOk result
-            (λ v. (p : Picture) (q : Parameters) → tells self.now p q → v.items ≡ tile_text p q number) }
+            (λ v. (p : Picture) (q : Parameters) → tells self.now p q → IsDataText v (tile_text p q number)) }
         ensures memory { IfErr result IsMemory };
 }
 
@@ -67,8 +69,9 @@ impl<'a> TileContents for WrittenImage<'a> {
 
     ghost tells = { λ s p q. (s.image.now ≡ p) × (s.parameters.now ≡ q) };
 
-    fn content(&self, alloc: Global, number: u32) -> Result<Vec<u8>, Fault> {
+    fn content(&self, alloc: Global, number: u32) -> Result<TileData<'_>, Fault> {
         let bands = tile_bands(&Sequential, alloc, self.image, self.parameters, number)?;
-        encode_tile(&Sequential, alloc, self, number, bands)
+        let packets = encode_tile(&Sequential, alloc, self, number, bands)?;
+        Ok(TileData::Packets(packets))
     }
 }

@@ -9,6 +9,7 @@ ghost use Rattle.jk_math.specs.declared.fault.Fault.TheVariants.{Shelf};
 ghost use Rattle.jk_marks.specs.Siz.{IsSiz, tile_count, tiles_across};
 ghost use Rattle.jk_geom.specs.Rectangles.{IsArea};
 ghost use Rattle.jk_params.specs.Headers.{AreHeaders};
+ghost use Rattle.jk_tile.specs.decoding.Decoded.{AreDecoded};
 ghost use Rattle.jk_tile.specs.decoding.TileReading.{tested, tile_planes_at};
 ghost use Rattle.jk_rows.specs.Components.{IsStepEnd};
 ghost use Rattle.jk_code.specs.Meaning.{Means};
@@ -25,7 +26,7 @@ use jk_marks::Siz;
 use jk_math::{Fault, Image, Rect};
 use jk_params::{Codestream, read_codestream};
 use jk_rows::TileRows;
-use jk_tile::{CodedTile, judge_tile};
+use jk_tile::{CodedTile, DecodedBlocks, judge_tile};
 use std::alloc::Global;
 
 /// What takes the rows of an image, one stripe of them below the other.
@@ -52,7 +53,7 @@ pub(crate) fn tiles_across(siz: &Siz) -> usize
 }
 
 /// Tile `number` of an image.
-fn tile_of<'a>(coded: &CodedImage<'a>, number: usize) -> CodedTile<'a>
+pub(crate) fn tile_of<'a>(coded: &CodedImage<'a>, number: usize) -> CodedTile<'a>
     requires number { number < tile_count coded.now.headers.siz }
     ensures { result ≡ tile_source coded.now number }
 {
@@ -68,7 +69,7 @@ fn tile_of<'a>(coded: &CodedImage<'a>, number: usize) -> CodedTile<'a>
 
 /// The end of the rows of a step from row `y` on: an odd row or the end, up to which each level
 /// makes all and nothing more.
-fn step_end(y: u32, end: u32, step: u32) -> u32
+pub(crate) fn step_end(y: u32, end: u32, step: u32) -> u32
     requires order { y < end }
     requires end { end < 2 ^ 31 }
     requires step { 1 ≤ step }
@@ -93,7 +94,7 @@ pub(crate) struct TileRow {
 }
 
 /// The tiles of a row before their first row.
-fn tile_row(
+pub(crate) fn tile_row(
     alloc: Global,
     coded: &CodedImage<'_>,
     first: usize,
@@ -127,13 +128,16 @@ fn part_of_stripe(coded: &CodedImage<'_>, number: usize, stripe: &Rect) -> Rect
     }
 }
 
-/// The planes of a stripe, which lies in a row of tiles.
-fn stripe_planes(
+/// The planes of a stripe, which lies in a row of tiles. Code-blocks that were decoded before aren't
+/// decoded again.
+pub(crate) fn stripe_planes(
     alloc: Global,
     coded: &CodedImage<'_>,
     row: &mut TileRow,
     stripe: &Rect,
+    decoded: &DecodedBlocks,
 ) -> Result<Vec<Vec<i32>>, Fault>
+    requires decoded { AreDecoded coded.now.bytes decoded.now }
     requires row { IsTileRow coded.now row.old.first (tiles_across coded.now.headers.siz) stripe.now.y0 row.old }
     requires first { row.old.first % tiles_across coded.now.headers.siz ≡ 0 }
     requires stripe { IsArea stripe.now }
@@ -155,21 +159,24 @@ fn stripe_planes(
     for k in 0..row.tiles.len() {
         let next = tile_of(coded, row.first + k);
         let part = part_of_stripe(coded, row.first + k, stripe);
-        let values = row.tiles[k].step(alloc, &next, stripe.y0, stripe.y1)?;
+        let values = row.tiles[k].step_of(alloc, &next, stripe.y0, stripe.y1, decoded)?;
         put_tile(&next, stripe, &part, &values, &mut planes);
     }
     Ok(planes)
 }
 
-/// Gives rows `y` up to `end`, which lie in a row of tiles.
-fn give_stripe<S: Rows>(
+/// Gives rows `y` up to `end`, which lie in a row of tiles. Code-blocks that were decoded before aren't
+/// decoded again.
+pub(crate) fn give_stripe<S: Rows>(
     alloc: Global,
     coded: &CodedImage<'_>,
     row: &mut TileRow,
     y: u32,
     end: u32,
+    decoded: &DecodedBlocks,
     rows: &mut S,
 ) -> Result<(), Fault>
+    requires decoded { AreDecoded coded.now.bytes decoded.now }
     requires row { IsTileRow coded.now row.old.first (tiles_across coded.now.headers.siz) y row.old }
     requires first { row.old.first % tiles_across coded.now.headers.siz ≡ 0 }
     requires order { y < end }
@@ -188,7 +195,7 @@ fn give_stripe<S: Rows>(
         x1: coded.area.x1,
         y1: end,
     };
-    let planes = stripe_planes(alloc, coded, row, &stripe)?;
+    let planes = stripe_planes(alloc, coded, row, &stripe, decoded)?;
     rows.take(alloc, image_of(coded.headers, &stripe, planes)?)
 }
 
@@ -211,21 +218,22 @@ fn give_tiles<S: Rows>(
         (slice_index_or coded.now.packets (row.old.first + k) [])) ≡ Ok tt) }
     ensures cause { IfErr result (λ e. IsMemory e ⊎ (e ≡ Shelf) ⊎ HasFaultAt coded.now e) }
 {
+    let none = DecodedBlocks::none(alloc);
     let area = reduced(&tile(coded.headers.siz(), row.first as u32), coded.reduce);
     if area.y0 == area.y1 {
-        let none = Rect {
+        let empty = Rect {
             x0: coded.area.x0,
             y0: area.y0,
             x1: coded.area.x1,
             y1: area.y1,
         };
-        stripe_planes(alloc, coded, row, &none)?;
+        stripe_planes(alloc, coded, row, &empty, &none)?;
         return Ok(());
     }
     let mut y = area.y0;
     while y < area.y1 {
         let end = step_end(y, area.y1, step);
-        give_stripe(alloc, coded, row, y, end, rows)?;
+        give_stripe(alloc, coded, row, y, end, &none, rows)?;
         y = end;
     }
     Ok(())
@@ -256,7 +264,7 @@ fn give_rows<S: Rows>(
 }
 
 /// Judges all code-blocks in their order, tile by tile, of which nothing is kept.
-fn judge(alloc: Global, coded: &CodedImage<'_>) -> Result<(), Fault>
+pub(crate) fn judge(alloc: Global, coded: &CodedImage<'_>) -> Result<(), Fault>
     ensures exact { Answers (λ u. u) result
         (tiles_tested coded.now.bytes coded.now.headers coded.now.reduce (tile_count coded.now.headers.siz)) }
 {

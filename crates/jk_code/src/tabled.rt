@@ -19,12 +19,13 @@ ghost use Rattle.jk_code.specs.ComingRows.{IsComing, component_of, tiles_coming,
 
 use crate::coming::{ComingImage, component_at};
 use crate::contents::TileContents;
+use crate::tile_data::{TabledTile, TileData};
 use jk_geom::tile;
 use jk_marks::{Coding, Exponents, Quantisation};
 use jk_math::Fault;
 use jk_packet::BlockTable;
 use jk_params::{coding_with, siz_for};
-use jk_tile::{FallenTile, TileOutline, exponents_with, packets_of};
+use jk_tile::{FallenTile, TileOutline, exponents_with};
 use std::alloc::Global;
 
 /// How many bits the greatest magnitude of each sub-band has, in all tiles and components.
@@ -117,7 +118,7 @@ impl<'a> TileContents for TableTiles<'a> {
 
     ghost tells = { λ s p q. (s.coming.parameters.now ≡ q) × AreTablesOf s p };
 
-    fn content(&self, alloc: Global, number: u32) -> Result<Vec<u8>, Fault> {
+    fn content(&self, _alloc: Global, number: u32) -> Result<TileData<'_>, Fault> {
         let siz = siz_for(&self.coming.frame, self.coming.parameters);
         let outline = TileOutline {
             parameters: self.coming.parameters,
@@ -125,6 +126,7 @@ impl<'a> TileContents for TableTiles<'a> {
             rect: tile(&siz, number),
             components: self.coming.frame.components as usize,
         };
-        packets_of(alloc, &outline, &self.tables[number as usize])
+        let tables = &self.tables[number as usize];
+        Ok(TileData::Tables(TabledTile { outline, tables }))
     }
 }

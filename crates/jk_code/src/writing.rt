@@ -15,32 +15,38 @@ ghost use Rattle.jk_code.specs.Meaning.{Means};
 ghost use Rattle.jk_code.specs.Fronts.{HasFronts};
 ghost use Rattle.jk_code.specs.Written.{part_for, part_fits, parts_fit, written};
 ghost use Rattle.jk_code.specs.Beginnings.{front_of, parts_upto, text_upto, Left};
-ghost use Rattle.jk_code.specs.Sending.{IsTooLong, IsTooLongAhead, IsSent, IsPartSent, IsRestSent};
-ghost use Rattle.jk_code.specs.Contents.{HasPicture, AreTold};
+ghost use Rattle.jk_code.specs.Sending.{IsTooLong, IsTooLongAhead, IsSent, IsSentAsMade, IsPartSent, IsRestSent};
+ghost use Rattle.jk_code.specs.Contents.{HasPicture, HasTiles};
+ghost use Rattle.jk_code.specs.DataTold.{IsDataText};
 
 use crate::contents::{TileContents, WrittenFrame, count_tiles, frame_written};
 use crate::encoding::main_header;
+use crate::tile_data::TileData;
 use jk_marks::{write_main, write_part_head};
 use jk_math::{Fault, Image, write_out};
 use jk_params::{Container, Parameters};
-use jk_tile::{Sequential, WrittenImage, encode_tile, exponents};
+use jk_tile::{Sequential, WrittenImage, encode_tile, exponents, write_packets};
 use std::alloc::Global;
 use std::io::Write;
 
 /// The last marker of a codestream, EOC (T.800 A.4.4).
 static EOC: [u8; 2] = [0xFF, 0xD9];
 
-/// The head of a tile's only tile-part with these data.
+/// A number of bytes that no tile-part has room for.
+const MOST: u64 = 1 << 32;
+
+/// The head of a tile's only tile-part, which has `size` bytes of data, 2^64 - 1 at most.
 ///
 /// Limit: the tile-part would be longer than 2^32 - 1 bytes.
-fn part_head(alloc: Global, tile: u16, content: &[u8]) -> Result<Vec<u8>, Fault>
-    ensures text { IfOk result (λ head. head.items ++ content.now ≡ part_text (only_part_of tile content.now)) }
+fn part_head(alloc: Global, tile: u16, size: u64) -> Result<Vec<u8>, Fault>
+    ensures text { IfOk result (λ head. (content : List ℕ) → length content ≡ size
+        → head.items ++ content ≡ part_text (only_part_of tile content)) }
     ensures size { IfOk result (λ head. length head.items ≡ 14) }
-    ensures fits { IfOk result (λ _. 14 + length content.now < 2 ^ 32) }
-    ensures err { IfErr result (λ e. IsMemory e ⊎ ((e ≡ Limit) × (2 ^ 32 ≤ 14 + length content.now))) }
+    ensures fits { IfOk result (λ _. 14 + size < 2 ^ 32) }
+    ensures err { IfErr result (λ e. IsMemory e ⊎ ((e ≡ Limit) × (2 ^ 32 ≤ 14 + size))) }
 {
     let mut head = Vec::with_capacity(alloc, 14)?;
-    write_part_head(tile, content.len() as u64, &mut head)?;
+    write_part_head(tile, size.min(MOST), &mut head)?;
     Ok(head)
 }
 
@@ -52,21 +58,22 @@ fn rest_size<T: TileContents>(
     source: &WrittenFrame<'_>,
     tiles: &T,
 ) -> Result<u64, Fault>
-    requires some { (p : Picture) × AreTold T.tells source.now tiles.now p }
-    ensures size { IfOk result (λ size. (p : Picture) → AreTold T.tells source.now tiles.now p
+    requires some { (p : Picture) × HasTiles T.tells source.now tiles.now p }
+    ensures size { IfOk result (λ size. (p : Picture) → HasTiles T.tells source.now tiles.now p
         → length (parts_upto p source.now.parameters.now 1) + size
         ≡ length (parts_upto p source.now.parameters.now (tile_count (siz_of p source.now.parameters.now)))) }
     ensures small { IfOk result (λ size. size < 2 ^ 48) }
-    ensures fits { IfOk result (λ _. (p : Picture) → AreTold T.tells source.now tiles.now p
+    ensures fits { IfOk result (λ _. (p : Picture) → HasTiles T.tells source.now tiles.now p
         → part_fits p source.now.parameters.now 0 ≡ true → parts_fit p source.now.parameters.now ≡ true) }
-    ensures err { IfErr result (λ e. (p : Picture) → AreTold T.tells source.now tiles.now p
+    ensures err { IfErr result (λ e. (p : Picture) → HasTiles T.tells source.now tiles.now p
         → IsMemory e ⊎ ((e ≡ Limit) × IsTooLong p source.now.parameters.now)) }
 {
     let mut size = 0;
     for number in 1..count_tiles(source) {
         let content = tiles.content(alloc, number)?;
-        let head = part_head(alloc, number as u16, &content)?;
-        size += (head.len() + content.len()) as u64;
+        let bytes = content.size(alloc)?;
+        let head = part_head(alloc, number as u16, bytes)?;
+        size += head.len() as u64 + bytes;
     }
     Ok(size)
 }
@@ -77,16 +84,16 @@ fn size_ahead<T: TileContents>(
     source: &WrittenFrame<'_>,
     tiles: &T,
 ) -> Result<u64, Fault>
-    requires some { (p : Picture) × AreTold T.tells source.now tiles.now p }
-    ensures size { IfOk result (λ size. (p : Picture) → AreTold T.tells source.now tiles.now p
+    requires some { (p : Picture) × HasTiles T.tells source.now tiles.now p }
+    ensures size { IfOk result (λ size. (p : Picture) → HasTiles T.tells source.now tiles.now p
         → source.now.parameters.now.container ≡ Container.Jp2
         → length (parts_upto p source.now.parameters.now 1) + size
         ≡ length (parts_upto p source.now.parameters.now (tile_count (siz_of p source.now.parameters.now)))) }
     ensures small { IfOk result (λ size. size < 2 ^ 48) }
-    ensures fits { IfOk result (λ _. (p : Picture) → AreTold T.tells source.now tiles.now p
+    ensures fits { IfOk result (λ _. (p : Picture) → HasTiles T.tells source.now tiles.now p
         → source.now.parameters.now.container ≡ Container.Jp2
         → part_fits p source.now.parameters.now 0 ≡ true → parts_fit p source.now.parameters.now ≡ true) }
-    ensures err { IfErr result (λ e. (p : Picture) → AreTold T.tells source.now tiles.now p
+    ensures err { IfErr result (λ e. (p : Picture) → HasTiles T.tells source.now tiles.now p
         → IsMemory e ⊎ ((e ≡ Limit) × (source.now.parameters.now.container ≡ Container.Jp2)
         × IsTooLong p source.now.parameters.now)) }
 {
@@ -118,49 +125,41 @@ fn front(alloc: Global, source: &WrittenFrame<'_>, size: u64) -> Result<Vec<u8>,
     }
 }
 
-/// A file up to the end of its first tile-part.
-#[derive(Drop)]
-struct Start {
-    /// All up to the data of the tile-part.
-    before: Vec<u8>,
-    /// The data.
-    content: Vec<u8>,
-}
-
-/// The file up to the end of its first tile-part, which has these data.
+/// The file up to the data of its first tile-part, which are these.
 ///
 /// Limit: that tile-part would be longer than 2^32 - 1 bytes; in a JP2 file also any other.
-fn first_part<T: TileContents>(
+fn before_data<T: TileContents>(
     alloc: Global,
     source: &WrittenFrame<'_>,
     tiles: &T,
-    content: Vec<u8>,
-) -> Result<Start, Fault>
-    requires some { (p : Picture) × AreTold T.tells source.now tiles.now p }
-    requires first { (p : Picture) → AreTold T.tells source.now tiles.now p
-        → content.items ≡ tile_text p source.now.parameters.now 0 }
-    ensures text { IfOk result (λ s. (p : Picture) → AreTold T.tells source.now tiles.now p
-        → s.before.items ++ s.content.items ≡ text_upto p source.now.parameters.now 1) }
-    ensures fits { IfOk result (λ _. (p : Picture) → AreTold T.tells source.now tiles.now p
+    first: &TileData<'_>,
+) -> Result<Vec<u8>, Fault>
+    requires some { (p : Picture) × HasTiles T.tells source.now tiles.now p }
+    requires first { (p : Picture) → HasTiles T.tells source.now tiles.now p
+        → IsDataText first.now (tile_text p source.now.parameters.now 0) }
+    ensures text { IfOk result (λ v. (p : Picture) → HasTiles T.tells source.now tiles.now p
+        → v.items ++ tile_text p source.now.parameters.now 0 ≡ text_upto p source.now.parameters.now 1) }
+    ensures fits { IfOk result (λ _. (p : Picture) → HasTiles T.tells source.now tiles.now p
         → part_fits p source.now.parameters.now 0 ≡ true) }
-    ensures all { IfOk result (λ _. (p : Picture) → AreTold T.tells source.now tiles.now p
+    ensures all { IfOk result (λ _. (p : Picture) → HasTiles T.tells source.now tiles.now p
         → source.now.parameters.now.container ≡ Container.Jp2 → parts_fit p source.now.parameters.now ≡ true) }
-    ensures means { IfOk result (λ _. (p : Picture) → AreTold T.tells source.now tiles.now p
+    ensures means { IfOk result (λ _. (p : Picture) → HasTiles T.tells source.now tiles.now p
         → (file : List ℕ) → written p source.now.parameters.now ≡ Ok file
         → Means file 0 p × HasFronts p source.now.parameters.now file) }
-    ensures err { IfErr result (λ e. (p : Picture) → AreTold T.tells source.now tiles.now p
+    ensures err { IfErr result (λ e. (p : Picture) → HasTiles T.tells source.now tiles.now p
         → IsMemory e ⊎ ((e ≡ Limit) × IsTooLongAhead p source.now.parameters.now)) }
 {
     let rest = size_ahead(alloc, source, tiles)?;
-    let head = part_head(alloc, 0, &content)?;
+    let bytes = first.size(alloc)?;
+    let head = part_head(alloc, 0, bytes)?;
     let mut main = Vec::new(alloc);
     write_main(&main_header(source), &mut main)?;
-    let part = (head.len() + content.len()) as u64;
+    let part = head.len() as u64 + bytes;
     let size = main.len() as u64 + part + rest + EOC.len() as u64;
     let mut before = front(alloc, source, size)?;
     before.extend_from_slice(&main)?;
     before.extend_from_slice(&head)?;
-    Ok(Start { before, content })
+    Ok(before)
 }
 
 /// Writes a text.
@@ -177,24 +176,53 @@ fn send<W: Write>(writer: &mut W, text: &[u8]) -> Result<(), Fault>
     }
 }
 
-/// Writes the start of a file. It is let go of.
-fn put_start<W: Write>(writer: &mut W, start: Start) -> Result<(), Fault>
+/// Writes the data of a tile.
+///
+/// Memory: a header couldn't be made. Shelf: a write failed or took nothing. Then a beginning of the
+/// data was written.
+fn put_data<W: Write>(alloc: Global, writer: &mut W, content: &TileData<'_>) -> Result<(), Fault>
+    requires some { (text : List ℕ) × IsDataText content.now text }
     ensures { (part : List ℕ) × Appends (W.contents writer.old) (W.contents writer.new) part
-        × IsSent (start.before.items ++ start.content.items) part result }
+        × ((text : List ℕ) → IsDataText content.now text → IsSentAsMade text part result) }
 {
-    send(writer, &start.before)?;
-    send(writer, &start.content)
+    match content {
+        TileData::Packets(text) => send(writer, text),
+        TileData::Tables(tile) => write_packets(alloc, &tile.outline, tile.tables, writer),
+    }
+}
+
+/// Writes the start of a file: what stands before the data of its first tile-part, and these data,
+/// which are let go of.
+fn put_start<W: Write>(
+    alloc: Global,
+    writer: &mut W,
+    before: &[u8],
+    first: TileData<'_>,
+) -> Result<(), Fault>
+    requires some { (text : List ℕ) × IsDataText first text }
+    ensures { (part : List ℕ) × Appends (W.contents writer.old) (W.contents writer.new) part
+        × ((text : List ℕ) → IsDataText first.entry text → IsSentAsMade (before.now ++ text) part result) }
+{
+    send(writer, before)?;
+    put_data(alloc, writer, &first)
 }
 
 /// Writes the only tile-part of a tile with these data.
-fn put_part<W: Write>(alloc: Global, writer: &mut W, tile: u16, content: &[u8]) -> Result<(), Fault>
+fn put_part<W: Write>(
+    alloc: Global,
+    writer: &mut W,
+    tile: u16,
+    content: &TileData<'_>,
+) -> Result<(), Fault>
+    requires some { (text : List ℕ) × IsDataText content.now text }
     ensures { (part : List ℕ) × Appends (W.contents writer.old) (W.contents writer.new) part
-        × IsPartSent (part_text (only_part_of tile content.now))
-        (nat_lt (14 + length content.now) (2 ^ 32)) part result }
+        × ((text : List ℕ) → IsDataText content.now text
+        → IsPartSent (part_text (only_part_of tile text)) (nat_lt (14 + length text) (2 ^ 32)) part result) }
 {
-    let head = part_head(alloc, tile, content)?;
+    let bytes = content.size(alloc)?;
+    let head = part_head(alloc, tile, bytes)?;
     send(writer, &head)?;
-    send(writer, content)
+    put_data(alloc, writer, content)
 }
 
 /// Writes the only tile-part of tile `number`.
@@ -205,9 +233,9 @@ fn put_tile<T: TileContents, W: Write>(
     number: u32,
     writer: &mut W,
 ) -> Result<(), Fault>
-    requires number { (p : Picture) × AreTold T.tells source.now tiles.now p
+    requires number { (p : Picture) × HasTiles T.tells source.now tiles.now p
         × (number < tile_count (siz_of p source.now.parameters.now)) }
-    ensures { (p : Picture) → AreTold T.tells source.now tiles.now p
+    ensures { (p : Picture) → HasTiles T.tells source.now tiles.now p
         → (part : List ℕ) × Appends (W.contents writer.old) (W.contents writer.new) part
         × IsPartSent (part_text (part_for p source.now.parameters.now number))
         (part_fits p source.now.parameters.now number) part result }
@@ -223,8 +251,8 @@ fn put_rest<T: TileContents, W: Write>(
     tiles: &T,
     writer: &mut W,
 ) -> Result<(), Fault>
-    requires some { (p : Picture) × AreTold T.tells source.now tiles.now p }
-    ensures { (p : Picture) → AreTold T.tells source.now tiles.now p
+    requires some { (p : Picture) × HasTiles T.tells source.now tiles.now p }
+    ensures { (p : Picture) → HasTiles T.tells source.now tiles.now p
         → part_fits p source.now.parameters.now 0 ≡ true
         → (text : List ℕ) × Appends (W.contents writer.old) (W.contents writer.new) text
         × IsRestSent p source.now.parameters.now text result }
@@ -240,22 +268,22 @@ pub(crate) fn put_file<T: TileContents, W: Write>(
     alloc: Global,
     source: &WrittenFrame<'_>,
     tiles: &T,
-    first: Vec<u8>,
+    first: TileData<'_>,
     writer: &mut W,
 ) -> Result<(), Fault>
-    requires some { (p : Picture) × AreTold T.tells source.now tiles.now p }
-    requires first { (p : Picture) → AreTold T.tells source.now tiles.now p
-        → first.items ≡ tile_text p source.now.parameters.now 0 }
-    ensures means { OnOk result ((p : Picture) → AreTold T.tells source.now tiles.now p
+    requires some { (p : Picture) × HasTiles T.tells source.now tiles.now p }
+    requires first { (p : Picture) → HasTiles T.tells source.now tiles.now p
+        → IsDataText first (tile_text p source.now.parameters.now 0) }
+    ensures means { OnOk result ((p : Picture) → HasTiles T.tells source.now tiles.now p
         → (file : List ℕ) → written p source.now.parameters.now ≡ Ok file
         → Means file 0 p × HasFronts p source.now.parameters.now file) }
-    ensures part { (p : Picture) → AreTold T.tells source.now tiles.now p
+    ensures part { (p : Picture) → HasTiles T.tells source.now tiles.now p
         → is_profile source.now.parameters.now p ≡ true
         → (text : List ℕ) × Appends (W.contents writer.old) (W.contents writer.new) text
         × Left p source.now.parameters.now text result }
 {
-    let start = first_part(alloc, source, tiles, first)?;
-    put_start(writer, start)?;
+    let before = before_data(alloc, source, tiles, &first)?;
+    put_start(alloc, writer, &before, first)?;
     put_rest(alloc, source, tiles, writer)?;
     send(writer, &EOC)
 }
@@ -267,11 +295,11 @@ pub(crate) fn put_contents<T: TileContents, W: Write>(
     tiles: &T,
     writer: &mut W,
 ) -> Result<(), Fault>
-    requires some { (p : Picture) × AreTold T.tells source.now tiles.now p }
-    ensures means { OnOk result ((p : Picture) → AreTold T.tells source.now tiles.now p
+    requires some { (p : Picture) × HasTiles T.tells source.now tiles.now p }
+    ensures means { OnOk result ((p : Picture) → HasTiles T.tells source.now tiles.now p
         → (file : List ℕ) → written p source.now.parameters.now ≡ Ok file
         → Means file 0 p × HasFronts p source.now.parameters.now file) }
-    ensures part { (p : Picture) → AreTold T.tells source.now tiles.now p
+    ensures part { (p : Picture) → HasTiles T.tells source.now tiles.now p
         → is_profile source.now.parameters.now p ≡ true
         → (text : List ℕ) × Appends (W.contents writer.old) (W.contents writer.new) text
         × Left p source.now.parameters.now text result }
@@ -301,6 +329,7 @@ fn put_image<W: Write>(
         exponents: &exponents,
     };
     let first = encode_tile(&Sequential, alloc, &source, 0, bands)?;
+    let first = TileData::Packets(first);
     put_file(alloc, &frame_written(&source), &source, first, writer)
 }
 

@@ -8,7 +8,7 @@ use Rattle.jk_math.specs.Picture.{Picture, IsPicture, IsPlane, IsFrame, lowest, 
 use Rattle.jk_params.specs.declared.picture_frame.PictureFrame.{PictureFrame}
 use Rattle.jk_params.specs.PictureFrames.{frame_of}
 use Rattle.jk_pnm.specs.Pnm.{components_of, plane_from, planes_from}
-use Rattle.jk_pnm.specs.RasterRows.{Drawing, drawn, plane_rows, rows_between}
+use Rattle.jk_pnm.specs.RasterRows.{Drawing, drawn, plane_rows, rows_moved}
 use Rattle.jk_code.specs.Made.{rows_of}
 use Rattle.jk_code.specs.Rows.{AreTaken, WereTaken}
 use Rattle.jk_code.specs.RowsWritten.{WereAllGiven}
@@ -204,7 +204,7 @@ AreBelow d rows = (c k : ℕ) → c < length (drawn d).planes → k < rows * d.h
 pub below_none : (d : Drawing) → AreBelow d 0
 below_none d c k lt less = absurd (let none : 0 * d.header.width ≡ 0 = omega arith in omega (arith, less, none))
 
-pub below_more : (d : Drawing) (y z : ℕ) → y < z → z ≤ d.header.height → AreBelow d y → IsPicture (rows_between (drawn d) y z) → AreBelow d z
+pub below_more : (d : Drawing) (y z : ℕ) → y < z → z ≤ d.header.height → AreBelow d y → IsPicture (rows_moved (drawn d) y z) → AreBelow d z
 below_more d y z more inside before is c k lt less = by (cases_lt k (y * d.header.width))
   where
     InRange : ℤ → Type 0

@@ -13,7 +13,7 @@ use Rattle.jk_params.specs.declared.parameters.Parameters.{Parameters}
 use Rattle.jk_params.specs.declared.picture_frame.PictureFrame.{PictureFrame}
 use Rattle.jk_params.specs.PictureFrames.{frame_of, IsPictureFrame}
 use Rattle.jk_pnm.specs.Reading.{pnm_at}
-use Rattle.jk_pnm.specs.RasterRows.{Drawing, drawn, judged}
+use Rattle.jk_pnm.specs.RasterRows.{Drawing, drawn, picture_told}
 use Rattle.jk_code.specs.Beginnings.{Left}
 use Rattle.jk_code.specs.Fronts.{HasFronts}
 use Rattle.jk_code.specs.Meaning.{Means}
@@ -50,7 +50,7 @@ memory_refused (Memory r) due h = tt
 memory_refused e due h = absurd h
 
 -- a fault that was met is one of the file
-met_refused : (s t : FileRows) (f : PictureFrame) (e : Fault) → IsFrame s.x0 s.y0 s.raster.header.width s.raster.header.height → HasMetBefore HasGiven HasRefused f s t e → Refuses e (judged s.raster)
+met_refused : (s t : FileRows) (f : PictureFrame) (e : Fault) → IsFrame s.x0 s.y0 s.raster.header.width s.raster.header.height → HasMetBefore HasGiven HasRefused f s t e → Refuses e (picture_told s.raster)
 met_refused s t f e frame m =
     let same = given_same m.picture s m.before f.y0 m.next m.given.rows in
     let own : HasRefused (record s { given = m.before.given }) e t = subst (λ (x : FileRows). HasRefused x e t) same m.fault in
@@ -66,7 +66,7 @@ rows_left a b s t f q r is none corner frame wrote = (
       h.0,
       h.1,
       elim h.2 [
-        | inl memory ↦ memory_refused h.0 (judged s.raster) memory
+        | inl memory ↦ memory_refused h.0 (picture_told s.raster) memory
         | inr met ↦ met_refused s t f h.0 frame met
       ],
       h.3,
@@ -90,18 +90,18 @@ at_corner x0 y0 w h is =
 
 -- ---- encoding a file
 
-unjudged : (bytes : List ℕ) (plan : Plan) (d : Drawing) (e : Fault) → pnm_at bytes ≡ judged d → Refuses e (judged d) → LeftOf bytes plan [] (Err e)
+unjudged : (bytes : List ℕ) (plan : Plan) (d : Drawing) (e : Fault) → pnm_at bytes ≡ picture_told d → Refuses e (picture_told d) → LeftOf bytes plan [] (Err e)
 unjudged bytes plan d e read h = unread bytes plan e (subst (λ (due : Result Picture Fault). Refuses e due) (sym read) h)
 
-pub left_unjudged : (a : Option (List ℕ)) (bytes : List ℕ) (plan : Plan) (d : Drawing) (e : Fault) → pnm_at bytes ≡ judged d → Refuses e (judged d) → Wrote a a (λ text. LeftOf bytes plan text (Err e))
+pub left_unjudged : (a : Option (List ℕ)) (bytes : List ℕ) (plan : Plan) (d : Drawing) (e : Fault) → pnm_at bytes ≡ picture_told d → Refuses e (picture_told d) → Wrote a a (λ text. LeftOf bytes plan text (Err e))
 left_unjudged a bytes plan d e read h = ([], appends_none a, unjudged bytes plan d e read h)
 
-refused_rows : (a b : Option (List ℕ)) (bytes : List ℕ) (plan : Plan) (d : Drawing) (text : List ℕ) (r : Result ⊤ Fault) (e : Fault) → pnm_at bytes ≡ judged d → Appends a b text → r ≡ Err e → Refuses e (judged d) → text ≡ []
+refused_rows : (a b : Option (List ℕ)) (bytes : List ℕ) (plan : Plan) (d : Drawing) (text : List ℕ) (r : Result ⊤ Fault) (e : Fault) → pnm_at bytes ≡ picture_told d → Appends a b text → r ≡ Err e → Refuses e (picture_told d) → text ≡ []
     → Wrote a b (λ text. LeftOf bytes plan text r)
 refused_rows a b bytes plan d text r e read appends is h none =
     (text, appends, subst (λ (x : Result ⊤ Fault). LeftOf bytes plan text x) (sym is) (subst (λ (xs : List ℕ). LeftOf bytes plan xs (Err e)) (sym none) (unjudged bytes plan d e read h)))
 
-pub left_of_rows : (a b : Option (List ℕ)) (bytes : List ℕ) (plan : Plan) (d : Drawing) (x0 y0 : ℕ) (x : Placed) (r : Result ⊤ Fault) → pnm_at bytes ≡ judged d → (IsPicture (drawn d) → judged d ≡ Ok (drawn d))
+pub left_of_rows : (a b : Option (List ℕ)) (bytes : List ℕ) (plan : Plan) (d : Drawing) (x0 y0 : ℕ) (x : Placed) (r : Result ⊤ Fault) → pnm_at bytes ≡ picture_told d → (IsPicture (drawn d) → picture_told d ≡ Ok (drawn d))
     → placing (drawn d) plan ≡ Ok x → x.image ≡ at_place (drawn d) x0 y0 → Wrote a b (λ text. IsLeftOfRows d x0 y0 x.parameters text r) → Wrote a b (λ text. LeftOf bytes plan text r)
 left_of_rows a b bytes plan d x0 y0 x r read fine placed image wrote = elim wrote.2 [
   | inl h ↦ refused_rows a b bytes plan d wrote.0 r h.0 read wrote.1 h.1 h.2 h.3

@@ -1,10 +1,10 @@
 //! Decoding to a PGM or PPM file row by row: the image is never whole in memory.
 
-ghost use Rattle.std.specs.Prelude.{◌≡◌, ◌≤◌, ◌*◌, ◌==◌, ◌⊎◌, ℕ, List, true, Ok, Err, IfOk, IfErr, OnOk};
+ghost use Rattle.std.specs.Prelude.{◌≡◌, ◌≤◌, ◌*◌, ◌==◌, ◌⊎◌, ℕ, List, [], true, Ok, Err, IfOk, IfErr, OnOk};
 ghost use Rattle.std.specs.Io.KnownBytes.{Appends};
 ghost use Rattle.jk_math.specs.Answer.{Answers, Refuses};
 ghost use Rattle.jk_math.specs.Picture.{Picture};
-ghost use Rattle.jk_math.specs.declared.fault.Fault.TheVariants.{Shelf};
+ghost use Rattle.jk_math.specs.declared.fault.Fault.TheVariants.{BadParameters, Shelf};
 ghost use Rattle.jk_pnm.specs.Pnm.{IsPnm};
 ghost use Rattle.jk_pnm.specs.Written.{is_written, maxval_of, header_text, raster_text, written as pnm_of};
 ghost use Rattle.jk_tile.specs.decoding.TileReading.{tested};
@@ -14,15 +14,15 @@ ghost use Rattle.jk_options.specs.Plans.{at_place};
 ghost use Rattle.jk_commands.specs.Commands.{decoded};
 ghost use Rattle.jk_commands.specs.Rasters.{IsRasterFrameOf};
 
+use crate::row_decoders::{Alone, Beside, ROWS, RowDecoder};
 use jk_code::{Rows, decode, decode_rows, frame};
 use jk_math::{Fault, Image};
 use jk_pnm::{RasterFrame, write_head_into, write_raster_into};
+use jk_tile::Workers;
 use std::alloc::Global;
 use std::io::Write;
-
-/// How many rows are decoded at a time. A row of code-blocks of each sub-band is held anyway, which
-/// `jk encode` makes 64 rows high: a stripe of as many rows takes less memory than these do.
-const ROWS: u32 = 64;
+use std::marker::Sync;
+use std::thread::Threads;
 
 /// What drops all rows: a file is judged by it.
 #[derive(Drop)]
@@ -109,12 +109,14 @@ fn write_head<W: Write>(
 }
 
 /// Writes the raster of the image of a file, stripe by stripe.
-fn write_rows<W: Write>(
+fn write_rows<D: RowDecoder, W: Write>(
+    decoder: &D,
     alloc: Global,
     bytes: &[u8],
     reduce: u32,
     writer: &mut W,
 ) -> Result<(), Fault>
+    requires ready { D.ready decoder.now }
     ensures raster { OnOk result ((p : Picture) × (meaning_at bytes.now reduce ≡ Ok p) × Means bytes.now reduce p
         × (is_written p ≡ true → Appends (W.contents writer.old) (W.contents writer.new)
         (raster_text (maxval_of p.depth) p.planes (p.width * p.height)))) }
@@ -122,16 +124,18 @@ fn write_rows<W: Write>(
         ⊎ ((e ≡ Shelf) × (p : Picture) × (meaning_at bytes.now reduce ≡ Ok p))) }
 {
     let mut rows = RowWriter { writer };
-    decode_rows(alloc, bytes, reduce, ROWS, &mut rows)
+    decoder.decode(alloc, bytes, reduce, &mut rows)
 }
 
 /// Writes the PGM or PPM file of the image of a file, its head and then its raster.
-fn write_file<W: Write>(
+fn write_file<D: RowDecoder, W: Write>(
+    decoder: &D,
     alloc: Global,
     bytes: &[u8],
     reduce: u32,
     writer: &mut W,
 ) -> Result<(), Fault>
+    requires ready { D.ready decoder.now }
     ensures exact { Answers (λ _. tt) result (tested (decoded bytes.now reduce))
         ⊎ ((result ≡ Err Shelf) × (file : List ℕ) × (decoded bytes.now reduce ≡ Ok file)) }
     ensures written { OnOk result ((file : List ℕ) × (decoded bytes.now reduce ≡ Ok file)
@@ -144,7 +148,7 @@ fn write_file<W: Write>(
         return Err(Fault::Unsupported);
     }
     write_head(alloc, bytes, reduce, &frame, writer)?;
-    write_rows(alloc, bytes, reduce, writer)
+    write_rows(decoder, alloc, bytes, reduce, writer)
 }
 
 /// Writes what `jk decode` makes of a file, row by row, with the memory of some rows: the bytes that
@@ -174,5 +178,41 @@ pub fn decode_rows_into<W: Write>(
         × Appends (W.contents writer.old) (W.contents writer.new) file)
         × IfErr result (λ e. Refuses e (pnm_of p) ⊎ ((e ≡ Shelf) × (file : List ℕ) × (pnm_of p ≡ Ok file))) }
 {
-    write_file(alloc, bytes, reduce, writer)
+    write_file(&Alone, alloc, bytes, reduce, writer)
+}
+
+/// What [`decode_rows_into`] writes and tells, decoded by so many workers: they decode the code-blocks
+/// of the next rows while those before are made and written.
+///
+/// BadParameters, before all else: less than one worker or more than 64; nothing is written.
+pub fn decode_rows_into_with<R: Threads + Sync, W: Write>(
+    rt: &R,
+    alloc: Global,
+    workers: usize,
+    bytes: &[u8],
+    reduce: u32,
+    writer: &mut W,
+) -> Result<(), Fault>
+    ensures range { (1 ≤ workers → workers ≤ 64 → ⊥) → (result ≡ Err BadParameters)
+        × Appends (W.contents writer.old) (W.contents writer.new) [] }
+    // Which fault is the first, or none; or a write failed, of a file that is due.
+    ensures exact { 1 ≤ workers → workers ≤ 64 → Answers (λ _. tt) result (tested (decoded bytes.now reduce))
+        ⊎ ((result ≡ Err Shelf) × (file : List ℕ) × (decoded bytes.now reduce ≡ Ok file)) }
+    // What was written where there is no fault.
+    ensures written { OnOk result ((file : List ℕ) × (decoded bytes.now reduce ≡ Ok file)
+        × Appends (W.contents writer.old) (W.contents writer.new) file) }
+    // It is a file of the picture that the bytes mean.
+    ensures found { OnOk result ((p : Picture) × Means bytes.now reduce p
+        × ((file : List ℕ) → decoded bytes.now reduce ≡ Ok file → IsPnm file (at_place p 0 0))) }
+    // Of a file that means a picture, the picture's file is written, or it has none.
+    ensures only { 1 ≤ workers → workers ≤ 64 → (p : Picture) → Means bytes.now reduce p
+        → OnOk result ((file : List ℕ) × (pnm_of p ≡ Ok file)
+        × Appends (W.contents writer.old) (W.contents writer.new) file)
+        × IfErr result (λ e. Refuses e (pnm_of p) ⊎ ((e ≡ Shelf) × (file : List ℕ) × (pnm_of p ≡ Ok file))) }
+{
+    if workers < 1 || 64 < workers {
+        return Err(Fault::BadParameters);
+    }
+    let workers = Workers { rt, count: workers };
+    write_file(&Beside { workers: &workers }, alloc, bytes, reduce, writer)
 }

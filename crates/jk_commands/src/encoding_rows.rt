@@ -6,7 +6,7 @@ ghost use Rattle.jk_math.specs.Answer.{Refuses};
 ghost use Rattle.jk_math.specs.Picture.{Picture, IsPicture};
 ghost use Rattle.jk_params.specs.PictureFrames.{frame_of, IsPictureFrame};
 ghost use Rattle.jk_pnm.specs.Pnm.{IsPnm};
-ghost use Rattle.jk_pnm.specs.RasterRows.{drawn, judged};
+ghost use Rattle.jk_pnm.specs.RasterRows.{drawn, picture_told};
 ghost use Rattle.jk_code.specs.Meaning.{Means};
 ghost use Rattle.jk_code.specs.Written.{written};
 ghost use Rattle.jk_options.specs.Plans.{at_place};
@@ -62,7 +62,7 @@ impl<'a> RowSupply for FileRows<'a> {
 fn frame_of_file(raster: &RasterRows<'_>) -> PictureFrame
     ensures value { result ≡ frame_of (drawn raster.now) }
     ensures frame { IsPictureFrame result }
-    ensures judged { IsPicture (drawn raster.now) → judged raster.now ≡ Ok (drawn raster.now) }
+    ensures picture_told { IsPicture (drawn raster.now) → picture_told raster.now ≡ Ok (drawn raster.now) }
 {
     let frame = raster.frame();
     PictureFrame {
@@ -88,7 +88,7 @@ fn stripe_end(y: u32, height: u32) -> u32
 /// Looks at all samples and keeps none.
 fn judge(alloc: Global, raster: &RasterRows<'_>) -> Result<(), Fault>
     ensures ok { OnOk result (IsPicture (drawn raster.now)) }
-    ensures err { IfErr result (λ e. Refuses e (judged raster.now)) }
+    ensures err { IfErr result (λ e. Refuses e (picture_told raster.now)) }
 {
     let height = raster.frame().height;
     let mut y = 0;

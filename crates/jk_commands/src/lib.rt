@@ -13,6 +13,7 @@ mod encoding;
 mod encoding_rows;
 mod layers;
 mod markers;
+mod row_decoders;
 mod sums;
 mod telling;
 mod telling_all;
@@ -23,7 +24,7 @@ mod viewing;
 pub use comparing::{Change, Difference, differences, differences_text};
 pub use cutting::cut_file;
 pub use decoding::{check_workers, decode_file, decode_file_into};
-pub use decoding_rows::decode_rows_into;
+pub use decoding_rows::{decode_rows_into, decode_rows_into_with};
 pub use decoding_with::decode_file_into_with;
 pub use dressing::{
     components_of, dress_file, encode_file_dressed, encode_file_dressed_with, encode_image_dressed,

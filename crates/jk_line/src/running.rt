@@ -8,8 +8,9 @@ use crate::world::{Streams, World};
 use crate::{adding, adding_all, archive, checking, keeping};
 use jk_commands::{
     EncodeOptions, Plan, cut_file, decode_file_into, decode_file_into_with, decode_rows_into,
-    decode_window_file_into, encode_file_dressed, encode_file_dressed_with, encode_file_into,
-    encode_file_with, encode_rows_into, first_layers, info_all_file, info_file, judge, suits_rows,
+    decode_rows_into_with, decode_window_file_into, encode_file_dressed, encode_file_dressed_with,
+    encode_file_into, encode_file_with, encode_rows_into, first_layers, info_all_file, info_file,
+    judge, suits_rows,
 };
 use jk_jobs::Open;
 use jk_math::Fault;
@@ -134,7 +135,9 @@ fn encode<W: World>(alloc: Global, world: &mut W, line: &Encoding<'_>) -> Result
 enum Way {
     /// By several workers, and then written.
     Workers(usize),
-    /// Row by row: rows are written before a fault behind them may be met.
+    /// Row by row by several workers: rows are written before a fault behind them may be met.
+    RowsBy(usize),
+    /// Row by row by this thread alone, written as soon.
     Rows,
     /// At once, and then written.
     AtOnce,
@@ -142,13 +145,12 @@ enum Way {
 
 /// How so many workers decode the whole image of a file at a reduction.
 fn way_of(workers: usize, bytes: &[u8], reduce: u32) -> Way {
-    if workers > 1 {
-        return Way::Workers(workers);
+    match (workers > 1, suits_rows(bytes, reduce)) {
+        (true, true) => Way::RowsBy(workers),
+        (true, false) => Way::Workers(workers),
+        (false, true) => Way::Rows,
+        (false, false) => Way::AtOnce,
     }
-    if suits_rows(bytes, reduce) {
-        return Way::Rows;
-    }
-    Way::AtOnce
 }
 
 /// Writes the image of a file.
@@ -170,6 +172,9 @@ fn decode_image<W: World>(
             reduce,
             output,
         ),
+        Way::RowsBy(workers) => {
+            decode_rows_into_with(world.runtime(), alloc, workers, &bytes, reduce, output)
+        }
         Way::Rows => decode_rows_into(alloc, &bytes, reduce, output),
         Way::AtOnce => decode_file_into(alloc, bytes, reduce, output),
     }
@@ -199,7 +204,7 @@ fn decode<W: World>(alloc: Global, world: &mut W, line: &Decoding<'_>) -> Result
     };
     let name = line.output;
     let way = way_of(workers, &bytes, line.reduce);
-    let is_held = line.window.is_none() && matches!(way, Way::Rows);
+    let is_held = line.window.is_none() && matches!(way, Way::Rows | Way::RowsBy(_));
     let mut output = create(alloc, world, name, is_held)?;
     world.begin_work(Work::Decoding, bytes.len() as u64);
     let decoded = match line.window {

@@ -13,7 +13,7 @@ use Rattle.jk_math.specs.declared.fault.Fault.TheVariants.{BadPnm, Memory}
 use Rattle.jk_pnm.specs.declared.header.Header.{Header}
 use Rattle.jk_pnm.specs.Pnm.{components_of, sample_size, sample_from, plane_from, planes_from}
 use Rattle.jk_pnm.specs.Reading.{raster_size, samples_of, picture_of, are_below, picture_at}
-use Rattle.jk_pnm.specs.RasterRows.{Drawing, drawn, judged, plane_rows, rows_between, stripe_at}
+use Rattle.jk_pnm.specs.RasterRows.{Drawing, drawn, picture_told, plane_rows, rows_moved, rows_told}
 
 -- ---- samples
 
@@ -140,13 +140,13 @@ rows_mapped {X} {Y} f w y z (plane ∷ planes) =
 abbrev with_planes : Header → ℕ → List (List ℤ) → Picture
 with_planes h rows planes = record { x0 = 0; y0 = 0; width = h.width; height = rows; depth = h.depth; signed = false; planes = planes }
 
-part_drawn : (d : Drawing) (y z : ℕ) → y ≤ z → z ≤ d.header.height → picture_of (with_rows d.header (z - y)) (part_rows d.header y z d.raster) ≡ rows_between (drawn d) y z
+part_drawn : (d : Drawing) (y z : ℕ) → y ≤ z → z ≤ d.header.height → picture_of (with_rows d.header (z - y)) (part_rows d.header y z d.raster) ≡ rows_moved (drawn d) y z
 part_drawn d y z order inside =
     ap (λ (samples : List (List ℕ)). with_planes d.header (z - y) (map (map pos) samples)) (planes_part d.header y z d.raster order inside)
     ∙ ap (λ (planes : List (List ℤ)). with_planes d.header (z - y) planes) (rows_mapped pos d.header.width y z (samples_of d.header d.raster))
 
-pub part_read : (d : Drawing) (y z : ℕ) → y ≤ z → z ≤ d.header.height → picture_at (with_rows d.header (z - y)) (part_rows d.header y z d.raster) ≡ stripe_at d y z
-unfolding picture_at stripe_at
+pub part_read : (d : Drawing) (y z : ℕ) → y ≤ z → z ≤ d.header.height → picture_at (with_rows d.header (z - y)) (part_rows d.header y z d.raster) ≡ rows_told d y z
+unfolding picture_at rows_told
 part_read d y z order inside =
     let h = with_rows d.header (z - y) in
     ap (λ (samples : List (List ℕ)). let r : Result Picture Fault = cond (are_below h.maxval samples) (Ok (picture_of h (part_rows d.header y z d.raster))) (Err BadPnm) in r) (planes_part d.header y z d.raster order inside)
@@ -176,15 +176,15 @@ rows_below m w y z (plane ∷ planes) h =
     (all_taken test ((z - y) * w) (drop (y * w) plane) (all_dropped test (y * w) plane both.0)) (rows_below m w y z planes both.1)
 
 -- what is refused of some rows is refused of all
-stripe_refused : (d : Drawing) (y z : ℕ) (e : Fault) → stripe_at d y z ≡ Err e → judged d ≡ Err e
-unfolding stripe_at picture_at
+stripe_refused : (d : Drawing) (y z : ℕ) (e : Fault) → rows_told d y z ≡ Err e → picture_told d ≡ Err e
+unfolding rows_told picture_at
 stripe_refused d y z e is = by (cases_Bool (are_below d.header.maxval (samples_of d.header d.raster)))
   where
     stripe : List (List ℕ)
     stripe = map (plane_rows d.header.width y z) (samples_of d.header d.raster)
 
     told : Bool → Result Picture Fault
-    told b = cond b (Ok (rows_between (drawn d) y z)) (Err BadPnm)
+    told b = cond b (Ok (rows_moved (drawn d) y z)) (Err BadPnm)
 
     whole : Bool → Result Picture Fault
     whole b = cond b (Ok (drawn d)) (Err BadPnm)
@@ -193,27 +193,27 @@ stripe_refused d y z e is = by (cases_Bool (are_below d.header.maxval (samples_o
     bad true h k = absurd cc
     bad false h k = cc
 
-    by : (are_below d.header.maxval (samples_of d.header d.raster) ≡ true) ⊎ (are_below d.header.maxval (samples_of d.header d.raster) ≡ false) → judged d ≡ Err e
+    by : (are_below d.header.maxval (samples_of d.header d.raster) ≡ true) ⊎ (are_below d.header.maxval (samples_of d.header d.raster) ≡ false) → picture_told d ≡ Err e
     by (inl below) = absurd (let none : told true ≡ Err e = sym (ap told (rows_below d.header.maxval d.header.width y z (samples_of d.header d.raster) below)) ∙ is in cc)
     by (inr above) = ap whole above ∙ ap (λ (f : Fault). let r : Result Picture Fault = Err f in r) (sym (bad (are_below d.header.maxval stripe) is refl))
 
-pub rows_refused : {X : Type 0} (view : X → Picture) (r : Result X Fault) (d : Drawing) (y z : ℕ) → Answers view r (stripe_at d y z) → IfErr r (λ e. Refuses e (judged d))
+pub rows_refused : {X : Type 0} (view : X → Picture) (r : Result X Fault) (d : Drawing) (y z : ℕ) → Answers view r (rows_told d y z) → IfErr r (λ e. Refuses e (picture_told d))
 rows_refused view (Ok x) d y z a = tt
 rows_refused view (Err (Memory m)) d y z a = tt
 rows_refused view (Err e) d y z a = stripe_refused d y z e a
 
-stripe_is : (d : Drawing) (y z : ℕ) (p : Picture) → stripe_at d y z ≡ Ok p → p ≡ rows_between (drawn d) y z
-unfolding stripe_at
+stripe_is : (d : Drawing) (y z : ℕ) (p : Picture) → rows_told d y z ≡ Ok p → p ≡ rows_moved (drawn d) y z
+unfolding rows_told
 stripe_is d y z p is = by (are_below d.header.maxval (map (plane_rows d.header.width y z) (samples_of d.header d.raster))) is
   where
     told : Bool → Result Picture Fault
-    told b = cond b (Ok (rows_between (drawn d) y z)) (Err BadPnm)
+    told b = cond b (Ok (rows_moved (drawn d) y z)) (Err BadPnm)
 
-    by : (b : Bool) → told b ≡ Ok p → p ≡ rows_between (drawn d) y z
+    by : (b : Bool) → told b ≡ Ok p → p ≡ rows_moved (drawn d) y z
     by true h = cc
     by false h = absurd cc
 
-pub rows_are : {X : Type 0} (view : X → Picture) (r : Result X Fault) (d : Drawing) (y z : ℕ) → Answers view r (stripe_at d y z) → IfOk r (λ x. view x ≡ rows_between (drawn d) y z)
+pub rows_are : {X : Type 0} (view : X → Picture) (r : Result X Fault) (d : Drawing) (y z : ℕ) → Answers view r (rows_told d y z) → IfOk r (λ x. view x ≡ rows_moved (drawn d) y z)
 rows_are view (Ok x) d y z a = stripe_is d y z (view x) a
 rows_are view (Err e) d y z a = tt
 
@@ -257,7 +257,7 @@ rows_whole d row y z is order inside whole =
     ∙ ends.2 ∙ sym (size_by_rows (with_rows d.header (z - y)) row is)
 
 pub rows_read : (d : Drawing) (row y z : ℕ) → row ≡ d.header.width * components_of d.header.colour * sample_size d.header.maxval → y ≤ z → z ≤ d.header.height
-    → picture_at (with_rows d.header (z - y)) (bytes_of_rows row y z d.raster) ≡ stripe_at d y z
+    → picture_at (with_rows d.header (z - y)) (bytes_of_rows row y z d.raster) ≡ rows_told d y z
 rows_read d row y z is order inside =
     let h = d.header in
     let spread : (rows : ℕ) → rows * row ≡ rows * h.width * components_of h.colour * sample_size h.maxval = λ rows.

@@ -47,19 +47,19 @@ abbrev pub drawn : Drawing → Picture
 drawn d = picture_of d.header d.raster
 
 -- the same; BadPnm where a sample is above maxval
-abbrev pub judged : Drawing → Result Picture Fault
-judged d = picture_at d.header d.raster
+abbrev pub picture_told : Drawing → Result Picture Fault
+picture_told d = picture_at d.header d.raster
 
 -- of a plane with so many columns the rows y up to z
 abbrev pub plane_rows : {X : Type 0} → (width y z : ℕ) → List X → List X
 plane_rows width y z plane = take ((z - y) * width) (drop (y * width) plane)
 
 -- rows y up to z of a picture, counted from its first one, as a picture of their own at (0, 0)
-abbrev pub rows_between : Picture → (y z : ℕ) → Picture
-rows_between p y z = record p { x0 = 0; y0 = 0; height = z - y; planes = map (plane_rows p.width y z) p.planes }
+abbrev pub rows_moved : Picture → (y z : ℕ) → Picture
+rows_moved p y z = record p { x0 = 0; y0 = 0; height = z - y; planes = map (plane_rows p.width y z) p.planes }
 
 -- rows y up to z of what is drawn; BadPnm where one of their samples is above maxval
-unfoldable pub stripe_at : Drawing → (y z : ℕ) → Result Picture Fault
-stripe_at d y z =
+unfoldable pub rows_told : Drawing → (y z : ℕ) → Result Picture Fault
+rows_told d y z =
     if are_below d.header.maxval (map (plane_rows d.header.width y z) (samples_of d.header d.raster))
-    then Ok (rows_between (drawn d) y z) else Err BadPnm
+    then Ok (rows_moved (drawn d) y z) else Err BadPnm

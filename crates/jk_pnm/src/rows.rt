@@ -5,7 +5,7 @@ ghost use Rattle.jk_math.specs.Answer.{Answers, AnswersExactly, Refuses};
 ghost use Rattle.jk_math.specs.Picture.{Picture, IsPicture, IsFrame};
 ghost use Rattle.jk_pnm.specs.Pnm.{IsPnm};
 ghost use Rattle.jk_pnm.specs.Reading.{pnm_at};
-ghost use Rattle.jk_pnm.specs.RasterRows.{IsDrawing, drawing_at, drawn, judged, frame_drawn, rows_between, stripe_at};
+ghost use Rattle.jk_pnm.specs.RasterRows.{IsDrawing, drawing_at, drawn, picture_told, frame_drawn, rows_moved, rows_told};
 
 use crate::header::{Header, read_header};
 use crate::rasters::RasterFrame;
@@ -64,7 +64,7 @@ pub fn raster_rows(bytes: &[u8]) -> Result<RasterRows<'_>, Fault>
     // and what is drawn is the picture of a file that has one.
     ensures only { (p : Picture) → IsPnm bytes.now p → AnswersExactly drawn result (Ok p) }
     // As `read` names the first fault.
-    ensures read { IfOk result (λ r. pnm_at bytes.now ≡ judged r) }
+    ensures read { IfOk result (λ r. pnm_at bytes.now ≡ picture_told r) }
     ensures refused { IfErr result (λ e. pnm_at bytes.now ≡ Err e) }
 {
     drawing(bytes)
@@ -77,7 +77,7 @@ impl<'a> RasterRows<'a> {
         ensures size { IsFrame 0 0 result.width result.height }
         ensures bits { (1 ≤ result.depth) × (result.depth ≤ 16) }
         // What is drawn is a picture where no sample is above maxval.
-        ensures judged { IsPicture (drawn self.now) → judged self.now ≡ Ok (drawn self.now) }
+        ensures picture_told { IsPicture (drawn self.now) → picture_told self.now ≡ Ok (drawn self.now) }
     {
         let header = &self.header;
         RasterFrame {
@@ -96,11 +96,11 @@ impl<'a> RasterRows<'a> {
     pub fn rows(&self, alloc: Global, y: u32, z: u32) -> Result<Image, Fault>
         requires order { y < z }
         requires inside { z ≤ self.now.header.height }
-        ensures exact { Answers (λ i. i) result (stripe_at self.now y z) }
+        ensures exact { Answers (λ i. i) result (rows_told self.now y z) }
         // They are the rows of what is drawn.
-        ensures rows { IfOk result (λ i. i ≡ rows_between (drawn self.now) y z) }
+        ensures rows { IfOk result (λ i. i ≡ rows_moved (drawn self.now) y z) }
         // Where they are refused, what is drawn has a sample above maxval.
-        ensures refused { IfErr result (λ e. Refuses e (judged self.now)) }
+        ensures refused { IfErr result (λ e. Refuses e (picture_told self.now)) }
     {
         let part = Header {
             height: z - y,

@@ -1,19 +1,22 @@
 //! A component of a tile, level upon level.
 
-ghost use Rattle.std.specs.Prelude.{◌≡◌, ℕ, ◌+◌, ◌-◌, ◌*◌, ◌^◌, ◌<◌, ◌≤◌, ◌⊎◌, All, IfOk, IfErr, OnOk};
+ghost use Rattle.std.specs.Prelude.{◌≡◌, ℕ, ◌+◌, ◌-◌, ◌*◌, ◌^◌, ◌<◌, ◌≤◌, ◌⊎◌, All, length, IfOk, IfErr, OnOk};
 ghost use Rattle.jk_math.specs.Memory.{IsMemory};
 ghost use Rattle.jk_math.specs.Raster.{raster};
 ghost use Rattle.jk_math.specs.Signed.{IsBelow};
 ghost use Rattle.jk_wave.specs.climbing.Held.{rows_between};
 ghost use Rattle.jk_wave.specs.Resolutions.{resolution_of};
+ghost use Rattle.jk_tile.specs.decoding.Decoded.{AreSegments};
 ghost use Rattle.jk_tile.specs.decoding.Source.{IsSource, source_coefficient};
 ghost use Rattle.jk_tile.specs.decoding.Strips.{HasFault};
 ghost use Rattle.jk_rows.specs.Components.{area_at, step_rows, IsComponentRows, IsStepEnd};
 
+use crate::ahead::add_step_blocks;
 use crate::level::{LevelStep, RowLevel};
 use crate::lowest::LowestRows;
+use crate::taking::Rows;
 use jk_math::Fault;
-use jk_tile::CodedComponent;
+use jk_tile::{BlockSegment, CodedComponent};
 use std::alloc::Global;
 use std::mem;
 
@@ -74,5 +77,29 @@ impl ComponentRows {
             mem::swap(&mut fresh, &mut next);
         }
         Ok(fresh)
+    }
+
+    /// Appends the code-blocks that a step reads, which makes some rows of the highest resolution.
+    pub(crate) fn add_blocks(
+        &self,
+        alloc: Global,
+        source: &CodedComponent<'_>,
+        rows: Rows,
+        segments: &mut Vec<BlockSegment>,
+    ) -> Result<(), Fault>
+        requires source { IsSource source.now }
+        requires at { (d : ℕ) × IsComponentRows source.now d self.now }
+        requires from { rows.from < 2 ^ 31 }
+        requires to { rows.to < 2 ^ 31 }
+        ensures segments { AreSegments (length source.now.bytes) segments.old.items
+            → OnOk result (AreSegments (length source.now.bytes) segments.new.items) }
+        ensures memory { IfErr result IsMemory }
+    {
+        add_step_blocks(alloc, source, &self.lowest.chains, 0, rows, segments)?;
+        for q in 0..source.region().top {
+            let chains = &self.levels[q as usize].chains;
+            add_step_blocks(alloc, source, chains, q + 1, rows, segments)?;
+        }
+        Ok(())
     }
 }

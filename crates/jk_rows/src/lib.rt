@@ -2,6 +2,7 @@
 //! levels of the wavelet climb as their rows come (T.800 Annexes D to G).
 #![tactic(auto)]
 
+mod ahead;
 mod component;
 mod level;
 mod lowest;

@@ -10,9 +10,9 @@ mod samples;
 mod workers;
 
 pub use decoding::{
-    BlockRow, CodedComponent, CodedTile, DecodedBlocks, PacketChains, block_exponent,
-    decode_blocks_with, decode_part, decode_part_of, decode_tile, judge_tile, packets_by_precinct,
-    put, read_strip, strip_area, uncolour,
+    BlockRow, BlockSegment, CodedComponent, CodedTile, DecodedBlocks, PacketChains, add_row_blocks,
+    block_exponent, decode_blocks_with, decode_part, decode_part_of, decode_segments, decode_tile,
+    judge_tile, packets_by_precinct, put, read_strip, strip_area, uncolour,
 };
 pub use encoding::{
     BlockJob, Executor, FallenComponent, FallenTile, FallingComponent, FallingTile, Parallel,

@@ -61,7 +61,7 @@ fn check_rows<R: Abort + Threads + Sync>(
 /// How the rows are decoded, and how many of two outputs are held.
 static WAYS: [(&str, usize); 3] = [
     ("", 2),
-    ("--workers 2", 0),
+    ("--workers 2", 2),
     ("--x 0 --y 0 --w 1 --h 256", 0),
 ];
 
@@ -78,21 +78,21 @@ fn whole_or_not_at_all(rt: HostRuntime) {
     }
 }
 
+/// Standard output, by one worker and by three.
+static LINES: [&str; 2] = ["decode - -", "decode - - --workers 3"];
+
+/// What is told where the rows go to a full standard output.
+fn check_full<R: Abort + Threads + Sync>(rt: &R, alloc: Global, end: &str, error: &str) {
+    for line in LINES {
+        let mut world = world(rt, alloc, end);
+        world.is_full = true;
+        check_run(rt, alloc, &mut world, line, Status::Refused, &[], error);
+    }
+}
+
 /// Where standard output is full, that is told of a sound file alone.
 #[test]
 fn faults_of_the_file_go_first(rt: HostRuntime) {
-    let alloc = rt.alloc();
-    for (end, error) in [(SOUND, "jk: F20 Shelf\n"), (DAMAGED, "jk: F5 BadValue\n")] {
-        let mut world = world(&rt, alloc, end);
-        world.is_full = true;
-        check_run(
-            &rt,
-            alloc,
-            &mut world,
-            "decode - -",
-            Status::Refused,
-            &[],
-            error,
-        );
-    }
+    check_full(&rt, rt.alloc(), SOUND, "jk: F20 Shelf\n");
+    check_full(&rt, rt.alloc(), DAMAGED, "jk: F5 BadValue\n");
 }

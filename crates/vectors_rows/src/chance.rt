@@ -41,7 +41,7 @@ pub(crate) struct Kind {
 }
 
 /// Samples of so many bits by chance.
-fn plane(
+pub(crate) fn plane(
     alloc: Global,
     chance: &mut Chance,
     count: u32,

@@ -2,12 +2,13 @@
 
 use crate::chance::{Chance, Kind, image, parameters};
 use jk_code::encode;
-use jk_commands::{decode_file, decode_rows_into};
+use jk_commands::{decode_file, decode_rows_into, decode_rows_into_with};
 use jk_math::Fault;
 use std::alloc::Global;
 use std::io::{self, ErrorKind, Write};
 use std::process::Abort;
 use std::test::Fail;
+use std::thread::Threads;
 use vectors::{equal, equal_at};
 
 /// Takes what it is given in so many calls, and then refuses.
@@ -41,10 +42,20 @@ fn due(alloc: Global, file: &[u8], reduce: u32) -> Result<Vec<u8>, Fault> {
     decode_file(alloc, bytes, reduce)
 }
 
-/// Row by row the same is written, or there is the same fault.
-fn beside_whole(rt: &impl Abort, alloc: Global, file: &[u8], reduce: u32) {
+/// Row by row the same is written, or there is the same fault, by this thread alone, or by so many
+/// workers.
+fn beside_whole<R: Abort + Threads + Sync>(
+    rt: &R,
+    alloc: Global,
+    workers: Option<usize>,
+    file: &[u8],
+    reduce: u32,
+) {
     let mut written = Vec::new(alloc);
-    let told = decode_rows_into(alloc, file, reduce, &mut written);
+    let told = match workers {
+        Some(workers) => { decode_rows_into_with(rt, alloc, workers, file, reduce, &mut written) }
+        None => decode_rows_into(alloc, file, reduce, &mut written),
+    };
     match due(alloc, file, reduce) {
         Ok(due) => {
             equal(told, Ok(())).expect(rt, "what is due");
@@ -72,7 +83,12 @@ fn refused(rt: &impl Abort, alloc: Global, file: &[u8], reduce: u32, calls: u32)
 }
 
 /// An image by chance, its file, whole and damaged.
-fn one_case(rt: &impl Abort, alloc: Global, chance: &mut Chance, kind: Kind) -> Result<(), Fail> {
+fn one_case<R: Abort + Threads + Sync>(
+    rt: &R,
+    alloc: Global,
+    chance: &mut Chance,
+    kind: Kind,
+) -> Result<(), Fail> {
     let image = image(alloc, chance, kind)?;
     let given = parameters(alloc, chance, image.planes().len())?;
     let Ok(file) = encode(alloc, &image, &given) else {
@@ -83,7 +99,8 @@ fn one_case(rt: &impl Abort, alloc: Global, chance: &mut Chance, kind: Kind) -> 
     } else {
         chance.below(given.levels as u32 + 2)
     };
-    beside_whole(rt, alloc, &file, reduce);
+    beside_whole(rt, alloc, None, &file, reduce);
+    beside_whole(rt, alloc, Some(2), &file, reduce);
     refused(rt, alloc, &file, reduce, 0);
     refused(rt, alloc, &file, reduce, 1);
     let mut damaged = file;
@@ -91,14 +108,20 @@ fn one_case(rt: &impl Abort, alloc: Global, chance: &mut Chance, kind: Kind) -> 
     if let Some(byte) = damaged.get_mut(at) {
         *byte ^= 0x5A;
     }
-    beside_whole(rt, alloc, &damaged, reduce);
+    beside_whole(rt, alloc, None, &damaged, reduce);
+    beside_whole(rt, alloc, Some(3), &damaged, reduce);
     refused(rt, alloc, &damaged, reduce, 0);
     refused(rt, alloc, &damaged, reduce, 1);
     Ok(())
 }
 
 /// Some images of this kind.
-fn cases(rt: &impl Abort, alloc: Global, state: u32, kind: Kind) -> Result<(), Fail> {
+fn cases<R: Abort + Threads + Sync>(
+    rt: &R,
+    alloc: Global,
+    state: u32,
+    kind: Kind,
+) -> Result<(), Fail> {
     let mut chance = Chance { state };
     for _ in 0..8 {
         one_case(rt, alloc, &mut chance, kind)?;
@@ -137,4 +160,15 @@ fn files_of_signed_samples(rt: HostRuntime) -> Result<(), Fail> {
         signed: true,
     };
     cases(&rt, rt.alloc(), 66, kind)
+}
+
+/// No worker, and one more than 64, before anything of the file is looked at.
+#[test]
+fn workers_out_of_range(rt: HostRuntime) {
+    for workers in [0, 65] {
+        let mut written = Vec::new(rt.alloc());
+        let told = decode_rows_into_with(&rt, rt.alloc(), workers, &[], 0, &mut written);
+        equal_at(workers, told, Err(Fault::BadParameters)).expect(&rt, "the range");
+        equal(written.is_empty(), true).expect(&rt, "the range");
+    }
 }

@@ -2,6 +2,8 @@
 #![tactic(auto)]
 
 #[cfg(test)]
+mod by_workers;
+#[cfg(test)]
 mod chance;
 #[cfg(test)]
 mod drawings;

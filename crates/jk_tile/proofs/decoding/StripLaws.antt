@@ -352,3 +352,7 @@ strip_none s w strip none long = raster_is (strip_area s w) strip (source_coeffi
     let hl = h.left in let hr = h.right in let hu = h.upper in let hd = h.lower in
     let some = sides_some (strip_area s w) (omega (arith, hl, hr)) (omega (arith, hu, hd)) in
     absurd (let f : true ≡ false = sym none ∙ some in cc))
+
+-- as many precincts lie side by side
+pub across_is : (s : Source) (r across : ℕ) (rect : Rect) (coding : Coding) → rect ≡ s.region.rect → coding ≡ s.coding → across ≡ precincts_across rect coding r → across ≡ precincts_across s.region.rect s.coding r
+across_is s r across rect coding er ec e = e ∙ ap (λ (x : Rect). precincts_across x coding r) er ∙ ap (λ (k : Coding). precincts_across s.region.rect k r) ec

@@ -18,7 +18,7 @@ use std::thread::Threads;
 /// A code-block that is to be decoded: its shape, the bit-planes of its sub-band, and its bodies in
 /// the codestream.
 #[derive(Drop)]
-pub(crate) struct BlockSegment {
+pub struct BlockSegment {
     pub(crate) shape: BlockShape,
     pub(crate) planes: u32,
     pub(crate) bodies: Vec<BodyPlace>,
@@ -155,8 +155,10 @@ fn by_start(alloc: Global, blocks: Vec<DecodedBlock>) -> Result<DecodedBlocks, F
     Ok(DecodedBlocks { blocks, by_start })
 }
 
-/// Decodes code-blocks, side by side by workers.
-pub(crate) fn decode_segments<R: Threads + Sync, G: Gate + Sync>(
+/// Decodes code-blocks of a codestream, side by side by workers. The fault of one of them is answered.
+///
+/// `gate` is told of each code-block, when it begins and when it has ended.
+pub fn decode_segments<R: Threads + Sync, G: Gate + Sync>(
     workers: &Workers<'_, R>,
     alloc: Global,
     gate: &G,

@@ -1,6 +1,6 @@
 //! The code-blocks of all tiles of an image, decoded side by side by workers.
 
-ghost use Rattle.std.specs.Prelude.{◌≡◌, ℕ, ◌<◌, ◌≤◌, ◌*◌, ◌^◌, [], length, All, IfOk, IfErr, OnOk, slice_index_or};
+ghost use Rattle.std.specs.Prelude.{◌≡◌, ℕ, ◌<◌, ◌≤◌, ◌+◌, ◌*◌, ◌^◌, [], length, All, IfOk, IfErr, OnOk, slice_index_or};
 ghost use Rattle.std.specs.List.{AllByRecursion};
 ghost use Rattle.jk_math.specs.Memory.{IsMemory};
 ghost use Rattle.jk_marks.specs.Siz.{tile_count};
@@ -23,7 +23,7 @@ use crate::decoding::coded::CodedTile;
 use crate::decoding::component::CodedComponent;
 use crate::decoding::decoded::{BlockSegment, DecodedBlocks, decode_segments};
 use crate::workers::Workers;
-use jk_geom::{blocks, precinct_count, resolution, tile};
+use jk_geom::{BlockGrid, blocks, precinct_count, resolution, tile};
 use jk_jobs::Gate;
 use jk_math::{Fault, Rect};
 use jk_params::Codestream;
@@ -72,6 +72,42 @@ fn add_block(
     Ok(())
 }
 
+/// Appends some code-blocks of a part of a sub-band, of which the packets of these numbers tell.
+pub(crate) fn add_some_blocks(
+    alloc: Global,
+    source: &CodedComponent<'_>,
+    part: BandPart,
+    grid: &BlockGrid,
+    some: SomeBlocks,
+    numbers: &[usize],
+    segments: &mut Vec<BlockSegment>,
+) -> Result<(), Fault>
+    requires source { IsSource source.now }
+    requires part { IsBandPart source.now part }
+    requires grid { grid.now ≡ grid_at source.now.region.rect source.now.coding
+        part.resolution part.precinct part.band }
+    requires sound { IsGrid grid.now }
+    requires few { grid.now.across * grid.now.down < 2 ^ 32 }
+    requires band { some.band ≡ part.band }
+    requires some { some.first + some.count ≤ grid.now.across * grid.now.down }
+    requires numbers { AreNumbers source.now.packets source.now.packets source.now.component
+        part.resolution part.precinct numbers.now }
+    ensures segments { AreSegments (length source.now.bytes) segments.old.items
+        → OnOk result (AreSegments (length source.now.bytes) segments.new.items) }
+    ensures memory { IfErr result IsMemory }
+{
+    let lists = bodies_by_block(alloc, source.packets(), numbers, some)?;
+    for j in 0..some.count {
+        let block = BandBlock {
+            part,
+            grid,
+            number: some.first + j,
+        };
+        add_block(alloc, source, block, &lists[j as usize], segments)?;
+    }
+    Ok(())
+}
+
 /// Appends the code-blocks of a part of a sub-band, of which the packets of these numbers tell.
 fn add_band_blocks(
     alloc: Global,
@@ -88,30 +124,19 @@ fn add_band_blocks(
     ensures memory { IfErr result IsMemory }
 {
     let rect = source.rect();
-    let orientation = orientation(part.resolution, part.band);
     let grid = blocks(
         &rect,
         source.coding(),
         part.resolution,
         part.precinct,
-        orientation,
+        orientation(part.resolution, part.band),
     );
-    let count = grid.across * grid.down;
     let all = SomeBlocks {
         band: part.band,
         first: 0,
-        count,
+        count: grid.across * grid.down,
     };
-    let lists = bodies_by_block(alloc, source.packets(), numbers, all)?;
-    for j in 0..count {
-        let block = BandBlock {
-            part,
-            grid: &grid,
-            number: j,
-        };
-        add_block(alloc, source, block, &lists[j as usize], segments)?;
-    }
-    Ok(())
+    add_some_blocks(alloc, source, part, &grid, all, numbers, segments)
 }
 
 /// Appends the code-blocks of precinct `n` of resolution `r`.

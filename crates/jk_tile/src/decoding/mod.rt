@@ -4,6 +4,7 @@
 //! sub-bands. The wavelet makes values of the sub-bands, `colour` and the level shift make samples
 //! of these.
 
+mod ahead;
 mod block;
 mod bodies;
 mod chains;
@@ -18,11 +19,12 @@ mod reading;
 mod strips;
 mod tile;
 
+pub use ahead::add_row_blocks;
 pub use chains::{PacketChains, packets_by_precinct};
 pub use coded::CodedTile;
 pub use colour::uncolour;
 pub use component::CodedComponent;
-pub use decoded::DecodedBlocks;
+pub use decoded::{BlockSegment, DecodedBlocks, decode_segments};
 pub use filling::put;
 pub use jobs::decode_blocks_with;
 pub use judging::judge_tile;

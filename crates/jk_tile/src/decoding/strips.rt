@@ -1,7 +1,7 @@
 //! A sub-band in strips: each is a list of the coefficients of a row of its code-blocks, across all
 //! precincts. It is filled from left to right, and may be filled again for the next row.
 
-ghost use Rattle.std.specs.Prelude.{◌≡◌, false, ℕ, ◌+◌, ◌-◌, ◌*◌, ◌/◌, ◌^◌, ◌<◌, ◌≤◌, ◌⊎◌, length, map, All, IfOk, IfErr, OnOk};
+ghost use Rattle.std.specs.Prelude.{◌≡◌, false, ℕ, ◌+◌, ◌-◌, ◌*◌, ◌/◌, ◌^◌, ◌<◌, ◌≤◌, ◌⊎◌, length, map, All, Ok, IfOk, IfErr, IfSome, OnOk};
 ghost use Rattle.jk_math.specs.Answer.{Answers};
 ghost use Rattle.jk_math.specs.Memory.{IsMemory};
 ghost use Rattle.jk_math.specs.Raster.{places_of};
@@ -88,7 +88,7 @@ pub fn strip_area(source: &CodedComponent<'_>, at: BlockRow) -> Rect
 }
 
 /// The first of the precincts that have code-blocks of a row.
-fn first_precinct(source: &CodedComponent<'_>, at: BlockRow) -> u32
+pub(crate) fn first_precinct(source: &CodedComponent<'_>, at: BlockRow) -> u32
     requires row { IsBlockRow source.now at }
     requires some { is_empty (strip_area source.now at) ≡ false }
     ensures value { result ≡ first_precinct_of source.now at }
@@ -137,7 +137,35 @@ pub(crate) fn read_band_block(
     read_block(alloc, source.bytes(), bodies, shape, planes, segment)
 }
 
-/// Reads a code-block of a row, and puts it into the strip.
+/// The coefficients of a code-block of a part of a sub-band that was decoded before from its bodies.
+fn decoded_before<'a>(
+    source: &CodedComponent<'a>,
+    block: BandBlock<'_>,
+    bodies: &[BodyPlace],
+) -> Option<&'a [i32]>
+    requires part { IsBandPart source.now block.part }
+    requires grid { block.grid.now ≡ grid_at source.now.region.rect source.now.coding
+        block.part.resolution block.part.precinct block.part.band }
+    requires sound { IsGrid block.grid.now }
+    requires number { block.number < block.grid.now.across * block.grid.now.down }
+    requires bodies { map (body_of source.now.bytes) bodies.now
+        ≡ block_bodies block.part.band block.number
+        (source_bodies source.now block.part.resolution block.part.precinct) }
+    ensures exact { IfSome result (λ v. block_values source.now.region.rect source.now.coding
+        block.entry.part.resolution block.entry.part.precinct block.entry.part.band block.entry.number
+        (source_bodies source.now block.entry.part.resolution block.entry.part.precinct) ≡ Ok v.now) }
+    ensures long { IfSome result (λ v. length v.now ≡ places_of (block_area block.entry.grid.now block.entry.number)) }
+{
+    let part = block.part;
+    let coding = source.coding();
+    let place = block.grid.block(block.number);
+    let orientation = orientation(part.resolution, part.band);
+    let planes = band_planes(coding, part.resolution, part.band);
+    let shape = shape_at(&place, orientation, coding.style);
+    source.decoded().find(bodies, shape, planes)
+}
+
+/// Puts a code-block of a row into the strip. One that was decoded before isn't decoded again.
 fn read_into(
     alloc: Global,
     source: &CodedComponent<'_>,
@@ -170,8 +198,13 @@ fn read_into(
     ensures keeps { OnOk result (KeepsPlaces source.now block.entry.part.resolution block.entry.part.band
         area.now strip.old strip.new) }
 {
+    let place = block.grid.block(block.number);
+    if let Some(values) = decoded_before(source, block, bodies) {
+        put(area, strip, &place, values);
+        return Ok(());
+    }
     let read = read_band_block(alloc, source, block, bodies, segment)?;
-    put(area, strip, &block.grid.block(block.number), &read.values);
+    put(area, strip, &place, &read.values);
     Ok(())
 }
 

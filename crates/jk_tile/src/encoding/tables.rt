@@ -108,17 +108,19 @@ impl Model for LayeredBlock {
 }
 
 impl LayeredBlock {
-    /// A coded block, cut into so many layers.
+    /// A coded block, cut into so many layers. Its bytes give back the room in which they grew.
     pub(crate) fn new(alloc: Global, coded: CodedBlock, layers: u16) -> Result<LayeredBlock, Fault>
         requires coded { IsCodedBlock coded }
         ensures value { IfOk result (λ b. b ≡ layered layers (contents coded)) }
         ensures memory { IfErr result IsMemory }
     {
         let parts = layer_parts(alloc, &coded, layers)?;
+        let mut bytes = coded.bytes;
+        bytes.shrink_to_fit();
         Ok(LayeredBlock {
             planes: coded.planes,
             parts,
-            bytes: coded.bytes,
+            bytes,
         })
     }
 

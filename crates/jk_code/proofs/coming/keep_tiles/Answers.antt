@@ -5,7 +5,7 @@ use Rattle.jk_tile.specs.encoding.Strips.{ComponentFrame}
 use Rattle.jk_tile.specs.encoding.FallingTiles.{IsStandingTile, HasTileSamples}
 use Rattle.jk_tile.specs.encoding.FallenTiles.{IsFallenTile, IsCodedTile}
 use Rattle.jk_tile.specs.declared.encoding.fallen_tile.FallenTile.{FallenTile}
-use Rattle.jk_code.specs.ComingRows.{component_of, area_of_coming, IsFallingTile, IsFallen, AreFallen, AreCoded}
+use Rattle.jk_code.specs.ComingRows.{component_of, area_of_coming, IsFallingTile, IsTileFallen, AreFallen, AreCoded}
 use Rattle.jk_code.proofs.EntriesKept.{pushed, taken, taken_all}
 use Rattle.jk_code.proofs.coming.keep_tiles.Goals as goal
 
@@ -70,7 +70,7 @@ loop-tile-preserved c =
       left = is.left ∙ ap (λ j. drop j all) next;
       fallen = record {
         count = refl;
-        each = λ t other lt. pushed (λ t y. IsFallen s t y) old new m kept refl c.in_ok-push.ensures.items now.fallen.each
+        each = λ t other lt. pushed (λ t y. IsTileFallen s t y) old new m kept refl c.in_ok-push.ensures.items now.fallen.each
             (record { fallen = subst (λ (f : ComponentFrame). IsFallenTile f kept) source own.fallen; components = own.count ∙ was.components }) t other (omega (arith, lt, long));
       };
       rows = λ p has coded t other lt.

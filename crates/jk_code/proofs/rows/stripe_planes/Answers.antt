@@ -57,8 +57,8 @@ part_of_stripe-part-requires c =
     let count = c.loop-k.invariant.count in
     omega (arith, whole, begins, count, c.loop-k-test.true, c.len-k-end.ensures)
 
-pub step-requires-clause-first : goal.step-requires-clause-first
-step-requires-clause-first c =
+pub step_of-requires-clause-first : goal.step_of-requires-clause-first
+step_of-requires-clause-first c =
     let s = c.args.coded.now in
     let first = c.args.row.now.first in
     let k : ℕ = c.loop-k.k in
@@ -67,8 +67,8 @@ step-requires-clause-first c =
     let src = same_of s c.loop-k.row.first first k c.tile_of-next.result c.tile_of-next.ensures c.loop-k.invariant.begins in
     subst (λ (t : TileSource). IsStepEnd (shown_area t.headers.siz t.number t.reduce) c.args.stripe.now.y0) (sym src) (step_end_of s first k c.args.stripe.now.y0 c.requires.first lt c.requires.from)
 
-pub step-requires-clause-last : goal.step-requires-clause-last
-step-requires-clause-last c =
+pub step_of-requires-clause-last : goal.step_of-requires-clause-last
+step_of-requires-clause-last c =
     let s = c.args.coded.now in
     let first = c.args.row.now.first in
     let k : ℕ = c.loop-k.k in
@@ -125,7 +125,7 @@ loop-k-preserved c =
     let h = s.headers in
     let n = h.siz.components in
     let items = c.loop-k.row.tiles.items in
-    let one = c.step.new.self in
+    let one = c.step_of.new.self in
     let count = c.loop-k.invariant.count in
     let src = same_of s c.loop-k.row.first first k c.tile_of-next.result c.tile_of-next.ensures c.loop-k.invariant.begins in
     let here = subst (λ (t : TileSource). IsTileRows t stripe.y1 one) src c.in_ok-values.ensures.at in

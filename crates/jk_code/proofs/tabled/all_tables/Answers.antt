@@ -11,7 +11,7 @@ use Rattle.jk_tile.specs.encoding.LateTables.{bands_from}
 use Rattle.jk_walk.specs.TilePackets.{planes_of}
 use Rattle.jk_tile.specs.encoding.FallenTiles.{fallen_in, IsFallenTile, IsCodedTile, HasTileRoom}
 use Rattle.jk_tile.specs.declared.encoding.fallen_tile.FallenTile.{FallenTile}
-use Rattle.jk_code.specs.ComingRows.{component_of, tiles_coming, IsFallen, lists_coming}
+use Rattle.jk_code.specs.ComingRows.{component_of, tiles_coming, IsTileFallen, lists_coming}
 use Rattle.jk_code.proofs.EntriesKept.{pushed, taken}
 use Rattle.jk_code.proofs.tabled.all_tables.Goals as goal
 
@@ -25,7 +25,7 @@ tables-requires-clause-fallen c =
     let source : c.component_at-source.result ≡ component_of s m = c.component_at-source.ensures ∙ ap (λ t. component_of s t) number in
     let many = c.requires.tiles.count in
     let inside = is.inside in
-    let was : IsFallen s m x = subst (IsFallen s m) (is.here x) (c.requires.tiles.each m x (omega (arith, inside, many))) in
+    let was : IsTileFallen s m x = subst (IsTileFallen s m) (is.here x) (c.requires.tiles.each m x (omega (arith, inside, many))) in
     subst (λ (g : ComponentFrame). IsFallenTile g x) (sym source) was.fallen
 
 pub tables-requires-clause-room : goal.tables-requires-clause-room
@@ -57,7 +57,7 @@ loop-tile-preserved c =
     let many = c.requires.tiles.count in
     let inside = is.inside in
     let tile : m < tiles_coming s = omega (arith, inside, many) in
-    let was : IsFallen s m x = subst (IsFallen s m) (is.here x) (c.requires.tiles.each m x tile) in
+    let was : IsTileFallen s m x = subst (IsTileFallen s m) (is.here x) (c.requires.tiles.each m x tile) in
     let kept = c.in_ok-tables.field-0 in
     let long = ap (λ l. length l) c.in_ok-push.ensures.items ∙ length-append old (kept ∷ []) in
     let next : m + 1 ≡ length c.push.new.self.items = omega (arith, long) in

@@ -1,7 +1,7 @@
 use Rattle.std.proofs.lemmas.Result.{err_from_is_err_and}
 use Rattle.jk_params.specs.Profile.{siz_of}
 use Rattle.jk_geom.proofs.Laws.{some_tile}
-use Rattle.jk_code.specs.Contents.{AreTold}
+use Rattle.jk_code.specs.Contents.{HasTiles}
 use Rattle.jk_code.proofs.SendingLaws.{left_none}
 use Rattle.jk_code.proofs.writing.put_contents.Goals as goal
 
@@ -9,7 +9,7 @@ pub content-requires : goal.content-requires
 content-requires g c =
     let p = c.requires.some.0 in
     let q = c.args.source.now.parameters.now in
-    let told : AreTold g.T.TileContents.tells c.args.source.now c.args.tiles.now p = c.requires.some.1 in
+    let told : HasTiles g.T.TileContents.tells c.args.source.now c.args.tiles.now p = c.requires.some.1 in
     record { number = (p, q, told.told, some_tile (siz_of p q) told.source.written.siz) }
 
 pub returns-in_err-first-clause-part : goal.returns-in_err-first-clause-part

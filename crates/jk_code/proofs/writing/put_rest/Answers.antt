@@ -8,7 +8,7 @@ use Rattle.jk_window.specs.Views.{holds_below}
 use Rattle.jk_window.proofs.Laws.{below_none, below_more}
 use Rattle.jk_code.specs.Written.{part_fits}
 use Rattle.jk_code.specs.Beginnings.{parts_upto}
-use Rattle.jk_code.specs.Contents.{AreTold}
+use Rattle.jk_code.specs.Contents.{HasTiles}
 use Rattle.jk_code.proofs.SendingLaws.{rest_more, rest_stopped}
 use Rattle.jk_code.proofs.writing.put_rest.Goals as goal
 
@@ -23,7 +23,7 @@ loop-number-init g c =
 pub put_tile-requires : goal.put_tile-requires
 put_tile-requires g c =
     let p = c.requires.some.0 in
-    let told : AreTold g.T.TileContents.tells c.args.source.now c.args.tiles.now p = c.requires.some.1 in
+    let told : HasTiles g.T.TileContents.tells c.args.source.now c.args.tiles.now p = c.requires.some.1 in
     let tiles = c.count_tiles-number-end.ensures.value p told.source in
     record { number = (p, told, omega (arith, c.loop-number-test.true, tiles)) }
 

@@ -1,16 +1,23 @@
-use Rattle.std.proofs.Common.{List, ℕ, ◌++◌, subst}
-use Rattle.jk_code.specs.Sending.{IsSent}
-use Rattle.jk_code.proofs.SendingLaws.{Wrote, sent_both}
+use Rattle.std.proofs.Common.{◌++◌, inr}
+use Rattle.std.proofs.lemmas.Result.{err_from_is_err_and}
+use Rattle.jk_math.proofs.Laws.{appends_join}
+use Rattle.jk_code.proofs.SendingLaws.{put_behind, sent_first}
 use Rattle.jk_code.proofs.writing.put_start.Goals as goal
+
+pub returns-in_err-send : goal.returns-in_err-send
+returns-in_err-send g c =
+    let same = err_from_is_err_and c.from_residual.result c.from_residual.ensures.1 in
+    let sent = c.in_err-send.ensures in
+    rw (same.1, same.2) (sent.0, sent.1, λ text is. (inr sent.2.0, sent_first c.args.before.now text sent.0 sent.2.1))
 
 pub returns : goal.returns
 returns g c =
     let a = g.W.Write.contents c.args.writer.now in
     let b = g.W.Write.contents c.send.new.writer in
-    let d = g.W.Write.contents c.send-2.new.writer in
-    let before = c.deref.result.now in
-    let content = c.deref-2.result.now in
-    let r = c.send-2.result in
-    subst (λ (x : List ℕ). Wrote a d (λ part. IsSent (x ++ c.args.start.content.items) part r)) c.deref.ensures.value
-    (subst (λ (y : List ℕ). Wrote a d (λ part. IsSent (before ++ y) part r)) c.deref-2.ensures.value
-    (sent_both a b d before content r c.in_ok-send.ensures c.send-2.ensures))
+    let d = g.W.Write.contents c.put_data.new.writer in
+    let first = c.in_ok-send.ensures in
+    let last = c.put_data.ensures in (
+      first.0 ++ last.0,
+      appends_join a b d first.0 last.0 first.1 last.1,
+      λ text is. put_behind c.args.before.now text first.0 last.0 c.put_data.result first.2 (last.2 text is),
+    )

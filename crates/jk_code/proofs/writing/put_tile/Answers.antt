@@ -1,9 +1,7 @@
-use Rattle.std.proofs.Common.{ℕ, ◌+◌, ◌^◌, ltb, length, List, [], inl, inr, refl, subst, ◌∙◌}
+use Rattle.std.proofs.Common.{[], inl, inr, refl}
 use Rattle.std.proofs.lemmas.Result.{err_from_is_err_and}
 use Rattle.jk_math.proofs.Laws.{appends_none}
-use Rattle.jk_marks.specs.Codestream.{part_text, only_part_of}
-use Rattle.jk_code.specs.Sending.{IsPartSent}
-use Rattle.jk_code.proofs.SendingLaws.{Wrote}
+use Rattle.jk_tile.specs.encoding.PacketsWritten.{tile_text}
 use Rattle.jk_code.proofs.writing.put_tile.Goals as goal
 
 pub content-requires : goal.content-requires
@@ -15,11 +13,14 @@ returns-in_err-content g c =
     let same = err_from_is_err_and c.from_residual.result c.from_residual.ensures.1 in
     rw (same.1, same.2) (λ p told. ([], appends_none (g.W.Write.contents c.args.writer.now), inr (inl (c.in_err-content.ensures.memory, refl))))
 
+pub put_part-requires : goal.put_part-requires
+put_part-requires g c =
+    let p = c.requires.number.0 in
+    let q = c.args.source.now.parameters.now in
+    record { some = (tile_text p q c.args.number, c.in_ok-content.ensures.value p q c.requires.number.1.told) }
+
 pub returns : goal.returns
 returns g c p told =
     let q = c.args.source.now.parameters.now in
-    let a = g.W.Write.contents c.args.writer.now in
-    let b = g.W.Write.contents c.put_part.new.writer in
-    let r = c.put_part.result in
-    subst (λ (content : List ℕ). Wrote a b (λ part. IsPartSent (part_text (only_part_of c.args.number content)) (ltb (14 + length content) (2 ^ 32)) part r))
-    (c.deref.ensures.value ∙ c.in_ok-content.ensures.value p q told.told) c.put_part.ensures
+    let wrote = c.put_part.ensures in
+    (wrote.0, wrote.1, wrote.2 (tile_text p q c.args.number) (c.in_ok-content.ensures.value p q told.told))

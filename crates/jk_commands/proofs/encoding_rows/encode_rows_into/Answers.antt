@@ -26,7 +26,7 @@ returns-in_err-judge-in-Err-clause-part g c =
 pub returns-in_ok-judge-in-Err-clause-part : goal.returns-in_ok-judge-in-Err-clause-part
 returns-in_ok-judge-in-Err-clause-part g c =
     let d = c.in_ok-raster.raster in
-    let read = c.in_ok-raster.ensures.read ∙ c.frame_of_file.ensures.judged c.in_ok-judge-in-Err.ensures.ok in
+    let read = c.in_ok-raster.ensures.read ∙ c.frame_of_file.ensures.picture_told c.in_ok-judge-in-Err.ensures.ok in
     left_unplaced (g.W.Write.contents c.args.writer.now) c.args.bytes.now c.args.plan (drawn d) c.in-Err.fault read (c.in-Err.ensures.exact (drawn d) (sym c.frame_of_file.ensures.value))
 
 pub returns-in-Ok-clause-part : goal.returns-in-Ok-clause-part
@@ -34,7 +34,7 @@ returns-in-Ok-clause-part g c =
     let d = c.in_ok-raster.raster in
     let placed = c.in-Ok.placed in
     left_of_rows (g.W.Write.contents c.args.writer.now) (g.W.Write.contents c.encode_placed.new.writer) c.args.bytes.now c.args.plan d placed.frame.x0 placed.frame.y0 (placed_on (drawn d) placed) c.encode_placed.result
-    c.in_ok-raster.ensures.read c.frame_of_file.ensures.judged (c.in-Ok.ensures.exact (drawn d) (sym c.frame_of_file.ensures.value)) refl c.encode_placed.ensures.part
+    c.in_ok-raster.ensures.read c.frame_of_file.ensures.picture_told (c.in-Ok.ensures.exact (drawn d) (sym c.frame_of_file.ensures.value)) refl c.encode_placed.ensures.part
 
 pub returns-in-Ok-clause-ok : goal.returns-in-Ok-clause-ok
 returns-in-Ok-clause-ok g c =
@@ -55,7 +55,7 @@ returns-in-Ok-clause-means g c p is =
     let placing = c.in-Ok.ensures.exact (drawn d) (sym c.frame_of_file.ensures.value) in
     on_ok c.encode_placed.result
     (λ h file e. subst (λ (q : Picture). Means file 0 q) there
-    (whole_means a b c.args.bytes.now plan d placed.frame.x0 placed.frame.y0 (placed_on (drawn d) placed) (c.in_ok-raster.ensures.read ∙ c.frame_of_file.ensures.judged h.0) placing refl (h.1, h.2, h.3, h.4) file e))
+    (whole_means a b c.args.bytes.now plan d placed.frame.x0 placed.frame.y0 (placed_on (drawn d) placed) (c.in_ok-raster.ensures.read ∙ c.frame_of_file.ensures.picture_told h.0) placing refl (h.1, h.2, h.3, h.4) file e))
     c.encode_placed.ensures.ok
 
 pub returns-in-Ok-clause-found : goal.returns-in-Ok-clause-found

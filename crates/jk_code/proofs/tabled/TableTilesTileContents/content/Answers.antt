@@ -1,5 +1,4 @@
 use Rattle.std.proofs.Common.{◌≡◌, ◌<◌, ℕ, refl, sym, ap, subst, ◌∙◌}
-use Rattle.std.proofs.lemmas.Result.{IfOk-weaker}
 use Rattle.jk_math.specs.Lists.{lists_of}
 use Rattle.jk_math.specs.Picture.{Picture}
 use Rattle.jk_marks.specs.declared.siz.Siz.{Siz}
@@ -36,20 +35,6 @@ outline s p w t parameters coding rect components told lt =
       components = components ∙ sym (ap (λ (f : PictureFrame). f.components) told.frame);
     }
 
-pub packets_of-requires : goal.packets_of-requires
-packets_of-requires c =
-    let s = c.args.self.now in
-    let t = c.args.number in
-    let k = s.coming.parameters.now in
-    let here : t < tiles_coming s.coming = inside s c.requires.number.0 t c.requires.number.2.1 (subst (λ (j : Parameters). t < tile_count (siz_of c.requires.number.0 j)) (sym c.requires.number.2.0) c.requires.number.3) in
-    let rect : c.tile.result ≡ tile_area (siz_for s.coming.frame k) t = c.tile.ensures.value ∙ ap (λ (z : Siz). tile_area z t) c.siz_for-siz.ensures.value in
-    let read : (p : Picture) → AreTablesOf s p → lists_of c.deref.result.now ≡ tile_lists p k t = λ p told.
-    ap (λ xs. lists_of xs) c.deref.ensures.value ∙ told.tables t c.index-self-number.result here ∙ lists_same s.coming s.coding.now p t told.frame told.coding in
-    let few : (p : Picture) → AreTablesOf s p → t < tile_count (siz_of p k) = λ p told. subst (λ (z : Siz). t < tile_count z) (sym (ap (λ (f : PictureFrame). siz_for f k) told.frame)) here in
-    let p = c.requires.number.0 in
-    let told = c.requires.number.2.1 in
-    record { tile = (p, t, outline s p _ t refl refl rect refl told (few p told), read p told) }
-
 pub returns-clause-value : goal.returns-clause-value
 returns-clause-value c =
     let s = c.args.self.now in
@@ -60,4 +45,9 @@ returns-clause-value c =
     let read : (p : Picture) → AreTablesOf s p → lists_of c.deref.result.now ≡ tile_lists p k t = λ p told.
     ap (λ xs. lists_of xs) c.deref.ensures.value ∙ told.tables t c.index-self-number.result here ∙ lists_same s.coming s.coding.now p t told.frame told.coding in
     let few : (p : Picture) → AreTablesOf s p → t < tile_count (siz_of p k) = λ p told. subst (λ (z : Siz). t < tile_count z) (sym (ap (λ (f : PictureFrame). siz_for f k) told.frame)) here in
-    IfOk-weaker c.packets_of.result _ _ (λ v exact p q tells. exact p t (outline s p _ t refl refl rect refl tells.1 (few p tells.1)) (read p tells.1) ∙ ap (λ j. tile_text p j t) tells.0) c.packets_of.ensures.exact
+    λ p q tells. (
+      p,
+      t,
+      record { outline = outline s p _ t refl refl rect refl tells.1 (few p tells.1); tables = read p tells.1 },
+      ap (λ j. tile_text p j t) tells.0,
+    )

@@ -3,20 +3,14 @@ use Rattle.std.proofs.lemmas.Bool.{cases_eq}
 use Rattle.std.specs.Vec.{with_items}
 use Rattle.jk_math.specs.declared.rect.Rect.{Rect}
 use Rattle.jk_math.specs.Raster.{places_of}
-use Rattle.jk_marks.specs.declared.coding.Coding.{Coding}
 use Rattle.jk_geom.specs.Rectangles.{is_empty, IsWithin}
-use Rattle.jk_geom.specs.Precincts.{precinct_number, precincts_across}
+use Rattle.jk_geom.specs.Precincts.{precinct_number}
 use Rattle.jk_wave.proofs.Laws.{part_within}
 use Rattle.jk_tile.specs.TileBlocks.{block_at_place}
-use Rattle.jk_tile.specs.decoding.Source.{Source}
 use Rattle.jk_tile.specs.decoding.Strips.{strip_area, ShowsPlace, KeepsPlaces, ShowsPartIn, IsPartFine}
 use Rattle.jk_tile.proofs.Showing.{with_same, followed_numbers}
-use Rattle.jk_tile.proofs.decoding.StripLaws.{strip_whole, strip_none, row_whole, none_in_row, block_in_strip}
+use Rattle.jk_tile.proofs.decoding.StripLaws.{across_is, strip_whole, strip_none, row_whole, none_in_row, block_in_strip}
 use Rattle.jk_tile.proofs.decoding.strips.read_strip.Goals as goal
-
--- as many precincts lie side by side
-across_is : (s : Source) (r across : ℕ) (rect : Rect) (coding : Coding) → rect ≡ s.region.rect → coding ≡ s.coding → across ≡ precincts_across rect coding r → across ≡ precincts_across s.region.rect s.coding r
-across_is s r across rect coding er ec e = e ∙ ap (λ (x : Rect). precincts_across x coding r) er ∙ ap (λ (k : Coding). precincts_across s.region.rect k r) ec
 
 pub loop-k-init : goal.loop-k-init
 loop-k-init c = record {

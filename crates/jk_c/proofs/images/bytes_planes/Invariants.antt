@@ -1,8 +1,0 @@
-use Rattle.std.proofs.Common.{◌≡◌, map}
-use Rattle.std.specs.List.{range_with_len}
-use Rattle.jk_math.specs.Lists.{lists_of}
-use Rattle.jk_c.specs.Pixels.{plane_in}
-use Rattle.jk_c.proofs.images.bytes_planes.Given as goal
-
-abbrev pub invariant-loop-component : goal.invariant-loop-component
-invariant-loop-component l = lists_of l.planes.items ≡ map (plane_in l.pixels l.area l.components) (range_with_len 0 l.component)

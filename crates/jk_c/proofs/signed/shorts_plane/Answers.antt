@@ -1,6 +1,0 @@
-use Rattle.jk_c.proofs.Planes.{signed_plane_more}
-use Rattle.jk_c.proofs.signed.shorts_plane.Goals as goal
-
-pub loop-i-preserved : goal.loop-i-preserved
-loop-i-preserved c =
-    signed_plane_more c.args.pixels.now c.loop-i.i c.args.components c.args.component c.short_at.result c.loop-i.samples.items c.push.new.self.items c.short_at.ensures.value c.short_at.ensures.within c.loop-i.invariant c.in_ok-push.ensures.items

@@ -1,0 +1,18 @@
+use Rattle.std.proofs.Common.{length, ◌∙◌, ap, sym, subst, arith}
+use Rattle.jk_marks.specs.Siz.{tiles_across}
+use Rattle.jk_tile.specs.decoding.Decoded.{AreSegments}
+use Rattle.jk_tile.specs.decoding.TileSources.{TileSource}
+use Rattle.jk_code.specs.Sources.{ImageSource}
+use Rattle.jk_code.proofs.rows_with.stripe_blocks.Goals as goal
+
+pub tile_of-next-requires : goal.tile_of-next-requires
+tile_of-next-requires c =
+    let whole = c.requires.row.1.whole in
+    let across = c.tiles_across-k-end.ensures.value ∙ ap tiles_across c.siz.ensures ∙ ap (λ (x : ImageSource). tiles_across x.headers.siz) c.coded.view_is in
+    omega (arith, whole, across, c.loop-k-test.true)
+
+pub loop-k-preserved : goal.loop-k-preserved
+loop-k-preserved c =
+    let new = c.add_blocks.new.segments.items in
+    subst (λ (t : TileSource). AreSegments (length t.bytes) new) c.tile_of-next.ensures
+    (c.in_ok-add_blocks.ensures.segments (subst (λ (t : TileSource). AreSegments (length t.bytes) c.loop-k.segments.items) (sym c.tile_of-next.ensures) c.loop-k.invariant))

@@ -1,0 +1,138 @@
+//! Images decoded row by row by several workers.
+
+ghost use Rattle.std.specs.Prelude.{◌≤◌};
+
+use crate::chance::{Chance, plane};
+use jk_code::{Rows, decode_rows_with, encode};
+use jk_jobs::{Gate, Open};
+use jk_marks::Order;
+use jk_math::{Fault, Image, Style};
+use jk_params::{Container, Parameters};
+use jk_tile::Workers;
+use std::alloc::Global;
+use std::test::Fail;
+use std::thread::Threads;
+use vectors::{Meeting, equal, equal_at};
+
+/// A gate at which the first code-block meets the second.
+#[derive(Drop)]
+struct Held {
+    meeting: Meeting,
+}
+
+impl Gate for Held {
+    fn began(&self, job: usize) {
+        self.meeting.began(job);
+    }
+
+    fn ended(&self, job: usize) {
+        self.meeting.ended(job);
+    }
+}
+
+/// Keeps the samples of the first component.
+#[derive(Drop)]
+struct Kept {
+    samples: Vec<i32>,
+}
+
+impl Rows for Kept {
+    ghost took = { λ _ _ _. Unit {0} };
+
+    fn take(&mut self, _alloc: Global, rows: Image) -> Result<(), Fault> {
+        let planes = rows.planes();
+        if planes.len() > 0 {
+            self.samples.extend_from_slice(planes.plane(0))?;
+        }
+        Ok(())
+    }
+}
+
+/// Four code-blocks of 64 by 64 side by side, without a level.
+fn noisy(alloc: Global) -> Result<Image, Fail> {
+    let mut chance = Chance { state: 29 };
+    let mut planes = Vec::new(alloc);
+    planes.push(plane(alloc, &mut chance, 256 * 64, 8, false)?)?;
+    Ok(Image::new(0, 0, 256, 64, 8, false, planes)?)
+}
+
+/// The parameters of its file, with so many levels.
+fn with_levels(alloc: Global, levels: u8) -> Parameters {
+    Parameters {
+        levels,
+        layers: 1,
+        order: Order::Lrcp,
+        tile: None,
+        xcb: 6,
+        ycb: 6,
+        style: Style {
+            reset: false,
+            causal: false,
+            segments: false,
+        },
+        precincts: Vec::new(alloc),
+        colour: false,
+        sop: false,
+        eph: false,
+        container: Container::Raw,
+    }
+}
+
+/// The samples of a file, decoded so many rows at a time by so many workers.
+fn samples_by<R: Threads + Sync, G: Gate + Sync>(
+    rt: &R,
+    alloc: Global,
+    count: usize,
+    gate: &G,
+    file: &[u8],
+    step: u32,
+) -> Result<Vec<i32>, Fault>
+    requires some { 1 ≤ count }
+    requires few { count ≤ 64 }
+    requires step { 1 ≤ step }
+{
+    let mut kept = Kept {
+        samples: Vec::new(alloc),
+    };
+    let workers = Workers { rt, count };
+    decode_rows_with(&workers, alloc, gate, file, 0, step, &mut kept)?;
+    Ok(kept.samples)
+}
+
+/// Each code-block is told once when it begins and once when it has ended, and the first ends only
+/// because the second has begun; what they make is the image.
+#[test]
+fn two_code_blocks_at_a_time(rt: HostRuntime) -> Result<(), Fail> {
+    let alloc = rt.alloc();
+    let image = noisy(alloc)?;
+    let file = encode(alloc, &image, &with_levels(alloc, 0))?;
+    let held = Held {
+        meeting: Meeting::new(alloc, 4)?,
+    };
+    let samples = samples_by(&rt, alloc, 2, &held, &file, 1000)?;
+    let planes = image.planes();
+    let is_due = planes.len() > 0 && samples.as_slice() == planes.plane(0);
+    equal(is_due, true).expect(&rt, "the samples");
+    equal(held.meeting.was_met(1), true).expect(&rt, "the meeting");
+    Ok(())
+}
+
+/// How many rows are decoded at a time: fewer than a code-block has, and more than there are.
+static STEPS: [u32; 5] = [1, 2, 7, 33, 1000];
+
+/// The same samples, however many rows are decoded at a time, by one worker and by several.
+#[test]
+fn steps_of_rows(rt: HostRuntime) -> Result<(), Fail> {
+    let alloc = rt.alloc();
+    let image = noisy(alloc)?;
+    let file = encode(alloc, &image, &with_levels(alloc, 5))?;
+    let planes = image.planes();
+    for step in STEPS {
+        let step = step.max(1);
+        let one = samples_by(&rt, alloc, 1, &Open, &file, step)?;
+        let five = samples_by(&rt, alloc, 5, &Open, &file, step)?;
+        let is_due = planes.len() > 0 && one.as_slice() == planes.plane(0);
+        equal_at(step, (is_due, five == one), (true, true)).expect(&rt, "the samples");
+    }
+    Ok(())
+}
