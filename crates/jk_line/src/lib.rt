@@ -13,6 +13,8 @@ mod scans;
 mod serving;
 mod status;
 mod streams;
+mod viewing;
+mod ways;
 mod workers;
 mod world;
 

@@ -3,6 +3,8 @@
 use crate::failure::{Failure, of_file, of_options, of_world};
 use crate::status::Status;
 use crate::streams::{create, finish, read, write};
+use crate::viewing::decode_stored;
+use crate::ways::{Way, way_of};
 use crate::workers::workers;
 use crate::world::{Streams, World};
 use crate::{adding, adding_all, archive, checking, keeping};
@@ -10,7 +12,7 @@ use jk_commands::{
     EncodeOptions, Plan, cut_file, decode_file_into, decode_file_into_with, decode_rows_into,
     decode_rows_into_with, decode_window_file_into, encode_file_dressed, encode_file_dressed_with,
     encode_file_into, encode_file_with, encode_rows_into, first_layers, info_all_file, info_file,
-    judge, suits_rows,
+    judge,
 };
 use jk_jobs::Open;
 use jk_math::Fault;
@@ -130,29 +132,6 @@ fn encode<W: World>(alloc: Global, world: &mut W, line: &Encoding<'_>) -> Result
     }
 }
 
-/// How the whole image of a file is decoded.
-#[derive(Clone, Copy)]
-enum Way {
-    /// By several workers, and then written.
-    Workers(usize),
-    /// Row by row by several workers: rows are written before a fault behind them may be met.
-    RowsBy(usize),
-    /// Row by row by this thread alone, written as soon.
-    Rows,
-    /// At once, and then written.
-    AtOnce,
-}
-
-/// How so many workers decode the whole image of a file at a reduction.
-fn way_of(workers: usize, bytes: &[u8], reduce: u32) -> Way {
-    match (workers > 1, suits_rows(bytes, reduce)) {
-        (true, true) => Way::RowsBy(workers),
-        (true, false) => Way::Workers(workers),
-        (false, true) => Way::Rows,
-        (false, false) => Way::AtOnce,
-    }
-}
-
 /// Writes the image of a file.
 fn decode_image<W: World>(
     alloc: Global,
@@ -193,9 +172,14 @@ fn with_layers(alloc: Global, line: &Decoding<'_>, bytes: Vec<u8>) -> Result<Vec
 }
 
 /// `jk decode IN OUT`: the image, or a window of it, in all layers or the first. How many workers
-/// there are is judged first. What is written row by row is held where it can't be taken back.
+/// there are is judged first. Of a file that can be read by places, only what a window needs is read
+/// where it is known by that; else all of it is. What is written row by row is held where it can't be
+/// taken back.
 fn decode<W: World>(alloc: Global, world: &mut W, line: &Decoding<'_>) -> Result<(), Failure> {
     let workers = workers(alloc, line.workers)?;
+    if let Some(done) = decode_stored(alloc, world, line) {
+        return done;
+    }
     let bytes = read(alloc, world, line.input)?;
     let left_out = left_out(&bytes);
     let bytes = match with_layers(alloc, line, bytes) {

@@ -4,6 +4,7 @@ use crate::serving::{Meanwhile, Serving};
 use jk_jobs::Gate;
 use jk_math::Fault;
 use jk_store::{Archive, Shelf};
+use jk_stored::Stored;
 use jk_words::Work;
 use std::alloc::Global;
 use std::fmt::Display;
@@ -17,8 +18,15 @@ pub trait Streams {
     /// A file that is written in parts, or standard output.
     type Output: Write + Drop;
 
+    /// A file that is read by places.
+    type Stored: Stored + Drop;
+
     /// All bytes of a file, or of standard input for `-`.
     fn read(&mut self, alloc: Global, name: &str) -> Result<Vec<u8>, Fault>;
+
+    /// A file that is read by places, and how many bytes it has; none for `-`, or where it can't be
+    /// read so, as a pipe can't. What the system says of it then isn't kept: `read` meets it again.
+    fn stored(&mut self, alloc: Global, name: &str) -> Option<(Self::Stored, usize)>;
 
     /// Writes all bytes to a file, or to standard output for `-`.
     fn write(&mut self, alloc: Global, name: &str, bytes: &[u8]) -> Result<(), Fault>;

@@ -4,6 +4,7 @@ use crate::files;
 use crate::finder::FolderFinder;
 use crate::keeper::{FolderKeeper, tell_waiting};
 use crate::serving::{Asked, shelves};
+use crate::stored::{OnDisk, open_stored};
 use jk_files::{Lock, Lockable, Refusal, SharedLock, wait_exclusive, wait_shared};
 use jk_line::{Folders, Meanwhile, Serving, Streams, Work, Working};
 use jk_math::Fault;
@@ -14,6 +15,7 @@ use std::alloc::Global;
 use std::fmt::Display;
 use std::io::{self, BufWriter};
 use std::net::{Net, TcpListener, TcpStream};
+use std::os::unix::fs::FileExt;
 use std::rt::Files;
 use std::sync::Wait;
 use std::thread::Threads;
@@ -93,12 +95,21 @@ impl<R: Files + Print + Clone + Drop> Host<R> {
     }
 }
 
-impl<R: Files + Input + Print + Eprint + AllocGlobal + Clone + Drop> Streams for Host<R> {
+impl<R: Files + Input + Print + Eprint + AllocGlobal + Clone + Drop> Streams for Host<R>
+where
+    R::File: FileExt,
+{
     type Output = BufWriter<Late<R>, Global>;
+
+    type Stored = OnDisk<R::File>;
 
     fn read(&mut self, alloc: Global, name: &str) -> Result<Vec<u8>, Fault> {
         let answer = files::read(&self.rt, alloc, name);
         self.kept(answer)
+    }
+
+    fn stored(&mut self, _alloc: Global, name: &str) -> Option<(OnDisk<R::File>, usize)> {
+        open_stored(&self.rt, name)
     }
 
     fn write(&mut self, alloc: Global, name: &str, bytes: &[u8]) -> Result<(), Fault> {

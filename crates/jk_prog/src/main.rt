@@ -6,6 +6,7 @@ mod finder;
 mod host;
 mod keeper;
 mod serving;
+mod stored;
 
 use crate::host::Host;
 use crate::serving::{Asked, Lines, serve, serve_opening};

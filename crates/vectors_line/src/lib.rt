@@ -19,3 +19,5 @@ mod progress;
 mod runs;
 #[cfg(test)]
 mod telling;
+#[cfg(test)]
+mod windows;

@@ -4,6 +4,7 @@ use jk_jobs::Gate;
 use jk_line::{Folders, Meanwhile, Serving, Streams, Work, Working, listening, opening};
 use jk_math::Fault;
 use jk_store::{Archive, MemoryShelf};
+use jk_stored::MemoryStored;
 use std::alloc::Global;
 use std::collections::BTreeMap;
 use std::fmt::Display;
@@ -49,6 +50,8 @@ pub(crate) struct Memory<'a, R> {
     pub(crate) locks: usize,
     /// How many outputs were asked for that are held.
     pub(crate) held: usize,
+    /// How many files were read by places.
+    pub(crate) stored: usize,
     said: Option<io::Error>,
 }
 
@@ -76,6 +79,7 @@ impl<'a, R> Memory<'a, R> {
             is_locked: false,
             locks: 0,
             held: 0,
+            stored: 0,
             said: None,
         }
     }
@@ -124,6 +128,8 @@ impl Write for Written {
 impl<'a, R: Threads + Sync> Streams for Memory<'a, R> {
     type Output = Written;
 
+    type Stored = MemoryStored;
+
     fn read(&mut self, alloc: Global, name: &str) -> Result<Vec<u8>, Fault> {
         if name == "-" {
             return Ok(Vec::from_slice(alloc, &self.input)?);
@@ -132,6 +138,14 @@ impl<'a, R: Threads + Sync> Streams for Memory<'a, R> {
             return Ok(Vec::from_slice(alloc, bytes)?);
         }
         Err(self.refused(ErrorKind::NotFound))
+    }
+
+    fn stored(&mut self, alloc: Global, name: &str) -> Option<(MemoryStored, usize)> {
+        let bytes = self.files.get(name)?;
+        self.stored = self.stored.saturating_add(1);
+        let copy = Vec::from_slice(alloc, bytes).ok()?;
+        let size = copy.len();
+        Some((MemoryStored::new(copy), size))
     }
 
     fn write(&mut self, alloc: Global, name: &str, bytes: &[u8]) -> Result<(), Fault> {

@@ -1,0 +1,44 @@
+//! Files that are read by places.
+
+use jk_math::Fault;
+use jk_stored::Stored;
+use std::fs::{OpenFile, OpenOptions};
+use std::os::unix::fs::FileExt;
+use std::rt::Files;
+
+/// An open regular file, which is read by places. Another may write it meanwhile, so it isn't known
+/// to keep its bytes.
+#[derive(Drop)]
+pub(crate) struct OnDisk<F> {
+    file: F,
+}
+
+impl<F: FileExt> Stored for OnDisk<F> {
+    ghost keeps = { λ _ _. ⊥ };
+
+    fn read_at(&self, start: usize, room: &mut [u8]) -> Result<usize, Fault> {
+        match self.file.read_at(room, start as u64) {
+            Ok(count) => Ok(count),
+            Err(_) => Err(Fault::Shelf),
+        }
+    }
+}
+
+/// Opens a regular file, links followed, and answers how many bytes it has; none for `-`, and where it
+/// isn't one or can't be opened.
+///
+/// What stands under the name is asked before it is opened, since opening a pipe waits for its other
+/// end.
+pub(crate) fn open_stored<R: Files>(rt: &R, name: &str) -> Option<(OnDisk<R::File>, usize)> {
+    if name == "-" || !rt.metadata(name).ok()?.is_file() {
+        return None;
+    }
+    let mut options = OpenOptions::new();
+    options.read(true);
+    let file = rt.open_file(&options, name).ok()?;
+    let opened = file.metadata().ok()?;
+    if !opened.is_file() {
+        return None;
+    }
+    Some((OnDisk { file }, opened.len() as usize))
+}

@@ -1,0 +1,17 @@
+pub mod Forward
+pub mod Held
+pub mod EntryReading
+pub mod StoredWalk
+pub mod OutlineLaws
+pub mod OutlineHeaders
+pub mod FrontLaws
+pub mod StretchLaws
+pub mod ContentLaws
+pub mod MakingLaws
+pub mod MadeTiles
+pub mod MadeEntries
+pub mod WindowMade
+pub mod WindowDone
+pub mod PlaceLaws
+pub mod ViewKnown
+pub mod WritingLaws
