@@ -1,14 +1,14 @@
 //! Files that are written in parts beside a path, or not at all.
 
+use crate::asserts::{equal, equal_at};
 use crate::calls::{called, counts, disk_with, has, old};
 use crate::disk::{Desk, Disk, Kind};
-use crate::scratch::{folder, is_link, link, read, remove, within, write};
+use crate::scratch::{folder, has_text, is_link, link, remove, within, write};
 use jk_files::{Refusal, abandon_output, create_beside_output, finish_output};
 use std::alloc::Global;
 use std::io::{ErrorKind, Write};
 use std::process::{self, Abort};
 use std::rt::Files;
-use vectors::{equal, equal_at};
 
 /// Writes a file beside a path, which takes it where that is said. Whether a file was opened.
 fn write_beside<R: Files>(
@@ -32,7 +32,7 @@ fn write_beside<R: Files>(
 /// Writes a file beside a path of a disk, or opens none.
 fn writes(rt: &impl Abort, alloc: Global, disk: &Disk, path: &str, is_whole: bool, opens: bool) {
     let answer = write_beside(&Desk(disk), alloc, path, is_whole).expect(rt, path);
-    equal_at(path, answer, opens).expect(rt, "a file beside a path");
+    equal_at(rt, "a file beside a path", path, answer, opens);
 }
 
 #[test]
@@ -72,11 +72,16 @@ static OTHERS: [(Kind, &str); 4] = [
     (Kind::Loop, "look d/out;ask d/out;"),
 ];
 
+/// What is of a kind has a path of a disk, is asked for by these calls, and left alone.
+fn other_is_left(rt: &impl Abort, alloc: Global, kind: Kind, calls: &str) {
+    let disk = disk_with(rt, alloc, "d/out", kind, b"old");
+    is_left(rt, alloc, &disk, calls);
+}
+
 #[test]
 fn where_no_file_is(rt: HostRuntime) {
     for (kind, calls) in &OTHERS {
-        let disk = disk_with(&rt, rt.alloc(), "d/out", *kind, b"old");
-        is_left(&rt, rt.alloc(), &disk, calls);
+        other_is_left(&rt, rt.alloc(), *kind, *calls);
     }
 }
 
@@ -87,27 +92,42 @@ static REASONS: [ErrorKind; 3] = [
     ErrorKind::ResourceBusy,
 ];
 
+/// The calls that find a folder that takes no new file.
+const CLOSED: &str = "look d/out;open d/out;make d/.jk-tmp-0;";
+
+/// A file of a folder that takes no new one, for this reason, is left alone.
+fn in_closed(rt: &impl Abort, alloc: Global, reason: ErrorKind) {
+    let disk = old(rt, alloc);
+    disk.closed.set(Some(reason));
+    is_left(rt, alloc, &disk, CLOSED);
+}
+
 #[test]
 fn in_a_closed_folder(rt: HostRuntime) {
     for reason in &REASONS {
-        let disk = old(&rt, rt.alloc());
-        disk.closed.set(Some(*reason));
-        let calls = "look d/out;open d/out;make d/.jk-tmp-0;";
-        is_left(&rt, rt.alloc(), &disk, calls);
+        in_closed(&rt, rt.alloc(), *reason);
     }
 }
 
+/// Whether no file can be opened beside one of a disk, for a reason that is told.
+fn is_refused(disk: &Disk, alloc: Global) -> bool {
+    create_beside_output(&Desk(disk), alloc, "d/out").is_err()
+}
+
 /// Where a call fails for another reason, that is answered, and what was there stays.
+fn fails_at(rt: &impl Abort, alloc: Global, call: u64) {
+    let disk = old(rt, alloc);
+    disk.fails_at.set(call);
+    equal_at(rt, "a refusal", call, is_refused(&disk, alloc), true);
+    has(rt, &disk, "d/out", b"old");
+    counts(rt, &disk, 1);
+}
+
 #[test]
 fn failing_at_each_call(rt: HostRuntime) {
     // To look, to open, to make, to allow.
     for call in 1..5 {
-        let disk = old(&rt, rt.alloc());
-        disk.fails_at.set(call);
-        let answer = create_beside_output(&Desk(&disk), rt.alloc(), "d/out");
-        equal_at(call, answer.is_err(), true).expect(&rt, "a refusal");
-        has(&rt, &disk, "d/out", b"old");
-        counts(&rt, &disk, 1);
+        fails_at(&rt, rt.alloc(), call);
     }
 }
 
@@ -116,28 +136,31 @@ fn is_written<R: Files + Abort>(rt: &R, alloc: Global, path: &str) -> bool {
     write_beside(rt, alloc, path, true).expect(rt, path)
 }
 
+/// Whether files were opened beside a link to a file, a link that leads nowhere and a device; whether
+/// the link stays; and whether the file has the new text.
+fn written<R: Files + Abort>(rt: &R, alloc: Global, folder: &str) -> [bool; 5] {
+    let file = within(rt, alloc, folder, "out");
+    let linked = within(rt, alloc, folder, "link");
+    let adrift = within(rt, alloc, folder, "adrift");
+    write(rt, file.as_str(), b"old");
+    link(rt, "out", linked.as_str());
+    link(rt, "none", adrift.as_str());
+    [
+        is_written(rt, alloc, linked.as_str()),
+        is_written(rt, alloc, adrift.as_str()),
+        is_written(rt, alloc, "/dev/null"),
+        is_link(rt, linked.as_str()),
+        has_text(rt, alloc, file.as_str(), "new"),
+    ]
+}
+
 /// A file of the system is replaced through a link, which stays; nothing is opened beside a link
 /// that leads nowhere, nor beside a device.
 #[test]
 fn of_the_system(rt: HostRuntime) {
-    let alloc = rt.alloc();
-    let path = folder(&rt, alloc, process::id(rt.process()), "beside");
-    let file = within(&rt, alloc, path.as_str(), "out");
-    let linked = within(&rt, alloc, path.as_str(), "link");
-    let adrift = within(&rt, alloc, path.as_str(), "adrift");
-    write(&rt, file.as_str(), b"old");
-    link(&rt, "out", linked.as_str());
-    link(&rt, "none", adrift.as_str());
-    let through = is_written(&rt, alloc, linked.as_str());
-    let nowhere = is_written(&rt, alloc, adrift.as_str());
-    let device = is_written(&rt, alloc, "/dev/null");
-    let stays = is_link(&rt, linked.as_str());
-    let text = read(&rt, alloc, file.as_str());
-    remove(&rt, alloc, path.as_str());
-    equal(
-        (through, nowhere, device, stays),
-        (true, false, false, true),
-    )
-    .expect(&rt, "files beside");
-    equal(text.as_str(), "new").expect(&rt, "the file");
+    let path = folder(&rt, rt.alloc(), process::id(rt.process()), "beside");
+    let found = written(&rt, rt.alloc(), path.as_str());
+    remove(&rt, rt.alloc(), path.as_str());
+    let due = [true, false, false, true, true];
+    equal(&rt, "files beside, the link and the file", found, due);
 }

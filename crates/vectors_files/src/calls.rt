@@ -1,11 +1,11 @@
 //! The calls that the tests make of a disk in memory, and what they claim of it then. What a call
 //! promises is left out: a test says what is answered, and proves nothing by it.
 
+use crate::asserts::{equal, equal_at};
 use crate::disk::{Desk, Disk, Kind};
 use jk_files::{Refusal, SharedLock};
 use std::alloc::Global;
 use std::process::Abort;
-use vectors::{equal, equal_at};
 
 /// A disk with one thing under a path.
 pub(crate) fn disk_with(
@@ -33,19 +33,19 @@ pub(crate) fn put(rt: &impl Abort, disk: &Disk, path: &str, kind: Kind, bytes: &
 /// A file has these bytes.
 pub(crate) fn has(rt: &impl Abort, disk: &Disk, path: &str, bytes: &[u8]) {
     let found = disk.bytes(path).expect(rt, path);
-    equal_at(path, found.as_slice(), bytes).expect(rt, "a file");
+    equal_at(rt, "a file", path, found.as_slice(), bytes);
 }
 
 /// These calls were made.
 pub(crate) fn called(rt: &impl Abort, disk: &Disk, calls: &str) {
     let found = disk.calls().expect(rt, "calls");
-    equal(found.as_str(), calls).expect(rt, "calls");
+    equal(rt, "calls", found.as_str(), calls);
 }
 
 /// So many paths have something.
 pub(crate) fn counts(rt: &impl Abort, disk: &Disk, count: usize) {
     let found = disk.count().expect(rt, "paths");
-    equal(found, count).expect(rt, "paths");
+    equal(rt, "paths", found, count);
 }
 
 pub(crate) fn write_new(

@@ -1,7 +1,7 @@
 //! A disk in memory that notes each call, and fails at one.
 
 use crate::handle::{Handle, Names};
-use std::alloc::{Allocator, Global};
+use std::alloc::{AllocError, Allocator, Global};
 use std::cell::{Cell, RefCell};
 use std::fs::{Metadata, OpenOptions};
 use std::io::{self, ErrorKind};
@@ -37,6 +37,48 @@ struct Entry {
     path: String,
     kind: Kind,
     bytes: Vec<u8>,
+}
+
+impl Entry {
+    fn new(alloc: Global, path: &str, kind: Kind, bytes: &[u8]) -> Result<Entry, AllocError> {
+        Ok(Entry {
+            path: String::from_str(alloc, path)?,
+            kind,
+            bytes: bytes.to_vec(alloc)?,
+        })
+    }
+}
+
+/// What stands under a path, if something does.
+fn find<'a>(entries: &'a [Entry], path: &str) -> Option<&'a Entry> {
+    for entry in entries {
+        if entry.path.as_str() == path {
+            return Some(entry);
+        }
+    }
+    None
+}
+
+/// Appends to a file.
+fn append_to(entries: &mut [Entry], path: &str, bytes: &[u8]) -> Result<(), AllocError> {
+    for entry in entries.iter_mut() {
+        if entry.path.as_str() == path {
+            entry.bytes.extend_from_slice(bytes)?;
+        }
+    }
+    Ok(())
+}
+
+/// The names in a folder, each with a NUL after it.
+fn names_in(alloc: Global, entries: &[Entry], folder: &str) -> Result<Vec<u8>, AllocError> {
+    let mut names = Vec::from_slice(alloc, b".\0..\0bad\xff.jp2\0")?;
+    for entry in entries {
+        if let Some(name) = entry.path.as_str().strip_prefix(folder) {
+            names.extend_from_slice(name.as_bytes())?;
+            names.push(0)?;
+        }
+    }
+    Ok(names)
 }
 
 /// A disk in memory. Any path that ends with a slash is a folder's.
@@ -84,22 +126,23 @@ impl Disk {
 
     /// Puts something under a path.
     pub(crate) fn put(&self, path: &str, kind: Kind, bytes: &[u8]) -> io::Result<()> {
-        let entry = Entry {
-            path: String::from_str(self.alloc, path)?,
-            kind,
-            bytes: bytes.to_vec(self.alloc)?,
-        };
+        let entry = Entry::new(self.alloc, path, kind, bytes)?;
         self.entries.try_borrow_mut()?.push(entry)?;
+        Ok(())
+    }
+
+    /// Notes a call.
+    fn note(&self, word: &str, path: &str) -> io::Result<()> {
+        let mut calls = self.calls.try_borrow_mut()?;
+        for part in [word, " ", path, ";"] {
+            calls.push_str(part)?;
+        }
         Ok(())
     }
 
     /// Notes a call, and fails where it is the one that is to.
     pub(crate) fn call(&self, word: &str, path: &str) -> io::Result<()> {
-        let mut calls = self.calls.try_borrow_mut()?;
-        calls.push_str(word)?;
-        calls.push(' ')?;
-        calls.push_str(path)?;
-        calls.push(';')?;
+        self.note(word, path)?;
         let count = self.count.get().saturating_add(1);
         self.count.set(count);
         if count == self.fails_at.get() {
@@ -123,32 +166,26 @@ impl Disk {
         if path.ends_with('/') {
             return Ok(Kind::Folder);
         }
-        for entry in self.entries.try_borrow()?.iter() {
-            if entry.path.as_str() == path {
-                return Ok(entry.kind);
-            }
+        let entries = self.entries.try_borrow()?;
+        match find(entries.as_slice(), path) {
+            Some(entry) => Ok(entry.kind),
+            None => Err(io::Error::from(ErrorKind::NotFound)),
         }
-        Err(io::Error::from(ErrorKind::NotFound))
     }
 
     /// The bytes of a file.
     pub(crate) fn bytes(&self, path: &str) -> io::Result<Vec<u8>> {
-        for entry in self.entries.try_borrow()?.iter() {
-            if entry.path.as_str() == path {
-                return Ok(entry.bytes.clone()?);
-            }
+        let entries = self.entries.try_borrow()?;
+        match find(entries.as_slice(), path) {
+            Some(entry) => Ok(entry.bytes.clone()?),
+            None => Err(io::Error::from(ErrorKind::NotFound)),
         }
-        Err(io::Error::from(ErrorKind::NotFound))
     }
 
     /// Appends to a file.
     pub(crate) fn append(&self, path: &str, bytes: &[u8]) -> io::Result<()> {
-        for entry in self.entries.try_borrow_mut()?.iter_mut() {
-            if entry.path.as_str() == path {
-                entry.bytes.extend_from_slice(bytes)?;
-            }
-        }
-        Ok(())
+        let mut entries = self.entries.try_borrow_mut()?;
+        Ok(append_to(entries.as_mut_slice(), path, bytes)?)
     }
 
     /// Takes what stands under a path away.
@@ -161,15 +198,8 @@ impl Disk {
 
     /// The names in a folder, each with a NUL after it.
     fn names(&self, folder: &str) -> io::Result<Vec<u8>> {
-        let mut names = Vec::new(self.alloc);
-        names.extend_from_slice(b".\0..\0bad\xff.jp2\0")?;
-        for entry in self.entries.try_borrow()?.iter() {
-            if let Some(name) = entry.path.as_str().strip_prefix(folder) {
-                names.extend_from_slice(name.as_bytes())?;
-                names.push(0)?;
-            }
-        }
-        Ok(names)
+        let entries = self.entries.try_borrow()?;
+        Ok(names_in(self.alloc, entries.as_slice(), folder)?)
     }
 
     /// Makes a file that isn't there.
@@ -193,6 +223,21 @@ impl Disk {
     }
 }
 
+impl Disk {
+    /// What is done to a path where a file is opened.
+    fn ask(&self, how: &OpenOptions, path: &str) -> io::Result<()> {
+        if how.asks_create_new() {
+            self.call("make", path)?;
+            self.make(path)
+        } else if how.asks_create() {
+            self.call("empty", path)?;
+            self.empty(path)
+        } else {
+            self.call("open", path)
+        }
+    }
+}
+
 /// What reaches a disk.
 #[derive(Clone, Copy)]
 pub(crate) struct Desk<'a>(pub(crate) &'a Disk);
@@ -204,20 +249,11 @@ impl<'a> Files for Desk<'a> {
 
     fn open_file(&self, how: &OpenOptions, path: &str) -> io::Result<Handle<'a>> {
         how.check()?;
-        let disk = self.0;
-        if how.asks_create_new() {
-            disk.call("make", path)?;
-            disk.make(path)?;
-        } else if how.asks_create() {
-            disk.call("empty", path)?;
-            disk.empty(path)?;
-        } else {
-            disk.call("open", path)?;
+        self.0.ask(how, path)?;
+        match self.0.kind(path)? {
+            Kind::Refused => Err(io::Error::from(ErrorKind::PermissionDenied)),
+            _ => Handle::new(self.0, self.0.alloc, path),
         }
-        if disk.kind(path)? == Kind::Refused {
-            return Err(io::Error::from(ErrorKind::PermissionDenied));
-        }
-        Handle::new(disk, disk.alloc, path)
     }
 
     fn open_dir(&self, path: &str) -> io::Result<Names> {

@@ -1,5 +1,6 @@
 //! What is listed of a folder.
 
+use crate::asserts::{equal, equal_at};
 use crate::calls::put;
 use crate::disk::{Desk, Disk, Kind};
 use crate::scratch::{folder, link, remove, within, write};
@@ -8,7 +9,7 @@ use std::alloc::Global;
 use std::fs;
 use std::process::{self, Abort};
 use std::rt::Files;
-use vectors::{Told, equal, equal_at};
+use vectors::Told;
 
 /// The names of files, and of others with what was said, in one text.
 fn told(rt: &impl Abort, alloc: Global, listing: &Listing) -> String {
@@ -60,14 +61,14 @@ fn told_of(rt: &impl Abort, alloc: Global, disk: &Disk) -> String {
 
 /// No call of a disk has a word.
 fn lacks(rt: &impl Abort, calls: &str, word: &str) {
-    equal_at((calls, word), calls.contains(word), false).expect(rt, "calls");
+    equal_at(rt, "calls", (calls, word), calls.contains(word), false);
 }
 
 #[test]
 fn one_of_each(rt: HostRuntime) {
     let disk = folder_of_all(&rt, rt.alloc());
     let text = told_of(&rt, rt.alloc(), &disk);
-    equal(text.as_str(), ONE_OF_EACH).expect(&rt, "a folder");
+    equal(&rt, "a folder", text.as_str(), ONE_OF_EACH);
     let calls = disk.calls().expect(&rt, "calls");
     lacks(&rt, calls.as_str(), "open d/pipe");
     lacks(&rt, calls.as_str(), ".txt");
@@ -80,13 +81,19 @@ fn is_unreadable<R: Files>(rt: &R, alloc: Global, path: &str) -> bool {
 
 #[test]
 fn unreadable(rt: HostRuntime) {
-    let alloc = rt.alloc();
-    let disk = folder_of_all(&rt, alloc);
+    let disk = folder_of_all(&rt, rt.alloc());
     disk.fails_at.set(1);
-    let answer = is_unreadable(&Desk(&disk), alloc, "d");
-    equal(answer, true).expect(&rt, "a folder of the disk");
-    equal(is_unreadable(&rt, alloc, "/nowhere/at/all"), true).expect(&rt, "no folder");
-    equal(is_unreadable(&rt, alloc, "/etc/hostname"), true).expect(&rt, "a file");
+    let found = [
+        is_unreadable(&Desk(&disk), rt.alloc(), "d"),
+        is_unreadable(&rt, rt.alloc(), "/nowhere/at/all"),
+        is_unreadable(&rt, rt.alloc(), "/etc/hostname"),
+    ];
+    equal(
+        &rt,
+        "a folder of the disk, no folder and a file",
+        found,
+        [true, true, true],
+    );
 }
 
 /// Makes a folder, a link to it, and in it a file, a link to that and a link to itself.
@@ -108,19 +115,22 @@ fn sorted<R: Files + Abort>(rt: &R, alloc: Global, path: &str) -> String {
 /// What is told of the inner folder by a path.
 fn is_inner<R: Files + Abort>(rt: &R, alloc: Global, path: &str) {
     let text = sorted(rt, alloc, path);
-    equal_at(path, text.as_str(), "a b |c FilesystemLoop").expect(rt, "a folder");
+    equal_at(rt, "a folder", path, text.as_str(), "a b |c FilesystemLoop");
+}
+
+/// The inner folder of a folder is told, by its path, by that of a link to it, and behind the link.
+fn are_inner<R: Files + Abort>(rt: &R, alloc: Global, folder: &str) {
+    let inner = within(rt, alloc, folder, "inner");
+    let linked = within(rt, alloc, folder, "link");
+    make_inner(rt, alloc, inner.as_str(), linked.as_str());
+    is_inner(rt, alloc, inner.as_str());
+    is_inner(rt, alloc, linked.as_str());
+    is_inner(rt, alloc, within(rt, alloc, linked.as_str(), "").as_str());
 }
 
 #[test]
 fn of_the_system(rt: HostRuntime) {
-    let alloc = rt.alloc();
-    let path = folder(&rt, alloc, process::id(rt.process()), "listing");
-    let inner = within(&rt, alloc, path.as_str(), "inner");
-    let linked = within(&rt, alloc, path.as_str(), "link");
-    let behind = within(&rt, alloc, linked.as_str(), "");
-    make_inner(&rt, alloc, inner.as_str(), linked.as_str());
-    is_inner(&rt, alloc, inner.as_str());
-    is_inner(&rt, alloc, linked.as_str());
-    is_inner(&rt, alloc, behind.as_str());
-    remove(&rt, alloc, path.as_str());
+    let path = folder(&rt, rt.alloc(), process::id(rt.process()), "listing");
+    are_inner(&rt, rt.alloc(), path.as_str());
+    remove(&rt, rt.alloc(), path.as_str());
 }

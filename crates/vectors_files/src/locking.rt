@@ -1,87 +1,100 @@
 //! The lock of a folder.
 
+use crate::asserts::{equal, equal_at};
 use crate::calls::{disk_with, is_refused, put, shares, word};
 use crate::disk::{Desk, Disk, Kind};
 use crate::scratch::{folder, remove};
-use jk_files::{Lock, Refusal, try_exclusive, try_shared, wait_exclusive};
+use jk_files::{try_exclusive, try_shared, wait_exclusive};
 use std::alloc::Global;
 use std::cell::Cell;
 use std::fs::File;
 use std::io::ErrorKind;
 use std::process::{self, Abort};
-use std::test::Fail;
-use vectors::{equal, equal_at};
-
-/// Whether a lock is taken.
-fn is_held(answer: Result<Option<Lock<File>>, Refusal>) -> Result<bool, Fail> {
-    Ok(answer?.is_some())
-}
+use std::rt::{Clock, Files};
 
 /// Whether a folder's lock can be taken.
-fn is_free(rt: &HostRuntime, path: &str) -> Result<bool, Fail> {
-    is_held(try_exclusive(rt, rt.alloc(), path))
-}
-
-/// What a try to share it gives.
-fn share_word(rt: &HostRuntime, path: &str) -> &'static str {
-    word(try_shared(rt, rt.alloc(), path))
+fn is_free<R: Files<File = File> + Abort>(rt: &R, alloc: Global, path: &str) -> bool {
+    let lock = try_exclusive(rt, alloc, path);
+    lock.expect(rt, "a lock").is_some()
 }
 
 /// Whether a folder's lock can be taken, and what a try to share it gives.
-fn tries(rt: &HostRuntime, path: &str) -> Result<(bool, &'static str), Fail> {
-    let held = is_free(rt, path)?;
-    Ok((held, share_word(rt, path)))
+fn tries<R: Files<File = File> + Abort>(rt: &R, alloc: Global, path: &str) -> (bool, &'static str) {
+    let held = is_free(rt, alloc, path);
+    (held, word(try_shared(rt, alloc, path)))
 }
 
 /// The same while the lock is held alone.
-fn while_alone(rt: &HostRuntime, path: &str) -> Result<(bool, &'static str), Fail> {
-    let alone = try_exclusive(rt, rt.alloc(), path)?;
-    let answers = tries(rt, path);
+fn while_alone<R: Files<File = File> + Abort>(
+    rt: &R,
+    alloc: Global,
+    path: &str,
+) -> (bool, &'static str) {
+    let alone = try_exclusive(rt, alloc, path).expect(rt, "a lock");
+    let answers = tries(rt, alloc, path);
     drop(alone);
     answers
 }
 
 /// The same while the lock is shared.
-fn while_shared(rt: &HostRuntime, path: &str) -> Result<(bool, &'static str), Fail> {
-    let shared = try_shared(rt, rt.alloc(), path)?;
-    let answers = tries(rt, path);
+fn while_shared<R: Files<File = File> + Abort>(
+    rt: &R,
+    alloc: Global,
+    path: &str,
+) -> (bool, &'static str) {
+    let shared = try_shared(rt, alloc, path).expect(rt, "a lock");
+    let answers = tries(rt, alloc, path);
     drop(shared);
     answers
 }
 
 /// The same while the lock is held that was waited for.
-fn while_waited(rt: &HostRuntime, path: &str) -> Result<(bool, &'static str), Fail> {
-    let waited = wait_exclusive(rt, rt.alloc(), path, || ())?;
-    let answers = tries(rt, path);
+fn while_waited<R: Files<File = File> + Clock + Abort>(
+    rt: &R,
+    alloc: Global,
+    path: &str,
+) -> (bool, &'static str) {
+    let waited = wait_exclusive(rt, alloc, path, || ()).expect(rt, "a lock");
+    let answers = tries(rt, alloc, path);
     drop(waited);
     answers
 }
 
 #[test]
-fn of_the_system(rt: HostRuntime) -> Result<(), Fail> {
+fn of_the_system(rt: HostRuntime) {
     let alloc = rt.alloc();
     let path = folder(&rt, alloc, process::id(rt.process()), "locking");
-    let alone = while_alone(&rt, path.as_str())?;
-    let shared = while_shared(&rt, path.as_str())?;
-    let at_last = tries(&rt, path.as_str())?;
-    let waited = while_waited(&rt, path.as_str())?;
+    let alone = while_alone(&rt, alloc, path.as_str());
+    let shared = while_shared(&rt, alloc, path.as_str());
+    let at_last = tries(&rt, alloc, path.as_str());
+    let waited = while_waited(&rt, alloc, path.as_str());
     remove(&rt, alloc, path.as_str());
-    equal(alone, (false, "taken")).expect(&rt, "while it is held alone");
-    equal(shared, (false, "held")).expect(&rt, "while it is shared");
-    equal(at_last, (true, "held")).expect(&rt, "while it is free");
-    equal(waited, (false, "taken")).expect(&rt, "while it was waited for");
-    Ok(())
+    equal(&rt, "while it is held alone", alone, (false, "taken"));
+    equal(&rt, "while it is shared", shared, (false, "held"));
+    equal(&rt, "while it is free", at_last, (true, "held"));
+    equal(&rt, "while it was waited for", waited, (false, "taken"));
+}
+
+/// Whether the lock of a disk's folder is had that is waited for, and whether that is told.
+fn waited(disk: &Disk, alloc: Global) -> (bool, u64) {
+    let calls = Cell::new(0);
+    let answer = wait_exclusive(&Desk(disk), alloc, "d", || calls.set(1));
+    (answer.is_ok(), calls.get())
 }
 
 /// How often a lock is found taken, whether it is had, how often that is told, and how often is slept.
 fn waits(rt: &impl Abort, alloc: Global, taken: u64, held: bool, told: u64, sleeps: u64) {
     let disk = Disk::new(alloc);
     disk.taken.set(taken);
-    let calls = Cell::new(0);
-    let answer = wait_exclusive(&Desk(&disk), alloc, "d", || calls.set(1));
-    equal_at(taken, answer.is_ok(), held).expect(rt, "a lock");
-    let counts = (calls.get(), disk.sleeps.get());
-    equal_at(taken, counts, (told, sleeps)).expect(rt, "calls and pauses");
+    let found = waited(&disk, alloc);
+    let due = ((held, told), sleeps);
+    equal_at(
+        rt,
+        "a lock, calls and pauses",
+        taken,
+        (found, disk.sleeps.get()),
+        due,
+    );
 }
 
 #[test]
@@ -97,10 +110,10 @@ fn waiting(rt: HostRuntime) {
 fn closed(rt: &impl Abort, alloc: Global, reason: ErrorKind, due: &str) {
     let disk = Disk::new(alloc);
     disk.closed.set(Some(reason));
-    equal_at(reason, shares(&disk, alloc), due).expect(rt, "a lock that is shared");
-    equal_at(reason, is_refused(&disk, alloc), true).expect(rt, "a lock");
+    let found = (shares(&disk, alloc), is_refused(&disk, alloc));
     put(rt, &disk, "d/.lock", Kind::File, b"");
-    equal_at(reason, shares(&disk, alloc), "held").expect(rt, "a lock that is there");
+    let both = (found, shares(&disk, alloc));
+    equal_at(rt, "a lock", reason, both, ((due, true), "held"));
 }
 
 #[test]
@@ -113,8 +126,8 @@ fn where_no_file_can_be_made(rt: HostRuntime) {
 /// Where no regular file is, no lock is taken.
 fn no_lock(rt: &impl Abort, alloc: Global, kind: Kind) {
     let disk = disk_with(rt, alloc, "d/.lock", kind, b"");
-    equal_at(kind, shares(&disk, alloc), "refused").expect(rt, "a lock that is shared");
-    equal_at(kind, is_refused(&disk, alloc), true).expect(rt, "a lock");
+    let found = (shares(&disk, alloc), is_refused(&disk, alloc));
+    equal_at(rt, "a lock", kind, found, ("refused", true));
 }
 
 #[test]

@@ -1,12 +1,13 @@
 //! Files that are written in parts and replaced as a whole.
 
+use crate::asserts::{equal, equal_at};
 use crate::calls::{called, counts, disk_with, has, old, put};
 use crate::disk::{Desk, Disk, Kind};
-use jk_files::{Refusal, abandon_output, create_output, finish_output};
+use crate::handle::Handle;
+use jk_files::{Output, Refusal, abandon_output, create_output, finish_output};
 use std::alloc::Global;
 use std::io::{self, ErrorKind, Write};
 use std::process::Abort;
-use vectors::{equal, equal_at};
 
 /// The calls that replace a file where the first name beside it is taken.
 const IN_ORDER: &str = "look d/out;open d/out;make d/.jk-tmp-0;make d/.jk-tmp-1;\
@@ -18,17 +19,23 @@ fn write_both(output: &mut impl Write) -> io::Result<()> {
     output.write_all(b"w")
 }
 
-/// Writes a file in two parts. What can't be written whole is abandoned.
-fn write_parts(disk: &Disk, alloc: Global, path: &str) -> Result<(), Refusal> {
-    let desk = Desk(disk);
-    let mut output = create_output(&desk, alloc, path)?;
-    match write_both(&mut output) {
-        Ok(()) => finish_output(&desk, output),
+/// Replaces what has the path by a file that was written. What can't be written whole is abandoned.
+fn end(desk: &Desk, output: Output<Handle>, written: io::Result<()>) -> Result<(), Refusal> {
+    match written {
+        Ok(()) => finish_output(desk, output),
         Err(said) => {
-            abandon_output(&desk, output);
+            abandon_output(desk, output);
             Err(Refusal::System(said))
         }
     }
+}
+
+/// Writes a file in two parts.
+fn write_parts(disk: &Disk, alloc: Global, path: &str) -> Result<(), Refusal> {
+    let desk = Desk(disk);
+    let mut output = create_output(&desk, alloc, path)?;
+    let written = write_both(&mut output);
+    end(&desk, output, written)
 }
 
 /// A file is written in parts.
@@ -50,7 +57,7 @@ fn fails_at(rt: &impl Abort, alloc: Global, call: u64) {
     let disk = old(rt, alloc);
     disk.fails_at.set(call);
     let answer = write_parts(&disk, alloc, "d/out");
-    equal_at(call, answer.is_err(), true).expect(rt, "a refusal");
+    equal_at(rt, "a refusal", call, answer.is_err(), true);
     has(rt, &disk, "d/out", b"old");
     counts(rt, &disk, 1);
 }
@@ -105,6 +112,6 @@ fn fixed_in_its_place(rt: HostRuntime) {
 fn may_not_be_written(rt: HostRuntime) {
     let disk = disk_with(&rt, rt.alloc(), "d/out", Kind::Refused, b"old");
     let answer = write_parts(&disk, rt.alloc(), "d/out");
-    equal(answer.is_err(), true).expect(&rt, "a refusal");
+    equal(&rt, "a refusal", answer.is_err(), true);
     has(&rt, &disk, "d/out", b"old");
 }

@@ -1,5 +1,6 @@
 //! What is read of a file, and when a read fails.
 
+use crate::asserts::{equal, equal_at};
 use crate::calls::{called, disk_with, read_file, read_inside_at};
 use crate::disk::{Desk, Disk, Kind};
 use crate::scratch::{folder, link, remove, within, write};
@@ -10,7 +11,6 @@ use std::fs::File;
 use std::io::ErrorKind;
 use std::process::{self, Abort};
 use std::rt::Files;
-use vectors::{equal, equal_at};
 
 /// All bytes, one after another.
 fn row(rt: &impl Abort, alloc: Global) -> Vec<u8> {
@@ -66,8 +66,8 @@ static PIECES: [usize; 3] = [usize::MAX, 100_000, 4096];
 /// A source and a file are read whole in pieces of so many bytes at most.
 fn is_read_in(rt: &impl Abort, alloc: Global, piece: usize) {
     let disk = disk_of(rt, alloc, piece);
-    equal_at(piece, source(rt, alloc, &disk), Ok(true)).expect(rt, "a source");
-    equal_at(piece, file(rt, alloc, &disk), Ok(true)).expect(rt, "a file");
+    equal_at(rt, "a source", piece, source(rt, alloc, &disk), Ok(true));
+    equal_at(rt, "a file", piece, file(rt, alloc, &disk), Ok(true));
 }
 
 #[test]
@@ -87,7 +87,7 @@ fn failing(rt: &impl Abort, alloc: Global, call: u64) -> Disk {
 /// A source is refused where a call fails.
 fn source_fails_at(rt: &impl Abort, alloc: Global, call: u64) {
     let answer = source(rt, alloc, &failing(rt, alloc, call));
-    equal_at(call, answer, Err(Fault::Shelf)).expect(rt, "a source");
+    equal_at(rt, "a source", call, answer, Err(Fault::Shelf));
 }
 
 /// The first call opens; eleven reads give bytes, and the last sees the end.
@@ -100,7 +100,7 @@ fn source_fails(rt: &impl Abort, alloc: Global) {
 /// A file is refused where a call fails, if there is such a call.
 fn file_fails_at(rt: &impl Abort, alloc: Global, call: u64, due: Whole) {
     let answer = file(rt, alloc, &failing(rt, alloc, call));
-    equal_at(call, answer, due).expect(rt, "a file");
+    equal_at(rt, "a file", call, answer, due);
 }
 
 /// A question and an opening, and eleven reads, of which the last gives the last byte that the file
@@ -122,16 +122,16 @@ fn failing_at_each_read(rt: HostRuntime) {
 fn interrupted(rt: HostRuntime) {
     let disk = disk_of(&rt, rt.alloc(), 100_000);
     disk.interrupts.set(5);
-    equal(source(&rt, rt.alloc(), &disk), Ok(true)).expect(&rt, "a source");
+    equal(&rt, "a source", source(&rt, rt.alloc(), &disk), Ok(true));
     disk.interrupts.set(5);
-    equal(file(&rt, rt.alloc(), &disk), Ok(true)).expect(&rt, "a file");
+    equal(&rt, "a file", file(&rt, rt.alloc(), &disk), Ok(true));
 }
 
 /// A file that has these bytes and said it has ten gives those.
 fn of_ten(rt: &impl Abort, alloc: Global, bytes: &[u8], due: &[u8]) {
     let disk = disk_with(rt, alloc, "a", Kind::Ten, bytes);
     let read = read_file(&disk, alloc, "a").expect(rt, "a file");
-    equal_at(bytes, read.as_slice(), due).expect(rt, "a file");
+    equal_at(rt, "a file", bytes, read.as_slice(), due);
 }
 
 #[test]
@@ -152,7 +152,7 @@ fn said_of(answer: Result<Vec<u8>, Refusal>) -> Option<ErrorKind> {
 fn refused(rt: &impl Abort, alloc: Global, kind: Kind, due: ErrorKind, calls: &str) {
     let disk = disk_with(rt, alloc, "a", kind, b"");
     let said = said_of(read_file(&disk, alloc, "a"));
-    equal_at(kind, said, Some(due)).expect(rt, "what is said");
+    equal_at(rt, "what is said", kind, said, Some(due));
     called(rt, &disk, calls);
 }
 
@@ -211,7 +211,7 @@ fn gives(rt: &impl Abort, alloc: Global, start: usize, most: usize, piece: usize
     let disk = disk_of(rt, alloc, piece);
     disk.interrupts.set(1);
     let answer = from(rt, alloc, &disk, start, most);
-    equal_at((start, most, piece), answer, Ok(true)).expect(rt, "a stretch");
+    equal_at(rt, "a stretch", (start, most, piece), answer, Ok(true));
 }
 
 /// A stretch is given in pieces of any size.
@@ -232,7 +232,7 @@ fn from_a_place(rt: HostRuntime) {
 fn failing_from(rt: &impl Abort, alloc: Global, call: u64, due: Whole) {
     let disk = failing(rt, alloc, call);
     let answer = from(rt, alloc, &disk, 70_000, 250_000);
-    equal_at(call, answer, due).expect(rt, "a stretch");
+    equal_at(rt, "a stretch", call, answer, due);
 }
 
 #[test]
@@ -249,7 +249,7 @@ fn from_no_file(rt: &impl Abort, alloc: Global, name: &str, kind: Kind, due: Opt
     let disk = disk_with(rt, alloc, "d/a", kind, b"0123");
     let answer = read_inside_at(&disk, alloc, name, 1, 2).err();
     let fault = answer.map(|refusal| refusal.fault());
-    equal_at((name, kind), fault, due).expect(rt, "a file");
+    equal_at(rt, "a file", (name, kind), fault, due);
 }
 
 #[test]
@@ -271,13 +271,13 @@ fn of_system<R: Files + Abort>(rt: &R, alloc: Global, path: &str) -> Whole {
 #[test]
 fn a_device(rt: HostRuntime) {
     let answer = of_system(&rt, rt.alloc(), "/dev/zero");
-    equal(answer, Err(Fault::Shelf)).expect(&rt, "a device");
+    equal(&rt, "a device", answer, Err(Fault::Shelf));
 }
 
-/// The last bytes of a file of a folder of the system.
-fn last_of_system<R: Files + Abort>(rt: &R, alloc: Global, folder: &str, name: &str) -> Vec<u8> {
+/// Whether the last bytes of a file of a folder of the system are given.
+fn has_last<R: Files + Abort>(rt: &R, alloc: Global, folder: &str, name: &str) -> bool {
     let read = jk_files::read_inside_at(rt, alloc, folder, name, 1_048_574, 9);
-    read.expect(rt, "a stretch")
+    read.expect(rt, "a stretch").as_slice() == [254u8, 255, 7].as_slice()
 }
 
 /// Puts the megabyte into a folder of the system, and a link to it.
@@ -292,18 +292,21 @@ fn inside_system<R: Files + Abort>(rt: &R, alloc: Global, folder: &str, name: &s
     of_system(rt, alloc, within(rt, alloc, folder, name).as_str())
 }
 
+/// What a file of a folder gives, a link to it and the folder itself, and whether the last bytes are
+/// given through the link.
+fn found_in<R: Files + Abort>(rt: &R, alloc: Global, folder: &str) -> ([Whole; 3], bool) {
+    make_files(rt, alloc, folder);
+    let whole = inside_system(rt, alloc, folder, "a");
+    let linked = inside_system(rt, alloc, folder, "b");
+    let inner = of_system(rt, alloc, folder);
+    ([whole, linked, inner], has_last(rt, alloc, folder, "b"))
+}
+
 #[test]
 fn of_the_system(rt: HostRuntime) {
-    let alloc = rt.alloc();
-    let path = folder(&rt, alloc, process::id(rt.process()), "reading");
-    make_files(&rt, alloc, path.as_str());
-    let whole = inside_system(&rt, alloc, path.as_str(), "a");
-    let linked = inside_system(&rt, alloc, path.as_str(), "b");
-    let inner = of_system(&rt, alloc, path.as_str());
-    let last = last_of_system(&rt, alloc, path.as_str(), "b");
-    remove(&rt, alloc, path.as_str());
-    equal(whole, Ok(true)).expect(&rt, "a file");
-    equal(linked, Ok(true)).expect(&rt, "a link");
-    equal(inner, Err(Fault::Shelf)).expect(&rt, "a folder");
-    equal(last.as_slice(), [254u8, 255, 7].as_slice()).expect(&rt, "a stretch");
+    let path = folder(&rt, rt.alloc(), process::id(rt.process()), "reading");
+    let found = found_in(&rt, rt.alloc(), path.as_str());
+    remove(&rt, rt.alloc(), path.as_str());
+    let due = ([Ok(true), Ok(true), Err(Fault::Shelf)], true);
+    equal(&rt, "a file, a link, a folder and a stretch", found, due);
 }

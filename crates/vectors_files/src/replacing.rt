@@ -1,5 +1,6 @@
 //! Files that are replaced as a whole.
 
+use crate::asserts::{equal, equal_at};
 use crate::calls::{called, counts, disk_with, has, old, put, replace_file};
 use crate::disk::{Disk, Kind};
 use crate::scratch::{folder, is_link, link, remove, within};
@@ -10,7 +11,6 @@ use std::io::ErrorKind;
 use std::os::unix::fs::PermissionsExt;
 use std::process::{self, Abort};
 use std::rt::Files;
-use vectors::{equal, equal_at};
 
 /// The calls that replace a file where the first name beside it is taken.
 const IN_ORDER: &str = "look d/out;open d/out;make d/.jk-tmp-0;make d/.jk-tmp-1;\
@@ -37,7 +37,7 @@ fn fails_at(rt: &impl Abort, alloc: Global, call: u64) {
     disk.piece.set(2);
     disk.fails_at.set(call);
     let answer = replace_file(&disk, alloc, "d/out", b"new");
-    equal_at(call, answer.is_err(), true).expect(rt, "a refusal");
+    equal_at(rt, "a refusal", call, answer.is_err(), true);
     has(rt, &disk, "d/out", b"old");
     counts(rt, &disk, 1);
 }
@@ -101,7 +101,7 @@ fn as_it_is(rt: HostRuntime) {
 fn may_not_be_written(rt: HostRuntime) {
     let disk = disk_with(&rt, rt.alloc(), "d/out", Kind::Refused, b"old");
     let answer = replace_file(&disk, rt.alloc(), "d/out", b"new");
-    equal(answer.is_err(), true).expect(&rt, "a refusal");
+    equal(&rt, "a refusal", answer.is_err(), true);
     has(&rt, &disk, "d/out", b"old");
 }
 
@@ -115,21 +115,27 @@ fn read_in_system<R: Files + Abort>(rt: &R, alloc: Global, path: &str) -> Vec<u8
     read_file(rt, alloc, path).expect(rt, path)
 }
 
-/// Replaces a file, and then again through a link to it. What was read through the link in between.
-fn replace_twice<R: Files + Abort>(rt: &R, alloc: Global, file: &str, linked: &str) -> Vec<u8> {
+/// Whether a file of the system has these bytes.
+fn is_in_system<R: Files + Abort>(rt: &R, alloc: Global, path: &str, bytes: &[u8]) -> bool {
+    read_in_system(rt, alloc, path).as_slice() == bytes
+}
+
+/// Replaces a file, and then again through a link to it. Whether the first one was read through the
+/// link in between.
+fn replace_twice<R: Files + Abort>(rt: &R, alloc: Global, file: &str, linked: &str) -> bool {
     replace_in_system(rt, alloc, file, b"one");
     fs::set_permissions(rt, file, Permissions::from_mode(0o600)).expect(rt, file);
     link(rt, "out", linked);
-    let same = read_in_system(rt, alloc, linked);
+    let is_first = is_in_system(rt, alloc, linked, b"one");
     replace_in_system(rt, alloc, linked, b"two");
-    same
+    is_first
 }
 
-/// Replaces a file by what is read of it, and says what is read then.
-fn replace_by_itself<R: Files + Abort>(rt: &R, alloc: Global, file: &str) -> Vec<u8> {
+/// Replaces a file by what is read of it. Whether the second one is read then.
+fn replace_by_itself<R: Files + Abort>(rt: &R, alloc: Global, file: &str) -> bool {
     let bytes = read_in_system(rt, alloc, file);
     replace_in_system(rt, alloc, file, &bytes);
-    read_in_system(rt, alloc, file)
+    is_in_system(rt, alloc, file, b"two")
 }
 
 /// How many files and how many others a folder has.
@@ -143,21 +149,33 @@ fn mode<R: Files + Abort>(rt: &R, file: &str) -> u32 {
     rt.metadata(file).expect(rt, file).permissions().mode() & 0o777
 }
 
+/// Replaces a file of a folder. Whether it was read as the first and the second one, whether the link
+/// stays, the file's mode, and what the folder has.
+fn replaced<R: Files + Abort>(
+    rt: &R,
+    alloc: Global,
+    folder: &str,
+) -> ((bool, bool), (bool, u32), (usize, usize)) {
+    let file = within(rt, alloc, folder, "out");
+    let linked = within(rt, alloc, folder, "link");
+    let first = replace_twice(rt, alloc, file.as_str(), linked.as_str());
+    let second = replace_by_itself(rt, alloc, file.as_str());
+    let kinds = (is_link(rt, linked.as_str()), mode(rt, file.as_str()));
+    ((first, second), kinds, counted(rt, alloc, folder))
+}
+
 #[test]
 fn of_the_system(rt: HostRuntime) {
-    let alloc = rt.alloc();
-    let path = folder(&rt, alloc, process::id(rt.process()), "replacing");
-    let file = within(&rt, alloc, path.as_str(), "out");
-    let linked = within(&rt, alloc, path.as_str(), "link");
-    let same = replace_twice(&rt, alloc, file.as_str(), linked.as_str());
-    let twice = replace_by_itself(&rt, alloc, file.as_str());
-    let kinds = (is_link(&rt, linked.as_str()), mode(&rt, file.as_str()));
-    let counts = counted(&rt, alloc, path.as_str());
-    remove(&rt, alloc, path.as_str());
-    equal(same.as_slice(), b"one".as_slice()).expect(&rt, "the first file");
-    equal(twice.as_slice(), b"two".as_slice()).expect(&rt, "the second file");
-    equal(kinds, (true, 0o600)).expect(&rt, "a link, and a mode");
-    equal(counts, (2, 0)).expect(&rt, "files and others");
+    let path = folder(&rt, rt.alloc(), process::id(rt.process()), "replacing");
+    let found = replaced(&rt, rt.alloc(), path.as_str());
+    remove(&rt, rt.alloc(), path.as_str());
+    let due = ((true, true), (true, 0o600), (2, 0));
+    equal(
+        &rt,
+        "both files, a link, a mode, and files and others",
+        found,
+        due,
+    );
 }
 
 #[test]

@@ -23,10 +23,10 @@ pub(crate) fn write<R: Files + Abort>(rt: &R, path: &str, bytes: &[u8]) {
     fs::write(rt, path, bytes).expect(rt, path);
 }
 
-/// Reads a file of text.
-pub(crate) fn read<R: Files + Abort>(rt: &R, alloc: Global, path: &str) -> String {
+/// Whether a file has this text.
+pub(crate) fn has_text<R: Files + Abort>(rt: &R, alloc: Global, path: &str, text: &str) -> bool {
     let file = File::open(rt, path).expect(rt, path);
-    io::read_to_string(alloc, file).expect(rt, path)
+    io::read_to_string(alloc, file).expect(rt, path).as_str() == text
 }
 
 /// Makes a link.

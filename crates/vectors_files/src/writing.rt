@@ -1,14 +1,14 @@
 //! In which order files are written and renamed, and what is left alone.
 
+use crate::asserts::{equal, equal_at};
 use crate::calls::{called, disk_with, has, rename, write_new};
 use crate::disk::{Disk, Kind};
-use crate::scratch::{folder, is_link, link, read, remove, within, write};
+use crate::scratch::{folder, has_text, is_link, link, remove, within, write};
 use jk_files::is_file_name;
 use std::alloc::Global;
 use std::fs;
 use std::process::{self, Abort};
 use std::rt::Files;
-use vectors::{equal, equal_at};
 
 #[test]
 fn in_order(rt: HostRuntime) {
@@ -42,7 +42,7 @@ fn writing_fails_at(rt: &impl Abort, alloc: Global, call: u64) {
     disk.piece.set(2);
     disk.fails_at.set(call);
     let answer = write_new(&disk, alloc, "d", "a", b"one");
-    equal_at(call, answer.is_err(), true).expect(rt, "a refusal");
+    equal_at(rt, "a refusal", call, answer.is_err(), true);
 }
 
 /// No file is renamed where a call fails.
@@ -50,7 +50,7 @@ fn renaming_fails_at(rt: &impl Abort, alloc: Global, call: u64) {
     let disk = disk_with(rt, alloc, "d/a", Kind::File, b"");
     disk.fails_at.set(call);
     let answer = rename(&disk, alloc, "d", "a", "b");
-    equal_at(call, answer.is_err(), true).expect(rt, "a refusal");
+    equal_at(rt, "a refusal", call, answer.is_err(), true);
 }
 
 #[test]
@@ -89,13 +89,20 @@ static NAMES: [(&str, bool); 9] = [
 
 /// Whether a name is a file's, and a file is written under it, renamed from it, and to it.
 fn takes(rt: &impl Abort, disk: &Disk, alloc: Global, name: &str, good: bool) {
-    equal_at(name, is_file_name(name), good).expect(rt, "a name");
-    let written = write_new(disk, alloc, "d", name, b"").is_ok();
-    equal_at(name, written, good).expect(rt, "a new file");
-    let from = rename(disk, alloc, "d", name, "z").is_ok();
-    equal_at(name, from, good).expect(rt, "an old name");
-    let to = rename(disk, alloc, "d", "z", name).is_ok();
-    equal_at(name, to, good).expect(rt, "a new name");
+    let found = [
+        is_file_name(name),
+        write_new(disk, alloc, "d", name, b"").is_ok(),
+        rename(disk, alloc, "d", name, "z").is_ok(),
+        rename(disk, alloc, "d", "z", name).is_ok(),
+    ];
+    let due = [good, good, good, good];
+    equal_at(
+        rt,
+        "a name, a new file, an old and a new name",
+        name,
+        found,
+        due,
+    );
 }
 
 #[test]
@@ -122,17 +129,27 @@ fn rename_over<R: Files + Abort>(rt: &R, alloc: Global, folder: &str) -> bool {
     fs::exists(rt, new.as_str()).expect(rt, "a name")
 }
 
+/// Writes over a link in a folder, and renames over what it led to. Whether the new file is a link,
+/// whether it still has its name, and whether the other file was kept, and was replaced then.
+fn written<R: Files + Abort>(rt: &R, alloc: Global, folder: &str) -> (bool, bool, bool, bool) {
+    let victim = within(rt, alloc, folder, "victim");
+    let is_link = write_over_link(rt, alloc, folder, victim.as_str());
+    let is_kept = has_text(rt, alloc, victim.as_str(), "kept");
+    let exists = rename_over(rt, alloc, folder);
+    let is_new = has_text(rt, alloc, victim.as_str(), "new");
+    (is_link, exists, is_kept, is_new)
+}
+
 #[test]
 fn of_the_system(rt: HostRuntime) {
-    let alloc = rt.alloc();
-    let path = folder(&rt, alloc, process::id(rt.process()), "writing");
-    let victim = within(&rt, alloc, path.as_str(), "victim");
-    let is_link = write_over_link(&rt, alloc, path.as_str(), victim.as_str());
-    let kept = read(&rt, alloc, victim.as_str());
-    let exists = rename_over(&rt, alloc, path.as_str());
-    let renamed = read(&rt, alloc, victim.as_str());
-    remove(&rt, alloc, path.as_str());
-    equal((is_link, exists), (false, false)).expect(&rt, "a link, and the new file");
-    equal(kept.as_str(), "kept").expect(&rt, "the other file");
-    equal(renamed.as_str(), "new").expect(&rt, "the other file");
+    let path = folder(&rt, rt.alloc(), process::id(rt.process()), "writing");
+    let found = written(&rt, rt.alloc(), path.as_str());
+    remove(&rt, rt.alloc(), path.as_str());
+    let due = (false, false, true, true);
+    equal(
+        &rt,
+        "a link, the new file, and the other file twice",
+        found,
+        due,
+    );
 }

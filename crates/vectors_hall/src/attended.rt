@@ -1,12 +1,11 @@
 //! What a reader replies on a connection, how often it reads of it, and why that ends.
 
-use crate::calls::{PAGE, equal, opened, shelf};
-use jk_hall::{Nobody, Reader};
+use crate::calls::{attend, equal, opened_for_one, page, put, shelf};
 use jk_web::End;
 use std::alloc::Global;
+use std::process::Abort;
 use std::sync::Wait;
-use std::test::Fail;
-use vectors::{Pieces, bytes_of};
+use vectors::Pieces;
 
 /// Requests, and the head and the text of the reply to each; where there is no text, the file of
 /// one sample follows. The last request closes, and one more stands behind it.
@@ -63,62 +62,55 @@ static ASKED: [(&[u8], &[u8]); 13] = [
 ];
 
 /// All requests, and the replies to them.
-fn exchange(alloc: Global) -> Result<(Vec<u8>, Vec<u8>), Fail> {
-    let page = bytes_of(alloc, &[PAGE])?;
+fn exchange(rt: &impl Abort, alloc: Global) -> (Vec<u8>, Vec<u8>) {
+    let page = page(rt, alloc);
     let mut requests = Vec::new(alloc);
     let mut replies = Vec::new(alloc);
     for (request, reply) in &ASKED {
-        requests.extend_from_slice(request)?;
-        replies.extend_from_slice(reply)?;
+        put(rt, &mut requests, request);
+        put(rt, &mut replies, reply);
         if reply.ends_with(b"Content-Length: 167\r\n\r\n") {
-            replies.extend_from_slice(&page)?;
+            put(rt, &mut replies, &page);
         }
     }
-    Ok((requests, replies))
+    (requests, replies)
 }
 
-/// What a reader writes where these bytes come in such pieces, in at most so many reads; how often
-/// it reads; and why it ends.
-fn attended(
-    reader: &mut Reader,
-    alloc: Global,
-    stream: (Vec<u8>, usize, bool),
-    turns: u64,
-) -> Result<(Vec<u8>, u64, End), Fail> {
-    let mut files = shelf(alloc)?;
-    let mut input = Pieces::new(stream.0, stream.1, stream.2);
-    let mut output = Vec::new(alloc);
-    let end = reader.attend(alloc, &mut files, &mut input, &mut output, &Nobody, turns)?;
-    Ok((output, input.reads(), end))
-}
-
-/// The same of the reader of a new hall.
-fn attended_anew<R: Wait>(
+/// What the reader of a new hall writes where this comes, in at most so many reads; how often it
+/// reads; and why it ends.
+fn attended<R: Wait + Abort>(
     rt: &R,
     alloc: Global,
-    stream: (Vec<u8>, usize, bool),
+    input: Pieces,
     turns: u64,
-) -> Result<(Vec<u8>, u64, End), Fail> {
-    let (writer, mut readers, _) = opened(rt, alloc, 1)?;
-    let found = match readers.pop() {
-        Some(mut reader) => attended(&mut reader, alloc, stream, turns),
-        None => Err("no reader".into()),
-    };
+) -> (Vec<u8>, u64, End) {
+    let mut input = input;
+    let mut files = shelf(rt, alloc);
+    let mut output = Vec::new(alloc);
+    let (writer, mut reader) = opened_for_one(rt, alloc, &["a"]);
+    let end = attend(
+        rt,
+        alloc,
+        &mut reader,
+        &mut files,
+        &mut input,
+        &mut output,
+        turns,
+    );
     writer.close(rt);
-    found
+    (output, input.reads(), end)
 }
 
 #[test]
-fn a_stream_of_requests(rt: HostRuntime) -> Result<(), Fail> {
+fn a_stream_of_requests(rt: HostRuntime) {
     let alloc = rt.alloc();
     for size in [1, 7, 1000] {
-        let (requests, replies) = exchange(alloc)?;
-        let stream = (requests, size, true);
-        let (output, _, end) = attended_anew(&rt, alloc, stream, 100_000)?;
+        let (requests, replies) = exchange(&rt, alloc);
+        let input = Pieces::new(requests, size, true);
+        let (output, _reads, end) = attended(&rt, alloc, input, 100_000);
         equal(&rt, output.as_slice(), replies.as_slice());
         equal(&rt, end, End::Closed);
     }
-    Ok(())
 }
 
 /// Two requests of 24 bytes each, one that closes, and a bad one.
@@ -159,13 +151,14 @@ fn count_of(text: &[u8]) -> usize {
 
 /// No more reads are made than there may be, and it ends as by a failed read only where one failed.
 #[test]
-fn reads_are_counted(rt: HostRuntime) -> Result<(), Fail> {
+fn reads_are_counted(rt: HostRuntime) {
     let alloc = rt.alloc();
     for (bytes, fails, turns, reads, replies, end) in &TURNS {
-        let stream = (Vec::from_slice(alloc, bytes)?, 12, *fails);
-        let (output, made, found) = attended_anew(&rt, alloc, stream, *turns)?;
+        let mut stream = Vec::new(alloc);
+        put(&rt, &mut stream, bytes);
+        let input = Pieces::new(stream, 12, *fails);
+        let (output, made, found) = attended(&rt, alloc, input, *turns);
         let found = (made, count_of(&output), found);
         equal(&rt, found, (*reads, *replies, *end));
     }
-    Ok(())
 }

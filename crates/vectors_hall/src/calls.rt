@@ -1,20 +1,23 @@
 //! What the tests share: a catalogue of images of one grey sample of 128, and the calls that they
-//! make, without their contracts.
+//! make and count on, without their contracts: where one is refused, the test ends there, and who
+//! calls it has no other way to go on.
 
-ghost use Rattle.std.specs.Prelude.{◌≡◌, List, All, IfOk, vec_len};
+ghost use Rattle.std.specs.Prelude.{◌≡◌, ◌<◌, List, All, vec_len};
 ghost use Rattle.jk_store.specs.declared.entry.Entry.{Entry};
 ghost use Rattle.jk_hall.specs.Writing.{hall_of};
-ghost use Rattle.jk_hall.specs.Reading.{Opens};
+ghost use Rattle.jk_hall.specs.Reading.{Opens, hall_of_reader};
 
-use jk_hall::{Hall, Reader, Writer};
+use jk_hall::{Hall, Nobody, Reader, Source, Writer, serve_all};
+use jk_jobs::Gate;
 use jk_math::Fault;
 use jk_store::{Archive, Entry, MemoryShelf, Shelf};
-use jk_web::{Octets, Request};
-use std::alloc::{AllocError, Global};
+use jk_web::{End, Octets, Reply, Request};
+use std::alloc::Global;
 use std::fmt::Debug;
 use std::process::Abort;
 use std::sync::{Arc, Wait};
-use vectors::bytes_of;
+use std::thread::Threads;
+use vectors::{Pieces, bytes_of};
 
 /// The JP2 file of one grey sample, 128, without levels, as a hexadecimal text.
 pub(crate) static PAGE: &str =
@@ -22,79 +25,207 @@ pub(crate) static PAGE: &str =
 
 /// Two values are equal.
 pub(crate) fn equal<T: PartialEq + Debug + Copy>(rt: &impl Abort, found: T, due: T) {
-    assert_eq!(rt; found, due);
+    vectors::equal(found, due).expect(rt, "equal values");
+}
+
+/// Two values are equal, in this case of several.
+pub(crate) fn equal_at<C: Debug + Copy, T: PartialEq + Debug + Copy>(
+    rt: &impl Abort,
+    case: C,
+    found: T,
+    due: T,
+) {
+    vectors::equal_at(case, found, due).expect(rt, "equal values");
+}
+
+/// The file of one grey sample.
+pub(crate) fn page(rt: &impl Abort, alloc: Global) -> Vec<u8> {
+    bytes_of(alloc, &[PAGE]).expect(rt, "a file")
+}
+
+/// Adds bytes.
+pub(crate) fn put(rt: &impl Abort, out: &mut Vec<u8>, more: &[u8]) {
+    out.extend_from_slice(more).expect(rt, "more bytes");
+}
+
+/// Writes a file.
+pub(crate) fn write(
+    rt: &impl Abort,
+    shelf: &mut MemoryShelf,
+    alloc: Global,
+    name: &str,
+    bytes: &[u8],
+) {
+    shelf.write(alloc, name, bytes).expect(rt, "a file");
 }
 
 /// A shelf in memory on which images of these names have the file of one grey sample.
-pub(crate) fn page_shelf(alloc: Global, names: &[&str]) -> Result<MemoryShelf, Fault> {
+pub(crate) fn page_shelf(rt: &impl Abort, alloc: Global, names: &[&str]) -> MemoryShelf {
     let mut shelf = MemoryShelf::new(alloc);
-    let page = bytes_of(alloc, &[PAGE])?;
+    let page = page(rt, alloc);
     for name in names {
-        let file = format!(in alloc; "{name}.jp2")?;
-        shelf.write(alloc, file.as_str(), &page)?;
+        let file = format!(in alloc; "{name}.jp2").expect(rt, "a name");
+        write(rt, &mut shelf, alloc, file.as_str(), &page);
     }
-    Ok(shelf)
+    shelf
 }
 
 /// A shelf in memory with the images `a` and `b`.
-pub(crate) fn shelf(alloc: Global) -> Result<MemoryShelf, Fault> {
-    page_shelf(alloc, &["a", "b"])
+pub(crate) fn shelf(rt: &impl Abort, alloc: Global) -> MemoryShelf {
+    page_shelf(rt, alloc, &["a", "b"])
 }
 
-/// So many of these.
-pub(crate) fn shelves(alloc: Global, count: usize) -> Result<Vec<MemoryShelf>, Fault>
-    ensures { IfOk result (λ v. vec_len v ≡ count) }
+/// So many shelves with these images.
+pub(crate) fn shelves(
+    rt: &impl Abort,
+    alloc: Global,
+    count: usize,
+    names: &[&str],
+) -> Vec<MemoryShelf>
+    ensures { vec_len result ≡ count }
 {
     let mut all = Vec::new(alloc);
     for _ in 0..count {
-        let one = shelf(alloc)?;
-        all.push(one)?;
+        all.push(page_shelf(rt, alloc, names))
+            .expect(rt, "a shelf more");
     }
-    Ok(all)
+    all
 }
 
 /// The entries of images of these names, in order.
-pub(crate) fn page_entries(alloc: Global, names: &[&str]) -> Result<Vec<Arc<Entry>>, Fault> {
-    let archive = Archive::open(alloc, page_shelf(alloc, names)?)?;
+pub(crate) fn page_entries(rt: &impl Abort, alloc: Global, names: &[&str]) -> Vec<Arc<Entry>> {
+    let archive = Archive::open(alloc, page_shelf(rt, alloc, names)).expect(rt, "an archive");
     let mut all = Vec::new(alloc);
     for entry in archive.list() {
-        all.push(Arc::try_clone(entry)?)?;
+        all.push(another(rt, entry)).expect(rt, "an entry more");
     }
-    Ok(all)
+    all
 }
 
-/// A hall of so many readers in which `a` is listed, and the entry of `b`.
-pub(crate) fn opened<R: Wait>(
+/// An entry once more.
+pub(crate) fn another(rt: &impl Abort, entry: &Arc<Entry>) -> Arc<Entry> {
+    Arc::try_clone(entry).expect(rt, "an entry")
+}
+
+/// A hall of so many readers in which images of these names are listed.
+pub(crate) fn opened<R: Wait + Abort>(
     rt: &R,
     alloc: Global,
     workers: usize,
-) -> Result<(Writer, Vec<Reader>, Option<Arc<Entry>>), Fault>
-    ensures count { IfOk result (λ h. vec_len h.1 ≡ workers) }
-    ensures readers { IfOk result (λ h. (list : List Entry) × All (Opens (hall_of h.0) list) h.1.items) }
+    names: &[&str],
+) -> (Writer, Vec<Reader>)
+    ensures count { vec_len result.1 ≡ workers }
+    ensures readers { (list : List Entry) × All (Opens (hall_of result.0) list) result.1.items }
 {
-    let mut listed = page_entries(alloc, &["a", "b"])?;
-    let last = listed.pop();
-    let (writer, readers) = Hall::new(rt, alloc, workers, listed)?;
-    Ok((writer, readers, last))
+    let listed = page_entries(rt, alloc, names);
+    Hall::new(rt, alloc, workers, listed).expect(rt, "a hall")
+}
+
+/// The entry of `b`.
+pub(crate) fn entry_of_b(rt: &impl Abort, alloc: Global) -> Arc<Entry> {
+    page_entries(rt, alloc, &["b"]).pop().expect(rt, "an entry")
+}
+
+/// The same of one reader.
+pub(crate) fn opened_for_one<R: Wait + Abort>(
+    rt: &R,
+    alloc: Global,
+    names: &[&str],
+) -> (Writer, Reader) {
+    let (writer, mut readers) = opened(rt, alloc, 1, names);
+    (writer, readers.pop().expect(rt, "a reader"))
+}
+
+/// Why a reader's connection ends, in at most so many reads.
+pub(crate) fn attend<S: Shelf>(
+    rt: &impl Abort,
+    alloc: Global,
+    reader: &mut Reader,
+    files: &mut S,
+    input: &mut Pieces,
+    output: &mut Vec<u8>,
+    turns: u64,
+) -> End {
+    reader
+        .attend(alloc, files, input, output, &Nobody, turns)
+        .expect(rt, "a connection")
+}
+
+/// What a reader replies where this is asked. It stays one of its hall.
+pub(crate) fn replied(
+    rt: &impl Abort,
+    alloc: Global,
+    reader: &mut Reader,
+    files: &mut MemoryShelf,
+    target: &[u8],
+) -> Reply
+    ensures { hall_of_reader reader.new ≡ hall_of_reader reader.old }
+{
+    let request = get(rt, alloc, target);
+    reader.serve(alloc, files, &request).expect(rt, "a reply")
+}
+
+/// Why an entry isn't published, where it isn't. The writer stays that of its hall.
+pub(crate) fn refusal<R: Wait>(rt: &R, writer: &mut Writer, entry: Arc<Entry>) -> Option<Fault>
+    ensures { hall_of writer.new ≡ hall_of writer.old }
+{
+    writer.publish(rt, entry).err()
+}
+
+/// Publishes what waits.
+pub(crate) fn settle<R: Wait + Abort>(rt: &R, writer: &mut Writer) {
+    writer.settle(rt).expect(rt, "what waits");
+}
+
+/// How many connections of a source end, to which these readers attend, each with a shelf that has
+/// these images.
+pub(crate) fn served<R, G, C>(
+    rt: &R,
+    alloc: Global,
+    readers: Vec<Reader>,
+    names: &[&str],
+    gate: &G,
+    source: &C,
+) -> Result<u64, Fault>
+where
+    R: Threads + Wait + Sync + Abort,
+    G: Gate + Sync,
+    C: Source + Sync,
+    requires { 0 < vec_len readers }
+{
+    let files = shelves(rt, alloc, readers.len(), names);
+    serve_all(rt, alloc, readers, files, gate, source)
+}
+
+/// The same of so many readers of a hall in which `a` is listed, with shelves that have `a` and `b`.
+pub(crate) fn served_anew<R, G, C>(
+    rt: &R,
+    alloc: Global,
+    workers: usize,
+    gate: &G,
+    source: &C,
+) -> Result<u64, Fault>
+where
+    R: Threads + Wait + Sync + Abort,
+    G: Gate + Sync,
+    C: Source + Sync,
+    requires { 0 < workers }
+{
+    let (writer, readers) = opened(rt, alloc, workers, &["a"]);
+    let ended = served(rt, alloc, readers, &["a", "b"], gate, source);
+    writer.close(rt);
+    ended
 }
 
 /// A request for this target.
-pub(crate) fn get(alloc: Global, target: &[u8]) -> Result<Request, AllocError> {
-    Ok(Request {
-        method: Octets::new(Vec::from_slice(alloc, b"GET")?),
-        target: Octets::new(Vec::from_slice(alloc, target)?),
+fn get(rt: &impl Abort, alloc: Global, target: &[u8]) -> Request {
+    let mut method = Vec::new(alloc);
+    let mut path = Vec::new(alloc);
+    put(rt, &mut method, b"GET");
+    put(rt, &mut path, target);
+    Request {
+        method: Octets::new(method),
+        target: Octets::new(path),
         closes: false,
-    })
-}
-
-/// The status of a reader's reply to a request for this target.
-pub(crate) fn status(
-    reader: &mut Reader,
-    alloc: Global,
-    shelf: &mut MemoryShelf,
-    target: &[u8],
-) -> Result<u16, Fault> {
-    let request = get(alloc, target)?;
-    let reply = reader.serve(alloc, shelf, &request)?;
-    Ok(reply.status)
+    }
 }

@@ -1,19 +1,17 @@
 //! Clients that ask all the time, while images are published.
 
-use crate::calls::{PAGE, equal, page_entries, page_shelf};
+use crate::calls::{equal, opened, page, page_entries, put, refusal, served};
 use crate::streams::TURNS;
-use jk_hall::{Connection, Hall, Nobody, Source, Writer, serve_all};
+use jk_hall::{Connection, Nobody, Source, Writer};
 use jk_jobs::Open;
-use jk_math::Fault;
-use jk_store::{Entry, MemoryShelf};
+use jk_store::Entry;
 use jk_web::End;
 use std::alloc::{AllocError, Global};
 use std::io::{self, Read};
+use std::process::Abort;
 use std::sync::atomic::{AtomicU64, Ordering};
 use std::sync::{Arc, Wait};
-use std::test::Fail;
 use std::thread;
-use vectors::bytes_of;
 
 /// How many clients there are.
 const CLIENTS: u64 = 8;
@@ -48,6 +46,13 @@ impl Read for Asked {
     }
 }
 
+/// The heads of the replies that are an image's file, and the last of them.
+static FILE_FOLLOWS: &[u8] =
+    b"HTTP/1.1 200 OK\r\nContent-Type: image/jp2\r\nContent-Length: 167\r\n\r\n";
+
+static LAST_FOLLOWS: &[u8] =
+    b"HTTP/1.1 200 OK\r\nContent-Type: image/jp2\r\nContent-Length: 167\r\nConnection: close\r\n\r\n";
+
 /// The name of the last of so many images.
 fn last_of(count: u64) -> &'static str {
     let last = count.saturating_sub(1) as usize;
@@ -67,26 +72,32 @@ fn requests(alloc: Global, count: u64) -> Result<Vec<u8>, AllocError> {
 }
 
 /// The replies to them where so many images are listed.
-fn replies(alloc: Global, count: u64) -> Result<Vec<u8>, AllocError> {
+fn replies(rt: &impl Abort, alloc: Global, count: usize) -> Vec<u8> {
+    let page = page(rt, alloc);
     let size = count.saturating_mul(12);
     let head = format!(in alloc;
         "HTTP/1.1 200 OK\r\nContent-Type: text/plain\r\nContent-Length: {size}\r\n\r\n"
-    )?;
-    let mut text = Vec::from_slice(alloc, head.as_bytes())?;
-    for name in &NAMES[..(count as usize).min(NAMES.len())] {
-        let line = format!(in alloc; "{name} 1 1 1 8 0\n")?;
-        text.extend_from_slice(line.as_bytes())?;
+    ).expect(rt, "a head");
+    let mut text = Vec::new(alloc);
+    put(rt, &mut text, head.as_bytes());
+    for name in &NAMES[..count.min(NAMES.len())] {
+        put(rt, &mut text, name.as_bytes());
+        put(rt, &mut text, b" 1 1 1 8 0\n");
     }
-    let page = bytes_of(alloc, &[PAGE])?;
-    text.extend_from_slice(
-        b"HTTP/1.1 200 OK\r\nContent-Type: image/jp2\r\nContent-Length: 167\r\n\r\n",
-    )?;
-    text.extend_from_slice(&page)?;
-    text.extend_from_slice(
-        b"HTTP/1.1 200 OK\r\nContent-Type: image/jp2\r\nContent-Length: 167\r\nConnection: close\r\n\r\n",
-    )?;
-    text.extend_from_slice(&page)?;
-    Ok(text)
+    put(rt, &mut text, FILE_FOLLOWS);
+    put(rt, &mut text, &page);
+    put(rt, &mut text, LAST_FOLLOWS);
+    put(rt, &mut text, &page);
+    text
+}
+
+/// The same for each number of images, from none to all.
+fn all_replies(rt: &impl Abort, alloc: Global) -> Vec<Vec<u8>> {
+    let mut all = Vec::new(alloc);
+    for count in 0..NAMES.len().saturating_add(1) {
+        all.push(replies(rt, alloc, count)).expect(rt, "replies");
+    }
+    all
 }
 
 /// The connections of the clients.
@@ -96,26 +107,29 @@ struct Crowd {
     taken: AtomicU64,
     published: AtomicU64,
     right: AtomicU64,
-    // How many ended early, were asked nothing, or couldn't be judged, since memory was refused.
+    // How many ended early, or were asked nothing, since memory was refused.
     early: AtomicU64,
+    // The replies that are due where so many images are listed.
+    due: Vec<Vec<u8>>,
     // How many images each client has seen.
     seen: Vec<AtomicU64>,
 }
 
 impl Crowd {
-    fn new(alloc: Global) -> Result<Crowd, Fault> {
+    fn new(rt: &impl Abort, alloc: Global) -> Crowd {
         let mut seen = Vec::new(alloc);
         for _ in 0..CLIENTS {
-            seen.push(AtomicU64::new(1))?;
+            seen.push(AtomicU64::new(1)).expect(rt, "a client");
         }
-        Ok(Crowd {
+        Crowd {
             alloc,
             taken: AtomicU64::new(0),
             published: AtomicU64::new(0),
             right: AtomicU64::new(0),
             early: AtomicU64::new(0),
+            due: all_replies(rt, alloc),
             seen,
-        })
+        }
     }
 
     /// What comes of a client now.
@@ -172,8 +186,7 @@ impl Source for Crowd {
             return;
         }
         for count in input.least..(NAMES.len() as u64).saturating_add(1) {
-            let Ok(due) = replies(self.alloc, count) else {
-                self.early.fetch_add(1, Ordering::SeqCst);
+            let Some(due) = self.due.get(count as usize) else {
                 return;
             };
             if output.as_slice() == due.as_slice() {
@@ -203,7 +216,7 @@ fn publish_all<R: Wait>(
             next.saturating_mul(CONNECTIONS)
                 .saturating_sub(CONNECTIONS / 2),
         );
-        if writer.publish(rt, entry).is_err() {
+        if refusal(rt, writer, entry).is_some() {
             return published;
         }
         published = next;
@@ -216,33 +229,20 @@ fn publish_all<R: Wait>(
 /// each reply is that to a list which has all that the client has seen and all that was published
 /// before the connection was taken.
 #[test]
-fn nothing_seen_vanishes(rt: HostRuntime) -> Result<(), Fail> {
+fn nothing_seen_vanishes(rt: HostRuntime) {
     let alloc = rt.alloc();
-    let mut first = page_entries(alloc, &NAMES)?;
-    let mut rest = Vec::new(alloc);
-    for _ in 1..NAMES.len() {
-        if let Some(entry) = first.pop() {
-            rest.push(entry)?;
-        }
-    }
-    rest.reverse();
-    let shelves = vec![in alloc;
-        page_shelf(alloc, &NAMES)?,
-        page_shelf(alloc, &NAMES)?,
-        page_shelf(alloc, &NAMES)?,
-    ]?;
-    let crowd = Crowd::new(alloc)?;
-    let (mut writer, readers) = Hall::new(&rt, alloc, 3, first)?;
+    let crowd = Crowd::new(&rt, alloc);
+    let rest = page_entries(&rt, alloc, &NAMES[1..]);
+    let (mut writer, readers) = opened(&rt, alloc, 3, &NAMES[..1]);
     let (ended, published) = thread::join(
         &rt,
-        || serve_all(&rt, alloc, readers, shelves, &Open, &crowd),
+        || served(&rt, alloc, readers, &NAMES, &Open, &crowd),
         || publish_all(&rt, &mut writer, rest, &crowd),
     );
     writer.close(&rt);
     let all = CONNECTIONS * NAMES.len() as u64;
-    equal(&rt, ended?, all);
+    equal(&rt, ended, Ok(all));
     let right = crowd.right.load(Ordering::SeqCst);
     let early = crowd.early.load(Ordering::SeqCst);
     equal(&rt, (published, right, early), (7, all, 0));
-    Ok(())
 }

@@ -2,8 +2,8 @@
 
 ghost use Rattle.std.specs.Prelude.{◌≡◌, ◌<◌, vec_len};
 
-use crate::calls::{equal, opened, shelves};
-use jk_hall::{Reader, serve_all};
+use crate::calls::{self, equal, opened, put};
+use jk_hall::Reader;
 use jk_jobs::Open;
 use jk_math::Fault;
 use jk_serve::{Arriving, bind};
@@ -12,10 +12,9 @@ use std::io::{Read, Write};
 use std::net::{Net, TcpListener, TcpStream};
 use std::process::Abort;
 use std::sync::Wait;
-use std::test::Fail;
+use std::thread;
 use std::thread::Threads;
 use std::time::{Clock, Duration};
-use std::{io, thread};
 
 /// How long a read or a write of the server may wait, in milliseconds.
 const WAIT: u32 = 100;
@@ -31,22 +30,24 @@ static REPLIED: &[u8] =
 
 /// What is replied to a client that asks while another, which came first, sends nothing, or a byte
 /// of a request each time that a look is over.
-fn replied<R: Net<Listener = TcpListener, Stream = TcpStream>>(
+fn replied<R: Net<Listener = TcpListener, Stream = TcpStream> + Abort>(
     rt: &R,
     alloc: Global,
     port: u16,
     trickles: bool,
-) -> io::Result<Vec<u8>> {
-    let first = TcpStream::connect(rt, ("127.0.0.1", port))?;
-    let second = TcpStream::connect(rt, ("127.0.0.1", port))?;
-    (&second).write_all(ASKED)?;
-    second.set_read_timeout(Some(Duration::from_millis(WAIT as u64 / 2)))?;
+) -> Vec<u8> {
+    let first = connected(rt, port);
+    let second = connected(rt, port);
+    (&second).write_all(ASKED).expect(rt, "a request");
+    second
+        .set_read_timeout(Some(Duration::from_millis(WAIT as u64 / 2)))
+        .expect(rt, "a timeout");
     let mut reply = Vec::new(alloc);
     let mut piece = [0u8; 256];
     for _look in 0..LOOKS {
         match (&second).read(&mut piece) {
             Ok(0) => break,
-            Ok(count) => reply.extend_from_slice(&piece[..count])?,
+            Ok(count) => put(rt, &mut reply, &piece[..count]),
             Err(_) => {
                 if trickles {
                     let _ = (&first).write(b"G");
@@ -54,7 +55,15 @@ fn replied<R: Net<Listener = TcpListener, Stream = TcpStream>>(
             }
         }
     }
-    Ok(reply)
+    reply
+}
+
+/// A client on a port.
+fn connected<R: Net<Listener = TcpListener, Stream = TcpStream> + Abort>(
+    rt: &R,
+    port: u16,
+) -> TcpStream {
+    TcpStream::connect(rt, ("127.0.0.1", port)).expect(rt, "a client")
 }
 
 /// How many connections end, and what is replied to the second.
@@ -63,48 +72,44 @@ fn served<R>(
     alloc: Global,
     readers: Vec<Reader>,
     trickles: bool,
-) -> Result<(u64, Vec<u8>), Fail>
+) -> (Result<u64, Fault>, Vec<u8>)
 where
-    R: Threads + Wait + Clock + Eprint + Clone + Drop + Send + Sync,
+    R: Threads + Wait + Clock + Eprint + Clone + Drop + Send + Sync + Abort,
     R: Net<Listener = TcpListener, Stream = TcpStream>,
     requires { vec_len readers ≡ 1 }
 {
-    let port = bind(rt, 0)?;
+    let port = bind(rt, 0).expect(rt, "a port");
     let number = port.number;
-    let arriving = Arriving::new(rt.clone()?, alloc, port, 2, WAIT, None);
-    let files = shelves(alloc, 1)?;
-    let (ended, reply) = thread::join(
+    let again = rt.clone().expect(rt, "a runtime");
+    let arriving = Arriving::new(again, alloc, port, 2, WAIT, None);
+    thread::join(
         rt,
         || -> Result<u64, Fault>
-            requires { (0 < vec_len readers) × (vec_len readers ≡ vec_len files) }
-        { serve_all(rt, alloc, readers, files, &Open, &arriving) },
+            requires { 0 < vec_len readers }
+        { calls::served(rt, alloc, readers, &["a", "b"], &Open, &arriving) },
         || replied(rt, alloc, number, trickles),
-    );
-    Ok((ended?, reply?))
+    )
 }
 
 /// A worker that is held by such a client comes free, and answers the next one.
-fn comes_free<R>(rt: &R, trickles: bool) -> Result<(), Fail>
+fn comes_free<R>(rt: &R, alloc: Global, trickles: bool)
 where
     R: Threads + Wait + Clock + Eprint + Clone + Drop + Send + Sync,
-    R: Net<Listener = TcpListener, Stream = TcpStream> + AllocGlobal + Abort,
+    R: Net<Listener = TcpListener, Stream = TcpStream> + Abort,
 {
-    let alloc = rt.alloc();
-    let (writer, readers, _) = opened(rt, alloc, 1)?;
-    let served = served(rt, alloc, readers, trickles);
+    let (writer, readers) = opened(rt, alloc, 1, &["a"]);
+    let (ended, reply) = served(rt, alloc, readers, trickles);
     writer.close(rt);
-    let (ended, reply) = served?;
-    equal(rt, ended, 2);
-    assert!(rt; reply.as_slice() == REPLIED, "{:?}", reply.as_slice());
-    Ok(())
+    equal(rt, ended, Ok(2));
+    equal(rt, reply.as_slice(), REPLIED);
 }
 
 #[test]
-fn silent_clients_are_left(rt: HostRuntime) -> Result<(), Fail> {
-    comes_free(&rt, false)
+fn silent_clients_are_left(rt: HostRuntime) {
+    comes_free(&rt, rt.alloc(), false);
 }
 
 #[test]
-fn trickling_clients_are_left(rt: HostRuntime) -> Result<(), Fail> {
-    comes_free(&rt, true)
+fn trickling_clients_are_left(rt: HostRuntime) {
+    comes_free(&rt, rt.alloc(), true);
 }

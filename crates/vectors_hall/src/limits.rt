@@ -1,12 +1,14 @@
 //! How often a connection is read at most.
 
-use crate::calls::{equal, opened, shelves};
-use jk_hall::{Connection, Nobody, Source, serve_all};
+use crate::calls::{equal, served_anew};
+use jk_hall::{Connection, Nobody, Source};
 use jk_jobs::Open;
 use jk_web::End;
 use std::alloc::Global;
+use std::process::Abort;
+use std::sync::Wait;
 use std::sync::atomic::{AtomicU64, Ordering};
-use std::test::Fail;
+use std::thread::Threads;
 use vectors::Pieces;
 
 /// A request of 19 bytes, for what there isn't.
@@ -60,29 +62,31 @@ impl Source for Long {
     }
 }
 
+/// How many connections end, how often one of so many requests is read, and whether that was as
+/// often as it may be.
+fn read_of<R>(rt: &R, alloc: Global, often: usize) -> (u64, u64, u64)
+where
+    R: Threads + Wait + Sync + Abort,
+{
+    let long = Long {
+        alloc,
+        often,
+        taken: AtomicU64::new(0),
+        reads: AtomicU64::new(0),
+        spent: AtomicU64::new(0),
+    };
+    let ended = served_anew(rt, alloc, 1, &Open, &long);
+    (
+        ended.expect(rt, "connections"),
+        long.reads.load(Ordering::SeqCst),
+        long.spent.load(Ordering::SeqCst),
+    )
+}
+
 /// How often a connection of so many requests is read, and whether that was as often as it may be:
 /// 3,449 of them have 65,531 bytes, behind which one read finds the end.
 #[test]
-fn no_connection_is_read_for_ever(rt: HostRuntime) -> Result<(), Fail> {
-    let alloc = rt.alloc();
-    for (often, reads, spent) in [(3449, 65_532, 0), (3450, 65_536, 1)] {
-        let long = Long {
-            alloc,
-            often,
-            taken: AtomicU64::new(0),
-            reads: AtomicU64::new(0),
-            spent: AtomicU64::new(0),
-        };
-        let files = shelves(alloc, 1)?;
-        let (writer, readers, _) = opened(&rt, alloc, 1)?;
-        let ended = serve_all(&rt, alloc, readers, files, &Open, &long);
-        writer.close(&rt);
-        equal(&rt, ended?, 1);
-        let found = (
-            long.reads.load(Ordering::SeqCst),
-            long.spent.load(Ordering::SeqCst),
-        );
-        equal(&rt, found, (reads, spent));
-    }
-    Ok(())
+fn no_connection_is_read_for_ever(rt: HostRuntime) {
+    equal(&rt, read_of(&rt, rt.alloc(), 3449), (1, 65_532, 0));
+    equal(&rt, read_of(&rt, rt.alloc(), 3450), (1, 65_536, 1));
 }

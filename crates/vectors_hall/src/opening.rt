@@ -1,6 +1,6 @@
 //! Files that are opened while they are served.
 
-use crate::calls::{PAGE, equal, page_shelf};
+use crate::calls::{PAGE, equal, page_shelf, put, write};
 use crate::streams::{Stream, Streams, wait_for};
 use jk_hall::{Connection, Nobody, Source};
 use jk_math::Fault;
@@ -9,9 +9,9 @@ use jk_store::{Archive, Images, MemoryShelf, Prepared, Shelf};
 use jk_web::End;
 use std::alloc::Global;
 use std::io::{self, Read};
+use std::process::Abort;
 use std::sync::atomic::{AtomicUsize, Ordering};
 use std::sync::{Mutex, Wait};
-use std::test::Fail;
 use std::thread::Threads;
 use std::time::Clock;
 use vectors::bytes_of;
@@ -52,6 +52,21 @@ impl Seen {
 /// After how many listings the file of the image `late` becomes one.
 const CHANGE: usize = 20;
 
+/// The names of images.
+fn names_of(alloc: Global, names: &[&str]) -> Result<Vec<String>, Fault> {
+    let mut all = Vec::new(alloc);
+    for name in names {
+        all.push(String::from_str(alloc, name)?)?;
+    }
+    Ok(all)
+}
+
+/// Writes the file of one grey sample.
+fn put_page(files: &mut MemoryShelf, alloc: Global, name: &str) -> Result<(), Fault> {
+    let page = bytes_of(alloc, &[PAGE])?;
+    files.write(alloc, name, &page)
+}
+
 /// A folder in memory, to which files come meanwhile.
 #[derive(Drop)]
 struct Found<'a, R> {
@@ -59,25 +74,21 @@ struct Found<'a, R> {
     alloc: Global,
     files: MemoryShelf,
     // The names of the images there each time when it is listed again; the last from then on.
-    lists: &'static [&'static str],
+    lists: &'static [&'static [&'static str]],
     seen: &'a Seen,
 }
 
 impl<'a, R: Wait> Finder for Found<'a, R> {
     fn names(&mut self, alloc: Global) -> Result<Vec<String>, Fault> {
         let number = self.seen.lists.fetch_add(1, Ordering::SeqCst);
-        let last = self.lists.len().saturating_sub(1);
-        let mut names = Vec::new(alloc);
-        if let Some(list) = self.lists.get(number.min(last)) {
-            for name in list.split(' ') {
-                names.push(String::from_str(alloc, name)?)?;
-            }
-        }
         if number == CHANGE {
-            self.files
-                .write(alloc, "late.jp2", &bytes_of(alloc, &[PAGE])?)?;
+            put_page(&mut self.files, alloc, "late.jp2")?;
         }
-        Ok(names)
+        let last = self.lists.len().saturating_sub(1);
+        match self.lists.get(number.min(last)) {
+            Some(list) => names_of(alloc, list),
+            None => Ok(Vec::new(alloc)),
+        }
     }
 
     fn stamp(&mut self, _alloc: Global, name: &str) -> Option<Stamp> {
@@ -169,52 +180,106 @@ impl<'a> Source for Clients<'a> {
 }
 
 /// A desk at an archive of which no file is opened, whose shelf has the files of these names.
-fn desk(alloc: Global, names: &[&str]) -> Result<Desk<MemoryShelf, Alone, MemoryShelf>, Fault> {
+fn desk(rt: &impl Abort, alloc: Global, names: &[&str]) -> Desk<MemoryShelf, Alone, MemoryShelf> {
     let mut paths = MemoryShelf::new(alloc);
-    paths.write(alloc, "p", GREY)?;
-    Ok(Desk {
-        archive: Archive::with(page_shelf(alloc, names)?, Images::none(alloc)),
+    write(rt, &mut paths, alloc, "p", GREY);
+    let images = Images::none(alloc);
+    Desk {
+        archive: Archive::with(page_shelf(rt, alloc, names), images),
         keeper: Alone,
         paths,
-    })
-}
-
-/// The names of images.
-fn names_of(alloc: Global, names: &[&str]) -> Result<Vec<String>, Fault> {
-    let mut all = Vec::new(alloc);
-    for name in names {
-        all.push(String::from_str(alloc, name)?)?;
     }
-    Ok(all)
 }
 
 /// The images of which files stand in the folder at first, in another order than that of names; one
 /// of them isn't an image's, and one can't be read.
 static FIRST: [&str; 5] = ["b", "h", "a", "bad", "none"];
 
+/// The files that are opened.
+fn files(rt: &impl Abort, alloc: Global) -> MemoryShelf {
+    let mut files = page_shelf(rt, alloc, &["a", "b", "h", "new", "z"]);
+    write(rt, &mut files, alloc, "bad.jp2", GREY);
+    write(rt, &mut files, alloc, "late.jp2", GREY);
+    files
+}
+
 /// What is opened: the files of the first images, and then what is listed.
-fn opening<'a, R: Wait>(
+fn opening<'a, R: Wait + Abort>(
     rt: &'a R,
     alloc: Global,
     seen: &'a Seen,
     watch: Option<u32>,
-    lists: &'static [&'static str],
-) -> Result<Opening<Found<'a, R>>, Fault> {
-    let mut files = page_shelf(alloc, &["a", "b", "h", "new", "z"])?;
-    files.write(alloc, "bad.jp2", GREY)?;
-    files.write(alloc, "late.jp2", GREY)?;
-    Ok(Opening {
+    lists: &'static [&'static [&'static str]],
+) -> Opening<Found<'a, R>> {
+    Opening {
         finder: Found {
             rt,
             alloc,
-            files,
+            files: files(rt, alloc),
             lists,
             seen,
         },
-        names: names_of(alloc, &FIRST)?,
-        passed: names_of(alloc, &["pipe"])?,
+        names: names_of(alloc, &FIRST).expect(rt, "names"),
+        passed: names_of(alloc, &["pipe"]).expect(rt, "names"),
         watch,
-    })
+    }
+}
+
+/// One shelf with the files of these images.
+fn one_shelf(rt: &impl Abort, alloc: Global, names: &[&str]) -> Vec<MemoryShelf> {
+    let mut all = Vec::new(alloc);
+    all.push(page_shelf(rt, alloc, names)).expect(rt, "a shelf");
+    all
+}
+
+/// What is answered where clients are served while files are opened, and lines are followed; and how
+/// each of them ends.
+fn ends<'a, R: Threads + Wait + Clock + Eprint + Sync + Abort>(
+    rt: &R,
+    alloc: Global,
+    opening: Opening<Found<'a, R>>,
+    clients: &Clients<'a>,
+    lines: &[u8],
+) -> (Vec<u8>, Ends) {
+    let shelves = one_shelf(rt, alloc, &["a", "b", "h", "new", "late"]);
+    let desk = desk(rt, alloc, &FIRST);
+    let mut output = Vec::new(alloc);
+    let streams = (lines, &mut output);
+    let ends = serve_meanwhile(rt, alloc, desk, opening, shelves, clients, streams);
+    let ends = ends.expect(rt, "its ends");
+    (output, ends)
+}
+
+/// The lines of a text in the order of their bytes, each behind a line's end.
+fn sorted(rt: &impl Abort, alloc: Global, text: &[u8]) -> Vec<u8> {
+    let mut lines = Vec::new(alloc);
+    for line in text.split(|byte| *byte == b'\n') {
+        lines.push(line).expect(rt, "a line");
+    }
+    lines.sort().expect(rt, "lines");
+    let mut all = Vec::new(alloc);
+    for line in &lines {
+        put(rt, &mut all, line);
+        put(rt, &mut all, b"\n");
+    }
+    all
+}
+
+/// Both connections are served, and a file can't be read.
+fn are_served(rt: &impl Abort, ends: &Ends, clients: &Clients) {
+    equal(
+        rt,
+        (ends.served, ends.operated, ends.opened),
+        (Ok(2), Ok(()), Err(Fault::Shelf)),
+    );
+    equal(rt, clients.streams.counts(), (2, 0));
+}
+
+/// These lines are told, and no other.
+fn tells<R: Wait + Abort>(rt: &R, alloc: Global, seen: &Seen, due: &[u8]) {
+    let told = seen.told.lock(rt);
+    let lines = sorted(rt, alloc, told.as_slice());
+    equal(rt, lines.as_slice(), due);
 }
 
 /// The replies of a connection that asks for an image that waits, and of one that asks for the list
@@ -230,50 +295,11 @@ static ASKED: [(&[u8], &[u8]); 2] = [
     ),
 ];
 
-/// Serves connections while files are opened, and follows lines.
-fn ends<'a, R: Threads + Wait + Clock + Eprint + Sync>(
-    rt: &R,
-    alloc: Global,
-    opening: Opening<Found<'a, R>>,
-    clients: &Clients<'a>,
-    lines: &[u8],
-) -> Result<(Ends, Vec<u8>), Fault> {
-    let shelves = vec![in alloc; page_shelf(alloc, &["a", "b", "h", "new", "late"])?]?;
-    let mut output = Vec::new(alloc);
-    let desk = desk(alloc, &FIRST)?;
-    let streams = (lines, &mut output);
-    let ends = serve_meanwhile(rt, alloc, desk, opening, shelves, clients, streams)?;
-    Ok((ends, output))
-}
-
-/// What was told, its lines in their order.
-fn told(alloc: Global, seen: Seen) -> Result<Vec<String>, Fault> {
-    let bytes = seen.told.into_inner();
-    let mut lines = Vec::new(alloc);
-    for line in bytes.split(|byte| *byte == b'\n') {
-        if let Ok(line) = str::from_utf8(line) {
-            lines.push(String::from_str(alloc, line)?)?;
-        }
-    }
-    lines.sort()?;
-    Ok(lines)
-}
-
-/// Whether these lines were told, and no other.
-fn is_told(alloc: Global, seen: Seen, due: &[&str]) -> Result<bool, Fault> {
-    let lines = told(alloc, seen)?;
-    let mut same = lines.len() == due.len().saturating_add(1);
-    for (line, due) in lines.iter().skip(1).zip(due) {
-        same = same && line.as_str() == *due;
-    }
-    Ok(same)
-}
-
 /// What is asked for and waits is 404 and opened next. A file that isn't an image's is told, and so
 /// is one that can't be read, which is the status; the others are served. An image whose file waits
 /// isn't added.
 #[test]
-fn what_is_asked_for_is_next(rt: HostRuntime) -> Result<(), Fail> {
+fn what_is_asked_for_is_next(rt: HostRuntime) {
     let alloc = rt.alloc();
     let seen = Seen::new(alloc, 0);
     let clients = Clients {
@@ -281,21 +307,12 @@ fn what_is_asked_for_is_next(rt: HostRuntime) -> Result<(), Fail> {
         seen: &seen,
         lists: 0,
     };
-    let files = opening(&rt, alloc, &seen, None, &[])?;
-    let (ends, output) = ends(&rt, alloc, files, &clients, b"add h p\nadd a p\n")?;
-    equal(&rt, (ends.served, ends.operated), (Ok(2), Ok(())));
-    equal(&rt, ends.opened, Err(Fault::Shelf));
-    equal(&rt, clients.streams.counts(), (2, 0));
-    drop(clients);
-    assert!(rt;
-        output.as_slice() == b"refused h F18 NameTaken\nrefused a F18 NameTaken\n".as_slice()
-    );
-    equal(
-        &rt,
-        is_told(alloc, seen, &["bad F13 BadBox", "none F20 Shelf"])?,
-        true,
-    );
-    Ok(())
+    let files = opening(&rt, alloc, &seen, None, LISTS);
+    let (output, ends) = ends(&rt, alloc, files, &clients, b"add h p\nadd a p\n");
+    are_served(&rt, &ends, &clients);
+    let refused: &[u8] = b"refused h F18 NameTaken\nrefused a F18 NameTaken\n";
+    equal(&rt, output.as_slice(), refused);
+    tells(&rt, alloc, &seen, b"\nbad F13 BadBox\nnone F20 Shelf\n");
 }
 
 /// The same of a folder that is watched: a connection that asks for nothing that waits, and one that
@@ -312,16 +329,16 @@ static WATCHED: [(&[u8], &[u8]); 2] = [
 ];
 
 /// What stands in the folder each time.
-static LISTS: [&str; 3] = [
-    "a b h bad none pipe",
-    "pipe new a b h bad none",
-    "late a new b h bad none pipe",
+const LISTS: &[&[&str]] = &[
+    &["a", "b", "h", "bad", "none", "pipe"],
+    &["pipe", "new", "a", "b", "h", "bad", "none"],
+    &["late", "a", "new", "b", "h", "bad", "none", "pipe"],
 ];
 
 /// What comes to a folder is listed; a file that isn't an image's is told once, and listed when it
 /// has changed.
 #[test]
-fn what_comes_is_listed(rt: HostRuntime) -> Result<(), Fail> {
+fn what_comes_is_listed(rt: HostRuntime) {
     let alloc = rt.alloc();
     let seen = Seen::new(alloc, 1);
     let clients = Clients {
@@ -329,15 +346,16 @@ fn what_comes_is_listed(rt: HostRuntime) -> Result<(), Fail> {
         seen: &seen,
         lists: 40,
     };
-    let files = opening(&rt, alloc, &seen, Some(0), &LISTS)?;
-    let (ends, _) = ends(&rt, alloc, files, &clients, b"")?;
-    equal(&rt, (ends.served, ends.operated), (Ok(2), Ok(())));
-    equal(&rt, ends.opened, Err(Fault::Shelf));
-    equal(&rt, clients.streams.counts(), (2, 0));
-    drop(clients);
-    let due = ["bad F13 BadBox", "late F13 BadBox", "none F20 Shelf"];
-    equal(&rt, is_told(alloc, seen, &due)?, true);
-    Ok(())
+    let files = opening(&rt, alloc, &seen, Some(0), LISTS);
+    let (output, ends) = ends(&rt, alloc, files, &clients, b"");
+    are_served(&rt, &ends, &clients);
+    equal(&rt, output.len(), 0);
+    tells(
+        &rt,
+        alloc,
+        &seen,
+        b"\nbad F13 BadBox\nlate F13 BadBox\nnone F20 Shelf\n",
+    );
 }
 
 /// Lines that come once a connection has ended.
@@ -361,44 +379,53 @@ impl<'a> Read for Late<'a> {
     }
 }
 
-/// A connection.
-static ONE: [(&[u8], &[u8]); 1] = [(
-    b"GET /images/x HTTP/1.1\r\n\r\n",
-    b"HTTP/1.1 404 Not Found\r\nContent-Type: text/plain\r\nContent-Length: 14\r\n\r\n404 Not Found\n",
-)];
+/// Connections that are served once while files are opened, the lines that come behind them, how many
+/// end, and what is answered.
+type Once = (
+    &'static [(&'static [u8], &'static [u8])],
+    &'static [u8],
+    u64,
+    &'static [u8],
+);
 
-/// Serves these connections once while files are opened, and lines come behind them. What is
-/// answered.
-fn once<R: Threads + Wait + Clock + Eprint + Sync>(
-    rt: &R,
-    alloc: Global,
-    watch: Option<u32>,
-    cases: &'static [(&'static [u8], &'static [u8])],
-    lines: &'static [u8],
-) -> Result<(Ends, Vec<u8>), Fault> {
+/// No connection and no line, and one of each.
+static NONE_AND_ONE: [Once; 2] = [
+    (&[], b"", 0, b""),
+    (
+        &[(
+            b"GET /images/x HTTP/1.1\r\n\r\n",
+            b"HTTP/1.1 404 Not Found\r\nContent-Type: text/plain\r\nContent-Length: 14\r\n\r\n404 Not Found\n",
+        )],
+        b"add x p\n",
+        1,
+        b"added x\n",
+    ),
+];
+
+/// It ends by itself.
+fn ends_once<R>(rt: &R, alloc: Global, watch: Option<u32>, once: &Once)
+where
+    R: Threads + Wait + Clock + Eprint + Sync + Abort,
+{
+    let (cases, lines, served, answers) = *once;
     let seen = Seen::new(alloc, 1);
     let streams = Streams::new(alloc, cases, 1);
-    let files = opening(rt, alloc, &seen, watch, &LISTS)?;
-    let shelves = vec![in alloc; page_shelf(alloc, &["a"])?]?;
-    let mut output = Vec::new(alloc);
+    if cases.is_empty() {
+        streams.ended.store(1, Ordering::SeqCst);
+    }
+    let files = opening(rt, alloc, &seen, watch, LISTS);
     let late = Late {
         streams: &streams,
         bytes: lines,
     };
-    if cases.is_empty() {
-        streams.ended.store(1, Ordering::SeqCst);
-    }
-    let desk = desk(alloc, &FIRST)?;
-    let ends = serve_meanwhile(
-        rt,
-        alloc,
-        desk,
-        files,
-        shelves,
-        &streams,
-        (late, &mut output),
-    )?;
-    Ok((ends, output))
+    let shelves = one_shelf(rt, alloc, &["a"]);
+    let desk = desk(rt, alloc, &FIRST);
+    let mut output = Vec::new(alloc);
+    let both = (late, &mut output);
+    let ends = serve_meanwhile(rt, alloc, desk, files, shelves, &streams, both);
+    let ends = ends.expect(rt, "its ends");
+    equal(rt, (ends.served, ends.operated), (Ok(served), Ok(())));
+    equal(rt, output.as_slice(), answers);
 }
 
 /// How often each end is tried.
@@ -407,17 +434,12 @@ const TIMES: usize = 50;
 /// Where no connection comes, or one, and no line or one behind it, it ends by itself, whether the
 /// folder is watched or not; and what is added last is answered.
 #[test]
-fn each_end_comes(rt: HostRuntime) -> Result<(), Fail> {
-    let alloc = rt.alloc();
+fn each_end_comes(rt: HostRuntime) {
     for _ in 0..TIMES {
         for watch in [None, Some(0), Some(3600)] {
-            let (ends, output) = once(&rt, alloc, watch, &[], b"")?;
-            equal(&rt, (ends.served, ends.operated), (Ok(0), Ok(())));
-            equal(&rt, output.len(), 0);
-            let (ends, output) = once(&rt, alloc, watch, &ONE, b"add x p\n")?;
-            equal(&rt, (ends.served, ends.operated), (Ok(1), Ok(())));
-            assert!(rt; output.as_slice() == b"added x\n".as_slice());
+            for once in &NONE_AND_ONE {
+                ends_once(&rt, rt.alloc(), watch, once);
+            }
         }
     }
-    Ok(())
 }

@@ -1,15 +1,15 @@
 //! The lines of an operator, and what is answered.
 
-use crate::calls::{equal, get, opened, shelf};
+use crate::calls::{equal, equal_at, opened_for_one, replied, shelf, write};
 use jk_hall::{Hall, Reader, Writer};
 use jk_math::Fault;
 use jk_serve::{Desk, Keeper, operate};
-use jk_store::{Archive, Images, MemoryShelf, Shelf};
+use jk_store::{Archive, Images, MemoryShelf};
 use jk_web::Reply;
 use std::alloc::Global;
 use std::io::{self, ErrorKind, Read, Write};
+use std::process::Abort;
 use std::sync::Wait;
-use std::test::Fail;
 
 /// The PGM file of one grey sample, 128.
 static PAGE: &[u8] = b"P5\n1 1\n255\n\x80";
@@ -41,25 +41,35 @@ impl Keeper<MemoryShelf> for Alone {
     }
 }
 
+/// A shelf with two images, and a file `c.jp2` from elsewhere.
+fn files(rt: &impl Abort, alloc: Global) -> MemoryShelf {
+    let mut files = shelf(rt, alloc);
+    write(rt, &mut files, alloc, "c.jp2", b"of another");
+    files
+}
+
+/// The files that can be added.
+fn paths(rt: &impl Abort, alloc: Global) -> MemoryShelf {
+    let mut paths = MemoryShelf::new(alloc);
+    write(rt, &mut paths, alloc, "p", PAGE);
+    write(rt, &mut paths, alloc, "a b", PAGE);
+    write(rt, &mut paths, alloc, "bad", b"P5\n1 1\n255\n");
+    paths
+}
+
 /// A desk at an archive with the images `a` and `b` on its shelf, whose shelf gets a file `c.jp2`
 /// from elsewhere once it was opened. Of paths there are `p`, and `bad`, which is no image.
-fn desk(alloc: Global, is_locked: bool) -> Result<Desk<MemoryShelf, Alone, MemoryShelf>, Fault> {
-    let images = Images::read(alloc, &mut shelf(alloc)?)?;
-    let mut files = shelf(alloc)?;
-    files.write(alloc, "c.jp2", b"of another")?;
-    let mut paths = MemoryShelf::new(alloc);
-    paths.write(alloc, "p", PAGE)?;
-    paths.write(alloc, "a b", PAGE)?;
-    paths.write(alloc, "bad", b"P5\n1 1\n255\n")?;
-    Ok(Desk {
-        archive: Archive::with(files, images),
+fn desk(rt: &impl Abort, alloc: Global, is_locked: bool) -> Desk<MemoryShelf, Alone, MemoryShelf> {
+    let images = Images::read(alloc, &mut shelf(rt, alloc)).expect(rt, "images");
+    Desk {
+        archive: Archive::with(files(rt, alloc), images),
         keeper: Alone {
             is_locked,
             locks: 0,
             held: 0,
         },
-        paths,
-    })
+        paths: paths(rt, alloc),
+    }
 }
 
 /// Bytes that are read a few at a time. At the end a read fails, if it is to.
@@ -101,30 +111,31 @@ impl Write for Full {
     }
 }
 
-/// What is answered to these lines, and how it ends.
-fn answered<R: Wait>(
+/// How it ends where these lines come to a desk, and what is answered; how often the folder was
+/// locked, and how often it still is.
+fn answered<R: Wait + Abort, O: Write>(
     rt: &R,
     alloc: Global,
     writer: &mut Writer,
-    lines: (&'static [u8], bool),
+    input: Lines,
     is_locked: bool,
-) -> Result<(Vec<u8>, Result<(), Fault>), Fail> {
-    let mut desk = desk(alloc, is_locked)?;
-    let mut input = Lines {
-        bytes: lines.0,
-        at: 0,
-        fails: lines.1,
-    };
-    let mut output = Vec::new(alloc);
-    let end = operate(rt, alloc, &mut desk, writer, &mut input, &mut output);
-    if desk.keeper.held != 0 {
-        return Err("a lock is still held".into());
-    }
-    Ok((output, end))
+    output: &mut O,
+) -> (Result<(), Fault>, usize, usize) {
+    let mut input = input;
+    let mut desk = desk(rt, alloc, is_locked);
+    let end = operate(rt, alloc, &mut desk, writer, &mut input, output);
+    (end, desk.keeper.locks, desk.keeper.held)
+}
+
+/// The list of images that a reader sees.
+fn seen_of(rt: &impl Abort, alloc: Global, reader: &mut Reader) -> Reply {
+    replied(rt, alloc, reader, &mut shelf(rt, alloc), b"/images")
 }
 
 /// Lines, whether the folder is locked, what is answered, and whether the input fails behind them.
-static CASES: [(&[u8], bool, &[u8], bool); 6] = [
+type Case = (&'static [u8], bool, &'static [u8], bool);
+
+static CASES: [Case; 6] = [
     (
         b"add d p\nadd d p\nx\n",
         false,
@@ -156,59 +167,55 @@ static CASES: [(&[u8], bool, &[u8], bool); 6] = [
 ];
 
 /// What is answered to lines, and that what was added is seen by a reader who was told nothing.
-#[test]
-fn lines_are_answered(rt: HostRuntime) -> Result<(), Fail> {
-    let alloc = rt.alloc();
-    for (lines, is_locked, answers, fails) in CASES {
-        let (mut writer, readers, _) = opened(&rt, alloc, 1)?;
-        let found = answered(&rt, alloc, &mut writer, (lines, fails), is_locked);
-        let seen = seen_of(alloc, readers);
-        let waiting = writer.waiting();
-        writer.close(&rt);
-        let (output, end) = found?;
-        assert!(rt;
-            output.as_slice() == answers,
-            "{end:?} {:?}",
-            output.as_slice()
-        );
-        equal(&rt, end, if fails { Err(Fault::Shelf) } else { Ok(()) });
-        equal(&rt, waiting, 0);
-        let list: &[u8] = if answers.starts_with(b"added d") {
-            b"\r\n\r\na 1 1 1 8 0\nd 1 1 1 8 5\n"
-        } else {
-            b"\r\n\r\na 1 1 1 8 0\n"
-        };
-        let Some(seen) = seen else {
-            return Err("no list".into());
-        };
-        assert!(rt; seen.bytes.as_slice().ends_with(list));
-    }
-    Ok(())
+fn are_answered<R: Wait + Abort>(rt: &R, alloc: Global, case: &Case) {
+    let (lines, is_locked, answers, fails) = *case;
+    let mut output = Vec::new(alloc);
+    let input = Lines {
+        bytes: lines,
+        at: 0,
+        fails,
+    };
+    let (mut writer, mut reader) = opened_for_one(rt, alloc, &["a"]);
+    let (end, _locks, held) = answered(rt, alloc, &mut writer, input, is_locked, &mut output);
+    let seen = seen_of(rt, alloc, &mut reader);
+    let waiting = writer.waiting();
+    writer.close(rt);
+    equal_at(rt, end, output.as_slice(), answers);
+    let due = if fails { Err(Fault::Shelf) } else { Ok(()) };
+    equal(rt, (end, waiting, held), (due, 0, 0));
+    let list = if answers.starts_with(b"added d") {
+        TWO
+    } else {
+        ONE
+    };
+    equal(rt, seen.bytes.as_slice().ends_with(list), true);
 }
 
-/// The list of images that a reader sees.
-fn seen_of(alloc: Global, readers: Vec<Reader>) -> Option<Reply> {
-    let mut readers = readers;
-    let mut reader = readers.pop()?;
-    let request = get(alloc, b"/images").ok()?;
-    let mut files = shelf(alloc).ok()?;
-    reader.serve(alloc, &mut files, &request).ok()
+/// The end of a reply that is the list of `a`, and of that with `d`.
+static ONE: &[u8] = b"\r\n\r\na 1 1 1 8 0\n";
+
+static TWO: &[u8] = b"\r\n\r\na 1 1 1 8 0\nd 1 1 1 8 5\n";
+
+#[test]
+fn lines_are_answered(rt: HostRuntime) {
+    for case in &CASES {
+        are_answered(&rt, rt.alloc(), case);
+    }
 }
 
 /// Answers that can't be written end it.
 #[test]
-fn unwritten_answers_end_it(rt: HostRuntime) -> Result<(), Fail> {
-    let alloc = rt.alloc();
-    let mut desk = desk(alloc, false)?;
-    let mut input = Lines {
+fn unwritten_answers_end_it(rt: HostRuntime) {
+    let input = Lines {
         bytes: b"add d p\nadd e p\n",
         at: 0,
         fails: false,
     };
-    let (mut writer, _) = Hall::new(&rt, alloc, 1, Vec::new(alloc))?;
-    let end = operate(&rt, alloc, &mut desk, &mut writer, &mut input, &mut Full);
+    let (mut writer, _readers) = Hall::new(&rt, rt.alloc(), 1, Vec::new(rt.alloc())).expect(
+        &rt, "a hall",
+    );
+    let (end, locks, _held) = answered(&rt, rt.alloc(), &mut writer, input, false, &mut Full);
     writer.close(&rt);
     equal(&rt, end, Err(Fault::Shelf));
-    equal(&rt, desk.keeper.locks, 1);
-    Ok(())
+    equal(&rt, locks, 1);
 }

@@ -1,48 +1,41 @@
 //! A writer, and what its readers see.
 
-use crate::calls::{equal, opened, shelf, status};
-use jk_hall::{Hall, Reader, Writer};
+use crate::calls::{another, entry_of_b, equal, opened_for_one, refusal, replied, settle, shelf};
+use jk_hall::{Hall, Reader};
 use jk_math::Fault;
-use jk_store::Entry;
+use jk_store::MemoryShelf;
 use std::alloc::Global;
-use std::sync::{Arc, Wait};
-use std::test::Fail;
+use std::process::Abort;
+use std::sync::Wait;
 
-/// What is seen of `b` before it is published and behind that, how many entries wait then, and what
-/// is said to its second publish.
-fn published<R: Wait>(
-    rt: &R,
+/// The status of a reader's reply to a request for this target.
+fn status(
+    rt: &impl Abort,
     alloc: Global,
-    writer: &mut Writer,
     reader: &mut Reader,
-    entry: &Arc<Entry>,
-) -> Result<([u16; 3], usize, Option<Fault>), Fail> {
-    let mut files = shelf(alloc)?;
-    let before = status(reader, alloc, &mut files, b"/images/b")?;
-    writer.publish(rt, Arc::try_clone(entry)?)?;
-    let behind = status(reader, alloc, &mut files, b"/images/b")?;
-    let first = status(reader, alloc, &mut files, b"/images/a")?;
-    let again = writer.publish(rt, Arc::try_clone(entry)?).err();
-    writer.settle(rt)?;
-    Ok(([before, behind, first], writer.waiting(), again))
+    files: &mut MemoryShelf,
+    target: &[u8],
+) -> u16 {
+    replied(rt, alloc, reader, files, target).status
 }
 
 #[test]
-fn a_published_image_is_seen(rt: HostRuntime) -> Result<(), Fail> {
+fn a_published_image_is_seen(rt: HostRuntime) {
     let alloc = rt.alloc();
-    let (mut writer, mut readers, entry) = opened(&rt, alloc, 1)?;
-    let told = match (readers.pop(), entry) {
-        (Some(mut reader), Some(entry)) => {
-            published(&rt, alloc, &mut writer, &mut reader, &entry)
-        }
-        _ => Err("no reader or no entry".into()),
-    };
+    let entry = entry_of_b(&rt, alloc);
+    let mut files = shelf(&rt, alloc);
+    let (mut writer, mut reader) = opened_for_one(&rt, alloc, &["a"]);
+    let before = status(&rt, alloc, &mut reader, &mut files, b"/images/b");
+    let first = refusal(&rt, &mut writer, another(&rt, &entry));
+    let behind = status(&rt, alloc, &mut reader, &mut files, b"/images/b");
+    let other = status(&rt, alloc, &mut reader, &mut files, b"/images/a");
+    let again = refusal(&rt, &mut writer, entry);
+    settle(&rt, &mut writer);
+    let waiting = writer.waiting();
     writer.close(&rt);
-    let (seen, waiting, again) = told?;
-    equal(&rt, seen, [404, 200, 200]);
+    equal(&rt, (first, again), (None, Some(Fault::NameTaken)));
+    equal(&rt, (before, behind, other), (404, 200, 200));
     equal(&rt, waiting, 0);
-    equal(&rt, again, Some(Fault::NameTaken));
-    Ok(())
 }
 
 /// What is said to a hall of so many readers.
@@ -57,11 +50,10 @@ fn refused<R: Wait>(rt: &R, alloc: Global, workers: usize) -> Option<Fault> {
 }
 
 #[test]
-fn one_to_sixty_four_readers(rt: HostRuntime) -> Result<(), Fail> {
+fn one_to_sixty_four_readers(rt: HostRuntime) {
     let alloc = rt.alloc();
     equal(&rt, refused(&rt, alloc, 0), Some(Fault::BadParameters));
     equal(&rt, refused(&rt, alloc, 1), None);
     equal(&rt, refused(&rt, alloc, 64), None);
     equal(&rt, refused(&rt, alloc, 65), Some(Fault::BadParameters));
-    Ok(())
 }

@@ -3,8 +3,10 @@
 //! With all their memory these tests see an image published as ever. A script beside the proofs
 //! refuses each growth in turn, and wants that each of their other ends is met.
 
-use crate::calls::{equal, get, page_entries, page_shelf};
-use jk_hall::{Hall, Reader, Writer};
+use crate::calls::{
+    another, equal, opened_for_one, page_entries, page_shelf, refusal, replied, settle,
+};
+use jk_hall::{Reader, Writer};
 use jk_math::Fault;
 use jk_store::Entry;
 use std::alloc::Global;
@@ -26,19 +28,18 @@ static LISTS: [&[u8]; 3] = [
     b"\nb 1 1 1 8 0\nc 1 1 1 8 0\nd 1 1 1 8 0\ne 1 1 1 8 0\nf 1 1 1 8 0\n",
 ];
 
-/// How many images a reader lists.
-fn listed(reader: &mut Reader, alloc: Global) -> Result<usize, Fail> {
-    let mut files = page_shelf(alloc, &[])?;
-    let request = get(alloc, b"/images")?;
-    let reply = reader.serve(alloc, &mut files, &request)?;
+/// How many images a reader lists, or none where it is another list.
+fn listed(rt: &impl Abort, alloc: Global, reader: &mut Reader) -> usize {
+    let mut files = page_shelf(rt, alloc, &[]);
+    let reply = replied(rt, alloc, reader, &mut files, b"/images");
     let mut count: usize = 3;
     for list in &LISTS {
         count = count.saturating_add(1);
         if reply.bytes.as_slice().ends_with(list) {
-            return Ok(count);
+            return count;
         }
     }
-    Err("another list".into())
+    0
 }
 
 /// What is said to the publish of an image; how many are listed and wait behind it; what is said to
@@ -46,43 +47,34 @@ fn listed(reader: &mut Reader, alloc: Global) -> Result<usize, Fail> {
 type Told = (Option<Fault>, (usize, usize), Option<Fault>, (usize, usize));
 
 /// That of an image, behind which the next one is published, or else what waits.
-fn told<R: Wait>(
+fn told<R: Wait + Abort>(
     rt: &R,
     alloc: Global,
     writer: &mut Writer,
     reader: &mut Reader,
     entry: Arc<Entry>,
     next: Option<Arc<Entry>>,
-) -> Result<Told, Fail> {
-    let another = Arc::try_clone(&entry)?;
-    let said = writer.publish(rt, entry).err();
-    let behind = (listed(reader, alloc)?, writer.waiting());
-    let again = writer.publish(rt, another).err();
+) -> Told {
+    let another = another(rt, &entry);
+    let said = refusal(rt, writer, entry);
+    let behind = (listed(rt, alloc, reader), writer.waiting());
+    let again = refusal(rt, writer, another);
     match next {
-        Some(next) => writer.publish(rt, next)?,
-        None => writer.settle(rt)?,
+        Some(next) => equal(rt, refusal(rt, writer, next), None),
+        None => settle(rt, writer),
     }
-    Ok((
-        said,
-        behind,
-        again,
-        (listed(reader, alloc)?, writer.waiting()),
-    ))
+    let last = (listed(rt, alloc, reader), writer.waiting());
+    (said, behind, again, last)
 }
 
 /// The same in a new hall, of the first image and, if there is to be a next one, the second.
-fn told_anew<R: Wait>(rt: &R, alloc: Global, has_next: bool) -> Result<Told, Fail> {
-    let mut entries = page_entries(alloc, &NAMES)?;
-    let (last, first) = (entries.pop(), entries.pop());
-    let listed = page_entries(alloc, &LISTED)?;
-    let (mut writer, mut readers) = Hall::new(rt, alloc, 1, listed)?;
+fn told_anew<R: Wait + Abort>(rt: &R, alloc: Global, has_next: bool) -> Told {
+    let mut entries = page_entries(rt, alloc, &NAMES);
+    let last = entries.pop();
+    let first = entries.pop().expect(rt, "an entry");
+    let (mut writer, mut reader) = opened_for_one(rt, alloc, &LISTED);
     let next = if has_next { last } else { None };
-    let told = match (readers.pop(), first) {
-        (Some(mut reader), Some(entry)) => {
-            told(rt, alloc, &mut writer, &mut reader, entry, next)
-        }
-        _ => Err("no reader or no entry".into()),
-    };
+    let told = told(rt, alloc, &mut writer, &mut reader, first, next);
     writer.close(rt);
     told
 }
@@ -114,10 +106,10 @@ fn judged(rt: &impl Abort, told: Told, count: usize) -> Result<(), Fail> {
 
 #[test]
 fn what_waits_is_settled(rt: HostRuntime) -> Result<(), Fail> {
-    judged(&rt, told_anew(&rt, rt.alloc(), false)?, 5)
+    judged(&rt, told_anew(&rt, rt.alloc(), false), 5)
 }
 
 #[test]
 fn what_waits_is_published_with_the_next(rt: HostRuntime) -> Result<(), Fail> {
-    judged(&rt, told_anew(&rt, rt.alloc(), true)?, 6)
+    judged(&rt, told_anew(&rt, rt.alloc(), true), 6)
 }

@@ -5,6 +5,7 @@ use jk_jobs::Gate;
 use jk_web::End;
 use std::alloc::Global;
 use std::io::Read;
+use std::process::Abort;
 use std::sync::atomic::{AtomicUsize, Ordering};
 use std::{io, thread};
 use vectors::Meeting;
@@ -16,6 +17,15 @@ pub(crate) const TURNS: usize = 1_000_000;
 #[derive(Drop)]
 pub(crate) struct Held {
     pub(crate) meeting: Meeting,
+}
+
+impl Held {
+    /// For so many connections.
+    pub(crate) fn new(rt: &impl Abort, alloc: Global, count: usize) -> Held {
+        Held {
+            meeting: Meeting::new(alloc, count).expect(rt, "a gate"),
+        }
+    }
 }
 
 impl Gate for Held {

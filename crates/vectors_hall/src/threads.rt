@@ -1,15 +1,13 @@
 //! Connections that several readers attend to.
 
-use crate::calls::{equal, opened, shelves};
+use crate::calls::{entry_of_b, equal, opened, refusal, served, served_anew};
 use crate::streams::{Held, Streams, wait_for};
-use jk_hall::{Writer, serve_all};
+use jk_hall::Writer;
 use jk_jobs::Open;
 use jk_store::Entry;
 use std::sync::atomic::Ordering;
 use std::sync::{Arc, Wait};
-use std::test::Fail;
 use std::thread;
-use vectors::Meeting;
 
 /// Two connections that ask for the list.
 static LISTS: [(&[u8], &[u8]); 2] = [
@@ -37,20 +35,14 @@ static BETWEEN: [(&[u8], &[u8]); 2] = [
 ];
 
 #[test]
-fn two_connections_at_a_time(rt: HostRuntime) -> Result<(), Fail> {
+fn two_connections_at_a_time(rt: HostRuntime) {
     let alloc = rt.alloc();
-    let files = shelves(alloc, 2)?;
     let streams = Streams::new(alloc, &LISTS, 1);
-    let held = Held {
-        meeting: Meeting::new(alloc, 2)?,
-    };
-    let (writer, readers, _) = opened(&rt, alloc, 2)?;
-    let ended = serve_all(&rt, alloc, readers, files, &held, &streams);
-    writer.close(&rt);
-    equal(&rt, ended?, 2);
+    let held = Held::new(&rt, alloc, 2);
+    let ended = served_anew(&rt, alloc, 2, &held, &streams);
+    equal(&rt, ended, Ok(2));
     equal(&rt, streams.counts(), (2, 0));
     equal(&rt, held.meeting.was_met(1), true);
-    Ok(())
 }
 
 /// Publishes an entry once a connection has ended, and lets the next one come.
@@ -61,29 +53,24 @@ fn publish_behind<R: Wait>(
     streams: &Streams,
 ) -> bool {
     wait_for(&streams.ended);
-    let published = writer.publish(rt, entry).is_ok();
+    let published = refusal(rt, writer, entry).is_none();
     streams.open.store(1, Ordering::SeqCst);
     published
 }
 
 #[test]
-fn published_between_two_connections(rt: HostRuntime) -> Result<(), Fail> {
+fn published_between_two_connections(rt: HostRuntime) {
     let alloc = rt.alloc();
-    let files = shelves(alloc, 1)?;
     let streams = Streams::new(alloc, &BETWEEN, 0);
-    let (mut writer, readers, entry) = opened(&rt, alloc, 1)?;
-    let Some(entry) = entry else {
-        writer.close(&rt);
-        return Err("no entry".into());
-    };
+    let entry = entry_of_b(&rt, alloc);
+    let (mut writer, readers) = opened(&rt, alloc, 1, &["a"]);
     let (ended, published) = thread::join(
         &rt,
-        || serve_all(&rt, alloc, readers, files, &Open, &streams),
+        || served(&rt, alloc, readers, &["a", "b"], &Open, &streams),
         || publish_behind(&rt, &mut writer, entry, &streams),
     );
     writer.close(&rt);
     equal(&rt, published, true);
-    equal(&rt, ended?, 2);
+    equal(&rt, ended, Ok(2));
     equal(&rt, streams.counts(), (2, 0));
-    Ok(())
 }

@@ -2,19 +2,18 @@
 
 ghost use Rattle.std.specs.Prelude.{◌<◌};
 
-use crate::calls::{equal, opened, shelves};
+use crate::calls::{equal, served_anew};
 use crate::streams::Held;
-use jk_hall::{Connection, Source, Witness, serve_all};
+use jk_hall::{Connection, Source, Witness};
 use jk_web::{End, Reply, Request};
-use std::alloc::{AllocError, Global};
+use std::alloc::Global;
 use std::io;
 use std::io::{ErrorKind, Write};
 use std::process::Abort;
 use std::sync::Wait;
 use std::sync::atomic::{AtomicUsize, Ordering};
-use std::test::Fail;
 use std::thread::Threads;
-use vectors::{Meeting, Pieces};
+use vectors::Pieces;
 
 /// What comes, whether a read fails behind it, and how many bytes can be sent; then what is sent, of
 /// how many requests the witness is told, and why it ends.
@@ -124,18 +123,18 @@ struct Ways {
 }
 
 impl Ways {
-    fn new(alloc: Global) -> Result<Ways, AllocError> {
+    fn new(rt: &impl Abort, alloc: Global) -> Ways {
         let mut ended = Vec::new(alloc);
-        for _ in &WAYS {
-            ended.push(AtomicUsize::new(0))?;
+        for _ in 0..WAYS.len() {
+            ended.push(AtomicUsize::new(0)).expect(rt, "a connection");
         }
-        Ok(Ways {
+        Ways {
             alloc,
             taken: AtomicUsize::new(0),
             ended,
             right: AtomicUsize::new(0),
             early: AtomicUsize::new(0),
-        })
+        }
     }
 
     /// How many connections have ended once.
@@ -200,35 +199,25 @@ impl Source for Ways {
 /// So many readers attend to all connections: each is told once when it begins and once when it has
 /// ended, is given back once, and has ended as is due; the first one goes on only because the second
 /// has begun; and each reader asks until no more come.
-fn end_in_their_ways<R>(rt: &R, workers: usize) -> Result<(), Fail>
+fn end_in_their_ways<R>(rt: &R, alloc: Global, workers: usize)
 where
-    R: Threads + Wait + Sync + AllocGlobal + Abort,
+    R: Threads + Wait + Sync + Abort,
     requires { 0 < workers }
 {
-    let alloc = rt.alloc();
-    let ways = Ways::new(alloc)?;
-    let held = Held {
-        meeting: Meeting::new(alloc, WAYS.len())?,
-    };
-    let files = shelves(alloc, workers)?;
-    let (writer, readers, _) = opened(rt, alloc, workers)?;
-    let ended = serve_all(rt, alloc, readers, files, &held, &ways);
-    writer.close(rt);
-    equal(rt, ended?, 10);
+    let ways = Ways::new(rt, alloc);
+    let held = Held::new(rt, alloc, WAYS.len());
+    let ended = served_anew(rt, alloc, workers, &held, &ways);
+    equal(rt, ended, Ok(10));
     let right = ways.right.load(Ordering::SeqCst);
     equal(rt, (right, ways.early.load(Ordering::SeqCst)), (10, 0));
     equal(rt, ways.ended_once(), 10);
-    equal(
-        rt,
-        ways.taken.load(Ordering::SeqCst),
-        workers.saturating_add(10),
-    );
+    let taken = ways.taken.load(Ordering::SeqCst);
+    equal(rt, taken, workers.saturating_add(10));
     equal(rt, held.meeting.was_met(1), true);
-    Ok(())
 }
 
 #[test]
-fn connections_end_in_their_ways(rt: HostRuntime) -> Result<(), Fail> {
-    end_in_their_ways(&rt, 2)?;
-    end_in_their_ways(&rt, 3)
+fn connections_end_in_their_ways(rt: HostRuntime) {
+    end_in_their_ways(&rt, rt.alloc(), 2);
+    end_in_their_ways(&rt, rt.alloc(), 3);
 }

@@ -3,4 +3,4 @@ use Rattle.vectors_hall.proofs.calls.shelves.Given as goal
 
 -- so many so far
 abbrev pub invariant-loop : goal.invariant-loop
-invariant-loop l = vec_len l.all ≡ l.counter
+invariant-loop g l = vec_len l.all ≡ l.counter
